@@ -1,0 +1,228 @@
+-- The plain lock: lists of named parties and a few numbers, without a word, a bit or a loop.
+-- One record serves every lock here; each lock uses the part that it needs, and leaves the rest as it was at first.
+use Rattle.std.specs.Prelude.{ℕ, suc, ◌+◌, ◌-◌, ◌*◌, ◌/◌, ◌%◌, ◌^◌, Bool, true, false, not, ◌&&◌, ◌||◌, if◌then◌else◌, List, [], ◌∷◌, ◌++◌, map, length, max, nat_lt, ◌==◌, count_by, filter}
+
+-- how a holder holds the lock
+pub data Kind : Type 0 where
+  reading : Kind
+  upgradable : Kind
+  writing : Kind
+
+pub record Holder : Type 0 where
+  pub party : ℕ
+  pub kind : Kind
+
+-- a place in the queue; the party of a ticket that has entered holds the lock, and writes
+pub record Ticket : Type 0 where
+  pub party : ℕ
+  pub number : ℕ
+  pub entered : Bool
+
+-- how far a `Once` has come
+pub data Phase : Type 0 where
+  nothing : Phase
+  running : ℕ → Phase
+  complete : Phase
+
+pub record Plain : Type 0 where
+  pub cap : ℕ  -- the most holders, or the most starvers, that may stand
+  pub group : ℕ  -- how many arrivals make a group at a barrier
+  pub holders : List Holder
+  pub tickets : List Ticket  -- those that stand, in the order in which they were taken
+  pub next : ℕ  -- the number of the next ticket
+  pub starvers : List ℕ
+  pub phase : Phase
+  pub arrivals : ℕ
+
+-- nobody has come yet
+abbrev pub fresh : ℕ → ℕ → ℕ → Plain
+fresh cap group first = record { cap = cap; group = group; holders = []; tickets = []; next = first; starvers = []; phase = nothing; arrivals = 0 }
+
+-- tickets are numbered below this, u64::MAX
+abbrev pub ticket_limit : ℕ
+ticket_limit = 18446744073709551615
+
+-- what a party may ask of the lock
+pub data Ask : Type 0 where
+  to_read : Ask
+  to_read_upgradable : Ask
+  to_write : Ask
+  to_upgrade : Ask
+  to_take_ticket : Ask
+  to_enter : Ask
+  to_take_and_enter : Ask  -- the ticket lock's try
+  to_lock_unregistered : Ask  -- of the fair lock, by a party that is no starver
+  to_lock_starving : Ask  -- by a starver
+  to_lock_starving_alone : Ask  -- by a starver, and only beside no other one
+  to_starve : Ask
+  to_begin : Ask  -- a `Once`'s closure
+
+abbrev pub same_kind : Kind → Kind → Bool
+same_kind reading reading = true
+same_kind upgradable upgradable = true
+same_kind writing writing = true
+same_kind _ _ = false
+
+abbrev pub count_kind : Kind → List Holder → ℕ
+count_kind k hs = count_by (λ h. same_kind k h.kind) hs
+
+abbrev pub is_empty : {X : Type 0} → List X → Bool
+is_empty [] = true
+is_empty (x ∷ xs) = false
+
+abbrev pub is_only : ℕ → Kind → List Holder → Bool
+is_only p k [] = false
+is_only p k (h ∷ []) = (h.party == p) && same_kind k h.kind
+is_only p k (h ∷ i ∷ hs) = false
+
+abbrev pub is_holder : ℕ → Kind → List Holder → Bool
+is_holder p k [] = false
+is_holder p k (h ∷ hs) = ((h.party == p) && same_kind k h.kind) || is_holder p k hs
+
+abbrev pub is_starver : ℕ → List ℕ → Bool
+is_starver p [] = false
+is_starver p (q ∷ qs) = (q == p) || is_starver p qs
+
+abbrev pub is_only_starver : ℕ → List ℕ → Bool
+is_only_starver p [] = false
+is_only_starver p (q ∷ []) = q == p
+is_only_starver p (q ∷ r ∷ qs) = false
+
+-- the ticket that was taken first is the party's own, and has or hasn't entered
+abbrev pub is_first : ℕ → Bool → List Ticket → Bool
+is_first p entered [] = false
+is_first p entered (t ∷ ts) = (t.party == p) && (if entered then t.entered else not t.entered)
+
+abbrev pub is_nothing : Phase → Bool
+is_nothing nothing = true
+is_nothing _ = false
+
+abbrev pub is_running : ℕ → Phase → Bool
+is_running p (running q) = q == p
+is_running p _ = false
+
+-- no writer and no upgradable reader stands, and there is room below the cap
+abbrev pub may_read : Plain → Bool
+may_read s = ((count_kind writing s.holders + count_kind upgradable s.holders) == 0) && nat_lt (length s.holders) s.cap
+
+-- whether what the party asks for is open to it
+abbrev pub is_open_to : Plain → ℕ → Ask → Bool
+is_open_to s p to_read = may_read s
+is_open_to s p to_read_upgradable = may_read s
+is_open_to s p to_write = is_empty s.holders
+is_open_to s p to_upgrade = is_only p upgradable s.holders
+is_open_to s p to_take_ticket = nat_lt s.next ticket_limit
+is_open_to s p to_enter = is_first p false s.tickets
+is_open_to s p to_take_and_enter = is_empty s.tickets && nat_lt s.next ticket_limit
+is_open_to s p to_lock_unregistered = is_empty s.holders && is_empty s.starvers
+is_open_to s p to_lock_starving = is_starver p s.starvers && is_empty s.holders
+is_open_to s p to_lock_starving_alone = is_only_starver p s.starvers && is_empty s.holders
+is_open_to s p to_starve = nat_lt (length s.starvers) s.cap
+is_open_to s p to_begin = is_nothing s.phase
+
+-- the plain steps
+pub data Change : Type 0 where
+  gets : ℕ → Ask → Change  -- a party gets what it asks for
+  releases : ℕ → Kind → Change  -- a holder goes
+  serves : ℕ → Change  -- a ticket that has entered goes
+  stops_starving : ℕ → Change
+  turns : ℕ → Kind → Kind → Change  -- a holder goes on with less
+  completes : ℕ → Change
+  fails : ℕ → Change
+  arrives : ℕ → Change
+
+-- which kind may become which, other than by an upgrade
+abbrev pub is_downgrade : Kind → Kind → Bool
+is_downgrade writing reading = true
+is_downgrade writing upgradable = true
+is_downgrade upgradable reading = true
+is_downgrade _ _ = false
+
+abbrev pub is_open : Plain → Change → Bool
+is_open s (gets p ask) = is_open_to s p ask
+is_open s (releases p k) = is_holder p k s.holders
+is_open s (serves p) = is_first p true s.tickets
+is_open s (stops_starving p) = is_starver p s.starvers
+is_open s (turns p k l) = is_holder p k s.holders && is_downgrade k l
+is_open s (completes p) = is_running p s.phase
+is_open s (fails p) = is_running p s.phase
+is_open s (arrives p) = true
+
+abbrev pub holder : ℕ → Kind → Holder
+holder p k = record { party = p; kind = k }
+
+abbrev pub ticket : ℕ → ℕ → Bool → Ticket
+ticket p n entered = record { party = p; number = n; entered = entered }
+
+-- the first hold of this kind by the party goes
+abbrev pub without_holder : ℕ → Kind → List Holder → List Holder
+without_holder p k [] = []
+without_holder p k (h ∷ hs) = if (h.party == p) && same_kind k h.kind then hs else h ∷ without_holder p k hs
+
+-- the same becomes one of another kind
+abbrev pub with_kind : ℕ → Kind → Kind → List Holder → List Holder
+with_kind p k l [] = []
+with_kind p k l (h ∷ hs) = if (h.party == p) && same_kind k h.kind then holder p l ∷ hs else h ∷ with_kind p k l hs
+
+abbrev pub without_starver : ℕ → List ℕ → List ℕ
+without_starver p [] = []
+without_starver p (q ∷ qs) = if q == p then qs else q ∷ without_starver p qs
+
+-- the ticket that was taken first enters
+abbrev pub with_first_entered : List Ticket → List Ticket
+with_first_entered [] = []
+with_first_entered (t ∷ ts) = ticket t.party t.number true ∷ ts
+
+abbrev pub without_first : List Ticket → List Ticket
+without_first [] = []
+without_first (t ∷ ts) = ts
+
+-- the state after a party has got what it asked for
+abbrev pub given : Plain → ℕ → Ask → Plain
+given s p to_read = record s { holders = s.holders ++ holder p reading ∷ [] }
+given s p to_read_upgradable = record s { holders = s.holders ++ holder p upgradable ∷ [] }
+given s p to_write = record s { holders = s.holders ++ holder p writing ∷ [] }
+given s p to_upgrade = record s { holders = with_kind p upgradable writing s.holders }
+given s p to_take_ticket = record s { tickets = s.tickets ++ ticket p s.next false ∷ []; next = s.next + 1 }
+given s p to_enter = record s { tickets = with_first_entered s.tickets }
+given s p to_take_and_enter = record s { tickets = s.tickets ++ ticket p s.next true ∷ []; next = s.next + 1 }
+given s p to_lock_unregistered = record s { holders = s.holders ++ holder p writing ∷ [] }
+given s p to_lock_starving = record s { holders = s.holders ++ holder p writing ∷ [] }
+given s p to_lock_starving_alone = record s { holders = s.holders ++ holder p writing ∷ [] }
+given s p to_starve = record s { starvers = s.starvers ++ p ∷ [] }
+given s p to_begin = record s { phase = running p }
+
+abbrev pub apply : Plain → Change → Plain
+apply s (gets p ask) = given s p ask
+apply s (releases p k) = record s { holders = without_holder p k s.holders }
+apply s (serves p) = record s { tickets = without_first s.tickets }
+apply s (stops_starving p) = record s { starvers = without_starver p s.starvers }
+apply s (turns p k l) = record s { holders = with_kind p k l s.holders }
+apply s (completes p) = record s { phase = complete }
+apply s (fails p) = record s { phase = nothing }
+apply s (arrives p) = record s { arrivals = s.arrivals + 1 }
+
+-- what the words encode, as sums
+abbrev pub flag_word : Plain → ℕ
+flag_word s = length s.holders
+
+abbrev pub rw_word : Plain → ℕ
+rw_word s = (4 * count_kind reading s.holders + 2 * count_kind upgradable s.holders) + count_kind writing s.holders
+
+abbrev pub fair_word : Plain → ℕ
+fair_word s = length s.holders + 2 * length s.starvers
+
+abbrev pub next_word : Plain → ℕ
+next_word s = s.next
+
+abbrev pub serving_word : Plain → ℕ
+serving_word s = s.next - length s.tickets
+
+abbrev pub once_word : Plain → ℕ
+once_word s = elim s.phase [ nothing ↦ 0 | running p ↦ 1 | complete ↦ 2 ]
+
+abbrev pub count_word : Plain → ℕ
+count_word s = s.arrivals % max s.group 1
+
+abbrev pub generation_word : Plain → ℕ
+generation_word s = (s.arrivals / max s.group 1) % 2 ^ 64

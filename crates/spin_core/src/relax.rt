@@ -1,0 +1,41 @@
+//! What a waiting call does between two looks at a lock's word.
+use std::hint::spin_loop;
+use std::sync::Wait;
+use std::thread::yield_now;
+
+/// How a call that waits passes the time. A lock names its strategy as a type parameter.
+///
+/// `relax` is handed the right to wait of the call that waits. It returns; nothing else is promised of it.
+pub trait RelaxStrategy {
+    /// Passes a little time.
+    fn relax<W: Wait>(rt: &W);
+}
+
+/// Gives the processor's hint for spinning. This is the default of every lock.
+pub struct Spin;
+
+impl RelaxStrategy for Spin {
+    fn relax<W: Wait>(rt: &W) {
+        let _ = rt;
+        spin_loop();
+    }
+}
+
+/// Yields the time slice, so that another thread may run.
+pub struct Yield;
+
+impl RelaxStrategy for Yield {
+    fn relax<W: Wait>(rt: &W) {
+        let _ = rt;
+        yield_now();
+    }
+}
+
+/// Does nothing, and so keeps the processor busy.
+pub struct Loop;
+
+impl RelaxStrategy for Loop {
+    fn relax<W: Wait>(rt: &W) {
+        let _ = rt;
+    }
+}

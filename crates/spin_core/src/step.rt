@@ -1,0 +1,4 @@
+//! Every change of a lock's word, as a pure function from the word before to the word after.
+//!
+//! A refusal is `None` and gives no new word.
+pub mod flag;
