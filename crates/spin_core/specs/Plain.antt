@@ -1,6 +1,6 @@
 -- The plain lock: lists of named parties and a few numbers, without a word, a bit or a loop.
 -- One record serves every lock here; each lock uses the part that it needs, and leaves the rest as it was at first.
-use Rattle.std.specs.Prelude.{ℕ, suc, ◌+◌, ◌-◌, ◌*◌, ◌/◌, ◌%◌, ◌^◌, Bool, true, false, not, ◌&&◌, ◌||◌, if◌then◌else◌, List, [], ◌∷◌, ◌++◌, map, length, max, nat_lt, ◌==◌, count_by, filter}
+use Rattle.std.specs.Prelude.{ℕ, ◌+◌, ◌-◌, ◌*◌, ◌/◌, ◌%◌, ◌^◌, Bool, true, false, not, ◌&&◌, ◌||◌, if◌then◌else◌, List, [], ◌∷◌, ◌++◌, length, max, nat_lt, ◌==◌, count_by}
 
 -- how a holder holds the lock
 pub data Kind : Type 0 where

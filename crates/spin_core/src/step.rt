@@ -2,3 +2,4 @@
 //!
 //! A refusal is `None` and gives no new word.
 pub mod flag;
+pub mod ticket;

@@ -1,0 +1,31 @@
+-- How the sums over the views change where one party comes to a new view.
+use Rattle.std.proofs.Common.{◌≡◌, ℕ, zero, suc, ◌+◌, List, [], ◌∷◌, ap, arith, set}
+use Rattle.std.specs.Prelude.{Option, Some, None, sum_by}
+use Rattle.std.proofs.lemmas.List.Sums.{sum_by-cons, sum_by_push}
+use mathlib.Core.Option.{some, some-injective, some-ne-none}
+use mathlib.Core.Path.{sym}
+use lib.ListN.{get_elem?}
+use Rattle.spin_core.specs.Cell.{Stands, after}
+
+-- what one party gives to a sum
+abbrev pub part_of : {V : Type 0} → (V → ℕ) → Option V → ℕ
+part_of g None = 0
+part_of g (Some v) = g v
+
+module _ {V : Type 0} (g : V → ℕ) where
+  -- the sum is the party's part, and a rest that stays when the party comes to another view
+  abbrev pub Splits : ℕ → Option V → List V → Type 0
+  Splits id view vs = (k : ℕ) × (sum_by g vs ≡ k + part_of g view) × ((w : V) → sum_by g (after id view vs w) ≡ k + g w)
+
+  splits_at : (vs : List V) (id : ℕ) (v : V) → get_elem? vs id ≡ some v → Splits id (Some v) vs
+  splits_at [] id v e = absurd (some-ne-none v (sym e))
+  splits_at (x ∷ xs) zero v e =
+      let is : g x ≡ g v = ap g (some-injective x v e) in let c = sum_by-cons g x xs in
+      (sum_by g xs, omega arith, λ w. let d = sum_by-cons g w xs in omega arith)
+  splits_at (x ∷ xs) (suc i) v e =
+      let r = splits_at xs i v e in let k : ℕ = r.0 in let h = r.1 in let c = sum_by-cons g x xs in
+      (g x + k, omega arith, λ w. let s = r.2 w in let d = sum_by-cons g x (set xs i w) in omega arith)
+
+  pub splits : (id : ℕ) (view : Option V) (vs : List V) → Stands id view vs → Splits id view vs
+  splits id None vs h = (sum_by g vs, omega arith, λ w. let d = sum_by_push g vs w in omega arith)
+  splits id (Some v) vs h = splits_at vs id v h

@@ -1,0 +1,197 @@
+-- What a `&` to a permit holds: its reader or its writer lends what it has of the value. Assumes `Logic`.
+--     by_before     a step for a token of α is a step for one of κ.        Lends-tracked     the law of a party that tracks the value
+--     permit_laws, Lends-permit     the laws of a permit.        writer_laws, Lends-writer     the laws of a writer
+use Rattle.std.proofs.Common.{◌≡◌, ℕ, ◌+◌, List, [], ◌∷◌, ◌++◌, Option, Some, None}
+use seplogic.Ra.Ura.{Ura}
+use base.Share
+use base.Fraction.{full_share}
+use base.FractionLaws.{Counts}
+use base.Stored.{Gv}
+use base.Logic.{SProp, ent, sep, wand, ex, upd_i, apply∗, never_e, id⊢}
+use base.Fml.{Lft, Share, Incl, Incl-refl, Incl-trans, Fml, ftrue, ffalse, fsep, fseps, fex, fwand, fupd, fdead, fobs, fbor, flft, finv}
+use base.Before.{before}
+use contract.BorrowLft.{meet_⊑_left, meet_⊑_right, ⊑_meet}
+use ghost.Rules.{Toks, span}
+use types.Logic.{Logic, sem, lfts}
+use types.Kit.{‵, raw, ◌⊛◌, some, later, given, ◌$◌, ◌∵◌, !, qed, by, move, keep, drop, group, use1, use2, use3, split, split3, fsplit, fsplit3, fjoin, fjoin3, fpick, fpack, pick, show, assume, suffices, learn, await, updating, now, done}
+use types.Tokens.{bor_open, obor_close, obor_alter, bor_fracture}
+use types.Na.{before_acc, before_dup, before_shorten}
+use denote.RattleType.{RattleType, RowLaws}
+use denote.Memory.{part_at, mem}
+use denote.Moves.{moves, moves_before}
+use denote.RawPtr.{Ptr, block_ptr, null_ptr}
+use denote.Sharing.{ShrLaws, within}
+use denote.SharingLaws.{contraction, shortens, nothing_shr_laws, said_shr_laws, within_shr_laws}
+use denote.Shares.{Shares, settles}
+use denote.Steps.{nothing}
+use denote.Struct.Lending.{Lends, Lends-false, Lends-nothing}
+use Rattle.core.proofs.cell.Borrows.{by_one, unnest_before}
+use Rattle.spin_core.specs.Cell.{Use, off, reads, writes, Ways, use_of}
+use Rattle.spin_core.specs.CellMemory.{offset, Known, Id, round_code, tag, parts, shown, named, tracked, right, stand, inner, kept, permit_owns, permit_shares, reader_shares, writer_at, writer_owns, writer_shares}
+use Rattle.spin_core.proofs.CellParts.{parts_in}
+
+-- ---- what is shared may be had twice, and for less time
+reader_laws : (Y R : RattleType) {V : Type 0} (c : V → Gv) (holds : ℕ → ℕ → List V → Type 0) (ways : Ways V) → RowLaws R → (β : Lft) (b o : ℕ) (u : Use) (x : Option R.Denot)
+    → ShrLaws (reader_shares Y R c holds ways β b o u x)
+reader_laws Y R c holds ways L β b o reads (Some x) = within_shr_laws β (shown R b o x) (L x b (o + offset R))
+reader_laws Y R c holds ways L β b o reads None = said_shr_laws ffalse tt
+reader_laws Y R c holds ways L β b o off x = nothing_shr_laws
+reader_laws Y R c holds ways L β b o writes x = nothing_shr_laws
+
+pub permit_laws : (Y R : RattleType) {V : Type 0} (c : V → Gv) (holds : ℕ → ℕ → List V → Type 0) (ways : Ways V) → RowLaws R → (β : Lft) (p : Ptr) (view : Option V) (x : Option R.Denot)
+    → ShrLaws (permit_shares Y R c holds ways β p view x)
+permit_laws Y R c holds ways L β (block_ptr b o) view x = reader_laws Y R c holds ways L β b o (use_of ways view) x
+permit_laws Y R c holds ways L β null_ptr view x = said_shr_laws ffalse tt
+
+pub writer_laws : (Y R : RattleType) {V : Type 0} (c : V → Gv) (holds : ℕ → ℕ → List V → Type 0) (ways : Ways V) → RowLaws R → (β : Lft) (p : Ptr) (view : V) (x : R.Denot)
+    → ShrLaws (writer_shares Y R c holds ways β p view x)
+writer_laws Y R c holds ways L β (block_ptr b o) view x = within_shr_laws β (shown R b o x) (L x b (o + offset R))
+writer_laws Y R c holds ways L β null_ptr view x = said_shr_laws ffalse tt
+
+module _ {M : Type 1} {𝓤 : Ura M} (𝓛 : Logic 𝓤) where
+  open 𝓛 use {H, A}
+
+  abbrev Pr : Type 2
+  Pr = SProp 𝓤
+
+  abbrev ◌⊢◌ : Pr → Pr → Type 1
+  P ⊢ Q = ent 𝓤 P Q
+
+  abbrev ◌∗◌ : Pr → Pr → Pr
+  P ∗ Q = sep 𝓤 P Q
+
+  abbrev ◌-∗◌ : Pr → Pr → Pr
+  P -∗ Q = wand 𝓤 P Q
+
+  abbrev ⟦◌⟧ : Fml → Pr
+  ⟦ P ⟧ = sem 𝓛 P
+
+  infix 26 ◌⊢◌
+  infixr 35 ◌∗◌
+  infixr 30 ◌-∗◌
+  -- a step for one token of α is a step for one of κ
+  pub by_before : (κ α : Lft) (q : Share) (X Y : Pr) → ((s : Share) → X ∗ A.lft α s ⊢ H.⇛ (Y ∗ A.lft α s)) → ⟦ before κ α ⟧ ∗ X ∗ A.lft κ q ⊢ H.⇛ (Y ∗ A.lft κ q)
+  by_before κ α q X Y f = qed 𝓛 (‵ (before κ α) ∷ raw X ∷ ‵ (flft κ q) ∷ []) ∵ updating ! $ move ! (0 ∷ 2 ∷ []) $
+      use2 𝓛 (later (some (λ (us : Toks). given (Incl (span us) α) (raw (lfts 𝓛 us) ⊛ raw (lfts 𝓛 us -∗ H.⇛ (A.lft κ q)))))) (before_acc 𝓛 κ α ((κ, q) ∷ []) (Incl-refl κ)) $ await ! tt $ pick ! (λ us. learn ! (λ h. split ! $
+      move ! (2 ∷ 0 ∷ []) $ use2 𝓛 (later (raw Y ⊛ raw (lfts 𝓛 us))) (by_one 𝓛 α us h X Y f) $ await ! tt $ split ! $
+      move ! (1 ∷ 2 ∷ []) $ use2 𝓛 (later (‵ (flft κ q))) (apply∗ 𝓤 (lfts 𝓛 us) (H.⇛ (A.lft κ q))) $ await ! tt $ now ! $ move ! (1 ∷ 0 ∷ []) $ done !))
+
+  -- ---- a party that tracks the value, as a writer does
+  module _ (R : RattleType) (b o : ℕ) (β : Lft) (x : R.Denot) (P : Fml) where
+    abbrev At : Fml
+    At = part_at R full_share x b (o + offset R)
+
+    abbrev Ob : Id → Fml
+    Ob t = fobs t.3 (R.coded.code x)
+
+    abbrev N : Id → Fml
+    N t = named R b o t
+
+    abbrev Tr : Id → Fml
+    Tr t = tracked R b o t x
+
+    abbrev pub Gives : Id → Pr
+    Gives t = ⟦ before β t.0 ⟧ ∗ ⟦ Tr t ⟧ ∗ (⟦ Tr t ⟧ -∗ ⟦ P ⟧)
+
+    again : (ν : Lft) (t : Id) → (⟦ Tr t ⟧ -∗ ⟦ P ⟧) ⊢ ⟦ fwand (fsep (fdead ν) (fseps (Ob t ∷ fbor t.0 (N t) ∷ []))) (fupd P) ⟧
+    unfolding fseps
+    again ν t = qed 𝓛 (raw (⟦ Tr t ⟧ -∗ ⟦ P ⟧) ∷ []) ∵ assume ! (‵ (fsep (fdead ν) (fsep (Ob t) (fsep (fbor t.0 (N t)) ftrue)))) $ suffices ! ⟦ P ⟧ (upd_i 𝓤 ⟦ P ⟧) $
+        fsplit ! $ drop ! $ fsplit3 ! $ fjoin ! $ keep ! (0 ∷ 2 ∷ []) $ by ! (apply∗ 𝓤 ⟦ Tr t ⟧ ⟦ P ⟧)
+
+    pub Lends-at : ⟦ P ⟧ ⊢ ex 𝓤 Gives → (ν : Lft) → Incl ν β → (q : Share) → A.bor ν P ∗ A.lft ν q ⊢ H.⇛ (A.bor ν At ∗ A.lft ν q)
+    unfolding fseps
+    Lends-at opens ν inc q = qed 𝓛 (‵ (fbor ν P) ∷ ‵ (flft ν q) ∷ []) ∵ updating ! $ bor_open ! tt $ move ! (1 ∷ []) $
+        use1 𝓛 (some (λ (t : Id). ‵ (before β t.0) ⊛ ‵ (Tr t) ⊛ raw (⟦ Tr t ⟧ -∗ ⟦ P ⟧))) opens $ pick ! (λ t. split3 ! $ move ! (1 ∷ []) $ fsplit ! $ move ! (3 ∷ []) $
+        use1 𝓛 (‵ (fwand (fsep (fdead ν) (fseps (Ob t ∷ fbor t.0 (N t) ∷ []))) (fupd P))) (again ν t) $ nothing ! $ move ! (2 ∷ 3 ∷ 0 ∷ []) $ fjoin3 ! $
+        move ! (3 ∷ 0 ∷ 1 ∷ []) $ obor_alter ! tt (Ob t ∷ fbor t.0 (N t) ∷ []) $ use1 𝓛 (‵ (fbor ν (Ob t)) ⊛ ‵ (fbor ν (fbor t.0 (N t))) ⊛ ‵ ftrue) (id⊢ 𝓤 _) $ split3 ! $
+        move ! (4 ∷ []) $ use1 𝓛 (‵ (before ν t.0)) (before_shorten 𝓛 β ν t.0 inc) $ keep ! (0 ∷ 2 ∷ 4 ∷ 1 ∷ []) $
+        use3 𝓛 (later (‵ (fbor ν (N t)) ⊛ ‵ (flft ν q))) (unnest_before 𝓛 ν t.0 q (N t)) $ await ! tt $ split ! $ move ! (1 ∷ []) $
+        use1 𝓛 (‵ (flft ν (Share.left q)) ⊛ ‵ (flft ν (Share.right q))) (𝓛.lfts.lft_split ν q) $ split ! $ move ! (3 ∷ 0 ∷ []) $ bor_open ! tt $ move ! (1 ∷ 3 ∷ 2 ∷ []) $
+        use3 𝓛 (later (‵ (Ob t) ⊛ ‵ (fbor ν At) ⊛ ‵ (flft ν (Share.right q)))) (settles 𝓛 (mem R) ν ((ν, Share.right q) ∷ []) (Incl-refl ν) t.3 x b (o + offset R)) $ await ! tt $ split3 ! $
+        move ! (3 ∷ 0 ∷ []) $ obor_close ! tt $ drop ! $ move ! (0 ∷ 2 ∷ []) $ use2 𝓛 (‵ (flft ν q)) (𝓛.lfts.lft_join ν q) $ now ! $ move ! (1 ∷ 0 ∷ []) $ done !)
+
+    pub Lends-tracked : (l : Lft) → Incl l β → Shares 𝓛 R l → ⟦ P ⟧ ⊢ ex 𝓤 Gives → Lends 𝓛 P (within β (shown R b o x)) l
+    Lends-tracked l le s opens κ ts inc sp =
+        let ν : Lft = κ ++ β in let sm : Incl (span ts) ν = ⊑_meet (span ts) κ β sp (Incl-trans inc le) in
+        qed 𝓛 (‵ (fbor κ P) ∷ raw (lfts 𝓛 ts) ∷ []) ∵ updating ! $ use1 𝓛 (‵ (fbor ν P)) (𝓛.bors.bor_shorten κ ν P (meet_⊑_left κ β)) $
+        use2 𝓛 (later (‵ (fbor ν At) ⊛ raw (lfts 𝓛 ts))) (by_one 𝓛 ν ts sm (A.bor ν P) (A.bor ν At) (Lends-at opens ν (meet_⊑_right κ β))) $ await ! tt $
+        use1 𝓛 (later (‵ (shown R b o x ν) ⊛ raw (lfts 𝓛 ts))) (s x ν ts b (o + offset R) inc sm) $ await ! tt $ now ! $ done !
+
+  module _ (Y R : RattleType) {V : Type 0} (c : V → Gv) (holds : ℕ → ℕ → List V → Type 0) (ways : Ways V) (β : Lft) where
+    abbrev Knows : Type 0
+    Knows = Known ways Y R
+
+    abbrev Inv : ℕ → ℕ → Id → Fml
+    Inv b o t = fbor t.0 (inner R b o t c holds ways)
+
+    -- ---- a writer
+    module _ (b o : ℕ) (view : V) (x : R.Denot) where
+      abbrev W : Fml
+      W = writer_owns Y R c holds ways β (block_ptr b o) view x
+
+      abbrev Sure : Type 0
+      Sure = ways.1 view ≡ writes
+
+      abbrev Wr : Id → Fml
+      Wr = writer_at Y R c holds ways β b o view x
+
+      writer_gives : ⟦ W ⟧ ⊢ ex 𝓤 (Gives R b o β x W)
+      writer_gives = qed 𝓛 (‵ W ∷ []) ∵ fpick ! (λ k. fpick ! (λ e. fpick ! (λ t. fsplit3 ! $ fsplit ! $ use1 𝓛 (‵ (before β t.0) ⊛ ‵ (before β t.0)) (before_dup 𝓛 β t.0) $ split ! $ move ! (0 ∷ 4 ∷ []) $
+          show ! (Gives R b o β x W) t $ types.Kit.frame ! $ types.Kit.frame ! $ assume ! (‵ (tracked R b o t x)) $ move ! (1 ∷ 2 ∷ []) $ fjoin ! $ move ! (0 ∷ 2 ∷ 1 ∷ []) $ fjoin3 ! $
+          fpack ! Id Wr t $ fpack ! Sure (λ _. fex Id Wr) e $ fpack ! Knows (λ _. fex Sure (λ _. fex Id Wr)) k $ done !)))
+
+    pub Lends-writer : (l : Lft) → Incl l β → Shares 𝓛 R l → (p : Ptr) (view : V) (x : R.Denot) → Lends 𝓛 (writer_owns Y R c holds ways β p view x) (writer_shares Y R c holds ways β p view x) l
+    Lends-writer l le s (block_ptr b o) view x = Lends-tracked R b o β x (writer_owns Y R c holds ways β (block_ptr b o) view x) l le s (writer_gives b o view x)
+    Lends-writer l le s null_ptr view x = Lends-false 𝓛 (writer_shares Y R c holds ways β null_ptr view x) l
+
+    -- ---- a permit, at each use
+    module _ (b o : ℕ) (view : Option V) where
+      abbrev owned_at : Use → Option R.Denot → Id → Fml
+      owned_at u x t = fsep (kept R b o t c holds ways β) (fsep (stand R b o t c view) (right R b o t u x))
+
+      abbrev Owned : Use → Option R.Denot → Fml
+      Owned u x = fex Knows (λ _. fex Id (owned_at u x))
+
+      module _ (L : RowLaws R) (x : R.Denot) (ν : Lft) (inc : Incl ν β) where
+        abbrev P : Fml
+        P = Owned reads (Some x)
+
+        abbrev V' : Lft → Fml
+        V' = shown R b o x
+
+        reads_again : (k : Knows) (t : Id) (a : ℕ) (e : Share) → Counts 63 e 1
+            → ⟦ before β t.0 ⟧ ∗ A.inv (Inv b o t) ∗ ⟦ stand R b o t c view ⟧ ∗ ⟦ tag t.1 e (round_code R (a, x)) ⟧ ∗ ⟦ V' (a ∷ t.0) ⟧ ⊢ ⟦ fwand (fsep (fdead ν) (fseps (flft (a ∷ []) e ∷ []))) (fupd P) ⟧
+        unfolding fseps
+        reads_again k t a e n = qed 𝓛 (‵ (before β t.0) ∷ ‵ (finv (Inv b o t)) ∷ ‵ (stand R b o t c view) ∷ ‵ (tag t.1 e (round_code R (a, x))) ∷ ‵ (V' (a ∷ t.0)) ∷ []) ∵ assume ! (‵ (fsep (fdead ν) (fsep (flft (a ∷ []) e) ftrue))) $
+            suffices ! ⟦ P ⟧ (upd_i 𝓤 ⟦ P ⟧) $ fsplit3 ! $ move ! (1 ∷ 6 ∷ []) $ fjoin ! $ use1 𝓛 (‵ (parts R t.1 (a, x) 1)) (parts_in 𝓛 R t.1 (a, x) 1 e n) $ move ! (0 ∷ 6 ∷ []) $ fjoin ! $
+            fpack ! ℕ (λ u. fsep (parts R t.1 (u, x) 1) (V' (u ∷ t.0))) a $ move ! (5 ∷ 0 ∷ []) $ fjoin ! $ move ! (3 ∷ 4 ∷ []) $ fjoin ! $ fjoin ! $
+            fpack ! Id (owned_at reads (Some x)) t $ fpack ! Knows (λ _. fex Id (owned_at reads (Some x))) k $ keep ! (0 ∷ []) $ done !
+
+        pub lends_shown : (q : Share) → A.bor ν P ∗ A.lft ν q ⊢ H.⇛ (⟦ V' ν ⟧ ∗ A.lft ν q)
+        unfolding fseps
+        lends_shown q = qed 𝓛 (‵ (fbor ν P) ∷ ‵ (flft ν q) ∷ []) ∵ updating ! $ bor_open ! tt $ move ! (1 ∷ []) $ fpick ! (λ k. fpick ! (λ t. fsplit3 ! $ fsplit ! $ move ! (3 ∷ []) $ fpick ! (λ u. fsplit ! $ fpick ! (λ e. fpick ! (λ n. fsplit ! $
+            let a : Lft = u ∷ [] in let μ : Lft = a ++ ν in let K = L x b (o + offset R) in
+            -- [the token; the tag; what is shown; the end; the invariant; the view; the open borrow]
+            move ! (2 ∷ []) $ use1 𝓛 (‵ (V' (u ∷ t.0)) ⊛ ‵ (V' (u ∷ t.0))) (contraction 𝓛 V' K (a ++ t.0)) $ split ! $ move ! (4 ∷ []) $
+            use1 𝓛 (‵ (before β t.0) ⊛ ‵ (before β t.0)) (before_dup 𝓛 β t.0) $ split ! $ move ! (0 ∷ 6 ∷ 7 ∷ 5 ∷ 2 ∷ []) $ group ! 5 $
+            use1 𝓛 (‵ (fwand (fsep (fdead ν) (fseps (flft a e ∷ []))) (fupd P))) (reads_again k t u e n) $ nothing ! $ move ! (4 ∷ 0 ∷ []) $ fjoin ! $ move ! (4 ∷ 0 ∷ 1 ∷ []) $ obor_alter ! tt (flft a e ∷ []) $
+            use1 𝓛 (‵ (fbor ν (flft a e)) ⊛ ‵ ftrue) (id⊢ 𝓤 _) $ split ! $ bor_fracture ! tt (λ r. flft a r) e $ move ! (4 ∷ []) $
+            use1 𝓛 (‵ (V' (μ ++ t.0))) (shortens 𝓛 V' K (a ++ t.0) (μ ++ t.0) (⊑_meet (μ ++ t.0) a t.0 (Incl-trans (meet_⊑_left μ t.0) (meet_⊑_left a ν)) (meet_⊑_right μ t.0))) $ move ! (4 ∷ []) $
+            use1 𝓛 (‵ (before μ t.0)) (before_shorten 𝓛 β μ t.0 (Incl-trans (meet_⊑_right a ν) inc)) $ use2 𝓛 (‵ (V' μ)) (moves_before 𝓛 V' K μ t.0) $ move ! (1 ∷ 0 ∷ []) $
+            use2 𝓛 (‵ (V' ν)) (moves 𝓛 V' K ν a) $ now ! $ keep ! (0 ∷ 2 ∷ []) $ done !)))))
+
+      no_reader : (l : Lft) → Lends 𝓛 (Owned reads None) (λ _. ffalse) l
+      no_reader l κ ts inc sp = let P : Fml = Owned reads None in qed 𝓛 (‵ (fbor κ P) ∷ raw (lfts 𝓛 ts) ∷ []) ∵ updating ! $
+          use2 𝓛 (later (‵ P ⊛ raw (⟦ P ⟧ -∗ H.⇛ (A.bor κ P ∗ lfts 𝓛 ts)))) (𝓛.more.bor_acc_by κ ts P sp) $ await ! tt $ split ! $ fpick ! (λ k. fpick ! (λ t. fsplit3 ! $ keep ! (2 ∷ []) $ by ! (never_e 𝓤 _)))
+
+      Lends-owned : RowLaws R → (l : Lft) → Incl l β → (u : Use) (x : Option R.Denot) → Lends 𝓛 (Owned u x) (reader_shares Y R c holds ways β b o u x) l
+      Lends-owned L l le off x = Lends-nothing 𝓛 (Owned off x) l
+      Lends-owned L l le writes x = Lends-nothing 𝓛 (Owned writes x) l
+      Lends-owned L l le reads None = no_reader l
+      Lends-owned L l le reads (Some x) = λ κ ts inc sp. let ν : Lft = κ ++ β in let P : Fml = Owned reads (Some x) in
+          qed 𝓛 (‵ (fbor κ P) ∷ raw (lfts 𝓛 ts) ∷ []) ∵ use1 𝓛 (‵ (fbor ν P)) (𝓛.bors.bor_shorten κ ν P (meet_⊑_left κ β)) $
+          by ! (by_one 𝓛 ν ts (⊑_meet (span ts) κ β sp (Incl-trans inc le)) (A.bor ν P) ⟦ shown R b o x ν ⟧ (lends_shown L x ν (meet_⊑_right κ β)))
+
+    pub Lends-permit : RowLaws R → (l : Lft) → Incl l β → (p : Ptr) (view : Option V) (x : Option R.Denot) → Lends 𝓛 (permit_owns Y R c holds ways β p view x) (permit_shares Y R c holds ways β p view x) l
+    Lends-permit L l le (block_ptr b o) view x = Lends-owned b o view L l le (use_of ways view) x
+    Lends-permit L l le null_ptr view x = Lends-false 𝓛 (permit_shares Y R c holds ways β null_ptr view x) l

@@ -1,0 +1,72 @@
+-- The parts of a round: cut, glued and compared. Assumes `Logic`.
+use Rattle.std.proofs.Common.{◌≡◌, ℕ, ◌+◌, ◌-◌, ◌^◌, ◌<◌, ◌≤◌, [], ◌∷◌, refl, arith}
+use mathlib.Mathlib.Data.Part.{◌∈◌}
+use seplogic.Ra.Ura.{Ura}
+use seplogic.Ra.Constructions.Prod
+use seplogic.Ra.Instances.Ag
+use base.Share
+use base.Fraction.{full_share}
+use base.FractionLaws.{Counts, counts_some, Counts-op, Counts-all, not-OpDef-full_share}
+use base.Stored.{Gv, coded×, coded_ℕ}
+use base.SetCodes.{coded, SetCoded-set}
+use base.Logic.{SProp, ent, sep, guard, upd, guard_i}
+use base.Fml.{GName, Share, Fml, fex, flft}
+use types.Logic.{Logic, sem}
+use types.Kit.{‵, ◌⊛◌, given, ◌$◌, ◌∵◌, !, qed, by, move, split, fsplit, fjoin, fpick, fpack, learn, check, use1, use2, done}
+use types.Owned.{own_sum, own_join, own_step}
+use denote.RattleType.{RattleType}
+use Rattle.atomic_table.specs.Seated.{halved, itself}
+use Rattle.spin_core.specs.CellMemory.{Round, round_code, tag, share, parts}
+
+module _ {M : Type 1} {𝓤 : Ura M} (𝓛 : Logic 𝓤) (R : RattleType) (γ : GName) where
+  abbrev Pr : Type 2
+  Pr = SProp 𝓤
+
+  abbrev ◌⊢◌ : Pr → Pr → Type 1
+  P ⊢ Q = ent 𝓤 P Q
+
+  abbrev ◌∗◌ : Pr → Pr → Pr
+  P ∗ Q = sep 𝓤 P Q
+
+  abbrev ⟦◌⟧ : Fml → Pr
+  ⟦ P ⟧ = sem 𝓛 P
+
+  infix 26 ◌⊢◌
+  infixr 35 ◌∗◌
+  sum : (g : Gv) (r e f : Share) → r ∈ Share.op e f → ◌∈◌ {α = Share × Gv} (r, g) (halved.op (e, g) (f, g))
+  sum g r e f m = Prod.mk-mem-op Share.op (Ag.op (SetCoded-set (coded itself))) {a = e} {a' = f} {x = r} {b = g} {b' = g} {y = g} m (Ag.idem (SetCoded-set (coded itself)) g)
+
+  pub parts_in : (s : Round R) (k : ℕ) (e : Share) → Counts 63 e k → ⟦ share R γ s e ⟧ ⊢ ⟦ parts R γ s k ⟧
+  parts_in s k e c = qed 𝓛 (‵ (share R γ s e) ∷ []) ∵ fpack ! (Counts 63 e k) (λ _. share R γ s e) c $ fpack ! Share (λ r. fex (Counts 63 r k) (λ _. share R γ s r)) e $ done !
+
+  pub parts_cut : (s : Round R) (k i j : ℕ) → 0 < i → 0 < j → i + j ≡ k → k ≤ 2 ^ 63 → ⟦ parts R γ s k ⟧ ⊢ ⟦ parts R γ s i ⟧ ∗ ⟦ parts R γ s j ⟧
+  parts_cut s k i j pi pj total fits = let g : Gv = round_code R s in let e = counts_some 63 i pi (omega arith) in let f = counts_some 63 j pj (omega arith) in
+      qed 𝓛 (‵ (parts R γ s k) ∷ []) ∵ fpick ! (λ r. fpick ! (λ c. let m = Counts-op 63 e.0 f.0 r i j k e.1 f.1 c total in fsplit ! $
+      use1 𝓛 (‵ (flft (s.0 ∷ []) e.0) ⊛ ‵ (flft (s.0 ∷ []) f.0)) (𝓛.lfts.lft_cut (s.0 ∷ []) r e.0 f.0 m) $ split ! $ move ! (2 ∷ []) $
+      use1 𝓛 (‵ (tag γ e.0 g) ⊛ ‵ (tag γ f.0 g)) (𝓛.algebras.own_cut halved γ (e.0, g) (f.0, g) (r, g) (sum g r e.0 f.0 m)) $ split ! $
+      move ! (3 ∷ 1 ∷ []) $ fjoin ! $ use1 𝓛 (‵ (parts R γ s j)) (parts_in s j f.0 f.1) $ move ! (2 ∷ 1 ∷ []) $ fjoin ! $ use1 𝓛 (‵ (parts R γ s i)) (parts_in s i e.0 e.1) $ done !))
+
+  glued : (s : Round R) (i j : ℕ) (r : Share) → Counts 63 r (i + j) → ⟦ parts R γ s i ⟧ ∗ ⟦ parts R γ s j ⟧ ⊢ ⟦ share R γ s r ⟧
+  glued s i j r c = let g : Gv = round_code R s in
+      qed 𝓛 (‵ (parts R γ s i) ∷ ‵ (parts R γ s j) ∷ []) ∵ fpick ! (λ e. fpick ! (λ ce. move ! (1 ∷ []) $ fpick ! (λ f. fpick ! (λ cf. let m = Counts-op 63 e f r i j (i + j) ce cf c refl in
+      fsplit ! $ move ! (2 ∷ []) $ fsplit ! $ move ! (1 ∷ 3 ∷ []) $ use2 𝓛 (‵ (tag γ r g)) (own_join 𝓛 halved γ (e, g) (f, g) (r, g) (sum g r e f m)) $
+      move ! (1 ∷ 2 ∷ []) $ use2 𝓛 (‵ (flft (s.0 ∷ []) r)) (𝓛.lfts.lft_glue (s.0 ∷ []) r e f m) $ done !))))
+
+  pub parts_glue : (s : Round R) (i j : ℕ) → 0 < i + j → i + j ≤ 2 ^ 63 → ⟦ parts R γ s i ⟧ ∗ ⟦ parts R γ s j ⟧ ⊢ ⟦ parts R γ s (i + j) ⟧
+  parts_glue s i j some fits = let r = counts_some 63 (i + j) some fits in
+      qed 𝓛 (‵ (parts R γ s i) ∷ ‵ (parts R γ s j) ∷ []) ∵ use2 𝓛 (‵ (share R γ s r.0)) (glued s i j r.0 r.1) $ by ! (parts_in s (i + j) r.0 r.1)
+
+  pub parts_whole : (s : Round R) → ⟦ parts R γ s (2 ^ 63) ⟧ ⊢ ⟦ share R γ s full_share ⟧
+  parts_whole s = qed 𝓛 (‵ (parts R γ s (2 ^ 63)) ∷ []) ∵
+      use1 𝓛 (‵ (parts R γ s 1) ⊛ ‵ (parts R γ s (2 ^ 63 - 1))) (parts_cut s (2 ^ 63) 1 (2 ^ 63 - 1) (omega arith) (omega arith) (omega arith) (omega arith)) $ split ! $
+      by ! (glued s 1 (2 ^ 63 - 1) full_share (Counts-all 63))
+
+  -- two parts are of one round, and so of one value
+  pub parts_agree : (s u : Round R) (i j : ℕ) → ⟦ parts R γ s i ⟧ ∗ ⟦ parts R γ u j ⟧ ⊢ guard 𝓤 (s ≡ u) (⟦ parts R γ s i ⟧ ∗ ⟦ parts R γ u j ⟧)
+  parts_agree s u i j = let g : Gv = round_code R s in let h : Gv = round_code R u in
+      qed 𝓛 (‵ (parts R γ s i) ∷ ‵ (parts R γ u j) ∷ []) ∵ fpick ! (λ e. fpick ! (λ ce. fsplit ! $ move ! (2 ∷ []) $ fpick ! (λ f. fpick ! (λ cf. fsplit ! $ move ! (3 ∷ 1 ∷ []) $
+      let Z : Pr = ⟦ tag γ e g ⟧ ∗ ⟦ tag γ f h ⟧ in use2 𝓛 (given (s ≡ u) (‵ (tag γ e g) ⊛ ‵ (tag γ f h))) (own_sum 𝓛 halved γ (e, g) (f, h) (guard 𝓤 (s ≡ u) Z) (λ x m. guard_i 𝓤 (s ≡ u) Z ((coded× coded_ℕ R.coded).inj s u m.0.1))) $
+      learn ! (λ same. check ! same $ split ! $ move ! (2 ∷ 1 ∷ []) $ fjoin ! $ use1 𝓛 (‵ (parts R γ u j)) (parts_in u j f cf) $ move ! (2 ∷ 1 ∷ []) $ fjoin ! $ use1 𝓛 (‵ (parts R γ s i)) (parts_in s i e ce) $ done !)))))
+
+  pub renames : (g h : Gv) → ⟦ tag γ full_share g ⟧ ⊢ upd 𝓤 ⟦ tag γ full_share h ⟧
+  renames g h = own_step 𝓛 halved γ (full_share, g) (full_share, h) (λ f d. absurd (not-OpDef-full_share f.0 d.0))

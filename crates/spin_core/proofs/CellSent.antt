@@ -1,0 +1,87 @@
+-- A cell may be shared and its parties may go to another thread, where the value may. What is shared of the value is the same to every thread where `sees` has it.
+use Rattle.std.proofs.Common.{◌≡◌, ℕ, zero, suc, ◌+◌, List, [], ◌∷◌, refl, Option, Some, None}
+use base.Fraction.{full_share}
+use base.Stored.{Gv}
+use base.Fml.{Lft}
+use base.Shift.{Keyless}
+use types.Keyed.{entry_keyless, entries_keyless}
+use denote.RattleType.{RattleType}
+use denote.RawPtr.{Ptr, block_ptr, null_ptr}
+use denote.Param.Send.{IsSend, IsSync, part_keyless}
+use Rattle.core.proofs.atomic.Sent.{chain-Keyless}
+use Rattle.atomic_table.specs.Seated.{halved}
+use Rattle.spin_core.specs.Cell.{Use, off, reads, writes, Way, alone, lends, Ways, use_of}
+use Rattle.spin_core.specs.CellMemory.{offset, Common, Known, Id, Round, roster, parts, named, tracked, resting, missing, state, right, stand, kept, cell_shares, permit_owns, permit_shares, reader_shares, writer_owns, writer_shares}
+
+roster_keyless : {V : Type 0} (c : V → Gv) (ρ k : ℕ) (vs : List V) → Keyless (roster c ρ k vs)
+roster_keyless c ρ k [] = λ g. entries_keyless halved ρ k (λ _. (full_share, g))
+roster_keyless c ρ k (v ∷ vs) = (entry_keyless halved ρ k _, roster_keyless c ρ (suc k) vs)
+
+parts_keyless : (R : RattleType) (γ : ℕ) (s : Round R) (k : ℕ) → Keyless (parts R γ s k)
+parts_keyless R γ s k = λ e n. (tt, tt)
+
+stand_keyless : (R : RattleType) (b o : ℕ) (t : Id) {V : Type 0} (c : V → Gv) (view : Option V) → Keyless (stand R b o t c view)
+stand_keyless R b o t c None = tt
+stand_keyless R b o t c (Some v) = λ id. entry_keyless halved t.2 id _
+
+module _ (R : RattleType) (s : IsSend R) (b o : ℕ) (t : Id) where
+  named_keyless : Keyless (named R b o t)
+  named_keyless = λ x. (part_keyless R s full_share x b (o + offset R), tt)
+
+  tracked_keyless : (x : R.Denot) → Keyless (tracked R b o t x)
+  tracked_keyless x = (tt, named_keyless)
+
+  resting_keyless : (way : Way) → (way ≡ lends → Common R) → (r : ℕ) (x : R.Denot) → Keyless (resting R b o t way r x)
+  resting_keyless alone sees r x = tracked_keyless x
+  resting_keyless lends sees r x = λ a. (parts_keyless R t.1 (a, x) _, (tt, (sees refl x b (o + offset R) (a ∷ t.0), named_keyless)))
+
+  missing_keyless : (way : Way) → Keyless (missing R b o t way)
+  missing_keyless alone = tt
+  missing_keyless lends = λ g. tt
+
+  state_keyless : (way : Way) → (way ≡ lends → Common R) → (r w : ℕ) → Keyless (state R b o t way r w)
+  state_keyless way sees r zero = resting_keyless way sees r
+  state_keyless way sees r (suc w) = missing_keyless way
+
+  right_keyless : (u : Use) → (u ≡ reads → Common R) → (x : Option R.Denot) → Keyless (right R b o t u x)
+  right_keyless off sees None = tt
+  right_keyless off sees (Some x) = tt
+  right_keyless reads sees None = tt
+  right_keyless reads sees (Some x) = λ a. (parts_keyless R t.1 (a, x) 1, sees refl x b (o + offset R) (a ∷ t.0))
+  right_keyless writes sees None = tt
+  right_keyless writes sees (Some x) = tracked_keyless x
+
+  module _ {V : Type 0} (c : V → Gv) (holds : ℕ → ℕ → List V → Type 0) (ways : Ways V) where
+    kept_keyless : (ways.0 ≡ lends → Common R) → (κ : Lft) → Keyless (kept R b o t c holds ways κ)
+    kept_keyless sees κ = ((λ νs. chain-Keyless νs κ t.0), λ z. (tt, (tt, λ vs. (roster_keyless c t.2 0 vs, ((λ _. tt), state_keyless ways.0 sees _ _)))))
+
+module _ (Y R : RattleType) {V : Type 0} (c : V → Gv) (holds : ℕ → ℕ → List V → Type 0) (ways : Ways V) where
+  pub cell_keyless : IsSend R → IsSync Y → (p : Ptr) (κ : Lft) → Keyless (cell_shares Y R c holds ways p κ)
+  cell_keyless s y (block_ptr b o) κ = λ known t. kept_keyless R s b o t c holds ways (λ e. known.0 e y.shared) κ
+  cell_keyless s y null_ptr κ = tt
+
+  pub writer_keyless : IsSend R → IsSync Y → (β : Lft) (p : Ptr) (view : V) (x : R.Denot) → Keyless (writer_owns Y R c holds ways β p view x)
+  writer_keyless s y β (block_ptr b o) view x = λ known e t. (kept_keyless R s b o t c holds ways (λ e. known.0 e y.shared) β, ((λ id. entry_keyless halved t.2 id _), tracked_keyless R s b o t x))
+  writer_keyless s y β null_ptr view x = tt
+
+  some_reads : (view : Option V) → Known ways Y R → use_of ways view ≡ reads → Common Y → Common R
+  some_reads None known e = absurd cc
+  some_reads (Some v) known e = known.1 v e
+
+  pub permit_keyless : IsSend R → IsSync Y → (β : Lft) (p : Ptr) (view : Option V) (x : Option R.Denot) → Keyless (permit_owns Y R c holds ways β p view x)
+  permit_keyless s y β (block_ptr b o) view x = λ known t. (kept_keyless R s b o t c holds ways (λ e. known.0 e y.shared) β, (stand_keyless R b o t c view, right_keyless R s b o t (use_of ways view) (λ e. some_reads view known e y.shared) x))
+  permit_keyless s y β null_ptr view x = tt
+
+  reader_sees : IsSync R → (β : Lft) (b o : ℕ) (u : Use) (x : Option R.Denot) (κ : Lft) → Keyless (reader_shares Y R c holds ways β b o u x κ)
+  reader_sees y β b o off x κ = tt
+  reader_sees y β b o reads None κ = tt
+  reader_sees y β b o reads (Some x) κ = y.shared x b (o + offset R) _
+  reader_sees y β b o writes x κ = tt
+
+  pub permit_sees : IsSync R → (β : Lft) (p : Ptr) (view : Option V) (x : Option R.Denot) (κ : Lft) → Keyless (permit_shares Y R c holds ways β p view x κ)
+  permit_sees y β (block_ptr b o) view x κ = reader_sees y β b o (use_of ways view) x κ
+  permit_sees y β null_ptr view x κ = tt
+
+  pub writer_sees : IsSync R → (β : Lft) (p : Ptr) (view : V) (x : R.Denot) (κ : Lft) → Keyless (writer_shares Y R c holds ways β p view x κ)
+  writer_sees y β (block_ptr b o) view x κ = y.shared x b (o + offset R) _
+  writer_sees y β null_ptr view x κ = tt

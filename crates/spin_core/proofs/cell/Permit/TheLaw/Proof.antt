@@ -1,0 +1,24 @@
+-- A `&` to a permit holds what its reader sees. Assumes `Logic`.
+use mathlib.Core.List.{[], ◌++◌}
+use base.Fml.{Incl-trans}
+use contract.BorrowLft.{meet_⊑_left, meet_⊑_right}
+use denote.RattleType.{RattleType}
+use denote.Ref.{NamedLft, ShrRef}
+use denote.Param.Laws.{Laws}
+use denote.Param.Shared.{copy_shared}
+use denote.Struct.Field.{RawPtr-field}
+use denote.Struct.Laws.{RawPtr-copy, field_copy}
+use denote.Struct.Lending.{of_Lends}
+use Rattle.core.specs.contracts.marker.PhantomData as marker
+use Rattle.spin_core.specs.declared.cell.Rule.{Ghosts}
+use Rattle.spin_core.specs.contracts.cell.Permit as C
+use Rattle.spin_core.proofs.cell.Permit.TheLaw.Statement.{statement}
+use Rattle.spin_core.proofs.CellLends.{permit_laws, Lends-permit}
+
+pub shares : (a : NamedLft) (T V P : RattleType) (g : Ghosts P.Denot V.Denot) (L : Laws T) (K : Laws V) (J : Laws P) → statement a T V P g L K J
+shares a T V P g L K J = of_Lends (C.struct a T V P g) (C.the_codes T.Denot V.Denot P.Denot T.coded V.coded P.coded (marker.the_row (ShrRef a.mir a.lft T)).coded) (C.the_heap a.lft T V P g) (C.the_lent a.lft T V P g)
+    (λ d p. permit_laws P T V.coded.code g.holds g.ways L.shr_laws a.lft d.cell d.view d.value)
+    (copy_shared RawPtr-field RawPtr-copy, (copy_shared (marker.the_field (ShrRef a.mir a.lft T)) (field_copy (marker.the_type (ShrRef a.mir a.lft T)) tt), tt)) (λ M 𝓤 𝓛 d p.
+    let l = (C.the_row a T V P g).lives in let s = (ShrRef a.mir a.lft T).lives in
+    Lends-permit 𝓛 P T V.coded.code g.holds g.ways a.lft L.shr_laws l (Incl-trans (meet_⊑_right (T.lives ++ (V.lives ++ (P.lives ++ []))) (((s ++ []) ++ []) ++ [])) (Incl-trans (meet_⊑_left ((s ++ []) ++ []) [])
+    (Incl-trans (meet_⊑_left (s ++ []) []) (Incl-trans (meet_⊑_left s []) (meet_⊑_left a.lft T.lives))))) d.cell d.view d.value)

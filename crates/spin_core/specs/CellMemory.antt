@@ -1,0 +1,174 @@
+-- What a `Cell` shares, and what its permits own.
+-- The cell is shared for a lifetime α. One invariant holds its two words, a quarter of each party's view, and the state of the value.
+-- Where the way is `alone`, the state is the borrow of the value, or nothing while a writer has it.
+-- Where it is `lends`, the value at rest is shared for a lifetime a of its own, and a reader has one part in 2 ^ 63 of a's token. A writer ends that lifetime, and begins the next one.
+-- The name ρ has the views; γ says a and the value, in the same parts as a's token; ν tracks the value, for as long as the cell is shared.
+use Rattle.std.specs.Prelude.{◌≡◌, ℕ, zero, suc, ◌+◌, ◌-◌, ◌^◌, [], ◌∷◌, List, Option, Some, None}
+use base.Fraction.{full_share}
+use base.FractionLaws.{Counts}
+use base.Share.{three_quarters}
+use base.Stored.{Gv, coded×, coded_ℕ}
+use base.Shift.{Keyless}
+use base.Fml.{Lft, GName, Share, Fml, ftrue, ffalse, fsep, fex, flft, fbor, flent, fobs, fown}
+use prog.Memory.{up, align}
+use types.SemTy.{Body}
+use denote.RattleType.{RattleType}
+use denote.Memory.{shared_of, lone, mem}
+use denote.RawPtr.{Ptr, block_ptr, null_ptr}
+use denote.Sharing.{said, beside, some, ends, always, within, nothing}
+use Rattle.core.specs.Sync.RawAtomic.{word}
+use Rattle.atomic_table.specs.Seated.{fact, halved, seen}
+use types.Keyed.{entries_from}
+use base.Share.{quarter}
+use Rattle.spin_core.specs.Cell.{Use, off, reads, writes, Way, alone, lends, Ways, use_of, readers_of, writers_of, Meets}
+
+-- where the value lies, behind two words
+abbrev pub offset : RattleType → ℕ
+offset R = up (align (lone R.mir)) 16
+
+-- any thread may read it through a `&`
+abbrev pub Common : RattleType → Type 0
+Common R = (x : R.Denot) (b e : ℕ) (κ : Lft) → Keyless (shared_of R x b e κ)
+
+-- where the way is `lends`, or some view reads, the rule's own type stands for the value's: who may share the one may share the other
+abbrev pub Known : {V : Type 0} → Ways V → RattleType → RattleType → Type 0
+Known {V} ways Y R = (ways.0 ≡ lends → Common Y → Common R) × ((v : V) → ways.1 v ≡ reads → Common Y → Common R)
+
+-- α, γ, ρ and ν
+abbrev pub Id : Type 0
+Id = Lft × GName × GName × GName
+
+-- the keys from k on, which no party has yet
+abbrev pub unused : GName → ℕ → Gv → Fml
+unused ρ k g = entries_from halved ρ k (λ _. (full_share, g))
+
+-- the invariant's quarter of each party's view
+abbrev pub roster : {V : Type 0} → (V → Gv) → GName → ℕ → List V → Fml
+roster c ρ k [] = fex Gv (unused ρ k)
+roster c ρ k (v ∷ vs) = fsep (seen c ρ k quarter v) (roster c ρ (suc k) vs)
+
+-- a lifetime, and the value that is shared for it
+abbrev pub Round : RattleType → Type 0
+Round R = ℕ × R.Denot
+
+abbrev pub round_code : (R : RattleType) → Round R → Gv
+round_code R = (coded× coded_ℕ R.coded).code
+
+abbrev pub tag : GName → Share → Gv → Fml
+tag γ e g = fown halved γ (e, g)
+
+abbrev pub share : (R : RattleType) → GName → Round R → Share → Fml
+share R γ s e = fsep (flft (s.0 ∷ []) e) (tag γ e (round_code R s))
+
+abbrev pub parts : (R : RattleType) → GName → Round R → ℕ → Fml
+parts R γ s k = fex Share (λ e. fex (Counts 63 e k) (λ _. share R γ s e))
+
+abbrev pub idle : GName → Fml
+idle γ = fex Gv (tag γ full_share)
+
+module _ (R : RattleType) (b o : ℕ) where
+  abbrev pub shown : R.Denot → Lft → Fml
+  shown x = shared_of R x b (o + offset R)
+
+  module _ (t : Id) where
+    -- the value, under its name
+    abbrev pub named : Fml
+    named = Body (mem R) b (o + offset R) t.3
+
+    -- what a `&mut` to the value x owns
+    abbrev pub tracked : R.Denot → Fml
+    tracked x = fsep (fobs t.3 (R.coded.code x)) (fbor t.0 named)
+
+    abbrev pub waits : ℕ → Fml
+    waits a = flent (a ∷ t.0) (fbor t.0 named)
+
+    abbrev pub shared : Round R → Fml
+    shared s = fsep (fobs t.3 (R.coded.code s.1)) (fsep (shown s.1 (s.0 ∷ t.0)) (waits s.0))
+
+    -- the value, with r readers and no writer
+    abbrev pub resting : Way → ℕ → R.Denot → Fml
+    resting alone r x = tracked x
+    resting lends r x = fex ℕ (λ a. fsep (parts R t.1 (a, x) (2 ^ 63 - r)) (shared (a, x)))
+
+    -- what lies there while a writer has it
+    abbrev pub missing : Way → Fml
+    missing alone = ftrue
+    missing lends = idle t.1
+
+    -- the same with r readers and w writers
+    abbrev pub state : Way → ℕ → ℕ → Fml
+    state way r zero = fex R.Denot (resting way r)
+    state way r (suc w) = missing way
+
+    abbrev pub reader : R.Denot → Fml
+    reader x = fex ℕ (λ a. fsep (parts R t.1 (a, x) 1) (shown x (a ∷ t.0)))
+
+    -- what a party has of the value
+    abbrev pub right : Use → Option R.Denot → Fml
+    right off None = ftrue
+    right off (Some x) = ffalse
+    right reads None = ffalse
+    right reads (Some x) = reader x
+    right writes None = ffalse
+    right writes (Some x) = tracked x
+
+    module _ {V : Type 0} (c : V → Gv) where
+      -- what a party has of its view
+      abbrev pub stand : Option V → Fml
+      stand None = ftrue
+      stand (Some v) = fex ℕ (λ id. seen c t.2 id three_quarters v)
+
+      module _ (holds : ℕ → ℕ → List V → Type 0) (ways : Ways V) where
+        abbrev pub core_at : ℕ → ℕ → List V → Fml
+        core_at n m vs = fsep (roster c t.2 0 vs) (fsep (fact (Meets holds ways n m vs)) (state ways.0 (readers_of ways.1 vs) (writers_of ways.1 vs)))
+
+        abbrev pub core : ℕ × ℕ → Fml
+        core s = fex (List V) (core_at s.0 s.1)
+
+        abbrev pub standing : ℕ × ℕ → Fml
+        standing s = fsep (word b (o + 0) s.0) (fsep (word b (o + 8) s.1) (core s))
+
+        abbrev pub inner : Fml
+        inner = fex (ℕ × ℕ) standing
+
+        abbrev pub kept : Lft → Fml
+        kept = beside (ends t.0) (always (fbor t.0 inner))
+
+module _ (Y R : RattleType) {V : Type 0} (c : V → Gv) (holds : ℕ → ℕ → List V → Type 0) (ways : Ways V) where
+  -- the cell's own fields, and some views that meet the rule
+  abbrev pub cell_owns : (ℕ → ℕ → R.Denot → Fml) → Fml
+  cell_owns fields = fex (Known ways Y R) (λ _. fex (ℕ × ℕ × R.Denot) (λ s. fsep (fields s.0 s.1 s.2) (fact ((vs : List V) × Meets holds ways s.0 s.1 vs))))
+
+  abbrev pub cell_shares : Ptr → Lft → Fml
+  cell_shares (block_ptr b o) = some (Known ways Y R) (λ _. some Id (λ t. kept R b o t c holds ways))
+  cell_shares null_ptr = said ffalse
+
+  module _ (β : Lft) where
+    abbrev pub permit_at : ℕ → ℕ → Option V → Option R.Denot → Id → Fml
+    permit_at b o view x t = fsep (kept R b o t c holds ways β) (fsep (stand R b o t c view) (right R b o t (use_of ways view) x))
+
+    abbrev pub permit_owns : Ptr → Option V → Option R.Denot → Fml
+    permit_owns (block_ptr b o) view x = fex (Known ways Y R) (λ _. fex Id (permit_at b o view x))
+    permit_owns null_ptr view x = ffalse
+
+    abbrev pub writer_at : ℕ → ℕ → V → R.Denot → Id → Fml
+    writer_at b o view x t = fsep (kept R b o t c holds ways β) (fsep (stand R b o t c (Some view)) (tracked R b o t x))
+
+    abbrev pub writer_owns : Ptr → V → R.Denot → Fml
+    writer_owns (block_ptr b o) view x = fex (Known ways Y R) (λ _. fex (ways.1 view ≡ writes) (λ _. fex Id (writer_at b o view x)))
+    writer_owns null_ptr view x = ffalse
+
+  -- what a `&` to a permit holds: a `&` to the value, if it reads
+  abbrev pub reader_shares : Lft → ℕ → ℕ → Use → Option R.Denot → Lft → Fml
+  reader_shares β b o reads (Some x) = within β (shown R b o x)
+  reader_shares β b o reads None = said ffalse
+  reader_shares β b o off x = nothing
+  reader_shares β b o writes x = nothing
+
+  abbrev pub permit_shares : Lft → Ptr → Option V → Option R.Denot → Lft → Fml
+  permit_shares β (block_ptr b o) view x = reader_shares β b o (use_of ways view) x
+  permit_shares β null_ptr view x = said ffalse
+
+  abbrev pub writer_shares : Lft → Ptr → V → R.Denot → Lft → Fml
+  writer_shares β (block_ptr b o) view x = within β (shown R b o x)
+  writer_shares β null_ptr view x = said ffalse
