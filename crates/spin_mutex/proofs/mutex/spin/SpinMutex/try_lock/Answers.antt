@@ -1,0 +1,9 @@
+use Rattle.std.proofs.Common.{◌≡◌, true, ap}
+use Rattle.spin_core.specs.Steps.{bit}
+use Rattle.spin_mutex.proofs.Flags.{attempts}
+use Rattle.spin_mutex.proofs.mutex.spin.SpinMutex.try_lock.Goals as goal
+
+pub exchange-found-requires : goal.exchange-found-requires
+exchange-found-requires g c =
+    let exact = c.in_ok-taken.ensures.exact in let set : c.in_ok-taken.taken ≡ true = cc in
+    rw (c.enter.ensures.0, c.word.ensures, c.word-2.ensures) (attempts 0 (bit c.in_ok-taken.taken) c.in_ok-taken.ensures.plain (ap bit set))

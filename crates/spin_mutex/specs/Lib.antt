@@ -1,0 +1,5 @@
+pub mod Flag
+pub mod MutexGuard
+pub mod Queue
+pub mod SpinGuard
+pub mod TicketGuard

@@ -1,0 +1,4 @@
+//! Spinning locks that one party at a time may hold.
+#![tactic(auto)]
+
+pub mod mutex;

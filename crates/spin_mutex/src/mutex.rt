@@ -1,0 +1,124 @@
+//! `Mutex`, over the contract of an inner lock alone, and the locks that it can be over.
+ghost use Rattle.std.specs.Prelude.{◌≡◌, Some, IfSome};
+ghost use Rattle.spin_mutex.specs.MutexGuard.{value_of, holds};
+
+use spin_core::relax::{RelaxStrategy, Spin};
+use std::marker::PhantomData;
+use std::sync::Wait;
+
+mod lends;
+pub mod spin;
+pub mod ticket;
+
+pub use spin::{SpinMutex, SpinMutexGuard};
+pub use ticket::{TicketMutex, TicketMutexGuard};
+
+/// A lock that gives one party at a time access to a value. Which lock it is inside is not part of its contract, so
+/// `try_lock` may also refuse where nobody holds it.
+#[derive(Drop)]
+pub struct Mutex<T, R = Spin> {
+    inner: SpinMutex<T, R>,
+}
+
+/// Access to the value of a `Mutex`. Dropping it lets go of the lock.
+#[derive(Drop)]
+pub struct MutexGuard<'a, T, R = Spin> {
+    inner: SpinMutexGuard<'a, T, R>,
+    // The clause of `deref_mut` names this lifetime, and a lender's type has to name it itself.
+    life: PhantomData<&'a ()>,
+}
+
+/// A hold on a `Mutex` that lends no value. Only `force_unlock` spends it: dropping it frees nothing.
+#[derive(Drop)]
+pub struct Held<'a, T, R = Spin> {
+    inner: spin::Held<'a, T, R>,
+}
+
+impl<T, R> Mutex<T, R> {
+    /// An open lock.
+    pub fn new(value: T) -> Self {
+        Mutex {
+            inner: SpinMutex::new(value),
+        }
+    }
+
+    /// The last value, whether the lock is taken or not.
+    pub fn into_inner(self) -> T {
+        let Self { inner } = self;
+        inner.into_inner()
+    }
+
+    /// The value, whether the lock is taken or not: nobody else has it.
+    pub fn get_mut(&mut self) -> &mut T {
+        self.inner.get_mut()
+    }
+
+    /// Takes the lock, or refuses. It refuses where somebody holds it.
+    pub fn try_lock(&self) -> Option<MutexGuard<'_, T, R>>
+        ensures { IfSome result (λ guard. holds guard) }
+    {
+        let inner = self.inner.try_lock()?;
+        Some(MutexGuard {
+            inner,
+            life: PhantomData,
+        })
+    }
+
+    /// Whether somebody holds the lock at a moment of the call.
+    pub fn is_locked(&self) -> bool {
+        self.inner.is_locked()
+    }
+
+    /// Lets go of the lock that a guard was held on.
+    pub fn force_unlock(held: Held<'_, T, R>) {
+        let Held { inner } = held;
+        SpinMutex::force_unlock(inner);
+    }
+}
+
+impl<T, R: RelaxStrategy> Mutex<T, R> {
+    /// Takes the lock, and relaxes while it can't. Nothing is promised about when it returns.
+    pub fn lock<W: Wait>(&self, rt: &W) -> MutexGuard<'_, T, R>
+        ensures { holds result }
+    {
+        MutexGuard {
+            inner: self.inner.lock(rt),
+            life: PhantomData,
+        }
+    }
+}
+
+impl<'a, T, R> MutexGuard<'a, T, R> {
+    /// The value for as long as the lock lives. The lock stays taken.
+    pub fn leak(this: Self) -> &'a mut T
+        ensures { result.now ≡ value_of this.entry }
+    {
+        let Self { inner, life: _ } = this;
+        SpinMutexGuard::leak(inner)
+    }
+
+    /// Keeps the lock taken, without a guard, until `force_unlock`.
+    pub fn hold(this: Self) -> Held<'a, T, R>
+        ensures { result.inner.permit.value ≡ Some (value_of this.entry) }
+    {
+        let Self { inner, life: _ } = this;
+        Held {
+            inner: SpinMutexGuard::hold(inner),
+        }
+    }
+}
+
+unsafe impl<T: Send, R> Send for Mutex<T, R> {}
+
+unsafe impl<T: Send, R> Sync for Mutex<T, R> {}
+
+unsafe impl<T: Send, R> Send for MutexGuard<'_, T, R> {}
+
+unsafe impl<T: Sync, R> Sync for MutexGuard<'_, T, R> {}
+
+unsafe impl<T: Send, R> Send for Held<'_, T, R> {}
+
+unsafe impl<T: Sync, R> Sync for Held<'_, T, R> {}
+
+#[cfg(test)]
+mod tests;
