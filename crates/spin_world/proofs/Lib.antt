@@ -1,0 +1,5 @@
+pub mod Schedules
+pub mod Playing
+pub mod Writers
+pub mod Users
+pub mod Guards

@@ -1,0 +1,45 @@
+-- The laws that users rely on.
+use Rattle.std.proofs.Common.{◌≡◌, ℕ, Bool, true, false, Option, List, [], ◌∷◌, length, refl, ap, sym, ◌∙◌, arith}
+use Rattle.spin_core.specs.Steps.{bit}
+use Rattle.spin_core.specs.Plain.{Holder}
+use Rattle.spin_world.specs.declared.schedule.Move.{Move}
+use Rattle.spin_world.specs.declared.schedule.Move.TheVariants.{Read, OwnerGet}
+use Rattle.spin_world.specs.declared.schedule.Outcome.{Outcome}
+use Rattle.spin_world.specs.declared.schedule.Outcome.TheVariants.{Value}
+use Rattle.spin_world.specs.Machines.{Machine}
+use Rattle.spin_world.specs.Schedules.{State, after, at_first, moves_at, read_by, owner_gets}
+use Rattle.spin_world.specs.Runs.{Seen, Every, Keeps, KeepsAll, opening, scene}
+use Rattle.spin_world.specs.Users.{seen_after, FindsLastWritten}
+use Rattle.spin_world.specs.Laws.Facts.{Keeping, Facts}
+use Rattle.spin_world.specs.Laws.Kept.{Good}
+use Rattle.spin_world.specs.Laws.Every.{kept}
+
+pub state-seen_after : {W V C L A : Type 0} (m : Machine W V C L A) (seen : Seen W V C L) (es : List (ℕ × Move C V)) → (seen_after m seen es).state ≡ after m seen.state es
+state-seen_after m seen [] = refl
+state-seen_after m seen (e ∷ es) = state-seen_after m (scene m seen e.0 e.1).after es
+
+value-seen_after : {W V C L A : Type 0} (m : Machine W V C L A) (seen : Seen W V C L) (es : List (ℕ × Move C V)) → Every (Keeps m) m seen es → seen.state.value ≡ seen.written → (seen_after m seen es).state.value ≡ (seen_after m seen es).written
+value-seen_after m seen [] all is = is
+value-seen_after m seen (e ∷ es) all is = value-seen_after m (scene m seen e.0 e.1).after es all.1 all.0.value_is
+
+pub finds_last_written : {W V C L A : Type 0} (m : Machine W V C L A) (n : ℕ) (past : List (ℕ × Move C V)) → KeepsAll m n past → FindsLastWritten m n past
+finds_last_written {W = W} {V = V} {C = C} {L = L} {A = A} m n past keeps =
+    let s = after m (at_first m n) past in
+    let value : s.value ≡ (seen_after m (opening m n) past).written = ap (λ (t : State W V C L). t.value) (sym (state-seen_after m (opening m n) past)) ∙ value-seen_after m (opening m n) past keeps.each refl in
+    let told : Option V → Outcome A V = λ v. Value v in
+    record {
+      holder = λ p h there may. ap (λ o. (moves_at m s p Read o).outcome) there ∙ (ap (λ b. (read_by {A = A} s b).outcome) may ∙ ap told value);
+      owner = λ p seat there may. ap (λ o. (moves_at m s p OwnerGet o).outcome) there ∙ (ap (λ b. (owner_gets {A = A} s b).outcome) may ∙ ap told value);
+    }
+
+pub good_after : {W V C L A : Type 0} (m : Machine W V C L A) (k : Keeping V C L) (f : Facts m k) (seen : Seen W V C L) (es : List (ℕ × Move C V)) → Good m k seen → Good m k (seen_after m seen es)
+good_after m k f seen [] good = good
+good_after m k f seen (e ∷ es) good = good_after m k f (scene m seen e.0 e.1).after es (kept m k f seen e.0 e.1 good).good
+
+pub clear_when_empty : (w : Bool) (hs : List Holder) → bit w ∷ [] ≡ length hs ∷ [] → w ≡ false → hs ≡ []
+clear_when_empty w [] e clear = refl
+clear_when_empty w (h ∷ hs) e clear = let n : bit w ≡ length (h ∷ hs) = cc (e) in absurd (omega (arith, n, ap bit clear))
+
+pub empty_when_clear : (w : Bool) (hs : List Holder) → bit w ∷ [] ≡ length hs ∷ [] → hs ≡ [] → w ≡ false
+empty_when_clear false hs e none = refl
+empty_when_clear true hs e none = let n : bit true ≡ length hs = cc (e) in absurd (omega (arith, n, ap length none))

@@ -1,0 +1,344 @@
+-- The flag's local facts.
+use Rattle.std.proofs.Common.{◌≡◌, ℕ, ◌≤◌, ◌==◌, Bool, true, false, not, ◌&&◌, ◌||◌, if◌then◌else◌, Option, Some, None, List, [], ◌∷◌, ◌++◌, length, filter, refl, ap, sym, ◌∙◌, subst, arith, inl}
+use Rattle.spin_core.specs.Plain.{Ticket as Queued, Plain, writing, to_write, Holder, holder, Change, gets, releases, completes, is_empty, flag_word}
+use Rattle.spin_core.specs.Parties.{apply_some, Entries, entries, no_entries, entries_after, is_held}
+use Rattle.spin_core.specs.Steps.{bit}
+use Rattle.spin_core.proofs.Holders.{is_holder-from_entries, length-held}
+use Rattle.spin_core.proofs.Flags.{flag_lock-grants, flag_unlock-gives}
+use Rattle.spin_core.proofs.Entries.{entries-own}
+use Rattle.spin_world.specs.declared.place.Hold.{Hold}
+use Rattle.spin_world.specs.declared.place.Hold.TheVariants.{Read, Upgradable, Write, Ticket, Starver}
+use Rattle.spin_world.specs.declared.object.Next.{Next}
+use Rattle.spin_world.specs.declared.object.Next.TheVariants.{GoesOn, Answers}
+use Rattle.spin_world.specs.declared.schedule.Move.TheVariants.{Step, Weak}
+use Rattle.spin_world.specs.declared.flag.FlagCall.{FlagCall}
+use Rattle.spin_world.specs.declared.flag.FlagCall.TheVariants.{Lock, TryLock, TryLockWeak, IsLocked, Release}
+use Rattle.spin_world.specs.declared.flag.FlagPoint.{FlagPoint}
+use Rattle.spin_world.specs.declared.flag.FlagPoint.TheVariants.{First, Second}
+use Rattle.spin_world.specs.declared.flag.FlagAnswer.{FlagAnswer}
+use Rattle.spin_world.specs.declared.flag.FlagAnswer.TheVariants.{Refused}
+use Rattle.spin_world.specs.Calls.{Mark, granted}
+use Rattle.spin_world.specs.Runs.{mark_of, own, own_count, entries_of, entries_held}
+use Rattle.spin_world.specs.Flag.{flag_machine, begins_at, looked, refusal_of, can_step, step_of, taken, change_of}
+use Rattle.spin_world.specs.Laws.Facts.{Keeping, InCall, Goes, NextIs, StepIs, Facts}
+use Rattle.spin_world.specs.Laws.Lists.{eqb_self}
+use Rattle.spin_world.specs.Laws.Spans.{own-mine, own-other, own_count-mine, own_count-other, entries-unstepped}
+
+-- what a party holds as its call begins
+abbrev pub needs : FlagCall → Option Hold
+needs Release = Some Write
+needs Lock = None
+needs TryLock = None
+needs TryLockWeak = None
+needs IsLocked = None
+
+-- how many steps it has made before the next one
+abbrev pub IsFirstStep : FlagCall → ℕ → Type 0
+IsFirstStep Lock n = Unit {0}
+IsFirstStep TryLock n = n ≡ 0
+IsFirstStep TryLockWeak n = n ≡ 0
+IsFirstStep IsLocked n = n ≡ 0
+IsFirstStep Release n = n ≡ 0
+
+-- a party in a call has changed nothing yet
+pub record FlagKnows (c : FlagCall) (l : FlagPoint) (h : Option Hold) (p : ℕ) (s : Plain) (span : List Mark) : Type 0 where
+  pub unstepped : own p span ≡ []
+  pub holds : h ≡ needs c
+  pub first : IsFirstStep c (own_count p span)
+
+abbrev pub flag_keeping : (V : Type 0) → Keeping V FlagCall FlagPoint
+flag_keeping V = record { Shape = λ s v. s.tickets ≡ []; Knows = FlagKnows }
+
+needs_at : (c : FlagCall) (l : FlagPoint) (h : Option Hold) → begins_at c h ≡ Some l → h ≡ needs c
+needs_at Release l None e = absurd (cc (e))
+needs_at Release l (Some Write) e = refl
+needs_at Release l (Some Read) e = absurd (cc (e))
+needs_at Release l (Some Upgradable) e = absurd (cc (e))
+needs_at Release l (Some (Ticket t)) e = absurd (cc (e))
+needs_at Release l (Some Starver) e = absurd (cc (e))
+needs_at Lock l None e = refl
+needs_at Lock l (Some h) e = absurd (cc (e))
+needs_at TryLock l None e = refl
+needs_at TryLock l (Some h) e = absurd (cc (e))
+needs_at TryLockWeak l None e = refl
+needs_at TryLockWeak l (Some h) e = absurd (cc (e))
+needs_at IsLocked l None e = refl
+needs_at IsLocked l (Some h) e = absurd (cc (e))
+
+first_at : (c : FlagCall) → IsFirstStep c 0
+first_at Lock = tt
+first_at TryLock = refl
+first_at TryLockWeak = refl
+first_at IsLocked = refl
+first_at Release = refl
+
+-- what is known at a step, with its parts in plain words
+record Here (c : FlagCall) (l : FlagPoint) (h : Option Hold) (p : ℕ) (s : Plain) (w : Bool) (span : List Mark) : Type 0 where
+  word : bit w ≡ length s.holders
+  queue : s.tickets ≡ []
+  mine : entries p s ≡ entries_held p h
+  knows : FlagKnows c l h p s span
+
+here : {V : Type 0} (v : V) (p : ℕ) (c : FlagCall) (l : FlagPoint) (h : Option Hold) (s : Plain) (value : Option V) (w : Bool) (span : List Mark)
+    → InCall (flag_machine v) (flag_keeping V) p c l h s value w span → Here c l h p s w span
+here v p c l h s value w span at =
+    record {
+      word = cc (at.encodes);
+      queue = at.shape;
+      mine = at.stands ∙ entries-unstepped p span (entries_held p h) at.knows.unstepped;
+      knows = at.knows;
+    }
+
+-- the party has made one step of its own, and it is this one
+one_step : (p : ℕ) (c : Change) (s : Plain) (span : List Mark) → own p span ≡ [] → own p (mark_of p (Some c) s ∷ span) ≡ c ∷ []
+one_step p c s span none = own-mine p (Some c) s span ∙ ap (λ cs. cs ++ c ∷ []) none
+
+no_step : (p : ℕ) (s : Plain) (span : List Mark) → own p span ≡ [] → own p (mark_of p None s ∷ span) ≡ []
+no_step p s span none = own-mine p None s span ∙ ap (λ cs. cs ++ []) none
+
+still : (l m : FlagPoint) (h : Option Hold) (p : ℕ) (s : Plain) (span : List Mark) → FlagKnows Lock l h p s span → FlagKnows Lock m h p s (mark_of p None s ∷ span)
+still l m h p s span knows = record { unstepped = no_step p s span knows.unstepped; holds = knows.holds; first = tt }
+
+counted : (p : ℕ) (step : Option Change) (s : Plain) (span : List Mark) → own_count p span ≡ 0 → own_count p (mark_of p step s ∷ span) ≤ 1
+counted p step s span e = omega (arith, own_count-mine p step s span, e)
+
+nothing_held : (c : FlagCall) (l : FlagPoint) (h : Option Hold) (p : ℕ) (s : Plain) (w : Bool) (span : List Mark) → Here c l h p s w span → needs c ≡ None → entries p s ≡ no_entries
+nothing_held c l h p s w span at none = at.mine ∙ ap (entries_held p) (at.knows.holds ∙ none)
+
+-- what the exchange is at a clear flag, and at a set one
+
+free_for : (s : Plain) (p : ℕ) → bit false ≡ length s.holders → (is_empty s.holders ≡ true) × (bit true ≡ flag_word (apply_some s (Some (gets p to_write))))
+free_for s p e = flag_lock-grants s p false (sym e)
+
+taken_for : (s : Plain) (p : ℕ) → bit true ≡ length s.holders → is_empty s.holders ≡ false
+taken_for s p e = flag_lock-grants s p true (sym e)
+
+one_number : (a b : ℕ) → a ≡ b → a ∷ [] ≡ b ∷ []
+one_number a b e = ap (λ n. n ∷ []) e
+
+holds_now : (p : ℕ) (s : Plain) → entries p s ≡ no_entries → is_empty s.holders ≡ true → entries p (apply_some s (Some (gets p to_write))) ≡ entries_of p Write
+holds_now p s none free = entries-own s p (Some (gets p to_write)) (refl, free) ∙ ap (entries_after s (Some (gets p to_write))) none
+
+-- `lock` goes on, having changed nothing
+
+lock_goes : {V : Type 0} (v : V) (l m : FlagPoint) (h : Option Hold) (p : ℕ) (s : Plain) (span : List Mark) → FlagKnows Lock l h p s span
+    → Goes (flag_machine v) (flag_keeping V) p Lock m h s (mark_of p None s ∷ span)
+lock_goes v l m h p s span knows =
+    record {
+      knows = still l m h p s span knows;
+      own_so_far = (granted, inl (gets p to_write ∷ [], ap (λ cs. cs ++ gets p to_write ∷ []) (no_step p s span knows.unstepped)));
+      in_time = tt;
+    }
+
+look_goes : {V : Type 0} (v : V) (w : Bool) (h : Option Hold) (p : ℕ) (s : Plain) (span : List Mark) → FlagKnows Lock Second h p s span
+    → NextIs (flag_machine v) (flag_keeping V) Step p Lock h s (mark_of p None s ∷ span) (looked w)
+look_goes v true h p s span knows = lock_goes v Second Second h p s span knows
+look_goes v false h p s span knows = lock_goes v Second First h p s span knows
+
+-- whether somebody holds the lock
+is_held_at : (s : Plain) (p : ℕ) (w : Bool) → bit w ≡ length s.holders → s.tickets ≡ [] → is_held s ≡ w
+is_held_at s p true e queue = ap (λ b. not (b && is_empty s.tickets)) (taken_for s p e)
+is_held_at s p false e queue = ap (λ b. not (b && is_empty s.tickets)) (free_for s p e).0 ∙ ap (λ (ts : List Queued). not (is_empty ts)) queue
+
+-- the release
+
+holder_of : (p : ℕ) (s : Plain) → entries p s ≡ entries_of p Write → filter (λ h. h.party == p) s.holders ≡ holder p writing ∷ []
+holder_of p s e = ap (λ (f : Entries). f.holders) e
+
+lets_go : (p : ℕ) (s : Plain) → entries p s ≡ entries_of p Write → entries p (apply_some s (Some (releases p writing))) ≡ no_entries
+lets_go p s e =
+    entries-own s p (Some (releases p writing)) (refl, is_holder-from_entries p writing s.holders (holder_of p s e))
+    ∙ (ap (entries_after s (Some (releases p writing))) e
+    ∙ ap (λ b. record no_entries { holders = if b && true then [] else holder p writing ∷ [] }) (eqb_self p))
+
+is_set : (p : ℕ) (s : Plain) (w : Bool) → entries p s ≡ entries_of p Write → bit w ≡ length s.holders → w ≡ true
+is_set p s true e word = refl
+is_set p s false e word = absurd (omega (arith, length-held p writing s.holders (holder_of p s e), word))
+
+flag_release : {V : Type 0} (v : V) (p : ℕ) (l : FlagPoint) (h : Option Hold) (s : Plain) (value : Option V) (w : Bool) (span : List Mark) → Here Release l h p s w span
+    → StepIs (flag_machine v) (flag_keeping V) p Release h s value span (step_of w value Release l h) (Some (releases p writing))
+flag_release v p l h s value w span at =
+    let mine = at.mine ∙ ap (entries_held p) at.knows.holds in
+    let found = is_holder-from_entries p writing s.holders (holder_of p s mine) in
+    record {
+      opens = (refl, found);
+      encodes = one_number _ _ (flag_unlock-gives s p writing w (sym at.word) found);
+      shape = at.queue;
+      places = refl;
+      next = record {
+        stands = lets_go p s mine;
+        own_steps_are = inl (one_step p (releases p writing) s span at.knows.unstepped);
+        right = tt;
+        in_time = counted p (Some (releases p writing)) s span at.knows.first;
+      };
+    }
+
+-- a try answers at its first step
+
+try_steps : {V : Type 0} (v : V) (p : ℕ) (l : FlagPoint) (h : Option Hold) (s : Plain) (value : Option V) (w : Bool) (span : List Mark) → Here TryLock l h p s w span
+    → StepIs (flag_machine v) (flag_keeping V) p TryLock h s value span (step_of w value TryLock l h) (taken p w)
+try_steps v p l h s value false span at =
+    let free = free_for s p at.word in
+    record {
+      opens = (refl, free.0);
+      encodes = one_number _ _ free.1;
+      shape = at.queue;
+      places = refl;
+      next = record {
+        stands = holds_now p s (nothing_held TryLock l h p s false span at refl) free.0;
+        own_steps_are = inl (one_step p (gets p to_write) s span at.knows.unstepped);
+        right = inl (refl, free.0, refl);
+        in_time = counted p (Some (gets p to_write)) s span at.knows.first;
+      };
+    }
+try_steps v p l h s value true span at =
+    record {
+      opens = tt;
+      encodes = one_number _ _ at.word;
+      shape = at.queue;
+      places = refl;
+      next = record {
+        stands = at.mine;
+        own_steps_are = inl (no_step p s span at.knows.unstepped);
+        right = inl (taken_for s p at.word);
+        in_time = counted p None s span at.knows.first;
+      };
+    }
+
+weak_try_steps : {V : Type 0} (v : V) (p : ℕ) (l : FlagPoint) (h : Option Hold) (s : Plain) (value : Option V) (w : Bool) (span : List Mark) → Here TryLockWeak l h p s w span
+    → StepIs (flag_machine v) (flag_keeping V) p TryLockWeak h s value span (step_of w value TryLockWeak l h) (taken p w)
+weak_try_steps v p l h s value false span at =
+    let free = free_for s p at.word in
+    record {
+      opens = (refl, free.0);
+      encodes = one_number _ _ free.1;
+      shape = at.queue;
+      places = refl;
+      next = record {
+        stands = holds_now p s (nothing_held TryLockWeak l h p s false span at refl) free.0;
+        own_steps_are = inl (one_step p (gets p to_write) s span at.knows.unstepped);
+        right = inl (refl, free.0, refl);
+        in_time = counted p (Some (gets p to_write)) s span at.knows.first;
+      };
+    }
+weak_try_steps v p l h s value true span at =
+    record {
+      opens = tt;
+      encodes = one_number _ _ at.word;
+      shape = at.queue;
+      places = refl;
+      next = record {
+        stands = at.mine;
+        own_steps_are = inl (no_step p s span at.knows.unstepped);
+        right = inl (taken_for s p at.word);
+        in_time = counted p None s span at.knows.first;
+      };
+    }
+
+flag_steps : {V : Type 0} (v : V) (p : ℕ) (c : FlagCall) (l : FlagPoint) (h : Option Hold) (s : Plain) (value : Option V) (w : Bool) (span : List Mark) → Here c l h p s w span
+    → StepIs (flag_machine v) (flag_keeping V) p c h s value span (step_of w value c l h) (change_of p w c l h)
+flag_steps v p Lock First h s value false span at =
+    let free = free_for s p at.word in
+    record {
+      opens = (refl, free.0);
+      encodes = one_number _ _ free.1;
+      shape = at.queue;
+      places = refl;
+      next = record {
+        stands = holds_now p s (nothing_held Lock First h p s false span at refl) free.0;
+        own_steps_are = inl (one_step p (gets p to_write) s span at.knows.unstepped);
+        right = inl (refl, free.0, refl);
+        in_time = tt;
+      };
+    }
+flag_steps v p Lock First h s value true span at =
+    record { opens = tt; encodes = one_number _ _ at.word; shape = at.queue; places = refl; next = lock_goes v First Second h p s span at.knows }
+flag_steps v p Lock Second h s value w span at =
+    record { opens = tt; encodes = one_number _ _ at.word; shape = at.queue; places = refl; next = look_goes v w h p s span at.knows }
+flag_steps v p TryLock l h s value w span at = try_steps v p l h s value w span at
+flag_steps v p TryLockWeak l h s value w span at = weak_try_steps v p l h s value w span at
+flag_steps v p IsLocked l h s value w span at =
+    record {
+      opens = tt;
+      encodes = one_number _ _ at.word;
+      shape = at.queue;
+      places = refl;
+      next = record {
+        stands = at.mine;
+        own_steps_are = inl (no_step p s span at.knows.unstepped);
+        right = inl (is_held_at s p w at.word at.queue);
+        in_time = counted p None s span at.knows.first;
+      };
+    }
+flag_steps v p Release l h s value w span at = flag_release v p l h s value w span at
+
+flag_refuses : {V : Type 0} (v : V) (p : ℕ) (c : FlagCall) (l : FlagPoint) (h : Option Hold) (s : Plain) (w : Bool) (span : List Mark) (next : Next FlagPoint FlagAnswer) → Here c l h p s w span
+    → refusal_of c l h ≡ Some next → NextIs (flag_machine v) (flag_keeping V) Weak p c h s (mark_of p None s ∷ span) next
+flag_refuses {V = V} v p Lock First h s w span next at e =
+    let first : Next FlagPoint FlagAnswer = GoesOn Second in
+    let is : first ≡ next = cc (e) in
+    subst (λ n. NextIs (flag_machine v) (flag_keeping V) Weak p Lock h s (mark_of p None s ∷ span) n) is (lock_goes v First Second h p s span at.knows)
+flag_refuses v p Lock Second h s w span next at e = absurd (cc (e))
+flag_refuses v p TryLock l h s w span next at e = absurd (cc (e))
+flag_refuses {V = V} v p TryLockWeak l h s w span next at e =
+    let refusal : Next FlagPoint FlagAnswer = Answers Refused h in
+    let is : refusal ≡ next = cc (e) in
+    subst (λ n. NextIs (flag_machine v) (flag_keeping V) Weak p TryLockWeak h s (mark_of p None s ∷ span) n) is
+    (record { stands = at.mine; own_steps_are = inl (no_step p s span at.knows.unstepped); right = tt; in_time = counted p None s span at.knows.first })
+flag_refuses v p IsLocked l h s w span next at e = absurd (cc (e))
+flag_refuses v p Release l h s w span next at e = absurd (cc (e))
+
+first_still : (c : FlagCall) (n k : ℕ) → n ≡ k → IsFirstStep c k → IsFirstStep c n
+first_still Lock n k e first = tt
+first_still TryLock n k e first = e ∙ first
+first_still TryLockWeak n k e first = e ∙ first
+first_still IsLocked n k e first = e ∙ first
+first_still Release n k e first = e ∙ first
+
+others_leave : (p q : ℕ) (c : FlagCall) (l : FlagPoint) (h : Option Hold) (s : Plain) (step : Option Change) (span : List Mark) → (q ≡ p → ⊥)
+    → FlagKnows c l h p s span → FlagKnows c l h p (apply_some s step) (mark_of q step s ∷ span)
+others_leave p q c l h s step span ne knows =
+    record {
+      unstepped = own-other p q step s span ne ∙ knows.unstepped;
+      holds = knows.holds;
+      first = first_still c (own_count p (mark_of q step s ∷ span)) (own_count p span) (own_count-other p q step s span ne) knows.first;
+    }
+
+flag_can : (p : ℕ) (c : FlagCall) (l : FlagPoint) (h : Option Hold) (s : Plain) (w : Bool) (span : List Mark) → Here c l h p s w span → can_step w c l h ≡ true
+flag_can p Release l h s w span at = is_set p s w (at.mine ∙ ap (entries_held p) at.knows.holds) at.word
+flag_can p Lock l h s w span at = refl
+flag_can p TryLock l h s w span at = refl
+flag_can p TryLockWeak l h s w span at = refl
+flag_can p IsLocked l h s w span at = refl
+
+no_queue : (hs : List Holder) (ts : List Queued) → ts ≡ [] → (is_empty hs || is_empty ts) ≡ true
+no_queue [] ts e = refl
+no_queue (h ∷ hs) ts e = ap (λ (us : List Queued). is_empty us) e
+
+pub flag_facts : {V : Type 0} (v : V) → Facts (flag_machine v) (flag_keeping V)
+flag_facts v =
+    record {
+      first = refl;
+      shape_first = refl;
+      one_list = λ s value queue. no_queue s.holders s.tickets queue;
+      shape_written = λ s p old new writes shape. shape;
+      shape_set = λ s old new shape. shape;
+      begins = λ p c l h s e mine. record { unstepped = refl; holds = needs_at c l h e; first = first_at c };
+      others = λ p q c l h s value step span ne shape exclusive may knows. others_leave p q c l h s step span ne knows;
+      can = λ p c l h s value w span at. flag_can p c l h s w span (here v p c l h s value w span at);
+      steps = λ p c l h s value w span at. flag_steps v p c l h s value w span (here v p c l h s value w span at);
+      refuses = λ p c l h s value w span next at e. flag_refuses v p c l h s w span next (here v p c l h s value w span at) e;
+    }
+
+taken_is : (q p : ℕ) (w : Bool) → taken q w ≡ Some (completes p) → ⊥
+taken_is q p true e = cc (e)
+taken_is q p false e = cc (e)
+
+-- no flag has a closure
+pub flag_never_completes : {V : Type 0} (v : V) (q : ℕ) (w : Bool) (c : FlagCall) (l : FlagPoint) (h : Option Hold) (p : ℕ) → change_of q w c l h ≡ Some (completes p) → ⊥
+flag_never_completes v q w Lock First h p e = taken_is q p w e
+flag_never_completes v q w Lock Second h p e = cc (e)
+flag_never_completes v q w TryLock l h p e = taken_is q p w e
+flag_never_completes v q w TryLockWeak l h p e = taken_is q p w e
+flag_never_completes v q w IsLocked l h p e = cc (e)
+flag_never_completes v q w Release l h p e = cc (e)

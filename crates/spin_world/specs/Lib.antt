@@ -1,0 +1,7 @@
+pub mod Calls
+pub mod Machines
+pub mod Schedules
+pub mod Runs
+pub mod Flag
+pub mod Users
+pub mod Laws

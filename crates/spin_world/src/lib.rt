@@ -1,0 +1,23 @@
+//! A world of many parties that take the steps of a lock's calls one at a time, in any order that a schedule names.
+#![tactic(auto)]
+
+mod flag;
+mod laws;
+mod object;
+mod place;
+mod schedule;
+mod table;
+mod telling;
+mod world;
+
+pub use flag::{Flag, FlagAnswer, FlagCall, FlagPoint};
+pub use laws::{
+    a_flag_is_clear_when_nobody_holds, looks_find_the_last_write, looks_under_one_guard_agree,
+};
+pub use object::{Next, Object, Stepped};
+pub use place::{Hold, Place, Seat};
+pub use schedule::{Event, Move, Outcome, Transcript};
+pub use world::World;
+
+#[cfg(test)]
+mod tests;
