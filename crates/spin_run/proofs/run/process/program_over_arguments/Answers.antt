@@ -1,0 +1,16 @@
+use Rattle.std.proofs.Common.{[], inl, inr, refl}
+use Rattle.spin_run.specs.declared.run.faults.Fault.TheVariants.{Memory}
+use Rattle.spin_run.proofs.run.process.program_over_arguments.Goals as goal
+
+pub returns-in-Err-clause-fault : goal.returns-in-Err-clause-fault
+returns-in-Err-clause-fault g c one = (c.in-Err.fault, [], inr (c.in-Err.ensures, refl), c.report.ensures.told)
+
+pub returns-in-Ok-words-clause-done : goal.returns-in-Ok-words-clause-done
+returns-in-Ok-words-clause-done g c zero = (_, c.program.ensures.done zero)
+
+pub returns-in-Ok-words-clause-fault : goal.returns-in-Ok-words-clause-fault
+returns-in-Ok-words-clause-fault g c one =
+    let stops = c.program.ensures.fault one in (stops.0, _, inl stops.1, stops.2)
+
+pub returns-clause-fault : goal.returns-clause-fault
+returns-clause-fault g c one = (Memory, [], inr (inr refl, refl), c.report-in-Err-words.ensures.told)

@@ -1,0 +1,5 @@
+pub mod Ends
+pub mod OfStd
+pub mod Numbers
+pub mod Command
+pub mod Faults

@@ -1,0 +1,4 @@
+//! Counting in threads under one lock, and the program that does it.
+#![tactic(auto)]
+
+pub mod run;

@@ -1,0 +1,238 @@
+//! Counting by workers that are threads of their own, under one lock.
+ghost use Rattle.std.specs.Prelude.{◌≡◌, ℕ, ◌+◌, ◌*◌, ◌^◌, ◌<◌, ◌≤◌, IfOk, vec_len};
+
+use super::locks::Lock;
+use std::alloc::{AllocError, Allocator};
+use std::marker::Brand;
+use std::sync::Wait;
+use std::sync::ledger::{Blank, Book, Ledger, Share};
+use std::thread;
+use std::thread::{JoinHandle, Scope, Threads};
+
+/// The most workers that one count may have.
+pub const MOST_WORKERS: usize = 64;
+
+/// The most additions that one worker may make.
+pub const MOST_TIMES: u64 = 1_000_000;
+
+/// What each worker passes before it begins to add.
+pub trait Gate {
+    /// Called once by each worker, before any addition of its own. It may wait.
+    fn before<R: Wait>(&self, rt: &R, worker: usize);
+}
+
+/// The gate that lets every worker through.
+#[derive(Clone, Copy)]
+pub struct Open;
+
+impl Gate for Open {
+    fn before<R: Wait>(&self, rt: &R, worker: usize) {
+        let _ = rt;
+        let _ = worker;
+    }
+}
+
+/// Why there is no total.
+#[derive(Clone, Copy, Debug, PartialEq, Eq)]
+pub enum CountError {
+    /// A thread or its memory was refused.
+    Refused,
+}
+
+impl From<AllocError> for CountError {
+    fn from(_refused: AllocError) -> CountError {
+        CountError::Refused
+    }
+}
+
+/// The numbers that all parts of one count agree on.
+trait Plan: Ledger {
+    /// The additions of all workers.
+    ghost all: { ℕ };
+}
+
+impl Plan for Brand {
+    ghost all = { 0 };
+}
+
+/// The number under the lock, beside the book of the additions that are still to come.
+#[derive(Drop)]
+struct Counter<P: Plan> {
+    count: u64,
+    to_come: Book<P>,
+    ghost adds_up: { count + to_come.total ≡ P.all },
+    ghost fits: { P.all < 2 ^ 64 },
+}
+
+/// What a worker hands back: its part of the book, with nothing left to add.
+#[derive(Drop)]
+struct Done<P: Plan> {
+    share: Share<P>,
+    ghost one_part: { share.parts ≡ 1 },
+    ghost nothing_left: { share.amount ≡ 0 },
+}
+
+impl<P: Plan> Counter<P> {
+    fn add_one(&mut self, mine: &mut Share<P>)
+        requires { 0 < mine.old.amount }
+        ensures amount { mine.new.amount + 1 ≡ mine.old.amount }
+        ensures parts { mine.new.parts ≡ mine.old.parts }
+    {
+        let Counter { count, to_come } = self;
+        to_come.sub(mine, 1);
+        *count += 1;
+    }
+
+    fn total(&mut self, every: &mut Share<P>) -> u64
+        requires whole { every.old.parts ≡ P.parts }
+        requires nothing_left { every.old.amount ≡ 0 }
+        ensures { result ≡ P.all }
+    {
+        self.to_come.audit(every);
+        self.count
+    }
+}
+
+/// What all workers of one count share.
+#[derive(Drop)]
+struct Team<'a, P: Plan, G, R> {
+    rt: &'a R,
+    gate: &'a G,
+    counter: Lock<Counter<P>>,
+    times: u64,
+}
+
+impl<P: Plan + Send + Sync, G: Gate + Sync, R: Threads + Wait + Sync> Team<'_, P, G, R> {
+    /// One worker's whole work.
+    fn work(&self, worker: usize, share: Share<P>) -> Done<P>
+        requires one_part { share.parts ≡ 1 }
+        requires additions { share.amount ≡ self.now.times }
+    {
+        self.gate.before(self.rt, worker);
+        let mut share = share;
+        for _done in 0..self.times {
+            self.counter.lock(self.rt).add_one(&mut share);
+        }
+        Done { share }
+    }
+
+    /// Joins the workers, and takes their parts of the book back.
+    fn join_all<A: Allocator>(&self, mut running: Vec<JoinHandle<Done<P>>, A>, mine: &mut Share<P>)
+        ensures parts { mine.new.parts ≡ mine.old.parts + vec_len running }
+        ensures amount { mine.new.amount ≡ mine.old.amount }
+    {
+        while let Some(worker) = running.pop() {
+            let Done { share } = worker.join(self.rt);
+            mine.merge(share);
+        }
+    }
+
+    /// Starts a thread for each worker. Where one is refused, those that were started are joined.
+    fn start_all<'s, E, A: Allocator>(
+        &'s self,
+        scope: &Scope<'s, E>,
+        alloc: A,
+        workers: usize,
+        mine: &mut Share<P>,
+    ) -> Result<Vec<JoinHandle<Done<P>>, A>, CountError>
+        requires parts { mine.old.parts ≡ workers + 1 }
+        requires amount { mine.old.amount ≡ workers * self.now.times }
+        ensures started { IfOk result (λ running. vec_len running ≡ workers) }
+        ensures parts { IfOk result (λ running. mine.new.parts + vec_len running ≡ mine.old.parts) }
+        ensures amount { IfOk result (λ _. mine.new.amount ≡ 0) }
+    {
+        let mut running = Vec::with_capacity(alloc, workers)?;
+        for worker in 0..workers {
+            let share = mine.split_off(1, self.times);
+            let job = move || -> Done<P>
+                requires { (share.parts ≡ 1) × (share.amount ≡ self.now.times) }
+            { self.work(worker, share) };
+            let Ok(started) = scope.spawn(job) else {
+                self.join_all(running, mine);
+                return Err(CountError::Refused);
+            };
+            running.push_reserved(started);
+        }
+        Ok(running)
+    }
+
+    /// Counts in a scope of threads, and reads the total once all of them are joined.
+    fn count<A: Allocator>(
+        &self,
+        alloc: A,
+        workers: usize,
+        mut mine: Share<P>,
+    ) -> Result<u64, CountError>
+        requires whole { mine.parts ≡ P.parts }
+        requires parts { mine.parts ≡ workers + 1 }
+        requires amount { mine.amount ≡ workers * self.now.times }
+        ensures { IfOk result (λ total. total ≡ P.all) }
+    {
+        thread::scope(
+            thread::scope_env(),
+            self.rt,
+            move |scope| -> Result<u64, CountError>
+                requires { (mine.parts ≡ P.parts) × (mine.parts ≡ workers + 1) × (mine.amount ≡ workers * self.now.times) }
+                ensures { IfOk result (λ total. total ≡ P.all) }
+            {
+                let running = self.start_all(scope, alloc, workers, &mut mine)?;
+                self.join_all(running, &mut mine);
+                Ok(self.counter.lock(self.rt).total(&mut mine))
+            },
+        )
+    }
+}
+
+/// Counts, over a book that has a part for each worker and one for the caller.
+fn count_by<'a, P: Plan + Send + Sync, G: Gate + Sync, R: Threads + Wait + Sync, A: Allocator>(
+    rt: &'a R,
+    alloc: A,
+    blank: Blank,
+    gate: &'a G,
+    workers: usize,
+    times: u64,
+) -> Result<u64, CountError>
+    requires name { blank.name ≡ P.name }
+    requires parts { blank.parts ≡ P.parts }
+    requires one_more { blank.parts ≡ workers + 1 }
+    requires additions { workers * times ≡ P.all }
+    requires fits { P.all < 2 ^ 64 }
+    ensures { IfOk result (λ total. total ≡ P.all) }
+{
+    let (mut to_come, mut mine) = blank.open::<P>();
+    to_come.add(&mut mine, workers as u64 * times);
+    let counter = Lock::new(Counter { count: 0, to_come });
+    let team = Team {
+        rt,
+        gate,
+        counter,
+        times,
+    };
+    team.count(alloc, workers, mine)
+}
+
+/// Counts in threads: each of the workers `0` to `workers - 1` is a thread of its own, which passes the gate once, also
+/// where `times` is 0, and then adds 1 to one number under one lock, `times` times. All are joined before the call returns.
+///
+/// The total is exact. Where a thread or its memory is refused there is none, and the workers that were started are joined.
+/// Not promised: when that is, that workers run at the same time, and that the call returns.
+pub fn count_with<G: Gate + Sync, R: Threads + Wait + Sync, A: Allocator>(
+    rt: &R,
+    alloc: A,
+    gate: &G,
+    workers: usize,
+    times: u64,
+) -> Result<u64, CountError>
+    requires workers { workers ≤ MOST_WORKERS }
+    requires times { times ≤ MOST_TIMES }
+    ensures { IfOk result (λ total. total ≡ workers * times) }
+{
+    count_by::<Brand, G, R, A>(
+        rt,
+        alloc,
+        Blank::new(workers as u64 + 1),
+        gate,
+        workers,
+        times,
+    )
+}

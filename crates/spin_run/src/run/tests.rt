@@ -1,0 +1,493 @@
+//! What no contract says: worked rows with their texts, that a call succeeds where nothing is refused, and that workers run at once.
+ghost use Rattle.std.specs.Prelude.{◌≡◌, Some, None, false};
+
+use super::{Failed, Gate, OfStd, Open, Sink, Source, count_with, program, program_over_arguments};
+use bumpalo::Bump;
+use spin_core::relax::{RelaxStrategy, Yield};
+use std::alloc::{AllocError, Global};
+use std::cell::Cell;
+use std::env::{Env, FillError};
+use std::io;
+use std::process::Abort;
+use std::sync::Wait;
+use std::sync::atomic::{AtomicBool, AtomicU64, Ordering};
+use std::test::Fail;
+use std::thread::Threads;
+
+const USAGE: &str = "usage: spin-run count WORKERS TIMES | spin-run world\n";
+
+/// A sink in memory. It takes at most `step` bytes at a time, and fails once it holds `room` bytes.
+#[derive(Drop)]
+struct Paper {
+    bytes: Vec<u8>,
+    step: usize,
+    room: usize,
+    failed: bool,
+}
+
+impl Paper {
+    fn new(alloc: Global, step: usize, room: usize) -> Paper
+        ensures { result.failed ≡ false }
+    {
+        Paper {
+            bytes: Vec::new(alloc),
+            step,
+            room,
+            failed: false,
+        }
+    }
+
+    /// Paper without an end.
+    fn endless(alloc: Global) -> Paper
+        ensures { result.failed ≡ false }
+    {
+        Paper::new(alloc, usize::MAX, usize::MAX)
+    }
+}
+
+impl Sink for Paper {
+    ghost written = { λ s. Some s.bytes.items };
+
+    ghost failed = { λ s. s.failed };
+
+    fn write(&mut self, from: &[u8]) -> Result<usize, Failed> {
+        let left = self.room.saturating_sub(self.bytes.len());
+        let n = from.len().min(self.step).min(left);
+        if n == 0 && !from.is_empty() || self.bytes.extend_from_slice(&from[..n]).is_err() {
+            self.failed = true;
+            return Err(Failed);
+        }
+        Ok(n)
+    }
+
+    fn has_failed(&self) -> bool {
+        self.failed
+    }
+}
+
+/// A source that is not to be read.
+#[derive(Drop)]
+struct Unread {
+    failed: bool,
+}
+
+impl Unread {
+    fn new() -> Unread
+        ensures { result.failed ≡ false }
+    {
+        Unread { failed: false }
+    }
+}
+
+impl Source for Unread {
+    ghost remaining = { λ _. None };
+
+    ghost failed = { λ s. s.failed };
+
+    fn read(&mut self, to: &mut [u8]) -> Result<usize, Failed> {
+        let _ = to;
+        self.failed = true;
+        Err(Failed)
+    }
+
+    fn has_failed(&self) -> bool {
+        self.failed
+    }
+}
+
+/// Runs the program, and compares all that it did.
+fn ends<R: Abort + Threads + Wait + Sync>(
+    rt: &R,
+    alloc: Global,
+    words: &[&str],
+    mut output: Paper,
+    status: u8,
+    told: &str,
+    line: &str,
+)
+    requires { output.failed ≡ false }
+{
+    let mut errors = Paper::endless(alloc);
+    let mut input = Unread::new();
+    assert_eq!(rt;
+        program(rt, alloc, words, &mut input, &mut output, &mut errors),
+        status,
+        "{words:?}"
+    );
+    assert_eq!(rt; output.bytes.as_slice(), told.as_bytes(), "{words:?}");
+    assert_eq!(rt; errors.bytes.as_slice(), line.as_bytes(), "{words:?}");
+    assert!(rt; !input.has_failed(), "{words:?}");
+}
+
+#[test]
+fn counts(rt: HostRuntime) {
+    for (workers, times, told) in [
+        ("2", "100", "200\n"),
+        ("0", "5", "0\n"),
+        ("3", "0", "0\n"),
+        ("0", "0", "0\n"),
+        ("1", "1", "1\n"),
+        ("64", "1000", "64000\n"),
+        ("1", "1000000", "1000000\n"),
+    ] {
+        let output = Paper::endless(rt.alloc());
+        ends(
+            &rt,
+            rt.alloc(),
+            &["count", workers, times],
+            output,
+            0,
+            told,
+            "",
+        );
+    }
+}
+
+#[test]
+fn asks_for_other_words(rt: HostRuntime) {
+    let none: &[&str] = &[];
+    for words in [
+        none,
+        &["count"],
+        &["count", "2"],
+        &["count", "2", "1", "1"],
+        &["count", "65", "1"],
+        &["count", "02", "1"],
+        &["count", "00", "1"],
+        &["count", "2", "01"],
+        &["count", "2", "1000001"],
+        &["count", "+2", "1"],
+        &["count", "-2", "1"],
+        &["count", "2", "+1"],
+        &["count", "2 ", "1"],
+        &["count", "2", "1\n"],
+        &["count", "0x2", "1"],
+        &["count", "", "1"],
+        &["count", "2", ""],
+        &["count", "two", "1"],
+        &["count", "٢", "1"],
+        &["count", "18446744073709551615", "1"],
+        &["count", "18446744073709551616", "1"],
+        &["count", "1", "18446744073709551616"],
+        &["count", "1", "340282366920938463463374607431768211457"],
+        &["", "2", "1"],
+        &["Count", "2", "1"],
+        &["counts", "2", "1"],
+        &["jump", "2", "1"],
+        &["2", "1", "count"],
+        &["world"],
+        &["world", "2", "1"],
+    ] {
+        ends(
+            &rt,
+            rt.alloc(),
+            words,
+            Paper::endless(rt.alloc()),
+            2,
+            "",
+            USAGE,
+        );
+    }
+}
+
+#[test]
+fn writes_in_small_steps(rt: HostRuntime) {
+    for step in 1..5usize {
+        let output = Paper::new(rt.alloc(), step, usize::MAX);
+        ends(
+            &rt,
+            rt.alloc(),
+            &["count", "2", "100"],
+            output,
+            0,
+            "200\n",
+            "",
+        );
+    }
+}
+
+#[test]
+fn tells_a_failed_write(rt: HostRuntime) {
+    let text = "200\n";
+    for step in [1, 3, usize::MAX] {
+        for room in 0..4usize {
+            let output = Paper::new(rt.alloc(), step, room);
+            let beginning = text.get(..room).expect(&rt, "a beginning");
+            ends(
+                &rt,
+                rt.alloc(),
+                &["count", "2", "100"],
+                output,
+                1,
+                beginning,
+                "write failed\n",
+            );
+        }
+        let output = Paper::new(rt.alloc(), step, 4);
+        ends(&rt, rt.alloc(), &["count", "2", "100"], output, 0, text, "");
+    }
+}
+
+/// A writer of std's that takes nothing, or fails, behind the first bytes. It counts its calls.
+#[derive(Drop)]
+struct Stuck<'a> {
+    room: usize,
+    fails: bool,
+    calls: &'a Cell<usize>,
+}
+
+impl io::Write for Stuck<'_> {
+    fn write(&mut self, from: &[u8]) -> io::Result<usize> {
+        self.calls.set(self.calls.get().saturating_add(1));
+        let n = from.len().min(self.room);
+        self.room -= n;
+        if n == 0 && self.fails {
+            return Err(io::Error::from(io::ErrorKind::Interrupted));
+        }
+        Ok(n)
+    }
+
+    fn flush(&mut self) -> io::Result<()> {
+        Ok(())
+    }
+}
+
+#[test]
+fn tries_no_failed_write_again(rt: HostRuntime) {
+    for fails in [false, true] {
+        for room in 0..4usize {
+            let calls = Cell::new(0);
+            let mut output = OfStd::new(Stuck {
+                room,
+                fails,
+                calls: &calls,
+            });
+            let mut errors = Paper::endless(rt.alloc());
+            let words = ["count", "2", "100"];
+            let status = program(
+                &rt,
+                rt.alloc(),
+                &words,
+                &mut Unread::new(),
+                &mut output,
+                &mut errors,
+            );
+            assert_eq!(rt; status, 1);
+            assert!(rt; output.has_failed());
+            assert_eq!(rt; errors.bytes.as_slice(), b"write failed\n".as_slice());
+            assert_eq!(rt; calls.get(), if room == 0 { 1 } else { 2 });
+        }
+    }
+}
+
+#[test]
+fn keeps_its_status_where_errors_fail(rt: HostRuntime) {
+    let cases: [(&[&str], usize, u8); 2] = [
+        (&["count", "65", "1"], 4, 2),
+        (&["count", "2", "100"], 3, 1),
+    ];
+    for (words, output_room, status) in cases {
+        for room in [0, 1, 5] {
+            let mut output = Paper::new(rt.alloc(), usize::MAX, output_room);
+            let mut errors = Paper::new(rt.alloc(), 2, room);
+            assert_eq!(rt;
+                program(
+                    &rt,
+                    rt.alloc(),
+                    words,
+                    &mut Unread::new(),
+                    &mut output,
+                    &mut errors
+                ),
+                status
+            );
+            assert!(rt; errors.has_failed());
+            assert_eq!(rt; errors.bytes.len(), room);
+        }
+    }
+}
+
+/// A gate at which two workers meet: each raises its flag, and looks for the other's.
+#[derive(Drop)]
+struct Meeting {
+    raised: [AtomicBool; 2],
+    seen: [AtomicBool; 2],
+}
+
+impl Gate for Meeting {
+    fn before<R: Wait>(&self, rt: &R, worker: usize) {
+        if worker > 1 {
+            return;
+        }
+        self.raised[worker].store(true, Ordering::SeqCst);
+        for _ in 0..10_000_000u32 {
+            if self.raised[1 - worker].load(Ordering::SeqCst) {
+                self.seen[worker].store(true, Ordering::SeqCst);
+                return;
+            }
+            Yield::relax(rt);
+        }
+    }
+}
+
+#[test]
+fn runs_workers_at_once(rt: HostRuntime) {
+    let gate = Meeting {
+        raised: [AtomicBool::new(false), AtomicBool::new(false)],
+        seen: [AtomicBool::new(false), AtomicBool::new(false)],
+    };
+    assert_eq!(rt; count_with(&rt, rt.alloc(), &gate, 2, 100), Ok(200));
+    assert!(rt; gate.seen[0].load(Ordering::SeqCst));
+    assert!(rt; gate.seen[1].load(Ordering::SeqCst));
+}
+
+/// A gate that counts how often each of three workers passes, and all others together.
+#[derive(Drop)]
+struct Turnstile {
+    passed: [AtomicU64; 4],
+}
+
+impl Gate for Turnstile {
+    fn before<R: Wait>(&self, rt: &R, worker: usize) {
+        let _ = rt;
+        self.passed[worker.min(3)].fetch_add(1, Ordering::SeqCst);
+    }
+}
+
+#[test]
+fn passes_the_gate_once_each(rt: HostRuntime) {
+    for times in [0, 1, 5] {
+        let gate = Turnstile {
+            passed: [
+                AtomicU64::new(0),
+                AtomicU64::new(0),
+                AtomicU64::new(0),
+                AtomicU64::new(0),
+            ],
+        };
+        assert_eq!(rt; count_with(&rt, rt.alloc(), &gate, 3, times), Ok(3 * times));
+        for (worker, wanted) in [(0, 1), (1, 1), (2, 1), (3, 0)] {
+            assert_eq!(rt;
+                gate.passed[worker].load(Ordering::SeqCst),
+                wanted,
+                "worker {worker}"
+            );
+        }
+    }
+}
+
+#[test]
+fn counts_to_its_limits(rt: HostRuntime) {
+    assert_eq!(rt; count_with(&rt, rt.alloc(), &Open, 64, 1000), Ok(64_000));
+    assert_eq!(rt;
+        count_with(&rt, rt.alloc(), &Open, 1, 1_000_000),
+        Ok(1_000_000)
+    );
+    assert_eq!(rt; count_with(&rt, rt.alloc(), &Open, 0, 1_000_000), Ok(0));
+}
+
+/// With little memory left the run ends with a line, and with more it succeeds.
+fn ends_by_memory<R: Abort + AllocGlobal + Threads + Wait + Sync>(
+    rt: &R,
+    words: &[&str],
+    told: &str,
+    line: &str,
+) -> Result<(), AllocError> {
+    let mut refused = 0u32;
+    for left in 0..32usize {
+        let arena = Bump::try_with_capacity(rt.alloc(), 64)?;
+        arena.set_allocation_limit(Some(0));
+        let filled = arena.chunk_capacity().saturating_sub(left);
+        let filled = Vec::<u8, &Bump>::with_capacity(&arena, filled)?;
+        let mut output = Paper::endless(rt.alloc());
+        let mut errors = Paper::endless(rt.alloc());
+        let status = program(
+            rt,
+            &arena,
+            words,
+            &mut Unread::new(),
+            &mut output,
+            &mut errors,
+        );
+        drop(filled);
+        if status == 0 {
+            assert_eq!(rt; output.bytes.as_slice(), told.as_bytes());
+            assert_eq!(rt; errors.bytes.as_slice(), b"".as_slice());
+        } else {
+            refused = refused.saturating_add(1);
+            assert_eq!(rt; status, 1);
+            assert_eq!(rt; output.bytes.as_slice(), b"".as_slice());
+            assert_eq!(rt; errors.bytes.as_slice(), line.as_bytes());
+        }
+    }
+    assert!(rt; refused > 0 && refused < 32, "{refused} of 32");
+    Ok(())
+}
+
+#[test]
+fn tells_refused_memory(rt: HostRuntime) -> Result<(), Fail> {
+    ends_by_memory(&rt, &["count", "2", "100"], "200\n", "count refused\n")?;
+    ends_by_memory(&rt, &["count", "0", "5"], "0\n", "out of memory\n")?;
+    Ok(())
+}
+
+/// A runtime with other arguments.
+#[derive(Drop)]
+struct Told<'a, R> {
+    rt: &'a R,
+    arguments: &'a [&'a [u8]],
+}
+
+impl<R: Threads> Threads for Told<'_, R> {}
+
+impl<R: Wait> Wait for Told<'_, R> {}
+
+impl<R: AllocGlobal> Alloc for Told<'_, R> {
+    type A = Global;
+
+    fn alloc(&self) -> Global {
+        self.rt.alloc()
+    }
+}
+
+impl<R> Env for Told<'_, R> {
+    fn arg(&self, i: usize, buf: &mut [u8]) -> Result<usize, FillError> {
+        let Some(text) = self.arguments.get(i) else {
+            return Err(FillError::NotPresent);
+        };
+        if buf.len() < text.len() {
+            return Err(FillError::TooLong);
+        }
+        buf[..text.len()].copy_from_slice(text);
+        Ok(text.len())
+    }
+
+    fn var(&self, _name: &str, _buf: &mut [u8]) -> Result<usize, FillError> {
+        Err(FillError::NotPresent)
+    }
+
+    fn var_at(&self, _i: usize, _buf: &mut [u8]) -> Result<usize, FillError> {
+        Err(FillError::NotPresent)
+    }
+}
+
+#[test]
+fn reads_its_arguments(rt: HostRuntime) {
+    let program_name: &[u8] = b"spin-run";
+    let cases: [(&[&[u8]], u8, &str, &str); 5] = [
+        (&[program_name, b"count", b"2", b"100"], 0, "200\n", ""),
+        (&[program_name], 2, "", USAGE),
+        (&[], 2, "", USAGE),
+        (&[program_name, b"count", b"2", b"\xff"], 2, "", USAGE),
+        (&[program_name, b"count", b"65", b"1"], 2, "", USAGE),
+    ];
+    for (arguments, status, told, line) in cases {
+        let told_rt = Told { rt: &rt, arguments };
+        let mut output = Paper::endless(rt.alloc());
+        let mut errors = Paper::endless(rt.alloc());
+        let ended = program_over_arguments(&told_rt, &mut Unread::new(), &mut output, &mut errors);
+        assert_eq!(rt; ended, status);
+        assert_eq!(rt; output.bytes.as_slice(), told.as_bytes());
+        assert_eq!(rt; errors.bytes.as_slice(), line.as_bytes());
+    }
+}

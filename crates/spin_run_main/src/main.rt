@@ -1,0 +1,12 @@
+//! `spin-run`: the streams and the arguments of the process, and the status that it ends with.
+#![tactic(auto)]
+
+use spin_run::run::{OfStd, program_over_arguments};
+use std::process::ExitCode;
+
+fn main(rt: HostRuntime) -> ExitCode {
+    let mut input = OfStd::new(rt.stdin());
+    let mut output = OfStd::new(rt.stdout());
+    let mut errors = OfStd::new(rt.stderr());
+    ExitCode::from(program_over_arguments(&rt, &mut input, &mut output, &mut errors))
+}
