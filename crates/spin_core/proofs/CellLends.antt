@@ -21,7 +21,7 @@ use denote.Memory.{part_at, mem}
 use denote.Moves.{moves, moves_before}
 use denote.RawPtr.{Ptr, block_ptr, null_ptr}
 use denote.Sharing.{ShrLaws, within}
-use denote.SharingLaws.{contraction, shortens, nothing_shr_laws, said_shr_laws, within_shr_laws}
+use denote.SharingLaws.{contraction, shortens, nothing_shr_laws, said_shr_laws, some_shr_laws, within_shr_laws}
 use denote.Shares.{Shares, settles}
 use denote.Steps.{nothing}
 use denote.Struct.Lending.{Lends, Lends-false, Lends-nothing}
@@ -33,7 +33,7 @@ use Rattle.spin_core.proofs.CellParts.{parts_in}
 -- ---- what is shared may be had twice, and for less time
 reader_laws : (Y R : RattleType) {V : Type 0} (c : V → Gv) (holds : ℕ → ℕ → List V → Type 0) (ways : Ways V) → RowLaws R → (β : Lft) (b o : ℕ) (u : Use) (x : Option R.Denot)
     → ShrLaws (reader_shares Y R c holds ways β b o u x)
-reader_laws Y R c holds ways L β b o reads (Some x) = within_shr_laws β (shown R b o x) (L x b (o + offset R))
+reader_laws Y R c holds ways L β b o reads (Some x) = some_shr_laws (Known ways Y R) (λ _. within β (shown R b o x)) (λ _. within_shr_laws β (shown R b o x) (L x b (o + offset R)))
 reader_laws Y R c holds ways L β b o reads None = said_shr_laws ffalse tt
 reader_laws Y R c holds ways L β b o off x = nothing_shr_laws
 reader_laws Y R c holds ways L β b o writes x = nothing_shr_laws
@@ -167,7 +167,7 @@ module _ {M : Type 1} {𝓤 : Ura M} (𝓛 : Logic 𝓤) where
             fpack ! ℕ (λ u. fsep (parts R t.1 (u, x) 1) (V' (u ∷ t.0))) a $ move ! (5 ∷ 0 ∷ []) $ fjoin ! $ move ! (3 ∷ 4 ∷ []) $ fjoin ! $ fjoin ! $
             fpack ! Id (owned_at reads (Some x)) t $ fpack ! Knows (λ _. fex Id (owned_at reads (Some x))) k $ keep ! (0 ∷ []) $ done !
 
-        pub lends_shown : (q : Share) → A.bor ν P ∗ A.lft ν q ⊢ H.⇛ (⟦ V' ν ⟧ ∗ A.lft ν q)
+        pub lends_shown : (q : Share) → A.bor ν P ∗ A.lft ν q ⊢ H.⇛ (⟦ fex Knows (λ _. V' ν) ⟧ ∗ A.lft ν q)
         unfolding fseps
         lends_shown q = qed 𝓛 (‵ (fbor ν P) ∷ ‵ (flft ν q) ∷ []) ∵ updating ! $ bor_open ! tt $ move ! (1 ∷ []) $ fpick ! (λ k. fpick ! (λ t. fsplit3 ! $ fsplit ! $ move ! (3 ∷ []) $ fpick ! (λ u. fsplit ! $ fpick ! (λ e. fpick ! (λ n. fsplit ! $
             let a : Lft = u ∷ [] in let μ : Lft = a ++ ν in let K = L x b (o + offset R) in
@@ -178,7 +178,7 @@ module _ {M : Type 1} {𝓤 : Ura M} (𝓛 : Logic 𝓤) where
             use1 𝓛 (‵ (fbor ν (flft a e)) ⊛ ‵ ftrue) (id⊢ 𝓤 _) $ split ! $ bor_fracture ! tt (λ r. flft a r) e $ move ! (4 ∷ []) $
             use1 𝓛 (‵ (V' (μ ++ t.0))) (shortens 𝓛 V' K (a ++ t.0) (μ ++ t.0) (⊑_meet (μ ++ t.0) a t.0 (Incl-trans (meet_⊑_left μ t.0) (meet_⊑_left a ν)) (meet_⊑_right μ t.0))) $ move ! (4 ∷ []) $
             use1 𝓛 (‵ (before μ t.0)) (before_shorten 𝓛 β μ t.0 (Incl-trans (meet_⊑_right a ν) inc)) $ use2 𝓛 (‵ (V' μ)) (moves_before 𝓛 V' K μ t.0) $ move ! (1 ∷ 0 ∷ []) $
-            use2 𝓛 (‵ (V' ν)) (moves 𝓛 V' K ν a) $ now ! $ keep ! (0 ∷ 2 ∷ []) $ done !)))))
+            use2 𝓛 (‵ (V' ν)) (moves 𝓛 V' K ν a) $ fpack ! Knows (λ _. V' ν) k $ now ! $ keep ! (0 ∷ 2 ∷ []) $ done !)))))
 
       no_reader : (l : Lft) → Lends 𝓛 (Owned reads None) (λ _. ffalse) l
       no_reader l κ ts inc sp = let P : Fml = Owned reads None in qed 𝓛 (‵ (fbor κ P) ∷ raw (lfts 𝓛 ts) ∷ []) ∵ updating ! $
@@ -190,7 +190,7 @@ module _ {M : Type 1} {𝓤 : Ura M} (𝓛 : Logic 𝓤) where
       Lends-owned L l le reads None = no_reader l
       Lends-owned L l le reads (Some x) = λ κ ts inc sp. let ν : Lft = κ ++ β in let P : Fml = Owned reads (Some x) in
           qed 𝓛 (‵ (fbor κ P) ∷ raw (lfts 𝓛 ts) ∷ []) ∵ use1 𝓛 (‵ (fbor ν P)) (𝓛.bors.bor_shorten κ ν P (meet_⊑_left κ β)) $
-          by ! (by_one 𝓛 ν ts (⊑_meet (span ts) κ β sp (Incl-trans inc le)) (A.bor ν P) ⟦ shown R b o x ν ⟧ (lends_shown L x ν (meet_⊑_right κ β)))
+          by ! (by_one 𝓛 ν ts (⊑_meet (span ts) κ β sp (Incl-trans inc le)) (A.bor ν P) ⟦ fex Knows (λ _. shown R b o x ν) ⟧ (lends_shown L x ν (meet_⊑_right κ β)))
 
     pub Lends-permit : RowLaws R → (l : Lft) → Incl l β → (p : Ptr) (view : Option V) (x : Option R.Denot) → Lends 𝓛 (permit_owns Y R c holds ways β p view x) (permit_shares Y R c holds ways β p view x) l
     Lends-permit L l le (block_ptr b o) view x = Lends-owned b o view L l le (use_of ways view) x

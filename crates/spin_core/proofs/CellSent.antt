@@ -72,14 +72,14 @@ module _ (Y R : RattleType) {V : Type 0} (c : V → Gv) (holds : ℕ → ℕ →
   permit_keyless s y β (block_ptr b o) view x = λ known t. (kept_keyless R s b o t c holds ways (λ e. known.0 e y.shared) β, (stand_keyless R b o t c view, right_keyless R s b o t (use_of ways view) (λ e. some_reads view known e y.shared) x))
   permit_keyless s y β null_ptr view x = tt
 
-  reader_sees : IsSync R → (β : Lft) (b o : ℕ) (u : Use) (x : Option R.Denot) (κ : Lft) → Keyless (reader_shares Y R c holds ways β b o u x κ)
-  reader_sees y β b o off x κ = tt
-  reader_sees y β b o reads None κ = tt
-  reader_sees y β b o reads (Some x) κ = y.shared x b (o + offset R) _
-  reader_sees y β b o writes x κ = tt
+  reader_sees : IsSync Y → (β : Lft) (b o : ℕ) (u : Use) → (Known ways Y R → u ≡ reads → Common Y → Common R) → (x : Option R.Denot) (κ : Lft) → Keyless (reader_shares Y R c holds ways β b o u x κ)
+  reader_sees y β b o off sees x κ = tt
+  reader_sees y β b o reads sees None κ = tt
+  reader_sees y β b o reads sees (Some x) κ = λ known. sees known refl y.shared x b (o + offset R) _
+  reader_sees y β b o writes sees x κ = tt
 
-  pub permit_sees : IsSync R → (β : Lft) (p : Ptr) (view : Option V) (x : Option R.Denot) (κ : Lft) → Keyless (permit_shares Y R c holds ways β p view x κ)
-  permit_sees y β (block_ptr b o) view x κ = reader_sees y β b o (use_of ways view) x κ
+  pub permit_sees : IsSync Y → (β : Lft) (p : Ptr) (view : Option V) (x : Option R.Denot) (κ : Lft) → Keyless (permit_shares Y R c holds ways β p view x κ)
+  permit_sees y β (block_ptr b o) view x κ = reader_sees y β b o (use_of ways view) (some_reads view) x κ
   permit_sees y β null_ptr view x κ = tt
 
   pub writer_sees : IsSync R → (β : Lft) (p : Ptr) (view : V) (x : R.Denot) (κ : Lft) → Keyless (writer_shares Y R c holds ways β p view x κ)

@@ -158,9 +158,9 @@ module _ (Y R : RattleType) {V : Type 0} (c : V → Gv) (holds : ℕ → ℕ →
     writer_owns (block_ptr b o) view x = fex (Known ways Y R) (λ _. fex (ways.1 view ≡ writes) (λ _. fex Id (writer_at b o view x)))
     writer_owns null_ptr view x = ffalse
 
-  -- what a `&` to a permit holds: a `&` to the value, if it reads
+  -- what a `&` to a permit holds: a `&` to the value, if it reads, and what its rule asks of that
   abbrev pub reader_shares : Lft → ℕ → ℕ → Use → Option R.Denot → Lft → Fml
-  reader_shares β b o reads (Some x) = within β (shown R b o x)
+  reader_shares β b o reads (Some x) = some (Known ways Y R) (λ _. within β (shown R b o x))
   reader_shares β b o reads None = said ffalse
   reader_shares β b o off x = nothing
   reader_shares β b o writes x = nothing

@@ -358,7 +358,7 @@ unsafe impl<T: Send, V, P: Rule<V> + Sync> Sync for Cell<T, V, P> {}
 
 unsafe impl<T: Send, V, P: Rule<V> + Sync> Send for Permit<'_, T, V, P> {}
 
-unsafe impl<T: Sync, V, P: Rule<V>> Sync for Permit<'_, T, V, P> {}
+unsafe impl<T, V, P: Rule<V> + Sync> Sync for Permit<'_, T, V, P> {}
 
 unsafe impl<T: Send, V, P: Rule<V> + Sync> Send for WritePermit<'_, T, V, P> {}
 

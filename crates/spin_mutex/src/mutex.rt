@@ -118,7 +118,7 @@ unsafe impl<T: Sync, R> Sync for MutexGuard<'_, T, R> {}
 
 unsafe impl<T: Send, R> Send for Held<'_, T, R> {}
 
-unsafe impl<T: Sync, R> Sync for Held<'_, T, R> {}
+unsafe impl<T: Send, R> Sync for Held<'_, T, R> {}
 
 #[cfg(test)]
 mod tests;

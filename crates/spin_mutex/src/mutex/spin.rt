@@ -228,4 +228,4 @@ unsafe impl<T: Sync, R> Sync for SpinMutexGuard<'_, T, R> {}
 
 unsafe impl<T: Send, R> Send for Held<'_, T, R> {}
 
-unsafe impl<T: Sync, R> Sync for Held<'_, T, R> {}
+unsafe impl<T: Send, R> Sync for Held<'_, T, R> {}

@@ -23,17 +23,17 @@ fn travel<T: Send + 'static, R: 'static>() {
     is_sync::<SpinMutex<T, R>>();
     is_send::<SpinMutexGuard<'static, T, R>>();
     is_send::<Held<'static, T, R>>();
+    is_sync::<Held<'static, T, R>>();
     is_send::<Mutex<T, R>>();
     is_sync::<Mutex<T, R>>();
     is_send::<MutexGuard<'static, T, R>>();
     is_send::<super::Held<'static, T, R>>();
+    is_sync::<super::Held<'static, T, R>>();
 }
 
 fn are_shared<T: Sync + 'static, R: 'static>() {
     is_sync::<SpinMutexGuard<'static, T, R>>();
-    is_sync::<Held<'static, T, R>>();
     is_sync::<MutexGuard<'static, T, R>>();
-    is_sync::<super::Held<'static, T, R>>();
 }
 
 #[test]
@@ -182,15 +182,22 @@ fn add<R: Wait>(rt: &R, lock: &SpinMutex<u64, Yield>, times: u32) {
     }
 }
 
-fn add_twice<R: Threads + Wait + Sync>(rt: &R, lock: &SpinMutex<u64, Yield>) {
-    thread::join(rt, || add(rt, lock, 1000), || add(rt, lock, 1000));
+fn add_in_three<R: Threads + Wait + Sync>(rt: &R, lock: &SpinMutex<u64, Yield>) {
+    let others = || {
+        thread::join(rt, || add(rt, lock, 1000), || add(rt, lock, 1000));
+    };
+    thread::join(rt, || add(rt, lock, 1000), others);
 }
 
 #[test]
-fn two_threads_lose_no_addition(rt: HostRuntime) {
+fn six_threads_lose_no_addition(rt: HostRuntime) {
     let lock = SpinMutex::new(0);
-    add_twice(&rt, &lock);
-    assert_eq!(rt; lock.into_inner(), 2000);
+    thread::join(
+        &rt,
+        || add_in_three(&rt, &lock),
+        || add_in_three(&rt, &lock),
+    );
+    assert_eq!(rt; lock.into_inner(), 6000);
 }
 
 fn add_under_mutex<R: Wait>(rt: &R, lock: &Mutex<u64, Yield>, times: u32) {

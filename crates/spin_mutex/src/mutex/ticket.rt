@@ -95,7 +95,8 @@ fn serve_next<'a, T>(
     permit.store_second::<Leave>(ticket::serve(number))
 }
 
-// The ticket with which the party has entered: it is the number that is served.
+// The ticket with which the party has entered: it is the number that is served. A guard keeps no number of its own,
+// since what ties it to the view would keep `deref_mut` from lending the guard's permit.
 fn number_of<'a, T>(
     permit: Permit<'a, T, View, TicketRule>,
 ) -> (u64, Permit<'a, T, View, TicketRule>)
@@ -338,7 +339,7 @@ unsafe impl<T: Sync, R> Sync for TicketMutexGuard<'_, T, R> {}
 
 unsafe impl<T: Send, R> Send for Held<'_, T, R> {}
 
-unsafe impl<T: Sync, R> Sync for Held<'_, T, R> {}
+unsafe impl<T: Send, R> Sync for Held<'_, T, R> {}
 
 #[cfg(test)]
 mod tests;

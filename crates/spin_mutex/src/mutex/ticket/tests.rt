@@ -23,11 +23,11 @@ fn travel<T: Send + 'static, R: 'static>() {
     is_sync::<TicketMutex<T, R>>();
     is_send::<TicketMutexGuard<'static, T, R>>();
     is_send::<Held<'static, T, R>>();
+    is_sync::<Held<'static, T, R>>();
 }
 
 fn are_shared<T: Sync + 'static, R: 'static>() {
     is_sync::<TicketMutexGuard<'static, T, R>>();
-    is_sync::<Held<'static, T, R>>();
 }
 
 #[test]

@@ -1,5 +1,5 @@
 -- `get` shows the value for as long as the permit is borrowed.
-use Rattle.spin_core.proofs.WalkNames.{◌≡◌, ℕ, ◌+◌, List, [], ◌∷◌, ◌++◌, refl, ap, Option, Some, dcons, dnil, a_type, named, Val, vptr, inst_fn, emp, SProp, guard_i, Lft, Fml, ftrue, fsep, flft, Incl-refl, sem, ‵, raw, ◌⊛◌, given, at_ret, ◌$◌, ◌∵◌, !, qed, by, move, keep, split, join, fsplit, fjoin, learn, use0, use1, rewrite, feq_i, stop, fld, addr, of_opd, first, blocks, exec, returns, enter, alloc_all, pass_all, free_all, look_at, get, through, sets, sets_last, env, sub, whole, tables, fact, fact_i, fact_use, yes, RattleType, owns, types_at, plain, named_lft, Ptr, InBlock, block_ptr, block_of, count_of, at_block, nothing, heard, param, bounded, param_laws, Stays, stay_dropped, walk_of, Goes-dropped, tail, proved, leaves}
+use Rattle.spin_core.proofs.WalkNames.{fpick, ◌≡◌, ℕ, ◌+◌, List, [], ◌∷◌, ◌++◌, refl, ap, Option, Some, dcons, dnil, a_type, named, Val, vptr, inst_fn, emp, SProp, guard_i, Lft, Fml, ftrue, fsep, flft, Incl-refl, sem, ‵, raw, ◌⊛◌, given, at_ret, ◌$◌, ◌∵◌, !, qed, by, move, keep, split, join, fsplit, fjoin, learn, use0, use1, rewrite, feq_i, stop, fld, addr, of_opd, first, blocks, exec, returns, enter, alloc_all, pass_all, free_all, look_at, get, through, sets, sets_last, env, sub, whole, tables, fact, fact_i, fact_use, yes, RattleType, owns, types_at, plain, named_lft, Ptr, InBlock, block_ptr, block_of, count_of, at_block, nothing, heard, param, bounded, param_laws, Stays, stay_dropped, walk_of, Goes-dropped, tail, proved, leaves}
 use Rattle.spin_core.proofs.WalkNames.{RefOf, shr_vals, shr_Tells, unhide, hop, look_in, lent_out, shortens, ⊑_meet, hidden_shr, cell_at, looks, peeks, shuts, Is, shows, ◌∙◌, sym, fhide}
 use Rattle.core.specs.contracts.marker.PhantomData as marker
 use Rattle.spin_core.specs.Cell.{Use, reads, use_of}
@@ -29,7 +29,7 @@ get_spec 𝓤 𝓛 𝓜 𝓡 wired T V P L _ _ g d _ =
     (lent_out 𝓛 (hand.struct ℓ R W Y g) (hand.the_codes T.Denot V.Denot P.Denot R.coded W.coded Y.coded (marker.the_row (denote.Ref.ShrRef ℓ.mir ℓ.lft R)).coded) (hand.the_heap β R W Y g) (hand.the_lent β R W Y g) κ h b o) $
     split ! $ move ! (1 ∷ []) $ unhide ! $ use1 𝓛 (given Seen (‵ Lent)) (fact_use 𝓤 _ (sees 𝓛 Y R cw.code g.holds g.ways β p h.view h.value κ asked) (guard_i 𝓤 Seen (sem 𝓛 Lent))) $ learn ! (λ so.
     let x : T.Denot = so.1.0 in let at : p ≡ block_ptr pb po = at_block p so.0 in rewrite ! 0 (λ (z : Ptr). ‵ (permit_shares Y R cw.code g.holds g.ways β z h.view h.value κ)) at refl $
-    rewrite ! 0 (λ (z : Use × Option T.Denot). ‵ (reader_shares Y R cw.code g.holds g.ways β pb po z.0 z.1 κ)) (λ i. (asked i, so.1.1 i)) refl $
+    rewrite ! 0 (λ (z : Use × Option T.Denot). ‵ (reader_shares Y R cw.code g.holds g.ways β pb po z.0 z.1 κ)) (λ i. (asked i, so.1.1 i)) refl $ fpick ! (λ known.
     use1 𝓛 (‵ (hidden_shr R κ x pb e)) (shortens 𝓛 (denote.Memory.shared_of R x pb e) (LR.shr_laws x pb e) (κ ++ β) κ (⊑_meet κ κ β (Incl-refl κ) bounds.0)) $ move ! (1 ∷ 2 ∷ []) $
     looks ! tt D (opened ℓ R W Y g 𝓛) (p, (tt, tt)) b o (λ q vs. move ! (1 ∷ []) $ peeks ! D (Is D) (shows 𝓛 D) (p, (tt, tt)) vs (λ is_so.
     let ev : vs ≡ hand_of (block_ptr pb po) ∷ [] = told ℓ R W Y g p vs is_so ∙ ap (λ (r : Ptr). hand_of r ∷ []) at in
@@ -38,4 +38,4 @@ get_spec 𝓤 𝓛 𝓜 𝓡 wired T V P L _ _ g d _ =
     sets ! (of_opd ! (get ! refl)) refl (tt, tt) $ rewrite ! 1 (λ (ws : List Val). ‵ (cell_at q D.mir ws b o)) (sym ev) refl $ move ! (1 ∷ 0 ∷ 2 ∷ []) $ shuts ! tt D q (p, (tt, tt)) vs b o $
     move ! (0 ∷ 3 ∷ []) $ join ! $ move ! (2 ∷ []) $ feq_i ! (List Val) (vptr pb e ∷ []) (vptr pb e ∷ []) refl $ fjoin ! $
     use0 𝓛 (raw (fact 𝓤 (Some x ≡ h.value))) (fact_i 𝓤 (Some x ≡ h.value) (emp 𝓤) (sym so.1.1)) $ nothing ! $ nothing ! $ fjoin ! $
-    returns ! (look_at ! 0 refl) $ free_all ! refl $ keep ! (3 ∷ 0 ∷ 2 ∷ 1 ∷ []) $ by ! (leaves 𝓛 En hs c y (vptr pb e) (record { ref_ptr = (pb, e); now = x }) (tt, tt) (tt, tt))))))))
+    returns ! (look_at ! 0 refl) $ free_all ! refl $ keep ! (3 ∷ 0 ∷ 2 ∷ 1 ∷ []) $ by ! (leaves 𝓛 En hs c y (vptr pb e) (record { ref_ptr = (pb, e); now = x }) (tt, tt) (tt, tt)))))))))
