@@ -1,5 +1,5 @@
--- How the sums over the views change where one party comes to a new view.
-use Rattle.std.proofs.Common.{◌≡◌, ℕ, zero, suc, ◌+◌, List, [], ◌∷◌, ap, arith, set}
+-- Sums over the views: where nobody counts, and how they change where one party comes to a new view.
+use Rattle.std.proofs.Common.{◌≡◌, ℕ, zero, suc, ◌+◌, List, [], ◌∷◌, refl, ap, arith, set}
 use Rattle.std.specs.Prelude.{Option, Some, None, sum_by}
 use Rattle.std.proofs.lemmas.List.Sums.{sum_by-cons, sum_by_push}
 use mathlib.Core.Option.{some, some-injective, some-ne-none}
@@ -13,6 +13,10 @@ part_of g None = 0
 part_of g (Some v) = g v
 
 module _ {V : Type 0} (g : V → ℕ) where
+  pub none : ((v : V) → g v ≡ 0) → (vs : List V) → sum_by g vs ≡ 0
+  none zeros [] = refl
+  none zeros (v ∷ vs) = let z = zeros v in let c = sum_by-cons g v vs in let r = none zeros vs in omega arith
+
   -- the sum is the party's part, and a rest that stays when the party comes to another view
   abbrev pub Splits : ℕ → Option V → List V → Type 0
   Splits id view vs = (k : ℕ) × (sum_by g vs ≡ k + part_of g view) × ((w : V) → sum_by g (after id view vs w) ≡ k + g w)
@@ -29,3 +33,11 @@ module _ {V : Type 0} (g : V → ℕ) where
   pub splits : (id : ℕ) (view : Option V) (vs : List V) → Stands id view vs → Splits id view vs
   splits id None vs h = (sum_by g vs, omega arith, λ w. let d = sum_by_push g vs w in omega arith)
   splits id (Some v) vs h = splits_at vs id v h
+
+  -- a sum loses the party's part as it was, and gains its part as it is
+  pub moves : (id : ℕ) (view : Option V) (vs : List V) (w : V) → Stands id view vs → sum_by g (after id view vs w) + part_of g view ≡ sum_by g vs + g w
+  moves id view vs w h = let s = splits id view vs h in let a = s.2 w in omega (arith, s.1)
+
+  -- where nobody counted and the party comes to a view that doesn't, nobody counts
+  pub still_none : (id : ℕ) (view : Option V) (vs : List V) (w : V) → Stands id view vs → sum_by g vs ≡ 0 → g w ≡ 0 → sum_by g (after id view vs w) ≡ 0
+  still_none id view vs w h before here = let m = moves id view vs w h in omega arith

@@ -9,7 +9,8 @@ use prog.Atomic.{either}
 use Rattle.spin_core.specs.Plain.{Plain, holder, writing, is_holder, without_holder, flag_word, gets, releases, to_write}
 use Rattle.spin_core.proofs.Holders.{length-without_holder}
 use Rattle.spin_core.specs.Steps.{Grants, Gives}
-use Rattle.spin_core.specs.Cell.{writes, Meets, Allows, Limits, readers_of, writers_of, after}
+use Rattle.spin_core.specs.Cell.{writes, reading, Meets, Allows, Limits, readers_of, writers_of, after}
+use Rattle.spin_core.proofs.CellCounts.{none}
 use Rattle.spin_mutex.specs.declared.mutex.spin.View.{View}
 use Rattle.spin_mutex.specs.declared.mutex.spin.View.TheVariants.{Away, Holding}
 use Rattle.spin_mutex.specs.Flag.{holders_from, plain_of, IsFlag, use_of_view, flag_ways, Attempts, Leaves}
@@ -20,10 +21,12 @@ writers k [] = refl
 writers k (Away ∷ vs) = let c = sum_by-cons (λ v. Rattle.spin_core.specs.Cell.writing (use_of_view v)) Away vs in let r = writers (suc k) vs in omega arith
 writers k (Holding ∷ vs) = let c = sum_by-cons (λ v. Rattle.spin_core.specs.Cell.writing (use_of_view v)) Holding vs in let r = writers (suc k) vs in omega arith
 
+never_reads : (v : View) → reading (use_of_view v) ≡ 0
+never_reads Away = refl
+never_reads Holding = refl
+
 no_readers : (vs : List View) → readers_of use_of_view vs ≡ 0
-no_readers [] = refl
-no_readers (Away ∷ vs) = let c = sum_by-cons (λ v. Rattle.spin_core.specs.Cell.reading (use_of_view v)) Away vs in let r = no_readers vs in omega arith
-no_readers (Holding ∷ vs) = let c = sum_by-cons (λ v. Rattle.spin_core.specs.Cell.reading (use_of_view v)) Holding vs in let r = no_readers vs in omega arith
+no_readers vs = none (λ v. reading (use_of_view v)) never_reads vs
 
 -- who comes and doesn't hold adds nobody; who holds is the last of the holders
 holders-away : (k : ℕ) (vs : List View) → holders_from k (vs ++ Away ∷ []) ≡ holders_from k vs

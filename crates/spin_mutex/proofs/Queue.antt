@@ -8,7 +8,7 @@ use native.Mathlib.Decide.{ℕ_discrete, dec_lt}
 use prog.Atomic.{either}
 use Rattle.spin_core.specs.Plain.{ticket_limit}
 use Rattle.spin_core.specs.Cell.{writes, reading, writing, use_of, Meets, Allows, AllowsSecond, Stands, Moved, readers_of, writers_of, after}
-use Rattle.spin_core.proofs.CellCounts.{splits, part_of}
+use Rattle.spin_core.proofs.CellCounts.{none, splits, moves, still_none, part_of}
 use Rattle.spin_mutex.specs.declared.mutex.ticket.View.{View}
 use Rattle.spin_mutex.specs.declared.mutex.ticket.View.TheVariants.{Away, Saw, Waiting, Entered}
 use Rattle.spin_mutex.specs.Queue.{waits_with, entered_with, saw_served, standing, IsQueue, use_of_view, ticket_ways, Leaves, Sees, Takes, Attempts, Enters, Finds}
@@ -36,12 +36,14 @@ enters t v = cond (entered_with t v) 1 0
 abbrev sees : ℕ → View → ℕ
 sees t v = cond (saw_served t v) 1 0
 
+never_reads : (v : View) → reading (use_of_view v) ≡ 0
+never_reads Away = refl
+never_reads (Saw u) = refl
+never_reads (Waiting u) = refl
+never_reads (Entered u) = refl
+
 no_readers : (vs : List View) → readers_of use_of_view vs ≡ 0
-no_readers [] = refl
-no_readers (Away ∷ vs) = let c = sum_by-cons (λ v. reading (use_of_view v)) Away vs in let r = no_readers vs in omega arith
-no_readers (Saw u ∷ vs) = let c = sum_by-cons (λ v. reading (use_of_view v)) (Saw u) vs in let r = no_readers vs in omega arith
-no_readers (Waiting u ∷ vs) = let c = sum_by-cons (λ v. reading (use_of_view v)) (Waiting u) vs in let r = no_readers vs in omega arith
-no_readers (Entered u ∷ vs) = let c = sum_by-cons (λ v. reading (use_of_view v)) (Entered u) vs in let r = no_readers vs in omega arith
+no_readers vs = none (λ v. reading (use_of_view v)) never_reads vs
 
 -- where all who have entered have one number, they are the writers
 abbrev Alone : ℕ → List View → Type 0
@@ -50,14 +52,18 @@ Alone m vs = (t : ℕ) → (t ≡ m → ⊥) → count_by (entered_with t) vs �
 rest : (m : ℕ) (v : View) (vs : List View) → Alone m (v ∷ vs) → Alone m vs
 rest m v vs only t ne = let c = sum_by-cons (enters t) v vs in let o = only t ne in omega arith
 
+writes_here : (m : ℕ) (v : View) (vs : List View) → Alone m (v ∷ vs) → writing (use_of_view v) ≡ enters m v
+writes_here m Away vs only = refl
+writes_here m (Saw u) vs only = refl
+writes_here m (Waiting u) vs only = refl
+writes_here m (Entered u) vs only =
+    dite (ℕ_discrete u m) (λ e. sym (same u m e))
+    (λ ne. let o = only u ne in let h = sum_by-cons (enters u) (Entered u) vs in let s = same u u refl in absurd (omega arith))
+
 writers : (m : ℕ) (vs : List View) → Alone m vs → writers_of use_of_view vs ≡ count_by (entered_with m) vs
 writers m [] only = refl
-writers m (Away ∷ vs) only = let c = sum_by-cons (λ v. writing (use_of_view v)) Away vs in let d = sum_by-cons (enters m) Away vs in let r = writers m vs (rest m Away vs only) in omega arith
-writers m (Saw u ∷ vs) only = let c = sum_by-cons (λ v. writing (use_of_view v)) (Saw u) vs in let d = sum_by-cons (enters m) (Saw u) vs in let r = writers m vs (rest m (Saw u) vs only) in omega arith
-writers m (Waiting u ∷ vs) only = let c = sum_by-cons (λ v. writing (use_of_view v)) (Waiting u) vs in let d = sum_by-cons (enters m) (Waiting u) vs in let r = writers m vs (rest m (Waiting u) vs only) in omega arith
-writers m (Entered u ∷ vs) only = let c = sum_by-cons (λ v. writing (use_of_view v)) (Entered u) vs in let d = sum_by-cons (enters m) (Entered u) vs in let r = writers m vs (rest m (Entered u) vs only) in
-    dite (ℕ_discrete u m) (λ e. let s = same u m e in omega arith)
-    (λ ne. let o = only u ne in let h = sum_by-cons (enters u) (Entered u) vs in let s = same u u refl in absurd (omega arith))
+writers m (v ∷ vs) only =
+    let c = sum_by-cons (λ v. writing (use_of_view v)) v vs in let d = sum_by-cons (enters m) v vs in let w = writes_here m v vs only in let r = writers m vs (rest m v vs only) in omega arith
 
 at_most_one : (n m t : ℕ) (vs : List View) → IsQueue n m vs → standing t vs ≤ 1
 at_most_one n m t vs q = dite (dec_lt t m) (λ l. let z = q.none_served t l in omega arith)
@@ -74,48 +80,52 @@ module _ (n m id : ℕ) (view : Option View) (vs : List View) (w : View) (q : Is
   abbrev new : List View
   new = after id view vs w
 
-  -- a party that comes to a view of no other ticket keeps the rule
-  still : ((t : ℕ) → part_of (waits t) view ≡ waits t w) → ((t : ℕ) → part_of (enters t) view ≡ enters t w) → ((t : ℕ) → m < t → sees t w ≡ 0) → IsQueue n m new
+  -- how many parties stand with a ticket, before and after
+  stands : (t : ℕ) → standing t new + (part_of (waits t) view + part_of (enters t) view) ≡ standing t vs + (waits t w + enters t w)
+  stands t = let x = moves (waits t) id view vs w at in let y = moves (enters t) id view vs w at in omega arith
+
+  -- a party that keeps its ticket, or its lack of one, keeps the rule: no word changes
+  still : ((t : ℕ) → part_of (waits t) view + part_of (enters t) view ≡ waits t w + enters t w) → ((t : ℕ) → m < t → enters t w ≡ 0) → ((t : ℕ) → m < t → sees t w ≡ 0) → IsQueue n m new
   still a b c =
-      let stands : (t : ℕ) → standing t new ≡ standing t vs = λ t. let x = splits (waits t) id view vs at in let y = splits (enters t) id view vs at in let f = a t in let g = b t in let h = x.2 w in let i = y.2 w in omega (arith, x.1, y.1) in
+      let as_many : (t : ℕ) → standing t new ≡ standing t vs = λ t. let s = stands t in let k = a t in omega arith in
       record {
         in_order = q.in_order;
         within_limit = q.within_limit;
-        one_each = λ t l h. stands t ∙ q.one_each t l h;
-        none_served = λ t l. stands t ∙ q.none_served t l;
-        none_untaken = λ t l. stands t ∙ q.none_untaken t l;
-        in_turn = λ t l. let y = splits (enters t) id view vs at in let g = b t in let i = y.2 w in let z = q.in_turn t l in omega (arith, y.1);
-        seen = λ t l. let y = splits (sees t) id view vs at in let g = c t l in let i = y.2 w in let z = q.seen t l in omega (arith, y.1);
+        one_each = λ t l h. as_many t ∙ q.one_each t l h;
+        none_served = λ t l. as_many t ∙ q.none_served t l;
+        none_untaken = λ t l. as_many t ∙ q.none_untaken t l;
+        in_turn = λ t l. still_none (enters t) id view vs w at (q.in_turn t l) (b t l);
+        seen = λ t l. still_none (sees t) id view vs w at (q.seen t l) (c t l);
       }
 
   -- a party takes the next ticket
   joins : n < ticket_limit → ((t : ℕ) → part_of (waits t) view + part_of (enters t) view ≡ 0) → ((t : ℕ) → waits t w + enters t w ≡ mark n t) → ((t : ℕ) → m < t → enters t w ≡ 0) → ((t : ℕ) → sees t w ≡ 0) → IsQueue (n + 1) m new
   joins small a b c d =
-      let stands : (t : ℕ) → standing t new ≡ standing t vs + mark n t = λ t. let x = splits (waits t) id view vs at in let y = splits (enters t) id view vs at in let f = a t in let g = b t in let h = x.2 w in let i = y.2 w in omega (arith, x.1, y.1) in
+      let one_more : (t : ℕ) → standing t new ≡ standing t vs + mark n t = λ t. let s = stands t in let f = a t in let g = b t in omega arith in
       let o = q.in_order in
       record {
         in_order = omega arith;
         within_limit = omega arith;
-        one_each = λ t l h. let s = stands t in dite (ℕ_discrete n t) (λ e. let k = same n t e in let z = q.none_untaken t (omega arith) in omega arith) (λ ne. let k = other n t ne in let z = q.one_each t l (omega (arith, ne)) in omega arith);
-        none_served = λ t l. let s = stands t in let k = other n t (λ e. omega arith) in let z = q.none_served t l in omega arith;
-        none_untaken = λ t l. let s = stands t in let k = other n t (λ e. omega arith) in let z = q.none_untaken t (omega arith) in omega arith;
-        in_turn = λ t l. let y = splits (enters t) id view vs at in let g = c t l in let i = y.2 w in let z = q.in_turn t l in omega (arith, y.1);
-        seen = λ t l. let y = splits (sees t) id view vs at in let g = d t in let i = y.2 w in let z = q.seen t l in omega (arith, y.1);
+        one_each = λ t l h. let s = one_more t in dite (ℕ_discrete n t) (λ e. let k = same n t e in let z = q.none_untaken t (omega arith) in omega arith) (λ ne. let k = other n t ne in let z = q.one_each t l (omega (arith, ne)) in omega arith);
+        none_served = λ t l. let s = one_more t in let k = other n t (λ e. omega arith) in let z = q.none_served t l in omega arith;
+        none_untaken = λ t l. let s = one_more t in let k = other n t (λ e. omega arith) in let z = q.none_untaken t (omega arith) in omega arith;
+        in_turn = λ t l. still_none (enters t) id view vs w at (q.in_turn t l) (c t l);
+        seen = λ t l. still_none (sees t) id view vs w at (q.seen t l) (d t);
       }
 
--- the party whose number is served enters
-grants : (n m id : ℕ) (vs : List View) → IsQueue n m vs → Stands id (Some (Waiting m)) vs → IsQueue n m (set vs id (Entered m))
-grants n m id vs q at =
-    let stands : (t : ℕ) → standing t (set vs id (Entered m)) ≡ standing t vs = λ t. let x = splits (waits t) id (Some (Waiting m)) vs at in let y = splits (enters t) id (Some (Waiting m)) vs at in let h = x.2 (Entered m) in let i = y.2 (Entered m) in omega (arith, x.1, y.1) in
-    record {
-      in_order = q.in_order;
-      within_limit = q.within_limit;
-      one_each = λ t l h. stands t ∙ q.one_each t l h;
-      none_served = λ t l. stands t ∙ q.none_served t l;
-      none_untaken = λ t l. stands t ∙ q.none_untaken t l;
-      in_turn = λ t l. let y = splits (enters t) id (Some (Waiting m)) vs at in let k = other m t (λ e. omega arith) in let i = y.2 (Entered m) in let z = q.in_turn t l in omega (arith, y.1);
-      seen = λ t l. let y = splits (sees t) id (Some (Waiting m)) vs at in let i = y.2 (Entered m) in let z = q.seen t l in omega (arith, y.1);
-    }
+  -- the party whose number is served goes, and the next number is served
+  leaves : m < n → ((t : ℕ) → part_of (waits t) view + part_of (enters t) view ≡ mark m t) → ((t : ℕ) → waits t w + enters t w ≡ 0) → ((t : ℕ) → sees t w ≡ 0) → IsQueue n (m + 1) new
+  leaves below a b c =
+      let one_less : (t : ℕ) → standing t new + mark m t ≡ standing t vs = λ t. let s = stands t in let f = a t in let g = b t in omega arith in
+      record {
+        in_order = omega arith;
+        within_limit = q.within_limit;
+        one_each = λ t l h. let s = one_less t in let k = other m t (λ e. omega arith) in let z = q.one_each t (omega arith) h in omega arith;
+        none_served = λ t l. let s = one_less t in dite (ℕ_discrete m t) (λ e. let k = same m t e in let z = at_most_one n m t vs q in omega arith) (λ ne. let z = q.none_served t (omega (arith, ne)) in omega arith);
+        none_untaken = λ t l. let s = one_less t in let z = q.none_untaken t l in omega arith;
+        in_turn = λ t l. let g = b t in still_none (enters t) id view vs w at (q.in_turn t (omega arith)) (omega arith);
+        seen = λ t l. still_none (sees t) id view vs w at (q.seen t (omega arith)) (c t);
+      }
 
 -- who has entered has the number that is served, which is below the next
 served : (n m id u : ℕ) (vs : List View) → IsQueue n m vs → Stands id (Some (Entered u)) vs → (u ≡ m) × (m < n)
@@ -123,20 +133,6 @@ served n m id u vs q at =
     let y = splits (enters u) id (Some (Entered u)) vs at in let s = same u u refl in let one : 1 ≤ count_by (entered_with u) vs = omega (arith, y.1) in
     let is : u ≡ m = dite (dec_lt u m) (λ l. let z = q.none_served u l in absurd (omega arith)) (λ g. dite (dec_lt m u) (λ l. let z = q.in_turn u l in absurd (omega arith)) (λ h. omega (arith, g, h))) in
     (is, dite (dec_lt m n) (λ l. l) (λ g. let z = q.none_untaken u (omega (arith, g)) in absurd (omega arith)))
-
--- the party that has entered goes, and the next number is served
-leaves : (n m id : ℕ) (vs : List View) → IsQueue n m vs → Stands id (Some (Entered m)) vs → m < n → IsQueue n (m + 1) (set vs id Away)
-leaves n m id vs q at below =
-    let stands : (t : ℕ) → standing t (set vs id Away) + mark m t ≡ standing t vs = λ t. let x = splits (waits t) id (Some (Entered m)) vs at in let y = splits (enters t) id (Some (Entered m)) vs at in let h = x.2 Away in let i = y.2 Away in omega (arith, x.1, y.1) in
-    record {
-      in_order = omega arith;
-      within_limit = q.within_limit;
-      one_each = λ t l h. let s = stands t in let k = other m t (λ e. omega arith) in let z = q.one_each t (omega arith) h in omega arith;
-      none_served = λ t l. let s = stands t in dite (ℕ_discrete m t) (λ e. let k = same m t e in let z = at_most_one n m t vs q in omega arith) (λ ne. let z = q.none_served t (omega (arith, ne)) in omega arith);
-      none_untaken = λ t l. let s = stands t in let z = q.none_untaken t l in omega arith;
-      in_turn = λ t l. let y = splits (enters t) id (Some (Entered m)) vs at in let i = y.2 Away in let z = q.in_turn t (omega arith) in omega (arith, y.1);
-      seen = λ t l. let y = splits (sees t) id (Some (Entered m)) vs at in let i = y.2 Away in let z = q.seen t (omega arith) in omega (arith, y.1);
-    }
 
 pub starts : (first : ℕ) → first < 18446744073709551616 → Meets IsQueue ticket_ways first first []
 starts first small =
@@ -152,10 +148,10 @@ starts first small =
     })
 
 pub looks : Allows IsQueue ticket_ways None (λ n. n) (Leaves 0 0 None)
-looks id n m vs h at small = (Away, meets n m (vs ++ Away ∷ []) (still n m id None vs Away h.0 at (λ t. refl) (λ t. refl) (λ t l. refl)), refl)
+looks id n m vs h at small = (Away, meets n m (vs ++ Away ∷ []) (still n m id None vs Away h.0 at (λ t. refl) (λ t l. refl) (λ t l. refl)), refl)
 
 pub looks_at_served : AllowsSecond IsQueue ticket_ways None (λ n. n) (Sees 0 0 None)
-looks_at_served id n m vs h at small = (Saw m, meets n m (vs ++ Saw m ∷ []) (still n m id None vs (Saw m) h.0 at (λ t. refl) (λ t. refl) (λ t l. other m t (λ e. omega arith))), refl)
+looks_at_served id n m vs h at small = (Saw m, meets n m (vs ++ Saw m ∷ []) (still n m id None vs (Saw m) h.0 at (λ t. refl) (λ t l. refl) (λ t l. other m t (λ e. omega arith))), refl)
 
 pub takes : (next taken : ℕ) → next < ticket_limit → taken ≡ next + 1 → Allows IsQueue ticket_ways None (λ n. either (n == next) taken n) (Takes next taken None)
 takes next taken below one id n m vs h at small =
@@ -166,7 +162,7 @@ takes next taken below one id n m vs h at small =
           (joins n m id None vs (Waiting next) h.0 at (omega arith) (λ t. refl) (λ t. let e : mark next t ≡ mark n t = ap (λ k. mark k t) (sym hit) in omega arith) (λ t l. refl) (λ t. refl))),
       refl,
     ))
-    (λ miss. subst G (sym (ne_eqb n next miss)) (Away, meets n m (vs ++ Away ∷ []) (still n m id None vs Away h.0 at (λ t. refl) (λ t. refl) (λ t l. refl)), refl))
+    (λ miss. subst G (sym (ne_eqb n next miss)) (Away, meets n m (vs ++ Away ∷ []) (still n m id None vs Away h.0 at (λ t. refl) (λ t l. refl) (λ t l. refl)), refl))
 
 -- who saw the next number served finds nobody in the queue
 pub attempts : (next taken : ℕ) → next < ticket_limit → taken ≡ next + 1 → Allows IsQueue ticket_ways (Some (Saw next)) (λ n. either (n == next) taken n) (Attempts next taken (Some (Saw next)))
@@ -180,18 +176,18 @@ attempts next taken below one id n m vs h at small =
           (joins n m id (Some (Saw next)) vs (Entered next) h.0 at (omega arith) (λ t. refl) (λ t. let e : mark next t ≡ mark n t = ap (λ k. mark k t) (sym hit) in omega arith) (λ t l. other next t (λ e. omega arith)) (λ t. refl))),
       refl,
     ))
-    (λ miss. subst G (sym (ne_eqb n next miss)) (Away, meets n m (set vs id Away) (still n m id (Some (Saw next)) vs Away h.0 at (λ t. refl) (λ t. refl) (λ t l. refl)), refl))
+    (λ miss. subst G (sym (ne_eqb n next miss)) (Away, meets n m (set vs id Away) (still n m id (Some (Saw next)) vs Away h.0 at (λ t. refl) (λ t l. refl) (λ t l. refl)), refl))
 
 pub waits_for_turn : (u : ℕ) → AllowsSecond IsQueue ticket_ways (Some (Waiting u)) (λ m. m) (Enters 0 0 (Some (Waiting u)))
 waits_for_turn u id n m vs h at small =
     let G : Bool → Type 0 = λ y. (w : View) × Meets IsQueue ticket_ways n m (set vs id w) × (w ≡ (if y then Entered u else Waiting u)) in dite (ℕ_discrete m u)
     (λ hit. subst G (sym (eq-eqb m u hit)) (subst (λ k. (w : View) × Meets IsQueue ticket_ways n m (set vs id w) × (w ≡ Entered k)) hit
-    (Entered m, meets n m (set vs id (Entered m)) (grants n m id vs h.0 (subst (λ k. Stands id (Some (Waiting k)) vs) (sym hit) at)), refl)))
-    (λ miss. subst G (sym (ne_eqb m u miss)) (Waiting u, meets n m (set vs id (Waiting u)) (still n m id (Some (Waiting u)) vs (Waiting u) h.0 at (λ t. refl) (λ t. refl) (λ t l. refl)), refl))
+    (Entered m, meets n m (set vs id (Entered m)) (still n m id (Some (Waiting m)) vs (Entered m) h.0 (subst (λ k. Stands id (Some (Waiting k)) vs) (sym hit) at) (λ t. omega arith) (λ t l. other m t (λ e. omega arith)) (λ t l. refl)), refl)))
+    (λ miss. subst G (sym (ne_eqb m u miss)) (Waiting u, meets n m (set vs id (Waiting u)) (still n m id (Some (Waiting u)) vs (Waiting u) h.0 at (λ t. refl) (λ t l. refl) (λ t l. refl)), refl))
 
 finds_own : (u : ℕ) → AllowsSecond IsQueue ticket_ways (Some (Entered u)) (λ m. m) (Finds 0 0 (Some (Entered u)))
 finds_own u id n m vs h at small = let s = served n m id u vs h.0 at in let k = h.0.within_limit in
-    (Entered u, meets n m (set vs id (Entered u)) (still n m id (Some (Entered u)) vs (Entered u) h.0 at (λ t. refl) (λ t. refl) (λ t l. refl)), (let l = s.1 in omega arith, ap Entered s.0))
+    (Entered u, meets n m (set vs id (Entered u)) (still n m id (Some (Entered u)) vs (Entered u) h.0 at (λ t. refl) (λ t l. other u t (λ e. let f = s.0 in omega arith)) (λ t l. refl)), (let l = s.1 in omega arith, ap Entered s.0))
 
 pub finds : (view : Option View) → use_of ticket_ways view ≡ writes → AllowsSecond IsQueue ticket_ways view (λ m. m) (Finds 0 0 view)
 finds None uses = absurd cc
@@ -202,7 +198,7 @@ finds (Some (Entered u)) uses = finds_own u
 
 pub serves_next : (u next : ℕ) → next ≡ u + 1 → AllowsSecond IsQueue ticket_ways (Some (Entered u)) (λ _. next) (λ _. Leaves 0 next (Some (Entered u)) 0)
 serves_next u next one id n m vs h at small = let s = served n m id u vs h.0 at in let e : m + 1 ≡ next = let f = s.0 in omega arith in
-    (Away, meets n next (set vs id Away) (subst (λ k. IsQueue n k (set vs id Away)) e (leaves n m id vs h.0 (subst (λ k. Stands id (Some (Entered k)) vs) s.0 at) s.1)), refl)
+    (Away, meets n next (set vs id Away) (subst (λ k. IsQueue n k (set vs id Away)) e (leaves n m id (Some (Entered m)) vs Away h.0 (subst (λ k. Stands id (Some (Entered k)) vs) s.0 at) s.1 (λ t. omega arith) (λ t. refl) (λ t. refl))), refl)
 
 -- a ticket that was taken is below the limit, and the next one more
 at_some : (b : Bool) (next after : ℕ) → nat_lt next 18446744073709551615 ≡ b → Some after ≡ (if b then Some (next + 1) else None) → (next < 18446744073709551615) × (after ≡ next + 1)
