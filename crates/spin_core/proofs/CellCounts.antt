@@ -1,7 +1,7 @@
--- Sums over the views: where nobody counts, and how they change where one party comes to a new view.
-use Rattle.std.proofs.Common.{◌≡◌, ℕ, zero, suc, ◌+◌, List, [], ◌∷◌, refl, ap, arith, set}
+-- Sums over the views: where nobody counts, and how they change where one party comes to a new view, or goes.
+use Rattle.std.proofs.Common.{◌≡◌, ℕ, zero, suc, ◌+◌, List, [], ◌∷◌, ◌++◌, refl, ap, arith, set}
 use Rattle.std.specs.Prelude.{Option, Some, None, sum_by}
-use Rattle.std.proofs.lemmas.List.Sums.{sum_by-cons, sum_by_push}
+use Rattle.std.proofs.lemmas.List.Sums.{sum_by-cons, sum_by-append, sum_by_push}
 use mathlib.Core.Option.{some, some-injective, some-ne-none}
 use mathlib.Core.Path.{sym}
 use lib.ListN.{get_elem?}
@@ -16,6 +16,10 @@ module _ {V : Type 0} (g : V → ℕ) where
   pub none : ((v : V) → g v ≡ 0) → (vs : List V) → sum_by g vs ≡ 0
   none zeros [] = refl
   none zeros (v ∷ vs) = let z = zeros v in let c = sum_by-cons g v vs in let r = none zeros vs in omega arith
+
+  pub without : (before behind : List V) (v : V) → sum_by g (before ++ v ∷ behind) ≡ g v + sum_by g (before ++ behind)
+  without before behind v =
+      let a = sum_by-append g before (v ∷ behind) in let b = sum_by-append g before behind in let c = sum_by-cons g v behind in omega arith
 
   -- the sum is the party's part, and a rest that stays when the party comes to another view
   abbrev pub Splits : ℕ → Option V → List V → Type 0

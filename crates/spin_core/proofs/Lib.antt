@@ -16,3 +16,4 @@ pub mod PermitFields
 pub mod WalkNames
 pub mod CellWalks
 pub mod CellThrough
+pub mod CellViews

@@ -60,6 +60,12 @@ module _ {V : Type 0} where
   after id None vs w = vs ++ w ∷ []
   after id (Some v) vs w = slice_set vs id w
 
+module _ {V : Type 0} (holds : ℕ → ℕ → List V → Type 0) (ways : Ways V) where
+  -- a party that may go: it has no use of the value, and the rule holds as well without it
+  abbrev pub Rests : Option V → Type 0
+  Rests None = Unit {0}
+  Rests (Some v) = (ways.1 v ≡ off) × ((n m : ℕ) (before behind : List V) → holds n m (before ++ v ∷ behind) → holds n m (before ++ behind))
+
 -- What a step asks: whatever the words and the views are when the word becomes f of what it was, the party has a next view that keeps the rule
 module _ {V : Type 0} (holds : ℕ → ℕ → List V → Type 0) (ways : Ways V) (view : Option V) (f : ℕ → ℕ) (then : ℕ → V → Type 0) where
   -- of the first word

@@ -5,7 +5,7 @@
 ghost use Rattle.std.specs.Prelude.{◌≡◌, ◌+◌, ◌-◌, ◌%◌, ◌^◌, ◌==◌, ℕ, List, [], Option, bit_and, bit_or};
 ghost use Rattle.std.specs.Coded.{coded_option};
 ghost use prog.Atomic.{either};
-ghost use Rattle.spin_core.specs.Cell.{Ways, reads, writes, use_of, Meets, Allows, AllowsSecond, Moved, SameValue};
+ghost use Rattle.spin_core.specs.Cell.{Ways, reads, writes, use_of, Meets, Rests, Allows, AllowsSecond, Moved, SameValue};
 ghost use Rattle.spin_core.specs.CellMemory.{Known, cell_owns, cell_shares, permit_owns, permit_shares, writer_owns, writer_shares};
 
 use atomic_table::exchange;
@@ -49,7 +49,7 @@ impl<T, V, P: Rule<V>> Move for Cell<T, V, P> {
 }
 
 /// What a party may do: `view` is what it is to the lock, `None` until its first step, and `value` is shown where its
-/// view reads or writes. A permit that is dropped stays a party, as it was.
+/// view reads or writes. It is not dropped: `leave` ends it where its party is at rest, and `stay` keeps what it has.
 pub struct Permit<'a, T, V, P: Rule<V>> {
     cell: *const Cell<T, V, P>,
     marker: PhantomData<&'a T>,
@@ -63,7 +63,8 @@ impl<'a, T, V, P: Rule<V>> Model for Permit<'a, T, V, P> {
     ghost also_shares = { λ h _ κ. permit_shares P.row T.row V.row.coded.code P.holds P.ways 'a h.cell h.view h.value κ };
 }
 
-/// The right to write, which its party has alone. A permit that is dropped stays a party, as it was.
+/// The right to write, which its party has alone. It is not dropped: `into_permit` turns it back, and `leak` keeps what
+/// it has.
 pub struct WritePermit<'a, T, V, P: Rule<V>> {
     cell: *const Cell<T, V, P>,
     marker: PhantomData<&'a T>,
@@ -305,6 +306,19 @@ impl<'a, T, V, P: Rule<V>> Permit<'a, T, V, P> {
             marker: PhantomData,
         }
     }
+
+    /// The party goes. It has to be at rest: it does not use the value, and the rule holds as well without it.
+    pub fn leave(self)
+        requires { Rests P.holds P.ways self.view }
+    {
+        let Permit { cell: _, marker: _ } = self;
+    }
+
+    /// The party stays for good what it is, and nobody can act for it any more. A lock that it holds stays taken for as
+    /// long as the cell is shared, and a queue that it stands in stops at it.
+    pub fn stay(self) {
+        let Permit { cell: _, marker: _ } = self;
+    }
 }
 
 impl<'a, T, V, P: Rule<V>> WritePermit<'a, T, V, P> {
@@ -314,7 +328,7 @@ impl<'a, T, V, P: Rule<V>> WritePermit<'a, T, V, P> {
         unsafe { &(*self.cell).value }
     }
 
-    /// The value for the rest of the borrow of its cell. The party stays what it is.
+    /// The value for the rest of the borrow of its cell. The party stays for good what it is.
     pub fn leak(self) -> &'a mut T
         ensures { result.now ≡ self.entry.value }
     {
@@ -337,18 +351,6 @@ impl<'a, T, V, P: Rule<V>> WritePermit<'a, T, V, P> {
 impl<T: Drop, V, P: Rule<V>> Drop for Cell<T, V, P> {
     fn drop(self) {
         drop(self.into_inner());
-    }
-}
-
-impl<T, V, P: Rule<V>> Drop for Permit<'_, T, V, P> {
-    fn drop(self) {
-        let Self { cell: _, marker: _ } = self;
-    }
-}
-
-impl<T, V, P: Rule<V>> Drop for WritePermit<'_, T, V, P> {
-    fn drop(self) {
-        let Self { cell: _, marker: _ } = self;
     }
 }
 

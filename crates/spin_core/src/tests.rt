@@ -65,8 +65,9 @@ fn steps_on_the_first_word(rt: HostRuntime) {
     assert_eq!(rt; found, 7);
     let (found, party) = party.load::<TellNothing>();
     assert_eq!(rt; found, 6);
-    let (found, _party) = party.load_second::<TellNothing>();
+    let (found, party) = party.load_second::<TellNothing>();
     assert_eq!(rt; found, 2);
+    party.leave();
 }
 
 #[test]
@@ -81,8 +82,9 @@ fn steps_on_the_second_word(rt: HostRuntime) {
     let party = party.store_second::<TellNothing>(8);
     let (found, party) = party.load_second::<TellNothing>();
     assert_eq!(rt; found, 8);
-    let (found, _party) = party.load::<TellNothing>();
+    let (found, party) = party.load::<TellNothing>();
     assert_eq!(rt; found, 1);
+    party.leave();
 }
 
 #[test]
@@ -90,7 +92,6 @@ fn the_owner_has_the_value(rt: HostRuntime) {
     let mut cell: Words = Cell::new(5, 1, 2);
     assert_eq!(rt; *cell.get_mut(), 5);
     *cell.get_mut() = 7;
-    let party = cell.enter().store::<TellNothing>(3);
-    drop(party);
+    cell.enter().store::<TellNothing>(3).stay();
     assert_eq!(rt; cell.into_inner(), 7);
 }

@@ -1,5 +1,5 @@
 -- The steps of a lock of one flag keep its rule: each is the plain step that its step function makes.
-use Rattle.std.proofs.Common.{◌≡◌, ℕ, zero, suc, ◌+◌, ◌≤◌, Bool, true, false, if◌then◌else◌, ◌==◌, List, [], ◌∷◌, ◌++◌, length, set, Some, None, refl, sym, ap, ◌∙◌, subst, arith, eq-eqb, ne_eqb}
+use Rattle.std.proofs.Common.{◌≡◌, ℕ, zero, suc, ◌+◌, ◌≤◌, Bool, true, false, if◌then◌else◌, ◌==◌, List, [], ◌∷◌, ◌++◌, length, set, Option, Some, None, refl, sym, ap, ◌∙◌, subst, arith, eq-eqb, ne_eqb}
 use Rattle.std.proofs.lemmas.List.Sums.{sum_by-cons}
 use mathlib.Core.Option.{some, some-injective, some-ne-none}
 use mathlib.Core.Logic.{dite}
@@ -9,8 +9,9 @@ use prog.Atomic.{either}
 use Rattle.spin_core.specs.Plain.{Plain, holder, writing, is_holder, without_holder, flag_word, gets, releases, to_write}
 use Rattle.spin_core.proofs.Holders.{length-without_holder}
 use Rattle.spin_core.specs.Steps.{Grants, Gives}
-use Rattle.spin_core.specs.Cell.{writes, reading, Meets, Allows, Limits, readers_of, writers_of, after}
-use Rattle.spin_core.proofs.CellCounts.{none}
+use Rattle.spin_core.specs.Cell.{writes, reading, Meets, Allows, Rests, Moved, Limits, readers_of, writers_of, after}
+use Rattle.spin_core.proofs.CellCounts.{none, without}
+use Rattle.spin_core.proofs.CellViews.{came_to, missed}
 use Rattle.spin_mutex.specs.declared.mutex.spin.View.{View}
 use Rattle.spin_mutex.specs.declared.mutex.spin.View.TheVariants.{Away, Holding}
 use Rattle.spin_mutex.specs.Flag.{holders_from, plain_of, IsFlag, use_of_view, flag_ways, Attempts, Leaves}
@@ -84,6 +85,20 @@ releases_flag freed plain none id n m vs meets at small =
     let r = holders-left 0 id id vs (omega arith) at in let gone = holders-length 0 id vs r.0 in let l = at_most_one n m vs meets in
     let word : freed ≡ flag_word (plain_of (set vs id Away)) = plain (plain_of vs) id (omega arith) r.0 ∙ sym (ap length r.1) in
     (Away, (word, limits (set vs id Away) (omega arith)), refl)
+
+away_rests : Rests IsFlag flag_ways (Some Away)
+away_rests = (
+  refl,
+  λ n m before behind is. let c = without (λ v. Rattle.spin_core.specs.Cell.writing (use_of_view v)) before behind Away in
+      let w = writers 0 (before ++ Away ∷ behind) in let u = writers 0 (before ++ behind) in omega arith,
+)
+
+pub left_rests : (view : Option View) → Moved (λ v. v ≡ Away) view → Rests IsFlag flag_ways view
+left_rests view moved = rw (came_to view Away moved) away_rests
+
+-- a party that was refused is away
+pub refused_rests : (view : Option View) (free taken found : ℕ) → Moved (Attempts free taken None found) view → (found ≡ free → ⊥) → Rests IsFlag flag_ways view
+refused_rests view free taken found moved ne = rw (missed view Holding Away found free moved ne) away_rests
 
 pub holding_of : (v : View) → use_of_view v ≡ writes → v ≡ Holding
 holding_of Away e = absurd cc

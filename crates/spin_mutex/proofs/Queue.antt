@@ -7,8 +7,9 @@ use mathlib.Core.Logic.{dite}
 use native.Mathlib.Decide.{ℕ_discrete, dec_lt}
 use prog.Atomic.{either}
 use Rattle.spin_core.specs.Plain.{ticket_limit}
-use Rattle.spin_core.specs.Cell.{writes, reading, writing, use_of, Meets, Allows, AllowsSecond, Stands, Moved, readers_of, writers_of, after}
-use Rattle.spin_core.proofs.CellCounts.{none, splits, moves, still_none, part_of}
+use Rattle.spin_core.specs.Cell.{off, writes, reading, writing, use_of, Meets, Allows, AllowsSecond, Stands, Rests, Moved, readers_of, writers_of, after}
+use Rattle.spin_core.proofs.CellCounts.{none, splits, moves, still_none, without, part_of}
+use Rattle.spin_core.proofs.CellViews.{came_to, missed}
 use Rattle.spin_mutex.specs.declared.mutex.ticket.View.{View}
 use Rattle.spin_mutex.specs.declared.mutex.ticket.View.TheVariants.{Away, Saw, Waiting, Entered}
 use Rattle.spin_mutex.specs.Queue.{waits_with, entered_with, saw_served, standing, IsQueue, use_of_view, ticket_ways, Leaves, Sees, Takes, Attempts, Enters, Finds}
@@ -134,6 +135,36 @@ served n m id u vs q at =
     let is : u ≡ m = dite (dec_lt u m) (λ l. let z = q.none_served u l in absurd (omega arith)) (λ g. dite (dec_lt m u) (λ l. let z = q.in_turn u l in absurd (omega arith)) (λ h. omega (arith, g, h))) in
     (is, dite (dec_lt m n) (λ l. l) (λ g. let z = q.none_untaken u (omega (arith, g)) in absurd (omega arith)))
 
+-- a party without a ticket may go
+rests : (v : View) → use_of_view v ≡ off → ((t : ℕ) → waits t v + enters t v ≡ 0) → Rests IsQueue ticket_ways (Some v)
+rests v idle none = (
+  idle,
+  λ n m before behind q.
+      let as_many : (t : ℕ) → standing t (before ++ behind) ≡ standing t (before ++ v ∷ behind) = λ t. let x = without (waits t) before behind v in let y = without (enters t) before behind v in let z = none t in omega arith in
+      record {
+        in_order = q.in_order;
+        within_limit = q.within_limit;
+        one_each = λ t l h. as_many t ∙ q.one_each t l h;
+        none_served = λ t l. as_many t ∙ q.none_served t l;
+        none_untaken = λ t l. as_many t ∙ q.none_untaken t l;
+        in_turn = λ t l. let y = without (enters t) before behind v in let z = q.in_turn t l in omega arith;
+        seen = λ t l. let y = without (sees t) before behind v in let z = q.seen t l in omega arith;
+      },
+)
+
+away_rests : Rests IsQueue ticket_ways (Some Away)
+away_rests = rests Away refl (λ t. refl)
+
+pub left_rests : (view : Option View) → Moved (λ v. v ≡ Away) view → Rests IsQueue ticket_ways view
+left_rests view moved = rw (came_to view Away moved) away_rests
+
+pub saw_rests : (view : Option View) (found : ℕ) → Moved (λ v. v ≡ Saw found) view → Rests IsQueue ticket_ways view
+saw_rests view found moved = rw (came_to view (Saw found) moved) (rests (Saw found) refl (λ t. refl))
+
+-- a party that found another number took no ticket
+pub missed_rests : (taken : View) (view : Option View) (expected found : ℕ) → Moved (λ v. v ≡ (if found == expected then taken else Away)) view → (found ≡ expected → ⊥) → Rests IsQueue ticket_ways view
+missed_rests taken view expected found moved ne = rw (missed view taken Away found expected moved ne) away_rests
+
 pub starts : (first : ℕ) → first < 18446744073709551616 → Meets IsQueue ticket_ways first first []
 starts first small =
     meets first first []
@@ -209,5 +240,4 @@ pub taken_one : (next after : ℕ) → Some after ≡ (if nat_lt next ticket_lim
 taken_one next after e = at_some (nat_lt next 18446744073709551615) next after refl e
 
 pub saw_next : (view : Option View) (found next : ℕ) → Moved (λ v. v ≡ Saw found) view → (found == next) ≡ true → view ≡ Some (Saw next)
-saw_next None found next e same_number = absurd e
-saw_next (Some v) found next e same_number = ap Some (e ∙ ap Saw (eqb-true found next same_number))
+saw_next view found next moved same_number = came_to view (Saw found) moved ∙ ap (λ n. Some (Saw n)) (eqb-true found next same_number)

@@ -47,13 +47,12 @@ impl Play<View> for Leave {
     ghost then = { Leaves };
 }
 
-// Lets go of the lock. The party that comes out holds nothing.
-fn let_go<'a, T>(permit: Permit<'a, T, View, FlagRule>) -> Permit<'a, T, View, FlagRule>
+// Lets go of the lock, and the party goes.
+fn let_go<T>(permit: Permit<'_, T, View, FlagRule>)
     requires { permit.view ≡ Some Holding }
-    ensures { result.view ≡ Some Away }
 {
     let free = flag::unlock(true);
-    permit.store::<Leave>(word(free))
+    permit.store::<Leave>(word(free)).leave();
 }
 
 // The word of a flag.
@@ -84,7 +83,6 @@ pub struct SpinMutexGuard<'a, T, R = Spin> {
 }
 
 /// A hold on a `SpinMutex` that lends no value. Only `force_unlock` spends it: dropping it frees nothing.
-#[derive(Drop)]
 pub struct Held<'a, T, R = Spin> {
     permit: Permit<'a, T, View, FlagRule>,
     strategy: PhantomData<R>,
@@ -122,6 +120,7 @@ impl<T, R> SpinMutex<T, R> {
             .enter()
             .exchange::<Attempt>(word(free), word(taken));
         if is_set(found) {
+            permit.leave();
             return None;
         }
         Some(SpinMutexGuard {
@@ -139,17 +138,14 @@ impl<T, R> SpinMutex<T, R> {
 
     /// Whether somebody holds the lock at the moment of its one load.
     pub fn is_locked(&self) -> bool {
-        let (found, _permit) = self.cell.enter().load::<Leave>();
+        let (found, permit) = self.cell.enter().load::<Leave>();
+        permit.leave();
         is_set(found)
     }
 
     /// Lets go of the lock that a guard was held on.
     pub fn force_unlock(held: Held<'_, T, R>) {
-        let Held {
-            permit,
-            strategy: _,
-        } = held;
-        let _ = let_go(permit);
+        let_go(held.into_permit());
     }
 }
 
@@ -208,13 +204,27 @@ impl<'a, T, R> SpinMutexGuard<'a, T, R> {
     }
 }
 
-impl<T, R> Drop for SpinMutexGuard<'_, T, R> {
-    fn drop(self) {
+impl<'a, T, R> Held<'a, T, R> {
+    fn into_permit(self) -> Permit<'a, T, View, FlagRule>
+        ensures { result.view ≡ Some Holding }
+    {
         let Self {
-            writer,
+            permit,
             strategy: _,
         } = self;
-        let _ = let_go(writer.into_permit());
+        permit
+    }
+}
+
+impl<T, R> Drop for SpinMutexGuard<'_, T, R> {
+    fn drop(self) {
+        let_go(self.into_writer().into_permit());
+    }
+}
+
+impl<T, R> Drop for Held<'_, T, R> {
+    fn drop(self) {
+        self.into_permit().stay();
     }
 }
 

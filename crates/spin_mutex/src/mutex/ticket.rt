@@ -83,16 +83,13 @@ impl Play<View> for Find {
     ghost then = { Finds };
 }
 
-// Serves the number after the ticket with which the party has entered. The party that comes out holds nothing.
-fn serve_next<'a, T>(
-    permit: Permit<'a, T, View, TicketRule>,
-    number: u64,
-) -> Permit<'a, T, View, TicketRule>
+// Serves the number after the ticket with which the party has entered, and the party goes.
+fn serve_next<T>(permit: Permit<'_, T, View, TicketRule>, number: u64)
     requires entered { permit.view ≡ Some (Entered number) }
     requires within { number < ticket_limit }
-    ensures { result.view ≡ Some Away }
 {
-    permit.store_second::<Leave>(ticket::serve(number))
+    let next = ticket::serve(number);
+    permit.store_second::<Leave>(next).leave();
 }
 
 // The ticket with which the party has entered: it is the number that is served. A guard keeps no number of its own,
@@ -121,7 +118,6 @@ pub struct TicketMutexGuard<'a, T, R = Spin> {
 }
 
 /// A hold on a `TicketMutex` that lends no value. Only `force_unlock` spends it: dropping it frees nothing.
-#[derive(Drop)]
 pub struct Held<'a, T, R = Spin> {
     number: u64,
     permit: Permit<'a, T, View, TicketRule>,
@@ -170,11 +166,16 @@ impl<T, R> TicketMutex<T, R> {
         let next = self.next();
         let (serving, permit) = self.cell.enter().load_second::<See>();
         if !ticket::is_turn(serving, next) {
+            permit.leave();
             return None;
         }
-        let after = ticket::take(next)?;
+        let Some(after) = ticket::take(next) else {
+            permit.leave();
+            return None;
+        };
         let (found, permit) = permit.exchange::<Attempt>(next, after);
         if found != next {
+            permit.leave();
             return None;
         }
         Some(TicketMutexGuard {
@@ -185,23 +186,21 @@ impl<T, R> TicketMutex<T, R> {
 
     /// Whether a ticket stood at a moment of the call.
     pub fn is_locked(&self) -> bool {
-        let (serving, _permit) = self.cell.enter().load_second::<See>();
+        let (serving, permit) = self.cell.enter().load_second::<See>();
+        permit.leave();
         !ticket::is_turn(serving, self.next())
     }
 
     /// Lets go of the lock that a guard was held on: serves the number after its ticket.
     pub fn force_unlock(held: Held<'_, T, R>) {
-        let Held {
-            number,
-            permit,
-            strategy: _,
-        } = held;
-        let _ = serve_next(permit, number);
+        let (number, permit) = held.into_parts();
+        serve_next(permit, number);
     }
 
     // The next ticket's number.
     fn next(&self) -> u64 {
-        let (found, _permit) = self.cell.enter().load::<Leave>();
+        let (found, permit) = self.cell.enter().load::<Leave>();
+        permit.leave();
         found
     }
 
@@ -217,6 +216,7 @@ impl<T, R> TicketMutex<T, R> {
                 permit,
             })
         } else {
+            permit.leave();
             Err(found)
         }
     }
@@ -318,14 +318,31 @@ impl<'a, T, R> TicketMutexGuard<'a, T, R> {
     }
 }
 
-impl<T, R> Drop for TicketMutexGuard<'_, T, R> {
-    fn drop(self) {
+impl<'a, T, R> Held<'a, T, R> {
+    fn into_parts(self) -> (u64, Permit<'a, T, View, TicketRule>)
+        ensures entered { result.1.view ≡ Some (Entered result.0) }
+        ensures within { result.0 < ticket_limit }
+    {
         let Self {
-            writer,
+            number,
+            permit,
             strategy: _,
         } = self;
-        let (number, permit) = number_of(writer.into_permit());
-        let _ = serve_next(permit, number);
+        (number, permit)
+    }
+}
+
+impl<T, R> Drop for TicketMutexGuard<'_, T, R> {
+    fn drop(self) {
+        let (number, permit) = number_of(self.into_writer().into_permit());
+        serve_next(permit, number);
+    }
+}
+
+impl<T, R> Drop for Held<'_, T, R> {
+    fn drop(self) {
+        let (_, permit) = self.into_parts();
+        permit.stay();
     }
 }
 
