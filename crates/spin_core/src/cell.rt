@@ -314,8 +314,8 @@ impl<'a, T, V, P: Rule<V>> Permit<'a, T, V, P> {
         let Permit { cell: _, marker: _ } = self;
     }
 
-    /// The party stays for good what it is, and nobody can act for it any more. A lock that it holds stays taken for as
-    /// long as the cell is shared, and a queue that it stands in stops at it.
+    /// The party stays for good what it is, and nobody acts for it any more: a lock that it holds stays taken, and a
+    /// queue that it stands in stops at it.
     pub fn stay(self) {
         let Permit { cell: _, marker: _ } = self;
     }
