@@ -2,10 +2,10 @@
 //!
 //! A lock says what its parties are (a *view* each) and what holds of the words and of all views between any two
 //! steps; each step of a lock owes one fact about plain data, that it keeps that rule.
-ghost use Rattle.std.specs.Prelude.{◌≡◌, ◌+◌, ◌-◌, ◌%◌, ◌^◌, ◌==◌, ℕ, List, [], Option, bit_and, bit_or};
+ghost use Rattle.std.specs.Prelude.{◌≡◌, ◌≢◌, ◌+◌, ◌-◌, ◌%◌, ◌^◌, ◌==◌, ℕ, List, [], Option, bit_and, bit_or};
 ghost use Rattle.std.specs.Coded.{coded_option};
 ghost use prog.Atomic.{either};
-ghost use Rattle.spin_core.specs.Cell.{Ways, reads, writes, use_of, Meets, Rests, Allows, AllowsSecond, Moved, SameValue};
+ghost use Rattle.spin_core.specs.Cell.{Ways, off, reads, writes, use_of, Meets, Rests, Allows, AllowsSecond, Moved, SameValue};
 ghost use Rattle.spin_core.specs.CellMemory.{Known, cell_owns, cell_shares, permit_owns, permit_shares, writer_owns, writer_shares};
 
 use atomic_table::exchange;
@@ -49,7 +49,7 @@ impl<T, V, P: Rule<V>> Move for Cell<T, V, P> {
 }
 
 /// What a party may do: `view` is what it is to the lock, `None` until its first step, and `value` is shown where its
-/// view reads or writes. It is not dropped: `leave` ends it where its party is at rest, and `stay` keeps what it has.
+/// view reads or writes. It is not dropped: `leave` ends it where its party is at rest, and `stay` keeps a use of the value.
 pub struct Permit<'a, T, V, P: Rule<V>> {
     cell: *const Cell<T, V, P>,
     marker: PhantomData<&'a T>,
@@ -314,9 +314,11 @@ impl<'a, T, V, P: Rule<V>> Permit<'a, T, V, P> {
         let Permit { cell: _, marker: _ } = self;
     }
 
-    /// The party stays for good what it is, and nobody acts for it any more: a lock that it holds stays taken, and a
-    /// queue that it stands in stops at it.
-    pub fn stay(self) {
+    /// The party keeps its use of the value for good, and nobody acts for it any more: a lock that it holds stays taken.
+    /// A party that only waits cannot stay: a queue would stop at it.
+    pub fn stay(self)
+        requires { use_of P.ways self.view ≢ off }
+    {
         let Permit { cell: _, marker: _ } = self;
     }
 }

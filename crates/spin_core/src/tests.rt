@@ -92,6 +92,6 @@ fn the_owner_has_the_value(rt: HostRuntime) {
     let mut cell: Words = Cell::new(5, 1, 2);
     assert_eq!(rt; *cell.get_mut(), 5);
     *cell.get_mut() = 7;
-    cell.enter().store::<TellNothing>(3).stay();
+    cell.enter().store::<TellNothing>(3).leave();
     assert_eq!(rt; cell.into_inner(), 7);
 }
