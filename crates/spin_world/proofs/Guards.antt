@@ -62,22 +62,22 @@ abbrev After : {W V C L A : Type 0} → Option V → ℕ → Scene W V C L A →
 After r p sc = Guard r sc.after.written (slice_get sc.after.state.seats p)
 
 guard_begun : {W V C L : Type 0} (A : Type 0) (r : Option V) (seen : Seen W V C L) (p q : ℕ) (c : C) (h : Option Hold) (y : Seat C L) (o : Option L) → Guard r seen.written (slice_get seen.state.seats p) → (q ≡ p → ⊥)
-    → After r p (scene_of {A = A} seen q (Begin c) (Some y) (begun seen.state q c h o) None None)
+    → After r p (scene_of {A = A} seen q (Begin c) (Some y) (begun seen.state q c h o) None false None)
 guard_begun A r seen p q c h y None guard ne = guard
 guard_begun A r seen p q c h y (Some l) guard ne = set_beside r seen p q (Calling c l h) ne guard
 
-guard_went : {W V C L A : Type 0} (r : Option V) (seen : Seen W V C L) (p q : ℕ) (move : Move C V) (y : Seat C L) (c : C) (h : Option Hold) (w : W) (v value : Option V) (step : Option Change) (next : Next L A)
+guard_went : {W V C L A : Type 0} (r : Option V) (seen : Seen W V C L) (p q : ℕ) (move : Move C V) (y : Seat C L) (c : C) (h : Option Hold) (w : W) (v value : Option V) (step : Option Change) (retried : Bool) (next : Next L A)
     → if_completed seen.written value step ≡ seen.written → Guard r seen.written (slice_get seen.state.seats p) → (q ≡ p → ⊥)
-    → After r p (scene_of seen q move (Some y) (goes_on (record seen.state { words = w; value = v }) q c h next) step value)
-guard_went r seen p q move y c h w v value step (GoesOn l) same guard ne = rw same (set_beside r seen p q (Calling c l h) ne guard)
-guard_went r seen p q move y c h w v value step (Answers a after) same guard ne = rw same (set_beside r seen p q (resting after) ne guard)
+    → After r p (scene_of seen q move (Some y) (goes_on (record seen.state { words = w; value = v }) q c h next) step retried value)
+guard_went r seen p q move y c h w v value step retried (GoesOn l) same guard ne = rw same (set_beside r seen p q (Calling c l h) ne guard)
+guard_went r seen p q move y c h w v value step retried (Answers a after) same guard ne = rw same (set_beside r seen p q (resting after) ne guard)
 
 guard_refused : {W V C L A : Type 0} (r : Option V) (seen : Seen W V C L) (p q : ℕ) (y : Seat C L) (c : C) (h : Option Hold) (o : Option (Next L A)) → Guard r seen.written (slice_get seen.state.seats p) → (q ≡ p → ⊥)
-    → After r p (scene_of seen q Weak (Some y) (refuses seen.state q c h o) None None)
+    → After r p (scene_of seen q Weak (Some y) (refuses seen.state q c h o) None false None)
 guard_refused r seen p q y c h None guard ne = guard
-guard_refused r seen p q y c h (Some next) guard ne = guard_went r seen p q Weak y c h seen.state.words seen.state.value None None next refl guard ne
+guard_refused r seen p q y c h (Some next) guard ne = guard_went r seen p q Weak y c h seen.state.words seen.state.value None None false next refl guard ne
 
-guard_read : {W V C L : Type 0} (A : Type 0) (r : Option V) (seen : Seen W V C L) (p q : ℕ) (y : Seat C L) (b : Bool) → Guard r seen.written (slice_get seen.state.seats p) → After r p (scene_of {A = A} seen q Read (Some y) (read_by seen.state b) None None)
+guard_read : {W V C L : Type 0} (A : Type 0) (r : Option V) (seen : Seen W V C L) (p q : ℕ) (y : Seat C L) (b : Bool) → Guard r seen.written (slice_get seen.state.seats p) → After r p (scene_of {A = A} seen q Read (Some y) (read_by seen.state b) None false None)
 guard_read A r seen p q y true guard = guard
 guard_read A r seen p q y false guard = guard
 
@@ -94,7 +94,7 @@ not_written m k f r seen p q v (Some (Leaked h)) good stands writes ne guard =
 not_written m k f r seen p q v (Some (Gone h)) good stands writes ne guard = guard
 
 guard_written : {W V C L A : Type 0} (m : Machine W V C L A) (k : Keeping V C L) (f : Facts m k) (r : Option V) (seen : Seen W V C L) (p q : ℕ) (v : V) (h : Hold) (y : Seat C L) (b : Bool) → Good m k seen → entries q seen.plain ≡ entries_of q h → may_write h ≡ b
-    → Guard r seen.written (slice_get seen.state.seats p) → (q ≡ p → ⊥) → After r p (scene_of {A = A} seen q (Write v) (Some y) (written_by seen.state v b) None None)
+    → Guard r seen.written (slice_get seen.state.seats p) → (q ≡ p → ⊥) → After r p (scene_of {A = A} seen q (Write v) (Some y) (written_by seen.state v b) None false None)
 guard_written m k f r seen p q v h y false good stands may guard ne = guard
 guard_written m k f r seen p q v h y true good stands may guard ne =
     not_written m k f r seen p q (Some v) (slice_get seen.state.seats p) good (good.places p) (ap is_writer stands ∙ writer_of q h may) ne guard
@@ -119,7 +119,7 @@ guard_let_go r w (Some (Gone h)) guard = tt
 guard_let_go_all : {W V C L : Type 0} (r : Option V) (seen : Seen W V C L) (p : ℕ) → Guard r seen.written (slice_get seen.state.seats p) → Guard r seen.written (slice_get (map seen_by_owner seen.state.seats) p)
 guard_let_go_all r seen p guard = rw (slice_get-map seen_by_owner seen.state.seats p) (guard_let_go r seen.written (slice_get seen.state.seats p) guard)
 
-guard_owner_gets : {W V C L : Type 0} (A : Type 0) (r : Option V) (seen : Seen W V C L) (p q : ℕ) (y : Seat C L) (b : Bool) → Guard r seen.written (slice_get seen.state.seats p) → After r p (scene_of {A = A} seen q OwnerGet (Some y) (owner_gets seen.state b) None None)
+guard_owner_gets : {W V C L : Type 0} (A : Type 0) (r : Option V) (seen : Seen W V C L) (p q : ℕ) (y : Seat C L) (b : Bool) → Guard r seen.written (slice_get seen.state.seats p) → After r p (scene_of {A = A} seen q OwnerGet (Some y) (owner_gets seen.state b) None false None)
 guard_owner_gets A r seen p q y true guard = guard_let_go_all r seen p guard
 guard_owner_gets A r seen p q y false guard = guard
 
@@ -133,13 +133,13 @@ gone_for r w v (Some (Leaked h)) away guard = tt
 gone_for r w v (Some (Gone h)) away guard = tt
 
 guard_owner_writes : {W V C L : Type 0} (A : Type 0) (r : Option V) (seen : Seen W V C L) (p q : ℕ) (v : V) (y : Seat C L) (o : Option V) → list_all is_away seen.state.seats ≡ true → Guard r seen.written (slice_get seen.state.seats p)
-    → After r p (scene_of {A = A} seen q (OwnerSet v) (Some y) (owner_writes seen.state v o) None None)
+    → After r p (scene_of {A = A} seen q (OwnerSet v) (Some y) (owner_writes seen.state v o) None false None)
 guard_owner_writes A r seen p q v y None away guard = guard_let_go_all r seen p guard
 guard_owner_writes A r seen p q v y (Some old) away guard =
     rw (slice_get-map seen_by_owner seen.state.seats p) (gone_for r seen.written (Some v) (slice_get seen.state.seats p) (λ x e. all-get is_away seen.state.seats p x away e) guard)
 
 guard_owner_sets : {W V C L A : Type 0} (m : Machine W V C L A) (r : Option V) (seen : Seen W V C L) (p q : ℕ) (v : V) (y : Seat C L) (b : Bool) → is_owners m seen.state ≡ b → Guard r seen.written (slice_get seen.state.seats p)
-    → After r p (scene_of {A = A} seen q (OwnerSet v) (Some y) (owner_sets seen.state v b) None None)
+    → After r p (scene_of {A = A} seen q (OwnerSet v) (Some y) (owner_sets seen.state v b) None false None)
 guard_owner_sets {A = A} m r seen p q v y true may guard = guard_owner_writes A r seen p q v y seen.state.value (and_parts m.owned (list_all is_away seen.state.seats) may).1 guard
 guard_owner_sets m r seen p q v y false may guard = guard
 
@@ -153,7 +153,7 @@ guard_at {A = A} m k f never r seen p q (Begin c) (Some (Leaked h)) good there g
 guard_at {A = A} m k f never r seen p q (Begin c) (Some (Gone h)) good there guard quiet = guard
 guard_at {A = A} m k f never r seen p q Step None good there guard quiet = guard
 guard_at {A = A} m k f never r seen p q Step (Some Idle) good there guard quiet = guard
-guard_at {A = A} m k f never r seen p q Step (Some (Calling d l h)) good there guard quiet = guard_went r seen p q Step (Calling d l h) d h (m.step seen.state.words seen.state.value d l h).words (placed (m.step seen.state.words seen.state.value d l h).placed seen.state.value) (m.step seen.state.words seen.state.value d l h).placed (m.change q seen.state.words d l h) (m.step seen.state.words seen.state.value d l h).next (not_completed seen.written (m.step seen.state.words seen.state.value d l h).placed (m.change q seen.state.words d l h) (never q seen.state.words d l h)) guard (elsewhere r seen p q (Calling d l h) there (λ g. g) guard)
+guard_at {A = A} m k f never r seen p q Step (Some (Calling d l h)) good there guard quiet = guard_went r seen p q Step (Calling d l h) d h (m.step seen.state.words seen.state.value d l h).words (placed (m.step seen.state.words seen.state.value d l h).placed seen.state.value) (m.step seen.state.words seen.state.value d l h).placed (m.change q seen.state.words d l h) (m.retries d l) (m.step seen.state.words seen.state.value d l h).next (not_completed seen.written (m.step seen.state.words seen.state.value d l h).placed (m.change q seen.state.words d l h) (never q seen.state.words d l h)) guard (elsewhere r seen p q (Calling d l h) there (λ g. g) guard)
 guard_at {A = A} m k f never r seen p q Step (Some (Holding h)) good there guard quiet = guard
 guard_at {A = A} m k f never r seen p q Step (Some (Leaked h)) good there guard quiet = guard
 guard_at {A = A} m k f never r seen p q Step (Some (Gone h)) good there guard quiet = guard

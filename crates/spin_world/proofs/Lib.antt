@@ -3,3 +3,4 @@ pub mod Playing
 pub mod Writers
 pub mod Users
 pub mod Guards
+pub mod Queues

@@ -6,3 +6,5 @@ pub mod Owners
 pub mod Every
 pub mod Spans
 pub mod FlagFacts
+pub mod TicketKnown
+pub mod TicketFacts

@@ -25,6 +25,7 @@ pub record Machine (W V C L A : Type 0) : Type 0 where
   pub asks : C → Option Hold → Asked
   pub says : A → Said
   pub change : ℕ → W → C → L → Option Hold → Option Change  -- the plain step that a party's next step makes
+  pub retries : C → L → Bool  -- the next step is an exchange that the call makes again where it fails
 
 -- the plain lock at first
 abbrev pub opening_plain : {W V C L A : Type 0} → Machine W V C L A → Plain

@@ -1,7 +1,8 @@
 -- What is promised of every event of every schedule. Beside the world runs one plain lock, which each event moves by the plain step that it makes.
-use Rattle.std.specs.Prelude.{◌≡◌, ℕ, ◌+◌, ◌<◌, ◌≤◌, ◌↔◌, Bool, true, false, not, ◌||◌, Option, Some, None, List, [], ◌∷◌, ◌++◌, is_some, option_to_list, ◌==◌, if◌then◌else◌, slice_get, take}
+use Rattle.std.specs.Prelude.{◌≡◌, ℕ, ◌+◌, ◌<◌, ◌≤◌, ◌↔◌, ◌⊎◌, Bool, true, false, not, ◌&&◌, ◌||◌, Option, Some, None, List, [], ◌∷◌, ◌++◌, is_some, option_to_list, ◌==◌, if◌then◌else◌, slice_get, take}
 use Rattle.std.specs.List.{list_any}
 use Rattle.spin_core.specs.Plain.{Plain, reading, upgradable, writing, same_kind, Change, completes, holder, ticket, is_empty}
+use Rattle.spin_core.specs.Steps.{bit}
 use Rattle.spin_core.specs.Parties.{apply_some, IsOpenStep, Entries, entries, no_entries, entries_after, IsExclusive}
 use Rattle.spin_world.specs.declared.place.Hold.{Hold}
 use Rattle.spin_world.specs.declared.place.Hold.TheVariants as hold
@@ -11,7 +12,7 @@ use Rattle.spin_world.specs.declared.schedule.Move.{Move}
 use Rattle.spin_world.specs.declared.schedule.Move.TheVariants.{Begin, Step, Weak, Read, Write, Leak, OwnerGet, OwnerSet}
 use Rattle.spin_world.specs.declared.schedule.Outcome.{Outcome}
 use Rattle.spin_world.specs.declared.schedule.Outcome.TheVariants as outcome
-use Rattle.spin_world.specs.Calls.{Coding, encoded, Asked, Said, own_steps, Mark, AnyOf, HasMoment, Limit, unlimited, within, limit}
+use Rattle.spin_world.specs.Calls.{Coding, encoded, Asked, Said, own_steps, Mark, AnyOf, HasMoment, Limit, unlimited, within, within_changes, gets_within, FindsClosed, first_word, limit}
 use Rattle.spin_world.specs.Machines.{Machine, opening_plain}
 use Rattle.spin_world.specs.Schedules.{State, Happened, moves_at, at_first, after, may_read, may_write, is_owners}
 
@@ -31,6 +32,7 @@ pub record Scene (W V C L A : Type 0) : Type 0 where
   pub seat : Option (Seat C L)
   pub outcome : Outcome A V
   pub step : Option Change
+  pub retried : Bool
   pub after : Seen W V C L
 
 abbrev pub opening : {W V C L A : Type 0} → Machine W V C L A → ℕ → Seen W V C L
@@ -40,6 +42,11 @@ opening m n = record { state = at_first m n; plain = opening_plain m; span = λ 
 abbrev pub step_at : {W V C L A : Type 0} → Machine W V C L A → State W V C L → ℕ → Move C V → Option (Seat C L) → Option Change
 step_at m s p Step (Some (Calling c l h)) = m.change p s.words c l h
 step_at m s p _ _ = None
+
+-- an exchange that its call makes again where it fails
+abbrev pub retried_at : {W V C L A : Type 0} → Machine W V C L A → Move C V → Option (Seat C L) → Bool
+retried_at m Step (Some (Calling c l h)) = m.retries c l
+retried_at m _ _ = false
 
 abbrev pub placed_at : {W V C L A : Type 0} → Machine W V C L A → State W V C L → Move C V → Option (Seat C L) → Option V
 placed_at m s Step (Some (Calling c l h)) = (m.step s.words s.value c l h).placed
@@ -61,11 +68,11 @@ span_after outcome.GoingOn mark span q = mark ∷ span q
 span_after (outcome.Answered a b) mark span q = mark ∷ span q
 span_after _ mark span q = span q
 
-abbrev pub mark_of : ℕ → Option Change → Plain → Mark
-mark_of p step s = record { party = p; step = step; before = s; after = apply_some s step }
+abbrev pub mark_of : ℕ → Option Change → Bool → Plain → Mark
+mark_of p step retried s = record { party = p; step = step; retried = retried; before = s; after = apply_some s step }
 
-abbrev pub scene_of : {W V C L A : Type 0} → Seen W V C L → ℕ → Move C V → Option (Seat C L) → Happened W V C L A → Option Change → Option V → Scene W V C L A
-scene_of seen p move seat h step value =
+abbrev pub scene_of : {W V C L A : Type 0} → Seen W V C L → ℕ → Move C V → Option (Seat C L) → Happened W V C L A → Option Change → Bool → Option V → Scene W V C L A
+scene_of seen p move seat h step retried value =
     record {
       before = seen;
       party = p;
@@ -73,16 +80,17 @@ scene_of seen p move seat h step value =
       seat = seat;
       outcome = h.outcome;
       step = step;
+      retried = retried;
       after = record {
         state = h.next;
         plain = apply_some seen.plain step;
-        span = span_after h.outcome (mark_of p step seen.plain) seen.span;
+        span = span_after h.outcome (mark_of p step retried seen.plain) seen.span;
         written = last_written h.outcome move seen.written value step;
       };
     }
 
 abbrev pub scene_at : {W V C L A : Type 0} → Machine W V C L A → Seen W V C L → ℕ → Move C V → Option (Seat C L) → Scene W V C L A
-scene_at m seen p move seat = scene_of seen p move seat (moves_at m seen.state p move seat) (step_at m seen.state p move seat) (placed_at m seen.state move seat)
+scene_at m seen p move seat = scene_of seen p move seat (moves_at m seen.state p move seat) (step_at m seen.state p move seat) (retried_at m move seat) (placed_at m seen.state move seat)
 
 abbrev pub scene : {W V C L A : Type 0} → Machine W V C L A → Seen W V C L → ℕ → Move C V → Scene W V C L A
 scene m seen p move = scene_at m seen p move (slice_get seen.state.seats p)
@@ -180,6 +188,16 @@ abbrev pub own_count : ℕ → List Mark → ℕ
 own_count p [] = 0
 own_count p (m ∷ ms) = own_count p ms + (if m.party == p then 1 else 0)
 
+-- the party's exchanges that failed and are made again
+abbrev pub failures : ℕ → List Mark → ℕ
+failures p [] = 0
+failures p (m ∷ ms) = failures p ms + bit ((m.party == p) && (m.retried && not (is_some m.step)))
+
+-- others' changes of the first word
+abbrev pub changes : Coding → ℕ → List Mark → ℕ
+changes coding p [] = 0
+changes coding p (m ∷ ms) = changes coding p ms + bit (not (m.party == p) && not (first_word coding m.after == first_word coding m.before))
+
 abbrev pub IsBeginning : List Change → List Change → Type 0
 IsBeginning xs ys = (rest : List Change) × (xs ++ rest ≡ ys)
 
@@ -230,22 +248,28 @@ RightAnswer m p span _ _ _ = Unit {0}
 abbrev pub IsRight : {W V C L A : Type 0} → Machine W V C L A → Scene W V C L A → Type 0
 IsRight m s = RightAnswer m s.party (s.after.span s.party) s.outcome (asked m s.seat) s.move
 
-abbrev pub EndsWithin : Limit → ℕ → Type 0
-EndsWithin unlimited n = Unit {0}
-EndsWithin (within k) n = n ≤ k
+abbrev pub EndsWithin : Limit → Coding → ℕ → List Mark → Type 0
+EndsWithin unlimited coding p span = Unit {0}
+EndsWithin (within k) coding p span = own_count p span ≤ k
+EndsWithin (within_changes k) coding p span = own_count p span ≤ k + changes coding p span
+EndsWithin (gets_within ask k) coding p span = Unit {0}
 
-abbrev pub GoesOnWithin : Limit → ℕ → Type 0
-GoesOnWithin unlimited n = Unit {0}
-GoesOnWithin (within k) n = n < k
+abbrev pub GoesOnWithin : Limit → Coding → ℕ → List Mark → Type 0
+GoesOnWithin unlimited coding p span = Unit {0}
+GoesOnWithin (within k) coding p span = own_count p span < k
+GoesOnWithin (within_changes k) coding p span = own_count p span < k + changes coding p span
+GoesOnWithin (gets_within ask k) coding p span = own p span ≡ [] → (own_count p span < k + changes coding p span) ⊎ AnyOf (FindsClosed p ask) span
 
 -- a call with a limit is answered by that step at the latest
-abbrev pub InTime : {V A : Type 0} → Coding → ℕ → Outcome A V → Option Asked → Type 0
-InTime coding n (outcome.Answered a b) (Some what) = EndsWithin (limit coding what) n
-InTime coding n outcome.GoingOn (Some what) = GoesOnWithin (limit coding what) n
-InTime coding n _ _ = Unit {0}
+abbrev pub InTime : {V A : Type 0} → Coding → ℕ → List Mark → Outcome A V → Option Asked → Type 0
+InTime coding p span (outcome.Answered a b) (Some what) = EndsWithin (limit coding what) coding p span
+InTime coding p span outcome.GoingOn (Some what) = GoesOnWithin (limit coding what) coding p span
+InTime coding p span _ _ = Unit {0}
 
-abbrev pub IsInTime : {W V C L A : Type 0} → Machine W V C L A → Scene W V C L A → Type 0
-IsInTime m s = InTime m.coding (own_count s.party (s.after.span s.party)) s.outcome (asked m s.seat)
+pub record IsInTime {W V C L A : Type 0} (m : Machine W V C L A) (s : Scene W V C L A) : Type 0 where
+  pub in_time : InTime m.coding s.party (s.after.span s.party) s.outcome (asked m s.seat)
+  -- an exchange that is made again fails only where another party has changed its word since the call looked, and once for each change
+  pub retries : (q : ℕ) → failures q (s.after.span q) ≤ changes m.coding q (s.after.span q)
 
 -- Over a whole schedule, from the opening of a world of n parties
 

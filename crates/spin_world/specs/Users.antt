@@ -1,6 +1,12 @@
 -- Laws that users of a lock rely on, over whole schedules.
-use Rattle.std.specs.Prelude.{◌≡◌, ℕ, Bool, true, false, not, ◌&&◌, ◌||◌, Option, Some, List, [], ◌∷◌, ◌++◌, ◌==◌, slice_get}
+use Rattle.std.specs.Prelude.{◌≡◌, ℕ, ◌+◌, Bool, true, false, not, ◌&&◌, ◌||◌, Option, Some, None, List, [], ◌∷◌, ◌++◌, ◌==◌, slice_get}
+use Rattle.spin_core.specs.Plain.{Plain, Change, next_word, serving_word}
+use Rattle.spin_core.specs.Parties.{first_alone_entered}
+use Rattle.spin_core.specs.Tickets.{Numbered, gone}
 use Rattle.spin_world.specs.declared.place.Hold.{Hold}
+use Rattle.spin_world.specs.declared.place.Hold.TheVariants as hold
+use Rattle.spin_world.specs.declared.ticket.TicketCall.{TicketCall}
+use Rattle.spin_world.specs.declared.ticket.TicketWords.{TicketWords}
 use Rattle.spin_world.specs.declared.place.Seat.{Seat}
 use Rattle.spin_world.specs.declared.place.Seat.TheVariants.{Holding}
 use Rattle.spin_world.specs.declared.schedule.Move.{Move}
@@ -10,6 +16,7 @@ use Rattle.spin_world.specs.declared.schedule.Outcome.TheVariants.{Value}
 use Rattle.spin_world.specs.Machines.{Machine}
 use Rattle.spin_world.specs.Schedules.{happens, after, at_first, may_read, is_owners}
 use Rattle.spin_world.specs.Runs.{Seen, scene, opening}
+use Rattle.spin_world.specs.Ticket.{ticket_machine}
 
 -- the world beside its plain lock after a schedule
 abbrev pub seen_after : {W V C L A : Type 0} → Machine W V C L A → Seen W V C L → List (ℕ × Move C V) → Seen W V C L
@@ -41,3 +48,27 @@ abbrev pub ReadsAgree : {W V C L A : Type 0} → Machine W V C L A → ℕ → L
 ReadsAgree {V = V} {C = C} m n past =
     (p : ℕ) (between : List (ℕ × Move C V)) (r s : Option V) → is_quiet p between ≡ true
     → outcome_after m n past p Read ≡ Value r → outcome_after m n (past ++ (p, Read) ∷ between) p Read ≡ Value s → s ≡ r
+
+-- how many tickets go in the events of these entries
+
+abbrev pub gone_some : Option Change → ℕ
+gone_some None = 0
+gone_some (Some c) = gone c
+
+abbrev pub tickets_gone : {W V C L A : Type 0} → Machine W V C L A → Seen W V C L → List (ℕ × Move C V) → ℕ
+tickets_gone m seen [] = 0
+tickets_gone m seen (e ∷ es) = gone_some (scene m seen e.0 e.1).step + tickets_gone m (scene m seen e.0 e.1).after es
+
+-- the queue of a ticket lock after a schedule: its tickets are numbered one by one from the number that is served up to the next, and none but the first has entered
+pub record InOrder (w : TicketWords) (s : Plain) : Type 0 where
+  pub next : w.next ≡ next_word s
+  pub serving : w.serving ≡ serving_word s
+  pub numbered : Numbered s
+  pub one_entered : first_alone_entered s.tickets ≡ true
+
+-- whoever holds with the ticket t after further entries, where s was served before them: exactly t - s tickets have gone since
+abbrev pub HoldsInTurn : {V : Type 0} → V → ℕ → ℕ → List (ℕ × Move TicketCall V) → List (ℕ × Move TicketCall V) → Type 0
+HoldsInTurn v first n past further =
+    let m = ticket_machine v first in
+    (p t : ℕ) → slice_get (after m (at_first m n) (past ++ further)).seats p ≡ Some (Holding (hold.Ticket t))
+    → (after m (at_first m n) past).words.serving + tickets_gone m (seen_after m (opening m n) past) further ≡ t

@@ -1,6 +1,7 @@
 ghost use Rattle.std.specs.Prelude.{◌≡◌, true};
 ghost use Rattle.spin_world.specs.Flag.{exchanged, looked, can_step, step_of};
 
+use crate::answer::Answer;
 use crate::object::{Next, Object, Stepped};
 use crate::place::Hold;
 use spin_core::step::flag;
@@ -26,18 +27,6 @@ pub enum FlagPoint {
     Second,
 }
 
-/// An answer of a [`Flag`]'s call.
-#[derive(Clone, Copy, Debug, PartialEq, Eq)]
-pub enum FlagAnswer {
-    /// The party holds the lock.
-    Granted,
-    Refused,
-    /// The party has let go.
-    Done,
-    /// Whether somebody holds the lock.
-    Is(bool),
-}
-
 /// A lock of one flag, which is set while somebody holds it.
 #[derive(Drop)]
 pub struct Flag<V> {
@@ -54,17 +43,14 @@ impl<V> Flag<V> {
 }
 
 /// The exchange that takes the lock where it is free. `refusal`: how the call goes on where it isn't.
-fn exchange<V>(
-    words: bool,
-    refusal: Next<FlagPoint, FlagAnswer>,
-) -> Stepped<bool, V, FlagPoint, FlagAnswer>
+fn exchange<V>(words: bool, refusal: Next<FlagPoint, Answer>) -> Stepped<bool, V, FlagPoint, Answer>
     ensures { result ≡ exchanged words refusal }
 {
     match flag::lock(words) {
         Some(taken) => Stepped {
             words: taken,
             placed: None,
-            next: Next::Answers(FlagAnswer::Granted, Some(Hold::Write)),
+            next: Next::Answers(Answer::Granted, Some(Hold::Write)),
         },
         None => Stepped {
             words,
@@ -75,7 +61,7 @@ fn exchange<V>(
 }
 
 /// The look that waits for a clear flag.
-fn look(words: bool) -> Next<FlagPoint, FlagAnswer>
+fn look(words: bool) -> Next<FlagPoint, Answer>
     ensures { result ≡ looked words }
 {
     Next::GoesOn(if words {
@@ -94,7 +80,7 @@ impl<V: Copy> Object for Flag<V> {
 
     type Local = FlagPoint;
 
-    type Answer = FlagAnswer;
+    type Answer = Answer;
 
     ghost use Rattle.spin_world.specs.Flag.{flag_machine};
 
@@ -137,10 +123,10 @@ impl<V: Copy> Object for Flag<V> {
         call: FlagCall,
         local: FlagPoint,
         holds: Option<Hold>,
-    ) -> Option<Next<FlagPoint, FlagAnswer>> {
+    ) -> Option<Next<FlagPoint, Answer>> {
         match (call, local) {
             (FlagCall::Lock, FlagPoint::First) => Some(Next::GoesOn(FlagPoint::Second)),
-            (FlagCall::TryLockWeak, _) => Some(Next::Answers(FlagAnswer::Refused, holds)),
+            (FlagCall::TryLockWeak, _) => Some(Next::Answers(Answer::Refused, holds)),
             _ => None,
         }
     }
@@ -152,7 +138,7 @@ impl<V: Copy> Object for Flag<V> {
         call: FlagCall,
         local: FlagPoint,
         holds: Option<Hold>,
-    ) -> Stepped<bool, V, FlagPoint, FlagAnswer>
+    ) -> Stepped<bool, V, FlagPoint, Answer>
         requires { can_step words call local holds ≡ true }
         ensures { result ≡ step_of words value call local holds }
     {
@@ -165,17 +151,17 @@ impl<V: Copy> Object for Flag<V> {
                 next: look(words),
             },
             (FlagCall::TryLock | FlagCall::TryLockWeak, _) => {
-                exchange(words, Next::Answers(FlagAnswer::Refused, holds))
+                exchange(words, Next::Answers(Answer::Refused, holds))
             }
             (FlagCall::IsLocked, _) => Stepped {
                 words,
                 placed: None,
-                next: Next::Answers(FlagAnswer::Is(words), holds),
+                next: Next::Answers(Answer::Is(words), holds),
             },
             (FlagCall::Release, _) => Stepped {
                 words: flag::unlock(words),
                 placed: None,
-                next: Next::Answers(FlagAnswer::Done, None),
+                next: Next::Answers(Answer::Done, None),
             },
         }
     }

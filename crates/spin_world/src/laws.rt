@@ -2,10 +2,12 @@
 ghost use Rattle.std.specs.Prelude.{◌≡◌, ◌↔◌, ℕ, List, [], false};
 ghost use Rattle.spin_world.specs.declared.schedule.Move.{Move};
 ghost use Rattle.spin_world.specs.declared.flag.FlagCall.{FlagCall};
+ghost use Rattle.spin_world.specs.declared.ticket.TicketCall.{TicketCall};
 ghost use Rattle.spin_world.specs.Schedules.{after, at_first};
 ghost use Rattle.spin_world.specs.Runs.{opening};
 ghost use Rattle.spin_world.specs.Flag.{flag_machine};
-ghost use Rattle.spin_world.specs.Users.{seen_after, FindsLastWritten, ReadsAgree};
+ghost use Rattle.spin_world.specs.Ticket.{ticket_machine};
+ghost use Rattle.spin_world.specs.Users.{seen_after, FindsLastWritten, ReadsAgree, InOrder, HoldsInTurn};
 
 use crate::object::Object;
 
@@ -22,4 +24,20 @@ pub fn looks_under_one_guard_agree<V: Copy>()
 /// The flag is clear exactly when nobody holds the lock.
 pub fn a_flag_is_clear_when_nobody_holds<V: Copy>()
     ensures { (value : V) (n : ℕ) (past : List (ℕ × Move FlagCall V)) → ((after (flag_machine value) (at_first (flag_machine value) n) past).words ≡ false) ↔ ((seen_after (flag_machine value) (opening (flag_machine value) n) past).plain.holders ≡ []) }
+{}
+
+/// The same under one ticket.
+pub fn looks_under_one_ticket_agree<V: Copy>()
+    ensures { (value : V) (first n : ℕ) (past : List (ℕ × Move TicketCall V)) → ReadsAgree (ticket_machine value first) n past }
+{}
+
+/// The two words are the numbers of a queue of tickets, whose first alone may have entered.
+pub fn tickets_stand_in_order<V: Copy>()
+    ensures { (value : V) (first n : ℕ) (past : List (ℕ × Move TicketCall V)) → InOrder (after (ticket_machine value first) (at_first (ticket_machine value first) n) past).words (seen_after (ticket_machine value first) (opening (ticket_machine value first) n) past).plain }
+{}
+
+/// A ticket enters after exactly as many releases as stand between the number that is served and its own, and so before
+/// any later ticket.
+pub fn tickets_enter_by_releases<V: Copy>()
+    ensures { (value : V) (first n : ℕ) (past further : List (ℕ × Move TicketCall V)) → HoldsInTurn value first n past further }
 {}

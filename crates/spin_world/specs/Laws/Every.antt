@@ -1,5 +1,6 @@
 -- Every event of every schedule keeps all that is promised, of any object that shows its local facts.
-use Rattle.std.proofs.Common.{◌≡◌, ℕ, Option, Some, None, List, [], ◌∷◌, zero, suc, is_some, replicate, slice_get, refl, ap, ◌∙◌, subst, arith}
+use Rattle.std.proofs.Common.{◌≡◌, ℕ, false, Option, Some, None, List, [], ◌∷◌, zero, suc, is_some, replicate, slice_get, refl, ap, ◌∙◌, subst, arith}
+use Rattle.std.proofs.lemmas.Bool.{false≢true}
 use Rattle.spin_core.specs.Plain.{Plain}
 use Rattle.spin_core.specs.Parties.{entries, no_entries}
 use Rattle.spin_world.specs.declared.place.Hold.{Hold}
@@ -27,6 +28,7 @@ in_call m k seen p c l h good there =
       exclusive = good.exclusive;
       stands = standing m k seen p (Calling c l h) good there;
       knows = subst (λ o. KnowsAt k seen.plain p (seen.span p) o) there (good.knows p);
+      retries = good.retries p;
     }
 
 step_kept : {W V C L A : Type 0} (m : Machine W V C L A) (k : Keeping V C L) (f : Facts m k) (seen : Seen W V C L) (p : ℕ) (c : C) (l : L) (h : Option Hold) → Good m k seen → slice_get seen.state.seats p ≡ Some (Calling c l h)
@@ -35,14 +37,14 @@ step_kept m k f seen p c l h good there =
     let st = m.step seen.state.words seen.state.value c l h in
     let step = m.change p seen.state.words c l h in
     let is = f.steps p c l h seen.plain seen.state.value seen.state.words (seen.span p) (in_call m k seen p c l h good there) in
-    went_on m k f seen p Step c l h step st.placed st.words (placed st.placed seen.state.value) st.next good there is.opens is.encodes is.shape (is.places ∙ ap (λ old. if_completed old st.placed step) good.written) is.next refl
+    went_on m k f seen p Step c l h step (m.retries c l) st.placed st.words (placed st.placed seen.state.value) st.next good there is.opens is.encodes is.shape (is.places ∙ ap (λ old. if_completed old st.placed step) good.written) is.next is.fails refl
 
 weak_kept : {W V C L A : Type 0} (m : Machine W V C L A) (k : Keeping V C L) (f : Facts m k) (seen : Seen W V C L) (p : ℕ) (c : C) (l : L) (h : Option Hold) (o : Option (Next L A)) → Good m k seen → slice_get seen.state.seats p ≡ Some (Calling c l h)
-    → m.refuse c l h ≡ o → Kept m k (scene_of seen p Weak (Some (Calling c l h)) (refuses seen.state p c h o) None None)
+    → m.refuse c l h ≡ o → Kept m k (scene_of seen p Weak (Some (Calling c l h)) (refuses seen.state p c h o) None false None)
 weak_kept m k f seen p c l h None good there is = passed_kept m k f seen p Weak (Some (Calling c l h)) good (ap is_some is)
 weak_kept m k f seen p c l h (Some next) good there is =
-    went_on m k f seen p Weak c l h None None seen.state.words seen.state.value next good there tt good.encodes good.shape good.written
-    (f.refuses p c l h seen.plain seen.state.value seen.state.words (seen.span p) next (in_call m k seen p c l h good there) is) (ap is_some is)
+    went_on m k f seen p Weak c l h None false None seen.state.words seen.state.value next good there tt good.encodes good.shape good.written
+    (f.refuses p c l h seen.plain seen.state.value seen.state.words (seen.span p) next (in_call m k seen p c l h good there) is) (λ e. absurd (false≢true e)) (ap is_some is)
 
 kept_at : {W V C L A : Type 0} (m : Machine W V C L A) (k : Keeping V C L) (f : Facts m k) (seen : Seen W V C L) (p : ℕ) (move : Move C V) (o : Option (Seat C L)) → Good m k seen → slice_get seen.state.seats p ≡ o → Kept m k (scene_at m seen p move o)
 kept_at m k f seen p (Begin c) None good there = passed_kept m k f seen p (Begin c) None good refl
@@ -123,6 +125,7 @@ good_first {C = C} {L = L} m k f n =
       written = refl;
       places = λ q. none_stand C L (opening_plain m) n q q refl;
       knows = λ q. none_know k (opening_plain m) n q q;
+      retries = λ q. omega arith;
     }
 
 -- The laws

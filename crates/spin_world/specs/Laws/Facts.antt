@@ -1,5 +1,5 @@
 -- What an object shows of itself: local facts, without a word of schedules.
-use Rattle.std.proofs.Common.{◌≡◌, ℕ, true, ◌||◌, Option, Some, None, List, [], ◌∷◌}
+use Rattle.std.proofs.Common.{◌≡◌, ℕ, ◌<◌, ◌≤◌, Bool, true, false, ◌||◌, Option, Some, None, List, [], ◌∷◌}
 use Rattle.spin_core.specs.Plain.{Plain, Change, is_empty}
 use Rattle.spin_core.specs.Parties.{apply_some, IsOpenStep, entries, IsExclusive}
 use Rattle.spin_world.specs.declared.place.Hold.{Hold}
@@ -14,7 +14,7 @@ use Rattle.spin_world.specs.declared.schedule.Outcome.TheVariants as outcome
 use Rattle.spin_world.specs.Calls.{encoded, Said, own_steps, Mark, AnyOf, limit}
 use Rattle.spin_world.specs.Machines.{Machine, opening_plain}
 use Rattle.spin_world.specs.Schedules.{placed}
-use Rattle.spin_world.specs.Runs.{mark_of, if_completed, entries_held, entries_so_far, is_writer, own, own_count, IsBeginning, RightAnswer, EndsWithin, GoesOnWithin}
+use Rattle.spin_world.specs.Runs.{mark_of, if_completed, entries_held, entries_so_far, is_writer, own, failures, changes, IsBeginning, RightAnswer, EndsWithin, GoesOnWithin}
 
 -- what an object keeps: a shape of the plain lock and the value, and what a party in a call knows of its span
 pub record Keeping (V C L : Type 0) : Type 1 where
@@ -33,31 +33,34 @@ pub record InCall {W V C L A : Type 0} (m : Machine W V C L A) (k : Keeping V C 
   pub exclusive : IsExclusive s
   pub stands : entries p s ≡ entries_so_far p span (entries_held p h)
   pub knows : k.Knows c l h p s span
+  pub retries : failures p span ≤ changes m.coding p span
 
 -- a call goes on so, by this step of its span
 pub record Goes {W V C L A : Type 0} (m : Machine W V C L A) (k : Keeping V C L) (p : ℕ) (c : C) (l : L) (h : Option Hold) (s : Plain) (span : List Mark) : Type 0 where
   pub knows : k.Knows c l h p s span
   pub own_so_far : (said : Said) × AnyOf (λ steps. IsBeginning (own p span) steps) (own_steps (m.asks c h) said p)
-  pub in_time : GoesOnWithin (limit m.coding (m.asks c h)) (own_count p span)
+  pub in_time : GoesOnWithin (limit m.coding (m.asks c h)) m.coding p span
 
 -- a call ends so
 pub record Ends {W V C L A : Type 0} (m : Machine W V C L A) (move : Move C V) (p : ℕ) (c : C) (h : Option Hold) (s : Plain) (span : List Mark) (a : A) (after : Option Hold) : Type 0 where
   pub stands : entries p s ≡ entries_held p after
   pub own_steps_are : AnyOf (λ steps. own p span ≡ steps) (own_steps (m.asks c h) (m.says a) p)
   pub right : RightAnswer m p span (outcome.Answered a None) (Some (m.asks c h)) move
-  pub in_time : EndsWithin (limit m.coding (m.asks c h)) (own_count p span)
+  pub in_time : EndsWithin (limit m.coding (m.asks c h)) m.coding p span
 
 abbrev pub NextIs : {W V C L A : Type 0} → Machine W V C L A → Keeping V C L → Move C V → ℕ → C → Option Hold → Plain → List Mark → Next L A → Type 0
 NextIs m k move p c h s span (GoesOn l) = Goes m k p c l h s span
 NextIs m k move p c h s span (Answers a after) = Ends m move p c h s span a after
 
 -- a step that makes this plain step
-pub record StepIs {W V C L A : Type 0} (m : Machine W V C L A) (k : Keeping V C L) (p : ℕ) (c : C) (h : Option Hold) (s : Plain) (v : Option V) (span : List Mark) (st : Stepped W V L A) (step : Option Change) : Type 0 where
+pub record StepIs {W V C L A : Type 0} (m : Machine W V C L A) (k : Keeping V C L) (p : ℕ) (c : C) (h : Option Hold) (s : Plain) (v : Option V) (span : List Mark) (st : Stepped W V L A) (step : Option Change) (retried : Bool) : Type 0 where
   pub opens : IsOpenStep s p step
   pub encodes : m.numbers st.words ≡ encoded m.coding (apply_some s step)
   pub shape : k.Shape (apply_some s step) (placed st.placed v)
   pub places : placed st.placed v ≡ if_completed v st.placed step
-  pub next : NextIs m k Step p c h (apply_some s step) (mark_of p step s ∷ span) st.next
+  pub next : NextIs m k Step p c h (apply_some s step) (mark_of p step retried s ∷ span) st.next
+  -- an exchange that fails and is made again does so by another party's change
+  pub fails : retried ≡ true → step ≡ None → failures p span < changes m.coding p span
 
 pub record Facts {W V C L A : Type 0} (m : Machine W V C L A) (k : Keeping V C L) : Type 0 where
   pub first : m.numbers m.words ≡ encoded m.coding (opening_plain m)
@@ -69,12 +72,12 @@ pub record Facts {W V C L A : Type 0} (m : Machine W V C L A) (k : Keeping V C L
   -- what a party knows as its call begins
   pub begins : (p : ℕ) (c : C) (l : L) (h : Option Hold) (s : Plain) → m.begin c h ≡ Some l → entries p s ≡ entries_held p h → k.Knows c l h p s []
   -- another party's step leaves it true
-  pub others : (p q : ℕ) (c : C) (l : L) (h : Option Hold) (s : Plain) (v : Option V) (step : Option Change) (span : List Mark)
-      → (q ≡ p → ⊥) → k.Shape s v → IsExclusive s → IsOpenStep s q step → k.Knows c l h p s span → k.Knows c l h p (apply_some s step) (mark_of q step s ∷ span)
+  pub others : (p q : ℕ) (c : C) (l : L) (h : Option Hold) (s : Plain) (v : Option V) (step : Option Change) (retried : Bool) (span : List Mark)
+      → (q ≡ p → ⊥) → k.Shape s v → IsExclusive s → IsOpenStep s q step → k.Knows c l h p s span → k.Knows c l h p (apply_some s step) (mark_of q step retried s ∷ span)
   -- the next step may be taken, and what it comes to
   pub can : (p : ℕ) (c : C) (l : L) (h : Option Hold) (s : Plain) (v : Option V) (w : W) (span : List Mark) → InCall m k p c l h s v w span → m.can w c l h ≡ true
   pub steps : (p : ℕ) (c : C) (l : L) (h : Option Hold) (s : Plain) (v : Option V) (w : W) (span : List Mark) → InCall m k p c l h s v w span
-      → StepIs m k p c h s v span (m.step w v c l h) (m.change p w c l h)
+      → StepIs m k p c h s v span (m.step w v c l h) (m.change p w c l h) (m.retries c l)
   -- a weak exchange that refuses makes no plain step
   pub refuses : (p : ℕ) (c : C) (l : L) (h : Option Hold) (s : Plain) (v : Option V) (w : W) (span : List Mark) (next : Next L A) → InCall m k p c l h s v w span
-      → m.refuse c l h ≡ Some next → NextIs m k Weak p c h s (mark_of p None s ∷ span) next
+      → m.refuse c l h ≡ Some next → NextIs m k Weak p c h s (mark_of p None false s ∷ span) next

@@ -1,5 +1,6 @@
 -- The flag's local facts.
 use Rattle.std.proofs.Common.{◌≡◌, ℕ, ◌≤◌, ◌==◌, Bool, true, false, not, ◌&&◌, ◌||◌, if◌then◌else◌, Option, Some, None, List, [], ◌∷◌, ◌++◌, length, filter, refl, ap, sym, ◌∙◌, subst, arith, inl}
+use Rattle.std.proofs.lemmas.Bool.{false≢true}
 use Rattle.spin_core.specs.Plain.{Ticket as Queued, Plain, writing, to_write, Holder, holder, Change, gets, releases, completes, is_empty, flag_word}
 use Rattle.spin_core.specs.Parties.{apply_some, Entries, entries, no_entries, entries_after, is_held}
 use Rattle.spin_core.specs.Steps.{bit}
@@ -15,9 +16,9 @@ use Rattle.spin_world.specs.declared.flag.FlagCall.{FlagCall}
 use Rattle.spin_world.specs.declared.flag.FlagCall.TheVariants.{Lock, TryLock, TryLockWeak, IsLocked, Release}
 use Rattle.spin_world.specs.declared.flag.FlagPoint.{FlagPoint}
 use Rattle.spin_world.specs.declared.flag.FlagPoint.TheVariants.{First, Second}
-use Rattle.spin_world.specs.declared.flag.FlagAnswer.{FlagAnswer}
-use Rattle.spin_world.specs.declared.flag.FlagAnswer.TheVariants.{Refused}
-use Rattle.spin_world.specs.Calls.{Mark, granted}
+use Rattle.spin_world.specs.declared.answer.Answer.{Answer}
+use Rattle.spin_world.specs.declared.answer.Answer.TheVariants.{Refused}
+use Rattle.spin_world.specs.Calls.{Mark, AnyOf, gives_back, granted, done, own_steps}
 use Rattle.spin_world.specs.Runs.{mark_of, own, own_count, entries_of, entries_held}
 use Rattle.spin_world.specs.Flag.{flag_machine, begins_at, looked, refusal_of, can_step, step_of, taken, change_of}
 use Rattle.spin_world.specs.Laws.Facts.{Keeping, InCall, Goes, NextIs, StepIs, Facts}
@@ -90,17 +91,17 @@ here v p c l h s value w span at =
     }
 
 -- the party has made one step of its own, and it is this one
-one_step : (p : ℕ) (c : Change) (s : Plain) (span : List Mark) → own p span ≡ [] → own p (mark_of p (Some c) s ∷ span) ≡ c ∷ []
-one_step p c s span none = own-mine p (Some c) s span ∙ ap (λ cs. cs ++ c ∷ []) none
+one_step : (p : ℕ) (c : Change) (s : Plain) (span : List Mark) → own p span ≡ [] → own p (mark_of p (Some c) false s ∷ span) ≡ c ∷ []
+one_step p c s span none = own-mine p (Some c) false s span ∙ ap (λ cs. cs ++ c ∷ []) none
 
-no_step : (p : ℕ) (s : Plain) (span : List Mark) → own p span ≡ [] → own p (mark_of p None s ∷ span) ≡ []
-no_step p s span none = own-mine p None s span ∙ ap (λ cs. cs ++ []) none
+no_step : (p : ℕ) (s : Plain) (span : List Mark) → own p span ≡ [] → own p (mark_of p None false s ∷ span) ≡ []
+no_step p s span none = own-mine p None false s span ∙ ap (λ cs. cs ++ []) none
 
-still : (l m : FlagPoint) (h : Option Hold) (p : ℕ) (s : Plain) (span : List Mark) → FlagKnows Lock l h p s span → FlagKnows Lock m h p s (mark_of p None s ∷ span)
+still : (l m : FlagPoint) (h : Option Hold) (p : ℕ) (s : Plain) (span : List Mark) → FlagKnows Lock l h p s span → FlagKnows Lock m h p s (mark_of p None false s ∷ span)
 still l m h p s span knows = record { unstepped = no_step p s span knows.unstepped; holds = knows.holds; first = tt }
 
-counted : (p : ℕ) (step : Option Change) (s : Plain) (span : List Mark) → own_count p span ≡ 0 → own_count p (mark_of p step s ∷ span) ≤ 1
-counted p step s span e = omega (arith, own_count-mine p step s span, e)
+counted : (p : ℕ) (step : Option Change) (s : Plain) (span : List Mark) → own_count p span ≡ 0 → own_count p (mark_of p step false s ∷ span) ≤ 1
+counted p step s span e = omega (arith, own_count-mine p step false s span, e)
 
 nothing_held : (c : FlagCall) (l : FlagPoint) (h : Option Hold) (p : ℕ) (s : Plain) (w : Bool) (span : List Mark) → Here c l h p s w span → needs c ≡ None → entries p s ≡ no_entries
 nothing_held c l h p s w span at none = at.mine ∙ ap (entries_held p) (at.knows.holds ∙ none)
@@ -122,7 +123,7 @@ holds_now p s none free = entries-own s p (Some (gets p to_write)) (refl, free) 
 -- `lock` goes on, having changed nothing
 
 lock_goes : {V : Type 0} (v : V) (l m : FlagPoint) (h : Option Hold) (p : ℕ) (s : Plain) (span : List Mark) → FlagKnows Lock l h p s span
-    → Goes (flag_machine v) (flag_keeping V) p Lock m h s (mark_of p None s ∷ span)
+    → Goes (flag_machine v) (flag_keeping V) p Lock m h s (mark_of p None false s ∷ span)
 lock_goes v l m h p s span knows =
     record {
       knows = still l m h p s span knows;
@@ -131,7 +132,7 @@ lock_goes v l m h p s span knows =
     }
 
 look_goes : {V : Type 0} (v : V) (w : Bool) (h : Option Hold) (p : ℕ) (s : Plain) (span : List Mark) → FlagKnows Lock Second h p s span
-    → NextIs (flag_machine v) (flag_keeping V) Step p Lock h s (mark_of p None s ∷ span) (looked w)
+    → NextIs (flag_machine v) (flag_keeping V) Step p Lock h s (mark_of p None false s ∷ span) (looked w)
 look_goes v true h p s span knows = lock_goes v Second Second h p s span knows
 look_goes v false h p s span knows = lock_goes v Second First h p s span knows
 
@@ -156,7 +157,7 @@ is_set p s true e word = refl
 is_set p s false e word = absurd (omega (arith, length-held p writing s.holders (holder_of p s e), word))
 
 flag_release : {V : Type 0} (v : V) (p : ℕ) (l : FlagPoint) (h : Option Hold) (s : Plain) (value : Option V) (w : Bool) (span : List Mark) → Here Release l h p s w span
-    → StepIs (flag_machine v) (flag_keeping V) p Release h s value span (step_of w value Release l h) (Some (releases p writing))
+    → StepIs (flag_machine v) (flag_keeping V) p Release h s value span (step_of w value Release l h) (Some (releases p writing)) false
 flag_release v p l h s value w span at =
     let mine = at.mine ∙ ap (entries_held p) at.knows.holds in
     let found = is_holder-from_entries p writing s.holders (holder_of p s mine) in
@@ -165,9 +166,10 @@ flag_release v p l h s value w span at =
       encodes = one_number _ _ (flag_unlock-gives s p writing w (sym at.word) found);
       shape = at.queue;
       places = refl;
+      fails = λ e none. absurd (false≢true e);
       next = record {
         stands = lets_go p s mine;
-        own_steps_are = inl (one_step p (releases p writing) s span at.knows.unstepped);
+        own_steps_are = subst (λ g. AnyOf (λ steps. own p (mark_of p (Some (releases p writing)) false s ∷ span) ≡ steps) (own_steps (gives_back g) done p)) (sym at.knows.holds) (inl (one_step p (releases p writing) s span at.knows.unstepped));
         right = tt;
         in_time = counted p (Some (releases p writing)) s span at.knows.first;
       };
@@ -176,7 +178,7 @@ flag_release v p l h s value w span at =
 -- a try answers at its first step
 
 try_steps : {V : Type 0} (v : V) (p : ℕ) (l : FlagPoint) (h : Option Hold) (s : Plain) (value : Option V) (w : Bool) (span : List Mark) → Here TryLock l h p s w span
-    → StepIs (flag_machine v) (flag_keeping V) p TryLock h s value span (step_of w value TryLock l h) (taken p w)
+    → StepIs (flag_machine v) (flag_keeping V) p TryLock h s value span (step_of w value TryLock l h) (taken p w) false
 try_steps v p l h s value false span at =
     let free = free_for s p at.word in
     record {
@@ -184,6 +186,7 @@ try_steps v p l h s value false span at =
       encodes = one_number _ _ free.1;
       shape = at.queue;
       places = refl;
+      fails = λ e none. absurd (false≢true e);
       next = record {
         stands = holds_now p s (nothing_held TryLock l h p s false span at refl) free.0;
         own_steps_are = inl (one_step p (gets p to_write) s span at.knows.unstepped);
@@ -197,6 +200,7 @@ try_steps v p l h s value true span at =
       encodes = one_number _ _ at.word;
       shape = at.queue;
       places = refl;
+      fails = λ e none. absurd (false≢true e);
       next = record {
         stands = at.mine;
         own_steps_are = inl (no_step p s span at.knows.unstepped);
@@ -206,7 +210,7 @@ try_steps v p l h s value true span at =
     }
 
 weak_try_steps : {V : Type 0} (v : V) (p : ℕ) (l : FlagPoint) (h : Option Hold) (s : Plain) (value : Option V) (w : Bool) (span : List Mark) → Here TryLockWeak l h p s w span
-    → StepIs (flag_machine v) (flag_keeping V) p TryLockWeak h s value span (step_of w value TryLockWeak l h) (taken p w)
+    → StepIs (flag_machine v) (flag_keeping V) p TryLockWeak h s value span (step_of w value TryLockWeak l h) (taken p w) false
 weak_try_steps v p l h s value false span at =
     let free = free_for s p at.word in
     record {
@@ -214,6 +218,7 @@ weak_try_steps v p l h s value false span at =
       encodes = one_number _ _ free.1;
       shape = at.queue;
       places = refl;
+      fails = λ e none. absurd (false≢true e);
       next = record {
         stands = holds_now p s (nothing_held TryLockWeak l h p s false span at refl) free.0;
         own_steps_are = inl (one_step p (gets p to_write) s span at.knows.unstepped);
@@ -227,6 +232,7 @@ weak_try_steps v p l h s value true span at =
       encodes = one_number _ _ at.word;
       shape = at.queue;
       places = refl;
+      fails = λ e none. absurd (false≢true e);
       next = record {
         stands = at.mine;
         own_steps_are = inl (no_step p s span at.knows.unstepped);
@@ -236,7 +242,7 @@ weak_try_steps v p l h s value true span at =
     }
 
 flag_steps : {V : Type 0} (v : V) (p : ℕ) (c : FlagCall) (l : FlagPoint) (h : Option Hold) (s : Plain) (value : Option V) (w : Bool) (span : List Mark) → Here c l h p s w span
-    → StepIs (flag_machine v) (flag_keeping V) p c h s value span (step_of w value c l h) (change_of p w c l h)
+    → StepIs (flag_machine v) (flag_keeping V) p c h s value span (step_of w value c l h) (change_of p w c l h) false
 flag_steps v p Lock First h s value false span at =
     let free = free_for s p at.word in
     record {
@@ -244,6 +250,7 @@ flag_steps v p Lock First h s value false span at =
       encodes = one_number _ _ free.1;
       shape = at.queue;
       places = refl;
+      fails = λ e none. absurd (false≢true e);
       next = record {
         stands = holds_now p s (nothing_held Lock First h p s false span at refl) free.0;
         own_steps_are = inl (one_step p (gets p to_write) s span at.knows.unstepped);
@@ -252,9 +259,9 @@ flag_steps v p Lock First h s value false span at =
       };
     }
 flag_steps v p Lock First h s value true span at =
-    record { opens = tt; encodes = one_number _ _ at.word; shape = at.queue; places = refl; next = lock_goes v First Second h p s span at.knows }
+    record { opens = tt; encodes = one_number _ _ at.word; shape = at.queue; places = refl; fails = λ e none. absurd (false≢true e); next = lock_goes v First Second h p s span at.knows }
 flag_steps v p Lock Second h s value w span at =
-    record { opens = tt; encodes = one_number _ _ at.word; shape = at.queue; places = refl; next = look_goes v w h p s span at.knows }
+    record { opens = tt; encodes = one_number _ _ at.word; shape = at.queue; places = refl; fails = λ e none. absurd (false≢true e); next = look_goes v w h p s span at.knows }
 flag_steps v p TryLock l h s value w span at = try_steps v p l h s value w span at
 flag_steps v p TryLockWeak l h s value w span at = weak_try_steps v p l h s value w span at
 flag_steps v p IsLocked l h s value w span at =
@@ -263,6 +270,7 @@ flag_steps v p IsLocked l h s value w span at =
       encodes = one_number _ _ at.word;
       shape = at.queue;
       places = refl;
+      fails = λ e none. absurd (false≢true e);
       next = record {
         stands = at.mine;
         own_steps_are = inl (no_step p s span at.knows.unstepped);
@@ -272,18 +280,18 @@ flag_steps v p IsLocked l h s value w span at =
     }
 flag_steps v p Release l h s value w span at = flag_release v p l h s value w span at
 
-flag_refuses : {V : Type 0} (v : V) (p : ℕ) (c : FlagCall) (l : FlagPoint) (h : Option Hold) (s : Plain) (w : Bool) (span : List Mark) (next : Next FlagPoint FlagAnswer) → Here c l h p s w span
-    → refusal_of c l h ≡ Some next → NextIs (flag_machine v) (flag_keeping V) Weak p c h s (mark_of p None s ∷ span) next
+flag_refuses : {V : Type 0} (v : V) (p : ℕ) (c : FlagCall) (l : FlagPoint) (h : Option Hold) (s : Plain) (w : Bool) (span : List Mark) (next : Next FlagPoint Answer) → Here c l h p s w span
+    → refusal_of c l h ≡ Some next → NextIs (flag_machine v) (flag_keeping V) Weak p c h s (mark_of p None false s ∷ span) next
 flag_refuses {V = V} v p Lock First h s w span next at e =
-    let first : Next FlagPoint FlagAnswer = GoesOn Second in
+    let first : Next FlagPoint Answer = GoesOn Second in
     let is : first ≡ next = cc (e) in
-    subst (λ n. NextIs (flag_machine v) (flag_keeping V) Weak p Lock h s (mark_of p None s ∷ span) n) is (lock_goes v First Second h p s span at.knows)
+    subst (λ n. NextIs (flag_machine v) (flag_keeping V) Weak p Lock h s (mark_of p None false s ∷ span) n) is (lock_goes v First Second h p s span at.knows)
 flag_refuses v p Lock Second h s w span next at e = absurd (cc (e))
 flag_refuses v p TryLock l h s w span next at e = absurd (cc (e))
 flag_refuses {V = V} v p TryLockWeak l h s w span next at e =
-    let refusal : Next FlagPoint FlagAnswer = Answers Refused h in
+    let refusal : Next FlagPoint Answer = Answers Refused h in
     let is : refusal ≡ next = cc (e) in
-    subst (λ n. NextIs (flag_machine v) (flag_keeping V) Weak p TryLockWeak h s (mark_of p None s ∷ span) n) is
+    subst (λ n. NextIs (flag_machine v) (flag_keeping V) Weak p TryLockWeak h s (mark_of p None false s ∷ span) n) is
     (record { stands = at.mine; own_steps_are = inl (no_step p s span at.knows.unstepped); right = tt; in_time = counted p None s span at.knows.first })
 flag_refuses v p IsLocked l h s w span next at e = absurd (cc (e))
 flag_refuses v p Release l h s w span next at e = absurd (cc (e))
@@ -295,13 +303,13 @@ first_still TryLockWeak n k e first = e ∙ first
 first_still IsLocked n k e first = e ∙ first
 first_still Release n k e first = e ∙ first
 
-others_leave : (p q : ℕ) (c : FlagCall) (l : FlagPoint) (h : Option Hold) (s : Plain) (step : Option Change) (span : List Mark) → (q ≡ p → ⊥)
-    → FlagKnows c l h p s span → FlagKnows c l h p (apply_some s step) (mark_of q step s ∷ span)
-others_leave p q c l h s step span ne knows =
+others_leave : (p q : ℕ) (c : FlagCall) (l : FlagPoint) (h : Option Hold) (s : Plain) (step : Option Change) (r : Bool) (span : List Mark) → (q ≡ p → ⊥)
+    → FlagKnows c l h p s span → FlagKnows c l h p (apply_some s step) (mark_of q step r s ∷ span)
+others_leave p q c l h s step r span ne knows =
     record {
-      unstepped = own-other p q step s span ne ∙ knows.unstepped;
+      unstepped = own-other p q step r s span ne ∙ knows.unstepped;
       holds = knows.holds;
-      first = first_still c (own_count p (mark_of q step s ∷ span)) (own_count p span) (own_count-other p q step s span ne) knows.first;
+      first = first_still c (own_count p (mark_of q step r s ∷ span)) (own_count p span) (own_count-other p q step r s span ne) knows.first;
     }
 
 flag_can : (p : ℕ) (c : FlagCall) (l : FlagPoint) (h : Option Hold) (s : Plain) (w : Bool) (span : List Mark) → Here c l h p s w span → can_step w c l h ≡ true
@@ -324,7 +332,7 @@ flag_facts v =
       shape_written = λ s p old new writes shape. shape;
       shape_set = λ s old new shape. shape;
       begins = λ p c l h s e mine. record { unstepped = refl; holds = needs_at c l h e; first = first_at c };
-      others = λ p q c l h s value step span ne shape exclusive may knows. others_leave p q c l h s step span ne knows;
+      others = λ p q c l h s value step r span ne shape exclusive may knows. others_leave p q c l h s step r span ne knows;
       can = λ p c l h s value w span at. flag_can p c l h s w span (here v p c l h s value w span at);
       steps = λ p c l h s value w span at. flag_steps v p c l h s value w span (here v p c l h s value w span at);
       refuses = λ p c l h s value w span next at e. flag_refuses v p c l h s w span next (here v p c l h s value w span at) e;

@@ -1,5 +1,5 @@
 -- One event keeps all that is promised, of any object that shows its local facts.
-use Rattle.std.proofs.Common.{◌≡◌, ℕ, ◌==◌, Bool, true, false, Option, Some, None, List, [], ◌∷◌, if◌then◌else◌, is_some, slice_get, slice_set, refl, ap, sym, ◌∙◌, subst, ⊎_elim}
+use Rattle.std.proofs.Common.{◌≡◌, ℕ, ◌<◌, ◌≤◌, ◌==◌, Bool, true, false, Option, Some, None, List, [], ◌∷◌, if◌then◌else◌, is_some, slice_get, slice_set, refl, ap, sym, ◌∙◌, subst, ⊎_elim, arith}
 use Rattle.std.proofs.lemmas.Bool.{ne_eqb, cases_eq, true≢false}
 use Rattle.spin_core.specs.Plain.{Plain, Change}
 use Rattle.spin_core.specs.Parties.{apply_some, IsOpenStep, Entries, entries, entries_after, IsExclusive}
@@ -17,8 +17,9 @@ use Rattle.spin_world.specs.declared.schedule.Outcome.TheVariants as outcome
 use Rattle.spin_world.specs.Calls.{encoded, Mark}
 use Rattle.spin_world.specs.Machines.{Machine}
 use Rattle.spin_world.specs.Schedules.{passed, seated, begun, goes_on, resting, read_by, written_by, may_read, may_write}
-use Rattle.spin_world.specs.Runs.{Seen, Scene, scene_of, mark_of, if_completed, is_open_move, entries_of, entries_held, entries_so_far, StandsFor, is_reader, is_writer, MayTouch, OwnSteps, asked, Keeps, IsRight, IsInTime}
+use Rattle.spin_world.specs.Runs.{Seen, Scene, scene_of, mark_of, failures, changes, if_completed, is_open_move, entries_of, entries_held, entries_so_far, StandsFor, is_reader, is_writer, MayTouch, OwnSteps, asked, Keeps, IsRight, IsInTime}
 use Rattle.spin_world.specs.Laws.Lists.{get-set_same, get-set_other, eqb_self}
+use Rattle.spin_world.specs.Laws.Spans.{retries-mine, retries-other}
 use Rattle.spin_world.specs.Laws.Facts.{Keeping, KnowsAt, NextIs, Facts}
 
 -- what holds between two events
@@ -29,6 +30,7 @@ pub record Good {W V C L A : Type 0} (m : Machine W V C L A) (k : Keeping V C L)
   pub written : seen.state.value ≡ seen.written
   pub places : (q : ℕ) → StandsFor seen.plain q (seen.span q) (slice_get seen.state.seats q)
   pub knows : (q : ℕ) → KnowsAt k seen.plain q (seen.span q) (slice_get seen.state.seats q)
+  pub retries : (q : ℕ) → failures q (seen.span q) ≤ changes m.coding q (seen.span q)
 
 -- what is shown of an event
 pub record Kept {W V C L A : Type 0} (m : Machine W V C L A) (k : Keeping V C L) (s : Scene W V C L A) : Type 0 where
@@ -57,7 +59,7 @@ keeps_from m k f s good opens reads touches happened is_open own =
     }
 
 pub passed_kept : {W V C L A : Type 0} (m : Machine W V C L A) (k : Keeping V C L) (f : Facts m k) (seen : Seen W V C L) (p : ℕ) (move : Move C V) (seat : Option (Seat C L))
-    → Good m k seen → is_open_move m seen.state move seat ≡ false → Kept m k (scene_of seen p move seat (passed seen.state) None None)
+    → Good m k seen → is_open_move m seen.state move seat ≡ false → Kept m k (scene_of seen p move seat (passed seen.state) None false None)
 passed_kept m k f seen p move seat good closed =
     record {
       keeps = record {
@@ -74,26 +76,26 @@ passed_kept m k f seen p move seat good closed =
         own = tt;
       };
       right = tt;
-      in_time = tt;
+      in_time = record { in_time = tt; retries = good.retries };
       good = good;
     }
 
 -- a party that doesn't step keeps its entries
-stands_beside : {C L : Type 0} (s : Plain) (p q : ℕ) (step : Option Change) (span : List Mark) (o : Option (Seat C L)) → (p ≡ q → ⊥) → IsOpenStep s p step
-    → StandsFor s q span o → StandsFor (apply_some s step) q (mark_of p step s ∷ span) o
-stands_beside s p q step span None ne may stands = entries-other s p q step ne may ∙ stands
-stands_beside s p q step span (Some Idle) ne may stands = entries-other s p q step ne may ∙ stands
-stands_beside s p q step span (Some (Calling c l h)) ne may stands =
+stands_beside : {C L : Type 0} (s : Plain) (p q : ℕ) (step : Option Change) (r : Bool) (span : List Mark) (o : Option (Seat C L)) → (p ≡ q → ⊥) → IsOpenStep s p step
+    → StandsFor s q span o → StandsFor (apply_some s step) q (mark_of p step r s ∷ span) o
+stands_beside s p q step r span None ne may stands = entries-other s p q step ne may ∙ stands
+stands_beside s p q step r span (Some Idle) ne may stands = entries-other s p q step ne may ∙ stands
+stands_beside s p q step r span (Some (Calling c l h)) ne may stands =
     let e = entries_so_far q span (entries_held q h) in
     entries-other s p q step ne may ∙ (stands ∙ sym (ap (λ b. if b then entries_after s step e else e) (ne_eqb p q ne)))
-stands_beside s p q step span (Some (Holding h)) ne may stands = entries-other s p q step ne may ∙ stands
-stands_beside s p q step span (Some (Leaked h)) ne may stands = entries-other s p q step ne may ∙ stands
-stands_beside s p q step span (Some (Gone h)) ne may stands = entries-other s p q step ne may ∙ stands
+stands_beside s p q step r span (Some (Holding h)) ne may stands = entries-other s p q step ne may ∙ stands
+stands_beside s p q step r span (Some (Leaked h)) ne may stands = entries-other s p q step ne may ∙ stands
+stands_beside s p q step r span (Some (Gone h)) ne may stands = entries-other s p q step ne may ∙ stands
 
 -- one that steps has made the step alone
-stands_stepped : (s : Plain) (p : ℕ) (step : Option Change) (span : List Mark) (e : Entries) → IsOpenStep s p step → entries p s ≡ entries_so_far p span e
-    → entries p (apply_some s step) ≡ entries_so_far p (mark_of p step s ∷ span) e
-stands_stepped s p step span e may stands =
+stands_stepped : (s : Plain) (p : ℕ) (step : Option Change) (r : Bool) (span : List Mark) (e : Entries) → IsOpenStep s p step → entries p s ≡ entries_so_far p span e
+    → entries p (apply_some s step) ≡ entries_so_far p (mark_of p step r s ∷ span) e
+stands_stepped s p step r span e may stands =
     let f = entries_so_far p span e in
     entries-own s p step may ∙ (ap (entries_after s step) stands ∙ sym (ap (λ b. if b then entries_after s step f else f) (eqb_self p)))
 
@@ -105,14 +107,14 @@ knows_resting : {V C L : Type 0} (k : Keeping V C L) (s : Plain) (p : ℕ) (span
 knows_resting k s p span None = tt
 knows_resting k s p span (Some h) = tt
 
-knows_beside : {W V C L A : Type 0} (m : Machine W V C L A) (k : Keeping V C L) (f : Facts m k) (p q : ℕ) (s : Plain) (v : Option V) (step : Option Change) (span : List Mark) (o : Option (Seat C L))
-    → (p ≡ q → ⊥) → k.Shape s v → IsExclusive s → IsOpenStep s p step → KnowsAt k s q span o → KnowsAt k (apply_some s step) q (mark_of p step s ∷ span) o
-knows_beside m k f p q s v step span None ne shape exclusive may knows = tt
-knows_beside m k f p q s v step span (Some Idle) ne shape exclusive may knows = tt
-knows_beside m k f p q s v step span (Some (Calling c l h)) ne shape exclusive may knows = f.others q p c l h s v step span ne shape exclusive may knows
-knows_beside m k f p q s v step span (Some (Holding h)) ne shape exclusive may knows = tt
-knows_beside m k f p q s v step span (Some (Leaked h)) ne shape exclusive may knows = tt
-knows_beside m k f p q s v step span (Some (Gone h)) ne shape exclusive may knows = tt
+knows_beside : {W V C L A : Type 0} (m : Machine W V C L A) (k : Keeping V C L) (f : Facts m k) (p q : ℕ) (s : Plain) (v : Option V) (step : Option Change) (r : Bool) (span : List Mark) (o : Option (Seat C L))
+    → (p ≡ q → ⊥) → k.Shape s v → IsExclusive s → IsOpenStep s p step → KnowsAt k s q span o → KnowsAt k (apply_some s step) q (mark_of p step r s ∷ span) o
+knows_beside m k f p q s v step r span None ne shape exclusive may knows = tt
+knows_beside m k f p q s v step r span (Some Idle) ne shape exclusive may knows = tt
+knows_beside m k f p q s v step r span (Some (Calling c l h)) ne shape exclusive may knows = f.others q p c l h s v step r span ne shape exclusive may knows
+knows_beside m k f p q s v step r span (Some (Holding h)) ne shape exclusive may knows = tt
+knows_beside m k f p q s v step r span (Some (Leaked h)) ne shape exclusive may knows = tt
+knows_beside m k f p q s v step r span (Some (Gone h)) ne shape exclusive may knows = tt
 
 -- the party's own seat is x now, and the others' are as they were
 at_seat : {C L : Type 0} (P : ℕ → Option (Seat C L) → Type 0) (seats : List (Seat C L)) (p : ℕ) (x y : Seat C L) → slice_get seats p ≡ Some y
@@ -124,15 +126,16 @@ at_seat P seats p x y there here away q =
     (cases_eq p q)
 
 -- after a step of a call
-good_stepped : {W V C L A : Type 0} (m : Machine W V C L A) (k : Keeping V C L) (f : Facts m k) (seen : Seen W V C L) (p : ℕ) (x y : Seat C L) (step : Option Change) (w : W) (v wr : Option V)
+good_stepped : {W V C L A : Type 0} (m : Machine W V C L A) (k : Keeping V C L) (f : Facts m k) (seen : Seen W V C L) (p : ℕ) (x y : Seat C L) (step : Option Change) (r : Bool) (w : W) (v wr : Option V)
     → Good m k seen → slice_get seen.state.seats p ≡ Some y → IsOpenStep seen.plain p step
     → m.numbers w ≡ encoded m.coding (apply_some seen.plain step) → k.Shape (apply_some seen.plain step) v → v ≡ wr
-    → StandsFor (apply_some seen.plain step) p (mark_of p step seen.plain ∷ seen.span p) (Some x)
-    → KnowsAt k (apply_some seen.plain step) p (mark_of p step seen.plain ∷ seen.span p) (Some x)
-    → Good m k (record { state = record { words = w; value = v; seats = slice_set seen.state.seats p x }; plain = apply_some seen.plain step; span = λ q. mark_of p step seen.plain ∷ seen.span q; written = wr })
-good_stepped {C = C} {L = L} m k f seen p x y step w v wr good there may encodes shape written stands knows =
+    → StandsFor (apply_some seen.plain step) p (mark_of p step r seen.plain ∷ seen.span p) (Some x)
+    → KnowsAt k (apply_some seen.plain step) p (mark_of p step r seen.plain ∷ seen.span p) (Some x)
+    → (r ≡ true → step ≡ None → failures p (seen.span p) < changes m.coding p (seen.span p))
+    → Good m k (record { state = record { words = w; value = v; seats = slice_set seen.state.seats p x }; plain = apply_some seen.plain step; span = λ q. mark_of p step r seen.plain ∷ seen.span q; written = wr })
+good_stepped {C = C} {L = L} m k f seen p x y step r w v wr good there may encodes shape written stands knows fails =
     let plain = apply_some seen.plain step in
-    let span : ℕ → List Mark = λ q. mark_of p step seen.plain ∷ seen.span q in
+    let span : ℕ → List Mark = λ q. mark_of p step r seen.plain ∷ seen.span q in
     let Stands : ℕ → Option (Seat C L) → Type 0 = λ q o. StandsFor plain q (span q) o in
     let Knows : ℕ → Option (Seat C L) → Type 0 = λ q o. KnowsAt k plain q (span q) o in
     record {
@@ -140,8 +143,12 @@ good_stepped {C = C} {L = L} m k f seen p x y step w v wr good there may encodes
       shape = shape;
       exclusive = exclusive-kept seen.plain p step good.exclusive may;
       written = written;
-      places = at_seat Stands seen.state.seats p x y there stands (λ q ne. stands_beside seen.plain p q step (seen.span q) (slice_get seen.state.seats q) ne may (good.places q));
-      knows = at_seat Knows seen.state.seats p x y there knows (λ q ne. knows_beside m k f p q seen.plain seen.state.value step (seen.span q) (slice_get seen.state.seats q) ne good.shape good.exclusive may (good.knows q));
+      places = at_seat Stands seen.state.seats p x y there stands (λ q ne. stands_beside seen.plain p q step r (seen.span q) (slice_get seen.state.seats q) ne may (good.places q));
+      knows = at_seat Knows seen.state.seats p x y there knows (λ q ne. knows_beside m k f p q seen.plain seen.state.value step r (seen.span q) (slice_get seen.state.seats q) ne good.shape good.exclusive may (good.knows q));
+      retries = λ q. ⊎_elim
+          (λ (e : p ≡ q). subst (λ o. failures o (span o) ≤ changes m.coding o (span o)) e (retries-mine m.coding p step r seen.plain (seen.span p) (good.retries p) fails))
+          (λ (ne : p ≡ q → ⊥). retries-other m.coding q p step r seen.plain (seen.span q) ne (good.retries q))
+          (cases_eq p q);
     }
 
 -- after a party has taken another seat, without a step
@@ -149,8 +156,9 @@ good_seated : {W V C L A : Type 0} (m : Machine W V C L A) (k : Keeping V C L) (
     → Good m k seen → slice_get seen.state.seats p ≡ Some y → ((q : ℕ) → (p ≡ q → ⊥) → span q ≡ seen.span q)
     → StandsFor seen.plain p (span p) (Some x)
     → KnowsAt k seen.plain p (span p) (Some x)
+    → failures p (span p) ≤ changes m.coding p (span p)
     → Good m k (record { state = seated seen.state p x; plain = seen.plain; span = span; written = seen.written })
-good_seated {C = C} {L = L} m k seen p x y span good there same stands knows =
+good_seated {C = C} {L = L} m k seen p x y span good there same stands knows retries =
     let Stands : ℕ → Option (Seat C L) → Type 0 = λ q o. StandsFor seen.plain q (span q) o in
     let Knows : ℕ → Option (Seat C L) → Type 0 = λ q o. KnowsAt k seen.plain q (span q) o in
     record {
@@ -160,39 +168,44 @@ good_seated {C = C} {L = L} m k seen p x y span good there same stands knows =
       written = good.written;
       places = at_seat Stands seen.state.seats p x y there stands (λ q ne. subst (λ ms. StandsFor seen.plain q ms (slice_get seen.state.seats q)) (sym (same q ne)) (good.places q));
       knows = at_seat Knows seen.state.seats p x y there knows (λ q ne. subst (λ ms. KnowsAt k seen.plain q ms (slice_get seen.state.seats q)) (sym (same q ne)) (good.knows q));
+      retries = λ q. ⊎_elim
+          (λ (e : p ≡ q). subst (λ o. failures o (span o) ≤ changes m.coding o (span o)) e retries)
+          (λ (ne : p ≡ q → ⊥). subst (λ ms. failures q ms ≤ changes m.coding q ms) (sym (same q ne)) (good.retries q))
+          (cases_eq p q);
     }
 
 -- a step of a call, or a weak exchange's refusal
-pub went_on : {W V C L A : Type 0} (m : Machine W V C L A) (k : Keeping V C L) (f : Facts m k) (seen : Seen W V C L) (p : ℕ) (move : Move C V) (c : C) (l : L) (h : Option Hold) (step : Option Change) (value : Option V) (w : W) (v : Option V) (next : Next L A)
+pub went_on : {W V C L A : Type 0} (m : Machine W V C L A) (k : Keeping V C L) (f : Facts m k) (seen : Seen W V C L) (p : ℕ) (move : Move C V) (c : C) (l : L) (h : Option Hold) (step : Option Change) (r : Bool) (value : Option V) (w : W) (v : Option V) (next : Next L A)
     → Good m k seen → slice_get seen.state.seats p ≡ Some (Calling c l h) → IsOpenStep seen.plain p step
     → m.numbers w ≡ encoded m.coding (apply_some seen.plain step) → k.Shape (apply_some seen.plain step) v → v ≡ if_completed seen.written value step
-    → NextIs m k move p c h (apply_some seen.plain step) (mark_of p step seen.plain ∷ seen.span p) next
+    → NextIs m k move p c h (apply_some seen.plain step) (mark_of p step r seen.plain ∷ seen.span p) next
+    → (r ≡ true → step ≡ None → failures p (seen.span p) < changes m.coding p (seen.span p))
     → is_open_move m seen.state move (Some (Calling c l h)) ≡ true
-    → Kept m k (scene_of seen p move (Some (Calling c l h)) (goes_on (record seen.state { words = w; value = v }) p c h next) step value)
-went_on m k f seen p move c l h step value w v (GoesOn l') good there may encodes shape written next is_open =
-    let stands = stands_stepped seen.plain p step (seen.span p) (entries_held p h) may (subst (λ o. StandsFor seen.plain p (seen.span p) o) there (good.places p)) in
-    let after = good_stepped m k f seen p (Calling c l' h) (Calling c l h) step w v (if_completed seen.written value step) good there may encodes shape written stands next.knows in
+    → Kept m k (scene_of seen p move (Some (Calling c l h)) (goes_on (record seen.state { words = w; value = v }) p c h next) step r value)
+went_on m k f seen p move c l h step r value w v (GoesOn l') good there may encodes shape written next fails is_open =
+    let stands = stands_stepped seen.plain p step r (seen.span p) (entries_held p h) may (subst (λ o. StandsFor seen.plain p (seen.span p) o) there (good.places p)) in
+    let after = good_stepped m k f seen p (Calling c l' h) (Calling c l h) step r w v (if_completed seen.written value step) good there may encodes shape written stands next.knows fails in
     record {
       keeps = keeps_from m k f _ after may (λ r e. absurd (cc (e))) tt (λ e. cc (e)) is_open next.own_so_far;
       right = tt;
-      in_time = next.in_time;
+      in_time = record { in_time = next.in_time; retries = after.retries };
       good = after;
     }
-went_on {C = C} {L = L} m k f seen p move c l h step value w v (Answers a rest) good there may encodes shape written next is_open =
+went_on {C = C} {L = L} m k f seen p move c l h step r value w v (Answers a rest) good there may encodes shape written next fails is_open =
     let plain = apply_some seen.plain step in
-    let span = mark_of p step seen.plain ∷ seen.span p in
-    let after = good_stepped m k f seen p (resting rest) (Calling c l h) step w v (if_completed seen.written value step) good there may encodes shape written
-    (stands_resting C L plain p span rest next.stands) (knows_resting k plain p span rest) in
+    let span = mark_of p step r seen.plain ∷ seen.span p in
+    let after = good_stepped m k f seen p (resting rest) (Calling c l h) step r w v (if_completed seen.written value step) good there may encodes shape written
+    (stands_resting C L plain p span rest next.stands) (knows_resting k plain p span rest) fails in
     record {
       keeps = keeps_from m k f _ after may (λ r e. absurd (cc (e))) tt (λ e. cc (e)) is_open next.own_steps_are;
       right = next.right;
-      in_time = next.in_time;
+      in_time = record { in_time = next.in_time; retries = after.retries };
       good = after;
     }
 
 pub begun_kept : {W V C L A : Type 0} (m : Machine W V C L A) (k : Keeping V C L) (f : Facts m k) (seen : Seen W V C L) (p : ℕ) (c : C) (h : Option Hold) (y : Seat C L) (o : Option L)
     → Good m k seen → slice_get seen.state.seats p ≡ Some y → entries p seen.plain ≡ entries_held p h → m.begin c h ≡ o → is_open_move m seen.state (Begin c) (Some y) ≡ is_some (m.begin c h)
-    → Kept m k (scene_of seen p (Begin c) (Some y) (begun seen.state p c h o) None None)
+    → Kept m k (scene_of seen p (Begin c) (Some y) (begun seen.state p c h o) None false None)
 begun_kept m k f seen p c h y None good there stands is_begin is_open = passed_kept m k f seen p (Begin c) (Some y) good (is_open ∙ ap is_some is_begin)
 begun_kept m k f seen p c h y (Some l) good there stands is_begin is_open =
     let span : ℕ → List Mark = λ q. if p == q then [] else seen.span q in
@@ -200,11 +213,12 @@ begun_kept m k f seen p c h y (Some l) good there stands is_begin is_open =
     let after = good_seated m k seen p (Calling c l h) y span good there
     (λ q ne. ap (λ b. if b then [] else seen.span q) (ne_eqb p q ne))
     (subst (λ ms. entries p seen.plain ≡ entries_so_far p ms (entries_held p h)) fresh stands)
-    (subst (λ ms. k.Knows c l h p seen.plain ms) fresh (f.begins p c l h seen.plain is_begin stands)) in
+    (subst (λ ms. k.Knows c l h p seen.plain ms) fresh (f.begins p c l h seen.plain is_begin stands))
+    (subst (λ ms. failures p ms ≤ changes m.coding p ms) fresh (omega arith)) in
     record {
       keeps = keeps_from m k f _ after tt (λ r e. absurd (cc (e))) tt (λ e. cc (e)) (is_open ∙ ap is_some is_begin) tt;
       right = tt;
-      in_time = tt;
+      in_time = record { in_time = tt; retries = after.retries };
       good = after;
     }
 
@@ -224,23 +238,23 @@ writer_of p hold.Starver e = absurd cc
 
 pub read_kept : {W V C L A : Type 0} (m : Machine W V C L A) (k : Keeping V C L) (f : Facts m k) (seen : Seen W V C L) (p : ℕ) (h : Hold) (y : Seat C L) (b : Bool)
     → Good m k seen → entries p seen.plain ≡ entries_of p h → may_read h ≡ b → is_open_move m seen.state Read (Some y) ≡ may_read h
-    → Kept m k (scene_of seen p Read (Some y) (read_by seen.state b) None None)
+    → Kept m k (scene_of seen p Read (Some y) (read_by seen.state b) None false None)
 read_kept m k f seen p h y false good stands may is_open = passed_kept m k f seen p Read (Some y) good (is_open ∙ may)
 read_kept m k f seen p h y true good stands may is_open =
     record {
       keeps = keeps_from m k f _ good tt (λ r e. cc (e, good.written)) (ap is_reader stands ∙ reader_of p h may) (λ e. cc (e)) (is_open ∙ may) tt;
       right = tt;
-      in_time = tt;
+      in_time = record { in_time = tt; retries = good.retries };
       good = good;
     }
 
 good_written : {W V C L A : Type 0} (m : Machine W V C L A) (k : Keeping V C L) (seen : Seen W V C L) (v : V) → Good m k seen → k.Shape seen.plain (Some v)
     → Good m k (record seen { state = record { words = seen.state.words; value = Some v; seats = seen.state.seats }; written = Some v })
-good_written m k seen v good shape = record { encodes = good.encodes; shape = shape; exclusive = good.exclusive; written = refl; places = good.places; knows = good.knows }
+good_written m k seen v good shape = record { encodes = good.encodes; shape = shape; exclusive = good.exclusive; written = refl; places = good.places; knows = good.knows; retries = good.retries }
 
 pub write_kept : {W V C L A : Type 0} (m : Machine W V C L A) (k : Keeping V C L) (f : Facts m k) (seen : Seen W V C L) (p : ℕ) (v : V) (h : Hold) (y : Seat C L) (b : Bool)
     → Good m k seen → entries p seen.plain ≡ entries_of p h → may_write h ≡ b → is_open_move m seen.state (Write v) (Some y) ≡ may_write h
-    → Kept m k (scene_of seen p (Write v) (Some y) (written_by seen.state v b) None None)
+    → Kept m k (scene_of seen p (Write v) (Some y) (written_by seen.state v b) None false None)
 write_kept m k f seen p v h y false good stands may is_open = passed_kept m k f seen p (Write v) (Some y) good (is_open ∙ may)
 write_kept m k f seen p v h y true good stands may is_open =
     let writes = ap is_writer stands ∙ writer_of p h may in
@@ -248,18 +262,18 @@ write_kept m k f seen p v h y true good stands may is_open =
     record {
       keeps = keeps_from m k f _ after tt (λ r e. absurd (cc (e))) writes (λ e. cc (e)) (is_open ∙ may) tt;
       right = tt;
-      in_time = tt;
+      in_time = record { in_time = tt; retries = after.retries };
       good = after;
     }
 
 pub leak_kept : {W V C L A : Type 0} (m : Machine W V C L A) (k : Keeping V C L) (f : Facts m k) (seen : Seen W V C L) (p : ℕ) (h : Hold)
     → Good m k seen → slice_get seen.state.seats p ≡ Some (Holding h) → entries p seen.plain ≡ entries_of p h
-    → Kept m k (scene_of seen p Leak (Some (Holding h)) (record { outcome = outcome.Leaked; next = seated seen.state p (Leaked h) }) None None)
+    → Kept m k (scene_of seen p Leak (Some (Holding h)) (record { outcome = outcome.Leaked; next = seated seen.state p (Leaked h) }) None false None)
 leak_kept m k f seen p h good there stands =
-    let after = good_seated m k seen p (Leaked h) (Holding h) seen.span good there (λ q ne. refl) stands tt in
+    let after = good_seated m k seen p (Leaked h) (Holding h) seen.span good there (λ q ne. refl) stands tt (good.retries p) in
     record {
       keeps = keeps_from m k f _ after tt (λ r e. absurd (cc (e))) tt (λ e. cc (e)) refl tt;
       right = tt;
-      in_time = tt;
+      in_time = record { in_time = tt; retries = after.retries };
       good = after;
     }

@@ -54,6 +54,7 @@ good_let_go m k seen v wr good shape written =
       written = written;
       places = λ q. rw (slice_get-map seen_by_owner seen.state.seats q) (stands_let_go seen.plain q (seen.span q) (slice_get seen.state.seats q) (good.places q));
       knows = λ q. rw (slice_get-map seen_by_owner seen.state.seats q) (knows_let_go k seen.plain q (seen.span q) (slice_get seen.state.seats q) (good.knows q));
+      retries = good.retries;
     }
 
 owners : {W V C L A : Type 0} (m : Machine W V C L A) (k : Keeping V C L) (seen : Seen W V C L) → Good m k seen → is_owners m seen.state ≡ true → IsOwners seen
@@ -62,25 +63,25 @@ owners m k seen good may = λ q.
     (λ x e. all-get is_away seen.state.seats q x (and_parts m.owned (list_all is_away seen.state.seats) may).1 e)
 
 pub owner_get_kept : {W V C L A : Type 0} (m : Machine W V C L A) (k : Keeping V C L) (f : Facts m k) (seen : Seen W V C L) (p : ℕ) (y : Seat C L) (b : Bool)
-    → Good m k seen → is_owners m seen.state ≡ b → Kept m k (scene_of seen p OwnerGet (Some y) (owner_gets seen.state b) None None)
+    → Good m k seen → is_owners m seen.state ≡ b → Kept m k (scene_of seen p OwnerGet (Some y) (owner_gets seen.state b) None false None)
 owner_get_kept m k f seen p y false good may = passed_kept m k f seen p OwnerGet (Some y) good may
 owner_get_kept m k f seen p y true good may =
     let after = good_let_go m k seen seen.state.value seen.written good good.shape good.written in
     record {
       keeps = keeps_from m k f _ after tt (λ r e. cc (e, good.written)) (owners m k seen good may) (λ e. cc (e)) may tt;
       right = tt;
-      in_time = tt;
+      in_time = record { in_time = tt; retries = after.retries };
       good = after;
     }
 
 owner_writes_kept : {W V C L A : Type 0} (m : Machine W V C L A) (k : Keeping V C L) (f : Facts m k) (seen : Seen W V C L) (p : ℕ) (v : V) (y : Seat C L) (o : Option V)
-    → Good m k seen → is_owners m seen.state ≡ true → seen.state.value ≡ o → Kept m k (scene_of seen p (OwnerSet v) (Some y) (owner_writes seen.state v o) None None)
+    → Good m k seen → is_owners m seen.state ≡ true → seen.state.value ≡ o → Kept m k (scene_of seen p (OwnerSet v) (Some y) (owner_writes seen.state v o) None false None)
 owner_writes_kept m k f seen p v y None good may found =
     let after = good_let_go m k seen seen.state.value seen.written good good.shape good.written in
     record {
       keeps = keeps_from m k f _ after tt (λ r e. cc (e, good.written, found)) (owners m k seen good may) (λ e. cc (e)) may tt;
       right = tt;
-      in_time = tt;
+      in_time = record { in_time = tt; retries = after.retries };
       good = after;
     }
 owner_writes_kept m k f seen p v y (Some old) good may found =
@@ -88,11 +89,11 @@ owner_writes_kept m k f seen p v y (Some old) good may found =
     record {
       keeps = keeps_from m k f _ after tt (λ r e. absurd (cc (e))) (owners m k seen good may) (λ e. cc (e)) may tt;
       right = tt;
-      in_time = tt;
+      in_time = record { in_time = tt; retries = after.retries };
       good = after;
     }
 
 pub owner_set_kept : {W V C L A : Type 0} (m : Machine W V C L A) (k : Keeping V C L) (f : Facts m k) (seen : Seen W V C L) (p : ℕ) (v : V) (y : Seat C L) (b : Bool)
-    → Good m k seen → is_owners m seen.state ≡ b → Kept m k (scene_of seen p (OwnerSet v) (Some y) (owner_sets seen.state v b) None None)
+    → Good m k seen → is_owners m seen.state ≡ b → Kept m k (scene_of seen p (OwnerSet v) (Some y) (owner_sets seen.state v b) None false None)
 owner_set_kept m k f seen p v y false good may = passed_kept m k f seen p (OwnerSet v) (Some y) good may
 owner_set_kept m k f seen p v y true good may = owner_writes_kept m k f seen p v y seen.state.value good may refl
