@@ -3,3 +3,4 @@ pub mod MutexGuard
 pub mod Queue
 pub mod SpinGuard
 pub mod TicketGuard
+pub mod TicketQueue

@@ -6,10 +6,12 @@ use spin_core::relax::{RelaxStrategy, Spin};
 use std::marker::PhantomData;
 use std::sync::Wait;
 
+mod laws;
 mod lends;
 pub mod spin;
 pub mod ticket;
 
+pub use laws::the_words_of_a_ticket_mutex_are_its_queue;
 pub use spin::{SpinMutex, SpinMutexGuard};
 pub use ticket::{TicketMutex, TicketMutexGuard};
 
