@@ -1,0 +1,5 @@
+pub mod Names
+pub mod Numbers
+pub mod Rows
+pub mod Commands
+pub mod Faults

@@ -1,0 +1,168 @@
+//! What is done over and over: the calls of a lock, or the moves of a world.
+ghost use Rattle.std.specs.Prelude.{◌≡◌, ℕ};
+
+use spin_mutex::mutex::{Mutex, SpinMutex, TicketMutex};
+use std::alloc::AllocError;
+use std::hint::spin_loop;
+use std::sync;
+use std::sync::Wait;
+use std::sync::atomic::{AtomicU64, Ordering};
+
+mod world;
+
+pub use world::{Play, Plays};
+
+/// Something that can be done over and over, also by threads beside one another.
+pub trait Case: Drop {
+    /// How many calls or events it is to do it once.
+    ghost weight: { Self → ℕ };
+
+    /// Does it so many times. This is what is measured: a loop that stands alone, with nothing in it but the calls.
+    fn repeat<W: Wait>(&self, rt: &W, times: u64) -> Result<(), AllocError>;
+
+    /// How many calls or events it is to do it once.
+    fn weight(&self) -> u64
+        ensures { result ≡ weight self.now };
+
+    /// What is left at the end, as a number that tells whether all of it was done.
+    fn checksum(self) -> Result<u64, AllocError>;
+}
+
+/// The two steps that no lock goes without: an exchange of 0 for 1, and a store of 0.
+#[derive(Drop)]
+pub struct Floor {
+    word: AtomicU64,
+}
+
+impl Floor {
+    pub fn new() -> Floor {
+        Floor {
+            word: AtomicU64::new(0),
+        }
+    }
+
+    fn take(&self) -> bool {
+        self.word
+            .compare_exchange(0, 1, Ordering::SeqCst, Ordering::SeqCst)
+            .is_ok()
+    }
+
+    #[inline(never)]
+    fn wait<W: Wait>(&self, rt: &W) {
+        for _ in rt.forever() {
+            if self.word.load(Ordering::SeqCst) != 0 {
+                spin_loop();
+            } else if self.take() {
+                return;
+            }
+        }
+    }
+}
+
+impl Case for Floor {
+    ghost weight = { λ _. 1 };
+
+    #[inline(never)]
+    fn repeat<W: Wait>(&self, rt: &W, times: u64) -> Result<(), AllocError> {
+        for _ in 0..times {
+            if !self.take() {
+                self.wait(rt);
+            }
+            self.word.store(0, Ordering::SeqCst);
+        }
+        Ok(())
+    }
+
+    fn weight(&self) -> u64 {
+        1
+    }
+
+    fn checksum(self) -> Result<u64, AllocError> {
+        let Floor { word } = self;
+        Ok(word.into_inner())
+    }
+}
+
+impl Case for SpinMutex<u64> {
+    ghost weight = { λ _. 1 };
+
+    #[inline(never)]
+    fn repeat<W: Wait>(&self, rt: &W, times: u64) -> Result<(), AllocError> {
+        for _ in 0..times {
+            let mut sum = self.lock(rt);
+            *sum = sum.wrapping_add(1);
+        }
+        Ok(())
+    }
+
+    fn weight(&self) -> u64 {
+        1
+    }
+
+    fn checksum(self) -> Result<u64, AllocError> {
+        Ok(self.into_inner())
+    }
+}
+
+impl Case for Mutex<u64> {
+    ghost weight = { λ _. 1 };
+
+    #[inline(never)]
+    fn repeat<W: Wait>(&self, rt: &W, times: u64) -> Result<(), AllocError> {
+        for _ in 0..times {
+            let mut sum = self.lock(rt);
+            *sum = sum.wrapping_add(1);
+        }
+        Ok(())
+    }
+
+    fn weight(&self) -> u64 {
+        1
+    }
+
+    fn checksum(self) -> Result<u64, AllocError> {
+        Ok(self.into_inner())
+    }
+}
+
+impl Case for TicketMutex<u64> {
+    ghost weight = { λ _. 1 };
+
+    #[inline(never)]
+    fn repeat<W: Wait>(&self, rt: &W, times: u64) -> Result<(), AllocError> {
+        for _ in 0..times {
+            let mut sum = self.lock(rt);
+            *sum = sum.wrapping_add(1);
+        }
+        Ok(())
+    }
+
+    fn weight(&self) -> u64 {
+        1
+    }
+
+    fn checksum(self) -> Result<u64, AllocError> {
+        Ok(self.into_inner())
+    }
+}
+
+impl Case for sync::Mutex<u64> {
+    ghost weight = { λ _. 1 };
+
+    #[inline(never)]
+    fn repeat<W: Wait>(&self, rt: &W, times: u64) -> Result<(), AllocError> {
+        for _ in 0..times {
+            let mut sum = self.lock(rt);
+            *sum = sum.wrapping_add(1);
+        }
+        Ok(())
+    }
+
+    fn weight(&self) -> u64 {
+        1
+    }
+
+    fn checksum(self) -> Result<u64, AllocError> {
+        Ok(self.into_inner())
+    }
+}

@@ -1,0 +1,80 @@
+//! The names of the cases.
+ghost use Rattle.std.specs.Prelude.{◌≡◌, ◌↔◌, IfSome, IfNone};
+ghost use Rattle.spin_bench.specs.declared.name.Name.{Name};
+ghost use Rattle.spin_bench.specs.Names.{word_of, most_threads_of, unit_of};
+
+use crate::number::Unit;
+
+/// The name of a case.
+#[derive(Clone, Copy, Debug, PartialEq, Eq)]
+pub enum Name {
+    Floor,
+    SpinMutex,
+    Mutex,
+    TicketMutex,
+    StdMutex,
+    World,
+}
+
+/// Every case.
+pub const NAMES: [Name; 6] = [
+    Name::Floor,
+    Name::SpinMutex,
+    Name::Mutex,
+    Name::TicketMutex,
+    Name::StdMutex,
+    Name::World,
+];
+
+impl Name {
+    /// The name as a word.
+    pub fn word(self) -> &'static str
+        ensures { result.now ≡ word_of self }
+    {
+        match self {
+            Name::Floor => "floor",
+            Name::SpinMutex => "spin_mutex",
+            Name::Mutex => "mutex",
+            Name::TicketMutex => "ticket_mutex",
+            Name::StdMutex => "std_mutex",
+            Name::World => "world",
+        }
+    }
+
+    /// The name that a word is.
+    pub fn of(word: &str) -> Option<Name>
+        ensures some { IfSome result (λ name. word.now ≡ word_of name) }
+        ensures none { IfNone result ((name : Name) → ¬ (word.now ≡ word_of name)) }
+    {
+        match word {
+            "floor" => Some(Name::Floor),
+            "spin_mutex" => Some(Name::SpinMutex),
+            "mutex" => Some(Name::Mutex),
+            "ticket_mutex" => Some(Name::TicketMutex),
+            "std_mutex" => Some(Name::StdMutex),
+            "world" => Some(Name::World),
+            _ => None,
+        }
+    }
+
+    /// The most threads that do the case beside one another.
+    pub fn most_threads(self) -> usize
+        ensures { result ≡ most_threads_of self }
+    {
+        match self {
+            Name::World => 1,
+            _ => 64,
+        }
+    }
+
+    /// What is measured of the case in so many threads: how long a call takes, or how many there are in a second.
+    pub fn unit(self, threads: usize) -> Unit
+        ensures { result ≡ unit_of self threads }
+    {
+        match self {
+            Name::World => Unit::Millions,
+            _ if threads == 1 => Unit::Nanoseconds,
+            _ => Unit::Millions,
+        }
+    }
+}

@@ -1,0 +1,129 @@
+//! What the program does and writes.
+use crate::case::{Case, Floor, Plays};
+use crate::command::Command;
+use crate::fault::Fault;
+use crate::measure::measure;
+use crate::name::{NAMES, Name};
+use crate::row::{Checksum, Row};
+use crate::size::SIZES;
+use crate::team::{Until, run};
+use spin_mutex::mutex::{Mutex, SpinMutex, TicketMutex};
+use spin_world::Flag;
+use std::alloc::Global;
+use std::env::Env;
+use std::sync::Wait;
+use std::thread::Threads;
+use std::time::Clock;
+use std::{env, io, sync};
+
+/// How many times smoke does each case, in each thread.
+const SMOKE_TIMES: u64 = 1000;
+
+/// How many turns the schedule of a measured world has, and that of one that is done for a try.
+const LONG: usize = 10_000;
+
+const SHORT: usize = 4;
+
+/// What is done with a case.
+#[derive(Clone, Copy)]
+enum Task {
+    Measure,
+    Smoke,
+}
+
+/// Does the task, and writes its row.
+fn on_case<C: Case + Sync, R: Threads + Wait + Clock + Print + Sync>(
+    rt: &R,
+    alloc: Global,
+    task: Task,
+    name: Name,
+    case: C,
+    threads: usize,
+) -> Result<(), Fault> {
+    match task {
+        Task::Measure => {
+            let measured = measure(rt, alloc, &case, threads, name.unit(threads))?;
+            let row = Row {
+                name,
+                threads,
+                measured,
+            };
+            println!(rt; "{row}")?;
+        }
+        Task::Smoke => {
+            run(rt, alloc, &case, threads, Until::Times(SMOKE_TIMES))?;
+            let sum = case.checksum()?;
+            let row = Checksum { name, threads, sum };
+            println!(rt; "{row}")?;
+        }
+    }
+    Ok(())
+}
+
+/// Does the task on the case of that name.
+fn on_name<R: Threads + Wait + Clock + Print + Sync>(
+    rt: &R,
+    alloc: Global,
+    task: Task,
+    name: Name,
+    threads: usize,
+) -> Result<(), Fault> {
+    match name {
+        Name::Floor => on_case(rt, alloc, task, name, Floor::new(), threads),
+        Name::SpinMutex => on_case(rt, alloc, task, name, SpinMutex::new(0u64), threads),
+        Name::Mutex => on_case(rt, alloc, task, name, Mutex::new(0u64), threads),
+        Name::TicketMutex => on_case(rt, alloc, task, name, TicketMutex::new(0u64), threads),
+        Name::StdMutex => on_case(rt, alloc, task, name, sync::Mutex::new(0u64), threads),
+        Name::World => {
+            let turns = match task {
+                Task::Measure => LONG,
+                Task::Smoke => SHORT,
+            };
+            let plays: Plays<Flag<u64>> = Plays::new(alloc, turns)?;
+            on_case(rt, alloc, task, name, plays, threads)
+        }
+    }
+}
+
+fn smoke<R: Threads + Wait + Clock + Print + Sync>(rt: &R, alloc: Global) -> Result<(), Fault> {
+    for name in NAMES {
+        on_name(rt, alloc, Task::Smoke, name, 1)?;
+        if name.most_threads() > 1 {
+            on_name(rt, alloc, Task::Smoke, name, 2)?;
+            on_name(rt, alloc, Task::Smoke, name, 4)?;
+        }
+    }
+    Ok(())
+}
+
+fn sizes<R: Print>(rt: &R) -> Result<(), Fault> {
+    for (name, bytes) in SIZES {
+        println!(rt; "{name} {bytes}")?;
+    }
+    Ok(())
+}
+
+/// The command that the arguments behind the program's name are.
+fn asked<R: Env + AllocGlobal>(rt: &R) -> Result<Command, Fault> {
+    let words = match env::args(rt) {
+        Ok(all) => all.skip(1).collect::<Vec<String>>(rt.alloc())?,
+        Err(e) if e.kind() == io::ErrorKind::OutOfMemory => return Err(Fault::Memory),
+        Err(_) => return Err(Fault::Usage),
+    };
+    let words = words
+        .iter()
+        .map(|word| word.as_str())
+        .collect::<Vec<&str>>(rt.alloc())?;
+    Command::of(words.as_slice()).ok_or(Fault::Usage)
+}
+
+/// Does what the arguments ask for.
+pub fn answer<R: Threads + Wait + Clock + Print + Env + AllocGlobal + Sync>(
+    rt: &R,
+) -> Result<(), Fault> {
+    match asked(rt)? {
+        Command::Measure(name, threads) => on_name(rt, rt.alloc(), Task::Measure, name, threads),
+        Command::Sizes => sizes(rt),
+        Command::Smoke => smoke(rt, rt.alloc()),
+    }
+}
