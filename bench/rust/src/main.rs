@@ -1,0 +1,58 @@
+//! Measures the locks of the Rust crate `spin`, in the way in which `spin_bench` measures ours.
+mod cases;
+mod measure;
+mod sizes;
+
+use std::process::ExitCode;
+
+use cases::Name;
+
+const USAGE: &str = "usage: spin_bench_rust CASE THREADS | sizes | smoke
+CASE: floor, spin_mutex, mutex, ticket_mutex or std_mutex; THREADS: 1 to 64";
+
+enum Command {
+    Measure { case: Name, threads: u64 },
+    Sizes,
+    Smoke,
+}
+
+fn parse(words: &[&str]) -> Option<Command> {
+    match words {
+        ["smoke"] => Some(Command::Smoke),
+        ["sizes"] => Some(Command::Sizes),
+        [case, threads] => {
+            let case = Name::parse(case)?;
+            let threads = threads.parse().ok()?;
+            (1..=64)
+                .contains(&threads)
+                .then_some(Command::Measure { case, threads })
+        }
+        _ => None,
+    }
+}
+
+fn smoke() {
+    for case in Name::ALL {
+        for threads in [1, 2, 4] {
+            let total = case.count(threads, 1000);
+            println!("{}.{threads} {total}", case.text());
+        }
+    }
+}
+
+fn main() -> ExitCode {
+    let words: Vec<String> = std::env::args().skip(1).collect();
+    let words: Vec<&str> = words.iter().map(String::as_str).collect();
+    match parse(&words) {
+        Some(Command::Measure { case, threads }) => {
+            println!("{}.{threads} {}", case.text(), case.measure(threads));
+        }
+        Some(Command::Sizes) => sizes::print(),
+        Some(Command::Smoke) => smoke(),
+        None => {
+            eprintln!("{USAGE}");
+            return ExitCode::from(2);
+        }
+    }
+    ExitCode::SUCCESS
+}
