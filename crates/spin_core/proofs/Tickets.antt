@@ -49,9 +49,10 @@ length-entered (t ∷ ts) = refl
 numbered-taken : (s : Plain) (p : ℕ) (b : Bool) → Numbered s → Numbered (record s { tickets = s.tickets ++ ticket p s.next b ∷ []; next = s.next + 1 })
 numbered-taken s p b numbered =
     let more = length-append s.tickets (ticket p s.next b ∷ []) in
-    let same : serving_word s ≡ (s.next + 1) - length (s.tickets ++ ticket p s.next b ∷ []) = omega (arith, more, numbered.0) in
-    (omega (arith, more, numbered.0),
-     subst (λ k. numbered_from k (s.tickets ++ ticket p s.next b ∷ [])) same (numbered-more (serving_word s) s.tickets p s.next b numbered.1 (omega (arith, numbered.0))))
+    let same : serving_word s ≡ (s.next + 1) - length (s.tickets ++ ticket p s.next b ∷ []) = omega (arith, more, numbered.0) in (
+      omega (arith, more, numbered.0),
+      subst (λ k. numbered_from k (s.tickets ++ ticket p s.next b ∷ [])) same (numbered-more (serving_word s) s.tickets p s.next b numbered.1 (omega (arith, numbered.0))),
+    )
 
 -- what is served stays where a ticket is taken
 pub serving-taken : (s : Plain) (p : ℕ) (b : Bool) → Numbered s → (s.next + 1) - length (s.tickets ++ ticket p s.next b ∷ []) ≡ serving_word s
@@ -77,9 +78,10 @@ numbered-gets s p to_read_upgradable numbered = numbered
 numbered-gets s p to_write numbered = numbered
 numbered-gets s p to_upgrade numbered = numbered
 numbered-gets s p to_take_ticket numbered = numbered-taken s p false numbered
-numbered-gets s p to_enter numbered =
-    (omega (arith, length-entered s.tickets, numbered.0),
-     subst (λ k. numbered_from k (with_first_entered s.tickets)) (sym (serving-entered s)) (numbered-entered (serving_word s) s.tickets numbered.1))
+numbered-gets s p to_enter numbered = (
+  omega (arith, length-entered s.tickets, numbered.0),
+  subst (λ k. numbered_from k (with_first_entered s.tickets)) (sym (serving-entered s)) (numbered-entered (serving_word s) s.tickets numbered.1),
+)
 numbered-gets s p to_take_and_enter numbered = numbered-taken s p true numbered
 numbered-gets s p to_lock_unregistered numbered = numbered
 numbered-gets s p to_lock_starving numbered = numbered

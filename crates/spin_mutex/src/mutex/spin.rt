@@ -160,7 +160,10 @@ impl<T, R: RelaxStrategy> SpinMutex<T, R> {
         }
     }
 
-    // Looks before each further attempt, so that waiters read a shared line and do not write it.
+    // Looks before each further attempt, so that waiters read a shared line and do not write it. It stands apart: inlined,
+    // it would lengthen the path of every caller that does not wait.
+    #[cold]
+    #[inline(never)]
     fn wait<W: Wait>(&self, rt: &W) -> SpinMutexGuard<'_, T, R>
         ensures { holds result }
     {

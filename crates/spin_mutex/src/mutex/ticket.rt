@@ -239,6 +239,8 @@ impl<T, R: RelaxStrategy> TicketMutex<T, R> {
     }
 
     // Takes a ticket, where another party took the one that was expected.
+    #[cold]
+    #[inline(never)]
     fn queue_later<'a, W: Wait>(&'a self, rt: &W, found: u64) -> Place<'a, T> {
         let mut next = found;
         for _ in rt.forever() {
@@ -256,6 +258,8 @@ impl<T, R: RelaxStrategy> TicketMutex<T, R> {
     }
 
     // Waits until the place's number is served.
+    #[cold]
+    #[inline(never)]
     fn wait<'a, W: Wait>(rt: &W, place: Place<'a, T>) -> TicketMutexGuard<'a, T, R>
         ensures { holds result }
     {
