@@ -11,19 +11,21 @@ use Rattle.spin_world.specs.declared.place.Hold.{Hold}
 use Rattle.spin_world.specs.declared.place.Hold.TheVariants.{Read, Upgradable, Write, Ticket, Starver}
 use Rattle.spin_world.specs.declared.object.Next.{Next}
 use Rattle.spin_world.specs.declared.object.Next.TheVariants.{GoesOn, Answers}
+use Rattle.spin_world.specs.declared.schedule.Move.{Move}
 use Rattle.spin_world.specs.declared.schedule.Move.TheVariants.{Step, Weak}
+use Rattle.spin_world.specs.declared.schedule.Outcome.TheVariants as outcome
 use Rattle.spin_world.specs.declared.flag.FlagCall.{FlagCall}
 use Rattle.spin_world.specs.declared.flag.FlagCall.TheVariants.{Lock, TryLock, TryLockWeak, IsLocked, Release}
 use Rattle.spin_world.specs.declared.flag.FlagPoint.{FlagPoint}
 use Rattle.spin_world.specs.declared.flag.FlagPoint.TheVariants.{First, Second}
 use Rattle.spin_world.specs.declared.answer.Answer.{Answer}
-use Rattle.spin_world.specs.declared.answer.Answer.TheVariants.{Refused}
-use Rattle.spin_world.specs.Calls.{Mark, AnyOf, gives_back, granted, done, own_steps}
-use Rattle.spin_world.specs.Runs.{mark_of, own, own_count, entries_of, entries_held}
-use Rattle.spin_world.specs.Flag.{flag_machine, begins_at, looked, refusal_of, can_step, step_of, taken, change_of}
-use Rattle.spin_world.specs.Laws.Facts.{Keeping, InCall, Goes, NextIs, StepIs, Facts}
+use Rattle.spin_world.specs.declared.answer.Answer.TheVariants.{Granted, Refused, Is}
+use Rattle.spin_world.specs.Calls.{Mark, AnyOf, flag, gives_back, granted, done, own_steps, says_of, limit}
+use Rattle.spin_world.specs.Runs.{mark_of, own, own_count, entries_of, entries_held, RightAnswer, EndsWithin}
+use Rattle.spin_world.specs.Flag.{flag_machine, asks_of, begins_at, exchanged, looked, refusal_of, can_step, step_of, taken, change_of}
+use Rattle.spin_world.specs.Laws.Facts.{Keeping, InCall, Goes, Ends, NextIs, StepIs, Facts}
 use Rattle.spin_world.specs.Laws.Lists.{eqb_self}
-use Rattle.spin_world.specs.Laws.Spans.{own-mine, own-other, own_count-mine, own_count-other, entries-unstepped}
+use Rattle.spin_world.specs.Laws.Spans.{idle, made, counted, own-mine, own-other, own_count-mine, own_count-other, entries-unstepped}
 
 -- what a party holds as its call begins
 abbrev pub needs : FlagCall → Option Hold
@@ -90,18 +92,8 @@ here v p c l h s value w span at =
       knows = at.knows;
     }
 
--- the party has made one step of its own, and it is this one
-one_step : (p : ℕ) (c : Change) (s : Plain) (span : List Mark) → own p span ≡ [] → own p (mark_of p (Some c) false s ∷ span) ≡ c ∷ []
-one_step p c s span none = own-mine p (Some c) false s span ∙ ap (λ cs. cs ++ c ∷ []) none
-
-no_step : (p : ℕ) (s : Plain) (span : List Mark) → own p span ≡ [] → own p (mark_of p None false s ∷ span) ≡ []
-no_step p s span none = own-mine p None false s span ∙ ap (λ cs. cs ++ []) none
-
 still : (l m : FlagPoint) (h : Option Hold) (p : ℕ) (s : Plain) (span : List Mark) → FlagKnows Lock l h p s span → FlagKnows Lock m h p s (mark_of p None false s ∷ span)
-still l m h p s span knows = record { unstepped = no_step p s span knows.unstepped; holds = knows.holds; first = tt }
-
-counted : (p : ℕ) (step : Option Change) (s : Plain) (span : List Mark) → own_count p span ≡ 0 → own_count p (mark_of p step false s ∷ span) ≤ 1
-counted p step s span e = omega (arith, own_count-mine p step false s span, e)
+still l m h p s span knows = record { unstepped = idle p false s span [] knows.unstepped; holds = knows.holds; first = tt }
 
 nothing_held : (c : FlagCall) (l : FlagPoint) (h : Option Hold) (p : ℕ) (s : Plain) (w : Bool) (span : List Mark) → Here c l h p s w span → needs c ≡ None → entries p s ≡ no_entries
 nothing_held c l h p s w span at none = at.mine ∙ ap (entries_held p) (at.knows.holds ∙ none)
@@ -127,7 +119,7 @@ lock_goes : {V : Type 0} (v : V) (l m : FlagPoint) (h : Option Hold) (p : ℕ) (
 lock_goes v l m h p s span knows =
     record {
       knows = still l m h p s span knows;
-      own_so_far = (granted, inl (gets p to_write ∷ [], ap (λ cs. cs ++ gets p to_write ∷ []) (no_step p s span knows.unstepped)));
+      own_so_far = (granted, inl (gets p to_write ∷ [], ap (λ cs. cs ++ gets p to_write ∷ []) (idle p false s span [] knows.unstepped)));
       in_time = tt;
     }
 
@@ -169,115 +161,83 @@ flag_release v p l h s value w span at =
       fails = λ e none. absurd (false≢true e);
       next = record {
         stands = lets_go p s mine;
-        own_steps_are = subst (λ g. AnyOf (λ steps. own p (mark_of p (Some (releases p writing)) false s ∷ span) ≡ steps) (own_steps (gives_back g) done p)) (sym at.knows.holds) (inl (one_step p (releases p writing) s span at.knows.unstepped));
+        own_steps_are = subst (λ g. AnyOf (λ steps. own p (mark_of p (Some (releases p writing)) false s ∷ span) ≡ steps) (own_steps (gives_back g) done p)) (sym at.knows.holds) (inl (made p (releases p writing) false s span [] at.knows.unstepped));
         right = tt;
-        in_time = counted p (Some (releases p writing)) s span at.knows.first;
+        in_time = omega (arith, counted p 0 (Some (releases p writing)) false s span at.knows.first);
       };
     }
 
--- a try answers at its first step
+-- a step that leaves the word as it is
+unchanged : {V : Type 0} (v : V) (p : ℕ) (c : FlagCall) (l : FlagPoint) (h : Option Hold) (s : Plain) (value : Option V) (w : Bool) (span : List Mark) (next : Next FlagPoint Answer) → Here c l h p s w span
+    → NextIs (flag_machine v) (flag_keeping V) Step p c h s (mark_of p None false s ∷ span) next
+    → StepIs (flag_machine v) (flag_keeping V) p c h s value span (record { words = w; placed = None; next = next }) None false
+unchanged v p c l h s value w span next at is =
+    record { opens = tt; encodes = one_number _ _ at.word; shape = at.queue; places = refl; next = is; fails = λ e none. absurd (false≢true e) }
 
-try_steps : {V : Type 0} (v : V) (p : ℕ) (l : FlagPoint) (h : Option Hold) (s : Plain) (value : Option V) (w : Bool) (span : List Mark) → Here TryLock l h p s w span
-    → StepIs (flag_machine v) (flag_keeping V) p TryLock h s value span (step_of w value TryLock l h) (taken p w) false
-try_steps v p l h s value false span at =
+-- the exchange of a call that takes the lock
+
+abbrev takes : FlagCall → Bool
+takes Lock = true
+takes TryLock = true
+takes TryLockWeak = true
+takes _ = false
+
+first_step : (c : FlagCall) (h : Option Hold) (p : ℕ) (step : Option Change) (s : Plain) (span : List Mark) → IsFirstStep c (own_count p span) → EndsWithin (limit flag (asks_of c h)) flag p (mark_of p step false s ∷ span)
+first_step Lock h p step s span first = tt
+first_step TryLock h p step s span first = omega (arith, counted p 0 step false s span first)
+first_step TryLockWeak h p step s span first = omega (arith, counted p 0 step false s span first)
+first_step IsLocked h p step s span first = omega (arith, counted p 0 step false s span first)
+first_step Release h p step s span first = omega (arith, counted p 0 step false s span first)
+
+-- a call that is answered without a plain step
+answered : {V : Type 0} (v : V) (move : Move FlagCall V) (p : ℕ) (c : FlagCall) (l : FlagPoint) (h : Option Hold) (s : Plain) (w : Bool) (span : List Mark) (a : Answer) → Here c l h p s w span
+    → AnyOf (λ steps. own p (mark_of p None false s ∷ span) ≡ steps) (own_steps (asks_of c h) (says_of a) p)
+    → RightAnswer (flag_machine v) p (mark_of p None false s ∷ span) (outcome.Answered a None) (Some (asks_of c h)) move
+    → Ends (flag_machine v) move p c h s (mark_of p None false s ∷ span) a h
+answered v move p c l h s w span a at own_is right =
+    record { stands = at.mine; own_steps_are = own_is; right = right; in_time = first_step c h p None s span at.knows.first }
+
+needs_none : (c : FlagCall) → takes c ≡ true → needs c ≡ None
+needs_none Lock e = refl
+needs_none TryLock e = refl
+needs_none TryLockWeak e = refl
+needs_none IsLocked e = absurd (cc (e))
+needs_none Release e = absurd (cc (e))
+
+granted_ends : {V : Type 0} (v : V) (p : ℕ) (c : FlagCall) (h : Option Hold) (s : Plain) (span : List Mark) → takes c ≡ true
+    → entries p (apply_some s (Some (gets p to_write))) ≡ entries_of p Write → own p (mark_of p (Some (gets p to_write)) false s ∷ span) ≡ gets p to_write ∷ [] → is_empty s.holders ≡ true
+    → EndsWithin (limit flag (asks_of c h)) flag p (mark_of p (Some (gets p to_write)) false s ∷ span)
+    → Ends (flag_machine v) Step p c h (apply_some s (Some (gets p to_write))) (mark_of p (Some (gets p to_write)) false s ∷ span) Granted (Some Write)
+granted_ends v p Lock h s span may stands own_is free in_time = record { stands = stands; own_steps_are = inl own_is; right = inl (refl, free, refl); in_time = in_time }
+granted_ends v p TryLock h s span may stands own_is free in_time = record { stands = stands; own_steps_are = inl own_is; right = inl (refl, free, refl); in_time = in_time }
+granted_ends v p TryLockWeak h s span may stands own_is free in_time = record { stands = stands; own_steps_are = inl own_is; right = inl (refl, free, refl); in_time = in_time }
+granted_ends v p IsLocked h s span may stands own_is free in_time = absurd (cc (may))
+granted_ends v p Release h s span may stands own_is free in_time = absurd (cc (may))
+
+granted_steps : {V : Type 0} (v : V) (p : ℕ) (c : FlagCall) (l : FlagPoint) (h : Option Hold) (s : Plain) (value : Option V) (span : List Mark) (refusal : Next FlagPoint Answer) → takes c ≡ true → Here c l h p s false span
+    → StepIs (flag_machine v) (flag_keeping V) p c h s value span (exchanged false refusal) (taken p false) false
+granted_steps v p c l h s value span refusal may at =
     let free = free_for s p at.word in
     record {
       opens = (refl, free.0);
       encodes = one_number _ _ free.1;
       shape = at.queue;
       places = refl;
+      next = granted_ends v p c h s span may (holds_now p s (nothing_held c l h p s false span at (needs_none c may)) free.0)
+      (made p (gets p to_write) false s span [] at.knows.unstepped) free.0 (first_step c h p (Some (gets p to_write)) s span at.knows.first);
       fails = λ e none. absurd (false≢true e);
-      next = record {
-        stands = holds_now p s (nothing_held TryLock l h p s false span at refl) free.0;
-        own_steps_are = inl (one_step p (gets p to_write) s span at.knows.unstepped);
-        right = inl (refl, free.0, refl);
-        in_time = counted p (Some (gets p to_write)) s span at.knows.first;
-      };
-    }
-try_steps v p l h s value true span at =
-    record {
-      opens = tt;
-      encodes = one_number _ _ at.word;
-      shape = at.queue;
-      places = refl;
-      fails = λ e none. absurd (false≢true e);
-      next = record {
-        stands = at.mine;
-        own_steps_are = inl (no_step p s span at.knows.unstepped);
-        right = inl (taken_for s p at.word);
-        in_time = counted p None s span at.knows.first;
-      };
-    }
-
-weak_try_steps : {V : Type 0} (v : V) (p : ℕ) (l : FlagPoint) (h : Option Hold) (s : Plain) (value : Option V) (w : Bool) (span : List Mark) → Here TryLockWeak l h p s w span
-    → StepIs (flag_machine v) (flag_keeping V) p TryLockWeak h s value span (step_of w value TryLockWeak l h) (taken p w) false
-weak_try_steps v p l h s value false span at =
-    let free = free_for s p at.word in
-    record {
-      opens = (refl, free.0);
-      encodes = one_number _ _ free.1;
-      shape = at.queue;
-      places = refl;
-      fails = λ e none. absurd (false≢true e);
-      next = record {
-        stands = holds_now p s (nothing_held TryLockWeak l h p s false span at refl) free.0;
-        own_steps_are = inl (one_step p (gets p to_write) s span at.knows.unstepped);
-        right = inl (refl, free.0, refl);
-        in_time = counted p (Some (gets p to_write)) s span at.knows.first;
-      };
-    }
-weak_try_steps v p l h s value true span at =
-    record {
-      opens = tt;
-      encodes = one_number _ _ at.word;
-      shape = at.queue;
-      places = refl;
-      fails = λ e none. absurd (false≢true e);
-      next = record {
-        stands = at.mine;
-        own_steps_are = inl (no_step p s span at.knows.unstepped);
-        right = inl (taken_for s p at.word);
-        in_time = counted p None s span at.knows.first;
-      };
     }
 
 flag_steps : {V : Type 0} (v : V) (p : ℕ) (c : FlagCall) (l : FlagPoint) (h : Option Hold) (s : Plain) (value : Option V) (w : Bool) (span : List Mark) → Here c l h p s w span
     → StepIs (flag_machine v) (flag_keeping V) p c h s value span (step_of w value c l h) (change_of p w c l h) false
-flag_steps v p Lock First h s value false span at =
-    let free = free_for s p at.word in
-    record {
-      opens = (refl, free.0);
-      encodes = one_number _ _ free.1;
-      shape = at.queue;
-      places = refl;
-      fails = λ e none. absurd (false≢true e);
-      next = record {
-        stands = holds_now p s (nothing_held Lock First h p s false span at refl) free.0;
-        own_steps_are = inl (one_step p (gets p to_write) s span at.knows.unstepped);
-        right = inl (refl, free.0, refl);
-        in_time = tt;
-      };
-    }
-flag_steps v p Lock First h s value true span at =
-    record { opens = tt; encodes = one_number _ _ at.word; shape = at.queue; places = refl; fails = λ e none. absurd (false≢true e); next = lock_goes v First Second h p s span at.knows }
-flag_steps v p Lock Second h s value w span at =
-    record { opens = tt; encodes = one_number _ _ at.word; shape = at.queue; places = refl; fails = λ e none. absurd (false≢true e); next = look_goes v w h p s span at.knows }
-flag_steps v p TryLock l h s value w span at = try_steps v p l h s value w span at
-flag_steps v p TryLockWeak l h s value w span at = weak_try_steps v p l h s value w span at
-flag_steps v p IsLocked l h s value w span at =
-    record {
-      opens = tt;
-      encodes = one_number _ _ at.word;
-      shape = at.queue;
-      places = refl;
-      fails = λ e none. absurd (false≢true e);
-      next = record {
-        stands = at.mine;
-        own_steps_are = inl (no_step p s span at.knows.unstepped);
-        right = inl (is_held_at s p w at.word at.queue);
-        in_time = counted p None s span at.knows.first;
-      };
-    }
+flag_steps v p Lock First h s value false span at = granted_steps v p Lock First h s value span (GoesOn Second) refl at
+flag_steps v p Lock First h s value true span at = unchanged v p Lock First h s value true span (GoesOn Second) at (lock_goes v First Second h p s span at.knows)
+flag_steps v p Lock Second h s value w span at = unchanged v p Lock Second h s value w span (looked w) at (look_goes v w h p s span at.knows)
+flag_steps v p TryLock l h s value false span at = granted_steps v p TryLock l h s value span (Answers Refused h) refl at
+flag_steps v p TryLock l h s value true span at = unchanged v p TryLock l h s value true span (Answers Refused h) at (answered v Step p TryLock l h s true span Refused at (inl (idle p false s span [] at.knows.unstepped)) (inl (taken_for s p at.word)))
+flag_steps v p TryLockWeak l h s value false span at = granted_steps v p TryLockWeak l h s value span (Answers Refused h) refl at
+flag_steps v p TryLockWeak l h s value true span at = unchanged v p TryLockWeak l h s value true span (Answers Refused h) at (answered v Step p TryLockWeak l h s true span Refused at (inl (idle p false s span [] at.knows.unstepped)) (inl (taken_for s p at.word)))
+flag_steps v p IsLocked l h s value w span at = unchanged v p IsLocked l h s value w span (Answers (Is w) h) at (answered v Step p IsLocked l h s w span (Is w) at (inl (idle p false s span [] at.knows.unstepped)) (inl (is_held_at s p w at.word at.queue)))
 flag_steps v p Release l h s value w span at = flag_release v p l h s value w span at
 
 flag_refuses : {V : Type 0} (v : V) (p : ℕ) (c : FlagCall) (l : FlagPoint) (h : Option Hold) (s : Plain) (w : Bool) (span : List Mark) (next : Next FlagPoint Answer) → Here c l h p s w span
@@ -292,7 +252,7 @@ flag_refuses {V = V} v p TryLockWeak l h s w span next at e =
     let refusal : Next FlagPoint Answer = Answers Refused h in
     let is : refusal ≡ next = cc (e) in
     subst (λ n. NextIs (flag_machine v) (flag_keeping V) Weak p TryLockWeak h s (mark_of p None false s ∷ span) n) is
-    (record { stands = at.mine; own_steps_are = inl (no_step p s span at.knows.unstepped); right = tt; in_time = counted p None s span at.knows.first })
+    (answered v Weak p TryLockWeak l h s w span Refused at (inl (idle p false s span [] at.knows.unstepped)) tt)
 flag_refuses v p IsLocked l h s w span next at e = absurd (cc (e))
 flag_refuses v p Release l h s w span next at e = absurd (cc (e))
 

@@ -21,6 +21,17 @@ own_count-mine p step r s span = ap (λ b. own_count p span + (if b then 1 else 
 pub own_count-other : (p q : ℕ) (step : Option Change) (r : Bool) (s : Plain) (span : List Mark) → (q ≡ p → ⊥) → own_count p (mark_of q step r s ∷ span) ≡ own_count p span
 own_count-other p q step r s span ne = omega (arith, ap (λ b. own_count p span + (if b then 1 else 0)) (ne_eqb q p ne))
 
+-- a step of its own that makes no plain step
+pub idle : (p : ℕ) (r : Bool) (s : Plain) (span : List Mark) (cs : List Change) → own p span ≡ cs → own p (mark_of p None r s ∷ span) ≡ cs
+idle p r s span cs is = own-mine p None r s span ∙ (append-nil (own p span) ∙ is)
+
+-- one that makes a plain step
+pub made : (p : ℕ) (c : Change) (r : Bool) (s : Plain) (span : List Mark) (cs : List Change) → own p span ≡ cs → own p (mark_of p (Some c) r s ∷ span) ≡ cs ++ c ∷ []
+made p c r s span cs is = own-mine p (Some c) r s span ∙ ap (λ ds. ds ++ c ∷ []) is
+
+pub counted : (p k : ℕ) (step : Option Change) (r : Bool) (s : Plain) (span : List Mark) → own_count p span ≡ k → own_count p (mark_of p step r s ∷ span) ≡ k + 1
+counted p k step r s span e = own_count-mine p step r s span ∙ ap (λ n. n + 1) e
+
 nil_left : {X : Type 0} (xs ys : List X) → xs ++ ys ≡ [] → xs ≡ []
 nil_left [] ys e = refl
 nil_left (x ∷ xs) ys e = absurd (cc (e))

@@ -23,7 +23,7 @@ use Rattle.spin_world.specs.Calls.{Mark, AnyOf, ticket, granted, refused, tells}
 use Rattle.spin_world.specs.Runs.{mark_of, own, own_count, failures, changes, entries_of}
 use Rattle.spin_world.specs.Ticket.{ticket_machine, is_left, takes, goes_for, stays, taken, step_of, can_step, gets_if, change_of, retries_of}
 use Rattle.spin_world.specs.Laws.Facts.{InCall, Goes, NextIs, StepIs, Facts}
-use Rattle.spin_world.specs.Laws.Spans.{own-mine, own_count-mine, failures-mine, changes-mine}
+use Rattle.spin_world.specs.Laws.Spans.{idle, made, counted, own-mine, own_count-mine, failures-mine, changes-mine}
 use Rattle.spin_world.specs.Laws.TicketKnown.{Queue, call_at, held_at, entries_at, own_at, CountAt, Stays, UsedUp, FindsAt, ticket_keeping, begun, knows-other, stays_now, try_refused, look_held, look_free, taken_queue, ticket_left, in_time_by, one_more, one_failure, has_step, other_number, used_up, free_number}
 
 -- what is known at a step, in plain words
@@ -57,17 +57,6 @@ here v first p c l h s value w span at =
 -- the words, as the list of their numbers
 two : (a b c d : ℕ) → a ≡ c → b ≡ d → a ∷ b ∷ [] ≡ c ∷ d ∷ []
 two a b c d e f = ap (λ n. n ∷ b ∷ []) e ∙ ap (λ n. c ∷ n ∷ []) f
-
--- a step that changes nothing
-idle : (p : ℕ) (r : Bool) (s : Plain) (span : List Mark) (cs : List Change) → own p span ≡ cs → own p (mark_of p None r s ∷ span) ≡ cs
-idle p r s span cs is = own-mine p None r s span ∙ (append-nil (own p span) ∙ is)
-
--- one that makes a plain step
-made : (p : ℕ) (c : Change) (r : Bool) (s : Plain) (span : List Mark) (cs : List Change) → own p span ≡ cs → own p (mark_of p (Some c) r s ∷ span) ≡ cs ++ c ∷ []
-made p c r s span cs is = own-mine p (Some c) r s span ∙ ap (λ ds. ds ++ c ∷ []) is
-
-counted : (p k : ℕ) (step : Option Change) (r : Bool) (s : Plain) (span : List Mark) → own_count p span ≡ k → own_count p (mark_of p step r s ∷ span) ≡ k + 1
-counted p k step r s span e = own_count-mine p step r s span ∙ ap (λ n. n + 1) e
 
 look_right : (b : Bool) (k p : ℕ) (s : Plain) (w : TicketWords) (span : List Mark) → (w.next == k) ≡ b → Here (LookNext k) p s w span → AnyOf (λ m. is_held m.before ≡ not b) (mark_of p None false s ∷ span)
 look_right true k p s w span is at = inl (look_free k s at.queue at.finds.0 (sym at.next ∙ eqb-true w.next k is))
