@@ -1,7 +1,7 @@
 -- What users of a ticket lock rely on.
 use Rattle.std.proofs.Common.{◌≡◌, ℕ, ◌+◌, Option, Some, None, List, [], ◌∷◌, ◌++◌, slice_get, refl, ap, sym, ◌∙◌, subst, arith}
 use Rattle.spin_core.specs.Plain.{Plain, Change, serving_word}
-use Rattle.spin_core.specs.Parties.{apply_some, IsOpenStep, Entries, entries}
+use Rattle.spin_core.specs.Parties.{apply_some, IsOpenStep, Entries}
 use Rattle.spin_core.specs.Tickets.{Numbered}
 use Rattle.spin_core.proofs.Tickets.{serving-moves, entered_is_served}
 use Rattle.spin_world.specs.declared.place.Hold.TheVariants as hold
@@ -19,7 +19,6 @@ use Rattle.spin_world.specs.Laws.TicketFacts.{ticket_facts}
 use Rattle.spin_world.specs.Laws.Kept.{Good}
 use Rattle.spin_world.specs.Laws.Every.{kept, good_first, standing}
 use Rattle.spin_world.proofs.Users.{good_after, state-seen_after}
-use Rattle.spin_world.proofs.Schedules.{after-append}
 
 moves_some : (s : Plain) (p : ℕ) (step : Option Change) → Numbered s → IsOpenStep s p step → serving_word (apply_some s step) ≡ serving_word s + gone_some step
 moves_some s p None numbered may = omega arith

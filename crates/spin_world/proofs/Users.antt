@@ -9,10 +9,11 @@ use Rattle.spin_world.specs.declared.schedule.Outcome.TheVariants.{Value}
 use Rattle.spin_world.specs.Machines.{Machine}
 use Rattle.spin_world.specs.Schedules.{State, after, at_first, moves_at, read_by, owner_gets}
 use Rattle.spin_world.specs.Runs.{Seen, Every, Keeps, KeepsAll, opening, scene}
-use Rattle.spin_world.specs.Users.{seen_after, FindsLastWritten}
+use Rattle.spin_world.specs.Users.{seen_after, FindsLastWritten, RunsJoin}
 use Rattle.spin_world.specs.Laws.Facts.{Keeping, Facts}
 use Rattle.spin_world.specs.Laws.Kept.{Good}
 use Rattle.spin_world.specs.Laws.Every.{kept}
+use Rattle.spin_world.proofs.Schedules.{after-append, events_of-append}
 
 pub state-seen_after : {W V C L A : Type 0} (m : Machine W V C L A) (seen : Seen W V C L) (es : List (ℕ × Move C V)) → (seen_after m seen es).state ≡ after m seen.state es
 state-seen_after m seen [] = refl
@@ -35,6 +36,9 @@ finds_last_written {W = W} {V = V} {C = C} {L = L} {A = A} m n past keeps =
 pub good_after : {W V C L A : Type 0} (m : Machine W V C L A) (k : Keeping V C L) (f : Facts m k) (seen : Seen W V C L) (es : List (ℕ × Move C V)) → Good m k seen → Good m k (seen_after m seen es)
 good_after m k f seen [] good = good
 good_after m k f seen (e ∷ es) good = good_after m k f (scene m seen e.0 e.1).after es (kept m k f seen e.0 e.1 good).good
+
+pub runs_join : {W V C L A : Type 0} (m : Machine W V C L A) (s : State W V C L) (first second : List (ℕ × Move C V)) → RunsJoin m s first second
+runs_join m s first second = record { state = sym (after-append m s first second); events = sym (events_of-append m s first second) }
 
 pub clear_when_empty : (w : Bool) (hs : List Holder) → bit w ∷ [] ≡ length hs ∷ [] → w ≡ false → hs ≡ []
 clear_when_empty w [] e clear = refl

@@ -14,7 +14,7 @@ use Rattle.spin_world.specs.declared.schedule.Move.TheVariants.{Begin, Read, Wri
 use Rattle.spin_world.specs.declared.schedule.Outcome.{Outcome}
 use Rattle.spin_world.specs.declared.schedule.Outcome.TheVariants.{Value}
 use Rattle.spin_world.specs.Machines.{Machine}
-use Rattle.spin_world.specs.Schedules.{happens, after, at_first, may_read, is_owners}
+use Rattle.spin_world.specs.Schedules.{State, happens, after, events_of, at_first, may_read, is_owners}
 use Rattle.spin_world.specs.Runs.{Seen, scene, opening}
 use Rattle.spin_world.specs.Ticket.{ticket_machine}
 
@@ -42,6 +42,11 @@ is_quiet_move _ = true
 abbrev pub is_quiet : {C V : Type 0} → ℕ → List (ℕ × Move C V) → Bool
 is_quiet p [] = true
 is_quiet p (e ∷ es) = (not (e.0 == p) || is_quiet_move e.1) && is_quiet p es
+
+-- two schedules one after the other come to the same as the two joined
+pub record RunsJoin {W V C L A : Type 0} (m : Machine W V C L A) (s : State W V C L) (first second : List (ℕ × Move C V)) : Type 0 where
+  pub state : after m (after m s first) second ≡ after m s (first ++ second)
+  pub events : events_of m s first ++ events_of m (after m s first) second ≡ events_of m s (first ++ second)
 
 -- two looks of a party under one guard, with no write of its own between them, find the same
 abbrev pub ReadsAgree : {W V C L A : Type 0} → Machine W V C L A → ℕ → List (ℕ × Move C V) → Type 0

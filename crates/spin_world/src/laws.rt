@@ -3,17 +3,23 @@ ghost use Rattle.std.specs.Prelude.{◌≡◌, ◌↔◌, ℕ, List, [], false};
 ghost use Rattle.spin_world.specs.declared.schedule.Move.{Move};
 ghost use Rattle.spin_world.specs.declared.flag.FlagCall.{FlagCall};
 ghost use Rattle.spin_world.specs.declared.ticket.TicketCall.{TicketCall};
-ghost use Rattle.spin_world.specs.Schedules.{after, at_first};
+ghost use Rattle.spin_world.specs.Schedules.{State, after, at_first};
 ghost use Rattle.spin_world.specs.Runs.{opening};
 ghost use Rattle.spin_world.specs.Flag.{flag_machine};
 ghost use Rattle.spin_world.specs.Ticket.{ticket_machine};
-ghost use Rattle.spin_world.specs.Users.{seen_after, FindsLastWritten, ReadsAgree, InOrder, HoldsInTurn};
+ghost use Rattle.spin_world.specs.Users.{seen_after, FindsLastWritten, RunsJoin, ReadsAgree, InOrder, HoldsInTurn};
 
 use crate::object::Object;
 
 /// Who looks at the value finds the one last written: a holder, and the owner, also after leaks.
 pub fn looks_find_the_last_write<O: Object>()
     ensures { (object : O) (n : ℕ) (past : List (ℕ × Move O.Call O.Value)) → FindsLastWritten (O.machine object) n past }
+{}
+
+/// A schedule that is cut into two runs comes to the events and the state of one run. Only where a call began is told by
+/// its place in its own run.
+pub fn two_runs_are_one<O: Object>()
+    ensures { (object : O) (state : State O.Words O.Value O.Call O.Local) (first second : List (ℕ × Move O.Call O.Value)) → RunsJoin (O.machine object) state first second }
 {}
 
 /// Two looks under one guard, with no write of its own between them, find the same value.

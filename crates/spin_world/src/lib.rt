@@ -17,6 +17,7 @@ pub use flag::{Flag, FlagCall, FlagPoint};
 pub use laws::{
     a_flag_is_clear_when_nobody_holds, looks_find_the_last_write, looks_under_one_guard_agree,
     looks_under_one_ticket_agree, tickets_enter_by_releases, tickets_stand_in_order,
+    two_runs_are_one,
 };
 pub use object::{Next, Object, Stepped};
 pub use place::{Hold, Place, Seat};

@@ -1,5 +1,5 @@
 -- The flag's local facts.
-use Rattle.std.proofs.Common.{◌≡◌, ℕ, ◌≤◌, ◌==◌, Bool, true, false, not, ◌&&◌, ◌||◌, if◌then◌else◌, Option, Some, None, List, [], ◌∷◌, ◌++◌, length, filter, refl, ap, sym, ◌∙◌, subst, arith, inl}
+use Rattle.std.proofs.Common.{◌≡◌, ℕ, ◌==◌, Bool, true, false, not, ◌&&◌, ◌||◌, if◌then◌else◌, Option, Some, None, List, [], ◌∷◌, ◌++◌, length, filter, refl, ap, sym, ◌∙◌, subst, arith, inl}
 use Rattle.std.proofs.lemmas.Bool.{false≢true}
 use Rattle.spin_core.specs.Plain.{Ticket as Queued, Plain, writing, to_write, Holder, holder, Change, gets, releases, completes, is_empty, flag_word}
 use Rattle.spin_core.specs.Parties.{apply_some, Entries, entries, no_entries, entries_after, is_held}
@@ -25,7 +25,7 @@ use Rattle.spin_world.specs.Runs.{mark_of, own, own_count, entries_of, entries_h
 use Rattle.spin_world.specs.Flag.{flag_machine, asks_of, begins_at, exchanged, looked, refusal_of, can_step, step_of, taken, change_of}
 use Rattle.spin_world.specs.Laws.Facts.{Keeping, InCall, Goes, Ends, NextIs, StepIs, Facts}
 use Rattle.spin_world.specs.Laws.Lists.{eqb_self}
-use Rattle.spin_world.specs.Laws.Spans.{idle, made, counted, own-mine, own-other, own_count-mine, own_count-other, entries-unstepped}
+use Rattle.spin_world.specs.Laws.Spans.{idle, made, counted, own-other, own_count-other, entries-unstepped}
 
 -- what a party holds as its call begins
 abbrev pub needs : FlagCall → Option Hold
@@ -224,7 +224,7 @@ granted_steps v p c l h s value span refusal may at =
       shape = at.queue;
       places = refl;
       next = granted_ends v p c h s span may (holds_now p s (nothing_held c l h p s false span at (needs_none c may)) free.0)
-      (made p (gets p to_write) false s span [] at.knows.unstepped) free.0 (first_step c h p (Some (gets p to_write)) s span at.knows.first);
+          (made p (gets p to_write) false s span [] at.knows.unstepped) free.0 (first_step c h p (Some (gets p to_write)) s span at.knows.first);
       fails = λ e none. absurd (false≢true e);
     }
 

@@ -2,7 +2,7 @@
 use Rattle.std.proofs.Common.{◌≡◌, ℕ, ◌+◌, ◌<◌, ◌-◌, ◌≤◌, ◌⊎◌, ◌==◌, Bool, true, false, not, ◌&&◌, ◌||◌, if◌then◌else◌, Option, Some, None, List, [], ◌∷◌, ◌++◌, refl, ap, sym, ◌∙◌, subst, arith, inl, inr, eq-eqb}
 use Rattle.std.proofs.lemmas.List.{append-nil}
 use Rattle.std.proofs.lemmas.Bool.{and_parts, eqb-true, true≢false, false≢true}
-use Rattle.spin_core.specs.Plain.{Plain, ticket as queued, Ticket as Queued, Holder, Ask, to_take_ticket, to_enter, to_take_and_enter, Change, gets, serves, completes, is_empty, is_first, serving_word}
+use Rattle.spin_core.specs.Plain.{Plain, ticket as queued, Ticket as Queued, Holder, Ask, to_take_ticket, to_enter, to_take_and_enter, gets, serves, completes, is_empty, is_first, serving_word}
 use Rattle.spin_core.specs.Parties.{Entries, entries, no_entries, entries_after, first_alone_entered, is_held}
 use Rattle.spin_core.specs.Steps.{bit}
 use Rattle.spin_core.proofs.Entries.{entries-own}
@@ -23,7 +23,7 @@ use Rattle.spin_world.specs.Calls.{Mark, AnyOf, ticket, granted, refused, tells}
 use Rattle.spin_world.specs.Runs.{mark_of, own, own_count, failures, changes, entries_of}
 use Rattle.spin_world.specs.Ticket.{ticket_machine, is_left, takes, goes_for, stays, taken, step_of, can_step, gets_if, change_of, retries_of}
 use Rattle.spin_world.specs.Laws.Facts.{InCall, Goes, NextIs, StepIs, Facts}
-use Rattle.spin_world.specs.Laws.Spans.{idle, made, counted, own-mine, own_count-mine, failures-mine, changes-mine}
+use Rattle.spin_world.specs.Laws.Spans.{idle, made, counted, failures-mine, changes-mine}
 use Rattle.spin_world.specs.Laws.TicketKnown.{Queue, call_at, held_at, entries_at, own_at, CountAt, Stays, UsedUp, FindsAt, ticket_keeping, begun, knows-other, stays_now, try_refused, look_held, look_free, taken_queue, ticket_left, in_time_by, one_more, one_failure, has_step, other_number, used_up, free_number}
 
 -- what is known at a step, in plain words
