@@ -9,6 +9,7 @@ use std::sync::Wait;
 mod laws;
 mod lends;
 pub mod spin;
+mod texts;
 pub mod ticket;
 
 pub use laws::the_words_of_a_ticket_mutex_are_its_queue;
@@ -107,6 +108,20 @@ impl<'a, T, R> MutexGuard<'a, T, R> {
         Held {
             inner: SpinMutexGuard::hold(inner),
         }
+    }
+}
+
+/// An open lock of the default value.
+impl<T: Default, R> Default for Mutex<T, R> {
+    fn default() -> Self {
+        Self::new(T::default())
+    }
+}
+
+/// An open lock of the value.
+impl<T, R> From<T> for Mutex<T, R> {
+    fn from(value: T) -> Self {
+        Self::new(value)
     }
 }
 

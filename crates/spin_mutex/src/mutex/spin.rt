@@ -12,6 +12,7 @@ use std::marker::PhantomData;
 use std::sync::Wait;
 
 mod lends;
+mod texts;
 
 /// What a party is to the lock.
 #[derive(Clone, Copy)]
@@ -216,6 +217,20 @@ impl<'a, T, R> Held<'a, T, R> {
             strategy: _,
         } = self;
         permit
+    }
+}
+
+/// An open lock of the default value.
+impl<T: Default, R> Default for SpinMutex<T, R> {
+    fn default() -> Self {
+        Self::new(T::default())
+    }
+}
+
+/// An open lock of the value.
+impl<T, R> From<T> for SpinMutex<T, R> {
+    fn from(value: T) -> Self {
+        Self::new(value)
     }
 }
 

@@ -91,6 +91,23 @@ fn mutex_is_taken_once(rt: HostRuntime) {
 }
 
 #[test]
+fn a_lock_is_made_of_a_value(rt: HostRuntime) {
+    let lock: SpinMutex<u64> = SpinMutex::default();
+    assert!(rt; !lock.is_locked());
+    assert_eq!(rt; lock.into_inner(), 0);
+    let lock: SpinMutex<u64> = SpinMutex::from(5);
+    assert!(rt; !lock.is_locked());
+    assert_eq!(rt; lock.into_inner(), 5);
+
+    let lock: Mutex<u64> = Mutex::default();
+    assert!(rt; !lock.is_locked());
+    assert_eq!(rt; lock.into_inner(), 0);
+    let lock: Mutex<u64> = Mutex::from(5);
+    assert!(rt; !lock.is_locked());
+    assert_eq!(rt; lock.into_inner(), 5);
+}
+
+#[test]
 fn the_owner_has_the_last_value(rt: HostRuntime) {
     let mut lock: SpinMutex<u64, Loop> = SpinMutex::new(1);
     let mut guard = lock.lock(&rt);

@@ -13,6 +13,7 @@ use std::marker::PhantomData;
 use std::sync::Wait;
 
 mod lends;
+mod texts;
 
 /// What a party is to the lock. A number is that of a ticket.
 #[derive(Clone, Copy)]
@@ -333,6 +334,20 @@ impl<'a, T, R> Held<'a, T, R> {
             strategy: _,
         } = self;
         (number, permit)
+    }
+}
+
+/// An open lock of the default value.
+impl<T: Default, R> Default for TicketMutex<T, R> {
+    fn default() -> Self {
+        Self::new(T::default())
+    }
+}
+
+/// An open lock of the value.
+impl<T, R> From<T> for TicketMutex<T, R> {
+    fn from(value: T) -> Self {
+        Self::new(value)
     }
 }
 

@@ -49,6 +49,16 @@ fn swap_in<R>(guard: &mut TicketMutexGuard<'_, u64, R>, value: u64) -> u64
 }
 
 #[test]
+fn a_lock_is_made_of_a_value(rt: HostRuntime) {
+    let lock: TicketMutex<u64> = TicketMutex::default();
+    assert!(rt; !lock.is_locked());
+    assert_eq!(rt; lock.into_inner(), 0);
+    let lock: TicketMutex<u64> = TicketMutex::from(5);
+    assert!(rt; !lock.is_locked());
+    assert_eq!(rt; lock.into_inner(), 5);
+}
+
+#[test]
 fn the_last_ticket_is_below_the_limit(rt: HostRuntime) {
     assert_eq!(rt; ticket::take(u64::MAX - 1), Some(u64::MAX));
     assert_eq!(rt; ticket::take(u64::MAX), None);
