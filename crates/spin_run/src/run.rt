@@ -3,13 +3,15 @@ mod command;
 mod counting;
 mod ends;
 mod faults;
+mod gate;
 mod locks;
 mod numbers;
 mod process;
 
 pub use command::program;
-pub use counting::{CountError, Gate, MOST_TIMES, MOST_WORKERS, Open, count_with};
+pub use counting::{CountError, MOST_TIMES, MOST_WORKERS, count_with};
 pub use ends::{Failed, OfStd, Sink, Source};
+pub use gate::{Gate, Open};
 pub use numbers::numbers_are_printed_texts;
 pub use process::program_over_arguments;
 

@@ -4,9 +4,10 @@ ghost use Rattle.spin_run.specs.declared.run.faults.Fault.{Fault};
 ghost use Rattle.spin_run.specs.Command.{AsksCount, AsksNothing, Counts, Tells, texts_of, usage_line};
 ghost use Rattle.spin_run.specs.Faults.{Stops, line_of};
 
-use super::counting::{MOST_TIMES, MOST_WORKERS, Open, count_with};
+use super::counting::{MOST_TIMES, MOST_WORKERS, count_with};
 use super::ends::{Sink, Source, write_whole};
 use super::faults::{Fault, report};
+use super::gate::Open;
 use super::numbers::number;
 use std::alloc::Allocator;
 use std::sync::Wait;

@@ -1,6 +1,7 @@
 //! Counting by workers that are threads of their own, under one lock.
 ghost use Rattle.std.specs.Prelude.{◌≡◌, ℕ, ◌+◌, ◌*◌, ◌^◌, ◌<◌, ◌≤◌, IfOk, vec_len};
 
+use super::gate::{Gate, Passed, pass};
 use super::locks::Lock;
 use std::alloc::{AllocError, Allocator};
 use std::marker::Brand;
@@ -14,23 +15,6 @@ pub const MOST_WORKERS: usize = 64;
 
 /// The most additions that one worker may make.
 pub const MOST_TIMES: u64 = 1_000_000;
-
-/// What each worker passes before it begins to add.
-pub trait Gate {
-    /// Called once by each worker, before any addition of its own. It may wait.
-    fn before<R: Wait>(&self, rt: &R, worker: usize);
-}
-
-/// The gate that lets every worker through.
-#[derive(Clone, Copy)]
-pub struct Open;
-
-impl Gate for Open {
-    fn before<R: Wait>(&self, rt: &R, worker: usize) {
-        let _ = rt;
-        let _ = worker;
-    }
-}
 
 /// Why there is no total.
 #[derive(Clone, Copy, Debug, PartialEq, Eq)]
@@ -103,13 +87,20 @@ struct Team<'a, P: Plan, G, R> {
 }
 
 impl<P: Plan + Send + Sync, G: Gate + Sync, R: Threads + Wait + Sync> Team<'_, P, G, R> {
-    /// One worker's whole work.
+    /// One worker's whole work: the gate, and then its additions.
     fn work(&self, worker: usize, share: Share<P>) -> Done<P>
         requires one_part { share.parts ≡ 1 }
         requires additions { share.amount ≡ self.now.times }
     {
-        self.gate.before(self.rt, worker);
-        let mut share = share;
+        self.add_all(pass(self.gate, self.rt, worker), share)
+    }
+
+    /// The additions of a worker that has passed its gate.
+    fn add_all(&self, passed: Passed, mut share: Share<P>) -> Done<P>
+        requires one_part { share.parts ≡ 1 }
+        requires additions { share.amount ≡ self.now.times }
+    {
+        let _ = passed;
         for _done in 0..self.times {
             self.counter.lock(self.rt).add_one(&mut share);
         }

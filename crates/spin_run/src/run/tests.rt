@@ -252,6 +252,46 @@ impl io::Write for Stuck<'_> {
     }
 }
 
+/// A reader of std's that gives its bytes, tells its end, fails once, and then gives bytes again.
+#[derive(Drop)]
+struct Faltering<'a> {
+    bytes: &'a [u8],
+    calls: usize,
+}
+
+impl io::Read for Faltering<'_> {
+    fn read(&mut self, to: &mut [u8]) -> io::Result<usize> {
+        self.calls = self.calls.saturating_add(1);
+        match self.calls {
+            2 => Ok(0),
+            3 => Err(io::Error::from(io::ErrorKind::Interrupted)),
+            _ => {
+                let n = self.bytes.len().min(to.len());
+                to[..n].copy_from_slice(&self.bytes[..n]);
+                Ok(n)
+            }
+        }
+    }
+}
+
+#[test]
+fn reads_of_std(rt: HostRuntime) {
+    let mut source = OfStd::new(Faltering {
+        bytes: b"ab",
+        calls: 0,
+    });
+    let mut to = [0u8; 4];
+    assert_eq!(rt; source.read(&mut to), Ok(2));
+    assert_eq!(rt; to, *b"ab\0\0");
+    assert_eq!(rt; source.read(&mut to), Ok(0));
+    assert!(rt; !source.has_failed());
+    assert_eq!(rt; source.read(&mut to), Err(Failed));
+    assert!(rt; source.has_failed());
+    // A failure is for good, also where the reader goes on.
+    assert_eq!(rt; source.read(&mut to[..1]), Ok(1));
+    assert!(rt; source.has_failed());
+}
+
 #[test]
 fn tries_no_failed_write_again(rt: HostRuntime) {
     for fails in [false, true] {
