@@ -2,13 +2,8 @@
 #![tactic(auto)]
 
 mod case;
-mod command;
-mod fault;
 mod measure;
-mod name;
-mod number;
 mod report;
-mod row;
 mod size;
 mod team;
 

@@ -1,11 +1,10 @@
 //! How long a case takes.
 ghost use Rattle.std.specs.Prelude.{◌≡◌, ℕ, IfOk, IsPermutation, slice_index};
-ghost use Rattle.spin_bench.specs.Numbers.{value_of, calls_of, IsNoBetter, best_place};
+ghost use Rattle.spin_bench_rows.specs.Numbers.{value_of, calls_of, IsNoBetter, best_place};
 
 use crate::case::Case;
-use crate::fault::Fault;
-use crate::number::{Hundredths, Unit};
 use crate::team::{Until, run};
+use spin_bench_rows::{Fault, Hundredths, Measured, Unit};
 use std::alloc::Global;
 use std::sync::Wait;
 use std::thread::Threads;
@@ -24,15 +23,6 @@ const CHUNK_ALONE: u64 = 1000;
 /// The same in threads that wait for one another. Each call is slow enough there, and where a thread that the others
 /// wait for does not run, the round still ends soon after its time.
 const CHUNK_AMONG_OTHERS: u64 = 25;
-
-/// What a measure found.
-#[derive(Clone, Copy, Debug, PartialEq, Eq)]
-pub struct Measured {
-    /// The value of the best round.
-    pub best: Hundredths,
-    /// The value of the round in the middle.
-    pub median: Hundredths,
-}
 
 /// The value of one round.
 fn round<C: Case + Sync, R: Threads + Wait + Clock + Sync>(

@@ -1,12 +1,9 @@
 //! What the program does and writes.
 use crate::case::{Case, Floor, Plays};
-use crate::command::Command;
-use crate::fault::Fault;
 use crate::measure::measure;
-use crate::name::{NAMES, Name};
-use crate::row::{Checksum, Row};
 use crate::size::SIZES;
 use crate::team::{Until, run};
+use spin_bench_rows::{Checksum, Command, Fault, NAMES, Name, Row};
 use spin_mutex::mutex::{Mutex, SpinMutex, TicketMutex};
 use spin_world::Flag;
 use std::alloc::Global;

@@ -18,7 +18,7 @@ pub enum Fault {
 }
 
 impl Fault {
-    ghost use Rattle.spin_bench.specs.Faults.{status_of};
+    ghost use Rattle.spin_bench_rows.specs.Faults.{status_of};
 
     /// The status that the program ends with.
     pub fn status(self) -> u8

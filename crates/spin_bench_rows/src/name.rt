@@ -1,7 +1,7 @@
 //! The names of the cases.
 ghost use Rattle.std.specs.Prelude.{◌≡◌, ◌↔◌, IfSome, IfNone};
-ghost use Rattle.spin_bench.specs.declared.name.Name.{Name};
-ghost use Rattle.spin_bench.specs.Names.{word_of, most_threads_of, unit_of};
+ghost use Rattle.spin_bench_rows.specs.declared.name.Name.{Name};
+ghost use Rattle.spin_bench_rows.specs.Names.{word_of, most_threads_of, unit_of};
 
 use crate::number::Unit;
 

@@ -9,7 +9,7 @@ use std::fmt::Display;
 pub struct Hundredths(pub u64);
 
 impl Display for Hundredths {
-    ghost use Rattle.spin_bench.specs.Numbers.{hundredths_text};
+    ghost use Rattle.spin_bench_rows.specs.Numbers.{hundredths_text};
 
     ghost output = { λ h. Some (hundredths_text h.0) };
 
@@ -28,7 +28,7 @@ pub enum Unit {
 }
 
 impl Unit {
-    ghost use Rattle.spin_bench.specs.Numbers.{unit_text, value_of};
+    ghost use Rattle.spin_bench_rows.specs.Numbers.{unit_text, value_of};
 
     /// The unit's name.
     pub fn name(self) -> &'static str
@@ -49,4 +49,13 @@ impl Unit {
             Unit::Millions => calls.saturating_mul(100_000) / nanos.max(1),
         })
     }
+}
+
+/// What a measure found.
+#[derive(Clone, Copy, Debug, PartialEq, Eq)]
+pub struct Measured {
+    /// The value of the best round.
+    pub best: Hundredths,
+    /// The value of the round in the middle.
+    pub median: Hundredths,
 }

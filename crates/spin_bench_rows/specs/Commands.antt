@@ -2,9 +2,9 @@
 use Rattle.std.specs.Prelude.{◌≡◌, ℕ, ◌≤◌, List, [], ◌∷◌, map, codes}
 use Rattle.std.specs.Borrow.{Bor}
 use Rattle.std.specs.Str.Parse.{IsNumeral, digits_value, without_leading_plus}
-use Rattle.spin_bench.specs.declared.command.Command.{Command}
-use Rattle.spin_bench.specs.declared.command.Command.TheVariants.{Measure, Sizes, Smoke}
-use Rattle.spin_bench.specs.Names.{word_of, most_threads_of}
+use Rattle.spin_bench_rows.specs.declared.command.Command.{Command}
+use Rattle.spin_bench_rows.specs.declared.command.Command.TheVariants.{Measure, Sizes, Smoke}
+use Rattle.spin_bench_rows.specs.Names.{word_of, most_threads_of}
 
 -- the texts of the words
 abbrev pub texts_of : List (Bor (List ℕ)) → List (List ℕ)

@@ -1,9 +1,9 @@
 -- The names of the cases.
 use Rattle.std.specs.Prelude.{ℕ, List, codes, ◌==◌, if◌then◌else◌}
-use Rattle.spin_bench.specs.declared.name.Name.{Name}
-use Rattle.spin_bench.specs.declared.name.Name.TheVariants.{Floor, SpinMutex, Mutex, TicketMutex, StdMutex, World}
-use Rattle.spin_bench.specs.declared.number.Unit.{Unit}
-use Rattle.spin_bench.specs.declared.number.Unit.TheVariants.{Nanoseconds, Millions}
+use Rattle.spin_bench_rows.specs.declared.name.Name.{Name}
+use Rattle.spin_bench_rows.specs.declared.name.Name.TheVariants.{Floor, SpinMutex, Mutex, TicketMutex, StdMutex, World}
+use Rattle.spin_bench_rows.specs.declared.number.Unit.{Unit}
+use Rattle.spin_bench_rows.specs.declared.number.Unit.TheVariants.{Nanoseconds, Millions}
 
 -- the word that names a case
 abbrev pub word_of : Name → List ℕ

@@ -1,9 +1,9 @@
 -- The rows that the program prints.
 use Rattle.std.specs.Prelude.{ℕ, ◌++◌, List, [], ◌∷◌, codes, decimal}
-use Rattle.spin_bench.specs.declared.row.Row.{Row}
-use Rattle.spin_bench.specs.declared.row.Checksum.{Checksum}
-use Rattle.spin_bench.specs.Names.{word_of, unit_of}
-use Rattle.spin_bench.specs.Numbers.{unit_text, hundredths_text}
+use Rattle.spin_bench_rows.specs.declared.row.Row.{Row}
+use Rattle.spin_bench_rows.specs.declared.row.Checksum.{Checksum}
+use Rattle.spin_bench_rows.specs.Names.{word_of, unit_of}
+use Rattle.spin_bench_rows.specs.Numbers.{unit_text, hundredths_text}
 
 -- `CASE.THREADS BEST UNIT median MEDIAN`
 abbrev pub row_text : Row → List ℕ

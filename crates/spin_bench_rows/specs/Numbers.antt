@@ -1,7 +1,7 @@
 -- Measured numbers, and how they print.
 use Rattle.std.specs.Prelude.{ℕ, ◌≤◌, ◌*◌, ◌/◌, ◌%◌, ◌-◌, ◌^◌, ◌++◌, List, [], ◌∷◌, codes, decimal, min, max}
-use Rattle.spin_bench.specs.declared.number.Unit.{Unit}
-use Rattle.spin_bench.specs.declared.number.Unit.TheVariants.{Nanoseconds, Millions}
+use Rattle.spin_bench_rows.specs.declared.number.Unit.{Unit}
+use Rattle.spin_bench_rows.specs.declared.number.Unit.TheVariants.{Nanoseconds, Millions}
 
 -- the name of a unit
 abbrev pub unit_text : Unit → List ℕ

@@ -1,6 +1,6 @@
 //! The command line.
 ghost use Rattle.std.specs.Prelude.{IfSome, IfNone};
-ghost use Rattle.spin_bench.specs.Commands.{Asks, AsksNothing, texts_of};
+ghost use Rattle.spin_bench_rows.specs.Commands.{Asks, AsksNothing, texts_of};
 
 use crate::name::Name;
 

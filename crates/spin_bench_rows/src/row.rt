@@ -1,8 +1,8 @@
 //! The rows that the program prints.
 ghost use Rattle.std.specs.Prelude.{◌≡◌, Some};
 
-use crate::measure::Measured;
 use crate::name::Name;
+use crate::number::Measured;
 use std::fmt;
 use std::fmt::Display;
 
@@ -15,7 +15,7 @@ pub struct Row {
 }
 
 impl Display for Row {
-    ghost use Rattle.spin_bench.specs.Rows.{row_text};
+    ghost use Rattle.spin_bench_rows.specs.Rows.{row_text};
 
     ghost output = { λ r. Some (row_text r) };
 
@@ -36,7 +36,7 @@ pub struct Checksum {
 }
 
 impl Display for Checksum {
-    ghost use Rattle.spin_bench.specs.Rows.{checksum_text};
+    ghost use Rattle.spin_bench_rows.specs.Rows.{checksum_text};
 
     ghost output = { λ c. Some (checksum_text c) };
 

@@ -1,7 +1,7 @@
 -- How the program ends at each fault.
 use Rattle.std.specs.Prelude.{ℕ}
-use Rattle.spin_bench.specs.declared.fault.Fault.{Fault}
-use Rattle.spin_bench.specs.declared.fault.Fault.TheVariants.{Usage, Thread, Memory, System}
+use Rattle.spin_bench_rows.specs.declared.fault.Fault.{Fault}
+use Rattle.spin_bench_rows.specs.declared.fault.Fault.TheVariants.{Usage, Thread, Memory, System}
 
 -- the status
 abbrev pub status_of : Fault → ℕ
