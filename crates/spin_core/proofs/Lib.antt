@@ -4,6 +4,7 @@ pub mod Exclusive
 pub mod Flags
 pub mod Holders
 pub mod Tickets
+pub mod TicketSteps
 pub mod CellCounts
 pub mod CellFields
 pub mod CellLends

@@ -92,7 +92,7 @@ numbered-gets s p to_begin numbered = numbered
 pub numbered-serves : (s : Plain) (p : ℕ) → Numbered s → Numbered (apply s (serves p))
 numbered-serves s p numbered = numbered-gone s.next s.tickets numbered
 
-first_stands : (p : ℕ) (b : Bool) (ts : List Ticket) → is_first p b ts ≡ true → is_empty ts ≡ false
+pub first_stands : (p : ℕ) (b : Bool) (ts : List Ticket) → is_first p b ts ≡ true → is_empty ts ≡ false
 first_stands p b [] e = absurd (cc (e))
 first_stands p b (t ∷ ts) e = refl
 

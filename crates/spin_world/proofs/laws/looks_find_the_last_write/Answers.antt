@@ -1,5 +1,0 @@
-use Rattle.spin_world.proofs.Users.{finds_last_written}
-use Rattle.spin_world.proofs.laws.looks_find_the_last_write.Goals as goal
-
-pub returns : goal.returns
-returns g c = λ object n past. finds_last_written (g.O.Object.machine object) n past (g.met.O.Object.keeps object n past)

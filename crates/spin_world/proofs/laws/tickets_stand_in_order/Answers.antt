@@ -1,5 +1,0 @@
-use Rattle.spin_world.proofs.Queues.{in_order}
-use Rattle.spin_world.proofs.laws.tickets_stand_in_order.Goals as goal
-
-pub returns : goal.returns
-returns g c = λ value first n past. in_order value first n past

@@ -1,5 +1,0 @@
-use Rattle.spin_world.proofs.Users.{runs_join}
-use Rattle.spin_world.proofs.laws.two_runs_are_one.Goals as goal
-
-pub returns : goal.returns
-returns g c = λ object state first second. runs_join (g.O.Object.machine object) state first second

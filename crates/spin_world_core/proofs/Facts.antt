@@ -1,0 +1,100 @@
+-- What an object shows of itself: local facts, without a word of schedules.
+use Rattle.std.proofs.Common.{◌≡◌, ℕ, zero, suc, ◌<◌, ◌≤◌, true, false, ◌||◌, Option, Some, None, List, [], ◌∷◌}
+use Rattle.spin_core.specs.Plain.{Plain, Change, completes, is_empty}
+use Rattle.spin_core.specs.Parties.{apply_some, IsOpenStep, entries, is_held, IsExclusive}
+use Rattle.spin_world_core.specs.declared.place.Hold.{Hold}
+use Rattle.spin_world_core.specs.declared.place.Seat.{Seat}
+use Rattle.spin_world_core.specs.declared.place.Seat.TheVariants.{Calling}
+use Rattle.spin_world_core.specs.declared.object.Next.{Next}
+use Rattle.spin_world_core.specs.declared.object.Next.TheVariants.{GoesOn, Answers}
+use Rattle.spin_world_core.specs.declared.object.Stepped.{Stepped}
+use Rattle.spin_world_core.specs.declared.schedule.Move.{Move}
+use Rattle.spin_world_core.specs.declared.schedule.Move.TheVariants.{Step, Weak}
+use Rattle.spin_world_core.specs.declared.schedule.Outcome.TheVariants as outcome
+use Rattle.spin_world_core.specs.Manners.{Manner, is_again, by_step}
+use Rattle.spin_world_core.specs.Manners as manner
+use Rattle.spin_world_core.specs.Calls.{encoded, BelongsTo, Said, own_steps, Mark, AnyOf, limit}
+use Rattle.spin_world_core.specs.Undisturbed.{is_open_now}
+use Rattle.spin_world_core.specs.Machines.{Machine, opening_plain}
+use Rattle.spin_world_core.specs.Schedules.{placed}
+use Rattle.spin_world_core.specs.Runs.{mark_of, if_completed, entries_held, entries_so_far, is_writer, own, failures, changes, IsBeginning, RightAnswer, EndsWithin, GoesOnWithin}
+
+-- an object's local invariant: a shape of the plain lock and the value, and what a party in a call knows of its span
+pub record LocalInvariant (V C L : Type 0) : Type 1 where
+  pub Shape : Plain → Option V → Type 0
+  pub Knows : C → L → Option Hold → ℕ → Plain → List Mark → Type 0
+
+-- where a party is in a call, what it knows
+abbrev pub KnowsAt : {V C L : Type 0} → LocalInvariant V C L → Plain → ℕ → List Mark → Option (Seat C L) → Type 0
+KnowsAt k s p span (Some (Calling c l h)) = k.Knows c l h p s span
+KnowsAt k s p span _ = Unit {0}
+
+-- what holds where a party is about to step
+pub record InCall {W V C L A : Type 0} (m : Machine W V C L A) (k : LocalInvariant V C L) (p : ℕ) (c : C) (l : L) (h : Option Hold) (s : Plain) (v : Option V) (w : W) (span : List Mark) : Type 0 where
+  pub encodes : m.numbers w ≡ encoded m.coding s
+  pub shape : k.Shape s v
+  pub exclusive : IsExclusive s
+  pub stands : entries p s ≡ entries_so_far p span (entries_held p h)
+  pub knows : k.Knows c l h p s span
+  pub retries : failures p span ≤ changes m.coding p span
+
+-- a call goes on so, by this step of its span
+pub record Goes {W V C L A : Type 0} (m : Machine W V C L A) (k : LocalInvariant V C L) (p : ℕ) (c : C) (l : L) (h : Option Hold) (s : Plain) (span : List Mark) : Type 0 where
+  pub knows : k.Knows c l h p s span
+  pub own_so_far : (said : Said) × AnyOf (λ steps. IsBeginning (own p span) steps) (own_steps (m.asks c h) said p)
+  pub in_time : GoesOnWithin (limit m.coding (m.asks c h)) m.coding p span
+
+-- a call ends so
+pub record Ends {W V C L A : Type 0} (m : Machine W V C L A) (move : Move C V) (p : ℕ) (c : C) (h : Option Hold) (s : Plain) (span : List Mark) (a : A) (after : Option Hold) : Type 0 where
+  pub stands : entries p s ≡ entries_held p after
+  pub own_steps_are : AnyOf (λ steps. own p span ≡ steps) (own_steps (m.asks c h) (m.says a) p)
+  pub right : RightAnswer m p span (outcome.Answered a None) (Some (m.asks c h)) move
+  pub in_time : EndsWithin (limit m.coding (m.asks c h)) m.coding p span
+
+abbrev pub NextIs : {W V C L A : Type 0} → Machine W V C L A → LocalInvariant V C L → Move C V → ℕ → C → Option Hold → Plain → List Mark → Next L A → Type 0
+NextIs m k move p c h s span (GoesOn l) = Goes m k p c l h s span
+NextIs m k move p c h s span (Answers a after) = Ends m move p c h s span a after
+
+-- a step that makes this plain step
+pub record StepIs {W V C L A : Type 0} (m : Machine W V C L A) (k : LocalInvariant V C L) (p : ℕ) (c : C) (h : Option Hold) (s : Plain) (v : Option V) (span : List Mark) (st : Stepped W V L A) (step : Option Change) (manner : Manner) : Type 0 where
+  pub opens : IsOpenStep s p step
+  pub belongs : BelongsTo m.coding step
+  pub encodes : m.numbers st.words ≡ encoded m.coding (apply_some s step)
+  pub shape : k.Shape (apply_some s step) (placed st.placed v)
+  pub places : placed st.placed v ≡ if_completed v st.placed step
+  pub next : NextIs m k Step p c h (apply_some s step) (mark_of p step manner s ∷ span) st.next
+  -- an exchange that fails and is made again does so by another party's change
+  pub fails : is_again manner ≡ true → step ≡ None → failures p span < changes m.coding p span
+
+-- from these words, at this point, the call is answered by its k-th step, if no other party steps
+abbrev pub AnswersWithin : {W V C L A : Type 0} → Machine W V C L A → ℕ → W → C → L → Option Hold → Type 0
+AnswersWithin m zero w c l h = ⊥
+AnswersWithin {V = V} {L = L} m (suc k) w c l h = (v : Option V) (l' : L) → (m.step w v c l h).next ≡ GoesOn l' → AnswersWithin m k (m.step w v c l h).words c l' h
+
+pub record Facts {W V C L A : Type 0} (m : Machine W V C L A) (k : LocalInvariant V C L) : Type 0 where
+  pub first : m.numbers m.words ≡ encoded m.coding (opening_plain m)
+  pub shape_first : k.Shape (opening_plain m) m.value
+  -- equal numbers are equal words
+  pub numbers_tell : (v w : W) → m.numbers v ≡ m.numbers w → v ≡ w
+  -- holders and tickets don't stand in one lock
+  pub one_list : (s : Plain) (v : Option V) → k.Shape s v → (is_empty s.holders || is_empty s.tickets) ≡ true
+  pub shape_written : (s : Plain) (p : ℕ) (old : Option V) (v : V) → is_writer (entries p s) ≡ true → k.Shape s old → k.Shape s (Some v)
+  pub shape_set : (s : Plain) (old v : V) → k.Shape s (Some old) → k.Shape s (Some v)
+  -- what a party knows as its call begins
+  pub begins : (p : ℕ) (c : C) (l : L) (h : Option Hold) (s : Plain) → m.begin c h ≡ Some l → entries p s ≡ entries_held p h → k.Knows c l h p s []
+  -- another party's step, of those that this kind of lock makes, leaves it true
+  pub others : (p q : ℕ) (c : C) (l : L) (h : Option Hold) (s : Plain) (v : Option V) (step : Option Change) (manner : Manner) (span : List Mark)
+      → (q ≡ p → ⊥) → k.Shape s v → IsExclusive s → IsOpenStep s q step → BelongsTo m.coding step → k.Knows c l h p s span → k.Knows c l h p (apply_some s step) (mark_of q step manner s ∷ span)
+  -- the next step may be taken, and what it comes to
+  pub can : (p : ℕ) (c : C) (l : L) (h : Option Hold) (s : Plain) (v : Option V) (w : W) (span : List Mark) → InCall m k p c l h s v w span → m.can w c l h ≡ true
+  pub steps : (p : ℕ) (c : C) (l : L) (h : Option Hold) (s : Plain) (v : Option V) (w : W) (span : List Mark) → InCall m k p c l h s v w span
+      → StepIs m k p c h s v span (m.step w v c l h) (m.change p w c l h) (by_step (m.manner c l h))
+  -- where what a call that may wait asks is open to it, it is answered by its fourth step, if no other party steps
+  pub undisturbed : (p : ℕ) (c : C) (l : L) (h : Option Hold) (s : Plain) (v : Option V) (w : W) (span : List Mark) → InCall m k p c l h s v w span
+      → is_open_now p (m.asks c h) span s ≡ true → AnswersWithin m 4 w c l h
+  -- a closure completes only where nobody holds the lock
+  pub completes_alone : (p : ℕ) (c : C) (l : L) (h : Option Hold) (s : Plain) (v : Option V) (w : W) (span : List Mark) → InCall m k p c l h s v w span
+      → (q : ℕ) → m.change p w c l h ≡ Some (completes q) → is_held s ≡ false
+  -- a weak exchange that refuses makes no plain step
+  pub refuses : (p : ℕ) (c : C) (l : L) (h : Option Hold) (s : Plain) (v : Option V) (w : W) (span : List Mark) (next : Next L A) → InCall m k p c l h s v w span
+      → m.refuse c l h ≡ Some next → NextIs m k Weak p c h s (mark_of p None manner.weak s ∷ span) next

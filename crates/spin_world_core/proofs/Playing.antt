@@ -1,0 +1,107 @@
+-- What has been played of a schedule, at a turn of the loop.
+use Rattle.std.proofs.Common.{◌≡◌, ℕ, zero, suc, map, ◌+◌, ◌<◌, ◌≤◌, ◌==◌, ◌&&◌, Bool, true, false, Option, Some, None, List, [], ◌∷◌, ◌++◌, length, slice_get, slice_set, if◌then◌else◌, unwrap_or, refl, ap, sym, ◌∙◌, arith, subst, ⊎_elim, length-set, take, get_or, length-take-le, zero-add}
+use Rattle.std.proofs.lemmas.Bool.{cases_lt, true≢false}
+use Rattle.std.proofs.lemmas.Bool.Decides.{eqb_tells}
+use Rattle.std.proofs.lemmas.List.{length-map}
+use Rattle.spin_world_core.specs.declared.schedule.Move.{Move}
+use Rattle.spin_world_core.specs.declared.schedule.Outcome.{Outcome}
+use Rattle.spin_world_core.specs.declared.schedule.Outcome.TheVariants as outcome
+use Rattle.spin_world_core.specs.declared.schedule.Event.{Event}
+use Rattle.spin_world_core.specs.Machines.{Machine}
+use Rattle.spin_world_core.specs.Schedules.{State, Happened, happens, after, events_of, with_begins, last_begin, begin_of, begins_after, with_begin, is_begun}
+use Rattle.spin_world_core.proofs.Lists.{get-set_within, get-set_other, take_next}
+use Rattle.spin_world_core.proofs.Schedules.{after-append, events_of-append, length-events_of, with_begins_more, last_begin_more, stranger, length-happens}
+
+pub record Played {W V C L A : Type 0} (m : Machine W V C L A) (from now : State W V C L) (begins : List (Option ℕ)) (events : List (Event W V A)) (front : List (ℕ × Move C V)) : Type 0 where
+  pub table : now ≡ after m from front
+  pub with_begins_so : events ≡ with_begins [] (events_of m from front)
+  pub begun_so : (p : ℕ) → begin_of begins p ≡ last_begin p 0 None (events_of m from front)
+  pub parties : length begins ≡ length now.seats
+
+begun_at : (begins : List (Option ℕ)) (p q k : ℕ) (old : Option ℕ) → p < length begins → begin_of begins q ≡ old
+    → begin_of (slice_set begins p (Some k)) q ≡ (if (p == q) && true then Some k else old)
+begun_at begins p q k old lt e =
+    ⊎_elim
+    (λ (t : ((p == q) ≡ true) × (p ≡ q)). rw t.0 (ap (λ o. unwrap_or o None) (ap (λ r. slice_get (slice_set begins p (Some k)) r) (sym t.1) ∙ get-set_within begins p (Some k) lt)))
+    (λ (t : ((p == q) ≡ false) × (p ≡ q → ⊥)). rw t.0 (ap (λ o. unwrap_or o None) (get-set_other begins p q (Some k) t.1) ∙ e))
+    (eqb_tells p q)
+
+never : (b : Bool) (n old : Option ℕ) → old ≡ (if b && false then n else old)
+never true n old = refl
+never false n old = refl
+
+begun_more : {V A : Type 0} (begins : List (Option ℕ)) (p q k : ℕ) (old : Option ℕ) (o : Outcome A V)
+    → (is_begun o ≡ true → p < length begins) → begin_of begins q ≡ old
+    → begin_of (begins_after begins p k o) q ≡ (if (p == q) && is_begun o then Some k else old)
+begun_more begins p q k old outcome.Begun lt e = begun_at begins p q k old (lt refl) e
+begun_more begins p q k old outcome.PassedOver lt e = e ∙ never (p == q) (Some k) old
+begun_more begins p q k old outcome.GoingOn lt e = e ∙ never (p == q) (Some k) old
+begun_more begins p q k old (outcome.Answered a b) lt e = e ∙ never (p == q) (Some k) old
+begun_more begins p q k old (outcome.Value v) lt e = e ∙ never (p == q) (Some k) old
+begun_more begins p q k old outcome.Written lt e = e ∙ never (p == q) (Some k) old
+begun_more begins p q k old outcome.Leaked lt e = e ∙ never (p == q) (Some k) old
+
+length-begins_after : {V A : Type 0} (begins : List (Option ℕ)) (p k : ℕ) (o : Outcome A V) → length (begins_after begins p k o) ≡ length begins
+length-begins_after begins p k outcome.Begun = length-set begins p (Some k)
+length-begins_after begins p k outcome.PassedOver = refl
+length-begins_after begins p k outcome.GoingOn = refl
+length-begins_after begins p k (outcome.Answered a b) = refl
+length-begins_after begins p k (outcome.Value v) = refl
+length-begins_after begins p k outcome.Written = refl
+length-begins_after begins p k outcome.Leaked = refl
+
+-- only a party that exists begins a call
+begins_within : {W V C L A : Type 0} (m : Machine W V C L A) (s : State W V C L) (p : ℕ) (move : Move C V) → is_begun (happens m s p move).outcome ≡ true → p < length s.seats
+begins_within m s p move e =
+    ⊎_elim (λ (lt : p < length s.seats). lt) (λ (ge : length s.seats ≤ p). absurd (true≢false (sym e ∙ ap is_begun (stranger m s p move ge)))) (cases_lt p (length s.seats))
+
+-- nobody's call has begun
+none_begun : (begins : List (Option ℕ)) (p : ℕ) → begin_of (map (λ b. None) begins) p ≡ None
+none_begun [] p = refl
+none_begun (b ∷ bs) zero = refl
+none_begun (b ∷ bs) (suc p) = none_begun bs p
+
+pub forgotten : {W V C L A : Type 0} (m : Machine W V C L A) (s : State W V C L) (begins now : List (Option ℕ)) → now ≡ map (λ b. None) begins → length begins ≡ length s.seats → Played {A = A} m s s now [] []
+forgotten m s begins now is parties =
+    record { table = refl; with_begins_so = refl; begun_so = λ p. ap (λ bs. begin_of bs p) is ∙ none_begun begins p; parties = ap length is ∙ (length-map begins (λ b. None) ∙ parties) }
+
+played_at : {W V C L A : Type 0} (m : Machine W V C L A) (from : State W V C L) (begins : List (Option ℕ)) (events : List (Event W V A)) (front : List (ℕ × Move C V)) (p : ℕ) (move : Move C V)
+    → Played m from (after m from front) begins events front
+    → (h : Happened W V C L A) → h ≡ happens m (after m from front) p move
+    → Played m from h.next (begins_after begins p (length front) h.outcome) (events ++ record { party = p; outcome = with_begin (begin_of begins p) h.outcome; words = h.next.words } ∷ []) (front ++ (p, move) ∷ [])
+played_at {W = W} {V = V} {C = C} {L = L} {A = A} m from begins events front p move played h is =
+    let all = events_of-append m from front ((p, move) ∷ []) in
+    let event : Event W V A = record { party = p; outcome = (happens m (after m from front) p move).outcome; words = (happens m (after m from front) p move).next.words } in
+    record {
+      table = ap (λ h. h.next) is ∙ sym (after-append m from front ((p, move) ∷ []));
+      with_begins_so =
+          rw (all, is, played.with_begins_so, played.begun_so p) (sym (with_begins_more [] (events_of m from front) event));
+      begun_so = λ q.
+          rw (all, last_begin_more q 0 None (events_of m from front) event, length-events_of m from front, is, zero-add)
+          (begun_more begins p q (length front) (last_begin q 0 None (events_of m from front)) (happens m (after m from front) p move).outcome
+          (λ e. omega (arith, begins_within m (after m from front) p move e, played.parties)) (played.begun_so q));
+      parties = length-begins_after begins p (length front) h.outcome ∙ (played.parties ∙ (sym (length-happens m (after m from front) p move) ∙ ap (λ (g : Happened W V C L A). length g.next.seats) (sym is)));
+    }
+
+pub played_more : {W V C L A : Type 0} (m : Machine W V C L A) (from now : State W V C L) (begins : List (Option ℕ)) (events : List (Event W V A)) (front : List (ℕ × Move C V)) (p : ℕ) (move : Move C V)
+    → Played m from now begins events front
+    → (h : Happened W V C L A) → h ≡ happens m now p move
+    → Played m from h.next (begins_after begins p (length front) h.outcome) (events ++ record { party = p; outcome = with_begin (begin_of begins p) h.outcome; words = h.next.words } ∷ []) (front ++ (p, move) ∷ [])
+played_more m from now begins events front p move played h is =
+    played_at m from begins events front p move (subst (λ s. Played m from s begins events front) played.table played) h (is ∙ ap (λ s. happens m s p move) played.table)
+
+pub played_next : {W V C L A : Type 0} (m : Machine W V C L A) (from now next : State W V C L) (begins begins' : List (Option ℕ)) (events events' : List (Event W V A))
+    (schedule : List (ℕ × Move C V)) (k : ℕ) (entry : ℕ × Move C V) (o o' : Outcome A V) (words : W)
+    → Played m from now begins events (take k schedule)
+    → k < length schedule
+    → entry ≡ get_or schedule k entry
+    → (let h : Happened W V C L A = record { outcome = o; next = next } in h ≡ happens m now entry.0 entry.1)
+    → words ≡ next.words
+    → o' ≡ with_begin (begin_of begins entry.0) o
+    → begins' ≡ begins_after begins entry.0 k o
+    → events' ≡ events ++ record { party = entry.0; outcome = o'; words = words } ∷ []
+    → Played m from next begins' events' (take (k + 1) schedule)
+played_next {V = V} {A = A} m from now next begins begins' events events' schedule k entry o o' words played lt read acted same_words told_o put added =
+    let more = played_more m from now begins events (take k schedule) entry.0 entry.1 played (record { outcome = o; next = next }) acted in
+    let front : length (take k schedule) ≡ k = length-take-le k schedule (omega arith) in
+    rw (take_next schedule k entry lt read, added, put, told_o, same_words) (rw front at more)

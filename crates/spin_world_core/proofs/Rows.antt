@@ -1,0 +1,358 @@
+-- What a party in a call knows of itself and of its span, and that its own steps and those of others keep it.
+use Rattle.std.proofs.Common.{◌≡◌, ℕ, suc, ◌+◌, ◌≤◌, ◌⊎◌, ◌==◌, Bool, true, false, not, ◌&&◌, is_some, Option, Some, None, List, [], ◌∷◌, ◌++◌, option_to_list, nat_lt, if◌then◌else◌, refl, ap, sym, ◌∙◌, subst, arith, inl, inr, ⊎_elim}
+use Rattle.std.proofs.lemmas.Bool.{ne_eqb, eqb-true, ltb-true, cases_eq, eq-eqb}
+use Rattle.spin_core.specs.Plain.{Plain, upgradable, writing, Ask, to_read, to_enter, to_lock_unregistered, to_lock_starving, to_begin, Change, gets, turns, completes, fails, arrives, is_open}
+use Rattle.spin_core.specs.Parties.{apply_some, IsOpenStep, entries}
+use Rattle.spin_core.specs.Steps.{bit}
+use Rattle.spin_core.proofs.Entries.{entries-other}
+use Rattle.spin_world_core.specs.declared.place.Hold.{Hold}
+use Rattle.spin_world_core.specs.declared.place.Hold.TheVariants.{Upgradable, Write}
+use Rattle.spin_world_core.specs.Manners.{Manner, is_again}
+use Rattle.spin_world_core.specs.Calls.{Coding, ticket, Asked, waits, waits_or_starves, tries, tries_weakly, tries_to_know, looks, counts_readers, counts_writers, turns_to, gives_back, initializes, fails_to_initialize, waits_for_value, polls, looks_for_value, looks_complete, meets, Said, granted, refused, done, tells, counted, gives_value, failed, leads, grant, let_go_of, own_steps, Mark, AnyOf, Grants, HasMoment, HasWeakMoment, FindsClosed, first_word, Limit, unlimited, within, within_changes, gets_within, changes_within, limit}
+use Rattle.spin_world_core.specs.Runs.{mark_of, own, own_count, failures, changes, EndsWithin, GoesOnWithin}
+use Rattle.spin_world_core.specs.Acts.{Act, retry, Table}
+use Rattle.spin_world_core.proofs.Stands.{Stand, entries_at, stand_of}
+use Rattle.spin_world_core.proofs.Spans.{nil_left, own-mine, own-other, own_count-mine, own_count-other, failures-mine, failures-other, changes-mine, changes-other}
+
+-- The count of its steps
+
+-- an own step makes its way, is a retry that failed, or finds that a plain step is closed
+pub data Turn : Type 0 where
+  goes : Turn
+  loses : Turn
+  misses : Change → Turn
+
+abbrev pub Turned : Turn → Plain → Option Change → Manner → Type 0
+Turned goes s step r = Unit {0}
+Turned loses s step r = (is_again r ≡ true) × (step ≡ None)
+Turned (misses c) s step r = is_open s c ≡ false
+
+-- at most k steps are spent of what the limit counts
+abbrev pub Spends : Limit → ℕ → ℕ → List Mark → Type 0
+Spends unlimited k p span = Unit {0}
+Spends (within n) k p span = own_count p span ≤ k
+Spends (within_changes n) k p span = own_count p span ≤ failures p span + k
+Spends (gets_within ask n) k p span = own p span ≡ [] → (own_count p span ≤ failures p span + k) ⊎ AnyOf (FindsClosed p ask) span
+Spends (changes_within n) k p span = own p span ≡ [] → own_count p span ≤ k
+
+-- after j steps and this turn, k are spent; the list is of the plain steps that are made then
+abbrev pub MaySpend : Limit → Turn → List Change → ℕ → ℕ → ℕ → Type 0
+MaySpend unlimited t cs j k p = Unit {0}
+MaySpend (within n) t cs j k p = nat_lt j k ≡ true
+MaySpend (within_changes n) loses cs j k p = nat_lt j (suc k) ≡ true
+MaySpend (within_changes n) t cs j k p = nat_lt j k ≡ true
+MaySpend (gets_within ask n) t (c ∷ cs) j k p = Unit {0}
+MaySpend (gets_within ask n) goes [] j k p = nat_lt j k ≡ true
+MaySpend (gets_within ask n) loses [] j k p = nat_lt j (suc k) ≡ true
+MaySpend (gets_within ask n) (misses c) [] j k p = c ≡ gets p ask
+MaySpend (changes_within n) t (c ∷ cs) j k p = Unit {0}
+MaySpend (changes_within n) t [] j k p = nat_lt j k ≡ true
+
+-- with so many spent a call may go on
+abbrev pub is_timely : Limit → List Change → ℕ → Bool
+is_timely unlimited cs k = true
+is_timely (within n) cs k = nat_lt k n
+is_timely (within_changes n) cs k = nat_lt k n
+is_timely (gets_within ask n) [] k = nat_lt k n
+is_timely (gets_within ask n) (c ∷ cs) k = true
+is_timely (changes_within n) [] k = nat_lt k n
+is_timely (changes_within n) (c ∷ cs) k = true
+
+on_each : {A B C D : Type 0} → (A → C) → (B → D) → A ⊎ B → C ⊎ D
+on_each f g (inl a) = inl (f a)
+on_each f g (inr b) = inr (g b)
+
+module _ (p : ℕ) (s : Plain) (step : Option Change) (r : Manner) (span : List Mark) where
+  none_before : own p (mark_of p step r s ∷ span) ≡ [] → own p span ≡ []
+  none_before none = nil_left (own p span) (option_to_list step) (sym (own-mine p step r s span) ∙ none)
+
+  counts_one : (j k : ℕ) → nat_lt j k ≡ true → own_count p span ≤ failures p span + j → own_count p (mark_of p step r s ∷ span) ≤ failures p (mark_of p step r s ∷ span) + k
+  counts_one j k lt le = omega (arith, own_count-mine p step r s span, failures-mine p step r s span, ltb-true j k lt)
+
+  counts_lost : (j k : ℕ) → nat_lt j (suc k) ≡ true → (is_again r ≡ true) × (step ≡ None) → own_count p span ≤ failures p span + j → own_count p (mark_of p step r s ∷ span) ≤ failures p (mark_of p step r s ∷ span) + k
+  counts_lost j k lt lost le =
+      let one = failures-mine p step r s span ∙ (ap (λ b. failures p span + bit (b && not (is_some step))) lost.0 ∙ ap (λ (o : Option Change). failures p span + bit (true && not (is_some o))) lost.1) in
+      omega (arith, own_count-mine p step r s span, one, ltb-true j (suc k) lt)
+
+  pub spent-mine : (what : Limit) (t : Turn) (cs : List Change) (j k : ℕ) → Turned t s step r → own p (mark_of p step r s ∷ span) ≡ cs → MaySpend what t cs j k p → Spends what j p span → Spends what k p (mark_of p step r s ∷ span)
+  spent-mine unlimited t cs j k how is may spent = tt
+  spent-mine (within n) t cs j k how is may spent = omega (arith, own_count-mine p step r s span, ltb-true j k may)
+  spent-mine (within_changes n) goes cs j k how is may spent = counts_one j k may spent
+  spent-mine (within_changes n) loses cs j k how is may spent = counts_lost j k may how spent
+  spent-mine (within_changes n) (misses c) cs j k how is may spent = counts_one j k may spent
+  spent-mine (gets_within ask n) t (c ∷ cs) j k how is may spent = λ none. absurd (cc (is, none))
+  spent-mine (gets_within ask n) goes [] j k how is may spent = λ none. on_each (counts_one j k may) (λ found. inr found) (spent (none_before none))
+  spent-mine (gets_within ask n) loses [] j k how is may spent = λ none. on_each (counts_lost j k may how) (λ found. inr found) (spent (none_before none))
+  spent-mine (gets_within ask n) (misses c) [] j k how is may spent = λ none. inr (inl (refl, subst (λ d. is_open s d ≡ false) may how))
+  spent-mine (changes_within n) t (c ∷ cs) j k how is may spent = λ none. absurd (cc (is, none))
+  spent-mine (changes_within n) t [] j k how is may spent = λ none. omega (arith, own_count-mine p step r s span, ltb-true j k may, spent (none_before none))
+
+-- a call may go on so, and be answered by the next step
+
+pub goes_within : (what : Limit) (coding : Coding) (cs : List Change) (k p : ℕ) (span : List Mark) → own p span ≡ cs → is_timely what cs k ≡ true → failures p span ≤ changes coding p span → Spends what k p span → GoesOnWithin what coding p span
+goes_within unlimited coding cs k p span is timely retries spent = tt
+goes_within (within n) coding cs k p span is timely retries spent = omega (arith, ltb-true k n timely, spent)
+goes_within (within_changes n) coding cs k p span is timely retries spent = omega (arith, ltb-true k n timely, spent, retries)
+goes_within (gets_within ask n) coding [] k p span is timely retries spent = λ none. on_each (λ le. omega (arith, ltb-true k n timely, le, retries)) (λ found. found) (spent none)
+goes_within (gets_within ask n) coding (c ∷ cs) k p span is timely retries spent = λ none. absurd (cc (is, none))
+goes_within (changes_within n) coding [] k p span is timely retries spent = λ none. omega (arith, ltb-true k n timely, spent none)
+goes_within (changes_within n) coding (c ∷ cs) k p span is timely retries spent = λ none. absurd (cc (is, none))
+
+pub ends_within : (what : Limit) (coding : Coding) (cs : List Change) (k p : ℕ) (s : Plain) (step : Option Change) (r : Manner) (span : List Mark) → is_timely what cs k ≡ true → failures p span ≤ changes coding p span → Spends what k p span
+    → EndsWithin what coding p (mark_of p step r s ∷ span)
+ends_within unlimited coding cs k p s step r span timely retries spent = tt
+ends_within (within n) coding cs k p s step r span timely retries spent = omega (arith, ltb-true k n timely, spent, own_count-mine p step r s span)
+ends_within (within_changes n) coding cs k p s step r span timely retries spent =
+    omega (arith, ltb-true k n timely, spent, retries, own_count-mine p step r s span, changes-mine coding p step r s span)
+ends_within (gets_within ask n) coding cs k p s step r span timely retries spent = tt
+ends_within (changes_within n) coding cs k p s step r span timely retries spent = tt
+
+-- Its plain steps, and the moment of a grant
+
+-- every plain step of the span was its party's, and open
+abbrev pub Opened : List Mark → Type 0
+Opened [] = Unit {0}
+Opened (m ∷ ms) = IsOpenStep m.before m.party m.change × Opened ms
+
+any_split : {X : Type 0} (P : X → Type 0) (xs ys : List X) → AnyOf P (xs ++ ys) → AnyOf P xs ⊎ AnyOf P ys
+any_split P [] ys any = inr any
+any_split P (x ∷ xs) ys (inl here) = inl (inl here)
+any_split P (x ∷ xs) ys (inr there) = on_each (λ (a : AnyOf P xs). inr a) (λ b. b) (any_split P xs ys there)
+
+pub any_map : {X : Type 0} (P Q : X → Type 0) (xs : List X) → ((x : X) → P x → Q x) → AnyOf P xs → AnyOf Q xs
+any_map P Q [] f any = any
+any_map P Q (x ∷ xs) f (inl here) = inl (f x here)
+any_map P Q (x ∷ xs) f (inr there) = inr (any_map P Q xs f there)
+
+granted_here : (p : ℕ) (ask : Ask) (m : Mark) (b : Bool) (step : Option Change) → (m.party == p) ≡ b → m.change ≡ step → IsOpenStep m.before m.party step → AnyOf (λ c. c ≡ gets p ask) (if b then option_to_list step else []) → Grants p ask m
+granted_here p ask m true None mine is may any = absurd any
+granted_here p ask m true (Some c) mine is may (inl same) = (eqb-true m.party p mine, subst (λ d. is_open m.before d ≡ true) same may.1, is ∙ ap (λ (d : Change). Some d) same)
+granted_here p ask m true (Some c) mine is may (inr none) = absurd none
+granted_here p ask m false step mine is may any = absurd any
+
+granted_at : (p : ℕ) (ask : Ask) (span : List Mark) → Opened span → AnyOf (λ c. c ≡ gets p ask) (own p span) → AnyOf (Grants p ask) span
+granted_at p ask [] opened any = any
+granted_at p ask (m ∷ ms) opened any =
+    ⊎_elim
+    (λ (earlier : AnyOf (λ c. c ≡ gets p ask) (own p ms)). inr (granted_at p ask ms opened.1 earlier))
+    (λ (here : AnyOf (λ c. c ≡ gets p ask) (if m.party == p then option_to_list m.change else [])). inl (granted_here p ask m (m.party == p) m.change refl refl opened.0 here))
+    (any_split (λ c. c ≡ gets p ask) (own p ms) (if m.party == p then option_to_list m.change else []) any)
+
+gets_in_grant : (p : ℕ) (ask : Ask) → AnyOf (λ c. c ≡ gets p ask) (grant p ask)
+gets_in_grant p to_enter = inr (inl refl)
+gets_in_grant p _ = inl refl
+
+granted_moment : (p : ℕ) (ask : Ask) (span : List Mark) → Opened span → AnyOf (λ steps. own p span ≡ steps) (grant p ask ∷ []) → AnyOf (Grants p ask) span
+granted_moment p ask span opened (inl is) = granted_at p ask span opened (subst (AnyOf (λ c. c ≡ gets p ask)) (sym is) (gets_in_grant p ask))
+granted_moment p ask span opened (inr none) = absurd none
+
+-- what an answer owes of its moment: a grant has it by the steps that the call has made
+abbrev pub OwesMoment : Asked → Said → ℕ → List Mark → Type 0
+OwesMoment what granted p span = Unit {0}
+OwesMoment what said p span = HasMoment what said p span
+
+granted_waiting : (p : ℕ) (span : List Mark) → Opened span → AnyOf (λ steps. own p span ≡ steps) (own_steps waits_or_starves granted p) → HasMoment waits_or_starves granted p span
+granted_waiting p span opened (inl is) = inl (granted_at p to_lock_unregistered span opened (subst (AnyOf (λ c. c ≡ gets p to_lock_unregistered)) (sym is) (inl refl)))
+granted_waiting p span opened (inr (inl is)) = inr (granted_at p to_lock_starving span opened (subst (AnyOf (λ c. c ≡ gets p to_lock_starving)) (sym is) (inr (inl refl))))
+granted_waiting p span opened (inr (inr none)) = absurd none
+
+pub moment_of : (what : Asked) (said : Said) (p : ℕ) (span : List Mark) → Opened span → AnyOf (λ steps. own p span ≡ steps) (own_steps what said p) → OwesMoment what said p span → HasMoment what said p span
+moment_of (waits ask) granted p span opened is owed = granted_moment p ask span opened is
+moment_of waits_or_starves granted p span opened is owed = granted_waiting p span opened is
+moment_of (tries ask) granted p span opened is owed = granted_moment p ask span opened is
+moment_of (tries_weakly ask) granted p span opened is owed = granted_moment p ask span opened is
+moment_of (tries_to_know ask) granted p span opened is owed = granted_moment p ask span opened is
+moment_of (turns_to (Some Write) kind) granted p span opened is owed = absurd is
+moment_of (gives_back (Some Write)) granted p span opened is owed = absurd is
+moment_of what granted p span opened is owed = absurd is
+moment_of what _ p span opened is owed = owed
+
+-- only a weak try may be refused without cause
+abbrev pub OwesRight : Bool → Asked → Said → ℕ → List Mark → Type 0
+OwesRight true (tries_weakly ask) refused p span = Unit {0}
+OwesRight weakly what said p span = OwesMoment what said p span
+
+pub weak_moment_of : (what : Asked) (said : Said) (p : ℕ) (span : List Mark) → Opened span → AnyOf (λ steps. own p span ≡ steps) (own_steps what said p) → OwesRight true what said p span → HasWeakMoment what said p span
+weak_moment_of (tries_weakly ask) refused p span opened is owed = tt
+weak_moment_of (tries_weakly ask) said p span opened is owed = moment_of (tries_weakly ask) said p span opened is owed
+weak_moment_of what said p span opened is owed = moment_of what said p span opened is owed
+
+-- What a row says of a point
+
+pub record Row : Type 0 where
+  pub stand : Stand
+  pub made : ℕ → List Change  -- its plain steps so far
+  pub rest : ℕ → List Change  -- those that are left to an answer that says so
+  pub said : Said
+  pub spent : ℕ  -- of the call's limit
+
+-- a point where a party has what it had as its call began, and has made no plain step: so many of the limit's steps are spent; or one with a row of its own
+pub data Point : Type 0 where
+  nowhere : Point
+  looked : ℕ → Point
+  onward : Row → Point
+
+-- a call begins where it may, with that hold
+abbrev pub starts : {L : Type 0} → Option L → Point
+starts None = nowhere
+starts (Some l) = looked 0
+
+abbrev pub row_looked : Option Hold → ℕ → (ℕ → List Change) → Said → Row
+row_looked h k rest said = record { stand = stand_of h; made = λ p. []; rest = rest; said = said; spent = k }
+
+abbrev pub row_at : Asked → Option Hold → Point → Option Row
+row_at what h nowhere = None
+row_at what h (onward row) = Some row
+row_at (waits ask) h (looked k) = Some (row_looked h k (λ p. grant p ask) granted)
+row_at waits_or_starves h (looked k) = Some (row_looked h k (λ p. grant p to_lock_unregistered) granted)
+row_at (tries ask) h (looked k) = Some (row_looked h k (λ p. grant p ask) granted)
+row_at (tries_weakly ask) h (looked k) = Some (row_looked h k (λ p. grant p ask) granted)
+row_at (tries_to_know ask) h (looked k) = Some (row_looked h k (λ p. grant p ask) granted)
+row_at looks h (looked k) = Some (row_looked h k (λ p. []) (tells true))
+row_at counts_readers h (looked k) = Some (row_looked h k (λ p. []) (counted 0))
+row_at counts_writers h (looked k) = Some (row_looked h k (λ p. []) (counted 0))
+row_at (turns_to (Some Write) kind) h (looked k) = Some (row_looked h k (λ p. turns p writing kind ∷ []) done)
+row_at (turns_to (Some Upgradable) kind) h (looked k) = Some (row_looked h k (λ p. turns p upgradable kind ∷ []) done)
+row_at (turns_to _ kind) h (looked k) = None
+row_at (gives_back (Some hold)) h (looked k) = Some (row_looked h k (λ p. let_go_of p hold ∷ []) done)
+row_at (gives_back None) h (looked k) = None
+row_at initializes h (looked k) = Some (row_looked h k (λ p. gets p to_begin ∷ completes p ∷ []) gives_value)
+row_at fails_to_initialize h (looked k) = Some (row_looked h k (λ p. gets p to_begin ∷ fails p ∷ []) failed)
+row_at waits_for_value h (looked k) = Some (row_looked h k (λ p. []) gives_value)
+row_at polls h (looked k) = Some (row_looked h k (λ p. []) gives_value)
+row_at looks_for_value h (looked k) = Some (row_looked h k (λ p. []) gives_value)
+row_at looks_complete h (looked k) = Some (row_looked h k (λ p. []) (tells true))
+row_at meets h (looked k) = Some (row_looked h k (λ p. arrives p ∷ []) leads)
+
+-- a row leaves time for a step, and leads to an answer
+abbrev pub IsSound : Coding → Asked → ℕ → Option Row → Type 0
+IsSound coding what p None = Unit {0}
+IsSound coding what p (Some row) = (is_timely (limit coding what) (row.made p) row.spent ≡ true) × AnyOf (λ steps. row.made p ++ row.rest p ≡ steps) (own_steps what row.said p)
+
+-- what is left to show of it
+abbrev pub SoundAt : Coding → Asked → ℕ → Point → Type 0
+SoundAt coding what p nowhere = Unit {0}
+SoundAt coding what p (looked k) = is_timely (limit coding what) [] k ≡ true
+SoundAt coding what p (onward row) = IsSound coding what p (Some row)
+
+pub sound_at : (coding : Coding) (what : Asked) (h : Option Hold) (p : ℕ) (point : Point) → SoundAt coding what p point → IsSound coding what p (row_at what h point)
+sound_at coding what h p nowhere sound = tt
+sound_at coding what h p (onward row) sound = sound
+sound_at coding (turns_to (Some Write) kind) h p (looked k) sound = (sound, inl refl)
+sound_at coding (turns_to (Some Upgradable) kind) h p (looked k) sound = (sound, inl refl)
+sound_at coding (turns_to _ kind) h p (looked k) sound = tt
+sound_at coding (gives_back None) h p (looked k) sound = tt
+sound_at coding (gives_back (Some hold)) h p (looked k) sound = (sound, inl refl)
+sound_at coding _ h p (looked k) sound = (sound, inl refl)
+
+timely_try : (coding : Coding) (ask : Ask) → is_timely (limit coding (tries ask)) [] 0 ≡ true
+timely_try coding to_read = refl
+timely_try coding _ = refl
+
+timely_wait : (coding : Coding) (ask : Ask) → is_timely (limit coding (waits ask)) [] 0 ≡ true
+timely_wait coding to_enter = refl
+timely_wait coding _ = refl
+
+timely_look : (coding : Coding) → is_timely (limit coding looks) [] 0 ≡ true
+timely_look ticket = refl
+timely_look _ = refl
+
+timely_first : (coding : Coding) (what : Asked) → is_timely (limit coding what) [] 0 ≡ true
+timely_first coding (waits ask) = timely_wait coding ask
+timely_first coding (tries ask) = timely_try coding ask
+timely_first coding looks = timely_look coding
+timely_first coding _ = refl
+
+-- so is each call's beginning
+pub starts_sound : {L : Type 0} (coding : Coding) (what : Asked) (p : ℕ) (o : Option L) → SoundAt coding what p (starts o)
+starts_sound coding what p None = tt
+starts_sound coding what p (Some l) = timely_first coding what
+
+-- where the next step is a retry: no more retries have failed than others have changed the first word, it not counted if it has changed since; and what was found is enough
+abbrev pub Expects : {W V C L A : Type 0} → Table W V C L A → Act W L A → ℕ → Plain → List Mark → Type 0
+Expects {W = W} t (retry n f step won found missed) p s span =
+    (failures p span + bit (not (first_word t.coding s == n)) ≤ changes t.coding p span) × ((w : W) → t.number w ≡ n → is_some (f w) ≡ true)
+Expects t _ p s span = Unit {0}
+
+-- what is owed of it by a step that finds the words w
+abbrev pub Found : {W V C L A : Type 0} → Table W V C L A → Act W L A → W → Option Change → Type 0
+Found {W = W} t (retry n f step won found missed) w made = (made ≡ None) × (t.number w ≡ n) × ((to : W) → t.number to ≡ n → is_some (f to) ≡ true)
+Found t _ w made = Unit {0}
+
+pub record Known {W V C L A : Type 0} (t : Table W V C L A) (what : Asked) (act : Act W L A) (row : Row) (p : ℕ) (s : Plain) (span : List Mark) : Type 0 where
+  pub stand : entries p s ≡ entries_at p row.stand
+  pub made : own p span ≡ row.made p
+  pub spent : Spends (limit t.coding what) row.spent p span
+  pub expects : Expects t act p s span
+  pub opened : Opened span
+
+-- after a step of its own
+
+unmoved : (a b : ℕ) (coding : Coding) (p n : ℕ) (s : Plain) (step : Option Change) → a ≤ b → step ≡ None → first_word coding s ≡ n → a + bit (not (first_word coding (apply_some s step) == n)) ≤ b
+unmoved a b coding p n s step le none is =
+    omega (arith, le, ap (λ (o : Option Change). bit (not (first_word coding (apply_some s o) == n))) none, ap (λ x. bit (not x)) (eq-eqb (first_word coding s) n is))
+
+pub expects-mine : {W V C L A : Type 0} (t : Table W V C L A) (act : Act W L A) (w : W) (p : ℕ) (s : Plain) (step : Option Change) (r : Manner) (span : List Mark) → t.number w ≡ first_word t.coding s
+    → failures p (mark_of p step r s ∷ span) ≤ changes t.coding p (mark_of p step r s ∷ span) → Found t act w step → Expects t act p (apply_some s step) (mark_of p step r s ∷ span)
+expects-mine t (retry n f c won found missed) w p s step r span is le finds =
+    (unmoved (failures p (mark_of p step r s ∷ span)) (changes t.coding p (mark_of p step r s ∷ span)) t.coding p n s step le finds.0 (sym is ∙ finds.1), finds.2)
+expects-mine t _ w p s step r span is le finds = tt
+
+-- as a call begins
+
+pub none_spent : (what : Limit) (k p : ℕ) → Spends what k p []
+none_spent unlimited k p = tt
+none_spent (within n) k p = omega arith
+none_spent (within_changes n) k p = omega arith
+none_spent (gets_within ask n) k p = λ none. inl (omega arith)
+none_spent (changes_within n) k p = λ none. omega arith
+
+abbrev pub NoRetry : {W L A : Type 0} → Act W L A → Type 0
+NoRetry (retry k f step won found missed) = ⊥
+NoRetry _ = Unit {0}
+
+pub none_expected : {W V C L A : Type 0} (t : Table W V C L A) (act : Act W L A) (p : ℕ) (s : Plain) → NoRetry act → Expects t act p s []
+none_expected t (retry k f step won found missed) p s none = absurd none
+none_expected t _ p s none = tt
+
+-- after another party's step
+
+spent-other : (what : Limit) (k p q : ℕ) (s : Plain) (step : Option Change) (r : Manner) (span : List Mark) → (q ≡ p → ⊥) → Spends what k p span → Spends what k p (mark_of q step r s ∷ span)
+spent-other unlimited k p q s step r span ne spent = tt
+spent-other (within n) k p q s step r span ne spent = omega (arith, own_count-other p q step r s span ne, spent)
+spent-other (within_changes n) k p q s step r span ne spent = omega (arith, own_count-other p q step r s span ne, failures-other p q step r s span ne, spent)
+spent-other (gets_within ask n) k p q s step r span ne spent = λ none.
+    on_each (λ le. omega (arith, own_count-other p q step r s span ne, failures-other p q step r s span ne, le)) (λ found. inr found)
+    (spent (sym (own-other p q step r s span ne) ∙ none))
+spent-other (changes_within n) k p q s step r span ne spent = λ none. omega (arith, own_count-other p q step r s span ne, spent (sym (own-other p q step r s span ne) ∙ none))
+
+bit_le : (b : Bool) → bit b ≤ 1
+bit_le true = omega arith
+bit_le false = omega arith
+
+-- a change of the first word makes one more change by others
+moved : (a b n x y : ℕ) → a + bit (not (x == n)) ≤ b → a + bit (not (y == n)) ≤ b + bit (not (y == x))
+moved a b n x y le =
+    ⊎_elim
+    (λ (e : y ≡ x). omega (arith, le, ap (λ k. bit (not (k == n))) e))
+    (λ (d : y ≡ x → ⊥). omega (arith, le, ap (λ c. bit (not c)) (ne_eqb y x d), bit_le (not (y == n))))
+    (cases_eq y x)
+
+expects-other : {W V C L A : Type 0} (t : Table W V C L A) (act : Act W L A) (p q : ℕ) (s : Plain) (step : Option Change) (r : Manner) (span : List Mark) → (q ≡ p → ⊥) → Expects t act p s span
+    → Expects t act p (apply_some s step) (mark_of q step r s ∷ span)
+expects-other t (retry n f c won found missed) p q s step r span ne expects = (
+  omega (arith, failures-other p q step r s span ne, changes-other t.coding p q step r s span ne, moved (failures p span) (changes t.coding p span) n (first_word t.coding s) (first_word t.coding (apply_some s step)) expects.0),
+  expects.1,
+)
+expects-other t _ p q s step r span ne expects = tt
+
+pub known-other : {W V C L A : Type 0} (t : Table W V C L A) (what : Asked) (act : Act W L A) (row : Row) (p q : ℕ) (s : Plain) (step : Option Change) (r : Manner) (span : List Mark) → (q ≡ p → ⊥) → IsOpenStep s q step
+    → Known t what act row p s span → Known t what act row p (apply_some s step) (mark_of q step r s ∷ span)
+known-other t what act row p q s step r span ne may known =
+    record {
+      stand = entries-other s q p step ne may ∙ known.stand;
+      made = own-other p q step r s span ne ∙ known.made;
+      spent = spent-other (limit t.coding what) row.spent p q s step r span ne known.spent;
+      expects = expects-other t act p q s step r span ne known.expects;
+      opened = (may, known.opened);
+    }

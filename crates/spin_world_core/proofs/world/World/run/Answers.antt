@@ -1,0 +1,65 @@
+use Rattle.std.proofs.Common.{◌≡◌, ℕ, List, ◌++◌, length, take, sym, ap, ◌∙◌, subst, arith, length-take-le}
+use Rattle.std.proofs.lemmas.List.{length-append}
+use Rattle.std.proofs.Math.Logic.{∥∥₁_map, ∥∥₁_elim}
+use Rattle.std.proofs.Math.Bool.{Bool-set}
+use Rattle.spin_world_core.specs.declared.schedule.Move.{Move}
+use Rattle.spin_world_core.specs.Machines.{Machine}
+use Rattle.spin_world_core.specs.Schedules.{State, after, at_first}
+use Rattle.spin_world_core.specs.Runs.{CanStep, IsReached}
+use Rattle.spin_world_core.specs.Transcripts.{TellsAfterAnyPast}
+use Rattle.spin_world_core.proofs.Schedules.{after-append}
+use Rattle.spin_world_core.proofs.Transcripts.{tells_after}
+use Rattle.spin_world_core.proofs.world.World.run.Goals as goal
+
+pub returns-in_err-events-clause-keeps : goal.returns-in_err-events-clause-keeps
+returns-in_err-events-clause-keeps g c = λ n past reached. (c.laws.ensures c.args.self.now.object).keeps n (past ++ c.args.schedule.now)
+
+pub play-requires-clause-can : goal.play-requires-clause-can
+play-requires-clause-can g c = λ k p call local holds there.
+    let m = g.O.Object.machine c.self.inside.object in
+    let front = take k c.args.schedule.now in
+    ∥∥₁_elim c.self.invariant.0 (Bool-set _ _) (λ led.
+    let can = (c.laws.ensures c.self.inside.object).can led.0 (led.1 ++ front) in
+    let there_now = after-append m (at_first m led.0) led.1 front ∙ ap (λ s. after m s front) led.2 in
+    subst (CanStep m) there_now can p call local holds there)
+
+-- what a schedule leads to from a state that is reached is reached
+further : {W V C L A : Type 0} (m : Machine W V C L A) (s t : State W V C L) (schedule : List (ℕ × Move C V)) → t ≡ after m s schedule → IsReached m s → IsReached m t
+further m s t schedule is reached =
+    ∥∥₁_map reached (λ led.
+    (led.0, led.1 ++ schedule, after-append m (at_first m led.0) led.1 schedule ∙ (ap (λ u. after m u schedule) led.2 ∙ sym is)))
+
+-- what is written back into a vector of so many
+kept_length : {X : Type 0} (n : ℕ) (xs ys : List X) → length xs ≡ n → length (take n (xs ++ ys)) ≡ length xs
+kept_length n xs ys is = length-take-le n (xs ++ ys) (omega (arith, length-append xs ys, is)) ∙ sym is
+
+pub invariant_of-self : goal.invariant_of-self
+invariant_of-self g c =
+    (further (g.O.Object.machine c.self.inside.object) c.self.inside.table c.play.new.table c.args.schedule.now c.play.ensures.table c.self.invariant.0, kept_length c.self.inside.begins.len c.play.new.begins _ (c.play.auto.begins ∙ c.deref_mut.ensures.len) ∙ c.play.ensures.parties)
+
+pub returns-clause-reached : goal.returns-clause-reached
+returns-clause-reached g c = further (g.O.Object.machine c.self.inside.object) c.self.inside.table c.play.new.table c.args.schedule.now c.play.ensures.table c.self.invariant.0
+
+pub returns-in_err-events-clause-reached : goal.returns-in_err-events-clause-reached
+returns-in_err-events-clause-reached g c = subst (λ w. IsReached (g.O.Object.machine w.object) w.state) c.self.view_is c.self.invariant.0
+
+pub returns-clause-keeps : goal.returns-clause-keeps
+returns-clause-keeps g c = λ n past reached. (c.laws.ensures c.args.self.now.object).keeps n (past ++ c.args.schedule.now)
+
+pub returns-in_err-events-clause-moments : goal.returns-in_err-events-clause-moments
+returns-in_err-events-clause-moments g c = λ n past reached. (c.laws.ensures c.args.self.now.object).moments n (past ++ c.args.schedule.now)
+
+pub returns-clause-moments : goal.returns-clause-moments
+returns-clause-moments g c = λ n past reached. (c.laws.ensures c.args.self.now.object).moments n (past ++ c.args.schedule.now)
+
+pub returns-in_err-events-clause-counts : goal.returns-in_err-events-clause-counts
+returns-in_err-events-clause-counts g c = λ n past reached. (c.laws.ensures c.args.self.now.object).counts n (past ++ c.args.schedule.now)
+
+pub returns-clause-counts : goal.returns-clause-counts
+returns-clause-counts g c = λ n past reached. (c.laws.ensures c.args.self.now.object).counts n (past ++ c.args.schedule.now)
+
+pub returns-clause-tells : goal.returns-clause-tells
+returns-clause-tells g c =
+    let m = g.O.Object.machine c.self.inside.object in
+    subst (λ w. TellsAfterAnyPast (g.O.Object.machine w.object) w.state c.args.schedule.now c.play.new.events.items) {x = record { object = c.self.inside.object; state = c.self.inside.table }} c.self.view_is
+    (tells_after m c.self.inside.table c.args.schedule.now c.play.new.events.items c.play.ensures.events)

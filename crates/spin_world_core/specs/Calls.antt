@@ -1,0 +1,286 @@
+-- What a call asks of the plain lock, and what each of its answers means there. These tables serve every object; an object names rows of them.
+use Rattle.std.specs.Prelude.{◌≡◌, ℕ, ◌+◌, ◌-◌, ◌*◌, ◌/◌, ◌%◌, ◌≤◌, ◌⊎◌, ◌==◌, ◌&&◌, Bool, true, false, not, Option, Some, None, List, [], ◌∷◌, get_or, max}
+use Rattle.spin_core.specs.Plain.{Plain, Kind, reading, upgradable, writing, Phase, complete, Ask, to_read, to_read_upgradable, to_write, to_upgrade, to_take_ticket, to_enter, to_take_and_enter, to_lock_unregistered, to_lock_starving, to_lock_starving_alone, to_starve, to_begin, Change, gets, releases, serves, stops_starving, turns, completes, fails, arrives, is_open_to, is_empty, is_nothing, count_kind, flag_word, next_word, serving_word, fair_word, rw_word, once_word, count_word, generation_word}
+use Rattle.spin_core.specs.Parties.{is_held}
+use Rattle.spin_world_core.specs.declared.answer.Answer.{Answer}
+use Rattle.spin_world_core.specs.declared.answer.Answer.TheVariants.{Granted, Refused, Locked, Starved, Done, Is, Count, Value, NoValue, Failed, Leader, Follower}
+use Rattle.spin_world_core.specs.declared.place.Hold.{Hold}
+use Rattle.spin_world_core.specs.declared.place.Hold.TheVariants.{Read, Upgradable, Write, Ticket, Starver}
+use Rattle.spin_world_core.specs.Manners.{Manner}
+
+-- which sums a lock's words are
+pub data Coding : Type 0 where
+  flag : Coding
+  ticket : Coding
+  fair : Coding
+  rw : Coding
+  once : Coding
+  barrier : Coding
+
+abbrev pub encoded : Coding → Plain → List ℕ
+encoded flag s = flag_word s ∷ []
+encoded ticket s = next_word s ∷ serving_word s ∷ []
+encoded fair s = fair_word s ∷ []
+encoded rw s = rw_word s ∷ []
+encoded once s = once_word s ∷ []
+encoded barrier s = count_word s ∷ generation_word s ∷ []
+
+-- which plain steps each kind of lock makes
+
+abbrev pub may_be_got : Coding → Ask → Bool
+may_be_got flag to_write = true
+may_be_got ticket to_take_ticket = true
+may_be_got ticket to_enter = true
+may_be_got ticket to_take_and_enter = true
+may_be_got fair to_lock_unregistered = true
+may_be_got fair to_lock_starving = true
+may_be_got fair to_lock_starving_alone = true
+may_be_got fair to_starve = true
+may_be_got rw to_read = true
+may_be_got rw to_read_upgradable = true
+may_be_got rw to_write = true
+may_be_got rw to_upgrade = true
+may_be_got once to_begin = true
+may_be_got _ _ = false
+
+abbrev pub is_step_of : Coding → Change → Bool
+is_step_of coding (gets p ask) = may_be_got coding ask
+is_step_of flag (releases p writing) = true
+is_step_of ticket (serves p) = true
+is_step_of fair (releases p writing) = true
+is_step_of fair (stops_starving p) = true
+is_step_of rw (releases p k) = true
+is_step_of rw (turns p k l) = true
+is_step_of once (completes p) = true
+is_step_of once (fails p) = true
+is_step_of barrier (arrives p) = true
+is_step_of _ _ = false
+
+-- a step, if it is one, is one that this kind of lock makes
+abbrev pub BelongsTo : Coding → Option Change → Type 0
+BelongsTo coding None = Unit {0}
+BelongsTo coding (Some c) = is_step_of coding c ≡ true
+
+-- what a call asks
+pub data Asked : Type 0 where
+  waits : Ask → Asked  -- it goes on until it is granted
+  waits_or_starves : Asked  -- it goes on until it is granted, unregistered or, once it has registered, as a starver
+  tries : Ask → Asked
+  tries_weakly : Ask → Asked  -- by a weak exchange, which may refuse without cause
+  tries_to_know : Ask → Asked  -- and a refusal says why
+  looks : Asked  -- whether the lock is held
+  counts_readers : Asked  -- how many hold the lock to read, or upgradably
+  counts_writers : Asked
+  turns_to : Option Hold → Kind → Asked  -- what it holds becomes less
+  gives_back : Option Hold → Asked  -- what it holds
+  initializes : Asked  -- it gives a value, made by its own closure where there is none
+  fails_to_initialize : Asked  -- its own closure fails
+  waits_for_value : Asked
+  polls : Asked  -- the value, once no closure runs
+  looks_for_value : Asked
+  looks_complete : Asked  -- whether there is a value
+  meets : Asked  -- it arrives, and goes on until its group is full
+
+-- what an answer says
+pub data Said : Type 0 where
+  granted : Said
+  refused : Said
+  locked : Said
+  starved : Said
+  done : Said
+  tells : Bool → Said
+  counted : ℕ → Said
+  gives_value : Said
+  has_no_value : Said
+  failed : Said
+  leads : Said
+  follows : Said
+
+abbrev pub says_of : {V : Type 0} → Answer V → Said
+says_of Granted = granted
+says_of Refused = refused
+says_of Locked = locked
+says_of Starved = starved
+says_of Done = done
+says_of (Is there) = tells there
+says_of (Count n) = counted n
+says_of (Value v) = gives_value
+says_of NoValue = has_no_value
+says_of Failed = failed
+says_of Leader = leads
+says_of Follower = follows
+
+-- a party is granted what it asks; one that enters has taken its ticket before, and a starver who gets the lock leaves the starvers
+abbrev pub grant : ℕ → Ask → List Change
+grant p to_enter = gets p to_take_ticket ∷ gets p to_enter ∷ []
+grant p to_lock_starving = gets p to_lock_starving ∷ stops_starving p ∷ []
+grant p to_lock_starving_alone = gets p to_lock_starving_alone ∷ stops_starving p ∷ []
+grant p ask = gets p ask ∷ []
+
+-- a party lets go of what it holds
+abbrev pub let_go_of : ℕ → Hold → Change
+let_go_of p Read = releases p reading
+let_go_of p Upgradable = releases p upgradable
+let_go_of p Write = releases p writing
+let_go_of p (Ticket t) = serves p
+let_go_of p Starver = stops_starving p
+
+-- the plain steps that a party's call has made when it is answered so: one of these lists; no list where such a call is never answered so
+abbrev pub own_steps : Asked → Said → ℕ → List (List Change)
+own_steps (waits ask) granted p = grant p ask ∷ []
+own_steps waits_or_starves granted p = grant p to_lock_unregistered ∷ (gets p to_starve ∷ grant p to_lock_starving) ∷ []
+own_steps (tries ask) granted p = grant p ask ∷ []
+own_steps (tries ask) refused p = [] ∷ []
+own_steps (tries_weakly ask) granted p = grant p ask ∷ []
+own_steps (tries_weakly ask) refused p = [] ∷ []
+own_steps (tries_to_know ask) granted p = grant p ask ∷ []
+own_steps (tries_to_know ask) locked p = [] ∷ []
+own_steps (tries_to_know ask) starved p = [] ∷ []
+own_steps looks (tells held) p = [] ∷ []
+own_steps counts_readers (counted n) p = [] ∷ []
+own_steps counts_writers (counted n) p = [] ∷ []
+own_steps (turns_to (Some Write) kind) done p = (turns p writing kind ∷ []) ∷ []
+own_steps (turns_to (Some Upgradable) kind) done p = (turns p upgradable kind ∷ []) ∷ []
+own_steps (gives_back (Some hold)) done p = (let_go_of p hold ∷ []) ∷ []
+own_steps initializes gives_value p = (gets p to_begin ∷ completes p ∷ []) ∷ [] ∷ []
+own_steps fails_to_initialize gives_value p = [] ∷ []
+own_steps fails_to_initialize failed p = (gets p to_begin ∷ fails p ∷ []) ∷ []
+own_steps waits_for_value gives_value p = [] ∷ []
+own_steps polls gives_value p = [] ∷ []
+own_steps polls has_no_value p = [] ∷ []
+own_steps looks_for_value gives_value p = [] ∷ []
+own_steps looks_for_value has_no_value p = [] ∷ []
+own_steps looks_complete (tells there) p = [] ∷ []
+own_steps meets leads p = (arrives p ∷ []) ∷ []
+own_steps meets follows p = (arrives p ∷ []) ∷ []
+own_steps _ _ p = []
+
+-- a step of a call: whose it is, the plain step that it makes, its manner, and the states before and after it
+pub record Mark : Type 0 where
+  pub party : ℕ
+  pub change : Option Change
+  pub manner : Manner
+  pub before : Plain
+  pub after : Plain
+
+-- it holds of one of these
+abbrev pub AnyOf : {X : Type 0} → (X → Type 0) → List X → Type 0
+AnyOf P [] = ⊥
+AnyOf P (x ∷ xs) = P x ⊎ AnyOf P xs
+
+-- at this moment what the party asks is open to it, and its own step gets it
+abbrev pub Grants : ℕ → Ask → Mark → Type 0
+Grants p ask m = (m.party ≡ p) × (is_open_to m.before p ask ≡ true) × (m.change ≡ Some (gets p ask))
+
+-- what a moment of the call finds
+
+abbrev pub is_starved : Plain → Bool
+is_starved s = not (is_empty s.starvers)
+
+abbrev pub readers : Plain → ℕ
+readers s = count_kind reading s.holders + count_kind upgradable s.holders
+
+abbrev pub writers : Plain → ℕ
+writers s = count_kind writing s.holders
+
+abbrev pub is_complete : Phase → Bool
+is_complete complete = true
+is_complete _ = false
+
+-- there is a value, or the party's own step completes its closure
+abbrev pub FindsValue : ℕ → Mark → Type 0
+FindsValue p m = (is_complete m.before.phase ≡ true) ⊎ ((m.party ≡ p) × (m.change ≡ Some (completes p)))
+
+-- the arrival of this number is the last one of its group
+abbrev pub is_leading : Plain → ℕ → Bool
+is_leading s k = (k % max s.group 1) == 0
+
+-- the number of the arrival that fills the group of this one
+abbrev pub filled_by : Plain → ℕ → ℕ
+filled_by s k = ((k - 1) / max s.group 1 + 1) * max s.group 1
+
+-- the party's own step is this arrival
+abbrev pub Arrives : ℕ → ℕ → Mark → Type 0
+Arrives p k m = (m.party ≡ p) × (m.change ≡ Some (arrives p)) × (m.after.arrivals ≡ k)
+
+-- The answer is right at a moment of the call: at a state in which one of the steps of its span was made, the answering one included.
+-- Where it says ⊥, such an answer never comes
+abbrev pub HasMoment : Asked → Said → ℕ → List Mark → Type 0
+HasMoment (waits ask) granted p span = AnyOf (Grants p ask) span
+HasMoment waits_or_starves granted p span = AnyOf (Grants p to_lock_unregistered) span ⊎ AnyOf (Grants p to_lock_starving) span
+HasMoment (tries ask) granted p span = AnyOf (Grants p ask) span
+HasMoment (tries ask) refused p span = AnyOf (λ m. is_open_to m.before p ask ≡ false) span
+HasMoment (tries_weakly ask) granted p span = AnyOf (Grants p ask) span
+HasMoment (tries_weakly ask) refused p span = AnyOf (λ m. is_open_to m.before p ask ≡ false) span
+HasMoment (tries_to_know ask) granted p span = AnyOf (Grants p ask) span
+HasMoment (tries_to_know ask) locked p span = AnyOf (λ m. (is_held m.before && not (is_starved m.before)) ≡ true) span
+HasMoment (tries_to_know ask) starved p span = AnyOf (λ m. is_starved m.before ≡ true) span
+HasMoment looks (tells held) p span = AnyOf (λ m. is_held m.before ≡ held) span
+HasMoment counts_readers (counted n) p span = AnyOf (λ m. readers m.before ≡ n) span
+HasMoment counts_writers (counted n) p span = AnyOf (λ m. writers m.before ≡ n) span
+HasMoment (turns_to held kind) done p span = Unit {0}
+HasMoment (gives_back held) done p span = Unit {0}
+HasMoment initializes gives_value p span = AnyOf (FindsValue p) span
+HasMoment fails_to_initialize gives_value p span = AnyOf (FindsValue p) span
+HasMoment fails_to_initialize failed p span = AnyOf (λ m. (m.party ≡ p) × (m.change ≡ Some (fails p))) span
+HasMoment waits_for_value gives_value p span = AnyOf (FindsValue p) span
+HasMoment polls gives_value p span = AnyOf (FindsValue p) span
+HasMoment polls has_no_value p span = AnyOf (λ m. is_nothing m.before.phase ≡ true) span
+HasMoment looks_for_value gives_value p span = AnyOf (FindsValue p) span
+HasMoment looks_for_value has_no_value p span = AnyOf (λ m. is_complete m.before.phase ≡ false) span
+HasMoment looks_complete (tells there) p span = AnyOf (λ m. is_complete m.before.phase ≡ there) span
+HasMoment meets leads p span = AnyOf (λ m. (k : ℕ) × Arrives p k m × (is_leading m.before k ≡ true)) span
+HasMoment meets follows p span =
+    (k : ℕ) × AnyOf (λ m. Arrives p k m × (is_leading m.before k ≡ false)) span × AnyOf (λ m. filled_by m.before k ≤ m.before.arrivals) span
+HasMoment _ _ p span = ⊥
+
+-- the same of an answer by a weak exchange that refuses: only the refusal of a weak try needs no cause
+abbrev pub HasWeakMoment : Asked → Said → ℕ → List Mark → Type 0
+HasWeakMoment (tries_weakly ask) refused p span = Unit {0}
+HasWeakMoment what said p span = HasMoment what said p span
+
+-- at this step of its own the party finds that what it asks is closed to it
+abbrev pub FindsClosed : ℕ → Ask → Mark → Type 0
+FindsClosed p ask m = (m.party ≡ p) × (is_open_to m.before p ask ≡ false)
+
+-- the word that the exchanges are on which a call makes again
+abbrev pub first_word : Coding → Plain → ℕ
+first_word coding s = get_or (encoded coding s) 0 0
+
+-- the most steps that a call takes
+pub data Limit : Type 0 where
+  unlimited : Limit
+  within : ℕ → Limit
+  within_changes : ℕ → Limit  -- and one more for each change of the first word by another party in the call's span
+  gets_within : Ask → ℕ → Limit  -- a call that waits has got this by then, the changes counted too, or has found it closed
+  changes_within : ℕ → Limit  -- a call that waits has made a plain step by then
+
+-- A try, a look, a count, a downgrade or a release on one word takes one step, and a try or a look on the two words of a queue three; a starver's try takes a second step to leave the starvers.
+-- Each try that looks first and then makes its exchange again and again takes two, and one more for each change by others.
+-- A call that waits has no limit, but who queues has a ticket by then, and who meets others at a barrier arrives by its first step
+abbrev pub limit : Coding → Asked → Limit
+limit coding (waits to_enter) = gets_within to_take_ticket 2
+limit coding (waits ask) = unlimited
+limit coding waits_or_starves = unlimited
+limit coding (tries to_read) = within_changes 2
+limit coding (tries to_read_upgradable) = within_changes 2
+limit coding (tries to_starve) = within_changes 2
+limit coding (tries to_take_and_enter) = within 3
+limit coding (tries to_lock_starving) = within 2
+limit coding (tries to_lock_starving_alone) = within 2
+limit coding (tries ask) = within 1
+limit coding (tries_weakly ask) = within 1
+limit coding (tries_to_know ask) = within 1
+limit ticket looks = within 3
+limit coding looks = within 1
+limit coding counts_readers = within 1
+limit coding counts_writers = within 1
+limit coding (turns_to held kind) = within 1
+limit coding (gives_back held) = within 1
+limit coding initializes = unlimited
+limit coding fails_to_initialize = unlimited
+limit coding waits_for_value = unlimited
+limit coding polls = unlimited
+limit coding looks_for_value = within 1
+limit coding looks_complete = within 1
+limit coding meets = changes_within 1

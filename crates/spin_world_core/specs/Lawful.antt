@@ -1,0 +1,16 @@
+-- All that an object promises of every schedule, from the opening of every world.
+use Rattle.spin_world_core.specs.Machines.{Machine}
+use Rattle.spin_world_core.specs.Runs.{Always, CanGoOn, KeepsAll, MomentsAll, CountsAll}
+use Rattle.spin_world_core.specs.Users.{ReadsAgree}
+
+pub record Lawful {W V C L A : Type 0} (m : Machine W V C L A) : Type 0 where
+  -- a party in a call may take its next step
+  pub can : Always m (CanGoOn m)
+  -- a step keeps the encoding, and what follows from that
+  pub keeps : Always m (KeepsAll m)
+  -- an answer has a moment
+  pub moments : Always m (MomentsAll m)
+  -- a call with a limit is answered within it
+  pub counts : Always m (CountsAll m)
+  -- two looks under one guard find the same
+  pub agree : Always m (ReadsAgree m)

@@ -1,0 +1,11 @@
+pub mod Manners
+pub mod Calls
+pub mod Machines
+pub mod Acts
+pub mod Schedules
+pub mod Spans
+pub mod Undisturbed
+pub mod Runs
+pub mod Users
+pub mod Transcripts
+pub mod Lawful

@@ -1,0 +1,33 @@
+-- An object as the world sees it: where its calls begin, what their steps do, and how both read on the plain lock.
+use Rattle.std.specs.Prelude.{ℕ, Bool, List, Option}
+use Rattle.spin_core.specs.Plain.{Plain, Change, fresh}
+use Rattle.spin_world_core.specs.declared.place.Hold.{Hold}
+use Rattle.spin_world_core.specs.declared.object.Next.{Next}
+use Rattle.spin_world_core.specs.declared.object.Stepped.{Stepped}
+use Rattle.spin_world_core.specs.Manners.{Manner}
+use Rattle.spin_world_core.specs.Calls.{Coding, Asked, Said}
+
+-- over the types of its words, its value, its calls, the points of its calls, and its answers
+pub record Machine (W V C L A : Type 0) : Type 0 where
+  -- the steps
+  pub words : W  -- at first
+  pub value : Option V  -- at first
+  pub owned : Bool  -- an owner may look at the value
+  pub begin : C → Option Hold → Option L  -- where a call begins, of a party that holds this
+  pub refuse : C → L → Option Hold → Option (Next L A)  -- where the next step is a weak exchange: what comes of its refusal
+  pub can : W → C → L → Option Hold → Bool  -- whether the next step may be taken
+  pub step : W → Option V → C → L → Option Hold → Stepped W V L A
+  -- how they read
+  pub coding : Coding
+  pub cap : ℕ
+  pub group : ℕ
+  pub first : ℕ
+  pub numbers : W → List ℕ
+  pub asks : C → Option Hold → Asked
+  pub says : A → Said
+  pub change : ℕ → W → C → L → Option Hold → Option Change  -- the plain step that a party's next step makes
+  pub manner : C → L → Option Hold → Manner  -- of its next step
+
+-- the plain lock at first
+abbrev pub opening_plain : {W V C L A : Type 0} → Machine W V C L A → Plain
+opening_plain m = fresh m.cap m.group m.first

@@ -1,0 +1,299 @@
+-- What is promised of every event of every schedule. Beside the world runs one plain lock, which each event moves by the plain step that it makes.
+use Rattle.std.specs.Prelude.{◌≡◌, ℕ, ◌+◌, ◌<◌, ◌≤◌, ◌↔◌, ◌⊎◌, Bool, true, false, not, ◌||◌, Option, Some, None, List, [], ◌∷◌, ◌++◌, is_some, ◌==◌, if◌then◌else◌, slice_get, take}
+use Rattle.std.specs.List.{list_any}
+use Rattle.spin_core.specs.Plain.{Plain, reading, upgradable, writing, same_kind, Change, completes, holder, ticket, is_empty}
+use Rattle.spin_core.specs.Parties.{apply_some, IsOpenStep, Entries, entries, no_entries, entries_after, IsExclusive}
+use Rattle.spin_world_core.specs.declared.place.Hold.{Hold}
+use Rattle.spin_world_core.specs.declared.place.Hold.TheVariants as hold
+use Rattle.spin_world_core.specs.declared.place.Seat.{Seat}
+use Rattle.spin_world_core.specs.declared.place.Seat.TheVariants.{Idle, Calling, Holding, Leaked, Gone}
+use Rattle.spin_world_core.specs.declared.schedule.Move.{Move}
+use Rattle.spin_world_core.specs.declared.schedule.Move.TheVariants.{Begin, Step, Weak, Read, Write, Leak, OwnerGet, OwnerSet}
+use Rattle.spin_world_core.specs.declared.schedule.Outcome.{Outcome}
+use Rattle.spin_world_core.specs.declared.schedule.Outcome.TheVariants as outcome
+use Rattle.spin_world_core.specs.Manners.{Manner, is_again, by_step}
+use Rattle.spin_world_core.specs.Manners as manner
+use Rattle.spin_world_core.specs.Calls.{Coding, encoded, BelongsTo, Asked, Said, own_steps, Mark, AnyOf, HasMoment, HasWeakMoment, Limit, unlimited, within, within_changes, gets_within, changes_within, FindsClosed, limit}
+pub use Rattle.spin_world_core.specs.Spans.{own, own_count, failures, changes, IsBeginning}
+use Rattle.spin_world_core.specs.Undisturbed.{AnsweredInFour}
+use Rattle.spin_world_core.specs.Machines.{Machine, opening_plain}
+use Rattle.spin_world_core.specs.Schedules.{State, Happened, moves_at, at_first, after, may_read, may_write, is_owners}
+
+-- A world beside the plain lock, with the value last written and, of each party's call, the steps of all calls since it began: its span so far, the latest first.
+-- Every other event leaves the plain lock as it is, so that these steps' states are all states of the span
+pub record Seen (W V C L : Type 0) : Type 0 where
+  pub state : State W V C L
+  pub plain : Plain
+  pub span : ℕ → List Mark
+  pub written : Option V
+
+-- one event, with where its party stood, the plain step that it makes, and what was before it and is after it
+pub record Scene (W V C L A : Type 0) : Type 0 where
+  pub before : Seen W V C L
+  pub party : ℕ
+  pub move : Move C V
+  pub seat : Option (Seat C L)
+  pub outcome : Outcome A V
+  pub change : Option Change
+  pub manner : Manner
+  pub after : Seen W V C L
+
+abbrev pub opening : {W V C L A : Type 0} → Machine W V C L A → ℕ → Seen W V C L
+opening m n = record { state = at_first m n; plain = opening_plain m; span = λ p. []; written = m.value }
+
+-- only a step of a call makes a plain step
+abbrev pub step_at : {W V C L A : Type 0} → Machine W V C L A → State W V C L → ℕ → Move C V → Option (Seat C L) → Option Change
+step_at m s p Step (Some (Calling c l h)) = m.change p s.words c l h
+step_at m s p _ _ = None
+
+abbrev pub manner_at : {W V C L A : Type 0} → Machine W V C L A → Move C V → Option (Seat C L) → Manner
+manner_at m Step (Some (Calling c l h)) = by_step (m.manner c l h)
+manner_at m Weak (Some (Calling c l h)) = manner.weak
+manner_at m _ _ = manner.plain
+
+abbrev pub placed_at : {W V C L A : Type 0} → Machine W V C L A → State W V C L → Move C V → Option (Seat C L) → Option V
+placed_at m s Step (Some (Calling c l h)) = (m.step s.words s.value c l h).placed
+placed_at m s _ _ = None
+
+abbrev pub if_completed : {V : Type 0} → Option V → Option V → Option Change → Option V
+if_completed old value (Some (completes p)) = value
+if_completed old value _ = old
+
+-- the value last written: by a holder, by the owner, or by a closure that completed
+abbrev pub last_written : {V C A : Type 0} → Outcome A V → Move C V → Option V → Option V → Option Change → Option V
+last_written outcome.Written (Write v) old value step = Some v
+last_written outcome.Written (OwnerSet v) old value step = Some v
+last_written _ _ old value step = if_completed old value step
+
+abbrev pub span_after : {V A : Type 0} → Outcome A V → Mark → (ℕ → List Mark) → ℕ → List Mark
+span_after outcome.Begun mark span q = if mark.party == q then [] else span q
+span_after outcome.GoingOn mark span q = mark ∷ span q
+span_after (outcome.Answered a b) mark span q = mark ∷ span q
+span_after _ mark span q = span q
+
+abbrev pub mark_of : ℕ → Option Change → Manner → Plain → Mark
+mark_of p step manner s = record { party = p; change = step; manner = manner; before = s; after = apply_some s step }
+
+abbrev pub scene_of : {W V C L A : Type 0} → Seen W V C L → ℕ → Move C V → Option (Seat C L) → Happened W V C L A → Option Change → Manner → Option V → Scene W V C L A
+scene_of seen p move seat h step manner value =
+    record {
+      before = seen;
+      party = p;
+      move = move;
+      seat = seat;
+      outcome = h.outcome;
+      change = step;
+      manner = manner;
+      after = record {
+        state = h.next;
+        plain = apply_some seen.plain step;
+        span = span_after h.outcome (mark_of p step manner seen.plain) seen.span;
+        written = last_written h.outcome move seen.written value step;
+      };
+    }
+
+abbrev pub scene_at : {W V C L A : Type 0} → Machine W V C L A → Seen W V C L → ℕ → Move C V → Option (Seat C L) → Scene W V C L A
+scene_at m seen p move seat = scene_of seen p move seat (moves_at m seen.state p move seat) (step_at m seen.state p move seat) (manner_at m move seat) (placed_at m seen.state move seat)
+
+abbrev pub scene : {W V C L A : Type 0} → Machine W V C L A → Seen W V C L → ℕ → Move C V → Scene W V C L A
+scene m seen p move = scene_at m seen p move (slice_get seen.state.seats p)
+
+-- it holds of each event of a schedule
+abbrev pub Every : {W V C L A : Type 0} → (Scene W V C L A → Type 0) → Machine W V C L A → Seen W V C L → List (ℕ × Move C V) → Type 0
+Every R m seen [] = Unit {0}
+Every R m seen (e ∷ es) = R (scene m seen e.0 e.1) × Every R m (scene m seen e.0 e.1).after es
+
+-- The openness of moves
+
+abbrev pub is_open_to : {W V C L A : Type 0} → Machine W V C L A → State W V C L → Move C V → Seat C L → Bool
+is_open_to m s (Begin c) Idle = is_some (m.begin c None)
+is_open_to m s (Begin c) (Holding h) = is_some (m.begin c (Some h))
+is_open_to m s Step (Calling c l h) = true
+is_open_to m s Weak (Calling c l h) = is_some (m.refuse c l h)
+is_open_to m s Read (Holding h) = may_read h
+is_open_to m s Read (Leaked h) = may_read h
+is_open_to m s (Write v) (Holding h) = may_write h
+is_open_to m s (Write v) (Leaked h) = may_write h
+is_open_to m s Leak (Holding h) = true
+is_open_to m s OwnerGet seat = is_owners m s
+is_open_to m s (OwnerSet v) seat = is_owners m s
+is_open_to _ _ _ _ = false
+
+-- nothing is open to a party that doesn't exist
+abbrev pub is_open_move : {W V C L A : Type 0} → Machine W V C L A → State W V C L → Move C V → Option (Seat C L) → Bool
+is_open_move m s move None = false
+is_open_move m s move (Some seat) = is_open_to m s move seat
+
+-- Places and entries
+
+abbrev pub entries_of : ℕ → Hold → Entries
+entries_of p hold.Read = record no_entries { holders = holder p reading ∷ [] }
+entries_of p hold.Upgradable = record no_entries { holders = holder p upgradable ∷ [] }
+entries_of p hold.Write = record no_entries { holders = holder p writing ∷ [] }
+entries_of p (hold.Ticket t) = record no_entries { tickets = ticket p t true ∷ [] }
+entries_of p hold.Starver = record no_entries { starvers = p ∷ [] }
+
+abbrev pub entries_held : ℕ → Option Hold → Entries
+entries_held p None = no_entries
+entries_held p (Some h) = entries_of p h
+
+-- the party's entries after its own steps in the span
+abbrev pub entries_so_far : ℕ → List Mark → Entries → Entries
+entries_so_far p [] e = e
+entries_so_far p (m ∷ ms) e =
+    if m.party == p then entries_after m.before m.change (entries_so_far p ms e) else entries_so_far p ms e
+
+-- the party's entries in the plain lock are what its place says
+abbrev pub StandsFor : {C L : Type 0} → Plain → ℕ → List Mark → Option (Seat C L) → Type 0
+StandsFor s p span None = entries p s ≡ no_entries
+StandsFor s p span (Some Idle) = entries p s ≡ no_entries
+StandsFor s p span (Some (Calling c l h)) = entries p s ≡ entries_so_far p span (entries_held p h)
+StandsFor s p span (Some (Holding h)) = entries p s ≡ entries_of p h
+StandsFor s p span (Some (Leaked h)) = entries p s ≡ entries_of p h
+StandsFor s p span (Some (Gone h)) = entries p s ≡ entries_of p h
+
+-- Who touches the value
+
+abbrev pub is_reader : Entries → Bool
+is_reader e = not (is_empty e.holders) || list_any (λ t. t.entered) e.tickets
+
+abbrev pub is_writer : Entries → Bool
+is_writer e = list_any (λ h. same_kind writing h.kind) e.holders || list_any (λ t. t.entered) e.tickets
+
+-- the party is in no call, and has no entry or has leaked
+abbrev pub YieldsToOwner : {C L : Type 0} → Plain → ℕ → Option (Seat C L) → Type 0
+YieldsToOwner s p None = entries p s ≡ no_entries
+YieldsToOwner s p (Some Idle) = entries p s ≡ no_entries
+YieldsToOwner s p (Some (Calling c l h)) = ⊥
+YieldsToOwner s p (Some (Holding h)) = ⊥
+YieldsToOwner s p (Some (Leaked h)) = Unit {0}
+YieldsToOwner s p (Some (Gone h)) = Unit {0}
+
+abbrev pub IsOwners : {W V C L : Type 0} → Seen W V C L → Type 0
+IsOwners seen = (q : ℕ) → YieldsToOwner seen.plain q (slice_get seen.state.seats q)
+
+abbrev pub MayTouch : {W V C L A : Type 0} → Seen W V C L → ℕ → Outcome A V → Move C V → Type 0
+MayTouch seen p (outcome.Value r) Read = is_reader (entries p seen.plain) ≡ true
+MayTouch seen p outcome.Written (Write v) = is_writer (entries p seen.plain) ≡ true
+MayTouch seen p (outcome.Value r) OwnerGet = IsOwners seen
+MayTouch seen p (outcome.Value r) (OwnerSet v) = IsOwners seen
+MayTouch seen p outcome.Written (OwnerSet v) = IsOwners seen
+MayTouch seen p _ _ = Unit {0}
+
+-- A call's own steps
+
+-- what the party's call asks
+abbrev pub asked : {W V C L A : Type 0} → Machine W V C L A → Option (Seat C L) → Option Asked
+asked m (Some (Calling c l h)) = Some (m.asks c h)
+asked m _ = None
+
+-- a call that is answered has made the steps that its answer says, and one that goes on a beginning of them
+abbrev pub OwnSteps : {W V C L A : Type 0} → Machine W V C L A → ℕ → List Mark → Outcome A V → Option Asked → Type 0
+OwnSteps m p span (outcome.Answered a b) (Some what) = AnyOf (λ steps. own p span ≡ steps) (own_steps what (m.says a) p)
+OwnSteps m p span (outcome.Answered a b) None = ⊥
+OwnSteps m p span outcome.GoingOn (Some what) = (said : Said) × AnyOf (λ steps. IsBeginning (own p span) steps) (own_steps what said p)
+OwnSteps m p span outcome.GoingOn None = ⊥
+OwnSteps m p span _ _ = Unit {0}
+
+-- What is promised of an event
+
+pub record Keeps {W V C L A : Type 0} (m : Machine W V C L A) (s : Scene W V C L A) : Type 0 where
+  -- it is an open plain step of its party, or none
+  pub opens : IsOpenStep s.before.plain s.party s.change
+  -- and a step that this kind of lock makes
+  pub belongs : BelongsTo m.coding s.change
+  -- the words after it are the encoding
+  pub encodes : m.numbers s.after.state.words ≡ encoded m.coding s.after.plain
+  -- every party's entries are what its place says
+  pub places : (q : ℕ) → StandsFor s.after.plain q (s.after.span q) (slice_get s.after.state.seats q)
+  -- no writer stands beside another holder, and no entered ticket beside another
+  pub exclusive : IsExclusive s.after.plain
+  -- nor do holders and tickets stand in one lock
+  pub one_list : (is_empty s.after.plain.holders || is_empty s.after.plain.tickets) ≡ true
+  -- the value is the one last written
+  pub value_is : s.after.state.value ≡ s.after.written
+  -- a look at the value finds the one last written
+  pub reads : (r : Option V) → s.outcome ≡ outcome.Value r → r ≡ s.before.written
+  -- only a holder looks at the value, only a writer replaces it, and the owner only where nobody shares it
+  pub touches : MayTouch s.before s.party s.outcome s.move
+  -- exactly the moves that aren't open are passed over
+  pub passes : (s.outcome ≡ outcome.PassedOver) ↔ (is_open_move m s.before.state s.move s.seat ≡ false)
+  -- and change nothing
+  pub unchanged : s.outcome ≡ outcome.PassedOver → s.after ≡ s.before
+  -- a call makes the steps that its answer says, and no others
+  pub own : OwnSteps m s.party (s.after.span s.party) s.outcome (asked m s.seat)
+
+-- an answer is right at a moment of the call; only a weak try may be refused without cause, by its weak exchange
+abbrev pub RightAnswer : {W V C L A : Type 0} → Machine W V C L A → ℕ → List Mark → Outcome A V → Option Asked → Move C V → Type 0
+RightAnswer m p span (outcome.Answered a b) (Some what) Step = HasMoment what (m.says a) p span
+RightAnswer m p span (outcome.Answered a b) (Some what) Weak = HasWeakMoment what (m.says a) p span
+RightAnswer m p span _ _ _ = Unit {0}
+
+abbrev pub IsRight : {W V C L A : Type 0} → Machine W V C L A → Scene W V C L A → Type 0
+IsRight m s = RightAnswer m s.party (s.after.span s.party) s.outcome (asked m s.seat) s.move
+
+abbrev pub EndsWithin : Limit → Coding → ℕ → List Mark → Type 0
+EndsWithin unlimited coding p span = Unit {0}
+EndsWithin (within k) coding p span = own_count p span ≤ k
+EndsWithin (within_changes k) coding p span = own_count p span ≤ k + changes coding p span
+EndsWithin (gets_within ask k) coding p span = Unit {0}
+EndsWithin (changes_within k) coding p span = Unit {0}
+
+abbrev pub GoesOnWithin : Limit → Coding → ℕ → List Mark → Type 0
+GoesOnWithin unlimited coding p span = Unit {0}
+GoesOnWithin (within k) coding p span = own_count p span < k
+GoesOnWithin (within_changes k) coding p span = own_count p span < k + changes coding p span
+GoesOnWithin (gets_within ask k) coding p span = own p span ≡ [] → (own_count p span < k + changes coding p span) ⊎ AnyOf (FindsClosed p ask) span
+GoesOnWithin (changes_within k) coding p span = own p span ≡ [] → own_count p span < k
+
+-- a call with a limit is answered by that step at the latest
+abbrev pub InTime : {V A : Type 0} → Coding → ℕ → List Mark → Outcome A V → Option Asked → Type 0
+InTime coding p span (outcome.Answered a b) (Some what) = EndsWithin (limit coding what) coding p span
+InTime coding p span outcome.GoingOn (Some what) = GoesOnWithin (limit coding what) coding p span
+InTime coding p span _ _ = Unit {0}
+
+pub record IsInTime {W V C L A : Type 0} (m : Machine W V C L A) (s : Scene W V C L A) : Type 0 where
+  pub in_time : InTime m.coding s.party (s.after.span s.party) s.outcome (asked m s.seat)
+  -- an exchange that is made again fails only where another party has changed its word since the call looked, and once for each change
+  pub retries : (q : ℕ) → failures q (s.after.span q) ≤ changes m.coding q (s.after.span q)
+  -- a call that waits is answered by its fourth own step from the moment on at which it is open and nobody disturbs it
+  pub undisturbed : AnsweredInFour m.coding s.party (s.after.span s.party) s.outcome (asked m s.seat)
+
+-- Over a whole schedule, from the opening of a world of n parties
+
+pub record KeepsAll {W V C L A : Type 0} (m : Machine W V C L A) (n : ℕ) (entries : List (ℕ × Move C V)) : Type 0 where
+  pub first : m.numbers m.words ≡ encoded m.coding (opening_plain m)
+  -- the numbers show all of the words
+  pub numbers_tell : (v w : W) → m.numbers v ≡ m.numbers w → v ≡ w
+  pub each : Every (Keeps m) m (opening m n) entries
+
+abbrev pub MomentsAll : {W V C L A : Type 0} → Machine W V C L A → ℕ → List (ℕ × Move C V) → Type 0
+MomentsAll m n entries = Every (IsRight m) m (opening m n) entries
+
+abbrev pub CountsAll : {W V C L A : Type 0} → Machine W V C L A → ℕ → List (ℕ × Move C V) → Type 0
+CountsAll m n entries = Every (IsInTime m) m (opening m n) entries
+
+-- each party in a call may take its next step
+abbrev pub CanStep : {W V C L A : Type 0} → Machine W V C L A → State W V C L → Type 0
+CanStep {W} {V} {C} {L} m s =
+    (p : ℕ) (c : C) (l : L) (h : Option Hold) → slice_get s.seats p ≡ Some (Calling c l h) → m.can s.words c l h ≡ true
+
+-- so it is where a schedule leads
+abbrev pub CanGoOn : {W V C L A : Type 0} → Machine W V C L A → ℕ → List (ℕ × Move C V) → Type 0
+CanGoOn m n entries = CanStep m (after m (at_first m n) entries)
+
+-- so it is wherever the schedule leads
+abbrev pub CanAlways : {W V C L A : Type 0} → Machine W V C L A → State W V C L → List (ℕ × Move C V) → Type 0
+CanAlways m s entries = (k : ℕ) → CanStep m (after m s (take k entries))
+
+-- some schedule leads from the opening of some world to this state
+abbrev pub IsReached : {W V C L A : Type 0} → Machine W V C L A → State W V C L → Type 0
+IsReached {W} {V} {C} m s = ∥ ((n : ℕ) × (past : List (ℕ × Move C V)) × (after m (at_first m n) past ≡ s)) ∥₁
+
+-- it holds of every schedule, from the opening of every world
+abbrev pub Always : {W V C L A : Type 0} → Machine W V C L A → (ℕ → List (ℕ × Move C V) → Type 0) → Type 0
+Always {V = V} {C = C} m P = (n : ℕ) (entries : List (ℕ × Move C V)) → P n entries
+
+-- whatever schedule of whatever world led to this state: it holds of that one with the new one after it
+abbrev pub AfterAnyPast : {W V C L A : Type 0} → Machine W V C L A → State W V C L → List (ℕ × Move C V) → (ℕ → List (ℕ × Move C V) → Type 0) → Type 0
+AfterAnyPast {V = V} {C = C} m s schedule P = (n : ℕ) (past : List (ℕ × Move C V)) → after m (at_first m n) past ≡ s → P n (past ++ schedule)

@@ -1,0 +1,28 @@
+-- What a party's call has done so far, by the steps of its span, the latest first.
+use Rattle.std.specs.Prelude.{◌≡◌, ℕ, ◌+◌, not, ◌&&◌, List, [], ◌∷◌, ◌++◌, is_some, option_to_list, ◌==◌, if◌then◌else◌}
+use Rattle.spin_core.specs.Plain.{Change}
+use Rattle.spin_core.specs.Steps.{bit}
+use Rattle.spin_world_core.specs.Manners.{is_again}
+use Rattle.spin_world_core.specs.Calls.{Coding, first_word, Mark}
+
+-- the steps that the party made in the span, in their order
+abbrev pub own : ℕ → List Mark → List Change
+own p [] = []
+own p (m ∷ ms) = own p ms ++ (if m.party == p then option_to_list m.change else [])
+
+abbrev pub own_count : ℕ → List Mark → ℕ
+own_count p [] = 0
+own_count p (m ∷ ms) = own_count p ms + (if m.party == p then 1 else 0)
+
+-- the party's exchanges that failed and are made again
+abbrev pub failures : ℕ → List Mark → ℕ
+failures p [] = 0
+failures p (m ∷ ms) = failures p ms + bit ((m.party == p) && (is_again m.manner && not (is_some m.change)))
+
+-- others' changes of the first word
+abbrev pub changes : Coding → ℕ → List Mark → ℕ
+changes coding p [] = 0
+changes coding p (m ∷ ms) = changes coding p ms + bit (not (m.party == p) && not (first_word coding m.after == first_word coding m.before))
+
+abbrev pub IsBeginning : List Change → List Change → Type 0
+IsBeginning xs ys = (rest : List Change) × (xs ++ rest ≡ ys)

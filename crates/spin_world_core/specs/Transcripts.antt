@@ -1,0 +1,90 @@
+-- What a transcript and a place tell, against the events of the schedule and the plain lock beside them.
+use Rattle.std.specs.Prelude.{◌≡◌, ℕ, ◌≤◌, Option, Some, None, List, [], ◌∷◌, ◌==◌, if◌then◌else◌}
+use Rattle.spin_core.specs.Plain.{Plain}
+use Rattle.spin_core.specs.Parties.{entries, no_entries}
+use Rattle.spin_world_core.specs.declared.place.Hold.{Hold}
+use Rattle.spin_world_core.specs.declared.place.Place.{Place}
+use Rattle.spin_world_core.specs.declared.place.Place.TheVariants as place
+use Rattle.spin_world_core.specs.declared.schedule.Move.{Move}
+use Rattle.spin_world_core.specs.declared.schedule.Move.TheVariants.{OwnerGet, OwnerSet}
+use Rattle.spin_world_core.specs.declared.schedule.Outcome.{Outcome}
+use Rattle.spin_world_core.specs.declared.schedule.Outcome.TheVariants as outcome
+use Rattle.spin_world_core.specs.declared.schedule.Event.{Event}
+use Rattle.spin_world_core.specs.Calls.{Mark}
+use Rattle.spin_world_core.specs.Machines.{Machine}
+use Rattle.spin_world_core.specs.Schedules.{State, after, at_first}
+use Rattle.spin_world_core.specs.Runs.{Seen, Scene, scene, opening, entries_of, entries_held, entries_so_far}
+use Rattle.spin_world_core.specs.Users.{seen_after}
+
+-- the scenes of a schedule, one after the other
+abbrev pub scenes : {W V C L A : Type 0} → Machine W V C L A → Seen W V C L → List (ℕ × Move C V) → List (Scene W V C L A)
+scenes m seen [] = []
+scenes m seen (e ∷ es) = scene m seen e.0 e.1 ∷ scenes m (scene m seen e.0 e.1).after es
+
+-- where the call began is left out
+abbrev pub without_begin : {V A : Type 0} → Outcome A V → Outcome A V
+without_begin (outcome.Answered a b) = outcome.Answered a None
+without_begin o = o
+
+-- the event has the party of the scene, what came of its move, and the words after it
+pub record TellsScene {W V C L A : Type 0} (s : Scene W V C L A) (e : Event W V A) : Type 0 where
+  pub party : e.party ≡ s.party
+  pub outcome : without_begin e.outcome ≡ s.outcome
+  pub words : e.words ≡ s.after.state.words
+
+-- each event tells the scene at its place, and there are as many
+abbrev pub EachTells : {W V C L A : Type 0} → List (Scene W V C L A) → List (Event W V A) → Type 0
+EachTells [] [] = Unit {0}
+EachTells [] (e ∷ es) = ⊥
+EachTells (s ∷ ss) [] = ⊥
+EachTells (s ∷ ss) (e ∷ es) = TellsScene s e × EachTells ss es
+
+-- whatever schedule of whatever world led to this state: the events tell the scenes of the new one after it
+abbrev pub TellsAfterAnyPast : {W V C L A : Type 0} → Machine W V C L A → State W V C L → List (ℕ × Move C V) → List (Event W V A) → Type 0
+TellsAfterAnyPast {V = V} {C = C} m s schedule events =
+    (n : ℕ) (past : List (ℕ × Move C V)) → after m (at_first m n) past ≡ s → EachTells (scenes m (seen_after m (opening m n) past) schedule) events
+
+-- how far a party has come, by what came of the moves alone
+pub data Stage : Type 0 where
+  at_rest : Stage  -- in no call
+  in_call : Stage
+  has_leaked : Stage
+  is_gone : Stage
+
+-- by a move of its own
+abbrev pub stage_by_own : {V A : Type 0} → Outcome A V → Stage → Stage
+stage_by_own outcome.Begun stage = in_call
+stage_by_own (outcome.Answered a b) stage = at_rest
+stage_by_own outcome.Leaked stage = has_leaked
+stage_by_own _ stage = stage
+
+-- the owner's moves make leaked parties gone
+abbrev pub let_go_stage : Stage → Stage
+let_go_stage has_leaked = is_gone
+let_go_stage stage = stage
+
+abbrev pub stage_by_owner : {V C A : Type 0} → Outcome A V → Move C V → Stage → Stage
+stage_by_owner outcome.PassedOver move stage = stage
+stage_by_owner _ OwnerGet stage = let_go_stage stage
+stage_by_owner _ (OwnerSet v) stage = let_go_stage stage
+stage_by_owner _ _ stage = stage
+
+abbrev pub stage_after : {W V C L A : Type 0} → ℕ → Stage → List (Scene W V C L A) → Stage
+stage_after p stage [] = stage
+stage_after p stage (s ∷ ss) = stage_after p (stage_by_owner s.outcome s.move (if s.party == p then stage_by_own s.outcome stage else stage)) ss
+
+-- the place that is told of a party of a world of n parties is the stage to which it has come, and its entries in the plain lock are what the place says
+abbrev pub PlaceSays : Stage → ℕ → Plain → ℕ → List Mark → Option Place → Type 0
+PlaceSays stage n s p span None = (n ≤ p) × (entries p s ≡ no_entries)
+PlaceSays at_rest n s p span (Some place.Idle) = entries p s ≡ no_entries
+PlaceSays at_rest n s p span (Some (place.Holding h)) = entries p s ≡ entries_of p h
+PlaceSays in_call n s p span (Some place.InCall) = (held : Option Hold) × (entries p s ≡ entries_so_far p span (entries_held p held))
+PlaceSays has_leaked n s p span (Some (place.Leaked h)) = entries p s ≡ entries_of p h
+PlaceSays is_gone n s p span (Some place.Gone) = (h : Hold) × (entries p s ≡ entries_of p h)
+PlaceSays _ n s p span _ = ⊥
+
+-- so it is, whatever schedule of whatever world led to this state
+abbrev pub SaysAfterAnyPast : {W V C L A : Type 0} → Machine W V C L A → State W V C L → ℕ → Option Place → Type 0
+SaysAfterAnyPast {V = V} {C = C} m s p told =
+    (n : ℕ) (past : List (ℕ × Move C V)) → after m (at_first m n) past ≡ s
+    → let seen = seen_after m (opening m n) past in PlaceSays (stage_after p at_rest (scenes m (opening m n) past)) n seen.plain p (seen.span p) told

@@ -1,0 +1,61 @@
+-- Laws that users of a lock rely on, over whole schedules.
+use Rattle.std.specs.Prelude.{◌≡◌, ℕ, ◌+◌, Bool, true, false, not, ◌&&◌, ◌||◌, Option, Some, None, List, [], ◌∷◌, ◌++◌, ◌==◌, slice_get}
+use Rattle.spin_core.specs.Plain.{Change}
+use Rattle.spin_core.specs.Steps.{bit}
+use Rattle.spin_world_core.specs.declared.place.Hold.{Hold}
+use Rattle.spin_world_core.specs.declared.place.Seat.{Seat}
+use Rattle.spin_world_core.specs.declared.place.Seat.TheVariants.{Holding, Leaked}
+use Rattle.spin_world_core.specs.declared.schedule.Move.{Move}
+use Rattle.spin_world_core.specs.declared.schedule.Move.TheVariants.{Begin, Read, Write, OwnerGet}
+use Rattle.spin_world_core.specs.declared.schedule.Outcome.{Outcome}
+use Rattle.spin_world_core.specs.declared.schedule.Outcome.TheVariants.{Value}
+use Rattle.spin_world_core.specs.Machines.{Machine}
+use Rattle.spin_world_core.specs.Schedules.{State, happens, after, events_of, at_first, may_read, is_owners}
+use Rattle.spin_world_core.specs.Runs.{Seen, scene, opening}
+
+-- the world beside its plain lock after a schedule
+abbrev pub seen_after : {W V C L A : Type 0} → Machine W V C L A → Seen W V C L → List (ℕ × Move C V) → Seen W V C L
+seen_after m seen [] = seen
+seen_after m seen (e ∷ es) = seen_after m (scene m seen e.0 e.1).after es
+
+-- what a move comes to after a schedule
+abbrev pub outcome_after : {W V C L A : Type 0} → Machine W V C L A → ℕ → List (ℕ × Move C V) → ℕ → Move C V → Outcome A V
+outcome_after m n past p move = (happens m (after m (at_first m n) past) p move).outcome
+
+-- whoever holds the lock and may look at the value finds the one last written, also once it has leaked; so does the owner once every party is idle, has leaked or is gone
+pub record FindsLastWritten {W V C L A : Type 0} (m : Machine W V C L A) (n : ℕ) (past : List (ℕ × Move C V)) : Type 0 where
+  pub holder : (p : ℕ) (h : Hold) → slice_get (after m (at_first m n) past).seats p ≡ Some (Holding h) → may_read h ≡ true → outcome_after m n past p Read ≡ Value (seen_after m (opening m n) past).written
+  pub leaked : (p : ℕ) (h : Hold) → slice_get (after m (at_first m n) past).seats p ≡ Some (Leaked h) → may_read h ≡ true → outcome_after m n past p Read ≡ Value (seen_after m (opening m n) past).written
+  pub owner : (p : ℕ) (seat : Seat C L) → slice_get (after m (at_first m n) past).seats p ≡ Some seat → is_owners m (after m (at_first m n) past) ≡ true → outcome_after m n past p OwnerGet ≡ Value (seen_after m (opening m n) past).written
+
+-- a move that begins no call and writes nothing
+abbrev pub is_quiet_move : {C V : Type 0} → Move C V → Bool
+is_quiet_move (Begin c) = false
+is_quiet_move (Write v) = false
+is_quiet_move _ = true
+
+-- the party keeps its guard through these entries, and doesn't write
+abbrev pub is_quiet : {C V : Type 0} → ℕ → List (ℕ × Move C V) → Bool
+is_quiet p [] = true
+is_quiet p (e ∷ es) = (not (e.0 == p) || is_quiet_move e.1) && is_quiet p es
+
+-- two schedules one after the other come to the same as the two joined
+pub record RunsJoin {W V C L A : Type 0} (m : Machine W V C L A) (s : State W V C L) (first second : List (ℕ × Move C V)) : Type 0 where
+  pub state : after m (after m s first) second ≡ after m s (first ++ second)
+  pub events : events_of m s first ++ events_of m (after m s first) second ≡ events_of m s (first ++ second)
+
+-- two looks of a party under one guard, with no write of its own between them, find the same
+abbrev pub ReadsAgree : {W V C L A : Type 0} → Machine W V C L A → ℕ → List (ℕ × Move C V) → Type 0
+ReadsAgree {V = V} {C = C} m n past =
+    (p : ℕ) (between : List (ℕ × Move C V)) (r s : Option V) → is_quiet p between ≡ true
+    → outcome_after m n past p Read ≡ Value r → outcome_after m n (past ++ (p, Read) ∷ between) p Read ≡ Value s → s ≡ r
+
+-- how many of these entries' events make a plain step of such a kind
+
+abbrev pub passes : (Change → Bool) → Option Change → Bool
+passes test None = false
+passes test (Some c) = test c
+
+abbrev pub steps_made : {W V C L A : Type 0} → (Change → Bool) → Machine W V C L A → Seen W V C L → List (ℕ × Move C V) → ℕ
+steps_made test m seen [] = 0
+steps_made test m seen (e ∷ es) = bit (passes test (scene m seen e.0 e.1).change) + steps_made test m (scene m seen e.0 e.1).after es

@@ -1,0 +1,20 @@
+//! A world of many parties that take the steps of a lock's calls one at a time, in any order that a schedule names.
+//!
+//! The world, its laws, and what a lock has to show to be an [`Object`] of it. The objects stand in crates of their own.
+#![tactic(auto)]
+
+mod answer;
+mod laws;
+mod object;
+mod place;
+mod schedule;
+mod table;
+mod telling;
+mod world;
+
+pub use answer::Answer;
+pub use laws::{looks_find_the_last_write, looks_under_one_guard_agree, two_runs_are_one};
+pub use object::{Next, Object, Stepped};
+pub use place::{Hold, Place, Seat};
+pub use schedule::{Event, Move, Outcome, Transcript};
+pub use world::World;

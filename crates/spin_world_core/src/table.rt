@@ -1,0 +1,290 @@
+//! The words, the value and the seats of a world, and what one move does to them.
+ghost use Rattle.std.specs.Prelude.{◌≡◌, ◌<◌, Some, IfOk, length, map, replicate, slice_get, option_map};
+ghost use Rattle.std.specs.List.{list_all};
+ghost use Rattle.spin_world_core.specs.declared.place.Seat.TheVariants.{Idle};
+ghost use Rattle.spin_world_core.specs.Schedules.{yields_to_owner, seen_by_owner, resting, may_read, may_write, begins, steps, weakly, reads, writes, leaks, owner_gets, owner_sets, goes_on, is_owners, happens, place_of};
+ghost use Rattle.spin_world_core.specs.Runs.{CanStep};
+
+use crate::object::{Next, Object};
+use crate::place::{Hold, Place, Seat};
+use crate::schedule::{Move, Outcome};
+use std::alloc::{AllocError, Global};
+use std::marker::Model;
+
+#[derive(Drop)]
+pub struct Table<O: Object> {
+    pub words: O::Words,
+    pub value: Option<O::Value>,
+    pub seats: Vec<Seat<O::Call, O::Local>>,
+}
+
+impl<O: Object> Model for Table<O> {
+    ghost use Rattle.spin_world_core.specs.Schedules.{State};
+
+    ghost Value = { State O.Words O.Value O.Call O.Local };
+
+    ghost view = { λ t. record { words = t.words; value = t.value; seats = t.seats.items } };
+}
+
+fn reads_value(hold: Hold) -> bool
+    ensures { result ≡ may_read hold }
+{
+    !matches!(hold, Hold::Starver)
+}
+
+fn writes_value(hold: Hold) -> bool
+    ensures { result ≡ may_write hold }
+{
+    matches!(hold, Hold::Write | Hold::Ticket(_))
+}
+
+fn seat_of<C, L>(holds: Option<Hold>) -> Seat<C, L>
+    ensures { result ≡ resting holds }
+{
+    match holds {
+        None => Seat::Idle,
+        Some(hold) => Seat::Holding(hold),
+    }
+}
+
+fn all_yield<C: Copy, L: Copy>(seats: &[Seat<C, L>]) -> bool
+    ensures { result ≡ list_all yields_to_owner seats.now }
+{
+    for seat in seats {
+        if matches!(*seat, Seat::Calling(_, _, _) | Seat::Holding(_)) {
+            return false;
+        }
+    }
+    true
+}
+
+fn without_leak<C, L>(seat: Seat<C, L>) -> Seat<C, L>
+    ensures { result ≡ seen_by_owner seat }
+{
+    match seat {
+        Seat::Leaked(hold) => Seat::Gone(hold),
+        seat => seat,
+    }
+}
+
+fn let_go_all<C: Copy, L: Copy>(seats: &mut [Seat<C, L>])
+    ensures { seats.new ≡ map seen_by_owner seats.old }
+{
+    for i in 0..seats.len() {
+        seats[i] = without_leak(seats[i]);
+    }
+}
+
+/// The seats of so many idle parties.
+pub fn idle_seats<C: Copy, L: Copy>(
+    alloc: Global,
+    parties: usize,
+) -> Result<Vec<Seat<C, L>>, AllocError>
+    ensures { IfOk result (λ seats. seats.items ≡ replicate parties Idle) }
+{
+    let mut seats = Vec::with_capacity(alloc, parties)?;
+    for _ in 0..parties {
+        seats.push_reserved(Seat::Idle);
+    }
+    Ok(seats)
+}
+
+impl<O: Object> Table<O> {
+    /// Where the party stands. `None`: there is no such party.
+    pub fn place(&self, party: usize) -> Option<Place>
+        ensures { result ≡ option_map place_of (slice_get self.now.seats party) }
+    {
+        if party >= self.seats.len() {
+            return None;
+        }
+        Some(match self.seats[party] {
+            Seat::Idle => Place::Idle,
+            Seat::Calling(_, _, _) => Place::InCall,
+            Seat::Holding(hold) => Place::Holding(hold),
+            Seat::Leaked(hold) => Place::Leaked(hold),
+            Seat::Gone(_) => Place::Gone,
+        })
+    }
+
+    /// What a move of the party comes to.
+    pub fn act(
+        &mut self,
+        object: &O,
+        party: usize,
+        entry: Move<O::Call, O::Value>,
+    ) -> Outcome<O::Answer, O::Value>
+        requires { CanStep (O.machine object.now) self.old }
+        ensures { record { outcome = result; next = self.new } ≡ happens (O.machine object.now) self.old party entry }
+    {
+        if party >= self.seats.len() {
+            return Outcome::PassedOver;
+        }
+        let seat = self.seats[party];
+        match entry {
+            Move::Begin(call) => self.begin(object, party, call, seat),
+            Move::Step => self.step(object, party, seat),
+            Move::Weak => self.weak(object, party, seat),
+            Move::Read => self.read(seat),
+            Move::Write(value) => self.write(value, seat),
+            Move::Leak => self.leak(party, seat),
+            Move::OwnerGet => self.owner_get(object),
+            Move::OwnerSet(value) => self.owner_set(object, value),
+        }
+    }
+
+    fn begin(
+        &mut self,
+        object: &O,
+        party: usize,
+        call: O::Call,
+        seat: Seat<O::Call, O::Local>,
+    ) -> Outcome<O::Answer, O::Value>
+        requires { party < length self.old.seats }
+        ensures { record { outcome = result; next = self.new } ≡ begins (O.machine object.now) self.old party call seat }
+    {
+        let holds = match seat {
+            Seat::Idle => None,
+            Seat::Holding(hold) => Some(hold),
+            _ => return Outcome::PassedOver,
+        };
+        match object.begin(call, holds) {
+            None => Outcome::PassedOver,
+            Some(local) => {
+                self.seats[party] = Seat::Calling(call, local, holds);
+                Outcome::Begun
+            }
+        }
+    }
+
+    fn step(
+        &mut self,
+        object: &O,
+        party: usize,
+        seat: Seat<O::Call, O::Local>,
+    ) -> Outcome<O::Answer, O::Value>
+        requires there { slice_get self.old.seats party ≡ Some seat }
+        requires can { CanStep (O.machine object.now) self.old }
+        ensures { record { outcome = result; next = self.new } ≡ steps (O.machine object.now) self.old party seat }
+    {
+        let Seat::Calling(call, local, holds) = seat else {
+            return Outcome::PassedOver;
+        };
+        let stepped = object.step(self.words, self.value, call, local, holds);
+        self.words = stepped.words;
+        if let Some(placed) = stepped.placed {
+            self.value = Some(placed);
+        }
+        self.go_on(party, call, holds, stepped.next)
+    }
+
+    fn weak(
+        &mut self,
+        object: &O,
+        party: usize,
+        seat: Seat<O::Call, O::Local>,
+    ) -> Outcome<O::Answer, O::Value>
+        requires { party < length self.old.seats }
+        ensures { record { outcome = result; next = self.new } ≡ weakly (O.machine object.now) self.old party seat }
+    {
+        let Seat::Calling(call, local, holds) = seat else {
+            return Outcome::PassedOver;
+        };
+        match object.refuse(call, local, holds) {
+            None => Outcome::PassedOver,
+            Some(next) => self.go_on(party, call, holds, next),
+        }
+    }
+
+    fn go_on(
+        &mut self,
+        party: usize,
+        call: O::Call,
+        holds: Option<Hold>,
+        next: Next<O::Local, O::Answer>,
+    ) -> Outcome<O::Answer, O::Value>
+        requires { party < length self.old.seats }
+        ensures { record { outcome = result; next = self.new } ≡ goes_on self.old party call holds next }
+    {
+        match next {
+            Next::GoesOn(local) => {
+                self.seats[party] = Seat::Calling(call, local, holds);
+                Outcome::GoingOn
+            }
+            Next::Answers(answer, after) => {
+                self.seats[party] = seat_of(after);
+                Outcome::Answered {
+                    answer,
+                    began: None,
+                }
+            }
+        }
+    }
+
+    fn read(&self, seat: Seat<O::Call, O::Local>) -> Outcome<O::Answer, O::Value>
+        ensures { record { outcome = result; next = self.now } ≡ reads self.now seat }
+    {
+        match seat {
+            Seat::Holding(hold) | Seat::Leaked(hold) if reads_value(hold) => {
+                Outcome::Value(self.value)
+            }
+            _ => Outcome::PassedOver,
+        }
+    }
+
+    fn write(
+        &mut self,
+        value: O::Value,
+        seat: Seat<O::Call, O::Local>,
+    ) -> Outcome<O::Answer, O::Value>
+        ensures { record { outcome = result; next = self.new } ≡ writes self.old value seat }
+    {
+        match seat {
+            Seat::Holding(hold) | Seat::Leaked(hold) if writes_value(hold) => {
+                self.value = Some(value);
+                Outcome::Written
+            }
+            _ => Outcome::PassedOver,
+        }
+    }
+
+    fn leak(&mut self, party: usize, seat: Seat<O::Call, O::Local>) -> Outcome<O::Answer, O::Value>
+        requires { party < length self.old.seats }
+        ensures { record { outcome = result; next = self.new } ≡ leaks self.old party seat }
+    {
+        let Seat::Holding(hold) = seat else {
+            return Outcome::PassedOver;
+        };
+        self.seats[party] = Seat::Leaked(hold);
+        Outcome::Leaked
+    }
+
+    fn is_owners(&self, object: &O) -> bool
+        ensures { result ≡ is_owners (O.machine object.now) self.now }
+    {
+        object.is_owned() && all_yield(&self.seats)
+    }
+
+    fn owner_get(&mut self, object: &O) -> Outcome<O::Answer, O::Value>
+        ensures { record { outcome = result; next = self.new } ≡ owner_gets self.old (is_owners (O.machine object.now) self.old) }
+    {
+        if !self.is_owners(object) {
+            return Outcome::PassedOver;
+        }
+        let_go_all(&mut self.seats);
+        Outcome::Value(self.value)
+    }
+
+    fn owner_set(&mut self, object: &O, to: O::Value) -> Outcome<O::Answer, O::Value>
+        ensures { record { outcome = result; next = self.new } ≡ owner_sets self.old to (is_owners (O.machine object.now) self.old) }
+    {
+        if !self.is_owners(object) {
+            return Outcome::PassedOver;
+        }
+        let_go_all(&mut self.seats);
+        if self.value.is_none() {
+            return Outcome::Value(None);
+        }
+        self.value = Some(to);
+        Outcome::Written
+    }
+}

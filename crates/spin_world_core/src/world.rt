@@ -1,0 +1,143 @@
+ghost use Rattle.std.specs.Prelude.{◌≡◌, ◌≤◌, [], length, IfOk, OnOk, OnErr, vec_capacity, slice_get, option_map};
+ghost use Rattle.spin_world_core.specs.Schedules.{at_first, after, events_of, with_begins, place_of};
+ghost use Rattle.spin_world_core.specs.Runs.{IsReached, AfterAnyPast, CanAlways, KeepsAll, MomentsAll, CountsAll};
+ghost use Rattle.spin_world_core.specs.Transcripts.{TellsAfterAnyPast, SaysAfterAnyPast};
+
+use crate::object::Object;
+use crate::place::Place;
+use crate::schedule::{Event, Move, Transcript};
+use crate::table::{Table, idle_seats};
+use crate::telling::{forget_begins, no_begins, with_begin};
+use std::alloc::{AllocError, Global};
+use std::marker::Model;
+
+/// An object and the parties that share it. Parties are numbered from 0.
+#[derive(Drop)]
+pub struct World<O: Object> {
+    alloc: Global,
+    object: O,
+    table: Table<O>,
+    /// The place at which each party's call began in the latest run. Kept here, so that a run takes no memory for it.
+    begins: Vec<Option<usize>>,
+}
+
+/// Contracts see a world as its object and its state, to which some schedule leads.
+impl<O: Object> Model for World<O> {
+    ghost use Rattle.spin_world_core.specs.Schedules.{Shown};
+    ghost use Rattle.std.specs.Prelude.{◌≡◌, length};
+    ghost use Rattle.spin_world_core.specs.Runs.{IsReached};
+
+    ghost Value = { Shown O O.Words O.Value O.Call O.Local };
+
+    ghost view = { λ w. record { object = w.object; state = w.table } };
+
+    ghost invariant = { λ w. IsReached (O.machine w.object) w.table × (length w.begins.items ≡ length w.table.seats) };
+}
+
+impl<O: Object> World<O> {
+    /// A world of so many parties, all idle. It keeps the allocator, for the transcripts of its runs.
+    pub fn new(alloc: Global, object: O, parties: usize) -> Result<World<O>, AllocError>
+        ensures { IfOk result (λ w. w ≡ record { object = object; state = at_first (O.machine object) parties }) }
+    {
+        let table = Table {
+            words: object.opening_words(),
+            value: object.opening_value(),
+            seats: idle_seats(alloc, parties)?,
+        };
+        Ok(World {
+            alloc,
+            object,
+            table,
+            begins: no_begins(alloc, parties)?,
+        })
+    }
+
+    /// The words now.
+    pub fn words(&self) -> O::Words
+        ensures { result ≡ self.now.state.words }
+    {
+        self.table.words
+    }
+
+    /// The value now. `None`: the object has none.
+    pub fn value(&self) -> Option<O::Value>
+        ensures { result ≡ self.now.state.value }
+    {
+        self.table.value
+    }
+
+    /// Where the party stands. `None`: there is no such party.
+    pub fn place(&self, party: usize) -> Option<Place>
+        ensures place { result ≡ option_map place_of (slice_get self.now.state.seats party) }
+
+        // It is where its moves have brought the party, and its entries in the plain lock are what it says.
+        ensures says { SaysAfterAnyPast (O.machine self.now.object) self.now.state party result }
+    {
+        O::laws();
+        self.table.place(party)
+    }
+
+    /// Plays a schedule: each entry is a party and its move.
+    ///
+    /// The transcript's room is made first, and no step takes memory. An `Err` leaves the world as it was.
+    pub fn run(
+        &mut self,
+        schedule: &[(usize, Move<O::Call, O::Value>)],
+    ) -> Result<Transcript<O>, AllocError>
+        ensures state { OnOk result (self.new.state ≡ after (O.machine self.old.object) self.old.state schedule.now) }
+        ensures object { self.new.object ≡ self.old.object }
+        ensures events { let m = O.machine self.old.object in
+            IfOk result (λ t. t.events.items ≡ with_begins [] (events_of m self.old.state schedule.now)) }
+        ensures err { OnErr result (self.new ≡ self.old) }
+
+        // Some schedule leads to the state after it. Whichever led to the state before, with this one after it:
+        ensures reached { IsReached (O.machine self.new.object) self.new.state }
+        ensures keeps { let m = O.machine self.old.object in
+            AfterAnyPast m self.old.state schedule.now (KeepsAll m) }
+        ensures moments { let m = O.machine self.old.object in
+            AfterAnyPast m self.old.state schedule.now (MomentsAll m) }
+        ensures counts { let m = O.machine self.old.object in
+            AfterAnyPast m self.old.state schedule.now (CountsAll m) }
+        ensures tells { let m = O.machine self.old.object in
+            IfOk result (λ t. TellsAfterAnyPast m self.old.state schedule.now t.events.items) }
+    {
+        O::laws();
+        let mut events = Vec::with_capacity(self.alloc, schedule.len())?;
+        play(
+            &self.object,
+            &mut self.table,
+            &mut self.begins,
+            &mut events,
+            schedule,
+        );
+        Ok(Transcript { events })
+    }
+}
+
+/// Plays the schedule into a transcript that has the room.
+fn play<O: Object>(
+    object: &O,
+    table: &mut Table<O>,
+    begins: &mut [Option<usize>],
+    events: &mut Vec<Event<O::Words, O::Value, O::Answer>>,
+    schedule: &[(usize, Move<O::Call, O::Value>)],
+)
+    requires can { CanAlways (O.machine object.now) table.old schedule.now }
+    requires empty { events.old.items ≡ [] }
+    requires room { length schedule.now ≤ vec_capacity events.old }
+    requires parties { length begins.old ≡ length table.old.seats }
+    ensures table { table.new ≡ after (O.machine object.now) table.old schedule.now }
+    ensures events { events.new.items ≡ with_begins [] (events_of (O.machine object.now) table.old schedule.now) }
+    ensures parties { length begins.new ≡ length table.new.seats }
+{
+    forget_begins(begins);
+    for (place, entry) in schedule.iter().enumerate() {
+        let (party, action) = *entry;
+        let outcome = with_begin(begins, party, place, table.act(object, party, action));
+        events.push_reserved(Event {
+            party,
+            outcome,
+            words: table.words,
+        });
+    }
+}

@@ -1,0 +1,2 @@
+pub mod Flag
+pub mod Wrong

@@ -1,0 +1,162 @@
+ghost use Rattle.std.specs.Prelude.{◌≡◌, true};
+ghost use Rattle.spin_core.specs.Steps.{bit};
+ghost use Rattle.spin_world_core.specs.Acts.{becomes, stays, step_by, can_by};
+ghost use Rattle.spin_world_flag.specs.Flag.{lock, granted, act_of};
+
+use spin_core::step::flag;
+use spin_world_core::{Answer, Hold, Next, Object, Stepped};
+
+/// A call of a [`Flag`].
+#[derive(Clone, Copy, Debug, PartialEq, Eq)]
+pub enum FlagCall {
+    /// Takes the lock, in as many steps as it needs.
+    Lock,
+    /// Takes the lock, or is refused where somebody holds it.
+    TryLock,
+    /// The same by a weak exchange, which may also refuse without cause.
+    TryLockWeak,
+    IsLocked,
+    /// Lets go of the lock.
+    Release,
+}
+
+/// Which step of its call comes next. Only `Lock` has a second one.
+#[derive(Clone, Copy, Debug, PartialEq, Eq)]
+pub enum FlagPoint {
+    First,
+    Second,
+}
+
+/// A lock of one flag, which is set while somebody holds it.
+#[derive(Drop)]
+pub struct Flag<V> {
+    value: V,
+}
+
+impl<V> Flag<V> {
+    /// A free lock with this value.
+    pub fn new(value: V) -> Flag<V>
+        ensures { result ≡ record { value = value } }
+    {
+        Flag { value }
+    }
+}
+
+/// The exchange that takes the lock where it is free. `refusal`: how the call goes on where it isn't.
+fn exchange<V: Copy>(
+    words: bool,
+    refusal: Next<FlagPoint, Answer<V>>,
+) -> Stepped<bool, V, FlagPoint, Answer<V>>
+    ensures { result ≡ becomes words (lock words) granted refusal }
+{
+    match flag::lock(words) {
+        Some(taken) => Stepped {
+            words: taken,
+            placed: None,
+            next: Next::Answers(Answer::Granted, Some(Hold::Write)),
+        },
+        None => Stepped {
+            words,
+            placed: None,
+            next: refusal,
+        },
+    }
+}
+
+/// A step that leaves the word as it is.
+fn stay<V: Copy>(
+    words: bool,
+    next: Next<FlagPoint, Answer<V>>,
+) -> Stepped<bool, V, FlagPoint, Answer<V>>
+    ensures { result ≡ stays words next }
+{
+    Stepped {
+        words,
+        placed: None,
+        next,
+    }
+}
+
+impl<V: Copy> Object for Flag<V> {
+    type Words = bool;
+
+    type Value = V;
+
+    type Call = FlagCall;
+
+    type Local = FlagPoint;
+
+    type Answer = Answer<V>;
+
+    ghost use Rattle.spin_world_flag.specs.Flag.{flag_machine};
+
+    ghost machine = { λ f. flag_machine f.value };
+
+    fn laws() {}
+
+    fn opening_words(&self) -> bool {
+        false
+    }
+
+    fn opening_value(&self) -> Option<V> {
+        Some(self.value)
+    }
+
+    fn is_owned(&self) -> bool {
+        true
+    }
+
+    fn begin(&self, call: FlagCall, holds: Option<Hold>) -> Option<FlagPoint> {
+        match (call, holds) {
+            (FlagCall::Release, Some(Hold::Write)) => Some(FlagPoint::First),
+            (FlagCall::Release, _) => None,
+            (_, None) => Some(FlagPoint::First),
+            (_, Some(_)) => None,
+        }
+    }
+
+    fn refuse(
+        &self,
+        call: FlagCall,
+        local: FlagPoint,
+        holds: Option<Hold>,
+    ) -> Option<Next<FlagPoint, Answer<V>>> {
+        match (call, local) {
+            (FlagCall::Lock, FlagPoint::First) => Some(Next::GoesOn(FlagPoint::Second)),
+            (FlagCall::TryLockWeak, _) => Some(Next::Answers(Answer::Refused, holds)),
+            _ => None,
+        }
+    }
+
+    fn step(
+        &self,
+        words: bool,
+        value: Option<V>,
+        call: FlagCall,
+        local: FlagPoint,
+        holds: Option<Hold>,
+    ) -> Stepped<bool, V, FlagPoint, Answer<V>>
+        requires { can_by (act_of {V = V} call local holds) words ≡ true }
+        ensures { result ≡ step_by bit (act_of call local holds) words }
+    {
+        let _ = value;
+        match (call, local) {
+            (FlagCall::Lock, FlagPoint::First) => exchange(words, Next::GoesOn(FlagPoint::Second)),
+            (FlagCall::Lock, FlagPoint::Second) => stay(
+                words,
+                Next::GoesOn(if words {
+                    FlagPoint::Second
+                } else {
+                    FlagPoint::First
+                }),
+            ),
+            (FlagCall::TryLock | FlagCall::TryLockWeak, _) => {
+                exchange(words, Next::Answers(Answer::Refused, holds))
+            }
+            (FlagCall::IsLocked, _) => stay(words, Next::Answers(Answer::Is(words), holds)),
+            (FlagCall::Release, _) => {
+                stay(flag::unlock(words), Next::Answers(Answer::Done, None))
+            }
+        }
+    }
+}

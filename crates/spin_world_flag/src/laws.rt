@@ -1,0 +1,13 @@
+//! A law of the flag. It is the contract of a function that does nothing, over every schedule.
+ghost use Rattle.std.specs.Prelude.{◌≡◌, ◌↔◌, ℕ, List, [], false};
+ghost use Rattle.spin_world_core.specs.declared.schedule.Move.{Move};
+ghost use Rattle.spin_world_core.specs.Schedules.{after, at_first};
+ghost use Rattle.spin_world_core.specs.Runs.{opening};
+ghost use Rattle.spin_world_core.specs.Users.{seen_after};
+ghost use Rattle.spin_world_flag.specs.declared.flag.FlagCall.{FlagCall};
+ghost use Rattle.spin_world_flag.specs.Flag.{flag_machine};
+
+/// The flag is clear exactly when nobody holds the lock.
+pub fn a_flag_is_clear_when_nobody_holds<V: Copy>()
+    ensures { (value : V) (n : ℕ) (past : List (ℕ × Move FlagCall V)) → ((after (flag_machine value) (at_first (flag_machine value) n) past).words ≡ false) ↔ ((seen_after (flag_machine value) (opening (flag_machine value) n) past).plain.holders ≡ []) }
+{}

@@ -1,0 +1,19 @@
+//! Wrong flags, each with a law that it breaks on a schedule that is named. They show what the laws keep out.
+ghost use Rattle.std.specs.Prelude.{◌≡◌};
+ghost use Rattle.spin_world_core.specs.Runs.{MomentsAll, CountsAll};
+ghost use Rattle.spin_world_flag.specs.Wrong.{looks_for_ever, four_looks, tries_by_chance, one_try, looks_by_chance, look_beside_a_holder};
+
+/// A flag's `lock` that never tries again after its first refusal: undisturbed it has to be answered by its fourth step.
+pub fn a_lock_tries_again<V: Copy>()
+    ensures { (value : V) → CountsAll (looks_for_ever value) 2 four_looks → ⊥ }
+{}
+
+/// A strong try that is refused without cause: the refusal has no moment.
+pub fn a_strong_try_has_a_cause<V: Copy>()
+    ensures { (value : V) → MomentsAll (tries_by_chance value) 1 one_try → ⊥ }
+{}
+
+/// A look that tells without cause that nobody holds.
+pub fn a_look_has_a_cause<V: Copy>()
+    ensures { (value : V) → MomentsAll (looks_by_chance value) 2 look_beside_a_holder → ⊥ }
+{}

@@ -1,0 +1,249 @@
+-- What the ticket lock's table owes.
+use Rattle.std.proofs.Common.{◌≡◌, ℕ, suc, ◌+◌, ◌-◌, ◌≤◌, ◌==◌, Bool, true, false, not, ◌&&◌, ◌||◌, if◌then◌else◌, is_some, Option, Some, None, List, [], ◌∷◌, refl, ap, sym, ◌∙◌, subst, arith, inl, inr, eq-eqb}
+use Rattle.std.proofs.lemmas.Bool.{and_parts, eqb-true, true≢false}
+use Rattle.spin_core.specs.Plain.{Plain, Ask, to_take_ticket, to_enter, to_take_and_enter, Change, gets, serves, apply, is_open, is_empty, next_word, serving_word}
+use Rattle.spin_core.specs.Parties.{apply_some, IsOpenStep, Entries, entries, is_held}
+use Rattle.spin_core.specs.Steps.{Grants}
+use Rattle.spin_core.proofs.Tickets.{enters_in_turn, numbered-gets, numbered-serves, serving-taken, serving-entered, entered_is_served, stands}
+use Rattle.spin_core.proofs.TicketSteps.{ticket_take-grants, ticket_take-grants_alone, ticket_serve-gives}
+use Rattle.spin_world_core.specs.declared.place.Hold.{Hold}
+use Rattle.spin_world_core.specs.declared.place.Hold.TheVariants as hold
+use Rattle.spin_world_ticket.specs.declared.ticket.TicketWords.{TicketWords}
+use Rattle.spin_world_ticket.specs.declared.ticket.TicketCall.{TicketCall}
+use Rattle.spin_world_ticket.specs.declared.ticket.TicketCall.TheVariants.{Lock, TryLock, IsLocked, Release}
+use Rattle.spin_world_ticket.specs.declared.ticket.TicketPoint.{TicketPoint}
+use Rattle.spin_world_ticket.specs.declared.ticket.TicketPoint.TheVariants.{LoadNext, Take, Await, TryLoadNext, TryLoadServing, TryTake, LookServing, LookNext, Serve}
+use Rattle.spin_world_core.specs.Calls.{Mark, AnyOf, granted, ticket}
+use Rattle.spin_world_core.specs.Runs.{mark_of}
+use Rattle.spin_world_core.specs.Manners.{Manner, plain}
+use Rattle.spin_world_core.specs.Acts.{passing, is_waiting}
+use Rattle.spin_world_ticket.specs.Ticket.{is_left, take, begins_at, act_of, asks_of, ticket_table, ticket_machine}
+use Rattle.spin_world_core.proofs.Facts.{LocalInvariant, Facts}
+use Rattle.spin_world_core.proofs.Stands.{queues, entries_at}
+use Rattle.spin_world_core.proofs.Rows.{SoundAt, Row, Point, nowhere, looked, onward}
+use Rattle.spin_world_core.proofs.Shapes.{Notes, keeping_of, At, Means, row_of, OwesAt, answers_by, OwesSoon, BeginsAt, makes_own, Pays}
+use Rattle.spin_world_core.proofs.Paid.{facts_of}
+use Rattle.spin_world_ticket.proofs.Found.{free_number, Queue, Stays, Rises, stays-other, rises-other, stays_now, try_refused, look_held, look_free, ticket_left, taken_queue}
+
+abbrev pub point_of : TicketCall → TicketPoint → Option Hold → Point
+point_of Lock LoadNext None = looked 0
+point_of Lock (Take n) None = looked 1
+point_of Lock (Await t) None = onward (record { stand = queues t false; made = λ p. gets p to_take_ticket ∷ []; rest = λ p. gets p to_enter ∷ []; said = granted; spent = 0 })
+point_of TryLock TryLoadNext None = looked 0
+point_of TryLock (TryLoadServing n) None = looked 1
+point_of TryLock (TryTake n) None = looked 2
+point_of IsLocked LookServing None = looked 0
+point_of IsLocked (LookNext k) None = looked 1
+point_of Release (Serve t) (Some (hold.Ticket u)) = looked 0
+point_of _ _ _ = nowhere
+
+-- what else a party knows: since it found the number, a ticket has stood or that is served still; and it goes with the ticket that it holds
+abbrev KnowsAt : TicketPoint → Option Hold → Plain → List Mark → Type 0
+KnowsAt (TryLoadServing n) h s span = Stays n s span
+KnowsAt (TryTake n) h s span = Rises n s span
+KnowsAt (LookNext k) h s span = Rises k s span
+KnowsAt (Serve t) (Some (hold.Ticket u)) s span = t ≡ u
+KnowsAt _ h s span = Unit {0}
+
+abbrev pub ticket_notes : {V : Type 0} (v : V) (first : ℕ) → Notes (ticket_table v first)
+ticket_notes v first = record { Shape = λ s value. Queue s; point = point_of; Knows = λ c l h p s span. KnowsAt l h s span }
+
+-- the step function on its words
+
+two : (a b c d : ℕ) → a ≡ c → b ≡ d → a ∷ b ∷ [] ≡ c ∷ d ∷ []
+two a b c d e f = ap (λ n. n ∷ b ∷ []) e ∙ ap (λ n. c ∷ n ∷ []) f
+
+some_if : {X : Type 0} (b : Bool) (x : X) → is_some (if b then Some x else None) ≡ b
+some_if true x = refl
+some_if false x = refl
+
+two_words : (u w : TicketWords) → u.next ∷ u.serving ∷ [] ≡ w.next ∷ w.serving ∷ [] → u ≡ w
+two_words u w e =
+    let next : u.next ≡ w.next = cc (e) in
+    let serving : u.serving ≡ w.serving = cc (e) in
+    ap (λ k. record u { next = k }) next ∙ ap (λ k. record w { serving = k }) serving
+
+-- it grants by the number alone
+as_found : (w to : TicketWords) → to.next ≡ w.next → is_some (take w) ≡ true → is_some (take to) ≡ true
+as_found w to e found = some_if (is_left to.next) _ ∙ (ap is_left e ∙ (sym (some_if (is_left w.next) _) ∙ found))
+
+not_taken : {X : Type 0} (a b : Bool) (x : X) → (if a then (if b then Some x else None) else None) ≡ None → a ≡ true → b ≡ false
+not_taken a false x none is = refl
+not_taken true true x none is = absurd (cc (none))
+not_taken false true x none is = absurd (true≢false (sym is))
+
+taken_at : {X : Type 0} (a : Bool) (o : Option X) (to : X) → (if a then o else None) ≡ Some to → (a ≡ true) × (o ≡ Some to)
+taken_at true o to is = (refl, is)
+taken_at false o to is = absurd (cc (is))
+
+module _ {V : Type 0} (v : V) (first : ℕ) where
+  -- what is known at a step
+  abbrev Here : ℕ → TicketCall → TicketPoint → Option Hold → Plain → Option V → TicketWords → List Mark → Row → Type 0
+  Here p c l h s value w span row = At (ticket_table v first) (ticket_notes v first) p c l h s value w span row
+
+  abbrev IsMeant : ℕ → Plain → Option V → Change → Option TicketWords → Type 0
+  IsMeant p s value c o = Means (ticket_table v first) (ticket_notes v first) p s value c o
+
+  next_is : (s : Plain) (w : TicketWords) → w.next ∷ w.serving ∷ [] ≡ s.next ∷ serving_word s ∷ [] → s.next ≡ w.next
+  next_is s w e = cc (e)
+
+  serving_is : (s : Plain) (w : TicketWords) → w.next ∷ w.serving ∷ [] ≡ s.next ∷ serving_word s ∷ [] → serving_word s ≡ w.serving
+  serving_is s w e = cc (e)
+
+  -- nobody queues, and a ticket is left
+  free_to_take : (s : Plain) (w : TicketWords) → w.next ∷ w.serving ∷ [] ≡ s.next ∷ serving_word s ∷ [] → (is_empty s.tickets && is_left s.next) ≡ true → (is_left w.next ≡ true) × (w.serving ≡ w.next)
+  free_to_take s w encodes free =
+      let parts = and_parts (is_empty s.tickets) (is_left s.next) free in
+      (ap is_left (sym (next_is s w encodes)) ∙ parts.1, sym (serving_is s w encodes) ∙ (sym (free_number s (serving_word s) parts.0 refl) ∙ next_is s w encodes))
+
+  grants_means : (p : ℕ) (ask : Ask) (s : Plain) (value : Option V) (w : TicketWords) (b : Bool) → serving_word (apply s (gets p ask)) ≡ w.serving → (is_open s (gets p ask) ≡ true → Queue (apply s (gets p ask)))
+      → Grants s (gets p ask) next_word (if b then Some (w.next + 1) else None) → IsMeant p s value (gets p ask) (if b then Some (record w { next = w.next + 1 }) else None)
+  grants_means p ask s value w true same shape grants = ((refl, grants.0), two _ _ _ _ grants.1 (sym same), shape grants.0)
+  grants_means p ask s value w false same shape grants = grants
+
+  take_means : {c : TicketCall} {l : TicketPoint} {h : Option Hold} {s : Plain} {value : Option V} {w : TicketWords} {span : List Mark} {row : Row} (p : ℕ) → Here p c l h s value w span row → IsMeant p s value (gets p to_take_ticket) (take w)
+  take_means {s = s} {value = value} {w = w} p at =
+      grants_means p to_take_ticket s value w (is_left w.next) (serving-taken s p false at.shape.numbered ∙ serving_is s w at.encodes)
+      (λ left. taken_queue s p false at.shape left (numbered-gets s p to_take_ticket at.shape.numbered)) (ticket_take-grants s p w.next (next_is s w at.encodes))
+
+  -- where the number is served
+  take_alone_means : {c : TicketCall} {l : TicketPoint} {h : Option Hold} {s : Plain} {value : Option V} {w : TicketWords} {span : List Mark} {row : Row} (p : ℕ) → Here p c l h s value w span row → w.next ≤ serving_word s
+      → IsMeant p s value (gets p to_take_and_enter) (take w)
+  take_alone_means {s = s} {value = value} {w = w} p at le =
+      let next = next_is s w at.encodes in
+      grants_means p to_take_and_enter s value w (is_left w.next) (serving-taken s p true at.shape.numbered ∙ serving_is s w at.encodes)
+      (λ free. taken_queue s p true at.shape (and_parts (is_empty s.tickets) (is_left s.next) free).1 (numbered-gets s p to_take_and_enter at.shape.numbered))
+      (ticket_take-grants_alone s p w.next at.shape.numbered.0 next (omega (arith, next, le)))
+
+  enter_if : (p t : ℕ) (s : Plain) (value : Option V) (w : TicketWords) (b : Bool) → w.next ∷ w.serving ∷ [] ≡ s.next ∷ serving_word s ∷ [] → Queue s → entries p s ≡ entries_at p (queues t false) → is_open s (gets p to_enter) ≡ b
+      → IsMeant p s value (gets p to_enter) (passing b w)
+  enter_if p t s value w true encodes queue mine may = (
+    (refl, may),
+    two _ _ _ _ (sym (next_is s w encodes)) (sym (serving_is s w encodes) ∙ sym (serving-entered s)),
+    record { no_holders = queue.no_holders; numbered = numbered-gets s p to_enter queue.numbered; in_range = λ some. queue.in_range (stands p t false s.tickets (ap (λ (e : Entries). e.tickets) mine)) },
+  )
+  enter_if p t s value w false encodes queue mine may = may
+
+  enter_means : {t : ℕ} {s : Plain} {value : Option V} {w : TicketWords} {span : List Mark} {row : Row} (p : ℕ) → Here p Lock (Await t) None s value w span row → entries p s ≡ entries_at p (queues t false)
+      → IsMeant p s value (gets p to_enter) (passing (w.serving == t) w)
+  enter_means {t = t} {s = s} {value = value} {w = w} p at mine =
+      enter_if p t s value w (w.serving == t) at.encodes at.shape mine (enters_in_turn s p w.serving t at.shape.numbered (serving_is s w at.encodes) (ap (λ (e : Entries). e.tickets) mine))
+
+  serve_means : {t : ℕ} {s : Plain} {value : Option V} {w : TicketWords} {span : List Mark} {row : Row} {u : ℕ} (p : ℕ) → Here p Release (Serve t) (Some (hold.Ticket u)) s value w span row → entries p s ≡ entries_at p (queues u true)
+      → (is_left t ≡ true) × IsMeant p s value (serves p) (Some (record w { serving = t + 1 }))
+  serve_means {t = t} {s = s} {w = w} p at mine =
+      let tickets = ap (λ (e : Entries). e.tickets) mine in
+      let some = stands p _ true s.tickets tickets in
+      let here = entered_is_served s p _ at.shape.numbered at.exclusive.one_entered tickets in
+      let served = here.1 ∙ sym at.knows in (
+        ticket_left s t at.shape some served,
+        (
+          (refl, here.0),
+          two _ _ _ _ (sym (next_is s w at.encodes)) (ticket_serve-gives s p t at.shape.numbered.0 served here.0),
+          record { no_holders = at.shape.no_holders; numbered = numbered-serves s p at.shape.numbered; in_range = λ more. at.shape.in_range some },
+        ),
+      )
+
+  looked_right : (b : Bool) (k p : ℕ) (s : Plain) (span : List Mark) → Queue s → (s.next == k) ≡ b → Rises k s span → AnyOf (λ m. is_held m.before ≡ not b) (mark_of p None plain s ∷ span)
+  looked_right true k p s span queue is found = inl (look_free k s queue found.0 (eqb-true s.next k is))
+  looked_right false k p s span queue is found = look_held p k s span found.1 (λ e. true≢false (sym (eq-eqb s.next k e) ∙ is))
+
+  owes : (p : ℕ) (c : TicketCall) (l : TicketPoint) (h : Option Hold) (s : Plain) (value : Option V) (w : TicketWords) (span : List Mark) → OwesAt (ticket_table v first) (ticket_notes v first) p c l h s value w span (row_of (ticket_table v first) (ticket_notes v first) c l h)
+  owes p Lock LoadNext None s value w span = λ at. (take_means p at, (λ found. (refl, refl, refl, (refl, refl, λ to e. as_found w to e found), tt)), (λ closed. (refl, refl, refl, tt, tt)))
+  owes p Lock (Take n) None s value w span = λ at. (
+    take_means p at,
+    (λ is. (ap (λ k. Some (queues k false)) (next_is s w at.encodes ∙ is), refl, tt, tt, tt)),
+    (λ found. (refl, refl, refl, (refl, refl, λ to e. as_found w to e found), tt)),
+    (λ closed. (refl, refl, refl, tt, tt)),
+  )
+  owes p Lock (Await t) None s value w span = λ at. (enter_means p at at.known.stand, (refl, inl refl, tt), (λ closed. (refl, refl, tt, tt, tt)))
+  owes p TryLock TryLoadNext None s value w span = λ at. (refl, refl, refl, tt, subst (λ n. Stays n s (mark_of p None plain s ∷ span)) (next_is s w at.encodes) (stays_now s p span (is_empty s.tickets) refl))
+  owes p TryLock (TryLoadServing n) None s value w span = λ at. (
+    (λ free. let served = serving_is s w at.encodes ∙ eqb-true w.serving n (and_parts (w.serving == n) (is_left n) free).0 in (refl, refl, refl, tt, (omega (arith, served), inr served))),
+    (λ taken. (refl, inl refl, try_refused p n s span at.knows (λ served e. ap is_left e ∙ (sym (ap (λ b. b && is_left n) (eq-eqb w.serving n (sym (serving_is s w at.encodes) ∙ served))) ∙ taken)))),
+  )
+  owes p TryLock (TryTake n) None s value w span = λ at. (
+    (λ to taken. let is = taken_at (w.next == n) (take w) to taken in
+        let same = eqb-true w.next n is.0 in
+        (subst (IsMeant p s value (gets p to_take_and_enter)) is.1 (take_alone_means p at (omega (arith, same, at.knows.0))), (ap (λ k. Some (queues k true)) (next_is s w at.encodes ∙ same), inl refl, tt))),
+    (λ none. (refl, inl refl, try_refused p n s span at.knows.1 (λ served e. let next = next_is s w at.encodes in ap is_left next ∙ not_taken (w.next == n) (is_left w.next) _ none (eq-eqb w.next n (sym next ∙ e))))),
+  )
+  owes p IsLocked LookServing None s value w span = λ at. (refl, refl, refl, tt, (omega (arith, serving_is s w at.encodes), inr (serving_is s w at.encodes)))
+  owes p IsLocked (LookNext k) None s value w span = λ at. (refl, inl refl, looked_right (w.next == k) k p s span at.shape (ap (λ n. n == k) (next_is s w at.encodes)) at.knows)
+  owes p Release (Serve t) (Some (hold.Ticket u)) s value w span = λ at. let means = serve_means p at at.known.stand in (means.0, means.1, (refl, inl refl, tt))
+  owes p _ _ _ s value w span = tt
+
+  -- run alone: the next ticket is taken, at once or after a look, and enters where it is served
+  abbrev Soon : ℕ → TicketWords → TicketPoint → Type 0
+  Soon k w l = answers_by (ticket_table v first) k w Lock l None ≡ true
+
+  enters_soon : (k : ℕ) (w : TicketWords) (t : ℕ) → w.serving ≡ t → Soon (suc k) w (Await t)
+  enters_soon k w t is = rw (eq-eqb w.serving t is) refl
+
+  takes_soon : (k : ℕ) (w : TicketWords) (n : ℕ) → is_left w.next ≡ true → w.serving ≡ w.next → w.next ≡ n → Soon (suc (suc k)) w (Take n)
+  takes_soon k w n left served is = rw (eq-eqb w.next n is) (rw left (enters_soon k (record w { next = w.next + 1 }) n (served ∙ is)))
+
+  goes_soon : (k : ℕ) (w : TicketWords) (n : ℕ) (b : Bool) → is_left w.next ≡ true → w.serving ≡ w.next → (w.next == n) ≡ b → Soon (suc (suc (suc k))) w (Take n)
+  goes_soon k w n true left served is = takes_soon (suc k) w n left served (eqb-true w.next n is)
+  goes_soon k w n false left served is = rw is (rw left (takes_soon k w w.next left served refl))
+
+  soon : (p : ℕ) (c : TicketCall) (l : TicketPoint) (h : Option Hold) (s : Plain) (value : Option V) (w : TicketWords) (span : List Mark)
+      → OwesSoon (ticket_table v first) (ticket_notes v first) p c l h s value w span (is_waiting (asks_of c h)) (row_of (ticket_table v first) (ticket_notes v first) c l h)
+  soon p Lock LoadNext None s value w span = λ at free. let is = free_to_take s w at.encodes free in rw is.0 (takes_soon 1 w w.next is.0 is.1 refl)
+  soon p Lock (Take n) None s value w span = λ at free. let is = free_to_take s w at.encodes free in goes_soon 1 w n (w.next == n) is.0 is.1 refl
+  soon p Lock (Await t) None s value w span = λ at free.
+      enters_soon 3 w t (eqb-true w.serving t (sym (enters_in_turn s p w.serving t at.shape.numbered (serving_is s w at.encodes) (ap (λ (e : Entries). e.tickets) at.known.stand)) ∙ free))
+  soon p _ _ _ s value w span = tt
+
+  begins : (p : ℕ) (c : TicketCall) (h : Option Hold) (s : Plain) → BeginsAt (ticket_table v first) (ticket_notes v first) c h p s (begins_at c h)
+  begins p Release (Some (hold.Ticket t)) s = (refl, refl, tt, refl)
+  begins p Lock None s = (refl, refl, tt, tt)
+  begins p TryLock None s = (refl, refl, tt, tt)
+  begins p IsLocked None s = (refl, refl, tt, tt)
+  begins p _ _ s = tt
+
+  makes : (p : ℕ) (l : TicketPoint) (h : Option Hold) → makes_own ticket (act_of {V = V} l h) p ≡ true
+  makes p LoadNext h = refl
+  makes p _ h = refl
+
+  sound : (p : ℕ) (c : TicketCall) (l : TicketPoint) (h : Option Hold) → SoundAt ticket (asks_of c h) p (point_of c l h)
+  sound p Lock (Await t) None = (refl, inl refl)
+  sound p Lock LoadNext None = refl
+  sound p Lock (Take n) None = refl
+  sound p TryLock TryLoadNext None = refl
+  sound p TryLock (TryLoadServing n) None = refl
+  sound p TryLock (TryTake n) None = refl
+  sound p IsLocked LookServing None = refl
+  sound p IsLocked (LookNext k) None = refl
+  sound p Release (Serve t) (Some (hold.Ticket u)) = refl
+  sound p _ _ _ = tt
+
+  others : (q : ℕ) (l : TicketPoint) (h : Option Hold) (s : Plain) (step : Option Change) (r : Manner) (span : List Mark) → Queue s → IsOpenStep s q step → KnowsAt l h s span → KnowsAt l h (apply_some s step) (mark_of q step r s ∷ span)
+  others q (TryLoadServing n) h s step r span queue may knows = stays-other n q s step r span queue.numbered may knows
+  others q (TryTake n) h s step r span queue may knows = rises-other n q s step r span queue.numbered may knows
+  others q (LookNext k) h s step r span queue may knows = rises-other k q s step r span queue.numbered may knows
+  others q (Serve t) (Some (hold.Ticket u)) s step r span queue may knows = knows
+  others q _ h s step r span queue may knows = tt
+
+  pub ticket_pays : Pays (ticket_table v first) (ticket_notes v first)
+  ticket_pays =
+      record {
+        first = two first first first (first - 0) refl (omega arith);
+        shape_first = record { no_holders = refl; numbered = (omega arith, tt); in_range = λ some. absurd (cc (some)) };
+        numbers_tell = λ u w e. two_words u w e;
+        one_list = λ s value queue. ap (λ hs. is_empty hs || is_empty s.tickets) queue.no_holders;
+        shape_written = λ s p old new writes shape. shape;
+        shape_set = λ s old new shape. shape;
+        makes = λ p c l h. makes p l h;
+        sound = sound;
+        begins = begins;
+        others = λ p q c l h s value step r span ne shape may belongs knows. others q l h s step r span shape may knows;
+        owes = owes;
+        soon = soon;
+      }
+
+abbrev pub ticket_keeping : {V : Type 0} (v : V) (first : ℕ) → LocalInvariant V TicketCall TicketPoint
+ticket_keeping v first = keeping_of (ticket_table v first) (ticket_notes v first)
+
+pub ticket_facts : {V : Type 0} (v : V) (first : ℕ) → Facts (ticket_machine v first) (ticket_keeping v first)
+ticket_facts v first = facts_of (ticket_table v first) (ticket_notes v first) (ticket_pays v first)

@@ -1,0 +1,5 @@
+use Rattle.spin_world_ticket.proofs.Queues.{in_turn}
+use Rattle.spin_world_ticket.proofs.laws.tickets_enter_by_releases.Goals as goal
+
+pub returns : goal.returns
+returns g c = λ value first n past further. in_turn value first n past further

@@ -1,0 +1,53 @@
+-- What users of a ticket lock rely on: its tickets stand in order, and enter in their turn.
+use Rattle.std.specs.Prelude.{◌≡◌, ℕ, ◌+◌, ◌↔◌, Bool, true, false, Option, Some, None, List, [], ◌∷◌, ◌++◌, slice_get}
+use Rattle.spin_core.specs.Plain.{Plain, ticket, Change, serves, next_word, serving_word}
+use Rattle.spin_core.specs.Parties.{Entries, entries, no_entries, first_alone_entered}
+use Rattle.spin_core.specs.Tickets.{Numbered}
+use Rattle.spin_world_core.specs.declared.answer.Answer.TheVariants.{Granted}
+use Rattle.spin_world_core.specs.declared.place.Hold.{Hold}
+use Rattle.spin_world_core.specs.declared.place.Hold.TheVariants as hold
+use Rattle.spin_world_core.specs.declared.place.Seat.TheVariants.{Calling, Holding}
+use Rattle.spin_world_core.specs.declared.schedule.Move.{Move}
+use Rattle.spin_world_core.specs.declared.schedule.Move.TheVariants.{Step}
+use Rattle.spin_world_core.specs.declared.schedule.Outcome.TheVariants.{Answered}
+use Rattle.spin_world_ticket.specs.declared.ticket.TicketCall.{TicketCall}
+use Rattle.spin_world_ticket.specs.declared.ticket.TicketPoint.{TicketPoint}
+use Rattle.spin_world_ticket.specs.declared.ticket.TicketWords.{TicketWords}
+use Rattle.spin_world_core.specs.Machines.{Machine}
+use Rattle.spin_world_core.specs.Schedules.{after, at_first}
+use Rattle.spin_world_core.specs.Runs.{Seen, opening}
+use Rattle.spin_world_ticket.specs.Ticket.{ticket_machine}
+use Rattle.spin_world_core.specs.Users.{seen_after, outcome_after, steps_made}
+
+-- a ticket goes
+abbrev pub serves_one : Change → Bool
+serves_one (serves p) = true
+serves_one _ = false
+
+-- how many tickets go in the events of these entries
+abbrev pub tickets_gone : {W V C L A : Type 0} → Machine W V C L A → Seen W V C L → List (ℕ × Move C V) → ℕ
+tickets_gone m seen es = steps_made serves_one m seen es
+
+-- the queue of a ticket lock after a schedule: its tickets are numbered one by one from the number that is served up to the next, and none but the first has entered
+pub record InOrder (w : TicketWords) (s : Plain) : Type 0 where
+  pub next : w.next ≡ next_word s
+  pub serving : w.serving ≡ serving_word s
+  pub numbered : Numbered s
+  pub one_entered : first_alone_entered s.tickets ≡ true
+
+-- a party has this ticket, which hasn't entered, and nothing else
+abbrev pub waits_with : ℕ → ℕ → Entries
+waits_with p t = record no_entries { tickets = ticket p t false ∷ [] }
+
+-- After further entries, where the number s was served before them, exactly those tickets have entered or may enter of which t - s have gone since
+pub record InTurn {V : Type 0} (v : V) (first n : ℕ) (past further : List (ℕ × Move TicketCall V)) : Type 0 where
+  -- the next step of whoever waits with the ticket t is granted the lock exactly when t - s tickets have gone
+  pub enters : (p t : ℕ) (c : TicketCall) (l : TicketPoint) (h : Option Hold) → let m = ticket_machine v first in
+      slice_get (after m (at_first m n) (past ++ further)).seats p ≡ Some (Calling c l h)
+      → entries p (seen_after m (opening m n) (past ++ further)).plain ≡ waits_with p t
+      → (outcome_after m n (past ++ further) p Step ≡ Answered Granted None)
+      ↔ ((after m (at_first m n) past).words.serving + tickets_gone m (seen_after m (opening m n) past) further ≡ t)
+  -- and where somebody holds with the ticket t, so many have
+  pub holds : (p t : ℕ) → let m = ticket_machine v first in
+      slice_get (after m (at_first m n) (past ++ further)).seats p ≡ Some (Holding (hold.Ticket t))
+      → (after m (at_first m n) past).words.serving + tickets_gone m (seen_after m (opening m n) past) further ≡ t

@@ -1,0 +1,20 @@
+//! Laws of the ticket lock. Each is the contract of a function that does nothing, over every schedule.
+ghost use Rattle.std.specs.Prelude.{ℕ, List};
+ghost use Rattle.spin_world_core.specs.declared.schedule.Move.{Move};
+ghost use Rattle.spin_world_core.specs.Schedules.{after, at_first};
+ghost use Rattle.spin_world_core.specs.Runs.{opening};
+ghost use Rattle.spin_world_core.specs.Users.{seen_after};
+ghost use Rattle.spin_world_ticket.specs.declared.ticket.TicketCall.{TicketCall};
+ghost use Rattle.spin_world_ticket.specs.Ticket.{ticket_machine};
+ghost use Rattle.spin_world_ticket.specs.Turns.{InOrder, InTurn};
+
+/// The two words are the numbers of a queue of tickets, whose first alone may have entered.
+pub fn tickets_stand_in_order<V: Copy>()
+    ensures { (value : V) (first n : ℕ) (past : List (ℕ × Move TicketCall V)) → InOrder (after (ticket_machine value first) (at_first (ticket_machine value first) n) past).words (seen_after (ticket_machine value first) (opening (ticket_machine value first) n) past).plain }
+{}
+
+/// A party that waits with a ticket enters by its next step exactly when as many tickets have gone as stood between the
+/// number that was served and its own, and so before any later ticket.
+pub fn tickets_enter_by_releases<V: Copy>()
+    ensures { (value : V) (first n : ℕ) (past further : List (ℕ × Move TicketCall V)) → InTurn value first n past further }
+{}

@@ -1,0 +1,253 @@
+ghost use Rattle.std.specs.Prelude.{◌≡◌, ◌==◌, ◌&&◌, true};
+ghost use Rattle.spin_world_core.specs.declared.object.Next.TheVariants.{GoesOn, Answers};
+ghost use Rattle.spin_world_core.specs.declared.answer.Answer.TheVariants.{Refused};
+ghost use Rattle.spin_world_ticket.specs.declared.ticket.TicketPoint.TheVariants.{LoadNext, Take, Await, TryTake};
+ghost use Rattle.spin_world_core.specs.Acts.{either, stays, becomes, step_by, can_by};
+ghost use Rattle.spin_world_ticket.specs.Ticket.{is_left, take_at, granted, act_of};
+
+use spin_core::step::ticket;
+use spin_world_core::{Answer, Hold, Next, Object, Stepped};
+
+/// The words of a [`Ticket`].
+#[derive(Clone, Copy, Debug, PartialEq, Eq)]
+pub struct TicketWords {
+    /// The number of the next ticket.
+    pub next: u64,
+    /// The number that is served. Whoever has this ticket may hold the lock.
+    pub serving: u64,
+}
+
+/// A call of a [`Ticket`].
+#[derive(Clone, Copy, Debug, PartialEq, Eq)]
+pub enum TicketCall {
+    /// Takes a ticket, in as many steps as it needs, and then waits until it is served.
+    Lock,
+    /// Takes the lock in one pass, or is refused: where a ticket stood at a moment of the call, or tickets are used up.
+    TryLock,
+    /// Whether a ticket stands.
+    IsLocked,
+    /// Lets go of the lock: the next ticket is served.
+    Release,
+}
+
+/// Which step of its call comes next, with what the party has found or taken so far.
+#[derive(Clone, Copy, Debug, PartialEq, Eq)]
+pub enum TicketPoint {
+    /// `Lock` loads the next number.
+    LoadNext,
+    /// `Lock` takes the ticket of this number by an exchange.
+    Take(u64),
+    /// `Lock` loads the number that is served, and has the ticket of this one.
+    Await(u64),
+    /// `TryLock` loads the next number.
+    TryLoadNext,
+    /// `TryLock` loads the number that is served. It found this one to be next.
+    TryLoadServing(u64),
+    /// `TryLock` takes the ticket of this number by an exchange. It found it to be next, and served.
+    TryTake(u64),
+    /// `IsLocked` loads the number that is served.
+    LookServing,
+    /// `IsLocked` loads the next number. It found this one to be served.
+    LookNext(u64),
+    /// `Release` stores the number after this one, its ticket's.
+    Serve(u64),
+}
+
+/// A lock of two numbers: parties take tickets, and enter in their order.
+#[derive(Drop)]
+pub struct Ticket<V> {
+    value: V,
+    first: u64,
+}
+
+impl<V> Ticket<V> {
+    /// A free lock with this value, whose first ticket has this number. Tickets are numbered up to `u64::MAX - 1`.
+    pub fn new(value: V, first: u64) -> Ticket<V>
+        ensures { result ≡ record { value = value; first = first } }
+    {
+        Ticket { value, first }
+    }
+}
+
+/// The words after the ticket of the expected number is taken. `None`: it isn't next, or tickets are used up.
+fn take(words: TicketWords, expected: u64) -> Option<TicketWords>
+    ensures { result ≡ take_at expected words }
+{
+    if words.next != expected {
+        return None;
+    }
+    let next = ticket::take(expected)?;
+    Some(TicketWords { next, ..words })
+}
+
+/// A step that leaves the words as they are.
+fn stay<V: Copy>(
+    words: TicketWords,
+    next: Next<TicketPoint, Answer<V>>,
+) -> Stepped<TicketWords, V, TicketPoint, Answer<V>>
+    ensures { result ≡ stays words next }
+{
+    Stepped {
+        words,
+        placed: None,
+        next,
+    }
+}
+
+/// A step that takes the ticket of the expected number, and goes on by whether it did.
+fn exchange<V: Copy>(
+    words: TicketWords,
+    expected: u64,
+    won: Next<TicketPoint, Answer<V>>,
+    lost: Next<TicketPoint, Answer<V>>,
+) -> Stepped<TicketWords, V, TicketPoint, Answer<V>>
+    ensures { result ≡ becomes words (take_at expected words) won lost }
+{
+    match take(words, expected) {
+        Some(words) => stay(words, won),
+        None => stay(words, lost),
+    }
+}
+
+/// How `Lock` goes on from the next number.
+fn go_for<V: Copy>(next: u64) -> Next<TicketPoint, Answer<V>>
+    ensures { result ≡ either (is_left next) (GoesOn (Take next)) (GoesOn LoadNext) }
+{
+    Next::GoesOn(if next < u64::MAX {
+        TicketPoint::Take(next)
+    } else {
+        TicketPoint::LoadNext
+    })
+}
+
+/// The look of `Lock` at the number that is served, with this ticket.
+fn look_for_turn<V: Copy>(serving: u64, ticket: u64) -> Next<TicketPoint, Answer<V>>
+    ensures { result ≡ either (serving == ticket) (granted ticket) (GoesOn (Await ticket)) }
+{
+    if ticket::is_turn(serving, ticket) {
+        Next::Answers(Answer::Granted, Some(Hold::Ticket(ticket)))
+    } else {
+        Next::GoesOn(TicketPoint::Await(ticket))
+    }
+}
+
+/// The look of `TryLock` at the number that is served, where it found this one to be next.
+fn look_for_free<V: Copy>(
+    serving: u64,
+    next: u64,
+    holds: Option<Hold>,
+) -> Next<TicketPoint, Answer<V>>
+    ensures { result ≡ either ((serving == next) && is_left next) (GoesOn (TryTake next)) (Answers Refused holds) }
+{
+    if ticket::is_turn(serving, next) && next < u64::MAX {
+        Next::GoesOn(TicketPoint::TryTake(next))
+    } else {
+        Next::Answers(Answer::Refused, holds)
+    }
+}
+
+impl<V: Copy> Object for Ticket<V> {
+    type Words = TicketWords;
+
+    type Value = V;
+
+    type Call = TicketCall;
+
+    type Local = TicketPoint;
+
+    type Answer = Answer<V>;
+
+    ghost use Rattle.spin_world_ticket.specs.Ticket.{ticket_machine};
+
+    ghost machine = { λ t. ticket_machine t.value t.first };
+
+    fn laws() {}
+
+    fn opening_words(&self) -> TicketWords {
+        TicketWords {
+            next: self.first,
+            serving: self.first,
+        }
+    }
+
+    fn opening_value(&self) -> Option<V> {
+        Some(self.value)
+    }
+
+    fn is_owned(&self) -> bool {
+        true
+    }
+
+    fn begin(&self, call: TicketCall, holds: Option<Hold>) -> Option<TicketPoint> {
+        match (call, holds) {
+            (TicketCall::Lock, None) => Some(TicketPoint::LoadNext),
+            (TicketCall::TryLock, None) => Some(TicketPoint::TryLoadNext),
+            (TicketCall::IsLocked, None) => Some(TicketPoint::LookServing),
+            (TicketCall::Release, Some(Hold::Ticket(ticket))) => Some(TicketPoint::Serve(ticket)),
+            _ => None,
+        }
+    }
+
+    fn refuse(
+        &self,
+        call: TicketCall,
+        local: TicketPoint,
+        holds: Option<Hold>,
+    ) -> Option<Next<TicketPoint, Answer<V>>> {
+        let _ = (call, local, holds);
+        None
+    }
+
+    fn step(
+        &self,
+        words: TicketWords,
+        value: Option<V>,
+        call: TicketCall,
+        local: TicketPoint,
+        holds: Option<Hold>,
+    ) -> Stepped<TicketWords, V, TicketPoint, Answer<V>>
+        requires { can_by (act_of {V = V} local holds) words ≡ true }
+        ensures { result ≡ step_by (λ w. w.next) (act_of local holds) words }
+    {
+        let _ = (value, call);
+        match local {
+            TicketPoint::LoadNext => stay(words, go_for(words.next)),
+            TicketPoint::Take(next) => exchange(
+                words,
+                next,
+                Next::GoesOn(TicketPoint::Await(next)),
+                go_for(words.next),
+            ),
+            TicketPoint::Await(ticket) => stay(words, look_for_turn(words.serving, ticket)),
+            TicketPoint::TryLoadNext => {
+                stay(words, Next::GoesOn(TicketPoint::TryLoadServing(words.next)))
+            }
+            TicketPoint::TryLoadServing(next) => {
+                stay(words, look_for_free(words.serving, next, holds))
+            }
+            TicketPoint::TryTake(next) => exchange(
+                words,
+                next,
+                Next::Answers(Answer::Granted, Some(Hold::Ticket(next))),
+                Next::Answers(Answer::Refused, holds),
+            ),
+            TicketPoint::LookServing => {
+                stay(words, Next::GoesOn(TicketPoint::LookNext(words.serving)))
+            }
+            TicketPoint::LookNext(serving) => {
+                stay(
+                    words,
+                    Next::Answers(Answer::Is(words.next != serving), holds),
+                )
+            }
+            TicketPoint::Serve(ticket) => Stepped {
+                words: TicketWords {
+                    serving: ticket::serve(ticket),
+                    ..words
+                },
+                placed: None,
+                next: Next::Answers(Answer::Done, None),
+            },
+        }
+    }
+}
