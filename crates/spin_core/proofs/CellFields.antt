@@ -26,12 +26,12 @@ use Rattle.core.proofs.cell.Borrows.{flag}
 use Rattle.core.proofs.tally.Steps.{word_out, word_in}
 use Rattle.core.specs.contracts.marker.PhantomData as marker
 use Rattle.atomic_table.specs.Seated.{fact}
-use Rattle.spin_core.specs.Cell.{Meets}
+use Rattle.spin_core.specs.Cell.{Ways, Starts}
 use Rattle.spin_core.specs.CellMemory.{offset, Known}
 use Rattle.spin_core.specs.declared.cell.Rule.{Ghosts}
 use Rattle.spin_core.specs.contracts.cell.Cell as C
 
-module _ {M : Type 1} {𝓤 : Ura M} (𝓛 : Logic 𝓤) (m : Member) (V Y : RattleType) (g : Ghosts Y.Denot V.Denot) (b o : ℕ) where
+module _ {M : Type 1} {𝓤 : Ura M} (𝓛 : Logic 𝓤) (m : Member) (V Y K : RattleType) (g : Ghosts Y.Denot (row_of m).Denot V.Denot K.Denot) (key : K.Denot) (b o : ℕ) where
   abbrev Pr : Type 2
   Pr = SProp 𝓤
 
@@ -53,8 +53,11 @@ module _ {M : Type 1} {𝓤 : Ura M} (𝓛 : Logic 𝓤) (m : Member) (V Y : Rat
   abbrev R : RattleType
   R = row_of m
 
+  abbrev pub ways : Ways R.Denot V.Denot
+  ways = g.ways key
+
   abbrev pub Knows : Type 0
-  Knows = Known g.ways Y R
+  Knows = Known ways Y R
 
   abbrev Both : RattleType
   Both = Tuple (V ∷ Y ∷ [])
@@ -78,55 +81,55 @@ module _ {M : Type 1} {𝓤 : Ura M} (𝓛 : Logic 𝓤) (m : Member) (V Y : Rat
   abbrev pub Fields : All → Fml
   Fields s = part_at Data full_share (data_of s) b o
 
-  abbrev pub Rule : ℕ → ℕ → Type 0
-  Rule n k = (vs : List V.Denot) × Meets g.holds g.ways n k vs
+  abbrev pub Rule : All → Type 0
+  Rule s = Starts g.holds ways s.0 s.1 s.2
 
   abbrev opened : All → Fml
-  opened s = fsep (Fields s) (fact (Rule s.0 s.1))
+  opened s = fsep (Fields s) (fact (Rule s))
 
   abbrev pub Opened : Fml
   Opened = fex Knows (λ _. fex All opened)
 
   abbrev owned : List Val → All → Fml
-  owned vs s = fsep (Data.own_val (data_of s) vs) (fact (Rule s.0 s.1))
+  owned vs s = fsep (Data.own_val (data_of s) vs) (fact (Rule s))
 
   abbrev pub Written : Fml
-  Written = part_at (C.the_written R V Y g) full_share tt b o
+  Written = part_at (C.the_written R V Y K g) full_share key b o
 
   pub written_out : ⟦ Written ⟧ ⊢ ⟦ Opened ⟧
   unfolding part_of
   written_out = qed 𝓛 (‵ Written ∷ []) ∵ fpick ! (λ vs. fsplit ! $ move ! (1 ∷ []) $ fpick ! (λ k. fpick ! (λ s. fsplit ! $ move ! (2 ∷ 0 ∷ []) $ fjoin ! $
       fpack ! (List Val) (λ us. fsep (cell_at full_share Data.mir us b o) (Data.own_val (data_of s) us)) vs $ fjoin ! $ fpack ! All opened s $ fpack ! Knows (λ _. fex All opened) k $ done !)))
 
-  pub written_in : (k : Knows) (s : All) → ⟦ Fields s ⟧ ∗ ⟦ fact (Rule s.0 s.1) ⟧ ⊢ ⟦ Written ⟧
+  pub written_in : (k : Knows) (s : All) → ⟦ Fields s ⟧ ∗ ⟦ fact (Rule s) ⟧ ⊢ ⟦ Written ⟧
   unfolding part_of
-  written_in k s = qed 𝓛 (‵ (Fields s) ∷ ‵ (fact (Rule s.0 s.1)) ∷ []) ∵ fpick ! (λ vs. fsplit ! $ move ! (1 ∷ 2 ∷ []) $ fjoin ! $
+  written_in k s = qed 𝓛 (‵ (Fields s) ∷ ‵ (fact (Rule s)) ∷ []) ∵ fpick ! (λ vs. fsplit ! $ move ! (1 ∷ 2 ∷ []) $ fjoin ! $
       fpack ! All (owned vs) s $ fpack ! Knows (λ _. fex All (owned vs)) k $ move ! (1 ∷ 0 ∷ []) $ fjoin ! $
-      fpack ! (List Val) (λ us. fsep (cell_at full_share Data.mir us b o) ((C.the_written R V Y g).own_val tt us)) vs $ done !)
+      fpack ! (List Val) (λ us. fsep (cell_at full_share Data.mir us b o) ((C.the_written R V Y K g).own_val key us)) vs $ done !)
 
   abbrev pub Row : Fml
-  Row = part_at (C.the_row R V Y g) full_share tt b o
+  Row = part_at (C.the_row R V Y K g) full_share key b o
 
   pub row_out : ⟦ Row ⟧ ⊢ ⟦ Opened ⟧
   unfolding part_of
   row_out = qed 𝓛 (‵ Row ∷ []) ∵ fpick ! (λ vs. fsplit3 ! $ move ! (2 ∷ []) $ fpick ! (λ k. fpick ! (λ s. fsplit ! $ move ! (2 ∷ 0 ∷ []) $ fjoin ! $
       fpack ! (List Val) (λ us. fsep (cell_at full_share Data.mir us b o) (Data.own_val (data_of s) us)) vs $ move ! (0 ∷ 1 ∷ []) $ fjoin ! $ fpack ! All opened s $ fpack ! Knows (λ _. fex All opened) k $ keep ! (0 ∷ []) $ done !)))
 
-  pub row_in : (k : Knows) (s : All) → ⟦ Fields s ⟧ ∗ ⟦ fact (Rule s.0 s.1) ⟧ ⊢ ⟦ Row ⟧
+  pub row_in : (k : Knows) (s : All) → ⟦ Fields s ⟧ ∗ ⟦ fact (Rule s) ⟧ ⊢ ⟦ Row ⟧
   unfolding part_of
   row_in k s = let D : RattleType = Laid Data (Unit {0}) coded_unit (λ _. Data.own_val (data_of s)) (λ _ _ _ _. ftrue) in
-      qed 𝓛 (‵ (Fields s) ∷ ‵ (fact (Rule s.0 s.1)) ∷ []) ∵ use1 𝓛 (‵ (part_at D full_share tt b o)) (Laid-in Data (Unit {0}) coded_unit (λ _. data_of s) (λ _ _ _ _. ftrue) 𝓛 tt b o refl) $
+      qed 𝓛 (‵ (Fields s) ∷ ‵ (fact (Rule s)) ∷ []) ∵ use1 𝓛 (‵ (part_at D full_share tt b o)) (Laid-in Data (Unit {0}) coded_unit (λ _. data_of s) (λ _ _ _ _. ftrue) 𝓛 tt b o refl) $
       fpick ! (λ vs. fsplit3 ! $ move ! (2 ∷ 3 ∷ []) $ fjoin ! $ fpack ! All (owned vs) s $ fpack ! Knows (λ _. fex All (owned vs)) k $ move ! (2 ∷ 0 ∷ []) $ fjoin ! $ move ! (1 ∷ 0 ∷ []) $ fjoin ! $
-      fpack ! (List Val) (λ us. fsep (cell_at full_share Data.mir us b o) ((C.the_row R V Y g).own_val tt us)) vs $ done !)
+      fpack ! (List Val) (λ us. fsep (cell_at full_share Data.mir us b o) ((C.the_row R V Y K g).own_val key us)) vs $ done !)
 
   -- ---- the words and the value, side by side
   abbrev pub standing_words : ℕ × ℕ → Fml
-  standing_words s = fsep (word b (o + 0) s.0) (fsep (word b (o + 8) s.1) (fact (Rule s.0 s.1)))
+  standing_words s = fsep (word b (o + 0) s.0) (word b (o + 8) s.1)
 
   abbrev pub At : R.Denot → Fml
   At x = part_at R full_share x b (o + offset R)
 
-  module _ (L : Lawful 𝓛 R) (P : Fml) (to : ⟦ P ⟧ ⊢ ⟦ Opened ⟧) (from : (k : Knows) (s : All) → ⟦ Fields s ⟧ ∗ ⟦ fact (Rule s.0 s.1) ⟧ ⊢ ⟦ P ⟧) where
+  module _ (L : Lawful 𝓛 R) (P : Fml) (to : ⟦ P ⟧ ⊢ ⟦ Opened ⟧) (from : (k : Knows) (s : All) → ⟦ Fields s ⟧ ∗ ⟦ fact (Rule s) ⟧ ⊢ ⟦ P ⟧) where
     abbrev Mark : Fml
     Mark = part_at (row_of pm) full_share tt b (o + 0)
 
@@ -137,19 +140,19 @@ module _ {M : Type 1} {𝓤 : Ura M} (𝓛 : Logic 𝓤) (m : Member) (V Y : Rat
     Back = PartsBack 𝓛 full_share [] ks b o
 
     abbrev joined : All → Pr
-    joined s = (⟦ standing_words (s.0, s.1) ⟧ ∗ ⟦ At s.2 ⟧) -∗ ⟦ P ⟧
+    joined s = (⟦ standing_words (s.0, s.1) ⟧ ∗ ⟦ At s.2 ⟧ ∗ ⟦ fact (Rule s) ⟧) -∗ ⟦ P ⟧
 
     abbrev pub Joins : Pr
     Joins = all 𝓤 joined
 
     abbrev pub Apart : Knows × All → Pr
-    Apart z = ⟦ standing_words (z.1.0, z.1.1) ⟧ ∗ ⟦ At z.1.2 ⟧ ∗ Joins
+    Apart z = ⟦ standing_words (z.1.0, z.1.1) ⟧ ∗ ⟦ At z.1.2 ⟧ ∗ ⟦ fact (Rule z.1) ⟧ ∗ Joins
 
     joins : (k : Knows) → ⟦ Mark ⟧ ∗ Back ⊢ Joins
-    joins k = qed 𝓛 (‵ Mark ∷ raw Back ∷ []) ∵ each ! joined (λ s. let a : Denots (rows_of ks) = data_of s in assume ! (‵ (standing_words (s.0, s.1)) ⊛ ‵ (At s.2)) $ split ! $ fsplit3 ! $
+    joins k = qed 𝓛 (‵ Mark ∷ raw Back ∷ []) ∵ each ! joined (λ s. let a : Denots (rows_of ks) = data_of s in assume ! (‵ (standing_words (s.0, s.1)) ⊛ ‵ (At s.2) ⊛ ‵ (fact (Rule s))) $ split3 ! $ fsplit ! $
         use1 𝓛 (‵ (wd 0 s.0)) (word_in 𝓛 b (o + 0) s.0) $ move ! (1 ∷ []) $ use1 𝓛 (‵ (wd 8 s.1)) (word_in 𝓛 b (o + 8) s.1) $ nothing ! $
-        -- [nothing; the second word; the first word; the rule; the value; the marker; the way back]
-        move ! (4 ∷ 0 ∷ []) $ fjoin ! $ move ! (1 ∷ 0 ∷ []) $ fjoin ! $ move ! (3 ∷ 1 ∷ 0 ∷ []) $ fjoin3 ! $ move ! (2 ∷ []) $
+        -- [nothing; the second word; the first word; the value; the rule; the marker; the way back]
+        move ! (3 ∷ 0 ∷ []) $ fjoin ! $ move ! (1 ∷ 0 ∷ []) $ fjoin ! $ move ! (3 ∷ 1 ∷ 0 ∷ []) $ fjoin3 ! $ move ! (2 ∷ []) $
         use1 𝓛 (raw (⟦ parts_at full_share ks zero a b o ⟧ -∗ ⟦ Fields s ⟧)) (all_e 𝓤 (λ (u : Denots (rows_of ks)). ⟦ parts_at full_share ks zero u b o ⟧ -∗ ⟦ part_at Data full_share u b o ⟧) a) $
         move ! (1 ∷ 0 ∷ []) $ use2 𝓛 (‵ (Fields s)) (apply∗ 𝓤 ⟦ parts_at full_share ks zero a b o ⟧ ⟦ Fields s ⟧) $ by ! (from k s))
 
@@ -159,4 +162,4 @@ module _ {M : Type 1} {𝓤 : Ura M} (𝓛 : Logic 𝓤) (m : Member) (V Y : Rat
         (Struct-parts 𝓛 full_share [] ks (Struct-Lawful 𝓛 (denote.Struct.Declared.shape (marker.the_type Both)) tt, (u64-laws.lawful 𝓛, (u64-laws.lawful 𝓛, (L, tt)))) (data_of s) b o) $ split ! $ split3 ! $
         move ! (1 ∷ []) $ use1 𝓛 (‵ (word b (o + 0) s.0)) (word_out 𝓛 b (o + 0) s.0) $ move ! (2 ∷ []) $ split3 ! $ use1 𝓛 (‵ (word b (o + 8) s.1)) (word_out 𝓛 b (o + 8) s.1) $
         -- [the second word; the value; nothing; the first word; the marker; the way back; the rule]
-        move ! (0 ∷ 6 ∷ []) $ fjoin ! $ move ! (3 ∷ 0 ∷ []) $ fjoin ! $ move ! (3 ∷ 4 ∷ []) $ use2 𝓛 (raw Joins) (joins k) $ show ! Apart (k, s) $ keep ! (1 ∷ 2 ∷ 0 ∷ []) $ done !))
+        move ! (3 ∷ 0 ∷ []) $ fjoin ! $ move ! (3 ∷ 4 ∷ []) $ use2 𝓛 (raw Joins) (joins k) $ show ! Apart (k, s) $ keep ! (1 ∷ 2 ∷ 4 ∷ 0 ∷ []) $ done !))

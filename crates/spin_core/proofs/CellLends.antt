@@ -1,20 +1,19 @@
 -- What a `&` to a permit holds: its reader or its writer lends what it has of the value. Assumes `Logic`.
 --     by_before     a step for a token of α is a step for one of κ.        Lends-tracked     the law of a party that tracks the value
 --     permit_laws, Lends-permit     the laws of a permit.        writer_laws, Lends-writer     the laws of a writer
-use Rattle.std.proofs.Common.{◌≡◌, ℕ, ◌+◌, List, [], ◌∷◌, ◌++◌, Option, Some, None}
+use Rattle.std.proofs.Common.{◌≡◌, ℕ, ◌+◌, List, [], ◌∷◌, ◌++◌, refl, Option, Some, None}
 use seplogic.Ra.Ura.{Ura}
 use base.Share
 use base.Fraction.{full_share}
-use base.FractionLaws.{Counts}
 use base.Stored.{Gv}
-use base.Logic.{SProp, ent, sep, wand, ex, upd_i, apply∗, never_e, id⊢}
+use base.Logic.{SProp, ent, sep, wand, ex, guard, upd_i, apply∗, never_e, id⊢}
 use base.Fml.{Lft, Share, Incl, Incl-refl, Incl-trans, Fml, ftrue, ffalse, fsep, fseps, fex, fwand, fupd, fdead, fobs, fbor, flft, finv}
 use base.Before.{before}
 use contract.BorrowLft.{meet_⊑_left, meet_⊑_right, ⊑_meet}
 use ghost.Rules.{Toks, span}
 use types.Logic.{Logic, sem, lfts}
-use types.Kit.{‵, raw, ◌⊛◌, some, later, given, ◌$◌, ◌∵◌, !, qed, by, move, keep, drop, group, use1, use2, use3, split, split3, fsplit, fsplit3, fjoin, fjoin3, fpick, fpack, pick, show, assume, suffices, learn, await, updating, now, done}
-use types.Tokens.{bor_open, obor_close, obor_alter, bor_fracture}
+use types.Kit.{‵, raw, ◌⊛◌, some, later, given, ◌$◌, ◌∵◌, !, qed, by, move, keep, drop, group, use1, use2, use3, split, split3, fsplit, fsplit3, fjoin, fjoin3, fpick, fpack, pick, show, check, rewrite, assume, suffices, learn, await, updating, now, done}
+use types.Tokens.{bor_new, bor_open, obor_close, obor_alter, bor_fracture}
 use types.Na.{before_acc, before_dup, before_shorten}
 use denote.RattleType.{RattleType, RowLaws}
 use denote.Memory.{part_at, mem}
@@ -26,24 +25,24 @@ use denote.Shares.{Shares, settles}
 use denote.Steps.{nothing}
 use denote.Struct.Lending.{Lends, Lends-false, Lends-nothing}
 use Rattle.core.proofs.cell.Borrows.{by_one, unnest_before}
-use Rattle.spin_core.specs.Cell.{Use, off, reads, writes, Ways, use_of}
-use Rattle.spin_core.specs.CellMemory.{offset, Known, Id, round_code, tag, parts, shown, named, tracked, right, stand, inner, kept, permit_owns, permit_shares, reader_shares, writer_at, writer_owns, writer_shares}
-use Rattle.spin_core.proofs.CellParts.{parts_in}
+use Rattle.spin_core.specs.Cell.{Use, off, reads, writes, Way, alone, lends, fixes, Seen, Ways, use_of}
+use Rattle.spin_core.specs.CellMemory.{offset, Known, Id, round_code, tag, Part, piece, shown, named, tracked, right, stand, inner, kept, permit_owns, permit_shares, reader_shares, writer_at, writer_owns, writer_shares}
+use Rattle.spin_core.proofs.CellParts.{piece_in}
 
 -- ---- what is shared may be had twice, and for less time
-reader_laws : (Y R : RattleType) {V : Type 0} (c : V → Gv) (holds : ℕ → ℕ → List V → Type 0) (ways : Ways V) → RowLaws R → (β : Lft) (b o : ℕ) (u : Use) (x : Option R.Denot)
+reader_laws : (Y R : RattleType) {V : Type 0} (c : V → Gv) (holds : ℕ → ℕ → List V → Type 0) (ways : Ways R.Denot V) → RowLaws R → (β : Lft) (b o : ℕ) (u : Use) (x : Option R.Denot)
     → ShrLaws (reader_shares Y R c holds ways β b o u x)
 reader_laws Y R c holds ways L β b o reads (Some x) = some_shr_laws (Known ways Y R) (λ _. within β (shown R b o x)) (λ _. within_shr_laws β (shown R b o x) (L x b (o + offset R)))
 reader_laws Y R c holds ways L β b o reads None = said_shr_laws ffalse tt
 reader_laws Y R c holds ways L β b o off x = nothing_shr_laws
 reader_laws Y R c holds ways L β b o writes x = nothing_shr_laws
 
-pub permit_laws : (Y R : RattleType) {V : Type 0} (c : V → Gv) (holds : ℕ → ℕ → List V → Type 0) (ways : Ways V) → RowLaws R → (β : Lft) (p : Ptr) (view : Option V) (x : Option R.Denot)
+pub permit_laws : (Y R : RattleType) {V : Type 0} (c : V → Gv) (holds : ℕ → ℕ → List V → Type 0) (ways : Ways R.Denot V) → RowLaws R → (β : Lft) (p : Ptr) (view : Option V) (x : Option R.Denot)
     → ShrLaws (permit_shares Y R c holds ways β p view x)
-permit_laws Y R c holds ways L β (block_ptr b o) view x = reader_laws Y R c holds ways L β b o (use_of ways view) x
+permit_laws Y R c holds ways L β (block_ptr b o) view x = reader_laws Y R c holds ways L β b o (use_of ways.1 view) x
 permit_laws Y R c holds ways L β null_ptr view x = said_shr_laws ffalse tt
 
-pub writer_laws : (Y R : RattleType) {V : Type 0} (c : V → Gv) (holds : ℕ → ℕ → List V → Type 0) (ways : Ways V) → RowLaws R → (β : Lft) (p : Ptr) (view : V) (x : R.Denot)
+pub writer_laws : (Y R : RattleType) {V : Type 0} (c : V → Gv) (holds : ℕ → ℕ → List V → Type 0) (ways : Ways R.Denot V) → RowLaws R → (β : Lft) (p : Ptr) (view : V) (x : R.Denot)
     → ShrLaws (writer_shares Y R c holds ways β p view x)
 writer_laws Y R c holds ways L β (block_ptr b o) view x = within_shr_laws β (shown R b o x) (L x b (o + offset R))
 writer_laws Y R c holds ways L β null_ptr view x = said_shr_laws ffalse tt
@@ -82,7 +81,7 @@ module _ {M : Type 1} {𝓤 : Ura M} (𝓛 : Logic 𝓤) where
     At = part_at R full_share x b (o + offset R)
 
     abbrev Ob : Id → Fml
-    Ob t = fobs t.3 (R.coded.code x)
+    Ob t = fobs t.value (R.coded.code x)
 
     abbrev N : Id → Fml
     N t = named R b o t
@@ -91,23 +90,23 @@ module _ {M : Type 1} {𝓤 : Ura M} (𝓛 : Logic 𝓤) where
     Tr t = tracked R b o t x
 
     abbrev pub Gives : Id → Pr
-    Gives t = ⟦ before β t.0 ⟧ ∗ ⟦ Tr t ⟧ ∗ (⟦ Tr t ⟧ -∗ ⟦ P ⟧)
+    Gives t = ⟦ before β t.life ⟧ ∗ ⟦ Tr t ⟧ ∗ (⟦ Tr t ⟧ -∗ ⟦ P ⟧)
 
-    again : (ν : Lft) (t : Id) → (⟦ Tr t ⟧ -∗ ⟦ P ⟧) ⊢ ⟦ fwand (fsep (fdead ν) (fseps (Ob t ∷ fbor t.0 (N t) ∷ []))) (fupd P) ⟧
+    again : (ν : Lft) (t : Id) → (⟦ Tr t ⟧ -∗ ⟦ P ⟧) ⊢ ⟦ fwand (fsep (fdead ν) (fseps (Ob t ∷ fbor t.life (N t) ∷ []))) (fupd P) ⟧
     unfolding fseps
-    again ν t = qed 𝓛 (raw (⟦ Tr t ⟧ -∗ ⟦ P ⟧) ∷ []) ∵ assume ! (‵ (fsep (fdead ν) (fsep (Ob t) (fsep (fbor t.0 (N t)) ftrue)))) $ suffices ! ⟦ P ⟧ (upd_i 𝓤 ⟦ P ⟧) $
+    again ν t = qed 𝓛 (raw (⟦ Tr t ⟧ -∗ ⟦ P ⟧) ∷ []) ∵ assume ! (‵ (fsep (fdead ν) (fsep (Ob t) (fsep (fbor t.life (N t)) ftrue)))) $ suffices ! ⟦ P ⟧ (upd_i 𝓤 ⟦ P ⟧) $
         fsplit ! $ drop ! $ fsplit3 ! $ fjoin ! $ keep ! (0 ∷ 2 ∷ []) $ by ! (apply∗ 𝓤 ⟦ Tr t ⟧ ⟦ P ⟧)
 
     pub Lends-at : ⟦ P ⟧ ⊢ ex 𝓤 Gives → (ν : Lft) → Incl ν β → (q : Share) → A.bor ν P ∗ A.lft ν q ⊢ H.⇛ (A.bor ν At ∗ A.lft ν q)
     unfolding fseps
     Lends-at opens ν inc q = qed 𝓛 (‵ (fbor ν P) ∷ ‵ (flft ν q) ∷ []) ∵ updating ! $ bor_open ! tt $ move ! (1 ∷ []) $
-        use1 𝓛 (some (λ (t : Id). ‵ (before β t.0) ⊛ ‵ (Tr t) ⊛ raw (⟦ Tr t ⟧ -∗ ⟦ P ⟧))) opens $ pick ! (λ t. split3 ! $ move ! (1 ∷ []) $ fsplit ! $ move ! (3 ∷ []) $
-        use1 𝓛 (‵ (fwand (fsep (fdead ν) (fseps (Ob t ∷ fbor t.0 (N t) ∷ []))) (fupd P))) (again ν t) $ nothing ! $ move ! (2 ∷ 3 ∷ 0 ∷ []) $ fjoin3 ! $
-        move ! (3 ∷ 0 ∷ 1 ∷ []) $ obor_alter ! tt (Ob t ∷ fbor t.0 (N t) ∷ []) $ use1 𝓛 (‵ (fbor ν (Ob t)) ⊛ ‵ (fbor ν (fbor t.0 (N t))) ⊛ ‵ ftrue) (id⊢ 𝓤 _) $ split3 ! $
-        move ! (4 ∷ []) $ use1 𝓛 (‵ (before ν t.0)) (before_shorten 𝓛 β ν t.0 inc) $ keep ! (0 ∷ 2 ∷ 4 ∷ 1 ∷ []) $
-        use3 𝓛 (later (‵ (fbor ν (N t)) ⊛ ‵ (flft ν q))) (unnest_before 𝓛 ν t.0 q (N t)) $ await ! tt $ split ! $ move ! (1 ∷ []) $
+        use1 𝓛 (some (λ (t : Id). ‵ (before β t.life) ⊛ ‵ (Tr t) ⊛ raw (⟦ Tr t ⟧ -∗ ⟦ P ⟧))) opens $ pick ! (λ t. split3 ! $ move ! (1 ∷ []) $ fsplit ! $ move ! (3 ∷ []) $
+        use1 𝓛 (‵ (fwand (fsep (fdead ν) (fseps (Ob t ∷ fbor t.life (N t) ∷ []))) (fupd P))) (again ν t) $ nothing ! $ move ! (2 ∷ 3 ∷ 0 ∷ []) $ fjoin3 ! $
+        move ! (3 ∷ 0 ∷ 1 ∷ []) $ obor_alter ! tt (Ob t ∷ fbor t.life (N t) ∷ []) $ use1 𝓛 (‵ (fbor ν (Ob t)) ⊛ ‵ (fbor ν (fbor t.life (N t))) ⊛ ‵ ftrue) (id⊢ 𝓤 _) $ split3 ! $
+        move ! (4 ∷ []) $ use1 𝓛 (‵ (before ν t.life)) (before_shorten 𝓛 β ν t.life inc) $ keep ! (0 ∷ 2 ∷ 4 ∷ 1 ∷ []) $
+        use3 𝓛 (later (‵ (fbor ν (N t)) ⊛ ‵ (flft ν q))) (unnest_before 𝓛 ν t.life q (N t)) $ await ! tt $ split ! $ move ! (1 ∷ []) $
         use1 𝓛 (‵ (flft ν (Share.left q)) ⊛ ‵ (flft ν (Share.right q))) (𝓛.lfts.lft_split ν q) $ split ! $ move ! (3 ∷ 0 ∷ []) $ bor_open ! tt $ move ! (1 ∷ 3 ∷ 2 ∷ []) $
-        use3 𝓛 (later (‵ (Ob t) ⊛ ‵ (fbor ν At) ⊛ ‵ (flft ν (Share.right q)))) (settles 𝓛 (mem R) ν ((ν, Share.right q) ∷ []) (Incl-refl ν) t.3 x b (o + offset R)) $ await ! tt $ split3 ! $
+        use3 𝓛 (later (‵ (Ob t) ⊛ ‵ (fbor ν At) ⊛ ‵ (flft ν (Share.right q)))) (settles 𝓛 (mem R) ν ((ν, Share.right q) ∷ []) (Incl-refl ν) t.value x b (o + offset R)) $ await ! tt $ split3 ! $
         move ! (3 ∷ 0 ∷ []) $ obor_close ! tt $ drop ! $ move ! (0 ∷ 2 ∷ []) $ use2 𝓛 (‵ (flft ν q)) (𝓛.lfts.lft_join ν q) $ now ! $ move ! (1 ∷ 0 ∷ []) $ done !)
 
     pub Lends-tracked : (l : Lft) → Incl l β → Shares 𝓛 R l → ⟦ P ⟧ ⊢ ex 𝓤 Gives → Lends 𝓛 P (within β (shown R b o x)) l
@@ -117,12 +116,12 @@ module _ {M : Type 1} {𝓤 : Ura M} (𝓛 : Logic 𝓤) where
         use2 𝓛 (later (‵ (fbor ν At) ⊛ raw (lfts 𝓛 ts))) (by_one 𝓛 ν ts sm (A.bor ν P) (A.bor ν At) (Lends-at opens ν (meet_⊑_right κ β))) $ await ! tt $
         use1 𝓛 (later (‵ (shown R b o x ν) ⊛ raw (lfts 𝓛 ts))) (s x ν ts b (o + offset R) inc sm) $ await ! tt $ now ! $ done !
 
-  module _ (Y R : RattleType) {V : Type 0} (c : V → Gv) (holds : ℕ → ℕ → List V → Type 0) (ways : Ways V) (β : Lft) where
+  module _ (Y R : RattleType) {V : Type 0} (c : V → Gv) (holds : ℕ → ℕ → List V → Type 0) (ways : Ways R.Denot V) (β : Lft) where
     abbrev Knows : Type 0
     Knows = Known ways Y R
 
     abbrev Inv : ℕ → ℕ → Id → Fml
-    Inv b o t = fbor t.0 (inner R b o t c holds ways)
+    Inv b o t = fbor t.life (inner R b o t c holds ways)
 
     -- ---- a writer
     module _ (b o : ℕ) (view : V) (x : R.Denot) where
@@ -136,7 +135,7 @@ module _ {M : Type 1} {𝓤 : Ura M} (𝓛 : Logic 𝓤) where
       Wr = writer_at Y R c holds ways β b o view x
 
       writer_gives : ⟦ W ⟧ ⊢ ex 𝓤 (Gives R b o β x W)
-      writer_gives = qed 𝓛 (‵ W ∷ []) ∵ fpick ! (λ k. fpick ! (λ e. fpick ! (λ t. fsplit3 ! $ fsplit ! $ use1 𝓛 (‵ (before β t.0) ⊛ ‵ (before β t.0)) (before_dup 𝓛 β t.0) $ split ! $ move ! (0 ∷ 4 ∷ []) $
+      writer_gives = qed 𝓛 (‵ W ∷ []) ∵ fpick ! (λ k. fpick ! (λ e. fpick ! (λ t. fsplit3 ! $ fsplit ! $ use1 𝓛 (‵ (before β t.life) ⊛ ‵ (before β t.life)) (before_dup 𝓛 β t.life) $ split ! $ move ! (0 ∷ 4 ∷ []) $
           show ! (Gives R b o β x W) t $ types.Kit.frame ! $ types.Kit.frame ! $ assume ! (‵ (tracked R b o t x)) $ move ! (1 ∷ 2 ∷ []) $ fjoin ! $ move ! (0 ∷ 2 ∷ 1 ∷ []) $ fjoin3 ! $
           fpack ! Id Wr t $ fpack ! Sure (λ _. fex Id Wr) e $ fpack ! Knows (λ _. fex Sure (λ _. fex Id Wr)) k $ done !)))
 
@@ -147,7 +146,7 @@ module _ {M : Type 1} {𝓤 : Ura M} (𝓛 : Logic 𝓤) where
     -- ---- a permit, at each use
     module _ (b o : ℕ) (view : Option V) where
       abbrev owned_at : Use → Option R.Denot → Id → Fml
-      owned_at u x t = fsep (kept R b o t c holds ways β) (fsep (stand R b o t c view) (right R b o t u x))
+      owned_at u x t = fsep (kept R b o t c holds ways β) (fsep (stand R b o t c view) (right R b o t ways.0 u x))
 
       abbrev Owned : Use → Option R.Denot → Fml
       Owned u x = fex Knows (λ _. fex Id (owned_at u x))
@@ -159,12 +158,12 @@ module _ {M : Type 1} {𝓤 : Ura M} (𝓛 : Logic 𝓤) where
         abbrev V' : Lft → Fml
         V' = shown R b o x
 
-        reads_again : (k : Knows) (t : Id) (a : ℕ) (e : Share) → Counts 63 e 1
-            → ⟦ before β t.0 ⟧ ∗ A.inv (Inv b o t) ∗ ⟦ stand R b o t c view ⟧ ∗ ⟦ tag t.1 e (round_code R (a, x)) ⟧ ∗ ⟦ V' (a ∷ t.0) ⟧ ⊢ ⟦ fwand (fsep (fdead ν) (fseps (flft (a ∷ []) e ∷ []))) (fupd P) ⟧
+        reads_again : (k : Knows) (t : Id) (a : ℕ) (e : Share) → Part ways.0 x e
+            → ⟦ before β t.life ⟧ ∗ A.inv (Inv b o t) ∗ ⟦ stand R b o t c view ⟧ ∗ ⟦ tag t.round e (round_code R (a, x)) ⟧ ∗ ⟦ V' (a ∷ t.life) ⟧ ⊢ ⟦ fwand (fsep (fdead ν) (fseps (flft (a ∷ []) e ∷ []))) (fupd P) ⟧
         unfolding fseps
-        reads_again k t a e n = qed 𝓛 (‵ (before β t.0) ∷ ‵ (finv (Inv b o t)) ∷ ‵ (stand R b o t c view) ∷ ‵ (tag t.1 e (round_code R (a, x))) ∷ ‵ (V' (a ∷ t.0)) ∷ []) ∵ assume ! (‵ (fsep (fdead ν) (fsep (flft (a ∷ []) e) ftrue))) $
-            suffices ! ⟦ P ⟧ (upd_i 𝓤 ⟦ P ⟧) $ fsplit3 ! $ move ! (1 ∷ 6 ∷ []) $ fjoin ! $ use1 𝓛 (‵ (parts R t.1 (a, x) 1)) (parts_in 𝓛 R t.1 (a, x) 1 e n) $ move ! (0 ∷ 6 ∷ []) $ fjoin ! $
-            fpack ! ℕ (λ u. fsep (parts R t.1 (u, x) 1) (V' (u ∷ t.0))) a $ move ! (5 ∷ 0 ∷ []) $ fjoin ! $ move ! (3 ∷ 4 ∷ []) $ fjoin ! $ fjoin ! $
+        reads_again k t a e n = qed 𝓛 (‵ (before β t.life) ∷ ‵ (finv (Inv b o t)) ∷ ‵ (stand R b o t c view) ∷ ‵ (tag t.round e (round_code R (a, x))) ∷ ‵ (V' (a ∷ t.life)) ∷ []) ∵ assume ! (‵ (fsep (fdead ν) (fsep (flft (a ∷ []) e) ftrue))) $
+            suffices ! ⟦ P ⟧ (upd_i 𝓤 ⟦ P ⟧) $ fsplit3 ! $ move ! (1 ∷ 6 ∷ []) $ fjoin ! $ use1 𝓛 (‵ (piece R ways.0 t.round (a, x))) (piece_in 𝓛 R t.round ways.0 (a, x) e n) $ move ! (0 ∷ 6 ∷ []) $ fjoin ! $
+            fpack ! ℕ (λ u. fsep (piece R ways.0 t.round (u, x)) (V' (u ∷ t.life))) a $ move ! (5 ∷ 0 ∷ []) $ fjoin ! $ move ! (3 ∷ 4 ∷ []) $ fjoin ! $ fjoin ! $
             fpack ! Id (owned_at reads (Some x)) t $ fpack ! Knows (λ _. fex Id (owned_at reads (Some x))) k $ keep ! (0 ∷ []) $ done !
 
         pub lends_shown : (q : Share) → A.bor ν P ∗ A.lft ν q ⊢ H.⇛ (⟦ fex Knows (λ _. V' ν) ⟧ ∗ A.lft ν q)
@@ -172,12 +171,12 @@ module _ {M : Type 1} {𝓤 : Ura M} (𝓛 : Logic 𝓤) where
         lends_shown q = qed 𝓛 (‵ (fbor ν P) ∷ ‵ (flft ν q) ∷ []) ∵ updating ! $ bor_open ! tt $ move ! (1 ∷ []) $ fpick ! (λ k. fpick ! (λ t. fsplit3 ! $ fsplit ! $ move ! (3 ∷ []) $ fpick ! (λ u. fsplit ! $ fpick ! (λ e. fpick ! (λ n. fsplit ! $
             let a : Lft = u ∷ [] in let μ : Lft = a ++ ν in let K = L x b (o + offset R) in
             -- [the token; the tag; what is shown; the end; the invariant; the view; the open borrow]
-            move ! (2 ∷ []) $ use1 𝓛 (‵ (V' (u ∷ t.0)) ⊛ ‵ (V' (u ∷ t.0))) (contraction 𝓛 V' K (a ++ t.0)) $ split ! $ move ! (4 ∷ []) $
-            use1 𝓛 (‵ (before β t.0) ⊛ ‵ (before β t.0)) (before_dup 𝓛 β t.0) $ split ! $ move ! (0 ∷ 6 ∷ 7 ∷ 5 ∷ 2 ∷ []) $ group ! 5 $
+            move ! (2 ∷ []) $ use1 𝓛 (‵ (V' (u ∷ t.life)) ⊛ ‵ (V' (u ∷ t.life))) (contraction 𝓛 V' K (a ++ t.life)) $ split ! $ move ! (4 ∷ []) $
+            use1 𝓛 (‵ (before β t.life) ⊛ ‵ (before β t.life)) (before_dup 𝓛 β t.life) $ split ! $ move ! (0 ∷ 6 ∷ 7 ∷ 5 ∷ 2 ∷ []) $ group ! 5 $
             use1 𝓛 (‵ (fwand (fsep (fdead ν) (fseps (flft a e ∷ []))) (fupd P))) (reads_again k t u e n) $ nothing ! $ move ! (4 ∷ 0 ∷ []) $ fjoin ! $ move ! (4 ∷ 0 ∷ 1 ∷ []) $ obor_alter ! tt (flft a e ∷ []) $
             use1 𝓛 (‵ (fbor ν (flft a e)) ⊛ ‵ ftrue) (id⊢ 𝓤 _) $ split ! $ bor_fracture ! tt (λ r. flft a r) e $ move ! (4 ∷ []) $
-            use1 𝓛 (‵ (V' (μ ++ t.0))) (shortens 𝓛 V' K (a ++ t.0) (μ ++ t.0) (⊑_meet (μ ++ t.0) a t.0 (Incl-trans (meet_⊑_left μ t.0) (meet_⊑_left a ν)) (meet_⊑_right μ t.0))) $ move ! (4 ∷ []) $
-            use1 𝓛 (‵ (before μ t.0)) (before_shorten 𝓛 β μ t.0 (Incl-trans (meet_⊑_right a ν) inc)) $ use2 𝓛 (‵ (V' μ)) (moves_before 𝓛 V' K μ t.0) $ move ! (1 ∷ 0 ∷ []) $
+            use1 𝓛 (‵ (V' (μ ++ t.life))) (shortens 𝓛 V' K (a ++ t.life) (μ ++ t.life) (⊑_meet (μ ++ t.life) a t.life (Incl-trans (meet_⊑_left μ t.life) (meet_⊑_left a ν)) (meet_⊑_right μ t.life))) $ move ! (4 ∷ []) $
+            use1 𝓛 (‵ (before μ t.life)) (before_shorten 𝓛 β μ t.life (Incl-trans (meet_⊑_right a ν) inc)) $ use2 𝓛 (‵ (V' μ)) (moves_before 𝓛 V' K μ t.life) $ move ! (1 ∷ 0 ∷ []) $
             use2 𝓛 (‵ (V' ν)) (moves 𝓛 V' K ν a) $ fpack ! Knows (λ _. V' ν) k $ now ! $ keep ! (0 ∷ 2 ∷ []) $ done !)))))
 
       no_reader : (l : Lft) → Lends 𝓛 (Owned reads None) (λ _. ffalse) l
@@ -193,5 +192,26 @@ module _ {M : Type 1} {𝓤 : Ura M} (𝓛 : Logic 𝓤) where
           by ! (by_one 𝓛 ν ts (⊑_meet (span ts) κ β sp (Incl-trans inc le)) (A.bor ν P) ⟦ fex Knows (λ _. shown R b o x ν) ⟧ (lends_shown L x ν (meet_⊑_right κ β)))
 
     pub Lends-permit : RowLaws R → (l : Lft) → Incl l β → (p : Ptr) (view : Option V) (x : Option R.Denot) → Lends 𝓛 (permit_owns Y R c holds ways β p view x) (permit_shares Y R c holds ways β p view x) l
-    Lends-permit L l le (block_ptr b o) view x = Lends-owned b o view L l le (use_of ways view) x
+    Lends-permit L l le (block_ptr b o) view x = Lends-owned b o view L l le (use_of ways.1 view) x
     Lends-permit L l le null_ptr view x = Lends-false 𝓛 (permit_shares Y R c holds ways β null_ptr view x) l
+
+    -- ---- a party that reads may see the value for the rest of the cell's borrow: its token is never given back
+    abbrev pub Sees : ℕ → ℕ → Option R.Denot → R.Denot → Pr
+    Sees b o v x = guard 𝓤 ((v ≡ Some x) × Seen ways.0 x) ⟦ shown R b o x β ⟧
+
+    known_seen : (way : Way R.Denot) (x : R.Denot) (e : Share) → Part way x e → Seen way x
+    known_seen alone x e known = tt
+    known_seen lends x e known = tt
+    known_seen (fixes fact) x e known = known
+
+    pub sees_on : RowLaws R → (b o : ℕ) (view : Option V) (v : Option R.Denot) → use_of ways.1 view ≡ reads → ⟦ permit_owns Y R c holds ways β (block_ptr b o) view v ⟧ ⊢ H.⇛ (ex 𝓤 (Sees b o v))
+    sees_on L b o view None is = qed 𝓛 (‵ (permit_owns Y R c holds ways β (block_ptr b o) view None) ∷ []) ∵ fpick ! (λ k. fpick ! (λ t. fsplit3 ! $ move ! (2 ∷ []) $
+        rewrite ! 0 (λ (u : Use). ‵ (right R b o t ways.0 u None)) is refl $ keep ! (0 ∷ []) $ by ! (never_e 𝓤 _)))
+    sees_on L b o view (Some x) is = qed 𝓛 (‵ (permit_owns Y R c holds ways β (block_ptr b o) view (Some x)) ∷ []) ∵ updating ! $ fpick ! (λ k. fpick ! (λ t. fsplit3 ! $ fsplit ! $ move ! (3 ∷ []) $
+        rewrite ! 0 (λ (u : Use). ‵ (right R b o t ways.0 u (Some x))) is refl $ fpick ! (λ n. fsplit ! $ fpick ! (λ e. fpick ! (λ known. fsplit ! $
+        let a : Lft = n ∷ [] in let μ : Lft = a ++ β in let V' : Lft → Fml = shown R b o x in let K = L x b (o + offset R) in
+        -- [the token; the tag; what is shown; the end; the invariant; the view]
+        bor_new ! tt β $ bor_fracture ! tt (λ r. flft a r) e $ move ! (3 ∷ []) $
+        use1 𝓛 (‵ (V' (μ ++ t.life))) (shortens 𝓛 V' K (a ++ t.life) (μ ++ t.life) (⊑_meet (μ ++ t.life) a t.life (Incl-trans (meet_⊑_left μ t.life) (meet_⊑_left a β)) (meet_⊑_right μ t.life))) $ move ! (4 ∷ []) $
+        use1 𝓛 (‵ (before μ t.life)) (before_shorten 𝓛 β μ t.life (meet_⊑_right a β)) $ use2 𝓛 (‵ (V' μ)) (moves_before 𝓛 V' K μ t.life) $ move ! (1 ∷ 0 ∷ []) $
+        use2 𝓛 (‵ (V' β)) (moves 𝓛 V' K β a) $ now ! $ show ! (Sees b o (Some x)) x $ check ! (refl, known_seen ways.0 x e known) $ keep ! (0 ∷ []) $ done !)))))

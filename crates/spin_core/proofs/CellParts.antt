@@ -1,5 +1,5 @@
 -- The parts of a round: cut, glued and compared. Assumes `Logic`.
-use Rattle.std.proofs.Common.{◌≡◌, ℕ, ◌+◌, ◌-◌, ◌^◌, ◌<◌, ◌≤◌, [], ◌∷◌, refl, arith}
+use Rattle.std.proofs.Common.{◌≡◌, Bool, true, ℕ, ◌+◌, ◌-◌, ◌^◌, ◌<◌, ◌≤◌, [], ◌∷◌, refl, arith}
 use mathlib.Mathlib.Data.Part.{◌∈◌}
 use seplogic.Ra.Ura.{Ura}
 use seplogic.Ra.Constructions.Prod
@@ -16,7 +16,8 @@ use types.Kit.{‵, ◌⊛◌, given, ◌$◌, ◌∵◌, !, qed, by, move, spli
 use types.Owned.{own_sum, own_join, own_step}
 use denote.RattleType.{RattleType}
 use Rattle.atomic_table.specs.Seated.{halved, itself}
-use Rattle.spin_core.specs.CellMemory.{Round, round_code, tag, share, parts}
+use Rattle.spin_core.specs.Cell.{Way, fixes}
+use Rattle.spin_core.specs.CellMemory.{Round, round_code, tag, share, parts, Part, piece}
 
 module _ {M : Type 1} {𝓤 : Ura M} (𝓛 : Logic 𝓤) (R : RattleType) (γ : GName) where
   abbrev Pr : Type 2
@@ -67,6 +68,20 @@ module _ {M : Type 1} {𝓤 : Ura M} (𝓛 : Logic 𝓤) (R : RattleType) (γ : 
       qed 𝓛 (‵ (parts R γ s i) ∷ ‵ (parts R γ u j) ∷ []) ∵ fpick ! (λ e. fpick ! (λ ce. fsplit ! $ move ! (2 ∷ []) $ fpick ! (λ f. fpick ! (λ cf. fsplit ! $ move ! (3 ∷ 1 ∷ []) $
       let Z : Pr = ⟦ tag γ e g ⟧ ∗ ⟦ tag γ f h ⟧ in use2 𝓛 (given (s ≡ u) (‵ (tag γ e g) ⊛ ‵ (tag γ f h))) (own_sum 𝓛 halved γ (e, g) (f, h) (guard 𝓤 (s ≡ u) Z) (λ x m. guard_i 𝓤 (s ≡ u) Z ((coded× coded_ℕ R.coded).inj s u m.0.1))) $
       learn ! (λ same. check ! same $ split ! $ move ! (2 ∷ 1 ∷ []) $ fjoin ! $ use1 𝓛 (‵ (parts R γ u j)) (parts_in u j f cf) $ move ! (2 ∷ 1 ∷ []) $ fjoin ! $ use1 𝓛 (‵ (parts R γ s i)) (parts_in s i e ce) $ done !)))))
+
+  -- ---- some part of a round, where its readers read for good
+  pub piece_in : (way : Way R.Denot) (s : Round R) (e : Share) → Part way s.1 e → ⟦ share R γ s e ⟧ ⊢ ⟦ piece R way γ s ⟧
+  piece_in way s e known = qed 𝓛 (‵ (share R γ s e) ∷ []) ∵ fpack ! (Part way s.1 e) (λ _. share R γ s e) known $ fpack ! Share (λ r. fex (Part way s.1 r) (λ _. share R γ s r)) e $ done !
+
+  halved_share : (s : Round R) (e : Share) → ⟦ share R γ s e ⟧ ⊢ ⟦ share R γ s (Share.left e) ⟧ ∗ ⟦ share R γ s (Share.right e) ⟧
+  halved_share s e = let g : Gv = round_code R s in let l : Share = Share.left e in let r : Share = Share.right e in
+      qed 𝓛 (‵ (share R γ s e) ∷ []) ∵ fsplit ! $ use1 𝓛 (‵ (flft (s.0 ∷ []) l) ⊛ ‵ (flft (s.0 ∷ []) r)) (𝓛.lfts.lft_split (s.0 ∷ []) e) $ split ! $ move ! (2 ∷ []) $
+      use1 𝓛 (‵ (tag γ l g) ⊛ ‵ (tag γ r g)) (𝓛.algebras.own_cut halved γ (l, g) (r, g) (e, g) (sum g e l r (Share.halves e))) $ split ! $ move ! (3 ∷ 1 ∷ []) $ fjoin ! $ move ! (2 ∷ 1 ∷ []) $ fjoin ! $ done !
+
+  pub piece_cut : (fact : Bool → R.Denot → Type 0) (s : Round R) → ⟦ piece R (fixes fact) γ s ⟧ ⊢ guard 𝓤 (fact true s.1) (⟦ piece R (fixes fact) γ s ⟧ ∗ ⟦ piece R (fixes fact) γ s ⟧)
+  piece_cut fact s = let way : Way R.Denot = fixes fact in qed 𝓛 (‵ (piece R way γ s) ∷ []) ∵ fpick ! (λ e. fpick ! (λ known. check ! known $
+      use1 𝓛 (‵ (share R γ s (Share.left e)) ⊛ ‵ (share R γ s (Share.right e))) (halved_share s e) $ split ! $ use1 𝓛 (‵ (piece R way γ s)) (piece_in way s (Share.left e) known) $ move ! (1 ∷ []) $
+      use1 𝓛 (‵ (piece R way γ s)) (piece_in way s (Share.right e) known) $ done !))
 
   pub renames : (g h : Gv) → ⟦ tag γ full_share g ⟧ ⊢ upd 𝓤 ⟦ tag γ full_share h ⟧
   renames g h = own_step 𝓛 halved γ (full_share, g) (full_share, h) (λ f d. absurd (not-OpDef-full_share f.0 d.0))

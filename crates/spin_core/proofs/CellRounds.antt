@@ -1,19 +1,21 @@
 -- A round begins and ends: the value is lent for a new lifetime, and comes back when that has ended. Assumes `Logic`.
-use Rattle.std.proofs.Common.{ℕ, ◌+◌, [], ◌∷◌, ◌++◌, Option, Some, None}
+use Rattle.std.proofs.Common.{ℕ, zero, suc, ◌+◌, ◌-◌, ◌^◌, Bool, false, [], ◌∷◌, ◌++◌, Option, Some, None}
 use seplogic.Ra.Ura.{Ura}
 use base.Fraction.{full_share}
-use base.Logic.{SProp, ent, sep}
+use base.Logic.{SProp, ent, sep, upd, upd_i}
+use base.FractionLaws.{Counts-all}
 use base.Fml.{Lft, Share, Incl, Incl-trans, Fml, ffalse, fsep, fex, fbor, flft, fdead, fobs}
 use contract.BorrowLft.{meet_⊑_left, meet_⊑_right, ⊑_meet}
 use ghost.Rules.{Toks, span}
 use types.Logic.{Logic, sem, lfts}
-use types.Kit.{‵, raw, ◌⊛◌, later, ◌$◌, ◌∵◌, !, qed, by, move, keep, split, split3, fsplit, fsplit3, fjoin, fjoin3, fpick, fpack, use1, use2, use3, await, updating, now, done}
+use types.Kit.{‵, raw, ◌⊛◌, later, ◌$◌, ◌∵◌, !, qed, by, move, keep, split, split3, fsplit, fsplit3, fjoin, fjoin3, fpick, fpack, use1, use2, use3, await, updating, now, settle, suffices, done}
 use types.Tokens.{lft_new, lft_end, lent_back}
 use denote.RattleType.{RattleType}
 use denote.Memory.{part_at, mem}
 use denote.Shares.{Shares, settles}
-use Rattle.spin_core.specs.Cell.{Use, off, reads, writes, Way, alone, lends}
-use Rattle.spin_core.specs.CellMemory.{Id, offset, shown, named, tracked, waits, shared, right}
+use Rattle.spin_core.specs.Cell.{Use, off, reads, writes, Way, alone, lends, fixes, Fixed}
+use Rattle.spin_core.specs.CellMemory.{Id, idle, tag, round_code, share, parts, piece, remains, resting, offset, shown, named, tracked, waits, shared, right}
+use Rattle.spin_core.proofs.CellParts.{parts_in, piece_in, renames}
 
 module _ {M : Type 1} {𝓤 : Ura M} (𝓛 : Logic 𝓤) (R : RattleType) (b o : ℕ) (t : Id) where
   open 𝓛 use {H, A}
@@ -33,24 +35,28 @@ module _ {M : Type 1} {𝓤 : Ura M} (𝓛 : Logic 𝓤) (R : RattleType) (b o :
   infix 26 ◌⊢◌
   infixr 35 ◌∗◌
   abbrev α : Lft
-  α = t.0
+  α = t.life
 
   abbrev At : R.Denot → Fml
   At x = part_at R full_share x b (o + offset R)
 
   abbrev Ob : R.Denot → Fml
-  Ob x = fobs t.3 (R.coded.code x)
+  Ob x = fobs t.value (R.coded.code x)
 
   abbrev pub begun : R.Denot → ℕ → Fml
   begun x a = fsep (flft (a ∷ []) full_share) (shared R b o t (a, x))
 
-  -- what a party has during a step: a writer that lends has begun the next round
-  abbrev pub held : Use → Way → Option R.Denot → Fml
-  held off way v = right R b o t off v
-  held reads way v = right R b o t reads v
-  held writes alone v = right R b o t writes v
-  held writes lends None = ffalse
-  held writes lends (Some x) = fex ℕ (begun x)
+  abbrev pub next : Option R.Denot → Fml
+  next None = ffalse
+  next (Some x) = fex ℕ (begun x)
+
+  -- what a party has during a step: a writer has begun the next round, where others may come to read
+  abbrev pub held : Use → Way R.Denot → Option R.Denot → Fml
+  held off way v = right R b o t way off v
+  held reads way v = right R b o t way reads v
+  held writes alone v = right R b o t alone writes v
+  held writes lends v = next v
+  held writes (fixes fact) v = next v
 
   -- from a borrow of the value, what is shared of it for a new lifetime
   pub begins : (l : Lft) → Shares 𝓛 R l → (x : R.Denot) (μ : Lft) (s : Share) (τ : Lft) (r : Share) → Incl μ α → Incl τ l
@@ -61,7 +67,7 @@ module _ {M : Type 1} {𝓤 : Ura M} (𝓛 : Logic 𝓤) (R : RattleType) (b o :
       let sp : Incl (span ts) (a ∷ α) = ⊑_meet (a ∷ more) (a ∷ []) α (meet_⊑_left (a ∷ []) more) (Incl-trans (meet_⊑_right (a ∷ []) more) (Incl-trans (meet_⊑_left μ τ) i)) in
       move ! (2 ∷ []) $ use1 𝓛 (later (‵ (fbor (a ∷ α) (named R b o t)) ⊛ ‵ (waits R b o t a))) (𝓛.more.bor_reborrow α (a ∷ α) (named R b o t) (meet_⊑_right (a ∷ []) α)) $ await ! tt $ split ! $
       move ! (2 ∷ 4 ∷ 5 ∷ []) $ types.Kit.group ! 3 $ move ! (3 ∷ 1 ∷ 0 ∷ []) $
-      use3 𝓛 (later (‵ (Ob x) ⊛ ‵ (fbor (a ∷ α) (At x)) ⊛ raw (lfts 𝓛 ts))) (settles 𝓛 (mem R) (a ∷ α) ts sp t.3 x b e) $ await ! tt $ split3 ! $ move ! (1 ∷ 2 ∷ []) $
+      use3 𝓛 (later (‵ (Ob x) ⊛ ‵ (fbor (a ∷ α) (At x)) ⊛ raw (lfts 𝓛 ts))) (settles 𝓛 (mem R) (a ∷ α) ts sp t.value x b e) $ await ! tt $ split3 ! $ move ! (1 ∷ 2 ∷ []) $
       use2 𝓛 (later (‵ (shown R b o x (a ∷ α)) ⊛ ‵ (flft (a ∷ []) full_share) ⊛ ‵ (flft μ s) ⊛ ‵ (flft τ r))) (shares x (a ∷ α) ts b e (Incl-trans (meet_⊑_right (a ∷ []) more) (Incl-trans (meet_⊑_right μ τ) j)) sp) $ await ! tt $ split3 ! $
       move ! (3 ∷ 0 ∷ 4 ∷ []) $ fjoin3 ! $ move ! (1 ∷ 0 ∷ []) $ fjoin ! $ fpack ! ℕ (begun x) a $ now ! $ keep ! (0 ∷ 1 ∷ []) $ done !)
 
@@ -69,18 +75,44 @@ module _ {M : Type 1} {𝓤 : Ura M} (𝓛 : Logic 𝓤) (R : RattleType) (b o :
   ends x a = qed 𝓛 (‵ (begun x a) ∷ []) ∵ updating ! $ fsplit ! $ lft_end ! tt $ use1 𝓛 (‵ (fdead (a ∷ α))) (𝓛.lfts.dead-incl (a ∷ α) (a ∷ []) (meet_⊑_left (a ∷ []) α)) $
       move ! (1 ∷ []) $ fsplit3 ! $ move ! (3 ∷ 2 ∷ []) $ lent_back ! tt $ move ! (1 ∷ 0 ∷ []) $ fjoin ! $ now ! $ keep ! (0 ∷ []) $ done !
 
+  -- the round that a writer began is that of the cell
+  abbrev pub whole : R.Denot → Fml
+  whole x = fex ℕ (λ a. fsep (share R t.round (a, x) full_share) (shared R b o t (a, x)))
+
+  pub renews : (x : R.Denot) → ⟦ idle t.round ⟧ ∗ ⟦ fex ℕ (begun x) ⟧ ⊢ upd 𝓤 ⟦ whole x ⟧
+  renews x = let γ : ℕ = t.round in qed 𝓛 (‵ (idle γ) ∷ ‵ (fex ℕ (begun x)) ∷ []) ∵ fpick ! (λ g. move ! (1 ∷ []) $ fpick ! (λ a. fsplit ! $ move ! (2 ∷ []) $
+      use1 𝓛 (raw (upd 𝓤 ⟦ tag γ full_share (round_code R (a, x)) ⟧)) (renames 𝓛 R γ g (round_code R (a, x))) $ settle 𝓛 ⟦ whole x ⟧ (‵ (tag γ full_share (round_code R (a, x)))) $ suffices ! ⟦ whole x ⟧ (upd_i 𝓤 ⟦ whole x ⟧) $
+      move ! (1 ∷ 0 ∷ []) $ fjoin ! $ fjoin ! $ fpack ! ℕ (λ c. fsep (share R γ (c, x) full_share) (shared R b o t (c, x))) a $ done !))
+
+  -- a whole round is the state of the value with r readers, of which the first has not read yet
+  pub rests_lent : (x : R.Denot) → ⟦ whole x ⟧ ⊢ ⟦ resting R b o t lends 0 x ⟧
+  rests_lent x = qed 𝓛 (‵ (whole x) ∷ []) ∵ fpick ! (λ a. fsplit ! $ use1 𝓛 (‵ (parts R t.round (a, x) (2 ^ 63 - 0))) (parts_in 𝓛 R t.round (a, x) (2 ^ 63) full_share (Counts-all 63)) $
+      fjoin ! $ fpack ! ℕ (λ c. fsep (parts R t.round (c, x) (2 ^ 63 - 0)) (shared R b o t (c, x))) a $ done !)
+
+  pub rests_fixed : (fact : Bool → R.Denot → Type 0) (r : ℕ) (x : R.Denot) → Fixed (fixes fact) r 0 x → ⟦ whole x ⟧ ⊢ ⟦ resting R b o t (fixes fact) r x ⟧
+  rests_fixed fact zero x known = qed 𝓛 (‵ (whole x) ∷ []) ∵ fpick ! (λ a. fsplit ! $ fpack ! (fact false x) (λ _. share R t.round (a, x) full_share) known $
+      fjoin ! $ fpack ! ℕ (λ c. fsep (remains R fact t.round (c, x) zero) (shared R b o t (c, x))) a $ done !)
+  rests_fixed fact (suc r) x known = qed 𝓛 (‵ (whole x) ∷ []) ∵ fpick ! (λ a. fsplit ! $ use1 𝓛 (‵ (piece R (fixes fact) t.round (a, x))) (piece_in 𝓛 R t.round (fixes fact) (a, x) full_share known) $
+      fjoin ! $ fpack ! ℕ (λ c. fsep (remains R fact t.round (c, x) (suc r)) (shared R b o t (c, x))) a $ done !)
+
   -- before a step, and after it
-  pub readies : (l : Lft) → Shares 𝓛 R l → (u : Use) (way : Way) (v : Option R.Denot) (μ : Lft) (s : Share) (τ : Lft) (r : Share) → Incl μ α → Incl τ l
-      → ⟦ right R b o t u v ⟧ ∗ A.lft μ s ∗ A.lft τ r ⊢ H.⇛ (⟦ held u way v ⟧ ∗ A.lft μ s ∗ A.lft τ r)
+  pub readies : (l : Lft) → Shares 𝓛 R l → (u : Use) (way : Way R.Denot) (v : Option R.Denot) (μ : Lft) (s : Share) (τ : Lft) (r : Share) → Incl μ α → Incl τ l
+      → ⟦ right R b o t way u v ⟧ ∗ A.lft μ s ∗ A.lft τ r ⊢ H.⇛ (⟦ held u way v ⟧ ∗ A.lft μ s ∗ A.lft τ r)
   readies l shares off way v μ s τ r i j = 𝓛.laws.⇛_intro _
   readies l shares reads way v μ s τ r i j = 𝓛.laws.⇛_intro _
   readies l shares writes alone v μ s τ r i j = 𝓛.laws.⇛_intro _
   readies l shares writes lends None μ s τ r i j = 𝓛.laws.⇛_intro _
   readies l shares writes lends (Some x) μ s τ r i j = begins l shares x μ s τ r i j
+  readies l shares writes (fixes fact) None μ s τ r i j = 𝓛.laws.⇛_intro _
+  readies l shares writes (fixes fact) (Some x) μ s τ r i j = begins l shares x μ s τ r i j
 
-  pub settles_down : (u : Use) (way : Way) (v : Option R.Denot) → ⟦ held u way v ⟧ ⊢ H.⇛ ⟦ right R b o t u v ⟧
+  puts_down : (way : Way R.Denot) (v : Option R.Denot) → ⟦ next v ⟧ ⊢ H.⇛ ⟦ right R b o t way writes v ⟧
+  puts_down way None = 𝓛.laws.⇛_intro _
+  puts_down way (Some x) = qed 𝓛 (‵ (fex ℕ (begun x)) ∷ []) ∵ updating ! $ fpick ! (λ a. use1 𝓛 (later (‵ (tracked R b o t x))) (ends x a) $ await ! tt $ now ! $ done !)
+
+  pub settles_down : (u : Use) (way : Way R.Denot) (v : Option R.Denot) → ⟦ held u way v ⟧ ⊢ H.⇛ ⟦ right R b o t way u v ⟧
   settles_down off way v = 𝓛.laws.⇛_intro _
   settles_down reads way v = 𝓛.laws.⇛_intro _
   settles_down writes alone v = 𝓛.laws.⇛_intro _
-  settles_down writes lends None = 𝓛.laws.⇛_intro _
-  settles_down writes lends (Some x) = qed 𝓛 (‵ (fex ℕ (begun x)) ∷ []) ∵ updating ! $ fpick ! (λ a. use1 𝓛 (later (‵ (tracked R b o t x))) (ends x a) $ await ! tt $ now ! $ done !)
+  settles_down writes lends v = puts_down lends v
+  settles_down writes (fixes fact) v = puts_down (fixes fact) v

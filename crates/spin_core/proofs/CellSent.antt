@@ -1,5 +1,5 @@
 -- A cell may be shared and its parties may go to another thread, where the value may. What is shared of the value is the same to every thread where `sees` has it.
-use Rattle.std.proofs.Common.{◌≡◌, ℕ, zero, suc, ◌+◌, List, [], ◌∷◌, refl, Option, Some, None}
+use Rattle.std.proofs.Common.{◌≡◌, Bool, ℕ, zero, suc, ◌+◌, List, [], ◌∷◌, refl, Option, Some, None}
 use base.Fraction.{full_share}
 use base.Stored.{Gv}
 use base.Fml.{Lft}
@@ -10,8 +10,8 @@ use denote.RawPtr.{Ptr, block_ptr, null_ptr}
 use denote.Param.Send.{IsSend, IsSync, part_keyless}
 use Rattle.core.proofs.atomic.Sent.{chain-Keyless}
 use Rattle.atomic_table.specs.Seated.{halved}
-use Rattle.spin_core.specs.Cell.{Use, off, reads, writes, Way, alone, lends, Ways, use_of}
-use Rattle.spin_core.specs.CellMemory.{offset, Common, Known, Id, Round, roster, parts, named, tracked, resting, missing, state, right, stand, kept, cell_shares, permit_owns, permit_shares, reader_shares, writer_owns, writer_shares}
+use Rattle.spin_core.specs.Cell.{Use, off, reads, writes, Way, alone, lends, fixes, Ways, use_of}
+use Rattle.spin_core.specs.CellMemory.{offset, Common, IsShared, Known, Id, Round, roster, parts, remains, named, tracked, resting, missing, state, right, stand, kept, cell_shares, permit_owns, permit_shares, reader_shares, writer_owns, writer_shares}
 
 roster_keyless : {V : Type 0} (c : V → Gv) (ρ k : ℕ) (vs : List V) → Keyless (roster c ρ k vs)
 roster_keyless c ρ k [] = λ g. entries_keyless halved ρ k (λ _. (full_share, g))
@@ -22,7 +22,7 @@ parts_keyless R γ s k = λ e n. (tt, tt)
 
 stand_keyless : (R : RattleType) (b o : ℕ) (t : Id) {V : Type 0} (c : V → Gv) (view : Option V) → Keyless (stand R b o t c view)
 stand_keyless R b o t c None = tt
-stand_keyless R b o t c (Some v) = λ id. entry_keyless halved t.2 id _
+stand_keyless R b o t c (Some v) = λ id. entry_keyless halved t.views id _
 
 module _ (R : RattleType) (s : IsSend R) (b o : ℕ) (t : Id) where
   named_keyless : Keyless (named R b o t)
@@ -31,45 +31,51 @@ module _ (R : RattleType) (s : IsSend R) (b o : ℕ) (t : Id) where
   tracked_keyless : (x : R.Denot) → Keyless (tracked R b o t x)
   tracked_keyless x = (tt, named_keyless)
 
-  resting_keyless : (way : Way) → (way ≡ lends → Common R) → (r : ℕ) (x : R.Denot) → Keyless (resting R b o t way r x)
-  resting_keyless alone sees r x = tracked_keyless x
-  resting_keyless lends sees r x = λ a. (parts_keyless R t.1 (a, x) _, (tt, (sees refl x b (o + offset R) (a ∷ t.0), named_keyless)))
+  remains_keyless : (fact : Bool → R.Denot → Type 0) (s : Round R) (r : ℕ) → Keyless (remains R fact t.round s r)
+  remains_keyless fact s zero = λ known. (tt, tt)
+  remains_keyless fact s (suc r) = λ e known. (tt, tt)
 
-  missing_keyless : (way : Way) → Keyless (missing R b o t way)
+  resting_keyless : (way : Way R.Denot) → (IsShared way → Common R) → (r : ℕ) (x : R.Denot) → Keyless (resting R b o t way r x)
+  resting_keyless alone sees r x = tracked_keyless x
+  resting_keyless lends sees r x = λ a. (parts_keyless R t.round (a, x) _, (tt, (sees tt x b (o + offset R) (a ∷ t.life), named_keyless)))
+  resting_keyless (fixes fact) sees r x = λ a. (remains_keyless fact (a, x) r, (tt, (sees tt x b (o + offset R) (a ∷ t.life), named_keyless)))
+
+  missing_keyless : (way : Way R.Denot) → Keyless (missing R b o t way)
   missing_keyless alone = tt
   missing_keyless lends = λ g. tt
+  missing_keyless (fixes fact) = λ g. tt
 
-  state_keyless : (way : Way) → (way ≡ lends → Common R) → (r w : ℕ) → Keyless (state R b o t way r w)
+  state_keyless : (way : Way R.Denot) → (IsShared way → Common R) → (r w : ℕ) → Keyless (state R b o t way r w)
   state_keyless way sees r zero = resting_keyless way sees r
   state_keyless way sees r (suc w) = missing_keyless way
 
-  right_keyless : (u : Use) → (u ≡ reads → Common R) → (x : Option R.Denot) → Keyless (right R b o t u x)
-  right_keyless off sees None = tt
-  right_keyless off sees (Some x) = tt
-  right_keyless reads sees None = tt
-  right_keyless reads sees (Some x) = λ a. (parts_keyless R t.1 (a, x) 1, sees refl x b (o + offset R) (a ∷ t.0))
-  right_keyless writes sees None = tt
-  right_keyless writes sees (Some x) = tracked_keyless x
+  right_keyless : (way : Way R.Denot) (u : Use) → (u ≡ reads → Common R) → (x : Option R.Denot) → Keyless (right R b o t way u x)
+  right_keyless way off sees None = tt
+  right_keyless way off sees (Some x) = tt
+  right_keyless way reads sees None = tt
+  right_keyless way reads sees (Some x) = λ a. ((λ e n. (tt, tt)), sees refl x b (o + offset R) (a ∷ t.life))
+  right_keyless way writes sees None = tt
+  right_keyless way writes sees (Some x) = tracked_keyless x
 
-  module _ {V : Type 0} (c : V → Gv) (holds : ℕ → ℕ → List V → Type 0) (ways : Ways V) where
-    kept_keyless : (ways.0 ≡ lends → Common R) → (κ : Lft) → Keyless (kept R b o t c holds ways κ)
-    kept_keyless sees κ = ((λ νs. chain-Keyless νs κ t.0), λ z. (tt, (tt, λ vs. (roster_keyless c t.2 0 vs, ((λ _. tt), state_keyless ways.0 sees _ _)))))
+  module _ {V : Type 0} (c : V → Gv) (holds : ℕ → ℕ → List V → Type 0) (ways : Ways R.Denot V) where
+    kept_keyless : (IsShared ways.0 → Common R) → (κ : Lft) → Keyless (kept R b o t c holds ways κ)
+    kept_keyless sees κ = ((λ νs. chain-Keyless νs κ t.life), λ z. (tt, (tt, λ vs. (roster_keyless c t.views 0 vs, ((λ _. tt), state_keyless ways.0 sees _ _)))))
 
-module _ (Y R : RattleType) {V : Type 0} (c : V → Gv) (holds : ℕ → ℕ → List V → Type 0) (ways : Ways V) where
+module _ (Y R : RattleType) {V : Type 0} (c : V → Gv) (holds : ℕ → ℕ → List V → Type 0) (ways : Ways R.Denot V) where
   pub cell_keyless : IsSend R → IsSync Y → (p : Ptr) (κ : Lft) → Keyless (cell_shares Y R c holds ways p κ)
   cell_keyless s y (block_ptr b o) κ = λ known t. kept_keyless R s b o t c holds ways (λ e. known.0 e y.shared) κ
   cell_keyless s y null_ptr κ = tt
 
   pub writer_keyless : IsSend R → IsSync Y → (β : Lft) (p : Ptr) (view : V) (x : R.Denot) → Keyless (writer_owns Y R c holds ways β p view x)
-  writer_keyless s y β (block_ptr b o) view x = λ known e t. (kept_keyless R s b o t c holds ways (λ e. known.0 e y.shared) β, ((λ id. entry_keyless halved t.2 id _), tracked_keyless R s b o t x))
+  writer_keyless s y β (block_ptr b o) view x = λ known e t. (kept_keyless R s b o t c holds ways (λ e. known.0 e y.shared) β, ((λ id. entry_keyless halved t.views id _), tracked_keyless R s b o t x))
   writer_keyless s y β null_ptr view x = tt
 
-  some_reads : (view : Option V) → Known ways Y R → use_of ways view ≡ reads → Common Y → Common R
+  some_reads : (view : Option V) → Known ways Y R → use_of ways.1 view ≡ reads → Common Y → Common R
   some_reads None known e = absurd cc
   some_reads (Some v) known e = known.1 v e
 
   pub permit_keyless : IsSend R → IsSync Y → (β : Lft) (p : Ptr) (view : Option V) (x : Option R.Denot) → Keyless (permit_owns Y R c holds ways β p view x)
-  permit_keyless s y β (block_ptr b o) view x = λ known t. (kept_keyless R s b o t c holds ways (λ e. known.0 e y.shared) β, (stand_keyless R b o t c view, right_keyless R s b o t (use_of ways view) (λ e. some_reads view known e y.shared) x))
+  permit_keyless s y β (block_ptr b o) view x = λ known t. (kept_keyless R s b o t c holds ways (λ e. known.0 e y.shared) β, (stand_keyless R b o t c view, right_keyless R s b o t ways.0 (use_of ways.1 view) (λ e. some_reads view known e y.shared) x))
   permit_keyless s y β null_ptr view x = tt
 
   reader_sees : IsSync Y → (β : Lft) (b o : ℕ) (u : Use) → (Known ways Y R → u ≡ reads → Common Y → Common R) → (x : Option R.Denot) (κ : Lft) → Keyless (reader_shares Y R c holds ways β b o u x κ)
@@ -79,7 +85,7 @@ module _ (Y R : RattleType) {V : Type 0} (c : V → Gv) (holds : ℕ → ℕ →
   reader_sees y β b o writes sees x κ = tt
 
   pub permit_sees : IsSync Y → (β : Lft) (p : Ptr) (view : Option V) (x : Option R.Denot) (κ : Lft) → Keyless (permit_shares Y R c holds ways β p view x κ)
-  permit_sees y β (block_ptr b o) view x κ = reader_sees y β b o (use_of ways view) (some_reads view) x κ
+  permit_sees y β (block_ptr b o) view x κ = reader_sees y β b o (use_of ways.1 view) (some_reads view) x κ
   permit_sees y β null_ptr view x κ = tt
 
   pub writer_sees : IsSync R → (β : Lft) (p : Ptr) (view : V) (x : R.Denot) (κ : Lft) → Keyless (writer_shares Y R c holds ways β p view x κ)

@@ -57,16 +57,16 @@ module _ {M : Type 1} {𝓤 : Ura M} (𝓛 : Logic 𝓤) where
   pub lasts : (κ α : Lft) (q : Share) (P : Fml) → ⟦ before κ α ⟧ ∗ A.bor α P ∗ A.lft κ q ⊢ H.⇛ (A.bor κ P ∗ A.lft κ q)
   lasts κ α q P = qed 𝓛 (‵ (before κ α) ∷ ‵ (fbor α P) ∷ ‵ (flft κ q) ∷ []) ∵ fpick ! (λ νs. by ! (lasts_chain νs κ α q P))
 
-  module _ (Y R : RattleType) {V : Type 0} (cv : Coded V) (holds : ℕ → ℕ → List V → Type 0) (ways : Ways V) (β : Lft) (c e : ℕ) (w : V) where
+  module _ (Y R : RattleType) {V : Type 0} (cv : Coded V) (holds : ℕ → ℕ → List V → Type 0) (ways : Ways R.Denot V) (β : Lft) (c e : ℕ) (w : V) where
     abbrev Pen : R.Denot → Fml
     Pen x = writer_owns Y R cv.code holds ways β (block_ptr c e) w x
 
     -- a write permit is the value's borrow, and what makes it a permit again at any value
     abbrev pub Cut : R.Denot → Id → Pr
-    Cut x t = ⟦ before β t.0 ⟧ ∗ ⟦ tracked R c e t x ⟧ ∗ all 𝓤 (λ (z : R.Denot). ⟦ tracked R c e t z ⟧ -∗ ⟦ Pen z ⟧)
+    Cut x t = ⟦ before β t.life ⟧ ∗ ⟦ tracked R c e t x ⟧ ∗ all 𝓤 (λ (z : R.Denot). ⟦ tracked R c e t z ⟧ -∗ ⟦ Pen z ⟧)
 
     pub cuts : (x : R.Denot) → ⟦ Pen x ⟧ ⊢ ex 𝓤 (Cut x)
-    cuts x = qed 𝓛 (‵ (Pen x) ∷ []) ∵ fpick ! (λ known. fpick ! (λ so. fpick ! (λ t. fsplit3 ! $ fsplit ! $ use1 𝓛 (‵ (before β t.0) ⊛ ‵ (before β t.0)) (before_dup 𝓛 β t.0) $ split ! $ show ! (Cut x) t $ frame ! $
+    cuts x = qed 𝓛 (‵ (Pen x) ∷ []) ∵ fpick ! (λ known. fpick ! (λ so. fpick ! (λ t. fsplit3 ! $ fsplit ! $ use1 𝓛 (‵ (before β t.life) ⊛ ‵ (before β t.life)) (before_dup 𝓛 β t.life) $ split ! $ show ! (Cut x) t $ frame ! $
         move ! (3 ∷ []) $ frame ! $ each ! (λ (z : R.Denot). ⟦ tracked R c e t z ⟧ -∗ ⟦ Pen z ⟧) (λ z. assume ! (‵ (tracked R c e t z)) $ move ! (1 ∷ 2 ∷ []) $ fjoin ! $ move ! (0 ∷ 2 ∷ 1 ∷ []) $ fjoin3 ! $
         let At : Id → Fml = writer_at Y R cv.code holds ways β c e w z in fpack ! Id At t $ fpack ! (ways.1 w ≡ writes) (λ _. fex Id At) so $ fpack ! (Known ways Y R) (λ _. fex (ways.1 w ≡ writes) (λ _. fex Id At)) known $ done !))))
 
@@ -79,24 +79,24 @@ module _ {M : Type 1} {𝓤 : Ura M} (𝓛 : Logic 𝓤) where
 
       -- the whole that holds the permit is cut alike
       abbrev pub Opened : R.Denot → Id → Pr
-      Opened x t = ⟦ before β t.0 ⟧ ∗ ⟦ tracked R c e t x ⟧ ∗ all 𝓤 (Again t)
+      Opened x t = ⟦ before β t.life ⟧ ∗ ⟦ tracked R c e t x ⟧ ∗ all 𝓤 (Again t)
 
       abbrev Parts : R.Denot → Id → Pr
-      Parts z t = ⟦ before β t.0 ⟧ ∗ A.obs t.3 (R.coded.code z) ∗ A.bor t.0 (named R c e t) ∗ all 𝓤 (Again t)
+      Parts z t = ⟦ before β t.life ⟧ ∗ A.obs t.value (R.coded.code z) ∗ A.bor t.life (named R c e t) ∗ all 𝓤 (Again t)
 
       abbrev pub inside : R.Denot → MutBor R.Denot
       inside x = record { ref_ptr = (c, e + offset R); ghost_name = m.ghost_name; now = x }
 
       Parts-out : (x : R.Denot) → ex 𝓤 (Opened x) ⊢ ex 𝓤 (Parts x)
-      Parts-out x = qed 𝓛 (some (λ (t : Id). ‵ (before β t.0) ⊛ ‵ (tracked R c e t x) ⊛ raw (all 𝓤 (Again t))) ∷ []) ∵ pick ! (λ t. split3 ! $ move ! (1 ∷ []) $ fsplit ! $ show ! (Parts x) t $ move ! (2 ∷ []) $ done !)
+      Parts-out x = qed 𝓛 (some (λ (t : Id). ‵ (before β t.life) ⊛ ‵ (tracked R c e t x) ⊛ raw (all 𝓤 (Again t))) ∷ []) ∵ pick ! (λ t. split3 ! $ move ! (1 ∷ []) $ fsplit ! $ show ! (Parts x) t $ move ! (2 ∷ []) $ done !)
 
       Parts-in : (t : Id) (z : R.Denot) → Parts z t ⊢ Whole z
-      Parts-in t z = qed 𝓛 (‵ (before β t.0) ∷ ‵ (fobs t.3 (R.coded.code z)) ∷ ‵ (fbor t.0 (named R c e t)) ∷ raw (all 𝓤 (Again t)) ∷ []) ∵ drop ! $ fjoin ! $ move ! (1 ∷ []) $
+      Parts-in t z = qed 𝓛 (‵ (before β t.life) ∷ ‵ (fobs t.value (R.coded.code z)) ∷ ‵ (fbor t.life (named R c e t)) ∷ raw (all 𝓤 (Again t)) ∷ []) ∵ drop ! $ fjoin ! $ move ! (1 ∷ []) $
           use1 𝓛 (raw (Again t z)) (all_e 𝓤 (Again t) z) $ move ! (1 ∷ 0 ∷ []) $ by ! (apply∗ 𝓤 ⟦ tracked R c e t z ⟧ (Whole z))
 
       pub through : (x : R.Denot) → ⟦ (mem G).own_at m.now m.ref_ptr.0 m.ref_ptr.1 ⟧ ⊢ ex 𝓤 (Opened x)
           → A.obs m.ghost_name (G.coded.code m.now) ∗ A.bor κ (Body (mem G) m.ref_ptr.0 m.ref_ptr.1 m.ghost_name) ∗ A.lft κ q ⊢ H.⇛ (ex 𝓤 (Lent 𝓛 G R F ℓ κ q m.ghost_name (inside x)))
       through x cut = qed 𝓛 (‵ (fobs m.ghost_name (G.coded.code m.now)) ∷ ‵ (fbor κ (Body (mem G) m.ref_ptr.0 m.ref_ptr.1 m.ghost_name)) ∷ ‵ (flft κ q) ∷ []) ∵ updating ! $
           use3 𝓛 (later (some (λ (γ : GName). ‵ (fobs γ (R.coded.code x)) ⊛ ‵ (fbor κ (Body (mem R) c (e + offset R) γ)) ⊛ ‵ (flft κ q) ⊛ ‵ (follows G R m.ghost_name γ F))))
-          (hands_before 𝓛 (mem G) (mem R) F inj m.ref_ptr.0 m.ref_ptr.1 c (e + offset R) m.ghost_name κ β inc Id (λ t. t.0) (λ t. t.3) (λ t. all 𝓤 (Again t)) Parts-in q m.now x (via 𝓤 _ cut (Parts-out x))) $
+          (hands_before 𝓛 (mem G) (mem R) F inj m.ref_ptr.0 m.ref_ptr.1 c (e + offset R) m.ghost_name κ β inc Id (λ t. t.life) (λ t. t.value) (λ t. all 𝓤 (Again t)) Parts-in q m.now x (via 𝓤 _ cut (Parts-out x))) $
           await ! tt $ pick ! (λ γ. split3 ! $ feq_i ! (List Val) (mut_vals (inside x)) (mut_vals (inside x)) refl $ fjoin3 ! $ now ! $ show ! (Lent 𝓛 G R F ℓ κ q m.ghost_name (inside x)) γ $ done !)

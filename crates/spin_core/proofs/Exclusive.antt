@@ -6,7 +6,7 @@ use Rattle.spin_core.specs.Plain.{Plain, Kind, reading, upgradable, writing, Hol
 use Rattle.spin_core.specs.Parties.{apply_some, IsOpenStep, IsExclusive, none_entered, first_alone_entered}
 use Rattle.spin_core.proofs.Holders.{length-without_holder}
 
-empty_is : {X : Type 0} (xs : List X) → is_empty xs ≡ true → xs ≡ []
+pub empty_is : {X : Type 0} (xs : List X) → is_empty xs ≡ true → xs ≡ []
 empty_is [] e = refl
 empty_is (x ∷ xs) e = absurd cc
 
@@ -200,3 +200,7 @@ exclusive-applied s (arrives p) x may = record { writer = x.writer; one_upgradab
 pub exclusive-kept : (s : Plain) (p : ℕ) (step : Option Change) → IsExclusive s → IsOpenStep s p step → IsExclusive (apply_some s step)
 exclusive-kept s p None x may = x
 exclusive-kept s p (Some c) x may = exclusive-applied s c x may.1
+
+-- who writes is the only holder
+pub writes_alone : (s : Plain) (p : ℕ) → IsExclusive s → is_holder p writing s.holders ≡ true → length s.holders ≡ 1
+writes_alone s p x found = x.writer (omega (arith, count-without_holder writing p writing s.holders found))

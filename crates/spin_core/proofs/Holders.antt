@@ -14,7 +14,7 @@ length-without_holder p k [] found = absurd cc
 length-without_holder p k (h ∷ hs) found =
     length-without_first ((h.party == p) && same_kind k h.kind) p k h hs found (length-without_holder p k hs)
 
-same_kind-self : (k : Kind) → same_kind k k ≡ true
+pub same_kind-self : (k : Kind) → same_kind k k ≡ true
 same_kind-self reading = refl
 same_kind-self upgradable = refl
 same_kind-self writing = refl

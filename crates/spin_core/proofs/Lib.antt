@@ -4,9 +4,15 @@ pub mod Exclusive
 pub mod Flags
 pub mod Holders
 pub mod Tickets
+pub mod InOrder
+pub mod Leaving
+pub mod Owners
+pub mod Plays
+pub mod Views
 pub mod TicketSteps
 pub mod CellCounts
 pub mod CellFields
+pub mod CellInside
 pub mod CellLends
 pub mod CellParts
 pub mod CellRoster
@@ -16,5 +22,8 @@ pub mod CellSteps
 pub mod PermitFields
 pub mod WalkNames
 pub mod CellWalks
+pub mod CellStepWalks
+pub mod CellTurns
+pub mod CellWays
 pub mod CellThrough
 pub mod CellViews

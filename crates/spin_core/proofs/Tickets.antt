@@ -1,6 +1,9 @@
 -- A queue of tickets that is numbered one by one.
-use Rattle.std.proofs.Common.{◌≡◌, ℕ, suc, ◌+◌, ◌-◌, ◌≤◌, ◌==◌, Bool, true, false, not, ◌&&◌, cond, List, [], ◌∷◌, ◌++◌, length, filter, refl, sym, ap, ◌∙◌, subst, arith, eq-eqb, ne_eqb, length-append, inl, inr}
-use Rattle.std.specs.Prelude.{◌⊎◌}
+use Rattle.std.proofs.Common.{◌≡◌, ℕ, suc, ◌+◌, ◌-◌, ◌<◌, ◌≤◌, ◌==◌, Bool, true, false, not, ◌&&◌, cond, List, [], ◌∷◌, ◌++◌, length, filter, refl, sym, ap, ◌∙◌, subst, arith, eq-eqb, ne_eqb, length-append, inl, inr}
+use Rattle.std.specs.Prelude.{◌⊎◌, sum_by}
+use Rattle.std.proofs.lemmas.List.Sums.{sum_by-cons}
+use mathlib.Core.Logic.{dite}
+use native.Mathlib.Decide.{ℕ_discrete}
 use Rattle.std.proofs.lemmas.Bool.{and_parts, true≢false}
 use Rattle.spin_core.specs.Plain.{Plain, Ticket, ticket, is_first, is_empty, serving_word, Ask, to_read, to_read_upgradable, to_write, to_upgrade, to_take_ticket, to_enter, to_take_and_enter, to_lock_unregistered, to_lock_starving, to_lock_starving_alone, to_starve, to_begin, Change, gets, releases, serves, stops_starving, turns, completes, fails, arrives, apply, is_open, with_first_entered, without_first}
 use Rattle.spin_core.specs.Parties.{none_entered, first_alone_entered}
@@ -30,6 +33,29 @@ turn p n k (t ∷ ts) numbers e = turn_here (t.party == p) p n k t ts numbers.0 
 -- it is a party's turn exactly where its number is served
 pub enters_in_turn : (s : Plain) (p k n : ℕ) → Numbered s → serving_word s ≡ k → own p s.tickets ≡ ticket p n false ∷ [] → is_first p false s.tickets ≡ (k == n)
 enters_in_turn s p k n numbers served e = turn p n (serving_word s) s.tickets numbers.1 e ∙ ap (λ (j : ℕ). j == n) served
+
+-- How many tickets have a number
+abbrev pub one_if : Bool → ℕ
+one_if b = cond b 1 0
+
+abbrev pub has_number : ℕ → Ticket → ℕ
+has_number n t = one_if (t.number == n)
+
+pub count-lower : (n k : ℕ) (ts : List Ticket) → numbered_from k ts → n < k → sum_by (has_number n) ts ≡ 0
+count-lower n k [] numbers less = refl
+count-lower n k (t ∷ ts) numbers less =
+    omega (arith, sum_by-cons (has_number n) t ts, count-lower n (suc k) ts numbers.1 (omega (arith, less)), ap one_if (ne_eqb t.number n (λ e. omega (arith, e, less, numbers.0))))
+
+pub count-upper : (n k : ℕ) (ts : List Ticket) → numbered_from k ts → k + length ts ≤ n → sum_by (has_number n) ts ≡ 0
+count-upper n k [] numbers far = refl
+count-upper n k (t ∷ ts) numbers far =
+    omega (arith, sum_by-cons (has_number n) t ts, count-upper n (suc k) ts numbers.1 (omega (arith, far)), ap one_if (ne_eqb t.number n (λ e. omega (arith, e, far, numbers.0))))
+
+pub count-between : (n k : ℕ) (ts : List Ticket) → numbered_from k ts → k ≤ n → n < k + length ts → sum_by (has_number n) ts ≡ 1
+count-between n k [] numbers low high = absurd (omega (arith, low, high))
+count-between n k (t ∷ ts) numbers low high = dite (ℕ_discrete t.number n)
+    (λ e. omega (arith, sum_by-cons (has_number n) t ts, count-lower n (suc k) ts numbers.1 (omega (arith, e, numbers.0)), ap one_if (eq-eqb t.number n e)))
+    (λ ne. omega (arith, sum_by-cons (has_number n) t ts, count-between n (suc k) ts numbers.1 (omega (arith, low, ne, numbers.0)) (omega (arith, high)), ap one_if (ne_eqb t.number n ne)))
 
 -- The plain steps keep the numbers
 
@@ -176,3 +202,7 @@ entered_is_served s p n numbered alone same = entered p n (serving_word s) s.tic
 pub stands : (p n : ℕ) (b : Bool) (ts : List Ticket) → own p ts ≡ ticket p n b ∷ [] → is_empty ts ≡ false
 stands p n b [] same = absurd (cc (same))
 stands p n b (t ∷ ts) same = refl
+
+pub first-length : (p : ℕ) (b : Bool) (ts : List Ticket) → is_first p b ts ≡ true → 1 ≤ length ts
+first-length p b [] e = absurd (cc (e))
+first-length p b (t ∷ ts) e = omega arith

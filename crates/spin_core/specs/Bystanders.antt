@@ -6,7 +6,7 @@ module _ {V : Type 0} where
   abbrev pub any_words : ℕ → ℕ → List V → Type 0
   any_words n m vs = Unit {0}
 
-  abbrev pub no_use : Ways V
+  abbrev pub no_use : {X : Type 0} → Ways X V
   no_use = (alone, λ v. off)
 
   abbrev pub nothing_told : ℕ → ℕ → Option V → ℕ → V → Type 0

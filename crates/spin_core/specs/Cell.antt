@@ -1,5 +1,5 @@
 -- The raw cell as plain data: what its parties are, how each may use the value, and what a step asks of the rule.
-use Rattle.std.specs.Prelude.{◌≡◌, ℕ, ◌+◌, ◌*◌, ◌<◌, ◌≤◌, List, [], ◌∷◌, ◌++◌, Option, Some, None, slice_set, sum_by}
+use Rattle.std.specs.Prelude.{◌≡◌, ℕ, zero, suc, ◌+◌, ◌*◌, ◌<◌, ◌≤◌, Bool, true, false, List, [], ◌∷◌, ◌++◌, Option, Some, None, slice_set, sum_by}
 use mathlib.Core.Option.{some}
 use lib.ListN.{get_elem?}
 
@@ -9,14 +9,16 @@ pub data Use : Type 0 where
   reads : Use
   writes : Use
 
--- whether parties may read the value beside one another, or each has it alone
-pub data Way : Type 0 where
-  alone : Way
-  lends : Way
+-- How the parties use a value of type X beside one another: each has it alone; or some lend it to one another, to read; or who reads it reads it for good.
+-- In the third way `fact true` is known of a value that somebody reads, and `fact false` of one that nobody uses.
+pub data Way (X : Type 0) : Type 1 where
+  alone : Way X
+  lends : Way X
+  fixes : (Bool → X → Type 0) → Way X
 
 -- how the parties of a rule use the value: the way, and the use of each view
-abbrev pub Ways : Type 0 → Type 0
-Ways V = Way × (V → Use)
+abbrev pub Ways : Type 0 → Type 0 → Type 1
+Ways X V = Way X × (V → Use)
 
 -- how many readers, and how many writers, one party is
 abbrev pub reading : Use → ℕ
@@ -27,27 +29,93 @@ abbrev pub writing : Use → ℕ
 writing writes = 1
 writing _ = 0
 
-module _ {V : Type 0} where
+module _ {V : Type 0} (f : V → Use) where
   -- a permit that has taken no step has no view, and no use
-  abbrev pub use_of : Ways V → Option V → Use
-  use_of ways None = off
-  use_of ways (Some v) = ways.1 v
+  abbrev pub use_of : Option V → Use
+  use_of None = off
+  use_of (Some v) = f v
 
-  abbrev pub readers_of : (V → Use) → List V → ℕ
-  readers_of f vs = sum_by (λ v. reading (f v)) vs
+  abbrev pub readers_of : List V → ℕ
+  readers_of vs = sum_by (λ v. reading (f v)) vs
 
-  abbrev pub writers_of : (V → Use) → List V → ℕ
-  writers_of f vs = sum_by (λ v. writing (f v)) vs
+  abbrev pub writers_of : List V → ℕ
+  writers_of vs = sum_by (λ v. writing (f v)) vs
 
--- readers alone, or one writer alone; where the way is `alone`, no reader at all
-abbrev pub Limits : Way → ℕ → ℕ → Type 0
-Limits alone r w = r + r + w ≤ 1
-Limits lends r w = r + 4611686018427387904 * w ≤ 4611686018427387904
+-- so many numbers a word has
+abbrev pub words : ℕ
+words = 18446744073709551616
 
-module _ {V : Type 0} (holds : ℕ → ℕ → List V → Type 0) (ways : Ways V) where
+-- so many may read at a time, where parties lend the value
+abbrev pub most_readers : ℕ
+most_readers = 4611686018427387904
+
+module _ {X : Type 0} where
+  -- how many may read, and how many may write, at a time
+  abbrev pub Limits : Way X → ℕ → ℕ → Type 0
+  Limits alone r w = r + r + w ≤ 1
+  Limits lends r w = r + most_readers * w ≤ most_readers
+  Limits (fixes fact) r w = (w ≤ 1) × (0 < w → r ≡ 0)
+
+  -- what is known of the value where so many read and so many write
+  abbrev pub Fixed : Way X → ℕ → ℕ → X → Type 0
+  Fixed (fixes fact) (suc r) w x = fact true x
+  Fixed (fixes fact) zero zero x = fact false x
+  Fixed (fixes fact) zero (suc w) x = Unit {0}
+  Fixed alone r w x = Unit {0}
+  Fixed lends r w x = Unit {0}
+
+  -- what a party knows of the value that it reads
+  abbrev pub Seen : Way X → X → Type 0
+  Seen way x = Fixed way 1 0 x
+
+  -- any value may take the place of one that nobody uses
+  abbrev pub Frees : Way X → Type 0
+  Frees (fixes fact) = (read : Bool) (x : X) → fact read x
+  Frees _ = Unit {0}
+
+  -- what a party that is shown the value owes where it comes from one use to another and r parties read: who comes to read finds a reader,
+  -- and who has written leaves the fact
+  abbrev pub Owes : (Bool → X → Type 0) → Use → Use → Option X → ℕ → Type 0
+  Owes fact off reads shown r = 0 < r
+  Owes fact writes reads (Some x) r = fact true x
+  Owes fact writes off (Some x) r = fact false x
+  Owes fact _ _ shown r = Unit {0}
+
+  -- the rest of what a step asks is A: in the third way who reads also reads on
+  abbrev pub Going : Way X → Use → Use → Option X → ℕ → Type 0 → Type 0
+  Going (fixes fact) u v shown r A = (u ≡ reads → v ≡ reads) × Owes fact u v shown r × A
+  Going _ u v shown r A = A
+
+  -- what a party is shown after a step, where it was shown `before`: a value that it goes on using is the same
+  abbrev pub SameValue : Option X → Option X → Type 0
+  SameValue None after = (x : X) × (after ≡ Some x)
+  SameValue (Some x) after = after ≡ Some x
+
+  abbrev pub Shows : Use → Option X → Option X → Type 0
+  Shows off before after = after ≡ None
+  Shows _ before after = SameValue before after
+
+  -- what a party finds of the value that it comes to use
+  abbrev pub Finds : Way X → Use → Use → Option X → Type 0
+  Finds (fixes fact) off reads (Some x) = fact true x
+  Finds (fixes fact) off writes (Some x) = fact false x
+  Finds _ u v after = Unit {0}
+
+  abbrev pub Kept : Way X → Use → Use → Option X → Option X → Type 0
+  Kept way u v before after = Shows v before after × Finds way u v after
+
+  -- a step from one view to another keeps the value that is shown
+  abbrev pub Keeps : {V : Type 0} → Ways X V → Option V → Option V → Option X → Option X → Type 0
+  Keeps ways view new before after = Kept ways.0 (use_of ways.1 view) (use_of ways.1 new) before after
+
+module _ {X V : Type 0} (holds : ℕ → ℕ → List V → Type 0) (ways : Ways X V) where
   -- the rule holds of the two words and of the views, and the uses agree with one another
   abbrev pub Meets : ℕ → ℕ → List V → Type 0
   Meets n m vs = holds n m vs × Limits ways.0 (readers_of ways.1 vs) (writers_of ways.1 vs)
+
+  -- some parties may have come to a cell with these words and this value, and gone
+  abbrev pub Starts : ℕ → ℕ → X → Type 0
+  Starts n m x = (vs : List V) × Meets n m vs × Fixed ways.0 (readers_of ways.1 vs) (writers_of ways.1 vs) x
 
 module _ {V : Type 0} where
   -- the party has this view, or has come to no view yet
@@ -60,29 +128,31 @@ module _ {V : Type 0} where
   after id None vs w = vs ++ w ∷ []
   after id (Some v) vs w = slice_set vs id w
 
-module _ {V : Type 0} (holds : ℕ → ℕ → List V → Type 0) (ways : Ways V) where
   -- a party that may go: it has no use of the value, and the rule holds as well without it
-  abbrev pub Rests : Option V → Type 0
-  Rests None = Unit {0}
-  Rests (Some v) = (ways.1 v ≡ off) × ((n m : ℕ) (before behind : List V) → holds n m (before ++ v ∷ behind) → holds n m (before ++ behind))
+  abbrev pub Rests : (ℕ → ℕ → List V → Type 0) → (V → Use) → Option V → Type 0
+  Rests holds f None = Unit {0}
+  Rests holds f (Some v) = (f v ≡ off) × ((n m : ℕ) (before behind : List V) → holds n m (before ++ v ∷ behind) → holds n m (before ++ behind))
 
 -- What a step asks: whatever the words and the views are when the word becomes f of what it was, the party has a next view that keeps the rule
-module _ {V : Type 0} (holds : ℕ → ℕ → List V → Type 0) (ways : Ways V) (view : Option V) (f : ℕ → ℕ) (then : ℕ → V → Type 0) where
-  -- of the first word
-  abbrev pub Allows : Type 0
-  Allows = (id n m : ℕ) (vs : List V) → Meets holds ways n m vs → Stands id view vs → n < 18446744073709551616
-      → (w : V) × Meets holds ways (f n) m (after id view vs w) × then n w
+module _ {X V : Type 0} (holds : ℕ → ℕ → List V → Type 0) (ways : Ways X V) (view : Option V) where
+  -- of a party that is shown this
+  module _ (shown : Option X) (f : ℕ → ℕ) (then : ℕ → V → Type 0) where
+    -- of the first word
+    abbrev pub AllowsAt : Type 0
+    AllowsAt = (id n m : ℕ) (vs : List V) → Meets holds ways n m vs → Stands id view vs → n < words
+        → (w : V) × Going ways.0 (use_of ways.1 view) (ways.1 w) shown (readers_of ways.1 vs) (Meets holds ways (f n) m (after id view vs w)) × then n w
 
-  -- of the second
-  abbrev pub AllowsSecond : Type 0
-  AllowsSecond = (id n m : ℕ) (vs : List V) → Meets holds ways n m vs → Stands id view vs → m < 18446744073709551616
-      → (w : V) × Meets holds ways n (f m) (after id view vs w) × then m w
+    -- of the second
+    abbrev pub AllowsSecondAt : Type 0
+    AllowsSecondAt = (id n m : ℕ) (vs : List V) → Meets holds ways n m vs → Stands id view vs → m < words
+        → (w : V) × Going ways.0 (use_of ways.1 view) (ways.1 w) shown (readers_of ways.1 vs) (Meets holds ways n (f m) (after id view vs w)) × then m w
 
--- a value that is shown before and after a step is the same
-abbrev pub SameValue : {X : Type 0} → Option X → Option X → Type 0
-SameValue None v = Unit {0}
-SameValue (Some x) None = Unit {0}
-SameValue (Some x) (Some y) = x ≡ y
+  -- the same where the value is not spoken of, as in the first two ways
+  abbrev pub Allows : (ℕ → ℕ) → (ℕ → V → Type 0) → Type 0
+  Allows f then = AllowsAt None f then
+
+  abbrev pub AllowsSecond : (ℕ → ℕ) → (ℕ → V → Type 0) → Type 0
+  AllowsSecond f then = AllowsSecondAt None f then
 
 -- the party has come to a view of which P holds
 abbrev pub Moved : {V : Type 0} → (V → Type 0) → Option V → Type 0

@@ -2,8 +2,9 @@
 -- The cell is shared for a lifetime α. One invariant holds its two words, a quarter of each party's view, and the state of the value.
 -- Where the way is `alone`, the state is the borrow of the value, or nothing while a writer has it.
 -- Where it is `lends`, the value at rest is shared for a lifetime a of its own, and a reader has one part in 2 ^ 63 of a's token. A writer ends that lifetime, and begins the next one.
+-- Where it is `fixes`, it is the same, but a reader has any part of a's token, and knows the fact: it never gives its part back.
 -- The name ρ has the views; γ says a and the value, in the same parts as a's token; ν tracks the value, for as long as the cell is shared.
-use Rattle.std.specs.Prelude.{◌≡◌, ℕ, zero, suc, ◌+◌, ◌-◌, ◌^◌, [], ◌∷◌, List, Option, Some, None}
+use Rattle.std.specs.Prelude.{◌≡◌, Bool, true, false, ℕ, zero, suc, ◌+◌, ◌-◌, ◌^◌, [], ◌∷◌, List, Option, Some, None}
 use base.Fraction.{full_share}
 use base.FractionLaws.{Counts}
 use base.Share.{three_quarters}
@@ -20,7 +21,7 @@ use Rattle.core.specs.Sync.RawAtomic.{word}
 use Rattle.atomic_table.specs.Seated.{fact, halved, seen}
 use types.Keyed.{entries_from}
 use base.Share.{quarter}
-use Rattle.spin_core.specs.Cell.{Use, off, reads, writes, Way, alone, lends, Ways, use_of, readers_of, writers_of, Meets}
+use Rattle.spin_core.specs.Cell.{Use, off, reads, writes, Way, alone, lends, fixes, Ways, use_of, readers_of, writers_of, Meets, Starts}
 
 -- where the value lies, behind two words
 abbrev pub offset : RattleType → ℕ
@@ -30,13 +31,22 @@ offset R = up (align (lone R.mir)) 16
 abbrev pub Common : RattleType → Type 0
 Common R = (x : R.Denot) (b e : ℕ) (κ : Lft) → Keyless (shared_of R x b e κ)
 
--- where the way is `lends`, or some view reads, the rule's own type stands for the value's: who may share the one may share the other
-abbrev pub Known : {V : Type 0} → Ways V → RattleType → RattleType → Type 0
-Known {V} ways Y R = (ways.0 ≡ lends → Common Y → Common R) × ((v : V) → ways.1 v ≡ reads → Common Y → Common R)
+-- whether a value that nobody writes is shared
+abbrev pub IsShared : {X : Type 0} → Way X → Type 0
+IsShared alone = ⊥
+IsShared lends = Unit {0}
+IsShared (fixes fact) = Unit {0}
+
+-- where parties share the value, or some view reads it, the rule's own type stands for the value's: who may share the one may share the other
+abbrev pub Known : {X V : Type 0} → Ways X V → RattleType → RattleType → Type 0
+Known {V = V} ways Y R = (IsShared ways.0 → Common Y → Common R) × ((v : V) → ways.1 v ≡ reads → Common Y → Common R)
 
 -- α, γ, ρ and ν
-abbrev pub Id : Type 0
-Id = Lft × GName × GName × GName
+pub record Id : Type 0 where
+  pub life : Lft
+  pub round : GName
+  pub views : GName
+  pub value : GName
 
 -- the keys from k on, which no party has yet
 abbrev pub unused : GName → ℕ → Gv → Fml
@@ -63,6 +73,20 @@ share R γ s e = fsep (flft (s.0 ∷ []) e) (tag γ e (round_code R s))
 abbrev pub parts : (R : RattleType) → GName → Round R → ℕ → Fml
 parts R γ s k = fex Share (λ e. fex (Counts 63 e k) (λ _. share R γ s e))
 
+-- what a party that reads knows of its share: it is one part in 2 ^ 63, or, where it reads for good, the value has the fact
+abbrev pub Part : {X : Type 0} → Way X → X → Share → Type 0
+Part alone x e = ⊥
+Part lends x e = Counts 63 e 1
+Part (fixes fact) x e = fact true x
+
+abbrev pub piece : (R : RattleType) → Way R.Denot → GName → Round R → Fml
+piece R way γ s = fex Share (λ e. fex (Part way s.1 e) (λ _. share R γ s e))
+
+-- what r parties that read for good leave of a round
+abbrev pub remains : (R : RattleType) → (Bool → R.Denot → Type 0) → GName → Round R → ℕ → Fml
+remains R fact γ s zero = fex (fact false s.1) (λ _. share R γ s full_share)
+remains R fact γ s (suc r) = piece R (fixes fact) γ s
+
 abbrev pub idle : GName → Fml
 idle γ = fex Gv (tag γ full_share)
 
@@ -73,54 +97,56 @@ module _ (R : RattleType) (b o : ℕ) where
   module _ (t : Id) where
     -- the value, under its name
     abbrev pub named : Fml
-    named = Body (mem R) b (o + offset R) t.3
+    named = Body (mem R) b (o + offset R) t.value
 
     -- what a `&mut` to the value x owns
     abbrev pub tracked : R.Denot → Fml
-    tracked x = fsep (fobs t.3 (R.coded.code x)) (fbor t.0 named)
+    tracked x = fsep (fobs t.value (R.coded.code x)) (fbor t.life named)
 
     abbrev pub waits : ℕ → Fml
-    waits a = flent (a ∷ t.0) (fbor t.0 named)
+    waits a = flent (a ∷ t.life) (fbor t.life named)
 
     abbrev pub shared : Round R → Fml
-    shared s = fsep (fobs t.3 (R.coded.code s.1)) (fsep (shown s.1 (s.0 ∷ t.0)) (waits s.0))
+    shared s = fsep (fobs t.value (R.coded.code s.1)) (fsep (shown s.1 (s.0 ∷ t.life)) (waits s.0))
 
     -- the value, with r readers and no writer
-    abbrev pub resting : Way → ℕ → R.Denot → Fml
+    abbrev pub resting : Way R.Denot → ℕ → R.Denot → Fml
     resting alone r x = tracked x
-    resting lends r x = fex ℕ (λ a. fsep (parts R t.1 (a, x) (2 ^ 63 - r)) (shared (a, x)))
+    resting lends r x = fex ℕ (λ a. fsep (parts R t.round (a, x) (2 ^ 63 - r)) (shared (a, x)))
+    resting (fixes fact) r x = fex ℕ (λ a. fsep (remains R fact t.round (a, x) r) (shared (a, x)))
 
     -- what lies there while a writer has it
-    abbrev pub missing : Way → Fml
+    abbrev pub missing : Way R.Denot → Fml
     missing alone = ftrue
-    missing lends = idle t.1
+    missing lends = idle t.round
+    missing (fixes fact) = idle t.round
 
     -- the same with r readers and w writers
-    abbrev pub state : Way → ℕ → ℕ → Fml
+    abbrev pub state : Way R.Denot → ℕ → ℕ → Fml
     state way r zero = fex R.Denot (resting way r)
     state way r (suc w) = missing way
 
-    abbrev pub reader : R.Denot → Fml
-    reader x = fex ℕ (λ a. fsep (parts R t.1 (a, x) 1) (shown x (a ∷ t.0)))
+    abbrev pub reader : Way R.Denot → R.Denot → Fml
+    reader way x = fex ℕ (λ a. fsep (piece R way t.round (a, x)) (shown x (a ∷ t.life)))
 
     -- what a party has of the value
-    abbrev pub right : Use → Option R.Denot → Fml
-    right off None = ftrue
-    right off (Some x) = ffalse
-    right reads None = ffalse
-    right reads (Some x) = reader x
-    right writes None = ffalse
-    right writes (Some x) = tracked x
+    abbrev pub right : Way R.Denot → Use → Option R.Denot → Fml
+    right way off None = ftrue
+    right way off (Some x) = ffalse
+    right way reads None = ffalse
+    right way reads (Some x) = reader way x
+    right way writes None = ffalse
+    right way writes (Some x) = tracked x
 
     module _ {V : Type 0} (c : V → Gv) where
       -- what a party has of its view
       abbrev pub stand : Option V → Fml
       stand None = ftrue
-      stand (Some v) = fex ℕ (λ id. seen c t.2 id three_quarters v)
+      stand (Some v) = fex ℕ (λ id. seen c t.views id three_quarters v)
 
-      module _ (holds : ℕ → ℕ → List V → Type 0) (ways : Ways V) where
+      module _ (holds : ℕ → ℕ → List V → Type 0) (ways : Ways R.Denot V) where
         abbrev pub core_at : ℕ → ℕ → List V → Fml
-        core_at n m vs = fsep (roster c t.2 0 vs) (fsep (fact (Meets holds ways n m vs)) (state ways.0 (readers_of ways.1 vs) (writers_of ways.1 vs)))
+        core_at n m vs = fsep (roster c t.views 0 vs) (fsep (fact (Meets holds ways n m vs)) (state ways.0 (readers_of ways.1 vs) (writers_of ways.1 vs)))
 
         abbrev pub core : ℕ × ℕ → Fml
         core s = fex (List V) (core_at s.0 s.1)
@@ -132,12 +158,12 @@ module _ (R : RattleType) (b o : ℕ) where
         inner = fex (ℕ × ℕ) standing
 
         abbrev pub kept : Lft → Fml
-        kept = beside (ends t.0) (always (fbor t.0 inner))
+        kept = beside (ends t.life) (always (fbor t.life inner))
 
-module _ (Y R : RattleType) {V : Type 0} (c : V → Gv) (holds : ℕ → ℕ → List V → Type 0) (ways : Ways V) where
+module _ (Y R : RattleType) {V : Type 0} (c : V → Gv) (holds : ℕ → ℕ → List V → Type 0) (ways : Ways R.Denot V) where
   -- the cell's own fields, and some views that meet the rule
   abbrev pub cell_owns : (ℕ → ℕ → R.Denot → Fml) → Fml
-  cell_owns fields = fex (Known ways Y R) (λ _. fex (ℕ × ℕ × R.Denot) (λ s. fsep (fields s.0 s.1 s.2) (fact ((vs : List V) × Meets holds ways s.0 s.1 vs))))
+  cell_owns fields = fex (Known ways Y R) (λ _. fex (ℕ × ℕ × R.Denot) (λ s. fsep (fields s.0 s.1 s.2) (fact (Starts holds ways s.0 s.1 s.2))))
 
   abbrev pub cell_shares : Ptr → Lft → Fml
   cell_shares (block_ptr b o) = some (Known ways Y R) (λ _. some Id (λ t. kept R b o t c holds ways))
@@ -145,7 +171,7 @@ module _ (Y R : RattleType) {V : Type 0} (c : V → Gv) (holds : ℕ → ℕ →
 
   module _ (β : Lft) where
     abbrev pub permit_at : ℕ → ℕ → Option V → Option R.Denot → Id → Fml
-    permit_at b o view x t = fsep (kept R b o t c holds ways β) (fsep (stand R b o t c view) (right R b o t (use_of ways view) x))
+    permit_at b o view x t = fsep (kept R b o t c holds ways β) (fsep (stand R b o t c view) (right R b o t ways.0 (use_of ways.1 view) x))
 
     abbrev pub permit_owns : Ptr → Option V → Option R.Denot → Fml
     permit_owns (block_ptr b o) view x = fex (Known ways Y R) (λ _. fex Id (permit_at b o view x))
@@ -166,7 +192,7 @@ module _ (Y R : RattleType) {V : Type 0} (c : V → Gv) (holds : ℕ → ℕ →
   reader_shares β b o writes x = nothing
 
   abbrev pub permit_shares : Lft → Ptr → Option V → Option R.Denot → Lft → Fml
-  permit_shares β (block_ptr b o) view x = reader_shares β b o (use_of ways view) x
+  permit_shares β (block_ptr b o) view x = reader_shares β b o (use_of ways.1 view) x
   permit_shares β null_ptr view x = said ffalse
 
   abbrev pub writer_shares : Lft → Ptr → V → R.Denot → Lft → Fml

@@ -2,6 +2,8 @@ pub mod Plain
 pub mod Parties
 pub mod Steps
 pub mod Tickets
+pub mod Views
+pub mod Plays
 pub mod Cell
 pub mod CellMemory
 pub mod Writer

@@ -40,14 +40,14 @@ entries p s =
 abbrev pub no_entries : Entries
 no_entries = record { holders = []; tickets = []; starvers = [] }
 
--- the lock with these entries alone
-abbrev pub alone : Plain → Entries → Plain
-alone s e = record s { holders = e.holders; tickets = e.tickets; starvers = e.starvers }
+-- the lock with these entries and no others
+abbrev pub with_entries : Plain → Entries → Plain
+with_entries s e = record s { holders = e.holders; tickets = e.tickets; starvers = e.starvers }
 
 -- a party's entries after a step of its own, which is made in the state s
 abbrev pub entries_after : Plain → Option Change → Entries → Entries
 entries_after s step e =
-    let t = apply_some (alone s e) step in
+    let t = apply_some (with_entries s e) step in
     record { holders = t.holders; tickets = t.tickets; starvers = t.starvers }
 
 -- somebody holds the lock, or stands in its queue

@@ -8,9 +8,9 @@ bit true = 1
 bit false = 0
 
 -- on a word that encodes s, the function refuses exactly where the change isn't open, and else gives the word of the state after it
-abbrev pub Grants : Plain → Change → (Plain → ℕ) → Option ℕ → Type 0
-Grants s c word None = is_open s c ≡ false
-Grants s c word (Some w) = (is_open s c ≡ true) × (w ≡ word (apply s c))
+abbrev pub Decides : Plain → Change → (Plain → ℕ) → Option ℕ → Type 0
+Decides s c word None = is_open s c ≡ false
+Decides s c word (Some w) = (is_open s c ≡ true) × (w ≡ word (apply s c))
 
 -- the same of a function that never refuses, where the change is open
 abbrev pub Gives : Plain → Change → (Plain → ℕ) → ℕ → Type 0

@@ -1,11 +1,10 @@
-//! One raw cell under all locks: two words and a value, under a rule over plain data.
-//!
-//! A lock says what its parties are (a *view* each) and what holds of the words and of all views between any two
-//! steps; each step of a lock owes one fact about plain data, that it keeps that rule.
+//! One raw cell under all locks: two words and a value, under a rule over plain data. A lock says what its parties are
+//! (a *view* each) and what holds of the words and of all views between any two steps; each step owes one fact about
+//! plain data, that it keeps that rule.
 ghost use Rattle.std.specs.Prelude.{◌≡◌, ◌≢◌, ◌+◌, ◌-◌, ◌%◌, ◌^◌, ◌==◌, ℕ, List, [], Option, bit_and, bit_or};
 ghost use Rattle.std.specs.Coded.{coded_option};
 ghost use prog.Atomic.{either};
-ghost use Rattle.spin_core.specs.Cell.{Ways, off, reads, writes, use_of, Meets, Rests, Allows, AllowsSecond, Moved, SameValue};
+ghost use Rattle.spin_core.specs.Cell.{Ways, off, reads, writes, use_of, Starts, Frees, Seen, Rests, AllowsAt, AllowsSecondAt, Moved, Keeps};
 ghost use Rattle.spin_core.specs.CellMemory.{Known, cell_owns, cell_shares, permit_owns, permit_shares, writer_owns, writer_shares};
 
 use atomic_table::exchange;
@@ -16,12 +15,14 @@ use std::sync::atomic::raw;
 mod lends;
 
 /// What holds of a cell's words and of what its parties are, between any two steps. `V` is what a party is to the
-/// lock, a plain `Copy` enum of the lock's own.
-pub trait Rule<V> {
+/// lock, a plain `Copy` enum of the lock's own, and `T` the value's type.
+pub trait Rule<T, V> {
+    // What is settled of a cell when it is made, as the closure that a lazy value comes from.
+    type Key;
     // Of the first word, the second word, and the views of all parties that ever came.
     ghost holds: { ℕ → ℕ → List V → Type 0 };
     // Whether parties may read the value beside one another, and how a party with a given view may use it.
-    ghost ways: { Ways V };
+    ghost ways: { Self.Key → Ways T V };
 }
 
 /// What one kind of step tells its caller.
@@ -30,61 +31,66 @@ pub trait Play<V> {
     ghost then: { ℕ → ℕ → Option V → ℕ → V → Type 0 };
 }
 
-/// Two words and a value. Only a party with a permit touches the value.
-pub struct Cell<T, V, P: Rule<V>> {
+/// Two words and a value. Only a party with a permit touches the value. In a clause it is its key.
+pub struct Cell<T, V, P: Rule<T, V>> {
     marker: PhantomData<(V, P)>,
     first: u64,
     second: u64,
     value: T,
 }
 
-impl<T, V, P: Rule<V>> Owns for Cell<T, V, P> {
-    ghost Value = { Unit {0} };
+impl<T, V, P: Rule<T, V>> Owns for Cell<T, V, P> {
+    ghost Value = { P.Key };
 
-    ghost shr_at = { λ _ p κ. cell_shares P.row T.row V.row.coded.code P.holds P.ways p κ };
+    ghost coded = { P.Key.code };
+
+    ghost shr_at = { λ key p κ. cell_shares P.row T.row V.row.coded.code P.holds (P.ways key) p κ };
 }
 
-impl<T, V, P: Rule<V>> Move for Cell<T, V, P> {
-    ghost own_val = { λ _ vs. cell_owns P.row T.row V.row.coded.code P.holds P.ways (λ n m x. Fields.own_val (record { marker = record {}; first = n; second = m; value = x }) vs) };
+impl<T, V, P: Rule<T, V>> Move for Cell<T, V, P> {
+    ghost own_val = { λ key vs. cell_owns P.row T.row V.row.coded.code P.holds (P.ways key) (λ n m x. Fields.own_val (record { marker = record {}; first = n; second = m; value = x }) vs) };
 }
 
 /// What a party may do: `view` is what it is to the lock, `None` until its first step, and `value` is shown where its
-/// view reads or writes. It is not dropped: `leave` ends it where its party is at rest, and `stay` keeps a use of the value.
-pub struct Permit<'a, T, V, P: Rule<V>> {
+/// view reads or writes. It is not dropped: `leave` ends it where its party is at rest, and `leak` keeps a use of the value.
+pub struct Permit<'a, T, V, P: Rule<T, V>> {
     cell: *const Cell<T, V, P>,
     marker: PhantomData<&'a T>,
+    pub ghost key: { P.Key } by { P.Key.code },
     pub ghost view: { Option V } by { coded_option V.code },
     pub ghost value: { Option T } by { coded_option T.code },
 }
 
-impl<'a, T, V, P: Rule<V>> Model for Permit<'a, T, V, P> {
-    ghost also_owns = { λ h. permit_owns P.row T.row V.row.coded.code P.holds P.ways 'a h.cell h.view h.value };
+impl<'a, T, V, P: Rule<T, V>> Model for Permit<'a, T, V, P> {
+    ghost also_owns = { λ h. permit_owns P.row T.row V.row.coded.code P.holds (P.ways h.key) 'a h.cell h.view h.value };
 
-    ghost also_shares = { λ h _ κ. permit_shares P.row T.row V.row.coded.code P.holds P.ways 'a h.cell h.view h.value κ };
+    ghost also_shares = { λ h _ κ. permit_shares P.row T.row V.row.coded.code P.holds (P.ways h.key) 'a h.cell h.view h.value κ };
 }
 
-/// The right to write, which its party has alone. It is not dropped: `into_permit` turns it back, and `leak` keeps what
-/// it has.
-pub struct WritePermit<'a, T, V, P: Rule<V>> {
+/// The right to write, which its party has alone. `into_permit` turns it back, and `leak` keeps what it has.
+pub struct WritePermit<'a, T, V, P: Rule<T, V>> {
     cell: *const Cell<T, V, P>,
     marker: PhantomData<&'a T>,
+    pub ghost key: { P.Key } by { P.Key.code },
     pub ghost view: { V },
     pub ghost value: { T },
 }
 
-impl<'a, T, V, P: Rule<V>> Model for WritePermit<'a, T, V, P> {
-    ghost also_owns = { λ h. writer_owns P.row T.row V.row.coded.code P.holds P.ways 'a h.cell h.view h.value };
+impl<'a, T, V, P: Rule<T, V>> Model for WritePermit<'a, T, V, P> {
+    ghost also_owns = { λ h. writer_owns P.row T.row V.row.coded.code P.holds (P.ways h.key) 'a h.cell h.view h.value };
 
-    ghost also_shares = { λ h _ κ. writer_shares P.row T.row V.row.coded.code P.holds P.ways 'a h.cell h.view h.value κ };
+    ghost also_shares = { λ h _ κ. writer_shares P.row T.row V.row.coded.code P.holds (P.ways h.key) 'a h.cell h.view h.value κ };
 }
 
-impl<T, V, P: Rule<V>> Cell<T, V, P> {
+impl<T, V, P: Rule<T, V>> Cell<T, V, P> {
     /// A cell with no party. `known` asks that whoever may share the rule's own type may share the value, where
     /// parties read it beside one another.
-    pub fn new(value: T, first: u64, second: u64) -> Cell<T, V, P>
-        requires known { Known P.ways P.row T.row }
-        requires rule { Meets P.holds P.ways first second [] }
+    pub fn new(value: T, first: u64, second: u64, key: &P::Key) -> Cell<T, V, P>
+        requires known { Known (P.ways key.now) P.row T.row }
+        requires rule { Starts P.holds (P.ways key.now) first second value }
+        ensures key { result ≡ key.now }
     {
+        let _ = key;
         Cell {
             marker: PhantomData,
             first,
@@ -105,13 +111,16 @@ impl<T, V, P: Rule<V>> Cell<T, V, P> {
     }
 
     /// The value, whatever the words are: nobody else has the cell.
-    pub fn get_mut(&mut self) -> &mut T {
+    pub fn get_mut(&mut self) -> &mut T
+        requires { Frees (P.ways self.old).0 }
+    {
         &mut self.value
     }
 
     /// A permit that has taken no step.
     pub fn enter(&self) -> Permit<'_, T, V, P>
-        ensures { (result.view ≡ None) × (result.value ≡ None) }
+        ensures key { result.key ≡ self.now }
+        ensures fresh { (result.view ≡ None) × (result.value ≡ None) }
     {
         Permit {
             cell: self,
@@ -122,12 +131,13 @@ impl<T, V, P: Rule<V>> Cell<T, V, P> {
 
 /// Each step asks that whatever the words and the views are, the party has a next view that keeps the rule, and says
 /// what its `Play` says. A value that is shown before and after a step is the same.
-impl<'a, T, V, P: Rule<V>> Permit<'a, T, V, P> {
+impl<'a, T, V, P: Rule<T, V>> Permit<'a, T, V, P> {
     /// Reads the first word.
     pub fn load<M: Play<V>>(self) -> (u64, Permit<'a, T, V, P>)
-        requires { Allows P.holds P.ways self.view (λ n. n) (M.then 0 0 self.view) }
+        requires { AllowsAt P.holds (P.ways self.key) self.view self.value (λ n. n) (M.then 0 0 self.view) }
         ensures moved { Moved (M.then 0 0 self.entry.view result.0) result.1.view }
-        ensures kept { SameValue self.entry.value result.1.value }
+        ensures kept { Keeps (P.ways self.entry.key) self.entry.view result.1.view self.entry.value result.1.value }
+        ensures key { result.1.key ≡ self.entry.key }
     {
         let Permit { cell, marker: _ } = self;
         let found = unsafe { raw::load::<Brand>(&raw const (*cell).first, SeqCst) };
@@ -142,9 +152,10 @@ impl<'a, T, V, P: Rule<V>> Permit<'a, T, V, P> {
 
     /// Writes `new` over the first word where it is `old`, and returns the word as it was.
     pub fn exchange<M: Play<V>>(self, old: u64, new: u64) -> (u64, Permit<'a, T, V, P>)
-        requires { Allows P.holds P.ways self.view (λ n. either (n == old) new n) (M.then old new self.view) }
+        requires { AllowsAt P.holds (P.ways self.key) self.view self.value (λ n. either (n == old) new n) (M.then old new self.view) }
         ensures moved { Moved (M.then old new self.entry.view result.0) result.1.view }
-        ensures kept { SameValue self.entry.value result.1.value }
+        ensures kept { Keeps (P.ways self.entry.key) self.entry.view result.1.view self.entry.value result.1.value }
+        ensures key { result.1.key ≡ self.entry.key }
     {
         let Permit { cell, marker: _ } = self;
         let found = unsafe { exchange::<Brand>(&raw const (*cell).first, old, new) };
@@ -159,9 +170,10 @@ impl<'a, T, V, P: Rule<V>> Permit<'a, T, V, P> {
 
     /// Writes `new` over the first word.
     pub fn store<M: Play<V>>(self, new: u64) -> Permit<'a, T, V, P>
-        requires { Allows P.holds P.ways self.view (λ _. new) (λ _. M.then 0 new self.view 0) }
+        requires { AllowsAt P.holds (P.ways self.key) self.view self.value (λ _. new) (λ _. M.then 0 new self.view 0) }
         ensures moved { Moved (M.then 0 new self.entry.view 0) result.view }
-        ensures kept { SameValue self.entry.value result.value }
+        ensures kept { Keeps (P.ways self.entry.key) self.entry.view result.view self.entry.value result.value }
+        ensures key { result.key ≡ self.entry.key }
     {
         let Permit { cell, marker: _ } = self;
         unsafe { raw::store::<Brand>(&raw const (*cell).first, new, SeqCst) };
@@ -173,9 +185,10 @@ impl<'a, T, V, P: Rule<V>> Permit<'a, T, V, P> {
 
     /// Adds `by` to the first word, modulo 2^64, and returns the word as it was.
     pub fn add<M: Play<V>>(self, by: u64) -> (u64, Permit<'a, T, V, P>)
-        requires { Allows P.holds P.ways self.view (λ n. (n + by) % 2 ^ 64) (M.then by 0 self.view) }
+        requires { AllowsAt P.holds (P.ways self.key) self.view self.value (λ n. (n + by) % 2 ^ 64) (M.then by 0 self.view) }
         ensures moved { Moved (M.then by 0 self.entry.view result.0) result.1.view }
-        ensures kept { SameValue self.entry.value result.1.value }
+        ensures kept { Keeps (P.ways self.entry.key) self.entry.view result.1.view self.entry.value result.1.value }
+        ensures key { result.1.key ≡ self.entry.key }
     {
         let Permit { cell, marker: _ } = self;
         let found = unsafe { raw::fetch_add::<Brand>(&raw const (*cell).first, by, SeqCst) };
@@ -190,9 +203,10 @@ impl<'a, T, V, P: Rule<V>> Permit<'a, T, V, P> {
 
     /// Subtracts `by` from the first word, modulo 2^64, and returns the word as it was.
     pub fn subtract<M: Play<V>>(self, by: u64) -> (u64, Permit<'a, T, V, P>)
-        requires { Allows P.holds P.ways self.view (λ n. (n + (2 ^ 64 - by)) % 2 ^ 64) (M.then by 0 self.view) }
+        requires { AllowsAt P.holds (P.ways self.key) self.view self.value (λ n. (n + (2 ^ 64 - by)) % 2 ^ 64) (M.then by 0 self.view) }
         ensures moved { Moved (M.then by 0 self.entry.view result.0) result.1.view }
-        ensures kept { SameValue self.entry.value result.1.value }
+        ensures kept { Keeps (P.ways self.entry.key) self.entry.view result.1.view self.entry.value result.1.value }
+        ensures key { result.1.key ≡ self.entry.key }
     {
         let Permit { cell, marker: _ } = self;
         let found = unsafe { raw::fetch_sub::<Brand>(&raw const (*cell).first, by, SeqCst) };
@@ -207,9 +221,10 @@ impl<'a, T, V, P: Rule<V>> Permit<'a, T, V, P> {
 
     /// Sets the bits of `mask` in the first word, and returns the word as it was.
     pub fn set_bits<M: Play<V>>(self, mask: u64) -> (u64, Permit<'a, T, V, P>)
-        requires { Allows P.holds P.ways self.view (λ n. bit_or n mask) (M.then mask 0 self.view) }
+        requires { AllowsAt P.holds (P.ways self.key) self.view self.value (λ n. bit_or n mask) (M.then mask 0 self.view) }
         ensures moved { Moved (M.then mask 0 self.entry.view result.0) result.1.view }
-        ensures kept { SameValue self.entry.value result.1.value }
+        ensures kept { Keeps (P.ways self.entry.key) self.entry.view result.1.view self.entry.value result.1.value }
+        ensures key { result.1.key ≡ self.entry.key }
     {
         let Permit { cell, marker: _ } = self;
         let found = unsafe { raw::fetch_or::<Brand>(&raw const (*cell).first, mask, SeqCst) };
@@ -224,9 +239,10 @@ impl<'a, T, V, P: Rule<V>> Permit<'a, T, V, P> {
 
     /// Clears the bits of the first word that are not in `mask`, and returns the word as it was.
     pub fn keep_bits<M: Play<V>>(self, mask: u64) -> (u64, Permit<'a, T, V, P>)
-        requires { Allows P.holds P.ways self.view (λ n. bit_and n mask) (M.then mask 0 self.view) }
+        requires { AllowsAt P.holds (P.ways self.key) self.view self.value (λ n. bit_and n mask) (M.then mask 0 self.view) }
         ensures moved { Moved (M.then mask 0 self.entry.view result.0) result.1.view }
-        ensures kept { SameValue self.entry.value result.1.value }
+        ensures kept { Keeps (P.ways self.entry.key) self.entry.view result.1.view self.entry.value result.1.value }
+        ensures key { result.1.key ≡ self.entry.key }
     {
         let Permit { cell, marker: _ } = self;
         let found = unsafe { raw::fetch_and::<Brand>(&raw const (*cell).first, mask, SeqCst) };
@@ -241,9 +257,10 @@ impl<'a, T, V, P: Rule<V>> Permit<'a, T, V, P> {
 
     /// Reads the second word.
     pub fn load_second<M: Play<V>>(self) -> (u64, Permit<'a, T, V, P>)
-        requires { AllowsSecond P.holds P.ways self.view (λ n. n) (M.then 0 0 self.view) }
+        requires { AllowsSecondAt P.holds (P.ways self.key) self.view self.value (λ n. n) (M.then 0 0 self.view) }
         ensures moved { Moved (M.then 0 0 self.entry.view result.0) result.1.view }
-        ensures kept { SameValue self.entry.value result.1.value }
+        ensures kept { Keeps (P.ways self.entry.key) self.entry.view result.1.view self.entry.value result.1.value }
+        ensures key { result.1.key ≡ self.entry.key }
     {
         let Permit { cell, marker: _ } = self;
         let found = unsafe { raw::load::<Brand>(&raw const (*cell).second, SeqCst) };
@@ -258,9 +275,10 @@ impl<'a, T, V, P: Rule<V>> Permit<'a, T, V, P> {
 
     /// Writes `new` over the second word where it is `old`, and returns the word as it was.
     pub fn exchange_second<M: Play<V>>(self, old: u64, new: u64) -> (u64, Permit<'a, T, V, P>)
-        requires { AllowsSecond P.holds P.ways self.view (λ n. either (n == old) new n) (M.then old new self.view) }
+        requires { AllowsSecondAt P.holds (P.ways self.key) self.view self.value (λ n. either (n == old) new n) (M.then old new self.view) }
         ensures moved { Moved (M.then old new self.entry.view result.0) result.1.view }
-        ensures kept { SameValue self.entry.value result.1.value }
+        ensures kept { Keeps (P.ways self.entry.key) self.entry.view result.1.view self.entry.value result.1.value }
+        ensures key { result.1.key ≡ self.entry.key }
     {
         let Permit { cell, marker: _ } = self;
         let found = unsafe { exchange::<Brand>(&raw const (*cell).second, old, new) };
@@ -275,9 +293,10 @@ impl<'a, T, V, P: Rule<V>> Permit<'a, T, V, P> {
 
     /// Writes `new` over the second word.
     pub fn store_second<M: Play<V>>(self, new: u64) -> Permit<'a, T, V, P>
-        requires { AllowsSecond P.holds P.ways self.view (λ _. new) (λ _. M.then 0 new self.view 0) }
+        requires { AllowsSecondAt P.holds (P.ways self.key) self.view self.value (λ _. new) (λ _. M.then 0 new self.view 0) }
         ensures moved { Moved (M.then 0 new self.entry.view 0) result.view }
-        ensures kept { SameValue self.entry.value result.value }
+        ensures kept { Keeps (P.ways self.entry.key) self.entry.view result.view self.entry.value result.value }
+        ensures key { result.key ≡ self.entry.key }
     {
         let Permit { cell, marker: _ } = self;
         unsafe { raw::store::<Brand>(&raw const (*cell).second, new, SeqCst) };
@@ -289,16 +308,27 @@ impl<'a, T, V, P: Rule<V>> Permit<'a, T, V, P> {
 
     /// The value, for a party that reads it.
     pub fn get(&self) -> &T
-        requires { use_of P.ways self.now.view ≡ reads }
+        requires { use_of (P.ways self.now.key).1 self.now.view ≡ reads }
         ensures { Some result.now ≡ self.now.value }
     {
         unsafe { &(*self.cell).value }
     }
 
+    /// The value for the rest of the borrow of its cell, for a party that reads it. The party reads it for good.
+    pub fn see(self) -> &'a T
+        requires { use_of (P.ways self.key).1 self.view ≡ reads }
+        ensures value { Some result.now ≡ self.entry.value }
+        ensures seen { Seen (P.ways self.entry.key).0 result.now }
+    {
+        let Permit { cell, marker: _ } = self;
+        unsafe { &(*cell).value }
+    }
+
     /// The right to write the value, of a party that has it alone.
     pub fn into_writer(self) -> WritePermit<'a, T, V, P>
-        requires { use_of P.ways self.view ≡ writes }
-        ensures { (Some result.view ≡ self.entry.view) × (Some result.value ≡ self.entry.value) }
+        requires { use_of (P.ways self.key).1 self.view ≡ writes }
+        ensures same { (Some result.view ≡ self.entry.view) × (Some result.value ≡ self.entry.value) }
+        ensures key { result.key ≡ self.entry.key }
     {
         let Permit { cell, marker: _ } = self;
         WritePermit {
@@ -309,21 +339,21 @@ impl<'a, T, V, P: Rule<V>> Permit<'a, T, V, P> {
 
     /// The party goes. It has to be at rest: it does not use the value, and the rule holds as well without it.
     pub fn leave(self)
-        requires { Rests P.holds P.ways self.view }
+        requires { Rests P.holds (P.ways self.key).1 self.view }
     {
         let Permit { cell: _, marker: _ } = self;
     }
 
     /// The party keeps its use of the value for good, and nobody acts for it any more: a lock that it holds stays taken.
     /// A party that only waits cannot stay: a queue would stop at it.
-    pub fn stay(self)
-        requires { use_of P.ways self.view ≢ off }
+    pub fn leak(self)
+        requires { use_of (P.ways self.key).1 self.view ≢ off }
     {
         let Permit { cell: _, marker: _ } = self;
     }
 }
 
-impl<'a, T, V, P: Rule<V>> WritePermit<'a, T, V, P> {
+impl<'a, T, V, P: Rule<T, V>> WritePermit<'a, T, V, P> {
     pub fn get(&self) -> &T
         ensures { result.now ≡ self.now.value }
     {
@@ -339,8 +369,9 @@ impl<'a, T, V, P: Rule<V>> WritePermit<'a, T, V, P> {
     }
 
     pub fn into_permit(self) -> Permit<'a, T, V, P>
-        ensures use_of_view { P.ways.1 self.entry.view ≡ writes }
+        ensures use_of_view { (P.ways self.entry.key).1 self.entry.view ≡ writes }
         ensures same { (result.view ≡ Some self.entry.view) × (result.value ≡ Some self.entry.value) }
+        ensures key { result.key ≡ self.entry.key }
     {
         let WritePermit { cell, marker: _ } = self;
         Permit {
@@ -350,20 +381,20 @@ impl<'a, T, V, P: Rule<V>> WritePermit<'a, T, V, P> {
     }
 }
 
-impl<T: Drop, V, P: Rule<V>> Drop for Cell<T, V, P> {
+impl<T: Drop, V, P: Rule<T, V>> Drop for Cell<T, V, P> {
     fn drop(self) {
         drop(self.into_inner());
     }
 }
 
-unsafe impl<T: Send, V, P: Rule<V>> Send for Cell<T, V, P> {}
+unsafe impl<T: Send, V, P: Rule<T, V>> Send for Cell<T, V, P> {}
 
-unsafe impl<T: Send, V, P: Rule<V> + Sync> Sync for Cell<T, V, P> {}
+unsafe impl<T: Send, V, P: Rule<T, V> + Sync> Sync for Cell<T, V, P> {}
 
-unsafe impl<T: Send, V, P: Rule<V> + Sync> Send for Permit<'_, T, V, P> {}
+unsafe impl<T: Send, V, P: Rule<T, V> + Sync> Send for Permit<'_, T, V, P> {}
 
-unsafe impl<T, V, P: Rule<V> + Sync> Sync for Permit<'_, T, V, P> {}
+unsafe impl<T, V, P: Rule<T, V> + Sync> Sync for Permit<'_, T, V, P> {}
 
-unsafe impl<T: Send, V, P: Rule<V> + Sync> Send for WritePermit<'_, T, V, P> {}
+unsafe impl<T: Send, V, P: Rule<T, V> + Sync> Send for WritePermit<'_, T, V, P> {}
 
-unsafe impl<T: Sync, V, P: Rule<V>> Sync for WritePermit<'_, T, V, P> {}
+unsafe impl<T: Sync, V, P: Rule<T, V>> Sync for WritePermit<'_, T, V, P> {}

@@ -13,12 +13,14 @@ enum Bystander {
 /// Any words will do.
 struct AnyWords;
 
-impl Rule<Bystander> for AnyWords {
+impl Rule<u64, Bystander> for AnyWords {
+    type Key = ();
+
     ghost use Rattle.spin_core.specs.Bystanders.{any_words, no_use};
 
     ghost holds = { any_words };
 
-    ghost ways = { no_use };
+    ghost ways = { λ _. no_use };
 }
 
 struct TellNothing;
@@ -47,7 +49,7 @@ fn strategies_return(rt: HostRuntime) {
 
 #[test]
 fn steps_on_the_first_word(rt: HostRuntime) {
-    let cell: Words = Cell::new(5, 1, 2);
+    let cell: Words = Cell::new(5, 1, 2, &());
     let (found, party) = cell.enter().load::<TellNothing>();
     assert_eq!(rt; found, 1);
     let (found, party) = party.exchange::<TellNothing>(1, 6);
@@ -72,7 +74,7 @@ fn steps_on_the_first_word(rt: HostRuntime) {
 
 #[test]
 fn steps_on_the_second_word(rt: HostRuntime) {
-    let cell: Words = Cell::new(5, 1, 2);
+    let cell: Words = Cell::new(5, 1, 2, &());
     let (found, party) = cell.enter().load_second::<TellNothing>();
     assert_eq!(rt; found, 2);
     let (found, party) = party.exchange_second::<TellNothing>(2, 9);
@@ -89,7 +91,7 @@ fn steps_on_the_second_word(rt: HostRuntime) {
 
 #[test]
 fn the_owner_has_the_value(rt: HostRuntime) {
-    let mut cell: Words = Cell::new(5, 1, 2);
+    let mut cell: Words = Cell::new(5, 1, 2, &());
     assert_eq!(rt; *cell.get_mut(), 5);
     *cell.get_mut() = 7;
     cell.enter().store::<TellNothing>(3).leave();

@@ -1,5 +1,8 @@
--- The value of a guard of a `Mutex`, and the guard with another value in its place.
-use Rattle.spin_mutex.specs.SpinGuard.{guard_value, guard_with, holds as inner_holds}
+-- The value of a guard of a `Mutex`, the guard with another value in its place, and the value that a hold will free.
+use Rattle.std.specs.Prelude.{Option}
+use Rattle.spin_guard.specs.Guard.{guard_value, guard_with, held_value as inner_held_value, IsHolder}
+use Rattle.spin_flag.specs.Flag.{use_of_view}
+use Rattle.spin_mutex.specs.declared.mutex.Held.{Held}
 use Rattle.spin_mutex.specs.declared.mutex.MutexGuard.{MutexGuard}
 
 module _ {T R : Type 0} where
@@ -11,4 +14,8 @@ module _ {T R : Type 0} where
 
   -- its party is the lock's holder
   abbrev pub holds : MutexGuard T R → Type 0
-  holds it = inner_holds it.inner
+  holds it = IsHolder use_of_view it.inner
+
+  -- the value that comes free once the hold is spent
+  abbrev pub held_value : Held T R → Option T
+  held_value it = inner_held_value it.inner

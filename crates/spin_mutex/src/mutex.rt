@@ -1,20 +1,21 @@
 //! `Mutex`, over the contract of an inner lock alone, and the locks that it can be over.
 ghost use Rattle.std.specs.Prelude.{◌≡◌, Some, IfSome};
-ghost use Rattle.spin_mutex.specs.MutexGuard.{value_of, holds};
+ghost use Rattle.spin_mutex.specs.MutexGuard.{value_of, holds, held_value};
 
 use spin_core::relax::{RelaxStrategy, Spin};
 use std::marker::PhantomData;
 use std::sync::Wait;
 
-mod laws;
 mod lends;
-pub mod spin;
 mod texts;
-pub mod ticket;
 
-pub use laws::the_words_of_a_ticket_mutex_are_its_queue;
-pub use spin::{SpinMutex, SpinMutexGuard};
-pub use ticket::{TicketMutex, TicketMutexGuard};
+pub use spin_flag::spin;
+pub use spin_flag::spin::{SpinMutex, SpinMutexGuard};
+pub use spin_ticket::laws::{
+    the_parties_of_a_ticket_mutex_enter_in_turn, the_words_of_a_ticket_mutex_are_its_queue,
+};
+pub use spin_ticket::ticket;
+pub use spin_ticket::ticket::{TicketMutex, TicketMutexGuard};
 
 /// A lock that gives one party at a time access to a value. Which lock it is inside is not part of its contract, so
 /// `try_lock` may also refuse where nobody holds it.
@@ -102,7 +103,7 @@ impl<'a, T, R> MutexGuard<'a, T, R> {
 
     /// Keeps the lock taken, without a guard, until `force_unlock`.
     pub fn hold(this: Self) -> Held<'a, T, R>
-        ensures { result.inner.permit.value ≡ Some (value_of this.entry) }
+        ensures { held_value result ≡ Some (value_of this.entry) }
     {
         let Self { inner, life: _ } = this;
         Held {
@@ -136,6 +137,3 @@ unsafe impl<T: Sync, R> Sync for MutexGuard<'_, T, R> {}
 unsafe impl<T: Send, R> Send for Held<'_, T, R> {}
 
 unsafe impl<T: Send, R> Sync for Held<'_, T, R> {}
-
-#[cfg(test)]
-mod tests;

@@ -3,7 +3,7 @@ use Rattle.std.proofs.Common.{◌≡◌, ℕ, zero, suc, ◌≤◌, Bool, true, 
 use Rattle.spin_core.specs.Plain.{Plain, Change, completes, apply, is_open, is_empty}
 use Rattle.std.specs.Option.{option_map}
 use Rattle.spin_core.specs.Parties.{who, apply_some, IsOpenStep, entries, IsExclusive}
-use Rattle.spin_core.specs.Steps.{Grants}
+use Rattle.spin_core.specs.Steps.{Decides}
 use Rattle.spin_world_core.specs.declared.place.Hold.{Hold}
 use Rattle.spin_world_core.specs.declared.object.Next.{Next}
 use Rattle.spin_world_core.specs.declared.object.Next.TheVariants.{GoesOn, Answers}
@@ -148,7 +148,7 @@ pub record Pays {W V C L A : Type 0} (t : Table W V C L A) (n : Notes t) : Type 
   pub soon : (p : ℕ) (c : C) (l : L) (h : Option Hold) (s : Plain) (v : Option V) (w : W) (span : List Mark) → OwesSoon t n p c l h s v w span (is_waiting (t.asks c h)) (row_of t n c l h)
 
 -- where a step function grants a plain step: what is left to show is the words as numbers, and the shape
-pub means_by : {W V C L A : Type 0} (t : Table W V C L A) (n : Notes t) (p : ℕ) (s : Plain) (v : Option V) (c : Change) (word : Plain → ℕ) (o : Option W) → who c ≡ p → Grants s c word (option_map t.number o)
+pub means_by : {W V C L A : Type 0} (t : Table W V C L A) (n : Notes t) (p : ℕ) (s : Plain) (v : Option V) (c : Change) (word : Plain → ℕ) (o : Option W) → who c ≡ p → Decides s c word (option_map t.number o)
     → ((to : W) → is_open s c ≡ true → t.number to ≡ word (apply s c) → (t.number to ∷ t.others to ≡ encoded t.coding (apply s c)) × n.Shape (apply s c) v) → Means t n p s v c o
 means_by t n p s v c word None mine grants rest = grants
 means_by t n p s v c word (Some to) mine grants rest = let both = rest to grants.0 grants.1 in ((mine, grants.0), both.0, both.1)

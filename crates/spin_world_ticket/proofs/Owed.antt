@@ -3,7 +3,7 @@ use Rattle.std.proofs.Common.{◌≡◌, ℕ, suc, ◌+◌, ◌-◌, ◌≤◌, 
 use Rattle.std.proofs.lemmas.Bool.{and_parts, eqb-true, true≢false}
 use Rattle.spin_core.specs.Plain.{Plain, Ask, to_take_ticket, to_enter, to_take_and_enter, Change, gets, serves, apply, is_open, is_empty, next_word, serving_word}
 use Rattle.spin_core.specs.Parties.{apply_some, IsOpenStep, Entries, entries, is_held}
-use Rattle.spin_core.specs.Steps.{Grants}
+use Rattle.spin_core.specs.Steps.{Decides}
 use Rattle.spin_core.proofs.Tickets.{enters_in_turn, numbered-gets, numbered-serves, serving-taken, serving-entered, entered_is_served, stands}
 use Rattle.spin_core.proofs.TicketSteps.{ticket_take-grants, ticket_take-grants_alone, ticket_serve-gives}
 use Rattle.spin_world_core.specs.declared.place.Hold.{Hold}
@@ -97,7 +97,7 @@ module _ {V : Type 0} (v : V) (first : ℕ) where
       (ap is_left (sym (next_is s w encodes)) ∙ parts.1, sym (serving_is s w encodes) ∙ (sym (free_number s (serving_word s) parts.0 refl) ∙ next_is s w encodes))
 
   grants_means : (p : ℕ) (ask : Ask) (s : Plain) (value : Option V) (w : TicketWords) (b : Bool) → serving_word (apply s (gets p ask)) ≡ w.serving → (is_open s (gets p ask) ≡ true → Queue (apply s (gets p ask)))
-      → Grants s (gets p ask) next_word (if b then Some (w.next + 1) else None) → IsMeant p s value (gets p ask) (if b then Some (record w { next = w.next + 1 }) else None)
+      → Decides s (gets p ask) next_word (if b then Some (w.next + 1) else None) → IsMeant p s value (gets p ask) (if b then Some (record w { next = w.next + 1 }) else None)
   grants_means p ask s value w true same shape grants = ((refl, grants.0), two _ _ _ _ grants.1 (sym same), shape grants.0)
   grants_means p ask s value w false same shape grants = grants
 

@@ -1,28 +1,12 @@
 // `Debug` of the lock, and `Debug` and `Display` of its guard, which prints as its value.
 ghost use Rattle.std.specs.Prelude.{Option};
 ghost use Rattle.std.specs.Fmt.{DisplaysOnOk};
-ghost use Rattle.std.specs.Option.{option_copied};
 ghost use Rattle.spin_mutex.specs.MutexGuard.{value_of};
-ghost use Rattle.spin_mutex.specs.Texts.{lock_text};
+ghost use Rattle.spin_guard.specs.Texts.{lock_text};
 
 use super::{Mutex, MutexGuard};
 use std::fmt;
 use std::fmt::{Debug, Display, Formatter};
-
-// Writes a lock by the value that one attempt got. Every lock is called `Mutex`, as in the Rust crate.
-pub(crate) fn write_lock<T: Debug, W: fmt::Write>(
-    value: Option<&T>,
-    f: &mut Formatter<W>,
-) -> fmt::Result
-    ensures { DisplaysOnOk W.write_str_gives f.old result (lock_text T.debug_output (option_copied value.entry)) f.new }
-{
-    let Some(value) = value else {
-        return f.write_str("Mutex { <locked> }");
-    };
-    f.write_str("Mutex { data: ")?;
-    Debug::fmt(value, f)?;
-    f.write_str(" }")
-}
 
 /// It prints as the lock inside.
 impl<T: Debug, R> Debug for Mutex<T, R> {
@@ -50,6 +34,3 @@ impl<T: Display, R> Display for MutexGuard<'_, T, R> {
         Display::fmt(&**self, f)
     }
 }
-
-#[cfg(test)]
-mod tests;

@@ -29,11 +29,11 @@ use Rattle.spin_core.proofs.cell.Cell.into_inner.Statement.{statement}
 use Rattle.spin_core.proofs.cell.Cell.into_inner.Code as code
 
 pub into_inner_spec : {M : Type 1} → statement M
-into_inner_spec 𝓤 𝓛 𝓜 𝓡 wired X U P L _ _ g d _ =
-    let H = 𝓛.H in let 𝓣 = tables 𝓤 H 𝓜 𝓡 𝓡.env in let R : RattleType = param 0 X in let V : RattleType = param 1 U in let Y : RattleType = param 2 P in let En = ended X U P g d in let c = clauses X U P g d 𝓛 𝓜.mem 𝓡.returns in let E : El = record { row = X; laws = L } in
-    let inst = bounded (a_type ∷ a_type ∷ a_type ∷ []) (X, (U, (P, tt))) (dcons d dnil) in let fn = inst_fn inst code.function in let closed = code.unfolded 𝓤 H 𝓜 𝓡 wired (X, (U, (P, tt))) d in let Row : RattleType = cell.the_row R V Y g in
+into_inner_spec 𝓤 𝓛 𝓜 𝓡 wired X U P K L _ _ _ g d _ =
+    let H = 𝓛.H in let 𝓣 = tables 𝓤 H 𝓜 𝓡 𝓡.env in let R : RattleType = param 0 X in let V : RattleType = param 1 U in let Y : RattleType = param 2 P in let Kr : RattleType = param 3 K in let En = ended X U P K g d in let c = clauses X U P K g d 𝓛 𝓜.mem 𝓡.returns in let E : El = record { row = X; laws = L } in
+    let inst = bounded (a_type ∷ a_type ∷ a_type ∷ a_type ∷ []) (X, (U, (P, (K, tt)))) (dcons d dnil) in let fn = inst_fn inst code.function in let closed = code.unfolded 𝓤 H 𝓜 𝓡 wired (X, (U, (P, (K, tt)))) d in let Row : RattleType = cell.the_row R V Y Kr g in
     let self = plain (λ _. Row) in let hs : Stays En.signature.params En.kept = (stay_dropped self no, tt) in let fine : (v : Val) → Good E v → T (has_ty (layout X) v && true) = λ v h. and_tt (has_ty (layout X) v) h.0 in
-    proved_at 𝓛 En hs c 𝓜 𝓡 (Goes-dropped 𝓛 3 self no (λ κs x f. refl), tt) (#self inst) fn closed (λ z are.
+    proved_at 𝓛 En hs c 𝓜 𝓡 (Goes-dropped 𝓛 4 self no (λ κs x f. refl), tt) (#self inst) fn closed (λ z are.
     let Post : Val → SProp 𝓤 = (walk_of 𝓛 En hs c).post z in let Run : List Val → SProp 𝓤 = λ ws. WpFn 𝓤 H 𝓣.C 𝓣.Λ fn ws Post in
     qed 𝓛 ((raw (alive 𝓛 En.signature z.0.0 z.0.1) ⊛ ‵ (fsep (Row.own_val z.0.3.0 z.0.4.0) ftrue)) ∷ raw ((c z.0.0 z.0.3).requires z.1) ∷ []) ∵ keep ! (0 ∷ []) $ split ! $ move ! (1 ∷ []) $ fsplit ! $ fsplit ! $ drop ! $
     fpick ! (λ known. fpick ! (λ s. fsplit ! $ move ! (1 ∷ []) $ drop ! $ fpick ! (λ vss. fsplit ! $ feq_l ! (λ ev. fsplit3 ! $ fpick ! (λ uss. fsplit ! $ feq_l ! (λ em. drop ! $ fsplit ! $ feq_l ! (λ en. flt_l ! (λ fits. fsplit ! $ fsplit ! $ feq_l ! (λ ek. flt_l ! (λ fits'. fsplit ! $

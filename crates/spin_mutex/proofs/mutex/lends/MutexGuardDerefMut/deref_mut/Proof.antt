@@ -1,27 +1,34 @@
 -- `deref_mut` lends the inner guard to its own `deref_mut`, and the guard follows what follows the inner one. Assumes `Logic`.
 use Rattle.std.proofs.Common.{◌≡◌, ℕ, ◌+◌, List, [], ◌∷◌, refl, sym, ap}
 use seplogic.Ra.Ura.{Ura}
-use mir.Syntax.{a_type, named}
+use mir.Raw.{raw as raw_type}
+use mir.Syntax.{a_type, named, ty_unit}
 use mir.Val.{Val, vptr, vunit}
 use mir.MapTy.{inst_fn}
 use lib.ListN.{get_or}
-use base.Logic.{SProp, id⊢}
-use base.Fml.{Lft, GName, Share, Fml, ftrue, fsep, flft, fobs, fbor}
+use base.Fraction.{full_share}
+use base.Logic.{SProp, emp, id⊢}
+use base.Fml.{Lft, GName, Share, Fml, Incl, ftrue, fsep, flft, fobs, fbor}
 use types.Logic.{Logic}
 use types.SemTy.{Body}
-use types.Kit.{‵, raw, ◌⊛◌, ◌$◌, ◌∵◌, !, qed, by, move, keep, drop, split, split3, join, fsplit, fsplit3, fjoin, fjoin3, feq_i, feq_l, use1, use2, use3, later, some, await, pick}
+use types.Kit.{‵, raw, ◌⊛◌, ◌$◌, ◌∵◌, !, qed, by, move, keep, drop, split, split3, join, fsplit, fsplit3, fjoin, fjoin3, feq_i, feq_l, use0, use1, use2, use3, later, some, await, pick}
 use types.Run.{stop, addr, no_more, and_then, returns, enter, fld}
 use types.ByLocal.{alloc_all, pass_all, free_all, look_at, get, through, sets, lands_as}
+use contract.BorrowLft.{⊑_static}
+use contract.Lifetimes.{Lfts, Shares}
 use contract.Running.{tables}
-use contract.Monad.{fact}
+use contract.Monad.{fact, fact_i}
 use denote.Exit.{yes, no}
 use denote.Ref.{NamedLft, MutBor, MutRef, mut_vals, mut_Tells}
 use denote.RattleType.{RattleType, owns}
 use denote.Signature.{types_at, plain, named_lft}
-use denote.Builtin.{RefMutOf}
+use denote.Builtin.{RefMutOf, unit}
 use denote.Steps.{nothing}
 use denote.Param.{param, layout, layouts, arg}
-use denote.Param.Laws.{Laws, param_laws, arg_laws}
+use denote.Param.Laws.{Laws, of_field, param_laws, arg_laws}
+use denote.Param.Shared.{copy_shared}
+use denote.Struct.Field.{unit-field}
+use denote.Struct.Laws.{unit-laws, unit-copy}
 use denote.Memory.{mem as in_memory}
 use denote.Follow.{follows, follows_then}
 use denote.Triple.Spec.{triple_of}
@@ -31,12 +38,21 @@ use borrow.Follows.Field.{HandsTo, hands_on}
 use borrow.Struct.Lend.{own_same, kept_record_as, record_fill_as, record_apart_as}
 use Rattle.core.proofs.atomic.Steps.{fm}
 use Rattle.atomic_table.proofs.Walks.{proved, leaves}
+use Rattle.spin_guard.specs.Guard.{guard_value, guard_with}
+use Rattle.spin_guard.specs.contracts.guard.Guard as Inner
+use Rattle.spin_guard.specs.contracts.guard.lends.GuardDerefMut.deref_mut as callee
+use Rattle.spin_guard.proofs.guard.lends.GuardDerefMut.deref_mut.Met.{met}
+use Rattle.spin_flag.specs.contracts.spin.rule.View as V
+use Rattle.spin_flag.specs.contracts.spin.rule.FlagRule as F
+use Rattle.spin_flag.proofs.spin.rule.View.TheLaws as VL
+use Rattle.spin_flag.proofs.spin.rule.FlagRule.TheLaws as FL
+use Rattle.spin_flag.specs.contracts.spin.rule.FlagRuleRuleView.TheImpl as rule
+use Rattle.spin_flag.specs.contracts.spin.FlagRuleUsesView.TheImpl as uses
+use Rattle.spin_flag.specs.contracts.spin.FlagRuleReleaseView.TheImpl as release
+use Rattle.spin_flag.proofs.spin.rule.FlagRuleRuleView.TheImpl.Met as rule_met
+use Rattle.spin_flag.proofs.spin.FlagRuleReleaseView.TheImpl.Met as release_met
 use Rattle.spin_mutex.specs.contracts.mutex.MutexGuard.{the_type, the_row, struct}
 use Rattle.spin_mutex.proofs.mutex.MutexGuard.TheLaws.{the_loose}
-use Rattle.spin_mutex.specs.contracts.mutex.spin.SpinMutexGuard as Inner
-use Rattle.spin_mutex.specs.contracts.mutex.spin.lends.SpinMutexGuardDerefMut.deref_mut as callee
-use Rattle.spin_mutex.proofs.mutex.spin.lends.SpinMutexGuardDerefMut.deref_mut.Met.{met}
-use Rattle.spin_mutex.specs.SpinGuard.{guard_value, guard_with}
 use Rattle.spin_mutex.specs.MutexGuard.{with_value}
 use Rattle.spin_mutex.specs.contracts.mutex.lends.MutexGuardDerefMut.deref_mut.{ended, clauses}
 use Rattle.spin_mutex.specs.contracts.mutex.lends.MutexGuardDerefMut.deref_mut.Key.{name as #self}
@@ -54,50 +70,65 @@ module _ (ℓ : NamedLft) (T S : RattleType) (LT : Laws T) (LS : Laws S) where
   G = the_row ℓ R Q
 
   abbrev pub In : RattleType
-  In = Inner.the_row ℓ R Q
+  In = Inner.the_row ℓ R V.the_row F.the_row Q unit (rule.ghosts R)
 
   abbrev pub put : G.Denot → In.Denot → G.Denot
   put h p = record { inner = p; life = h.life }
 
   module _ {M : Type 1} {𝓤 : Ura M} (𝓛 : Logic 𝓤) where
     pub hands : (h : G.Denot) → HandsTo 𝓛 G In (λ o. o + 0) h h.inner (put h)
-    hands = let t = the_type ℓ R Q in let k = the_loose ℓ R Q (param_laws 0 T LT) (param_laws 1 S LS) in let s = struct ℓ R Q in let i = Inner.the_type ℓ R Q in
+    hands = let t = the_type ℓ R Q in let k = the_loose ℓ R Q (param_laws 0 T LT) (param_laws 1 S LS) in let s = struct ℓ R Q in let i = Inner.the_type ℓ R V.the_row F.the_row Q unit (rule.ghosts R) in
         hands_on 𝓛 G In 0 (λ h. h.inner) put
         (kept_record_as t k 0 0 In (λ x. x) (λ x. x) (λ y b o. own_same i y b o) (λ y b o. sym (own_same i y b o)) s.as_values s.Ghost s.make (λ v. tt) (λ x. refl) (λ v g. refl))
         (record_fill_as t k 0 0 In (λ x. x) (λ x. x) (λ y b o. own_same i y b o) (λ y b o. sym (own_same i y b o)) s.as_values s.Ghost s.make (λ v. tt) (λ x. refl) (λ v g. refl) refl)
         (record_apart_as t k 0 0 In (λ x. x) (λ x. x) (λ y b o. own_same i y b o) (λ y b o. sym (own_same i y b o)) s.as_values s.Ghost s.make (λ v. tt) (λ x. refl) (λ v g. refl) 𝓛 refl refl)
 
 pub deref_mut_spec : {M : Type 1} → statement M
-deref_mut_spec 𝓤 𝓛 𝓜 𝓡 wired T S LT LS =
+deref_mut_spec {M} 𝓤 𝓛 𝓜 𝓡 wired T S LT LS =
     let H = 𝓛.H in let 𝓣 = tables 𝓤 H 𝓜 𝓡 𝓡.env in let R : RattleType = param 0 T in let Q : RattleType = param 1 S in
     let En = ended T S in let c = clauses T S 𝓛 𝓜.mem 𝓡.returns in let inst = layouts (a_type ∷ a_type ∷ []) (T, (S, tt)) in let fn = inst_fn inst code.function in let closed = code.unfolded 𝓤 H 𝓜 𝓡 wired (T, (S, tt)) in
     let row = plain (λ κs. the_row (named_lft 4 1 tt κs) R Q) in let self = RefMutOf (0 ∷ []) tt row (λ _. tt) in let hs : Stays En.signature.params En.kept = (stay_dropped self no, tt) in
-    let X : RattleType = arg (layout T) yes R in let Z : RattleType = arg (layout S) yes Q in
-    let called = met 𝓤 𝓛 𝓜 𝓡 (code.calls-spin_mutex::mutex::spin::lends::SpinMutexGuardDerefMut::deref_mut 𝓡.env wired) X Z (arg_laws (layout T) yes R (param_laws 0 T LT) refl) (arg_laws (layout S) yes Q (param_laws 1 S LS) refl) in
+    let X : RattleType = arg (layout T) yes R in let W : RattleType = arg (raw_type (layout V.the_row)) no V.the_row in let Y : RattleType = arg (raw_type (layout F.the_row)) no F.the_row in let Z : RattleType = arg (layout S) yes Q in let U : RattleType = arg ty_unit no unit in
+    let LX : Laws X = arg_laws (layout T) yes R (param_laws 0 T LT) refl in
+    let releases = release_met.bound 𝓡.env (code.calls-spin_flag::spin::FlagRuleReleaseView::release 𝓡.env wired) X LX M 𝓤 𝓛 𝓜 𝓡 in
+    let called = met 𝓤 𝓛 𝓜 𝓡 (code.calls-spin_guard::guard::lends::GuardDerefMut::deref_mut 𝓡.env wired) X W Y Z U LX (arg_laws (raw_type (layout V.the_row)) no V.the_row VL.the_row_laws refl)
+    (arg_laws (raw_type (layout F.the_row)) no F.the_row FL.the_row_laws refl) (arg_laws (layout S) yes Q (param_laws 1 S LS) refl) (arg_laws ty_unit no unit (of_field unit-field unit-laws refl (copy_shared unit-field unit-copy)) refl)
+    (release.ghosts X) (release.dict X) (rule.ghosts X) (rule.dict X) uses.ghosts uses.dict (record { same = releases.same; Self-Key-lives = releases.Self-Key-lives; release = releases.release })
+    (record { Self-Key-lives = (rule_met.bound 𝓡.env X LX M 𝓤 𝓛 𝓜 𝓡).Self-Key-lives }) record {} in
     proved 𝓛 En hs c 𝓜 𝓡 (Goes-spent_ref 𝓛 4 (0 ∷ []) tt row, tt) (#self inst) fn closed
     (λ κs. (mut_vals, tt)) (λ κs. (mut_Tells (named 0) κs.0 (the_row (named_lft 4 1 tt κs) R Q), tt)) (λ κs qs bounds a gh are.
     let ℓ = named_lft 4 1 tt κs in let G : RattleType = the_row ℓ R Q in let P : RattleType = In ℓ T S LT LS in let m = a.0 in let b : ℕ = m.ref_ptr.0 in let o : ℕ = m.ref_ptr.1 in let γ : GName = m.ghost_name in let h : G.Denot = m.now in
-    let κ : Lft = κs.0 in let q : Share = qs.0 in let others : Fml = fsep (flft κs.1.0 qs.1.0) (fsep (flft κs.1.1.0 qs.1.1.0) (fsep (flft κs.1.1.1.0 qs.1.1.1.0) ftrue)) in
+    let κ : Lft = κs.0 in let q : Share = qs.0 in let β : Fml = flft κs.1.0 qs.1.0 in let τ : Fml = flft κs.1.1.0 qs.1.1.0 in let u : Fml = flft κs.1.1.1.0 qs.1.1.1.0 in let σ : Fml = flft [] full_share in
     let y : (walk_of 𝓛 En hs c).Ghost = ((κs, qs, bounds, a, (vptr b o ∷ [], tt)), gh) in let Post : Val → SProp 𝓤 = (walk_of 𝓛 En hs c).post y in
-    let C = triple_of 𝓛 (callee.signature X Z) (callee.spec X Z 𝓛 𝓜.mem 𝓡.returns) in
-    qed 𝓛 (((‵ (flft κ q) ⊛ ‵ others) ⊛ ‵ (owns (types_at En.signature.params κs) a y.0.4)) ∷ raw ((c κs a).requires gh) ∷ []) ∵
-    split ! $ split ! $ move ! (2 ∷ []) $ fsplit ! $ fsplit3 ! $
-    -- [its place; its value; its borrow; nothing; κ; the others; what is required]
-    keep ! (1 ∷ 2 ∷ 4 ∷ 5 ∷ 6 ∷ []) $
+    let κs' : Lfts 7 = (κ, (κs.1.0, (κs.1.1.0, ([], ([], (κs.1.1.1.0, ([], tt))))))) in let qs' : Shares 7 = (q, (qs.1.0, (qs.1.1.0, (full_share, (full_share, (qs.1.1.1.0, (full_share, tt))))))) in
+    let C = triple_of 𝓛 (callee.signature X W Y Z U (release.ghosts X) (release.dict X) (rule.ghosts X) (rule.dict X) uses.ghosts uses.dict)
+    (callee.spec X W Y Z U (release.ghosts X) (release.dict X) (rule.ghosts X) (rule.dict X) uses.ghosts uses.dict 𝓛 𝓜.mem 𝓡.returns) in
+    qed 𝓛 (((‵ (flft κ q) ⊛ (‵ β ⊛ (‵ τ ⊛ (‵ u ⊛ ‵ ftrue)))) ⊛ ‵ (owns (types_at En.signature.params κs) a y.0.4)) ∷ raw (fact 𝓤 (Incl κs.1.1.0 T.lives)) ∷ raw (fact 𝓤 (Incl κs.1.1.1.0 S.lives)) ∷ ‵ ftrue ∷ []) ∵
+    split ! $ split ! $ move ! (1 ∷ []) $ split3 ! $ move ! (2 ∷ []) $ split ! $ move ! (5 ∷ []) $ fsplit ! $ fsplit3 ! $
+    -- [its place; its value; its borrow; nothing; u; nothing; β; τ; κ; T lives; S lives; ..]
+    keep ! (1 ∷ 2 ∷ 8 ∷ 6 ∷ 7 ∷ 4 ∷ 9 ∷ 10 ∷ []) $
     enter ! 𝓣.C 𝓣.Λ fn (vptr b o ∷ []) Post $ alloc_all ! (λ l. pass_all ! refl ((tt, tt), tt) $
     use3 𝓛 (later (some (λ (δ : GName). ‵ (fobs δ (P.coded.code h.inner)) ⊛ ‵ (fbor κ (Body (in_memory P) b (o + 0) δ)) ⊛ ‵ (flft κ q) ⊛ ‵ (follows G P γ δ (put ℓ T S LT LS h))))) (hands ℓ T S LT LS 𝓛 h κ q γ b o) $ await ! tt $ pick ! (λ δ. split ! $ move ! (1 ∷ []) $ split3 ! $
-    let m' : MutBor P.Denot = record { ref_ptr = (b, o + 0); ghost_name = δ; now = h.inner } in let yc : C.Ghost = ((κs, qs, bounds, (m', tt), (vptr b (o + 0) ∷ [], tt)), tt) in
+    let m' : MutBor P.Denot = record { ref_ptr = (b, o + 0); ghost_name = δ; now = h.inner } in
+    let yc : C.Ghost = ((κs', qs', (bounds.0, (bounds.1.0, (⊑_static κ, (⊑_static κ, (bounds.1.1.0, (bounds.1.1.1.0, tt)))))), (m', tt), (vptr b (o + 0) ∷ [], tt)), tt) in
     move ! (3 ∷ 0 ∷ []) $ feq_i ! (List Val) (mut_vals m') (mut_vals m') refl $ fjoin3 ! $ nothing ! $ move ! (1 ∷ 0 ∷ []) $ fjoin ! $
-    -- [the argument; κ; what follows; the others; what is required; ..]
-    move ! (1 ∷ 3 ∷ []) $ join ! $ join ! $ move ! (0 ∷ 2 ∷ []) $ join ! $ use1 𝓛 (raw (C.pre yc)) (id⊢ 𝓤 (C.pre yc)) $
+    -- [the argument; κ; what follows; β; τ; u; T lives; S lives; ..]
+    nothing ! $ use0 𝓛 (‵ σ) (𝓛.lfts.lft-nil full_share) $ fjoin ! $ move ! (6 ∷ 0 ∷ []) $ fjoin ! $ use0 𝓛 (‵ σ) (𝓛.lfts.lft-nil full_share) $ fjoin ! $ use0 𝓛 (‵ σ) (𝓛.lfts.lft-nil full_share) $ fjoin ! $
+    move ! (5 ∷ 0 ∷ []) $ fjoin ! $ move ! (4 ∷ 0 ∷ []) $ fjoin ! $ move ! (2 ∷ 0 ∷ []) $ fjoin ! $ join ! $
+    -- [tokens and argument; what follows; T lives; S lives; ..]
+    nothing ! $ use0 𝓛 (raw (fact 𝓤 (Incl [] U.lives))) (fact_i 𝓤 (Incl [] U.lives) (emp 𝓤) (⊑_static [])) $ join ! $ move ! (4 ∷ 0 ∷ []) $ join ! $
+    use0 𝓛 (raw (fact 𝓤 (Incl [] Y.lives))) (fact_i 𝓤 (Incl [] Y.lives) (emp 𝓤) (⊑_static [])) $ join ! $ use0 𝓛 (raw (fact 𝓤 (Incl [] W.lives))) (fact_i 𝓤 (Incl [] W.lives) (emp 𝓤) (⊑_static [])) $ join ! $
+    move ! (3 ∷ 0 ∷ []) $ join ! $ move ! (1 ∷ 0 ∷ []) $ join ! $ use1 𝓛 (raw (C.pre yc)) (id⊢ 𝓤 (C.pre yc)) $
     sets ! (addr ! (through ! refl (fld ! refl (stop !)))) refl (tt, tt) $
     calls_at ! (fm 𝓛 𝓜 𝓡) C called yc (and_then ! (get ! refl) (no_more !)) (λ v.
-    use1 𝓛 (later (some (λ (r : MutBor T.Denot). ((‵ (flft κ q) ⊛ ‵ others) ⊛ ‵ ((MutRef (named 0) κ R).own_val r (v ∷ []))) ⊛
+    use1 𝓛 (later (some (λ (r : MutBor T.Denot). ((‵ (flft κ q) ⊛ (‵ β ⊛ (‵ τ ⊛ (‵ σ ⊛ (‵ σ ⊛ (‵ u ⊛ (‵ σ ⊛ ‵ ftrue))))))) ⊛ ‵ ((MutRef (named 0) κ R).own_val r (v ∷ []))) ⊛
     some (λ (ws : Unit {0} × Unit {0}). ‵ (fsep ftrue ftrue) ⊛ (‵ (follows P R δ r.ghost_name (guard_with h.inner)) ⊛ raw (fact 𝓤 (r.now ≡ guard_value h.inner))))))) (id⊢ 𝓤 (C.post yc v)) $
     await ! tt $ pick ! (λ r. split ! $ split ! $ move ! (1 ∷ []) $ fsplit3 ! $ feq_l ! (λ e. move ! (3 ∷ []) $ pick ! (λ ws. split3 ! $ drop ! $ move ! (5 ∷ 0 ∷ []) $
     use2 𝓛 (‵ (follows G R γ r.ghost_name (with_value h))) (follows_then 𝓛 G P R (put ℓ T S LT LS h) (guard_with h.inner) γ δ r.ghost_name) $
     -- [what follows; the value; its place; its borrow; the tokens; ..]
-    move ! (2 ∷ 3 ∷ []) $ feq_i ! (List Val) (mut_vals r) (mut_vals r) refl $ fjoin3 ! $ move ! (1 ∷ 2 ∷ []) $ join ! $ nothing ! $ nothing ! $ fjoin ! $
+    move ! (4 ∷ []) $ split3 ! $ move ! (2 ∷ []) $ split3 ! $ move ! (2 ∷ []) $ split3 ! $ move ! (2 ∷ []) $ split ! $ move ! (3 ∷ 1 ∷ []) $ join ! $
+    move ! (3 ∷ 0 ∷ []) $ join ! $ move ! (5 ∷ 0 ∷ []) $ join ! $ move ! (4 ∷ 0 ∷ []) $ join ! $
+    move ! (6 ∷ 7 ∷ []) $ feq_i ! (List Val) (mut_vals r) (mut_vals r) refl $ fjoin3 ! $ move ! (5 ∷ 6 ∷ []) $ join ! $ nothing ! $ nothing ! $ fjoin ! $
     lands_as ! (ap (λ (us : List Val). get_or us 0 vunit) e) refl (tt, tt) $ returns ! (look_at ! 0 refl) $ free_all ! refl $ keep ! (3 ∷ 0 ∷ 2 ∷ 1 ∷ []) $
     by ! (leaves 𝓛 En hs c y (vptr r.ref_ptr.0 r.ref_ptr.1) r (tt, tt) (tt, tt))))))))
     )

@@ -1,0 +1,182 @@
+-- A party that has nothing in the plain lock may go: those behind it move up by one place, and nothing else changes.
+use Rattle.std.proofs.Common.{◌≡◌, ℕ, zero, suc, pred, ◌-◌, ◌==◌, Bool, true, false, not, ◌&&◌, cond, List, [], ◌∷◌, ◌++◌, map, length, filter, Some, refl, sym, ap, ◌∙◌, subst, arith, eq-eqb, ne_eqb}
+use Rattle.std.proofs.lemmas.Bool.{false≢true}
+use Rattle.std.proofs.lemmas.List.{length-map}
+use Rattle.std.proofs.lemmas.List.Sums.{sum_by-cons}
+use mathlib.Core.Logic.{dite}
+use native.Mathlib.Decide.{ℕ_discrete}
+use Rattle.spin_core.specs.Plain.{Plain, Kind, reading, upgradable, writing, Holder, holder, Ticket, ticket, same_kind, count_kind, flag_word, rw_word, fair_word, next_word, serving_word}
+use Rattle.spin_core.specs.Parties.{Entries, entries, no_entries, none_entered, first_alone_entered}
+use Rattle.spin_core.specs.Tickets.{numbered_from}
+use Rattle.spin_core.specs.Cell.{off, Rests}
+use Rattle.spin_core.specs.Views.{Part, idle, holds, queues, saw_served, starves, holds_starving, entries_of, Knows, HasPart, IsInOrder, part_at, Encodes, no_word, used_by}
+
+-- who is behind the place k moves up; and the place where it was
+abbrev up : ℕ → ℕ → ℕ
+up zero p = pred p
+up (suc k) zero = zero
+up (suc k) (suc p) = suc (up k p)
+
+abbrev back : ℕ → ℕ → ℕ
+back zero q = suc q
+back (suc k) zero = zero
+back (suc k) (suc q) = suc (back k q)
+
+up-back : (k q : ℕ) → up k (back k q) ≡ q
+up-back zero q = refl
+up-back (suc k) zero = refl
+up-back (suc k) (suc q) = ap suc (up-back k q)
+
+back-up : (k p : ℕ) → (p ≡ k → ⊥) → back k (up k p) ≡ p
+back-up zero zero ne = absurd (ne refl)
+back-up zero (suc p) ne = refl
+back-up (suc k) zero ne = refl
+back-up (suc k) (suc p) ne = ap suc (back-up k p (λ e. ne (ap suc e)))
+
+same_place : (k p q : ℕ) → (p ≡ k → ⊥) → (up k p == q) ≡ (p == back k q)
+same_place k p q ne = dite (ℕ_discrete (up k p) q)
+    (λ e. eq-eqb (up k p) q e ∙ sym (eq-eqb p (back k q) (sym (back-up k p ne) ∙ ap (back k) e)))
+    (λ other. ne_eqb (up k p) q other ∙ sym (ne_eqb p (back k q) (λ e. other (ap (up k) e ∙ up-back k q))))
+
+map-cond : {X : Type 0} (f : X → X) (b : Bool) (x : X) (xs : List X) → cond b (f x ∷ map f xs) (map f xs) ≡ map f (cond b (x ∷ xs) xs)
+map-cond f true x xs = refl
+map-cond f false x xs = refl
+
+module _ {X : Type 0} (owner : X → ℕ) (rename : X → X) (k q : ℕ) (same : (x : X) → owner (rename x) ≡ up k (owner x)) where
+  abbrev of : ℕ → List X → List X
+  of p xs = filter (λ x. owner x == p) xs
+
+  renames_one : (b : Bool) (x : X) (xs : List X) → (owner x == k) ≡ b → cond b (x ∷ of k xs) (of k xs) ≡ [] → (of k xs ≡ [] → of q (map rename xs) ≡ map rename (of (back k q) xs))
+      → cond (owner (rename x) == q) (rename x ∷ of q (map rename xs)) (of q (map rename xs)) ≡ map rename (cond (owner x == back k q) (x ∷ of (back k q) xs) (of (back k q) xs))
+  renames_one true x xs is none rest = absurd (cc (none))
+  renames_one false x xs is none rest =
+      let ne : owner x ≡ k → ⊥ = λ e. false≢true (sym is ∙ eq-eqb (owner x) k e) in
+      ap (λ b. cond b (rename x ∷ of q (map rename xs)) (of q (map rename xs))) (ap (λ j. j == q) (same x) ∙ same_place k (owner x) q ne)
+      ∙ (ap (λ ys. cond (owner x == back k q) (rename x ∷ ys) ys) (rest none) ∙ map-cond rename (owner x == back k q) x (of (back k q) xs))
+
+  -- where nobody is at k, who is at q was at the place before
+  renames : (xs : List X) → of k xs ≡ [] → of q (map rename xs) ≡ map rename (of (back k q) xs)
+  renames [] none = refl
+  renames (x ∷ xs) none = renames_one (owner x == k) x xs refl none (renames xs)
+
+abbrev holder_up : ℕ → Holder → Holder
+holder_up k h = holder (up k h.party) h.kind
+
+abbrev ticket_up : ℕ → Ticket → Ticket
+ticket_up k t = ticket (up k t.party) t.number t.entered
+
+-- the lock where all behind the place k have moved up
+abbrev pub moved_up : ℕ → Plain → Plain
+moved_up k s = record s { holders = map (holder_up k) s.holders; tickets = map (ticket_up k) s.tickets; starvers = map (up k) s.starvers }
+
+abbrev entries_up : ℕ → Entries → Entries
+entries_up k e = record { holders = map (holder_up k) e.holders; tickets = map (ticket_up k) e.tickets; starvers = map (up k) e.starvers }
+
+entries-up : (k q : ℕ) (s : Plain) → entries k s ≡ no_entries → entries q (moved_up k s) ≡ entries_up k (entries (back k q) s)
+entries-up k q s none =
+    let hs = renames (λ h. h.party) (holder_up k) k q (λ h. refl) s.holders (ap (λ e. e.holders) none) in
+    let ts = renames (λ t. t.party) (ticket_up k) k q (λ t. refl) s.tickets (ap (λ e. e.tickets) none) in
+    let qs = renames (λ p. p) (up k) k q (λ p. refl) s.starvers (ap (λ e. e.starvers) none) in
+    rw (hs, ts, qs) refl
+
+part-up : (k p : ℕ) (x : Part) → entries_up k (entries_of p x) ≡ entries_of (up k p) x
+part-up k p idle = refl
+part-up k p (holds j) = refl
+part-up k p (queues n entered) = refl
+part-up k p (saw_served n) = refl
+part-up k p starves = refl
+part-up k p holds_starving = refl
+
+-- Nothing but the names changes
+
+pub count-up : (k : ℕ) (j : Kind) (hs : List Holder) → count_kind j (map (holder_up k) hs) ≡ count_kind j hs
+count-up k j [] = refl
+count-up k j (h ∷ hs) = omega (arith, count-up k j hs, sum_by-cons (λ (g : Holder). cond (same_kind j g.kind) 1 0) h hs, sum_by-cons (λ (g : Holder). cond (same_kind j g.kind) 1 0) (holder_up k h) (map (holder_up k) hs))
+
+none_entered-up : (k : ℕ) (ts : List Ticket) → none_entered (map (ticket_up k) ts) ≡ none_entered ts
+none_entered-up k [] = refl
+none_entered-up k (t ∷ ts) = ap (λ b. not t.entered && b) (none_entered-up k ts)
+
+first_alone-up : (k : ℕ) (ts : List Ticket) → first_alone_entered (map (ticket_up k) ts) ≡ first_alone_entered ts
+first_alone-up k [] = refl
+first_alone-up k (t ∷ ts) = none_entered-up k ts
+
+numbered-up : (k n : ℕ) (ts : List Ticket) → numbered_from n ts → numbered_from n (map (ticket_up k) ts)
+numbered-up k n [] numbers = tt
+numbered-up k n (t ∷ ts) numbers = (numbers.0, numbered-up k (suc n) ts numbers.1)
+
+-- the words name nobody
+abbrev pub NamesNobody : (Plain → ℕ) → Type 0
+NamesNobody word = (k : ℕ) (s : Plain) → word (moved_up k s) ≡ word s
+
+pub flag_word-up : NamesNobody flag_word
+flag_word-up k s = length-map s.holders (holder_up k)
+
+pub fair_word-up : NamesNobody fair_word
+fair_word-up k s = omega (arith, length-map s.holders (holder_up k), length-map s.starvers (up k))
+
+pub rw_word-up : NamesNobody rw_word
+rw_word-up k s = omega (arith, count-up k reading s.holders, count-up k upgradable s.holders, count-up k writing s.holders)
+
+pub next_word-up : NamesNobody next_word
+next_word-up k s = refl
+
+pub serving_word-up : NamesNobody serving_word
+serving_word-up k s = ap (λ n. s.next - n) (length-map s.tickets (ticket_up k))
+
+pub no_word-up : NamesNobody no_word
+no_word-up k s = refl
+
+in_order-up : (k : ℕ) (s : Plain) → IsInOrder s → IsInOrder (moved_up k s)
+in_order-up k s order = record {
+  exclusive = record {
+    writer = λ some. length-map s.holders (holder_up k) ∙ order.exclusive.writer (omega (arith, count-up k writing s.holders, some));
+    one_upgradable = omega (arith, count-up k upgradable s.holders, order.exclusive.one_upgradable);
+    one_entered = first_alone-up k s.tickets ∙ order.exclusive.one_entered;
+  };
+  numbered = (
+    omega (arith, length-map s.tickets (ticket_up k), order.numbered.0),
+    subst (λ n. numbered_from n (map (ticket_up k) s.tickets)) (sym (serving_word-up k s)) (numbered-up k (serving_word s) s.tickets order.numbered.1),
+  );
+  within_limit = order.within_limit;
+  holders_fit = omega (arith, length-map s.holders (holder_up k), order.holders_fit);
+  starvers_fit = omega (arith, length-map s.starvers (up k), order.starvers_fit);
+}
+
+knows-up : (k : ℕ) (s : Plain) (x : Part) → Knows s x → Knows (moved_up k s) x
+knows-up k s idle known = tt
+knows-up k s (holds j) known = tt
+knows-up k s (queues n entered) known = tt
+knows-up k s (saw_served n) known = omega (arith, known, serving_word-up k s)
+knows-up k s starves known = tt
+knows-up k s holds_starving known = tt
+
+module _ {V : Type 0} (part : V → Part) (v : V) where
+  gone_at : (before behind : List V) → part_at part (before ++ v ∷ behind) (length before) ≡ part v
+  gone_at [] behind = refl
+  gone_at (x ∷ xs) behind = gone_at xs behind
+
+  others_at : (before behind : List V) (q : ℕ) → part_at part (before ++ v ∷ behind) (back (length before) q) ≡ part_at part (before ++ behind) q
+  others_at [] behind q = refl
+  others_at (x ∷ xs) behind zero = refl
+  others_at (x ∷ xs) behind (suc q) = others_at xs behind q
+
+  module _ (cap : ℕ) (first second : Plain → ℕ) (same_first : NamesNobody first) (same_second : NamesNobody second) where
+    -- who has nothing, and does not use the value, may go
+    pub leaves : used_by part v ≡ off → ((p : ℕ) → entries_of p (part v) ≡ no_entries) → Rests (Encodes part cap first second) (used_by part) (Some v)
+    leaves unused nothing = (
+      unused,
+      λ n m before behind is.
+          let k : ℕ = length before in let s = is.0 in
+          let none : entries k s ≡ no_entries = (is.3 k).0 ∙ (ap (entries_of k) (gone_at before behind) ∙ nothing k) in (
+            moved_up k s,
+            is.1,
+            in_order-up k s is.2,
+            λ q. subst (HasPart (moved_up k s) q) (others_at before behind q) (
+              entries-up k q s none ∙ (ap (entries_up k) (is.3 (back k q)).0 ∙ (part-up k (back k q) (part_at part (before ++ v ∷ behind) (back k q)) ∙ ap (λ p. entries_of p (part_at part (before ++ v ∷ behind) (back k q))) (up-back k q))),
+              knows-up k s (part_at part (before ++ v ∷ behind) (back k q)) (is.3 (back k q)).1,
+            ),
+            is.4 ∙ sym (same_first k s),
+            is.5 ∙ sym (same_second k s),
+          ),
+    )

@@ -1,0 +1,117 @@
+-- The kinds of play that locks share: a step on a word is allowed where it is the party's open step in the plain lock, or none.
+use Rattle.std.proofs.Common.{◌≡◌, ℕ, ◌≤◌, ◌==◌, Bool, true, if◌then◌else◌, List, [], Option, Some, None, refl, sym, ◌∙◌, subst, eq-eqb, ne_eqb}
+use mathlib.Core.Logic.{dite}
+use native.Mathlib.Decide.{ℕ_discrete}
+use prog.Atomic.{either}
+use Rattle.spin_core.specs.Plain.{Plain, Change, apply, is_open, fresh, ticket_limit}
+use Rattle.spin_core.specs.Parties.{who, apply_some, IsOpenStep, entries_after, no_entries}
+use Rattle.spin_core.specs.Cell.{Use, Way, Ways, Limits, Going, Meets, Allows, AllowsSecond, Moved, Rests, Stands, after, readers_of, writers_of, use_of, off}
+use Rattle.spin_core.specs.Views.{Part, entries_of, Knows, HasPart, IsInOrder, IsLockOf, Encodes, used_by}
+use Rattle.spin_core.proofs.Leaving.{NamesNobody, leaves}
+use Rattle.spin_core.proofs.InOrder.{in_order-kept, in_order-fresh, cap-kept}
+use Rattle.spin_core.proofs.Views.{number, part_before, own_part, lock_after}
+use Rattle.spin_core.proofs.CellViews.{came_to, missed}
+
+-- a lock over the cell: what each view is to the plain lock, the words, and that no two parties use the value who may not
+pub record Lock (V : Type 0) : Type 1 where
+  pub part : V → Part
+  pub way : Way (Unit {0})  -- of a value of any type: here one of the unit type stands for it
+  pub goes : (u v : Use) (readers : ℕ) (A : Type 0) → A → Going way u v None readers A
+  pub cap : ℕ
+  pub first : Plain → ℕ
+  pub second : Plain → ℕ
+  pub fits : (vs : List V) (s : Plain) → s.cap ≡ cap → IsInOrder s → IsLockOf part vs s → Limits way (readers_of (used_by part) vs) (writers_of (used_by part) vs)
+  pub first_names_nobody : NamesNobody first
+  pub second_names_nobody : NamesNobody second
+
+-- in the plain lock s the party p makes a step, or none, by which it becomes the new part, and after which the words are n and m
+pub record Makes (first second : Plain → ℕ) (old new : Part) (s : Plain) (p n m : ℕ) : Type 0 where
+  pub step : Option Change
+  pub is_open : IsOpenStep s p step
+  pub entries : entries_after s step (entries_of p old) ≡ entries_of p new
+  pub knows : Knows (apply_some s step) new
+  pub first_is : n ≡ first (apply_some s step)
+  pub second_is : m ≡ second (apply_some s step)
+
+module _ {V : Type 0} (lock : Lock V) where
+  open lock use {part, way, cap, first, second}
+
+  abbrev pub Holds : ℕ → ℕ → List V → Type 0
+  Holds = Encodes part cap first second
+
+  abbrev pub ways : Ways (Unit {0}) V
+  ways = (way, used_by part)
+
+  -- in each lock in which the party of the view is what that says
+  abbrev pub Each : Option V → (Plain → ℕ → Type 0) → Type 0
+  Each view P = (s : Plain) (p : ℕ) → s.cap ≡ cap → IsInOrder s → HasPart s p (part_before part view) → P s p
+
+  -- it comes to the view w
+  abbrev pub Comes : Option V → V → Plain → ℕ → ℕ → ℕ → Type 0
+  Comes view w s p n m = Makes first second (part_before part view) (part w) s p n m
+
+  pub by_step : (view : Option V) (w : V) (s : Plain) (c : Change) (n m : ℕ) → is_open s c ≡ true → entries_after s (Some c) (entries_of (who c) (part_before part view)) ≡ entries_of (who c) (part w)
+      → Knows (apply s c) (part w) → n ≡ first (apply s c) → m ≡ second (apply s c) → Comes view w s (who c) n m
+  by_step view w s c n m may becomes known e f = record { step = Some c; is_open = (refl, may); entries = becomes; knows = known; first_is = e; second_is = f }
+
+  pub by_none : (view : Option V) (w : V) (s : Plain) (p : ℕ) → entries_of p (part_before part view) ≡ entries_of p (part w) → Knows s (part w) → Comes view w s p (first s) (second s)
+  by_none view w s p same known = record { step = None; is_open = tt; entries = same; knows = known; first_is = refl; second_is = refl }
+
+  -- an exchange is one step where it finds the number that it expected, and else another
+  pub by_exchange : (view : Option V) (won lost : V) (s : Plain) (p n m expected new : ℕ) → (n ≡ expected → Comes view won s p new m) → Comes view lost s p n m
+      → (w : V) × Comes view w s p (either (n == expected) new n) m × (w ≡ (if n == expected then won else lost))
+  by_exchange view won lost s p n m expected new hit miss =
+      let G : Bool → Type 0 = λ y. (w : V) × Comes view w s p (either y new n) m × (w ≡ (if y then won else lost)) in
+      dite (ℕ_discrete n expected) (λ e. subst G (sym (eq-eqb n expected e)) (won, hit e, refl)) (λ ne. subst G (sym (ne_eqb n expected ne)) (lost, miss, refl))
+
+  after_step : (id : ℕ) (view : Option V) (vs : List V) (w : V) (s : Plain) (n m : ℕ) → Stands id view vs → s.cap ≡ cap → IsInOrder s → IsLockOf part vs s
+      → Comes view w s (number part id view vs) n m → Meets Holds ways n m (after id view vs w)
+  after_step id view vs w s n m at room order is made =
+      let new = lock_after part id view vs w s made.step at order is made.is_open made.entries made.knows in
+      let kept = in_order-kept s (number part id view vs) made.step order made.is_open in
+      let cap_is = cap-kept s made.step ∙ room in
+      ((apply_some s made.step, cap_is, kept, new, made.first_is, made.second_is), lock.fits (after id view vs w) (apply_some s made.step) cap_is kept new)
+
+  -- what a step asks besides what it says
+  abbrev Goes : ℕ → Option V → List V → V → ℕ → ℕ → Type 0
+  Goes id view vs w n m = Going way (use_of ways.1 view) (ways.1 w) None (readers_of ways.1 vs) (Meets Holds ways n m (after id view vs w))
+
+  -- a step on the first word: in each lock the party comes to a view of which this can be said
+  pub allows : (view : Option V) (f : ℕ → ℕ) (says : ℕ → V → Type 0) → Each view (λ s p. (w : V) × Comes view w s p (f (first s)) (second s) × says (first s) w) → Allows Holds ways view f says
+  allows view f says makes id n m vs meets at small =
+      let s = meets.0.0 in let made = makes s (number part id view vs) meets.0.1 meets.0.2 (own_part part id view vs s at meets.0.3) in let w : V = made.0 in
+      subst (λ j. (w : V) × Goes id view vs w (f j) m × says j w) (sym meets.0.4)
+      (subst (λ j. (w : V) × Goes id view vs w (f (first s)) j × says (first s) w) (sym meets.0.5) (
+        w,
+        lock.goes (use_of ways.1 view) (ways.1 w) (readers_of ways.1 vs) (Meets Holds ways (f (first s)) (second s) (after id view vs w))
+            (after_step id view vs w s (f (first s)) (second s) at meets.0.1 meets.0.2 meets.0.3 made.1),
+        made.2,
+      ))
+
+  -- and on the second
+  pub allows_second : (view : Option V) (f : ℕ → ℕ) (says : ℕ → V → Type 0) → Each view (λ s p. (w : V) × Comes view w s p (first s) (f (second s)) × says (second s) w) → AllowsSecond Holds ways view f says
+  allows_second view f says makes id n m vs meets at small =
+      let s = meets.0.0 in let made = makes s (number part id view vs) meets.0.1 meets.0.2 (own_part part id view vs s at meets.0.3) in let w : V = made.0 in
+      subst (λ j. (w : V) × Goes id view vs w n (f j) × says j w) (sym meets.0.5)
+      (subst (λ j. (w : V) × Goes id view vs w j (f (second s)) × says (second s) w) (sym meets.0.4) (
+        w,
+        lock.goes (use_of ways.1 view) (ways.1 w) (readers_of ways.1 vs) (Meets Holds ways (first s) (f (second s)) (after id view vs w))
+            (after_step id view vs w s (first s) (f (second s)) at meets.0.1 meets.0.2 meets.0.3 made.1),
+        made.2,
+      ))
+
+  -- a lock to which nobody has come
+  pub begins : (group ticket n m : ℕ) → ticket ≤ ticket_limit → n ≡ first (fresh cap group ticket) → m ≡ second (fresh cap group ticket) → Meets Holds ways n m []
+  begins group ticket n m within e f =
+      let s = fresh cap group ticket in let order = in_order-fresh cap group ticket within in let nobody : IsLockOf part [] s = λ p. (refl, tt) in
+      ((s, refl, order, nobody, e, f), lock.fits [] s refl order nobody)
+
+  -- a party that has nothing may go
+  pub rests : (v : V) → used_by part v ≡ off → ((p : ℕ) → entries_of p (part v) ≡ no_entries) → Rests Holds (used_by part) (Some v)
+  rests v unused nothing = leaves part v cap first second lock.first_names_nobody lock.second_names_nobody unused nothing
+
+  pub moved_rests : (view : Option V) (v : V) → Moved (λ w. w ≡ v) view → Rests Holds (used_by part) (Some v) → Rests Holds (used_by part) view
+  moved_rests view v moved may = rw (came_to view v moved) may
+
+  pub missed_rests : (view : Option V) (won lost : V) (found expected : ℕ) → Moved (λ v. v ≡ (if found == expected then won else lost)) view → (found ≡ expected → ⊥) → Rests Holds (used_by part) (Some lost) → Rests Holds (used_by part) view
+  missed_rests view won lost found expected moved ne may = rw (missed view won lost found expected moved ne) may

@@ -1,0 +1,105 @@
+-- A party's open step in the plain lock is its coming to a view in the list of views.
+use Rattle.std.proofs.Common.{◌≡◌, ℕ, zero, suc, ◌≤◌, List, [], ◌∷◌, ◌++◌, length, set, Option, Some, None, refl, sym, ap, ◌∙◌, subst, arith, eq-eqb}
+use mathlib.Core.Option.{some, some-injective, some-ne-none}
+use mathlib.Core.Logic.{dite}
+use native.Mathlib.Decide.{ℕ_discrete}
+use lib.ListN.{get_elem?}
+use Rattle.std.specs.Prelude.{slice_get}
+use Rattle.spin_core.specs.Plain.{Plain, Kind, writing, Change, releases, stops_starving, turns}
+use Rattle.spin_core.specs.Parties.{entries_after, apply_some, IsOpenStep}
+use Rattle.spin_core.specs.Cell.{Stands, after}
+use Rattle.spin_core.specs.Views.{Part, idle, holds, queues, saw_served, starves, holds_starving, entries_of, Knows, HasPart, IsInOrder, part_at, IsLockOf}
+use Rattle.spin_core.proofs.Entries.{entries-own, entries-other}
+use Rattle.spin_core.proofs.Holders.{same_kind-self}
+use Rattle.spin_core.proofs.Tickets.{serving-moves}
+
+knows-kept : (s : Plain) (p : ℕ) (step : Option Change) (x : Part) → IsInOrder s → IsOpenStep s p step → Knows s x → Knows (apply_some s step) x
+knows-kept s p None x order may known = known
+knows-kept s p (Some c) idle order may known = tt
+knows-kept s p (Some c) (holds k) order may known = tt
+knows-kept s p (Some c) (queues n entered) order may known = tt
+knows-kept s p (Some c) (saw_served n) order may known = omega (arith, known, serving-moves s c order.numbered may.1)
+knows-kept s p (Some c) starves order may known = tt
+knows-kept s p (Some c) holds_starving order may known = tt
+
+-- What a party's own steps make of what it has
+
+pub release-own : (s : Plain) (p : ℕ) (k : Kind) → entries_after s (Some (releases p k)) (entries_of p (holds k)) ≡ entries_of p idle
+release-own s p k = rw (eq-eqb p p refl, same_kind-self k) refl
+
+pub turn-own : (s : Plain) (p : ℕ) (k l : Kind) → entries_after s (Some (turns p k l)) (entries_of p (holds k)) ≡ entries_of p (holds l)
+turn-own s p k l = rw (eq-eqb p p refl, same_kind-self k) refl
+
+pub stop-own : (s : Plain) (p : ℕ) → entries_after s (Some (stops_starving p)) (entries_of p starves) ≡ entries_of p idle
+stop-own s p = rw (eq-eqb p p refl) refl
+
+pub stop_holding-own : (s : Plain) (p : ℕ) → entries_after s (Some (stops_starving p)) (entries_of p holds_starving) ≡ entries_of p (holds writing)
+stop_holding-own s p = rw (eq-eqb p p refl) refl
+
+pub release_starving-own : (s : Plain) (p : ℕ) → entries_after s (Some (releases p writing)) (entries_of p holds_starving) ≡ entries_of p starves
+release_starving-own s p = rw (eq-eqb p p refl) refl
+
+module _ {V : Type 0} (part : V → Part) where
+  -- the number of the party whose step it is
+  abbrev pub number : ℕ → Option V → List V → ℕ
+  number id None vs = length vs
+  number id (Some v) vs = id
+
+  -- what it is before the step
+  abbrev pub part_before : Option V → Part
+  part_before None = idle
+  part_before (Some v) = part v
+
+  pub part-there : (p : ℕ) (v : V) (vs : List V) → slice_get vs p ≡ Some v → part_at part vs p ≡ part v
+  part-there p v [] at = absurd (cc (at))
+  part-there zero v (x ∷ vs) at = ap part (let same : x ≡ v = cc (at) in same)
+  part-there (suc p) v (x ∷ vs) at = part-there p v vs at
+
+  pub part-beyond : (p : ℕ) (vs : List V) → length vs ≤ p → part_at part vs p ≡ idle
+  part-beyond p [] far = refl
+  part-beyond zero (v ∷ vs) far = absurd (omega (arith, far))
+  part-beyond (suc p) (v ∷ vs) far = part-beyond p vs (omega (arith, far))
+
+  at_place : (id : ℕ) (v : V) (vs : List V) → get_elem? vs id ≡ some v → part_at part vs id ≡ part v
+  at_place id v [] at = absurd (some-ne-none v (sym at))
+  at_place zero v (x ∷ vs) at = ap part (some-injective x v at)
+  at_place (suc id) v (x ∷ vs) at = at_place id v vs at
+
+  was : (id : ℕ) (view : Option V) (vs : List V) → Stands id view vs → part_at part vs (number id view vs) ≡ part_before view
+  was id None vs at = part-beyond (length vs) vs (omega arith)
+  was id (Some v) vs at = at_place id v vs at
+
+  -- the party's part becomes that of its new view, and those of the others stay
+  abbrev Moves : ℕ → List V → List V → V → ℕ → Type 0
+  Moves p vs new w q = (part_at part new p ≡ part w) × ((p ≡ q → ⊥) → part_at part new q ≡ part_at part vs q)
+
+  joins : (vs : List V) (w : V) (q : ℕ) → Moves (length vs) vs (vs ++ w ∷ []) w q
+  joins [] w zero = (refl, λ ne. absurd (ne refl))
+  joins [] w (suc q) = (refl, λ ne. refl)
+  joins (v ∷ vs) w zero = ((joins vs w zero).0, λ ne. refl)
+  joins (v ∷ vs) w (suc q) = let r = joins vs w q in (r.0, λ ne. r.1 (λ e. ne (ap suc e)))
+
+  changes : (id : ℕ) (v : V) (vs : List V) (w : V) (q : ℕ) → get_elem? vs id ≡ some v → Moves id vs (set vs id w) w q
+  changes id v [] w q at = absurd (some-ne-none v (sym at))
+  changes zero v (x ∷ vs) w zero at = (refl, λ ne. absurd (ne refl))
+  changes zero v (x ∷ vs) w (suc q) at = (refl, λ ne. refl)
+  changes (suc id) v (x ∷ vs) w zero at = ((changes id v vs w zero at).0, λ ne. refl)
+  changes (suc id) v (x ∷ vs) w (suc q) at = let r = changes id v vs w q at in (r.0, λ ne. r.1 (λ e. ne (ap suc e)))
+
+  moves : (id : ℕ) (view : Option V) (vs : List V) (w : V) (q : ℕ) → Stands id view vs → Moves (number id view vs) vs (after id view vs w) w q
+  moves id None vs w q at = joins vs w q
+  moves id (Some v) vs w q at = changes id v vs w q at
+
+  pub own_part : (id : ℕ) (view : Option V) (vs : List V) (s : Plain) → Stands id view vs → IsLockOf part vs s → HasPart s (number id view vs) (part_before view)
+  own_part id view vs s at is = subst (HasPart s (number id view vs)) (was id view vs at) (is (number id view vs))
+
+  -- a party's open step, or none, after which it is what its next view says
+  pub lock_after : (id : ℕ) (view : Option V) (vs : List V) (w : V) (s : Plain) (step : Option Change) → Stands id view vs → IsInOrder s → IsLockOf part vs s
+      → IsOpenStep s (number id view vs) step → entries_after s step (entries_of (number id view vs) (part_before view)) ≡ entries_of (number id view vs) (part w) → Knows (apply_some s step) (part w)
+      → IsLockOf part (after id view vs w) (apply_some s step)
+  lock_after id view vs w s step at order is may becomes known q =
+      let p : ℕ = number id view vs in let new : Plain = apply_some s step in let m = moves id view vs w q at in
+      dite (ℕ_discrete p q)
+      (λ e. subst (λ j. HasPart new j (part_at part (after id view vs w) j)) e (subst (HasPart new p) (sym m.0)
+      (entries-own s p step may ∙ (ap (entries_after s step) (own_part id view vs s at is).0 ∙ becomes), known)))
+      (λ ne. subst (HasPart new q) (sym (m.1 ne)) (entries-other s p q step ne may ∙ (is q).0, knows-kept s p step (part_at part vs q) order may (is q).1))

@@ -1,0 +1,73 @@
+-- The plain lock of a cell's parties: what each of them is to it, as its view says.
+use Rattle.std.specs.Prelude.{◌≡◌, ℕ, zero, suc, ◌≤◌, Bool, true, List, [], ◌∷◌, length, max}
+use Rattle.spin_core.specs.Plain.{Plain, Kind, reading, upgradable, writing, holder, ticket, ticket_limit, serving_word}
+use Rattle.spin_core.specs.Parties.{Entries, entries, no_entries, IsExclusive}
+use Rattle.spin_core.specs.Tickets.{Numbered}
+use Rattle.spin_core.specs.Cell.{Use, off, reads, writes}
+
+-- what one party is to the lock
+pub data Part : Type 0 where
+  idle : Part
+  holds : Kind → Part
+  queues : ℕ → Bool → Part  -- it has the ticket of this number, which has or hasn't entered
+  saw_served : ℕ → Part  -- it has nothing, and found this number served
+  starves : Part
+  holds_starving : Part  -- it writes, and is a starver still
+
+-- what stands in the lock under its name
+abbrev pub entries_of : ℕ → Part → Entries
+entries_of p idle = no_entries
+entries_of p (holds k) = record { holders = holder p k ∷ []; tickets = []; starvers = [] }
+entries_of p (queues n entered) = record { holders = []; tickets = ticket p n entered ∷ []; starvers = [] }
+entries_of p (saw_served n) = no_entries
+entries_of p starves = record { holders = []; tickets = []; starvers = p ∷ [] }
+entries_of p holds_starving = record { holders = holder p writing ∷ []; tickets = []; starvers = p ∷ [] }
+
+-- what it knows of the lock: the number that is served never falls
+abbrev pub Knows : Plain → Part → Type 0
+Knows s (saw_served n) = n ≤ serving_word s
+Knows s _ = Unit {0}
+
+-- how it uses the value
+abbrev pub use_of_part : Part → Use
+use_of_part (holds writing) = writes
+use_of_part (holds reading) = reads
+use_of_part (holds upgradable) = reads
+use_of_part (queues n true) = writes
+use_of_part holds_starving = writes
+use_of_part _ = off
+
+-- the party with this number is this to the lock
+abbrev pub HasPart : Plain → ℕ → Part → Type 0
+HasPart s p x = (entries p s ≡ entries_of p x) × Knows s x
+
+-- what open steps keep of every lock
+pub record IsInOrder (s : Plain) : Type 0 where
+  pub exclusive : IsExclusive s
+  pub numbered : Numbered s
+  pub within_limit : s.next ≤ ticket_limit
+  pub holders_fit : length s.holders ≤ max 1 s.cap
+  pub starvers_fit : length s.starvers ≤ s.cap
+
+module _ {V : Type 0} (part : V → Part) where
+  -- a party's number is the place of its view; there is nobody beyond
+  abbrev pub part_at : List V → ℕ → Part
+  part_at [] p = idle
+  part_at (v ∷ vs) zero = part v
+  part_at (v ∷ vs) (suc p) = part_at vs p
+
+  -- each party is to the lock what its view says, and nobody else has anything there
+  abbrev pub IsLockOf : List V → Plain → Type 0
+  IsLockOf vs s = (p : ℕ) → HasPart s p (part_at vs p)
+
+  -- each view uses the value as its part does
+  abbrev pub used_by : V → Use
+  used_by v = use_of_part (part v)
+
+  -- the two words are those of a plain lock of these parties, with this cap
+  abbrev pub Encodes : ℕ → (Plain → ℕ) → (Plain → ℕ) → ℕ → ℕ → List V → Type 0
+  Encodes cap first second n m vs = (s : Plain) × (s.cap ≡ cap) × IsInOrder s × IsLockOf vs s × (n ≡ first s) × (m ≡ second s)
+
+-- of a lock of one word, the second is 0
+abbrev pub no_word : Plain → ℕ
+no_word s = 0

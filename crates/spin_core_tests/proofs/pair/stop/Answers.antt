@@ -1,0 +1,5 @@
+use Rattle.spin_core_tests.proofs.Sharing.{stops}
+use Rattle.spin_core_tests.proofs.pair.stop.Goals as goal
+
+pub subtract-permit-requires : goal.subtract-permit-requires
+subtract-permit-requires c = rw c.requires stops

@@ -1,0 +1,47 @@
+-- The rule of a value that is made once, from a number: a small lock, which shows how parties read for good.
+use Rattle.std.specs.Prelude.{◌≡◌, ◌≢◌, ◌<◌, ◌+◌, ℕ, zero, suc, Bool, true, false, List, Option}
+use Rattle.spin_core.specs.Cell.{Use, off, reads, writes, fixes, Ways, readers_of, writers_of}
+use Rattle.spin_core_tests.specs.declared.once.View.{View}
+use Rattle.spin_core_tests.specs.declared.once.View.TheVariants.{Away, Running, Seeing}
+use Rattle.spin_core_tests.specs.declared.once.Stage.{Stage}
+use Rattle.spin_core_tests.specs.declared.once.Stage.TheVariants.{Seed, Done}
+
+-- a value that somebody reads was made from the key, and one that nobody uses is the key
+abbrev pub IsMade : ℕ → Bool → Stage → Type 0
+IsMade key true (Done value) = value ≡ key + 1
+IsMade key true (Seed seed) = ⊥
+IsMade key false (Seed seed) = seed ≡ key
+IsMade key false (Done value) = ⊥
+
+abbrev pub use_of_view : View → Use
+use_of_view Away = off
+use_of_view Running = writes
+use_of_view Seeing = reads
+
+abbrev pub once_ways : ℕ → Ways Stage View
+once_ways key = (fixes (IsMade key), use_of_view)
+
+-- the word is 0 where nobody has come, 1 while a party makes the value, and 2 where it is made
+abbrev pub Stands : ℕ → ℕ → ℕ → Type 0
+Stands zero r w = (r ≡ 0) × (w ≡ 0)
+Stands (suc zero) r w = (r ≡ 0) × (w ≡ 1)
+Stands (suc (suc zero)) r w = (0 < r) × (w ≡ 0)
+Stands _ r w = ⊥
+
+abbrev pub IsOnce : ℕ → ℕ → List View → Type 0
+IsOnce n m vs = Stands n (readers_of use_of_view vs) (writers_of use_of_view vs)
+
+-- a party that finds the value made sees it
+abbrev pub Looks : ℕ → ℕ → Option View → ℕ → View → Type 0
+Looks old new before found after = (found ≡ 2 → after ≡ Seeing) × (found ≢ 2 → after ≡ Away)
+
+-- a party that finds nothing runs
+abbrev pub Begins : ℕ → ℕ → Option View → ℕ → View → Type 0
+Begins old new before found after = (found ≡ 0 → after ≡ Running) × (found ≡ 2 → after ≡ Seeing) × (found ≢ 0 → found ≢ 2 → after ≡ Away)
+
+-- a party that ran puts the number back, or sees the value that it made
+abbrev pub PutsBack : ℕ → ℕ → Option View → ℕ → View → Type 0
+PutsBack old new before found after = after ≡ Away
+
+abbrev pub Completes : ℕ → ℕ → Option View → ℕ → View → Type 0
+Completes old new before found after = after ≡ Seeing

@@ -1,0 +1,24 @@
+-- The rule of a value that two parties at most read at a time: a small lock, which shows how parties lend the value to one another.
+use Rattle.std.specs.Prelude.{◌≡◌, ◌≤◌, ℕ, List, Option, if◌then◌else◌, ◌==◌}
+use Rattle.spin_core.specs.Cell.{Use, off, reads, lends, Ways, readers_of}
+use Rattle.spin_core_tests.specs.declared.pair.View.{View}
+use Rattle.spin_core_tests.specs.declared.pair.View.TheVariants.{Away, Reading}
+
+abbrev pub use_of_view : View → Use
+use_of_view Away = off
+use_of_view Reading = reads
+
+abbrev pub pair_ways : {X : Type 0} → Ways X View
+pair_ways = (lends, use_of_view)
+
+-- the word counts the readers
+abbrev pub IsPair : ℕ → ℕ → List View → Type 0
+IsPair n m vs = (n ≡ readers_of use_of_view vs) × (n ≤ 2)
+
+-- a party reads where it found the number that it expected
+abbrev pub Joins : ℕ → ℕ → Option View → ℕ → View → Type 0
+Joins old new before found after = after ≡ (if found == old then Reading else Away)
+
+-- a reader that goes is away
+abbrev pub Leaves : ℕ → ℕ → Option View → ℕ → View → Type 0
+Leaves old new before found after = after ≡ Away

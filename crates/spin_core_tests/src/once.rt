@@ -1,0 +1,158 @@
+//! A value that is made once, from a number: who sees it is a reader of the cell that never gives its part back.
+ghost use Rattle.std.specs.Prelude.{◌≡◌, ◌+◌, ◌<◌, IfSome, Some};
+ghost use Rattle.spin_core_tests.specs.declared.once.View.TheVariants.{Seeing};
+
+use spin_core::cell::{Cell, Permit, Play, Rule};
+
+/// What a party is to the value.
+#[derive(Clone, Copy)]
+enum View {
+    Away,
+    Running,
+    Seeing,
+}
+
+/// The value, and the number that it is made from.
+#[derive(Drop)]
+enum Stage {
+    Seed(u64),
+    Done(u64),
+}
+
+impl Rule<Stage, View> for Stage {
+    ghost use Rattle.spin_core_tests.specs.Once.{IsOnce, once_ways};
+
+    type Key = u64;
+
+    ghost holds = { IsOnce };
+
+    ghost ways = { once_ways };
+}
+
+struct Look;
+
+impl Play<View> for Look {
+    ghost use Rattle.spin_core_tests.specs.Once.{Looks};
+
+    ghost then = { Looks };
+}
+
+struct Begin;
+
+impl Play<View> for Begin {
+    ghost use Rattle.spin_core_tests.specs.Once.{Begins};
+
+    ghost then = { Begins };
+}
+
+struct PutBack;
+
+impl Play<View> for PutBack {
+    ghost use Rattle.spin_core_tests.specs.Once.{PutsBack};
+
+    ghost then = { PutsBack };
+}
+
+struct Complete;
+
+impl Play<View> for Complete {
+    ghost use Rattle.spin_core_tests.specs.Once.{Completes};
+
+    ghost then = { Completes };
+}
+
+/// The number after `seed`, once somebody has asked for it.
+#[derive(Drop)]
+struct Next {
+    cell: Cell<Stage, View, Stage>,
+}
+
+impl Next {
+    fn new(seed: u64) -> Next
+        ensures { result.cell ≡ seed }
+    {
+        Next {
+            cell: Cell::new(Stage::Seed(seed), 0, 0, &seed),
+        }
+    }
+
+    // As if somebody had asked already.
+    fn initialized(seed: u64) -> Next
+        requires { seed + 1 < 18446744073709551616 }
+        ensures { result.cell ≡ seed }
+    {
+        Next {
+            cell: Cell::new(Stage::Done(seed + 1), 2, 0, &seed),
+        }
+    }
+
+    fn get(&self) -> Option<&u64>
+        ensures { IfSome result (λ value. value.now ≡ self.now.cell + 1) }
+    {
+        let (found, permit) = self.cell.enter().load::<Look>();
+        if found == 2 {
+            return Some(made(permit));
+        }
+        permit.leave();
+        None
+    }
+
+    // Nothing where another party is at it, or where no number comes after the seed: it is put back then.
+    fn force(&self) -> Option<&u64>
+        ensures { IfSome result (λ value. value.now ≡ self.now.cell + 1) }
+    {
+        let (found, permit) = self.cell.enter().exchange::<Begin>(0, 1);
+        if found == 2 {
+            return Some(made(permit));
+        }
+        if found != 0 {
+            permit.leave();
+            return None;
+        }
+        let mut writer = permit.into_writer();
+        let next = match writer.get() {
+            Stage::Seed(seed) => seed.checked_add(1),
+            Stage::Done(_) => unreachable!(),
+        };
+        let Some(next) = next else {
+            writer.into_permit().store::<PutBack>(0).leave();
+            return None;
+        };
+        *writer.get_mut() = Stage::Done(next);
+        Some(made(writer.into_permit().store::<Complete>(2)))
+    }
+}
+
+fn made<'a>(permit: Permit<'a, Stage, View, Stage>) -> &'a u64
+    requires { permit.view ≡ Some Seeing }
+    ensures { result.now ≡ permit.entry.key + 1 }
+{
+    match permit.see() {
+        Stage::Done(value) => value,
+        Stage::Seed(_) => unreachable!(),
+    }
+}
+
+#[test]
+fn a_value_that_was_there(rt: HostRuntime) {
+    let next = Next::initialized(4);
+    assert_eq!(rt; next.get(), Some(&5));
+}
+
+#[test]
+fn a_value_that_comes(rt: HostRuntime) {
+    let next = Next::new(4);
+    assert_eq!(rt; next.get(), None);
+    assert_eq!(rt; next.force(), Some(&5));
+    assert_eq!(rt; next.get(), Some(&5));
+    let moved = next;
+    assert_eq!(rt; moved.get(), Some(&5));
+}
+
+#[test]
+fn a_number_that_is_put_back(rt: HostRuntime) {
+    let next = Next::new(u64::MAX);
+    assert_eq!(rt; next.force(), None);
+    assert_eq!(rt; next.get(), None);
+    assert_eq!(rt; next.force(), None);
+}

@@ -1,0 +1,4 @@
+//! A spinning mutex of one flag.
+#![tactic(auto)]
+
+pub mod spin;

@@ -1,0 +1,168 @@
+//! A spinning mutex of one flag.
+ghost use Rattle.std.specs.Prelude.{◌≡◌, ◌≢◌, ℕ, IsTrue, ◌↔◌, IfSome};
+ghost use Rattle.spin_core.specs.Steps.{bit};
+ghost use Rattle.spin_guard.specs.Guard.{IsHolder};
+ghost use Rattle.spin_flag.specs.Flag.{use_of_view};
+
+use self::rule::{Attempt, Look, Release};
+use spin_core::cell::{Cell, WritePermit};
+use spin_core::relax::{RelaxStrategy, Spin};
+use spin_core::step::flag;
+use spin_guard::guard;
+use spin_guard::guard::{Guard, Uses};
+use std::marker::PhantomData;
+use std::sync::Wait;
+
+mod rule;
+mod texts;
+
+pub use self::rule::{FlagRule, View};
+
+impl Uses<View> for FlagRule {
+    ghost use Rattle.spin_core.specs.Cell.{use_of};
+
+    ghost use_at = { use_of use_of_view };
+}
+
+impl<T> guard::Release<T, View> for FlagRule {
+    ghost use Rattle.std.specs.Prelude.{refl};
+
+    fn release(writer: WritePermit<'_, T, View, FlagRule>) {
+        let free = flag::unlock(true);
+        let permit = writer.into_permit();
+        permit.store::<Release>(word(free)).leave();
+    }
+
+    ghost same = { λ key view. refl };
+}
+
+// The word of a flag.
+fn word(flag: bool) -> u64
+    ensures { result ≡ bit flag }
+{
+    flag as u64
+}
+
+// The flag of a word.
+fn is_set(word: u64) -> bool
+    ensures { IsTrue result ↔ (word ≢ 0) }
+{
+    word != 0
+}
+
+/// A lock that gives one party at a time access to a value, and spins while it waits.
+#[derive(Drop)]
+pub struct SpinMutex<T, R = Spin> {
+    cell: Cell<T, View, FlagRule>,
+    strategy: PhantomData<R>,
+}
+
+/// Access to the value of a `SpinMutex`. Dropping it lets go of the lock.
+pub type SpinMutexGuard<'a, T, R = Spin> = Guard<'a, T, View, FlagRule, R>;
+
+/// A hold on a `SpinMutex` that lends no value. Only `force_unlock` spends it: dropping it frees nothing.
+pub type Held<'a, T, R = Spin> = guard::Held<'a, T, View, FlagRule, R>;
+
+impl<T, R> SpinMutex<T, R> {
+    /// An open lock.
+    pub fn new(value: T) -> Self {
+        SpinMutex {
+            cell: Cell::new(value, word(false), 0, &()),
+            strategy: PhantomData,
+        }
+    }
+
+    /// The last value, whatever the flag is.
+    pub fn into_inner(self) -> T {
+        let Self { cell, strategy: _ } = self;
+        cell.into_inner()
+    }
+
+    /// The value, whatever the flag is: nobody else has the lock.
+    pub fn get_mut(&mut self) -> &mut T {
+        self.cell.get_mut()
+    }
+
+    /// Takes the lock, or refuses where somebody holds it. It makes one exchange.
+    pub fn try_lock<'a>(&'a self) -> Option<SpinMutexGuard<'a, T, R>>
+        ensures { IfSome result (IsHolder use_of_view) }
+    {
+        let free = false;
+        let taken = flag::lock(free)?;
+        let (found, permit) = self
+            .cell
+            .enter()
+            .exchange::<Attempt>(word(free), word(taken));
+        if is_set(found) {
+            permit.leave();
+            return None;
+        }
+        Some(Guard::new(permit.into_writer()))
+    }
+
+    /// As `try_lock`. It may refuse an open lock for no reason, so repeat it; this one never does.
+    pub fn try_lock_weak<'a>(&'a self) -> Option<SpinMutexGuard<'a, T, R>>
+        ensures { IfSome result (IsHolder use_of_view) }
+    {
+        self.try_lock()
+    }
+
+    /// Whether somebody holds the lock at the moment of its one load.
+    pub fn is_locked(&self) -> bool {
+        let (found, permit) = self.cell.enter().load::<Look>();
+        permit.leave();
+        is_set(found)
+    }
+
+    /// Lets go of the lock that a guard was held on.
+    pub fn force_unlock(held: Held<'_, T, R>) {
+        held.release();
+    }
+}
+
+impl<T, R: RelaxStrategy> SpinMutex<T, R> {
+    /// Takes the lock, and relaxes while somebody holds it. Nothing is promised about when it returns.
+    pub fn lock<W: Wait>(&self, rt: &W) -> SpinMutexGuard<'_, T, R>
+        ensures { IsHolder use_of_view result }
+    {
+        match self.try_lock_weak() {
+            Some(guard) => guard,
+            None => self.wait(rt),
+        }
+    }
+
+    // Looks before each further attempt, so that waiters read a shared line and do not write it. It stands apart: inlined,
+    // it would lengthen the path of every caller that does not wait.
+    #[cold]
+    #[inline(never)]
+    fn wait<W: Wait>(&self, rt: &W) -> SpinMutexGuard<'_, T, R>
+        ensures { IsHolder use_of_view result }
+    {
+        for _ in rt.forever() {
+            if self.is_locked() {
+                R::relax(rt);
+            } else if let Some(guard) = self.try_lock_weak() {
+                return guard;
+            }
+        }
+        unreachable!()
+    }
+}
+
+/// An open lock of the default value.
+impl<T: Default, R> Default for SpinMutex<T, R> {
+    fn default() -> Self {
+        Self::new(T::default())
+    }
+}
+
+/// An open lock of the value.
+impl<T, R> From<T> for SpinMutex<T, R> {
+    fn from(value: T) -> Self {
+        Self::new(value)
+    }
+}
+
+unsafe impl<T: Send, R> Send for SpinMutex<T, R> {}
+
+unsafe impl<T: Send, R> Sync for SpinMutex<T, R> {}

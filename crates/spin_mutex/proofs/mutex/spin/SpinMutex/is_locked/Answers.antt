@@ -1,8 +1,0 @@
-use Rattle.spin_mutex.proofs.Flags.{looks, left_rests}
-use Rattle.spin_mutex.proofs.mutex.spin.SpinMutex.is_locked.Goals as goal
-
-pub load-found-requires : goal.load-found-requires
-load-found-requires g c = rw c.enter.ensures.0 looks
-
-pub leave-requires : goal.leave-requires
-leave-requires g c = left_rests c.load-found.result.1.view c.load-found.ensures.moved

@@ -1,0 +1,13 @@
+//! Tests of the mutexes, each of which is held to the same: what no contract says of them.
+#![tactic(auto)]
+
+#[cfg(test)]
+mod calls;
+#[cfg(test)]
+mod sends;
+#[cfg(test)]
+mod texts;
+#[cfg(test)]
+mod threads;
+#[cfg(test)]
+mod values;

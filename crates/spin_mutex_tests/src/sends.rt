@@ -1,0 +1,42 @@
+//! The locks are as strict as a `&mut` to their value, whatever the strategy is. These tests show the "if"; the edits
+//! of the crates show that a wider `Send` or `Sync` cannot be used.
+use spin_core::relax::Spin;
+use spin_mutex::mutex;
+use spin_mutex::mutex::{
+    Mutex, MutexGuard, SpinMutex, SpinMutexGuard, TicketMutex, TicketMutexGuard,
+};
+use std::cell::Cell;
+
+fn is_send<T: Send>() {}
+
+fn is_sync<T: Sync>() {}
+
+macro_rules! travels {
+    ($Lock:ty, $Guard:ty, $Held:ty) => {{
+        is_send::<$Lock>();
+        is_sync::<$Lock>();
+        is_send::<$Guard>();
+        is_send::<$Held>();
+        is_sync::<$Held>();
+    }};
+}
+
+fn travel<T: Send + 'static, R: 'static>() {
+    travels!(SpinMutex<T, R>, SpinMutexGuard<'static, T, R>, mutex::spin::Held<'static, T, R>);
+    travels!(TicketMutex<T, R>, TicketMutexGuard<'static, T, R>, mutex::ticket::Held<'static, T, R>);
+    travels!(Mutex<T, R>, MutexGuard<'static, T, R>, mutex::Held<'static, T, R>);
+}
+
+fn are_shared<T: Sync + 'static, R: 'static>() {
+    is_sync::<SpinMutexGuard<'static, T, R>>();
+    is_sync::<TicketMutexGuard<'static, T, R>>();
+    is_sync::<MutexGuard<'static, T, R>>();
+}
+
+#[test]
+fn travel_with_a_value_that_may(rt: HostRuntime) {
+    let _ = rt;
+    travel::<Cell<u64>, Cell<u64>>();
+    travel::<u64, Spin>();
+    are_shared::<u64, Cell<u64>>();
+}

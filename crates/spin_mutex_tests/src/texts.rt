@@ -1,0 +1,135 @@
+//! The texts as they are printed, with options too, and that a lock is left as it was.
+use spin_mutex::mutex::{Mutex, SpinMutex, TicketMutex};
+use std::fmt;
+use std::fmt::{Debug, Display, Write};
+use std::process::Abort;
+use std::test::Fail;
+
+const LOCKED: &str = "Mutex { <locked> }";
+
+fn debug_is<T: Debug>(rt: &(impl Abort + AllocGlobal), value: &T, text: &str) -> Result<(), Fail> {
+    let found = format!(in rt.alloc(); "{value:?}")?;
+    assert_eq!(rt; found.as_str(), text);
+    Ok(())
+}
+
+fn display_is<T: Display>(
+    rt: &(impl Abort + AllocGlobal),
+    value: &T,
+    text: &str,
+) -> Result<(), Fail> {
+    let found = format!(in rt.alloc(); "{value}")?;
+    assert_eq!(rt; found.as_str(), text);
+    Ok(())
+}
+
+#[test]
+fn an_open_lock_shows_its_value(rt: HostRuntime) -> Result<(), Fail> {
+    let spin: SpinMutex<u64> = SpinMutex::new(5);
+    debug_is(&rt, &spin, "Mutex { data: 5 }")?;
+    assert!(rt; !spin.is_locked());
+
+    let ticket: TicketMutex<u64> = TicketMutex::new(5);
+    debug_is(&rt, &ticket, "Mutex { data: 5 }")?;
+    assert!(rt; !ticket.is_locked());
+
+    let mutex: Mutex<u64> = Mutex::new(5);
+    debug_is(&rt, &mutex, "Mutex { data: 5 }")?;
+    assert!(rt; !mutex.is_locked());
+    Ok(())
+}
+
+#[test]
+fn a_held_lock_shows_that_it_is_held(rt: HostRuntime) -> Result<(), Fail> {
+    let spin: SpinMutex<u64> = SpinMutex::new(5);
+    let guard = spin.try_lock().expect(&rt, "open");
+    debug_is(&rt, &spin, LOCKED)?;
+    assert!(rt; spin.is_locked());
+    drop(guard);
+    assert!(rt; !spin.is_locked());
+
+    let ticket: TicketMutex<u64> = TicketMutex::new(5);
+    let guard = ticket.try_lock().expect(&rt, "open");
+    debug_is(&rt, &ticket, LOCKED)?;
+    assert!(rt; ticket.is_locked());
+    drop(guard);
+    assert!(rt; !ticket.is_locked());
+
+    let mutex: Mutex<u64> = Mutex::new(5);
+    let guard = mutex.try_lock().expect(&rt, "open");
+    debug_is(&rt, &mutex, LOCKED)?;
+    assert!(rt; mutex.is_locked());
+    drop(guard);
+    assert!(rt; !mutex.is_locked());
+    Ok(())
+}
+
+#[test]
+fn a_guard_prints_as_its_value(rt: HostRuntime) -> Result<(), Fail> {
+    let spin: SpinMutex<&str> = SpinMutex::new("a");
+    let guard = spin.try_lock().expect(&rt, "open");
+    debug_is(&rt, &guard, "\"a\"")?;
+    display_is(&rt, &guard, "a")?;
+
+    let ticket: TicketMutex<&str> = TicketMutex::new("a");
+    let guard = ticket.try_lock().expect(&rt, "open");
+    debug_is(&rt, &guard, "\"a\"")?;
+    display_is(&rt, &guard, "a")?;
+
+    let mutex: Mutex<&str> = Mutex::new("a");
+    let guard = mutex.try_lock().expect(&rt, "open");
+    debug_is(&rt, &guard, "\"a\"")?;
+    display_is(&rt, &guard, "a")
+}
+
+#[test]
+fn options_go_to_the_value(rt: HostRuntime) -> Result<(), Fail> {
+    let lock: Mutex<u64> = Mutex::new(5);
+    let text = format!(in rt.alloc(); "{lock:3?}")?;
+    assert_eq!(rt; text.as_str(), "Mutex { data:   5 }");
+    let guard = lock.try_lock().expect(&rt, "open");
+    let text = format!(in rt.alloc(); "{guard:<3?}|{guard:>3}|{lock:30?}")?;
+    assert_eq!(rt; text.as_str(), "5  |  5|Mutex { <locked> }");
+    let nested: Mutex<Option<u64>> = Mutex::new(Some(5));
+    let text = format!(in rt.alloc(); "{nested:#?}")?;
+    assert_eq!(rt; text.as_str(), "Mutex { data: Some(\n    5,\n) }");
+    Ok(())
+}
+
+/// A writer that takes `room` pieces, and counts those at which the lock was open.
+#[derive(Drop)]
+struct Watch<'a> {
+    lock: &'a SpinMutex<u64>,
+    room: u32,
+    at_open: u32,
+}
+
+impl Write for Watch<'_> {
+    fn write_str(&mut self, _text: &str) -> fmt::Result {
+        if !self.lock.is_locked() {
+            self.at_open = self.at_open.saturating_add(1);
+        }
+        self.room = self.room.checked_sub(1).ok_or(fmt::Error)?;
+        Ok(())
+    }
+}
+
+#[test]
+fn a_lock_is_held_while_it_is_written(rt: HostRuntime) {
+    let lock = SpinMutex::new(5);
+    for (room, wanted) in [
+        (3, Ok(())),
+        (2, Err(fmt::Error)),
+        (1, Err(fmt::Error)),
+        (0, Err(fmt::Error)),
+    ] {
+        let mut watch = Watch {
+            lock: &lock,
+            room,
+            at_open: 0,
+        };
+        assert!(rt; write!(watch, "{lock:?}") == wanted);
+        assert_eq!(rt; watch.at_open, 0);
+        assert!(rt; !lock.is_locked());
+    }
+}

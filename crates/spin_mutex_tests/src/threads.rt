@@ -1,0 +1,92 @@
+//! Threads take turns, and a guard may end in another thread than the one that took it.
+use spin_core::relax::{RelaxStrategy, Yield};
+use spin_mutex::mutex::{Mutex, SpinMutex, TicketMutex};
+use std::sync::Wait;
+use std::thread;
+use std::thread::Threads;
+
+/// A strategy of a user's own.
+struct Patient;
+
+impl RelaxStrategy for Patient {
+    fn relax<W: Wait>(rt: &W) {
+        Yield::relax(rt);
+        Yield::relax(rt);
+    }
+}
+
+/// A sum under a lock.
+trait Sum {
+    /// Adds 1, in a hold of the lock.
+    fn add<R: Wait>(&self, rt: &R);
+}
+
+impl Sum for SpinMutex<u64, Patient> {
+    fn add<R: Wait>(&self, rt: &R) {
+        let mut sum = self.lock(rt);
+        *sum = sum.wrapping_add(1);
+    }
+}
+
+impl Sum for TicketMutex<u64, Patient> {
+    fn add<R: Wait>(&self, rt: &R) {
+        let mut sum = self.lock(rt);
+        *sum = sum.wrapping_add(1);
+    }
+}
+
+impl Sum for Mutex<u64, Patient> {
+    fn add<R: Wait>(&self, rt: &R) {
+        let mut sum = self.lock(rt);
+        *sum = sum.wrapping_add(1);
+    }
+}
+
+fn add_often<S: Sum, R: Wait>(rt: &R, sum: &S) {
+    for _ in 0..1000 {
+        sum.add(rt);
+    }
+}
+
+fn add_in_three<S: Sum + Sync, R: Threads + Wait + Sync>(rt: &R, sum: &S) {
+    let others = || {
+        thread::join(rt, || add_often(rt, sum), || add_often(rt, sum));
+    };
+    thread::join(rt, || add_often(rt, sum), others);
+}
+
+fn add_in_six<S: Sum + Sync, R: Threads + Wait + Sync>(rt: &R, sum: &S) {
+    thread::join(rt, || add_in_three(rt, sum), || add_in_three(rt, sum));
+}
+
+#[test]
+fn six_threads_lose_no_addition(rt: HostRuntime) {
+    let lock = SpinMutex::new(0);
+    add_in_six(&rt, &lock);
+    assert_eq!(rt; lock.into_inner(), 6000);
+    let lock = TicketMutex::new(0);
+    add_in_six(&rt, &lock);
+    assert_eq!(rt; lock.into_inner(), 6000);
+    let lock = Mutex::new(0);
+    add_in_six(&rt, &lock);
+    assert_eq!(rt; lock.into_inner(), 6000);
+}
+
+macro_rules! lets_its_guard_travel {
+    ($rt:expr, $Lock:ident) => {{
+        let lock: $Lock<u64> = $Lock::new(1);
+        let mut guard = lock.lock(&$rt);
+        let write = move || {
+            *guard = 3;
+        };
+        thread::join(&$rt, write, || ());
+        assert_eq!($rt; *lock.try_lock().expect(&$rt, "open"), 3);
+    }};
+}
+
+#[test]
+fn a_guard_may_end_in_another_thread(rt: HostRuntime) {
+    lets_its_guard_travel!(rt, SpinMutex);
+    lets_its_guard_travel!(rt, TicketMutex);
+    lets_its_guard_travel!(rt, Mutex);
+}

@@ -1,0 +1,36 @@
+-- The queue of a lock of tickets: as a plain lock, and by the numbers of its parties.
+use Rattle.std.specs.Prelude.{◌≡◌, ℕ, ◌<◌, ◌≤◌, Bool, true, false, List, [], ◌∷◌, length, Some, filter, slice_get, count_by, ◌==◌}
+use Rattle.spin_core.specs.Plain.{Plain, Ticket, ticket, ticket_limit, next_word, serving_word}
+use Rattle.spin_core.specs.Parties.{first_alone_entered}
+use Rattle.spin_core.specs.Tickets.{Numbered}
+use Rattle.spin_ticket.specs.declared.ticket.rule.View.{View}
+use Rattle.spin_ticket.specs.declared.ticket.rule.View.TheVariants.{Waiting, Entered}
+
+-- what a party stands with
+abbrev pub tickets_of : ℕ → View → List Ticket
+tickets_of id (Waiting n) = ticket id n false ∷ []
+tickets_of id (Entered n) = ticket id n true ∷ []
+tickets_of id _ = []
+
+-- the words are those of this plain lock, in which each party has just the ticket that its view names, and nobody else has any
+pub record IsPlainQueue (s : Plain) (next serving : ℕ) (vs : List View) : Type 0 where
+  pub next_is : next ≡ next_word s
+  pub serving_is : serving ≡ serving_word s
+  pub numbered : Numbered s
+  pub one_entered : first_alone_entered s.tickets ≡ true
+  pub parties : (id : ℕ) (v : View) → slice_get vs id ≡ Some v → filter (λ t. t.party == id) s.tickets ≡ tickets_of id v
+  pub nobody_else : (id : ℕ) → length vs ≤ id → filter (λ t. t.party == id) s.tickets ≡ []
+
+abbrev pub stands_with : ℕ → View → Bool
+stands_with t (Waiting n) = n == t
+stands_with t (Entered n) = n == t
+stands_with t _ = false
+
+-- one party stands with each number from the one that is served up to the next, and only that of the served one has entered
+pub record IsInTurn (next serving : ℕ) (vs : List View) : Type 0 where
+  pub in_order : serving ≤ next
+  pub within_limit : next ≤ ticket_limit
+  pub one_each : (t : ℕ) → serving ≤ t → t < next → count_by (stands_with t) vs ≡ 1
+  pub none_served : (t : ℕ) → t < serving → count_by (stands_with t) vs ≡ 0
+  pub none_untaken : (t : ℕ) → next ≤ t → count_by (stands_with t) vs ≡ 0
+  pub in_turn : (id t : ℕ) → slice_get vs id ≡ Some (Entered t) → t ≡ serving
