@@ -8,8 +8,10 @@ use std::sync;
 use std::sync::Wait;
 use std::sync::atomic::{AtomicU64, Ordering};
 
+mod seated;
 mod world;
 
+pub use seated::Seated;
 pub use world::{Play, Plays};
 
 /// Something that can be done over and over, also by threads beside one another.

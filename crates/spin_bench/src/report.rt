@@ -1,5 +1,5 @@
 //! What the program does and writes.
-use crate::case::{Case, Floor, Plays};
+use crate::case::{Case, Floor, Plays, Seated};
 use crate::measure::measure;
 use crate::size::SIZES;
 use crate::team::{Until, run};
@@ -70,6 +70,7 @@ fn on_name<R: Threads + Wait + Clock + Print + Sync>(
         Name::SpinMutex => on_case(rt, alloc, task, name, SpinMutex::new(0u64), threads),
         Name::Mutex => on_case(rt, alloc, task, name, Mutex::new(0u64), threads),
         Name::TicketMutex => on_case(rt, alloc, task, name, TicketMutex::new(0u64), threads),
+        Name::SeatedMutex => on_case(rt, alloc, task, name, Seated::new(alloc)?, threads),
         Name::StdMutex => on_case(rt, alloc, task, name, sync::Mutex::new(0u64), threads),
         Name::World => {
             let turns = match task {

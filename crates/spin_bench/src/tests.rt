@@ -1,5 +1,5 @@
 //! What no contract says: that each case does all that it is asked for, and that a measure is taken.
-use crate::case::{Case, Floor, Plays};
+use crate::case::{Case, Floor, Plays, Seated};
 use crate::measure::measure;
 use crate::size::SIZES;
 use crate::team::{Until, run};
@@ -40,6 +40,7 @@ fn does_each_case(rt: HostRuntime) -> Result<(), Fail> {
         leaves(&rt, rt.alloc(), TicketMutex::new(0u64), threads, calls);
         leaves(&rt, rt.alloc(), sync::Mutex::new(0u64), threads, calls);
     }
+    leaves(&rt, rt.alloc(), Seated::new(rt.alloc())?, 1, 500);
     // Four parties take two turns each, and none of their six moves is passed over.
     let plays: Plays<Flag<u64>> = Plays::new(rt.alloc(), 8)?;
     assert_eq!(rt; plays.weight(), 48);

@@ -12,16 +12,18 @@ pub enum Name {
     SpinMutex,
     Mutex,
     TicketMutex,
+    SeatedMutex,
     StdMutex,
     World,
 }
 
 /// Every case.
-pub const NAMES: [Name; 6] = [
+pub const NAMES: [Name; 7] = [
     Name::Floor,
     Name::SpinMutex,
     Name::Mutex,
     Name::TicketMutex,
+    Name::SeatedMutex,
     Name::StdMutex,
     Name::World,
 ];
@@ -36,6 +38,7 @@ impl Name {
             Name::SpinMutex => "spin_mutex",
             Name::Mutex => "mutex",
             Name::TicketMutex => "ticket_mutex",
+            Name::SeatedMutex => "seated_mutex",
             Name::StdMutex => "std_mutex",
             Name::World => "world",
         }
@@ -51,6 +54,7 @@ impl Name {
             "spin_mutex" => Some(Name::SpinMutex),
             "mutex" => Some(Name::Mutex),
             "ticket_mutex" => Some(Name::TicketMutex),
+            "seated_mutex" => Some(Name::SeatedMutex),
             "std_mutex" => Some(Name::StdMutex),
             "world" => Some(Name::World),
             _ => None,
@@ -62,7 +66,7 @@ impl Name {
         ensures { result ≡ most_threads_of self }
     {
         match self {
-            Name::World => 1,
+            Name::World | Name::SeatedMutex => 1,
             _ => 64,
         }
     }

@@ -1,0 +1,70 @@
+//! A lock whose one caller knows what it did.
+ghost use Rattle.std.specs.Prelude.{◌≡◌, Some};
+ghost use Rattle.spin_seated.specs.Passes.{IsPassOf};
+ghost use Rattle.spin_seated.specs.Turns.{away, turn_of};
+
+use super::Case;
+use spin_seated::adding::add;
+use spin_seated::mutex::{Pass, SeatedMutex};
+use std::alloc::{AllocError, Global};
+use std::sync;
+use std::sync::Wait;
+
+/// A lock with a pass of its own.
+#[derive(Drop)]
+struct Caller {
+    lock: SeatedMutex,
+    pass: Pass,
+    ghost own: { IsPassOf lock pass },
+    ghost turn: { turn_of pass.known ≡ Some away },
+}
+
+impl Caller {
+    /// Takes the lock, adds 1 and lets go, so many times.
+    #[inline(never)]
+    fn add_times(&mut self, times: u64) {
+        let Caller { lock, pass } = self;
+        for _ in 0..times {
+            add(lock, pass);
+        }
+    }
+}
+
+/// A `SeatedMutex` with its one caller. A thread takes the caller once, and makes all its calls with it.
+#[derive(Drop)]
+pub struct Seated {
+    caller: sync::Mutex<Caller>,
+}
+
+impl Seated {
+    pub fn new(alloc: Global) -> Result<Seated, AllocError> {
+        let (lock, mut passes) = SeatedMutex::new(alloc, 0, 1)?;
+        let Some(pass) = passes.pop() else {
+            unreachable!()
+        };
+        Ok(Seated {
+            caller: sync::Mutex::new(Caller { lock, pass }),
+        })
+    }
+}
+
+impl Case for Seated {
+    ghost weight = { λ _. 1 };
+
+    fn repeat<W: Wait>(&self, rt: &W, times: u64) -> Result<(), AllocError> {
+        self.caller.lock(rt).add_times(times);
+        Ok(())
+    }
+
+    fn weight(&self) -> u64 {
+        1
+    }
+
+    /// The value, where the lock is free.
+    fn checksum(self) -> Result<u64, AllocError> {
+        let Seated { caller } = self;
+        let Caller { lock, mut pass } = caller.into_inner();
+        let granted = lock.try_lock(&mut pass);
+        Ok(if granted { lock.read(&mut pass) } else { 0 })
+    }
+}

@@ -1,0 +1,107 @@
+-- Histories that grow.
+use Rattle.std.proofs.Common.{◌≡◌, ℕ, ◌<◌, ◌≢◌, ◌==◌, Bool, true, false, if◌then◌else◌, List, [], ◌∷◌, ◌++◌, refl, sym, ap, ◌∙◌, append_assoc, append-nil, length, length-append, eq-eqb, ne_eqb, subst, arith}
+use Rattle.std.proofs.lemmas.Bool.{false≢true}
+use Rattle.std.proofs.lemmas.List.{append_cancel_right}
+use Rattle.spin_seated.specs.declared.history.Entry.{Entry}
+use Rattle.spin_seated.specs.declared.history.Known.{Known}
+use Rattle.spin_seated.specs.Histories.{Machine, BeginsWith, entry, calls_by, after, state, IsLegalFrom, IsLegal, Made}
+
+module _ {X : Type 0} where
+  pub begins_here : (xs : List X) → BeginsWith xs xs
+  begins_here xs = record { rest = []; is = sym (append-nil xs) }
+
+  pub begins_longer : (xs ys zs : List X) → BeginsWith xs ys → BeginsWith (xs ++ zs) ys
+  begins_longer xs ys zs b = record { rest = b.rest ++ zs; is = ap (λ (l : List X). l ++ zs) b.is ∙ append_assoc ys b.rest zs }
+
+  nothing_more : (xs ys : List X) → xs ++ ys ≡ xs → ys ≡ []
+  nothing_more xs [] same = refl
+  nothing_more xs (y ∷ ys) same = absurd (omega (arith, length-append xs (y ∷ ys), ap length same))
+
+  no_length : (xs : List X) → length xs ≡ 0 → xs ≡ []
+  no_length [] none_left = refl
+  no_length (x ∷ xs) some_left = absurd (omega arith)
+
+module _ {C A : Type 0} where
+  joined : (b : Bool) (e : Entry C A) (xs ys zs : List (Entry C A)) → zs ≡ xs ++ ys → (if b then e ∷ zs else zs) ≡ (if b then e ∷ xs else xs) ++ ys
+  joined true e xs ys zs is = ap (λ (l : List (Entry C A)). e ∷ l) is
+  joined false e xs ys zs is = is
+
+  pub calls_by-append : (p : ℕ) (xs ys : List (Entry C A)) → calls_by p (xs ++ ys) ≡ calls_by p xs ++ calls_by p ys
+  calls_by-append p [] ys = refl
+  calls_by-append p (e ∷ es) ys = joined (e.pass == p) e (calls_by p es) (calls_by p ys) (calls_by p (es ++ ys)) (calls_by-append p es ys)
+
+  pub calls_by-own : (p : ℕ) (c : C) (a : A) → calls_by p (entry p c a ∷ []) ≡ entry p c a ∷ []
+  calls_by-own p c a = ap (λ (b : Bool). if b then entry p c a ∷ [] else []) (eq-eqb p p refl)
+
+  pub calls_by-other : (p q : ℕ) (c : C) (a : A) → q ≢ p → calls_by p (entry q c a ∷ []) ≡ []
+  calls_by-other p q c a apart = ap (λ (b : Bool). if b then entry q c a ∷ [] else []) (ne_eqb q p apart)
+
+  -- where a history has no more of a pass's calls than its beginning, neither has what lies between
+  pub none_between : (p : ℕ) (all mid first : List (Entry C A)) → BeginsWith all mid → BeginsWith mid first → calls_by p all ≡ calls_by p first → calls_by p mid ≡ calls_by p first
+  none_between p all mid first more some same =
+      let one : calls_by p mid ≡ calls_by p first ++ calls_by p some.rest = ap (calls_by p) some.is ∙ calls_by-append p first some.rest in
+      let two : calls_by p all ≡ calls_by p mid ++ calls_by p more.rest = ap (calls_by p) more.is ∙ calls_by-append p mid more.rest in
+      let none_left : calls_by p some.rest ≡ [] = no_length (calls_by p some.rest)
+      (omega (arith, ap length one, ap length two, ap length same, length-append (calls_by p first) (calls_by p some.rest), length-append (calls_by p mid) (calls_by p more.rest))) in
+      one ∙ (ap (λ (l : List (Entry C A)). calls_by p first ++ l) none_left ∙ append-nil (calls_by p first))
+
+module _ {K S C A : Type 0} (m : Machine K S C A) where
+  pub after-append : (s : S) (xs ys : List (Entry C A)) → after m s (xs ++ ys) ≡ after m (after m s xs) ys
+  after-append s [] ys = refl
+  after-append s (e ∷ es) ys = after-append (m.next e.pass e.call s) es ys
+
+  pub legal-append : (n : ℕ) (s : S) (xs ys : List (Entry C A)) → IsLegalFrom m n s xs → IsLegalFrom m n (after m s xs) ys → IsLegalFrom m n s (xs ++ ys)
+  legal-append n s [] ys first rest = rest
+  legal-append n s (e ∷ es) ys first rest = (first.0, first.1, first.2, legal-append n (m.next e.pass e.call s) es ys first.3 rest)
+
+  -- a legal history in two parts
+  pub legal-split : (n : ℕ) (s : S) (xs ys : List (Entry C A)) → IsLegalFrom m n s (xs ++ ys) → IsLegalFrom m n s xs × IsLegalFrom m n (after m s xs) ys
+  legal-split n s [] ys legal = (tt, legal)
+  legal-split n s (e ∷ es) ys legal = let two = legal-split n (m.next e.pass e.call s) es ys legal.3 in ((legal.0, legal.1, legal.2, two.0), two.1)
+
+  -- what a call of another pass leaves as it is, calls of others leave as it is
+  module _ (H : S → Bool) (p : ℕ) (steady : (q : ℕ) (d : C) (s : S) → q ≢ p → H (m.next q d s) ≡ H s) where
+    passed_by : (s : S) (e : Entry C A) (es : List (Entry C A)) (b : Bool) → (e.pass == p) ≡ b → (if b then e ∷ calls_by p es else calls_by p es) ≡ []
+        → (calls_by p es ≡ [] → H (after m (m.next e.pass e.call s) es) ≡ H (m.next e.pass e.call s)) → H (after m (m.next e.pass e.call s) es) ≡ H s
+    passed_by s e es true own alone rest = absurd (cc alone)
+    passed_by s e es false other alone rest = rest alone ∙ steady e.pass e.call s (λ same. false≢true (sym other ∙ eq-eqb e.pass p same))
+
+    pub stands : (s : S) (log : List (Entry C A)) → calls_by p log ≡ [] → H (after m s log) ≡ H s
+    stands s [] alone = refl
+    stands s (e ∷ es) alone = passed_by s e es (e.pass == p) refl alone (stands (m.next e.pass e.call s) es)
+
+    pub stands_on : (k : K) (log seen : List (Entry C A)) → BeginsWith log seen → calls_by p log ≡ calls_by p seen → H (state m k log) ≡ H (state m k seen)
+    stands_on k log seen begins own =
+        let alone : calls_by p begins.rest ≡ [] = nothing_more (calls_by p seen) (calls_by p begins.rest) (sym (calls_by-append p seen begins.rest) ∙ (ap (calls_by p) (sym begins.is) ∙ own)) in
+        ap (λ (l : List (Entry C A)). H (state m k l)) begins.is ∙ (ap H (after-append (m.start k) seen begins.rest) ∙ stands (state m k seen) begins.rest alone)
+
+  -- where a call stands: what came before it, and what the call found and left there
+  pub record MadeAt (x : Known K C A) (c : C) (a : A) (y : Known K C A) : Type 0 where
+    pub before : List (Entry C A)
+    pub history : y.seen ≡ before ++ entry x.pass c a ∷ []
+    pub begins : BeginsWith before x.seen
+    pub own : calls_by x.pass before ≡ calls_by x.pass x.seen
+    pub legal : IsLegal m x.opening before
+    pub given : x.pass < m.passes x.opening
+    pub may : m.may x.pass c (state m x.opening before) ≡ true
+    pub answer : a ≡ m.answer x.pass c (state m x.opening before)
+    pub left : state m y.opening y.seen ≡ m.next x.pass c (state m x.opening before)
+
+  pub made_at : (x : Known K C A) (c : C) (a : A) (y : Known K C A) → Made m x c a y → MadeAt x c a y
+  made_at x c a y made =
+      let before : List (Entry C A) = x.seen ++ made.between in
+      let last : List (Entry C A) = entry x.pass c a ∷ [] in
+      let own : calls_by x.pass before ++ last ≡ calls_by x.pass x.seen ++ last =
+      ap (λ (l : List (Entry C A)). calls_by x.pass before ++ l) (sym (calls_by-own x.pass c a)) ∙ (sym (calls_by-append x.pass before last) ∙ (ap (calls_by x.pass) (sym made.history) ∙ made.own)) in
+      let two = legal-split (m.passes x.opening) (m.start x.opening) before last (subst (IsLegal m x.opening) made.history made.legal) in
+      record {
+        before = before;
+        history = made.history;
+        begins = record { rest = made.between; is = refl };
+        own = append_cancel_right (calls_by x.pass before) (calls_by x.pass x.seen) last own;
+        legal = two.0;
+        given = two.1.0;
+        may = two.1.1;
+        answer = two.1.2;
+        left = ap (λ (k : K). state m k y.seen) made.opening ∙ (ap (state m x.opening) made.history ∙ after-append (m.start x.opening) before last);
+      }

@@ -1,0 +1,224 @@
+-- The table's rule under each step: a call, a look of two passes at one history, and how seats come and go.
+use Rattle.std.proofs.Common.{◌≡◌, ℕ, zero, suc, ◌+◌, ◌≤◌, ◌<◌, ◌≢◌, ◌==◌, ⊎_elim, Bool, true, false, cond, List, [], ◌∷◌, ◌++◌, map, take, drop, slice_index, slice_set, set, Option, Some, None, refl, sym, ap, subst, ◌∙◌, append-nil, eq-eqb, eqb-true, arith}
+use Rattle.std.specs.List.{range_with_len}
+use Rattle.std.proofs.lemmas.List.{set-get_or}
+use mathlib.Core.Option.{some, some-injective, some-ne-none}
+use lib.ListN.{get_elem?}
+use Rattle.atomic_table.specs.Table.{State, Step, Me, Act, keeps, Valid, Allows, Splits, Joins, opening, stepped, carried_after}
+use Rattle.atomic_table.proofs.Lists.{at_set, at_snoc, set_again, set_else}
+use Rattle.spin_seated.specs.declared.history.Entry.{Entry}
+use Rattle.spin_seated.specs.declared.history.Known.{Known}
+use Rattle.spin_seated.specs.Histories.{Machine, entry, calls_by, newcomer, names, total, One, state, IsLegal, Made, Met, Fits, AllFit, Kept, all_passes, Turned, Tells, Shows, Owed, Owes}
+use Rattle.spin_seated.proofs.Totals.{total-append, total-set, two_at_most}
+use Rattle.spin_seated.proofs.Histories.{begins_here, begins_longer, calls_by-append, calls_by-own, calls_by-other, after-append, legal-append}
+
+module _ {K C A : Type 0} where
+  -- the same pass, with this history
+  abbrev pub knowing : Known K C A → List (Entry C A) → Known K C A
+  knowing x log = record x { seen = log }
+
+  names-self : (x : Known K C A) → names x.pass (x ∷ []) ≡ 1
+  names-self x = let e = ap {B = ℕ} (λ (b : Bool). cond b 1 0) (eq-eqb x.pass x.pass refl) in omega arith
+
+  not_named : (x : Known K C A) (xs : List (Known K C A)) (p : ℕ) → names p (x ∷ xs) ≡ 0 → (p ≢ x.pass) × (names p xs ≡ 0)
+  not_named x xs p zero_times = ((λ same. let e = ap {B = ℕ} (λ (b : Bool). cond b 1 0) (eq-eqb x.pass p (sym same)) in omega arith), omega arith)
+
+  names-cut : (p : ℕ) (v : List (Known K C A)) → names p (drop 1 v) + names p (take 1 v) ≡ names p v
+  names-cut p [] = refl
+  names-cut p (x ∷ xs) = omega arith
+
+module _ {K S C A : Type 0} (m : Machine K S C A) where
+  -- the history of all, and what each seat knows after it has gone on by one call
+  module _ (k : K) (log : List (Entry C A)) where
+    stays : (x : Known K C A) (p : ℕ) (c : C) (a : A) → p ≢ x.pass → Fits m k log x → Fits m k (log ++ entry p c a ∷ []) x
+    stays x p c a apart fits =
+        record {
+          opening = fits.opening;
+          given = fits.given;
+          begins = begins_longer log x.seen (entry p c a ∷ []) fits.begins;
+          own = calls_by-append x.pass log (entry p c a ∷ []) ∙ (ap (λ (l : List (Entry C A)). calls_by x.pass log ++ l) (calls_by-other x.pass p c a apart) ∙ (append-nil (calls_by x.pass log) ∙ fits.own));
+        }
+
+    all_stay : (p : ℕ) (c : C) (a : A) (v : List (Known K C A)) → names p v ≡ 0 → AllFit m k log v → AllFit m k (log ++ entry p c a ∷ []) v
+    all_stay p c a [] absent fits = tt
+    all_stay p c a (x ∷ xs) absent fits = let apart = not_named x xs p absent in (stays x p c a apart.0 fits.0, all_stay p c a xs apart.1 fits.1)
+
+    knows : (x : Known K C A) → Fits m k log x → Fits m k log (knowing x log)
+    knows x fits = record { opening = fits.opening; given = fits.given; begins = begins_here log; own = refl }
+
+    meets : (x : Known K C A) → x.opening ≡ k → IsLegal m k log → Fits m k log x → Met m x log (knowing x log)
+    meets x is legal fits =
+        record { opening = refl; pass = refl; history = refl; begins = fits.begins; own = fits.own; legal = subst (λ (o : K). IsLegal m o log) (sym is) legal }
+
+    fit-append : (v w : List (Known K C A)) → AllFit m k log v → AllFit m k log w → AllFit m k log (v ++ w)
+    fit-append [] w fv fw = fw
+    fit-append (x ∷ xs) w fv fw = (fv.0, fit-append xs w fv.1 fw)
+
+    fit-cut : (v : List (Known K C A)) → AllFit m k log v → AllFit m k log (drop 1 v) × AllFit m k log (take 1 v)
+    fit-cut [] fits = (tt, tt)
+    fit-cut (x ∷ xs) fits = (fits.1, (fits.0, tt))
+
+  -- a seat of one pass steps, where the rule holds
+  module _ {X : Type 0} (x : Known K C A) (id i : ℕ) (f : ℕ → ℕ) (s : State X (List (Known K C A))) (kept : Kept m x.opening s) (at : get_elem? s.views id ≡ some (x ∷ [])) where
+    abbrev own_fits : Fits m x.opening kept.log x
+    own_fits = (kept.fit id (x ∷ []) at).0
+
+    abbrev now : S
+    now = state m x.opening kept.log
+
+    abbrev written : List ℕ
+    written = slice_set (m.words now) i (f (slice_index (m.words now) i))
+
+    abbrev moved : List (Known K C A) → State X (List (Known K C A))
+    moved w = record { words = written; homes = s.homes; views = slice_set s.views id w }
+
+    idles : written ≡ m.words now → Kept m x.opening (moved (x ∷ []))
+    idles same =
+        record {
+          log = kept.log;
+          words = same;
+          legal = kept.legal;
+          fit = subst (λ (vs : List (List (Known K C A))). (j : ℕ) (v : List (Known K C A)) → get_elem? vs j ≡ some v → AllFit m x.opening kept.log v) (sym (set_again s.views id (x ∷ []) at)) kept.fit;
+          once = subst (λ (vs : List (List (Known K C A))). (p : ℕ) → total (names p) vs ≤ 1) (sym (set_again s.views id (x ∷ []) at)) kept.once;
+        }
+
+    module _ (c : C) (a : A) (may : m.may x.pass c now ≡ true) (words : written ≡ m.words (m.next x.pass c now)) (answer : a ≡ m.answer x.pass c now) where
+      abbrev longer : List (Entry C A)
+      longer = kept.log ++ entry x.pass c a ∷ []
+
+      grown : IsLegal m x.opening longer
+      grown = legal-append m (m.passes x.opening) (m.start x.opening) kept.log (entry x.pass c a ∷ []) kept.legal (own_fits.given, may, answer, tt)
+
+      others : (j : ℕ) (v : List (Known K C A)) → j ≢ id → get_elem? s.views j ≡ some v → AllFit m x.opening longer v
+      others j v apart there =
+          let two : names x.pass (x ∷ []) + names x.pass v ≤ total (names x.pass) s.views = two_at_most (names x.pass) s.views id j (x ∷ []) v at there apart in
+          let one : names x.pass (x ∷ []) ≡ 1 = names-self x in
+          let most : total (names x.pass) s.views ≤ 1 = kept.once x.pass in
+          all_stay x.opening kept.log x.pass c a v (omega arith) (kept.fit j v there)
+
+      makes : Kept m x.opening (moved (knowing x longer ∷ []))
+      makes =
+          record {
+            log = longer;
+            words = words ∙ ap m.words (sym (after-append m (m.start x.opening) kept.log (entry x.pass c a ∷ [])));
+            legal = grown;
+            fit = λ j v there. ⊎_elim (λ h. subst (AllFit m x.opening longer) h.1 (record { opening = refl; given = own_fits.given; begins = begins_here longer; own = refl }, tt)) (λ h. others j v h.0 h.1)
+                (at_set s.views id j (knowing x longer ∷ []) v there);
+            once = λ p. let changed = total-set (names p) s.views id (x ∷ []) (knowing x longer ∷ []) at in let most : total (names p) s.views ≤ 1 = kept.once p in omega arith;
+          }
+
+      made : Made m x c a (knowing x longer)
+      made =
+          record {
+            opening = refl;
+            pass = refl;
+            between = own_fits.begins.rest;
+            history = ap (λ (l : List (Entry C A)). l ++ entry x.pass c a ∷ []) own_fits.begins.is;
+            own = calls_by-append x.pass kept.log (entry x.pass c a ∷ []) ∙ (ap (λ (l : List (Entry C A)). l ++ calls_by x.pass (entry x.pass c a ∷ [])) own_fits.own ∙ ap (λ (l : List (Entry C A)). calls_by x.pass x.seen ++ l) (calls_by-own x.pass c a));
+            legal = grown;
+          }
+
+    -- what the step comes to, where its word is found as it stands in the history's state
+    abbrev Steps : List ℕ → Option (C × A) → Type 0
+    Steps words t =
+        (w : List (Known K C A)) × (act : Act X) × Valid s.homes [] act × Kept m x.opening (stepped (record s { words = words }) i (f (slice_index words i)) id [] w act)
+        × (One (λ y. Turned m t x y) w × (carried_after [] act ≡ []))
+
+    steps : (t : Option (C × A)) → Owed m x.pass i f now t → Steps (m.words now) t
+    steps None owed = (x ∷ [], keeps, tt, idles owed, (refl, refl))
+    steps (Some t) owed =
+        (knowing x (longer t.0 t.1 owed.0 owed.1 owed.2) ∷ [], keeps, tt, makes t.0 t.1 owed.0 owed.1 owed.2, (made t.0 t.1 owed.0 owed.1 owed.2, refl))
+
+    steps_here : (told : ℕ → Option (C × A)) → Owes m x i f told → slice_index s.words i < 18446744073709551616 → Steps s.words (told (slice_index s.words i))
+    steps_here told owes small =
+        subst (λ (words : List ℕ). Steps words (told (slice_index words i))) (sym kept.words)
+        (steps (told (slice_index (m.words now) i)) (owes kept.log kept.legal own_fits (subst (λ (words : List ℕ). slice_index words i < 18446744073709551616) kept.words small)))
+
+  -- a step of a pass that owes what the lock owes for it
+  pub allows : {X : Type 0} (k : K) (slots id : ℕ) (me : Me X (List (Known K C A))) (x : Known K C A) (i : ℕ) (f : ℕ → ℕ) (st : Step X) (told : Step X → ℕ → Option (C × A))
+      → me ≡ (x ∷ [], []) → x.opening ≡ k → Owes m x i f (told st) → Allows (Kept m k) slots id me i f (Tells m told st me)
+  allows {X} k slots id me x i f st told is opening owes =
+      subst (λ (o : K). Allows (Kept m o) slots id me i f (Tells m told st me)) opening
+      (subst (λ (u : Me X (List (Known K C A))). Allows (Kept m x.opening) slots id u i f (Tells m told st u)) (sym is)
+      (λ s kept size at small. steps_here x id i f s kept at (told st) owes small))
+
+  -- a load by the seat of two passes, which then know the history of all
+  pub shows : {X : Type 0} (k : K) (slots id : ℕ) (me : Me X (List (Known K C A))) (x y : Known K C A) (i : ℕ) (st : Step X)
+      → me ≡ (x ∷ y ∷ [], []) → x.opening ≡ k → y.opening ≡ k → Allows (Kept m k) slots id me i (λ n. n) (Shows m st me)
+  shows {X} k slots id me x y i st is of_x of_y =
+      subst (λ (u : Me X (List (Known K C A))). Allows (Kept m k) slots id u i (λ n. n) (Shows m st u)) (sym is)
+      (λ s kept size at small.
+      let fits = kept.fit id (x ∷ y ∷ []) at in
+      let w : List (Known K C A) = knowing x kept.log ∷ knowing y kept.log ∷ [] in (
+        w,
+        keeps,
+        tt,
+        record {
+          log = kept.log;
+          words = set-get_or s.words i 0 ∙ kept.words;
+          legal = kept.legal;
+          fit = λ j v there. ⊎_elim (λ h. subst (AllFit m k kept.log) h.1 (knows k kept.log x fits.0, (knows k kept.log y fits.1.0, tt))) (λ h. kept.fit j v h.1) (at_set s.views id j w v there);
+          once = λ p. let changed = total-set (names p) s.views id (x ∷ y ∷ []) w at in let most : total (names p) s.views ≤ 1 = kept.once p in omega arith;
+        },
+        ((kept.log, meets k kept.log x of_x kept.legal fits.0, meets k kept.log y of_y kept.legal fits.1.0), refl),
+      ))
+
+  -- the first pass of a seat goes to a seat of its own
+  pub splits : {X : Type 0} (k : K) (id : ℕ) (v : List (Known K C A)) → Splits {S = X} (Kept m k) id v (drop 1 v) (take 1 v)
+  splits k id v s kept at =
+      let cut = fit-cut k kept.log v (kept.fit id v at) in
+      record {
+        log = kept.log;
+        words = kept.words;
+        legal = kept.legal;
+        fit = λ j w there. ⊎_elim (λ old. ⊎_elim (λ h. subst (AllFit m k kept.log) h.1 cut.0) (λ h. kept.fit j w h.1) (at_set s.views id j (drop 1 v) w old)) (λ new. subst (AllFit m k kept.log) new cut.1)
+            (at_snoc (set s.views id (drop 1 v)) (take 1 v) w j there);
+        once = λ p. let changed = total-set (names p) s.views id v (drop 1 v) at in let more = total-append (names p) (set s.views id (drop 1 v)) (take 1 v ∷ []) in
+            let parts = names-cut p v in let most : total (names p) s.views ≤ 1 = kept.once p in omega arith;
+      }
+
+  -- a seat comes to stand for another's passes too
+  pub joins : {X : Type 0} (k : K) (id : ℕ) (v : List (Known K C A)) (other : ℕ) (w : List (Known K C A)) → Joins {S = X} (Kept m k) id v other w (w ++ v) []
+  joins k id v other w s kept at apart there =
+      let w_there : get_elem? s.views other ≡ some w = sym (set_else s.views id other (w ++ v) apart) ∙ there in
+      record {
+        log = kept.log;
+        words = kept.words;
+        legal = kept.legal;
+        fit = λ j u here. ⊎_elim (λ h. subst (AllFit m k kept.log) h.1 tt)
+            (λ h. ⊎_elim (λ g. subst (AllFit m k kept.log) g.1 (fit-append k kept.log w v (kept.fit other w w_there) (kept.fit id v at))) (λ g. kept.fit j u g.1) (at_set s.views id j (w ++ v) u h.1))
+            (at_set (set s.views id (w ++ v)) other j [] u here);
+        once = λ p. let first = total-set (names p) s.views id v (w ++ v) at in let second = total-set (names p) (set s.views id (w ++ v)) other w [] there in
+            let both = total-append (λ (x : Known K C A). cond {A = ℕ} (x.pass == p) 1 0) w v in let most : total (names p) s.views ≤ 1 = kept.once p in omega arith;
+      }
+
+  fit-newcomers : (k : K) (a n : ℕ) → a + n ≤ m.passes k → AllFit m k [] (map (newcomer k) (range_with_len a n))
+  fit-newcomers k a zero room = tt
+  fit-newcomers k a (suc n) room = (record { opening = refl; given = omega arith; begins = begins_here []; own = refl }, fit-newcomers k (a + 1) n (omega arith))
+
+  -- of passes numbered from a on, none is named twice, and none below a
+  abbrev NamedOnce : ℕ → ℕ → ℕ → Type 0
+  NamedOnce p a times = (times ≤ 1) × (p < a → times ≡ 0)
+
+  named : (p a rest : ℕ) (b : Bool) → (a == p) ≡ b → NamedOnce p (a + 1) rest → NamedOnce p a (cond b 1 0 + rest)
+  named p a rest true same once = let e : a ≡ p = eqb-true a p same in let zero_times = once.1 (omega arith) in (omega arith, (λ h. absurd (omega arith)))
+  named p a rest false other once = let one_at_most = once.0 in (omega arith, (λ h. let zero_times = once.1 (omega arith) in omega arith))
+
+  names-newcomers : (k : K) (p a n : ℕ) → NamedOnce p a (names p (map (newcomer {C = C} {A = A} k) (range_with_len a n)))
+  names-newcomers k p a zero = (omega arith, (λ h. refl))
+  names-newcomers k p a (suc n) = named p a (names p (map (newcomer {C = C} {A = A} k) (range_with_len (a + 1) n))) (a == p) refl (names-newcomers k p (a + 1) n)
+
+  -- the table as it begins
+  pub opens : {X : Type 0} (k : K) (words : List ℕ) → words ≡ m.words (m.start k) → Kept m {X = X} k (opening words [] (all_passes m k))
+  opens k words is =
+      record {
+        log = [];
+        words = is;
+        legal = tt;
+        fit = first;
+        once = λ p. let most = names-newcomers k p 0 (m.passes k) in omega arith;
+      }
+    where
+      first : (id : ℕ) (v : List (Known K C A)) → get_elem? (all_passes m k ∷ []) id ≡ some v → AllFit m k [] v
+      first zero v there = subst (AllFit m k []) (some-injective (all_passes m k) v there) (fit-newcomers k 0 (m.passes k) (omega arith))
+      first (suc id) v there = absurd (some-ne-none v (sym there))

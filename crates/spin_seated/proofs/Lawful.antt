@@ -1,0 +1,79 @@
+-- What follows of a legal history.
+use Rattle.std.proofs.Common.{◌≡◌, ℕ, zero, suc, ◌≤◌, true, false, List, [], ◌∷◌, ◌++◌, map, length, Some, slice_get, refl, ap, ◌∙◌, arith}
+use Rattle.spin_core.specs.Plain.{Holder, is_empty}
+use Rattle.spin_seated.specs.declared.history.Entry.{Entry}
+use Rattle.spin_seated.specs.declared.mutex.Opening.{Opening}
+use Rattle.spin_seated.specs.declared.mutex.Call.{Call}
+use Rattle.spin_seated.specs.declared.mutex.Call.TheVariants.{TryLock, IsLocked, Read, Write, Unlock}
+use Rattle.spin_seated.specs.declared.mutex.Answer.{Answer}
+use Rattle.spin_seated.specs.declared.mutex.Answer.TheVariants.{Truth, Value}
+use Rattle.spin_seated.specs.Histories.{BeginsWith, entry, calls_by, after, state, IsLegal, Met}
+use Rattle.spin_seated.specs.Mutex.{Locked, after_call, mutex, Knows}
+use Rattle.spin_seated.specs.Lawful.{History, holders, written, last_written}
+use Rattle.spin_seated.proofs.Histories.{after-append, legal-split, calls_by-append}
+use Rattle.spin_seated.proofs.Holders.{Alone, alone_state, held_by, truth_is, value_tried}
+
+one_at_most : (n : ℕ) (hs : List Holder) → Alone n hs → length (map (λ h. h.party) hs) ≤ 1
+one_at_most n [] alone = omega arith
+one_at_most n (h ∷ []) alone = omega arith
+one_at_most n (h ∷ g ∷ hs) alone = absurd alone
+
+pub one_holder : (k : Opening) (log : History) → IsLegal mutex k log → length (holders k log) ≤ 1
+one_holder k log legal = one_at_most k.passes (state mutex k log).lock.holders (alone_state k log legal)
+
+-- a try, by who holds
+won : (p : ℕ) (s : Locked) (hs : List Holder) → Truth true ≡ Truth (is_empty hs) → (map (λ h. h.party) hs ≡ []) × (map (λ h. h.party) (after_call p TryLock (held_by s hs)).lock.holders ≡ p ∷ [])
+won p s [] is = (refl, refl)
+won p s (h ∷ hs) is = absurd (cc (truth_is true false is))
+
+lost : (n : ℕ) (hs : List Holder) → Alone n hs → Truth false ≡ Truth (is_empty hs) → (q : ℕ) × (map (λ h. h.party) hs ≡ q ∷ [])
+lost n [] alone is = absurd (cc (truth_is false true is))
+lost n (h ∷ []) alone is = (h.party, refl)
+lost n (h ∷ g ∷ hs) alone is = absurd alone
+
+pub granted : (k : Opening) (before rest : History) (p : ℕ) → IsLegal mutex k (before ++ entry p TryLock (Truth true) ∷ rest)
+    → (holders k before ≡ []) × (holders k (before ++ entry p TryLock (Truth true) ∷ []) ≡ p ∷ [])
+granted k before rest p legal =
+    let two = legal-split mutex k.passes (mutex.start k) before (entry p TryLock (Truth true) ∷ rest) legal in
+    let s : Locked = state mutex k before in
+    let both = won p s s.lock.holders two.1.2 in
+    (both.0, ap (λ (s : Locked). map (λ h. h.party) s.lock.holders) (after-append mutex (mutex.start k) before (entry p TryLock (Truth true) ∷ [])) ∙ both.1)
+
+pub refused : (k : Opening) (before rest : History) (p : ℕ) → IsLegal mutex k (before ++ entry p TryLock (Truth false) ∷ rest) → (q : ℕ) × (holders k before ≡ q ∷ [])
+refused k before rest p legal =
+    let two = legal-split mutex k.passes (mutex.start k) before (entry p TryLock (Truth false) ∷ rest) legal in
+    lost k.passes (state mutex k before).lock.holders (alone_state k before two.0) two.1.2
+
+value_after : (p : ℕ) (c : Call) (s : Locked) → (after_call p c s).value ≡ written c s.value
+value_after p TryLock s = value_tried p s (is_empty s.lock.holders)
+value_after p IsLocked s = refl
+value_after p Read s = refl
+value_after p (Write w) s = refl
+value_after p Unlock s = refl
+
+value_is : (s : Locked) (log : History) → (after mutex s log).value ≡ last_written s.value log
+value_is s [] = refl
+value_is s (e ∷ es) = value_is (after_call e.pass e.call s) es ∙ ap (λ (v : ℕ). last_written v es) (value_after e.pass e.call s)
+
+pub read : (k : Opening) (before rest : History) (p v : ℕ) → IsLegal mutex k (before ++ entry p Read (Value v) ∷ rest) → v ≡ last_written k.value before
+read k before rest p v legal =
+    let two = legal-split mutex k.passes (mutex.start k) before (entry p Read (Value v) ∷ rest) legal in
+    let same : v ≡ (state mutex k before).value = cc (two.1.2) in
+    same ∙ value_is (mutex.start k) before
+
+pub in_order : (log seen : History) (p : ℕ) → BeginsWith log seen → BeginsWith (calls_by p log) (calls_by p seen)
+in_order log seen p begins = record { rest = calls_by p begins.rest; is = ap (calls_by p) begins.is ∙ calls_by-append p seen begins.rest }
+
+get-append : (xs ys : History) (n : ℕ) (e : Entry Call Answer) → slice_get xs n ≡ Some e → slice_get (xs ++ ys) n ≡ Some e
+get-append [] ys n e is = absurd (cc is)
+get-append (x ∷ xs) ys zero e is = is
+get-append (x ∷ xs) ys (suc n) e is = get-append xs ys n e is
+
+still_there : (log seen : History) → BeginsWith log seen → (n : ℕ) (e : Entry Call Answer) → slice_get seen n ≡ Some e → slice_get log n ≡ Some e
+still_there log seen begins n e is = ap (λ (l : History). slice_get l n) begins.is ∙ get-append seen begins.rest n e is
+
+pub agree : (a b met_a met_b : Knows) → Met mutex a met_a.seen met_a → Met mutex b met_a.seen met_b
+    → (met_b.seen ≡ met_a.seen) × ((n : ℕ) (e : Entry Call Answer) → slice_get a.seen n ≡ Some e → slice_get met_b.seen n ≡ Some e)
+    × ((n : ℕ) (e : Entry Call Answer) → slice_get b.seen n ≡ Some e → slice_get met_a.seen n ≡ Some e)
+agree a b met_a met_b first second =
+    (second.history, (λ n e is. ap (λ (l : History). slice_get l n) second.history ∙ still_there met_a.seen a.seen first.begins n e is), still_there met_a.seen b.seen second.begins)

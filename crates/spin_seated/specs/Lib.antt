@@ -1,0 +1,5 @@
+pub mod Histories
+pub mod Lawful
+pub mod Mutex
+pub mod Passes
+pub mod Turns

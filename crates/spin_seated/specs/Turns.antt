@@ -1,0 +1,52 @@
+-- A pass that adds: each time that it is granted the lock, it reads, writes one more than it read or writes nothing, and lets go.
+use Rattle.std.specs.Prelude.{◌≡◌, ℕ, ◌+◌, ◌==◌, true, false, if◌then◌else◌, List, [], ◌∷◌, Option, Some, None, option_and_then}
+use Rattle.spin_seated.specs.declared.history.Entry.{Entry}
+use Rattle.spin_seated.specs.declared.mutex.Call.{Call}
+use Rattle.spin_seated.specs.declared.mutex.Call.TheVariants.{TryLock, Read, Write, Unlock}
+use Rattle.spin_seated.specs.declared.mutex.Answer.{Answer}
+use Rattle.spin_seated.specs.declared.mutex.Answer.TheVariants.{Truth, Value, Done}
+use Rattle.spin_seated.specs.Histories.{calls_by, total}
+use Rattle.spin_seated.specs.declared.mutex.SeatedMutex.{SeatedMutex}
+use Rattle.spin_seated.specs.Mutex.{Knows, Seated}
+use Rattle.spin_seated.specs.Passes.{IsPassOf}
+
+-- how far it is
+pub data Turn : Type 0 where
+  away : Turn
+  entered : Turn
+  has_read : ℕ → Turn
+  has_written : Turn
+
+-- how far it is after one more call; None where a pass that adds makes no such call
+abbrev pub next_turn : Turn → Call → Answer → Option Turn
+next_turn away TryLock (Truth true) = Some entered
+next_turn away TryLock (Truth false) = Some away
+next_turn entered Read (Value v) = Some (has_read v)
+next_turn (has_read v) (Write w) Done = if w == v + 1 then Some has_written else None
+next_turn (has_read v) Unlock Done = Some away
+next_turn has_written Unlock Done = Some away
+next_turn _ _ _ = None
+
+abbrev pub turn_from : Turn → List (Entry Call Answer) → Option Turn
+turn_from t [] = Some t
+turn_from t (e ∷ es) = option_and_then (λ u. turn_from u es) (next_turn t e.call e.answer)
+
+-- the calls that a pass made
+abbrev pub own_calls : Knows → List (Entry Call Answer)
+own_calls x = calls_by x.pass x.seen
+
+abbrev pub turn_of : Knows → Option Turn
+turn_of x = turn_from away (own_calls x)
+
+abbrev pub is_write : Call → ℕ
+is_write (Write v) = 1
+is_write _ = 0
+
+-- how many of the calls are writes
+abbrev pub writes_in : List (Entry Call Answer) → ℕ
+writes_in log = total (λ e. is_write e.call) log
+
+module _ {A : Type 0} where
+  -- a pass of this mutex that has done nothing but add, and has written so often
+  abbrev pub HasAdded : SeatedMutex A → Seated → ℕ → Type 0
+  HasAdded lock p n = IsPassOf lock p × (turn_of p.known ≡ Some away) × (writes_in (own_calls p.known) ≡ n)

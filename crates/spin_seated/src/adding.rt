@@ -1,0 +1,111 @@
+//! A proved caller: two threads add under one lock, and what is read in the end is the number of their additions.
+//!
+//! The proof is from the one history that both passes know once they have met. No call says what another thread did.
+ghost use Rattle.std.specs.Prelude.{◌≡◌, ◌+◌, Some, if◌then◌else◌, IfOk, IfSome};
+ghost use Rattle.spin_seated.specs.Passes.{IsPassOf, opening_of, pass_of};
+ghost use Rattle.spin_seated.specs.Turns.{away, turn_of, own_calls, writes_in, HasAdded};
+
+use crate::mutex::{Pass, SeatedMutex};
+use std::alloc::{AllocError, Global};
+use std::thread::{Threads, join};
+
+/// A lock with two passes.
+pub(crate) fn open_for_two(
+    alloc: Global,
+    value: u64,
+) -> Result<(SeatedMutex, Pass, Pass), AllocError>
+    ensures opening { IfOk result (λ r. opening_of r.0 ≡ record { value = value; passes = 2 }) }
+    ensures passes { IfOk result (λ r. (r.1 ≡ pass_of r.0 0) × (r.2 ≡ pass_of r.0 1)) }
+{
+    let (lock, mut passes) = SeatedMutex::new(alloc, value, 2)?;
+    let Some(second) = passes.pop() else {
+        unreachable!()
+    };
+    let Some(first) = passes.pop() else {
+        unreachable!()
+    };
+    Ok((lock, first, second))
+}
+
+/// Adds 1 where the lock is granted and there is room, and says whether it did.
+pub fn add(lock: &SeatedMutex, pass: &mut Pass) -> bool
+    requires own { IsPassOf lock.now pass.old }
+    requires turn { turn_of pass.old.known ≡ Some away }
+    ensures own { IsPassOf lock.now pass.new }
+    ensures number { pass.new.known.pass ≡ pass.old.known.pass }
+    ensures turn { turn_of pass.new.known ≡ Some away }
+    ensures added { writes_in (own_calls pass.new.known) ≡ writes_in (own_calls pass.old.known) + (if result then 1 else 0) }
+{
+    if !lock.try_lock(pass) {
+        return false;
+    }
+    let value = lock.read(pass);
+    if value == u64::MAX {
+        lock.unlock(pass);
+        return false;
+    }
+    lock.write(pass, value + 1);
+    lock.unlock(pass);
+    true
+}
+
+/// Adds up to `turns` times, and says how often it did.
+pub fn add_some(lock: &SeatedMutex, mut pass: Pass, turns: u64) -> (Pass, u64)
+    requires { HasAdded lock.now pass 0 }
+    ensures number { result.0.known.pass ≡ pass.known.pass }
+    ensures added { HasAdded lock.now result.0 result.1 }
+{
+    let mut added = 0;
+    for _ in 0..turns {
+        if add(lock, &mut pass) {
+            added += 1;
+        }
+    }
+    (pass, added)
+}
+
+/// What the lock holds once two passes have added: what it was opened with, and their additions.
+///
+/// They meet, so that the first pass's next call comes after all that the second did; and they meet again after it, so that
+/// nobody else's call came between.
+pub fn read_sum(lock: &SeatedMutex, a: &mut Pass, b: &mut Pass) -> u64
+    requires own { IsPassOf lock.now a.old × IsPassOf lock.now b.old }
+    requires two { (opening_of lock.now).passes ≡ 2 }
+    requires numbers { (a.old.known.pass ≡ 0) × (b.old.known.pass ≡ 1) }
+    requires turns { (turn_of a.old.known ≡ Some away) × (turn_of b.old.known ≡ Some away) }
+    ensures { result ≡ (opening_of lock.now).value + (writes_in (own_calls a.old.known) + writes_in (own_calls b.old.known)) }
+{
+    lock.meet(a, b);
+    let granted = lock.try_lock(a);
+    if !granted {
+        lock.meet(a, b);
+        unreachable!();
+    }
+    let value = lock.read(a);
+    lock.meet(a, b);
+    value
+}
+
+/// Two threads add under one lock, each up to `turns` times. What is read in the end is the number of their additions.
+pub fn add_in_two<R: Threads + Sync>(
+    rt: &R,
+    alloc: Global,
+    turns: u64,
+) -> Result<(u64, u64, u64), AllocError>
+    ensures { IfOk result (λ r. r.0 ≡ r.1 + r.2) }
+{
+    let (lock, a, b) = open_for_two(alloc, 0)?;
+    let shared = &lock;
+    let ((mut a, first), (mut b, second)) = join(
+        rt,
+        || -> (Pass, u64)
+            requires { HasAdded shared.now a 0 × (a.known.pass ≡ 0) }
+            ensures { HasAdded shared.entry.now result.0 result.1 × (result.0.known.pass ≡ 0) }
+        { add_some(shared, a, turns) },
+        || -> (Pass, u64)
+            requires { HasAdded shared.now b 0 × (b.known.pass ≡ 1) }
+            ensures { HasAdded shared.entry.now result.0 result.1 × (result.0.known.pass ≡ 1) }
+        { add_some(shared, b, turns) },
+    );
+    Ok((read_sum(shared, &mut a, &mut b), first, second))
+}

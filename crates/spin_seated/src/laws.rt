@@ -1,0 +1,41 @@
+//! Laws of the histories that passes know. Each is the contract of a function that does nothing.
+ghost use Rattle.std.specs.Prelude.{◌≡◌, ℕ, ◌≤◌, true, false, List, [], ◌∷◌, ◌++◌, Some, length, slice_get};
+ghost use Rattle.spin_seated.specs.declared.history.Entry.{Entry};
+ghost use Rattle.spin_seated.specs.declared.mutex.Opening.{Opening};
+ghost use Rattle.spin_seated.specs.declared.mutex.Call.{Call};
+ghost use Rattle.spin_seated.specs.declared.mutex.Call.TheVariants.{TryLock, Read};
+ghost use Rattle.spin_seated.specs.declared.mutex.Answer.{Answer};
+ghost use Rattle.spin_seated.specs.declared.mutex.Answer.TheVariants.{Truth, Value};
+ghost use Rattle.spin_seated.specs.Histories.{BeginsWith, entry, calls_by, IsLegal, Met};
+ghost use Rattle.spin_seated.specs.Mutex.{mutex, Knows};
+ghost use Rattle.spin_seated.specs.Lawful.{History, holders, last_written};
+
+/// At most one pass holds the lock.
+pub fn one_pass_holds_at_most()
+    ensures { (k : Opening) (log : History) → IsLegal mutex k log → length (holders k log) ≤ 1 }
+{}
+
+/// Who is granted the lock found that nobody held it, and then holds it alone.
+pub fn nobody_is_granted_while_another_holds()
+    ensures { (k : Opening) (before after : History) (p : ℕ) → IsLegal mutex k (before ++ entry p TryLock (Truth true) ∷ after) → (holders k before ≡ []) × (holders k (before ++ entry p TryLock (Truth true) ∷ []) ≡ p ∷ []) }
+{}
+
+/// Who is refused found that a pass held the lock.
+pub fn who_is_refused_found_a_holder()
+    ensures { (k : Opening) (before after : History) (p : ℕ) → IsLegal mutex k (before ++ entry p TryLock (Truth false) ∷ after) → (q : ℕ) × (holders k before ≡ q ∷ []) }
+{}
+
+/// A read gives the last write before it, or else the value that the lock was opened with.
+pub fn a_read_gives_the_last_write()
+    ensures { (k : Opening) (before after : History) (p v : ℕ) → IsLegal mutex k (before ++ entry p Read (Value v) ∷ after) → v ≡ last_written k.value before }
+{}
+
+/// As a history goes on, the calls of each pass go on, in the order in which they were made.
+pub fn calls_of_a_pass_keep_their_order()
+    ensures { (log seen : History) (p : ℕ) → BeginsWith log seen → BeginsWith (calls_by p log) (calls_by p seen) }
+{}
+
+/// Two passes that met agree on every answer so far: what either had seen stands at the same place in what both know now.
+pub fn who_met_agree()
+    ensures { (a b met_a met_b : Knows) → Met mutex a met_a.seen met_a → Met mutex b met_a.seen met_b → (met_b.seen ≡ met_a.seen) × ((n : ℕ) (e : Entry Call Answer) → slice_get a.seen n ≡ Some e → slice_get met_b.seen n ≡ Some e) × ((n : ℕ) (e : Entry Call Answer) → slice_get b.seen n ≡ Some e → slice_get met_a.seen n ≡ Some e) }
+{}

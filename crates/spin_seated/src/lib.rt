@@ -1,0 +1,9 @@
+//! Locks whose callers can compare what they did: each call stands in one history, and who meets knows one of them.
+#![tactic(auto)]
+
+pub mod adding;
+pub mod history;
+pub mod laws;
+pub mod mutex;
+#[cfg(test)]
+mod tests;

@@ -1,0 +1,124 @@
+//! What no contract says: that a try is granted at all, that memory suffices, and two threads that repeat a try until it is granted.
+ghost use Rattle.std.specs.Prelude.{◌≡◌};
+ghost use Rattle.spin_seated.specs.Passes.{IsPassOf};
+
+use crate::adding::{add_in_two, open_for_two};
+use crate::mutex::{Pass, SeatedMutex};
+use bumpalo::Bump;
+use spin_core::relax::{RelaxStrategy, Yield};
+use std::sync::Wait;
+use std::test::Fail;
+use std::thread::join;
+
+const TURNS: u32 = 10_000_000;
+
+fn is_send<T: Send>() {}
+
+fn is_sync<T: Sync>() {}
+
+#[test]
+fn a_pass_may_go_to_another_thread(rt: HostRuntime) {
+    let _ = rt;
+    is_send::<Pass>();
+    is_send::<SeatedMutex>();
+    is_sync::<SeatedMutex>();
+}
+
+#[test]
+fn a_hold_lets_nobody_in(rt: HostRuntime) -> Result<(), Fail> {
+    let (lock, mut first, mut second) = open_for_two(rt.alloc(), 5)?;
+    assert!(rt; lock.try_lock(&mut first));
+    assert!(rt; !lock.try_lock(&mut second));
+    assert!(rt; lock.is_locked(&mut second));
+    assert!(rt; first.holds() && !second.holds());
+    lock.write(&mut first, 9);
+    assert_eq!(rt; lock.read(&mut first), 9);
+    lock.unlock(&mut first);
+    assert!(rt; !first.holds());
+    assert!(rt; lock.try_lock(&mut second));
+    assert_eq!(rt; lock.read(&mut second), 9);
+    Ok(())
+}
+
+// Adds 1 a hundred times, and each time tries until the lock is granted.
+fn add_a_hundred<R: Wait>(rt: &R, lock: &SeatedMutex, mut pass: Pass) -> Pass
+    requires { IsPassOf lock.now pass }
+    ensures { IsPassOf lock.now result }
+{
+    let mut added = 0u32;
+    for _ in 0..TURNS {
+        if added == 100 {
+            break;
+        }
+        if lock.try_lock(&mut pass) {
+            let value = lock.read(&mut pass);
+            lock.write(&mut pass, value.wrapping_add(1));
+            lock.unlock(&mut pass);
+            added += 1;
+        } else {
+            Yield::relax(rt);
+        }
+    }
+    pass
+}
+
+#[test]
+fn two_threads_lose_no_addition(rt: HostRuntime) -> Result<(), Fail> {
+    let (lock, a, b) = open_for_two(rt.alloc(), 0)?;
+    let shared = &lock;
+    let (mut a, mut b) = join(
+        &rt,
+        || -> Pass
+            requires { IsPassOf shared.now a }
+            ensures { IsPassOf shared.entry.now result }
+        { add_a_hundred(&rt, shared, a) },
+        || -> Pass
+            requires { IsPassOf shared.now b }
+            ensures { IsPassOf shared.entry.now result }
+        { add_a_hundred(&rt, shared, b) },
+    );
+    lock.meet(&mut a, &mut b);
+    assert!(rt; lock.try_lock(&mut a));
+    assert_eq!(rt; lock.read(&mut a), 200);
+    Ok(())
+}
+
+#[test]
+fn what_two_threads_add_is_read(rt: HostRuntime) -> Result<(), Fail> {
+    let (read, first, second) = add_in_two(&rt, rt.alloc(), 1000)?;
+    assert!(rt; 0 < read && first <= 1000 && second <= 1000);
+    assert_eq!(rt; read, first + second);
+    Ok(())
+}
+
+// Whether a mutex for two fits where so many bytes are left.
+fn opens_in(arena: &Bump, left: usize) -> bool {
+    arena.set_allocation_limit(Some(0));
+    let filled = arena.chunk_capacity().saturating_sub(left);
+    let Ok(filled) = Vec::<u8, &Bump>::with_capacity(arena, filled) else {
+        return false;
+    };
+    let opened = SeatedMutex::new(arena, 5, 2);
+    drop(filled);
+    match opened {
+        Ok((lock, passes)) => {
+            drop(passes);
+            drop(lock);
+            true
+        }
+        Err(_) => false,
+    }
+}
+
+#[test]
+fn refused_memory_is_an_error(rt: HostRuntime) -> Result<(), Fail> {
+    let mut refused = 0u32;
+    for left in 0..256usize {
+        let arena = Bump::try_with_capacity(rt.alloc(), 512)?;
+        if !opens_in(&arena, left) {
+            refused = refused.saturating_add(1);
+        }
+    }
+    assert!(rt; 16 <= refused && refused < 256);
+    Ok(())
+}
