@@ -1,5 +1,6 @@
 //! Every change of a lock's word, as a pure function from the word before to the word after.
 //!
 //! A refusal is `None` and gives no new word.
+pub mod fair;
 pub mod flag;
 pub mod ticket;

@@ -9,6 +9,8 @@ use std::sync::Wait;
 mod lends;
 mod texts;
 
+pub use spin_fair::fair;
+pub use spin_fair::fair::{FairMutex, FairMutexGuard, Starvation};
 pub use spin_flag::spin;
 pub use spin_flag::spin::{SpinMutex, SpinMutexGuard};
 pub use spin_ticket::laws::{

@@ -1,0 +1,128 @@
+//! A starver's place: it comes before newcomers until it has the lock, or gives up.
+ghost use Rattle.std.specs.Prelude.{◌≡◌, Some, IfOk};
+ghost use Rattle.spin_guard.specs.Guard.{IsHolder};
+ghost use Rattle.spin_fair.specs.Fair.{use_of_view};
+ghost use Rattle.spin_fair.specs.declared.fair.rule.View.TheVariants.{Starving, HoldingStarving};
+
+use super::rule::{AttemptAlone, Look, SetFlag, Unregister};
+use super::{FairMutexGuard, FairRule, LOCKED, STARVER, View};
+use spin_core::cell::Permit;
+use spin_core::relax::{RelaxStrategy, Spin};
+use spin_core::step::fair;
+use spin_guard::guard::Guard;
+use std::marker::PhantomData;
+use std::sync::Wait;
+
+/// A party that starves for a `FairMutex`. Dropping it stops starving. Where it is forgotten it stays a starver, and
+/// newcomers never get the lock again.
+pub struct Starvation<'a, T, R = Spin> {
+    permit: Permit<'a, T, View, FairRule>,
+    strategy: PhantomData<R>,
+    ghost starving: { permit.view ≡ Some Starving },
+}
+
+impl<'a, T, R> Starvation<'a, T, R> {
+    /// Takes the lock, or refuses where somebody holds it or another party starves. Where it refuses, the same starver
+    /// stays registered.
+    pub fn try_lock_fair(self) -> Result<FairMutexGuard<'a, T, R>, Starvation<'a, T, R>>
+        ensures { IfOk result (IsHolder use_of_view) }
+    {
+        let alone = 2;
+        let taken = fair::lock_fair(alone).unwrap();
+        let (found, permit) = self
+            .into_permit()
+            .exchange::<AttemptAlone>(alone as u64, taken as u64);
+        if found == alone as u64 {
+            Ok(stop_starving(permit))
+        } else {
+            Err(Self::new(permit))
+        }
+    }
+
+    /// Takes the lock, or refuses where somebody holds it. Where it refuses, the same starver stays registered.
+    pub fn try_lock(self) -> Result<FairMutexGuard<'a, T, R>, Starvation<'a, T, R>>
+        ensures { IfOk result (IsHolder use_of_view) }
+    {
+        let (found, permit) = self.into_permit().set_bits::<SetFlag>(LOCKED);
+        if fair::is_locked(found as usize) {
+            Err(Self::new(permit))
+        } else {
+            Ok(stop_starving(permit))
+        }
+    }
+
+    // Whether somebody holds the lock, at the moment of one load.
+    fn look(self) -> (bool, Self) {
+        let (found, permit) = self.into_permit().load::<Look>();
+        (fair::is_locked(found as usize), Self::new(permit))
+    }
+
+    pub(super) fn new(permit: Permit<'a, T, View, FairRule>) -> Self
+        requires { permit.view ≡ Some Starving }
+    {
+        Starvation {
+            permit,
+            strategy: PhantomData,
+        }
+    }
+
+    fn into_permit(self) -> Permit<'a, T, View, FairRule>
+        ensures { result.view ≡ Some Starving }
+    {
+        let Self {
+            permit,
+            strategy: _,
+        } = self;
+        permit
+    }
+}
+
+impl<'a, T, R: RelaxStrategy> Starvation<'a, T, R> {
+    /// Takes the lock, and relaxes while somebody holds it. Nothing is promised about when it returns.
+    pub fn lock<W: Wait>(self, rt: &W) -> FairMutexGuard<'a, T, R>
+        ensures { IsHolder use_of_view result }
+    {
+        let mut starvation = self;
+        for _ in rt.forever() {
+            match starvation.try_lock() {
+                Ok(guard) => return guard,
+                Err(still) => starvation = still.wait(rt),
+            }
+        }
+        unreachable!()
+    }
+
+    // Looks until nobody holds the lock.
+    fn wait<W: Wait>(self, rt: &W) -> Self {
+        let mut starvation = self;
+        for _ in rt.forever() {
+            let (is_locked, still) = starvation.look();
+            if !is_locked {
+                return still;
+            }
+            R::relax(rt);
+            starvation = still;
+        }
+        unreachable!()
+    }
+}
+
+// The party that has taken the lock is no starver any more.
+fn stop_starving<'a, T, R>(permit: Permit<'a, T, View, FairRule>) -> FairMutexGuard<'a, T, R>
+    requires { permit.view ≡ Some HoldingStarving }
+    ensures { IsHolder use_of_view result }
+{
+    let (_, permit) = permit.subtract::<Unregister>(STARVER);
+    Guard::new(permit.into_writer())
+}
+
+impl<T, R> Drop for Starvation<'_, T, R> {
+    fn drop(self) {
+        let (_, permit) = self.into_permit().subtract::<Unregister>(STARVER);
+        permit.leave();
+    }
+}
+
+unsafe impl<T: Send, R> Send for Starvation<'_, T, R> {}
+
+unsafe impl<T: Send, R> Sync for Starvation<'_, T, R> {}

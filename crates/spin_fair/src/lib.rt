@@ -1,0 +1,4 @@
+//! A spinning mutex whose starving parties come before newcomers.
+#![tactic(auto)]
+
+pub mod fair;
