@@ -1,13 +1,13 @@
 -- What open steps keep of every plain lock.
 use Rattle.std.proofs.Common.{◌≡◌, ℕ, ◌+◌, ◌≤◌, ◌==◌, Bool, true, false, if◌then◌else◌, List, [], ◌∷◌, ◌++◌, length, max, Option, Some, None, nat_lt, refl, ap, arith, length-append}
 use Rattle.std.proofs.lemmas.Bool.{ltb-true, and_parts}
-use Rattle.spin_core.specs.Plain.{Plain, Kind, reading, upgradable, writing, Ask, to_read, to_read_upgradable, to_write, to_upgrade, to_take_ticket, to_enter, to_take_and_enter, to_lock_unregistered, to_lock_starving, to_lock_starving_alone, to_starve, to_begin, Change, gets, releases, serves, stops_starving, turns, completes, fails, arrives, apply, is_open, is_open_to, is_empty, is_starver, is_only_starver, count_kind, may_read, holder, with_kind, without_starver, ticket_limit, fresh}
-use Rattle.spin_core.specs.Parties.{apply_some, IsOpenStep}
-use Rattle.spin_core.specs.Tickets.{Numbered}
+use Rattle.spin_step.specs.Plain.{Plain, Kind, reading, upgradable, writing, Ask, to_read, to_read_upgradable, to_write, to_upgrade, to_take_ticket, to_enter, to_take_and_enter, to_lock_unregistered, to_lock_starving, to_lock_starving_alone, to_starve, to_begin, Change, gets, releases, serves, stops_starving, turns, completes, fails, arrives, apply, is_open, is_open_to, is_empty, is_starver, is_only_starver, count_kind, may_read, holder, with_kind, without_starver, ticket_limit, fresh}
+use Rattle.spin_step.specs.Parties.{apply_some, IsOpenStep}
+use Rattle.spin_step.specs.Tickets.{Numbered}
 use Rattle.spin_core.specs.Views.{IsInOrder}
-use Rattle.spin_core.proofs.Exclusive.{exclusive-kept, empty_is, length-with_kind}
-use Rattle.spin_core.proofs.Holders.{length-without_holder}
-use Rattle.spin_core.proofs.Tickets.{numbered-gets, numbered-serves}
+use Rattle.spin_step.proofs.Exclusive.{exclusive-kept, empty_is, length-with_kind}
+use Rattle.spin_step.proofs.Holders.{length-without_holder}
+use Rattle.spin_step.proofs.Tickets.{numbered-gets, numbered-serves}
 
 numbered-kept : (s : Plain) (c : Change) → Numbered s → Numbered (apply s c)
 numbered-kept s (gets p ask) numbered = numbered-gets s p ask numbered

@@ -3,8 +3,8 @@ use Rattle.std.proofs.Common.{◌≡◌, ℕ, zero, suc, ◌<◌, ◌==◌, Bool
 use Rattle.std.proofs.lemmas.List.Sums.{sum_by-cons, count_by-le-length}
 use mathlib.Core.Logic.{dite}
 use native.Mathlib.Decide.{dec_lt}
-use Rattle.spin_core.specs.Plain.{Plain, writing, Holder, same_kind, count_kind}
-use Rattle.spin_core.specs.Starvers.{OneHolds}
+use Rattle.spin_step.specs.Plain.{Plain, writing, Holder, same_kind, count_kind}
+use Rattle.spin_step.specs.Starvers.{OneHolds}
 use Rattle.spin_core.specs.Cell.{Use, alone, Ways, Limits, Meets, Allows, after, readers_of, writers_of, words}
 use Rattle.spin_core.specs.Views.{Part, entries_of, HasPart, IsInOrder, part_at, IsLockOf, Encodes}
 use Rattle.spin_core.proofs.InOrder.{in_order-kept, cap-kept}

@@ -5,9 +5,9 @@ use Rattle.std.proofs.lemmas.List.{length-map}
 use Rattle.std.proofs.lemmas.List.Sums.{sum_by-cons}
 use mathlib.Core.Logic.{dite}
 use native.Mathlib.Decide.{ℕ_discrete}
-use Rattle.spin_core.specs.Plain.{Plain, Kind, reading, upgradable, writing, Holder, holder, Ticket, ticket, same_kind, count_kind, flag_word, rw_word, fair_word, next_word, serving_word}
-use Rattle.spin_core.specs.Parties.{Entries, entries, no_entries, none_entered, first_alone_entered}
-use Rattle.spin_core.specs.Tickets.{numbered_from}
+use Rattle.spin_step.specs.Plain.{Plain, Kind, reading, upgradable, writing, Holder, holder, Ticket, ticket, same_kind, count_kind, flag_word, rw_word, fair_word, next_word, serving_word}
+use Rattle.spin_step.specs.Parties.{Entries, entries, no_entries, none_entered, first_alone_entered}
+use Rattle.spin_step.specs.Tickets.{numbered_from}
 use Rattle.spin_core.specs.Cell.{off, Rests}
 use Rattle.spin_core.specs.Views.{Part, idle, holds, queues, saw_served, starves, holds_starving, entries_of, Knows, HasPart, IsInOrder, part_at, Encodes, no_word, used_by}
 

@@ -1,17 +1,10 @@
 pub mod Bystanders
-pub mod Entries
-pub mod Exclusive
-pub mod Flags
-pub mod Holders
-pub mod Starvers
-pub mod Tickets
 pub mod InOrder
 pub mod Leaving
 pub mod Owners
 pub mod Plays
 pub mod Knowing
 pub mod Views
-pub mod TicketSteps
 pub mod CellCounts
 pub mod CellFields
 pub mod CellInside

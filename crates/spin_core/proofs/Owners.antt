@@ -5,9 +5,9 @@ use Rattle.std.proofs.lemmas.Bool.{and_parts, false≢true, lt-ltb, le-ltb}
 use Rattle.std.proofs.lemmas.List.Sums.{sum_by-cons, count_by-le-length}
 use mathlib.Core.Logic.{dite}
 use native.Mathlib.Decide.{ℕ_discrete, dec_lt}
-use Rattle.spin_core.specs.Plain.{Plain, writing as writer, Holder, Ticket, same_kind, count_kind}
-use Rattle.spin_core.specs.Parties.{none_entered, first_alone_entered, IsExclusive}
-use Rattle.spin_core.specs.Steps.{bit}
+use Rattle.spin_step.specs.Plain.{Plain, writing as writer, Holder, Ticket, same_kind, count_kind}
+use Rattle.spin_step.specs.Parties.{none_entered, first_alone_entered, IsExclusive}
+use Rattle.spin_step.specs.Steps.{bit}
 use Rattle.spin_core.specs.Cell.{alone, lends, most_readers, reading, writing, Limits, readers_of, writers_of}
 use Rattle.spin_core.specs.Views.{Part, entries_of, used_by, IsInOrder, part_at, IsLockOf}
 use Rattle.spin_core.proofs.CellCounts.{none}

@@ -3,8 +3,8 @@ use Rattle.std.proofs.Common.{◌≡◌, ℕ, ◌≤◌, ◌==◌, Bool, true, i
 use mathlib.Core.Logic.{dite}
 use native.Mathlib.Decide.{ℕ_discrete}
 use prog.Atomic.{either}
-use Rattle.spin_core.specs.Plain.{Plain, Change, apply, is_open, fresh, ticket_limit}
-use Rattle.spin_core.specs.Parties.{who, apply_some, IsOpenStep, entries_after, no_entries}
+use Rattle.spin_step.specs.Plain.{Plain, Change, apply, is_open, fresh, ticket_limit}
+use Rattle.spin_step.specs.Parties.{who, apply_some, IsOpenStep, entries_after, no_entries}
 use Rattle.spin_core.specs.Cell.{Use, Way, Ways, Limits, Going, Meets, Allows, AllowsSecond, Moved, Rests, Stands, after, readers_of, writers_of, use_of, off}
 use Rattle.spin_core.specs.Views.{Part, entries_of, Knows, HasPart, IsInOrder, IsLockOf, Encodes, used_by}
 use Rattle.spin_core.proofs.Leaving.{NamesNobody, leaves}

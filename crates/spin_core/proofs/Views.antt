@@ -5,13 +5,13 @@ use mathlib.Core.Logic.{dite}
 use native.Mathlib.Decide.{ℕ_discrete}
 use lib.ListN.{get_elem?}
 use Rattle.std.specs.Prelude.{slice_get}
-use Rattle.spin_core.specs.Plain.{Plain, Kind, writing, Change, releases, stops_starving, turns}
-use Rattle.spin_core.specs.Parties.{entries_after, apply_some, IsOpenStep}
+use Rattle.spin_step.specs.Plain.{Plain, Kind, writing, Change, releases, stops_starving, turns}
+use Rattle.spin_step.specs.Parties.{entries_after, apply_some, IsOpenStep}
 use Rattle.spin_core.specs.Cell.{Stands, after}
 use Rattle.spin_core.specs.Views.{Part, idle, holds, queues, saw_served, starves, holds_starving, entries_of, Knows, HasPart, IsInOrder, part_at, IsLockOf}
-use Rattle.spin_core.proofs.Entries.{entries-own, entries-other}
-use Rattle.spin_core.proofs.Holders.{same_kind-self}
-use Rattle.spin_core.proofs.Tickets.{serving-moves}
+use Rattle.spin_step.proofs.Entries.{entries-own, entries-other}
+use Rattle.spin_step.proofs.Holders.{same_kind-self}
+use Rattle.spin_step.proofs.Tickets.{serving-moves}
 
 knows-kept : (s : Plain) (p : ℕ) (step : Option Change) (x : Part) → IsInOrder s → IsOpenStep s p step → Knows s x → Knows (apply_some s step) x
 knows-kept s p None x order may known = known

@@ -1,8 +1,3 @@
-pub mod Plain
-pub mod Parties
-pub mod Steps
-pub mod Tickets
-pub mod Starvers
 pub mod Views
 pub mod Plays
 pub mod Cell

@@ -1,8 +1,8 @@
 -- The plain lock of a cell's parties: what each of them is to it, as its view says.
 use Rattle.std.specs.Prelude.{◌≡◌, ℕ, zero, suc, ◌≤◌, Bool, true, List, [], ◌∷◌, length, max}
-use Rattle.spin_core.specs.Plain.{Plain, Kind, reading, upgradable, writing, holder, ticket, ticket_limit, serving_word}
-use Rattle.spin_core.specs.Parties.{Entries, entries, no_entries, IsExclusive}
-use Rattle.spin_core.specs.Tickets.{Numbered}
+use Rattle.spin_step.specs.Plain.{Plain, Kind, reading, upgradable, writing, holder, ticket, ticket_limit, serving_word}
+use Rattle.spin_step.specs.Parties.{Entries, entries, no_entries, IsExclusive}
+use Rattle.spin_step.specs.Tickets.{Numbered}
 use Rattle.spin_core.specs.Cell.{Use, off, reads, writes}
 
 -- what one party is to the lock

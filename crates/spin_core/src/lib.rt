@@ -1,8 +1,10 @@
-//! What all the locks stand on: how a caller waits, the step functions on a lock's words, and the raw cell.
+//! What all the locks stand on: how a caller waits, and the raw cell.
 #![tactic(auto)]
 
 pub mod cell;
 pub mod relax;
-pub mod step;
+
+pub use spin_step as step;
+
 #[cfg(test)]
 mod tests;

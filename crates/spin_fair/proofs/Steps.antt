@@ -7,20 +7,20 @@ use Rattle.std.specs.Int.Bits.{or_zero_r}
 use mathlib.Core.Logic.{dite}
 use native.Mathlib.Decide.{ℕ_discrete}
 use prog.Atomic.{either}
-use Rattle.spin_core.specs.Plain.{Plain, writing, holder, is_starver, gets, releases, stops_starving, to_lock_unregistered, to_lock_starving, to_lock_starving_alone, to_starve, fair_word}
-use Rattle.spin_core.specs.Steps.{Decides}
-use Rattle.spin_core.specs.Starvers.{most_starvers, OneHolds}
+use Rattle.spin_step.specs.Plain.{Plain, writing, holder, is_starver, gets, releases, stops_starving, to_lock_unregistered, to_lock_starving, to_lock_starving_alone, to_starve, fair_word}
+use Rattle.spin_step.specs.Steps.{Decides}
+use Rattle.spin_step.specs.Starvers.{most_starvers, OneHolds}
 use Rattle.spin_core.specs.Cell.{writes, alone, reading, writing as writer, readers_of, writers_of, Ways, Limits, Meets, Allows, Rests, Moved, words}
 use Rattle.spin_core.specs.Views.{HasPart, IsInOrder, IsLockOf, used_by, no_word}
 use Rattle.spin_core.specs.Plays.{becomes, becomes_by, exchanges}
 use Rattle.spin_core.proofs.CellCounts.{none}
 use Rattle.spin_core.proofs.CellViews.{came_to, missed}
-use Rattle.spin_core.proofs.Holders.{is_holder-from_entries, is_empty-none, length-without_holder}
+use Rattle.spin_step.proofs.Holders.{is_holder-from_entries, is_empty-none, length-without_holder}
 use Rattle.spin_core.proofs.Knowing.{Writes, one_holds, allows_knowing}
 use Rattle.spin_core.proofs.Leaving.{fair_word-up, no_word-up, leaves}
 use Rattle.spin_core.proofs.Owners.{OfHolders, one_holder}
 use Rattle.spin_core.proofs.Plays.{Lock, Comes, by_step, by_none, by_exchange, begins}
-use Rattle.spin_core.proofs.Starvers.{is_starver-from_entries, length-without_starver}
+use Rattle.spin_step.proofs.Starvers.{is_starver-from_entries, length-without_starver}
 use Rattle.spin_core.proofs.Views.{part_before, release-own, stop-own, stop_holding-own}
 use Rattle.spin_fair.specs.declared.fair.rule.View.{View}
 use Rattle.spin_fair.specs.declared.fair.rule.View.TheVariants.{Idle, Starving, Holding, HoldingStarving}

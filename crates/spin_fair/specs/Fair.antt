@@ -1,7 +1,7 @@
 -- The rule of a fair mutex: its word is that of a plain lock whose holders and starvers are its parties.
 use Rattle.std.specs.Prelude.{◌≡◌, ℕ, List, Option, Some, None, if◌then◌else◌, ◌%◌, ◌==◌}
-use Rattle.spin_core.specs.Plain.{writing, fair_word}
-use Rattle.spin_core.specs.Starvers.{most_starvers}
+use Rattle.spin_step.specs.Plain.{writing, fair_word}
+use Rattle.spin_step.specs.Starvers.{most_starvers}
 use Rattle.spin_core.specs.Cell.{Use, off, writes, alone, Ways}
 use Rattle.spin_core.specs.Views.{Part, idle, holds, starves, holds_starving, Encodes, no_word}
 use Rattle.spin_fair.specs.declared.fair.rule.View.{View}

@@ -6,9 +6,9 @@ ghost use Rattle.spin_fair.specs.Fair.{use_of_view};
 use self::rule::{Attempt, Look, Register, Release};
 use spin_core::cell::{Cell, WritePermit};
 use spin_core::relax::{RelaxStrategy, Spin};
-use spin_core::step::fair;
 use spin_guard::guard;
 use spin_guard::guard::{Guard, Uses};
+use spin_step::fair;
 use std::marker::PhantomData;
 use std::sync::Wait;
 
@@ -18,7 +18,7 @@ mod texts;
 
 pub use self::rule::{FairRule, View};
 pub use self::starvation::Starvation;
-pub use spin_core::step::fair::LockRejectReason;
+pub use spin_step::fair::LockRejectReason;
 
 /// After more looks than this that found the lock held, `lock` starves.
 pub const STARVATION_SPINS: usize = 1024;

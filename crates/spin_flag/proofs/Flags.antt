@@ -1,13 +1,13 @@
 -- The steps of a lock of one flag keep its rule: each is the plain step that its step function makes.
 use Rattle.std.proofs.Common.{◌≡◌, ℕ, [], ◌==◌, Option, Some, None, refl, ap, arith}
 use prog.Atomic.{either}
-use Rattle.spin_core.specs.Plain.{Plain, Kind, writing, gets, releases, to_write, flag_word}
-use Rattle.spin_core.specs.Steps.{Decides, Gives}
+use Rattle.spin_step.specs.Plain.{Plain, Kind, writing, gets, releases, to_write, flag_word}
+use Rattle.spin_step.specs.Steps.{Decides, Gives}
 use Rattle.spin_core.specs.Cell.{Ways, alone, writes, Meets, Allows, Rests, Moved}
 use Rattle.spin_core.specs.Views.{no_word}
 use Rattle.spin_core.specs.Plays.{becomes, exchanges}
-use Rattle.spin_core.proofs.Exclusive.{writes_alone}
-use Rattle.spin_core.proofs.Holders.{is_holder-from_entries}
+use Rattle.spin_step.proofs.Exclusive.{writes_alone}
+use Rattle.spin_step.proofs.Holders.{is_holder-from_entries}
 use Rattle.spin_core.proofs.Leaving.{flag_word-up, no_word-up}
 use Rattle.spin_core.proofs.Owners.{OfHolders, one_holder}
 use Rattle.spin_core.proofs.Plays.{Lock, allows, by_step, by_none, by_exchange, begins, rests, moved_rests, missed_rests}

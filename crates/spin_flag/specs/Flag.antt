@@ -1,6 +1,6 @@
 -- The rule of a lock of one flag: its word is that of a plain lock whose holders are the parties that hold.
 use Rattle.std.specs.Prelude.{ℕ, List}
-use Rattle.spin_core.specs.Plain.{writing, flag_word}
+use Rattle.spin_step.specs.Plain.{writing, flag_word}
 use Rattle.spin_core.specs.Cell.{Use, alone, Ways}
 use Rattle.spin_core.specs.Views.{Part, idle, holds, Encodes, used_by, no_word}
 use Rattle.spin_flag.specs.declared.spin.rule.View.{View}

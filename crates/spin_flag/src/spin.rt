@@ -1,15 +1,15 @@
 //! A spinning mutex of one flag.
 ghost use Rattle.std.specs.Prelude.{◌≡◌, ◌≢◌, ℕ, IsTrue, ◌↔◌, IfSome};
-ghost use Rattle.spin_core.specs.Steps.{bit};
+ghost use Rattle.spin_step.specs.Steps.{bit};
 ghost use Rattle.spin_guard.specs.Guard.{IsHolder};
 ghost use Rattle.spin_flag.specs.Flag.{use_of_view};
 
 use self::rule::{Attempt, Look, Release};
 use spin_core::cell::{Cell, WritePermit};
 use spin_core::relax::{RelaxStrategy, Spin};
-use spin_core::step::flag;
 use spin_guard::guard;
 use spin_guard::guard::{Guard, Uses};
+use spin_step::flag;
 use std::marker::PhantomData;
 use std::sync::Wait;
 

@@ -2,7 +2,7 @@
 use Rattle.std.proofs.Common.{◌≡◌, ℕ, ◌==◌, Bool, true, false, not, List, [], ◌∷◌, length, Some, refl, sym, ap, subst, ◌∙◌, ne_eqb, arith}
 use prog.Atomic.{either}
 use Rattle.atomic_table.specs.Table.{Step}
-use Rattle.spin_core.specs.Plain.{Plain, Holder, writing, gets, releases, to_write, is_open, apply, flag_word}
+use Rattle.spin_step.specs.Plain.{Plain, Holder, writing, gets, releases, to_write, is_open, apply, flag_word}
 use Rattle.spin_seated.specs.declared.history.Entry.{Entry}
 use Rattle.spin_seated.specs.declared.mutex.Call.{Call}
 use Rattle.spin_seated.specs.declared.mutex.Call.TheVariants.{TryLock, IsLocked}

@@ -1,6 +1,6 @@
 -- Who holds the mutex: nobody, or one of its passes.
 use Rattle.std.proofs.Common.{◌≡◌, ℕ, ◌<◌, ◌≢◌, ◌==◌, ◌&&◌, ◌||◌, Bool, true, false, if◌then◌else◌, List, [], ◌∷◌, refl, sym, ap, subst, ◌∙◌, eq-eqb, ne_eqb, eqb-true}
-use Rattle.spin_core.specs.Plain.{Holder, holder, writing, same_kind, is_holder, is_empty, without_holder, apply, gets, to_write}
+use Rattle.spin_step.specs.Plain.{Holder, holder, writing, same_kind, is_holder, is_empty, without_holder, apply, gets, to_write}
 use Rattle.spin_seated.specs.declared.history.Entry.{Entry}
 use Rattle.spin_seated.specs.declared.mutex.Opening.{Opening}
 use Rattle.spin_seated.specs.declared.mutex.Call.{Call}

@@ -1,6 +1,6 @@
 -- What follows of a legal history.
 use Rattle.std.proofs.Common.{◌≡◌, ℕ, zero, suc, ◌≤◌, true, false, List, [], ◌∷◌, ◌++◌, map, length, Some, slice_get, refl, ap, ◌∙◌, arith}
-use Rattle.spin_core.specs.Plain.{Holder, is_empty}
+use Rattle.spin_step.specs.Plain.{Holder, is_empty}
 use Rattle.spin_seated.specs.declared.history.Entry.{Entry}
 use Rattle.spin_seated.specs.declared.mutex.Opening.{Opening}
 use Rattle.spin_seated.specs.declared.mutex.Call.{Call}

@@ -1,7 +1,7 @@
 -- Passes that add: the value is what the lock was opened with, and one more for each write.
 use Rattle.std.proofs.Common.{◌≡◌, ℕ, zero, suc, ◌+◌, ◌<◌, ◌≢◌, ◌==◌, ◌&&◌, ◌||◌, Bool, true, false, if◌then◌else◌, List, [], ◌∷◌, ◌++◌, Option, Some, None, option_and_then, append_assoc, refl, sym, ap, subst, ◌∙◌, eqb-true, eq-eqb, arith}
 use Rattle.std.proofs.lemmas.Bool.{false≢true}
-use Rattle.spin_core.specs.Plain.{Holder, holder, writing, same_kind, is_holder, is_empty}
+use Rattle.spin_step.specs.Plain.{Holder, holder, writing, same_kind, is_holder, is_empty}
 use Rattle.spin_seated.specs.declared.history.Entry.{Entry}
 use Rattle.spin_seated.specs.declared.mutex.Opening.{Opening}
 use Rattle.spin_seated.specs.declared.mutex.Call.{Call}

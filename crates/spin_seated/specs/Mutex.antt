@@ -1,6 +1,6 @@
 -- The plain mutex: the lock of named holders, with a value.
 use Rattle.std.specs.Prelude.{◌≡◌, ℕ, Bool, true, if◌then◌else◌, List, [], ◌∷◌, Option, Some, None, not, ◌==◌}
-use Rattle.spin_core.specs.Plain.{Plain, fresh, writing, is_open, apply, gets, releases, to_write, flag_word, is_holder, is_empty}
+use Rattle.spin_step.specs.Plain.{Plain, fresh, writing, is_open, apply, gets, releases, to_write, flag_word, is_holder, is_empty}
 use Rattle.atomic_table.specs.Table.{Step}
 use Rattle.atomic_table.specs.Seated.{TableId}
 use Rattle.atomic_table.specs.declared.shared.Seat.{Seat}

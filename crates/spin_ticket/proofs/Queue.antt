@@ -2,9 +2,9 @@
 use Rattle.std.proofs.Common.{◌≡◌, ℕ, ◌<◌, ◌≤◌, Bool, true, false, if◌then◌else◌, ◌==◌, [], length, Option, Some, None, refl, sym, ap, ◌∙◌, arith}
 use Rattle.std.proofs.lemmas.Bool.{eqb-true}
 use prog.Atomic.{either}
-use Rattle.spin_core.specs.Plain.{Plain, gets, serves, to_take_ticket, to_take_and_enter, to_enter, is_open, next_word, serving_word}
-use Rattle.spin_core.specs.Steps.{Decides, Gives}
-use Rattle.spin_core.specs.Tickets.{IsTurn}
+use Rattle.spin_step.specs.Plain.{Plain, gets, serves, to_take_ticket, to_take_and_enter, to_enter, is_open, next_word, serving_word}
+use Rattle.spin_step.specs.Steps.{Decides, Gives}
+use Rattle.spin_step.specs.Tickets.{IsTurn}
 use Rattle.spin_core.specs.Cell.{Ways, alone, writes, use_of, Meets, Allows, AllowsSecond, Rests, Moved}
 use Rattle.spin_core.specs.Views.{entries_of, queues}
 use Rattle.spin_core.specs.Plays.{becomes, becomes_by, exchanges}
@@ -12,7 +12,7 @@ use Rattle.spin_core.proofs.CellViews.{came_to}
 use Rattle.spin_core.proofs.Leaving.{next_word-up, serving_word-up}
 use Rattle.spin_core.proofs.Owners.{OfTickets, one_ticket}
 use Rattle.spin_core.proofs.Plays.{Lock, Comes, allows, allows_second, by_step, by_none, by_exchange, begins, rests, moved_rests, missed_rests}
-use Rattle.spin_core.proofs.Tickets.{serving-taken, serving-entered, entered_is_served, first-length}
+use Rattle.spin_step.proofs.Tickets.{serving-taken, serving-entered, entered_is_served, first-length}
 use Rattle.spin_ticket.specs.declared.ticket.rule.View.{View}
 use Rattle.spin_ticket.specs.declared.ticket.rule.View.TheVariants.{Idle, Saw, Waiting, Entered}
 use Rattle.spin_ticket.specs.Queue.{part, IsQueue, use_of_view, ticket_ways, Enters, Finds, Compares}

@@ -1,10 +1,10 @@
 -- What the rule of a lock of tickets says.
 use Rattle.std.proofs.Common.{◌≡◌, ℕ, List, refl, sym, ap, ◌∙◌, arith}
 use Rattle.std.specs.Prelude.{sum_by, count_by}
-use Rattle.spin_core.specs.Plain.{Plain, serving_word}
+use Rattle.spin_step.specs.Plain.{Plain, serving_word}
 use Rattle.spin_core.specs.Views.{entries_of}
 use Rattle.spin_core.proofs.Owners.{exactly}
-use Rattle.spin_core.proofs.Tickets.{one_if, has_number, count-lower, count-upper, count-between, entered_is_served}
+use Rattle.spin_step.proofs.Tickets.{one_if, has_number, count-lower, count-upper, count-between, entered_is_served}
 use Rattle.spin_core.proofs.Views.{part-there, part-beyond}
 use Rattle.spin_ticket.specs.declared.ticket.rule.View.{View}
 use Rattle.spin_ticket.specs.declared.ticket.rule.View.TheVariants.{Idle, Saw, Waiting, Entered}

@@ -1,8 +1,8 @@
 -- The rule of a lock of tickets: its words are those of a plain lock whose tickets are those of the parties that stand.
 use Rattle.std.specs.Prelude.{◌≡◌, ℕ, ◌<◌, ◌≤◌, Bool, true, false, List, Option, Some, if◌then◌else◌}
-use Rattle.spin_core.specs.Plain.{ticket_limit, next_word, serving_word}
+use Rattle.spin_step.specs.Plain.{ticket_limit, next_word, serving_word}
 use Rattle.spin_core.specs.Cell.{Use, alone, Ways}
-use Rattle.spin_core.specs.Tickets.{IsTurn}
+use Rattle.spin_step.specs.Tickets.{IsTurn}
 use Rattle.spin_core.specs.Views.{Part, idle, queues, saw_served, Encodes, used_by}
 use Rattle.spin_ticket.specs.declared.ticket.rule.View.{View}
 use Rattle.spin_ticket.specs.declared.ticket.rule.View.TheVariants.{Idle, Saw, Waiting, Entered}

@@ -1,8 +1,8 @@
 -- The queue of a lock of tickets: as a plain lock, and by the numbers of its parties.
 use Rattle.std.specs.Prelude.{◌≡◌, ℕ, ◌<◌, ◌≤◌, Bool, true, false, List, [], ◌∷◌, length, Some, filter, slice_get, count_by, ◌==◌}
-use Rattle.spin_core.specs.Plain.{Plain, Ticket, ticket, ticket_limit, next_word, serving_word}
-use Rattle.spin_core.specs.Parties.{first_alone_entered}
-use Rattle.spin_core.specs.Tickets.{Numbered}
+use Rattle.spin_step.specs.Plain.{Plain, Ticket, ticket, ticket_limit, next_word, serving_word}
+use Rattle.spin_step.specs.Parties.{first_alone_entered}
+use Rattle.spin_step.specs.Tickets.{Numbered}
 use Rattle.spin_ticket.specs.declared.ticket.rule.View.{View}
 use Rattle.spin_ticket.specs.declared.ticket.rule.View.TheVariants.{Waiting, Entered}
 

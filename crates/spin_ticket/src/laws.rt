@@ -1,6 +1,6 @@
 //! Laws of the locks. Each is the contract of a function that does nothing.
 ghost use Rattle.std.specs.Prelude.{ℕ, List};
-ghost use Rattle.spin_core.specs.Plain.{Plain};
+ghost use Rattle.spin_step.specs.Plain.{Plain};
 ghost use Rattle.spin_ticket.specs.declared.ticket.rule.View.{View};
 ghost use Rattle.spin_ticket.specs.Queue.{IsQueue};
 ghost use Rattle.spin_ticket.specs.TicketQueue.{IsInTurn, IsPlainQueue};

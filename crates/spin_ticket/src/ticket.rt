@@ -7,9 +7,9 @@ ghost use Rattle.spin_ticket.specs.declared.ticket.rule.View.TheVariants.{Waitin
 use self::rule::{Attempt, Compare, Enter, Find, Look, Release, See, Take};
 use spin_core::cell::{Cell, Permit, WritePermit};
 use spin_core::relax::{RelaxStrategy, Spin};
-use spin_core::step::ticket;
 use spin_guard::guard;
 use spin_guard::guard::{Guard, Uses};
+use spin_step::ticket;
 use std::marker::PhantomData;
 use std::sync::Wait;
 

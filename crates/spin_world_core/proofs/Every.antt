@@ -1,8 +1,8 @@
 -- Every event of every schedule keeps all that is promised, of any object that shows its local facts.
 use Rattle.std.proofs.Common.{◌≡◌, ℕ, Option, Some, None, List, [], ◌∷◌, zero, suc, is_some, replicate, slice_get, refl, ap, ◌∙◌, arith}
 use Rattle.std.proofs.lemmas.Bool.{true≢false, false≢true}
-use Rattle.spin_core.specs.Plain.{Plain}
-use Rattle.spin_core.specs.Parties.{entries, no_entries}
+use Rattle.spin_step.specs.Plain.{Plain}
+use Rattle.spin_step.specs.Parties.{entries, no_entries}
 use Rattle.spin_world_core.specs.declared.place.Hold.{Hold}
 use Rattle.spin_world_core.specs.declared.place.Seat.{Seat}
 use Rattle.spin_world_core.specs.declared.place.Seat.TheVariants.{Idle, Calling, Holding, Leaked, Gone}

@@ -1,7 +1,7 @@
 -- What an object shows of itself: local facts, without a word of schedules.
 use Rattle.std.proofs.Common.{◌≡◌, ℕ, zero, suc, ◌<◌, ◌≤◌, true, false, ◌||◌, Option, Some, None, List, [], ◌∷◌}
-use Rattle.spin_core.specs.Plain.{Plain, Change, completes, is_empty}
-use Rattle.spin_core.specs.Parties.{apply_some, IsOpenStep, entries, is_held, IsExclusive}
+use Rattle.spin_step.specs.Plain.{Plain, Change, completes, is_empty}
+use Rattle.spin_step.specs.Parties.{apply_some, IsOpenStep, entries, is_held, IsExclusive}
 use Rattle.spin_world_core.specs.declared.place.Hold.{Hold}
 use Rattle.spin_world_core.specs.declared.place.Seat.{Seat}
 use Rattle.spin_world_core.specs.declared.place.Seat.TheVariants.{Calling}

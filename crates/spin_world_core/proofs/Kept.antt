@@ -1,10 +1,10 @@
 -- One event keeps all that is promised, of any object that shows its local facts.
 use Rattle.std.proofs.Common.{◌≡◌, ℕ, ◌<◌, ◌≤◌, ◌==◌, Bool, true, false, Option, Some, None, List, [], ◌∷◌, ◌++◌, suc, if◌then◌else◌, is_some, slice_get, slice_set, refl, ap, sym, ◌∙◌, subst, ⊎_elim, arith}
 use Rattle.std.proofs.lemmas.Bool.{ne_eqb, cases_eq, true≢false}
-use Rattle.spin_core.specs.Plain.{Plain, Change}
-use Rattle.spin_core.specs.Parties.{apply_some, IsOpenStep, Entries, entries, entries_after, IsExclusive}
-use Rattle.spin_core.proofs.Entries.{entries-other, entries-own}
-use Rattle.spin_core.proofs.Exclusive.{exclusive-kept}
+use Rattle.spin_step.specs.Plain.{Plain, Change}
+use Rattle.spin_step.specs.Parties.{apply_some, IsOpenStep, Entries, entries, entries_after, IsExclusive}
+use Rattle.spin_step.proofs.Entries.{entries-other, entries-own}
+use Rattle.spin_step.proofs.Exclusive.{exclusive-kept}
 use Rattle.spin_world_core.specs.declared.place.Hold.{Hold}
 use Rattle.spin_world_core.specs.declared.place.Hold.TheVariants as hold
 use Rattle.spin_world_core.specs.declared.place.Seat.{Seat}

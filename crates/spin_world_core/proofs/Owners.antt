@@ -4,7 +4,7 @@ use Rattle.std.specs.List.{list_all}
 use Rattle.std.specs.Option.{option_map}
 use Rattle.std.proofs.lemmas.Bool.{and_parts, false≢true}
 use Rattle.std.proofs.lemmas.Option.{slice_get-map}
-use Rattle.spin_core.specs.Plain.{Plain}
+use Rattle.spin_step.specs.Plain.{Plain}
 use Rattle.spin_world_core.specs.declared.place.Seat.{Seat}
 use Rattle.spin_world_core.specs.declared.place.Seat.TheVariants.{Idle, Calling, Holding, Leaked, Gone}
 use Rattle.spin_world_core.specs.declared.schedule.Move.TheVariants.{OwnerGet, OwnerSet}

@@ -1,9 +1,9 @@
 -- An object that pays what its table owes shows all local facts.
 use Rattle.std.proofs.Common.{◌≡◌, ℕ, zero, suc, ◌+◌, ◌<◌, ◌≤◌, ◌==◌, Bool, true, false, not, is_some, Option, Some, None, List, [], ◌∷◌, ◌++◌, option_to_list, get_or, refl, ap, sym, ◌∙◌, subst, arith}
 use Rattle.std.proofs.lemmas.Bool.{and_parts, false≢true, true≢false, eqb-true}
-use Rattle.spin_core.specs.Plain.{Plain, is_empty, Change, completes, gets, releases, serves, stops_starving, turns, fails, arrives, is_open}
-use Rattle.spin_core.specs.Parties.{apply_some, IsOpenStep, entries}
-use Rattle.spin_core.specs.Steps.{bit}
+use Rattle.spin_step.specs.Plain.{Plain, is_empty, Change, completes, gets, releases, serves, stops_starving, turns, fails, arrives, is_open}
+use Rattle.spin_step.specs.Parties.{apply_some, IsOpenStep, entries}
+use Rattle.spin_step.specs.Steps.{bit}
 use Rattle.spin_world_core.specs.declared.place.Hold.{Hold}
 use Rattle.spin_world_core.specs.declared.object.Next.{Next}
 use Rattle.spin_world_core.specs.declared.object.Next.TheVariants.{GoesOn, Answers}

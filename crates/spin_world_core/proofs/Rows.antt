@@ -1,10 +1,10 @@
 -- What a party in a call knows of itself and of its span, and that its own steps and those of others keep it.
 use Rattle.std.proofs.Common.{◌≡◌, ℕ, suc, ◌+◌, ◌≤◌, ◌⊎◌, ◌==◌, Bool, true, false, not, ◌&&◌, is_some, Option, Some, None, List, [], ◌∷◌, ◌++◌, option_to_list, nat_lt, if◌then◌else◌, refl, ap, sym, ◌∙◌, subst, arith, inl, inr, ⊎_elim}
 use Rattle.std.proofs.lemmas.Bool.{ne_eqb, eqb-true, ltb-true, cases_eq, eq-eqb}
-use Rattle.spin_core.specs.Plain.{Plain, upgradable, writing, Ask, to_read, to_enter, to_lock_unregistered, to_lock_starving, to_begin, Change, gets, turns, completes, fails, arrives, is_open}
-use Rattle.spin_core.specs.Parties.{apply_some, IsOpenStep, entries}
-use Rattle.spin_core.specs.Steps.{bit}
-use Rattle.spin_core.proofs.Entries.{entries-other}
+use Rattle.spin_step.specs.Plain.{Plain, upgradable, writing, Ask, to_read, to_enter, to_lock_unregistered, to_lock_starving, to_begin, Change, gets, turns, completes, fails, arrives, is_open}
+use Rattle.spin_step.specs.Parties.{apply_some, IsOpenStep, entries}
+use Rattle.spin_step.specs.Steps.{bit}
+use Rattle.spin_step.proofs.Entries.{entries-other}
 use Rattle.spin_world_core.specs.declared.place.Hold.{Hold}
 use Rattle.spin_world_core.specs.declared.place.Hold.TheVariants.{Upgradable, Write}
 use Rattle.spin_world_core.specs.Manners.{Manner, is_again}

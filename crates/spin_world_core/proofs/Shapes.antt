@@ -1,9 +1,9 @@
 -- What the table of an object owes, point by point, and that its machine then shows all local facts.
 use Rattle.std.proofs.Common.{◌≡◌, ℕ, zero, suc, ◌≤◌, Bool, true, false, not, ◌&&◌, ◌||◌, is_some, Option, Some, None, List, [], ◌∷◌, ◌++◌, option_to_list}
-use Rattle.spin_core.specs.Plain.{Plain, Change, completes, apply, is_open, is_empty}
+use Rattle.spin_step.specs.Plain.{Plain, Change, completes, apply, is_open, is_empty}
 use Rattle.std.specs.Option.{option_map}
-use Rattle.spin_core.specs.Parties.{who, apply_some, IsOpenStep, entries, IsExclusive}
-use Rattle.spin_core.specs.Steps.{Decides}
+use Rattle.spin_step.specs.Parties.{who, apply_some, IsOpenStep, entries, IsExclusive}
+use Rattle.spin_step.specs.Steps.{Decides}
 use Rattle.spin_world_core.specs.declared.place.Hold.{Hold}
 use Rattle.spin_world_core.specs.declared.object.Next.{Next}
 use Rattle.spin_world_core.specs.declared.object.Next.TheVariants.{GoesOn, Answers}

@@ -2,9 +2,9 @@
 use Rattle.std.proofs.Common.{◌≡◌, ℕ, ◌+◌, ◌<◌, ◌≤◌, ◌==◌, Bool, true, false, not, ◌&&◌, is_some, Option, Some, None, List, [], ◌∷◌, ◌++◌, option_to_list, if◌then◌else◌, refl, ap, ◌∙◌, arith}
 use Rattle.std.proofs.lemmas.Bool.{ne_eqb}
 use Rattle.std.proofs.lemmas.List.{append-nil}
-use Rattle.spin_core.specs.Plain.{Plain, Change}
-use Rattle.spin_core.specs.Parties.{apply_some}
-use Rattle.spin_core.specs.Steps.{bit}
+use Rattle.spin_step.specs.Plain.{Plain, Change}
+use Rattle.spin_step.specs.Parties.{apply_some}
+use Rattle.spin_step.specs.Steps.{bit}
 use Rattle.spin_world_core.specs.Manners.{Manner, is_again}
 use Rattle.spin_world_core.specs.Manners as manner
 use Rattle.spin_world_core.specs.Calls.{Coding, first_word, Mark}

@@ -1,8 +1,8 @@
 -- What a party has in a call, and what its own plain steps make of it.
 use Rattle.std.proofs.Common.{◌≡◌, ℕ, Bool, true, false, ◌&&◌, Option, Some, None, [], ◌∷◌, if◌then◌else◌, refl, ap, ◌∙◌, subst}
-use Rattle.spin_core.specs.Plain.{Plain, Kind, reading, upgradable, writing, holder, ticket as queued, Ask, to_read, to_read_upgradable, to_write, to_upgrade, to_take_ticket, to_enter, to_take_and_enter, to_lock_unregistered, to_lock_starving, to_lock_starving_alone, to_starve, to_begin, Change, gets, releases, serves, stops_starving, turns, completes, fails, arrives}
-use Rattle.spin_core.specs.Parties.{who, apply_some, IsOpenStep, Entries, entries, no_entries, entries_after}
-use Rattle.spin_core.proofs.Entries.{entries-own}
+use Rattle.spin_step.specs.Plain.{Plain, Kind, reading, upgradable, writing, holder, ticket as queued, Ask, to_read, to_read_upgradable, to_write, to_upgrade, to_take_ticket, to_enter, to_take_and_enter, to_lock_unregistered, to_lock_starving, to_lock_starving_alone, to_starve, to_begin, Change, gets, releases, serves, stops_starving, turns, completes, fails, arrives}
+use Rattle.spin_step.specs.Parties.{who, apply_some, IsOpenStep, Entries, entries, no_entries, entries_after}
+use Rattle.spin_step.proofs.Entries.{entries-own}
 use Rattle.spin_world_core.specs.declared.place.Hold.{Hold}
 use Rattle.spin_world_core.specs.declared.place.Hold.TheVariants.{Read, Upgradable, Write, Ticket, Starver}
 use Rattle.spin_world_core.specs.Runs.{entries_held}

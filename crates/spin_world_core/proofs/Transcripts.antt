@@ -4,7 +4,7 @@ use Rattle.std.specs.Option.{option_map}
 use Rattle.std.proofs.lemmas.Bool.Decides.{eqb_tells}
 use Rattle.std.proofs.lemmas.List.{length-replicate}
 use Rattle.std.proofs.lemmas.Option.{slice_get-map}
-use Rattle.spin_core.specs.Plain.{Plain, Change}
+use Rattle.spin_step.specs.Plain.{Plain, Change}
 use Rattle.spin_world_core.specs.declared.place.Hold.{Hold}
 use Rattle.spin_world_core.specs.declared.place.Place.{Place}
 use Rattle.spin_world_core.specs.declared.place.Seat.{Seat}

@@ -1,8 +1,8 @@
 -- An undisturbed call is answered by its fourth own step.
 use Rattle.std.proofs.Common.{◌≡◌, ℕ, zero, suc, ◌+◌, ◌<◌, ◌≤◌, true, false, Option, Some, None, List, [], ◌∷◌, ◌++◌, refl, ap, sym, ◌∙◌, subst, arith}
 use Rattle.std.specs.Option.{option_map}
-use Rattle.spin_core.specs.Plain.{Plain, Change}
-use Rattle.spin_core.specs.Parties.{apply_some}
+use Rattle.spin_step.specs.Plain.{Plain, Change}
+use Rattle.spin_step.specs.Parties.{apply_some}
 use Rattle.spin_world_core.specs.declared.place.Hold.{Hold}
 use Rattle.spin_world_core.specs.declared.place.Seat.{Seat}
 use Rattle.spin_world_core.specs.declared.place.Seat.TheVariants.{Idle, Calling, Holding, Leaked, Gone}

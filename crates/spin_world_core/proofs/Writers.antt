@@ -2,9 +2,9 @@
 use Rattle.std.proofs.Common.{◌≡◌, ℕ, ◌+◌, ◌<◌, ◌==◌, Bool, true, false, not, ◌&&◌, ◌||◌, cond, List, [], ◌∷◌, length, filter, refl, ap, sym, ◌∙◌, arith, ⊎_elim}
 use Rattle.std.specs.List.{list_any}
 use Rattle.std.proofs.lemmas.Bool.{eqb-true, and_parts, or_cases, true≢false, false≢true}
-use Rattle.spin_core.specs.Plain.{Plain, writing, Holder, Ticket, same_kind, count_kind, is_empty}
-use Rattle.spin_core.specs.Parties.{entries, is_held, IsExclusive, none_entered, first_alone_entered}
-use Rattle.spin_core.proofs.Exclusive.{count-cons}
+use Rattle.spin_step.specs.Plain.{Plain, writing, Holder, Ticket, same_kind, count_kind, is_empty}
+use Rattle.spin_step.specs.Parties.{entries, is_held, IsExclusive, none_entered, first_alone_entered}
+use Rattle.spin_step.proofs.Exclusive.{count-cons}
 use Rattle.spin_world_core.specs.Runs.{is_reader, is_writer}
 
 is_some_list : {X : Type 0} (test : X → Bool) (xs : List X) → list_any test xs ≡ true → not (is_empty xs) ≡ true

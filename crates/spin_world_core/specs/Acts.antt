@@ -1,6 +1,6 @@
 -- An object as a table: for each point of a call the shape of its next step. The shapes make the machine, and say what each step owes.
 use Rattle.std.specs.Prelude.{ℕ, Bool, true, false, Option, Some, None, List, ◌∷◌, is_some, ◌==◌}
-use Rattle.spin_core.specs.Plain.{Change}
+use Rattle.spin_step.specs.Plain.{Change}
 use Rattle.spin_world_core.specs.declared.place.Hold.{Hold}
 use Rattle.spin_world_core.specs.declared.object.Next.{Next}
 use Rattle.spin_world_core.specs.declared.object.Stepped.{Stepped}

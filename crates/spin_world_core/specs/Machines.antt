@@ -1,6 +1,6 @@
 -- An object as the world sees it: where its calls begin, what their steps do, and how both read on the plain lock.
 use Rattle.std.specs.Prelude.{ℕ, Bool, List, Option}
-use Rattle.spin_core.specs.Plain.{Plain, Change, fresh}
+use Rattle.spin_step.specs.Plain.{Plain, Change, fresh}
 use Rattle.spin_world_core.specs.declared.place.Hold.{Hold}
 use Rattle.spin_world_core.specs.declared.object.Next.{Next}
 use Rattle.spin_world_core.specs.declared.object.Stepped.{Stepped}

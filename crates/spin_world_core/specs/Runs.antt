@@ -1,8 +1,8 @@
 -- What is promised of every event of every schedule. Beside the world runs one plain lock, which each event moves by the plain step that it makes.
 use Rattle.std.specs.Prelude.{◌≡◌, ℕ, ◌+◌, ◌<◌, ◌≤◌, ◌↔◌, ◌⊎◌, Bool, true, false, not, ◌||◌, Option, Some, None, List, [], ◌∷◌, ◌++◌, is_some, ◌==◌, if◌then◌else◌, slice_get, take}
 use Rattle.std.specs.List.{list_any}
-use Rattle.spin_core.specs.Plain.{Plain, reading, upgradable, writing, same_kind, Change, completes, holder, ticket, is_empty}
-use Rattle.spin_core.specs.Parties.{apply_some, IsOpenStep, Entries, entries, no_entries, entries_after, IsExclusive}
+use Rattle.spin_step.specs.Plain.{Plain, reading, upgradable, writing, same_kind, Change, completes, holder, ticket, is_empty}
+use Rattle.spin_step.specs.Parties.{apply_some, IsOpenStep, Entries, entries, no_entries, entries_after, IsExclusive}
 use Rattle.spin_world_core.specs.declared.place.Hold.{Hold}
 use Rattle.spin_world_core.specs.declared.place.Hold.TheVariants as hold
 use Rattle.spin_world_core.specs.declared.place.Seat.{Seat}

@@ -1,7 +1,7 @@
 -- What a party's call has done so far, by the steps of its span, the latest first.
 use Rattle.std.specs.Prelude.{◌≡◌, ℕ, ◌+◌, not, ◌&&◌, List, [], ◌∷◌, ◌++◌, is_some, option_to_list, ◌==◌, if◌then◌else◌}
-use Rattle.spin_core.specs.Plain.{Change}
-use Rattle.spin_core.specs.Steps.{bit}
+use Rattle.spin_step.specs.Plain.{Change}
+use Rattle.spin_step.specs.Steps.{bit}
 use Rattle.spin_world_core.specs.Manners.{is_again}
 use Rattle.spin_world_core.specs.Calls.{Coding, first_word, Mark}
 

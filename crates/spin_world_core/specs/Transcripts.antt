@@ -1,7 +1,7 @@
 -- What a transcript and a place tell, against the events of the schedule and the plain lock beside them.
 use Rattle.std.specs.Prelude.{◌≡◌, ℕ, ◌≤◌, Option, Some, None, List, [], ◌∷◌, ◌==◌, if◌then◌else◌}
-use Rattle.spin_core.specs.Plain.{Plain}
-use Rattle.spin_core.specs.Parties.{entries, no_entries}
+use Rattle.spin_step.specs.Plain.{Plain}
+use Rattle.spin_step.specs.Parties.{entries, no_entries}
 use Rattle.spin_world_core.specs.declared.place.Hold.{Hold}
 use Rattle.spin_world_core.specs.declared.place.Place.{Place}
 use Rattle.spin_world_core.specs.declared.place.Place.TheVariants as place

@@ -1,6 +1,6 @@
 -- Calls that nobody disturbs: from a moment on at which what such a call asks is open, it is answered by its fourth own step.
 use Rattle.std.specs.Prelude.{◌≡◌, ℕ, ◌-◌, ◌/◌, ◌%◌, ◌^◌, ◌≤◌, ◌<◌, ◌==◌, ◌&&◌, ◌||◌, Bool, true, false, not, Option, Some, is_some, List, [], ◌∷◌, ◌++◌, if◌then◌else◌, max}
-use Rattle.spin_core.specs.Plain.{Plain, to_enter, to_take_and_enter, to_lock_unregistered, to_lock_starving, is_open_to, is_empty, is_nothing}
+use Rattle.spin_step.specs.Plain.{Plain, to_enter, to_take_and_enter, to_lock_unregistered, to_lock_starving, is_open_to, is_empty, is_nothing}
 use Rattle.spin_world_core.specs.declared.schedule.Outcome.{Outcome}
 use Rattle.spin_world_core.specs.declared.schedule.Outcome.TheVariants as outcome
 use Rattle.spin_world_core.specs.Manners.{is_weak}

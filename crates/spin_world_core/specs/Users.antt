@@ -1,7 +1,7 @@
 -- Laws that users of a lock rely on, over whole schedules.
 use Rattle.std.specs.Prelude.{◌≡◌, ℕ, ◌+◌, Bool, true, false, not, ◌&&◌, ◌||◌, Option, Some, None, List, [], ◌∷◌, ◌++◌, ◌==◌, slice_get}
-use Rattle.spin_core.specs.Plain.{Change}
-use Rattle.spin_core.specs.Steps.{bit}
+use Rattle.spin_step.specs.Plain.{Change}
+use Rattle.spin_step.specs.Steps.{bit}
 use Rattle.spin_world_core.specs.declared.place.Hold.{Hold}
 use Rattle.spin_world_core.specs.declared.place.Seat.{Seat}
 use Rattle.spin_world_core.specs.declared.place.Seat.TheVariants.{Holding, Leaked}

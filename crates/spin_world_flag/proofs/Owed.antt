@@ -1,11 +1,11 @@
 -- What the flag's table owes.
 use Rattle.std.proofs.Common.{◌≡◌, ℕ, Bool, true, false, not, ◌&&◌, ◌||◌, Option, Some, None, List, [], ◌∷◌, refl, ap, sym, ◌∙◌, arith, inl}
 use Rattle.std.proofs.lemmas.Bool.{true≢false}
-use Rattle.spin_core.specs.Plain.{Plain, Ticket as Queued, Holder, writing, to_write, gets, releases, is_empty, flag_word}
-use Rattle.spin_core.specs.Parties.{Entries, entries, is_held}
-use Rattle.spin_core.specs.Steps.{bit}
-use Rattle.spin_core.proofs.Holders.{is_holder-from_entries, length-held}
-use Rattle.spin_core.proofs.Flags.{flag_lock-grants, flag_unlock-gives}
+use Rattle.spin_step.specs.Plain.{Plain, Ticket as Queued, Holder, writing, to_write, gets, releases, is_empty, flag_word}
+use Rattle.spin_step.specs.Parties.{Entries, entries, is_held}
+use Rattle.spin_step.specs.Steps.{bit}
+use Rattle.spin_step.proofs.Holders.{is_holder-from_entries, length-held}
+use Rattle.spin_step.proofs.Flags.{flag_lock-grants, flag_unlock-gives}
 use Rattle.spin_world_core.specs.declared.place.Hold.{Hold}
 use Rattle.spin_world_core.specs.declared.place.Hold.TheVariants.{Write}
 use Rattle.spin_world_flag.specs.declared.flag.FlagCall.{FlagCall}

@@ -1,7 +1,7 @@
 -- The flag's calls, step by step, and how they read on the plain lock.
 use Rattle.std.specs.Prelude.{Bool, true, false, Option, Some, None, [], if◌then◌else◌}
-use Rattle.spin_core.specs.Plain.{writing, to_write, gets, releases}
-use Rattle.spin_core.specs.Steps.{bit}
+use Rattle.spin_step.specs.Plain.{writing, to_write, gets, releases}
+use Rattle.spin_step.specs.Steps.{bit}
 use Rattle.spin_world_core.specs.declared.place.Hold.{Hold}
 use Rattle.spin_world_core.specs.declared.place.Hold.TheVariants.{Write}
 use Rattle.spin_world_core.specs.declared.object.Next.{Next}

@@ -1,9 +1,9 @@
 ghost use Rattle.std.specs.Prelude.{◌≡◌, true};
-ghost use Rattle.spin_core.specs.Steps.{bit};
+ghost use Rattle.spin_step.specs.Steps.{bit};
 ghost use Rattle.spin_world_core.specs.Acts.{becomes, stays, step_by, can_by};
 ghost use Rattle.spin_world_flag.specs.Flag.{lock, granted, act_of};
 
-use spin_core::step::flag;
+use spin_step::flag;
 use spin_world_core::{Answer, Hold, Next, Object, Stepped};
 
 /// A call of a [`Flag`].

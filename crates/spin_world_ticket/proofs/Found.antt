@@ -1,10 +1,10 @@
 -- What a party finds of a queue of tickets, that another party's step leaves it true, and what it comes to.
 use Rattle.std.proofs.Common.{◌≡◌, ℕ, ◌+◌, ◌<◌, ◌-◌, ◌≤◌, ◌⊎◌, Bool, true, false, not, ◌&&◌, Option, Some, None, List, [], ◌∷◌, ◌++◌, length, refl, ap, sym, ◌∙◌, arith, inl, inr}
 use Rattle.std.proofs.lemmas.Bool.{lt-ltb, ltb-true}
-use Rattle.spin_core.specs.Plain.{Plain, ticket as queued, Ticket as Queued, ticket_limit, to_take_and_enter, Change, apply, is_empty, is_open_to, serving_word}
-use Rattle.spin_core.specs.Parties.{apply_some, IsOpenStep, is_held}
-use Rattle.spin_core.specs.Tickets.{Numbered}
-use Rattle.spin_core.proofs.Tickets.{Advances, serving-advances, nobody_stands, somebody_stands}
+use Rattle.spin_step.specs.Plain.{Plain, ticket as queued, Ticket as Queued, ticket_limit, to_take_and_enter, Change, apply, is_empty, is_open_to, serving_word}
+use Rattle.spin_step.specs.Parties.{apply_some, IsOpenStep, is_held}
+use Rattle.spin_step.specs.Tickets.{Numbered}
+use Rattle.spin_step.proofs.Tickets.{Advances, serving-advances, nobody_stands, somebody_stands}
 use Rattle.spin_world_core.specs.Manners.{Manner, plain}
 use Rattle.spin_world_core.specs.Calls.{Mark, AnyOf}
 use Rattle.spin_world_core.specs.Runs.{mark_of}

@@ -1,11 +1,11 @@
 -- What the ticket lock's table owes.
 use Rattle.std.proofs.Common.{◌≡◌, ℕ, suc, ◌+◌, ◌-◌, ◌≤◌, ◌==◌, Bool, true, false, not, ◌&&◌, ◌||◌, if◌then◌else◌, is_some, Option, Some, None, List, [], ◌∷◌, refl, ap, sym, ◌∙◌, subst, arith, inl, inr, eq-eqb}
 use Rattle.std.proofs.lemmas.Bool.{and_parts, eqb-true, true≢false}
-use Rattle.spin_core.specs.Plain.{Plain, Ask, to_take_ticket, to_enter, to_take_and_enter, Change, gets, serves, apply, is_open, is_empty, next_word, serving_word}
-use Rattle.spin_core.specs.Parties.{apply_some, IsOpenStep, Entries, entries, is_held}
-use Rattle.spin_core.specs.Steps.{Decides}
-use Rattle.spin_core.proofs.Tickets.{enters_in_turn, numbered-gets, numbered-serves, serving-taken, serving-entered, entered_is_served, stands}
-use Rattle.spin_core.proofs.TicketSteps.{ticket_take-grants, ticket_take-grants_alone, ticket_serve-gives}
+use Rattle.spin_step.specs.Plain.{Plain, Ask, to_take_ticket, to_enter, to_take_and_enter, Change, gets, serves, apply, is_open, is_empty, next_word, serving_word}
+use Rattle.spin_step.specs.Parties.{apply_some, IsOpenStep, Entries, entries, is_held}
+use Rattle.spin_step.specs.Steps.{Decides}
+use Rattle.spin_step.proofs.Tickets.{enters_in_turn, numbered-gets, numbered-serves, serving-taken, serving-entered, entered_is_served, stands}
+use Rattle.spin_step.proofs.TicketSteps.{ticket_take-grants, ticket_take-grants_alone, ticket_serve-gives}
 use Rattle.spin_world_core.specs.declared.place.Hold.{Hold}
 use Rattle.spin_world_core.specs.declared.place.Hold.TheVariants as hold
 use Rattle.spin_world_ticket.specs.declared.ticket.TicketWords.{TicketWords}

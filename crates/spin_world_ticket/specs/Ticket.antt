@@ -1,6 +1,6 @@
 -- The ticket lock's calls, step by step, and how they read on the plain lock.
 use Rattle.std.specs.Prelude.{ℕ, ◌+◌, Bool, true, not, ◌&&◌, Option, Some, None, [], ◌∷◌, ◌==◌, if◌then◌else◌, nat_lt}
-use Rattle.spin_core.specs.Plain.{ticket_limit, to_take_ticket, to_enter, to_take_and_enter, gets, serves}
+use Rattle.spin_step.specs.Plain.{ticket_limit, to_take_ticket, to_enter, to_take_and_enter, gets, serves}
 use Rattle.spin_world_core.specs.declared.place.Hold.{Hold}
 use Rattle.spin_world_core.specs.declared.place.Hold.TheVariants as hold
 use Rattle.spin_world_core.specs.declared.object.Next.{Next}

@@ -1,8 +1,8 @@
 -- What users of a ticket lock rely on: its tickets stand in order, and enter in their turn.
 use Rattle.std.specs.Prelude.{◌≡◌, ℕ, ◌+◌, ◌↔◌, Bool, true, false, Option, Some, None, List, [], ◌∷◌, ◌++◌, slice_get}
-use Rattle.spin_core.specs.Plain.{Plain, ticket, Change, serves, next_word, serving_word}
-use Rattle.spin_core.specs.Parties.{Entries, entries, no_entries, first_alone_entered}
-use Rattle.spin_core.specs.Tickets.{Numbered}
+use Rattle.spin_step.specs.Plain.{Plain, ticket, Change, serves, next_word, serving_word}
+use Rattle.spin_step.specs.Parties.{Entries, entries, no_entries, first_alone_entered}
+use Rattle.spin_step.specs.Tickets.{Numbered}
 use Rattle.spin_world_core.specs.declared.answer.Answer.TheVariants.{Granted}
 use Rattle.spin_world_core.specs.declared.place.Hold.{Hold}
 use Rattle.spin_world_core.specs.declared.place.Hold.TheVariants as hold

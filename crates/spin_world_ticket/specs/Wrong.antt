@@ -13,7 +13,7 @@ use Rattle.spin_world_ticket.specs.declared.ticket.TicketPoint.{TicketPoint}
 use Rattle.spin_world_ticket.specs.declared.ticket.TicketPoint.TheVariants.{LoadNext, Await, LookServing, LookNext}
 use Rattle.spin_world_core.specs.declared.schedule.Move.{Move}
 use Rattle.spin_world_core.specs.declared.schedule.Move.TheVariants.{Begin, Step}
-use Rattle.spin_core.specs.Plain.{Change}
+use Rattle.spin_step.specs.Plain.{Change}
 use Rattle.spin_world_core.specs.Machines.{Machine}
 use Rattle.spin_world_ticket.specs.Ticket.{ticket_machine}
 

@@ -5,7 +5,7 @@ ghost use Rattle.spin_world_ticket.specs.declared.ticket.TicketPoint.TheVariants
 ghost use Rattle.spin_world_core.specs.Acts.{either, stays, becomes, step_by, can_by};
 ghost use Rattle.spin_world_ticket.specs.Ticket.{is_left, take_at, granted, act_of};
 
-use spin_core::step::ticket;
+use spin_step::ticket;
 use spin_world_core::{Answer, Hold, Next, Object, Stepped};
 
 /// The words of a [`Ticket`].

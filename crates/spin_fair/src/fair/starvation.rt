@@ -8,8 +8,8 @@ use super::rule::{AttemptAlone, Look, SetFlag, Unregister};
 use super::{FairMutexGuard, FairRule, LOCKED, STARVER, View};
 use spin_core::cell::Permit;
 use spin_core::relax::{RelaxStrategy, Spin};
-use spin_core::step::fair;
 use spin_guard::guard::Guard;
+use spin_step::fair;
 use std::marker::PhantomData;
 use std::sync::Wait;
 

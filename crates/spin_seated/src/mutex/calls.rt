@@ -1,7 +1,7 @@
 //! The calls. Each is one step on the table.
 ghost use Rattle.std.specs.Prelude.{◌≡◌, ◌<◌, ◌||◌, true, false, map, IsTrue, IsFalse, IfOk};
 ghost use Rattle.std.specs.List.{range_with_len};
-ghost use Rattle.spin_core.specs.Steps.{bit};
+ghost use Rattle.spin_step.specs.Steps.{bit};
 ghost use Rattle.spin_seated.specs.Histories.{Made, Met};
 ghost use Rattle.spin_seated.specs.declared.mutex.Call.TheVariants.{TryLock, IsLocked, Read, Write, Unlock};
 ghost use Rattle.spin_seated.specs.declared.mutex.Answer.TheVariants.{Truth, Value, Done};
@@ -12,7 +12,7 @@ use super::plays::{Frees, Looks, Meets, Reads, Tries, Writes};
 use super::{Opening, Pass, SeatedMutex};
 use crate::history::{Both, First};
 use atomic_table::{Seat, Table};
-use spin_core::step::flag;
+use spin_step::flag;
 use std::alloc::{AllocError, Allocator};
 
 const FLAG: usize = 0;

@@ -3,8 +3,8 @@
 use super::TicketMutex;
 use crate::testing::starting_at;
 use spin_core::relax::{RelaxStrategy, Yield};
-use spin_core::step::ticket;
 use spin_guard::guard::Guard;
+use spin_step::ticket;
 use std::sync::Wait;
 use std::thread;
 

@@ -1,6 +1,6 @@
 use Rattle.std.proofs.Common.{◌≡◌, Bool, true, false, List, [], ◌∷◌, length, refl, ap, sym, ◌∙◌, arith}
-use Rattle.spin_core.specs.Plain.{Holder}
-use Rattle.spin_core.specs.Steps.{bit}
+use Rattle.spin_step.specs.Plain.{Holder}
+use Rattle.spin_step.specs.Steps.{bit}
 use Rattle.spin_world_core.specs.Runs.{opening}
 use Rattle.spin_world_flag.specs.Flag.{flag_machine}
 use Rattle.spin_world_flag.proofs.Owed.{flag_keeping, flag_facts}

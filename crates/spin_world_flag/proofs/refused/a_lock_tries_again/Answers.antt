@@ -1,5 +1,5 @@
 use Rattle.spin_world_core.specs.Calls.{flag, waits}
-use Rattle.spin_core.specs.Plain.{to_write}
+use Rattle.spin_step.specs.Plain.{to_write}
 use Rattle.spin_world_core.proofs.Otherwise.{four_steps}
 use Rattle.std.proofs.Common.{refl}
 use Rattle.spin_world_flag.proofs.refused.a_lock_tries_again.Goals as goal

@@ -1,5 +1,5 @@
 use Rattle.spin_world_core.specs.Calls.{ticket, waits}
-use Rattle.spin_core.specs.Plain.{to_enter}
+use Rattle.spin_step.specs.Plain.{to_enter}
 use Rattle.spin_world_core.proofs.Otherwise.{four_steps}
 use Rattle.std.proofs.Common.{refl}
 use Rattle.spin_world_ticket.proofs.refused.a_lock_enters.Goals as goal

@@ -1,5 +1,5 @@
 use Rattle.std.proofs.Common.{Some, ap, ◌∙◌}
-use Rattle.spin_core.specs.Steps.{bit}
+use Rattle.spin_step.specs.Steps.{bit}
 use Rattle.spin_flag.proofs.Flags.{releases_flag, left_rests, holding_of}
 use Rattle.spin_flag.proofs.spin.FlagRuleReleaseView.release.Goals as goal
 

@@ -1,5 +1,5 @@
 use Rattle.std.proofs.Common.{◌∙◌}
-use Rattle.spin_core.specs.Steps.{bit}
+use Rattle.spin_step.specs.Steps.{bit}
 use Rattle.spin_flag.proofs.Flags.{attempts, refused_rests}
 use Rattle.spin_flag.proofs.spin.SpinMutex.try_lock.Goals as goal
 

@@ -1,7 +1,7 @@
 use Rattle.std.proofs.Common.{sym, ◌∙◌, arith}
 use Rattle.atomic_table.specs.Table.{step}
 use mathlib.Core.Option.{none}
-use Rattle.spin_core.specs.Plain.{writing}
+use Rattle.spin_step.specs.Plain.{writing}
 use Rattle.spin_seated.specs.Mutex.{frees}
 use Rattle.spin_seated.proofs.Passes.{its_table, may_free, turned}
 use Rattle.spin_seated.proofs.Holders.{after_unlock}

@@ -1,5 +1,5 @@
 use Rattle.std.proofs.Common.{◌≡◌, ℕ, ◌<◌, Option, Some, None, ap}
-use Rattle.spin_core.specs.Plain.{ticket_limit}
+use Rattle.spin_step.specs.Plain.{ticket_limit}
 use Rattle.spin_core.specs.Cell.{Moved}
 use Rattle.spin_ticket.specs.declared.ticket.rule.View.{View}
 use Rattle.spin_ticket.specs.declared.ticket.rule.View.TheVariants.{Entered}

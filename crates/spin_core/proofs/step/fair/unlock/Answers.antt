@@ -1,6 +1,0 @@
-use Rattle.std.proofs.Common.{arith}
-use Rattle.spin_core.proofs.Holders.{length-without_holder}
-use Rattle.spin_core.proofs.step.fair.unlock.Goals as goal
-
-pub returns-clause-plain : goal.returns-clause-plain
-returns-clause-plain c s party kind word found = omega (arith, length-without_holder party kind s.holders found, word)

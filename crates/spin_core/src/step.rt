@@ -1,6 +1,0 @@
-//! Every change of a lock's word, as a pure function from the word before to the word after.
-//!
-//! A refusal is `None` and gives no new word.
-pub mod fair;
-pub mod flag;
-pub mod ticket;

@@ -1,0 +1,149 @@
+-- The steps of a read-write lock keep its rule: each is the plain step that its step function makes.
+use Rattle.std.proofs.Common.{◌≡◌, ℕ, ◌+◌, ◌-◌, ◌%◌, ◌^◌, ◌<◌, ◌≤◌, true, if◌then◌else◌, List, [], length, ◌==◌, Option, Some, None, refl, sym, ap, ◌∙◌, arith, eq-eqb}
+use mathlib.Core.Logic.{dite}
+use native.Mathlib.Decide.{dec_lt}
+use prog.Atomic.{either}
+use Rattle.spin_step.specs.Plain.{Plain, Kind, reading, upgradable, writing, Holder, count_kind, is_holder, is_downgrade, with_kind, Ask, apply, gets, releases, turns, to_read, to_read_upgradable, to_write, to_upgrade, rw_word}
+use Rattle.spin_step.specs.Parties.{entries_after}
+use Rattle.spin_step.specs.Steps.{Decides}
+use Rattle.spin_step.specs.Readers.{reader_limit, OneOfEach}
+use Rattle.spin_core.specs.Cell.{Ways, lends, writes, Meets, Allows, Rests, Moved}
+use Rattle.spin_core.specs.Views.{Knows, holds, entries_of, IsInOrder, HasPart, no_word}
+use Rattle.spin_core.specs.Plays.{becomes, exchanges}
+use Rattle.spin_step.proofs.Exclusive.{length-with_kind}
+use Rattle.spin_step.proofs.Holders.{is_holder-from_entries}
+use Rattle.spin_core.proofs.Leaving.{NamesNobody, count-up, no_word-up}
+use Rattle.spin_core.proofs.Owners.{OfReaders, readers_or_writer}
+use Rattle.spin_core.proofs.Plays.{Lock, allows, by_step, by_none, by_exchange, begins, rests, moved_rests, missed_rests}
+use Rattle.spin_step.proofs.Readers.{worth, word_of, word-less, word-turned, kinds-all}
+use Rattle.spin_core.proofs.Views.{part_before, release-own, turn-own}
+use Rattle.spin_rwlock.specs.declared.rwlock.rule.View.{View}
+use Rattle.spin_rwlock.specs.declared.rwlock.rule.View.TheVariants.{Idle, Reading, Upgradable, Writing}
+use Rattle.spin_rwlock.specs.Rw.{part, IsRw, use_of_view, rw_ways}
+
+abbrev ways : Ways (Unit {0}) View
+ways = rw_ways
+
+kind : (v : View) → OfReaders part v
+kind Idle = (λ p. refl, λ p. refl)
+kind Reading = (λ p. refl, λ p. refl)
+kind Upgradable = (λ p. refl, λ p. refl)
+kind Writing = (λ p. refl, λ p. refl)
+
+rw_word-up : NamesNobody rw_word
+rw_word-up k s = omega (arith, count-up k reading s.holders, count-up k upgradable s.holders, count-up k writing s.holders)
+
+abbrev rw-lock : Lock View
+rw-lock = record {
+  part = part;
+  way = lends;
+  goes = λ u v readers A a. a;
+  cap = reader_limit;
+  first = rw_word;
+  second = no_word;
+  fits = readers_or_writer part kind reader_limit (omega arith) (omega arith);
+  first_names_nobody = rw_word-up;
+  second_names_nobody = no_word-up;
+}
+
+pub starts : Meets IsRw ways 0 0 []
+starts = begins rw-lock 0 0 0 0 (omega arith) refl refl
+
+pub looks : Allows IsRw ways None (λ n. n) (becomes Idle 0 0 None)
+looks = allows rw-lock None (λ n. n) (becomes Idle 0 0 None) (λ s p room order has. (Idle, by_none rw-lock None Idle s p refl tt, refl))
+
+one_of_each : (s : Plain) → IsInOrder s → OneOfEach s
+one_of_each s order = (order.exclusive.one_upgradable, dite (dec_lt 0 (count_kind writing s.holders)) (λ some. omega (arith, kinds-all s.holders, order.exclusive.writer some)) (λ none. omega (arith, none)))
+
+-- what a party gets at the word of which the step function was asked
+gets_at : (view : Option View) (ask : Ask) (won lost : View) (old new : ℕ) → ((s : Plain) (p : ℕ) → entries_after s (Some (gets p ask)) (entries_of p (part_before part view)) ≡ entries_of p (part won)) → ((s : Plain) → Knows s (part won))
+    → ((p : ℕ) → entries_of p (part_before part view) ≡ entries_of p (part lost)) → ((s : Plain) → Knows s (part lost))
+    → ((s : Plain) (p : ℕ) → s.cap ≡ reader_limit → IsInOrder s → HasPart s p (part_before part view) → rw_word s ≡ old → Decides s (gets p ask) rw_word (Some new))
+    → Allows IsRw ways view (λ n. either (n == old) new n) (exchanges (λ _. won) lost old new view)
+gets_at view ask won lost old new comes knows same knows_still plain = allows rw-lock view (λ n. either (n == old) new n) (exchanges (λ _. won) lost old new view)
+    (λ s p room order has. by_exchange rw-lock view won lost s p (rw_word s) 0 old new
+    (λ e. let granted = plain s p room order has e in by_step rw-lock view won s (gets p ask) new 0 granted.0 (comes s p) (knows (apply s (gets p ask))) granted.1 refl)
+    (by_none rw-lock view lost s p (same p) (knows_still s)))
+
+-- What a newcomer does
+
+pub comes_to_read : (old new : ℕ) → ((s : Plain) (p : ℕ) → OneOfEach s → s.cap ≡ reader_limit → rw_word s ≡ old → Decides s (gets p to_read) rw_word (Some new)) → Allows IsRw ways None (λ n. either (n == old) new n) (exchanges (λ _. Reading) Idle old new None)
+comes_to_read old new plain = gets_at None to_read Reading Idle old new (λ s p. refl) (λ s. tt) (λ p. refl) (λ s. tt) (λ s p room order has e. plain s p (one_of_each s order) room e)
+
+pub comes_to_upgrade : (old new : ℕ) → ((s : Plain) (p : ℕ) → OneOfEach s → s.cap ≡ reader_limit → rw_word s ≡ old → Decides s (gets p to_read_upgradable) rw_word (Some new)) → Allows IsRw ways None (λ n. either (n == old) new n) (exchanges (λ _. Upgradable) Idle old new None)
+comes_to_upgrade old new plain = gets_at None to_read_upgradable Upgradable Idle old new (λ s p. refl) (λ s. tt) (λ p. refl) (λ s. tt) (λ s p room order has e. plain s p (one_of_each s order) room e)
+
+pub comes_to_write : (old new : ℕ) → ((s : Plain) (p : ℕ) → rw_word s ≡ old → Decides s (gets p to_write) rw_word (Some new)) → Allows IsRw ways None (λ n. either (n == old) new n) (exchanges (λ _. Writing) Idle old new None)
+comes_to_write old new plain = gets_at None to_write Writing Idle old new (λ s p. refl) (λ s. tt) (λ p. refl) (λ s. tt) (λ s p room order has e. plain s p e)
+
+-- What the upgradable reader does
+
+pub upgrades : (old new : ℕ) → ((s : Plain) (p : ℕ) → OneOfEach s → is_holder p upgradable s.holders ≡ true → rw_word s ≡ old → Decides s (gets p to_upgrade) rw_word (Some new)) → Allows IsRw ways (Some Upgradable) (λ n. either (n == old) new n) (exchanges (λ _. Writing) Upgradable old new (Some Upgradable))
+upgrades old new plain = gets_at (Some Upgradable) to_upgrade Writing Upgradable old new (λ s p. rw (eq-eqb p p refl) refl) (λ s. tt) (λ p. refl) (λ s. tt)
+    (λ s p room order has e. plain s p (one_of_each s order) (is_holder-from_entries p upgradable s.holders (ap (λ e. e.holders) has.0)) e)
+
+-- What a holder does to go on with less, or to go
+
+-- no sum wraps below the cap
+bounded : (hs : List Holder) → length hs ≤ reader_limit → word_of hs < 2 ^ 63
+bounded hs within = omega (arith, kinds-all hs, within)
+
+fits_cap : (s : Plain) → s.cap ≡ reader_limit → IsInOrder s → length s.holders ≤ reader_limit
+fits_cap s room order = omega (arith, order.holders_fit, room)
+
+turns_by : (v w : View) (k l : Kind) (by : ℕ) → ((p : ℕ) → entries_of p (part v) ≡ entries_of p (holds k)) → ((p : ℕ) → entries_of p (part w) ≡ entries_of p (holds l)) → ((s : Plain) → Knows s (part w)) → is_downgrade k l ≡ true → worth k + by ≡ worth l
+    → Allows IsRw ways (Some v) (λ n. (n + by) % 2 ^ 64) (becomes w by 0 (Some v))
+turns_by v w k l by was now knows down less = allows rw-lock (Some v) (λ n. (n + by) % 2 ^ 64) (becomes w by 0 (Some v)) (λ s p room order has.
+    let stands = is_holder-from_entries p k s.holders (ap (λ e. e.holders) (has.0 ∙ was p)) in
+    let small = bounded (with_kind p k l s.holders) (omega (arith, length-with_kind p k l s.holders, fits_cap s room order)) in (
+      w,
+      by_step rw-lock (Some v) w s (turns p k l) ((rw_word s + by) % 2 ^ 64) 0 (rw (stands, down) refl) (ap (entries_after s (Some (turns p k l))) (was p) ∙ (turn-own s p k l ∙ sym (now p))) (knows (apply s (turns p k l)))
+          (omega (arith, word-turned k l p s.holders stands, less, small)) refl,
+      refl,
+    ))
+
+pub writer_reads : Allows IsRw ways (Some Writing) (λ n. (n + 3) % 2 ^ 64) (becomes Reading 3 0 (Some Writing))
+writer_reads = turns_by Writing Reading writing reading 3 (λ p. refl) (λ p. refl) (λ s. tt) refl refl
+
+pub writer_reads_upgradable : Allows IsRw ways (Some Writing) (λ n. (n + 1) % 2 ^ 64) (becomes Upgradable 1 0 (Some Writing))
+writer_reads_upgradable = turns_by Writing Upgradable writing upgradable 1 (λ p. refl) (λ p. refl) (λ s. tt) refl refl
+
+pub upgradable_reads : Allows IsRw ways (Some Upgradable) (λ n. (n + 2) % 2 ^ 64) (becomes Reading 2 0 (Some Upgradable))
+upgradable_reads = turns_by Upgradable Reading upgradable reading 2 (λ p. refl) (λ p. refl) (λ s. tt) refl refl
+
+goes : (v : View) (k : Kind) (by : ℕ) → ((p : ℕ) → entries_of p (part v) ≡ entries_of p (holds k)) → by ≡ worth k → Allows IsRw ways (Some v) (λ n. (n + (2 ^ 64 - by)) % 2 ^ 64) (becomes Idle by 0 (Some v))
+goes v k by was less = allows rw-lock (Some v) (λ n. (n + (2 ^ 64 - by)) % 2 ^ 64) (becomes Idle by 0 (Some v)) (λ s p room order has.
+    let stands = is_holder-from_entries p k s.holders (ap (λ e. e.holders) (has.0 ∙ was p)) in
+    let small = bounded s.holders (fits_cap s room order) in (
+      Idle,
+      by_step rw-lock (Some v) Idle s (releases p k) ((rw_word s + (2 ^ 64 - by)) % 2 ^ 64) 0 stands (ap (entries_after s (Some (releases p k))) (was p) ∙ release-own s p k) tt
+          (omega (arith, word-less k p s.holders stands, less, small)) refl,
+      refl,
+    ))
+
+pub reader_goes : Allows IsRw ways (Some Reading) (λ n. (n + (2 ^ 64 - 4)) % 2 ^ 64) (becomes Idle 4 0 (Some Reading))
+reader_goes = goes Reading reading 4 (λ p. refl) refl
+
+pub upgradable_goes : Allows IsRw ways (Some Upgradable) (λ n. (n + (2 ^ 64 - 2)) % 2 ^ 64) (becomes Idle 2 0 (Some Upgradable))
+upgradable_goes = goes Upgradable upgradable 2 (λ p. refl) refl
+
+pub writer_goes : Allows IsRw ways (Some Writing) (λ n. (n + (2 ^ 64 - 1)) % 2 ^ 64) (becomes Idle 1 0 (Some Writing))
+writer_goes = goes Writing writing 1 (λ p. refl) refl
+
+-- Who may go
+
+idle_rests : Rests IsRw use_of_view (Some Idle)
+idle_rests = rests rw-lock Idle refl (λ p. refl)
+
+pub left_rests : (view : Option View) → Moved (λ v. v ≡ Idle) view → Rests IsRw use_of_view view
+left_rests view moved = moved_rests rw-lock view Idle moved idle_rests
+
+-- a party that found another word than it expected
+pub refused_rests : (won : View) (view : Option View) (expected found : ℕ) → Moved (λ v. v ≡ (if found == expected then won else Idle)) view → (found ≡ expected → ⊥) → Rests IsRw use_of_view view
+refused_rests won view expected found moved ne = missed_rests rw-lock view won Idle found expected moved ne idle_rests
+
+pub writing_of : (v : View) → use_of_view v ≡ writes → v ≡ Writing
+writing_of Idle e = absurd cc
+writing_of Reading e = absurd cc
+writing_of Upgradable e = absurd cc
+writing_of Writing e = refl

@@ -1,0 +1,147 @@
+-- `deref_mut` lends the guard's permit to `get_mut`, and the guard follows what follows the permit. Assumes `Logic`.
+use Rattle.std.proofs.Common.{◌≡◌, ℕ, ◌+◌, List, [], ◌∷◌, ◌++◌, refl, ap}
+use seplogic.Ra.Ura.{Ura}
+use mathlib.Core.Option.{Option, some as found}
+use prog.Memory.{align, up}
+use mir.Syntax.{Ty, a_type, tcons, named, tnil, ty_struct, ty_unit}
+use mir.Raw.{raw as raw_type}
+use mir.Val.{Val, vptr, vunit}
+use mir.MapTy.{inst_fn}
+use base.Fraction.{full_share}
+use base.Share
+use base.Logic.{SProp, emp, id⊢}
+use base.Fml.{Lft, GName, Share, Fml, Incl, ftrue, fsep, flft, fobs, fbor}
+use types.Logic.{Logic}
+use types.SemTy.{Body}
+use types.Kit.{‵, raw, ◌⊛◌, ◌$◌, ◌∵◌, !, qed, by, move, keep, drop, split, split3, join, fsplit, fsplit3, fjoin, fjoin3, feq_i, feq_l, use0, use1, use2, use3, later, some, await, pick}
+use types.Run.{stop, addr, no_more, and_then, returns, enter, fld}
+use types.ByLocal.{alloc_all, pass_all, free_all, look_at, get, through, sets, lands_as, env}
+use lib.ListN.{get_or}
+use contract.BorrowLft.{⊑_static, ⊑_meet}
+use contract.Lifetimes.{Lfts, Shares}
+use contract.Running.{tables}
+use contract.Monad.{fact, fact_i}
+use denote.Exit.{yes, no}
+use denote.Ref.{NamedLft, MutBor, MutRef, mut_vals, mut_Tells}
+use denote.RattleType.{RattleType, owns}
+use denote.Signature.{types_at, plain, named_lft}
+use denote.Builtin.{RefMutOf}
+use denote.Steps.{nothing, heard}
+use denote.Param.{param, layout, layouts, arg}
+use denote.Param.Shared.{copy_shared}
+use denote.Struct.Field.{unit-field}
+use denote.Struct.Laws.{unit-laws, unit-copy}
+use denote.Param.Laws.{of_field, Laws, param_laws, arg_laws}
+use denote.Memory.{mem as in_memory}
+use denote.Follow.{follows, follows_then}
+use denote.Triple.Spec.{triple_of}
+use denote.Triple.Call.{calls_at}
+use denote.Triple.Walked.{Stays, stay_dropped, walk_of, Goes-spent_ref}
+use borrow.Follows.Field.{HandsTo, hands_on}
+use borrow.Struct.Lend.{kept_record, record_fill, record_apart}
+use Rattle.core.proofs.atomic.Steps.{fm}
+use Rattle.atomic_table.proofs.Walks.{proved, leaves}
+use Rattle.spin_core.specs.Writer.{with_value}
+use Rattle.spin_core.specs.contracts.cell.WritePermit as Permit
+use Rattle.spin_core.specs.contracts.cell.WritePermit.get_mut as callee
+use Rattle.spin_core.proofs.cell.WritePermit.get_mut.Met.{met}
+use Rattle.spin_rwlock.specs.contracts.rwlock.writer.RwLockWriteGuard.{the_type, the_row, struct}
+use Rattle.spin_rwlock.proofs.rwlock.writer.RwLockWriteGuard.TheLaws.{the_loose}
+use Rattle.spin_rwlock.specs.contracts.rwlock.rule.View as V
+use Rattle.spin_rwlock.specs.contracts.rwlock.rule.RwRule as F
+use Rattle.spin_rwlock.proofs.rwlock.rule.View.TheLaws as VL
+use Rattle.spin_rwlock.proofs.rwlock.rule.RwRule.TheLaws as FL
+use Rattle.spin_rwlock.specs.contracts.rwlock.rule.RwRuleRuleView.TheImpl.{ghosts, dict}
+use Rattle.spin_rwlock.proofs.rwlock.rule.RwRuleRuleView.TheImpl.Met.{bound}
+use Rattle.spin_rwlock.specs.Guards.{write_with}
+use Rattle.spin_rwlock.proofs.Known.{first}
+use Rattle.spin_rwlock.specs.contracts.rwlock.lends.RwLockWriteGuardDerefMut.deref_mut.{ended, clauses}
+use Rattle.spin_rwlock.specs.contracts.rwlock.lends.RwLockWriteGuardDerefMut.deref_mut.Key.{name as #self}
+use Rattle.spin_rwlock.proofs.rwlock.lends.RwLockWriteGuardDerefMut.deref_mut.Statement.{statement}
+use Rattle.spin_rwlock.proofs.rwlock.lends.RwLockWriteGuardDerefMut.deref_mut.Code as code
+
+-- the writer stands at the guard's beginning
+starts : {τ : Ty} → ◌≡◌ {A = Option (Ty × ℕ)} (found (τ, up (align τ) 0)) (found (τ, 0))
+starts {τ} = ap at (first (align τ))
+  where
+    at : ℕ → Option (Ty × ℕ)
+    at d = found (τ, d)
+
+-- the rule's row has the value's lifetimes twice
+twice : (κ ν : Lft) → Incl κ ν → Incl κ ((ν ++ []) ++ (ν ++ []))
+twice κ ν h = let once = ⊑_meet κ ν [] h (⊑_static κ) in ⊑_meet κ (ν ++ []) (ν ++ []) once once
+
+module _ (ℓ : NamedLft) (T S : RattleType) (LT : Laws T) (LS : Laws S) where
+  abbrev R : RattleType
+  R = param 0 T
+
+  abbrev Q : RattleType
+  Q = param 1 S
+
+  abbrev G : RattleType
+  G = the_row ℓ R Q
+
+  abbrev Key : RattleType
+  Key = unit-field.row
+
+  abbrev pub Pen : RattleType
+  Pen = Permit.the_row ℓ R V.the_row (F.the_row R) Key (ghosts R)
+
+  abbrev pub put : G.Denot → Pen.Denot → G.Denot
+  put h p = record { writer = p; strategy = h.strategy }
+
+  module _ {M : Type 1} {𝓤 : Ura M} (𝓛 : Logic 𝓤) where
+    pub hands : (h : G.Denot) → HandsTo 𝓛 G Pen (λ o. o + 0) h h.writer (put h)
+    hands = let t = the_type ℓ R Q in let k = the_loose ℓ R Q (param_laws 0 T LT) (param_laws 1 S LS) in let s = struct ℓ R Q in
+        hands_on 𝓛 G Pen 0 (λ h. h.writer) put
+        (kept_record t k 0 0 s.as_values s.Ghost s.make (λ v. tt) (λ x. refl) (λ v g. refl) (λ x. x))
+        (record_fill t k 0 0 s.as_values s.Ghost s.make (λ v. tt) (λ x. refl) (λ v g. refl) (λ x. x) refl (λ f. refl))
+        (record_apart t k 0 0 s.as_values s.Ghost s.make (λ v. tt) (λ x. refl) (λ v g. refl) (λ x. x) 𝓛 refl refl)
+
+pub deref_mut_spec : {M : Type 1} → statement M
+deref_mut_spec {M} 𝓤 𝓛 𝓜 𝓡 wired T S LT LS =
+    let H = 𝓛.H in let 𝓣 = tables 𝓤 H 𝓜 𝓡 𝓡.env in let R : RattleType = param 0 T in let Q : RattleType = param 1 S in
+    let En = ended T S in let c = clauses T S 𝓛 𝓜.mem 𝓡.returns in let inst = layouts (a_type ∷ a_type ∷ []) (T, (S, tt)) in let fn = inst_fn inst code.function in let closed = code.unfolded 𝓤 H 𝓜 𝓡 wired (T, (S, tt)) in
+    let row = plain (λ κs. the_row (named_lft 4 1 tt κs) R Q) in let self = RefMutOf (0 ∷ []) tt row (λ _. tt) in let hs : Stays En.signature.params En.kept = (stay_dropped self no, tt) in
+    let X : RattleType = arg (layout T) yes R in let W : RattleType = arg (raw_type (layout V.the_row)) no V.the_row in let Y : RattleType = arg (ty_struct [] (tcons (layout T) tnil)) no (F.the_row R) in let U : RattleType = arg ty_unit no unit-field.row in let I : RattleType = arg (layout T) no R in
+    let called = met 𝓤 𝓛 𝓜 𝓡 (code.calls-spin_core::cell::WritePermit::get_mut 𝓡.env wired) X W Y U (arg_laws (layout T) yes R (param_laws 0 T LT) refl)
+    (arg_laws (raw_type (layout V.the_row)) no V.the_row VL.the_row_laws refl) (arg_laws (ty_struct [] (tcons (layout T) tnil)) no (F.the_row R) (FL.the_row_laws R (param_laws 0 T LT)) refl)
+    (arg_laws ty_unit no unit-field.row (of_field unit-field unit-laws refl (copy_shared unit-field unit-copy)) refl) (ghosts I) (dict I) (record { Self-Key-lives = (bound 𝓡.env I (arg_laws (layout T) no R (param_laws 0 T LT) refl) M 𝓤 𝓛 𝓜 𝓡).Self-Key-lives }) in
+    proved 𝓛 En hs c 𝓜 𝓡 (Goes-spent_ref 𝓛 4 (0 ∷ []) tt row, tt) (#self inst) fn closed
+    (λ κs. (mut_vals, tt)) (λ κs. (mut_Tells (named 0) κs.0 (the_row (named_lft 4 1 tt κs) R Q), tt)) (λ κs qs bounds a gh are.
+    let ℓ = named_lft 4 1 tt κs in let G : RattleType = the_row ℓ R Q in let P : RattleType = Pen ℓ T S LT LS in let m = a.0 in let b : ℕ = m.ref_ptr.0 in let o : ℕ = m.ref_ptr.1 in let γ : GName = m.ghost_name in let h : G.Denot = m.now in
+    let κ : Lft = κs.0 in let q : Share = qs.0 in let β : Lft = κs.1.0 in let τ : Lft = κs.1.1.0 in let s : Share = qs.1.1.0 in let u : Fml = flft κs.1.1.1.0 qs.1.1.1.0 in
+    let y : (walk_of 𝓛 En hs c).Ghost = ((κs, qs, bounds, a, (vptr b o ∷ [], tt)), gh) in let Post : Val → SProp 𝓤 = (walk_of 𝓛 En hs c).post y in
+    let κs' : Lfts 6 = (κ, (β, (τ, ([], (τ, ([], tt)))))) in let qs' : Shares 6 = (q, (qs.1.0, (Share.left s, (full_share, (Share.right s, (full_share, tt)))))) in
+    let C = triple_of 𝓛 (callee.signature X W Y U (ghosts I) (dict I)) (callee.spec X W Y U (ghosts I) (dict I) 𝓛 𝓜.mem 𝓡.returns) in
+    qed 𝓛 (((‵ (flft κ q) ⊛ (‵ (flft β qs.1.0) ⊛ (‵ (flft τ qs.1.1.0) ⊛ (‵ u ⊛ ‵ ftrue)))) ⊛ ‵ (owns (types_at En.signature.params κs) a y.0.4)) ∷ raw (fact 𝓤 (Incl τ T.lives)) ∷ raw (fact 𝓤 (Incl κs.1.1.1.0 S.lives)) ∷ ‵ ftrue ∷ []) ∵
+    split ! $ split ! $ move ! (1 ∷ []) $ split3 ! $ move ! (4 ∷ []) $ fsplit ! $ fsplit3 ! $
+    -- [its place; its value; its borrow; nothing; β; τ; the others; κ; T lives; ..]
+    keep ! (1 ∷ 2 ∷ 7 ∷ 4 ∷ 5 ∷ 6 ∷ 8 ∷ []) $
+    enter ! 𝓣.C 𝓣.Λ fn (vptr b o ∷ []) Post $ alloc_all ! (λ l. pass_all ! refl ((tt, tt), tt) $ let Ev = env fn.locals l in
+    use3 𝓛 (later (some (λ (δ : GName). ‵ (fobs δ (P.coded.code h.writer)) ⊛ ‵ (fbor κ (Body (in_memory P) b (o + 0) δ)) ⊛ ‵ (flft κ q) ⊛ ‵ (follows G P γ δ (put ℓ T S LT LS h))))) (hands ℓ T S LT LS 𝓛 h κ q γ b o) $ await ! tt $ pick ! (λ δ. split ! $ move ! (1 ∷ []) $ split3 ! $
+    let m' : MutBor P.Denot = record { ref_ptr = (b, o + 0); ghost_name = δ; now = h.writer } in
+    let yc : C.Ghost = ((κs', qs', (bounds.0, (bounds.1.0, (⊑_static κ, (bounds.1.0, (bounds.1.1.1.0, tt))))), (m', tt), (vptr b (o + 0) ∷ [], tt)), tt) in
+    move ! (3 ∷ 0 ∷ []) $ feq_i ! (List Val) (mut_vals m') (mut_vals m') refl $ fjoin3 ! $ nothing ! $ move ! (1 ∷ 0 ∷ []) $ fjoin ! $
+    -- [the argument; κ; what follows; β; τ; the others; T lives; ..]
+    move ! (6 ∷ []) $ heard ! (Incl τ T.lives) (λ lives. move ! (4 ∷ []) $ use1 𝓛 (‵ (flft τ (Share.left s)) ⊛ ‵ (flft τ (Share.right s))) (𝓛.lfts.lft_split τ s) $ split ! $
+    -- [τ; τ; the argument; κ; what follows; β; the others; ..]
+    use0 𝓛 (‵ (flft [] full_share)) (𝓛.lfts.lft-nil full_share) $ use0 𝓛 (‵ (flft [] full_share)) (𝓛.lfts.lft-nil full_share) $ nothing ! $
+    move ! (1 ∷ 0 ∷ []) $ fjoin ! $ move ! (3 ∷ 0 ∷ []) $ fjoin ! $ move ! (1 ∷ 0 ∷ []) $ fjoin ! $ move ! (1 ∷ 0 ∷ []) $ fjoin ! $ move ! (4 ∷ 0 ∷ []) $ fjoin ! $ move ! (2 ∷ 0 ∷ []) $ fjoin ! $ join ! $
+    -- [tokens and argument; what follows; the others; ..]
+    nothing ! $ use0 𝓛 (raw (fact 𝓤 (Incl [] U.lives))) (fact_i 𝓤 (Incl [] U.lives) (emp 𝓤) (⊑_static [])) $ join ! $ use0 𝓛 (raw (fact 𝓤 (Incl τ Y.lives))) (fact_i 𝓤 (Incl τ Y.lives) (emp 𝓤) (twice τ T.lives lives)) $ join ! $ use0 𝓛 (raw (fact 𝓤 (Incl [] W.lives))) (fact_i 𝓤 (Incl [] W.lives) (emp 𝓤) (⊑_static [])) $ join ! $
+    use0 𝓛 (raw (fact 𝓤 (Incl τ T.lives))) (fact_i 𝓤 (Incl τ T.lives) (emp 𝓤) lives) $ join ! $ move ! (1 ∷ 0 ∷ []) $ join ! $ use1 𝓛 (raw (C.pre yc)) (id⊢ 𝓤 (C.pre yc)) $
+    sets ! (addr ! (through ! refl (fld ! starts (stop !)))) refl (tt, tt) $
+    calls_at ! (fm 𝓛 𝓜 𝓡) C called yc (and_then ! (get ! refl) (no_more !)) (λ v.
+    use1 𝓛 (later (some (λ (r : MutBor T.Denot). ((‵ (flft κ q) ⊛ (‵ (flft β qs.1.0) ⊛ (‵ (flft τ (Share.left s)) ⊛ (‵ (flft [] full_share) ⊛ (‵ (flft τ (Share.right s)) ⊛ ‵ (fsep (flft [] full_share) ftrue)))))) ⊛ ‵ ((MutRef (named 0) κ R).own_val r (v ∷ []))) ⊛
+    some (λ (ws : Unit {0} × Unit {0}). ‵ (fsep ftrue ftrue) ⊛ (‵ (follows P R δ r.ghost_name (with_value h.writer)) ⊛ raw (fact 𝓤 (r.now ≡ h.writer.value))))))) (id⊢ 𝓤 (C.post yc v)) $
+    await ! tt $ pick ! (λ r. split ! $ split ! $ move ! (1 ∷ []) $ fsplit3 ! $ feq_l ! (λ e. move ! (3 ∷ []) $ pick ! (λ ws. split3 ! $ drop ! $ move ! (5 ∷ 0 ∷ []) $
+    use2 𝓛 (‵ (follows G R γ r.ghost_name (write_with h))) (follows_then 𝓛 G P R (put ℓ T S LT LS h) (with_value h.writer) γ δ r.ghost_name) $
+    -- [what follows; the value; its place; its borrow; the tokens; the others; ..]
+    move ! (4 ∷ []) $ split3 ! $ move ! (2 ∷ []) $ split3 ! $ move ! (2 ∷ []) $ split ! $ move ! (2 ∷ 0 ∷ []) $ use2 𝓛 (‵ (flft τ s)) (𝓛.lfts.lft_join τ s) $ move ! (1 ∷ []) $ drop ! $ move ! (1 ∷ []) $ drop ! $
+    -- [τ; κ; β; what follows; the value; its place; its borrow; the others; ..]
+    move ! (0 ∷ 7 ∷ []) $ join ! $ move ! (2 ∷ 0 ∷ []) $ join ! $ move ! (1 ∷ 0 ∷ []) $ join ! $
+    move ! (3 ∷ 4 ∷ []) $ feq_i ! (List Val) (mut_vals r) (mut_vals r) refl $ fjoin3 ! $ move ! (2 ∷ 3 ∷ []) $ join ! $ nothing ! $ nothing ! $ fjoin ! $
+    lands_as ! (ap (λ (us : List Val). get_or us 0 vunit) e) refl (tt, tt) $ returns ! (look_at ! 0 refl) $ free_all ! refl $ keep ! (3 ∷ 0 ∷ 2 ∷ 1 ∷ []) $
+    by ! (leaves 𝓛 En hs c y (vptr r.ref_ptr.0 r.ref_ptr.1) r (tt, tt) (tt, tt)))))))))
+    )

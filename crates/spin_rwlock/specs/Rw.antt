@@ -1,0 +1,28 @@
+-- The rule of a read-write lock: its word is that of a plain lock whose holders are its parties.
+use Rattle.std.specs.Prelude.{◌≡◌, ◌≢◌, ℕ, List, Some, None}
+use Rattle.spin_step.specs.Plain.{reading, upgradable, writing, rw_word}
+use Rattle.spin_step.specs.Readers.{reader_limit}
+use Rattle.spin_core.specs.Cell.{Use, lends, Ways}
+use Rattle.spin_core.specs.Views.{Part, idle, holds, Encodes, used_by, no_word}
+use Rattle.spin_core.specs.declared.cell.Permit.{Permit}
+use Rattle.spin_rwlock.specs.declared.rwlock.rule.View.{View}
+use Rattle.spin_rwlock.specs.declared.rwlock.rule.View.TheVariants.{Idle, Reading, Upgradable, Writing}
+
+abbrev pub part : View → Part
+part Idle = idle
+part Reading = holds reading
+part Upgradable = holds upgradable
+part Writing = holds writing
+
+abbrev pub IsRw : ℕ → ℕ → List View → Type 0
+IsRw = Encodes part reader_limit rw_word no_word
+
+abbrev pub use_of_view : View → Use
+use_of_view = used_by part
+
+abbrev pub rw_ways : {X : Type 0} → Ways X View
+rw_ways = (lends, use_of_view)
+
+-- a party with this view, which is shown a value
+abbrev pub IsLent : {T P K : Type 0} → Permit T View P K → View → Type 0
+IsLent it v = (it.view ≡ Some v) × (it.value ≢ None)

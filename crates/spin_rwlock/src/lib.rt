@@ -1,0 +1,4 @@
+//! A spinning lock for many readers or one writer.
+#![tactic(auto)]
+
+pub mod rwlock;

@@ -1,0 +1,239 @@
+//! A spinning lock for many readers or one writer.
+
+use self::rule::{RwRule, View};
+use spin_core::cell::{Cell, Rule};
+use spin_core::relax::{RelaxStrategy, Spin};
+use spin_step::rw;
+use std::marker::PhantomData;
+use std::sync::Wait;
+
+mod lends;
+mod reader;
+mod rule;
+mod texts;
+mod upgradable;
+mod writer;
+
+pub use self::reader::{ReadHeld, RwLockReadGuard};
+pub use self::upgradable::RwLockUpgradableGuard;
+pub use self::writer::{RwLockWriteGuard, WriteHeld};
+
+/// A lock that lends its value to readers beside one another, or to one writer alone, and spins while it waits.
+///
+/// One reader at a time may be upgradable: it may become the writer without letting go, and no further reader comes
+/// while it stands. Writers are not preferred: while readers come again and again, no writer may get in.
+///
+/// `P` is always `RwRule<T>`, and never named.
+#[derive(Drop)]
+pub struct RwLock<T, R = Spin, P: Rule<T, View> = RwRule<T>> {
+    cell: Cell<T, View, P>,
+    strategy: PhantomData<R>,
+}
+
+impl<T, R> RwLock<T, R> {
+    /// A lock that nobody holds.
+    pub fn new(value: T) -> Self {
+        RwLock {
+            cell: Cell::new(value, 0, 0, &()),
+            strategy: PhantomData,
+        }
+    }
+
+    /// The value, whatever the word is: nobody else has the lock.
+    pub fn get_mut(&mut self) -> &mut T {
+        self.cell.get_mut()
+    }
+
+    /// Comes to read, or refuses beside a writer or an upgradable reader, or at the cap of readers. It tries again only
+    /// where another party changed the word, and promises nothing about when it returns.
+    pub fn try_read<W: Wait>(&self, rt: &W) -> Option<RwLockReadGuard<'_, T, R>> {
+        match self.read_at(self.word())? {
+            Ok(guard) => Some(guard),
+            Err(found) => self.try_read_from(rt, found),
+        }
+    }
+
+    /// Comes to read and may upgrade, or refuses as `try_read` does.
+    pub fn try_upgradeable_read<W: Wait>(&self, rt: &W) -> Option<RwLockUpgradableGuard<'_, T, R>> {
+        match self.read_upgradable_at(self.word())? {
+            Ok(guard) => Some(guard),
+            Err(found) => self.try_upgradeable_read_from(rt, found),
+        }
+    }
+
+    /// Comes to write, or refuses beside any holder. It makes one exchange.
+    pub fn try_write<'a>(&'a self) -> Option<RwLockWriteGuard<'a, T, R>> {
+        Some(RwLockWriteGuard::new(rule::write(&self.cell)?))
+    }
+
+    /// As `try_write`. It may refuse an open lock for no reason, so repeat it; this one never does.
+    pub fn try_write_weak<'a>(&'a self) -> Option<RwLockWriteGuard<'a, T, R>> {
+        self.try_write()
+    }
+
+    /// How many read at the moment of its one load, the upgradable reader included.
+    pub fn reader_count(&self) -> usize {
+        rw::readers(self.word())
+    }
+
+    /// How many write at the moment of its one load: 0 or 1.
+    pub fn writer_count(&self) -> usize {
+        rw::writers(self.word())
+    }
+
+    /// Lets go of a reader's place that a guard was held on.
+    pub fn force_read_decrement(held: ReadHeld<'_, T, R>) {
+        held.release();
+    }
+
+    /// Lets go of the lock that the writer's guard was held on.
+    pub fn force_write_unlock(held: WriteHeld<'_, T, R>) {
+        held.release();
+    }
+
+    fn word(&self) -> usize {
+        rule::word(&self.cell)
+    }
+
+    // Comes to read at this word, or tells which word it found in its place.
+    fn read_at(&self, word: usize) -> Option<Result<RwLockReadGuard<'_, T, R>, usize>> {
+        Some(match rule::read(&self.cell, word)? {
+            Ok(permit) => Ok(RwLockReadGuard::new(permit)),
+            Err(found) => Err(found),
+        })
+    }
+
+    // As `read_at`, to upgrade.
+    fn read_upgradable_at(
+        &self,
+        word: usize,
+    ) -> Option<Result<RwLockUpgradableGuard<'_, T, R>, usize>> {
+        Some(match rule::read_upgradable(&self.cell, word)? {
+            Ok(permit) => Ok(RwLockUpgradableGuard::new(permit)),
+            Err(found) => Err(found),
+        })
+    }
+
+    // Tries from this word on, where another party changed the word that was looked at.
+    #[cold]
+    #[inline(never)]
+    fn try_read_from<W: Wait>(&self, rt: &W, found: usize) -> Option<RwLockReadGuard<'_, T, R>> {
+        let mut word = found;
+        for _ in rt.forever() {
+            match self.read_at(word)? {
+                Ok(guard) => return Some(guard),
+                Err(found) => word = found,
+            }
+        }
+        unreachable!()
+    }
+
+    #[cold]
+    #[inline(never)]
+    fn try_upgradeable_read_from<W: Wait>(
+        &self,
+        rt: &W,
+        found: usize,
+    ) -> Option<RwLockUpgradableGuard<'_, T, R>> {
+        let mut word = found;
+        for _ in rt.forever() {
+            match self.read_upgradable_at(word)? {
+                Ok(guard) => return Some(guard),
+                Err(found) => word = found,
+            }
+        }
+        unreachable!()
+    }
+}
+
+impl<T, R, P: Rule<T, View>> RwLock<T, R, P> {
+    /// The last value, whatever the word is.
+    pub fn into_inner(self) -> T {
+        let Self { cell, strategy: _ } = self;
+        cell.into_inner()
+    }
+}
+
+impl<T, R: RelaxStrategy> RwLock<T, R> {
+    /// Comes to read, and relaxes while it is refused. Nothing is promised about when it returns.
+    pub fn read<W: Wait>(&self, rt: &W) -> RwLockReadGuard<'_, T, R> {
+        match self.read_at(self.word()) {
+            Some(Ok(guard)) => guard,
+            _ => self.wait_to_read(rt),
+        }
+    }
+
+    /// Comes to read and may upgrade, and relaxes while it is refused. Nothing is promised about when it returns.
+    pub fn upgradeable_read<W: Wait>(&self, rt: &W) -> RwLockUpgradableGuard<'_, T, R> {
+        match self.read_upgradable_at(self.word()) {
+            Some(Ok(guard)) => guard,
+            _ => self.wait_to_read_upgradable(rt),
+        }
+    }
+
+    /// Comes to write, and relaxes while it is refused. Nothing is promised about when it returns.
+    pub fn write<W: Wait>(&self, rt: &W) -> RwLockWriteGuard<'_, T, R> {
+        match self.try_write_weak() {
+            Some(guard) => guard,
+            None => self.wait_to_write(rt),
+        }
+    }
+
+    // The waiting paths stand apart: inlined, they would lengthen the path of every caller that does not wait.
+    #[cold]
+    #[inline(never)]
+    fn wait_to_read<W: Wait>(&self, rt: &W) -> RwLockReadGuard<'_, T, R> {
+        for _ in rt.forever() {
+            if let Some(guard) = self.try_read(rt) {
+                return guard;
+            }
+            R::relax(rt);
+        }
+        unreachable!()
+    }
+
+    #[cold]
+    #[inline(never)]
+    fn wait_to_read_upgradable<W: Wait>(&self, rt: &W) -> RwLockUpgradableGuard<'_, T, R> {
+        for _ in rt.forever() {
+            if let Some(guard) = self.try_upgradeable_read(rt) {
+                return guard;
+            }
+            R::relax(rt);
+        }
+        unreachable!()
+    }
+
+    #[cold]
+    #[inline(never)]
+    fn wait_to_write<W: Wait>(&self, rt: &W) -> RwLockWriteGuard<'_, T, R> {
+        for _ in rt.forever() {
+            R::relax(rt);
+            if let Some(guard) = self.try_write_weak() {
+                return guard;
+            }
+        }
+        unreachable!()
+    }
+}
+
+/// A lock of the default value, which nobody holds.
+impl<T: Default, R> Default for RwLock<T, R> {
+    fn default() -> Self {
+        Self::new(T::default())
+    }
+}
+
+/// A lock of the value, which nobody holds.
+impl<T, R> From<T> for RwLock<T, R> {
+    fn from(value: T) -> Self {
+        Self::new(value)
+    }
+}
+
+unsafe impl<T: Send, R, P: Rule<T, View>> Send for RwLock<T, R, P> {}
+
+unsafe impl<T: Send + Sync, R, P: Rule<T, View> + Sync> Sync for RwLock<T, R, P> {}
+
+#[cfg(test)]
+mod tests;

@@ -1,0 +1,198 @@
+//! What the parties of a `RwLock` are, what its word says of them, and each kind of step.
+ghost use Rattle.std.specs.Prelude.{◌≡◌, Some, None, IfSome, IfOk, IfErr};
+ghost use Rattle.spin_core.specs.Plays.{becomes, exchanges};
+ghost use Rattle.spin_rwlock.specs.Rw.{IsRw, rw_ways, IsLent};
+ghost use Rattle.spin_rwlock.specs.declared.rwlock.rule.View.TheVariants.{Idle, Reading, Upgradable, Writing};
+
+use spin_core::cell::{Cell, Permit, Play, Rule, WritePermit};
+use spin_step::rw;
+
+// What a holder of each kind is in the word.
+const READER: u64 = 4;
+
+const UPGRADABLE: u64 = 2;
+
+const WRITER: u64 = 1;
+
+/// What a party is to the lock.
+#[derive(Clone, Copy)]
+pub enum View {
+    Idle,
+    Reading,
+    Upgradable,
+    Writing,
+}
+
+/// The word is that of a plain lock of these parties: 4 for each reader, 2 for the upgradable reader, and 1 for the
+/// writer. The second word is 0.
+///
+/// No value of this type is made. It has a `T` since parties read a `T` beside one another: who may share the one may
+/// share the other.
+pub struct RwRule<T> {
+    never: T,
+}
+
+impl<T> Rule<T, View> for RwRule<T> {
+    type Key = ();
+
+    ghost holds = { IsRw };
+
+    ghost ways = { λ _. rw_ways };
+}
+
+pub(super) type RwCell<T> = Cell<T, View, RwRule<T>>;
+
+pub(super) type Party<'a, T> = Permit<'a, T, View, RwRule<T>>;
+
+pub(super) type Writer<'a, T> = WritePermit<'a, T, View, RwRule<T>>;
+
+struct Reads;
+
+impl Play<View> for Reads {
+    ghost then = { exchanges (λ _. Reading) Idle };
+}
+
+struct ReadsUpgradable;
+
+impl Play<View> for ReadsUpgradable {
+    ghost then = { exchanges (λ _. Upgradable) Idle };
+}
+
+struct Writes;
+
+impl Play<View> for Writes {
+    ghost then = { exchanges (λ _. Writing) Idle };
+}
+
+struct Upgrades;
+
+impl Play<View> for Upgrades {
+    ghost then = { exchanges (λ _. Writing) Upgradable };
+}
+
+struct ReadsOn;
+
+impl Play<View> for ReadsOn {
+    ghost then = { becomes Reading };
+}
+
+struct ReadsOnUpgradable;
+
+impl Play<View> for ReadsOnUpgradable {
+    ghost then = { becomes Upgradable };
+}
+
+struct Goes;
+
+impl Play<View> for Goes {
+    ghost then = { becomes Idle };
+}
+
+/// The word at a moment.
+pub(super) fn word<T>(cell: &RwCell<T>) -> usize {
+    let (found, permit) = cell.enter().load::<Goes>();
+    permit.leave();
+    found as usize
+}
+
+/// A party comes to read, or refuses where the word doesn't let it. It tells the word that it found in place of this one.
+pub(super) fn read<T>(cell: &RwCell<T>, word: usize) -> Option<Result<Party<'_, T>, usize>>
+    ensures { IfSome result (λ tried. IfOk tried (λ party. IsLent party Reading)) }
+{
+    let next = rw::read(word, rw::MAX_READERS)?;
+    let (found, permit) = cell.enter().exchange::<Reads>(word as u64, next as u64);
+    if found == word as u64 {
+        return Some(Ok(permit));
+    }
+    permit.leave();
+    Some(Err(found as usize))
+}
+
+/// As `read`, of a party that may upgrade.
+pub(super) fn read_upgradable<T>(
+    cell: &RwCell<T>,
+    word: usize,
+) -> Option<Result<Party<'_, T>, usize>>
+    ensures { IfSome result (λ tried. IfOk tried (λ party. IsLent party Upgradable)) }
+{
+    let next = rw::upgradable(word, rw::MAX_READERS)?;
+    let (found, permit) = cell
+        .enter()
+        .exchange::<ReadsUpgradable>(word as u64, next as u64);
+    if found == word as u64 {
+        return Some(Ok(permit));
+    }
+    permit.leave();
+    Some(Err(found as usize))
+}
+
+/// A party comes to write, or refuses beside any holder.
+pub(super) fn write<T>(cell: &RwCell<T>) -> Option<Writer<'_, T>>
+    ensures { IfSome result (λ writer. writer.view ≡ Writing) }
+{
+    let next = rw::write(0)?;
+    let (found, permit) = cell.enter().exchange::<Writes>(0, next as u64);
+    if found == 0 {
+        Some(permit.into_writer())
+    } else {
+        permit.leave();
+        None
+    }
+}
+
+/// The upgradable reader becomes the writer, or refuses beside another holder.
+pub(super) fn upgrade<T>(party: Party<'_, T>) -> Result<Writer<'_, T>, Party<'_, T>>
+    requires { IsLent party Upgradable }
+    ensures granted { IfOk result (λ writer. (writer.view ≡ Writing) × (party.entry.value ≡ Some writer.value)) }
+    ensures refused { IfErr result (λ still. (still.view ≡ Some Upgradable) × (still.value ≡ party.entry.value)) }
+{
+    let next = rw::upgrade(UPGRADABLE as usize).unwrap();
+    let (found, permit) = party.exchange::<Upgrades>(UPGRADABLE, next as u64);
+    if found == UPGRADABLE {
+        Ok(permit.into_writer())
+    } else {
+        Err(permit)
+    }
+}
+
+/// The writer goes on as a reader, as `rw::write_to_read` has it.
+pub(super) fn write_to_read<T>(writer: Writer<'_, T>) -> Party<'_, T>
+    ensures { (result.view ≡ Some Reading) × (result.value ≡ Some writer.entry.value) }
+{
+    writer.into_permit().add::<ReadsOn>(READER - WRITER).1
+}
+
+/// The writer goes on as the upgradable reader, as `rw::write_to_upgradable` has it.
+pub(super) fn write_to_upgradable<T>(writer: Writer<'_, T>) -> Party<'_, T>
+    ensures { (result.view ≡ Some Upgradable) × (result.value ≡ Some writer.entry.value) }
+{
+    let permit = writer.into_permit();
+    permit.add::<ReadsOnUpgradable>(UPGRADABLE - WRITER).1
+}
+
+/// The upgradable reader goes on as a reader, as `rw::upgradable_to_read` has it.
+pub(super) fn upgradable_to_read<T>(party: Party<'_, T>) -> Party<'_, T>
+    requires { IsLent party Upgradable }
+    ensures { (result.view ≡ Some Reading) × (result.value ≡ party.entry.value) }
+{
+    party.add::<ReadsOn>(READER - UPGRADABLE).1
+}
+
+/// A reader goes.
+pub(super) fn release_read<T>(party: Party<'_, T>)
+    requires { party.view ≡ Some Reading }
+{
+    party.subtract::<Goes>(READER).1.leave();
+}
+
+/// The upgradable reader goes.
+pub(super) fn release_upgradable<T>(party: Party<'_, T>)
+    requires { party.view ≡ Some Upgradable }
+{
+    party.subtract::<Goes>(UPGRADABLE).1.leave();
+}
+
+/// The writer goes.
+pub(super) fn release_write<T>(writer: Writer<'_, T>) {
+    writer.into_permit().subtract::<Goes>(WRITER).1.leave();
+}

@@ -1,0 +1,137 @@
+//! Locks and guards in several threads.
+
+use crate::rwlock::{
+    ReadHeld, RwLock, RwLockReadGuard, RwLockUpgradableGuard, RwLockWriteGuard, WriteHeld,
+};
+use spin_core::relax::{Spin, Yield};
+use std::cell::Cell;
+use std::sync::Wait;
+use std::thread;
+use std::thread::Threads;
+
+fn is_send<T: Send>() {}
+
+fn is_sync<T: Sync>() {}
+
+fn moves<T: Send, R>() {
+    is_send::<RwLock<T, R>>();
+}
+
+fn lends<T: Sync + 'static, R: 'static>() {
+    is_sync::<RwLockReadGuard<'static, T, R>>();
+    is_sync::<RwLockWriteGuard<'static, T, R>>();
+}
+
+fn travels<T: Send + Sync + 'static, R: 'static>() {
+    is_sync::<RwLock<T, R>>();
+    is_send::<RwLockReadGuard<'static, T, R>>();
+    is_send::<RwLockUpgradableGuard<'static, T, R>>();
+    is_sync::<RwLockUpgradableGuard<'static, T, R>>();
+    is_send::<RwLockWriteGuard<'static, T, R>>();
+    is_send::<ReadHeld<'static, T, R>>();
+    is_sync::<ReadHeld<'static, T, R>>();
+    is_send::<WriteHeld<'static, T, R>>();
+    is_sync::<WriteHeld<'static, T, R>>();
+}
+
+#[test]
+fn travel_with_a_value_that_may(rt: HostRuntime) {
+    let _ = rt;
+    moves::<Cell<u64>, Cell<u64>>();
+    lends::<u64, Cell<u64>>();
+    travels::<u64, Spin>();
+}
+
+#[test]
+fn a_guard_may_end_in_another_thread(rt: HostRuntime) {
+    let lock: RwLock<u64> = RwLock::new(1);
+    let mut guard = lock.write(&rt);
+    let write = move || {
+        *guard = 3;
+    };
+    thread::join(&rt, write, || ());
+    assert_eq!(rt; *lock.try_write().expect(&rt, "free"), 3);
+}
+
+// All additions are made under one guard, so a reader sees none of them or all.
+fn add_ten<R: Wait>(rt: &R, lock: &RwLock<u64, Yield>) {
+    let mut sum = lock.write(rt);
+    for _ in 0..10 {
+        *sum = sum.wrapping_add(1);
+    }
+}
+
+fn sees_all_or_nothing<R: Wait>(rt: &R, lock: &RwLock<u64, Yield>) -> bool {
+    let mut sound = true;
+    for _ in 0..100 {
+        let sum = *lock.read(rt);
+        sound = sound && (sum == 0 || sum == 10);
+    }
+    sound
+}
+
+fn read_in_two<R: Threads + Wait + Sync>(rt: &R, lock: &RwLock<u64, Yield>) -> bool {
+    let (first, second) = thread::join(
+        rt,
+        || sees_all_or_nothing(rt, lock),
+        || sees_all_or_nothing(rt, lock),
+    );
+    first && second
+}
+
+#[test]
+fn a_writer_beside_five_readers(rt: HostRuntime) {
+    let mut lock = RwLock::new(0);
+    let write_and_read = || {
+        let ((), sound) = thread::join(
+            &rt,
+            || add_ten(&rt, &lock),
+            || sees_all_or_nothing(&rt, &lock),
+        );
+        sound
+    };
+    let read_in_four = || {
+        let (first, second) = thread::join(
+            &rt,
+            || read_in_two(&rt, &lock),
+            || read_in_two(&rt, &lock),
+        );
+        first && second
+    };
+    let (first, second) = thread::join(&rt, write_and_read, read_in_four);
+    assert!(rt; first && second);
+    assert_eq!(rt; *lock.get_mut(), 10);
+}
+
+/// A value that counts its ends.
+struct Counted<'a> {
+    ends: &'a Cell<u32>,
+}
+
+impl Drop for Counted<'_> {
+    fn drop(self) {
+        let Self { ends } = self;
+        ends.set(ends.get().wrapping_add(1));
+    }
+}
+
+#[test]
+fn a_value_is_dropped_once(rt: HostRuntime) {
+    let ends = Cell::new(0);
+    drop(RwLock::<Counted>::new(Counted { ends: &ends }));
+    assert_eq!(rt; ends.get(), 1);
+    let lock: RwLock<Counted> = RwLock::new(Counted { ends: &ends });
+    let _ = RwLockWriteGuard::leak(lock.write(&rt));
+    drop(lock);
+    assert_eq!(rt; ends.get(), 2);
+    let lock: RwLock<Counted> = RwLock::new(Counted { ends: &ends });
+    drop(RwLockReadGuard::hold(lock.read(&rt)));
+    drop(lock);
+    assert_eq!(rt; ends.get(), 3);
+    let lock: RwLock<Counted> = RwLock::new(Counted { ends: &ends });
+    drop(lock.write(&rt));
+    let value = lock.into_inner();
+    assert_eq!(rt; ends.get(), 3);
+    drop(value);
+    assert_eq!(rt; ends.get(), 4);
+}

@@ -1,0 +1,84 @@
+//! Callers' proofs: what was seen under one guard is found under the next, and what was written is read back.
+ghost use Rattle.std.specs.Prelude.{◌≡◌};
+
+use crate::rwlock::{RwLock, RwLockUpgradableGuard, RwLockWriteGuard};
+use spin_core::relax::{Loop, RelaxStrategy};
+use std::sync::Wait;
+
+fn sees_the_same_after_upgrade<R: RelaxStrategy, W: Wait>(
+    rt: &W,
+    guard: RwLockUpgradableGuard<'_, u64, R>,
+) -> (u64, u64)
+    ensures { result.0 ≡ result.1 }
+{
+    let seen = *guard;
+    let guard = guard.upgrade(rt);
+    (seen, *guard)
+}
+
+// Whether it is granted or not.
+fn sees_the_same_after_a_try<R>(guard: RwLockUpgradableGuard<'_, u64, R>) -> (u64, u64)
+    ensures { result.0 ≡ result.1 }
+{
+    let seen = *guard;
+    match guard.try_upgrade() {
+        Ok(guard) => (seen, *guard),
+        Err(guard) => (seen, *guard),
+    }
+}
+
+fn sees_the_same_after_downgrade<R>(guard: RwLockUpgradableGuard<'_, u64, R>) -> (u64, u64)
+    ensures { result.0 ≡ result.1 }
+{
+    let seen = *guard;
+    let guard = guard.downgrade();
+    (seen, *guard)
+}
+
+fn reads_back_after_downgrade<R>(guard: RwLockWriteGuard<'_, u64, R>, value: u64) -> u64
+    ensures { result ≡ value }
+{
+    let mut guard = guard;
+    *guard = value;
+    *guard.downgrade()
+}
+
+fn reads_back_after_downgrade_to_upgradeable<R>(
+    guard: RwLockWriteGuard<'_, u64, R>,
+    value: u64,
+) -> u64
+    ensures { result ≡ value }
+{
+    let mut guard = guard;
+    *guard = value;
+    *guard.downgrade_to_upgradeable()
+}
+
+#[test]
+fn conversions_keep_the_value(rt: HostRuntime) {
+    let mut lock: RwLock<u64, Loop> = RwLock::from(3);
+    assert_eq!(rt;
+        sees_the_same_after_upgrade(&rt, lock.upgradeable_read(&rt)),
+        (3, 3)
+    );
+    assert_eq!(rt;
+        sees_the_same_after_a_try(lock.upgradeable_read(&rt)),
+        (3, 3)
+    );
+    let reader = lock.read(&rt);
+    assert_eq!(rt;
+        sees_the_same_after_a_try(lock.upgradeable_read(&rt)),
+        (3, 3)
+    );
+    assert_eq!(rt;
+        sees_the_same_after_downgrade(lock.upgradeable_read(&rt)),
+        (3, 3)
+    );
+    drop(reader);
+    assert_eq!(rt; reads_back_after_downgrade(lock.write(&rt), 4), 4);
+    assert_eq!(rt;
+        reads_back_after_downgrade_to_upgradeable(lock.write(&rt), 5),
+        5
+    );
+    assert_eq!(rt; *lock.get_mut(), 5);
+}

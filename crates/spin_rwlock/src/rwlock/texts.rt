@@ -1,0 +1,86 @@
+// `Debug` of the lock, and `Debug` and `Display` of its guards, which print as their value.
+ghost use Rattle.std.specs.Prelude.{Option};
+ghost use Rattle.std.specs.Fmt.{DisplaysOnOk};
+ghost use Rattle.std.specs.Option.{option_copied};
+ghost use Rattle.spin_rwlock.specs.Guards.{read_value, upgradable_value, write_value};
+ghost use Rattle.spin_rwlock.specs.Texts.{rw_text, lent_text};
+
+use super::{RwLock, RwLockReadGuard, RwLockUpgradableGuard, RwLockWriteGuard};
+use std::fmt;
+use std::fmt::{Debug, Display, Formatter};
+
+/// One attempt to read, of one load and at most one exchange; the guard is held while the value is written. Where it gets
+/// none it writes `<locked>`.
+impl<T: Debug, R> Debug for RwLock<T, R> {
+    fn fmt<W: fmt::Write>(&self, f: &mut Formatter<W>) -> fmt::Result
+        ensures { (found : Option T) × DisplaysOnOk W.write_str_gives f.old result (rw_text T.debug_output found) f.new }
+    {
+        let guard = match self.read_at(self.word()) {
+            Some(Ok(guard)) => Some(guard),
+            _ => None,
+        };
+        write_lock(guard.as_ref().map(|guard| &**guard), f)
+    }
+}
+
+// Writes the lock by the value that one attempt got.
+fn write_lock<T: Debug, W: fmt::Write>(value: Option<&T>, f: &mut Formatter<W>) -> fmt::Result
+    ensures { DisplaysOnOk W.write_str_gives f.old result (rw_text T.debug_output (option_copied value.entry)) f.new }
+{
+    let Some(value) = value else {
+        return f.write_str("RwLock { <locked> }");
+    };
+    f.write_str("RwLock { data: ")?;
+    Debug::fmt(value, f)?;
+    f.write_str(" }")
+}
+
+impl<T: Debug, R> Debug for RwLockReadGuard<'_, T, R> {
+    ghost debug_output = { λ g. lent_text T.debug_output (read_value g) };
+
+    fn fmt<W: fmt::Write>(&self, f: &mut Formatter<W>) -> fmt::Result {
+        Debug::fmt(&**self, f)
+    }
+}
+
+impl<T: Display, R> Display for RwLockReadGuard<'_, T, R> {
+    ghost output = { λ g. lent_text T.output (read_value g) };
+
+    fn fmt<W: fmt::Write>(&self, f: &mut Formatter<W>) -> fmt::Result {
+        Display::fmt(&**self, f)
+    }
+}
+
+impl<T: Debug, R> Debug for RwLockUpgradableGuard<'_, T, R> {
+    ghost debug_output = { λ g. lent_text T.debug_output (upgradable_value g) };
+
+    fn fmt<W: fmt::Write>(&self, f: &mut Formatter<W>) -> fmt::Result {
+        Debug::fmt(&**self, f)
+    }
+}
+
+impl<T: Display, R> Display for RwLockUpgradableGuard<'_, T, R> {
+    ghost output = { λ g. lent_text T.output (upgradable_value g) };
+
+    fn fmt<W: fmt::Write>(&self, f: &mut Formatter<W>) -> fmt::Result {
+        Display::fmt(&**self, f)
+    }
+}
+
+impl<T: Debug, R> Debug for RwLockWriteGuard<'_, T, R> {
+    ghost debug_output = { λ g. T.debug_output (write_value g) };
+
+    fn fmt<W: fmt::Write>(&self, f: &mut Formatter<W>) -> fmt::Result {
+        Debug::fmt(&**self, f)
+    }
+}
+
+impl<T: Display, R> Display for RwLockWriteGuard<'_, T, R> {
+    ghost output = { λ g. T.output (write_value g) };
+
+    ghost styled_output = { λ g. T.styled_output (write_value g) };
+
+    fn fmt<W: fmt::Write>(&self, f: &mut Formatter<W>) -> fmt::Result {
+        Display::fmt(&**self, f)
+    }
+}

@@ -1,0 +1,116 @@
+//! The writer's guard, and its hold without a guard.
+ghost use Rattle.std.specs.Prelude.{◌≡◌, Some};
+ghost use Rattle.spin_core.specs.Cell.{use_of, writes};
+ghost use Rattle.spin_rwlock.specs.Rw.{use_of_view};
+
+use super::reader::RwLockReadGuard;
+use super::rule::{Party, RwRule, View, Writer, release_write, write_to_read, write_to_upgradable};
+use super::upgradable::RwLockUpgradableGuard;
+use spin_core::cell::{Permit, WritePermit};
+use spin_core::relax::Spin;
+use std::marker::PhantomData;
+
+/// The value of a `RwLock` to write, of its one holder. Dropping it lets go of the lock.
+pub struct RwLockWriteGuard<'a, T, R = Spin> {
+    pub(super) writer: WritePermit<'a, T, View, RwRule<T>>,
+    strategy: PhantomData<R>,
+}
+
+/// The writer's hold on a `RwLock` that lends no value. Only `force_write_unlock` spends it: dropping it frees nothing.
+pub struct WriteHeld<'a, T, R = Spin> {
+    permit: Permit<'a, T, View, RwRule<T>>,
+    strategy: PhantomData<R>,
+    ghost writing: { use_of use_of_view permit.view ≡ writes },
+}
+
+impl<'a, T, R> RwLockWriteGuard<'a, T, R> {
+    ghost use Rattle.spin_rwlock.specs.Guards.{read_value, upgradable_value, write_value, write_held_value};
+
+    pub(super) fn new(writer: Writer<'a, T>) -> Self
+        ensures { write_value result ≡ writer.entry.value }
+    {
+        RwLockWriteGuard {
+            writer,
+            strategy: PhantomData,
+        }
+    }
+
+    /// Goes on as a reader, beside whom others may come. It makes one step, and can't be refused: no other writer comes
+    /// in between.
+    pub fn downgrade(self) -> RwLockReadGuard<'a, T, R>
+        ensures { read_value result ≡ Some (write_value self.entry) }
+    {
+        RwLockReadGuard::new(write_to_read(self.into_writer()))
+    }
+
+    /// Goes on as the upgradable reader. It makes one step, and can't be refused: no other writer comes in between.
+    pub fn downgrade_to_upgradeable(self) -> RwLockUpgradableGuard<'a, T, R>
+        ensures { upgradable_value result ≡ Some (write_value self.entry) }
+    {
+        RwLockUpgradableGuard::new(write_to_upgradable(self.into_writer()))
+    }
+
+    /// The value for as long as the lock lives. The lock stays taken.
+    pub fn leak(this: Self) -> &'a mut T
+        ensures { result.now ≡ write_value this.entry }
+    {
+        this.into_writer().leak()
+    }
+
+    /// Keeps the lock taken, without a guard.
+    pub fn hold(this: Self) -> WriteHeld<'a, T, R>
+        ensures { write_held_value result ≡ Some (write_value this.entry) }
+    {
+        WriteHeld {
+            permit: this.into_writer().into_permit(),
+            strategy: PhantomData,
+        }
+    }
+
+    fn into_writer(self) -> Writer<'a, T>
+        ensures { result ≡ self.entry.writer }
+    {
+        let Self {
+            writer,
+            strategy: _,
+        } = self;
+        writer
+    }
+}
+
+impl<'a, T, R> WriteHeld<'a, T, R> {
+    /// The writer lets go.
+    pub(super) fn release(self) {
+        release_write(self.into_permit().into_writer());
+    }
+
+    fn into_permit(self) -> Party<'a, T>
+        ensures { use_of use_of_view result.view ≡ writes }
+    {
+        let Self {
+            permit,
+            strategy: _,
+        } = self;
+        permit
+    }
+}
+
+impl<T, R> Drop for RwLockWriteGuard<'_, T, R> {
+    fn drop(self) {
+        release_write(self.into_writer());
+    }
+}
+
+impl<T, R> Drop for WriteHeld<'_, T, R> {
+    fn drop(self) {
+        self.into_permit().leak();
+    }
+}
+
+unsafe impl<T: Send + Sync, R> Send for RwLockWriteGuard<'_, T, R> {}
+
+unsafe impl<T: Sync, R> Sync for RwLockWriteGuard<'_, T, R> {}
+
+unsafe impl<T: Send + Sync, R> Send for WriteHeld<'_, T, R> {}
+
+unsafe impl<T: Send + Sync, R> Sync for WriteHeld<'_, T, R> {}

@@ -1,0 +1,6 @@
+pub mod Plain
+pub mod Parties
+pub mod Steps
+pub mod Tickets
+pub mod Starvers
+pub mod Readers

@@ -1,0 +1,70 @@
+-- What one party has in a plain lock, and what no two may have at once.
+use Rattle.std.specs.Prelude.{◌≡◌, ℕ, ◌<◌, ◌≤◌, Bool, true, not, ◌&&◌, Option, Some, None, List, [], ◌∷◌, length, filter, ◌==◌}
+use Rattle.spin_step.specs.Plain.{Plain, upgradable, writing, Holder, Ticket, Change, gets, releases, serves, stops_starving, turns, completes, fails, arrives, apply, is_open, is_empty, count_kind}
+
+-- whose step it is
+abbrev pub who : Change → ℕ
+who (gets p ask) = p
+who (releases p k) = p
+who (serves p) = p
+who (stops_starving p) = p
+who (turns p k l) = p
+who (completes p) = p
+who (fails p) = p
+who (arrives p) = p
+
+-- a step, or none
+abbrev pub apply_some : Plain → Option Change → Plain
+apply_some s None = s
+apply_some s (Some c) = apply s c
+
+-- a step is the party's own, and open
+abbrev pub IsOpenStep : Plain → ℕ → Option Change → Type 0
+IsOpenStep s p None = Unit {0}
+IsOpenStep s p (Some c) = (who c ≡ p) × (is_open s c ≡ true)
+
+-- what stands in the lock under one party's name
+pub record Entries : Type 0 where
+  pub holders : List Holder
+  pub tickets : List Ticket
+  pub starvers : List ℕ
+
+abbrev pub entries : ℕ → Plain → Entries
+entries p s =
+    record {
+      holders = filter (λ h. h.party == p) s.holders;
+      tickets = filter (λ t. t.party == p) s.tickets;
+      starvers = filter (λ q. q == p) s.starvers;
+    }
+
+abbrev pub no_entries : Entries
+no_entries = record { holders = []; tickets = []; starvers = [] }
+
+-- the lock with these entries and no others
+abbrev pub with_entries : Plain → Entries → Plain
+with_entries s e = record s { holders = e.holders; tickets = e.tickets; starvers = e.starvers }
+
+-- a party's entries after a step of its own, which is made in the state s
+abbrev pub entries_after : Plain → Option Change → Entries → Entries
+entries_after s step e =
+    let t = apply_some (with_entries s e) step in
+    record { holders = t.holders; tickets = t.tickets; starvers = t.starvers }
+
+-- somebody holds the lock, or stands in its queue
+abbrev pub is_held : Plain → Bool
+is_held s = not (is_empty s.holders && is_empty s.tickets)
+
+abbrev pub none_entered : List Ticket → Bool
+none_entered [] = true
+none_entered (t ∷ ts) = not t.entered && none_entered ts
+
+-- no ticket but the first has entered
+abbrev pub first_alone_entered : List Ticket → Bool
+first_alone_entered [] = true
+first_alone_entered (t ∷ ts) = none_entered ts
+
+-- nobody holds beside a writer, at most one holder is upgradable, and at most one ticket has entered
+pub record IsExclusive (s : Plain) : Type 0 where
+  pub writer : 0 < count_kind writing s.holders → length s.holders ≡ 1
+  pub one_upgradable : count_kind upgradable s.holders ≤ 1
+  pub one_entered : first_alone_entered s.tickets ≡ true

@@ -1,0 +1,15 @@
+-- The read-write lock as its step functions see it.
+use Rattle.std.specs.Prelude.{ℕ, ◌≤◌, ◌==◌, ◌&&◌, ◌/◌, ◌%◌, Bool, nat_lt, min}
+use Rattle.spin_step.specs.Plain.{Plain, upgradable, writing, count_kind}
+
+-- the limit of holders, usize::MAX / 4 / 2
+abbrev pub reader_limit : ℕ
+reader_limit = 2305843009213693951
+
+-- at most one holder is upgradable, and at most one writes
+abbrev pub OneOfEach : Plain → Type 0
+OneOfEach s = (count_kind upgradable s.holders ≤ 1) × (count_kind writing s.holders ≤ 1)
+
+-- the word has no low bit, and counts fewer readers than the cap
+abbrev pub has_room : ℕ → ℕ → Bool
+has_room word cap = (word % 4 == 0) && nat_lt (word / 4) (min cap reader_limit)

@@ -1,0 +1,21 @@
+-- The queue of tickets as it stands: numbered one by one, up to the next number.
+use Rattle.std.specs.Prelude.{◌≡◌, ℕ, suc, ◌≤◌, ◌==◌, Bool, false, List, [], ◌∷◌, length, filter}
+use Rattle.spin_step.specs.Plain.{Plain, Ticket, ticket, Change, gets, serves, to_enter, is_open, serving_word}
+
+abbrev pub numbered_from : ℕ → List Ticket → Type 0
+numbered_from k [] = Unit {0}
+numbered_from k (t ∷ ts) = (t.number ≡ k) × numbered_from (suc k) ts
+
+-- the tickets have the numbers from the one that is served up to the next
+abbrev pub Numbered : Plain → Type 0
+Numbered s = (length s.tickets ≤ s.next) × numbered_from (serving_word s) s.tickets
+
+-- It is the turn of the party with this ticket, where this number is served: it may enter
+abbrev pub IsTurn : ℕ → ℕ → Bool → Type 0
+IsTurn serving number turn =
+    (s : Plain) (party : ℕ) → Numbered s → serving_word s ≡ serving → filter (λ t. t.party == party) s.tickets ≡ ticket party number false ∷ [] → is_open s (gets party to_enter) ≡ turn
+
+-- how many tickets go with a plain step
+abbrev pub gone : Change → ℕ
+gone (serves p) = 1
+gone _ = 0

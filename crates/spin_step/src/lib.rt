@@ -1,0 +1,11 @@
+//! Every change of a lock's word, as a pure function from the word before to the word after.
+//!
+//! A refusal is `None` and gives no new word.
+#![tactic(auto)]
+
+pub mod fair;
+pub mod flag;
+pub mod rw;
+#[cfg(test)]
+mod tests;
+pub mod ticket;
