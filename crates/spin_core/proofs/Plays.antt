@@ -76,10 +76,14 @@ module _ {V : Type 0} (lock : Lock V) where
   abbrev Goes : ℕ → Option V → List V → V → ℕ → ℕ → Type 0
   Goes id view vs w n m = Going way (use_of ways.1 view) (ways.1 w) None (readers_of ways.1 vs) (Meets Holds ways n m (after id view vs w))
 
+  -- the same of a lock whose parties are known, all of them
+  abbrev pub EachOf : Option V → (Plain → ℕ → Type 0) → Type 0
+  EachOf view P = (s : Plain) (p : ℕ) (vs : List V) → s.cap ≡ cap → IsInOrder s → IsLockOf part vs s → HasPart s p (part_before part view) → P s p
+
   -- a step on the first word: in each lock the party comes to a view of which this can be said
-  pub allows : (view : Option V) (f : ℕ → ℕ) (says : ℕ → V → Type 0) → Each view (λ s p. (w : V) × Comes view w s p (f (first s)) (second s) × says (first s) w) → Allows Holds ways view f says
-  allows view f says makes id n m vs meets at small =
-      let s = meets.0.0 in let made = makes s (number part id view vs) meets.0.1 meets.0.2 (own_part part id view vs s at meets.0.3) in let w : V = made.0 in
+  pub allows_among : (view : Option V) (f : ℕ → ℕ) (says : ℕ → V → Type 0) → EachOf view (λ s p. (w : V) × Comes view w s p (f (first s)) (second s) × says (first s) w) → Allows Holds ways view f says
+  allows_among view f says makes id n m vs meets at small =
+      let s = meets.0.0 in let made = makes s (number part id view vs) vs meets.0.1 meets.0.2 meets.0.3 (own_part part id view vs s at meets.0.3) in let w : V = made.0 in
       subst (λ j. (w : V) × Goes id view vs w (f j) m × says j w) (sym meets.0.4)
       (subst (λ j. (w : V) × Goes id view vs w (f (first s)) j × says (first s) w) (sym meets.0.5) (
         w,
@@ -87,6 +91,10 @@ module _ {V : Type 0} (lock : Lock V) where
             (after_step id view vs w s (f (first s)) (second s) at meets.0.1 meets.0.2 meets.0.3 made.1),
         made.2,
       ))
+
+  -- the same of a step that need not know the other parties
+  pub allows : (view : Option V) (f : ℕ → ℕ) (says : ℕ → V → Type 0) → Each view (λ s p. (w : V) × Comes view w s p (f (first s)) (second s) × says (first s) w) → Allows Holds ways view f says
+  allows view f says makes = allows_among view f says (λ s p vs room order is has. makes s p room order has)
 
   -- and on the second
   pub allows_second : (view : Option V) (f : ℕ → ℕ) (says : ℕ → V → Type 0) → Each view (λ s p. (w : V) × Comes view w s p (first s) (f (second s)) × says (second s) w) → AllowsSecond Holds ways view f says

@@ -1,5 +1,6 @@
 //! What a waiting call does between two looks at a lock's word.
 use std::hint::spin_loop;
+use std::marker::PhantomData;
 use std::sync::Wait;
 use std::thread::yield_now;
 
@@ -39,3 +40,20 @@ impl RelaxStrategy for Loop {
         let _ = rt;
     }
 }
+
+/// The strategy of a lock, by its name alone: there is nothing in it, so a lock may go to another thread whatever `R` is.
+#[derive(Drop)]
+pub struct Strategy<R> {
+    name: PhantomData<R>,
+}
+
+impl<R> Strategy<R> {
+    /// The strategy `R`.
+    pub fn named() -> Self {
+        Strategy { name: PhantomData }
+    }
+}
+
+unsafe impl<R> Send for Strategy<R> {}
+
+unsafe impl<R> Sync for Strategy<R> {}

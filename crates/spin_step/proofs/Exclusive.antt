@@ -10,7 +10,7 @@ pub empty_is : {X : Type 0} (xs : List X) → is_empty xs ≡ true → xs ≡ []
 empty_is [] e = refl
 empty_is (x ∷ xs) e = absurd cc
 
-same_kind_is : (j k : Kind) → same_kind j k ≡ true → j ≡ k
+pub same_kind_is : (j k : Kind) → same_kind j k ≡ true → j ≡ k
 same_kind_is reading reading e = refl
 same_kind_is upgradable upgradable e = refl
 same_kind_is writing writing e = refl

@@ -3,6 +3,10 @@ pub mod Holders
 pub mod Exclusive
 pub mod Flags
 pub mod Starvers
+pub mod FairSteps
 pub mod Tickets
 pub mod TicketSteps
 pub mod Readers
+pub mod ReaderSteps
+pub mod Barriers
+pub mod Onces

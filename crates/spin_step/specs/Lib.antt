@@ -4,3 +4,4 @@ pub mod Steps
 pub mod Tickets
 pub mod Starvers
 pub mod Readers
+pub mod Barriers

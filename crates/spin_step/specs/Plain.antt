@@ -101,6 +101,10 @@ abbrev pub is_running : ℕ → Phase → Bool
 is_running p (running q) = q == p
 is_running p _ = false
 
+abbrev pub is_complete : Phase → Bool
+is_complete complete = true
+is_complete _ = false
+
 -- no writer and no upgradable reader stands, and there is room below the cap
 abbrev pub may_read : Plain → Bool
 may_read s = ((count_kind writing s.holders + count_kind upgradable s.holders) == 0) && nat_lt (length s.holders) s.cap

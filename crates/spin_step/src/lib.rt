@@ -3,8 +3,10 @@
 //! A refusal is `None` and gives no new word.
 #![tactic(auto)]
 
+pub mod barrier;
 pub mod fair;
 pub mod flag;
+pub mod once;
 pub mod rw;
 #[cfg(test)]
 mod tests;

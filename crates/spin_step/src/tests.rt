@@ -1,7 +1,8 @@
 //! What the contracts leave to a run: that each step gives the word that it says.
 
+use crate::barrier::State;
 use crate::fair::LockRejectReason::{Locked, Starved};
-use crate::{fair, flag};
+use crate::{barrier, fair, flag, once};
 use std::test::Fail;
 
 #[test]
@@ -43,4 +44,44 @@ fn reasons_are_told(rt: HostRuntime) -> Result<(), Fail> {
     let told = format!(in rt.alloc(); "{Locked} {Starved} {Locked:?} {Starved:?}")?;
     assert_eq!(rt; told.as_str(), "locked starved Locked Starved");
     Ok(())
+}
+
+#[test]
+fn once_states(rt: HostRuntime) {
+    assert_eq!(rt; once::begin(0), Some(1));
+    assert_eq!(rt; once::begin(1), None);
+    assert_eq!(rt; once::begin(2), None);
+    assert_eq!(rt; once::complete(1), 2);
+    assert_eq!(rt; once::fail(1), 0);
+}
+
+#[test]
+fn each_last_of_a_group_leads(rt: HostRuntime) {
+    let (first, leads) = barrier::arrive(State::new(2));
+    assert!(rt; !leads);
+    assert!(rt; !barrier::may_leave(first, 0));
+    let (second, leads) = barrier::arrive(first);
+    assert!(rt; leads);
+    assert!(rt; barrier::may_leave(second, 0));
+    assert_eq!(rt; (second.n, second.count, second.generation), (2, 0, 1));
+}
+
+#[test]
+fn a_group_of_none_is_a_group_of_one(rt: HostRuntime) {
+    let mut state = State::new(0);
+    assert!(rt; state.arrive());
+    assert!(rt; state.arrive());
+    assert_eq!(rt; (state.n, state.count, state.generation), (0, 0, 2));
+}
+
+#[test]
+fn generations_wrap(rt: HostRuntime) {
+    let last = State {
+        n: 1,
+        count: 0,
+        generation: usize::MAX,
+    };
+    let (next, leads) = barrier::arrive(last);
+    assert!(rt; leads);
+    assert_eq!(rt; next.generation, 0);
 }

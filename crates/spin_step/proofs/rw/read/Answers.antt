@@ -1,7 +1,9 @@
-use Rattle.std.proofs.Common.{◌∙◌, arith, sym}
-use Rattle.spin_step.specs.Plain.{reading}
-use Rattle.spin_step.proofs.Readers.{word-more, may_read-word}
+use Rattle.std.proofs.Common.{◌+◌, Some, None, if◌then◌else◌, ◌∙◌, sym, subst}
+use Rattle.spin_step.specs.Plain.{gets, to_read, rw_word}
+use Rattle.spin_step.specs.Steps.{Decides}
+use Rattle.spin_step.proofs.ReaderSteps.{rw_read-grants}
 use Rattle.spin_step.proofs.rw.read.Goals as goal
 
 pub returns-then-has_room-clause-plain : goal.returns-then-has_room-clause-plain
-returns-then-has_room-clause-plain c s party one cap word = (may_read-word s c.args.word c.args.cap one cap word ∙ (sym c.has_room.ensures ∙ c.if-has_room.true), omega (arith, word-more reading party s.holders, word))
+returns-then-has_room-clause-plain c s party one cap word =
+    subst (λ b. Decides s (gets party to_read) rw_word (if b then Some (c.args.word + 4) else None)) (sym c.has_room.ensures ∙ c.if-has_room.true) (rw_read-grants s party c.args.word c.args.cap one cap word)
