@@ -29,41 +29,24 @@ use Rattle.spin_fair.specs.Fair.{part, use_of_view, IsFair, fair_ways, won_if_cl
 abbrev ways : Ways (Unit {0}) View
 ways = fair_ways
 
-kind : (v : View) → OfHolders part v
-kind Idle = (refl, λ p. refl)
-kind Starving = (refl, λ p. refl)
-kind Holding = (refl, λ p. refl)
-kind HoldingStarving = (refl, λ p. refl)
-
-who_holds_writes : (v : View) → Writes part (part v)
-who_holds_writes Idle p = refl
-who_holds_writes Starving p = refl
-who_holds_writes Holding p = refl
-who_holds_writes HoldingStarving p = refl
-
-no_reader : (v : View) → reading (use_of_view v) ≡ 0
-no_reader Idle = refl
-no_reader Starving = refl
-no_reader Holding = refl
-no_reader HoldingStarving = refl
-
-a_writer_holds : (v : View) → writer (use_of_view v) ≤ writer (used_by part v)
-a_writer_holds Idle = omega arith
-a_writer_holds Starving = omega arith
-a_writer_holds Holding = omega arith
-a_writer_holds HoldingStarving = omega arith
+-- it is one holder or none, who holds writes, nobody reads, and who uses the value holds
+facts : (v : View) → OfHolders part v × Writes part (part v) × (reading (use_of_view v) ≡ 0) × (writer (use_of_view v) ≤ writer (used_by part v))
+facts Idle = ((refl, λ p. refl), λ p. refl, refl, omega arith)
+facts Starving = ((refl, λ p. refl), λ p. refl, refl, omega arith)
+facts Holding = ((refl, λ p. refl), λ p. refl, refl, omega arith)
+facts HoldingStarving = ((refl, λ p. refl), λ p. refl, refl, omega arith)
 
 abbrev fair : Lock View
-fair = record { part = part; way = alone; goes = λ u v readers A a. a; cap = most_starvers; first = fair_word; second = no_word; fits = one_holder part kind most_starvers; first_names_nobody = fair_word-up; second_names_nobody = no_word-up }
+fair = record { part = part; way = alone; goes = λ u v readers A a. a; cap = most_starvers; first = fair_word; second = no_word; fits = one_holder part (λ v. (facts v).0) most_starvers; first_names_nobody = fair_word-up; second_names_nobody = no_word-up }
 
 fits : (vs : List View) (s : Plain) → s.cap ≡ most_starvers → IsInOrder s → IsLockOf part vs s → Limits {X = Unit {0}} alone (readers_of use_of_view vs) (writers_of use_of_view vs)
-fits vs s room order is = omega (arith, one_holder part kind most_starvers vs s room order is, none (λ v. reading (use_of_view v)) no_reader vs, sum_by-le-sum_by (λ v. writer (use_of_view v)) (λ v. writer (used_by part v)) vs a_writer_holds)
+fits vs s room order is = omega (arith, one_holder part (λ v. (facts v).0) most_starvers vs s room order is, none (λ v. reading (use_of_view v)) (λ v. (facts v).2) vs, sum_by-le-sum_by (λ v. writer (use_of_view v)) (λ v. writer (used_by part v)) vs (λ v. (facts v).3))
 
 abbrev Each : Option View → (Plain → ℕ → Type 0) → Type 0
 Each view P = (s : Plain) (p : ℕ) → s.cap ≡ most_starvers → IsInOrder s → OneHolds s → HasPart s p (part_before part view) → fair_word s < words → P s p
 
 allows : (view : Option View) (f : ℕ → ℕ) (says : ℕ → View → Type 0) → Each view (λ s p. (w : View) × Comes fair view w s p (f (fair_word s)) 0 × says (fair_word s) w) → Allows IsFair ways view f says
-allows view f says makes = allows_knowing part use_of_view most_starvers fair_word no_word fits view f says (λ s p vs room order is has small. makes s p room order (one_holds part who_holds_writes vs s order is) has small)
+allows view f says makes = allows_knowing part use_of_view most_starvers fair_word no_word fits view f says (λ s p vs room order is has small. makes s p room order (one_holds part (λ v. (facts v).1) vs s order is) has small)
 
 pub starts : Meets IsFair ways 0 0 []
 starts = let m = begins fair 0 0 0 0 (omega arith) refl refl in (m.0, omega arith)

@@ -3,13 +3,11 @@ ghost use Rattle.std.specs.Prelude.{◌≡◌, Some, IfSome, IfOk};
 ghost use Rattle.spin_guard.specs.Guard.{IsHolder};
 ghost use Rattle.spin_fair.specs.Fair.{use_of_view};
 
-use self::rule::{Attempt, Look, Register, Release};
-use spin_core::cell::{Cell, WritePermit};
-use spin_core::relax::{RelaxStrategy, Spin};
-use spin_guard::guard;
-use spin_guard::guard::{Guard, Uses};
+use self::rule::{Attempt, Look, Register};
+use spin_core::cell::Cell;
+use spin_core::relax::{RelaxStrategy, Spin, Strategy};
+use spin_guard::guard::{self, Guard};
 use spin_step::fair;
-use std::marker::PhantomData;
 use std::sync::Wait;
 
 mod rule;
@@ -23,29 +21,6 @@ pub use spin_step::fair::LockRejectReason;
 /// After more looks than this that found the lock held, `lock` starves.
 pub const STARVATION_SPINS: usize = 1024;
 
-// In the word: somebody holds the lock.
-const LOCKED: u64 = 1;
-
-// In the word: one starver.
-const STARVER: u64 = 2;
-
-impl Uses<View> for FairRule {
-    ghost use Rattle.spin_core.specs.Cell.{use_of};
-
-    ghost use_at = { use_of use_of_view };
-}
-
-impl<T> guard::Release<T, View> for FairRule {
-    ghost use Rattle.std.specs.Prelude.{refl};
-
-    fn release(writer: WritePermit<'_, T, View, FairRule>) {
-        let (_, permit) = writer.into_permit().keep_bits::<Release>(!LOCKED);
-        permit.leave();
-    }
-
-    ghost same = { λ key view. refl };
-}
-
 /// A lock that gives one party at a time access to a value, and spins while it waits. While a party is registered as a
 /// starver, no other gets the lock unless it starves as well.
 ///
@@ -53,7 +28,7 @@ impl<T> guard::Release<T, View> for FairRule {
 #[derive(Drop)]
 pub struct FairMutex<T, R = Spin> {
     cell: Cell<T, View, FairRule>,
-    strategy: PhantomData<R>,
+    strategy: Strategy<R>,
 }
 
 /// Access to the value of a `FairMutex`. Dropping it lets go of the lock.
@@ -65,23 +40,51 @@ pub type Held<'a, T, R = Spin> = guard::Held<'a, T, View, FairRule, R>;
 impl<T, R> FairMutex<T, R> {
     /// An open lock, for which nobody starves.
     pub fn new(value: T) -> Self {
+        let cell = Cell::new(value, 0, 0, &());
         FairMutex {
-            cell: Cell::new(value, 0, 0, &()),
-            strategy: PhantomData,
+            cell,
+            strategy: Strategy::named(),
+        }
+    }
+}
+
+impl<T, R: RelaxStrategy> FairMutex<T, R> {
+    /// Takes the lock, and relaxes while somebody holds it. Once it has looked in vain for a while it starves, and so
+    /// comes before newcomers. Nothing is promised about when it returns.
+    pub fn lock<W: Wait>(&self, rt: &W) -> FairMutexGuard<'_, T, R>
+        ensures { IsHolder use_of_view result }
+    {
+        match self.try_lock() {
+            Some(guard) => guard,
+            None => self.wait(rt),
         }
     }
 
-    /// The last value, whatever the word is.
-    pub fn into_inner(self) -> T {
-        let Self { cell, strategy: _ } = self;
-        cell.into_inner()
+    // Looks before each further attempt, so that waiters read a shared line and do not write it. It stands apart: inlined,
+    // it would lengthen the path of every caller that does not wait.
+    #[cold]
+    #[inline(never)]
+    fn wait<W: Wait>(&self, rt: &W) -> FairMutexGuard<'_, T, R>
+        ensures { IsHolder use_of_view result }
+    {
+        let mut spins = 0;
+        for _ in rt.forever() {
+            if self.is_locked() {
+                R::relax(rt);
+                if spins <= STARVATION_SPINS {
+                    spins += 1;
+                } else if let Some(starvation) = self.starve(rt) {
+                    return starvation.lock(rt);
+                }
+            } else if let Some(guard) = self.try_lock() {
+                return guard;
+            }
+        }
+        unreachable!()
     }
+}
 
-    /// The value, whatever the word is: nobody else has the lock.
-    pub fn get_mut(&mut self) -> &mut T {
-        self.cell.get_mut()
-    }
-
+impl<T, R> FairMutex<T, R> {
     /// Takes the lock, or refuses where somebody holds it or starves. It makes one exchange.
     pub fn try_lock<'a>(&'a self) -> Option<FairMutexGuard<'a, T, R>>
         ensures { IfSome result (IsHolder use_of_view) }
@@ -136,46 +139,21 @@ impl<T, R> FairMutex<T, R> {
         held.release();
     }
 
+    /// The last value, whatever the word is.
+    pub fn into_inner(self) -> T {
+        let Self { cell, strategy: _ } = self;
+        cell.into_inner()
+    }
+
+    /// The value, whatever the word is: nobody else has the lock.
+    pub fn get_mut(&mut self) -> &mut T {
+        self.cell.get_mut()
+    }
+
     fn word(&self) -> usize {
         let (found, permit) = self.cell.enter().load::<Look>();
         permit.leave();
         found as usize
-    }
-}
-
-impl<T, R: RelaxStrategy> FairMutex<T, R> {
-    /// Takes the lock, and relaxes while somebody holds it. Once it has looked in vain for a while it starves, and so
-    /// comes before newcomers. Nothing is promised about when it returns.
-    pub fn lock<W: Wait>(&self, rt: &W) -> FairMutexGuard<'_, T, R>
-        ensures { IsHolder use_of_view result }
-    {
-        match self.try_lock() {
-            Some(guard) => guard,
-            None => self.wait(rt),
-        }
-    }
-
-    // Looks before each further attempt, so that waiters read a shared line and do not write it. It stands apart: inlined,
-    // it would lengthen the path of every caller that does not wait.
-    #[cold]
-    #[inline(never)]
-    fn wait<W: Wait>(&self, rt: &W) -> FairMutexGuard<'_, T, R>
-        ensures { IsHolder use_of_view result }
-    {
-        let mut spins = 0;
-        for _ in rt.forever() {
-            if self.is_locked() {
-                R::relax(rt);
-                if spins <= STARVATION_SPINS {
-                    spins += 1;
-                } else if let Some(starvation) = self.starve(rt) {
-                    return starvation.lock(rt);
-                }
-            } else if let Some(guard) = self.try_lock() {
-                return guard;
-            }
-        }
-        unreachable!()
     }
 }
 
@@ -192,10 +170,6 @@ impl<T, R> From<T> for FairMutex<T, R> {
         Self::new(value)
     }
 }
-
-unsafe impl<T: Send, R> Send for FairMutex<T, R> {}
-
-unsafe impl<T: Send, R> Sync for FairMutex<T, R> {}
 
 #[cfg(test)]
 mod tests;

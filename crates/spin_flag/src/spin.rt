@@ -1,16 +1,13 @@
 //! A spinning mutex of one flag.
-ghost use Rattle.std.specs.Prelude.{◌≡◌, ◌≢◌, ℕ, IsTrue, ◌↔◌, IfSome};
-ghost use Rattle.spin_step.specs.Steps.{bit};
+ghost use Rattle.std.specs.Prelude.{IfSome};
 ghost use Rattle.spin_guard.specs.Guard.{IsHolder};
 ghost use Rattle.spin_flag.specs.Flag.{use_of_view};
 
-use self::rule::{Attempt, Look, Release};
-use spin_core::cell::{Cell, WritePermit};
-use spin_core::relax::{RelaxStrategy, Spin};
-use spin_guard::guard;
-use spin_guard::guard::{Guard, Uses};
+use self::rule::{Attempt, Look, is_set, word};
+use spin_core::cell::Cell;
+use spin_core::relax::{RelaxStrategy, Spin, Strategy};
+use spin_guard::guard::{self, Guard};
 use spin_step::flag;
-use std::marker::PhantomData;
 use std::sync::Wait;
 
 mod rule;
@@ -18,43 +15,11 @@ mod texts;
 
 pub use self::rule::{FlagRule, View};
 
-impl Uses<View> for FlagRule {
-    ghost use Rattle.spin_core.specs.Cell.{use_of};
-
-    ghost use_at = { use_of use_of_view };
-}
-
-impl<T> guard::Release<T, View> for FlagRule {
-    ghost use Rattle.std.specs.Prelude.{refl};
-
-    fn release(writer: WritePermit<'_, T, View, FlagRule>) {
-        let free = flag::unlock(true);
-        let permit = writer.into_permit();
-        permit.store::<Release>(word(free)).leave();
-    }
-
-    ghost same = { λ key view. refl };
-}
-
-// The word of a flag.
-fn word(flag: bool) -> u64
-    ensures { result ≡ bit flag }
-{
-    flag as u64
-}
-
-// The flag of a word.
-fn is_set(word: u64) -> bool
-    ensures { IsTrue result ↔ (word ≢ 0) }
-{
-    word != 0
-}
-
 /// A lock that gives one party at a time access to a value, and spins while it waits.
 #[derive(Drop)]
 pub struct SpinMutex<T, R = Spin> {
     cell: Cell<T, View, FlagRule>,
-    strategy: PhantomData<R>,
+    strategy: Strategy<R>,
 }
 
 /// Access to the value of a `SpinMutex`. Dropping it lets go of the lock.
@@ -68,21 +33,41 @@ impl<T, R> SpinMutex<T, R> {
     pub fn new(value: T) -> Self {
         SpinMutex {
             cell: Cell::new(value, word(false), 0, &()),
-            strategy: PhantomData,
+            strategy: Strategy::named(),
+        }
+    }
+}
+
+impl<T, R: RelaxStrategy> SpinMutex<T, R> {
+    /// Takes the lock, and relaxes while somebody holds it. Nothing is promised about when it returns.
+    pub fn lock<W: Wait>(&self, rt: &W) -> SpinMutexGuard<'_, T, R>
+        ensures { IsHolder use_of_view result }
+    {
+        match self.try_lock_weak() {
+            Some(guard) => guard,
+            None => self.wait(rt),
         }
     }
 
-    /// The last value, whatever the flag is.
-    pub fn into_inner(self) -> T {
-        let Self { cell, strategy: _ } = self;
-        cell.into_inner()
+    // Looks before each further attempt, so that waiters read a shared line and do not write it. It stands apart: inlined,
+    // it would lengthen the path of every caller that does not wait.
+    #[cold]
+    #[inline(never)]
+    fn wait<W: Wait>(&self, rt: &W) -> SpinMutexGuard<'_, T, R>
+        ensures { IsHolder use_of_view result }
+    {
+        for _ in rt.forever() {
+            if self.is_locked() {
+                R::relax(rt);
+            } else if let Some(guard) = self.try_lock_weak() {
+                return guard;
+            }
+        }
+        unreachable!()
     }
+}
 
-    /// The value, whatever the flag is: nobody else has the lock.
-    pub fn get_mut(&mut self) -> &mut T {
-        self.cell.get_mut()
-    }
-
+impl<T, R> SpinMutex<T, R> {
     /// Takes the lock, or refuses where somebody holds it. It makes one exchange.
     pub fn try_lock<'a>(&'a self) -> Option<SpinMutexGuard<'a, T, R>>
         ensures { IfSome result (IsHolder use_of_view) }
@@ -118,34 +103,16 @@ impl<T, R> SpinMutex<T, R> {
     pub fn force_unlock(held: Held<'_, T, R>) {
         held.release();
     }
-}
 
-impl<T, R: RelaxStrategy> SpinMutex<T, R> {
-    /// Takes the lock, and relaxes while somebody holds it. Nothing is promised about when it returns.
-    pub fn lock<W: Wait>(&self, rt: &W) -> SpinMutexGuard<'_, T, R>
-        ensures { IsHolder use_of_view result }
-    {
-        match self.try_lock_weak() {
-            Some(guard) => guard,
-            None => self.wait(rt),
-        }
+    /// The last value, whatever the flag is.
+    pub fn into_inner(self) -> T {
+        let Self { cell, strategy: _ } = self;
+        cell.into_inner()
     }
 
-    // Looks before each further attempt, so that waiters read a shared line and do not write it. It stands apart: inlined,
-    // it would lengthen the path of every caller that does not wait.
-    #[cold]
-    #[inline(never)]
-    fn wait<W: Wait>(&self, rt: &W) -> SpinMutexGuard<'_, T, R>
-        ensures { IsHolder use_of_view result }
-    {
-        for _ in rt.forever() {
-            if self.is_locked() {
-                R::relax(rt);
-            } else if let Some(guard) = self.try_lock_weak() {
-                return guard;
-            }
-        }
-        unreachable!()
+    /// The value, whatever the flag is: nobody else has the lock.
+    pub fn get_mut(&mut self) -> &mut T {
+        self.cell.get_mut()
     }
 }
 
@@ -162,7 +129,3 @@ impl<T, R> From<T> for SpinMutex<T, R> {
         Self::new(value)
     }
 }
-
-unsafe impl<T: Send, R> Send for SpinMutex<T, R> {}
-
-unsafe impl<T: Send, R> Sync for SpinMutex<T, R> {}

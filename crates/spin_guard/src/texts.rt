@@ -1,19 +1,31 @@
 //! How a lock prints, whichever it is.
 ghost use Rattle.std.specs.Fmt.{DisplaysOnOk};
 ghost use Rattle.std.specs.Option.{option_copied};
-ghost use Rattle.spin_guard.specs.Texts.{lock_text};
+ghost use Rattle.spin_guard.specs.Texts.{lock_text, named_text};
 
 use std::fmt;
 use std::fmt::{Debug, Formatter};
 
-/// Writes a lock by the value that one attempt got. Every lock is called `Mutex`, as in the Rust crate.
+/// Writes a mutex by the value that one attempt got. It is called `Mutex`, as in the Rust crate.
 pub fn write_lock<T: Debug, W: fmt::Write>(value: Option<&T>, f: &mut Formatter<W>) -> fmt::Result
     ensures { DisplaysOnOk W.write_str_gives f.old result (lock_text T.debug_output (option_copied value.entry)) f.new }
 {
+    write_named("Mutex { data: ", "Mutex { <locked> }", value, f)
+}
+
+/// Writes a lock by the value that one attempt got: behind `shown`, or in its place `locked`.
+pub fn write_named<T: Debug, W: fmt::Write>(
+    shown: &str,
+    locked: &str,
+    value: Option<&T>,
+    f: &mut Formatter<W>,
+) -> fmt::Result
+    ensures { DisplaysOnOk W.write_str_gives f.old result (named_text shown.now locked.now T.debug_output (option_copied value.entry)) f.new }
+{
     let Some(value) = value else {
-        return f.write_str("Mutex { <locked> }");
+        return f.write_str(locked);
     };
-    f.write_str("Mutex { data: ")?;
+    f.write_str(shown)?;
     Debug::fmt(value, f)?;
     f.write_str(" }")
 }

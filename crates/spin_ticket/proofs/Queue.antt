@@ -2,12 +2,12 @@
 use Rattle.std.proofs.Common.{◌≡◌, ℕ, ◌<◌, ◌≤◌, Bool, true, false, if◌then◌else◌, ◌==◌, [], length, Option, Some, None, refl, sym, ap, ◌∙◌, arith}
 use Rattle.std.proofs.lemmas.Bool.{eqb-true}
 use prog.Atomic.{either}
-use Rattle.spin_step.specs.Plain.{Plain, gets, serves, to_take_ticket, to_take_and_enter, to_enter, is_open, next_word, serving_word}
+use Rattle.spin_step.specs.Plain.{Plain, ticket_limit, gets, serves, to_take_ticket, to_take_and_enter, to_enter, is_open, next_word, serving_word}
 use Rattle.spin_step.specs.Steps.{Decides, Gives}
 use Rattle.spin_step.specs.Tickets.{IsTurn}
-use Rattle.spin_core.specs.Cell.{Ways, alone, writes, use_of, Meets, Allows, AllowsSecond, Rests, Moved}
+use Rattle.spin_core.specs.Cell.{Ways, alone, writes, Meets, Allows, AllowsSecond, Rests, Moved}
 use Rattle.spin_core.specs.Views.{entries_of, queues}
-use Rattle.spin_core.specs.Plays.{becomes, becomes_by, exchanges}
+use Rattle.spin_core.specs.Plays.{becomes, exchanges}
 use Rattle.spin_core.proofs.CellViews.{came_to}
 use Rattle.spin_core.proofs.Leaving.{next_word-up, serving_word-up}
 use Rattle.spin_core.proofs.Owners.{OfTickets, one_ticket}
@@ -15,7 +15,7 @@ use Rattle.spin_core.proofs.Plays.{Lock, Comes, allows, allows_second, by_step, 
 use Rattle.spin_step.proofs.Tickets.{serving-taken, serving-entered, entered_is_served, first-length}
 use Rattle.spin_ticket.specs.declared.ticket.rule.View.{View}
 use Rattle.spin_ticket.specs.declared.ticket.rule.View.TheVariants.{Idle, Saw, Waiting, Entered}
-use Rattle.spin_ticket.specs.Queue.{part, IsQueue, use_of_view, ticket_ways, Enters, Finds, Compares}
+use Rattle.spin_ticket.specs.Queue.{part, IsQueue, use_of_view, ticket_ways, Looks, Sees}
 
 -- of a value of any type: here one of the unit type stands for it
 abbrev ways : Ways (Unit {0}) View
@@ -33,17 +33,17 @@ queue = record { part = part; way = alone; goes = λ u v readers A a. a; cap = 0
 pub starts : (first : ℕ) → first < 18446744073709551616 → Meets IsQueue ways first first []
 starts first small = begins queue 0 first first first (omega arith) refl (omega arith)
 
-pub looks : Allows IsQueue ways None (λ n. n) (becomes Idle 0 0 None)
-looks = allows queue None (λ n. n) (becomes Idle 0 0 None) (λ s p room order has. (Idle, by_none queue None Idle s p refl tt, refl))
+pub looks : Allows IsQueue ways None (λ n. n) (Looks 0 0 None)
+looks = allows queue None (λ n. n) (Looks 0 0 None) (λ s p room order has. (Idle, by_none queue None Idle s p refl tt, refl))
 
-pub looks_at_served : AllowsSecond IsQueue ways None (λ n. n) (becomes_by Saw 0 0 None)
-looks_at_served = allows_second queue None (λ n. n) (becomes_by Saw 0 0 None) (λ s p room order has. (Saw (serving_word s), by_none queue None (Saw (serving_word s)) s p refl (omega arith), refl))
+pub looks_at_served : AllowsSecond IsQueue ways None (λ n. n) (Sees 0 0 None)
+looks_at_served = allows_second queue None (λ n. n) (Sees 0 0 None) (λ s p room order has. (Saw (serving_word s), by_none queue None (Saw (serving_word s)) s p refl (omega arith), refl))
 
 -- the number that is served only grows, and is at most the next
-pub compares : (n : ℕ) → Allows IsQueue ways (Some (Saw n)) (λ m. m) (Compares 0 0 (Some (Saw n)))
-compares n = allows queue (Some (Saw n)) (λ m. m) (Compares 0 0 (Some (Saw n))) (λ s p room order has. (Idle, by_none queue (Some (Saw n)) Idle s p refl tt, (omega (arith, has.1, order.numbered.0), refl)))
+pub compares : (n : ℕ) → Allows IsQueue ways (Some (Saw n)) (λ m. m) (Looks 0 0 (Some (Saw n)))
+compares n = allows queue (Some (Saw n)) (λ m. m) (Looks 0 0 (Some (Saw n))) (λ s p room order has. (Idle, by_none queue (Some (Saw n)) Idle s p refl tt, (omega (arith, has.1, order.numbered.0), refl)))
 
-pub compared : (view new : Option View) (n found : ℕ) → view ≡ Some (Saw n) → Moved (Compares 0 0 view found) new → (n ≤ found) × (new ≡ Some Idle)
+pub compared : (view new : Option View) (n found : ℕ) → view ≡ Some (Saw n) → Moved (Looks 0 0 view found) new → (n ≤ found) × (new ≡ Some Idle)
 compared view None n found is moved = absurd moved
 compared view (Some v) n found is moved = let m = rw is at moved in (m.0, ap Some m.1)
 
@@ -71,25 +71,29 @@ enters_if n s p true may = by_step queue (Some (Waiting n)) (Entered n) s (gets 
 enters_if n s p false may = by_none queue (Some (Waiting n)) (Waiting n) s p refl tt
 
 -- a party enters exactly where that is open to it
-pub waits_for_turn : (n : ℕ) → AllowsSecond IsQueue ways (Some (Waiting n)) (λ m. m) (Enters 0 0 (Some (Waiting n)))
-waits_for_turn n = allows_second queue (Some (Waiting n)) (λ m. m) (Enters 0 0 (Some (Waiting n))) (λ s p room order has.
+pub waits_for_turn : (n : ℕ) → AllowsSecond IsQueue ways (Some (Waiting n)) (λ m. m) (Sees 0 0 (Some (Waiting n)))
+waits_for_turn n = allows_second queue (Some (Waiting n)) (λ m. m) (Sees 0 0 (Some (Waiting n))) (λ s p room order has.
     let may = is_open s (gets p to_enter) in (
       if may then Entered n else Waiting n,
       enters_if n s p may refl,
       λ turn is_turn. ap (λ b. if b then Entered n else Waiting n) (is_turn s p order.numbered refl (ap (λ e. e.tickets) has.0)),
     ))
 
-finds_own : (n : ℕ) → AllowsSecond IsQueue ways (Some (Entered n)) (λ m. m) (Finds 0 0 (Some (Entered n)))
-finds_own n = allows_second queue (Some (Entered n)) (λ m. m) (Finds 0 0 (Some (Entered n))) (λ s p room order has.
+pub finds_own : (n : ℕ) → AllowsSecond IsQueue ways (Some (Entered n)) (λ m. m) (Sees 0 0 (Some (Entered n)))
+finds_own n = allows_second queue (Some (Entered n)) (λ m. m) (Sees 0 0 (Some (Entered n))) (λ s p room order has.
     let served = entered_is_served s p n order.numbered order.exclusive.one_entered (ap (λ e. e.tickets) has.0) in
     (Entered n, by_none queue (Some (Entered n)) (Entered n) s p refl tt, (omega (arith, order.within_limit, order.numbered.0, first-length p true s.tickets served.0), ap Entered (sym served.1))))
 
-pub finds : (view : Option View) → use_of use_of_view view ≡ writes → AllowsSecond IsQueue ways view (λ m. m) (Finds 0 0 view)
-finds None uses = absurd cc
-finds (Some Idle) uses = absurd cc
-finds (Some (Saw n)) uses = absurd cc
-finds (Some (Waiting n)) uses = absurd cc
-finds (Some (Entered n)) uses = finds_own n
+-- who writes has entered
+pub entered_of : (v : View) → use_of_view v ≡ writes → (n : ℕ) × (v ≡ Entered n)
+entered_of Idle uses = absurd cc
+entered_of (Saw n) uses = absurd cc
+entered_of (Waiting n) uses = absurd cc
+entered_of (Entered n) uses = (n, refl)
+
+pub found_own : (view : Option View) (n found : ℕ) → Moved (Sees 0 0 (Some (Entered n)) found) view → (found < ticket_limit) × (view ≡ Some (Entered found))
+found_own None n found moved = absurd moved
+found_own (Some v) n found moved = (moved.0, ap Some moved.1)
 
 pub serves_next : (n next : ℕ) → ((s : Plain) (p : ℕ) → length s.tickets ≤ next_word s → serving_word s ≡ n → Gives s (serves p) serving_word next)
     → AllowsSecond IsQueue ways (Some (Entered n)) (λ _. next) (λ _. becomes Idle 0 next (Some (Entered n)) 0)
@@ -103,16 +107,20 @@ idle_rests = rests queue Idle refl (λ p. refl)
 pub left_rests : (view : Option View) → Moved (λ v. v ≡ Idle) view → Rests IsQueue use_of_view view
 left_rests view moved = moved_rests queue view Idle moved idle_rests
 
-pub saw_rests : (view : Option View) (found : ℕ) → Moved (λ v. v ≡ Saw found) view → Rests IsQueue use_of_view view
-saw_rests view found moved = moved_rests queue view (Saw found) moved (rests queue (Saw found) refl (λ p. refl))
+-- what a party that comes has seen
+pub saw : (before view : Option View) (found : ℕ) → before ≡ None → Moved (Sees 0 0 before found) view → view ≡ Some (Saw found)
+saw before view found comes moved = came_to view (Saw found) (rw comes at moved)
+
+pub saw_rests : (view : Option View) (found : ℕ) → view ≡ Some (Saw found) → Rests IsQueue use_of_view view
+saw_rests view found is = rw is (rests queue (Saw found) refl (λ p. refl))
 
 -- a party that found another number took no ticket
 pub missed_take : (taken : View) (view : Option View) (expected found : ℕ) → Moved (λ v. v ≡ (if found == expected then taken else Idle)) view → (found ≡ expected → ⊥) → Rests IsQueue use_of_view view
 missed_take taken view expected found moved ne = missed_rests queue view taken Idle found expected moved ne idle_rests
 
-pub saw_next : (view : Option View) (found next : ℕ) → Moved (λ v. v ≡ Saw found) view → (found == next) ≡ true → view ≡ Some (Saw next)
-saw_next view found next moved same_number = came_to view (Saw found) moved ∙ ap (λ n. Some (Saw n)) (eqb-true found next same_number)
+pub saw_next : (view : Option View) (found next : ℕ) → view ≡ Some (Saw found) → (found == next) ≡ true → view ≡ Some (Saw next)
+saw_next view found next is same_number = is ∙ ap (λ n. Some (Saw n)) (eqb-true found next same_number)
 
-pub came_in : (view : Option View) (n found : ℕ) (turn : Bool) → Moved (Enters 0 0 (Some (Waiting n)) found) view → IsTurn found n turn → view ≡ Some (if turn then Entered n else Waiting n)
+pub came_in : (view : Option View) (n found : ℕ) (turn : Bool) → Moved (Sees 0 0 (Some (Waiting n)) found) view → IsTurn found n turn → view ≡ Some (if turn then Entered n else Waiting n)
 came_in None n found turn moved is_turn = absurd moved
 came_in (Some v) n found turn moved is_turn = ap Some (moved turn is_turn)

@@ -22,16 +22,13 @@ use_of_view = used_by part
 abbrev pub ticket_ways : {X : Type 0} → Ways X View
 ticket_ways = (alone, use_of_view)
 
--- a party that waits has entered if it was its turn, by the number that it found served
-abbrev pub Enters : ℕ → ℕ → Option View → ℕ → View → Type 0
-Enters old new (Some (Waiting n)) found after = (turn : Bool) → IsTurn found n turn → after ≡ (if turn then Entered n else Waiting n)
-Enters old new _ found after = Unit {0}
+-- what a look at the next number tells: it is not below one that the party saw served
+abbrev pub Looks : ℕ → ℕ → Option View → ℕ → View → Type 0
+Looks old new (Some (Saw n)) found after = (n ≤ found) × (after ≡ Idle)
+Looks old new _ found after = after ≡ Idle
 
--- who has entered finds its own number
-abbrev pub Finds : ℕ → ℕ → Option View → ℕ → View → Type 0
-Finds old new before found after = (found < ticket_limit) × (after ≡ Entered found)
-
--- what a party saw served is at most the next number
-abbrev pub Compares : ℕ → ℕ → Option View → ℕ → View → Type 0
-Compares old new (Some (Saw n)) found after = (n ≤ found) × (after ≡ Idle)
-Compares old new _ found after = ⊥
+-- what a look at the served number tells who comes, who waits (it has entered if it was its turn), and who has entered (it finds its own)
+abbrev pub Sees : ℕ → ℕ → Option View → ℕ → View → Type 0
+Sees old new (Some (Waiting n)) found after = (turn : Bool) → IsTurn found n turn → after ≡ (if turn then Entered n else Waiting n)
+Sees old new (Some (Entered n)) found after = (found < ticket_limit) × (after ≡ Entered found)
+Sees old new _ found after = after ≡ Saw found

@@ -4,13 +4,11 @@ ghost use Rattle.spin_guard.specs.Guard.{IsHolder};
 ghost use Rattle.spin_ticket.specs.Queue.{use_of_view};
 ghost use Rattle.spin_ticket.specs.declared.ticket.rule.View.TheVariants.{Waiting, Entered};
 
-use self::rule::{Attempt, Compare, Enter, Find, Look, Release, See, Take};
-use spin_core::cell::{Cell, Permit, WritePermit};
-use spin_core::relax::{RelaxStrategy, Spin};
-use spin_guard::guard;
-use spin_guard::guard::{Guard, Uses};
+use self::rule::{Attempt, Look, See, Take};
+use spin_core::cell::{Cell, Permit};
+use spin_core::relax::{RelaxStrategy, Spin, Strategy};
+use spin_guard::guard::{self, Guard};
 use spin_step::ticket;
-use std::marker::PhantomData;
 use std::sync::Wait;
 
 mod rule;
@@ -18,31 +16,11 @@ mod texts;
 
 pub use self::rule::{TicketRule, View};
 
-impl Uses<View> for TicketRule {
-    ghost use Rattle.spin_core.specs.Cell.{use_of};
-
-    ghost use_at = { use_of use_of_view };
-}
-
-impl<T> guard::Release<T, View> for TicketRule {
-    ghost use Rattle.std.specs.Prelude.{refl};
-
-    // The number that is served is the writer's own. A guard keeps no number, since what ties it to the view would keep
-    // `deref_mut` from lending the guard's permit.
-    fn release(writer: WritePermit<'_, T, View, TicketRule>) {
-        let (number, permit) = writer.into_permit().load_second::<Find>();
-        let next = ticket::serve(number);
-        permit.store_second::<Release>(next).leave();
-    }
-
-    ghost same = { λ key view. refl };
-}
-
 /// A lock that gives one party at a time access to a value, in the order in which they came, and spins while it waits.
 #[derive(Drop)]
 pub struct TicketMutex<T, R = Spin> {
     cell: Cell<T, View, TicketRule>,
-    strategy: PhantomData<R>,
+    strategy: Strategy<R>,
 }
 
 /// Access to the value of a `TicketMutex`. Dropping it serves the next ticket.
@@ -68,86 +46,7 @@ impl<T, R> TicketMutex<T, R> {
     pub(crate) fn starting_at(value: T, first: u64) -> Self {
         TicketMutex {
             cell: Cell::new(value, first, first, &()),
-            strategy: PhantomData,
-        }
-    }
-
-    /// The last value, whatever the words are.
-    pub fn into_inner(self) -> T {
-        let Self { cell, strategy: _ } = self;
-        cell.into_inner()
-    }
-
-    /// The value, whatever the words are: nobody else has the lock.
-    pub fn get_mut(&mut self) -> &mut T {
-        self.cell.get_mut()
-    }
-
-    /// Takes the lock, or refuses where a ticket stands, or where tickets are used up. It makes one pass: two loads
-    /// and at most one exchange.
-    pub fn try_lock<'a>(&'a self) -> Option<TicketMutexGuard<'a, T, R>>
-        ensures { IfSome result (IsHolder use_of_view) }
-    {
-        let next = self.next();
-        let (serving, permit) = self.cell.enter().load_second::<See>();
-        if !ticket::is_turn(serving, next) {
-            permit.leave();
-            return None;
-        }
-        let Some(after) = ticket::take(next) else {
-            permit.leave();
-            return None;
-        };
-        let (found, permit) = permit.exchange::<Attempt>(next, after);
-        if found != next {
-            permit.leave();
-            return None;
-        }
-        Some(Guard::new(permit.into_writer()))
-    }
-
-    /// Whether a ticket stood at a moment of the call.
-    pub fn is_locked(&self) -> bool {
-        let (serving, next) = self.look();
-        !ticket::is_turn(serving, next)
-    }
-
-    /// Lets go of the lock that a guard was held on: serves the number after its ticket.
-    pub fn force_unlock(held: Held<'_, T, R>) {
-        held.release();
-    }
-
-    // The number that is served, and then the next ticket's: in this order, so that tickets stood between them.
-    fn look(&self) -> (u64, u64)
-        ensures { result.0 ≤ result.1 }
-    {
-        let (serving, permit) = self.cell.enter().load_second::<See>();
-        let (next, permit) = permit.load::<Compare>();
-        permit.leave();
-        (serving, next)
-    }
-
-    // The next ticket's number.
-    fn next(&self) -> u64 {
-        let (found, permit) = self.cell.enter().load::<Look>();
-        permit.leave();
-        found
-    }
-
-    // Takes the ticket `next`, or tells which number it found in its place. Where tickets are used up that is `next`.
-    fn queue<'a>(&'a self, next: u64) -> Result<Place<'a, T>, u64> {
-        let Some(after) = ticket::take(next) else {
-            return Err(next);
-        };
-        let (found, permit) = self.cell.enter().exchange::<Take>(next, after);
-        if found == next {
-            Ok(Place {
-                number: next,
-                permit,
-            })
-        } else {
-            permit.leave();
-            Err(found)
+            strategy: Strategy::named(),
         }
     }
 }
@@ -205,13 +104,94 @@ impl<T, R: RelaxStrategy> TicketMutex<T, R> {
     }
 }
 
+impl<T, R> TicketMutex<T, R> {
+    /// Takes the lock, or refuses where a ticket stands, or where tickets are used up. It makes one pass: two loads
+    /// and at most one exchange.
+    pub fn try_lock<'a>(&'a self) -> Option<TicketMutexGuard<'a, T, R>>
+        ensures { IfSome result (IsHolder use_of_view) }
+    {
+        let next = self.next();
+        let (serving, permit) = self.cell.enter().load_second::<See>();
+        if !ticket::is_turn(serving, next) {
+            permit.leave();
+            return None;
+        }
+        let Some(after) = ticket::take(next) else {
+            permit.leave();
+            return None;
+        };
+        let (found, permit) = permit.exchange::<Attempt>(next, after);
+        if found != next {
+            permit.leave();
+            return None;
+        }
+        Some(Guard::new(permit.into_writer()))
+    }
+
+    /// Whether a ticket stood at a moment of the call.
+    pub fn is_locked(&self) -> bool {
+        let (serving, next) = self.look();
+        !ticket::is_turn(serving, next)
+    }
+
+    /// Lets go of the lock that a guard was held on: serves the number after its ticket.
+    pub fn force_unlock(held: Held<'_, T, R>) {
+        held.release();
+    }
+
+    /// The last value, whatever the words are.
+    pub fn into_inner(self) -> T {
+        let Self { cell, strategy: _ } = self;
+        cell.into_inner()
+    }
+
+    /// The value, whatever the words are: nobody else has the lock.
+    pub fn get_mut(&mut self) -> &mut T {
+        self.cell.get_mut()
+    }
+
+    // The number that is served, and then the next ticket's: in this order, so that tickets stood between them.
+    fn look(&self) -> (u64, u64)
+        ensures { result.0 ≤ result.1 }
+    {
+        let (serving, permit) = self.cell.enter().load_second::<See>();
+        let (next, permit) = permit.load::<Look>();
+        permit.leave();
+        (serving, next)
+    }
+
+    // The next ticket's number.
+    fn next(&self) -> u64 {
+        let (found, permit) = self.cell.enter().load::<Look>();
+        permit.leave();
+        found
+    }
+
+    // Takes the ticket `next`, or tells which number it found in its place. Where tickets are used up that is `next`.
+    fn queue<'a>(&'a self, next: u64) -> Result<Place<'a, T>, u64> {
+        let Some(after) = ticket::take(next) else {
+            return Err(next);
+        };
+        let (found, permit) = self.cell.enter().exchange::<Take>(next, after);
+        if found == next {
+            Ok(Place {
+                number: next,
+                permit,
+            })
+        } else {
+            permit.leave();
+            Err(found)
+        }
+    }
+}
+
 impl<'a, T> Place<'a, T> {
     // Enters where the place's number is served.
     fn enter<R>(self) -> Result<TicketMutexGuard<'a, T, R>, Place<'a, T>>
         ensures { IfOk result (λ guard. guard.writer.view ≡ Entered self.entry.number) }
     {
         let Self { number, permit } = self;
-        let (serving, permit) = permit.load_second::<Enter>();
+        let (serving, permit) = permit.load_second::<See>();
         if ticket::is_turn(serving, number) {
             Ok(Guard::new(permit.into_writer()))
         } else {
@@ -233,10 +213,6 @@ impl<T, R> From<T> for TicketMutex<T, R> {
         Self::new(value)
     }
 }
-
-unsafe impl<T: Send, R> Send for TicketMutex<T, R> {}
-
-unsafe impl<T: Send, R> Sync for TicketMutex<T, R> {}
 
 #[cfg(test)]
 mod tests;

@@ -1,9 +1,13 @@
 //! What the parties of a `FairMutex` are, and what its word says of them.
+ghost use Rattle.std.specs.Prelude.{refl};
+ghost use Rattle.spin_core.specs.Cell.{use_of};
 ghost use Rattle.spin_core.specs.Plays.{becomes, becomes_by, exchanges};
 ghost use Rattle.spin_fair.specs.declared.fair.rule.View.TheVariants.{Idle, Starving, Holding, HoldingStarving};
-ghost use Rattle.spin_fair.specs.Fair.{IsFair, fair_ways, Stays, Stops, won_if_clear};
+ghost use Rattle.spin_fair.specs.Fair.{IsFair, fair_ways, use_of_view, Stays, Stops, won_if_clear};
 
-use spin_core::cell::{Play, Rule};
+use spin_core::cell::{Play, Rule, WritePermit};
+use spin_guard::guard;
+use spin_guard::guard::Uses;
 
 /// What a party is to the lock.
 #[derive(Clone, Copy)]
@@ -27,51 +31,70 @@ impl<T> Rule<T, View> for FairRule {
     ghost ways = { λ _. fair_ways };
 }
 
+/// In the word: somebody holds the lock.
+pub(super) const LOCKED: u64 = 1;
+
+/// In the word: one starver.
+pub(super) const STARVER: u64 = 2;
+
 /// A party comes, and holds where it found the word that it expected.
-pub(crate) struct Attempt;
+pub(super) struct Attempt;
 
 impl Play<View> for Attempt {
     ghost then = { exchanges (λ _. Holding) Idle };
 }
 
 /// A party comes, and starves where it found the word that it expected.
-pub(crate) struct Register;
+pub(super) struct Register;
 
 impl Play<View> for Register {
     ghost then = { exchanges (λ _. Starving) Idle };
 }
 
 /// A starver holds where it found the word that it expected.
-pub(crate) struct AttemptAlone;
+pub(super) struct AttemptAlone;
 
 impl Play<View> for AttemptAlone {
     ghost then = { exchanges (λ _. HoldingStarving) Starving };
 }
 
 /// A starver holds where it found the flag clear.
-pub(crate) struct SetFlag;
+pub(super) struct SetFlag;
 
 impl Play<View> for SetFlag {
     ghost then = { becomes_by won_if_clear };
 }
 
 /// A starver stops starving, and holds what it held.
-pub(crate) struct Unregister;
+pub(super) struct Unregister;
 
 impl Play<View> for Unregister {
     ghost then = { Stops };
 }
 
 /// The holder lets go.
-pub(crate) struct Release;
+pub(super) struct Release;
 
 impl Play<View> for Release {
     ghost then = { becomes Idle };
 }
 
 /// A party stays what it is, or comes and is nothing.
-pub(crate) struct Look;
+pub(super) struct Look;
 
 impl Play<View> for Look {
     ghost then = { Stays };
+}
+
+impl Uses<View> for FairRule {
+    ghost use_at = { use_of use_of_view };
+}
+
+impl<T> guard::Release<T, View> for FairRule {
+    fn release(writer: WritePermit<'_, T, View, FairRule>) {
+        let (_, permit) = writer.into_permit().keep_bits::<Release>(!LOCKED);
+        permit.leave();
+    }
+
+    ghost same = { λ key view. refl };
 }

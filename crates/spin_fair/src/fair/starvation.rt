@@ -4,20 +4,19 @@ ghost use Rattle.spin_guard.specs.Guard.{IsHolder};
 ghost use Rattle.spin_fair.specs.Fair.{use_of_view};
 ghost use Rattle.spin_fair.specs.declared.fair.rule.View.TheVariants.{Starving, HoldingStarving};
 
-use super::rule::{AttemptAlone, Look, SetFlag, Unregister};
-use super::{FairMutexGuard, FairRule, LOCKED, STARVER, View};
+use super::rule::{AttemptAlone, LOCKED, Look, STARVER, SetFlag, Unregister};
+use super::{FairMutexGuard, FairRule, View};
 use spin_core::cell::Permit;
-use spin_core::relax::{RelaxStrategy, Spin};
+use spin_core::relax::{RelaxStrategy, Spin, Strategy};
 use spin_guard::guard::Guard;
 use spin_step::fair;
-use std::marker::PhantomData;
 use std::sync::Wait;
 
 /// A party that starves for a `FairMutex`. Dropping it stops starving. Where it is forgotten it stays a starver, and
 /// newcomers never get the lock again.
 pub struct Starvation<'a, T, R = Spin> {
     permit: Permit<'a, T, View, FairRule>,
-    strategy: PhantomData<R>,
+    strategy: Strategy<R>,
     ghost starving: { permit.view ≡ Some Starving },
 }
 
@@ -62,7 +61,7 @@ impl<'a, T, R> Starvation<'a, T, R> {
     {
         Starvation {
             permit,
-            strategy: PhantomData,
+            strategy: Strategy::named(),
         }
     }
 

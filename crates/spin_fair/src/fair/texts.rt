@@ -1,10 +1,10 @@
 // `Debug` of the lock.
 ghost use Rattle.std.specs.Prelude.{Option};
 ghost use Rattle.std.specs.Fmt.{DisplaysOnOk};
-ghost use Rattle.std.specs.Option.{option_copied};
 ghost use Rattle.spin_fair.specs.Texts.{fair_text};
 
 use super::FairMutex;
+use spin_guard::texts::write_named;
 use std::fmt;
 use std::fmt::{Debug, Formatter};
 
@@ -15,18 +15,12 @@ impl<T: Debug, R> Debug for FairMutex<T, R> {
         ensures { (found : Option T) × DisplaysOnOk W.write_str_gives f.old result (fair_text T.debug_output found) f.new }
     {
         let guard = self.try_lock();
-        write_lock(guard.as_ref().map(|guard| &**guard), f)
+        let value = guard.as_ref().map(|guard| &**guard);
+        write_named(
+            "FairMutex { data: ",
+            "FairMutex { data: <locked> }",
+            value,
+            f,
+        )
     }
-}
-
-// Writes the lock by the value that one attempt got.
-fn write_lock<T: Debug, W: fmt::Write>(value: Option<&T>, f: &mut Formatter<W>) -> fmt::Result
-    ensures { DisplaysOnOk W.write_str_gives f.old result (fair_text T.debug_output (option_copied value.entry)) f.new }
-{
-    let Some(value) = value else {
-        return f.write_str("FairMutex { data: <locked> }");
-    };
-    f.write_str("FairMutex { data: ")?;
-    Debug::fmt(value, f)?;
-    f.write_str(" }")
 }

@@ -1,9 +1,15 @@
 //! What the parties of a `SpinMutex` are, and what its word says of them.
-ghost use Rattle.spin_flag.specs.declared.spin.rule.View.TheVariants.{Idle, Holding};
+ghost use Rattle.std.specs.Prelude.{◌≡◌, ◌≢◌, ℕ, IsTrue, ◌↔◌, refl};
+ghost use Rattle.spin_step.specs.Steps.{bit};
+ghost use Rattle.spin_core.specs.Cell.{use_of};
 ghost use Rattle.spin_core.specs.Plays.{becomes, exchanges};
-ghost use Rattle.spin_flag.specs.Flag.{IsFlag, flag_ways};
+ghost use Rattle.spin_flag.specs.Flag.{IsFlag, flag_ways, use_of_view};
+ghost use Rattle.spin_flag.specs.declared.spin.rule.View.TheVariants.{Idle, Holding};
 
-use spin_core::cell::{Play, Rule};
+use spin_core::cell::{Play, Rule, WritePermit};
+use spin_guard::guard;
+use spin_guard::guard::Uses;
+use spin_step::flag;
 
 /// What a party is to the lock.
 #[derive(Clone, Copy)]
@@ -24,23 +30,51 @@ impl<T> Rule<T, View> for FlagRule {
     ghost ways = { λ _. flag_ways };
 }
 
-/// A party comes, and holds where it found the word that it expected.
-pub(crate) struct Attempt;
-
-impl Play<View> for Attempt {
-    ghost then = { exchanges (λ free. Holding) Idle };
-}
-
 /// A party comes and holds nothing.
-pub(crate) struct Look;
+pub(super) struct Look;
 
 impl Play<View> for Look {
     ghost then = { becomes Idle };
 }
 
+/// A party comes, and holds where it found the word that it expected.
+pub(super) struct Attempt;
+
+impl Play<View> for Attempt {
+    ghost then = { exchanges (λ free. Holding) Idle };
+}
+
 /// The holder lets go.
-pub(crate) struct Release;
+pub(super) struct Release;
 
 impl Play<View> for Release {
     ghost then = { becomes Idle };
+}
+
+impl Uses<View> for FlagRule {
+    ghost use_at = { use_of use_of_view };
+}
+
+impl<T> guard::Release<T, View> for FlagRule {
+    fn release(writer: WritePermit<'_, T, View, FlagRule>) {
+        let free = flag::unlock(true);
+        let permit = writer.into_permit();
+        permit.store::<Release>(word(free)).leave();
+    }
+
+    ghost same = { λ key view. refl };
+}
+
+/// The word of a flag.
+pub(super) fn word(flag: bool) -> u64
+    ensures { result ≡ bit flag }
+{
+    flag as u64
+}
+
+/// The flag of a word.
+pub(super) fn is_set(word: u64) -> bool
+    ensures { IsTrue result ↔ (word ≢ 0) }
+{
+    word != 0
 }

@@ -13,7 +13,6 @@ impl<T: Debug, R> Debug for SpinMutex<T, R> {
     fn fmt<W: fmt::Write>(&self, f: &mut Formatter<W>) -> fmt::Result
         ensures { (found : Option T) × DisplaysOnOk W.write_str_gives f.old result (lock_text T.debug_output found) f.new }
     {
-        let guard = self.try_lock();
-        write_lock(guard.as_ref().map(|guard| &**guard), f)
+        write_lock(self.try_lock().as_ref().map(|guard| &**guard), f)
     }
 }

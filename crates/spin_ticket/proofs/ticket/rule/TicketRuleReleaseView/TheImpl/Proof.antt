@@ -10,14 +10,14 @@ use Rattle.spin_guard.proofs.Released.{released}
 use Rattle.spin_ticket.specs.contracts.ticket.rule.View as V
 use Rattle.spin_ticket.specs.contracts.ticket.rule.TicketRule as F
 use Rattle.spin_ticket.specs.contracts.ticket.rule.TicketRuleRuleView.TheImpl as rule
-use Rattle.spin_ticket.specs.contracts.ticket.TicketRuleUsesView.TheImpl as uses
+use Rattle.spin_ticket.specs.contracts.ticket.rule.TicketRuleUsesView.TheImpl as uses
 use Rattle.spin_ticket.proofs.ticket.rule.TicketRuleRuleView.TheImpl.Met as rule_met
-use Rattle.spin_ticket.specs.contracts.ticket.TicketRuleReleaseView.TheImpl as block
-use Rattle.spin_ticket.specs.contracts.ticket.TicketRuleReleaseView.TheImpl.Laws.{same-law}
-use Rattle.spin_ticket.specs.contracts.ticket.TicketRuleReleaseView.release as own
-use Rattle.spin_ticket.proofs.ticket.TicketRuleReleaseView.release.Met.{met}
-use Rattle.spin_ticket.proofs.ticket.TicketRuleReleaseView.release.Symbol.{name, as_method}
-use Rattle.spin_ticket.proofs.ticket.TicketRuleReleaseView.TheImpl.Statement.{statement}
+use Rattle.spin_ticket.specs.contracts.ticket.rule.TicketRuleReleaseView.TheImpl as block
+use Rattle.spin_ticket.specs.contracts.ticket.rule.TicketRuleReleaseView.TheImpl.Laws.{same-law}
+use Rattle.spin_ticket.specs.contracts.ticket.rule.TicketRuleReleaseView.release as own
+use Rattle.spin_ticket.proofs.ticket.rule.TicketRuleReleaseView.release.Met.{met}
+use Rattle.spin_ticket.proofs.ticket.rule.TicketRuleReleaseView.release.Symbol.{name, as_method}
+use Rattle.spin_ticket.proofs.ticket.rule.TicketRuleReleaseView.TheImpl.Statement.{statement}
 
 pub bound : statement
 bound γ wired T LT M 𝓤 𝓛 𝓜 𝓡 = let at = layouts (a_type ∷ []) (T, tt) in let called = method (block.dict T) 0 (layouts [] tt) in record {

@@ -1,6 +1,6 @@
 use Rattle.std.proofs.Common.{Some, ap, ◌∙◌}
 use Rattle.spin_fair.proofs.Steps.{unlocks, left_rests, holding_of}
-use Rattle.spin_fair.proofs.fair.FairRuleReleaseView.release.Goals as goal
+use Rattle.spin_fair.proofs.fair.rule.FairRuleReleaseView.release.Goals as goal
 
 pub keep_bits-permit-requires : goal.keep_bits-permit-requires
 keep_bits-permit-requires g c = let it = c.into_permit.ensures in

@@ -1,7 +1,7 @@
 use Rattle.std.proofs.Common.{Some, ap, ◌∙◌}
 use Rattle.spin_step.specs.Steps.{bit}
 use Rattle.spin_flag.proofs.Flags.{releases_flag, left_rests, holding_of}
-use Rattle.spin_flag.proofs.spin.FlagRuleReleaseView.release.Goals as goal
+use Rattle.spin_flag.proofs.spin.rule.FlagRuleReleaseView.release.Goals as goal
 
 pub store-requires : goal.store-requires
 store-requires g c = let it = c.into_permit-permit.ensures in let view = it.same.0 ∙ ap Some (holding_of c.args.writer.view it.use_of_view) in

@@ -10,14 +10,14 @@ use Rattle.spin_guard.proofs.Released.{released}
 use Rattle.spin_fair.specs.contracts.fair.rule.View as V
 use Rattle.spin_fair.specs.contracts.fair.rule.FairRule as F
 use Rattle.spin_fair.specs.contracts.fair.rule.FairRuleRuleView.TheImpl as rule
-use Rattle.spin_fair.specs.contracts.fair.FairRuleUsesView.TheImpl as uses
+use Rattle.spin_fair.specs.contracts.fair.rule.FairRuleUsesView.TheImpl as uses
 use Rattle.spin_fair.proofs.fair.rule.FairRuleRuleView.TheImpl.Met as rule_met
-use Rattle.spin_fair.specs.contracts.fair.FairRuleReleaseView.TheImpl as block
-use Rattle.spin_fair.specs.contracts.fair.FairRuleReleaseView.TheImpl.Laws.{same-law}
-use Rattle.spin_fair.specs.contracts.fair.FairRuleReleaseView.release as own
-use Rattle.spin_fair.proofs.fair.FairRuleReleaseView.release.Met.{met}
-use Rattle.spin_fair.proofs.fair.FairRuleReleaseView.release.Symbol.{name, as_method}
-use Rattle.spin_fair.proofs.fair.FairRuleReleaseView.TheImpl.Statement.{statement}
+use Rattle.spin_fair.specs.contracts.fair.rule.FairRuleReleaseView.TheImpl as block
+use Rattle.spin_fair.specs.contracts.fair.rule.FairRuleReleaseView.TheImpl.Laws.{same-law}
+use Rattle.spin_fair.specs.contracts.fair.rule.FairRuleReleaseView.release as own
+use Rattle.spin_fair.proofs.fair.rule.FairRuleReleaseView.release.Met.{met}
+use Rattle.spin_fair.proofs.fair.rule.FairRuleReleaseView.release.Symbol.{name, as_method}
+use Rattle.spin_fair.proofs.fair.rule.FairRuleReleaseView.TheImpl.Statement.{statement}
 
 pub bound : statement
 bound γ wired T LT M 𝓤 𝓛 𝓜 𝓡 = let at = layouts (a_type ∷ []) (T, tt) in let called = method (block.dict T) 0 (layouts [] tt) in record {

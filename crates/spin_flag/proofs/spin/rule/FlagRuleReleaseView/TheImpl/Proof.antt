@@ -10,14 +10,14 @@ use Rattle.spin_guard.proofs.Released.{released}
 use Rattle.spin_flag.specs.contracts.spin.rule.View as V
 use Rattle.spin_flag.specs.contracts.spin.rule.FlagRule as F
 use Rattle.spin_flag.specs.contracts.spin.rule.FlagRuleRuleView.TheImpl as rule
-use Rattle.spin_flag.specs.contracts.spin.FlagRuleUsesView.TheImpl as uses
+use Rattle.spin_flag.specs.contracts.spin.rule.FlagRuleUsesView.TheImpl as uses
 use Rattle.spin_flag.proofs.spin.rule.FlagRuleRuleView.TheImpl.Met as rule_met
-use Rattle.spin_flag.specs.contracts.spin.FlagRuleReleaseView.TheImpl as block
-use Rattle.spin_flag.specs.contracts.spin.FlagRuleReleaseView.TheImpl.Laws.{same-law}
-use Rattle.spin_flag.specs.contracts.spin.FlagRuleReleaseView.release as own
-use Rattle.spin_flag.proofs.spin.FlagRuleReleaseView.release.Met.{met}
-use Rattle.spin_flag.proofs.spin.FlagRuleReleaseView.release.Symbol.{name, as_method}
-use Rattle.spin_flag.proofs.spin.FlagRuleReleaseView.TheImpl.Statement.{statement}
+use Rattle.spin_flag.specs.contracts.spin.rule.FlagRuleReleaseView.TheImpl as block
+use Rattle.spin_flag.specs.contracts.spin.rule.FlagRuleReleaseView.TheImpl.Laws.{same-law}
+use Rattle.spin_flag.specs.contracts.spin.rule.FlagRuleReleaseView.release as own
+use Rattle.spin_flag.proofs.spin.rule.FlagRuleReleaseView.release.Met.{met}
+use Rattle.spin_flag.proofs.spin.rule.FlagRuleReleaseView.release.Symbol.{name, as_method}
+use Rattle.spin_flag.proofs.spin.rule.FlagRuleReleaseView.TheImpl.Statement.{statement}
 
 pub bound : statement
 bound γ wired T LT M 𝓤 𝓛 𝓜 𝓡 = let at = layouts (a_type ∷ []) (T, tt) in let called = method (block.dict T) 0 (layouts [] tt) in record {
