@@ -1,7 +1,7 @@
 -- The value of a guard of a `Mutex`, the guard with another value in its place, and the value that a hold will free.
 use Rattle.std.specs.Prelude.{Option}
 use Rattle.spin_guard.specs.Guard.{guard_value, guard_with, held_value as inner_held_value, IsHolder}
-use Rattle.spin_flag.specs.Flag.{use_of_view}
+use Rattle.spin_ticket.specs.Queue.{use_of_view}
 use Rattle.spin_mutex.specs.declared.mutex.Held.{Held}
 use Rattle.spin_mutex.specs.declared.mutex.MutexGuard.{MutexGuard}
 

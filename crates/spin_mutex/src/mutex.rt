@@ -19,17 +19,18 @@ pub use spin_ticket::laws::{
 pub use spin_ticket::ticket;
 pub use spin_ticket::ticket::{TicketMutex, TicketMutexGuard};
 
-/// A lock that gives one party at a time access to a value. Which lock it is inside is not part of its contract, so
-/// `try_lock` may also refuse where nobody holds it.
+/// A lock that gives one party at a time access to a value. Inside it is a `TicketMutex`, so parties enter in the order in
+/// which they came. Which lock it is inside is not part of its contract, so `try_lock` may also refuse where nobody holds
+/// it.
 #[derive(Drop)]
 pub struct Mutex<T, R = Spin> {
-    inner: SpinMutex<T, R>,
+    inner: TicketMutex<T, R>,
 }
 
 /// Access to the value of a `Mutex`. Dropping it lets go of the lock.
 #[derive(Drop)]
 pub struct MutexGuard<'a, T, R = Spin> {
-    inner: SpinMutexGuard<'a, T, R>,
+    inner: TicketMutexGuard<'a, T, R>,
     // The clause of `deref_mut` names this lifetime, and a lender's type has to name it itself.
     life: PhantomData<&'a ()>,
 }
@@ -37,14 +38,14 @@ pub struct MutexGuard<'a, T, R = Spin> {
 /// A hold on a `Mutex` that lends no value. Only `force_unlock` spends it: dropping it frees nothing.
 #[derive(Drop)]
 pub struct Held<'a, T, R = Spin> {
-    inner: spin::Held<'a, T, R>,
+    inner: ticket::Held<'a, T, R>,
 }
 
 impl<T, R> Mutex<T, R> {
     /// An open lock.
     pub fn new(value: T) -> Self {
         Mutex {
-            inner: SpinMutex::new(value),
+            inner: TicketMutex::new(value),
         }
     }
 
@@ -70,7 +71,7 @@ impl<T, R> Mutex<T, R> {
         })
     }
 
-    /// Whether somebody holds the lock at a moment of the call.
+    /// Whether the lock was taken at a moment of the call.
     pub fn is_locked(&self) -> bool {
         self.inner.is_locked()
     }
@@ -78,7 +79,7 @@ impl<T, R> Mutex<T, R> {
     /// Lets go of the lock that a guard was held on.
     pub fn force_unlock(held: Held<'_, T, R>) {
         let Held { inner } = held;
-        SpinMutex::force_unlock(inner);
+        TicketMutex::force_unlock(inner);
     }
 }
 
@@ -100,7 +101,7 @@ impl<'a, T, R> MutexGuard<'a, T, R> {
         ensures { result.now ≡ value_of this.entry }
     {
         let Self { inner, life: _ } = this;
-        SpinMutexGuard::leak(inner)
+        TicketMutexGuard::leak(inner)
     }
 
     /// Keeps the lock taken, without a guard, until `force_unlock`.
@@ -109,7 +110,7 @@ impl<'a, T, R> MutexGuard<'a, T, R> {
     {
         let Self { inner, life: _ } = this;
         Held {
-            inner: SpinMutexGuard::hold(inner),
+            inner: TicketMutexGuard::hold(inner),
         }
     }
 }
@@ -139,3 +140,6 @@ unsafe impl<T: Sync, R> Sync for MutexGuard<'_, T, R> {}
 unsafe impl<T: Send, R> Send for Held<'_, T, R> {}
 
 unsafe impl<T: Send, R> Sync for Held<'_, T, R> {}
+
+#[cfg(test)]
+mod tests;

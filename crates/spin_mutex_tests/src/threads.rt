@@ -42,17 +42,29 @@ impl Sum for Mutex<u64, Patient> {
     }
 }
 
-fn add_often<S: Sum, R: Wait>(rt: &R, sum: &S) {
-    for _ in 0..1000 {
+fn add_often<S: Sum, R: Wait>(rt: &R, sum: &S, times: u32) {
+    for _ in 0..times {
         sum.add(rt);
     }
 }
 
+#[test]
+fn two_threads_lose_no_addition(rt: HostRuntime) {
+    let lock = Mutex::new(0);
+    let (sum, host) = (&lock, &rt);
+    thread::join(
+        host,
+        || add_often(host, sum, 100),
+        || add_often(host, sum, 100),
+    );
+    assert_eq!(rt; lock.into_inner(), 200);
+}
+
 fn add_in_three<S: Sum + Sync, R: Threads + Wait + Sync>(rt: &R, sum: &S) {
     let others = || {
-        thread::join(rt, || add_often(rt, sum), || add_often(rt, sum));
+        thread::join(rt, || add_often(rt, sum, 1000), || add_often(rt, sum, 1000));
     };
-    thread::join(rt, || add_often(rt, sum), others);
+    thread::join(rt, || add_often(rt, sum, 1000), others);
 }
 
 fn add_in_six<S: Sum + Sync, R: Threads + Wait + Sync>(rt: &R, sum: &S) {

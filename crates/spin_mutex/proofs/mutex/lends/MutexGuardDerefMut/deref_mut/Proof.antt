@@ -42,15 +42,15 @@ use Rattle.spin_guard.specs.Guard.{guard_value, guard_with}
 use Rattle.spin_guard.specs.contracts.guard.Guard as Inner
 use Rattle.spin_guard.specs.contracts.guard.lends.GuardDerefMut.deref_mut as callee
 use Rattle.spin_guard.proofs.guard.lends.GuardDerefMut.deref_mut.Met.{met}
-use Rattle.spin_flag.specs.contracts.spin.rule.View as V
-use Rattle.spin_flag.specs.contracts.spin.rule.FlagRule as F
-use Rattle.spin_flag.proofs.spin.rule.View.TheLaws as VL
-use Rattle.spin_flag.proofs.spin.rule.FlagRule.TheLaws as FL
-use Rattle.spin_flag.specs.contracts.spin.rule.FlagRuleRuleView.TheImpl as rule
-use Rattle.spin_flag.specs.contracts.spin.FlagRuleUsesView.TheImpl as uses
-use Rattle.spin_flag.specs.contracts.spin.FlagRuleReleaseView.TheImpl as release
-use Rattle.spin_flag.proofs.spin.rule.FlagRuleRuleView.TheImpl.Met as rule_met
-use Rattle.spin_flag.proofs.spin.FlagRuleReleaseView.TheImpl.Met as release_met
+use Rattle.spin_ticket.specs.contracts.ticket.rule.View as V
+use Rattle.spin_ticket.specs.contracts.ticket.rule.TicketRule as F
+use Rattle.spin_ticket.proofs.ticket.rule.View.TheLaws as VL
+use Rattle.spin_ticket.proofs.ticket.rule.TicketRule.TheLaws as FL
+use Rattle.spin_ticket.specs.contracts.ticket.rule.TicketRuleRuleView.TheImpl as rule
+use Rattle.spin_ticket.specs.contracts.ticket.rule.TicketRuleUsesView.TheImpl as uses
+use Rattle.spin_ticket.specs.contracts.ticket.rule.TicketRuleReleaseView.TheImpl as release
+use Rattle.spin_ticket.proofs.ticket.rule.TicketRuleRuleView.TheImpl.Met as rule_met
+use Rattle.spin_ticket.proofs.ticket.rule.TicketRuleReleaseView.TheImpl.Met as release_met
 use Rattle.spin_mutex.specs.contracts.mutex.MutexGuard.{the_type, the_row, struct}
 use Rattle.spin_mutex.proofs.mutex.MutexGuard.TheLaws.{the_loose}
 use Rattle.spin_mutex.specs.MutexGuard.{with_value}
@@ -90,7 +90,7 @@ deref_mut_spec {M} 𝓤 𝓛 𝓜 𝓡 wired T S LT LS =
     let row = plain (λ κs. the_row (named_lft 4 1 tt κs) R Q) in let self = RefMutOf (0 ∷ []) tt row (λ _. tt) in let hs : Stays En.signature.params En.kept = (stay_dropped self no, tt) in
     let X : RattleType = arg (layout T) yes R in let W : RattleType = arg (raw_type (layout V.the_row)) no V.the_row in let Y : RattleType = arg (raw_type (layout F.the_row)) no F.the_row in let Z : RattleType = arg (layout S) yes Q in let U : RattleType = arg ty_unit no unit in
     let LX : Laws X = arg_laws (layout T) yes R (param_laws 0 T LT) refl in
-    let releases = release_met.bound 𝓡.env (code.calls-spin_flag::spin::FlagRuleReleaseView::release 𝓡.env wired) X LX M 𝓤 𝓛 𝓜 𝓡 in
+    let releases = release_met.bound 𝓡.env (code.calls-spin_ticket::ticket::rule::TicketRuleReleaseView::release 𝓡.env wired) X LX M 𝓤 𝓛 𝓜 𝓡 in
     let called = met 𝓤 𝓛 𝓜 𝓡 (code.calls-spin_guard::guard::lends::GuardDerefMut::deref_mut 𝓡.env wired) X W Y Z U LX (arg_laws (raw_type (layout V.the_row)) no V.the_row VL.the_row_laws refl)
     (arg_laws (raw_type (layout F.the_row)) no F.the_row FL.the_row_laws refl) (arg_laws (layout S) yes Q (param_laws 1 S LS) refl) (arg_laws ty_unit no unit (of_field unit-field unit-laws refl (copy_shared unit-field unit-copy)) refl)
     (release.ghosts X) (release.dict X) (rule.ghosts X) (rule.dict X) uses.ghosts uses.dict (record { same = releases.same; Self-Key-lives = releases.Self-Key-lives; release = releases.release })
