@@ -1,9 +1,7 @@
 -- The steps of a read-write lock keep its rule: each is the plain step that its step function makes.
 use Rattle.std.proofs.Common.{◌≡◌, ℕ, ◌+◌, ◌-◌, ◌%◌, ◌^◌, ◌<◌, ◌≤◌, true, if◌then◌else◌, List, [], length, ◌==◌, Option, Some, None, refl, sym, ap, ◌∙◌, arith, eq-eqb}
-use mathlib.Core.Logic.{dite}
-use native.Mathlib.Decide.{dec_lt}
 use prog.Atomic.{either}
-use Rattle.spin_step.specs.Plain.{Plain, Kind, reading, upgradable, writing, Holder, count_kind, is_holder, is_downgrade, with_kind, Ask, apply, gets, releases, turns, to_read, to_read_upgradable, to_write, to_upgrade, rw_word}
+use Rattle.spin_step.specs.Plain.{count_kind, Plain, Kind, reading, upgradable, writing, Holder, is_holder, is_downgrade, with_kind, Ask, apply, gets, releases, turns, to_read, to_read_upgradable, to_write, to_upgrade, rw_word}
 use Rattle.spin_step.specs.Parties.{entries_after}
 use Rattle.spin_step.specs.Steps.{Decides}
 use Rattle.spin_step.specs.Readers.{reader_limit, OneOfEach}
@@ -15,11 +13,12 @@ use Rattle.spin_step.proofs.Holders.{is_holder-from_entries}
 use Rattle.spin_core.proofs.Leaving.{NamesNobody, count-up, no_word-up}
 use Rattle.spin_core.proofs.Owners.{OfReaders, readers_or_writer}
 use Rattle.spin_core.proofs.Plays.{Lock, allows, by_step, by_none, by_exchange, begins, rests, moved_rests, missed_rests}
+use Rattle.spin_step.proofs.ReaderSteps.{one_of_each}
 use Rattle.spin_step.proofs.Readers.{worth, word_of, word-less, word-turned, kinds-all}
 use Rattle.spin_core.proofs.Views.{part_before, release-own, turn-own}
 use Rattle.spin_rwlock.specs.declared.rwlock.rule.View.{View}
 use Rattle.spin_rwlock.specs.declared.rwlock.rule.View.TheVariants.{Idle, Reading, Upgradable, Writing}
-use Rattle.spin_rwlock.specs.Rw.{part, IsRw, use_of_view, rw_ways}
+use Rattle.spin_rwlock.specs.Rw.{part, IsRw, IsRwWord, looks, use_of_view, rw_ways}
 
 abbrev ways : Ways (Unit {0}) View
 ways = rw_ways
@@ -49,11 +48,8 @@ rw-lock = record {
 pub starts : Meets IsRw ways 0 0 []
 starts = begins rw-lock 0 0 0 0 (omega arith) refl refl
 
-pub looks : Allows IsRw ways None (λ n. n) (becomes Idle 0 0 None)
-looks = allows rw-lock None (λ n. n) (becomes Idle 0 0 None) (λ s p room order has. (Idle, by_none rw-lock None Idle s p refl tt, refl))
-
-one_of_each : (s : Plain) → IsInOrder s → OneOfEach s
-one_of_each s order = (order.exclusive.one_upgradable, dite (dec_lt 0 (count_kind writing s.holders)) (λ some. omega (arith, kinds-all s.holders, order.exclusive.writer some)) (λ none. omega (arith, none)))
+pub looks_on : Allows IsRw ways None (λ n. n) (looks 0 0 None)
+looks_on = allows rw-lock None (λ n. n) (looks 0 0 None) (λ s p room order has. (Idle, by_none rw-lock None Idle s p refl tt, (refl, (s, room, order, refl))))
 
 -- what a party gets at the word of which the step function was asked
 gets_at : (view : Option View) (ask : Ask) (won lost : View) (old new : ℕ) → ((s : Plain) (p : ℕ) → entries_after s (Some (gets p ask)) (entries_of p (part_before part view)) ≡ entries_of p (part won)) → ((s : Plain) → Knows s (part won))
@@ -65,13 +61,20 @@ gets_at view ask won lost old new comes knows same knows_still plain = allows rw
     (λ e. let granted = plain s p room order has e in by_step rw-lock view won s (gets p ask) new 0 granted.0 (comes s p) (knows (apply s (gets p ask))) granted.1 refl)
     (by_none rw-lock view lost s p (same p) (knows_still s)))
 
+pub fits_cap : (s : Plain) → s.cap ≡ reader_limit → IsInOrder s → length s.holders ≤ reader_limit
+fits_cap s room order = omega (arith, order.holders_fit, room)
+
+-- so many read in a lock whose holders are within its cap
+pub readers_fit : (word count : ℕ) → IsRwWord word → ((s : Plain) → OneOfEach s → rw_word s ≡ word → count ≡ count_kind reading s.holders + count_kind upgradable s.holders) → count ≤ reader_limit
+readers_fit word count (s, room, order, e) plain = omega (arith, plain s (one_of_each s order.exclusive) (sym e), kinds-all s.holders, fits_cap s room order)
+
 -- What a newcomer does
 
 pub comes_to_read : (old new : ℕ) → ((s : Plain) (p : ℕ) → OneOfEach s → s.cap ≡ reader_limit → rw_word s ≡ old → Decides s (gets p to_read) rw_word (Some new)) → Allows IsRw ways None (λ n. either (n == old) new n) (exchanges (λ _. Reading) Idle old new None)
-comes_to_read old new plain = gets_at None to_read Reading Idle old new (λ s p. refl) (λ s. tt) (λ p. refl) (λ s. tt) (λ s p room order has e. plain s p (one_of_each s order) room e)
+comes_to_read old new plain = gets_at None to_read Reading Idle old new (λ s p. refl) (λ s. tt) (λ p. refl) (λ s. tt) (λ s p room order has e. plain s p (one_of_each s order.exclusive) room e)
 
 pub comes_to_upgrade : (old new : ℕ) → ((s : Plain) (p : ℕ) → OneOfEach s → s.cap ≡ reader_limit → rw_word s ≡ old → Decides s (gets p to_read_upgradable) rw_word (Some new)) → Allows IsRw ways None (λ n. either (n == old) new n) (exchanges (λ _. Upgradable) Idle old new None)
-comes_to_upgrade old new plain = gets_at None to_read_upgradable Upgradable Idle old new (λ s p. refl) (λ s. tt) (λ p. refl) (λ s. tt) (λ s p room order has e. plain s p (one_of_each s order) room e)
+comes_to_upgrade old new plain = gets_at None to_read_upgradable Upgradable Idle old new (λ s p. refl) (λ s. tt) (λ p. refl) (λ s. tt) (λ s p room order has e. plain s p (one_of_each s order.exclusive) room e)
 
 pub comes_to_write : (old new : ℕ) → ((s : Plain) (p : ℕ) → rw_word s ≡ old → Decides s (gets p to_write) rw_word (Some new)) → Allows IsRw ways None (λ n. either (n == old) new n) (exchanges (λ _. Writing) Idle old new None)
 comes_to_write old new plain = gets_at None to_write Writing Idle old new (λ s p. refl) (λ s. tt) (λ p. refl) (λ s. tt) (λ s p room order has e. plain s p e)
@@ -80,16 +83,13 @@ comes_to_write old new plain = gets_at None to_write Writing Idle old new (λ s 
 
 pub upgrades : (old new : ℕ) → ((s : Plain) (p : ℕ) → OneOfEach s → is_holder p upgradable s.holders ≡ true → rw_word s ≡ old → Decides s (gets p to_upgrade) rw_word (Some new)) → Allows IsRw ways (Some Upgradable) (λ n. either (n == old) new n) (exchanges (λ _. Writing) Upgradable old new (Some Upgradable))
 upgrades old new plain = gets_at (Some Upgradable) to_upgrade Writing Upgradable old new (λ s p. rw (eq-eqb p p refl) refl) (λ s. tt) (λ p. refl) (λ s. tt)
-    (λ s p room order has e. plain s p (one_of_each s order) (is_holder-from_entries p upgradable s.holders (ap (λ e. e.holders) has.0)) e)
+    (λ s p room order has e. plain s p (one_of_each s order.exclusive) (is_holder-from_entries p upgradable s.holders (ap (λ e. e.holders) has.0)) e)
 
 -- What a holder does to go on with less, or to go
 
 -- no sum wraps below the cap
 bounded : (hs : List Holder) → length hs ≤ reader_limit → word_of hs < 2 ^ 63
 bounded hs within = omega (arith, kinds-all hs, within)
-
-fits_cap : (s : Plain) → s.cap ≡ reader_limit → IsInOrder s → length s.holders ≤ reader_limit
-fits_cap s room order = omega (arith, order.holders_fit, room)
 
 turns_by : (v w : View) (k l : Kind) (by : ℕ) → ((p : ℕ) → entries_of p (part v) ≡ entries_of p (holds k)) → ((p : ℕ) → entries_of p (part w) ≡ entries_of p (holds l)) → ((s : Plain) → Knows s (part w)) → is_downgrade k l ≡ true → worth k + by ≡ worth l
     → Allows IsRw ways (Some v) (λ n. (n + by) % 2 ^ 64) (becomes w by 0 (Some v))
@@ -137,6 +137,10 @@ idle_rests = rests rw-lock Idle refl (λ p. refl)
 
 pub left_rests : (view : Option View) → Moved (λ v. v ≡ Idle) view → Rests IsRw use_of_view view
 left_rests view moved = moved_rests rw-lock view Idle moved idle_rests
+
+pub looked : (view : Option View) (found : ℕ) → Moved (λ v. (v ≡ Idle) × IsRwWord found) view → Rests IsRw use_of_view view × IsRwWord found
+looked None found moved = absurd moved
+looked (Some v) found moved = (left_rests (Some v) moved.0, moved.1)
 
 -- a party that found another word than it expected
 pub refused_rests : (won : View) (view : Option View) (expected found : ℕ) → Moved (λ v. v ≡ (if found == expected then won else Idle)) view → (found ≡ expected → ⊥) → Rests IsRw use_of_view view

@@ -1,19 +1,16 @@
 -- The value of a guard, and the write guard with another value in its place.
 use Rattle.std.specs.Prelude.{Option}
 use Rattle.spin_core.specs.Writer.{with_value}
-use Rattle.spin_rwlock.specs.declared.rwlock.reader.RwLockReadGuard.{RwLockReadGuard}
+use Rattle.spin_rwlock.specs.declared.rwlock.reader.SharedGuard.{SharedGuard}
+use Rattle.spin_rwlock.specs.declared.rwlock.rule.Kind.{Ghosts}
 use Rattle.spin_rwlock.specs.declared.rwlock.reader.ReadHeld.{ReadHeld}
-use Rattle.spin_rwlock.specs.declared.rwlock.upgradable.RwLockUpgradableGuard.{RwLockUpgradableGuard}
 use Rattle.spin_rwlock.specs.declared.rwlock.writer.RwLockWriteGuard.{RwLockWriteGuard}
 use Rattle.spin_rwlock.specs.declared.rwlock.writer.WriteHeld.{WriteHeld}
 
 module _ {T R : Type 0} where
   -- of a guard there always is one
-  abbrev pub read_value : RwLockReadGuard T R → Option T
-  read_value it = it.permit.value
-
-  abbrev pub upgradable_value : RwLockUpgradableGuard T R → Option T
-  upgradable_value it = it.permit.value
+  abbrev pub shared_value : {K : Type 0} {kind : Ghosts K} → SharedGuard T K R kind → Option T
+  shared_value it = it.permit.value
 
   abbrev pub write_value : RwLockWriteGuard T R → T
   write_value it = it.writer.value

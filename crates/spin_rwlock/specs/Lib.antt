@@ -1,3 +1,4 @@
 pub mod Rw
 pub mod Guards
+pub mod Standing
 pub mod Texts

@@ -1,9 +1,9 @@
 -- The rule of a read-write lock: its word is that of a plain lock whose holders are its parties.
-use Rattle.std.specs.Prelude.{◌≡◌, ◌≢◌, ℕ, List, Some, None}
-use Rattle.spin_step.specs.Plain.{reading, upgradable, writing, rw_word}
+use Rattle.std.specs.Prelude.{◌≡◌, ◌≢◌, ℕ, List, Option, Some, None}
+use Rattle.spin_step.specs.Plain.{Plain, reading, upgradable, writing, rw_word}
 use Rattle.spin_step.specs.Readers.{reader_limit}
 use Rattle.spin_core.specs.Cell.{Use, lends, Ways}
-use Rattle.spin_core.specs.Views.{Part, idle, holds, Encodes, used_by, no_word}
+use Rattle.spin_core.specs.Views.{Part, idle, holds, IsInOrder, Encodes, used_by, no_word}
 use Rattle.spin_core.specs.declared.cell.Permit.{Permit}
 use Rattle.spin_rwlock.specs.declared.rwlock.rule.View.{View}
 use Rattle.spin_rwlock.specs.declared.rwlock.rule.View.TheVariants.{Idle, Reading, Upgradable, Writing}
@@ -16,6 +16,14 @@ part Writing = holds writing
 
 abbrev pub IsRw : ℕ → ℕ → List View → Type 0
 IsRw = Encodes part reader_limit rw_word no_word
+
+-- the word of some read-write lock
+abbrev pub IsRwWord : ℕ → Type 0
+IsRwWord word = (s : Plain) × (s.cap ≡ reader_limit) × IsInOrder s × (word ≡ rw_word s)
+
+-- a party looks, and is nothing to the lock
+abbrev pub looks : ℕ → ℕ → Option View → ℕ → View → Type 0
+looks old new before found after = (after ≡ Idle) × IsRwWord found
 
 abbrev pub use_of_view : View → Use
 use_of_view = used_by part

@@ -1,4 +1,5 @@
 //! A spinning lock for many readers or one writer.
 #![tactic(auto)]
 
+pub mod laws;
 pub mod rwlock;

@@ -1,6 +1,9 @@
 //! A spinning lock for many readers or one writer.
+ghost use Rattle.std.specs.Prelude.{◌≤◌};
+ghost use Rattle.spin_step.specs.Readers.{reader_limit};
+ghost use Rattle.spin_rwlock.specs.Rw.{IsRwWord};
 
-use self::rule::{RwRule, View};
+use self::rule::{Kind, RwRule, View};
 use spin_core::cell::{Cell, Rule};
 use spin_core::relax::{RelaxStrategy, Spin};
 use spin_step::rw;
@@ -14,7 +17,7 @@ mod texts;
 mod upgradable;
 mod writer;
 
-pub use self::reader::{ReadHeld, RwLockReadGuard};
+pub use self::reader::{ReadHeld, RwLockReadGuard, SharedGuard};
 pub use self::upgradable::RwLockUpgradableGuard;
 pub use self::writer::{RwLockWriteGuard, WriteHeld};
 
@@ -47,17 +50,17 @@ impl<T, R> RwLock<T, R> {
     /// Comes to read, or refuses beside a writer or an upgradable reader, or at the cap of readers. It tries again only
     /// where another party changed the word, and promises nothing about when it returns.
     pub fn try_read<W: Wait>(&self, rt: &W) -> Option<RwLockReadGuard<'_, T, R>> {
-        match self.read_at(self.word())? {
+        match self.lend_at(self.word()) {
             Ok(guard) => Some(guard),
-            Err(found) => self.try_read_from(rt, found),
+            Err(found) => self.try_to_lend(rt, found?),
         }
     }
 
     /// Comes to read and may upgrade, or refuses as `try_read` does.
     pub fn try_upgradeable_read<W: Wait>(&self, rt: &W) -> Option<RwLockUpgradableGuard<'_, T, R>> {
-        match self.read_upgradable_at(self.word())? {
+        match self.lend_at(self.word()) {
             Ok(guard) => Some(guard),
-            Err(found) => self.try_upgradeable_read_from(rt, found),
+            Err(found) => self.try_to_lend(rt, found?),
         }
     }
 
@@ -71,13 +74,17 @@ impl<T, R> RwLock<T, R> {
         self.try_write()
     }
 
-    /// How many read at the moment of its one load, the upgradable reader included.
-    pub fn reader_count(&self) -> usize {
+    /// How many read at the moment of its one load, the upgradable reader included: at most `rw::MAX_READERS`.
+    pub fn reader_count(&self) -> usize
+        ensures { result ≤ reader_limit }
+    {
         rw::readers(self.word())
     }
 
     /// How many write at the moment of its one load: 0 or 1.
-    pub fn writer_count(&self) -> usize {
+    pub fn writer_count(&self) -> usize
+        ensures { result ≤ 1 }
+    {
         rw::writers(self.word())
     }
 
@@ -91,55 +98,30 @@ impl<T, R> RwLock<T, R> {
         held.release();
     }
 
-    fn word(&self) -> usize {
+    fn word(&self) -> usize
+        ensures { IsRwWord result }
+    {
         rule::word(&self.cell)
     }
 
-    // Comes to read at this word, or tells which word it found in its place.
-    fn read_at(&self, word: usize) -> Option<Result<RwLockReadGuard<'_, T, R>, usize>> {
-        Some(match rule::read(&self.cell, word)? {
-            Ok(permit) => Ok(RwLockReadGuard::new(permit)),
-            Err(found) => Err(found),
-        })
+    // A reader of this kind comes at this word. `Err` has the word that it found in its place, or none where it is refused.
+    fn lend_at<K: Kind>(&self, word: usize) -> Result<SharedGuard<'_, T, K, R>, Option<usize>> {
+        Ok(SharedGuard::new(K::come(&self.cell, word)?))
     }
 
-    // As `read_at`, to upgrade.
-    fn read_upgradable_at(
-        &self,
-        word: usize,
-    ) -> Option<Result<RwLockUpgradableGuard<'_, T, R>, usize>> {
-        Some(match rule::read_upgradable(&self.cell, word)? {
-            Ok(permit) => Ok(RwLockUpgradableGuard::new(permit)),
-            Err(found) => Err(found),
-        })
-    }
-
-    // Tries from this word on, where another party changed the word that was looked at.
+    // Tries from this word on, while other parties change the word that was looked at.
     #[cold]
     #[inline(never)]
-    fn try_read_from<W: Wait>(&self, rt: &W, found: usize) -> Option<RwLockReadGuard<'_, T, R>> {
-        let mut word = found;
-        for _ in rt.forever() {
-            match self.read_at(word)? {
-                Ok(guard) => return Some(guard),
-                Err(found) => word = found,
-            }
-        }
-        unreachable!()
-    }
-
-    #[cold]
-    #[inline(never)]
-    fn try_upgradeable_read_from<W: Wait>(
+    fn try_to_lend<K: Kind, W: Wait>(
         &self,
         rt: &W,
         found: usize,
-    ) -> Option<RwLockUpgradableGuard<'_, T, R>> {
+    ) -> Option<SharedGuard<'_, T, K, R>> {
         let mut word = found;
         for _ in rt.forever() {
-            match self.read_upgradable_at(word)? {
+            match self.lend_at(word) {
                 Ok(guard) => return Some(guard),
-                Err(found) => word = found,
+                Err(found) => word = found?,
             }
         }
         unreachable!()
@@ -157,17 +139,17 @@ impl<T, R, P: Rule<T, View>> RwLock<T, R, P> {
 impl<T, R: RelaxStrategy> RwLock<T, R> {
     /// Comes to read, and relaxes while it is refused. Nothing is promised about when it returns.
     pub fn read<W: Wait>(&self, rt: &W) -> RwLockReadGuard<'_, T, R> {
-        match self.read_at(self.word()) {
-            Some(Ok(guard)) => guard,
-            _ => self.wait_to_read(rt),
+        match self.lend_at(self.word()) {
+            Ok(guard) => guard,
+            Err(found) => self.wait_to_lend(rt, found),
         }
     }
 
     /// Comes to read and may upgrade, and relaxes while it is refused. Nothing is promised about when it returns.
     pub fn upgradeable_read<W: Wait>(&self, rt: &W) -> RwLockUpgradableGuard<'_, T, R> {
-        match self.read_upgradable_at(self.word()) {
-            Some(Ok(guard)) => guard,
-            _ => self.wait_to_read_upgradable(rt),
+        match self.lend_at(self.word()) {
+            Ok(guard) => guard,
+            Err(found) => self.wait_to_lend(rt, found),
         }
     }
 
@@ -182,24 +164,24 @@ impl<T, R: RelaxStrategy> RwLock<T, R> {
     // The waiting paths stand apart: inlined, they would lengthen the path of every caller that does not wait.
     #[cold]
     #[inline(never)]
-    fn wait_to_read<W: Wait>(&self, rt: &W) -> RwLockReadGuard<'_, T, R> {
+    fn wait_to_lend<K: Kind, W: Wait>(
+        &self,
+        rt: &W,
+        found: Option<usize>,
+    ) -> SharedGuard<'_, T, K, R> {
+        let mut found = found;
         for _ in rt.forever() {
-            if let Some(guard) = self.try_read(rt) {
-                return guard;
+            let word = match found {
+                Some(word) => word,
+                None => {
+                    R::relax(rt);
+                    self.word()
+                }
+            };
+            match self.lend_at(word) {
+                Ok(guard) => return guard,
+                Err(next) => found = next,
             }
-            R::relax(rt);
-        }
-        unreachable!()
-    }
-
-    #[cold]
-    #[inline(never)]
-    fn wait_to_read_upgradable<W: Wait>(&self, rt: &W) -> RwLockUpgradableGuard<'_, T, R> {
-        for _ in rt.forever() {
-            if let Some(guard) = self.try_upgradeable_read(rt) {
-                return guard;
-            }
-            R::relax(rt);
         }
         unreachable!()
     }

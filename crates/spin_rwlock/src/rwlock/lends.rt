@@ -5,30 +5,20 @@ ghost use mir.Syntax.{named};
 ghost use types.Logic.{sem};
 ghost use denote.Follow.{follows};
 ghost use Rattle.spin_rwlock.specs.contracts.rwlock.writer.RwLockWriteGuard.{the_row};
-ghost use Rattle.spin_rwlock.specs.Guards.{read_value, upgradable_value, write_value, write_with};
+ghost use Rattle.spin_rwlock.specs.Guards.{shared_value, write_value, write_with};
 
-use super::{RwLockReadGuard, RwLockUpgradableGuard, RwLockWriteGuard};
+use super::reader::SharedGuard;
+use super::rule::Kind;
+use super::writer::RwLockWriteGuard;
 use std::ops::{Deref, DerefMut};
 
-impl<T, R> Deref for RwLockReadGuard<'_, T, R> {
+impl<T, K: Kind, R> Deref for SharedGuard<'_, T, K, R> {
     type Target = T;
 
-    ghost deref_gives = { λ g x. Some x ≡ read_value g };
+    ghost deref_gives = { λ g x. Some x ≡ shared_value g };
 
     fn deref(&self) -> &T
-        ensures { Some result.now ≡ read_value self.now }
-    {
-        self.permit.get()
-    }
-}
-
-impl<T, R> Deref for RwLockUpgradableGuard<'_, T, R> {
-    type Target = T;
-
-    ghost deref_gives = { λ g x. Some x ≡ upgradable_value g };
-
-    fn deref(&self) -> &T
-        ensures { Some result.now ≡ upgradable_value self.now }
+        ensures { Some result.now ≡ shared_value self.now }
     {
         self.permit.get()
     }

@@ -1,19 +1,22 @@
-//! A reader's guard, and its hold without a guard.
+//! The guard of a reader, of either kind, and the hold of one without a guard.
 ghost use Rattle.std.specs.Prelude.{◌≡◌, Some};
 ghost use Rattle.spin_rwlock.specs.Rw.{IsLent};
 ghost use Rattle.spin_rwlock.specs.declared.rwlock.rule.View.TheVariants.{Reading};
 
-use super::rule::{Party, RwRule, View, release_read};
+use super::rule::{Kind, Party, Reader, RwRule, View};
 use spin_core::cell::Permit;
 use spin_core::relax::Spin;
 use std::marker::PhantomData;
 
-/// The value of a `RwLock` to read, beside other readers. Dropping it lets go of the lock.
-pub struct RwLockReadGuard<'a, T, R = Spin> {
+/// The value of a `RwLock` to read, of a reader of kind `K`. Dropping it lets go of the lock.
+pub struct SharedGuard<'a, T, K: Kind, R = Spin> {
     pub(super) permit: Permit<'a, T, View, RwRule<T>>,
-    strategy: PhantomData<R>,
-    ghost lent: { IsLent permit Reading },
+    marker: PhantomData<(K, R)>,
+    ghost lent: { IsLent permit K.view },
 }
+
+/// The value of a `RwLock` to read, beside other readers. Dropping it lets go of the lock.
+pub type RwLockReadGuard<'a, T, R = Spin> = SharedGuard<'a, T, Reader, R>;
 
 /// A reader's hold on a `RwLock` that lends no value. Only `force_read_decrement` spends it: dropping it frees nothing.
 pub struct ReadHeld<'a, T, R = Spin> {
@@ -22,52 +25,54 @@ pub struct ReadHeld<'a, T, R = Spin> {
     ghost reading: { permit.view ≡ Some Reading },
 }
 
-impl<'a, T, R> RwLockReadGuard<'a, T, R> {
-    ghost use Rattle.spin_rwlock.specs.Guards.{read_value, read_held_value};
+impl<'a, T, K: Kind, R> SharedGuard<'a, T, K, R> {
+    ghost use Rattle.spin_rwlock.specs.Guards.{shared_value};
 
     pub(super) fn new(permit: Party<'a, T>) -> Self
-        requires { IsLent permit Reading }
-        ensures { read_value result ≡ permit.entry.value }
+        requires { IsLent permit K.view }
+        ensures { shared_value result ≡ permit.entry.value }
     {
-        RwLockReadGuard {
+        SharedGuard {
             permit,
-            strategy: PhantomData,
+            marker: PhantomData,
         }
     }
 
-    /// The value for as long as the lock lives. The reader stays for good, so that nobody writes any more.
+    /// The value for as long as the lock lives. The reader stays for good, so that nobody writes any more, and where it
+    /// may upgrade nobody comes any more.
     pub fn leak(this: Self) -> &'a T
-        ensures { Some result.now ≡ read_value this.entry }
+        ensures { Some result.now ≡ shared_value this.entry }
     {
         this.into_permit().see()
     }
 
+    pub(super) fn into_permit(self) -> Party<'a, T>
+        ensures same { result ≡ self.entry.permit }
+        ensures lent { IsLent result K.view }
+    {
+        let Self { permit, marker: _ } = self;
+        permit
+    }
+}
+
+impl<'a, T, R> SharedGuard<'a, T, Reader, R> {
+    ghost use Rattle.spin_rwlock.specs.Guards.{shared_value, read_held_value};
+
     /// Keeps the reader's place, without a guard.
     pub fn hold(this: Self) -> ReadHeld<'a, T, R>
-        ensures { read_held_value result ≡ read_value this.entry }
+        ensures { read_held_value result ≡ shared_value this.entry }
     {
         ReadHeld {
             permit: this.into_permit(),
             strategy: PhantomData,
         }
     }
-
-    fn into_permit(self) -> Party<'a, T>
-        ensures same { result ≡ self.entry.permit }
-        ensures lent { IsLent result Reading }
-    {
-        let Self {
-            permit,
-            strategy: _,
-        } = self;
-        permit
-    }
 }
 
 impl<'a, T, R> ReadHeld<'a, T, R> {
     /// The reader lets go.
     pub(super) fn release(self) {
-        release_read(self.into_permit());
+        Reader::go(self.into_permit());
     }
 
     fn into_permit(self) -> Party<'a, T>
@@ -81,9 +86,9 @@ impl<'a, T, R> ReadHeld<'a, T, R> {
     }
 }
 
-impl<T, R> Drop for RwLockReadGuard<'_, T, R> {
+impl<T, K: Kind, R> Drop for SharedGuard<'_, T, K, R> {
     fn drop(self) {
-        release_read(self.into_permit());
+        K::go(self.into_permit());
     }
 }
 
@@ -93,9 +98,9 @@ impl<T, R> Drop for ReadHeld<'_, T, R> {
     }
 }
 
-unsafe impl<T: Send + Sync, R> Send for RwLockReadGuard<'_, T, R> {}
+unsafe impl<T: Send + Sync, K: Kind, R> Send for SharedGuard<'_, T, K, R> {}
 
-unsafe impl<T: Sync, R> Sync for RwLockReadGuard<'_, T, R> {}
+unsafe impl<T: Sync, K: Kind, R> Sync for SharedGuard<'_, T, K, R> {}
 
 unsafe impl<T: Send + Sync, R> Send for ReadHeld<'_, T, R> {}
 

@@ -1,7 +1,9 @@
 //! What the parties of a `RwLock` are, what its word says of them, and each kind of step.
-ghost use Rattle.std.specs.Prelude.{◌≡◌, Some, None, IfSome, IfOk, IfErr};
+ghost use Rattle.std.specs.Prelude.{◌≡◌, refl, Some, IfSome, IfOk, IfErr};
+ghost use Rattle.spin_core.specs.Cell.{reads};
 ghost use Rattle.spin_core.specs.Plays.{becomes, exchanges};
-ghost use Rattle.spin_rwlock.specs.Rw.{IsRw, rw_ways, IsLent};
+ghost use Rattle.spin_rwlock.specs.Rw.{IsRw, IsRwWord, looks, rw_ways, use_of_view, IsLent};
+ghost use Rattle.spin_rwlock.specs.declared.rwlock.rule.View.{View};
 ghost use Rattle.spin_rwlock.specs.declared.rwlock.rule.View.TheVariants.{Idle, Reading, Upgradable, Writing};
 
 use spin_core::cell::{Cell, Permit, Play, Rule, WritePermit};
@@ -82,6 +84,12 @@ impl Play<View> for ReadsOnUpgradable {
     ghost then = { becomes Upgradable };
 }
 
+struct Looks;
+
+impl Play<View> for Looks {
+    ghost then = { looks };
+}
+
 struct Goes;
 
 impl Play<View> for Goes {
@@ -89,41 +97,88 @@ impl Play<View> for Goes {
 }
 
 /// The word at a moment.
-pub(super) fn word<T>(cell: &RwCell<T>) -> usize {
-    let (found, permit) = cell.enter().load::<Goes>();
+pub(super) fn word<T>(cell: &RwCell<T>) -> usize
+    ensures { IsRwWord result }
+{
+    let (found, permit) = cell.enter().load::<Looks>();
     permit.leave();
     found as usize
 }
 
-/// A party comes to read, or refuses where the word doesn't let it. It tells the word that it found in place of this one.
-pub(super) fn read<T>(cell: &RwCell<T>, word: usize) -> Option<Result<Party<'_, T>, usize>>
-    ensures { IfSome result (λ tried. IfOk tried (λ party. IsLent party Reading)) }
-{
-    let next = rw::read(word, rw::MAX_READERS)?;
-    let (found, permit) = cell.enter().exchange::<Reads>(word as u64, next as u64);
-    if found == word as u64 {
-        return Some(Ok(permit));
-    }
-    permit.leave();
-    Some(Err(found as usize))
+/// A kind of reader.
+pub trait Kind {
+    // What its party is to the lock.
+    ghost view: { View };
+
+    /// A party comes at this word. `Err` has the word that it found in its place, or none where it is refused.
+    fn come<T>(cell: &RwCell<T>, word: usize) -> Result<Party<'_, T>, Option<usize>>
+        ensures { IfOk result (λ party. IsLent party Self.view) };
+
+    /// The party goes.
+    fn go<T>(party: Party<'_, T>)
+        requires { party.view ≡ Some Self.view };
+
+    ghost lends: { use_of_view Self.view ≡ reads };
 }
 
-/// As `read`, of a party that may upgrade.
-pub(super) fn read_upgradable<T>(
-    cell: &RwCell<T>,
-    word: usize,
-) -> Option<Result<Party<'_, T>, usize>>
-    ensures { IfSome result (λ tried. IfOk tried (λ party. IsLent party Upgradable)) }
-{
-    let next = rw::upgradable(word, rw::MAX_READERS)?;
-    let (found, permit) = cell
-        .enter()
-        .exchange::<ReadsUpgradable>(word as u64, next as u64);
-    if found == word as u64 {
-        return Some(Ok(permit));
+/// A reader that stays one.
+pub struct Reader;
+
+/// The reader that may become the writer.
+pub struct Upgrader;
+
+impl Kind for Reader {
+    ghost view = { Reading };
+
+    fn come<T>(cell: &RwCell<T>, word: usize) -> Result<Party<'_, T>, Option<usize>>
+        ensures { IfOk result (λ party. IsLent party Reading) }
+    {
+        let Some(next) = rw::read(word, rw::MAX_READERS) else {
+            return Err(None);
+        };
+        let (found, permit) = cell.enter().exchange::<Reads>(word as u64, next as u64);
+        if found == word as u64 {
+            return Ok(permit);
+        }
+        permit.leave();
+        Err(Some(found as usize))
     }
-    permit.leave();
-    Some(Err(found as usize))
+
+    fn go<T>(party: Party<'_, T>)
+        requires { party.view ≡ Some Reading }
+    {
+        party.subtract::<Goes>(READER).1.leave();
+    }
+
+    ghost lends = { refl };
+}
+
+impl Kind for Upgrader {
+    ghost view = { Upgradable };
+
+    fn come<T>(cell: &RwCell<T>, word: usize) -> Result<Party<'_, T>, Option<usize>>
+        ensures { IfOk result (λ party. IsLent party Upgradable) }
+    {
+        let Some(next) = rw::upgradable(word, rw::MAX_READERS) else {
+            return Err(None);
+        };
+        let (found, permit) = cell
+            .enter()
+            .exchange::<ReadsUpgradable>(word as u64, next as u64);
+        if found == word as u64 {
+            return Ok(permit);
+        }
+        permit.leave();
+        Err(Some(found as usize))
+    }
+
+    fn go<T>(party: Party<'_, T>)
+        requires { party.view ≡ Some Upgradable }
+    {
+        party.subtract::<Goes>(UPGRADABLE).1.leave();
+    }
+
+    ghost lends = { refl };
 }
 
 /// A party comes to write, or refuses beside any holder.
@@ -176,20 +231,6 @@ pub(super) fn upgradable_to_read<T>(party: Party<'_, T>) -> Party<'_, T>
     ensures { (result.view ≡ Some Reading) × (result.value ≡ party.entry.value) }
 {
     party.add::<ReadsOn>(READER - UPGRADABLE).1
-}
-
-/// A reader goes.
-pub(super) fn release_read<T>(party: Party<'_, T>)
-    requires { party.view ≡ Some Reading }
-{
-    party.subtract::<Goes>(READER).1.leave();
-}
-
-/// The upgradable reader goes.
-pub(super) fn release_upgradable<T>(party: Party<'_, T>)
-    requires { party.view ≡ Some Upgradable }
-{
-    party.subtract::<Goes>(UPGRADABLE).1.leave();
 }
 
 /// The writer goes.

@@ -2,10 +2,13 @@
 ghost use Rattle.std.specs.Prelude.{Option};
 ghost use Rattle.std.specs.Fmt.{DisplaysOnOk};
 ghost use Rattle.std.specs.Option.{option_copied};
-ghost use Rattle.spin_rwlock.specs.Guards.{read_value, upgradable_value, write_value};
+ghost use Rattle.spin_rwlock.specs.Guards.{shared_value, write_value};
 ghost use Rattle.spin_rwlock.specs.Texts.{rw_text, lent_text};
 
-use super::{RwLock, RwLockReadGuard, RwLockUpgradableGuard, RwLockWriteGuard};
+use super::RwLock;
+use super::reader::SharedGuard;
+use super::rule::{Kind, Reader};
+use super::writer::RwLockWriteGuard;
 use std::fmt;
 use std::fmt::{Debug, Display, Formatter};
 
@@ -15,10 +18,7 @@ impl<T: Debug, R> Debug for RwLock<T, R> {
     fn fmt<W: fmt::Write>(&self, f: &mut Formatter<W>) -> fmt::Result
         ensures { (found : Option T) × DisplaysOnOk W.write_str_gives f.old result (rw_text T.debug_output found) f.new }
     {
-        let guard = match self.read_at(self.word()) {
-            Some(Ok(guard)) => Some(guard),
-            _ => None,
-        };
+        let guard = self.lend_at::<Reader>(self.word()).ok();
         write_lock(guard.as_ref().map(|guard| &**guard), f)
     }
 }
@@ -35,32 +35,16 @@ fn write_lock<T: Debug, W: fmt::Write>(value: Option<&T>, f: &mut Formatter<W>) 
     f.write_str(" }")
 }
 
-impl<T: Debug, R> Debug for RwLockReadGuard<'_, T, R> {
-    ghost debug_output = { λ g. lent_text T.debug_output (read_value g) };
+impl<T: Debug, K: Kind, R> Debug for SharedGuard<'_, T, K, R> {
+    ghost debug_output = { λ g. lent_text T.debug_output (shared_value g) };
 
     fn fmt<W: fmt::Write>(&self, f: &mut Formatter<W>) -> fmt::Result {
         Debug::fmt(&**self, f)
     }
 }
 
-impl<T: Display, R> Display for RwLockReadGuard<'_, T, R> {
-    ghost output = { λ g. lent_text T.output (read_value g) };
-
-    fn fmt<W: fmt::Write>(&self, f: &mut Formatter<W>) -> fmt::Result {
-        Display::fmt(&**self, f)
-    }
-}
-
-impl<T: Debug, R> Debug for RwLockUpgradableGuard<'_, T, R> {
-    ghost debug_output = { λ g. lent_text T.debug_output (upgradable_value g) };
-
-    fn fmt<W: fmt::Write>(&self, f: &mut Formatter<W>) -> fmt::Result {
-        Debug::fmt(&**self, f)
-    }
-}
-
-impl<T: Display, R> Display for RwLockUpgradableGuard<'_, T, R> {
-    ghost output = { λ g. lent_text T.output (upgradable_value g) };
+impl<T: Display, K: Kind, R> Display for SharedGuard<'_, T, K, R> {
+    ghost output = { λ g. lent_text T.output (shared_value g) };
 
     fn fmt<W: fmt::Write>(&self, f: &mut Formatter<W>) -> fmt::Result {
         Display::fmt(&**self, f)

@@ -3,7 +3,7 @@ ghost use Rattle.std.specs.Prelude.{◌≡◌, Some};
 ghost use Rattle.spin_core.specs.Cell.{use_of, writes};
 ghost use Rattle.spin_rwlock.specs.Rw.{use_of_view};
 
-use super::reader::RwLockReadGuard;
+use super::reader::{RwLockReadGuard, SharedGuard};
 use super::rule::{Party, RwRule, View, Writer, release_write, write_to_read, write_to_upgradable};
 use super::upgradable::RwLockUpgradableGuard;
 use spin_core::cell::{Permit, WritePermit};
@@ -24,7 +24,7 @@ pub struct WriteHeld<'a, T, R = Spin> {
 }
 
 impl<'a, T, R> RwLockWriteGuard<'a, T, R> {
-    ghost use Rattle.spin_rwlock.specs.Guards.{read_value, upgradable_value, write_value, write_held_value};
+    ghost use Rattle.spin_rwlock.specs.Guards.{shared_value, write_value, write_held_value};
 
     pub(super) fn new(writer: Writer<'a, T>) -> Self
         ensures { write_value result ≡ writer.entry.value }
@@ -38,16 +38,16 @@ impl<'a, T, R> RwLockWriteGuard<'a, T, R> {
     /// Goes on as a reader, beside whom others may come. It makes one step, and can't be refused: no other writer comes
     /// in between.
     pub fn downgrade(self) -> RwLockReadGuard<'a, T, R>
-        ensures { read_value result ≡ Some (write_value self.entry) }
+        ensures { shared_value result ≡ Some (write_value self.entry) }
     {
-        RwLockReadGuard::new(write_to_read(self.into_writer()))
+        SharedGuard::new(write_to_read(self.into_writer()))
     }
 
     /// Goes on as the upgradable reader. It makes one step, and can't be refused: no other writer comes in between.
     pub fn downgrade_to_upgradeable(self) -> RwLockUpgradableGuard<'a, T, R>
-        ensures { upgradable_value result ≡ Some (write_value self.entry) }
+        ensures { shared_value result ≡ Some (write_value self.entry) }
     {
-        RwLockUpgradableGuard::new(write_to_upgradable(self.into_writer()))
+        SharedGuard::new(write_to_upgradable(self.into_writer()))
     }
 
     /// The value for as long as the lock lives. The lock stays taken.

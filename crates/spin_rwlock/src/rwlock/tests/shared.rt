@@ -19,6 +19,7 @@ fn moves<T: Send, R>() {
 
 fn lends<T: Sync + 'static, R: 'static>() {
     is_sync::<RwLockReadGuard<'static, T, R>>();
+    is_sync::<RwLockUpgradableGuard<'static, T, R>>();
     is_sync::<RwLockWriteGuard<'static, T, R>>();
 }
 
@@ -26,7 +27,6 @@ fn travels<T: Send + Sync + 'static, R: 'static>() {
     is_sync::<RwLock<T, R>>();
     is_send::<RwLockReadGuard<'static, T, R>>();
     is_send::<RwLockUpgradableGuard<'static, T, R>>();
-    is_sync::<RwLockUpgradableGuard<'static, T, R>>();
     is_send::<RwLockWriteGuard<'static, T, R>>();
     is_send::<ReadHeld<'static, T, R>>();
     is_sync::<ReadHeld<'static, T, R>>();
@@ -51,6 +51,24 @@ fn a_guard_may_end_in_another_thread(rt: HostRuntime) {
     };
     thread::join(&rt, write, || ());
     assert_eq!(rt; *lock.try_write().expect(&rt, "free"), 3);
+}
+
+#[test]
+fn an_upgradable_guard_upgrades_in_another_thread(rt: HostRuntime) {
+    let lock: RwLock<u64> = RwLock::new(1);
+    let guard = lock.upgradeable_read(&rt);
+    let (writer, ()) = thread::join(&rt, || guard.upgrade(&rt), || ());
+    assert_eq!(rt; lock.writer_count(), 1);
+    assert_eq!(rt; *writer.downgrade(), 1);
+}
+
+#[test]
+fn guards_of_two_threads_read_one_lock(rt: HostRuntime) {
+    let lock: RwLock<u64> = RwLock::new(1);
+    let (first, second) = thread::join(&rt, || lock.read(&rt), || lock.read(&rt));
+    assert_eq!(rt; lock.reader_count(), 2);
+    assert!(rt; lock.try_write().is_none());
+    assert_eq!(rt; (*first, *second), (1, 1));
 }
 
 // All additions are made under one guard, so a reader sees none of them or all.

@@ -1,7 +1,7 @@
 //! Callers' proofs: what was seen under one guard is found under the next, and what was written is read back.
 ghost use Rattle.std.specs.Prelude.{◌≡◌};
 
-use crate::rwlock::{RwLock, RwLockUpgradableGuard, RwLockWriteGuard};
+use crate::rwlock::{RwLock, RwLockReadGuard, RwLockUpgradableGuard, RwLockWriteGuard};
 use spin_core::relax::{Loop, RelaxStrategy};
 use std::sync::Wait;
 
@@ -52,6 +52,30 @@ fn reads_back_after_downgrade_to_upgradeable<R>(
     let mut guard = guard;
     *guard = value;
     *guard.downgrade_to_upgradeable()
+}
+
+fn sees_the_same_once_it_leaks<R>(guard: RwLockReadGuard<'_, u64, R>) -> (u64, u64)
+    ensures { result.0 ≡ result.1 }
+{
+    let seen = (*guard, *guard);
+    (seen.1, *RwLockReadGuard::leak(guard))
+}
+
+fn reads_back_once_it_leaks<R>(guard: RwLockWriteGuard<'_, u64, R>, value: u64) -> u64
+    ensures { result ≡ value }
+{
+    let mut guard = guard;
+    *guard = value;
+    *RwLockWriteGuard::leak(guard)
+}
+
+#[test]
+fn a_leak_keeps_the_value(rt: HostRuntime) {
+    let lock: RwLock<u64, Loop> = RwLock::from(3);
+    assert_eq!(rt; sees_the_same_once_it_leaks(lock.read(&rt)), (3, 3));
+    let lock: RwLock<u64, Loop> = RwLock::from(3);
+    assert_eq!(rt; reads_back_once_it_leaks(lock.write(&rt), 4), 4);
+    assert_eq!(rt; lock.into_inner(), 4);
 }
 
 #[test]

@@ -1,8 +1,11 @@
-use Rattle.spin_rwlock.proofs.Steps.{looks, left_rests}
+use Rattle.spin_rwlock.proofs.Steps.{looks_on, looked}
 use Rattle.spin_rwlock.proofs.rwlock.rule.word.Goals as goal
 
 pub load-found-requires : goal.load-found-requires
-load-found-requires g c = rw c.enter.ensures.fresh.0 looks
+load-found-requires g c = rw c.enter.ensures.fresh.0 looks_on
 
 pub leave-requires : goal.leave-requires
-leave-requires g c = left_rests c.load-found.result.1.view c.load-found.ensures.moved
+leave-requires g c = let x = c.load-found.result in (looked x.1.view x.0 c.load-found.ensures.moved).0
+
+pub returns : goal.returns
+returns g c = let x = c.load-found.result in (looked x.1.view x.0 c.load-found.ensures.moved).1

@@ -1,9 +1,9 @@
 use Rattle.spin_rwlock.specs.declared.rwlock.rule.View.TheVariants.{Upgradable}
 use Rattle.spin_rwlock.proofs.Steps.{comes_to_upgrade, refused_rests}
-use Rattle.spin_rwlock.proofs.rwlock.rule.read_upgradable.Goals as goal
+use Rattle.spin_rwlock.proofs.rwlock.rule.UpgraderKind.come.Goals as goal
 
 pub exchange-found-requires : goal.exchange-found-requires
-exchange-found-requires g c = rw c.enter.ensures.fresh.0 (comes_to_upgrade c.args.word c.in_ok-next.next c.in_ok-next.ensures.plain)
+exchange-found-requires g c = rw c.enter.ensures.fresh.0 (comes_to_upgrade c.args.word c.in-Some.next c.in-Some.ensures.plain)
 
 pub leave-requires : goal.leave-requires
 leave-requires g c = let x = c.exchange-found.result in refused_rests Upgradable x.1.view c.args.word x.0 c.exchange-found.ensures.moved c.if-found-word.false

@@ -1,5 +1,5 @@
 use Rattle.spin_rwlock.proofs.Steps.{upgradable_goes, left_rests}
-use Rattle.spin_rwlock.proofs.rwlock.rule.release_upgradable.Goals as goal
+use Rattle.spin_rwlock.proofs.rwlock.rule.UpgraderKind.go.Goals as goal
 
 pub subtract-requires : goal.subtract-requires
 subtract-requires g c = rw c.requires upgradable_goes

@@ -1,5 +1,5 @@
 use Rattle.spin_rwlock.proofs.Steps.{reader_goes, left_rests}
-use Rattle.spin_rwlock.proofs.rwlock.rule.release_read.Goals as goal
+use Rattle.spin_rwlock.proofs.rwlock.rule.ReaderKind.go.Goals as goal
 
 pub subtract-requires : goal.subtract-requires
 subtract-requires g c = rw c.requires reader_goes

@@ -1,0 +1,39 @@
+//! Laws of the lock. Each is the contract of a function that does nothing.
+ghost use Rattle.std.specs.Prelude.{◌≡◌, ◌+◌, ◌*◌, ℕ, List, true, false};
+ghost use Rattle.spin_step.specs.Plain.{Plain, Kind, Change, reading, to_write, to_upgrade, turns, apply, is_open, is_open_to, count_kind};
+ghost use Rattle.spin_step.specs.Parties.{IsExclusive};
+ghost use Rattle.spin_rwlock.specs.declared.rwlock.rule.View.{View};
+ghost use Rattle.spin_rwlock.specs.Rw.{IsRw};
+ghost use Rattle.spin_rwlock.specs.Standing.{readers, upgradables, writers, holders, ReadersOrWriter, StaysUpgradable, apply_all, reader_releases};
+
+/// Where the rule of a `RwLock` holds, its word is 4 for each party that reads, 2 for the upgradable reader and 1 for the
+/// writer.
+pub fn the_word_of_a_rwlock_counts_its_parties()
+    ensures { (word second : ℕ) (vs : List View) → IsRw word second vs → word ≡ (4 * readers vs + 2 * upgradables vs) + writers vs }
+{}
+
+/// There readers stand beside at most one upgradable reader, and a writer alone.
+pub fn the_parties_of_a_rwlock_read_or_one_writes()
+    ensures { (word second : ℕ) (vs : List View) → IsRw word second vs → ReadersOrWriter vs }
+{}
+
+/// There the word is zero exactly when nobody holds.
+pub fn the_word_of_a_rwlock_is_zero_when_nobody_holds()
+    ensures { (word second : ℕ) (vs : List View) → IsRw word second vs → (word ≡ 0 → holders vs ≡ 0) × (holders vs ≡ 0 → word ≡ 0) }
+{}
+
+/// A downgrade is one step. No other party may write before it, nor after it, and nothing is in between.
+pub fn a_downgrade_lets_no_writer_in()
+    ensures { (s : Plain) (p q : ℕ) (k l : Kind) → is_open s (turns p k l) ≡ true → (is_open_to s q to_write ≡ false) × (is_open_to (apply s (turns p k l)) q to_write ≡ false) }
+{}
+
+/// While an upgradable reader stands no further reader comes, and each that goes is one less.
+pub fn beside_an_upgradable_reader_readers_only_go()
+    ensures { (s : Plain) (p : ℕ) (cs : List Change) → IsExclusive s → StaysUpgradable p s cs → count_kind reading (apply_all s cs).holders + reader_releases cs ≡ count_kind reading s.holders }
+{}
+
+/// So where so many readers stand beside it, it may become the writer after exactly as many of their releases.
+pub fn an_upgrade_is_open_when_the_readers_are_gone()
+    ensures { (s : Plain) (p : ℕ) (cs : List Change) → IsExclusive s → StaysUpgradable p s cs →
+        (is_open_to (apply_all s cs) p to_upgrade ≡ true → reader_releases cs ≡ count_kind reading s.holders) × (reader_releases cs ≡ count_kind reading s.holders → is_open_to (apply_all s cs) p to_upgrade ≡ true) }
+{}
