@@ -1,0 +1,145 @@
+-- The steps of a value that is made once keep its rule: each is the plain step that its step function makes.
+use Rattle.std.proofs.Common.{◌≡◌, ◌≢◌, ℕ, zero, suc, ◌+◌, ◌==◌, ◌<◌, List, [], ◌∷◌, ◌++◌, Option, Some, None, refl, sym, ap, subst, arith, ◌∙◌, if◌then◌else◌, eq-eqb, ne_eqb}
+use mathlib.Core.Option.{some}
+use lib.ListN.{get_elem?}
+use prog.Atomic.{either}
+use Rattle.core.specs.declared.snapshot.Snapshot.{Snapshot}
+use Rattle.spin_step.specs.Plain.{Plain, Phase, nothing, running, complete, gets, completes, fails, to_begin, once_word}
+use Rattle.spin_step.specs.Steps.{Decides, Gives}
+use Rattle.spin_core.specs.Cell.{off, reads, writes, reading, writing, use_of, Meets, Limits, Owes, Starts, Stands, after, AllowsAt, Rests, Moved}
+use Rattle.spin_core.specs.Plays.{becomes, becomes_by}
+use Rattle.spin_core.proofs.CellCounts.{moves, without}
+use Rattle.spin_once.specs.Once.{use_of_view, seeing, runs, IsPhaseOf, in_phase, IsOnce, IsMadeFrom, once_ways, looked, tried}
+use Rattle.spin_once.specs.declared.seeded.rule.View.{View}
+use Rattle.spin_once.specs.declared.seeded.rule.View.TheVariants.{Idle, Running, Seeing}
+use Rattle.spin_once.specs.declared.seeded.rule.Stage.{Stage}
+use Rattle.spin_once.specs.declared.seeded.rule.Stage.TheVariants.{Seed, Done}
+
+-- how many see the value and how many run, after a party has come to another view
+see_after : (id : ℕ) (view : Option View) (vs : List View) (w : View) → Stands id view vs → seeing (after id view vs w) + reading (use_of use_of_view view) ≡ seeing vs + reading (use_of_view w)
+see_after id None vs w at = moves (λ v. reading (use_of_view v)) id None vs w at
+see_after id (Some v) vs w at = moves (λ v. reading (use_of_view v)) id (Some v) vs w at
+
+run_after : (id : ℕ) (view : Option View) (vs : List View) (w : View) → Stands id view vs → runs (after id view vs w) + writing (use_of use_of_view view) ≡ runs vs + writing (use_of_view w)
+run_after id None vs w at = moves (λ v. writing (use_of_view v)) id None vs w at
+run_after id (Some v) vs w at = moves (λ v. writing (use_of_view v)) id (Some v) vs w at
+
+-- where one runs, it stands somewhere
+stands_somewhere : (vs : List View) → 0 < runs vs → (p : ℕ) × (get_elem? vs p ≡ some Running)
+stands_somewhere [] few = absurd (omega (arith, few))
+stands_somewhere (Running ∷ vs) few = (0, refl)
+stands_somewhere (Idle ∷ vs) few = let later = stands_somewhere vs few in (suc later.0, later.1)
+stands_somewhere (Seeing ∷ vs) few = let later = stands_somewhere vs few in (suc later.0, later.1)
+
+-- the rule by numbers alone: the word, how many see, how many run
+abbrev Numbers : ℕ → ℕ → ℕ → Type 0
+Numbers zero r w = (r ≡ 0) × (w ≡ 0)
+Numbers (suc zero) r w = (r ≡ 0) × (w ≡ 1)
+Numbers (suc (suc zero)) r w = (0 < r) × (w ≡ 0)
+Numbers _ r w = ⊥
+
+numbers : (n m : ℕ) (vs : List View) → IsOnce n m vs → Numbers n (seeing vs) (runs vs)
+numbers n m vs is = subst (λ k. Numbers k (seeing vs) (runs vs)) (sym is.2) (of_phase is.0 is.1)
+  where
+    of_phase : (s : Phase) → IsPhaseOf vs s → Numbers (once_word (in_phase s)) (seeing vs) (runs vs)
+    of_phase nothing has = has
+    of_phase (running p) has = (has.0, has.1)
+    of_phase complete has = has
+
+is_once : (n m : ℕ) (vs : List View) → Numbers n (seeing vs) (runs vs) → m ≡ 0 → IsOnce n m vs
+is_once zero m vs has e = (nothing, has, refl, e)
+is_once (suc zero) m vs has e = let at = stands_somewhere vs (omega (arith, has)) in (running at.0, (has.0, has.1, at.1), refl, e)
+is_once (suc (suc zero)) m vs has e = (complete, has, refl, e)
+is_once (suc (suc (suc n))) m vs has e = absurd has
+
+module _ {T S : Type 0} (makes : S → T → Type 0) (key : Snapshot S) where
+  abbrev Allowed : Option View → Option (Stage T S) → (ℕ → ℕ) → (ℕ → View → Type 0) → Type 0
+  Allowed = AllowsAt IsOnce (once_ways makes key)
+
+  limits : (n r w : ℕ) → Numbers n r w → Limits (once_ways makes key).0 r w
+  limits zero r w has = (omega (arith, has), λ l. has.0)
+  limits (suc zero) r w has = (omega (arith, has), λ l. has.0)
+  limits (suc (suc zero)) r w has = (omega (arith, has), λ l. absurd (omega (arith, l, has)))
+  limits (suc (suc (suc n))) r w has = absurd has
+
+  meets : (n m : ℕ) (vs : List View) → Numbers n (seeing vs) (runs vs) → m ≡ 0 → Meets IsOnce (once_ways makes key) n m vs
+  meets n m vs has e = (is_once n m vs has e, limits n (seeing vs) (runs vs) has)
+
+  -- ---- a new cell
+  pub starts_seeded : (seed : S) → seed ≡ key.value → Starts IsOnce (once_ways makes key) 0 0 (Seed seed)
+  starts_seeded seed e = ([], meets 0 0 [] (refl, refl) refl, e)
+
+  -- ---- a newcomer that looks, and one that tries to begin
+  looks_at : (id n m : ℕ) (vs : List View) → Numbers n (seeing vs) (runs vs) → m ≡ 0 → Meets IsOnce (once_ways makes key) n m (vs ++ looked n ∷ [])
+  looks_at id n m vs has e = let see = see_after id None vs (looked n) tt in let run = run_after id None vs (looked n) tt in meets n m (vs ++ looked n ∷ []) (kept n has see run) e
+    where
+      kept : (n : ℕ) → Numbers n (seeing vs) (runs vs) → seeing (vs ++ looked n ∷ []) + 0 ≡ seeing vs + reading (use_of_view (looked n)) → runs (vs ++ looked n ∷ []) + 0 ≡ runs vs + writing (use_of_view (looked n))
+          → Numbers n (seeing (vs ++ looked n ∷ [])) (runs (vs ++ looked n ∷ []))
+      kept zero has see run = (omega (arith, see, has), omega (arith, run, has))
+      kept (suc zero) has see run = (omega (arith, see, has), omega (arith, run, has))
+      kept (suc (suc zero)) has see run = (omega (arith, see, has), omega (arith, run, has))
+      kept (suc (suc (suc n))) has see run = absurd has
+
+  -- who sees finds one that sees
+  looks_owes : (n : ℕ) (vs : List View) → Numbers n (seeing vs) (runs vs) → (A : Type 0) → A → (off ≡ reads → use_of_view (looked n) ≡ reads) × Owes (IsMadeFrom makes key) off (use_of_view (looked n)) None (seeing vs) × A
+  looks_owes zero vs has A a = (λ e. e, tt, a)
+  looks_owes (suc zero) vs has A a = (λ e. e, tt, a)
+  looks_owes (suc (suc zero)) vs has A a = (λ e. refl, has.0, a)
+  looks_owes (suc (suc (suc n))) vs has A a = absurd has
+
+  pub looks : Allowed None None (λ n. n) (becomes_by looked 0 0 None)
+  looks id n m vs has at small = let known = numbers n m vs has.0 in (looked n, looks_owes n vs known _ (looks_at id n m vs known has.0.3), refl)
+
+  pub begins : (new : ℕ) → ((s : Plain) (p : ℕ) → once_word s ≡ 0 → Decides s (gets p to_begin) once_word (Some new)) → Allowed None None (λ n. either (n == 0) new n) (becomes_by tried 0 new None)
+  begins new plain id zero m vs has at small =
+      let known = numbers 0 m vs has.0 in let see = see_after id None vs Running tt in let run = run_after id None vs Running tt in let next : new ≡ 1 = (plain (in_phase nothing) id refl).1 in
+      (Running, (λ e. absurd (let d : off ≡ reads = e in cc), tt, subst (λ k. Meets IsOnce (once_ways makes key) k m (vs ++ Running ∷ [])) (sym next) (meets 1 m (vs ++ Running ∷ []) (omega (arith, see, known), omega (arith, run, known)) has.0.3)), refl)
+  begins new plain id (suc zero) m vs has at small = let known = numbers 1 m vs has.0 in (Idle, looks_owes 1 vs known _ (looks_at id 1 m vs known has.0.3), refl)
+  begins new plain id (suc (suc zero)) m vs has at small = let known = numbers 2 m vs has.0 in (Seeing, looks_owes 2 vs known _ (looks_at id 2 m vs known has.0.3), refl)
+  begins new plain id (suc (suc (suc n))) m vs has at small = absurd (numbers (suc (suc (suc n))) m vs has.0)
+
+  -- ---- the party that runs
+  alone : (n id : ℕ) (vs : List View) → Stands id (Some Running) vs → Numbers n (seeing vs) (runs vs) → (n ≡ 1) × (seeing vs ≡ 0) × (runs vs ≡ 1)
+  alone zero id vs at has = absurd (let run = run_after id (Some Running) vs Idle at in omega (arith, has, run))
+  alone (suc zero) id vs at has = (refl, has.0, has.1)
+  alone (suc (suc zero)) id vs at has = absurd (let run = run_after id (Some Running) vs Idle at in omega (arith, has, run))
+  alone (suc (suc (suc n))) id vs at has = absurd has
+
+  pub completes_with : (new : ℕ) (value : T) → ((s : Plain) (p : ℕ) → once_word s ≡ 1 → Gives s (completes p) once_word new) → makes key.value value → Allowed (Some Running) (Some (Done value)) (λ _. new) (λ _. becomes Seeing 0 new (Some Running) 0)
+  completes_with new value plain made id n m vs has at small =
+      let one = alone n id vs at (numbers n m vs has.0) in let see = see_after id (Some Running) vs Seeing at in let run = run_after id (Some Running) vs Seeing at in
+      let next : new ≡ 2 = plain (in_phase (running id)) id refl (eq-eqb id id refl) in
+      (Seeing, (λ e. refl, made, subst (λ k. Meets IsOnce (once_ways makes key) k m (after id (Some Running) vs Seeing)) (sym next) (meets 2 m (after id (Some Running) vs Seeing) (omega (arith, see, one), omega (arith, run, one)) has.0.3)), refl)
+
+  pub fails_with : (new : ℕ) (seed : S) → ((s : Plain) (p : ℕ) → once_word s ≡ 1 → Gives s (fails p) once_word new) → seed ≡ key.value → Allowed (Some Running) (Some (Seed seed)) (λ _. new) (λ _. becomes Idle 0 new (Some Running) 0)
+  fails_with new seed plain same id n m vs has at small =
+      let one = alone n id vs at (numbers n m vs has.0) in let see = see_after id (Some Running) vs Idle at in let run = run_after id (Some Running) vs Idle at in
+      let next : new ≡ 0 = plain (in_phase (running id)) id refl (eq-eqb id id refl) in
+      (Idle, (λ e. absurd (let d : writes ≡ reads = e in cc), same, subst (λ k. Meets IsOnce (once_ways makes key) k m (after id (Some Running) vs Idle)) (sym next) (meets 0 m (after id (Some Running) vs Idle) (omega (arith, see, one), omega (arith, run, one)) has.0.3)), refl)
+
+-- ---- who may go
+idle_rests : Rests IsOnce use_of_view (Some Idle)
+idle_rests = (
+  refl,
+  λ n m before behind has. let see = without (λ v. reading (use_of_view v)) before behind Idle in let run = without (λ v. writing (use_of_view v)) before behind Idle in
+      is_once n m (before ++ behind) (fewer n (before ++ Idle ∷ behind) (before ++ behind) (omega (arith, see)) (omega (arith, run)) (numbers n m (before ++ Idle ∷ behind) has)) has.3,
+)
+  where
+    fewer : (n : ℕ) (vs ws : List View) → seeing ws ≡ seeing vs → runs ws ≡ runs vs → Numbers n (seeing vs) (runs vs) → Numbers n (seeing ws) (runs ws)
+    fewer n vs ws see run has = rw (see, run) has
+
+pub left_rests : (view : Option View) → Moved (λ v. v ≡ Idle) view → Rests IsOnce use_of_view view
+left_rests None moved = absurd moved
+left_rests (Some v) moved = rw moved idle_rests
+
+-- a party that came to something else than it looked for
+pub looked_rests : (view : Option View) (found : ℕ) → Moved (λ v. v ≡ looked found) view → found ≢ 2 → Rests IsOnce use_of_view view
+looked_rests None found moved other = absurd moved
+looked_rests (Some v) found moved other = left_rests (Some v) (moved ∙ idle)
+  where
+    idle : looked found ≡ Idle
+    idle = ap (λ b. if b then Seeing else Idle) (ne_eqb found 2 other)
+
+pub tried_rests : (view : Option View) (found : ℕ) → Moved (λ v. v ≡ tried found) view → found ≢ 0 → found ≢ 2 → Rests IsOnce use_of_view view
+tried_rests None found moved other-0 other-2 = absurd moved
+tried_rests (Some v) found moved other-0 other-2 = looked_rests (Some v) found (moved ∙ ap (λ b. if b then Running else looked found) (ne_eqb found 0 other-0)) other-2

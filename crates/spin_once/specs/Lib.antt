@@ -1,0 +1,5 @@
+pub mod Once
+pub mod Looks
+pub mod Finds
+pub mod Texts
+pub mod Lazy

@@ -1,0 +1,95 @@
+//! A value that its own initialiser makes, when somebody first asks for it.
+ghost use Rattle.std.specs.Prelude.{◌≡◌};
+ghost use Rattle.spin_once.specs.Lazy.{initialiser, promise};
+
+use crate::kept::Kept;
+use crate::seeded::{Come, Seed, Seeded};
+use spin_core::relax::{RelaxStrategy, Spin};
+use std::marker::PhantomData;
+use std::sync::Wait;
+
+mod texts;
+
+/// What is promised of a value.
+pub trait Promise<T> {
+    // Of the promise and a value, that it keeps it.
+    ghost keeps: { Self → T → Type 0 };
+}
+
+/// Nothing.
+impl<T> Promise<T> for () {
+    ghost keeps = { λ _ _. Unit {0} };
+}
+
+/// An initialiser that has not run, and what is promised of its answer.
+#[derive(Drop)]
+pub(crate) struct Initialiser<F, M> {
+    kept: Kept<F>,
+    promise: M,
+}
+
+impl<T, F, M: Promise<T>> Seed<T> for Initialiser<F, M> {
+    ghost makes = { λ seed value. M.keeps seed.promise value };
+}
+
+/// A value that its initialiser makes, when somebody first asks for it. The initialiser runs once; whoever asks while it
+/// runs spins until it has ended, and sees the same value. One that asks its own `LazyLock` for the value waits for ever.
+///
+/// `M` says what is promised of the value: each answer of the initialiser has to keep it.
+#[derive(Drop)]
+pub struct LazyLock<T, F = fn() -> T, R = Spin, M: Promise<T> = ()> {
+    seeded: Seeded<T, Initialiser<F, M>>,
+    strategy: PhantomData<R>,
+}
+
+impl<T, F: FnOnce() -> T, R> LazyLock<T, F, R> {
+    /// The initialiser has not run. Nothing is promised of its answer.
+    pub fn new(f: F) -> Self
+        ensures { initialiser result ≡ f }
+    {
+        Self::promising((), f)
+    }
+}
+
+impl<T, F: FnOnce() -> T, R, M: Promise<T>> LazyLock<T, F, R, M> {
+    /// As `new`, with a promise that the answer will keep.
+    pub fn promising(promised: M, f: F) -> Self
+        ensures made { initialiser result ≡ f }
+        ensures kept { promise result ≡ promised }
+    {
+        LazyLock {
+            seeded: Seeded::new(Initialiser {
+                kept: Kept::new(f),
+                promise: promised,
+            }),
+            strategy: PhantomData,
+        }
+    }
+}
+
+impl<T, F: FnOnce() -> T, R: RelaxStrategy, M: Promise<T> + Drop> LazyLock<T, F, R, M> {
+    /// The value. The first that asks runs the initialiser; while it runs the others relax. Nothing is promised about when
+    /// it returns.
+    pub fn force<'a, W: Wait>(this: &'a Self, rt: &W) -> &'a T
+        requires callable { F.pre (initialiser this.now) }
+        requires keeps { (value : T) → F.post (initialiser this.now) value → M.keeps (promise this.now) value }
+        ensures { M.keeps (promise this.now) result.now }
+    {
+        match this.seeded.come::<R, W>(rt) {
+            Come::Value(value) => value,
+            Come::Turn(turn, seed) => {
+                let Initialiser { kept, promise: _ } = seed;
+                let f = kept.into_inner();
+                turn.complete(f())
+            }
+        }
+    }
+}
+
+unsafe impl<T: Send, F: Send, R, M: Promise<T> + Send> Send for LazyLock<T, F, R, M> {}
+
+unsafe impl<T: Send + Sync, F: Send, R, M: Promise<T> + Send + Sync> Sync
+    for LazyLock<T, F, R, M> {}
+
+#[cfg(test)]
+mod tests;

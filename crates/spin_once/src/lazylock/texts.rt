@@ -1,0 +1,18 @@
+// `Debug` of a `LazyLock`.
+ghost use Rattle.std.specs.Prelude.{Option, codes};
+ghost use Rattle.std.specs.Fmt.{DisplaysOnOk};
+ghost use Rattle.spin_once.specs.Texts.{once_text};
+
+use super::{LazyLock, Promise};
+use crate::texts::write_once;
+use std::fmt;
+use std::fmt::{Debug, Formatter};
+
+/// By one look, which runs nothing: it writes `<uninit>` where there is no value.
+impl<T: Debug, F, R, M: Promise<T>> Debug for LazyLock<T, F, R, M> {
+    fn fmt<W: fmt::Write>(&self, f: &mut Formatter<W>) -> fmt::Result
+        ensures { (found : Option T) × DisplaysOnOk W.write_str_gives f.old result (once_text (codes "LazyLock") T.debug_output found) f.new }
+    {
+        write_once("LazyLock", self.seeded.get(), f)
+    }
+}

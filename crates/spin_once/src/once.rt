@@ -1,0 +1,190 @@
+//! A value that one closure makes.
+ghost use Rattle.std.specs.Prelude.{◌≡◌, IfErr, Err};
+
+use crate::seeded::{Come, Seed, Seeded};
+use spin_core::relax::{RelaxStrategy, Spin};
+use std::marker::PhantomData;
+use std::mem;
+use std::sync::Wait;
+
+mod texts;
+
+/// A `Once` is made from nothing: a closure that a caller brings may give any value.
+impl<T> Seed<T> for () {
+    ghost makes = { λ _ _. Unit {0} };
+}
+
+/// A value that is made at most once, by a closure that one of its users brings. From then on it stays, and a look at it
+/// is one load.
+///
+/// One closure runs at a time, and none once there is a value. A caller that finds one running spins until it has ended.
+/// A closure that asks its own `Once` for the value waits for ever, or, by a call that does not wait, finds that there is
+/// none yet.
+#[derive(Drop)]
+pub struct Once<T = (), R = Spin> {
+    place: Place<T>,
+    strategy: PhantomData<R>,
+}
+
+// A value that was there while nobody shared the `Once` needs no word, and its owner may change it.
+#[derive(Drop)]
+enum Place<T> {
+    Shared(Seeded<T, ()>),
+    Owned(T),
+}
+
+impl<T, R> Once<T, R> {
+    /// There is no value yet.
+    pub fn new() -> Self {
+        Once {
+            place: Place::Shared(Seeded::new(())),
+            strategy: PhantomData,
+        }
+    }
+
+    /// The value is there from the start.
+    pub fn initialized(value: T) -> Self {
+        Once {
+            place: Place::Owned(value),
+            strategy: PhantomData,
+        }
+    }
+
+    /// The value, if there is one: it makes at most one load. The value stays for as long as the `Once` is shared.
+    pub fn get(&self) -> Option<&T> {
+        match &self.place {
+            Place::Shared(seeded) => seeded.get(),
+            Place::Owned(value) => Some(value),
+        }
+    }
+
+    /// Whether there is a value, as `get` finds it.
+    pub fn is_completed(&self) -> bool {
+        self.get().is_some()
+    }
+
+    /// The value, if there is one: nobody else has the `Once`. It may move, the first time that it is asked for.
+    pub fn get_mut(&mut self) -> Option<&mut T>
+    where
+        T: Drop,
+    {
+        self.settle();
+        match &mut self.place {
+            Place::Shared(_) => None,
+            Place::Owned(value) => Some(value),
+        }
+    }
+
+    fn settle(&mut self)
+    where
+        T: Drop,
+    {
+        let empty = Place::Shared(Seeded::new(()));
+        if let Some(value) = mem::replace(&mut self.place, empty).into_value() {
+            self.place = Place::Owned(value);
+        }
+    }
+
+    /// The value, if there is one.
+    pub fn try_into_inner(self) -> Option<T> {
+        let Self { place, strategy: _ } = self;
+        place.into_value()
+    }
+}
+
+impl<T, R: RelaxStrategy> Once<T, R> {
+    /// The value. Where there is none it runs the closure, whose answer is the value from then on; while another closure
+    /// runs it relaxes until that one has ended. Nothing is promised about when it returns.
+    pub fn call_once<F: FnOnce() -> T, W: Wait>(&self, rt: &W, f: F) -> &T
+        requires { F.pre f }
+    {
+        match self.come(rt) {
+            Come::Value(value) => value,
+            Come::Turn(turn, ()) => turn.complete(f()),
+        }
+    }
+
+    /// As `call_once`, of a closure that may fail. Its `Err` is answered, and there is no value: a later closure may give
+    /// one. An `Err` is always this caller's own closure's.
+    pub fn try_call_once<F: FnOnce() -> Result<T, E>, E, W: Wait>(
+        &self,
+        rt: &W,
+        f: F,
+    ) -> Result<&T, E>
+        requires { F.pre f }
+        ensures err { IfErr result (λ e. F.post f (Err e)) }
+    {
+        let turn = match self.come(rt) {
+            Come::Value(value) => return Ok(value),
+            Come::Turn(turn, ()) => turn,
+        };
+        match f() {
+            Ok(value) => Ok(turn.complete(value)),
+            Err(error) => {
+                turn.fail(());
+                Err(error)
+            }
+        }
+    }
+
+    /// As `call_once`, of a closure that copies the value.
+    pub fn init_from_ref<W: Wait>(&self, rt: &W, value: &T) -> &T
+    where
+        T: Copy,
+    {
+        self.call_once(rt, || *value)
+    }
+
+    /// The value, once there is one. It relaxes until then, also where nobody has begun to make it.
+    pub fn wait<W: Wait>(&self, rt: &W) -> &T {
+        match &self.place {
+            Place::Shared(seeded) => seeded.wait::<R, W>(rt),
+            Place::Owned(value) => value,
+        }
+    }
+
+    /// The value, or `None` where there is none and no closure runs. While one runs it relaxes until that has ended.
+    pub fn poll<W: Wait>(&self, rt: &W) -> Option<&T> {
+        match &self.place {
+            Place::Shared(seeded) => seeded.poll::<R, W>(rt),
+            Place::Owned(value) => Some(value),
+        }
+    }
+
+    fn come<W: Wait>(&self, rt: &W) -> Come<'_, T, ()> {
+        match &self.place {
+            Place::Shared(seeded) => seeded.come::<R, W>(rt),
+            Place::Owned(value) => Come::Value(value),
+        }
+    }
+}
+
+impl<T> Place<T> {
+    fn into_value(self) -> Option<T> {
+        match self {
+            Place::Shared(seeded) => seeded.into_inner(),
+            Place::Owned(value) => Some(value),
+        }
+    }
+}
+
+/// There is no value yet.
+impl<T, R> Default for Once<T, R> {
+    fn default() -> Self {
+        Self::new()
+    }
+}
+
+/// The value is there from the start.
+impl<T, R> From<T> for Once<T, R> {
+    fn from(value: T) -> Self {
+        Self::initialized(value)
+    }
+}
+
+unsafe impl<T: Send, R> Send for Once<T, R> {}
+
+unsafe impl<T: Send + Sync, R> Sync for Once<T, R> {}
+
+#[cfg(test)]
+mod tests;

@@ -1,0 +1,126 @@
+//! What no contract says: which call runs its closure, what it answers then, and where a value ends.
+
+use super::Once;
+use spin_core::relax::{Loop, Spin, Yield};
+use std::cell::Cell;
+use std::fmt::Debug;
+use std::process::Abort;
+use std::sync::Wait;
+use std::test::Fail;
+
+mod shared;
+
+// A caller's closure may be generic, may borrow, and may wait.
+fn made_from<T: Copy, R: Wait>(rt: &R, once: &Once<T>, from: &Once<T>) -> T {
+    *once.call_once(rt, || *from.wait(rt))
+}
+
+#[test]
+fn a_closure_that_fails_leaves_the_next_one_its_turn(rt: HostRuntime) {
+    let runs = Cell::new(0u32);
+    let run = || runs.set(runs.get().wrapping_add(1));
+    let once: Once<u64> = Once::new();
+    let failed = once.try_call_once(&rt, || {
+        run();
+        Err(())
+    });
+    assert_eq!(rt; failed, Err(()));
+    assert_eq!(rt; once.get(), None);
+    let seven = once.call_once(&rt, || {
+        run();
+        7
+    });
+    assert_eq!(rt; *seven, 7);
+    let seven = once.call_once(&rt, || {
+        run();
+        8
+    });
+    assert_eq!(rt; *seven, 7);
+    let seven = once.try_call_once(&rt, || {
+        run();
+        Err(())
+    });
+    assert_eq!(rt; seven, Ok(&7));
+    assert_eq!(rt; runs.get(), 2);
+}
+
+#[test]
+fn a_copy_of_a_value(rt: HostRuntime) {
+    let once: Once<u64> = Once::new();
+    assert_eq!(rt; *once.init_from_ref(&rt, &1), 1);
+    assert_eq!(rt; *once.init_from_ref(&rt, &2), 1);
+}
+
+#[test]
+fn looks_before_and_after(rt: HostRuntime) {
+    let once: Once<u64, Loop> = Once::new();
+    assert_eq!(rt; once.poll(&rt), None);
+    assert_eq!(rt; once.get(), None);
+    assert!(rt; !once.is_completed());
+    assert_eq!(rt; *once.call_once(&rt, || 3), 3);
+    assert_eq!(rt; once.poll(&rt), Some(&3));
+    assert_eq!(rt; once.get(), Some(&3));
+    assert_eq!(rt; *once.wait(&rt), 3);
+    assert!(rt; once.is_completed());
+    assert_eq!(rt; once.try_into_inner(), Some(3));
+}
+
+#[test]
+fn with_a_value_from_the_start_or_without(rt: HostRuntime) {
+    let once: Once<u64> = Once::initialized(5);
+    assert!(rt; once.is_completed());
+    assert_eq!(rt; *once.call_once(&rt, || 6), 5);
+    assert_eq!(rt; once.try_into_inner(), Some(5));
+    let once: Once<u64> = Once::from(5);
+    assert_eq!(rt; *once.wait(&rt), 5);
+    let once: Once<u64> = Once::default();
+    assert_eq!(rt; once.try_into_inner(), None);
+    let once: Once = Once::new();
+    once.call_once(&rt, || ());
+    assert!(rt; once.is_completed());
+}
+
+#[test]
+fn its_owner_changes_the_value(rt: HostRuntime) {
+    let mut once: Once<u64> = Once::initialized(5);
+    if let Some(value) = once.get_mut() {
+        *value = 6;
+    }
+    assert!(rt; once.is_completed());
+    assert_eq!(rt; once.try_into_inner(), Some(6));
+    let mut once: Once<u64> = Once::new();
+    assert!(rt; once.get_mut().is_none());
+    assert_eq!(rt; *once.call_once(&rt, || 7), 7);
+    if let Some(value) = once.get_mut() {
+        *value = 8;
+    }
+    assert_eq!(rt; once.get(), Some(&8));
+    assert_eq!(rt; *once.call_once(&rt, || 9), 8);
+    assert_eq!(rt; once.poll(&rt), Some(&8));
+    assert_eq!(rt; *once.wait(&rt), 8);
+    assert_eq!(rt; once.try_into_inner(), Some(8));
+    let mut once: Once<u64> = Once::new();
+    assert!(rt; once.get_mut().is_none());
+    assert_eq!(rt; once.try_into_inner(), None);
+}
+
+#[test]
+fn a_closure_that_looks_at_its_own(rt: HostRuntime) {
+    let once: Once<u64> = Once::new();
+    let seen = *once.call_once(&rt, || if once.is_completed() { 1 } else { 2 });
+    assert_eq!(rt; seen, 2);
+    let other: Once<u64> = Once::new();
+    assert_eq!(rt; made_from(&rt, &other, &once), 2);
+}
+
+fn debug_is<T: Debug>(rt: &(impl Abort + AllocGlobal), value: &T, text: &str) -> Result<(), Fail> {
+    let found = format!(in rt.alloc(); "{value:?}")?;
+    assert_eq!(rt; found.as_str(), text);
+    Ok(())
+}
+
+#[test]
+fn its_text(rt: HostRuntime) -> Result<(), Fail> {
+    debug_is(&rt, &Once::<u64>::initialized(5), "Once(5)")?;
+    debug_is(&rt, &Once::<u64, Yield>::new(), "Once(<uninit>)")
+}

@@ -1,0 +1,141 @@
+//! A value that is made once, from a seed: what `Once` and `LazyLock` share.
+ghost use Rattle.std.specs.Prelude.{◌≡◌, IfSome};
+ghost use Rattle.spin_once.specs.Finds.{FindsMade, TakesMade};
+
+use self::rule::{Begins, COMPLETE, NOTHING, Progress, SeedCell, Stage, seen};
+use spin_core::relax::RelaxStrategy;
+use spin_step::once;
+use std::mem;
+use std::sync::Wait;
+
+mod rule;
+mod turn;
+
+pub(crate) use self::rule::Seed;
+use self::turn::Found;
+pub(crate) use self::turn::Turn;
+
+/// At first a seed lies there. A party that begins has it alone, and gives a value for it or puts it back. Once there is
+/// a value, every party sees that one.
+#[derive(Drop)]
+pub(crate) struct Seeded<T, S: Seed<T>> {
+    cell: SeedCell<T, S>,
+}
+
+/// What a party comes to that wants a value.
+pub(crate) enum Come<'a, T, S: Seed<T>> {
+    Value(&'a T),
+    /// Nobody had begun, or who had has put the seed back: it is this party's turn.
+    Turn(Turn<'a, T, S>, S),
+}
+
+impl<T, S: Seed<T>> Seeded<T, S> {
+    /// Nobody has begun.
+    pub(crate) fn new(seed: S) -> Self
+        ensures { result.cell.value ≡ seed }
+    {
+        Seeded {
+            cell: rule::seeded(seed),
+        }
+    }
+
+    /// The value, if there is one at the moment of its one load.
+    pub(crate) fn get(&self) -> Option<&T>
+        ensures { IfSome result (λ value. S.makes self.now.cell.value value.now) }
+    {
+        match rule::look(&self.cell) {
+            Progress::Value(value) => Some(value),
+            Progress::Nothing | Progress::Running => None,
+        }
+    }
+
+    /// The value, whatever the word is: nobody else has the cell.
+    pub(crate) fn into_inner(self) -> Option<T>
+    where
+        S: Drop,
+    {
+        let Self { cell } = self;
+        match cell.into_inner() {
+            Stage::Done(value) => Some(value),
+            _ => None,
+        }
+    }
+
+    fn begin(&self) -> Found<'_, T, S>
+        ensures { FindsMade S.makes self.now.cell.value result }
+    {
+        let running = once::begin(NOTHING).unwrap();
+        let (found, permit) = self
+            .cell
+            .enter()
+            .exchange::<Begins>(NOTHING as u64, running as u64);
+        if found == COMPLETE as u64 {
+            return Found::Value(seen(permit));
+        }
+        if found != NOTHING as u64 {
+            permit.leave();
+            return Found::Busy;
+        }
+        let mut writer = permit.into_writer();
+        match mem::replace(writer.get_mut(), Stage::Taken) {
+            Stage::Seed(seed) => Found::Seed(Turn::new(writer), seed),
+            _ => unreachable!(),
+        }
+    }
+
+    /// The value once nobody runs any more, if there is one then.
+    pub(crate) fn poll<R: RelaxStrategy, W: Wait>(&self, rt: &W) -> Option<&T>
+        ensures { IfSome result (λ value. S.makes self.now.cell.value value.now) }
+    {
+        for _ in rt.forever() {
+            match rule::look(&self.cell) {
+                Progress::Value(value) => return Some(value),
+                Progress::Nothing => return None,
+                Progress::Running => R::relax(rt),
+            }
+        }
+        unreachable!()
+    }
+
+    /// The value, once there is one.
+    pub(crate) fn wait<R: RelaxStrategy, W: Wait>(&self, rt: &W) -> &T
+        ensures { S.makes self.now.cell.value result.now }
+    {
+        for _ in rt.forever() {
+            match self.poll::<R, W>(rt) {
+                Some(value) => return value,
+                None => R::relax(rt),
+            }
+        }
+        unreachable!()
+    }
+
+    /// The value, or this party's turn to make it. It waits while another party runs.
+    pub(crate) fn come<R: RelaxStrategy, W: Wait>(&self, rt: &W) -> Come<'_, T, S>
+        ensures { TakesMade S.makes self.now.cell.value result }
+    {
+        match self.get() {
+            Some(value) => Come::Value(value),
+            None => self.come_first::<R, W>(rt),
+        }
+    }
+
+    // It stands apart: inlined, it would lengthen the path of every caller that finds a value.
+    #[cold]
+    #[inline(never)]
+    fn come_first<R: RelaxStrategy, W: Wait>(&self, rt: &W) -> Come<'_, T, S>
+        ensures { TakesMade S.makes self.now.cell.value result }
+    {
+        for _ in rt.forever() {
+            match self.begin() {
+                Found::Seed(turn, seed) => return Come::Turn(turn, seed),
+                Found::Value(value) => return Come::Value(value),
+                Found::Busy => {}
+            }
+            if let Some(value) = self.poll::<R, W>(rt) {
+                return Come::Value(value);
+            }
+        }
+        unreachable!()
+    }
+}

@@ -1,0 +1,124 @@
+//! What the parties of a `Seeded` are, what its word says of them, and each kind of step.
+ghost use Rattle.std.specs.Prelude.{◌≡◌, Some};
+ghost use Rattle.spin_core.specs.Plays.{becomes, becomes_by};
+ghost use Rattle.spin_once.specs.Once.{looked, tried};
+ghost use Rattle.spin_once.specs.Looks.{LooksMade};
+ghost use Rattle.spin_once.specs.declared.seeded.rule.View.TheVariants.{Idle, Running, Seeing};
+ghost use Rattle.spin_once.specs.declared.seeded.rule.Stage.TheVariants.{Done};
+
+use spin_core::cell::{Cell, Permit, Play, Rule, WritePermit};
+use std::snapshot::Snapshot;
+
+// The states of the word.
+pub(super) const NOTHING: u8 = 0;
+
+pub(super) const RUNNING: u8 = 1;
+
+pub(super) const COMPLETE: u8 = 2;
+
+/// What a value is made from.
+pub trait Seed<T> {
+    // Of the seed and a value, that it may be made from it.
+    ghost makes: { Self → T → Type 0 };
+}
+
+/// What a party is to the value.
+#[derive(Clone, Copy)]
+pub enum View {
+    Idle,
+    Running,
+    Seeing,
+}
+
+/// What lies in the cell.
+#[derive(Drop)]
+pub enum Stage<T, S> {
+    Seed(S),
+    /// The party that runs has the seed.
+    Taken,
+    Done(T),
+}
+
+/// The word is that of a plain lock in a phase of these parties. The second word is 0.
+impl<T, S: Seed<T>> Rule<Stage<T, S>, View> for Stage<T, S> {
+    ghost use Rattle.spin_once.specs.Once.{IsOnce, once_ways};
+
+    type Key = Snapshot<S>;
+
+    ghost holds = { IsOnce };
+
+    ghost ways = { once_ways S.makes };
+}
+
+pub(super) type SeedCell<T, S> = Cell<Stage<T, S>, View, Stage<T, S>>;
+
+pub(super) type Party<'a, T, S> = Permit<'a, Stage<T, S>, View, Stage<T, S>>;
+
+pub(super) type Writer<'a, T, S> = WritePermit<'a, Stage<T, S>, View, Stage<T, S>>;
+
+/// How far it has come, at a look.
+pub(crate) enum Progress<'a, T> {
+    Nothing,
+    Running,
+    Value(&'a T),
+}
+
+struct Looks;
+
+impl Play<View> for Looks {
+    ghost then = { becomes_by looked };
+}
+
+pub(super) struct Begins;
+
+impl Play<View> for Begins {
+    ghost then = { becomes_by tried };
+}
+
+pub(super) struct Completes;
+
+impl Play<View> for Completes {
+    ghost then = { becomes Seeing };
+}
+
+pub(super) struct Fails;
+
+impl Play<View> for Fails {
+    ghost then = { becomes Idle };
+}
+
+/// Nobody has begun.
+pub(super) fn seeded<T, S: Seed<T>>(seed: S) -> SeedCell<T, S>
+    ensures { result.value ≡ seed }
+{
+    let key = Snapshot::of(&seed);
+    Cell::new(Stage::Seed(seed), NOTHING as u64, 0, &key)
+}
+
+/// How far it has come at a moment.
+pub(super) fn look<T, S: Seed<T>>(cell: &SeedCell<T, S>) -> Progress<'_, T>
+    ensures { LooksMade S.makes cell.now.value result }
+{
+    let (found, permit) = cell.enter().load::<Looks>();
+    if found == COMPLETE as u64 {
+        return Progress::Value(seen(permit));
+    }
+    permit.leave();
+    if found == NOTHING as u64 {
+        Progress::Nothing
+    } else {
+        Progress::Running
+    }
+}
+
+/// The value, for good, of a party that sees it.
+pub(super) fn seen<'a, T, S: Seed<T>>(party: Party<'a, T, S>) -> &'a T
+    requires { party.view ≡ Some Seeing }
+    ensures value { party.entry.value ≡ Some (Done result.now) }
+    ensures made { S.makes party.entry.key.value result.now }
+{
+    match party.see() {
+        Stage::Done(value) => value,
+        _ => unreachable!(),
+    }
+}
