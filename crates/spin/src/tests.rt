@@ -2,7 +2,9 @@
 use super::mutex::{SpinMutex, SpinMutexGuard, TicketMutex, TicketMutexGuard};
 use super::relax::Loop;
 use super::step::flag;
-use super::{Mutex, MutexGuard, RelaxStrategy, Spin, Yield, mutex};
+use super::{
+    Barrier, Lazy, LazyLock, Mutex, MutexGuard, Once, RelaxStrategy, Spin, Yield, barrier, mutex,
+};
 use std::sync::Wait;
 
 fn pass_the_time<S: RelaxStrategy, R: Wait>(rt: &R) {
@@ -31,9 +33,30 @@ fn the_locks_by_their_own_names(rt: HostRuntime) {
 }
 
 #[test]
+fn a_barrier_by_its_short_name(rt: HostRuntime) {
+    let one: Barrier = Barrier::new(1);
+    let waited: barrier::BarrierWaitResult = one.wait(&rt);
+    assert!(rt; waited.is_leader());
+    let one: barrier::Barrier<Yield> = barrier::Barrier::new(1);
+    assert!(rt; one.wait(&rt).is_leader());
+}
+
+#[test]
 fn steps_and_strategies(rt: HostRuntime) {
     assert_eq!(rt; flag::lock(false), Some(true));
     pass_the_time::<Spin, _>(&rt);
     pass_the_time::<Yield, _>(&rt);
     pass_the_time::<Loop, _>(&rt);
+}
+
+#[test]
+fn values_that_are_made_once(rt: HostRuntime) {
+    let once: Once<u64> = Once::new();
+    assert_eq!(rt; *once.call_once(&rt, || 6), 6);
+    let unit: Once = Once::initialized(());
+    assert!(rt; unit.is_completed());
+    let lazy: LazyLock<u64, _> = LazyLock::new(|| 7);
+    assert_eq!(rt; *LazyLock::force(&lazy, &rt), 7);
+    let lazy: Lazy<u64, _> = Lazy::new(|| 8);
+    assert_eq!(rt; *Lazy::force(&lazy, &rt), 8);
 }

@@ -1,0 +1,4 @@
+//! A barrier, at which threads wait for one another.
+#![tactic(auto)]
+
+pub mod barrier;
