@@ -17,6 +17,7 @@ use Rattle.spin_world_core.specs.Calls.{encoded, BelongsTo, Said, own_steps, Mar
 use Rattle.spin_world_core.specs.Undisturbed.{is_open_now}
 use Rattle.spin_world_core.specs.Machines.{Machine, opening_plain}
 use Rattle.spin_world_core.specs.Schedules.{placed}
+use Rattle.spin_world_core.specs.Values.{HasPhase, Gives}
 use Rattle.spin_world_core.specs.Runs.{mark_of, if_completed, entries_held, entries_so_far, is_writer, own, failures, changes, IsBeginning, RightAnswer, EndsWithin, GoesOnWithin}
 
 -- an object's local invariant: a shape of the plain lock and the value, and what a party in a call knows of its span
@@ -71,6 +72,15 @@ abbrev pub AnswersWithin : {W V C L A : Type 0} → Machine W V C L A → ℕ �
 AnswersWithin m zero w c l h = ⊥
 AnswersWithin {V = V} {L = L} m (suc k) w c l h = (v : Option V) (l' : L) → (m.step w v c l h).next ≡ GoesOn l' → AnswersWithin m k (m.step w v c l h).words c l' h
 
+-- what is said of values by how a call goes on, where this one lies there
+abbrev pub NextGives : {W V C L A : Type 0} → Machine W V C L A → Option V → Next L A → Type 0
+NextGives m value (GoesOn l) = Unit {0}
+NextGives m value (Answers a after) = Gives m.coding (m.says a) (m.gives a) value
+
+pub record ValueIs {W V C L A : Type 0} (m : Machine W V C L A) (c : C) (v : Option V) (st : Stepped W V L A) (step : Option Change) : Type 0 where
+  pub brings : (q : ℕ) → step ≡ Some (completes q) → placed st.placed v ≡ m.brings c
+  pub gives : NextGives m (placed st.placed v) st.next
+
 pub record Facts {W V C L A : Type 0} (m : Machine W V C L A) (k : LocalInvariant V C L) : Type 0 where
   pub first : m.numbers m.words ≡ encoded m.coding (opening_plain m)
   pub shape_first : k.Shape (opening_plain m) m.value
@@ -98,3 +108,9 @@ pub record Facts {W V C L A : Type 0} (m : Machine W V C L A) (k : LocalInvarian
   -- a weak exchange that refuses makes no plain step
   pub refuses : (p : ℕ) (c : C) (l : L) (h : Option Hold) (s : Plain) (v : Option V) (w : W) (span : List Mark) (next : Next L A) → InCall m k p c l h s v w span
       → m.refuse c l h ≡ Some next → NextIs m k Weak p c h s (mark_of p None manner.weak s ∷ span) next
+  -- values that closures make
+  pub phase : (s : Plain) (v : Option V) → k.Shape s v → HasPhase m.coding s.phase v
+  pub values : (p : ℕ) (c : C) (l : L) (h : Option Hold) (s : Plain) (v : Option V) (w : W) (span : List Mark) → InCall m k p c l h s v w span
+      → ValueIs m c v (m.step w v c l h) (m.change p w c l h)
+  pub refusal_gives : (p : ℕ) (c : C) (l : L) (h : Option Hold) (s : Plain) (v : Option V) (w : W) (span : List Mark) (next : Next L A) → InCall m k p c l h s v w span
+      → m.refuse c l h ≡ Some next → NextGives m v next

@@ -11,7 +11,9 @@ pub mod Owners
 pub mod Every
 pub mod Writers
 pub mod Guards
+pub mod Values
 pub mod Lawful
+pub mod Filled
 pub mod Schedules
 pub mod Playing
 pub mod Users

@@ -1,8 +1,8 @@
 -- An object that pays what its table owes shows all local facts.
 use Rattle.std.proofs.Common.{◌≡◌, ℕ, zero, suc, ◌+◌, ◌<◌, ◌≤◌, ◌==◌, Bool, true, false, not, is_some, Option, Some, None, List, [], ◌∷◌, ◌++◌, option_to_list, get_or, refl, ap, sym, ◌∙◌, subst, arith}
 use Rattle.std.proofs.lemmas.Bool.{and_parts, false≢true, true≢false, eqb-true}
-use Rattle.spin_step.specs.Plain.{Plain, is_empty, Change, completes, gets, releases, serves, stops_starving, turns, fails, arrives, is_open}
-use Rattle.spin_step.specs.Parties.{apply_some, IsOpenStep, entries}
+use Rattle.spin_step.specs.Plain.{Plain, Phase, is_empty, Change, completes, gets, releases, serves, stops_starving, turns, fails, arrives, is_open}
+use Rattle.spin_step.specs.Parties.{apply_some, IsOpenStep, entries, IsExclusive}
 use Rattle.spin_step.specs.Steps.{bit}
 use Rattle.spin_world_core.specs.declared.place.Hold.{Hold}
 use Rattle.spin_world_core.specs.declared.object.Next.{Next}
@@ -12,25 +12,38 @@ use Rattle.spin_world_core.specs.declared.schedule.Outcome.TheVariants as outcom
 use Rattle.spin_world_core.specs.declared.schedule.Move.{Move}
 use Rattle.spin_world_core.specs.declared.schedule.Move.TheVariants.{Step, Weak}
 use Rattle.spin_world_core.specs.Manners.{Manner, plain, again, look, weak, is_again, by_step}
-use Rattle.spin_world_core.specs.Calls.{Coding, Asked, waits, waits_or_starves, initializes, fails_to_initialize, waits_for_value, polls, meets, encoded, is_step_of, BelongsTo, Said, own_steps, AnyOf, Mark, first_word, limit}
+use Rattle.spin_world_core.specs.Calls.{Coding, Asked, waits, waits_or_starves, initializes, fails_to_initialize, waits_for_value, polls, meets, encoded, is_step_of, BelongsTo, Said, own_steps, AnyOf, Mark, first_word, Limit, registers_after, limit, once}
 use Rattle.spin_world_core.specs.Undisturbed.{arrived, is_open_next, is_open_now}
 use Rattle.spin_world_core.specs.Runs.{mark_of, if_completed, entries_held, own, failures, changes, IsBeginning, RightAnswer, GoesOnWithin}
-use Rattle.spin_world_core.specs.Acts.{Act, load, load_if, load_for, enter, exchange, weak_exchange, attempt, retry, store, either, stays, passing, becomes, retried, step_by, made_if, made_where, change_by, can_by, refusal_by, is_waiting, look_manner, manner_by, Table, machine_of}
-use Rattle.spin_world_core.proofs.Facts.{AnswersWithin, InCall, NextIs, StepIs, Facts}
+use Rattle.spin_world_core.specs.Acts.{Act, load, load_if, load_for, enter, exchange, weak_exchange, attempt, retry, store, store_if, is_completion, either, stays, passing, becomes, retried, step_by, made_if, made_where, change_by, can_by, refusal_by, is_waiting, look_manner, manner_by, Table, machine_of}
+use Rattle.spin_world_core.specs.Schedules.{placed}
+use Rattle.spin_world_core.specs.Values.{makes_value, HasPhase, Gives}
+use Rattle.spin_world_core.proofs.Facts.{AnswersWithin, InCall, NextIs, NextGives, StepIs, Facts}
 use Rattle.spin_world_core.proofs.Spans.{own-mine, retries-mine}
 use Rattle.spin_world_core.proofs.Stands.{entries_at, stand_of, held_at, stand-mine}
-use Rattle.spin_world_core.proofs.Rows.{Opened, OwesRight, Turn, goes, loses, misses, Turned, spent-mine, goes_within, ends_within, any_map, moment_of, weak_moment_of, Row, IsSound, sound_at, Expects, expects-mine, none_spent, none_expected, Known, known-other}
-use Rattle.spin_world_core.proofs.Shapes.{Notes, row_of, KnowsRow, keeping_of, At, Means, FollowsRow, Follows, Owes, OwesAt, goes_by, answers_by, OwesSoon, BeginsRow, BeginsAt, is_completion, is_own, makes_own, Pays}
+use Rattle.spin_world_core.proofs.Rows.{Opened, OwesRight, Turn, goes, loses, misses, Turned, spent-mine, goes_within, ends_within, ends_owed, any_map, moment_of, weak_moment_of, Row, IsSound, sound_at, Expects, expects-mine, none_spent, none_expected, known-other, SoundAt}
+use Rattle.spin_world_core.proofs.Shapes.{Notes, row_of, KnowsRow, keeping_of, At, Means, FindsAnother, FollowsRow, Follows, Owes, OwesAt, goes_by, answers_by, OwesSoon, BeginsRow, BeginsAt, is_own, makes_own, Pays, AtRow}
 
-not_placed : {V : Type 0} (old : Option V) (coding : Coding) (c : Change) → is_own coding c ≡ true → old ≡ if_completed old None (Some c)
-not_placed old coding (gets p ask) e = refl
-not_placed old coding (releases p k) e = refl
-not_placed old coding (serves p) e = refl
-not_placed old coding (stops_starving p) e = refl
-not_placed old coding (turns p k l) e = refl
-not_placed old coding (completes p) e = absurd (true≢false (sym (and_parts (is_step_of coding (completes p)) false e).1))
-not_placed old coding (fails p) e = refl
-not_placed old coding (arrives p) e = refl
+-- a step that completes no closure leaves the value last written
+pub uncompleted : {V : Type 0} (old put : Option V) (step : Option Change) → ((q : ℕ) → step ≡ Some (completes q) → ⊥) → old ≡ if_completed old put step
+uncompleted old put None none = refl
+uncompleted old put (Some (gets p ask)) none = refl
+uncompleted old put (Some (releases p k)) none = refl
+uncompleted old put (Some (serves p)) none = refl
+uncompleted old put (Some (stops_starving p)) none = refl
+uncompleted old put (Some (turns p k l)) none = refl
+uncompleted old put (Some (completes p)) none = absurd (none p refl)
+uncompleted old put (Some (fails p)) none = refl
+uncompleted old put (Some (arrives p)) none = refl
+
+-- an object whose closures make no value says nothing of values
+phase_none : {V : Type 0} (coding : Coding) (phase : Phase) (value : Option V) → makes_value coding ≡ false → HasPhase coding phase value
+phase_none once phase value none = absurd (true≢false none)
+phase_none _ phase value none = tt
+
+gives_none : {V : Type 0} (coding : Coding) (said : Said) (given value : Option V) → makes_value coding ≡ false → Gives coding said given value
+gives_none once said given value none = absurd (true≢false none)
+gives_none _ said given value none = tt
 
 completes_not : {W : Type 0} (coding : Coding) (b : Bool) (o : Option W) (d : Change) (q : ℕ) → is_own coding d ≡ true → made_where b o d ≡ Some (completes q) → ⊥
 completes_not coding true (Some to) d q own e =
@@ -50,17 +63,55 @@ no_completion coding number (weak_exchange f step won lost) p w q own e = comple
 no_completion coding number (attempt f step won lost) p w q own e = completes_not coding true (f w) (step p) q own e
 no_completion coding number (retry k f step won found missed) p w q own e = completes_not coding (number w == k) (f w) (step p) q own e
 no_completion coding number (store can f step next) p w q own e = completes_not coding true (Some w) (step p) q own e
+no_completion coding number (store_if can f step test a b) p w q own e = completes_not coding true (Some w) (step p) q own e
+
+-- a step of a lock's own is one of its kind
+abbrev pub MakesStep : {W L A : Type 0} → Coding → Act W L A → ℕ → Type 0
+MakesStep coding (enter test step won lost) p = is_step_of coding (step p) ≡ true
+MakesStep coding (exchange f step won lost) p = is_step_of coding (step p) ≡ true
+MakesStep coding (weak_exchange f step won lost) p = is_step_of coding (step p) ≡ true
+MakesStep coding (attempt f step won lost) p = is_step_of coding (step p) ≡ true
+MakesStep coding (retry k f step won found missed) p = is_step_of coding (step p) ≡ true
+MakesStep coding (store can f step next) p = is_step_of coding (step p) ≡ true
+MakesStep coding (store_if can f step test a b) p = is_step_of coding (step p) ≡ true
+MakesStep coding _ p = Unit {0}
+
+makes_step : {W L A : Type 0} (coding : Coding) (act : Act W L A) (p : ℕ) → makes_own coding act p ≡ true → MakesStep coding act p
+makes_step coding (load next) p own = tt
+makes_step coding (load_if test a b) p own = tt
+makes_step coding (load_for f step found missed) p own = tt
+makes_step coding (enter test step won lost) p own = (and_parts (is_step_of coding (step p)) (not (is_completion (step p))) own).0
+makes_step coding (exchange f step won lost) p own = (and_parts (is_step_of coding (step p)) (not (is_completion (step p))) own).0
+makes_step coding (weak_exchange f step won lost) p own = (and_parts (is_step_of coding (step p)) (not (is_completion (step p))) own).0
+makes_step coding (attempt f step won lost) p own = (and_parts (is_step_of coding (step p)) (not (is_completion (step p))) own).0
+makes_step coding (retry k f step won found missed) p own = (and_parts (is_step_of coding (step p)) (not (is_completion (step p))) own).0
+makes_step coding (store can f step next) p own = (and_parts (is_step_of coding (step p)) (not (is_completion (step p))) own).0
+makes_step coding (store_if can f step test a b) p own = (and_parts (is_step_of coding (step p)) (not (is_completion (step p))) own).0
+
+-- what a step of such a shape comes to; it places no value by itself
+pub record Went {W V C L A : Type 0} (t : Table W V C L A) (n : Notes t) (p : ℕ) (c : C) (h : Option Hold) (s : Plain) (v : Option V) (span : List Mark) (st : Stepped W V L A) (step : Option Change) (r : Manner) : Type 0 where
+  pub opens : IsOpenStep s p step
+  pub belongs : BelongsTo t.coding step
+  pub encodes : t.number st.words ∷ t.others st.words ≡ encoded t.coding (apply_some s step)
+  pub shape : n.Shape (apply_some s step) v
+  pub unplaced : st.placed ≡ None
+  pub next : NextIs (machine_of t) (keeping_of t n) Step p c h (apply_some s step) (mark_of p step r s ∷ span) st.next
+  pub fails : is_again r ≡ true → step ≡ None → failures p span < changes t.coding p span
 
 -- only a call that waits has what it asks open in its present state
 waits_where : (what : Asked) (first : Bool) (k p : ℕ) (s : Plain) → is_open_next what first k p s ≡ true → is_waiting what ≡ true
 waits_where (waits ask) first k p s may = refl
-waits_where waits_or_starves first k p s may = refl
+waits_where (waits_or_starves n) first k p s may = refl
 waits_where initializes first k p s may = refl
 waits_where fails_to_initialize first k p s may = refl
 waits_where waits_for_value first k p s may = refl
 waits_where polls first k p s may = refl
 waits_where meets first k p s may = refl
 waits_where _ first k p s may = absurd (false≢true may)
+
+finds_another : (what : Limit) (some : Bool) → some ≡ true → FindsAnother what false some
+finds_another (registers_after n i) some is = (refl, is)
+finds_another _ some is = is
 
 -- a look is no exchange that is made again
 no_retry : (b : Bool) → is_again (by_step (either b look plain)) ≡ false
@@ -71,7 +122,7 @@ abbrev move_of : {C V : Type 0} → Bool → Move C V
 move_of true = Weak
 move_of false = Step
 
-module _ {W V C L A : Type 0} (t : Table W V C L A) (n : Notes t) (pays : Pays t n) where
+module _ {W V C L A : Type 0} (t : Table W V C L A) (n : Notes t) (sound_all : (p : ℕ) (c : C) (l : L) (h : Option Hold) → SoundAt t.coding (t.asks c h) p (n.point c l h)) where
   first_is : (w : W) (s : Plain) → t.number w ∷ t.others w ≡ encoded t.coding s → t.number w ≡ first_word t.coding s
   first_is w s encodes = ap (λ numbers. get_or numbers 0 0) encodes
 
@@ -80,7 +131,7 @@ module _ {W V C L A : Type 0} (t : Table W V C L A) (n : Notes t) (pays : Pays t
   right_by true p c h a span opened is owed = weak_moment_of (t.asks c h) (t.says a) p span opened is owed
   right_by false p c h a span opened is owed = moment_of (t.asks c h) (t.says a) p span opened is owed
 
-  answers_within : (k : ℕ) (w : W) (c : C) (l : L) (h : Option Hold) → answers_by t k w c l h ≡ true → AnswersWithin (machine_of t) k w c l h
+  pub answers_within : (k : ℕ) (w : W) (c : C) (l : L) (h : Option Hold) → answers_by t k w c l h ≡ true → AnswersWithin (machine_of t) k w c l h
   answers_within zero w c l h soon = absurd (false≢true soon)
   answers_within (suc k) w c l h soon = λ v m is.
       let st = step_by {V = V} t.number (t.act c l h) w in
@@ -100,7 +151,7 @@ module _ {W V C L A : Type 0} (t : Table W V C L A) (n : Notes t) (pays : Pays t
     goes_to step r turn m (Some to) may turned lost sound follows =
         let retries = retries-mine t.coding p step r s span at.retries lost in
         let made = made_now step r (to.made p) follows.1 in
-        let spent = spent-mine p s step r span (limit t.coding (t.asks c h)) turn (to.made p) row.spent to.spent turned made follows.2 at.known.spent in (
+        let spent = spent-mine p s step r span (limit t.coding (t.asks c h)) t.coding turn (to.made p) row.spent to.spent turned made follows.2 at.known.spent in (
           (
             record {
               stand = stand-mine s p step row.stand to.stand may at.known.stand follows.0;
@@ -112,13 +163,13 @@ module _ {W V C L A : Type 0} (t : Table W V C L A) (n : Notes t) (pays : Pays t
             follows.4,
           ),
           (to.said, any_map (λ steps. to.made p ++ to.rest p ≡ steps) (λ steps. IsBeginning (own p (mark_of p step r s ∷ span)) steps) (own_steps (t.asks c h) to.said p) (λ steps e. (to.rest p, ap (λ cs. cs ++ to.rest p) made ∙ e)) sound.1),
-          goes_within (limit t.coding (t.asks c h)) t.coding (to.made p) to.spent p (mark_of p step r s ∷ span) made sound.0 retries spent,
+          goes_within (limit t.coding (t.asks c h)) t.coding turn (to.made p) row.spent to.spent p (mark_of p step r s ∷ span) made sound.0 retries follows.2 spent,
         )
 
     followed : (weakly : Bool) (step : Option Change) (r : Manner) (turn : Turn) (next : Next L A) → IsOpenStep s p step → Turned turn s step r → (is_again r ≡ true → step ≡ None → failures p span < changes t.coding p span)
         → Follows t n p c h s w span row weakly step r turn next → NextIs (machine_of t) (keeping_of t n) (move_of weakly) p c h (apply_some s step) (mark_of p step r s ∷ span) next
     followed weakly step r turn (GoesOn m) may turned lost follows =
-        let there = goes_to step r turn m (row_of t n c m h) may turned lost (sound_at t.coding (t.asks c h) h p (n.point c m h) (pays.sound p c m h)) follows in
+        let there = goes_to step r turn m (row_of t n c m h) may turned lost (sound_at t.coding (t.asks c h) h p (n.point c m h) (sound_all p c m h)) follows in
         record { knows = there.0; own_so_far = there.1; in_time = there.2 }
     followed weakly step r turn (Answers a after) may turned lost follows =
         let made = any_map (λ steps. row.made p ++ option_to_list step ≡ steps) (λ steps. own p (mark_of p step r s ∷ span) ≡ steps) (own_steps (t.asks c h) (t.says a) p) (λ steps e. made_now step r steps e) follows.1 in
@@ -126,11 +177,11 @@ module _ {W V C L A : Type 0} (t : Table W V C L A) (n : Notes t) (pays : Pays t
           stands = stand-mine s p step row.stand (stand_of after) may at.known.stand follows.0 ∙ sym (held_at p after);
           own_steps_are = made;
           right = right_by weakly p c h a (mark_of p step r s ∷ span) (may, at.known.opened) made follows.2;
-          in_time = ends_within (limit t.coding (t.asks c h)) t.coding (row.made p) row.spent p s step r span sound.0 at.retries at.known.spent;
+          in_time = ends_within (limit t.coding (t.asks c h)) t.coding (row.made p) row.spent p s step r span sound.0 at.retries at.known.spent (ends_owed t.coding weakly (t.asks c h) (t.says a) p (mark_of p step r s ∷ span) made follows.2);
         }
 
     abbrev Is : Stepped W V L A → Option Change → Manner → Type 0
-    Is st step r = StepIs (machine_of t) (keeping_of t n) p c h s v span st step r
+    Is st step r = Went t n p c h s v span st step r
 
     -- the words stay
     stay_is : (r : Manner) (turn : Turn) (next : Next L A) → Turned turn s None r → (is_again r ≡ true → failures p span < changes t.coding p span) → Follows t n p c h s w span row false None r turn next → Is (stays w next) None r
@@ -140,56 +191,62 @@ module _ {W V C L A : Type 0} (t : Table W V C L A) (n : Notes t) (pays : Pays t
           belongs = tt;
           encodes = at.encodes;
           shape = at.shape;
-          places = refl;
+          unplaced = refl;
           next = followed false None r turn next tt turned (λ e none. lost e) follows;
           fails = λ e none. lost e;
         }
 
     unretried : {b : Bool} {X : Type 0} → b ≡ false → b ≡ true → X
-    unretried once made = absurd (false≢true (sym once ∙ made))
+    unretried single made = absurd (false≢true (sym single ∙ made))
 
     -- new words, and a plain step
-    made_is : (r : Manner) (to : W) (d : Change) (next : Next L A) → is_own t.coding d ≡ true → Means t n p s v d (Some to) → Follows t n p c h s w span row false (Some d) r goes next → Is (stays to next) (Some d) r
+    made_is : (r : Manner) (to : W) (d : Change) (next : Next L A) → is_step_of t.coding d ≡ true → Means t n p s v d (Some to) → Follows t n p c h s w span row false (Some d) r goes next → Is (stays to next) (Some d) r
     made_is r to d next own means follows =
         record {
           opens = means.0;
-          belongs = (and_parts (is_step_of t.coding d) (not (is_completion d)) own).0;
+          belongs = own;
           encodes = means.1;
           shape = means.2;
-          places = not_placed v t.coding d own;
+          unplaced = refl;
           next = followed false (Some d) r goes next means.0 tt (λ e none. absurd (cc (none))) follows;
           fails = λ e none. absurd (cc (none));
         }
 
     tested : (r : Manner) (b : Bool) (x y : Next L A) → is_again r ≡ false → (b ≡ true → Follows t n p c h s w span row false None r goes x) → (b ≡ false → Follows t n p c h s w span row false None r goes y) → Is (stays w (either b x y)) None r
-    tested r true x y once f g = stay_is r goes x tt (unretried once) (f refl)
-    tested r false x y once f g = stay_is r goes y tt (unretried once) (g refl)
+    tested r true x y single f g = stay_is r goes x tt (unretried single) (f refl)
+    tested r false x y single f g = stay_is r goes y tt (unretried single) (g refl)
 
     looked : (r : Manner) (turn : Turn) (o : Option W) (d : Change) (found missed : Next L A) → Turned turn s None r → (is_again r ≡ true → failures p span < changes t.coding p span) → Means t n p s v d o
         → (is_some o ≡ true → Follows t n p c h s w span row false None r turn found) → (is_open s d ≡ false → Follows t n p c h s w span row false None r (misses d) missed) → Is (stays w (either (is_some o) found missed)) None r
     looked r turn None d found missed turned lost means f g = stay_is r (misses d) missed means lost (g means)
     looked r turn (Some to) d found missed turned lost means f g = stay_is r turn found turned lost (f refl)
 
-    exchanged : (r : Manner) (o : Option W) (d : Change) (won lost : Next L A) → is_again r ≡ false → is_own t.coding d ≡ true → Means t n p s v d o
+    exchanged : (r : Manner) (o : Option W) (d : Change) (won lost : Next L A) → is_again r ≡ false → is_step_of t.coding d ≡ true → Means t n p s v d o
         → Follows t n p c h s w span row false (Some d) r goes won → (is_open s d ≡ false → Follows t n p c h s w span row false None r (misses d) lost) → Is (becomes w o won lost) (made_if o d) r
-    exchanged r None d won lost once own means f g = stay_is r (misses d) lost means (unretried once) (g means)
-    exchanged r (Some to) d won lost once own means f g = made_is r to d won own means f
+    exchanged r None d won lost single own means f g = stay_is r (misses d) lost means (unretried single) (g means)
+    exchanged r (Some to) d won lost single own means f g = made_is r to d won own means f
 
-    attempted : (o : Option W) (d : Change) (won lost : Next L A) → is_own t.coding d ≡ true
+    attempted : (o : Option W) (d : Change) (won lost : Next L A) → is_step_of t.coding d ≡ true
         → ((to : W) → o ≡ Some to → Means t n p s v d (Some to) × Follows t n p c h s w span row false (Some d) plain goes won) → (o ≡ None → Follows t n p c h s w span row false None plain goes lost) → Is (becomes w o won lost) (made_if o d) plain
     attempted None d won lost own f g = stay_is plain goes lost tt (unretried refl) (g refl)
     attempted (Some to) d won lost own f g = let both = f to refl in made_is plain to d won own both.0 both.1
 
     -- the number is as it was found, or another party has changed it since
-    made_again : (b : Bool) (k : ℕ) (o : Option W) (d : Change) (won found missed : Next L A) → is_own t.coding d ≡ true → (t.number w == k) ≡ b → (t.number w ≡ k → is_some o ≡ true) → failures p span + bit (not b) ≤ changes t.coding p span
+    made_again : (b : Bool) (k : ℕ) (o : Option W) (d : Change) (won found missed : Next L A) → is_step_of t.coding d ≡ true → (t.number w == k) ≡ b → (t.number w ≡ k → is_some o ≡ true) → failures p span + bit (not b) ≤ changes t.coding p span
         → Means t n p s v d o → (t.number w ≡ k → Follows t n p c h s w span row false (Some d) again goes won)
-        → (is_some o ≡ true → Follows t n p c h s w span row false None again loses found) → (is_open s d ≡ false → Follows t n p c h s w span row false None again (misses d) missed)
+        → (FindsAnother (limit t.coding (t.asks c h)) b (is_some o) → Follows t n p c h s w span row false None again loses found) → (is_open s d ≡ false → Follows t n p c h s w span row false None again (misses d) missed)
         → Is (retried b w o won found missed) (made_where b o d) again
     made_again true k None d won found missed own is some le means f g m = absurd (false≢true (some (eqb-true (t.number w) k is)))
     made_again true k (Some to) d won found missed own is some le means f g m = made_is again to d won own means (f (eqb-true (t.number w) k is))
-    made_again false k o d won found missed own is some le means f g m = looked again loses o d found missed (refl, refl) (λ e. omega (arith, le)) means g m
+    made_again false k o d won found missed own is some le means f g m = looked again loses o d found missed (refl, refl) (λ e. omega (arith, le)) means (λ some. g (finds_another (limit t.coding (t.asks c h)) (is_some o) some)) m
 
-    step_is : (act : Act W L A) → makes_own t.coding act p ≡ true → Expects t act p s span → Owes t n p c h s w span row v act → Is (step_by t.number act w) (change_by t.number act p w) (by_step (manner_by (t.asks c h) act))
+    -- it goes on by a test of the words that it replaces
+    branched : (r : Manner) (to : W) (d : Change) (b : Bool) (x y : Next L A) → is_step_of t.coding d ≡ true → Means t n p s v d (Some to)
+        → (b ≡ true → Follows t n p c h s w span row false (Some d) r goes x) → (b ≡ false → Follows t n p c h s w span row false (Some d) r goes y) → Is (stays to (either b x y)) (Some d) r
+    branched r to d true x y own means f g = made_is r to d x own means (f refl)
+    branched r to d false x y own means f g = made_is r to d y own means (g refl)
+
+    pub step_is : (act : Act W L A) → MakesStep t.coding act p → Expects t act p s span → Owes t n p c h s w span row v act → Is (step_by t.number act w) (change_by t.number act p w) (by_step (manner_by (t.asks c h) act))
     step_is (load next) own expects owes = stay_is plain goes (next w) tt (unretried refl) owes
     step_is (load_if test a b) own expects owes = tested (by_step (look_manner (t.asks c h))) (test w) (a w) (b w) (no_retry (is_waiting (t.asks c h))) owes.0 owes.1
     step_is (load_for f step found missed) own expects owes = looked plain goes (f w) (step p) (found w) missed tt (unretried refl) owes.0 owes.1 owes.2
@@ -201,9 +258,11 @@ module _ {W V C L A : Type 0} (t : Table W V C L A) (n : Notes t) (pays : Pays t
     step_is (retry k f step won found missed) own expects owes =
         made_again (t.number w == k) k (f w) (step p) won (found w) missed own refl (expects.1 w) (subst (λ x. failures p span + bit (not (x == k)) ≤ changes t.coding p span) (sym (first_is w s at.encodes)) expects.0) owes.0 owes.1 owes.2 owes.3
     step_is (store can f step next) own expects owes = made_is plain (f w) (step p) next own owes.1 owes.2
+    step_is (store_if can f step test a b) own expects owes = branched plain (f w) (step p) (test w) a (b w) own owes.1 owes.2 owes.3
 
-    can_is : (act : Act W L A) → Owes t n p c h s w span row v act → can_by act w ≡ true
+    pub can_is : (act : Act W L A) → Owes t n p c h s w span row v act → can_by act w ≡ true
     can_is (store can f step next) owes = owes.0
+    can_is (store_if can f step test a b) owes = owes.0
     can_is (load next) owes = refl
     can_is (load_if test a b) owes = refl
     can_is (load_for f step found missed) owes = refl
@@ -225,41 +284,41 @@ module _ {W V C L A : Type 0} (t : Table W V C L A) (n : Notes t) (pays : Pays t
     refusal_is (attempt f step won lost) next owes is = absurd (cc (is))
     refusal_is (retry k f step won found missed) next owes is = absurd (cc (is))
     refusal_is (store can f step next) other owes is = absurd (cc (is))
+    refusal_is (store_if can f step test a b) other owes is = absurd (cc (is))
 
   -- at a point that has a row
-  module _ (p : ℕ) (c : C) (l : L) (h : Option Hold) (s : Plain) (v : Option V) (w : W) (span : List Mark) (here : InCall (machine_of t) (keeping_of t n) p c l h s v w span) where
-    at_row : (row : Row) → Known t (t.asks c h) (t.act c l h) row p s span × n.Knows c l h p s span → At t n p c l h s v w span row
-    at_row row knows = record { encodes = here.encodes; shape = here.shape; exclusive = here.exclusive; known = knows.0; knows = knows.1; retries = here.retries }
+  module _ (p : ℕ) (c : C) (l : L) (h : Option Hold) (s : Plain) (v : Option V) (w : W) (span : List Mark) where
+    pub here_at : (o : Option Row) → t.number w ∷ t.others w ≡ encoded t.coding s → n.Shape s v → IsExclusive s → failures p span ≤ changes t.coding p span → KnowsRow t n c l h p s span o → AtRow t n p c l h s v w span o
+    here_at None encodes shape exclusive retries knows = knows
+    here_at (Some row) encodes shape exclusive retries knows = record { encodes = encodes; shape = shape; exclusive = exclusive; known = knows.0; knows = knows.1; retries = retries }
 
-    steps_at : (o : Option Row) → IsSound t.coding (t.asks c h) p o → KnowsRow t n c l h p s span o → OwesAt t n p c l h s v w span o
-        → StepIs (machine_of t) (keeping_of t n) p c h s v span (step_by t.number (t.act c l h) w) (change_by t.number (t.act c l h) p w) (by_step (manner_by (t.asks c h) (t.act c l h)))
-    steps_at None sound knows owes = absurd knows
-    steps_at (Some row) sound knows owes =
-        let at = at_row row knows in
-        step_is p c l h s v w span row at sound (t.act c l h) (pays.makes p c l h) knows.0.expects (owes at)
+    pub steps_at : (o : Option Row) → IsSound t.coding (t.asks c h) p o → MakesStep t.coding (t.act c l h) p → AtRow t n p c l h s v w span o → OwesAt t n p c l h s v w span o
+        → Went t n p c h s v span (step_by t.number (t.act c l h) w) (change_by t.number (t.act c l h) p w) (by_step (manner_by (t.asks c h) (t.act c l h)))
+    steps_at None sound makes at owes = absurd at
+    steps_at (Some row) sound makes at owes = step_is p c l h s v w span row at sound (t.act c l h) makes at.known.expects (owes at)
 
-    can_at : (o : Option Row) → IsSound t.coding (t.asks c h) p o → KnowsRow t n c l h p s span o → OwesAt t n p c l h s v w span o → can_by (t.act c l h) w ≡ true
-    can_at None sound knows owes = absurd knows
-    can_at (Some row) sound knows owes = let at = at_row row knows in can_is p c l h s v w span row at sound (t.act c l h) (owes at)
+    pub can_at : (o : Option Row) → IsSound t.coding (t.asks c h) p o → AtRow t n p c l h s v w span o → OwesAt t n p c l h s v w span o → can_by (t.act c l h) w ≡ true
+    can_at None sound at owes = absurd at
+    can_at (Some row) sound at owes = can_is p c l h s v w span row at sound (t.act c l h) (owes at)
 
-    refuses_at : (o : Option Row) (next : Next L A) → IsSound t.coding (t.asks c h) p o → KnowsRow t n c l h p s span o → OwesAt t n p c l h s v w span o → refusal_by (t.act c l h) ≡ Some next
+    refuses_at : (o : Option Row) (next : Next L A) → IsSound t.coding (t.asks c h) p o → AtRow t n p c l h s v w span o → OwesAt t n p c l h s v w span o → refusal_by (t.act c l h) ≡ Some next
         → NextIs (machine_of t) (keeping_of t n) Weak p c h s (mark_of p None weak s ∷ span) next
-    refuses_at None next sound knows owes is = absurd knows
-    refuses_at (Some row) next sound knows owes is = let at = at_row row knows in refusal_is p c l h s v w span row at sound (t.act c l h) next (owes at) is
+    refuses_at None next sound at owes is = absurd at
+    refuses_at (Some row) next sound at owes is = refusal_is p c l h s v w span row at sound (t.act c l h) next (owes at) is
 
-    undisturbed_at : (o : Option Row) → KnowsRow t n c l h p s span o → OwesSoon t n p c l h s v w span (is_waiting (t.asks c h)) o → is_open_now p (t.asks c h) span s ≡ true → AnswersWithin (machine_of t) 4 w c l h
-    undisturbed_at None knows soon may = absurd knows
-    undisturbed_at (Some row) knows soon may =
+    pub soon_at : (o : Option Row) → AtRow t n p c l h s v w span o → OwesSoon t n p c l h s v w span (is_waiting (t.asks c h)) o → is_open_now p (t.asks c h) span s ≡ true → answers_by t 4 w c l h ≡ true
+    soon_at None at soon may = absurd at
+    soon_at (Some row) at soon may =
         let waits = waits_where (t.asks c h) (is_empty (own p span)) (arrived p span) p s may in
         let owed = subst (λ b. OwesSoon t n p c l h s v w span b (Some row)) waits soon in
-        answers_within 4 w c l h (owed (at_row row knows) (subst (λ (cs : List Change). is_open_next (t.asks c h) (is_empty cs) (arrived p span) p s ≡ true) knows.0.made may))
+        owed at (subst (λ (cs : List Change). is_open_next (t.asks c h) (is_empty cs) (arrived p span) p s ≡ true) at.known.made may)
 
-  others_at : (p q : ℕ) (c : C) (l : L) (h : Option Hold) (s : Plain) (v : Option V) (step : Option Change) (r : Manner) (span : List Mark) (o : Option Row) → (q ≡ p → ⊥) → n.Shape s v → IsOpenStep s q step → BelongsTo t.coding step
-      → KnowsRow t n c l h p s span o → KnowsRow t n c l h p (apply_some s step) (mark_of q step r s ∷ span) o
-  others_at p q c l h s v step r span None ne shape may belongs knows = absurd knows
-  others_at p q c l h s v step r span (Some row) ne shape may belongs knows = (known-other t (t.asks c h) (t.act c l h) row p q s step r span ne may knows.0, pays.others p q c l h s v step r span ne shape may belongs knows.1)
+  pub others_at : (p q : ℕ) (c : C) (l : L) (h : Option Hold) (s : Plain) (step : Option Change) (r : Manner) (span : List Mark) (o : Option Row) → (q ≡ p → ⊥) → IsOpenStep s q step
+      → (n.Knows c l h p s span → n.Knows c l h p (apply_some s step) (mark_of q step r s ∷ span)) → KnowsRow t n c l h p s span o → KnowsRow t n c l h p (apply_some s step) (mark_of q step r s ∷ span) o
+  others_at p q c l h s step r span None ne may stays knows = absurd knows
+  others_at p q c l h s step r span (Some row) ne may stays knows = (known-other t (t.asks c h) (t.act c l h) row p q s step r span ne may knows.0, stays knows.1)
 
-  begins_at : (p : ℕ) (c : C) (l : L) (h : Option Hold) (s : Plain) (o : Option Row) → entries p s ≡ entries_held p h → BeginsRow t n c l h p s o → KnowsRow t n c l h p s [] o
+  pub begins_at : (p : ℕ) (c : C) (l : L) (h : Option Hold) (s : Plain) (o : Option Row) → entries p s ≡ entries_held p h → BeginsRow t n c l h p s o → KnowsRow t n c l h p s [] o
   begins_at p c l h s None mine begins = absurd begins
   begins_at p c l h s (Some row) mine begins = (
     record {
@@ -272,6 +331,31 @@ module _ {W V C L A : Type 0} (t : Table W V C L A) (n : Notes t) (pays : Pays t
     begins.3,
   )
 
+module _ {W V C L A : Type 0} (t : Table W V C L A) (n : Notes t) (pays : Pays t n) where
+  sound_of : (p : ℕ) (c : C) (l : L) (h : Option Hold) → IsSound t.coding (t.asks c h) p (row_of t n c l h)
+  sound_of p c l h = sound_at t.coding (t.asks c h) h p (n.point c l h) (pays.sound p c l h)
+
+  step_of : (p : ℕ) (c : C) (l : L) (h : Option Hold) (s : Plain) (v : Option V) (w : W) (span : List Mark) (st : Stepped W V L A) (step : Option Change) (r : Manner) → ((q : ℕ) → step ≡ Some (completes q) → ⊥)
+      → Went t n p c h s v span st step r → StepIs (machine_of t) (keeping_of t n) p c h s v span st step r
+  step_of p c l h s v w span st step r none went =
+      record {
+        opens = went.opens;
+        belongs = went.belongs;
+        encodes = went.encodes;
+        shape = subst (λ o. n.Shape (apply_some s step) (placed o v)) (sym went.unplaced) went.shape;
+        places = ap (λ o. placed o v) went.unplaced ∙ uncompleted v st.placed step none;
+        next = went.next;
+        fails = went.fails;
+      }
+
+  silent : (v : Option V) (next : Next L A) → NextGives (machine_of t) v next
+  silent v (GoesOn l) = tt
+  silent v (Answers a after) = gives_none t.coding (t.says a) None v pays.no_value
+
+  module _ (p : ℕ) (c : C) (l : L) (h : Option Hold) (s : Plain) (v : Option V) (w : W) (span : List Mark) (here : InCall (machine_of t) (keeping_of t n) p c l h s v w span) where
+    at_here : AtRow t n p c l h s v w span (row_of t n c l h)
+    at_here = here_at t n pays.sound p c l h s v w span (row_of t n c l h) here.encodes here.shape here.exclusive here.retries here.knows
+
   pub facts_of : Facts (machine_of t) (keeping_of t n)
   facts_of =
       record {
@@ -281,11 +365,19 @@ module _ {W V C L A : Type 0} (t : Table W V C L A) (n : Notes t) (pays : Pays t
         one_list = pays.one_list;
         shape_written = pays.shape_written;
         shape_set = pays.shape_set;
-        begins = λ p c l h s e mine. begins_at p c l h s (row_of t n c l h) mine (subst (BeginsAt t n c h p s) e (pays.begins p c h s));
-        others = λ p q c l h s v step r span ne shape exclusive may belongs knows. others_at p q c l h s v step r span (row_of t n c l h) ne shape may belongs knows;
-        can = λ p c l h s v w span here. can_at p c l h s v w span here (row_of t n c l h) (sound_at t.coding (t.asks c h) h p (n.point c l h) (pays.sound p c l h)) here.knows (pays.owes p c l h s v w span);
-        steps = λ p c l h s v w span here. steps_at p c l h s v w span here (row_of t n c l h) (sound_at t.coding (t.asks c h) h p (n.point c l h) (pays.sound p c l h)) here.knows (pays.owes p c l h s v w span);
+        begins = λ p c l h s e mine. begins_at t n pays.sound p c l h s (row_of t n c l h) mine (subst (BeginsAt t n c h p s) e (pays.begins p c h s));
+        others = λ p q c l h s v step r span ne shape exclusive may belongs knows. others_at t n pays.sound p q c l h s step r span (row_of t n c l h) ne may (pays.others p q c l h s v step r span ne shape may belongs) knows;
+        can = λ p c l h s v w span here. can_at t n pays.sound p c l h s v w span (row_of t n c l h) (sound_of p c l h) (at_here p c l h s v w span here) (pays.owes p c l h s v w span);
+        steps = λ p c l h s v w span here.
+            step_of p c l h s v w span (step_by t.number (t.act c l h) w) (change_by t.number (t.act c l h) p w) (by_step (manner_by (t.asks c h) (t.act c l h))) (λ q is. no_completion t.coding t.number (t.act c l h) p w q (pays.makes p c l h) is)
+            (steps_at t n pays.sound p c l h s v w span (row_of t n c l h) (sound_of p c l h) (makes_step t.coding (t.act c l h) p (pays.makes p c l h)) (at_here p c l h s v w span here) (pays.owes p c l h s v w span));
         completes_alone = λ p c l h s v w span here q is. absurd (no_completion t.coding t.number (t.act c l h) p w q (pays.makes p c l h) is);
-        undisturbed = λ p c l h s v w span here may. undisturbed_at p c l h s v w span here (row_of t n c l h) here.knows (pays.soon p c l h s v w span) may;
-        refuses = λ p c l h s v w span next here is. refuses_at p c l h s v w span here (row_of t n c l h) next (sound_at t.coding (t.asks c h) h p (n.point c l h) (pays.sound p c l h)) here.knows (pays.owes p c l h s v w span) is;
+        undisturbed = λ p c l h s v w span here may. answers_within t n pays.sound 4 w c l h (soon_at t n pays.sound p c l h s v w span (row_of t n c l h) (at_here p c l h s v w span here) (pays.soon p c l h s v w span) may);
+        refuses = λ p c l h s v w span next here is. refuses_at t n pays.sound p c l h s v w span (row_of t n c l h) next (sound_of p c l h) (at_here p c l h s v w span here) (pays.owes p c l h s v w span) is;
+        phase = λ s v shape. phase_none t.coding s.phase v pays.no_value;
+        values = λ p c l h s v w span here. record {
+          brings = λ q is. absurd (no_completion t.coding t.number (t.act c l h) p w q (pays.makes p c l h) is);
+          gives = silent _ (step_by t.number (t.act c l h) w).next;
+        };
+        refusal_gives = λ p c l h s v w span next here is. silent v next;
       }

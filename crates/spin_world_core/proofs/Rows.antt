@@ -8,8 +8,8 @@ use Rattle.spin_step.proofs.Entries.{entries-other}
 use Rattle.spin_world_core.specs.declared.place.Hold.{Hold}
 use Rattle.spin_world_core.specs.declared.place.Hold.TheVariants.{Upgradable, Write}
 use Rattle.spin_world_core.specs.Manners.{Manner, is_again}
-use Rattle.spin_world_core.specs.Calls.{Coding, ticket, Asked, waits, waits_or_starves, tries, tries_weakly, tries_to_know, looks, counts_readers, counts_writers, turns_to, gives_back, initializes, fails_to_initialize, waits_for_value, polls, looks_for_value, looks_complete, meets, Said, granted, refused, done, tells, counted, gives_value, failed, leads, grant, let_go_of, own_steps, Mark, AnyOf, Grants, HasMoment, HasWeakMoment, FindsClosed, first_word, Limit, unlimited, within, within_changes, gets_within, changes_within, limit}
-use Rattle.spin_world_core.specs.Runs.{mark_of, own, own_count, failures, changes, EndsWithin, GoesOnWithin}
+use Rattle.spin_world_core.specs.Calls.{Coding, ticket, Asked, waits, waits_or_starves, tries, tries_weakly, tries_to_know, looks, counts_readers, counts_writers, turns_to, gives_back, initializes, fails_to_initialize, waits_for_value, polls, looks_for_value, looks_complete, meets, Said, granted, refused, done, tells, counted, gives_value, failed, leads, grant, let_go_of, own_steps, Mark, AnyOf, Grants, HasMoment, HasWeakMoment, FindsClosed, first_word, Limit, unlimited, within, within_changes, gets_within, changes_within, registers_after, limit}
+use Rattle.spin_world_core.specs.Runs.{mark_of, own, own_count, failures, changes, RegistersInTime, EndsWithin, GoesOnWithin}
 use Rattle.spin_world_core.specs.Acts.{Act, retry, Table}
 use Rattle.spin_world_core.proofs.Stands.{Stand, entries_at, stand_of}
 use Rattle.spin_world_core.proofs.Spans.{nil_left, own-mine, own-other, own_count-mine, own_count-other, failures-mine, failures-other, changes-mine, changes-other}
@@ -34,19 +34,21 @@ Spends (within n) k p span = own_count p span ≤ k
 Spends (within_changes n) k p span = own_count p span ≤ failures p span + k
 Spends (gets_within ask n) k p span = own p span ≡ [] → (own_count p span ≤ failures p span + k) ⊎ AnyOf (FindsClosed p ask) span
 Spends (changes_within n) k p span = own p span ≡ [] → own_count p span ≤ k
+Spends (registers_after n j) k p span = Unit {0}
 
--- after j steps and this turn, k are spent; the list is of the plain steps that are made then
-abbrev pub MaySpend : Limit → Turn → List Change → ℕ → ℕ → ℕ → Type 0
-MaySpend unlimited t cs j k p = Unit {0}
-MaySpend (within n) t cs j k p = nat_lt j k ≡ true
-MaySpend (within_changes n) loses cs j k p = nat_lt j (suc k) ≡ true
-MaySpend (within_changes n) t cs j k p = nat_lt j k ≡ true
-MaySpend (gets_within ask n) t (c ∷ cs) j k p = Unit {0}
-MaySpend (gets_within ask n) goes [] j k p = nat_lt j k ≡ true
-MaySpend (gets_within ask n) loses [] j k p = nat_lt j (suc k) ≡ true
-MaySpend (gets_within ask n) (misses c) [] j k p = c ≡ gets p ask
-MaySpend (changes_within n) t (c ∷ cs) j k p = Unit {0}
-MaySpend (changes_within n) t [] j k p = nat_lt j k ≡ true
+-- after j steps and this turn, k are spent; the list is of the plain steps that are made then, and the span has this step. That a call registers in time an object shows by what it knows
+abbrev pub MaySpend : Limit → Turn → List Change → ℕ → ℕ → ℕ → Coding → List Mark → Type 0
+MaySpend unlimited t cs j k p coding span = Unit {0}
+MaySpend (within n) t cs j k p coding span = nat_lt j k ≡ true
+MaySpend (within_changes n) loses cs j k p coding span = nat_lt j (suc k) ≡ true
+MaySpend (within_changes n) t cs j k p coding span = nat_lt j k ≡ true
+MaySpend (gets_within ask n) t (c ∷ cs) j k p coding span = Unit {0}
+MaySpend (gets_within ask n) goes [] j k p coding span = nat_lt j k ≡ true
+MaySpend (gets_within ask n) loses [] j k p coding span = nat_lt j (suc k) ≡ true
+MaySpend (gets_within ask n) (misses c) [] j k p coding span = c ≡ gets p ask
+MaySpend (changes_within n) t (c ∷ cs) j k p coding span = Unit {0}
+MaySpend (changes_within n) t [] j k p coding span = nat_lt j k ≡ true
+MaySpend (registers_after n i) t cs j k p coding span = GoesOnWithin (registers_after n i) coding p span
 
 -- with so many spent a call may go on
 abbrev pub is_timely : Limit → List Change → ℕ → Bool
@@ -57,6 +59,7 @@ is_timely (gets_within ask n) [] k = nat_lt k n
 is_timely (gets_within ask n) (c ∷ cs) k = true
 is_timely (changes_within n) [] k = nat_lt k n
 is_timely (changes_within n) (c ∷ cs) k = true
+is_timely (registers_after n j) cs k = true
 
 on_each : {A B C D : Type 0} → (A → C) → (B → D) → A ⊎ B → C ⊎ D
 on_each f g (inl a) = inl (f a)
@@ -74,38 +77,46 @@ module _ (p : ℕ) (s : Plain) (step : Option Change) (r : Manner) (span : List 
       let one = failures-mine p step r s span ∙ (ap (λ b. failures p span + bit (b && not (is_some step))) lost.0 ∙ ap (λ (o : Option Change). failures p span + bit (true && not (is_some o))) lost.1) in
       omega (arith, own_count-mine p step r s span, one, ltb-true j (suc k) lt)
 
-  pub spent-mine : (what : Limit) (t : Turn) (cs : List Change) (j k : ℕ) → Turned t s step r → own p (mark_of p step r s ∷ span) ≡ cs → MaySpend what t cs j k p → Spends what j p span → Spends what k p (mark_of p step r s ∷ span)
-  spent-mine unlimited t cs j k how is may spent = tt
-  spent-mine (within n) t cs j k how is may spent = omega (arith, own_count-mine p step r s span, ltb-true j k may)
-  spent-mine (within_changes n) goes cs j k how is may spent = counts_one j k may spent
-  spent-mine (within_changes n) loses cs j k how is may spent = counts_lost j k may how spent
-  spent-mine (within_changes n) (misses c) cs j k how is may spent = counts_one j k may spent
-  spent-mine (gets_within ask n) t (c ∷ cs) j k how is may spent = λ none. absurd (cc (is, none))
-  spent-mine (gets_within ask n) goes [] j k how is may spent = λ none. on_each (counts_one j k may) (λ found. inr found) (spent (none_before none))
-  spent-mine (gets_within ask n) loses [] j k how is may spent = λ none. on_each (counts_lost j k may how) (λ found. inr found) (spent (none_before none))
-  spent-mine (gets_within ask n) (misses c) [] j k how is may spent = λ none. inr (inl (refl, subst (λ d. is_open s d ≡ false) may how))
-  spent-mine (changes_within n) t (c ∷ cs) j k how is may spent = λ none. absurd (cc (is, none))
-  spent-mine (changes_within n) t [] j k how is may spent = λ none. omega (arith, own_count-mine p step r s span, ltb-true j k may, spent (none_before none))
+  pub spent-mine : (what : Limit) (coding : Coding) (t : Turn) (cs : List Change) (j k : ℕ) → Turned t s step r → own p (mark_of p step r s ∷ span) ≡ cs → MaySpend what t cs j k p coding (mark_of p step r s ∷ span) → Spends what j p span → Spends what k p (mark_of p step r s ∷ span)
+  spent-mine unlimited coding t cs j k how is may spent = tt
+  spent-mine (within n) coding t cs j k how is may spent = omega (arith, own_count-mine p step r s span, ltb-true j k may)
+  spent-mine (within_changes n) coding goes cs j k how is may spent = counts_one j k may spent
+  spent-mine (within_changes n) coding loses cs j k how is may spent = counts_lost j k may how spent
+  spent-mine (within_changes n) coding (misses c) cs j k how is may spent = counts_one j k may spent
+  spent-mine (gets_within ask n) coding t (c ∷ cs) j k how is may spent = λ none. absurd (cc (is, none))
+  spent-mine (gets_within ask n) coding goes [] j k how is may spent = λ none. on_each (counts_one j k may) (λ found. inr found) (spent (none_before none))
+  spent-mine (gets_within ask n) coding loses [] j k how is may spent = λ none. on_each (counts_lost j k may how) (λ found. inr found) (spent (none_before none))
+  spent-mine (gets_within ask n) coding (misses c) [] j k how is may spent = λ none. inr (inl (refl, subst (λ d. is_open s d ≡ false) may how))
+  spent-mine (registers_after n i) coding t cs j k how is may spent = tt
+  spent-mine (changes_within n) coding t (c ∷ cs) j k how is may spent = λ none. absurd (cc (is, none))
+  spent-mine (changes_within n) coding t [] j k how is may spent = λ none. omega (arith, own_count-mine p step r s span, ltb-true j k may, spent (none_before none))
 
 -- a call may go on so, and be answered by the next step
 
-pub goes_within : (what : Limit) (coding : Coding) (cs : List Change) (k p : ℕ) (span : List Mark) → own p span ≡ cs → is_timely what cs k ≡ true → failures p span ≤ changes coding p span → Spends what k p span → GoesOnWithin what coding p span
-goes_within unlimited coding cs k p span is timely retries spent = tt
-goes_within (within n) coding cs k p span is timely retries spent = omega (arith, ltb-true k n timely, spent)
-goes_within (within_changes n) coding cs k p span is timely retries spent = omega (arith, ltb-true k n timely, spent, retries)
-goes_within (gets_within ask n) coding [] k p span is timely retries spent = λ none. on_each (λ le. omega (arith, ltb-true k n timely, le, retries)) (λ found. found) (spent none)
-goes_within (gets_within ask n) coding (c ∷ cs) k p span is timely retries spent = λ none. absurd (cc (is, none))
-goes_within (changes_within n) coding [] k p span is timely retries spent = λ none. omega (arith, ltb-true k n timely, spent none)
-goes_within (changes_within n) coding (c ∷ cs) k p span is timely retries spent = λ none. absurd (cc (is, none))
+pub goes_within : (what : Limit) (coding : Coding) (t : Turn) (cs : List Change) (j k p : ℕ) (span : List Mark) → own p span ≡ cs → is_timely what cs k ≡ true → failures p span ≤ changes coding p span → MaySpend what t cs j k p coding span → Spends what k p span → GoesOnWithin what coding p span
+goes_within unlimited coding t cs j k p span is timely retries may spent = tt
+goes_within (within n) coding t cs j k p span is timely retries may spent = omega (arith, ltb-true k n timely, spent)
+goes_within (within_changes n) coding t cs j k p span is timely retries may spent = omega (arith, ltb-true k n timely, spent, retries)
+goes_within (gets_within ask n) coding t [] j k p span is timely retries may spent = λ none. on_each (λ le. omega (arith, ltb-true k n timely, le, retries)) (λ found. found) (spent none)
+goes_within (gets_within ask n) coding t (c ∷ cs) j k p span is timely retries may spent = λ none. absurd (cc (is, none))
+goes_within (changes_within n) coding t [] j k p span is timely retries may spent = λ none. omega (arith, ltb-true k n timely, spent none)
+goes_within (changes_within n) coding t (c ∷ cs) j k p span is timely retries may spent = λ none. absurd (cc (is, none))
+goes_within (registers_after n i) coding t cs j k p span is timely retries may spent = may
+
+-- what an answer owes of its call's time where that is shown by what the party knows
+abbrev pub OwesEnd : Limit → Coding → ℕ → List Mark → Type 0
+OwesEnd (registers_after n i) coding p span = EndsWithin (registers_after n i) coding p span
+OwesEnd _ coding p span = Unit {0}
 
 pub ends_within : (what : Limit) (coding : Coding) (cs : List Change) (k p : ℕ) (s : Plain) (step : Option Change) (r : Manner) (span : List Mark) → is_timely what cs k ≡ true → failures p span ≤ changes coding p span → Spends what k p span
-    → EndsWithin what coding p (mark_of p step r s ∷ span)
-ends_within unlimited coding cs k p s step r span timely retries spent = tt
-ends_within (within n) coding cs k p s step r span timely retries spent = omega (arith, ltb-true k n timely, spent, own_count-mine p step r s span)
-ends_within (within_changes n) coding cs k p s step r span timely retries spent =
+    → OwesEnd what coding p (mark_of p step r s ∷ span) → EndsWithin what coding p (mark_of p step r s ∷ span)
+ends_within unlimited coding cs k p s step r span timely retries spent owed = tt
+ends_within (within n) coding cs k p s step r span timely retries spent owed = omega (arith, ltb-true k n timely, spent, own_count-mine p step r s span)
+ends_within (within_changes n) coding cs k p s step r span timely retries spent owed =
     omega (arith, ltb-true k n timely, spent, retries, own_count-mine p step r s span, changes-mine coding p step r s span)
-ends_within (gets_within ask n) coding cs k p s step r span timely retries spent = tt
-ends_within (changes_within n) coding cs k p s step r span timely retries spent = tt
+ends_within (gets_within ask n) coding cs k p s step r span timely retries spent owed = tt
+ends_within (changes_within n) coding cs k p s step r span timely retries spent owed = tt
+ends_within (registers_after n i) coding cs k p s step r span timely retries spent owed = owed
 
 -- Its plain steps, and the moment of a grant
 
@@ -146,19 +157,20 @@ granted_moment : (p : ℕ) (ask : Ask) (span : List Mark) → Opened span → An
 granted_moment p ask span opened (inl is) = granted_at p ask span opened (subst (AnyOf (λ c. c ≡ gets p ask)) (sym is) (gets_in_grant p ask))
 granted_moment p ask span opened (inr none) = absurd none
 
--- what an answer owes of its moment: a grant has it by the steps that the call has made
+-- what an answer owes of its moment: a grant has it by the steps that the call has made. That of a call that may starve owes that it has registered in time
 abbrev pub OwesMoment : Asked → Said → ℕ → List Mark → Type 0
+OwesMoment (waits_or_starves n) granted p span = RegistersInTime (λ recent. ⊥) p n span
 OwesMoment what granted p span = Unit {0}
 OwesMoment what said p span = HasMoment what said p span
 
-granted_waiting : (p : ℕ) (span : List Mark) → Opened span → AnyOf (λ steps. own p span ≡ steps) (own_steps waits_or_starves granted p) → HasMoment waits_or_starves granted p span
-granted_waiting p span opened (inl is) = inl (granted_at p to_lock_unregistered span opened (subst (AnyOf (λ c. c ≡ gets p to_lock_unregistered)) (sym is) (inl refl)))
-granted_waiting p span opened (inr (inl is)) = inr (granted_at p to_lock_starving span opened (subst (AnyOf (λ c. c ≡ gets p to_lock_starving)) (sym is) (inr (inl refl))))
-granted_waiting p span opened (inr (inr none)) = absurd none
+granted_waiting : (n p : ℕ) (span : List Mark) → Opened span → AnyOf (λ steps. own p span ≡ steps) (own_steps (waits_or_starves n) granted p) → HasMoment (waits_or_starves n) granted p span
+granted_waiting n p span opened (inl is) = inl (granted_at p to_lock_unregistered span opened (subst (AnyOf (λ c. c ≡ gets p to_lock_unregistered)) (sym is) (inl refl)))
+granted_waiting n p span opened (inr (inl is)) = inr (granted_at p to_lock_starving span opened (subst (AnyOf (λ c. c ≡ gets p to_lock_starving)) (sym is) (inr (inl refl))))
+granted_waiting n p span opened (inr (inr none)) = absurd none
 
 pub moment_of : (what : Asked) (said : Said) (p : ℕ) (span : List Mark) → Opened span → AnyOf (λ steps. own p span ≡ steps) (own_steps what said p) → OwesMoment what said p span → HasMoment what said p span
 moment_of (waits ask) granted p span opened is owed = granted_moment p ask span opened is
-moment_of waits_or_starves granted p span opened is owed = granted_waiting p span opened is
+moment_of (waits_or_starves n) granted p span opened is owed = granted_waiting n p span opened is
 moment_of (tries ask) granted p span opened is owed = granted_moment p ask span opened is
 moment_of (tries_weakly ask) granted p span opened is owed = granted_moment p ask span opened is
 moment_of (tries_to_know ask) granted p span opened is owed = granted_moment p ask span opened is
@@ -176,6 +188,15 @@ pub weak_moment_of : (what : Asked) (said : Said) (p : ℕ) (span : List Mark) �
 weak_moment_of (tries_weakly ask) refused p span opened is owed = tt
 weak_moment_of (tries_weakly ask) said p span opened is owed = moment_of (tries_weakly ask) said p span opened is owed
 weak_moment_of what said p span opened is owed = moment_of what said p span opened is owed
+
+pub ends_owed : (coding : Coding) (weakly : Bool) (what : Asked) (said : Said) (p : ℕ) (span : List Mark) → AnyOf (λ steps. own p span ≡ steps) (own_steps what said p) → OwesRight weakly what said p span → OwesEnd (limit coding what) coding p span
+ends_owed coding true (waits_or_starves n) granted p span is owed = owed
+ends_owed coding false (waits_or_starves n) granted p span is owed = owed
+ends_owed coding weakly (waits_or_starves n) _ p span is owed = absurd is
+ends_owed coding weakly (waits to_enter) said p span is owed = tt
+ends_owed coding weakly (tries to_read) said p span is owed = tt
+ends_owed ticket weakly looks said p span is owed = tt
+ends_owed coding weakly _ said p span is owed = tt
 
 -- What a row says of a point
 
@@ -204,7 +225,7 @@ abbrev pub row_at : Asked → Option Hold → Point → Option Row
 row_at what h nowhere = None
 row_at what h (onward row) = Some row
 row_at (waits ask) h (looked k) = Some (row_looked h k (λ p. grant p ask) granted)
-row_at waits_or_starves h (looked k) = Some (row_looked h k (λ p. grant p to_lock_unregistered) granted)
+row_at (waits_or_starves n) h (looked k) = Some (row_looked h k (λ p. grant p to_lock_unregistered) granted)
 row_at (tries ask) h (looked k) = Some (row_looked h k (λ p. grant p ask) granted)
 row_at (tries_weakly ask) h (looked k) = Some (row_looked h k (λ p. grant p ask) granted)
 row_at (tries_to_know ask) h (looked k) = Some (row_looked h k (λ p. grant p ask) granted)
@@ -305,6 +326,7 @@ none_spent unlimited k p = tt
 none_spent (within n) k p = omega arith
 none_spent (within_changes n) k p = omega arith
 none_spent (gets_within ask n) k p = λ none. inl (omega arith)
+none_spent (registers_after n j) k p = tt
 none_spent (changes_within n) k p = λ none. omega arith
 
 abbrev pub NoRetry : {W L A : Type 0} → Act W L A → Type 0
@@ -324,6 +346,7 @@ spent-other (within_changes n) k p q s step r span ne spent = omega (arith, own_
 spent-other (gets_within ask n) k p q s step r span ne spent = λ none.
     on_each (λ le. omega (arith, own_count-other p q step r s span ne, failures-other p q step r s span ne, le)) (λ found. inr found)
     (spent (sym (own-other p q step r s span ne) ∙ none))
+spent-other (registers_after n j) k p q s step r span ne spent = tt
 spent-other (changes_within n) k p q s step r span ne spent = λ none. omega (arith, own_count-other p q step r s span ne, spent (sym (own-other p q step r s span ne) ∙ none))
 
 bit_le : (b : Bool) → bit b ≤ 1
@@ -331,7 +354,7 @@ bit_le true = omega arith
 bit_le false = omega arith
 
 -- a change of the first word makes one more change by others
-moved : (a b n x y : ℕ) → a + bit (not (x == n)) ≤ b → a + bit (not (y == n)) ≤ b + bit (not (y == x))
+pub moved : (a b n x y : ℕ) → a + bit (not (x == n)) ≤ b → a + bit (not (y == n)) ≤ b + bit (not (y == x))
 moved a b n x y le =
     ⊎_elim
     (λ (e : y ≡ x). omega (arith, le, ap (λ k. bit (not (k == n))) e))

@@ -1,6 +1,6 @@
 -- What the table of an object owes, point by point, and that its machine then shows all local facts.
-use Rattle.std.proofs.Common.{◌≡◌, ℕ, zero, suc, ◌≤◌, Bool, true, false, not, ◌&&◌, ◌||◌, is_some, Option, Some, None, List, [], ◌∷◌, ◌++◌, option_to_list}
-use Rattle.spin_step.specs.Plain.{Plain, Change, completes, apply, is_open, is_empty}
+use Rattle.std.proofs.Common.{◌≡◌, ℕ, zero, suc, ◌≤◌, Bool, true, false, not, ◌&&◌, ◌||◌, ◌==◌, is_some, Option, Some, None, List, [], ◌∷◌, ◌++◌, option_to_list}
+use Rattle.spin_step.specs.Plain.{Plain, Change, apply, is_open, is_empty}
 use Rattle.std.specs.Option.{option_map}
 use Rattle.spin_step.specs.Parties.{who, apply_some, IsOpenStep, entries, IsExclusive}
 use Rattle.spin_step.specs.Steps.{Decides}
@@ -8,11 +8,12 @@ use Rattle.spin_world_core.specs.declared.place.Hold.{Hold}
 use Rattle.spin_world_core.specs.declared.object.Next.{Next}
 use Rattle.spin_world_core.specs.declared.object.Next.TheVariants.{GoesOn, Answers}
 use Rattle.spin_world_core.specs.Manners.{Manner, plain, again, weak, by_step}
-use Rattle.spin_world_core.specs.Calls.{Coding, encoded, is_step_of, BelongsTo, own_steps, Mark, AnyOf, limit}
+use Rattle.spin_world_core.specs.Calls.{Coding, encoded, is_step_of, BelongsTo, own_steps, Mark, AnyOf, Limit, registers_after, limit}
 use Rattle.spin_world_core.specs.Undisturbed.{arrived, is_open_next}
 use Rattle.spin_world_core.specs.Machines.{opening_plain}
 use Rattle.spin_world_core.specs.Runs.{mark_of, is_writer, failures, changes}
-use Rattle.spin_world_core.specs.Acts.{Act, load, load_if, load_for, enter, exchange, weak_exchange, attempt, retry, store, passing, step_by, is_waiting, look_manner, Table, machine_of}
+use Rattle.spin_world_core.specs.Acts.{Act, load, load_if, load_for, enter, exchange, weak_exchange, attempt, retry, store, store_if, passing, step_by, is_completion, is_waiting, look_manner, Table, machine_of}
+use Rattle.spin_world_core.specs.Values.{makes_value}
 use Rattle.spin_world_core.proofs.Facts.{LocalInvariant}
 use Rattle.spin_world_core.proofs.Stands.{stand_of, stand_after}
 use Rattle.spin_world_core.proofs.Rows.{Turn, goes, loses, misses, MaySpend, OwesRight, Row, Point, row_at, SoundAt, Found, NoRetry, Known}
@@ -42,6 +43,10 @@ pub record At {W V C L A : Type 0} (t : Table W V C L A) (n : Notes t) (p : ℕ)
   pub knows : n.Knows c l h p s span
   pub retries : failures p span ≤ changes t.coding p span
 
+abbrev pub AtRow : {W V C L A : Type 0} (t : Table W V C L A) (n : Notes t) → ℕ → C → L → Option Hold → Plain → Option V → W → List Mark → Option Row → Type 0
+AtRow t n p c l h s v w span None = ⊥
+AtRow t n p c l h s v w span (Some row) = At t n p c l h s v w span row
+
 -- The debts
 
 -- the step function's new words are those after the plain step, which is open and the party's own; its refusal says that the step is closed
@@ -49,13 +54,18 @@ abbrev pub Means : {W V C L A : Type 0} (t : Table W V C L A) → Notes t → �
 Means t n p s v c None = is_open s c ≡ false
 Means t n p s v c (Some to) = IsOpenStep s p (Some c) × (t.number to ∷ t.others to ≡ encoded t.coding (apply s c)) × n.Shape (apply s c) v
 
+-- an exchange that is made again goes on by another number, by which there are new words. That it is another matters only to a call that registers in time
+abbrev pub FindsAnother : Limit → Bool → Bool → Type 0
+FindsAnother (registers_after n i) same some = (same ≡ false) × (some ≡ true)
+FindsAnother _ same some = some ≡ true
+
 module _ {W V C L A : Type 0} (t : Table W V C L A) (n : Notes t) (p : ℕ) (c : C) (h : Option Hold) (s : Plain) (w : W) (span : List Mark) (row : Row) where
   -- the next point's row is this one after the step
   abbrev pub FollowsRow : Option Change → Manner → Turn → L → Option Row → Type 0
   FollowsRow step r turn l None = ⊥
   FollowsRow step r turn l (Some to) =
       (stand_after s.next step row.stand ≡ Some to.stand) × (row.made p ++ option_to_list step ≡ to.made p)
-      × MaySpend (limit t.coding (t.asks c h)) turn (to.made p) row.spent to.spent p × Found t (t.act c l h) w step × n.Knows c l h p (apply_some s step) (mark_of p step r s ∷ span)
+      × MaySpend (limit t.coding (t.asks c h)) turn (to.made p) row.spent to.spent p t.coding (mark_of p step r s ∷ span) × Found t (t.act c l h) w step × n.Knows c l h p (apply_some s step) (mark_of p step r s ∷ span)
 
   -- how a call goes on is right, by this step and this turn
   abbrev pub Follows : Bool → Option Change → Manner → Turn → Next L A → Type 0
@@ -82,8 +92,10 @@ module _ {W V C L A : Type 0} (t : Table W V C L A) (n : Notes t) (p : ℕ) (c :
       ((to : W) → f w ≡ Some to → Means t n p s v (step p) (Some to) × Follows false (Some (step p)) plain goes won) × (f w ≡ None → Follows false None plain goes lost)
   Owes v (retry k f step won found missed) =
       Means t n p s v (step p) (f w) × (t.number w ≡ k → Follows false (Some (step p)) again goes won)
-      × (is_some (f w) ≡ true → Follows false None again loses (found w)) × (is_open s (step p) ≡ false → Follows false None again (misses (step p)) missed)
+      × (FindsAnother (limit t.coding (t.asks c h)) (t.number w == k) (is_some (f w)) → Follows false None again loses (found w)) × (is_open s (step p) ≡ false → Follows false None again (misses (step p)) missed)
   Owes v (store can f step next) = (can w ≡ true) × Means t n p s v (step p) (Some (f w)) × Follows false (Some (step p)) plain goes next
+  Owes v (store_if can f step test a b) =
+      (can w ≡ true) × Means t n p s v (step p) (Some (f w)) × (test w ≡ true → Follows false (Some (step p)) plain goes a) × (test w ≡ false → Follows false (Some (step p)) plain goes (b w))
 
 abbrev pub OwesAt : {W V C L A : Type 0} (t : Table W V C L A) (n : Notes t) → ℕ → C → L → Option Hold → Plain → Option V → W → List Mark → Option Row → Type 0
 OwesAt t n p c l h s v w span None = Unit {0}
@@ -115,10 +127,6 @@ BeginsAt t n c h p s None = Unit {0}
 BeginsAt t n c h p s (Some l) = BeginsRow t n c l h p s (row_of t n c l h)
 
 -- the plain steps are those of this kind of lock; none completes a closure, since none places a value
-abbrev pub is_completion : Change → Bool
-is_completion (completes p) = true
-is_completion _ = false
-
 abbrev pub is_own : Coding → Change → Bool
 is_own coding c = is_step_of coding c && not (is_completion c)
 
@@ -129,6 +137,7 @@ makes_own coding (weak_exchange f step won lost) p = is_own coding (step p)
 makes_own coding (attempt f step won lost) p = is_own coding (step p)
 makes_own coding (retry k f step won found missed) p = is_own coding (step p)
 makes_own coding (store can f step next) p = is_own coding (step p)
+makes_own coding (store_if can f step test a b) p = is_own coding (step p)
 makes_own coding _ p = true
 
 -- what an object shows of its table
@@ -136,6 +145,7 @@ pub record Pays {W V C L A : Type 0} (t : Table W V C L A) (n : Notes t) : Type 
   pub first : t.number t.words ∷ t.others t.words ≡ encoded t.coding (opening_plain (machine_of t))
   pub shape_first : n.Shape (opening_plain (machine_of t)) t.value
   pub numbers_tell : (v w : W) → t.number v ∷ t.others v ≡ t.number w ∷ t.others w → v ≡ w
+  pub no_value : makes_value t.coding ≡ false
   pub one_list : (s : Plain) (v : Option V) → n.Shape s v → (is_empty s.holders || is_empty s.tickets) ≡ true
   pub shape_written : (s : Plain) (p : ℕ) (old : Option V) (v : V) → is_writer (entries p s) ≡ true → n.Shape s old → n.Shape s (Some v)
   pub shape_set : (s : Plain) (old v : V) → n.Shape s (Some old) → n.Shape s (Some v)

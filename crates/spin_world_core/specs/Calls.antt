@@ -1,7 +1,8 @@
 -- What a call asks of the plain lock, and what each of its answers means there. These tables serve every object; an object names rows of them.
-use Rattle.std.specs.Prelude.{◌≡◌, ℕ, ◌+◌, ◌-◌, ◌*◌, ◌/◌, ◌%◌, ◌≤◌, ◌⊎◌, ◌==◌, ◌&&◌, Bool, true, false, not, Option, Some, None, List, [], ◌∷◌, get_or, max}
-use Rattle.spin_step.specs.Plain.{Plain, Kind, reading, upgradable, writing, Phase, complete, Ask, to_read, to_read_upgradable, to_write, to_upgrade, to_take_ticket, to_enter, to_take_and_enter, to_lock_unregistered, to_lock_starving, to_lock_starving_alone, to_starve, to_begin, Change, gets, releases, serves, stops_starving, turns, completes, fails, arrives, is_open_to, is_empty, is_nothing, count_kind, flag_word, next_word, serving_word, fair_word, rw_word, once_word, count_word, generation_word}
+use Rattle.std.specs.Prelude.{◌≡◌, ℕ, ◌+◌, ◌≤◌, ◌⊎◌, ◌&&◌, Bool, true, false, not, Option, Some, None, List, [], ◌∷◌, get_or}
+use Rattle.spin_step.specs.Plain.{Plain, Kind, reading, upgradable, writing, Ask, to_read, to_read_upgradable, to_write, to_upgrade, to_take_ticket, to_enter, to_take_and_enter, to_lock_unregistered, to_lock_starving, to_lock_starving_alone, to_starve, to_begin, Change, gets, releases, serves, stops_starving, turns, completes, fails, arrives, is_open_to, is_empty, is_nothing, is_complete, count_kind, flag_word, next_word, serving_word, fair_word, rw_word, once_word, count_word, generation_word}
 use Rattle.spin_step.specs.Parties.{is_held}
+use Rattle.spin_step.specs.Barriers.{is_leading, filled_by}
 use Rattle.spin_world_core.specs.declared.answer.Answer.{Answer}
 use Rattle.spin_world_core.specs.declared.answer.Answer.TheVariants.{Granted, Refused, Locked, Starved, Done, Is, Count, Value, NoValue, Failed, Leader, Follower}
 use Rattle.spin_world_core.specs.declared.place.Hold.{Hold}
@@ -16,6 +17,7 @@ pub data Coding : Type 0 where
   rw : Coding
   once : Coding
   barrier : Coding
+  seats : Coding  -- holders who all read, as many as the cap lets in
 
 abbrev pub encoded : Coding → Plain → List ℕ
 encoded flag s = flag_word s ∷ []
@@ -24,6 +26,7 @@ encoded fair s = fair_word s ∷ []
 encoded rw s = rw_word s ∷ []
 encoded once s = once_word s ∷ []
 encoded barrier s = count_word s ∷ generation_word s ∷ []
+encoded seats s = flag_word s ∷ []
 
 -- which plain steps each kind of lock makes
 
@@ -41,6 +44,7 @@ may_be_got rw to_read_upgradable = true
 may_be_got rw to_write = true
 may_be_got rw to_upgrade = true
 may_be_got once to_begin = true
+may_be_got seats to_read = true
 may_be_got _ _ = false
 
 abbrev pub is_step_of : Coding → Change → Bool
@@ -54,6 +58,7 @@ is_step_of rw (turns p k l) = true
 is_step_of once (completes p) = true
 is_step_of once (fails p) = true
 is_step_of barrier (arrives p) = true
+is_step_of seats (releases p reading) = true
 is_step_of _ _ = false
 
 -- a step, if it is one, is one that this kind of lock makes
@@ -64,7 +69,7 @@ BelongsTo coding (Some c) = is_step_of coding c ≡ true
 -- what a call asks
 pub data Asked : Type 0 where
   waits : Ask → Asked  -- it goes on until it is granted
-  waits_or_starves : Asked  -- it goes on until it is granted, unregistered or, once it has registered, as a starver
+  waits_or_starves : ℕ → Asked  -- it goes on until it is granted, unregistered or, once it has registered, as a starver; after so many looks that found the lock held, the next one that does makes it register
   tries : Ask → Asked
   tries_weakly : Ask → Asked  -- by a weak exchange, which may refuse without cause
   tries_to_know : Ask → Asked  -- and a refusal says why
@@ -128,7 +133,7 @@ let_go_of p Starver = stops_starving p
 -- the plain steps that a party's call has made when it is answered so: one of these lists; no list where such a call is never answered so
 abbrev pub own_steps : Asked → Said → ℕ → List (List Change)
 own_steps (waits ask) granted p = grant p ask ∷ []
-own_steps waits_or_starves granted p = grant p to_lock_unregistered ∷ (gets p to_starve ∷ grant p to_lock_starving) ∷ []
+own_steps (waits_or_starves n) granted p = grant p to_lock_unregistered ∷ (gets p to_starve ∷ grant p to_lock_starving) ∷ []
 own_steps (tries ask) granted p = grant p ask ∷ []
 own_steps (tries ask) refused p = [] ∷ []
 own_steps (tries_weakly ask) granted p = grant p ask ∷ []
@@ -183,21 +188,9 @@ readers s = count_kind reading s.holders + count_kind upgradable s.holders
 abbrev pub writers : Plain → ℕ
 writers s = count_kind writing s.holders
 
-abbrev pub is_complete : Phase → Bool
-is_complete complete = true
-is_complete _ = false
-
 -- there is a value, or the party's own step completes its closure
 abbrev pub FindsValue : ℕ → Mark → Type 0
 FindsValue p m = (is_complete m.before.phase ≡ true) ⊎ ((m.party ≡ p) × (m.change ≡ Some (completes p)))
-
--- the arrival of this number is the last one of its group
-abbrev pub is_leading : Plain → ℕ → Bool
-is_leading s k = (k % max s.group 1) == 0
-
--- the number of the arrival that fills the group of this one
-abbrev pub filled_by : Plain → ℕ → ℕ
-filled_by s k = ((k - 1) / max s.group 1 + 1) * max s.group 1
 
 -- the party's own step is this arrival
 abbrev pub Arrives : ℕ → ℕ → Mark → Type 0
@@ -207,7 +200,7 @@ Arrives p k m = (m.party ≡ p) × (m.change ≡ Some (arrives p)) × (m.after.a
 -- Where it says ⊥, such an answer never comes
 abbrev pub HasMoment : Asked → Said → ℕ → List Mark → Type 0
 HasMoment (waits ask) granted p span = AnyOf (Grants p ask) span
-HasMoment waits_or_starves granted p span = AnyOf (Grants p to_lock_unregistered) span ⊎ AnyOf (Grants p to_lock_starving) span
+HasMoment (waits_or_starves n) granted p span = AnyOf (Grants p to_lock_unregistered) span ⊎ AnyOf (Grants p to_lock_starving) span
 HasMoment (tries ask) granted p span = AnyOf (Grants p ask) span
 HasMoment (tries ask) refused p span = AnyOf (λ m. is_open_to m.before p ask ≡ false) span
 HasMoment (tries_weakly ask) granted p span = AnyOf (Grants p ask) span
@@ -243,6 +236,14 @@ HasWeakMoment what said p span = HasMoment what said p span
 abbrev pub FindsClosed : ℕ → Ask → Mark → Type 0
 FindsClosed p ask m = (m.party ≡ p) × (is_open_to m.before p ask ≡ false)
 
+-- at this step of its own the party registers as a starver
+abbrev pub Registers : ℕ → Mark → Type 0
+Registers p m = (m.party ≡ p) × (m.change ≡ Some (gets p to_starve))
+
+-- it registers, or finds the cap
+abbrev pub TriesToStarve : ℕ → Mark → Type 0
+TriesToStarve p m = Registers p m ⊎ FindsClosed p to_starve m
+
 -- the word that the exchanges are on which a call makes again
 abbrev pub first_word : Coding → Plain → ℕ
 first_word coding s = get_or (encoded coding s) 0 0
@@ -254,14 +255,15 @@ pub data Limit : Type 0 where
   within_changes : ℕ → Limit  -- and one more for each change of the first word by another party in the call's span
   gets_within : Ask → ℕ → Limit  -- a call that waits has got this by then, the changes counted too, or has found it closed
   changes_within : ℕ → Limit  -- a call that waits has made a plain step by then
+  registers_after : ℕ → ℕ → Limit  -- from each look on that finds the lock held after so many others, a call that waits registers as a starver by so many steps, others' changes since that look counted too, or finds the cap
 
 -- A try, a look, a count, a downgrade or a release on one word takes one step, and a try or a look on the two words of a queue three; a starver's try takes a second step to leave the starvers.
 -- Each try that looks first and then makes its exchange again and again takes two, and one more for each change by others.
--- A call that waits has no limit, but who queues has a ticket by then, and who meets others at a barrier arrives by its first step
+-- A call that waits has no limit, but who queues has a ticket by then, who may starve registers by its second step after each look past its patience, and who meets others at a barrier arrives by its first step
 abbrev pub limit : Coding → Asked → Limit
 limit coding (waits to_enter) = gets_within to_take_ticket 2
 limit coding (waits ask) = unlimited
-limit coding waits_or_starves = unlimited
+limit coding (waits_or_starves n) = registers_after n 2
 limit coding (tries to_read) = within_changes 2
 limit coding (tries to_read_upgradable) = within_changes 2
 limit coding (tries to_starve) = within_changes 2

@@ -2,6 +2,7 @@
 use Rattle.spin_world_core.specs.Machines.{Machine}
 use Rattle.spin_world_core.specs.Runs.{Always, CanGoOn, KeepsAll, MomentsAll, CountsAll}
 use Rattle.spin_world_core.specs.Users.{ReadsAgree}
+use Rattle.spin_world_core.specs.Values.{ValuesAll}
 
 pub record Lawful {W V C L A : Type 0} (m : Machine W V C L A) : Type 0 where
   -- a party in a call may take its next step
@@ -14,3 +15,5 @@ pub record Lawful {W V C L A : Type 0} (m : Machine W V C L A) : Type 0 where
   pub counts : Always m (CountsAll m)
   -- two looks under one guard find the same
   pub agree : Always m (ReadsAgree m)
+  -- a value that a closure makes is its call's, and is the one that answers give
+  pub values : Always m (ValuesAll m)

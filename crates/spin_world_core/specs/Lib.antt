@@ -8,4 +8,5 @@ pub mod Undisturbed
 pub mod Runs
 pub mod Users
 pub mod Transcripts
+pub mod Values
 pub mod Lawful

@@ -1,11 +1,11 @@
 -- An object as the world sees it: where its calls begin, what their steps do, and how both read on the plain lock.
-use Rattle.std.specs.Prelude.{ℕ, Bool, List, Option}
-use Rattle.spin_step.specs.Plain.{Plain, Change, fresh}
+use Rattle.std.specs.Prelude.{ℕ, Bool, List, Option, Some}
+use Rattle.spin_step.specs.Plain.{Plain, Phase, nothing, complete, Change, fresh}
 use Rattle.spin_world_core.specs.declared.place.Hold.{Hold}
 use Rattle.spin_world_core.specs.declared.object.Next.{Next}
 use Rattle.spin_world_core.specs.declared.object.Stepped.{Stepped}
 use Rattle.spin_world_core.specs.Manners.{Manner}
-use Rattle.spin_world_core.specs.Calls.{Coding, Asked, Said}
+use Rattle.spin_world_core.specs.Calls.{Coding, once, Asked, Said}
 
 -- over the types of its words, its value, its calls, the points of its calls, and its answers
 pub record Machine (W V C L A : Type 0) : Type 0 where
@@ -27,7 +27,14 @@ pub record Machine (W V C L A : Type 0) : Type 0 where
   pub says : A → Said
   pub change : ℕ → W → C → L → Option Hold → Option Change  -- the plain step that a party's next step makes
   pub manner : C → L → Option Hold → Manner  -- of its next step
+  pub brings : C → Option V  -- the value that the call's own closure gives
+  pub gives : A → Option V  -- the value that an answer gives
+
+-- a `Once` that is made with a value is complete
+abbrev pub opening_phase : {V : Type 0} → Coding → Option V → Phase
+opening_phase once (Some v) = complete
+opening_phase _ _ = nothing
 
 -- the plain lock at first
 abbrev pub opening_plain : {W V C L A : Type 0} → Machine W V C L A → Plain
-opening_plain m = fresh m.cap m.group m.first
+opening_plain m = record (fresh m.cap m.group m.first) { phase = opening_phase m.coding m.value }

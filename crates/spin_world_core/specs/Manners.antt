@@ -11,6 +11,10 @@ abbrev pub is_again : Manner → Bool
 is_again again = true
 is_again _ = false
 
+abbrev pub is_look : Manner → Bool
+is_look look = true
+is_look _ = false
+
 abbrev pub is_weak : Manner → Bool
 is_weak weak = true
 is_weak _ = false

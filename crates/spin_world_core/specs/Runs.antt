@@ -2,7 +2,7 @@
 use Rattle.std.specs.Prelude.{◌≡◌, ℕ, ◌+◌, ◌<◌, ◌≤◌, ◌↔◌, ◌⊎◌, Bool, true, false, not, ◌||◌, Option, Some, None, List, [], ◌∷◌, ◌++◌, is_some, ◌==◌, if◌then◌else◌, slice_get, take}
 use Rattle.std.specs.List.{list_any}
 use Rattle.spin_step.specs.Plain.{Plain, reading, upgradable, writing, same_kind, Change, completes, holder, ticket, is_empty}
-use Rattle.spin_step.specs.Parties.{apply_some, IsOpenStep, Entries, entries, no_entries, entries_after, IsExclusive}
+use Rattle.spin_step.specs.Parties.{apply_some, IsOpenStep, Entries, entries, no_entries, entries_after, is_held, IsExclusive}
 use Rattle.spin_world_core.specs.declared.place.Hold.{Hold}
 use Rattle.spin_world_core.specs.declared.place.Hold.TheVariants as hold
 use Rattle.spin_world_core.specs.declared.place.Seat.{Seat}
@@ -11,10 +11,10 @@ use Rattle.spin_world_core.specs.declared.schedule.Move.{Move}
 use Rattle.spin_world_core.specs.declared.schedule.Move.TheVariants.{Begin, Step, Weak, Read, Write, Leak, OwnerGet, OwnerSet}
 use Rattle.spin_world_core.specs.declared.schedule.Outcome.{Outcome}
 use Rattle.spin_world_core.specs.declared.schedule.Outcome.TheVariants as outcome
-use Rattle.spin_world_core.specs.Manners.{Manner, is_again, by_step}
+use Rattle.spin_world_core.specs.Manners.{Manner, is_again, is_look, by_step}
 use Rattle.spin_world_core.specs.Manners as manner
-use Rattle.spin_world_core.specs.Calls.{Coding, encoded, BelongsTo, Asked, Said, own_steps, Mark, AnyOf, HasMoment, HasWeakMoment, Limit, unlimited, within, within_changes, gets_within, changes_within, FindsClosed, limit}
-pub use Rattle.spin_world_core.specs.Spans.{own, own_count, failures, changes, IsBeginning}
+use Rattle.spin_world_core.specs.Calls.{Coding, encoded, BelongsTo, Asked, Said, own_steps, Mark, AnyOf, HasMoment, HasWeakMoment, Limit, unlimited, within, within_changes, gets_within, changes_within, registers_after, FindsClosed, Registers, TriesToStarve, limit}
+pub use Rattle.spin_world_core.specs.Spans.{own, own_count, failures, changes, held_looks, IsBeginning}
 use Rattle.spin_world_core.specs.Undisturbed.{AnsweredInFour}
 use Rattle.spin_world_core.specs.Machines.{Machine, opening_plain}
 use Rattle.spin_world_core.specs.Schedules.{State, Happened, moves_at, at_first, after, may_read, may_write, is_owners}
@@ -232,12 +232,26 @@ RightAnswer m p span _ _ _ = Unit {0}
 abbrev pub IsRight : {W V C L A : Type 0} → Machine W V C L A → Scene W V C L A → Type 0
 IsRight m s = RightAnswer m s.party (s.after.span s.party) s.outcome (asked m s.seat) s.move
 
+-- a look that finds the lock held after n others, of a party that hasn't registered before
+pub record IsLateLook (p n : ℕ) (m : Mark) (older : List Mark) : Type 0 where
+  pub party : m.party ≡ p
+  pub looks : is_look m.manner ≡ true
+  pub held : is_held m.before ≡ true
+  pub unregistered : own p older ≡ []
+  pub late : n ≤ held_looks p older
+
+-- a call that may starve registers in time: since each such look the party has registered, or found the cap, or its steps since are so few; and not before such a look
+pub record RegistersInTime (IsFew : List Mark → Type 0) (p n : ℕ) (span : List Mark) : Type 0 where
+  pub soon : (recent : List Mark) (m : Mark) (older : List Mark) → span ≡ recent ++ m ∷ older → IsLateLook p n m older → AnyOf (TriesToStarve p) recent ⊎ IsFew recent
+  pub patient : (recent : List Mark) (m : Mark) (older : List Mark) → span ≡ recent ++ m ∷ older → Registers p m → n < held_looks p older
+
 abbrev pub EndsWithin : Limit → Coding → ℕ → List Mark → Type 0
 EndsWithin unlimited coding p span = Unit {0}
 EndsWithin (within k) coding p span = own_count p span ≤ k
 EndsWithin (within_changes k) coding p span = own_count p span ≤ k + changes coding p span
 EndsWithin (gets_within ask k) coding p span = Unit {0}
 EndsWithin (changes_within k) coding p span = Unit {0}
+EndsWithin (registers_after n k) coding p span = RegistersInTime (λ recent. ⊥) p n span
 
 abbrev pub GoesOnWithin : Limit → Coding → ℕ → List Mark → Type 0
 GoesOnWithin unlimited coding p span = Unit {0}
@@ -245,6 +259,7 @@ GoesOnWithin (within k) coding p span = own_count p span < k
 GoesOnWithin (within_changes k) coding p span = own_count p span < k + changes coding p span
 GoesOnWithin (gets_within ask k) coding p span = own p span ≡ [] → (own_count p span < k + changes coding p span) ⊎ AnyOf (FindsClosed p ask) span
 GoesOnWithin (changes_within k) coding p span = own p span ≡ [] → own_count p span < k
+GoesOnWithin (registers_after n k) coding p span = RegistersInTime (λ recent. own_count p recent < k + changes coding p recent) p n span
 
 -- a call with a limit is answered by that step at the latest
 abbrev pub InTime : {V A : Type 0} → Coding → ℕ → List Mark → Outcome A V → Option Asked → Type 0

@@ -1,8 +1,9 @@
 -- What a party's call has done so far, by the steps of its span, the latest first.
 use Rattle.std.specs.Prelude.{◌≡◌, ℕ, ◌+◌, not, ◌&&◌, List, [], ◌∷◌, ◌++◌, is_some, option_to_list, ◌==◌, if◌then◌else◌}
 use Rattle.spin_step.specs.Plain.{Change}
+use Rattle.spin_step.specs.Parties.{is_held}
 use Rattle.spin_step.specs.Steps.{bit}
-use Rattle.spin_world_core.specs.Manners.{is_again}
+use Rattle.spin_world_core.specs.Manners.{is_again, is_look}
 use Rattle.spin_world_core.specs.Calls.{Coding, first_word, Mark}
 
 -- the steps that the party made in the span, in their order
@@ -23,6 +24,11 @@ failures p (m ∷ ms) = failures p ms + bit ((m.party == p) && (is_again m.manne
 abbrev pub changes : Coding → ℕ → List Mark → ℕ
 changes coding p [] = 0
 changes coding p (m ∷ ms) = changes coding p ms + bit (not (m.party == p) && not (first_word coding m.after == first_word coding m.before))
+
+-- the party's looks, in a call that waits, that found the lock held
+abbrev pub held_looks : ℕ → List Mark → ℕ
+held_looks p [] = 0
+held_looks p (m ∷ ms) = held_looks p ms + bit ((m.party == p) && (is_look m.manner && is_held m.before))
 
 abbrev pub IsBeginning : List Change → List Change → Type 0
 IsBeginning xs ys = (rest : List Change) × (xs ++ rest ≡ ys)

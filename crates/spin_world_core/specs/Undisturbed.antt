@@ -1,10 +1,11 @@
 -- Calls that nobody disturbs: from a moment on at which what such a call asks is open, it is answered by its fourth own step.
-use Rattle.std.specs.Prelude.{◌≡◌, ℕ, ◌-◌, ◌/◌, ◌%◌, ◌^◌, ◌≤◌, ◌<◌, ◌==◌, ◌&&◌, ◌||◌, Bool, true, false, not, Option, Some, is_some, List, [], ◌∷◌, ◌++◌, if◌then◌else◌, max}
-use Rattle.spin_step.specs.Plain.{Plain, to_enter, to_take_and_enter, to_lock_unregistered, to_lock_starving, is_open_to, is_empty, is_nothing}
+use Rattle.std.specs.Prelude.{◌≡◌, ℕ, ◌≤◌, ◌<◌, ◌==◌, ◌&&◌, ◌||◌, Bool, true, false, Option, Some, is_some, List, [], ◌∷◌, ◌++◌, if◌then◌else◌}
+use Rattle.spin_step.specs.Plain.{Plain, to_enter, to_take_and_enter, to_lock_unregistered, to_lock_starving, is_open_to, is_empty, is_nothing, is_complete}
+use Rattle.spin_step.specs.Barriers.{may_leave}
 use Rattle.spin_world_core.specs.declared.schedule.Outcome.{Outcome}
 use Rattle.spin_world_core.specs.declared.schedule.Outcome.TheVariants as outcome
 use Rattle.spin_world_core.specs.Manners.{is_weak}
-use Rattle.spin_world_core.specs.Calls.{Coding, encoded, Asked, waits, waits_or_starves, initializes, fails_to_initialize, waits_for_value, polls, meets, Mark, is_complete}
+use Rattle.spin_world_core.specs.Calls.{Coding, encoded, Asked, waits, waits_or_starves, initializes, fails_to_initialize, waits_for_value, polls, meets, Mark}
 use Rattle.spin_world_core.specs.Spans.{own, own_count}
 
 -- how many had arrived at a barrier with the party's own arrival
@@ -12,17 +13,13 @@ abbrev pub arrived : ℕ → List Mark → ℕ
 arrived p [] = 0
 arrived p (m ∷ ms) = if (m.party == p) && is_some m.change then m.after.arrivals else arrived p ms
 
--- a group has been filled since that arrival, as far as a generation of 64 bits tells
-abbrev pub may_leave : Plain → ℕ → Bool
-may_leave s k = not (((s.arrivals / max s.group 1 - k / max s.group 1) % 2 ^ 64) == 0)
-
 -- Whether it is open to the party what its call asks in its present state, where the call may wait: `first` if it has made no plain step yet.
 -- Who queues asks for a ticket that enters at once, and with its ticket to enter; who may starve asks as everybody does, and once it has registered as a starver; and whoever has arrived at a barrier asks to leave
 abbrev pub is_open_next : Asked → Bool → ℕ → ℕ → Plain → Bool
 is_open_next (waits to_enter) true k p s = is_open_to s p to_take_and_enter
 is_open_next (waits ask) first k p s = is_open_to s p ask
-is_open_next waits_or_starves true k p s = is_open_to s p to_lock_unregistered
-is_open_next waits_or_starves false k p s = is_open_to s p to_lock_starving
+is_open_next (waits_or_starves n) true k p s = is_open_to s p to_lock_unregistered
+is_open_next (waits_or_starves n) false k p s = is_open_to s p to_lock_starving
 is_open_next initializes true k p s = is_nothing s.phase || is_complete s.phase
 is_open_next fails_to_initialize true k p s = is_nothing s.phase || is_complete s.phase
 is_open_next waits_for_value first k p s = is_complete s.phase

@@ -28,27 +28,31 @@ pub record FindsLastWritten {W V C L A : Type 0} (m : Machine W V C L A) (n : �
   pub leaked : (p : ℕ) (h : Hold) → slice_get (after m (at_first m n) past).seats p ≡ Some (Leaked h) → may_read h ≡ true → outcome_after m n past p Read ≡ Value (seen_after m (opening m n) past).written
   pub owner : (p : ℕ) (seat : Seat C L) → slice_get (after m (at_first m n) past).seats p ≡ Some seat → is_owners m (after m (at_first m n) past) ≡ true → outcome_after m n past p OwnerGet ≡ Value (seen_after m (opening m n) past).written
 
--- a move that begins no call and writes nothing
-abbrev pub is_quiet_move : {C V : Type 0} → Move C V → Bool
-is_quiet_move (Begin c) = false
-is_quiet_move (Write v) = false
-is_quiet_move _ = true
+-- a move that begins no call but one that keeps the guard, and writes nothing
+abbrev pub is_quiet_move : {C V : Type 0} → (C → Bool) → Move C V → Bool
+is_quiet_move keeps (Begin c) = keeps c
+is_quiet_move keeps (Write v) = false
+is_quiet_move keeps _ = true
 
 -- the party keeps its guard through these entries, and doesn't write
-abbrev pub is_quiet : {C V : Type 0} → ℕ → List (ℕ × Move C V) → Bool
-is_quiet p [] = true
-is_quiet p (e ∷ es) = (not (e.0 == p) || is_quiet_move e.1) && is_quiet p es
+abbrev pub is_quiet : {C V : Type 0} → (C → Bool) → ℕ → List (ℕ × Move C V) → Bool
+is_quiet keeps p [] = true
+is_quiet keeps p (e ∷ es) = (not (e.0 == p) || is_quiet_move keeps e.1) && is_quiet keeps p es
 
 -- two schedules one after the other come to the same as the two joined
 pub record RunsJoin {W V C L A : Type 0} (m : Machine W V C L A) (s : State W V C L) (first second : List (ℕ × Move C V)) : Type 0 where
   pub state : after m (after m s first) second ≡ after m s (first ++ second)
   pub events : events_of m s first ++ events_of m (after m s first) second ≡ events_of m s (first ++ second)
 
+-- two looks of a party, with no write of its own and no call between them but such that keep its guard, find the same
+abbrev pub ReadsAgreeAcross : {W V C L A : Type 0} → (C → Bool) → Machine W V C L A → ℕ → List (ℕ × Move C V) → Type 0
+ReadsAgreeAcross {V = V} {C = C} keeps m n past =
+    (p : ℕ) (between : List (ℕ × Move C V)) (r s : Option V) → is_quiet keeps p between ≡ true
+    → outcome_after m n past p Read ≡ Value r → outcome_after m n (past ++ (p, Read) ∷ between) p Read ≡ Value s → s ≡ r
+
 -- two looks of a party under one guard, with no write of its own between them, find the same
 abbrev pub ReadsAgree : {W V C L A : Type 0} → Machine W V C L A → ℕ → List (ℕ × Move C V) → Type 0
-ReadsAgree {V = V} {C = C} m n past =
-    (p : ℕ) (between : List (ℕ × Move C V)) (r s : Option V) → is_quiet p between ≡ true
-    → outcome_after m n past p Read ≡ Value r → outcome_after m n (past ++ (p, Read) ∷ between) p Read ≡ Value s → s ≡ r
+ReadsAgree m n past = ReadsAgreeAcross (λ c. false) m n past
 
 -- how many of these entries' events make a plain step of such a kind
 

@@ -1,6 +1,7 @@
 ghost use Rattle.std.specs.Prelude.{◌≡◌, ◌≤◌, [], length, IfOk, OnOk, OnErr, vec_capacity, slice_get, option_map};
 ghost use Rattle.spin_world_core.specs.Schedules.{at_first, after, events_of, with_begins, place_of};
 ghost use Rattle.spin_world_core.specs.Runs.{IsReached, AfterAnyPast, CanAlways, KeepsAll, MomentsAll, CountsAll};
+ghost use Rattle.spin_world_core.specs.Values.{ValuesAll};
 ghost use Rattle.spin_world_core.specs.Transcripts.{TellsAfterAnyPast, SaysAfterAnyPast};
 
 use crate::object::Object;
@@ -98,6 +99,8 @@ impl<O: Object> World<O> {
             AfterAnyPast m self.old.state schedule.now (MomentsAll m) }
         ensures counts { let m = O.machine self.old.object in
             AfterAnyPast m self.old.state schedule.now (CountsAll m) }
+        ensures values { let m = O.machine self.old.object in
+            AfterAnyPast m self.old.state schedule.now (ValuesAll m) }
         ensures tells { let m = O.machine self.old.object in
             IfOk result (λ t. TellsAfterAnyPast m self.old.state schedule.now t.events.items) }
     {

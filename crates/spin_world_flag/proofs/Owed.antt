@@ -99,6 +99,7 @@ module _ {V : Type 0} (v : V) where
         first = refl;
         shape_first = refl;
         numbers_tell = one_word;
+        no_value = refl;
         one_list = λ s value queue. no_queue s.holders s.tickets queue;
         shape_written = λ s p old new writes shape. shape;
         shape_set = λ s old new shape. shape;

@@ -231,6 +231,7 @@ module _ {V : Type 0} (v : V) (first : ℕ) where
         first = two first first first (first - 0) refl (omega arith);
         shape_first = record { no_holders = refl; numbered = (omega arith, tt); in_range = λ some. absurd (cc (some)) };
         numbers_tell = λ u w e. two_words u w e;
+        no_value = refl;
         one_list = λ s value queue. ap (λ hs. is_empty hs || is_empty s.tickets) queue.no_holders;
         shape_written = λ s p old new writes shape. shape;
         shape_set = λ s old new shape. shape;

@@ -58,6 +58,12 @@ returns-in_err-events-clause-counts g c = λ n past reached. (c.laws.ensures c.a
 pub returns-clause-counts : goal.returns-clause-counts
 returns-clause-counts g c = λ n past reached. (c.laws.ensures c.args.self.now.object).counts n (past ++ c.args.schedule.now)
 
+pub returns-in_err-events-clause-values : goal.returns-in_err-events-clause-values
+returns-in_err-events-clause-values g c = λ n past reached. (c.laws.ensures c.args.self.now.object).values n (past ++ c.args.schedule.now)
+
+pub returns-clause-values : goal.returns-clause-values
+returns-clause-values g c = λ n past reached. (c.laws.ensures c.args.self.now.object).values n (past ++ c.args.schedule.now)
+
 pub returns-clause-tells : goal.returns-clause-tells
 returns-clause-tells g c =
     let m = g.O.Object.machine c.self.inside.object in

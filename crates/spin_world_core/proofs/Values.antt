@@ -1,0 +1,87 @@
+-- Every event keeps what is promised of values that closures make.
+use Rattle.std.proofs.Common.{◌≡◌, ℕ, Option, Some, None, List, [], ◌∷◌, slice_get, refl, ◌∙◌}
+use Rattle.spin_step.specs.Plain.{Change, gets, releases, serves, stops_starving, turns, completes, fails, arrives}
+use Rattle.spin_world_core.specs.declared.place.Hold.{Hold}
+use Rattle.spin_world_core.specs.declared.place.Seat.{Seat}
+use Rattle.spin_world_core.specs.declared.place.Seat.TheVariants.{Idle, Calling, Holding, Leaked, Gone}
+use Rattle.spin_world_core.specs.declared.object.Next.{Next}
+use Rattle.spin_world_core.specs.declared.object.Next.TheVariants.{GoesOn, Answers}
+use Rattle.spin_world_core.specs.declared.schedule.Move.{Move}
+use Rattle.spin_world_core.specs.declared.schedule.Move.TheVariants.{Begin, Step, Weak, Read, Write, Leak, OwnerGet, OwnerSet}
+use Rattle.spin_world_core.specs.Machines.{Machine, opening_plain}
+use Rattle.spin_world_core.specs.Schedules.{State, goes_on, refuses, placed}
+use Rattle.spin_world_core.specs.Runs.{Seen, Scene, scene_at, scene, Every, opening}
+use Rattle.spin_world_core.specs.Values.{Brings, GivesAt, KeepsValue, ValuesAll}
+use Rattle.spin_world_core.proofs.Facts.{LocalInvariant, NextGives, Facts}
+use Rattle.spin_world_core.proofs.Kept.{Invariant, in_call}
+use Rattle.spin_world_core.proofs.Every.{kept, good_first}
+
+module _ {W V C L A : Type 0} (m : Machine W V C L A) where
+  -- a call that goes on leaves the value as its step left it
+  value-goes_on : (s : State W V C L) (p : ℕ) (c : C) (h : Option Hold) (next : Next L A) → (goes_on s p c h next).next.value ≡ s.value
+  value-goes_on s p c h (GoesOn l) = refl
+  value-goes_on s p c h (Answers a after) = refl
+
+  gives-step : (s : State W V C L) (p : ℕ) (c : C) (h : Option Hold) (next : Next L A) → NextGives m s.value next → GivesAt m Step (goes_on s p c h next).outcome (goes_on s p c h next).next.value
+  gives-step s p c h (GoesOn l) gives = tt
+  gives-step s p c h (Answers a after) gives = gives
+
+  gives-weak : (s : State W V C L) (p : ℕ) (c : C) (h : Option Hold) (o : Option (Next L A)) → ((next : Next L A) → o ≡ Some next → NextGives m s.value next)
+      → GivesAt m Weak (refuses s p c h o).outcome (refuses s p c h o).next.value
+  gives-weak s p c h None gives = tt
+  gives-weak s p c h (Some (GoesOn l)) gives = tt
+  gives-weak s p c h (Some (Answers a after)) gives = gives (Answers a after) refl
+
+  brings-by : (c : C) (l : L) (h : Option Hold) (step : Option Change) (value : Option V) → ((q : ℕ) → step ≡ Some (completes q) → value ≡ m.brings c) → Brings m step (Some (Calling c l h)) value
+  brings-by c l h None value brings = tt
+  brings-by c l h (Some (completes q)) value brings = brings q refl
+  brings-by c l h (Some (gets p ask)) value brings = tt
+  brings-by c l h (Some (releases p k)) value brings = tt
+  brings-by c l h (Some (serves p)) value brings = tt
+  brings-by c l h (Some (stops_starving p)) value brings = tt
+  brings-by c l h (Some (turns p k j)) value brings = tt
+  brings-by c l h (Some (fails p)) value brings = tt
+  brings-by c l h (Some (arrives p)) value brings = tt
+
+  module _ (k : LocalInvariant V C L) (f : Facts m k) where
+    -- an event that is no step of a call
+    still : (seen : Seen W V C L) (s : Scene W V C L A) → Invariant m k s.after → Brings m s.change s.seat s.after.state.value → GivesAt m s.move s.outcome s.after.state.value → KeepsValue m s
+    still seen s after brings gives = record { phase = f.phase s.after.plain s.after.state.value after.shape; brings = brings; gives = gives }
+
+    keeps_at : (seen : Seen W V C L) (p : ℕ) (move : Move C V) (o : Option (Seat C L)) → Invariant m k seen → slice_get seen.state.seats p ≡ o → Invariant m k (scene_at m seen p move o).after → KeepsValue m (scene_at m seen p move o)
+    keeps_at seen p (Begin c) o good there after = still seen _ after tt tt
+    keeps_at seen p Step (Some (Calling c l h)) good there after =
+        let st = m.step seen.state.words seen.state.value c l h in
+        let now : State W V C L = record seen.state { words = st.words; value = placed st.placed seen.state.value } in
+        let is = f.values p c l h seen.plain seen.state.value seen.state.words (seen.span p) (in_call m k seen p c l h good there) in
+        still seen _ after (brings-by c l h (m.change p seen.state.words c l h) _ (λ q e. value-goes_on now p c h st.next ∙ is.brings q e)) (gives-step now p c h st.next is.gives)
+    keeps_at seen p Step None good there after = still seen _ after tt tt
+    keeps_at seen p Step (Some Idle) good there after = still seen _ after tt tt
+    keeps_at seen p Step (Some (Holding h)) good there after = still seen _ after tt tt
+    keeps_at seen p Step (Some (Leaked h)) good there after = still seen _ after tt tt
+    keeps_at seen p Step (Some (Gone h)) good there after = still seen _ after tt tt
+    keeps_at seen p Weak (Some (Calling c l h)) good there after =
+        still seen _ after tt
+        (gives-weak seen.state p c h (m.refuse c l h) (λ next is. f.refusal_gives p c l h seen.plain seen.state.value seen.state.words (seen.span p) next (in_call m k seen p c l h good there) is))
+    keeps_at seen p Weak None good there after = still seen _ after tt tt
+    keeps_at seen p Weak (Some Idle) good there after = still seen _ after tt tt
+    keeps_at seen p Weak (Some (Holding h)) good there after = still seen _ after tt tt
+    keeps_at seen p Weak (Some (Leaked h)) good there after = still seen _ after tt tt
+    keeps_at seen p Weak (Some (Gone h)) good there after = still seen _ after tt tt
+    keeps_at seen p Read o good there after = still seen _ after tt tt
+    keeps_at seen p (Write v) o good there after = still seen _ after tt tt
+    keeps_at seen p Leak o good there after = still seen _ after tt tt
+    keeps_at seen p OwnerGet o good there after = still seen _ after tt tt
+    keeps_at seen p (OwnerSet v) o good there after = still seen _ after tt tt
+
+    -- one event
+    pub keeps_value : (seen : Seen W V C L) (p : ℕ) (move : Move C V) → Invariant m k seen → KeepsValue m (scene m seen p move)
+    keeps_value seen p move good = keeps_at seen p move (slice_get seen.state.seats p) good refl (kept m k f seen p move good).good
+
+    values_every : (seen : Seen W V C L) (es : List (ℕ × Move C V)) → Invariant m k seen → Every (KeepsValue m) m seen es
+    values_every seen [] good = tt
+    values_every seen (e ∷ es) good =
+        (keeps_value seen e.0 e.1 good, values_every (scene m seen e.0 e.1).after es (kept m k f seen e.0 e.1 good).good)
+
+    pub values_of : (n : ℕ) (es : List (ℕ × Move C V)) → ValuesAll m n es
+    values_of n es = record { first = f.phase (opening_plain m) m.value f.shape_first; each = values_every (opening m n) es (good_first m k f n) }
