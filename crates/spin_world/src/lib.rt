@@ -3,13 +3,37 @@
 //! A user names this crate alone. The world and its laws are those of `spin_world_core`; each object has a crate of its own.
 #![tactic(auto)]
 
+pub use spin_world_barrier::{
+    BarrierCall, BarrierObject, BarrierPoint, BarrierWords, a_follower_waits_for_its_leader,
+    every_last_of_a_group_leads, the_first_of_a_group_follows,
+};
 pub use spin_world_core::{
     Answer, Event, Hold, Move, Next, Object, Outcome, Place, Seat, Stepped, Transcript, World,
     looks_find_the_last_write, looks_under_one_guard_agree, two_runs_are_one,
 };
+pub use spin_world_fair::{
+    Fair, FairCall, FairPoint, a_dropped_starver_leaves_the_flag,
+    a_granted_starver_leaves_the_starvers, a_lock_in_vain_registers,
+    a_lock_looks_before_it_registers, a_lock_past_its_patience_is_no_newcomer,
+    a_newcomer_yields_to_starvers, a_refusal_tells_its_reason, a_starver_tries_again,
+    a_word_is_zero_when_nobody_holds_or_starves, starvers_come_first, starvers_stay_within_the_cap,
+};
 pub use spin_world_flag::{
     Flag, FlagCall, FlagPoint, a_flag_is_clear_when_nobody_holds, a_lock_tries_again,
     a_look_has_a_cause, a_strong_try_has_a_cause,
+};
+pub use spin_world_once::{
+    OnceCall, OnceObject, OncePoint, a_failure_clears_the_word, a_failure_lets_go,
+    a_get_finds_a_value, a_later_closure_may_run, a_later_get_agrees, a_poll_waits_for_the_closure,
+    a_second_closure_does_not_run, a_value_is_the_closures_own, a_value_stays,
+    an_answer_is_the_value_placed, one_closure_runs_at_a_time,
+};
+pub use spin_world_rw::{
+    Rw, RwCall, RwPoint, a_count_tells_the_upgradable_reader, a_downgrade_is_one_step,
+    a_downgrade_keeps_writers_out, a_read_is_answered, a_reader_stays_out_beside_a_writer,
+    a_refused_try_adds_no_reader, a_try_write_has_a_cause, a_word_is_zero_when_nobody_holds,
+    an_upgrade_is_refused_beside_readers, an_upgrade_never_lets_go, an_upgrade_opens_by_releases,
+    looks_agree_across_conversions, readers_stand_beside_no_writer,
 };
 pub use spin_world_ticket::{
     Ticket, TicketCall, TicketPoint, TicketWords, a_lock_enters, a_lock_queues_behind_others,

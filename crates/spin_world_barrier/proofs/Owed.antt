@@ -1,0 +1,215 @@
+-- What the barrier's table owes.
+use Rattle.std.proofs.Common.{◌≡◌, ℕ, ◌+◌, ◌/◌, ◌%◌, ◌^◌, ◌≤◌, ◌==◌, Bool, true, false, ◌&&◌, ◌||◌, is_some, Option, Some, None, List, [], ◌∷◌, if◌then◌else◌, refl, ap, sym, ◌∙◌, subst, arith, inl, inr}
+use Rattle.std.specs.Prelude.{max}
+use Rattle.std.proofs.lemmas.Bool.{false≢true, ne_eqb}
+use Rattle.std.proofs.Math.Nat.{mod-le, div-le_self}
+use Rattle.spin_step.specs.Plain.{Plain, Holder, Change, gets, releases, serves, stops_starving, turns, completes, fails, arrives, Ask, to_read, to_read_upgradable, to_write, to_upgrade, to_take_ticket, to_enter, to_take_and_enter, to_lock_unregistered, to_lock_starving, to_lock_starving_alone, to_starve, to_begin, apply, is_empty, count_word, generation_word}
+use Rattle.spin_step.specs.Parties.{apply_some}
+use Rattle.spin_step.specs.Barriers.{IsBarrier, is_leading, generation_at, may_leave}
+use Rattle.spin_step.proofs.Barriers.{barrier_arrive-words, barrier_count-below, barrier_may_leave-tells, barrier_may_leave-full}
+use Rattle.spin_world_core.specs.declared.answer.Answer.{Answer}
+use Rattle.spin_world_core.specs.declared.answer.Answer.TheVariants.{Follower}
+use Rattle.spin_world_core.specs.declared.place.Hold.{Hold}
+use Rattle.spin_world_core.specs.declared.object.Next.TheVariants.{GoesOn, Answers}
+use Rattle.spin_world_barrier.specs.declared.barrier.BarrierWords.{BarrierWords}
+use Rattle.spin_world_barrier.specs.declared.barrier.BarrierCall.{BarrierCall}
+use Rattle.spin_world_barrier.specs.declared.barrier.BarrierPoint.{BarrierPoint}
+use Rattle.spin_world_barrier.specs.declared.barrier.BarrierPoint.TheVariants.{Arrive, Leave}
+use Rattle.spin_world_core.specs.Manners.{Manner}
+use Rattle.spin_world_core.specs.Calls.{barrier, BelongsTo, may_be_got, Mark, meets, follows, AnyOf, Arrives}
+use Rattle.spin_world_core.specs.Undisturbed.{arrived}
+use Rattle.spin_world_core.specs.Acts.{either}
+use Rattle.spin_world_core.specs.Runs.{mark_of}
+use Rattle.spin_world_core.specs.Users.{passes}
+use Rattle.spin_step.specs.Steps.{bit}
+use Rattle.spin_world_barrier.specs.Groups.{is_arrival}
+use Rattle.spin_world_barrier.specs.Barrier.{begins_at, is_past, act_of, barrier_table, barrier_machine}
+use Rattle.spin_world_core.proofs.Lists.{eqb_self}
+use Rattle.spin_world_core.proofs.Facts.{LocalInvariant, Facts}
+use Rattle.spin_world_core.proofs.Stands.{absent}
+use Rattle.spin_world_core.proofs.Rows.{Row, Point, nowhere, looked, onward, SoundAt}
+use Rattle.spin_world_core.proofs.Shapes.{Notes, keeping_of, At, row_of, OwesAt, goes_by, answers_by, OwesSoon, BeginsAt, makes_own, Pays}
+use Rattle.spin_world_core.proofs.Paid.{facts_of}
+
+abbrev pub point_of : BarrierPoint → Option Hold → Point
+point_of Arrive None = looked 0
+point_of (Leave g) None = onward (record { stand = absent; made = λ p. arrives p ∷ []; rest = λ p. []; said = follows; spent = 0 })
+point_of l (Some h) = nowhere
+
+-- a party that has arrived knows the number of its arrival, which leads no group, and the generation that it found with it
+pub record Waits (g p : ℕ) (s : Plain) (span : List Mark) : Type 0 where
+  pub number : ℕ
+  pub is_number : arrived p span ≡ number
+  pub come : number ≤ s.arrivals
+  pub found : generation_at s number ≡ g
+  pub follows : is_leading s number ≡ false
+  pub made : AnyOf (λ m. Arrives p number m × (is_leading m.before number ≡ false)) span
+
+abbrev pub KnowsAt : BarrierPoint → ℕ → Plain → List Mark → Type 0
+KnowsAt Arrive p s span = Unit {0}
+KnowsAt (Leave g) p s span = Waits g p s span
+
+-- nobody holds it or queues, and its groups are of this size
+pub record IsOf (n : ℕ) (s : Plain) : Type 0 where
+  pub no_holders : s.holders ≡ []
+  pub group : s.group ≡ n
+
+abbrev pub barrier_notes : (n : ℕ) → Notes (barrier_table n)
+barrier_notes n = record { Shape = λ s v. IsOf n s; point = λ c l h. point_of l h; Knows = λ c l h p s span. KnowsAt l p s span }
+
+-- only arrivals are made here
+
+got_none : (ask : Ask) → may_be_got barrier ask ≡ false
+got_none to_read = refl
+got_none to_read_upgradable = refl
+got_none to_write = refl
+got_none to_upgrade = refl
+got_none to_take_ticket = refl
+got_none to_enter = refl
+got_none to_take_and_enter = refl
+got_none to_lock_unregistered = refl
+got_none to_lock_starving = refl
+got_none to_lock_starving_alone = refl
+got_none to_starve = refl
+got_none to_begin = refl
+
+-- another step leaves the group's size, and does not lower the arrivals
+record Rises (s t : Plain) : Type 0 where
+  group : t.group ≡ s.group
+  arrivals : s.arrivals ≤ t.arrivals
+
+rises : (s : Plain) (step : Option Change) → BelongsTo barrier step → Rises s (apply_some s step)
+rises s None belongs = record { group = refl; arrivals = omega arith }
+rises s (Some (gets p ask)) belongs = absurd (false≢true (sym (got_none ask) ∙ belongs))
+rises s (Some (releases p k)) belongs = absurd (false≢true belongs)
+rises s (Some (serves p)) belongs = absurd (false≢true belongs)
+rises s (Some (stops_starving p)) belongs = absurd (false≢true belongs)
+rises s (Some (turns p k l)) belongs = absurd (false≢true belongs)
+rises s (Some (completes p)) belongs = absurd (false≢true belongs)
+rises s (Some (fails p)) belongs = absurd (false≢true belongs)
+rises s (Some (arrives p)) belongs = record { group = refl; arrivals = omega arith }
+
+-- the arrivals grow by the step, where it is one
+pub one_more : (s : Plain) (step : Option Change) → BelongsTo barrier step → (apply_some s step).arrivals ≡ s.arrivals + bit (passes is_arrival step)
+one_more s None belongs = omega arith
+one_more s (Some (gets p ask)) belongs = absurd (false≢true (sym (got_none ask) ∙ belongs))
+one_more s (Some (releases p k)) belongs = absurd (false≢true belongs)
+one_more s (Some (serves p)) belongs = absurd (false≢true belongs)
+one_more s (Some (stops_starving p)) belongs = absurd (false≢true belongs)
+one_more s (Some (turns p k l)) belongs = absurd (false≢true belongs)
+one_more s (Some (completes p)) belongs = absurd (false≢true belongs)
+one_more s (Some (fails p)) belongs = absurd (false≢true belongs)
+one_more s (Some (arrives p)) belongs = refl
+
+-- a step that is no arrival of the party's own leaves what it knows
+waits-on : (g p q : ℕ) (s : Plain) (step : Option Change) (r : Manner) (span : List Mark) → ((q == p) && is_some step) ≡ false → BelongsTo barrier step → Waits g p s span → Waits g p (apply_some s step) (mark_of q step r s ∷ span)
+waits-on g p q s step r span none belongs waits =
+    let up = rises s step belongs in
+    record {
+      number = waits.number;
+      is_number = ap (λ b. if b then (apply_some s step).arrivals else arrived p span) none ∙ waits.is_number;
+      come = omega (arith, waits.come, up.arrivals);
+      found = ap (λ n. (waits.number / max n 1) % 2 ^ 64) up.group ∙ waits.found;
+      follows = ap (λ n. (waits.number % max n 1) == 0) up.group ∙ waits.follows;
+      made = inr waits.made;
+    }
+
+no_arrival : (b : Bool) → (b && false) ≡ false
+no_arrival true = refl
+no_arrival false = refl
+
+module _ (n : ℕ) where
+  abbrev Here : ℕ → BarrierCall → BarrierPoint → Option Hold → Plain → Option ℕ → BarrierWords → List Mark → Row → Type 0
+  Here p c l h s v w span row = At (barrier_table n) (barrier_notes n) p c l h s v w span row
+
+  pub is_barrier : (s : Plain) (w : BarrierWords) → w.count ∷ w.generation ∷ [] ≡ count_word s ∷ generation_word s ∷ [] → IsOf n s → IsBarrier s n w.count w.generation
+  is_barrier s w encodes of = record { group = of.group; counts = cc (encodes); generations = cc (encodes) }
+
+  two : (a b c d : ℕ) → a ≡ c → b ≡ d → a ∷ b ∷ [] ≡ c ∷ d ∷ []
+  two a b c d e f = cc (e, f)
+
+  two_words : (u w : BarrierWords) → u.count ∷ u.generation ∷ [] ≡ w.count ∷ w.generation ∷ [] → u ≡ w
+  two_words u w e =
+      let count : u.count ≡ w.count = cc (e) in
+      let generation : u.generation ≡ w.generation = cc (e) in
+      ap (λ k. record { count = k; generation = u.generation }) count ∙ ap (λ k. record { count = w.count; generation = k }) generation
+
+  -- the party's own arrival, which leads no group
+  waits_from : (p : ℕ) (s : Plain) (r : Manner) (span : List Mark) (g : ℕ) → generation_word s ≡ g → is_leading s (s.arrivals + 1) ≡ false → generation_at s (s.arrivals + 1) ≡ g → Waits g p (apply s (arrives p)) (mark_of p (Some (arrives p)) r s ∷ span)
+  waits_from p s r span g is behind same =
+      record {
+        number = s.arrivals + 1;
+        is_number = ap (λ b. if b && true then s.arrivals + 1 else arrived p span) (eqb_self p);
+        come = omega arith;
+        found = same;
+        follows = behind;
+        made = inl ((refl, refl, refl), behind);
+      }
+
+  owes : (p : ℕ) (c : BarrierCall) (l : BarrierPoint) (h : Option Hold) (s : Plain) (v : Option ℕ) (w : BarrierWords) (span : List Mark) → OwesAt (barrier_table n) (barrier_notes n) p c l h s v w span (row_of (barrier_table n) (barrier_notes n) c l h)
+  owes p c Arrive None s v w span = λ at.
+      let is = is_barrier s w at.encodes at.shape in
+      let after = barrier_arrive-words s n w.count w.generation is in (
+        barrier_count-below s n w.count w.generation is,
+        ((refl, refl), two _ _ _ _ (sym after.words.counts) (sym after.words.generations), record { no_holders = at.shape.no_holders; group = at.shape.group }),
+        (λ full. (refl, inl refl, inl (s.arrivals + 1, (refl, refl, refl), sym after.leads ∙ full))),
+        (λ behind. (refl, refl, tt, tt, waits_from p s _ span w.generation is.generations (sym after.leads ∙ behind) (after.stays behind))),
+      )
+  owes p c (Leave g) None s v w span = λ at.
+      let is = is_barrier s w at.encodes at.shape in
+      let waits = at.knows in (
+        (λ past. (refl, inl refl, (waits.number, inr waits.made, inl (barrier_may_leave-full s waits.number n w.count w.generation g is waits.come waits.found waits.follows past)))),
+        (λ same. (refl, refl, tt, tt, waits-on g p p s None _ span (no_arrival (p == p)) tt waits)),
+      )
+  owes p _ _ (Some h) s v w span = tt
+
+  soon : (p : ℕ) (c : BarrierCall) (l : BarrierPoint) (h : Option Hold) (s : Plain) (v : Option ℕ) (w : BarrierWords) (span : List Mark)
+      → OwesSoon (barrier_table n) (barrier_notes n) p c l h s v w span true (row_of (barrier_table n) (barrier_notes n) c l h)
+  soon p c Arrive None s v w span = λ at may. absurd (false≢true may)
+  soon p c (Leave g) None s v w span = λ at may.
+      let is = is_barrier s w at.encodes at.shape in
+      let waits = at.knows in
+      let past : is_past g w ≡ true = barrier_may_leave-tells s waits.number n w.count w.generation g is waits.come waits.found ∙ subst (λ k. may_leave s k ≡ true) waits.is_number may in
+      ap (λ b. goes_by {A = Answer ℕ} (either b (Answers Follower None) (GoesOn (Leave g))) true (λ l. answers_by (barrier_table n) 3 w c l None)) past
+  soon p _ _ (Some h) s v w span = tt
+
+  begins : (p : ℕ) (c : BarrierCall) (h : Option Hold) (s : Plain) → BeginsAt (barrier_table n) (barrier_notes n) c h p s (begins_at h)
+  begins p c None s = (refl, refl, tt, tt)
+  begins p c (Some h) s = tt
+
+  makes : (p : ℕ) (l : BarrierPoint) (h : Option Hold) → makes_own barrier (act_of n l h) p ≡ true
+  makes p Arrive h = refl
+  makes p (Leave g) h = refl
+
+  sound : (p : ℕ) (l : BarrierPoint) (h : Option Hold) → SoundAt barrier meets p (point_of l h)
+  sound p Arrive None = refl
+  sound p (Leave g) None = (refl, inl refl)
+  sound p _ (Some h) = tt
+
+  others : (p q : ℕ) (l : BarrierPoint) (s : Plain) (step : Option Change) (r : Manner) (span : List Mark) → (q ≡ p → ⊥) → BelongsTo barrier step → KnowsAt l p s span → KnowsAt l p (apply_some s step) (mark_of q step r s ∷ span)
+  others p q Arrive s step r span ne belongs knows = tt
+  others p q (Leave g) s step r span ne belongs knows = waits-on g p q s step r span (ap (λ b. b && is_some step) (ne_eqb q p ne)) belongs knows
+
+  pub barrier_pays : Pays (barrier_table n) (barrier_notes n)
+  barrier_pays =
+      record {
+        first = two 0 0 (0 % max n 1) ((0 / max n 1) % 2 ^ 64) (omega (arith, mod-le 0 (max n 1))) (omega (arith, div-le_self 0 (max n 1)));
+        shape_first = record { no_holders = refl; group = refl };
+        numbers_tell = two_words;
+        no_value = refl;
+        one_list = λ s v of. ap (λ (hs : List Holder). is_empty hs || is_empty s.tickets) of.no_holders;
+        shape_written = λ s p old new writes of. of;
+        shape_set = λ s old new of. of;
+        makes = λ p c l h. makes p l h;
+        sound = λ p c l h. sound p l h;
+        begins = begins;
+        others = λ p q c l h s v step r span ne of may belongs knows. others p q l s step r span ne belongs knows;
+        owes = owes;
+        soon = soon;
+      }
+
+abbrev pub barrier_keeping : (n : ℕ) → LocalInvariant ℕ BarrierCall BarrierPoint
+barrier_keeping n = keeping_of (barrier_table n) (barrier_notes n)
+
+pub barrier_facts : (n : ℕ) → Facts (barrier_machine n) (barrier_keeping n)
+barrier_facts n = facts_of (barrier_table n) (barrier_notes n) (barrier_pays n)

@@ -1,0 +1,59 @@
+-- The barrier's call, step by step, and how it reads on the plain lock.
+use Rattle.std.specs.Prelude.{ℕ, Bool, false, not, Option, Some, None, [], ◌∷◌, ◌==◌, nat_lt, max}
+use Rattle.spin_step.specs.Plain.{arrives}
+use Rattle.spin_step.specs.Barriers.{arrived}
+use Rattle.spin_world_core.specs.declared.place.Hold.{Hold}
+use Rattle.spin_world_core.specs.declared.object.Next.TheVariants.{GoesOn, Answers}
+use Rattle.spin_world_core.specs.declared.answer.Answer.{Answer}
+use Rattle.spin_world_core.specs.declared.answer.Answer.TheVariants.{Leader, Follower}
+use Rattle.spin_world_barrier.specs.declared.barrier.BarrierWords.{BarrierWords}
+use Rattle.spin_world_barrier.specs.declared.barrier.BarrierCall.{BarrierCall}
+use Rattle.spin_world_barrier.specs.declared.barrier.BarrierPoint.{BarrierPoint}
+use Rattle.spin_world_barrier.specs.declared.barrier.BarrierPoint.TheVariants.{Arrive, Leave}
+use Rattle.spin_world_core.specs.Calls.{barrier, meets, says_of}
+use Rattle.spin_world_core.specs.Machines.{Machine}
+use Rattle.spin_world_core.specs.Acts.{Act, load_if, store_if, Table, machine_of}
+
+abbrev pub begins_at : Option Hold → Option BarrierPoint
+begins_at None = Some Arrive
+begins_at (Some h) = None
+
+-- the words after one more arrival at a barrier whose groups have n, and whether that one leads
+abbrev pub arrive : ℕ → BarrierWords → BarrierWords
+arrive n w = let a = arrived n w.count w.generation in record { count = a.0.0; generation = a.0.1 }
+
+abbrev pub leads : ℕ → BarrierWords → Bool
+leads n w = (arrived n w.count w.generation).1
+
+-- the count is below the group's size
+abbrev pub is_below : ℕ → BarrierWords → Bool
+is_below n w = nat_lt w.count (max n 1)
+
+-- another generation is found than this one
+abbrev pub is_past : ℕ → BarrierWords → Bool
+is_past g w = not (w.generation == g)
+
+abbrev pub act_of : ℕ → BarrierPoint → Option Hold → Act BarrierWords BarrierPoint (Answer ℕ)
+act_of n Arrive h = store_if (is_below n) (arrive n) (λ p. arrives p) (leads n) (Answers Leader h) (λ w. GoesOn (Leave w.generation))
+act_of n (Leave g) h = load_if (is_past g) (λ w. Answers Follower h) (λ w. GoesOn (Leave g))
+
+abbrev pub barrier_table : ℕ → Table BarrierWords ℕ BarrierCall BarrierPoint (Answer ℕ)
+barrier_table n =
+    record {
+      words = record { count = 0; generation = 0 };
+      value = None;
+      owned = false;
+      coding = barrier;
+      cap = 0;
+      group = n;
+      first = 0;
+      number = λ w. w.count;
+      others = λ w. w.generation ∷ [];
+      begin = λ c h. begins_at h;
+      act = λ c l h. act_of n l h;
+      asks = λ c h. meets;
+      says = says_of;
+    }
+
+abbrev pub barrier_machine : ℕ → Machine BarrierWords ℕ BarrierCall BarrierPoint (Answer ℕ)
+barrier_machine n = machine_of (barrier_table n)

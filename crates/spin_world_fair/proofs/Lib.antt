@@ -1,0 +1,4 @@
+pub mod Found
+pub mod Registering
+pub mod Owed
+pub mod Fairness

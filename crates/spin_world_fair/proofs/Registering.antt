@@ -1,0 +1,206 @@
+-- Registering in time: what `lock` knows of the looks in its span, that others leave it true, and what each step makes of it.
+use Rattle.std.proofs.Common.{◌≡◌, ℕ, ◌+◌, ◌<◌, ◌≤◌, ◌⊎◌, ◌==◌, true, false, not, ◌&&◌, Option, Some, None, List, [], ◌∷◌, ◌++◌, refl, ap, sym, ◌∙◌, subst, arith, inl, inr, ⊎_elim}
+use Rattle.std.proofs.lemmas.Bool.{ne_eqb, eq-eqb, false≢true}
+use Rattle.spin_step.specs.Plain.{Plain, Change, gets, to_starve, is_open}
+use Rattle.spin_step.specs.Parties.{apply_some, is_held}
+use Rattle.spin_step.specs.Steps.{bit}
+use Rattle.spin_world_core.specs.Manners.{Manner, plain, again, look, is_look}
+use Rattle.spin_world_core.specs.Calls.{Mark, fair, AnyOf, Registers, TriesToStarve, first_word}
+use Rattle.spin_world_core.specs.Runs.{mark_of, own, own_count, changes, held_looks, IsLateLook, RegistersInTime}
+use Rattle.spin_world_core.proofs.Lists.{eqb_self}
+use Rattle.spin_world_core.proofs.Spans.{own_count-mine, own_count-other, changes-mine, changes-other}
+use Rattle.spin_world_core.proofs.Rows.{moved}
+
+-- a span that is one step longer
+module _ (Few Fewer : List Mark → Type 0) (p n : ℕ) (now : Mark) (span : List Mark) (keeps : (recent : List Mark) → Few recent → TriesToStarve p now ⊎ Fewer (now ∷ recent)) (first : IsLateLook p n now span → Fewer [])
+    (registers : Registers p now → n < held_looks p span) (old : RegistersInTime Few p n span) where
+  soon_later : (recent : List Mark) (m : Mark) (older : List Mark) → now ∷ span ≡ recent ++ m ∷ older → IsLateLook p n m older → AnyOf (TriesToStarve p) recent ⊎ Fewer recent
+  soon_later [] m older is late =
+      let here : now ≡ m = cc (is) in
+      let rest : span ≡ older = cc (is) in
+      inr (first (subst (λ k. IsLateLook p n k span) (sym here) (subst (λ ms. IsLateLook p n m ms) (sym rest) late)))
+  soon_later (x ∷ recent) m older is late =
+      let here : now ≡ x = cc (is) in
+      let rest : span ≡ recent ++ m ∷ older = cc (is) in
+      ⊎_elim
+      (λ tried. inl (inr tried))
+      (λ few. ⊎_elim (λ tries. inl (inl (subst (TriesToStarve p) here tries))) (λ fewer. inr (subst (λ k. Fewer (k ∷ recent)) here fewer)) (keeps recent few))
+      (old.soon recent m older rest late)
+
+  patient_later : (recent : List Mark) (m : Mark) (older : List Mark) → now ∷ span ≡ recent ++ m ∷ older → Registers p m → n < held_looks p older
+  patient_later [] m older is register =
+      let here : now ≡ m = cc (is) in
+      let rest : span ≡ older = cc (is) in
+      subst (λ ms. n < held_looks p ms) rest (registers (subst (Registers p) (sym here) register))
+  patient_later (x ∷ recent) m older is register = let rest : span ≡ recent ++ m ∷ older = cc (is) in old.patient recent m older rest register
+
+  later : RegistersInTime Fewer p n (now ∷ span)
+  later = record { soon = soon_later; patient = patient_later }
+
+pub sooner : (Few Fewer : List Mark → Type 0) (p n : ℕ) (span : List Mark) → ((recent : List Mark) → Few recent → Fewer recent) → RegistersInTime Few p n span → RegistersInTime Fewer p n span
+sooner Few Fewer p n span fewer old = record { soon = λ recent m older is late. ⊎_elim (λ tried. inl tried) (λ few. inr (fewer recent few)) (old.soon recent m older is late); patient = old.patient }
+
+-- nothing is left to do of what was to be done after a late look
+abbrev pub none_left : List Mark → Type 0
+none_left recent = ⊥
+
+-- so many steps since it when `lock` loads the word, and when it is about to make its exchange of the word w
+abbrev pub few_to_load : ℕ → List Mark → Type 0
+few_to_load p recent = own_count p recent ≤ changes fair p recent
+
+abbrev pub few_to_register : ℕ → Plain → ℕ → List Mark → Type 0
+few_to_register p s w recent = own_count p recent + bit (not (first_word fair s == w)) ≤ 1 + changes fair p recent
+
+-- `lock` looks, and has found the lock held k times; not counted past its patience
+pub record Looking (patience k p : ℕ) (span : List Mark) : Type 0 where
+  pub counted : k < patience → held_looks p span ≤ k
+  pub many : k ≤ held_looks p span
+  pub in_time : RegistersInTime none_left p patience span
+
+-- it goes to register, after a late look
+pub record Going (Few : List Mark → Type 0) (patience p : ℕ) (span : List Mark) : Type 0 where
+  pub past : patience < held_looks p span
+  pub in_time : RegistersInTime Few p patience span
+
+abbrev pub Loading : ℕ → ℕ → List Mark → Type 0
+Loading patience p span = Going (few_to_load p) patience p span
+
+abbrev pub Registering : ℕ → ℕ → ℕ → Plain → List Mark → Type 0
+Registering patience w p s span = Going (few_to_register p s w) patience p span
+
+-- as the call begins
+pub none_yet : {p n : ℕ} → RegistersInTime none_left p n []
+none_yet {p} {n} = record { soon = λ recent m older is late. absurd (no_split recent older m is); patient = λ recent m older is register. absurd (no_split recent older m is) }
+  where
+    no_split : (recent older : List Mark) (m : Mark) → [] ≡ recent ++ m ∷ older → ⊥
+    no_split [] older m e = cc (e)
+    no_split (x ∷ xs) older m e = cc (e)
+
+-- another party's step
+
+held_looks-other : (p q : ℕ) (step : Option Change) (r : Manner) (s : Plain) (span : List Mark) → (q ≡ p → ⊥) → held_looks p (mark_of q step r s ∷ span) ≡ held_looks p span
+held_looks-other p q step r s span ne = omega (arith, ap (λ b. bit (b && (is_look r && is_held s))) (ne_eqb q p ne))
+
+module _ (patience p q : ℕ) (s : Plain) (step : Option Change) (r : Manner) (span : List Mark) (ne : q ≡ p → ⊥) where
+  beside : (Few Fewer : List Mark → Type 0) → ((recent : List Mark) → Few recent → Fewer (mark_of q step r s ∷ recent)) → RegistersInTime Few p patience span → RegistersInTime Fewer p patience (mark_of q step r s ∷ span)
+  beside Few Fewer keeps old = later Few Fewer p patience (mark_of q step r s) span (λ recent few. inr (keeps recent few)) (λ late. absurd (ne late.party)) (λ register. absurd (ne register.0)) old
+
+  pub starving-other : RegistersInTime none_left p patience span → RegistersInTime none_left p patience (mark_of q step r s ∷ span)
+  starving-other old = beside none_left none_left (λ recent few. few) old
+
+  pub looking-other : (k : ℕ) → Looking patience k p span → Looking patience k p (mark_of q step r s ∷ span)
+  looking-other k old =
+      let same = held_looks-other p q step r s span ne in
+      record { counted = λ lt. omega (arith, same, old.counted lt); many = omega (arith, same, old.many); in_time = starving-other old.in_time }
+
+  pub loading-other : Loading patience p span → Loading patience p (mark_of q step r s ∷ span)
+  loading-other old =
+      record {
+        past = omega (arith, held_looks-other p q step r s span ne, old.past);
+        in_time = beside (few_to_load p) (few_to_load p) (λ recent few. omega (arith, own_count-other p q step r s recent ne, changes-other fair p q step r s recent ne, few)) old.in_time;
+      }
+
+  pub registering-other : (w : ℕ) → Registering patience w p s span → Registering patience w p (apply_some s step) (mark_of q step r s ∷ span)
+  registering-other w old =
+      record {
+        past = omega (arith, held_looks-other p q step r s span ne, old.past);
+        in_time = beside (few_to_register p s w) (few_to_register p (apply_some s step) w)
+            (λ recent few. omega (arith, own_count-other p q step r s recent ne, changes-other fair p q step r s recent ne, moved (own_count p recent) (1 + changes fair p recent) w (first_word fair s) (first_word fair (apply_some s step)) few))
+            old.in_time;
+      }
+
+-- a step of its own
+
+held_looks-mine : (p : ℕ) (step : Option Change) (r : Manner) (s : Plain) (span : List Mark) → held_looks p (mark_of p step r s ∷ span) ≡ held_looks p span + bit (is_look r && is_held s)
+held_looks-mine p step r s span = ap (λ b. held_looks p span + bit (b && (is_look r && is_held s))) (eqb_self p)
+
+module _ (patience p : ℕ) (s : Plain) (span : List Mark) where
+  -- a step that is no look, and doesn't register
+  passes : (Few Fewer : List Mark → Type 0) (step : Option Change) (r : Manner) → is_look r ≡ false → (step ≡ Some (gets p to_starve) → ⊥) → ((recent : List Mark) → Few recent → TriesToStarve p (mark_of p step r s) ⊎ Fewer (mark_of p step r s ∷ recent))
+      → RegistersInTime Few p patience span → RegistersInTime Fewer p patience (mark_of p step r s ∷ span)
+  passes Few Fewer step r blind other keeps old = later Few Fewer p patience (mark_of p step r s) span keeps (λ late. absurd (false≢true (sym blind ∙ late.looks))) (λ register. absurd (other register.1)) old
+
+  pub goes_on : (step : Option Change) (r : Manner) → is_look r ≡ false → (step ≡ Some (gets p to_starve) → ⊥) → RegistersInTime none_left p patience span → RegistersInTime none_left p patience (mark_of p step r s ∷ span)
+  goes_on step r blind other old = passes none_left none_left step r blind other (λ recent few. inr few) old
+
+  pub missed : (k : ℕ) (r : Manner) → is_look r ≡ false → Looking patience k p span → Looking patience k p (mark_of p None r s ∷ span)
+  missed k r blind old =
+      let same = held_looks-mine p None r s span ∙ ap (λ b. held_looks p span + bit (b && is_held s)) blind in
+      record { counted = λ lt. omega (arith, same, old.counted lt); many = omega (arith, same, old.many); in_time = goes_on None r blind (λ is. cc (is)) old.in_time }
+
+  -- it finds the lock free
+  pub looked_free : (k : ℕ) → is_held s ≡ false → Looking patience k p span → Looking patience k p (mark_of p None look s ∷ span)
+  looked_free k free old =
+      let same = held_looks-mine p None look s span ∙ ap (λ b. held_looks p span + bit b) free in
+      record {
+        counted = λ lt. omega (arith, same, old.counted lt);
+        many = omega (arith, same, old.many);
+        in_time = later none_left none_left p patience (mark_of p None look s) span (λ recent few. inr few) (λ late. false≢true (sym free ∙ late.held)) (λ register. absurd (cc (register.1))) old.in_time;
+      }
+
+  -- it finds the lock held
+  pub looked_held : (k : ℕ) → is_held s ≡ true → k < patience → Looking patience k p span → Looking patience (k + 1) p (mark_of p None look s ∷ span)
+  looked_held k held lt old =
+      let more = held_looks-mine p None look s span ∙ ap (λ b. held_looks p span + bit b) held in
+      record {
+        counted = λ still. omega (arith, more, old.counted lt);
+        many = omega (arith, more, old.many);
+        in_time = later none_left none_left p patience (mark_of p None look s) span (λ recent few. inr few) (λ late. absurd (omega (arith, late.late, old.counted lt, lt))) (λ register. absurd (cc (register.1))) old.in_time;
+      }
+
+  -- past its patience
+  pub looked_late : (k : ℕ) → is_held s ≡ true → patience ≤ k → Looking patience k p span → Loading patience p (mark_of p None look s ∷ span)
+  looked_late k held le old =
+      let more = held_looks-mine p None look s span ∙ ap (λ b. held_looks p span + bit b) held in
+      record {
+        past = omega (arith, more, old.many, le);
+        in_time = later none_left (few_to_load p) p patience (mark_of p None look s) span (λ recent few. absurd few) (λ late. omega arith) (λ register. absurd (cc (register.1))) old.in_time;
+      }
+
+  unseen : (Few : List Mark → Type 0) (r : Manner) → is_look r ≡ false → Going Few patience p span → patience < held_looks p (mark_of p None r s ∷ span)
+  unseen Few r blind old = omega (arith, held_looks-mine p None r s span ∙ ap (λ b. held_looks p span + bit (b && is_held s)) blind, old.past)
+
+  pub loaded : (w : ℕ) → w ≡ first_word fair s → Loading patience p span → Registering patience w p s (mark_of p None plain s ∷ span)
+  loaded w is old =
+      record {
+        past = unseen (few_to_load p) plain refl old;
+        in_time = passes (few_to_load p) (few_to_register p s w) None plain refl (λ is. cc (is))
+            (λ recent few. inr (omega (arith, own_count-mine p None plain s recent, changes-mine fair p None plain s recent, ap (λ b. bit (not b)) (eq-eqb (first_word fair s) w (sym is)), few)))
+            old.in_time;
+      }
+
+  -- its exchange fails, since the word is another
+  pub retried : (n w : ℕ) → w ≡ first_word fair s → (w == n) ≡ false → Registering patience n p s span → Registering patience w p s (mark_of p None again s ∷ span)
+  retried n w is other old =
+      let differs : bit (not (first_word fair s == n)) ≡ 1 = ap (λ k. bit (not (k == n))) (sym is) ∙ ap (λ b. bit (not b)) other in
+      record {
+        past = unseen (few_to_register p s n) again refl old;
+        in_time = passes (few_to_register p s n) (few_to_register p s w) None again refl (λ is. cc (is))
+            (λ recent few. inr (omega (arith, own_count-mine p None again s recent, changes-mine fair p None again s recent, ap (λ b. bit (not b)) (eq-eqb (first_word fair s) w (sym is)), differs, few)))
+            old.in_time;
+      }
+
+  -- it finds the cap
+  pub full : (Few : List Mark → Type 0) (r : Manner) → is_look r ≡ false → is_open s (gets p to_starve) ≡ false → Going Few patience p span → Looking patience patience p (mark_of p None r s ∷ span)
+  full Few r blind closed old =
+      record {
+        counted = λ lt. absurd (omega (arith, lt));
+        many = omega (arith, unseen Few r blind old);
+        in_time = passes Few none_left None r blind (λ is. cc (is)) (λ recent few. inl (inr (refl, closed))) old.in_time;
+      }
+
+  pub registered : (n : ℕ) → Registering patience n p s span → RegistersInTime none_left p patience (mark_of p (Some (gets p to_starve)) again s ∷ span)
+  registered n old =
+      later (few_to_register p s n) none_left p patience (mark_of p (Some (gets p to_starve)) again s) span (λ recent few. inl (inl (refl, refl))) (λ late. absurd (false≢true late.looks)) (λ register. old.past) old.in_time
+
+  -- a look of a starver
+  pub looked_starving : own p span ≡ gets p to_starve ∷ [] → RegistersInTime none_left p patience span → RegistersInTime none_left p patience (mark_of p None look s ∷ span)
+  looked_starving made old = later none_left none_left p patience (mark_of p None look s) span (λ recent few. inr few) (λ late. cc (made, late.unregistered)) (λ register. absurd (cc (register.1))) old
+
+-- what shows that a lock is wrong: two steps after a late look, and the looks before it registers
+
+pub two_steps_after : (p n : ℕ) {Few : List Mark → Type 0} {a b m : Mark} {older : List Mark} → RegistersInTime Few p n (a ∷ b ∷ m ∷ older) → IsLateLook p n m older → AnyOf (TriesToStarve p) (a ∷ b ∷ []) ⊎ Few (a ∷ b ∷ [])
+two_steps_after p n {a = a} {b = b} {m = m} {older = older} law late = law.soon (a ∷ b ∷ []) m older refl late
+
+pub looked_before : (p n : ℕ) {Few : List Mark → Type 0} {m : Mark} {older : List Mark} → RegistersInTime Few p n (m ∷ older) → Registers p m → n < held_looks p older
+looked_before p n {m = m} {older = older} law registers = law.patient [] m older refl registers

@@ -1,0 +1,134 @@
+-- Fair locks that are wrong in their tables, and schedules on which the laws refuse them. Each has room for two starvers, but one where it is said, and its `lock` registers by the second look that finds the flag set.
+use Rattle.std.specs.Prelude.{ℕ, ◌+◌, ◌-◌, ◌*◌, ◌/◌, Option, Some, None, List, [], ◌∷◌, ◌==◌, nat_lt}
+use Rattle.spin_step.specs.Plain.{gets, stops_starving, to_lock_unregistered, to_lock_starving, to_starve}
+use Rattle.spin_world_core.specs.declared.place.Hold.{Hold}
+use Rattle.spin_world_core.specs.declared.place.Hold.TheVariants.{Starver}
+use Rattle.spin_world_core.specs.declared.object.Next.TheVariants.{GoesOn, Answers}
+use Rattle.spin_world_core.specs.declared.answer.Answer.{Answer}
+use Rattle.spin_world_core.specs.declared.answer.Answer.TheVariants.{Granted, Refused, Locked, Starved, Done}
+use Rattle.spin_world_fair.specs.declared.fair.FairCall.{FairCall}
+use Rattle.spin_world_fair.specs.declared.fair.FairCall.TheVariants.{Lock, TryLock, TryLockStarver, Starve, StarverTryLock, StarverLock, StarverDrop, Release}
+use Rattle.spin_world_fair.specs.declared.fair.FairPoint.{FairPoint}
+use Rattle.spin_world_fair.specs.declared.fair.FairPoint.TheVariants.{First, Attempt, Look, Load, Register, SetFlag, Await}
+use Rattle.spin_world_core.specs.declared.schedule.Move.{Move}
+use Rattle.spin_world_core.specs.declared.schedule.Move.TheVariants.{Begin, Step}
+use Rattle.spin_world_core.specs.Machines.{Machine}
+use Rattle.spin_world_core.specs.Acts.{Act, either, load, load_if, exchange, weak_exchange, retry, store, machine_of}
+use Rattle.spin_world_fair.specs.Fair.{lock, lock_starved, is_set, granted, act_of, fair_table}
+
+abbrev Acts : Type 0 → Type 0
+Acts V = FairCall → FairPoint → Option Hold → Act ℕ FairPoint (Answer V)
+
+-- the lock with these steps
+abbrev by_acts : {V : Type 0} → V → ℕ → Acts V → Machine ℕ V FairCall FairPoint (Answer V)
+by_acts v cap acts = machine_of (record (fair_table v cap 1) { act = acts })
+
+abbrev Entries : Type 0 → Type 0
+Entries V = List (ℕ × Move FairCall V)
+
+-- `try_lock` sets the flag wherever it is clear
+abbrev greedy_acts : {V : Type 0} → Acts V
+greedy_acts TryLock First h = exchange lock_starved (λ p. gets p to_lock_unregistered) granted (λ w. Answers Refused h)
+greedy_acts c l h = act_of 2 1 c l h
+
+abbrev pub tries_greedily : {V : Type 0} → V → Machine ℕ V FairCall FairPoint (Answer V)
+tries_greedily v = by_acts v 2 greedy_acts
+
+abbrev pub try_beside_a_starver : {V : Type 0} → Entries V
+try_beside_a_starver = (0, Begin Starve) ∷ (0, Step) ∷ (0, Step) ∷ (1, Begin TryLock) ∷ (1, Step) ∷ []
+
+-- `starver_try_lock` never takes its starver out
+abbrev staying_acts : {V : Type 0} → Acts V
+staying_acts StarverTryLock SetFlag h = exchange lock_starved (λ p. gets p to_lock_starving) granted (λ w. Answers Refused h)
+staying_acts c l h = act_of 2 1 c l h
+
+abbrev pub stays_a_starver : {V : Type 0} → V → Machine ℕ V FairCall FairPoint (Answer V)
+stays_a_starver v = by_acts v 2 staying_acts
+
+abbrev pub try_of_a_starver : {V : Type 0} → Entries V
+try_of_a_starver = (0, Begin Starve) ∷ (0, Step) ∷ (0, Step) ∷ (0, Begin StarverTryLock) ∷ (0, Step) ∷ []
+
+-- `starve` knows no cap, which is one here
+abbrev uncapped_acts : {V : Type 0} → Acts V
+uncapped_acts Starve Load h = load (λ w. GoesOn (Register w))
+uncapped_acts Starve (Register n) h = retry n (λ w. Some (w + 2)) (λ p. gets p to_starve) (Answers Granted (Some Starver)) (λ w. GoesOn (Register w)) (Answers Refused h)
+uncapped_acts c l h = act_of 1 1 c l h
+
+abbrev pub starves_without_cap : {V : Type 0} → V → Machine ℕ V FairCall FairPoint (Answer V)
+starves_without_cap v = by_acts v 1 uncapped_acts
+
+abbrev pub two_starve : {V : Type 0} → Entries V
+two_starve = (0, Begin Starve) ∷ (0, Step) ∷ (0, Step) ∷ (1, Begin Starve) ∷ (1, Step) ∷ (1, Step) ∷ []
+
+-- `lock` never registers
+abbrev looking_acts : {V : Type 0} → Acts V
+looking_acts Lock (Look n) h = load_if is_set (λ w. GoesOn (Look (n + 1))) (λ w. GoesOn (Attempt n))
+looking_acts c l h = act_of 2 1 c l h
+
+abbrev pub never_registers : {V : Type 0} → V → Machine ℕ V FairCall FairPoint (Answer V)
+never_registers v = by_acts v 2 looking_acts
+
+-- an exchange, and four looks
+abbrev pub lock_beside_a_holder : {V : Type 0} → Entries V
+lock_beside_a_holder = (0, Begin TryLock) ∷ (0, Step) ∷ (1, Begin Lock) ∷ (1, Step) ∷ (1, Step) ∷ (1, Step) ∷ (1, Step) ∷ (1, Step) ∷ []
+
+-- `lock` goes back to its exchange where it has looked often enough to register
+abbrev returning_acts : {V : Type 0} → Acts V
+returning_acts Lock (Look n) h = load_if is_set (λ w. either (nat_lt n 1) (GoesOn (Look (n + 1))) (GoesOn (Attempt n))) (λ w. GoesOn (Attempt n))
+returning_acts c l h = act_of 2 1 c l h
+
+abbrev pub returns_to_its_exchange : {V : Type 0} → V → Machine ℕ V FairCall FairPoint (Answer V)
+returns_to_its_exchange v = by_acts v 2 returning_acts
+
+-- the lock is let go between its second look and its exchange
+abbrev pub lock_as_it_is_let_go : {V : Type 0} → Entries V
+lock_as_it_is_let_go =
+    (0, Begin TryLock) ∷ (0, Step) ∷ (1, Begin Lock) ∷ (1, Step) ∷ (1, Step) ∷ (1, Step) ∷ (0, Begin Release) ∷ (0, Step) ∷ (1, Step) ∷ []
+
+-- `lock` registers before its looks
+abbrev hasty_acts : {V : Type 0} → Acts V
+hasty_acts Lock (Attempt n) h = weak_exchange lock (λ p. gets p to_lock_unregistered) granted (GoesOn Load)
+hasty_acts c l h = act_of 2 1 c l h
+
+abbrev pub registers_at_once : {V : Type 0} → V → Machine ℕ V FairCall FairPoint (Answer V)
+registers_at_once v = by_acts v 2 hasty_acts
+
+-- an exchange, a load, and the exchange that registers
+abbrev pub hasty_lock : {V : Type 0} → Entries V
+hasty_lock = (0, Begin TryLock) ∷ (0, Step) ∷ (1, Begin Lock) ∷ (1, Step) ∷ (1, Step) ∷ (1, Step) ∷ []
+
+-- `starver_drop` frees the flag
+abbrev freeing_acts : {V : Type 0} → Acts V
+freeing_acts StarverDrop First h = store (λ w. nat_lt 1 w) (λ w. (w - 2) / 2 * 2) (λ p. stops_starving p) (Answers Done None)
+freeing_acts c l h = act_of 2 1 c l h
+
+abbrev pub drop_frees : {V : Type 0} → V → Machine ℕ V FairCall FairPoint (Answer V)
+drop_frees v = by_acts v 2 freeing_acts
+
+abbrev pub drop_beside_a_holder : {V : Type 0} → Entries V
+drop_beside_a_holder = (0, Begin TryLock) ∷ (0, Step) ∷ (1, Begin Starve) ∷ (1, Step) ∷ (1, Step) ∷ (1, Begin StarverDrop) ∷ (1, Step) ∷ []
+
+-- a refused newcomer is told the other reason
+abbrev lying_acts : {V : Type 0} → Acts V
+lying_acts TryLockStarver First h = exchange lock (λ p. gets p to_lock_unregistered) granted (λ w. Answers (either (w == 1) Starved Locked) h)
+lying_acts c l h = act_of 2 1 c l h
+
+abbrev pub tells_the_other_reason : {V : Type 0} → V → Machine ℕ V FairCall FairPoint (Answer V)
+tells_the_other_reason v = by_acts v 2 lying_acts
+
+abbrev pub try_beside_a_holder : {V : Type 0} → Entries V
+try_beside_a_holder = (0, Begin TryLock) ∷ (0, Step) ∷ (1, Begin TryLockStarver) ∷ (1, Step) ∷ []
+
+-- a starver that waits never sets the flag
+abbrev waiting_acts : {V : Type 0} → Acts V
+waiting_acts StarverLock Await h = load (λ w. GoesOn Await)
+waiting_acts c l h = act_of 2 1 c l h
+
+abbrev pub waits_for_ever : {V : Type 0} → V → Machine ℕ V FairCall FairPoint (Answer V)
+waits_for_ever v = by_acts v 2 waiting_acts
+
+-- the flag is set as the starver tries, and clear in the four looks after that
+abbrev pub four_looks_of_a_starver : {V : Type 0} → Entries V
+four_looks_of_a_starver =
+    (0, Begin TryLock) ∷ (0, Step) ∷ (1, Begin Starve) ∷ (1, Step) ∷ (1, Step) ∷ (1, Begin StarverLock) ∷ (1, Step)
+    ∷ (0, Begin Release) ∷ (0, Step) ∷ (1, Step) ∷ (1, Step) ∷ (1, Step) ∷ (1, Step) ∷ []

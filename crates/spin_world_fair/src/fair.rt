@@ -1,0 +1,341 @@
+ghost use Rattle.std.specs.Prelude.{◌≡◌, ◌≢◌, ◌<◌, ◌+◌, ◌-◌, ◌==◌, ◌%◌, true, is_some};
+ghost use Rattle.spin_world_core.specs.declared.object.Next.TheVariants.{GoesOn, Answers};
+ghost use Rattle.spin_world_core.specs.declared.answer.Answer.TheVariants.{Done};
+ghost use Rattle.spin_world_fair.specs.declared.fair.FairPoint.TheVariants.{Attempt, Register, SetFlag, Await};
+ghost use Rattle.spin_world_core.specs.Acts.{either, stays, becomes, retried, step_by, can_by};
+ghost use Rattle.spin_world_fair.specs.Fair.{lock, starve, is_set, granted, rejects, looks_on, finds_no_room, registered, finds_flag_set, act_of_first, act_of};
+
+use spin_step::fair;
+use spin_step::fair::LockRejectReason;
+use spin_world_core::{Answer, Hold, Next, Object, Stepped};
+
+/// A call of a [`Fair`].
+#[derive(Clone, Copy, Debug, PartialEq, Eq)]
+pub enum FairCall {
+    /// Takes the lock, in as many steps as it needs. Once it has looked at a set flag too often it registers as a starver.
+    Lock,
+    /// Takes the lock, or is refused where somebody holds it or starves.
+    TryLock,
+    /// The same, and a refusal says which of the two.
+    TryLockStarver,
+    IsLocked,
+    /// Registers as a starver, or is refused at the cap.
+    Starve,
+    /// A starver takes the lock and is none from then on, or is refused where somebody holds the lock or another party
+    /// starves.
+    StarverTryLockFair,
+    /// The same, but it is refused only where somebody holds the lock.
+    StarverTryLock,
+    /// The same, and it waits.
+    StarverLock,
+    /// A starver is none from then on.
+    StarverDrop,
+    /// Lets go of the lock.
+    Release,
+}
+
+/// Which step of its call comes next, with what the party has found so far.
+#[derive(Clone, Copy, Debug, PartialEq, Eq)]
+pub enum FairPoint {
+    /// The only step of a call of one step, and the exchange of the fair try.
+    First,
+    /// `Lock` tries to take the lock, after so many looks that found the flag set.
+    Attempt(usize),
+    /// `Lock` looks at the flag, after so many looks that found it set. They are not counted past its patience.
+    Look(usize),
+    /// It loads the word, to register.
+    Load,
+    /// It registers by an exchange of this word, the one that it found.
+    Register(usize),
+    /// A starver sets the flag.
+    SetFlag,
+    /// A starver looks at the flag.
+    Await,
+    /// A starver that holds the lock leaves the starvers.
+    Unregister,
+}
+
+/// A lock of a flag and a number of starvers, which come before everybody else.
+#[derive(Drop)]
+pub struct Fair<V> {
+    value: V,
+    cap: usize,
+    patience: usize,
+}
+
+impl<V> Fair<V> {
+    /// A free lock with this value. As many starvers as `cap` may stand at a time, and no more than `fair::MAX_STARVERS`;
+    /// a `Lock` registers once it has made more than `spins` + 1 looks that found the flag set.
+    pub fn new(value: V, cap: usize, spins: usize) -> Fair<V>
+        requires somebody { cap ≢ 0 }
+        requires counted { spins < 18446744073709551615 }
+        ensures { result ≡ record { value = value; cap = cap; patience = spins + 1 } }
+    {
+        Fair {
+            value,
+            cap,
+            patience: spins + 1,
+        }
+    }
+}
+
+/// A step that leaves the word as it is, or puts this one in its place.
+fn stay<V: Copy>(
+    word: usize,
+    next: Next<FairPoint, Answer<V>>,
+) -> Stepped<usize, V, FairPoint, Answer<V>>
+    ensures { result ≡ stays word next }
+{
+    Stepped {
+        words: word,
+        placed: None,
+        next,
+    }
+}
+
+/// A step that puts the new word in place of this one where a step function gives one, and goes on by whether it does.
+fn exchange<V: Copy>(
+    word: usize,
+    new: Option<usize>,
+    won: Next<FairPoint, Answer<V>>,
+    lost: Next<FairPoint, Answer<V>>,
+) -> Stepped<usize, V, FairPoint, Answer<V>>
+    ensures { result ≡ becomes word new won lost }
+{
+    match new {
+        Some(new) => stay(new, won),
+        None => stay(word, lost),
+    }
+}
+
+/// Why `TryLockStarver` is refused.
+fn reject<V: Copy>(word: usize, holds: Option<Hold>) -> Next<FairPoint, Answer<V>>
+    requires { word ≢ 0 }
+    ensures { result ≡ rejects holds word }
+{
+    Next::Answers(
+        match fair::reject(word) {
+            LockRejectReason::Locked => Answer::Locked,
+            LockRejectReason::Starved => Answer::Starved,
+        },
+        holds,
+    )
+}
+
+impl<V: Copy> Fair<V> {
+    /// The look of `Lock`, after so many that found the flag set.
+    fn look(&self, word: usize, looks: usize) -> Next<FairPoint, Answer<V>>
+        ensures { result ≡ either (is_set word) (looks_on self.now.patience looks) (GoesOn (Attempt looks)) }
+    {
+        Next::GoesOn(if !fair::is_locked(word) {
+            FairPoint::Attempt(looks)
+        } else if looks < self.patience {
+            FairPoint::Look(looks + 1)
+        } else {
+            FairPoint::Load
+        })
+    }
+
+    /// How a call goes on where the starvers are at the cap.
+    fn find_no_room(&self, call: FairCall, holds: Option<Hold>) -> Next<FairPoint, Answer<V>>
+        ensures { result ≡ finds_no_room self.now.patience call holds }
+    {
+        match call {
+            FairCall::Lock => Next::GoesOn(FairPoint::Look(self.patience)),
+            _ => Next::Answers(Answer::Refused, holds),
+        }
+    }
+
+    /// How a call goes on where it has found a word to register by.
+    fn go_to_register(
+        &self,
+        call: FairCall,
+        word: usize,
+        holds: Option<Hold>,
+    ) -> Next<FairPoint, Answer<V>>
+        ensures { result ≡ either (is_some (starve self.now.cap word)) (GoesOn (Register word)) (finds_no_room self.now.patience call holds) }
+    {
+        match fair::starve(word, self.cap) {
+            Some(_) => Next::GoesOn(FairPoint::Register(word)),
+            None => self.find_no_room(call, holds),
+        }
+    }
+
+    /// The exchange that registers, where the word is still the one that was found.
+    fn register(
+        &self,
+        call: FairCall,
+        word: usize,
+        found: usize,
+        holds: Option<Hold>,
+    ) -> Stepped<usize, V, FairPoint, Answer<V>>
+        ensures { result ≡ retried (word == found) word (starve self.now.cap word) (registered call) (GoesOn (Register word)) (finds_no_room self.now.patience call holds) }
+    {
+        if word != found {
+            return stay(word, self.go_to_register(call, word, holds));
+        }
+        let won = match call {
+            FairCall::Lock => Next::GoesOn(FairPoint::SetFlag),
+            _ => Next::Answers(Answer::Granted, Some(Hold::Starver)),
+        };
+        exchange(
+            word,
+            fair::starve(word, self.cap),
+            won,
+            self.find_no_room(call, holds),
+        )
+    }
+}
+
+/// How a starver goes on that finds the flag set.
+fn find_flag_set<V: Copy>(call: FairCall, holds: Option<Hold>) -> Next<FairPoint, Answer<V>>
+    ensures { result ≡ finds_flag_set call holds }
+{
+    match call {
+        FairCall::StarverTryLock => Next::Answers(Answer::Refused, holds),
+        _ => Next::GoesOn(FairPoint::Await),
+    }
+}
+
+/// The look of a starver at the flag.
+fn await_clear<V: Copy>(word: usize) -> Next<FairPoint, Answer<V>>
+    ensures { result ≡ either (is_set word) (GoesOn Await) (GoesOn SetFlag) }
+{
+    Next::GoesOn(if fair::is_locked(word) {
+        FairPoint::Await
+    } else {
+        FairPoint::SetFlag
+    })
+}
+
+/// How a call goes on that has got the lock.
+fn grant<V: Copy>() -> Next<FairPoint, Answer<V>>
+    ensures { result ≡ granted }
+{
+    Next::Answers(Answer::Granted, Some(Hold::Write))
+}
+
+/// The step of a call of one step, and the first one of the fair try.
+fn step_first<V: Copy>(
+    word: usize,
+    call: FairCall,
+    holds: Option<Hold>,
+) -> Stepped<usize, V, FairPoint, Answer<V>>
+    requires { can_by (act_of_first {V = V} call holds) word ≡ true }
+    ensures { result ≡ step_by (λ w. w) (act_of_first call holds) word }
+{
+    let refused = Next::Answers(Answer::Refused, holds);
+    let done = Next::Answers(Answer::Done, None);
+    match call {
+        FairCall::TryLock => exchange(word, fair::lock(word), grant(), refused),
+        FairCall::TryLockStarver => match fair::lock(word) {
+            Some(taken) => stay(taken, grant()),
+            None => stay(word, reject(word, holds)),
+        },
+        FairCall::StarverTryLockFair => {
+            let won = Next::GoesOn(FairPoint::Unregister);
+            exchange(word, fair::lock_fair(word), won, refused)
+        }
+        FairCall::StarverDrop => stay(fair::unstarve(word), done),
+        FairCall::Release => stay(fair::unlock(word), done),
+        _ => stay(
+            word,
+            Next::Answers(Answer::Is(fair::is_locked(word)), holds),
+        ),
+    }
+}
+
+impl<V: Copy> Object for Fair<V> {
+    type Words = usize;
+
+    type Value = V;
+
+    type Call = FairCall;
+
+    type Local = FairPoint;
+
+    type Answer = Answer<V>;
+
+    ghost use Rattle.spin_world_fair.specs.Fair.{fair_machine};
+
+    ghost machine = { λ f. fair_machine f.value f.cap f.patience };
+
+    fn laws() {}
+
+    fn opening_words(&self) -> usize {
+        0
+    }
+
+    fn opening_value(&self) -> Option<V> {
+        Some(self.value)
+    }
+
+    fn is_owned(&self) -> bool {
+        true
+    }
+
+    fn begin(&self, call: FairCall, holds: Option<Hold>) -> Option<FairPoint> {
+        match (call, holds) {
+            (FairCall::Lock, None) => Some(FairPoint::Attempt(0)),
+            (FairCall::TryLock | FairCall::TryLockStarver | FairCall::IsLocked, None) => {
+                Some(FairPoint::First)
+            }
+            (FairCall::Starve, None) => Some(FairPoint::Load),
+            (FairCall::StarverTryLockFair | FairCall::StarverDrop, Some(Hold::Starver)) => {
+                Some(FairPoint::First)
+            }
+            (FairCall::StarverTryLock | FairCall::StarverLock, Some(Hold::Starver)) => {
+                Some(FairPoint::SetFlag)
+            }
+            (FairCall::Release, Some(Hold::Write)) => Some(FairPoint::First),
+            _ => None,
+        }
+    }
+
+    fn refuse(
+        &self,
+        call: FairCall,
+        local: FairPoint,
+        holds: Option<Hold>,
+    ) -> Option<Next<FairPoint, Answer<V>>> {
+        let _ = (call, holds);
+        match local {
+            FairPoint::Attempt(looks) => Some(Next::GoesOn(FairPoint::Look(looks))),
+            _ => None,
+        }
+    }
+
+    fn step(
+        &self,
+        words: usize,
+        value: Option<V>,
+        call: FairCall,
+        local: FairPoint,
+        holds: Option<Hold>,
+    ) -> Stepped<usize, V, FairPoint, Answer<V>>
+        requires { can_by (act_of {V = V} self.now.cap self.now.patience call local holds) words ≡ true }
+        ensures { result ≡ step_by (λ w. w) (act_of self.now.cap self.now.patience call local holds) words }
+    {
+        let _ = value;
+        match local {
+            FairPoint::First => step_first(words, call, holds),
+            FairPoint::Attempt(looks) => exchange(
+                words,
+                fair::lock(words),
+                grant(),
+                Next::GoesOn(FairPoint::Look(looks)),
+            ),
+            FairPoint::Look(looks) => stay(words, self.look(words, looks)),
+            FairPoint::Load => stay(words, self.go_to_register(call, words, holds)),
+            FairPoint::Register(found) => self.register(call, words, found, holds),
+            FairPoint::SetFlag => exchange(
+                words,
+                fair::lock_starved(words),
+                Next::GoesOn(FairPoint::Unregister),
+                find_flag_set(call, holds),
+            ),
+            FairPoint::Await => stay(words, await_clear(words)),
+            FairPoint::Unregister => stay(fair::unstarve(words), grant()),
+        }
+    }
+}

@@ -1,0 +1,20 @@
+//! Laws of the fair lock. Each is the contract of a function that does nothing, over every schedule.
+ghost use Rattle.std.specs.Prelude.{◌≡◌, ◌↔◌, ℕ, List, []};
+ghost use Rattle.spin_world_core.specs.declared.schedule.Move.{Move};
+ghost use Rattle.spin_world_core.specs.Schedules.{after, at_first};
+ghost use Rattle.spin_world_core.specs.Runs.{opening};
+ghost use Rattle.spin_world_core.specs.Users.{seen_after};
+ghost use Rattle.spin_world_fair.specs.declared.fair.FairCall.{FairCall};
+ghost use Rattle.spin_world_fair.specs.Fair.{fair_machine};
+ghost use Rattle.spin_world_fair.specs.Fairness.{IsFree, ComesAfterStarvers};
+
+/// The word is zero exactly when nobody holds the lock and nobody is registered as a starver.
+pub fn a_word_is_zero_when_nobody_holds_or_starves<V: Copy>()
+    ensures { (value : V) (cap patience n : ℕ) (past : List (ℕ × Move FairCall V)) → ((after (fair_machine value cap patience) (at_first (fair_machine value cap patience) n) past).words ≡ 0) ↔ IsFree (seen_after (fair_machine value cap patience) (opening (fair_machine value cap patience) n) past).plain }
+{}
+
+/// A party that comes to hold the lock, and wasn't registered as a starver, comes where nobody was. So no newcomer is
+/// granted the lock beside a starver.
+pub fn starvers_come_first<V: Copy>()
+    ensures { (value : V) (cap patience n : ℕ) (past : List (ℕ × Move FairCall V)) (party : ℕ) (move : Move FairCall V) → ComesAfterStarvers value cap patience n past party move }
+{}

@@ -1,0 +1,50 @@
+//! Wrong fair locks, each with a law that it breaks on a schedule that is named. They show what the laws keep out.
+ghost use Rattle.std.specs.Prelude.{◌≡◌};
+ghost use Rattle.spin_world_core.specs.Runs.{KeepsAll, MomentsAll, CountsAll};
+ghost use Rattle.spin_world_fair.specs.Wrong.{tries_greedily, try_beside_a_starver, stays_a_starver, try_of_a_starver, starves_without_cap, two_starve, never_registers, lock_beside_a_holder, returns_to_its_exchange, lock_as_it_is_let_go, registers_at_once, hasty_lock, drop_frees, drop_beside_a_holder, tells_the_other_reason, try_beside_a_holder, waits_for_ever, four_looks_of_a_starver};
+
+/// A `try_lock` that sets the flag wherever it is clear: beside a starver its step is not open.
+pub fn a_newcomer_yields_to_starvers<V: Copy>()
+    ensures { (value : V) → KeepsAll (tries_greedily value) 2 try_beside_a_starver → ⊥ }
+{}
+
+/// A `starver_try_lock` that never takes its starver out: its grant has made too few steps.
+pub fn a_granted_starver_leaves_the_starvers<V: Copy>()
+    ensures { (value : V) → KeepsAll (stays_a_starver value) 1 try_of_a_starver → ⊥ }
+{}
+
+/// A `starve` without the cap: past it the step is not open.
+pub fn starvers_stay_within_the_cap<V: Copy>()
+    ensures { (value : V) → KeepsAll (starves_without_cap value) 2 two_starve → ⊥ }
+{}
+
+/// A `lock` that never registers: two steps after a look past its patience it has to be a starver, or to have found the
+/// cap.
+pub fn a_lock_in_vain_registers<V: Copy>()
+    ensures { (value : V) → CountsAll (never_registers value) 2 lock_beside_a_holder → ⊥ }
+{}
+
+/// A `lock` that goes back to its exchange where it should register: it is granted the lock as a newcomer.
+pub fn a_lock_past_its_patience_is_no_newcomer<V: Copy>()
+    ensures { (value : V) → CountsAll (returns_to_its_exchange value) 2 lock_as_it_is_let_go → ⊥ }
+{}
+
+/// A `lock` that registers before its looks.
+pub fn a_lock_looks_before_it_registers<V: Copy>()
+    ensures { (value : V) → CountsAll (registers_at_once value) 2 hasty_lock → ⊥ }
+{}
+
+/// A `starver_drop` that frees the flag: the word is not the encoding.
+pub fn a_dropped_starver_leaves_the_flag<V: Copy>()
+    ensures { (value : V) → KeepsAll (drop_frees value) 2 drop_beside_a_holder → ⊥ }
+{}
+
+/// A `try_lock_starver` that tells the other reason: nobody starves at any moment.
+pub fn a_refusal_tells_its_reason<V: Copy>()
+    ensures { (value : V) → MomentsAll (tells_the_other_reason value) 2 try_beside_a_holder → ⊥ }
+{}
+
+/// A `starver_lock` that never tries again: undisturbed it has to be answered by its fourth step.
+pub fn a_starver_tries_again<V: Copy>()
+    ensures { (value : V) → CountsAll (waits_for_ever value) 2 four_looks_of_a_starver → ⊥ }
+{}

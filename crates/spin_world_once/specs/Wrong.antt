@@ -1,0 +1,92 @@
+-- Cells that are wrong in their steps, and schedules on which the laws refuse them.
+use Rattle.std.specs.Prelude.{ℕ, Option, Some, None, List, [], ◌∷◌}
+use Rattle.spin_world_core.specs.declared.place.Hold.{Hold}
+use Rattle.spin_world_core.specs.declared.object.Next.TheVariants.{Answers}
+use Rattle.spin_world_core.specs.declared.object.Stepped.{Stepped}
+use Rattle.spin_world_core.specs.declared.answer.Answer.{Answer}
+use Rattle.spin_world_core.specs.declared.answer.Answer.TheVariants.{Value, NoValue, Failed}
+use Rattle.spin_world_once.specs.declared.once.OnceCall.{OnceCall}
+use Rattle.spin_world_once.specs.declared.once.OnceCall.TheVariants.{CallOnce, TryCallOnceErr, Poll, Get}
+use Rattle.spin_world_once.specs.declared.once.OncePoint.{OncePoint}
+use Rattle.spin_world_once.specs.declared.once.OncePoint.TheVariants.{Look, Run}
+use Rattle.spin_world_core.specs.declared.schedule.Move.{Move}
+use Rattle.spin_world_core.specs.declared.schedule.Move.TheVariants.{Begin, Step}
+use Rattle.spin_step.specs.Plain.{Change}
+use Rattle.spin_world_core.specs.Machines.{Machine}
+use Rattle.spin_world_once.specs.Once.{once_machine}
+
+abbrev OnceMachine : Type 0 → Type 0
+OnceMachine V = Machine ℕ V (OnceCall V) OncePoint (Answer V)
+
+abbrev Steps : Type 0 → Type 0
+Steps V = ℕ → Option V → OnceCall V → OncePoint → Option Hold → Stepped ℕ V OncePoint (Answer V)
+
+-- the machine with other steps
+abbrev stepping : {V : Type 0} → (OnceMachine V → Steps V) → OnceMachine V
+stepping {V} steps = let m : OnceMachine V = once_machine None in record m { step = steps m }
+
+-- a closure that runs although there is a value, and replaces it
+abbrev replacing : {V : Type 0} → OnceMachine V → Steps V
+replacing m w (Some old) (CallOnce v) Look h = record { words = w; placed = Some v; next = Answers (Value v) h }
+replacing m w value c l h = m.step w value c l h
+
+abbrev pub replaces : (V : Type 0) → OnceMachine V
+replaces V = stepping replacing
+
+abbrev pub two_closures : {V : Type 0} → V → V → List (ℕ × Move (OnceCall V) V)
+two_closures u v = (0, Begin (CallOnce u)) ∷ (0, Step) ∷ (0, Step) ∷ (0, Step) ∷ (0, Begin (CallOnce v)) ∷ (0, Step) ∷ []
+
+-- a closure that fails and leaves the word at running
+abbrev sticking : {V : Type 0} → OnceMachine V → Steps V
+sticking m w value TryCallOnceErr Run h = record { words = w; placed = None; next = Answers Failed h }
+sticking m w value c l h = m.step w value c l h
+
+abbrev no_failure : {V : Type 0} → OnceMachine V → ℕ → ℕ → OnceCall V → OncePoint → Option Hold → Option Change
+no_failure m p w TryCallOnceErr Run h = None
+no_failure m p w c l h = m.change p w c l h
+
+abbrev pub sticks : (V : Type 0) → OnceMachine V
+sticks V = let m : OnceMachine V = stepping sticking in record m { change = no_failure m }
+
+-- the same, and it is said to have failed
+abbrev pub sticks_silently : (V : Type 0) → OnceMachine V
+sticks_silently V = stepping sticking
+
+abbrev pub one_failure : {V : Type 0} → List (ℕ × Move (OnceCall V) V)
+one_failure = (0, Begin TryCallOnceErr) ∷ (0, Step) ∷ (0, Step) ∷ (0, Step) ∷ []
+
+-- a `get` that answers this value, whether there is one or not
+abbrev getting : {V : Type 0} → V → OnceMachine V → Steps V
+getting v m w value Get Look h = record { words = w; placed = None; next = Answers (Value v) h }
+getting v m w value c l h = m.step w value c l h
+
+abbrev pub gets_early : {V : Type 0} → V → OnceMachine V
+gets_early v = stepping (getting v)
+
+abbrev pub get_beside_a_closure : {V : Type 0} → V → List (ℕ × Move (OnceCall V) V)
+get_beside_a_closure v = (0, Begin (CallOnce v)) ∷ (0, Step) ∷ (0, Step) ∷ (1, Begin Get) ∷ (1, Step) ∷ []
+
+-- a `poll` that never waits
+abbrev polling : {V : Type 0} → OnceMachine V → Steps V
+polling m w None Poll Look h = record { words = w; placed = None; next = Answers NoValue h }
+polling m w value c l h = m.step w value c l h
+
+abbrev pub polls_early : (V : Type 0) → OnceMachine V
+polls_early V = stepping polling
+
+abbrev pub poll_beside_a_closure : {V : Type 0} → V → List (ℕ × Move (OnceCall V) V)
+poll_beside_a_closure v = (0, Begin (CallOnce v)) ∷ (0, Step) ∷ (0, Step) ∷ (1, Begin Poll) ∷ (1, Step) ∷ []
+
+-- a call whose closure gives u, and that places this and answers that
+abbrev placing : {V : Type 0} → V → V → OnceMachine V → Steps V
+placing put told m w value (CallOnce u) Run h = record { words = 2; placed = Some put; next = Answers (Value told) h }
+placing put told m w value c l h = m.step w value c l h
+
+abbrev pub tells_another : {V : Type 0} → V → V → OnceMachine V
+tells_another u v = stepping (placing u v)
+
+abbrev pub places_another : {V : Type 0} → V → OnceMachine V
+places_another v = stepping (placing v v)
+
+abbrev pub one_closure : {V : Type 0} → V → List (ℕ × Move (OnceCall V) V)
+one_closure u = (0, Begin (CallOnce u)) ∷ (0, Step) ∷ (0, Step) ∷ (0, Step) ∷ []

@@ -1,0 +1,3 @@
+pub mod Owed
+pub mod Standing
+pub mod Otherwise

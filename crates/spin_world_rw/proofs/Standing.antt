@@ -1,0 +1,274 @@
+-- What users of a read-write lock rely on.
+use Rattle.std.proofs.Common.{◌≡◌, ℕ, ◌+◌, ◌*◌, ◌==◌, ◌↔◌, Bool, true, false, ◌&&◌, ◌||◌, if◌then◌else◌, Option, Some, None, List, [], ◌∷◌, ◌++◌, length, slice_get, slice_set, refl, ap, sym, ◌∙◌, subst, arith}
+use Rattle.std.proofs.lemmas.Bool.{and_parts, eqb-true, ne_eqb, true≢false, false≢true}
+use Rattle.spin_step.specs.Plain.{Plain, Kind, reading, upgradable, writing, Holder, to_read, to_read_upgradable, to_write, to_upgrade, Change, gets, releases, turns, apply, is_open, is_empty, is_holder, is_only, is_downgrade, same_kind, count_kind, without_holder, with_kind, rw_word}
+use Rattle.spin_step.specs.Parties.{apply_some, IsOpenStep, entries, IsExclusive}
+use Rattle.spin_step.specs.Steps.{bit}
+use Rattle.spin_step.proofs.Exclusive.{empty_is, count-without_holder, count-with_kind}
+use Rattle.spin_step.proofs.Readers.{kinds-all, only-holder}
+use Rattle.spin_step.proofs.ReaderSteps.{one_of_each, beside_upgradable, only_word, only-word, empty-word}
+use Rattle.spin_world_core.specs.declared.answer.Answer.{Answer}
+use Rattle.spin_world_core.specs.declared.answer.Answer.TheVariants.{Granted, Refused, Done}
+use Rattle.spin_world_core.specs.declared.place.Hold.{Hold}
+use Rattle.spin_world_core.specs.declared.place.Hold.TheVariants as hold
+use Rattle.spin_world_core.specs.declared.place.Seat.TheVariants.{Calling, Holding}
+use Rattle.spin_world_core.specs.declared.object.Next.{Next}
+use Rattle.spin_world_core.specs.declared.object.Next.TheVariants.{GoesOn, Answers}
+use Rattle.spin_world_core.specs.declared.schedule.Move.{Move}
+use Rattle.spin_world_core.specs.declared.schedule.Move.TheVariants.{Step}
+use Rattle.spin_world_core.specs.declared.schedule.Outcome.TheVariants.{Answered}
+use Rattle.spin_world_rw.specs.declared.rw.RwCall.{RwCall}
+use Rattle.spin_world_rw.specs.declared.rw.RwCall.TheVariants.{TryUpgrade, TryUpgradeWeak, Upgrade, Downgrade, DowngradeToUpgradeable}
+use Rattle.spin_world_rw.specs.declared.rw.RwPoint.{RwPoint}
+use Rattle.spin_world_rw.specs.declared.rw.RwPoint.TheVariants.{First}
+use Rattle.spin_world_core.specs.Calls.{BelongsTo, is_step_of, Mark}
+use Rattle.spin_world_core.specs.Calls as calls
+use Rattle.spin_world_core.specs.Schedules.{State, moves_at, stepped, after, at_first, may_read}
+use Rattle.spin_world_core.specs.Runs.{Seen, scene, opening, entries_of, is_reader}
+use Rattle.spin_world_core.specs.Acts.{becomes}
+use Rattle.spin_world_core.specs.Users.{seen_after, passes, ReadsAgreeAcross}
+use Rattle.spin_world_rw.specs.Rw.{upgrade, granted, rw_machine}
+use Rattle.spin_world_rw.specs.Standing.{StandTogether, KeepsWritersOut, less, Downgrades, reader_goes, readers_gone, StaysUpgradable, upgrades, Opens, converts}
+use Rattle.spin_world_rw.proofs.Owed.{holder_by, rw_keeping, rw_facts}
+use Rattle.spin_world_core.proofs.Lists.{get-set_same}
+use Rattle.spin_world_core.proofs.Kept.{Invariant}
+use Rattle.spin_world_core.proofs.Every.{kept, good_first, standing, in_call, state-seen_after, good_after}
+use Rattle.spin_world_core.proofs.Schedules.{after-append}
+use Rattle.spin_world_core.proofs.Guards.{ReadsOn, reads_agree_across, seen_after-append}
+
+-- Who stands beside an upgradable reader
+
+only_is : (p : ℕ) (k : Kind) (hs : List Holder) → is_only p k hs ≡ true → is_holder p k hs ≡ true
+only_is p k [] only = absurd cc
+only_is p k (h ∷ []) only = ap (λ b. b || false) only
+only_is p k (h ∷ i ∷ hs) only = absurd cc
+
+no_more : (p : ℕ) (hs : List Holder) → count_kind upgradable hs ≡ 0 → is_holder p upgradable hs ≡ true → ⊥
+no_more p hs none found = omega (arith, none, count-without_holder upgradable p upgradable hs found)
+
+-- while it stays, each step of this lock is one that leaves the readers as they are, or a reader's that goes
+one_goes : (s : Plain) (p : ℕ) (c : Change) → IsExclusive s → is_holder p upgradable s.holders ≡ true → is_step_of calls.rw c ≡ true → is_open s c ≡ true → is_holder p upgradable (apply s c).holders ≡ true
+    → count_kind reading (apply s c).holders + bit (reader_goes c) ≡ count_kind reading s.holders
+one_goes s p (gets q to_read) alone found mine may stays =
+    absurd (omega (arith, (beside_upgradable s p alone found).0, eqb-true (count_kind writing s.holders + count_kind upgradable s.holders) 0 (and_parts ((count_kind writing s.holders + count_kind upgradable s.holders) == 0) _ may).0))
+one_goes s p (gets q to_read_upgradable) alone found mine may stays =
+    absurd (omega (arith, (beside_upgradable s p alone found).0, eqb-true (count_kind writing s.holders + count_kind upgradable s.holders) 0 (and_parts ((count_kind writing s.holders + count_kind upgradable s.holders) == 0) _ may).0))
+one_goes s p (gets q to_write) alone found mine may stays = absurd (omega (arith, (beside_upgradable s p alone found).0, kinds-all s.holders, ap length (empty_is s.holders may)))
+one_goes s p (gets q to_upgrade) alone found mine may stays =
+    absurd (no_more p (with_kind q upgradable writing s.holders) (omega (arith, (beside_upgradable s p alone found).0, count-with_kind upgradable q upgradable writing s.holders (only_is q upgradable s.holders may))) stays)
+one_goes s p (gets q _) alone found mine may stays = absurd (false≢true mine)
+one_goes s p (releases q reading) alone found mine may stays = omega (arith, count-without_holder reading q reading s.holders may)
+one_goes s p (releases q upgradable) alone found mine may stays =
+    absurd (no_more p (without_holder q upgradable s.holders) (omega (arith, (beside_upgradable s p alone found).0, count-without_holder upgradable q upgradable s.holders may)) stays)
+one_goes s p (releases q writing) alone found mine may stays = absurd (omega (arith, (beside_upgradable s p alone found).1, count-without_holder writing q writing s.holders may))
+one_goes s p (turns q reading l) alone found mine may stays = absurd (false≢true (and_parts (is_holder q reading s.holders) (is_downgrade reading l) may).1)
+one_goes s p (turns q upgradable reading) alone found mine may stays =
+    absurd (no_more p (with_kind q upgradable reading s.holders)
+    (omega (arith, (beside_upgradable s p alone found).0, count-with_kind upgradable q upgradable reading s.holders (and_parts (is_holder q upgradable s.holders) true may).0)) stays)
+one_goes s p (turns q upgradable _) alone found mine may stays = absurd (false≢true (and_parts (is_holder q upgradable s.holders) false may).1)
+one_goes s p (turns q writing l) alone found mine may stays =
+    absurd (omega (arith, (beside_upgradable s p alone found).1, count-without_holder writing q writing s.holders (and_parts (is_holder q writing s.holders) (is_downgrade writing l) may).0))
+one_goes s p _ alone found mine may stays = absurd (false≢true mine)
+
+goes_some : (s : Plain) (p q : ℕ) (step : Option Change) → IsExclusive s → is_holder p upgradable s.holders ≡ true → BelongsTo calls.rw step → IsOpenStep s q step → is_holder p upgradable (apply_some s step).holders ≡ true
+    → count_kind reading (apply_some s step).holders + bit (passes reader_goes step) ≡ count_kind reading s.holders
+goes_some s p q None alone found mine may stays = omega arith
+goes_some s p q (Some c) alone found mine may stays = one_goes s p c alone found mine may.1 stays
+
+-- it is alone exactly when no reader is left
+opens_at : (s : Plain) (p : ℕ) → IsExclusive s → is_holder p upgradable s.holders ≡ true → (is_only p upgradable s.holders ≡ true) ↔ (count_kind reading s.holders ≡ 0)
+opens_at s p alone found =
+    let beside = beside_upgradable s p alone found in (
+      λ only. omega (arith, only_word p s.holders only, beside.0),
+      λ none. only-holder p upgradable s.holders found (omega (arith, kinds-all s.holders, beside.0, beside.1, none)),
+    )
+
+one_party : (a b : Bool) → ((a && b) || false) ≡ true → a ≡ true
+one_party true b e = refl
+one_party false b e = absurd cc
+
+-- whoever holds keeps other parties from writing
+keeps_writers_out : (p : ℕ) (k : Kind) (s : Plain) → is_holder p k s.holders ≡ true → KeepsWritersOut p s
+keeps_writers_out p k s found = λ q ne. out q ne s.holders found
+  where
+    out : (q : ℕ) → (q ≡ p → ⊥) → (hs : List Holder) → is_holder p k hs ≡ true → (is_empty hs ≡ false) × (is_only q upgradable hs ≡ false)
+    out q ne [] found = absurd cc
+    out q ne (h ∷ []) found = (refl, ap (λ b. b && same_kind upgradable h.kind) (ne_eqb h.party q (λ e. ne (sym e ∙ eqb-true h.party p (one_party (h.party == p) (same_kind k h.kind) found)))))
+    out q ne (h ∷ i ∷ hs) found = (refl, refl)
+
+-- What an upgrade comes to
+
+came : (V : Type 0) (s : State ℕ V RwCall RwPoint) (p w : ℕ) (c : RwCall) (h : Option Hold) (lost : Next RwPoint (Answer V)) (b : Bool) → ((stepped {A = Answer V} s p c h (becomes w None (granted hold.Write) lost)).outcome ≡ Answered Granted None → ⊥)
+    → ((stepped {A = Answer V} s p c h (becomes w (if b then Some 1 else None) (granted hold.Write) lost)).outcome ≡ Answered Granted None) ↔ (b ≡ true)
+came V s p w c h lost true never = (λ e. refl, λ e. refl)
+came V s p w c h lost false never = (λ e. absurd (never e), λ e. absurd (true≢false (sym e)))
+
+module _ {V : Type 0} (v : V) (cap : ℕ) where
+  upgraded : (s : State ℕ V RwCall RwPoint) (p : ℕ) (c : RwCall) (l : RwPoint) (h : Option Hold) → upgrades c ≡ true
+      → ((moves_at (rw_machine v cap) s p Step (Some (Calling c l h))).outcome ≡ Answered Granted None) ↔ ((s.words == 2) ≡ true)
+  upgraded s p TryUpgrade l h is = came V s p s.words TryUpgrade h (Answers Refused h) (s.words == 2) (λ e. absurd (cc (e)))
+  upgraded s p TryUpgradeWeak l h is = came V s p s.words TryUpgradeWeak h (Answers Refused h) (s.words == 2) (λ e. absurd (cc (e)))
+  upgraded s p Upgrade l h is = came V s p s.words Upgrade h (GoesOn First) (s.words == 2) (λ e. absurd (cc (e)))
+  upgraded s p _ l h is = absurd (false≢true is)
+
+  -- Over a whole schedule
+
+  good : (n : ℕ) (past : List (ℕ × Move RwCall V)) → Invariant (rw_machine v cap) (rw_keeping v cap) (seen_after (rw_machine v cap) (opening (rw_machine v cap) n) past)
+  good n past =
+      let m = rw_machine v cap in
+      good_after m (rw_keeping v cap) (rw_facts v cap) (opening m n) past (good_first m (rw_keeping v cap) (rw_facts v cap) n)
+
+  words_are : (n : ℕ) (past : List (ℕ × Move RwCall V)) → (after (rw_machine v cap) (at_first (rw_machine v cap) n) past).words ≡ rw_word (seen_after (rw_machine v cap) (opening (rw_machine v cap) n) past).plain
+  words_are n past =
+      let m = rw_machine v cap in
+      let told : (seen_after m (opening m n) past).state.words ≡ rw_word (seen_after m (opening m n) past).plain = cc ((good n past).encodes) in
+      ap (λ (s : State ℕ V RwCall RwPoint). s.words) (sym (state-seen_after m (opening m n) past)) ∙ told
+
+  pub stand_together : (n : ℕ) (past : List (ℕ × Move RwCall V)) → StandTogether cap (after (rw_machine v cap) (at_first (rw_machine v cap) n) past).words (seen_after (rw_machine v cap) (opening (rw_machine v cap) n) past).plain
+  stand_together n past =
+      let here = good n past in
+      record { word = words_are n past; writer = here.exclusive.writer; one_upgradable = here.exclusive.one_upgradable; within = omega (arith, here.shape.few, here.shape.room) }
+
+  pub zero_when_free : (n : ℕ) (past : List (ℕ × Move RwCall V)) → ((after (rw_machine v cap) (at_first (rw_machine v cap) n) past).words ≡ 0) ↔ ((seen_after (rw_machine v cap) (opening (rw_machine v cap) n) past).plain.holders ≡ [])
+  zero_when_free n past =
+      let seen = seen_after (rw_machine v cap) (opening (rw_machine v cap) n) past in (
+        λ zero. empty_is seen.plain.holders (empty-word seen.plain.holders 0 (sym (words_are n past) ∙ zero)),
+        λ none. words_are n past ∙ ap (λ hs. (4 * count_kind reading hs + 2 * count_kind upgradable hs) + count_kind writing hs) none,
+      )
+
+  -- An upgrade opens by releases
+
+  stays_now : (p : ℕ) (seen : Seen ℕ V RwCall RwPoint) (es : List (ℕ × Move RwCall V)) → StaysUpgradable p (rw_machine v cap) seen es → is_holder p upgradable seen.plain.holders ≡ true
+  stays_now p seen [] stays = stays
+  stays_now p seen (e ∷ es) stays = stays.0
+
+  gone_through : (p : ℕ) (seen : Seen ℕ V RwCall RwPoint) (es : List (ℕ × Move RwCall V)) → Invariant (rw_machine v cap) (rw_keeping v cap) seen → StaysUpgradable p (rw_machine v cap) seen es
+      → (count_kind reading (seen_after (rw_machine v cap) seen es).plain.holders + readers_gone (rw_machine v cap) seen es ≡ count_kind reading seen.plain.holders) × (is_holder p upgradable (seen_after (rw_machine v cap) seen es).plain.holders ≡ true)
+  gone_through p seen [] here stays = (omega arith, stays)
+  gone_through p seen (e ∷ es) here stays =
+      let m = rw_machine v cap in
+      let sc = scene m seen e.0 e.1 in
+      let is = kept m (rw_keeping v cap) (rw_facts v cap) seen e.0 e.1 here in
+      let rest = gone_through p sc.after es is.good stays.1 in
+      let one = goes_some seen.plain p e.0 sc.change here.exclusive stays.0 is.keeps.belongs is.keeps.opens (stays_now p sc.after es stays.1) in
+      (omega (arith, rest.0, one), rest.1)
+
+  pub opens_by_releases : (n : ℕ) (past further : List (ℕ × Move RwCall V)) → Opens v cap n past further
+  opens_by_releases n past further p stays =
+      let m = rw_machine v cap in
+      let all = past ++ further in
+      let before = seen_after m (opening m n) past in
+      let later = seen_after m (opening m n) all in
+      let gone = gone_through p before further (good n past) stays in
+      let joined = seen_after-append m (opening m n) past further in
+      let readers : count_kind reading later.plain.holders + readers_gone m before further ≡ count_kind reading before.plain.holders =
+      ap (λ (s : Seen ℕ V RwCall RwPoint). count_kind reading s.plain.holders + readers_gone m before further) joined ∙ gone.0 in
+      let found : is_holder p upgradable later.plain.holders ≡ true = ap (λ (s : Seen ℕ V RwCall RwPoint). is_holder p upgradable s.plain.holders) joined ∙ gone.1 in
+      let here = good n all in
+      let alone = opens_at later.plain p here.exclusive found in
+      let left : (is_only p upgradable later.plain.holders ≡ true) ↔ (readers_gone m before further ≡ count_kind reading before.plain.holders) =
+      (λ only. let none = alone.0 only in omega (arith, readers, none), λ all_gone. alone.1 (omega (arith, readers, all_gone))) in
+      let now = after m (at_first m n) all in
+      let told : is_only p upgradable later.plain.holders ≡ (now.words == 2) = only-word later.plain p now.words (one_of_each later.plain here.exclusive) found (sym (words_are n all)) in
+      record {
+        readers = readers;
+        opens = left;
+        granted = λ c l h upgrading there.
+            let step = upgraded now p c l h upgrading in
+            let at = ap (λ o. (moves_at m now p Step o).outcome) there in
+            (λ e. left.0 (told ∙ step.0 (sym at ∙ e)), λ e. at ∙ step.1 (sym told ∙ left.1 e));
+      }
+
+  -- A downgrade is one step
+
+  seated : (s : State ℕ V RwCall RwPoint) (p : ℕ) (c : RwCall) (l : RwPoint) (h : Option Hold) (now held : Hold) → now ≡ held → slice_get s.seats p ≡ Some (Calling c l h) → slice_get (slice_set s.seats p (Holding now)) p ≡ Some (Holding held)
+  seated s p c l h now held same there = get-set_same s.seats p (Holding now) (Calling c l h) there ∙ ap (λ x. Some (Holding x)) same
+
+  downgraded : (s : State ℕ V RwCall RwPoint) (p : ℕ) (c : RwCall) (l : RwPoint) (h : Option Hold) (held : Hold) → less c ≡ Some held → slice_get s.seats p ≡ Some (Calling c l h)
+      → ((moves_at (rw_machine v cap) s p Step (Some (Calling c l h))).outcome ≡ Answered Done None) × (slice_get (moves_at (rw_machine v cap) s p Step (Some (Calling c l h))).next.seats p ≡ Some (Holding held))
+  downgraded s p Downgrade l (Some hold.Write) held is there = (refl, seated s p Downgrade l (Some hold.Write) hold.Read held (cc (is)) there)
+  downgraded s p Downgrade l h held is there = (refl, seated s p Downgrade l h hold.Read held (cc (is)) there)
+  downgraded s p DowngradeToUpgradeable l h held is there = (refl, seated s p DowngradeToUpgradeable l h hold.Upgradable held (cc (is)) there)
+  downgraded s p _ l h held is there = absurd (cc (is))
+
+  -- who is in such a call holds
+  holds_there : (p : ℕ) (c : RwCall) (l : RwPoint) (h : Option Hold) (held : Hold) (s : Plain) (span : List Mark) → less c ≡ Some held → (rw_keeping v cap).Knows c l h p s span → KeepsWritersOut p s
+  holds_there p Downgrade l (Some hold.Write) held s span is knows = keeps_writers_out p writing s (holder_by p writing s knows.0.stand)
+  holds_there p Downgrade l (Some hold.Upgradable) held s span is knows = keeps_writers_out p upgradable s (holder_by p upgradable s knows.0.stand)
+  holds_there p Downgrade l _ held s span is knows = absurd knows
+  holds_there p DowngradeToUpgradeable l (Some hold.Write) held s span is knows = keeps_writers_out p writing s (holder_by p writing s knows.0.stand)
+  holds_there p DowngradeToUpgradeable l _ held s span is knows = absurd knows
+  holds_there p _ l h held s span is knows = absurd (cc (is))
+
+  -- and so it does after it
+  holds_after : (p : ℕ) (held : Hold) (c : RwCall) (s : Plain) → less c ≡ Some held → entries p s ≡ entries_of p held → KeepsWritersOut p s
+  holds_after p hold.Read c s is mine = keeps_writers_out p reading s (holder_by p reading s mine)
+  holds_after p hold.Upgradable c s is mine = keeps_writers_out p upgradable s (holder_by p upgradable s mine)
+  holds_after p held Downgrade s is mine = absurd (cc (is))
+  holds_after p held DowngradeToUpgradeable s is mine = absurd (cc (is))
+  holds_after p held _ s is mine = absurd (cc (is))
+
+  pub downgrades : (n : ℕ) (past : List (ℕ × Move RwCall V)) → Downgrades v cap n past
+  downgrades n past p c l h held is there =
+      let m = rw_machine v cap in
+      let all = past ++ (p, Step) ∷ [] in
+      let before = seen_after m (opening m n) past in
+      let later = seen_after m (opening m n) all in
+      let state = state-seen_after m (opening m n) past in
+      let state_later = state-seen_after m (opening m n) all in
+      let here = ap (λ (s : State ℕ V RwCall RwPoint). slice_get s.seats p) state ∙ there in
+      let now = after m (at_first m n) past in
+      let step = downgraded now p c l h held is there in
+      let at = ap (λ o. (moves_at m now p Step o).outcome) there in
+      let seat : slice_get (after m (at_first m n) all).seats p ≡ Some (Holding held) =
+      ap (λ (s : State ℕ V RwCall RwPoint). slice_get s.seats p) (after-append m (at_first m n) past ((p, Step) ∷ [])) ∙ (ap (λ o. slice_get (moves_at m now p Step o).next.seats p) there ∙ step.1) in
+      let seat_later = ap (λ (s : State ℕ V RwCall RwPoint). slice_get s.seats p) state_later ∙ seat in
+      record {
+        before = holds_there p c l h held before.plain (before.span p) is (in_call m (rw_keeping v cap) before p c l h (good n past) here).knows;
+        done = at ∙ step.0;
+        holds = seat;
+        later = holds_after p held c later.plain is (standing m (rw_keeping v cap) later p (Holding held) (good n all) seat_later);
+      }
+
+  -- Looks across conversions
+
+  reads_there : (p : ℕ) (c : RwCall) (l : RwPoint) (h : Hold) (s : Plain) (span : List Mark) → converts c ≡ true → (rw_keeping v cap).Knows c l (Some h) p s span → is_reader (entries p s) ≡ true
+  reads_there p TryUpgrade l hold.Upgradable s span is knows = ap is_reader knows.0.stand
+  reads_there p TryUpgradeWeak l hold.Upgradable s span is knows = ap is_reader knows.0.stand
+  reads_there p Upgrade l hold.Upgradable s span is knows = ap is_reader knows.0.stand
+  reads_there p Downgrade l hold.Upgradable s span is knows = ap is_reader knows.0.stand
+  reads_there p Downgrade l hold.Write s span is knows = ap is_reader knows.0.stand
+  reads_there p DowngradeToUpgradeable l hold.Write s span is knows = ap is_reader knows.0.stand
+  reads_there p TryUpgrade l _ s span is knows = absurd knows
+  reads_there p TryUpgradeWeak l _ s span is knows = absurd knows
+  reads_there p Upgrade l _ s span is knows = absurd knows
+  reads_there p Downgrade l _ s span is knows = absurd knows
+  reads_there p DowngradeToUpgradeable l _ s span is knows = absurd knows
+  reads_there p _ l h s span is knows = absurd (false≢true is)
+
+  reads_on : (w : ℕ) (o : Option ℕ) (won lost : Next RwPoint (Answer V)) → ReadsOn won → ReadsOn lost → ReadsOn (becomes {V = V} w o won lost).next
+  reads_on w None won lost on on_lost = on_lost
+  reads_on w (Some to) won lost on on_lost = on
+
+  steps_on : (c : RwCall) (l : RwPoint) (h : Hold) (w : ℕ) (value : Option V) → converts c ≡ true → may_read h ≡ true → ReadsOn ((rw_machine v cap).step w value c l (Some h)).next
+  steps_on TryUpgrade l h w value is may = reads_on w (upgrade w) (granted hold.Write) (Answers Refused (Some h)) refl may
+  steps_on TryUpgradeWeak l h w value is may = reads_on w (upgrade w) (granted hold.Write) (Answers Refused (Some h)) refl may
+  steps_on Upgrade l h w value is may = reads_on w (upgrade w) (granted hold.Write) (GoesOn First) refl tt
+  steps_on Downgrade l hold.Write w value is may = refl
+  steps_on Downgrade l _ w value is may = refl
+  steps_on DowngradeToUpgradeable l h w value is may = refl
+  steps_on _ l h w value is may = absurd (false≢true is)
+
+  refuses_on : (c : RwCall) (l : RwPoint) (h : Hold) (next : Next RwPoint (Answer V)) → converts c ≡ true → may_read h ≡ true → (rw_machine v cap).refuse c l (Some h) ≡ Some next → ReadsOn next
+  refuses_on TryUpgradeWeak l h next is may weak = let same : Answers Refused (Some h) ≡ next = cc (weak) in subst (λ (x : Next RwPoint (Answer V)). ReadsOn x) same may
+  refuses_on Upgrade l h next is may weak = let same : GoesOn First ≡ next = cc (weak) in subst (λ (x : Next RwPoint (Answer V)). ReadsOn x) same tt
+  refuses_on TryUpgrade l h next is may weak = absurd (cc (weak))
+  refuses_on Downgrade l hold.Write next is may weak = absurd (cc (weak))
+  refuses_on Downgrade l _ next is may weak = absurd (cc (weak))
+  refuses_on DowngradeToUpgradeable l h next is may weak = absurd (cc (weak))
+  refuses_on _ l h next is may weak = absurd (false≢true is)
+
+  pub looks_agree : (n : ℕ) (past : List (ℕ × Move RwCall V)) → ReadsAgreeAcross converts (rw_machine v cap) n past
+  looks_agree n past =
+      reads_agree_across (rw_machine v cap) (rw_keeping v cap) (rw_facts v cap) converts
+      (record { reads = λ p c l h s span is may knows. reads_there p c l h s span is knows; steps = steps_on; refuses = refuses_on }) n past

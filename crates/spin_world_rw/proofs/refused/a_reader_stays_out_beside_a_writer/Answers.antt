@@ -1,0 +1,5 @@
+use Rattle.std.proofs.lemmas.Bool.{false≢true}
+use Rattle.spin_world_rw.proofs.refused.a_reader_stays_out_beside_a_writer.Goals as goal
+
+pub returns : goal.returns
+returns g c = λ value all. false≢true all.each.1.1.1.0.opens.1

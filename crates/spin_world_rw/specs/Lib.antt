@@ -1,0 +1,3 @@
+pub mod Rw
+pub mod Standing
+pub mod Wrong

@@ -1,0 +1,138 @@
+-- The calls of the read-write lock, step by step, and how they read on the plain lock.
+use Rattle.std.specs.Prelude.{ℕ, ◌+◌, ◌-◌, ◌/◌, ◌%◌, ◌==◌, ◌&&◌, true, Option, Some, None, is_some, [], if◌then◌else◌, nat_lt, min}
+use Rattle.spin_step.specs.Plain.{reading, upgradable, writing, Ask, to_read, to_read_upgradable, to_write, to_upgrade, gets, releases, turns}
+use Rattle.spin_step.specs.Readers.{reader_limit, has_room}
+use Rattle.spin_world_core.specs.declared.place.Hold.{Hold}
+use Rattle.spin_world_core.specs.declared.place.Hold.TheVariants as hold
+use Rattle.spin_world_core.specs.declared.object.Next.{Next}
+use Rattle.spin_world_core.specs.declared.object.Next.TheVariants.{GoesOn, Answers}
+use Rattle.spin_world_core.specs.declared.object.Stepped.{Stepped}
+use Rattle.spin_world_core.specs.declared.answer.Answer.{Answer}
+use Rattle.spin_world_core.specs.declared.answer.Answer.TheVariants.{Granted, Refused, Done, Count}
+use Rattle.spin_world_rw.specs.declared.rw.RwCall.{RwCall}
+use Rattle.spin_world_rw.specs.declared.rw.RwCall.TheVariants.{TryRead, Read, TryUpgradeableRead, UpgradeableRead, TryWrite, TryWriteWeak, Write, ReaderCount, WriterCount, TryUpgrade, TryUpgradeWeak, Upgrade, Downgrade, DowngradeToUpgradeable, Release}
+use Rattle.spin_world_rw.specs.declared.rw.RwPoint.{RwPoint}
+use Rattle.spin_world_rw.specs.declared.rw.RwPoint.TheVariants.{First, Exchange}
+use Rattle.spin_world_core.specs.Calls.{rw, Asked, waits, tries, tries_weakly, counts_readers, counts_writers, turns_to, gives_back, says_of}
+use Rattle.spin_world_core.specs.Machines.{Machine}
+use Rattle.spin_world_core.specs.Acts.{Act, load, load_for, exchange, weak_exchange, retry, store, either, stays, retried, Table, machine_of}
+
+-- who holds nothing may come, look and count; a conversion begins at the hold that it changes, and a release at any
+abbrev pub begins_at : RwCall → Option Hold → Option RwPoint
+begins_at TryRead None = Some First
+begins_at Read None = Some First
+begins_at TryUpgradeableRead None = Some First
+begins_at UpgradeableRead None = Some First
+begins_at TryWrite None = Some First
+begins_at TryWriteWeak None = Some First
+begins_at Write None = Some First
+begins_at ReaderCount None = Some First
+begins_at WriterCount None = Some First
+begins_at TryUpgrade (Some hold.Upgradable) = Some First
+begins_at TryUpgradeWeak (Some hold.Upgradable) = Some First
+begins_at Upgrade (Some hold.Upgradable) = Some First
+begins_at Downgrade (Some hold.Upgradable) = Some First
+begins_at Downgrade (Some hold.Write) = Some First
+begins_at DowngradeToUpgradeable (Some hold.Write) = Some First
+begins_at Release (Some hold.Read) = Some First
+begins_at Release (Some hold.Upgradable) = Some First
+begins_at Release (Some hold.Write) = Some First
+begins_at _ _ = None
+
+-- the word with one more reader, one more that may upgrade, a writer, and a writer in place of one that may upgrade
+
+abbrev pub read : ℕ → ℕ → Option ℕ
+read cap w = if has_room w cap then Some (w + 4) else None
+
+abbrev pub read_upgradable : ℕ → ℕ → Option ℕ
+read_upgradable cap w = if has_room w cap then Some (w + 2) else None
+
+abbrev pub write : ℕ → Option ℕ
+write w = if w == 0 then Some 1 else None
+
+abbrev pub upgrade : ℕ → Option ℕ
+upgrade w = if w == 2 then Some 1 else None
+
+-- how many holders of each sort the word tells
+
+abbrev pub readers_in : ℕ → ℕ
+readers_in w = w / 4 + (w % 4) / 2
+
+abbrev pub writers_in : ℕ → ℕ
+writers_in w = w % 2
+
+abbrev pub granted : {V : Type 0} → Hold → Next RwPoint (Answer V)
+granted held = Answers Granted (Some held)
+
+-- a call that looks first goes for the word that it found
+abbrev pub goes_for : {V : Type 0} → ℕ → Next RwPoint (Answer V)
+goes_for w = GoesOn (Exchange w)
+
+-- a call that looks first, and then makes its exchange for as long as each word that it finds lets it in
+abbrev pub comes_by : {V : Type 0} → (ℕ → Option ℕ) → Ask → Hold → Next RwPoint (Answer V) → RwPoint → Act ℕ RwPoint (Answer V)
+comes_by f ask held missed First = load_for f (λ p. gets p ask) goes_for missed
+comes_by f ask held missed (Exchange n) = retry n f (λ p. gets p ask) (granted held) goes_for missed
+
+-- what its step comes to, where the step function answers so
+abbrev pub comes_at : {V : Type 0} → RwPoint → ℕ → Option ℕ → Hold → Next RwPoint (Answer V) → Stepped ℕ V RwPoint (Answer V)
+comes_at First w to held missed = stays w (either (is_some to) (goes_for w) missed)
+comes_at (Exchange n) w to held missed = retried (w == n) w to (granted held) (goes_for w) missed
+
+-- the waiting exchanges of `Write` and `Upgrade` are weak; a conversion and a release are an addition or a subtraction, by what is held
+abbrev pub act_of : {V : Type 0} → ℕ → RwCall → RwPoint → Option Hold → Act ℕ RwPoint (Answer V)
+act_of cap TryRead l h = comes_by (read cap) to_read hold.Read (Answers Refused h) l
+act_of cap Read l h = comes_by (read cap) to_read hold.Read (GoesOn First) l
+act_of cap TryUpgradeableRead l h = comes_by (read_upgradable cap) to_read_upgradable hold.Upgradable (Answers Refused h) l
+act_of cap UpgradeableRead l h = comes_by (read_upgradable cap) to_read_upgradable hold.Upgradable (GoesOn First) l
+act_of cap TryWrite l h = exchange write (λ p. gets p to_write) (granted hold.Write) (λ w. Answers Refused h)
+act_of cap TryWriteWeak l h = weak_exchange write (λ p. gets p to_write) (granted hold.Write) (Answers Refused h)
+act_of cap Write l h = weak_exchange write (λ p. gets p to_write) (granted hold.Write) (GoesOn First)
+act_of cap ReaderCount l h = load (λ w. Answers (Count (readers_in w)) h)
+act_of cap WriterCount l h = load (λ w. Answers (Count (writers_in w)) h)
+act_of cap TryUpgrade l h = exchange upgrade (λ p. gets p to_upgrade) (granted hold.Write) (λ w. Answers Refused h)
+act_of cap TryUpgradeWeak l h = weak_exchange upgrade (λ p. gets p to_upgrade) (granted hold.Write) (Answers Refused h)
+act_of cap Upgrade l h = weak_exchange upgrade (λ p. gets p to_upgrade) (granted hold.Write) (GoesOn First)
+act_of cap Downgrade l (Some hold.Write) = store (λ w. w == 1) (λ w. 4) (λ p. turns p writing reading) (Answers Done (Some hold.Read))
+act_of cap Downgrade l h = store (λ w. (w % 4 == 2) && nat_lt (w / 4) reader_limit) (λ w. w + 2) (λ p. turns p upgradable reading) (Answers Done (Some hold.Read))
+act_of cap DowngradeToUpgradeable l h = store (λ w. w == 1) (λ w. 2) (λ p. turns p writing upgradable) (Answers Done (Some hold.Upgradable))
+act_of cap Release l (Some hold.Read) = store (λ w. nat_lt 3 w) (λ w. w - 4) (λ p. releases p reading) (Answers Done None)
+act_of cap Release l (Some hold.Upgradable) = store (λ w. w % 4 == 2) (λ w. w - 2) (λ p. releases p upgradable) (Answers Done None)
+act_of cap Release l h = store (λ w. w == 1) (λ w. 0) (λ p. releases p writing) (Answers Done None)
+
+abbrev pub asks_of : RwCall → Option Hold → Asked
+asks_of TryRead h = tries to_read
+asks_of Read h = waits to_read
+asks_of TryUpgradeableRead h = tries to_read_upgradable
+asks_of UpgradeableRead h = waits to_read_upgradable
+asks_of TryWrite h = tries to_write
+asks_of TryWriteWeak h = tries_weakly to_write
+asks_of Write h = waits to_write
+asks_of ReaderCount h = counts_readers
+asks_of WriterCount h = counts_writers
+asks_of TryUpgrade h = tries to_upgrade
+asks_of TryUpgradeWeak h = tries_weakly to_upgrade
+asks_of Upgrade h = waits to_upgrade
+asks_of Downgrade h = turns_to h reading
+asks_of DowngradeToUpgradeable h = turns_to h upgradable
+asks_of Release h = gives_back h
+
+abbrev pub rw_table : {V : Type 0} → V → ℕ → Table ℕ V RwCall RwPoint (Answer V)
+rw_table v cap =
+    record {
+      words = 0;
+      value = Some v;
+      owned = true;
+      coding = rw;
+      cap = min cap reader_limit;
+      group = 0;
+      first = 0;
+      number = λ w. w;
+      others = λ w. [];
+      begin = begins_at;
+      act = act_of cap;
+      asks = asks_of;
+      says = says_of;
+    }
+
+abbrev pub rw_machine : {V : Type 0} → V → ℕ → Machine ℕ V RwCall RwPoint (Answer V)
+rw_machine v cap = machine_of (rw_table v cap)

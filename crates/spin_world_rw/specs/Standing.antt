@@ -1,0 +1,93 @@
+-- What users of a read-write lock rely on: who stands beside whom, and when an upgrade opens.
+use Rattle.std.specs.Prelude.{◌≡◌, ℕ, ◌+◌, ◌<◌, ◌≤◌, ◌↔◌, Bool, true, false, Option, Some, None, List, [], ◌∷◌, ◌++◌, length, slice_get, min, max}
+use Rattle.spin_step.specs.Plain.{Plain, reading, upgradable, writing, Change, releases, to_write, to_upgrade, is_open_to, is_holder, count_kind, rw_word}
+use Rattle.spin_step.specs.Readers.{reader_limit}
+use Rattle.spin_world_core.specs.declared.answer.Answer.TheVariants.{Granted, Done}
+use Rattle.spin_world_core.specs.declared.place.Hold.{Hold}
+use Rattle.spin_world_core.specs.declared.place.Hold.TheVariants as hold
+use Rattle.spin_world_core.specs.declared.place.Seat.TheVariants.{Calling, Holding}
+use Rattle.spin_world_core.specs.declared.schedule.Move.{Move}
+use Rattle.spin_world_core.specs.declared.schedule.Move.TheVariants.{Step}
+use Rattle.spin_world_core.specs.declared.schedule.Outcome.TheVariants.{Answered}
+use Rattle.spin_world_rw.specs.declared.rw.RwCall.{RwCall}
+use Rattle.spin_world_rw.specs.declared.rw.RwCall.TheVariants.{TryUpgrade, TryUpgradeWeak, Upgrade, Downgrade, DowngradeToUpgradeable}
+use Rattle.spin_world_rw.specs.declared.rw.RwPoint.{RwPoint}
+use Rattle.spin_world_core.specs.Machines.{Machine}
+use Rattle.spin_world_core.specs.Schedules.{after, at_first}
+use Rattle.spin_world_core.specs.Runs.{Seen, scene, opening}
+use Rattle.spin_world_core.specs.Users.{seen_after, outcome_after, steps_made}
+use Rattle.spin_world_rw.specs.Rw.{rw_machine}
+
+-- a lock of this cap, with this word and these holders: who writes holds alone, at most one of them may upgrade, and they are never more than may hold
+pub record StandTogether (cap w : ℕ) (s : Plain) : Type 0 where
+  pub word : w ≡ rw_word s
+  pub writer : 0 < count_kind writing s.holders → length s.holders ≡ 1
+  pub one_upgradable : count_kind upgradable s.holders ≤ 1
+  pub within : length s.holders ≤ max (min cap reader_limit) 1
+
+-- no other party may become the writer, neither as it comes nor by an upgrade
+abbrev pub KeepsWritersOut : ℕ → Plain → Type 0
+KeepsWritersOut p s = (q : ℕ) → (q ≡ p → ⊥) → (is_open_to s q to_write ≡ false) × (is_open_to s q to_upgrade ≡ false)
+
+-- what a party holds after its downgrade
+abbrev pub less : RwCall → Option Hold
+less Downgrade = Some hold.Read
+less DowngradeToUpgradeable = Some hold.Upgradable
+less _ = None
+
+-- a downgrade is one step, from a state in which no other party may become the writer to another such state
+pub record DowngradesAtOnce {V : Type 0} (v : V) (cap n : ℕ) (past : List (ℕ × Move RwCall V)) (p : ℕ) (held : Hold) : Type 0 where
+  pub before : let m = rw_machine v cap in KeepsWritersOut p (seen_after m (opening m n) past).plain
+  pub done : let m = rw_machine v cap in outcome_after m n past p Step ≡ Answered Done None
+  pub holds : let m = rw_machine v cap in slice_get (after m (at_first m n) (past ++ (p, Step) ∷ [])).seats p ≡ Some (Holding held)
+  pub later : let m = rw_machine v cap in KeepsWritersOut p (seen_after m (opening m n) (past ++ (p, Step) ∷ [])).plain
+
+abbrev pub Downgrades : {V : Type 0} → V → ℕ → ℕ → List (ℕ × Move RwCall V) → Type 0
+Downgrades v cap n past =
+    (p : ℕ) (c : RwCall) (l : RwPoint) (h : Option Hold) (held : Hold) → less c ≡ Some held → let m = rw_machine v cap in
+    slice_get (after m (at_first m n) past).seats p ≡ Some (Calling c l h) → DowngradesAtOnce v cap n past p held
+
+-- a reader goes
+abbrev pub reader_goes : Change → Bool
+reader_goes (releases p reading) = true
+reader_goes _ = false
+
+-- how many readers go in the events of these entries
+abbrev pub readers_gone : {W V C L A : Type 0} → Machine W V C L A → Seen W V C L → List (ℕ × Move C V) → ℕ
+readers_gone m seen es = steps_made reader_goes m seen es
+
+-- the party is the upgradable holder before and after each of these entries
+abbrev pub StaysUpgradable : {W V C L A : Type 0} → ℕ → Machine W V C L A → Seen W V C L → List (ℕ × Move C V) → Type 0
+StaysUpgradable p m seen [] = is_holder p upgradable seen.plain.holders ≡ true
+StaysUpgradable p m seen (e ∷ es) = (is_holder p upgradable seen.plain.holders ≡ true) × StaysUpgradable p m (scene m seen e.0 e.1).after es
+
+-- the calls that upgrade
+abbrev pub upgrades : RwCall → Bool
+upgrades TryUpgrade = true
+upgrades TryUpgradeWeak = true
+upgrades Upgrade = true
+upgrades _ = false
+
+-- Beside an upgradable holder stand only readers that stood there before, and the upgrade is open exactly when all that stood have gone
+pub record OpensByReleases {V : Type 0} (v : V) (cap n : ℕ) (past further : List (ℕ × Move RwCall V)) (p : ℕ) : Type 0 where
+  -- the readers never grow, and each that goes is one less
+  pub readers : let m = rw_machine v cap in
+      count_kind reading (seen_after m (opening m n) (past ++ further)).plain.holders + readers_gone m (seen_after m (opening m n) past) further ≡ count_kind reading (seen_after m (opening m n) past).plain.holders
+  pub opens : let m = rw_machine v cap in
+      (is_open_to (seen_after m (opening m n) (past ++ further)).plain p to_upgrade ≡ true) ↔ (readers_gone m (seen_after m (opening m n) past) further ≡ count_kind reading (seen_after m (opening m n) past).plain.holders)
+  -- and exactly then the next step of the holder's own upgrade is granted
+  pub granted : (c : RwCall) (l : RwPoint) (h : Option Hold) → upgrades c ≡ true → let m = rw_machine v cap in
+      slice_get (after m (at_first m n) (past ++ further)).seats p ≡ Some (Calling c l h)
+      → (outcome_after m n (past ++ further) p Step ≡ Answered Granted None) ↔ (readers_gone m (seen_after m (opening m n) past) further ≡ count_kind reading (seen_after m (opening m n) past).plain.holders)
+
+abbrev pub Opens : {V : Type 0} → V → ℕ → ℕ → List (ℕ × Move RwCall V) → List (ℕ × Move RwCall V) → Type 0
+Opens v cap n past further = (p : ℕ) → let m = rw_machine v cap in StaysUpgradable p m (seen_after m (opening m n) past) further → OpensByReleases v cap n past further p
+
+-- the calls that change what a party holds and keep its guard
+abbrev pub converts : RwCall → Bool
+converts TryUpgrade = true
+converts TryUpgradeWeak = true
+converts Upgrade = true
+converts Downgrade = true
+converts DowngradeToUpgradeable = true
+converts _ = false

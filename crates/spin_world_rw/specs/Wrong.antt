@@ -1,0 +1,123 @@
+-- Read-write locks that are wrong in their steps, and schedules on which the laws refuse them. Each is a wrong table: its steps and the plain steps that they read as are wrong together.
+use Rattle.std.specs.Prelude.{ℕ, ◌+◌, ◌-◌, ◌/◌, ◌%◌, ◌==◌, true, Option, Some, None, List, [], ◌∷◌, if◌then◌else◌}
+use Rattle.spin_step.specs.Plain.{reading, upgradable, writing, to_read, to_write, to_upgrade, Change, gets, releases}
+use Rattle.spin_world_core.specs.declared.place.Hold.{Hold}
+use Rattle.spin_world_core.specs.declared.place.Hold.TheVariants as hold
+use Rattle.spin_world_core.specs.declared.object.Next.TheVariants.{GoesOn, Answers}
+use Rattle.spin_world_core.specs.declared.answer.Answer.{Answer}
+use Rattle.spin_world_core.specs.declared.answer.Answer.TheVariants.{Refused, Done, Count}
+use Rattle.spin_world_rw.specs.declared.rw.RwCall.{RwCall}
+use Rattle.spin_world_rw.specs.declared.rw.RwCall.TheVariants.{TryRead, Read, TryUpgradeableRead, TryWrite, ReaderCount, TryUpgrade, Upgrade, Downgrade}
+use Rattle.spin_world_rw.specs.declared.rw.RwPoint.{RwPoint}
+use Rattle.spin_world_rw.specs.declared.rw.RwPoint.TheVariants.{First, Exchange}
+use Rattle.spin_world_core.specs.declared.schedule.Move.{Move}
+use Rattle.spin_world_core.specs.declared.schedule.Move.TheVariants.{Begin, Step}
+use Rattle.spin_world_core.specs.Machines.{Machine}
+use Rattle.spin_world_core.specs.Acts.{Act, load, exchange, weak_exchange, store, Table, machine_of}
+use Rattle.spin_world_rw.specs.Rw.{granted, act_of, rw_table}
+
+abbrev RwAct : Type 0 → Type 0
+RwAct V = Act ℕ RwPoint (Answer V)
+
+abbrev RwMachine : Type 0 → Type 0
+RwMachine V = Machine ℕ V RwCall RwPoint (Answer V)
+
+-- a lock of nine readers with these steps
+abbrev with_steps : {V : Type 0} → V → (RwCall → RwPoint → Option Hold → RwAct V) → RwMachine V
+with_steps {V} v act = let t : Table ℕ V RwCall RwPoint (Answer V) = rw_table v 9 in machine_of (record t { act = act })
+
+-- `try_upgrade` is granted while readers stand
+abbrev pub upgrade_at_once : {V : Type 0} → RwCall → RwPoint → Option Hold → RwAct V
+upgrade_at_once TryUpgrade l h = exchange (λ w. Some 1) (λ p. gets p to_upgrade) (granted hold.Write) (λ w. Answers Refused h)
+upgrade_at_once c l h = act_of 9 c l h
+
+abbrev pub upgrades_at_once : {V : Type 0} → V → RwMachine V
+upgrades_at_once v = with_steps v upgrade_at_once
+
+abbrev pub upgrade_beside_a_reader : {V : Type 0} → List (ℕ × Move RwCall V)
+upgrade_beside_a_reader = (0, Begin TryRead) ∷ (0, Step) ∷ (0, Step) ∷ (1, Begin TryUpgradeableRead) ∷ (1, Step) ∷ (1, Step) ∷ (1, Begin TryUpgrade) ∷ (1, Step) ∷ []
+
+-- `downgrade` frees the writer, and then takes a reader's place
+abbrev pub downgrade_in_two : {V : Type 0} → RwCall → RwPoint → Option Hold → RwAct V
+downgrade_in_two Downgrade First (Some hold.Write) = store (λ w. w == 1) (λ w. 0) (λ p. releases p writing) (GoesOn (Exchange 0))
+downgrade_in_two Downgrade (Exchange n) h = store (λ w. true) (λ w. w + 4) (λ p. gets p to_read) (Answers Done (Some hold.Read))
+downgrade_in_two c l h = act_of 9 c l h
+
+abbrev pub downgrades_in_two : {V : Type 0} → V → RwMachine V
+downgrades_in_two v = with_steps v downgrade_in_two
+
+abbrev pub downgrade_alone : {V : Type 0} → List (ℕ × Move RwCall V)
+downgrade_alone = (0, Begin TryWrite) ∷ (0, Step) ∷ (0, Begin Downgrade) ∷ (0, Step) ∷ []
+
+-- `try_read` adds its reader, and takes it off where there was no room
+abbrev pub read_and_regret : {V : Type 0} → RwCall → RwPoint → Option Hold → RwAct V
+read_and_regret TryRead First h = store (λ w. true) (λ w. w + 4) (λ p. gets p to_read) (GoesOn (Exchange 0))
+read_and_regret TryRead (Exchange n) h = store (λ w. true) (λ w. w - 4) (λ p. releases p reading) (Answers Refused h)
+read_and_regret c l h = act_of 9 c l h
+
+abbrev pub reads_and_regrets : {V : Type 0} → V → RwMachine V
+reads_and_regrets v = with_steps v read_and_regret
+
+-- the same, where its steps read as no plain step
+abbrev pub never_by_a_try : RwCall → Option Change → Option Change
+never_by_a_try TryRead step = None
+never_by_a_try c step = step
+
+abbrev pub reads_and_regrets_unseen : {V : Type 0} → V → RwMachine V
+reads_and_regrets_unseen {V} v = let m : RwMachine V = reads_and_regrets v in record m { change = λ p w c l h. never_by_a_try c (m.change p w c l h) }
+
+abbrev pub read_beside_a_writer : {V : Type 0} → List (ℕ × Move RwCall V)
+read_beside_a_writer = (0, Begin TryWrite) ∷ (0, Step) ∷ (1, Begin TryRead) ∷ (1, Step) ∷ []
+
+-- `try_read` looks for the upgradable reader alone
+abbrev pub read_by_a_mask : {V : Type 0} → RwCall → RwPoint → Option Hold → RwAct V
+read_by_a_mask TryRead l h = exchange (λ w. if w % 4 / 2 == 0 then Some (w + 4) else None) (λ p. gets p to_read) (granted hold.Read) (λ w. Answers Refused h)
+read_by_a_mask c l h = act_of 9 c l h
+
+abbrev pub reads_by_a_mask : {V : Type 0} → V → RwMachine V
+reads_by_a_mask v = with_steps v read_by_a_mask
+
+-- `try_write` may refuse without cause, though it is no weak try
+abbrev pub write_by_chance : {V : Type 0} → RwCall → RwPoint → Option Hold → RwAct V
+write_by_chance TryWrite l h = load (λ w. Answers Refused h)
+write_by_chance c l h = act_of 9 c l h
+
+abbrev pub writes_by_chance : {V : Type 0} → V → RwMachine V
+writes_by_chance v = with_steps v write_by_chance
+
+abbrev pub write_alone : {V : Type 0} → List (ℕ × Move RwCall V)
+write_alone = (0, Begin TryWrite) ∷ (0, Step) ∷ []
+
+-- `upgrade` lets go, and then comes to write as anybody does
+abbrev pub upgrade_anew : {V : Type 0} → RwCall → RwPoint → Option Hold → RwAct V
+upgrade_anew Upgrade First h = store (λ w. w % 4 == 2) (λ w. w - 2) (λ p. releases p upgradable) (GoesOn (Exchange 0))
+upgrade_anew Upgrade (Exchange n) h = weak_exchange (λ w. if w == 0 then Some 1 else None) (λ p. gets p to_write) (granted hold.Write) (GoesOn (Exchange 0))
+upgrade_anew c l h = act_of 9 c l h
+
+abbrev pub upgrades_anew : {V : Type 0} → V → RwMachine V
+upgrades_anew v = with_steps v upgrade_anew
+
+abbrev pub upgrade_alone : {V : Type 0} → List (ℕ × Move RwCall V)
+upgrade_alone = (0, Begin TryUpgradeableRead) ∷ (0, Step) ∷ (0, Step) ∷ (0, Begin Upgrade) ∷ (0, Step) ∷ []
+
+-- `reader_count` leaves the upgradable reader out
+abbrev pub count_without_upgradable : {V : Type 0} → RwCall → RwPoint → Option Hold → RwAct V
+count_without_upgradable ReaderCount l h = load (λ w. Answers (Count (w / 4)) h)
+count_without_upgradable c l h = act_of 9 c l h
+
+abbrev pub counts_without_upgradable : {V : Type 0} → V → RwMachine V
+counts_without_upgradable v = with_steps v count_without_upgradable
+
+abbrev pub count_beside_an_upgradable : {V : Type 0} → List (ℕ × Move RwCall V)
+count_beside_an_upgradable = (0, Begin TryUpgradeableRead) ∷ (0, Step) ∷ (0, Step) ∷ (1, Begin ReaderCount) ∷ (1, Step) ∷ []
+
+-- `read` looks for ever
+abbrev pub look_for_ever : {V : Type 0} → RwCall → RwPoint → Option Hold → RwAct V
+look_for_ever Read l h = load (λ w. GoesOn First)
+look_for_ever c l h = act_of 9 c l h
+
+abbrev pub looks_for_ever : {V : Type 0} → V → RwMachine V
+looks_for_ever v = with_steps v look_for_ever
+
+abbrev pub four_looks : {V : Type 0} → List (ℕ × Move RwCall V)
+four_looks = (0, Begin Read) ∷ (0, Step) ∷ (0, Step) ∷ (0, Step) ∷ (0, Step) ∷ []
