@@ -1,0 +1,120 @@
+-- The steps of a lock of seats keep its rule: each is the plain step of its step function.
+use Rattle.std.proofs.Common.{◌≡◌, ℕ, ◌+◌, ◌-◌, ◌≤◌, ◌%◌, ◌^◌, ◌==◌, if◌then◌else◌, cond, List, [], ◌∷◌, length, filter, Option, Some, None, refl, sym, ap, ◌∙◌, arith}
+use Rattle.std.specs.Prelude.{sum_by}
+use Rattle.std.proofs.lemmas.List.Sums.{sum_by-cons}
+use prog.Atomic.{either}
+use Rattle.spin_step.specs.Plain.{Plain, reading, count_kind, same_kind, gets, releases, to_read}
+use Rattle.spin_step.specs.Steps.{Decides}
+use Rattle.spin_step.proofs.Holders.{is_holder-from_entries, length-held}
+use Rattle.spin_core.specs.Cell.{Ways, Limits, lends, reading as reads_of, writing as writes_of, readers_of, writers_of, Meets, Allows, Rests, Moved}
+use Rattle.spin_core.specs.Views.{IsInOrder, IsLockOf, entries_of, no_word}
+use Rattle.spin_core.specs.Plays.{becomes, exchanges}
+use Rattle.spin_core.proofs.CellCounts.{none}
+use Rattle.spin_core.proofs.Leaving.{flag_word-up, no_word-up}
+use Rattle.spin_core.proofs.Owners.{exactly}
+use Rattle.spin_core.proofs.Plays.{Lock, allows, allows_among, by_step, by_none, by_exchange, begins, rests, moved_rests, missed_rests}
+use Rattle.spin_core.proofs.Views.{part-beyond, release-own}
+use Rattle.spin_seats.specs.declared.seats.rule.View.{View}
+use Rattle.spin_seats.specs.declared.seats.rule.View.TheVariants.{Idle, Seated}
+use Rattle.spin_seats.specs.Seats.{AllRead, seats, seats_word}
+use Rattle.spin_seats.proofs.Taken.{leave-gives}
+use Rattle.spin_seats.specs.Rule.{part, IsSeats, use_of_view, seat_ways, sits, seated}
+
+abbrev ways : Ways (Unit {0}) View
+ways = seat_ways
+
+-- Who holds are the parties that sit, and they read
+
+ones : {X : Type 0} (xs : List X) → sum_by (λ x. 1) xs ≡ length xs
+ones [] = refl
+ones (x ∷ xs) = omega (arith, ones xs, sum_by-cons (λ y. 1) x xs)
+
+one_seat : (p : ℕ) (v : View) → reads_of (use_of_view v) ≡ length (entries_of p (part v)).holders
+one_seat p Idle = refl
+one_seat p Seated = refl
+
+one_reads : (p : ℕ) (v : View) → reads_of (use_of_view v) ≡ count_kind reading (entries_of p (part v)).holders
+one_reads p Idle = refl
+one_reads p Seated = refl
+
+nobody_writes : (v : View) → writes_of (use_of_view v) ≡ 0
+nobody_writes Idle = refl
+nobody_writes Seated = refl
+
+as_many_hold : (vs : List View) (s : Plain) → IsLockOf part vs s → readers_of use_of_view vs ≡ length s.holders
+as_many_hold vs s is =
+    exactly (λ h. h.party) (λ h. 1) part (λ v. reads_of (use_of_view v)) (λ p x. length (entries_of p x).holders) one_seat vs s.holders
+    (λ p. ones (filter (λ h. h.party == p) s.holders) ∙ ap (λ e. length e.holders) (is p).0) (λ p far. ap (λ e. e.holders) ((is p).0 ∙ ap (entries_of p) (part-beyond part p vs far)))
+    ∙ ones s.holders
+
+all_read : (vs : List View) (s : Plain) → IsLockOf part vs s → AllRead s
+all_read vs s is =
+    sym (exactly (λ h. h.party) (λ h. cond (same_kind reading h.kind) 1 0) part (λ v. reads_of (use_of_view v)) (λ p x. count_kind reading (entries_of p x).holders) one_reads vs s.holders
+    (λ p. ap (λ e. count_kind reading e.holders) (is p).0) (λ p far. ap (λ e. e.holders) ((is p).0 ∙ ap (entries_of p) (part-beyond part p vs far))))
+    ∙ as_many_hold vs s is
+
+fits : (n : ℕ) (vs : List View) (s : Plain) → s.cap ≡ seats n → IsInOrder s → IsLockOf part vs s → Limits {X = Unit {0}} lends (readers_of use_of_view vs) (writers_of use_of_view vs)
+fits n vs s room order is = omega (arith, none (λ v. writes_of (use_of_view v)) nobody_writes vs, as_many_hold vs s is, order.holders_fit, room)
+
+abbrev lock : ℕ → Lock View
+lock n = record {
+  part = part;
+  way = lends;
+  goes = λ u v readers A a. a;
+  cap = seats n;
+  first = seats_word;
+  second = no_word;
+  fits = fits n;
+  first_names_nobody = flag_word-up;
+  second_names_nobody = no_word-up;
+}
+
+-- The steps
+
+pub starts : (n : ℕ) → Meets (IsSeats n) ways 0 0 []
+starts n = begins (lock n) 0 0 0 0 (omega arith) refl refl
+
+pub looks : (n : ℕ) → Allows (IsSeats n) ways None (λ w. w) (becomes Idle 0 0 None)
+looks n = allows (lock n) None (λ w. w) (becomes Idle 0 0 None) (λ s p room order has. (Idle, by_none (lock n) None Idle s p refl tt, refl))
+
+-- the step function's own lemma says that a seat is open where it grants one
+pub sits_down : (n old new : ℕ) → ((s : Plain) (p : ℕ) → AllRead s → s.cap ≡ seats n → seats_word s ≡ old → Decides s (gets p to_read) seats_word (Some new))
+    → Allows (IsSeats n) ways None (λ w. either (w == old) new w) (exchanges (λ _. Seated) Idle old new None)
+sits_down n old new plain = allows_among (lock n) None (λ w. either (w == old) new w) (exchanges (λ _. Seated) Idle old new None)
+    (λ s p vs room order is has. by_exchange (lock n) None Seated Idle s p (seats_word s) 0 old new
+    (λ e. let granted = plain s p (all_read vs s is) room e in by_step (lock n) None Seated s (gets p to_read) new 0 granted.0 refl tt granted.1 refl)
+    (by_none (lock n) None Idle s p refl tt))
+
+pub gets_up : (n : ℕ) → Allows (IsSeats n) ways (Some Seated) (λ w. (w + (2 ^ 64 - 1)) % 2 ^ 64) (becomes Idle 1 0 (Some Seated))
+gets_up n = allows (lock n) (Some Seated) (λ w. (w + (2 ^ 64 - 1)) % 2 ^ 64) (becomes Idle 1 0 (Some Seated)) (λ s p room order has.
+    let stands = is_holder-from_entries p reading s.holders (ap (λ e. e.holders) has.0) in (
+      Idle,
+      by_step (lock n) (Some Seated) Idle s (releases p reading) ((seats_word s + (2 ^ 64 - 1)) % 2 ^ 64) 0 stands (release-own s p reading) tt
+          (omega (arith, leave-gives s p (seats_word s) refl stands, length-held p reading s.holders (ap (λ e. e.holders) has.0), order.holders_fit, room)) refl,
+      refl,
+    ))
+
+-- Who may go
+
+idle_rests : (n : ℕ) → Rests (IsSeats n) use_of_view (Some Idle)
+idle_rests n = rests (lock n) Idle refl (λ p. refl)
+
+pub left_rests : (n : ℕ) (view : Option View) → Moved (λ v. v ≡ Idle) view → Rests (IsSeats n) use_of_view view
+left_rests n view moved = moved_rests (lock n) view Idle moved (idle_rests n)
+
+pub refused_rests : (n : ℕ) (view : Option View) (expected found : ℕ) → Moved (λ v. v ≡ (if found == expected then Seated else Idle)) view → (found ≡ expected → ⊥) → Rests (IsSeats n) use_of_view view
+refused_rests n view expected found moved ne = missed_rests (lock n) view Seated Idle found expected moved ne (idle_rests n)
+
+-- What the rule says
+
+one_sits : (v : View) → reads_of (use_of_view v) ≡ cond (sits v) 1 0
+one_sits Idle = refl
+one_sits Seated = refl
+
+readers_sit : (vs : List View) → readers_of use_of_view vs ≡ seated vs
+readers_sit [] = refl
+readers_sit (v ∷ vs) = omega (arith, one_sits v, readers_sit vs, sum_by-cons (λ v. reads_of (use_of_view v)) v vs, sum_by-cons (λ v. cond (sits v) 1 0) v vs)
+
+pub as_many_sit : (n word second : ℕ) (vs : List View) → 1 ≤ n → IsSeats n word second vs → (word ≡ seated vs) × (word ≤ n)
+as_many_sit n word second vs some is =
+    let all = as_many_hold vs is.0 is.3 in (omega (arith, is.4, all, readers_sit vs), omega (arith, is.4, is.2.holders_fit, is.1, some))

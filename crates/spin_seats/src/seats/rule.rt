@@ -1,0 +1,45 @@
+//! What the parties of a lock of seats are, what its word says of them, and each kind of step.
+ghost use Rattle.spin_core.specs.Plays.{becomes, exchanges};
+ghost use Rattle.spin_seats.specs.Rule.{IsSeats, seat_ways};
+ghost use Rattle.spin_seats.specs.declared.seats.rule.View.TheVariants.{Idle, Seated};
+
+use spin_core::cell::{Play, Rule};
+
+/// What a party is to the lock.
+#[derive(Clone, Copy)]
+pub enum View {
+    Idle,
+    Seated,
+}
+
+/// The word is the number of the parties that sit, at most `N`. The second word is 0.
+pub struct SeatsRule<const N: usize>;
+
+impl<const N: usize> Rule<(), View> for SeatsRule<N> {
+    type Key = ();
+
+    ghost holds = { IsSeats N };
+
+    ghost ways = { λ _. seat_ways };
+}
+
+/// A party comes and sits down nowhere.
+pub(super) struct Look;
+
+impl Play<View> for Look {
+    ghost then = { becomes Idle };
+}
+
+/// A party comes, and sits where it found the word that it expected.
+pub(super) struct SitDown;
+
+impl Play<View> for SitDown {
+    ghost then = { exchanges (λ _. Seated) Idle };
+}
+
+/// A party that sat goes.
+pub(super) struct GetUp;
+
+impl Play<View> for GetUp {
+    ghost then = { becomes Idle };
+}

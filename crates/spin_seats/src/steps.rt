@@ -1,0 +1,29 @@
+//! Seats in one word: how many are taken.
+ghost use Rattle.std.specs.Prelude.{◌≡◌, ◌-◌, ◌≤◌, ℕ};
+ghost use Rattle.spin_step.specs.Plain.{Plain, gets, releases, to_read, reading};
+ghost use Rattle.spin_step.specs.Steps.{Decides, Gives};
+ghost use Rattle.spin_seats.specs.Seats.{AllRead, entered, seats, seats_word};
+
+/// The most seats that a lock has, however many it is asked to have.
+pub const MAX_SEATS: usize = usize::MAX / 8;
+
+/// The word after a party has sat down, or `None` where all seats are taken.
+pub fn enter(word: usize, room: usize) -> Option<usize>
+    ensures exact { result ≡ entered room word }
+    ensures plain { (s : Plain) (party : ℕ) → AllRead s → s.cap ≡ seats room → seats_word s ≡ word → Decides s (gets party to_read) seats_word result }
+{
+    if word < room.min(MAX_SEATS) {
+        Some(word + 1)
+    } else {
+        None
+    }
+}
+
+/// The word after a party that sat has gone.
+pub fn leave(word: usize) -> usize
+    requires { 1 ≤ word }
+    ensures exact { result ≡ word - 1 }
+    ensures plain { (s : Plain) (party : ℕ) → seats_word s ≡ word → Gives s (releases party reading) seats_word result }
+{
+    word - 1
+}

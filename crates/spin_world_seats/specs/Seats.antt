@@ -1,0 +1,86 @@
+-- The calls of a lock of seats, step by step, and how they read on the plain lock.
+use Rattle.std.specs.Prelude.{ℕ, ◌-◌, ◌==◌, Option, Some, None, is_some, [], nat_lt, true}
+use Rattle.spin_step.specs.Plain.{reading, to_read, gets, releases}
+use Rattle.spin_seats.specs.Seats.{seats, entered}
+use Rattle.spin_world_core.specs.declared.place.Hold.{Hold}
+use Rattle.spin_world_core.specs.declared.place.Hold.TheVariants.{Read}
+use Rattle.spin_world_core.specs.declared.object.Next.{Next}
+use Rattle.spin_world_core.specs.declared.object.Next.TheVariants.{GoesOn, Answers}
+use Rattle.spin_world_core.specs.declared.object.Stepped.{Stepped}
+use Rattle.spin_world_core.specs.declared.answer.Answer.{Answer}
+use Rattle.spin_world_core.specs.declared.answer.Answer.TheVariants.{Granted, Refused, Done, Count}
+use Rattle.spin_world_seats.specs.declared.seats.SeatsCall.{SeatsCall}
+use Rattle.spin_world_seats.specs.declared.seats.SeatsCall.TheVariants as call
+use Rattle.spin_world_seats.specs.declared.seats.SeatsPoint.{SeatsPoint}
+use Rattle.spin_world_seats.specs.declared.seats.SeatsPoint.TheVariants.{First, Exchange}
+use Rattle.spin_world_core.specs.Calls.{Asked, waits, tries, counts_readers, gives_back, says_of}
+use Rattle.spin_world_core.specs.Calls as calls
+use Rattle.spin_world_core.specs.Machines.{Machine}
+use Rattle.spin_world_core.specs.Acts.{Act, load, load_for, retry, store, either, stays, retried, Table, machine_of}
+
+-- who sits may leave; every other call begins where nothing is held
+abbrev pub begins_at : SeatsCall → Option Hold → Option SeatsPoint
+begins_at call.TryEnter None = Some First
+begins_at call.Enter None = Some First
+begins_at call.Count None = Some First
+begins_at call.Leave (Some Read) = Some First
+begins_at _ _ = None
+
+abbrev pub Answered : Type 0
+Answered = Next SeatsPoint (Answer (Unit {0}))
+
+abbrev pub granted : Answered
+granted = Answers Granted (Some Read)
+
+-- a call that takes a seat goes for the word that it found
+abbrev pub goes_for : ℕ → Answered
+goes_for w = GoesOn (Exchange w)
+
+-- it looks first, and then makes its exchange for as long as each word that it finds has a free seat
+abbrev pub comes_by : ℕ → Answered → SeatsPoint → Act ℕ SeatsPoint (Answer (Unit {0}))
+comes_by n missed First = load_for (entered n) (λ p. gets p to_read) goes_for missed
+comes_by n missed (Exchange k) = retry k (entered n) (λ p. gets p to_read) granted goes_for missed
+
+-- what its step comes to, where the step function answers so
+abbrev pub comes_at : SeatsPoint → ℕ → Option ℕ → Answered → Stepped ℕ (Unit {0}) SeatsPoint (Answer (Unit {0}))
+comes_at First w to missed = stays w (either (is_some to) (goes_for w) missed)
+comes_at (Exchange k) w to missed = retried (w == k) w to granted (goes_for w) missed
+
+abbrev pub act_of : ℕ → SeatsCall → SeatsPoint → Option Hold → Act ℕ SeatsPoint (Answer (Unit {0}))
+act_of n call.TryEnter l h = comes_by n (Answers Refused h) l
+act_of n call.Enter l h = comes_by n (GoesOn First) l
+act_of n call.Count l h = load (λ w. Answers (Count w) h)
+act_of n call.Leave l h = store (λ w. nat_lt 0 w) (λ w. w - 1) (λ p. releases p reading) (Answers Done None)
+
+abbrev pub asks_of : SeatsCall → Option Hold → Asked
+asks_of call.TryEnter h = tries to_read
+asks_of call.Enter h = waits to_read
+asks_of call.Count h = counts_readers
+asks_of call.Leave h = gives_back h
+
+abbrev pub SeatsTable : Type 0
+SeatsTable = Table ℕ (Unit {0}) SeatsCall SeatsPoint (Answer (Unit {0}))
+
+abbrev pub seats_table : ℕ → SeatsTable
+seats_table n =
+    record {
+      words = 0;
+      value = Some tt;
+      owned = true;
+      coding = calls.seats;
+      cap = seats n;
+      group = 0;
+      first = 0;
+      number = λ w. w;
+      others = λ w. [];
+      begin = begins_at;
+      act = act_of n;
+      asks = asks_of;
+      says = says_of;
+    }
+
+abbrev pub SeatsMachine : Type 0
+SeatsMachine = Machine ℕ (Unit {0}) SeatsCall SeatsPoint (Answer (Unit {0}))
+
+abbrev pub seats_machine : ℕ → SeatsMachine
+seats_machine n = machine_of (seats_table n)

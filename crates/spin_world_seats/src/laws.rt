@@ -1,0 +1,13 @@
+//! A law of the lock of seats. It is the contract of a function that does nothing, over every schedule.
+ghost use Rattle.std.specs.Prelude.{◌≡◌, ◌≤◌, ℕ, List, length};
+ghost use Rattle.spin_world_core.specs.declared.schedule.Move.{Move};
+ghost use Rattle.spin_world_core.specs.Schedules.{after, at_first};
+ghost use Rattle.spin_world_core.specs.Runs.{opening};
+ghost use Rattle.spin_world_core.specs.Users.{seen_after};
+ghost use Rattle.spin_world_seats.specs.declared.seats.SeatsCall.{SeatsCall};
+ghost use Rattle.spin_world_seats.specs.Seats.{seats_machine};
+
+/// The word is how many parties sit, and they are never more than there are seats.
+pub fn no_more_sit_than_there_are_seats()
+    ensures { (seats n : ℕ) (past : List (ℕ × Move SeatsCall (Unit {0}))) → let m = seats_machine seats in let word = (after m (at_first m n) past).words in (word ≡ length (seen_after m (opening m n) past).plain.holders) × (word ≤ seats) }
+{}

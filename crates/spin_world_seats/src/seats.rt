@@ -1,0 +1,143 @@
+ghost use Rattle.std.specs.Prelude.{◌≡◌, true};
+ghost use Rattle.spin_world_core.specs.Acts.{becomes, stays, step_by, can_by};
+ghost use Rattle.spin_world_seats.specs.Seats.{granted, comes_at, act_of};
+
+use spin_seats::steps;
+use spin_world_core::{Answer, Hold, Next, Object, Stepped};
+
+/// A call of a [`Seats`].
+#[derive(Clone, Copy, Debug, PartialEq, Eq)]
+pub enum SeatsCall {
+    /// Takes a seat, or is refused where all are taken at a moment of the call.
+    TryEnter,
+    /// Takes a seat, in as many steps as it needs.
+    Enter,
+    /// How many seats are taken.
+    Count,
+    /// Gets up.
+    Leave,
+}
+
+/// Which step of its call comes next. Only a call that takes a seat has a second one.
+#[derive(Clone, Copy, Debug, PartialEq, Eq)]
+pub enum SeatsPoint {
+    First,
+    /// The exchange of this word, which the call has found.
+    Exchange(usize),
+}
+
+/// A lock of so many seats. Its value is nothing.
+#[derive(Drop)]
+pub struct Seats {
+    seats: usize,
+}
+
+impl Seats {
+    /// A lock whose seats are all free.
+    pub fn new(seats: usize) -> Seats
+        ensures { result ≡ record { seats = seats } }
+    {
+        Seats { seats }
+    }
+}
+
+/// A step that leaves the word at this.
+fn stay(
+    words: usize,
+    next: Next<SeatsPoint, Answer<()>>,
+) -> Stepped<usize, (), SeatsPoint, Answer<()>>
+    ensures { result ≡ stays words next }
+{
+    Stepped {
+        words,
+        placed: None,
+        next,
+    }
+}
+
+/// A step of a call that takes a seat. `to`: the word with the seat taken, where one is free.
+fn come(
+    point: SeatsPoint,
+    words: usize,
+    to: Option<usize>,
+    missed: Next<SeatsPoint, Answer<()>>,
+) -> Stepped<usize, (), SeatsPoint, Answer<()>>
+    ensures { result ≡ comes_at point words to missed }
+{
+    match (point, to) {
+        (SeatsPoint::Exchange(found), Some(taken)) if found == words => {
+            stay(taken, Next::Answers(Answer::Granted, Some(Hold::Read)))
+        }
+        (_, Some(_)) => stay(words, Next::GoesOn(SeatsPoint::Exchange(words))),
+        (_, None) => stay(words, missed),
+    }
+}
+
+impl Object for Seats {
+    type Words = usize;
+
+    type Value = ();
+
+    type Call = SeatsCall;
+
+    type Local = SeatsPoint;
+
+    type Answer = Answer<()>;
+
+    ghost use Rattle.spin_world_seats.specs.Seats.{seats_machine};
+
+    ghost machine = { λ s. seats_machine s.seats };
+
+    fn laws() {}
+
+    fn opening_words(&self) -> usize {
+        0
+    }
+
+    fn opening_value(&self) -> Option<()> {
+        Some(())
+    }
+
+    fn is_owned(&self) -> bool {
+        true
+    }
+
+    fn begin(&self, call: SeatsCall, holds: Option<Hold>) -> Option<SeatsPoint> {
+        match (call, holds) {
+            (SeatsCall::TryEnter | SeatsCall::Enter | SeatsCall::Count, None)
+            | (SeatsCall::Leave, Some(Hold::Read)) => Some(SeatsPoint::First),
+            _ => None,
+        }
+    }
+
+    fn refuse(
+        &self,
+        call: SeatsCall,
+        local: SeatsPoint,
+        holds: Option<Hold>,
+    ) -> Option<Next<SeatsPoint, Answer<()>>> {
+        let _ = (call, local, holds);
+        None
+    }
+
+    fn step(
+        &self,
+        words: usize,
+        value: Option<()>,
+        call: SeatsCall,
+        local: SeatsPoint,
+        holds: Option<Hold>,
+    ) -> Stepped<usize, (), SeatsPoint, Answer<()>>
+        requires { can_by (act_of self.now.seats call local holds) words ≡ true }
+        ensures { result ≡ step_by (λ w. w) (act_of self.now.seats call local holds) words }
+    {
+        let _ = value;
+        let to = steps::enter(words, self.seats);
+        match call {
+            SeatsCall::TryEnter => come(local, words, to, Next::Answers(Answer::Refused, holds)),
+            SeatsCall::Enter => come(local, words, to, Next::GoesOn(SeatsPoint::First)),
+            SeatsCall::Count => stay(words, Next::Answers(Answer::Count(words), holds)),
+            SeatsCall::Leave => stay(steps::leave(words), Next::Answers(Answer::Done, None)),
+        }
+    }
+}
