@@ -1,0 +1,11 @@
+-- each worker that was joined gave its one part back
+use Rattle.std.proofs.Common.{◌≡◌, ◌+◌, vec_len}
+use Rattle.spin_uses.specs.Phases.{IsSpent}
+use Rattle.spin_uses.proofs.phases.Team.join_all.Given as goal
+
+abbrev pub invariant-loop-worker : goal.invariant-loop-worker
+invariant-loop-worker g l =
+    (l.mine.parts + vec_len l.running ≡ l.fn.mine.parts + vec_len l.fn.running) × (l.fn.mine.amount ≡ 0 → IsSpent l.all_worked l.mine.amount)
+
+abbrev pub decreases-loop-worker : goal.decreases-loop-worker
+decreases-loop-worker g l = goal.left-loop-worker g l

@@ -1,0 +1,10 @@
+-- each worker that was started took one part, and its gains
+use Rattle.std.proofs.Common.{◌≡◌, ◌+◌, ◌*◌, ◌≤◌, vec_len, vec_capacity}
+use Rattle.spin_uses.proofs.phases.Team.start_all.Given as goal
+
+abbrev pub invariant-loop-worker : goal.invariant-loop-worker
+invariant-loop-worker g l =
+    (l.mine.parts + l._worker ≡ l.workers + 1)
+    × (l.mine.amount + l._worker * (l.self.rounds * l.self.gain) ≡ l.workers * (l.self.rounds * l.self.gain))
+    × (vec_len l.running ≡ l._worker)
+    × (l.workers ≤ vec_capacity l.running)

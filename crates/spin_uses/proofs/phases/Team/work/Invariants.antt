@@ -1,0 +1,6 @@
+-- the share has what the worker is still to add
+use Rattle.std.proofs.Common.{◌≡◌, ◌+◌, ◌*◌}
+use Rattle.spin_uses.proofs.phases.Team.work.Given as goal
+
+abbrev pub invariant-loop-round : goal.invariant-loop-round
+invariant-loop-round g l = (l.share.parts ≡ 1) × (l.share.amount + l._round * l.self.gain ≡ l.self.rounds * l.self.gain)

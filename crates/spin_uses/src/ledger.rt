@@ -1,0 +1,172 @@
+//! A ledger: transfers between accounts under one lock, with the journal of all that were made.
+ghost use Rattle.std.specs.Prelude.{◌≡◌, ◌≢◌, ◌<◌, ◌^◌, ◌++◌, ◌∷◌, [], true, false, List, ℕ, Some, None, IfOk, IfErr, OnOk, OnErr, MatchResult, slice_get, slice_index, sum, ◌+◌};
+ghost use Rattle.spin_uses.specs.Ledger.{after, can_make, paid_in, paid_out, replayed, RefusedFor};
+ghost use Rattle.spin_uses.specs.declared.ledger.Transfer.{Transfer};
+
+use spin_mutex::mutex::Mutex;
+use std::alloc::{Allocator, Global};
+use std::marker::{Brand, PhantomData};
+use std::sync::Wait;
+
+#[cfg(test)]
+mod tests;
+
+/// An amount that goes from one account to another. Accounts have the numbers from 0 on.
+#[derive(Clone, Copy, Debug, PartialEq, Eq)]
+pub struct Transfer {
+    pub from: usize,
+    pub to: usize,
+    pub amount: u64,
+}
+
+/// Why a transfer or a replay was refused.
+#[derive(Clone, Copy, Debug, PartialEq, Eq)]
+pub enum Refused {
+    /// One of the two accounts does not exist.
+    NoSuchAccount,
+    /// The account that pays has less than the amount.
+    TooLittle,
+    /// No memory was left for the journal's entry, or for the replay.
+    OutOfMemory,
+}
+
+/// The balances that a ledger was opened with. They are known to proofs alone, by a type of the ledger's own, so that what
+/// is found at any look is known to be of this ledger.
+pub trait Opening {
+    ghost balances: { List ℕ };
+}
+
+impl Opening for Brand {
+    ghost balances = { [] };
+}
+
+/// The accounts, and every transfer that was made, in order.
+#[derive(Drop)]
+pub struct Accounts<O: Opening, A: Allocator = Global> {
+    balances: Vec<u64, A>,
+    journal: Vec<Transfer, A>,
+    opening: PhantomData<O>,
+    ghost replays: { replayed O.balances journal.items ≡ Some balances.items },
+    ghost exact: { sum balances.items ≡ sum O.balances },
+    ghost fits: { sum O.balances < 2 ^ 64 },
+}
+
+/// Accounts that threads share. Whoever locks finds all that `Accounts` says of itself.
+pub type Ledger<O, A = Global> = Mutex<Accounts<O, A>>;
+
+impl<O: Opening, A: Allocator> Accounts<O, A> {
+    /// Accounts with these balances, and no transfer yet.
+    pub fn open(alloc: A, balances: Vec<u64, A>) -> Self
+        requires opening { balances.items ≡ O.balances }
+        requires fits { sum O.balances < 2 ^ 64 }
+        ensures balances { result.balances.items ≡ balances.items }
+        ensures journal { result.journal.items ≡ [] }
+    {
+        Accounts {
+            balances,
+            journal: Vec::new(alloc),
+            opening: PhantomData,
+        }
+    }
+
+    /// Makes a transfer, or refuses it. A refused transfer changes nothing.
+    pub fn transfer(&mut self, transfer: Transfer) -> Result<(), Refused>
+        ensures why { MatchResult result (λ _. can_make transfer self.old.balances.items ≡ true) (λ e. RefusedFor e transfer self.old.balances.items) }
+        ensures balances { OnOk result (self.new.balances.items ≡ after transfer self.old.balances.items) }
+        ensures journal { OnOk result (self.new.journal.items ≡ self.old.journal.items ++ transfer ∷ []) }
+        ensures same_balances { OnErr result (self.new.balances.items ≡ self.old.balances.items) }
+        ensures same_journal { OnErr result (self.new.journal.items ≡ self.old.journal.items) }
+    {
+        let Accounts {
+            balances,
+            journal,
+            ..
+        } = self;
+        may_make(balances, &transfer)?;
+        let Ok(()) = journal.push(transfer) else {
+            return Err(Refused::OutOfMemory);
+        };
+        make(balances, &transfer);
+        Ok(())
+    }
+
+    /// What one account has; `None` where it does not exist.
+    pub fn balance(&self, account: usize) -> Option<u64>
+        ensures { result ≡ slice_get self.now.balances.items account }
+    {
+        self.balances.get(account).copied()
+    }
+
+    /// What all accounts have together: at every look, what they had when the ledger was opened.
+    pub fn total(&self) -> u64
+        ensures { result ≡ sum O.balances }
+    {
+        self.balances.iter().sum()
+    }
+
+    /// The transfers that were made. Their replay from the opening balances gives the balances.
+    pub fn journal(&self) -> &[Transfer]
+        ensures journal { result.now ≡ self.now.journal.items }
+        ensures replays { replayed O.balances result.now ≡ Some self.now.balances.items }
+    {
+        &self.journal
+    }
+}
+
+/// Whether a transfer can be made, and else why not.
+fn may_make(balances: &[u64], transfer: &Transfer) -> Result<(), Refused>
+    ensures possible { OnOk result (can_make transfer.now balances.now ≡ true) }
+    ensures why { IfErr result (λ e. (can_make transfer.now balances.now ≡ false) × RefusedFor e transfer.now balances.now) }
+{
+    if transfer.from >= balances.len() || transfer.to >= balances.len() {
+        return Err(Refused::NoSuchAccount);
+    }
+    if balances[transfer.from] < transfer.amount {
+        return Err(Refused::TooLittle);
+    }
+    Ok(())
+}
+
+/// Makes a transfer that can be made.
+fn make(balances: &mut [u64], transfer: &Transfer)
+    requires possible { can_make transfer.now balances.old ≡ true }
+    requires fits { sum balances.old < 2 ^ 64 }
+    ensures after { balances.new ≡ after transfer.now balances.old }
+    ensures exact { sum balances.new ≡ sum balances.old }
+{
+    balances[transfer.from] -= transfer.amount;
+    balances[transfer.to] += transfer.amount;
+}
+
+/// The balances after all transfers of a journal, in its order. It refuses at the first that can't be made.
+pub fn replay<A: Allocator>(
+    alloc: A,
+    opening: &[u64],
+    journal: &[Transfer],
+) -> Result<Vec<u64, A>, Refused>
+    requires { sum opening.now < 2 ^ 64 }
+    ensures replays { IfOk result (λ balances. replayed opening.now journal.now ≡ Some balances.items) }
+    ensures refuses { IfErr result (λ e. e ≢ Refused.OutOfMemory → replayed opening.now journal.now ≡ None) }
+{
+    let Ok(mut balances) = Vec::from_slice(alloc, opening) else {
+        return Err(Refused::OutOfMemory);
+    };
+    for transfer in journal {
+        may_make(&balances, transfer)?;
+        make(&mut balances, transfer);
+    }
+    Ok(balances)
+}
+
+/// A law of every replay: what an account has, and what was paid out of it, is what it had and what was paid into it. The
+/// journal of a ledger is such a replay.
+pub fn a_balance_is_what_came_less_what_went()
+    ensures { (opening balances : List ℕ) (journal : List Transfer) (account : ℕ) → replayed opening journal ≡ Some balances → slice_index balances account + paid_out account journal ≡ slice_index opening account + paid_in account journal }
+{}
+
+/// What all accounts have together, found under the lock.
+pub fn total<O: Opening, A: Allocator, W: Wait>(rt: &W, ledger: &Ledger<O, A>) -> u64
+    ensures { result ≡ sum O.balances }
+{
+    ledger.lock(rt).total()
+}

@@ -1,0 +1,291 @@
+//! Rounds of workers over a barrier: in each round every worker adds its gain to the round's result, and the leader of the
+//! round folds that result into the total before the next round begins. The total is exact.
+//!
+//! What is proved is the total: a book under the lock has what is still to come, and each worker has a share of it. That
+//! a leader folds a round only once all of it is in, and that a round has one leader, is shown by a test.
+ghost use Rattle.std.specs.Prelude.{◌≡◌, ℕ, ◌+◌, ◌*◌, ◌^◌, ◌<◌, ◌≤◌, IfOk, vec_len};
+ghost use Rattle.spin_uses.specs.Phases.{IsSpent};
+
+use spin_barrier::barrier::Barrier;
+use spin_core::relax::Yield;
+use spin_mutex::mutex::Mutex;
+use std::alloc::{AllocError, Allocator};
+use std::marker::Brand;
+use std::sync::Wait;
+use std::sync::ledger::{Blank, Book, Ledger, Share};
+use std::thread;
+use std::thread::{JoinHandle, Scope, Threads};
+
+/// The most workers of one run.
+pub const MOST_WORKERS: usize = 64;
+
+/// Why there is no total.
+#[derive(Clone, Copy, Debug, PartialEq, Eq)]
+pub enum PhasesError {
+    /// A thread or its memory was refused.
+    Refused,
+}
+
+impl From<AllocError> for PhasesError {
+    fn from(_refused: AllocError) -> PhasesError {
+        PhasesError::Refused
+    }
+}
+
+/// What all rounds came to.
+#[derive(Clone, Copy, Debug, PartialEq, Eq)]
+pub struct Folded {
+    /// All that was added.
+    pub total: u64,
+    /// How many rounds were folded.
+    pub rounds: u64,
+    /// The smallest result of a round, or `u64::MAX` where none was folded.
+    pub smallest: u64,
+}
+
+/// The numbers that all parts of one run agree on.
+trait Plan: Ledger {
+    /// The gains of all workers in all rounds.
+    ghost all: { ℕ };
+}
+
+impl Plan for Brand {
+    ghost all = { 0 };
+}
+
+/// What is folded, the result of the round that runs, and the book of the gains that are still to come.
+#[derive(Drop)]
+struct Results<P: Plan> {
+    folded: Folded,
+    round: u64,
+    to_come: Book<P>,
+    ghost adds_up: { folded.total + round + to_come.total ≡ P.all },
+    ghost fits: { P.all < 2 ^ 64 },
+}
+
+/// What a worker hands back: its part of the book, with nothing left to add if it has worked.
+#[derive(Drop)]
+struct Done<P: Plan> {
+    share: Share<P>,
+    worked: bool,
+    ghost one_part: { share.parts ≡ 1 },
+    ghost spent: { IsSpent worked share.amount },
+}
+
+impl<P: Plan> Results<P> {
+    fn add(&mut self, gain: u64, mine: &mut Share<P>)
+        requires { gain ≤ mine.old.amount }
+        ensures amount { mine.new.amount + gain ≡ mine.old.amount }
+        ensures parts { mine.new.parts ≡ mine.old.parts }
+    {
+        let Results { round, to_come, .. } = self;
+        to_come.sub(mine, gain);
+        *round += gain;
+    }
+
+    fn fold(&mut self) {
+        let Results { folded, round, .. } = self;
+        let result = *round;
+        *round = 0;
+        folded.total += result;
+        folded.rounds = folded.rounds.saturating_add(1);
+        folded.smallest = folded.smallest.min(result);
+    }
+
+    fn result(&mut self, every: &mut Share<P>) -> Folded
+        requires whole { every.old.parts ≡ P.parts }
+        requires nothing_left { every.old.amount ≡ 0 }
+        ensures { result.total ≡ P.all }
+    {
+        self.to_come.audit(every);
+        let mut folded = self.folded;
+        folded.total += self.round;
+        folded
+    }
+}
+
+/// What all workers of one run share.
+#[derive(Drop)]
+struct Team<'a, P: Plan, R> {
+    rt: &'a R,
+    // Held while workers are started: they begin once it says that all of them are there.
+    begins: Mutex<bool, Yield>,
+    barrier: Barrier<Yield>,
+    results: Mutex<Results<P>, Yield>,
+    rounds: u64,
+    gain: u64,
+    ghost gains_fit: { rounds * gain < 2 ^ 64 },
+}
+
+impl<P: Plan + Send + Sync, R: Threads + Wait + Sync> Team<'_, P, R> {
+    /// One worker's whole work.
+    fn work(&self, mut share: Share<P>) -> Done<P>
+        requires one_part { share.parts ≡ 1 }
+        requires gains { share.amount ≡ self.now.rounds * self.now.gain }
+    {
+        if !*self.begins.lock(self.rt) {
+            return Done {
+                share,
+                worked: false,
+            };
+        }
+        for _round in 0..self.rounds {
+            self.results.lock(self.rt).add(self.gain, &mut share);
+            if self.barrier.wait(self.rt).is_leader() {
+                self.results.lock(self.rt).fold();
+            }
+            self.barrier.wait(self.rt);
+        }
+        Done {
+            share,
+            worked: true,
+        }
+    }
+    /// Joins the workers, and takes their parts of the book back. Answers whether all of them have worked: then nothing of
+    /// theirs is left to add.
+    fn join_all<A: Allocator>(
+        &self,
+        mut running: Vec<JoinHandle<Done<P>>, A>,
+        mine: &mut Share<P>,
+    ) -> bool
+        ensures parts { mine.new.parts ≡ mine.old.parts + vec_len running }
+        ensures spent { mine.old.amount ≡ 0 → IsSpent result mine.new.amount }
+    {
+        let mut all_worked = true;
+        while let Some(worker) = running.pop() {
+            let Done { share, worked } = worker.join(self.rt);
+            all_worked = all_worked && worked;
+            mine.merge(share);
+        }
+        all_worked
+    }
+
+    /// Starts a thread for each worker. Where one is refused, those that were started are joined: they have not begun.
+    fn start_all<'s, E, A: Allocator>(
+        &'s self,
+        scope: &Scope<'s, E>,
+        alloc: A,
+        workers: usize,
+        mine: &mut Share<P>,
+    ) -> Result<Vec<JoinHandle<Done<P>>, A>, PhasesError>
+        requires parts { mine.old.parts ≡ workers + 1 }
+        requires amount { mine.old.amount ≡ workers * (self.now.rounds * self.now.gain) }
+        ensures started { IfOk result (λ running. vec_len running ≡ workers) }
+        ensures parts { IfOk result (λ running. mine.new.parts + vec_len running ≡ mine.old.parts) }
+        ensures amount { IfOk result (λ _. mine.new.amount ≡ 0) }
+    {
+        let mut running = Vec::with_capacity(alloc, workers)?;
+        let mut begins = self.begins.lock(self.rt);
+        for _worker in 0..workers {
+            let share = mine.split_off(1, self.rounds * self.gain);
+            let job = move || -> Done<P>
+                requires { (share.parts ≡ 1) × (share.amount ≡ self.now.rounds * self.now.gain) }
+            { self.work(share) };
+            let Ok(started) = scope.spawn(job) else {
+                drop(begins);
+                self.join_all(running, mine);
+                return Err(PhasesError::Refused);
+            };
+            running.push_reserved(started);
+        }
+        *begins = true;
+        Ok(running)
+    }
+
+    /// Works in a scope of threads, and reads the results once all of them are joined.
+    fn run<A: Allocator>(
+        &self,
+        alloc: A,
+        workers: usize,
+        mut mine: Share<P>,
+    ) -> Result<Folded, PhasesError>
+        requires whole { mine.parts ≡ P.parts }
+        requires parts { mine.parts ≡ workers + 1 }
+        requires amount { mine.amount ≡ workers * (self.now.rounds * self.now.gain) }
+        ensures { IfOk result (λ folded. folded.total ≡ P.all) }
+    {
+        thread::scope(
+            thread::scope_env(),
+            self.rt,
+            move |scope| -> Result<Folded, PhasesError>
+                requires { (mine.parts ≡ P.parts) × (mine.parts ≡ workers + 1) × (mine.amount ≡ workers * (self.now.rounds * self.now.gain)) }
+                ensures { IfOk result (λ folded. folded.total ≡ P.all) }
+            {
+                let running = self.start_all(scope, alloc, workers, &mut mine)?;
+                if !self.join_all(running, &mut mine) {
+                    return Err(PhasesError::Refused);
+                }
+                Ok(self.results.lock(self.rt).result(&mut mine))
+            },
+        )
+    }
+}
+
+/// Runs all rounds, over a book that has a part for each worker and one for the caller.
+fn run_by<'a, P: Plan + Send + Sync, R: Threads + Wait + Sync, A: Allocator>(
+    rt: &'a R,
+    alloc: A,
+    blank: Blank,
+    workers: usize,
+    rounds: u64,
+    gain: u64,
+) -> Result<Folded, PhasesError>
+    requires name { blank.name ≡ P.name }
+    requires parts { blank.parts ≡ P.parts }
+    requires one_more { blank.parts ≡ workers + 1 }
+    requires gains { workers * (rounds * gain) ≡ P.all }
+    requires each { rounds * gain < 2 ^ 64 }
+    requires fits { P.all < 2 ^ 64 }
+    ensures { IfOk result (λ folded. folded.total ≡ P.all) }
+{
+    let (mut to_come, mut mine) = blank.open::<P>();
+    to_come.add(&mut mine, workers as u64 * (rounds * gain));
+    let results = Results {
+        folded: Folded {
+            total: 0,
+            rounds: 0,
+            smallest: u64::MAX,
+        },
+        round: 0,
+        to_come,
+    };
+    let team = Team {
+        rt,
+        begins: Mutex::new(false),
+        barrier: Barrier::new(workers),
+        results: Mutex::new(results),
+        rounds,
+        gain,
+    };
+    team.run(alloc, workers, mine)
+}
+
+/// Runs `rounds` rounds of `workers` threads, in each of which every worker adds `gain`. All are joined before the call
+/// returns.
+///
+/// The total is exact. Where a thread or its memory is refused there is none, and no worker adds anything. Not promised:
+/// that workers run at the same time, and that the call returns.
+pub fn run_phases<R: Threads + Wait + Sync, A: Allocator>(
+    rt: &R,
+    alloc: A,
+    workers: usize,
+    rounds: u64,
+    gain: u64,
+) -> Result<Folded, PhasesError>
+    requires workers { workers ≤ MOST_WORKERS }
+    requires each { rounds * gain < 2 ^ 64 }
+    requires fits { workers * (rounds * gain) < 2 ^ 64 }
+    ensures { IfOk result (λ folded. folded.total ≡ workers * (rounds * gain)) }
+{
+    run_by::<Brand, R, A>(
+        rt,
+        alloc,
+        Blank::new(workers as u64 + 1),
+        workers,
+        rounds,
+        gain,
+    )
+}
+
+#[cfg(test)]
+mod tests;
