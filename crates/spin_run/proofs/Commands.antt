@@ -1,12 +1,16 @@
 -- The words of a command, and how the program ends at each fault.
-use Rattle.std.proofs.Common.{◌≡◌, ℕ, ◌≤◌, Bool, false, not, Option, List, [], ◌∷◌, length, get_or, arith, ap, Bor, codes}
+use Rattle.std.proofs.Common.{◌≡◌, ℕ, ◌≤◌, Bool, true, false, not, Option, Result, Ok, Err, IfErr, List, [], ◌∷◌, length, get_or, arith, ap, sym, subst, inl, inr, refl, Bor, codes}
 use Rattle.std.specs.Str.{bytes_eq}
 use Rattle.std.proofs.lemmas.Slice.Eq.{bytes_eq-Decides}
-use Rattle.spin_run.specs.declared.run.faults.Fault.{Fault}
-use Rattle.spin_run.specs.declared.run.faults.Fault.TheVariants.{Usage, Refused, Memory, Write}
-use Rattle.spin_run.specs.Numbers.{IsNumber}
-use Rattle.spin_run.specs.Command.{AsksCount, AsksNothing, texts_of}
+use Rattle.spin_text.specs.Numbers.{IsNumber}
+use Rattle.spin_run.specs.Command.{AsksCount, AsksWorld, AsksNothing, Tells, texts_of, usage_line}
 use Rattle.spin_run.specs.Faults.{Stops, status_of}
+use Rattle.spin_text.specs.declared.text.RunError.{RunError}
+use Rattle.spin_text.specs.declared.text.RunError.TheVariants as errors
+use Rattle.spin_text.specs.Texts.{Streams, Stops as WorldStops}
+use Rattle.spin_run.specs.declared.run.faults.Fault.{Fault}
+use Rattle.spin_run.specs.declared.run.faults.Fault.TheVariants.{Usage, Refused, Memory, Read, BadLine, Write}
+use Rattle.spin_run.specs.Faults.{Stops, StopsCount, fault_of, status_of, line_of}
 
 -- two texts are one where a test says that they do not differ
 is_text : (xs ys : List ℕ) (other : Bool) → other ≡ not (bytes_eq xs ys) → other ≡ false → xs ≡ ys
@@ -21,9 +25,59 @@ asks_count (a ∷ b ∷ c ∷ []) d e f workers times three other is same first 
     (b.now, c.now, ap (λ w. w ∷ b.now ∷ c.now ∷ []) (is_text a.now (codes "count") other is same), first, few, second, small)
 asks_count (a ∷ b ∷ c ∷ x ∷ xs) d e f workers times three other is same first few second small = absurd (omega arith)
 
--- the status is 2 exactly where the words ask for nothing
-pub usage_alone : (f : Fault) (words : List (List ℕ)) (Unchanged : Type 0) (failed : Bool) (old new : Option (List ℕ)) (status : ℕ) → Stops words Unchanged failed old new f → status ≡ status_of f → (status ≡ 2 → AsksNothing words) × (AsksNothing words → status ≡ 2)
-usage_alone Usage words Unchanged failed old new status stops is = (λ _. stops.0, λ _. is)
-usage_alone Refused words Unchanged failed old new status stops is = (λ two. absurd (omega arith), λ none. absurd (none stops.0.0 stops.0.1 stops.0.2))
-usage_alone Memory words Unchanged failed old new status stops is = (λ two. absurd (omega arith), λ none. absurd (none stops.0.0 stops.0.1 stops.0.2))
-usage_alone Write words Unchanged failed old new status stops is = (λ two. absurd (omega arith), λ none. absurd (none stops.1.0 stops.1.1 stops.1.2))
+-- the one word `world` asks for a world, and others do not
+pub asks_world : (words : List (Bor (List ℕ))) (d : Bor (List ℕ)) → length words ≡ 1 → bytes_eq (get_or words 0 d).now (codes "world") ≡ true → AsksWorld (texts_of words)
+asks_world [] d one same = absurd (omega (arith, one))
+asks_world (a ∷ []) d one same = ap (λ w. w ∷ []) ((bytes_eq-Decides a.now (codes "world")).0 same)
+asks_world (a ∷ b ∷ words) d one same = absurd (omega (arith, one))
+
+pub one_word : (words : List (Bor (List ℕ))) → AsksWorld (texts_of words) → length words ≡ 1
+one_word [] asks = absurd (cc)
+one_word (a ∷ []) asks = refl
+one_word (a ∷ b ∷ words) asks = absurd (cc)
+
+pub that_word : (words : List (Bor (List ℕ))) (d : Bor (List ℕ)) → AsksWorld (texts_of words) → bytes_eq (get_or words 0 d).now (codes "world") ≡ true
+that_word [] d asks = absurd (cc)
+that_word (a ∷ []) d asks = let same : a.now ≡ codes "world" = cc in (bytes_eq-Decides a.now (codes "world")).1 same
+that_word (a ∷ b ∷ words) d asks = absurd (cc)
+
+-- a world's error is a fault of the program
+by_error : (words : List (List ℕ)) (Unread Unwritten : Type 0) (t : Streams) (e : RunError) → AsksWorld words → WorldStops t Unwritten e → Stops words Unread Unwritten t (fault_of e)
+by_error words Unread Unwritten t errors.Read asks stops = (asks, stops)
+by_error words Unread Unwritten t errors.Memory asks stops = (inr asks, stops)
+by_error words Unread Unwritten t (errors.BadLine n) asks stops = (asks, stops)
+by_error words Unread Unwritten t errors.Write asks stops = inr (asks, stops)
+
+pub world_stops : (words : List (List ℕ)) (Unread Unwritten : Type 0) (t : Streams) (e : RunError) (f : Fault) → f ≡ fault_of e → AsksWorld words → WorldStops t Unwritten e → Stops words Unread Unwritten t f
+world_stops words Unread Unwritten t e f is asks stops = let P : Fault → Type 0 = Stops words Unread Unwritten t in subst P (sym is) (by_error words Unread Unwritten t e asks stops)
+
+-- so is a count's
+pub count_stops : (words : List (List ℕ)) (workers times : ℕ) (Unread Unwritten : Type 0) (t : Streams) (r : Result (Unit {0}) Fault) → AsksCount words workers times → Unread
+    → IfErr r (StopsCount workers times Unwritten t.sink_failed t.written t.written_after) → IfErr r (Stops words Unread Unwritten t)
+count_stops words workers times Unread Unwritten t (Ok x) asks unread stops = tt
+count_stops words workers times Unread Unwritten t (Err Usage) asks unread stops = absurd stops
+count_stops words workers times Unread Unwritten t (Err Refused) asks unread stops = ((workers, times, asks), unread, stops)
+count_stops words workers times Unread Unwritten t (Err Memory) asks unread stops = (inl ((workers, times, asks), unread), stops)
+count_stops words workers times Unread Unwritten t (Err Read) asks unread stops = absurd stops
+count_stops words workers times Unread Unwritten t (Err (BadLine n)) asks unread stops = absurd stops
+count_stops words workers times Unread Unwritten t (Err Write) asks unread stops = inl (unread, stops.0, (workers, times, asks, stops.1))
+
+-- who asks for nothing is told how to ask
+pub told_usage : (words : List (List ℕ)) (Unread Unwritten : Type 0) (t : Streams) (failed : Bool) (old new : Option (List ℕ)) (f : Fault) (status : ℕ) → Stops words Unread Unwritten t f → status ≡ status_of f → Tells failed old new (line_of f)
+    → AsksNothing words → (status ≡ 2) × Tells failed old new usage_line
+told_usage words Unread Unwritten t failed old new Usage status stops is told none = (is, told)
+told_usage words Unread Unwritten t failed old new Refused status stops is told none = absurd (none.0 stops.0.0 stops.0.1 stops.0.2)
+told_usage words Unread Unwritten t failed old new Memory status stops is told none = absurd (elim stops.0 [ inl count ↦ none.0 count.0.0 count.0.1 count.0.2 | inr world ↦ none.1 world ])
+told_usage words Unread Unwritten t failed old new Read status stops is told none = absurd (none.1 stops.0)
+told_usage words Unread Unwritten t failed old new (BadLine n) status stops is told none = absurd (none.1 stops.0)
+told_usage words Unread Unwritten t failed old new Write status stops is told none =
+    absurd (elim stops [ inl count ↦ none.0 count.2.0 count.2.1 count.2.2 | inr world ↦ none.1 world.0 ])
+
+-- only a usage line and a bad line have the status 2, and then nothing was written
+pub unwritten_at_two : (words : List (List ℕ)) (Unread Unwritten : Type 0) (t : Streams) (f : Fault) (status : ℕ) → Stops words Unread Unwritten t f → status ≡ status_of f → status ≡ 2 → Unwritten
+unwritten_at_two words Unread Unwritten t Usage status stops is two = stops.2
+unwritten_at_two words Unread Unwritten t Refused status stops is two = absurd (omega (arith, is, two))
+unwritten_at_two words Unread Unwritten t Memory status stops is two = absurd (omega (arith, is, two))
+unwritten_at_two words Unread Unwritten t Read status stops is two = absurd (omega (arith, is, two))
+unwritten_at_two words Unread Unwritten t (BadLine n) status stops is two = stops.1.1
+unwritten_at_two words Unread Unwritten t Write status stops is two = absurd (omega (arith, is, two))

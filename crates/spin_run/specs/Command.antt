@@ -1,9 +1,10 @@
 -- What the program's words ask for, and what it writes.
-use Rattle.std.specs.Prelude.{◌≡◌, ℕ, ◌*◌, ◌≤◌, ◌++◌, List, [], ◌∷◌, Bool, false, MatchBool, Option, map, codes, decimal}
+use Rattle.std.specs.Prelude.{◌≡◌, ℕ, ◌*◌, ◌≤◌, ◌++◌, ◌⊎◌, List, [], ◌∷◌, Bool, false, MatchBool, Option, map, codes, decimal}
 use Rattle.std.specs.Borrow.{Bor}
 use Rattle.std.specs.Io.KnownBytes.{Appends}
-use Rattle.spin_run.specs.Ends.{AppendsBeginning}
-use Rattle.spin_run.specs.Numbers.{IsNumber}
+use Rattle.spin_text.specs.Ends.{AppendsBeginning}
+use Rattle.spin_text.specs.Numbers.{IsNumber}
+use Rattle.spin_text.specs.Texts.{Streams, Plays}
 
 -- the texts of the words
 abbrev pub texts_of : List (Bor (List ℕ)) → List (List ℕ)
@@ -15,22 +16,36 @@ AsksCount words workers times =
     (first : List ℕ) × (second : List ℕ) × (words ≡ codes "count" ∷ first ∷ second ∷ [])
     × IsNumber first workers × (workers ≤ 64) × IsNumber second times × (times ≤ 1000000)
 
+abbrev pub AsksSomeCount : List (List ℕ) → Type 0
+AsksSomeCount words = (workers : ℕ) × (times : ℕ) × AsksCount words workers times
+
+-- the word is `world`
+abbrev pub AsksWorld : List (List ℕ) → Type 0
+AsksWorld words = words ≡ codes "world" ∷ []
+
 -- the words ask for nothing that the program does
 abbrev pub AsksNothing : List (List ℕ) → Type 0
-AsksNothing words = (workers times : ℕ) → ¬ (AsksCount words workers times)
+AsksNothing words = ((workers times : ℕ) → ¬ (AsksCount words workers times)) × (¬ (AsksWorld words))
 
 -- what a count of so many workers, each so many times, writes
 abbrev pub total_text : ℕ → ℕ → List ℕ
 total_text workers times = decimal (workers * times) ++ 10 ∷ []
 
 -- the words ask for a count, its total was written, and no write failed
-abbrev pub Counts : List (List ℕ) → Bool → Option (List ℕ) → Option (List ℕ) → Type 0
-Counts words failed old new =
-    (failed ≡ false) × ((workers : ℕ) × (times : ℕ) × AsksCount words workers times × Appends old new (total_text workers times))
+abbrev pub Counts : List (List ℕ) → Streams → Type 0
+Counts words t =
+    (t.sink_failed ≡ false) × ((workers : ℕ) × (times : ℕ) × AsksCount words workers times × Appends t.written t.written_after (total_text workers times))
+
+-- what was asked for was written, and no write failed. Only a world reads
+abbrev pub Does : List (List ℕ) → Type 0 → Streams → Type 0
+Does words Unread t = (Unread × Counts words t) ⊎ (AsksWorld words × (t.sink_failed ≡ false) × Plays t)
 
 -- the lines on standard error
 abbrev pub usage_line : List ℕ
 usage_line = codes "usage: spin-run count WORKERS TIMES | spin-run world\n"
+
+abbrev pub read_line : List ℕ
+read_line = codes "read failed\n"
 
 abbrev pub write_line : List ℕ
 write_line = codes "write failed\n"
@@ -40,6 +55,9 @@ memory_line = codes "out of memory\n"
 
 abbrev pub refused_line : List ℕ
 refused_line = codes "count refused\n"
+
+abbrev pub bad_line : ℕ → List ℕ
+bad_line n = codes "bad line " ++ decimal n ++ codes "\n"
 
 -- a line was written whole, or, where the sink has failed, a beginning of it
 abbrev pub Tells : Bool → Option (List ℕ) → Option (List ℕ) → List ℕ → Type 0

@@ -1,4 +1,4 @@
-//! Counting in threads under one lock, and the program that does it.
+//! Counting in threads under one lock, and the program that does it and plays schedules.
 #![tactic(auto)]
 
 pub mod run;

@@ -1,14 +1,14 @@
 //! The command line: which words ask for what, what is written, and how a run ends.
-ghost use Rattle.std.specs.Prelude.{◌≡◌, ◌≤◌, ◌↔◌, false, OnOk, IfErr, IfSome, IfNone};
+ghost use Rattle.std.specs.Prelude.{◌≡◌, ◌≤◌, ◌<◌, ℕ, true, false, OnOk, IfErr, IfSome, IfNone};
+ghost use Rattle.std.specs.Io.KnownBytes.{Appends};
 ghost use Rattle.spin_run.specs.declared.run.faults.Fault.{Fault};
-ghost use Rattle.spin_run.specs.Command.{AsksCount, AsksNothing, Counts, Tells, texts_of, usage_line};
-ghost use Rattle.spin_run.specs.Faults.{Stops, line_of};
+ghost use Rattle.spin_run.specs.Command.{AsksCount, AsksWorld, AsksNothing, Does, Tells, texts_of, total_text, usage_line};
+ghost use Rattle.spin_run.specs.Faults.{Stops, StopsCount, line_of, status_of};
 
 use super::counting::{MOST_TIMES, MOST_WORKERS, count_with};
-use super::ends::{Sink, Source, write_whole};
 use super::faults::{Fault, report};
 use super::gate::Open;
-use super::numbers::number;
+use spin_text::{Sink, Source, number, world_text, write_whole};
 use std::alloc::Allocator;
 use std::sync::Wait;
 use std::thread::Threads;
@@ -23,7 +23,7 @@ struct Count {
 /// The count that the words ask for, if they ask for one.
 fn count_of(words: &[&str]) -> Option<Count>
     ensures some { IfSome result (λ c. AsksCount (texts_of words.now) c.workers c.times) }
-    ensures none { IfNone result (AsksNothing (texts_of words.now)) }
+    ensures none { IfNone result ((workers times : ℕ) → ¬ (AsksCount (texts_of words.now) workers times)) }
 {
     if words.len() != 3 || words[0] != "count" {
         return None;
@@ -39,31 +39,79 @@ fn count_of(words: &[&str]) -> Option<Count>
     })
 }
 
-/// Does what the words ask for.
-fn run<O: Sink, R: Threads + Wait + Sync, A: Allocator>(
+/// Whether the words ask for a world.
+fn asks_world(words: &[&str]) -> bool
+    ensures yes { result ≡ true → AsksWorld (texts_of words.now) }
+    ensures no { result ≡ false → ¬ (AsksWorld (texts_of words.now)) }
+{
+    words.len() == 1 && words[0] == "world"
+}
+
+/// Counts, and writes the total.
+fn write_count<O: Sink, R: Threads + Wait + Sync, A: Allocator>(
     rt: &R,
     alloc: A,
-    words: &[&str],
+    asked: Count,
     output: &mut O,
 ) -> Result<(), Fault>
-    requires { O.failed output.old ≡ false }
-    ensures done { OnOk result (Counts (texts_of words.now) (O.failed output.new)
-        (O.written output.old) (O.written output.new)) }
-    ensures fault { IfErr result (Stops (texts_of words.now) (output.new ≡ output.old)
+    requires workers { asked.workers ≤ MOST_WORKERS }
+    requires times { asked.times ≤ MOST_TIMES }
+    ensures bytes { OnOk result (Appends (O.written output.old) (O.written output.new) (total_text asked.workers asked.times)) }
+    ensures ok { OnOk result (O.failed output.new ≡ O.failed output.old) }
+    ensures fault { IfErr result (StopsCount asked.workers asked.times (output.new ≡ output.old)
         (O.failed output.new) (O.written output.old) (O.written output.new)) }
 {
-    let Count { workers, times } = count_of(words).ok_or(Fault::Usage)?;
-    let total = count_with(rt, &alloc, &Open, workers, times)?;
+    let total = count_with(rt, &alloc, &Open, asked.workers, asked.times)?;
     let text = format!(in &alloc; "{total}\n")?;
     write_whole(output, text.as_bytes())?;
     Ok(())
 }
 
+/// Does what the words ask for.
+fn run<I: Source, O: Sink, R: AllocGlobal + Threads + Wait + Sync, A: Allocator>(
+    rt: &R,
+    alloc: A,
+    words: &[&str],
+    input: &mut I,
+    output: &mut O,
+) -> Result<(), Fault>
+    requires input { I.failed input.old ≡ false }
+    requires output { O.failed output.old ≡ false }
+    ensures done { OnOk result (Does (texts_of words.now) (input.new ≡ input.old) (record {
+      left = I.remaining input.old;
+      left_after = I.remaining input.new;
+      source_failed = I.failed input.new;
+      written = O.written output.old;
+      written_after = O.written output.new;
+      sink_failed = O.failed output.new;
+    })) }
+    ensures fault { IfErr result (Stops (texts_of words.now) (input.new ≡ input.old) (output.new ≡ output.old) (record {
+      left = I.remaining input.old;
+      left_after = I.remaining input.new;
+      source_failed = I.failed input.new;
+      written = O.written output.old;
+      written_after = O.written output.new;
+      sink_failed = O.failed output.new;
+    })) }
+{
+    if asks_world(words) {
+        return match world_text(rt.alloc(), input, output) {
+            Ok(()) => Ok(()),
+            Err(error) => Err(Fault::from(error)),
+        };
+    }
+    match count_of(words) {
+        None => Err(Fault::Usage),
+        Some(asked) => write_count(rt, alloc, asked, output),
+    }
+}
+
 /// The whole of the program, over ends that the caller names: what it does, what it writes, and the status that it ends with.
 ///
-/// `spin-run count WORKERS TIMES` writes the total and a line feed. A run that does not end well tells why in one line on
-/// `errors`, and a failure there changes no status.
-pub fn program<I: Source, O: Sink, E: Sink, R: Threads + Wait + Sync, A: Allocator>(
+/// `spin-run count WORKERS TIMES` writes the total and a line feed. `spin-run world` reads a schedule as text to the end
+/// of `input`, and writes the text of what it comes to: see [`world_text`]. A run that does not end well tells why in one
+/// line on `errors`, and a failure there changes no status. A count takes its memory from `alloc`, a world from `rt`.
+pub fn program<I: Source, O: Sink, E: Sink, R: AllocGlobal + Threads + Wait + Sync, A: Allocator>(
     rt: &R,
     alloc: A,
     words: &[&str],
@@ -75,25 +123,36 @@ pub fn program<I: Source, O: Sink, E: Sink, R: Threads + Wait + Sync, A: Allocat
     requires output { O.failed output.old ≡ false }
     requires errors { E.failed errors.old ≡ false }
     ensures status { result ≤ 2 }
-    ensures input { input.new ≡ input.old }
 
-    // 0: the words ask for a count, all of its total was written, and nothing on standard error.
-    ensures done { result ≡ 0 → Counts (texts_of words.now) (O.failed output.new)
-        (O.written output.old) (O.written output.new) }
+    // 0: what the words ask for was done, and nothing is on standard error.
+    ensures done { result ≡ 0 → Does (texts_of words.now) (input.new ≡ input.old) (record {
+      left = I.remaining input.old;
+      left_after = I.remaining input.new;
+      source_failed = I.failed input.new;
+      written = O.written output.old;
+      written_after = O.written output.new;
+      sink_failed = O.failed output.new;
+    }) }
     ensures silent { result ≡ 0 → errors.new ≡ errors.old }
 
-    // 1: they do, and a write failed, or a thread or memory was refused.
-    ensures fault { result ≡ 1 → (fault : Fault) × Stops (texts_of words.now) (output.new ≡ output.old)
-        (O.failed output.new) (O.written output.old) (O.written output.new) fault
+    // Any other: a fault that has this status, and its line is on standard error.
+    ensures fault { 0 < result → (fault : Fault) × (result ≡ status_of fault)
+        × Stops (texts_of words.now) (input.new ≡ input.old) (output.new ≡ output.old) (record {
+          left = I.remaining input.old;
+          left_after = I.remaining input.new;
+          source_failed = I.failed input.new;
+          written = O.written output.old;
+          written_after = O.written output.new;
+          sink_failed = O.failed output.new;
+        }) fault
         × Tells (E.failed errors.new) (E.written errors.old) (E.written errors.new) (line_of fault) }
 
-    // 2: exactly where they ask for nothing that the program does.
-    ensures usage { (result ≡ 2) ↔ AsksNothing (texts_of words.now) }
+    // Where the words ask for nothing that the program does.
+    ensures usage { AsksNothing (texts_of words.now) → (result ≡ 2)
+        × Tells (E.failed errors.new) (E.written errors.old) (E.written errors.new) usage_line }
     ensures nothing_written { result ≡ 2 → output.new ≡ output.old }
-    ensures usage_told { result ≡ 2 → Tells (E.failed errors.new) (E.written errors.old) (E.written errors.new) usage_line }
 {
-    let _ = input;
-    match run(rt, alloc, words, output) {
+    match run(rt, alloc, words, input, output) {
         Ok(()) => 0,
         Err(fault) => report(fault, errors),
     }

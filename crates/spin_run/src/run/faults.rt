@@ -1,11 +1,14 @@
 //! Why a run of the program does not end well.
-ghost use Rattle.std.specs.Prelude.{◌≡◌, false};
+ghost use Rattle.std.specs.Prelude.{◌≡◌, ◌++◌, false, true, codes, decimal, OnOk, OnErr};
+ghost use Rattle.std.specs.Io.KnownBytes.{Appends};
 ghost use Rattle.spin_run.specs.declared.run.faults.Fault.TheVariants.{Refused, Memory, Write};
 ghost use Rattle.spin_run.specs.Command.{Tells};
-ghost use Rattle.spin_run.specs.Faults.{status_of, line_of};
+ghost use Rattle.spin_run.specs.Faults.{status_of, line_of, fault_of};
+ghost use Rattle.spin_text.specs.Ends.{AppendsBeginning};
 
 use super::counting::CountError;
-use super::ends::{Failed, Sink, write_whole};
+use itoa::Buffer;
+use spin_text::{Failed, RunError, Sink, write_whole};
 use std::alloc::AllocError;
 
 /// Why a run of the program does not end well.
@@ -17,6 +20,10 @@ pub(crate) enum Fault {
     Refused,
     /// Other memory was refused.
     Memory,
+    /// A read of standard input failed.
+    Read,
+    /// This line of standard input, counted from 1, is the first that is no line of a schedule.
+    BadLine(usize),
     /// A write to standard output failed.
     Write,
 }
@@ -27,22 +34,53 @@ impl Fault {
         ensures { result ≡ status_of self }
     {
         match self {
-            Fault::Usage => 2,
-            Fault::Refused | Fault::Memory | Fault::Write => 1,
+            Fault::Usage | Fault::BadLine(_) => 2,
+            Fault::Refused | Fault::Memory | Fault::Read | Fault::Write => 1,
         }
     }
 
-    /// The line on standard error.
-    pub(crate) fn line(self) -> &'static str
-        ensures { result.now ≡ line_of self }
+    /// Writes the line on standard error.
+    fn tell<E: Sink>(self, errors: &mut E) -> Result<(), Failed>
+        ensures bytes { OnOk result (Appends (E.written errors.old) (E.written errors.new) (line_of self)) }
+        ensures ok { OnOk result (E.failed errors.new ≡ E.failed errors.old) }
+        ensures beginning { OnErr result (AppendsBeginning (E.written errors.old) (E.written errors.new) (line_of self)) }
+        ensures err { OnErr result (E.failed errors.new ≡ true) }
     {
         match self {
-            Fault::Usage => "usage: spin-run count WORKERS TIMES | spin-run world\n",
-            Fault::Refused => "count refused\n",
-            Fault::Memory => "out of memory\n",
-            Fault::Write => "write failed\n",
+            Fault::Usage => write_whole(
+                errors,
+                b"usage: spin-run count WORKERS TIMES | spin-run world\n",
+            ),
+            Fault::Refused => write_whole(errors, b"count refused\n"),
+            Fault::Memory => write_whole(errors, b"out of memory\n"),
+            Fault::Read => write_whole(errors, b"read failed\n"),
+            Fault::BadLine(line) => tell_number(b"bad line ", line, errors),
+            Fault::Write => write_whole(errors, b"write failed\n"),
         }
     }
+}
+
+/// Writes a number, and ends the line.
+fn tell_end<E: Sink>(number: usize, errors: &mut E) -> Result<(), Failed>
+    ensures bytes { OnOk result (Appends (E.written errors.old) (E.written errors.new) (decimal number ++ codes "\n")) }
+    ensures ok { OnOk result (E.failed errors.new ≡ E.failed errors.old) }
+    ensures beginning { OnErr result (AppendsBeginning (E.written errors.old) (E.written errors.new) (decimal number ++ codes "\n")) }
+    ensures err { OnErr result (E.failed errors.new ≡ true) }
+{
+    let mut buffer = Buffer::new();
+    write_whole(errors, buffer.format(number).as_bytes())?;
+    write_whole(errors, b"\n")
+}
+
+/// Writes a number behind some words, and ends the line.
+fn tell_number<E: Sink>(words: &[u8], number: usize, errors: &mut E) -> Result<(), Failed>
+    ensures bytes { OnOk result (Appends (E.written errors.old) (E.written errors.new) (words.now ++ decimal number ++ codes "\n")) }
+    ensures ok { OnOk result (E.failed errors.new ≡ E.failed errors.old) }
+    ensures beginning { OnErr result (AppendsBeginning (E.written errors.old) (E.written errors.new) (words.now ++ decimal number ++ codes "\n")) }
+    ensures err { OnErr result (E.failed errors.new ≡ true) }
+{
+    write_whole(errors, words)?;
+    tell_end(number, errors)
 }
 
 /// Writes the fault's line, and answers its status. A line that cannot be written changes no status.
@@ -51,8 +89,21 @@ pub(crate) fn report<E: Sink>(fault: Fault, errors: &mut E) -> u8
     ensures status { result ≡ status_of fault }
     ensures told { Tells (E.failed errors.new) (E.written errors.old) (E.written errors.new) (line_of fault) }
 {
-    let _ = write_whole(errors, fault.line().as_bytes());
+    let _ = fault.tell(errors);
     fault.status()
+}
+
+impl From<RunError> for Fault {
+    ghost from_gives = { λ e f. f ≡ fault_of e };
+
+    fn from(error: RunError) -> Fault {
+        match error {
+            RunError::Read => Fault::Read,
+            RunError::Memory => Fault::Memory,
+            RunError::BadLine(line) => Fault::BadLine(line),
+            RunError::Write => Fault::Write,
+        }
+    }
 }
 
 impl From<CountError> for Fault {

@@ -65,6 +65,36 @@ impl Sink for Paper {
     }
 }
 
+/// Bytes to read, all at once. Where `fails`, a read fails once they are used up.
+#[derive(Drop)]
+struct Tape<'a> {
+    rest: &'a [u8],
+    fails: bool,
+    failed: bool,
+}
+
+impl Source for Tape<'_> {
+    ghost remaining = { λ _. None };
+
+    ghost failed = { λ s. s.failed };
+
+    fn read(&mut self, to: &mut [u8]) -> Result<usize, Failed> {
+        let n = self.rest.len().min(to.len());
+        if n == 0 && self.fails {
+            self.failed = true;
+            return Err(Failed);
+        }
+        let (front, rest) = self.rest.split_at(n);
+        to[..n].copy_from_slice(front);
+        self.rest = rest;
+        Ok(n)
+    }
+
+    fn has_failed(&self) -> bool {
+        self.failed
+    }
+}
+
 /// A source that is not to be read.
 #[derive(Drop)]
 struct Unread {
@@ -96,7 +126,7 @@ impl Source for Unread {
 }
 
 /// Runs the program, and compares all that it did.
-fn ends<R: Abort + Threads + Wait + Sync>(
+fn ends<R: Abort + AllocGlobal + Threads + Wait + Sync>(
     rt: &R,
     alloc: Global,
     words: &[&str],
@@ -175,7 +205,9 @@ fn asks_for_other_words(rt: HostRuntime) {
         &["counts", "2", "1"],
         &["jump", "2", "1"],
         &["2", "1", "count"],
-        &["world"],
+        &["worlds"],
+        &["World"],
+        &["world", ""],
         &["world", "2", "1"],
     ] {
         ends(
@@ -187,6 +219,125 @@ fn asks_for_other_words(rt: HostRuntime) {
             "",
             USAGE,
         );
+    }
+}
+
+/// Runs the program on a text, and compares all that it did.
+fn plays<R: Abort + AllocGlobal + Threads + Wait + Sync>(
+    rt: &R,
+    alloc: Global,
+    text: &str,
+    mut output: Paper,
+    status: u8,
+    told: &str,
+    line: &str,
+)
+    requires { output.failed ≡ false }
+{
+    let mut errors = Paper::endless(alloc);
+    let mut input = Tape {
+        rest: text.as_bytes(),
+        fails: false,
+        failed: false,
+    };
+    assert_eq!(rt;
+        program(rt, alloc, &["world"], &mut input, &mut output, &mut errors),
+        status,
+        "{text:?}"
+    );
+    assert_eq!(rt; output.bytes.as_slice(), told.as_bytes(), "{text:?}");
+    assert_eq!(rt; errors.bytes.as_slice(), line.as_bytes(), "{text:?}");
+}
+
+#[test]
+fn plays_a_schedule(rt: HostRuntime) {
+    for (text, status, told, line) in [
+        ("flag 5 1", 0, "end: 0 value 5\n", ""),
+        (
+            "flag 5 1\n3 step",
+            0,
+            "1 3 passed over: 0\nend: 0 value 5\n",
+            "",
+        ),
+        ("", 2, "", "bad line 1\n"),
+        ("flag 5 1\n0 jump\n", 2, "", "bad line 2\n"),
+        (
+            "flag 5 1\n0 step\n0 step\n0 step\n0 step\n0 step\n0 step\n0 step\n0 step\n\n",
+            2,
+            "",
+            "bad line 10\n",
+        ),
+        (
+            "ticket 0 0 3\n0 begin try_lock\n0 step\n0 step\n0 step\n",
+            0,
+            "1 0 begun: 0 0\n2 0 going on: 0 0\n3 0 going on: 0 0\n4 0 answer granted from 1: 1 0\nend: 1 0 value 0\n",
+            "",
+        ),
+    ] {
+        let output = Paper::endless(rt.alloc());
+        plays(&rt, rt.alloc(), text, output, status, told, line);
+    }
+}
+
+#[test]
+fn tells_where_a_world_fails(rt: HostRuntime) {
+    for room in 0..15usize {
+        let beginning = "end: 0 value 5\n".get(..room).expect(&rt, "a beginning");
+        plays(
+            &rt,
+            rt.alloc(),
+            "flag 5 1\n",
+            Paper::new(rt.alloc(), 4, room),
+            1,
+            beginning,
+            "write failed\n",
+        );
+    }
+    let mut errors = Paper::endless(rt.alloc());
+    let mut output = Paper::endless(rt.alloc());
+    let mut input = Tape {
+        rest: b"x\n",
+        fails: true,
+        failed: false,
+    };
+    assert_eq!(rt;
+        program(
+            &rt,
+            rt.alloc(),
+            &["world"],
+            &mut input,
+            &mut output,
+            &mut errors
+        ),
+        1
+    );
+    assert_eq!(rt; output.bytes.as_slice(), b"".as_slice());
+    assert_eq!(rt; errors.bytes.as_slice(), b"read failed\n".as_slice());
+}
+
+#[test]
+fn tells_a_bad_line_in_pieces(rt: HostRuntime) {
+    for room in 0..11usize {
+        let mut errors = Paper::new(rt.alloc(), 2, room);
+        let mut input = Tape {
+            rest: b"",
+            fails: false,
+            failed: false,
+        };
+        let mut output = Paper::endless(rt.alloc());
+        assert_eq!(rt;
+            program(
+                &rt,
+                rt.alloc(),
+                &["world"],
+                &mut input,
+                &mut output,
+                &mut errors
+            ),
+            2
+        );
+        assert!(rt; errors.has_failed());
+        assert_eq!(rt; errors.bytes.as_slice(), &b"bad line 1\n"[..room]);
     }
 }
 

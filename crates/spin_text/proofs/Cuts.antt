@@ -1,0 +1,85 @@
+-- Bytes cut at a separator, and at line feeds.
+use Rattle.std.proofs.Common.{◌≡◌, ℕ, ◌+◌, ◌-◌, ◌<◌, ◌==◌, cond, Bool, true, false, Option, Some, None, List, [], ◌∷◌, ◌++◌, length, take, drop, map, get_or, refl, sym, ◌∙◌, ap, arith, length-take, length-drop}
+use Rattle.std.specs.Borrow.{Bor}
+use Rattle.std.specs.List.{slice_split, join_with_byte}
+use Rattle.std.proofs.lemmas.Bool.{eqb-true}
+use Rattle.std.proofs.lemmas.Grind.{common_steps}
+use Rattle.std.proofs.lemmas.List.{get_or_default, get_or-take}
+use Rattle.std.proofs.lemmas.List.Splits.{slice_split_none, slice_split_at, length-slice_split, join_with_byte-slice_split}
+use Rattle.memchr.specs.Find.{Nowhere, NoneBefore, Passes, is_byte}
+use Rattle.spin_text.specs.Reading.{is_end, parts_left, lines_left}
+use Rattle.spin_text.specs.Lines.{lines_of, words_of, words_by_line, first_and_further, further_lines}
+
+-- how many bytes are left, and 1 where there is a line
+abbrev pub bytes_left : Option (Bor (List ℕ)) → ℕ
+bytes_left None = 0
+bytes_left (Some bytes) = length bytes.now + 1
+
+not_passing : (b : Bool) → ¬ (b ≡ true) → b ≡ false
+not_passing true never = absurd (never refl)
+not_passing false never = refl
+
+-- no separator: one part
+pub cut_none : (a : ℕ) (bs : List ℕ) → Nowhere (Passes (is_byte a) bs) 0 (length bs) → slice_split (is_byte a) bs ≡ bs ∷ []
+cut_none a bs nowhere =
+    slice_split_none (is_byte a) bs (λ k d l. ap (is_byte a) (get_or_default bs k d 0 l) ∙ not_passing _ (nowhere k (omega arith) l))
+
+around : (bs : List ℕ) (at : ℕ) → at < length bs → bs ≡ take at bs ++ (get_or bs at 0 ∷ drop (at + 1) bs)
+around bs at l = grind (arith, common_steps)
+
+all_of_rest : (bs : List ℕ) (n : ℕ) → take (length bs - n) (drop n bs) ≡ drop n bs
+all_of_rest bs n = grind (arith, common_steps, length-drop)
+
+-- the first separator: the part before it, and the parts behind it
+pub cut_some : (a : ℕ) (bs : List ℕ) (at : ℕ) → NoneBefore (Passes (is_byte a) bs) 0 (length bs) at → Passes (is_byte a) bs at → slice_split (is_byte a) bs ≡ take at bs ∷ slice_split (is_byte a) (take (length bs - (at + 1)) (drop (at + 1) bs))
+cut_some a bs at first here =
+    ap (slice_split (is_byte a)) (around bs at first.high)
+    ∙ slice_split_at (is_byte a) (take at bs) (get_or bs at 0) (drop (at + 1) bs) (λ k d l.
+    let below : k < at = omega (arith, length-take at bs, l) in
+    ap (is_byte a) (get_or-take at bs k d below ∙ get_or_default bs k d 0 (omega (arith, below, first.high))) ∙ not_passing _ (first.before k (omega arith) below)) here
+    ∙ ap (λ rest. take at bs ∷ slice_split (is_byte a) rest) (sym (all_of_rest bs (at + 1)))
+
+-- where bytes are behind a line feed, the lines behind it are theirs
+further_same : (parts : List (List ℕ)) → ((x : List ℕ) → parts ≡ x ∷ [] → 0 < length x) → further_lines parts ≡ first_and_further parts
+further_same [] some = refl
+further_same ([] ∷ []) some = absurd (omega (arith, some [] refl))
+further_same ((b ∷ bs) ∷ []) some = refl
+further_same (x ∷ y ∷ more) some = refl
+
+pub further_lines_of : (bs : List ℕ) → 0 < length bs → further_lines (slice_split (is_byte 10) bs) ≡ lines_of bs
+further_lines_of bs some =
+    further_same (slice_split (is_byte 10) bs) (λ x is.
+    let whole : x ≡ bs = sym (ap (join_with_byte 10) is) ∙ join_with_byte-slice_split 10 bs in
+    omega (arith, ap length whole, some))
+
+some_word : (ws : List (List ℕ)) → 0 < length ws → false ≡ is_end ws
+some_word [] some = absurd (omega (arith, some))
+some_word (w ∷ ws) some = refl
+
+-- the lines behind a first one
+pub lines_behind : (bs line : List ℕ) (parts : List (List ℕ)) (further : List (List ℕ)) → slice_split (is_byte 10) bs ≡ line ∷ parts → further_lines parts ≡ further → words_by_line bs ≡ words_of line ∷ map words_of further
+lines_behind bs line parts further is then =
+    ap (λ all. map words_of (first_and_further all)) is ∙ ap (λ ls. words_of line ∷ map words_of ls) then
+
+-- a line has a word, which may be empty
+pub has_word : (line : List ℕ) → false ≡ is_end (words_of line)
+has_word line = some_word (words_of line) (omega (arith, length-slice_split (is_byte 32) line))
+
+no_bytes : (bs : List ℕ) → true ≡ (length bs == 0) → bs ≡ []
+no_bytes [] is = refl
+no_bytes (b ∷ bs) is = absurd (omega (arith, eqb-true _ _ (sym is)))
+
+some_bytes : (bs : List ℕ) → false ≡ (length bs == 0) → 0 < length bs
+some_bytes [] is = absurd (cc)
+some_bytes (b ∷ bs) is = omega arith
+
+split_after : (bs line : List ℕ) (further : Bor (List ℕ)) → slice_split (is_byte 10) bs ≡ line ∷ slice_split (is_byte 10) further.now → (over : Bool) → over ≡ (length further.now == 0) → words_by_line bs ≡ words_of line ∷ lines_left (cond over None (Some further))
+split_after bs line further split true test =
+    lines_behind bs line _ [] split (ap (λ b. further_lines (slice_split (is_byte 10) b)) (no_bytes further.now test))
+split_after bs line further split false test = lines_behind bs line _ _ split (further_lines_of further.now (some_bytes further.now test))
+
+-- behind the first line: nothing, where no byte is behind the line feed
+pub lines_after : (bs line : List ℕ) (rest : Option (Bor (List ℕ))) (further : Bor (List ℕ)) → slice_split (is_byte 10) bs ≡ line ∷ parts_left 10 rest → rest ≡ Some further
+    → (left : Option (Bor (List ℕ))) (over : Bool) → over ≡ (length further.now == 0) → left ≡ cond over None (Some further) → words_by_line bs ≡ words_of line ∷ lines_left left
+lines_after bs line rest further parts is left over test made =
+    split_after bs line further (parts ∙ ap (λ r. line ∷ parts_left 10 r) is) over test ∙ ap (λ l. words_of line ∷ lines_left l) (sym made)

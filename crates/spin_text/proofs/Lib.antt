@@ -1,0 +1,10 @@
+pub mod Appended
+pub mod Options
+pub mod Numerals
+pub mod Cuts
+pub mod Moves
+pub mod Calls
+pub mod Consumed
+pub mod Headers
+pub mod Scripts
+pub mod Lines

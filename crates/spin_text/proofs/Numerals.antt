@@ -1,0 +1,71 @@
+-- Numbers as words: what is printed is read, and what is read was printed so.
+use Rattle.std.proofs.Common.{◌≡◌, ℕ, suc, zero, ◌<◌, ◌^◌, true, ◌&&◌, Option, Some, None, IfSome, IfNone, nat_lt, List, decimal, length, arith, sym, ◌∙◌, ap, slice_index, subst, refl, cond}
+use Rattle.std.specs.Str.{bytes_eq, IsUtf8}
+use Rattle.std.specs.Str.Parse.{AllDigits, digits_value}
+use Rattle.std.proofs.lemmas.Str.{IsUtf8-from_ascii}
+use Rattle.std.proofs.lemmas.Str.Parse.{numerals_by_value, tells_digits}
+use Rattle.std.proofs.lemmas.Slice.Eq.{bytes_eq-Decides}
+use Rattle.std.proofs.lemmas.Bool.{lt-ltb, ltb-true}
+use Rattle.std.proofs.lemmas.Fmt.{decimal_is_IsNumeral, decimal-digits_value, decimal_digit, first_decimal, IsAscii-decimal}
+use Rattle.spin_text.specs.Numbers.{IsNumber}
+use Rattle.spin_text.specs.Reading.{read_number}
+use Rattle.spin_text.proofs.Options.{chosen, some_is, and_true}
+
+-- a number is printed as the word that it was read from
+pub prints_back : (word : List ℕ) (n : ℕ) → n < 2 ^ 64 → IsNumber word n → word ≡ decimal n
+prints_back word n fits is =
+    let small : digits_value 10 word < 2 ^ 64 = omega (arith, is.value) in
+    sym (decimal-digits_value (numerals_by_value (AllDigits 10) tells_digits) word is.digits.1 is.digits.0 is.no_leading_zero small) ∙ ap decimal is.value
+
+-- what a number is printed as has no leading zero, but for 0 itself
+no_leading_zero : (n : ℕ) → n < 2 ^ 64 → slice_index (decimal n) 0 ≡ 48 → length (decimal n) ≡ 1
+no_leading_zero zero fits is = ap length (decimal_digit 0 (omega arith))
+no_leading_zero (suc n) fits is = absurd (omega (arith, is, first_decimal (suc n) (omega arith) fits))
+
+-- what a number is printed as is that number
+pub is_number : (n : ℕ) → n < 2 ^ 64 → IsNumber (decimal n) n
+is_number n fits =
+    let numeral = decimal_is_IsNumeral n fits in
+    record { digits = numeral.0; no_leading_zero = no_leading_zero n fits; value = numeral.1 }
+
+-- a printed number is read
+read_decimal : (n : ℕ) → n < 2 ^ 64 → read_number (decimal n) ≡ Some n
+unfolding read_number
+read_decimal n fits =
+    let Found : ℕ → Type 0 = λ k. cond (bytes_eq (decimal n) (decimal k) && (nat_lt k (2 ^ 64))) (Some k) None ≡ Some n in
+    let both : (bytes_eq (decimal n) (decimal n) && (nat_lt n (2 ^ 64))) ≡ true =
+    ap (λ b. b && (nat_lt n (2 ^ 64))) ((bytes_eq-Decides (decimal n) (decimal n)).1 refl) ∙ lt-ltb n (2 ^ 64) fits in
+    subst Found (sym (decimal_is_IsNumeral n fits).1) (ap (λ b. cond b (Some n) None) both)
+
+pub read_number_some : (w : List ℕ) (n : ℕ) → n < 2 ^ 64 → w ≡ decimal n → read_number w ≡ Some n
+read_number_some w n fits is = ap read_number is ∙ read_decimal n fits
+
+pub read_number_takes : (w : List ℕ) (n : ℕ) → read_number w ≡ Some n → (n < 2 ^ 64) × (w ≡ decimal n)
+unfolding read_number
+read_number_takes w n =
+    chosen _ (Some (digits_value 10 w)) None n ((n < 2 ^ 64) × (w ≡ decimal n)) (λ both is.
+    let tests = and_true _ _ both in
+    let P : ℕ → Type 0 = λ k. (k < 2 ^ 64) × (w ≡ decimal k) in
+    subst P (some_is is) (ltb-true _ _ tests.1, (bytes_eq-Decides _ _).0 tests.0)) (λ _ is. absurd (cc))
+
+pub read_number_none : (w : List ℕ) (r : Option ℕ) → r ≡ read_number w → ((n : ℕ) → n < 2 ^ 64 → ¬ (w ≡ decimal n)) → None ≡ r
+read_number_none w None is none = refl
+read_number_none w (Some n) is none = let found = read_number_takes w n (sym is) in absurd (none n found.0 found.1)
+
+-- what `number` says of a word is what is read
+pub number_is_read : (w : List ℕ) (r : Option ℕ) → IfSome r (λ n. (n < 2 ^ 64) × IsNumber w n) → IfNone r ((n : ℕ) → n < 2 ^ 64 → ¬ (IsNumber w n)) → r ≡ read_number w
+number_is_read w None some none =
+    read_number_none w (read_number w) refl (λ n fits is.
+    none n fits (let P : List ℕ → Type 0 = λ v. IsNumber v n in subst P (sym is) (is_number n fits)))
+number_is_read w (Some n) some none = sym (read_number_some w n some.0 (prints_back w n some.0 some.1))
+
+-- bytes that are no text are no number
+pub no_text_no_number : (w : List ℕ) → ¬ (IsUtf8 w) → None ≡ read_number w
+no_text_no_number w not_text =
+    read_number_none w (read_number w) refl (λ n fits is.
+    not_text (let P : List ℕ → Type 0 = λ v. IsUtf8 v in subst P (sym is) (IsUtf8-from_ascii (decimal n) (IsAscii-decimal n fits))))
+
+-- the same, where the word was first seen to be text
+pub number_of_text : (w v : List ℕ) (r : Option ℕ) → w ≡ v → IfSome r (λ n. n < 2 ^ 64) → IfSome r (λ n. IsNumber w n) → IfNone r ((n : ℕ) → n < 2 ^ 64 → ¬ (IsNumber w n)) → r ≡ read_number v
+number_of_text w v None same fits some none = number_is_read w None tt none ∙ ap read_number same
+number_of_text w v (Some n) same fits some none = number_is_read w (Some n) (fits, some) tt ∙ ap read_number same

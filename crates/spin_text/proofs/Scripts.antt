@@ -1,0 +1,155 @@
+-- A whole text is read as it is spelled: so it has one reading, and its first bad line is where reading stops.
+use Rattle.std.proofs.Common.{◌≡◌, ℕ, suc, Result, Ok, Err, IfOk, IfErr, ◌+◌, ◌-◌, Option, Some, None, List, [], ◌∷◌, ◌++◌, length, map, take, arith, refl, sym, ◌∙◌, ap, subst, length-append, append_assoc}
+use Rattle.std.proofs.lemmas.List.{length-map, map-append}
+use Rattle.spin_world_core.specs.declared.answer.Answer.{Answer}
+use Rattle.spin_world_core.specs.declared.schedule.Move.{Move}
+use Rattle.spin_world_core.specs.Machines.{Machine}
+use Rattle.spin_text.specs.declared.header.Header.{Header}
+use Rattle.spin_text.specs.declared.text.RunError.{RunError}
+use Rattle.spin_text.specs.declared.text.RunError.TheVariants as errors
+use Rattle.spin_text.specs.Lines.{words_by_line}
+use Rattle.spin_text.specs.Spelling.{Calls, entry_words, EntryFits, EntriesFit}
+use Rattle.spin_text.specs.Objects.{CallOf, calls_of, header_words, HeaderFits}
+use Rattle.spin_text.specs.Reading.{◌>>=◌, read_entry, read_header}
+use Rattle.spin_text.specs.Readable.{ReadsCalls, StopsEntries}
+use Rattle.spin_text.specs.Transcripts.{transcript_text}
+use Rattle.spin_text.specs.Texts.{Script, script_words, ScriptFits, Spells, AreOfScript, IsFirstBad, played, PlaysBytes, PlaysLines, StopsPlaying}
+use Rattle.spin_text.proofs.Options.{some_is}
+use Rattle.spin_text.proofs.Moves.{entry_takes, entry_again}
+use Rattle.spin_text.proofs.Headers.{header_takes, header_again, read_of, reads_of}
+
+-- the entries of lines, up to the end
+abbrev pub read_entries : {C : Type 0} → (List (List ℕ) → Option C) → List (List (List ℕ)) → Option (List (ℕ × Move C ℕ))
+read_entries read [] = Some []
+read_entries read (line ∷ lines) = read_entry read line >>= λ e. (read_entries read lines >>= λ es. Some (e ∷ es))
+
+module _ {C : Type 0} (calls : Calls C) (read : List (List ℕ) → Option C) (reads : ReadsCalls calls read) where
+  pub entries_again : (es : List (ℕ × Move C ℕ)) → EntriesFit calls es → read_entries read (map (entry_words calls) es) ≡ Some es
+  entries_again [] fits = refl
+  entries_again (e ∷ es) fits =
+      ap (λ o. o >>= λ x. (read_entries read (map (entry_words calls) es) >>= λ xs. Some (x ∷ xs))) (entry_again calls read reads e fits.0)
+      ∙ ap (λ o. o >>= λ xs. Some (e ∷ xs)) (entries_again es fits.1)
+
+  -- one line that spells no entry is enough
+  pub entries_stop : (es : List (ℕ × Move C ℕ)) (line : List (List ℕ)) → EntriesFit calls es → read_entry read line ≡ None → read_entries read (map (entry_words calls) es ++ (line ∷ [])) ≡ None
+  entries_stop [] line fits is = ap (λ o. o >>= λ x. Some (x ∷ [])) is
+  entries_stop (e ∷ es) line fits is =
+      ap (λ o. o >>= λ x. (read_entries read (map (entry_words calls) es ++ (line ∷ [])) >>= λ xs. Some (x ∷ xs))) (entry_again calls read reads e fits.0)
+      ∙ ap (λ o. o >>= λ xs. Some (e ∷ xs)) (entries_stop es line fits.1 is)
+
+  -- one more entry
+  pub entries_more : (es : List (ℕ × Move C ℕ)) (e : ℕ × Move C ℕ) → EntriesFit calls es → EntryFits calls e → EntriesFit calls (es ++ (e ∷ []))
+  entries_more [] e fits fit = (fit, tt)
+  entries_more (x ∷ xs) e fits fit = (fits.0, entries_more xs e fits.1 fit)
+
+  -- the next line spells one more entry
+  pub entries_step : (es all_entries : List (ℕ × Move C ℕ)) (e : ℕ × Move C ℕ) (line : List (List ℕ)) (left further all : List (List (List ℕ))) → EntriesFit calls es → map (entry_words calls) es ++ left ≡ all → left ≡ line ∷ further
+      → read_entry read line ≡ Some e → all_entries ≡ es ++ (e ∷ []) → EntriesFit calls all_entries × (map (entry_words calls) all_entries ++ further ≡ all)
+  entries_step es all_entries e line left further all fits spelled next found is =
+      let P : List (ℕ × Move C ℕ) → Type 0 = λ xs. EntriesFit calls xs × (map (entry_words calls) xs ++ further ≡ all) in
+      let entry = entry_takes calls read reads line e found in
+      let words = entry_words calls in
+      subst P (sym is) (
+        entries_more es e fits entry.0,
+        ap (λ l. l ++ further) (map-append words es (e ∷ [])) ∙ append_assoc (map words es) (words e ∷ []) further
+            ∙ ap (λ l. map words es ++ l) (ap (λ w. w ∷ further) (sym entry.1) ∙ sym next) ∙ spelled,
+      )
+
+pub read_script : List (List (List ℕ)) → Option Script
+read_script [] = None
+read_script (line ∷ lines) = read_header line >>= λ h. (read_entries (read_of h) lines >>= λ es. Some (record { header = h; entries = es }))
+
+pub script_again : (s : Script) → ScriptFits s → read_script (script_words s) ≡ Some s
+unfolding read_script
+script_again s fits =
+    let rest = map (entry_words (calls_of s.header)) s.entries in
+    ap (λ o. o >>= λ h. (read_entries (read_of h) rest >>= λ es. Some (record { header = h; entries = es }))) (header_again s.header fits.0)
+    ∙ ap (λ o. o >>= λ es. Some (record { header = s.header; entries = es })) (entries_again (calls_of s.header) (read_of s.header) (reads_of s.header) s.entries fits.1)
+
+-- two scripts of one text are one
+pub one_script : (bytes : List ℕ) (s t : Script) → Spells bytes s → Spells bytes t → s ≡ t
+one_script bytes s t first second =
+    some_is (sym (script_again s first.fits) ∙ ap read_script (sym first.words ∙ second.words) ∙ script_again t second.fits)
+
+-- lines that are read as none are no script's
+no_script : (lines : List (List (List ℕ))) → read_script lines ≡ None → ¬ AreOfScript lines
+no_script lines none script =
+    let found : Some script.0 ≡ None = sym (script_again script.0 script.1) ∙ ap read_script (sym script.2) ∙ none in absurd (cc)
+
+header_stops : (line : List (List ℕ)) → read_header line ≡ None → read_script (line ∷ []) ≡ None
+unfolding read_script
+header_stops line none = ap (λ o. o >>= λ h. (read_entries (read_of h) [] >>= λ es. Some (record { header = h; entries = es }))) none
+
+pub bad_header : (lines : List (List (List ℕ))) (line : List (List ℕ)) (more : List (List (List ℕ))) → lines ≡ line ∷ more → None ≡ read_header line → IsFirstBad lines 1
+bad_header lines line more is none =
+    let P : List (List (List ℕ)) → Type 0 = λ ls. IsFirstBad ls 1 in
+    subst P (sym is) (record {
+      there = (omega arith, omega arith);
+      before = λ less. absurd (omega (arith, less));
+      bad = no_script (line ∷ []) (header_stops line (sym none));
+    })
+
+entry_stops : (h : Header) (es : List (ℕ × Move (CallOf h) ℕ)) (line : List (List ℕ)) → HeaderFits h → EntriesFit (calls_of h) es → read_entry (read_of h) line ≡ None
+    → read_script (header_words h ∷ (map (entry_words (calls_of h)) es ++ (line ∷ []))) ≡ None
+unfolding read_script
+entry_stops h es line fits each none =
+    let rest = map (entry_words (calls_of h)) es ++ (line ∷ []) in
+    ap (λ o. o >>= λ k. (read_entries (read_of k) rest >>= λ xs. Some (record { header = k; entries = xs }))) (header_again h fits)
+    ∙ ap (λ o. o >>= λ xs. Some (record { header = h; entries = xs })) (entries_stop (calls_of h) (read_of h) (reads_of h) es line each none)
+
+-- the first elements of a list, where it is known how many they are
+
+take_all_before : {X : Type 0} → (xs : List X) (y : X) (ys : List X) → take (length xs) (xs ++ (y ∷ ys)) ≡ xs
+take_all_before [] y ys = refl
+take_all_before (x ∷ xs) y ys = ap (λ l. x ∷ l) (take_all_before xs y ys)
+
+take_one_more : {X : Type 0} → (xs : List X) (y : X) (ys : List X) → take (suc (length xs)) (xs ++ (y ∷ ys)) ≡ xs ++ (y ∷ [])
+take_one_more [] y ys = refl
+take_one_more (x ∷ xs) y ys = ap (λ l. x ∷ l) (take_one_more xs y ys)
+
+first_bad : (h : Header) (es : List (ℕ × Move (CallOf h) ℕ)) (line : List (List ℕ)) (more : List (List (List ℕ))) → HeaderFits h → EntriesFit (calls_of h) es → read_entry (read_of h) line ≡ None
+    → IsFirstBad (header_words h ∷ (map (entry_words (calls_of h)) es ++ (line ∷ more))) (length es + 2)
+first_bad h es line more fits each none =
+    let rest = map (entry_words (calls_of h)) es in
+    let long : length rest ≡ length es = length-map es (entry_words (calls_of h)) in
+    let all = header_words h ∷ (rest ++ (line ∷ more)) in
+    let before : length es + 2 - 1 ≡ suc (length rest) = omega (arith, long) in
+    let with_line : length es + 2 ≡ suc (suc (length rest)) = omega (arith, long) in
+    record {
+      there = (omega arith, omega (arith, long, length-append rest (line ∷ more)));
+      before = λ _. (record { header = h; entries = es }, (fits, each), ap (λ n. take n all) before ∙ ap (λ l. header_words h ∷ l) (take_all_before rest line more));
+      bad = λ script. no_script _ (entry_stops h es line fits each none) (let P : List (List (List ℕ)) → Type 0 = AreOfScript in subst P (ap (λ n. take n all) with_line ∙ ap (λ l. header_words h ∷ l) (take_one_more rest line more)) script);
+    }
+
+-- the first line is the header that it is read as
+pub headed : (bytes : List ℕ) (h : Header) (line : List (List ℕ)) (rest : List (List (List ℕ))) → read_header line ≡ Some h → words_by_line bytes ≡ line ∷ rest → HeaderFits h × (words_by_line bytes ≡ header_words h ∷ rest)
+headed bytes h line rest found is = let header = header_takes line h found in (header.0, is ∙ ap (λ w. w ∷ rest) header.1)
+
+-- where the entries stop, the text stops
+pub bad_entry : (bytes : List ℕ) (h : Header) (rest : List (List (List ℕ))) (e : RunError) → HeaderFits h → words_by_line bytes ≡ header_words h ∷ rest → StopsEntries (calls_of h) (read_of h) rest e → StopsPlaying bytes e
+bad_entry bytes h rest errors.Read fits is stops = absurd stops
+bad_entry bytes h rest errors.Memory fits is stops = tt
+bad_entry bytes h rest errors.Write fits is stops = absurd stops
+bad_entry bytes h rest (errors.BadLine n) fits is stops =
+    let found = stops.2 in
+    let P : List (List (List ℕ)) → Type 0 = λ lines. IsFirstBad lines n in
+    let Q : ℕ → Type 0 = IsFirstBad (header_words h ∷ (map (entry_words (calls_of h)) stops.0 ++ (found.0 ∷ found.1))) in
+    subst P (sym (is ∙ ap (λ r. header_words h ∷ r) found.2)) (subst Q (sym found.4) (first_bad h stops.0 found.0 found.1 fits stops.1 found.3))
+
+-- what the entries come to, the text comes to
+pub whole_text : {W L : Type 0} → (bytes : List ℕ) (h : Header) (rest : List (List (List ℕ))) (m : Machine W ℕ (CallOf h) L (Answer ℕ)) (parties : ℕ) (text : List ℕ) → HeaderFits h → words_by_line bytes ≡ header_words h ∷ rest
+    → ((es : List (ℕ × Move (CallOf h) ℕ)) → transcript_text m parties es ≡ played h es) → PlaysLines (calls_of h) m parties rest text → PlaysBytes bytes text
+whole_text bytes h rest m parties text fits is same plays =
+    (record { header = h; entries = plays.0 }, record { fits = (fits, plays.1); words = is ∙ ap (λ r. header_words h ∷ r) plays.2 }, plays.3 ∙ same plays.0)
+
+-- the same, of what a call answers
+
+pub whole_text_if : {X W L : Type 0} → (view : X → List ℕ) (r : Result X RunError) (bytes : List ℕ) (h : Header) (rest : List (List (List ℕ))) (m : Machine W ℕ (CallOf h) L (Answer ℕ)) (parties : ℕ) → HeaderFits h
+    → words_by_line bytes ≡ header_words h ∷ rest → ((es : List (ℕ × Move (CallOf h) ℕ)) → transcript_text m parties es ≡ played h es) → IfOk r (λ x. PlaysLines (calls_of h) m parties rest (view x)) → IfOk r (λ x. PlaysBytes bytes (view x))
+whole_text_if view (Ok x) bytes h rest m parties fits is same plays = whole_text bytes h rest m parties (view x) fits is same plays
+whole_text_if view (Err e) bytes h rest m parties fits is same plays = tt
+
+pub bad_entry_if : {X : Type 0} → (r : Result X RunError) (bytes : List ℕ) (h : Header) (rest : List (List (List ℕ))) → HeaderFits h → words_by_line bytes ≡ header_words h ∷ rest
+    → IfErr r (StopsEntries (calls_of h) (read_of h) rest) → IfErr r (StopsPlaying bytes)
+bad_entry_if (Ok x) bytes h rest fits is stops = tt
+bad_entry_if (Err e) bytes h rest fits is stops = bad_entry bytes h rest e fits is stops

@@ -1,0 +1,10 @@
+pub mod Ends
+pub mod OfStd
+pub mod Numbers
+pub mod Lines
+pub mod Spelling
+pub mod Reading
+pub mod Readable
+pub mod Objects
+pub mod Transcripts
+pub mod Texts

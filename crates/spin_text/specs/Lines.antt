@@ -1,0 +1,26 @@
+-- The lines of bytes, and the words of a line.
+use Rattle.std.specs.Prelude.{ℕ, List, [], ◌∷◌, map, ◌==◌}
+use Rattle.std.specs.List.{slice_split}
+
+-- behind a line feed stands another line only where there are bytes
+abbrev pub further_lines : List (List ℕ) → List (List ℕ)
+further_lines [] = []
+further_lines ([] ∷ []) = []
+further_lines ((b ∷ bs) ∷ []) = (b ∷ bs) ∷ []
+further_lines (x ∷ y ∷ more) = x ∷ further_lines (y ∷ more)
+
+abbrev pub first_and_further : List (List ℕ) → List (List ℕ)
+first_and_further [] = []
+first_and_further (x ∷ more) = x ∷ further_lines more
+
+-- each line ends at a line feed, which the last may lack. Where there are no bytes there is one line, and it is empty
+abbrev pub lines_of : List ℕ → List (List ℕ)
+lines_of bytes = first_and_further (slice_split (λ b. b == 10) bytes)
+
+-- two words of a line have one space between them. Two spaces have an empty word between them, and so has an end of the line and a space beside it
+abbrev pub words_of : List ℕ → List (List ℕ)
+words_of line = slice_split (λ b. b == 32) line
+
+-- the words of each line
+abbrev pub words_by_line : List ℕ → List (List (List ℕ))
+words_by_line bytes = map words_of (lines_of bytes)

@@ -1,0 +1,143 @@
+-- The objects that a text can be of. Each is a row: its calls, its header and the limits of that.
+use Rattle.std.specs.Prelude.{ℕ, ◌≤◌, ◌<◌, ◌^◌, Bool, true, nat_lt, List, [], ◌∷◌, codes, decimal}
+use Rattle.spin_step.specs.Readers.{reader_limit}
+use Rattle.spin_step.specs.Starvers.{most_starvers}
+use Rattle.spin_world_flag.specs.declared.flag.FlagCall.{FlagCall}
+use Rattle.spin_world_flag.specs.declared.flag.FlagCall.TheVariants as flag
+use Rattle.spin_world_ticket.specs.declared.ticket.TicketCall.{TicketCall}
+use Rattle.spin_world_ticket.specs.declared.ticket.TicketCall.TheVariants as ticket
+use Rattle.spin_world_rw.specs.declared.rw.RwCall.{RwCall}
+use Rattle.spin_world_rw.specs.declared.rw.RwCall.TheVariants as rw
+use Rattle.spin_world_fair.specs.declared.fair.FairCall.{FairCall}
+use Rattle.spin_world_fair.specs.declared.fair.FairCall.TheVariants as fair
+use Rattle.spin_world_barrier.specs.declared.barrier.BarrierCall.{BarrierCall}
+use Rattle.spin_world_barrier.specs.declared.barrier.BarrierCall.TheVariants as barrier
+use Rattle.spin_world_once.specs.declared.once.OnceCall.{OnceCall}
+use Rattle.spin_world_once.specs.declared.once.OnceCall.TheVariants as once
+use Rattle.spin_text.specs.declared.header.Header.{Header}
+use Rattle.spin_text.specs.declared.header.Header.TheVariants.{Flag, Ticket, Rw, Fair, Barrier, Once}
+use Rattle.spin_text.specs.Spelling.{Calls}
+
+-- the calls by their words
+
+abbrev pub flag_call_words : FlagCall → List (List ℕ)
+flag_call_words flag.Lock = codes "lock" ∷ []
+flag_call_words flag.TryLock = codes "try_lock" ∷ []
+flag_call_words flag.TryLockWeak = codes "try_lock_weak" ∷ []
+flag_call_words flag.IsLocked = codes "is_locked" ∷ []
+flag_call_words flag.Release = codes "release" ∷ []
+
+abbrev pub flag_calls : Calls FlagCall
+flag_calls = record { words = flag_call_words; fits = λ c. true }
+
+abbrev pub ticket_call_words : TicketCall → List (List ℕ)
+ticket_call_words ticket.Lock = codes "lock" ∷ []
+ticket_call_words ticket.TryLock = codes "try_lock" ∷ []
+ticket_call_words ticket.IsLocked = codes "is_locked" ∷ []
+ticket_call_words ticket.Release = codes "release" ∷ []
+
+abbrev pub ticket_calls : Calls TicketCall
+ticket_calls = record { words = ticket_call_words; fits = λ c. true }
+
+abbrev pub rw_call_words : RwCall → List (List ℕ)
+rw_call_words rw.TryRead = codes "try_read" ∷ []
+rw_call_words rw.Read = codes "read" ∷ []
+rw_call_words rw.TryUpgradeableRead = codes "try_upgradeable_read" ∷ []
+rw_call_words rw.UpgradeableRead = codes "upgradeable_read" ∷ []
+rw_call_words rw.TryWrite = codes "try_write" ∷ []
+rw_call_words rw.TryWriteWeak = codes "try_write_weak" ∷ []
+rw_call_words rw.Write = codes "write" ∷ []
+rw_call_words rw.ReaderCount = codes "reader_count" ∷ []
+rw_call_words rw.WriterCount = codes "writer_count" ∷ []
+rw_call_words rw.TryUpgrade = codes "try_upgrade" ∷ []
+rw_call_words rw.TryUpgradeWeak = codes "try_upgrade_weak" ∷ []
+rw_call_words rw.Upgrade = codes "upgrade" ∷ []
+rw_call_words rw.Downgrade = codes "downgrade" ∷ []
+rw_call_words rw.DowngradeToUpgradeable = codes "downgrade_to_upgradeable" ∷ []
+rw_call_words rw.Release = codes "release" ∷ []
+
+abbrev pub rw_calls : Calls RwCall
+rw_calls = record { words = rw_call_words; fits = λ c. true }
+
+abbrev pub fair_call_words : FairCall → List (List ℕ)
+fair_call_words fair.Lock = codes "lock" ∷ []
+fair_call_words fair.TryLock = codes "try_lock" ∷ []
+fair_call_words fair.TryLockStarver = codes "try_lock_starver" ∷ []
+fair_call_words fair.IsLocked = codes "is_locked" ∷ []
+fair_call_words fair.Starve = codes "starve" ∷ []
+fair_call_words fair.StarverTryLockFair = codes "starver_try_lock_fair" ∷ []
+fair_call_words fair.StarverTryLock = codes "starver_try_lock" ∷ []
+fair_call_words fair.StarverLock = codes "starver_lock" ∷ []
+fair_call_words fair.StarverDrop = codes "starver_drop" ∷ []
+fair_call_words fair.Release = codes "release" ∷ []
+
+abbrev pub fair_calls : Calls FairCall
+fair_calls = record { words = fair_call_words; fits = λ c. true }
+
+abbrev pub barrier_call_words : BarrierCall → List (List ℕ)
+barrier_call_words barrier.Wait = codes "wait" ∷ []
+
+abbrev pub barrier_calls : Calls BarrierCall
+barrier_calls = record { words = barrier_call_words; fits = λ c. true }
+
+abbrev pub once_call_words : OnceCall ℕ → List (List ℕ)
+once_call_words (once.CallOnce v) = codes "call_once" ∷ decimal v ∷ []
+once_call_words (once.TryCallOnceOk v) = codes "try_call_once" ∷ codes "ok" ∷ decimal v ∷ []
+once_call_words once.TryCallOnceErr = codes "try_call_once" ∷ codes "err" ∷ []
+once_call_words (once.InitFromRef v) = codes "init_from_ref" ∷ decimal v ∷ []
+once_call_words once.Wait = codes "wait" ∷ []
+once_call_words once.Poll = codes "poll" ∷ []
+once_call_words once.Get = codes "get" ∷ []
+once_call_words once.IsCompleted = codes "is_completed" ∷ []
+
+abbrev pub once_call_fits : OnceCall ℕ → Bool
+once_call_fits (once.CallOnce v) = nat_lt v (2 ^ 64)
+once_call_fits (once.TryCallOnceOk v) = nat_lt v (2 ^ 64)
+once_call_fits (once.InitFromRef v) = nat_lt v (2 ^ 64)
+once_call_fits _ = true
+
+abbrev pub once_calls : Calls (OnceCall ℕ)
+once_calls = record { words = once_call_words; fits = once_call_fits }
+
+-- the first line
+
+abbrev pub header_words : Header → List (List ℕ)
+header_words (Flag value parties) = codes "flag" ∷ decimal value ∷ decimal parties ∷ []
+header_words (Ticket value first parties) = codes "ticket" ∷ decimal value ∷ decimal first ∷ decimal parties ∷ []
+header_words (Rw value cap parties) = codes "rw" ∷ decimal value ∷ decimal cap ∷ decimal parties ∷ []
+header_words (Fair value cap spins parties) = codes "fair" ∷ decimal value ∷ decimal cap ∷ decimal spins ∷ decimal parties ∷ []
+header_words (Barrier n parties) = codes "barrier" ∷ decimal n ∷ decimal parties ∷ []
+header_words (Once parties) = codes "once" ∷ decimal parties ∷ []
+
+abbrev pub IsWithin : ℕ → ℕ → ℕ → Type 0
+IsWithin least most n = (least ≤ n) × (n ≤ most)
+
+-- from 1 to 1000 parties
+abbrev pub PartiesFit : ℕ → Type 0
+PartiesFit parties = IsWithin 1 1000 parties
+
+abbrev pub HeaderFits : Header → Type 0
+HeaderFits (Flag value parties) = (value < 2 ^ 64) × PartiesFit parties
+HeaderFits (Ticket value first parties) = (value < 2 ^ 64) × (first < 2 ^ 64) × PartiesFit parties
+HeaderFits (Rw value cap parties) = (value < 2 ^ 64) × IsWithin 1 reader_limit cap × PartiesFit parties
+HeaderFits (Fair value cap spins parties) = (value < 2 ^ 64) × IsWithin 1 most_starvers cap × IsWithin 0 1024 spins × PartiesFit parties
+HeaderFits (Barrier n parties) = (n < 2 ^ 64) × PartiesFit parties
+HeaderFits (Once parties) = PartiesFit parties
+
+-- what the header says of the lines behind it, and of the world that they are played in
+
+abbrev pub CallOf : Header → Type 0
+CallOf (Flag value parties) = FlagCall
+CallOf (Ticket value first parties) = TicketCall
+CallOf (Rw value cap parties) = RwCall
+CallOf (Fair value cap spins parties) = FairCall
+CallOf (Barrier n parties) = BarrierCall
+CallOf (Once parties) = OnceCall ℕ
+
+abbrev pub calls_of : (h : Header) → Calls (CallOf h)
+calls_of (Flag value parties) = flag_calls
+calls_of (Ticket value first parties) = ticket_calls
+calls_of (Rw value cap parties) = rw_calls
+calls_of (Fair value cap spins parties) = fair_calls
+calls_of (Barrier n parties) = barrier_calls
+calls_of (Once parties) = once_calls

@@ -1,0 +1,11 @@
+-- What an end over one of std's readers or writers holds.
+use Rattle.std.specs.Prelude.{Bool}
+use Rattle.spin_text.specs.declared.ends.OfStd.{OfStd}
+
+-- the reader or the writer
+abbrev pub of_std_inner : {X : Type 0} → OfStd X → X
+of_std_inner s = s.inner
+
+-- whether it has failed
+abbrev pub of_std_failed : {X : Type 0} → OfStd X → Bool
+of_std_failed s = s.failed

@@ -1,0 +1,250 @@
+-- A line read from left to right. What this finds is what is spelled, which laws say.
+use Rattle.std.specs.Prelude.{ℕ, ◌^◌, Bool, true, false, ◌&&◌, nat_lt, nat_le, ◌==◌, List, [], ◌∷◌, Option, Some, None, codes, decimal, if◌then◌else◌}
+use Rattle.std.specs.Borrow.{Bor}
+use Rattle.std.specs.List.{slice_split}
+use Rattle.std.specs.Str.{bytes_eq}
+use Rattle.std.specs.Str.Parse.{digits_value}
+use Rattle.spin_world_core.specs.declared.schedule.Move.{Move}
+use Rattle.spin_world_core.specs.declared.schedule.Move.TheVariants.{Begin, Step, Weak, Read, Write, Leak, OwnerGet, OwnerSet}
+use Rattle.spin_step.specs.Readers.{reader_limit}
+use Rattle.spin_step.specs.Starvers.{most_starvers}
+use Rattle.spin_world_flag.specs.declared.flag.FlagCall.{FlagCall}
+use Rattle.spin_world_flag.specs.declared.flag.FlagCall.TheVariants as flag
+use Rattle.spin_world_ticket.specs.declared.ticket.TicketCall.{TicketCall}
+use Rattle.spin_world_ticket.specs.declared.ticket.TicketCall.TheVariants as ticket
+use Rattle.spin_world_rw.specs.declared.rw.RwCall.{RwCall}
+use Rattle.spin_world_rw.specs.declared.rw.RwCall.TheVariants as rw
+use Rattle.spin_world_fair.specs.declared.fair.FairCall.{FairCall}
+use Rattle.spin_world_fair.specs.declared.fair.FairCall.TheVariants as fair
+use Rattle.spin_world_barrier.specs.declared.barrier.BarrierCall.{BarrierCall}
+use Rattle.spin_world_barrier.specs.declared.barrier.BarrierCall.TheVariants as barrier
+use Rattle.spin_world_once.specs.declared.once.OnceCall.{OnceCall}
+use Rattle.spin_world_once.specs.declared.once.OnceCall.TheVariants as once
+use Rattle.spin_text.specs.declared.header.Header.{Header}
+use Rattle.spin_text.specs.declared.header.Header.TheVariants.{Flag, Ticket, Rw, Fair, Barrier, Once}
+use Rattle.spin_text.specs.Lines.{words_of, words_by_line}
+
+infixl 10 ◌>>=◌
+abbrev pub ◌>>=◌ : {A B : Type 0} → Option A → (A → Option B) → Option B
+None >>= f = None
+(Some x) >>= f = f x
+
+-- what is left of a line: None where no word is
+abbrev pub words_left : Option (Bor (List ℕ)) → List (List ℕ)
+words_left None = []
+words_left (Some bytes) = words_of bytes.now
+
+-- what is left of bytes: None where no line is
+abbrev pub lines_left : Option (Bor (List ℕ)) → List (List (List ℕ))
+lines_left None = []
+lines_left (Some bytes) = words_by_line bytes.now
+
+abbrev pub is_end : List (List ℕ) → Bool
+is_end [] = true
+is_end (w ∷ ws) = false
+
+-- the word is what some number of 64 bits prints as
+unfoldable pub read_number : List ℕ → Option ℕ
+read_number w =
+    let n = digits_value 10 w in
+    if bytes_eq w (decimal n) && nat_lt n (2 ^ 64) then Some n else None
+
+-- one word, and those behind it
+abbrev pub word_at : List (List ℕ) → Option (List ℕ × List (List ℕ))
+word_at [] = None
+word_at (w ∷ ws) = Some (w, ws)
+
+unfoldable pub number_at : List (List ℕ) → Option (ℕ × List (List ℕ))
+number_at ws = do
+  w ← word_at ws
+  n ← read_number w.0
+  Some (n, w.1)
+
+-- the rest of a line
+
+unfoldable pub last_word : List (List ℕ) → Option (List ℕ)
+last_word ws = do
+  w ← word_at ws
+  if is_end w.1 then Some w.0 else None
+
+unfoldable pub last_number : List (List ℕ) → Option ℕ
+last_number ws = do
+  w ← last_word ws
+  read_number w
+
+unfoldable pub last_parties : List (List ℕ) → Option ℕ
+last_parties ws = do
+  n ← last_number ws
+  if nat_le 1 n && nat_le n 1000 then Some n else None
+
+-- a number within these limits, and the words behind it
+unfoldable pub number_within : ℕ → ℕ → List (List ℕ) → Option (ℕ × List (List ℕ))
+number_within least most ws = do
+  n ← number_at ws
+  if nat_le least n.0 && nat_le n.0 most then Some n else None
+
+unfoldable pub owner_move : {C : Type 0} → List (List ℕ) → Option (Move C ℕ)
+owner_move ws = do
+  w ← word_at ws
+  if bytes_eq w.0 (codes "set") then (last_number w.1 >>= λ v. Some (OwnerSet v))
+      else if bytes_eq w.0 (codes "get") && is_end w.1 then Some OwnerGet else None
+
+unfoldable pub plain_move : {C : Type 0} → List ℕ → Option (Move C ℕ)
+plain_move w =
+    if bytes_eq w (codes "step") then Some Step
+    else if bytes_eq w (codes "weak") then Some Weak
+    else if bytes_eq w (codes "read") then Some Read
+    else if bytes_eq w (codes "leak") then Some Leak else None
+
+unfoldable pub read_move : {C : Type 0} → (List (List ℕ) → Option C) → List (List ℕ) → Option (Move C ℕ)
+read_move call ws = do
+  w ← word_at ws
+  if bytes_eq w.0 (codes "begin") then (call w.1 >>= λ c. Some (Begin c))
+      else if bytes_eq w.0 (codes "write") then (last_number w.1 >>= λ v. Some (Write v))
+      else if bytes_eq w.0 (codes "owner") then owner_move w.1
+      else if is_end w.1 then plain_move w.0 else None
+
+unfoldable pub read_entry : {C : Type 0} → (List (List ℕ) → Option C) → List (List ℕ) → Option (ℕ × Move C ℕ)
+read_entry call ws = do
+  party ← number_at ws
+  move ← read_move call party.1
+  Some (party.0, move)
+
+-- the rows
+
+unfoldable pub read_flag_call : List (List ℕ) → Option FlagCall
+read_flag_call ws = do
+  w ← last_word ws
+  if bytes_eq w (codes "lock") then Some flag.Lock
+      else if bytes_eq w (codes "try_lock") then Some flag.TryLock
+      else if bytes_eq w (codes "try_lock_weak") then Some flag.TryLockWeak
+      else if bytes_eq w (codes "is_locked") then Some flag.IsLocked
+      else if bytes_eq w (codes "release") then Some flag.Release else None
+
+unfoldable pub read_ticket_call : List (List ℕ) → Option TicketCall
+read_ticket_call ws = do
+  w ← last_word ws
+  if bytes_eq w (codes "lock") then Some ticket.Lock
+      else if bytes_eq w (codes "try_lock") then Some ticket.TryLock
+      else if bytes_eq w (codes "is_locked") then Some ticket.IsLocked
+      else if bytes_eq w (codes "release") then Some ticket.Release else None
+
+unfoldable pub read_rw_call : List (List ℕ) → Option RwCall
+read_rw_call ws = do
+  w ← last_word ws
+  if bytes_eq w (codes "try_read") then Some rw.TryRead
+      else if bytes_eq w (codes "read") then Some rw.Read
+      else if bytes_eq w (codes "try_upgradeable_read") then Some rw.TryUpgradeableRead
+      else if bytes_eq w (codes "upgradeable_read") then Some rw.UpgradeableRead
+      else if bytes_eq w (codes "try_write") then Some rw.TryWrite
+      else if bytes_eq w (codes "try_write_weak") then Some rw.TryWriteWeak
+      else if bytes_eq w (codes "write") then Some rw.Write
+      else if bytes_eq w (codes "reader_count") then Some rw.ReaderCount
+      else if bytes_eq w (codes "writer_count") then Some rw.WriterCount
+      else if bytes_eq w (codes "try_upgrade") then Some rw.TryUpgrade
+      else if bytes_eq w (codes "try_upgrade_weak") then Some rw.TryUpgradeWeak
+      else if bytes_eq w (codes "upgrade") then Some rw.Upgrade
+      else if bytes_eq w (codes "downgrade") then Some rw.Downgrade
+      else if bytes_eq w (codes "downgrade_to_upgradeable") then Some rw.DowngradeToUpgradeable
+      else if bytes_eq w (codes "release") then Some rw.Release else None
+
+unfoldable pub read_fair_call : List (List ℕ) → Option FairCall
+read_fair_call ws = do
+  w ← last_word ws
+  if bytes_eq w (codes "lock") then Some fair.Lock
+      else if bytes_eq w (codes "try_lock") then Some fair.TryLock
+      else if bytes_eq w (codes "try_lock_starver") then Some fair.TryLockStarver
+      else if bytes_eq w (codes "is_locked") then Some fair.IsLocked
+      else if bytes_eq w (codes "starve") then Some fair.Starve
+      else if bytes_eq w (codes "starver_try_lock_fair") then Some fair.StarverTryLockFair
+      else if bytes_eq w (codes "starver_try_lock") then Some fair.StarverTryLock
+      else if bytes_eq w (codes "starver_lock") then Some fair.StarverLock
+      else if bytes_eq w (codes "starver_drop") then Some fair.StarverDrop
+      else if bytes_eq w (codes "release") then Some fair.Release else None
+
+unfoldable pub read_barrier_call : List (List ℕ) → Option BarrierCall
+read_barrier_call ws = do
+  w ← last_word ws
+  if bytes_eq w (codes "wait") then Some barrier.Wait else None
+
+-- a call that may fail, behind its name
+unfoldable pub read_try_call_once : List (List ℕ) → Option (OnceCall ℕ)
+read_try_call_once ws = do
+  w ← word_at ws
+  if bytes_eq w.0 (codes "ok") then (last_number w.1 >>= λ v. Some (once.TryCallOnceOk v))
+      else if bytes_eq w.0 (codes "err") && is_end w.1 then Some once.TryCallOnceErr else None
+
+-- a call without a closure
+unfoldable pub plain_once_call : List ℕ → Option (OnceCall ℕ)
+plain_once_call w =
+    if bytes_eq w (codes "wait") then Some once.Wait
+    else if bytes_eq w (codes "poll") then Some once.Poll
+    else if bytes_eq w (codes "get") then Some once.Get
+    else if bytes_eq w (codes "is_completed") then Some once.IsCompleted else None
+
+unfoldable pub read_once_call : List (List ℕ) → Option (OnceCall ℕ)
+read_once_call ws = do
+  w ← word_at ws
+  if bytes_eq w.0 (codes "call_once") then (last_number w.1 >>= λ v. Some (once.CallOnce v))
+      else if bytes_eq w.0 (codes "try_call_once") then read_try_call_once w.1
+      else if bytes_eq w.0 (codes "init_from_ref") then (last_number w.1 >>= λ v. Some (once.InitFromRef v))
+      else if is_end w.1 then plain_once_call w.0 else None
+
+unfoldable pub read_flag_header : List (List ℕ) → Option Header
+read_flag_header ws = do
+  value ← number_at ws
+  parties ← last_parties value.1
+  Some (Flag value.0 parties)
+
+unfoldable pub read_ticket_header : List (List ℕ) → Option Header
+read_ticket_header ws = do
+  value ← number_at ws
+  first ← number_at value.1
+  parties ← last_parties first.1
+  Some (Ticket value.0 first.0 parties)
+
+unfoldable pub read_rw_header : List (List ℕ) → Option Header
+read_rw_header ws = do
+  value ← number_at ws
+  cap ← number_within 1 reader_limit value.1
+  parties ← last_parties cap.1
+  Some (Rw value.0 cap.0 parties)
+
+unfoldable pub read_fair_header : List (List ℕ) → Option Header
+read_fair_header ws = do
+  value ← number_at ws
+  cap ← number_within 1 most_starvers value.1
+  spins ← number_within 0 1024 cap.1
+  parties ← last_parties spins.1
+  Some (Fair value.0 cap.0 spins.0 parties)
+
+unfoldable pub read_barrier_header : List (List ℕ) → Option Header
+read_barrier_header ws = do
+  n ← number_at ws
+  parties ← last_parties n.1
+  Some (Barrier n.0 parties)
+
+unfoldable pub read_once_header : List (List ℕ) → Option Header
+read_once_header ws = do
+  parties ← last_parties ws
+  Some (Once parties)
+
+unfoldable pub read_header : List (List ℕ) → Option Header
+read_header ws = do
+  w ← word_at ws
+  if bytes_eq w.0 (codes "flag") then read_flag_header w.1
+      else if bytes_eq w.0 (codes "ticket") then read_ticket_header w.1
+      else if bytes_eq w.0 (codes "rw") then read_rw_header w.1
+      else if bytes_eq w.0 (codes "fair") then read_fair_header w.1
+      else if bytes_eq w.0 (codes "barrier") then read_barrier_header w.1
+      else if bytes_eq w.0 (codes "once") then read_once_header w.1 else None
+
+-- what is left behind a separator: None where there was none
+abbrev pub parts_left : ℕ → Option (Bor (List ℕ)) → List (List ℕ)
+parts_left separator None = []
+parts_left separator (Some bytes) = slice_split (λ b. b == separator) bytes.now
+
+-- one number or two
+abbrev pub numbers_of : ℕ × Option ℕ → List ℕ
+numbers_of (n, None) = n ∷ []
+numbers_of (n, Some m) = n ∷ m ∷ []

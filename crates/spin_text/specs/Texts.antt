@@ -1,0 +1,108 @@
+-- Which bytes are the text of a schedule, which line of others is the first bad one, and what is written.
+use Rattle.std.specs.Prelude.{◌≡◌, ℕ, ◌+◌, ◌-◌, ◌<◌, ◌≤◌, Bool, true, List, ◌∷◌, length, map, take, Option, None}
+use Rattle.std.specs.Io.KnownBytes.{Appends, Consumes, IsAtEnd}
+use Rattle.spin_world_core.specs.declared.answer.Answer.{Answer}
+use Rattle.spin_world_core.specs.declared.schedule.Move.{Move}
+use Rattle.spin_world_core.specs.Machines.{Machine}
+use Rattle.spin_world_flag.specs.Flag.{flag_machine}
+use Rattle.spin_world_ticket.specs.Ticket.{ticket_machine}
+use Rattle.spin_world_rw.specs.Rw.{rw_machine}
+use Rattle.spin_world_fair.specs.Fair.{fair_machine}
+use Rattle.spin_world_barrier.specs.Barrier.{barrier_machine}
+use Rattle.spin_world_once.specs.Once.{once_machine}
+use Rattle.spin_text.specs.declared.header.Header.{Header}
+use Rattle.spin_text.specs.declared.header.Header.TheVariants.{Flag, Ticket, Rw, Fair, Barrier, Once}
+use Rattle.spin_text.specs.declared.text.RunError.{RunError}
+use Rattle.spin_text.specs.declared.text.RunError.TheVariants as errors
+use Rattle.spin_text.specs.Ends.{AppendsBeginning}
+use Rattle.spin_text.specs.Lines.{words_by_line}
+use Rattle.spin_text.specs.Spelling.{Calls, entry_words, EntriesFit}
+use Rattle.spin_text.specs.Objects.{CallOf, calls_of, header_words, HeaderFits}
+use Rattle.spin_text.specs.Transcripts.{transcript_text}
+
+-- what a text says: a header with its entries
+pub record Script : Type 0 where
+  pub header : Header
+  pub entries : List (ℕ × Move (CallOf header) ℕ)
+
+-- its words, line by line
+abbrev pub script_words : Script → List (List (List ℕ))
+script_words s = header_words s.header ∷ map (entry_words (calls_of s.header)) s.entries
+
+-- its numbers are within their limits
+abbrev pub ScriptFits : Script → Type 0
+ScriptFits s = HeaderFits s.header × EntriesFit (calls_of s.header) s.entries
+
+-- the bytes are a text of it
+pub record Spells (bytes : List ℕ) (s : Script) : Type 0 where
+  pub fits : ScriptFits s
+  pub words : words_by_line bytes ≡ script_words s
+
+-- lines that are a script's
+abbrev pub AreOfScript : List (List (List ℕ)) → Type 0
+AreOfScript lines = (s : Script) × ScriptFits s × (lines ≡ script_words s)
+
+-- line n, counted from 1, is the first outside the grammar: the lines before it are a script's, and with it they are no script's
+pub record IsFirstBad (lines : List (List (List ℕ))) (n : ℕ) : Type 0 where
+  pub there : (1 ≤ n) × (n ≤ length lines)
+  pub before : 1 < n → AreOfScript (take (n - 1) lines)
+  pub bad : ¬ AreOfScript (take n lines)
+
+-- what is written of it
+abbrev pub played : (h : Header) → List (ℕ × Move (CallOf h) ℕ) → List ℕ
+played (Flag value parties) entries = transcript_text (flag_machine value) parties entries
+played (Ticket value first parties) entries = transcript_text (ticket_machine value first) parties entries
+played (Rw value cap parties) entries = transcript_text (rw_machine value cap) parties entries
+-- the patience of a lock of so many spins is one look more
+played (Fair value cap spins parties) entries = transcript_text (fair_machine value cap (spins + 1)) parties entries
+played (Barrier n parties) entries = transcript_text (barrier_machine n) parties entries
+played (Once parties) entries = transcript_text (once_machine None) parties entries
+
+-- the source gave these bytes, and is at its end
+pub record ReadsAll (old new : Option (List ℕ)) (bytes : List ℕ) : Type 0 where
+  pub gave : Consumes old new bytes
+  pub whole : IsAtEnd new
+
+-- what the source and the sink show before and after
+pub record Streams : Type 0 where
+  pub left : Option (List ℕ)
+  pub left_after : Option (List ℕ)
+  pub source_failed : Bool
+  pub written : Option (List ℕ)
+  pub written_after : Option (List ℕ)
+  pub sink_failed : Bool
+
+-- the text is what the bytes come to
+abbrev pub PlaysBytes : List ℕ → List ℕ → Type 0
+PlaysBytes bytes text = (s : Script) × Spells bytes s × (text ≡ played s.header s.entries)
+
+-- the text of what was read to its end was written
+abbrev pub Plays : Streams → Type 0
+Plays t =
+    (bytes : List ℕ) × (text : List ℕ) × ReadsAll t.left t.left_after bytes × PlaysBytes bytes text × Appends t.written t.written_after text
+
+-- why nothing was written, or at a failed write no more than a beginning of the text
+abbrev pub Stops : Streams → Type 0 → RunError → Type 0
+Stops t Unwritten errors.Read = (t.source_failed ≡ true) × Unwritten
+Stops t Unwritten errors.Memory = Unwritten
+Stops t Unwritten (errors.BadLine n) = ((bytes : List ℕ) × ReadsAll t.left t.left_after bytes × IsFirstBad (words_by_line bytes) n) × Unwritten
+Stops t Unwritten errors.Write =
+    (t.sink_failed ≡ true)
+    × ((bytes : List ℕ) × (text : List ℕ) × ReadsAll t.left t.left_after bytes × PlaysBytes bytes text × AppendsBeginning t.written t.written_after text)
+
+-- the same, of the parts of a call
+
+abbrev pub StopsReading : Bool → RunError → Type 0
+StopsReading failed errors.Read = failed ≡ true
+StopsReading failed errors.Memory = Unit {0}
+StopsReading failed _ = ⊥
+
+abbrev pub StopsPlaying : List ℕ → RunError → Type 0
+StopsPlaying bytes (errors.BadLine n) = IsFirstBad (words_by_line bytes) n
+StopsPlaying bytes errors.Memory = Unit {0}
+StopsPlaying bytes _ = ⊥
+
+-- the text is what the entries that the lines spell come to
+abbrev pub PlaysLines : {W C L : Type 0} → Calls C → Machine W ℕ C L (Answer ℕ) → ℕ → List (List (List ℕ)) → List ℕ → Type 0
+PlaysLines {C = C} calls m parties lines text =
+    (es : List (ℕ × Move C ℕ)) × EntriesFit calls es × (lines ≡ map (entry_words calls) es) × (text ≡ transcript_text m parties es)

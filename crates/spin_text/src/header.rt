@@ -1,0 +1,172 @@
+//! The first line: which object, and how many parties.
+ghost use Rattle.std.specs.Prelude.{◌≡◌, option_map};
+ghost use Rattle.spin_text.specs.Lines.{words_of};
+ghost use Rattle.spin_text.specs.Reading.{words_left, last_parties, number_within, read_flag_header, read_ticket_header, read_rw_header, read_fair_header, read_barrier_header, read_once_header, read_header};
+
+use crate::words::{Rest, number_then, only_number, word};
+
+/// The object with what it begins from, and how many parties share it.
+#[derive(Clone, Copy, Debug, PartialEq, Eq)]
+pub enum Header {
+    Flag {
+        value: u64,
+        parties: usize,
+    },
+    Ticket {
+        value: u64,
+        first: u64,
+        parties: usize,
+    },
+    Rw {
+        value: u64,
+        cap: usize,
+        parties: usize,
+    },
+    Fair {
+        value: u64,
+        cap: usize,
+        spins: usize,
+        parties: usize,
+    },
+    Barrier {
+        n: usize,
+        parties: usize,
+    },
+    Once {
+        parties: usize,
+    },
+}
+
+/// The most parties that a text may name.
+const MOST_PARTIES: u64 = 1000;
+
+/// The largest cap on readers: 2^61 - 1.
+const MOST_READERS: u64 = 2_305_843_009_213_693_951;
+
+/// The largest cap on starvers: 2^62 - 1.
+const MOST_STARVERS: u64 = 4_611_686_018_427_387_903;
+
+/// The most looks that the lock of a `Fair` may make before it registers.
+const MOST_SPINS: u64 = 1024;
+
+/// A number from `least` to `most`, and the words behind it.
+#[tactic(auto, unfolding(crate::specs::Reading::number_within))]
+fn within(line: Rest, least: u64, most: u64) -> Option<(usize, Rest)>
+    ensures { option_map (λ x. (x.0, words_left x.1)) result ≡ number_within least most (words_left line.entry) }
+{
+    let (number, line) = number_then(line)?;
+    if (least..=most).contains(&number) {
+        Some((number as usize, line))
+    } else {
+        None
+    }
+}
+
+/// The number of parties, which stands last.
+#[tactic(auto, unfolding(crate::specs::Reading::last_parties))]
+fn parties(line: Rest) -> Option<usize>
+    ensures { result ≡ last_parties (words_left line.entry) }
+{
+    let parties = only_number(line)?;
+    if (1..=MOST_PARTIES).contains(&parties) {
+        Some(parties as usize)
+    } else {
+        None
+    }
+}
+
+#[tactic(auto, unfolding(crate::specs::Reading::read_flag_header))]
+fn flag(line: Rest) -> Option<Header>
+    ensures { result ≡ read_flag_header (words_left line.entry) }
+{
+    let (value, line) = number_then(line)?;
+    let parties = parties(line)?;
+    Some(Header::Flag { value, parties })
+}
+
+#[tactic(auto, unfolding(crate::specs::Reading::read_ticket_header))]
+fn ticket(line: Rest) -> Option<Header>
+    ensures { result ≡ read_ticket_header (words_left line.entry) }
+{
+    let (value, line) = number_then(line)?;
+    let (first, line) = number_then(line)?;
+    let parties = parties(line)?;
+    Some(Header::Ticket {
+        value,
+        first,
+        parties,
+    })
+}
+
+#[tactic(auto, unfolding(crate::specs::Reading::read_rw_header))]
+fn rw(line: Rest) -> Option<Header>
+    ensures { result ≡ read_rw_header (words_left line.entry) }
+{
+    let (value, line) = number_then(line)?;
+    let (cap, line) = within(line, 1, MOST_READERS)?;
+    let parties = parties(line)?;
+    Some(Header::Rw {
+        value,
+        cap,
+        parties,
+    })
+}
+
+#[tactic(auto, unfolding(crate::specs::Reading::read_fair_header))]
+fn fair(line: Rest) -> Option<Header>
+    ensures { result ≡ read_fair_header (words_left line.entry) }
+{
+    let (value, line) = number_then(line)?;
+    let (cap, line) = within(line, 1, MOST_STARVERS)?;
+    let (spins, line) = within(line, 0, MOST_SPINS)?;
+    let parties = parties(line)?;
+    Some(Header::Fair {
+        value,
+        cap,
+        spins,
+        parties,
+    })
+}
+
+#[tactic(auto, unfolding(crate::specs::Reading::read_barrier_header))]
+fn barrier(line: Rest) -> Option<Header>
+    ensures { result ≡ read_barrier_header (words_left line.entry) }
+{
+    let (n, line) = number_then(line)?;
+    let parties = parties(line)?;
+    Some(Header::Barrier {
+        n: n as usize,
+        parties,
+    })
+}
+
+#[tactic(auto, unfolding(crate::specs::Reading::read_once_header))]
+fn once(line: Rest) -> Option<Header>
+    ensures { result ≡ read_once_header (words_left line.entry) }
+{
+    let parties = parties(line)?;
+    Some(Header::Once { parties })
+}
+
+/// The header that a line spells.
+#[tactic(auto, unfolding(crate::specs::Reading::read_header))]
+pub fn header_of(line: &[u8]) -> Option<Header>
+    ensures { result ≡ read_header (words_of line.now) }
+{
+    let (name, line) = word(Some(line))?;
+    if name == b"flag".as_slice() {
+        flag(line)
+    } else if name == b"ticket".as_slice() {
+        ticket(line)
+    } else if name == b"rw".as_slice() {
+        rw(line)
+    } else if name == b"fair".as_slice() {
+        fair(line)
+    } else if name == b"barrier".as_slice() {
+        barrier(line)
+    } else if name == b"once".as_slice() {
+        once(line)
+    } else {
+        None
+    }
+}

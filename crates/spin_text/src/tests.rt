@@ -1,0 +1,278 @@
+//! What no contract says: worked texts byte for byte, lines that are in the grammar and lines that are not, and ends that fail.
+ghost use Rattle.std.specs.Prelude.{◌≡◌, Some, None, false};
+
+mod lines;
+mod transcripts;
+
+use self::lines::{OUTSIDE, WITHIN};
+use self::transcripts::WORKED;
+use super::{Failed, OfStd, RunError, Sink, Source, world_text};
+use std::alloc::Global;
+use std::cell::Cell;
+use std::io;
+use std::process::Abort;
+
+/// Bytes that are read at most `step` at a time. Where `fails`, a read fails once they are used up.
+#[derive(Drop)]
+struct Tape<'a> {
+    rest: &'a [u8],
+    step: usize,
+    fails: bool,
+    failed: bool,
+    /// How often it was read.
+    reads: u64,
+}
+
+impl<'a> Tape<'a> {
+    fn new(text: &'a [u8]) -> Tape<'a>
+        ensures { result.failed ≡ false }
+    {
+        Tape {
+            rest: text,
+            step: usize::MAX,
+            fails: false,
+            failed: false,
+            reads: 0,
+        }
+    }
+}
+
+impl Source for Tape<'_> {
+    ghost remaining = { λ _. None };
+
+    ghost failed = { λ s. s.failed };
+
+    fn read(&mut self, to: &mut [u8]) -> Result<usize, Failed> {
+        self.reads = self.reads.saturating_add(1);
+        let n = self.rest.len().min(self.step).min(to.len());
+        if n == 0 && self.fails {
+            self.failed = true;
+            return Err(Failed);
+        }
+        let (front, rest) = self.rest.split_at(n);
+        to[..n].copy_from_slice(front);
+        self.rest = rest;
+        Ok(n)
+    }
+
+    fn has_failed(&self) -> bool {
+        self.failed
+    }
+}
+
+/// The most bytes that a test writes.
+const ROOM: usize = 600;
+
+/// A sheet that takes no memory of its own. It takes at most `step` bytes at a time, and fails once it holds `room` bytes.
+#[derive(Drop)]
+struct Sheet {
+    bytes: [u8; ROOM],
+    len: usize,
+    step: usize,
+    room: usize,
+    failed: bool,
+    /// How often it was written.
+    writes: u64,
+}
+
+impl Sheet {
+    fn new(step: usize, room: usize) -> Sheet
+        ensures { result.failed ≡ false }
+    {
+        Sheet {
+            bytes: [0; ROOM],
+            len: 0,
+            step,
+            room,
+            failed: false,
+            writes: 0,
+        }
+    }
+
+    fn text(&self) -> &[u8] {
+        self.bytes.get(..self.len).unwrap_or(&[])
+    }
+}
+
+impl Sink for Sheet {
+    ghost written = { λ _. None };
+
+    ghost failed = { λ s. s.failed };
+
+    fn write(&mut self, from: &[u8]) -> Result<usize, Failed> {
+        self.writes = self.writes.saturating_add(1);
+        let left = self.room.min(ROOM).saturating_sub(self.len);
+        let n = from.len().min(self.step).min(left);
+        let end = self.len.saturating_add(n);
+        if n == 0 && !from.is_empty() || end > ROOM {
+            self.failed = true;
+            return Err(Failed);
+        }
+        self.bytes[end - n..end].copy_from_slice(&from[..n]);
+        self.len = end;
+        Ok(n)
+    }
+
+    fn has_failed(&self) -> bool {
+        self.failed
+    }
+}
+
+/// Plays a text, and compares the answer and what was written.
+fn comes_to(
+    rt: &impl Abort,
+    alloc: Global,
+    text: &[u8],
+    answer: Result<(), RunError>,
+    told: &[u8],
+) {
+    let mut output = Sheet::new(usize::MAX, ROOM);
+    assert_eq!(rt;
+        world_text(alloc, &mut Tape::new(text), &mut output),
+        answer,
+        "{text:?}"
+    );
+    assert_eq!(rt; output.text(), told, "{text:?}");
+}
+
+#[test]
+fn worked_texts(rt: HostRuntime) {
+    for (text, told) in WORKED {
+        let text = text.as_bytes();
+        comes_to(&rt, rt.alloc(), text, Ok(()), told.as_bytes());
+        let (without_end, _) = text.split_at(text.len().saturating_sub(1));
+        comes_to(&rt, rt.alloc(), without_end, Ok(()), told.as_bytes());
+    }
+}
+
+#[test]
+fn lines_of_the_grammar(rt: HostRuntime) {
+    for (text, told) in WITHIN {
+        comes_to(&rt, rt.alloc(), text, Ok(()), told);
+    }
+}
+
+#[test]
+fn lines_outside_the_grammar(rt: HostRuntime) {
+    for (text, line) in OUTSIDE {
+        comes_to(&rt, rt.alloc(), text, Err(RunError::BadLine(line)), b"");
+    }
+}
+
+#[test]
+fn reads_in_small_steps(rt: HostRuntime) {
+    for (text, told) in WORKED {
+        for step in 1..9usize {
+            let mut input = Tape {
+                step,
+                ..Tape::new(text.as_bytes())
+            };
+            let mut output = Sheet::new(step, ROOM);
+            assert_eq!(rt; world_text(rt.alloc(), &mut input, &mut output), Ok(()));
+            assert_eq!(rt; output.text(), told.as_bytes());
+        }
+    }
+}
+
+#[test]
+fn tells_a_failed_read(rt: HostRuntime) {
+    let texts: [&[u8]; 4] = [b"", b"flag 5 1", b"x\n", b"flag 5 1\n0 jump\n"];
+    for text in texts {
+        let mut input = Tape {
+            fails: true,
+            ..Tape::new(text)
+        };
+        let mut output = Sheet::new(usize::MAX, ROOM);
+        assert_eq!(rt;
+            world_text(rt.alloc(), &mut input, &mut output),
+            Err(RunError::Read)
+        );
+        assert!(rt; input.has_failed());
+        // No failed read is tried again.
+        assert_eq!(rt; input.reads, if text.is_empty() { 1 } else { 2 });
+        assert_eq!(rt; output.writes, 0);
+    }
+}
+
+#[test]
+fn tells_a_failed_write(rt: HostRuntime) {
+    let told = b"end: 0 value 5\n";
+    for step in [1, 4, usize::MAX] {
+        for room in 0..15usize {
+            let mut output = Sheet::new(step, room);
+            assert_eq!(rt;
+                world_text(rt.alloc(), &mut Tape::new(b"flag 5 1"), &mut output),
+                Err(RunError::Write)
+            );
+            assert!(rt; output.has_failed());
+            assert_eq!(rt; output.text(), &told[..room]);
+        }
+        let mut output = Sheet::new(step, 15);
+        assert_eq!(rt;
+            world_text(rt.alloc(), &mut Tape::new(b"flag 5 1"), &mut output),
+            Ok(())
+        );
+        assert_eq!(rt; output.text(), told.as_slice());
+    }
+}
+
+/// With each allocation refused in turn this answers want of memory, and then nothing was written. Nothing here takes
+/// memory but the call, so `rt try --test --fail-alloc N` refuses its Nth.
+#[test]
+fn tells_refused_memory(rt: HostRuntime) {
+    for (text, told) in WORKED {
+        let mut output = Sheet::new(usize::MAX, ROOM);
+        let answer = world_text(rt.alloc(), &mut Tape::new(text.as_bytes()), &mut output);
+        if answer == Err(RunError::Memory) {
+            assert_eq!(rt; output.writes, 0);
+        } else {
+            assert_eq!(rt; answer, Ok(()));
+            assert_eq!(rt; output.text(), told.as_bytes());
+        }
+    }
+}
+
+/// A writer of std's that takes nothing, or fails, behind the first bytes. It counts its calls.
+#[derive(Drop)]
+struct Stuck<'a> {
+    room: usize,
+    fails: bool,
+    calls: &'a Cell<usize>,
+}
+
+impl io::Write for Stuck<'_> {
+    fn write(&mut self, from: &[u8]) -> io::Result<usize> {
+        self.calls.set(self.calls.get().saturating_add(1));
+        let n = from.len().min(self.room);
+        self.room -= n;
+        if n == 0 && self.fails {
+            return Err(io::Error::from(io::ErrorKind::Interrupted));
+        }
+        Ok(n)
+    }
+
+    fn flush(&mut self) -> io::Result<()> {
+        Ok(())
+    }
+}
+
+#[test]
+fn ends_of_std(rt: HostRuntime) {
+    for fails in [false, true] {
+        for room in 0..15usize {
+            let calls = Cell::new(0);
+            let mut output = OfStd::new(Stuck {
+                room,
+                fails,
+                calls: &calls,
+            });
+            let mut input = OfStd::new(b"flag 5 1\n".as_slice());
+            assert_eq!(rt;
+                world_text(rt.alloc(), &mut input, &mut output),
+                Err(RunError::Write)
+            );
+            assert!(rt; output.has_failed() && !input.has_failed());
+            assert_eq!(rt; calls.get(), if room == 0 { 1 } else { 2 });
+        }
+    }
+}

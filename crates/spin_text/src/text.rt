@@ -1,0 +1,193 @@
+//! A whole text: read, checked, played, and the transcript's text written.
+ghost use Rattle.std.specs.Prelude.{string_bytes, ◌≡◌, ◌<◌, false, length, OnOk, IfOk, IfErr};
+ghost use Rattle.spin_text.specs.Reading.{lines_left};
+ghost use Rattle.spin_text.specs.Readable.{StopsEntries};
+ghost use Rattle.spin_text.specs.Texts.{ReadsAll, Plays, Stops, StopsReading, StopsPlaying, PlaysBytes, PlaysLines};
+
+use crate::ends::{Sink, Source, write_whole};
+use crate::entries::entries;
+use crate::header::{Header, header_of};
+use crate::objects::Spelled;
+use crate::transcript::transcript;
+use crate::words::{Rest, first_line};
+use spin_world::{BarrierObject, Fair, Flag, OnceObject, Rw, Ticket};
+use std::alloc::{AllocError, AllocFailed, Global};
+
+/// Why a text was not played to its end.
+#[derive(Clone, Copy, Debug, PartialEq, Eq, Drop)]
+pub enum RunError {
+    /// A read failed.
+    Read,
+    /// Memory was refused.
+    Memory,
+    /// This line, counted from 1, is the first that is no line of a schedule. Where there are no bytes it is line 1.
+    BadLine(usize),
+    /// A write failed. A beginning of the text may be out.
+    Write,
+}
+
+impl From<AllocError> for RunError {
+    ghost use Rattle.spin_text.specs.declared.text.RunError.TheVariants.{Memory};
+
+    ghost from_gives = { λ _ e. e ≡ Memory };
+
+    fn from(_refused: AllocError) -> RunError {
+        RunError::Memory
+    }
+}
+
+impl<T: Drop> From<AllocFailed<T>> for RunError {
+    ghost use Rattle.spin_text.specs.declared.text.RunError.TheVariants.{Memory};
+
+    ghost from_gives = { λ _ e. e ≡ Memory };
+
+    fn from(_refused: AllocFailed<T>) -> RunError {
+        RunError::Memory
+    }
+}
+
+/// How many bytes one read asks for.
+const CHUNK: usize = 65_536;
+
+/// A buffer of so many bytes.
+fn buffer(alloc: Global, size: usize) -> Result<Vec<u8>, AllocError>
+    ensures { IfOk result (λ bytes. length bytes.items ≡ size) }
+{
+    vec![in alloc; 0u8; size]
+}
+
+/// All that a source has, by reads of a chunk each.
+fn read_by<I: Source>(alloc: Global, input: &mut I, chunk: &mut [u8]) -> Result<Vec<u8>, RunError>
+    requires { 0 < length chunk.old }
+    ensures bytes { IfOk result (λ bytes. ReadsAll (I.remaining input.old) (I.remaining input.new) bytes.items) }
+    ensures ok { OnOk result (I.failed input.new ≡ I.failed input.old) }
+    ensures stops { IfErr result (StopsReading (I.failed input.new)) }
+{
+    let mut bytes = Vec::new(alloc);
+    loop {
+        let Ok(n) = input.read(chunk) else {
+            return Err(RunError::Read);
+        };
+        if n == 0 {
+            return Ok(bytes);
+        }
+        bytes.extend_from_slice(&chunk[..n])?;
+    }
+}
+
+/// All that a source has.
+fn read_all<I: Source>(alloc: Global, input: &mut I) -> Result<Vec<u8>, RunError>
+    ensures bytes { IfOk result (λ bytes. ReadsAll (I.remaining input.old) (I.remaining input.new) bytes.items) }
+    ensures ok { OnOk result (I.failed input.new ≡ I.failed input.old) }
+    ensures stops { IfErr result (StopsReading (I.failed input.new)) }
+{
+    let mut chunk = buffer(alloc, CHUNK)?;
+    read_by(alloc, input, &mut chunk)
+}
+
+/// The text of what the lines behind the header come to.
+fn play_lines<O: Spelled>(
+    alloc: Global,
+    object: O,
+    parties: usize,
+    lines: Rest,
+) -> Result<String, RunError>
+    ensures ok { IfOk result (λ text. PlaysLines O.calls (O.machine object) parties (lines_left lines.entry) (string_bytes text)) }
+    ensures stops { IfErr result (StopsEntries O.calls O.read (lines_left lines.entry)) }
+{
+    let schedule = entries::<O>(alloc, lines)?;
+    Ok(transcript(alloc, object, parties, schedule)?)
+}
+
+/// The text of what bytes come to.
+fn play(alloc: Global, bytes: &[u8]) -> Result<String, RunError>
+    ensures ok { IfOk result (λ text. PlaysBytes bytes.now (string_bytes text)) }
+    ensures stops { IfErr result (StopsPlaying bytes.now) }
+{
+    let (line, lines) = first_line(bytes);
+    match header_of(line) {
+        None => Err(RunError::BadLine(1)),
+        Some(Header::Flag { value, parties }) => {
+            play_lines(alloc, Flag::new(value), parties, lines)
+        }
+        Some(
+            Header::Ticket {
+                value,
+                first,
+                parties,
+            },
+        ) => play_lines(alloc, Ticket::new(value, first), parties, lines),
+        Some(
+            Header::Rw {
+                value,
+                cap,
+                parties,
+            },
+        ) => play_lines(alloc, Rw::new(value, cap), parties, lines),
+        Some(
+            Header::Fair {
+                value,
+                cap,
+                spins,
+                parties,
+            },
+        ) => play_lines(alloc, Fair::new(value, cap, spins), parties, lines),
+        Some(Header::Barrier { n, parties }) => {
+            play_lines(alloc, BarrierObject::new(n), parties, lines)
+        }
+        Some(Header::Once { parties }) => play_lines(alloc, OnceObject::new(), parties, lines),
+    }
+}
+
+/// Reads a text to its end, plays its schedule in a world of its own, and writes the text of what that comes to.
+///
+/// The first line is one of these, with 1 to 1000 parties:
+///
+/// - `flag VALUE PARTIES`
+/// - `ticket VALUE FIRST PARTIES`
+/// - `rw VALUE CAP PARTIES`, with a cap from 1 to 2^61 - 1
+/// - `fair VALUE CAP SPINS PARTIES`, with a cap from 1 to 2^62 - 1 and up to 1024 spins
+/// - `once PARTIES`, which has no value at first
+/// - `barrier N PARTIES`
+///
+/// Each further line is `PARTY MOVE`: `begin CALL`, `step`, `weak`, `read`, `write VALUE`, `leak`, `owner get` or
+/// `owner set VALUE`. A call is spelled as its variant in snake case; what a closure gives is behind that:
+/// `call_once VALUE`, `init_from_ref VALUE`, `try_call_once ok VALUE`, `try_call_once err`.
+///
+/// Lines end at a line feed, which the last may lack; one space stands between two words; numbers are decimal digits
+/// without a sign and without leading zeros, up to `u64::MAX`. A party past the parties is no bad line: its moves are
+/// passed over.
+///
+/// All lines are read and checked before the world runs, and the whole text is made before the first write. So only
+/// after a failed write anything is out of a call that answers an `Err`, and then a beginning of the text.
+pub fn world_text<I: Source, O: Sink>(
+    alloc: Global,
+    input: &mut I,
+    output: &mut O,
+) -> Result<(), RunError>
+    requires input { I.failed input.old ≡ false }
+    requires output { O.failed output.old ≡ false }
+    ensures input { OnOk result (I.failed input.new ≡ false) }
+    ensures output { OnOk result (O.failed output.new ≡ false) }
+    ensures plays { OnOk result (Plays (record {
+      left = I.remaining input.old;
+      left_after = I.remaining input.new;
+      source_failed = I.failed input.new;
+      written = O.written output.old;
+      written_after = O.written output.new;
+      sink_failed = O.failed output.new;
+    })) }
+    ensures stops { IfErr result (Stops (record {
+      left = I.remaining input.old;
+      left_after = I.remaining input.new;
+      source_failed = I.failed input.new;
+      written = O.written output.old;
+      written_after = O.written output.new;
+      sink_failed = O.failed output.new;
+    })
+        (output.new ≡ output.old)) }
+{
+    let bytes = read_all(alloc, input)?;
+    let text = play(alloc, &bytes)?;
+    write_whole(output, text.as_bytes()).map_err(|_| RunError::Write)
+}
