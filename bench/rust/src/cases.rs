@@ -2,14 +2,16 @@
 use std::hint::spin_loop;
 use std::sync::atomic::{AtomicU64, Ordering::SeqCst};
 
-use spin::mutex::{Mutex, SpinMutex, TicketMutex};
+use spin::mutex::{FairMutex, Mutex, SpinMutex, TicketMutex};
+use spin::rwlock::RwLock;
+use spin::{Barrier, LazyLock, Once};
 
 use crate::measure::{self, Measured};
 
 /// One lock, or what stands in its place.
 pub trait Case: Default + Sync {
-    /// One call.
-    fn call(&self);
+    /// One call, in the worker of that number.
+    fn call(&self, worker: u64);
 
     /// The number under the lock.
     fn total(&self) -> u64;
@@ -39,7 +41,7 @@ impl Floor {
 }
 
 impl Case for Floor {
-    fn call(&self) {
+    fn call(&self, _worker: u64) {
         if !self.take() {
             self.wait();
         }
@@ -55,7 +57,7 @@ impl Case for Floor {
 macro_rules! spinning {
     ($lock:ty) => {
         impl Case for $lock {
-            fn call(&self) {
+            fn call(&self, _worker: u64) {
                 let mut guard = self.lock();
                 *guard = guard.wrapping_add(1);
             }
@@ -70,16 +72,206 @@ macro_rules! spinning {
 spinning!(SpinMutex<u64>);
 spinning!(Mutex<u64>);
 spinning!(TicketMutex<u64>);
+spinning!(FairMutex<u64>);
+
+/// A lock that is taken by starving, trying once, and letting go.
+#[derive(Default)]
+pub struct Starvers {
+    lock: FairMutex<u64>,
+}
+
+impl Case for Starvers {
+    fn call(&self, _worker: u64) {
+        if let Ok(mut guard) = self.lock.starve().try_lock() {
+            *guard = guard.wrapping_add(1);
+        }
+    }
+
+    fn total(&self) -> u64 {
+        *self.lock.lock()
+    }
+}
+
+impl Case for RwLock<u64> {
+    fn call(&self, _worker: u64) {
+        let mut guard = self.write();
+        *guard = guard.wrapping_add(1);
+    }
+
+    fn total(&self) -> u64 {
+        *self.read()
+    }
+}
+
+/// A lock that everybody only reads.
+#[derive(Default)]
+pub struct Readers {
+    lock: RwLock<u64>,
+}
+
+impl Case for Readers {
+    fn call(&self, _worker: u64) {
+        let _guard = self.lock.read();
+    }
+
+    fn total(&self) -> u64 {
+        *self.lock.read()
+    }
+}
+
+/// A lock that is read by an upgradable reader, who then becomes a reader.
+#[derive(Default)]
+pub struct Upgrades {
+    lock: RwLock<u64>,
+}
+
+impl Case for Upgrades {
+    fn call(&self, _worker: u64) {
+        let _guard = self.lock.upgradeable_read().downgrade();
+    }
+
+    fn total(&self) -> u64 {
+        *self.lock.read()
+    }
+}
+
+/// A lock that the first worker writes and the others read.
+#[derive(Default)]
+pub struct OneWriter {
+    lock: RwLock<u64>,
+}
+
+impl Case for OneWriter {
+    fn call(&self, worker: u64) {
+        if worker == 0 {
+            self.lock.call(worker);
+        } else {
+            let _guard = self.lock.read();
+        }
+    }
+
+    fn total(&self) -> u64 {
+        *self.lock.read()
+    }
+}
 
 impl Case for std::sync::Mutex<u64> {
     #[inline]
-    fn call(&self) {
+    fn call(&self, _worker: u64) {
         let mut guard = self.lock().expect("no call panics");
         *guard = guard.wrapping_add(1);
     }
 
     fn total(&self) -> u64 {
         *self.lock().expect("no call panics")
+    }
+}
+
+/// A `Once` that has its value, and is looked at.
+pub struct Gets {
+    once: Once<u64>,
+}
+
+/// The same, asked with a closure, which does not run.
+pub struct LateCalls {
+    once: Once<u64>,
+}
+
+// A `Once` whose value, 1, is there.
+fn complete() -> Once<u64> {
+    let once = Once::new();
+    once.call_once(|| 1);
+    once
+}
+
+impl Default for Gets {
+    fn default() -> Self {
+        Gets { once: complete() }
+    }
+}
+
+impl Default for LateCalls {
+    fn default() -> Self {
+        LateCalls { once: complete() }
+    }
+}
+
+impl Case for Gets {
+    fn call(&self, _worker: u64) {
+        let _seen = self.once.get();
+    }
+
+    fn total(&self) -> u64 {
+        self.once.get().copied().unwrap_or(0)
+    }
+}
+
+impl Case for LateCalls {
+    fn call(&self, _worker: u64) {
+        let _seen = self.once.call_once(|| 2);
+    }
+
+    fn total(&self) -> u64 {
+        self.once.get().copied().unwrap_or(0)
+    }
+}
+
+/// A `Once` that is made, asked for its value for the first time, and dropped.
+#[derive(Default)]
+pub struct FirstCalls;
+
+impl Case for FirstCalls {
+    fn call(&self, worker: u64) {
+        let once: Once<u64> = Once::new();
+        let _seen = once.call_once(|| worker);
+    }
+
+    fn total(&self) -> u64 {
+        0
+    }
+}
+
+/// A `LazyLock` that has its value, and is asked for it.
+pub struct Forces {
+    lazy: LazyLock<u64>,
+}
+
+impl Default for Forces {
+    fn default() -> Self {
+        let lazy: LazyLock<u64> = LazyLock::new(|| 1);
+        LazyLock::force(&lazy);
+        Forces { lazy }
+    }
+}
+
+impl Case for Forces {
+    fn call(&self, _worker: u64) {
+        let _seen = LazyLock::force(&self.lazy);
+    }
+
+    fn total(&self) -> u64 {
+        0
+    }
+}
+
+/// A barrier whose groups are of one party.
+pub struct Alone {
+    barrier: Barrier,
+}
+
+impl Default for Alone {
+    fn default() -> Self {
+        Alone { barrier: Barrier::new(1) }
+    }
+}
+
+impl Case for Alone {
+    fn call(&self, _worker: u64) {
+        let _result = self.barrier.wait();
+    }
+
+    fn total(&self) -> u64 {
+        0
     }
 }
 
@@ -90,15 +282,37 @@ pub enum Name {
     SpinMutex,
     Mutex,
     TicketMutex,
+    FairMutex,
+    FairStarve,
+    RwRead,
+    RwWrite,
+    RwUpgrade,
+    RwOneWriter,
+    OnceGet,
+    OnceCall,
+    OnceFirst,
+    LazyForce,
+    BarrierAlone,
     StdMutex,
 }
 
 impl Name {
-    pub const ALL: [Name; 5] = [
+    pub const ALL: [Name; 16] = [
         Name::Floor,
         Name::SpinMutex,
         Name::Mutex,
         Name::TicketMutex,
+        Name::FairMutex,
+        Name::FairStarve,
+        Name::RwRead,
+        Name::RwWrite,
+        Name::RwUpgrade,
+        Name::RwOneWriter,
+        Name::OnceGet,
+        Name::OnceCall,
+        Name::OnceFirst,
+        Name::LazyForce,
+        Name::BarrierAlone,
         Name::StdMutex,
     ];
 
@@ -112,8 +326,32 @@ impl Name {
             Name::SpinMutex => "spin_mutex",
             Name::Mutex => "mutex",
             Name::TicketMutex => "ticket_mutex",
+            Name::FairMutex => "fair_mutex",
+            Name::FairStarve => "fair_starve",
+            Name::RwRead => "rw_read",
+            Name::RwWrite => "rw_write",
+            Name::RwUpgrade => "rw_upgrade",
+            Name::RwOneWriter => "rw_one_writer",
+            Name::OnceGet => "once_get",
+            Name::OnceCall => "once_call",
+            Name::OnceFirst => "once_first",
+            Name::LazyForce => "lazy_force",
+            Name::BarrierAlone => "barrier_alone",
             Name::StdMutex => "std_mutex",
         }
+    }
+
+    /// Whether threads do the case beside one another.
+    pub fn has_threads(self) -> bool {
+        !matches!(
+            self,
+            Name::FairStarve
+                | Name::RwUpgrade
+                | Name::OnceCall
+                | Name::OnceFirst
+                | Name::LazyForce
+                | Name::BarrierAlone
+        )
     }
 
     pub fn measure(self, threads: u64) -> Measured {
@@ -122,6 +360,17 @@ impl Name {
             Name::SpinMutex => measure::measure::<SpinMutex<u64>>(threads),
             Name::Mutex => measure::measure::<Mutex<u64>>(threads),
             Name::TicketMutex => measure::measure::<TicketMutex<u64>>(threads),
+            Name::FairMutex => measure::measure::<FairMutex<u64>>(threads),
+            Name::FairStarve => measure::measure::<Starvers>(threads),
+            Name::RwRead => measure::measure::<Readers>(threads),
+            Name::RwWrite => measure::measure::<RwLock<u64>>(threads),
+            Name::RwUpgrade => measure::measure::<Upgrades>(threads),
+            Name::RwOneWriter => measure::measure::<OneWriter>(threads),
+            Name::OnceGet => measure::measure::<Gets>(threads),
+            Name::OnceCall => measure::measure::<LateCalls>(threads),
+            Name::OnceFirst => measure::measure::<FirstCalls>(threads),
+            Name::LazyForce => measure::measure::<Forces>(threads),
+            Name::BarrierAlone => measure::measure::<Alone>(threads),
             Name::StdMutex => measure::measure::<std::sync::Mutex<u64>>(threads),
         }
     }
@@ -133,6 +382,17 @@ impl Name {
             Name::SpinMutex => measure::count::<SpinMutex<u64>>(threads, calls),
             Name::Mutex => measure::count::<Mutex<u64>>(threads, calls),
             Name::TicketMutex => measure::count::<TicketMutex<u64>>(threads, calls),
+            Name::FairMutex => measure::count::<FairMutex<u64>>(threads, calls),
+            Name::FairStarve => measure::count::<Starvers>(threads, calls),
+            Name::RwRead => measure::count::<Readers>(threads, calls),
+            Name::RwWrite => measure::count::<RwLock<u64>>(threads, calls),
+            Name::RwUpgrade => measure::count::<Upgrades>(threads, calls),
+            Name::RwOneWriter => measure::count::<OneWriter>(threads, calls),
+            Name::OnceGet => measure::count::<Gets>(threads, calls),
+            Name::OnceCall => measure::count::<LateCalls>(threads, calls),
+            Name::OnceFirst => measure::count::<FirstCalls>(threads, calls),
+            Name::LazyForce => measure::count::<Forces>(threads, calls),
+            Name::BarrierAlone => measure::count::<Alone>(threads, calls),
             Name::StdMutex => measure::count::<std::sync::Mutex<u64>>(threads, calls),
         }
     }

@@ -8,7 +8,9 @@ use std::process::ExitCode;
 use cases::Name;
 
 const USAGE: &str = "usage: spin_bench_rust CASE THREADS | sizes | smoke
-CASE: floor, spin_mutex, mutex, ticket_mutex or std_mutex; THREADS: 1 to 64";
+CASE: floor, spin_mutex, mutex, ticket_mutex, fair_mutex, fair_starve, rw_read,
+rw_write, rw_upgrade, rw_one_writer, once_get, once_call, once_first, lazy_force, barrier_alone
+or std_mutex; THREADS: 1 to 64";
 
 enum Command {
     Measure { case: Name, threads: u64 },
@@ -33,7 +35,8 @@ fn parse(words: &[&str]) -> Option<Command> {
 
 fn smoke() {
     for case in Name::ALL {
-        for threads in [1, 2, 4] {
+        let all: &[u64] = if case.has_threads() { &[1, 2, 4] } else { &[1] };
+        for &threads in all {
             let total = case.count(threads, 1000);
             println!("{}.{threads} {total}", case.text());
         }

@@ -38,17 +38,17 @@ struct OnALine<C>(C);
 
 // The loop that is measured, alone in its function.
 #[inline(never)]
-fn repeat<C: Case>(case: &C, calls: u64) {
+fn repeat<C: Case>(case: &C, worker: u64, calls: u64) {
     for _ in 0..calls {
-        case.call();
+        case.call(worker);
     }
 }
 
 // One thread's calls until it is to stop. It answers how many it made.
-fn work<C: Case>(case: &C, chunk: u64, stop: &AtomicBool) -> u64 {
+fn work<C: Case>(case: &C, worker: u64, chunk: u64, stop: &AtomicBool) -> u64 {
     let mut calls = 0;
     while !stop.load(SeqCst) {
-        repeat(case, chunk);
+        repeat(case, worker, chunk);
         calls += chunk;
     }
     calls
@@ -65,7 +65,7 @@ fn round<C: Case>(case: &C, threads: u64) -> f64 {
     let start = Instant::now();
     let calls: u64 = thread::scope(|scope| {
         let workers: Vec<_> = (0..threads)
-            .map(|_| scope.spawn(|| work(case, chunk, stop)))
+            .map(|worker| scope.spawn(move || work(case, worker, chunk, stop)))
             .collect();
         thread::sleep(ROUND);
         stop.store(true, SeqCst);
@@ -81,8 +81,8 @@ fn round<C: Case>(case: &C, threads: u64) -> f64 {
 pub fn count<C: Case>(threads: u64, calls: u64) -> u64 {
     let OnALine(case) = &OnALine::<C>::default();
     thread::scope(|scope| {
-        for _ in 0..threads {
-            scope.spawn(|| repeat(case, calls));
+        for worker in 0..threads {
+            scope.spawn(move || repeat(case, worker, calls));
         }
     });
     case.total()

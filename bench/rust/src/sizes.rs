@@ -1,7 +1,8 @@
 //! The bytes of each lock of a `u64`, and of its guard.
 use std::mem::size_of;
 
-use spin::mutex::{Mutex, MutexGuard, SpinMutex, SpinMutexGuard, TicketMutex, TicketMutexGuard};
+use spin::mutex::{FairMutex, FairMutexGuard, Mutex, MutexGuard, SpinMutex, SpinMutexGuard, TicketMutex, TicketMutexGuard};
+use spin::rwlock::{RwLock, RwLockReadGuard, RwLockUpgradableGuard, RwLockWriteGuard};
 
 pub fn print() {
     let sizes = [
@@ -11,6 +12,12 @@ pub fn print() {
         ("MutexGuard<u64>", size_of::<MutexGuard<u64>>()),
         ("TicketMutex<u64>", size_of::<TicketMutex<u64>>()),
         ("TicketMutexGuard<u64>", size_of::<TicketMutexGuard<u64>>()),
+        ("FairMutex<u64>", size_of::<FairMutex<u64>>()),
+        ("FairMutexGuard<u64>", size_of::<FairMutexGuard<u64>>()),
+        ("RwLock<u64>", size_of::<RwLock<u64>>()),
+        ("RwLockReadGuard<u64>", size_of::<RwLockReadGuard<u64>>()),
+        ("RwLockUpgradableGuard<u64>", size_of::<RwLockUpgradableGuard<u64>>()),
+        ("RwLockWriteGuard<u64>", size_of::<RwLockWriteGuard<u64>>()),
         ("std::sync::Mutex<u64>", size_of::<std::sync::Mutex<u64>>()),
         (
             "std::sync::MutexGuard<u64>",

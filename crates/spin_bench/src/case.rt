@@ -1,16 +1,18 @@
 //! What is done over and over: the calls of a lock, or the moves of a world.
 ghost use Rattle.std.specs.Prelude.{◌≡◌, ℕ};
 
-use spin_mutex::mutex::{Mutex, SpinMutex, TicketMutex};
 use std::alloc::AllocError;
 use std::hint::spin_loop;
-use std::sync;
 use std::sync::Wait;
 use std::sync::atomic::{AtomicU64, Ordering};
 
+mod locks;
+mod onces;
 mod seated;
 mod world;
 
+pub use locks::{OneWriter, Readers, Starvers, Upgrades};
+pub use onces::{Alone, FirstCalls, Forces, Gets, LateCalls};
 pub use seated::Seated;
 pub use world::{Play, Plays};
 
@@ -19,8 +21,9 @@ pub trait Case: Drop {
     /// How many calls or events it is to do it once.
     ghost weight: { Self → ℕ };
 
-    /// Does it so many times. This is what is measured: a loop that stands alone, with nothing in it but the calls.
-    fn repeat<W: Wait>(&self, rt: &W, times: u64) -> Result<(), AllocError>;
+    /// Does it so many times, in the worker of that number. This is what is measured: a loop that stands alone, with
+    /// nothing in it but the calls.
+    fn repeat<W: Wait>(&self, rt: &W, worker: usize, times: u64) -> Result<(), AllocError>;
 
     /// How many calls or events it is to do it once.
     fn weight(&self) -> u64
@@ -28,6 +31,48 @@ pub trait Case: Drop {
 
     /// What is left at the end, as a number that tells whether all of it was done.
     fn checksum(self) -> Result<u64, AllocError>;
+}
+
+/// One call.
+pub trait Call: Drop {
+    /// Makes it, in the worker of that number. It is to be inlined into the loop of [`Calls`].
+    fn call<W: Wait>(&self, rt: &W, worker: usize);
+
+    /// What is left at the end.
+    fn total(self) -> u64;
+}
+
+/// A call, over and over.
+#[derive(Drop)]
+pub struct Calls<C> {
+    of: C,
+}
+
+impl<C: Call> Calls<C> {
+    pub fn new(of: C) -> Calls<C> {
+        Calls { of }
+    }
+}
+
+impl<C: Call> Case for Calls<C> {
+    ghost weight = { λ _. 1 };
+
+    #[inline(never)]
+    fn repeat<W: Wait>(&self, rt: &W, worker: usize, times: u64) -> Result<(), AllocError> {
+        for _ in 0..times {
+            self.of.call(rt, worker);
+        }
+        Ok(())
+    }
+
+    fn weight(&self) -> u64 {
+        1
+    }
+
+    fn checksum(self) -> Result<u64, AllocError> {
+        let Calls { of } = self;
+        Ok(of.total())
+    }
 }
 
 /// The two steps that no lock goes without: an exchange of 0 for 1, and a store of 0.
@@ -61,110 +106,17 @@ impl Floor {
     }
 }
 
-impl Case for Floor {
-    ghost weight = { λ _. 1 };
-
-    #[inline(never)]
-    fn repeat<W: Wait>(&self, rt: &W, times: u64) -> Result<(), AllocError> {
-        for _ in 0..times {
-            if !self.take() {
-                self.wait(rt);
-            }
-            self.word.store(0, Ordering::SeqCst);
+impl Call for Floor {
+    #[inline(always)]
+    fn call<W: Wait>(&self, rt: &W, _worker: usize) {
+        if !self.take() {
+            self.wait(rt);
         }
-        Ok(())
+        self.word.store(0, Ordering::SeqCst);
     }
 
-    fn weight(&self) -> u64 {
-        1
-    }
-
-    fn checksum(self) -> Result<u64, AllocError> {
+    fn total(self) -> u64 {
         let Floor { word } = self;
-        Ok(word.into_inner())
-    }
-}
-
-impl Case for SpinMutex<u64> {
-    ghost weight = { λ _. 1 };
-
-    #[inline(never)]
-    fn repeat<W: Wait>(&self, rt: &W, times: u64) -> Result<(), AllocError> {
-        for _ in 0..times {
-            let mut sum = self.lock(rt);
-            *sum = sum.wrapping_add(1);
-        }
-        Ok(())
-    }
-
-    fn weight(&self) -> u64 {
-        1
-    }
-
-    fn checksum(self) -> Result<u64, AllocError> {
-        Ok(self.into_inner())
-    }
-}
-
-impl Case for Mutex<u64> {
-    ghost weight = { λ _. 1 };
-
-    #[inline(never)]
-    fn repeat<W: Wait>(&self, rt: &W, times: u64) -> Result<(), AllocError> {
-        for _ in 0..times {
-            let mut sum = self.lock(rt);
-            *sum = sum.wrapping_add(1);
-        }
-        Ok(())
-    }
-
-    fn weight(&self) -> u64 {
-        1
-    }
-
-    fn checksum(self) -> Result<u64, AllocError> {
-        Ok(self.into_inner())
-    }
-}
-
-impl Case for TicketMutex<u64> {
-    ghost weight = { λ _. 1 };
-
-    #[inline(never)]
-    fn repeat<W: Wait>(&self, rt: &W, times: u64) -> Result<(), AllocError> {
-        for _ in 0..times {
-            let mut sum = self.lock(rt);
-            *sum = sum.wrapping_add(1);
-        }
-        Ok(())
-    }
-
-    fn weight(&self) -> u64 {
-        1
-    }
-
-    fn checksum(self) -> Result<u64, AllocError> {
-        Ok(self.into_inner())
-    }
-}
-
-impl Case for sync::Mutex<u64> {
-    ghost weight = { λ _. 1 };
-
-    #[inline(never)]
-    fn repeat<W: Wait>(&self, rt: &W, times: u64) -> Result<(), AllocError> {
-        for _ in 0..times {
-            let mut sum = self.lock(rt);
-            *sum = sum.wrapping_add(1);
-        }
-        Ok(())
-    }
-
-    fn weight(&self) -> u64 {
-        1
-    }
-
-    fn checksum(self) -> Result<u64, AllocError> {
-        Ok(self.into_inner())
+        word.into_inner()
     }
 }

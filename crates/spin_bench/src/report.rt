@@ -1,10 +1,14 @@
 //! What the program does and writes.
-use crate::case::{Case, Floor, Plays, Seated};
+use crate::case::{
+    Alone, Call, Calls, Case, FirstCalls, Floor, Forces, Gets, LateCalls, OneWriter, Plays,
+    Readers, Seated, Starvers, Upgrades,
+};
 use crate::measure::measure;
 use crate::size::SIZES;
 use crate::team::{Until, run};
 use spin_bench_rows::{Checksum, Command, Fault, NAMES, Name, Row};
-use spin_mutex::mutex::{Mutex, SpinMutex, TicketMutex};
+use spin_mutex::mutex::{FairMutex, Mutex, SpinMutex, TicketMutex};
+use spin_rwlock::rwlock::RwLock;
 use spin_world::Flag;
 use std::alloc::Global;
 use std::env::Env;
@@ -57,6 +61,18 @@ fn on_case<C: Case + Sync, R: Threads + Wait + Clock + Print + Sync>(
     Ok(())
 }
 
+/// The same of a call.
+fn on_call<C: Call + Sync, R: Threads + Wait + Clock + Print + Sync>(
+    rt: &R,
+    alloc: Global,
+    task: Task,
+    name: Name,
+    call: C,
+    threads: usize,
+) -> Result<(), Fault> {
+    on_case(rt, alloc, task, name, Calls::new(call), threads)
+}
+
 /// Does the task on the case of that name.
 fn on_name<R: Threads + Wait + Clock + Print + Sync>(
     rt: &R,
@@ -66,12 +82,23 @@ fn on_name<R: Threads + Wait + Clock + Print + Sync>(
     threads: usize,
 ) -> Result<(), Fault> {
     match name {
-        Name::Floor => on_case(rt, alloc, task, name, Floor::new(), threads),
-        Name::SpinMutex => on_case(rt, alloc, task, name, SpinMutex::new(0u64), threads),
-        Name::Mutex => on_case(rt, alloc, task, name, Mutex::new(0u64), threads),
-        Name::TicketMutex => on_case(rt, alloc, task, name, TicketMutex::new(0u64), threads),
+        Name::Floor => on_call(rt, alloc, task, name, Floor::new(), threads),
+        Name::SpinMutex => on_call(rt, alloc, task, name, SpinMutex::new(0u64), threads),
+        Name::Mutex => on_call(rt, alloc, task, name, Mutex::new(0u64), threads),
+        Name::TicketMutex => on_call(rt, alloc, task, name, TicketMutex::new(0u64), threads),
+        Name::FairMutex => on_call(rt, alloc, task, name, FairMutex::new(0u64), threads),
+        Name::FairStarve => on_call(rt, alloc, task, name, Starvers::new(), threads),
+        Name::RwRead => on_call(rt, alloc, task, name, Readers::new(), threads),
+        Name::RwWrite => on_call(rt, alloc, task, name, RwLock::new(0u64), threads),
+        Name::RwUpgrade => on_call(rt, alloc, task, name, Upgrades::new(), threads),
+        Name::RwOneWriter => on_call(rt, alloc, task, name, OneWriter::new(), threads),
+        Name::OnceGet => on_call(rt, alloc, task, name, Gets::new(rt), threads),
+        Name::OnceCall => on_call(rt, alloc, task, name, LateCalls::new(rt), threads),
+        Name::OnceFirst => on_call(rt, alloc, task, name, FirstCalls, threads),
+        Name::LazyForce => on_case(rt, alloc, task, name, Forces, threads),
+        Name::BarrierAlone => on_call(rt, alloc, task, name, Alone::new(), threads),
+        Name::StdMutex => on_call(rt, alloc, task, name, sync::Mutex::new(0u64), threads),
         Name::SeatedMutex => on_case(rt, alloc, task, name, Seated::new(alloc)?, threads),
-        Name::StdMutex => on_case(rt, alloc, task, name, sync::Mutex::new(0u64), threads),
         Name::World => {
             let turns = match task {
                 Task::Measure => LONG,

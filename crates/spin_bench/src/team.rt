@@ -32,13 +32,13 @@ struct Team<'a, C, R> {
 
 impl<C: Case + Sync, R: Threads + Wait + Clock + Sync> Team<'_, C, R> {
     /// One thread's whole work. It answers how many times it did the case.
-    fn work(&self) -> Result<u64, AllocError> {
+    fn work(&self, worker: usize) -> Result<u64, AllocError> {
         let mut times = 0u64;
         for _ in 0..self.most_chunks {
             if self.stop.load(Ordering::SeqCst) {
                 break;
             }
-            self.case.repeat(self.rt, self.chunk)?;
+            self.case.repeat(self.rt, worker, self.chunk)?;
             times = times.saturating_add(self.chunk);
         }
         Ok(times)
@@ -54,8 +54,8 @@ impl<C: Case + Sync, R: Threads + Wait + Clock + Sync> Team<'_, C, R> {
         ensures { IfOk result (λ running. vec_len running ≡ threads) }
     {
         let mut running = Vec::with_capacity(alloc, threads)?;
-        for _worker in 0..threads {
-            let Ok(started) = scope.spawn(move || self.work()) else {
+        for worker in 0..threads {
+            let Ok(started) = scope.spawn(move || self.work(worker)) else {
                 self.stop.store(true, Ordering::SeqCst);
                 return Err(Fault::Thread);
             };

@@ -12,17 +12,39 @@ pub enum Name {
     SpinMutex,
     Mutex,
     TicketMutex,
+    FairMutex,
+    FairStarve,
+    RwRead,
+    RwWrite,
+    RwUpgrade,
+    RwOneWriter,
+    OnceGet,
+    OnceCall,
+    OnceFirst,
+    LazyForce,
+    BarrierAlone,
     SeatedMutex,
     StdMutex,
     World,
 }
 
 /// Every case.
-pub const NAMES: [Name; 7] = [
+pub const NAMES: [Name; 18] = [
     Name::Floor,
     Name::SpinMutex,
     Name::Mutex,
     Name::TicketMutex,
+    Name::FairMutex,
+    Name::FairStarve,
+    Name::RwRead,
+    Name::RwWrite,
+    Name::RwUpgrade,
+    Name::RwOneWriter,
+    Name::OnceGet,
+    Name::OnceCall,
+    Name::OnceFirst,
+    Name::LazyForce,
+    Name::BarrierAlone,
     Name::SeatedMutex,
     Name::StdMutex,
     Name::World,
@@ -38,6 +60,17 @@ impl Name {
             Name::SpinMutex => "spin_mutex",
             Name::Mutex => "mutex",
             Name::TicketMutex => "ticket_mutex",
+            Name::FairMutex => "fair_mutex",
+            Name::FairStarve => "fair_starve",
+            Name::RwRead => "rw_read",
+            Name::RwWrite => "rw_write",
+            Name::RwUpgrade => "rw_upgrade",
+            Name::RwOneWriter => "rw_one_writer",
+            Name::OnceGet => "once_get",
+            Name::OnceCall => "once_call",
+            Name::OnceFirst => "once_first",
+            Name::LazyForce => "lazy_force",
+            Name::BarrierAlone => "barrier_alone",
             Name::SeatedMutex => "seated_mutex",
             Name::StdMutex => "std_mutex",
             Name::World => "world",
@@ -54,6 +87,17 @@ impl Name {
             "spin_mutex" => Some(Name::SpinMutex),
             "mutex" => Some(Name::Mutex),
             "ticket_mutex" => Some(Name::TicketMutex),
+            "fair_mutex" => Some(Name::FairMutex),
+            "fair_starve" => Some(Name::FairStarve),
+            "rw_read" => Some(Name::RwRead),
+            "rw_write" => Some(Name::RwWrite),
+            "rw_upgrade" => Some(Name::RwUpgrade),
+            "rw_one_writer" => Some(Name::RwOneWriter),
+            "once_get" => Some(Name::OnceGet),
+            "once_call" => Some(Name::OnceCall),
+            "once_first" => Some(Name::OnceFirst),
+            "lazy_force" => Some(Name::LazyForce),
+            "barrier_alone" => Some(Name::BarrierAlone),
             "seated_mutex" => Some(Name::SeatedMutex),
             "std_mutex" => Some(Name::StdMutex),
             "world" => Some(Name::World),
@@ -66,7 +110,14 @@ impl Name {
         ensures { result ≡ most_threads_of self }
     {
         match self {
-            Name::World | Name::SeatedMutex => 1,
+            Name::FairStarve
+            | Name::RwUpgrade
+            | Name::OnceCall
+            | Name::OnceFirst
+            | Name::LazyForce
+            | Name::BarrierAlone
+            | Name::SeatedMutex
+            | Name::World => 1,
             _ => 64,
         }
     }

@@ -51,7 +51,7 @@ impl Seated {
 impl Case for Seated {
     ghost weight = { λ _. 1 };
 
-    fn repeat<W: Wait>(&self, rt: &W, times: u64) -> Result<(), AllocError> {
+    fn repeat<W: Wait>(&self, rt: &W, _worker: usize, times: u64) -> Result<(), AllocError> {
         self.caller.lock(rt).add_times(times);
         Ok(())
     }

@@ -80,7 +80,7 @@ impl<O: Play> Case for Plays<O> {
     ghost weight = { λ plays. vec_len plays.schedule };
 
     #[inline(never)]
-    fn repeat<W: Wait>(&self, rt: &W, times: u64) -> Result<(), AllocError> {
+    fn repeat<W: Wait>(&self, rt: &W, _worker: usize, times: u64) -> Result<(), AllocError> {
         let _ = rt;
         for _ in 0..times {
             let mut world = World::new(self.alloc, O::opening(), PARTIES)?;
