@@ -1,22 +1,23 @@
 -- What the rule of a read-write lock says of its parties, and what its plain lock lets them do beside an upgradable reader.
-use Rattle.std.proofs.Common.{◌≡◌, ℕ, ◌+◌, ◌*◌, ◌≤◌, ◌==◌, Bool, true, false, ◌&&◌, cond, List, [], ◌∷◌, length, Some, refl, sym, ap, ◌∙◌, arith}
+use Rattle.std.proofs.Common.{◌≡◌, ℕ, ◌+◌, ◌*◌, Bool, true, false, cond, List, [], ◌∷◌, Some, refl, ap, ◌∙◌, arith}
 use Rattle.std.specs.Prelude.{count_by}
 use Rattle.std.proofs.lemmas.List.Sums.{sum_by-cons}
-use mathlib.Core.Logic.{dite}
-use native.Mathlib.Decide.{dec_lt}
-use Rattle.std.proofs.lemmas.Bool.{eqb-true, and_parts, false≢true}
-use Rattle.spin_step.specs.Plain.{Plain, Kind, reading, upgradable, writing, Holder, Change, gets, releases, serves, stops_starving, turns, completes, fails, arrives, to_read, to_read_upgradable, to_write, to_upgrade, to_take_ticket, to_enter, to_take_and_enter, to_lock_unregistered, to_lock_starving, to_lock_starving_alone, to_starve, to_begin, apply, is_open, is_open_to, is_empty, is_holder, is_only, is_starver, is_only_starver, is_downgrade, same_kind, count_kind, with_kind}
+use Rattle.std.proofs.lemmas.Bool.{and_parts}
+use Rattle.spin_step.specs.Plain.{Plain, Kind, reading, upgradable, writing, Change, turns, to_write, to_upgrade, apply, is_open, is_open_to, is_holder, is_downgrade, same_kind, count_kind, with_kind}
 use Rattle.spin_step.specs.Parties.{who, IsExclusive}
-use Rattle.spin_step.proofs.Exclusive.{empty_is, count-without_holder, count-with_kind, length-with_kind, exclusive-kept}
+use Rattle.spin_step.proofs.Exclusive.{length-with_kind, exclusive-kept}
 use Rattle.spin_step.proofs.Holders.{length-without_holder, is_empty-some}
-use Rattle.spin_step.proofs.Readers.{kinds-all, only-holder}
+use Rattle.spin_step.proofs.Readers.{kinds-all}
+use Rattle.spin_step.specs.Steps.{bit}
+use Rattle.spin_step.specs.Readers.{reader_goes}
+use Rattle.spin_step.proofs.Upgrading.{readers_only_go, alone_when_gone}
 use Rattle.spin_core.specs.Views.{entries_of}
 use Rattle.spin_core.proofs.Owners.{exactly}
 use Rattle.spin_core.proofs.Views.{part-beyond}
 use Rattle.spin_rwlock.specs.declared.rwlock.rule.View.{View}
 use Rattle.spin_rwlock.specs.declared.rwlock.rule.View.TheVariants.{Idle, Reading, Upgradable, Writing}
 use Rattle.spin_rwlock.specs.Rw.{part, IsRw}
-use Rattle.spin_rwlock.specs.Standing.{is_reading, is_upgradable, is_writing, readers, upgradables, writers, holders, ReadersOrWriter, StaysUpgradable, apply_all, is_reader_release, reader_releases}
+use Rattle.spin_rwlock.specs.Standing.{is_reading, is_upgradable, is_writing, readers, upgradables, writers, holders, ReadersOrWriter, StaysUpgradable, apply_all, reader_releases}
 use Rattle.spin_rwlock.proofs.Steps.{fits_cap}
 
 -- Over the parties
@@ -70,64 +71,9 @@ downgrade_keeps_out s p q k l may =
     let some = length-without_holder p k s.holders (and_parts (is_holder p k s.holders) (is_downgrade k l) may).0 in
     (is_empty-some s.holders (omega (arith, some)), is_empty-some (with_kind p k l s.holders) (omega (arith, some, length-with_kind p k l s.holders)))
 
--- who holds is counted
-counted : (p : ℕ) (hs : List Holder) → is_holder p upgradable hs ≡ true → 1 ≤ count_kind upgradable hs
-counted p hs stands = omega (arith, count-without_holder upgradable p upgradable hs stands)
-
-only-one : (p : ℕ) (k : Kind) (hs : List Holder) → is_only p k hs ≡ true → length hs ≡ 1
-only-one p k [] e = absurd cc
-only-one p k (h ∷ []) e = refl
-only-one p k (h ∷ i ∷ hs) e = absurd cc
-
--- alone among the holders, it stands beside no reader
-alone : (p : ℕ) (hs : List Holder) → is_holder p upgradable hs ≡ true → length hs ≡ 1 → count_kind reading hs ≡ 0
-alone p hs stands one = omega (arith, one, kinds-all hs, counted p hs stands)
-
-not_empty : (p : ℕ) (hs : List Holder) → is_holder p upgradable hs ≡ true → is_empty hs ≡ true → ⊥
-not_empty p hs stands none = false≢true (ap (is_holder p upgradable) (sym (empty_is hs none)) ∙ stands)
-
-no_reader_comes : (s : Plain) (p : ℕ) (below : Bool) → is_holder p upgradable s.holders ≡ true → (((count_kind writing s.holders + count_kind upgradable s.holders) == 0) && below) ≡ true → ⊥
-no_reader_comes s p below stands may =
-    omega (arith, counted p s.holders stands, eqb-true (count_kind writing s.holders + count_kind upgradable s.holders) 0 (and_parts ((count_kind writing s.holders + count_kind upgradable s.holders) == 0) below may).0)
-
-abbrev Goes : Plain → ℕ → Change → Type 0
-Goes s p c = IsExclusive s → is_holder p upgradable s.holders ≡ true → is_open s c ≡ true → is_holder p upgradable (apply s c).holders ≡ true → count_kind reading (apply s c).holders + one_if (is_reader_release c) ≡ count_kind reading s.holders
-
-goes-turns : (s : Plain) (p q : ℕ) (k l : Kind) → Goes s p (turns q k l)
-goes-turns s p q writing reading x stands may after = let own = (and_parts (is_holder q writing s.holders) true may).0 in
-    absurd (omega (arith, counted p s.holders stands, kinds-all s.holders, count-without_holder writing q writing s.holders own, x.writer (omega (arith, count-without_holder writing q writing s.holders own))))
-goes-turns s p q writing upgradable x stands may after = omega (arith, count-with_kind reading q writing upgradable s.holders (and_parts (is_holder q writing s.holders) true may).0)
-goes-turns s p q upgradable reading x stands may after =
-    absurd (omega (arith, counted p (with_kind q upgradable reading s.holders) after, x.one_upgradable, count-with_kind upgradable q upgradable reading s.holders (and_parts (is_holder q upgradable s.holders) true may).0))
-goes-turns s p q reading l x stands may after = absurd (false≢true (and_parts (is_holder q reading s.holders) false may).1)
-goes-turns s p q writing writing x stands may after = absurd (false≢true (and_parts (is_holder q writing s.holders) false may).1)
-goes-turns s p q upgradable upgradable x stands may after = absurd (false≢true (and_parts (is_holder q upgradable s.holders) false may).1)
-goes-turns s p q upgradable writing x stands may after = absurd (false≢true (and_parts (is_holder q upgradable s.holders) false may).1)
-
-goes : (s : Plain) (p : ℕ) (c : Change) → Goes s p c
-goes s p (gets q to_read) x stands may after = absurd (no_reader_comes s p _ stands may)
-goes s p (gets q to_read_upgradable) x stands may after = absurd (no_reader_comes s p _ stands may)
-goes s p (gets q to_write) x stands may after = absurd (not_empty p s.holders stands may)
-goes s p (gets q to_upgrade) x stands may after =
-    let one = only-one q upgradable s.holders may in
-    omega (arith, alone p s.holders stands one, alone p (with_kind q upgradable writing s.holders) after (length-with_kind q upgradable writing s.holders ∙ one))
-goes s p (gets q to_take_ticket) x stands may after = omega arith
-goes s p (gets q to_enter) x stands may after = omega arith
-goes s p (gets q to_take_and_enter) x stands may after = omega arith
-goes s p (gets q to_lock_unregistered) x stands may after = absurd (not_empty p s.holders stands (and_parts (is_empty s.holders) (is_empty s.starvers) may).0)
-goes s p (gets q to_lock_starving) x stands may after = absurd (not_empty p s.holders stands (and_parts (is_starver q s.starvers) (is_empty s.holders) may).1)
-goes s p (gets q to_lock_starving_alone) x stands may after = absurd (not_empty p s.holders stands (and_parts (is_only_starver q s.starvers) (is_empty s.holders) may).1)
-goes s p (gets q to_starve) x stands may after = omega arith
-goes s p (gets q to_begin) x stands may after = omega arith
-goes s p (releases q reading) x stands may after = omega (arith, count-without_holder reading q reading s.holders may)
-goes s p (releases q upgradable) x stands may after = omega (arith, count-without_holder reading q upgradable s.holders may)
-goes s p (releases q writing) x stands may after = omega (arith, count-without_holder reading q writing s.holders may)
-goes s p (serves q) x stands may after = omega arith
-goes s p (stops_starving q) x stands may after = omega arith
-goes s p (turns q k l) x stands may after = goes-turns s p q k l x stands may after
-goes s p (completes q) x stands may after = omega arith
-goes s p (fails q) x stands may after = omega arith
-goes s p (arrives q) x stands may after = omega arith
+one_bit : (b : Bool) → one_if b ≡ bit b
+one_bit true = refl
+one_bit false = refl
 
 stands_at : (p : ℕ) (s : Plain) (cs : List Change) → StaysUpgradable p s cs → is_holder p upgradable s.holders ≡ true
 stands_at p s [] stays = stays
@@ -136,19 +82,15 @@ stands_at p s (c ∷ cs) stays = stays.0
 pub readers_go : (s : Plain) (p : ℕ) (cs : List Change) → IsExclusive s → StaysUpgradable p s cs → count_kind reading (apply_all s cs).holders + reader_releases cs ≡ count_kind reading s.holders
 readers_go s p [] x stays = omega arith
 readers_go s p (c ∷ cs) x stays =
-    omega (arith, readers_go (apply s c) p cs (exclusive-kept s (who c) (Some c) x (refl, stays.1)) stays.2, goes s p c x stays.0 stays.1 (stands_at p (apply s c) cs stays.2), sum_by-cons (λ d. one_if (is_reader_release d)) c cs)
-
--- beside no reader it is alone
-by_itself : (s : Plain) (p : ℕ) → IsExclusive s → is_holder p upgradable s.holders ≡ true → count_kind reading s.holders ≡ 0 → length s.holders ≡ 1
-by_itself s p x stands none = dite (dec_lt 0 (count_kind writing s.holders)) (λ some. x.writer some) (λ no. omega (arith, no, none, kinds-all s.holders, counted p s.holders stands, x.one_upgradable))
+    omega (arith, readers_go (apply s c) p cs (exclusive-kept s (who c) (Some c) x (refl, stays.1)) stays.2, readers_only_go s p c x stays.0 stays.1 (stands_at p (apply s c) cs stays.2), one_bit (reader_goes c), sum_by-cons (λ d. one_if (reader_goes d)) c cs)
 
 pub upgrade_opens : (s : Plain) (p : ℕ) (cs : List Change) → IsExclusive s → StaysUpgradable p s cs
     → (is_open_to (apply_all s cs) p to_upgrade ≡ true → reader_releases cs ≡ count_kind reading s.holders) × (reader_releases cs ≡ count_kind reading s.holders → is_open_to (apply_all s cs) p to_upgrade ≡ true)
 upgrade_opens s p [] x stays = (
-  (λ may. omega (arith, alone p s.holders stays (only-one p upgradable s.holders may))),
-  (λ e. only-holder p upgradable s.holders stays (by_itself s p x stays (omega (arith, e)))),
+  (λ may. omega (arith, (alone_when_gone s p x stays).0 may)),
+  (λ e. (alone_when_gone s p x stays).1 (omega (arith, e))),
 )
 upgrade_opens s p (c ∷ cs) x stays =
     let rest = upgrade_opens (apply s c) p cs (exclusive-kept s (who c) (Some c) x (refl, stays.1)) stays.2 in
-    let one = goes s p c x stays.0 stays.1 (stands_at p (apply s c) cs stays.2) in let more = sum_by-cons (λ d. one_if (is_reader_release d)) c cs in
-    ((λ may. omega (arith, rest.0 may, one, more)), (λ e. rest.1 (omega (arith, e, one, more))))
+    let one = readers_only_go s p c x stays.0 stays.1 (stands_at p (apply s c) cs stays.2) in let more = sum_by-cons (λ d. one_if (reader_goes d)) c cs in
+    ((λ may. omega (arith, rest.0 may, one, more, one_bit (reader_goes c))), (λ e. rest.1 (omega (arith, e, one, more, one_bit (reader_goes c)))))

@@ -1,7 +1,7 @@
 -- Who stands in a read-write lock, counted over its parties, and how its plain lock goes on while an upgradable reader stands.
 use Rattle.std.specs.Prelude.{◌≡◌, ℕ, ◌+◌, ◌<◌, ◌≤◌, Bool, true, false, List, [], ◌∷◌, count_by}
-use Rattle.spin_step.specs.Plain.{Plain, reading, upgradable, Change, releases, apply, is_open, is_holder}
-use Rattle.spin_step.specs.Readers.{reader_limit}
+use Rattle.spin_step.specs.Plain.{Plain, upgradable, Change, apply, is_open, is_holder}
+use Rattle.spin_step.specs.Readers.{reader_limit, reader_goes}
 use Rattle.spin_rwlock.specs.declared.rwlock.rule.View.{View}
 use Rattle.spin_rwlock.specs.declared.rwlock.rule.View.TheVariants.{Reading, Upgradable, Writing}
 
@@ -44,9 +44,5 @@ abbrev pub apply_all : Plain → List Change → Plain
 apply_all s [] = s
 apply_all s (c ∷ cs) = apply_all (apply s c) cs
 
-abbrev pub is_reader_release : Change → Bool
-is_reader_release (releases p reading) = true
-is_reader_release _ = false
-
 abbrev pub reader_releases : List Change → ℕ
-reader_releases cs = count_by is_reader_release cs
+reader_releases cs = count_by reader_goes cs

@@ -10,3 +10,4 @@ pub mod Readers
 pub mod ReaderSteps
 pub mod Barriers
 pub mod Onces
+pub mod Upgrading

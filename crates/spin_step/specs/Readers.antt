@@ -1,6 +1,6 @@
 -- The read-write lock as its step functions see it.
-use Rattle.std.specs.Prelude.{ℕ, ◌≤◌, ◌==◌, ◌&&◌, ◌/◌, ◌%◌, Bool, nat_lt, min}
-use Rattle.spin_step.specs.Plain.{Plain, upgradable, writing, count_kind}
+use Rattle.std.specs.Prelude.{ℕ, ◌≤◌, ◌==◌, ◌&&◌, ◌/◌, ◌%◌, Bool, true, false, nat_lt, min}
+use Rattle.spin_step.specs.Plain.{Plain, reading, upgradable, writing, Change, releases, count_kind}
 
 -- the limit of holders, usize::MAX / 4 / 2
 abbrev pub reader_limit : ℕ
@@ -13,3 +13,8 @@ OneOfEach s = (count_kind upgradable s.holders ≤ 1) × (count_kind writing s.h
 -- the word has no low bit, and counts fewer readers than the cap
 abbrev pub has_room : ℕ → ℕ → Bool
 has_room word cap = (word % 4 == 0) && nat_lt (word / 4) (min cap reader_limit)
+
+-- the change is a reader that goes
+abbrev pub reader_goes : Change → Bool
+reader_goes (releases p reading) = true
+reader_goes _ = false

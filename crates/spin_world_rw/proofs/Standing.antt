@@ -1,12 +1,13 @@
 -- What users of a read-write lock rely on.
-use Rattle.std.proofs.Common.{◌≡◌, ℕ, ◌+◌, ◌*◌, ◌==◌, ◌↔◌, Bool, true, false, ◌&&◌, ◌||◌, if◌then◌else◌, Option, Some, None, List, [], ◌∷◌, ◌++◌, length, slice_get, slice_set, refl, ap, sym, ◌∙◌, subst, arith}
-use Rattle.std.proofs.lemmas.Bool.{and_parts, eqb-true, ne_eqb, true≢false, false≢true}
-use Rattle.spin_step.specs.Plain.{Plain, Kind, reading, upgradable, writing, Holder, to_read, to_read_upgradable, to_write, to_upgrade, Change, gets, releases, turns, apply, is_open, is_empty, is_holder, is_only, is_downgrade, same_kind, count_kind, without_holder, with_kind, rw_word}
+use Rattle.std.proofs.Common.{◌≡◌, ℕ, ◌+◌, ◌*◌, ◌==◌, ◌↔◌, Bool, true, false, ◌&&◌, ◌||◌, if◌then◌else◌, Option, Some, None, List, [], ◌∷◌, ◌++◌, slice_get, slice_set, refl, ap, sym, ◌∙◌, subst, arith}
+use Rattle.std.proofs.lemmas.Bool.{eqb-true, ne_eqb, true≢false, false≢true}
+use Rattle.spin_step.specs.Plain.{Plain, Kind, reading, upgradable, writing, Holder, Change, is_empty, is_holder, is_only, same_kind, count_kind, rw_word}
 use Rattle.spin_step.specs.Parties.{apply_some, IsOpenStep, entries, IsExclusive}
 use Rattle.spin_step.specs.Steps.{bit}
-use Rattle.spin_step.proofs.Exclusive.{empty_is, count-without_holder, count-with_kind}
-use Rattle.spin_step.proofs.Readers.{kinds-all, only-holder}
-use Rattle.spin_step.proofs.ReaderSteps.{one_of_each, beside_upgradable, only_word, only-word, empty-word}
+use Rattle.spin_step.proofs.Exclusive.{empty_is}
+use Rattle.spin_step.specs.Readers.{reader_goes}
+use Rattle.spin_step.proofs.Upgrading.{readers_only_go, alone_when_gone}
+use Rattle.spin_step.proofs.ReaderSteps.{one_of_each, only-word, empty-word}
 use Rattle.spin_world_core.specs.declared.answer.Answer.{Answer}
 use Rattle.spin_world_core.specs.declared.answer.Answer.TheVariants.{Granted, Refused, Done}
 use Rattle.spin_world_core.specs.declared.place.Hold.{Hold}
@@ -21,14 +22,13 @@ use Rattle.spin_world_rw.specs.declared.rw.RwCall.{RwCall}
 use Rattle.spin_world_rw.specs.declared.rw.RwCall.TheVariants.{TryUpgrade, TryUpgradeWeak, Upgrade, Downgrade, DowngradeToUpgradeable}
 use Rattle.spin_world_rw.specs.declared.rw.RwPoint.{RwPoint}
 use Rattle.spin_world_rw.specs.declared.rw.RwPoint.TheVariants.{First}
-use Rattle.spin_world_core.specs.Calls.{BelongsTo, is_step_of, Mark}
-use Rattle.spin_world_core.specs.Calls as calls
+use Rattle.spin_world_core.specs.Calls.{Mark}
 use Rattle.spin_world_core.specs.Schedules.{State, moves_at, stepped, after, at_first, may_read}
 use Rattle.spin_world_core.specs.Runs.{Seen, scene, opening, entries_of, is_reader}
 use Rattle.spin_world_core.specs.Acts.{becomes}
 use Rattle.spin_world_core.specs.Users.{seen_after, passes, ReadsAgreeAcross}
 use Rattle.spin_world_rw.specs.Rw.{upgrade, granted, rw_machine}
-use Rattle.spin_world_rw.specs.Standing.{StandTogether, KeepsWritersOut, less, Downgrades, reader_goes, readers_gone, StaysUpgradable, upgrades, Opens, converts}
+use Rattle.spin_world_rw.specs.Standing.{StandTogether, KeepsWritersOut, less, Downgrades, readers_gone, StaysUpgradable, upgrades, Opens, converts}
 use Rattle.spin_world_rw.proofs.Owed.{holder_by, rw_keeping, rw_facts}
 use Rattle.spin_world_core.proofs.Lists.{get-set_same}
 use Rattle.spin_world_core.proofs.Kept.{Invariant}
@@ -38,50 +38,10 @@ use Rattle.spin_world_core.proofs.Guards.{ReadsOn, reads_agree_across, seen_afte
 
 -- Who stands beside an upgradable reader
 
-only_is : (p : ℕ) (k : Kind) (hs : List Holder) → is_only p k hs ≡ true → is_holder p k hs ≡ true
-only_is p k [] only = absurd cc
-only_is p k (h ∷ []) only = ap (λ b. b || false) only
-only_is p k (h ∷ i ∷ hs) only = absurd cc
-
-no_more : (p : ℕ) (hs : List Holder) → count_kind upgradable hs ≡ 0 → is_holder p upgradable hs ≡ true → ⊥
-no_more p hs none found = omega (arith, none, count-without_holder upgradable p upgradable hs found)
-
--- while it stays, each step of this lock is one that leaves the readers as they are, or a reader's that goes
-one_goes : (s : Plain) (p : ℕ) (c : Change) → IsExclusive s → is_holder p upgradable s.holders ≡ true → is_step_of calls.rw c ≡ true → is_open s c ≡ true → is_holder p upgradable (apply s c).holders ≡ true
-    → count_kind reading (apply s c).holders + bit (reader_goes c) ≡ count_kind reading s.holders
-one_goes s p (gets q to_read) alone found mine may stays =
-    absurd (omega (arith, (beside_upgradable s p alone found).0, eqb-true (count_kind writing s.holders + count_kind upgradable s.holders) 0 (and_parts ((count_kind writing s.holders + count_kind upgradable s.holders) == 0) _ may).0))
-one_goes s p (gets q to_read_upgradable) alone found mine may stays =
-    absurd (omega (arith, (beside_upgradable s p alone found).0, eqb-true (count_kind writing s.holders + count_kind upgradable s.holders) 0 (and_parts ((count_kind writing s.holders + count_kind upgradable s.holders) == 0) _ may).0))
-one_goes s p (gets q to_write) alone found mine may stays = absurd (omega (arith, (beside_upgradable s p alone found).0, kinds-all s.holders, ap length (empty_is s.holders may)))
-one_goes s p (gets q to_upgrade) alone found mine may stays =
-    absurd (no_more p (with_kind q upgradable writing s.holders) (omega (arith, (beside_upgradable s p alone found).0, count-with_kind upgradable q upgradable writing s.holders (only_is q upgradable s.holders may))) stays)
-one_goes s p (gets q _) alone found mine may stays = absurd (false≢true mine)
-one_goes s p (releases q reading) alone found mine may stays = omega (arith, count-without_holder reading q reading s.holders may)
-one_goes s p (releases q upgradable) alone found mine may stays =
-    absurd (no_more p (without_holder q upgradable s.holders) (omega (arith, (beside_upgradable s p alone found).0, count-without_holder upgradable q upgradable s.holders may)) stays)
-one_goes s p (releases q writing) alone found mine may stays = absurd (omega (arith, (beside_upgradable s p alone found).1, count-without_holder writing q writing s.holders may))
-one_goes s p (turns q reading l) alone found mine may stays = absurd (false≢true (and_parts (is_holder q reading s.holders) (is_downgrade reading l) may).1)
-one_goes s p (turns q upgradable reading) alone found mine may stays =
-    absurd (no_more p (with_kind q upgradable reading s.holders)
-    (omega (arith, (beside_upgradable s p alone found).0, count-with_kind upgradable q upgradable reading s.holders (and_parts (is_holder q upgradable s.holders) true may).0)) stays)
-one_goes s p (turns q upgradable _) alone found mine may stays = absurd (false≢true (and_parts (is_holder q upgradable s.holders) false may).1)
-one_goes s p (turns q writing l) alone found mine may stays =
-    absurd (omega (arith, (beside_upgradable s p alone found).1, count-without_holder writing q writing s.holders (and_parts (is_holder q writing s.holders) (is_downgrade writing l) may).0))
-one_goes s p _ alone found mine may stays = absurd (false≢true mine)
-
-goes_some : (s : Plain) (p q : ℕ) (step : Option Change) → IsExclusive s → is_holder p upgradable s.holders ≡ true → BelongsTo calls.rw step → IsOpenStep s q step → is_holder p upgradable (apply_some s step).holders ≡ true
+goes_some : (s : Plain) (p q : ℕ) (step : Option Change) → IsExclusive s → is_holder p upgradable s.holders ≡ true → IsOpenStep s q step → is_holder p upgradable (apply_some s step).holders ≡ true
     → count_kind reading (apply_some s step).holders + bit (passes reader_goes step) ≡ count_kind reading s.holders
-goes_some s p q None alone found mine may stays = omega arith
-goes_some s p q (Some c) alone found mine may stays = one_goes s p c alone found mine may.1 stays
-
--- it is alone exactly when no reader is left
-opens_at : (s : Plain) (p : ℕ) → IsExclusive s → is_holder p upgradable s.holders ≡ true → (is_only p upgradable s.holders ≡ true) ↔ (count_kind reading s.holders ≡ 0)
-opens_at s p alone found =
-    let beside = beside_upgradable s p alone found in (
-      λ only. omega (arith, only_word p s.holders only, beside.0),
-      λ none. only-holder p upgradable s.holders found (omega (arith, kinds-all s.holders, beside.0, beside.1, none)),
-    )
+goes_some s p q None alone found may stays = omega arith
+goes_some s p q (Some c) alone found may stays = readers_only_go s p c alone found may.1 stays
 
 one_party : (a b : Bool) → ((a && b) || false) ≡ true → a ≡ true
 one_party true b e = refl
@@ -150,7 +110,7 @@ module _ {V : Type 0} (v : V) (cap : ℕ) where
       let sc = scene m seen e.0 e.1 in
       let is = kept m (rw_keeping v cap) (rw_facts v cap) seen e.0 e.1 here in
       let rest = gone_through p sc.after es is.good stays.1 in
-      let one = goes_some seen.plain p e.0 sc.change here.exclusive stays.0 is.keeps.belongs is.keeps.opens (stays_now p sc.after es stays.1) in
+      let one = goes_some seen.plain p e.0 sc.change here.exclusive stays.0 is.keeps.opens (stays_now p sc.after es stays.1) in
       (omega (arith, rest.0, one), rest.1)
 
   pub opens_by_releases : (n : ℕ) (past further : List (ℕ × Move RwCall V)) → Opens v cap n past further
@@ -165,7 +125,7 @@ module _ {V : Type 0} (v : V) (cap : ℕ) where
       ap (λ (s : Seen ℕ V RwCall RwPoint). count_kind reading s.plain.holders + readers_gone m before further) joined ∙ gone.0 in
       let found : is_holder p upgradable later.plain.holders ≡ true = ap (λ (s : Seen ℕ V RwCall RwPoint). is_holder p upgradable s.plain.holders) joined ∙ gone.1 in
       let here = good n all in
-      let alone = opens_at later.plain p here.exclusive found in
+      let alone = alone_when_gone later.plain p here.exclusive found in
       let left : (is_only p upgradable later.plain.holders ≡ true) ↔ (readers_gone m before further ≡ count_kind reading before.plain.holders) =
       (λ only. let none = alone.0 only in omega (arith, readers, none), λ all_gone. alone.1 (omega (arith, readers, all_gone))) in
       let now = after m (at_first m n) all in

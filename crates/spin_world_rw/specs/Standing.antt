@@ -1,7 +1,7 @@
 -- What users of a read-write lock rely on: who stands beside whom, and when an upgrade opens.
 use Rattle.std.specs.Prelude.{◌≡◌, ℕ, ◌+◌, ◌<◌, ◌≤◌, ◌↔◌, Bool, true, false, Option, Some, None, List, [], ◌∷◌, ◌++◌, length, slice_get, min, max}
-use Rattle.spin_step.specs.Plain.{Plain, reading, upgradable, writing, Change, releases, to_write, to_upgrade, is_open_to, is_holder, count_kind, rw_word}
-use Rattle.spin_step.specs.Readers.{reader_limit}
+use Rattle.spin_step.specs.Plain.{Plain, reading, upgradable, writing, to_write, to_upgrade, is_open_to, is_holder, count_kind, rw_word}
+use Rattle.spin_step.specs.Readers.{reader_limit, reader_goes}
 use Rattle.spin_world_core.specs.declared.answer.Answer.TheVariants.{Granted, Done}
 use Rattle.spin_world_core.specs.declared.place.Hold.{Hold}
 use Rattle.spin_world_core.specs.declared.place.Hold.TheVariants as hold
@@ -46,11 +46,6 @@ abbrev pub Downgrades : {V : Type 0} → V → ℕ → ℕ → List (ℕ × Move
 Downgrades v cap n past =
     (p : ℕ) (c : RwCall) (l : RwPoint) (h : Option Hold) (held : Hold) → less c ≡ Some held → let m = rw_machine v cap in
     slice_get (after m (at_first m n) past).seats p ≡ Some (Calling c l h) → DowngradesAtOnce v cap n past p held
-
--- a reader goes
-abbrev pub reader_goes : Change → Bool
-reader_goes (releases p reading) = true
-reader_goes _ = false
 
 -- how many readers go in the events of these entries
 abbrev pub readers_gone : {W V C L A : Type 0} → Machine W V C L A → Seen W V C L → List (ℕ × Move C V) → ℕ
