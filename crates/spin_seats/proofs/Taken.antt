@@ -1,7 +1,8 @@
 -- What the step functions of seats are to the plain lock.
-use Rattle.std.proofs.Common.{◌≡◌, ℕ, ◌+◌, ◌-◌, ◌&&◌, ◌∷◌, [], Bool, true, false, Some, None, if◌then◌else◌, length, refl, ap, ◌∙◌, arith, eq-eqb, nat_lt, length-append}
+use Rattle.std.proofs.Common.{◌≡◌, ℕ, ◌+◌, ◌-◌, ◌&&◌, ◌∷◌, [], length, ap, ◌∙◌, arith, eq-eqb, nat_lt, length-append}
 use Rattle.spin_step.specs.Plain.{Plain, reading, upgradable, writing, holder, gets, releases, to_read, count_kind, may_read}
 use Rattle.spin_step.specs.Steps.{Decides, Gives}
+use Rattle.spin_step.proofs.Deciding.{decides_if}
 use Rattle.spin_step.proofs.Holders.{length-without_holder}
 use Rattle.spin_step.proofs.Readers.{kinds-all}
 use Rattle.spin_seats.specs.Seats.{AllRead, seats, seats_word, entered}
@@ -13,11 +14,8 @@ open_is s n w all room is =
     ap (λ b. b && nat_lt (length s.holders) s.cap) (eq-eqb others 0 (omega (arith, kinds-all s.holders, all))) ∙ (ap (λ k. nat_lt k s.cap) is ∙ ap (nat_lt w) room)
 
 pub enter-grants : (s : Plain) (p n w : ℕ) → AllRead s → s.cap ≡ seats n → seats_word s ≡ w → Decides s (gets p to_read) seats_word (entered n w)
-enter-grants s p n w all room is = at (nat_lt w (seats n)) refl
-  where
-    at : (b : Bool) → nat_lt w (seats n) ≡ b → Decides s (gets p to_read) seats_word (if b then Some (w + 1) else None)
-    at true free = (open_is s n w all room is ∙ free, omega (arith, is, length-append s.holders (holder p reading ∷ [])))
-    at false full = open_is s n w all room is ∙ full
+enter-grants s p n w all room is =
+    decides_if s (gets p to_read) seats_word (nat_lt w (seats n)) (w + 1) (open_is s n w all room is) (λ may. omega (arith, is, length-append s.holders (holder p reading ∷ [])))
 
 pub leave-gives : (s : Plain) (p w : ℕ) → seats_word s ≡ w → Gives s (releases p reading) seats_word (w - 1)
 leave-gives s p w is = λ found. omega (arith, is, length-without_holder p reading s.holders found)

@@ -2,10 +2,11 @@
 use Rattle.std.proofs.Common.{◌≡◌, ℕ, ◌+◌, ◌-◌, ◌*◌, ◌/◌, ◌%◌, ◌≤◌, ◌==◌, Bool, true, false, not, ◌&&◌, ◌||◌, Some, None, List, [], ◌∷◌, length, nat_lt, if◌then◌else◌, refl, ap, sym, ◌∙◌, arith, length-append}
 use Rattle.std.specs.Prelude.{min}
 use Rattle.std.proofs.lemmas.Bool.{eqb-true, eq-eqb, true≢false}
-use Rattle.spin_step.specs.Plain.{Plain, Kind, Holder, Ticket, holder, writing, is_empty, is_starver, is_only_starver, gets, releases, stops_starving, to_lock_unregistered, to_lock_starving, to_lock_starving_alone, to_starve, is_open, fair_word}
+use Rattle.spin_step.specs.Plain.{Plain, Kind, Holder, Ticket, holder, writing, is_empty, is_starver, is_only_starver, gets, releases, stops_starving, to_lock_unregistered, to_lock_starving, to_lock_starving_alone, to_starve, fair_word}
 use Rattle.spin_step.specs.Parties.{is_held}
 use Rattle.spin_step.specs.Steps.{Decides, Gives}
 use Rattle.spin_step.specs.Starvers.{most_starvers, OneHolds}
+use Rattle.spin_step.proofs.Deciding.{decides_if}
 use Rattle.spin_step.proofs.Holders.{is_empty-none, is_empty-some, length-without_holder}
 use Rattle.spin_step.proofs.Starvers.{length-without_starver}
 
@@ -55,13 +56,10 @@ lock_if s p w false is some = somebody s.holders s.starvers (λ e. not_equal w 0
 pub fair_lock-grants : (s : Plain) (p w : ℕ) → fair_word s ≡ w → Decides s (gets p to_lock_unregistered) fair_word (if w == 0 then Some 1 else None)
 fair_lock-grants s p w is = lock_if s p w (w == 0) is refl
 
-starve_if : (s : Plain) (p w : ℕ) (b : Bool) → fair_word s ≡ w → is_open s (gets p to_starve) ≡ b → Decides s (gets p to_starve) fair_word (if b then Some (w + 2) else None)
-starve_if s p w true is may = (may, omega (arith, is, length-append s.starvers (p ∷ [])))
-starve_if s p w false is may = may
-
 pub fair_starve-grants : (s : Plain) (p w cap : ℕ) → OneHolds s → s.cap ≡ min cap most_starvers → fair_word s ≡ w → Decides s (gets p to_starve) fair_word (if nat_lt (w / 2) (min cap most_starvers) then Some (w + 2) else None)
 fair_starve-grants s p w cap one room is =
-    starve_if s p w (nat_lt (w / 2) (min cap most_starvers)) is (ap (λ n. nat_lt n s.cap) (flag_is s w one is).1 ∙ ap (nat_lt (w / 2)) room)
+    decides_if s (gets p to_starve) fair_word (nat_lt (w / 2) (min cap most_starvers)) (w + 2) (ap (λ n. nat_lt n s.cap) (flag_is s w one is).1 ∙ ap (nat_lt (w / 2)) room)
+    (λ may. omega (arith, is, length-append s.starvers (p ∷ [])))
 
 lock_fair_if : (s : Plain) (p w : ℕ) (b : Bool) → OneHolds s → is_starver p s.starvers ≡ true → fair_word s ≡ w → (w == 2) ≡ b → Decides s (gets p to_lock_starving_alone) fair_word (if b then Some 3 else None)
 lock_fair_if s p w true one starves is two =

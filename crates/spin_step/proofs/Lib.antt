@@ -1,6 +1,7 @@
 pub mod Entries
 pub mod Holders
 pub mod Exclusive
+pub mod Deciding
 pub mod Flags
 pub mod Starvers
 pub mod FairSteps

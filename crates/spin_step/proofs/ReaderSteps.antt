@@ -4,10 +4,11 @@ use Rattle.std.specs.Prelude.{min}
 use Rattle.std.proofs.lemmas.Bool.{and_parts}
 use mathlib.Core.Logic.{dite}
 use native.Mathlib.Decide.{ℕ_discrete, dec_lt}
-use Rattle.spin_step.specs.Plain.{Plain, Kind, reading, upgradable, writing, Holder, to_read, to_read_upgradable, to_write, to_upgrade, Change, gets, releases, turns, apply, is_open, same_kind, count_kind, is_empty, is_holder, is_only, is_downgrade, rw_word}
+use Rattle.spin_step.specs.Plain.{Plain, Kind, reading, upgradable, writing, Holder, to_read, to_read_upgradable, to_write, to_upgrade, gets, releases, turns, same_kind, count_kind, is_empty, is_holder, is_only, is_downgrade, rw_word}
 use Rattle.spin_step.specs.Parties.{IsExclusive}
 use Rattle.spin_step.specs.Steps.{Decides, Gives}
 use Rattle.spin_step.specs.Readers.{reader_limit, OneOfEach, has_room}
+use Rattle.spin_step.proofs.Deciding.{decides_if}
 use Rattle.spin_step.proofs.Holders.{is_empty-none, is_empty-some}
 use Rattle.spin_step.proofs.Exclusive.{same_kind_is, count-cons, count-without_holder}
 use Rattle.spin_step.proofs.Readers.{worth, word_of, word-more, word-less, word-turned, kinds-all, only-holder, may_read-word}
@@ -16,10 +17,6 @@ pub one_of_each : (s : Plain) → IsExclusive s → OneOfEach s
 one_of_each s alone = (alone.one_upgradable, dite (dec_lt 0 (count_kind writing s.holders)) (λ some. omega (arith, kinds-all s.holders, alone.writer some)) (λ none. omega (arith, none)))
 
 -- A step function that may refuse
-
-decides_if : (s : Plain) (c : Change) (word : Plain → ℕ) (b : Bool) (to : ℕ) → is_open s c ≡ b → (is_open s c ≡ true → to ≡ word (apply s c)) → Decides s c word (if b then Some to else None)
-decides_if s c word true to may is = (may, is may)
-decides_if s c word false to may is = may
 
 pub rw_read-grants : (s : Plain) (p word cap : ℕ) → OneOfEach s → s.cap ≡ min cap reader_limit → rw_word s ≡ word → Decides s (gets p to_read) rw_word (if has_room word cap then Some (word + 4) else None)
 rw_read-grants s p word cap one room is = decides_if s (gets p to_read) rw_word (has_room word cap) (word + 4) (may_read-word s word cap one room is) (λ may. omega (arith, word-more reading p s.holders, is))
