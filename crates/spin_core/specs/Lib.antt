@@ -3,4 +3,5 @@ pub mod Plays
 pub mod Cell
 pub mod CellMemory
 pub mod Writer
+pub mod Settled
 pub mod Bystanders

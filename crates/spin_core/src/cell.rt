@@ -13,6 +13,7 @@ use std::sync::atomic::Ordering::SeqCst;
 use std::sync::atomic::raw;
 
 mod lends;
+pub mod settled;
 
 /// What holds of a cell's words and of what its parties are, between any two steps. `V` is what a party is to the
 /// lock, a plain `Copy` enum of the lock's own, and `T` the value's type.

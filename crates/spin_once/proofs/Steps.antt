@@ -1,19 +1,21 @@
 -- The steps of a value that is made once keep its rule: each is the plain step that its step function makes.
-use Rattle.std.proofs.Common.{◌≡◌, ◌≢◌, ℕ, zero, suc, ◌+◌, ◌==◌, ◌<◌, List, [], ◌∷◌, ◌++◌, Option, Some, None, refl, sym, ap, subst, arith, ◌∙◌, if◌then◌else◌, eq-eqb, ne_eqb}
+use Rattle.std.proofs.Common.{◌≡◌, ◌≢◌, Bool, true, ℕ, zero, suc, ◌+◌, ◌==◌, ◌<◌, List, [], ◌∷◌, ◌++◌, Option, Some, None, refl, sym, ap, subst, arith, ◌∙◌, if◌then◌else◌, eq-eqb, ne_eqb}
 use mathlib.Core.Option.{some}
 use lib.ListN.{get_elem?}
 use prog.Atomic.{either}
 use Rattle.core.specs.declared.snapshot.Snapshot.{Snapshot}
 use Rattle.spin_step.specs.Plain.{Plain, Phase, nothing, running, complete, gets, completes, fails, to_begin, once_word}
 use Rattle.spin_step.specs.Steps.{Decides, Gives}
-use Rattle.spin_core.specs.Cell.{off, reads, writes, reading, writing, use_of, Meets, Limits, Owes, Starts, Stands, after, AllowsAt, Rests, Moved}
+use Rattle.spin_core.specs.Cell.{off, reads, writes, reading, writing, use_of, Meets, Limits, Fixed, Owes, Starts, Stands, after, AllowsAt, Rests, Moved}
 use Rattle.spin_core.specs.Plays.{becomes, becomes_by}
+use Rattle.spin_core.specs.Settled.{loose, SettlesAt}
+use Rattle.spin_core.specs.declared.cell.settled.Loose.{Loose}
 use Rattle.spin_core.proofs.CellCounts.{moves, without}
-use Rattle.spin_once.specs.Once.{use_of_view, seeing, runs, IsPhaseOf, in_phase, IsOnce, IsMadeFrom, once_ways, looked, tried}
+use Rattle.spin_once.specs.Once.{use_of_view, seeing, runs, IsPhaseOf, in_phase, IsOnce, is_done, IsMadeFrom, once_ways, looked, tried}
 use Rattle.spin_once.specs.declared.seeded.rule.View.{View}
 use Rattle.spin_once.specs.declared.seeded.rule.View.TheVariants.{Idle, Running, Seeing}
 use Rattle.spin_once.specs.declared.seeded.rule.Stage.{Stage}
-use Rattle.spin_once.specs.declared.seeded.rule.Stage.TheVariants.{Seed, Done}
+use Rattle.spin_once.specs.declared.seeded.rule.Stage.TheVariants.{Seed, Taken, Done}
 
 -- how many see the value and how many run, after a party has come to another view
 see_after : (id : ℕ) (view : Option View) (vs : List View) (w : View) → Stands id view vs → seeing (after id view vs w) + reading (use_of use_of_view view) ≡ seeing vs + reading (use_of_view w)
@@ -53,7 +55,7 @@ is_once (suc (suc zero)) m vs has e = (complete, has, refl, e)
 is_once (suc (suc (suc n))) m vs has e = absurd has
 
 module _ {T S : Type 0} (makes : S → T → Type 0) (key : Snapshot S) where
-  abbrev Allowed : Option View → Option (Stage T S) → (ℕ → ℕ) → (ℕ → View → Type 0) → Type 0
+  abbrev Allowed : Option View → Option (Loose (Stage T S)) → (ℕ → ℕ) → (ℕ → View → Type 0) → Type 0
   Allowed = AllowsAt IsOnce (once_ways makes key)
 
   limits : (n r w : ℕ) → Numbers n r w → Limits (once_ways makes key).0 r w
@@ -66,8 +68,31 @@ module _ {T S : Type 0} (makes : S → T → Type 0) (key : Snapshot S) where
   meets n m vs has e = (is_once n m vs has e, limits n (seeing vs) (runs vs) has)
 
   -- ---- a new cell
-  pub starts_seeded : (seed : S) → seed ≡ key.value → Starts IsOnce (once_ways makes key) 0 0 (Seed seed)
+  pub starts_seeded : (seed : S) → seed ≡ key.value → Starts IsOnce (once_ways makes key) 0 0 (loose (Seed seed))
   starts_seeded seed e = ([], meets 0 0 [] (refl, refl) refl, e)
+
+  pub starts_made : (value : T) → makes key.value value → Starts IsOnce (once_ways makes key) 2 0 (loose (Done value))
+  starts_made value made = (Seeing ∷ [], meets 2 0 (Seeing ∷ []) (omega arith, refl) refl, made)
+
+  -- ---- the owner of a value that was made
+  fixed : (r w : ℕ) → 0 < r → (x : Stage T S) → Fixed (once_ways makes key).0 r w (loose x) ≡ IsMadeFrom makes key true x
+  fixed zero w few x = absurd (omega (arith, few))
+  fixed (suc r) w few x = refl
+
+  was_made : (x : Stage T S) → IsMadeFrom makes key true x → is_done x ≡ true
+  was_made (Done value) made = refl
+  was_made (Seed seed) made = absurd made
+  was_made Taken made = absurd made
+
+  made_of_any : ((seed : S) (value : T) → makes seed value) → (x : Stage T S) → is_done x ≡ true → IsMadeFrom makes key true x
+  made_of_any any (Done value) done = any key.value value
+  made_of_any any (Seed seed) done = absurd cc
+  made_of_any any Taken done = absurd cc
+
+  -- where one sees the value it was made, and any that was made may take its place
+  pub settles : ((seed : S) (value : T) → makes seed value) → SettlesAt IsOnce (once_ways makes key) is_done 2
+  settles any m x lies = let vs = lies.0 in let few = (numbers 2 m vs lies.1.0).0 in let same = fixed (seeing vs) (runs vs) few in
+      (was_made x (subst (λ A. A) (same x) lies.2), λ y done. (vs, lies.1, subst (λ A. A) (sym (same y)) (made_of_any any y done)))
 
   -- ---- a newcomer that looks, and one that tries to begin
   looks_at : (id n m : ℕ) (vs : List View) → Numbers n (seeing vs) (runs vs) → m ≡ 0 → Meets IsOnce (once_ways makes key) n m (vs ++ looked n ∷ [])
@@ -81,7 +106,7 @@ module _ {T S : Type 0} (makes : S → T → Type 0) (key : Snapshot S) where
       kept (suc (suc (suc n))) has see run = absurd has
 
   -- who sees finds one that sees
-  looks_owes : (n : ℕ) (vs : List View) → Numbers n (seeing vs) (runs vs) → (A : Type 0) → A → (off ≡ reads → use_of_view (looked n) ≡ reads) × Owes (IsMadeFrom makes key) off (use_of_view (looked n)) None (seeing vs) × A
+  looks_owes : (n : ℕ) (vs : List View) → Numbers n (seeing vs) (runs vs) → (A : Type 0) → A → (off ≡ reads → use_of_view (looked n) ≡ reads) × Owes (λ (read : Bool) (x : Loose (Stage T S)). IsMadeFrom makes key read x.value) off (use_of_view (looked n)) None (seeing vs) × A
   looks_owes zero vs has A a = (λ e. e, tt, a)
   looks_owes (suc zero) vs has A a = (λ e. e, tt, a)
   looks_owes (suc (suc zero)) vs has A a = (λ e. refl, has.0, a)
@@ -105,13 +130,13 @@ module _ {T S : Type 0} (makes : S → T → Type 0) (key : Snapshot S) where
   alone (suc (suc zero)) id vs at has = absurd (let run = run_after id (Some Running) vs Idle at in omega (arith, has, run))
   alone (suc (suc (suc n))) id vs at has = absurd has
 
-  pub completes_with : (new : ℕ) (value : T) → ((s : Plain) (p : ℕ) → once_word s ≡ 1 → Gives s (completes p) once_word new) → makes key.value value → Allowed (Some Running) (Some (Done value)) (λ _. new) (λ _. becomes Seeing 0 new (Some Running) 0)
+  pub completes_with : (new : ℕ) (value : T) → ((s : Plain) (p : ℕ) → once_word s ≡ 1 → Gives s (completes p) once_word new) → makes key.value value → Allowed (Some Running) (Some (loose (Done value))) (λ _. new) (λ _. becomes Seeing 0 new (Some Running) 0)
   completes_with new value plain made id n m vs has at small =
       let one = alone n id vs at (numbers n m vs has.0) in let see = see_after id (Some Running) vs Seeing at in let run = run_after id (Some Running) vs Seeing at in
       let next : new ≡ 2 = plain (in_phase (running id)) id refl (eq-eqb id id refl) in
       (Seeing, (λ e. refl, made, subst (λ k. Meets IsOnce (once_ways makes key) k m (after id (Some Running) vs Seeing)) (sym next) (meets 2 m (after id (Some Running) vs Seeing) (omega (arith, see, one), omega (arith, run, one)) has.0.3)), refl)
 
-  pub fails_with : (new : ℕ) (seed : S) → ((s : Plain) (p : ℕ) → once_word s ≡ 1 → Gives s (fails p) once_word new) → seed ≡ key.value → Allowed (Some Running) (Some (Seed seed)) (λ _. new) (λ _. becomes Idle 0 new (Some Running) 0)
+  pub fails_with : (new : ℕ) (seed : S) → ((s : Plain) (p : ℕ) → once_word s ≡ 1 → Gives s (fails p) once_word new) → seed ≡ key.value → Allowed (Some Running) (Some (loose (Seed seed))) (λ _. new) (λ _. becomes Idle 0 new (Some Running) 0)
   fails_with new seed plain same id n m vs has at small =
       let one = alone n id vs at (numbers n m vs has.0) in let see = see_after id (Some Running) vs Idle at in let run = run_after id (Some Running) vs Idle at in
       let next : new ≡ 0 = plain (in_phase (running id)) id refl (eq-eqb id id refl) in

@@ -3,3 +3,4 @@ pub mod Looks
 pub mod Finds
 pub mod Texts
 pub mod Lazy
+pub mod Made

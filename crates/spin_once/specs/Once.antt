@@ -6,6 +6,7 @@ use Rattle.core.specs.declared.snapshot.Snapshot.{Snapshot}
 use Rattle.spin_step.specs.Plain.{Plain, Phase, nothing, running, complete, fresh, once_word}
 use Rattle.spin_core.specs.Cell.{Use, off, reads, writes, fixes, Ways, readers_of, writers_of}
 use Rattle.spin_core.specs.Views.{no_word}
+use Rattle.spin_core.specs.declared.cell.settled.Loose.{Loose}
 use Rattle.spin_once.specs.declared.seeded.rule.View.{View}
 use Rattle.spin_once.specs.declared.seeded.rule.View.TheVariants.{Idle, Running, Seeing}
 use Rattle.spin_once.specs.declared.seeded.rule.Stage.{Stage}
@@ -36,6 +37,12 @@ in_phase s = record (fresh 0 0 0) { phase = s }
 abbrev pub IsOnce : ℕ → ℕ → List View → Type 0
 IsOnce n m vs = (s : Phase) × IsPhaseOf vs s × (n ≡ once_word (in_phase s)) × (m ≡ no_word (in_phase s))
 
+-- it was made
+abbrev pub is_done : {T S : Type 0} → Stage T S → Bool
+is_done (Done value) = true
+is_done (Seed seed) = false
+is_done Taken = false
+
 module _ {T S : Type 0} (makes : S → T → Type 0) where
   -- a value that somebody sees may be made from the key, and what nobody uses is the key itself
   abbrev pub IsMadeFrom : Snapshot S → Bool → Stage T S → Type 0
@@ -46,8 +53,8 @@ module _ {T S : Type 0} (makes : S → T → Type 0) where
   IsMadeFrom key false (Done value) = ⊥
   IsMadeFrom key false Taken = ⊥
 
-  abbrev pub once_ways : Snapshot S → Ways (Stage T S) View
-  once_ways key = (fixes (IsMadeFrom key), use_of_view)
+  abbrev pub once_ways : Snapshot S → Ways (Loose (Stage T S)) View
+  once_ways key = (fixes (λ read x. IsMadeFrom key read x.value), use_of_view)
 
 -- what a party becomes that looks at this word, and one that tries to begin
 abbrev pub looked : ℕ → View

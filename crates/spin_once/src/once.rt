@@ -4,7 +4,6 @@ ghost use Rattle.std.specs.Prelude.{◌≡◌, IfErr, Err};
 use crate::seeded::{Come, Seed, Seeded};
 use spin_core::relax::{RelaxStrategy, Spin};
 use std::marker::PhantomData;
-use std::mem;
 use std::sync::Wait;
 
 mod texts;
@@ -20,24 +19,19 @@ impl<T> Seed<T> for () {
 /// One closure runs at a time, and none once there is a value. A caller that finds one running spins until it has ended.
 /// A closure that asks its own `Once` for the value waits for ever, or, by a call that does not wait, finds that there is
 /// none yet.
+///
+/// Example: `with_a_value_from_the_start_or_without`, `crates/spin_once/src/once/tests.rt`.
 #[derive(Drop)]
 pub struct Once<T = (), R = Spin> {
-    place: Place<T>,
+    seeded: Seeded<T, ()>,
     strategy: PhantomData<R>,
-}
-
-// A value that was there while nobody shared the `Once` needs no word, and its owner may change it.
-#[derive(Drop)]
-enum Place<T> {
-    Shared(Seeded<T, ()>),
-    Owned(T),
 }
 
 impl<T, R> Once<T, R> {
     /// There is no value yet.
     pub fn new() -> Self {
         Once {
-            place: Place::Shared(Seeded::new(())),
+            seeded: Seeded::new(()),
             strategy: PhantomData,
         }
     }
@@ -45,17 +39,14 @@ impl<T, R> Once<T, R> {
     /// The value is there from the start.
     pub fn initialized(value: T) -> Self {
         Once {
-            place: Place::Owned(value),
+            seeded: Seeded::initialized(value, &()),
             strategy: PhantomData,
         }
     }
 
-    /// The value, if there is one: it makes at most one load. The value stays for as long as the `Once` is shared.
+    /// The value, if there is one: it makes one load. The value stays for as long as the `Once` is shared.
     pub fn get(&self) -> Option<&T> {
-        match &self.place {
-            Place::Shared(seeded) => seeded.get(),
-            Place::Owned(value) => Some(value),
-        }
+        self.seeded.get()
     }
 
     /// Whether there is a value, as `get` finds it.
@@ -63,42 +54,31 @@ impl<T, R> Once<T, R> {
         self.get().is_some()
     }
 
-    /// The value, if there is one: nobody else has the `Once`. It may move, the first time that it is asked for.
-    pub fn get_mut(&mut self) -> Option<&mut T>
-    where
-        T: Drop,
-    {
-        self.settle();
-        match &mut self.place {
-            Place::Shared(_) => None,
-            Place::Owned(value) => Some(value),
-        }
-    }
-
-    fn settle(&mut self)
-    where
-        T: Drop,
-    {
-        let empty = Place::Shared(Seeded::new(()));
-        if let Some(value) = mem::replace(&mut self.place, empty).into_value() {
-            self.place = Place::Owned(value);
-        }
+    /// The value, if there is one: nobody else has the `Once`. It stays where it is, and what is written over it is the
+    /// value from then on.
+    pub fn get_mut(&mut self) -> Option<&mut T> {
+        self.seeded.get_mut()
     }
 
     /// The value, if there is one.
     pub fn try_into_inner(self) -> Option<T> {
-        let Self { place, strategy: _ } = self;
-        place.into_value()
+        let Self {
+            seeded,
+            strategy: _,
+        } = self;
+        seeded.into_inner()
     }
 }
 
 impl<T, R: RelaxStrategy> Once<T, R> {
     /// The value. Where there is none it runs the closure, whose answer is the value from then on; while another closure
     /// runs it relaxes until that one has ended. Nothing is promised about when it returns.
+    ///
+    /// Example: `looks_before_and_after`, `crates/spin_once/src/once/tests.rt`.
     pub fn call_once<F: FnOnce() -> T, W: Wait>(&self, rt: &W, f: F) -> &T
         requires { F.pre f }
     {
-        match self.come(rt) {
+        match self.seeded.come::<R, W>(rt) {
             Come::Value(value) => value,
             Come::Turn(turn, ()) => turn.complete(f()),
         }
@@ -106,6 +86,8 @@ impl<T, R: RelaxStrategy> Once<T, R> {
 
     /// As `call_once`, of a closure that may fail. Its `Err` is answered, and there is no value: a later closure may give
     /// one. An `Err` is always this caller's own closure's.
+    ///
+    /// Example: `a_closure_that_fails_leaves_the_next_one_its_turn`, `crates/spin_once/src/once/tests.rt`.
     pub fn try_call_once<F: FnOnce() -> Result<T, E>, E, W: Wait>(
         &self,
         rt: &W,
@@ -114,7 +96,7 @@ impl<T, R: RelaxStrategy> Once<T, R> {
         requires { F.pre f }
         ensures err { IfErr result (λ e. F.post f (Err e)) }
     {
-        let turn = match self.come(rt) {
+        let turn = match self.seeded.come::<R, W>(rt) {
             Come::Value(value) => return Ok(value),
             Come::Turn(turn, ()) => turn,
         };
@@ -128,6 +110,8 @@ impl<T, R: RelaxStrategy> Once<T, R> {
     }
 
     /// As `call_once`, of a closure that copies the value.
+    ///
+    /// Example: `a_copy_of_a_value`, `crates/spin_once/src/once/tests.rt`.
     pub fn init_from_ref<W: Wait>(&self, rt: &W, value: &T) -> &T
     where
         T: Copy,
@@ -137,34 +121,12 @@ impl<T, R: RelaxStrategy> Once<T, R> {
 
     /// The value, once there is one. It relaxes until then, also where nobody has begun to make it.
     pub fn wait<W: Wait>(&self, rt: &W) -> &T {
-        match &self.place {
-            Place::Shared(seeded) => seeded.wait::<R, W>(rt),
-            Place::Owned(value) => value,
-        }
+        self.seeded.wait::<R, W>(rt)
     }
 
     /// The value, or `None` where there is none and no closure runs. While one runs it relaxes until that has ended.
     pub fn poll<W: Wait>(&self, rt: &W) -> Option<&T> {
-        match &self.place {
-            Place::Shared(seeded) => seeded.poll::<R, W>(rt),
-            Place::Owned(value) => Some(value),
-        }
-    }
-
-    fn come<W: Wait>(&self, rt: &W) -> Come<'_, T, ()> {
-        match &self.place {
-            Place::Shared(seeded) => seeded.come::<R, W>(rt),
-            Place::Owned(value) => Come::Value(value),
-        }
-    }
-}
-
-impl<T> Place<T> {
-    fn into_value(self) -> Option<T> {
-        match self {
-            Place::Shared(seeded) => seeded.into_inner(),
-            Place::Owned(value) => Some(value),
-        }
+        self.seeded.poll::<R, W>(rt)
     }
 }
 

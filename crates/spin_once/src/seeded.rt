@@ -2,7 +2,7 @@
 ghost use Rattle.std.specs.Prelude.{◌≡◌, IfSome};
 ghost use Rattle.spin_once.specs.Finds.{FindsMade, TakesMade};
 
-use self::rule::{Begins, COMPLETE, NOTHING, Progress, SeedCell, Stage, seen};
+use self::rule::{Begins, COMPLETE, NOTHING, Progress, SeedCell, Stage, made, seen};
 use spin_core::relax::RelaxStrategy;
 use spin_step::once;
 use std::mem;
@@ -39,6 +39,16 @@ impl<T, S: Seed<T>> Seeded<T, S> {
         }
     }
 
+    /// There is a value from the start, which may be made from such a seed.
+    pub(crate) fn initialized(value: T, seed: &S) -> Self
+        requires { S.makes seed.now value }
+        ensures { result.cell.value ≡ seed.now }
+    {
+        Seeded {
+            cell: rule::completed(value, seed),
+        }
+    }
+
     /// The value, if there is one at the moment of its one load.
     pub(crate) fn get(&self) -> Option<&T>
         ensures { IfSome result (λ value. S.makes self.now.cell.value value.now) }
@@ -55,10 +65,18 @@ impl<T, S: Seed<T>> Seeded<T, S> {
         S: Drop,
     {
         let Self { cell } = self;
-        match cell.into_inner() {
+        match cell.into_inner().value {
             Stage::Done(value) => Some(value),
             _ => None,
         }
+    }
+
+    /// The value, if there is one, to be written. Nobody else has the cell.
+    pub(crate) fn get_mut(&mut self) -> Option<&mut T>
+        requires any { (seed : S) (value : T) → S.makes seed value }
+    {
+        let settled = self.cell.get_settled(COMPLETE as u64)?;
+        Some(made(settled))
     }
 
     fn begin(&self) -> Found<'_, T, S>
@@ -77,7 +95,7 @@ impl<T, S: Seed<T>> Seeded<T, S> {
             return Found::Busy;
         }
         let mut writer = permit.into_writer();
-        match mem::replace(writer.get_mut(), Stage::Taken) {
+        match mem::replace(&mut writer.get_mut().value, Stage::Taken) {
             Stage::Seed(seed) => Found::Seed(Turn::new(writer), seed),
             _ => unreachable!(),
         }

@@ -74,6 +74,26 @@ fn a_promise_is_kept(rt: HostRuntime) {
     assert_eq!(rt; seen_twice(&rt, &lazy), 7);
 }
 
+/// Forty-two, as its own type says.
+#[derive(Drop)]
+struct FortyTwo {
+    number: u64,
+    ghost is: { number ≡ 42 },
+}
+
+// A caller's proof without a promise: what every value of the type keeps is known of the one that is made.
+fn forty_two<W: Wait>(rt: &W) -> u64
+    ensures { result ≡ 42 }
+{
+    let lazy: LazyLock<FortyTwo, _> = LazyLock::new(|| FortyTwo { number: 41 + 1 });
+    LazyLock::force(&lazy, rt).number
+}
+
+#[test]
+fn a_value_is_what_its_type_says(rt: HostRuntime) {
+    assert_eq!(rt; forty_two(&rt), 42);
+}
+
 #[test]
 fn ten_that_ask_at_once_run_it_once(rt: HostRuntime) -> Result<(), Fail> {
     let runs = AtomicU64::new(0);

@@ -80,10 +80,15 @@ fn with_a_value_from_the_start_or_without(rt: HostRuntime) {
     assert!(rt; once.is_completed());
 }
 
+// The owner of any `Once` may change its value, also of one that may not be dropped.
+fn lends<T>(once: &mut Once<T>) -> Option<&mut T> {
+    once.get_mut()
+}
+
 #[test]
 fn its_owner_changes_the_value(rt: HostRuntime) {
     let mut once: Once<u64> = Once::initialized(5);
-    if let Some(value) = once.get_mut() {
+    if let Some(value) = lends(&mut once) {
         *value = 6;
     }
     assert!(rt; once.is_completed());

@@ -1,13 +1,19 @@
 //! What the parties of a `Seeded` are, what its word says of them, and each kind of step.
 ghost use Rattle.std.specs.Prelude.{◌≡◌, Some};
 ghost use Rattle.spin_core.specs.Plays.{becomes, becomes_by};
+ghost use Rattle.spin_core.specs.Settled.{loose};
 ghost use Rattle.spin_once.specs.Once.{looked, tried};
 ghost use Rattle.spin_once.specs.Looks.{LooksMade};
 ghost use Rattle.spin_once.specs.declared.seeded.rule.View.TheVariants.{Idle, Running, Seeing};
 ghost use Rattle.spin_once.specs.declared.seeded.rule.Stage.TheVariants.{Done};
 
+use spin_core::cell::settled::{Loose, Settles};
 use spin_core::cell::{Cell, Permit, Play, Rule, WritePermit};
 use std::snapshot::Snapshot;
+
+mod lends;
+
+pub(super) use self::lends::made;
 
 // The states of the word.
 pub(super) const NOTHING: u8 = 0;
@@ -39,8 +45,17 @@ pub enum Stage<T, S> {
     Done(T),
 }
 
+pub(super) type Slot<T, S> = Loose<Stage<T, S>>;
+
+/// A value that was made stays made.
+impl<T, S> Settles for Stage<T, S> {
+    ghost use Rattle.spin_once.specs.Once.{is_done};
+
+    ghost settled = { is_done };
+}
+
 /// The word is that of a plain lock in a phase of these parties. The second word is 0.
-impl<T, S: Seed<T>> Rule<Stage<T, S>, View> for Stage<T, S> {
+impl<T, S: Seed<T>> Rule<Slot<T, S>, View> for Slot<T, S> {
     ghost use Rattle.spin_once.specs.Once.{IsOnce, once_ways};
 
     type Key = Snapshot<S>;
@@ -50,11 +65,11 @@ impl<T, S: Seed<T>> Rule<Stage<T, S>, View> for Stage<T, S> {
     ghost ways = { once_ways S.makes };
 }
 
-pub(super) type SeedCell<T, S> = Cell<Stage<T, S>, View, Stage<T, S>>;
+pub(super) type SeedCell<T, S> = Cell<Slot<T, S>, View, Slot<T, S>>;
 
-pub(super) type Party<'a, T, S> = Permit<'a, Stage<T, S>, View, Stage<T, S>>;
+pub(super) type Party<'a, T, S> = Permit<'a, Slot<T, S>, View, Slot<T, S>>;
 
-pub(super) type Writer<'a, T, S> = WritePermit<'a, Stage<T, S>, View, Stage<T, S>>;
+pub(super) type Writer<'a, T, S> = WritePermit<'a, Slot<T, S>, View, Slot<T, S>>;
 
 /// How far it has come, at a look.
 pub(crate) enum Progress<'a, T> {
@@ -92,7 +107,21 @@ pub(super) fn seeded<T, S: Seed<T>>(seed: S) -> SeedCell<T, S>
     ensures { result.value ≡ seed }
 {
     let key = Snapshot::of(&seed);
-    Cell::new(Stage::Seed(seed), NOTHING as u64, 0, &key)
+    let slot = Loose {
+        value: Stage::Seed(seed),
+    };
+    Cell::new(slot, NOTHING as u64, 0, &key)
+}
+
+/// Somebody has seen the value.
+pub(super) fn completed<T, S: Seed<T>>(value: T, seed: &S) -> SeedCell<T, S>
+    requires { S.makes seed.now value }
+    ensures { result.value ≡ seed.now }
+{
+    let slot = Loose {
+        value: Stage::Done(value),
+    };
+    Cell::new(slot, COMPLETE as u64, 0, &Snapshot::of(seed))
 }
 
 /// How far it has come at a moment.
@@ -114,10 +143,10 @@ pub(super) fn look<T, S: Seed<T>>(cell: &SeedCell<T, S>) -> Progress<'_, T>
 /// The value, for good, of a party that sees it.
 pub(super) fn seen<'a, T, S: Seed<T>>(party: Party<'a, T, S>) -> &'a T
     requires { party.view ≡ Some Seeing }
-    ensures value { party.entry.value ≡ Some (Done result.now) }
+    ensures value { party.entry.value ≡ Some (loose (Done result.now)) }
     ensures made { S.makes party.entry.key.value result.now }
 {
-    match party.see() {
+    match &party.see().value {
         Stage::Done(value) => value,
         _ => unreachable!(),
     }

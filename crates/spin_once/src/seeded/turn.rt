@@ -1,5 +1,6 @@
 //! A party's turn to make the value.
 ghost use Rattle.std.specs.Prelude.{◌≡◌, Some};
+ghost use Rattle.spin_core.specs.Settled.{loose};
 ghost use Rattle.spin_once.specs.declared.seeded.rule.View.TheVariants.{Running};
 ghost use Rattle.spin_once.specs.declared.seeded.rule.Stage.TheVariants.{Taken};
 
@@ -10,7 +11,7 @@ use std::mem;
 /// The party that began: it has the cell's value alone, until it gives one or puts the seed back.
 pub(crate) struct Turn<'a, T, S: Seed<T>> {
     writer: Writer<'a, T, S>,
-    ghost taken: { writer.value ≡ Taken },
+    ghost taken: { writer.value ≡ loose Taken },
 }
 
 /// What a party that tries to begin finds.
@@ -23,7 +24,7 @@ pub(crate) enum Found<'a, T, S: Seed<T>> {
 
 impl<'a, T, S: Seed<T>> Turn<'a, T, S> {
     pub(super) fn new(writer: Writer<'a, T, S>) -> Self
-        requires { writer.value ≡ Taken }
+        requires { writer.value ≡ loose Taken }
         ensures { result.writer ≡ writer.entry }
     {
         Turn { writer }
@@ -47,11 +48,11 @@ impl<'a, T, S: Seed<T>> Turn<'a, T, S> {
     }
 
     fn put(self, stage: Stage<T, S>) -> Party<'a, T, S>
-        ensures runs { (result.view ≡ Some Running) × (result.value ≡ Some stage) }
+        ensures runs { (result.view ≡ Some Running) × (result.value ≡ Some (loose stage)) }
         ensures key { result.key ≡ self.entry.writer.key }
     {
         let Self { mut writer } = self;
-        match mem::replace(writer.get_mut(), stage) {
+        match mem::replace(&mut writer.get_mut().value, stage) {
             Stage::Taken => writer.into_permit(),
             _ => unreachable!(),
         }

@@ -123,4 +123,11 @@ fn a_value_is_dropped_once(rt: HostRuntime) {
     assert_eq!(rt; ends.get(), 1);
     drop(value);
     assert_eq!(rt; ends.get(), 2);
+    let mut once = Once::<Counted>::initialized(Counted { ends: &ends });
+    if let Some(value) = once.get_mut() {
+        *value = Counted { ends: &ends };
+    }
+    assert_eq!(rt; ends.get(), 3);
+    drop(once);
+    assert_eq!(rt; ends.get(), 4);
 }
