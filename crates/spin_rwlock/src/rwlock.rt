@@ -21,12 +21,17 @@ pub use self::reader::{ReadHeld, RwLockReadGuard, SharedGuard};
 pub use self::upgradable::RwLockUpgradableGuard;
 pub use self::writer::{RwLockWriteGuard, WriteHeld};
 
+// How often a reader spins that was too late twice. Readers that try again at once keep one another from getting through.
+const STAND_BACK: usize = 32;
+
 /// A lock that lends its value to readers beside one another, or to one writer alone, and spins while it waits.
 ///
 /// One reader at a time may be upgradable: it may become the writer without letting go, and no further reader comes
 /// while it stands. Writers are not preferred: while readers come again and again, no writer may get in.
 ///
 /// `P` is always `RwRule<T>`, and never named.
+///
+/// Example: `a_writer_beside_five_readers`, `crates/spin_rwlock_tests/src/threads.rt`.
 #[derive(Drop)]
 pub struct RwLock<T, R = Spin, P: Rule<T, View> = RwRule<T>> {
     cell: Cell<T, View, P>,
@@ -35,6 +40,8 @@ pub struct RwLock<T, R = Spin, P: Rule<T, View> = RwRule<T>> {
 
 impl<T, R> RwLock<T, R> {
     /// A lock that nobody holds.
+    ///
+    /// Example: `a_writer_goes_on_as_a_reader`, `crates/spin_rwlock_tests/src/calls.rt`.
     pub fn new(value: T) -> Self {
         RwLock {
             cell: Cell::new(value, 0, 0, &()),
@@ -43,14 +50,18 @@ impl<T, R> RwLock<T, R> {
     }
 
     /// The value, whatever the word is: nobody else has the lock.
+    ///
+    /// Example: `a_leaked_reader_stays`, `crates/spin_rwlock_tests/src/calls.rt`.
     pub fn get_mut(&mut self) -> &mut T {
         self.cell.get_mut()
     }
 
     /// Comes to read, or refuses beside a writer or an upgradable reader, or at the cap of readers. It tries again only
     /// where another party changed the word, and promises nothing about when it returns.
+    ///
+    /// Example: `a_writer_goes_on_as_a_reader`, `crates/spin_rwlock_tests/src/calls.rt`.
     pub fn try_read<W: Wait>(&self, rt: &W) -> Option<RwLockReadGuard<'_, T, R>> {
-        match self.lend_at(self.word()) {
+        match self.lend_from(0) {
             Ok(guard) => Some(guard),
             Err(found) => self.try_to_lend(rt, found?),
         }
@@ -58,13 +69,15 @@ impl<T, R> RwLock<T, R> {
 
     /// Comes to read and may upgrade, or refuses as `try_read` does.
     pub fn try_upgradeable_read<W: Wait>(&self, rt: &W) -> Option<RwLockUpgradableGuard<'_, T, R>> {
-        match self.lend_at(self.word()) {
+        match self.lend_from(0) {
             Ok(guard) => Some(guard),
             Err(found) => self.try_to_lend(rt, found?),
         }
     }
 
     /// Comes to write, or refuses beside any holder. It makes one exchange.
+    ///
+    /// Example: `held_readers_go_one_by_one`, `crates/spin_rwlock_tests/src/calls.rt`.
     pub fn try_write<'a>(&'a self) -> Option<RwLockWriteGuard<'a, T, R>> {
         Some(RwLockWriteGuard::new(rule::write(&self.cell)?))
     }
@@ -109,6 +122,15 @@ impl<T, R> RwLock<T, R> {
         Ok(SharedGuard::new(K::come(&self.cell, word)?))
     }
 
+    // A reader of this kind comes at this word, or at the one that it finds in its place. To begin at 0 is to take the lock
+    // for a free one: that spares the load where it is free, and is the load where it is not.
+    fn lend_from<K: Kind>(&self, word: usize) -> Result<SharedGuard<'_, T, K, R>, Option<usize>> {
+        match self.lend_at(word) {
+            Err(Some(found)) => self.lend_at(found),
+            done => done,
+        }
+    }
+
     // Tries from this word on, while other parties change the word that was looked at.
     #[cold]
     #[inline(never)]
@@ -137,23 +159,28 @@ impl<T, R, P: Rule<T, View>> RwLock<T, R, P> {
 }
 
 impl<T, R: RelaxStrategy> RwLock<T, R> {
-    /// Comes to read, and relaxes while it is refused. Nothing is promised about when it returns.
+    /// Comes to read, and relaxes while it is refused, or for a moment where other parties were faster twice. Nothing is
+    /// promised about when it returns.
+    ///
+    /// Example: `guards_of_two_threads_read_one_lock`, `crates/spin_rwlock_tests/src/threads.rt`.
     pub fn read<W: Wait>(&self, rt: &W) -> RwLockReadGuard<'_, T, R> {
-        match self.lend_at(self.word()) {
+        match self.lend_from(0) {
             Ok(guard) => guard,
             Err(found) => self.wait_to_lend(rt, found),
         }
     }
 
-    /// Comes to read and may upgrade, and relaxes while it is refused. Nothing is promised about when it returns.
+    /// Comes to read and may upgrade, and waits as `read` does. Nothing is promised about when it returns.
     pub fn upgradeable_read<W: Wait>(&self, rt: &W) -> RwLockUpgradableGuard<'_, T, R> {
-        match self.lend_at(self.word()) {
+        match self.lend_from(0) {
             Ok(guard) => guard,
             Err(found) => self.wait_to_lend(rt, found),
         }
     }
 
     /// Comes to write, and relaxes while it is refused. Nothing is promised about when it returns.
+    ///
+    /// Example: `a_writer_goes_on_as_a_reader`, `crates/spin_rwlock_tests/src/calls.rt`.
     pub fn write<W: Wait>(&self, rt: &W) -> RwLockWriteGuard<'_, T, R> {
         match self.try_write_weak() {
             Some(guard) => guard,
@@ -172,13 +199,18 @@ impl<T, R: RelaxStrategy> RwLock<T, R> {
         let mut found = found;
         for _ in rt.forever() {
             let word = match found {
-                Some(word) => word,
+                Some(word) => {
+                    for _ in 0..STAND_BACK {
+                        Spin::relax(rt);
+                    }
+                    word
+                }
                 None => {
                     R::relax(rt);
                     self.word()
                 }
             };
-            match self.lend_at(word) {
+            match self.lend_from(word) {
                 Ok(guard) => return guard,
                 Err(next) => found = next,
             }
@@ -216,6 +248,3 @@ impl<T, R> From<T> for RwLock<T, R> {
 unsafe impl<T: Send, R, P: Rule<T, View>> Send for RwLock<T, R, P> {}
 
 unsafe impl<T: Send + Sync, R, P: Rule<T, View> + Sync> Sync for RwLock<T, R, P> {}
-
-#[cfg(test)]
-mod tests;

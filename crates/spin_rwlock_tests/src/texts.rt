@@ -1,6 +1,6 @@
 //! The texts as they are printed, and that a lock is left as it was.
 
-use crate::rwlock::RwLock;
+use spin_rwlock::rwlock::RwLock;
 use std::fmt::{Debug, Display, Write};
 use std::process::Abort;
 use std::test::Fail;

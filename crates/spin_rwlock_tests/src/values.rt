@@ -1,8 +1,8 @@
 //! Callers' proofs: what was seen under one guard is found under the next, and what was written is read back.
 ghost use Rattle.std.specs.Prelude.{◌≡◌};
 
-use crate::rwlock::{RwLock, RwLockReadGuard, RwLockUpgradableGuard, RwLockWriteGuard};
 use spin_core::relax::{Loop, RelaxStrategy};
+use spin_rwlock::rwlock::{RwLock, RwLockReadGuard, RwLockUpgradableGuard, RwLockWriteGuard};
 use std::sync::Wait;
 
 fn sees_the_same_after_upgrade<R: RelaxStrategy, W: Wait>(

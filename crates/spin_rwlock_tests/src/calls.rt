@@ -1,12 +1,8 @@
 //! What no contract says: which call is granted, and what the counts tell.
 
-use super::{RwLock, RwLockReadGuard, RwLockUpgradableGuard, RwLockWriteGuard};
 use spin_core::relax::Loop;
+use spin_rwlock::rwlock::{RwLock, RwLockReadGuard, RwLockUpgradableGuard, RwLockWriteGuard};
 use std::process::Abort;
-
-mod shared;
-mod texts;
-mod values;
 
 const WEAK_ATTEMPTS: u32 = 10_000_000;
 

@@ -1,9 +1,9 @@
 //! Locks and guards in several threads.
 
-use crate::rwlock::{
+use spin_core::relax::{Spin, Yield};
+use spin_rwlock::rwlock::{
     ReadHeld, RwLock, RwLockReadGuard, RwLockUpgradableGuard, RwLockWriteGuard, WriteHeld,
 };
-use spin_core::relax::{Spin, Yield};
 use std::cell::Cell;
 use std::sync::Wait;
 use std::thread;

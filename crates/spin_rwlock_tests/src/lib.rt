@@ -1,0 +1,11 @@
+//! Tests of the lock for readers: what no contract says of it.
+#![tactic(auto)]
+
+#[cfg(test)]
+mod calls;
+#[cfg(test)]
+mod texts;
+#[cfg(test)]
+mod threads;
+#[cfg(test)]
+mod values;
