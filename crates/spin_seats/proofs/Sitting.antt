@@ -1,6 +1,6 @@
 -- The steps of a lock of seats keep its rule: each is the plain step of its step function.
-use Rattle.std.proofs.Common.{◌≡◌, ℕ, ◌+◌, ◌-◌, ◌≤◌, ◌%◌, ◌^◌, ◌==◌, if◌then◌else◌, cond, List, [], ◌∷◌, length, filter, Option, Some, None, refl, sym, ap, ◌∙◌, arith}
-use Rattle.std.specs.Prelude.{sum_by}
+use Rattle.std.proofs.Common.{◌≡◌, ℕ, ◌+◌, ◌-◌, ◌≤◌, ◌%◌, ◌^◌, ◌==◌, Bool, true, false, if◌then◌else◌, cond, List, [], ◌∷◌, length, filter, Option, Some, None, refl, sym, ap, ◌∙◌, arith}
+use Rattle.std.specs.Prelude.{max, sum_by}
 use Rattle.std.proofs.lemmas.List.Sums.{sum_by-cons}
 use prog.Atomic.{either}
 use Rattle.spin_step.specs.Plain.{Plain, reading, count_kind, same_kind, gets, releases, to_read}
@@ -12,13 +12,13 @@ use Rattle.spin_core.specs.Plays.{becomes, exchanges}
 use Rattle.spin_core.proofs.CellCounts.{none}
 use Rattle.spin_core.proofs.Leaving.{flag_word-up, no_word-up}
 use Rattle.spin_core.proofs.Owners.{exactly}
-use Rattle.spin_core.proofs.Plays.{Lock, allows, allows_among, by_step, by_none, by_exchange, begins, rests, moved_rests, missed_rests}
+use Rattle.spin_core.proofs.Plays.{Lock, Holds, allows, allows_among, by_step, by_none, by_exchange, begins, rests, moved_rests, missed_rests}
 use Rattle.spin_core.proofs.Views.{part-beyond, release-own}
 use Rattle.spin_seats.specs.declared.seats.rule.View.{View}
 use Rattle.spin_seats.specs.declared.seats.rule.View.TheVariants.{Idle, Seated}
 use Rattle.spin_seats.specs.Seats.{AllRead, seats, seats_word}
 use Rattle.spin_seats.proofs.Taken.{leave-gives}
-use Rattle.spin_seats.specs.Rule.{part, IsSeats, use_of_view, seat_ways, sits, seated}
+use Rattle.spin_seats.specs.Rule.{part, IsSeats, looks, use_of_view, seat_ways, sits, seated}
 
 abbrev ways : Ways (Unit {0}) View
 ways = seat_ways
@@ -71,39 +71,63 @@ lock n = record {
 
 -- The steps
 
-pub starts : (n : ℕ) → Meets (IsSeats n) ways 0 0 []
-starts n = begins (lock n) 0 0 0 0 (omega arith) refl refl
+either_fits : (b : Bool) (x y most : ℕ) → x ≤ most → y ≤ most → either b x y ≤ most
+either_fits true x y most h k = h
+either_fits false x y most h k = k
 
-pub looks : (n : ℕ) → Allows (IsSeats n) ways None (λ w. w) (becomes Idle 0 0 None)
-looks n = allows (lock n) None (λ w. w) (becomes Idle 0 0 None) (λ s p room order has. (Idle, by_none (lock n) None Idle s p refl tt, refl))
+-- A lock in order lets one hold where its cap is 0. So that no more sit than there are seats is shown of each step by its word.
+within : (n : ℕ) (view : Option View) (f : ℕ → ℕ) (says tells : ℕ → View → Type 0) → ((w : ℕ) → w ≤ seats n → f w ≤ max 1 (seats n) → f w ≤ seats n) → ((w : ℕ) (v : View) → w ≤ seats n → says w v → tells w v)
+    → Allows (Holds (lock n)) ways view f says → Allows (IsSeats n) ways view f tells
+within n view f says tells few told step id w m vs meets at small =
+    let made = step id w m vs (meets.0.0, meets.1) at small in let is = made.1.0 in
+    (made.0, ((is, few w meets.0.1 (omega (arith, is.4, is.2.holders_fit, is.1))), made.1.1), told w made.0 meets.0.1 made.2)
+
+pub starts : (n : ℕ) → Meets (IsSeats n) ways 0 0 []
+starts n = let begun = begins (lock n) 0 0 0 0 (omega arith) refl refl in ((begun.0, omega arith), begun.1)
+
+pub looks_on : (n : ℕ) → Allows (IsSeats n) ways None (λ w. w) (looks n 0 0 None)
+looks_on n = within n None (λ w. w) (becomes Idle 0 0 None) (looks n 0 0 None) (λ w few most. few) (λ w v few is. (is, few))
+    (allows (lock n) None (λ w. w) (becomes Idle 0 0 None) (λ s p room order has. (Idle, by_none (lock n) None Idle s p refl tt, refl)))
 
 -- the step function's own lemma says that a seat is open where it grants one
-pub sits_down : (n old new : ℕ) → ((s : Plain) (p : ℕ) → AllRead s → s.cap ≡ seats n → seats_word s ≡ old → Decides s (gets p to_read) seats_word (Some new))
+pub sits_down : (n old new : ℕ) → ((s : Plain) (p : ℕ) → AllRead s → s.cap ≡ seats n → seats_word s ≡ old → Decides s (gets p to_read) seats_word (Some new)) → new ≤ seats n
     → Allows (IsSeats n) ways None (λ w. either (w == old) new w) (exchanges (λ _. Seated) Idle old new None)
-sits_down n old new plain = allows_among (lock n) None (λ w. either (w == old) new w) (exchanges (λ _. Seated) Idle old new None)
+sits_down n old new plain room = let says = exchanges (λ _. Seated) Idle old new None in
+    within n None (λ w. either (w == old) new w) says says (λ w few most. either_fits (w == old) new w (seats n) room few) (λ w v few said. said)
+    (allows_among (lock n) None (λ w. either (w == old) new w) says
     (λ s p vs room order is has. by_exchange (lock n) None Seated Idle s p (seats_word s) 0 old new
     (λ e. let granted = plain s p (all_read vs s is) room e in by_step (lock n) None Seated s (gets p to_read) new 0 granted.0 refl tt granted.1 refl)
-    (by_none (lock n) None Idle s p refl tt))
+    (by_none (lock n) None Idle s p refl tt)))
 
 pub gets_up : (n : ℕ) → Allows (IsSeats n) ways (Some Seated) (λ w. (w + (2 ^ 64 - 1)) % 2 ^ 64) (becomes Idle 1 0 (Some Seated))
-gets_up n = allows (lock n) (Some Seated) (λ w. (w + (2 ^ 64 - 1)) % 2 ^ 64) (becomes Idle 1 0 (Some Seated)) (λ s p room order has.
+gets_up n = let says = becomes Idle 1 0 (Some Seated) in
+    within n (Some Seated) (λ w. (w + (2 ^ 64 - 1)) % 2 ^ 64) says says (λ w few most. omega (arith, few, most)) (λ w v few said. said)
+    (allows (lock n) (Some Seated) (λ w. (w + (2 ^ 64 - 1)) % 2 ^ 64) says (λ s p room order has.
     let stands = is_holder-from_entries p reading s.holders (ap (λ e. e.holders) has.0) in (
       Idle,
       by_step (lock n) (Some Seated) Idle s (releases p reading) ((seats_word s + (2 ^ 64 - 1)) % 2 ^ 64) 0 stands (release-own s p reading) tt
           (omega (arith, leave-gives s p (seats_word s) refl stands, length-held p reading s.holders (ap (λ e. e.holders) has.0), order.holders_fit, room)) refl,
       refl,
-    ))
+    )))
 
 -- Who may go
 
-idle_rests : (n : ℕ) → Rests (IsSeats n) use_of_view (Some Idle)
+also : (n : ℕ) (view : Option View) → Rests (Holds (lock n)) use_of_view view → Rests (IsSeats n) use_of_view view
+also n None rest = tt
+also n (Some v) rest = (rest.0, λ w m before behind is. (rest.1 w m before behind is.0, is.1))
+
+idle_rests : (n : ℕ) → Rests (Holds (lock n)) use_of_view (Some Idle)
 idle_rests n = rests (lock n) Idle refl (λ p. refl)
 
 pub left_rests : (n : ℕ) (view : Option View) → Moved (λ v. v ≡ Idle) view → Rests (IsSeats n) use_of_view view
-left_rests n view moved = moved_rests (lock n) view Idle moved (idle_rests n)
+left_rests n view moved = also n view (moved_rests (lock n) view Idle moved (idle_rests n))
+
+pub looked : (n : ℕ) (view : Option View) (found : ℕ) → Moved (λ v. (v ≡ Idle) × (found ≤ seats n)) view → Rests (IsSeats n) use_of_view view × (found ≤ seats n)
+looked n None found moved = absurd moved
+looked n (Some v) found moved = (left_rests n (Some v) moved.0, moved.1)
 
 pub refused_rests : (n : ℕ) (view : Option View) (expected found : ℕ) → Moved (λ v. v ≡ (if found == expected then Seated else Idle)) view → (found ≡ expected → ⊥) → Rests (IsSeats n) use_of_view view
-refused_rests n view expected found moved ne = missed_rests (lock n) view Seated Idle found expected moved ne (idle_rests n)
+refused_rests n view expected found moved ne = also n view (missed_rests (lock n) view Seated Idle found expected moved ne (idle_rests n))
 
 -- What the rule says
 
@@ -115,6 +139,5 @@ readers_sit : (vs : List View) → readers_of use_of_view vs ≡ seated vs
 readers_sit [] = refl
 readers_sit (v ∷ vs) = omega (arith, one_sits v, readers_sit vs, sum_by-cons (λ v. reads_of (use_of_view v)) v vs, sum_by-cons (λ v. cond (sits v) 1 0) v vs)
 
-pub as_many_sit : (n word second : ℕ) (vs : List View) → 1 ≤ n → IsSeats n word second vs → (word ≡ seated vs) × (word ≤ n)
-as_many_sit n word second vs some is =
-    let all = as_many_hold vs is.0 is.3 in (omega (arith, is.4, all, readers_sit vs), omega (arith, is.4, is.2.holders_fit, is.1, some))
+pub as_many_sit : (n word second : ℕ) (vs : List View) → IsSeats n word second vs → (word ≡ seated vs) × (word ≤ n)
+as_many_sit n word second vs (is, few) = (omega (arith, is.4, as_many_hold vs is.0 is.3, readers_sit vs), omega (arith, few))

@@ -1,5 +1,6 @@
 -- What the step functions of seats are to the plain lock.
-use Rattle.std.proofs.Common.{◌≡◌, ℕ, ◌+◌, ◌-◌, ◌&&◌, ◌∷◌, [], length, ap, ◌∙◌, arith, eq-eqb, nat_lt, length-append}
+use Rattle.std.proofs.Common.{◌≡◌, ℕ, ◌+◌, ◌-◌, ◌<◌, ◌≤◌, ◌&&◌, Bool, true, false, if◌then◌else◌, Some, None, refl, ◌∷◌, [], length, ap, ◌∙◌, arith, eq-eqb, nat_lt, length-append}
+use Rattle.std.proofs.lemmas.Bool.{ltb-true}
 use Rattle.spin_step.specs.Plain.{Plain, reading, upgradable, writing, holder, gets, releases, to_read, count_kind, may_read}
 use Rattle.spin_step.specs.Steps.{Decides, Gives}
 use Rattle.spin_step.proofs.Deciding.{decides_if}
@@ -19,3 +20,11 @@ enter-grants s p n w all room is =
 
 pub leave-gives : (s : Plain) (p w : ℕ) → seats_word s ≡ w → Gives s (releases p reading) seats_word (w - 1)
 leave-gives s p w is = λ found. omega (arith, is, length-without_holder p reading s.holders found)
+
+fits-if : (b : Bool) (w next most : ℕ) → (b ≡ true → w < most) → Some next ≡ (if b then Some (w + 1) else None) → next ≤ most
+fits-if true w next most below is = let e : next ≡ w + 1 = cc in omega (arith, below refl, e)
+fits-if false w next most below is = absurd cc
+
+-- who sits down finds a seat
+pub entered-fits : (n w next : ℕ) → Some next ≡ entered n w → next ≤ seats n
+entered-fits n w next is = fits-if (nat_lt w (seats n)) w next (seats n) (λ e. ltb-true w (seats n) e) is

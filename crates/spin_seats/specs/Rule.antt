@@ -1,5 +1,5 @@
--- The rule of a lock of seats: its word is that of a plain lock whose holders are the parties that sit.
-use Rattle.std.specs.Prelude.{ℕ, Bool, true, false, List, count_by}
+-- The rule of a lock of seats: its word is that of a plain lock whose holders are the parties that sit, no more than there are seats.
+use Rattle.std.specs.Prelude.{◌≡◌, ℕ, ◌≤◌, Bool, true, false, List, Option, count_by}
 use Rattle.spin_step.specs.Plain.{reading}
 use Rattle.spin_core.specs.Cell.{Use, lends, Ways}
 use Rattle.spin_core.specs.Views.{Part, idle, holds, Encodes, used_by, no_word}
@@ -12,7 +12,11 @@ part Idle = idle
 part Seated = holds reading
 
 abbrev pub IsSeats : ℕ → ℕ → ℕ → List View → Type 0
-IsSeats n = Encodes part (seats n) seats_word no_word
+IsSeats n word second views = Encodes part (seats n) seats_word no_word word second views × (word ≤ seats n)
+
+-- a party looks, sits down nowhere, and finds no more taken than there are seats
+abbrev pub looks : ℕ → ℕ → ℕ → Option View → ℕ → View → Type 0
+looks n old new before found after = (after ≡ Idle) × (found ≤ seats n)
 
 abbrev pub use_of_view : View → Use
 use_of_view = used_by part

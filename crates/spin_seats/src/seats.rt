@@ -1,5 +1,6 @@
 //! A spinning lock of `N` seats: a counting semaphore.
-ghost use Rattle.std.specs.Prelude.{◌≡◌, Some};
+ghost use Rattle.std.specs.Prelude.{◌≡◌, ◌≤◌, Some};
+ghost use Rattle.spin_seats.specs.Seats.{seats};
 ghost use Rattle.spin_seats.specs.declared.seats.rule.View.TheVariants.{Seated};
 
 use self::rule::{GetUp, Look, SeatsRule, SitDown, View};
@@ -33,9 +34,11 @@ impl<const N: usize> Seats<N> {
         }
     }
 
-    /// How many seats are taken at the moment of its one load.
-    pub fn count(&self) -> usize {
-        let (found, permit) = self.cell.enter().load::<Look>();
+    /// How many seats are taken at the moment of its one load: at most `N`, and at most [`MAX_SEATS`](steps::MAX_SEATS).
+    pub fn count(&self) -> usize
+        ensures { result ≤ seats N }
+    {
+        let (found, permit) = self.cell.enter().load::<Look<N>>();
         permit.leave();
         found as usize
     }

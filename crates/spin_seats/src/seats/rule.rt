@@ -1,6 +1,6 @@
 //! What the parties of a lock of seats are, what its word says of them, and each kind of step.
 ghost use Rattle.spin_core.specs.Plays.{becomes, exchanges};
-ghost use Rattle.spin_seats.specs.Rule.{IsSeats, seat_ways};
+ghost use Rattle.spin_seats.specs.Rule.{IsSeats, looks, seat_ways};
 ghost use Rattle.spin_seats.specs.declared.seats.rule.View.TheVariants.{Idle, Seated};
 
 use spin_core::cell::{Play, Rule};
@@ -23,11 +23,11 @@ impl<const N: usize> Rule<(), View> for SeatsRule<N> {
     ghost ways = { λ _. seat_ways };
 }
 
-/// A party comes and sits down nowhere.
-pub(super) struct Look;
+/// A party comes and sits down nowhere. It finds no more than `N` sitting.
+pub(super) struct Look<const N: usize>;
 
-impl Play<View> for Look {
-    ghost then = { becomes Idle };
+impl<const N: usize> Play<View> for Look<N> {
+    ghost then = { looks N };
 }
 
 /// A party comes, and sits where it found the word that it expected.
