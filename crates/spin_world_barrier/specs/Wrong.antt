@@ -42,8 +42,19 @@ early_step w value c (Leave g) h = record { words = w; placed = None; next = Ans
 abbrev pub leaves_early : BarrierMachine
 leaves_early = record pairs { step = early_step }
 
+-- whoever fills its group is told that it follows
+abbrev follower_step : Steps
+follower_step w value c Arrive h = record { words = arrive 2 w; placed = None; next = either (w.count == 1) (Answers Follower h) (GoesOn (Leave w.generation)) }
+follower_step w value c (Leave g) h = pairs.step w value c (Leave g) h
+
+abbrev pub nobody_leads : BarrierMachine
+nobody_leads = record pairs { step = follower_step }
+
 abbrev pub one_arrival : List (ℕ × Move BarrierCall ℕ)
 one_arrival = (0, Begin Wait) ∷ (0, Step) ∷ []
 
 abbrev pub two_steps : List (ℕ × Move BarrierCall ℕ)
 two_steps = (0, Begin Wait) ∷ (0, Step) ∷ (0, Step) ∷ []
+
+abbrev pub one_group : List (ℕ × Move BarrierCall ℕ)
+one_group = (0, Begin Wait) ∷ (0, Step) ∷ (1, Begin Wait) ∷ (1, Step) ∷ []

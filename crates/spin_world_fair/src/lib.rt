@@ -13,6 +13,3 @@ pub use refused::{
     a_lock_past_its_patience_is_no_newcomer, a_newcomer_yields_to_starvers,
     a_refusal_tells_its_reason, a_starver_tries_again, starvers_stay_within_the_cap,
 };
-
-#[cfg(test)]
-mod tests;

@@ -14,6 +14,3 @@ pub use refused::{
     a_poll_waits_for_the_closure, a_second_closure_does_not_run, a_value_is_the_closures_own,
     an_answer_is_the_value_placed,
 };
-
-#[cfg(test)]
-mod tests;

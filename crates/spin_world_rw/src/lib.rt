@@ -15,6 +15,3 @@ pub use refused::{
     an_upgrade_is_refused_beside_readers, an_upgrade_never_lets_go,
 };
 pub use rw::{Rw, RwCall, RwPoint};
-
-#[cfg(test)]
-mod tests;

@@ -10,6 +10,3 @@ pub use refused::{
     a_lock_enters, a_lock_queues_behind_others, a_look_loads_the_served_number_first,
 };
 pub use ticket::{Ticket, TicketCall, TicketPoint, TicketWords};
-
-#[cfg(test)]
-mod tests;

@@ -1,19 +1,11 @@
-use super::*;
-use spin_world_core::{Answer, Hold, Move, Outcome, Place, World};
+use crate::play::answered;
+use spin_world::{Answer, Hold, Move, Outcome, Place, Rw, RwCall, World};
 use std::alloc::{AllocError, Global};
 use std::process::Abort;
 use std::test::Fail;
 
 /// A party, its move, what came of it, and the word after it.
 type Row = (usize, Move<RwCall, u64>, Outcome<Answer<u64>, u64>, usize);
-
-/// The answer of a call that began at this place of its schedule.
-fn answered(answer: Answer<u64>, began: usize) -> Outcome<Answer<u64>, u64> {
-    Outcome::Answered {
-        answer,
-        began: Some(began),
-    }
-}
 
 /// A world whose events are compared as they come.
 #[derive(Drop)]

@@ -1,33 +1,6 @@
-use super::*;
-use spin_world_core::{Answer, Move, Outcome, Place, World};
-use std::process::Abort;
+use crate::play::{answered, play};
+use spin_world::{Answer, BarrierCall, BarrierObject, BarrierWords, Move, Outcome, Place, World};
 use std::test::Fail;
-
-/// What came of a move.
-type Came = Outcome<Answer<u64>, u64>;
-
-/// The answer of a call that began at this place of its schedule.
-fn answered(answer: Answer<u64>, began: usize) -> Came {
-    Outcome::Answered {
-        answer,
-        began: Some(began),
-    }
-}
-
-/// Plays a schedule, and compares each event's party, outcome and words.
-fn play(
-    rt: &impl Abort,
-    world: &mut World<BarrierObject>,
-    schedule: &[(usize, Move<BarrierCall, u64>)],
-    expected: &[(usize, Came, BarrierWords)],
-) -> Result<(), Fail> {
-    let transcript = world.run(schedule)?;
-    assert_eq!(rt; transcript.events.len(), expected.len());
-    for (event, row) in transcript.events.iter().zip(expected) {
-        assert_eq!(rt; (event.party, event.outcome, event.words), *row);
-    }
-    Ok(())
-}
 
 const fn at(count: usize, generation: usize) -> BarrierWords {
     BarrierWords { count, generation }

@@ -1,24 +1,13 @@
-use super::*;
-use spin_world_core::{Answer, Hold, Move, Outcome, Place, World};
+use crate::play::{Came, answered};
+use spin_world::{Answer, Fair, FairCall, Hold, Move, Outcome, Place, World};
 use std::process::Abort;
 use std::test::Fail;
-
-/// What came of a move.
-type Came = Outcome<Answer<u64>, u64>;
-
-/// The answer of a call that began at this place of its schedule.
-fn answered(answer: Answer<u64>, began: usize) -> Came {
-    Outcome::Answered {
-        answer,
-        began: Some(began),
-    }
-}
 
 /// Plays the moves of these rows, and compares each event's party, outcome and word.
 fn play<const N: usize>(
     rt: &impl Abort,
     world: &mut World<Fair<u64>>,
-    rows: &[(usize, Move<FairCall, u64>, Came, usize); N],
+    rows: &[(usize, Move<FairCall, u64>, Came<u64>, usize); N],
 ) -> Result<(), Fail> {
     let mut schedule = [(0, Move::Step); N];
     for (entry, row) in schedule.iter_mut().zip(rows.iter()) {
