@@ -9,11 +9,8 @@ use crate::mutex::{Pass, SeatedMutex};
 use std::alloc::{AllocError, Global};
 use std::thread::{Threads, join};
 
-/// A lock with two passes.
-pub(crate) fn open_for_two(
-    alloc: Global,
-    value: u64,
-) -> Result<(SeatedMutex, Pass, Pass), AllocError>
+/// A lock for two callers, and their passes.
+pub fn open_for_two(alloc: Global, value: u64) -> Result<(SeatedMutex, Pass, Pass), AllocError>
     ensures opening { IfOk result (λ r. opening_of r.0 ≡ record { value = value; passes = 2 }) }
     ensures passes { IfOk result (λ r. (r.1 ≡ pass_of r.0 0) × (r.2 ≡ pass_of r.0 1)) }
 {

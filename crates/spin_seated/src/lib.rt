@@ -5,5 +5,3 @@ pub mod adding;
 pub mod history;
 pub mod laws;
 pub mod mutex;
-#[cfg(test)]
-mod tests;

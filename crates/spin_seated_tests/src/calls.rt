@@ -2,10 +2,10 @@
 ghost use Rattle.std.specs.Prelude.{◌≡◌};
 ghost use Rattle.spin_seated.specs.Passes.{IsPassOf};
 
-use crate::adding::{add_in_two, open_for_two};
-use crate::mutex::{Pass, SeatedMutex};
 use bumpalo::Bump;
 use spin_core::relax::{RelaxStrategy, Yield};
+use spin_seated::adding::{add_in_two, open_for_two};
+use spin_seated::mutex::{Pass, SeatedMutex};
 use std::sync::Wait;
 use std::test::Fail;
 use std::thread::join;
