@@ -1,11 +1,13 @@
 //! What no contract says: worked texts byte for byte, lines that are in the grammar and lines that are not, and ends that fail.
 ghost use Rattle.std.specs.Prelude.{◌≡◌, Some, None, false};
 
+mod gallery;
 mod lines;
 mod transcripts;
 
+use self::gallery::GALLERY;
 use self::lines::{OUTSIDE, WITHIN};
-use self::transcripts::WORKED;
+use self::transcripts::{WORKED, Worked};
 use super::{Failed, OfStd, RunError, Sink, Source, world_text};
 use std::alloc::Global;
 use std::cell::Cell;
@@ -61,7 +63,7 @@ impl Source for Tape<'_> {
 }
 
 /// The most bytes that a test writes.
-const ROOM: usize = 600;
+const ROOM: usize = 800;
 
 /// A sheet that takes no memory of its own. It takes at most `step` bytes at a time, and fails once it holds `room` bytes.
 #[derive(Drop)]
@@ -135,14 +137,24 @@ fn comes_to(
     assert_eq!(rt; output.text(), told, "{text:?}");
 }
 
+/// Plays each text, with its last line feed and without.
+fn each_comes_to(rt: &impl Abort, alloc: Global, worked: &[Worked]) {
+    for (text, told) in worked {
+        let text = text.as_bytes();
+        comes_to(rt, alloc, text, Ok(()), told.as_bytes());
+        let (without_end, _) = text.split_at(text.len().saturating_sub(1));
+        comes_to(rt, alloc, without_end, Ok(()), told.as_bytes());
+    }
+}
+
 #[test]
 fn worked_texts(rt: HostRuntime) {
-    for (text, told) in WORKED {
-        let text = text.as_bytes();
-        comes_to(&rt, rt.alloc(), text, Ok(()), told.as_bytes());
-        let (without_end, _) = text.split_at(text.len().saturating_sub(1));
-        comes_to(&rt, rt.alloc(), without_end, Ok(()), told.as_bytes());
-    }
+    each_comes_to(&rt, rt.alloc(), WORKED);
+}
+
+#[test]
+fn texts_of_the_gallery(rt: HostRuntime) {
+    each_comes_to(&rt, rt.alloc(), GALLERY);
 }
 
 #[test]
@@ -213,22 +225,6 @@ fn tells_a_failed_write(rt: HostRuntime) {
             Ok(())
         );
         assert_eq!(rt; output.text(), told.as_slice());
-    }
-}
-
-/// With each allocation refused in turn this answers want of memory, and then nothing was written. Nothing here takes
-/// memory but the call, so `rt try --test --fail-alloc N` refuses its Nth.
-#[test]
-fn tells_refused_memory(rt: HostRuntime) {
-    for (text, told) in WORKED {
-        let mut output = Sheet::new(usize::MAX, ROOM);
-        let answer = world_text(rt.alloc(), &mut Tape::new(text.as_bytes()), &mut output);
-        if answer == Err(RunError::Memory) {
-            assert_eq!(rt; output.writes, 0);
-        } else {
-            assert_eq!(rt; answer, Ok(()));
-            assert_eq!(rt; output.text(), told.as_bytes());
-        }
     }
 }
 
