@@ -14,6 +14,3 @@ pub use spin_text::{
     Failed, OfStd, RunError, Sink, Source, a_text_has_one_reading, numbers_are_printed_texts,
     world_text,
 };
-
-#[cfg(test)]
-mod tests;

@@ -7,20 +7,37 @@ ghost use Rattle.spin_run.specs.Faults.{Stops, IsWordless, line_of, status_of};
 use super::command::program;
 use super::faults::{Fault, report};
 use spin_text::{Sink, Source};
+use std::alloc::{AllocError, Allocator};
 use std::env::Env;
 use std::sync::Wait;
 use std::thread::Threads;
 use std::{env, io};
 
 /// The arguments behind the program's name. One that is not text is in no command.
+///
+/// The room is asked for first: `collect` makes up for a refused request by a smaller one, and tells nothing.
 fn arguments<R: Env + Alloc>(rt: &R) -> Result<Vec<String<R::A>, R::A>, Fault>
     ensures { IfErr result IsWordless }
 {
     match env::args(rt) {
-        Ok(all) => Ok(all.skip(1).collect(rt.alloc())?),
+        Ok(all) => {
+            let mut words = Vec::with_capacity(rt.alloc(), all.len())?;
+            words.extend(all.skip(1))?;
+            Ok(words)
+        }
         Err(e) if e.kind() == io::ErrorKind::OutOfMemory => Err(Fault::Memory),
         Err(_) => Err(Fault::Usage),
     }
+}
+
+/// The arguments as text.
+fn texts<'a, A: Allocator>(
+    alloc: A,
+    arguments: &'a [String<A>],
+) -> Result<Vec<&'a str, A>, AllocError> {
+    let mut texts = Vec::with_capacity(alloc, arguments.len())?;
+    texts.extend(arguments.iter().map(|word| word.as_str()))?;
+    Ok(texts)
 }
 
 /// `program` over the arguments that the process was started with, as the runtime tells them.
@@ -62,11 +79,7 @@ pub fn program_over_arguments<
         Ok(arguments) => arguments,
         Err(fault) => return report(fault, errors),
     };
-    let words = arguments
-        .iter()
-        .map(|word| word.as_str())
-        .collect::<Vec<&str, R::A>>(rt.alloc());
-    match words {
+    match texts(rt.alloc(), &arguments) {
         Ok(words) => program(rt, rt.alloc(), words.as_slice(), input, output, errors),
         Err(_) => report(Fault::Memory, errors),
     }

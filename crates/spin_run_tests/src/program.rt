@@ -1,11 +1,12 @@
 //! What no contract says: worked rows with their texts, that a call succeeds where nothing is refused, and that workers run at once.
 ghost use Rattle.std.specs.Prelude.{◌≡◌, Some, None, false};
 
-use super::{Failed, Gate, OfStd, Open, Sink, Source, count_with, program, program_over_arguments};
 use bumpalo::Bump;
 use spin_core::relax::{RelaxStrategy, Yield};
+use spin_run::run::{
+    Failed, Gate, OfStd, Open, Sink, Source, count_with, program, program_over_arguments,
+};
 use std::alloc::{AllocError, Global};
-use std::cell::Cell;
 use std::env::{Env, FillError};
 use std::io;
 use std::process::Abort;
@@ -23,6 +24,8 @@ struct Paper {
     step: usize,
     room: usize,
     failed: bool,
+    /// How often it was written.
+    writes: u64,
 }
 
 impl Paper {
@@ -34,6 +37,7 @@ impl Paper {
             step,
             room,
             failed: false,
+            writes: 0,
         }
     }
 
@@ -51,6 +55,7 @@ impl Sink for Paper {
     ghost failed = { λ s. s.failed };
 
     fn write(&mut self, from: &[u8]) -> Result<usize, Failed> {
+        self.writes = self.writes.saturating_add(1);
         let left = self.room.saturating_sub(self.bytes.len());
         let n = from.len().min(self.step).min(left);
         if n == 0 && !from.is_empty() || self.bytes.extend_from_slice(&from[..n]).is_err() {
@@ -260,7 +265,7 @@ fn plays_a_schedule(rt: HostRuntime) {
             "",
         ),
         ("", 2, "", "bad line 1\n"),
-        ("flag 5 1\n0 jump\n", 2, "", "bad line 2\n"),
+        ("rw 1 2 1\n0 jump\n", 2, "", "bad line 2\n"),
         (
             "flag 5 1\n0 step\n0 step\n0 step\n0 step\n0 step\n0 step\n0 step\n0 step\n\n",
             2,
@@ -379,30 +384,6 @@ fn tells_a_failed_write(rt: HostRuntime) {
     }
 }
 
-/// A writer of std's that takes nothing, or fails, behind the first bytes. It counts its calls.
-#[derive(Drop)]
-struct Stuck<'a> {
-    room: usize,
-    fails: bool,
-    calls: &'a Cell<usize>,
-}
-
-impl io::Write for Stuck<'_> {
-    fn write(&mut self, from: &[u8]) -> io::Result<usize> {
-        self.calls.set(self.calls.get().saturating_add(1));
-        let n = from.len().min(self.room);
-        self.room -= n;
-        if n == 0 && self.fails {
-            return Err(io::Error::from(io::ErrorKind::Interrupted));
-        }
-        Ok(n)
-    }
-
-    fn flush(&mut self) -> io::Result<()> {
-        Ok(())
-    }
-}
-
 /// A reader of std's that gives its bytes, tells its end, fails once, and then gives bytes again.
 #[derive(Drop)]
 struct Faltering<'a> {
@@ -445,29 +426,22 @@ fn reads_of_std(rt: HostRuntime) {
 
 #[test]
 fn tries_no_failed_write_again(rt: HostRuntime) {
-    for fails in [false, true] {
-        for room in 0..4usize {
-            let calls = Cell::new(0);
-            let mut output = OfStd::new(Stuck {
-                room,
-                fails,
-                calls: &calls,
-            });
-            let mut errors = Paper::endless(rt.alloc());
-            let words = ["count", "2", "100"];
-            let status = program(
-                &rt,
-                rt.alloc(),
-                &words,
-                &mut Unread::new(),
-                &mut output,
-                &mut errors,
-            );
-            assert_eq!(rt; status, 1);
-            assert!(rt; output.has_failed());
-            assert_eq!(rt; errors.bytes.as_slice(), b"write failed\n".as_slice());
-            assert_eq!(rt; calls.get(), if room == 0 { 1 } else { 2 });
-        }
+    for room in 0..4usize {
+        let mut output = Paper::new(rt.alloc(), usize::MAX, room);
+        let mut errors = Paper::endless(rt.alloc());
+        let words = ["count", "2", "100"];
+        let status = program(
+            &rt,
+            rt.alloc(),
+            &words,
+            &mut Unread::new(),
+            &mut output,
+            &mut errors,
+        );
+        assert_eq!(rt; status, 1);
+        assert!(rt; output.has_failed());
+        assert_eq!(rt; errors.bytes.as_slice(), b"write failed\n".as_slice());
+        assert_eq!(rt; output.writes, if room == 0 { 1 } else { 2 });
     }
 }
 
