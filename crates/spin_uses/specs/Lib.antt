@@ -1,3 +1,5 @@
 pub mod Cache
 pub mod Phases
 pub mod Ledger
+pub mod Settings
+pub mod SharedSettings

@@ -4,3 +4,4 @@
 pub mod cache;
 pub mod ledger;
 pub mod phases;
+pub mod settings;

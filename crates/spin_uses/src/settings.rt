@@ -1,0 +1,142 @@
+//! Settings that threads share. They are made once, from a text, when somebody first asks for them.
+ghost use Rattle.std.specs.Prelude.{◌≡◌, [], IfSome, IfNone, IfOk, IfErr, unwrap_or};
+ghost use Rattle.std.specs.Str.Lines.{lines};
+ghost use Rattle.spin_uses.specs.Settings.{AreAfter, AreSettingsOf, IsAnswerFor, IsFirstBad, Sets, SetsNothing, port_of, workers_of, verbose_of};
+ghost use Rattle.spin_uses.specs.SharedSettings.{reader_of, text_of};
+
+use spin_core::relax::{RelaxStrategy, Spin};
+use spin_once::lazylock::{LazyLock, Promise};
+use std::str::FromStr;
+use std::sync::Wait;
+
+/// What one line of a text sets.
+#[derive(Clone, Copy, Debug, PartialEq, Eq)]
+pub enum Setting {
+    /// `port = 8080`
+    Port(u16),
+    /// `workers = 4`
+    Workers(u64),
+    /// `verbose = true`
+    Verbose(bool),
+}
+
+impl Setting {
+    /// What the line sets; `None` where it sets nothing.
+    pub fn of_line(line: &str) -> Option<Setting>
+        ensures some { IfSome result (Sets line.now) }
+        ensures none { IfNone result (SetsNothing line.now) }
+    {
+        if let Some(value) = line.strip_prefix("port = ") {
+            return Some(Setting::Port(value.parse().ok()?));
+        }
+        if let Some(value) = line.strip_prefix("workers = ") {
+            return Some(Setting::Workers(value.parse().ok()?));
+        }
+        if let Some(value) = line.strip_prefix("verbose = ") {
+            return Some(Setting::Verbose(value.parse().ok()?));
+        }
+        None
+    }
+}
+
+/// The settings of a text. What no line sets has its default.
+#[derive(Clone, Copy, Debug, PartialEq, Eq)]
+pub struct Settings {
+    pub port: u16,
+    pub workers: u64,
+    pub verbose: bool,
+}
+
+/// The number of the first line that sets nothing, from 1 on.
+#[derive(Clone, Copy, Debug, PartialEq, Eq)]
+pub struct BadLine {
+    pub number: usize,
+}
+
+/// What is answered for a text.
+pub type Answer = Result<Settings, BadLine>;
+
+impl Settings {
+    fn set(&mut self, setting: Setting)
+        ensures port { self.new.port ≡ unwrap_or (port_of setting) self.old.port }
+        ensures workers { self.new.workers ≡ unwrap_or (workers_of setting) self.old.workers }
+        ensures verbose { self.new.verbose ≡ unwrap_or (verbose_of setting) self.old.verbose }
+    {
+        match setting {
+            Setting::Port(port) => self.port = port,
+            Setting::Workers(workers) => self.workers = workers,
+            Setting::Verbose(verbose) => self.verbose = verbose,
+        }
+    }
+}
+
+impl Default for Settings {
+    fn default() -> Settings
+        ensures { AreAfter [] result }
+    {
+        Settings {
+            port: 8080,
+            workers: 1,
+            verbose: false,
+        }
+    }
+}
+
+impl FromStr for Settings {
+    type Err = BadLine;
+
+    ghost from_str_gives = { IsAnswerFor };
+
+    fn from_str(text: &str) -> Answer {
+        let mut settings = Settings::default();
+        for (at, line) in text.lines().enumerate() {
+            let Some(setting) = Setting::of_line(line) else {
+                return Err(BadLine { number: at + 1 });
+            };
+            settings.set(setting);
+        }
+        Ok(settings)
+    }
+}
+
+/// What is promised of an answer: it is one for this text.
+#[derive(Clone, Copy)]
+struct AnswerFor<'t>(&'t str);
+
+impl Promise<Answer> for AnswerFor<'_> {
+    ghost keeps = { λ it answer. IsAnswerFor it.0.now answer };
+}
+
+/// The settings of one text, for all who ask. What reads the text runs once, when somebody first asks.
+#[derive(Drop)]
+pub struct SharedSettings<'t, F, R = Spin> {
+    answer: LazyLock<Answer, F, R, AnswerFor<'t>>,
+}
+
+impl<'t, F: FnOnce() -> Answer, R: RelaxStrategy> SharedSettings<'t, F, R> {
+    /// `read` is to answer for the text. It may do more than that, and does not run yet.
+    pub fn new(text: &'t str, read: F) -> Self
+        ensures text { text_of result ≡ text.now }
+        ensures reader { reader_of result ≡ read }
+    {
+        SharedSettings {
+            answer: LazyLock::promising(AnswerFor(text), read),
+        }
+    }
+
+    /// The settings of the text, or its first bad line. Whoever asks while the text is read relaxes until that has ended.
+    pub fn get<W: Wait>(&self, rt: &W) -> Result<&Settings, BadLine>
+        requires callable { F.pre (reader_of self.now) }
+        requires reads { (found : _) → F.post (reader_of self.now) found → IsAnswerFor (text_of self.now) found }
+        ensures settings { IfOk result (λ settings. AreSettingsOf (lines (text_of self.now)) settings.now) }
+        ensures bad { IfErr result (λ bad. IsFirstBad (lines (text_of self.now)) bad.number) }
+    {
+        match LazyLock::force(&self.answer, rt) {
+            Ok(settings) => Ok(settings),
+            Err(bad) => Err(*bad),
+        }
+    }
+}
+
+#[cfg(test)]
+mod tests;

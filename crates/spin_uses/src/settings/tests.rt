@@ -1,0 +1,130 @@
+//! What no contract says: that good texts are read, what each bad line is, and that a text is read once.
+ghost use Rattle.spin_uses.specs.Settings.{IsAnswerFor};
+ghost use Rattle.spin_uses.specs.SharedSettings.{reader_of, text_of};
+
+use super::{Answer, BadLine, Setting, Settings, SharedSettings};
+use spin_core::relax::{RelaxStrategy, Yield};
+use std::alloc::{AllocError, Global};
+use std::sync::Wait;
+use std::sync::atomic::AtomicU64;
+use std::sync::atomic::Ordering::SeqCst;
+use std::test::Fail;
+use std::thread;
+use std::thread::Threads;
+
+#[test]
+fn a_line_sets_one_thing_or_nothing(rt: HostRuntime) {
+    for (line, setting) in [
+        ("port = 8080", Some(Setting::Port(8080))),
+        ("port = 65535", Some(Setting::Port(65535))),
+        ("port = 65536", None),
+        ("workers = 65536", Some(Setting::Workers(65536))),
+        ("workers = 007", Some(Setting::Workers(7))),
+        ("workers = +7", Some(Setting::Workers(7))),
+        ("workers = -7", None),
+        ("workers = ", None),
+        ("verbose = true", Some(Setting::Verbose(true))),
+        ("verbose = false", Some(Setting::Verbose(false))),
+        ("verbose = 1", None),
+        ("port=8080", None),
+        (" port = 8080", None),
+        ("colour = 7", None),
+        ("", None),
+    ] {
+        assert_eq!(rt; Setting::of_line(line), setting, "{line}");
+    }
+}
+
+#[test]
+fn a_text_has_settings_or_a_first_bad_line(rt: HostRuntime) {
+    let settings = Settings {
+        port: 80,
+        workers: 1,
+        verbose: true,
+    };
+    for (text, answer) in [
+        ("", Ok(Settings::default())),
+        ("port = 80\nverbose = true", Ok(settings)),
+        ("verbose = true\r\nport = 80\r\n", Ok(settings)),
+        ("port = 8\nport = 80\nverbose = true\n", Ok(settings)),
+        ("port = 80\n\nverbose = true", Err(BadLine { number: 2 })),
+        ("verbose = yes\nport = x", Err(BadLine { number: 1 })),
+        (
+            "port = 80\nworkers = 1\nworker = 2",
+            Err(BadLine { number: 3 }),
+        ),
+    ] {
+        assert_eq!(rt; text.parse::<Settings>(), answer, "{text}");
+    }
+}
+
+// A caller's proof: it shares the settings of its text, and knows what it will be told.
+fn ask<W: Wait>(rt: &W, text: &str) -> Answer
+    ensures { IsAnswerFor text.now result }
+{
+    let shared: SharedSettings<_, Yield> = SharedSettings::new(text, || text.parse::<Settings>());
+    let settings = shared.get(rt)?;
+    Ok(*settings)
+}
+
+#[test]
+fn settings_are_those_of_the_text(rt: HostRuntime) {
+    let settings = Settings {
+        workers: 9,
+        ..Settings::default()
+    };
+    assert_eq!(rt; ask(&rt, "workers = 9\n"), Ok(settings));
+    assert_eq!(rt;
+        ask(&rt, "port = 80\nworkers: 9\n"),
+        Err(BadLine { number: 2 })
+    );
+}
+
+// It gives the others time to come while it reads.
+fn read_slowly<W: Wait>(rt: &W, reads: &AtomicU64, text: &str) -> Answer
+    ensures { IsAnswerFor text.now result }
+{
+    reads.fetch_add(1, SeqCst);
+    for _ in 0..100 {
+        Yield::relax(rt);
+    }
+    text.parse::<Settings>()
+}
+
+fn ask_in_ten<F: FnOnce() -> Answer + Send, R: Threads + Wait + Sync>(
+    rt: &R,
+    alloc: Global,
+    shared: &SharedSettings<'_, F, Yield>,
+) -> Result<Vec<Answer>, AllocError>
+    requires callable { F.pre (reader_of shared.now) }
+    requires reads { (found : _) → F.post (reader_of shared.now) found → IsAnswerFor (text_of shared.now) found }
+{
+    let ask_one = |_index: usize| -> Answer
+        requires { F.pre (reader_of shared.now) × ((found : _) → F.post (reader_of shared.now) found → IsAnswerFor (text_of shared.now) found) }
+    {
+        let settings = shared.get(rt)?;
+        Ok(*settings)
+    };
+    thread::map_indices(rt, alloc, 10, &ask_one)
+}
+
+#[test]
+fn ten_threads_see_the_same_and_the_text_is_read_once(rt: HostRuntime) -> Result<(), Fail> {
+    let text = "workers = 4\nverbose = true\n";
+    let reads = AtomicU64::new(0);
+    let read = || read_slowly(&rt, &reads, text);
+    let shared: SharedSettings<_, Yield> = SharedSettings::new(text, read);
+    assert_eq!(rt; reads.load(SeqCst), 0);
+    let answers = ask_in_ten(&rt, rt.alloc(), &shared)?;
+    assert_eq!(rt; reads.load(SeqCst), 1);
+    assert_eq!(rt; answers.len(), 10);
+    let settings = Settings {
+        port: 8080,
+        workers: 4,
+        verbose: true,
+    };
+    for answer in &answers {
+        assert_eq!(rt; *answer, Ok(settings));
+    }
+    Ok(())
+}
