@@ -1,20 +1,30 @@
-//! What is measured: a call takes a lock, adds 1 to the number under it, and lets go.
+//! What is measured: a call takes a lock, adds 1 to the number under it or sees a 1 there, and lets go.
 use std::hint::spin_loop;
-use std::sync::atomic::{AtomicU64, Ordering::SeqCst};
+use std::sync::atomic::{AtomicBool, AtomicU64, Ordering::SeqCst};
 
 use spin::mutex::{FairMutex, Mutex, SpinMutex, TicketMutex};
 use spin::rwlock::RwLock;
 use spin::{Barrier, LazyLock, Once};
 
-use crate::measure::{self, Measured};
+use crate::measure::{self, Measured, Wrong};
 
-/// One lock, or what stands in its place.
+/// One lock, or what stands in its place. A call either adds 1 to what lies there, or sees a 1.
 pub trait Case: Default + Sync {
-    /// One call, in the worker of that number.
-    fn call(&self, worker: u64);
+    /// The lock that so many threads share.
+    fn of(_threads: u64) -> Self {
+        Self::default()
+    }
 
-    /// The number under the lock.
-    fn total(&self) -> u64;
+    /// One call, in the worker of that number. It answers what it saw, or 0 where it has added.
+    fn call(&self, worker: u64) -> u64;
+
+    /// Whether the worker is to end, now that somebody may have told it to.
+    fn is_to_stop(&self, told: &AtomicBool) -> bool {
+        told.load(SeqCst)
+    }
+
+    /// How much all calls have added.
+    fn added(&self) -> u64;
 }
 
 /// The atomic steps of a lock alone: an exchange of 0 for 1, and a store of 0.
@@ -41,15 +51,16 @@ impl Floor {
 }
 
 impl Case for Floor {
-    fn call(&self, _worker: u64) {
+    fn call(&self, _worker: u64) -> u64 {
         if !self.take() {
             self.wait();
         }
         self.word.store(0, SeqCst);
+        1
     }
 
     // It keeps no number, so its word, which is 0 at the end.
-    fn total(&self) -> u64 {
+    fn added(&self) -> u64 {
         self.word.load(SeqCst)
     }
 }
@@ -57,12 +68,13 @@ impl Case for Floor {
 macro_rules! spinning {
     ($lock:ty) => {
         impl Case for $lock {
-            fn call(&self, _worker: u64) {
+            fn call(&self, _worker: u64) -> u64 {
                 let mut guard = self.lock();
                 *guard = guard.wrapping_add(1);
+                0
             }
 
-            fn total(&self) -> u64 {
+            fn added(&self) -> u64 {
                 *self.lock()
             }
         }
@@ -81,93 +93,120 @@ pub struct Starvers {
 }
 
 impl Case for Starvers {
-    fn call(&self, _worker: u64) {
+    fn call(&self, _worker: u64) -> u64 {
         if let Ok(mut guard) = self.lock.starve().try_lock() {
             *guard = guard.wrapping_add(1);
         }
+        0
     }
 
-    fn total(&self) -> u64 {
+    fn added(&self) -> u64 {
         *self.lock.lock()
     }
 }
 
 impl Case for RwLock<u64> {
-    fn call(&self, _worker: u64) {
+    fn call(&self, _worker: u64) -> u64 {
         let mut guard = self.write();
         *guard = guard.wrapping_add(1);
+        0
     }
 
-    fn total(&self) -> u64 {
+    fn added(&self) -> u64 {
         *self.read()
     }
 }
 
-/// A lock that everybody only reads.
-#[derive(Default)]
+/// A lock of a 1 that everybody only reads.
 pub struct Readers {
     lock: RwLock<u64>,
 }
 
-impl Case for Readers {
-    fn call(&self, _worker: u64) {
-        let _guard = self.lock.read();
-    }
-
-    fn total(&self) -> u64 {
-        *self.lock.read()
+impl Default for Readers {
+    fn default() -> Self {
+        Readers {
+            lock: RwLock::new(1),
+        }
     }
 }
 
-/// A lock that is read by an upgradable reader, who then becomes a reader.
-#[derive(Default)]
+impl Case for Readers {
+    fn call(&self, _worker: u64) -> u64 {
+        *self.lock.read()
+    }
+
+    fn added(&self) -> u64 {
+        self.lock.read().wrapping_sub(1)
+    }
+}
+
+/// A lock of a 1 that is taken by an upgradable reader, who then becomes a reader, and reads.
 pub struct Upgrades {
     lock: RwLock<u64>,
 }
 
-impl Case for Upgrades {
-    fn call(&self, _worker: u64) {
-        let _guard = self.lock.upgradeable_read().downgrade();
-    }
-
-    fn total(&self) -> u64 {
-        *self.lock.read()
+impl Default for Upgrades {
+    fn default() -> Self {
+        Upgrades {
+            lock: RwLock::new(1),
+        }
     }
 }
 
-/// A lock that the first worker writes and the others read.
-#[derive(Default)]
+impl Case for Upgrades {
+    fn call(&self, _worker: u64) -> u64 {
+        *self.lock.upgradeable_read().downgrade()
+    }
+
+    fn added(&self) -> u64 {
+        self.lock.read().wrapping_sub(1)
+    }
+}
+
+/// A lock that the first worker writes and the others read. Its number is odd: the writer adds 2, and who reads it sees
+/// its lowest bit.
 pub struct OneWriter {
     lock: RwLock<u64>,
 }
 
+impl Default for OneWriter {
+    fn default() -> Self {
+        OneWriter {
+            lock: RwLock::new(1),
+        }
+    }
+}
+
 impl Case for OneWriter {
-    fn call(&self, worker: u64) {
+    fn call(&self, worker: u64) -> u64 {
         if worker == 0 {
-            self.lock.call(worker);
+            let mut odd = self.lock.write();
+            *odd = odd.wrapping_add(2);
+            0
         } else {
-            let _guard = self.lock.read();
+            *self.lock.read() % 2
         }
     }
 
-    fn total(&self) -> u64 {
-        *self.lock.read()
+    fn added(&self) -> u64 {
+        *self.lock.read() / 2
     }
 }
 
 impl Case for std::sync::Mutex<u64> {
     #[inline]
-    fn call(&self, _worker: u64) {
+    fn call(&self, _worker: u64) -> u64 {
         let mut guard = self.lock().expect("no call panics");
         *guard = guard.wrapping_add(1);
+        0
     }
 
-    fn total(&self) -> u64 {
+    fn added(&self) -> u64 {
         *self.lock().expect("no call panics")
     }
 }
 
-/// A `Once` that has its value, and is looked at.
+/// A `Once` that has its value, a 1, and is looked at.
 pub struct Gets {
     once: Once<u64>,
 }
@@ -197,22 +236,22 @@ impl Default for LateCalls {
 }
 
 impl Case for Gets {
-    fn call(&self, _worker: u64) {
-        let _seen = self.once.get();
+    fn call(&self, _worker: u64) -> u64 {
+        self.once.get().copied().unwrap_or(0)
     }
 
-    fn total(&self) -> u64 {
-        self.once.get().copied().unwrap_or(0)
+    fn added(&self) -> u64 {
+        0
     }
 }
 
 impl Case for LateCalls {
-    fn call(&self, _worker: u64) {
-        let _seen = self.once.call_once(|| 2);
+    fn call(&self, _worker: u64) -> u64 {
+        *self.once.call_once(|| 2)
     }
 
-    fn total(&self) -> u64 {
-        self.once.get().copied().unwrap_or(0)
+    fn added(&self) -> u64 {
+        0
     }
 }
 
@@ -221,17 +260,18 @@ impl Case for LateCalls {
 pub struct FirstCalls;
 
 impl Case for FirstCalls {
-    fn call(&self, worker: u64) {
+    // One worker alone does it. Its number comes in, so that the value is not known where the loop is compiled.
+    fn call(&self, worker: u64) -> u64 {
         let once: Once<u64> = Once::new();
-        let _seen = once.call_once(|| worker);
+        *once.call_once(|| worker.wrapping_add(1))
     }
 
-    fn total(&self) -> u64 {
+    fn added(&self) -> u64 {
         0
     }
 }
 
-/// A `LazyLock` that has its value, and is asked for it.
+/// A `LazyLock` that has its value, a 1, and is asked for it.
 pub struct Forces {
     lazy: LazyLock<u64>,
 }
@@ -245,32 +285,80 @@ impl Default for Forces {
 }
 
 impl Case for Forces {
-    fn call(&self, _worker: u64) {
-        let _seen = LazyLock::force(&self.lazy);
+    fn call(&self, _worker: u64) -> u64 {
+        *LazyLock::force(&self.lazy)
     }
 
-    fn total(&self) -> u64 {
+    fn added(&self) -> u64 {
         0
     }
 }
 
-/// A barrier whose groups are of one party.
+/// A barrier whose groups are of one party, who leads each.
 pub struct Alone {
     barrier: Barrier,
 }
 
 impl Default for Alone {
     fn default() -> Self {
-        Alone { barrier: Barrier::new(1) }
+        Alone {
+            barrier: Barrier::new(1),
+        }
     }
 }
 
 impl Case for Alone {
-    fn call(&self, _worker: u64) {
-        let _result = self.barrier.wait();
+    fn call(&self, _worker: u64) -> u64 {
+        u64::from(self.barrier.wait().is_leader())
     }
 
-    fn total(&self) -> u64 {
+    fn added(&self) -> u64 {
+        0
+    }
+}
+
+/// A barrier whose groups are all threads that do the case. A call is one wait of one of them.
+pub struct Rounds {
+    barrier: Barrier,
+    threads: u64,
+    stops: AtomicBool,
+}
+
+impl Default for Rounds {
+    fn default() -> Self {
+        Self::of(1)
+    }
+}
+
+impl Case for Rounds {
+    fn of(threads: u64) -> Self {
+        Rounds {
+            barrier: Barrier::new(threads as usize),
+            threads,
+            stops: AtomicBool::new(false),
+        }
+    }
+
+    // Who leads a group has seen as many waits as there are threads.
+    fn call(&self, _worker: u64) -> u64 {
+        if self.barrier.wait().is_leader() {
+            self.threads
+        } else {
+            0
+        }
+    }
+
+    // They end together: one that waited on would wait for those that have gone. So one of them looks for all, while the
+    // others wait.
+    fn is_to_stop(&self, told: &AtomicBool) -> bool {
+        if self.barrier.wait().is_leader() {
+            self.stops.store(told.load(SeqCst), SeqCst);
+        }
+        self.barrier.wait();
+        self.stops.load(SeqCst)
+    }
+
+    fn added(&self) -> u64 {
         0
     }
 }
@@ -293,11 +381,12 @@ pub enum Name {
     OnceFirst,
     LazyForce,
     BarrierAlone,
+    BarrierRounds,
     StdMutex,
 }
 
 impl Name {
-    pub const ALL: [Name; 16] = [
+    pub const ALL: [Name; 17] = [
         Name::Floor,
         Name::SpinMutex,
         Name::Mutex,
@@ -313,6 +402,7 @@ impl Name {
         Name::OnceFirst,
         Name::LazyForce,
         Name::BarrierAlone,
+        Name::BarrierRounds,
         Name::StdMutex,
     ];
 
@@ -337,6 +427,7 @@ impl Name {
             Name::OnceFirst => "once_first",
             Name::LazyForce => "lazy_force",
             Name::BarrierAlone => "barrier_alone",
+            Name::BarrierRounds => "barrier_rounds",
             Name::StdMutex => "std_mutex",
         }
     }
@@ -354,7 +445,16 @@ impl Name {
         )
     }
 
-    pub fn measure(self, threads: u64) -> Measured {
+    /// How many calls each thread makes for a try. Rounds are few: on a busy machine each waits until all its threads have
+    /// had a processor.
+    pub fn smoke_calls(self) -> u64 {
+        match self {
+            Name::BarrierRounds => 20,
+            _ => 1000,
+        }
+    }
+
+    pub fn measure(self, threads: u64) -> Result<Measured, Wrong> {
         match self {
             Name::Floor => measure::measure::<Floor>(threads),
             Name::SpinMutex => measure::measure::<SpinMutex<u64>>(threads),
@@ -371,12 +471,13 @@ impl Name {
             Name::OnceFirst => measure::measure::<FirstCalls>(threads),
             Name::LazyForce => measure::measure::<Forces>(threads),
             Name::BarrierAlone => measure::measure::<Alone>(threads),
+            Name::BarrierRounds => measure::measure::<Rounds>(threads),
             Name::StdMutex => measure::measure::<std::sync::Mutex<u64>>(threads),
         }
     }
 
-    /// The number under a new lock after each thread has made its calls.
-    pub fn count(self, threads: u64, calls: u64) -> u64 {
+    /// How many calls there were, where each thread makes so many under a new lock.
+    pub fn count(self, threads: u64, calls: u64) -> Result<u64, Wrong> {
         match self {
             Name::Floor => measure::count::<Floor>(threads, calls),
             Name::SpinMutex => measure::count::<SpinMutex<u64>>(threads, calls),
@@ -393,6 +494,7 @@ impl Name {
             Name::OnceFirst => measure::count::<FirstCalls>(threads, calls),
             Name::LazyForce => measure::count::<Forces>(threads, calls),
             Name::BarrierAlone => measure::count::<Alone>(threads, calls),
+            Name::BarrierRounds => measure::count::<Rounds>(threads, calls),
             Name::StdMutex => measure::count::<std::sync::Mutex<u64>>(threads, calls),
         }
     }

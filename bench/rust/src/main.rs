@@ -6,11 +6,12 @@ mod sizes;
 use std::process::ExitCode;
 
 use cases::Name;
+use measure::Wrong;
 
 const USAGE: &str = "usage: spin_bench_rust CASE THREADS | sizes | smoke
 CASE: floor, spin_mutex, mutex, ticket_mutex, fair_mutex, fair_starve, rw_read,
-rw_write, rw_upgrade, rw_one_writer, once_get, once_call, once_first, lazy_force, barrier_alone
-or std_mutex; THREADS: 1 to 64";
+rw_write, rw_upgrade, rw_one_writer, once_get, once_call, once_first, lazy_force, barrier_alone,
+barrier_rounds or std_mutex; THREADS: 1 to 64";
 
 enum Command {
     Measure { case: Name, threads: u64 },
@@ -33,29 +34,38 @@ fn parse(words: &[&str]) -> Option<Command> {
     }
 }
 
-fn smoke() {
+fn smoke() -> Result<(), Wrong> {
     for case in Name::ALL {
         let all: &[u64] = if case.has_threads() { &[1, 2, 4] } else { &[1] };
         for &threads in all {
-            let total = case.count(threads, 1000);
-            println!("{}.{threads} {total}", case.text());
+            let calls = case.count(threads, case.smoke_calls())?;
+            println!("{}.{threads} {calls}", case.text());
         }
     }
+    Ok(())
+}
+
+fn answer(command: Command) -> Result<(), Wrong> {
+    match command {
+        Command::Measure { case, threads } => {
+            println!("{}.{threads} {}", case.text(), case.measure(threads)?);
+        }
+        Command::Sizes => sizes::print(),
+        Command::Smoke => smoke()?,
+    }
+    Ok(())
 }
 
 fn main() -> ExitCode {
     let words: Vec<String> = std::env::args().skip(1).collect();
     let words: Vec<&str> = words.iter().map(String::as_str).collect();
-    match parse(&words) {
-        Some(Command::Measure { case, threads }) => {
-            println!("{}.{threads} {}", case.text(), case.measure(threads));
-        }
-        Some(Command::Sizes) => sizes::print(),
-        Some(Command::Smoke) => smoke(),
-        None => {
-            eprintln!("{USAGE}");
-            return ExitCode::from(2);
-        }
+    let Some(command) = parse(&words) else {
+        eprintln!("{USAGE}");
+        return ExitCode::from(2);
+    };
+    if let Err(wrong) = answer(command) {
+        eprintln!("{wrong}");
+        return ExitCode::FAILURE;
     }
     ExitCode::SUCCESS
 }

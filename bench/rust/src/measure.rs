@@ -1,6 +1,8 @@
 //! Rounds of calls, and what they took.
 use std::fmt;
+use std::iter::{self, Sum};
 use std::sync::atomic::{AtomicBool, Ordering::SeqCst};
+use std::sync::Mutex;
 use std::thread;
 use std::time::{Duration, Instant};
 
@@ -12,6 +14,15 @@ const ROUND: Duration = Duration::from_millis(100);
 // cost nothing; among others each call is slow enough, and a queue that the system has stopped still ends soon.
 const CHUNK_ALONE: u64 = 1000;
 const CHUNK_AMONG_OTHERS: u64 = 25;
+
+/// What the calls saw and left is not what so many calls see and leave.
+pub struct Wrong;
+
+impl fmt::Display for Wrong {
+    fn fmt(&self, f: &mut fmt::Formatter<'_>) -> fmt::Result {
+        write!(f, "the calls did not do what they had to")
+    }
+}
 
 /// The best round and the median round.
 pub enum Measured {
@@ -36,71 +47,118 @@ impl fmt::Display for Measured {
 #[repr(align(64))]
 struct OnALine<C>(C);
 
+/// How many calls threads made, and the sum of what these saw.
+#[derive(Clone, Copy, Default)]
+struct Work {
+    calls: u64,
+    seen: u64,
+}
+
+impl Sum for Work {
+    fn sum<I: Iterator<Item = Work>>(all: I) -> Work {
+        all.fold(Work::default(), |sum, more| Work {
+            calls: sum.calls + more.calls,
+            seen: sum.seen.wrapping_add(more.seen),
+        })
+    }
+}
+
 // The loop that is measured, alone in its function.
 #[inline(never)]
-fn repeat<C: Case>(case: &C, worker: u64, calls: u64) {
+fn repeat<C: Case>(case: &C, worker: u64, calls: u64) -> Work {
+    let mut seen: u64 = 0;
     for _ in 0..calls {
-        case.call(worker);
+        seen = seen.wrapping_add(case.call(worker));
     }
+    Work { calls, seen }
 }
 
-// One thread's calls until it is to stop. It answers how many it made.
-fn work<C: Case>(case: &C, worker: u64, chunk: u64, stop: &AtomicBool) -> u64 {
-    let mut calls = 0;
-    while !stop.load(SeqCst) {
-        repeat(case, worker, chunk);
-        calls += chunk;
-    }
-    calls
+// One thread's calls until it is to stop.
+fn until_told<C: Case>(case: &C, worker: u64, chunk: u64, told: &AtomicBool) -> Work {
+    iter::from_fn(|| (!case.is_to_stop(told)).then(|| repeat(case, worker, chunk))).sum()
 }
 
-// The nanoseconds of one round over the calls that all threads made in it.
-fn round<C: Case>(case: &C, threads: u64) -> f64 {
+// Does the work in so many threads, and tells them to stop after some time. None begins before all are there, and none at
+// all where one is refused, since the others might wait for it.
+fn among<F>(threads: u64, time: Duration, told: &AtomicBool, work: F) -> Work
+where
+    F: Fn(u64) -> Work + Sync,
+{
+    let gate = &Mutex::new(());
+    let begin = &|worker| {
+        // Where a thread was refused, who starts them has panicked under the lock.
+        let refused = gate.lock().is_err();
+        if refused {
+            Work::default()
+        } else {
+            work(worker)
+        }
+    };
+    thread::scope(|scope| {
+        let closed = gate.lock();
+        let workers: Vec<_> = (0..threads)
+            .map(|worker| scope.spawn(move || begin(worker)))
+            .collect();
+        drop(closed);
+        thread::sleep(time);
+        told.store(true, SeqCst);
+        workers
+            .into_iter()
+            .map(|worker| worker.join().expect("no call panics"))
+            .sum()
+    })
+}
+
+// One round: the nanoseconds of a call, and all that was done.
+fn round<C: Case>(case: &C, threads: u64) -> (f64, Work) {
     let chunk = if threads == 1 {
         CHUNK_ALONE
     } else {
         CHUNK_AMONG_OTHERS
     };
-    let OnALine(stop) = &OnALine::<AtomicBool>::default();
+    let OnALine(told) = &OnALine::<AtomicBool>::default();
     let start = Instant::now();
-    let calls: u64 = thread::scope(|scope| {
-        let workers: Vec<_> = (0..threads)
-            .map(|worker| scope.spawn(move || work(case, worker, chunk, stop)))
-            .collect();
-        thread::sleep(ROUND);
-        stop.store(true, SeqCst);
-        workers
-            .into_iter()
-            .map(|worker| worker.join().expect("no call panics"))
-            .sum()
+    let work = among(threads, ROUND, told, |worker| {
+        until_told(case, worker, chunk, told)
     });
-    start.elapsed().as_nanos() as f64 / calls.max(1) as f64
+    let nanos = start.elapsed().as_nanos() as f64;
+    (nanos / work.calls.max(1) as f64, work)
 }
 
-/// The number under a new lock after each thread has made its calls.
-pub fn count<C: Case>(threads: u64, calls: u64) -> u64 {
-    let OnALine(case) = &OnALine::<C>::default();
-    thread::scope(|scope| {
-        for worker in 0..threads {
-            scope.spawn(move || repeat(case, worker, calls));
-        }
+// How many calls there were, where what they saw and left says so too.
+fn checked<C: Case>(case: &C, work: Work) -> Result<u64, Wrong> {
+    if case.added().wrapping_add(work.seen) == work.calls {
+        Ok(work.calls)
+    } else {
+        Err(Wrong)
+    }
+}
+
+/// How many calls there were, where each thread has made so many under a new lock.
+pub fn count<C: Case>(threads: u64, calls: u64) -> Result<u64, Wrong> {
+    let OnALine(case) = &OnALine(C::of(threads));
+    let told = &AtomicBool::default();
+    let work = among(threads, Duration::ZERO, told, |worker| {
+        repeat(case, worker, calls)
     });
-    case.total()
+    checked(case, work)
 }
 
 /// Measures several rounds under one new lock.
-pub fn measure<C: Case>(threads: u64) -> Measured {
-    let OnALine(case) = &OnALine::<C>::default();
-    let mut rounds = [(); ROUNDS].map(|()| round(case, threads));
-    rounds.sort_by(f64::total_cmp);
-    let best = rounds[0];
-    let median = rounds[ROUNDS / 2];
-    if threads == 1 {
+pub fn measure<C: Case>(threads: u64) -> Result<Measured, Wrong> {
+    let OnALine(case) = &OnALine(C::of(threads));
+    let rounds = [(); ROUNDS].map(|()| round(case, threads));
+    checked(case, rounds.iter().map(|(_, work)| *work).sum())?;
+    let mut nanos = rounds.map(|(nanos, _)| nanos);
+    nanos.sort_by(f64::total_cmp);
+    let best = nanos[0];
+    let median = nanos[ROUNDS / 2];
+    Ok(if threads == 1 {
         Measured::Time { best, median }
     } else {
         Measured::Throughput {
             best: 1000.0 / best,
             median: 1000.0 / median,
         }
-    }
+    })
 }

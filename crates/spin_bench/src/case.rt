@@ -4,15 +4,17 @@ ghost use Rattle.std.specs.Prelude.{◌≡◌, ℕ};
 use std::alloc::AllocError;
 use std::hint::spin_loop;
 use std::sync::Wait;
-use std::sync::atomic::{AtomicU64, Ordering};
+use std::sync::atomic::{AtomicBool, AtomicU64, Ordering};
 
 mod locks;
 mod onces;
+mod rounds;
 mod seated;
 mod world;
 
 pub use locks::{OneWriter, Readers, Starvers, Upgrades};
 pub use onces::{Alone, FirstCalls, Forces, Gets, LateCalls};
+pub use rounds::Rounds;
 pub use seated::Seated;
 pub use world::{Play, Plays};
 
@@ -21,25 +23,32 @@ pub trait Case: Drop {
     /// How many calls or events it is to do it once.
     ghost weight: { Self → ℕ };
 
-    /// Does it so many times, in the worker of that number. This is what is measured: a loop that stands alone, with
-    /// nothing in it but the calls.
-    fn repeat<W: Wait>(&self, rt: &W, worker: usize, times: u64) -> Result<(), AllocError>;
+    /// Does it so many times, in the worker of that number, and answers the sum of what was seen. This is what is
+    /// measured: a loop that stands alone, with nothing in it but the calls and their sum.
+    fn repeat<W: Wait>(&self, rt: &W, worker: usize, times: u64) -> Result<u64, AllocError>;
+
+    /// Whether the worker is to end, now that somebody may have told it to.
+    fn is_to_stop<W: Wait>(&self, _rt: &W, told: &AtomicBool) -> bool {
+        told.load(Ordering::SeqCst)
+    }
 
     /// How many calls or events it is to do it once.
     fn weight(&self) -> u64
         ensures { result ≡ weight self.now };
 
-    /// What is left at the end, as a number that tells whether all of it was done.
-    fn checksum(self) -> Result<u64, AllocError>;
+    /// What was seen in all, together with what is left at the end: the number of calls or events, where each did what
+    /// it had to.
+    fn checksum(self, seen: u64) -> Result<u64, AllocError>;
 }
 
-/// One call.
+/// One call. It either adds 1 to what lies there, or sees a 1.
 pub trait Call: Drop {
-    /// Makes it, in the worker of that number. It is to be inlined into the loop of [`Calls`].
-    fn call<W: Wait>(&self, rt: &W, worker: usize);
+    /// Makes it, in the worker of that number, and answers what it saw, or 0 where it has added. It is to be inlined into
+    /// the loop of [`Calls`].
+    fn call<W: Wait>(&self, rt: &W, worker: usize) -> u64;
 
-    /// What is left at the end.
-    fn total(self) -> u64;
+    /// How much all calls have added.
+    fn added(self) -> u64;
 }
 
 /// A call, over and over.
@@ -58,20 +67,21 @@ impl<C: Call> Case for Calls<C> {
     ghost weight = { λ _. 1 };
 
     #[inline(never)]
-    fn repeat<W: Wait>(&self, rt: &W, worker: usize, times: u64) -> Result<(), AllocError> {
+    fn repeat<W: Wait>(&self, rt: &W, worker: usize, times: u64) -> Result<u64, AllocError> {
+        let mut seen = 0u64;
         for _ in 0..times {
-            self.of.call(rt, worker);
+            seen = seen.wrapping_add(self.of.call(rt, worker));
         }
-        Ok(())
+        Ok(seen)
     }
 
     fn weight(&self) -> u64 {
         1
     }
 
-    fn checksum(self) -> Result<u64, AllocError> {
+    fn checksum(self, seen: u64) -> Result<u64, AllocError> {
         let Calls { of } = self;
-        Ok(of.total())
+        Ok(of.added().wrapping_add(seen))
     }
 }
 
@@ -108,14 +118,15 @@ impl Floor {
 
 impl Call for Floor {
     #[inline(always)]
-    fn call<W: Wait>(&self, rt: &W, _worker: usize) {
+    fn call<W: Wait>(&self, rt: &W, _worker: usize) -> u64 {
         if !self.take() {
             self.wait(rt);
         }
         self.word.store(0, Ordering::SeqCst);
+        1
     }
 
-    fn total(self) -> u64 {
+    fn added(self) -> u64 {
         let Floor { word } = self;
         word.into_inner()
     }

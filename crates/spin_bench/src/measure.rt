@@ -3,7 +3,7 @@ ghost use Rattle.std.specs.Prelude.{◌≡◌, ℕ, IfOk, IsPermutation, slice_i
 ghost use Rattle.spin_bench_rows.specs.Numbers.{value_of, calls_of, IsNoBetter, best_place};
 
 use crate::case::Case;
-use crate::team::{Until, run};
+use crate::team::{Until, Work, run};
 use spin_bench_rows::{Fault, Hundredths, Measured, Unit};
 use std::alloc::Global;
 use std::sync::Wait;
@@ -24,15 +24,15 @@ const CHUNK_ALONE: u64 = 1000;
 /// wait for does not run, the round still ends soon after its time.
 const CHUNK_AMONG_OTHERS: u64 = 25;
 
-/// The value of one round.
+/// The value of one round, and what was done in it.
 fn round<C: Case + Sync, R: Threads + Wait + Clock + Sync>(
     rt: &R,
     alloc: Global,
     case: &C,
     threads: usize,
     unit: Unit,
-) -> Result<Hundredths, Fault>
-    ensures { IfOk result (λ h. (times nanos : ℕ) × (h.0 ≡ value_of unit (calls_of times (C.weight case.now)) nanos)) }
+) -> Result<(Hundredths, Work), Fault>
+    ensures { IfOk result (λ r. (nanos : ℕ) × (r.0.0 ≡ value_of unit (calls_of r.1.times (C.weight case.now)) nanos)) }
 {
     let weight = case.weight();
     let time = Duration::from_millis(ROUND_MILLIS);
@@ -43,10 +43,10 @@ fn round<C: Case + Sync, R: Threads + Wait + Clock + Sync>(
     };
     let chunk = (calls / weight.max(1)).max(1);
     let start = Instant::now(rt)?;
-    let times = run(rt, alloc, case, threads, Until::Time(time, chunk))?;
+    let work = run(rt, alloc, case, threads, Until::Time(time, chunk))?;
     let nanos = start.elapsed(rt)?.as_nanos();
     let nanos = u64::try_from(nanos).unwrap_or(u64::MAX);
-    Ok(unit.value(times.saturating_mul(weight), nanos))
+    Ok((unit.value(work.times.saturating_mul(weight), nanos), work))
 }
 
 /// The best of the rounds and the one in the middle. The rounds are put in order.
@@ -70,19 +70,22 @@ fn best_and_median(unit: Unit, rounds: &mut [u64; ROUNDS]) -> Measured
     }
 }
 
-/// Measures a case in so many threads.
+/// Measures a case in so many threads. It answers what was measured, and all that was done.
 pub fn measure<C: Case + Sync, R: Threads + Wait + Clock + Sync>(
     rt: &R,
     alloc: Global,
     case: &C,
     threads: usize,
     unit: Unit,
-) -> Result<Measured, Fault>
-    ensures { IfOk result (λ m. IsNoBetter unit m.median.0 m.best.0) }
+) -> Result<(Measured, Work), Fault>
+    ensures { IfOk result (λ r. IsNoBetter unit r.0.median.0 r.0.best.0) }
 {
     let mut rounds = [0; ROUNDS];
+    let mut all = Work::NONE;
     for value in rounds.iter_mut() {
-        *value = round(rt, alloc, case, threads, unit)?.0;
+        let (measured, work) = round(rt, alloc, case, threads, unit)?;
+        *value = measured.0;
+        all = all.and(work);
     }
-    Ok(best_and_median(unit, &mut rounds))
+    Ok((best_and_median(unit, &mut rounds), all))
 }

@@ -1,11 +1,14 @@
 //! What the program does and writes.
+ghost use Rattle.std.specs.Prelude.{◌≡◌, IfOk};
+ghost use Rattle.spin_bench_rows.specs.Numbers.{calls_of};
+
 use crate::case::{
     Alone, Call, Calls, Case, FirstCalls, Floor, Forces, Gets, LateCalls, OneWriter, Plays,
-    Readers, Seated, Starvers, Upgrades,
+    Readers, Rounds, Seated, Starvers, Upgrades,
 };
 use crate::measure::measure;
 use crate::size::SIZES;
-use crate::team::{Until, run};
+use crate::team::{Until, Work, run};
 use spin_bench_rows::{Checksum, Command, Fault, NAMES, Name, Row};
 use spin_mutex::mutex::{FairMutex, Mutex, SpinMutex, TicketMutex};
 use spin_rwlock::rwlock::RwLock;
@@ -17,9 +20,6 @@ use std::thread::Threads;
 use std::time::Clock;
 use std::{env, io, sync};
 
-/// How many times smoke does each case, in each thread.
-const SMOKE_TIMES: u64 = 1000;
-
 /// How many turns the schedule of a measured world has, and that of one that is done for a try.
 const LONG: usize = 10_000;
 
@@ -29,7 +29,32 @@ const SHORT: usize = 4;
 #[derive(Clone, Copy)]
 enum Task {
     Measure,
-    Smoke,
+    /// Doing it so many times in each thread.
+    Smoke(u64),
+}
+
+impl Task {
+    /// A case is done a thousand times for a try. Rounds are few: on a busy machine each waits until all its threads have
+    /// had a processor.
+    fn smoke(name: Name) -> Task {
+        match name {
+            Name::BarrierRounds => Task::Smoke(20),
+            _ => Task::Smoke(1000),
+        }
+    }
+}
+
+/// The checksum of a case. Any other than the number of its calls or events is a fault.
+pub fn checked<C: Case>(case: C, work: Work) -> Result<u64, Fault>
+    ensures { IfOk result (λ sum. sum ≡ calls_of work.times (C.weight case)) }
+{
+    let calls = work.times.saturating_mul(case.weight());
+    let sum = case.checksum(work.seen)?;
+    if sum == calls {
+        Ok(sum)
+    } else {
+        Err(Fault::Sum)
+    }
 }
 
 /// Does the task, and writes its row.
@@ -43,7 +68,8 @@ fn on_case<C: Case + Sync, R: Threads + Wait + Clock + Print + Sync>(
 ) -> Result<(), Fault> {
     match task {
         Task::Measure => {
-            let measured = measure(rt, alloc, &case, threads, name.unit(threads))?;
+            let (measured, work) = measure(rt, alloc, &case, threads, name.unit(threads))?;
+            checked(case, work)?;
             let row = Row {
                 name,
                 threads,
@@ -51,9 +77,9 @@ fn on_case<C: Case + Sync, R: Threads + Wait + Clock + Print + Sync>(
             };
             println!(rt; "{row}")?;
         }
-        Task::Smoke => {
-            run(rt, alloc, &case, threads, Until::Times(SMOKE_TIMES))?;
-            let sum = case.checksum()?;
+        Task::Smoke(times) => {
+            let work = run(rt, alloc, &case, threads, Until::Times(times))?;
+            let sum = checked(case, work)?;
             let row = Checksum { name, threads, sum };
             println!(rt; "{row}")?;
         }
@@ -97,12 +123,13 @@ fn on_name<R: Threads + Wait + Clock + Print + Sync>(
         Name::OnceFirst => on_call(rt, alloc, task, name, FirstCalls, threads),
         Name::LazyForce => on_case(rt, alloc, task, name, Forces, threads),
         Name::BarrierAlone => on_call(rt, alloc, task, name, Alone::new(), threads),
+        Name::BarrierRounds => on_case(rt, alloc, task, name, Rounds::new(threads), threads),
         Name::StdMutex => on_call(rt, alloc, task, name, sync::Mutex::new(0u64), threads),
         Name::SeatedMutex => on_case(rt, alloc, task, name, Seated::new(alloc)?, threads),
         Name::World => {
             let turns = match task {
                 Task::Measure => LONG,
-                Task::Smoke => SHORT,
+                Task::Smoke(_) => SHORT,
             };
             let plays: Plays<Flag<u64>> = Plays::new(alloc, turns)?;
             on_case(rt, alloc, task, name, plays, threads)
@@ -112,10 +139,11 @@ fn on_name<R: Threads + Wait + Clock + Print + Sync>(
 
 fn smoke<R: Threads + Wait + Clock + Print + Sync>(rt: &R, alloc: Global) -> Result<(), Fault> {
     for name in NAMES {
-        on_name(rt, alloc, Task::Smoke, name, 1)?;
+        let task = Task::smoke(name);
+        on_name(rt, alloc, task, name, 1)?;
         if name.most_threads() > 1 {
-            on_name(rt, alloc, Task::Smoke, name, 2)?;
-            on_name(rt, alloc, Task::Smoke, name, 4)?;
+            on_name(rt, alloc, task, name, 2)?;
+            on_name(rt, alloc, task, name, 4)?;
         }
     }
     Ok(())

@@ -6,9 +6,9 @@ use spin_bench_rows::Fault;
 use std::alloc::{AllocError, Global};
 use std::sync::Wait;
 use std::sync::atomic::{AtomicBool, Ordering};
-use std::thread;
 use std::thread::{JoinHandle, Scope, Threads};
 use std::time::{Clock, Duration};
+use std::{sync, thread};
 
 /// When threads stop doing a case.
 #[derive(Clone, Copy)]
@@ -19,6 +19,27 @@ pub enum Until {
     Time(Duration, u64),
 }
 
+/// What threads did.
+#[derive(Clone, Copy, Debug, PartialEq, Eq)]
+pub struct Work {
+    /// How many times they did the case.
+    pub times: u64,
+    /// The sum of what they saw.
+    pub seen: u64,
+}
+
+impl Work {
+    pub const NONE: Work = Work { times: 0, seen: 0 };
+
+    /// Both together.
+    pub fn and(self, more: Work) -> Work {
+        Work {
+            times: self.times.saturating_add(more.times),
+            seen: self.seen.wrapping_add(more.seen),
+        }
+    }
+}
+
 /// What the threads share.
 #[derive(Drop)]
 struct Team<'a, C, R> {
@@ -27,57 +48,66 @@ struct Team<'a, C, R> {
     /// How many times a thread does the case before it looks whether it is to stop.
     chunk: u64,
     most_chunks: u64,
+    /// Whether all threads were started. Who starts them has the lock until then, so that none begins without the others.
+    complete: sync::Mutex<bool>,
     stop: AtomicBool,
 }
 
 impl<C: Case + Sync, R: Threads + Wait + Clock + Sync> Team<'_, C, R> {
-    /// One thread's whole work. It answers how many times it did the case.
-    fn work(&self, worker: usize) -> Result<u64, AllocError> {
-        let mut times = 0u64;
+    /// One thread's whole work.
+    fn work(&self, worker: usize) -> Result<Work, AllocError> {
+        let mut work = Work::NONE;
+        if !*self.complete.lock(self.rt) {
+            return Ok(work);
+        }
         for _ in 0..self.most_chunks {
-            if self.stop.load(Ordering::SeqCst) {
+            if self.case.is_to_stop(self.rt, &self.stop) {
                 break;
             }
-            self.case.repeat(self.rt, worker, self.chunk)?;
-            times = times.saturating_add(self.chunk);
+            let seen = self.case.repeat(self.rt, worker, self.chunk)?;
+            work = work.and(Work {
+                times: self.chunk,
+                seen,
+            });
         }
-        Ok(times)
+        Ok(work)
     }
 
-    /// Starts so many threads. Where one is refused, those that were started are told to stop.
+    /// Starts so many threads. Where one is refused, those that were started do nothing.
     fn start_all<'s, E>(
         &'s self,
         scope: &Scope<'s, E>,
         alloc: Global,
         threads: usize,
-    ) -> Result<Vec<JoinHandle<Result<u64, AllocError>>>, Fault>
+    ) -> Result<Vec<JoinHandle<Result<Work, AllocError>>>, Fault>
         ensures { IfOk result (λ running. vec_len running ≡ threads) }
     {
         let mut running = Vec::with_capacity(alloc, threads)?;
+        let mut complete = self.complete.lock(self.rt);
         for worker in 0..threads {
             let Ok(started) = scope.spawn(move || self.work(worker)) else {
-                self.stop.store(true, Ordering::SeqCst);
                 return Err(Fault::Thread);
             };
             running.push_reserved(started);
         }
+        *complete = true;
         Ok(running)
     }
 
-    /// Joins the threads. It answers how many times all of them did the case.
-    fn join_all(&self, running: Vec<JoinHandle<Result<u64, AllocError>>>) -> Result<u64, Fault> {
-        let mut times = 0u64;
+    /// Joins the threads, and answers what all of them did.
+    fn join_all(&self, running: Vec<JoinHandle<Result<Work, AllocError>>>) -> Result<Work, Fault> {
+        let mut work = Work::NONE;
         for worker in running {
-            times = times.saturating_add(worker.join(self.rt)?);
+            work = work.and(worker.join(self.rt)?);
         }
-        Ok(times)
+        Ok(work)
     }
 
-    fn run(&self, alloc: Global, threads: usize, time: Option<Duration>) -> Result<u64, Fault> {
+    fn run(&self, alloc: Global, threads: usize, time: Option<Duration>) -> Result<Work, Fault> {
         thread::scope(
             thread::scope_env(),
             self.rt,
-            |scope| -> Result<u64, Fault> {
+            |scope| -> Result<Work, Fault> {
                 let running = self.start_all(scope, alloc, threads)?;
                 if let Some(time) = time {
                     thread::sleep(self.rt, time);
@@ -89,14 +119,14 @@ impl<C: Case + Sync, R: Threads + Wait + Clock + Sync> Team<'_, C, R> {
     }
 }
 
-/// Does a case in so many threads of their own. It answers how many times all of them did it.
+/// Does a case in so many threads of their own, and answers what all of them did.
 pub fn run<C: Case + Sync, R: Threads + Wait + Clock + Sync>(
     rt: &R,
     alloc: Global,
     case: &C,
     threads: usize,
     until: Until,
-) -> Result<u64, Fault> {
+) -> Result<Work, Fault> {
     let (chunk, most_chunks, time) = match until {
         Until::Times(times) => (times, 1, None),
         Until::Time(time, chunk) => (chunk, u64::MAX, Some(time)),
@@ -106,6 +136,7 @@ pub fn run<C: Case + Sync, R: Threads + Wait + Clock + Sync>(
         case,
         chunk,
         most_chunks,
+        complete: sync::Mutex::new(false),
         stop: AtomicBool::new(false),
     };
     team.run(alloc, threads, time)

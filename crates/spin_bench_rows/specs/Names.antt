@@ -1,7 +1,7 @@
 -- The names of the cases.
 use Rattle.std.specs.Prelude.{ℕ, List, codes, ◌==◌, if◌then◌else◌}
 use Rattle.spin_bench_rows.specs.declared.name.Name.{Name}
-use Rattle.spin_bench_rows.specs.declared.name.Name.TheVariants.{Floor, SpinMutex, Mutex, TicketMutex, FairMutex, FairStarve, RwRead, RwWrite, RwUpgrade, RwOneWriter, OnceGet, OnceCall, OnceFirst, LazyForce, BarrierAlone, SeatedMutex, StdMutex, World}
+use Rattle.spin_bench_rows.specs.declared.name.Name.TheVariants.{Floor, SpinMutex, Mutex, TicketMutex, FairMutex, FairStarve, RwRead, RwWrite, RwUpgrade, RwOneWriter, OnceGet, OnceCall, OnceFirst, LazyForce, BarrierAlone, BarrierRounds, SeatedMutex, StdMutex, World}
 use Rattle.spin_bench_rows.specs.declared.number.Unit.{Unit}
 use Rattle.spin_bench_rows.specs.declared.number.Unit.TheVariants.{Nanoseconds, Millions}
 
@@ -22,6 +22,7 @@ word_of OnceCall = codes "once_call"
 word_of OnceFirst = codes "once_first"
 word_of LazyForce = codes "lazy_force"
 word_of BarrierAlone = codes "barrier_alone"
+word_of BarrierRounds = codes "barrier_rounds"
 word_of SeatedMutex = codes "seated_mutex"
 word_of StdMutex = codes "std_mutex"
 word_of World = codes "world"

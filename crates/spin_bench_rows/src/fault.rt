@@ -15,6 +15,8 @@ pub enum Fault {
     Memory,
     /// The clock could not be read, or a line not written.
     System,
+    /// What the calls saw and left is not what so many calls see and leave.
+    Sum,
 }
 
 impl Fault {
@@ -26,7 +28,7 @@ impl Fault {
     {
         match self {
             Fault::Usage => 2,
-            Fault::Thread | Fault::Memory | Fault::System => 1,
+            Fault::Thread | Fault::Memory | Fault::System | Fault::Sum => 1,
         }
     }
 
@@ -37,6 +39,7 @@ impl Fault {
             Fault::Thread => "thread refused",
             Fault::Memory => "out of memory",
             Fault::System => "the clock or a write failed",
+            Fault::Sum => "the calls did not do what they had to",
         }
     }
 }

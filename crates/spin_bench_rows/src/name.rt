@@ -23,13 +23,14 @@ pub enum Name {
     OnceFirst,
     LazyForce,
     BarrierAlone,
+    BarrierRounds,
     SeatedMutex,
     StdMutex,
     World,
 }
 
 /// Every case.
-pub const NAMES: [Name; 18] = [
+pub const NAMES: [Name; 19] = [
     Name::Floor,
     Name::SpinMutex,
     Name::Mutex,
@@ -45,6 +46,7 @@ pub const NAMES: [Name; 18] = [
     Name::OnceFirst,
     Name::LazyForce,
     Name::BarrierAlone,
+    Name::BarrierRounds,
     Name::SeatedMutex,
     Name::StdMutex,
     Name::World,
@@ -71,6 +73,7 @@ impl Name {
             Name::OnceFirst => "once_first",
             Name::LazyForce => "lazy_force",
             Name::BarrierAlone => "barrier_alone",
+            Name::BarrierRounds => "barrier_rounds",
             Name::SeatedMutex => "seated_mutex",
             Name::StdMutex => "std_mutex",
             Name::World => "world",
@@ -98,6 +101,7 @@ impl Name {
             "once_first" => Some(Name::OnceFirst),
             "lazy_force" => Some(Name::LazyForce),
             "barrier_alone" => Some(Name::BarrierAlone),
+            "barrier_rounds" => Some(Name::BarrierRounds),
             "seated_mutex" => Some(Name::SeatedMutex),
             "std_mutex" => Some(Name::StdMutex),
             "world" => Some(Name::World),

@@ -14,6 +14,11 @@ fn asks_for_a_command(rt: HostRuntime) {
             "64",
             Command::Measure(Name::TicketMutex, 64),
         ),
+        (
+            "barrier_rounds",
+            "2",
+            Command::Measure(Name::BarrierRounds, 2),
+        ),
         ("std_mutex", "3", Command::Measure(Name::StdMutex, 3)),
         ("world", "1", Command::Measure(Name::World, 1)),
     ] {

@@ -7,72 +7,78 @@ use std::sync::Wait;
 
 impl Call for SpinMutex<u64> {
     #[inline(always)]
-    fn call<W: Wait>(&self, rt: &W, _worker: usize) {
+    fn call<W: Wait>(&self, rt: &W, _worker: usize) -> u64 {
         let mut sum = self.lock(rt);
         *sum = sum.wrapping_add(1);
+        0
     }
 
-    fn total(self) -> u64 {
+    fn added(self) -> u64 {
         self.into_inner()
     }
 }
 
 impl Call for Mutex<u64> {
     #[inline(always)]
-    fn call<W: Wait>(&self, rt: &W, _worker: usize) {
+    fn call<W: Wait>(&self, rt: &W, _worker: usize) -> u64 {
         let mut sum = self.lock(rt);
         *sum = sum.wrapping_add(1);
+        0
     }
 
-    fn total(self) -> u64 {
+    fn added(self) -> u64 {
         self.into_inner()
     }
 }
 
 impl Call for TicketMutex<u64> {
     #[inline(always)]
-    fn call<W: Wait>(&self, rt: &W, _worker: usize) {
+    fn call<W: Wait>(&self, rt: &W, _worker: usize) -> u64 {
         let mut sum = self.lock(rt);
         *sum = sum.wrapping_add(1);
+        0
     }
 
-    fn total(self) -> u64 {
+    fn added(self) -> u64 {
         self.into_inner()
     }
 }
 
 impl Call for FairMutex<u64> {
     #[inline(always)]
-    fn call<W: Wait>(&self, rt: &W, _worker: usize) {
+    fn call<W: Wait>(&self, rt: &W, _worker: usize) -> u64 {
         let mut sum = self.lock(rt);
         *sum = sum.wrapping_add(1);
+        0
     }
 
-    fn total(self) -> u64 {
+    fn added(self) -> u64 {
         self.into_inner()
     }
 }
 
 impl Call for sync::Mutex<u64> {
     #[inline(always)]
-    fn call<W: Wait>(&self, rt: &W, _worker: usize) {
+    fn call<W: Wait>(&self, rt: &W, _worker: usize) -> u64 {
         let mut sum = self.lock(rt);
         *sum = sum.wrapping_add(1);
+        0
     }
 
-    fn total(self) -> u64 {
+    fn added(self) -> u64 {
         self.into_inner()
     }
 }
 
 impl Call for RwLock<u64> {
     #[inline(always)]
-    fn call<W: Wait>(&self, rt: &W, _worker: usize) {
+    fn call<W: Wait>(&self, rt: &W, _worker: usize) -> u64 {
         let mut sum = self.write(rt);
         *sum = sum.wrapping_add(1);
+        0
     }
 
-    fn total(self) -> u64 {
+    fn added(self) -> u64 {
         self.into_inner()
     }
 }
@@ -93,22 +99,23 @@ impl Starvers {
 
 impl Call for Starvers {
     #[inline(always)]
-    fn call<W: Wait>(&self, rt: &W, _worker: usize) {
+    fn call<W: Wait>(&self, rt: &W, _worker: usize) -> u64 {
         let Some(starver) = self.lock.starve(rt) else {
-            return;
+            return 0;
         };
         if let Ok(mut sum) = starver.try_lock() {
             *sum = sum.wrapping_add(1);
         }
+        0
     }
 
-    fn total(self) -> u64 {
+    fn added(self) -> u64 {
         let Starvers { lock } = self;
         lock.into_inner()
     }
 }
 
-/// A lock that everybody only reads.
+/// A lock of a 1 that everybody only reads.
 #[derive(Drop)]
 pub struct Readers {
     lock: RwLock<u64>,
@@ -117,24 +124,24 @@ pub struct Readers {
 impl Readers {
     pub fn new() -> Readers {
         Readers {
-            lock: RwLock::new(0),
+            lock: RwLock::new(1),
         }
     }
 }
 
 impl Call for Readers {
     #[inline(always)]
-    fn call<W: Wait>(&self, rt: &W, _worker: usize) {
-        let _seen = self.lock.read(rt);
+    fn call<W: Wait>(&self, rt: &W, _worker: usize) -> u64 {
+        *self.lock.read(rt)
     }
 
-    fn total(self) -> u64 {
+    fn added(self) -> u64 {
         let Readers { lock } = self;
-        lock.into_inner()
+        lock.into_inner().wrapping_sub(1)
     }
 }
 
-/// A lock that is read by an upgradable reader, who then becomes a reader.
+/// A lock of a 1 that is taken by an upgradable reader, who then becomes a reader, and reads.
 #[derive(Drop)]
 pub struct Upgrades {
     lock: RwLock<u64>,
@@ -143,24 +150,25 @@ pub struct Upgrades {
 impl Upgrades {
     pub fn new() -> Upgrades {
         Upgrades {
-            lock: RwLock::new(0),
+            lock: RwLock::new(1),
         }
     }
 }
 
 impl Call for Upgrades {
     #[inline(always)]
-    fn call<W: Wait>(&self, rt: &W, _worker: usize) {
-        let _seen = self.lock.upgradeable_read(rt).downgrade();
+    fn call<W: Wait>(&self, rt: &W, _worker: usize) -> u64 {
+        *self.lock.upgradeable_read(rt).downgrade()
     }
 
-    fn total(self) -> u64 {
+    fn added(self) -> u64 {
         let Upgrades { lock } = self;
-        lock.into_inner()
+        lock.into_inner().wrapping_sub(1)
     }
 }
 
-/// A lock that the first worker writes and the others read.
+/// A lock that the first worker writes and the others read. Its number is odd: the writer adds 2, and who reads it sees
+/// its lowest bit.
 #[derive(Drop)]
 pub struct OneWriter {
     lock: RwLock<u64>,
@@ -169,23 +177,25 @@ pub struct OneWriter {
 impl OneWriter {
     pub fn new() -> OneWriter {
         OneWriter {
-            lock: RwLock::new(0),
+            lock: RwLock::new(1),
         }
     }
 }
 
 impl Call for OneWriter {
     #[inline(always)]
-    fn call<W: Wait>(&self, rt: &W, worker: usize) {
+    fn call<W: Wait>(&self, rt: &W, worker: usize) -> u64 {
         if worker == 0 {
-            self.lock.call(rt, worker);
+            let mut odd = self.lock.write(rt);
+            *odd = odd.wrapping_add(2);
+            0
         } else {
-            let _seen = self.lock.read(rt);
+            *self.lock.read(rt) % 2
         }
     }
 
-    fn total(self) -> u64 {
+    fn added(self) -> u64 {
         let OneWriter { lock } = self;
-        lock.into_inner()
+        lock.into_inner() / 2
     }
 }

@@ -8,7 +8,7 @@ use spin_once::once::Once;
 use std::alloc::AllocError;
 use std::sync::Wait;
 
-/// A `Once` that has its value, and is looked at.
+/// A `Once` that has its value, a 1, and is looked at.
 #[derive(Drop)]
 pub struct Gets {
     once: Once<u64>,
@@ -22,13 +22,12 @@ impl Gets {
 
 impl Call for Gets {
     #[inline(always)]
-    fn call<W: Wait>(&self, _rt: &W, _worker: usize) {
-        let _seen = self.once.get();
+    fn call<W: Wait>(&self, _rt: &W, _worker: usize) -> u64 {
+        self.once.get().copied().unwrap_or(0)
     }
 
-    fn total(self) -> u64 {
-        let Gets { once } = self;
-        once.try_into_inner().unwrap_or(0)
+    fn added(self) -> u64 {
+        0
     }
 }
 
@@ -46,13 +45,12 @@ impl LateCalls {
 
 impl Call for LateCalls {
     #[inline(always)]
-    fn call<W: Wait>(&self, rt: &W, _worker: usize) {
-        let _seen = self.once.call_once(rt, || 2);
+    fn call<W: Wait>(&self, rt: &W, _worker: usize) -> u64 {
+        *self.once.call_once(rt, || 2)
     }
 
-    fn total(self) -> u64 {
-        let LateCalls { once } = self;
-        once.try_into_inner().unwrap_or(0)
+    fn added(self) -> u64 {
+        0
     }
 }
 
@@ -68,18 +66,19 @@ fn complete<W: Wait>(rt: &W) -> Once<u64> {
 pub struct FirstCalls;
 
 impl Call for FirstCalls {
+    // One worker alone does it. Its number comes in, so that the value is not known where the loop is compiled.
     #[inline(always)]
-    fn call<W: Wait>(&self, rt: &W, worker: usize) {
+    fn call<W: Wait>(&self, rt: &W, worker: usize) -> u64 {
         let once: Once<u64> = Once::new();
-        let _seen = once.call_once(rt, || worker as u64);
+        *once.call_once(rt, || (worker as u64).wrapping_add(1))
     }
 
-    fn total(self) -> u64 {
+    fn added(self) -> u64 {
         0
     }
 }
 
-/// A `LazyLock` that has its value, and is asked for it. Each round of calls has one of its own, since who asks has to
+/// A `LazyLock` that has its value, a 1, and is asked for it. Each loop of calls has one of its own, since who asks has to
 /// know its initialiser.
 #[derive(Drop)]
 pub struct Forces;
@@ -88,24 +87,26 @@ impl Case for Forces {
     ghost weight = { λ _. 1 };
 
     #[inline(never)]
-    fn repeat<W: Wait>(&self, rt: &W, _worker: usize, times: u64) -> Result<(), AllocError> {
-        let lazy: LazyLock<u64, _> = LazyLock::new(|| 1);
+    fn repeat<W: Wait>(&self, rt: &W, worker: usize, times: u64) -> Result<u64, AllocError> {
+        // One worker alone does it. Its number comes in, so that the value is not known where the loop is compiled.
+        let lazy: LazyLock<u64, _> = LazyLock::new(|| (worker as u64).wrapping_add(1));
+        let mut seen = 0u64;
         for _ in 0..times {
-            let _seen = LazyLock::force(&lazy, rt);
+            seen = seen.wrapping_add(*LazyLock::force(&lazy, rt));
         }
-        Ok(())
+        Ok(seen)
     }
 
     fn weight(&self) -> u64 {
         1
     }
 
-    fn checksum(self) -> Result<u64, AllocError> {
-        Ok(0)
+    fn checksum(self, seen: u64) -> Result<u64, AllocError> {
+        Ok(seen)
     }
 }
 
-/// A barrier whose groups are of one party.
+/// A barrier whose groups are of one party, who leads each.
 #[derive(Drop)]
 pub struct Alone {
     barrier: Barrier,
@@ -121,11 +122,11 @@ impl Alone {
 
 impl Call for Alone {
     #[inline(always)]
-    fn call<W: Wait>(&self, rt: &W, _worker: usize) {
-        let _result = self.barrier.wait(rt);
+    fn call<W: Wait>(&self, rt: &W, _worker: usize) -> u64 {
+        self.barrier.wait(rt).is_leader() as u64
     }
 
-    fn total(self) -> u64 {
+    fn added(self) -> u64 {
         0
     }
 }

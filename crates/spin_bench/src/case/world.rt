@@ -80,28 +80,30 @@ impl<O: Play> Case for Plays<O> {
     ghost weight = { λ plays. vec_len plays.schedule };
 
     #[inline(never)]
-    fn repeat<W: Wait>(&self, rt: &W, _worker: usize, times: u64) -> Result<(), AllocError> {
+    fn repeat<W: Wait>(&self, rt: &W, _worker: usize, times: u64) -> Result<u64, AllocError> {
         let _ = rt;
+        let mut events = 0u64;
         for _ in 0..times {
             let mut world = World::new(self.alloc, O::opening(), PARTIES)?;
-            let _ = world.run(self.schedule.as_slice())?;
+            let transcript = world.run(self.schedule.as_slice())?;
+            events = events.wrapping_add(transcript.events.len() as u64);
         }
-        Ok(())
+        Ok(events)
     }
 
     fn weight(&self) -> u64 {
         self.schedule.len() as u64
     }
 
-    /// How many entries of the schedule were not passed over, in one more play.
-    fn checksum(self) -> Result<u64, AllocError> {
+    /// The events of all transcripts, less the entries of the schedule that are passed over in one more play.
+    fn checksum(self, seen: u64) -> Result<u64, AllocError> {
         let mut world = World::new(self.alloc, O::opening(), PARTIES)?;
         let transcript = world.run(self.schedule.as_slice())?;
-        let happened = transcript
+        let passed_over = transcript
             .events
             .iter()
-            .filter(|event| !matches!(event.outcome, Outcome::PassedOver))
+            .filter(|event| matches!(event.outcome, Outcome::PassedOver))
             .count();
-        Ok(happened as u64)
+        Ok(seen.wrapping_sub(passed_over as u64))
     }
 }
