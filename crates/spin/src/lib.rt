@@ -33,7 +33,7 @@ pub type Once<T = ()> = once::Once<T, Spin>;
 pub type LazyLock<T, F = fn() -> T> = lazylock::LazyLock<T, F, Spin>;
 
 /// The same, by the name that it had before.
-#[deprecated]
+#[deprecated(note = "use `spin::LazyLock`")]
 pub type Lazy<T, F = fn() -> T> = lazylock::LazyLock<T, F, Spin>;
 
 #[cfg(test)]

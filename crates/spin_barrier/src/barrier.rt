@@ -10,12 +10,16 @@ use std::sync::Wait;
 ///
 /// Its generation is counted in 64 bits: a party that looks again only after a multiple of 2^64 groups waits on for one
 /// more. None leaves early.
+///
+/// Example: `ten_threads_wait_for_one_another_twice_over`, `crates/spin_barrier/src/barrier/tests.rt`.
 #[derive(Drop)]
 pub struct Barrier<R = Spin> {
     state: Mutex<State, R>,
 }
 
 /// What `Barrier::wait` answers.
+///
+/// Example: `a_group_of_none_is_a_group_of_one`, `crates/spin_barrier/src/barrier/tests.rt`.
 #[derive(Clone, Copy)]
 pub struct BarrierWaitResult {
     leads: bool,
@@ -23,6 +27,8 @@ pub struct BarrierWaitResult {
 
 impl BarrierWaitResult {
     /// Whether this party leads its group. One party of each group does: the one that arrived last.
+    ///
+    /// Example: `a_group_of_none_is_a_group_of_one`, `crates/spin_barrier/src/barrier/tests.rt`.
     pub fn is_leader(&self) -> bool
         ensures { result ≡ self.now.leads }
     {
@@ -32,6 +38,8 @@ impl BarrierWaitResult {
 
 impl<R> Barrier<R> {
     /// A barrier whose groups have `n` parties, at which nobody has arrived. A group of 0 is one of 1: nobody waits there.
+    ///
+    /// Example: `a_group_of_none_is_a_group_of_one`, `crates/spin_barrier/src/barrier/tests.rt`.
     pub fn new(n: usize) -> Self {
         Barrier {
             state: Mutex::new(State::new(n)),
@@ -44,6 +52,8 @@ impl<R: RelaxStrategy> Barrier<R> {
     /// it returns.
     ///
     /// The last party of a group fills it, leads, and doesn't wait.
+    ///
+    /// Example: `ten_threads_wait_for_one_another_twice_over`, `crates/spin_barrier/src/barrier/tests.rt`.
     pub fn wait<W: Wait>(&self, rt: &W) -> BarrierWaitResult {
         let mut state = self.state.lock(rt);
         let leads = state.arrive();

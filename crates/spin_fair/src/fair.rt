@@ -25,6 +25,8 @@ pub const STARVATION_SPINS: usize = 1024;
 /// starver, no other gets the lock unless it starves as well.
 ///
 /// Among starvers, and among newcomers where nobody starves, there is no order.
+///
+/// Example: `six_threads_lose_no_addition`, `crates/spin_fair/src/fair/tests.rt`.
 #[derive(Drop)]
 pub struct FairMutex<T, R = Spin> {
     cell: Cell<T, View, FairRule>,
@@ -39,6 +41,8 @@ pub type Held<'a, T, R = Spin> = guard::Held<'a, T, View, FairRule, R>;
 
 impl<T, R> FairMutex<T, R> {
     /// An open lock, for which nobody starves.
+    ///
+    /// Example: `a_starver_comes_before_newcomers`, `crates/spin_fair/src/fair/tests.rt`.
     pub fn new(value: T) -> Self {
         let cell = Cell::new(value, 0, 0, &());
         FairMutex {
@@ -51,6 +55,8 @@ impl<T, R> FairMutex<T, R> {
 impl<T, R: RelaxStrategy> FairMutex<T, R> {
     /// Takes the lock, and relaxes while somebody holds it. Once it has looked in vain for a while it starves, and so
     /// comes before newcomers. Nothing is promised about when it returns.
+    ///
+    /// Example: `the_owner_has_the_last_value`, `crates/spin_fair/src/fair/tests.rt`.
     pub fn lock<W: Wait>(&self, rt: &W) -> FairMutexGuard<'_, T, R>
         ensures { IsHolder use_of_view result }
     {
@@ -86,6 +92,8 @@ impl<T, R: RelaxStrategy> FairMutex<T, R> {
 
 impl<T, R> FairMutex<T, R> {
     /// Takes the lock, or refuses where somebody holds it or starves. It makes one exchange.
+    ///
+    /// Example: `a_held_lock_opens_by_force`, `crates/spin_fair/src/fair/tests.rt`.
     pub fn try_lock<'a>(&'a self) -> Option<FairMutexGuard<'a, T, R>>
         ensures { IfSome result (IsHolder use_of_view) }
     {
@@ -112,6 +120,8 @@ impl<T, R> FairMutex<T, R> {
 
     /// Registers the caller as a starver, or refuses at the cap of starvers. It tries again where another party changed
     /// the word, and promises nothing about when it returns.
+    ///
+    /// Example: `a_starver_comes_before_newcomers`, `crates/spin_fair/src/fair/tests.rt`.
     pub fn starve<W: Wait>(&self, rt: &W) -> Option<Starvation<'_, T, R>> {
         let mut word = self.word();
         for _ in rt.forever() {
@@ -140,12 +150,16 @@ impl<T, R> FairMutex<T, R> {
     }
 
     /// The last value, whatever the word is.
+    ///
+    /// Example: `the_owner_has_the_last_value`, `crates/spin_fair/src/fair/tests.rt`.
     pub fn into_inner(self) -> T {
         let Self { cell, strategy: _ } = self;
         cell.into_inner()
     }
 
     /// The value, whatever the word is: nobody else has the lock.
+    ///
+    /// Example: `the_owner_has_the_last_value`, `crates/spin_fair/src/fair/tests.rt`.
     pub fn get_mut(&mut self) -> &mut T {
         self.cell.get_mut()
     }

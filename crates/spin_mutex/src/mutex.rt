@@ -22,6 +22,8 @@ pub use spin_ticket::ticket::{TicketMutex, TicketMutexGuard};
 /// A lock that gives one party at a time access to a value. Inside it is a `TicketMutex`, so parties enter in the order in
 /// which they came. Which lock it is inside is not part of its contract, so `try_lock` may also refuse where nobody holds
 /// it.
+///
+/// Example: `two_threads_lose_no_addition`, `crates/spin_mutex_tests/src/threads.rt`.
 #[derive(Drop)]
 pub struct Mutex<T, R = Spin> {
     inner: TicketMutex<T, R>,
@@ -43,6 +45,8 @@ pub struct Held<'a, T, R = Spin> {
 
 impl<T, R> Mutex<T, R> {
     /// An open lock.
+    ///
+    /// Example: `a_lock_is_taken_once`, `crates/spin_mutex_tests/src/calls.rt`.
     pub fn new(value: T) -> Self {
         Mutex {
             inner: TicketMutex::new(value),
@@ -50,17 +54,23 @@ impl<T, R> Mutex<T, R> {
     }
 
     /// The last value, whether the lock is taken or not.
+    ///
+    /// Example: `the_owner_has_the_last_value_and_takes_no_lock`, `crates/spin_mutex_tests/src/calls.rt`.
     pub fn into_inner(self) -> T {
         let Self { inner } = self;
         inner.into_inner()
     }
 
     /// The value, whether the lock is taken or not: nobody else has it.
+    ///
+    /// Example: `the_owner_has_the_last_value_and_takes_no_lock`, `crates/spin_mutex_tests/src/calls.rt`.
     pub fn get_mut(&mut self) -> &mut T {
         self.inner.get_mut()
     }
 
     /// Takes the lock, or refuses. It refuses where somebody holds it.
+    ///
+    /// Example: `a_lock_is_taken_once`, `crates/spin_mutex_tests/src/calls.rt`.
     pub fn try_lock(&self) -> Option<MutexGuard<'_, T, R>>
         ensures { IfSome result (λ guard. holds guard) }
     {
@@ -85,6 +95,8 @@ impl<T, R> Mutex<T, R> {
 
 impl<T, R: RelaxStrategy> Mutex<T, R> {
     /// Takes the lock, and relaxes while it can't. Nothing is promised about when it returns.
+    ///
+    /// Example: `a_lock_has_what_was_written`, `crates/spin_mutex_tests/src/values.rt`.
     pub fn lock<W: Wait>(&self, rt: &W) -> MutexGuard<'_, T, R>
         ensures { holds result }
     {
@@ -97,6 +109,8 @@ impl<T, R: RelaxStrategy> Mutex<T, R> {
 
 impl<'a, T, R> MutexGuard<'a, T, R> {
     /// The value for as long as the lock lives. The lock stays taken.
+    ///
+    /// Example: `a_leaked_value_stays_writable`, `crates/spin_mutex_tests/src/calls.rt`.
     pub fn leak(this: Self) -> &'a mut T
         ensures { result.now ≡ value_of this.entry }
     {

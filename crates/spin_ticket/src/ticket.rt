@@ -17,6 +17,8 @@ mod texts;
 pub use self::rule::{TicketRule, View};
 
 /// A lock that gives one party at a time access to a value, in the order in which they came, and spins while it waits.
+///
+/// Example: `six_threads_lose_no_addition`, `crates/spin_mutex_tests/src/threads.rt`.
 #[derive(Drop)]
 pub struct TicketMutex<T, R = Spin> {
     cell: Cell<T, View, TicketRule>,
@@ -38,6 +40,8 @@ struct Place<'a, T> {
 
 impl<T, R> TicketMutex<T, R> {
     /// An open lock.
+    ///
+    /// Example: `a_lock_is_taken_once`, `crates/spin_mutex_tests/src/calls.rt`.
     pub fn new(value: T) -> Self {
         Self::starting_at(value, 0)
     }
@@ -54,6 +58,8 @@ impl<T, R> TicketMutex<T, R> {
 impl<T, R: RelaxStrategy> TicketMutex<T, R> {
     /// Takes a ticket, and relaxes until its number is served. Once tickets are used up it waits for ever. Nothing is
     /// promised about when it returns.
+    ///
+    /// Example: `a_lock_has_what_was_written`, `crates/spin_mutex_tests/src/values.rt`.
     pub fn lock<W: Wait>(&self, rt: &W) -> TicketMutexGuard<'_, T, R>
         ensures { IsHolder use_of_view result }
     {
@@ -107,6 +113,8 @@ impl<T, R: RelaxStrategy> TicketMutex<T, R> {
 impl<T, R> TicketMutex<T, R> {
     /// Takes the lock, or refuses where a ticket stands, or where tickets are used up. It makes one pass: two loads
     /// and at most one exchange.
+    ///
+    /// Example: `a_lock_is_taken_once`, `crates/spin_mutex_tests/src/calls.rt`.
     pub fn try_lock<'a>(&'a self) -> Option<TicketMutexGuard<'a, T, R>>
         ensures { IfSome result (IsHolder use_of_view) }
     {
@@ -140,12 +148,16 @@ impl<T, R> TicketMutex<T, R> {
     }
 
     /// The last value, whatever the words are.
+    ///
+    /// Example: `the_owner_has_the_last_value_and_takes_no_lock`, `crates/spin_mutex_tests/src/calls.rt`.
     pub fn into_inner(self) -> T {
         let Self { cell, strategy: _ } = self;
         cell.into_inner()
     }
 
     /// The value, whatever the words are: nobody else has the lock.
+    ///
+    /// Example: `the_owner_has_the_last_value_and_takes_no_lock`, `crates/spin_mutex_tests/src/calls.rt`.
     pub fn get_mut(&mut self) -> &mut T {
         self.cell.get_mut()
     }
