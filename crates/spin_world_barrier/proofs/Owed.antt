@@ -1,9 +1,9 @@
 -- What the barrier's table owes.
-use Rattle.std.proofs.Common.{◌≡◌, ℕ, ◌+◌, ◌/◌, ◌%◌, ◌^◌, ◌≤◌, ◌==◌, Bool, true, false, ◌&&◌, ◌||◌, is_some, Option, Some, None, List, [], ◌∷◌, if◌then◌else◌, refl, ap, sym, ◌∙◌, subst, arith, inl, inr}
+use Rattle.std.proofs.Common.{◌≡◌, ℕ, ◌+◌, ◌/◌, ◌%◌, ◌^◌, ◌≤◌, ◌==◌, Bool, true, false, ◌&&◌, is_some, Option, Some, None, List, [], ◌∷◌, if◌then◌else◌, refl, ap, sym, ◌∙◌, subst, arith, inl, inr}
 use Rattle.std.specs.Prelude.{max}
 use Rattle.std.proofs.lemmas.Bool.{false≢true, ne_eqb}
 use Rattle.std.proofs.Math.Nat.{mod-le, div-le_self}
-use Rattle.spin_step.specs.Plain.{Plain, Holder, Change, gets, releases, serves, stops_starving, turns, completes, fails, arrives, Ask, to_read, to_read_upgradable, to_write, to_upgrade, to_take_ticket, to_enter, to_take_and_enter, to_lock_unregistered, to_lock_starving, to_lock_starving_alone, to_starve, to_begin, apply, is_empty, count_word, generation_word}
+use Rattle.spin_step.specs.Plain.{Plain, Change, gets, releases, serves, stops_starving, turns, completes, fails, arrives, Ask, to_read, to_read_upgradable, to_write, to_upgrade, to_take_ticket, to_enter, to_take_and_enter, to_lock_unregistered, to_lock_starving, to_lock_starving_alone, to_starve, to_begin, apply, count_word, generation_word}
 use Rattle.spin_step.specs.Parties.{apply_some}
 use Rattle.spin_step.specs.Barriers.{IsBarrier, is_leading, generation_at, may_leave}
 use Rattle.spin_step.proofs.Barriers.{barrier_arrive-words, barrier_count-below, barrier_may_leave-tells, barrier_may_leave-full}
@@ -27,8 +27,9 @@ use Rattle.spin_world_barrier.specs.Barrier.{begins_at, is_past, act_of, barrier
 use Rattle.spin_world_core.proofs.Lists.{eqb_self}
 use Rattle.spin_world_core.proofs.Facts.{LocalInvariant, Facts}
 use Rattle.spin_world_core.proofs.Stands.{absent}
-use Rattle.spin_world_core.proofs.Rows.{Row, Point, nowhere, looked, onward, SoundAt}
-use Rattle.spin_world_core.proofs.Shapes.{Notes, keeping_of, At, row_of, OwesAt, goes_by, answers_by, OwesSoon, BeginsAt, makes_own, Pays}
+use Rattle.spin_world_core.proofs.Rows.{Point, nowhere, looked, onward, SoundAt}
+use Rattle.spin_world_core.proofs.Shapes.{Notes, keeping_of, OwesAt, goes_by, answers_by, OwesSoon, BeginsAt, makes_own, Pays}
+use Rattle.spin_world_core.proofs.Usual.{two, no_holders}
 use Rattle.spin_world_core.proofs.Paid.{facts_of}
 
 abbrev pub point_of : BarrierPoint → Option Hold → Point
@@ -55,7 +56,7 @@ pub record IsOf (n : ℕ) (s : Plain) : Type 0 where
   pub group : s.group ≡ n
 
 abbrev pub barrier_notes : (n : ℕ) → Notes (barrier_table n)
-barrier_notes n = record { Shape = λ s v. IsOf n s; point = λ c l h. point_of l h; Knows = λ c l h p s span. KnowsAt l p s span }
+barrier_notes n = record { Shape = λ s. IsOf n s; point = λ c l h. point_of l h; Knows = λ c l h p s span. KnowsAt l p s span }
 
 -- only arrivals are made here
 
@@ -73,33 +74,28 @@ got_none to_lock_starving_alone = refl
 got_none to_starve = refl
 got_none to_begin = refl
 
+by_arrival : (P : Option Change → Type 0) → P None → ((p : ℕ) → P (Some (arrives p))) → (step : Option Change) → BelongsTo barrier step → P step
+by_arrival P none one None belongs = none
+by_arrival P none one (Some (gets p ask)) belongs = absurd (false≢true (sym (got_none ask) ∙ belongs))
+by_arrival P none one (Some (releases p k)) belongs = absurd (false≢true belongs)
+by_arrival P none one (Some (serves p)) belongs = absurd (false≢true belongs)
+by_arrival P none one (Some (stops_starving p)) belongs = absurd (false≢true belongs)
+by_arrival P none one (Some (turns p k l)) belongs = absurd (false≢true belongs)
+by_arrival P none one (Some (completes p)) belongs = absurd (false≢true belongs)
+by_arrival P none one (Some (fails p)) belongs = absurd (false≢true belongs)
+by_arrival P none one (Some (arrives p)) belongs = one p
+
 -- another step leaves the group's size, and does not lower the arrivals
 record Rises (s t : Plain) : Type 0 where
   group : t.group ≡ s.group
   arrivals : s.arrivals ≤ t.arrivals
 
 rises : (s : Plain) (step : Option Change) → BelongsTo barrier step → Rises s (apply_some s step)
-rises s None belongs = record { group = refl; arrivals = omega arith }
-rises s (Some (gets p ask)) belongs = absurd (false≢true (sym (got_none ask) ∙ belongs))
-rises s (Some (releases p k)) belongs = absurd (false≢true belongs)
-rises s (Some (serves p)) belongs = absurd (false≢true belongs)
-rises s (Some (stops_starving p)) belongs = absurd (false≢true belongs)
-rises s (Some (turns p k l)) belongs = absurd (false≢true belongs)
-rises s (Some (completes p)) belongs = absurd (false≢true belongs)
-rises s (Some (fails p)) belongs = absurd (false≢true belongs)
-rises s (Some (arrives p)) belongs = record { group = refl; arrivals = omega arith }
+rises s step belongs = by_arrival (λ made. Rises s (apply_some s made)) (record { group = refl; arrivals = omega arith }) (λ p. record { group = refl; arrivals = omega arith }) step belongs
 
 -- the arrivals grow by the step, where it is one
 pub one_more : (s : Plain) (step : Option Change) → BelongsTo barrier step → (apply_some s step).arrivals ≡ s.arrivals + bit (passes is_arrival step)
-one_more s None belongs = omega arith
-one_more s (Some (gets p ask)) belongs = absurd (false≢true (sym (got_none ask) ∙ belongs))
-one_more s (Some (releases p k)) belongs = absurd (false≢true belongs)
-one_more s (Some (serves p)) belongs = absurd (false≢true belongs)
-one_more s (Some (stops_starving p)) belongs = absurd (false≢true belongs)
-one_more s (Some (turns p k l)) belongs = absurd (false≢true belongs)
-one_more s (Some (completes p)) belongs = absurd (false≢true belongs)
-one_more s (Some (fails p)) belongs = absurd (false≢true belongs)
-one_more s (Some (arrives p)) belongs = refl
+one_more s step belongs = by_arrival (λ made. (apply_some s made).arrivals ≡ s.arrivals + bit (passes is_arrival made)) (omega arith) (λ p. refl) step belongs
 
 -- a step that is no arrival of the party's own leaves what it knows
 waits-on : (g p q : ℕ) (s : Plain) (step : Option Change) (r : Manner) (span : List Mark) → ((q == p) && is_some step) ≡ false → BelongsTo barrier step → Waits g p s span → Waits g p (apply_some s step) (mark_of q step r s ∷ span)
@@ -119,14 +115,8 @@ no_arrival true = refl
 no_arrival false = refl
 
 module _ (n : ℕ) where
-  abbrev Here : ℕ → BarrierCall → BarrierPoint → Option Hold → Plain → Option ℕ → BarrierWords → List Mark → Row → Type 0
-  Here p c l h s v w span row = At (barrier_table n) (barrier_notes n) p c l h s v w span row
-
   pub is_barrier : (s : Plain) (w : BarrierWords) → w.count ∷ w.generation ∷ [] ≡ count_word s ∷ generation_word s ∷ [] → IsOf n s → IsBarrier s n w.count w.generation
   is_barrier s w encodes of = record { group = of.group; counts = cc (encodes); generations = cc (encodes) }
-
-  two : (a b c d : ℕ) → a ≡ c → b ≡ d → a ∷ b ∷ [] ≡ c ∷ d ∷ []
-  two a b c d e f = cc (e, f)
 
   two_words : (u w : BarrierWords) → u.count ∷ u.generation ∷ [] ≡ w.count ∷ w.generation ∷ [] → u ≡ w
   two_words u w e =
@@ -146,8 +136,8 @@ module _ (n : ℕ) where
         made = inl ((refl, refl, refl), behind);
       }
 
-  owes : (p : ℕ) (c : BarrierCall) (l : BarrierPoint) (h : Option Hold) (s : Plain) (v : Option ℕ) (w : BarrierWords) (span : List Mark) → OwesAt (barrier_table n) (barrier_notes n) p c l h s v w span (row_of (barrier_table n) (barrier_notes n) c l h)
-  owes p c Arrive None s v w span = λ at.
+  owes : (p : ℕ) (c : BarrierCall) (l : BarrierPoint) (h : Option Hold) (s : Plain) (w : BarrierWords) (span : List Mark) → OwesAt (barrier_table n) (barrier_notes n) p c l h s w span
+  owes p c Arrive None s w span = λ at.
       let is = is_barrier s w at.encodes at.shape in
       let after = barrier_arrive-words s n w.count w.generation is in (
         barrier_count-below s n w.count w.generation is,
@@ -155,23 +145,23 @@ module _ (n : ℕ) where
         (λ full. (refl, inl refl, inl (s.arrivals + 1, (refl, refl, refl), sym after.leads ∙ full))),
         (λ behind. (refl, refl, tt, tt, waits_from p s _ span w.generation is.generations (sym after.leads ∙ behind) (after.stays behind))),
       )
-  owes p c (Leave g) None s v w span = λ at.
+  owes p c (Leave g) None s w span = λ at.
       let is = is_barrier s w at.encodes at.shape in
       let waits = at.knows in (
         (λ past. (refl, inl refl, (waits.number, inr waits.made, inl (barrier_may_leave-full s waits.number n w.count w.generation g is waits.come waits.found waits.follows past)))),
         (λ same. (refl, refl, tt, tt, waits-on g p p s None _ span (no_arrival (p == p)) tt waits)),
       )
-  owes p _ _ (Some h) s v w span = tt
+  owes p _ _ (Some h) s w span = tt
 
-  soon : (p : ℕ) (c : BarrierCall) (l : BarrierPoint) (h : Option Hold) (s : Plain) (v : Option ℕ) (w : BarrierWords) (span : List Mark)
-      → OwesSoon (barrier_table n) (barrier_notes n) p c l h s v w span true (row_of (barrier_table n) (barrier_notes n) c l h)
-  soon p c Arrive None s v w span = λ at may. absurd (false≢true may)
-  soon p c (Leave g) None s v w span = λ at may.
+  soon : (p : ℕ) (c : BarrierCall) (l : BarrierPoint) (h : Option Hold) (s : Plain) (w : BarrierWords) (span : List Mark)
+      → OwesSoon (barrier_table n) (barrier_notes n) p c l h s w span
+  soon p c Arrive None s w span = λ at may. absurd (false≢true may)
+  soon p c (Leave g) None s w span = λ at may.
       let is = is_barrier s w at.encodes at.shape in
       let waits = at.knows in
       let past : is_past g w ≡ true = barrier_may_leave-tells s waits.number n w.count w.generation g is waits.come waits.found ∙ subst (λ k. may_leave s k ≡ true) waits.is_number may in
       ap (λ b. goes_by {A = Answer ℕ} (either b (Answers Follower None) (GoesOn (Leave g))) true (λ l. answers_by (barrier_table n) 3 w c l None)) past
-  soon p _ _ (Some h) s v w span = tt
+  soon p _ _ (Some h) s w span = tt
 
   begins : (p : ℕ) (c : BarrierCall) (h : Option Hold) (s : Plain) → BeginsAt (barrier_table n) (barrier_notes n) c h p s (begins_at h)
   begins p c None s = (refl, refl, tt, tt)
@@ -197,13 +187,11 @@ module _ (n : ℕ) where
         shape_first = record { no_holders = refl; group = refl };
         numbers_tell = two_words;
         no_value = refl;
-        one_list = λ s v of. ap (λ (hs : List Holder). is_empty hs || is_empty s.tickets) of.no_holders;
-        shape_written = λ s p old new writes of. of;
-        shape_set = λ s old new of. of;
+        one_list = λ s of. no_holders s of.no_holders;
         makes = λ p c l h. makes p l h;
         sound = λ p c l h. sound p l h;
         begins = begins;
-        others = λ p q c l h s v step r span ne of may belongs knows. others p q l s step r span ne belongs knows;
+        others = λ p q c l h s step r span ne of may belongs knows. others p q l s step r span ne belongs knows;
         owes = owes;
         soon = soon;
       }

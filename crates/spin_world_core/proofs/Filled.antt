@@ -15,11 +15,11 @@ use Rattle.spin_world_core.specs.Calls.{Coding, once, encoded, BelongsTo, own_st
 use Rattle.spin_world_core.specs.Machines.{Machine, opening_phase, opening_plain}
 use Rattle.spin_world_core.specs.Schedules.{placed}
 use Rattle.spin_world_core.specs.Runs.{mark_of, if_completed, is_writer, own}
-use Rattle.spin_world_core.specs.Acts.{Act, load, load_if, load_for, enter, exchange, weak_exchange, attempt, retry, store, store_if, step_by, passing, made_where, change_by, is_completion, is_waiting, manner_by, Table, machine_of, completes_by, brought, with_value, filled, gives_of, machine_with}
+use Rattle.spin_world_core.specs.Acts.{Act, load, load_if, load_for, enter, exchange, weak_exchange, attempt, retry, store, store_if, step_by, passing, made_where, change_by, is_completion, manner_by, Table, machine_of, completes_by, brought, with_value, filled, gives_of, machine_with}
 use Rattle.spin_world_core.specs.Values.{HasPhase, Gives}
 use Rattle.spin_world_core.proofs.Facts.{LocalInvariant, AnswersWithin, InCall, NextIs, NextGives, StepIs, Facts}
-use Rattle.spin_world_core.proofs.Rows.{Row, SoundAt, IsSound, sound_at}
-use Rattle.spin_world_core.proofs.Shapes.{Notes, row_of, KnowsRow, keeping_of, At, AtRow, OwesAt, goes_by, answers_by, OwesSoon, BeginsAt}
+use Rattle.spin_world_core.proofs.Rows.{SoundAt, IsSound, sound_at}
+use Rattle.spin_world_core.proofs.Shapes.{Notes, row_of, KnowsRow, keeping_of, AtRow, OwesAt, goes_by, answers_by, OwesSoon, BeginsAt}
 use Rattle.spin_world_core.proofs.Paid.{uncompleted, MakesStep, Went, here_at, steps_at, can_at, soon_at, others_at, begins_at}
 
 -- only a store completes a closure, whoever the party is, and only one whose call brings this value
@@ -44,31 +44,29 @@ abbrev pub TellsOf : {L : Type 0} → Phase → Next L (Answer (Unit {0})) → T
 TellsOf phase (GoesOn l) = Unit {0}
 TellsOf phase (Answers a after) = TellsSo phase a
 
-abbrev pub TellsAt : {W V C L : Type 0} (t : Table W V C L (Answer (Unit {0}))) (n : Notes t) → ℕ → C → L → Option Hold → Plain → Option V → W → List Mark → Option Row → Type 0
-TellsAt t n p c l h s v w span None = Unit {0}
-TellsAt {V = V} t n p c l h s v w span (Some row) = At t n p c l h s v w span row → TellsOf (apply_some s (change_by t.number (t.act c l h) p w)).phase (step_by {V = V} t.number (t.act c l h) w).next
+abbrev pub TellsBy : {W L : Type 0} (V : Type 0) → (W → ℕ) → Act W L (Answer (Unit {0})) → ℕ → Plain → W → Type 0
+TellsBy V number act p s w = TellsOf (apply_some s (change_by number act p w)).phase (step_by {V = V} number act w).next
 
 -- what an object shows of its table
 pub record PaysWith {W V C L : Type 0} (t : Table W V C L (Answer (Unit {0}))) (n : Notes t) (brings : C → Option V) : Type 0 where
   pub says : (a : Answer (Unit {0})) → t.says a ≡ says_of a
   pub first : t.number t.words ∷ t.others t.words ≡ encoded t.coding (opening_plain (machine_with t brings))
-  pub shape_first : n.Shape (opening_plain (machine_with t brings)) t.value
+  pub shape_first : n.Shape (opening_plain (machine_with t brings))
   pub phase_first : is_complete (opening_phase t.coding t.value) ≡ is_some t.value
   pub numbers_tell : (v w : W) → t.number v ∷ t.others v ≡ t.number w ∷ t.others w → v ≡ w
-  -- nobody holds it, whatever the value is
-  pub one_list : (s : Plain) (v : Option V) → n.Shape s v → (is_empty s.holders || is_empty s.tickets) ≡ true
-  pub shape_any : (s : Plain) (v x : Option V) → n.Shape s v → n.Shape s x
-  pub none_writes : (s : Plain) (p : ℕ) (v : Option V) → n.Shape s v → is_writer (entries p s) ≡ false
-  pub none_holds : (s : Plain) (v : Option V) → n.Shape s v → is_held s ≡ false
+  -- nobody holds it
+  pub one_list : (s : Plain) → n.Shape s → (is_empty s.holders || is_empty s.tickets) ≡ true
+  pub none_writes : (s : Plain) (p : ℕ) → n.Shape s → is_writer (entries p s) ≡ false
+  pub none_holds : (s : Plain) → n.Shape s → is_held s ≡ false
   pub makes : (p : ℕ) (c : C) (l : L) (h : Option Hold) → MakesStep t.coding (t.act c l h) p
   pub completes_right : (p : ℕ) (c : C) (l : L) (h : Option Hold) → CompletesRight (t.act c l h) p (brings c)
   pub sound : (p : ℕ) (c : C) (l : L) (h : Option Hold) → SoundAt t.coding (t.asks c h) p (n.point c l h)
   pub begins : (p : ℕ) (c : C) (h : Option Hold) (s : Plain) → BeginsAt t n c h p s (t.begin c h)
-  pub others : (p q : ℕ) (c : C) (l : L) (h : Option Hold) (s : Plain) (v : Option V) (step : Option Change) (r : Manner) (span : List Mark) → (q ≡ p → ⊥) → n.Shape s v → IsOpenStep s q step → BelongsTo t.coding step
+  pub others : (p q : ℕ) (c : C) (l : L) (h : Option Hold) (s : Plain) (step : Option Change) (r : Manner) (span : List Mark) → (q ≡ p → ⊥) → n.Shape s → IsOpenStep s q step → BelongsTo t.coding step
       → n.Knows c l h p s span → n.Knows c l h p (apply_some s step) (mark_of q step r s ∷ span)
-  pub owes : (p : ℕ) (c : C) (l : L) (h : Option Hold) (s : Plain) (v : Option V) (w : W) (span : List Mark) → OwesAt t n p c l h s v w span (row_of t n c l h)
-  pub tells : (p : ℕ) (c : C) (l : L) (h : Option Hold) (s : Plain) (v : Option V) (w : W) (span : List Mark) → TellsAt t n p c l h s v w span (row_of t n c l h)
-  pub soon : (p : ℕ) (c : C) (l : L) (h : Option Hold) (s : Plain) (v : Option V) (w : W) (span : List Mark) → OwesSoon t n p c l h s v w span (is_waiting (t.asks c h)) (row_of t n c l h)
+  pub owes : (p : ℕ) (c : C) (l : L) (h : Option Hold) (s : Plain) (w : W) (span : List Mark) → OwesAt t n p c l h s w span
+  pub tells : (p : ℕ) (c : C) (l : L) (h : Option Hold) (s : Plain) (w : W) → t.number w ∷ t.others w ≡ encoded t.coding s → TellsBy V t.number (t.act c l h) p s w
+  pub soon : (p : ℕ) (c : C) (l : L) (h : Option Hold) (s : Plain) (w : W) (span : List Mark) → OwesSoon t n p c l h s w span
 
 -- Phases and values
 
@@ -192,7 +190,7 @@ module _ {W V C L : Type 0} (t : Table W V C L (Answer (Unit {0}))) (n : Notes t
 
   -- nobody holds it, and there is a value just where a closure has completed
   abbrev pub keeping_with : LocalInvariant V C L
-  keeping_with = record { Shape = λ s v. n.Shape s v × (is_complete s.phase ≡ is_some v); Knows = λ c l h p s span. KnowsRow t n c l h p s span (row_of t n c l h) }
+  keeping_with = record { Shape = λ s v. n.Shape s × (is_complete s.phase ≡ is_some v); Knows = λ c l h p s span. KnowsRow t n c l h p s span (row_of t n c l h) }
 
   sound_of : (p : ℕ) (c : C) (l : L) (h : Option Hold) → IsSound t.coding (t.asks c h) p (row_of t n c l h)
   sound_of p c l h = sound_at t.coding (t.asks c h) h p (n.point c l h) (pays.sound p c l h)
@@ -217,8 +215,8 @@ module _ {W V C L : Type 0} (t : Table W V C L (Answer (Unit {0}))) (n : Notes t
 
   -- at a point of a call
   module _ (p : ℕ) (c : C) (l : L) (h : Option Hold) (s : Plain) (v : Option V) (w : W) (span : List Mark) (here : InCall m keeping_with p c l h s v w span) where
-    at_here : AtRow t n p c l h s v w span (row_of t n c l h)
-    at_here = here_at t n pays.sound p c l h s v w span (row_of t n c l h) here.encodes here.shape.0 here.exclusive here.retries here.knows
+    at_here : AtRow t n p c l h s w span (row_of t n c l h)
+    at_here = here_at t n pays.sound p c l h s w span (row_of t n c l h) here.encodes here.shape.0 here.exclusive here.retries here.knows
 
     abbrev st : Stepped W V L (Answer (Unit {0}))
     st = step_by t.number (t.act c l h) w
@@ -229,18 +227,11 @@ module _ {W V C L : Type 0} (t : Table W V C L (Answer (Unit {0}))) (n : Notes t
     abbrev manner : Manner
     manner = by_step (manner_by (t.asks c h) (t.act c l h))
 
-    went : Went t n p c h s v span st step manner
-    went = steps_at t n pays.sound p c l h s v w span (row_of t n c l h) (sound_of p c l h) (pays.makes p c l h) at_here (pays.owes p c l h s v w span)
+    went : Went t n p c h s span st step manner
+    went = steps_at t n pays.sound p c l h s w span (row_of t n c l h) (sound_of p c l h) (pays.makes p c l h) at_here (pays.owes p c l h s w span)
 
     puts : Puts s v (brings c) (brought (completes_by (t.act c l h)) (brings c)) step
     puts = puts_by t.number (t.act c l h) s p v (brings c) w (pays.completes_right p c l h) went.opens here.shape.1
-
-    tells_at : (o : Option Row) → AtRow t n p c l h s v w span o → TellsAt t n p c l h s v w span o → TellsOf (apply_some s step).phase st.next
-    tells_at None at tells = absurd at
-    tells_at (Some row) at tells = tells at
-
-    tells_here : TellsOf (apply_some s step).phase st.next
-    tells_here = tells_at (row_of t n c l h) at_here (pays.tells p c l h s v w span)
 
     step_here : StepIs m keeping_with p c h s v span (m.step w v c l h) step manner
     step_here =
@@ -248,9 +239,9 @@ module _ {W V C L : Type 0} (t : Table W V C L (Answer (Unit {0}))) (n : Notes t
           opens = went.opens;
           belongs = went.belongs;
           encodes = went.encodes;
-          shape = (pays.shape_any (apply_some s step) v _ went.shape, puts.phase);
+          shape = (went.shape, puts.phase);
           places = puts.places;
-          next = next_with p c h (apply_some s step) (mark_of p step manner s ∷ span) _ st.next puts.phase tells_here went.next;
+          next = next_with p c h (apply_some s step) (mark_of p step manner s ∷ span) _ st.next puts.phase (pays.tells p c l h s w here.encodes) went.next;
           fails = went.fails;
         }
 
@@ -264,15 +255,15 @@ module _ {W V C L : Type 0} (t : Table W V C L (Answer (Unit {0}))) (n : Notes t
         first = pays.first;
         shape_first = (pays.shape_first, pays.phase_first);
         numbers_tell = pays.numbers_tell;
-        one_list = λ s v shape. pays.one_list s v shape.0;
-        shape_written = λ s p old v writes shape. absurd (false≢true (sym (pays.none_writes s p old shape.0) ∙ writes));
-        shape_set = λ s old v shape. (pays.shape_any s (Some old) (Some v) shape.0, shape.1);
+        one_list = λ s v shape. pays.one_list s shape.0;
+        shape_written = λ s p old v writes shape. absurd (false≢true (sym (pays.none_writes s p shape.0) ∙ writes));
+        shape_set = λ s old v shape. shape;
         begins = λ p c l h s e mine. begins_at t n pays.sound p c l h s (row_of t n c l h) mine (subst (BeginsAt t n c h p s) e (pays.begins p c h s));
-        others = λ p q c l h s v step r span ne shape exclusive may belongs knows. others_at t n pays.sound p q c l h s step r span (row_of t n c l h) ne may (pays.others p q c l h s v step r span ne shape.0 may belongs) knows;
-        can = λ p c l h s v w span here. can_at t n pays.sound p c l h s v w span (row_of t n c l h) (sound_of p c l h) (at_here p c l h s v w span here) (pays.owes p c l h s v w span);
+        others = λ p q c l h s v step r span ne shape exclusive may belongs knows. others_at t n pays.sound p q c l h s step r span (row_of t n c l h) ne may (pays.others p q c l h s step r span ne shape.0 may belongs) knows;
+        can = λ p c l h s v w span here. can_at t n pays.sound p c l h s w span (row_of t n c l h) (sound_of p c l h) (at_here p c l h s v w span here) (pays.owes p c l h s w span);
         steps = step_here;
-        completes_alone = λ p c l h s v w span here q is. pays.none_holds s v here.shape.0;
-        undisturbed = λ p c l h s v w span here may. answers_with 4 w c l h (soon_at t n pays.sound p c l h s v w span (row_of t n c l h) (at_here p c l h s v w span here) (pays.soon p c l h s v w span) may);
+        completes_alone = λ p c l h s v w span here q is. pays.none_holds s here.shape.0;
+        undisturbed = λ p c l h s v w span here may. answers_with 4 w c l h (soon_at t n pays.sound p c l h s w span (row_of t n c l h) (at_here p c l h s v w span here) (pays.soon p c l h s w span) may);
         refuses = λ p c l h s v w span next here is. absurd (cc (is));
         phase = λ s v shape. has_phase t.coding s.phase v shape.1;
         values = λ p c l h s v w span here. record { brings = (puts p c l h s v w span here).brings; gives = gives_at p c l h s v w span here _ (step_by {V = V} t.number (t.act c l h) w).next };

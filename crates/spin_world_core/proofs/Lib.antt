@@ -4,6 +4,7 @@ pub mod Spans
 pub mod Stands
 pub mod Rows
 pub mod Shapes
+pub mod Usual
 pub mod Paid
 pub mod Undisturbed
 pub mod Kept

@@ -22,7 +22,7 @@ use Rattle.spin_world_core.proofs.Facts.{AnswersWithin, InCall, NextIs, NextGive
 use Rattle.spin_world_core.proofs.Spans.{own-mine, retries-mine}
 use Rattle.spin_world_core.proofs.Stands.{entries_at, stand_of, held_at, stand-mine}
 use Rattle.spin_world_core.proofs.Rows.{Opened, OwesRight, Turn, goes, loses, misses, Turned, spent-mine, goes_within, ends_within, ends_owed, any_map, moment_of, weak_moment_of, Row, IsSound, sound_at, Expects, expects-mine, none_spent, none_expected, known-other, SoundAt}
-use Rattle.spin_world_core.proofs.Shapes.{Notes, row_of, KnowsRow, keeping_of, At, Means, FindsAnother, FollowsRow, Follows, Owes, OwesAt, goes_by, answers_by, OwesSoon, BeginsRow, BeginsAt, is_own, makes_own, Pays, AtRow}
+use Rattle.spin_world_core.proofs.Shapes.{Notes, row_of, KnowsRow, keeping_of, call_of, At, AtRow, Means, FindsAnother, FollowsRow, Follows, Owes, OwesRow, goes_by, answers_by, AnswersRow, BeginsRow, BeginsAt, is_own, makes_own, Pays}
 
 -- a step that completes no closure leaves the value last written
 pub uncompleted : {V : Type 0} (old put : Option V) (step : Option Change) → ((q : ℕ) → step ≡ Some (completes q) → ⊥) → old ≡ if_completed old put step
@@ -89,11 +89,11 @@ makes_step coding (store can f step next) p own = (and_parts (is_step_of coding 
 makes_step coding (store_if can f step test a b) p own = (and_parts (is_step_of coding (step p)) (not (is_completion (step p))) own).0
 
 -- what a step of such a shape comes to; it places no value by itself
-pub record Went {W V C L A : Type 0} (t : Table W V C L A) (n : Notes t) (p : ℕ) (c : C) (h : Option Hold) (s : Plain) (v : Option V) (span : List Mark) (st : Stepped W V L A) (step : Option Change) (r : Manner) : Type 0 where
+pub record Went {W V C L A : Type 0} (t : Table W V C L A) (n : Notes t) (p : ℕ) (c : C) (h : Option Hold) (s : Plain) (span : List Mark) (st : Stepped W V L A) (step : Option Change) (r : Manner) : Type 0 where
   pub opens : IsOpenStep s p step
   pub belongs : BelongsTo t.coding step
   pub encodes : t.number st.words ∷ t.others st.words ≡ encoded t.coding (apply_some s step)
-  pub shape : n.Shape (apply_some s step) v
+  pub shape : n.Shape (apply_some s step)
   pub unplaced : st.placed ≡ None
   pub next : NextIs (machine_of t) (keeping_of t n) Step p c h (apply_some s step) (mark_of p step r s ∷ span) st.next
   pub fails : is_again r ≡ true → step ≡ None → failures p span < changes t.coding p span
@@ -138,12 +138,12 @@ module _ {W V C L A : Type 0} (t : Table W V C L A) (n : Notes t) (sound_all : (
       answers_within k st.words c m h (subst (λ next. goes_by next true (λ l. answers_by t k st.words c l h) ≡ true) is soon)
 
   -- a step of the call, at the row of its point
-  module _ (p : ℕ) (c : C) (l : L) (h : Option Hold) (s : Plain) (v : Option V) (w : W) (span : List Mark) (row : Row) (at : At t n p c l h s v w span row) (sound : IsSound t.coding (t.asks c h) p (Some row)) where
+  module _ (p : ℕ) (c : C) (l : L) (h : Option Hold) (s : Plain) (w : W) (span : List Mark) (row : Row) (at : At t n p c l h s w span row) (sound : IsSound t.coding (t.asks c h) p (Some row)) where
     made_now : (step : Option Change) (r : Manner) (cs : List Change) → row.made p ++ option_to_list step ≡ cs → own p (mark_of p step r s ∷ span) ≡ cs
     made_now step r cs is = own-mine p step r s span ∙ (ap (λ ds. ds ++ option_to_list step) at.known.made ∙ is)
 
     goes_to : (step : Option Change) (r : Manner) (turn : Turn) (m : L) (o : Option Row) → IsOpenStep s p step → Turned turn s step r → (is_again r ≡ true → step ≡ None → failures p span < changes t.coding p span)
-        → IsSound t.coding (t.asks c h) p o → FollowsRow t n p c h s w span row step r turn m o
+        → IsSound t.coding (t.asks c h) p o → FollowsRow t n p (call_of t n c) h s w span row step r turn m o
         → KnowsRow t n c m h p (apply_some s step) (mark_of p step r s ∷ span) o
         × ((said : Said) × AnyOf (λ steps. IsBeginning (own p (mark_of p step r s ∷ span)) steps) (own_steps (t.asks c h) said p))
         × GoesOnWithin (limit t.coding (t.asks c h)) t.coding p (mark_of p step r s ∷ span)
@@ -167,7 +167,7 @@ module _ {W V C L A : Type 0} (t : Table W V C L A) (n : Notes t) (sound_all : (
         )
 
     followed : (weakly : Bool) (step : Option Change) (r : Manner) (turn : Turn) (next : Next L A) → IsOpenStep s p step → Turned turn s step r → (is_again r ≡ true → step ≡ None → failures p span < changes t.coding p span)
-        → Follows t n p c h s w span row weakly step r turn next → NextIs (machine_of t) (keeping_of t n) (move_of weakly) p c h (apply_some s step) (mark_of p step r s ∷ span) next
+        → Follows t n p (call_of t n c) h s w span row weakly step r turn next → NextIs (machine_of t) (keeping_of t n) (move_of weakly) p c h (apply_some s step) (mark_of p step r s ∷ span) next
     followed weakly step r turn (GoesOn m) may turned lost follows =
         let there = goes_to step r turn m (row_of t n c m h) may turned lost (sound_at t.coding (t.asks c h) h p (n.point c m h) (sound_all p c m h)) follows in
         record { knows = there.0; own_so_far = there.1; in_time = there.2 }
@@ -181,10 +181,10 @@ module _ {W V C L A : Type 0} (t : Table W V C L A) (n : Notes t) (sound_all : (
         }
 
     abbrev Is : Stepped W V L A → Option Change → Manner → Type 0
-    Is st step r = Went t n p c h s v span st step r
+    Is st step r = Went t n p c h s span st step r
 
     -- the words stay
-    stay_is : (r : Manner) (turn : Turn) (next : Next L A) → Turned turn s None r → (is_again r ≡ true → failures p span < changes t.coding p span) → Follows t n p c h s w span row false None r turn next → Is (stays w next) None r
+    stay_is : (r : Manner) (turn : Turn) (next : Next L A) → Turned turn s None r → (is_again r ≡ true → failures p span < changes t.coding p span) → Follows t n p (call_of t n c) h s w span row false None r turn next → Is (stays w next) None r
     stay_is r turn next turned lost follows =
         record {
           opens = tt;
@@ -200,7 +200,7 @@ module _ {W V C L A : Type 0} (t : Table W V C L A) (n : Notes t) (sound_all : (
     unretried single made = absurd (false≢true (sym single ∙ made))
 
     -- new words, and a plain step
-    made_is : (r : Manner) (to : W) (d : Change) (next : Next L A) → is_step_of t.coding d ≡ true → Means t n p s v d (Some to) → Follows t n p c h s w span row false (Some d) r goes next → Is (stays to next) (Some d) r
+    made_is : (r : Manner) (to : W) (d : Change) (next : Next L A) → is_step_of t.coding d ≡ true → Means t n p s d (Some to) → Follows t n p (call_of t n c) h s w span row false (Some d) r goes next → Is (stays to next) (Some d) r
     made_is r to d next own means follows =
         record {
           opens = means.0;
@@ -212,41 +212,41 @@ module _ {W V C L A : Type 0} (t : Table W V C L A) (n : Notes t) (sound_all : (
           fails = λ e none. absurd (cc (none));
         }
 
-    tested : (r : Manner) (b : Bool) (x y : Next L A) → is_again r ≡ false → (b ≡ true → Follows t n p c h s w span row false None r goes x) → (b ≡ false → Follows t n p c h s w span row false None r goes y) → Is (stays w (either b x y)) None r
+    tested : (r : Manner) (b : Bool) (x y : Next L A) → is_again r ≡ false → (b ≡ true → Follows t n p (call_of t n c) h s w span row false None r goes x) → (b ≡ false → Follows t n p (call_of t n c) h s w span row false None r goes y) → Is (stays w (either b x y)) None r
     tested r true x y single f g = stay_is r goes x tt (unretried single) (f refl)
     tested r false x y single f g = stay_is r goes y tt (unretried single) (g refl)
 
-    looked : (r : Manner) (turn : Turn) (o : Option W) (d : Change) (found missed : Next L A) → Turned turn s None r → (is_again r ≡ true → failures p span < changes t.coding p span) → Means t n p s v d o
-        → (is_some o ≡ true → Follows t n p c h s w span row false None r turn found) → (is_open s d ≡ false → Follows t n p c h s w span row false None r (misses d) missed) → Is (stays w (either (is_some o) found missed)) None r
+    looked : (r : Manner) (turn : Turn) (o : Option W) (d : Change) (found missed : Next L A) → Turned turn s None r → (is_again r ≡ true → failures p span < changes t.coding p span) → Means t n p s d o
+        → (is_some o ≡ true → Follows t n p (call_of t n c) h s w span row false None r turn found) → (is_open s d ≡ false → Follows t n p (call_of t n c) h s w span row false None r (misses d) missed) → Is (stays w (either (is_some o) found missed)) None r
     looked r turn None d found missed turned lost means f g = stay_is r (misses d) missed means lost (g means)
     looked r turn (Some to) d found missed turned lost means f g = stay_is r turn found turned lost (f refl)
 
-    exchanged : (r : Manner) (o : Option W) (d : Change) (won lost : Next L A) → is_again r ≡ false → is_step_of t.coding d ≡ true → Means t n p s v d o
-        → Follows t n p c h s w span row false (Some d) r goes won → (is_open s d ≡ false → Follows t n p c h s w span row false None r (misses d) lost) → Is (becomes w o won lost) (made_if o d) r
+    exchanged : (r : Manner) (o : Option W) (d : Change) (won lost : Next L A) → is_again r ≡ false → is_step_of t.coding d ≡ true → Means t n p s d o
+        → Follows t n p (call_of t n c) h s w span row false (Some d) r goes won → (is_open s d ≡ false → Follows t n p (call_of t n c) h s w span row false None r (misses d) lost) → Is (becomes w o won lost) (made_if o d) r
     exchanged r None d won lost single own means f g = stay_is r (misses d) lost means (unretried single) (g means)
     exchanged r (Some to) d won lost single own means f g = made_is r to d won own means f
 
     attempted : (o : Option W) (d : Change) (won lost : Next L A) → is_step_of t.coding d ≡ true
-        → ((to : W) → o ≡ Some to → Means t n p s v d (Some to) × Follows t n p c h s w span row false (Some d) plain goes won) → (o ≡ None → Follows t n p c h s w span row false None plain goes lost) → Is (becomes w o won lost) (made_if o d) plain
+        → ((to : W) → o ≡ Some to → Means t n p s d (Some to) × Follows t n p (call_of t n c) h s w span row false (Some d) plain goes won) → (o ≡ None → Follows t n p (call_of t n c) h s w span row false None plain goes lost) → Is (becomes w o won lost) (made_if o d) plain
     attempted None d won lost own f g = stay_is plain goes lost tt (unretried refl) (g refl)
     attempted (Some to) d won lost own f g = let both = f to refl in made_is plain to d won own both.0 both.1
 
     -- the number is as it was found, or another party has changed it since
     made_again : (b : Bool) (k : ℕ) (o : Option W) (d : Change) (won found missed : Next L A) → is_step_of t.coding d ≡ true → (t.number w == k) ≡ b → (t.number w ≡ k → is_some o ≡ true) → failures p span + bit (not b) ≤ changes t.coding p span
-        → Means t n p s v d o → (t.number w ≡ k → Follows t n p c h s w span row false (Some d) again goes won)
-        → (FindsAnother (limit t.coding (t.asks c h)) b (is_some o) → Follows t n p c h s w span row false None again loses found) → (is_open s d ≡ false → Follows t n p c h s w span row false None again (misses d) missed)
+        → Means t n p s d o → (t.number w ≡ k → Follows t n p (call_of t n c) h s w span row false (Some d) again goes won)
+        → (FindsAnother (limit t.coding (t.asks c h)) b (is_some o) → Follows t n p (call_of t n c) h s w span row false None again loses found) → (is_open s d ≡ false → Follows t n p (call_of t n c) h s w span row false None again (misses d) missed)
         → Is (retried b w o won found missed) (made_where b o d) again
     made_again true k None d won found missed own is some le means f g m = absurd (false≢true (some (eqb-true (t.number w) k is)))
     made_again true k (Some to) d won found missed own is some le means f g m = made_is again to d won own means (f (eqb-true (t.number w) k is))
     made_again false k o d won found missed own is some le means f g m = looked again loses o d found missed (refl, refl) (λ e. omega (arith, le)) means (λ some. g (finds_another (limit t.coding (t.asks c h)) (is_some o) some)) m
 
     -- it goes on by a test of the words that it replaces
-    branched : (r : Manner) (to : W) (d : Change) (b : Bool) (x y : Next L A) → is_step_of t.coding d ≡ true → Means t n p s v d (Some to)
-        → (b ≡ true → Follows t n p c h s w span row false (Some d) r goes x) → (b ≡ false → Follows t n p c h s w span row false (Some d) r goes y) → Is (stays to (either b x y)) (Some d) r
+    branched : (r : Manner) (to : W) (d : Change) (b : Bool) (x y : Next L A) → is_step_of t.coding d ≡ true → Means t n p s d (Some to)
+        → (b ≡ true → Follows t n p (call_of t n c) h s w span row false (Some d) r goes x) → (b ≡ false → Follows t n p (call_of t n c) h s w span row false (Some d) r goes y) → Is (stays to (either b x y)) (Some d) r
     branched r to d true x y own means f g = made_is r to d x own means (f refl)
     branched r to d false x y own means f g = made_is r to d y own means (g refl)
 
-    pub step_is : (act : Act W L A) → MakesStep t.coding act p → Expects t act p s span → Owes t n p c h s w span row v act → Is (step_by t.number act w) (change_by t.number act p w) (by_step (manner_by (t.asks c h) act))
+    pub step_is : (act : Act W L A) → MakesStep t.coding act p → Expects t act p s span → Owes t n p (call_of t n c) h s w span row act → Is (step_by t.number act w) (change_by t.number act p w) (by_step (manner_by (t.asks c h) act))
     step_is (load next) own expects owes = stay_is plain goes (next w) tt (unretried refl) owes
     step_is (load_if test a b) own expects owes = tested (by_step (look_manner (t.asks c h))) (test w) (a w) (b w) (no_retry (is_waiting (t.asks c h))) owes.0 owes.1
     step_is (load_for f step found missed) own expects owes = looked plain goes (f w) (step p) (found w) missed tt (unretried refl) owes.0 owes.1 owes.2
@@ -260,7 +260,7 @@ module _ {W V C L A : Type 0} (t : Table W V C L A) (n : Notes t) (sound_all : (
     step_is (store can f step next) own expects owes = made_is plain (f w) (step p) next own owes.1 owes.2
     step_is (store_if can f step test a b) own expects owes = branched plain (f w) (step p) (test w) a (b w) own owes.1 owes.2 owes.3
 
-    pub can_is : (act : Act W L A) → Owes t n p c h s w span row v act → can_by act w ≡ true
+    pub can_is : (act : Act W L A) → Owes t n p (call_of t n c) h s w span row act → can_by act w ≡ true
     can_is (store can f step next) owes = owes.0
     can_is (store_if can f step test a b) owes = owes.0
     can_is (load next) owes = refl
@@ -272,7 +272,7 @@ module _ {W V C L A : Type 0} (t : Table W V C L A) (n : Notes t) (sound_all : (
     can_is (attempt f step won lost) owes = refl
     can_is (retry k f step won found missed) owes = refl
 
-    refusal_is : (act : Act W L A) (next : Next L A) → Owes t n p c h s w span row v act → refusal_by act ≡ Some next → NextIs (machine_of t) (keeping_of t n) Weak p c h s (mark_of p None weak s ∷ span) next
+    refusal_is : (act : Act W L A) (next : Next L A) → Owes t n p (call_of t n c) h s w span row act → refusal_by act ≡ Some next → NextIs (machine_of t) (keeping_of t n) Weak p c h s (mark_of p None weak s ∷ span) next
     refusal_is (weak_exchange f step won lost) next owes is =
         let same : lost ≡ next = cc (is) in
         subst (λ x. NextIs (machine_of t) (keeping_of t n) Weak p c h s (mark_of p None weak s ∷ span) x) same (followed true None weak goes lost tt tt (λ e none. unretried refl e) owes.3)
@@ -287,30 +287,30 @@ module _ {W V C L A : Type 0} (t : Table W V C L A) (n : Notes t) (sound_all : (
     refusal_is (store_if can f step test a b) other owes is = absurd (cc (is))
 
   -- at a point that has a row
-  module _ (p : ℕ) (c : C) (l : L) (h : Option Hold) (s : Plain) (v : Option V) (w : W) (span : List Mark) where
-    pub here_at : (o : Option Row) → t.number w ∷ t.others w ≡ encoded t.coding s → n.Shape s v → IsExclusive s → failures p span ≤ changes t.coding p span → KnowsRow t n c l h p s span o → AtRow t n p c l h s v w span o
+  module _ (p : ℕ) (c : C) (l : L) (h : Option Hold) (s : Plain) (w : W) (span : List Mark) where
+    pub here_at : (o : Option Row) → t.number w ∷ t.others w ≡ encoded t.coding s → n.Shape s → IsExclusive s → failures p span ≤ changes t.coding p span → KnowsRow t n c l h p s span o → AtRow t n p c l h s w span o
     here_at None encodes shape exclusive retries knows = knows
     here_at (Some row) encodes shape exclusive retries knows = record { encodes = encodes; shape = shape; exclusive = exclusive; known = knows.0; knows = knows.1; retries = retries }
 
-    pub steps_at : (o : Option Row) → IsSound t.coding (t.asks c h) p o → MakesStep t.coding (t.act c l h) p → AtRow t n p c l h s v w span o → OwesAt t n p c l h s v w span o
-        → Went t n p c h s v span (step_by t.number (t.act c l h) w) (change_by t.number (t.act c l h) p w) (by_step (manner_by (t.asks c h) (t.act c l h)))
+    pub steps_at : (o : Option Row) → IsSound t.coding (t.asks c h) p o → MakesStep t.coding (t.act c l h) p → AtRow t n p c l h s w span o → OwesRow t n p (call_of t n c) l h s w span o
+        → Went t n p c h s span (step_by t.number (t.act c l h) w) (change_by t.number (t.act c l h) p w) (by_step (manner_by (t.asks c h) (t.act c l h)))
     steps_at None sound makes at owes = absurd at
-    steps_at (Some row) sound makes at owes = step_is p c l h s v w span row at sound (t.act c l h) makes at.known.expects (owes at)
+    steps_at (Some row) sound makes at owes = step_is p c l h s w span row at sound (t.act c l h) makes at.known.expects (owes at)
 
-    pub can_at : (o : Option Row) → IsSound t.coding (t.asks c h) p o → AtRow t n p c l h s v w span o → OwesAt t n p c l h s v w span o → can_by (t.act c l h) w ≡ true
+    pub can_at : (o : Option Row) → IsSound t.coding (t.asks c h) p o → AtRow t n p c l h s w span o → OwesRow t n p (call_of t n c) l h s w span o → can_by (t.act c l h) w ≡ true
     can_at None sound at owes = absurd at
-    can_at (Some row) sound at owes = can_is p c l h s v w span row at sound (t.act c l h) (owes at)
+    can_at (Some row) sound at owes = can_is p c l h s w span row at sound (t.act c l h) (owes at)
 
-    refuses_at : (o : Option Row) (next : Next L A) → IsSound t.coding (t.asks c h) p o → AtRow t n p c l h s v w span o → OwesAt t n p c l h s v w span o → refusal_by (t.act c l h) ≡ Some next
+    refuses_at : (o : Option Row) (next : Next L A) → IsSound t.coding (t.asks c h) p o → AtRow t n p c l h s w span o → OwesRow t n p (call_of t n c) l h s w span o → refusal_by (t.act c l h) ≡ Some next
         → NextIs (machine_of t) (keeping_of t n) Weak p c h s (mark_of p None weak s ∷ span) next
     refuses_at None next sound at owes is = absurd at
-    refuses_at (Some row) next sound at owes is = refusal_is p c l h s v w span row at sound (t.act c l h) next (owes at) is
+    refuses_at (Some row) next sound at owes is = refusal_is p c l h s w span row at sound (t.act c l h) next (owes at) is
 
-    pub soon_at : (o : Option Row) → AtRow t n p c l h s v w span o → OwesSoon t n p c l h s v w span (is_waiting (t.asks c h)) o → is_open_now p (t.asks c h) span s ≡ true → answers_by t 4 w c l h ≡ true
+    pub soon_at : (o : Option Row) → AtRow t n p c l h s w span o → AnswersRow t n p (call_of t n c) l h s w span (answers_by t 4 w c l h) (is_waiting (t.asks c h)) o → is_open_now p (t.asks c h) span s ≡ true → answers_by t 4 w c l h ≡ true
     soon_at None at soon may = absurd at
     soon_at (Some row) at soon may =
         let waits = waits_where (t.asks c h) (is_empty (own p span)) (arrived p span) p s may in
-        let owed = subst (λ b. OwesSoon t n p c l h s v w span b (Some row)) waits soon in
+        let owed = subst (λ b. AnswersRow t n p (call_of t n c) l h s w span (answers_by t 4 w c l h) b (Some row)) waits soon in
         owed at (subst (λ (cs : List Change). is_open_next (t.asks c h) (is_empty cs) (arrived p span) p s ≡ true) at.known.made may)
 
   pub others_at : (p q : ℕ) (c : C) (l : L) (h : Option Hold) (s : Plain) (step : Option Change) (r : Manner) (span : List Mark) (o : Option Row) → (q ≡ p → ⊥) → IsOpenStep s q step
@@ -336,13 +336,13 @@ module _ {W V C L A : Type 0} (t : Table W V C L A) (n : Notes t) (pays : Pays t
   sound_of p c l h = sound_at t.coding (t.asks c h) h p (n.point c l h) (pays.sound p c l h)
 
   step_of : (p : ℕ) (c : C) (l : L) (h : Option Hold) (s : Plain) (v : Option V) (w : W) (span : List Mark) (st : Stepped W V L A) (step : Option Change) (r : Manner) → ((q : ℕ) → step ≡ Some (completes q) → ⊥)
-      → Went t n p c h s v span st step r → StepIs (machine_of t) (keeping_of t n) p c h s v span st step r
+      → Went t n p c h s span st step r → StepIs (machine_of t) (keeping_of t n) p c h s v span st step r
   step_of p c l h s v w span st step r none went =
       record {
         opens = went.opens;
         belongs = went.belongs;
         encodes = went.encodes;
-        shape = subst (λ o. n.Shape (apply_some s step) (placed o v)) (sym went.unplaced) went.shape;
+        shape = went.shape;
         places = ap (λ o. placed o v) went.unplaced ∙ uncompleted v st.placed step none;
         next = went.next;
         fails = went.fails;
@@ -353,8 +353,8 @@ module _ {W V C L A : Type 0} (t : Table W V C L A) (n : Notes t) (pays : Pays t
   silent v (Answers a after) = gives_none t.coding (t.says a) None v pays.no_value
 
   module _ (p : ℕ) (c : C) (l : L) (h : Option Hold) (s : Plain) (v : Option V) (w : W) (span : List Mark) (here : InCall (machine_of t) (keeping_of t n) p c l h s v w span) where
-    at_here : AtRow t n p c l h s v w span (row_of t n c l h)
-    at_here = here_at t n pays.sound p c l h s v w span (row_of t n c l h) here.encodes here.shape here.exclusive here.retries here.knows
+    at_here : AtRow t n p c l h s w span (row_of t n c l h)
+    at_here = here_at t n pays.sound p c l h s w span (row_of t n c l h) here.encodes here.shape here.exclusive here.retries here.knows
 
   pub facts_of : Facts (machine_of t) (keeping_of t n)
   facts_of =
@@ -362,18 +362,18 @@ module _ {W V C L A : Type 0} (t : Table W V C L A) (n : Notes t) (pays : Pays t
         first = pays.first;
         shape_first = pays.shape_first;
         numbers_tell = pays.numbers_tell;
-        one_list = pays.one_list;
-        shape_written = pays.shape_written;
-        shape_set = pays.shape_set;
+        one_list = λ s v shape. pays.one_list s shape;
+        shape_written = λ s p old v writes shape. shape;
+        shape_set = λ s old v shape. shape;
         begins = λ p c l h s e mine. begins_at t n pays.sound p c l h s (row_of t n c l h) mine (subst (BeginsAt t n c h p s) e (pays.begins p c h s));
-        others = λ p q c l h s v step r span ne shape exclusive may belongs knows. others_at t n pays.sound p q c l h s step r span (row_of t n c l h) ne may (pays.others p q c l h s v step r span ne shape may belongs) knows;
-        can = λ p c l h s v w span here. can_at t n pays.sound p c l h s v w span (row_of t n c l h) (sound_of p c l h) (at_here p c l h s v w span here) (pays.owes p c l h s v w span);
+        others = λ p q c l h s v step r span ne shape exclusive may belongs knows. others_at t n pays.sound p q c l h s step r span (row_of t n c l h) ne may (pays.others p q c l h s step r span ne shape may belongs) knows;
+        can = λ p c l h s v w span here. can_at t n pays.sound p c l h s w span (row_of t n c l h) (sound_of p c l h) (at_here p c l h s v w span here) (pays.owes p c l h s w span);
         steps = λ p c l h s v w span here.
             step_of p c l h s v w span (step_by t.number (t.act c l h) w) (change_by t.number (t.act c l h) p w) (by_step (manner_by (t.asks c h) (t.act c l h))) (λ q is. no_completion t.coding t.number (t.act c l h) p w q (pays.makes p c l h) is)
-            (steps_at t n pays.sound p c l h s v w span (row_of t n c l h) (sound_of p c l h) (makes_step t.coding (t.act c l h) p (pays.makes p c l h)) (at_here p c l h s v w span here) (pays.owes p c l h s v w span));
+            (steps_at t n pays.sound p c l h s w span (row_of t n c l h) (sound_of p c l h) (makes_step t.coding (t.act c l h) p (pays.makes p c l h)) (at_here p c l h s v w span here) (pays.owes p c l h s w span));
         completes_alone = λ p c l h s v w span here q is. absurd (no_completion t.coding t.number (t.act c l h) p w q (pays.makes p c l h) is);
-        undisturbed = λ p c l h s v w span here may. answers_within t n pays.sound 4 w c l h (soon_at t n pays.sound p c l h s v w span (row_of t n c l h) (at_here p c l h s v w span here) (pays.soon p c l h s v w span) may);
-        refuses = λ p c l h s v w span next here is. refuses_at t n pays.sound p c l h s v w span (row_of t n c l h) next (sound_of p c l h) (at_here p c l h s v w span here) (pays.owes p c l h s v w span) is;
+        undisturbed = λ p c l h s v w span here may. answers_within t n pays.sound 4 w c l h (soon_at t n pays.sound p c l h s w span (row_of t n c l h) (at_here p c l h s v w span here) (pays.soon p c l h s w span) may);
+        refuses = λ p c l h s v w span next here is. refuses_at t n pays.sound p c l h s w span (row_of t n c l h) next (sound_of p c l h) (at_here p c l h s v w span here) (pays.owes p c l h s w span) is;
         phase = λ s v shape. phase_none t.coding s.phase v pays.no_value;
         values = λ p c l h s v w span here. record {
           brings = λ q is. absurd (no_completion t.coding t.number (t.act c l h) p w q (pays.makes p c l h) is);

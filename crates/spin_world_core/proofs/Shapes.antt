@@ -1,17 +1,15 @@
 -- What the table of an object owes, point by point, and that its machine then shows all local facts.
 use Rattle.std.proofs.Common.{◌≡◌, ℕ, zero, suc, ◌≤◌, Bool, true, false, not, ◌&&◌, ◌||◌, ◌==◌, is_some, Option, Some, None, List, [], ◌∷◌, ◌++◌, option_to_list}
 use Rattle.spin_step.specs.Plain.{Plain, Change, apply, is_open, is_empty}
-use Rattle.std.specs.Option.{option_map}
-use Rattle.spin_step.specs.Parties.{who, apply_some, IsOpenStep, entries, IsExclusive}
-use Rattle.spin_step.specs.Steps.{Decides}
+use Rattle.spin_step.specs.Parties.{apply_some, IsOpenStep, IsExclusive}
 use Rattle.spin_world_core.specs.declared.place.Hold.{Hold}
 use Rattle.spin_world_core.specs.declared.object.Next.{Next}
 use Rattle.spin_world_core.specs.declared.object.Next.TheVariants.{GoesOn, Answers}
 use Rattle.spin_world_core.specs.Manners.{Manner, plain, again, weak, by_step}
-use Rattle.spin_world_core.specs.Calls.{Coding, encoded, is_step_of, BelongsTo, own_steps, Mark, AnyOf, Limit, registers_after, limit}
+use Rattle.spin_world_core.specs.Calls.{Coding, Asked, encoded, is_step_of, BelongsTo, own_steps, Mark, AnyOf, Limit, registers_after, limit}
 use Rattle.spin_world_core.specs.Undisturbed.{arrived, is_open_next}
 use Rattle.spin_world_core.specs.Machines.{opening_plain}
-use Rattle.spin_world_core.specs.Runs.{mark_of, is_writer, failures, changes}
+use Rattle.spin_world_core.specs.Runs.{mark_of, failures, changes}
 use Rattle.spin_world_core.specs.Acts.{Act, load, load_if, load_for, enter, exchange, weak_exchange, attempt, retry, store, store_if, passing, step_by, is_completion, is_waiting, look_manner, Table, machine_of}
 use Rattle.spin_world_core.specs.Values.{makes_value}
 use Rattle.spin_world_core.proofs.Facts.{LocalInvariant}
@@ -20,7 +18,7 @@ use Rattle.spin_world_core.proofs.Rows.{Turn, goes, loses, misses, MaySpend, Owe
 
 -- what an object notes beside its table: the shape of its plain lock, the row of each point, and what else a party knows there
 pub record Notes {W V C L A : Type 0} (t : Table W V C L A) : Type 1 where
-  pub Shape : Plain → Option V → Type 0
+  pub Shape : Plain → Type 0
   pub point : C → L → Option Hold → Point
   pub Knows : C → L → Option Hold → ℕ → Plain → List Mark → Type 0
 
@@ -32,74 +30,90 @@ KnowsRow t n c l h p s span None = ⊥
 KnowsRow t n c l h p s span (Some row) = Known t (t.asks c h) (t.act c l h) row p s span × n.Knows c l h p s span
 
 abbrev pub keeping_of : {W V C L A : Type 0} (t : Table W V C L A) → Notes t → LocalInvariant V C L
-keeping_of t n = record { Shape = n.Shape; Knows = λ c l h p s span. KnowsRow t n c l h p s span (row_of t n c l h) }
+keeping_of t n = record { Shape = λ s v. n.Shape s; Knows = λ c l h p s span. KnowsRow t n c l h p s span (row_of t n c l h) }
+
+-- what table and notes say of a call. Its debts read nothing else, so calls of which they say the same owe the same
+pub record CallOf (W L A : Type 0) : Type 1 where
+  pub asks : Option Hold → Asked
+  pub act : L → Option Hold → Act W L A
+  pub point : L → Option Hold → Point
+  pub Knows : L → Option Hold → ℕ → Plain → List Mark → Type 0
+
+abbrev pub call_of : {W V C L A : Type 0} (t : Table W V C L A) → Notes t → C → CallOf W L A
+call_of t n c = record { asks = λ h. t.asks c h; act = λ l h. t.act c l h; point = λ l h. n.point c l h; Knows = λ l h p s span. n.Knows c l h p s span }
 
 -- what holds where a party is about to step
-pub record At {W V C L A : Type 0} (t : Table W V C L A) (n : Notes t) (p : ℕ) (c : C) (l : L) (h : Option Hold) (s : Plain) (v : Option V) (w : W) (span : List Mark) (row : Row) : Type 0 where
+pub record AtPoint {W V C L A : Type 0} (t : Table W V C L A) (n : Notes t) (p : ℕ) (k : CallOf W L A) (l : L) (h : Option Hold) (s : Plain) (w : W) (span : List Mark) (row : Row) : Type 0 where
   pub encodes : t.number w ∷ t.others w ≡ encoded t.coding s
-  pub shape : n.Shape s v
+  pub shape : n.Shape s
   pub exclusive : IsExclusive s
-  pub known : Known t (t.asks c h) (t.act c l h) row p s span
-  pub knows : n.Knows c l h p s span
+  pub known : Known t (k.asks h) (k.act l h) row p s span
+  pub knows : k.Knows l h p s span
   pub retries : failures p span ≤ changes t.coding p span
 
-abbrev pub AtRow : {W V C L A : Type 0} (t : Table W V C L A) (n : Notes t) → ℕ → C → L → Option Hold → Plain → Option V → W → List Mark → Option Row → Type 0
-AtRow t n p c l h s v w span None = ⊥
-AtRow t n p c l h s v w span (Some row) = At t n p c l h s v w span row
+abbrev pub At : {W V C L A : Type 0} (t : Table W V C L A) (n : Notes t) → ℕ → C → L → Option Hold → Plain → W → List Mark → Row → Type 0
+At t n p c l h s w span row = AtPoint t n p (call_of t n c) l h s w span row
+
+abbrev pub AtRow : {W V C L A : Type 0} (t : Table W V C L A) (n : Notes t) → ℕ → C → L → Option Hold → Plain → W → List Mark → Option Row → Type 0
+AtRow t n p c l h s w span None = ⊥
+AtRow t n p c l h s w span (Some row) = At t n p c l h s w span row
 
 -- The debts
 
 -- the step function's new words are those after the plain step, which is open and the party's own; its refusal says that the step is closed
-abbrev pub Means : {W V C L A : Type 0} (t : Table W V C L A) → Notes t → ℕ → Plain → Option V → Change → Option W → Type 0
-Means t n p s v c None = is_open s c ≡ false
-Means t n p s v c (Some to) = IsOpenStep s p (Some c) × (t.number to ∷ t.others to ≡ encoded t.coding (apply s c)) × n.Shape (apply s c) v
+abbrev pub Means : {W V C L A : Type 0} (t : Table W V C L A) → Notes t → ℕ → Plain → Change → Option W → Type 0
+Means t n p s c None = is_open s c ≡ false
+Means t n p s c (Some to) = IsOpenStep s p (Some c) × (t.number to ∷ t.others to ≡ encoded t.coding (apply s c)) × n.Shape (apply s c)
 
 -- an exchange that is made again goes on by another number, by which there are new words. That it is another matters only to a call that registers in time
 abbrev pub FindsAnother : Limit → Bool → Bool → Type 0
 FindsAnother (registers_after n i) same some = (same ≡ false) × (some ≡ true)
 FindsAnother _ same some = some ≡ true
 
-module _ {W V C L A : Type 0} (t : Table W V C L A) (n : Notes t) (p : ℕ) (c : C) (h : Option Hold) (s : Plain) (w : W) (span : List Mark) (row : Row) where
+module _ {W V C L A : Type 0} (t : Table W V C L A) (n : Notes t) (p : ℕ) (k : CallOf W L A) (h : Option Hold) (s : Plain) (w : W) (span : List Mark) (row : Row) where
   -- the next point's row is this one after the step
   abbrev pub FollowsRow : Option Change → Manner → Turn → L → Option Row → Type 0
   FollowsRow step r turn l None = ⊥
   FollowsRow step r turn l (Some to) =
       (stand_after s.next step row.stand ≡ Some to.stand) × (row.made p ++ option_to_list step ≡ to.made p)
-      × MaySpend (limit t.coding (t.asks c h)) turn (to.made p) row.spent to.spent p t.coding (mark_of p step r s ∷ span) × Found t (t.act c l h) w step × n.Knows c l h p (apply_some s step) (mark_of p step r s ∷ span)
+      × MaySpend (limit t.coding (k.asks h)) turn (to.made p) row.spent to.spent p t.coding (mark_of p step r s ∷ span) × Found t (k.act l h) w step × k.Knows l h p (apply_some s step) (mark_of p step r s ∷ span)
 
   -- how a call goes on is right, by this step and this turn
   abbrev pub Follows : Bool → Option Change → Manner → Turn → Next L A → Type 0
-  Follows weakly step r turn (GoesOn l) = FollowsRow step r turn l (row_of t n c l h)
+  Follows weakly step r turn (GoesOn l) = FollowsRow step r turn l (row_at (k.asks h) h (k.point l h))
   Follows weakly step r turn (Answers a after) =
-      (stand_after s.next step row.stand ≡ Some (stand_of after)) × AnyOf (λ steps. row.made p ++ option_to_list step ≡ steps) (own_steps (t.asks c h) (t.says a) p)
-      × OwesRight weakly (t.asks c h) (t.says a) p (mark_of p step r s ∷ span)
+      (stand_after s.next step row.stand ≡ Some (stand_of after)) × AnyOf (λ steps. row.made p ++ option_to_list step ≡ steps) (own_steps (k.asks h) (t.says a) p)
+      × OwesRight weakly (k.asks h) (t.says a) p (mark_of p step r s ∷ span)
 
-  abbrev pub Owes : Option V → Act W L A → Type 0
-  Owes v (load next) = Follows false None plain goes (next w)
-  Owes v (load_if test a b) =
-      let looking = by_step (look_manner (t.asks c h)) in
+  abbrev pub Owes : Act W L A → Type 0
+  Owes (load next) = Follows false None plain goes (next w)
+  Owes (load_if test a b) =
+      let looking = by_step (look_manner (k.asks h)) in
       (test w ≡ true → Follows false None looking goes (a w)) × (test w ≡ false → Follows false None looking goes (b w))
-  Owes v (load_for f step found missed) =
-      Means t n p s v (step p) (f w) × (is_some (f w) ≡ true → Follows false None plain goes (found w)) × (is_open s (step p) ≡ false → Follows false None plain (misses (step p)) missed)
-  Owes v (enter test step won lost) =
-      let looking = by_step (look_manner (t.asks c h)) in
-      Means t n p s v (step p) (passing (test w) w) × Follows false (Some (step p)) looking goes won × (is_open s (step p) ≡ false → Follows false None looking (misses (step p)) lost)
-  Owes v (exchange f step won lost) =
-      Means t n p s v (step p) (f w) × Follows false (Some (step p)) plain goes won × (is_open s (step p) ≡ false → Follows false None plain (misses (step p)) (lost w))
-  Owes v (weak_exchange f step won lost) =
-      Means t n p s v (step p) (f w) × Follows false (Some (step p)) plain goes won × (is_open s (step p) ≡ false → Follows false None plain (misses (step p)) lost) × Follows true None weak goes lost
-  Owes v (attempt f step won lost) =
-      ((to : W) → f w ≡ Some to → Means t n p s v (step p) (Some to) × Follows false (Some (step p)) plain goes won) × (f w ≡ None → Follows false None plain goes lost)
-  Owes v (retry k f step won found missed) =
-      Means t n p s v (step p) (f w) × (t.number w ≡ k → Follows false (Some (step p)) again goes won)
-      × (FindsAnother (limit t.coding (t.asks c h)) (t.number w == k) (is_some (f w)) → Follows false None again loses (found w)) × (is_open s (step p) ≡ false → Follows false None again (misses (step p)) missed)
-  Owes v (store can f step next) = (can w ≡ true) × Means t n p s v (step p) (Some (f w)) × Follows false (Some (step p)) plain goes next
-  Owes v (store_if can f step test a b) =
-      (can w ≡ true) × Means t n p s v (step p) (Some (f w)) × (test w ≡ true → Follows false (Some (step p)) plain goes a) × (test w ≡ false → Follows false (Some (step p)) plain goes (b w))
+  Owes (load_for f step found missed) =
+      Means t n p s (step p) (f w) × (is_some (f w) ≡ true → Follows false None plain goes (found w)) × (is_open s (step p) ≡ false → Follows false None plain (misses (step p)) missed)
+  Owes (enter test step won lost) =
+      let looking = by_step (look_manner (k.asks h)) in
+      Means t n p s (step p) (passing (test w) w) × Follows false (Some (step p)) looking goes won × (is_open s (step p) ≡ false → Follows false None looking (misses (step p)) lost)
+  Owes (exchange f step won lost) =
+      Means t n p s (step p) (f w) × Follows false (Some (step p)) plain goes won × (is_open s (step p) ≡ false → Follows false None plain (misses (step p)) (lost w))
+  Owes (weak_exchange f step won lost) =
+      Means t n p s (step p) (f w) × Follows false (Some (step p)) plain goes won × (is_open s (step p) ≡ false → Follows false None plain (misses (step p)) lost) × Follows true None weak goes lost
+  Owes (attempt f step won lost) =
+      ((to : W) → f w ≡ Some to → Means t n p s (step p) (Some to) × Follows false (Some (step p)) plain goes won) × (f w ≡ None → Follows false None plain goes lost)
+  Owes (retry j f step won found missed) =
+      Means t n p s (step p) (f w) × (t.number w ≡ j → Follows false (Some (step p)) again goes won)
+      × (FindsAnother (limit t.coding (k.asks h)) (t.number w == j) (is_some (f w)) → Follows false None again loses (found w)) × (is_open s (step p) ≡ false → Follows false None again (misses (step p)) missed)
+  Owes (store can f step next) = (can w ≡ true) × Means t n p s (step p) (Some (f w)) × Follows false (Some (step p)) plain goes next
+  Owes (store_if can f step test a b) =
+      (can w ≡ true) × Means t n p s (step p) (Some (f w)) × (test w ≡ true → Follows false (Some (step p)) plain goes a) × (test w ≡ false → Follows false (Some (step p)) plain goes (b w))
 
-abbrev pub OwesAt : {W V C L A : Type 0} (t : Table W V C L A) (n : Notes t) → ℕ → C → L → Option Hold → Plain → Option V → W → List Mark → Option Row → Type 0
-OwesAt t n p c l h s v w span None = Unit {0}
-OwesAt t n p c l h s v w span (Some row) = At t n p c l h s v w span row → Owes t n p c h s w span row v (t.act c l h)
+abbrev pub OwesRow : {W V C L A : Type 0} (t : Table W V C L A) (n : Notes t) → ℕ → CallOf W L A → L → Option Hold → Plain → W → List Mark → Option Row → Type 0
+OwesRow t n p k l h s w span None = Unit {0}
+OwesRow t n p k l h s w span (Some row) = AtPoint t n p k l h s w span row → Owes t n p k h s w span row (k.act l h)
+
+abbrev pub OwesAt : {W V C L A : Type 0} (t : Table W V C L A) (n : Notes t) → ℕ → C → L → Option Hold → Plain → W → List Mark → Type 0
+OwesAt t n p c l h s w span = OwesRow t n p (call_of t n c) l h s w span (row_of t n c l h)
 
 -- run on the words alone, the table answers the call by its k-th step from here
 abbrev pub goes_by : {L A X : Type 0} → Next L A → X → (L → X) → X
@@ -113,9 +127,12 @@ answers_by {V = V} t (suc k) w c l h =
     goes_by st.next true (λ l. answers_by t k st.words c l h)
 
 -- a call that may wait is answered by its fourth step, where what it asks is open to it and nobody else steps
-abbrev pub OwesSoon : {W V C L A : Type 0} (t : Table W V C L A) (n : Notes t) → ℕ → C → L → Option Hold → Plain → Option V → W → List Mark → Bool → Option Row → Type 0
-OwesSoon t n p c l h s v w span true (Some row) = At t n p c l h s v w span row → is_open_next (t.asks c h) (is_empty (row.made p)) (arrived p span) p s ≡ true → answers_by t 4 w c l h ≡ true
-OwesSoon t n p c l h s v w span _ _ = Unit {0}
+abbrev pub AnswersRow : {W V C L A : Type 0} (t : Table W V C L A) (n : Notes t) → ℕ → CallOf W L A → L → Option Hold → Plain → W → List Mark → Bool → Bool → Option Row → Type 0
+AnswersRow t n p k l h s w span soon true (Some row) = AtPoint t n p k l h s w span row → is_open_next (k.asks h) (is_empty (row.made p)) (arrived p span) p s ≡ true → soon ≡ true
+AnswersRow t n p k l h s w span soon _ _ = Unit {0}
+
+abbrev pub OwesSoon : {W V C L A : Type 0} (t : Table W V C L A) (n : Notes t) → ℕ → C → L → Option Hold → Plain → W → List Mark → Type 0
+OwesSoon t n p c l h s w span = AnswersRow t n p (call_of t n c) l h s w span (answers_by t 4 w c l h) (is_waiting (t.asks c h)) (row_of t n c l h)
 
 -- a call begins with a row that says so
 abbrev pub BeginsRow : {W V C L A : Type 0} (t : Table W V C L A) → Notes t → C → L → Option Hold → ℕ → Plain → Option Row → Type 0
@@ -143,22 +160,14 @@ makes_own coding _ p = true
 -- what an object shows of its table
 pub record Pays {W V C L A : Type 0} (t : Table W V C L A) (n : Notes t) : Type 0 where
   pub first : t.number t.words ∷ t.others t.words ≡ encoded t.coding (opening_plain (machine_of t))
-  pub shape_first : n.Shape (opening_plain (machine_of t)) t.value
+  pub shape_first : n.Shape (opening_plain (machine_of t))
   pub numbers_tell : (v w : W) → t.number v ∷ t.others v ≡ t.number w ∷ t.others w → v ≡ w
   pub no_value : makes_value t.coding ≡ false
-  pub one_list : (s : Plain) (v : Option V) → n.Shape s v → (is_empty s.holders || is_empty s.tickets) ≡ true
-  pub shape_written : (s : Plain) (p : ℕ) (old : Option V) (v : V) → is_writer (entries p s) ≡ true → n.Shape s old → n.Shape s (Some v)
-  pub shape_set : (s : Plain) (old v : V) → n.Shape s (Some old) → n.Shape s (Some v)
+  pub one_list : (s : Plain) → n.Shape s → (is_empty s.holders || is_empty s.tickets) ≡ true
   pub makes : (p : ℕ) (c : C) (l : L) (h : Option Hold) → makes_own t.coding (t.act c l h) p ≡ true
   pub sound : (p : ℕ) (c : C) (l : L) (h : Option Hold) → SoundAt t.coding (t.asks c h) p (n.point c l h)
   pub begins : (p : ℕ) (c : C) (h : Option Hold) (s : Plain) → BeginsAt t n c h p s (t.begin c h)
-  pub others : (p q : ℕ) (c : C) (l : L) (h : Option Hold) (s : Plain) (v : Option V) (step : Option Change) (r : Manner) (span : List Mark) → (q ≡ p → ⊥) → n.Shape s v → IsOpenStep s q step → BelongsTo t.coding step
+  pub others : (p q : ℕ) (c : C) (l : L) (h : Option Hold) (s : Plain) (step : Option Change) (r : Manner) (span : List Mark) → (q ≡ p → ⊥) → n.Shape s → IsOpenStep s q step → BelongsTo t.coding step
       → n.Knows c l h p s span → n.Knows c l h p (apply_some s step) (mark_of q step r s ∷ span)
-  pub owes : (p : ℕ) (c : C) (l : L) (h : Option Hold) (s : Plain) (v : Option V) (w : W) (span : List Mark) → OwesAt t n p c l h s v w span (row_of t n c l h)
-  pub soon : (p : ℕ) (c : C) (l : L) (h : Option Hold) (s : Plain) (v : Option V) (w : W) (span : List Mark) → OwesSoon t n p c l h s v w span (is_waiting (t.asks c h)) (row_of t n c l h)
-
--- where a step function grants a plain step: what is left to show is the words as numbers, and the shape
-pub means_by : {W V C L A : Type 0} (t : Table W V C L A) (n : Notes t) (p : ℕ) (s : Plain) (v : Option V) (c : Change) (word : Plain → ℕ) (o : Option W) → who c ≡ p → Decides s c word (option_map t.number o)
-    → ((to : W) → is_open s c ≡ true → t.number to ≡ word (apply s c) → (t.number to ∷ t.others to ≡ encoded t.coding (apply s c)) × n.Shape (apply s c) v) → Means t n p s v c o
-means_by t n p s v c word None mine grants rest = grants
-means_by t n p s v c word (Some to) mine grants rest = let both = rest to grants.0 grants.1 in ((mine, grants.0), both.0, both.1)
+  pub owes : (p : ℕ) (c : C) (l : L) (h : Option Hold) (s : Plain) (w : W) (span : List Mark) → OwesAt t n p c l h s w span
+  pub soon : (p : ℕ) (c : C) (l : L) (h : Option Hold) (s : Plain) (w : W) (span : List Mark) → OwesSoon t n p c l h s w span

@@ -1,8 +1,8 @@
 -- What the fair lock's table owes.
-use Rattle.std.proofs.Common.{◌≡◌, ℕ, suc, ◌<◌, ◌+◌, ◌-◌, ◌%◌, ◌==◌, Bool, true, false, ◌&&◌, ◌||◌, is_some, nat_lt, Option, Some, None, List, [], ◌∷◌, refl, ap, sym, ◌∙◌, arith, inl, inr}
+use Rattle.std.proofs.Common.{◌≡◌, ℕ, suc, ◌<◌, ◌+◌, ◌-◌, ◌%◌, ◌==◌, Bool, true, false, ◌&&◌, nat_lt, Option, Some, None, List, [], ◌∷◌, refl, ap, sym, ◌∙◌, arith, inl, inr}
 use Rattle.std.specs.Prelude.{min}
 use Rattle.std.proofs.lemmas.Bool.{and_parts, eqb-true, eq-eqb, ltb-true, ltb-false}
-use Rattle.spin_step.specs.Plain.{Plain, Holder, Ticket as Queued, writing, Ask, to_lock_unregistered, to_lock_starving, to_lock_starving_alone, to_starve, Change, gets, releases, stops_starving, apply, is_open, is_empty, is_starver, is_only_starver, fair_word}
+use Rattle.spin_step.specs.Plain.{Plain, writing, Ask, to_lock_unregistered, to_lock_starving, to_lock_starving_alone, to_starve, Change, gets, releases, stops_starving, apply, is_open, is_empty, is_starver, is_only_starver, fair_word}
 use Rattle.spin_step.specs.Parties.{apply_some, entries, is_held}
 use Rattle.spin_step.specs.Steps.{Decides}
 use Rattle.spin_step.specs.Starvers.{most_starvers}
@@ -20,12 +20,13 @@ use Rattle.spin_world_fair.specs.declared.fair.FairPoint.TheVariants.{First, Att
 use Rattle.spin_world_core.specs.Manners.{Manner, plain, again, look, weak}
 use Rattle.spin_world_core.specs.Calls.{Mark, fair, grant, granted}
 use Rattle.spin_world_core.specs.Runs.{mark_of, own_count, changes, RegistersInTime}
-use Rattle.spin_world_core.specs.Acts.{either, is_waiting}
+use Rattle.spin_world_core.specs.Acts.{either}
 use Rattle.spin_world_fair.specs.Fair.{asks_of, begins_at, lock, starve, lock_fair, lock_starved, is_set, act_of, fair_table, fair_machine}
 use Rattle.spin_world_core.proofs.Facts.{LocalInvariant, Facts}
 use Rattle.spin_world_core.proofs.Stands.{holds, starves, holds_and_starves, entries_at}
 use Rattle.spin_world_core.proofs.Rows.{SoundAt, Row, row_looked, Point, nowhere, looked, onward, goes}
-use Rattle.spin_world_core.proofs.Shapes.{Notes, keeping_of, At, Means, Follows, row_of, OwesAt, answers_by, OwesSoon, BeginsAt, makes_own, Pays}
+use Rattle.spin_world_core.proofs.Shapes.{Notes, keeping_of, Means, call_of, Follows, OwesAt, answers_by, OwesSoon, BeginsAt, makes_own, Pays, CallOf, AtPoint}
+use Rattle.spin_world_core.proofs.Usual.{as_found, no_queue, means_word}
 use Rattle.spin_world_core.proofs.Paid.{facts_of}
 use Rattle.spin_world_fair.proofs.Registering.{sooner, none_left, few_to_load, few_to_register, Looking, Loading, Registering, none_yet, starving-other, looking-other, loading-other, registering-other, goes_on, missed, looked_free, looked_held, looked_late, loaded, retried, full, registered, looked_starving}
 use Rattle.spin_world_fair.proofs.Found.{IsFair, comes, goes_away, same_holders, is_starving, is_starving_still, starver_counts, is_holding, set_by_holder, word_free, flag_clear, word_locked, word_starved}
@@ -73,47 +74,42 @@ KnowsAt patience Lock _ p s span = RegistersInTime none_left p patience span
 KnowsAt patience _ _ p s span = Unit {0}
 
 abbrev pub fair_notes : {V : Type 0} (v : V) (cap patience : ℕ) → Notes (fair_table v cap patience)
-fair_notes v cap patience = record { Shape = λ s value. IsFair cap s; point = point_of; Knows = λ c l h p s span. KnowsAt patience c l p s span }
+fair_notes v cap patience = record { Shape = λ s. IsFair cap s; point = point_of; Knows = λ c l h p s span. KnowsAt patience c l p s span }
 
 module _ {V : Type 0} (v : V) (cap patience : ℕ) where
-  -- what is known at a step
-  abbrev Here : ℕ → FairCall → FairPoint → Option Hold → Plain → Option V → ℕ → List Mark → Row → Type 0
-  Here p c l h s value w span row = At (fair_table v cap patience) (fair_notes v cap patience) p c l h s value w span row
+  abbrev IsMeant : ℕ → Plain → Change → Option ℕ → Type 0
+  IsMeant p s c o = Means (fair_table v cap patience) (fair_notes v cap patience) p s c o
 
-  abbrev IsMeant : ℕ → Plain → Option V → Change → Option ℕ → Type 0
-  IsMeant p s value c o = Means (fair_table v cap patience) (fair_notes v cap patience) p s value c o
-
-  gets_means : (p : ℕ) (ask : Ask) (s : Plain) (value : Option V) (o : Option ℕ) → Decides s (gets p ask) fair_word o → (is_open s (gets p ask) ≡ true → IsFair cap (apply s (gets p ask))) → IsMeant p s value (gets p ask) o
-  gets_means p ask s value None decides shape = decides
-  gets_means p ask s value (Some to) decides shape = ((refl, decides.0), ap (λ n. n ∷ []) decides.1, shape decides.0)
+  gets_means : (p : ℕ) (ask : Ask) (s : Plain) (o : Option ℕ) → Decides s (gets p ask) fair_word o → (is_open s (gets p ask) ≡ true → IsFair cap (apply s (gets p ask))) → IsMeant p s (gets p ask) o
+  gets_means p ask s o = means_word (fair_table v cap patience) (fair_notes v cap patience) fair_word (λ to after is. ap (λ n. n ∷ []) is) p s (gets p ask) o refl
 
   -- what the step functions mean there
-  module _ {c : FairCall} {l : FairPoint} {h : Option Hold} {s : Plain} {value : Option V} {w : ℕ} {span : List Mark} {row : Row} (p : ℕ) (at : Here p c l h s value w span row) where
+  module _ {k : CallOf ℕ FairPoint (Answer V)} {l : FairPoint} {h : Option Hold} {s : Plain} {w : ℕ} {span : List Mark} {row : Row} (p : ℕ) (at : AtPoint (fair_table v cap patience) (fair_notes v cap patience) p k l h s w span row) where
     word : fair_word s ≡ w
     word = cc (at.encodes)
 
     held : is_held s ≡ is_set w
     held = fair_is_locked-tells s w at.shape.one at.shape.queue word
 
-    lock_means : IsMeant p s value (gets p to_lock_unregistered) (lock w)
-    lock_means = gets_means p to_lock_unregistered s value (lock w) (fair_lock-grants s p w word) (λ free. comes cap p s at.shape (and_parts (is_empty s.holders) (is_empty s.starvers) free).0)
+    lock_means : IsMeant p s (gets p to_lock_unregistered) (lock w)
+    lock_means = gets_means p to_lock_unregistered s (lock w) (fair_lock-grants s p w word) (λ free. comes cap p s at.shape (and_parts (is_empty s.holders) (is_empty s.starvers) free).0)
 
-    starve_means : IsMeant p s value (gets p to_starve) (starve cap w)
-    starve_means = gets_means p to_starve s value (starve cap w) (fair_starve-grants s p w cap at.shape.one at.shape.room word) (λ room. same_holders cap s _ at.shape)
+    starve_means : IsMeant p s (gets p to_starve) (starve cap w)
+    starve_means = gets_means p to_starve s (starve cap w) (fair_starve-grants s p w cap at.shape.one at.shape.room word) (λ room. same_holders cap s _ at.shape)
 
-    lock_fair_means : entries p s ≡ entries_at p starves → IsMeant p s value (gets p to_lock_starving_alone) (lock_fair w)
+    lock_fair_means : entries p s ≡ entries_at p starves → IsMeant p s (gets p to_lock_starving_alone) (lock_fair w)
     lock_fair_means mine =
-        gets_means p to_lock_starving_alone s value (lock_fair w) (fair_lock_fair-grants s p w at.shape.one (is_starving p s mine) word) (λ free. comes cap p s at.shape (and_parts (is_only_starver p s.starvers) (is_empty s.holders) free).1)
+        gets_means p to_lock_starving_alone s (lock_fair w) (fair_lock_fair-grants s p w at.shape.one (is_starving p s mine) word) (λ free. comes cap p s at.shape (and_parts (is_only_starver p s.starvers) (is_empty s.holders) free).1)
 
-    lock_starved_means : entries p s ≡ entries_at p starves → IsMeant p s value (gets p to_lock_starving) (lock_starved w)
+    lock_starved_means : entries p s ≡ entries_at p starves → IsMeant p s (gets p to_lock_starving) (lock_starved w)
     lock_starved_means mine =
-        gets_means p to_lock_starving s value (lock_starved w) (fair_lock_starved-grants s p w at.shape.one (is_starving p s mine) word) (λ free. comes cap p s at.shape (and_parts (is_starver p s.starvers) (is_empty s.holders) free).1)
+        gets_means p to_lock_starving s (lock_starved w) (fair_lock_starved-grants s p w at.shape.one (is_starving p s mine) word) (λ free. comes cap p s at.shape (and_parts (is_starver p s.starvers) (is_empty s.holders) free).1)
 
     -- a starver leaves the starvers, with the lock or without
-    unstarve_means : is_starver p s.starvers ≡ true → (nat_lt 1 w ≡ true) × IsMeant p s value (stops_starving p) (Some (w - 2))
+    unstarve_means : is_starver p s.starvers ≡ true → (nat_lt 1 w ≡ true) × IsMeant p s (stops_starving p) (Some (w - 2))
     unstarve_means found = (starver_counts p w s word found, ((refl, found), ap (λ n. n ∷ []) (fair_unstarve-gives s p w word found), same_holders cap s _ at.shape))
 
-    unlock_means : entries p s ≡ entries_at p (holds writing) → (is_set w ≡ true) × IsMeant p s value (releases p writing) (Some (w - 1))
+    unlock_means : entries p s ≡ entries_at p (holds writing) → (is_set w ≡ true) × IsMeant p s (releases p writing) (Some (w - 1))
     unlock_means mine =
         let found = is_holding p s mine in
         (set_by_holder cap p w s at.shape word found, ((refl, found), ap (λ n. n ∷ []) (fair_unlock-gives s p writing w word found), goes_away cap p s at.shape found))
@@ -126,7 +122,7 @@ module _ {V : Type 0} (v : V) (cap patience : ℕ) where
     clear_word free = flag_clear w s word (and_parts (is_starver p s.starvers) (is_empty s.holders) free).1
 
   abbrev Goes : Row → FairCall → ℕ → Plain → ℕ → List Mark → Manner → Next FairPoint (Answer V) → Type 0
-  Goes row c p s w span r next = Follows (fair_table v cap patience) (fair_notes v cap patience) p c None s w span row false None r goes next
+  Goes row c p s w span r next = Follows (fair_table v cap patience) (fair_notes v cap patience) p (call_of (fair_table v cap patience) (fair_notes v cap patience) c) None s w span row false None r goes next
 
   -- in the time that is left
   abbrev InTime : ℕ → List Mark → Type 0
@@ -155,13 +151,9 @@ module _ {V : Type 0} (v : V) (cap patience : ℕ) where
   rejected true p s w span shape is one closed = (refl, inl refl, inl (word_locked w s shape.one is (eqb-true w 1 one)))
   rejected false p s w span shape is other closed = (refl, inl refl, inl (word_starved w s shape.one is other closed))
 
-  -- there is room by the word alone
-  as_found : (w to : ℕ) → to ≡ w → is_some (starve cap w) ≡ true → is_some (starve cap to) ≡ true
-  as_found w to e found = ap (λ n. is_some (starve cap n)) e ∙ found
-
-  owes : (p : ℕ) (c : FairCall) (l : FairPoint) (h : Option Hold) (s : Plain) (value : Option V) (w : ℕ) (span : List Mark)
-      → OwesAt (fair_table v cap patience) (fair_notes v cap patience) p c l h s value w span (row_of (fair_table v cap patience) (fair_notes v cap patience) c l h)
-  owes p Lock (Attempt n) None s value w span = λ at.
+  owes : (p : ℕ) (c : FairCall) (l : FairPoint) (h : Option Hold) (s : Plain) (w : ℕ) (span : List Mark)
+      → OwesAt (fair_table v cap patience) (fair_notes v cap patience) p c l h s w span
+  owes p Lock (Attempt n) None s w span = λ at.
       let lost = missed patience p s span n plain refl at.knows in
       let refused = missed patience p s span n weak refl at.knows in (
         lock_means p at,
@@ -169,55 +161,51 @@ module _ {V : Type 0} (v : V) (cap patience : ℕ) where
         (λ closed. (refl, refl, nothing_left p _ lost.in_time, tt, lost)),
         (refl, refl, nothing_left p _ refused.in_time, tt, refused),
       )
-  owes p Lock (Look n) None s value w span = λ at. (
+  owes p Lock (Look n) None s w span = λ at. (
     (λ set. looks_follow (nat_lt n patience) n p s w span refl (held p at ∙ set) at.knows),
     (λ clear. let next = looked_free patience p s span n (held p at ∙ clear) at.knows in (refl, refl, nothing_left p _ next.in_time, tt, next)),
   )
-  owes p Lock Load None s value w span = λ at. (
+  owes p Lock Load None s w span = λ at. (
     starve_means p at,
-    (λ found. let next = loaded patience p s span w (sym (word p at)) at.knows in (refl, refl, registers_in_time w p s _ next, (refl, refl, λ to e. as_found w to e found), next)),
+    (λ found. let next = loaded patience p s span w (sym (word p at)) at.knows in (refl, refl, registers_in_time w p s _ next, (refl, refl, as_found (starve cap) w found), next)),
     (λ closed. let next = full patience p s span (few_to_load p) plain refl closed at.knows in (refl, refl, nothing_left p _ next.in_time, tt, next)),
   )
-  owes p Lock (Register n) None s value w span = λ at. (
+  owes p Lock (Register n) None s w span = λ at. (
     starve_means p at,
     (λ is. let next = registered patience p s span n at.knows in (refl, refl, nothing_left p _ next, tt, next)),
-    (λ found. let next = retried patience p s span n w (sym (word p at)) found.0 at.knows in (refl, refl, registers_in_time w p s _ next, (refl, refl, λ to e. as_found w to e found.1), next)),
+    (λ found. let next = retried patience p s span n w (sym (word p at)) found.0 at.knows in (refl, refl, registers_in_time w p s _ next, (refl, refl, as_found (starve cap) w found.1), next)),
     (λ closed. let next = full patience p s span (few_to_register p s n) again refl closed at.knows in (refl, refl, nothing_left p _ next.in_time, tt, next)),
   )
-  owes p Lock SetFlag None s value w span = λ at.
+  owes p Lock SetFlag None s w span = λ at.
       let won = goes_on patience p s span (Some (gets p to_lock_starving)) plain refl (λ is. cc (is)) at.knows in
       let lost = goes_on patience p s span None plain refl (λ is. cc (is)) at.knows in
       (lock_starved_means p at at.known.stand, (refl, refl, nothing_left p _ won, tt, won), (λ closed. (refl, refl, nothing_left p _ lost, tt, lost)))
-  owes p Lock Await None s value w span = λ at.
+  owes p Lock Await None s w span = λ at.
       let next = looked_starving patience p s span at.known.made at.knows in
       ((λ set. (refl, refl, nothing_left p _ next, tt, next)), (λ clear. (refl, refl, nothing_left p _ next, tt, next)))
-  owes p Lock Unregister None s value w span = λ at.
+  owes p Lock Unregister None s w span = λ at.
       let means = unstarve_means p at (is_starving_still p s at.known.stand) in
       (means.0, means.1, (refl, inr (inl refl), goes_on patience p s span (Some (stops_starving p)) plain refl (λ is. cc (is)) at.knows))
-  owes p TryLock First None s value w span = λ at. (lock_means p at, (refl, inl refl, tt), (λ closed. (refl, inl refl, inl closed)))
-  owes p TryLockStarver First None s value w span = λ at. (lock_means p at, (refl, inl refl, tt), (λ closed. rejected (w == 1) p s w span at.shape (word p at) refl closed))
-  owes p IsLocked First None s value w span = λ at. (refl, inl refl, inl (held p at))
-  owes p Starve Load None s value w span = λ at. (starve_means p at, (λ found. (refl, refl, refl, (refl, refl, λ to e. as_found w to e found), tt)), (λ closed. (refl, inl refl, inl closed)))
-  owes p Starve (Register n) None s value w span = λ at. (
+  owes p TryLock First None s w span = λ at. (lock_means p at, (refl, inl refl, tt), (λ closed. (refl, inl refl, inl closed)))
+  owes p TryLockStarver First None s w span = λ at. (lock_means p at, (refl, inl refl, tt), (λ closed. rejected (w == 1) p s w span at.shape (word p at) refl closed))
+  owes p IsLocked First None s w span = λ at. (refl, inl refl, inl (held p at))
+  owes p Starve Load None s w span = λ at. (starve_means p at, (λ found. (refl, refl, refl, (refl, refl, as_found (starve cap) w found), tt)), (λ closed. (refl, inl refl, inl closed)))
+  owes p Starve (Register n) None s w span = λ at. (
     starve_means p at,
     (λ is. (refl, inl refl, tt)),
-    (λ found. (refl, refl, refl, (refl, refl, λ to e. as_found w to e found), tt)),
+    (λ found. (refl, refl, refl, (refl, refl, as_found (starve cap) w found), tt)),
     (λ closed. (refl, inl refl, inl closed)),
   )
-  owes p StarverTryLockFair First (Some Starver) s value w span = λ at. (lock_fair_means p at at.known.stand, (refl, refl, refl, tt, tt), (λ closed. (refl, inl refl, inl closed)))
-  owes p StarverTryLockFair Unregister (Some Starver) s value w span = λ at. let means = unstarve_means p at (is_starving_still p s at.known.stand) in (means.0, means.1, (refl, inl refl, tt))
-  owes p StarverTryLock SetFlag (Some Starver) s value w span = λ at. (lock_starved_means p at at.known.stand, (refl, refl, refl, tt, tt), (λ closed. (refl, inl refl, inl closed)))
-  owes p StarverTryLock Unregister (Some Starver) s value w span = λ at. let means = unstarve_means p at (is_starving_still p s at.known.stand) in (means.0, means.1, (refl, inl refl, tt))
-  owes p StarverLock SetFlag (Some Starver) s value w span = λ at. (lock_starved_means p at at.known.stand, (refl, refl, tt, tt, tt), (λ closed. (refl, refl, tt, tt, tt)))
-  owes p StarverLock Await (Some Starver) s value w span = λ at. ((λ set. (refl, refl, tt, tt, tt)), (λ clear. (refl, refl, tt, tt, tt)))
-  owes p StarverLock Unregister (Some Starver) s value w span = λ at. let means = unstarve_means p at (is_starving_still p s at.known.stand) in (means.0, means.1, (refl, inl refl, tt))
-  owes p StarverDrop First (Some Starver) s value w span = λ at. let means = unstarve_means p at (is_starving p s at.known.stand) in (means.0, means.1, (refl, inl refl, tt))
-  owes p Release First (Some Write) s value w span = λ at. let means = unlock_means p at at.known.stand in (means.0, means.1, (refl, inl refl, tt))
-  owes p _ _ _ s value w span = tt
-
-  no_queue : (hs : List Holder) (ts : List Queued) → ts ≡ [] → (is_empty hs || is_empty ts) ≡ true
-  no_queue [] ts e = refl
-  no_queue (h ∷ hs) ts e = ap (λ (us : List Queued). is_empty us) e
+  owes p StarverTryLockFair First (Some Starver) s w span = λ at. (lock_fair_means p at at.known.stand, (refl, refl, refl, tt, tt), (λ closed. (refl, inl refl, inl closed)))
+  owes p StarverTryLockFair Unregister (Some Starver) s w span = λ at. let means = unstarve_means p at (is_starving_still p s at.known.stand) in (means.0, means.1, (refl, inl refl, tt))
+  owes p StarverTryLock SetFlag (Some Starver) s w span = λ at. (lock_starved_means p at at.known.stand, (refl, refl, refl, tt, tt), (λ closed. (refl, inl refl, inl closed)))
+  owes p StarverTryLock Unregister (Some Starver) s w span = λ at. let means = unstarve_means p at (is_starving_still p s at.known.stand) in (means.0, means.1, (refl, inl refl, tt))
+  owes p StarverLock SetFlag (Some Starver) s w span = λ at. (lock_starved_means p at at.known.stand, (refl, refl, tt, tt, tt), (λ closed. (refl, refl, tt, tt, tt)))
+  owes p StarverLock Await (Some Starver) s w span = λ at. ((λ set. (refl, refl, tt, tt, tt)), (λ clear. (refl, refl, tt, tt, tt)))
+  owes p StarverLock Unregister (Some Starver) s w span = λ at. let means = unstarve_means p at (is_starving_still p s at.known.stand) in (means.0, means.1, (refl, inl refl, tt))
+  owes p StarverDrop First (Some Starver) s w span = λ at. let means = unstarve_means p at (is_starving p s at.known.stand) in (means.0, means.1, (refl, inl refl, tt))
+  owes p Release First (Some Write) s w span = λ at. let means = unlock_means p at at.known.stand in (means.0, means.1, (refl, inl refl, tt))
+  owes p _ _ _ s w span = tt
 
   -- run alone: a free lock is taken by the exchange, at once or after a look; and who has gone to register does so, gets the lock, and leaves the starvers
   abbrev Soon : ℕ → ℕ → FairCall → FairPoint → Option Hold → Type 0
@@ -245,20 +233,20 @@ module _ {V : Type 0} (v : V) (cap patience : ℕ) where
   awaits_soon : (w : ℕ) (c : FairCall) (h : Option Hold) → w % 2 ≡ 0 → Soon 4 w c Await h
   awaits_soon w c h clear = rw (ap (λ n. n == 1) clear, eq-eqb (w % 2) 0 clear) refl
 
-  soon : (p : ℕ) (c : FairCall) (l : FairPoint) (h : Option Hold) (s : Plain) (value : Option V) (w : ℕ) (span : List Mark)
-      → OwesSoon (fair_table v cap patience) (fair_notes v cap patience) p c l h s value w span (is_waiting (asks_of patience c h)) (row_of (fair_table v cap patience) (fair_notes v cap patience) c l h)
-  soon p Lock (Attempt n) None s value w span = λ at free. ap (λ k. answers_by (fair_table v cap patience) 4 k Lock (Attempt n) None) (free_word p at free)
-  soon p Lock (Look n) None s value w span = λ at free. ap (λ k. answers_by (fair_table v cap patience) 4 k Lock (Look n) None) (free_word p at free)
-  soon p Lock Load None s value w span = λ at free. ap (λ k. answers_by (fair_table v cap patience) 4 k Lock Load None) (free_word p at free) ∙ loads_soon (nat_lt 0 (min cap most_starvers)) refl
-  soon p Lock (Register n) None s value w span = λ at free.
+  soon : (p : ℕ) (c : FairCall) (l : FairPoint) (h : Option Hold) (s : Plain) (w : ℕ) (span : List Mark)
+      → OwesSoon (fair_table v cap patience) (fair_notes v cap patience) p c l h s w span
+  soon p Lock (Attempt n) None s w span = λ at free. ap (λ k. answers_by (fair_table v cap patience) 4 k Lock (Attempt n) None) (free_word p at free)
+  soon p Lock (Look n) None s w span = λ at free. ap (λ k. answers_by (fair_table v cap patience) 4 k Lock (Look n) None) (free_word p at free)
+  soon p Lock Load None s w span = λ at free. ap (λ k. answers_by (fair_table v cap patience) 4 k Lock Load None) (free_word p at free) ∙ loads_soon (nat_lt 0 (min cap most_starvers)) refl
+  soon p Lock (Register n) None s w span = λ at free.
       ap (λ k. answers_by (fair_table v cap patience) 4 k Lock (Register n) None) (free_word p at free) ∙ retries_soon n (0 == n) (nat_lt 0 (min cap most_starvers)) refl refl
-  soon p Lock SetFlag None s value w span = λ at free. starver_soon 2 w Lock None (clear_word p at free)
-  soon p Lock Await None s value w span = λ at free. awaits_soon w Lock None (clear_word p at free)
-  soon p Lock Unregister None s value w span = λ at free. refl
-  soon p StarverLock SetFlag (Some Starver) s value w span = λ at free. starver_soon 2 w StarverLock (Some Starver) (clear_word p at free)
-  soon p StarverLock Await (Some Starver) s value w span = λ at free. awaits_soon w StarverLock (Some Starver) (clear_word p at free)
-  soon p StarverLock Unregister (Some Starver) s value w span = λ at free. refl
-  soon p _ _ _ s value w span = tt
+  soon p Lock SetFlag None s w span = λ at free. starver_soon 2 w Lock None (clear_word p at free)
+  soon p Lock Await None s w span = λ at free. awaits_soon w Lock None (clear_word p at free)
+  soon p Lock Unregister None s w span = λ at free. refl
+  soon p StarverLock SetFlag (Some Starver) s w span = λ at free. starver_soon 2 w StarverLock (Some Starver) (clear_word p at free)
+  soon p StarverLock Await (Some Starver) s w span = λ at free. awaits_soon w StarverLock (Some Starver) (clear_word p at free)
+  soon p StarverLock Unregister (Some Starver) s w span = λ at free. refl
+  soon p _ _ _ s w span = tt
 
   begins : (p : ℕ) (c : FairCall) (h : Option Hold) (s : Plain) → BeginsAt (fair_table v cap patience) (fair_notes v cap patience) c h p s (begins_at c h)
   begins p Lock None s = (refl, refl, tt, record { counted = λ lt. omega arith; many = omega arith; in_time = none_yet })
@@ -317,13 +305,11 @@ module _ {V : Type 0} (v : V) (cap patience : ℕ) where
         shape_first = record { one = omega arith; queue = refl; room = refl };
         numbers_tell = λ u w e. cc (e);
         no_value = refl;
-        one_list = λ s value shape. no_queue s.holders s.tickets shape.queue;
-        shape_written = λ s p old new writes shape. shape;
-        shape_set = λ s old new shape. shape;
+        one_list = λ s shape. no_queue s shape.queue;
         makes = λ p c l h. makes p l c h;
         sound = sound;
         begins = begins;
-        others = λ p q c l h s value step r span ne shape may belongs knows. others p q c l s step r span ne knows;
+        others = λ p q c l h s step r span ne shape may belongs knows. others p q c l s step r span ne knows;
         owes = owes;
         soon = soon;
       }

@@ -1,11 +1,12 @@
 -- What the flag's table owes.
-use Rattle.std.proofs.Common.{◌≡◌, ℕ, Bool, true, false, not, ◌&&◌, ◌||◌, Option, Some, None, List, [], ◌∷◌, refl, ap, sym, ◌∙◌, arith, inl}
+use Rattle.std.proofs.Common.{◌≡◌, ℕ, Bool, true, false, not, ◌&&◌, Option, Some, None, List, [], ◌∷◌, refl, ap, sym, ◌∙◌, arith, inl}
 use Rattle.std.proofs.lemmas.Bool.{true≢false}
-use Rattle.spin_step.specs.Plain.{Plain, Ticket as Queued, Holder, writing, to_write, gets, releases, is_empty, flag_word}
+use Rattle.spin_step.specs.Plain.{Plain, Ticket as Queued, writing, to_write, gets, releases, is_empty, flag_word}
 use Rattle.spin_step.specs.Parties.{Entries, entries, is_held}
 use Rattle.spin_step.specs.Steps.{bit}
 use Rattle.spin_step.proofs.Holders.{is_holder-from_entries, length-held}
 use Rattle.spin_step.proofs.Flags.{flag_lock-grants, flag_unlock-gives}
+use Rattle.spin_world_core.specs.declared.answer.Answer.{Answer}
 use Rattle.spin_world_core.specs.declared.place.Hold.{Hold}
 use Rattle.spin_world_core.specs.declared.place.Hold.TheVariants.{Write}
 use Rattle.spin_world_flag.specs.declared.flag.FlagCall.{FlagCall}
@@ -13,36 +14,31 @@ use Rattle.spin_world_flag.specs.declared.flag.FlagCall.TheVariants.{Lock, TryLo
 use Rattle.spin_world_flag.specs.declared.flag.FlagPoint.{FlagPoint}
 use Rattle.spin_world_flag.specs.declared.flag.FlagPoint.TheVariants.{First, Second}
 use Rattle.spin_world_core.specs.Calls.{Mark, flag}
-use Rattle.spin_world_core.specs.Acts.{is_waiting}
 use Rattle.spin_world_flag.specs.Flag.{asks_of, begins_at, lock, act_of, flag_table, flag_machine}
 use Rattle.spin_world_core.proofs.Facts.{LocalInvariant, Facts}
 use Rattle.spin_world_core.proofs.Stands.{holds, entries_at}
 use Rattle.spin_world_core.proofs.Rows.{starts_sound, Row, starts}
-use Rattle.spin_world_core.proofs.Shapes.{Notes, keeping_of, At, Means, means_by, row_of, OwesAt, answers_by, OwesSoon, BeginsAt, makes_own, Pays}
+use Rattle.spin_world_core.proofs.Shapes.{Notes, keeping_of, Means, OwesAt, answers_by, OwesSoon, BeginsAt, makes_own, Pays, CallOf, AtPoint}
+use Rattle.spin_world_core.proofs.Usual.{means_by, no_queue}
 use Rattle.spin_world_core.proofs.Paid.{facts_of}
 
 -- Each point is as the call's beginning: nothing has changed yet, and only `Lock`, which has no limit, has made a step before another
 abbrev pub flag_notes : {V : Type 0} (v : V) → Notes (flag_table v)
-flag_notes v = record { Shape = λ s value. s.tickets ≡ []; point = λ c l h. starts (begins_at c h); Knows = λ c l h p s span. Unit {0} }
+flag_notes v = record { Shape = λ s. s.tickets ≡ []; point = λ c l h. starts (begins_at c h); Knows = λ c l h p s span. Unit {0} }
 
 module _ {V : Type 0} (v : V) where
-  -- what is known at a step
-  abbrev Here : ℕ → FlagCall → FlagPoint → Option Hold → Plain → Option V → Bool → List Mark → Row → Type 0
-  Here p c l h s value w span row = At (flag_table v) (flag_notes v) p c l h s value w span row
-
   word_is : (s : Plain) (w : Bool) → bit w ∷ [] ≡ flag_word s ∷ [] → flag_word s ≡ bit w
   word_is s w e = cc (e)
 
-  lock_means : {c : FlagCall} {l : FlagPoint} {h : Option Hold} {s : Plain} {value : Option V} {w : Bool} {span : List Mark} {row : Row} (p : ℕ) → Here p c l h s value w span row
-      → Means (flag_table v) (flag_notes v) p s value (gets p to_write) (lock w)
-  lock_means {s = s} {value = value} {w = w} p at =
-      means_by (flag_table v) (flag_notes v) p s value (gets p to_write) flag_word (lock w) refl (flag_lock-grants s p w (word_is s w at.encodes)) (λ to may is. (ap (λ n. n ∷ []) is, at.shape))
+  -- what the step functions mean there
+  module _ {k : CallOf Bool FlagPoint (Answer V)} {l : FlagPoint} {h : Option Hold} {s : Plain} {w : Bool} {span : List Mark} {row : Row} (p : ℕ) (at : AtPoint (flag_table v) (flag_notes v) p k l h s w span row) where
+    lock_means : Means (flag_table v) (flag_notes v) p s (gets p to_write) (lock w)
+    lock_means = means_by (flag_table v) (flag_notes v) p s (gets p to_write) flag_word (lock w) refl (flag_lock-grants s p w (word_is s w at.encodes)) (λ to may is. (ap (λ n. n ∷ []) is, at.shape))
 
-  unlock_means : {l : FlagPoint} {h : Option Hold} {s : Plain} {value : Option V} {w : Bool} {span : List Mark} {row : Row} (p : ℕ) → Here p Release l h s value w span row → entries p s ≡ entries_at p (holds writing)
-      → Means (flag_table v) (flag_notes v) p s value (releases p writing) (Some false)
-  unlock_means {s = s} {w = w} p at mine =
-      let found = is_holder-from_entries p writing s.holders (ap (λ (e : Entries). e.holders) mine) in
-      ((refl, found), ap (λ n. n ∷ []) (flag_unlock-gives s p writing w (word_is s w at.encodes) found), at.shape)
+    unlock_means : entries p s ≡ entries_at p (holds writing) → Means (flag_table v) (flag_notes v) p s (releases p writing) (Some false)
+    unlock_means mine =
+        let found = is_holder-from_entries p writing s.holders (ap (λ (e : Entries). e.holders) mine) in
+        ((refl, found), ap (λ n. n ∷ []) (flag_unlock-gives s p writing w (word_is s w at.encodes) found), at.shape)
 
   is_set : (p : ℕ) (s : Plain) (w : Bool) → entries p s ≡ entries_at p (holds writing) → flag_word s ≡ bit w → w ≡ true
   is_set p s true mine word = refl
@@ -52,25 +48,25 @@ module _ {V : Type 0} (v : V) where
   held_is s p true word queue = ap (λ b. not (b && is_empty s.tickets)) (flag_lock-grants s p true word)
   held_is s p false word queue = ap (λ b. not (b && is_empty s.tickets)) (flag_lock-grants s p false word).0 ∙ ap (λ (ts : List Queued). not (is_empty ts)) queue
 
-  owes : (p : ℕ) (c : FlagCall) (l : FlagPoint) (h : Option Hold) (s : Plain) (value : Option V) (w : Bool) (span : List Mark) → OwesAt (flag_table v) (flag_notes v) p c l h s value w span (row_of (flag_table v) (flag_notes v) c l h)
-  owes p Lock First None s value w span = λ at. (lock_means p at, (refl, inl refl, tt), (λ closed. (refl, refl, tt, tt, tt)), (refl, refl, tt, tt, tt))
-  owes p Lock Second None s value w span = λ at. ((λ e. (refl, refl, tt, tt, tt)), (λ e. (refl, refl, tt, tt, tt)))
-  owes p TryLock l None s value w span = λ at. (lock_means p at, (refl, inl refl, tt), (λ closed. (refl, inl refl, inl closed)))
-  owes p TryLockWeak l None s value w span = λ at. (lock_means p at, (refl, inl refl, tt), (λ closed. (refl, inl refl, inl closed)), (refl, inl refl, tt))
-  owes p IsLocked l None s value w span = λ at. (refl, inl refl, inl (held_is s p w (word_is s w at.encodes) at.shape))
-  owes p Release l (Some Write) s value w span = λ at. (is_set p s w at.known.stand (word_is s w at.encodes), unlock_means p at at.known.stand, (refl, inl refl, tt))
-  owes p _ _ _ s value w span = tt
+  owes : (p : ℕ) (c : FlagCall) (l : FlagPoint) (h : Option Hold) (s : Plain) (w : Bool) (span : List Mark) → OwesAt (flag_table v) (flag_notes v) p c l h s w span
+  owes p Lock First None s w span = λ at. (lock_means p at, (refl, inl refl, tt), (λ closed. (refl, refl, tt, tt, tt)), (refl, refl, tt, tt, tt))
+  owes p Lock Second None s w span = λ at. ((λ e. (refl, refl, tt, tt, tt)), (λ e. (refl, refl, tt, tt, tt)))
+  owes p TryLock l None s w span = λ at. (lock_means p at, (refl, inl refl, tt), (λ closed. (refl, inl refl, inl closed)))
+  owes p TryLockWeak l None s w span = λ at. (lock_means p at, (refl, inl refl, tt), (λ closed. (refl, inl refl, inl closed)), (refl, inl refl, tt))
+  owes p IsLocked l None s w span = λ at. (refl, inl refl, inl (held_is s p w (word_is s w at.encodes) at.shape))
+  owes p Release l (Some Write) s w span = λ at. (is_set p s w at.known.stand (word_is s w at.encodes), unlock_means p at at.known.stand, (refl, inl refl, tt))
+  owes p _ _ _ s w span = tt
 
   -- a clear flag is set by the exchange, at once or after a look
   clear_is : (s : Plain) (p : ℕ) (w : Bool) → flag_word s ≡ bit w → is_empty s.holders ≡ true → w ≡ false
   clear_is s p true word none = absurd (true≢false (sym none ∙ flag_lock-grants s p true word))
   clear_is s p false word none = refl
 
-  soon : (p : ℕ) (c : FlagCall) (l : FlagPoint) (h : Option Hold) (s : Plain) (value : Option V) (w : Bool) (span : List Mark)
-      → OwesSoon (flag_table v) (flag_notes v) p c l h s value w span (is_waiting (asks_of c h)) (row_of (flag_table v) (flag_notes v) c l h)
-  soon p Lock First None s value w span = λ at free. ap (λ b. answers_by (flag_table v) 4 b Lock First None) (clear_is s p w (word_is s w at.encodes) free)
-  soon p Lock Second None s value w span = λ at free. ap (λ b. answers_by (flag_table v) 4 b Lock Second None) (clear_is s p w (word_is s w at.encodes) free)
-  soon p _ _ _ s value w span = tt
+  soon : (p : ℕ) (c : FlagCall) (l : FlagPoint) (h : Option Hold) (s : Plain) (w : Bool) (span : List Mark)
+      → OwesSoon (flag_table v) (flag_notes v) p c l h s w span
+  soon p Lock First None s w span = λ at free. ap (λ b. answers_by (flag_table v) 4 b Lock First None) (clear_is s p w (word_is s w at.encodes) free)
+  soon p Lock Second None s w span = λ at free. ap (λ b. answers_by (flag_table v) 4 b Lock Second None) (clear_is s p w (word_is s w at.encodes) free)
+  soon p _ _ _ s w span = tt
 
   begins : (p : ℕ) (c : FlagCall) (h : Option Hold) (s : Plain) → BeginsAt (flag_table v) (flag_notes v) c h p s (begins_at c h)
   begins p Release (Some Write) s = (refl, refl, tt, tt)
@@ -89,10 +85,6 @@ module _ {V : Type 0} (v : V) where
   one_word false true e = absurd (cc (e))
   one_word false false e = refl
 
-  no_queue : (hs : List Holder) (ts : List Queued) → ts ≡ [] → (is_empty hs || is_empty ts) ≡ true
-  no_queue [] ts e = refl
-  no_queue (h ∷ hs) ts e = ap (λ (us : List Queued). is_empty us) e
-
   pub flag_pays : Pays (flag_table v) (flag_notes v)
   flag_pays =
       record {
@@ -100,13 +92,11 @@ module _ {V : Type 0} (v : V) where
         shape_first = refl;
         numbers_tell = one_word;
         no_value = refl;
-        one_list = λ s value queue. no_queue s.holders s.tickets queue;
-        shape_written = λ s p old new writes shape. shape;
-        shape_set = λ s old new shape. shape;
+        one_list = no_queue;
         makes = makes;
         sound = λ p c l h. starts_sound flag (asks_of c h) p (begins_at c h);
         begins = begins;
-        others = λ p q c l h s value step r span ne shape may belongs knows. tt;
+        others = λ p q c l h s step r span ne shape may belongs knows. tt;
         owes = owes;
         soon = soon;
       }

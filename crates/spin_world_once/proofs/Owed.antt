@@ -3,7 +3,6 @@ use Rattle.std.proofs.Common.{◌≡◌, ℕ, ◌==◌, Bool, true, false, not, 
 use Rattle.std.proofs.lemmas.Bool.{false≢true, eq-eqb}
 use Rattle.spin_step.specs.Plain.{Plain, writing, same_kind, Phase, nothing, running, complete, Holder, Ticket as Queued, to_begin, Change, gets, completes, fails, apply, is_running, is_nothing, is_complete, is_empty, once_word}
 use Rattle.std.specs.List.{list_any}
-use Rattle.spin_step.specs.Steps.{Decides}
 use Rattle.spin_step.specs.Parties.{apply_some, IsOpenStep, entries, is_held}
 use Rattle.spin_step.proofs.Onces.{phase_word, complete-word, nothing-word, running-word, once_begin-grants, runs-others}
 use Rattle.spin_world_core.specs.declared.answer.Answer.{Answer}
@@ -16,31 +15,30 @@ use Rattle.spin_world_once.specs.declared.once.OnceCall.TheVariants.{CallOnce, T
 use Rattle.spin_world_once.specs.declared.once.OncePoint.{OncePoint}
 use Rattle.spin_world_once.specs.declared.once.OncePoint.TheVariants.{Look, TryBegin, Await, Run}
 use Rattle.spin_world_core.specs.Manners.{Manner, plain, look}
-use Rattle.spin_world_core.specs.Calls.{once, Mark, Said, gives_value, failed}
-use Rattle.spin_world_core.specs.Acts.{either, is_waiting, becomes, made_if}
+use Rattle.spin_world_core.specs.Calls.{once, Asked, initializes, fails_to_initialize, Mark, Said, gives_value, failed}
+use Rattle.spin_world_core.specs.Acts.{Act, either, becomes, made_if}
 use Rattle.spin_world_core.specs.Machines.{opening_phase, opening_plain}
 use Rattle.spin_world_core.specs.Runs.{is_writer}
-use Rattle.spin_world_once.specs.Once.{opening_word, begins_at, begin, is_there, tells, act_of, asks_of, brings_of, once_table, once_machine}
+use Rattle.spin_world_once.specs.Once.{opening_word, begins_at, begin, is_there, tells, runs, ends, act_of, asks_of, brings_of, once_table, once_machine}
 use Rattle.spin_world_core.proofs.Facts.{LocalInvariant, Facts}
 use Rattle.spin_world_core.proofs.Stands.{absent}
 use Rattle.spin_world_core.proofs.Rows.{Turn, goes, misses, Row, Point, nowhere, looked, onward, SoundAt}
 use Rattle.spin_world_core.proofs.Paid.{MakesStep}
-use Rattle.spin_world_core.proofs.Shapes.{Notes, At, Means, row_of, Follows, OwesAt, answers_by, OwesSoon, BeginsAt}
-use Rattle.spin_world_core.proofs.Filled.{CompletesRight, TellsOf, TellsAt, PaysWith, keeping_with, facts_with}
+use Rattle.spin_world_core.proofs.Shapes.{Notes, Means, Follows, OwesAt, answers_by, OwesSoon, BeginsAt, CallOf, AtPoint}
+use Rattle.spin_world_core.proofs.Usual.{no_holders, means_word}
+use Rattle.spin_world_core.proofs.Filled.{CompletesRight, TellsOf, TellsBy, PaysWith, keeping_with, facts_with}
 
--- who runs its closure has begun to, and is left with its end
-abbrev pub running_row : (ℕ → Change) → Said → Point
-running_row end said = onward (record { stand = absent; made = λ p. gets p to_begin ∷ []; rest = λ p. end p ∷ []; said = said; spent = 0 })
+-- a call with a closure looks, until it runs its closure: then it has begun to, and is left with its end
+abbrev pub run_point : (ℕ → Change) → Said → OncePoint → Option Hold → Point
+run_point end said l (Some h) = nowhere
+run_point end said Run None = onward (record { stand = absent; made = λ p. gets p to_begin ∷ []; rest = λ p. end p ∷ []; said = said; spent = 0 })
+run_point end said l None = looked 0
 
 abbrev pub point_of : {V : Type 0} → OnceCall V → OncePoint → Option Hold → Point
-point_of (CallOnce v) Run None = running_row completes gives_value
-point_of (CallOnce v) l None = looked 0
-point_of (TryCallOnceOk v) Run None = running_row completes gives_value
-point_of (TryCallOnceOk v) l None = looked 0
-point_of TryCallOnceErr Run None = running_row fails failed
-point_of TryCallOnceErr l None = looked 0
-point_of (InitFromRef v) Run None = running_row completes gives_value
-point_of (InitFromRef v) l None = looked 0
+point_of (CallOnce v) l h = run_point completes gives_value l h
+point_of (TryCallOnceOk v) l h = run_point completes gives_value l h
+point_of TryCallOnceErr l h = run_point fails failed l h
+point_of (InitFromRef v) l h = run_point completes gives_value l h
 point_of Wait Look None = looked 0
 point_of Poll Look None = looked 0
 point_of Get Look None = looked 0
@@ -48,11 +46,15 @@ point_of IsCompleted Look None = looked 0
 point_of _ _ _ = nowhere
 
 -- whoever runs its closure knows that it does
+abbrev pub RunsAt : OncePoint → ℕ → Plain → Type 0
+RunsAt Run p s = s.phase ≡ running p
+RunsAt l p s = Unit {0}
+
 abbrev pub KnowsAt : {V : Type 0} → OnceCall V → OncePoint → ℕ → Plain → Type 0
-KnowsAt (CallOnce v) Run p s = s.phase ≡ running p
-KnowsAt (TryCallOnceOk v) Run p s = s.phase ≡ running p
-KnowsAt TryCallOnceErr Run p s = s.phase ≡ running p
-KnowsAt (InitFromRef v) Run p s = s.phase ≡ running p
+KnowsAt (CallOnce v) l p s = RunsAt l p s
+KnowsAt (TryCallOnceOk v) l p s = RunsAt l p s
+KnowsAt TryCallOnceErr l p s = RunsAt l p s
+KnowsAt (InitFromRef v) l p s = RunsAt l p s
 KnowsAt c l p s = Unit {0}
 
 -- nobody ever holds it or queues
@@ -60,119 +62,106 @@ abbrev pub IsFree : Plain → Type 0
 IsFree s = (s.holders ≡ []) × (s.tickets ≡ [])
 
 abbrev pub once_notes : {V : Type 0} (value : Option V) → Notes (once_table value)
-once_notes value = record { Shape = λ s v. IsFree s; point = point_of; Knows = λ c l h p s span. KnowsAt c l p s }
+once_notes value = record { Shape = λ s. IsFree s; point = point_of; Knows = λ c l h p s span. KnowsAt c l p s }
+
+word_is : (s : Plain) (w : ℕ) → w ∷ [] ≡ once_word s ∷ [] → phase_word s.phase ≡ w
+word_is s w e = cc (e)
+
+-- the word is 2: there is a value
+is_made : (s : Plain) (w : ℕ) → w ∷ [] ≡ once_word s ∷ [] → is_there w ≡ true → is_complete s.phase ≡ true
+is_made s w encodes e = complete-word s.phase w (word_is s w encodes) ∙ e
 
 module _ {V : Type 0} (value : Option V) where
-  -- what is known at a step
-  abbrev Here : ℕ → OnceCall V → OncePoint → Option Hold → Plain → Option V → ℕ → List Mark → Row → Type 0
-  Here p c l h s v w span row = At (once_table value) (once_notes value) p c l h s v w span row
+  abbrev IsMeant : ℕ → Plain → Change → Option ℕ → Type 0
+  IsMeant p s c o = Means (once_table value) (once_notes value) p s c o
 
-  word_is : (s : Plain) (w : ℕ) → w ∷ [] ≡ once_word s ∷ [] → phase_word s.phase ≡ w
-  word_is s w e = cc (e)
+  -- what the step functions mean, and what is found
+  module _ {k : CallOf ℕ OncePoint (Answer (Unit {0}))} {l : OncePoint} {h : Option Hold} {s : Plain} {w : ℕ} {span : List Mark} {row : Row} (p : ℕ) (at : AtPoint (once_table value) (once_notes value) p k l h s w span row) where
+    word : phase_word s.phase ≡ w
+    word = word_is s w at.encodes
 
-  -- the word is 2: there is a value
-  is_made : (s : Plain) (w : ℕ) → w ∷ [] ≡ once_word s ∷ [] → is_there w ≡ true → is_complete s.phase ≡ true
-  is_made s w encodes e = complete-word s.phase w (word_is s w encodes) ∙ e
+    made : is_there w ≡ true → is_complete s.phase ≡ true
+    made = is_made s w at.encodes
 
-  is_unmade : (s : Plain) (w : ℕ) → w ∷ [] ≡ once_word s ∷ [] → is_there w ≡ false → is_complete s.phase ≡ false
-  is_unmade s w encodes e = complete-word s.phase w (word_is s w encodes) ∙ e
+    begin_means : IsMeant p s (gets p to_begin) (begin w)
+    begin_means = means_word (once_table value) (once_notes value) once_word (λ to after is. ap (λ n. n ∷ []) is) p s (gets p to_begin) (begin w) refl (once_begin-grants s p w word) (λ may. at.shape)
 
-  grants : (p : ℕ) (s : Plain) (v : Option V) (b : Bool) → Decides s (gets p to_begin) once_word (if b then Some 1 else None) → IsFree s → Means (once_table value) (once_notes value) p s v (gets p to_begin) (if b then Some 1 else None)
-  grants p s v true decides free = ((refl, decides.0), ap (λ n. n ∷ []) decides.1, free)
-  grants p s v false decides free = decides
+    -- a closure's end, by the party that runs it
+    end_means : (to : ℕ) (end : Change) → s.phase ≡ running p → IsOpenStep s p (Some end) → to ≡ once_word (apply s end) → IsFree (apply s end) → ((w == 1) ≡ true) × IsMeant p s end (Some to)
+    end_means to end mine may is free = (eq-eqb w 1 (running-word s.phase p w mine word), (may, ap (λ n. n ∷ []) is, free))
 
-  begin_means : {c : OnceCall V} {l : OncePoint} {h : Option Hold} {s : Plain} {v : Option V} {w : ℕ} {span : List Mark} {row : Row} (p : ℕ) → Here p c l h s v w span row
-      → Means (once_table value) (once_notes value) p s v (gets p to_begin) (begin w)
-  begin_means {s = s} {v = v} {w = w} p at = grants p s v (w == 0) (once_begin-grants s p w (word_is s w at.encodes)) at.shape
+    may_end : s.phase ≡ running p → is_running p s.phase ≡ true
+    may_end mine = ap (is_running p) mine ∙ eq-eqb p p refl
 
-  -- a closure's end, by the party that runs it
-  end_means : {c : OnceCall V} {l : OncePoint} {h : Option Hold} {s : Plain} {v : Option V} {w : ℕ} {span : List Mark} {row : Row} (p to : ℕ) (end : Change) → Here p c l h s v w span row → s.phase ≡ running p
-      → IsOpenStep s p (Some end) → to ≡ once_word (apply s end) → IsFree (apply s end) → ((w == 1) ≡ true) × Means (once_table value) (once_notes value) p s v end (Some to)
-  end_means {s = s} {w = w} p to end at mine may is free =
-      (eq-eqb w 1 (running-word s.phase p w mine (word_is s w at.encodes)), (may, ap (λ n. n ∷ []) is, free))
+    -- how a call goes on, by a test
+    branches : (r : Manner) (turn : Turn) (b : Bool) (x y : Next OncePoint (Answer (Unit {0}))) → (b ≡ true → Follows (once_table value) (once_notes value) p k h s w span row false None r turn x)
+        → (b ≡ false → Follows (once_table value) (once_notes value) p k h s w span row false None r turn y) → Follows (once_table value) (once_notes value) p k h s w span row false None r turn (either b x y)
+    branches r turn true x y f g = f refl
+    branches r turn false x y f g = g refl
 
-  may_end : (s : Plain) (p : ℕ) → s.phase ≡ running p → is_running p s.phase ≡ true
-  may_end s p mine = ap (is_running p) mine ∙ eq-eqb p p refl
+  -- a call whose closure gives a value
+  gives_owes : (p : ℕ) (x : V) (l : OncePoint) (h : Option Hold) (s : Plain) (w : ℕ) (span : List Mark) → OwesAt (once_table value) (once_notes value) p (CallOnce x) l h s w span
+  gives_owes p x Look None s w span = λ at. ((λ e. (refl, inr (inl refl), inl (inl (made p at e)))), (λ e. (refl, refl, tt, tt, tt)))
+  gives_owes p x TryBegin None s w span = λ at.
+      (begin_means p at, (refl, refl, tt, tt, refl), λ closed. branches p at plain (misses (gets p to_begin)) (is_there w) (tells None) (GoesOn Await) (λ e. (refl, inr (inl refl), inl (inl (made p at e)))) (λ e. (refl, refl, tt, tt, tt)))
+  gives_owes p x Await None s w span = λ at.
+      ((λ e. (refl, inr (inl refl), inl (inl (made p at e)))), (λ e. branches p at look goes (w == 0) (GoesOn TryBegin) (GoesOn Await) (λ f. (refl, refl, tt, tt, tt)) (λ f. (refl, refl, tt, tt, tt))))
+  gives_owes p x Run None s w span = λ at. let is = end_means p at 2 (completes p) at.knows (refl, may_end p at at.knows) refl at.shape in (is.0, is.1, (refl, inl refl, inl (inr (refl, refl))))
+  gives_owes p x _ (Some h) s w span = tt
 
-  -- how a call goes on, by a test
-  branches : {c : OnceCall V} {l : OncePoint} {h : Option Hold} {s : Plain} {v : Option V} {w : ℕ} {span : List Mark} {row : Row} (p : ℕ) → Here p c l h s v w span row → (r : Manner) (turn : Turn) (b : Bool) (x y : Next OncePoint (Answer (Unit {0})))
-      → (b ≡ true → Follows (once_table value) (once_notes value) p c h s w span row false None r turn x) → (b ≡ false → Follows (once_table value) (once_notes value) p c h s w span row false None r turn y)
-      → Follows (once_table value) (once_notes value) p c h s w span row false None r turn (either b x y)
-  branches p at r turn true x y f g = f refl
-  branches p at r turn false x y f g = g refl
-
-  owes : (p : ℕ) (c : OnceCall V) (l : OncePoint) (h : Option Hold) (s : Plain) (v : Option V) (w : ℕ) (span : List Mark) → OwesAt (once_table value) (once_notes value) p c l h s v w span (row_of (once_table value) (once_notes value) c l h)
-  owes p (CallOnce x) Look None s v w span = λ at. (λ e. (refl, inr (inl refl), inl (inl (is_made s w at.encodes e))), λ e. (refl, refl, tt, tt, tt))
-  owes p (CallOnce x) TryBegin None s v w span = λ at. (begin_means p at, (refl, refl, tt, tt, refl), λ closed. branches p at plain (misses (gets p to_begin)) (is_there w) (tells None) (GoesOn Await) (λ e. (refl, inr (inl refl), inl (inl (is_made s w at.encodes e)))) (λ e. (refl, refl, tt, tt, tt)))
-  owes p (CallOnce x) Await None s v w span = λ at. (λ e. (refl, inr (inl refl), inl (inl (is_made s w at.encodes e))), λ e. branches p at look goes (w == 0) (GoesOn TryBegin) (GoesOn Await) (λ f. (refl, refl, tt, tt, tt)) (λ f. (refl, refl, tt, tt, tt)))
-  owes p (CallOnce x) Run None s v w span = λ at.
-      let is = end_means p 2 (completes p) at at.knows (refl, may_end s p at.knows) refl at.shape in (is.0, is.1, (refl, inl refl, inl (inr (refl, refl))))
-  owes p (TryCallOnceOk x) Look None s v w span = λ at. (λ e. (refl, inr (inl refl), inl (inl (is_made s w at.encodes e))), λ e. (refl, refl, tt, tt, tt))
-  owes p (TryCallOnceOk x) TryBegin None s v w span = λ at. (begin_means p at, (refl, refl, tt, tt, refl), λ closed. branches p at plain (misses (gets p to_begin)) (is_there w) (tells None) (GoesOn Await) (λ e. (refl, inr (inl refl), inl (inl (is_made s w at.encodes e)))) (λ e. (refl, refl, tt, tt, tt)))
-  owes p (TryCallOnceOk x) Await None s v w span = λ at. (λ e. (refl, inr (inl refl), inl (inl (is_made s w at.encodes e))), λ e. branches p at look goes (w == 0) (GoesOn TryBegin) (GoesOn Await) (λ f. (refl, refl, tt, tt, tt)) (λ f. (refl, refl, tt, tt, tt)))
-  owes p (TryCallOnceOk x) Run None s v w span = λ at.
-      let is = end_means p 2 (completes p) at at.knows (refl, may_end s p at.knows) refl at.shape in (is.0, is.1, (refl, inl refl, inl (inr (refl, refl))))
-  owes p TryCallOnceErr Look None s v w span = λ at. (λ e. (refl, inl refl, inl (inl (is_made s w at.encodes e))), λ e. (refl, refl, tt, tt, tt))
-  owes p TryCallOnceErr TryBegin None s v w span = λ at. (begin_means p at, (refl, refl, tt, tt, refl), λ closed. branches p at plain (misses (gets p to_begin)) (is_there w) (tells None) (GoesOn Await) (λ e. (refl, inl refl, inl (inl (is_made s w at.encodes e)))) (λ e. (refl, refl, tt, tt, tt)))
-  owes p TryCallOnceErr Await None s v w span = λ at. (λ e. (refl, inl refl, inl (inl (is_made s w at.encodes e))), λ e. branches p at look goes (w == 0) (GoesOn TryBegin) (GoesOn Await) (λ f. (refl, refl, tt, tt, tt)) (λ f. (refl, refl, tt, tt, tt)))
-  owes p TryCallOnceErr Run None s v w span = λ at.
-      let is = end_means p 0 (fails p) at at.knows (refl, may_end s p at.knows) refl at.shape in (is.0, is.1, (refl, inl refl, inl (refl, refl)))
-  owes p (InitFromRef x) Look None s v w span = λ at. (λ e. (refl, inr (inl refl), inl (inl (is_made s w at.encodes e))), λ e. (refl, refl, tt, tt, tt))
-  owes p (InitFromRef x) TryBegin None s v w span = λ at. (begin_means p at, (refl, refl, tt, tt, refl), λ closed. branches p at plain (misses (gets p to_begin)) (is_there w) (tells None) (GoesOn Await) (λ e. (refl, inr (inl refl), inl (inl (is_made s w at.encodes e)))) (λ e. (refl, refl, tt, tt, tt)))
-  owes p (InitFromRef x) Await None s v w span = λ at. (λ e. (refl, inr (inl refl), inl (inl (is_made s w at.encodes e))), λ e. branches p at look goes (w == 0) (GoesOn TryBegin) (GoesOn Await) (λ f. (refl, refl, tt, tt, tt)) (λ f. (refl, refl, tt, tt, tt)))
-  owes p (InitFromRef x) Run None s v w span = λ at.
-      let is = end_means p 2 (completes p) at at.knows (refl, may_end s p at.knows) refl at.shape in (is.0, is.1, (refl, inl refl, inl (inr (refl, refl))))
-  owes p Wait Look None s v w span = λ at. (λ e. (refl, inl refl, inl (inl (is_made s w at.encodes e))), λ e. (refl, refl, tt, tt, tt))
-  owes p Poll Look None s v w span = λ at. (
-    λ e. (refl, inl refl, inl (inl (is_made s w at.encodes e))),
-    λ e.
-        branches p at look goes (w == 0) (Answers NoValue None) (GoesOn Look) (λ f. (refl, inl refl, inl (nothing-word s.phase w (word_is s w at.encodes) ∙ f))) (λ f. (refl, refl, tt, tt, tt)),
+  owes : (p : ℕ) (c : OnceCall V) (l : OncePoint) (h : Option Hold) (s : Plain) (w : ℕ) (span : List Mark) → OwesAt (once_table value) (once_notes value) p c l h s w span
+  owes p (CallOnce x) l h s w span = gives_owes p x l h s w span
+  owes p (TryCallOnceOk x) l h s w span = gives_owes p x l h s w span
+  owes p (InitFromRef x) l h s w span = gives_owes p x l h s w span
+  owes p TryCallOnceErr Look None s w span = λ at. ((λ e. (refl, inl refl, inl (inl (made p at e)))), (λ e. (refl, refl, tt, tt, tt)))
+  owes p TryCallOnceErr TryBegin None s w span = λ at.
+      (begin_means p at, (refl, refl, tt, tt, refl), λ closed. branches p at plain (misses (gets p to_begin)) (is_there w) (tells None) (GoesOn Await) (λ e. (refl, inl refl, inl (inl (made p at e)))) (λ e. (refl, refl, tt, tt, tt)))
+  owes p TryCallOnceErr Await None s w span = λ at.
+      ((λ e. (refl, inl refl, inl (inl (made p at e)))), (λ e. branches p at look goes (w == 0) (GoesOn TryBegin) (GoesOn Await) (λ f. (refl, refl, tt, tt, tt)) (λ f. (refl, refl, tt, tt, tt))))
+  owes p TryCallOnceErr Run None s w span = λ at. let is = end_means p at 0 (fails p) at.knows (refl, may_end p at at.knows) refl at.shape in (is.0, is.1, (refl, inl refl, inl (refl, refl)))
+  owes p Wait Look None s w span = λ at. ((λ e. (refl, inl refl, inl (inl (made p at e)))), (λ e. (refl, refl, tt, tt, tt)))
+  owes p Poll Look None s w span = λ at. (
+    (λ e. (refl, inl refl, inl (inl (made p at e)))),
+    (λ e. branches p at look goes (w == 0) (Answers NoValue None) (GoesOn Look) (λ f. (refl, inl refl, inl (nothing-word s.phase w (word p at) ∙ f))) (λ f. (refl, refl, tt, tt, tt))),
   )
-  owes p Get Look None s v w span = λ at. (λ e. (refl, inl refl, inl (inl (is_made s w at.encodes e))), λ e. (refl, inl refl, inl (is_unmade s w at.encodes e)))
-  owes p IsCompleted Look None s v w span = λ at. (refl, inl refl, inl (complete-word s.phase w (word_is s w at.encodes)))
-  owes p _ _ _ s v w span = tt
+  owes p Get Look None s w span = λ at. ((λ e. (refl, inl refl, inl (inl (made p at e)))), (λ e. (refl, inl refl, inl (complete-word s.phase w (word p at) ∙ e))))
+  owes p IsCompleted Look None s w span = λ at. (refl, inl refl, inl (complete-word s.phase w (word p at)))
+  owes p _ _ _ s w span = tt
 
   -- an answer that is the value comes where there is one
 
-  tells_if : (phase : Phase) (b : Bool) (y : Next OncePoint (Answer (Unit {0}))) → (b ≡ true → is_complete phase ≡ true) → TellsOf phase y → TellsOf phase (either b (tells None) y)
-  tells_if phase true y made other = made refl
-  tells_if phase false y made other = other
+  tells_if : (phase : Phase) (b : Bool) (h : Option Hold) (y : Next OncePoint (Answer (Unit {0}))) → (b ≡ true → is_complete phase ≡ true) → TellsOf phase y → TellsOf phase (either b (tells h) y)
+  tells_if phase true h y there other = there refl
+  tells_if phase false h y there other = other
 
-  tells_begin : (s : Plain) (p w : ℕ) (b : Bool) → (is_there w ≡ true → is_complete s.phase ≡ true)
-      → TellsOf (apply_some s (made_if {W = ℕ} (if b then Some 1 else None) (gets p to_begin))).phase (becomes {V = V} w (if b then Some 1 else None) (GoesOn Run) (either (is_there w) (tells None) (GoesOn Await))).next
-  tells_begin s p w true made = tt
-  tells_begin s p w false made = tells_if s.phase (is_there w) (GoesOn Await) made tt
+  tells_begin : (s : Plain) (p w : ℕ) (b : Bool) (h : Option Hold) → (is_there w ≡ true → is_complete s.phase ≡ true)
+      → TellsOf (apply_some s (made_if {W = ℕ} (if b then Some 1 else None) (gets p to_begin))).phase (becomes {V = V} w (if b then Some 1 else None) (GoesOn Run) (either (is_there w) (tells h) (GoesOn Await))).next
+  tells_begin s p w true h there = tt
+  tells_begin s p w false h there = tells_if s.phase (is_there w) h (GoesOn Await) there tt
 
   tells_await : (phase : Phase) (b : Bool) → TellsOf phase (either b (GoesOn TryBegin) (GoesOn Await))
   tells_await phase true = tt
   tells_await phase false = tt
 
-  tells_poll : (phase : Phase) (b : Bool) → TellsOf phase (either b (Answers NoValue None) (GoesOn Look))
-  tells_poll phase true = tt
-  tells_poll phase false = tt
+  tells_poll : (phase : Phase) (b : Bool) (h : Option Hold) → TellsOf phase (either b (Answers NoValue h) (GoesOn Look))
+  tells_poll phase true h = tt
+  tells_poll phase false h = tt
 
-  tells_at : (p : ℕ) (c : OnceCall V) (l : OncePoint) (h : Option Hold) (s : Plain) (v : Option V) (w : ℕ) (span : List Mark) → TellsAt (once_table value) (once_notes value) p c l h s v w span (row_of (once_table value) (once_notes value) c l h)
-  tells_at p (CallOnce x) Look None s v w span = λ at. tells_if s.phase (is_there w) (GoesOn TryBegin) (is_made s w at.encodes) tt
-  tells_at p (CallOnce x) TryBegin None s v w span = λ at. tells_begin s p w (w == 0) (is_made s w at.encodes)
-  tells_at p (CallOnce x) Await None s v w span = λ at. tells_if s.phase (is_there w) _ (is_made s w at.encodes) (tells_await s.phase (w == 0))
-  tells_at p (CallOnce x) Run None s v w span = λ at. refl
-  tells_at p (TryCallOnceOk x) Look None s v w span = λ at. tells_if s.phase (is_there w) (GoesOn TryBegin) (is_made s w at.encodes) tt
-  tells_at p (TryCallOnceOk x) TryBegin None s v w span = λ at. tells_begin s p w (w == 0) (is_made s w at.encodes)
-  tells_at p (TryCallOnceOk x) Await None s v w span = λ at. tells_if s.phase (is_there w) _ (is_made s w at.encodes) (tells_await s.phase (w == 0))
-  tells_at p (TryCallOnceOk x) Run None s v w span = λ at. refl
-  tells_at p TryCallOnceErr Look None s v w span = λ at. tells_if s.phase (is_there w) (GoesOn TryBegin) (is_made s w at.encodes) tt
-  tells_at p TryCallOnceErr TryBegin None s v w span = λ at. tells_begin s p w (w == 0) (is_made s w at.encodes)
-  tells_at p TryCallOnceErr Await None s v w span = λ at. tells_if s.phase (is_there w) _ (is_made s w at.encodes) (tells_await s.phase (w == 0))
-  tells_at p TryCallOnceErr Run None s v w span = λ at. tt
-  tells_at p (InitFromRef x) Look None s v w span = λ at. tells_if s.phase (is_there w) (GoesOn TryBegin) (is_made s w at.encodes) tt
-  tells_at p (InitFromRef x) TryBegin None s v w span = λ at. tells_begin s p w (w == 0) (is_made s w at.encodes)
-  tells_at p (InitFromRef x) Await None s v w span = λ at. tells_if s.phase (is_there w) _ (is_made s w at.encodes) (tells_await s.phase (w == 0))
-  tells_at p (InitFromRef x) Run None s v w span = λ at. refl
-  tells_at p Wait Look None s v w span = λ at. tells_if s.phase (is_there w) (GoesOn Look) (is_made s w at.encodes) tt
-  tells_at p Poll Look None s v w span = λ at. tells_if s.phase (is_there w) _ (is_made s w at.encodes) (tells_poll s.phase (w == 0))
-  tells_at p Get Look None s v w span = λ at. tells_if s.phase (is_there w) (Answers NoValue None) (is_made s w at.encodes) tt
-  tells_at p IsCompleted Look None s v w span = λ at. tt
-  tells_at p _ _ _ s v w span = tt
+  runs_tell : (end : Act ℕ OncePoint (Answer (Unit {0}))) (l : OncePoint) (h : Option Hold) (p : ℕ) (s : Plain) (w : ℕ) → w ∷ [] ≡ once_word s ∷ [] → TellsBy V (λ n. n) end p s w → TellsBy V (λ n. n) (runs end l h) p s w
+  runs_tell end Look h p s w e ended = tells_if s.phase (is_there w) h (GoesOn TryBegin) (is_made s w e) tt
+  runs_tell end TryBegin h p s w e ended = tells_begin s p w (w == 0) h (is_made s w e)
+  runs_tell end Await h p s w e ended = tells_if s.phase (is_there w) h _ (is_made s w e) (tells_await s.phase (w == 0))
+  runs_tell end Run h p s w e ended = ended
+
+  tells_at : (p : ℕ) (c : OnceCall V) (l : OncePoint) (h : Option Hold) (s : Plain) (w : ℕ) → w ∷ [] ≡ once_word s ∷ [] → TellsBy V (λ n. n) (act_of c l h) p s w
+  tells_at p (CallOnce x) l h s w e = runs_tell (ends (Some x) h) l h p s w e refl
+  tells_at p (TryCallOnceOk x) l h s w e = runs_tell (ends (Some x) h) l h p s w e refl
+  tells_at p TryCallOnceErr l h s w e = runs_tell (ends {V = V} None h) l h p s w e tt
+  tells_at p (InitFromRef x) l h s w e = runs_tell (ends (Some x) h) l h p s w e refl
+  tells_at p Wait l h s w e = tells_if s.phase (is_there w) h (GoesOn Look) (is_made s w e) tt
+  tells_at p Poll l h s w e = tells_if s.phase (is_there w) h _ (is_made s w e) (tells_poll s.phase (w == 0) h)
+  tells_at p Get l h s w e = tells_if s.phase (is_there w) h (Answers NoValue h) (is_made s w e) tt
+  tells_at p IsCompleted l h s w e = tt
 
   -- where there is nothing or a value, the word is 0 or 2
   by_word : (P : ℕ → Type 0) (phase : Phase) (w : ℕ) → phase_word phase ≡ w → (is_nothing phase || is_complete phase) ≡ true → P 0 → P 2 → P w
@@ -185,27 +174,27 @@ module _ {V : Type 0} (value : Option V) where
   made_word P (running p) w is may some = absurd (false≢true may)
   made_word P complete w is may some = subst P is some
 
-  soon : (p : ℕ) (c : OnceCall V) (l : OncePoint) (h : Option Hold) (s : Plain) (v : Option V) (w : ℕ) (span : List Mark)
-      → OwesSoon (once_table value) (once_notes value) p c l h s v w span (is_waiting (asks_of c)) (row_of (once_table value) (once_notes value) c l h)
-  soon p (CallOnce x) Look None s v w span = λ at may. by_word (λ n. answers_by (once_table value) 4 n (CallOnce x) Look None ≡ true) s.phase w (word_is s w at.encodes) may refl refl
-  soon p (CallOnce x) TryBegin None s v w span = λ at may. by_word (λ n. answers_by (once_table value) 4 n (CallOnce x) TryBegin None ≡ true) s.phase w (word_is s w at.encodes) may refl refl
-  soon p (CallOnce x) Await None s v w span = λ at may. by_word (λ n. answers_by (once_table value) 4 n (CallOnce x) Await None ≡ true) s.phase w (word_is s w at.encodes) may refl refl
-  soon p (CallOnce x) Run None s v w span = λ at may. absurd (false≢true may)
-  soon p (TryCallOnceOk x) Look None s v w span = λ at may. by_word (λ n. answers_by (once_table value) 4 n (TryCallOnceOk x) Look None ≡ true) s.phase w (word_is s w at.encodes) may refl refl
-  soon p (TryCallOnceOk x) TryBegin None s v w span = λ at may. by_word (λ n. answers_by (once_table value) 4 n (TryCallOnceOk x) TryBegin None ≡ true) s.phase w (word_is s w at.encodes) may refl refl
-  soon p (TryCallOnceOk x) Await None s v w span = λ at may. by_word (λ n. answers_by (once_table value) 4 n (TryCallOnceOk x) Await None ≡ true) s.phase w (word_is s w at.encodes) may refl refl
-  soon p (TryCallOnceOk x) Run None s v w span = λ at may. absurd (false≢true may)
-  soon p TryCallOnceErr Look None s v w span = λ at may. by_word (λ n. answers_by (once_table value) 4 n TryCallOnceErr Look None ≡ true) s.phase w (word_is s w at.encodes) may refl refl
-  soon p TryCallOnceErr TryBegin None s v w span = λ at may. by_word (λ n. answers_by (once_table value) 4 n TryCallOnceErr TryBegin None ≡ true) s.phase w (word_is s w at.encodes) may refl refl
-  soon p TryCallOnceErr Await None s v w span = λ at may. by_word (λ n. answers_by (once_table value) 4 n TryCallOnceErr Await None ≡ true) s.phase w (word_is s w at.encodes) may refl refl
-  soon p TryCallOnceErr Run None s v w span = λ at may. absurd (false≢true may)
-  soon p (InitFromRef x) Look None s v w span = λ at may. by_word (λ n. answers_by (once_table value) 4 n (InitFromRef x) Look None ≡ true) s.phase w (word_is s w at.encodes) may refl refl
-  soon p (InitFromRef x) TryBegin None s v w span = λ at may. by_word (λ n. answers_by (once_table value) 4 n (InitFromRef x) TryBegin None ≡ true) s.phase w (word_is s w at.encodes) may refl refl
-  soon p (InitFromRef x) Await None s v w span = λ at may. by_word (λ n. answers_by (once_table value) 4 n (InitFromRef x) Await None ≡ true) s.phase w (word_is s w at.encodes) may refl refl
-  soon p (InitFromRef x) Run None s v w span = λ at may. absurd (false≢true may)
-  soon p Wait Look None s v w span = λ at may. made_word (λ n. answers_by (once_table value) 4 n Wait Look None ≡ true) s.phase w (word_is s w at.encodes) may refl
-  soon p Poll Look None s v w span = λ at may. by_word (λ n. answers_by (once_table value) 4 n Poll Look None ≡ true) s.phase w (word_is s w at.encodes) may refl refl
-  soon p _ _ _ s v w span = tt
+  abbrev Soon : OnceCall V → OncePoint → ℕ → Type 0
+  Soon c l w = answers_by (once_table value) 4 w c l None ≡ true
+
+  gives_soon : (p : ℕ) (x : V) (l : OncePoint) (h : Option Hold) (s : Plain) (w : ℕ) (span : List Mark) → OwesSoon (once_table value) (once_notes value) p (CallOnce x) l h s w span
+  gives_soon p x Look None s w span = λ at may. by_word (Soon (CallOnce x) Look) s.phase w (word p at) may refl refl
+  gives_soon p x TryBegin None s w span = λ at may. by_word (Soon (CallOnce x) TryBegin) s.phase w (word p at) may refl refl
+  gives_soon p x Await None s w span = λ at may. by_word (Soon (CallOnce x) Await) s.phase w (word p at) may refl refl
+  gives_soon p x Run None s w span = λ at may. absurd (false≢true may)
+  gives_soon p x _ (Some h) s w span = tt
+
+  soon : (p : ℕ) (c : OnceCall V) (l : OncePoint) (h : Option Hold) (s : Plain) (w : ℕ) (span : List Mark) → OwesSoon (once_table value) (once_notes value) p c l h s w span
+  soon p (CallOnce x) l h s w span = gives_soon p x l h s w span
+  soon p (TryCallOnceOk x) l h s w span = gives_soon p x l h s w span
+  soon p (InitFromRef x) l h s w span = gives_soon p x l h s w span
+  soon p TryCallOnceErr Look None s w span = λ at may. by_word (Soon TryCallOnceErr Look) s.phase w (word p at) may refl refl
+  soon p TryCallOnceErr TryBegin None s w span = λ at may. by_word (Soon TryCallOnceErr TryBegin) s.phase w (word p at) may refl refl
+  soon p TryCallOnceErr Await None s w span = λ at may. by_word (Soon TryCallOnceErr Await) s.phase w (word p at) may refl refl
+  soon p TryCallOnceErr Run None s w span = λ at may. absurd (false≢true may)
+  soon p Wait Look None s w span = λ at may. made_word (Soon Wait Look) s.phase w (word p at) may refl
+  soon p Poll Look None s w span = λ at may. by_word (Soon Poll Look) s.phase w (word p at) may refl refl
+  soon p _ _ _ s w span = tt
 
   begins : (p : ℕ) (c : OnceCall V) (h : Option Hold) (s : Plain) → BeginsAt (once_table value) (once_notes value) c h p s (begins_at h)
   begins p c (Some h) s = tt
@@ -218,94 +207,62 @@ module _ {V : Type 0} (value : Option V) where
   begins p Get None s = (refl, refl, tt, tt)
   begins p IsCompleted None s = (refl, refl, tt, tt)
 
+  runs_makes : (end : Act ℕ OncePoint (Answer (Unit {0}))) (p : ℕ) (l : OncePoint) (h : Option Hold) → MakesStep once end p → MakesStep once (runs end l h) p
+  runs_makes end p TryBegin h ended = refl
+  runs_makes end p Run h ended = ended
+  runs_makes end p _ h ended = tt
+
   makes : (p : ℕ) (c : OnceCall V) (l : OncePoint) (h : Option Hold) → MakesStep once (act_of c l h) p
-  makes p (CallOnce x) TryBegin h = refl
-  makes p (CallOnce x) Run h = refl
-  makes p (CallOnce x) Look h = tt
-  makes p (CallOnce x) Await h = tt
-  makes p (TryCallOnceOk x) TryBegin h = refl
-  makes p (TryCallOnceOk x) Run h = refl
-  makes p (TryCallOnceOk x) Look h = tt
-  makes p (TryCallOnceOk x) Await h = tt
-  makes p TryCallOnceErr TryBegin h = refl
-  makes p TryCallOnceErr Run h = refl
-  makes p TryCallOnceErr Look h = tt
-  makes p TryCallOnceErr Await h = tt
-  makes p (InitFromRef x) TryBegin h = refl
-  makes p (InitFromRef x) Run h = refl
-  makes p (InitFromRef x) Look h = tt
-  makes p (InitFromRef x) Await h = tt
+  makes p (CallOnce x) l h = runs_makes (ends (Some x) h) p l h refl
+  makes p (TryCallOnceOk x) l h = runs_makes (ends (Some x) h) p l h refl
+  makes p TryCallOnceErr l h = runs_makes (ends {V = V} None h) p l h refl
+  makes p (InitFromRef x) l h = runs_makes (ends (Some x) h) p l h refl
   makes p Wait l h = tt
   makes p Poll l h = tt
   makes p Get l h = tt
   makes p IsCompleted l h = tt
 
+  runs_complete : (end : Act ℕ OncePoint (Answer (Unit {0}))) (p : ℕ) (l : OncePoint) (h : Option Hold) (x : Option V) → CompletesRight end p x → CompletesRight (runs end l h) p x
+  runs_complete end p TryBegin h x ended = refl
+  runs_complete end p Run h x ended = ended
+  runs_complete end p _ h x ended = tt
+
   completes_right : (p : ℕ) (c : OnceCall V) (l : OncePoint) (h : Option Hold) → CompletesRight (act_of c l h) p (brings_of c)
-  completes_right p (CallOnce x) TryBegin h = refl
-  completes_right p (CallOnce x) Run h = (refl, λ e. refl)
-  completes_right p (CallOnce x) Look h = tt
-  completes_right p (CallOnce x) Await h = tt
-  completes_right p (TryCallOnceOk x) TryBegin h = refl
-  completes_right p (TryCallOnceOk x) Run h = (refl, λ e. refl)
-  completes_right p (TryCallOnceOk x) Look h = tt
-  completes_right p (TryCallOnceOk x) Await h = tt
-  completes_right p TryCallOnceErr TryBegin h = refl
-  completes_right p TryCallOnceErr Run h = (refl, λ e. absurd (false≢true e))
-  completes_right p TryCallOnceErr Look h = tt
-  completes_right p TryCallOnceErr Await h = tt
-  completes_right p (InitFromRef x) TryBegin h = refl
-  completes_right p (InitFromRef x) Run h = (refl, λ e. refl)
-  completes_right p (InitFromRef x) Look h = tt
-  completes_right p (InitFromRef x) Await h = tt
+  completes_right p (CallOnce x) l h = runs_complete (ends (Some x) h) p l h (Some x) (refl, λ e. refl)
+  completes_right p (TryCallOnceOk x) l h = runs_complete (ends (Some x) h) p l h (Some x) (refl, λ e. refl)
+  completes_right p TryCallOnceErr l h = runs_complete (ends {V = V} None h) p l h None (refl, λ e. absurd (false≢true e))
+  completes_right p (InitFromRef x) l h = runs_complete (ends (Some x) h) p l h (Some x) (refl, λ e. refl)
   completes_right p Wait l h = tt
   completes_right p Poll l h = tt
   completes_right p Get l h = tt
   completes_right p IsCompleted l h = tt
 
+  run_sound : (what : Asked) (end : ℕ → Change) (said : Said) (p : ℕ) (l : OncePoint) (h : Option Hold) → SoundAt once what p (looked 0) → SoundAt once what p (run_point end said Run None) → SoundAt once what p (run_point end said l h)
+  run_sound what end said p l (Some h) looks ended = tt
+  run_sound what end said p Run None looks ended = ended
+  run_sound what end said p _ None looks ended = looks
+
   sound : (p : ℕ) (c : OnceCall V) (l : OncePoint) (h : Option Hold) → SoundAt once (asks_of c) p (point_of c l h)
-  sound p (CallOnce x) Run None = (refl, inl refl)
-  sound p (CallOnce x) Look None = refl
-  sound p (CallOnce x) TryBegin None = refl
-  sound p (CallOnce x) Await None = refl
-  sound p (TryCallOnceOk x) Run None = (refl, inl refl)
-  sound p (TryCallOnceOk x) Look None = refl
-  sound p (TryCallOnceOk x) TryBegin None = refl
-  sound p (TryCallOnceOk x) Await None = refl
-  sound p TryCallOnceErr Run None = (refl, inl refl)
-  sound p TryCallOnceErr Look None = refl
-  sound p TryCallOnceErr TryBegin None = refl
-  sound p TryCallOnceErr Await None = refl
-  sound p (InitFromRef x) Run None = (refl, inl refl)
-  sound p (InitFromRef x) Look None = refl
-  sound p (InitFromRef x) TryBegin None = refl
-  sound p (InitFromRef x) Await None = refl
+  sound p (CallOnce x) l h = run_sound initializes completes gives_value p l h refl (refl, inl refl)
+  sound p (TryCallOnceOk x) l h = run_sound initializes completes gives_value p l h refl (refl, inl refl)
+  sound p TryCallOnceErr l h = run_sound fails_to_initialize fails failed p l h refl (refl, inl refl)
+  sound p (InitFromRef x) l h = run_sound initializes completes gives_value p l h refl (refl, inl refl)
   sound p Wait Look None = refl
   sound p Poll Look None = refl
   sound p Get Look None = refl
   sound p IsCompleted Look None = refl
   sound p _ _ _ = tt
 
+  runs-on : (p q : ℕ) (l : OncePoint) (s : Plain) (step : Option Change) → (q ≡ p → ⊥) → IsOpenStep s q step → RunsAt l p s → RunsAt l p (apply_some s step)
+  runs-on p q Run s step ne may runs = runs-others s p q step ne may runs
+  runs-on p q _ s step ne may runs = tt
+
   others : (p q : ℕ) (c : OnceCall V) (l : OncePoint) (s : Plain) (step : Option Change) → (q ≡ p → ⊥) → IsOpenStep s q step → KnowsAt c l p s → KnowsAt c l p (apply_some s step)
-  others p q (CallOnce x) Run s step ne may knows = runs-others s p q step ne may knows
-  others p q (CallOnce x) Look s step ne may knows = tt
-  others p q (CallOnce x) TryBegin s step ne may knows = tt
-  others p q (CallOnce x) Await s step ne may knows = tt
-  others p q (TryCallOnceOk x) Run s step ne may knows = runs-others s p q step ne may knows
-  others p q (TryCallOnceOk x) Look s step ne may knows = tt
-  others p q (TryCallOnceOk x) TryBegin s step ne may knows = tt
-  others p q (TryCallOnceOk x) Await s step ne may knows = tt
-  others p q TryCallOnceErr Run s step ne may knows = runs-others s p q step ne may knows
-  others p q TryCallOnceErr Look s step ne may knows = tt
-  others p q TryCallOnceErr TryBegin s step ne may knows = tt
-  others p q TryCallOnceErr Await s step ne may knows = tt
-  others p q (InitFromRef x) Run s step ne may knows = runs-others s p q step ne may knows
-  others p q (InitFromRef x) Look s step ne may knows = tt
-  others p q (InitFromRef x) TryBegin s step ne may knows = tt
-  others p q (InitFromRef x) Await s step ne may knows = tt
-  others p q Wait l s step ne may knows = tt
-  others p q Poll l s step ne may knows = tt
-  others p q Get l s step ne may knows = tt
-  others p q IsCompleted l s step ne may knows = tt
+  others p q (CallOnce x) l s step ne may knows = runs-on p q l s step ne may knows
+  others p q (TryCallOnceOk x) l s step ne may knows = runs-on p q l s step ne may knows
+  others p q TryCallOnceErr l s step ne may knows = runs-on p q l s step ne may knows
+  others p q (InitFromRef x) l s step ne may knows = runs-on p q l s step ne may knows
+  others p q _ l s step ne may knows = tt
 
   first_word : (opening : Option V) → opening_word opening ∷ [] ≡ once_word (opening_plain (once_machine opening)) ∷ []
   first_word None = refl
@@ -331,15 +288,14 @@ module _ {V : Type 0} (value : Option V) where
         shape_first = (refl, refl);
         phase_first = first_phase value;
         numbers_tell = λ u w e. cc (e);
-        one_list = λ s v free. ap (λ (hs : List Holder). is_empty hs || is_empty s.tickets) free.0;
-        shape_any = λ s v x free. free;
-        none_writes = λ s p v free. none_writes s p free;
-        none_holds = λ s v free. none_held s free;
+        one_list = λ s free. no_holders s free.0;
+        none_writes = none_writes;
+        none_holds = none_held;
         makes = makes;
         completes_right = completes_right;
         sound = sound;
         begins = begins;
-        others = λ p q c l h s v step r span ne free may belongs knows. others p q c l s step ne may knows;
+        others = λ p q c l h s step r span ne free may belongs knows. others p q c l s step ne may knows;
         owes = owes;
         tells = tells_at;
         soon = soon;

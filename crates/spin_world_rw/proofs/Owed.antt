@@ -1,8 +1,8 @@
 -- What the table of the read-write lock owes.
-use Rattle.std.proofs.Common.{◌≡◌, ℕ, suc, ◌+◌, ◌-◌, ◌/◌, ◌%◌, ◌≤◌, ◌==◌, Bool, true, false, ◌&&◌, ◌||◌, is_some, Option, Some, None, List, [], ◌∷◌, ◌++◌, length, nat_lt, refl, ap, sym, ◌∙◌, subst, arith, inl, eq-eqb, length-append}
+use Rattle.std.proofs.Common.{◌≡◌, ℕ, suc, ◌+◌, ◌-◌, ◌/◌, ◌%◌, ◌≤◌, ◌==◌, Bool, true, ◌&&◌, Option, Some, None, List, [], ◌∷◌, ◌++◌, length, nat_lt, refl, ap, sym, ◌∙◌, subst, arith, inl, eq-eqb, length-append}
 use Rattle.std.specs.Prelude.{min, max}
 use Rattle.std.proofs.lemmas.Bool.{and_parts, lt-ltb, ltb-true}
-use Rattle.spin_step.specs.Plain.{Plain, Kind, reading, upgradable, writing, Holder, holder, Ticket as Queued, to_read, to_read_upgradable, to_write, to_upgrade, Change, gets, releases, turns, apply, is_open, may_read, is_empty, is_holder, is_downgrade, count_kind, without_holder, with_kind, rw_word}
+use Rattle.spin_step.specs.Plain.{Plain, Kind, reading, upgradable, writing, Holder, holder, to_read, to_read_upgradable, to_write, to_upgrade, Change, gets, releases, turns, apply, is_open, may_read, is_empty, is_holder, is_downgrade, count_kind, without_holder, with_kind, rw_word}
 use Rattle.spin_step.specs.Parties.{Entries, entries, who, IsExclusive}
 use Rattle.spin_step.specs.Steps.{Decides}
 use Rattle.spin_step.specs.Readers.{reader_limit, has_room}
@@ -10,20 +10,22 @@ use Rattle.spin_step.proofs.Holders.{is_holder-from_entries, length-without_hold
 use Rattle.spin_step.proofs.Exclusive.{length-with_kind, empty_is}
 use Rattle.spin_step.proofs.Readers.{worth, may_read-word}
 use Rattle.spin_step.proofs.ReaderSteps.{one_of_each, rw_read-grants, rw_upgradable-grants, rw_write-grants, rw_upgrade-grants, rw_release-gives, rw_turn-gives, reader-word, upgradable-word, writer-word, readers-word, writers-word, only-word, empty-word}
+use Rattle.spin_world_core.specs.declared.answer.Answer.{Answer}
 use Rattle.spin_world_core.specs.declared.place.Hold.{Hold}
 use Rattle.spin_world_core.specs.declared.place.Hold.TheVariants as hold
+use Rattle.spin_world_core.specs.declared.object.Next.TheVariants.{GoesOn}
 use Rattle.spin_world_rw.specs.declared.rw.RwCall.{RwCall}
 use Rattle.spin_world_rw.specs.declared.rw.RwCall.TheVariants.{TryRead, Read, TryUpgradeableRead, UpgradeableRead, TryWrite, TryWriteWeak, Write, ReaderCount, WriterCount, TryUpgrade, TryUpgradeWeak, Upgrade, Downgrade, DowngradeToUpgradeable, Release}
 use Rattle.spin_world_rw.specs.declared.rw.RwPoint.{RwPoint}
 use Rattle.spin_world_rw.specs.declared.rw.RwPoint.TheVariants.{First, Exchange}
 use Rattle.spin_world_core.specs.Calls.{Mark}
 use Rattle.spin_world_core.specs.Calls as calls
-use Rattle.spin_world_core.specs.Acts.{is_waiting}
-use Rattle.spin_world_rw.specs.Rw.{begins_at, read, read_upgradable, write, upgrade, act_of, asks_of, rw_table, rw_machine}
+use Rattle.spin_world_rw.specs.Rw.{begins_at, read, read_upgradable, write, upgrade, granted, act_of, asks_of, rw_table, rw_machine}
 use Rattle.spin_world_core.proofs.Facts.{LocalInvariant, Facts}
 use Rattle.spin_world_core.proofs.Stands.{holds, entries_at}
 use Rattle.spin_world_core.proofs.Rows.{starts_sound, SoundAt, Row, Point, starts, looked}
-use Rattle.spin_world_core.proofs.Shapes.{Notes, keeping_of, At, Means, row_of, OwesAt, answers_by, OwesSoon, BeginsAt, makes_own, Pays}
+use Rattle.spin_world_core.proofs.Shapes.{Notes, keeping_of, Means, OwesAt, answers_by, OwesSoon, BeginsAt, makes_own, Pays, CallOf, AtPoint}
+use Rattle.spin_world_core.proofs.Usual.{as_found, no_queue, means_word, retries_soon}
 use Rattle.spin_world_core.proofs.Paid.{facts_of}
 
 -- a call that looked has made one step; each other point is as its call's beginning
@@ -41,23 +43,15 @@ pub record Within (cap : ℕ) (s : Plain) : Type 0 where
   pub few : length s.holders ≤ max s.cap 1
 
 abbrev pub rw_notes : {V : Type 0} (v : V) (cap : ℕ) → Notes (rw_table v cap)
-rw_notes v cap = record { Shape = λ s value. Within cap s; point = point_of; Knows = λ c l h p s span. Unit {0} }
+rw_notes v cap = record { Shape = λ s. Within cap s; point = point_of; Knows = λ c l h p s span. Unit {0} }
 
 -- a party that stands so is a holder
 pub holder_by : (p : ℕ) (k : Kind) (s : Plain) → entries p s ≡ entries_at p (holds k) → is_holder p k s.holders ≡ true
 holder_by p k s mine = is_holder-from_entries p k s.holders (ap (λ (e : Entries). e.holders) mine)
 
--- the word that was found lets the party in still
-as_found : (f : ℕ → Option ℕ) (w : ℕ) → is_some (f w) ≡ true → (to : ℕ) → to ≡ w → is_some (f to) ≡ true
-as_found f w found to same = subst (λ n. is_some (f n) ≡ true) (sym same) found
-
 module _ {V : Type 0} (v : V) (cap : ℕ) where
-  -- what is known at a step
-  abbrev Here : ℕ → RwCall → RwPoint → Option Hold → Plain → Option V → ℕ → List Mark → Row → Type 0
-  Here p c l h s value w span row = At (rw_table v cap) (rw_notes v cap) p c l h s value w span row
-
-  abbrev IsMeant : ℕ → Plain → Option V → Change → Option ℕ → Type 0
-  IsMeant p s value c o = Means (rw_table v cap) (rw_notes v cap) p s value c o
+  abbrev IsMeant : ℕ → Plain → Change → Option ℕ → Type 0
+  IsMeant p s c o = Means (rw_table v cap) (rw_notes v cap) p s c o
 
   word_is : (s : Plain) (w : ℕ) → w ∷ [] ≡ rw_word s ∷ [] → rw_word s ≡ w
   word_is s w e = cc (e)
@@ -85,38 +79,36 @@ module _ {V : Type 0} (v : V) (cap : ℕ) where
 
   -- What the step functions mean
 
-  decides : (p : ℕ) (s : Plain) (value : Option V) (c : Change) (o : Option ℕ) → who c ≡ p → Decides s c rw_word o → (is_open s c ≡ true → Within cap (apply s c)) → IsMeant p s value c o
-  decides p s value c None mine closed shape = closed
-  decides p s value c (Some to) mine granted shape = ((mine, granted.0), ap (λ n. n ∷ []) granted.1, shape granted.0)
+  decides : (p : ℕ) (s : Plain) (c : Change) (o : Option ℕ) → who c ≡ p → Decides s c rw_word o → (is_open s c ≡ true → Within cap (apply s c)) → IsMeant p s c o
+  decides p s c o = means_word (rw_table v cap) (rw_notes v cap) rw_word (λ to after is. ap (λ n. n ∷ []) is) p s c o
 
   abbrev others_than : Plain → Bool
   others_than s = (count_kind writing s.holders + count_kind upgradable s.holders) == 0
 
-  read_means : {c : RwCall} {l : RwPoint} {h : Option Hold} {s : Plain} {value : Option V} {w : ℕ} {span : List Mark} {row : Row} (p : ℕ) → Here p c l h s value w span row → IsMeant p s value (gets p to_read) (read cap w)
-  read_means {s = s} {value = value} {w = w} p at =
-      decides p s value (gets p to_read) (read cap w) refl (rw_read-grants s p w cap (one_of_each s at.exclusive) at.shape.room (word_is s w at.encodes)) (λ may. one_more s (holder p reading) (others_than s) at.shape may)
+  module _ {c : CallOf ℕ RwPoint (Answer V)} {l : RwPoint} {h : Option Hold} {s : Plain} {w : ℕ} {span : List Mark} {row : Row} (p : ℕ) (at : AtPoint (rw_table v cap) (rw_notes v cap) p c l h s w span row) where
+    word : rw_word s ≡ w
+    word = word_is s w at.encodes
 
-  upgradable_means : {c : RwCall} {l : RwPoint} {h : Option Hold} {s : Plain} {value : Option V} {w : ℕ} {span : List Mark} {row : Row} (p : ℕ) → Here p c l h s value w span row → IsMeant p s value (gets p to_read_upgradable) (read_upgradable cap w)
-  upgradable_means {s = s} {value = value} {w = w} p at =
-      decides p s value (gets p to_read_upgradable) (read_upgradable cap w) refl (rw_upgradable-grants s p w cap (one_of_each s at.exclusive) at.shape.room (word_is s w at.encodes)) (λ may. one_more s (holder p upgradable) (others_than s) at.shape may)
+    read_means : IsMeant p s (gets p to_read) (read cap w)
+    read_means = decides p s (gets p to_read) (read cap w) refl (rw_read-grants s p w cap (one_of_each s at.exclusive) at.shape.room word) (λ may. one_more s (holder p reading) (others_than s) at.shape may)
 
-  write_means : {c : RwCall} {l : RwPoint} {h : Option Hold} {s : Plain} {value : Option V} {w : ℕ} {span : List Mark} {row : Row} (p : ℕ) → Here p c l h s value w span row → IsMeant p s value (gets p to_write) (write w)
-  write_means {s = s} {value = value} {w = w} p at = decides p s value (gets p to_write) (write w) refl (rw_write-grants s p w (word_is s w at.encodes)) (λ may. alone s (holder p writing) at.shape may)
+    upgradable_means : IsMeant p s (gets p to_read_upgradable) (read_upgradable cap w)
+    upgradable_means =
+        decides p s (gets p to_read_upgradable) (read_upgradable cap w) refl (rw_upgradable-grants s p w cap (one_of_each s at.exclusive) at.shape.room word) (λ may. one_more s (holder p upgradable) (others_than s) at.shape may)
 
-  upgrade_means : {c : RwCall} {l : RwPoint} {h : Option Hold} {s : Plain} {value : Option V} {w : ℕ} {span : List Mark} {row : Row} (p : ℕ) → Here p c l h s value w span row → entries p s ≡ entries_at p (holds upgradable)
-      → IsMeant p s value (gets p to_upgrade) (upgrade w)
-  upgrade_means {s = s} {value = value} {w = w} p at mine =
-      decides p s value (gets p to_upgrade) (upgrade w) refl (rw_upgrade-grants s p w (one_of_each s at.exclusive) (holder_by p upgradable s mine) (word_is s w at.encodes)) (λ may. turned s p upgradable writing at.shape)
+    write_means : IsMeant p s (gets p to_write) (write w)
+    write_means = decides p s (gets p to_write) (write w) refl (rw_write-grants s p w word) (λ may. alone s (holder p writing) at.shape may)
 
-  turn_means : {c : RwCall} {l : RwPoint} {h : Option Hold} {s : Plain} {value : Option V} {w : ℕ} {span : List Mark} {row : Row} (p : ℕ) (j k : Kind) (to : ℕ) → Here p c l h s value w span row → is_holder p j s.holders ≡ true → is_downgrade j k ≡ true
-      → to + worth j ≡ w + worth k → IsMeant p s value (turns p j k) (Some to)
-  turn_means {s = s} {value = value} {w = w} p j k to at found down by =
-      let may : is_open s (turns p j k) ≡ true = ap (λ b. b && is_downgrade j k) found ∙ down in
-      ((refl, may), ap (λ n. n ∷ []) (rw_turn-gives s p j k w to (word_is s w at.encodes) by may), turned s p j k at.shape)
+    upgrade_means : entries p s ≡ entries_at p (holds upgradable) → IsMeant p s (gets p to_upgrade) (upgrade w)
+    upgrade_means mine = decides p s (gets p to_upgrade) (upgrade w) refl (rw_upgrade-grants s p w (one_of_each s at.exclusive) (holder_by p upgradable s mine) word) (λ may. turned s p upgradable writing at.shape)
 
-  release_means : {c : RwCall} {l : RwPoint} {h : Option Hold} {s : Plain} {value : Option V} {w : ℕ} {span : List Mark} {row : Row} (p : ℕ) (k : Kind) → Here p c l h s value w span row → is_holder p k s.holders ≡ true
-      → IsMeant p s value (releases p k) (Some (w - worth k))
-  release_means {s = s} {value = value} {w = w} p k at found = ((refl, found), ap (λ n. n ∷ []) (rw_release-gives s p k w (word_is s w at.encodes) found), fewer s p k at.shape found)
+    turn_means : (j k : Kind) (to : ℕ) → is_holder p j s.holders ≡ true → is_downgrade j k ≡ true → to + worth j ≡ w + worth k → IsMeant p s (turns p j k) (Some to)
+    turn_means j k to found down by =
+        let may : is_open s (turns p j k) ≡ true = ap (λ b. b && is_downgrade j k) found ∙ down in
+        ((refl, may), ap (λ n. n ∷ []) (rw_turn-gives s p j k w to word by may), turned s p j k at.shape)
+
+    release_means : (k : Kind) → is_holder p k s.holders ≡ true → IsMeant p s (releases p k) (Some (w - worth k))
+    release_means k found = ((refl, found), ap (λ n. n ∷ []) (rw_release-gives s p k w word found), fewer s p k at.shape found)
 
   -- What holders find
 
@@ -131,66 +123,66 @@ module _ {V : Type 0} (v : V) (cap : ℕ) where
   writes_word : (p : ℕ) (s : Plain) (w : ℕ) → IsExclusive s → rw_word s ≡ w → is_holder p writing s.holders ≡ true → w ≡ 1
   writes_word p s w order is found = omega (arith, writer-word s p order found, is)
 
-  owes : (p : ℕ) (c : RwCall) (l : RwPoint) (h : Option Hold) (s : Plain) (value : Option V) (w : ℕ) (span : List Mark) → OwesAt (rw_table v cap) (rw_notes v cap) p c l h s value w span (row_of (rw_table v cap) (rw_notes v cap) c l h)
-  owes p TryRead First None s value w span = λ at. (read_means p at, (λ found. (refl, refl, refl, (refl, refl, as_found (read cap) w found), tt)), (λ closed. (refl, inl refl, inl closed)))
-  owes p TryRead (Exchange n) None s value w span = λ at. (
+  owes : (p : ℕ) (c : RwCall) (l : RwPoint) (h : Option Hold) (s : Plain) (w : ℕ) (span : List Mark) → OwesAt (rw_table v cap) (rw_notes v cap) p c l h s w span
+  owes p TryRead First None s w span = λ at. (read_means p at, (λ found. (refl, refl, refl, (refl, refl, as_found (read cap) w found), tt)), (λ closed. (refl, inl refl, inl closed)))
+  owes p TryRead (Exchange n) None s w span = λ at. (
     read_means p at,
     (λ is. (refl, inl refl, tt)),
     (λ found. (refl, refl, refl, (refl, refl, as_found (read cap) w found), tt)),
     (λ closed. (refl, inl refl, inl closed)),
   )
-  owes p Read First None s value w span = λ at. (read_means p at, (λ found. (refl, refl, tt, (refl, refl, as_found (read cap) w found), tt)), (λ closed. (refl, refl, tt, tt, tt)))
-  owes p Read (Exchange n) None s value w span = λ at. (
+  owes p Read First None s w span = λ at. (read_means p at, (λ found. (refl, refl, tt, (refl, refl, as_found (read cap) w found), tt)), (λ closed. (refl, refl, tt, tt, tt)))
+  owes p Read (Exchange n) None s w span = λ at. (
     read_means p at,
     (λ is. (refl, inl refl, tt)),
     (λ found. (refl, refl, tt, (refl, refl, as_found (read cap) w found), tt)),
     (λ closed. (refl, refl, tt, tt, tt)),
   )
-  owes p TryUpgradeableRead First None s value w span = λ at. (upgradable_means p at, (λ found. (refl, refl, refl, (refl, refl, as_found (read_upgradable cap) w found), tt)), (λ closed. (refl, inl refl, inl closed)))
-  owes p TryUpgradeableRead (Exchange n) None s value w span = λ at. (
+  owes p TryUpgradeableRead First None s w span = λ at. (upgradable_means p at, (λ found. (refl, refl, refl, (refl, refl, as_found (read_upgradable cap) w found), tt)), (λ closed. (refl, inl refl, inl closed)))
+  owes p TryUpgradeableRead (Exchange n) None s w span = λ at. (
     upgradable_means p at,
     (λ is. (refl, inl refl, tt)),
     (λ found. (refl, refl, refl, (refl, refl, as_found (read_upgradable cap) w found), tt)),
     (λ closed. (refl, inl refl, inl closed)),
   )
-  owes p UpgradeableRead First None s value w span = λ at. (upgradable_means p at, (λ found. (refl, refl, tt, (refl, refl, as_found (read_upgradable cap) w found), tt)), (λ closed. (refl, refl, tt, tt, tt)))
-  owes p UpgradeableRead (Exchange n) None s value w span = λ at. (
+  owes p UpgradeableRead First None s w span = λ at. (upgradable_means p at, (λ found. (refl, refl, tt, (refl, refl, as_found (read_upgradable cap) w found), tt)), (λ closed. (refl, refl, tt, tt, tt)))
+  owes p UpgradeableRead (Exchange n) None s w span = λ at. (
     upgradable_means p at,
     (λ is. (refl, inl refl, tt)),
     (λ found. (refl, refl, tt, (refl, refl, as_found (read_upgradable cap) w found), tt)),
     (λ closed. (refl, refl, tt, tt, tt)),
   )
-  owes p TryWrite l None s value w span = λ at. (write_means p at, (refl, inl refl, tt), (λ closed. (refl, inl refl, inl closed)))
-  owes p TryWriteWeak l None s value w span = λ at. (write_means p at, (refl, inl refl, tt), (λ closed. (refl, inl refl, inl closed)), (refl, inl refl, tt))
-  owes p Write l None s value w span = λ at. (write_means p at, (refl, inl refl, tt), (λ closed. (refl, refl, tt, tt, tt)), (refl, refl, tt, tt, tt))
-  owes p ReaderCount l None s value w span = λ at. (refl, inl refl, inl (readers-word s w (one_of_each s at.exclusive) (word_is s w at.encodes)))
-  owes p WriterCount l None s value w span = λ at. (refl, inl refl, inl (writers-word s w (one_of_each s at.exclusive) (word_is s w at.encodes)))
-  owes p TryUpgrade l (Some hold.Upgradable) s value w span = λ at. (upgrade_means p at at.known.stand, (refl, inl refl, tt), (λ closed. (refl, inl refl, inl closed)))
-  owes p TryUpgradeWeak l (Some hold.Upgradable) s value w span = λ at. (upgrade_means p at at.known.stand, (refl, inl refl, tt), (λ closed. (refl, inl refl, inl closed)), (refl, inl refl, tt))
-  owes p Upgrade l (Some hold.Upgradable) s value w span = λ at. (upgrade_means p at at.known.stand, (refl, inl refl, tt), (λ closed. (refl, refl, tt, tt, tt)), (refl, refl, tt, tt, tt))
-  owes p Downgrade l (Some hold.Write) s value w span = λ at.
+  owes p TryWrite l None s w span = λ at. (write_means p at, (refl, inl refl, tt), (λ closed. (refl, inl refl, inl closed)))
+  owes p TryWriteWeak l None s w span = λ at. (write_means p at, (refl, inl refl, tt), (λ closed. (refl, inl refl, inl closed)), (refl, inl refl, tt))
+  owes p Write l None s w span = λ at. (write_means p at, (refl, inl refl, tt), (λ closed. (refl, refl, tt, tt, tt)), (refl, refl, tt, tt, tt))
+  owes p ReaderCount l None s w span = λ at. (refl, inl refl, inl (readers-word s w (one_of_each s at.exclusive) (word p at)))
+  owes p WriterCount l None s w span = λ at. (refl, inl refl, inl (writers-word s w (one_of_each s at.exclusive) (word p at)))
+  owes p TryUpgrade l (Some hold.Upgradable) s w span = λ at. (upgrade_means p at at.known.stand, (refl, inl refl, tt), (λ closed. (refl, inl refl, inl closed)))
+  owes p TryUpgradeWeak l (Some hold.Upgradable) s w span = λ at. (upgrade_means p at at.known.stand, (refl, inl refl, tt), (λ closed. (refl, inl refl, inl closed)), (refl, inl refl, tt))
+  owes p Upgrade l (Some hold.Upgradable) s w span = λ at. (upgrade_means p at at.known.stand, (refl, inl refl, tt), (λ closed. (refl, refl, tt, tt, tt)), (refl, refl, tt, tt, tt))
+  owes p Downgrade l (Some hold.Write) s w span = λ at.
       let found = holder_by p writing s at.known.stand in
-      let one = writes_word p s w at.exclusive (word_is s w at.encodes) found in
-      (eq-eqb w 1 one, turn_means p writing reading 4 at found refl (omega (arith, one)), (refl, inl refl, tt))
-  owes p Downgrade l (Some hold.Upgradable) s value w span = λ at.
+      let one = writes_word p s w at.exclusive (word p at) found in
+      (eq-eqb w 1 one, turn_means p at writing reading 4 found refl (omega (arith, one)), (refl, inl refl, tt))
+  owes p Downgrade l (Some hold.Upgradable) s w span = λ at.
       let found = holder_by p upgradable s at.known.stand in
-      let two = may_upgrade_word p s w at.exclusive at.shape (word_is s w at.encodes) found in
-      (ap (λ b. b && nat_lt (w / 4) reader_limit) two.0 ∙ two.1, turn_means p upgradable reading (w + 2) at found refl (omega arith), (refl, inl refl, tt))
-  owes p DowngradeToUpgradeable l (Some hold.Write) s value w span = λ at.
+      let two = may_upgrade_word p s w at.exclusive at.shape (word p at) found in
+      (ap (λ b. b && nat_lt (w / 4) reader_limit) two.0 ∙ two.1, turn_means p at upgradable reading (w + 2) found refl (omega arith), (refl, inl refl, tt))
+  owes p DowngradeToUpgradeable l (Some hold.Write) s w span = λ at.
       let found = holder_by p writing s at.known.stand in
-      let one = writes_word p s w at.exclusive (word_is s w at.encodes) found in
-      (eq-eqb w 1 one, turn_means p writing upgradable 2 at found refl (omega (arith, one)), (refl, inl refl, tt))
-  owes p Release l (Some hold.Read) s value w span = λ at.
+      let one = writes_word p s w at.exclusive (word p at) found in
+      (eq-eqb w 1 one, turn_means p at writing upgradable 2 found refl (omega (arith, one)), (refl, inl refl, tt))
+  owes p Release l (Some hold.Read) s w span = λ at.
       let found = holder_by p reading s at.known.stand in
-      (reads_word p s w (word_is s w at.encodes) found, release_means p reading at found, (refl, inl refl, tt))
-  owes p Release l (Some hold.Upgradable) s value w span = λ at.
+      (reads_word p s w (word p at) found, release_means p at reading found, (refl, inl refl, tt))
+  owes p Release l (Some hold.Upgradable) s w span = λ at.
       let found = holder_by p upgradable s at.known.stand in
-      ((may_upgrade_word p s w at.exclusive at.shape (word_is s w at.encodes) found).0, release_means p upgradable at found, (refl, inl refl, tt))
-  owes p Release l (Some hold.Write) s value w span = λ at.
+      ((may_upgrade_word p s w at.exclusive at.shape (word p at) found).0, release_means p at upgradable found, (refl, inl refl, tt))
+  owes p Release l (Some hold.Write) s w span = λ at.
       let found = holder_by p writing s at.known.stand in
-      let one = writes_word p s w at.exclusive (word_is s w at.encodes) found in
-      (eq-eqb w 1 one, subst (λ n. IsMeant p s value (releases p writing) (Some n)) (omega (arith, one)) (release_means p writing at found), (refl, inl refl, tt))
-  owes p _ _ _ s value w span = tt
+      let one = writes_word p s w at.exclusive (word p at) found in
+      (eq-eqb w 1 one, subst (λ n. IsMeant p s (releases p writing) (Some n)) (omega (arith, one)) (release_means p at writing found), (refl, inl refl, tt))
+  owes p _ _ _ s w span = tt
 
   -- Run alone: the word that lets a party in is exchanged, at once or after a look
 
@@ -200,28 +192,23 @@ module _ {V : Type 0} (v : V) (cap : ℕ) where
   lets_in : (s : Plain) (w : ℕ) → IsExclusive s → Within cap s → rw_word s ≡ w → may_read s ≡ true → has_room w cap ≡ true
   lets_in s w order shape is may = sym (may_read-word s w cap (one_of_each s order) shape.room is) ∙ may
 
-  reads_at : (k w n : ℕ) (b : Bool) → has_room w cap ≡ true → (w == n) ≡ b → Soon (suc (suc k)) w Read (Exchange n) None
-  reads_at k w n true room is = rw is (rw room refl)
-  reads_at k w n false room is = rw is (rw room (rw (eq-eqb w w refl) (rw room refl)))
+  reads_soon : (k n w : ℕ) → has_room w cap ≡ true → Soon (suc (suc (suc k))) w Read (Exchange n) None
+  reads_soon k n w room = retries_soon (rw_table v cap) Read None Exchange (read cap) (λ p. gets p to_read) (λ m. granted hold.Read) (GoesOn First) w (w + 4) (rw room refl) (λ m. refl) (λ j. refl) k n
 
-  may_upgrade_at : (k w n : ℕ) (b : Bool) → has_room w cap ≡ true → (w == n) ≡ b → Soon (suc (suc k)) w UpgradeableRead (Exchange n) None
-  may_upgrade_at k w n true room is = rw is (rw room refl)
-  may_upgrade_at k w n false room is = rw is (rw room (rw (eq-eqb w w refl) (rw room refl)))
+  may_upgrade_soon : (k n w : ℕ) → has_room w cap ≡ true → Soon (suc (suc (suc k))) w UpgradeableRead (Exchange n) None
+  may_upgrade_soon k n w room =
+      retries_soon (rw_table v cap) UpgradeableRead None Exchange (read_upgradable cap) (λ p. gets p to_read_upgradable) (λ m. granted hold.Upgradable) (GoesOn First) w (w + 2) (rw room refl) (λ m. refl) (λ j. refl) k n
 
-  soon : (p : ℕ) (c : RwCall) (l : RwPoint) (h : Option Hold) (s : Plain) (value : Option V) (w : ℕ) (span : List Mark)
-      → OwesSoon (rw_table v cap) (rw_notes v cap) p c l h s value w span (is_waiting (asks_of c h)) (row_of (rw_table v cap) (rw_notes v cap) c l h)
-  soon p Read First None s value w span = λ at free. let room = lets_in s w at.exclusive at.shape (word_is s w at.encodes) free in rw room (reads_at 1 w w (w == w) room refl)
-  soon p Read (Exchange n) None s value w span = λ at free. reads_at 2 w n (w == n) (lets_in s w at.exclusive at.shape (word_is s w at.encodes) free) refl
-  soon p UpgradeableRead First None s value w span = λ at free. let room = lets_in s w at.exclusive at.shape (word_is s w at.encodes) free in rw room (may_upgrade_at 1 w w (w == w) room refl)
-  soon p UpgradeableRead (Exchange n) None s value w span = λ at free. may_upgrade_at 2 w n (w == n) (lets_in s w at.exclusive at.shape (word_is s w at.encodes) free) refl
-  soon p Write l None s value w span = λ at free. let zero : (w == 0) ≡ true = sym (empty-word s.holders w (word_is s w at.encodes)) ∙ free in rw zero refl
-  soon p Upgrade l (Some hold.Upgradable) s value w span = λ at free.
+  soon : (p : ℕ) (c : RwCall) (l : RwPoint) (h : Option Hold) (s : Plain) (w : ℕ) (span : List Mark)
+      → OwesSoon (rw_table v cap) (rw_notes v cap) p c l h s w span
+  soon p Read First None s w span = λ at free. let room = lets_in s w at.exclusive at.shape (word p at) free in rw room (reads_soon 0 w w room)
+  soon p Read (Exchange n) None s w span = λ at free. reads_soon 1 n w (lets_in s w at.exclusive at.shape (word p at) free)
+  soon p UpgradeableRead First None s w span = λ at free. let room = lets_in s w at.exclusive at.shape (word p at) free in rw room (may_upgrade_soon 0 w w room)
+  soon p UpgradeableRead (Exchange n) None s w span = λ at free. may_upgrade_soon 1 n w (lets_in s w at.exclusive at.shape (word p at) free)
+  soon p Write l None s w span = λ at free. let zero : (w == 0) ≡ true = sym (empty-word s.holders w (word_is s w at.encodes)) ∙ free in rw zero refl
+  soon p Upgrade l (Some hold.Upgradable) s w span = λ at free.
       let two : (w == 2) ≡ true = sym (only-word s p w (one_of_each s at.exclusive) (holder_by p upgradable s at.known.stand) (word_is s w at.encodes)) ∙ free in rw two refl
-  soon p _ _ _ s value w span = tt
-
-  no_queue : (hs : List Holder) (ts : List Queued) → ts ≡ [] → (is_empty hs || is_empty ts) ≡ true
-  no_queue [] ts e = refl
-  no_queue (h ∷ hs) ts e = ap (λ (us : List Queued). is_empty us) e
+  soon p _ _ _ s w span = tt
 
   begins : (p : ℕ) (c : RwCall) (h : Option Hold) (s : Plain) → BeginsAt (rw_table v cap) (rw_notes v cap) c h p s (begins_at c h)
   begins p TryRead None s = (refl, refl, tt, tt)
@@ -272,13 +259,11 @@ module _ {V : Type 0} (v : V) (cap : ℕ) where
         shape_first = record { no_queue = refl; room = refl; few = omega arith };
         numbers_tell = one_word;
         no_value = refl;
-        one_list = λ s value shape. no_queue s.holders s.tickets shape.no_queue;
-        shape_written = λ s p old new writes shape. shape;
-        shape_set = λ s old new shape. shape;
+        one_list = λ s shape. no_queue s shape.no_queue;
         makes = makes;
         sound = sound;
         begins = begins;
-        others = λ p q c l h s value step r span ne shape may belongs knows. tt;
+        others = λ p q c l h s step r span ne shape may belongs knows. tt;
         owes = owes;
         soon = soon;
       }

@@ -1,11 +1,13 @@
 -- What the ticket lock's table owes.
-use Rattle.std.proofs.Common.{◌≡◌, ℕ, suc, ◌+◌, ◌-◌, ◌≤◌, ◌==◌, Bool, true, false, not, ◌&&◌, ◌||◌, if◌then◌else◌, is_some, Option, Some, None, List, [], ◌∷◌, refl, ap, sym, ◌∙◌, subst, arith, inl, inr, eq-eqb}
+use Rattle.std.proofs.Common.{◌≡◌, ℕ, suc, ◌+◌, ◌-◌, ◌≤◌, ◌==◌, Bool, true, false, not, ◌&&◌, if◌then◌else◌, is_some, Option, Some, None, List, [], ◌∷◌, refl, ap, sym, ◌∙◌, subst, arith, inl, inr, eq-eqb}
 use Rattle.std.proofs.lemmas.Bool.{and_parts, eqb-true, true≢false}
 use Rattle.spin_step.specs.Plain.{Plain, Ask, to_take_ticket, to_enter, to_take_and_enter, Change, gets, serves, apply, is_open, is_empty, next_word, serving_word}
 use Rattle.spin_step.specs.Parties.{apply_some, IsOpenStep, Entries, entries, is_held}
 use Rattle.spin_step.specs.Steps.{Decides}
 use Rattle.spin_step.proofs.Tickets.{enters_in_turn, numbered-gets, numbered-serves, serving-taken, serving-entered, entered_is_served, stands}
 use Rattle.spin_step.proofs.TicketSteps.{ticket_take-grants, ticket_take-grants_alone, ticket_serve-gives}
+use Rattle.spin_world_core.specs.declared.answer.Answer.{Answer}
+use Rattle.spin_world_core.specs.declared.object.Next.TheVariants.{GoesOn}
 use Rattle.spin_world_core.specs.declared.place.Hold.{Hold}
 use Rattle.spin_world_core.specs.declared.place.Hold.TheVariants as hold
 use Rattle.spin_world_ticket.specs.declared.ticket.TicketWords.{TicketWords}
@@ -16,12 +18,13 @@ use Rattle.spin_world_ticket.specs.declared.ticket.TicketPoint.TheVariants.{Load
 use Rattle.spin_world_core.specs.Calls.{Mark, AnyOf, granted, ticket}
 use Rattle.spin_world_core.specs.Runs.{mark_of}
 use Rattle.spin_world_core.specs.Manners.{Manner, plain}
-use Rattle.spin_world_core.specs.Acts.{passing, is_waiting}
+use Rattle.spin_world_core.specs.Acts.{passing}
 use Rattle.spin_world_ticket.specs.Ticket.{is_left, take, begins_at, act_of, asks_of, ticket_table, ticket_machine}
 use Rattle.spin_world_core.proofs.Facts.{LocalInvariant, Facts}
 use Rattle.spin_world_core.proofs.Stands.{queues, entries_at}
 use Rattle.spin_world_core.proofs.Rows.{SoundAt, Row, Point, nowhere, looked, onward}
-use Rattle.spin_world_core.proofs.Shapes.{Notes, keeping_of, At, Means, row_of, OwesAt, answers_by, OwesSoon, BeginsAt, makes_own, Pays}
+use Rattle.spin_world_core.proofs.Shapes.{Notes, keeping_of, Means, OwesAt, answers_by, OwesSoon, BeginsAt, makes_own, Pays, CallOf, AtPoint}
+use Rattle.spin_world_core.proofs.Usual.{two, found_by, no_holders, retries_soon}
 use Rattle.spin_world_core.proofs.Paid.{facts_of}
 use Rattle.spin_world_ticket.proofs.Found.{free_number, Queue, Stays, Rises, stays-other, rises-other, stays_now, try_refused, look_held, look_free, ticket_left, taken_queue}
 
@@ -46,12 +49,9 @@ KnowsAt (Serve t) (Some (hold.Ticket u)) s span = t ≡ u
 KnowsAt _ h s span = Unit {0}
 
 abbrev pub ticket_notes : {V : Type 0} (v : V) (first : ℕ) → Notes (ticket_table v first)
-ticket_notes v first = record { Shape = λ s value. Queue s; point = point_of; Knows = λ c l h p s span. KnowsAt l h s span }
+ticket_notes v first = record { Shape = λ s. Queue s; point = point_of; Knows = λ c l h p s span. KnowsAt l h s span }
 
 -- the step function on its words
-
-two : (a b c d : ℕ) → a ≡ c → b ≡ d → a ∷ b ∷ [] ≡ c ∷ d ∷ []
-two a b c d e f = ap (λ n. n ∷ b ∷ []) e ∙ ap (λ n. c ∷ n ∷ []) f
 
 some_if : {X : Type 0} (b : Bool) (x : X) → is_some (if b then Some x else None) ≡ b
 some_if true x = refl
@@ -64,8 +64,8 @@ two_words u w e =
     ap (λ k. record u { next = k }) next ∙ ap (λ k. record w { serving = k }) serving
 
 -- it grants by the number alone
-as_found : (w to : TicketWords) → to.next ≡ w.next → is_some (take w) ≡ true → is_some (take to) ≡ true
-as_found w to e found = some_if (is_left to.next) _ ∙ (ap is_left e ∙ (sym (some_if (is_left w.next) _) ∙ found))
+still : (w : TicketWords) → is_some (take w) ≡ true → (to : TicketWords) → to.next ≡ w.next → is_some (take to) ≡ true
+still w found = found_by (λ w. w.next) take is_left (λ w. some_if (is_left w.next) _) w found
 
 not_taken : {X : Type 0} (a b : Bool) (x : X) → (if a then (if b then Some x else None) else None) ≡ None → a ≡ true → b ≡ false
 not_taken a false x none is = refl
@@ -77,123 +77,108 @@ taken_at true o to is = (refl, is)
 taken_at false o to is = absurd (cc (is))
 
 module _ {V : Type 0} (v : V) (first : ℕ) where
-  -- what is known at a step
-  abbrev Here : ℕ → TicketCall → TicketPoint → Option Hold → Plain → Option V → TicketWords → List Mark → Row → Type 0
-  Here p c l h s value w span row = At (ticket_table v first) (ticket_notes v first) p c l h s value w span row
+  abbrev IsMeant : ℕ → Plain → Change → Option TicketWords → Type 0
+  IsMeant p s c o = Means (ticket_table v first) (ticket_notes v first) p s c o
 
-  abbrev IsMeant : ℕ → Plain → Option V → Change → Option TicketWords → Type 0
-  IsMeant p s value c o = Means (ticket_table v first) (ticket_notes v first) p s value c o
+  -- what the step functions mean there
+  module _ {k : CallOf TicketWords TicketPoint (Answer V)} {l : TicketPoint} {h : Option Hold} {s : Plain} {w : TicketWords} {span : List Mark} {row : Row} (p : ℕ) (at : AtPoint (ticket_table v first) (ticket_notes v first) p k l h s w span row) where
+    next_is : s.next ≡ w.next
+    next_is = cc (at.encodes)
 
-  next_is : (s : Plain) (w : TicketWords) → w.next ∷ w.serving ∷ [] ≡ s.next ∷ serving_word s ∷ [] → s.next ≡ w.next
-  next_is s w e = cc (e)
+    serving_is : serving_word s ≡ w.serving
+    serving_is = cc (at.encodes)
 
-  serving_is : (s : Plain) (w : TicketWords) → w.next ∷ w.serving ∷ [] ≡ s.next ∷ serving_word s ∷ [] → serving_word s ≡ w.serving
-  serving_is s w e = cc (e)
+    -- nobody queues, and a ticket is left
+    free_to_take : (is_empty s.tickets && is_left s.next) ≡ true → (is_left w.next ≡ true) × (w.serving ≡ w.next)
+    free_to_take free =
+        let parts = and_parts (is_empty s.tickets) (is_left s.next) free in
+        (ap is_left (sym next_is) ∙ parts.1, sym serving_is ∙ (sym (free_number s (serving_word s) parts.0 refl) ∙ next_is))
 
-  -- nobody queues, and a ticket is left
-  free_to_take : (s : Plain) (w : TicketWords) → w.next ∷ w.serving ∷ [] ≡ s.next ∷ serving_word s ∷ [] → (is_empty s.tickets && is_left s.next) ≡ true → (is_left w.next ≡ true) × (w.serving ≡ w.next)
-  free_to_take s w encodes free =
-      let parts = and_parts (is_empty s.tickets) (is_left s.next) free in
-      (ap is_left (sym (next_is s w encodes)) ∙ parts.1, sym (serving_is s w encodes) ∙ (sym (free_number s (serving_word s) parts.0 refl) ∙ next_is s w encodes))
+    grants_means : (ask : Ask) (b : Bool) → serving_word (apply s (gets p ask)) ≡ serving_word s → (is_open s (gets p ask) ≡ true → Queue (apply s (gets p ask))) → Decides s (gets p ask) next_word (if b then Some (w.next + 1) else None)
+        → IsMeant p s (gets p ask) (if b then Some (record w { next = w.next + 1 }) else None)
+    grants_means ask true same shape grants = ((refl, grants.0), two _ _ _ _ grants.1 (sym (same ∙ serving_is)), shape grants.0)
+    grants_means ask false same shape grants = grants
 
-  grants_means : (p : ℕ) (ask : Ask) (s : Plain) (value : Option V) (w : TicketWords) (b : Bool) → serving_word (apply s (gets p ask)) ≡ w.serving → (is_open s (gets p ask) ≡ true → Queue (apply s (gets p ask)))
-      → Decides s (gets p ask) next_word (if b then Some (w.next + 1) else None) → IsMeant p s value (gets p ask) (if b then Some (record w { next = w.next + 1 }) else None)
-  grants_means p ask s value w true same shape grants = ((refl, grants.0), two _ _ _ _ grants.1 (sym same), shape grants.0)
-  grants_means p ask s value w false same shape grants = grants
+    take_means : IsMeant p s (gets p to_take_ticket) (take w)
+    take_means =
+        grants_means to_take_ticket (is_left w.next) (serving-taken s p false at.shape.numbered) (λ left. taken_queue s p false at.shape left (numbered-gets s p to_take_ticket at.shape.numbered)) (ticket_take-grants s p w.next next_is)
 
-  take_means : {c : TicketCall} {l : TicketPoint} {h : Option Hold} {s : Plain} {value : Option V} {w : TicketWords} {span : List Mark} {row : Row} (p : ℕ) → Here p c l h s value w span row → IsMeant p s value (gets p to_take_ticket) (take w)
-  take_means {s = s} {value = value} {w = w} p at =
-      grants_means p to_take_ticket s value w (is_left w.next) (serving-taken s p false at.shape.numbered ∙ serving_is s w at.encodes)
-      (λ left. taken_queue s p false at.shape left (numbered-gets s p to_take_ticket at.shape.numbered)) (ticket_take-grants s p w.next (next_is s w at.encodes))
+    -- where the number is served
+    take_alone_means : w.next ≤ serving_word s → IsMeant p s (gets p to_take_and_enter) (take w)
+    take_alone_means le =
+        grants_means to_take_and_enter (is_left w.next) (serving-taken s p true at.shape.numbered) (λ free. taken_queue s p true at.shape (and_parts (is_empty s.tickets) (is_left s.next) free).1 (numbered-gets s p to_take_and_enter at.shape.numbered))
+        (ticket_take-grants_alone s p w.next at.shape.numbered.0 next_is (omega (arith, next_is, le)))
 
-  -- where the number is served
-  take_alone_means : {c : TicketCall} {l : TicketPoint} {h : Option Hold} {s : Plain} {value : Option V} {w : TicketWords} {span : List Mark} {row : Row} (p : ℕ) → Here p c l h s value w span row → w.next ≤ serving_word s
-      → IsMeant p s value (gets p to_take_and_enter) (take w)
-  take_alone_means {s = s} {value = value} {w = w} p at le =
-      let next = next_is s w at.encodes in
-      grants_means p to_take_and_enter s value w (is_left w.next) (serving-taken s p true at.shape.numbered ∙ serving_is s w at.encodes)
-      (λ free. taken_queue s p true at.shape (and_parts (is_empty s.tickets) (is_left s.next) free).1 (numbered-gets s p to_take_and_enter at.shape.numbered))
-      (ticket_take-grants_alone s p w.next at.shape.numbered.0 next (omega (arith, next, le)))
+    in_turn : (t : ℕ) → entries p s ≡ entries_at p (queues t false) → is_open s (gets p to_enter) ≡ (w.serving == t)
+    in_turn t mine = enters_in_turn s p w.serving t at.shape.numbered serving_is (ap (λ (e : Entries). e.tickets) mine)
 
-  enter_if : (p t : ℕ) (s : Plain) (value : Option V) (w : TicketWords) (b : Bool) → w.next ∷ w.serving ∷ [] ≡ s.next ∷ serving_word s ∷ [] → Queue s → entries p s ≡ entries_at p (queues t false) → is_open s (gets p to_enter) ≡ b
-      → IsMeant p s value (gets p to_enter) (passing b w)
-  enter_if p t s value w true encodes queue mine may = (
-    (refl, may),
-    two _ _ _ _ (sym (next_is s w encodes)) (sym (serving_is s w encodes) ∙ sym (serving-entered s)),
-    record { no_holders = queue.no_holders; numbered = numbered-gets s p to_enter queue.numbered; in_range = λ some. queue.in_range (stands p t false s.tickets (ap (λ (e : Entries). e.tickets) mine)) },
-  )
-  enter_if p t s value w false encodes queue mine may = may
+    enter_if : (t : ℕ) (b : Bool) → entries p s ≡ entries_at p (queues t false) → is_open s (gets p to_enter) ≡ b → IsMeant p s (gets p to_enter) (passing b w)
+    enter_if t true mine may = (
+      (refl, may),
+      two _ _ _ _ (sym next_is) (sym serving_is ∙ sym (serving-entered s)),
+      record { no_holders = at.shape.no_holders; numbered = numbered-gets s p to_enter at.shape.numbered; in_range = λ some. at.shape.in_range (stands p t false s.tickets (ap (λ (e : Entries). e.tickets) mine)) },
+    )
+    enter_if t false mine may = may
 
-  enter_means : {t : ℕ} {s : Plain} {value : Option V} {w : TicketWords} {span : List Mark} {row : Row} (p : ℕ) → Here p Lock (Await t) None s value w span row → entries p s ≡ entries_at p (queues t false)
-      → IsMeant p s value (gets p to_enter) (passing (w.serving == t) w)
-  enter_means {t = t} {s = s} {value = value} {w = w} p at mine =
-      enter_if p t s value w (w.serving == t) at.encodes at.shape mine (enters_in_turn s p w.serving t at.shape.numbered (serving_is s w at.encodes) (ap (λ (e : Entries). e.tickets) mine))
-
-  serve_means : {t : ℕ} {s : Plain} {value : Option V} {w : TicketWords} {span : List Mark} {row : Row} {u : ℕ} (p : ℕ) → Here p Release (Serve t) (Some (hold.Ticket u)) s value w span row → entries p s ≡ entries_at p (queues u true)
-      → (is_left t ≡ true) × IsMeant p s value (serves p) (Some (record w { serving = t + 1 }))
-  serve_means {t = t} {s = s} {w = w} p at mine =
-      let tickets = ap (λ (e : Entries). e.tickets) mine in
-      let some = stands p _ true s.tickets tickets in
-      let here = entered_is_served s p _ at.shape.numbered at.exclusive.one_entered tickets in
-      let served = here.1 ∙ sym at.knows in (
-        ticket_left s t at.shape some served,
-        (
-          (refl, here.0),
-          two _ _ _ _ (sym (next_is s w at.encodes)) (ticket_serve-gives s p t at.shape.numbered.0 served here.0),
-          record { no_holders = at.shape.no_holders; numbered = numbered-serves s p at.shape.numbered; in_range = λ more. at.shape.in_range some },
-        ),
-      )
+    serve_means : (t u : ℕ) → t ≡ u → entries p s ≡ entries_at p (queues u true) → (is_left t ≡ true) × IsMeant p s (serves p) (Some (record w { serving = t + 1 }))
+    serve_means t u same mine =
+        let tickets = ap (λ (e : Entries). e.tickets) mine in
+        let some = stands p u true s.tickets tickets in
+        let here = entered_is_served s p u at.shape.numbered at.exclusive.one_entered tickets in
+        let served = here.1 ∙ sym same in (
+          ticket_left s t at.shape some served,
+          (
+            (refl, here.0),
+            two _ _ _ _ (sym next_is) (ticket_serve-gives s p t at.shape.numbered.0 served here.0),
+            record { no_holders = at.shape.no_holders; numbered = numbered-serves s p at.shape.numbered; in_range = λ more. at.shape.in_range some },
+          ),
+        )
 
   looked_right : (b : Bool) (k p : ℕ) (s : Plain) (span : List Mark) → Queue s → (s.next == k) ≡ b → Rises k s span → AnyOf (λ m. is_held m.before ≡ not b) (mark_of p None plain s ∷ span)
   looked_right true k p s span queue is found = inl (look_free k s queue found.0 (eqb-true s.next k is))
   looked_right false k p s span queue is found = look_held p k s span found.1 (λ e. true≢false (sym (eq-eqb s.next k e) ∙ is))
 
-  owes : (p : ℕ) (c : TicketCall) (l : TicketPoint) (h : Option Hold) (s : Plain) (value : Option V) (w : TicketWords) (span : List Mark) → OwesAt (ticket_table v first) (ticket_notes v first) p c l h s value w span (row_of (ticket_table v first) (ticket_notes v first) c l h)
-  owes p Lock LoadNext None s value w span = λ at. (take_means p at, (λ found. (refl, refl, refl, (refl, refl, λ to e. as_found w to e found), tt)), (λ closed. (refl, refl, refl, tt, tt)))
-  owes p Lock (Take n) None s value w span = λ at. (
+  owes : (p : ℕ) (c : TicketCall) (l : TicketPoint) (h : Option Hold) (s : Plain) (w : TicketWords) (span : List Mark) → OwesAt (ticket_table v first) (ticket_notes v first) p c l h s w span
+  owes p Lock LoadNext None s w span = λ at. (take_means p at, (λ found. (refl, refl, refl, (refl, refl, still w found), tt)), (λ closed. (refl, refl, refl, tt, tt)))
+  owes p Lock (Take n) None s w span = λ at. (
     take_means p at,
-    (λ is. (ap (λ k. Some (queues k false)) (next_is s w at.encodes ∙ is), refl, tt, tt, tt)),
-    (λ found. (refl, refl, refl, (refl, refl, λ to e. as_found w to e found), tt)),
+    (λ is. (ap (λ k. Some (queues k false)) (next_is p at ∙ is), refl, tt, tt, tt)),
+    (λ found. (refl, refl, refl, (refl, refl, still w found), tt)),
     (λ closed. (refl, refl, refl, tt, tt)),
   )
-  owes p Lock (Await t) None s value w span = λ at. (enter_means p at at.known.stand, (refl, inl refl, tt), (λ closed. (refl, refl, tt, tt, tt)))
-  owes p TryLock TryLoadNext None s value w span = λ at. (refl, refl, refl, tt, subst (λ n. Stays n s (mark_of p None plain s ∷ span)) (next_is s w at.encodes) (stays_now s p span (is_empty s.tickets) refl))
-  owes p TryLock (TryLoadServing n) None s value w span = λ at. (
-    (λ free. let served = serving_is s w at.encodes ∙ eqb-true w.serving n (and_parts (w.serving == n) (is_left n) free).0 in (refl, refl, refl, tt, (omega (arith, served), inr served))),
-    (λ taken. (refl, inl refl, try_refused p n s span at.knows (λ served e. ap is_left e ∙ (sym (ap (λ b. b && is_left n) (eq-eqb w.serving n (sym (serving_is s w at.encodes) ∙ served))) ∙ taken)))),
+  owes p Lock (Await t) None s w span = λ at. (enter_if p at t (w.serving == t) at.known.stand (in_turn p at t at.known.stand), (refl, inl refl, tt), (λ closed. (refl, refl, tt, tt, tt)))
+  owes p TryLock TryLoadNext None s w span = λ at. (refl, refl, refl, tt, subst (λ n. Stays n s (mark_of p None plain s ∷ span)) (next_is p at) (stays_now s p span (is_empty s.tickets) refl))
+  owes p TryLock (TryLoadServing n) None s w span = λ at. (
+    (λ free. let served = serving_is p at ∙ eqb-true w.serving n (and_parts (w.serving == n) (is_left n) free).0 in (refl, refl, refl, tt, (omega (arith, served), inr served))),
+    (λ taken. (refl, inl refl, try_refused p n s span at.knows (λ served e. ap is_left e ∙ (sym (ap (λ b. b && is_left n) (eq-eqb w.serving n (sym (serving_is p at) ∙ served))) ∙ taken)))),
   )
-  owes p TryLock (TryTake n) None s value w span = λ at. (
+  owes p TryLock (TryTake n) None s w span = λ at. (
     (λ to taken. let is = taken_at (w.next == n) (take w) to taken in
         let same = eqb-true w.next n is.0 in
-        (subst (IsMeant p s value (gets p to_take_and_enter)) is.1 (take_alone_means p at (omega (arith, same, at.knows.0))), (ap (λ k. Some (queues k true)) (next_is s w at.encodes ∙ same), inl refl, tt))),
-    (λ none. (refl, inl refl, try_refused p n s span at.knows.1 (λ served e. let next = next_is s w at.encodes in ap is_left next ∙ not_taken (w.next == n) (is_left w.next) _ none (eq-eqb w.next n (sym next ∙ e))))),
+        (subst (IsMeant p s (gets p to_take_and_enter)) is.1 (take_alone_means p at (omega (arith, same, at.knows.0))), (ap (λ k. Some (queues k true)) (next_is p at ∙ same), inl refl, tt))),
+    (λ none. (refl, inl refl, try_refused p n s span at.knows.1 (λ served e. let next = next_is p at in ap is_left next ∙ not_taken (w.next == n) (is_left w.next) _ none (eq-eqb w.next n (sym next ∙ e))))),
   )
-  owes p IsLocked LookServing None s value w span = λ at. (refl, refl, refl, tt, (omega (arith, serving_is s w at.encodes), inr (serving_is s w at.encodes)))
-  owes p IsLocked (LookNext k) None s value w span = λ at. (refl, inl refl, looked_right (w.next == k) k p s span at.shape (ap (λ n. n == k) (next_is s w at.encodes)) at.knows)
-  owes p Release (Serve t) (Some (hold.Ticket u)) s value w span = λ at. let means = serve_means p at at.known.stand in (means.0, means.1, (refl, inl refl, tt))
-  owes p _ _ _ s value w span = tt
+  owes p IsLocked LookServing None s w span = λ at. (refl, refl, refl, tt, (omega (arith, serving_is p at), inr (serving_is p at)))
+  owes p IsLocked (LookNext k) None s w span = λ at. (refl, inl refl, looked_right (w.next == k) k p s span at.shape (ap (λ n. n == k) (next_is p at)) at.knows)
+  owes p Release (Serve t) (Some (hold.Ticket u)) s w span = λ at. let means = serve_means p at t u at.knows at.known.stand in (means.0, means.1, (refl, inl refl, tt))
+  owes p _ _ _ s w span = tt
 
   -- run alone: the next ticket is taken, at once or after a look, and enters where it is served
-  abbrev Soon : ℕ → TicketWords → TicketPoint → Type 0
-  Soon k w l = answers_by (ticket_table v first) k w Lock l None ≡ true
 
-  enters_soon : (k : ℕ) (w : TicketWords) (t : ℕ) → w.serving ≡ t → Soon (suc k) w (Await t)
+  enters_soon : (k : ℕ) (w : TicketWords) (t : ℕ) → w.serving ≡ t → answers_by (ticket_table v first) (suc k) w Lock (Await t) None ≡ true
   enters_soon k w t is = rw (eq-eqb w.serving t is) refl
 
-  takes_soon : (k : ℕ) (w : TicketWords) (n : ℕ) → is_left w.next ≡ true → w.serving ≡ w.next → w.next ≡ n → Soon (suc (suc k)) w (Take n)
-  takes_soon k w n left served is = rw (eq-eqb w.next n is) (rw left (enters_soon k (record w { next = w.next + 1 }) n (served ∙ is)))
+  takes_soon : (k n : ℕ) (w : TicketWords) → is_left w.next ≡ true → w.serving ≡ w.next → answers_by (ticket_table v first) (suc (suc (suc k))) w Lock (Take n) None ≡ true
+  takes_soon k n w left served =
+      let after = record w { next = w.next + 1 } in
+      retries_soon (ticket_table v first) Lock None Take take (λ p. gets p to_take_ticket) (λ t. GoesOn (Await t)) (GoesOn LoadNext) w after (rw left refl) (λ m. refl) (λ j. enters_soon j after w.next served) k n
 
-  goes_soon : (k : ℕ) (w : TicketWords) (n : ℕ) (b : Bool) → is_left w.next ≡ true → w.serving ≡ w.next → (w.next == n) ≡ b → Soon (suc (suc (suc k))) w (Take n)
-  goes_soon k w n true left served is = takes_soon (suc k) w n left served (eqb-true w.next n is)
-  goes_soon k w n false left served is = rw is (rw left (takes_soon k w w.next left served refl))
-
-  soon : (p : ℕ) (c : TicketCall) (l : TicketPoint) (h : Option Hold) (s : Plain) (value : Option V) (w : TicketWords) (span : List Mark)
-      → OwesSoon (ticket_table v first) (ticket_notes v first) p c l h s value w span (is_waiting (asks_of c h)) (row_of (ticket_table v first) (ticket_notes v first) c l h)
-  soon p Lock LoadNext None s value w span = λ at free. let is = free_to_take s w at.encodes free in rw is.0 (takes_soon 1 w w.next is.0 is.1 refl)
-  soon p Lock (Take n) None s value w span = λ at free. let is = free_to_take s w at.encodes free in goes_soon 1 w n (w.next == n) is.0 is.1 refl
-  soon p Lock (Await t) None s value w span = λ at free.
-      enters_soon 3 w t (eqb-true w.serving t (sym (enters_in_turn s p w.serving t at.shape.numbered (serving_is s w at.encodes) (ap (λ (e : Entries). e.tickets) at.known.stand)) ∙ free))
-  soon p _ _ _ s value w span = tt
+  soon : (p : ℕ) (c : TicketCall) (l : TicketPoint) (h : Option Hold) (s : Plain) (w : TicketWords) (span : List Mark)
+      → OwesSoon (ticket_table v first) (ticket_notes v first) p c l h s w span
+  soon p Lock LoadNext None s w span = λ at free. let is = free_to_take p at free in rw is.0 (takes_soon 0 w.next w is.0 is.1)
+  soon p Lock (Take n) None s w span = λ at free. let is = free_to_take p at free in takes_soon 1 n w is.0 is.1
+  soon p Lock (Await t) None s w span = λ at free. enters_soon 3 w t (eqb-true w.serving t (sym (in_turn p at t at.known.stand) ∙ free))
+  soon p _ _ _ s w span = tt
 
   begins : (p : ℕ) (c : TicketCall) (h : Option Hold) (s : Plain) → BeginsAt (ticket_table v first) (ticket_notes v first) c h p s (begins_at c h)
   begins p Release (Some (hold.Ticket t)) s = (refl, refl, tt, refl)
@@ -232,13 +217,11 @@ module _ {V : Type 0} (v : V) (first : ℕ) where
         shape_first = record { no_holders = refl; numbered = (omega arith, tt); in_range = λ some. absurd (cc (some)) };
         numbers_tell = λ u w e. two_words u w e;
         no_value = refl;
-        one_list = λ s value queue. ap (λ hs. is_empty hs || is_empty s.tickets) queue.no_holders;
-        shape_written = λ s p old new writes shape. shape;
-        shape_set = λ s old new shape. shape;
+        one_list = λ s queue. no_holders s queue.no_holders;
         makes = λ p c l h. makes p l h;
         sound = sound;
         begins = begins;
-        others = λ p q c l h s value step r span ne shape may belongs knows. others q l h s step r span shape may knows;
+        others = λ p q c l h s step r span ne shape may belongs knows. others q l h s step r span shape may knows;
         owes = owes;
         soon = soon;
       }
