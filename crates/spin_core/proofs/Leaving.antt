@@ -8,8 +8,8 @@ use native.Mathlib.Decide.{ℕ_discrete}
 use Rattle.spin_step.specs.Plain.{Plain, Kind, reading, upgradable, writing, Holder, holder, Ticket, ticket, same_kind, count_kind, flag_word, rw_word, fair_word, next_word, serving_word}
 use Rattle.spin_step.specs.Parties.{Entries, entries, no_entries, none_entered, first_alone_entered}
 use Rattle.spin_step.specs.Tickets.{numbered_from}
-use Rattle.spin_core.specs.Cell.{off, Rests}
-use Rattle.spin_core.specs.Views.{Part, idle, holds, queues, saw_served, starves, holds_starving, entries_of, Knows, HasPart, IsInOrder, part_at, Encodes, no_word, used_by}
+use Rattle.spin_core.specs.Cell.{Use, off, Rests}
+use Rattle.spin_core.specs.Views.{Part, idle, holds, queues, saw_served, starves, holds_starving, entries_of, Knows, HasPart, IsInOrder, part_at, Encodes, no_word}
 
 -- who is behind the place k moves up; and the place where it was
 abbrev up : ℕ → ℕ → ℕ
@@ -161,9 +161,9 @@ module _ {V : Type 0} (part : V → Part) (v : V) where
   others_at (x ∷ xs) behind zero = refl
   others_at (x ∷ xs) behind (suc q) = others_at xs behind q
 
-  module _ (cap : ℕ) (first second : Plain → ℕ) (same_first : NamesNobody first) (same_second : NamesNobody second) where
+  module _ (uses : V → Use) (cap : ℕ) (first second : Plain → ℕ) (same_first : NamesNobody first) (same_second : NamesNobody second) where
     -- who has nothing, and does not use the value, may go
-    pub leaves : used_by part v ≡ off → ((p : ℕ) → entries_of p (part v) ≡ no_entries) → Rests (Encodes part cap first second) (used_by part) (Some v)
+    pub leaves : uses v ≡ off → ((p : ℕ) → entries_of p (part v) ≡ no_entries) → Rests (Encodes part cap first second) uses (Some v)
     leaves unused nothing = (
       unused,
       λ n m before behind is.

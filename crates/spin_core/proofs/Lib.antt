@@ -1,4 +1,3 @@
-pub mod Bystanders
 pub mod InOrder
 pub mod Leaving
 pub mod Owners

@@ -1,26 +1,32 @@
 -- The kinds of play that locks share: a step on a word is allowed where it is the party's open step in the plain lock, or none.
-use Rattle.std.proofs.Common.{◌≡◌, ℕ, ◌≤◌, ◌==◌, Bool, true, if◌then◌else◌, List, [], Option, Some, None, refl, sym, ◌∙◌, subst, eq-eqb, ne_eqb}
+use Rattle.std.proofs.Common.{◌≡◌, ℕ, ◌<◌, ◌≤◌, ◌==◌, Bool, true, if◌then◌else◌, List, [], Option, Some, None, refl, sym, ap, ◌∙◌, subst, eq-eqb, ne_eqb}
 use mathlib.Core.Logic.{dite}
 use native.Mathlib.Decide.{ℕ_discrete}
 use prog.Atomic.{either}
-use Rattle.spin_step.specs.Plain.{Plain, Change, apply, is_open, fresh, ticket_limit}
+use Rattle.std.specs.Prelude.{◌≢◌}
+use Rattle.spin_step.specs.Plain.{Plain, Change, Ask, gets, apply, is_open, fresh, ticket_limit}
+use Rattle.spin_step.specs.Steps.{Decides}
 use Rattle.spin_step.specs.Parties.{who, apply_some, IsOpenStep, entries_after, no_entries}
-use Rattle.spin_core.specs.Cell.{Use, Way, Ways, Limits, Going, Meets, Allows, AllowsSecond, Moved, Rests, Stands, after, readers_of, writers_of, use_of, off}
-use Rattle.spin_core.specs.Views.{Part, entries_of, Knows, HasPart, IsInOrder, IsLockOf, Encodes, used_by}
+use Rattle.spin_core.specs.Cell.{Use, Way, Ways, Limits, Going, Meets, Allows, AllowsSecond, Moved, Rests, Stands, after, readers_of, writers_of, use_of, off, words}
+use Rattle.spin_core.specs.Views.{Part, idle as nothing, entries_of, Knows, HasPart, IsInOrder, IsLockOf, Encodes}
+use Rattle.spin_core.specs.Plays.{becomes, exchanges}
 use Rattle.spin_core.proofs.Leaving.{NamesNobody, leaves}
 use Rattle.spin_core.proofs.InOrder.{in_order-kept, in_order-fresh, cap-kept}
 use Rattle.spin_core.proofs.Views.{number, part_before, own_part, lock_after}
-use Rattle.spin_core.proofs.CellViews.{came_to, missed}
+use Rattle.spin_core.proofs.CellViews.{came_to}
 
--- a lock over the cell: what each view is to the plain lock, the words, and that no two parties use the value who may not
+-- a lock over the cell: what each view is to the plain lock and how it uses the value, the view of who has nothing, the words, and that no two parties use the value who may not
 pub record Lock (V : Type 0) : Type 1 where
   pub part : V → Part
+  pub uses : V → Use
+  pub idle : V
+  pub is_idle : (part idle ≡ nothing) × (uses idle ≡ off)
   pub way : Way (Unit {0})  -- of a value of any type: here one of the unit type stands for it
   pub goes : (u v : Use) (readers : ℕ) (A : Type 0) → A → Going way u v None readers A
   pub cap : ℕ
   pub first : Plain → ℕ
   pub second : Plain → ℕ
-  pub fits : (vs : List V) (s : Plain) → s.cap ≡ cap → IsInOrder s → IsLockOf part vs s → Limits way (readers_of (used_by part) vs) (writers_of (used_by part) vs)
+  pub fits : (vs : List V) (s : Plain) → s.cap ≡ cap → IsInOrder s → IsLockOf part vs s → Limits way (readers_of uses vs) (writers_of uses vs)
   pub first_names_nobody : NamesNobody first
   pub second_names_nobody : NamesNobody second
 
@@ -34,13 +40,13 @@ pub record Makes (first second : Plain → ℕ) (old new : Part) (s : Plain) (p 
   pub second_is : m ≡ second (apply_some s step)
 
 module _ {V : Type 0} (lock : Lock V) where
-  open lock use {part, way, cap, first, second}
+  open lock use {part, uses, idle, way, cap, first, second}
 
   abbrev pub Holds : ℕ → ℕ → List V → Type 0
   Holds = Encodes part cap first second
 
   abbrev pub ways : Ways (Unit {0}) V
-  ways = (way, used_by part)
+  ways = (way, uses)
 
   -- in each lock in which the party of the view is what that says
   abbrev pub Each : Option V → (Plain → ℕ → Type 0) → Type 0
@@ -56,6 +62,11 @@ module _ {V : Type 0} (lock : Lock V) where
 
   pub by_none : (view : Option V) (w : V) (s : Plain) (p : ℕ) → entries_of p (part_before part view) ≡ entries_of p (part w) → Knows s (part w) → Comes view w s p (first s) (second s)
   by_none view w s p same known = record { step = None; is_open = tt; entries = same; knows = known; first_is = refl; second_is = refl }
+
+  -- a party gets what it asks for, where the step function's own lemma says so
+  pub by_grant : (view : Option V) (w : V) (s : Plain) (p : ℕ) (ask : Ask) (n m : ℕ) → Decides s (gets p ask) first (Some n) → entries_after s (Some (gets p ask)) (entries_of p (part_before part view)) ≡ entries_of p (part w)
+      → Knows (apply s (gets p ask)) (part w) → m ≡ second (apply s (gets p ask)) → Comes view w s p n m
+  by_grant view w s p ask n m granted becomes known same = by_step view w s (gets p ask) n m granted.0 becomes known granted.1 same
 
   -- an exchange is one step where it finds the number that it expected, and else another
   pub by_exchange : (view : Option V) (won lost : V) (s : Plain) (p n m expected new : ℕ) → (n ≡ expected → Comes view won s p new m) → Comes view lost s p n m
@@ -76,14 +87,14 @@ module _ {V : Type 0} (lock : Lock V) where
   abbrev Goes : ℕ → Option V → List V → V → ℕ → ℕ → Type 0
   Goes id view vs w n m = Going way (use_of ways.1 view) (ways.1 w) None (readers_of ways.1 vs) (Meets Holds ways n m (after id view vs w))
 
-  -- the same of a lock whose parties are known, all of them
+  -- the same of a lock whose parties are known, all of them, and of a word that a machine holds
   abbrev pub EachOf : Option V → (Plain → ℕ → Type 0) → Type 0
-  EachOf view P = (s : Plain) (p : ℕ) (vs : List V) → s.cap ≡ cap → IsInOrder s → IsLockOf part vs s → HasPart s p (part_before part view) → P s p
+  EachOf view P = (s : Plain) (p : ℕ) (vs : List V) → s.cap ≡ cap → IsInOrder s → IsLockOf part vs s → HasPart s p (part_before part view) → first s < words → P s p
 
   -- a step on the first word: in each lock the party comes to a view of which this can be said
   pub allows_among : (view : Option V) (f : ℕ → ℕ) (says : ℕ → V → Type 0) → EachOf view (λ s p. (w : V) × Comes view w s p (f (first s)) (second s) × says (first s) w) → Allows Holds ways view f says
   allows_among view f says makes id n m vs meets at small =
-      let s = meets.0.0 in let made = makes s (number part id view vs) vs meets.0.1 meets.0.2 meets.0.3 (own_part part id view vs s at meets.0.3) in let w : V = made.0 in
+      let s = meets.0.0 in let made = makes s (number part id view vs) vs meets.0.1 meets.0.2 meets.0.3 (own_part part id view vs s at meets.0.3) (subst (λ j. j < words) meets.0.4 small) in let w : V = made.0 in
       subst (λ j. (w : V) × Goes id view vs w (f j) m × says j w) (sym meets.0.4)
       (subst (λ j. (w : V) × Goes id view vs w (f (first s)) j × says (first s) w) (sym meets.0.5) (
         w,
@@ -94,7 +105,7 @@ module _ {V : Type 0} (lock : Lock V) where
 
   -- the same of a step that need not know the other parties
   pub allows : (view : Option V) (f : ℕ → ℕ) (says : ℕ → V → Type 0) → Each view (λ s p. (w : V) × Comes view w s p (f (first s)) (second s) × says (first s) w) → Allows Holds ways view f says
-  allows view f says makes = allows_among view f says (λ s p vs room order is has. makes s p room order has)
+  allows view f says makes = allows_among view f says (λ s p vs room order is has small. makes s p room order has)
 
   -- and on the second
   pub allows_second : (view : Option V) (f : ℕ → ℕ) (says : ℕ → V → Type 0) → Each view (λ s p. (w : V) × Comes view w s p (first s) (f (second s)) × says (second s) w) → AllowsSecond Holds ways view f says
@@ -114,12 +125,31 @@ module _ {V : Type 0} (lock : Lock V) where
       let s = fresh cap group ticket in let order = in_order-fresh cap group ticket within in let nobody : IsLockOf part [] s = λ p. (refl, tt) in
       ((s, refl, order, nobody, e, f), lock.fits [] s refl order nobody)
 
+  -- a look by a party that comes
+  pub looks : Allows Holds ways None (λ n. n) (becomes idle 0 0 None)
+  looks = allows None (λ n. n) (becomes idle 0 0 None) (λ s p room order has. (idle, by_none None idle s p (sym (ap (entries_of p) lock.is_idle.0)) (rw lock.is_idle.0 tt), refl))
+
+  -- an exchange is a step where it finds the number of which the step function was asked, and else the party has what it had
+  pub exchanged : (view : Option V) (won : ℕ → V) (lost : V) (old new : ℕ) → ((s : Plain) (p : ℕ) → (entries_of p (part_before part view) ≡ entries_of p (part lost)) × Knows s (part lost))
+      → EachOf view (λ s p. first s ≡ old → Comes view (won old) s p new (second s)) → Allows Holds ways view (λ n. either (n == old) new n) (exchanges won lost old new view)
+  exchanged view won lost old new still comes =
+      allows_among view (λ n. either (n == old) new n) (exchanges won lost old new view) (λ s p vs room order is has small.
+      by_exchange view (won old) lost s p (first s) (second s) old new (comes s p vs room order is has small) (by_none view lost s p (still s p).0 (still s p).1))
+
   -- a party that has nothing may go
-  pub rests : (v : V) → used_by part v ≡ off → ((p : ℕ) → entries_of p (part v) ≡ no_entries) → Rests Holds (used_by part) (Some v)
-  rests v unused nothing = leaves part v cap first second lock.first_names_nobody lock.second_names_nobody unused nothing
+  pub rests : (v : V) → uses v ≡ off → ((p : ℕ) → entries_of p (part v) ≡ no_entries) → Rests Holds uses (Some v)
+  rests v unused has_none = leaves part v uses cap first second lock.first_names_nobody lock.second_names_nobody unused has_none
 
-  pub moved_rests : (view : Option V) (v : V) → Moved (λ w. w ≡ v) view → Rests Holds (used_by part) (Some v) → Rests Holds (used_by part) view
-  moved_rests view v moved may = rw (came_to view v moved) may
+  pub idle_rests : (v : V) → v ≡ idle → Rests Holds uses (Some v)
+  idle_rests v is = rw is (rests idle lock.is_idle.1 (λ p. ap (entries_of p) lock.is_idle.0))
 
-  pub missed_rests : (view : Option V) (won lost : V) (found expected : ℕ) → Moved (λ v. v ≡ (if found == expected then won else lost)) view → (found ≡ expected → ⊥) → Rests Holds (used_by part) (Some lost) → Rests Holds (used_by part) view
-  missed_rests view won lost found expected moved ne may = rw (missed view won lost found expected moved ne) may
+  pub left_rests : (view : Option V) → Moved (λ v. v ≡ idle) view → Rests Holds uses view
+  left_rests view moved = rw (came_to view idle moved) (idle_rests idle refl)
+
+  -- a party that found another number than it expected
+  pub missed_rests : (won v : V) (found expected : ℕ) → found ≢ expected → v ≡ (if found == expected then won else idle) → Rests Holds uses (Some v)
+  missed_rests won v found expected other is = idle_rests v (is ∙ ap (λ b. if b then won else idle) (ne_eqb found expected other))
+
+  pub refused_rests : (won : V) (view : Option V) (found expected : ℕ) → found ≢ expected → Moved (λ v. v ≡ (if found == expected then won else idle)) view → Rests Holds uses view
+  refused_rests won None found expected other moved = absurd moved
+  refused_rests won (Some v) found expected other moved = missed_rests won v found expected other moved

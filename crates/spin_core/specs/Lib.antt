@@ -4,4 +4,4 @@ pub mod Cell
 pub mod CellMemory
 pub mod Writer
 pub mod Settled
-pub mod Bystanders
+pub mod Retries

@@ -12,6 +12,7 @@ use std::marker::{Brand, Model, Move, Owns, PhantomData};
 use std::sync::atomic::Ordering::SeqCst;
 use std::sync::atomic::raw;
 
+mod goes;
 mod lends;
 pub mod settled;
 

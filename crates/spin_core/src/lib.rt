@@ -5,6 +5,3 @@ pub mod cell;
 pub mod relax;
 
 pub use spin_step as step;
-
-#[cfg(test)]
-mod tests;

@@ -1,4 +1,6 @@
 //! What a waiting call does between two looks at a lock's word.
+ghost use Rattle.spin_core.specs.Retries.{Succeeds};
+
 use std::hint::spin_loop;
 use std::marker::PhantomData;
 use std::sync::Wait;
@@ -10,6 +12,28 @@ use std::thread::yield_now;
 pub trait RelaxStrategy {
     /// Passes a little time.
     fn relax<W: Wait>(rt: &W);
+
+    /// Relaxes and tries again, until an attempt succeeds. A failed attempt hands on the state in which the next one
+    /// begins. Nothing is promised about when it returns.
+    ///
+    /// It is for calls whose first attempt has failed, and stands apart: inlined, it would lengthen the path of every
+    /// caller that does not wait.
+    #[cold]
+    #[inline(never)]
+    final fn retry<S, A, F: Fn(S) -> Result<A, S>, W: Wait>(rt: &W, state: S, attempt: F) -> A
+        requires { F.IsAlwaysCallable attempt }
+        ensures { Succeeds (F.post attempt) state result }
+    {
+        let mut state = state;
+        for _ in rt.forever() {
+            Self::relax(rt);
+            match attempt(state) {
+                Ok(answer) => return answer,
+                Err(next) => state = next,
+            }
+        }
+        unreachable!()
+    }
 }
 
 /// Gives the processor's hint for spinning. This is the default of every lock.

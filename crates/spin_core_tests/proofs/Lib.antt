@@ -1,2 +1,3 @@
+pub mod Bystanders
 pub mod Making
 pub mod Sharing

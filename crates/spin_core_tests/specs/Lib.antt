@@ -1,2 +1,3 @@
+pub mod Bystanders
 pub mod Once
 pub mod Pair

@@ -1,5 +1,12 @@
-//! Small locks on the raw cell, one for each way in which parties may read a value beside one another.
+//! Tests of the step functions and of the raw cell; and small locks on the cell, one for each way in which parties may
+//! read a value beside one another.
 #![tactic(auto)]
 
+#[cfg(test)]
+mod cell;
 mod once;
 mod pair;
+#[cfg(test)]
+mod rw;
+#[cfg(test)]
+mod steps;

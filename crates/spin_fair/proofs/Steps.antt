@@ -7,27 +7,24 @@ use Rattle.std.specs.Int.Bits.{or_zero_r}
 use mathlib.Core.Logic.{dite}
 use native.Mathlib.Decide.{ℕ_discrete}
 use prog.Atomic.{either}
-use Rattle.spin_step.specs.Plain.{Plain, writing, holder, is_starver, gets, releases, stops_starving, to_lock_unregistered, to_lock_starving, to_lock_starving_alone, to_starve, fair_word}
+use Rattle.spin_step.specs.Plain.{Plain, Ask, apply, writing, holder, is_starver, gets, releases, stops_starving, to_lock_unregistered, to_lock_starving, to_lock_starving_alone, to_starve, fair_word}
+use Rattle.spin_step.specs.Parties.{entries_after}
 use Rattle.spin_step.specs.Steps.{Decides}
 use Rattle.spin_step.specs.Starvers.{most_starvers, OneHolds}
-use Rattle.spin_core.specs.Cell.{writes, alone, reading, writing as writer, readers_of, writers_of, Ways, Limits, Meets, Allows, Rests, Moved, words}
-use Rattle.spin_core.specs.Views.{HasPart, IsInOrder, IsLockOf, used_by, no_word}
+use Rattle.spin_core.specs.Cell.{writes, alone, reading, writing as writer, readers_of, writers_of, Limits, Meets, Allows, words}
+use Rattle.spin_core.specs.Views.{Knows, HasPart, entries_of, IsInOrder, IsLockOf, used_by, no_word}
 use Rattle.spin_core.specs.Plays.{becomes, becomes_by, exchanges}
 use Rattle.spin_core.proofs.CellCounts.{none}
-use Rattle.spin_core.proofs.CellViews.{came_to, missed}
 use Rattle.spin_step.proofs.Holders.{is_holder-from_entries, is_empty-none, length-without_holder}
-use Rattle.spin_core.proofs.Knowing.{Writes, one_holds, allows_knowing}
-use Rattle.spin_core.proofs.Leaving.{fair_word-up, no_word-up, leaves}
+use Rattle.spin_core.proofs.Knowing.{Writes, one_holds}
+use Rattle.spin_core.proofs.Leaving.{fair_word-up, no_word-up}
 use Rattle.spin_core.proofs.Owners.{OfHolders, one_holder}
-use Rattle.spin_core.proofs.Plays.{Lock, Comes, by_step, by_none, by_exchange, begins}
+use Rattle.spin_core.proofs.Plays.{Lock, ways, EachOf, Comes, allows_among, by_step, by_grant, by_none, exchanged, begins}
 use Rattle.spin_step.proofs.Starvers.{is_starver-from_entries, length-without_starver}
 use Rattle.spin_core.proofs.Views.{part_before, release-own, stop-own, stop_holding-own}
 use Rattle.spin_fair.specs.declared.fair.rule.View.{View}
 use Rattle.spin_fair.specs.declared.fair.rule.View.TheVariants.{Idle, Starving, Holding, HoldingStarving}
-use Rattle.spin_fair.specs.Fair.{part, use_of_view, IsFair, fair_ways, won_if_clear, Stops, Stays}
-
-abbrev ways : Ways (Unit {0}) View
-ways = fair_ways
+use Rattle.spin_fair.specs.Fair.{part, use_of_view, IsFair, won_if_clear, Stops, Stays}
 
 -- it is one holder or none, who holds writes, nobody reads, and who uses the value holds
 facts : (v : View) → OfHolders part v × Writes part (part v) × (reading (use_of_view v) ≡ 0) × (writer (use_of_view v) ≤ writer (used_by part v))
@@ -36,54 +33,65 @@ facts Starving = ((refl, λ p. refl), λ p. refl, refl, omega arith)
 facts Holding = ((refl, λ p. refl), λ p. refl, refl, omega arith)
 facts HoldingStarving = ((refl, λ p. refl), λ p. refl, refl, omega arith)
 
-abbrev fair : Lock View
-fair = record { part = part; way = alone; goes = λ u v readers A a. a; cap = most_starvers; first = fair_word; second = no_word; fits = one_holder part (λ v. (facts v).0) most_starvers; first_names_nobody = fair_word-up; second_names_nobody = no_word-up }
-
-fits : (vs : List View) (s : Plain) → s.cap ≡ most_starvers → IsInOrder s → IsLockOf part vs s → Limits {X = Unit {0}} alone (readers_of use_of_view vs) (writers_of use_of_view vs)
+pub fits : (vs : List View) (s : Plain) → s.cap ≡ most_starvers → IsInOrder s → IsLockOf part vs s → Limits {X = Unit {0}} alone (readers_of use_of_view vs) (writers_of use_of_view vs)
 fits vs s room order is = omega (arith, one_holder part (λ v. (facts v).0) most_starvers vs s room order is, none (λ v. reading (use_of_view v)) (λ v. (facts v).2) vs, sum_by-le-sum_by (λ v. writer (use_of_view v)) (λ v. writer (used_by part v)) vs (λ v. (facts v).3))
+
+abbrev pub fair : Lock View
+fair = record {
+  part = part;
+  uses = use_of_view;
+  idle = Idle;
+  is_idle = (refl, refl);
+  way = alone;
+  goes = λ u v readers A a. a;
+  cap = most_starvers;
+  first = fair_word;
+  second = no_word;
+  fits = fits;
+  first_names_nobody = fair_word-up;
+  second_names_nobody = no_word-up;
+}
 
 abbrev Each : Option View → (Plain → ℕ → Type 0) → Type 0
 Each view P = (s : Plain) (p : ℕ) → s.cap ≡ most_starvers → IsInOrder s → OneHolds s → HasPart s p (part_before part view) → fair_word s < words → P s p
 
-allows : (view : Option View) (f : ℕ → ℕ) (says : ℕ → View → Type 0) → Each view (λ s p. (w : View) × Comes fair view w s p (f (fair_word s)) 0 × says (fair_word s) w) → Allows IsFair ways view f says
-allows view f says makes = allows_knowing part use_of_view most_starvers fair_word no_word fits view f says (λ s p vs room order is has small. makes s p room order (one_holds part (λ v. (facts v).1) vs s order is) has small)
+of_each : (view : Option View) (P : Plain → ℕ → Type 0) → Each view P → EachOf fair view P
+of_each view P each s p vs room order is has small = each s p room order (one_holds part (λ v. (facts v).1) vs s order is) has small
 
-pub starts : Meets IsFair ways 0 0 []
+allows : (view : Option View) (f : ℕ → ℕ) (says : ℕ → View → Type 0) → Each view (λ s p. (w : View) × Comes fair view w s p (f (fair_word s)) 0 × says (fair_word s) w) → Allows IsFair (ways fair) view f says
+allows view f says makes = allows_among fair view f says (of_each view (λ s p. (w : View) × Comes fair view w s p (f (fair_word s)) 0 × says (fair_word s) w) makes)
+
+-- what a party gets by an exchange where it finds the word of which the step function was asked
+gets_at : (view : Option View) (ask : Ask) (won lost : View) (old new : ℕ) → ((s : Plain) (p : ℕ) → entries_after s (Some (gets p ask)) (entries_of p (part_before part view)) ≡ entries_of p (part won)) → ((s : Plain) → Knows s (part won))
+    → ((s : Plain) (p : ℕ) → (entries_of p (part_before part view) ≡ entries_of p (part lost)) × Knows s (part lost)) → Each view (λ s p. fair_word s ≡ old → Decides s (gets p ask) fair_word (Some new))
+    → Allows IsFair (ways fair) view (λ n. either (n == old) new n) (exchanges (λ _. won) lost old new view)
+gets_at view ask won lost old new comes knows still plain = exchanged fair view (λ _. won) lost old new still (of_each view (λ s p. fair_word s ≡ old → Comes fair view won s p new 0)
+    (λ s p room order one has small e. by_grant fair view won s p ask new 0 (plain s p room order one has small e) (comes s p) (knows (apply s (gets p ask))) refl))
+
+pub starts : Meets IsFair (ways fair) 0 0 []
 starts = let m = begins fair 0 0 0 0 (omega arith) refl refl in (m.0, omega arith)
 
 -- What a newcomer does
 
-pub looks : Allows IsFair ways None (λ n. n) (Stays 0 0 None)
-looks = allows None (λ n. n) (Stays 0 0 None) (λ s p room order one has small. (Idle, by_none fair None Idle s p refl tt, refl))
-
 pub attempts : (free taken : ℕ) → ((s : Plain) (p : ℕ) → fair_word s ≡ free → Decides s (gets p to_lock_unregistered) fair_word (Some taken))
-    → Allows IsFair ways None (λ n. either (n == free) taken n) (exchanges (λ _. Holding) Idle free taken None)
-attempts free taken plain = allows None (λ n. either (n == free) taken n) (exchanges (λ _. Holding) Idle free taken None)
-    (λ s p room order one has small. by_exchange fair None Holding Idle s p (fair_word s) 0 free taken
-    (λ e. let granted = plain s p e in by_step fair None Holding s (gets p to_lock_unregistered) taken 0 granted.0 refl tt granted.1 refl)
-    (by_none fair None Idle s p refl tt))
+    → Allows IsFair (ways fair) None (λ n. either (n == free) taken n) (exchanges (λ _. Holding) Idle free taken None)
+attempts free taken plain = gets_at None to_lock_unregistered Holding Idle free taken (λ s p. refl) (λ s. tt) (λ s p. (refl, tt)) (λ s p room order one has small e. plain s p e)
 
 pub registers : (word more : ℕ) → ((s : Plain) (p : ℕ) → OneHolds s → s.cap ≡ most_starvers → fair_word s ≡ word → Decides s (gets p to_starve) fair_word (Some more))
-    → Allows IsFair ways None (λ n. either (n == word) more n) (exchanges (λ _. Starving) Idle word more None)
-registers word more plain = allows None (λ n. either (n == word) more n) (exchanges (λ _. Starving) Idle word more None)
-    (λ s p room order one has small. by_exchange fair None Starving Idle s p (fair_word s) 0 word more
-    (λ e. let granted = plain s p one room e in by_step fair None Starving s (gets p to_starve) more 0 granted.0 refl tt granted.1 refl)
-    (by_none fair None Idle s p refl tt))
+    → Allows IsFair (ways fair) None (λ n. either (n == word) more n) (exchanges (λ _. Starving) Idle word more None)
+registers word more plain = gets_at None to_starve Starving Idle word more (λ s p. refl) (λ s. tt) (λ s p. (refl, tt)) (λ s p room order one has small e. plain s p one room e)
 
 -- What a starver does
 
 starves_in : (s : Plain) (p : ℕ) → HasPart s p (part_before part (Some Starving)) → is_starver p s.starvers ≡ true
 starves_in s p has = is_starver-from_entries p s.starvers (ap (λ e. e.starvers) has.0)
 
-pub looks_starving : Allows IsFair ways (Some Starving) (λ n. n) (Stays 0 0 (Some Starving))
+pub looks_starving : Allows IsFair (ways fair) (Some Starving) (λ n. n) (Stays 0 0 (Some Starving))
 looks_starving = allows (Some Starving) (λ n. n) (Stays 0 0 (Some Starving)) (λ s p room order one has small. (Starving, by_none fair (Some Starving) Starving s p refl tt, refl))
 
 pub attempts_alone : (word taken : ℕ) → ((s : Plain) (p : ℕ) → OneHolds s → is_starver p s.starvers ≡ true → fair_word s ≡ word → Decides s (gets p to_lock_starving_alone) fair_word (Some taken))
-    → Allows IsFair ways (Some Starving) (λ n. either (n == word) taken n) (exchanges (λ _. HoldingStarving) Starving word taken (Some Starving))
-attempts_alone word taken plain = allows (Some Starving) (λ n. either (n == word) taken n) (exchanges (λ _. HoldingStarving) Starving word taken (Some Starving))
-    (λ s p room order one has small. by_exchange fair (Some Starving) HoldingStarving Starving s p (fair_word s) 0 word taken
-    (λ e. let granted = plain s p one (starves_in s p has) e in by_step fair (Some Starving) HoldingStarving s (gets p to_lock_starving_alone) taken 0 granted.0 refl tt granted.1 refl)
-    (by_none fair (Some Starving) Starving s p refl tt))
+    → Allows IsFair (ways fair) (Some Starving) (λ n. either (n == word) taken n) (exchanges (λ _. HoldingStarving) Starving word taken (Some Starving))
+attempts_alone word taken plain = gets_at (Some Starving) to_lock_starving_alone HoldingStarving Starving word taken (λ s p. refl) (λ s. tt) (λ s p. (refl, tt)) (λ s p room order one has small e. plain s p one (starves_in s p has) e)
 
 set_clear : (n : ℕ) → n % 2 ≡ 0 → bit_or n 1 ≡ n + 1
 set_clear n even = ap (λ m. bit_or m 1) (let e : n ≡ n / 2 * 2 = omega arith in e) ∙ (or_shifted (n / 2) 1 1 (omega arith) ∙ (let e : n / 2 * 2 + 1 ≡ n + 1 = omega arith in e))
@@ -93,7 +101,7 @@ set_set n odd =
     let split : n ≡ n / 2 * 2 + 1 = omega (arith, odd) in
     ap (λ m. bit_or m 1) split ∙ (or_block 1 (n / 2) 0 1 1 (omega arith) (omega arith) ∙ (ap (λ m. m * 2 + 1) (or_zero_r (n / 2)) ∙ sym split))
 
-pub sets_flag : Allows IsFair ways (Some Starving) (λ n. bit_or n 1) (becomes_by won_if_clear 1 0 (Some Starving))
+pub sets_flag : Allows IsFair (ways fair) (Some Starving) (λ n. bit_or n 1) (becomes_by won_if_clear 1 0 (Some Starving))
 sets_flag = allows (Some Starving) (λ n. bit_or n 1) (becomes_by won_if_clear 1 0 (Some Starving)) (λ s p room order one has small.
     let n : ℕ = fair_word s in
     dite (ℕ_discrete (n % 2) 0)
@@ -111,7 +119,7 @@ sets_flag = allows (Some Starving) (λ n. bit_or n 1) (becomes_by won_if_clear 1
 less : (n : ℕ) → 2 ≤ n → n < words → (n + (2 ^ 64 - 2)) % 2 ^ 64 ≡ n - 2
 less n least small = omega (arith, least, small)
 
-pub stops : Allows IsFair ways (Some Starving) (λ n. (n + (2 ^ 64 - 2)) % 2 ^ 64) (Stops 2 0 (Some Starving))
+pub stops : Allows IsFair (ways fair) (Some Starving) (λ n. (n + (2 ^ 64 - 2)) % 2 ^ 64) (Stops 2 0 (Some Starving))
 stops = allows (Some Starving) (λ n. (n + (2 ^ 64 - 2)) % 2 ^ 64) (Stops 2 0 (Some Starving)) (λ s p room order one has small.
     let found = starves_in s p has in let fewer = length-without_starver p s.starvers found in (
       Idle,
@@ -119,7 +127,7 @@ stops = allows (Some Starving) (λ n. (n + (2 ^ 64 - 2)) % 2 ^ 64) (Stops 2 0 (S
       refl,
     ))
 
-pub holds_only : Allows IsFair ways (Some HoldingStarving) (λ n. (n + (2 ^ 64 - 2)) % 2 ^ 64) (Stops 2 0 (Some HoldingStarving))
+pub holds_only : Allows IsFair (ways fair) (Some HoldingStarving) (λ n. (n + (2 ^ 64 - 2)) % 2 ^ 64) (Stops 2 0 (Some HoldingStarving))
 holds_only = allows (Some HoldingStarving) (λ n. (n + (2 ^ 64 - 2)) % 2 ^ 64) (Stops 2 0 (Some HoldingStarving)) (λ s p room order one has small.
     let found = is_starver-from_entries p s.starvers (ap (λ e. e.starvers) has.0) in let fewer = length-without_starver p s.starvers found in (
       Holding,
@@ -132,7 +140,7 @@ holds_only = allows (Some HoldingStarving) (λ n. (n + (2 ^ 64 - 2)) % 2 ^ 64) (
 clear : (n : ℕ) → n % 2 ≡ 1 → n < words → bit_and n 18446744073709551614 ≡ n - 1
 clear n odd small = let kept = and_high_numeral n 18446744073709551613 refl small in omega (arith, kept, odd)
 
-pub unlocks : Allows IsFair ways (Some Holding) (λ n. bit_and n 18446744073709551614) (becomes Idle 18446744073709551614 0 (Some Holding))
+pub unlocks : Allows IsFair (ways fair) (Some Holding) (λ n. bit_and n 18446744073709551614) (becomes Idle 18446744073709551614 0 (Some Holding))
 unlocks = allows (Some Holding) (λ n. bit_and n 18446744073709551614) (becomes Idle 18446744073709551614 0 (Some Holding)) (λ s p room order one has small.
     let found = is_holder-from_entries p writing s.holders (ap (λ e. e.holders) has.0) in let fewer = length-without_holder p writing s.holders found in (
       Idle,
@@ -145,15 +153,3 @@ holding_of Idle e = absurd cc
 holding_of Starving e = absurd cc
 holding_of Holding e = refl
 holding_of HoldingStarving e = absurd cc
-
--- Who may go
-
-idle_rests : Rests IsFair use_of_view (Some Idle)
-idle_rests = (refl, (leaves part Idle most_starvers fair_word no_word fair_word-up no_word-up refl (λ p. refl)).1)
-
-pub left_rests : (view : Option View) → Moved (λ v. v ≡ Idle) view → Rests IsFair use_of_view view
-left_rests view moved = rw (came_to view Idle moved) idle_rests
-
--- a party that found another word than it expected
-pub refused_rests : (won : View) (view : Option View) (expected found : ℕ) → Moved (λ v. v ≡ (if found == expected then won else Idle)) view → (found ≡ expected → ⊥) → Rests IsFair use_of_view view
-refused_rests won view expected found moved ne = rw (missed view won Idle found expected moved ne) idle_rests

@@ -2,7 +2,7 @@
 use Rattle.std.specs.Prelude.{◌≡◌, ℕ, List, Option, Some, None, if◌then◌else◌, ◌%◌, ◌==◌}
 use Rattle.spin_step.specs.Plain.{writing, fair_word}
 use Rattle.spin_step.specs.Starvers.{most_starvers}
-use Rattle.spin_core.specs.Cell.{Use, off, writes, alone, Ways}
+use Rattle.spin_core.specs.Cell.{Use, off, writes}
 use Rattle.spin_core.specs.Views.{Part, idle, holds, starves, holds_starving, Encodes, no_word}
 use Rattle.spin_fair.specs.declared.fair.rule.View.{View}
 use Rattle.spin_fair.specs.declared.fair.rule.View.TheVariants.{Idle, Starving, Holding, HoldingStarving}
@@ -20,9 +20,6 @@ use_of_view _ = off
 
 abbrev pub IsFair : ℕ → ℕ → List View → Type 0
 IsFair = Encodes part most_starvers fair_word no_word
-
-abbrev pub fair_ways : {X : Type 0} → Ways X View
-fair_ways = (alone, use_of_view)
 
 -- what a starver is once it has tried to set the flag of this word
 abbrev pub won_if_clear : ℕ → View

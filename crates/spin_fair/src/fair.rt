@@ -26,7 +26,7 @@ pub const STARVATION_SPINS: usize = 1024;
 ///
 /// Among starvers, and among newcomers where nobody starves, there is no order.
 ///
-/// Example: `six_threads_lose_no_addition`, `crates/spin_fair/src/fair/tests.rt`.
+/// Example: `six_threads_lose_no_addition`, `crates/spin_mutex_tests/src/threads.rt`.
 #[derive(Drop)]
 pub struct FairMutex<T, R = Spin> {
     cell: Cell<T, View, FairRule>,
@@ -42,7 +42,7 @@ pub type Held<'a, T, R = Spin> = guard::Held<'a, T, View, FairRule, R>;
 impl<T, R> FairMutex<T, R> {
     /// An open lock, for which nobody starves.
     ///
-    /// Example: `a_starver_comes_before_newcomers`, `crates/spin_fair/src/fair/tests.rt`.
+    /// Example: `a_starver_comes_before_newcomers`, `crates/spin_mutex_tests/src/fair.rt`.
     pub fn new(value: T) -> Self {
         let cell = Cell::new(value, 0, 0, &());
         FairMutex {
@@ -56,44 +56,42 @@ impl<T, R: RelaxStrategy> FairMutex<T, R> {
     /// Takes the lock, and relaxes while somebody holds it. Once it has looked in vain for a while it starves, and so
     /// comes before newcomers. Nothing is promised about when it returns.
     ///
-    /// Example: `the_owner_has_the_last_value`, `crates/spin_fair/src/fair/tests.rt`.
+    /// Example: `a_held_lock_opens_by_force`, `crates/spin_mutex_tests/src/calls.rt`.
     pub fn lock<W: Wait>(&self, rt: &W) -> FairMutexGuard<'_, T, R>
         ensures { IsHolder use_of_view result }
     {
         match self.try_lock() {
             Some(guard) => guard,
-            None => self.wait(rt),
+            None => R::retry(rt, 0, |spins| self.look_and_try(rt, spins)),
         }
     }
 
-    // Looks before each further attempt, so that waiters read a shared line and do not write it. It stands apart: inlined,
-    // it would lengthen the path of every caller that does not wait.
-    #[cold]
-    #[inline(never)]
-    fn wait<W: Wait>(&self, rt: &W) -> FairMutexGuard<'_, T, R>
-        ensures { IsHolder use_of_view result }
+    // Looks first, so that waiters read a shared line and do not write it. `spins` counts the looks that found the lock
+    // held: once they are too many it starves.
+    fn look_and_try<'a, W: Wait>(
+        &'a self,
+        rt: &W,
+        spins: usize,
+    ) -> Result<FairMutexGuard<'a, T, R>, usize>
+        ensures { IfOk result (IsHolder use_of_view) }
     {
-        let mut spins = 0;
-        for _ in rt.forever() {
-            if self.is_locked() {
-                R::relax(rt);
-                if spins <= STARVATION_SPINS {
-                    spins += 1;
-                } else if let Some(starvation) = self.starve(rt) {
-                    return starvation.lock(rt);
-                }
-            } else if let Some(guard) = self.try_lock() {
-                return guard;
-            }
+        if !self.is_locked() {
+            return self.try_lock().ok_or(spins);
         }
-        unreachable!()
+        if spins <= STARVATION_SPINS {
+            return Err(spins + 1);
+        }
+        match self.starve(rt) {
+            Some(starvation) => Ok(starvation.lock(rt)),
+            None => Err(spins),
+        }
     }
 }
 
 impl<T, R> FairMutex<T, R> {
     /// Takes the lock, or refuses where somebody holds it or starves. It makes one exchange.
     ///
-    /// Example: `a_held_lock_opens_by_force`, `crates/spin_fair/src/fair/tests.rt`.
+    /// Example: `a_lock_is_taken_once`, `crates/spin_mutex_tests/src/calls.rt`.
     pub fn try_lock<'a>(&'a self) -> Option<FairMutexGuard<'a, T, R>>
         ensures { IfSome result (IsHolder use_of_view) }
     {
@@ -106,35 +104,26 @@ impl<T, R> FairMutex<T, R> {
     {
         let free = 0;
         let taken = fair::lock(free).unwrap();
-        let (found, permit) = self
-            .cell
-            .enter()
-            .exchange::<Attempt>(free as u64, taken as u64);
-        if found == 0 {
-            Ok(Guard::new(permit.into_writer()))
-        } else {
-            permit.leave();
-            Err(fair::reject(found as usize))
+        let party = self.cell.enter();
+        match party.attempt::<Attempt>(free as u64, taken as u64) {
+            Ok(permit) => Ok(Guard::new(permit.into_writer())),
+            Err(found) => Err(fair::reject(found as usize)),
         }
     }
 
     /// Registers the caller as a starver, or refuses at the cap of starvers. It tries again where another party changed
     /// the word, and promises nothing about when it returns.
     ///
-    /// Example: `a_starver_comes_before_newcomers`, `crates/spin_fair/src/fair/tests.rt`.
+    /// Example: `a_starver_comes_before_newcomers`, `crates/spin_mutex_tests/src/fair.rt`.
     pub fn starve<W: Wait>(&self, rt: &W) -> Option<Starvation<'_, T, R>> {
         let mut word = self.word();
         for _ in rt.forever() {
             let registered = fair::starve(word, fair::MAX_STARVERS)?;
-            let (found, permit) = self
-                .cell
-                .enter()
-                .exchange::<Register>(word as u64, registered as u64);
-            if found == word as u64 {
-                return Some(Starvation::new(permit));
+            let party = self.cell.enter();
+            match party.attempt::<Register>(word as u64, registered as u64) {
+                Ok(permit) => return Some(Starvation::new(permit)),
+                Err(found) => word = found as usize,
             }
-            permit.leave();
-            word = found as usize;
         }
         unreachable!()
     }
@@ -151,23 +140,20 @@ impl<T, R> FairMutex<T, R> {
 
     /// The last value, whatever the word is.
     ///
-    /// Example: `the_owner_has_the_last_value`, `crates/spin_fair/src/fair/tests.rt`.
+    /// Example: `the_owner_has_the_last_value_and_takes_no_lock`, `crates/spin_mutex_tests/src/calls.rt`.
     pub fn into_inner(self) -> T {
-        let Self { cell, strategy: _ } = self;
-        cell.into_inner()
+        self.cell.into_inner()
     }
 
     /// The value, whatever the word is: nobody else has the lock.
     ///
-    /// Example: `the_owner_has_the_last_value`, `crates/spin_fair/src/fair/tests.rt`.
+    /// Example: `the_owner_has_the_last_value_and_takes_no_lock`, `crates/spin_mutex_tests/src/calls.rt`.
     pub fn get_mut(&mut self) -> &mut T {
         self.cell.get_mut()
     }
 
     fn word(&self) -> usize {
-        let (found, permit) = self.cell.enter().load::<Look>();
-        permit.leave();
-        found as usize
+        self.cell.enter().look::<Look>() as usize
     }
 }
 
@@ -184,6 +170,3 @@ impl<T, R> From<T> for FairMutex<T, R> {
         Self::new(value)
     }
 }
-
-#[cfg(test)]
-mod tests;

@@ -1,63 +1,56 @@
 -- The steps of a lock of one flag keep its rule: each is the plain step that its step function makes.
-use Rattle.std.proofs.Common.{◌≡◌, ℕ, [], ◌==◌, Option, Some, None, refl, ap, arith}
+use Rattle.std.proofs.Common.{◌≡◌, ℕ, [], ◌==◌, Some, None, refl, ap, arith}
 use prog.Atomic.{either}
 use Rattle.spin_step.specs.Plain.{Plain, Kind, writing, gets, releases, to_write, flag_word}
 use Rattle.spin_step.specs.Steps.{Decides, Gives}
-use Rattle.spin_core.specs.Cell.{Ways, alone, writes, Meets, Allows, Rests, Moved}
+use Rattle.spin_core.specs.Cell.{alone, writes, Meets, Allows}
 use Rattle.spin_core.specs.Views.{no_word}
 use Rattle.spin_core.specs.Plays.{becomes, exchanges}
 use Rattle.spin_step.proofs.Exclusive.{writes_alone}
 use Rattle.spin_step.proofs.Holders.{is_holder-from_entries}
 use Rattle.spin_core.proofs.Leaving.{flag_word-up, no_word-up}
 use Rattle.spin_core.proofs.Owners.{OfHolders, one_holder}
-use Rattle.spin_core.proofs.Plays.{Lock, allows, by_step, by_none, by_exchange, begins, rests, moved_rests, missed_rests}
+use Rattle.spin_core.proofs.Plays.{Lock, ways, allows, by_step, by_grant, exchanged, begins}
 use Rattle.spin_core.proofs.Views.{release-own}
 use Rattle.spin_flag.specs.declared.spin.rule.View.{View}
 use Rattle.spin_flag.specs.declared.spin.rule.View.TheVariants.{Idle, Holding}
-use Rattle.spin_flag.specs.Flag.{part, IsFlag, use_of_view, flag_ways}
-
--- of a value of any type: here one of the unit type stands for it
-abbrev ways : Ways (Unit {0}) View
-ways = flag_ways
+use Rattle.spin_flag.specs.Flag.{part, IsFlag, use_of_view}
 
 pub kind : (v : View) → OfHolders part v
 kind Idle = (refl, λ p. refl)
 kind Holding = (refl, λ p. refl)
 
 abbrev pub flag : Lock View
-flag = record { part = part; way = alone; goes = λ u v readers A a. a; cap = 0; first = flag_word; second = no_word; fits = one_holder part kind 0; first_names_nobody = flag_word-up; second_names_nobody = no_word-up }
+flag = record {
+  part = part;
+  uses = use_of_view;
+  idle = Idle;
+  is_idle = (refl, refl);
+  way = alone;
+  goes = λ u v readers A a. a;
+  cap = 0;
+  first = flag_word;
+  second = no_word;
+  fits = one_holder part kind 0;
+  first_names_nobody = flag_word-up;
+  second_names_nobody = no_word-up;
+}
 
-pub starts : Meets IsFlag ways 0 0 []
+pub starts : Meets IsFlag (ways flag) 0 0 []
 starts = begins flag 0 0 0 0 (omega arith) refl refl
-
-pub looks : Allows IsFlag ways None (λ n. n) (becomes Idle 0 0 None)
-looks = allows flag None (λ n. n) (becomes Idle 0 0 None) (λ s p room order has. (Idle, by_none flag None Idle s p refl tt, refl))
 
 -- the step function's own lemma says that the flag is free where it grants
 pub attempts : (free taken : ℕ) → ((s : Plain) (p : ℕ) → flag_word s ≡ free → Decides s (gets p to_write) flag_word (Some taken))
-    → Allows IsFlag ways None (λ n. either (n == free) taken n) (exchanges (λ _. Holding) Idle free taken None)
+    → Allows IsFlag (ways flag) None (λ n. either (n == free) taken n) (exchanges (λ _. Holding) Idle free taken None)
 attempts free taken plain =
-    allows flag None (λ n. either (n == free) taken n) (exchanges (λ _. Holding) Idle free taken None)
-    (λ s p room order has. by_exchange flag None Holding Idle s p (flag_word s) 0 free taken
-    (λ e. let granted = plain s p e in by_step flag None Holding s (gets p to_write) taken 0 granted.0 refl tt granted.1 refl)
-    (by_none flag None Idle s p refl tt))
+    exchanged flag None (λ _. Holding) Idle free taken (λ s p. (refl, tt)) (λ s p vs room order is has small e. by_grant flag None Holding s p to_write taken 0 (plain s p e) refl tt refl)
 
 pub releases_flag : (freed : ℕ) → ((s : Plain) (p : ℕ) (k : Kind) → flag_word s ≡ 1 → Gives s (releases p k) flag_word freed)
-    → Allows IsFlag ways (Some Holding) (λ _. freed) (λ _. becomes Idle 0 freed (Some Holding) 0)
+    → Allows IsFlag (ways flag) (Some Holding) (λ _. freed) (λ _. becomes Idle 0 freed (Some Holding) 0)
 releases_flag freed plain =
     allows flag (Some Holding) (λ _. freed) (λ _. becomes Idle 0 freed (Some Holding) 0) (λ s p room order has.
     let holds = is_holder-from_entries p writing s.holders (ap (λ e. e.holders) has.0) in
     (Idle, by_step flag (Some Holding) Idle s (releases p writing) freed 0 holds (release-own s p writing) tt (plain s p writing (writes_alone s p order.exclusive holds) holds) refl, refl))
-
-idle_rests : Rests IsFlag use_of_view (Some Idle)
-idle_rests = rests flag Idle refl (λ p. refl)
-
-pub left_rests : (view : Option View) → Moved (λ v. v ≡ Idle) view → Rests IsFlag use_of_view view
-left_rests view moved = moved_rests flag view Idle moved idle_rests
-
--- a party that was refused
-pub refused_rests : (view : Option View) (free taken found : ℕ) → Moved (exchanges (λ _. Holding) Idle free taken None found) view → (found ≡ free → ⊥) → Rests IsFlag use_of_view view
-refused_rests view free taken found moved ne = missed_rests flag view Holding Idle found free moved ne idle_rests
 
 pub holding_of : (v : View) → use_of_view v ≡ writes → v ≡ Holding
 holding_of Idle e = absurd cc

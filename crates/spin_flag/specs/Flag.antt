@@ -1,7 +1,7 @@
 -- The rule of a lock of one flag: its word is that of a plain lock whose holders are the parties that hold.
 use Rattle.std.specs.Prelude.{ℕ, List}
 use Rattle.spin_step.specs.Plain.{writing, flag_word}
-use Rattle.spin_core.specs.Cell.{Use, alone, Ways}
+use Rattle.spin_core.specs.Cell.{Use}
 use Rattle.spin_core.specs.Views.{Part, idle, holds, Encodes, used_by, no_word}
 use Rattle.spin_flag.specs.declared.spin.rule.View.{View}
 use Rattle.spin_flag.specs.declared.spin.rule.View.TheVariants.{Idle, Holding}
@@ -15,6 +15,3 @@ IsFlag = Encodes part 0 flag_word no_word
 
 abbrev pub use_of_view : View → Use
 use_of_view = used_by part
-
-abbrev pub flag_ways : {X : Type 0} → Ways X View
-flag_ways = (alone, use_of_view)

@@ -1,17 +1,21 @@
 //! A spinning mutex of one flag.
-ghost use Rattle.std.specs.Prelude.{IfSome};
+ghost use Rattle.std.specs.Prelude.{Option, IfSome};
+ghost use Rattle.std.specs.Fmt.{DisplaysOnOk};
 ghost use Rattle.spin_guard.specs.Guard.{IsHolder};
+ghost use Rattle.spin_guard.specs.Texts.{lock_text};
 ghost use Rattle.spin_flag.specs.Flag.{use_of_view};
 
 use self::rule::{Attempt, Look, is_set, word};
 use spin_core::cell::Cell;
 use spin_core::relax::{RelaxStrategy, Spin, Strategy};
 use spin_guard::guard::{self, Guard};
+use spin_guard::texts::write_lock;
 use spin_step::flag;
+use std::fmt;
+use std::fmt::{Debug, Formatter};
 use std::sync::Wait;
 
 mod rule;
-mod texts;
 
 pub use self::rule::{FlagRule, View};
 
@@ -51,25 +55,19 @@ impl<T, R: RelaxStrategy> SpinMutex<T, R> {
     {
         match self.try_lock_weak() {
             Some(guard) => guard,
-            None => self.wait(rt),
+            None => R::retry(rt, (), |()| self.look_and_try().ok_or(())),
         }
     }
 
-    // Looks before each further attempt, so that waiters read a shared line and do not write it. It stands apart: inlined,
-    // it would lengthen the path of every caller that does not wait.
-    #[cold]
-    #[inline(never)]
-    fn wait<W: Wait>(&self, rt: &W) -> SpinMutexGuard<'_, T, R>
-        ensures { IsHolder use_of_view result }
+    // Looks first, so that waiters read a shared line and do not write it.
+    fn look_and_try<'a>(&'a self) -> Option<SpinMutexGuard<'a, T, R>>
+        ensures { IfSome result (IsHolder use_of_view) }
     {
-        for _ in rt.forever() {
-            if self.is_locked() {
-                R::relax(rt);
-            } else if let Some(guard) = self.try_lock_weak() {
-                return guard;
-            }
+        if self.is_locked() {
+            None
+        } else {
+            self.try_lock_weak()
         }
-        unreachable!()
     }
 }
 
@@ -82,14 +80,8 @@ impl<T, R> SpinMutex<T, R> {
     {
         let free = false;
         let taken = flag::lock(free)?;
-        let (found, permit) = self
-            .cell
-            .enter()
-            .exchange::<Attempt>(word(free), word(taken));
-        if is_set(found) {
-            permit.leave();
-            return None;
-        }
+        let party = self.cell.enter();
+        let permit = party.attempt::<Attempt>(word(free), word(taken)).ok()?;
         Some(Guard::new(permit.into_writer()))
     }
 
@@ -102,9 +94,7 @@ impl<T, R> SpinMutex<T, R> {
 
     /// Whether somebody holds the lock at the moment of its one load.
     pub fn is_locked(&self) -> bool {
-        let (found, permit) = self.cell.enter().load::<Look>();
-        permit.leave();
-        is_set(found)
+        is_set(self.cell.enter().look::<Look>())
     }
 
     /// Lets go of the lock that a guard was held on.
@@ -116,8 +106,7 @@ impl<T, R> SpinMutex<T, R> {
     ///
     /// Example: `the_owner_has_the_last_value_and_takes_no_lock`, `crates/spin_mutex_tests/src/calls.rt`.
     pub fn into_inner(self) -> T {
-        let Self { cell, strategy: _ } = self;
-        cell.into_inner()
+        self.cell.into_inner()
     }
 
     /// The value, whatever the flag is: nobody else has the lock.
@@ -125,6 +114,15 @@ impl<T, R> SpinMutex<T, R> {
     /// Example: `the_owner_has_the_last_value_and_takes_no_lock`, `crates/spin_mutex_tests/src/calls.rt`.
     pub fn get_mut(&mut self) -> &mut T {
         self.cell.get_mut()
+    }
+}
+
+/// One attempt to take the lock, which it then holds while it writes. Where that is refused it writes `<locked>`.
+impl<T: Debug, R> Debug for SpinMutex<T, R> {
+    fn fmt<W: fmt::Write>(&self, f: &mut Formatter<W>) -> fmt::Result
+        ensures { (found : Option T) × DisplaysOnOk W.write_str_gives f.old result (lock_text T.debug_output found) f.new }
+    {
+        write_lock(self.try_lock().as_ref().map(|guard| &**guard), f)
     }
 }
 

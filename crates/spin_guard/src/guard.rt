@@ -2,8 +2,9 @@
 //! go of it, and names both by an alias.
 ghost use Rattle.std.specs.Prelude.{◌≡◌, Option, Some};
 ghost use Rattle.spin_core.specs.Cell.{Use, writes, use_of};
+ghost use Rattle.spin_core.specs.Plays.{becomes};
 
-use spin_core::cell::{Permit, Rule, WritePermit};
+use spin_core::cell::{Permit, Play, Rule, WritePermit};
 use std::marker::PhantomData;
 
 mod lends;
@@ -13,6 +14,18 @@ mod texts;
 pub trait Uses<V> {
     // Of a party with this view, or with none yet.
     ghost use_at: { Option V → Use };
+
+    // The view of a party that has nothing of the lock.
+    ghost idle: { V };
+}
+
+/// The step by which a party lets go of what it has of a lock with the rule `P`.
+pub struct LetsGo<P> {
+    rule: PhantomData<P>,
+}
+
+impl<V, P: Uses<V>> Play<V> for LetsGo<P> {
+    ghost then = { becomes P.idle };
 }
 
 /// What lets go of a lock.

@@ -2,3 +2,4 @@
 #![tactic(auto)]
 
 pub mod mutex;
+pub mod testing;

@@ -48,9 +48,12 @@ impl<T, R> Mutex<T, R> {
     ///
     /// Example: `a_lock_is_taken_once`, `crates/spin_mutex_tests/src/calls.rt`.
     pub fn new(value: T) -> Self {
-        Mutex {
-            inner: TicketMutex::new(value),
-        }
+        Self::over(TicketMutex::new(value))
+    }
+
+    // Over a lock that is there.
+    pub(crate) fn over(inner: TicketMutex<T, R>) -> Self {
+        Mutex { inner }
     }
 
     /// The last value, whether the lock is taken or not.
@@ -154,6 +157,3 @@ unsafe impl<T: Sync, R> Sync for MutexGuard<'_, T, R> {}
 unsafe impl<T: Send, R> Send for Held<'_, T, R> {}
 
 unsafe impl<T: Send, R> Sync for Held<'_, T, R> {}
-
-#[cfg(test)]
-mod tests;

@@ -1,7 +1,8 @@
 //! Which call is granted, and what frees a lock: the mutexes have the same calls, under the same names.
 use spin_core::relax::Loop;
 use spin_mutex::mutex::{
-    Mutex, MutexGuard, SpinMutex, SpinMutexGuard, TicketMutex, TicketMutexGuard,
+    FairMutex, FairMutexGuard, Mutex, MutexGuard, SpinMutex, SpinMutexGuard, TicketMutex,
+    TicketMutexGuard,
 };
 
 macro_rules! is_taken_once {
@@ -23,6 +24,7 @@ macro_rules! is_taken_once {
 fn a_lock_is_taken_once(rt: HostRuntime) {
     is_taken_once!(rt, SpinMutex);
     is_taken_once!(rt, TicketMutex);
+    is_taken_once!(rt, FairMutex);
     is_taken_once!(rt, Mutex);
 }
 
@@ -41,6 +43,7 @@ macro_rules! is_made_of_a_value {
 fn a_lock_is_made_of_a_value(rt: HostRuntime) {
     is_made_of_a_value!(rt, SpinMutex);
     is_made_of_a_value!(rt, TicketMutex);
+    is_made_of_a_value!(rt, FairMutex);
     is_made_of_a_value!(rt, Mutex);
 }
 
@@ -62,6 +65,7 @@ macro_rules! is_left_open_by_its_owner {
 fn the_owner_has_the_last_value_and_takes_no_lock(rt: HostRuntime) {
     is_left_open_by_its_owner!(rt, SpinMutex);
     is_left_open_by_its_owner!(rt, TicketMutex);
+    is_left_open_by_its_owner!(rt, FairMutex);
     is_left_open_by_its_owner!(rt, Mutex);
 }
 
@@ -81,6 +85,7 @@ macro_rules! opens_by_force {
 fn a_held_lock_opens_by_force(rt: HostRuntime) {
     opens_by_force!(rt, SpinMutex, SpinMutexGuard);
     opens_by_force!(rt, TicketMutex, TicketMutexGuard);
+    opens_by_force!(rt, FairMutex, FairMutexGuard);
     opens_by_force!(rt, Mutex, MutexGuard);
 }
 
@@ -100,6 +105,7 @@ macro_rules! stays_taken_without_its_hold {
 fn a_dropped_hold_frees_nothing(rt: HostRuntime) {
     stays_taken_without_its_hold!(rt, SpinMutex, SpinMutexGuard);
     stays_taken_without_its_hold!(rt, TicketMutex, TicketMutexGuard);
+    stays_taken_without_its_hold!(rt, FairMutex, FairMutexGuard);
     stays_taken_without_its_hold!(rt, Mutex, MutexGuard);
 }
 
@@ -118,6 +124,7 @@ macro_rules! stays_taken_by_a_leak {
 fn a_leaked_value_stays_writable(rt: HostRuntime) {
     stays_taken_by_a_leak!(rt, SpinMutex, SpinMutexGuard);
     stays_taken_by_a_leak!(rt, TicketMutex, TicketMutexGuard);
+    stays_taken_by_a_leak!(rt, FairMutex, FairMutexGuard);
     stays_taken_by_a_leak!(rt, Mutex, MutexGuard);
 }
 

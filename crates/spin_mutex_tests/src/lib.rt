@@ -4,10 +4,14 @@
 #[cfg(test)]
 mod calls;
 #[cfg(test)]
+mod fair;
+#[cfg(test)]
 mod sends;
 #[cfg(test)]
 mod texts;
 #[cfg(test)]
 mod threads;
+#[cfg(test)]
+mod ticket;
 #[cfg(test)]
 mod values;

@@ -3,7 +3,8 @@
 use spin_core::relax::Spin;
 use spin_mutex::mutex;
 use spin_mutex::mutex::{
-    Mutex, MutexGuard, SpinMutex, SpinMutexGuard, TicketMutex, TicketMutexGuard,
+    FairMutex, FairMutexGuard, Mutex, MutexGuard, SpinMutex, SpinMutexGuard, Starvation,
+    TicketMutex, TicketMutexGuard,
 };
 use std::cell::Cell;
 
@@ -24,12 +25,16 @@ macro_rules! travels {
 fn travel<T: Send + 'static, R: 'static>() {
     travels!(SpinMutex<T, R>, SpinMutexGuard<'static, T, R>, mutex::spin::Held<'static, T, R>);
     travels!(TicketMutex<T, R>, TicketMutexGuard<'static, T, R>, mutex::ticket::Held<'static, T, R>);
+    travels!(FairMutex<T, R>, FairMutexGuard<'static, T, R>, mutex::fair::Held<'static, T, R>);
+    is_send::<Starvation<'static, T, R>>();
+    is_sync::<Starvation<'static, T, R>>();
     travels!(Mutex<T, R>, MutexGuard<'static, T, R>, mutex::Held<'static, T, R>);
 }
 
 fn are_shared<T: Sync + 'static, R: 'static>() {
     is_sync::<SpinMutexGuard<'static, T, R>>();
     is_sync::<TicketMutexGuard<'static, T, R>>();
+    is_sync::<FairMutexGuard<'static, T, R>>();
     is_sync::<MutexGuard<'static, T, R>>();
 }
 

@@ -1,5 +1,5 @@
 //! The texts as they are printed, with options too, and that a lock is left as it was.
-use spin_mutex::mutex::{Mutex, SpinMutex, TicketMutex};
+use spin_mutex::mutex::{FairMutex, Mutex, SpinMutex, TicketMutex};
 use std::fmt;
 use std::fmt::{Debug, Display, Write};
 use std::process::Abort;
@@ -61,6 +61,21 @@ fn a_held_lock_shows_that_it_is_held(rt: HostRuntime) -> Result<(), Fail> {
     assert!(rt; mutex.is_locked());
     drop(guard);
     assert!(rt; !mutex.is_locked());
+    Ok(())
+}
+
+#[test]
+fn a_fair_lock_shows_its_value_or_that_it_is_not_to_be_had(rt: HostRuntime) -> Result<(), Fail> {
+    let lock: FairMutex<u64> = FairMutex::new(5);
+    debug_is(&rt, &lock, "FairMutex { data: 5 }")?;
+    assert!(rt; !lock.is_locked());
+    let guard = lock.lock(&rt);
+    debug_is(&rt, &lock, "FairMutex { data: <locked> }")?;
+    debug_is(&rt, &guard, "5")?;
+    drop(guard);
+    let starvation = lock.starve(&rt).expect(&rt, "below the cap");
+    debug_is(&rt, &lock, "FairMutex { data: <locked> }")?;
+    drop(starvation);
     Ok(())
 }
 

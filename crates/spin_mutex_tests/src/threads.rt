@@ -1,6 +1,6 @@
 //! Threads take turns, and a guard may end in another thread than the one that took it.
 use spin_core::relax::{RelaxStrategy, Yield};
-use spin_mutex::mutex::{Mutex, SpinMutex, TicketMutex};
+use spin_mutex::mutex::{FairMutex, Mutex, SpinMutex, TicketMutex};
 use std::sync::Wait;
 use std::thread;
 use std::thread::Threads;
@@ -29,6 +29,13 @@ impl Sum for SpinMutex<u64, Patient> {
 }
 
 impl Sum for TicketMutex<u64, Patient> {
+    fn add<R: Wait>(&self, rt: &R) {
+        let mut sum = self.lock(rt);
+        *sum = sum.wrapping_add(1);
+    }
+}
+
+impl Sum for FairMutex<u64, Patient> {
     fn add<R: Wait>(&self, rt: &R) {
         let mut sum = self.lock(rt);
         *sum = sum.wrapping_add(1);
@@ -79,6 +86,9 @@ fn six_threads_lose_no_addition(rt: HostRuntime) {
     let lock = TicketMutex::new(0);
     add_in_six(&rt, &lock);
     assert_eq!(rt; lock.into_inner(), 6000);
+    let lock = FairMutex::new(0);
+    add_in_six(&rt, &lock);
+    assert_eq!(rt; lock.into_inner(), 6000);
     let lock = Mutex::new(0);
     add_in_six(&rt, &lock);
     assert_eq!(rt; lock.into_inner(), 6000);
@@ -100,5 +110,6 @@ macro_rules! lets_its_guard_travel {
 fn a_guard_may_end_in_another_thread(rt: HostRuntime) {
     lets_its_guard_travel!(rt, SpinMutex);
     lets_its_guard_travel!(rt, TicketMutex);
+    lets_its_guard_travel!(rt, FairMutex);
     lets_its_guard_travel!(rt, Mutex);
 }

@@ -4,7 +4,8 @@ ghost use Rattle.spin_guard.specs.Guard.{guard_value};
 ghost use Rattle.spin_mutex.specs.MutexGuard.{value_of};
 
 use spin_mutex::mutex::{
-    Mutex, MutexGuard, SpinMutex, SpinMutexGuard, TicketMutex, TicketMutexGuard,
+    FairMutex, FairMutexGuard, Mutex, MutexGuard, SpinMutex, SpinMutexGuard, TicketMutex,
+    TicketMutexGuard,
 };
 use std::cell::Cell;
 
@@ -92,5 +93,6 @@ macro_rules! ends_once {
 fn a_value_ends_once(rt: HostRuntime) {
     ends_once!(rt, SpinMutex, SpinMutexGuard);
     ends_once!(rt, TicketMutex, TicketMutexGuard);
+    ends_once!(rt, FairMutex, FairMutexGuard);
     ends_once!(rt, Mutex, MutexGuard);
 }

@@ -1,40 +1,40 @@
 -- The steps of a read-write lock keep its rule: each is the plain step that its step function makes.
-use Rattle.std.proofs.Common.{◌≡◌, ℕ, ◌+◌, ◌-◌, ◌%◌, ◌^◌, ◌<◌, ◌≤◌, true, if◌then◌else◌, List, [], length, ◌==◌, Option, Some, None, refl, sym, ap, ◌∙◌, arith, eq-eqb}
+use Rattle.std.proofs.Common.{◌≡◌, ℕ, ◌+◌, ◌-◌, ◌%◌, ◌^◌, ◌<◌, ◌≤◌, true, List, [], length, ◌==◌, Option, Some, None, refl, sym, ap, ◌∙◌, arith, eq-eqb}
 use prog.Atomic.{either}
 use Rattle.spin_step.specs.Plain.{count_kind, Plain, Kind, reading, upgradable, writing, Holder, is_holder, is_downgrade, with_kind, Ask, apply, gets, releases, turns, to_read, to_read_upgradable, to_write, to_upgrade, rw_word}
 use Rattle.spin_step.specs.Parties.{entries_after}
 use Rattle.spin_step.specs.Steps.{Decides}
 use Rattle.spin_step.specs.Readers.{reader_limit, OneOfEach}
-use Rattle.spin_core.specs.Cell.{Ways, lends, writes, Meets, Allows, Rests, Moved}
+use Rattle.spin_core.specs.Cell.{lends, writes, Meets, Allows, Rests, Moved}
 use Rattle.spin_core.specs.Views.{Knows, holds, entries_of, IsInOrder, HasPart, no_word}
 use Rattle.spin_core.specs.Plays.{becomes, exchanges}
 use Rattle.spin_step.proofs.Exclusive.{length-with_kind}
 use Rattle.spin_step.proofs.Holders.{is_holder-from_entries}
 use Rattle.spin_core.proofs.Leaving.{NamesNobody, count-up, no_word-up}
 use Rattle.spin_core.proofs.Owners.{OfReaders, readers_or_writer}
-use Rattle.spin_core.proofs.Plays.{Lock, allows, by_step, by_none, by_exchange, begins, rests, moved_rests, missed_rests}
+use Rattle.spin_core.proofs.Plays.{Lock, ways, allows, by_step, by_grant, by_none, exchanged, begins, left_rests}
 use Rattle.spin_step.proofs.ReaderSteps.{one_of_each}
 use Rattle.spin_step.proofs.Readers.{worth, word_of, word-less, word-turned, kinds-all}
 use Rattle.spin_core.proofs.Views.{part_before, release-own, turn-own}
 use Rattle.spin_rwlock.specs.declared.rwlock.rule.View.{View}
 use Rattle.spin_rwlock.specs.declared.rwlock.rule.View.TheVariants.{Idle, Reading, Upgradable, Writing}
-use Rattle.spin_rwlock.specs.Rw.{part, IsRw, IsRwWord, looks, use_of_view, rw_ways}
+use Rattle.spin_rwlock.specs.Rw.{part, IsRw, IsRwWord, looks, use_of_view}
 
-abbrev ways : Ways (Unit {0}) View
-ways = rw_ways
-
-kind : (v : View) → OfReaders part v
+pub kind : (v : View) → OfReaders part v
 kind Idle = (λ p. refl, λ p. refl)
 kind Reading = (λ p. refl, λ p. refl)
 kind Upgradable = (λ p. refl, λ p. refl)
 kind Writing = (λ p. refl, λ p. refl)
 
-rw_word-up : NamesNobody rw_word
+pub rw_word-up : NamesNobody rw_word
 rw_word-up k s = omega (arith, count-up k reading s.holders, count-up k upgradable s.holders, count-up k writing s.holders)
 
-abbrev rw-lock : Lock View
+abbrev pub rw-lock : Lock View
 rw-lock = record {
   part = part;
+  uses = use_of_view;
+  idle = Idle;
+  is_idle = (refl, refl);
   way = lends;
   goes = λ u v readers A a. a;
   cap = reader_limit;
@@ -45,21 +45,19 @@ rw-lock = record {
   second_names_nobody = no_word-up;
 }
 
-pub starts : Meets IsRw ways 0 0 []
+pub starts : Meets IsRw (ways rw-lock) 0 0 []
 starts = begins rw-lock 0 0 0 0 (omega arith) refl refl
 
-pub looks_on : Allows IsRw ways None (λ n. n) (looks 0 0 None)
+pub looks_on : Allows IsRw (ways rw-lock) None (λ n. n) (looks 0 0 None)
 looks_on = allows rw-lock None (λ n. n) (looks 0 0 None) (λ s p room order has. (Idle, by_none rw-lock None Idle s p refl tt, (refl, (s, room, order, refl))))
 
 -- what a party gets at the word of which the step function was asked
 gets_at : (view : Option View) (ask : Ask) (won lost : View) (old new : ℕ) → ((s : Plain) (p : ℕ) → entries_after s (Some (gets p ask)) (entries_of p (part_before part view)) ≡ entries_of p (part won)) → ((s : Plain) → Knows s (part won))
     → ((p : ℕ) → entries_of p (part_before part view) ≡ entries_of p (part lost)) → ((s : Plain) → Knows s (part lost))
     → ((s : Plain) (p : ℕ) → s.cap ≡ reader_limit → IsInOrder s → HasPart s p (part_before part view) → rw_word s ≡ old → Decides s (gets p ask) rw_word (Some new))
-    → Allows IsRw ways view (λ n. either (n == old) new n) (exchanges (λ _. won) lost old new view)
-gets_at view ask won lost old new comes knows same knows_still plain = allows rw-lock view (λ n. either (n == old) new n) (exchanges (λ _. won) lost old new view)
-    (λ s p room order has. by_exchange rw-lock view won lost s p (rw_word s) 0 old new
-    (λ e. let granted = plain s p room order has e in by_step rw-lock view won s (gets p ask) new 0 granted.0 (comes s p) (knows (apply s (gets p ask))) granted.1 refl)
-    (by_none rw-lock view lost s p (same p) (knows_still s)))
+    → Allows IsRw (ways rw-lock) view (λ n. either (n == old) new n) (exchanges (λ _. won) lost old new view)
+gets_at view ask won lost old new comes knows same knows_still plain = exchanged rw-lock view (λ _. won) lost old new (λ s p. (same p, knows_still s))
+    (λ s p vs room order is has small e. by_grant rw-lock view won s p ask new 0 (plain s p room order has e) (comes s p) (knows (apply s (gets p ask))) refl)
 
 pub fits_cap : (s : Plain) → s.cap ≡ reader_limit → IsInOrder s → length s.holders ≤ reader_limit
 fits_cap s room order = omega (arith, order.holders_fit, room)
@@ -70,18 +68,18 @@ readers_fit word count (s, room, order, e) plain = omega (arith, plain s (one_of
 
 -- What a newcomer does
 
-pub comes_to_read : (old new : ℕ) → ((s : Plain) (p : ℕ) → OneOfEach s → s.cap ≡ reader_limit → rw_word s ≡ old → Decides s (gets p to_read) rw_word (Some new)) → Allows IsRw ways None (λ n. either (n == old) new n) (exchanges (λ _. Reading) Idle old new None)
+pub comes_to_read : (old new : ℕ) → ((s : Plain) (p : ℕ) → OneOfEach s → s.cap ≡ reader_limit → rw_word s ≡ old → Decides s (gets p to_read) rw_word (Some new)) → Allows IsRw (ways rw-lock) None (λ n. either (n == old) new n) (exchanges (λ _. Reading) Idle old new None)
 comes_to_read old new plain = gets_at None to_read Reading Idle old new (λ s p. refl) (λ s. tt) (λ p. refl) (λ s. tt) (λ s p room order has e. plain s p (one_of_each s order.exclusive) room e)
 
-pub comes_to_upgrade : (old new : ℕ) → ((s : Plain) (p : ℕ) → OneOfEach s → s.cap ≡ reader_limit → rw_word s ≡ old → Decides s (gets p to_read_upgradable) rw_word (Some new)) → Allows IsRw ways None (λ n. either (n == old) new n) (exchanges (λ _. Upgradable) Idle old new None)
+pub comes_to_upgrade : (old new : ℕ) → ((s : Plain) (p : ℕ) → OneOfEach s → s.cap ≡ reader_limit → rw_word s ≡ old → Decides s (gets p to_read_upgradable) rw_word (Some new)) → Allows IsRw (ways rw-lock) None (λ n. either (n == old) new n) (exchanges (λ _. Upgradable) Idle old new None)
 comes_to_upgrade old new plain = gets_at None to_read_upgradable Upgradable Idle old new (λ s p. refl) (λ s. tt) (λ p. refl) (λ s. tt) (λ s p room order has e. plain s p (one_of_each s order.exclusive) room e)
 
-pub comes_to_write : (old new : ℕ) → ((s : Plain) (p : ℕ) → rw_word s ≡ old → Decides s (gets p to_write) rw_word (Some new)) → Allows IsRw ways None (λ n. either (n == old) new n) (exchanges (λ _. Writing) Idle old new None)
+pub comes_to_write : (old new : ℕ) → ((s : Plain) (p : ℕ) → rw_word s ≡ old → Decides s (gets p to_write) rw_word (Some new)) → Allows IsRw (ways rw-lock) None (λ n. either (n == old) new n) (exchanges (λ _. Writing) Idle old new None)
 comes_to_write old new plain = gets_at None to_write Writing Idle old new (λ s p. refl) (λ s. tt) (λ p. refl) (λ s. tt) (λ s p room order has e. plain s p e)
 
 -- What the upgradable reader does
 
-pub upgrades : (old new : ℕ) → ((s : Plain) (p : ℕ) → OneOfEach s → is_holder p upgradable s.holders ≡ true → rw_word s ≡ old → Decides s (gets p to_upgrade) rw_word (Some new)) → Allows IsRw ways (Some Upgradable) (λ n. either (n == old) new n) (exchanges (λ _. Writing) Upgradable old new (Some Upgradable))
+pub upgrades : (old new : ℕ) → ((s : Plain) (p : ℕ) → OneOfEach s → is_holder p upgradable s.holders ≡ true → rw_word s ≡ old → Decides s (gets p to_upgrade) rw_word (Some new)) → Allows IsRw (ways rw-lock) (Some Upgradable) (λ n. either (n == old) new n) (exchanges (λ _. Writing) Upgradable old new (Some Upgradable))
 upgrades old new plain = gets_at (Some Upgradable) to_upgrade Writing Upgradable old new (λ s p. rw (eq-eqb p p refl) refl) (λ s. tt) (λ p. refl) (λ s. tt)
     (λ s p room order has e. plain s p (one_of_each s order.exclusive) (is_holder-from_entries p upgradable s.holders (ap (λ e. e.holders) has.0)) e)
 
@@ -92,7 +90,7 @@ bounded : (hs : List Holder) → length hs ≤ reader_limit → word_of hs < 2 ^
 bounded hs within = omega (arith, kinds-all hs, within)
 
 turns_by : (v w : View) (k l : Kind) (by : ℕ) → ((p : ℕ) → entries_of p (part v) ≡ entries_of p (holds k)) → ((p : ℕ) → entries_of p (part w) ≡ entries_of p (holds l)) → ((s : Plain) → Knows s (part w)) → is_downgrade k l ≡ true → worth k + by ≡ worth l
-    → Allows IsRw ways (Some v) (λ n. (n + by) % 2 ^ 64) (becomes w by 0 (Some v))
+    → Allows IsRw (ways rw-lock) (Some v) (λ n. (n + by) % 2 ^ 64) (becomes w by 0 (Some v))
 turns_by v w k l by was now knows down less = allows rw-lock (Some v) (λ n. (n + by) % 2 ^ 64) (becomes w by 0 (Some v)) (λ s p room order has.
     let stands = is_holder-from_entries p k s.holders (ap (λ e. e.holders) (has.0 ∙ was p)) in
     let small = bounded (with_kind p k l s.holders) (omega (arith, length-with_kind p k l s.holders, fits_cap s room order)) in (
@@ -102,16 +100,16 @@ turns_by v w k l by was now knows down less = allows rw-lock (Some v) (λ n. (n 
       refl,
     ))
 
-pub writer_reads : Allows IsRw ways (Some Writing) (λ n. (n + 3) % 2 ^ 64) (becomes Reading 3 0 (Some Writing))
+pub writer_reads : Allows IsRw (ways rw-lock) (Some Writing) (λ n. (n + 3) % 2 ^ 64) (becomes Reading 3 0 (Some Writing))
 writer_reads = turns_by Writing Reading writing reading 3 (λ p. refl) (λ p. refl) (λ s. tt) refl refl
 
-pub writer_reads_upgradable : Allows IsRw ways (Some Writing) (λ n. (n + 1) % 2 ^ 64) (becomes Upgradable 1 0 (Some Writing))
+pub writer_reads_upgradable : Allows IsRw (ways rw-lock) (Some Writing) (λ n. (n + 1) % 2 ^ 64) (becomes Upgradable 1 0 (Some Writing))
 writer_reads_upgradable = turns_by Writing Upgradable writing upgradable 1 (λ p. refl) (λ p. refl) (λ s. tt) refl refl
 
-pub upgradable_reads : Allows IsRw ways (Some Upgradable) (λ n. (n + 2) % 2 ^ 64) (becomes Reading 2 0 (Some Upgradable))
+pub upgradable_reads : Allows IsRw (ways rw-lock) (Some Upgradable) (λ n. (n + 2) % 2 ^ 64) (becomes Reading 2 0 (Some Upgradable))
 upgradable_reads = turns_by Upgradable Reading upgradable reading 2 (λ p. refl) (λ p. refl) (λ s. tt) refl refl
 
-goes : (v : View) (k : Kind) (by : ℕ) → ((p : ℕ) → entries_of p (part v) ≡ entries_of p (holds k)) → by ≡ worth k → Allows IsRw ways (Some v) (λ n. (n + (2 ^ 64 - by)) % 2 ^ 64) (becomes Idle by 0 (Some v))
+goes : (v : View) (k : Kind) (by : ℕ) → ((p : ℕ) → entries_of p (part v) ≡ entries_of p (holds k)) → by ≡ worth k → Allows IsRw (ways rw-lock) (Some v) (λ n. (n + (2 ^ 64 - by)) % 2 ^ 64) (becomes Idle by 0 (Some v))
 goes v k by was less = allows rw-lock (Some v) (λ n. (n + (2 ^ 64 - by)) % 2 ^ 64) (becomes Idle by 0 (Some v)) (λ s p room order has.
     let stands = is_holder-from_entries p k s.holders (ap (λ e. e.holders) (has.0 ∙ was p)) in
     let small = bounded s.holders (fits_cap s room order) in (
@@ -121,30 +119,20 @@ goes v k by was less = allows rw-lock (Some v) (λ n. (n + (2 ^ 64 - by)) % 2 ^ 
       refl,
     ))
 
-pub reader_goes : Allows IsRw ways (Some Reading) (λ n. (n + (2 ^ 64 - 4)) % 2 ^ 64) (becomes Idle 4 0 (Some Reading))
+pub reader_goes : Allows IsRw (ways rw-lock) (Some Reading) (λ n. (n + (2 ^ 64 - 4)) % 2 ^ 64) (becomes Idle 4 0 (Some Reading))
 reader_goes = goes Reading reading 4 (λ p. refl) refl
 
-pub upgradable_goes : Allows IsRw ways (Some Upgradable) (λ n. (n + (2 ^ 64 - 2)) % 2 ^ 64) (becomes Idle 2 0 (Some Upgradable))
+pub upgradable_goes : Allows IsRw (ways rw-lock) (Some Upgradable) (λ n. (n + (2 ^ 64 - 2)) % 2 ^ 64) (becomes Idle 2 0 (Some Upgradable))
 upgradable_goes = goes Upgradable upgradable 2 (λ p. refl) refl
 
-pub writer_goes : Allows IsRw ways (Some Writing) (λ n. (n + (2 ^ 64 - 1)) % 2 ^ 64) (becomes Idle 1 0 (Some Writing))
+pub writer_goes : Allows IsRw (ways rw-lock) (Some Writing) (λ n. (n + (2 ^ 64 - 1)) % 2 ^ 64) (becomes Idle 1 0 (Some Writing))
 writer_goes = goes Writing writing 1 (λ p. refl) refl
 
 -- Who may go
 
-idle_rests : Rests IsRw use_of_view (Some Idle)
-idle_rests = rests rw-lock Idle refl (λ p. refl)
-
-pub left_rests : (view : Option View) → Moved (λ v. v ≡ Idle) view → Rests IsRw use_of_view view
-left_rests view moved = moved_rests rw-lock view Idle moved idle_rests
-
 pub looked : (view : Option View) (found : ℕ) → Moved (λ v. (v ≡ Idle) × IsRwWord found) view → Rests IsRw use_of_view view × IsRwWord found
 looked None found moved = absurd moved
-looked (Some v) found moved = (left_rests (Some v) moved.0, moved.1)
-
--- a party that found another word than it expected
-pub refused_rests : (won : View) (view : Option View) (expected found : ℕ) → Moved (λ v. v ≡ (if found == expected then won else Idle)) view → (found ≡ expected → ⊥) → Rests IsRw use_of_view view
-refused_rests won view expected found moved ne = missed_rests rw-lock view won Idle found expected moved ne idle_rests
+looked (Some v) found moved = (left_rests rw-lock (Some v) moved.0, moved.1)
 
 pub writing_of : (v : View) → use_of_view v ≡ writes → v ≡ Writing
 writing_of Idle e = absurd cc

@@ -5,7 +5,7 @@ ghost use Rattle.spin_rwlock.specs.Rw.{IsRwWord};
 
 use self::rule::{Kind, RwRule, View};
 use spin_core::cell::{Cell, Rule};
-use spin_core::relax::{RelaxStrategy, Spin};
+use spin_core::relax::{Loop, RelaxStrategy, Spin};
 use spin_step::rw;
 use std::marker::PhantomData;
 use std::sync::Wait;
@@ -132,29 +132,23 @@ impl<T, R> RwLock<T, R> {
     }
 
     // Tries from this word on, while other parties change the word that was looked at.
-    #[cold]
-    #[inline(never)]
     fn try_to_lend<K: Kind, W: Wait>(
         &self,
         rt: &W,
         found: usize,
     ) -> Option<SharedGuard<'_, T, K, R>> {
-        let mut word = found;
-        for _ in rt.forever() {
-            match self.lend_at(word) {
-                Ok(guard) => return Some(guard),
-                Err(found) => word = found?,
-            }
-        }
-        unreachable!()
+        Loop::retry(rt, found, |word| match self.lend_at(word) {
+            Ok(guard) => Ok(Some(guard)),
+            Err(Some(found)) => Err(found),
+            Err(None) => Ok(None),
+        })
     }
 }
 
 impl<T, R, P: Rule<T, View>> RwLock<T, R, P> {
     /// The last value, whatever the word is.
     pub fn into_inner(self) -> T {
-        let Self { cell, strategy: _ } = self;
-        cell.into_inner()
+        self.cell.into_inner()
     }
 }
 
@@ -184,11 +178,12 @@ impl<T, R: RelaxStrategy> RwLock<T, R> {
     pub fn write<W: Wait>(&self, rt: &W) -> RwLockWriteGuard<'_, T, R> {
         match self.try_write_weak() {
             Some(guard) => guard,
-            None => self.wait_to_write(rt),
+            None => R::retry(rt, (), |()| self.try_write_weak().ok_or(())),
         }
     }
 
-    // The waiting paths stand apart: inlined, they would lengthen the path of every caller that does not wait.
+    // It stands apart: inlined, it would lengthen the path of every caller that does not wait. It relaxes by what it found,
+    // which `retry` does not.
     #[cold]
     #[inline(never)]
     fn wait_to_lend<K: Kind, W: Wait>(
@@ -213,18 +208,6 @@ impl<T, R: RelaxStrategy> RwLock<T, R> {
             match self.lend_from(word) {
                 Ok(guard) => return guard,
                 Err(next) => found = next,
-            }
-        }
-        unreachable!()
-    }
-
-    #[cold]
-    #[inline(never)]
-    fn wait_to_write<W: Wait>(&self, rt: &W) -> RwLockWriteGuard<'_, T, R> {
-        for _ in rt.forever() {
-            R::relax(rt);
-            if let Some(guard) = self.try_write_weak() {
-                return guard;
             }
         }
         unreachable!()

@@ -8,6 +8,4 @@ pub mod fair;
 pub mod flag;
 pub mod once;
 pub mod rw;
-#[cfg(test)]
-mod tests;
 pub mod ticket;

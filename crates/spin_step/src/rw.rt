@@ -126,6 +126,3 @@ pub fn writers(word: usize) -> usize
 {
     word % 2
 }
-
-#[cfg(test)]
-mod tests;

@@ -5,21 +5,17 @@ use prog.Atomic.{either}
 use Rattle.spin_step.specs.Plain.{Plain, ticket_limit, gets, serves, to_take_ticket, to_take_and_enter, to_enter, is_open, next_word, serving_word}
 use Rattle.spin_step.specs.Steps.{Decides, Gives}
 use Rattle.spin_step.specs.Tickets.{IsTurn}
-use Rattle.spin_core.specs.Cell.{Ways, alone, writes, Meets, Allows, AllowsSecond, Rests, Moved}
+use Rattle.spin_core.specs.Cell.{alone, writes, Meets, Allows, AllowsSecond, Rests, Moved}
 use Rattle.spin_core.specs.Views.{entries_of, queues}
-use Rattle.spin_core.specs.Plays.{becomes, exchanges}
+use Rattle.spin_core.specs.Plays.{becomes}
 use Rattle.spin_core.proofs.CellViews.{came_to}
 use Rattle.spin_core.proofs.Leaving.{next_word-up, serving_word-up}
 use Rattle.spin_core.proofs.Owners.{OfTickets, one_ticket}
-use Rattle.spin_core.proofs.Plays.{Lock, Comes, allows, allows_second, by_step, by_none, by_exchange, begins, rests, moved_rests, missed_rests}
+use Rattle.spin_core.proofs.Plays.{Lock, ways, Comes, allows, allows_second, by_step, by_grant, by_none, exchanged, begins, rests}
 use Rattle.spin_step.proofs.Tickets.{serving-taken, serving-entered, entered_is_served, first-length}
 use Rattle.spin_ticket.specs.declared.ticket.rule.View.{View}
 use Rattle.spin_ticket.specs.declared.ticket.rule.View.TheVariants.{Idle, Saw, Waiting, Entered}
-use Rattle.spin_ticket.specs.Queue.{part, IsQueue, use_of_view, ticket_ways, Looks, Sees}
-
--- of a value of any type: here one of the unit type stands for it
-abbrev ways : Ways (Unit {0}) View
-ways = ticket_ways
+use Rattle.spin_ticket.specs.Queue.{part, IsQueue, use_of_view, Looks, Sees, Takes}
 
 pub kind : (v : View) → OfTickets part v
 kind Idle = (refl, λ p. refl)
@@ -28,50 +24,49 @@ kind (Waiting n) = (refl, λ p. refl)
 kind (Entered n) = (refl, λ p. refl)
 
 abbrev pub queue : Lock View
-queue = record { part = part; way = alone; goes = λ u v readers A a. a; cap = 0; first = next_word; second = serving_word; fits = one_ticket part kind 0; first_names_nobody = next_word-up; second_names_nobody = serving_word-up }
+queue = record {
+  part = part;
+  uses = use_of_view;
+  idle = Idle;
+  is_idle = (refl, refl);
+  way = alone;
+  goes = λ u v readers A a. a;
+  cap = 0;
+  first = next_word;
+  second = serving_word;
+  fits = one_ticket part kind 0;
+  first_names_nobody = next_word-up;
+  second_names_nobody = serving_word-up;
+}
 
-pub starts : (first : ℕ) → first < 18446744073709551616 → Meets IsQueue ways first first []
-starts first small = begins queue 0 first first first (omega arith) refl (omega arith)
+pub starts : (first : ℕ) → first ≤ ticket_limit → Meets IsQueue (ways queue) first first []
+starts first small = begins queue 0 first first first (omega (arith, small)) refl (omega arith)
 
-pub looks : Allows IsQueue ways None (λ n. n) (Looks 0 0 None)
-looks = allows queue None (λ n. n) (Looks 0 0 None) (λ s p room order has. (Idle, by_none queue None Idle s p refl tt, refl))
-
-pub looks_at_served : AllowsSecond IsQueue ways None (λ n. n) (Sees 0 0 None)
+pub looks_at_served : AllowsSecond IsQueue (ways queue) None (λ n. n) (Sees 0 0 None)
 looks_at_served = allows_second queue None (λ n. n) (Sees 0 0 None) (λ s p room order has. (Saw (serving_word s), by_none queue None (Saw (serving_word s)) s p refl (omega arith), refl))
 
 -- the number that is served only grows, and is at most the next
-pub compares : (n : ℕ) → Allows IsQueue ways (Some (Saw n)) (λ m. m) (Looks 0 0 (Some (Saw n)))
+pub compares : (n : ℕ) → Allows IsQueue (ways queue) (Some (Saw n)) (λ m. m) (Looks 0 0 (Some (Saw n)))
 compares n = allows queue (Some (Saw n)) (λ m. m) (Looks 0 0 (Some (Saw n))) (λ s p room order has. (Idle, by_none queue (Some (Saw n)) Idle s p refl tt, (omega (arith, has.1, order.numbered.0), refl)))
 
-pub compared : (view new : Option View) (n found : ℕ) → view ≡ Some (Saw n) → Moved (Looks 0 0 view found) new → (n ≤ found) × (new ≡ Some Idle)
-compared view None n found is moved = absurd moved
-compared view (Some v) n found is moved = let m = rw is at moved in (m.0, ap Some m.1)
-
 pub takes : (next taken : ℕ) → ((s : Plain) (p : ℕ) → next_word s ≡ next → Decides s (gets p to_take_ticket) next_word (Some taken))
-    → Allows IsQueue ways None (λ n. either (n == next) taken n) (exchanges Waiting Idle next taken None)
-takes next taken plain =
-    allows queue None (λ n. either (n == next) taken n) (exchanges Waiting Idle next taken None) (λ s p room order has.
-    by_exchange queue None (Waiting next) Idle s p s.next (serving_word s) next taken
-    (λ e. let granted = plain s p e in
-    by_step queue None (Waiting next) s (gets p to_take_ticket) taken (serving_word s) granted.0 (ap (λ n. entries_of p (queues n false)) e) tt granted.1 (sym (serving-taken s p false order.numbered)))
-    (by_none queue None Idle s p refl tt))
+    → Allows IsQueue (ways queue) None (λ n. either (n == next) taken n) (Takes next taken None)
+takes next taken plain = exchanged queue None Waiting Idle next taken (λ s p. (refl, tt)) (λ s p vs room order is has small e.
+    by_grant queue None (Waiting next) s p to_take_ticket taken (serving_word s) (plain s p e) (ap (λ n. entries_of p (queues n false)) e) tt (sym (serving-taken s p false order.numbered)))
 
 -- who saw the next number served finds nobody in the queue
 pub attempts : (next taken : ℕ) → ((s : Plain) (p : ℕ) → length s.tickets ≤ next_word s → next_word s ≡ next → serving_word s ≡ next → Decides s (gets p to_take_and_enter) next_word (Some taken))
-    → Allows IsQueue ways (Some (Saw next)) (λ n. either (n == next) taken n) (exchanges Entered Idle next taken (Some (Saw next)))
-attempts next taken plain =
-    allows queue (Some (Saw next)) (λ n. either (n == next) taken n) (exchanges Entered Idle next taken (Some (Saw next))) (λ s p room order has.
-    by_exchange queue (Some (Saw next)) (Entered next) Idle s p s.next (serving_word s) next taken
-    (λ e. let granted = plain s p order.numbered.0 e (omega (arith, has.1, e, order.numbered.0)) in
-    by_step queue (Some (Saw next)) (Entered next) s (gets p to_take_and_enter) taken (serving_word s) granted.0 (ap (λ n. entries_of p (queues n true)) e) tt granted.1 (sym (serving-taken s p true order.numbered)))
-    (by_none queue (Some (Saw next)) Idle s p refl tt))
+    → Allows IsQueue (ways queue) (Some (Saw next)) (λ n. either (n == next) taken n) (Takes next taken (Some (Saw next)))
+attempts next taken plain = exchanged queue (Some (Saw next)) Entered Idle next taken (λ s p. (refl, tt)) (λ s p vs room order is has small e.
+    by_grant queue (Some (Saw next)) (Entered next) s p to_take_and_enter taken (serving_word s) (plain s p order.numbered.0 e (omega (arith, has.1, e, order.numbered.0))) (ap (λ n. entries_of p (queues n true)) e) tt
+    (sym (serving-taken s p true order.numbered)))
 
 enters_if : (n : ℕ) (s : Plain) (p : ℕ) (turn : Bool) → is_open s (gets p to_enter) ≡ turn → Comes queue (Some (Waiting n)) (if turn then Entered n else Waiting n) s p s.next (serving_word s)
 enters_if n s p true may = by_step queue (Some (Waiting n)) (Entered n) s (gets p to_enter) s.next (serving_word s) may refl tt refl (sym (serving-entered s))
 enters_if n s p false may = by_none queue (Some (Waiting n)) (Waiting n) s p refl tt
 
 -- a party enters exactly where that is open to it
-pub waits_for_turn : (n : ℕ) → AllowsSecond IsQueue ways (Some (Waiting n)) (λ m. m) (Sees 0 0 (Some (Waiting n)))
+pub waits_for_turn : (n : ℕ) → AllowsSecond IsQueue (ways queue) (Some (Waiting n)) (λ m. m) (Sees 0 0 (Some (Waiting n)))
 waits_for_turn n = allows_second queue (Some (Waiting n)) (λ m. m) (Sees 0 0 (Some (Waiting n))) (λ s p room order has.
     let may = is_open s (gets p to_enter) in (
       if may then Entered n else Waiting n,
@@ -79,7 +74,7 @@ waits_for_turn n = allows_second queue (Some (Waiting n)) (λ m. m) (Sees 0 0 (S
       λ turn is_turn. ap (λ b. if b then Entered n else Waiting n) (is_turn s p order.numbered refl (ap (λ e. e.tickets) has.0)),
     ))
 
-pub finds_own : (n : ℕ) → AllowsSecond IsQueue ways (Some (Entered n)) (λ m. m) (Sees 0 0 (Some (Entered n)))
+pub finds_own : (n : ℕ) → AllowsSecond IsQueue (ways queue) (Some (Entered n)) (λ m. m) (Sees 0 0 (Some (Entered n)))
 finds_own n = allows_second queue (Some (Entered n)) (λ m. m) (Sees 0 0 (Some (Entered n))) (λ s p room order has.
     let served = entered_is_served s p n order.numbered order.exclusive.one_entered (ap (λ e. e.tickets) has.0) in
     (Entered n, by_none queue (Some (Entered n)) (Entered n) s p refl tt, (omega (arith, order.within_limit, order.numbered.0, first-length p true s.tickets served.0), ap Entered (sym served.1))))
@@ -96,16 +91,10 @@ found_own None n found moved = absurd moved
 found_own (Some v) n found moved = (moved.0, ap Some moved.1)
 
 pub serves_next : (n next : ℕ) → ((s : Plain) (p : ℕ) → length s.tickets ≤ next_word s → serving_word s ≡ n → Gives s (serves p) serving_word next)
-    → AllowsSecond IsQueue ways (Some (Entered n)) (λ _. next) (λ _. becomes Idle 0 next (Some (Entered n)) 0)
+    → AllowsSecond IsQueue (ways queue) (Some (Entered n)) (λ _. next) (λ _. becomes Idle 0 next (Some (Entered n)) 0)
 serves_next n next plain = allows_second queue (Some (Entered n)) (λ _. next) (λ _. becomes Idle 0 next (Some (Entered n)) 0) (λ s p room order has.
     let served = entered_is_served s p n order.numbered order.exclusive.one_entered (ap (λ e. e.tickets) has.0) in
     (Idle, by_step queue (Some (Entered n)) Idle s (serves p) s.next next served.0 refl tt refl (plain s p order.numbered.0 served.1 served.0), refl))
-
-pub idle_rests : Rests IsQueue use_of_view (Some Idle)
-idle_rests = rests queue Idle refl (λ p. refl)
-
-pub left_rests : (view : Option View) → Moved (λ v. v ≡ Idle) view → Rests IsQueue use_of_view view
-left_rests view moved = moved_rests queue view Idle moved idle_rests
 
 -- what a party that comes has seen
 pub saw : (before view : Option View) (found : ℕ) → before ≡ None → Moved (Sees 0 0 before found) view → view ≡ Some (Saw found)
@@ -114,12 +103,8 @@ saw before view found comes moved = came_to view (Saw found) (rw comes at moved)
 pub saw_rests : (view : Option View) (found : ℕ) → view ≡ Some (Saw found) → Rests IsQueue use_of_view view
 saw_rests view found is = rw is (rests queue (Saw found) refl (λ p. refl))
 
--- a party that found another number took no ticket
-pub missed_take : (taken : View) (view : Option View) (expected found : ℕ) → Moved (λ v. v ≡ (if found == expected then taken else Idle)) view → (found ≡ expected → ⊥) → Rests IsQueue use_of_view view
-missed_take taken view expected found moved ne = missed_rests queue view taken Idle found expected moved ne idle_rests
-
-pub saw_next : (view : Option View) (found next : ℕ) → view ≡ Some (Saw found) → (found == next) ≡ true → view ≡ Some (Saw next)
-saw_next view found next is same_number = is ∙ ap (λ n. Some (Saw n)) (eqb-true found next same_number)
+pub saw_open : (before view : Option View) (found next : ℕ) → before ≡ None → Moved (Sees 0 0 before found) view → (found == next) ≡ true → view ≡ Some (Saw next)
+saw_open before view found next comes moved same_number = saw before view found comes moved ∙ ap (λ n. Some (Saw n)) (eqb-true found next same_number)
 
 pub came_in : (view : Option View) (n found : ℕ) (turn : Bool) → Moved (Sees 0 0 (Some (Waiting n)) found) view → IsTurn found n turn → view ≡ Some (if turn then Entered n else Waiting n)
 came_in None n found turn moved is_turn = absurd moved

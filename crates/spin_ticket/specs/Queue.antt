@@ -1,9 +1,10 @@
 -- The rule of a lock of tickets: its words are those of a plain lock whose tickets are those of the parties that stand.
 use Rattle.std.specs.Prelude.{◌≡◌, ℕ, ◌<◌, ◌≤◌, Bool, true, false, List, Option, Some, if◌then◌else◌}
 use Rattle.spin_step.specs.Plain.{ticket_limit, next_word, serving_word}
-use Rattle.spin_core.specs.Cell.{Use, alone, Ways}
+use Rattle.spin_core.specs.Cell.{Use}
 use Rattle.spin_step.specs.Tickets.{IsTurn}
 use Rattle.spin_core.specs.Views.{Part, idle, queues, saw_served, Encodes, used_by}
+use Rattle.spin_core.specs.Plays.{exchanges}
 use Rattle.spin_ticket.specs.declared.ticket.rule.View.{View}
 use Rattle.spin_ticket.specs.declared.ticket.rule.View.TheVariants.{Idle, Saw, Waiting, Entered}
 
@@ -19,9 +20,6 @@ IsQueue = Encodes part 0 next_word serving_word
 abbrev pub use_of_view : View → Use
 use_of_view = used_by part
 
-abbrev pub ticket_ways : {X : Type 0} → Ways X View
-ticket_ways = (alone, use_of_view)
-
 -- what a look at the next number tells: it is not below one that the party saw served
 abbrev pub Looks : ℕ → ℕ → Option View → ℕ → View → Type 0
 Looks old new (Some (Saw n)) found after = (n ≤ found) × (after ≡ Idle)
@@ -32,3 +30,8 @@ abbrev pub Sees : ℕ → ℕ → Option View → ℕ → View → Type 0
 Sees old new (Some (Waiting n)) found after = (turn : Bool) → IsTurn found n turn → after ≡ (if turn then Entered n else Waiting n)
 Sees old new (Some (Entered n)) found after = (found < ticket_limit) × (after ≡ Entered found)
 Sees old new _ found after = after ≡ Saw found
+
+-- who takes a ticket has entered with it if it saw that number served, and else waits with it
+abbrev pub Takes : ℕ → ℕ → Option View → ℕ → View → Type 0
+Takes next taken (Some (Saw n)) = exchanges Entered Idle next taken (Some (Saw n))
+Takes next taken before = exchanges Waiting Idle next taken before

@@ -1,18 +1,21 @@
 //! A spinning mutex of tickets: its parties enter in the order in which they took a number.
-ghost use Rattle.std.specs.Prelude.{◌≡◌, ◌≤◌, Some, Ok, Err, IfSome, IfOk};
+ghost use Rattle.std.specs.Prelude.{◌≡◌, Option, Some, IfSome, IfOk};
+ghost use Rattle.std.specs.Fmt.{DisplaysOnOk};
 ghost use Rattle.spin_guard.specs.Guard.{IsHolder};
+ghost use Rattle.spin_guard.specs.Texts.{lock_text};
 ghost use Rattle.spin_ticket.specs.Queue.{use_of_view};
 ghost use Rattle.spin_ticket.specs.declared.ticket.rule.View.TheVariants.{Waiting, Entered};
 
-use self::rule::{Attempt, Look, See, Take};
+use self::rule::{Look, See, Take};
 use spin_core::cell::{Cell, Permit};
-use spin_core::relax::{RelaxStrategy, Spin, Strategy};
+use spin_core::relax::{Loop, RelaxStrategy, Spin, Strategy};
 use spin_guard::guard::{self, Guard};
+use spin_guard::texts::write_lock;
 use spin_step::ticket;
+use std::fmt::{self, Debug, Formatter};
 use std::sync::Wait;
 
 mod rule;
-mod texts;
 
 pub use self::rule::{TicketRule, View};
 
@@ -21,8 +24,8 @@ pub use self::rule::{TicketRule, View};
 /// Example: `six_threads_lose_no_addition`, `crates/spin_mutex_tests/src/threads.rt`.
 #[derive(Drop)]
 pub struct TicketMutex<T, R = Spin> {
-    cell: Cell<T, View, TicketRule>,
-    strategy: Strategy<R>,
+    pub(crate) cell: Cell<T, View, TicketRule>,
+    pub(crate) strategy: Strategy<R>,
 }
 
 /// Access to the value of a `TicketMutex`. Dropping it serves the next ticket.
@@ -43,102 +46,55 @@ impl<T, R> TicketMutex<T, R> {
     ///
     /// Example: `a_lock_is_taken_once`, `crates/spin_mutex_tests/src/calls.rt`.
     pub fn new(value: T) -> Self {
-        Self::starting_at(value, 0)
-    }
-
-    // An open lock whose first ticket has the number `first`.
-    pub(crate) fn starting_at(value: T, first: u64) -> Self {
         TicketMutex {
-            cell: Cell::new(value, first, first, &()),
+            cell: Cell::new(value, 0, 0, &()),
             strategy: Strategy::named(),
         }
     }
-}
 
-impl<T, R: RelaxStrategy> TicketMutex<T, R> {
     /// Takes a ticket, and relaxes until its number is served. Once tickets are used up it waits for ever. Nothing is
     /// promised about when it returns.
     ///
     /// Example: `a_lock_has_what_was_written`, `crates/spin_mutex_tests/src/values.rt`.
     pub fn lock<W: Wait>(&self, rt: &W) -> TicketMutexGuard<'_, T, R>
+    where
+        R: RelaxStrategy,
         ensures { IsHolder use_of_view result }
     {
         let place = match self.queue(self.next()) {
             Ok(place) => place,
-            Err(found) => self.queue_later(rt, found),
+            Err(found) => Loop::retry(rt, found, |next| self.queue(next)),
         };
         match place.enter() {
             Ok(guard) => guard,
-            Err(place) => Self::wait(rt, place),
+            Err(place) => R::retry(rt, place, |place| place.enter()),
         }
     }
 
-    // Takes a ticket, where another party took the one that was expected.
-    #[cold]
-    #[inline(never)]
-    fn queue_later<'a, W: Wait>(&'a self, rt: &W, found: u64) -> Place<'a, T> {
-        let mut next = found;
-        for _ in rt.forever() {
-            if next == u64::MAX {
-                R::relax(rt);
-                next = self.next();
-            } else {
-                match self.queue(next) {
-                    Ok(place) => return place,
-                    Err(found) => next = found,
-                }
-            }
-        }
-        unreachable!()
-    }
-
-    // Waits until the place's number is served.
-    #[cold]
-    #[inline(never)]
-    fn wait<'a, W: Wait>(rt: &W, place: Place<'a, T>) -> TicketMutexGuard<'a, T, R>
-        ensures { IsHolder use_of_view result }
-    {
-        let mut place = place;
-        for _ in rt.forever() {
-            R::relax(rt);
-            match place.enter() {
-                Ok(guard) => return guard,
-                Err(still) => place = still,
-            }
-        }
-        unreachable!()
-    }
-}
-
-impl<T, R> TicketMutex<T, R> {
-    /// Takes the lock, or refuses where a ticket stands, or where tickets are used up. It makes one pass: two loads
-    /// and at most one exchange.
+    /// Takes the lock, or refuses where a ticket stands, or where tickets are used up. It makes one pass: at most two
+    /// loads and one exchange.
     ///
     /// Example: `a_lock_is_taken_once`, `crates/spin_mutex_tests/src/calls.rt`.
     pub fn try_lock<'a>(&'a self) -> Option<TicketMutexGuard<'a, T, R>>
         ensures { IfSome result (IsHolder use_of_view) }
     {
         let next = self.next();
+        let after = ticket::take(next)?;
         let (serving, permit) = self.cell.enter().load_second::<See>();
         if !ticket::is_turn(serving, next) {
             permit.leave();
             return None;
         }
-        let Some(after) = ticket::take(next) else {
-            permit.leave();
-            return None;
-        };
-        let (found, permit) = permit.exchange::<Attempt>(next, after);
-        if found != next {
-            permit.leave();
-            return None;
-        }
+        let permit = permit.attempt::<Take>(next, after).ok()?;
         Some(Guard::new(permit.into_writer()))
     }
 
     /// Whether a ticket stood at a moment of the call.
     pub fn is_locked(&self) -> bool {
-        let (serving, next) = self.look();
+        // In this order, so that tickets stood between the two numbers.
+        let (serving, permit) = self.cell.enter().load_second::<See>();
+        let next = permit.look::<Look>();
+        prove!(serving <= next);
         !ticket::is_turn(serving, next)
     }
 
@@ -151,8 +107,7 @@ impl<T, R> TicketMutex<T, R> {
     ///
     /// Example: `the_owner_has_the_last_value_and_takes_no_lock`, `crates/spin_mutex_tests/src/calls.rt`.
     pub fn into_inner(self) -> T {
-        let Self { cell, strategy: _ } = self;
-        cell.into_inner()
+        self.cell.into_inner()
     }
 
     /// The value, whatever the words are: nobody else has the lock.
@@ -162,38 +117,16 @@ impl<T, R> TicketMutex<T, R> {
         self.cell.get_mut()
     }
 
-    // The number that is served, and then the next ticket's: in this order, so that tickets stood between them.
-    fn look(&self) -> (u64, u64)
-        ensures { result.0 ≤ result.1 }
-    {
-        let (serving, permit) = self.cell.enter().load_second::<See>();
-        let (next, permit) = permit.load::<Look>();
-        permit.leave();
-        (serving, next)
-    }
-
     // The next ticket's number.
-    fn next(&self) -> u64 {
-        let (found, permit) = self.cell.enter().load::<Look>();
-        permit.leave();
-        found
+    pub(crate) fn next(&self) -> u64 {
+        self.cell.enter().look::<Look>()
     }
 
-    // Takes the ticket `next`, or tells which number it found in its place. Where tickets are used up that is `next`.
-    fn queue<'a>(&'a self, next: u64) -> Result<Place<'a, T>, u64> {
-        let Some(after) = ticket::take(next) else {
-            return Err(next);
-        };
-        let (found, permit) = self.cell.enter().exchange::<Take>(next, after);
-        if found == next {
-            Ok(Place {
-                number: next,
-                permit,
-            })
-        } else {
-            permit.leave();
-            Err(found)
-        }
+    // Takes the ticket of this number, or tells which it found to be next. Where tickets are used up that is this one.
+    fn queue<'a>(&'a self, number: u64) -> Result<Place<'a, T>, u64> {
+        let after = ticket::take(number).ok_or(number)?;
+        let permit = self.cell.enter().attempt::<Take>(number, after)?;
+        Ok(Place { number, permit })
     }
 }
 
@@ -212,6 +145,15 @@ impl<'a, T> Place<'a, T> {
     }
 }
 
+/// One attempt to take the lock, which it then holds while it writes. Where that is refused it writes `<locked>`.
+impl<T: Debug, R> Debug for TicketMutex<T, R> {
+    fn fmt<W: fmt::Write>(&self, f: &mut Formatter<W>) -> fmt::Result
+        ensures { (found : Option T) × DisplaysOnOk W.write_str_gives f.old result (lock_text T.debug_output found) f.new }
+    {
+        write_lock(self.try_lock().as_ref().map(|guard| &**guard), f)
+    }
+}
+
 /// An open lock of the default value.
 impl<T: Default, R> Default for TicketMutex<T, R> {
     fn default() -> Self {
@@ -225,6 +167,3 @@ impl<T, R> From<T> for TicketMutex<T, R> {
         Self::new(value)
     }
 }
-
-#[cfg(test)]
-mod tests;

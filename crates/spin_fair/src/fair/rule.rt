@@ -1,13 +1,12 @@
 //! What the parties of a `FairMutex` are, and what its word says of them.
 ghost use Rattle.std.specs.Prelude.{refl};
-ghost use Rattle.spin_core.specs.Cell.{use_of};
-ghost use Rattle.spin_core.specs.Plays.{becomes, becomes_by, exchanges};
+ghost use Rattle.spin_core.specs.Cell.{alone, use_of};
+ghost use Rattle.spin_core.specs.Plays.{becomes_by, exchanges};
 ghost use Rattle.spin_fair.specs.declared.fair.rule.View.TheVariants.{Idle, Starving, Holding, HoldingStarving};
-ghost use Rattle.spin_fair.specs.Fair.{IsFair, fair_ways, use_of_view, Stays, Stops, won_if_clear};
+ghost use Rattle.spin_fair.specs.Fair.{IsFair, use_of_view, Stays, Stops, won_if_clear};
 
 use spin_core::cell::{Play, Rule, WritePermit};
-use spin_guard::guard;
-use spin_guard::guard::Uses;
+use spin_guard::guard::{self, LetsGo, Uses};
 
 /// What a party is to the lock.
 #[derive(Clone, Copy)]
@@ -28,7 +27,7 @@ impl<T> Rule<T, View> for FairRule {
 
     ghost holds = { IsFair };
 
-    ghost ways = { λ _. fair_ways };
+    ghost ways = { λ _. (alone, use_of_view) };
 }
 
 /// In the word: somebody holds the lock.
@@ -72,13 +71,6 @@ impl Play<View> for Unregister {
     ghost then = { Stops };
 }
 
-/// The holder lets go.
-pub(super) struct Release;
-
-impl Play<View> for Release {
-    ghost then = { becomes Idle };
-}
-
 /// A party stays what it is, or comes and is nothing.
 pub(super) struct Look;
 
@@ -88,11 +80,13 @@ impl Play<View> for Look {
 
 impl Uses<View> for FairRule {
     ghost use_at = { use_of use_of_view };
+
+    ghost idle = { Idle };
 }
 
 impl<T> guard::Release<T, View> for FairRule {
     fn release(writer: WritePermit<'_, T, View, FairRule>) {
-        let (_, permit) = writer.into_permit().keep_bits::<Release>(!LOCKED);
+        let (_, permit) = writer.into_permit().keep_bits::<LetsGo<Self>>(!LOCKED);
         permit.leave();
     }
 

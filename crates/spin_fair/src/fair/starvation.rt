@@ -40,7 +40,7 @@ impl<'a, T, R> Starvation<'a, T, R> {
 
     /// Takes the lock, or refuses where somebody holds it. Where it refuses, the same starver stays registered.
     ///
-    /// Example: `a_refused_starver_stays_registered`, `crates/spin_fair/src/fair/tests.rt`.
+    /// Example: `a_refused_starver_stays_registered`, `crates/spin_mutex_tests/src/fair.rt`.
     pub fn try_lock(self) -> Result<FairMutexGuard<'a, T, R>, Starvation<'a, T, R>>
         ensures { IfOk result (IsHolder use_of_view) }
     {
@@ -83,28 +83,22 @@ impl<'a, T, R: RelaxStrategy> Starvation<'a, T, R> {
     pub fn lock<W: Wait>(self, rt: &W) -> FairMutexGuard<'a, T, R>
         ensures { IsHolder use_of_view result }
     {
-        let mut starvation = self;
-        for _ in rt.forever() {
-            match starvation.try_lock() {
-                Ok(guard) => return guard,
-                Err(still) => starvation = still.wait(rt),
-            }
+        match self.try_lock() {
+            Ok(guard) => guard,
+            Err(still) => R::retry(rt, still, |starvation| starvation.look_and_try()),
         }
-        unreachable!()
     }
 
-    // Looks until nobody holds the lock.
-    fn wait<W: Wait>(self, rt: &W) -> Self {
-        let mut starvation = self;
-        for _ in rt.forever() {
-            let (is_locked, still) = starvation.look();
-            if !is_locked {
-                return still;
-            }
-            R::relax(rt);
-            starvation = still;
+    // Looks first, as the lock's other waiters do.
+    fn look_and_try(self) -> Result<FairMutexGuard<'a, T, R>, Self>
+        ensures { IfOk result (IsHolder use_of_view) }
+    {
+        let (is_locked, still) = self.look();
+        if is_locked {
+            Err(still)
+        } else {
+            still.try_lock()
         }
-        unreachable!()
     }
 }
 

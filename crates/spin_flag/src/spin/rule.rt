@@ -1,14 +1,13 @@
 //! What the parties of a `SpinMutex` are, and what its word says of them.
 ghost use Rattle.std.specs.Prelude.{◌≡◌, ◌≢◌, ℕ, IsTrue, ◌↔◌, refl};
 ghost use Rattle.spin_step.specs.Steps.{bit};
-ghost use Rattle.spin_core.specs.Cell.{use_of};
+ghost use Rattle.spin_core.specs.Cell.{alone, use_of};
 ghost use Rattle.spin_core.specs.Plays.{becomes, exchanges};
-ghost use Rattle.spin_flag.specs.Flag.{IsFlag, flag_ways, use_of_view};
+ghost use Rattle.spin_flag.specs.Flag.{IsFlag, use_of_view};
 ghost use Rattle.spin_flag.specs.declared.spin.rule.View.TheVariants.{Idle, Holding};
 
 use spin_core::cell::{Play, Rule, WritePermit};
-use spin_guard::guard;
-use spin_guard::guard::Uses;
+use spin_guard::guard::{self, LetsGo, Uses};
 use spin_step::flag;
 
 /// What a party is to the lock.
@@ -27,7 +26,7 @@ impl<T> Rule<T, View> for FlagRule {
 
     ghost holds = { IsFlag };
 
-    ghost ways = { λ _. flag_ways };
+    ghost ways = { λ _. (alone, use_of_view) };
 }
 
 /// A party comes and holds nothing.
@@ -44,22 +43,17 @@ impl Play<View> for Attempt {
     ghost then = { exchanges (λ free. Holding) Idle };
 }
 
-/// The holder lets go.
-pub(super) struct Release;
-
-impl Play<View> for Release {
-    ghost then = { becomes Idle };
-}
-
 impl Uses<View> for FlagRule {
     ghost use_at = { use_of use_of_view };
+
+    ghost idle = { Idle };
 }
 
 impl<T> guard::Release<T, View> for FlagRule {
     fn release(writer: WritePermit<'_, T, View, FlagRule>) {
         let free = flag::unlock(true);
         let permit = writer.into_permit();
-        permit.store::<Release>(word(free)).leave();
+        permit.store::<LetsGo<Self>>(word(free)).leave();
     }
 
     ghost same = { λ key view. refl };

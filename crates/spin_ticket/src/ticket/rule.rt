@@ -1,13 +1,11 @@
 //! What the parties of a `TicketMutex` are, and what its two words say of them.
 ghost use Rattle.std.specs.Prelude.{refl};
-ghost use Rattle.spin_core.specs.Cell.{use_of};
-ghost use Rattle.spin_core.specs.Plays.{becomes, exchanges};
-ghost use Rattle.spin_ticket.specs.Queue.{IsQueue, ticket_ways, use_of_view, Looks, Sees};
-ghost use Rattle.spin_ticket.specs.declared.ticket.rule.View.TheVariants.{Idle, Waiting, Entered};
+ghost use Rattle.spin_core.specs.Cell.{alone, use_of};
+ghost use Rattle.spin_ticket.specs.Queue.{IsQueue, use_of_view, Looks, Sees, Takes};
+ghost use Rattle.spin_ticket.specs.declared.ticket.rule.View.TheVariants.{Idle};
 
 use spin_core::cell::{Play, Rule, WritePermit};
-use spin_guard::guard;
-use spin_guard::guard::Uses;
+use spin_guard::guard::{self, LetsGo, Uses};
 use spin_step::ticket;
 
 /// What a party is to the lock. A number is that of a ticket.
@@ -29,7 +27,7 @@ impl<T> Rule<T, View> for TicketRule {
 
     ghost holds = { IsQueue };
 
-    ghost ways = { λ _. ticket_ways };
+    ghost ways = { λ _. (alone, use_of_view) };
 }
 
 /// A look at the next number.
@@ -46,29 +44,18 @@ impl Play<View> for See {
     ghost then = { Sees };
 }
 
-/// A party comes, takes the ticket that it expected to be next, and waits.
+/// A party takes the ticket that it expected to be next. It enters with that where it saw the number served, and else
+/// waits.
 pub(super) struct Take;
 
 impl Play<View> for Take {
-    ghost then = { exchanges Waiting Idle };
-}
-
-/// A party that saw its number served enters with the ticket that it takes.
-pub(super) struct Attempt;
-
-impl Play<View> for Attempt {
-    ghost then = { exchanges Entered Idle };
-}
-
-/// The party that has entered lets go.
-pub(super) struct Release;
-
-impl Play<View> for Release {
-    ghost then = { becomes Idle };
+    ghost then = { Takes };
 }
 
 impl Uses<View> for TicketRule {
     ghost use_at = { use_of use_of_view };
+
+    ghost idle = { Idle };
 }
 
 impl<T> guard::Release<T, View> for TicketRule {
@@ -77,7 +64,7 @@ impl<T> guard::Release<T, View> for TicketRule {
     fn release(writer: WritePermit<'_, T, View, TicketRule>) {
         let (number, permit) = writer.into_permit().load_second::<See>();
         let next = ticket::serve(number);
-        permit.store_second::<Release>(next).leave();
+        permit.store_second::<LetsGo<Self>>(next).leave();
     }
 
     ghost same = { λ key view. refl };

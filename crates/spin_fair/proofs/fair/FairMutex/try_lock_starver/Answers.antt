@@ -1,13 +1,14 @@
 use Rattle.std.proofs.Common.{◌≡◌, ℕ}
+use Rattle.spin_core.proofs.Plays.{missed_rests}
 use Rattle.spin_fair.specs.declared.fair.rule.View.TheVariants.{Holding}
-use Rattle.spin_fair.proofs.Steps.{attempts, refused_rests}
+use Rattle.spin_fair.proofs.Steps.{fair, attempts}
 use Rattle.spin_fair.proofs.fair.FairMutex.try_lock_starver.Goals as goal
 
-pub exchange-found-requires : goal.exchange-found-requires
-exchange-found-requires g c =
+pub attempt-requires-clause-step : goal.attempt-requires-clause-step
+attempt-requires-clause-step g c =
     let exact = c.lock.ensures.exact in let got = c.unwrap-taken.ensures in let taken : ℕ = 1 in
     let same : c.unwrap-taken.result ≡ taken = cc in
-    rw (c.enter.ensures.fresh.0, same) (attempts 0 1 (rw exact at c.lock.ensures.plain))
+    rw (c.enter-party.ensures.fresh.0, same) (attempts 0 1 (rw exact at c.lock.ensures.plain))
 
-pub leave-requires : goal.leave-requires
-leave-requires g c = let x = c.exchange-found.result in refused_rests Holding x.1.view 0 x.0 c.exchange-found.ensures.moved c.if-found-eq0.false
+pub attempt-requires-clause-rests : goal.attempt-requires-clause-rests
+attempt-requires-clause-rests g c found after other is = missed_rests fair Holding after found 0 other is

@@ -1,8 +1,9 @@
-use Rattle.spin_fair.proofs.Steps.{looks, left_rests}
+use Rattle.spin_core.proofs.Plays.{looks, idle_rests}
+use Rattle.spin_fair.proofs.Steps.{fair}
 use Rattle.spin_fair.proofs.fair.FairMutex.word.Goals as goal
 
-pub load-found-requires : goal.load-found-requires
-load-found-requires g c = rw c.enter.ensures.fresh.0 looks
+pub look-requires-clause-step : goal.look-requires-clause-step
+look-requires-clause-step g c = rw c.enter.ensures.fresh.0 (looks fair)
 
-pub leave-requires : goal.leave-requires
-leave-requires g c = left_rests c.load-found.result.1.view (rw c.enter.ensures.fresh.0 at c.load-found.ensures.moved)
+pub look-requires-clause-rests : goal.look-requires-clause-rests
+look-requires-clause-rests g c found after is = idle_rests fair after (rw c.enter.ensures.fresh.0 at is)

@@ -1,8 +1,9 @@
-use Rattle.spin_flag.proofs.Flags.{looks, left_rests}
+use Rattle.spin_core.proofs.Plays.{looks, idle_rests}
+use Rattle.spin_flag.proofs.Flags.{flag}
 use Rattle.spin_flag.proofs.spin.SpinMutex.is_locked.Goals as goal
 
-pub load-found-requires : goal.load-found-requires
-load-found-requires g c = rw c.enter.ensures.fresh.0 looks
+pub look-requires-clause-step : goal.look-requires-clause-step
+look-requires-clause-step g c = rw c.enter.ensures.fresh.0 (looks flag)
 
-pub leave-requires : goal.leave-requires
-leave-requires g c = left_rests c.load-found.result.1.view c.load-found.ensures.moved
+pub look-requires-clause-rests : goal.look-requires-clause-rests
+look-requires-clause-rests g c found after is = idle_rests flag after is

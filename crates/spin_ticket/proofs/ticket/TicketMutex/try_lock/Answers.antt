@@ -1,22 +1,19 @@
 use Rattle.std.proofs.Common.{◌≡◌, true, ◌==◌}
+use Rattle.spin_core.proofs.Plays.{missed_rests}
 use Rattle.spin_ticket.specs.declared.ticket.rule.View.TheVariants.{Entered}
-use Rattle.spin_ticket.proofs.Queue.{looks_at_served, attempts, saw, saw_next, saw_rests, missed_take}
+use Rattle.spin_ticket.proofs.Queue.{queue, looks_at_served, attempts, saw, saw_open, saw_rests}
 use Rattle.spin_ticket.proofs.ticket.TicketMutex.try_lock.Goals as goal
 
 pub load_second-serving-requires : goal.load_second-serving-requires
 load_second-serving-requires g c = rw c.enter.ensures.fresh.0 looks_at_served
 
-pub exchange-found-requires : goal.exchange-found-requires
-exchange-found-requires g c =
-    let x = c.load_second-serving.result in let turn : (x.0 == c.next-next.result) ≡ true = cc in
-    let at = saw c.enter.result.view x.1.view x.0 c.enter.ensures.fresh.0 c.load_second-serving.ensures.moved in
-    rw (saw_next x.1.view x.0 c.next-next.result at turn) (attempts c.next-next.result c.in-Some.after c.in-Some.ensures.enters)
+pub attempt-requires-clause-step : goal.attempt-requires-clause-step
+attempt-requires-clause-step g c = let x = c.load_second-serving.result in let turn : (x.0 == c.next-next.result) ≡ true = cc in
+    rw (saw_open c.enter.result.view x.1.view x.0 c.next-next.result c.enter.ensures.fresh.0 c.load_second-serving.ensures.moved turn) (attempts c.next-next.result c.in_ok-after.after c.in_ok-after.ensures.enters)
+
+pub attempt-requires-clause-rests : goal.attempt-requires-clause-rests
+attempt-requires-clause-rests g c found after other is = let x = c.load_second-serving.result in let turn : (x.0 == c.next-next.result) ≡ true = cc in
+    missed_rests queue (Entered c.next-next.result) after found c.next-next.result other (rw (saw_open c.enter.result.view x.1.view x.0 c.next-next.result c.enter.ensures.fresh.0 c.load_second-serving.ensures.moved turn) at is)
 
 pub leave-requires : goal.leave-requires
 leave-requires g c = let x = c.load_second-serving.result in saw_rests x.1.view x.0 (saw c.enter.result.view x.1.view x.0 c.enter.ensures.fresh.0 c.load_second-serving.ensures.moved)
-
-pub leave-requires-in_default : goal.leave-requires-in_default
-leave-requires-in_default g c = let x = c.load_second-serving.result in saw_rests x.1.view x.0 (saw c.enter.result.view x.1.view x.0 c.enter.ensures.fresh.0 c.load_second-serving.ensures.moved)
-
-pub leave-requires-then-found-next : goal.leave-requires-then-found-next
-leave-requires-then-found-next g c = let x = c.exchange-found.result in missed_take (Entered c.next-next.result) x.1.view c.next-next.result x.0 c.exchange-found.ensures.moved c.if-found-next.true

@@ -1,6 +1,7 @@
 use Rattle.std.proofs.Common.{Some, ap, ◌∙◌}
 use Rattle.spin_step.specs.Steps.{bit}
-use Rattle.spin_flag.proofs.Flags.{releases_flag, left_rests, holding_of}
+use Rattle.spin_core.proofs.Plays.{left_rests}
+use Rattle.spin_flag.proofs.Flags.{flag, releases_flag, holding_of}
 use Rattle.spin_flag.proofs.spin.rule.FlagRuleReleaseView.release.Goals as goal
 
 pub store-requires : goal.store-requires
@@ -8,4 +9,4 @@ store-requires g c = let it = c.into_permit-permit.ensures in let view = it.same
     rw (view, c.word.ensures) (releases_flag (bit c.unlock-free.result) c.unlock-free.ensures.plain)
 
 pub leave-requires : goal.leave-requires
-leave-requires g c = left_rests c.store.result.view c.store.ensures.moved
+leave-requires g c = left_rests flag c.store.result.view c.store.ensures.moved

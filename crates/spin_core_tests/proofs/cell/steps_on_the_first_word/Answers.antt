@@ -1,0 +1,30 @@
+use Rattle.spin_core_tests.specs.declared.cell.Bystander.TheVariants.{Stands}
+use Rattle.spin_core_tests.proofs.Bystanders.{first_word, second_word}
+use Rattle.spin_core_tests.proofs.cell.steps_on_the_first_word.Goals as goal
+
+pub exchange-found-requires : goal.exchange-found-requires
+exchange-found-requires g c = first_word Stands _ (λ n. n)
+
+pub exchange-found-requires-2 : goal.exchange-found-requires-2
+exchange-found-requires-2 g c = first_word Stands _ (λ n. n)
+
+pub store-party-requires : goal.store-party-requires
+store-party-requires g c = first_word Stands _ (λ n. n)
+
+pub add-found-requires : goal.add-found-requires
+add-found-requires g c = first_word Stands _ (λ n. n)
+
+pub subtract-found-requires : goal.subtract-found-requires
+subtract-found-requires g c = first_word Stands _ (λ n. n)
+
+pub set_bits-found-requires : goal.set_bits-found-requires
+set_bits-found-requires g c = first_word Stands _ (λ n. n)
+
+pub keep_bits-found-requires : goal.keep_bits-found-requires
+keep_bits-found-requires g c = first_word Stands _ (λ n. n)
+
+pub load-found-requires-2 : goal.load-found-requires-2
+load-found-requires-2 g c = first_word Stands _ (λ n. n)
+
+pub load_second-found-requires : goal.load_second-found-requires
+load_second-found-requires g c = second_word Stands _ (λ n. n)
