@@ -37,7 +37,7 @@ impl<T, F, M: Promise<T>> Seed<T> for Initialiser<F, M> {
 ///
 /// `M` says what is promised of the value: each answer of the initialiser has to keep it.
 ///
-/// Example: `ten_threads_see_the_same_and_the_text_is_read_once`, `crates/spin_uses/src/settings/tests.rt`.
+/// Example: `ten_threads_see_the_same_and_the_text_is_read_once`, `crates/spin_uses_tests/src/settings.rt`.
 #[derive(Drop)]
 pub struct LazyLock<T, F = fn() -> T, R = Spin, M: Promise<T> = ()> {
     seeded: Seeded<T, Initialiser<F, M>>,
@@ -73,13 +73,27 @@ impl<T, F: FnOnce() -> T, R: RelaxStrategy, M: Promise<T> + Drop> LazyLock<T, F,
     /// The value. The first that asks runs the initialiser; while it runs the others relax. Nothing is promised about when
     /// it returns.
     ///
-    /// Example: `it_runs_once`, `crates/spin_once/src/lazylock/tests.rt`.
+    /// Example: `it_runs_once`, `crates/spin_once_tests/src/lazylock.rt`.
     pub fn force<'a, W: Wait>(this: &'a Self, rt: &W) -> &'a T
         requires callable { F.pre (initialiser this.now) }
         requires keeps { (value : T) → F.post (initialiser this.now) value → M.keeps (promise this.now) value }
         ensures { M.keeps (promise this.now) result.now }
     {
-        match this.seeded.come::<R, W>(rt) {
+        match this.seeded.get() {
+            Some(value) => value,
+            None => this.make(rt),
+        }
+    }
+
+    // It stands apart: inlined, it would lengthen the path of every caller that finds a value.
+    #[cold]
+    #[inline(never)]
+    fn make<W: Wait>(&self, rt: &W) -> &T
+        requires callable { F.pre (initialiser self.now) }
+        requires keeps { (value : T) → F.post (initialiser self.now) value → M.keeps (promise self.now) value }
+        ensures { M.keeps (promise self.now) result.now }
+    {
+        match self.seeded.come::<R, W>(rt) {
             Come::Value(value) => value,
             Come::Turn(turn, seed) => {
                 let Initialiser { kept, promise: _ } = seed;
@@ -94,6 +108,3 @@ unsafe impl<T: Send, F: Send, R, M: Promise<T> + Send> Send for LazyLock<T, F, R
 
 unsafe impl<T: Send + Sync, F: Send, R, M: Promise<T> + Send + Sync> Sync
     for LazyLock<T, F, R, M> {}
-
-#[cfg(test)]
-mod tests;

@@ -20,7 +20,7 @@ impl<T> Seed<T> for () {
 /// A closure that asks its own `Once` for the value waits for ever, or, by a call that does not wait, finds that there is
 /// none yet.
 ///
-/// Example: `with_a_value_from_the_start_or_without`, `crates/spin_once/src/once/tests.rt`.
+/// Example: `with_a_value_from_the_start_or_without`, `crates/spin_once_tests/src/once.rt`.
 #[derive(Drop)]
 pub struct Once<T = (), R = Spin> {
     seeded: Seeded<T, ()>,
@@ -74,8 +74,20 @@ impl<T, R: RelaxStrategy> Once<T, R> {
     /// The value. Where there is none it runs the closure, whose answer is the value from then on; while another closure
     /// runs it relaxes until that one has ended. Nothing is promised about when it returns.
     ///
-    /// Example: `looks_before_and_after`, `crates/spin_once/src/once/tests.rt`.
+    /// Example: `looks_before_and_after`, `crates/spin_once_tests/src/once.rt`.
     pub fn call_once<F: FnOnce() -> T, W: Wait>(&self, rt: &W, f: F) -> &T
+        requires { F.pre f }
+    {
+        match self.get() {
+            Some(value) => value,
+            None => self.make(rt, f),
+        }
+    }
+
+    // It stands apart: inlined, it would lengthen the path of every caller that finds a value.
+    #[cold]
+    #[inline(never)]
+    fn make<F: FnOnce() -> T, W: Wait>(&self, rt: &W, f: F) -> &T
         requires { F.pre f }
     {
         match self.seeded.come::<R, W>(rt) {
@@ -87,12 +99,24 @@ impl<T, R: RelaxStrategy> Once<T, R> {
     /// As `call_once`, of a closure that may fail. Its `Err` is answered, and there is no value: a later closure may give
     /// one. An `Err` is always this caller's own closure's.
     ///
-    /// Example: `a_closure_that_fails_leaves_the_next_one_its_turn`, `crates/spin_once/src/once/tests.rt`.
+    /// Example: `a_closure_that_fails_leaves_the_next_one_its_turn`, `crates/spin_once_tests/src/once.rt`.
     pub fn try_call_once<F: FnOnce() -> Result<T, E>, E, W: Wait>(
         &self,
         rt: &W,
         f: F,
     ) -> Result<&T, E>
+        requires { F.pre f }
+        ensures err { IfErr result (λ e. F.post f (Err e)) }
+    {
+        match self.get() {
+            Some(value) => Ok(value),
+            None => self.try_make(rt, f),
+        }
+    }
+
+    #[cold]
+    #[inline(never)]
+    fn try_make<F: FnOnce() -> Result<T, E>, E, W: Wait>(&self, rt: &W, f: F) -> Result<&T, E>
         requires { F.pre f }
         ensures err { IfErr result (λ e. F.post f (Err e)) }
     {
@@ -111,7 +135,7 @@ impl<T, R: RelaxStrategy> Once<T, R> {
 
     /// As `call_once`, of a closure that copies the value.
     ///
-    /// Example: `a_copy_of_a_value`, `crates/spin_once/src/once/tests.rt`.
+    /// Example: `a_copy_of_a_value`, `crates/spin_once_tests/src/once.rt`.
     pub fn init_from_ref<W: Wait>(&self, rt: &W, value: &T) -> &T
     where
         T: Copy,
@@ -147,6 +171,3 @@ impl<T, R> From<T> for Once<T, R> {
 unsafe impl<T: Send, R> Send for Once<T, R> {}
 
 unsafe impl<T: Send + Sync, R> Sync for Once<T, R> {}
-
-#[cfg(test)]
-mod tests;

@@ -8,6 +8,7 @@ use spin_step::once;
 use std::mem;
 use std::sync::Wait;
 
+mod known;
 mod rule;
 mod turn;
 
@@ -119,29 +120,14 @@ impl<T, S: Seed<T>> Seeded<T, S> {
     pub(crate) fn wait<R: RelaxStrategy, W: Wait>(&self, rt: &W) -> &T
         ensures { S.makes self.now.cell.value result.now }
     {
-        for _ in rt.forever() {
-            match self.poll::<R, W>(rt) {
-                Some(value) => return value,
-                None => R::relax(rt),
-            }
+        match self.poll::<R, W>(rt) {
+            Some(value) => value,
+            None => R::retry(rt, (), |()| self.poll::<R, W>(rt).ok_or(())),
         }
-        unreachable!()
     }
 
     /// The value, or this party's turn to make it. It waits while another party runs.
     pub(crate) fn come<R: RelaxStrategy, W: Wait>(&self, rt: &W) -> Come<'_, T, S>
-        ensures { TakesMade S.makes self.now.cell.value result }
-    {
-        match self.get() {
-            Some(value) => Come::Value(value),
-            None => self.come_first::<R, W>(rt),
-        }
-    }
-
-    // It stands apart: inlined, it would lengthen the path of every caller that finds a value.
-    #[cold]
-    #[inline(never)]
-    fn come_first<R: RelaxStrategy, W: Wait>(&self, rt: &W) -> Come<'_, T, S>
         ensures { TakesMade S.makes self.now.cell.value result }
     {
         for _ in rt.forever() {

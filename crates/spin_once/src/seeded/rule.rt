@@ -1,5 +1,5 @@
 //! What the parties of a `Seeded` are, what its word says of them, and each kind of step.
-ghost use Rattle.std.specs.Prelude.{◌≡◌, Some};
+ghost use Rattle.std.specs.Prelude.{◌≡◌, Some, IsSomeAnd};
 ghost use Rattle.spin_core.specs.Plays.{becomes, becomes_by};
 ghost use Rattle.spin_core.specs.Settled.{loose};
 ghost use Rattle.spin_once.specs.Once.{looked, tried};
@@ -7,6 +7,7 @@ ghost use Rattle.spin_once.specs.Looks.{LooksMade};
 ghost use Rattle.spin_once.specs.declared.seeded.rule.View.TheVariants.{Idle, Running, Seeing};
 ghost use Rattle.spin_once.specs.declared.seeded.rule.Stage.TheVariants.{Done};
 
+use super::known::known;
 use spin_core::cell::settled::{Loose, Settles};
 use spin_core::cell::{Cell, Permit, Play, Rule, WritePermit};
 use std::snapshot::Snapshot;
@@ -130,7 +131,7 @@ pub(super) fn look<T, S: Seed<T>>(cell: &SeedCell<T, S>) -> Progress<'_, T>
 {
     let (found, permit) = cell.enter().load::<Looks>();
     if found == COMPLETE as u64 {
-        return Progress::Value(seen(permit));
+        return Progress::Value(known(lying(permit)));
     }
     permit.leave();
     if found == NOTHING as u64 {
@@ -140,14 +141,25 @@ pub(super) fn look<T, S: Seed<T>>(cell: &SeedCell<T, S>) -> Progress<'_, T>
     }
 }
 
-/// The value, for good, of a party that sees it.
+/// The value, for good, of a party that sees it. The compiler tests that it lies there.
 pub(super) fn seen<'a, T, S: Seed<T>>(party: Party<'a, T, S>) -> &'a T
     requires { party.view ≡ Some Seeing }
     ensures value { party.entry.value ≡ Some (loose (Done result.now)) }
     ensures made { S.makes party.entry.key.value result.now }
 {
+    match lying(party) {
+        Some(value) => value,
+        None => unreachable!(),
+    }
+}
+
+// What lies there for a party that sees it.
+fn lying<'a, T, S: Seed<T>>(party: Party<'a, T, S>) -> Option<&'a T>
+    requires { party.view ≡ Some Seeing }
+    ensures { IsSomeAnd result (λ there. (party.entry.value ≡ Some (loose (Done there.now))) × S.makes party.entry.key.value there.now) }
+{
     match &party.see().value {
-        Stage::Done(value) => value,
-        _ => unreachable!(),
+        Stage::Done(value) => Some(value),
+        _ => None,
     }
 }

@@ -1,43 +1,41 @@
-//! What no contract says: which call runs its closure, what it answers then, and where a value ends.
+//! Which call runs its closure, and what it answers then.
 
-use super::Once;
-use spin_core::relax::{Loop, Spin, Yield};
+use spin_core::relax::Loop;
+use spin_once::once::Once;
 use std::cell::Cell;
-use std::fmt::Debug;
-use std::process::Abort;
 use std::sync::Wait;
-use std::test::Fail;
-
-mod shared;
 
 // A caller's closure may be generic, may borrow, and may wait.
 fn made_from<T: Copy, R: Wait>(rt: &R, once: &Once<T>, from: &Once<T>) -> T {
     *once.call_once(rt, || *from.wait(rt))
 }
 
+fn count(runs: &Cell<u32>) {
+    runs.set(runs.get().wrapping_add(1));
+}
+
 #[test]
 fn a_closure_that_fails_leaves_the_next_one_its_turn(rt: HostRuntime) {
     let runs = Cell::new(0u32);
-    let run = || runs.set(runs.get().wrapping_add(1));
     let once: Once<u64> = Once::new();
     let failed = once.try_call_once(&rt, || {
-        run();
+        count(&runs);
         Err(())
     });
     assert_eq!(rt; failed, Err(()));
     assert_eq!(rt; once.get(), None);
     let seven = once.call_once(&rt, || {
-        run();
+        count(&runs);
         7
     });
     assert_eq!(rt; *seven, 7);
     let seven = once.call_once(&rt, || {
-        run();
+        count(&runs);
         8
     });
     assert_eq!(rt; *seven, 7);
     let seven = once.try_call_once(&rt, || {
-        run();
+        count(&runs);
         Err(())
     });
     assert_eq!(rt; seven, Ok(&7));
@@ -116,16 +114,4 @@ fn a_closure_that_looks_at_its_own(rt: HostRuntime) {
     assert_eq!(rt; seen, 2);
     let other: Once<u64> = Once::new();
     assert_eq!(rt; made_from(&rt, &other, &once), 2);
-}
-
-fn debug_is<T: Debug>(rt: &(impl Abort + AllocGlobal), value: &T, text: &str) -> Result<(), Fail> {
-    let found = format!(in rt.alloc(); "{value:?}")?;
-    assert_eq!(rt; found.as_str(), text);
-    Ok(())
-}
-
-#[test]
-fn its_text(rt: HostRuntime) -> Result<(), Fail> {
-    debug_is(&rt, &Once::<u64>::initialized(5), "Once(5)")?;
-    debug_is(&rt, &Once::<u64, Yield>::new(), "Once(<uninit>)")
 }

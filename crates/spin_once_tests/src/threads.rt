@@ -1,7 +1,8 @@
-//! In several threads, and where a value ends.
+//! In several threads, and what may travel to them.
 
-use crate::once::Once;
 use spin_core::relax::{RelaxStrategy, Spin, Yield};
+use spin_once::lazylock::LazyLock;
+use spin_once::once::Once;
 use std::cell::Cell;
 use std::sync::Wait;
 use std::sync::atomic::Ordering::SeqCst;
@@ -21,12 +22,24 @@ fn travels<T: Send + Sync, R>() {
     is_sync::<Once<T, R>>();
 }
 
+// The initialiser need not be shared, since nobody reads it through a `&`.
+fn lazily_travels<T: Send + Sync, F: Send, R>() {
+    is_send::<LazyLock<T, F, R>>();
+    is_sync::<LazyLock<T, F, R>>();
+}
+
 #[test]
 fn travels_with_a_value_that_may(rt: HostRuntime) {
     let _ = rt;
     moves::<Cell<u64>, Cell<u64>>();
     travels::<u64, Cell<u64>>();
     travels::<u64, Spin>();
+}
+
+#[test]
+fn travels_with_an_initialiser_that_may_be_sent(rt: HostRuntime) {
+    let _ = rt;
+    lazily_travels::<u64, Cell<u64>, Cell<u64>>();
 }
 
 fn ask<R: Wait>(rt: &R, once: &Once<u64, Yield>, runs: &AtomicU64, number: u64) -> u64 {
@@ -96,38 +109,20 @@ fn a_poll_waits_while_a_closure_runs(rt: HostRuntime) {
     assert_eq!(rt; polled, Some(7));
 }
 
-/// A value that counts its ends.
-struct Counted<'a> {
-    ends: &'a Cell<u32>,
-}
-
-impl Drop for Counted<'_> {
-    fn drop(self) {
-        let Self { ends } = self;
-        ends.set(ends.get().wrapping_add(1));
-    }
-}
-
 #[test]
-fn a_value_is_dropped_once(rt: HostRuntime) {
-    let ends = Cell::new(0);
-    let once: Once<Counted> = Once::new();
-    once.call_once(&rt, || Counted { ends: &ends });
-    once.call_once(&rt, || Counted { ends: &ends });
-    assert_eq!(rt; ends.get(), 0);
-    drop(once);
-    assert_eq!(rt; ends.get(), 1);
-    drop(Once::<Counted>::new());
-    assert_eq!(rt; ends.get(), 1);
-    let value = Once::<Counted>::initialized(Counted { ends: &ends }).try_into_inner();
-    assert_eq!(rt; ends.get(), 1);
-    drop(value);
-    assert_eq!(rt; ends.get(), 2);
-    let mut once = Once::<Counted>::initialized(Counted { ends: &ends });
-    if let Some(value) = once.get_mut() {
-        *value = Counted { ends: &ends };
+fn ten_that_ask_at_once_run_it_once(rt: HostRuntime) -> Result<(), Fail> {
+    let runs = AtomicU64::new(0);
+    let lazy: LazyLock<u64, _, Yield> = LazyLock::new(|| {
+        runs.fetch_add(1, SeqCst);
+        for _ in 0..100 {
+            Yield::relax(&rt);
+        }
+        5
+    });
+    let values = thread::map_indices(&rt, rt.alloc(), 10, &|_| *LazyLock::force(&lazy, &rt))?;
+    assert_eq!(rt; runs.load(SeqCst), 1);
+    for seen in &values {
+        assert_eq!(rt; *seen, 5);
     }
-    assert_eq!(rt; ends.get(), 3);
-    drop(once);
-    assert_eq!(rt; ends.get(), 4);
+    Ok(())
 }

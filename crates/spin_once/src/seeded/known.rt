@@ -1,0 +1,33 @@
+//! A value that is known to be there, and is not looked for.
+ghost use Rattle.std.specs.Prelude.{◌≡◌, IsSome, IsSomeAnd, IfSome};
+ghost use Rattle.std.specs.Ptr.{as_ptr};
+
+use std::ptr;
+
+/// The value. That there is one is proved, and the compiler takes it that nobody reads through null. So where the value is
+/// read, no test of it is left.
+pub(super) fn known<'a, T>(value: Option<&'a T>) -> &'a T
+    requires { IsSome value }
+    ensures { IfSome value.entry (λ there. result.now ≡ there.now) }
+{
+    at(value, address(value))
+}
+
+/// Where the value lies, or null.
+fn address<T>(value: Option<&T>) -> *const T
+    ensures { IfSome value.entry (λ there. result ≡ as_ptr there) }
+{
+    match value {
+        Some(value) => ptr::from_ref(value),
+        None => ptr::null(),
+    }
+}
+
+/// The value, which lies at this address.
+fn at<'a, T>(value: Option<&'a T>, address: *const T) -> &'a T
+    requires { IsSomeAnd value (λ there. address ≡ as_ptr there) }
+    ensures { IfSome value.entry (λ there. result.now ≡ there.now) }
+{
+    let _ = value;
+    unsafe { &*address }
+}

@@ -1,0 +1,13 @@
+//! Tests of `Once` and `LazyLock`: what no contract says of them, and proved callers.
+#![tactic(auto)]
+
+#[cfg(test)]
+mod ends;
+#[cfg(test)]
+mod lazylock;
+#[cfg(test)]
+mod once;
+#[cfg(test)]
+mod texts;
+#[cfg(test)]
+mod threads;

@@ -1,0 +1,28 @@
+//! The texts as they are printed.
+
+use spin_core::relax::Yield;
+use spin_once::lazylock::LazyLock;
+use spin_once::once::Once;
+use std::fmt::Debug;
+use std::process::Abort;
+use std::test::Fail;
+
+fn debug_is<T: Debug>(rt: &(impl Abort + AllocGlobal), value: &T, text: &str) -> Result<(), Fail> {
+    let found = format!(in rt.alloc(); "{value:?}")?;
+    assert_eq!(rt; found.as_str(), text);
+    Ok(())
+}
+
+#[test]
+fn a_once_shows_its_value_once_it_has_one(rt: HostRuntime) -> Result<(), Fail> {
+    debug_is(&rt, &Once::<u64>::initialized(5), "Once(5)")?;
+    debug_is(&rt, &Once::<u64, Yield>::new(), "Once(<uninit>)")
+}
+
+#[test]
+fn a_lazy_lock_shows_its_value_once_it_is_made(rt: HostRuntime) -> Result<(), Fail> {
+    let lazy: LazyLock<u64, _> = LazyLock::new(|| 5);
+    debug_is(&rt, &lazy, "LazyLock(<uninit>)")?;
+    LazyLock::force(&lazy, &rt);
+    debug_is(&rt, &lazy, "LazyLock(5)")
+}
