@@ -1,6 +1,6 @@
 -- The steps of a lock of seats keep its rule: each is the plain step of its step function.
 use Rattle.std.proofs.Common.{◌≡◌, ℕ, ◌+◌, ◌-◌, ◌≤◌, ◌%◌, ◌^◌, ◌==◌, Bool, true, false, if◌then◌else◌, cond, List, [], ◌∷◌, length, filter, Option, Some, None, refl, sym, ap, ◌∙◌, arith}
-use Rattle.std.specs.Prelude.{max, sum_by}
+use Rattle.std.specs.Prelude.{◌≢◌, max, sum_by}
 use Rattle.std.proofs.lemmas.List.Sums.{sum_by-cons}
 use prog.Atomic.{either}
 use Rattle.spin_step.specs.Plain.{Plain, reading, count_kind, same_kind, gets, releases, to_read}
@@ -12,7 +12,8 @@ use Rattle.spin_core.specs.Plays.{becomes, exchanges}
 use Rattle.spin_core.proofs.CellCounts.{none}
 use Rattle.spin_core.proofs.Leaving.{flag_word-up, no_word-up}
 use Rattle.spin_core.proofs.Owners.{exactly}
-use Rattle.spin_core.proofs.Plays.{Lock, Holds, allows, allows_among, by_step, by_none, by_exchange, begins, rests, moved_rests, missed_rests}
+use Rattle.spin_core.proofs.Plays.{Lock, Holds, allows, by_step, by_none, by_grant, exchanged, begins}
+use Rattle.spin_core.proofs.Plays as plays
 use Rattle.spin_core.proofs.Views.{part-beyond, release-own}
 use Rattle.spin_seats.specs.declared.seats.rule.View.{View}
 use Rattle.spin_seats.specs.declared.seats.rule.View.TheVariants.{Idle, Seated}
@@ -59,6 +60,9 @@ fits n vs s room order is = omega (arith, none (λ v. writes_of (use_of_view v))
 abbrev lock : ℕ → Lock View
 lock n = record {
   part = part;
+  uses = use_of_view;
+  idle = Idle;
+  is_idle = (refl, refl);
   way = lends;
   goes = λ u v readers A a. a;
   cap = seats n;
@@ -94,10 +98,8 @@ pub sits_down : (n old new : ℕ) → ((s : Plain) (p : ℕ) → AllRead s → s
     → Allows (IsSeats n) ways None (λ w. either (w == old) new w) (exchanges (λ _. Seated) Idle old new None)
 sits_down n old new plain room = let says = exchanges (λ _. Seated) Idle old new None in
     within n None (λ w. either (w == old) new w) says says (λ w few most. either_fits (w == old) new w (seats n) room few) (λ w v few said. said)
-    (allows_among (lock n) None (λ w. either (w == old) new w) says
-    (λ s p vs room order is has. by_exchange (lock n) None Seated Idle s p (seats_word s) 0 old new
-    (λ e. let granted = plain s p (all_read vs s is) room e in by_step (lock n) None Seated s (gets p to_read) new 0 granted.0 refl tt granted.1 refl)
-    (by_none (lock n) None Idle s p refl tt)))
+    (exchanged (lock n) None (λ _. Seated) Idle old new (λ s p. (refl, tt))
+    (λ s p vs room order is has small e. by_grant (lock n) None Seated s p to_read new 0 (plain s p (all_read vs s is) room e) refl tt refl))
 
 pub gets_up : (n : ℕ) → Allows (IsSeats n) ways (Some Seated) (λ w. (w + (2 ^ 64 - 1)) % 2 ^ 64) (becomes Idle 1 0 (Some Seated))
 gets_up n = let says = becomes Idle 1 0 (Some Seated) in
@@ -116,18 +118,15 @@ also : (n : ℕ) (view : Option View) → Rests (Holds (lock n)) use_of_view vie
 also n None rest = tt
 also n (Some v) rest = (rest.0, λ w m before behind is. (rest.1 w m before behind is.0, is.1))
 
-idle_rests : (n : ℕ) → Rests (Holds (lock n)) use_of_view (Some Idle)
-idle_rests n = rests (lock n) Idle refl (λ p. refl)
-
 pub left_rests : (n : ℕ) (view : Option View) → Moved (λ v. v ≡ Idle) view → Rests (IsSeats n) use_of_view view
-left_rests n view moved = also n view (moved_rests (lock n) view Idle moved (idle_rests n))
+left_rests n view moved = also n view (plays.left_rests (lock n) view moved)
 
 pub looked : (n : ℕ) (view : Option View) (found : ℕ) → Moved (λ v. (v ≡ Idle) × (found ≤ seats n)) view → Rests (IsSeats n) use_of_view view × (found ≤ seats n)
 looked n None found moved = absurd moved
 looked n (Some v) found moved = (left_rests n (Some v) moved.0, moved.1)
 
-pub refused_rests : (n : ℕ) (view : Option View) (expected found : ℕ) → Moved (λ v. v ≡ (if found == expected then Seated else Idle)) view → (found ≡ expected → ⊥) → Rests (IsSeats n) use_of_view view
-refused_rests n view expected found moved ne = also n view (missed_rests (lock n) view Seated Idle found expected moved ne (idle_rests n))
+pub refused_rests : (n : ℕ) (view : Option View) (found expected : ℕ) → found ≢ expected → Moved (λ v. v ≡ (if found == expected then Seated else Idle)) view → Rests (IsSeats n) use_of_view view
+refused_rests n view found expected other moved = also n view (plays.refused_rests (lock n) Seated view found expected other moved)
 
 -- What the rule says
 

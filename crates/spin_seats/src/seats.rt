@@ -10,8 +10,6 @@ use spin_core::relax::{RelaxStrategy, Spin};
 use std::sync::Wait;
 
 mod rule;
-#[cfg(test)]
-mod tests;
 
 /// A lock of `N` seats, and at most [`MAX_SEATS`](steps::MAX_SEATS): no more guards of it stand at a time. Who waits for a
 /// seat is not served in turn.

@@ -1,9 +1,9 @@
 //! A cache that threads share: a table under an `RwLock`, which is filled by the one reader that may become the writer.
 ghost use Rattle.std.specs.Prelude.{◌≡◌, ℕ, Bool, true, IfOk};
 
-use self::table::Table;
+pub use self::table::Table;
 use spin_core::relax::{RelaxStrategy, Spin};
-use spin_rwlock::rwlock::RwLock;
+use spin_rwlock::rwlock::{RwLock, RwLockReadGuard};
 use std::alloc::{AllocError, Allocator, Global};
 use std::sync::Wait;
 
@@ -29,6 +29,11 @@ impl<C: Answers, A: Allocator, R: RelaxStrategy> Cache<C, A, R> {
         Cache {
             table: RwLock::new(Table::new(alloc)),
         }
+    }
+
+    /// The answers that are there, to look at beside other readers. None is added while the guard lives.
+    pub fn read<W: Wait>(&self, rt: &W) -> RwLockReadGuard<'_, Table<C, A>, R> {
+        self.table.read(rt)
     }
 
     /// The answer for the key, which `make` makes where there is none yet. `Err` where there is no memory for it.
@@ -72,6 +77,3 @@ impl<C: Answers, A: Allocator, R: RelaxStrategy> Cache<C, A, R> {
         Ok(guard.newest().unwrap())
     }
 }
-
-#[cfg(test)]
-mod tests;

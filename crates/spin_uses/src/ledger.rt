@@ -8,9 +8,6 @@ use std::alloc::{Allocator, Global};
 use std::marker::{Brand, PhantomData};
 use std::sync::Wait;
 
-#[cfg(test)]
-mod tests;
-
 /// An amount that goes from one account to another. Accounts have the numbers from 0 on.
 #[derive(Clone, Copy, Debug, PartialEq, Eq)]
 pub struct Transfer {

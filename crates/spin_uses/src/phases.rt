@@ -3,7 +3,7 @@
 //!
 //! What is proved is the total: a book under the lock has what is still to come, and each worker has a share of it. That
 //! a leader folds a round only once all of it is in, and that a round has one leader, is shown by a test.
-ghost use Rattle.std.specs.Prelude.{◌≡◌, ℕ, ◌+◌, ◌*◌, ◌^◌, ◌<◌, ◌≤◌, IfOk, vec_len};
+ghost use Rattle.std.specs.Prelude.{◌≡◌, ℕ, ◌+◌, ◌*◌, ◌^◌, ◌<◌, ◌≤◌, true, IfOk, vec_capacity, vec_len};
 ghost use Rattle.spin_uses.specs.Phases.{IsSpent};
 
 use spin_barrier::barrier::Barrier;
@@ -160,7 +160,44 @@ impl<P: Plan + Send + Sync, R: Threads + Wait + Sync> Team<'_, P, R> {
         all_worked
     }
 
-    /// Starts a thread for each worker. Where one is refused, those that were started are joined: they have not begun.
+    /// Starts a thread for one worker.
+    fn start<'s, E>(&'s self, scope: &Scope<'s, E>, share: Share<P>) -> Option<JoinHandle<Done<P>>>
+        requires one_part { share.parts ≡ 1 }
+        requires gains { share.amount ≡ self.now.rounds * self.now.gain }
+    {
+        let job = move || -> Done<P>
+            requires { (share.parts ≡ 1) × (share.amount ≡ self.now.rounds * self.now.gain) }
+        { self.work(share) };
+        scope.spawn(job).ok()
+    }
+
+    /// Starts a thread for each worker, and answers whether none was refused.
+    fn start_each<'s, E, A: Allocator>(
+        &'s self,
+        scope: &Scope<'s, E>,
+        workers: usize,
+        mine: &mut Share<P>,
+        running: &mut Vec<JoinHandle<Done<P>>, A>,
+    ) -> bool
+        requires parts { mine.old.parts ≡ workers + 1 }
+        requires amount { mine.old.amount ≡ workers * (self.now.rounds * self.now.gain) }
+        requires room { workers ≤ vec_capacity running.old }
+        requires none { vec_len running.old ≡ 0 }
+        ensures parts { result ≡ true → mine.new.parts + vec_len running.new ≡ mine.old.parts }
+        ensures started { result ≡ true → vec_len running.new ≡ workers }
+        ensures amount { result ≡ true → mine.new.amount ≡ 0 }
+    {
+        for _worker in 0..workers {
+            let share = mine.split_off(1, self.rounds * self.gain);
+            let Some(started) = self.start(scope, share) else {
+                return false;
+            };
+            running.push_reserved(started);
+        }
+        true
+    }
+
+    /// Starts all workers. Where one is refused, those that were started are joined: they have not begun.
     fn start_all<'s, E, A: Allocator>(
         &'s self,
         scope: &Scope<'s, E>,
@@ -176,19 +213,13 @@ impl<P: Plan + Send + Sync, R: Threads + Wait + Sync> Team<'_, P, R> {
     {
         let mut running = Vec::with_capacity(alloc, workers)?;
         let mut begins = self.begins.lock(self.rt);
-        for _worker in 0..workers {
-            let share = mine.split_off(1, self.rounds * self.gain);
-            let job = move || -> Done<P>
-                requires { (share.parts ≡ 1) × (share.amount ≡ self.now.rounds * self.now.gain) }
-            { self.work(share) };
-            let Ok(started) = scope.spawn(job) else {
-                drop(begins);
-                self.join_all(running, mine);
-                return Err(PhasesError::Refused);
-            };
-            running.push_reserved(started);
+        let all_start = self.start_each(scope, workers, mine, &mut running);
+        *begins = all_start;
+        drop(begins);
+        if !all_start {
+            self.join_all(running, mine);
+            return Err(PhasesError::Refused);
         }
-        *begins = true;
         Ok(running)
     }
 
@@ -286,6 +317,3 @@ pub fn run_phases<R: Threads + Wait + Sync, A: Allocator>(
         gain,
     )
 }
-
-#[cfg(test)]
-mod tests;

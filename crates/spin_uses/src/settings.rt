@@ -137,6 +137,3 @@ impl<'t, F: FnOnce() -> Answer, R: RelaxStrategy> SharedSettings<'t, F, R> {
         }
     }
 }
-
-#[cfg(test)]
-mod tests;

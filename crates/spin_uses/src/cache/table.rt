@@ -15,7 +15,7 @@ struct Entry {
 
 /// The answers that were made, in their order.
 #[derive(Drop)]
-pub(super) struct Table<C: Answers, A: Allocator> {
+pub struct Table<C: Answers, A: Allocator> {
     entries: Vec<Entry, A>,
     answers: PhantomData<C>,
     ghost sound: { may_all C.may entries.items ≡ true },
@@ -30,7 +30,7 @@ impl<C: Answers, A: Allocator> Table<C, A> {
     }
 
     /// The answer for the key, if one was made.
-    pub(super) fn answer(&self, key: u64) -> Option<u64>
+    pub fn answer(&self, key: u64) -> Option<u64>
         ensures exact { result ≡ answer_in key self.now.entries.items }
         ensures may { IfSome result (λ value. C.may key value ≡ true) }
     {

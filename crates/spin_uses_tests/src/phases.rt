@@ -1,5 +1,5 @@
 //! What no clause says: that each round is folded once, by its leader, when all of it is in.
-use super::{Folded, run_phases};
+use spin_uses::phases::{Folded, run_phases};
 
 #[test]
 fn each_round_is_folded_whole(rt: HostRuntime) {

@@ -1,9 +1,8 @@
 //! Callers of one cache, alone and in threads.
 ghost use Rattle.std.specs.Prelude.{◌≡◌, ◌==◌, ◌*◌, ◌%◌, ◌^◌, IfOk};
 
-use super::{Answers, Cache};
 use spin_core::relax::Yield;
-use spin_rwlock::rwlock::RwLockReadGuard;
+use spin_uses::cache::{Answers, Cache};
 use std::alloc::{AllocError, Global};
 use std::cell::Cell;
 use std::sync::Wait;
@@ -59,12 +58,12 @@ fn threads_make_each_answer_once(rt: HostRuntime) -> Result<(), Fail> {
 // A writer would wait for ever beside a reader that stays.
 #[test]
 fn an_answer_that_is_there_takes_no_write(rt: HostRuntime) -> Result<(), Fail> {
-    let cache = Cache::new(rt.alloc());
+    let cache: SquareCache = Cache::new(rt.alloc());
     let made = Cell::new(0);
     assert_eq!(rt; square(&rt, &cache, 3, &made)?, 9);
-    drop(RwLockReadGuard::hold(cache.table.read(&rt)));
-    assert!(rt; cache.table.try_write().is_none());
+    let reader = cache.read(&rt);
     assert_eq!(rt; square(&rt, &cache, 3, &made)?, 9);
+    assert_eq!(rt; reader.answer(3), Some(9));
     assert_eq!(rt; made.get(), 1);
     Ok(())
 }

@@ -1,6 +1,6 @@
 -- each worker that was started took one part, and its gains
 use Rattle.std.proofs.Common.{◌≡◌, ◌+◌, ◌*◌, ◌≤◌, vec_len, vec_capacity}
-use Rattle.spin_uses.proofs.phases.Team.start_all.Given as goal
+use Rattle.spin_uses.proofs.phases.Team.start_each.Given as goal
 
 abbrev pub invariant-loop-worker : goal.invariant-loop-worker
 invariant-loop-worker g l =

@@ -1,8 +1,8 @@
 //! What no contract says: worked rows, that a call succeeds where nothing is refused, and threads that end.
 ghost use Rattle.std.specs.Prelude.{◌≡◌, ◌<◌, ◌^◌, sum};
 
-use super::{Accounts, Ledger, Opening, Refused, Transfer, replay, total};
 use bumpalo::Bump;
+use spin_uses::ledger::{Accounts, Ledger, Opening, Refused, Transfer, replay, total};
 use std::alloc::{AllocError, Allocator, Global};
 use std::marker::Brand;
 use std::process::Abort;

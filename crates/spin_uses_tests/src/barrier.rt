@@ -1,5 +1,5 @@
 //! What no contract says: that a party stays for its group, that one party of each group leads, and which.
-use super::Barrier;
+use spin_barrier::barrier::Barrier;
 use spin_core::relax::{Loop, RelaxStrategy, Spin, Yield};
 use std::cell::Cell;
 use std::sync::Wait;

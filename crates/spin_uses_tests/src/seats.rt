@@ -1,5 +1,5 @@
 //! What no contract says: which call is granted, what the count tells, and that threads get on.
-use super::Seats;
+use spin_seats::seats::Seats;
 use std::process::Abort;
 use std::sync::Wait;
 use std::sync::atomic::{AtomicU64, Ordering};

@@ -2,8 +2,8 @@
 ghost use Rattle.spin_uses.specs.Settings.{IsAnswerFor};
 ghost use Rattle.spin_uses.specs.SharedSettings.{reader_of, text_of};
 
-use super::{Answer, BadLine, Setting, Settings, SharedSettings};
 use spin_core::relax::{RelaxStrategy, Yield};
+use spin_uses::settings::{Answer, BadLine, Setting, Settings, SharedSettings};
 use std::alloc::{AllocError, Global};
 use std::sync::Wait;
 use std::sync::atomic::AtomicU64;
