@@ -1,6 +1,7 @@
 //! What no contract says: worked rows with their texts, that a call succeeds where nothing is refused, and that workers run at once.
 ghost use Rattle.std.specs.Prelude.{◌≡◌, Some, None, false};
 
+use crate::ends::{Paper, Tape};
 use bumpalo::Bump;
 use spin_core::relax::{RelaxStrategy, Yield};
 use spin_run::run::{
@@ -16,89 +17,6 @@ use std::test::Fail;
 use std::thread::Threads;
 
 const USAGE: &str = "usage: spin-run count WORKERS TIMES | spin-run world\n";
-
-/// A sink in memory. It takes at most `step` bytes at a time, and fails once it holds `room` bytes.
-#[derive(Drop)]
-struct Paper {
-    bytes: Vec<u8>,
-    step: usize,
-    room: usize,
-    failed: bool,
-    /// How often it was written.
-    writes: u64,
-}
-
-impl Paper {
-    fn new(alloc: Global, step: usize, room: usize) -> Paper
-        ensures { result.failed ≡ false }
-    {
-        Paper {
-            bytes: Vec::new(alloc),
-            step,
-            room,
-            failed: false,
-            writes: 0,
-        }
-    }
-
-    /// Paper without an end.
-    fn endless(alloc: Global) -> Paper
-        ensures { result.failed ≡ false }
-    {
-        Paper::new(alloc, usize::MAX, usize::MAX)
-    }
-}
-
-impl Sink for Paper {
-    ghost written = { λ s. Some s.bytes.items };
-
-    ghost failed = { λ s. s.failed };
-
-    fn write(&mut self, from: &[u8]) -> Result<usize, Failed> {
-        self.writes = self.writes.saturating_add(1);
-        let left = self.room.saturating_sub(self.bytes.len());
-        let n = from.len().min(self.step).min(left);
-        if n == 0 && !from.is_empty() || self.bytes.extend_from_slice(&from[..n]).is_err() {
-            self.failed = true;
-            return Err(Failed);
-        }
-        Ok(n)
-    }
-
-    fn has_failed(&self) -> bool {
-        self.failed
-    }
-}
-
-/// Bytes to read, all at once. Where `fails`, a read fails once they are used up.
-#[derive(Drop)]
-struct Tape<'a> {
-    rest: &'a [u8],
-    fails: bool,
-    failed: bool,
-}
-
-impl Source for Tape<'_> {
-    ghost remaining = { λ _. None };
-
-    ghost failed = { λ s. s.failed };
-
-    fn read(&mut self, to: &mut [u8]) -> Result<usize, Failed> {
-        let n = self.rest.len().min(to.len());
-        if n == 0 && self.fails {
-            self.failed = true;
-            return Err(Failed);
-        }
-        let (front, rest) = self.rest.split_at(n);
-        to[..n].copy_from_slice(front);
-        self.rest = rest;
-        Ok(n)
-    }
-
-    fn has_failed(&self) -> bool {
-        self.failed
-    }
-}
 
 /// A source that is not to be read.
 #[derive(Drop)]
@@ -240,11 +158,7 @@ fn plays<R: Abort + AllocGlobal + Threads + Wait + Sync>(
     requires { output.failed ≡ false }
 {
     let mut errors = Paper::endless(alloc);
-    let mut input = Tape {
-        rest: text.as_bytes(),
-        fails: false,
-        failed: false,
-    };
+    let mut input = Tape::new(text.as_bytes());
     assert_eq!(rt;
         program(rt, alloc, &["world"], &mut input, &mut output, &mut errors),
         status,
@@ -301,9 +215,8 @@ fn tells_where_a_world_fails(rt: HostRuntime) {
     let mut errors = Paper::endless(rt.alloc());
     let mut output = Paper::endless(rt.alloc());
     let mut input = Tape {
-        rest: b"x\n",
         fails: true,
-        failed: false,
+        ..Tape::new(b"x\n")
     };
     assert_eq!(rt;
         program(
@@ -324,11 +237,7 @@ fn tells_where_a_world_fails(rt: HostRuntime) {
 fn tells_a_bad_line_in_pieces(rt: HostRuntime) {
     for room in 0..11usize {
         let mut errors = Paper::new(rt.alloc(), 2, room);
-        let mut input = Tape {
-            rest: b"",
-            fails: false,
-            failed: false,
-        };
+        let mut input = Tape::new(b"");
         let mut output = Paper::endless(rt.alloc());
         assert_eq!(rt;
             program(

@@ -1,5 +1,6 @@
 -- The calls of each object are read as they are spelled.
-use Rattle.std.proofs.Common.{◌≡◌, ℕ, ◌<◌, ◌^◌, true, ◌&&◌, Option, Some, None, cond, List, [], ◌∷◌, codes, decimal, refl, ap, subst, ◌∙◌}
+use Rattle.std.proofs.Common.{◌≡◌, ℕ, ◌<◌, ◌^◌, true, ◌&&◌, Option, Some, None, List, [], ◌∷◌, codes, decimal, map, refl, ap, subst, ◌∙◌}
+use Rattle.std.specs.List.{AllByRecursion}
 use Rattle.std.specs.Str.{bytes_eq}
 use Rattle.std.proofs.lemmas.Bool.{ltb-true, lt-ltb}
 use Rattle.spin_world_flag.specs.declared.flag.FlagCall.{FlagCall}
@@ -14,9 +15,10 @@ use Rattle.spin_world_barrier.specs.declared.barrier.BarrierCall.{BarrierCall}
 use Rattle.spin_world_barrier.specs.declared.barrier.BarrierCall.TheVariants as barrier
 use Rattle.spin_world_once.specs.declared.once.OnceCall.{OnceCall}
 use Rattle.spin_world_once.specs.declared.once.OnceCall.TheVariants as once
+use Rattle.spin_text.specs.declared.objects.TheConstants.{PLAIN_ONCE_CALLS}
 use Rattle.spin_text.specs.Objects.{flag_calls, ticket_calls, rw_calls, fair_calls, barrier_calls, once_calls}
 use Rattle.spin_text.specs.Spelling.{Calls}
-use Rattle.spin_text.specs.Reading.{◌>>=◌, is_end, last_word, last_number, read_flag_call, read_ticket_call, read_rw_call, read_fair_call, read_barrier_call, read_try_call_once, plain_once_call, read_once_call}
+use Rattle.spin_text.specs.Reading.{◌>>=◌, is_end, last_word, last_number, read_flag_call, read_ticket_call, read_rw_call, read_fair_call, read_barrier_call, named, read_try_call_once, read_once_call}
 use Rattle.spin_text.specs.Readable.{ReadsCalls}
 use Rattle.spin_text.proofs.Options.{chosen, bound, some_is, and_true}
 use Rattle.spin_text.proofs.Moves.{is_text, front, ends, last_word_takes, last_number_takes, last_number_again}
@@ -25,21 +27,20 @@ module _ {C : Type 0} (calls : Calls C) where
   abbrev IsCall : List (List ℕ) → C → Type 0
   IsCall ws c = (calls.fits c ≡ true) × (ws ≡ calls.words c)
 
-  -- a call of one word, by its name, or one of the others
-  pub named : (w name : List ℕ) (this : C) (other : Option C) (c : C) → IsCall (name ∷ []) this → (other ≡ Some c → IsCall (w ∷ []) c) → cond (bytes_eq w name) (Some this) other ≡ Some c → IsCall (w ∷ []) c
-  named w name this other c call else =
-      chosen (bytes_eq w name) (Some this) other c (IsCall (w ∷ []) c) (λ same is.
+  -- a word that a table names is that call, where each row names its call
+  pub named_takes : (rows : List (List ℕ × C)) → AllByRecursion (λ row. IsCall (row.0 ∷ []) row.1) rows → (w : List ℕ) (c : C) → named rows w ≡ Some c → IsCall (w ∷ []) c
+  unfolding named
+  named_takes [] each w c = λ is. absurd (cc)
+  named_takes (row ∷ rows) each w c =
+      chosen (bytes_eq w row.0) (Some row.1) (named rows w) c (IsCall (w ∷ []) c) (λ same is.
       let P : C → Type 0 = IsCall (w ∷ []) in
-      subst P (some_is is) (call.0, ap (λ x. x ∷ []) (is_text w name same) ∙ call.1)) (λ _. else)
-
-  pub unnamed : (w : List ℕ) (c : C) → None ≡ Some c → IsCall (w ∷ []) c
-  unnamed w c is = absurd (cc)
+      subst P (some_is is) (each.0.0, ap (λ x. x ∷ []) (is_text w row.0 same) ∙ each.0.1)) (λ _. named_takes rows each.1 w c)
 
   -- where all calls are of one word
-  pub by_word : (name : List ℕ → Option C) (ws : List (List ℕ)) (c : C) → ((w : List ℕ) → name w ≡ Some c → IsCall (w ∷ []) c) → (last_word ws >>= name) ≡ Some c → IsCall ws c
-  by_word name ws c each =
-      bound (last_word ws) name c (IsCall ws c) (λ w one is.
-      let call = each w is in (call.0, last_word_takes ws w one ∙ call.1))
+  pub word_takes : (rows : List (List ℕ × C)) → AllByRecursion (λ row. IsCall (row.0 ∷ []) row.1) rows → (ws : List (List ℕ)) (c : C) → (last_word ws >>= named rows) ≡ Some c → IsCall ws c
+  word_takes rows each ws c =
+      bound (last_word ws) (named rows) c (IsCall ws c) (λ w one is.
+      let call = named_takes rows each w c is in (call.0, last_word_takes ws w one ∙ call.1))
 
   -- a call that is found is the one that is told
   pub told : (ws : List (List ℕ)) (this c : C) → IsCall ws this → Some this ≡ Some c → IsCall ws c
@@ -54,14 +55,10 @@ module _ {C : Type 0} (calls : Calls C) where
 
 flag_takes : (ws : List (List ℕ)) (c : FlagCall) → read_flag_call ws ≡ Some c → IsCall flag_calls ws c
 unfolding read_flag_call
-flag_takes ws c =
-    let one = named flag_calls in
-    by_word flag_calls _ ws c (λ w.
-    one w _ flag.Lock _ c (refl, refl) (one w _ flag.TryLock _ c (refl, refl) (one w _ flag.TryLockWeak _ c (refl, refl)
-    (one w _ flag.IsLocked _ c (refl, refl) (one w _ flag.Release _ c (refl, refl) (unnamed flag_calls w c))))))
+flag_takes = word_takes flag_calls _ ((refl, refl), ((refl, refl), ((refl, refl), ((refl, refl), ((refl, refl), tt)))))
 
 flag_again : (c : FlagCall) → flag_calls.fits c ≡ true → read_flag_call (flag_calls.words c) ≡ Some c
-unfolding read_flag_call last_word
+unfolding read_flag_call last_word named
 flag_again flag.Lock fits = refl
 flag_again flag.TryLock fits = refl
 flag_again flag.TryLockWeak fits = refl
@@ -73,14 +70,10 @@ flag_reads = record { takes = flag_takes; again = flag_again }
 
 ticket_takes : (ws : List (List ℕ)) (c : TicketCall) → read_ticket_call ws ≡ Some c → IsCall ticket_calls ws c
 unfolding read_ticket_call
-ticket_takes ws c =
-    let one = named ticket_calls in
-    by_word ticket_calls _ ws c (λ w.
-    one w _ ticket.Lock _ c (refl, refl) (one w _ ticket.TryLock _ c (refl, refl)
-    (one w _ ticket.IsLocked _ c (refl, refl) (one w _ ticket.Release _ c (refl, refl) (unnamed ticket_calls w c)))))
+ticket_takes = word_takes ticket_calls _ ((refl, refl), ((refl, refl), ((refl, refl), ((refl, refl), tt))))
 
 ticket_again : (c : TicketCall) → ticket_calls.fits c ≡ true → read_ticket_call (ticket_calls.words c) ≡ Some c
-unfolding read_ticket_call last_word
+unfolding read_ticket_call last_word named
 ticket_again ticket.Lock fits = refl
 ticket_again ticket.TryLock fits = refl
 ticket_again ticket.IsLocked fits = refl
@@ -91,17 +84,10 @@ ticket_reads = record { takes = ticket_takes; again = ticket_again }
 
 rw_takes : (ws : List (List ℕ)) (c : RwCall) → read_rw_call ws ≡ Some c → IsCall rw_calls ws c
 unfolding read_rw_call
-rw_takes ws c =
-    let one = named rw_calls in
-    by_word rw_calls _ ws c (λ w.
-    one w _ rw.TryRead _ c (refl, refl) (one w _ rw.Read _ c (refl, refl) (one w _ rw.TryUpgradeableRead _ c (refl, refl)
-    (one w _ rw.UpgradeableRead _ c (refl, refl) (one w _ rw.TryWrite _ c (refl, refl) (one w _ rw.TryWriteWeak _ c (refl, refl)
-    (one w _ rw.Write _ c (refl, refl) (one w _ rw.ReaderCount _ c (refl, refl) (one w _ rw.WriterCount _ c (refl, refl)
-    (one w _ rw.TryUpgrade _ c (refl, refl) (one w _ rw.TryUpgradeWeak _ c (refl, refl) (one w _ rw.Upgrade _ c (refl, refl)
-    (one w _ rw.Downgrade _ c (refl, refl) (one w _ rw.DowngradeToUpgradeable _ c (refl, refl) (one w _ rw.Release _ c (refl, refl) (unnamed rw_calls w c))))))))))))))))
+rw_takes = word_takes rw_calls _ ((refl, refl), ((refl, refl), ((refl, refl), ((refl, refl), ((refl, refl), ((refl, refl), ((refl, refl), ((refl, refl), ((refl, refl), ((refl, refl), ((refl, refl), ((refl, refl), ((refl, refl), ((refl, refl), ((refl, refl), tt)))))))))))))))
 
 rw_again : (c : RwCall) → rw_calls.fits c ≡ true → read_rw_call (rw_calls.words c) ≡ Some c
-unfolding read_rw_call last_word
+unfolding read_rw_call last_word named
 rw_again rw.TryRead fits = refl
 rw_again rw.Read fits = refl
 rw_again rw.TryUpgradeableRead fits = refl
@@ -123,16 +109,10 @@ rw_reads = record { takes = rw_takes; again = rw_again }
 
 fair_takes : (ws : List (List ℕ)) (c : FairCall) → read_fair_call ws ≡ Some c → IsCall fair_calls ws c
 unfolding read_fair_call
-fair_takes ws c =
-    let one = named fair_calls in
-    by_word fair_calls _ ws c (λ w.
-    one w _ fair.Lock _ c (refl, refl) (one w _ fair.TryLock _ c (refl, refl) (one w _ fair.TryLockStarver _ c (refl, refl)
-    (one w _ fair.IsLocked _ c (refl, refl) (one w _ fair.Starve _ c (refl, refl) (one w _ fair.StarverTryLockFair _ c (refl, refl)
-    (one w _ fair.StarverTryLock _ c (refl, refl) (one w _ fair.StarverLock _ c (refl, refl) (one w _ fair.StarverDrop _ c (refl, refl)
-    (one w _ fair.Release _ c (refl, refl) (unnamed fair_calls w c)))))))))))
+fair_takes = word_takes fair_calls _ ((refl, refl), ((refl, refl), ((refl, refl), ((refl, refl), ((refl, refl), ((refl, refl), ((refl, refl), ((refl, refl), ((refl, refl), ((refl, refl), tt))))))))))
 
 fair_again : (c : FairCall) → fair_calls.fits c ≡ true → read_fair_call (fair_calls.words c) ≡ Some c
-unfolding read_fair_call last_word
+unfolding read_fair_call last_word named
 fair_again fair.Lock fits = refl
 fair_again fair.TryLock fits = refl
 fair_again fair.TryLockStarver fits = refl
@@ -149,10 +129,10 @@ fair_reads = record { takes = fair_takes; again = fair_again }
 
 barrier_takes : (ws : List (List ℕ)) (c : BarrierCall) → read_barrier_call ws ≡ Some c → IsCall barrier_calls ws c
 unfolding read_barrier_call
-barrier_takes ws c = by_word barrier_calls _ ws c (λ w. named barrier_calls w _ barrier.Wait _ c (refl, refl) (unnamed barrier_calls w c))
+barrier_takes = word_takes barrier_calls _ ((refl, refl), tt)
 
 barrier_again : (c : BarrierCall) → barrier_calls.fits c ≡ true → read_barrier_call (barrier_calls.words c) ≡ Some c
-unfolding read_barrier_call last_word
+unfolding read_barrier_call last_word named
 barrier_again barrier.Wait fits = refl
 
 pub barrier_reads : ReadsCalls barrier_calls read_barrier_call
@@ -169,12 +149,8 @@ try_call_once_takes w (v ∷ ws) c name one =
     let both = and_true _ _ err in
     told once_calls all once.TryCallOnceErr c (refl, front w (v ∷ ws) _ _ name (ends v ws _ (is_text v _ both.0) both.1))) (λ _ is. absurd (cc))) one
 
-plain_once_takes : (w : List ℕ) (ws : List (List ℕ)) (c : OnceCall ℕ) → is_end ws ≡ true → plain_once_call w ≡ Some c → IsCall once_calls (w ∷ ws) c
-unfolding plain_once_call
-plain_once_takes w [] c end =
-    let one = named once_calls in
-    one w _ once.Wait _ c (refl, refl) (one w _ once.Poll _ c (refl, refl)
-    (one w _ once.Get _ c (refl, refl) (one w _ once.IsCompleted _ c (refl, refl) (unnamed once_calls w c))))
+plain_once_takes : (w : List ℕ) (ws : List (List ℕ)) (c : OnceCall ℕ) → is_end ws ≡ true → named (map (λ row. (row.0.now, row.1)) PLAIN_ONCE_CALLS) w ≡ Some c → IsCall once_calls (w ∷ ws) c
+plain_once_takes w [] c end = named_takes once_calls _ ((refl, refl), ((refl, refl), ((refl, refl), ((refl, refl), tt)))) w c
 plain_once_takes w (v ∷ ws) c end = absurd (cc)
 
 once_takes : (ws : List (List ℕ)) (c : OnceCall ℕ) → read_once_call ws ≡ Some c → IsCall once_calls ws c
@@ -189,7 +165,7 @@ once_takes (w ∷ ws) c one =
     chosen (is_end ws) _ _ c (IsCall once_calls (w ∷ ws) c) (plain_once_takes w ws c) (λ _ is. absurd (cc))))) one
 
 once_again : (c : OnceCall ℕ) → once_calls.fits c ≡ true → read_once_call (once_calls.words c) ≡ Some c
-unfolding read_once_call read_try_call_once plain_once_call
+unfolding read_once_call read_try_call_once named
 once_again (once.CallOnce v) fits = ap (λ o. o >>= λ n. Some (once.CallOnce n)) (last_number_again v (ltb-true v (2 ^ 64) fits))
 once_again (once.TryCallOnceOk v) fits = ap (λ o. o >>= λ n. Some (once.TryCallOnceOk n)) (last_number_again v (ltb-true v (2 ^ 64) fits))
 once_again once.TryCallOnceErr fits = refl

@@ -1,5 +1,5 @@
 -- A line read from left to right. What this finds is what is spelled, which laws say.
-use Rattle.std.specs.Prelude.{ℕ, ◌^◌, Bool, true, false, ◌&&◌, nat_lt, nat_le, ◌==◌, List, [], ◌∷◌, Option, Some, None, codes, decimal, if◌then◌else◌}
+use Rattle.std.specs.Prelude.{ℕ, ◌^◌, Bool, true, false, ◌&&◌, nat_lt, nat_le, ◌==◌, List, [], ◌∷◌, Option, Some, None, codes, decimal, map, if◌then◌else◌}
 use Rattle.std.specs.Borrow.{Bor}
 use Rattle.std.specs.List.{slice_split}
 use Rattle.std.specs.Str.{bytes_eq}
@@ -9,19 +9,15 @@ use Rattle.spin_world_core.specs.declared.schedule.Move.TheVariants.{Begin, Step
 use Rattle.spin_step.specs.Readers.{reader_limit}
 use Rattle.spin_step.specs.Starvers.{most_starvers}
 use Rattle.spin_world_flag.specs.declared.flag.FlagCall.{FlagCall}
-use Rattle.spin_world_flag.specs.declared.flag.FlagCall.TheVariants as flag
 use Rattle.spin_world_ticket.specs.declared.ticket.TicketCall.{TicketCall}
-use Rattle.spin_world_ticket.specs.declared.ticket.TicketCall.TheVariants as ticket
 use Rattle.spin_world_rw.specs.declared.rw.RwCall.{RwCall}
-use Rattle.spin_world_rw.specs.declared.rw.RwCall.TheVariants as rw
 use Rattle.spin_world_fair.specs.declared.fair.FairCall.{FairCall}
-use Rattle.spin_world_fair.specs.declared.fair.FairCall.TheVariants as fair
 use Rattle.spin_world_barrier.specs.declared.barrier.BarrierCall.{BarrierCall}
-use Rattle.spin_world_barrier.specs.declared.barrier.BarrierCall.TheVariants as barrier
 use Rattle.spin_world_once.specs.declared.once.OnceCall.{OnceCall}
 use Rattle.spin_world_once.specs.declared.once.OnceCall.TheVariants as once
 use Rattle.spin_text.specs.declared.header.Header.{Header}
 use Rattle.spin_text.specs.declared.header.Header.TheVariants.{Flag, Ticket, Rw, Fair, Barrier, Once}
+use Rattle.spin_text.specs.declared.objects.TheConstants.{FLAG_CALLS, TICKET_CALLS, RW_CALLS, FAIR_CALLS, BARRIER_CALLS, PLAIN_ONCE_CALLS}
 use Rattle.spin_text.specs.Lines.{words_of, words_by_line}
 
 infixl 10 ◌>>=◌
@@ -110,62 +106,27 @@ read_entry call ws = do
   move ← read_move call party.1
   Some (party.0, move)
 
--- the rows
+-- what a table has beside a word
+unfoldable pub named : {C : Type 0} → List (List ℕ × C) → List ℕ → Option C
+named [] w = None
+named (row ∷ rows) w = if bytes_eq w row.0 then Some row.1 else named rows w
+
+-- the calls of each object
 
 unfoldable pub read_flag_call : List (List ℕ) → Option FlagCall
-read_flag_call ws = do
-  w ← last_word ws
-  if bytes_eq w (codes "lock") then Some flag.Lock
-      else if bytes_eq w (codes "try_lock") then Some flag.TryLock
-      else if bytes_eq w (codes "try_lock_weak") then Some flag.TryLockWeak
-      else if bytes_eq w (codes "is_locked") then Some flag.IsLocked
-      else if bytes_eq w (codes "release") then Some flag.Release else None
+read_flag_call ws = last_word ws >>= named (map (λ row. (row.0.now, row.1)) FLAG_CALLS)
 
 unfoldable pub read_ticket_call : List (List ℕ) → Option TicketCall
-read_ticket_call ws = do
-  w ← last_word ws
-  if bytes_eq w (codes "lock") then Some ticket.Lock
-      else if bytes_eq w (codes "try_lock") then Some ticket.TryLock
-      else if bytes_eq w (codes "is_locked") then Some ticket.IsLocked
-      else if bytes_eq w (codes "release") then Some ticket.Release else None
+read_ticket_call ws = last_word ws >>= named (map (λ row. (row.0.now, row.1)) TICKET_CALLS)
 
 unfoldable pub read_rw_call : List (List ℕ) → Option RwCall
-read_rw_call ws = do
-  w ← last_word ws
-  if bytes_eq w (codes "try_read") then Some rw.TryRead
-      else if bytes_eq w (codes "read") then Some rw.Read
-      else if bytes_eq w (codes "try_upgradeable_read") then Some rw.TryUpgradeableRead
-      else if bytes_eq w (codes "upgradeable_read") then Some rw.UpgradeableRead
-      else if bytes_eq w (codes "try_write") then Some rw.TryWrite
-      else if bytes_eq w (codes "try_write_weak") then Some rw.TryWriteWeak
-      else if bytes_eq w (codes "write") then Some rw.Write
-      else if bytes_eq w (codes "reader_count") then Some rw.ReaderCount
-      else if bytes_eq w (codes "writer_count") then Some rw.WriterCount
-      else if bytes_eq w (codes "try_upgrade") then Some rw.TryUpgrade
-      else if bytes_eq w (codes "try_upgrade_weak") then Some rw.TryUpgradeWeak
-      else if bytes_eq w (codes "upgrade") then Some rw.Upgrade
-      else if bytes_eq w (codes "downgrade") then Some rw.Downgrade
-      else if bytes_eq w (codes "downgrade_to_upgradeable") then Some rw.DowngradeToUpgradeable
-      else if bytes_eq w (codes "release") then Some rw.Release else None
+read_rw_call ws = last_word ws >>= named (map (λ row. (row.0.now, row.1)) RW_CALLS)
 
 unfoldable pub read_fair_call : List (List ℕ) → Option FairCall
-read_fair_call ws = do
-  w ← last_word ws
-  if bytes_eq w (codes "lock") then Some fair.Lock
-      else if bytes_eq w (codes "try_lock") then Some fair.TryLock
-      else if bytes_eq w (codes "try_lock_starver") then Some fair.TryLockStarver
-      else if bytes_eq w (codes "is_locked") then Some fair.IsLocked
-      else if bytes_eq w (codes "starve") then Some fair.Starve
-      else if bytes_eq w (codes "starver_try_lock_fair") then Some fair.StarverTryLockFair
-      else if bytes_eq w (codes "starver_try_lock") then Some fair.StarverTryLock
-      else if bytes_eq w (codes "starver_lock") then Some fair.StarverLock
-      else if bytes_eq w (codes "starver_drop") then Some fair.StarverDrop
-      else if bytes_eq w (codes "release") then Some fair.Release else None
+read_fair_call ws = last_word ws >>= named (map (λ row. (row.0.now, row.1)) FAIR_CALLS)
 
 unfoldable pub read_barrier_call : List (List ℕ) → Option BarrierCall
-read_barrier_call ws = do
-  w ← last_word ws
-  if bytes_eq w (codes "wait") then Some barrier.Wait else None
+read_barrier_call ws = last_word ws >>= named (map (λ row. (row.0.now, row.1)) BARRIER_CALLS)
 
 -- a call that may fail, behind its name
 unfoldable pub read_try_call_once : List (List ℕ) → Option (OnceCall ℕ)
@@ -174,21 +135,13 @@ read_try_call_once ws = do
   if bytes_eq w.0 (codes "ok") then (last_number w.1 >>= λ v. Some (once.TryCallOnceOk v))
       else if bytes_eq w.0 (codes "err") && is_end w.1 then Some once.TryCallOnceErr else None
 
--- a call without a closure
-unfoldable pub plain_once_call : List ℕ → Option (OnceCall ℕ)
-plain_once_call w =
-    if bytes_eq w (codes "wait") then Some once.Wait
-    else if bytes_eq w (codes "poll") then Some once.Poll
-    else if bytes_eq w (codes "get") then Some once.Get
-    else if bytes_eq w (codes "is_completed") then Some once.IsCompleted else None
-
 unfoldable pub read_once_call : List (List ℕ) → Option (OnceCall ℕ)
 read_once_call ws = do
   w ← word_at ws
   if bytes_eq w.0 (codes "call_once") then (last_number w.1 >>= λ v. Some (once.CallOnce v))
       else if bytes_eq w.0 (codes "try_call_once") then read_try_call_once w.1
       else if bytes_eq w.0 (codes "init_from_ref") then (last_number w.1 >>= λ v. Some (once.InitFromRef v))
-      else if is_end w.1 then plain_once_call w.0 else None
+      else if is_end w.1 then named (map (λ row. (row.0.now, row.1)) PLAIN_ONCE_CALLS) w.0 else None
 
 unfoldable pub read_flag_header : List (List ℕ) → Option Header
 read_flag_header ws = do

@@ -17,6 +17,11 @@ abbrev pub truth_text : Bool → List ℕ
 truth_text true = codes "true"
 truth_text false = codes "false"
 
+-- a number where there is one
+abbrev pub number_text : Option ℕ → List ℕ
+number_text None = []
+number_text (Some n) = decimal n
+
 abbrev pub answer_text : Answer ℕ → List ℕ
 answer_text answer.Granted = codes "granted"
 answer_text answer.Refused = codes "refused"

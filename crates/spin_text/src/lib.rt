@@ -17,6 +17,3 @@ pub use ends::{Failed, OfStd, Sink, Source, write_whole};
 pub use laws::a_text_has_one_reading;
 pub use numbers::{number, numbers_are_printed_texts};
 pub use text::{RunError, world_text};
-
-#[cfg(test)]
-mod tests;

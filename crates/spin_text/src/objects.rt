@@ -1,10 +1,10 @@
 //! How each object's calls are spelled, and how its words print.
 ghost use Rattle.std.specs.Prelude.{◌≡◌, ◌∷◌, [], List, ℕ, Option};
 ghost use Rattle.spin_text.specs.Spelling.{Calls};
-ghost use Rattle.spin_text.specs.Reading.{words_left, numbers_of, read_try_call_once, plain_once_call};
+ghost use Rattle.spin_text.specs.Reading.{words_left, numbers_of, read_try_call_once};
 ghost use Rattle.spin_text.specs.Readable.{ReadsCalls};
 
-use crate::words::{Rest, is_over, only_number, only_word, word};
+use crate::words::{Rest, is_over, named, only_number, only_word, word};
 use spin_world::{
     Answer, BarrierCall, BarrierObject, BarrierWords, Fair, FairCall, Flag, FlagCall, Object,
     OnceCall, OnceObject, Rw, RwCall, Ticket, TicketCall, TicketWords,
@@ -31,6 +31,14 @@ pub trait Spelled: Object<Value = u64, Answer = Answer<u64>> {
         ensures { ReadsCalls calls read };
 }
 
+const FLAG_CALLS: [(&[u8], FlagCall); 5] = [
+    (b"lock", FlagCall::Lock),
+    (b"try_lock", FlagCall::TryLock),
+    (b"try_lock_weak", FlagCall::TryLockWeak),
+    (b"is_locked", FlagCall::IsLocked),
+    (b"release", FlagCall::Release),
+];
+
 impl Spelled for Flag<u64> {
     ghost use Rattle.spin_text.specs.Objects.{flag_calls};
     ghost use Rattle.spin_text.specs.Reading.{read_flag_call};
@@ -43,26 +51,20 @@ impl Spelled for Flag<u64> {
 
     #[tactic(auto, unfolding(crate::specs::Reading::read_flag_call))]
     fn call(line: Rest) -> Option<FlagCall> {
-        let word = only_word(line)?;
-        if word == b"lock".as_slice() {
-            Some(FlagCall::Lock)
-        } else if word == b"try_lock".as_slice() {
-            Some(FlagCall::TryLock)
-        } else if word == b"try_lock_weak".as_slice() {
-            Some(FlagCall::TryLockWeak)
-        } else if word == b"is_locked".as_slice() {
-            Some(FlagCall::IsLocked)
-        } else if word == b"release".as_slice() {
-            Some(FlagCall::Release)
-        } else {
-            None
-        }
+        named(&FLAG_CALLS, only_word(line)?)
     }
 
     fn numbers(words: bool) -> (u64, Option<u64>) {
         (u64::from(words), None)
     }
 }
+
+const TICKET_CALLS: [(&[u8], TicketCall); 4] = [
+    (b"lock", TicketCall::Lock),
+    (b"try_lock", TicketCall::TryLock),
+    (b"is_locked", TicketCall::IsLocked),
+    (b"release", TicketCall::Release),
+];
 
 impl Spelled for Ticket<u64> {
     ghost use Rattle.spin_text.specs.Objects.{ticket_calls};
@@ -76,24 +78,31 @@ impl Spelled for Ticket<u64> {
 
     #[tactic(auto, unfolding(crate::specs::Reading::read_ticket_call))]
     fn call(line: Rest) -> Option<TicketCall> {
-        let word = only_word(line)?;
-        if word == b"lock".as_slice() {
-            Some(TicketCall::Lock)
-        } else if word == b"try_lock".as_slice() {
-            Some(TicketCall::TryLock)
-        } else if word == b"is_locked".as_slice() {
-            Some(TicketCall::IsLocked)
-        } else if word == b"release".as_slice() {
-            Some(TicketCall::Release)
-        } else {
-            None
-        }
+        named(&TICKET_CALLS, only_word(line)?)
     }
 
     fn numbers(words: TicketWords) -> (u64, Option<u64>) {
         (words.next, Some(words.serving))
     }
 }
+
+const RW_CALLS: [(&[u8], RwCall); 15] = [
+    (b"try_read", RwCall::TryRead),
+    (b"read", RwCall::Read),
+    (b"try_upgradeable_read", RwCall::TryUpgradeableRead),
+    (b"upgradeable_read", RwCall::UpgradeableRead),
+    (b"try_write", RwCall::TryWrite),
+    (b"try_write_weak", RwCall::TryWriteWeak),
+    (b"write", RwCall::Write),
+    (b"reader_count", RwCall::ReaderCount),
+    (b"writer_count", RwCall::WriterCount),
+    (b"try_upgrade", RwCall::TryUpgrade),
+    (b"try_upgrade_weak", RwCall::TryUpgradeWeak),
+    (b"upgrade", RwCall::Upgrade),
+    (b"downgrade", RwCall::Downgrade),
+    (b"downgrade_to_upgradeable", RwCall::DowngradeToUpgradeable),
+    (b"release", RwCall::Release),
+];
 
 impl Spelled for Rw<u64> {
     ghost use Rattle.spin_text.specs.Objects.{rw_calls};
@@ -107,46 +116,26 @@ impl Spelled for Rw<u64> {
 
     #[tactic(auto, unfolding(crate::specs::Reading::read_rw_call))]
     fn call(line: Rest) -> Option<RwCall> {
-        let word = only_word(line)?;
-        if word == b"try_read".as_slice() {
-            Some(RwCall::TryRead)
-        } else if word == b"read".as_slice() {
-            Some(RwCall::Read)
-        } else if word == b"try_upgradeable_read".as_slice() {
-            Some(RwCall::TryUpgradeableRead)
-        } else if word == b"upgradeable_read".as_slice() {
-            Some(RwCall::UpgradeableRead)
-        } else if word == b"try_write".as_slice() {
-            Some(RwCall::TryWrite)
-        } else if word == b"try_write_weak".as_slice() {
-            Some(RwCall::TryWriteWeak)
-        } else if word == b"write".as_slice() {
-            Some(RwCall::Write)
-        } else if word == b"reader_count".as_slice() {
-            Some(RwCall::ReaderCount)
-        } else if word == b"writer_count".as_slice() {
-            Some(RwCall::WriterCount)
-        } else if word == b"try_upgrade".as_slice() {
-            Some(RwCall::TryUpgrade)
-        } else if word == b"try_upgrade_weak".as_slice() {
-            Some(RwCall::TryUpgradeWeak)
-        } else if word == b"upgrade".as_slice() {
-            Some(RwCall::Upgrade)
-        } else if word == b"downgrade".as_slice() {
-            Some(RwCall::Downgrade)
-        } else if word == b"downgrade_to_upgradeable".as_slice() {
-            Some(RwCall::DowngradeToUpgradeable)
-        } else if word == b"release".as_slice() {
-            Some(RwCall::Release)
-        } else {
-            None
-        }
+        named(&RW_CALLS, only_word(line)?)
     }
 
     fn numbers(words: usize) -> (u64, Option<u64>) {
         (words as u64, None)
     }
 }
+
+const FAIR_CALLS: [(&[u8], FairCall); 10] = [
+    (b"lock", FairCall::Lock),
+    (b"try_lock", FairCall::TryLock),
+    (b"try_lock_starver", FairCall::TryLockStarver),
+    (b"is_locked", FairCall::IsLocked),
+    (b"starve", FairCall::Starve),
+    (b"starver_try_lock_fair", FairCall::StarverTryLockFair),
+    (b"starver_try_lock", FairCall::StarverTryLock),
+    (b"starver_lock", FairCall::StarverLock),
+    (b"starver_drop", FairCall::StarverDrop),
+    (b"release", FairCall::Release),
+];
 
 impl Spelled for Fair<u64> {
     ghost use Rattle.spin_text.specs.Objects.{fair_calls};
@@ -160,36 +149,15 @@ impl Spelled for Fair<u64> {
 
     #[tactic(auto, unfolding(crate::specs::Reading::read_fair_call))]
     fn call(line: Rest) -> Option<FairCall> {
-        let word = only_word(line)?;
-        if word == b"lock".as_slice() {
-            Some(FairCall::Lock)
-        } else if word == b"try_lock".as_slice() {
-            Some(FairCall::TryLock)
-        } else if word == b"try_lock_starver".as_slice() {
-            Some(FairCall::TryLockStarver)
-        } else if word == b"is_locked".as_slice() {
-            Some(FairCall::IsLocked)
-        } else if word == b"starve".as_slice() {
-            Some(FairCall::Starve)
-        } else if word == b"starver_try_lock_fair".as_slice() {
-            Some(FairCall::StarverTryLockFair)
-        } else if word == b"starver_try_lock".as_slice() {
-            Some(FairCall::StarverTryLock)
-        } else if word == b"starver_lock".as_slice() {
-            Some(FairCall::StarverLock)
-        } else if word == b"starver_drop".as_slice() {
-            Some(FairCall::StarverDrop)
-        } else if word == b"release".as_slice() {
-            Some(FairCall::Release)
-        } else {
-            None
-        }
+        named(&FAIR_CALLS, only_word(line)?)
     }
 
     fn numbers(words: usize) -> (u64, Option<u64>) {
         (words as u64, None)
     }
 }
+
+const BARRIER_CALLS: [(&[u8], BarrierCall); 1] = [(b"wait", BarrierCall::Wait)];
 
 impl Spelled for BarrierObject {
     ghost use Rattle.spin_text.specs.Objects.{barrier_calls};
@@ -203,12 +171,7 @@ impl Spelled for BarrierObject {
 
     #[tactic(auto, unfolding(crate::specs::Reading::read_barrier_call))]
     fn call(line: Rest) -> Option<BarrierCall> {
-        let word = only_word(line)?;
-        if word == b"wait".as_slice() {
-            Some(BarrierCall::Wait)
-        } else {
-            None
-        }
+        named(&BARRIER_CALLS, only_word(line)?)
     }
 
     fn numbers(words: BarrierWords) -> (u64, Option<u64>) {
@@ -231,23 +194,13 @@ fn try_call_once(line: Rest) -> Option<OnceCall<u64>>
     }
 }
 
-/// The call without a closure that one word spells.
-#[tactic(auto, unfolding(crate::specs::Reading::plain_once_call))]
-fn plain_once_call(word: &[u8]) -> Option<OnceCall<u64>>
-    ensures { result ≡ plain_once_call word.now }
-{
-    if word == b"wait".as_slice() {
-        Some(OnceCall::Wait)
-    } else if word == b"poll".as_slice() {
-        Some(OnceCall::Poll)
-    } else if word == b"get".as_slice() {
-        Some(OnceCall::Get)
-    } else if word == b"is_completed".as_slice() {
-        Some(OnceCall::IsCompleted)
-    } else {
-        None
-    }
-}
+/// The calls without a closure.
+const PLAIN_ONCE_CALLS: [(&[u8], OnceCall<u64>); 4] = [
+    (b"wait", OnceCall::Wait),
+    (b"poll", OnceCall::Poll),
+    (b"get", OnceCall::Get),
+    (b"is_completed", OnceCall::IsCompleted),
+];
 
 impl Spelled for OnceObject<u64> {
     ghost use Rattle.spin_text.specs.Objects.{once_calls};
@@ -269,7 +222,7 @@ impl Spelled for OnceObject<u64> {
         } else if word == b"init_from_ref".as_slice() {
             Some(OnceCall::InitFromRef(only_number(rest)?))
         } else if is_over(rest) {
-            plain_once_call(word)
+            named(&PLAIN_ONCE_CALLS, word)
         } else {
             None
         }

@@ -1,7 +1,7 @@
 //! What a schedule comes to, as text.
 ghost use Rattle.std.specs.Prelude.{string_bytes, ◌≡◌, ◌++◌, ◌+◌, OnOk, IfOk, List, ℕ};
 ghost use Rattle.spin_text.specs.Reading.{numbers_of};
-ghost use Rattle.spin_text.specs.Transcripts.{value_text, answer_text, from_text, outcome_text, numbers_text, event_line, event_lines, end_line, transcript_text};
+ghost use Rattle.spin_text.specs.Transcripts.{value_text, number_text, answer_text, from_text, outcome_text, numbers_text, event_line, event_lines, end_line, transcript_text};
 
 use crate::objects::Spelled;
 use spin_world::{Answer, Event, Move, Outcome, World};
@@ -16,26 +16,35 @@ fn push_value(text: &mut String, value: Option<u64>) -> Result<(), AllocError>
     }
 }
 
+/// The words that an answer's text begins with, and the number behind them.
+fn parts_of(answer: Answer<u64>) -> (&'static str, Option<u64>)
+    ensures { result.0.now ++ number_text result.1 ≡ answer_text answer }
+{
+    match answer {
+        Answer::Granted => ("granted", None),
+        Answer::Refused => ("refused", None),
+        Answer::Locked => ("locked", None),
+        Answer::Starved => ("starved", None),
+        Answer::Done => ("done", None),
+        Answer::Is(true) => ("true", None),
+        Answer::Is(false) => ("false", None),
+        Answer::Count(count) => ("", Some(count as u64)),
+        Answer::Value(value) => ("value ", Some(value)),
+        Answer::NoValue => ("none", None),
+        Answer::Failed => ("err", None),
+        Answer::Leader => ("leader", None),
+        Answer::Follower => ("follower", None),
+    }
+}
+
 fn push_answer(text: &mut String, answer: Answer<u64>) -> Result<(), AllocError>
     ensures { OnOk result (string_bytes text.new ≡ string_bytes text.old ++ answer_text answer) }
 {
-    match answer {
-        Answer::Granted => text.push_str("granted"),
-        Answer::Refused => text.push_str("refused"),
-        Answer::Locked => text.push_str("locked"),
-        Answer::Starved => text.push_str("starved"),
-        Answer::Done => text.push_str("done"),
-        Answer::Is(true) => text.push_str("true"),
-        Answer::Is(false) => text.push_str("false"),
-        Answer::Count(count) => text.write(count),
-        Answer::Value(value) => {
-            text.push_str("value ")?;
-            text.write(value)
-        }
-        Answer::NoValue => text.push_str("none"),
-        Answer::Failed => text.push_str("err"),
-        Answer::Leader => text.push_str("leader"),
-        Answer::Follower => text.push_str("follower"),
+    let (words, number) = parts_of(answer);
+    text.push_str(words)?;
+    match number {
+        None => Ok(()),
+        Some(number) => text.write(number),
     }
 }
 

@@ -1,8 +1,8 @@
 //! Lines of bytes, words of a line.
-ghost use Rattle.std.specs.Prelude.{◌≡◌, ◌<◌, ◌∷◌, ◌==◌, [], length, IfSome, option_map, nat_le, ◌&&◌};
+ghost use Rattle.std.specs.Prelude.{◌≡◌, ◌<◌, ◌∷◌, ◌==◌, [], length, IfSome, option_map, nat_le, ◌&&◌, map};
 ghost use Rattle.std.specs.List.{slice_split};
 ghost use Rattle.spin_text.specs.Lines.{words_by_line, words_of};
-ghost use Rattle.spin_text.specs.Reading.{words_left, lines_left, is_end, read_number, word_at, number_at, last_word, last_number, last_parties, parts_left};
+ghost use Rattle.spin_text.specs.Reading.{words_left, lines_left, is_end, read_number, word_at, number_at, last_word, last_number, last_parties, parts_left, named};
 
 use crate::numbers::number;
 use memchr::memchr;
@@ -84,4 +84,18 @@ pub fn only_number(line: Rest) -> Option<u64>
     ensures { result ≡ last_number (words_left line.entry) }
 {
     number_word(only_word(line)?)
+}
+
+/// What a table has beside a word.
+#[tactic(auto, unfolding(crate::specs::Reading::named))]
+pub fn named<C: Copy>(mut table: &[(&[u8], C)], word: &[u8]) -> Option<C>
+    ensures { result ≡ named (map (λ row. (row.0.now, row.1)) table.entry.now) word.now }
+{
+    while let [row, further @ ..] = table {
+        if word == row.0 {
+            return Some(row.1);
+        }
+        table = further;
+    }
+    None
 }

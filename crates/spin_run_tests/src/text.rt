@@ -8,117 +8,12 @@ mod transcripts;
 use self::gallery::GALLERY;
 use self::lines::{OUTSIDE, WITHIN};
 use self::transcripts::{WORKED, Worked};
-use super::{Failed, OfStd, RunError, Sink, Source, world_text};
+use crate::ends::{Paper, Tape};
+use spin_run::run::{OfStd, RunError, Sink, Source, world_text};
 use std::alloc::Global;
 use std::cell::Cell;
 use std::io;
 use std::process::Abort;
-
-/// Bytes that are read at most `step` at a time. Where `fails`, a read fails once they are used up.
-#[derive(Drop)]
-struct Tape<'a> {
-    rest: &'a [u8],
-    step: usize,
-    fails: bool,
-    failed: bool,
-    /// How often it was read.
-    reads: u64,
-}
-
-impl<'a> Tape<'a> {
-    fn new(text: &'a [u8]) -> Tape<'a>
-        ensures { result.failed ≡ false }
-    {
-        Tape {
-            rest: text,
-            step: usize::MAX,
-            fails: false,
-            failed: false,
-            reads: 0,
-        }
-    }
-}
-
-impl Source for Tape<'_> {
-    ghost remaining = { λ _. None };
-
-    ghost failed = { λ s. s.failed };
-
-    fn read(&mut self, to: &mut [u8]) -> Result<usize, Failed> {
-        self.reads = self.reads.saturating_add(1);
-        let n = self.rest.len().min(self.step).min(to.len());
-        if n == 0 && self.fails {
-            self.failed = true;
-            return Err(Failed);
-        }
-        let (front, rest) = self.rest.split_at(n);
-        to[..n].copy_from_slice(front);
-        self.rest = rest;
-        Ok(n)
-    }
-
-    fn has_failed(&self) -> bool {
-        self.failed
-    }
-}
-
-/// The most bytes that a test writes.
-const ROOM: usize = 800;
-
-/// A sheet that takes no memory of its own. It takes at most `step` bytes at a time, and fails once it holds `room` bytes.
-#[derive(Drop)]
-struct Sheet {
-    bytes: [u8; ROOM],
-    len: usize,
-    step: usize,
-    room: usize,
-    failed: bool,
-    /// How often it was written.
-    writes: u64,
-}
-
-impl Sheet {
-    fn new(step: usize, room: usize) -> Sheet
-        ensures { result.failed ≡ false }
-    {
-        Sheet {
-            bytes: [0; ROOM],
-            len: 0,
-            step,
-            room,
-            failed: false,
-            writes: 0,
-        }
-    }
-
-    fn text(&self) -> &[u8] {
-        self.bytes.get(..self.len).unwrap_or(&[])
-    }
-}
-
-impl Sink for Sheet {
-    ghost written = { λ _. None };
-
-    ghost failed = { λ s. s.failed };
-
-    fn write(&mut self, from: &[u8]) -> Result<usize, Failed> {
-        self.writes = self.writes.saturating_add(1);
-        let left = self.room.min(ROOM).saturating_sub(self.len);
-        let n = from.len().min(self.step).min(left);
-        let end = self.len.saturating_add(n);
-        if n == 0 && !from.is_empty() || end > ROOM {
-            self.failed = true;
-            return Err(Failed);
-        }
-        self.bytes[end - n..end].copy_from_slice(&from[..n]);
-        self.len = end;
-        Ok(n)
-    }
-
-    fn has_failed(&self) -> bool {
-        self.failed
-    }
-}
 
 /// Plays a text, and compares the answer and what was written.
 fn comes_to(
@@ -128,13 +23,13 @@ fn comes_to(
     answer: Result<(), RunError>,
     told: &[u8],
 ) {
-    let mut output = Sheet::new(usize::MAX, ROOM);
+    let mut output = Paper::endless(alloc);
     assert_eq!(rt;
         world_text(alloc, &mut Tape::new(text), &mut output),
         answer,
         "{text:?}"
     );
-    assert_eq!(rt; output.text(), told, "{text:?}");
+    assert_eq!(rt; output.bytes.as_slice(), told, "{text:?}");
 }
 
 /// Plays each text, with its last line feed and without.
@@ -179,9 +74,9 @@ fn reads_in_small_steps(rt: HostRuntime) {
                 step,
                 ..Tape::new(text.as_bytes())
             };
-            let mut output = Sheet::new(step, ROOM);
+            let mut output = Paper::new(rt.alloc(), step, usize::MAX);
             assert_eq!(rt; world_text(rt.alloc(), &mut input, &mut output), Ok(()));
-            assert_eq!(rt; output.text(), told.as_bytes());
+            assert_eq!(rt; output.bytes.as_slice(), told.as_bytes());
         }
     }
 }
@@ -194,7 +89,7 @@ fn tells_a_failed_read(rt: HostRuntime) {
             fails: true,
             ..Tape::new(text)
         };
-        let mut output = Sheet::new(usize::MAX, ROOM);
+        let mut output = Paper::endless(rt.alloc());
         assert_eq!(rt;
             world_text(rt.alloc(), &mut input, &mut output),
             Err(RunError::Read)
@@ -211,20 +106,20 @@ fn tells_a_failed_write(rt: HostRuntime) {
     let told = b"end: 0 value 5\n";
     for step in [1, 4, usize::MAX] {
         for room in 0..15usize {
-            let mut output = Sheet::new(step, room);
+            let mut output = Paper::new(rt.alloc(), step, room);
             assert_eq!(rt;
                 world_text(rt.alloc(), &mut Tape::new(b"flag 5 1"), &mut output),
                 Err(RunError::Write)
             );
             assert!(rt; output.has_failed());
-            assert_eq!(rt; output.text(), &told[..room]);
+            assert_eq!(rt; output.bytes.as_slice(), &told[..room]);
         }
-        let mut output = Sheet::new(step, 15);
+        let mut output = Paper::new(rt.alloc(), step, 15);
         assert_eq!(rt;
             world_text(rt.alloc(), &mut Tape::new(b"flag 5 1"), &mut output),
             Ok(())
         );
-        assert_eq!(rt; output.text(), told.as_slice());
+        assert_eq!(rt; output.bytes.as_slice(), told.as_slice());
     }
 }
 

@@ -1,0 +1,106 @@
+//! Ends in memory, which count their calls and fail where a test wants it.
+ghost use Rattle.std.specs.Prelude.{◌≡◌, Some, None, false};
+
+use spin_run::run::{Failed, Sink, Source};
+use std::alloc::Global;
+
+/// A sink in memory. It takes at most `step` bytes at a time, and fails once it holds `room` bytes.
+#[derive(Drop)]
+pub struct Paper {
+    pub bytes: Vec<u8>,
+    pub step: usize,
+    pub room: usize,
+    pub failed: bool,
+    /// How often it was written.
+    pub writes: u64,
+}
+
+impl Paper {
+    pub fn new(alloc: Global, step: usize, room: usize) -> Paper
+        ensures { result.failed ≡ false }
+    {
+        Paper {
+            bytes: Vec::new(alloc),
+            step,
+            room,
+            failed: false,
+            writes: 0,
+        }
+    }
+
+    /// Paper without an end.
+    pub fn endless(alloc: Global) -> Paper
+        ensures { result.failed ≡ false }
+    {
+        Paper::new(alloc, usize::MAX, usize::MAX)
+    }
+}
+
+impl Sink for Paper {
+    ghost written = { λ s. Some s.bytes.items };
+
+    ghost failed = { λ s. s.failed };
+
+    fn write(&mut self, from: &[u8]) -> Result<usize, Failed> {
+        self.writes = self.writes.saturating_add(1);
+        let left = self.room.saturating_sub(self.bytes.len());
+        let n = from.len().min(self.step).min(left);
+        if n == 0 && !from.is_empty() || self.bytes.extend_from_slice(&from[..n]).is_err() {
+            self.failed = true;
+            return Err(Failed);
+        }
+        Ok(n)
+    }
+
+    fn has_failed(&self) -> bool {
+        self.failed
+    }
+}
+
+/// Bytes that are read at most `step` at a time. Where `fails`, a read fails once they are used up.
+#[derive(Drop)]
+pub struct Tape<'a> {
+    pub rest: &'a [u8],
+    pub step: usize,
+    pub fails: bool,
+    pub failed: bool,
+    /// How often it was read.
+    pub reads: u64,
+}
+
+impl<'a> Tape<'a> {
+    pub fn new(text: &'a [u8]) -> Tape<'a>
+        ensures { result.failed ≡ false }
+    {
+        Tape {
+            rest: text,
+            step: usize::MAX,
+            fails: false,
+            failed: false,
+            reads: 0,
+        }
+    }
+}
+
+impl Source for Tape<'_> {
+    ghost remaining = { λ _. None };
+
+    ghost failed = { λ s. s.failed };
+
+    fn read(&mut self, to: &mut [u8]) -> Result<usize, Failed> {
+        self.reads = self.reads.saturating_add(1);
+        let n = self.rest.len().min(self.step).min(to.len());
+        if n == 0 && self.fails {
+            self.failed = true;
+            return Err(Failed);
+        }
+        let (front, rest) = self.rest.split_at(n);
+        to[..n].copy_from_slice(front);
+        self.rest = rest;
+        Ok(n)
+    }
+
+    fn has_failed(&self) -> bool {
+        self.failed
+    }
+}
