@@ -6,7 +6,7 @@ use spin::mutex::{FairMutex, Mutex, SpinMutex, TicketMutex};
 use spin::rwlock::RwLock;
 use spin::{Barrier, LazyLock, Once};
 
-use crate::measure::{self, Measured, Wrong};
+use crate::measure;
 
 /// One lock, or what stands in its place. A call either adds 1 to what lies there, or sees a 1.
 pub trait Case: Default + Sync {
@@ -454,7 +454,8 @@ impl Name {
         }
     }
 
-    pub fn measure(self, threads: u64) -> Result<Measured, Wrong> {
+    /// Measures it in so many threads, and answers what was seen and left.
+    pub fn measure(self, threads: u64) -> u64 {
         match self {
             Name::Floor => measure::measure::<Floor>(threads),
             Name::SpinMutex => measure::measure::<SpinMutex<u64>>(threads),
@@ -476,8 +477,8 @@ impl Name {
         }
     }
 
-    /// How many calls there were, where each thread makes so many under a new lock.
-    pub fn count(self, threads: u64, calls: u64) -> Result<u64, Wrong> {
+    /// What was seen and left, where each thread makes so many calls under a new lock.
+    pub fn count(self, threads: u64, calls: u64) -> u64 {
         match self {
             Name::Floor => measure::count::<Floor>(threads, calls),
             Name::SpinMutex => measure::count::<SpinMutex<u64>>(threads, calls),

@@ -6,7 +6,6 @@ mod sizes;
 use std::process::ExitCode;
 
 use cases::Name;
-use measure::Wrong;
 
 const USAGE: &str = "usage: spin_bench_rust CASE THREADS | sizes | smoke
 CASE: floor, spin_mutex, mutex, ticket_mutex, fair_mutex, fair_starve, rw_read,
@@ -34,26 +33,25 @@ fn parse(words: &[&str]) -> Option<Command> {
     }
 }
 
-fn smoke() -> Result<(), Wrong> {
+fn smoke() {
     for case in Name::ALL {
         let all: &[u64] = if case.has_threads() { &[1, 2, 4] } else { &[1] };
         for &threads in all {
-            let calls = case.count(threads, case.smoke_calls())?;
-            println!("{}.{threads} {calls}", case.text());
+            let sum = case.count(threads, case.smoke_calls());
+            println!("{}.{threads} {sum}", case.text());
         }
     }
-    Ok(())
 }
 
-fn answer(command: Command) -> Result<(), Wrong> {
+fn answer(command: Command) {
     match command {
         Command::Measure { case, threads } => {
-            println!("{}.{threads} {}", case.text(), case.measure(threads)?);
+            let sum = case.measure(threads);
+            println!("{}.{threads} {sum}", case.text());
         }
         Command::Sizes => sizes::print(),
-        Command::Smoke => smoke()?,
+        Command::Smoke => smoke(),
     }
-    Ok(())
 }
 
 fn main() -> ExitCode {
@@ -63,9 +61,6 @@ fn main() -> ExitCode {
         eprintln!("{USAGE}");
         return ExitCode::from(2);
     };
-    if let Err(wrong) = answer(command) {
-        eprintln!("{wrong}");
-        return ExitCode::FAILURE;
-    }
+    answer(command);
     ExitCode::SUCCESS
 }

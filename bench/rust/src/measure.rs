@@ -1,5 +1,4 @@
 //! Rounds of calls, and what they took.
-use std::fmt;
 use std::iter::{self, Sum};
 use std::sync::atomic::{AtomicBool, Ordering::SeqCst};
 use std::sync::Mutex;
@@ -14,32 +13,6 @@ const ROUND: Duration = Duration::from_millis(100);
 // cost nothing; among others each call is slow enough, and a queue that the system has stopped still ends soon.
 const CHUNK_ALONE: u64 = 1000;
 const CHUNK_AMONG_OTHERS: u64 = 25;
-
-/// What the calls saw and left is not what so many calls see and leave.
-pub struct Wrong;
-
-impl fmt::Display for Wrong {
-    fn fmt(&self, f: &mut fmt::Formatter<'_>) -> fmt::Result {
-        write!(f, "the calls did not do what they had to")
-    }
-}
-
-/// The best round and the median round.
-pub enum Measured {
-    /// Of one thread: nanoseconds a call.
-    Time { best: f64, median: f64 },
-    /// Of several threads: million calls a second, of all together.
-    Throughput { best: f64, median: f64 },
-}
-
-impl fmt::Display for Measured {
-    fn fmt(&self, f: &mut fmt::Formatter<'_>) -> fmt::Result {
-        match self {
-            Measured::Time { best, median } => write!(f, "{best:.2} ns median {median:.2}"),
-            Measured::Throughput { best, median } => write!(f, "{best:.2} M/s median {median:.2}"),
-        }
-    }
-}
 
 // A lock at the start of a cache line, alone on it. Where a run's stack happens to put the flag and the value on two
 // lines, a call is some 2 ns faster.
@@ -109,8 +82,8 @@ where
     })
 }
 
-// One round: the nanoseconds of a call, and all that was done.
-fn round<C: Case>(case: &C, threads: u64) -> (f64, Work) {
+// One round, of which a line tells how many calls there were and how many nanoseconds they took. It answers what they saw.
+fn round<C: Case>(case: &C, threads: u64) -> u64 {
     let chunk = if threads == 1 {
         CHUNK_ALONE
     } else {
@@ -121,44 +94,24 @@ fn round<C: Case>(case: &C, threads: u64) -> (f64, Work) {
     let work = among(threads, ROUND, told, |worker| {
         until_told(case, worker, chunk, told)
     });
-    let nanos = start.elapsed().as_nanos() as f64;
-    (nanos / work.calls.max(1) as f64, work)
+    println!("{} {}", work.calls, start.elapsed().as_nanos());
+    work.seen
 }
 
-// How many calls there were, where what they saw and left says so too.
-fn checked<C: Case>(case: &C, work: Work) -> Result<u64, Wrong> {
-    if case.added().wrapping_add(work.seen) == work.calls {
-        Ok(work.calls)
-    } else {
-        Err(Wrong)
-    }
-}
-
-/// How many calls there were, where each thread has made so many under a new lock.
-pub fn count<C: Case>(threads: u64, calls: u64) -> Result<u64, Wrong> {
+/// What was seen in all, together with what is left at the end, where each thread has made so many calls under a new lock:
+/// the number of calls, where each did what it had to.
+pub fn count<C: Case>(threads: u64, calls: u64) -> u64 {
     let OnALine(case) = &OnALine(C::of(threads));
     let told = &AtomicBool::default();
     let work = among(threads, Duration::ZERO, told, |worker| {
         repeat(case, worker, calls)
     });
-    checked(case, work)
+    case.added().wrapping_add(work.seen)
 }
 
-/// Measures several rounds under one new lock.
-pub fn measure<C: Case>(threads: u64) -> Result<Measured, Wrong> {
+/// Measures several rounds under one new lock. It answers as [`count`] does.
+pub fn measure<C: Case>(threads: u64) -> u64 {
     let OnALine(case) = &OnALine(C::of(threads));
-    let rounds = [(); ROUNDS].map(|()| round(case, threads));
-    checked(case, rounds.iter().map(|(_, work)| *work).sum())?;
-    let mut nanos = rounds.map(|(nanos, _)| nanos);
-    nanos.sort_by(f64::total_cmp);
-    let best = nanos[0];
-    let median = nanos[ROUNDS / 2];
-    Ok(if threads == 1 {
-        Measured::Time { best, median }
-    } else {
-        Measured::Throughput {
-            best: 1000.0 / best,
-            median: 1000.0 / median,
-        }
-    })
+    let seen = (0..ROUNDS).fold(0, |seen: u64, _| seen.wrapping_add(round(case, threads)));
+    case.added().wrapping_add(seen)
 }

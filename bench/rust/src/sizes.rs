@@ -1,4 +1,4 @@
-//! The bytes of each lock of a `u64`, and of its guard.
+//! The bytes of each lock of a `u64` and of its guard, in the order in which `compare` names them.
 use std::mem::size_of;
 
 use spin::mutex::{FairMutex, FairMutexGuard, Mutex, MutexGuard, SpinMutex, SpinMutexGuard, TicketMutex, TicketMutexGuard};
@@ -6,25 +6,22 @@ use spin::rwlock::{RwLock, RwLockReadGuard, RwLockUpgradableGuard, RwLockWriteGu
 
 pub fn print() {
     let sizes = [
-        ("SpinMutex<u64>", size_of::<SpinMutex<u64>>()),
-        ("SpinMutexGuard<u64>", size_of::<SpinMutexGuard<u64>>()),
-        ("Mutex<u64>", size_of::<Mutex<u64>>()),
-        ("MutexGuard<u64>", size_of::<MutexGuard<u64>>()),
-        ("TicketMutex<u64>", size_of::<TicketMutex<u64>>()),
-        ("TicketMutexGuard<u64>", size_of::<TicketMutexGuard<u64>>()),
-        ("FairMutex<u64>", size_of::<FairMutex<u64>>()),
-        ("FairMutexGuard<u64>", size_of::<FairMutexGuard<u64>>()),
-        ("RwLock<u64>", size_of::<RwLock<u64>>()),
-        ("RwLockReadGuard<u64>", size_of::<RwLockReadGuard<u64>>()),
-        ("RwLockUpgradableGuard<u64>", size_of::<RwLockUpgradableGuard<u64>>()),
-        ("RwLockWriteGuard<u64>", size_of::<RwLockWriteGuard<u64>>()),
-        ("std::sync::Mutex<u64>", size_of::<std::sync::Mutex<u64>>()),
-        (
-            "std::sync::MutexGuard<u64>",
-            size_of::<std::sync::MutexGuard<u64>>(),
-        ),
+        size_of::<SpinMutex<u64>>(),
+        size_of::<SpinMutexGuard<u64>>(),
+        size_of::<Mutex<u64>>(),
+        size_of::<MutexGuard<u64>>(),
+        size_of::<TicketMutex<u64>>(),
+        size_of::<TicketMutexGuard<u64>>(),
+        size_of::<FairMutex<u64>>(),
+        size_of::<FairMutexGuard<u64>>(),
+        size_of::<RwLock<u64>>(),
+        size_of::<RwLockReadGuard<u64>>(),
+        size_of::<RwLockUpgradableGuard<u64>>(),
+        size_of::<RwLockWriteGuard<u64>>(),
+        size_of::<std::sync::Mutex<u64>>(),
+        size_of::<std::sync::MutexGuard<u64>>(),
     ];
-    for (name, bytes) in sizes {
-        println!("{name} {bytes}");
+    for bytes in sizes {
+        println!("{bytes}");
     }
 }

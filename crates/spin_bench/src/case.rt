@@ -1,7 +1,4 @@
 //! What is done over and over: the calls of a lock, or the moves of a world.
-ghost use Rattle.std.specs.Prelude.{◌≡◌, ℕ};
-
-use std::alloc::AllocError;
 use std::hint::spin_loop;
 use std::sync::Wait;
 use std::sync::atomic::{AtomicBool, AtomicU64, Ordering};
@@ -16,32 +13,32 @@ pub use locks::{OneWriter, Readers, Starvers, Upgrades};
 pub use onces::{Alone, FirstCalls, Forces, Gets, LateCalls};
 pub use rounds::Rounds;
 pub use seated::Seated;
-pub use world::{Play, Plays};
+pub use world::Plays;
 
-/// Something that can be done over and over, also by threads beside one another.
+/// Calls that can be made over and over, also by threads beside one another. A call either adds 1 to what lies there, or
+/// sees a 1.
 pub trait Case: Drop {
-    /// How many calls or events it is to do it once.
-    ghost weight: { Self → ℕ };
+    /// Makes so many calls, in the worker of that number, and answers the sum of what they saw. This is what is measured:
+    /// a loop that stands alone, with nothing in it but the calls and their sum.
+    fn repeat<W: Wait>(&self, rt: &W, worker: usize, calls: u64) -> u64;
 
-    /// Does it so many times, in the worker of that number, and answers the sum of what was seen. This is what is
-    /// measured: a loop that stands alone, with nothing in it but the calls and their sum.
-    fn repeat<W: Wait>(&self, rt: &W, worker: usize, times: u64) -> Result<u64, AllocError>;
+    /// How many calls a thread makes between two looks whether it is to stop, where so many do the case. A thread that is
+    /// alone makes so many that the looks cost nothing. Among others each call is slow enough, and where one that the
+    /// others wait for does not run, the round still ends soon after its time.
+    fn chunk(&self, threads: usize) -> u64 {
+        if threads == 1 { 1000 } else { 25 }
+    }
 
     /// Whether the worker is to end, now that somebody may have told it to.
     fn is_to_stop<W: Wait>(&self, _rt: &W, told: &AtomicBool) -> bool {
         told.load(Ordering::SeqCst)
     }
 
-    /// How many calls or events it is to do it once.
-    fn weight(&self) -> u64
-        ensures { result ≡ weight self.now };
-
-    /// What was seen in all, together with what is left at the end: the number of calls or events, where each did what
-    /// it had to.
-    fn checksum(self, seen: u64) -> Result<u64, AllocError>;
+    /// How much all calls have added.
+    fn added(self) -> u64;
 }
 
-/// One call. It either adds 1 to what lies there, or sees a 1.
+/// One call.
 pub trait Call: Drop {
     /// Makes it, in the worker of that number, and answers what it saw, or 0 where it has added. It is to be inlined into
     /// the loop of [`Calls`].
@@ -64,24 +61,18 @@ impl<C: Call> Calls<C> {
 }
 
 impl<C: Call> Case for Calls<C> {
-    ghost weight = { λ _. 1 };
-
     #[inline(never)]
-    fn repeat<W: Wait>(&self, rt: &W, worker: usize, times: u64) -> Result<u64, AllocError> {
+    fn repeat<W: Wait>(&self, rt: &W, worker: usize, calls: u64) -> u64 {
         let mut seen = 0u64;
-        for _ in 0..times {
+        for _ in 0..calls {
             seen = seen.wrapping_add(self.of.call(rt, worker));
         }
-        Ok(seen)
+        seen
     }
 
-    fn weight(&self) -> u64 {
-        1
-    }
-
-    fn checksum(self, seen: u64) -> Result<u64, AllocError> {
+    fn added(self) -> u64 {
         let Calls { of } = self;
-        Ok(of.added().wrapping_add(seen))
+        of.added()
     }
 }
 

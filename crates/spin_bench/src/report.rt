@@ -1,182 +1,174 @@
 //! What the program does and writes.
-ghost use Rattle.std.specs.Prelude.{◌≡◌, IfOk};
-ghost use Rattle.spin_bench_rows.specs.Numbers.{calls_of};
-
 use crate::case::{
     Alone, Call, Calls, Case, FirstCalls, Floor, Forces, Gets, LateCalls, OneWriter, Plays,
     Readers, Rounds, Seated, Starvers, Upgrades,
 };
-use crate::measure::measure;
-use crate::size::SIZES;
-use crate::team::{Until, Work, run};
-use spin_bench_rows::{Checksum, Command, Fault, NAMES, Name, Row};
+use crate::team::Team;
 use spin_mutex::mutex::{FairMutex, Mutex, SpinMutex, TicketMutex};
 use spin_rwlock::rwlock::RwLock;
-use spin_world::Flag;
-use std::alloc::Global;
-use std::env::Env;
 use std::sync::Wait;
 use std::thread::Threads;
-use std::time::Clock;
-use std::{env, io, sync};
+use std::time::{Clock, Duration, Instant};
+use std::{io, sync};
 
-/// How many turns the schedule of a measured world has, and that of one that is done for a try.
-const LONG: usize = 10_000;
+/// How many rounds a measure has.
+const ROUNDS: usize = 7;
 
-const SHORT: usize = 4;
+/// How long one round is, in milliseconds.
+const ROUND_MILLIS: u64 = 100;
+
+/// The cases that one thread does alone.
+const ALONE: [&str; 8] = [
+    "fair_starve",
+    "rw_upgrade",
+    "once_call",
+    "once_first",
+    "lazy_force",
+    "barrier_alone",
+    "seated_mutex",
+    "world",
+];
+
+/// The cases that threads do beside one another, but for `barrier_rounds`.
+const BESIDE: [&str; 10] = [
+    "floor",
+    "spin_mutex",
+    "mutex",
+    "ticket_mutex",
+    "fair_mutex",
+    "rw_read",
+    "rw_write",
+    "rw_one_writer",
+    "once_get",
+    "std_mutex",
+];
 
 /// What is done with a case.
 #[derive(Clone, Copy)]
 enum Task {
+    /// Rounds, of each of which a line tells how many calls there were, and how many nanoseconds they took.
     Measure,
-    /// Doing it so many times in each thread.
-    Smoke(u64),
+    /// So many calls in each thread.
+    Try(u64),
 }
 
-impl Task {
-    /// A case is done a thousand times for a try. Rounds are few: on a busy machine each waits until all its threads have
-    /// had a processor.
-    fn smoke(name: Name) -> Task {
-        match name {
-            Name::BarrierRounds => Task::Smoke(20),
-            _ => Task::Smoke(1000),
-        }
+/// What the user is told whose words are no command.
+pub fn usage() -> io::Error {
+    io::Error::other("usage: spin_bench CASE THREADS | spin_bench sizes | spin_bench smoke")
+}
+
+/// Measures a case, and answers what its calls saw.
+fn rounds<C: Case + Sync, R: Threads + Wait + Clock + Print + Sync>(
+    rt: &R,
+    case: &C,
+    threads: usize,
+) -> io::Result<u64> {
+    let mut seen = 0u64;
+    for _ in 0..ROUNDS {
+        let team = Team::new(rt, case, case.chunk(threads), u64::MAX);
+        let start = Instant::now(rt)?;
+        team.run(threads, Duration::from_millis(ROUND_MILLIS))?;
+        let nanos = start.elapsed(rt)?.as_nanos();
+        println!(rt; "{} {nanos}", team.calls())?;
+        seen = seen.wrapping_add(team.seen());
     }
+    Ok(seen)
 }
 
-/// The checksum of a case. Any other than the number of its calls or events is a fault.
-pub fn checked<C: Case>(case: C, work: Work) -> Result<u64, Fault>
-    ensures { IfOk result (λ sum. sum ≡ calls_of work.times (C.weight case)) }
-{
-    let calls = work.times.saturating_mul(case.weight());
-    let sum = case.checksum(work.seen)?;
-    if sum == calls {
-        Ok(sum)
-    } else {
-        Err(Fault::Sum)
-    }
-}
-
-/// Does the task, and writes its row.
+/// Does the task, and answers what was seen in all, together with what is left at the end: the number of calls, where
+/// each did what it had to.
 fn on_case<C: Case + Sync, R: Threads + Wait + Clock + Print + Sync>(
     rt: &R,
-    alloc: Global,
     task: Task,
-    name: Name,
-    case: C,
     threads: usize,
-) -> Result<(), Fault> {
-    match task {
-        Task::Measure => {
-            let (measured, work) = measure(rt, alloc, &case, threads, name.unit(threads))?;
-            checked(case, work)?;
-            let row = Row {
-                name,
-                threads,
-                measured,
-            };
-            println!(rt; "{row}")?;
+    case: C,
+) -> io::Result<u64> {
+    let seen = match task {
+        Task::Measure => rounds(rt, &case, threads)?,
+        Task::Try(calls) => {
+            let team = Team::new(rt, &case, calls, 1);
+            team.run(threads, Duration::ZERO)?;
+            team.seen()
         }
-        Task::Smoke(times) => {
-            let work = run(rt, alloc, &case, threads, Until::Times(times))?;
-            let sum = checked(case, work)?;
-            let row = Checksum { name, threads, sum };
-            println!(rt; "{row}")?;
-        }
-    }
-    Ok(())
+    };
+    Ok(case.added().wrapping_add(seen))
 }
 
 /// The same of a call.
 fn on_call<C: Call + Sync, R: Threads + Wait + Clock + Print + Sync>(
     rt: &R,
-    alloc: Global,
     task: Task,
-    name: Name,
+    threads: usize,
     call: C,
-    threads: usize,
-) -> Result<(), Fault> {
-    on_case(rt, alloc, task, name, Calls::new(call), threads)
+) -> io::Result<u64> {
+    on_case(rt, task, threads, Calls::new(call))
 }
 
-/// Does the task on the case of that name.
-fn on_name<R: Threads + Wait + Clock + Print + Sync>(
+/// The same of the case of that name.
+fn on_name<R: Threads + Wait + Clock + Print + AllocGlobal + Sync>(
     rt: &R,
-    alloc: Global,
     task: Task,
-    name: Name,
     threads: usize,
-) -> Result<(), Fault> {
+    name: &str,
+) -> io::Result<u64> {
     match name {
-        Name::Floor => on_call(rt, alloc, task, name, Floor::new(), threads),
-        Name::SpinMutex => on_call(rt, alloc, task, name, SpinMutex::new(0u64), threads),
-        Name::Mutex => on_call(rt, alloc, task, name, Mutex::new(0u64), threads),
-        Name::TicketMutex => on_call(rt, alloc, task, name, TicketMutex::new(0u64), threads),
-        Name::FairMutex => on_call(rt, alloc, task, name, FairMutex::new(0u64), threads),
-        Name::FairStarve => on_call(rt, alloc, task, name, Starvers::new(), threads),
-        Name::RwRead => on_call(rt, alloc, task, name, Readers::new(), threads),
-        Name::RwWrite => on_call(rt, alloc, task, name, RwLock::new(0u64), threads),
-        Name::RwUpgrade => on_call(rt, alloc, task, name, Upgrades::new(), threads),
-        Name::RwOneWriter => on_call(rt, alloc, task, name, OneWriter::new(), threads),
-        Name::OnceGet => on_call(rt, alloc, task, name, Gets::new(rt), threads),
-        Name::OnceCall => on_call(rt, alloc, task, name, LateCalls::new(rt), threads),
-        Name::OnceFirst => on_call(rt, alloc, task, name, FirstCalls, threads),
-        Name::LazyForce => on_case(rt, alloc, task, name, Forces, threads),
-        Name::BarrierAlone => on_call(rt, alloc, task, name, Alone::new(), threads),
-        Name::BarrierRounds => on_case(rt, alloc, task, name, Rounds::new(threads), threads),
-        Name::StdMutex => on_call(rt, alloc, task, name, sync::Mutex::new(0u64), threads),
-        Name::SeatedMutex => on_case(rt, alloc, task, name, Seated::new(alloc)?, threads),
-        Name::World => {
-            let turns = match task {
-                Task::Measure => LONG,
-                Task::Smoke(_) => SHORT,
-            };
-            let plays: Plays<Flag<u64>> = Plays::new(alloc, turns)?;
-            on_case(rt, alloc, task, name, plays, threads)
-        }
+        "floor" => on_call(rt, task, threads, Floor::new()),
+        "spin_mutex" => on_call(rt, task, threads, SpinMutex::new(0u64)),
+        "mutex" => on_call(rt, task, threads, Mutex::new(0u64)),
+        "ticket_mutex" => on_call(rt, task, threads, TicketMutex::new(0u64)),
+        "fair_mutex" => on_call(rt, task, threads, FairMutex::new(0u64)),
+        "fair_starve" => on_call(rt, task, threads, Starvers::new()),
+        "rw_read" => on_call(rt, task, threads, Readers::new()),
+        "rw_write" => on_call(rt, task, threads, RwLock::new(0u64)),
+        "rw_upgrade" => on_call(rt, task, threads, Upgrades::new()),
+        "rw_one_writer" => on_call(rt, task, threads, OneWriter::new()),
+        "once_get" => on_call(rt, task, threads, Gets::new(rt)),
+        "once_call" => on_case(rt, task, threads, LateCalls::new(rt)),
+        "once_first" => on_call(rt, task, threads, FirstCalls),
+        "lazy_force" => on_case(rt, task, threads, Forces),
+        "barrier_alone" => on_call(rt, task, threads, Alone::new()),
+        "barrier_rounds" => on_case(rt, task, threads, Rounds::new(threads)),
+        "std_mutex" => on_call(rt, task, threads, sync::Mutex::new(0u64)),
+        "seated_mutex" => on_case(rt, task, threads, Seated::new(rt.alloc())?),
+        "world" => on_case(rt, task, threads, Plays::new(rt.alloc())?),
+        _ => Err(usage()),
     }
 }
 
-fn smoke<R: Threads + Wait + Clock + Print + Sync>(rt: &R, alloc: Global) -> Result<(), Fault> {
-    for name in NAMES {
-        let task = Task::smoke(name);
-        on_name(rt, alloc, task, name, 1)?;
-        if name.most_threads() > 1 {
-            on_name(rt, alloc, task, name, 2)?;
-            on_name(rt, alloc, task, name, 4)?;
-        }
-    }
-    Ok(())
-}
-
-fn sizes<R: Print>(rt: &R) -> Result<(), Fault> {
-    for (name, bytes) in SIZES {
-        println!(rt; "{name} {bytes}")?;
-    }
-    Ok(())
-}
-
-/// The command that the arguments behind the program's name are.
-fn asked<R: Env + AllocGlobal>(rt: &R) -> Result<Command, Fault> {
-    let words = match env::args(rt) {
-        Ok(all) => all.skip(1).collect::<Vec<String>>(rt.alloc())?,
-        Err(e) if e.kind() == io::ErrorKind::OutOfMemory => return Err(Fault::Memory),
-        Err(_) => return Err(Fault::Usage),
-    };
-    let words = words
-        .iter()
-        .map(|word| word.as_str())
-        .collect::<Vec<&str>>(rt.alloc())?;
-    Command::of(words.as_slice()).ok_or(Fault::Usage)
-}
-
-/// Does what the arguments ask for.
-pub fn answer<R: Threads + Wait + Clock + Print + Env + AllocGlobal + Sync>(
+/// Does the task, and prints what was seen and left.
+fn report<R: Threads + Wait + Clock + Print + AllocGlobal + Sync>(
     rt: &R,
-) -> Result<(), Fault> {
-    match asked(rt)? {
-        Command::Measure(name, threads) => on_name(rt, rt.alloc(), Task::Measure, name, threads),
-        Command::Sizes => sizes(rt),
-        Command::Smoke => smoke(rt, rt.alloc()),
+    task: Task,
+    threads: usize,
+    name: &str,
+) -> io::Result<()> {
+    let sum = on_name(rt, task, threads, name)?;
+    println!(rt; "{name}.{threads} {sum}")
+}
+
+/// Measures the case of that name in so many threads.
+pub fn measure<R: Threads + Wait + Clock + Print + AllocGlobal + Sync>(
+    rt: &R,
+    name: &str,
+    threads: &str,
+) -> io::Result<()> {
+    match threads.parse::<u8>() {
+        Ok(threads) => report(rt, Task::Measure, threads as usize, name),
+        Err(_) => Err(usage()),
     }
+}
+
+/// Does each case for a try. Rounds at a barrier are few: on a busy machine each waits until all its threads have had a
+/// processor.
+pub fn try_all<R: Threads + Wait + Clock + Print + AllocGlobal + Sync>(rt: &R) -> io::Result<()> {
+    for name in ALONE {
+        report(rt, Task::Try(1000), 1, name)?;
+    }
+    for threads in [1, 2, 4] {
+        for name in BESIDE {
+            report(rt, Task::Try(1000), threads, name)?;
+        }
+        report(rt, Task::Try(20), threads, "barrier_rounds")?;
+    }
+    Ok(())
 }

@@ -1,11 +1,8 @@
 //! The calls of what is made once, and of a barrier.
-ghost use Rattle.std.specs.Prelude.{◌≡◌};
-
 use super::{Call, Case};
 use spin_barrier::barrier::Barrier;
 use spin_once::lazylock::LazyLock;
 use spin_once::once::Once;
-use std::alloc::AllocError;
 use std::sync::Wait;
 
 /// A `Once` that has its value, a 1, and is looked at.
@@ -31,7 +28,8 @@ impl Call for Gets {
     }
 }
 
-/// The same, asked with a closure, which does not run.
+/// The same, asked with a closure, which does not run. The loop stands here, since the compiler tests a byte after each
+/// call that may wait, and the `call` of a [`Call`] would be one more.
 #[derive(Drop)]
 pub struct LateCalls {
     once: Once<u64>,
@@ -43,10 +41,14 @@ impl LateCalls {
     }
 }
 
-impl Call for LateCalls {
-    #[inline(always)]
-    fn call<W: Wait>(&self, rt: &W, _worker: usize) -> u64 {
-        *self.once.call_once(rt, || 2)
+impl Case for LateCalls {
+    #[inline(never)]
+    fn repeat<W: Wait>(&self, rt: &W, _worker: usize, calls: u64) -> u64 {
+        let mut seen = 0u64;
+        for _ in 0..calls {
+            seen = seen.wrapping_add(*self.once.call_once(rt, || 2));
+        }
+        seen
     }
 
     fn added(self) -> u64 {
@@ -84,25 +86,19 @@ impl Call for FirstCalls {
 pub struct Forces;
 
 impl Case for Forces {
-    ghost weight = { λ _. 1 };
-
     #[inline(never)]
-    fn repeat<W: Wait>(&self, rt: &W, worker: usize, times: u64) -> Result<u64, AllocError> {
+    fn repeat<W: Wait>(&self, rt: &W, worker: usize, calls: u64) -> u64 {
         // One worker alone does it. Its number comes in, so that the value is not known where the loop is compiled.
         let lazy: LazyLock<u64, _> = LazyLock::new(|| (worker as u64).wrapping_add(1));
         let mut seen = 0u64;
-        for _ in 0..times {
+        for _ in 0..calls {
             seen = seen.wrapping_add(*LazyLock::force(&lazy, rt));
         }
-        Ok(seen)
+        seen
     }
 
-    fn weight(&self) -> u64 {
-        1
-    }
-
-    fn checksum(self, seen: u64) -> Result<u64, AllocError> {
-        Ok(seen)
+    fn added(self) -> u64 {
+        0
     }
 }
 

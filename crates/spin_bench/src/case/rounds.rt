@@ -1,13 +1,10 @@
 //! A barrier at which all threads that do the case wait for one another.
-ghost use Rattle.std.specs.Prelude.{◌≡◌};
-
 use super::Case;
 use spin_barrier::barrier::Barrier;
-use std::alloc::AllocError;
 use std::sync::Wait;
 use std::sync::atomic::{AtomicBool, Ordering};
 
-/// A barrier whose groups are all threads that do the case. Doing it once is one wait of one of them.
+/// A barrier whose groups are all threads that do the case. A call is one wait of one of them.
 #[derive(Drop)]
 pub struct Rounds {
     barrier: Barrier,
@@ -26,18 +23,16 @@ impl Rounds {
 }
 
 impl Case for Rounds {
-    ghost weight = { λ _. 1 };
-
     /// Who leads a group has seen as many waits as there are threads.
     #[inline(never)]
-    fn repeat<W: Wait>(&self, rt: &W, _worker: usize, times: u64) -> Result<u64, AllocError> {
+    fn repeat<W: Wait>(&self, rt: &W, _worker: usize, calls: u64) -> u64 {
         let mut seen = 0u64;
-        for _ in 0..times {
+        for _ in 0..calls {
             if self.barrier.wait(rt).is_leader() {
                 seen = seen.wrapping_add(self.threads as u64);
             }
         }
-        Ok(seen)
+        seen
     }
 
     /// They end together: one that waited on would wait for those that have gone. So one of them looks for all, while the
@@ -51,11 +46,7 @@ impl Case for Rounds {
         self.stops.load(Ordering::SeqCst)
     }
 
-    fn weight(&self) -> u64 {
-        1
-    }
-
-    fn checksum(self, seen: u64) -> Result<u64, AllocError> {
-        Ok(seen)
+    fn added(self) -> u64 {
+        0
     }
 }

@@ -49,23 +49,16 @@ impl Seated {
 }
 
 impl Case for Seated {
-    ghost weight = { λ _. 1 };
-
-    fn repeat<W: Wait>(&self, rt: &W, _worker: usize, times: u64) -> Result<u64, AllocError> {
-        self.caller.lock(rt).add_times(times);
-        Ok(0)
+    fn repeat<W: Wait>(&self, rt: &W, _worker: usize, calls: u64) -> u64 {
+        self.caller.lock(rt).add_times(calls);
+        0
     }
 
-    fn weight(&self) -> u64 {
-        1
-    }
-
-    /// The value, where the lock is free. The calls saw nothing.
-    fn checksum(self, seen: u64) -> Result<u64, AllocError> {
+    /// The value, where the lock is free.
+    fn added(self) -> u64 {
         let Seated { caller } = self;
         let Caller { lock, mut pass } = caller.into_inner();
         let granted = lock.try_lock(&mut pass);
-        let left = if granted { lock.read(&mut pass) } else { 0 };
-        Ok(left.wrapping_add(seen))
+        if granted { lock.read(&mut pass) } else { 0 }
     }
 }

@@ -1,109 +1,77 @@
-//! A whole schedule, played in a new world each time.
-ghost use Rattle.std.specs.Prelude.{◌≡◌, ℕ, ◌+◌, ◌*◌, IfOk, OnOk, length, vec_len};
-
+//! A long schedule, played in a new world each time.
 use super::Case;
-use spin_world::{Flag, FlagCall, Move, Object, Outcome, World};
+use spin_world::{Flag, FlagCall, Move, Outcome, Transcript, World};
 use std::alloc::{AllocError, Global};
 use std::sync::Wait;
 
-/// How many parties share the object, one after another.
+/// How many parties share the flag, one after another.
 const PARTIES: usize = 4;
 
-/// An object that a schedule can be made for.
-pub trait Play: Object {
-    /// How many moves a turn has.
-    ghost moves: { ℕ };
+/// One party's whole turn while nobody else is in it: how it takes the lock, writes and leaves.
+const TURN: [Move<FlagCall, u64>; 6] = [
+    Move::Begin(FlagCall::Lock),
+    Move::Step,
+    Move::Read,
+    Move::Write(1),
+    Move::Begin(FlagCall::Release),
+    Move::Step,
+];
 
-    /// The object, with nobody in it.
-    fn opening() -> Self;
+/// How many turns a schedule has.
+const TURNS: usize = 10_000;
 
-    /// One party's whole turn at the object while nobody else is in it: how it enters, writes and leaves.
-    fn turn(alloc: Global) -> Result<Vec<Move<Self::Call, Self::Value>>, AllocError>
-        ensures { IfOk result (λ turn. vec_len turn ≡ moves) };
-}
-
-impl Play for Flag<u64> {
-    ghost moves = { 6 };
-
-    fn opening() -> Flag<u64> {
-        Flag::new(0)
-    }
-
-    fn turn(alloc: Global) -> Result<Vec<Move<FlagCall, u64>>, AllocError> {
-        Ok(vec![in alloc;
-            Move::Begin(FlagCall::Lock),
-            Move::Step,
-            Move::Read,
-            Move::Write(1u64),
-            Move::Begin(FlagCall::Release),
-            Move::Step,
-        ]?)
-    }
-}
-
-/// A schedule of turns at one object.
+/// A schedule of turns at one flag. A call is an event of its transcript.
 #[derive(Drop)]
-pub struct Plays<O: Play> {
+pub struct Plays {
     alloc: Global,
-    schedule: Vec<(usize, Move<O::Call, O::Value>)>,
+    schedule: Vec<(usize, Move<FlagCall, u64>)>,
 }
 
-impl<O: Play> Plays<O> {
-    /// So many turns, one after another. The parties take them in order, again and again.
-    pub fn new(alloc: Global, turns: usize) -> Result<Plays<O>, AllocError>
-        ensures { IfOk result (λ plays. vec_len plays.schedule ≡ turns * O.moves) }
-    {
-        let turn = O::turn(alloc)?;
+impl Plays {
+    /// Turns one after another. The parties take them in order, again and again.
+    pub fn new(alloc: Global) -> Result<Plays, AllocError> {
         let mut schedule = Vec::new(alloc);
-        for taken in 0..turns {
-            add_turn(&mut schedule, taken % PARTIES, turn.as_slice())?;
+        for taken in 0..TURNS {
+            for step in TURN {
+                schedule.push((taken % PARTIES, step))?;
+            }
         }
         Ok(Plays { alloc, schedule })
     }
-}
 
-/// Adds the turn of one party to a schedule.
-fn add_turn<C: Copy, V: Copy>(
-    schedule: &mut Vec<(usize, Move<C, V>)>,
-    party: usize,
-    turn: &[Move<C, V>],
-) -> Result<(), AllocError>
-    ensures { OnOk result (vec_len schedule.new ≡ vec_len schedule.old + length turn.now) }
-{
-    for entry in turn {
-        schedule.push((party, *entry))?;
+    /// Plays so many entries of the schedule.
+    fn play(&self, entries: usize) -> Result<Transcript<Flag<u64>>, AllocError> {
+        let mut world: World<Flag<u64>> = World::new(self.alloc, Flag::new(0), PARTIES)?;
+        world.run(self.schedule.get(..entries).unwrap_or(&[]))
     }
-    Ok(())
 }
 
-impl<O: Play> Case for Plays<O> {
-    ghost weight = { λ plays. vec_len plays.schedule };
-
+impl Case for Plays {
+    /// Nothing was seen where memory was refused.
     #[inline(never)]
-    fn repeat<W: Wait>(&self, rt: &W, _worker: usize, times: u64) -> Result<u64, AllocError> {
-        let _ = rt;
-        let mut events = 0u64;
-        for _ in 0..times {
-            let mut world = World::new(self.alloc, O::opening(), PARTIES)?;
-            let transcript = world.run(self.schedule.as_slice())?;
-            events = events.wrapping_add(transcript.events.len() as u64);
+    fn repeat<W: Wait>(&self, _rt: &W, _worker: usize, calls: u64) -> u64 {
+        match self.play(calls as usize) {
+            Ok(transcript) => transcript.events.len() as u64,
+            Err(AllocError) => 0,
         }
-        Ok(events)
     }
 
-    fn weight(&self) -> u64 {
+    /// Each play has the whole schedule.
+    fn chunk(&self, _threads: usize) -> u64 {
         self.schedule.len() as u64
     }
 
-    /// The events of all transcripts, less the entries of the schedule that are passed over in one more play.
-    fn checksum(self, seen: u64) -> Result<u64, AllocError> {
-        let mut world = World::new(self.alloc, O::opening(), PARTIES)?;
-        let transcript = world.run(self.schedule.as_slice())?;
-        let passed_over = transcript
-            .events
-            .iter()
-            .filter(|event| matches!(event.outcome, Outcome::PassedOver))
-            .count();
-        Ok(seen.wrapping_sub(passed_over as u64))
+    /// None, less the moves that are passed over in one more play.
+    fn added(self) -> u64 {
+        let Ok(transcript) = self.play(self.schedule.len()) else {
+            return 1;
+        };
+        let mut added = 0u64;
+        for event in &transcript.events {
+            if let Outcome::PassedOver = event.outcome {
+                added = added.wrapping_sub(1);
+            }
+        }
+        added
     }
 }

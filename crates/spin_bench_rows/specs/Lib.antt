@@ -1,5 +1,0 @@
-pub mod Names
-pub mod Numbers
-pub mod Rows
-pub mod Commands
-pub mod Faults
