@@ -85,7 +85,7 @@ impl<'a, T, R: RelaxStrategy> Starvation<'a, T, R> {
     {
         match self.try_lock() {
             Ok(guard) => guard,
-            Err(still) => R::retry(rt, still, |starvation| starvation.look_and_try()),
+            Err(still) => R::retry(rt, still, Self::look_and_try),
         }
     }
 
