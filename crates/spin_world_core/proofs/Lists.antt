@@ -1,7 +1,9 @@
 -- Lists that are read and written by place.
-use Rattle.std.proofs.Common.{◌≡◌, ℕ, zero, suc, ◌+◌, ◌<◌, ◌==◌, true, Some, List, [], ◌∷◌, ◌++◌, map, length, get_or, take, drop, set, replicate, slice_get, slice_set, unwrap_or, refl, ap, sym, ◌∙◌, arith, add-one}
+use Rattle.std.proofs.Common.{◌≡◌, ℕ, zero, suc, ◌+◌, ◌<◌, ◌==◌, Bool, true, ◌&&◌, Some, List, [], ◌∷◌, ◌++◌, map, length, get_or, take, drop, set, replicate, slice_get, slice_set, unwrap_or, refl, ap, sym, ◌∙◌, arith, add-one}
 use Rattle.std.proofs.lemmas.Bool.{eq-eqb}
+use Rattle.std.proofs.lemmas.List.{at_drop_more}
 use Rattle.std.proofs.Math.Seq.{take-suc}
+use Rattle.std.specs.List.{list_all}
 
 pub eqb_self : (p : ℕ) → (p == p) ≡ true
 eqb_self p = eq-eqb p p refl
@@ -59,3 +61,8 @@ pub get-replicate_or : {X : Type 0} (n p : ℕ) (x : X) → unwrap_or (slice_get
 get-replicate_or zero p x = refl
 get-replicate_or (suc n) zero x = refl
 get-replicate_or (suc n) (suc p) x = get-replicate_or n p x
+
+-- whether all of a list are so, at an element of it
+pub all_from : {X : Type 0} (f : X → Bool) (xs : List X) (i : ℕ) (x : X) (b : Bool) → list_all f (drop i xs) ≡ list_all f xs → i < length xs → x ≡ get_or xs i x → b ≡ f x
+    → (b && list_all f (drop (i + 1) xs)) ≡ list_all f xs
+all_from f xs i x b so lt read made = ap (λ c. c && list_all f (drop (i + 1) xs)) (made ∙ ap f read) ∙ (sym (at_drop_more (list_all f) xs i x lt) ∙ so)

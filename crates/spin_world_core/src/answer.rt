@@ -1,5 +1,5 @@
 /// An answer of a call, of any object. `V` is the type of the object's value.
-#[derive(Clone, Copy, Debug, PartialEq, Eq)]
+#[derive(Copy, Debug, PartialEq, Eq)]
 pub enum Answer<V> {
     /// The party holds what it asked for.
     Granted,

@@ -4,6 +4,7 @@
 #![tactic(auto)]
 
 mod answer;
+mod copies;
 mod laws;
 mod object;
 mod place;

@@ -5,7 +5,7 @@ ghost use Rattle.spin_world_core.specs.Lawful.{Lawful};
 use crate::place::Hold;
 
 /// How a call goes on after a step.
-#[derive(Clone, Copy)]
+#[derive(Copy)]
 pub enum Next<L, A> {
     /// The point of the call that comes next.
     GoesOn(L),
@@ -14,7 +14,7 @@ pub enum Next<L, A> {
 }
 
 /// What a step of a call comes to.
-#[derive(Clone, Copy)]
+#[derive(Copy)]
 pub struct Stepped<W, V, L, A> {
     pub words: W,
     /// The value that the step puts in its place, if it does.

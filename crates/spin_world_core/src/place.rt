@@ -23,7 +23,7 @@ pub enum Place {
 }
 
 /// The same with all that the world keeps of the party.
-#[derive(Clone, Copy)]
+#[derive(Copy)]
 pub enum Seat<C, L> {
     Idle,
     /// In a call, at a point of it, with what the party held as it began.

@@ -1,7 +1,7 @@
 use crate::object::Object;
 
 /// What a party may do next.
-#[derive(Clone, Copy, Debug, PartialEq, Eq)]
+#[derive(Copy, Debug, PartialEq, Eq)]
 pub enum Move<C, V> {
     /// Begins a call.
     Begin(C),
@@ -22,7 +22,7 @@ pub enum Move<C, V> {
 }
 
 /// What came of a move.
-#[derive(Clone, Copy, Debug, PartialEq, Eq)]
+#[derive(Copy, Debug, PartialEq, Eq)]
 pub enum Outcome<A, V> {
     /// The move wasn't open to the party, or there is no such party. Nothing changed.
     PassedOver,
@@ -41,7 +41,7 @@ pub enum Outcome<A, V> {
 }
 
 /// One entry of a schedule as it went.
-#[derive(Clone, Copy, Debug, PartialEq, Eq)]
+#[derive(Copy, Debug, PartialEq, Eq)]
 pub struct Event<W, V, A> {
     pub party: usize,
     pub outcome: Outcome<A, V>,

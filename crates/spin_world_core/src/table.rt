@@ -2,7 +2,7 @@
 ghost use Rattle.std.specs.Prelude.{◌≡◌, ◌<◌, Some, IfOk, length, map, replicate, slice_get, option_map};
 ghost use Rattle.std.specs.List.{list_all};
 ghost use Rattle.spin_world_core.specs.declared.place.Seat.TheVariants.{Idle};
-ghost use Rattle.spin_world_core.specs.Schedules.{yields_to_owner, seen_by_owner, resting, may_read, may_write, begins, steps, weakly, reads, writes, leaks, owner_gets, owner_sets, goes_on, is_owners, happens, place_of};
+ghost use Rattle.spin_world_core.specs.Schedules.{yields_to_owner, seen_by_owner, resting, may_read, may_write, begun, begins, steps, weakly, reads, writes, leaks, owner_gets, owner_writes, owner_sets, goes_on, is_owners, moves, happens, place_of};
 ghost use Rattle.spin_world_core.specs.Runs.{CanStep};
 
 use crate::object::{Next, Object};
@@ -38,7 +38,7 @@ fn writes_value(hold: Hold) -> bool
     matches!(hold, Hold::Write | Hold::Ticket(_))
 }
 
-fn seat_of<C, L>(holds: Option<Hold>) -> Seat<C, L>
+fn seat_of<C: Copy, L: Copy>(holds: Option<Hold>) -> Seat<C, L>
     ensures { result ≡ resting holds }
 {
     match holds {
@@ -47,18 +47,36 @@ fn seat_of<C, L>(holds: Option<Hold>) -> Seat<C, L>
     }
 }
 
+fn yields<C: Copy, L: Copy>(seat: Seat<C, L>) -> bool
+    ensures { result ≡ yields_to_owner seat }
+{
+    !matches!(seat, Seat::Calling(_, _, _) | Seat::Holding(_))
+}
+
+fn place_of<C: Copy, L: Copy>(seat: Seat<C, L>) -> Place
+    ensures { result ≡ place_of seat }
+{
+    match seat {
+        Seat::Idle => Place::Idle,
+        Seat::Calling(_, _, _) => Place::InCall,
+        Seat::Holding(hold) => Place::Holding(hold),
+        Seat::Leaked(hold) => Place::Leaked(hold),
+        Seat::Gone(_) => Place::Gone,
+    }
+}
+
 fn all_yield<C: Copy, L: Copy>(seats: &[Seat<C, L>]) -> bool
     ensures { result ≡ list_all yields_to_owner seats.now }
 {
     for seat in seats {
-        if matches!(*seat, Seat::Calling(_, _, _) | Seat::Holding(_)) {
+        if !yields(*seat) {
             return false;
         }
     }
     true
 }
 
-fn without_leak<C, L>(seat: Seat<C, L>) -> Seat<C, L>
+fn without_leak<C: Copy, L: Copy>(seat: Seat<C, L>) -> Seat<C, L>
     ensures { result ≡ seen_by_owner seat }
 {
     match seat {
@@ -82,11 +100,7 @@ pub fn idle_seats<C: Copy, L: Copy>(
 ) -> Result<Vec<Seat<C, L>>, AllocError>
     ensures { IfOk result (λ seats. seats.items ≡ replicate parties Idle) }
 {
-    let mut seats = Vec::with_capacity(alloc, parties)?;
-    for _ in 0..parties {
-        seats.push_reserved(Seat::Idle);
-    }
-    Ok(seats)
+    vec![in alloc; Seat::Idle; parties]
 }
 
 impl<O: Object> Table<O> {
@@ -97,13 +111,7 @@ impl<O: Object> Table<O> {
         if party >= self.seats.len() {
             return None;
         }
-        Some(match self.seats[party] {
-            Seat::Idle => Place::Idle,
-            Seat::Calling(_, _, _) => Place::InCall,
-            Seat::Holding(hold) => Place::Holding(hold),
-            Seat::Leaked(hold) => Place::Leaked(hold),
-            Seat::Gone(_) => Place::Gone,
-        })
+        Some(place_of(self.seats[party]))
     }
 
     /// What a move of the party comes to.
@@ -120,6 +128,22 @@ impl<O: Object> Table<O> {
             return Outcome::PassedOver;
         }
         let seat = self.seats[party];
+        self.act_from(object, party, entry, seat)
+    }
+
+    /// The same of a party that stands so.
+    fn act_from(
+        &mut self,
+        object: &O,
+        party: usize,
+        entry: Move<O::Call, O::Value>,
+        seat: Seat<O::Call, O::Local>,
+    ) -> Outcome<O::Answer, O::Value>
+        requires there { slice_get self.old.seats party ≡ Some seat }
+        requires within { party < length self.old.seats }
+        requires can { CanStep (O.machine object.now) self.old }
+        ensures { record { outcome = result; next = self.new } ≡ moves (O.machine object.now) self.old party entry seat }
+    {
         match entry {
             Move::Begin(call) => self.begin(object, party, call, seat),
             Move::Step => self.step(object, party, seat),
@@ -142,11 +166,23 @@ impl<O: Object> Table<O> {
         requires { party < length self.old.seats }
         ensures { record { outcome = result; next = self.new } ≡ begins (O.machine object.now) self.old party call seat }
     {
-        let holds = match seat {
-            Seat::Idle => None,
-            Seat::Holding(hold) => Some(hold),
-            _ => return Outcome::PassedOver,
-        };
+        match seat {
+            Seat::Idle => self.begin_beside(object, party, call, None),
+            Seat::Holding(hold) => self.begin_beside(object, party, call, Some(hold)),
+            _ => Outcome::PassedOver,
+        }
+    }
+
+    fn begin_beside(
+        &mut self,
+        object: &O,
+        party: usize,
+        call: O::Call,
+        holds: Option<Hold>,
+    ) -> Outcome<O::Answer, O::Value>
+        requires { party < length self.old.seats }
+        ensures { record { outcome = result; next = self.new } ≡ begun self.old party call holds ((O.machine object.now).begin call holds) }
+    {
         match object.begin(call, holds) {
             None => Outcome::PassedOver,
             Some(local) => {
@@ -280,6 +316,12 @@ impl<O: Object> Table<O> {
         if !self.is_owners(object) {
             return Outcome::PassedOver;
         }
+        self.owner_writes(to)
+    }
+
+    fn owner_writes(&mut self, to: O::Value) -> Outcome<O::Answer, O::Value>
+        ensures { record { outcome = result; next = self.new } ≡ owner_writes self.old to self.old.value }
+    {
         let_go_all(&mut self.seats);
         if self.value.is_none() {
             return Outcome::Value(None);
