@@ -2,13 +2,14 @@
 use Rattle.std.proofs.Common.{◌≡◌, ℕ, zero, suc, map, ◌+◌, ◌<◌, ◌≤◌, ◌==◌, ◌&&◌, Bool, true, false, Option, Some, None, List, [], ◌∷◌, ◌++◌, length, slice_get, slice_set, if◌then◌else◌, unwrap_or, refl, ap, sym, ◌∙◌, arith, subst, ⊎_elim, length-set, take, get_or, length-take-le, zero-add}
 use Rattle.std.proofs.lemmas.Bool.{cases_lt, true≢false}
 use Rattle.std.proofs.lemmas.Bool.Decides.{eqb_tells}
-use Rattle.std.proofs.lemmas.List.{length-map}
+use Rattle.std.proofs.lemmas.List.{length-map, take_all}
 use Rattle.spin_world_core.specs.declared.schedule.Move.{Move}
 use Rattle.spin_world_core.specs.declared.schedule.Outcome.{Outcome}
 use Rattle.spin_world_core.specs.declared.schedule.Outcome.TheVariants as outcome
 use Rattle.spin_world_core.specs.declared.schedule.Event.{Event}
 use Rattle.spin_world_core.specs.Machines.{Machine}
 use Rattle.spin_world_core.specs.Schedules.{State, Happened, happens, after, events_of, with_begins, last_begin, begin_of, begins_after, with_begin, is_begun}
+use Rattle.spin_world_core.specs.Runs.{CanStep, CanAlways}
 use Rattle.spin_world_core.proofs.Lists.{get-set_within, get-set_other, take_next}
 use Rattle.spin_world_core.proofs.Schedules.{after-append, events_of-append, length-events_of, with_begins_more, last_begin_more, stranger, length-happens}
 
@@ -105,3 +106,13 @@ played_next {V = V} {A = A} m from now next begins begins' events events' schedu
     let more = played_more m from now begins events (take k schedule) entry.0 entry.1 played (record { outcome = o; next = next }) acted in
     let front : length (take k schedule) ≡ k = length-take-le k schedule (omega arith) in
     rw (take_next schedule k entry lt read, added, put, told_o, same_words) (rw front at more)
+
+-- all of it has been played
+pub played_all : {W V C L A : Type 0} (m : Machine W V C L A) (from now : State W V C L) (begins : List (Option ℕ)) (events : List (Event W V A)) (schedule : List (ℕ × Move C V)) (k : ℕ)
+    → Played m from now begins events (take k schedule) → length schedule ≤ k → Played m from now begins events schedule
+played_all m from now begins events schedule k played all = subst (Played m from now begins events) (take_all k schedule all) played
+
+-- where the schedule has led so far, the next step can be taken
+pub can_next : {W V C L A : Type 0} (m : Machine W V C L A) (from now : State W V C L) (begins : List (Option ℕ)) (events : List (Event W V A)) (schedule : List (ℕ × Move C V)) (k : ℕ)
+    → Played m from now begins events (take k schedule) → CanAlways m from schedule → CanStep m now
+can_next m from now begins events schedule k played can = subst (CanStep m) (sym played.table) (can k)
