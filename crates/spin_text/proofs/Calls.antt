@@ -1,5 +1,5 @@
 -- The calls of each object are read as they are spelled.
-use Rattle.std.proofs.Common.{◌≡◌, ℕ, ◌<◌, ◌^◌, true, ◌&&◌, Option, Some, None, List, [], ◌∷◌, codes, decimal, map, refl, ap, subst, ◌∙◌}
+use Rattle.std.proofs.Common.{◌≡◌, ℕ, ◌<◌, ◌^◌, true, ◌&&◌, Some, List, [], ◌∷◌, codes, decimal, map, refl, ap, subst, ◌∙◌}
 use Rattle.std.specs.List.{AllByRecursion}
 use Rattle.std.specs.Str.{bytes_eq}
 use Rattle.std.proofs.lemmas.Bool.{ltb-true, lt-ltb}
@@ -18,7 +18,7 @@ use Rattle.spin_world_once.specs.declared.once.OnceCall.TheVariants as once
 use Rattle.spin_text.specs.declared.objects.TheConstants.{PLAIN_ONCE_CALLS}
 use Rattle.spin_text.specs.Objects.{flag_calls, ticket_calls, rw_calls, fair_calls, barrier_calls, once_calls}
 use Rattle.spin_text.specs.Spelling.{Calls}
-use Rattle.spin_text.specs.Reading.{◌>>=◌, is_end, last_word, last_number, read_flag_call, read_ticket_call, read_rw_call, read_fair_call, read_barrier_call, named, read_try_call_once, read_once_call}
+use Rattle.spin_text.specs.Reading.{◌>>=◌, is_end, last_word, last_number, read_flag_call, read_ticket_call, read_rw_call, read_fair_call, read_barrier_call, named, only_named, read_try_call_once, read_once_call}
 use Rattle.spin_text.specs.Readable.{ReadsCalls}
 use Rattle.spin_text.proofs.Options.{chosen, bound, some_is, and_true}
 use Rattle.spin_text.proofs.Moves.{is_text, front, ends, last_word_takes, last_number_takes, last_number_again}
@@ -54,11 +54,11 @@ module _ {C : Type 0} (calls : Calls C) where
       told all (this n) c (call n number.0 number.1))
 
 flag_takes : (ws : List (List ℕ)) (c : FlagCall) → read_flag_call ws ≡ Some c → IsCall flag_calls ws c
-unfolding read_flag_call
+unfolding read_flag_call only_named
 flag_takes = word_takes flag_calls _ ((refl, refl), ((refl, refl), ((refl, refl), ((refl, refl), ((refl, refl), tt)))))
 
 flag_again : (c : FlagCall) → flag_calls.fits c ≡ true → read_flag_call (flag_calls.words c) ≡ Some c
-unfolding read_flag_call last_word named
+unfolding read_flag_call only_named last_word named
 flag_again flag.Lock fits = refl
 flag_again flag.TryLock fits = refl
 flag_again flag.TryLockWeak fits = refl
@@ -69,11 +69,11 @@ pub flag_reads : ReadsCalls flag_calls read_flag_call
 flag_reads = record { takes = flag_takes; again = flag_again }
 
 ticket_takes : (ws : List (List ℕ)) (c : TicketCall) → read_ticket_call ws ≡ Some c → IsCall ticket_calls ws c
-unfolding read_ticket_call
+unfolding read_ticket_call only_named
 ticket_takes = word_takes ticket_calls _ ((refl, refl), ((refl, refl), ((refl, refl), ((refl, refl), tt))))
 
 ticket_again : (c : TicketCall) → ticket_calls.fits c ≡ true → read_ticket_call (ticket_calls.words c) ≡ Some c
-unfolding read_ticket_call last_word named
+unfolding read_ticket_call only_named last_word named
 ticket_again ticket.Lock fits = refl
 ticket_again ticket.TryLock fits = refl
 ticket_again ticket.IsLocked fits = refl
@@ -83,11 +83,11 @@ pub ticket_reads : ReadsCalls ticket_calls read_ticket_call
 ticket_reads = record { takes = ticket_takes; again = ticket_again }
 
 rw_takes : (ws : List (List ℕ)) (c : RwCall) → read_rw_call ws ≡ Some c → IsCall rw_calls ws c
-unfolding read_rw_call
+unfolding read_rw_call only_named
 rw_takes = word_takes rw_calls _ ((refl, refl), ((refl, refl), ((refl, refl), ((refl, refl), ((refl, refl), ((refl, refl), ((refl, refl), ((refl, refl), ((refl, refl), ((refl, refl), ((refl, refl), ((refl, refl), ((refl, refl), ((refl, refl), ((refl, refl), tt)))))))))))))))
 
 rw_again : (c : RwCall) → rw_calls.fits c ≡ true → read_rw_call (rw_calls.words c) ≡ Some c
-unfolding read_rw_call last_word named
+unfolding read_rw_call only_named last_word named
 rw_again rw.TryRead fits = refl
 rw_again rw.Read fits = refl
 rw_again rw.TryUpgradeableRead fits = refl
@@ -108,11 +108,11 @@ pub rw_reads : ReadsCalls rw_calls read_rw_call
 rw_reads = record { takes = rw_takes; again = rw_again }
 
 fair_takes : (ws : List (List ℕ)) (c : FairCall) → read_fair_call ws ≡ Some c → IsCall fair_calls ws c
-unfolding read_fair_call
+unfolding read_fair_call only_named
 fair_takes = word_takes fair_calls _ ((refl, refl), ((refl, refl), ((refl, refl), ((refl, refl), ((refl, refl), ((refl, refl), ((refl, refl), ((refl, refl), ((refl, refl), ((refl, refl), tt))))))))))
 
 fair_again : (c : FairCall) → fair_calls.fits c ≡ true → read_fair_call (fair_calls.words c) ≡ Some c
-unfolding read_fair_call last_word named
+unfolding read_fair_call only_named last_word named
 fair_again fair.Lock fits = refl
 fair_again fair.TryLock fits = refl
 fair_again fair.TryLockStarver fits = refl
@@ -128,11 +128,11 @@ pub fair_reads : ReadsCalls fair_calls read_fair_call
 fair_reads = record { takes = fair_takes; again = fair_again }
 
 barrier_takes : (ws : List (List ℕ)) (c : BarrierCall) → read_barrier_call ws ≡ Some c → IsCall barrier_calls ws c
-unfolding read_barrier_call
+unfolding read_barrier_call only_named
 barrier_takes = word_takes barrier_calls _ ((refl, refl), tt)
 
 barrier_again : (c : BarrierCall) → barrier_calls.fits c ≡ true → read_barrier_call (barrier_calls.words c) ≡ Some c
-unfolding read_barrier_call last_word named
+unfolding read_barrier_call only_named last_word named
 barrier_again barrier.Wait fits = refl
 
 pub barrier_reads : ReadsCalls barrier_calls read_barrier_call

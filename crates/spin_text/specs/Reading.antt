@@ -111,22 +111,26 @@ unfoldable pub named : {C : Type 0} → List (List ℕ × C) → List ℕ → Op
 named [] w = None
 named (row ∷ rows) w = if bytes_eq w row.0 then Some row.1 else named rows w
 
+-- what a table has beside the one word of a line
+unfoldable pub only_named : {C : Type 0} → List (List ℕ × C) → List (List ℕ) → Option C
+only_named rows ws = last_word ws >>= named rows
+
 -- the calls of each object
 
 unfoldable pub read_flag_call : List (List ℕ) → Option FlagCall
-read_flag_call ws = last_word ws >>= named (map (λ row. (row.0.now, row.1)) FLAG_CALLS)
+read_flag_call ws = only_named (map (λ row. (row.0.now, row.1)) FLAG_CALLS) ws
 
 unfoldable pub read_ticket_call : List (List ℕ) → Option TicketCall
-read_ticket_call ws = last_word ws >>= named (map (λ row. (row.0.now, row.1)) TICKET_CALLS)
+read_ticket_call ws = only_named (map (λ row. (row.0.now, row.1)) TICKET_CALLS) ws
 
 unfoldable pub read_rw_call : List (List ℕ) → Option RwCall
-read_rw_call ws = last_word ws >>= named (map (λ row. (row.0.now, row.1)) RW_CALLS)
+read_rw_call ws = only_named (map (λ row. (row.0.now, row.1)) RW_CALLS) ws
 
 unfoldable pub read_fair_call : List (List ℕ) → Option FairCall
-read_fair_call ws = last_word ws >>= named (map (λ row. (row.0.now, row.1)) FAIR_CALLS)
+read_fair_call ws = only_named (map (λ row. (row.0.now, row.1)) FAIR_CALLS) ws
 
 unfoldable pub read_barrier_call : List (List ℕ) → Option BarrierCall
-read_barrier_call ws = last_word ws >>= named (map (λ row. (row.0.now, row.1)) BARRIER_CALLS)
+read_barrier_call ws = only_named (map (λ row. (row.0.now, row.1)) BARRIER_CALLS) ws
 
 -- a call that may fail, behind its name
 unfoldable pub read_try_call_once : List (List ℕ) → Option (OnceCall ℕ)

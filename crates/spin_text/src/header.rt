@@ -3,7 +3,7 @@ ghost use Rattle.std.specs.Prelude.{◌≡◌, option_map};
 ghost use Rattle.spin_text.specs.Lines.{words_of};
 ghost use Rattle.spin_text.specs.Reading.{words_left, last_parties, number_within, read_flag_header, read_ticket_header, read_rw_header, read_fair_header, read_barrier_header, read_once_header, read_header};
 
-use crate::words::{Rest, number_then, only_number, word};
+use crate::words::{Rest, is_word, number_then, only_number, word};
 
 /// The object with what it begins from, and how many parties share it.
 pub enum Header {
@@ -153,17 +153,17 @@ pub fn header_of(line: &[u8]) -> Option<Header>
     ensures { result ≡ read_header (words_of line.now) }
 {
     let (name, line) = word(Some(line))?;
-    if name == b"flag".as_slice() {
+    if is_word(name, b"flag") {
         flag(line)
-    } else if name == b"ticket".as_slice() {
+    } else if is_word(name, b"ticket") {
         ticket(line)
-    } else if name == b"rw".as_slice() {
+    } else if is_word(name, b"rw") {
         rw(line)
-    } else if name == b"fair".as_slice() {
+    } else if is_word(name, b"fair") {
         fair(line)
-    } else if name == b"barrier".as_slice() {
+    } else if is_word(name, b"barrier") {
         barrier(line)
-    } else if name == b"once".as_slice() {
+    } else if is_word(name, b"once") {
         once(line)
     } else {
         None

@@ -4,7 +4,7 @@ ghost use Rattle.spin_text.specs.Spelling.{Calls};
 ghost use Rattle.spin_text.specs.Reading.{words_left, numbers_of, read_try_call_once};
 ghost use Rattle.spin_text.specs.Readable.{ReadsCalls};
 
-use crate::words::{Rest, is_over, named, only_number, only_word, word};
+use crate::words::{Rest, is_over, is_word, named, only_named, only_number, word};
 use spin_world::{
     Answer, BarrierCall, BarrierObject, BarrierWords, Fair, FairCall, Flag, FlagCall, Object,
     OnceCall, OnceObject, Rw, RwCall, Ticket, TicketCall, TicketWords,
@@ -51,7 +51,7 @@ impl Spelled for Flag<u64> {
 
     #[tactic(auto, unfolding(crate::specs::Reading::read_flag_call))]
     fn call(line: Rest) -> Option<FlagCall> {
-        named(&FLAG_CALLS, only_word(line)?)
+        only_named(&FLAG_CALLS, line)
     }
 
     fn numbers(words: bool) -> (u64, Option<u64>) {
@@ -78,7 +78,7 @@ impl Spelled for Ticket<u64> {
 
     #[tactic(auto, unfolding(crate::specs::Reading::read_ticket_call))]
     fn call(line: Rest) -> Option<TicketCall> {
-        named(&TICKET_CALLS, only_word(line)?)
+        only_named(&TICKET_CALLS, line)
     }
 
     fn numbers(words: TicketWords) -> (u64, Option<u64>) {
@@ -116,7 +116,7 @@ impl Spelled for Rw<u64> {
 
     #[tactic(auto, unfolding(crate::specs::Reading::read_rw_call))]
     fn call(line: Rest) -> Option<RwCall> {
-        named(&RW_CALLS, only_word(line)?)
+        only_named(&RW_CALLS, line)
     }
 
     fn numbers(words: usize) -> (u64, Option<u64>) {
@@ -149,7 +149,7 @@ impl Spelled for Fair<u64> {
 
     #[tactic(auto, unfolding(crate::specs::Reading::read_fair_call))]
     fn call(line: Rest) -> Option<FairCall> {
-        named(&FAIR_CALLS, only_word(line)?)
+        only_named(&FAIR_CALLS, line)
     }
 
     fn numbers(words: usize) -> (u64, Option<u64>) {
@@ -171,7 +171,7 @@ impl Spelled for BarrierObject {
 
     #[tactic(auto, unfolding(crate::specs::Reading::read_barrier_call))]
     fn call(line: Rest) -> Option<BarrierCall> {
-        named(&BARRIER_CALLS, only_word(line)?)
+        only_named(&BARRIER_CALLS, line)
     }
 
     fn numbers(words: BarrierWords) -> (u64, Option<u64>) {
@@ -185,9 +185,9 @@ fn try_call_once(line: Rest) -> Option<OnceCall<u64>>
     ensures { result ≡ read_try_call_once (words_left line.entry) }
 {
     let (word, rest) = word(line)?;
-    if word == b"ok".as_slice() {
+    if is_word(word, b"ok") {
         Some(OnceCall::TryCallOnceOk(only_number(rest)?))
-    } else if word == b"err".as_slice() && is_over(rest) {
+    } else if is_word(word, b"err") && is_over(rest) {
         Some(OnceCall::TryCallOnceErr)
     } else {
         None
@@ -215,11 +215,11 @@ impl Spelled for OnceObject<u64> {
     #[tactic(auto, unfolding(crate::specs::Reading::read_once_call))]
     fn call(line: Rest) -> Option<OnceCall<u64>> {
         let (word, rest) = word(line)?;
-        if word == b"call_once".as_slice() {
+        if is_word(word, b"call_once") {
             Some(OnceCall::CallOnce(only_number(rest)?))
-        } else if word == b"try_call_once".as_slice() {
+        } else if is_word(word, b"try_call_once") {
             try_call_once(rest)
-        } else if word == b"init_from_ref".as_slice() {
+        } else if is_word(word, b"init_from_ref") {
             Some(OnceCall::InitFromRef(only_number(rest)?))
         } else if is_over(rest) {
             named(&PLAIN_ONCE_CALLS, word)

@@ -139,6 +139,22 @@ fn push_end(
     text.push_str("\n")
 }
 
+/// The lines of events, and the line of their end.
+fn text_of<O: Spelled>(
+    alloc: Global,
+    events: &[Event<O::Words, u64, Answer<u64>>],
+    words: O::Words,
+    value: Option<u64>,
+) -> Result<String, AllocError>
+    ensures { IfOk result (λ text. (object : O) → string_bytes text ≡ event_lines (O.machine object).numbers 1 events.now
+        ++ end_line ((O.machine object).numbers words) value) }
+{
+    let mut text = String::new(alloc);
+    push_events::<O>(&mut text, events)?;
+    push_end(&mut text, O::numbers(words), value)?;
+    Ok(text)
+}
+
 /// Plays a schedule in a world of its own, and makes the whole text of what it comes to.
 pub fn transcript<O: Spelled>(
     alloc: Global,
@@ -151,8 +167,5 @@ pub fn transcript<O: Spelled>(
     let mut world = World::new(alloc, object, parties)?;
     let transcript = world.run(&schedule)?;
     drop(schedule);
-    let mut text = String::new(alloc);
-    push_events::<O>(&mut text, &transcript.events)?;
-    push_end(&mut text, O::numbers(world.words()), world.value())?;
-    Ok(text)
+    text_of::<O>(alloc, &transcript.events, world.words(), world.value())
 }

@@ -1,8 +1,9 @@
 //! Lines of bytes, words of a line.
 ghost use Rattle.std.specs.Prelude.{◌≡◌, ◌<◌, ◌∷◌, ◌==◌, [], length, IfSome, option_map, nat_le, ◌&&◌, map};
 ghost use Rattle.std.specs.List.{slice_split};
+ghost use Rattle.std.specs.Str.{bytes_eq};
 ghost use Rattle.spin_text.specs.Lines.{words_by_line, words_of};
-ghost use Rattle.spin_text.specs.Reading.{words_left, lines_left, is_end, read_number, word_at, number_at, last_word, last_number, last_parties, parts_left, named};
+ghost use Rattle.spin_text.specs.Reading.{words_left, lines_left, is_end, read_number, word_at, number_at, last_word, last_number, parts_left, named, only_named};
 
 use crate::numbers::number;
 use memchr::memchr;
@@ -40,6 +41,13 @@ pub fn word(line: Rest) -> Option<(&[u8], Rest)>
     Some(cut(b' ', line?))
 }
 
+/// Whether a word is this one.
+pub fn is_word(word: &[u8], name: &[u8]) -> bool
+    ensures { result ≡ bytes_eq word.now name.now }
+{
+    word == name
+}
+
 /// Whether no word is left of a line.
 pub fn is_over(line: Rest) -> bool
     ensures { result ≡ is_end (words_left line.entry) }
@@ -71,7 +79,7 @@ pub fn number_then(line: Rest) -> Option<(u64, Rest)>
 
 /// The one word of a line.
 #[tactic(auto, unfolding(crate::specs::Reading::last_word))]
-pub fn only_word(line: Rest) -> Option<&[u8]>
+fn only_word(line: Rest) -> Option<&[u8]>
     ensures { option_map (λ x. x.now) result ≡ last_word (words_left line.entry) }
 {
     let (word, rest) = word(line)?;
@@ -98,4 +106,12 @@ pub fn named<C: Copy>(mut table: &[(&[u8], C)], word: &[u8]) -> Option<C>
         table = further;
     }
     None
+}
+
+/// What a table has beside the one word of a line.
+#[tactic(auto, unfolding(crate::specs::Reading::only_named))]
+pub fn only_named<C: Copy>(table: &[(&[u8], C)], line: Rest) -> Option<C>
+    ensures { result ≡ only_named (map (λ row. (row.0.now, row.1)) table.now) (words_left line.entry) }
+{
+    named(table, only_word(line)?)
 }

@@ -1,4 +1,4 @@
-use Rattle.std.proofs.Common.{◌∙◌, ap, sym}
+use Rattle.std.proofs.Common.{rules, ◌∙◌, ap, sym}
 use Rattle.spin_text.specs.Reading.{lines_left}
 use Rattle.spin_text.proofs.Scripts.{entries_step}
 use Rattle.spin_text.proofs.entries.entries.Goals as goal
@@ -11,3 +11,6 @@ loop-rest-preserved g c =
     (sym c.entry.ensures ∙ c.in-Some-entry.is) c.in_ok-push.ensures.items
     in
     record { fit = next.0; spelled = next.1 }
+
+pub returns-in_default-entry-clause-stops : goal.returns-in_default-entry-clause-stops
+returns-in_default-entry-clause-stops g c = search rules

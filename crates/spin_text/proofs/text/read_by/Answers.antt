@@ -1,4 +1,4 @@
-use Rattle.std.proofs.Common.{ℕ, List, refl, ◌∙◌, sym, subst, arith}
+use Rattle.std.proofs.Common.{rules, rules, ℕ, List, refl, ◌∙◌, sym, subst, arith}
 use Rattle.std.specs.Io.KnownBytes.{Consumes}
 use Rattle.spin_text.proofs.Consumed.{Consumes-none, Consumes-append, Consumes-last}
 use Rattle.spin_text.proofs.text.read_by.Goals as goal
@@ -21,3 +21,9 @@ returns-then-n-eq0-clause-bytes g c =
       gave = Consumes-last _ _ _ _ _ _ c.if-n-eq0.true c.loop-n.invariant.gave c.in-Ok.ensures.bytes.0;
       whole = c.in-Ok.ensures.bytes.1 c.if-n-eq0.true (omega (arith, c.requires));
     }
+
+pub returns-in_default-clause-bytes : goal.returns-in_default-clause-bytes
+returns-in_default-clause-bytes g c = search rules
+
+pub returns-in_default-clause-ok : goal.returns-in_default-clause-ok
+returns-in_default-clause-ok g c = search rules
