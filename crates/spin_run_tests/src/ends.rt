@@ -3,6 +3,7 @@ ghost use Rattle.std.specs.Prelude.{◌≡◌, Some, None, false};
 
 use spin_run::run::{Failed, Sink, Source};
 use std::alloc::Global;
+use std::process::Abort;
 
 /// A sink in memory. It takes at most `step` bytes at a time, and fails once it holds `room` bytes.
 #[derive(Drop)]
@@ -33,6 +34,14 @@ impl Paper {
         ensures { result.failed ≡ false }
     {
         Paper::new(alloc, usize::MAX, usize::MAX)
+    }
+
+    /// Compares what was written with the beginning of that text for which there is room. A write has failed where that is
+    /// not all of it.
+    pub fn shows(&self, rt: &impl Abort, text: &[u8]) {
+        let (fits, rest) = text.split_at(text.len().min(self.room));
+        assert_eq!(rt; self.bytes.as_slice(), fits);
+        assert_eq!(rt; self.failed, !rest.is_empty());
     }
 }
 

@@ -4,72 +4,106 @@ ghost use Rattle.std.specs.Prelude.{◌≡◌, Some, None, false};
 use crate::ends::{Paper, Tape};
 use bumpalo::Bump;
 use spin_core::relax::{RelaxStrategy, Yield};
-use spin_run::run::{
-    Failed, Gate, OfStd, Open, Sink, Source, count_with, program, program_over_arguments,
-};
-use std::alloc::{AllocError, Global};
+use spin_run::run::{Failed, Gate, OfStd, Source, count_with, program, program_over_arguments};
+use std::alloc::{AllocError, Allocator, Global};
 use std::env::{Env, FillError};
 use std::io;
 use std::process::Abort;
 use std::sync::Wait;
-use std::sync::atomic::{AtomicBool, AtomicU64, Ordering};
+use std::sync::atomic::{AtomicU64, Ordering};
 use std::test::Fail;
 use std::thread::Threads;
 
 const USAGE: &str = "usage: spin-run count WORKERS TIMES | spin-run world\n";
 
-/// A source that is not to be read.
+/// How many bytes a sink takes: at a time, and in all.
+#[derive(Clone, Copy)]
+struct Room {
+    step: usize,
+    bytes: usize,
+}
+
+/// Room for everything.
+const ENDLESS: Room = Room {
+    step: usize::MAX,
+    bytes: usize::MAX,
+};
+
+/// A run of the program.
 #[derive(Drop)]
-struct Unread {
-    failed: bool,
+struct Run<'a> {
+    words: &'a [&'a str],
+    /// What there is to be read. Where it is `None`, nothing is to be read.
+    text: Option<&'a str>,
+    /// Whether a read fails behind the text.
+    read_fails: bool,
+    output: Room,
+    errors: Room,
 }
 
-impl Unread {
-    fn new() -> Unread
-        ensures { result.failed ≡ false }
-    {
-        Unread { failed: false }
-    }
-}
-
-impl Source for Unread {
-    ghost remaining = { λ _. None };
-
-    ghost failed = { λ s. s.failed };
-
-    fn read(&mut self, to: &mut [u8]) -> Result<usize, Failed> {
-        let _ = to;
-        self.failed = true;
-        Err(Failed)
-    }
-
-    fn has_failed(&self) -> bool {
-        self.failed
-    }
-}
-
-/// Runs the program, and compares all that it did.
-fn ends<R: Abort + AllocGlobal + Threads + Wait + Sync>(
-    rt: &R,
-    alloc: Global,
-    words: &[&str],
-    mut output: Paper,
+/// What a run came to.
+#[derive(Drop)]
+struct Ended {
     status: u8,
-    told: &str,
-    line: &str,
-)
-    requires { output.failed ≡ false }
-{
-    let mut errors = Paper::endless(alloc);
-    let mut input = Unread::new();
-    assert_eq!(rt;
-        program(rt, alloc, words, &mut input, &mut output, &mut errors),
-        status,
-        "{words:?}"
-    );
-    assert_eq!(rt; output.bytes.as_slice(), told.as_bytes(), "{words:?}");
-    assert_eq!(rt; errors.bytes.as_slice(), line.as_bytes(), "{words:?}");
-    assert!(rt; !input.has_failed(), "{words:?}");
+    reads: u64,
+    output: Paper,
+    errors: Paper,
+}
+
+impl<'a> Run<'a> {
+    fn of_words(words: &'a [&'a str]) -> Run<'a> {
+        Run {
+            words,
+            text: None,
+            read_fails: false,
+            output: ENDLESS,
+            errors: ENDLESS,
+        }
+    }
+
+    fn of_text(text: &'a str) -> Run<'a> {
+        Run {
+            text: Some(text),
+            ..Run::of_words(&["world"])
+        }
+    }
+
+    /// Runs the program. Who calls this learns nothing of what [`program`] ensures: the tests look for themselves.
+    fn ended<R: AllocGlobal + Threads + Wait + Sync, A: Allocator>(
+        &self,
+        rt: &R,
+        alloc: A,
+    ) -> Ended {
+        let mut input = Tape {
+            fails: self.read_fails,
+            ..Tape::new(self.text.unwrap_or("").as_bytes())
+        };
+        let mut output = Paper::new(rt.alloc(), self.output.step, self.output.bytes);
+        let mut errors = Paper::new(rt.alloc(), self.errors.step, self.errors.bytes);
+        let status = program(rt, alloc, self.words, &mut input, &mut output, &mut errors);
+        Ended {
+            status,
+            reads: input.reads,
+            output,
+            errors,
+        }
+    }
+
+    /// Runs the program, and compares all that it did.
+    fn ends<R: Abort + AllocGlobal + Threads + Wait + Sync>(
+        &self,
+        rt: &R,
+        status: u8,
+        told: &str,
+        line: &str,
+    ) {
+        let Run { words, text, .. } = self;
+        let ended = self.ended(rt, rt.alloc());
+        assert_eq!(rt; ended.status, status, "{words:?} {text:?}");
+        assert_eq!(rt; ended.reads > 0, text.is_some(), "{words:?} {text:?}");
+        ended.output.shows(rt, told.as_bytes());
+        ended.errors.shows(rt, line.as_bytes());
+    }
 }
 
 #[test]
@@ -82,90 +116,53 @@ fn counts(rt: HostRuntime) {
         ("1", "1", "1\n"),
         ("64", "1000", "64000\n"),
         ("1", "1000000", "1000000\n"),
+        ("0", "1000000", "0\n"),
     ] {
-        let output = Paper::endless(rt.alloc());
-        ends(
-            &rt,
-            rt.alloc(),
-            &["count", workers, times],
-            output,
-            0,
-            told,
-            "",
-        );
+        Run::of_words(&["count", workers, times]).ends(&rt, 0, told, "");
     }
 }
+
+/// Words that are those of no command.
+const OTHER_WORDS: &[&[&str]] = &[
+    &[],
+    &["count"],
+    &["count", "2"],
+    &["count", "2", "1", "1"],
+    &["count", "65", "1"],
+    &["count", "02", "1"],
+    &["count", "00", "1"],
+    &["count", "2", "01"],
+    &["count", "2", "1000001"],
+    &["count", "+2", "1"],
+    &["count", "-2", "1"],
+    &["count", "2", "+1"],
+    &["count", "2 ", "1"],
+    &["count", "2", "1\n"],
+    &["count", "0x2", "1"],
+    &["count", "", "1"],
+    &["count", "2", ""],
+    &["count", "two", "1"],
+    &["count", "٢", "1"],
+    &["count", "18446744073709551615", "1"],
+    &["count", "18446744073709551616", "1"],
+    &["count", "1", "18446744073709551616"],
+    &["count", "1", "340282366920938463463374607431768211457"],
+    &["", "2", "1"],
+    &["Count", "2", "1"],
+    &["counts", "2", "1"],
+    &["jump", "2", "1"],
+    &["2", "1", "count"],
+    &["worlds"],
+    &["World"],
+    &["world", ""],
+    &["world", "2", "1"],
+];
 
 #[test]
 fn asks_for_other_words(rt: HostRuntime) {
-    let none: &[&str] = &[];
-    for words in [
-        none,
-        &["count"],
-        &["count", "2"],
-        &["count", "2", "1", "1"],
-        &["count", "65", "1"],
-        &["count", "02", "1"],
-        &["count", "00", "1"],
-        &["count", "2", "01"],
-        &["count", "2", "1000001"],
-        &["count", "+2", "1"],
-        &["count", "-2", "1"],
-        &["count", "2", "+1"],
-        &["count", "2 ", "1"],
-        &["count", "2", "1\n"],
-        &["count", "0x2", "1"],
-        &["count", "", "1"],
-        &["count", "2", ""],
-        &["count", "two", "1"],
-        &["count", "٢", "1"],
-        &["count", "18446744073709551615", "1"],
-        &["count", "18446744073709551616", "1"],
-        &["count", "1", "18446744073709551616"],
-        &["count", "1", "340282366920938463463374607431768211457"],
-        &["", "2", "1"],
-        &["Count", "2", "1"],
-        &["counts", "2", "1"],
-        &["jump", "2", "1"],
-        &["2", "1", "count"],
-        &["worlds"],
-        &["World"],
-        &["world", ""],
-        &["world", "2", "1"],
-    ] {
-        ends(
-            &rt,
-            rt.alloc(),
-            words,
-            Paper::endless(rt.alloc()),
-            2,
-            "",
-            USAGE,
-        );
+    for words in OTHER_WORDS {
+        Run::of_words(words).ends(&rt, 2, "", USAGE);
     }
-}
-
-/// Runs the program on a text, and compares all that it did.
-fn plays<R: Abort + AllocGlobal + Threads + Wait + Sync>(
-    rt: &R,
-    alloc: Global,
-    text: &str,
-    mut output: Paper,
-    status: u8,
-    told: &str,
-    line: &str,
-)
-    requires { output.failed ≡ false }
-{
-    let mut errors = Paper::endless(alloc);
-    let mut input = Tape::new(text.as_bytes());
-    assert_eq!(rt;
-        program(rt, alloc, &["world"], &mut input, &mut output, &mut errors),
-        status,
-        "{text:?}"
-    );
-    assert_eq!(rt; output.bytes.as_slice(), told.as_bytes(), "{text:?}");
-    assert_eq!(rt; errors.bytes.as_slice(), line.as_bytes(), "{text:?}");
 }
 
 #[test]
@@ -193,103 +190,66 @@ fn plays_a_schedule(rt: HostRuntime) {
             "",
         ),
     ] {
-        let output = Paper::endless(rt.alloc());
-        plays(&rt, rt.alloc(), text, output, status, told, line);
+        Run::of_text(text).ends(&rt, status, told, line);
     }
 }
 
 #[test]
 fn tells_where_a_world_fails(rt: HostRuntime) {
-    for room in 0..15usize {
-        let beginning = "end: 0 value 5\n".get(..room).expect(&rt, "a beginning");
-        plays(
-            &rt,
-            rt.alloc(),
-            "flag 5 1\n",
-            Paper::new(rt.alloc(), 4, room),
-            1,
-            beginning,
-            "write failed\n",
-        );
+    for bytes in 0..15usize {
+        let run = Run {
+            output: Room { step: 4, bytes },
+            ..Run::of_text("flag 5 1\n")
+        };
+        run.ends(&rt, 1, "end: 0 value 5\n", "write failed\n");
     }
-    let mut errors = Paper::endless(rt.alloc());
-    let mut output = Paper::endless(rt.alloc());
-    let mut input = Tape {
-        fails: true,
-        ..Tape::new(b"x\n")
+    let run = Run {
+        read_fails: true,
+        ..Run::of_text("x\n")
     };
-    assert_eq!(rt;
-        program(
-            &rt,
-            rt.alloc(),
-            &["world"],
-            &mut input,
-            &mut output,
-            &mut errors
-        ),
-        1
-    );
-    assert_eq!(rt; output.bytes.as_slice(), b"".as_slice());
-    assert_eq!(rt; errors.bytes.as_slice(), b"read failed\n".as_slice());
+    run.ends(&rt, 1, "", "read failed\n");
 }
 
 #[test]
 fn tells_a_bad_line_in_pieces(rt: HostRuntime) {
-    for room in 0..11usize {
-        let mut errors = Paper::new(rt.alloc(), 2, room);
-        let mut input = Tape::new(b"");
-        let mut output = Paper::endless(rt.alloc());
-        assert_eq!(rt;
-            program(
-                &rt,
-                rt.alloc(),
-                &["world"],
-                &mut input,
-                &mut output,
-                &mut errors
-            ),
-            2
-        );
-        assert!(rt; errors.has_failed());
-        assert_eq!(rt; errors.bytes.as_slice(), &b"bad line 1\n"[..room]);
+    for bytes in 0..11usize {
+        let run = Run {
+            errors: Room { step: 2, bytes },
+            ..Run::of_text("")
+        };
+        run.ends(&rt, 2, "", "bad line 1\n");
     }
 }
 
 #[test]
 fn writes_in_small_steps(rt: HostRuntime) {
     for step in 1..5usize {
-        let output = Paper::new(rt.alloc(), step, usize::MAX);
-        ends(
-            &rt,
-            rt.alloc(),
-            &["count", "2", "100"],
-            output,
-            0,
-            "200\n",
-            "",
-        );
+        let run = Run {
+            output: Room {
+                step,
+                bytes: usize::MAX,
+            },
+            ..Run::of_words(&["count", "2", "100"])
+        };
+        run.ends(&rt, 0, "200\n", "");
     }
 }
 
 #[test]
 fn tells_a_failed_write(rt: HostRuntime) {
-    let text = "200\n";
     for step in [1, 3, usize::MAX] {
-        for room in 0..4usize {
-            let output = Paper::new(rt.alloc(), step, room);
-            let beginning = text.get(..room).expect(&rt, "a beginning");
-            ends(
-                &rt,
-                rt.alloc(),
-                &["count", "2", "100"],
-                output,
-                1,
-                beginning,
-                "write failed\n",
-            );
+        for bytes in 0..5usize {
+            let run = Run {
+                output: Room { step, bytes },
+                ..Run::of_words(&["count", "2", "100"])
+            };
+            let (status, line) = if bytes < 4 {
+                (1, "write failed\n")
+            } else {
+                (0, "")
+            };
+            run.ends(&rt, status, "200\n", line);
         }
-        let output = Paper::new(rt.alloc(), step, 4);
-        ends(&rt, rt.alloc(), &["count", "2", "100"], output, 0, text, "");
     }
 }
 
@@ -322,81 +282,73 @@ fn reads_of_std(rt: HostRuntime) {
         calls: 0,
     });
     let mut to = [0u8; 4];
-    assert_eq!(rt; source.read(&mut to), Ok(2));
-    assert_eq!(rt; to, *b"ab\0\0");
-    assert_eq!(rt; source.read(&mut to), Ok(0));
-    assert!(rt; !source.has_failed());
-    assert_eq!(rt; source.read(&mut to), Err(Failed));
-    assert!(rt; source.has_failed());
     // A failure is for good, also where the reader goes on.
-    assert_eq!(rt; source.read(&mut to[..1]), Ok(1));
-    assert!(rt; source.has_failed());
+    for (room, answer, failed) in [
+        (4, Ok(2), false),
+        (4, Ok(0), false),
+        (4, Err(Failed), true),
+        (1, Ok(1), true),
+    ] {
+        assert_eq!(rt; source.read(&mut to[..room]), answer);
+        assert_eq!(rt; to, *b"ab\0\0");
+        assert_eq!(rt; source.has_failed(), failed);
+    }
 }
 
 #[test]
 fn tries_no_failed_write_again(rt: HostRuntime) {
-    for room in 0..4usize {
-        let mut output = Paper::new(rt.alloc(), usize::MAX, room);
-        let mut errors = Paper::endless(rt.alloc());
-        let words = ["count", "2", "100"];
-        let status = program(
-            &rt,
-            rt.alloc(),
-            &words,
-            &mut Unread::new(),
-            &mut output,
-            &mut errors,
-        );
-        assert_eq!(rt; status, 1);
-        assert!(rt; output.has_failed());
-        assert_eq!(rt; errors.bytes.as_slice(), b"write failed\n".as_slice());
-        assert_eq!(rt; output.writes, if room == 0 { 1 } else { 2 });
+    for bytes in 0..4usize {
+        let run = Run {
+            output: Room {
+                step: usize::MAX,
+                bytes,
+            },
+            ..Run::of_words(&["count", "2", "100"])
+        };
+        let ended = run.ended(&rt, rt.alloc());
+        assert_eq!(rt; ended.output.writes, if bytes == 0 { 1 } else { 2 });
     }
 }
 
 #[test]
 fn keeps_its_status_where_errors_fail(rt: HostRuntime) {
-    let cases: [(&[&str], usize, u8); 2] = [
-        (&["count", "65", "1"], 4, 2),
-        (&["count", "2", "100"], 3, 1),
-    ];
-    for (words, output_room, status) in cases {
-        for room in [0, 1, 5] {
-            let mut output = Paper::new(rt.alloc(), usize::MAX, output_room);
-            let mut errors = Paper::new(rt.alloc(), 2, room);
-            assert_eq!(rt;
-                program(
-                    &rt,
-                    rt.alloc(),
-                    words,
-                    &mut Unread::new(),
-                    &mut output,
-                    &mut errors
-                ),
-                status
-            );
-            assert!(rt; errors.has_failed());
-            assert_eq!(rt; errors.bytes.len(), room);
-        }
+    for bytes in [0, 1, 5] {
+        let errors = Room { step: 2, bytes };
+        let run = Run {
+            errors,
+            ..Run::of_words(&["count", "65", "1"])
+        };
+        run.ends(&rt, 2, "", USAGE);
+        let run = Run {
+            output: Room {
+                step: usize::MAX,
+                bytes: 3,
+            },
+            errors,
+            ..Run::of_words(&["count", "2", "100"])
+        };
+        run.ends(&rt, 1, "200\n", "write failed\n");
     }
 }
 
-/// A gate at which two workers meet: each raises its flag, and looks for the other's.
+/// A gate at which two workers meet: each raises its flag, a bit, and looks for the other's.
 #[derive(Drop)]
 struct Meeting {
-    raised: [AtomicBool; 2],
-    seen: [AtomicBool; 2],
+    raised: AtomicU64,
+    seen: AtomicU64,
 }
 
 impl Gate for Meeting {
     fn before<R: Wait>(&self, rt: &R, worker: usize) {
-        if worker > 1 {
-            return;
-        }
-        self.raised[worker].store(true, Ordering::SeqCst);
+        let (mine, other) = match worker {
+            0 => (1, 2),
+            1 => (2, 1),
+            _ => return,
+        };
+        self.raised.fetch_or(mine, Ordering::SeqCst);
         for _ in 0..10_000_000u32 {
-            if self.raised[1 - worker].load(Ordering::SeqCst) {
-                self.seen[worker].store(true, Ordering::SeqCst);
+            if self.raised.load(Ordering::SeqCst) & other != 0 {
+                self.seen.fetch_or(mine, Ordering::SeqCst);
                 return;
             }
             Yield::relax(rt);
@@ -407,24 +359,24 @@ impl Gate for Meeting {
 #[test]
 fn runs_workers_at_once(rt: HostRuntime) {
     let gate = Meeting {
-        raised: [AtomicBool::new(false), AtomicBool::new(false)],
-        seen: [AtomicBool::new(false), AtomicBool::new(false)],
+        raised: AtomicU64::new(0),
+        seen: AtomicU64::new(0),
     };
     assert_eq!(rt; count_with(&rt, rt.alloc(), &gate, 2, 100), Ok(200));
-    assert!(rt; gate.seen[0].load(Ordering::SeqCst));
-    assert!(rt; gate.seen[1].load(Ordering::SeqCst));
+    assert_eq!(rt; gate.seen.load(Ordering::SeqCst), 3);
 }
 
-/// A gate that counts how often each of three workers passes, and all others together.
+/// A gate that counts, in 16 bits each, how often each of three workers passes, and all others together.
 #[derive(Drop)]
 struct Turnstile {
-    passed: [AtomicU64; 4],
+    passed: AtomicU64,
 }
 
 impl Gate for Turnstile {
     fn before<R: Wait>(&self, rt: &R, worker: usize) {
         let _ = rt;
-        self.passed[worker.min(3)].fetch_add(1, Ordering::SeqCst);
+        self.passed
+            .fetch_add(1 << (16 * worker.min(3)), Ordering::SeqCst);
     }
 }
 
@@ -432,32 +384,26 @@ impl Gate for Turnstile {
 fn passes_the_gate_once_each(rt: HostRuntime) {
     for times in [0, 1, 5] {
         let gate = Turnstile {
-            passed: [
-                AtomicU64::new(0),
-                AtomicU64::new(0),
-                AtomicU64::new(0),
-                AtomicU64::new(0),
-            ],
+            passed: AtomicU64::new(0),
         };
         assert_eq!(rt; count_with(&rt, rt.alloc(), &gate, 3, times), Ok(3 * times));
-        for (worker, wanted) in [(0, 1), (1, 1), (2, 1), (3, 0)] {
-            assert_eq!(rt;
-                gate.passed[worker].load(Ordering::SeqCst),
-                wanted,
-                "worker {worker}"
-            );
-        }
+        assert_eq!(rt; gate.passed.load(Ordering::SeqCst), 0x0000_0001_0001_0001);
     }
 }
 
-#[test]
-fn counts_to_its_limits(rt: HostRuntime) {
-    assert_eq!(rt; count_with(&rt, rt.alloc(), &Open, 64, 1000), Ok(64_000));
-    assert_eq!(rt;
-        count_with(&rt, rt.alloc(), &Open, 1, 1_000_000),
-        Ok(1_000_000)
-    );
-    assert_eq!(rt; count_with(&rt, rt.alloc(), &Open, 0, 1_000_000), Ok(0));
+/// What a run comes to with so many bytes of memory left.
+fn ended_with<R: AllocGlobal + Threads + Wait + Sync>(
+    rt: &R,
+    run: &Run<'_>,
+    left: usize,
+) -> Result<Ended, AllocError> {
+    let arena = Bump::try_with_capacity(rt.alloc(), 64)?;
+    arena.set_allocation_limit(Some(0));
+    let filled = arena.chunk_capacity().saturating_sub(left);
+    let filled = Vec::<u8, &Bump>::with_capacity(&arena, filled)?;
+    let ended = run.ended(rt, &arena);
+    drop(filled);
+    Ok(ended)
 }
 
 /// With little memory left the run ends with a line, and with more it succeeds.
@@ -469,30 +415,16 @@ fn ends_by_memory<R: Abort + AllocGlobal + Threads + Wait + Sync>(
 ) -> Result<(), AllocError> {
     let mut refused = 0u32;
     for left in 0..32usize {
-        let arena = Bump::try_with_capacity(rt.alloc(), 64)?;
-        arena.set_allocation_limit(Some(0));
-        let filled = arena.chunk_capacity().saturating_sub(left);
-        let filled = Vec::<u8, &Bump>::with_capacity(&arena, filled)?;
-        let mut output = Paper::endless(rt.alloc());
-        let mut errors = Paper::endless(rt.alloc());
-        let status = program(
-            rt,
-            &arena,
-            words,
-            &mut Unread::new(),
-            &mut output,
-            &mut errors,
-        );
-        drop(filled);
-        if status == 0 {
-            assert_eq!(rt; output.bytes.as_slice(), told.as_bytes());
-            assert_eq!(rt; errors.bytes.as_slice(), b"".as_slice());
+        let ended = ended_with(rt, &Run::of_words(words), left)?;
+        let (told, line) = if ended.status == 0 {
+            (told, "")
         } else {
-            refused = refused.saturating_add(1);
-            assert_eq!(rt; status, 1);
-            assert_eq!(rt; output.bytes.as_slice(), b"".as_slice());
-            assert_eq!(rt; errors.bytes.as_slice(), line.as_bytes());
-        }
+            ("", line)
+        };
+        assert!(rt; ended.status <= 1);
+        refused = refused.saturating_add(ended.status as u32);
+        ended.output.shows(rt, told.as_bytes());
+        ended.errors.shows(rt, line.as_bytes());
     }
     assert!(rt; refused > 0 && refused < 32, "{refused} of 32");
     Ok(())
@@ -545,6 +477,21 @@ impl<R> Env for Told<'_, R> {
     }
 }
 
+/// What the program comes to over those arguments.
+fn ended_over<R: AllocGlobal + Threads + Wait + Sync>(rt: &R, arguments: &[&[u8]]) -> Ended {
+    let mut input = Tape::new(b"");
+    let mut output = Paper::endless(rt.alloc());
+    let mut errors = Paper::endless(rt.alloc());
+    let told = Told { rt, arguments };
+    let status = program_over_arguments(&told, &mut input, &mut output, &mut errors);
+    Ended {
+        status,
+        reads: input.reads,
+        output,
+        errors,
+    }
+}
+
 #[test]
 fn reads_its_arguments(rt: HostRuntime) {
     let program_name: &[u8] = b"spin-run";
@@ -556,12 +503,10 @@ fn reads_its_arguments(rt: HostRuntime) {
         (&[program_name, b"count", b"65", b"1"], 2, "", USAGE),
     ];
     for (arguments, status, told, line) in cases {
-        let told_rt = Told { rt: &rt, arguments };
-        let mut output = Paper::endless(rt.alloc());
-        let mut errors = Paper::endless(rt.alloc());
-        let ended = program_over_arguments(&told_rt, &mut Unread::new(), &mut output, &mut errors);
-        assert_eq!(rt; ended, status);
-        assert_eq!(rt; output.bytes.as_slice(), told.as_bytes());
-        assert_eq!(rt; errors.bytes.as_slice(), line.as_bytes());
+        let ended = ended_over(&rt, arguments);
+        assert_eq!(rt; ended.status, status);
+        assert_eq!(rt; ended.reads, 0);
+        ended.output.shows(&rt, told.as_bytes());
+        ended.errors.shows(&rt, line.as_bytes());
     }
 }

@@ -15,7 +15,32 @@ use std::cell::Cell;
 use std::io;
 use std::process::Abort;
 
-/// Plays a text, and compares the answer and what was written.
+/// Plays a text. Who calls this learns nothing of what [`world_text`] ensures: the tests look for themselves.
+fn play<I: Source, O: Sink>(alloc: Global, input: &mut I, output: &mut O) -> Result<(), RunError>
+    requires input { I.failed input.old ≡ false }
+    requires output { O.failed output.old ≡ false }
+{
+    world_text(alloc, input, output)
+}
+
+/// Plays a text over those ends, and compares the answer and what was written.
+fn plays(
+    rt: &impl Abort,
+    alloc: Global,
+    input: &mut Tape<'_>,
+    output: &mut Paper,
+    answer: Result<(), RunError>,
+    told: &[u8],
+)
+    requires input { input.old.failed ≡ false }
+    requires output { output.old.failed ≡ false }
+{
+    let text = input.rest;
+    assert_eq!(rt; play(alloc, input, output), answer, "{text:?}");
+    output.shows(rt, told);
+}
+
+/// Plays a text over ends that do not fail.
 fn comes_to(
     rt: &impl Abort,
     alloc: Global,
@@ -24,12 +49,7 @@ fn comes_to(
     told: &[u8],
 ) {
     let mut output = Paper::endless(alloc);
-    assert_eq!(rt;
-        world_text(alloc, &mut Tape::new(text), &mut output),
-        answer,
-        "{text:?}"
-    );
-    assert_eq!(rt; output.bytes.as_slice(), told, "{text:?}");
+    plays(rt, alloc, &mut Tape::new(text), &mut output, answer, told);
 }
 
 /// Plays each text, with its last line feed and without.
@@ -55,15 +75,18 @@ fn texts_of_the_gallery(rt: HostRuntime) {
 #[test]
 fn lines_of_the_grammar(rt: HostRuntime) {
     for (text, told) in WITHIN {
-        comes_to(&rt, rt.alloc(), text, Ok(()), told);
+        comes_to(&rt, rt.alloc(), text.as_bytes(), Ok(()), told.as_bytes());
     }
 }
 
 #[test]
 fn lines_outside_the_grammar(rt: HostRuntime) {
     for (text, line) in OUTSIDE {
-        comes_to(&rt, rt.alloc(), text, Err(RunError::BadLine(line)), b"");
+        let answer = Err(RunError::BadLine(*line));
+        comes_to(&rt, rt.alloc(), text.as_bytes(), answer, b"");
     }
+    let answer = Err(RunError::BadLine(1));
+    comes_to(&rt, rt.alloc(), b"flag 5 \xff\n", answer, b"");
 }
 
 #[test]
@@ -75,26 +98,23 @@ fn reads_in_small_steps(rt: HostRuntime) {
                 ..Tape::new(text.as_bytes())
             };
             let mut output = Paper::new(rt.alloc(), step, usize::MAX);
-            assert_eq!(rt; world_text(rt.alloc(), &mut input, &mut output), Ok(()));
-            assert_eq!(rt; output.bytes.as_slice(), told.as_bytes());
+            let told = told.as_bytes();
+            plays(&rt, rt.alloc(), &mut input, &mut output, Ok(()), told);
         }
     }
 }
 
 #[test]
 fn tells_a_failed_read(rt: HostRuntime) {
-    let texts: [&[u8]; 4] = [b"", b"flag 5 1", b"x\n", b"flag 5 1\n0 jump\n"];
-    for text in texts {
+    for text in ["", "flag 5 1", "x\n", "flag 5 1\n0 jump\n"] {
         let mut input = Tape {
             fails: true,
-            ..Tape::new(text)
+            ..Tape::new(text.as_bytes())
         };
         let mut output = Paper::endless(rt.alloc());
-        assert_eq!(rt;
-            world_text(rt.alloc(), &mut input, &mut output),
-            Err(RunError::Read)
-        );
-        assert!(rt; input.has_failed());
+        let answer = Err(RunError::Read);
+        plays(&rt, rt.alloc(), &mut input, &mut output, answer, b"");
+        assert!(rt; input.failed);
         // No failed read is tried again.
         assert_eq!(rt; input.reads, if text.is_empty() { 1 } else { 2 });
         assert_eq!(rt; output.writes, 0);
@@ -103,23 +123,18 @@ fn tells_a_failed_read(rt: HostRuntime) {
 
 #[test]
 fn tells_a_failed_write(rt: HostRuntime) {
-    let told = b"end: 0 value 5\n";
     for step in [1, 4, usize::MAX] {
-        for room in 0..15usize {
+        for room in 0..16usize {
+            let mut input = Tape::new(b"flag 5 1");
             let mut output = Paper::new(rt.alloc(), step, room);
-            assert_eq!(rt;
-                world_text(rt.alloc(), &mut Tape::new(b"flag 5 1"), &mut output),
+            let answer = if room < 15 {
                 Err(RunError::Write)
-            );
-            assert!(rt; output.has_failed());
-            assert_eq!(rt; output.bytes.as_slice(), &told[..room]);
+            } else {
+                Ok(())
+            };
+            let told = b"end: 0 value 5\n";
+            plays(&rt, rt.alloc(), &mut input, &mut output, answer, told);
         }
-        let mut output = Paper::new(rt.alloc(), step, 15);
-        assert_eq!(rt;
-            world_text(rt.alloc(), &mut Tape::new(b"flag 5 1"), &mut output),
-            Ok(())
-        );
-        assert_eq!(rt; output.bytes.as_slice(), told.as_slice());
     }
 }
 
@@ -158,10 +173,8 @@ fn ends_of_std(rt: HostRuntime) {
                 calls: &calls,
             });
             let mut input = OfStd::new(b"flag 5 1\n".as_slice());
-            assert_eq!(rt;
-                world_text(rt.alloc(), &mut input, &mut output),
-                Err(RunError::Write)
-            );
+            let answer = play(rt.alloc(), &mut input, &mut output);
+            assert_eq!(rt; answer, Err(RunError::Write));
             assert!(rt; output.has_failed() && !input.has_failed());
             assert_eq!(rt; calls.get(), if room == 0 { 1 } else { 2 });
         }
