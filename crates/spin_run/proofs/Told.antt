@@ -9,7 +9,7 @@ use Rattle.spin_run.specs.Faults.{line_of}
 use Rattle.spin_text.proofs.Appended.{Appends-append}
 
 -- a beginning of the first piece is one of both
-pub begins_first : (old new : Option (List ℕ)) (a b : List ℕ) → AppendsBeginning old new a → AppendsBeginning old new (a ++ b)
+begins_first : (old new : Option (List ℕ)) (a b : List ℕ) → AppendsBeginning old new a → AppendsBeginning old new (a ++ b)
 begins_first old new a b begins =
     let P : List ℕ → Type 0 = Appends old new in
     let same : take begins.0 a ≡ take begins.0 (a ++ b) = grind (arith, common_steps, begins.1) in
@@ -33,3 +33,11 @@ begins_second old mid new a b first begins =
 pub begins_second_if : {E : Type 0} → (r : Result (Unit {0}) E) (old mid new : Option (List ℕ)) (a b : List ℕ) → Appends old mid a → OnErr r (AppendsBeginning mid new b) → OnErr r (AppendsBeginning old new (a ++ b))
 begins_second_if (Ok x) old mid new a b first begins = tt
 begins_second_if (Err e) old mid new a b first begins = begins_second old mid new a b first begins
+
+pub appends_second_if : {E : Type 0} → (r : Result (Unit {0}) E) (old mid new : Option (List ℕ)) (a b : List ℕ) → Appends old mid a → OnOk r (Appends mid new b) → OnOk r (Appends old new (a ++ b))
+appends_second_if (Ok x) old mid new a b first second = Appends-append old mid new a b first second
+appends_second_if (Err e) old mid new a b first second = tt
+
+pub begins_first_if : {E : Type 0} → (r : Result (Unit {0}) E) (old new : Option (List ℕ)) (a b : List ℕ) → AppendsBeginning old new a → OnErr r (AppendsBeginning old new (a ++ b))
+begins_first_if (Ok x) old new a b begins = tt
+begins_first_if (Err e) old new a b begins = begins_first old new a b begins

@@ -20,9 +20,10 @@ fn arguments<R: Env + Alloc>(rt: &R) -> Result<Vec<String<R::A>, R::A>, Fault>
     ensures { IfErr result IsWordless }
 {
     match env::args(rt) {
-        Ok(all) => {
+        Ok(mut all) => {
+            let _program = all.next();
             let mut words = Vec::with_capacity(rt.alloc(), all.len())?;
-            words.extend(all.skip(1))?;
+            words.extend(all)?;
             Ok(words)
         }
         Err(e) if e.kind() == io::ErrorKind::OutOfMemory => Err(Fault::Memory),
@@ -36,7 +37,9 @@ fn texts<'a, A: Allocator>(
     arguments: &'a [String<A>],
 ) -> Result<Vec<&'a str, A>, AllocError> {
     let mut texts = Vec::with_capacity(alloc, arguments.len())?;
-    texts.extend(arguments.iter().map(|word| word.as_str()))?;
+    for word in arguments {
+        texts.push(word.as_str())?;
+    }
     Ok(texts)
 }
 
