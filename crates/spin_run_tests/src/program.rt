@@ -100,25 +100,28 @@ impl<'a> Run<'a> {
         let Run { words, text, .. } = self;
         let ended = self.ended(rt, rt.alloc());
         assert_eq!(rt; ended.status, status, "{words:?} {text:?}");
-        assert_eq!(rt; ended.reads > 0, text.is_some(), "{words:?} {text:?}");
+        assert_eq!(rt; ended.reads > 0, text.is_some());
         ended.output.shows(rt, told.as_bytes());
         ended.errors.shows(rt, line.as_bytes());
     }
 }
 
+/// Counts, and their totals.
+const COUNTS: &[(&[&str], &str)] = &[
+    (&["count", "2", "100"], "200\n"),
+    (&["count", "0", "5"], "0\n"),
+    (&["count", "3", "0"], "0\n"),
+    (&["count", "0", "0"], "0\n"),
+    (&["count", "1", "1"], "1\n"),
+    (&["count", "64", "1000"], "64000\n"),
+    (&["count", "1", "1000000"], "1000000\n"),
+    (&["count", "0", "1000000"], "0\n"),
+];
+
 #[test]
 fn counts(rt: HostRuntime) {
-    for (workers, times, told) in [
-        ("2", "100", "200\n"),
-        ("0", "5", "0\n"),
-        ("3", "0", "0\n"),
-        ("0", "0", "0\n"),
-        ("1", "1", "1\n"),
-        ("64", "1000", "64000\n"),
-        ("1", "1000000", "1000000\n"),
-        ("0", "1000000", "0\n"),
-    ] {
-        Run::of_words(&["count", workers, times]).ends(&rt, 0, told, "");
+    for (words, told) in COUNTS {
+        Run::of_words(words).ends(&rt, 0, told, "");
     }
 }
 
@@ -165,32 +168,35 @@ fn asks_for_other_words(rt: HostRuntime) {
     }
 }
 
+/// Schedules, each with its status, what is written, and the line on standard error.
+const SCHEDULES: &[(&str, u8, &str, &str)] = &[
+    ("flag 5 1", 0, "end: 0 value 5\n", ""),
+    (
+        "flag 5 1\n3 step",
+        0,
+        "1 3 passed over: 0\nend: 0 value 5\n",
+        "",
+    ),
+    ("", 2, "", "bad line 1\n"),
+    ("rw 1 2 1\n0 jump\n", 2, "", "bad line 2\n"),
+    (
+        "flag 5 1\n0 step\n0 step\n0 step\n0 step\n0 step\n0 step\n0 step\n0 step\n\n",
+        2,
+        "",
+        "bad line 10\n",
+    ),
+    (
+        "ticket 0 0 3\n0 begin try_lock\n0 step\n0 step\n0 step\n",
+        0,
+        "1 0 begun: 0 0\n2 0 going on: 0 0\n3 0 going on: 0 0\n4 0 answer granted from 1: 1 0\nend: 1 0 value 0\n",
+        "",
+    ),
+];
+
 #[test]
 fn plays_a_schedule(rt: HostRuntime) {
-    for (text, status, told, line) in [
-        ("flag 5 1", 0, "end: 0 value 5\n", ""),
-        (
-            "flag 5 1\n3 step",
-            0,
-            "1 3 passed over: 0\nend: 0 value 5\n",
-            "",
-        ),
-        ("", 2, "", "bad line 1\n"),
-        ("rw 1 2 1\n0 jump\n", 2, "", "bad line 2\n"),
-        (
-            "flag 5 1\n0 step\n0 step\n0 step\n0 step\n0 step\n0 step\n0 step\n0 step\n\n",
-            2,
-            "",
-            "bad line 10\n",
-        ),
-        (
-            "ticket 0 0 3\n0 begin try_lock\n0 step\n0 step\n0 step\n",
-            0,
-            "1 0 begun: 0 0\n2 0 going on: 0 0\n3 0 going on: 0 0\n4 0 answer granted from 1: 1 0\nend: 1 0 value 0\n",
-            "",
-        ),
-    ] {
-        Run::of_text(text).ends(&rt, status, told, line);
+    for (text, status, told, line) in SCHEDULES {
+        Run::of_text(text).ends(&rt, *status, told, line);
     }
 }
 
@@ -437,11 +443,14 @@ fn tells_refused_memory(rt: HostRuntime) -> Result<(), Fail> {
     Ok(())
 }
 
+/// Stands for an argument that is not text. No argument of a process has this byte.
+const NO_TEXT: &str = "\0";
+
 /// A runtime with other arguments.
 #[derive(Drop)]
 struct Told<'a, R> {
     rt: &'a R,
-    arguments: &'a [&'a [u8]],
+    arguments: &'a [&'a str],
 }
 
 impl<R: Threads> Threads for Told<'_, R> {}
@@ -458,14 +467,16 @@ impl<R: AllocGlobal> Alloc for Told<'_, R> {
 
 impl<R> Env for Told<'_, R> {
     fn arg(&self, i: usize, buf: &mut [u8]) -> Result<usize, FillError> {
-        let Some(text) = self.arguments.get(i) else {
-            return Err(FillError::NotPresent);
+        let bytes = match self.arguments.get(i) {
+            None => return Err(FillError::NotPresent),
+            Some(&NO_TEXT) => b"\xff",
+            Some(text) => text.as_bytes(),
         };
-        if buf.len() < text.len() {
+        if buf.len() < bytes.len() {
             return Err(FillError::TooLong);
         }
-        buf[..text.len()].copy_from_slice(text);
-        Ok(text.len())
+        buf[..bytes.len()].copy_from_slice(bytes);
+        Ok(bytes.len())
     }
 
     fn var(&self, _name: &str, _buf: &mut [u8]) -> Result<usize, FillError> {
@@ -478,7 +489,7 @@ impl<R> Env for Told<'_, R> {
 }
 
 /// What the program comes to over those arguments.
-fn ended_over<R: AllocGlobal + Threads + Wait + Sync>(rt: &R, arguments: &[&[u8]]) -> Ended {
+fn ended_over<R: AllocGlobal + Threads + Wait + Sync>(rt: &R, arguments: &[&str]) -> Ended {
     let mut input = Tape::new(b"");
     let mut output = Paper::endless(rt.alloc());
     let mut errors = Paper::endless(rt.alloc());
@@ -492,19 +503,20 @@ fn ended_over<R: AllocGlobal + Threads + Wait + Sync>(rt: &R, arguments: &[&[u8]
     }
 }
 
+/// Arguments, each row with the status, what is written, and the line on standard error.
+const ARGUMENTS: &[(&[&str], u8, &str, &str)] = &[
+    (&["spin-run", "count", "2", "100"], 0, "200\n", ""),
+    (&["spin-run"], 2, "", USAGE),
+    (&[], 2, "", USAGE),
+    (&["spin-run", "count", "2", NO_TEXT], 2, "", USAGE),
+    (&["spin-run", "count", "65", "1"], 2, "", USAGE),
+];
+
 #[test]
 fn reads_its_arguments(rt: HostRuntime) {
-    let program_name: &[u8] = b"spin-run";
-    let cases: [(&[&[u8]], u8, &str, &str); 5] = [
-        (&[program_name, b"count", b"2", b"100"], 0, "200\n", ""),
-        (&[program_name], 2, "", USAGE),
-        (&[], 2, "", USAGE),
-        (&[program_name, b"count", b"2", b"\xff"], 2, "", USAGE),
-        (&[program_name, b"count", b"65", b"1"], 2, "", USAGE),
-    ];
-    for (arguments, status, told, line) in cases {
+    for (arguments, status, told, line) in ARGUMENTS {
         let ended = ended_over(&rt, arguments);
-        assert_eq!(rt; ended.status, status);
+        assert_eq!(rt; ended.status, *status, "{arguments:?}");
         assert_eq!(rt; ended.reads, 0);
         ended.output.shows(&rt, told.as_bytes());
         ended.errors.shows(&rt, line.as_bytes());
