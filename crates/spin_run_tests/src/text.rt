@@ -52,24 +52,37 @@ fn comes_to(
     plays(rt, alloc, &mut Tape::new(text), &mut output, answer, told);
 }
 
-/// Plays each text, with its last line feed and without.
-fn each_comes_to(rt: &impl Abort, alloc: Global, worked: &[Worked]) {
-    for (text, told) in worked {
+/// Plays a schedule in reads and writes of at most so many bytes, and compares what was written.
+fn tells(rt: &impl Abort, alloc: Global, step: usize, shows: &str, text: &[u8], told: &str) {
+    let mut input = Tape {
+        step,
+        ..Tape::new(text)
+    };
+    let mut output = Paper::new(alloc, step, usize::MAX);
+    assert_eq!(rt; play(alloc, &mut input, &mut output), Ok(()), "{shows}");
+    assert_eq!(rt; str::from_utf8(&output.bytes), Ok(told), "{shows}");
+}
+
+/// Plays each schedule so, with its last line feed and without.
+fn each_tells(rt: &impl Abort, alloc: Global, step: usize, worked: &[Worked]) {
+    for (shows, text, told) in worked {
         let text = text.as_bytes();
-        comes_to(rt, alloc, text, Ok(()), told.as_bytes());
+        tells(rt, alloc, step, shows, text, told);
         let (without_end, _) = text.split_at(text.len().saturating_sub(1));
-        comes_to(rt, alloc, without_end, Ok(()), told.as_bytes());
+        tells(rt, alloc, step, shows, without_end, told);
     }
 }
 
 #[test]
 fn worked_texts(rt: HostRuntime) {
-    each_comes_to(&rt, rt.alloc(), WORKED);
+    for worked in WORKED {
+        each_tells(&rt, rt.alloc(), usize::MAX, worked);
+    }
 }
 
 #[test]
 fn texts_of_the_gallery(rt: HostRuntime) {
-    each_comes_to(&rt, rt.alloc(), GALLERY);
+    each_tells(&rt, rt.alloc(), usize::MAX, GALLERY);
 }
 
 #[test]
@@ -91,15 +104,9 @@ fn lines_outside_the_grammar(rt: HostRuntime) {
 
 #[test]
 fn reads_in_small_steps(rt: HostRuntime) {
-    for (text, told) in WORKED {
+    for worked in WORKED {
         for step in 1..9usize {
-            let mut input = Tape {
-                step,
-                ..Tape::new(text.as_bytes())
-            };
-            let mut output = Paper::new(rt.alloc(), step, usize::MAX);
-            let told = told.as_bytes();
-            plays(&rt, rt.alloc(), &mut input, &mut output, Ok(()), told);
+            each_tells(&rt, rt.alloc(), step, worked);
         }
     }
 }

@@ -1,19 +1,10 @@
-//! Worked schedules of each object: what comes of every move.
+//! Worked schedules that no text tells: those of the seats, runs one after the other, places, and objects that no header
+//! makes. The others stand in `spin_run_tests`.
 #![tactic(auto)]
 
 #[cfg(test)]
-mod barrier;
-#[cfg(test)]
-mod fair;
-#[cfg(test)]
-mod flag;
-#[cfg(test)]
-mod once;
-#[cfg(test)]
 mod play;
-#[cfg(test)]
-mod rw;
 #[cfg(test)]
 mod seats;
 #[cfg(test)]
-mod ticket;
+mod worlds;

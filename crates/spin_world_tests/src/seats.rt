@@ -1,91 +1,53 @@
-use crate::play::{answered, play};
-use spin_world::{Answer, Hold, Move, Outcome, Place, World};
+use crate::play::{Row, Run, answered, play};
+use spin_world::{Answer, Hold, Move, Outcome, Place};
 use spin_world_seats::{Seats, SeatsCall};
 use std::test::Fail;
 
+const TWO_SIT: &[Row<SeatsCall, (), usize>] = &[
+    (0, Move::Begin(SeatsCall::TryEnter), Outcome::Begun, 0),
+    (1, Move::Begin(SeatsCall::Enter), Outcome::Begun, 0),
+    (0, Move::Step, Outcome::GoingOn, 0),
+    (1, Move::Step, Outcome::GoingOn, 0),
+    (0, Move::Step, answered!(Answer::Granted, 0), 1),
+    (1, Move::Step, Outcome::GoingOn, 1),
+    (1, Move::Step, answered!(Answer::Granted, 1), 2),
+    (2, Move::Begin(SeatsCall::TryEnter), Outcome::Begun, 2),
+    (2, Move::Step, answered!(Answer::Refused, 7), 2),
+    (2, Move::Begin(SeatsCall::Enter), Outcome::Begun, 2),
+    (2, Move::Step, Outcome::GoingOn, 2),
+    (0, Move::Begin(SeatsCall::Leave), Outcome::Begun, 2),
+    (0, Move::Step, answered!(Answer::Done, 11), 1),
+    (0, Move::Begin(SeatsCall::Count), Outcome::Begun, 1),
+    (0, Move::Step, answered!(Answer::Count(1), 13), 1),
+    (2, Move::Step, Outcome::GoingOn, 1),
+    (2, Move::Step, answered!(Answer::Granted, 9), 2),
+];
+
 #[test]
 fn two_sit_and_a_third_waits(rt: HostRuntime) -> Result<(), Fail> {
-    let mut world = World::new(rt.alloc(), Seats::new(2), 3)?;
-    play(
-        &rt,
-        &mut world,
-        &[
-            (0, Move::Begin(SeatsCall::TryEnter)),
-            (1, Move::Begin(SeatsCall::Enter)),
-            (0, Move::Step),
-            (1, Move::Step),
-            (0, Move::Step),
-            (1, Move::Step),
-            (1, Move::Step),
-            (2, Move::Begin(SeatsCall::TryEnter)),
-            (2, Move::Step),
-            (2, Move::Begin(SeatsCall::Enter)),
-            (2, Move::Step),
-            (0, Move::Begin(SeatsCall::Leave)),
-            (0, Move::Step),
-            (0, Move::Begin(SeatsCall::Count)),
-            (0, Move::Step),
-            (2, Move::Step),
-            (2, Move::Step),
-        ],
-        &[
-            (0, Outcome::Begun, 0),
-            (1, Outcome::Begun, 0),
-            (0, Outcome::GoingOn, 0),
-            (1, Outcome::GoingOn, 0),
-            (0, answered(Answer::Granted, 0), 1),
-            (1, Outcome::GoingOn, 1),
-            (1, answered(Answer::Granted, 1), 2),
-            (2, Outcome::Begun, 2),
-            (2, answered(Answer::Refused, 7), 2),
-            (2, Outcome::Begun, 2),
-            (2, Outcome::GoingOn, 2),
-            (0, Outcome::Begun, 2),
-            (0, answered(Answer::Done, 11), 1),
-            (0, Outcome::Begun, 1),
-            (0, answered(Answer::Count(1), 13), 1),
-            (2, Outcome::GoingOn, 1),
-            (2, answered(Answer::Granted, 9), 2),
-        ],
-    )?;
-    assert_eq!(rt; world.place(0), Some(Place::Idle));
-    assert_eq!(rt; world.place(2), Some(Place::Holding(Hold::Read)));
-    Ok(())
+    let sits = Place::Holding(Hold::Read);
+    let runs: [Run<SeatsCall, (), usize>; 1] = [(TWO_SIT, &[Place::Idle, sits, sits])];
+    play(&rt, rt.alloc(), Seats::new(2), 3, &runs, Some(()))
 }
+
+const ONE_SITS: &[Row<SeatsCall, (), usize>] = &[
+    (0, Move::Begin(SeatsCall::Leave), Outcome::PassedOver, 0),
+    (0, Move::Begin(SeatsCall::Enter), Outcome::Begun, 0),
+    (0, Move::Weak, Outcome::PassedOver, 0),
+    (0, Move::Step, Outcome::GoingOn, 0),
+    (0, Move::Step, answered!(Answer::Granted, 1), 1),
+    (0, Move::Begin(SeatsCall::Enter), Outcome::PassedOver, 1),
+    (0, Move::Begin(SeatsCall::Count), Outcome::PassedOver, 1),
+    (0, Move::Read, Outcome::Value(Some(())), 1),
+    (0, Move::Write(()), Outcome::PassedOver, 1),
+    (0, Move::Leak, Outcome::Leaked, 1),
+    (1, Move::Begin(SeatsCall::TryEnter), Outcome::Begun, 1),
+    (1, Move::Step, answered!(Answer::Refused, 10), 1),
+];
 
 #[test]
 fn who_sits_may_only_leave(rt: HostRuntime) -> Result<(), Fail> {
-    let mut world = World::new(rt.alloc(), Seats::new(1), 2)?;
-    play(
-        &rt,
-        &mut world,
-        &[
-            (0, Move::Begin(SeatsCall::Leave)),
-            (0, Move::Begin(SeatsCall::Enter)),
-            (0, Move::Weak),
-            (0, Move::Step),
-            (0, Move::Step),
-            (0, Move::Begin(SeatsCall::Enter)),
-            (0, Move::Begin(SeatsCall::Count)),
-            (0, Move::Read),
-            (0, Move::Write(())),
-            (0, Move::Leak),
-            (1, Move::Begin(SeatsCall::TryEnter)),
-            (1, Move::Step),
-        ],
-        &[
-            (0, Outcome::PassedOver, 0),
-            (0, Outcome::Begun, 0),
-            (0, Outcome::PassedOver, 0),
-            (0, Outcome::GoingOn, 0),
-            (0, answered(Answer::Granted, 1), 1),
-            (0, Outcome::PassedOver, 1),
-            (0, Outcome::PassedOver, 1),
-            (0, Outcome::Value(Some(())), 1),
-            (0, Outcome::PassedOver, 1),
-            (0, Outcome::Leaked, 1),
-            (1, Outcome::Begun, 1),
-            (1, answered(Answer::Refused, 10), 1),
-        ],
-    )
+    let places: [Place; 2] = [Place::Leaked(Hold::Read), Place::Idle];
+    let runs: [Run<SeatsCall, (), usize>; 1] = [(ONE_SITS, &places)];
+    play(&rt, rt.alloc(), Seats::new(1), 2, &runs, Some(()))
 }

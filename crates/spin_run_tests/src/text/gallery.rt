@@ -5,6 +5,7 @@ use super::transcripts::Worked;
 /// In the order of the page.
 pub const GALLERY: &[Worked] = &[
     (
+        "A refusal without a cause",
         "flag 5 1\n\
          0 begin try_lock_weak\n\
          0 weak\n\
@@ -21,6 +22,7 @@ pub const GALLERY: &[Worked] = &[
         ",
     ),
     (
+        "Only the holder lets go",
         "flag 5 2\n\
          0 begin try_lock\n\
          0 step\n\
@@ -41,6 +43,7 @@ pub const GALLERY: &[Worked] = &[
         ",
     ),
     (
+        "A leaked guard keeps its hold",
         "flag 5 2\n\
          0 begin try_lock\n\
          0 step\n\
@@ -63,6 +66,7 @@ pub const GALLERY: &[Worked] = &[
         ",
     ),
     (
+        "`Mutex` serves in the order of arrival",
         "ticket 5 0 3\n\
          0 begin lock\n\
          0 step\n\
@@ -91,6 +95,7 @@ pub const GALLERY: &[Worked] = &[
         ",
     ),
     (
+        "Tickets are used up",
         "ticket 5 18446744073709551614 2\n\
          0 begin lock\n\
          0 step\n\
@@ -119,6 +124,7 @@ pub const GALLERY: &[Worked] = &[
         ",
     ),
     (
+        "A look at two numbers",
         "ticket 0 0 3\n\
          0 begin try_lock\n\
          0 step\n\
@@ -151,6 +157,7 @@ pub const GALLERY: &[Worked] = &[
         ",
     ),
     (
+        "A try makes one pass",
         "ticket 5 0 2\n\
          1 begin try_lock\n\
          1 step\n\
@@ -177,6 +184,7 @@ pub const GALLERY: &[Worked] = &[
         ",
     ),
     (
+        "A starver too many",
         "fair 5 1 0 3\n\
          0 begin starve\n\
          0 step\n\
@@ -199,6 +207,7 @@ pub const GALLERY: &[Worked] = &[
         ",
     ),
     (
+        "A patient `lock` at the cap",
         "fair 5 1 0 3\n\
          0 begin try_lock\n\
          0 step\n\
@@ -235,6 +244,7 @@ pub const GALLERY: &[Worked] = &[
         ",
     ),
     (
+        "A refused starver stays registered",
         "fair 5 1 0 2\n\
          0 begin try_lock\n\
          0 step\n\
@@ -263,6 +273,7 @@ pub const GALLERY: &[Worked] = &[
         ",
     ),
     (
+        "A refused reader is never in the word",
         "rw 5 2 2\n\
          0 begin try_upgradeable_read\n\
          0 step\n\
@@ -283,6 +294,7 @@ pub const GALLERY: &[Worked] = &[
         ",
     ),
     (
+        "A downgrade beside a reader that comes",
         "rw 5 2 2\n\
          0 begin try_write\n\
          0 step\n\
@@ -305,6 +317,7 @@ pub const GALLERY: &[Worked] = &[
         ",
     ),
     (
+        "A refused upgradable reader leaves no bit",
         "rw 5 2 2\n\
          0 begin try_write\n\
          0 step\n\
@@ -323,6 +336,7 @@ pub const GALLERY: &[Worked] = &[
         ",
     ),
     (
+        "A try to read goes again only after another's change",
         "rw 1 2 2\n\
          0 begin try_read\n\
          0 step\n\
@@ -343,6 +357,7 @@ pub const GALLERY: &[Worked] = &[
         ",
     ),
     (
+        "An upgradable reader counts among the readers",
         "rw 1 2 3\n\
          0 begin try_read\n\
          0 step\n\
@@ -375,6 +390,7 @@ pub const GALLERY: &[Worked] = &[
         ",
     ),
     (
+        "At the cap a `read` waits",
         "rw 5 1 2\n\
          0 begin read\n\
          0 step\n\
@@ -399,6 +415,7 @@ pub const GALLERY: &[Worked] = &[
         ",
     ),
     (
+        "A failed closure poisons nothing",
         "once 2\n\
          0 begin try_call_once err\n\
          0 step\n\
@@ -429,6 +446,7 @@ pub const GALLERY: &[Worked] = &[
         ",
     ),
     (
+        "A barrier of none is one of one",
         "barrier 0 1\n\
          0 begin wait\n\
          0 step\n\
