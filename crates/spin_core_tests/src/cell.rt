@@ -1,5 +1,6 @@
 //! What the contracts of the cell leave to a run: that each step gives and leaves the words that it says.
 
+use super::equal::equal;
 use spin_core::cell::{Cell, Play, Rule};
 use spin_core::relax::{Loop, RelaxStrategy, Spin, Yield};
 
@@ -43,24 +44,24 @@ fn strategies_return(rt: HostRuntime) {
 fn steps_on_the_first_word(rt: HostRuntime) {
     let cell: Words = Cell::new(5, 1, 2, &());
     let (found, party) = cell.enter().load::<TellNothing>();
-    assert_eq!(rt; found, 1);
+    equal(&rt, found, 1);
     let (found, party) = party.exchange::<TellNothing>(1, 6);
-    assert_eq!(rt; found, 1);
+    equal(&rt, found, 1);
     let (found, party) = party.exchange::<TellNothing>(1, 7);
-    assert_eq!(rt; found, 6);
+    equal(&rt, found, 6);
     let party = party.store::<TellNothing>(8);
     let (found, party) = party.add::<TellNothing>(u64::MAX);
-    assert_eq!(rt; found, 8);
+    equal(&rt, found, 8);
     let (found, party) = party.subtract::<TellNothing>(3);
-    assert_eq!(rt; found, 7);
+    equal(&rt, found, 7);
     let (found, party) = party.set_bits::<TellNothing>(3);
-    assert_eq!(rt; found, 4);
+    equal(&rt, found, 4);
     let (found, party) = party.keep_bits::<TellNothing>(6);
-    assert_eq!(rt; found, 7);
+    equal(&rt, found, 7);
     let (found, party) = party.load::<TellNothing>();
-    assert_eq!(rt; found, 6);
+    equal(&rt, found, 6);
     let (found, party) = party.load_second::<TellNothing>();
-    assert_eq!(rt; found, 2);
+    equal(&rt, found, 2);
     party.leave();
 }
 
@@ -68,16 +69,16 @@ fn steps_on_the_first_word(rt: HostRuntime) {
 fn steps_on_the_second_word(rt: HostRuntime) {
     let cell: Words = Cell::new(5, 1, 2, &());
     let (found, party) = cell.enter().load_second::<TellNothing>();
-    assert_eq!(rt; found, 2);
+    equal(&rt, found, 2);
     let (found, party) = party.exchange_second::<TellNothing>(2, 9);
-    assert_eq!(rt; found, 2);
+    equal(&rt, found, 2);
     let (found, party) = party.exchange_second::<TellNothing>(2, 7);
-    assert_eq!(rt; found, 9);
+    equal(&rt, found, 9);
     let party = party.store_second::<TellNothing>(8);
     let (found, party) = party.load_second::<TellNothing>();
-    assert_eq!(rt; found, 8);
+    equal(&rt, found, 8);
     let (found, party) = party.load::<TellNothing>();
-    assert_eq!(rt; found, 1);
+    equal(&rt, found, 1);
     party.leave();
 }
 
@@ -90,16 +91,16 @@ fn attempt(cell: &Words, old: u64, new: u64) -> Result<u64, u64> {
 #[test]
 fn a_party_goes_where_its_exchange_missed(rt: HostRuntime) {
     let cell: Words = Cell::new(5, 1, 2, &());
-    assert_eq!(rt; attempt(&cell, 1, 6), Ok(6));
-    assert_eq!(rt; attempt(&cell, 1, 7), Err(6));
-    assert_eq!(rt; cell.enter().look::<TellNothing>(), 6);
+    equal(&rt, attempt(&cell, 1, 6), Ok(6));
+    equal(&rt, attempt(&cell, 1, 7), Err(6));
+    equal(&rt, cell.enter().look::<TellNothing>(), 6);
 }
 
 #[test]
 fn the_owner_has_the_value(rt: HostRuntime) {
     let mut cell: Words = Cell::new(5, 1, 2, &());
-    assert_eq!(rt; *cell.get_mut(), 5);
+    equal(&rt, *cell.get_mut(), 5);
     *cell.get_mut() = 7;
     cell.enter().store::<TellNothing>(3).leave();
-    assert_eq!(rt; cell.into_inner(), 7);
+    equal(&rt, cell.into_inner(), 7);
 }

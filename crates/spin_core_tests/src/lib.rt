@@ -4,6 +4,8 @@
 
 #[cfg(test)]
 mod cell;
+#[cfg(test)]
+mod equal;
 mod once;
 mod pair;
 #[cfg(test)]

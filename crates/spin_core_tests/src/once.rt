@@ -2,6 +2,8 @@
 ghost use Rattle.std.specs.Prelude.{◌≡◌, ◌+◌, ◌<◌, IfSome, Some};
 ghost use Rattle.spin_core_tests.specs.declared.once.View.TheVariants.{Seeing};
 
+#[cfg(test)]
+use super::equal::equal;
 use spin_core::cell::{Cell, Permit, Play, Rule};
 
 /// What a party is to the value.
@@ -136,23 +138,23 @@ fn made<'a>(permit: Permit<'a, Stage, View, Stage>) -> &'a u64
 #[test]
 fn a_value_that_was_there(rt: HostRuntime) {
     let next = Next::initialized(4);
-    assert_eq!(rt; next.get(), Some(&5));
+    equal(&rt, next.get(), Some(&5));
 }
 
 #[test]
 fn a_value_that_comes(rt: HostRuntime) {
     let next = Next::new(4);
-    assert_eq!(rt; next.get(), None);
-    assert_eq!(rt; next.force(), Some(&5));
-    assert_eq!(rt; next.get(), Some(&5));
+    equal(&rt, next.get(), None);
+    equal(&rt, next.force(), Some(&5));
+    equal(&rt, next.get(), Some(&5));
     let moved = next;
-    assert_eq!(rt; moved.get(), Some(&5));
+    equal(&rt, moved.get(), Some(&5));
 }
 
 #[test]
 fn a_number_that_is_put_back(rt: HostRuntime) {
     let next = Next::new(u64::MAX);
-    assert_eq!(rt; next.force(), None);
-    assert_eq!(rt; next.get(), None);
-    assert_eq!(rt; next.force(), None);
+    equal(&rt, next.force().is_none(), true);
+    equal(&rt, next.get().is_none(), true);
+    equal(&rt, next.force().is_none(), true);
 }

@@ -2,6 +2,8 @@
 ghost use Rattle.std.specs.Prelude.{◌≡◌, ◌<◌, Some, IfSome};
 ghost use Rattle.spin_core_tests.specs.declared.pair.View.TheVariants.{Reading};
 
+#[cfg(test)]
+use super::equal::equal;
 use spin_core::cell::{Cell, Permit, Play, Rule};
 
 /// What a party is to the value.
@@ -84,10 +86,10 @@ fn two_read_beside_one_another(rt: HostRuntime) {
     let cell = pair(7);
     let first = read(&cell, 0).expect(&rt, "nobody reads");
     let second = read(&cell, 1).expect(&rt, "one reads");
-    assert!(rt; refuses(&cell, 0));
-    assert_eq!(rt; *first.get(), 7);
-    assert_eq!(rt; *second.get(), 7);
+    equal(&rt, refuses(&cell, 0), true);
+    equal(&rt, *first.get(), 7);
+    equal(&rt, *second.get(), 7);
     stop(first);
-    assert_eq!(rt; *second.see(), 7);
-    assert!(rt; refuses(&cell, 0));
+    equal(&rt, *second.see(), 7);
+    equal(&rt, refuses(&cell, 0), true);
 }
