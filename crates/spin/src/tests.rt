@@ -5,7 +5,13 @@ use super::step::flag;
 use super::{
     Barrier, Lazy, LazyLock, Mutex, MutexGuard, Once, RelaxStrategy, Spin, Yield, barrier, mutex,
 };
+use std::fmt::Debug;
+use std::process::Abort;
 use std::sync::Wait;
+
+fn equal<T: Debug + Drop + PartialEq, R: Abort>(rt: &R, found: T, wanted: T) {
+    assert_eq!(rt; found, wanted);
+}
 
 fn pass_the_time<S: RelaxStrategy, R: Wait>(rt: &R) {
     S::relax(rt);
@@ -17,33 +23,37 @@ fn a_mutex_by_its_short_name(rt: HostRuntime) {
     let mut guard: MutexGuard<u64, Spin> = lock.lock(&rt);
     *guard = 2;
     drop(guard);
-    assert_eq!(rt; lock.into_inner(), 2);
+    equal(&rt, lock.into_inner(), 2);
     let lock: mutex::Mutex<u64, Yield> = mutex::Mutex::new(3);
-    assert!(rt; !lock.is_locked());
+    equal(&rt, lock.is_locked(), false);
 }
 
 #[test]
-fn the_locks_by_their_own_names(rt: HostRuntime) {
+fn the_spin_lock_by_its_own_name(rt: HostRuntime) {
     let lock: SpinMutex<u64> = SpinMutex::new(4);
     let guard: SpinMutexGuard<u64> = lock.lock(&rt);
-    assert_eq!(rt; *guard, 4);
+    equal(&rt, *guard, 4);
+}
+
+#[test]
+fn the_ticket_lock_by_its_own_name(rt: HostRuntime) {
     let lock: TicketMutex<u64> = TicketMutex::new(5);
     let guard: TicketMutexGuard<u64> = lock.lock(&rt);
-    assert_eq!(rt; *guard, 5);
+    equal(&rt, *guard, 5);
 }
 
 #[test]
 fn a_barrier_by_its_short_name(rt: HostRuntime) {
     let one: Barrier = Barrier::new(1);
     let waited: barrier::BarrierWaitResult = one.wait(&rt);
-    assert!(rt; waited.is_leader());
+    equal(&rt, waited.is_leader(), true);
     let one: barrier::Barrier<Yield> = barrier::Barrier::new(1);
-    assert!(rt; one.wait(&rt).is_leader());
+    equal(&rt, one.wait(&rt).is_leader(), true);
 }
 
 #[test]
 fn steps_and_strategies(rt: HostRuntime) {
-    assert_eq!(rt; flag::lock(false), Some(true));
+    equal(&rt, flag::lock(false), Some(true));
     pass_the_time::<Spin, _>(&rt);
     pass_the_time::<Yield, _>(&rt);
     pass_the_time::<Loop, _>(&rt);
@@ -52,11 +62,15 @@ fn steps_and_strategies(rt: HostRuntime) {
 #[test]
 fn values_that_are_made_once(rt: HostRuntime) {
     let once: Once<u64> = Once::new();
-    assert_eq!(rt; *once.call_once(&rt, || 6), 6);
+    equal(&rt, *once.call_once(&rt, || 6), 6);
     let unit: Once = Once::initialized(());
-    assert!(rt; unit.is_completed());
+    equal(&rt, unit.is_completed(), true);
+}
+
+#[test]
+fn values_that_are_lazy(rt: HostRuntime) {
     let lazy: LazyLock<u64, _> = LazyLock::new(|| 7);
-    assert_eq!(rt; *LazyLock::force(&lazy, &rt), 7);
+    equal(&rt, *LazyLock::force(&lazy, &rt), 7);
     let lazy: Lazy<u64, _> = Lazy::new(|| 8);
-    assert_eq!(rt; *Lazy::force(&lazy, &rt), 8);
+    equal(&rt, *Lazy::force(&lazy, &rt), 8);
 }
