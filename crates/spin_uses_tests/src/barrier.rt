@@ -1,9 +1,13 @@
 //! What no contract says: that a party stays for its group, that one party of each group leads, and which.
+use super::equal::equal;
 use spin_barrier::barrier::Barrier;
 use spin_core::relax::{Loop, RelaxStrategy, Spin, Yield};
+use std::alloc::{AllocError, Global};
 use std::cell::Cell;
+use std::process::Abort;
 use std::sync::Wait;
 use std::sync::atomic::{AtomicBool, AtomicU64, Ordering};
+use std::test::Fail;
 use std::thread;
 use std::thread::Threads;
 
@@ -28,7 +32,7 @@ fn a_group_of_none_is_a_group_of_one(rt: HostRuntime) {
     for n in [0, 1] {
         let barrier: Barrier = Barrier::new(n);
         for _ in 0..3 {
-            assert!(rt; barrier.wait(&rt).is_leader());
+            equal(&rt, barrier.wait(&rt).is_leader(), true);
         }
     }
 }
@@ -75,39 +79,42 @@ impl Rounds {
         }
     }
 
-    fn pass_both<R: Wait>(&self, rt: &R) {
+    fn pass_both<R: Wait>(&self, rt: &R, index: usize) {
+        if index == 0 {
+            self.look_on(rt);
+        }
         self.pass(rt, &self.first);
         self.pass(rt, &self.second);
     }
 
     // Looks for one that has left before the group is full.
-    fn pass_both_late<R: Wait>(&self, rt: &R) {
+    fn look_on<R: Wait>(&self, rt: &R) {
         for _ in 0..LOOKS {
             if self.first.left.load(Ordering::SeqCst) {
                 self.left_early.store(true, Ordering::SeqCst);
             }
             Yield::relax(rt);
         }
-        self.pass_both(rt);
     }
 }
 
-fn three<R: Threads + Wait + Sync>(rt: &R, rounds: &Rounds) {
-    let others = || {
-        thread::join(rt, || rounds.pass_both(rt), || rounds.pass_both(rt));
-    };
-    thread::join(rt, || rounds.pass_both(rt), others);
+fn pass_in_ten<R: Threads + Wait + Sync>(
+    rt: &R,
+    alloc: Global,
+    rounds: &Rounds,
+) -> Result<(), AllocError> {
+    let pass = |index: usize| rounds.pass_both(rt, index);
+    thread::map_indices(rt, alloc, 10, &pass)?;
+    Ok(())
 }
 
-fn nine<R: Threads + Wait + Sync>(rt: &R, rounds: &Rounds) {
-    let others = || {
-        thread::join(rt, || three(rt, rounds), || three(rt, rounds));
-    };
-    thread::join(rt, || three(rt, rounds), others);
+fn comes_to<R: Abort>(rt: &R, round: &Round, arrived: u64) {
+    equal(rt, round.leaders.load(Ordering::SeqCst), 1);
+    equal(rt, round.fewest.load(Ordering::SeqCst) >= arrived, true);
 }
 
 #[test]
-fn ten_threads_wait_for_one_another_twice_over(rt: HostRuntime) {
+fn ten_threads_wait_for_one_another_twice_over(rt: HostRuntime) -> Result<(), Fail> {
     let rounds = Rounds {
         barrier: Barrier::new(10),
         arrived: AtomicU64::new(0),
@@ -115,11 +122,9 @@ fn ten_threads_wait_for_one_another_twice_over(rt: HostRuntime) {
         first: Round::new(),
         second: Round::new(),
     };
-    let (all, host) = (&rounds, &rt);
-    thread::join(host, || nine(host, all), || all.pass_both_late(host));
-    assert!(rt; !rounds.left_early.load(Ordering::SeqCst));
-    for (round, arrived) in [(&rounds.first, 10), (&rounds.second, 20)] {
-        assert_eq!(rt; round.leaders.load(Ordering::SeqCst), 1);
-        assert!(rt; round.fewest.load(Ordering::SeqCst) >= arrived);
-    }
+    pass_in_ten(&rt, rt.alloc(), &rounds)?;
+    equal(&rt, rounds.left_early.load(Ordering::SeqCst), false);
+    comes_to(&rt, &rounds.first, 10);
+    comes_to(&rt, &rounds.second, 20);
+    Ok(())
 }

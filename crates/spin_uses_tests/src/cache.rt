@@ -1,6 +1,7 @@
 //! Callers of one cache, alone and in threads.
 ghost use Rattle.std.specs.Prelude.{◌≡◌, ◌==◌, ◌*◌, ◌%◌, ◌^◌, IfOk};
 
+use super::equal::equal;
 use spin_core::relax::Yield;
 use spin_uses::cache::{Answers, Cache};
 use std::alloc::{AllocError, Global};
@@ -50,8 +51,8 @@ fn threads_make_each_answer_once(rt: HostRuntime) -> Result<(), Fail> {
     let cache = Cache::new(rt.alloc());
     let (first, second) = thread::join(&rt, || ask_all(&rt, &cache), || ask_all(&rt, &cache));
     let (first, second) = (first?, second?);
-    assert!(rt; first.1 && second.1);
-    assert_eq!(rt; first.0.wrapping_add(second.0), KEYS);
+    equal(&rt, first.1 && second.1, true);
+    equal(&rt, first.0.wrapping_add(second.0), KEYS);
     Ok(())
 }
 
@@ -60,10 +61,10 @@ fn threads_make_each_answer_once(rt: HostRuntime) -> Result<(), Fail> {
 fn an_answer_that_is_there_takes_no_write(rt: HostRuntime) -> Result<(), Fail> {
     let cache: SquareCache = Cache::new(rt.alloc());
     let made = Cell::new(0);
-    assert_eq!(rt; square(&rt, &cache, 3, &made)?, 9);
+    equal(&rt, square(&rt, &cache, 3, &made)?, 9);
     let reader = cache.read(&rt);
-    assert_eq!(rt; square(&rt, &cache, 3, &made)?, 9);
-    assert_eq!(rt; reader.answer(3), Some(9));
-    assert_eq!(rt; made.get(), 1);
+    equal(&rt, square(&rt, &cache, 3, &made)?, 9);
+    equal(&rt, reader.answer(3), Some(9));
+    equal(&rt, made.get(), 1);
     Ok(())
 }

@@ -1,6 +1,7 @@
 //! What no contract says: worked rows, that a call succeeds where nothing is refused, and threads that end.
 ghost use Rattle.std.specs.Prelude.{◌≡◌, ◌<◌, ◌^◌, sum};
 
+use super::equal::equal;
 use bumpalo::Bump;
 use spin_uses::ledger::{Accounts, Ledger, Opening, Refused, Transfer, replay, total};
 use std::alloc::{AllocError, Allocator, Global};
@@ -16,11 +17,12 @@ fn transfer(from: usize, to: usize, amount: u64) -> Transfer {
 
 /// Compares each account's balance, and the total.
 fn holds<O: Opening, A: Allocator, R: Abort>(rt: &R, accounts: &Accounts<O, A>, told: [u64; 3]) {
-    for (account, wanted) in told.iter().enumerate() {
-        assert_eq!(rt; accounts.balance(account), Some(*wanted), "{account}");
-    }
-    assert_eq!(rt; accounts.balance(3), None);
-    assert_eq!(rt; accounts.total(), 120);
+    let [first, second, third] = told;
+    equal(rt, accounts.balance(0), Some(first));
+    equal(rt, accounts.balance(1), Some(second));
+    equal(rt, accounts.balance(2), Some(third));
+    equal(rt, accounts.balance(3), None);
+    equal(rt, accounts.total(), 120);
 }
 
 fn makes_and_refuses<O: Opening, R: Abort>(rt: &R, alloc: Global, balances: Vec<u64>)
@@ -47,7 +49,7 @@ fn makes_and_refuses<O: Opening, R: Abort>(rt: &R, alloc: Global, balances: Vec<
         transfer(2, 0, 0),
         transfer(1, 1, 50),
     ];
-    assert_eq!(rt; accounts.journal(), made.as_slice());
+    equal(rt, accounts.journal(), made.as_slice());
 }
 
 #[test]
@@ -63,11 +65,11 @@ fn a_journal_is_replayed(rt: HostRuntime) -> Result<(), Fail> {
     let balances = replay(rt.alloc(), &[100, 20, 0], &journal)
         .ok()
         .ok_or("no memory")?;
-    assert_eq!(rt; balances.as_slice(), [70, 30, 20].as_slice());
+    equal(&rt, balances.as_slice(), [70, 30, 20].as_slice());
     let refused = replay(rt.alloc(), &[29, 20, 0], &journal);
-    assert_eq!(rt; refused.err(), Some(Refused::TooLittle));
+    equal(&rt, refused.err(), Some(Refused::TooLittle));
     let refused = replay(rt.alloc(), &[100, 20], &journal);
-    assert_eq!(rt; refused.err(), Some(Refused::NoSuchAccount));
+    equal(&rt, refused.err(), Some(Refused::NoSuchAccount));
     Ok(())
 }
 
@@ -91,6 +93,22 @@ fn trades<O: Opening, W: Wait>(rt: &W, ledger: &Ledger<O>, seed: u64, turns: u64
     made
 }
 
+/// Compares each balance with that of the journal's replay.
+fn replays<O: Opening, R: Abort>(
+    rt: &R,
+    alloc: Global,
+    opening: &[u64],
+    accounts: &Accounts<O>,
+) -> Result<(), Refused>
+    requires { sum opening.now < 2 ^ 64 }
+{
+    let replayed = replay(alloc, opening, accounts.journal())?;
+    for (account, found) in replayed.iter().enumerate() {
+        equal(rt, accounts.balance(account), Some(*found));
+    }
+    Ok(())
+}
+
 fn trades_in_two<O: Opening + Send + Sync, R: Abort + Threads + Wait + Sync>(
     rt: &R,
     alloc: Global,
@@ -107,15 +125,15 @@ fn trades_in_two<O: Opening + Send + Sync, R: Abort + Threads + Wait + Sync>(
         || trades(rt, &ledger, 88_172_645_463_325_252, 2000),
         || trades(rt, &ledger, 362_436_069, 2000),
     );
-    assert_eq!(rt; total(rt, &ledger), 120);
+    equal(rt, total(rt, &ledger), 120);
     let accounts = ledger.into_inner();
-    assert_eq!(rt; accounts.journal().len() as u64, left.saturating_add(right));
-    assert!(rt; 0 < left && 0 < right);
-    let replayed = replay(alloc, opening, accounts.journal())?;
-    for (account, found) in replayed.iter().enumerate() {
-        assert_eq!(rt; accounts.balance(account), Some(*found));
-    }
-    Ok(())
+    equal(
+        rt,
+        accounts.journal().len() as u64,
+        left.saturating_add(right),
+    );
+    equal(rt, 0 < left && 0 < right, true);
+    replays(rt, alloc, opening, &accounts)
 }
 
 #[test]
@@ -144,14 +162,14 @@ fn is_refused_whole<'a, O: Opening, R: Abort>(
     let again = replay(arena, &[100, 20, 0], accounts.journal()).err();
     drop(filled);
     if first.is_err() {
-        assert_eq!(rt; first, Err(Refused::OutOfMemory));
+        equal(rt, first, Err(Refused::OutOfMemory));
         holds(rt, &accounts, [100, 20, 0]);
-        assert!(rt; accounts.journal().is_empty());
+        equal(rt, accounts.journal().is_empty(), true);
         return Ok(false);
     }
     holds(rt, &accounts, [70, 20, 30]);
     if again.is_some() {
-        assert_eq!(rt; again, Some(Refused::OutOfMemory));
+        equal(rt, again, Some(Refused::OutOfMemory));
     }
     Ok(again.is_none())
 }
@@ -166,6 +184,6 @@ fn each_allocation_is_refused(rt: HostRuntime) -> Result<(), Fail> {
             refused = refused.saturating_add(1);
         }
     }
-    assert!(rt; 24 <= refused && refused < 512);
+    equal(&rt, 24 <= refused && refused < 512, true);
     Ok(())
 }

@@ -6,6 +6,8 @@ mod barrier;
 #[cfg(test)]
 mod cache;
 #[cfg(test)]
+mod equal;
+#[cfg(test)]
 mod ledger;
 #[cfg(test)]
 mod phases;

@@ -1,4 +1,5 @@
 //! What no clause says: that each round is folded once, by its leader, when all of it is in.
+use super::equal::equal;
 use spin_uses::phases::{Folded, run_phases};
 
 #[test]
@@ -8,7 +9,7 @@ fn each_round_is_folded_whole(rt: HostRuntime) {
         rounds: 100,
         smallest: 24,
     };
-    assert_eq!(rt; run_phases(&rt, rt.alloc(), 8, 100, 3), Ok(folded));
+    equal(&rt, run_phases(&rt, rt.alloc(), 8, 100, 3), Ok(folded));
 }
 
 #[test]
@@ -18,6 +19,6 @@ fn a_run_may_be_empty(rt: HostRuntime) {
         rounds: 0,
         smallest: u64::MAX,
     };
-    assert_eq!(rt; run_phases(&rt, rt.alloc(), 0, 7, 3), Ok(nothing));
-    assert_eq!(rt; run_phases(&rt, rt.alloc(), 2, 0, 3), Ok(nothing));
+    equal(&rt, run_phases(&rt, rt.alloc(), 0, 7, 3), Ok(nothing));
+    equal(&rt, run_phases(&rt, rt.alloc(), 2, 0, 3), Ok(nothing));
 }

@@ -2,9 +2,11 @@
 ghost use Rattle.spin_uses.specs.Settings.{IsAnswerFor};
 ghost use Rattle.spin_uses.specs.SharedSettings.{reader_of, text_of};
 
+use super::equal::equal;
 use spin_core::relax::{RelaxStrategy, Yield};
 use spin_uses::settings::{Answer, BadLine, Setting, Settings, SharedSettings};
 use std::alloc::{AllocError, Global};
+use std::process::Abort;
 use std::sync::Wait;
 use std::sync::atomic::AtomicU64;
 use std::sync::atomic::Ordering::SeqCst;
@@ -12,27 +14,31 @@ use std::test::Fail;
 use std::thread;
 use std::thread::Threads;
 
+fn sets<R: Abort>(rt: &R, line: &str, setting: Option<Setting>) {
+    assert_eq!(rt; Setting::of_line(line), setting, "{line}");
+}
+
 #[test]
 fn a_line_sets_one_thing_or_nothing(rt: HostRuntime) {
-    for (line, setting) in [
-        ("port = 8080", Some(Setting::Port(8080))),
-        ("port = 65535", Some(Setting::Port(65535))),
-        ("port = 65536", None),
-        ("workers = 65536", Some(Setting::Workers(65536))),
-        ("workers = 007", Some(Setting::Workers(7))),
-        ("workers = +7", Some(Setting::Workers(7))),
-        ("workers = -7", None),
-        ("workers = ", None),
-        ("verbose = true", Some(Setting::Verbose(true))),
-        ("verbose = false", Some(Setting::Verbose(false))),
-        ("verbose = 1", None),
-        ("port=8080", None),
-        (" port = 8080", None),
-        ("colour = 7", None),
-        ("", None),
-    ] {
-        assert_eq!(rt; Setting::of_line(line), setting, "{line}");
-    }
+    sets(&rt, "port = 8080", Some(Setting::Port(8080)));
+    sets(&rt, "port = 65535", Some(Setting::Port(65535)));
+    sets(&rt, "port = 65536", None);
+    sets(&rt, "workers = 65536", Some(Setting::Workers(65536)));
+    sets(&rt, "workers = 007", Some(Setting::Workers(7)));
+    sets(&rt, "workers = +7", Some(Setting::Workers(7)));
+    sets(&rt, "workers = -7", None);
+    sets(&rt, "workers = ", None);
+    sets(&rt, "verbose = true", Some(Setting::Verbose(true)));
+    sets(&rt, "verbose = false", Some(Setting::Verbose(false)));
+    sets(&rt, "verbose = 1", None);
+    sets(&rt, "port=8080", None);
+    sets(&rt, " port = 8080", None);
+    sets(&rt, "colour = 7", None);
+    sets(&rt, "", None);
+}
+
+fn answers<R: Abort>(rt: &R, text: &str, answer: Answer) {
+    assert_eq!(rt; text.parse::<Settings>(), answer, "{text}");
 }
 
 #[test]
@@ -42,20 +48,21 @@ fn a_text_has_settings_or_a_first_bad_line(rt: HostRuntime) {
         workers: 1,
         verbose: true,
     };
-    for (text, answer) in [
-        ("", Ok(Settings::default())),
-        ("port = 80\nverbose = true", Ok(settings)),
-        ("verbose = true\r\nport = 80\r\n", Ok(settings)),
-        ("port = 8\nport = 80\nverbose = true\n", Ok(settings)),
-        ("port = 80\n\nverbose = true", Err(BadLine { number: 2 })),
-        ("verbose = yes\nport = x", Err(BadLine { number: 1 })),
-        (
-            "port = 80\nworkers = 1\nworker = 2",
-            Err(BadLine { number: 3 }),
-        ),
-    ] {
-        assert_eq!(rt; text.parse::<Settings>(), answer, "{text}");
-    }
+    answers(&rt, "", Ok(Settings::default()));
+    answers(&rt, "port = 80\nverbose = true", Ok(settings));
+    answers(&rt, "verbose = true\r\nport = 80\r\n", Ok(settings));
+    answers(&rt, "port = 8\nport = 80\nverbose = true\n", Ok(settings));
+    answers(
+        &rt,
+        "port = 80\n\nverbose = true",
+        Err(BadLine { number: 2 }),
+    );
+    answers(&rt, "verbose = yes\nport = x", Err(BadLine { number: 1 }));
+    answers(
+        &rt,
+        "port = 80\nworkers = 1\nworker = 2",
+        Err(BadLine { number: 3 }),
+    );
 }
 
 // A caller's proof: it shares the settings of its text, and knows what it will be told.
@@ -73,10 +80,11 @@ fn settings_are_those_of_the_text(rt: HostRuntime) {
         workers: 9,
         ..Settings::default()
     };
-    assert_eq!(rt; ask(&rt, "workers = 9\n"), Ok(settings));
-    assert_eq!(rt;
+    equal(&rt, ask(&rt, "workers = 9\n"), Ok(settings));
+    equal(
+        &rt,
         ask(&rt, "port = 80\nworkers: 9\n"),
-        Err(BadLine { number: 2 })
+        Err(BadLine { number: 2 }),
     );
 }
 
@@ -114,17 +122,17 @@ fn ten_threads_see_the_same_and_the_text_is_read_once(rt: HostRuntime) -> Result
     let reads = AtomicU64::new(0);
     let read = || read_slowly(&rt, &reads, text);
     let shared: SharedSettings<_, Yield> = SharedSettings::new(text, read);
-    assert_eq!(rt; reads.load(SeqCst), 0);
+    equal(&rt, reads.load(SeqCst), 0);
     let answers = ask_in_ten(&rt, rt.alloc(), &shared)?;
-    assert_eq!(rt; reads.load(SeqCst), 1);
-    assert_eq!(rt; answers.len(), 10);
+    equal(&rt, reads.load(SeqCst), 1);
+    equal(&rt, answers.len(), 10);
     let settings = Settings {
         port: 8080,
         workers: 4,
         verbose: true,
     };
     for answer in &answers {
-        assert_eq!(rt; *answer, Ok(settings));
+        equal(&rt, *answer, Ok(settings));
     }
     Ok(())
 }
