@@ -1,8 +1,9 @@
 //! What no contract says of starvers: which call is granted beside one, and that a plain `lock` comes to starve.
 use spin_core::relax::{Loop, RelaxStrategy, Yield};
-use spin_mutex::mutex::FairMutex;
 use spin_mutex::mutex::fair::LockRejectReason;
+use spin_mutex::mutex::{FairMutex, Starvation};
 use std::mem::forget;
+use std::process::Abort;
 use std::sync::Wait;
 use std::thread;
 
@@ -14,47 +15,126 @@ fn seen<R>(lock: &FairMutex<u64, R>) -> (bool, bool) {
     (lock.is_locked(), starved)
 }
 
+type Seen = (bool, bool);
+
+// A starver that came while somebody held the lock, which is free again. What was seen before it came, whether a newcomer
+// was refused then, and what was seen beside it.
+fn starve_beside_a_guard<'a>(
+    rt: &(impl Abort + Wait),
+    lock: &'a FairMutex<u64>,
+) -> (Seen, bool, Seen, Starvation<'a, u64>) {
+    let guard = lock.lock(rt);
+    let before = seen(lock);
+    let refused = lock.try_lock().is_none();
+    let starvation = lock.starve(rt).expect(rt, "below the cap");
+    let beside = seen(lock);
+    drop(guard);
+    (before, refused, beside, starvation)
+}
+
+// What is seen of a free lock with a starver, whether a newcomer is refused there, and what is seen while the starver has
+// entered.
+fn enter<'a>(
+    rt: &impl Abort,
+    lock: &'a FairMutex<u64>,
+    starvation: Starvation<'a, u64>,
+) -> (Seen, bool, Seen, u64) {
+    let before = seen(lock);
+    let refused = lock.try_lock().is_none();
+    let guard = starvation.try_lock().ok().expect(rt, "open");
+    (before, refused, seen(lock), *guard)
+}
+
+// What is seen while a lone starver has entered.
+fn enter_alone(rt: &impl Abort, lock: &FairMutex<u64>, starvation: Starvation<'_, u64>) -> Seen {
+    let guard = starvation.try_lock_fair().ok().expect(rt, "open");
+    let entered = seen(lock);
+    drop(guard);
+    entered
+}
+
+// What is seen while a starver that waited has entered, and after it.
+fn enter_in_the_end<R: RelaxStrategy>(
+    rt: &impl Wait,
+    lock: &FairMutex<u64, R>,
+    starvation: Starvation<'_, u64, R>,
+) -> (Seen, Seen) {
+    let guard = starvation.lock(rt);
+    let entered = seen(lock);
+    drop(guard);
+    (entered, seen(lock))
+}
+
 #[test]
 fn a_starver_comes_before_newcomers(rt: HostRuntime) {
     let lock: FairMutex<u64> = FairMutex::new(42);
-    let guard = lock.lock(&rt);
-    assert_eq!(rt; seen(&lock), (true, false));
-    assert!(rt; lock.try_lock().is_none());
+    let (before, refused, beside, starvation) = starve_beside_a_guard(&rt, &lock);
+    assert_eq!(rt;
+        (before, refused, beside),
+        ((true, false), true, (true, true))
+    );
+    let entered = enter(&rt, &lock, starvation);
+    assert_eq!(rt; entered, ((false, true), true, (true, false), 42));
+}
+
+#[test]
+fn each_call_of_a_starver_enters(rt: HostRuntime) {
+    let lock: FairMutex<u64> = FairMutex::new(42);
     let starvation = lock.starve(&rt).expect(&rt, "below the cap");
-    assert_eq!(rt; seen(&lock), (true, true));
-    drop(guard);
-    assert_eq!(rt; seen(&lock), (false, true));
-    assert!(rt; lock.try_lock().is_none());
-    let guard = starvation.try_lock().ok().expect(&rt, "open");
-    assert_eq!(rt; seen(&lock), (true, false));
-    assert_eq!(rt; *guard, 42);
-    drop(guard);
+    let alone = enter_alone(&rt, &lock, starvation);
     let starvation = lock.starve(&rt).expect(&rt, "below the cap");
-    let guard = starvation.try_lock_fair().ok().expect(&rt, "open");
-    assert_eq!(rt; seen(&lock), (true, false));
-    drop(guard);
-    let starvation = lock.starve(&rt).expect(&rt, "below the cap");
-    let guard = starvation.lock(&rt);
-    assert_eq!(rt; seen(&lock), (true, false));
-    drop(guard);
-    assert_eq!(rt; seen(&lock), (false, false));
+    let in_the_end = enter_in_the_end(&rt, &lock, starvation);
+    assert_eq!(rt;
+        (alone, in_the_end),
+        ((true, false), ((true, false), (false, false)))
+    );
+}
+
+// Whether somebody holds the lock, and the answer to a newcomer who may starve.
+fn answer(lock: &FairMutex<u64>) -> (bool, &'static str) {
+    let answer = match lock.try_lock_starver() {
+        Ok(_) => "open",
+        Err(LockRejectReason::Locked) => "locked",
+        Err(LockRejectReason::Starved) => "starved",
+    };
+    (lock.is_locked(), answer)
 }
 
 #[test]
 fn a_refusal_says_why(rt: HostRuntime) {
     let lock: FairMutex<u64> = FairMutex::new(42);
     let guard = lock.lock(&rt);
-    assert!(rt; lock.is_locked());
-    assert!(rt; matches!(lock.try_lock_starver(), Err(LockRejectReason::Locked)));
+    let held = answer(&lock);
     let starvation = lock.starve(&rt).expect(&rt, "below the cap");
-    assert!(rt; lock.is_locked());
-    assert!(rt; matches!(lock.try_lock_starver(), Err(LockRejectReason::Starved)));
+    let both = answer(&lock);
     drop(guard);
-    assert!(rt; !lock.is_locked());
-    assert!(rt; matches!(lock.try_lock_starver(), Err(LockRejectReason::Starved)));
+    let starved = answer(&lock);
     drop(starvation);
-    assert!(rt; !lock.is_locked());
-    assert!(rt; lock.try_lock_starver().is_ok());
+    assert_eq!(rt; (held, both), ((true, "locked"), (true, "starved")));
+    assert_eq!(rt;
+        (starved, answer(&lock)),
+        ((false, "starved"), (false, "open"))
+    );
+}
+
+// A starver that was refused beside another, and then beside a guard of the other's; what is seen at first, after the
+// first refusal, while the other has entered, and after the further refusals.
+fn be_refused<'a>(
+    rt: &impl Abort,
+    lock: &'a FairMutex<u64, Loop>,
+    first: Starvation<'a, u64, Loop>,
+    second: Starvation<'a, u64, Loop>,
+) -> ([Seen; 4], Starvation<'a, u64, Loop>) {
+    let before = seen(lock);
+    let first = first.try_lock_fair().err().expect(rt, "two starve");
+    let refused = seen(lock);
+    let guard = second.try_lock().ok().expect(rt, "open");
+    let entered = seen(lock);
+    let first = first.try_lock().err().expect(rt, "held");
+    let first = first.try_lock_fair().err().expect(rt, "held");
+    let refused_again = seen(lock);
+    drop(guard);
+    ([before, refused, entered, refused_again], first)
 }
 
 #[test]
@@ -62,19 +142,15 @@ fn a_refused_starver_stays_registered(rt: HostRuntime) {
     let lock: FairMutex<u64, Loop> = FairMutex::new(42);
     let first = lock.starve(&rt).expect(&rt, "below the cap");
     let second = lock.starve(&rt).expect(&rt, "below the cap");
-    assert_eq!(rt; seen(&lock), (false, true));
-    let first = first.try_lock_fair().err().expect(&rt, "two starve");
-    assert_eq!(rt; seen(&lock), (false, true));
-    let guard = second.try_lock().ok().expect(&rt, "open");
-    assert_eq!(rt; seen(&lock), (true, true));
-    let first = first.try_lock().err().expect(&rt, "held");
-    let first = first.try_lock_fair().err().expect(&rt, "held");
-    assert_eq!(rt; seen(&lock), (true, true));
-    drop(guard);
-    let guard = first.lock(&rt);
-    assert_eq!(rt; seen(&lock), (true, false));
-    drop(guard);
-    assert_eq!(rt; seen(&lock), (false, false));
+    let (refused, first) = be_refused(&rt, &lock, first, second);
+    assert_eq!(rt;
+        refused,
+        [(false, true), (false, true), (true, true), (true, true)]
+    );
+    assert_eq!(rt;
+        enter_in_the_end(&rt, &lock, first),
+        ((true, false), (false, false))
+    );
 }
 
 #[test]

@@ -6,6 +6,8 @@ mod calls;
 #[cfg(test)]
 mod fair;
 #[cfg(test)]
+mod lock;
+#[cfg(test)]
 mod sends;
 #[cfg(test)]
 mod texts;

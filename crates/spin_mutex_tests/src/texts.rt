@@ -1,4 +1,5 @@
 //! The texts as they are printed, with options too, and that a lock is left as it was.
+use crate::lock::Lock;
 use spin_mutex::mutex::{FairMutex, Mutex, SpinMutex, TicketMutex};
 use std::fmt;
 use std::fmt::{Debug, Display, Write};
@@ -23,45 +24,39 @@ fn display_is<T: Display>(
     Ok(())
 }
 
+fn shows_its_value<'a, L: Lock<'a, u64> + Debug>(
+    rt: &(impl Abort + AllocGlobal),
+    lock: &'a L,
+) -> Result<(), Fail> {
+    debug_is(rt, lock, "Mutex { data: 5 }")?;
+    assert!(rt; !lock.is_locked());
+    Ok(())
+}
+
 #[test]
 fn an_open_lock_shows_its_value(rt: HostRuntime) -> Result<(), Fail> {
-    let spin: SpinMutex<u64> = SpinMutex::new(5);
-    debug_is(&rt, &spin, "Mutex { data: 5 }")?;
-    assert!(rt; !spin.is_locked());
+    shows_its_value(&rt, &SpinMutex::<u64>::new(5))?;
+    shows_its_value(&rt, &TicketMutex::<u64>::new(5))?;
+    shows_its_value(&rt, &Mutex::<u64>::new(5))
+}
 
-    let ticket: TicketMutex<u64> = TicketMutex::new(5);
-    debug_is(&rt, &ticket, "Mutex { data: 5 }")?;
-    assert!(rt; !ticket.is_locked());
-
-    let mutex: Mutex<u64> = Mutex::new(5);
-    debug_is(&rt, &mutex, "Mutex { data: 5 }")?;
-    assert!(rt; !mutex.is_locked());
+fn shows_that_it_is_held<'a, L: Lock<'a, u64> + Debug>(
+    rt: &(impl Abort + AllocGlobal),
+    lock: &'a L,
+) -> Result<(), Fail> {
+    let taken = lock.try_lock();
+    debug_is(rt, lock, LOCKED)?;
+    let seen = (taken.is_some(), lock.is_locked());
+    drop(taken);
+    assert_eq!(rt; (seen, lock.is_locked()), ((true, true), false));
     Ok(())
 }
 
 #[test]
 fn a_held_lock_shows_that_it_is_held(rt: HostRuntime) -> Result<(), Fail> {
-    let spin: SpinMutex<u64> = SpinMutex::new(5);
-    let guard = spin.try_lock().expect(&rt, "open");
-    debug_is(&rt, &spin, LOCKED)?;
-    assert!(rt; spin.is_locked());
-    drop(guard);
-    assert!(rt; !spin.is_locked());
-
-    let ticket: TicketMutex<u64> = TicketMutex::new(5);
-    let guard = ticket.try_lock().expect(&rt, "open");
-    debug_is(&rt, &ticket, LOCKED)?;
-    assert!(rt; ticket.is_locked());
-    drop(guard);
-    assert!(rt; !ticket.is_locked());
-
-    let mutex: Mutex<u64> = Mutex::new(5);
-    let guard = mutex.try_lock().expect(&rt, "open");
-    debug_is(&rt, &mutex, LOCKED)?;
-    assert!(rt; mutex.is_locked());
-    drop(guard);
-    assert!(rt; !mutex.is_locked());
-    Ok(())
+    shows_that_it_is_held(&rt, &SpinMutex::<u64>::new(5))?;
+    shows_that_it_is_held(&rt, &TicketMutex::<u64>::new(5))?;
+    shows_that_it_is_held(&rt, &Mutex::<u64>::new(5))
 }
 
 #[test]
@@ -102,12 +97,23 @@ fn options_go_to_the_value(rt: HostRuntime) -> Result<(), Fail> {
     let lock: Mutex<u64> = Mutex::new(5);
     let text = format!(in rt.alloc(); "{lock:3?}")?;
     assert_eq!(rt; text.as_str(), "Mutex { data:   5 }");
-    let guard = lock.try_lock().expect(&rt, "open");
-    let text = format!(in rt.alloc(); "{guard:<3?}|{guard:>3}|{lock:30?}")?;
-    assert_eq!(rt; text.as_str(), "5  |  5|Mutex { <locked> }");
+    Ok(())
+}
+
+#[test]
+fn the_form_on_many_lines_goes_to_the_value(rt: HostRuntime) -> Result<(), Fail> {
     let nested: Mutex<Option<u64>> = Mutex::new(Some(5));
     let text = format!(in rt.alloc(); "{nested:#?}")?;
     assert_eq!(rt; text.as_str(), "Mutex { data: Some(\n    5,\n) }");
+    Ok(())
+}
+
+#[test]
+fn options_go_to_the_value_of_a_guard(rt: HostRuntime) -> Result<(), Fail> {
+    let lock: Mutex<u64> = Mutex::new(5);
+    let guard = lock.try_lock().expect(&rt, "open");
+    let text = format!(in rt.alloc(); "{guard:<3?}|{guard:>3}|{lock:30?}")?;
+    assert_eq!(rt; text.as_str(), "5  |  5|Mutex { <locked> }");
     Ok(())
 }
 

@@ -1,6 +1,8 @@
 //! Threads take turns, and a guard may end in another thread than the one that took it.
+use crate::lock::read;
 use spin_core::relax::{RelaxStrategy, Yield};
 use spin_mutex::mutex::{FairMutex, Mutex, SpinMutex, TicketMutex};
+use std::ops::DerefMut;
 use std::sync::Wait;
 use std::thread;
 use std::thread::Threads;
@@ -78,38 +80,47 @@ fn add_in_six<S: Sum + Sync, R: Threads + Wait + Sync>(rt: &R, sum: &S) {
     thread::join(rt, || add_in_three(rt, sum), || add_in_three(rt, sum));
 }
 
-#[test]
-fn six_threads_lose_no_addition(rt: HostRuntime) {
-    let lock = SpinMutex::new(0);
-    add_in_six(&rt, &lock);
-    assert_eq!(rt; lock.into_inner(), 6000);
-    let lock = TicketMutex::new(0);
-    add_in_six(&rt, &lock);
-    assert_eq!(rt; lock.into_inner(), 6000);
-    let lock = FairMutex::new(0);
-    add_in_six(&rt, &lock);
-    assert_eq!(rt; lock.into_inner(), 6000);
-    let lock = Mutex::new(0);
-    add_in_six(&rt, &lock);
-    assert_eq!(rt; lock.into_inner(), 6000);
+macro_rules! sum_of_six {
+    ($rt:expr, $Lock:ident) => {{
+        let lock = $Lock::new(0);
+        add_in_six($rt, &lock);
+        lock.into_inner()
+    }};
 }
 
-macro_rules! lets_its_guard_travel {
+#[test]
+fn six_threads_lose_no_addition(rt: HostRuntime) {
+    let sums = [
+        sum_of_six!(&rt, SpinMutex),
+        sum_of_six!(&rt, TicketMutex),
+        sum_of_six!(&rt, FairMutex),
+        sum_of_six!(&rt, Mutex),
+    ];
+    assert_eq!(rt; sums, [6000; 4]);
+}
+
+fn write_elsewhere<G: DerefMut<Target = u64> + Drop + Send>(rt: &impl Threads, mut guard: G) {
+    let write = move || {
+        *guard = 3;
+    };
+    thread::join(rt, write, || ());
+}
+
+macro_rules! written_elsewhere {
     ($rt:expr, $Lock:ident) => {{
         let lock: $Lock<u64> = $Lock::new(1);
-        let mut guard = lock.lock(&$rt);
-        let write = move || {
-            *guard = 3;
-        };
-        thread::join(&$rt, write, || ());
-        assert_eq!($rt; *lock.try_lock().expect(&$rt, "open"), 3);
+        write_elsewhere($rt, lock.lock($rt));
+        read(&lock.try_lock())
     }};
 }
 
 #[test]
 fn a_guard_may_end_in_another_thread(rt: HostRuntime) {
-    lets_its_guard_travel!(rt, SpinMutex);
-    lets_its_guard_travel!(rt, TicketMutex);
-    lets_its_guard_travel!(rt, FairMutex);
-    lets_its_guard_travel!(rt, Mutex);
+    let seen = [
+        written_elsewhere!(&rt, SpinMutex),
+        written_elsewhere!(&rt, TicketMutex),
+        written_elsewhere!(&rt, FairMutex),
+        written_elsewhere!(&rt, Mutex),
+    ];
+    assert_eq!(rt; seen, [Some(3); 4]);
 }

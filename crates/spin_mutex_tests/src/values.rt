@@ -8,6 +8,7 @@ use spin_mutex::mutex::{
     TicketMutexGuard,
 };
 use std::cell::Cell;
+use std::sync::Wait;
 
 // A caller's proof, of each guard.
 fn swap_in<R>(guard: &mut SpinMutexGuard<'_, u64, R>, value: u64) -> u64
@@ -37,22 +38,25 @@ fn swap_into<R>(guard: &mut MutexGuard<'_, u64, R>, value: u64) -> u64
     old
 }
 
-macro_rules! has_what_was_written {
+macro_rules! written {
     ($rt:expr, $Lock:ident, $swap:ident) => {{
         let lock: $Lock<u64> = $Lock::new(1);
-        let mut guard = lock.lock(&$rt);
-        assert_eq!($rt; $swap(&mut guard, 3), 1);
-        assert_eq!($rt; *guard, 3);
+        let mut guard = lock.lock($rt);
+        let old = $swap(&mut guard, 3);
+        let new = *guard;
         drop(guard);
-        assert_eq!($rt; lock.into_inner(), 3);
+        (old, new, lock.into_inner())
     }};
 }
 
 #[test]
 fn a_lock_has_what_was_written(rt: HostRuntime) {
-    has_what_was_written!(rt, SpinMutex, swap_in);
-    has_what_was_written!(rt, TicketMutex, swap_in_turn);
-    has_what_was_written!(rt, Mutex, swap_into);
+    let seen = [
+        written!(&rt, SpinMutex, swap_in),
+        written!(&rt, TicketMutex, swap_in_turn),
+        written!(&rt, Mutex, swap_into),
+    ];
+    assert_eq!(rt; seen, [(1, 3, 3); 3]);
 }
 
 /// A value that counts its ends.
@@ -67,32 +71,117 @@ impl Drop for Counted<'_> {
     }
 }
 
-macro_rules! ends_once {
-    ($rt:expr, $Lock:ident, $Guard:ident) => {{
-        let ends = Cell::new(0);
-        drop($Lock::<Counted>::new(Counted { ends: &ends }));
-        assert_eq!($rt; ends.get(), 1);
-        let lock: $Lock<Counted> = $Lock::new(Counted { ends: &ends });
-        let _ = $Guard::leak(lock.lock(&$rt));
-        drop(lock);
-        assert_eq!($rt; ends.get(), 2);
-        let lock: $Lock<Counted> = $Lock::new(Counted { ends: &ends });
-        drop($Guard::hold(lock.lock(&$rt)));
-        drop(lock);
-        assert_eq!($rt; ends.get(), 3);
-        let lock: $Lock<Counted> = $Lock::new(Counted { ends: &ends });
-        drop(lock.lock(&$rt));
-        let value = lock.into_inner();
-        assert_eq!($rt; ends.get(), 3);
-        drop(value);
-        assert_eq!($rt; ends.get(), 4);
-    }};
+/// A lock whose value ends in each way that there is, by the lock's own calls.
+trait Ends<T>: Drop + Sized {
+    fn new(value: T) -> Self;
+
+    /// Drops the lock of a leaked value.
+    fn drop_leaked<W: Wait>(self, rt: &W);
+
+    /// Drops the lock after a hold on it.
+    fn drop_held<W: Wait>(self, rt: &W);
+
+    /// The value, after a guard of it.
+    fn open<W: Wait>(self, rt: &W) -> T;
+}
+
+impl<T: Drop> Ends<T> for SpinMutex<T> {
+    fn new(value: T) -> Self {
+        SpinMutex::new(value)
+    }
+
+    fn drop_leaked<W: Wait>(self, rt: &W) {
+        let _ = SpinMutexGuard::leak(self.lock(rt));
+    }
+
+    fn drop_held<W: Wait>(self, rt: &W) {
+        drop(SpinMutexGuard::hold(self.lock(rt)));
+    }
+
+    fn open<W: Wait>(self, rt: &W) -> T {
+        drop(self.lock(rt));
+        self.into_inner()
+    }
+}
+
+impl<T: Drop> Ends<T> for TicketMutex<T> {
+    fn new(value: T) -> Self {
+        TicketMutex::new(value)
+    }
+
+    fn drop_leaked<W: Wait>(self, rt: &W) {
+        let _ = TicketMutexGuard::leak(self.lock(rt));
+    }
+
+    fn drop_held<W: Wait>(self, rt: &W) {
+        drop(TicketMutexGuard::hold(self.lock(rt)));
+    }
+
+    fn open<W: Wait>(self, rt: &W) -> T {
+        drop(self.lock(rt));
+        self.into_inner()
+    }
+}
+
+impl<T: Drop> Ends<T> for FairMutex<T> {
+    fn new(value: T) -> Self {
+        FairMutex::new(value)
+    }
+
+    fn drop_leaked<W: Wait>(self, rt: &W) {
+        let _ = FairMutexGuard::leak(self.lock(rt));
+    }
+
+    fn drop_held<W: Wait>(self, rt: &W) {
+        drop(FairMutexGuard::hold(self.lock(rt)));
+    }
+
+    fn open<W: Wait>(self, rt: &W) -> T {
+        drop(self.lock(rt));
+        self.into_inner()
+    }
+}
+
+impl<T: Drop> Ends<T> for Mutex<T> {
+    fn new(value: T) -> Self {
+        Mutex::new(value)
+    }
+
+    fn drop_leaked<W: Wait>(self, rt: &W) {
+        let _ = MutexGuard::leak(self.lock(rt));
+    }
+
+    fn drop_held<W: Wait>(self, rt: &W) {
+        drop(MutexGuard::hold(self.lock(rt)));
+    }
+
+    fn open<W: Wait>(self, rt: &W) -> T {
+        drop(self.lock(rt));
+        self.into_inner()
+    }
+}
+
+// How many values have ended: after a lock nobody took, a leak, a hold, a lock whose value is kept, and that value.
+fn end<'a, L: Ends<Counted<'a>>, W: Wait>(rt: &W, ends: &'a Cell<u32>) -> [u32; 5] {
+    drop(L::new(Counted { ends }));
+    let open = ends.get();
+    L::new(Counted { ends }).drop_leaked(rt);
+    let leaked = ends.get();
+    L::new(Counted { ends }).drop_held(rt);
+    let held = ends.get();
+    let value = L::new(Counted { ends }).open(rt);
+    let opened = ends.get();
+    drop(value);
+    [open, leaked, held, opened, ends.get()]
 }
 
 #[test]
 fn a_value_ends_once(rt: HostRuntime) {
-    ends_once!(rt, SpinMutex, SpinMutexGuard);
-    ends_once!(rt, TicketMutex, TicketMutexGuard);
-    ends_once!(rt, FairMutex, FairMutexGuard);
-    ends_once!(rt, Mutex, MutexGuard);
+    let seen = [
+        end::<SpinMutex<Counted>, _>(&rt, &Cell::new(0)),
+        end::<TicketMutex<Counted>, _>(&rt, &Cell::new(0)),
+        end::<FairMutex<Counted>, _>(&rt, &Cell::new(0)),
+        end::<Mutex<Counted>, _>(&rt, &Cell::new(0)),
+    ];
+    assert_eq!(rt; seen, [[1, 2, 3, 3, 4]; 4]);
 }
