@@ -1,5 +1,6 @@
 //! Where a value and an initialiser end.
 
+use crate::equal::equal;
 use spin_once::lazylock::LazyLock;
 use spin_once::once::Once;
 use std::cell::Cell;
@@ -22,22 +23,22 @@ fn a_value_is_dropped_once(rt: HostRuntime) {
     let once: Once<Counted> = Once::new();
     once.call_once(&rt, || Counted { ends: &ends });
     once.call_once(&rt, || Counted { ends: &ends });
-    assert_eq!(rt; ends.get(), 0);
+    equal(&rt, ends.get(), 0);
     drop(once);
-    assert_eq!(rt; ends.get(), 1);
+    equal(&rt, ends.get(), 1);
     drop(Once::<Counted>::new());
-    assert_eq!(rt; ends.get(), 1);
+    equal(&rt, ends.get(), 1);
     let value = Once::<Counted>::initialized(Counted { ends: &ends }).try_into_inner();
-    assert_eq!(rt; ends.get(), 1);
+    equal(&rt, ends.get(), 1);
     drop(value);
-    assert_eq!(rt; ends.get(), 2);
+    equal(&rt, ends.get(), 2);
     let mut once = Once::<Counted>::initialized(Counted { ends: &ends });
     if let Some(value) = once.get_mut() {
         *value = Counted { ends: &ends };
     }
-    assert_eq!(rt; ends.get(), 3);
+    equal(&rt, ends.get(), 3);
     drop(once);
-    assert_eq!(rt; ends.get(), 4);
+    equal(&rt, ends.get(), 4);
 }
 
 #[test]
@@ -49,19 +50,19 @@ fn an_initialiser_and_its_value_end_once(rt: HostRuntime) {
         1
     });
     drop(lazy);
-    assert_eq!(rt; ends.get(), 1);
+    equal(&rt, ends.get(), 1);
     let run = Counted { ends: &ends };
     let lazy: LazyLock<u64, _> = LazyLock::new(move || {
         drop(run);
         1
     });
     LazyLock::force(&lazy, &rt);
-    assert_eq!(rt; ends.get(), 2);
+    equal(&rt, ends.get(), 2);
     drop(lazy);
-    assert_eq!(rt; ends.get(), 2);
+    equal(&rt, ends.get(), 2);
     let lazy: LazyLock<Counted, _> = LazyLock::new(|| Counted { ends: &ends });
     LazyLock::force(&lazy, &rt);
-    assert_eq!(rt; ends.get(), 2);
+    equal(&rt, ends.get(), 2);
     drop(lazy);
-    assert_eq!(rt; ends.get(), 3);
+    equal(&rt, ends.get(), 3);
 }

@@ -2,6 +2,7 @@
 ghost use Rattle.std.specs.Prelude.{◌≡◌};
 ghost use Rattle.spin_once.specs.Lazy.{initialiser, promise};
 
+use crate::equal::equal;
 use spin_core::relax::{Loop, Spin};
 use spin_once::lazylock::{LazyLock, Promise};
 use std::cell::Cell;
@@ -14,10 +15,10 @@ fn it_runs_once(rt: HostRuntime) {
         runs.set(runs.get().wrapping_add(1));
         92
     });
-    assert_eq!(rt; runs.get(), 0);
-    assert_eq!(rt; *LazyLock::force(&lazy, &rt), 92);
-    assert_eq!(rt; *LazyLock::force(&lazy, &rt), 92);
-    assert_eq!(rt; runs.get(), 1);
+    equal(&rt, runs.get(), 0);
+    equal(&rt, *LazyLock::force(&lazy, &rt), 92);
+    equal(&rt, *LazyLock::force(&lazy, &rt), 92);
+    equal(&rt, runs.get(), 1);
 }
 
 /// The value is this number.
@@ -47,9 +48,9 @@ fn seen_twice<F: FnOnce() -> u64, W: Wait>(rt: &W, lazy: &LazyLock<u64, F, Spin,
 
 #[test]
 fn a_promise_is_kept(rt: HostRuntime) {
-    assert_eq!(rt; ninety_two(&rt), 92);
+    equal(&rt, ninety_two(&rt), 92);
     let lazy: LazyLock<u64, _, Spin, Is> = LazyLock::promising(Is(7), || 7);
-    assert_eq!(rt; seen_twice(&rt, &lazy), 7);
+    equal(&rt, seen_twice(&rt, &lazy), 7);
 }
 
 /// Forty-two, as its own type says.
@@ -69,5 +70,5 @@ fn forty_two<W: Wait>(rt: &W) -> u64
 
 #[test]
 fn a_value_is_what_its_type_says(rt: HostRuntime) {
-    assert_eq!(rt; forty_two(&rt), 42);
+    equal(&rt, forty_two(&rt), 42);
 }

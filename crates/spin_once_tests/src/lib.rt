@@ -4,6 +4,8 @@
 #[cfg(test)]
 mod ends;
 #[cfg(test)]
+mod equal;
+#[cfg(test)]
 mod lazylock;
 #[cfg(test)]
 mod once;

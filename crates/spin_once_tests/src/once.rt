@@ -1,5 +1,6 @@
 //! Which call runs its closure, and what it answers then.
 
+use crate::equal::equal;
 use spin_core::relax::Loop;
 use spin_once::once::Once;
 use std::cell::Cell;
@@ -22,60 +23,60 @@ fn a_closure_that_fails_leaves_the_next_one_its_turn(rt: HostRuntime) {
         count(&runs);
         Err(())
     });
-    assert_eq!(rt; failed, Err(()));
-    assert_eq!(rt; once.get(), None);
+    equal(&rt, failed.copied(), Err(()));
+    equal(&rt, once.get().copied(), None);
     let seven = once.call_once(&rt, || {
         count(&runs);
         7
     });
-    assert_eq!(rt; *seven, 7);
+    equal(&rt, *seven, 7);
     let seven = once.call_once(&rt, || {
         count(&runs);
         8
     });
-    assert_eq!(rt; *seven, 7);
+    equal(&rt, *seven, 7);
     let seven = once.try_call_once(&rt, || {
         count(&runs);
         Err(())
     });
-    assert_eq!(rt; seven, Ok(&7));
-    assert_eq!(rt; runs.get(), 2);
+    equal(&rt, seven.copied(), Ok(7));
+    equal(&rt, runs.get(), 2);
 }
 
 #[test]
 fn a_copy_of_a_value(rt: HostRuntime) {
     let once: Once<u64> = Once::new();
-    assert_eq!(rt; *once.init_from_ref(&rt, &1), 1);
-    assert_eq!(rt; *once.init_from_ref(&rt, &2), 1);
+    equal(&rt, *once.init_from_ref(&rt, &1), 1);
+    equal(&rt, *once.init_from_ref(&rt, &2), 1);
 }
 
 #[test]
 fn looks_before_and_after(rt: HostRuntime) {
     let once: Once<u64, Loop> = Once::new();
-    assert_eq!(rt; once.poll(&rt), None);
-    assert_eq!(rt; once.get(), None);
-    assert!(rt; !once.is_completed());
-    assert_eq!(rt; *once.call_once(&rt, || 3), 3);
-    assert_eq!(rt; once.poll(&rt), Some(&3));
-    assert_eq!(rt; once.get(), Some(&3));
-    assert_eq!(rt; *once.wait(&rt), 3);
-    assert!(rt; once.is_completed());
-    assert_eq!(rt; once.try_into_inner(), Some(3));
+    equal(&rt, once.poll(&rt).copied(), None);
+    equal(&rt, once.get().copied(), None);
+    equal(&rt, once.is_completed(), false);
+    equal(&rt, *once.call_once(&rt, || 3), 3);
+    equal(&rt, once.poll(&rt).copied(), Some(3));
+    equal(&rt, once.get().copied(), Some(3));
+    equal(&rt, *once.wait(&rt), 3);
+    equal(&rt, once.is_completed(), true);
+    equal(&rt, once.try_into_inner(), Some(3));
 }
 
 #[test]
 fn with_a_value_from_the_start_or_without(rt: HostRuntime) {
     let once: Once<u64> = Once::initialized(5);
-    assert!(rt; once.is_completed());
-    assert_eq!(rt; *once.call_once(&rt, || 6), 5);
-    assert_eq!(rt; once.try_into_inner(), Some(5));
+    equal(&rt, once.is_completed(), true);
+    equal(&rt, *once.call_once(&rt, || 6), 5);
+    equal(&rt, once.try_into_inner(), Some(5));
     let once: Once<u64> = Once::from(5);
-    assert_eq!(rt; *once.wait(&rt), 5);
+    equal(&rt, *once.wait(&rt), 5);
     let once: Once<u64> = Once::default();
-    assert_eq!(rt; once.try_into_inner(), None);
+    equal(&rt, once.try_into_inner(), None);
     let once: Once = Once::new();
     once.call_once(&rt, || ());
-    assert!(rt; once.is_completed());
+    equal(&rt, once.is_completed(), true);
 }
 
 // The owner of any `Once` may change its value, also of one that may not be dropped.
@@ -89,29 +90,29 @@ fn its_owner_changes_the_value(rt: HostRuntime) {
     if let Some(value) = lends(&mut once) {
         *value = 6;
     }
-    assert!(rt; once.is_completed());
-    assert_eq!(rt; once.try_into_inner(), Some(6));
+    equal(&rt, once.is_completed(), true);
+    equal(&rt, once.try_into_inner(), Some(6));
     let mut once: Once<u64> = Once::new();
-    assert!(rt; once.get_mut().is_none());
-    assert_eq!(rt; *once.call_once(&rt, || 7), 7);
+    equal(&rt, once.get_mut().is_none(), true);
+    equal(&rt, *once.call_once(&rt, || 7), 7);
     if let Some(value) = once.get_mut() {
         *value = 8;
     }
-    assert_eq!(rt; once.get(), Some(&8));
-    assert_eq!(rt; *once.call_once(&rt, || 9), 8);
-    assert_eq!(rt; once.poll(&rt), Some(&8));
-    assert_eq!(rt; *once.wait(&rt), 8);
-    assert_eq!(rt; once.try_into_inner(), Some(8));
+    equal(&rt, once.get().copied(), Some(8));
+    equal(&rt, *once.call_once(&rt, || 9), 8);
+    equal(&rt, once.poll(&rt).copied(), Some(8));
+    equal(&rt, *once.wait(&rt), 8);
+    equal(&rt, once.try_into_inner(), Some(8));
     let mut once: Once<u64> = Once::new();
-    assert!(rt; once.get_mut().is_none());
-    assert_eq!(rt; once.try_into_inner(), None);
+    equal(&rt, once.get_mut().is_none(), true);
+    equal(&rt, once.try_into_inner(), None);
 }
 
 #[test]
 fn a_closure_that_looks_at_its_own(rt: HostRuntime) {
     let once: Once<u64> = Once::new();
     let seen = *once.call_once(&rt, || if once.is_completed() { 1 } else { 2 });
-    assert_eq!(rt; seen, 2);
+    equal(&rt, seen, 2);
     let other: Once<u64> = Once::new();
-    assert_eq!(rt; made_from(&rt, &other, &once), 2);
+    equal(&rt, made_from(&rt, &other, &once), 2);
 }

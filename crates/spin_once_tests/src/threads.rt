@@ -1,5 +1,6 @@
 //! In several threads, and what may travel to them.
 
+use crate::equal::equal;
 use spin_core::relax::{RelaxStrategy, Spin, Yield};
 use spin_once::lazylock::LazyLock;
 use spin_once::once::Once;
@@ -60,11 +61,11 @@ fn ten_that_call_at_once_run_one_closure(rt: HostRuntime) -> Result<(), Fail> {
         10,
         &|index| { ask(&rt, &once, &runs, index as u64) },
     )?;
-    assert_eq!(rt; runs.load(SeqCst), 1);
+    equal(&rt, runs.load(SeqCst), 1);
     let value = once.get().copied();
-    assert!(rt; value.is_some());
+    equal(&rt, value.is_some(), true);
     for seen in &values {
-        assert_eq!(rt; Some(*seen), value);
+        equal(&rt, Some(*seen), value);
     }
     Ok(())
 }
@@ -104,9 +105,9 @@ fn a_poll_waits_while_a_closure_runs(rt: HostRuntime) {
         (early, once.poll(&rt).copied())
     };
     let (made, (early, polled)) = thread::join(&rt, run, poll);
-    assert_eq!(rt; made, 7);
-    assert_eq!(rt; early, None);
-    assert_eq!(rt; polled, Some(7));
+    equal(&rt, made, 7);
+    equal(&rt, early, None);
+    equal(&rt, polled, Some(7));
 }
 
 #[test]
@@ -120,9 +121,9 @@ fn ten_that_ask_at_once_run_it_once(rt: HostRuntime) -> Result<(), Fail> {
         5
     });
     let values = thread::map_indices(&rt, rt.alloc(), 10, &|_| *LazyLock::force(&lazy, &rt))?;
-    assert_eq!(rt; runs.load(SeqCst), 1);
+    equal(&rt, runs.load(SeqCst), 1);
     for seen in &values {
-        assert_eq!(rt; *seen, 5);
+        equal(&rt, *seen, 5);
     }
     Ok(())
 }

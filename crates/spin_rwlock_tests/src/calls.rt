@@ -1,5 +1,6 @@
 //! What no contract says: which call is granted, and what the counts tell.
 
+use crate::equal::equal;
 use spin_core::relax::Loop;
 use spin_rwlock::rwlock::{RwLock, RwLockReadGuard, RwLockUpgradableGuard, RwLockWriteGuard};
 use std::process::Abort;
@@ -7,8 +8,8 @@ use std::process::Abort;
 const WEAK_ATTEMPTS: u32 = 10_000_000;
 
 fn counts_are<R: Abort>(rt: &R, lock: &RwLock<u64>, readers: usize, writers: usize) {
-    assert_eq!(rt; lock.reader_count(), readers);
-    assert_eq!(rt; lock.writer_count(), writers);
+    equal(&rt, lock.reader_count(), readers);
+    equal(&rt, lock.writer_count(), writers);
 }
 
 #[test]
@@ -19,9 +20,9 @@ fn an_upgradable_reader_beside_a_reader(rt: HostRuntime) {
         .try_upgradeable_read(&rt)
         .expect(&rt, "beside a reader");
     counts_are(&rt, &lock, 2, 0);
-    assert!(rt; lock.try_read(&rt).is_none());
-    assert!(rt; lock.try_upgradeable_read(&rt).is_none());
-    assert!(rt; lock.try_write().is_none());
+    equal(&rt, lock.try_read(&rt).is_none(), true);
+    equal(&rt, lock.try_upgradeable_read(&rt).is_none(), true);
+    equal(&rt, lock.try_write().is_none(), true);
     let upgradable = upgradable
         .try_upgrade()
         .err()
@@ -38,7 +39,7 @@ fn an_upgradable_reader_beside_a_reader(rt: HostRuntime) {
 fn a_writer_goes_on_as_a_reader(rt: HostRuntime) {
     let lock: RwLock<u64> = RwLock::new(1);
     let writer = lock.write(&rt);
-    assert!(rt; lock.try_upgradeable_read(&rt).is_none());
+    equal(&rt, lock.try_upgradeable_read(&rt).is_none(), true);
     counts_are(&rt, &lock, 0, 1);
     let reader = writer.downgrade();
     counts_are(&rt, &lock, 1, 0);
@@ -50,8 +51,8 @@ fn a_writer_goes_on_as_a_reader(rt: HostRuntime) {
     counts_are(&rt, &lock, 1, 0);
     let other = lock.try_read(&rt).expect(&rt, "beside a reader");
     counts_are(&rt, &lock, 2, 0);
-    assert!(rt; lock.try_write().is_none());
-    assert_eq!(rt; (*reader, *other), (1, 1));
+    equal(&rt, lock.try_write().is_none(), true);
+    equal(&rt, (*reader, *other), (1, 1));
 }
 
 #[test]
@@ -61,14 +62,14 @@ fn held_readers_go_one_by_one(rt: HostRuntime) {
     let second = RwLockReadGuard::hold(lock.read(&rt));
     let third = RwLockReadGuard::hold(lock.read(&rt));
     counts_are(&rt, &lock, 3, 0);
-    assert!(rt; lock.try_write().is_none());
+    equal(&rt, lock.try_write().is_none(), true);
     RwLock::force_read_decrement(first);
     RwLock::force_read_decrement(second);
     counts_are(&rt, &lock, 1, 0);
-    assert!(rt; lock.try_write().is_none());
+    equal(&rt, lock.try_write().is_none(), true);
     RwLock::force_read_decrement(third);
     counts_are(&rt, &lock, 0, 0);
-    assert!(rt; lock.try_write().is_some());
+    equal(&rt, lock.try_write().is_some(), true);
 }
 
 #[test]
@@ -76,11 +77,11 @@ fn an_upgradable_reader_goes_on_as_a_reader(rt: HostRuntime) {
     let lock: RwLock<u64> = RwLock::new(1);
     let upgradable = lock.upgradeable_read(&rt);
     counts_are(&rt, &lock, 1, 0);
-    assert!(rt; lock.try_read(&rt).is_none());
+    equal(&rt, lock.try_read(&rt).is_none(), true);
     let reader = upgradable.downgrade();
     let other = lock.try_read(&rt).expect(&rt, "beside a reader");
     counts_are(&rt, &lock, 2, 0);
-    assert_eq!(rt; (*reader, *other), (1, 1));
+    equal(&rt, (*reader, *other), (1, 1));
 }
 
 #[test]
@@ -105,10 +106,10 @@ fn up_and_down_and_up_again(rt: HostRuntime) {
     *writer = 2;
     let upgradable = writer.downgrade_to_upgradeable();
     counts_are(&rt, &lock, 1, 0);
-    assert_eq!(rt; *upgradable, 2);
+    equal(&rt, *upgradable, 2);
     let writer = upgradable.upgrade(&rt);
     counts_are(&rt, &lock, 0, 1);
-    assert_eq!(rt; *writer, 2);
+    equal(&rt, *writer, 2);
 }
 
 #[test]
@@ -117,9 +118,9 @@ fn a_held_writer_lets_go_by_force(rt: HostRuntime) {
     let mut writer = lock.write(&rt);
     *writer = 58;
     let held = RwLockWriteGuard::hold(writer);
-    assert!(rt; lock.try_read(&rt).is_none());
+    equal(&rt, lock.try_read(&rt).is_none(), true);
     RwLock::force_write_unlock(held);
-    assert_eq!(rt; *lock.try_read(&rt).expect(&rt, "free"), 58);
+    equal(&rt, *lock.try_read(&rt).expect(&rt, "free"), 58);
 }
 
 #[test]
@@ -127,39 +128,43 @@ fn a_dropped_hold_frees_nothing(rt: HostRuntime) {
     let lock: RwLock<u64> = RwLock::new(1);
     drop(RwLockReadGuard::hold(lock.read(&rt)));
     counts_are(&rt, &lock, 1, 0);
-    assert!(rt; lock.try_write().is_none());
-    assert_eq!(rt; lock.into_inner(), 1);
+    equal(&rt, lock.try_write().is_none(), true);
+    equal(&rt, lock.into_inner(), 1);
 
     let lock: RwLock<u64> = RwLock::new(1);
     drop(RwLockWriteGuard::hold(lock.write(&rt)));
     counts_are(&rt, &lock, 0, 1);
-    assert!(rt; lock.try_read(&rt).is_none());
-    assert_eq!(rt; lock.into_inner(), 1);
+    equal(&rt, lock.try_read(&rt).is_none(), true);
+    equal(&rt, lock.into_inner(), 1);
 }
 
 #[test]
 fn a_leaked_reader_stays(rt: HostRuntime) {
     let mut lock: RwLock<u64> = RwLock::new(1);
     let value = RwLockReadGuard::leak(lock.read(&rt));
-    assert_eq!(rt; lock.reader_count(), 1);
-    assert!(rt; lock.try_read(&rt).is_some());
-    assert!(rt; lock.try_write().is_none());
-    assert_eq!(rt; *value, 1);
+    equal(&rt, lock.reader_count(), 1);
+    equal(&rt, lock.try_read(&rt).is_some(), true);
+    equal(&rt, lock.try_write().is_none(), true);
+    equal(&rt, *value, 1);
     *lock.get_mut() = 5;
-    assert_eq!(rt; lock.into_inner(), 5);
+    equal(&rt, lock.into_inner(), 5);
 }
 
 #[test]
 fn a_leaked_upgradable_reader_and_a_leaked_writer_stay(rt: HostRuntime) {
     let lock: RwLock<u64> = RwLock::new(1);
-    assert_eq!(rt; *RwLockUpgradableGuard::leak(lock.upgradeable_read(&rt)), 1);
-    assert!(rt; lock.try_read(&rt).is_none());
+    equal(
+        &rt,
+        *RwLockUpgradableGuard::leak(lock.upgradeable_read(&rt)),
+        1,
+    );
+    equal(&rt, lock.try_read(&rt).is_none(), true);
 
     let lock: RwLock<u64> = RwLock::new(1);
     let value = RwLockWriteGuard::leak(lock.write(&rt));
     *value = 7;
-    assert!(rt; lock.try_read(&rt).is_none());
-    assert_eq!(rt; lock.into_inner(), 7);
+    equal(&rt, lock.try_read(&rt).is_none(), true);
+    equal(&rt, lock.into_inner(), 7);
 }
 
 #[test]
@@ -176,11 +181,11 @@ fn a_weak_try_is_granted_in_the_end(rt: HostRuntime) {
     for _ in 0..WEAK_ATTEMPTS {
         match upgradable.try_upgrade_weak() {
             Ok(writer) => {
-                assert_eq!(rt; *writer, 0);
+                equal(&rt, *writer, 0);
                 return;
             }
             Err(still) => upgradable = still,
         }
     }
-    assert!(rt; false);
+    equal(&rt, false, true);
 }

@@ -4,6 +4,8 @@
 #[cfg(test)]
 mod calls;
 #[cfg(test)]
+mod equal;
+#[cfg(test)]
 mod texts;
 #[cfg(test)]
 mod threads;

@@ -1,5 +1,6 @@
 //! Locks and guards in several threads.
 
+use crate::equal::equal;
 use spin_core::relax::{Spin, Yield};
 use spin_rwlock::rwlock::{
     ReadHeld, RwLock, RwLockReadGuard, RwLockUpgradableGuard, RwLockWriteGuard, WriteHeld,
@@ -50,7 +51,7 @@ fn a_guard_may_end_in_another_thread(rt: HostRuntime) {
         *guard = 3;
     };
     thread::join(&rt, write, || ());
-    assert_eq!(rt; *lock.try_write().expect(&rt, "free"), 3);
+    equal(&rt, *lock.try_write().expect(&rt, "free"), 3);
 }
 
 #[test]
@@ -58,17 +59,17 @@ fn an_upgradable_guard_upgrades_in_another_thread(rt: HostRuntime) {
     let lock: RwLock<u64> = RwLock::new(1);
     let guard = lock.upgradeable_read(&rt);
     let (writer, ()) = thread::join(&rt, || guard.upgrade(&rt), || ());
-    assert_eq!(rt; lock.writer_count(), 1);
-    assert_eq!(rt; *writer.downgrade(), 1);
+    equal(&rt, lock.writer_count(), 1);
+    equal(&rt, *writer.downgrade(), 1);
 }
 
 #[test]
 fn guards_of_two_threads_read_one_lock(rt: HostRuntime) {
     let lock: RwLock<u64> = RwLock::new(1);
     let (first, second) = thread::join(&rt, || lock.read(&rt), || lock.read(&rt));
-    assert_eq!(rt; lock.reader_count(), 2);
-    assert!(rt; lock.try_write().is_none());
-    assert_eq!(rt; (*first, *second), (1, 1));
+    equal(&rt, lock.reader_count(), 2);
+    equal(&rt, lock.try_write().is_none(), true);
+    equal(&rt, (*first, *second), (1, 1));
 }
 
 // All additions are made under one guard, so a reader sees none of them or all.
@@ -117,8 +118,8 @@ fn a_writer_beside_five_readers(rt: HostRuntime) {
         first && second
     };
     let (first, second) = thread::join(&rt, write_and_read, read_in_four);
-    assert!(rt; first && second);
-    assert_eq!(rt; *lock.get_mut(), 10);
+    equal(&rt, first && second, true);
+    equal(&rt, *lock.get_mut(), 10);
 }
 
 /// A value that counts its ends.
@@ -137,19 +138,19 @@ impl Drop for Counted<'_> {
 fn a_value_is_dropped_once(rt: HostRuntime) {
     let ends = Cell::new(0);
     drop(RwLock::<Counted>::new(Counted { ends: &ends }));
-    assert_eq!(rt; ends.get(), 1);
+    equal(&rt, ends.get(), 1);
     let lock: RwLock<Counted> = RwLock::new(Counted { ends: &ends });
     let _ = RwLockWriteGuard::leak(lock.write(&rt));
     drop(lock);
-    assert_eq!(rt; ends.get(), 2);
+    equal(&rt, ends.get(), 2);
     let lock: RwLock<Counted> = RwLock::new(Counted { ends: &ends });
     drop(RwLockReadGuard::hold(lock.read(&rt)));
     drop(lock);
-    assert_eq!(rt; ends.get(), 3);
+    equal(&rt, ends.get(), 3);
     let lock: RwLock<Counted> = RwLock::new(Counted { ends: &ends });
     drop(lock.write(&rt));
     let value = lock.into_inner();
-    assert_eq!(rt; ends.get(), 3);
+    equal(&rt, ends.get(), 3);
     drop(value);
-    assert_eq!(rt; ends.get(), 4);
+    equal(&rt, ends.get(), 4);
 }

@@ -1,6 +1,7 @@
 //! Callers' proofs: what was seen under one guard is found under the next, and what was written is read back.
 ghost use Rattle.std.specs.Prelude.{◌≡◌};
 
+use crate::equal::equal;
 use spin_core::relax::{Loop, RelaxStrategy};
 use spin_rwlock::rwlock::{RwLock, RwLockReadGuard, RwLockUpgradableGuard, RwLockWriteGuard};
 use std::sync::Wait;
@@ -72,37 +73,42 @@ fn reads_back_once_it_leaks<R>(guard: RwLockWriteGuard<'_, u64, R>, value: u64) 
 #[test]
 fn a_leak_keeps_the_value(rt: HostRuntime) {
     let lock: RwLock<u64, Loop> = RwLock::from(3);
-    assert_eq!(rt; sees_the_same_once_it_leaks(lock.read(&rt)), (3, 3));
+    equal(&rt, sees_the_same_once_it_leaks(lock.read(&rt)), (3, 3));
     let lock: RwLock<u64, Loop> = RwLock::from(3);
-    assert_eq!(rt; reads_back_once_it_leaks(lock.write(&rt), 4), 4);
-    assert_eq!(rt; lock.into_inner(), 4);
+    equal(&rt, reads_back_once_it_leaks(lock.write(&rt), 4), 4);
+    equal(&rt, lock.into_inner(), 4);
 }
 
 #[test]
 fn conversions_keep_the_value(rt: HostRuntime) {
     let mut lock: RwLock<u64, Loop> = RwLock::from(3);
-    assert_eq!(rt;
+    equal(
+        &rt,
         sees_the_same_after_upgrade(&rt, lock.upgradeable_read(&rt)),
-        (3, 3)
+        (3, 3),
     );
-    assert_eq!(rt;
+    equal(
+        &rt,
         sees_the_same_after_a_try(lock.upgradeable_read(&rt)),
-        (3, 3)
+        (3, 3),
     );
     let reader = lock.read(&rt);
-    assert_eq!(rt;
+    equal(
+        &rt,
         sees_the_same_after_a_try(lock.upgradeable_read(&rt)),
-        (3, 3)
+        (3, 3),
     );
-    assert_eq!(rt;
+    equal(
+        &rt,
         sees_the_same_after_downgrade(lock.upgradeable_read(&rt)),
-        (3, 3)
+        (3, 3),
     );
     drop(reader);
-    assert_eq!(rt; reads_back_after_downgrade(lock.write(&rt), 4), 4);
-    assert_eq!(rt;
+    equal(&rt, reads_back_after_downgrade(lock.write(&rt), 4), 4);
+    equal(
+        &rt,
         reads_back_after_downgrade_to_upgradeable(lock.write(&rt), 5),
-        5
+        5,
     );
-    assert_eq!(rt; *lock.get_mut(), 5);
+    equal(&rt, *lock.get_mut(), 5);
 }
