@@ -74,9 +74,11 @@ fn each_tells(rt: &impl Abort, alloc: Global, step: usize, worked: &[Worked]) {
 }
 
 #[test]
-fn worked_texts(rt: HostRuntime) {
+fn worked_texts_whole_and_in_small_steps(rt: HostRuntime) {
     for worked in WORKED {
-        each_tells(&rt, rt.alloc(), usize::MAX, worked);
+        for step in [usize::MAX, 1, 2, 3, 4, 5, 6, 7, 8] {
+            each_tells(&rt, rt.alloc(), step, worked);
+        }
     }
 }
 
@@ -100,15 +102,6 @@ fn lines_outside_the_grammar(rt: HostRuntime) {
     }
     let answer = Err(RunError::BadLine(1));
     comes_to(&rt, rt.alloc(), b"flag 5 \xff\n", answer, b"");
-}
-
-#[test]
-fn reads_in_small_steps(rt: HostRuntime) {
-    for worked in WORKED {
-        for step in 1..9usize {
-            each_tells(&rt, rt.alloc(), step, worked);
-        }
-    }
 }
 
 #[test]
