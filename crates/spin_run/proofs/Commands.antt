@@ -1,16 +1,13 @@
 -- The words of a command, and how the program ends at each fault.
-use Rattle.std.proofs.Common.{◌≡◌, ℕ, ◌≤◌, Bool, true, false, not, Option, Result, Ok, Err, IfErr, List, [], ◌∷◌, length, get_or, arith, ap, sym, subst, inl, inr, refl, Bor, codes}
+use Rattle.std.proofs.Common.{◌≡◌, ℕ, ◌≤◌, Bool, true, false, not, Option, Result, Ok, Err, IfErr, List, [], ◌∷◌, length, get_or, arith, ap, inl, inr, Bor, codes}
 use Rattle.std.specs.Str.{bytes_eq}
 use Rattle.std.proofs.lemmas.Slice.Eq.{bytes_eq-Decides}
 use Rattle.spin_text.specs.Numbers.{IsNumber}
 use Rattle.spin_run.specs.Command.{AsksCount, AsksWorld, AsksNothing, Tells, texts_of, usage_line}
-use Rattle.spin_run.specs.Faults.{Stops, status_of}
-use Rattle.spin_text.specs.declared.text.RunError.{RunError}
-use Rattle.spin_text.specs.declared.text.RunError.TheVariants as errors
-use Rattle.spin_text.specs.Texts.{Streams, Stops as WorldStops}
+use Rattle.spin_text.specs.Texts.{Streams}
 use Rattle.spin_run.specs.declared.run.faults.Fault.{Fault}
 use Rattle.spin_run.specs.declared.run.faults.Fault.TheVariants.{Usage, Refused, Memory, Read, BadLine, Write}
-use Rattle.spin_run.specs.Faults.{Stops, StopsCount, fault_of, status_of, line_of}
+use Rattle.spin_run.specs.Faults.{Stops, StopsCount, status_of, line_of}
 
 -- two texts are one where a test says that they do not differ
 is_text : (xs ys : List ℕ) (other : Bool) → other ≡ not (bytes_eq xs ys) → other ≡ false → xs ≡ ys
@@ -31,27 +28,7 @@ asks_world [] d one same = absurd (omega (arith, one))
 asks_world (a ∷ []) d one same = ap (λ w. w ∷ []) ((bytes_eq-Decides a.now (codes "world")).0 same)
 asks_world (a ∷ b ∷ words) d one same = absurd (omega (arith, one))
 
-pub one_word : (words : List (Bor (List ℕ))) → AsksWorld (texts_of words) → length words ≡ 1
-one_word [] asks = absurd (cc)
-one_word (a ∷ []) asks = refl
-one_word (a ∷ b ∷ words) asks = absurd (cc)
-
-pub that_word : (words : List (Bor (List ℕ))) (d : Bor (List ℕ)) → AsksWorld (texts_of words) → bytes_eq (get_or words 0 d).now (codes "world") ≡ true
-that_word [] d asks = absurd (cc)
-that_word (a ∷ []) d asks = let same : a.now ≡ codes "world" = cc in (bytes_eq-Decides a.now (codes "world")).1 same
-that_word (a ∷ b ∷ words) d asks = absurd (cc)
-
--- a world's error is a fault of the program
-by_error : (words : List (List ℕ)) (Unread Unwritten : Type 0) (t : Streams) (e : RunError) → AsksWorld words → WorldStops t Unwritten e → Stops words Unread Unwritten t (fault_of e)
-by_error words Unread Unwritten t errors.Read asks stops = (asks, stops)
-by_error words Unread Unwritten t errors.Memory asks stops = (inr asks, stops)
-by_error words Unread Unwritten t (errors.BadLine n) asks stops = (asks, stops)
-by_error words Unread Unwritten t errors.Write asks stops = inr (asks, stops)
-
-pub world_stops : (words : List (List ℕ)) (Unread Unwritten : Type 0) (t : Streams) (e : RunError) (f : Fault) → f ≡ fault_of e → AsksWorld words → WorldStops t Unwritten e → Stops words Unread Unwritten t f
-world_stops words Unread Unwritten t e f is asks stops = let P : Fault → Type 0 = Stops words Unread Unwritten t in subst P (sym is) (by_error words Unread Unwritten t e asks stops)
-
--- so is a count's
+-- a count's fault is a fault of the program
 pub count_stops : (words : List (List ℕ)) (workers times : ℕ) (Unread Unwritten : Type 0) (t : Streams) (r : Result (Unit {0}) Fault) → AsksCount words workers times → Unread
     → IfErr r (StopsCount workers times Unwritten t.sink_failed t.written t.written_after) → IfErr r (Stops words Unread Unwritten t)
 count_stops words workers times Unread Unwritten t (Ok x) asks unread stops = tt
@@ -72,12 +49,3 @@ told_usage words Unread Unwritten t failed old new Read status stops is told non
 told_usage words Unread Unwritten t failed old new (BadLine n) status stops is told none = absurd (none.1 stops.0)
 told_usage words Unread Unwritten t failed old new Write status stops is told none =
     absurd (elim stops [ inl count ↦ none.0 count.2.0 count.2.1 count.2.2 | inr world ↦ none.1 world.0 ])
-
--- only a usage line and a bad line have the status 2, and then nothing was written
-pub unwritten_at_two : (words : List (List ℕ)) (Unread Unwritten : Type 0) (t : Streams) (f : Fault) (status : ℕ) → Stops words Unread Unwritten t f → status ≡ status_of f → status ≡ 2 → Unwritten
-unwritten_at_two words Unread Unwritten t Usage status stops is two = stops.2
-unwritten_at_two words Unread Unwritten t Refused status stops is two = absurd (omega (arith, is, two))
-unwritten_at_two words Unread Unwritten t Memory status stops is two = absurd (omega (arith, is, two))
-unwritten_at_two words Unread Unwritten t Read status stops is two = absurd (omega (arith, is, two))
-unwritten_at_two words Unread Unwritten t (BadLine n) status stops is two = stops.1.1
-unwritten_at_two words Unread Unwritten t Write status stops is two = absurd (omega (arith, is, two))

@@ -173,6 +173,7 @@ impl<O: Object> Table<O> {
         }
     }
 
+    /// Begins a call, if the object lets a party that holds `holds` make it.
     fn begin_beside(
         &mut self,
         object: &O,
@@ -319,6 +320,7 @@ impl<O: Object> Table<O> {
         self.owner_writes(to)
     }
 
+    /// Gives back what every party holds, and writes the value, where one is there.
     fn owner_writes(&mut self, to: O::Value) -> Outcome<O::Answer, O::Value>
         ensures { record { outcome = result; next = self.new } ≡ owner_writes self.old to self.old.value }
     {

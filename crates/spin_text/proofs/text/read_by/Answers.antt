@@ -1,4 +1,4 @@
-use Rattle.std.proofs.Common.{rules, rules, ℕ, List, refl, ◌∙◌, sym, subst, arith}
+use Rattle.std.proofs.Common.{rules, ℕ, List, refl, ◌∙◌, sym, subst, arith}
 use Rattle.std.specs.Io.KnownBytes.{Consumes}
 use Rattle.spin_text.proofs.Consumed.{Consumes-none, Consumes-append, Consumes-last}
 use Rattle.spin_text.proofs.text.read_by.Goals as goal

@@ -1,10 +1,7 @@
-use Rattle.std.proofs.Common.{◌≡◌, ℕ, ◌+◌, ◌<◌, ◌≤◌, rules, ap, ◌∙◌, arith}
+use Rattle.std.proofs.Common.{◌≡◌, ℕ, ◌+◌, ◌<◌, ◌≤◌, rules, ap, ◌∙◌, arith, le_of_lt}
 use borrow.Author.Count.{falls}
 use Rattle.spin_world_core.proofs.Playing.{forgotten, played_next, played_all, can_next}
 use Rattle.spin_world_core.proofs.world.play.Goals as goal
-
-within : (i n : ℕ) → i < n → i ≤ n
-within i n lt = omega arith
 
 room_left : (len i n capacity : ℕ) → len ≡ i → n ≤ capacity → i < n → len < capacity
 room_left len i n capacity is room lt = omega arith
@@ -44,7 +41,7 @@ pub returns-clause-events : goal.returns-clause-events
 returns-clause-events g c = (played_all (g.O.Object.machine c.args.object.now) c.args.table.now c.loop-place.table c.loop-place.begins c.loop-place.events.items c.args.schedule.now c.loop-place.place c.loop-place.invariant.0 c.loop-place-test.false).with_begins_so
 
 pub offset_bounds-schedule-place : goal.offset_bounds-schedule-place
-offset_bounds-schedule-place g c = within _ _ c.loop-place-test.true
+offset_bounds-schedule-place g c = le_of_lt c.loop-place-test.true
 
 pub bounds-schedule-place : goal.bounds-schedule-place
 bounds-schedule-place g c = c.loop-place-test.true
