@@ -9,13 +9,21 @@ use std::thread;
 
 const MOST_LOOKS: u32 = 10_000_000;
 
-// Whether somebody holds the lock, and whether somebody starves for it.
-fn seen<R>(lock: &FairMutex<u64, R>) -> (bool, bool) {
-    let starved = matches!(lock.try_lock_starver(), Err(LockRejectReason::Starved));
-    (lock.is_locked(), starved)
-}
+// Whether somebody holds the lock, and why a newcomer who may starve is refused.
+type Seen = (bool, Option<LockRejectReason>);
 
-type Seen = (bool, bool);
+const OPEN: Seen = (false, None);
+
+const HELD: Seen = (true, Some(LockRejectReason::Locked));
+
+const STARVED: Seen = (false, Some(LockRejectReason::Starved));
+
+const HELD_AND_STARVED: Seen = (true, Some(LockRejectReason::Starved));
+
+fn seen<R>(lock: &FairMutex<u64, R>) -> Seen {
+    let refused = lock.try_lock_starver().err();
+    (lock.is_locked(), refused)
+}
 
 // A starver that came while somebody held the lock, which is free again. What was seen before it came, whether a newcomer
 // was refused then, and what was seen beside it.
@@ -69,12 +77,9 @@ fn enter_in_the_end<R: RelaxStrategy>(
 fn a_starver_comes_before_newcomers(rt: HostRuntime) {
     let lock: FairMutex<u64> = FairMutex::new(42);
     let (before, refused, beside, starvation) = starve_beside_a_guard(&rt, &lock);
-    assert_eq!(rt;
-        (before, refused, beside),
-        ((true, false), true, (true, true))
-    );
+    assert_eq!(rt; (before, refused, beside), (HELD, true, HELD_AND_STARVED));
     let entered = enter(&rt, &lock, starvation);
-    assert_eq!(rt; entered, ((false, true), true, (true, false), 42));
+    assert_eq!(rt; entered, (STARVED, true, HELD, 42));
 }
 
 #[test]
@@ -84,37 +89,21 @@ fn each_call_of_a_starver_enters(rt: HostRuntime) {
     let alone = enter_alone(&rt, &lock, starvation);
     let starvation = lock.starve(&rt).expect(&rt, "below the cap");
     let in_the_end = enter_in_the_end(&rt, &lock, starvation);
-    assert_eq!(rt;
-        (alone, in_the_end),
-        ((true, false), ((true, false), (false, false)))
-    );
-}
-
-// Whether somebody holds the lock, and the answer to a newcomer who may starve.
-fn answer(lock: &FairMutex<u64>) -> (bool, &'static str) {
-    let answer = match lock.try_lock_starver() {
-        Ok(_) => "open",
-        Err(LockRejectReason::Locked) => "locked",
-        Err(LockRejectReason::Starved) => "starved",
-    };
-    (lock.is_locked(), answer)
+    assert_eq!(rt; (alone, in_the_end), (HELD, (HELD, OPEN)));
 }
 
 #[test]
 fn a_refusal_says_why(rt: HostRuntime) {
     let lock: FairMutex<u64> = FairMutex::new(42);
     let guard = lock.lock(&rt);
-    let held = answer(&lock);
+    let held = seen(&lock);
     let starvation = lock.starve(&rt).expect(&rt, "below the cap");
-    let both = answer(&lock);
+    let both = seen(&lock);
     drop(guard);
-    let starved = answer(&lock);
+    let starved = seen(&lock);
     drop(starvation);
-    assert_eq!(rt; (held, both), ((true, "locked"), (true, "starved")));
-    assert_eq!(rt;
-        (starved, answer(&lock)),
-        ((false, "starved"), (false, "open"))
-    );
+    assert_eq!(rt; (held, both), (HELD, HELD_AND_STARVED));
+    assert_eq!(rt; (starved, seen(&lock)), (STARVED, OPEN));
 }
 
 // A starver that was refused beside another, and then beside a guard of the other's; what is seen at first, after the
@@ -145,23 +134,20 @@ fn a_refused_starver_stays_registered(rt: HostRuntime) {
     let (refused, first) = be_refused(&rt, &lock, first, second);
     assert_eq!(rt;
         refused,
-        [(false, true), (false, true), (true, true), (true, true)]
+        [STARVED, STARVED, HELD_AND_STARVED, HELD_AND_STARVED]
     );
-    assert_eq!(rt;
-        enter_in_the_end(&rt, &lock, first),
-        ((true, false), (false, false))
-    );
+    assert_eq!(rt; enter_in_the_end(&rt, &lock, first), (HELD, OPEN));
 }
 
 #[test]
 fn a_forgotten_starver_keeps_newcomers_away(rt: HostRuntime) {
     let lock: FairMutex<u64> = FairMutex::new(42);
     forget(lock.starve(&rt));
-    assert_eq!(rt; seen(&lock), (false, true));
+    assert_eq!(rt; seen(&lock), STARVED);
     assert!(rt; lock.try_lock().is_none());
     let starvation = lock.starve(&rt).expect(&rt, "below the cap");
     assert!(rt; starvation.try_lock().is_ok());
-    assert_eq!(rt; seen(&lock), (false, true));
+    assert_eq!(rt; seen(&lock), STARVED);
     assert_eq!(rt; lock.into_inner(), 42);
 }
 
@@ -192,6 +178,6 @@ fn a_waiting_lock_comes_to_starve(rt: HostRuntime) {
     };
     let (_, starved) = thread::join(host, waits, release);
     assert!(rt; starved);
-    assert_eq!(rt; seen(&lock), (false, false));
+    assert_eq!(rt; seen(&lock), OPEN);
     assert_eq!(rt; lock.into_inner(), 2);
 }

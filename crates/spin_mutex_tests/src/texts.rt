@@ -4,6 +4,7 @@ use spin_mutex::mutex::{FairMutex, Mutex, SpinMutex, TicketMutex};
 use std::fmt;
 use std::fmt::{Debug, Display, Write};
 use std::process::Abort;
+use std::sync::Wait;
 use std::test::Fail;
 
 const LOCKED: &str = "Mutex { <locked> }";
@@ -74,22 +75,24 @@ fn a_fair_lock_shows_its_value_or_that_it_is_not_to_be_had(rt: HostRuntime) -> R
     Ok(())
 }
 
+fn guard_prints_as_its_value<'a, L: Lock<'a, &'static str>>(
+    rt: &(impl Abort + AllocGlobal + Wait),
+    lock: &'a L,
+) -> Result<(), Fail>
+where
+    L::Guard: Debug + Display,
+{
+    let guard = lock.lock(rt);
+    debug_is(rt, &guard, "\"a\"")?;
+    display_is(rt, &guard, "a")
+}
+
 #[test]
 fn a_guard_prints_as_its_value(rt: HostRuntime) -> Result<(), Fail> {
-    let spin: SpinMutex<&str> = SpinMutex::new("a");
-    let guard = spin.try_lock().expect(&rt, "open");
-    debug_is(&rt, &guard, "\"a\"")?;
-    display_is(&rt, &guard, "a")?;
-
-    let ticket: TicketMutex<&str> = TicketMutex::new("a");
-    let guard = ticket.try_lock().expect(&rt, "open");
-    debug_is(&rt, &guard, "\"a\"")?;
-    display_is(&rt, &guard, "a")?;
-
-    let mutex: Mutex<&str> = Mutex::new("a");
-    let guard = mutex.try_lock().expect(&rt, "open");
-    debug_is(&rt, &guard, "\"a\"")?;
-    display_is(&rt, &guard, "a")
+    guard_prints_as_its_value(&rt, &SpinMutex::<&str>::new("a"))?;
+    guard_prints_as_its_value(&rt, &TicketMutex::<&str>::new("a"))?;
+    guard_prints_as_its_value(&rt, &FairMutex::<&str>::new("a"))?;
+    guard_prints_as_its_value(&rt, &Mutex::<&str>::new("a"))
 }
 
 #[test]

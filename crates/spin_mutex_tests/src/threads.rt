@@ -17,7 +17,8 @@ impl RelaxStrategy for Patient {
     }
 }
 
-/// A sum under a lock.
+/// A sum under a lock. It stands beside `Lock`, since closures of threads may not take what is lent for a lifetime that a
+/// function names: the prover does not cover `join` of them yet.
 trait Sum {
     /// Adds 1, in a hold of the lock.
     fn add<R: Wait>(&self, rt: &R);
