@@ -1,6 +1,6 @@
 ghost use Rattle.std.specs.Prelude.{◌≡◌, true};
 ghost use Rattle.spin_world_core.specs.Acts.{stays, step_by, can_by};
-ghost use Rattle.spin_world_barrier.specs.Barrier.{act_of};
+ghost use Rattle.spin_world_barrier.specs.Barrier.{act_of, barrier_machine};
 
 use spin_step::barrier;
 use spin_step::barrier::State;
@@ -73,11 +73,7 @@ impl Object for BarrierObject {
 
     type Answer = Answer<u64>;
 
-    ghost use Rattle.spin_world_barrier.specs.Barrier.{barrier_machine};
-
     ghost machine = { λ b. barrier_machine b.n };
-
-    fn laws() {}
 
     fn opening_words(&self) -> BarrierWords {
         BarrierWords {
@@ -154,4 +150,6 @@ impl Object for BarrierObject {
             }
         }
     }
+
+    fn laws() {}
 }

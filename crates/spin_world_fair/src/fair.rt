@@ -3,7 +3,7 @@ ghost use Rattle.spin_world_core.specs.declared.object.Next.TheVariants.{GoesOn,
 ghost use Rattle.spin_world_core.specs.declared.answer.Answer.TheVariants.{Done};
 ghost use Rattle.spin_world_fair.specs.declared.fair.FairPoint.TheVariants.{Attempt, Register, SetFlag, Await};
 ghost use Rattle.spin_world_core.specs.Acts.{either, stays, becomes, retried, step_by, can_by};
-ghost use Rattle.spin_world_fair.specs.Fair.{lock, starve, is_set, granted, rejects, looks_on, finds_no_room, registered, finds_flag_set, act_of_first, act_of};
+ghost use Rattle.spin_world_fair.specs.Fair.{lock, starve, is_set, granted, rejects, looks_on, finds_no_room, registered, finds_flag_set, act_of_first, act_of, fair_machine};
 
 use spin_step::fair;
 use spin_step::fair::LockRejectReason;
@@ -256,11 +256,7 @@ impl<V: Copy> Object for Fair<V> {
 
     type Answer = Answer<V>;
 
-    ghost use Rattle.spin_world_fair.specs.Fair.{fair_machine};
-
     ghost machine = { λ f. fair_machine f.value f.cap f.patience };
-
-    fn laws() {}
 
     fn opening_words(&self) -> usize {
         0
@@ -338,4 +334,6 @@ impl<V: Copy> Object for Fair<V> {
             FairPoint::Unregister => stay(fair::unstarve(words), grant()),
         }
     }
+
+    fn laws() {}
 }

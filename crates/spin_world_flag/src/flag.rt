@@ -1,7 +1,7 @@
 ghost use Rattle.std.specs.Prelude.{◌≡◌, true};
 ghost use Rattle.spin_step.specs.Steps.{bit};
 ghost use Rattle.spin_world_core.specs.Acts.{becomes, stays, step_by, can_by};
-ghost use Rattle.spin_world_flag.specs.Flag.{lock, granted, act_of};
+ghost use Rattle.spin_world_flag.specs.Flag.{lock, granted, act_of, flag_machine};
 
 use spin_step::flag;
 use spin_world_core::{Answer, Hold, Next, Object, Stepped};
@@ -88,11 +88,7 @@ impl<V: Copy> Object for Flag<V> {
 
     type Answer = Answer<V>;
 
-    ghost use Rattle.spin_world_flag.specs.Flag.{flag_machine};
-
     ghost machine = { λ f. flag_machine f.value };
-
-    fn laws() {}
 
     fn opening_words(&self) -> bool {
         false
@@ -159,4 +155,6 @@ impl<V: Copy> Object for Flag<V> {
             }
         }
     }
+
+    fn laws() {}
 }

@@ -1,6 +1,6 @@
 ghost use Rattle.std.specs.Prelude.{◌≡◌, Some, None, true};
 ghost use Rattle.spin_world_core.specs.Acts.{stays, either, step_by, can_by, completes_by, filled, step_with};
-ghost use Rattle.spin_world_once.specs.Once.{is_there, tells, runs, ends, brings_of, act_of};
+ghost use Rattle.spin_world_once.specs.Once.{is_there, tells, runs, ends, brings_of, act_of, once_machine};
 
 use spin_step::once;
 use spin_world_core::{Answer, Hold, Next, Object, Stepped};
@@ -158,11 +158,7 @@ impl<V: Copy> Object for OnceObject<V> {
 
     type Answer = Answer<V>;
 
-    ghost use Rattle.spin_world_once.specs.Once.{once_machine};
-
     ghost machine = { λ o. once_machine o.value };
-
-    fn laws() {}
 
     fn opening_words(&self) -> u8 {
         match self.value {
@@ -232,4 +228,6 @@ impl<V: Copy> Object for OnceObject<V> {
             OnceCall::IsCompleted => stay(words, Next::Answers(Answer::Is(words == 2), holds)),
         }
     }
+
+    fn laws() {}
 }

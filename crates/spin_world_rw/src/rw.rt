@@ -2,7 +2,7 @@ ghost use Rattle.std.specs.Prelude.{◌≡◌, ◌≤◌, ◌==◌, true};
 ghost use Rattle.spin_world_core.specs.Acts.{becomes, stays, step_by, can_by};
 ghost use Rattle.spin_world_core.specs.declared.object.Next.TheVariants.{Answers};
 ghost use Rattle.spin_world_core.specs.declared.answer.Answer.TheVariants.{Done};
-ghost use Rattle.spin_world_rw.specs.Rw.{granted, comes_at, act_of};
+ghost use Rattle.spin_world_rw.specs.Rw.{granted, comes_at, act_of, rw_machine};
 
 use spin_step::rw;
 use spin_world_core::{Answer, Hold, Next, Object, Stepped};
@@ -132,11 +132,7 @@ impl<V: Copy> Object for Rw<V> {
 
     type Answer = Answer<V>;
 
-    ghost use Rattle.spin_world_rw.specs.Rw.{rw_machine};
-
     ghost machine = { λ r. rw_machine r.value r.cap };
-
-    fn laws() {}
 
     fn opening_words(&self) -> usize {
         0
@@ -257,4 +253,6 @@ impl<V: Copy> Object for Rw<V> {
             ),
         }
     }
+
+    fn laws() {}
 }

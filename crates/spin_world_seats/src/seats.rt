@@ -1,6 +1,6 @@
 ghost use Rattle.std.specs.Prelude.{◌≡◌, true};
 ghost use Rattle.spin_world_core.specs.Acts.{becomes, stays, step_by, can_by};
-ghost use Rattle.spin_world_seats.specs.Seats.{granted, comes_at, act_of};
+ghost use Rattle.spin_world_seats.specs.Seats.{granted, comes_at, act_of, seats_machine};
 
 use spin_seats::steps;
 use spin_world_core::{Answer, Hold, Next, Object, Stepped};
@@ -84,11 +84,7 @@ impl Object for Seats {
 
     type Answer = Answer<()>;
 
-    ghost use Rattle.spin_world_seats.specs.Seats.{seats_machine};
-
     ghost machine = { λ s. seats_machine s.seats };
-
-    fn laws() {}
 
     fn opening_words(&self) -> usize {
         0
@@ -140,4 +136,6 @@ impl Object for Seats {
             SeatsCall::Leave => stay(steps::leave(words), Next::Answers(Answer::Done, None)),
         }
     }
+
+    fn laws() {}
 }

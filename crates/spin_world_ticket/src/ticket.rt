@@ -3,7 +3,7 @@ ghost use Rattle.spin_world_core.specs.declared.object.Next.TheVariants.{GoesOn,
 ghost use Rattle.spin_world_core.specs.declared.answer.Answer.TheVariants.{Refused};
 ghost use Rattle.spin_world_ticket.specs.declared.ticket.TicketPoint.TheVariants.{LoadNext, Take, Await, TryTake};
 ghost use Rattle.spin_world_core.specs.Acts.{either, stays, becomes, step_by, can_by};
-ghost use Rattle.spin_world_ticket.specs.Ticket.{is_left, take_at, granted, act_of};
+ghost use Rattle.spin_world_ticket.specs.Ticket.{is_left, take_at, granted, act_of, ticket_machine};
 
 use spin_step::ticket;
 use spin_world_core::{Answer, Hold, Next, Object, Stepped};
@@ -157,11 +157,7 @@ impl<V: Copy> Object for Ticket<V> {
 
     type Answer = Answer<V>;
 
-    ghost use Rattle.spin_world_ticket.specs.Ticket.{ticket_machine};
-
     ghost machine = { λ t. ticket_machine t.value t.first };
-
-    fn laws() {}
 
     fn opening_words(&self) -> TicketWords {
         TicketWords {
@@ -250,4 +246,6 @@ impl<V: Copy> Object for Ticket<V> {
             },
         }
     }
+
+    fn laws() {}
 }
