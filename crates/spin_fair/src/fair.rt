@@ -33,7 +33,7 @@ pub struct FairMutex<T, R = Spin> {
     strategy: Strategy<R>,
 }
 
-/// Access to the value of a `FairMutex`. Dropping it lets go of the lock.
+/// Access to the value of a `FairMutex`. Dropping it lets go of the lock, and leaves who starves registered.
 pub type FairMutexGuard<'a, T, R = Spin> = Guard<'a, T, View, FairRule, R>;
 
 /// A hold on a `FairMutex` that lends no value. Only `force_unlock` spends it: dropping it frees nothing.
@@ -49,6 +49,13 @@ impl<T, R> FairMutex<T, R> {
             cell,
             strategy: Strategy::named(),
         }
+    }
+
+    /// The last value, whatever the word is: leaked holds and forgotten starvers count no more.
+    ///
+    /// Example: `the_owner_has_the_last_value_and_takes_no_lock`, `crates/spin_mutex_tests/src/calls.rt`.
+    pub fn into_inner(self) -> T {
+        self.cell.into_inner()
     }
 }
 
@@ -136,13 +143,6 @@ impl<T, R> FairMutex<T, R> {
     /// Lets go of the lock that a guard was held on.
     pub fn force_unlock(held: Held<'_, T, R>) {
         held.release();
-    }
-
-    /// The last value, whatever the word is.
-    ///
-    /// Example: `the_owner_has_the_last_value_and_takes_no_lock`, `crates/spin_mutex_tests/src/calls.rt`.
-    pub fn into_inner(self) -> T {
-        self.cell.into_inner()
     }
 
     /// The value, whatever the word is: nobody else has the lock.

@@ -44,6 +44,13 @@ impl<T, R> SpinMutex<T, R> {
             strategy: Strategy::named(),
         }
     }
+
+    /// The last value, whatever the flag is.
+    ///
+    /// Example: `the_owner_has_the_last_value_and_takes_no_lock`, `crates/spin_mutex_tests/src/calls.rt`.
+    pub fn into_inner(self) -> T {
+        self.cell.into_inner()
+    }
 }
 
 impl<T, R: RelaxStrategy> SpinMutex<T, R> {
@@ -102,27 +109,11 @@ impl<T, R> SpinMutex<T, R> {
         held.release();
     }
 
-    /// The last value, whatever the flag is.
-    ///
-    /// Example: `the_owner_has_the_last_value_and_takes_no_lock`, `crates/spin_mutex_tests/src/calls.rt`.
-    pub fn into_inner(self) -> T {
-        self.cell.into_inner()
-    }
-
     /// The value, whatever the flag is: nobody else has the lock.
     ///
     /// Example: `the_owner_has_the_last_value_and_takes_no_lock`, `crates/spin_mutex_tests/src/calls.rt`.
     pub fn get_mut(&mut self) -> &mut T {
         self.cell.get_mut()
-    }
-}
-
-/// One attempt to take the lock, which it then holds while it writes. Where that is refused it writes `<locked>`.
-impl<T: Debug, R> Debug for SpinMutex<T, R> {
-    fn fmt<W: fmt::Write>(&self, f: &mut Formatter<W>) -> fmt::Result
-        ensures { (found : Option T) × DisplaysOnOk W.write_str_gives f.old result (lock_text T.debug_output found) f.new }
-    {
-        write_lock(self.try_lock().as_ref().map(|guard| &**guard), f)
     }
 }
 
@@ -137,5 +128,14 @@ impl<T: Default, R> Default for SpinMutex<T, R> {
 impl<T, R> From<T> for SpinMutex<T, R> {
     fn from(value: T) -> Self {
         Self::new(value)
+    }
+}
+
+/// One attempt to take the lock, which it then holds while it writes. Where that is refused it writes `<locked>`.
+impl<T: Debug, R> Debug for SpinMutex<T, R> {
+    fn fmt<W: fmt::Write>(&self, f: &mut Formatter<W>) -> fmt::Result
+        ensures { (found : Option T) × DisplaysOnOk W.write_str_gives f.old result (lock_text T.debug_output found) f.new }
+    {
+        write_lock(self.try_lock().as_ref().map(|guard| &**guard), f)
     }
 }

@@ -52,6 +52,13 @@ impl<T, R> TicketMutex<T, R> {
         }
     }
 
+    /// The last value, whatever the words are.
+    ///
+    /// Example: `the_owner_has_the_last_value_and_takes_no_lock`, `crates/spin_mutex_tests/src/calls.rt`.
+    pub fn into_inner(self) -> T {
+        self.cell.into_inner()
+    }
+
     /// Takes a ticket, and relaxes until its number is served. Once tickets are used up it waits for ever. Nothing is
     /// promised about when it returns.
     ///
@@ -101,13 +108,6 @@ impl<T, R> TicketMutex<T, R> {
     /// Lets go of the lock that a guard was held on: serves the number after its ticket.
     pub fn force_unlock(held: Held<'_, T, R>) {
         held.release();
-    }
-
-    /// The last value, whatever the words are.
-    ///
-    /// Example: `the_owner_has_the_last_value_and_takes_no_lock`, `crates/spin_mutex_tests/src/calls.rt`.
-    pub fn into_inner(self) -> T {
-        self.cell.into_inner()
     }
 
     /// The value, whatever the words are: nobody else has the lock.
