@@ -1,5 +1,6 @@
 //! The locks are as strict as a `&mut` to their value, whatever the strategy is. These tests show the "if"; the edits
-//! of the crates show that a wider `Send` or `Sync` cannot be used.
+//! of the crates show that a wider `Send` or `Sync` cannot be used, but for the `Sync` of a `Held`, which is stricter than
+//! it has to be.
 use spin_core::relax::Spin;
 use spin_mutex::mutex;
 use spin_mutex::mutex::{
