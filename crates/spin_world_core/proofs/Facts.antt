@@ -1,6 +1,6 @@
 -- What an object shows of itself: local facts, without a word of schedules.
 use Rattle.std.proofs.Common.{◌≡◌, ℕ, zero, suc, ◌<◌, ◌≤◌, true, false, ◌||◌, Option, Some, None, List, [], ◌∷◌}
-use Rattle.spin_step.specs.Plain.{Plain, Change, completes, is_empty}
+use Rattle.spin_step.specs.Plain.{Plain, Change, completes, is_open, is_empty}
 use Rattle.spin_step.specs.Parties.{apply_some, IsOpenStep, entries, is_held, IsExclusive}
 use Rattle.spin_world_core.specs.declared.place.Hold.{Hold}
 use Rattle.spin_world_core.specs.declared.place.Seat.{Seat}
@@ -13,9 +13,10 @@ use Rattle.spin_world_core.specs.declared.schedule.Move.TheVariants.{Step, Weak}
 use Rattle.spin_world_core.specs.declared.schedule.Outcome.TheVariants as outcome
 use Rattle.spin_world_core.specs.Manners.{Manner, is_again, by_step}
 use Rattle.spin_world_core.specs.Manners as manner
-use Rattle.spin_world_core.specs.Calls.{encoded, BelongsTo, Said, own_steps, Mark, AnyOf, limit}
+use Rattle.spin_world_core.specs.Calls.{encoded, BelongsTo, Said, own_steps, Mark, AnyOf, limit, may_be_weak}
 use Rattle.spin_world_core.specs.Undisturbed.{is_open_now}
 use Rattle.spin_world_core.specs.Machines.{Machine, opening_plain}
+use Rattle.spin_world_core.specs.Operations.{Stepwise}
 use Rattle.spin_world_core.specs.Schedules.{placed}
 use Rattle.spin_world_core.specs.Values.{HasPhase, Gives}
 use Rattle.spin_world_core.specs.Runs.{mark_of, if_completed, entries_held, entries_so_far, is_writer, own, failures, changes, IsBeginning, RightAnswer, EndsWithin, GoesOnWithin}
@@ -81,7 +82,13 @@ pub record ValueIs {W V C L A : Type 0} (m : Machine W V C L A) (c : C) (v : Opt
   pub brings : (q : ℕ) → step ≡ Some (completes q) → placed st.placed v ≡ m.brings c
   pub gives : NextGives m (placed st.placed v) st.next
 
+-- a step by which the call goes on and makes no plain step, though it is open: it counts
+abbrev pub GoesOnCounted : {W L A : Type 0} → (W → Option Change) → Plain → Next L A → Option Change → Manner → Type 0
+GoesOnCounted {W} change s (GoesOn l) None manner = (w : W) (d : Change) → change w ≡ Some d → is_open s d ≡ true → is_again manner ≡ true
+GoesOnCounted change s _ _ manner = Unit {0}
+
 pub record Facts {W V C L A : Type 0} (m : Machine W V C L A) (k : LocalInvariant V C L) : Type 0 where
+  pub stepwise : Stepwise m
   pub first : m.numbers m.words ≡ encoded m.coding (opening_plain m)
   pub shape_first : k.Shape (opening_plain m) m.value
   -- equal numbers are equal words
@@ -99,6 +106,8 @@ pub record Facts {W V C L A : Type 0} (m : Machine W V C L A) (k : LocalInvarian
   pub can : (p : ℕ) (c : C) (l : L) (h : Option Hold) (s : Plain) (v : Option V) (w : W) (span : List Mark) → InCall m k p c l h s v w span → m.can w c l h ≡ true
   pub steps : (p : ℕ) (c : C) (l : L) (h : Option Hold) (s : Plain) (v : Option V) (w : W) (span : List Mark) → InCall m k p c l h s v w span
       → StepIs m k p c h s v span (m.step w v c l h) (m.change p w c l h) (by_step (m.manner c l h))
+  pub counted : (p : ℕ) (c : C) (l : L) (h : Option Hold) (s : Plain) (v : Option V) (w : W) (span : List Mark) → InCall m k p c l h s v w span
+      → GoesOnCounted (λ u. m.change p u c l h) s (m.step w v c l h).next (m.change p w c l h) (by_step (m.manner c l h))
   -- where what a call that may wait asks is open to it, it is answered by its fourth step, if no other party steps
   pub undisturbed : (p : ℕ) (c : C) (l : L) (h : Option Hold) (s : Plain) (v : Option V) (w : W) (span : List Mark) → InCall m k p c l h s v w span
       → is_open_now p (m.asks c h) span s ≡ true → AnswersWithin m 4 w c l h
@@ -108,6 +117,9 @@ pub record Facts {W V C L A : Type 0} (m : Machine W V C L A) (k : LocalInvarian
   -- a weak exchange that refuses makes no plain step
   pub refuses : (p : ℕ) (c : C) (l : L) (h : Option Hold) (s : Plain) (v : Option V) (w : W) (span : List Mark) (next : Next L A) → InCall m k p c l h s v w span
       → m.refuse c l h ≡ Some next → NextIs m k Weak p c h s (mark_of p None manner.weak s ∷ span) next
+  -- and is made by a call that may be weak, before it has made a plain step
+  pub weakly : (p : ℕ) (c : C) (l : L) (h : Option Hold) (s : Plain) (v : Option V) (w : W) (span : List Mark) (next : Next L A) → InCall m k p c l h s v w span
+      → m.refuse c l h ≡ Some next → (may_be_weak (m.asks c h) ≡ true) × (own p span ≡ [])
   -- values that closures make
   pub phase : (s : Plain) (v : Option V) → k.Shape s v → HasPhase m.coding s.phase v
   pub values : (p : ℕ) (c : C) (l : L) (h : Option Hold) (s : Plain) (v : Option V) (w : W) (span : List Mark) → InCall m k p c l h s v w span

@@ -11,7 +11,7 @@ use Rattle.spin_world_core.specs.declared.object.Next.TheVariants.{GoesOn, Answe
 use Rattle.spin_world_core.specs.declared.object.Stepped.{Stepped}
 use Rattle.spin_world_core.specs.declared.schedule.Move.TheVariants.{Step}
 use Rattle.spin_world_core.specs.Manners.{Manner, by_step}
-use Rattle.spin_world_core.specs.Calls.{Coding, once, encoded, BelongsTo, own_steps, says_of, AnyOf, HasMoment, Mark}
+use Rattle.spin_world_core.specs.Calls.{Coding, once, encoded, BelongsTo, own_steps, says_of, AnyOf, HasMoment, Mark, is_weak_try}
 use Rattle.spin_world_core.specs.Machines.{Machine, opening_phase, opening_plain}
 use Rattle.spin_world_core.specs.Schedules.{placed}
 use Rattle.spin_world_core.specs.Runs.{mark_of, if_completed, is_writer, own}
@@ -19,8 +19,9 @@ use Rattle.spin_world_core.specs.Acts.{Act, load, load_if, load_for, enter, exch
 use Rattle.spin_world_core.specs.Values.{HasPhase, Gives}
 use Rattle.spin_world_core.proofs.Facts.{LocalInvariant, AnswersWithin, InCall, NextIs, NextGives, StepIs, Facts}
 use Rattle.spin_world_core.proofs.Rows.{SoundAt, IsSound, sound_at}
+use Rattle.spin_world_core.proofs.Operating.{BeginsWhereItFits, OperatesAt, counted_filled, stepwise_with}
 use Rattle.spin_world_core.proofs.Shapes.{Notes, row_of, KnowsRow, keeping_of, AtRow, OwesAt, goes_by, answers_by, OwesSoon, BeginsAt}
-use Rattle.spin_world_core.proofs.Paid.{uncompleted, MakesStep, Went, here_at, steps_at, can_at, soon_at, others_at, begins_at}
+use Rattle.spin_world_core.proofs.Paid.{uncompleted, MakesStep, Went, here_at, steps_at, counted_at, can_at, soon_at, others_at, begins_at}
 
 -- only a store completes a closure, whoever the party is, and only one whose call brings this value
 abbrev pub CompletesRight : {W V L A : Type 0} → Act W L A → ℕ → Option V → Type 0
@@ -49,6 +50,9 @@ TellsBy V number act p s w = TellsOf (apply_some s (change_by number act p w)).p
 
 -- what an object shows of its table
 pub record PaysWith {W V C L : Type 0} (t : Table W V C L (Answer (Unit {0}))) (n : Notes t) (brings : C → Option V) : Type 0 where
+  pub fits : BeginsWhereItFits t
+  pub strong : (c : C) (h : Option Hold) → is_weak_try (t.asks c h) ≡ false
+  pub operates : (c : C) (l : L) (h : Option Hold) → OperatesAt t.coding t c l h
   pub says : (a : Answer (Unit {0})) → t.says a ≡ says_of a
   pub first : t.number t.words ∷ t.others t.words ≡ encoded t.coding (opening_plain (machine_with t brings))
   pub shape_first : n.Shape (opening_plain (machine_with t brings))
@@ -252,6 +256,7 @@ module _ {W V C L : Type 0} (t : Table W V C L (Answer (Unit {0}))) (n : Notes t
   pub facts_with : Facts m keeping_with
   facts_with =
       record {
+        stepwise = stepwise_with t brings pays.fits pays.strong pays.operates;
         first = pays.first;
         shape_first = (pays.shape_first, pays.phase_first);
         numbers_tell = pays.numbers_tell;
@@ -262,9 +267,12 @@ module _ {W V C L : Type 0} (t : Table W V C L (Answer (Unit {0}))) (n : Notes t
         others = λ p q c l h s v step r span ne shape exclusive may belongs knows. others_at t n pays.sound p q c l h s step r span (row_of t n c l h) ne may (pays.others p q c l h s step r span ne shape.0 may belongs) knows;
         can = λ p c l h s v w span here. can_at t n pays.sound p c l h s w span (row_of t n c l h) (sound_of p c l h) (at_here p c l h s v w span here) (pays.owes p c l h s w span);
         steps = step_here;
+        counted = λ p c l h s v w span here. counted_filled _ s _ (step_by {V = V} t.number (t.act c l h) w).next _ _
+            (counted_at t n pays.sound p c l h s w span (row_of t n c l h) (sound_of p c l h) (at_here p c l h s v w span here) (pays.owes p c l h s w span));
         completes_alone = λ p c l h s v w span here q is. pays.none_holds s here.shape.0;
         undisturbed = λ p c l h s v w span here may. answers_with 4 w c l h (soon_at t n pays.sound p c l h s w span (row_of t n c l h) (at_here p c l h s v w span here) (pays.soon p c l h s w span) may);
         refuses = λ p c l h s v w span next here is. absurd (cc (is));
+        weakly = λ p c l h s v w span next here is. absurd (cc (is));
         phase = λ s v shape. has_phase t.coding s.phase v shape.1;
         values = λ p c l h s v w span here. record { brings = (puts p c l h s v w span here).brings; gives = gives_at p c l h s v w span here _ (step_by {V = V} t.number (t.act c l h) w).next };
         refusal_gives = λ p c l h s v w span next here is. absurd (cc (is));

@@ -66,8 +66,8 @@ reads_at m k r g w s p span None stands knows guard = absurd guard
 reads_at m k r g w s p span (Some Idle) stands knows guard = absurd guard
 reads_at m k r g w s p span (Some (Calling c l None)) stands knows guard = absurd guard
 reads_at m k r g w s p span (Some (Calling c l (Some h))) stands knows guard = g.reads p c l h s span guard.0 guard.1 knows
-reads_at m k r g w s p span (Some (Holding h)) stands knows guard = ap is_reader stands ∙ reader_of p h guard.0
-reads_at m k r g w s p span (Some (Leaked h)) stands knows guard = ap is_reader stands ∙ reader_of p h guard.0
+reads_at m k r g w s p span (Some (Holding h)) stands knows guard = ap is_reader stands ∙ (reader_of p h ∙ guard.0)
+reads_at m k r g w s p span (Some (Leaked h)) stands knows guard = ap is_reader stands ∙ (reader_of p h ∙ guard.0)
 reads_at m k r g w s p span (Some (Gone h)) stands knows guard = tt
 
 -- where a closure completes, nobody has a guard
@@ -156,7 +156,7 @@ guard_written : {W V C L A : Type 0} (m : Machine W V C L A) (k : LocalInvariant
 guard_written m k f r g seen p q v h y false good stands may guard ne = guard
 guard_written m k f r g seen p q v h y true good stands may guard ne =
     let reads = reads_at m k r g seen.written seen.plain p (seen.span p) (slice_get seen.state.seats p) (good.places p) (good.knows p) guard in
-    not_written m k f r seen p q (Some v) (slice_get seen.state.seats p) good reads (ap is_writer stands ∙ writer_of q h may) ne guard
+    not_written m k f r seen p q (Some v) (slice_get seen.state.seats p) good reads (ap is_writer stands ∙ (writer_of q h ∙ may)) ne guard
 
 guard_leaked : {W V C L : Type 0} (A : Type 0) (r : Found C V) (seen : Seen W V C L) (p q : ℕ) (h : Hold) → slice_get seen.state.seats q ≡ Some (Holding h) → Guard r seen.written (slice_get seen.state.seats p)
     → Guard r seen.written (slice_get (slice_set seen.state.seats q (Leaked h)) p)

@@ -17,9 +17,10 @@ use Rattle.spin_world_core.specs.declared.schedule.Outcome.TheVariants as outcom
 use Rattle.spin_world_core.specs.Manners.{Manner, is_again, is_weak}
 use Rattle.spin_world_core.specs.Manners as manner
 use Rattle.spin_world_core.specs.Calls.{encoded, BelongsTo, Mark}
+use Rattle.spin_world_core.specs.Begins.{fits}
 use Rattle.spin_world_core.specs.Machines.{Machine}
 use Rattle.spin_world_core.specs.Schedules.{passed, seated, begun, goes_on, resting, read_by, written_by, may_read, may_write}
-use Rattle.spin_world_core.specs.Runs.{Seen, Scene, scene_of, mark_of, own_count, failures, changes, if_completed, is_open_move, entries_of, entries_held, entries_so_far, StandsFor, is_reader, is_writer, MayTouch, OwnSteps, asked, Keeps, IsRight, IsInTime}
+use Rattle.spin_world_core.specs.Runs.{Seen, Scene, scene_of, mark_of, own_count, failures, changes, if_completed, is_open_move, entries_of, entries_held, entries_so_far, StandsFor, is_reader, is_writer, MayTouch, MayPass, ComesTo, IsWeakCall, OwnSteps, asked, Keeps, IsRight, IsCounted, IsInTime}
 use Rattle.spin_world_core.proofs.Lists.{get-set_same, get-set_other, eqb_self}
 use Rattle.spin_world_core.proofs.Spans.{retries-mine, retries-other}
 use Rattle.spin_world_core.specs.Undisturbed.{is_open_now, Leaves, AllOf}
@@ -62,8 +63,9 @@ pub record Kept {W V C L A : Type 0} (m : Machine W V C L A) (k : LocalInvariant
 -- what is promised of an event that isn't passed over, from what holds after it
 pub keeps_from : {W V C L A : Type 0} (m : Machine W V C L A) (k : LocalInvariant V C L) (f : Facts m k) (s : Scene W V C L A) → Invariant m k s.after
     → IsOpenStep s.before.plain s.party s.change → BelongsTo m.coding s.change → ((r : Option V) → s.outcome ≡ outcome.Value r → r ≡ s.before.written) → MayTouch s.before s.party s.outcome s.move
-    → (s.outcome ≡ outcome.PassedOver → ⊥) → is_open_move m s.before.state s.move s.seat ≡ true → OwnSteps m s.party (s.after.span s.party) s.outcome (asked m s.seat) → Keeps m s
-keeps_from m k f s good opens belongs reads touches happened is_open own =
+    → (s.outcome ≡ outcome.PassedOver → ⊥) → is_open_move m s.before.state s.move s.seat ≡ true → OwnSteps m s.party (s.after.span s.party) s.outcome (asked m s.seat)
+    → ComesTo s.move s.before.state.value s.after.state.value s.outcome → IsWeakCall s.move s.party (s.before.span s.party) (asked m s.seat) → Keeps m s
+keeps_from m k f s good opens belongs reads touches happened is_open own comes weak =
     record {
       opens = opens;
       belongs = belongs;
@@ -75,13 +77,16 @@ keeps_from m k f s good opens belongs reads touches happened is_open own =
       reads = reads;
       touches = touches;
       passes = (λ e. absurd (happened e), λ e. absurd (true≢false (sym is_open ∙ e)));
+      lets = λ e. absurd (happened e);
       unchanged = λ e. absurd (happened e);
+      comes = λ happened. comes;
+      weak = λ happened. weak;
       own = own;
     }
 
 pub passed_over : {W V C L A : Type 0} (m : Machine W V C L A) (k : LocalInvariant V C L) (f : Facts m k) (seen : Seen W V C L) (p : ℕ) (move : Move C V) (seat : Option (Seat C L)) (r : Manner)
-    → Invariant m k seen → is_open_move m seen.state move seat ≡ false → Kept m k (scene_of seen p move seat (passed seen.state) None r None)
-passed_over m k f seen p move seat r good closed =
+    → Invariant m k seen → is_open_move m seen.state move seat ≡ false → MayPass m seen p move seat → Kept m k (scene_of seen p move seat (passed seen.state) None r None)
+passed_over m k f seen p move seat r good closed may =
     record {
       keeps = record {
         opens = tt;
@@ -94,17 +99,20 @@ passed_over m k f seen p move seat r good closed =
         reads = λ r e. absurd (cc (e));
         touches = tt;
         passes = (λ e. closed, λ e. refl);
+        lets = λ e. may;
         unchanged = λ e. refl;
+        comes = λ happened. absurd (happened refl);
+        weak = λ happened. absurd (happened refl);
         own = tt;
       };
       right = tt;
-      in_time = record { in_time = tt; retries = good.retries; undisturbed = tt };
+      in_time = record { in_time = tt; counted = tt; retries = good.retries; undisturbed = tt };
       good = good;
     }
 
 pub passed_kept : {W V C L A : Type 0} (m : Machine W V C L A) (k : LocalInvariant V C L) (f : Facts m k) (seen : Seen W V C L) (p : ℕ) (move : Move C V) (seat : Option (Seat C L))
-    → Invariant m k seen → is_open_move m seen.state move seat ≡ false → Kept m k (scene_of seen p move seat (passed seen.state) None manner.plain None)
-passed_kept m k f seen p move seat good closed = passed_over m k f seen p move seat manner.plain good closed
+    → Invariant m k seen → is_open_move m seen.state move seat ≡ false → MayPass m seen p move seat → Kept m k (scene_of seen p move seat (passed seen.state) None manner.plain None)
+passed_kept m k f seen p move seat good closed may = passed_over m k f seen p move seat manner.plain good closed may
 
 -- a party that doesn't step keeps its entries
 stands_beside : {C L : Type 0} (s : Plain) (p q : ℕ) (step : Option Change) (r : Manner) (span : List Mark) (o : Option (Seat C L)) → (p ≡ q → ⊥) → IsOpenStep s p step
@@ -224,42 +232,45 @@ pub went_on : {W V C L A : Type 0} (m : Machine W V C L A) (k : LocalInvariant V
     → NextIs m k move p c h (apply_some seen.plain step) (mark_of p step r seen.plain ∷ seen.span p) next
     → (is_again r ≡ true → step ≡ None → failures p (seen.span p) < changes m.coding p (seen.span p))
     → (is_weak r ≡ false → (j : ℕ) → AnswersWithin m (suc j) seen.state.words c l h → GoesWithin m j w c h next)
-    → is_open_move m seen.state move (Some (Calling c l h)) ≡ true
+    → is_open_move m seen.state move (Some (Calling c l h)) ≡ true → ComesTo move seen.state.value v (goes_on (record seen.state { words = w; value = v }) p c h next).outcome → IsWeakCall move p (seen.span p) (Some (m.asks c h))
+    → IsCounted m p (goes_on (record seen.state { words = w; value = v }) p c h next).outcome move (Some (Calling c l h)) step r seen.plain
     → Kept m k (scene_of seen p move (Some (Calling c l h)) (goes_on (record seen.state { words = w; value = v }) p c h next) step r value)
-went_on m k f seen p move c l h step r value w v (GoesOn l') good there may belongs encodes shape written next fails steps is_open =
+went_on m k f seen p move c l h step r value w v (GoesOn l') good there may belongs encodes shape written next fails steps is_open comes weak counted =
     let runs = left_by m k f seen p c l h step r w (GoesOn l') good there steps in
     let stands = stands_stepped seen.plain p step r (seen.span p) (entries_held p h) may (subst (λ o. StandsFor seen.plain p (seen.span p) o) there (good.places p)) in
     let after = good_stepped m k f seen p (Calling c l' h) (Calling c l h) step r w v (if_completed seen.written value step) good there may belongs encodes shape written stands next.knows fails (λ recent first older is may leaves.
     let t = runs recent first older is may leaves in record { steps = t.steps; few = t.few; answers = t.goes l' refl }) in
     record {
-      keeps = keeps_from m k f _ after may belongs (λ r e. absurd (cc (e))) tt (λ e. cc (e)) is_open next.own_so_far;
+      keeps = keeps_from m k f _ after may belongs (λ r e. absurd (cc (e))) tt (λ e. cc (e)) is_open next.own_so_far comes weak;
       right = tt;
       in_time = record {
         in_time = next.in_time;
+        counted = counted;
         retries = after.retries;
         undisturbed = λ recent first older is may leaves.
             let t = runs recent first older is may leaves in more_left m w c l' h (own_count p (recent ++ first ∷ [])) t.steps t.few (t.goes l' refl);
       };
       good = after;
     }
-went_on {C = C} {L = L} m k f seen p move c l h step r value w v (Answers a rest) good there may belongs encodes shape written next fails steps is_open =
+went_on {C = C} {L = L} m k f seen p move c l h step r value w v (Answers a rest) good there may belongs encodes shape written next fails steps is_open comes weak counted =
     let runs = left_by m k f seen p c l h step r w (Answers a rest) good there steps in
     let plain = apply_some seen.plain step in
     let span = mark_of p step r seen.plain ∷ seen.span p in
     let after = good_stepped m k f seen p (resting rest) (Calling c l h) step r w v (if_completed seen.written value step) good there may belongs encodes shape written
     (stands_resting C L plain p span rest next.stands) (knows_resting k plain p span rest) fails (runs_resting m w p span rest) in
     record {
-      keeps = keeps_from m k f _ after may belongs (λ r e. absurd (cc (e))) tt (λ e. cc (e)) is_open next.own_steps_are;
+      keeps = keeps_from m k f _ after may belongs (λ r e. absurd (cc (e))) tt (λ e. cc (e)) is_open next.own_steps_are comes weak;
       right = next.right;
-      in_time = record { in_time = next.in_time; retries = after.retries; undisturbed = λ recent first older is may leaves. omega (arith, (runs recent first older is may leaves).few) };
+      in_time = record { in_time = next.in_time; counted = tt; retries = after.retries; undisturbed = λ recent first older is may leaves. omega (arith, (runs recent first older is may leaves).few) };
       good = after;
     }
 
 pub begun_kept : {W V C L A : Type 0} (m : Machine W V C L A) (k : LocalInvariant V C L) (f : Facts m k) (seen : Seen W V C L) (p : ℕ) (c : C) (h : Option Hold) (y : Seat C L) (o : Option L)
     → Invariant m k seen → slice_get seen.state.seats p ≡ Some y → entries p seen.plain ≡ entries_held p h → m.begin c h ≡ o → is_open_move m seen.state (Begin c) (Some y) ≡ is_some (m.begin c h)
+    → (fits m.coding (m.asks c h) h ≡ false → MayPass m seen p (Begin c) (Some y))
     → Kept m k (scene_of seen p (Begin c) (Some y) (begun seen.state p c h o) None manner.plain None)
-begun_kept m k f seen p c h y None good there stands is_begin is_open = passed_kept m k f seen p (Begin c) (Some y) good (is_open ∙ ap is_some is_begin)
-begun_kept m k f seen p c h y (Some l) good there stands is_begin is_open =
+begun_kept m k f seen p c h y None good there stands is_begin is_open may = passed_kept m k f seen p (Begin c) (Some y) good (is_open ∙ ap is_some is_begin) (may (sym (f.stepwise.begins c h) ∙ ap is_some is_begin))
+begun_kept m k f seen p c h y (Some l) good there stands is_begin is_open may =
     let span : ℕ → List Mark = λ q. if p == q then [] else seen.span q in
     let fresh : [] ≡ span p = sym (ap (λ b. if b then [] else seen.span p) (eqb_self p)) in
     let after = good_seated m k seen p (Calling c l h) y span good there
@@ -269,35 +280,37 @@ begun_kept m k f seen p c h y (Some l) good there stands is_begin is_open =
     (subst (λ ms. failures p ms ≤ changes m.coding p ms) fresh (omega arith))
     (subst (λ ms. RunsOn m seen.state.words p ms (Some (Calling c l h))) fresh (runs_fresh m seen.state.words p c l h)) in
     record {
-      keeps = keeps_from m k f _ after tt tt (λ r e. absurd (cc (e))) tt (λ e. cc (e)) (is_open ∙ ap is_some is_begin) tt;
+      keeps = keeps_from m k f _ after tt tt (λ r e. absurd (cc (e))) tt (λ e. cc (e)) (is_open ∙ ap is_some is_begin) tt refl tt;
       right = tt;
-      in_time = record { in_time = tt; retries = after.retries; undisturbed = tt };
+      in_time = record { in_time = tt; counted = tt; retries = after.retries; undisturbed = tt };
       good = after;
     }
 
-pub reader_of : (p : ℕ) (h : Hold) → may_read h ≡ true → is_reader (entries_of p h) ≡ true
-reader_of p hold.Read e = refl
-reader_of p hold.Upgradable e = refl
-reader_of p hold.Write e = refl
-reader_of p (hold.Ticket t) e = refl
-reader_of p hold.Starver e = absurd cc
+-- whose hold reads the value is a reader in the plain lock, and whose may replace it a writer
 
-pub writer_of : (p : ℕ) (h : Hold) → may_write h ≡ true → is_writer (entries_of p h) ≡ true
-writer_of p hold.Read e = absurd cc
-writer_of p hold.Upgradable e = absurd cc
-writer_of p hold.Write e = refl
-writer_of p (hold.Ticket t) e = refl
-writer_of p hold.Starver e = absurd cc
+pub reader_of : (p : ℕ) (h : Hold) → is_reader (entries_of p h) ≡ may_read h
+reader_of p hold.Read = refl
+reader_of p hold.Upgradable = refl
+reader_of p hold.Write = refl
+reader_of p (hold.Ticket t) = refl
+reader_of p hold.Starver = refl
+
+pub writer_of : (p : ℕ) (h : Hold) → is_writer (entries_of p h) ≡ may_write h
+writer_of p hold.Read = refl
+writer_of p hold.Upgradable = refl
+writer_of p hold.Write = refl
+writer_of p (hold.Ticket t) = refl
+writer_of p hold.Starver = refl
 
 pub read_kept : {W V C L A : Type 0} (m : Machine W V C L A) (k : LocalInvariant V C L) (f : Facts m k) (seen : Seen W V C L) (p : ℕ) (h : Hold) (y : Seat C L) (b : Bool)
-    → Invariant m k seen → entries p seen.plain ≡ entries_of p h → may_read h ≡ b → is_open_move m seen.state Read (Some y) ≡ may_read h
+    → Invariant m k seen → entries p seen.plain ≡ entries_of p h → may_read h ≡ b → is_open_move m seen.state Read (Some y) ≡ may_read h → (is_reader (entries p seen.plain) ≡ false → MayPass m seen p Read (Some y))
     → Kept m k (scene_of seen p Read (Some y) (read_by seen.state b) None manner.plain None)
-read_kept m k f seen p h y false good stands may is_open = passed_kept m k f seen p Read (Some y) good (is_open ∙ may)
-read_kept m k f seen p h y true good stands may is_open =
+read_kept m k f seen p h y false good stands may is_open lets = passed_kept m k f seen p Read (Some y) good (is_open ∙ may) (lets (ap is_reader stands ∙ (reader_of p h ∙ may)))
+read_kept m k f seen p h y true good stands may is_open lets =
     record {
-      keeps = keeps_from m k f _ good tt tt (λ r e. cc (e, good.written)) (ap is_reader stands ∙ reader_of p h may) (λ e. cc (e)) (is_open ∙ may) tt;
+      keeps = keeps_from m k f _ good tt tt (λ r e. cc (e, good.written)) (ap is_reader stands ∙ (reader_of p h ∙ may)) (λ e. cc (e)) (is_open ∙ may) tt refl tt;
       right = tt;
-      in_time = record { in_time = tt; retries = good.retries; undisturbed = tt };
+      in_time = record { in_time = tt; counted = tt; retries = good.retries; undisturbed = tt };
       good = good;
     }
 
@@ -306,16 +319,16 @@ good_written : {W V C L A : Type 0} (m : Machine W V C L A) (k : LocalInvariant 
 good_written m k seen v good shape = record { encodes = good.encodes; shape = shape; exclusive = good.exclusive; written = refl; places = good.places; knows = good.knows; retries = good.retries; undisturbed = good.undisturbed }
 
 pub write_kept : {W V C L A : Type 0} (m : Machine W V C L A) (k : LocalInvariant V C L) (f : Facts m k) (seen : Seen W V C L) (p : ℕ) (v : V) (h : Hold) (y : Seat C L) (b : Bool)
-    → Invariant m k seen → entries p seen.plain ≡ entries_of p h → may_write h ≡ b → is_open_move m seen.state (Write v) (Some y) ≡ may_write h
+    → Invariant m k seen → entries p seen.plain ≡ entries_of p h → may_write h ≡ b → is_open_move m seen.state (Write v) (Some y) ≡ may_write h → (is_writer (entries p seen.plain) ≡ false → MayPass m seen p (Write v) (Some y))
     → Kept m k (scene_of seen p (Write v) (Some y) (written_by seen.state v b) None manner.plain None)
-write_kept m k f seen p v h y false good stands may is_open = passed_kept m k f seen p (Write v) (Some y) good (is_open ∙ may)
-write_kept m k f seen p v h y true good stands may is_open =
-    let writes = ap is_writer stands ∙ writer_of p h may in
+write_kept m k f seen p v h y false good stands may is_open lets = passed_kept m k f seen p (Write v) (Some y) good (is_open ∙ may) (lets (ap is_writer stands ∙ (writer_of p h ∙ may)))
+write_kept m k f seen p v h y true good stands may is_open lets =
+    let writes = ap is_writer stands ∙ (writer_of p h ∙ may) in
     let after = good_written m k seen v good (f.shape_written seen.plain p seen.state.value v writes good.shape) in
     record {
-      keeps = keeps_from m k f _ after tt tt (λ r e. absurd (cc (e))) writes (λ e. cc (e)) (is_open ∙ may) tt;
+      keeps = keeps_from m k f _ after tt tt (λ r e. absurd (cc (e))) writes (λ e. cc (e)) (is_open ∙ may) tt (refl, refl) tt;
       right = tt;
-      in_time = record { in_time = tt; retries = after.retries; undisturbed = tt };
+      in_time = record { in_time = tt; counted = tt; retries = after.retries; undisturbed = tt };
       good = after;
     }
 
@@ -325,8 +338,8 @@ pub leak_kept : {W V C L A : Type 0} (m : Machine W V C L A) (k : LocalInvariant
 leak_kept m k f seen p h good there stands =
     let after = good_seated m k seen p (Leaked h) (Holding h) seen.span good there (λ q ne. refl) stands tt (good.retries p) tt in
     record {
-      keeps = keeps_from m k f _ after tt tt (λ r e. absurd (cc (e))) tt (λ e. cc (e)) refl tt;
+      keeps = keeps_from m k f _ after tt tt (λ r e. absurd (cc (e))) tt (λ e. cc (e)) refl tt refl tt;
       right = tt;
-      in_time = record { in_time = tt; retries = after.retries; undisturbed = tt };
+      in_time = record { in_time = tt; counted = tt; retries = after.retries; undisturbed = tt };
       good = after;
     }

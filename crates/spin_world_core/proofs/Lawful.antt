@@ -9,6 +9,7 @@ use Rattle.spin_world_core.proofs.Values.{values_of}
 pub laws_of : {W V C L A : Type 0} (m : Machine W V C L A) (k : LocalInvariant V C L) → Facts m k → Lawful m
 laws_of m k f =
     record {
+      stepwise = f.stepwise;
       can = λ n entries. can_of m k f n entries;
       keeps = λ n entries. keeps_of m k f n entries;
       moments = λ n entries. moments_of m k f n entries;

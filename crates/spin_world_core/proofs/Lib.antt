@@ -3,6 +3,7 @@ pub mod Facts
 pub mod Spans
 pub mod Stands
 pub mod Rows
+pub mod Operating
 pub mod Shapes
 pub mod Usual
 pub mod Paid

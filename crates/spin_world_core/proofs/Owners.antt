@@ -1,18 +1,19 @@
 -- What an owner's move keeps.
-use Rattle.std.proofs.Common.{◌≡◌, ℕ, Bool, true, false, Option, Some, None, List, [], ◌∷◌, zero, suc, slice_get, refl, subst}
+use Rattle.std.proofs.Common.{◌≡◌, ℕ, Bool, true, false, Option, Some, None, List, [], ◌∷◌, zero, suc, slice_get, refl, sym, ◌∙◌, subst}
 use Rattle.std.specs.List.{list_all}
 use Rattle.std.specs.Option.{option_map}
-use Rattle.std.proofs.lemmas.Bool.{and_parts, false≢true}
+use Rattle.std.proofs.lemmas.Bool.{and_from, and_parts, false≢true, true≢false}
 use Rattle.std.proofs.lemmas.Option.{slice_get-map}
 use Rattle.spin_step.specs.Plain.{Plain}
 use Rattle.spin_world_core.specs.declared.place.Seat.{Seat}
 use Rattle.spin_world_core.specs.declared.place.Seat.TheVariants.{Idle, Calling, Holding, Leaked, Gone}
 use Rattle.spin_world_core.specs.declared.schedule.Move.TheVariants.{OwnerGet, OwnerSet}
+use Rattle.spin_world_core.specs.declared.schedule.Outcome.TheVariants as outcome
 use Rattle.spin_world_core.specs.Manners as manner
 use Rattle.spin_world_core.specs.Calls.{Mark}
 use Rattle.spin_world_core.specs.Machines.{Machine}
 use Rattle.spin_world_core.specs.Schedules.{is_owners, yields_to_owner, let_go, seen_by_owner, owner_gets, owner_sets, owner_writes}
-use Rattle.spin_world_core.specs.Runs.{Seen, scene_of, StandsFor, YieldsToOwner, IsOwners}
+use Rattle.spin_world_core.specs.Runs.{Seen, scene_of, ComesTo, StandsFor, YieldsToOwner, IsOwners}
 use Rattle.spin_world_core.proofs.Facts.{LocalInvariant, KnowsAt, Facts}
 use Rattle.spin_world_core.proofs.Undisturbed.{runs_let_go}
 use Rattle.spin_world_core.proofs.Kept.{Invariant, Kept, keeps_from, passed_kept}
@@ -65,38 +66,56 @@ owners m k seen good may = λ q.
     yields_at seen.plain q (seen.span q) (slice_get seen.state.seats q) (good.places q)
     (λ x e. all-get yields_to_owner seen.state.seats q x (and_parts m.owned (list_all yields_to_owner seen.state.seats) may).1 e)
 
+-- and where the owner has the lock to itself, its move is open
+
+all-from : {X : Type 0} (test : X → Bool) (xs : List X) → ((q : ℕ) (x : X) → slice_get xs q ≡ Some x → test x ≡ true) → list_all test xs ≡ true
+all-from test [] each = refl
+all-from test (x ∷ xs) each = and_from (test x) (list_all test xs) (each zero x refl) (all-from test xs (λ q y e. each (suc q) y e))
+
+yields : {C L : Type 0} (s : Plain) (q : ℕ) (x : Seat C L) → YieldsToOwner s q (Some x) → yields_to_owner x ≡ true
+yields s q Idle may = refl
+yields s q (Calling c l h) may = absurd may
+yields s q (Holding h) may = absurd may
+yields s q (Leaked h) may = refl
+yields s q (Gone h) may = refl
+
+none_owns : {W V C L A : Type 0} (m : Machine W V C L A) (seen : Seen W V C L) → is_owners m seen.state ≡ false → m.owned ≡ true → IsOwners seen → ⊥
+none_owns m seen closed owned all =
+    true≢false (sym (and_from m.owned (list_all yields_to_owner seen.state.seats) owned
+    (all-from yields_to_owner seen.state.seats (λ q x e. yields seen.plain q x (subst (λ o. YieldsToOwner seen.plain q o) e (all q))))) ∙ closed)
+
 pub owner_get_kept : {W V C L A : Type 0} (m : Machine W V C L A) (k : LocalInvariant V C L) (f : Facts m k) (seen : Seen W V C L) (p : ℕ) (y : Seat C L) (b : Bool)
     → Invariant m k seen → is_owners m seen.state ≡ b → Kept m k (scene_of seen p OwnerGet (Some y) (owner_gets seen.state b) None manner.plain None)
-owner_get_kept m k f seen p y false good may = passed_kept m k f seen p OwnerGet (Some y) good may
+owner_get_kept m k f seen p y false good may = passed_kept m k f seen p OwnerGet (Some y) good may (none_owns m seen may)
 owner_get_kept m k f seen p y true good may =
     let after = good_let_go m k seen seen.state.value seen.written good good.shape good.written in
     record {
-      keeps = keeps_from m k f _ after tt tt (λ r e. cc (e, good.written)) (owners m k seen good may) (λ e. cc (e)) may tt;
+      keeps = keeps_from m k f _ after tt tt (λ r e. cc (e, good.written)) (owners m k seen good may) (λ e. cc (e)) may tt refl tt;
       right = tt;
-      in_time = record { in_time = tt; retries = after.retries; undisturbed = tt };
+      in_time = record { in_time = tt; counted = tt; retries = after.retries; undisturbed = tt };
       good = after;
     }
 
 owner_writes_kept : {W V C L A : Type 0} (m : Machine W V C L A) (k : LocalInvariant V C L) (f : Facts m k) (seen : Seen W V C L) (p : ℕ) (v : V) (y : Seat C L) (o : Option V)
     → Invariant m k seen → is_owners m seen.state ≡ true → seen.state.value ≡ o → Kept m k (scene_of seen p (OwnerSet v) (Some y) (owner_writes seen.state v o) None manner.plain None)
-owner_writes_kept m k f seen p v y None good may found =
+owner_writes_kept {C = C} {A = A} m k f seen p v y None good may found =
     let after = good_let_go m k seen seen.state.value seen.written good good.shape good.written in
     record {
-      keeps = keeps_from m k f _ after tt tt (λ r e. cc (e, good.written, found)) (owners m k seen good may) (λ e. cc (e)) may tt;
+      keeps = keeps_from m k f _ after tt tt (λ r e. cc (e, good.written, found)) (owners m k seen good may) (λ e. cc (e)) may tt (subst (λ old. ComesTo {C = C} {A = A} (OwnerSet v) old seen.state.value (outcome.Value None)) (sym found) (refl, found)) tt;
       right = tt;
-      in_time = record { in_time = tt; retries = after.retries; undisturbed = tt };
+      in_time = record { in_time = tt; counted = tt; retries = after.retries; undisturbed = tt };
       good = after;
     }
-owner_writes_kept m k f seen p v y (Some old) good may found =
+owner_writes_kept {C = C} {A = A} m k f seen p v y (Some old) good may found =
     let after = good_let_go m k seen (Some v) (Some v) good (f.shape_set seen.plain old v (subst (λ o. k.Shape seen.plain o) found good.shape)) refl in
     record {
-      keeps = keeps_from m k f _ after tt tt (λ r e. absurd (cc (e))) (owners m k seen good may) (λ e. cc (e)) may tt;
+      keeps = keeps_from m k f _ after tt tt (λ r e. absurd (cc (e))) (owners m k seen good may) (λ e. cc (e)) may tt (subst (λ o. ComesTo {C = C} {A = A} (OwnerSet v) o (Some v) outcome.Written) (sym found) (refl, refl)) tt;
       right = tt;
-      in_time = record { in_time = tt; retries = after.retries; undisturbed = tt };
+      in_time = record { in_time = tt; counted = tt; retries = after.retries; undisturbed = tt };
       good = after;
     }
 
 pub owner_set_kept : {W V C L A : Type 0} (m : Machine W V C L A) (k : LocalInvariant V C L) (f : Facts m k) (seen : Seen W V C L) (p : ℕ) (v : V) (y : Seat C L) (b : Bool)
     → Invariant m k seen → is_owners m seen.state ≡ b → Kept m k (scene_of seen p (OwnerSet v) (Some y) (owner_sets seen.state v b) None manner.plain None)
-owner_set_kept m k f seen p v y false good may = passed_kept m k f seen p (OwnerSet v) (Some y) good may
+owner_set_kept m k f seen p v y false good may = passed_kept m k f seen p (OwnerSet v) (Some y) good may (none_owns m seen may)
 owner_set_kept m k f seen p v y true good may = owner_writes_kept m k f seen p v y seen.state.value good may refl

@@ -12,17 +12,18 @@ use Rattle.spin_world_core.specs.declared.schedule.Outcome.TheVariants as outcom
 use Rattle.spin_world_core.specs.declared.schedule.Move.{Move}
 use Rattle.spin_world_core.specs.declared.schedule.Move.TheVariants.{Step, Weak}
 use Rattle.spin_world_core.specs.Manners.{Manner, plain, again, look, weak, is_again, by_step}
-use Rattle.spin_world_core.specs.Calls.{Coding, Asked, waits, waits_or_starves, initializes, fails_to_initialize, waits_for_value, polls, meets, encoded, is_step_of, BelongsTo, Said, own_steps, AnyOf, Mark, first_word, Limit, registers_after, limit, once}
+use Rattle.spin_world_core.specs.Calls.{Coding, Asked, waits, waits_or_starves, initializes, fails_to_initialize, waits_for_value, polls, meets, encoded, is_step_of, BelongsTo, Said, own_steps, AnyOf, Mark, first_word, Limit, registers_after, limit, may_be_weak, once}
 use Rattle.spin_world_core.specs.Undisturbed.{arrived, is_open_next, is_open_now}
 use Rattle.spin_world_core.specs.Runs.{mark_of, if_completed, entries_held, own, failures, changes, IsBeginning, RightAnswer, GoesOnWithin}
 use Rattle.spin_world_core.specs.Acts.{Act, load, load_if, load_for, enter, exchange, weak_exchange, attempt, retry, store, store_if, is_completion, either, stays, passing, becomes, retried, step_by, made_if, made_where, change_by, can_by, refusal_by, is_waiting, look_manner, manner_by, Table, machine_of}
 use Rattle.spin_world_core.specs.Schedules.{placed}
 use Rattle.spin_world_core.specs.Values.{makes_value, HasPhase, Gives}
-use Rattle.spin_world_core.proofs.Facts.{AnswersWithin, InCall, NextIs, NextGives, StepIs, Facts}
+use Rattle.spin_world_core.proofs.Facts.{AnswersWithin, InCall, NextIs, NextGives, GoesOnCounted, StepIs, Facts}
+use Rattle.spin_world_core.proofs.Operating.{counted_of, stepwise_of}
 use Rattle.spin_world_core.proofs.Spans.{own-mine, retries-mine}
 use Rattle.spin_world_core.proofs.Stands.{entries_at, stand_of, held_at, stand-mine}
 use Rattle.spin_world_core.proofs.Rows.{Opened, OwesRight, Turn, goes, loses, misses, Turned, spent-mine, goes_within, ends_within, ends_owed, any_map, moment_of, weak_moment_of, Row, IsSound, sound_at, Expects, expects-mine, none_spent, none_expected, known-other, SoundAt}
-use Rattle.spin_world_core.proofs.Shapes.{Notes, row_of, KnowsRow, keeping_of, call_of, At, AtRow, Means, FindsAnother, FollowsRow, Follows, Owes, OwesRow, goes_by, answers_by, AnswersRow, BeginsRow, BeginsAt, is_own, makes_own, Pays}
+use Rattle.spin_world_core.proofs.Shapes.{Notes, is_answer, row_of, KnowsRow, keeping_of, call_of, At, AtRow, Means, FindsAnother, FollowsRow, Follows, Owes, OwesRow, goes_by, answers_by, AnswersRow, BeginsRow, BeginsAt, is_own, makes_own, Pays}
 
 -- a step that completes no closure leaves the value last written
 pub uncompleted : {V : Type 0} (old put : Option V) (step : Option Change) → ((q : ℕ) → step ≡ Some (completes q) → ⊥) → old ≡ if_completed old put step
@@ -286,6 +287,43 @@ module _ {W V C L A : Type 0} (t : Table W V C L A) (n : Notes t) (sound_all : (
     refusal_is (store can f step next) other owes is = absurd (cc (is))
     refusal_is (store_if can f step test a b) other owes is = absurd (cc (is))
 
+    -- no step fails uncounted by which the call goes on
+    refuted : (o u : Option W) (d e : Change) → Means t n p s d o → made_if u d ≡ Some e → is_open s e ≡ true → made_if o d ≡ None → {X : Type 0} → X
+    refuted None (Some to) d e means is may none = let same : d ≡ e = cc (is) in absurd (true≢false (sym may ∙ (sym (ap (is_open s) same) ∙ means)))
+    refuted None None d e means is may none = absurd (cc (is))
+    refuted (Some to) u d e means is may none = absurd (cc (none))
+
+    counted_attempt : (o : Option W) (d : Change) (won lost : Next L A) (change : W → Option Change) → is_answer lost ≡ true → GoesOnCounted change s (becomes {V = V} w o won lost).next (made_if o d) plain
+    counted_attempt (Some to) d won lost change last = counted_of change s won (Some d) plain (λ u e is may none. absurd (cc (none)))
+    counted_attempt None d won (GoesOn m) change last = absurd (false≢true last)
+    counted_attempt None d won (Answers a after) change last = tt
+
+    pub counted_is : (act : Act W L A) → Owes t n p (call_of t n c) h s w span row act
+        → GoesOnCounted (λ u. change_by t.number act p u) s (step_by {V = V} t.number act w).next (change_by t.number act p w) (by_step (manner_by (t.asks c h) act))
+    counted_is (load next) owes = counted_of _ s _ None _ (λ u d is may none. absurd (cc (is)))
+    counted_is (load_if test a b) owes = counted_of _ s _ None _ (λ u d is may none. absurd (cc (is)))
+    counted_is (load_for f step found missed) owes = counted_of _ s _ None _ (λ u d is may none. absurd (cc (is)))
+    counted_is (enter test step won lost) owes = counted_of _ s _ _ _ (λ u d is may none. refuted (passing (test w) w) (passing (test u) u) (step p) d owes.0 is may none)
+    counted_is (exchange f step won lost) owes = counted_of _ s _ _ _ (λ u d is may none. refuted (f w) (f u) (step p) d owes.0 is may none)
+    counted_is (weak_exchange f step won lost) owes = counted_of _ s _ _ _ (λ u d is may none. refuted (f w) (f u) (step p) d owes.0 is may none)
+    counted_is (attempt f step won lost) owes = counted_attempt (f w) (step p) won lost _ owes.2
+    counted_is (retry k f step won found missed) owes = counted_of _ s _ _ _ (λ u d is may none. refl)
+    counted_is (store can f step next) owes = counted_of _ s _ (Some (step p)) _ (λ u d is may none. absurd (cc (none)))
+    counted_is (store_if can f step test a b) owes = counted_of _ s _ (Some (step p)) _ (λ u d is may none. absurd (cc (none)))
+
+    -- a weak exchange is its call's first plain step
+    weak_is : (act : Act W L A) (next : Next L A) → Owes t n p (call_of t n c) h s w span row act → refusal_by act ≡ Some next → (may_be_weak (t.asks c h) ≡ true) × (own p span ≡ [])
+    weak_is (weak_exchange f step won lost) next owes is = (owes.4, at.known.made ∙ owes.5)
+    weak_is (load next) other owes is = absurd (cc (is))
+    weak_is (load_if test a b) next owes is = absurd (cc (is))
+    weak_is (load_for f step found missed) next owes is = absurd (cc (is))
+    weak_is (enter test step won lost) next owes is = absurd (cc (is))
+    weak_is (exchange f step won lost) next owes is = absurd (cc (is))
+    weak_is (attempt f step won lost) next owes is = absurd (cc (is))
+    weak_is (retry k f step won found missed) next owes is = absurd (cc (is))
+    weak_is (store can f step next) other owes is = absurd (cc (is))
+    weak_is (store_if can f step test a b) other owes is = absurd (cc (is))
+
   -- at a point that has a row
   module _ (p : ℕ) (c : C) (l : L) (h : Option Hold) (s : Plain) (w : W) (span : List Mark) where
     pub here_at : (o : Option Row) → t.number w ∷ t.others w ≡ encoded t.coding s → n.Shape s → IsExclusive s → failures p span ≤ changes t.coding p span → KnowsRow t n c l h p s span o → AtRow t n p c l h s w span o
@@ -305,6 +343,16 @@ module _ {W V C L A : Type 0} (t : Table W V C L A) (n : Notes t) (sound_all : (
         → NextIs (machine_of t) (keeping_of t n) Weak p c h s (mark_of p None weak s ∷ span) next
     refuses_at None next sound at owes is = absurd at
     refuses_at (Some row) next sound at owes is = refusal_is p c l h s w span row at sound (t.act c l h) next (owes at) is
+
+    pub counted_at : (o : Option Row) → IsSound t.coding (t.asks c h) p o → AtRow t n p c l h s w span o → OwesRow t n p (call_of t n c) l h s w span o
+        → GoesOnCounted (λ u. change_by t.number (t.act c l h) p u) s (step_by {V = V} t.number (t.act c l h) w).next (change_by t.number (t.act c l h) p w) (by_step (manner_by (t.asks c h) (t.act c l h)))
+    counted_at None sound at owes = absurd at
+    counted_at (Some row) sound at owes = counted_is p c l h s w span row at sound (t.act c l h) (owes at)
+
+    weak_at : (o : Option Row) (next : Next L A) → IsSound t.coding (t.asks c h) p o → AtRow t n p c l h s w span o → OwesRow t n p (call_of t n c) l h s w span o → refusal_by (t.act c l h) ≡ Some next
+        → (may_be_weak (t.asks c h) ≡ true) × (own p span ≡ [])
+    weak_at None next sound at owes is = absurd at
+    weak_at (Some row) next sound at owes is = weak_is p c l h s w span row at sound (t.act c l h) next (owes at) is
 
     pub soon_at : (o : Option Row) → AtRow t n p c l h s w span o → AnswersRow t n p (call_of t n c) l h s w span (answers_by t 4 w c l h) (is_waiting (t.asks c h)) o → is_open_now p (t.asks c h) span s ≡ true → answers_by t 4 w c l h ≡ true
     soon_at None at soon may = absurd at
@@ -359,6 +407,7 @@ module _ {W V C L A : Type 0} (t : Table W V C L A) (n : Notes t) (pays : Pays t
   pub facts_of : Facts (machine_of t) (keeping_of t n)
   facts_of =
       record {
+        stepwise = stepwise_of t pays.fits pays.weakly pays.operates;
         first = pays.first;
         shape_first = pays.shape_first;
         numbers_tell = pays.numbers_tell;
@@ -371,9 +420,11 @@ module _ {W V C L A : Type 0} (t : Table W V C L A) (n : Notes t) (pays : Pays t
         steps = λ p c l h s v w span here.
             step_of p c l h s v w span (step_by t.number (t.act c l h) w) (change_by t.number (t.act c l h) p w) (by_step (manner_by (t.asks c h) (t.act c l h))) (λ q is. no_completion t.coding t.number (t.act c l h) p w q (pays.makes p c l h) is)
             (steps_at t n pays.sound p c l h s w span (row_of t n c l h) (sound_of p c l h) (makes_step t.coding (t.act c l h) p (pays.makes p c l h)) (at_here p c l h s v w span here) (pays.owes p c l h s w span));
+        counted = λ p c l h s v w span here. counted_at t n pays.sound p c l h s w span (row_of t n c l h) (sound_of p c l h) (at_here p c l h s v w span here) (pays.owes p c l h s w span);
         completes_alone = λ p c l h s v w span here q is. absurd (no_completion t.coding t.number (t.act c l h) p w q (pays.makes p c l h) is);
         undisturbed = λ p c l h s v w span here may. answers_within t n pays.sound 4 w c l h (soon_at t n pays.sound p c l h s w span (row_of t n c l h) (at_here p c l h s v w span here) (pays.soon p c l h s w span) may);
         refuses = λ p c l h s v w span next here is. refuses_at t n pays.sound p c l h s w span (row_of t n c l h) next (sound_of p c l h) (at_here p c l h s v w span here) (pays.owes p c l h s w span) is;
+        weakly = λ p c l h s v w span next here is. weak_at t n pays.sound p c l h s w span (row_of t n c l h) next (sound_of p c l h) (at_here p c l h s v w span here) (pays.owes p c l h s w span) is;
         phase = λ s v shape. phase_none t.coding s.phase v pays.no_value;
         values = λ p c l h s v w span here. record {
           brings = λ q is. absurd (no_completion t.coding t.number (t.act c l h) p w q (pays.makes p c l h) is);

@@ -6,13 +6,14 @@ use Rattle.spin_world_core.specs.declared.place.Hold.{Hold}
 use Rattle.spin_world_core.specs.declared.object.Next.{Next}
 use Rattle.spin_world_core.specs.declared.object.Next.TheVariants.{GoesOn, Answers}
 use Rattle.spin_world_core.specs.Manners.{Manner, plain, again, weak, by_step}
-use Rattle.spin_world_core.specs.Calls.{Coding, Asked, encoded, is_step_of, BelongsTo, own_steps, Mark, AnyOf, Limit, registers_after, limit}
+use Rattle.spin_world_core.specs.Calls.{Coding, Asked, encoded, is_step_of, BelongsTo, own_steps, Mark, AnyOf, Limit, registers_after, limit, may_be_weak}
 use Rattle.spin_world_core.specs.Undisturbed.{arrived, is_open_next}
 use Rattle.spin_world_core.specs.Machines.{opening_plain}
 use Rattle.spin_world_core.specs.Runs.{mark_of, failures, changes}
 use Rattle.spin_world_core.specs.Acts.{Act, load, load_if, load_for, enter, exchange, weak_exchange, attempt, retry, store, store_if, passing, step_by, is_completion, is_waiting, look_manner, Table, machine_of}
 use Rattle.spin_world_core.specs.Values.{makes_value}
 use Rattle.spin_world_core.proofs.Facts.{LocalInvariant}
+use Rattle.spin_world_core.proofs.Operating.{BeginsWhereItFits, TriesWeakly, OperatesAt}
 use Rattle.spin_world_core.proofs.Stands.{stand_of, stand_after}
 use Rattle.spin_world_core.proofs.Rows.{Turn, goes, loses, misses, MaySpend, OwesRight, Row, Point, row_at, SoundAt, Found, NoRetry, Known}
 
@@ -70,6 +71,11 @@ abbrev pub FindsAnother : Limit → Bool → Bool → Type 0
 FindsAnother (registers_after n i) same some = (same ≡ false) × (some ≡ true)
 FindsAnother _ same some = some ≡ true
 
+-- an exchange whose refusal shows nothing is the last step of its call
+abbrev pub is_answer : {L A : Type 0} → Next L A → Bool
+is_answer (GoesOn l) = false
+is_answer (Answers a after) = true
+
 module _ {W V C L A : Type 0} (t : Table W V C L A) (n : Notes t) (p : ℕ) (k : CallOf W L A) (h : Option Hold) (s : Plain) (w : W) (span : List Mark) (row : Row) where
   -- the next point's row is this one after the step
   abbrev pub FollowsRow : Option Change → Manner → Turn → L → Option Row → Type 0
@@ -99,8 +105,9 @@ module _ {W V C L A : Type 0} (t : Table W V C L A) (n : Notes t) (p : ℕ) (k :
       Means t n p s (step p) (f w) × Follows false (Some (step p)) plain goes won × (is_open s (step p) ≡ false → Follows false None plain (misses (step p)) (lost w))
   Owes (weak_exchange f step won lost) =
       Means t n p s (step p) (f w) × Follows false (Some (step p)) plain goes won × (is_open s (step p) ≡ false → Follows false None plain (misses (step p)) lost) × Follows true None weak goes lost
+      × (may_be_weak (k.asks h) ≡ true) × (row.made p ≡ [])
   Owes (attempt f step won lost) =
-      ((to : W) → f w ≡ Some to → Means t n p s (step p) (Some to) × Follows false (Some (step p)) plain goes won) × (f w ≡ None → Follows false None plain goes lost)
+      ((to : W) → f w ≡ Some to → Means t n p s (step p) (Some to) × Follows false (Some (step p)) plain goes won) × (f w ≡ None → Follows false None plain goes lost) × (is_answer lost ≡ true)
   Owes (retry j f step won found missed) =
       Means t n p s (step p) (f w) × (t.number w ≡ j → Follows false (Some (step p)) again goes won)
       × (FindsAnother (limit t.coding (k.asks h)) (t.number w == j) (is_some (f w)) → Follows false None again loses (found w)) × (is_open s (step p) ≡ false → Follows false None again (misses (step p)) missed)
@@ -159,6 +166,9 @@ makes_own coding _ p = true
 
 -- what an object shows of its table
 pub record Pays {W V C L A : Type 0} (t : Table W V C L A) (n : Notes t) : Type 0 where
+  pub fits : BeginsWhereItFits t
+  pub weakly : TriesWeakly t
+  pub operates : (c : C) (l : L) (h : Option Hold) → OperatesAt t.coding t c l h
   pub first : t.number t.words ∷ t.others t.words ≡ encoded t.coding (opening_plain (machine_of t))
   pub shape_first : n.Shape (opening_plain (machine_of t))
   pub numbers_tell : (v w : W) → t.number v ∷ t.others v ≡ t.number w ∷ t.others w → v ≡ w

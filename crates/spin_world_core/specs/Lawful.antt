@@ -1,10 +1,13 @@
 -- All that an object promises of every schedule, from the opening of every world.
 use Rattle.spin_world_core.specs.Machines.{Machine}
+use Rattle.spin_world_core.specs.Operations.{Stepwise}
 use Rattle.spin_world_core.specs.Runs.{Always, CanGoOn, KeepsAll, MomentsAll, CountsAll}
 use Rattle.spin_world_core.specs.Users.{ReadsAgree}
 use Rattle.spin_world_core.specs.Values.{ValuesAll}
 
 pub record Lawful {W V C L A : Type 0} (m : Machine W V C L A) : Type 0 where
+  -- each call begins where its party holds what it is for, and each step is one operation on one word
+  pub stepwise : Stepwise m
   -- a party in a call may take its next step
   pub can : Always m (CanGoOn m)
   -- a step keeps the encoding, and what follows from that

@@ -1,6 +1,8 @@
 pub mod Manners
 pub mod Calls
+pub mod Begins
 pub mod Machines
+pub mod Operations
 pub mod Acts
 pub mod Schedules
 pub mod Spans

@@ -1,7 +1,7 @@
 -- What is promised of every event of every schedule. Beside the world runs one plain lock, which each event moves by the plain step that it makes.
 use Rattle.std.specs.Prelude.{◌≡◌, ℕ, ◌+◌, ◌<◌, ◌≤◌, ◌↔◌, ◌⊎◌, Bool, true, false, not, ◌||◌, Option, Some, None, List, [], ◌∷◌, ◌++◌, is_some, ◌==◌, if◌then◌else◌, slice_get, take}
 use Rattle.std.specs.List.{list_any}
-use Rattle.spin_step.specs.Plain.{Plain, reading, upgradable, writing, same_kind, Change, completes, holder, ticket, is_empty}
+use Rattle.spin_step.specs.Plain.{Plain, reading, upgradable, writing, same_kind, Change, completes, is_open, holder, ticket, is_empty}
 use Rattle.spin_step.specs.Parties.{apply_some, IsOpenStep, Entries, entries, no_entries, entries_after, is_held, IsExclusive}
 use Rattle.spin_world_core.specs.declared.place.Hold.{Hold}
 use Rattle.spin_world_core.specs.declared.place.Hold.TheVariants as hold
@@ -13,8 +13,9 @@ use Rattle.spin_world_core.specs.declared.schedule.Outcome.{Outcome}
 use Rattle.spin_world_core.specs.declared.schedule.Outcome.TheVariants as outcome
 use Rattle.spin_world_core.specs.Manners.{Manner, is_again, is_look, by_step}
 use Rattle.spin_world_core.specs.Manners as manner
-use Rattle.spin_world_core.specs.Calls.{Coding, encoded, BelongsTo, Asked, Said, own_steps, Mark, AnyOf, HasMoment, HasWeakMoment, Limit, unlimited, within, within_changes, gets_within, changes_within, registers_after, FindsClosed, Registers, TriesToStarve, limit}
-pub use Rattle.spin_world_core.specs.Spans.{own, own_count, failures, changes, held_looks, IsBeginning}
+use Rattle.spin_world_core.specs.Calls.{Coding, encoded, BelongsTo, Asked, Said, own_steps, Mark, AnyOf, HasMoment, HasWeakMoment, Limit, unlimited, within, within_changes, gets_within, changes_within, registers_after, FindsClosed, Registers, TriesToStarve, limit, may_be_weak}
+use Rattle.spin_world_core.specs.Begins.{fits}
+pub use Rattle.spin_world_core.specs.Spans.{own, own_count, failures, changes, held_looks, keeps_looking, IsBeginning}
 use Rattle.spin_world_core.specs.Undisturbed.{AnsweredInFour}
 use Rattle.spin_world_core.specs.Machines.{Machine, opening_plain}
 use Rattle.spin_world_core.specs.Schedules.{State, Happened, moves_at, at_first, after, may_read, may_write, is_owners}
@@ -180,6 +181,45 @@ MayTouch seen p (outcome.Value r) (OwnerSet v) = IsOwners seen
 MayTouch seen p outcome.Written (OwnerSet v) = IsOwners seen
 MayTouch seen p _ _ = Unit {0}
 
+-- Which moves are passed over, by the plain lock and by how far the party has come: only a move that nobody could make of a party that has this in the lock
+
+abbrev pub MayPass : {W V C L A : Type 0} → Machine W V C L A → Seen W V C L → ℕ → Move C V → Option (Seat C L) → Type 0
+MayPass m seen p (Begin c) (Some Idle) = fits m.coding (m.asks c None) None ≡ false
+MayPass m seen p (Begin c) (Some (Holding h)) = fits m.coding (m.asks c (Some h)) (Some h) ≡ false
+MayPass m seen p Step (Some (Calling c l h)) = ⊥
+MayPass m seen p Read (Some (Holding h)) = is_reader (entries p seen.plain) ≡ false
+MayPass m seen p Read (Some (Leaked h)) = is_reader (entries p seen.plain) ≡ false
+MayPass m seen p (Write v) (Some (Holding h)) = is_writer (entries p seen.plain) ≡ false
+MayPass m seen p (Write v) (Some (Leaked h)) = is_writer (entries p seen.plain) ≡ false
+MayPass m seen p Leak (Some (Holding h)) = ⊥
+MayPass m seen p OwnerGet (Some seat) = m.owned ≡ true → IsOwners seen → ⊥
+MayPass m seen p (OwnerSet v) (Some seat) = m.owned ≡ true → IsOwners seen → ⊥
+MayPass m seen p _ _ = Unit {0}
+
+-- what an event comes to that is not passed over, from the value before it to the one after it
+
+abbrev pub IsStep : {V A : Type 0} → Outcome A V → Type 0
+IsStep outcome.GoingOn = Unit {0}
+IsStep (outcome.Answered a b) = Unit {0}
+IsStep _ = ⊥
+
+abbrev pub ComesTo : {V C A : Type 0} → Move C V → Option V → Option V → Outcome A V → Type 0
+ComesTo (Begin c) old new o = o ≡ outcome.Begun
+ComesTo Step old new o = IsStep o
+ComesTo Weak old new o = IsStep o
+ComesTo Read old new o = o ≡ outcome.Value old
+ComesTo (Write v) old new o = (o ≡ outcome.Written) × (new ≡ Some v)
+ComesTo Leak old new o = o ≡ outcome.Leaked
+ComesTo OwnerGet old new o = o ≡ outcome.Value old
+ComesTo (OwnerSet v) None new o = (o ≡ outcome.Value None) × (new ≡ None)
+ComesTo (OwnerSet v) (Some u) new o = (o ≡ outcome.Written) × (new ≡ Some v)
+
+-- only a call that may be refused without cause is so, and before it has made a plain step
+abbrev pub IsWeakCall : {V C : Type 0} → Move C V → ℕ → List Mark → Option Asked → Type 0
+IsWeakCall Weak p span (Some what) = (may_be_weak what ≡ true) × (own p span ≡ [])
+IsWeakCall Weak p span None = ⊥
+IsWeakCall _ p span what = Unit {0}
+
 -- A call's own steps
 
 -- what the party's call asks
@@ -218,8 +258,14 @@ pub record Keeps {W V C L A : Type 0} (m : Machine W V C L A) (s : Scene W V C L
   pub touches : MayTouch s.before s.party s.outcome s.move
   -- exactly the moves that aren't open are passed over
   pub passes : (s.outcome ≡ outcome.PassedOver) ↔ (is_open_move m s.before.state s.move s.seat ≡ false)
-  -- and change nothing
+  -- none of them is one that the party could make by what it has in the plain lock
+  pub lets : s.outcome ≡ outcome.PassedOver → MayPass m s.before s.party s.move s.seat
+  -- and they change nothing
   pub unchanged : s.outcome ≡ outcome.PassedOver → s.after ≡ s.before
+  -- every other move comes to what it is for: a look finds what lies there, a write leaves what it names
+  pub comes : (s.outcome ≡ outcome.PassedOver → ⊥) → ComesTo s.move s.before.state.value s.after.state.value s.outcome
+  -- a refusal without cause comes to a call that makes a weak exchange
+  pub weak : (s.outcome ≡ outcome.PassedOver → ⊥) → IsWeakCall s.move s.party (s.before.span s.party) (asked m s.seat)
   -- a call makes the steps that its answer says, and no others
   pub own : OwnSteps m s.party (s.after.span s.party) s.outcome (asked m s.seat)
 
@@ -240,8 +286,9 @@ pub record IsLateLook (p n : ℕ) (m : Mark) (older : List Mark) : Type 0 where
   pub unregistered : own p older ≡ []
   pub late : n ≤ held_looks p older
 
--- a call that may starve registers in time: since each such look the party has registered, or found the cap, or its steps since are so few; and not before such a look
+-- a call that may starve registers in time: since each such look the party has registered, or found the cap, or its steps since are so few; and not before such a look. It never goes on without looking
 pub record RegistersInTime (IsFew : List Mark → Type 0) (p n : ℕ) (span : List Mark) : Type 0 where
+  pub looking : keeps_looking p span ≡ true
   pub soon : (recent : List Mark) (m : Mark) (older : List Mark) → span ≡ recent ++ m ∷ older → IsLateLook p n m older → AnyOf (TriesToStarve p) recent ⊎ IsFew recent
   pub patient : (recent : List Mark) (m : Mark) (older : List Mark) → span ≡ recent ++ m ∷ older → Registers p m → n < held_looks p older
 
@@ -267,8 +314,14 @@ InTime coding p span (outcome.Answered a b) (Some what) = EndsWithin (limit codi
 InTime coding p span outcome.GoingOn (Some what) = GoesOnWithin (limit coding what) coding p span
 InTime coding p span _ _ = Unit {0}
 
+-- a step by which a call goes on makes no plain step though what it is to make is open: then it is an exchange that the call makes again, and counts as one that failed
+abbrev pub IsCounted : {W V C L A : Type 0} → Machine W V C L A → ℕ → Outcome A V → Move C V → Option (Seat C L) → Option Change → Manner → Plain → Type 0
+IsCounted {W} m p outcome.GoingOn Step (Some (Calling c l h)) None manner s = (w : W) (d : Change) → m.change p w c l h ≡ Some d → is_open s d ≡ true → is_again manner ≡ true
+IsCounted m p _ _ _ _ _ _ = Unit {0}
+
 pub record IsInTime {W V C L A : Type 0} (m : Machine W V C L A) (s : Scene W V C L A) : Type 0 where
   pub in_time : InTime m.coding s.party (s.after.span s.party) s.outcome (asked m s.seat)
+  pub counted : IsCounted m s.party s.outcome s.move s.seat s.change s.manner s.before.plain
   -- an exchange that is made again fails only where another party has changed its word since the call looked, and once for each change
   pub retries : (q : ℕ) → failures q (s.after.span q) ≤ changes m.coding q (s.after.span q)
   -- a call that waits is answered by its fourth own step from the moment on at which it is open and nobody disturbs it

@@ -1,7 +1,7 @@
 -- Calls that nobody disturbs: from a moment on at which what such a call asks is open, it is answered by its fourth own step.
 use Rattle.std.specs.Prelude.{◌≡◌, ℕ, ◌≤◌, ◌<◌, ◌==◌, ◌&&◌, ◌||◌, Bool, true, false, Option, Some, is_some, List, [], ◌∷◌, ◌++◌, if◌then◌else◌}
-use Rattle.spin_step.specs.Plain.{Plain, to_enter, to_take_and_enter, to_lock_unregistered, to_lock_starving, is_open_to, is_empty, is_nothing, is_complete}
-use Rattle.spin_step.specs.Barriers.{may_leave}
+use Rattle.spin_step.specs.Plain.{Plain, writing, to_enter, to_take_and_enter, to_lock_unregistered, to_lock_starving, is_open_to, is_empty, is_first, is_holder, is_nothing, is_complete}
+use Rattle.spin_step.specs.Barriers.{may_leave, is_leading}
 use Rattle.spin_world_core.specs.declared.schedule.Outcome.{Outcome}
 use Rattle.spin_world_core.specs.declared.schedule.Outcome.TheVariants as outcome
 use Rattle.spin_world_core.specs.Manners.{is_weak}
@@ -13,18 +13,22 @@ abbrev pub arrived : ℕ → List Mark → ℕ
 arrived p [] = 0
 arrived p (m ∷ ms) = if (m.party == p) && is_some m.change then m.after.arrivals else arrived p ms
 
--- Whether it is open to the party what its call asks in its present state, where the call may wait: `first` if it has made no plain step yet.
+-- Whether it is open to the party what its call asks in its present state, where the call may wait: `first` if it has made no plain step yet. Who has got it already has only to be answered.
 -- Who queues asks for a ticket that enters at once, and with its ticket to enter; who may starve asks as everybody does, and once it has registered as a starver; and whoever has arrived at a barrier asks to leave
 abbrev pub is_open_next : Asked → Bool → ℕ → ℕ → Plain → Bool
 is_open_next (waits to_enter) true k p s = is_open_to s p to_take_and_enter
-is_open_next (waits ask) first k p s = is_open_to s p ask
+is_open_next (waits to_enter) false k p s = is_open_to s p to_enter || is_first p true s.tickets
+is_open_next (waits ask) true k p s = is_open_to s p ask
+is_open_next (waits ask) false k p s = true
 is_open_next (waits_or_starves n) true k p s = is_open_to s p to_lock_unregistered
-is_open_next (waits_or_starves n) false k p s = is_open_to s p to_lock_starving
+is_open_next (waits_or_starves n) false k p s = is_open_to s p to_lock_starving || is_holder p writing s.holders
 is_open_next initializes true k p s = is_nothing s.phase || is_complete s.phase
+is_open_next initializes false k p s = true
 is_open_next fails_to_initialize true k p s = is_nothing s.phase || is_complete s.phase
+is_open_next fails_to_initialize false k p s = true
 is_open_next waits_for_value first k p s = is_complete s.phase
 is_open_next polls first k p s = is_nothing s.phase || is_complete s.phase
-is_open_next meets false k p s = may_leave s k
+is_open_next meets false k p s = may_leave s k || is_leading s k
 is_open_next _ _ _ _ _ = false
 
 -- the same, from the steps of the call's span so far

@@ -1,6 +1,6 @@
 -- What the flag's table owes.
 use Rattle.std.proofs.Common.{◌≡◌, ℕ, Bool, true, false, not, ◌&&◌, Option, Some, None, List, [], ◌∷◌, refl, ap, sym, ◌∙◌, arith, inl}
-use Rattle.std.proofs.lemmas.Bool.{true≢false}
+use Rattle.std.proofs.lemmas.Bool.{true≢false, false≢true}
 use Rattle.spin_step.specs.Plain.{Plain, Ticket as Queued, writing, to_write, gets, releases, is_empty, flag_word}
 use Rattle.spin_step.specs.Parties.{Entries, entries, is_held}
 use Rattle.spin_step.specs.Steps.{bit}
@@ -14,12 +14,16 @@ use Rattle.spin_world_flag.specs.declared.flag.FlagCall.TheVariants.{Lock, TryLo
 use Rattle.spin_world_flag.specs.declared.flag.FlagPoint.{FlagPoint}
 use Rattle.spin_world_flag.specs.declared.flag.FlagPoint.TheVariants.{First, Second}
 use Rattle.spin_world_core.specs.Calls.{Mark, flag}
+use Rattle.spin_world_core.specs.Operations.{Operation, loads, exchanges, stores, performed}
+use Rattle.spin_world_core.specs.Acts.{becomes, step_by, can_by}
+use Rattle.spin_world_core.specs.declared.object.Next.{Next}
 use Rattle.spin_world_flag.specs.Flag.{asks_of, begins_at, lock, act_of, flag_table, flag_machine}
 use Rattle.spin_world_core.proofs.Facts.{LocalInvariant, Facts}
 use Rattle.spin_world_core.proofs.Stands.{holds, entries_at}
 use Rattle.spin_world_core.proofs.Rows.{starts_sound, Row, starts}
 use Rattle.spin_world_core.proofs.Shapes.{Notes, keeping_of, Means, OwesAt, answers_by, OwesSoon, BeginsAt, makes_own, Pays, CallOf, AtPoint}
 use Rattle.spin_world_core.proofs.Usual.{means_by, no_queue}
+use Rattle.spin_world_core.proofs.Operating.{BeginsWhereItFits, TriesWeakly, OperatesAt, one_word}
 use Rattle.spin_world_core.proofs.Paid.{facts_of}
 
 -- Each point is as the call's beginning: nothing has changed yet, and only `Lock`, which has no limit, has made a step before another
@@ -49,10 +53,10 @@ module _ {V : Type 0} (v : V) where
   held_is s p false word queue = ap (λ b. not (b && is_empty s.tickets)) (flag_lock-grants s p false word).0 ∙ ap (λ (ts : List Queued). not (is_empty ts)) queue
 
   owes : (p : ℕ) (c : FlagCall) (l : FlagPoint) (h : Option Hold) (s : Plain) (w : Bool) (span : List Mark) → OwesAt (flag_table v) (flag_notes v) p c l h s w span
-  owes p Lock First None s w span = λ at. (lock_means p at, (refl, inl refl, tt), (λ closed. (refl, refl, tt, tt, tt)), (refl, refl, tt, tt, tt))
+  owes p Lock First None s w span = λ at. (lock_means p at, (refl, inl refl, tt), (λ closed. (refl, refl, tt, tt, tt)), (refl, refl, tt, tt, tt), refl, refl)
   owes p Lock Second None s w span = λ at. ((λ e. (refl, refl, tt, tt, tt)), (λ e. (refl, refl, tt, tt, tt)))
   owes p TryLock l None s w span = λ at. (lock_means p at, (refl, inl refl, tt), (λ closed. (refl, inl refl, inl closed)))
-  owes p TryLockWeak l None s w span = λ at. (lock_means p at, (refl, inl refl, tt), (λ closed. (refl, inl refl, inl closed)), (refl, inl refl, tt))
+  owes p TryLockWeak l None s w span = λ at. (lock_means p at, (refl, inl refl, tt), (λ closed. (refl, inl refl, inl closed)), (refl, inl refl, tt), refl, refl)
   owes p IsLocked l None s w span = λ at. (refl, inl refl, inl (held_is s p w (word_is s w at.encodes) at.shape))
   owes p Release l (Some Write) s w span = λ at. (is_set p s w at.known.stand (word_is s w at.encodes), unlock_means p at at.known.stand, (refl, inl refl, tt))
   owes p _ _ _ s w span = tt
@@ -79,18 +83,48 @@ module _ {V : Type 0} (v : V) where
   makes p Lock First h = refl
   makes p _ _ h = refl
 
-  one_word : (v w : Bool) → bit v ∷ [] ≡ bit w ∷ [] → v ≡ w
-  one_word true true e = refl
-  one_word true false e = absurd (cc (e))
-  one_word false true e = absurd (cc (e))
-  one_word false false e = refl
+  same_bit : (v w : Bool) → bit v ≡ bit w → v ≡ w
+  same_bit true true e = refl
+  same_bit true false e = absurd (omega (arith, e))
+  same_bit false true e = absurd (omega (arith, e))
+  same_bit false false e = refl
+
+  fits_all : BeginsWhereItFits (flag_table v)
+  fits_all Release (Some Write) = refl
+  fits_all Release _ = refl
+  fits_all _ None = refl
+  fits_all _ (Some h) = refl
+
+  weakly : TriesWeakly (flag_table v)
+  weakly TryLockWeak l h weak is = refl
+  weakly Lock l h weak is = absurd (false≢true weak)
+  weakly _ l h weak is = absurd (false≢true weak)
+
+  -- a lost exchange finds a set flag, and leaves it
+  taken : (w : Bool) (won lost : Next FlagPoint (Answer V)) → bit (becomes {V = V} w (lock w) won lost).words ≡ performed (exchanges 0 1) (bit w)
+  taken true won lost = refl
+  taken false won lost = refl
+
+  alone : (c : FlagCall) (l : FlagPoint) (h : Option Hold) (operation : Operation) → ((w : Bool) → can_by (act_of {V = V} c l h) w ≡ true → bit (step_by {V = V} bit (act_of {V = V} c l h) w).words ≡ performed operation (bit w)) → OperatesAt flag (flag_table v) c l h
+  alone c l h operation is = (0, operation, one_word (flag_table v) (λ w. refl) same_bit c l h operation is)
+
+  operates : (c : FlagCall) (l : FlagPoint) (h : Option Hold) → OperatesAt flag (flag_table v) c l h
+  operates Lock First h = alone Lock First h (exchanges 0 1) (λ w can. taken w _ _)
+  operates Lock Second h = alone Lock Second h loads (λ w can. refl)
+  operates TryLock l h = alone TryLock l h (exchanges 0 1) (λ w can. taken w _ _)
+  operates TryLockWeak l h = alone TryLockWeak l h (exchanges 0 1) (λ w can. taken w _ _)
+  operates IsLocked l h = alone IsLocked l h loads (λ w can. refl)
+  operates Release l h = alone Release l h (stores 0) (λ w can. refl)
 
   pub flag_pays : Pays (flag_table v) (flag_notes v)
   flag_pays =
       record {
+        fits = fits_all;
+        weakly = weakly;
+        operates = operates;
         first = refl;
         shape_first = refl;
-        numbers_tell = one_word;
+        numbers_tell = λ v w e. same_bit v w (cc (e));
         no_value = refl;
         one_list = no_queue;
         makes = makes;

@@ -1,2 +1,3 @@
 pub mod Flag
 pub mod Wrong
+pub mod Named

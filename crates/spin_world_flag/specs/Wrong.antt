@@ -1,15 +1,17 @@
--- Flags that are wrong in their steps, and schedules on which the laws refuse them.
-use Rattle.std.specs.Prelude.{ℕ, Bool, false, Some, None, List, [], ◌∷◌}
+-- Flags that are wrong, each in one part of its machine, and schedules on which the laws refuse them.
+use Rattle.std.specs.Prelude.{ℕ, Bool, true, false, Some, None, List, [], ◌∷◌}
 use Rattle.spin_world_core.specs.declared.object.Next.TheVariants.{GoesOn, Answers}
 use Rattle.spin_world_core.specs.declared.answer.Answer.{Answer}
 use Rattle.spin_world_core.specs.declared.answer.Answer.TheVariants.{Refused, Is}
 use Rattle.spin_world_flag.specs.declared.flag.FlagCall.{FlagCall}
-use Rattle.spin_world_flag.specs.declared.flag.FlagCall.TheVariants.{Lock, TryLock, IsLocked, Release}
+use Rattle.spin_world_flag.specs.declared.flag.FlagCall.TheVariants.{Lock, TryLock, TryLockWeak, IsLocked, Release}
 use Rattle.spin_world_flag.specs.declared.flag.FlagPoint.{FlagPoint}
 use Rattle.spin_world_flag.specs.declared.flag.FlagPoint.TheVariants.{First, Second}
 use Rattle.spin_world_core.specs.declared.schedule.Move.{Move}
 use Rattle.spin_world_core.specs.declared.schedule.Move.TheVariants.{Begin, Step, Weak}
 use Rattle.spin_world_core.specs.Machines.{Machine}
+use Rattle.spin_world_core.specs.Calls.{waits}
+use Rattle.spin_step.specs.Plain.{to_read}
 use Rattle.spin_world_flag.specs.Flag.{flag_machine}
 
 abbrev FlagMachine : Type 0 → Type 0
@@ -42,3 +44,15 @@ looks_by_chance {V} v = let m : FlagMachine V = flag_machine v in record m { ref
 
 abbrev pub look_beside_a_holder : {V : Type 0} → List (ℕ × Move FlagCall V)
 look_beside_a_holder = (0, Begin TryLock) ∷ (0, Step) ∷ (1, Begin IsLocked) ∷ (1, Weak) ∷ []
+
+-- a `release` that begins nowhere
+abbrev pub never_releases : {V : Type 0} → V → FlagMachine V
+never_releases {V} v = let m : FlagMachine V = flag_machine v in record m { begin = λ c h. elim c [ Release ↦ None | Lock ↦ m.begin Lock h | TryLock ↦ m.begin TryLock h | TryLockWeak ↦ m.begin TryLockWeak h | IsLocked ↦ m.begin IsLocked h ] }
+
+-- a `lock` that asks to read, which no flag knows, so that it is never answered
+abbrev pub locks_to_read : {V : Type 0} → V → FlagMachine V
+locks_to_read {V} v = let m : FlagMachine V = flag_machine v in record m { asks = λ c h. elim c [ Lock ↦ waits to_read | Release ↦ m.asks Release h | TryLock ↦ m.asks TryLock h | TryLockWeak ↦ m.asks TryLockWeak h | IsLocked ↦ m.asks IsLocked h ] }
+
+-- a lock that is held by nobody at first, and for good
+abbrev pub opens_set : {V : Type 0} → V → FlagMachine V
+opens_set {V} v = let m : FlagMachine V = flag_machine v in record m { words = true }

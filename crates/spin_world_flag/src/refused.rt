@@ -1,7 +1,9 @@
 //! Wrong flags, each with a law that it breaks on a schedule that is named. They show what the laws keep out.
-ghost use Rattle.std.specs.Prelude.{◌≡◌};
+ghost use Rattle.std.specs.Prelude.{◌≡◌, []};
 ghost use Rattle.spin_world_core.specs.Runs.{MomentsAll, CountsAll};
-ghost use Rattle.spin_world_flag.specs.Wrong.{looks_for_ever, four_looks, tries_by_chance, one_try, looks_by_chance, look_beside_a_holder};
+ghost use Rattle.spin_world_core.specs.Operations.{Stepwise};
+ghost use Rattle.spin_world_core.specs.Runs.{KeepsAll};
+ghost use Rattle.spin_world_flag.specs.Wrong.{looks_for_ever, four_looks, tries_by_chance, one_try, looks_by_chance, look_beside_a_holder, never_releases, locks_to_read, opens_set};
 
 /// A flag's `lock` that never tries again after its first refusal: undisturbed it has to be answered by its fourth step.
 pub fn a_lock_tries_again<V: Copy>()
@@ -16,4 +18,19 @@ pub fn a_strong_try_has_a_cause<V: Copy>()
 /// A look that tells without cause that nobody holds.
 pub fn a_look_has_a_cause<V: Copy>()
     ensures { (value : V) → MomentsAll (looks_by_chance value) 2 look_beside_a_holder → ⊥ }
+{}
+
+/// A flag whose `release` begins nowhere: a call begins wherever its party holds what it is for.
+pub fn a_holder_may_release<V: Copy>()
+    ensures { (value : V) → Stepwise (never_releases value) → ⊥ }
+{}
+
+/// A flag whose `lock` asks for what no flag grants, and so is never answered.
+pub fn a_lock_asks_what_a_flag_grants<V: Copy>()
+    ensures { (value : V) → Stepwise (locks_to_read value) → ⊥ }
+{}
+
+/// A flag that is set at first, though nobody holds it.
+pub fn a_flag_opens_clear<V: Copy>()
+    ensures { (value : V) → KeepsAll (opens_set value) 1 [] → ⊥ }
 {}

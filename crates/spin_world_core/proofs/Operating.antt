@@ -1,0 +1,160 @@
+-- What a table owes of its calls' beginnings and of its steps as operations, and what its shapes show of themselves.
+use Rattle.std.proofs.Common.{◌≡◌, ℕ, Bool, true, false, ◌==◌, Option, Some, None, [], ◌∷◌, is_some, get_or, slice_set, unwrap_or, if◌then◌else◌, refl, ap, sym, ◌∙◌}
+use Rattle.std.proofs.lemmas.Bool.{eqb-true, false≢true}
+use Rattle.spin_step.specs.Plain.{Plain, Change, is_open}
+use Rattle.spin_world_core.specs.declared.place.Hold.{Hold}
+use Rattle.spin_world_core.specs.declared.answer.Answer.{Answer}
+use Rattle.spin_world_core.specs.declared.object.Next.{Next}
+use Rattle.spin_world_core.specs.declared.object.Next.TheVariants.{GoesOn, Answers}
+use Rattle.spin_world_core.specs.Manners.{Manner, is_again, is_look}
+use Rattle.spin_world_core.specs.Calls.{Coding, barrier, Asked, is_weak_try}
+use Rattle.spin_world_core.specs.Begins.{fits}
+use Rattle.spin_world_core.specs.Operations.{Operation, exchanges, performed, IsOneOperation, Stepwise}
+use Rattle.spin_world_core.specs.Acts.{Act, load, load_if, load_for, enter, exchange, weak_exchange, attempt, retry, store, store_if, becomes, passing, retried, step_by, can_by, refusal_by, manner_by, Table, machine_of, completes_by, brought, filled, machine_with}
+use Rattle.spin_world_core.specs.Schedules.{placed}
+use Rattle.spin_world_core.proofs.Facts.{GoesOnCounted}
+
+-- The debts
+
+abbrev pub BeginsWhereItFits : {W V C L A : Type 0} → Table W V C L A → Type 0
+BeginsWhereItFits {C = C} t = (c : C) (h : Option Hold) → is_some (t.begin c h) ≡ fits t.coding (t.asks c h) h
+
+abbrev pub TriesWeakly : {W V C L A : Type 0} → Table W V C L A → Type 0
+TriesWeakly {C = C} {L = L} t = (c : C) (l : L) (h : Option Hold) → is_weak_try (t.asks c h) ≡ true → t.begin c h ≡ Some l → is_some (refusal_by (t.act c l h)) ≡ true
+
+-- the step at this point is this operation on the i-th word
+pub record Operates {W V C L A : Type 0} (t : Table W V C L A) (c : C) (l : L) (h : Option Hold) (i : ℕ) (operation : Operation) : Type 0 where
+  pub words : (w : W) → can_by (t.act c l h) w ≡ true
+      → (let to = (step_by {V = V} t.number (t.act c l h) w).words in t.number to ∷ t.others to ≡ slice_set (t.number w ∷ t.others w) i (performed operation (get_or (t.number w ∷ t.others w) i 0)))
+  pub next : (w u : W) → get_or (t.number w ∷ t.others w) i 0 ≡ get_or (t.number u ∷ t.others u) i 0 → (step_by {V = V} t.number (t.act c l h) w).next ≡ (step_by {V = V} t.number (t.act c l h) u).next
+
+abbrev pub OperatesAt : {W V C L A : Type 0} → Coding → Table W V C L A → C → L → Option Hold → Type 0
+OperatesAt barrier t c l h = Unit {0}
+OperatesAt _ t c l h = (i : ℕ) × (operation : Operation) × Operates t c l h i operation
+
+-- The shapes
+
+-- a step places no value by itself
+became_unplaced : {W V L A : Type 0} (w : W) (o : Option W) (won lost : Next L A) → (becomes {V = V} w o won lost).placed ≡ None
+became_unplaced w None won lost = refl
+became_unplaced w (Some to) won lost = refl
+
+unplaced : {W V L A : Type 0} (number : W → ℕ) (act : Act W L A) (w : W) → (step_by {V = V} number act w).placed ≡ None
+unplaced number (load next) w = refl
+unplaced number (load_if test a b) w = refl
+unplaced number (load_for f step found missed) w = refl
+unplaced number (enter test step won lost) w = became_unplaced w (passing (test w) w) won lost
+unplaced number (exchange f step won lost) w = became_unplaced w (f w) won (lost w)
+unplaced number (weak_exchange f step won lost) w = became_unplaced w (f w) won lost
+unplaced number (attempt f step won lost) w = became_unplaced w (f w) won lost
+unplaced {V = V} number (retry k f step won found missed) w = at_number (number w == k)
+  where
+    at_number : (b : Bool) → (retried {V = V} b w (f w) won (found w) missed).placed ≡ None
+    at_number true = became_unplaced w (f w) won missed
+    at_number false = refl
+unplaced number (store can f step next) w = refl
+unplaced number (store_if can f step test a b) w = refl
+
+-- a look changes no word
+look_stays : {W L A : Type 0} (V : Type 0) (number : W → ℕ) (what : Asked) (act : Act W L A) (w : W) → is_look (manner_by what act) ≡ true → (step_by {V = V} number act w).words ≡ w
+look_stays V number what (load_if test a b) w is = refl
+look_stays V number what (enter test step won lost) w is = passed (test w)
+  where
+    passed : (b : Bool) → (becomes {V = V} w (passing b w) won lost).words ≡ w
+    passed true = refl
+    passed false = refl
+look_stays V number what (load next) w is = refl
+look_stays V number what (load_for f step found missed) w is = refl
+look_stays V number what (exchange f step won lost) w is = absurd (false≢true is)
+look_stays V number what (weak_exchange f step won lost) w is = absurd (false≢true is)
+look_stays V number what (attempt f step won lost) w is = absurd (false≢true is)
+look_stays V number what (retry k f step won found missed) w is = absurd (false≢true is)
+look_stays V number what (store can f step next) w is = absurd (false≢true is)
+look_stays V number what (store_if can f step test a b) w is = absurd (false≢true is)
+
+-- a step that goes on and makes nothing is counted, if it is where what it could make is open
+pub counted_of : {W L A : Type 0} (change : W → Option Change) (s : Plain) (next : Next L A) (o : Option Change) (r : Manner)
+    → ((w : W) (d : Change) → change w ≡ Some d → is_open s d ≡ true → o ≡ None → is_again r ≡ true) → GoesOnCounted change s next o r
+counted_of change s (GoesOn l) None r counts = λ w d is may. counts w d is may refl
+counted_of change s (GoesOn l) (Some d) r counts = tt
+counted_of change s (Answers a after) o r counts = tt
+
+pub counted_filled : {W V L : Type 0} (change : W → Option Change) (s : Plain) (value : Option V) (next : Next L (Answer (Unit {0}))) (o : Option Change) (r : Manner) → GoesOnCounted change s next o r → GoesOnCounted change s (filled value next) o r
+counted_filled change s value (GoesOn l) None r counts = counts
+counted_filled change s value (GoesOn l) (Some d) r counts = tt
+counted_filled change s value (Answers a after) o r counts = tt
+
+-- The machines
+
+operation_of : {W V C L A : Type 0} (t : Table W V C L A) (coding : Coding) (c : C) (l : L) (h : Option Hold) → OperatesAt coding t c l h → IsOneOperation coding (machine_of t) c l h
+operation_of t barrier c l h o = tt
+operation_of {V = V} t _ c l h o = (
+  o.0,
+  o.1,
+  record {
+    words = λ w v can. o.2.words w can;
+    next = λ w u v can may same. o.2.next w u same;
+    placed = λ w u v. unplaced {V = V} t.number (t.act c l h) w ∙ sym (unplaced {V = V} t.number (t.act c l h) u);
+  },
+)
+
+pub stepwise_of : {W V C L A : Type 0} (t : Table W V C L A) → BeginsWhereItFits t → TriesWeakly t → ((c : C) (l : L) (h : Option Hold) → OperatesAt t.coding t c l h) → Stepwise (machine_of t)
+stepwise_of {V = V} t begins weak operates =
+    record {
+      begins = begins;
+      weak = weak;
+      operates = λ c l h. operation_of t t.coding c l h (operates c l h);
+      looks = λ c l h is w v. look_stays V t.number (t.asks c h) (t.act c l h) w is;
+    }
+
+operation_with : {W V C L : Type 0} (t : Table W V C L (Answer (Unit {0}))) (brings : C → Option V) (coding : Coding) (c : C) (l : L) (h : Option Hold) → OperatesAt coding t c l h → IsOneOperation coding (machine_with t brings) c l h
+operation_with t brings barrier c l h o = tt
+operation_with t brings _ c l h o = (
+  o.0,
+  o.1,
+  record {
+    words = λ w v can. o.2.words w can;
+    next = λ w u v can may same. ap (filled (placed (brought (completes_by (t.act c l h)) (brings c)) v)) (o.2.next w u same);
+    placed = λ w u v. refl;
+  },
+)
+
+pub stepwise_with : {W V C L : Type 0} (t : Table W V C L (Answer (Unit {0}))) (brings : C → Option V) → BeginsWhereItFits t → ((c : C) (h : Option Hold) → is_weak_try (t.asks c h) ≡ false) → ((c : C) (l : L) (h : Option Hold) → OperatesAt t.coding t c l h) → Stepwise (machine_with t brings)
+stepwise_with {V = V} t brings begins strong operates =
+    record {
+      begins = begins;
+      weak = λ c l h weak is. absurd (false≢true (sym (strong c h) ∙ weak));
+      operates = λ c l h. operation_with t brings t.coding c l h (operates c l h);
+      looks = λ c l h is w v. look_stays V t.number (t.asks c h) (t.act c l h) w is;
+    }
+
+-- Tables of one word
+
+module _ {W V C L A : Type 0} (t : Table W V C L A) (alone : (w : W) → t.others w ≡ []) (tells : (v w : W) → t.number v ≡ t.number w → v ≡ w) where
+  pub one_word : (c : C) (l : L) (h : Option Hold) (operation : Operation) → ((w : W) → can_by (t.act c l h) w ≡ true → t.number (step_by {V = V} t.number (t.act c l h) w).words ≡ performed operation (t.number w)) → Operates t c l h 0 operation
+  one_word c l h operation is =
+      record {
+        words = λ w can. let to = (step_by {V = V} t.number (t.act c l h) w).words in
+            rw (alone to, alone w) (ap (λ n. n ∷ []) (is w can));
+        next = λ w u same. ap (λ w. (step_by {V = V} t.number (t.act c l h) w).next) (tells w u same);
+      }
+
+-- an exchange of one number for another
+pub swaps : {L A : Type 0} (V : Type 0) (from to w : ℕ) (won lost : Next L A) → (becomes {V = V} w (if w == from then Some to else None) won lost).words ≡ performed (exchanges from to) w
+swaps V from to w won lost = at_number (w == from)
+  where
+    at_number : (b : Bool) → (becomes {V = V} w (if b then Some to else None) won lost).words ≡ (if b then to else w)
+    at_number true = refl
+    at_number false = refl
+
+-- an exchange of the number that was found before
+pub swaps_found : {L A : Type 0} (V : Type 0) (k w : ℕ) (f : ℕ → Option ℕ) (won found missed : Next L A) → (retried {V = V} (w == k) w (f w) won found missed).words ≡ performed (exchanges k (unwrap_or (f k) k)) w
+swaps_found V k w f won found missed = at_number (w == k) refl
+  where
+    given : (o : Option ℕ) → (becomes {V = V} w o won missed).words ≡ unwrap_or o w
+    given None = refl
+    given (Some to) = refl
+
+    at_number : (b : Bool) → (w == k) ≡ b → (retried {V = V} b w (f w) won found missed).words ≡ (if b then unwrap_or (f k) k else w)
+    at_number true is = given (f w) ∙ ap (λ n. unwrap_or (f n) n) (eqb-true w k is)
+    at_number false is = refl

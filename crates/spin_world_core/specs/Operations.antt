@@ -1,0 +1,45 @@
+-- What a step of a call is: one operation on one word, as a processor makes it.
+use Rattle.std.specs.Prelude.{◌≡◌, ℕ, ◌+◌, ◌-◌, ◌%◌, ◌==◌, true, Option, Some, is_some, if◌then◌else◌, get_or, slice_set}
+use Rattle.spin_world_core.specs.declared.place.Hold.{Hold}
+use Rattle.spin_world_core.specs.Manners.{is_look}
+use Rattle.spin_world_core.specs.Calls.{Coding, barrier, is_weak_try}
+use Rattle.spin_world_core.specs.Begins.{fits}
+use Rattle.spin_world_core.specs.Machines.{Machine}
+
+pub data Operation : Type 0 where
+  loads : Operation
+  exchanges : ℕ → ℕ → Operation  -- the first number, where it is found, for the second
+  adds : ℕ → Operation
+  subtracts : ℕ → Operation
+  sets_lowest_bit : Operation
+  stores : ℕ → Operation
+
+-- what lies there after it
+abbrev pub performed : Operation → ℕ → ℕ
+performed loads n = n
+performed (exchanges from to) n = if n == from then to else n
+performed (adds k) n = n + k
+performed (subtracts k) n = n - k
+performed sets_lowest_bit n = if n % 2 == 0 then n + 1 else n
+performed (stores k) n = k
+
+-- wherever the step may be taken, it makes this operation on the i-th word and leaves the others; and what comes of it depends on the number that lies there, and on no other
+pub record Performs {W V C L A : Type 0} (m : Machine W V C L A) (c : C) (l : L) (h : Option Hold) (i : ℕ) (operation : Operation) : Type 0 where
+  pub words : (w : W) (v : Option V) → m.can w c l h ≡ true → m.numbers (m.step w v c l h).words ≡ slice_set (m.numbers w) i (performed operation (get_or (m.numbers w) i 0))
+  pub next : (w u : W) (v : Option V) → m.can w c l h ≡ true → m.can u c l h ≡ true → get_or (m.numbers w) i 0 ≡ get_or (m.numbers u) i 0 → (m.step w v c l h).next ≡ (m.step u v c l h).next
+  pub placed : (w u : W) (v : Option V) → (m.step w v c l h).placed ≡ (m.step u v c l h).placed
+
+-- a step of a barrier is a whole section under the barrier's own lock
+abbrev pub IsOneOperation : {W V C L A : Type 0} → Coding → Machine W V C L A → C → L → Option Hold → Type 0
+IsOneOperation barrier m c l h = Unit {0}
+IsOneOperation _ m c l h = (i : ℕ) × (operation : Operation) × Performs m c l h i operation
+
+-- what holds of the calls and steps of an object, whatever the schedule
+pub record Stepwise {W V C L A : Type 0} (m : Machine W V C L A) : Type 0 where
+  -- its calls are those of its kind of lock, and each begins just where its party holds what it is for
+  pub begins : (c : C) (h : Option Hold) → is_some (m.begin c h) ≡ fits m.coding (m.asks c h) h
+  -- a weak try makes a weak exchange
+  pub weak : (c : C) (l : L) (h : Option Hold) → is_weak_try (m.asks c h) ≡ true → m.begin c h ≡ Some l → is_some (m.refuse c l h) ≡ true
+  pub operates : (c : C) (l : L) (h : Option Hold) → IsOneOperation m.coding m c l h
+  -- a look changes no word
+  pub looks : (c : C) (l : L) (h : Option Hold) → is_look (m.manner c l h) ≡ true → (w : W) (v : Option V) → (m.step w v c l h).words ≡ w

@@ -1,0 +1,24 @@
+-- What a flag is: how it opens, and what each of its calls asks. Where a call begins follows from what it asks.
+use Rattle.std.specs.Prelude.{◌≡◌, Bool, true, false, Option, Some, [], ◌∷◌}
+use Rattle.spin_step.specs.Plain.{to_write}
+use Rattle.spin_step.specs.Steps.{bit}
+use Rattle.spin_world_core.specs.declared.place.Hold.{Hold}
+use Rattle.spin_world_core.specs.declared.answer.Answer.{Answer}
+use Rattle.spin_world_flag.specs.declared.flag.FlagCall.{FlagCall}
+use Rattle.spin_world_flag.specs.declared.flag.FlagCall.TheVariants.{Lock, TryLock, TryLockWeak, IsLocked, Release}
+use Rattle.spin_world_flag.specs.declared.flag.FlagPoint.{FlagPoint}
+use Rattle.spin_world_core.specs.Calls.{flag, waits, tries, tries_weakly, looks, gives_back, says_of}
+use Rattle.spin_world_core.specs.Machines.{Machine}
+
+pub record IsFlag {V : Type 0} (given : V) (m : Machine Bool V FlagCall FlagPoint (Answer V)) : Type 0 where
+  pub coding : m.coding ≡ flag
+  pub opens_clear : m.words ≡ false
+  pub number : (w : Bool) → m.numbers w ≡ bit w ∷ []
+  pub value : m.value ≡ Some given
+  pub owned : m.owned ≡ true
+  pub lock : (h : Option Hold) → m.asks Lock h ≡ waits to_write
+  pub try_lock : (h : Option Hold) → m.asks TryLock h ≡ tries to_write
+  pub try_lock_weak : (h : Option Hold) → m.asks TryLockWeak h ≡ tries_weakly to_write
+  pub is_locked : (h : Option Hold) → m.asks IsLocked h ≡ looks
+  pub release : (h : Option Hold) → m.asks Release h ≡ gives_back h
+  pub says : (a : Answer V) → m.says a ≡ says_of a
