@@ -1,6 +1,6 @@
 -- One event keeps all that is promised, of any object that shows its local facts.
 use Rattle.std.proofs.Common.{◌≡◌, ℕ, ◌<◌, ◌≤◌, ◌==◌, Bool, true, false, Option, Some, None, List, [], ◌∷◌, ◌++◌, suc, if◌then◌else◌, is_some, slice_get, slice_set, refl, ap, sym, ◌∙◌, subst, ⊎_elim, arith}
-use Rattle.std.proofs.lemmas.Bool.{ne_eqb, cases_eq, true≢false}
+use Rattle.std.proofs.lemmas.Bool.{ne_eqb, cases_eq, true≢false, false≢true}
 use Rattle.spin_step.specs.Plain.{Plain, Change}
 use Rattle.spin_step.specs.Parties.{apply_some, IsOpenStep, Entries, entries, entries_after, IsExclusive}
 use Rattle.spin_step.proofs.Entries.{entries-other, entries-own}
@@ -12,15 +12,15 @@ use Rattle.spin_world_core.specs.declared.place.Seat.TheVariants.{Idle, Calling,
 use Rattle.spin_world_core.specs.declared.object.Next.{Next}
 use Rattle.spin_world_core.specs.declared.object.Next.TheVariants.{GoesOn, Answers}
 use Rattle.spin_world_core.specs.declared.schedule.Move.{Move}
-use Rattle.spin_world_core.specs.declared.schedule.Move.TheVariants.{Begin, Read, Write, Leak}
+use Rattle.spin_world_core.specs.declared.schedule.Move.TheVariants.{Begin, Step, Weak, Read, Write, Leak, OwnerGet, OwnerSet}
 use Rattle.spin_world_core.specs.declared.schedule.Outcome.TheVariants as outcome
 use Rattle.spin_world_core.specs.Manners.{Manner, is_again, is_weak}
 use Rattle.spin_world_core.specs.Manners as manner
 use Rattle.spin_world_core.specs.Calls.{encoded, BelongsTo, Mark}
 use Rattle.spin_world_core.specs.Begins.{fits}
 use Rattle.spin_world_core.specs.Machines.{Machine}
-use Rattle.spin_world_core.specs.Schedules.{passed, seated, begun, goes_on, resting, read_by, written_by, may_read, may_write}
-use Rattle.spin_world_core.specs.Runs.{Seen, Scene, scene_of, mark_of, own_count, failures, changes, if_completed, is_open_move, entries_of, entries_held, entries_so_far, StandsFor, is_reader, is_writer, MayTouch, MayPass, ComesTo, IsWeakCall, OwnSteps, asked, Keeps, IsRight, IsCounted, IsInTime}
+use Rattle.spin_world_core.specs.Schedules.{State, passed, seated, begun, goes_on, resting, read_by, written_by, may_read, may_write}
+use Rattle.spin_world_core.specs.Runs.{Seen, Scene, scene_of, mark_of, own_count, failures, changes, if_completed, is_open_move, entries_of, entries_held, entries_so_far, StandsFor, is_reader, is_writer, MayTouch, MayPass, is_in_place, ComesTo, IsWeakCall, OwnSteps, asked, Keeps, IsRight, IsCounted, IsInTime}
 use Rattle.spin_world_core.proofs.Lists.{get-set_same, get-set_other, eqb_self}
 use Rattle.spin_world_core.proofs.Spans.{retries-mine, retries-other}
 use Rattle.spin_world_core.specs.Undisturbed.{is_open_now, Leaves, AllOf}
@@ -60,6 +60,27 @@ pub record Kept {W V C L A : Type 0} (m : Machine W V C L A) (k : LocalInvariant
   pub in_time : IsInTime m s
   pub good : Invariant m k s.after
 
+-- an open move is one in its place
+placed_right : {W V C L A : Type 0} (m : Machine W V C L A) (s : State W V C L) (move : Move C V) (seat : Option (Seat C L)) → is_open_move m s move seat ≡ true → is_in_place move seat ≡ true
+placed_right m s move None e = absurd (false≢true e)
+placed_right m s (Begin c) (Some Idle) e = refl
+placed_right m s (Begin c) (Some (Holding h)) e = refl
+placed_right m s (Begin c) (Some _) e = absurd (false≢true e)
+placed_right m s Step (Some (Calling c l h)) e = refl
+placed_right m s Step (Some _) e = absurd (false≢true e)
+placed_right m s Weak (Some (Calling c l h)) e = refl
+placed_right m s Weak (Some _) e = absurd (false≢true e)
+placed_right m s Read (Some (Holding h)) e = refl
+placed_right m s Read (Some (Leaked h)) e = refl
+placed_right m s Read (Some _) e = absurd (false≢true e)
+placed_right m s (Write v) (Some (Holding h)) e = refl
+placed_right m s (Write v) (Some (Leaked h)) e = refl
+placed_right m s (Write v) (Some _) e = absurd (false≢true e)
+placed_right m s Leak (Some (Holding h)) e = refl
+placed_right m s Leak (Some _) e = absurd (false≢true e)
+placed_right m s OwnerGet (Some seat) e = refl
+placed_right m s (OwnerSet v) (Some seat) e = refl
+
 -- what is promised of an event that isn't passed over, from what holds after it
 pub keeps_from : {W V C L A : Type 0} (m : Machine W V C L A) (k : LocalInvariant V C L) (f : Facts m k) (s : Scene W V C L A) → Invariant m k s.after
     → IsOpenStep s.before.plain s.party s.change → BelongsTo m.coding s.change → ((r : Option V) → s.outcome ≡ outcome.Value r → r ≡ s.before.written) → MayTouch s.before s.party s.outcome s.move
@@ -82,6 +103,7 @@ keeps_from m k f s good opens belongs reads touches happened is_open own comes w
       comes = λ happened. comes;
       weak = λ happened. weak;
       own = own;
+      in_place = λ happened. placed_right m s.before.state s.move s.seat is_open;
     }
 
 pub passed_over : {W V C L A : Type 0} (m : Machine W V C L A) (k : LocalInvariant V C L) (f : Facts m k) (seen : Seen W V C L) (p : ℕ) (move : Move C V) (seat : Option (Seat C L)) (r : Manner)
@@ -104,6 +126,7 @@ passed_over m k f seen p move seat r good closed may =
         comes = λ happened. absurd (happened refl);
         weak = λ happened. absurd (happened refl);
         own = tt;
+        in_place = λ happened. absurd (happened refl);
       };
       right = tt;
       in_time = record { in_time = tt; counted = tt; retries = good.retries; undisturbed = tt };

@@ -196,6 +196,21 @@ MayPass m seen p OwnerGet (Some seat) = m.owned ≡ true → IsOwners seen → �
 MayPass m seen p (OwnerSet v) (Some seat) = m.owned ≡ true → IsOwners seen → ⊥
 MayPass m seen p _ _ = Unit {0}
 
+-- the place at which a move is for its party
+abbrev pub is_in_place : {V C L : Type 0} → Move C V → Option (Seat C L) → Bool
+is_in_place (Begin c) (Some Idle) = true
+is_in_place (Begin c) (Some (Holding h)) = true
+is_in_place Step (Some (Calling c l h)) = true
+is_in_place Weak (Some (Calling c l h)) = true
+is_in_place Read (Some (Holding h)) = true
+is_in_place Read (Some (Leaked h)) = true
+is_in_place (Write v) (Some (Holding h)) = true
+is_in_place (Write v) (Some (Leaked h)) = true
+is_in_place Leak (Some (Holding h)) = true
+is_in_place OwnerGet (Some seat) = true
+is_in_place (OwnerSet v) (Some seat) = true
+is_in_place _ _ = false
+
 -- what an event comes to that is not passed over, from the value before it to the one after it
 
 abbrev pub IsStep : {V A : Type 0} → Outcome A V → Type 0
@@ -268,6 +283,8 @@ pub record Keeps {W V C L A : Type 0} (m : Machine W V C L A) (s : Scene W V C L
   pub weak : (s.outcome ≡ outcome.PassedOver → ⊥) → IsWeakCall s.move s.party (s.before.span s.party) (asked m s.seat)
   -- a call makes the steps that its answer says, and no others
   pub own : OwnSteps m s.party (s.after.span s.party) s.outcome (asked m s.seat)
+  -- a party moves by where it stands: it steps in a call, looks and writes where it holds or has leaked, and no more once it is gone
+  pub in_place : (s.outcome ≡ outcome.PassedOver → ⊥) → is_in_place s.move s.seat ≡ true
 
 -- an answer is right at a moment of the call; only a weak try may be refused without cause, by its weak exchange
 abbrev pub RightAnswer : {W V C L A : Type 0} → Machine W V C L A → ℕ → List Mark → Outcome A V → Option Asked → Move C V → Type 0
