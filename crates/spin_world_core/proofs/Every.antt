@@ -1,7 +1,7 @@
 -- Every event of every schedule keeps all that is promised, of any object that shows its local facts.
 use Rattle.std.proofs.Common.{◌≡◌, ℕ, Option, Some, None, List, [], ◌∷◌, zero, suc, is_some, replicate, slice_get, refl, ap, ◌∙◌, arith}
 use Rattle.std.proofs.lemmas.Bool.{true≢false, false≢true}
-use Rattle.spin_step.specs.Plain.{Plain, Change}
+use Rattle.spin_step.specs.Plain.{Plain, Change, completes}
 use Rattle.spin_step.specs.Parties.{entries, no_entries}
 use Rattle.spin_world_core.specs.declared.place.Hold.{Hold}
 use Rattle.spin_world_core.specs.declared.place.Seat.{Seat}
@@ -14,7 +14,7 @@ use Rattle.spin_world_core.specs.Manners.{Manner, by_step}
 use Rattle.spin_world_core.specs.Manners as manner
 use Rattle.spin_world_core.specs.Machines.{Machine, opening_plain}
 use Rattle.spin_world_core.specs.Schedules.{State, after, at_first, goes_on, placed, refuses, may_read, may_write, is_owners}
-use Rattle.spin_world_core.specs.Runs.{Seen, Scene, IsStep, IsCounted, scene_of, scene_at, scene, if_completed, StandsFor, Every, Keeps, IsRight, IsInTime, opening, KeepsAll, MomentsAll, CountsAll, CanStep}
+use Rattle.spin_world_core.specs.Runs.{Seen, Scene, IsStep, StepLeaves, IsCounted, scene_of, scene_at, scene, if_completed, StandsFor, Every, Keeps, IsRight, IsInTime, opening, KeepsAll, MomentsAll, CountsAll, CanStep}
 use Rattle.spin_world_core.specs.Users.{seen_after}
 use Rattle.spin_world_core.proofs.Facts.{LocalInvariant, KnowsAt, GoesOnCounted, Facts}
 pub use Rattle.spin_world_core.proofs.Kept.{standing, in_call}
@@ -26,6 +26,11 @@ use Rattle.spin_world_core.proofs.Owners.{owner_get_kept, owner_set_kept}
 is_step : {W V C L A : Type 0} (s : State W V C L) (p : ℕ) (c : C) (h : Option Hold) (next : Next L A) → IsStep (goes_on s p c h next).outcome
 is_step s p c h (GoesOn l) = tt
 is_step s p c h (Answers a after) = tt
+
+-- and leaves the value, where no closure completes
+leaves : {V : Type 0} (old new put : Option V) (step : Option Change) → new ≡ if_completed old put step → StepLeaves step old new
+leaves old new put (Some (completes p)) is = tt
+leaves old new put _ is = is
 
 counts : {W V C L A : Type 0} (m : Machine W V C L A) (s : State W V C L) (p : ℕ) (c : C) (l : L) (h : Option Hold) (plain : Plain) (next : Next L A) (step : Option Change) (r : Manner)
     → GoesOnCounted (λ u. m.change p u c l h) plain next step r → IsCounted m p (goes_on s p c h next).outcome Step (Some (Calling c l h)) step r plain
@@ -46,7 +51,7 @@ step_kept m k f seen p c l h good there =
     let here = in_call m k seen p c l h good there in
     let is = f.steps p c l h seen.plain seen.state.value seen.state.words (seen.span p) here in
     went_on m k f seen p Step c l h step (by_step (m.manner c l h)) st.placed st.words (placed st.placed seen.state.value) st.next good there is.opens is.belongs is.encodes is.shape (is.places ∙ ap (λ old. if_completed old st.placed step) good.written) is.next is.fails (λ strong j answers. answers seen.state.value) refl
-    (is_step (record seen.state { words = st.words; value = placed st.placed seen.state.value }) p c h st.next) tt
+    (is_step (record seen.state { words = st.words; value = placed st.placed seen.state.value }) p c h st.next, leaves seen.state.value (placed st.placed seen.state.value) st.placed step is.places) tt
     (counts m (record seen.state { words = st.words; value = placed st.placed seen.state.value }) p c l h seen.plain st.next step (by_step (m.manner c l h)) (f.counted p c l h seen.plain seen.state.value seen.state.words (seen.span p) here))
 
 weak_kept : {W V C L A : Type 0} (m : Machine W V C L A) (k : LocalInvariant V C L) (f : Facts m k) (seen : Seen W V C L) (p : ℕ) (c : C) (l : L) (h : Option Hold) (o : Option (Next L A)) → Invariant m k seen → slice_get seen.state.seats p ≡ Some (Calling c l h)
@@ -54,7 +59,7 @@ weak_kept : {W V C L A : Type 0} (m : Machine W V C L A) (k : LocalInvariant V C
 weak_kept m k f seen p c l h None good there is = passed_over m k f seen p Weak (Some (Calling c l h)) manner.weak good (ap is_some is) tt
 weak_kept m k f seen p c l h (Some next) good there is =
     went_on m k f seen p Weak c l h None manner.weak None seen.state.words seen.state.value next good there tt tt good.encodes good.shape good.written
-    (f.refuses p c l h seen.plain seen.state.value seen.state.words (seen.span p) next (in_call m k seen p c l h good there) is) (λ e. absurd (false≢true e)) (λ strong. absurd (true≢false strong)) (ap is_some is) (is_step seen.state p c h next)
+    (f.refuses p c l h seen.plain seen.state.value seen.state.words (seen.span p) next (in_call m k seen p c l h good there) is) (λ e. absurd (false≢true e)) (λ strong. absurd (true≢false strong)) (ap is_some is) (is_step seen.state p c h next, refl)
     (f.weakly p c l h seen.plain seen.state.value seen.state.words (seen.span p) next (in_call m k seen p c l h good there) is) (uncounted m seen.state p c l h seen.plain next)
 
 kept_at : {W V C L A : Type 0} (m : Machine W V C L A) (k : LocalInvariant V C L) (f : Facts m k) (seen : Seen W V C L) (p : ℕ) (move : Move C V) (o : Option (Seat C L)) → Invariant m k seen → slice_get seen.state.seats p ≡ o → Kept m k (scene_at m seen p move o)

@@ -85,7 +85,7 @@ placed_right m s (OwnerSet v) (Some seat) e = refl
 pub keeps_from : {W V C L A : Type 0} (m : Machine W V C L A) (k : LocalInvariant V C L) (f : Facts m k) (s : Scene W V C L A) → Invariant m k s.after
     → IsOpenStep s.before.plain s.party s.change → BelongsTo m.coding s.change → ((r : Option V) → s.outcome ≡ outcome.Value r → r ≡ s.before.written) → MayTouch s.before s.party s.outcome s.move
     → (s.outcome ≡ outcome.PassedOver → ⊥) → is_open_move m s.before.state s.move s.seat ≡ true → OwnSteps m s.party (s.after.span s.party) s.outcome (asked m s.seat)
-    → ComesTo s.move s.before.state.value s.after.state.value s.outcome → IsWeakCall s.move s.party (s.before.span s.party) (asked m s.seat) → Keeps m s
+    → ComesTo s.move s.change s.before.state.value s.after.state.value s.outcome → IsWeakCall s.move s.party (s.before.span s.party) (asked m s.seat) → Keeps m s
 keeps_from m k f s good opens belongs reads touches happened is_open own comes weak =
     record {
       opens = opens;
@@ -255,7 +255,7 @@ pub went_on : {W V C L A : Type 0} (m : Machine W V C L A) (k : LocalInvariant V
     → NextIs m k move p c h (apply_some seen.plain step) (mark_of p step r seen.plain ∷ seen.span p) next
     → (is_again r ≡ true → step ≡ None → failures p (seen.span p) < changes m.coding p (seen.span p))
     → (is_weak r ≡ false → (j : ℕ) → AnswersWithin m (suc j) seen.state.words c l h → GoesWithin m j w c h next)
-    → is_open_move m seen.state move (Some (Calling c l h)) ≡ true → ComesTo move seen.state.value v (goes_on (record seen.state { words = w; value = v }) p c h next).outcome → IsWeakCall move p (seen.span p) (Some (m.asks c h))
+    → is_open_move m seen.state move (Some (Calling c l h)) ≡ true → ComesTo move step seen.state.value v (goes_on (record seen.state { words = w; value = v }) p c h next).outcome → IsWeakCall move p (seen.span p) (Some (m.asks c h))
     → IsCounted m p (goes_on (record seen.state { words = w; value = v }) p c h next).outcome move (Some (Calling c l h)) step r seen.plain
     → Kept m k (scene_of seen p move (Some (Calling c l h)) (goes_on (record seen.state { words = w; value = v }) p c h next) step r value)
 went_on m k f seen p move c l h step r value w v (GoesOn l') good there may belongs encodes shape written next fails steps is_open comes weak counted =
@@ -303,7 +303,7 @@ begun_kept m k f seen p c h y (Some l) good there stands is_begin is_open may =
     (subst (λ ms. failures p ms ≤ changes m.coding p ms) fresh (omega arith))
     (subst (λ ms. RunsOn m seen.state.words p ms (Some (Calling c l h))) fresh (runs_fresh m seen.state.words p c l h)) in
     record {
-      keeps = keeps_from m k f _ after tt tt (λ r e. absurd (cc (e))) tt (λ e. cc (e)) (is_open ∙ ap is_some is_begin) tt refl tt;
+      keeps = keeps_from m k f _ after tt tt (λ r e. absurd (cc (e))) tt (λ e. cc (e)) (is_open ∙ ap is_some is_begin) tt (refl, refl) tt;
       right = tt;
       in_time = record { in_time = tt; counted = tt; retries = after.retries; undisturbed = tt };
       good = after;
@@ -331,7 +331,7 @@ pub read_kept : {W V C L A : Type 0} (m : Machine W V C L A) (k : LocalInvariant
 read_kept m k f seen p h y false good stands may is_open lets = passed_kept m k f seen p Read (Some y) good (is_open ∙ may) (lets (ap is_reader stands ∙ (reader_of p h ∙ may)))
 read_kept m k f seen p h y true good stands may is_open lets =
     record {
-      keeps = keeps_from m k f _ good tt tt (λ r e. cc (e, good.written)) (ap is_reader stands ∙ (reader_of p h ∙ may)) (λ e. cc (e)) (is_open ∙ may) tt refl tt;
+      keeps = keeps_from m k f _ good tt tt (λ r e. cc (e, good.written)) (ap is_reader stands ∙ (reader_of p h ∙ may)) (λ e. cc (e)) (is_open ∙ may) tt (refl, refl) tt;
       right = tt;
       in_time = record { in_time = tt; counted = tt; retries = good.retries; undisturbed = tt };
       good = good;
@@ -361,7 +361,7 @@ pub leak_kept : {W V C L A : Type 0} (m : Machine W V C L A) (k : LocalInvariant
 leak_kept m k f seen p h good there stands =
     let after = good_seated m k seen p (Leaked h) (Holding h) seen.span good there (λ q ne. refl) stands tt (good.retries p) tt in
     record {
-      keeps = keeps_from m k f _ after tt tt (λ r e. absurd (cc (e))) tt (λ e. cc (e)) refl tt refl tt;
+      keeps = keeps_from m k f _ after tt tt (λ r e. absurd (cc (e))) tt (λ e. cc (e)) refl tt (refl, refl) tt;
       right = tt;
       in_time = record { in_time = tt; counted = tt; retries = after.retries; undisturbed = tt };
       good = after;

@@ -90,7 +90,7 @@ owner_get_kept m k f seen p y false good may = passed_kept m k f seen p OwnerGet
 owner_get_kept m k f seen p y true good may =
     let after = good_let_go m k seen seen.state.value seen.written good good.shape good.written in
     record {
-      keeps = keeps_from m k f _ after tt tt (λ r e. cc (e, good.written)) (owners m k seen good may) (λ e. cc (e)) may tt refl tt;
+      keeps = keeps_from m k f _ after tt tt (λ r e. cc (e, good.written)) (owners m k seen good may) (λ e. cc (e)) may tt (refl, refl) tt;
       right = tt;
       in_time = record { in_time = tt; counted = tt; retries = after.retries; undisturbed = tt };
       good = after;
@@ -101,7 +101,7 @@ owner_writes_kept : {W V C L A : Type 0} (m : Machine W V C L A) (k : LocalInvar
 owner_writes_kept {C = C} {A = A} m k f seen p v y None good may found =
     let after = good_let_go m k seen seen.state.value seen.written good good.shape good.written in
     record {
-      keeps = keeps_from m k f _ after tt tt (λ r e. cc (e, good.written, found)) (owners m k seen good may) (λ e. cc (e)) may tt (subst (λ old. ComesTo {C = C} {A = A} (OwnerSet v) old seen.state.value (outcome.Value None)) (sym found) (refl, found)) tt;
+      keeps = keeps_from m k f _ after tt tt (λ r e. cc (e, good.written, found)) (owners m k seen good may) (λ e. cc (e)) may tt (subst (λ old. ComesTo {C = C} {A = A} (OwnerSet v) None old seen.state.value (outcome.Value None)) (sym found) (refl, found)) tt;
       right = tt;
       in_time = record { in_time = tt; counted = tt; retries = after.retries; undisturbed = tt };
       good = after;
@@ -109,7 +109,7 @@ owner_writes_kept {C = C} {A = A} m k f seen p v y None good may found =
 owner_writes_kept {C = C} {A = A} m k f seen p v y (Some old) good may found =
     let after = good_let_go m k seen (Some v) (Some v) good (f.shape_set seen.plain old v (subst (λ o. k.Shape seen.plain o) found good.shape)) refl in
     record {
-      keeps = keeps_from m k f _ after tt tt (λ r e. absurd (cc (e))) (owners m k seen good may) (λ e. cc (e)) may tt (subst (λ o. ComesTo {C = C} {A = A} (OwnerSet v) o (Some v) outcome.Written) (sym found) (refl, refl)) tt;
+      keeps = keeps_from m k f _ after tt tt (λ r e. absurd (cc (e))) (owners m k seen good may) (λ e. cc (e)) may tt (subst (λ o. ComesTo {C = C} {A = A} (OwnerSet v) None o (Some v) outcome.Written) (sym found) (refl, refl)) tt;
       right = tt;
       in_time = record { in_time = tt; counted = tt; retries = after.retries; undisturbed = tt };
       good = after;

@@ -218,16 +218,21 @@ IsStep outcome.GoingOn = Unit {0}
 IsStep (outcome.Answered a b) = Unit {0}
 IsStep _ = ⊥
 
-abbrev pub ComesTo : {V C A : Type 0} → Move C V → Option V → Option V → Outcome A V → Type 0
-ComesTo (Begin c) old new o = o ≡ outcome.Begun
-ComesTo Step old new o = IsStep o
-ComesTo Weak old new o = IsStep o
-ComesTo Read old new o = o ≡ outcome.Value old
-ComesTo (Write v) old new o = (o ≡ outcome.Written) × (new ≡ Some v)
-ComesTo Leak old new o = o ≡ outcome.Leaked
-ComesTo OwnerGet old new o = o ≡ outcome.Value old
-ComesTo (OwnerSet v) None new o = (o ≡ outcome.Value None) × (new ≡ None)
-ComesTo (OwnerSet v) (Some u) new o = (o ≡ outcome.Written) × (new ≡ Some v)
+-- only a closure that completes changes the value by a step
+abbrev pub StepLeaves : {V : Type 0} → Option Change → Option V → Option V → Type 0
+StepLeaves (Some (completes p)) old new = Unit {0}
+StepLeaves _ old new = new ≡ old
+
+abbrev pub ComesTo : {V C A : Type 0} → Move C V → Option Change → Option V → Option V → Outcome A V → Type 0
+ComesTo (Begin c) step old new o = (o ≡ outcome.Begun) × (new ≡ old)
+ComesTo Step step old new o = IsStep o × StepLeaves step old new
+ComesTo Weak step old new o = IsStep o × (new ≡ old)
+ComesTo Read step old new o = (o ≡ outcome.Value old) × (new ≡ old)
+ComesTo (Write v) step old new o = (o ≡ outcome.Written) × (new ≡ Some v)
+ComesTo Leak step old new o = (o ≡ outcome.Leaked) × (new ≡ old)
+ComesTo OwnerGet step old new o = (o ≡ outcome.Value old) × (new ≡ old)
+ComesTo (OwnerSet v) step None new o = (o ≡ outcome.Value None) × (new ≡ None)
+ComesTo (OwnerSet v) step (Some u) new o = (o ≡ outcome.Written) × (new ≡ Some v)
 
 -- only a call that may be refused without cause is so, and before it has made a plain step
 abbrev pub IsWeakCall : {V C : Type 0} → Move C V → ℕ → List Mark → Option Asked → Type 0
@@ -277,8 +282,8 @@ pub record Keeps {W V C L A : Type 0} (m : Machine W V C L A) (s : Scene W V C L
   pub lets : s.outcome ≡ outcome.PassedOver → MayPass m s.before s.party s.move s.seat
   -- and they change nothing
   pub unchanged : s.outcome ≡ outcome.PassedOver → s.after ≡ s.before
-  -- every other move comes to what it is for: a look finds what lies there, a write leaves what it names
-  pub comes : (s.outcome ≡ outcome.PassedOver → ⊥) → ComesTo s.move s.before.state.value s.after.state.value s.outcome
+  -- every other move comes to what it is for: a look finds what lies there, a write leaves what it names, and nothing else changes the value but a closure that completes
+  pub comes : (s.outcome ≡ outcome.PassedOver → ⊥) → ComesTo s.move s.change s.before.state.value s.after.state.value s.outcome
   -- a refusal without cause comes to a call that makes a weak exchange
   pub weak : (s.outcome ≡ outcome.PassedOver → ⊥) → IsWeakCall s.move s.party (s.before.span s.party) (asked m s.seat)
   -- a call makes the steps that its answer says, and no others
