@@ -9,7 +9,7 @@ use Rattle.spin_world_core.specs.declared.object.Next.TheVariants.{GoesOn, Answe
 use Rattle.spin_world_core.specs.Manners.{Manner, is_again, is_look}
 use Rattle.spin_world_core.specs.Calls.{Coding, barrier, Asked, is_weak_try}
 use Rattle.spin_world_core.specs.Begins.{fits}
-use Rattle.spin_world_core.specs.Operations.{Operation, exchanges, performed, IsOneOperation, Stepwise}
+use Rattle.spin_world_core.specs.Operations.{Operation, exchanges, performed, Performs, IsOneOperation, Stepwise}
 use Rattle.spin_world_core.specs.Acts.{Act, load, load_if, load_for, enter, exchange, weak_exchange, attempt, retry, store, store_if, becomes, passing, retried, step_by, can_by, refusal_by, manner_by, Table, machine_of, completes_by, brought, filled, machine_with}
 use Rattle.spin_world_core.specs.Schedules.{placed}
 use Rattle.spin_world_core.proofs.Facts.{GoesOnCounted}
@@ -31,6 +31,12 @@ pub record Operates {W V C L A : Type 0} (t : Table W V C L A) (c : C) (l : L) (
 abbrev pub OperatesAt : {W V C L A : Type 0} → Coding → Table W V C L A → C → L → Option Hold → Type 0
 OperatesAt barrier t c l h = Unit {0}
 OperatesAt _ t c l h = (i : ℕ) × (operation : Operation) × Operates t c l h i operation
+
+-- a weak refusal is that of an exchange
+abbrev pub Refuses : {W V C L A : Type 0} → Table W V C L A → Type 0
+Refuses {W} {V} {C} {L} {A} t =
+    (c : C) (l : L) (h : Option Hold) (next : Next L A) → refusal_by (t.act c l h) ≡ Some next
+    → (i from to : ℕ) × Operates t c l h i (exchanges from to) × ((w : W) → (get_or (t.number w ∷ t.others w) i 0 == from) ≡ false → (step_by {V = V} t.number (t.act c l h) w).next ≡ next)
 
 -- The shapes
 
@@ -86,23 +92,24 @@ counted_filled change s value (Answers a after) o r counts = tt
 
 -- The machines
 
+performs_of : {W V C L A : Type 0} (t : Table W V C L A) (c : C) (l : L) (h : Option Hold) (i : ℕ) (operation : Operation) → Operates t c l h i operation → Performs (machine_of t) c l h i operation
+performs_of {V = V} t c l h i operation is =
+    record {
+      words = λ w v can. is.words w can;
+      next = λ w u v can may same. is.next w u same;
+      placed = λ w u v. unplaced {V = V} t.number (t.act c l h) w ∙ sym (unplaced {V = V} t.number (t.act c l h) u);
+    }
+
 operation_of : {W V C L A : Type 0} (t : Table W V C L A) (coding : Coding) (c : C) (l : L) (h : Option Hold) → OperatesAt coding t c l h → IsOneOperation coding (machine_of t) c l h
 operation_of t barrier c l h o = tt
-operation_of {V = V} t _ c l h o = (
-  o.0,
-  o.1,
-  record {
-    words = λ w v can. o.2.words w can;
-    next = λ w u v can may same. o.2.next w u same;
-    placed = λ w u v. unplaced {V = V} t.number (t.act c l h) w ∙ sym (unplaced {V = V} t.number (t.act c l h) u);
-  },
-)
+operation_of t _ c l h o = (o.0, o.1, performs_of t c l h o.0 o.1 o.2)
 
-pub stepwise_of : {W V C L A : Type 0} (t : Table W V C L A) → BeginsWhereItFits t → TriesWeakly t → ((c : C) (l : L) (h : Option Hold) → OperatesAt t.coding t c l h) → Stepwise (machine_of t)
-stepwise_of {V = V} t begins weak operates =
+pub stepwise_of : {W V C L A : Type 0} (t : Table W V C L A) → BeginsWhereItFits t → TriesWeakly t → Refuses t → ((c : C) (l : L) (h : Option Hold) → OperatesAt t.coding t c l h) → Stepwise (machine_of t)
+stepwise_of {V = V} t begins weak refuses operates =
     record {
       begins = begins;
       weak = weak;
+      refuses = λ c l h next is. let lost = refuses c l h next is in (lost.0, lost.1, lost.2, performs_of t c l h lost.0 (exchanges lost.1 lost.2) lost.3, λ w v other. lost.4 w other);
       operates = λ c l h. operation_of t t.coding c l h (operates c l h);
       looks = λ c l h is w v. look_stays V t.number (t.asks c h) (t.act c l h) w is;
     }
@@ -124,6 +131,7 @@ stepwise_with {V = V} t brings begins strong operates =
     record {
       begins = begins;
       weak = λ c l h weak is. absurd (false≢true (sym (strong c h) ∙ weak));
+      refuses = λ c l h next is. absurd (cc (is));
       operates = λ c l h. operation_with t brings t.coding c l h (operates c l h);
       looks = λ c l h is w v. look_stays V t.number (t.asks c h) (t.act c l h) w is;
     }

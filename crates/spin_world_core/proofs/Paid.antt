@@ -407,7 +407,7 @@ module _ {W V C L A : Type 0} (t : Table W V C L A) (n : Notes t) (pays : Pays t
   pub facts_of : Facts (machine_of t) (keeping_of t n)
   facts_of =
       record {
-        stepwise = stepwise_of t pays.fits pays.weakly pays.operates;
+        stepwise = stepwise_of t pays.fits pays.weakly pays.refuses pays.operates;
         first = pays.first;
         shape_first = pays.shape_first;
         numbers_tell = pays.numbers_tell;

@@ -13,7 +13,7 @@ use Rattle.spin_world_core.specs.Runs.{mark_of, failures, changes}
 use Rattle.spin_world_core.specs.Acts.{Act, load, load_if, load_for, enter, exchange, weak_exchange, attempt, retry, store, store_if, passing, step_by, is_completion, is_waiting, look_manner, Table, machine_of}
 use Rattle.spin_world_core.specs.Values.{makes_value}
 use Rattle.spin_world_core.proofs.Facts.{LocalInvariant}
-use Rattle.spin_world_core.proofs.Operating.{BeginsWhereItFits, TriesWeakly, OperatesAt}
+use Rattle.spin_world_core.proofs.Operating.{BeginsWhereItFits, TriesWeakly, Refuses, OperatesAt}
 use Rattle.spin_world_core.proofs.Stands.{stand_of, stand_after}
 use Rattle.spin_world_core.proofs.Rows.{Turn, goes, loses, misses, MaySpend, OwesRight, Row, Point, row_at, SoundAt, Found, NoRetry, Known}
 
@@ -168,6 +168,7 @@ makes_own coding _ p = true
 pub record Pays {W V C L A : Type 0} (t : Table W V C L A) (n : Notes t) : Type 0 where
   pub fits : BeginsWhereItFits t
   pub weakly : TriesWeakly t
+  pub refuses : Refuses t
   pub operates : (c : C) (l : L) (h : Option Hold) → OperatesAt t.coding t c l h
   pub first : t.number t.words ∷ t.others t.words ≡ encoded t.coding (opening_plain (machine_of t))
   pub shape_first : n.Shape (opening_plain (machine_of t))

@@ -1,6 +1,7 @@
 -- What a step of a call is: one operation on one word, as a processor makes it.
-use Rattle.std.specs.Prelude.{◌≡◌, ℕ, ◌+◌, ◌-◌, ◌%◌, ◌==◌, true, Option, Some, is_some, if◌then◌else◌, get_or, slice_set}
+use Rattle.std.specs.Prelude.{◌≡◌, ℕ, ◌+◌, ◌-◌, ◌%◌, ◌==◌, true, false, Option, Some, is_some, if◌then◌else◌, get_or, slice_set}
 use Rattle.spin_world_core.specs.declared.place.Hold.{Hold}
+use Rattle.spin_world_core.specs.declared.object.Next.{Next}
 use Rattle.spin_world_core.specs.Manners.{is_look}
 use Rattle.spin_world_core.specs.Calls.{Coding, barrier, is_weak_try}
 use Rattle.spin_world_core.specs.Begins.{fits}
@@ -34,6 +35,11 @@ abbrev pub IsOneOperation : {W V C L A : Type 0} → Coding → Machine W V C L 
 IsOneOperation barrier m c l h = Unit {0}
 IsOneOperation _ m c l h = (i : ℕ) × (operation : Operation) × Performs m c l h i operation
 
+-- a refusal without cause is that of an exchange: the call goes on as it does where another number lies there
+abbrev pub RefusesAsLost : {W V C L A : Type 0} → Machine W V C L A → C → L → Option Hold → Next L A → Type 0
+RefusesAsLost {W} {V} m c l h next =
+    (i from to : ℕ) × Performs m c l h i (exchanges from to) × ((w : W) (v : Option V) → (get_or (m.numbers w) i 0 == from) ≡ false → (m.step w v c l h).next ≡ next)
+
 -- what holds of the calls and steps of an object, whatever the schedule
 pub record Stepwise {W V C L A : Type 0} (m : Machine W V C L A) : Type 0 where
   -- its calls are those of its kind of lock, and each begins just where its party holds what it is for
@@ -41,5 +47,6 @@ pub record Stepwise {W V C L A : Type 0} (m : Machine W V C L A) : Type 0 where
   -- a weak try makes a weak exchange
   pub weak : (c : C) (l : L) (h : Option Hold) → is_weak_try (m.asks c h) ≡ true → m.begin c h ≡ Some l → is_some (m.refuse c l h) ≡ true
   pub operates : (c : C) (l : L) (h : Option Hold) → IsOneOperation m.coding m c l h
+  pub refuses : (c : C) (l : L) (h : Option Hold) (next : Next L A) → m.refuse c l h ≡ Some next → RefusesAsLost m c l h next
   -- a look changes no word
   pub looks : (c : C) (l : L) (h : Option Hold) → is_look (m.manner c l h) ≡ true → (w : W) (v : Option V) → (m.step w v c l h).words ≡ w

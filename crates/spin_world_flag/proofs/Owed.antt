@@ -1,5 +1,5 @@
 -- What the flag's table owes.
-use Rattle.std.proofs.Common.{◌≡◌, ℕ, Bool, true, false, not, ◌&&◌, Option, Some, None, List, [], ◌∷◌, refl, ap, sym, ◌∙◌, arith, inl}
+use Rattle.std.proofs.Common.{◌≡◌, ◌==◌, ℕ, Bool, true, false, not, ◌&&◌, Option, Some, None, List, [], ◌∷◌, refl, ap, sym, ◌∙◌, arith, inl}
 use Rattle.std.proofs.lemmas.Bool.{true≢false, false≢true}
 use Rattle.spin_step.specs.Plain.{Plain, Ticket as Queued, writing, to_write, gets, releases, is_empty, flag_word}
 use Rattle.spin_step.specs.Parties.{Entries, entries, is_held}
@@ -23,7 +23,7 @@ use Rattle.spin_world_core.proofs.Stands.{holds, entries_at}
 use Rattle.spin_world_core.proofs.Rows.{starts_sound, Row, starts}
 use Rattle.spin_world_core.proofs.Shapes.{Notes, keeping_of, Means, OwesAt, answers_by, OwesSoon, BeginsAt, makes_own, Pays, CallOf, AtPoint}
 use Rattle.spin_world_core.proofs.Usual.{means_by, no_queue}
-use Rattle.spin_world_core.proofs.Operating.{BeginsWhereItFits, TriesWeakly, OperatesAt, one_word}
+use Rattle.spin_world_core.proofs.Operating.{BeginsWhereItFits, TriesWeakly, Refuses, Operates, OperatesAt, one_word}
 use Rattle.spin_world_core.proofs.Paid.{facts_of}
 
 -- Each point is as the call's beginning: nothing has changed yet, and only `Lock`, which has no limit, has made a step before another
@@ -105,22 +105,34 @@ module _ {V : Type 0} (v : V) where
   taken true won lost = refl
   taken false won lost = refl
 
-  alone : (c : FlagCall) (l : FlagPoint) (h : Option Hold) (operation : Operation) → ((w : Bool) → can_by (act_of {V = V} c l h) w ≡ true → bit (step_by {V = V} bit (act_of {V = V} c l h) w).words ≡ performed operation (bit w)) → OperatesAt flag (flag_table v) c l h
-  alone c l h operation is = (0, operation, one_word (flag_table v) (λ w. refl) same_bit c l h operation is)
+  alone : (c : FlagCall) (l : FlagPoint) (h : Option Hold) (operation : Operation) → ((w : Bool) → can_by (act_of {V = V} c l h) w ≡ true → bit (step_by {V = V} bit (act_of {V = V} c l h) w).words ≡ performed operation (bit w)) → Operates (flag_table v) c l h 0 operation
+  alone c l h operation is = one_word (flag_table v) (λ w. refl) same_bit c l h operation is
 
   operates : (c : FlagCall) (l : FlagPoint) (h : Option Hold) → OperatesAt flag (flag_table v) c l h
-  operates Lock First h = alone Lock First h (exchanges 0 1) (λ w can. taken w _ _)
-  operates Lock Second h = alone Lock Second h loads (λ w can. refl)
-  operates TryLock l h = alone TryLock l h (exchanges 0 1) (λ w can. taken w _ _)
-  operates TryLockWeak l h = alone TryLockWeak l h (exchanges 0 1) (λ w can. taken w _ _)
-  operates IsLocked l h = alone IsLocked l h loads (λ w can. refl)
-  operates Release l h = alone Release l h (stores 0) (λ w can. refl)
+  operates Lock First h = (0, (exchanges 0 1), alone Lock First h (exchanges 0 1) (λ w can. taken w _ _))
+  operates Lock Second h = (0, loads, alone Lock Second h loads (λ w can. refl))
+  operates TryLock l h = (0, (exchanges 0 1), alone TryLock l h (exchanges 0 1) (λ w can. taken w _ _))
+  operates TryLockWeak l h = (0, (exchanges 0 1), alone TryLockWeak l h (exchanges 0 1) (λ w can. taken w _ _))
+  operates IsLocked l h = (0, loads, alone IsLocked l h loads (λ w can. refl))
+  operates Release l h = (0, (stores 0), alone Release l h (stores 0) (λ w can. refl))
+
+  -- where a flag is set, the exchange of a clear one is lost
+  lost : (w : Bool) (won missed next : Next FlagPoint (Answer V)) → missed ≡ next → (bit w == 0) ≡ false → (becomes {V = V} w (lock w) won missed).next ≡ next
+  lost true won missed next is other = is
+  lost false won missed next is other = absurd (true≢false other)
+
+  refuses : Refuses (flag_table v)
+  refuses Lock First h next is = (0, 0, 1, alone Lock First h (exchanges 0 1) (λ w can. taken w _ _), λ w other. lost w _ _ next (cc (is)) other)
+  refuses TryLockWeak l h next is = (0, 0, 1, alone TryLockWeak l h (exchanges 0 1) (λ w can. taken w _ _), λ w other. lost w _ _ next (cc (is)) other)
+  refuses Lock Second h next is = absurd (cc (is))
+  refuses _ l h next is = absurd (cc (is))
 
   pub flag_pays : Pays (flag_table v) (flag_notes v)
   flag_pays =
       record {
         fits = fits_all;
         weakly = weakly;
+        refuses = refuses;
         operates = operates;
         first = refl;
         shape_first = refl;
