@@ -97,8 +97,8 @@ impl<T, R: RelaxStrategy> FairMutex<T, R> {
 }
 
 impl<T, R> FairMutex<T, R> {
-    /// Takes the lock, or refuses where somebody holds it or starves. It makes one exchange. Its guard is a newcomer's,
-    /// so nobody starved when it came.
+    /// Takes the lock, or refuses where somebody holds it or starves. It makes one exchange. Its guard is a newcomer's:
+    /// while that holds, no starver is registered that came before it.
     ///
     /// Example: `a_lock_is_taken_once`, `crates/spin_mutex_tests/src/calls.rt`.
     pub fn try_lock<'a>(&'a self) -> Option<FairMutexGuard<'a, T, R>>
