@@ -1,30 +1,34 @@
 -- The steps of a fair mutex keep its rule: each is the plain step that its step function makes.
-use Rattle.std.proofs.Common.{◌≡◌, ℕ, ◌+◌, ◌-◌, ◌*◌, ◌%◌, ◌^◌, ◌<◌, ◌≤◌, true, if◌then◌else◌, List, [], ◌∷◌, ◌/◌, ◌==◌, Option, Some, None, refl, sym, ap, ◌∙◌, arith, eq-eqb, ne_eqb, bit_and, bit_or, length-append}
+use Rattle.std.proofs.Common.{◌≡◌, ℕ, ◌+◌, ◌-◌, ◌*◌, ◌%◌, ◌^◌, ◌<◌, ◌≤◌, true, if◌then◌else◌, List, [], ◌∷◌, ◌/◌, ◌==◌, Option, Some, None, refl, sym, ap, ◌∙◌, arith, subst, eq-eqb, ne_eqb, bit_and, bit_or, length-append}
 use Rattle.std.proofs.lemmas.List.Sums.{sum_by-le-sum_by}
 use Rattle.std.proofs.lemmas.Grind.{and_high_numeral}
 use Rattle.std.proofs.lemmas.Nat.{or_shifted, or_block}
+use Rattle.std.proofs.lemmas.Bool.{and_parts}
 use Rattle.std.specs.Int.Bits.{or_zero_r}
+use Rattle.std.specs.Prelude.{◌≢◌}
 use mathlib.Core.Logic.{dite}
 use native.Mathlib.Decide.{ℕ_discrete}
 use prog.Atomic.{either}
-use Rattle.spin_step.specs.Plain.{Plain, Ask, apply, writing, holder, is_starver, gets, releases, stops_starving, to_lock_unregistered, to_lock_starving, to_lock_starving_alone, to_starve, fair_word}
-use Rattle.spin_step.specs.Parties.{entries_after}
+use Rattle.spin_step.specs.Plain.{Plain, Ask, apply, is_empty, writing, holder, is_starver, gets, releases, stops_starving, to_lock_unregistered, to_lock_starving, to_lock_starving_alone, to_starve, fair_word}
+use Rattle.spin_step.specs.Parties.{entries, entries_after}
 use Rattle.spin_step.specs.Steps.{Decides}
 use Rattle.spin_step.specs.Starvers.{most_starvers, OneHolds}
-use Rattle.spin_core.specs.Cell.{writes, alone, reading, writing as writer, readers_of, writers_of, Limits, Meets, Allows, words}
-use Rattle.spin_core.specs.Views.{Knows, HasPart, entries_of, IsInOrder, IsLockOf, used_by, no_word}
+use Rattle.spin_core.specs.Cell.{writes, alone, reading, writing as writer, readers_of, writers_of, Limits, Meets, Allows, Rests, Moved, words}
+use Rattle.spin_core.specs.Views.{Knows, HasPart, holds, entries_of, IsInOrder, IsLockOf, used_by, no_word}
 use Rattle.spin_core.specs.Plays.{becomes, becomes_by, exchanges}
 use Rattle.spin_core.proofs.CellCounts.{none}
 use Rattle.spin_step.proofs.Holders.{is_holder-from_entries, is_empty-none, length-without_holder}
 use Rattle.spin_core.proofs.Knowing.{Writes, one_holds}
 use Rattle.spin_core.proofs.Leaving.{fair_word-up, no_word-up}
 use Rattle.spin_core.proofs.Owners.{OfHolders, one_holder}
-use Rattle.spin_core.proofs.Plays.{Lock, ways, EachOf, Comes, allows_among, by_step, by_grant, by_none, exchanged, begins}
+use Rattle.spin_core.proofs.Plays.{Lock, Holds, ways, EachOf, Comes, allows_among, by_step, by_grant, by_none, exchanged, begins, looks}
+use Rattle.spin_core.proofs.Plays as plays
 use Rattle.spin_step.proofs.Starvers.{is_starver-from_entries, length-without_starver}
 use Rattle.spin_core.proofs.Views.{part_before, release-own, stop-own, stop_holding-own}
 use Rattle.spin_fair.specs.declared.fair.rule.View.{View}
-use Rattle.spin_fair.specs.declared.fair.rule.View.TheVariants.{Idle, Starving, Holding, HoldingStarving}
-use Rattle.spin_fair.specs.Fair.{part, use_of_view, IsFair, won_if_clear, Stops, Stays}
+use Rattle.spin_fair.specs.declared.fair.rule.View.TheVariants.{Idle, Starving, Holding, HoldingStarving, Served}
+use Rattle.spin_fair.specs.Fair.{part, use_of_view, newcomer, IsFair, won_if_clear, Stops, Stays}
+use Rattle.spin_fair.proofs.First.{Fits, first_after, first_without, nobody_starves}
 
 -- it is one holder or none, who holds writes, nobody reads, and who uses the value holds
 facts : (v : View) → OfHolders part v × Writes part (part v) × (reading (use_of_view v) ≡ 0) × (writer (use_of_view v) ≤ writer (used_by part v))
@@ -32,6 +36,7 @@ facts Idle = ((refl, λ p. refl), λ p. refl, refl, omega arith)
 facts Starving = ((refl, λ p. refl), λ p. refl, refl, omega arith)
 facts Holding = ((refl, λ p. refl), λ p. refl, refl, omega arith)
 facts HoldingStarving = ((refl, λ p. refl), λ p. refl, refl, omega arith)
+facts Served = ((refl, λ p. refl), λ p. refl, refl, omega arith)
 
 pub fits : (vs : List View) (s : Plain) → s.cap ≡ most_starvers → IsInOrder s → IsLockOf part vs s → Limits {X = Unit {0}} alone (readers_of use_of_view vs) (writers_of use_of_view vs)
 fits vs s room order is = omega (arith, one_holder part (λ v. (facts v).0) most_starvers vs s room order is, none (λ v. reading (use_of_view v)) (λ v. (facts v).2) vs, sum_by-le-sum_by (λ v. writer (use_of_view v)) (λ v. writer (used_by part v)) vs (λ v. (facts v).3))
@@ -58,28 +63,43 @@ Each view P = (s : Plain) (p : ℕ) → s.cap ≡ most_starvers → IsInOrder s 
 of_each : (view : Option View) (P : Plain → ℕ → Type 0) → Each view P → EachOf fair view P
 of_each view P each s p vs room order is has small = each s p room order (one_holds part (λ v. (facts v).1) vs s order is) has small
 
-allows : (view : Option View) (f : ℕ → ℕ) (says : ℕ → View → Type 0) → Each view (λ s p. (w : View) × Comes fair view w s p (f (fair_word s)) 0 × says (fair_word s) w) → Allows IsFair (ways fair) view f says
-allows view f says makes = allows_among fair view f says (of_each view (λ s p. (w : View) × Comes fair view w s p (f (fair_word s)) 0 × says (fair_word s) w) makes)
+-- the rule of the words, and that starvers come first
+with_order : (view : Option View) (f : ℕ → ℕ) (says : ℕ → View → Type 0) → ((n m : ℕ) (vs : List View) (w : View) → Holds fair n m vs → says n w → Fits view w vs)
+    → Allows (Holds fair) (ways fair) view f says → Allows IsFair (ways fair) view f says
+with_order view f says fits step id n m vs meets at small =
+    let made = step id n m vs (meets.0.0, meets.1) at small in
+    (made.0, ((made.1.0, first_after id view vs made.0 at (fits n m vs made.0 meets.0.0 made.2) meets.0.1), made.1.1), made.2)
+
+allows : (view : Option View) (f : ℕ → ℕ) (says : ℕ → View → Type 0) → ((n : ℕ) (vs : List View) (w : View) → says n w → Fits view w vs)
+    → Each view (λ s p. (w : View) × Comes fair view w s p (f (fair_word s)) 0 × says (fair_word s) w) → Allows IsFair (ways fair) view f says
+allows view f says fits makes = with_order view f says (λ n m vs w holds. fits n vs w)
+    (allows_among fair view f says (of_each view (λ s p. (w : View) × Comes fair view w s p (f (fair_word s)) 0 × says (fair_word s) w) makes))
 
 -- what a party gets by an exchange where it finds the word of which the step function was asked
-gets_at : (view : Option View) (ask : Ask) (won lost : View) (old new : ℕ) → ((s : Plain) (p : ℕ) → entries_after s (Some (gets p ask)) (entries_of p (part_before part view)) ≡ entries_of p (part won)) → ((s : Plain) → Knows s (part won))
+gets_at : (view : Option View) (ask : Ask) (won lost : View) (old new : ℕ) → ((n m : ℕ) (vs : List View) → Holds fair n m vs → (n ≡ old → Fits view won vs) × Fits view lost vs) → ((s : Plain) (p : ℕ) → entries_after s (Some (gets p ask)) (entries_of p (part_before part view)) ≡ entries_of p (part won)) → ((s : Plain) → Knows s (part won))
     → ((s : Plain) (p : ℕ) → (entries_of p (part_before part view) ≡ entries_of p (part lost)) × Knows s (part lost)) → Each view (λ s p. fair_word s ≡ old → Decides s (gets p ask) fair_word (Some new))
     → Allows IsFair (ways fair) view (λ n. either (n == old) new n) (exchanges (λ _. won) lost old new view)
-gets_at view ask won lost old new comes knows still plain = exchanged fair view (λ _. won) lost old new still (of_each view (λ s p. fair_word s ≡ old → Comes fair view won s p new 0)
-    (λ s p room order one has small e. by_grant fair view won s p ask new 0 (plain s p room order one has small e) (comes s p) (knows (apply s (gets p ask))) refl))
+gets_at view ask won lost old new fits comes knows still plain = with_order view (λ n. either (n == old) new n) (exchanges (λ _. won) lost old new view)
+    (λ n m vs w holds is. let each = fits n m vs holds in dite (ℕ_discrete n old)
+    (λ e. subst (λ v. Fits view v vs) (sym (is ∙ ap (λ b. if b then won else lost) (eq-eqb n old e))) (each.0 e))
+    (λ ne. subst (λ v. Fits view v vs) (sym (is ∙ ap (λ b. if b then won else lost) (ne_eqb n old ne))) each.1))
+    (exchanged fair view (λ _. won) lost old new still (of_each view (λ s p. fair_word s ≡ old → Comes fair view won s p new 0)
+    (λ s p room order one has small e. by_grant fair view won s p ask new 0 (plain s p room order one has small e) (comes s p) (knows (apply s (gets p ask))) refl)))
 
 pub starts : Meets IsFair (ways fair) 0 0 []
-starts = let m = begins fair 0 0 0 0 (omega arith) refl refl in (m.0, omega arith)
+starts = let m = begins fair 0 0 0 0 (omega arith) refl refl in ((m.0, tt), omega arith)
 
 -- What a newcomer does
 
 pub attempts : (free taken : ℕ) → ((s : Plain) (p : ℕ) → fair_word s ≡ free → Decides s (gets p to_lock_unregistered) fair_word (Some taken))
     → Allows IsFair (ways fair) None (λ n. either (n == free) taken n) (exchanges (λ _. Holding) Idle free taken None)
-attempts free taken plain = gets_at None to_lock_unregistered Holding Idle free taken (λ s p. refl) (λ s. tt) (λ s p. (refl, tt)) (λ s p room order one has small e. plain s p e)
+attempts free taken plain = gets_at None to_lock_unregistered Holding Idle free taken
+    (λ n m vs holds. (λ e new. nobody_starves vs holds.0 holds.3 (and_parts (is_empty holds.0.holders) (is_empty holds.0.starvers) (plain holds.0 0 (sym holds.4 ∙ e)).0).1, λ l. absurd (omega (arith, l))))
+    (λ s p. refl) (λ s. tt) (λ s p. (refl, tt)) (λ s p room order one has small e. plain s p e)
 
 pub registers : (word more : ℕ) → ((s : Plain) (p : ℕ) → OneHolds s → s.cap ≡ most_starvers → fair_word s ≡ word → Decides s (gets p to_starve) fair_word (Some more))
     → Allows IsFair (ways fair) None (λ n. either (n == word) more n) (exchanges (λ _. Starving) Idle word more None)
-registers word more plain = gets_at None to_starve Starving Idle word more (λ s p. refl) (λ s. tt) (λ s p. (refl, tt)) (λ s p room order one has small e. plain s p one room e)
+registers word more plain = gets_at None to_starve Starving Idle word more (λ n m vs holds. (λ e l. absurd (omega (arith, l)), λ l. absurd (omega (arith, l)))) (λ s p. refl) (λ s. tt) (λ s p. (refl, tt)) (λ s p room order one has small e. plain s p one room e)
 
 -- What a starver does
 
@@ -87,11 +107,11 @@ starves_in : (s : Plain) (p : ℕ) → HasPart s p (part_before part (Some Starv
 starves_in s p has = is_starver-from_entries p s.starvers (ap (λ e. e.starvers) has.0)
 
 pub looks_starving : Allows IsFair (ways fair) (Some Starving) (λ n. n) (Stays 0 0 (Some Starving))
-looks_starving = allows (Some Starving) (λ n. n) (Stays 0 0 (Some Starving)) (λ s p room order one has small. (Starving, by_none fair (Some Starving) Starving s p refl tt, refl))
+looks_starving = allows (Some Starving) (λ n. n) (Stays 0 0 (Some Starving)) (λ n vs w is. rw is (omega arith, omega arith)) (λ s p room order one has small. (Starving, by_none fair (Some Starving) Starving s p refl tt, refl))
 
 pub attempts_alone : (word taken : ℕ) → ((s : Plain) (p : ℕ) → OneHolds s → is_starver p s.starvers ≡ true → fair_word s ≡ word → Decides s (gets p to_lock_starving_alone) fair_word (Some taken))
     → Allows IsFair (ways fair) (Some Starving) (λ n. either (n == word) taken n) (exchanges (λ _. HoldingStarving) Starving word taken (Some Starving))
-attempts_alone word taken plain = gets_at (Some Starving) to_lock_starving_alone HoldingStarving Starving word taken (λ s p. refl) (λ s. tt) (λ s p. (refl, tt)) (λ s p room order one has small e. plain s p one (starves_in s p has) e)
+attempts_alone word taken plain = gets_at (Some Starving) to_lock_starving_alone HoldingStarving Starving word taken (λ n m vs holds. (λ e. (omega arith, omega arith), (omega arith, omega arith))) (λ s p. refl) (λ s. tt) (λ s p. (refl, tt)) (λ s p room order one has small e. plain s p one (starves_in s p has) e)
 
 set_clear : (n : ℕ) → n % 2 ≡ 0 → bit_or n 1 ≡ n + 1
 set_clear n even = ap (λ m. bit_or m 1) (let e : n ≡ n / 2 * 2 = omega arith in e) ∙ (or_shifted (n / 2) 1 1 (omega arith) ∙ (let e : n / 2 * 2 + 1 ≡ n + 1 = omega arith in e))
@@ -102,7 +122,8 @@ set_set n odd =
     ap (λ m. bit_or m 1) split ∙ (or_block 1 (n / 2) 0 1 1 (omega arith) (omega arith) ∙ (ap (λ m. m * 2 + 1) (or_zero_r (n / 2)) ∙ sym split))
 
 pub sets_flag : Allows IsFair (ways fair) (Some Starving) (λ n. bit_or n 1) (becomes_by won_if_clear 1 0 (Some Starving))
-sets_flag = allows (Some Starving) (λ n. bit_or n 1) (becomes_by won_if_clear 1 0 (Some Starving)) (λ s p room order one has small.
+sets_flag = allows (Some Starving) (λ n. bit_or n 1) (becomes_by won_if_clear 1 0 (Some Starving))
+    (λ n vs w is. dite (ℕ_discrete (n % 2) 0) (λ even. rw (is, eq-eqb (n % 2) 0 even) (omega arith, omega arith)) (λ odd. rw (is, ne_eqb (n % 2) 0 odd) (omega arith, omega arith))) (λ s p room order one has small.
     let n : ℕ = fair_word s in
     dite (ℕ_discrete (n % 2) 0)
     (λ even. let empty = is_empty-none s.holders (omega (arith, even, one)) in (
@@ -120,7 +141,7 @@ less : (n : ℕ) → 2 ≤ n → n < words → (n + (2 ^ 64 - 2)) % 2 ^ 64 ≡ n
 less n least small = omega (arith, least, small)
 
 pub stops : Allows IsFair (ways fair) (Some Starving) (λ n. (n + (2 ^ 64 - 2)) % 2 ^ 64) (Stops 2 0 (Some Starving))
-stops = allows (Some Starving) (λ n. (n + (2 ^ 64 - 2)) % 2 ^ 64) (Stops 2 0 (Some Starving)) (λ s p room order one has small.
+stops = allows (Some Starving) (λ n. (n + (2 ^ 64 - 2)) % 2 ^ 64) (Stops 2 0 (Some Starving)) (λ n vs w is. rw is (omega arith, omega arith)) (λ s p room order one has small.
     let found = starves_in s p has in let fewer = length-without_starver p s.starvers found in (
       Idle,
       by_step fair (Some Starving) Idle s (stops_starving p) ((fair_word s + (2 ^ 64 - 2)) % 2 ^ 64) 0 found (stop-own s p) tt (less (fair_word s) (omega (arith, fewer)) small ∙ omega (arith, fewer)) refl,
@@ -128,10 +149,10 @@ stops = allows (Some Starving) (λ n. (n + (2 ^ 64 - 2)) % 2 ^ 64) (Stops 2 0 (S
     ))
 
 pub holds_only : Allows IsFair (ways fair) (Some HoldingStarving) (λ n. (n + (2 ^ 64 - 2)) % 2 ^ 64) (Stops 2 0 (Some HoldingStarving))
-holds_only = allows (Some HoldingStarving) (λ n. (n + (2 ^ 64 - 2)) % 2 ^ 64) (Stops 2 0 (Some HoldingStarving)) (λ s p room order one has small.
+holds_only = allows (Some HoldingStarving) (λ n. (n + (2 ^ 64 - 2)) % 2 ^ 64) (Stops 2 0 (Some HoldingStarving)) (λ n vs w is. rw is (omega arith, omega arith)) (λ s p room order one has small.
     let found = is_starver-from_entries p s.starvers (ap (λ e. e.starvers) has.0) in let fewer = length-without_starver p s.starvers found in (
-      Holding,
-      by_step fair (Some HoldingStarving) Holding s (stops_starving p) ((fair_word s + (2 ^ 64 - 2)) % 2 ^ 64) 0 found (stop_holding-own s p) tt (less (fair_word s) (omega (arith, fewer)) small ∙ omega (arith, fewer)) refl,
+      Served,
+      by_step fair (Some HoldingStarving) Served s (stops_starving p) ((fair_word s + (2 ^ 64 - 2)) % 2 ^ 64) 0 found (stop_holding-own s p) tt (less (fair_word s) (omega (arith, fewer)) small ∙ omega (arith, fewer)) refl,
       refl,
     ))
 
@@ -140,16 +161,38 @@ holds_only = allows (Some HoldingStarving) (λ n. (n + (2 ^ 64 - 2)) % 2 ^ 64) (
 clear : (n : ℕ) → n % 2 ≡ 1 → n < words → bit_and n 18446744073709551614 ≡ n - 1
 clear n odd small = let kept = and_high_numeral n 18446744073709551613 refl small in omega (arith, kept, odd)
 
-pub unlocks : Allows IsFair (ways fair) (Some Holding) (λ n. bit_and n 18446744073709551614) (becomes Idle 18446744073709551614 0 (Some Holding))
-unlocks = allows (Some Holding) (λ n. bit_and n 18446744073709551614) (becomes Idle 18446744073709551614 0 (Some Holding)) (λ s p room order one has small.
-    let found = is_holder-from_entries p writing s.holders (ap (λ e. e.holders) has.0) in let fewer = length-without_holder p writing s.holders found in (
+-- a newcomer, or who was served
+lets_go : (v : View) → part v ≡ holds writing → Allows IsFair (ways fair) (Some v) (λ n. bit_and n 18446744073709551614) (becomes Idle 18446744073709551614 0 (Some v))
+lets_go v writer = allows (Some v) (λ n. bit_and n 18446744073709551614) (becomes Idle 18446744073709551614 0 (Some v)) (λ n vs w is. rw is (omega arith, omega arith)) (λ s p room order one has small.
+    let own : entries p s ≡ entries_of p (holds writing) = has.0 ∙ ap (entries_of p) writer in
+    let found = is_holder-from_entries p writing s.holders (ap (λ e. e.holders) own) in let fewer = length-without_holder p writing s.holders found in (
       Idle,
-      by_step fair (Some Holding) Idle s (releases p writing) (bit_and (fair_word s) 18446744073709551614) 0 found (release-own s p writing) tt (clear (fair_word s) (omega (arith, fewer, one)) small ∙ omega (arith, fewer)) refl,
+      by_step fair (Some v) Idle s (releases p writing) (bit_and (fair_word s) 18446744073709551614) 0 found (ap (λ x. entries_after s (Some (releases p writing)) (entries_of p x)) writer ∙ release-own s p writing) tt
+          (clear (fair_word s) (omega (arith, fewer, one)) small ∙ omega (arith, fewer)) refl,
       refl,
     ))
 
-pub holding_of : (v : View) → use_of_view v ≡ writes → v ≡ Holding
-holding_of Idle e = absurd cc
-holding_of Starving e = absurd cc
-holding_of Holding e = refl
-holding_of HoldingStarving e = absurd cc
+pub unlocks : (v : View) → use_of_view v ≡ writes → Allows IsFair (ways fair) (Some v) (λ n. bit_and n 18446744073709551614) (becomes Idle 18446744073709551614 0 (Some v))
+unlocks Idle e = absurd cc
+unlocks Starving e = absurd cc
+unlocks Holding e = lets_go Holding refl
+unlocks HoldingStarving e = absurd cc
+unlocks Served e = lets_go Served refl
+
+-- Who may go
+
+also : (view : Option View) → Rests (Holds fair) use_of_view view → Rests IsFair use_of_view view
+also None rest = tt
+also (Some v) rest = (rest.0, λ n m before behind is. (rest.1 n m before behind is.0, first_without before behind v is.1))
+
+pub looks_on : Allows IsFair (ways fair) None (λ n. n) (becomes Idle 0 0 None)
+looks_on = with_order None (λ n. n) (becomes Idle 0 0 None) (λ n m vs w holds is l. absurd (omega (arith, l, ap newcomer is))) (looks fair)
+
+pub idle_rests : (v : View) → v ≡ Idle → Rests IsFair use_of_view (Some v)
+idle_rests v is = also (Some v) (plays.idle_rests fair v is)
+
+pub left_rests : (view : Option View) → Moved (λ v. v ≡ Idle) view → Rests IsFair use_of_view view
+left_rests view moved = also view (plays.left_rests fair view moved)
+
+pub missed_rests : (won v : View) (found expected : ℕ) → found ≢ expected → v ≡ (if found == expected then won else Idle) → Rests IsFair use_of_view (Some v)
+missed_rests won v found expected other is = also (Some v) (plays.missed_rests fair won v found expected other is)

@@ -2,6 +2,7 @@
 ghost use Rattle.std.specs.Prelude.{◌≡◌, Some, IfSome, IfOk};
 ghost use Rattle.spin_guard.specs.Guard.{IsHolder};
 ghost use Rattle.spin_fair.specs.Fair.{use_of_view};
+ghost use Rattle.spin_fair.specs.declared.fair.rule.View.TheVariants.{Holding};
 
 use self::rule::{Attempt, Look, Register};
 use spin_core::cell::Cell;
@@ -96,18 +97,21 @@ impl<T, R: RelaxStrategy> FairMutex<T, R> {
 }
 
 impl<T, R> FairMutex<T, R> {
-    /// Takes the lock, or refuses where somebody holds it or starves. It makes one exchange.
+    /// Takes the lock, or refuses where somebody holds it or starves. It makes one exchange. Its guard is a newcomer's:
+    /// while that holds, no starver is registered that came before it.
     ///
     /// Example: `a_lock_is_taken_once`, `crates/spin_mutex_tests/src/calls.rt`.
     pub fn try_lock<'a>(&'a self) -> Option<FairMutexGuard<'a, T, R>>
-        ensures { IfSome result (IsHolder use_of_view) }
+        ensures holder { IfSome result (IsHolder use_of_view) }
+        ensures newcomer { IfSome result (λ guard. guard.writer.view ≡ Holding) }
     {
         self.try_lock_starver().ok()
     }
 
     /// As `try_lock`, and says why it refuses.
     pub fn try_lock_starver<'a>(&'a self) -> Result<FairMutexGuard<'a, T, R>, LockRejectReason>
-        ensures { IfOk result (IsHolder use_of_view) }
+        ensures holder { IfOk result (IsHolder use_of_view) }
+        ensures newcomer { IfOk result (λ guard. guard.writer.view ≡ Holding) }
     {
         let free = 0;
         let taken = fair::lock(free).unwrap();

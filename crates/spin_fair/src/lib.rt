@@ -2,3 +2,4 @@
 #![tactic(auto)]
 
 pub mod fair;
+pub mod laws;

@@ -13,13 +13,16 @@ use spin_guard::guard::{self, LetsGo, Uses};
 pub enum View {
     Idle,
     Starving,
+    /// It holds, and came as a newcomer.
     Holding,
     /// It has the flag, and is registered still: it uses the value once it has stopped starving.
     HoldingStarving,
+    /// It holds, and starved for it.
+    Served,
 }
 
 /// The word is that of a plain lock of these parties: 1 while one holds it, and 2 for each that starves. The second word
-/// is 0.
+/// is 0. A newcomer that holds came before each party that starves.
 pub struct FairRule;
 
 impl<T> Rule<T, View> for FairRule {

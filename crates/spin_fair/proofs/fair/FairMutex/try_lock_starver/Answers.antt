@@ -1,7 +1,6 @@
 use Rattle.std.proofs.Common.{◌≡◌, ℕ}
-use Rattle.spin_core.proofs.Plays.{missed_rests}
 use Rattle.spin_fair.specs.declared.fair.rule.View.TheVariants.{Holding}
-use Rattle.spin_fair.proofs.Steps.{fair, attempts}
+use Rattle.spin_fair.proofs.Steps.{attempts, missed_rests}
 use Rattle.spin_fair.proofs.fair.FairMutex.try_lock_starver.Goals as goal
 
 pub attempt-requires-clause-step : goal.attempt-requires-clause-step
@@ -11,4 +10,4 @@ attempt-requires-clause-step g c =
     rw (c.enter-party.ensures.fresh.0, same) (attempts 0 1 (rw exact at c.lock.ensures.plain))
 
 pub attempt-requires-clause-rests : goal.attempt-requires-clause-rests
-attempt-requires-clause-rests g c found after other is = missed_rests fair Holding after found 0 other is
+attempt-requires-clause-rests g c found after other is = missed_rests Holding after found 0 other is
