@@ -36,6 +36,6 @@ pub use spin_world_rw::{
     looks_agree_across_conversions, readers_stand_beside_no_writer,
 };
 pub use spin_world_ticket::{
-    Ticket, TicketCall, TicketPoint, TicketWords, a_lock_enters, a_lock_queues_behind_others,
-    a_look_loads_the_served_number_first, tickets_enter_by_releases, tickets_stand_in_order,
+    Ticket, TicketCall, TicketPoint, TicketWords, a_ticket_lock_is_what_its_calls_ask,
+    tickets_enter_by_releases, tickets_stand_in_order,
 };
