@@ -12,11 +12,8 @@ pub use spin_world_core::{
     looks_find_the_last_write, looks_under_one_guard_agree, two_runs_are_one,
 };
 pub use spin_world_fair::{
-    Fair, FairCall, FairPoint, a_dropped_starver_leaves_the_flag,
-    a_granted_starver_leaves_the_starvers, a_lock_in_vain_registers,
-    a_lock_looks_before_it_registers, a_lock_past_its_patience_is_no_newcomer,
-    a_newcomer_yields_to_starvers, a_refusal_tells_its_reason, a_starver_tries_again,
-    a_word_is_zero_when_nobody_holds_or_starves, starvers_come_first, starvers_stay_within_the_cap,
+    Fair, FairCall, FairPoint, a_fair_lock_is_what_its_calls_ask,
+    a_word_is_zero_when_nobody_holds_or_starves, starvers_come_first,
 };
 pub use spin_world_flag::{
     Flag, FlagCall, FlagPoint, a_flag_is_clear_when_nobody_holds, a_lock_tries_again,
@@ -36,6 +33,6 @@ pub use spin_world_rw::{
     looks_agree_across_conversions, readers_stand_beside_no_writer,
 };
 pub use spin_world_ticket::{
-    Ticket, TicketCall, TicketPoint, TicketWords, a_lock_enters, a_lock_queues_behind_others,
-    a_look_loads_the_served_number_first, tickets_enter_by_releases, tickets_stand_in_order,
+    Ticket, TicketCall, TicketPoint, TicketWords, a_ticket_lock_is_what_its_calls_ask,
+    tickets_enter_by_releases, tickets_stand_in_order,
 };

@@ -1,8 +1,8 @@
 -- The shape of a fair lock, that its steps keep it, and what a party finds there.
-use Rattle.std.proofs.Common.{◌≡◌, ℕ, ◌%◌, ◌≤◌, ◌==◌, Bool, true, false, not, ◌&&◌, List, [], ◌∷◌, ◌++◌, length, nat_lt, refl, ap, sym, ◌∙◌, arith, length-append}
+use Rattle.std.proofs.Common.{◌≡◌, ℕ, ◌%◌, ◌≤◌, ◌==◌, Bool, true, false, not, ◌&&◌, ◌||◌, cond, filter, List, [], ◌∷◌, ◌++◌, length, nat_lt, refl, ap, sym, ◌∙◌, arith, length-append}
 use Rattle.std.specs.Prelude.{min}
 use Rattle.std.proofs.lemmas.Bool.{and_parts, eq-eqb, true≢false, lt-ltb}
-use Rattle.spin_step.specs.Plain.{Plain, Holder, holder, writing, is_empty, is_starver, is_holder, fair_word, releases, apply}
+use Rattle.spin_step.specs.Plain.{Plain, Holder, holder, writing, same_kind, is_empty, is_starver, is_holder, fair_word, releases, apply}
 use Rattle.spin_step.specs.Parties.{Entries, entries, is_held}
 use Rattle.spin_step.specs.Starvers.{most_starvers, OneHolds}
 use Rattle.spin_step.proofs.Exclusive.{empty_is}
@@ -38,6 +38,24 @@ is_starving_still p s mine = is_starver-from_entries p s.starvers (ap (λ (e : E
 
 pub starver_counts : (p w : ℕ) (s : Plain) → fair_word s ≡ w → is_starver p s.starvers ≡ true → nat_lt 1 w ≡ true
 starver_counts p w s is found = lt-ltb 1 w (omega (arith, is, length-without_starver p s.starvers found))
+
+-- a starver that has nothing else holds nothing, so what is open to it is to get the lock
+pub not_there : (p : ℕ) (s : Plain) → entries p s ≡ entries_at p starves → ((is_starver p s.starvers && is_empty s.holders) || is_holder p writing s.holders) ≡ true → (is_starver p s.starvers && is_empty s.holders) ≡ true
+not_there p s mine free = or_left (is_starver p s.starvers && is_empty s.holders) (is_holder p writing s.holders) (holds_nothing p s.holders (ap (λ (e : Entries). e.holders) mine)) free
+  where
+    or_left : (a b : Bool) → b ≡ false → (a || b) ≡ true → a ≡ true
+    or_left true b none e = refl
+    or_left false b none e = absurd (true≢false (sym e ∙ none))
+
+    not_here : (b : Bool) (p : ℕ) (h : Holder) (hs : List Holder) → cond b (h ∷ filter (λ g. g.party == p) hs) (filter (λ g. g.party == p) hs) ≡ [] → (b ≡ false) × (filter (λ g. g.party == p) hs ≡ [])
+    not_here true p h hs none = absurd (cc (none))
+    not_here false p h hs none = (refl, none)
+
+    holds_nothing : (p : ℕ) (hs : List Holder) → filter (λ h. h.party == p) hs ≡ [] → is_holder p writing hs ≡ false
+    holds_nothing p [] none = refl
+    holds_nothing p (h ∷ hs) none =
+        let here = not_here (h.party == p) p h hs none in
+        ap (λ b. (b && same_kind writing h.kind) || is_holder p writing hs) here.0 ∙ holds_nothing p hs here.1
 
 -- the holder finds the flag set
 

@@ -28,8 +28,9 @@ use Rattle.spin_world_core.proofs.Rows.{SoundAt, Row, row_looked, Point, nowhere
 use Rattle.spin_world_core.proofs.Shapes.{Notes, keeping_of, Means, call_of, Follows, OwesAt, answers_by, OwesSoon, BeginsAt, makes_own, Pays, CallOf, AtPoint}
 use Rattle.spin_world_core.proofs.Usual.{as_found, no_queue, means_word}
 use Rattle.spin_world_core.proofs.Paid.{facts_of}
-use Rattle.spin_world_fair.proofs.Registering.{sooner, none_left, few_to_load, few_to_register, Looking, Loading, Registering, none_yet, starving-other, looking-other, loading-other, registering-other, goes_on, missed, looked_free, looked_held, looked_late, loaded, retried, full, registered, looked_starving}
-use Rattle.spin_world_fair.proofs.Found.{IsFair, comes, goes_away, same_holders, is_starving, is_starving_still, starver_counts, is_holding, set_by_holder, word_free, flag_clear, word_locked, word_starved}
+use Rattle.spin_world_fair.proofs.Registering.{sooner, Sees, sees_by, sees-other, blind_after, none_left, few_to_load, few_to_register, Looking, Loading, Registering, none_yet, starving-other, looking-other, loading-other, registering-other, goes_on, missed, looked_free, looked_held, looked_late, loaded, retried, full, registered, looked_starving}
+use Rattle.spin_world_fair.proofs.Found.{IsFair, comes, goes_away, same_holders, is_starving, is_starving_still, starver_counts, is_holding, set_by_holder, word_free, flag_clear, word_locked, word_starved, not_there}
+use Rattle.spin_world_fair.proofs.Operating.{fits_all, strong, operates}
 
 -- a starver goes for the lock with these steps made
 abbrev pub starving_row : (ℕ → List Change) → Row
@@ -63,12 +64,13 @@ point_of StarverDrop First (Some Starver) = looked 0
 point_of Release First (Some Write) = looked 0
 point_of _ _ _ = nowhere
 
--- what else a party knows: how its `lock` stands to its patience
+-- what else a party knows: how its `lock` stands to its patience, and that its last step was not blind where the next one is
 abbrev pub KnowsAt : ℕ → FairCall → FairPoint → ℕ → Plain → List Mark → Type 0
-KnowsAt patience Lock (Attempt n) p s span = Looking patience n p span
+KnowsAt patience Lock (Attempt n) p s span = Looking patience n p span × Sees p span
 KnowsAt patience Lock (Look n) p s span = Looking patience n p span
-KnowsAt patience Lock Load p s span = Loading patience p span
+KnowsAt patience Lock Load p s span = Loading patience p span × Sees p span
 KnowsAt patience Lock (Register n) p s span = Registering patience n p s span
+KnowsAt patience Lock SetFlag p s span = RegistersInTime none_left p patience span × Sees p span
 KnowsAt patience Lock First p s span = Unit {0}
 KnowsAt patience Lock _ p s span = RegistersInTime none_left p patience span
 KnowsAt patience _ _ p s span = Unit {0}
@@ -143,7 +145,7 @@ module _ {V : Type 0} (v : V) (cap patience : ℕ) where
   looks_follow true n p s w span is held knows =
       let next = looked_held patience p s span n held (ltb-true n patience is) knows in (refl, refl, nothing_left p _ next.in_time, tt, next)
   looks_follow false n p s w span is held knows =
-      let next = looked_late patience p s span n held (ltb-false n patience is) knows in (refl, refl, loads_in_time p _ next, tt, next)
+      let next = looked_late patience p s span n held (ltb-false n patience is) knows in (refl, refl, loads_in_time p _ next, tt, (next, sees_by p None look s span refl))
 
   -- a refused newcomer is told why
   rejected : (b : Bool) (p : ℕ) (s : Plain) (w : ℕ) (span : List Mark) → IsFair cap s → fair_word s ≡ w → (w == 1) ≡ b → (is_empty s.holders && is_empty s.starvers) ≡ false
@@ -154,38 +156,40 @@ module _ {V : Type 0} (v : V) (cap patience : ℕ) where
   owes : (p : ℕ) (c : FairCall) (l : FairPoint) (h : Option Hold) (s : Plain) (w : ℕ) (span : List Mark)
       → OwesAt (fair_table v cap patience) (fair_notes v cap patience) p c l h s w span
   owes p Lock (Attempt n) None s w span = λ at.
-      let lost = missed patience p s span n plain refl at.knows in
-      let refused = missed patience p s span n weak refl at.knows in (
+      let lost = missed patience p s span n plain refl at.knows.1 at.knows.0 in
+      let refused = missed patience p s span n weak refl at.knows.1 at.knows.0 in (
         lock_means p at,
-        (refl, inl refl, goes_on patience p s span (Some (gets p to_lock_unregistered)) plain refl (λ is. cc (is)) at.knows.in_time),
+        (refl, inl refl, goes_on patience p s span (Some (gets p to_lock_unregistered)) plain refl (λ is. cc (is)) refl at.knows.0.in_time),
         (λ closed. (refl, refl, nothing_left p _ lost.in_time, tt, lost)),
         (refl, refl, nothing_left p _ refused.in_time, tt, refused),
+        refl,
+        refl,
       )
   owes p Lock (Look n) None s w span = λ at. (
     (λ set. looks_follow (nat_lt n patience) n p s w span refl (held p at ∙ set) at.knows),
-    (λ clear. let next = looked_free patience p s span n (held p at ∙ clear) at.knows in (refl, refl, nothing_left p _ next.in_time, tt, next)),
+    (λ clear. let next = looked_free patience p s span n (held p at ∙ clear) at.knows in (refl, refl, nothing_left p _ next.in_time, tt, (next, sees_by p None look s span refl))),
   )
   owes p Lock Load None s w span = λ at. (
     starve_means p at,
-    (λ found. let next = loaded patience p s span w (sym (word p at)) at.knows in (refl, refl, registers_in_time w p s _ next, (refl, refl, as_found (starve cap) w found), next)),
-    (λ closed. let next = full patience p s span (few_to_load p) plain refl closed at.knows in (refl, refl, nothing_left p _ next.in_time, tt, next)),
+    (λ found. let next = loaded patience p s span w (sym (word p at)) at.knows.1 at.knows.0 in (refl, refl, registers_in_time w p s _ next, (refl, refl, as_found (starve cap) w found), next)),
+    (λ closed. let next = full patience p s span (few_to_load p) plain refl (blind_after patience p s span None plain at.knows.1) closed at.knows.0 in (refl, refl, nothing_left p _ next.in_time, tt, next)),
   )
   owes p Lock (Register n) None s w span = λ at. (
     starve_means p at,
-    (λ is. let next = registered patience p s span n at.knows in (refl, refl, nothing_left p _ next, tt, next)),
+    (λ is. let next = registered patience p s span n at.knows in (refl, refl, nothing_left p _ next, tt, (next, sees_by p (Some (gets p to_starve)) again s span refl))),
     (λ found. let next = retried patience p s span n w (sym (word p at)) found.0 at.knows in (refl, refl, registers_in_time w p s _ next, (refl, refl, as_found (starve cap) w found.1), next)),
-    (λ closed. let next = full patience p s span (few_to_register p s n) again refl closed at.knows in (refl, refl, nothing_left p _ next.in_time, tt, next)),
+    (λ closed. let next = full patience p s span (few_to_register p s n) again refl refl closed at.knows in (refl, refl, nothing_left p _ next.in_time, tt, next)),
   )
   owes p Lock SetFlag None s w span = λ at.
-      let won = goes_on patience p s span (Some (gets p to_lock_starving)) plain refl (λ is. cc (is)) at.knows in
-      let lost = goes_on patience p s span None plain refl (λ is. cc (is)) at.knows in
+      let won = goes_on patience p s span (Some (gets p to_lock_starving)) plain refl (λ is. cc (is)) refl at.knows.0 in
+      let lost = goes_on patience p s span None plain refl (λ is. cc (is)) (blind_after patience p s span None plain at.knows.1) at.knows.0 in
       (lock_starved_means p at at.known.stand, (refl, refl, nothing_left p _ won, tt, won), (λ closed. (refl, refl, nothing_left p _ lost, tt, lost)))
   owes p Lock Await None s w span = λ at.
       let next = looked_starving patience p s span at.known.made at.knows in
-      ((λ set. (refl, refl, nothing_left p _ next, tt, next)), (λ clear. (refl, refl, nothing_left p _ next, tt, next)))
+      ((λ set. (refl, refl, nothing_left p _ next, tt, next)), (λ clear. (refl, refl, nothing_left p _ next, tt, (next, sees_by p None look s span refl))))
   owes p Lock Unregister None s w span = λ at.
       let means = unstarve_means p at (is_starving_still p s at.known.stand) in
-      (means.0, means.1, (refl, inr (inl refl), goes_on patience p s span (Some (stops_starving p)) plain refl (λ is. cc (is)) at.knows))
+      (means.0, means.1, (refl, inr (inl refl), goes_on patience p s span (Some (stops_starving p)) plain refl (λ is. cc (is)) refl at.knows))
   owes p TryLock First None s w span = λ at. (lock_means p at, (refl, inl refl, tt), (λ closed. (refl, inl refl, inl closed)))
   owes p TryLockStarver First None s w span = λ at. (lock_means p at, (refl, inl refl, tt), (λ closed. rejected (w == 1) p s w span at.shape (word p at) refl closed))
   owes p IsLocked First None s w span = λ at. (refl, inl refl, inl (held p at))
@@ -240,8 +244,8 @@ module _ {V : Type 0} (v : V) (cap patience : ℕ) where
   soon p Lock Load None s w span = λ at free. ap (λ k. answers_by (fair_table v cap patience) 4 k Lock Load None) (free_word p at free) ∙ loads_soon (nat_lt 0 (min cap most_starvers)) refl
   soon p Lock (Register n) None s w span = λ at free.
       ap (λ k. answers_by (fair_table v cap patience) 4 k Lock (Register n) None) (free_word p at free) ∙ retries_soon n (0 == n) (nat_lt 0 (min cap most_starvers)) refl refl
-  soon p Lock SetFlag None s w span = λ at free. starver_soon 2 w Lock None (clear_word p at free)
-  soon p Lock Await None s w span = λ at free. awaits_soon w Lock None (clear_word p at free)
+  soon p Lock SetFlag None s w span = λ at free. starver_soon 2 w Lock None (clear_word p at (not_there p s at.known.stand free))
+  soon p Lock Await None s w span = λ at free. awaits_soon w Lock None (clear_word p at (not_there p s at.known.stand free))
   soon p Lock Unregister None s w span = λ at free. refl
   soon p StarverLock SetFlag (Some Starver) s w span = λ at free. starver_soon 2 w StarverLock (Some Starver) (clear_word p at free)
   soon p StarverLock Await (Some Starver) s w span = λ at free. awaits_soon w StarverLock (Some Starver) (clear_word p at free)
@@ -249,7 +253,7 @@ module _ {V : Type 0} (v : V) (cap patience : ℕ) where
   soon p _ _ _ s w span = tt
 
   begins : (p : ℕ) (c : FairCall) (h : Option Hold) (s : Plain) → BeginsAt (fair_table v cap patience) (fair_notes v cap patience) c h p s (begins_at c h)
-  begins p Lock None s = (refl, refl, tt, record { counted = λ lt. omega arith; many = omega arith; in_time = none_yet })
+  begins p Lock None s = (refl, refl, tt, (record { counted = λ lt. omega arith; many = omega arith; in_time = none_yet }, refl))
   begins p TryLock None s = (refl, refl, tt, tt)
   begins p TryLockStarver None s = (refl, refl, tt, tt)
   begins p IsLocked None s = (refl, refl, tt, tt)
@@ -290,9 +294,10 @@ module _ {V : Type 0} (v : V) (cap patience : ℕ) where
   sound p _ _ _ = tt
 
   others : (p q : ℕ) (c : FairCall) (l : FairPoint) (s : Plain) (step : Option Change) (r : Manner) (span : List Mark) → (q ≡ p → ⊥) → KnowsAt patience c l p s span → KnowsAt patience c l p (apply_some s step) (mark_of q step r s ∷ span)
-  others p q Lock (Attempt n) s step r span ne knows = looking-other patience p q s step r span ne n knows
+  others p q Lock (Attempt n) s step r span ne knows = (looking-other patience p q s step r span ne n knows.0, sees-other patience p q s step r span ne knows.1)
   others p q Lock (Look n) s step r span ne knows = looking-other patience p q s step r span ne n knows
-  others p q Lock Load s step r span ne knows = loading-other patience p q s step r span ne knows
+  others p q Lock Load s step r span ne knows = (loading-other patience p q s step r span ne knows.0, sees-other patience p q s step r span ne knows.1)
+  others p q Lock SetFlag s step r span ne knows = (starving-other patience p q s step r span ne knows.0, sees-other patience p q s step r span ne knows.1)
   others p q Lock (Register n) s step r span ne knows = registering-other patience p q s step r span ne n knows
   others p q Lock First s step r span ne knows = tt
   others p q Lock _ s step r span ne knows = starving-other patience p q s step r span ne knows
@@ -301,6 +306,9 @@ module _ {V : Type 0} (v : V) (cap patience : ℕ) where
   pub fair_pays : Pays (fair_table v cap patience) (fair_notes v cap patience)
   fair_pays =
       record {
+        fits = fits_all v cap patience;
+        weakly = strong v cap patience;
+        operates = operates v cap patience;
         first = refl;
         shape_first = record { one = omega arith; queue = refl; room = refl };
         numbers_tell = λ u w e. cc (e);

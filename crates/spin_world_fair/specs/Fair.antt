@@ -101,8 +101,8 @@ asks_of patience Starve h = tries to_starve
 asks_of patience StarverTryLockFair h = tries to_lock_starving_alone
 asks_of patience StarverTryLock h = tries to_lock_starving
 asks_of patience StarverLock h = waits to_lock_starving
-asks_of patience StarverDrop h = gives_back h
-asks_of patience Release h = gives_back h
+asks_of patience StarverDrop h = gives_back (Some Starver)
+asks_of patience Release h = gives_back (Some Write)
 
 -- the cap, and after so many looks at a set flag the next one makes `lock` register
 abbrev pub fair_table : {V : Type 0} → V → ℕ → ℕ → Table ℕ V FairCall FairPoint (Answer V)

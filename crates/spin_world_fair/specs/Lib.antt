@@ -1,3 +1,4 @@
 pub mod Fair
+pub mod Named
 pub mod Fairness
 pub mod Wrong

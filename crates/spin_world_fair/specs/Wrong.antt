@@ -1,6 +1,6 @@
--- Fair locks that are wrong in their tables, and schedules on which the laws refuse them. Each has room for two starvers, but one where it is said, and its `lock` registers by the second look that finds the flag set.
+-- Fair locks that are wrong, each in one part of its table or machine, and schedules on which the laws refuse them. Each has room for two starvers, but one where it is said, and its `lock` registers by the second look that finds the flag set.
 use Rattle.std.specs.Prelude.{ℕ, ◌+◌, ◌-◌, ◌*◌, ◌/◌, Option, Some, None, List, [], ◌∷◌, ◌==◌, nat_lt}
-use Rattle.spin_step.specs.Plain.{gets, stops_starving, to_lock_unregistered, to_lock_starving, to_starve}
+use Rattle.spin_step.specs.Plain.{gets, stops_starving, to_lock_unregistered, to_lock_starving, to_lock_starving_alone, to_starve}
 use Rattle.spin_world_core.specs.declared.place.Hold.{Hold}
 use Rattle.spin_world_core.specs.declared.place.Hold.TheVariants.{Starver}
 use Rattle.spin_world_core.specs.declared.object.Next.TheVariants.{GoesOn, Answers}
@@ -9,12 +9,13 @@ use Rattle.spin_world_core.specs.declared.answer.Answer.TheVariants.{Granted, Re
 use Rattle.spin_world_fair.specs.declared.fair.FairCall.{FairCall}
 use Rattle.spin_world_fair.specs.declared.fair.FairCall.TheVariants.{Lock, TryLock, TryLockStarver, Starve, StarverTryLock, StarverLock, StarverDrop, Release}
 use Rattle.spin_world_fair.specs.declared.fair.FairPoint.{FairPoint}
-use Rattle.spin_world_fair.specs.declared.fair.FairPoint.TheVariants.{First, Attempt, Look, Load, Register, SetFlag, Await}
+use Rattle.spin_world_fair.specs.declared.fair.FairPoint.TheVariants.{First, Attempt, Look, Load, Register, SetFlag, Await, Unregister}
 use Rattle.spin_world_core.specs.declared.schedule.Move.{Move}
-use Rattle.spin_world_core.specs.declared.schedule.Move.TheVariants.{Begin, Step}
+use Rattle.spin_world_core.specs.declared.schedule.Move.TheVariants.{Begin, Step, Weak}
+use Rattle.spin_world_core.specs.Calls.{Asked, tries}
 use Rattle.spin_world_core.specs.Machines.{Machine}
 use Rattle.spin_world_core.specs.Acts.{Act, either, load, load_if, exchange, weak_exchange, retry, store, machine_of}
-use Rattle.spin_world_fair.specs.Fair.{lock, lock_starved, is_set, granted, act_of, fair_table}
+use Rattle.spin_world_fair.specs.Fair.{lock, lock_starved, is_set, granted, act_of, fair_table, fair_machine}
 
 abbrev Acts : Type 0 → Type 0
 Acts V = FairCall → FairPoint → Option Hold → Act ℕ FairPoint (Answer V)
@@ -132,3 +133,65 @@ abbrev pub four_looks_of_a_starver : {V : Type 0} → Entries V
 four_looks_of_a_starver =
     (0, Begin TryLock) ∷ (0, Step) ∷ (1, Begin Starve) ∷ (1, Step) ∷ (1, Step) ∷ (1, Begin StarverLock) ∷ (1, Step)
     ∷ (0, Begin Release) ∷ (0, Step) ∷ (1, Step) ∷ (1, Step) ∷ (1, Step) ∷ (1, Step) ∷ []
+
+-- `lock` never looks
+abbrev unlooking_acts : {V : Type 0} → Acts V
+unlooking_acts Lock (Attempt n) h = weak_exchange lock (λ p. gets p to_lock_unregistered) granted (GoesOn (Attempt n))
+unlooking_acts c l h = act_of 2 1 c l h
+
+abbrev pub never_looks : {V : Type 0} → V → Machine ℕ V FairCall FairPoint (Answer V)
+never_looks v = by_acts v 2 unlooking_acts
+
+-- `lock` loads the word until it is clear, and counts nothing
+abbrev loading_acts : {V : Type 0} → Acts V
+loading_acts Lock (Look n) h = load (λ w. either (is_set w) (GoesOn (Look n)) (GoesOn (Attempt n)))
+loading_acts c l h = act_of 2 1 c l h
+
+abbrev pub loads_uncounted : {V : Type 0} → V → Machine ℕ V FairCall FairPoint (Answer V)
+loads_uncounted v = by_acts v 2 loading_acts
+
+-- a starver that has set the flag leaves the starvers only once it is the last one
+abbrev lingering_acts : {V : Type 0} → Acts V
+lingering_acts StarverLock Unregister h = load_if (λ w. w == 3) (λ w. GoesOn First) (λ w. GoesOn Unregister)
+lingering_acts StarverLock First h = act_of 2 1 StarverLock Unregister h
+lingering_acts c l h = act_of 2 1 c l h
+
+abbrev pub keeps_the_flag : {V : Type 0} → V → Machine ℕ V FairCall FairPoint (Answer V)
+keeps_the_flag v = by_acts v 2 lingering_acts
+
+-- the flag is set, and four steps later it is still
+abbrev pub lock_beside_a_starver : {V : Type 0} → Entries V
+lock_beside_a_starver =
+    (1, Begin Starve) ∷ (1, Step) ∷ (1, Step) ∷ (0, Begin Starve) ∷ (0, Step) ∷ (0, Step)
+    ∷ (0, Begin StarverLock) ∷ (0, Step) ∷ (0, Step) ∷ (0, Step) ∷ (0, Step) ∷ (0, Step) ∷ []
+
+-- a starver sets the flag by a weak exchange
+abbrev weakly_acts : {V : Type 0} → Acts V
+weakly_acts StarverLock SetFlag h = weak_exchange lock_starved (λ p. gets p to_lock_starving) (GoesOn Unregister) (GoesOn Await)
+weakly_acts c l h = act_of 2 1 c l h
+
+abbrev pub sets_by_chance : {V : Type 0} → V → Machine ℕ V FairCall FairPoint (Answer V)
+sets_by_chance v = by_acts v 2 weakly_acts
+
+abbrev pub starver_in_vain : {V : Type 0} → Entries V
+starver_in_vain = (0, Begin Starve) ∷ (0, Step) ∷ (0, Step) ∷ (0, Begin StarverLock) ∷ (0, Weak) ∷ []
+
+-- a `starve` that begins where its party starves too
+abbrev begins_as : FairCall → Option Hold → (FairCall → Option Hold → Option FairPoint) → Option FairPoint
+begins_as Starve h begin = Some Load
+begins_as c h begin = begin c h
+
+abbrev pub starves_again : {V : Type 0} → V → Machine ℕ V FairCall FairPoint (Answer V)
+starves_again v = let m = fair_machine v 2 1 in record m { begin = λ c h. begins_as c h m.begin }
+
+-- a `starver_try_lock` that asks to lock as the only starver
+abbrev asks_as : FairCall → Option Hold → (FairCall → Option Hold → Asked) → Asked
+asks_as StarverTryLock h asks = tries to_lock_starving_alone
+asks_as c h asks = asks c h
+
+abbrev pub tries_alone : {V : Type 0} → V → Machine ℕ V FairCall FairPoint (Answer V)
+tries_alone v = let m = fair_machine v 2 1 in record m { asks = λ c h. asks_as c h m.asks }
+
+-- a starver stands at first, which is nobody
+abbrev pub opens_with_a_starver : {V : Type 0} → V → Machine ℕ V FairCall FairPoint (Answer V)
+opens_with_a_starver v = let m = fair_machine v 2 1 in record m { words = 2 }

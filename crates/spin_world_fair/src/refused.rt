@@ -1,7 +1,10 @@
 //! Wrong fair locks, each with a law that it breaks on a schedule that is named. They show what the laws keep out.
-ghost use Rattle.std.specs.Prelude.{◌≡◌};
+ghost use Rattle.std.specs.Prelude.{◌≡◌, []};
+ghost use Rattle.spin_world_core.specs.Operations.{Stepwise};
 ghost use Rattle.spin_world_core.specs.Runs.{KeepsAll, MomentsAll, CountsAll};
-ghost use Rattle.spin_world_fair.specs.Wrong.{tries_greedily, try_beside_a_starver, stays_a_starver, try_of_a_starver, starves_without_cap, two_starve, never_registers, lock_beside_a_holder, returns_to_its_exchange, lock_as_it_is_let_go, registers_at_once, hasty_lock, drop_frees, drop_beside_a_holder, tells_the_other_reason, try_beside_a_holder, waits_for_ever, four_looks_of_a_starver};
+ghost use Rattle.spin_world_fair.specs.Fair.{fair_machine};
+ghost use Rattle.spin_world_fair.specs.Named.{IsFairLock};
+ghost use Rattle.spin_world_fair.specs.Wrong.{tries_greedily, try_beside_a_starver, stays_a_starver, try_of_a_starver, starves_without_cap, two_starve, never_registers, lock_beside_a_holder, returns_to_its_exchange, lock_as_it_is_let_go, registers_at_once, hasty_lock, drop_frees, drop_beside_a_holder, tells_the_other_reason, try_beside_a_holder, waits_for_ever, four_looks_of_a_starver, never_looks, loads_uncounted, keeps_the_flag, lock_beside_a_starver, sets_by_chance, starver_in_vain, starves_again, tries_alone, opens_with_a_starver};
 
 /// A `try_lock` that sets the flag wherever it is clear: beside a starver its step is not open.
 pub fn a_newcomer_yields_to_starvers<V: Copy>()
@@ -47,4 +50,44 @@ pub fn a_refusal_tells_its_reason<V: Copy>()
 /// A `starver_lock` that never tries again: undisturbed it has to be answered by its fourth step.
 pub fn a_starver_tries_again<V: Copy>()
     ensures { (value : V) → CountsAll (waits_for_ever value) 2 four_looks_of_a_starver → ⊥ }
+{}
+
+/// A `lock` that makes its exchange again and again and never looks, and so never registers.
+pub fn a_lock_looks_between_its_exchanges<V: Copy>()
+    ensures { (value : V) → CountsAll (never_looks value) 2 lock_beside_a_holder → ⊥ }
+{}
+
+/// A `lock` that waits by loads which count nowhere, and so never registers.
+pub fn a_lock_waits_by_looks<V: Copy>()
+    ensures { (value : V) → CountsAll (loads_uncounted value) 2 lock_beside_a_holder → ⊥ }
+{}
+
+/// A `starver_lock` that has set the flag and goes on while another party starves: who has what it asks is answered.
+pub fn a_starver_that_holds_is_answered<V: Copy>()
+    ensures { (value : V) → CountsAll (keeps_the_flag value) 2 lock_beside_a_starver → ⊥ }
+{}
+
+/// A starver that sets the flag by a weak exchange: its calls are not refused without cause.
+pub fn a_starver_sets_the_flag_by_a_strong_exchange<V: Copy>()
+    ensures { (value : V) → KeepsAll (sets_by_chance value) 1 starver_in_vain → ⊥ }
+{}
+
+/// A `starve` that begins where its party starves, and registers it twice.
+pub fn a_starver_may_not_starve_again<V: Copy>()
+    ensures { (value : V) → Stepwise (starves_again value) → ⊥ }
+{}
+
+/// A `starver_try_lock` that yields to the other starvers.
+pub fn a_starver_tries_beside_others<V: Copy>()
+    ensures { (value : V) → IsFairLock value 2 1 (tries_alone value) → ⊥ }
+{}
+
+/// A fair lock that lets one party starve, whatever its cap is.
+pub fn as_many_may_starve_as_the_cap_says<V: Copy>()
+    ensures { (value : V) → IsFairLock value 2 1 (fair_machine value 1 1) → ⊥ }
+{}
+
+/// A fair lock at which a starver stands at first.
+pub fn a_fair_lock_opens_without_starvers<V: Copy>()
+    ensures { (value : V) → KeepsAll (opens_with_a_starver value) 1 [] → ⊥ }
 {}

@@ -1,3 +1,4 @@
 pub mod Found
+pub mod Operating
 pub mod Owed
 pub mod Queues

@@ -1,7 +1,7 @@
 -- What the ticket lock's table owes.
-use Rattle.std.proofs.Common.{◌≡◌, ℕ, suc, ◌+◌, ◌-◌, ◌≤◌, ◌==◌, Bool, true, false, not, ◌&&◌, if◌then◌else◌, is_some, Option, Some, None, List, [], ◌∷◌, refl, ap, sym, ◌∙◌, subst, arith, inl, inr, eq-eqb}
+use Rattle.std.proofs.Common.{◌≡◌, ℕ, suc, ◌+◌, ◌-◌, ◌≤◌, ◌==◌, Bool, true, false, not, ◌&&◌, ◌||◌, cond, filter, if◌then◌else◌, is_some, Option, Some, None, List, [], ◌∷◌, refl, ap, sym, ◌∙◌, subst, arith, inl, inr, eq-eqb}
 use Rattle.std.proofs.lemmas.Bool.{and_parts, eqb-true, true≢false}
-use Rattle.spin_step.specs.Plain.{Plain, Ask, to_take_ticket, to_enter, to_take_and_enter, Change, gets, serves, apply, is_open, is_empty, next_word, serving_word}
+use Rattle.spin_step.specs.Plain.{Plain, Ticket as Queued, ticket as queued, is_first, Ask, to_take_ticket, to_enter, to_take_and_enter, Change, gets, serves, apply, is_open, is_empty, next_word, serving_word}
 use Rattle.spin_step.specs.Parties.{apply_some, IsOpenStep, Entries, entries, is_held}
 use Rattle.spin_step.specs.Steps.{Decides}
 use Rattle.spin_step.proofs.Tickets.{enters_in_turn, numbered-gets, numbered-serves, serving-taken, serving-entered, entered_is_served, stands}
@@ -27,6 +27,7 @@ use Rattle.spin_world_core.proofs.Shapes.{Notes, keeping_of, Means, OwesAt, answ
 use Rattle.spin_world_core.proofs.Usual.{two, found_by, no_holders, retries_soon}
 use Rattle.spin_world_core.proofs.Paid.{facts_of}
 use Rattle.spin_world_ticket.proofs.Found.{free_number, Queue, Stays, Rises, stays-other, rises-other, stays_now, try_refused, look_held, look_free, ticket_left, taken_queue}
+use Rattle.spin_world_ticket.proofs.Operating.{fits_all, strong, operates}
 
 abbrev pub point_of : TicketCall → TicketPoint → Option Hold → Point
 point_of Lock LoadNext None = looked 0
@@ -75,6 +76,23 @@ not_taken false true x none is = absurd (true≢false (sym is))
 taken_at : {X : Type 0} (a : Bool) (o : Option X) (to : X) → (if a then o else None) ≡ Some to → (a ≡ true) × (o ≡ Some to)
 taken_at true o to is = (refl, is)
 taken_at false o to is = absurd (cc (is))
+
+-- who waits with a ticket hasn't entered yet
+
+not_first : (b : Bool) (p t : ℕ) (k : Queued) (ts : List Queued) → cond b (k ∷ filter (λ t. t.party == p) ts) (filter (λ t. t.party == p) ts) ≡ queued p t false ∷ [] → (b && k.entered) ≡ false
+not_first true p t k ts mine = let same : k ≡ queued p t false = cc (mine) in ap (λ (k : Queued). k.entered) same
+not_first false p t k ts mine = refl
+
+not_entered : (p t : ℕ) (ts : List Queued) → filter (λ t. t.party == p) ts ≡ queued p t false ∷ [] → is_first p true ts ≡ false
+not_entered p t [] mine = refl
+not_entered p t (k ∷ ts) mine = not_first (k.party == p) p t k ts mine
+
+or_left : (a b : Bool) → b ≡ false → (a || b) ≡ true → a ≡ true
+or_left true b none e = refl
+or_left false b none e = absurd (true≢false (sym e ∙ none))
+
+enters_first : (p t : ℕ) (s : Plain) → entries p s ≡ entries_at p (queues t false) → (is_open s (gets p to_enter) || is_first p true s.tickets) ≡ true → is_open s (gets p to_enter) ≡ true
+enters_first p t s mine free = or_left (is_open s (gets p to_enter)) (is_first p true s.tickets) (not_entered p t s.tickets (ap (λ (e : Entries). e.tickets) mine)) free
 
 module _ {V : Type 0} (v : V) (first : ℕ) where
   abbrev IsMeant : ℕ → Plain → Change → Option TicketWords → Type 0
@@ -157,6 +175,7 @@ module _ {V : Type 0} (v : V) (first : ℕ) where
         let same = eqb-true w.next n is.0 in
         (subst (IsMeant p s (gets p to_take_and_enter)) is.1 (take_alone_means p at (omega (arith, same, at.knows.0))), (ap (λ k. Some (queues k true)) (next_is p at ∙ same), inl refl, tt))),
     (λ none. (refl, inl refl, try_refused p n s span at.knows.1 (λ served e. let next = next_is p at in ap is_left next ∙ not_taken (w.next == n) (is_left w.next) _ none (eq-eqb w.next n (sym next ∙ e))))),
+    refl,
   )
   owes p IsLocked LookServing None s w span = λ at. (refl, refl, refl, tt, (omega (arith, serving_is p at), inr (serving_is p at)))
   owes p IsLocked (LookNext k) None s w span = λ at. (refl, inl refl, looked_right (w.next == k) k p s span at.shape (ap (λ n. n == k) (next_is p at)) at.knows)
@@ -177,7 +196,7 @@ module _ {V : Type 0} (v : V) (first : ℕ) where
       → OwesSoon (ticket_table v first) (ticket_notes v first) p c l h s w span
   soon p Lock LoadNext None s w span = λ at free. let is = free_to_take p at free in rw is.0 (takes_soon 0 w.next w is.0 is.1)
   soon p Lock (Take n) None s w span = λ at free. let is = free_to_take p at free in takes_soon 1 n w is.0 is.1
-  soon p Lock (Await t) None s w span = λ at free. enters_soon 3 w t (eqb-true w.serving t (sym (in_turn p at t at.known.stand) ∙ free))
+  soon p Lock (Await t) None s w span = λ at free. enters_soon 3 w t (eqb-true w.serving t (sym (in_turn p at t at.known.stand) ∙ enters_first p t s at.known.stand free))
   soon p _ _ _ s w span = tt
 
   begins : (p : ℕ) (c : TicketCall) (h : Option Hold) (s : Plain) → BeginsAt (ticket_table v first) (ticket_notes v first) c h p s (begins_at c h)
@@ -213,6 +232,9 @@ module _ {V : Type 0} (v : V) (first : ℕ) where
   pub ticket_pays : Pays (ticket_table v first) (ticket_notes v first)
   ticket_pays =
       record {
+        fits = fits_all v first;
+        weakly = strong v first;
+        operates = operates v first;
         first = two first first first (first - 0) refl (omega arith);
         shape_first = record { no_holders = refl; numbered = (omega arith, tt); in_range = λ some. absurd (cc (some)) };
         numbers_tell = λ u w e. two_words u w e;

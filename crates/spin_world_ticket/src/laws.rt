@@ -1,12 +1,22 @@
-//! Laws of the ticket lock. Each is the contract of a function that does nothing, over every schedule.
+//! Laws of the ticket lock. Each is the contract of a function that does nothing.
 ghost use Rattle.std.specs.Prelude.{ℕ, List};
 ghost use Rattle.spin_world_core.specs.declared.schedule.Move.{Move};
 ghost use Rattle.spin_world_core.specs.Schedules.{after, at_first};
 ghost use Rattle.spin_world_core.specs.Runs.{opening};
 ghost use Rattle.spin_world_core.specs.Users.{seen_after};
 ghost use Rattle.spin_world_ticket.specs.declared.ticket.TicketCall.{TicketCall};
+ghost use Rattle.spin_world_ticket.specs.declared.ticket.Ticket.{Ticket};
+ghost use Rattle.spin_world_ticket.specs.Named.{IsTicketLock};
 ghost use Rattle.spin_world_ticket.specs.Ticket.{ticket_machine};
 ghost use Rattle.spin_world_ticket.specs.Turns.{InOrder, InTurn};
+
+use crate::ticket::Ticket;
+use spin_world_core::Object;
+
+/// What a [`Ticket`] is: how it opens, and what each of its calls asks.
+pub fn a_ticket_lock_is_what_its_calls_ask<V: Copy>()
+    ensures { (object : Ticket V) → IsTicketLock object.value object.first (⟦<Ticket<V> as Object>⟧.machine object) }
+{}
 
 /// The two words are the numbers of a queue of tickets, whose first alone may have entered.
 pub fn tickets_stand_in_order<V: Copy>()

@@ -2,11 +2,10 @@
 #![tactic(auto)]
 
 mod laws;
-mod refused;
+pub mod refused;
 mod ticket;
 
-pub use laws::{tickets_enter_by_releases, tickets_stand_in_order};
-pub use refused::{
-    a_lock_enters, a_lock_queues_behind_others, a_look_loads_the_served_number_first,
+pub use laws::{
+    a_ticket_lock_is_what_its_calls_ask, tickets_enter_by_releases, tickets_stand_in_order,
 };
 pub use ticket::{Ticket, TicketCall, TicketPoint, TicketWords};

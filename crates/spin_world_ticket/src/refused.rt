@@ -1,7 +1,9 @@
 //! Wrong ticket locks, each with a law that it breaks on a schedule that is named. They show what the laws keep out.
-ghost use Rattle.std.specs.Prelude.{◌≡◌};
-ghost use Rattle.spin_world_core.specs.Runs.{MomentsAll, CountsAll};
-ghost use Rattle.spin_world_ticket.specs.Wrong.{looks_backwards, look_beside_a_queue, queues_behind_nobody, lock_beside_a_holder, never_enters, lock_alone};
+ghost use Rattle.std.specs.Prelude.{◌≡◌, []};
+ghost use Rattle.spin_world_core.specs.Operations.{Stepwise};
+ghost use Rattle.spin_world_core.specs.Runs.{KeepsAll, MomentsAll, CountsAll};
+ghost use Rattle.spin_world_ticket.specs.Named.{IsTicketLock};
+ghost use Rattle.spin_world_ticket.specs.Wrong.{looks_backwards, look_beside_a_queue, queues_behind_nobody, lock_beside_a_holder, never_enters, lock_alone, never_tries, try_alone, looks_at_both, locks_again, tries_by_looking, takes_by_chance, try_in_vain, lock_in_vain, opens_with_a_ticket};
 
 /// An `is_locked` of a ticket lock that loads the next number first: its `false` has no moment.
 pub fn a_look_loads_the_served_number_first<V: Copy>()
@@ -16,4 +18,39 @@ pub fn a_lock_queues_behind_others<V: Copy>()
 /// A `lock` of a ticket lock that never enters.
 pub fn a_lock_enters<V: Copy>()
     ensures { (value : V) → CountsAll (never_enters value) 1 lock_alone → ⊥ }
+{}
+
+/// A `try_lock` that is refused where no ticket stood: the refusal has no moment.
+pub fn a_refused_try_found_a_ticket<V: Copy>()
+    ensures { (value : V) → MomentsAll (never_tries value) 1 try_alone → ⊥ }
+{}
+
+/// An `is_locked` that finds both numbers in one step: a step is on one word.
+pub fn a_look_loads_one_number_at_a_time<V: Copy>()
+    ensures { (value : V) → Stepwise (looks_at_both value) → ⊥ }
+{}
+
+/// A `lock` that begins where its party holds the lock, and so waits for itself.
+pub fn a_holder_may_not_lock_again<V: Copy>()
+    ensures { (value : V) → Stepwise (locks_again value) → ⊥ }
+{}
+
+/// A `try_lock` that is an `is_locked`.
+pub fn a_try_lock_asks_to_enter<V: Copy>()
+    ensures { (value : V) → IsTicketLock value 0 (tries_by_looking value) → ⊥ }
+{}
+
+/// A strong try that is refused without cause: the refusal has no moment.
+pub fn a_strong_try_has_a_cause<V: Copy>()
+    ensures { (value : V) → MomentsAll (takes_by_chance value) 1 try_in_vain → ⊥ }
+{}
+
+/// A `lock` whose exchange for a ticket is weak: no call that queues may be refused without cause.
+pub fn a_ticket_is_taken_by_a_strong_exchange<V: Copy>()
+    ensures { (value : V) → KeepsAll (takes_by_chance value) 1 lock_in_vain → ⊥ }
+{}
+
+/// A ticket lock in whose queue a ticket stands at first.
+pub fn a_ticket_lock_opens_empty<V: Copy>()
+    ensures { (value : V) → KeepsAll (opens_with_a_ticket value) 1 [] → ⊥ }
 {}

@@ -1,0 +1,8 @@
+use Rattle.std.specs.Prelude.{Some}
+use Rattle.std.proofs.lemmas.Bool.{true≢false}
+use Rattle.spin_world_core.specs.declared.place.Hold.TheVariants.{Starver}
+use Rattle.spin_world_fair.specs.declared.fair.FairCall.TheVariants.{Starve}
+use Rattle.spin_world_fair.proofs.refused.a_starver_may_not_starve_again.Goals as goal
+
+pub returns : goal.returns
+returns g c = λ value steps. true≢false (steps.begins Starve (Some Starver))

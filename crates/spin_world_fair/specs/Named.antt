@@ -1,0 +1,32 @@
+-- What a fair lock is: how it opens, how many may starve, and what each of its calls asks. Where a call begins follows from what it asks.
+use Rattle.std.specs.Prelude.{◌≡◌, ℕ, true, min, Option, Some, [], ◌∷◌}
+use Rattle.spin_step.specs.Plain.{to_lock_unregistered, to_lock_starving, to_lock_starving_alone, to_starve}
+use Rattle.spin_step.specs.Starvers.{most_starvers}
+use Rattle.spin_world_core.specs.declared.place.Hold.{Hold}
+use Rattle.spin_world_core.specs.declared.place.Hold.TheVariants.{Write, Starver}
+use Rattle.spin_world_core.specs.declared.answer.Answer.{Answer}
+use Rattle.spin_world_fair.specs.declared.fair.FairCall.{FairCall}
+use Rattle.spin_world_fair.specs.declared.fair.FairCall.TheVariants.{Lock, TryLock, TryLockStarver, IsLocked, Starve, StarverTryLockFair, StarverTryLock, StarverLock, StarverDrop, Release}
+use Rattle.spin_world_fair.specs.declared.fair.FairPoint.{FairPoint}
+use Rattle.spin_world_core.specs.Calls.{fair, waits, waits_or_starves, tries, tries_to_know, looks, gives_back, says_of}
+use Rattle.spin_world_core.specs.Machines.{Machine}
+
+-- with this cap; and its `lock` registers by its next look that finds the flag set after so many
+pub record IsFairLock {V : Type 0} (given : V) (cap patience : ℕ) (m : Machine ℕ V FairCall FairPoint (Answer V)) : Type 0 where
+  pub coding : m.coding ≡ fair
+  pub most_starve : m.cap ≡ min cap most_starvers
+  pub opens_empty : m.words ≡ 0
+  pub number : (w : ℕ) → m.numbers w ≡ w ∷ []
+  pub value : m.value ≡ Some given
+  pub owned : m.owned ≡ true
+  pub lock : (h : Option Hold) → m.asks Lock h ≡ waits_or_starves patience
+  pub try_lock : (h : Option Hold) → m.asks TryLock h ≡ tries to_lock_unregistered
+  pub try_lock_starver : (h : Option Hold) → m.asks TryLockStarver h ≡ tries_to_know to_lock_unregistered
+  pub is_locked : (h : Option Hold) → m.asks IsLocked h ≡ looks
+  pub starve : (h : Option Hold) → m.asks Starve h ≡ tries to_starve
+  pub starver_try_lock_fair : (h : Option Hold) → m.asks StarverTryLockFair h ≡ tries to_lock_starving_alone
+  pub starver_try_lock : (h : Option Hold) → m.asks StarverTryLock h ≡ tries to_lock_starving
+  pub starver_lock : (h : Option Hold) → m.asks StarverLock h ≡ waits to_lock_starving
+  pub starver_drop : (h : Option Hold) → m.asks StarverDrop h ≡ gives_back (Some Starver)
+  pub release : (h : Option Hold) → m.asks Release h ≡ gives_back (Some Write)
+  pub says : (a : Answer V) → m.says a ≡ says_of a

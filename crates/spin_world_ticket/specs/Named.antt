@@ -1,0 +1,24 @@
+-- What a ticket lock is: how it opens, and what each of its calls asks. Where a call begins follows from what it asks.
+use Rattle.std.specs.Prelude.{◌≡◌, ℕ, true, Option, Some, [], ◌∷◌}
+use Rattle.spin_step.specs.Plain.{to_enter, to_take_and_enter}
+use Rattle.spin_world_core.specs.declared.place.Hold.{Hold}
+use Rattle.spin_world_core.specs.declared.answer.Answer.{Answer}
+use Rattle.spin_world_ticket.specs.declared.ticket.TicketWords.{TicketWords}
+use Rattle.spin_world_ticket.specs.declared.ticket.TicketCall.{TicketCall}
+use Rattle.spin_world_ticket.specs.declared.ticket.TicketCall.TheVariants.{Lock, TryLock, IsLocked, Release}
+use Rattle.spin_world_ticket.specs.declared.ticket.TicketPoint.{TicketPoint}
+use Rattle.spin_world_core.specs.Calls.{ticket, waits, tries, looks, gives_back, says_of}
+use Rattle.spin_world_core.specs.Machines.{Machine}
+
+pub record IsTicketLock {V : Type 0} (given : V) (first : ℕ) (m : Machine TicketWords V TicketCall TicketPoint (Answer V)) : Type 0 where
+  pub coding : m.coding ≡ ticket
+  pub first_ticket : m.first ≡ first
+  pub opens_empty : m.words ≡ record { next = first; serving = first }
+  pub numbers : (w : TicketWords) → m.numbers w ≡ w.next ∷ w.serving ∷ []
+  pub value : m.value ≡ Some given
+  pub owned : m.owned ≡ true
+  pub lock : (h : Option Hold) → m.asks Lock h ≡ waits to_enter
+  pub try_lock : (h : Option Hold) → m.asks TryLock h ≡ tries to_take_and_enter
+  pub is_locked : (h : Option Hold) → m.asks IsLocked h ≡ looks
+  pub release : (h : Option Hold) → m.asks Release h ≡ gives_back h
+  pub says : (a : Answer V) → m.says a ≡ says_of a
