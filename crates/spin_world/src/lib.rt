@@ -26,11 +26,9 @@ pub use spin_world_once::{
     an_answer_is_the_value_placed, one_closure_runs_at_a_time,
 };
 pub use spin_world_rw::{
-    Rw, RwCall, RwPoint, a_count_tells_the_upgradable_reader, a_downgrade_is_one_step,
-    a_downgrade_keeps_writers_out, a_read_is_answered, a_reader_stays_out_beside_a_writer,
-    a_refused_try_adds_no_reader, a_try_write_has_a_cause, a_word_is_zero_when_nobody_holds,
-    an_upgrade_is_refused_beside_readers, an_upgrade_never_lets_go, an_upgrade_opens_by_releases,
-    looks_agree_across_conversions, readers_stand_beside_no_writer,
+    Rw, RwCall, RwPoint, a_downgrade_keeps_writers_out, a_read_write_lock_is_what_its_calls_ask,
+    a_word_is_zero_when_nobody_holds, an_upgrade_opens_by_releases, looks_agree_across_conversions,
+    readers_stand_beside_no_writer,
 };
 pub use spin_world_ticket::{
     Ticket, TicketCall, TicketPoint, TicketWords, a_ticket_lock_is_what_its_calls_ask,

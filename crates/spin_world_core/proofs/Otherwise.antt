@@ -1,10 +1,11 @@
--- What shows that a lock is wrong: the parts of a claim that fail, and four steps of a party that nobody disturbs.
-use Rattle.std.proofs.Common.{◌≡◌, ℕ, ◌<◌, ◌⊎◌, true, false, List, [], ◌∷◌, refl, arith, ⊎_elim}
-use Rattle.std.proofs.lemmas.Bool.{true≢false}
+-- What shows that a lock is wrong: the parts of a claim that fail, four steps of a party that nobody disturbs, and a step that no one operation is.
+use Rattle.std.proofs.Common.{◌≡◌, ℕ, zero, suc, ◌+◌, ◌-◌, ◌<◌, ◌⊎◌, ◌==◌, Bool, true, false, List, [], ◌∷◌, slice_set, get_or, if◌then◌else◌, refl, inl, inr, subst, arith, ⊎_elim}
+use Rattle.std.proofs.lemmas.Bool.{true≢false, eqb-true}
 use Rattle.spin_world_core.specs.Manners.{is_weak}
 use Rattle.spin_world_core.specs.Calls.{Coding, Asked, Mark}
 use Rattle.spin_world_core.specs.Spans.{own_count}
 use Rattle.spin_world_core.specs.Undisturbed.{is_open_now, Leaves, UndisturbedTakes}
+use Rattle.spin_world_core.specs.Operations.{Operation, loads, exchanges, adds, subtracts, sets_lowest_bit, stores, performed}
 
 -- what is left where the first part is wrong
 pub otherwise : {X : Type 0} → (true ≡ false) ⊎ X → X
@@ -24,3 +25,31 @@ pub four_steps : (coding : Coding) (p : ℕ) (what : Asked) {a b c d : Mark} {ol
 four_steps coding p what {a} {b} {c} {d} {older} law may own_a own_b own_c own_d count =
     let few = law (a ∷ b ∷ c ∷ []) d older refl may (leaves coding p a own_a, (leaves coding p b own_b, (leaves coding p c own_c, (leaves coding p d own_d, tt)))) in
     omega (arith, few, count)
+
+-- a step that adds to a word as long as there is room
+
+abbrev Becomes : ℕ → Operation → ℕ → ℕ → Type 0
+Becomes i operation w to = to ∷ [] ≡ slice_set (w ∷ []) i (performed operation (get_or (w ∷ []) i 0))
+
+-- an exchange that changes a word found the number that it is for
+exchanged : (from to w x : ℕ) → x ≡ performed (exchanges from to) w → (w ≡ from) ⊎ (x ≡ w)
+exchanged from to w x is = at_number (w == from) refl is
+  where
+    at_number : (b : Bool) → (w == from) ≡ b → x ≡ (if b then to else w) → (w ≡ from) ⊎ (x ≡ w)
+    at_number true same gives = inl (eqb-true w from same)
+    at_number false other gives = inr gives
+
+-- no one operation adds d twice and then leaves a full word
+pub no_operation : (i : ℕ) (operation : Operation) (d full : ℕ) → 0 < d → Becomes i operation 0 d → Becomes i operation d (d + d) → Becomes i operation full full → ⊥
+no_operation zero loads d full some once twice left = let none : d ≡ 0 = cc (once) in omega (arith, some, none)
+no_operation zero (exchanges from to) d full some once twice left =
+    ⊎_elim
+    (λ (first : 0 ≡ from). ⊎_elim (λ (second : d ≡ from). omega (arith, some, first, second)) (λ (same : d + d ≡ d). omega (arith, some, same)) (exchanged from to d (d + d) (cc (twice))))
+    (λ (same : d ≡ 0). omega (arith, some, same)) (exchanged from to 0 d (cc (once)))
+no_operation zero (adds k) d full some once twice left = let more : d ≡ 0 + k = cc (once) in let same : full ≡ full + k = cc (left) in omega (arith, some, more, same)
+no_operation zero (subtracts k) d full some once twice left = let none : d ≡ 0 - k = cc (once) in omega (arith, some, none)
+no_operation zero sets_lowest_bit d full some once twice left =
+    let one : d ≡ 1 = cc (once) in
+    let two : 2 ≡ 1 = subst (λ n. n + n ≡ performed sets_lowest_bit n) one (cc (twice)) in omega (arith, two)
+no_operation zero (stores k) d full some once twice left = let first : d ≡ k = cc (once) in let second : d + d ≡ k = cc (twice) in omega (arith, some, first, second)
+no_operation (suc i) operation d full some once twice left = let none : d ≡ 0 = cc (once) in omega (arith, some, none)

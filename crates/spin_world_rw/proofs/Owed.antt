@@ -1,7 +1,7 @@
 -- What the table of the read-write lock owes.
-use Rattle.std.proofs.Common.{◌≡◌, ℕ, suc, ◌+◌, ◌-◌, ◌/◌, ◌%◌, ◌≤◌, ◌==◌, Bool, true, ◌&&◌, Option, Some, None, List, [], ◌∷◌, ◌++◌, length, nat_lt, refl, ap, sym, ◌∙◌, subst, arith, inl, eq-eqb, length-append}
+use Rattle.std.proofs.Common.{◌≡◌, ℕ, suc, ◌+◌, ◌-◌, ◌/◌, ◌%◌, ◌≤◌, ◌==◌, Bool, true, ◌&&◌, Option, Some, None, List, [], ◌∷◌, ◌++◌, length, nat_lt, unwrap_or, refl, ap, sym, ◌∙◌, subst, arith, inl, eq-eqb, length-append}
 use Rattle.std.specs.Prelude.{min, max}
-use Rattle.std.proofs.lemmas.Bool.{and_parts, lt-ltb, ltb-true}
+use Rattle.std.proofs.lemmas.Bool.{and_parts, lt-ltb, ltb-true, false≢true}
 use Rattle.spin_step.specs.Plain.{Plain, Kind, reading, upgradable, writing, Holder, holder, to_read, to_read_upgradable, to_write, to_upgrade, Change, gets, releases, turns, apply, is_open, may_read, is_empty, is_holder, is_downgrade, count_kind, without_holder, with_kind, rw_word}
 use Rattle.spin_step.specs.Parties.{Entries, entries, who, IsExclusive}
 use Rattle.spin_step.specs.Steps.{Decides}
@@ -13,18 +13,22 @@ use Rattle.spin_step.proofs.ReaderSteps.{one_of_each, rw_read-grants, rw_upgrada
 use Rattle.spin_world_core.specs.declared.answer.Answer.{Answer}
 use Rattle.spin_world_core.specs.declared.place.Hold.{Hold}
 use Rattle.spin_world_core.specs.declared.place.Hold.TheVariants as hold
-use Rattle.spin_world_core.specs.declared.object.Next.TheVariants.{GoesOn}
+use Rattle.spin_world_core.specs.declared.answer.Answer.TheVariants.{Refused}
+use Rattle.spin_world_core.specs.declared.object.Next.TheVariants.{GoesOn, Answers}
 use Rattle.spin_world_rw.specs.declared.rw.RwCall.{RwCall}
 use Rattle.spin_world_rw.specs.declared.rw.RwCall.TheVariants.{TryRead, Read, TryUpgradeableRead, UpgradeableRead, TryWrite, TryWriteWeak, Write, ReaderCount, WriterCount, TryUpgrade, TryUpgradeWeak, Upgrade, Downgrade, DowngradeToUpgradeable, Release}
 use Rattle.spin_world_rw.specs.declared.rw.RwPoint.{RwPoint}
 use Rattle.spin_world_rw.specs.declared.rw.RwPoint.TheVariants.{First, Exchange}
 use Rattle.spin_world_core.specs.Calls.{Mark}
 use Rattle.spin_world_core.specs.Calls as calls
-use Rattle.spin_world_rw.specs.Rw.{begins_at, read, read_upgradable, write, upgrade, granted, act_of, asks_of, rw_table, rw_machine}
+use Rattle.spin_world_core.specs.Operations.{Operation, loads, exchanges, adds, subtracts, performed}
+use Rattle.spin_world_core.specs.Acts.{step_by, can_by}
+use Rattle.spin_world_rw.specs.Rw.{begins_at, read, read_upgradable, write, upgrade, granted, goes_for, act_of, asks_of, rw_table, rw_machine}
 use Rattle.spin_world_core.proofs.Facts.{LocalInvariant, Facts}
 use Rattle.spin_world_core.proofs.Stands.{holds, entries_at}
 use Rattle.spin_world_core.proofs.Rows.{starts_sound, SoundAt, Row, Point, starts, looked}
 use Rattle.spin_world_core.proofs.Shapes.{Notes, keeping_of, Means, OwesAt, answers_by, OwesSoon, BeginsAt, makes_own, Pays, CallOf, AtPoint}
+use Rattle.spin_world_core.proofs.Operating.{BeginsWhereItFits, TriesWeakly, OperatesAt, one_word, swaps, swaps_found}
 use Rattle.spin_world_core.proofs.Usual.{as_found, no_queue, means_word, retries_soon}
 use Rattle.spin_world_core.proofs.Paid.{facts_of}
 
@@ -55,9 +59,6 @@ module _ {V : Type 0} (v : V) (cap : ℕ) where
 
   word_is : (s : Plain) (w : ℕ) → w ∷ [] ≡ rw_word s ∷ [] → rw_word s ≡ w
   word_is s w e = cc (e)
-
-  one_word : (v w : ℕ) → v ∷ [] ≡ w ∷ [] → v ≡ w
-  one_word v w e = cc (e)
 
   -- The shape after a step
 
@@ -153,17 +154,17 @@ module _ {V : Type 0} (v : V) (cap : ℕ) where
     (λ closed. (refl, refl, tt, tt, tt)),
   )
   owes p TryWrite l None s w span = λ at. (write_means p at, (refl, inl refl, tt), (λ closed. (refl, inl refl, inl closed)))
-  owes p TryWriteWeak l None s w span = λ at. (write_means p at, (refl, inl refl, tt), (λ closed. (refl, inl refl, inl closed)), (refl, inl refl, tt))
-  owes p Write l None s w span = λ at. (write_means p at, (refl, inl refl, tt), (λ closed. (refl, refl, tt, tt, tt)), (refl, refl, tt, tt, tt))
+  owes p TryWriteWeak l None s w span = λ at. (write_means p at, (refl, inl refl, tt), (λ closed. (refl, inl refl, inl closed)), (refl, inl refl, tt), refl, refl)
+  owes p Write l None s w span = λ at. (write_means p at, (refl, inl refl, tt), (λ closed. (refl, refl, tt, tt, tt)), (refl, refl, tt, tt, tt), refl, refl)
   owes p ReaderCount l None s w span = λ at. (refl, inl refl, inl (readers-word s w (one_of_each s at.exclusive) (word p at)))
   owes p WriterCount l None s w span = λ at. (refl, inl refl, inl (writers-word s w (one_of_each s at.exclusive) (word p at)))
   owes p TryUpgrade l (Some hold.Upgradable) s w span = λ at. (upgrade_means p at at.known.stand, (refl, inl refl, tt), (λ closed. (refl, inl refl, inl closed)))
-  owes p TryUpgradeWeak l (Some hold.Upgradable) s w span = λ at. (upgrade_means p at at.known.stand, (refl, inl refl, tt), (λ closed. (refl, inl refl, inl closed)), (refl, inl refl, tt))
-  owes p Upgrade l (Some hold.Upgradable) s w span = λ at. (upgrade_means p at at.known.stand, (refl, inl refl, tt), (λ closed. (refl, refl, tt, tt, tt)), (refl, refl, tt, tt, tt))
+  owes p TryUpgradeWeak l (Some hold.Upgradable) s w span = λ at. (upgrade_means p at at.known.stand, (refl, inl refl, tt), (λ closed. (refl, inl refl, inl closed)), (refl, inl refl, tt), refl, refl)
+  owes p Upgrade l (Some hold.Upgradable) s w span = λ at. (upgrade_means p at at.known.stand, (refl, inl refl, tt), (λ closed. (refl, refl, tt, tt, tt)), (refl, refl, tt, tt, tt), refl, refl)
   owes p Downgrade l (Some hold.Write) s w span = λ at.
       let found = holder_by p writing s at.known.stand in
       let one = writes_word p s w at.exclusive (word p at) found in
-      (eq-eqb w 1 one, turn_means p at writing reading 4 found refl (omega (arith, one)), (refl, inl refl, tt))
+      (eq-eqb w 1 one, turn_means p at writing reading (w + 3) found refl (omega (arith, one)), (refl, inl refl, tt))
   owes p Downgrade l (Some hold.Upgradable) s w span = λ at.
       let found = holder_by p upgradable s at.known.stand in
       let two = may_upgrade_word p s w at.exclusive at.shape (word p at) found in
@@ -171,7 +172,7 @@ module _ {V : Type 0} (v : V) (cap : ℕ) where
   owes p DowngradeToUpgradeable l (Some hold.Write) s w span = λ at.
       let found = holder_by p writing s at.known.stand in
       let one = writes_word p s w at.exclusive (word p at) found in
-      (eq-eqb w 1 one, turn_means p at writing upgradable 2 found refl (omega (arith, one)), (refl, inl refl, tt))
+      (eq-eqb w 1 one, turn_means p at writing upgradable (w + 1) found refl (omega (arith, one)), (refl, inl refl, tt))
   owes p Release l (Some hold.Read) s w span = λ at.
       let found = holder_by p reading s at.known.stand in
       (reads_word p s w (word p at) found, release_means p at reading found, (refl, inl refl, tt))
@@ -252,12 +253,73 @@ module _ {V : Type 0} (v : V) (cap : ℕ) where
   sound p UpgradeableRead (Exchange n) None = refl
   sound p c l h = starts_sound calls.rw (asks_of c h) p (begins_at c h)
 
+  fits_all : BeginsWhereItFits (rw_table v cap)
+  fits_all TryUpgrade (Some hold.Upgradable) = refl
+  fits_all TryUpgrade _ = refl
+  fits_all TryUpgradeWeak (Some hold.Upgradable) = refl
+  fits_all TryUpgradeWeak _ = refl
+  fits_all Upgrade (Some hold.Upgradable) = refl
+  fits_all Upgrade _ = refl
+  fits_all Downgrade (Some hold.Upgradable) = refl
+  fits_all Downgrade (Some hold.Write) = refl
+  fits_all Downgrade _ = refl
+  fits_all DowngradeToUpgradeable (Some hold.Write) = refl
+  fits_all DowngradeToUpgradeable _ = refl
+  fits_all Release (Some hold.Read) = refl
+  fits_all Release (Some hold.Upgradable) = refl
+  fits_all Release (Some hold.Write) = refl
+  fits_all Release _ = refl
+  fits_all _ None = refl
+  fits_all _ (Some h) = refl
+
+  weakly : TriesWeakly (rw_table v cap)
+  weakly TryWriteWeak l h weak is = refl
+  weakly TryUpgradeWeak l h weak is = refl
+  weakly _ l h weak is = absurd (false≢true weak)
+
+  at_word : (c : RwCall) (l : RwPoint) (h : Option Hold) (operation : Operation)
+      → ((w : ℕ) → can_by (act_of {V = V} cap c l h) w ≡ true → (step_by {V = V} (λ w. w) (act_of {V = V} cap c l h) w).words ≡ performed operation w) → OperatesAt calls.rw (rw_table v cap) c l h
+  at_word c l h operation is = (0, operation, one_word (rw_table v cap) (λ w. refl) (λ v w e. e) c l h operation is)
+
+  -- who comes to read exchanges the number that it found
+  abbrev swap : (ℕ → Option ℕ) → ℕ → Operation
+  swap f n = exchanges n (unwrap_or (f n) n)
+
+  operates : (c : RwCall) (l : RwPoint) (h : Option Hold) → OperatesAt calls.rw (rw_table v cap) c l h
+  operates TryRead First h = at_word TryRead First h loads (λ w can. refl)
+  operates TryRead (Exchange n) h = at_word TryRead (Exchange n) h (swap (read cap) n) (λ w can. swaps_found V n w (read cap) (granted hold.Read) (goes_for w) (Answers Refused h))
+  operates Read First h = at_word Read First h loads (λ w can. refl)
+  operates Read (Exchange n) h = at_word Read (Exchange n) h (swap (read cap) n) (λ w can. swaps_found V n w (read cap) (granted hold.Read) (goes_for w) (GoesOn First))
+  operates TryUpgradeableRead First h = at_word TryUpgradeableRead First h loads (λ w can. refl)
+  operates TryUpgradeableRead (Exchange n) h =
+      at_word TryUpgradeableRead (Exchange n) h (swap (read_upgradable cap) n) (λ w can. swaps_found V n w (read_upgradable cap) (granted hold.Upgradable) (goes_for w) (Answers Refused h))
+  operates UpgradeableRead First h = at_word UpgradeableRead First h loads (λ w can. refl)
+  operates UpgradeableRead (Exchange n) h =
+      at_word UpgradeableRead (Exchange n) h (swap (read_upgradable cap) n) (λ w can. swaps_found V n w (read_upgradable cap) (granted hold.Upgradable) (goes_for w) (GoesOn First))
+  operates TryWrite l h = at_word TryWrite l h (exchanges 0 1) (λ w can. swaps V 0 1 w (granted hold.Write) (Answers Refused h))
+  operates TryWriteWeak l h = at_word TryWriteWeak l h (exchanges 0 1) (λ w can. swaps V 0 1 w (granted hold.Write) (Answers Refused h))
+  operates Write l h = at_word Write l h (exchanges 0 1) (λ w can. swaps V 0 1 w (granted hold.Write) (GoesOn First))
+  operates ReaderCount l h = at_word ReaderCount l h loads (λ w can. refl)
+  operates WriterCount l h = at_word WriterCount l h loads (λ w can. refl)
+  operates TryUpgrade l h = at_word TryUpgrade l h (exchanges 2 1) (λ w can. swaps V 2 1 w (granted hold.Write) (Answers Refused h))
+  operates TryUpgradeWeak l h = at_word TryUpgradeWeak l h (exchanges 2 1) (λ w can. swaps V 2 1 w (granted hold.Write) (Answers Refused h))
+  operates Upgrade l h = at_word Upgrade l h (exchanges 2 1) (λ w can. swaps V 2 1 w (granted hold.Write) (GoesOn First))
+  operates Downgrade l (Some hold.Write) = at_word Downgrade l (Some hold.Write) (adds 3) (λ w can. refl)
+  operates Downgrade l h = at_word Downgrade l h (adds 2) (λ w can. refl)
+  operates DowngradeToUpgradeable l h = at_word DowngradeToUpgradeable l h (adds 1) (λ w can. refl)
+  operates Release l (Some hold.Read) = at_word Release l (Some hold.Read) (subtracts 4) (λ w can. refl)
+  operates Release l (Some hold.Upgradable) = at_word Release l (Some hold.Upgradable) (subtracts 2) (λ w can. refl)
+  operates Release l h = at_word Release l h (subtracts 1) (λ w can. refl)
+
   pub rw_pays : Pays (rw_table v cap) (rw_notes v cap)
   rw_pays =
       record {
+        fits = fits_all;
+        weakly = weakly;
+        operates = operates;
         first = refl;
         shape_first = record { no_queue = refl; room = refl; few = omega arith };
-        numbers_tell = one_word;
+        numbers_tell = λ v w e. cc (e);
         no_value = refl;
         one_list = λ s shape. no_queue s shape.no_queue;
         makes = makes;

@@ -1,3 +1,4 @@
 pub mod Rw
 pub mod Standing
 pub mod Wrong
+pub mod Named

@@ -92,12 +92,12 @@ act_of cap WriterCount l h = load (λ w. Answers (Count (writers_in w)) h)
 act_of cap TryUpgrade l h = exchange upgrade (λ p. gets p to_upgrade) (granted hold.Write) (λ w. Answers Refused h)
 act_of cap TryUpgradeWeak l h = weak_exchange upgrade (λ p. gets p to_upgrade) (granted hold.Write) (Answers Refused h)
 act_of cap Upgrade l h = weak_exchange upgrade (λ p. gets p to_upgrade) (granted hold.Write) (GoesOn First)
-act_of cap Downgrade l (Some hold.Write) = store (λ w. w == 1) (λ w. 4) (λ p. turns p writing reading) (Answers Done (Some hold.Read))
+act_of cap Downgrade l (Some hold.Write) = store (λ w. w == 1) (λ w. w + 3) (λ p. turns p writing reading) (Answers Done (Some hold.Read))
 act_of cap Downgrade l h = store (λ w. (w % 4 == 2) && nat_lt (w / 4) reader_limit) (λ w. w + 2) (λ p. turns p upgradable reading) (Answers Done (Some hold.Read))
-act_of cap DowngradeToUpgradeable l h = store (λ w. w == 1) (λ w. 2) (λ p. turns p writing upgradable) (Answers Done (Some hold.Upgradable))
+act_of cap DowngradeToUpgradeable l h = store (λ w. w == 1) (λ w. w + 1) (λ p. turns p writing upgradable) (Answers Done (Some hold.Upgradable))
 act_of cap Release l (Some hold.Read) = store (λ w. nat_lt 3 w) (λ w. w - 4) (λ p. releases p reading) (Answers Done None)
 act_of cap Release l (Some hold.Upgradable) = store (λ w. w % 4 == 2) (λ w. w - 2) (λ p. releases p upgradable) (Answers Done None)
-act_of cap Release l h = store (λ w. w == 1) (λ w. 0) (λ p. releases p writing) (Answers Done None)
+act_of cap Release l h = store (λ w. w == 1) (λ w. w - 1) (λ p. releases p writing) (Answers Done None)
 
 abbrev pub asks_of : RwCall → Option Hold → Asked
 asks_of TryRead h = tries to_read

@@ -1,20 +1,22 @@
--- Read-write locks that are wrong in their steps, and schedules on which the laws refuse them. Each is a wrong table: its steps and the plain steps that they read as are wrong together.
-use Rattle.std.specs.Prelude.{ℕ, ◌+◌, ◌-◌, ◌/◌, ◌%◌, ◌==◌, true, Option, Some, None, List, [], ◌∷◌, if◌then◌else◌}
-use Rattle.spin_step.specs.Plain.{reading, upgradable, writing, to_read, to_write, to_upgrade, Change, gets, releases}
+-- Read-write locks that are wrong, each in one part of its table, and schedules on which the laws refuse them. Where its steps are wrong, so are the plain steps that they read as.
+use Rattle.std.specs.Prelude.{ℕ, ◌+◌, ◌-◌, ◌/◌, ◌%◌, ◌==◌, true, false, Option, Some, None, List, [], ◌∷◌, ◌++◌, if◌then◌else◌}
+use Rattle.spin_step.specs.Plain.{reading, upgradable, writing, to_read, to_write, to_upgrade, to_lock_starving, Change, gets, releases}
 use Rattle.spin_world_core.specs.declared.place.Hold.{Hold}
 use Rattle.spin_world_core.specs.declared.place.Hold.TheVariants as hold
 use Rattle.spin_world_core.specs.declared.object.Next.TheVariants.{GoesOn, Answers}
 use Rattle.spin_world_core.specs.declared.answer.Answer.{Answer}
 use Rattle.spin_world_core.specs.declared.answer.Answer.TheVariants.{Refused, Done, Count}
 use Rattle.spin_world_rw.specs.declared.rw.RwCall.{RwCall}
-use Rattle.spin_world_rw.specs.declared.rw.RwCall.TheVariants.{TryRead, Read, TryUpgradeableRead, TryWrite, ReaderCount, TryUpgrade, Upgrade, Downgrade}
+use Rattle.spin_world_rw.specs.declared.rw.RwCall.TheVariants.{TryRead, Read, TryUpgradeableRead, TryWrite, TryWriteWeak, Write, ReaderCount, TryUpgrade, Upgrade, Downgrade, Release}
 use Rattle.spin_world_rw.specs.declared.rw.RwPoint.{RwPoint}
 use Rattle.spin_world_rw.specs.declared.rw.RwPoint.TheVariants.{First, Exchange}
 use Rattle.spin_world_core.specs.declared.schedule.Move.{Move}
-use Rattle.spin_world_core.specs.declared.schedule.Move.TheVariants.{Begin, Step}
+use Rattle.spin_world_core.specs.declared.schedule.Move.TheVariants.{Begin, Step, Weak}
 use Rattle.spin_world_core.specs.Machines.{Machine}
+use Rattle.spin_world_core.specs.declared.object.Next.{Next}
+use Rattle.spin_world_core.specs.Calls.{Asked, waits}
 use Rattle.spin_world_core.specs.Acts.{Act, load, exchange, weak_exchange, store, Table, machine_of}
-use Rattle.spin_world_rw.specs.Rw.{granted, act_of, rw_table}
+use Rattle.spin_world_rw.specs.Rw.{granted, goes_for, read, write, begins_at, act_of, asks_of, rw_table}
 
 abbrev RwAct : Type 0 → Type 0
 RwAct V = Act ℕ RwPoint (Answer V)
@@ -22,9 +24,12 @@ RwAct V = Act ℕ RwPoint (Answer V)
 abbrev RwMachine : Type 0 → Type 0
 RwMachine V = Machine ℕ V RwCall RwPoint (Answer V)
 
+abbrev RwTable : Type 0 → Type 0
+RwTable V = Table ℕ V RwCall RwPoint (Answer V)
+
 -- a lock of nine readers with these steps
 abbrev with_steps : {V : Type 0} → V → (RwCall → RwPoint → Option Hold → RwAct V) → RwMachine V
-with_steps {V} v act = let t : Table ℕ V RwCall RwPoint (Answer V) = rw_table v 9 in machine_of (record t { act = act })
+with_steps {V} v act = let t : RwTable V = rw_table v 9 in machine_of (record t { act = act })
 
 -- `try_upgrade` is granted while readers stand
 abbrev pub upgrade_at_once : {V : Type 0} → RwCall → RwPoint → Option Hold → RwAct V
@@ -34,8 +39,11 @@ upgrade_at_once c l h = act_of 9 c l h
 abbrev pub upgrades_at_once : {V : Type 0} → V → RwMachine V
 upgrades_at_once v = with_steps v upgrade_at_once
 
+abbrev pub read_alone : {V : Type 0} → List (ℕ × Move RwCall V)
+read_alone = (0, Begin TryRead) ∷ (0, Step) ∷ (0, Step) ∷ []
+
 abbrev pub upgrade_beside_a_reader : {V : Type 0} → List (ℕ × Move RwCall V)
-upgrade_beside_a_reader = (0, Begin TryRead) ∷ (0, Step) ∷ (0, Step) ∷ (1, Begin TryUpgradeableRead) ∷ (1, Step) ∷ (1, Step) ∷ (1, Begin TryUpgrade) ∷ (1, Step) ∷ []
+upgrade_beside_a_reader = read_alone ++ (1, Begin TryUpgradeableRead) ∷ (1, Step) ∷ (1, Step) ∷ (1, Begin TryUpgrade) ∷ (1, Step) ∷ []
 
 -- `downgrade` frees the writer, and then takes a reader's place
 abbrev pub downgrade_in_two : {V : Type 0} → RwCall → RwPoint → Option Hold → RwAct V
@@ -121,3 +129,111 @@ looks_for_ever v = with_steps v look_for_ever
 
 abbrev pub four_looks : {V : Type 0} → List (ℕ × Move RwCall V)
 four_looks = (0, Begin Read) ∷ (0, Step) ∷ (0, Step) ∷ (0, Step) ∷ (0, Step) ∷ []
+
+-- `try_read` does
+abbrev pub try_for_ever : {V : Type 0} → RwCall → RwPoint → Option Hold → RwAct V
+try_for_ever TryRead l h = load (λ w. GoesOn First)
+try_for_ever c l h = act_of 9 c l h
+
+abbrev pub tries_for_ever : {V : Type 0} → V → RwMachine V
+tries_for_ever v = with_steps v try_for_ever
+
+-- `try_read` looks and comes in one event
+abbrev pub read_in_one : {V : Type 0} → RwCall → RwPoint → Option Hold → RwAct V
+read_in_one TryRead l h = exchange (read 9) (λ p. gets p to_read) (granted hold.Read) (λ w. Answers Refused h)
+read_in_one c l h = act_of 9 c l h
+
+abbrev pub reads_in_one : {V : Type 0} → V → RwMachine V
+reads_in_one v = with_steps v read_in_one
+
+-- `read` guesses that nobody holds, and where it was wrong that counts as no exchange that failed
+abbrev pub read_by_a_guess : {V : Type 0} → RwCall → RwPoint → Option Hold → RwAct V
+read_by_a_guess Read First h = exchange (λ w. if w == 0 then Some 4 else None) (λ p. gets p to_read) (granted hold.Read) goes_for
+read_by_a_guess c l h = act_of 9 c l h
+
+abbrev pub reads_by_a_guess : {V : Type 0} → V → RwMachine V
+reads_by_a_guess v = with_steps v read_by_a_guess
+
+abbrev pub guess_beside_a_reader : {V : Type 0} → List (ℕ × Move RwCall V)
+guess_beside_a_reader = read_alone ++ (1, Begin Read) ∷ (1, Step) ∷ []
+
+-- the exchange of `read` is weak
+abbrev pub read_weakly : {V : Type 0} → RwCall → RwPoint → Option Hold → RwAct V
+read_weakly Read (Exchange n) h = weak_exchange (λ w. if w == n then read 9 w else None) (λ p. gets p to_read) (granted hold.Read) (GoesOn First)
+read_weakly c l h = act_of 9 c l h
+
+abbrev pub reads_weakly : {V : Type 0} → V → RwMachine V
+reads_weakly v = with_steps v read_weakly
+
+abbrev pub read_by_chance : {V : Type 0} → List (ℕ × Move RwCall V)
+read_by_chance = (0, Begin Read) ∷ (0, Step) ∷ (0, Weak) ∷ []
+
+-- the exchange of the weak try is strong
+abbrev pub write_strongly : {V : Type 0} → RwCall → RwPoint → Option Hold → RwAct V
+write_strongly TryWriteWeak l h = exchange write (λ p. gets p to_write) (granted hold.Write) (λ w. Answers Refused h)
+write_strongly c l h = act_of 9 c l h
+
+abbrev pub writes_strongly : {V : Type 0} → V → RwMachine V
+writes_strongly v = with_steps v write_strongly
+
+-- `try_upgrade` may refuse without cause, though it is no weak try
+abbrev pub refuses_an_upgrade : {V : Type 0} → RwCall → RwPoint → Option Hold → Option (Next RwPoint (Answer V))
+refuses_an_upgrade TryUpgrade l h = Some (Answers Refused h)
+refuses_an_upgrade c l h = None
+
+abbrev pub upgrades_by_chance : {V : Type 0} → V → RwMachine V
+upgrades_by_chance {V} v = let m : RwMachine V = with_steps v (act_of 9) in record m { refuse = refuses_an_upgrade }
+
+abbrev pub upgrade_by_chance : {V : Type 0} → List (ℕ × Move RwCall V)
+upgrade_by_chance = (0, Begin TryUpgradeableRead) ∷ (0, Step) ∷ (0, Step) ∷ (0, Begin TryUpgrade) ∷ (0, Weak) ∷ []
+
+-- nobody may release
+abbrev pub begin_no_release : RwCall → Option Hold → Option RwPoint
+begin_no_release Release h = None
+begin_no_release c h = begins_at c h
+
+abbrev pub never_releases : {V : Type 0} → V → RwMachine V
+never_releases {V} v = let t : RwTable V = rw_table v 9 in machine_of (record t { begin = begin_no_release })
+
+-- `upgrade` begins as a reader too, and then never ends
+abbrev pub begin_any_upgrade : RwCall → Option Hold → Option RwPoint
+begin_any_upgrade Upgrade (Some hold.Read) = Some First
+begin_any_upgrade c h = begins_at c h
+
+abbrev pub upgrades_any_reader : {V : Type 0} → V → RwMachine V
+upgrades_any_reader {V} v = let t : RwTable V = rw_table v 9 in machine_of (record t { begin = begin_any_upgrade })
+
+-- `write` is another `read`
+abbrev pub asks_to_read : RwCall → Option Hold → Asked
+asks_to_read Write h = waits to_read
+asks_to_read c h = asks_of c h
+
+abbrev pub write_by_reading : {V : Type 0} → RwCall → RwPoint → Option Hold → RwAct V
+write_by_reading Write l h = act_of 9 Read l h
+write_by_reading c l h = act_of 9 c l h
+
+abbrev pub writes_by_reading : {V : Type 0} → V → RwMachine V
+writes_by_reading {V} v = let t : RwTable V = rw_table v 9 in machine_of (record t { act = write_by_reading; asks = asks_to_read })
+
+-- `write` asks what only a starver may, and so may look for ever
+abbrev pub asks_as_a_starver : RwCall → Option Hold → Asked
+asks_as_a_starver Write h = waits to_lock_starving
+asks_as_a_starver c h = asks_of c h
+
+abbrev pub write_never : {V : Type 0} → RwCall → RwPoint → Option Hold → RwAct V
+write_never Write l h = load (λ w. GoesOn First)
+write_never c l h = act_of 9 c l h
+
+abbrev pub never_writes : {V : Type 0} → V → RwMachine V
+never_writes {V} v = let t : RwTable V = rw_table v 9 in machine_of (record t { act = write_never; asks = asks_as_a_starver })
+
+-- somebody writes at first, whom nobody knows
+abbrev pub opens_written : {V : Type 0} → V → RwMachine V
+opens_written {V} v = let t : RwTable V = rw_table v 9 in machine_of (record t { words = 1 })
+
+-- the value that it was given is not there; nobody owns it
+abbrev pub forgets_its_value : {V : Type 0} → V → RwMachine V
+forgets_its_value {V} v = let t : RwTable V = rw_table v 9 in machine_of (record t { value = None })
+
+abbrev pub has_no_owner : {V : Type 0} → V → RwMachine V
+has_no_owner {V} v = let t : RwTable V = rw_table v 9 in machine_of (record t { owned = false })

@@ -1,7 +1,10 @@
-//! Wrong read-write locks, each with a law that it breaks on a schedule that is named. They show what the laws keep out.
-ghost use Rattle.std.specs.Prelude.{◌≡◌};
+//! Wrong read-write locks, each with a law that it breaks. They show what the laws keep out.
+ghost use Rattle.std.specs.Prelude.{◌≡◌, []};
+ghost use Rattle.spin_world_core.specs.Operations.{Stepwise};
 ghost use Rattle.spin_world_core.specs.Runs.{KeepsAll, MomentsAll, CountsAll};
-ghost use Rattle.spin_world_rw.specs.Wrong.{upgrades_at_once, upgrade_beside_a_reader, downgrades_in_two, downgrade_alone, reads_and_regrets, reads_and_regrets_unseen, read_beside_a_writer, reads_by_a_mask, writes_by_chance, write_alone, upgrades_anew, upgrade_alone, counts_without_upgradable, count_beside_an_upgradable, looks_for_ever, four_looks};
+ghost use Rattle.spin_world_rw.specs.Rw.{rw_machine};
+ghost use Rattle.spin_world_rw.specs.Named.{IsRw};
+ghost use Rattle.spin_world_rw.specs.Wrong.{upgrades_at_once, upgrade_beside_a_reader, downgrades_in_two, downgrade_alone, reads_and_regrets, reads_and_regrets_unseen, read_beside_a_writer, reads_by_a_mask, writes_by_chance, write_alone, upgrades_anew, upgrade_alone, counts_without_upgradable, count_beside_an_upgradable, looks_for_ever, four_looks, tries_for_ever, read_alone, reads_in_one, reads_by_a_guess, guess_beside_a_reader, reads_weakly, read_by_chance, writes_strongly, upgrades_by_chance, upgrade_by_chance, never_releases, upgrades_any_reader, writes_by_reading, never_writes, opens_written, forgets_its_value, has_no_owner};
 
 /// A `try_upgrade` that is granted while a reader stands: the plain step isn't open.
 pub fn an_upgrade_is_refused_beside_readers<V: Copy>()
@@ -43,4 +46,62 @@ pub fn a_count_tells_the_upgradable_reader<V: Copy>()
 /// A `read` that looks for ever: undisturbed it has to be answered by its fourth step.
 pub fn a_read_is_answered<V: Copy>()
     ensures { (value : V) → CountsAll (looks_for_ever value) 1 four_looks → ⊥ }
+{}
+
+/// A `try_read` that looks for ever: it has a limit, whoever disturbs it.
+pub fn a_try_read_is_answered<V: Copy>()
+    ensures { (value : V) → CountsAll (tries_for_ever value) 1 read_alone → ⊥ }
+{}
+
+/// A `try_read` that looks and comes in one event: no processor does so in one step.
+pub fn a_step_is_one_operation<V: Copy>()
+    ensures { (value : V) → Stepwise (reads_in_one value) → ⊥ }
+{}
+
+/// A `read` that begins by guessing the word, and counts no failure where it was wrong.
+pub fn a_wrong_guess_is_counted<V: Copy>()
+    ensures { (value : V) → CountsAll (reads_by_a_guess value) 2 guess_beside_a_reader → ⊥ }
+{}
+
+/// A `read` whose exchange is weak, so that chance can keep it waiting.
+pub fn a_read_fails_by_no_chance<V: Copy>()
+    ensures { (value : V) → KeepsAll (reads_weakly value) 1 read_by_chance → ⊥ }
+{}
+
+/// A weak `try_write` whose exchange is strong.
+pub fn a_weak_try_is_weak<V: Copy>()
+    ensures { (value : V) → Stepwise (writes_strongly value) → ⊥ }
+{}
+
+/// A strong `try_upgrade` that may be refused without cause.
+pub fn a_strong_try_fails_by_no_chance<V: Copy>()
+    ensures { (value : V) → KeepsAll (upgrades_by_chance value) 1 upgrade_by_chance → ⊥ }
+{}
+
+/// A lock that is never released: a call begins wherever its party holds what it is for.
+pub fn a_holder_may_release<V: Copy>()
+    ensures { (value : V) → Stepwise (never_releases value) → ⊥ }
+{}
+
+/// An `upgrade` of any reader: a call begins only where its party holds what it is for.
+pub fn only_the_upgradable_reader_upgrades<V: Copy>()
+    ensures { (value : V) → Stepwise (upgrades_any_reader value) → ⊥ }
+{}
+
+/// A `write` that comes to read, and asks so; and one that asks for what nobody is granted in such a lock.
+pub fn a_write_asks_to_write<V: Copy>()
+    ensures other { (value : V) → IsRw value 9 (writes_by_reading value) → ⊥ }
+    ensures unknown { (value : V) → Stepwise (never_writes value) → ⊥ }
+{}
+
+/// A lock that somebody writes at first.
+pub fn a_lock_opens_free<V: Copy>()
+    ensures { (value : V) → KeepsAll (opens_written value) 1 [] → ⊥ }
+{}
+
+/// A lock without the value that it was given, one that nobody owns, and one that lets in fewer than its cap.
+pub fn a_lock_is_as_it_was_made<V: Copy>()
+    ensures value { (value : V) → IsRw value 9 (forgets_its_value value) → ⊥ }
+    ensures owner { (value : V) → IsRw value 9 (has_no_owner value) → ⊥ }
+    ensures cap { (value : V) → IsRw value 9 (rw_machine value 1) → ⊥ }
 {}

@@ -1,6 +1,6 @@
 -- What the table of the seats owes.
-use Rattle.std.proofs.Common.{◌≡◌, ℕ, suc, ◌+◌, ◌-◌, ◌≤◌, true, Option, Some, None, List, [], ◌∷◌, length, nat_lt, refl, ap, sym, ◌∙◌, arith, inl, length-append}
-use Rattle.std.proofs.lemmas.Bool.{lt-ltb, ltb-true}
+use Rattle.std.proofs.Common.{◌≡◌, ℕ, suc, ◌+◌, ◌-◌, ◌≤◌, true, Option, Some, None, List, [], ◌∷◌, length, nat_lt, unwrap_or, refl, ap, sym, ◌∙◌, arith, inl, length-append}
+use Rattle.std.proofs.lemmas.Bool.{lt-ltb, ltb-true, false≢true}
 use Rattle.spin_step.specs.Plain.{Plain, reading, holder, to_read, gets, releases, apply, may_read, is_holder}
 use Rattle.spin_step.specs.Parties.{Entries, entries}
 use Rattle.spin_step.proofs.Exclusive.{count-more, count-without_holder}
@@ -11,18 +11,22 @@ use Rattle.spin_seats.proofs.Taken.{open_is, enter-grants, leave-gives}
 use Rattle.spin_world_core.specs.declared.answer.Answer.{Answer}
 use Rattle.spin_world_core.specs.declared.place.Hold.{Hold}
 use Rattle.spin_world_core.specs.declared.place.Hold.TheVariants.{Read}
-use Rattle.spin_world_core.specs.declared.object.Next.TheVariants.{GoesOn}
+use Rattle.spin_world_core.specs.declared.answer.Answer.TheVariants.{Refused}
+use Rattle.spin_world_core.specs.declared.object.Next.TheVariants.{GoesOn, Answers}
 use Rattle.spin_world_seats.specs.declared.seats.SeatsCall.{SeatsCall}
 use Rattle.spin_world_seats.specs.declared.seats.SeatsCall.TheVariants.{TryEnter, Enter, Count, Leave}
 use Rattle.spin_world_seats.specs.declared.seats.SeatsPoint.{SeatsPoint}
 use Rattle.spin_world_seats.specs.declared.seats.SeatsPoint.TheVariants.{First, Exchange}
 use Rattle.spin_world_core.specs.Calls.{Mark}
 use Rattle.spin_world_core.specs.Calls as calls
-use Rattle.spin_world_seats.specs.Seats.{begins_at, granted, act_of, asks_of, seats_table, seats_machine}
+use Rattle.spin_world_core.specs.Operations.{Operation, loads, exchanges, subtracts, performed}
+use Rattle.spin_world_core.specs.Acts.{step_by, can_by}
+use Rattle.spin_world_seats.specs.Seats.{begins_at, granted, goes_for, act_of, asks_of, seats_table, seats_machine}
 use Rattle.spin_world_core.proofs.Facts.{LocalInvariant, Facts}
 use Rattle.spin_world_core.proofs.Stands.{holds, entries_at}
 use Rattle.spin_world_core.proofs.Rows.{starts_sound, SoundAt, Row, Point, starts, looked}
 use Rattle.spin_world_core.proofs.Shapes.{Notes, keeping_of, Means, OwesAt, answers_by, OwesSoon, BeginsAt, makes_own, Pays, CallOf, AtPoint}
+use Rattle.spin_world_core.proofs.Operating.{BeginsWhereItFits, TriesWeakly, OperatesAt, one_word, swaps_found}
 use Rattle.spin_world_core.proofs.Usual.{as_found, no_queue, means_word, retries_soon}
 use Rattle.spin_world_core.proofs.Paid.{facts_of}
 
@@ -45,9 +49,6 @@ seats_notes n = record { Shape = λ s. Seating n s; point = point_of; Knows = λ
 module _ (n : ℕ) where
   word_is : (s : Plain) (w : ℕ) → w ∷ [] ≡ seats_word s ∷ [] → seats_word s ≡ w
   word_is s w e = cc (e)
-
-  one_word : (v w : ℕ) → v ∷ [] ≡ w ∷ [] → v ≡ w
-  one_word v w e = cc (e)
 
   sits : (p : ℕ) (s : Plain) → entries p s ≡ entries_at p (holds reading) → is_holder p reading s.holders ≡ true
   sits p s mine = is_holder-from_entries p reading s.holders (ap (λ (e : Entries). e.holders) mine)
@@ -117,12 +118,41 @@ module _ (n : ℕ) where
   sound p Enter (Exchange k) None = refl
   sound p c l h = starts_sound calls.seats (asks_of c h) p (begins_at c h)
 
+  fits_all : BeginsWhereItFits (seats_table n)
+  fits_all Leave (Some Read) = refl
+  fits_all Leave _ = refl
+  fits_all _ None = refl
+  fits_all _ (Some h) = refl
+
+  weakly : TriesWeakly (seats_table n)
+  weakly TryEnter l h weak is = absurd (false≢true weak)
+  weakly _ l h weak is = absurd (false≢true weak)
+
+  alone : (c : SeatsCall) (l : SeatsPoint) (h : Option Hold) (operation : Operation)
+      → ((w : ℕ) → can_by (act_of n c l h) w ≡ true → (step_by {V = Unit {0}} (λ w. w) (act_of n c l h) w).words ≡ performed operation w) → OperatesAt calls.seats (seats_table n) c l h
+  alone c l h operation is = (0, operation, one_word (seats_table n) (λ w. refl) (λ v w e. e) c l h operation is)
+
+  -- a seat is taken by an exchange of the number that was found
+  abbrev swap : ℕ → Operation
+  swap k = exchanges k (unwrap_or (entered n k) k)
+
+  operates : (c : SeatsCall) (l : SeatsPoint) (h : Option Hold) → OperatesAt calls.seats (seats_table n) c l h
+  operates TryEnter First h = alone TryEnter First h loads (λ w can. refl)
+  operates TryEnter (Exchange k) h = alone TryEnter (Exchange k) h (swap k) (λ w can. swaps_found (Unit {0}) k w (entered n) granted (goes_for w) (Answers Refused h))
+  operates Enter First h = alone Enter First h loads (λ w can. refl)
+  operates Enter (Exchange k) h = alone Enter (Exchange k) h (swap k) (λ w can. swaps_found (Unit {0}) k w (entered n) granted (goes_for w) (GoesOn First))
+  operates Count l h = alone Count l h loads (λ w can. refl)
+  operates Leave l h = alone Leave l h (subtracts 1) (λ w can. refl)
+
   pub seats_pays : Pays (seats_table n) (seats_notes n)
   seats_pays =
       record {
+        fits = fits_all;
+        weakly = weakly;
+        operates = operates;
         first = refl;
         shape_first = record { no_queue = refl; room = refl; all_read = refl; few = omega arith };
-        numbers_tell = one_word;
+        numbers_tell = λ v w e. cc (e);
         no_value = refl;
         one_list = λ s shape. no_queue s shape.no_queue;
         makes = makes;

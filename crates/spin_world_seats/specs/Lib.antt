@@ -1,2 +1,3 @@
 pub mod Seats
 pub mod Wrong
+pub mod Named

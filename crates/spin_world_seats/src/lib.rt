@@ -2,9 +2,8 @@
 #![tactic(auto)]
 
 mod laws;
-mod refused;
+pub mod refused;
 mod seats;
 
-pub use laws::no_more_sit_than_there_are_seats;
-pub use refused::{a_leave_frees_one_seat, nobody_sits_beyond_the_seats};
+pub use laws::{no_more_sit_than_there_are_seats, seats_are_what_their_calls_ask};
 pub use seats::{Seats, SeatsCall, SeatsPoint};

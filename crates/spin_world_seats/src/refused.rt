@@ -1,7 +1,10 @@
-//! Wrong locks of seats, each with a law that it breaks on a schedule that is named. They show what the laws keep out.
-ghost use Rattle.std.specs.Prelude.{◌≡◌};
-ghost use Rattle.spin_world_core.specs.Runs.{KeepsAll};
-ghost use Rattle.spin_world_seats.specs.Wrong.{seats_one_too_many, two_on_one_seat, leaves_for_two, one_of_two_leaves};
+//! Wrong locks of seats, each with a law that it breaks. They show what the laws keep out.
+ghost use Rattle.std.specs.Prelude.{◌≡◌, []};
+ghost use Rattle.spin_world_core.specs.Operations.{Stepwise};
+ghost use Rattle.spin_world_core.specs.Runs.{KeepsAll, CountsAll};
+ghost use Rattle.spin_world_seats.specs.Seats.{seats_machine};
+ghost use Rattle.spin_world_seats.specs.Named.{IsSeats};
+ghost use Rattle.spin_world_seats.specs.Wrong.{seats_one_too_many, two_on_one_seat, leaves_for_two, one_of_two_leaves, tries_for_ever, two_looks, enters_in_one, enters_by_a_guess, guess_beside_one, enters_by_chance, enter_by_chance, nobody_leaves, enters_or_not, opens_taken};
 
 /// A lock of one seat on which two sit down: the second one's plain step is not open.
 pub fn nobody_sits_beyond_the_seats()
@@ -11,4 +14,44 @@ pub fn nobody_sits_beyond_the_seats()
 /// A leave that frees two seats: the word is no longer how many sit.
 pub fn a_leave_frees_one_seat()
     ensures { KeepsAll leaves_for_two 2 one_of_two_leaves → ⊥ }
+{}
+
+/// A try that looks for ever: it has a limit, whoever disturbs it.
+pub fn a_try_is_answered()
+    ensures { CountsAll tries_for_ever 1 two_looks → ⊥ }
+{}
+
+/// A try that looks and takes its seat in one event: no processor does so in one step.
+pub fn a_step_is_one_operation()
+    ensures { Stepwise enters_in_one → ⊥ }
+{}
+
+/// An `enter` that begins by guessing the word, and counts no failure where it was wrong.
+pub fn a_wrong_guess_is_counted()
+    ensures { CountsAll enters_by_a_guess 2 guess_beside_one → ⊥ }
+{}
+
+/// A try that may be refused without cause.
+pub fn a_try_fails_by_no_chance()
+    ensures { KeepsAll enters_by_chance 1 enter_by_chance → ⊥ }
+{}
+
+/// A lock that nobody leaves: a call begins wherever its party holds what it is for.
+pub fn who_sits_may_leave()
+    ensures { Stepwise nobody_leaves → ⊥ }
+{}
+
+/// An `enter` that tries, and asks so.
+pub fn an_enter_waits()
+    ensures { IsSeats 2 enters_or_not → ⊥ }
+{}
+
+/// A lock with a seat taken at first.
+pub fn all_seats_are_free_at_first()
+    ensures { KeepsAll opens_taken 1 [] → ⊥ }
+{}
+
+/// A lock with fewer seats than it was asked to have.
+pub fn a_lock_has_its_seats()
+    ensures { IsSeats 2 (seats_machine 1) → ⊥ }
 {}

@@ -1,0 +1,36 @@
+-- What a read-write lock is: how it opens, how many it lets in, and what each of its calls asks. Where a call begins follows from what it asks.
+use Rattle.std.specs.Prelude.{◌≡◌, ℕ, true, Option, Some, [], ◌∷◌, min}
+use Rattle.spin_step.specs.Plain.{reading, upgradable, to_read, to_read_upgradable, to_write, to_upgrade, fresh}
+use Rattle.spin_step.specs.Readers.{reader_limit}
+use Rattle.spin_world_core.specs.declared.place.Hold.{Hold}
+use Rattle.spin_world_core.specs.declared.answer.Answer.{Answer}
+use Rattle.spin_world_rw.specs.declared.rw.RwCall.{RwCall}
+use Rattle.spin_world_rw.specs.declared.rw.RwCall.TheVariants.{TryRead, Read, TryUpgradeableRead, UpgradeableRead, TryWrite, TryWriteWeak, Write, ReaderCount, WriterCount, TryUpgrade, TryUpgradeWeak, Upgrade, Downgrade, DowngradeToUpgradeable, Release}
+use Rattle.spin_world_rw.specs.declared.rw.RwPoint.{RwPoint}
+use Rattle.spin_world_core.specs.Calls.{rw, waits, tries, tries_weakly, counts_readers, counts_writers, turns_to, gives_back, says_of}
+use Rattle.spin_world_core.specs.Machines.{Machine, opening_plain}
+
+pub record IsRw {V : Type 0} (given : V) (cap : ℕ) (m : Machine ℕ V RwCall RwPoint (Answer V)) : Type 0 where
+  pub coding : m.coding ≡ rw
+  pub opens_free : m.words ≡ 0
+  pub number : (w : ℕ) → m.numbers w ≡ w ∷ []
+  pub value : m.value ≡ Some given
+  pub owned : m.owned ≡ true
+  -- as many may hold as it was given as its cap, up to the limit, and nobody does
+  pub plain : opening_plain m ≡ fresh (min cap reader_limit) 0 0
+  pub try_read : (h : Option Hold) → m.asks TryRead h ≡ tries to_read
+  pub read : (h : Option Hold) → m.asks Read h ≡ waits to_read
+  pub try_upgradeable_read : (h : Option Hold) → m.asks TryUpgradeableRead h ≡ tries to_read_upgradable
+  pub upgradeable_read : (h : Option Hold) → m.asks UpgradeableRead h ≡ waits to_read_upgradable
+  pub try_write : (h : Option Hold) → m.asks TryWrite h ≡ tries to_write
+  pub try_write_weak : (h : Option Hold) → m.asks TryWriteWeak h ≡ tries_weakly to_write
+  pub write : (h : Option Hold) → m.asks Write h ≡ waits to_write
+  pub reader_count : (h : Option Hold) → m.asks ReaderCount h ≡ counts_readers
+  pub writer_count : (h : Option Hold) → m.asks WriterCount h ≡ counts_writers
+  pub try_upgrade : (h : Option Hold) → m.asks TryUpgrade h ≡ tries to_upgrade
+  pub try_upgrade_weak : (h : Option Hold) → m.asks TryUpgradeWeak h ≡ tries_weakly to_upgrade
+  pub upgrade : (h : Option Hold) → m.asks Upgrade h ≡ waits to_upgrade
+  pub downgrade : (h : Option Hold) → m.asks Downgrade h ≡ turns_to h reading
+  pub downgrade_to_upgradeable : (h : Option Hold) → m.asks DowngradeToUpgradeable h ≡ turns_to h upgradable
+  pub release : (h : Option Hold) → m.asks Release h ≡ gives_back h
+  pub says : (a : Answer V) → m.says a ≡ says_of a

@@ -1,0 +1,25 @@
+-- What a lock of seats is: how it opens, how many seats it has, and what each of its calls asks. Where a call begins follows from what it asks.
+use Rattle.std.specs.Prelude.{◌≡◌, ℕ, true, Option, Some, [], ◌∷◌}
+use Rattle.spin_step.specs.Plain.{to_read, fresh}
+use Rattle.spin_seats.specs.Seats.{seats}
+use Rattle.spin_world_core.specs.declared.place.Hold.{Hold}
+use Rattle.spin_world_core.specs.declared.answer.Answer.{Answer}
+use Rattle.spin_world_seats.specs.declared.seats.SeatsCall.TheVariants as call
+use Rattle.spin_world_core.specs.Calls.{waits, tries, counts_readers, gives_back, says_of}
+use Rattle.spin_world_core.specs.Calls as calls
+use Rattle.spin_world_core.specs.Machines.{opening_plain}
+use Rattle.spin_world_seats.specs.Seats.{SeatsMachine}
+
+pub record IsSeats (n : ℕ) (m : SeatsMachine) : Type 0 where
+  pub coding : m.coding ≡ calls.seats
+  pub opens_free : m.words ≡ 0
+  pub number : (w : ℕ) → m.numbers w ≡ w ∷ []
+  pub value : m.value ≡ Some tt
+  pub owned : m.owned ≡ true
+  -- it has as many seats as it was asked to have, up to the limit, and nobody sits
+  pub plain : opening_plain m ≡ fresh (seats n) 0 0
+  pub try_enter : (h : Option Hold) → m.asks call.TryEnter h ≡ tries to_read
+  pub enter : (h : Option Hold) → m.asks call.Enter h ≡ waits to_read
+  pub count : (h : Option Hold) → m.asks call.Count h ≡ counts_readers
+  pub leave : (h : Option Hold) → m.asks call.Leave h ≡ gives_back h
+  pub says : (a : Answer (Unit {0})) → m.says a ≡ says_of a
