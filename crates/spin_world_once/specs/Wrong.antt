@@ -12,11 +12,7 @@ use Rattle.spin_world_once.specs.declared.once.OncePoint.TheVariants.{Look, Run}
 use Rattle.spin_world_core.specs.declared.schedule.Move.{Move}
 use Rattle.spin_world_core.specs.declared.schedule.Move.TheVariants.{Begin, Step}
 use Rattle.spin_step.specs.Plain.{Change}
-use Rattle.spin_world_core.specs.Machines.{Machine}
-use Rattle.spin_world_once.specs.Once.{once_machine}
-
-abbrev OnceMachine : Type 0 → Type 0
-OnceMachine V = Machine ℕ V (OnceCall V) OncePoint (Answer V)
+use Rattle.spin_world_once.specs.Once.{OnceMachine, once_machine}
 
 abbrev Steps : Type 0 → Type 0
 Steps V = ℕ → Option V → OnceCall V → OncePoint → Option Hold → Stepped ℕ V OncePoint (Answer V)
