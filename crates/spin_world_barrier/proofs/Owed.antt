@@ -1,7 +1,8 @@
 -- What the barrier's table owes.
-use Rattle.std.proofs.Common.{◌≡◌, ℕ, ◌+◌, ◌/◌, ◌%◌, ◌^◌, ◌≤◌, ◌==◌, Bool, true, false, ◌&&◌, is_some, Option, Some, None, List, [], ◌∷◌, if◌then◌else◌, refl, ap, sym, ◌∙◌, subst, arith, inl, inr}
+use Rattle.std.proofs.Common.{◌≡◌, ℕ, ◌+◌, ◌/◌, ◌%◌, ◌^◌, ◌≤◌, ◌==◌, Bool, true, false, ◌&&◌, ◌||◌, is_some, Option, Some, None, List, [], ◌∷◌, if◌then◌else◌, refl, ap, sym, ◌∙◌, subst, arith, inl, inr}
 use Rattle.std.specs.Prelude.{max}
 use Rattle.std.proofs.lemmas.Bool.{false≢true, ne_eqb}
+use Rattle.std.proofs.Math.Bool.{or-false}
 use Rattle.std.proofs.Math.Nat.{mod-le, div-le_self}
 use Rattle.spin_step.specs.Plain.{Plain, Change, gets, releases, serves, stops_starving, turns, completes, fails, arrives, Ask, to_read, to_read_upgradable, to_write, to_upgrade, to_take_ticket, to_enter, to_take_and_enter, to_lock_unregistered, to_lock_starving, to_lock_starving_alone, to_starve, to_begin, apply, count_word, generation_word}
 use Rattle.spin_step.specs.Parties.{apply_some}
@@ -30,6 +31,7 @@ use Rattle.spin_world_core.proofs.Stands.{absent}
 use Rattle.spin_world_core.proofs.Rows.{Point, nowhere, looked, onward, SoundAt}
 use Rattle.spin_world_core.proofs.Shapes.{Notes, keeping_of, OwesAt, goes_by, answers_by, OwesSoon, BeginsAt, makes_own, Pays}
 use Rattle.spin_world_core.proofs.Usual.{two, no_holders}
+use Rattle.spin_world_core.proofs.Operating.{BeginsWhereItFits}
 use Rattle.spin_world_core.proofs.Paid.{facts_of}
 
 abbrev pub point_of : BarrierPoint → Option Hold → Point
@@ -159,7 +161,8 @@ module _ (n : ℕ) where
   soon p c (Leave g) None s w span = λ at may.
       let is = is_barrier s w at.encodes at.shape in
       let waits = at.knows in
-      let past : is_past g w ≡ true = barrier_may_leave-tells s waits.number n w.count w.generation g is waits.come waits.found ∙ subst (λ k. may_leave s k ≡ true) waits.is_number may in
+      let leaves : may_leave s waits.number ≡ true = sym (or-false (may_leave s waits.number)) ∙ (ap (λ b. may_leave s waits.number || b) (sym waits.follows) ∙ subst (λ k. (may_leave s k || is_leading s k) ≡ true) waits.is_number may) in
+      let past : is_past g w ≡ true = barrier_may_leave-tells s waits.number n w.count w.generation g is waits.come waits.found ∙ leaves in
       ap (λ b. goes_by {A = Answer ℕ} (either b (Answers Follower None) (GoesOn (Leave g))) true (λ l. answers_by (barrier_table n) 3 w c l None)) past
   soon p _ _ (Some h) s w span = tt
 
@@ -170,6 +173,10 @@ module _ (n : ℕ) where
   makes : (p : ℕ) (l : BarrierPoint) (h : Option Hold) → makes_own barrier (act_of n l h) p ≡ true
   makes p Arrive h = refl
   makes p (Leave g) h = refl
+
+  fits_idle : BeginsWhereItFits (barrier_table n)
+  fits_idle c None = refl
+  fits_idle c (Some h) = refl
 
   sound : (p : ℕ) (l : BarrierPoint) (h : Option Hold) → SoundAt barrier meets p (point_of l h)
   sound p Arrive None = refl
@@ -183,6 +190,9 @@ module _ (n : ℕ) where
   pub barrier_pays : Pays (barrier_table n) (barrier_notes n)
   barrier_pays =
       record {
+        fits = fits_idle;
+        weakly = λ c l h weak is. absurd (false≢true weak);
+        operates = λ c l h. tt;
         first = two 0 0 (0 % max n 1) ((0 / max n 1) % 2 ^ 64) (omega (arith, mod-le 0 (max n 1))) (omega (arith, div-le_self 0 (max n 1)));
         shape_first = record { no_holders = refl; group = refl };
         numbers_tell = two_words;

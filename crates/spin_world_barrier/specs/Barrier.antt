@@ -37,6 +37,9 @@ abbrev pub act_of : ℕ → BarrierPoint → Option Hold → Act BarrierWords Ba
 act_of n Arrive h = store_if (is_below n) (arrive n) (λ p. arrives p) (leads n) (Answers Leader h) (λ w. GoesOn (Leave w.generation))
 act_of n (Leave g) h = load_if (is_past g) (λ w. Answers Follower h) (λ w. GoesOn (Leave g))
 
+abbrev pub BarrierMachine : Type 0
+BarrierMachine = Machine BarrierWords ℕ BarrierCall BarrierPoint (Answer ℕ)
+
 abbrev pub barrier_table : ℕ → Table BarrierWords ℕ BarrierCall BarrierPoint (Answer ℕ)
 barrier_table n =
     record {
@@ -55,5 +58,5 @@ barrier_table n =
       says = says_of;
     }
 
-abbrev pub barrier_machine : ℕ → Machine BarrierWords ℕ BarrierCall BarrierPoint (Answer ℕ)
+abbrev pub barrier_machine : ℕ → BarrierMachine
 barrier_machine n = machine_of (barrier_table n)

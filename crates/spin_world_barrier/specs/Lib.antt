@@ -1,3 +1,4 @@
 pub mod Barrier
 pub mod Wrong
 pub mod Groups
+pub mod Named

@@ -1,5 +1,5 @@
--- Barriers that are wrong in their steps, and schedules on which the laws refuse them.
-use Rattle.std.specs.Prelude.{ℕ, ◌==◌, Option, None, List, [], ◌∷◌}
+-- Barriers that are wrong, each in one part of its machine, and schedules on which the laws refuse them.
+use Rattle.std.specs.Prelude.{ℕ, ◌==◌, ◌&&◌, Option, Some, None, [], ◌∷◌}
 use Rattle.spin_world_core.specs.declared.place.Hold.{Hold}
 use Rattle.spin_world_core.specs.declared.object.Next.TheVariants.{GoesOn, Answers}
 use Rattle.spin_world_core.specs.declared.object.Stepped.{Stepped}
@@ -10,21 +10,21 @@ use Rattle.spin_world_barrier.specs.declared.barrier.BarrierCall.{BarrierCall}
 use Rattle.spin_world_barrier.specs.declared.barrier.BarrierCall.TheVariants.{Wait}
 use Rattle.spin_world_barrier.specs.declared.barrier.BarrierPoint.{BarrierPoint}
 use Rattle.spin_world_barrier.specs.declared.barrier.BarrierPoint.TheVariants.{Arrive, Leave}
-use Rattle.spin_world_core.specs.declared.schedule.Move.{Move}
-use Rattle.spin_world_core.specs.declared.schedule.Move.TheVariants.{Begin, Step}
-use Rattle.spin_world_core.specs.Machines.{Machine}
+use Rattle.spin_world_core.specs.declared.schedule.Move.TheVariants.{Begin, Step, Weak}
+use Rattle.spin_world_core.specs.Calls.{waits_for_value}
 use Rattle.spin_world_core.specs.Acts.{either}
-use Rattle.spin_world_barrier.specs.Barrier.{arrive, barrier_machine}
-
-abbrev BarrierMachine : Type 0
-BarrierMachine = Machine BarrierWords ℕ BarrierCall BarrierPoint (Answer ℕ)
+use Rattle.spin_world_barrier.specs.Barrier.{BarrierMachine, arrive, is_past, barrier_machine}
+use Rattle.spin_world_barrier.specs.Groups.{Entries}
 
 abbrev Steps : Type 0
 Steps = BarrierWords → Option ℕ → BarrierCall → BarrierPoint → Option Hold → Stepped BarrierWords ℕ BarrierPoint (Answer ℕ)
 
--- groups of two
+-- groups of two, and of one
 abbrev pairs : BarrierMachine
 pairs = barrier_machine 2
+
+abbrev ones : BarrierMachine
+ones = barrier_machine 1
 
 -- whoever finds no other of its group leads
 abbrev first_step : Steps
@@ -50,11 +50,68 @@ follower_step w value c (Leave g) h = pairs.step w value c (Leave g) h
 abbrev pub nobody_leads : BarrierMachine
 nobody_leads = record pairs { step = follower_step }
 
-abbrev pub one_arrival : List (ℕ × Move BarrierCall ℕ)
+-- whoever fills its group goes on once the next one is full
+abbrev late_step : Steps
+late_step w value c Arrive h = record { words = arrive 1 w; placed = None; next = GoesOn (Leave (arrive 1 w).generation) }
+late_step w value c (Leave g) h = record { words = w; placed = None; next = either (is_past g w) (Answers Leader h) (GoesOn (Leave g)) }
+
+abbrev pub leads_late : BarrierMachine
+leads_late = record ones { step = late_step }
+
+-- whoever fills its group is told so by its next step
+abbrev told_step : Steps
+told_step w value c Arrive h = record { words = arrive 1 w; placed = None; next = GoesOn (Leave w.generation) }
+told_step w value c (Leave g) h = record { words = w; placed = None; next = Answers Leader h }
+
+abbrev pub told_late : BarrierMachine
+told_late = record ones { step = told_step }
+
+-- whoever follows goes on only where nobody has come for the next group
+abbrev quiet_step : Steps
+quiet_step w value c Arrive h = pairs.step w value c Arrive h
+quiet_step w value c (Leave g) h = record { words = w; placed = None; next = either (is_past g w && (w.count == 0)) (Answers Follower h) (GoesOn (Leave g)) }
+
+abbrev pub leaves_in_quiet : BarrierMachine
+leaves_in_quiet = record pairs { step = quiet_step }
+
+abbrev pub never_begins : BarrierMachine
+never_begins = record pairs { begin = λ c h. None }
+
+-- it asks for a value, which no barrier gives
+abbrev pub asks_for_a_value : BarrierMachine
+asks_for_a_value = record pairs { asks = λ c h. waits_for_value }
+
+-- each of its steps may fail without cause, and then its party goes on
+abbrev pub leaves_by_chance : BarrierMachine
+leaves_by_chance = record pairs { refuse = λ c l h. Some (Answers Follower h) }
+
+-- one has arrived before anybody has come
+abbrev pub opens_with_one : BarrierMachine
+opens_with_one = record pairs { words = record { count = 1; generation = 0 } }
+
+-- it is asked for groups of two, and gathers three
+abbrev pub gathers_three : BarrierMachine
+gathers_three = barrier_machine 3
+
+-- schedules
+
+abbrev pub one_call : Entries
+one_call = (0, Begin Wait) ∷ []
+
+abbrev pub one_arrival : Entries
 one_arrival = (0, Begin Wait) ∷ (0, Step) ∷ []
 
-abbrev pub two_steps : List (ℕ × Move BarrierCall ℕ)
+abbrev pub two_steps : Entries
 two_steps = (0, Begin Wait) ∷ (0, Step) ∷ (0, Step) ∷ []
 
-abbrev pub one_group : List (ℕ × Move BarrierCall ℕ)
+abbrev pub five_steps : Entries
+five_steps = (0, Begin Wait) ∷ (0, Step) ∷ (0, Step) ∷ (0, Step) ∷ (0, Step) ∷ (0, Step) ∷ []
+
+abbrev pub an_arrival_and_chance : Entries
+an_arrival_and_chance = (0, Begin Wait) ∷ (0, Step) ∷ (0, Weak) ∷ []
+
+abbrev pub one_group : Entries
 one_group = (0, Begin Wait) ∷ (0, Step) ∷ (1, Begin Wait) ∷ (1, Step) ∷ []
+
+abbrev pub one_group_and_one : Entries
+one_group_and_one = (0, Begin Wait) ∷ (0, Step) ∷ (1, Begin Wait) ∷ (1, Step) ∷ (2, Begin Wait) ∷ (2, Step) ∷ []

@@ -1,10 +1,24 @@
-//! The law of the barrier. It is the contract of a function that does nothing, over every schedule.
+//! Laws of the barrier. Each is the contract of a function that does nothing.
 ghost use Rattle.std.specs.Prelude.{ℕ, List};
-ghost use Rattle.spin_world_core.specs.declared.schedule.Move.{Move};
-ghost use Rattle.spin_world_barrier.specs.declared.barrier.BarrierCall.{BarrierCall};
-ghost use Rattle.spin_world_barrier.specs.Groups.{InGroups};
+ghost use Rattle.spin_world_barrier.specs.declared.barrier.BarrierObject.{BarrierObject};
+ghost use Rattle.spin_world_barrier.specs.Barrier.{barrier_machine};
+ghost use Rattle.spin_world_barrier.specs.Groups.{Entries, InGroups, FollowersLeave};
+ghost use Rattle.spin_world_barrier.specs.Named.{IsBarrierOf};
 
-/// Exactly every `n`-th arrival leads, and the words count the arrivals in groups of `n`.
+use crate::barrier::BarrierObject;
+use spin_world_core::Object;
+
+/// What a [`BarrierObject`] is: how it opens, the size of its groups, and what its call asks.
+pub fn a_barrier_is_what_its_call_asks()
+    ensures { (object : BarrierObject) → IsBarrierOf object.n (⟦<BarrierObject as Object>⟧.machine object) }
+{}
+
+/// Exactly every `n`-th arrival leads, and is told so as it arrives; the words count the arrivals in groups of `n`.
 pub fn every_last_of_a_group_leads()
-    ensures { (n parties : ℕ) (past : List (ℕ × Move BarrierCall ℕ)) → InGroups n parties past }
+    ensures { (n parties : ℕ) (past : Entries) → InGroups (barrier_machine n) n parties past }
+{}
+
+/// Whoever follows goes on by its first step after its group is full, however many have arrived since.
+pub fn a_follower_leaves_a_full_group()
+    ensures { (n parties : ℕ) (past : Entries) → FollowersLeave (barrier_machine n) parties past }
 {}

@@ -3,8 +3,9 @@
 
 mod barrier;
 mod laws;
-mod refused;
+pub mod refused;
 
 pub use barrier::{BarrierCall, BarrierObject, BarrierPoint, BarrierWords};
-pub use laws::every_last_of_a_group_leads;
-pub use refused::{a_follower_waits_for_its_leader, the_first_of_a_group_follows};
+pub use laws::{
+    a_barrier_is_what_its_call_asks, a_follower_leaves_a_full_group, every_last_of_a_group_leads,
+};

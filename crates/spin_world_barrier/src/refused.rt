@@ -1,6 +1,9 @@
-//! Wrong barriers, each with a law that it breaks on a schedule that is named. They show what the laws keep out.
-ghost use Rattle.spin_world_core.specs.Runs.{MomentsAll};
-ghost use Rattle.spin_world_barrier.specs.Wrong.{first_leads, one_arrival, leaves_early, two_steps, nobody_leads, one_group};
+//! Wrong barriers, each with a law that it breaks, most on a schedule that is named. They show what the laws keep out.
+ghost use Rattle.spin_world_core.specs.Operations.{Stepwise};
+ghost use Rattle.spin_world_core.specs.Runs.{KeepsAll, MomentsAll, CountsAll};
+ghost use Rattle.spin_world_barrier.specs.Groups.{InGroups, FollowersLeave};
+ghost use Rattle.spin_world_barrier.specs.Named.{IsBarrierOf};
+ghost use Rattle.spin_world_barrier.specs.Wrong.{first_leads, leaves_early, nobody_leads, leads_late, told_late, leaves_in_quiet, never_begins, asks_for_a_value, leaves_by_chance, opens_with_one, gathers_three, one_call, one_arrival, two_steps, five_steps, an_arrival_and_chance, one_group, one_group_and_one};
 
 /// A barrier whose first arrival of each group leads: it fills no group.
 pub fn the_first_of_a_group_follows()
@@ -15,4 +18,44 @@ pub fn a_follower_waits_for_its_leader()
 /// A group whose last arrival is told that it follows: by its arrival the group is full, so it leads.
 pub fn the_last_of_a_group_is_no_follower()
     ensures { MomentsAll nobody_leads 2 one_group → ⊥ }
+{}
+
+/// A leader that waits for the next group: who fills a group has only to be answered.
+pub fn a_leader_waits_for_nobody()
+    ensures { CountsAll leads_late 1 five_steps → ⊥ }
+{}
+
+/// A leader that is told so after its arrival.
+pub fn a_leader_is_told_as_it_arrives()
+    ensures { InGroups told_late 1 1 one_call → ⊥ }
+{}
+
+/// A follower that waits until nobody gathers: with others always on their way it would never leave.
+pub fn a_follower_leaves_beside_newcomers()
+    ensures { FollowersLeave leaves_in_quiet 3 one_group_and_one → ⊥ }
+{}
+
+/// A barrier at which nobody may arrive.
+pub fn a_party_may_arrive()
+    ensures { Stepwise never_begins → ⊥ }
+{}
+
+/// A `wait` that asks for a value.
+pub fn a_wait_asks_for_its_group()
+    ensures { Stepwise asks_for_a_value → ⊥ }
+{}
+
+/// A follower that leaves by chance.
+pub fn a_follower_leaves_for_a_cause()
+    ensures { KeepsAll leaves_by_chance 1 an_arrival_and_chance → ⊥ }
+{}
+
+/// A barrier that opens with one arrival.
+pub fn a_barrier_opens_empty()
+    ensures { KeepsAll opens_with_one 1 one_call → ⊥ }
+{}
+
+/// A barrier that gathers other groups than it was asked for, and is right otherwise.
+pub fn a_group_has_the_size_asked_for()
+    ensures { IsBarrierOf 2 gathers_three → ⊥ }
 {}

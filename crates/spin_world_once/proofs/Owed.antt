@@ -15,17 +15,19 @@ use Rattle.spin_world_once.specs.declared.once.OnceCall.TheVariants.{CallOnce, T
 use Rattle.spin_world_once.specs.declared.once.OncePoint.{OncePoint}
 use Rattle.spin_world_once.specs.declared.once.OncePoint.TheVariants.{Look, TryBegin, Await, Run}
 use Rattle.spin_world_core.specs.Manners.{Manner, plain, look}
-use Rattle.spin_world_core.specs.Calls.{once, Asked, initializes, fails_to_initialize, Mark, Said, gives_value, failed}
-use Rattle.spin_world_core.specs.Acts.{Act, either, becomes, made_if}
+use Rattle.spin_world_core.specs.Calls.{once, Asked, initializes, fails_to_initialize, Mark, Said, gives_value, failed, is_weak_try}
+use Rattle.spin_world_core.specs.Operations.{Operation, loads, exchanges, stores, performed}
+use Rattle.spin_world_core.specs.Acts.{Act, either, becomes, made_if, step_by, can_by}
 use Rattle.spin_world_core.specs.Machines.{opening_phase, opening_plain}
 use Rattle.spin_world_core.specs.Runs.{is_writer}
-use Rattle.spin_world_once.specs.Once.{opening_word, begins_at, begin, is_there, tells, runs, ends, act_of, asks_of, brings_of, once_table, once_machine}
+use Rattle.spin_world_once.specs.Once.{opening_word, begins_at, begin, is_there, tells, runs, ends, OnceAct, act_of, asks_of, brings_of, once_table, once_machine}
 use Rattle.spin_world_core.proofs.Facts.{LocalInvariant, Facts}
 use Rattle.spin_world_core.proofs.Stands.{absent}
 use Rattle.spin_world_core.proofs.Rows.{Turn, goes, misses, Row, Point, nowhere, looked, onward, SoundAt}
 use Rattle.spin_world_core.proofs.Paid.{MakesStep}
 use Rattle.spin_world_core.proofs.Shapes.{Notes, Means, Follows, OwesAt, answers_by, OwesSoon, BeginsAt, CallOf, AtPoint}
 use Rattle.spin_world_core.proofs.Usual.{no_holders, means_word}
+use Rattle.spin_world_core.proofs.Operating.{BeginsWhereItFits, OperatesAt, one_word, swaps}
 use Rattle.spin_world_core.proofs.Filled.{CompletesRight, TellsOf, TellsBy, PaysWith, keeping_with, facts_with}
 
 -- a call with a closure looks, until it runs its closure: then it has begun to, and is left with its end
@@ -181,7 +183,7 @@ module _ {V : Type 0} (value : Option V) where
   gives_soon p x Look None s w span = λ at may. by_word (Soon (CallOnce x) Look) s.phase w (word p at) may refl refl
   gives_soon p x TryBegin None s w span = λ at may. by_word (Soon (CallOnce x) TryBegin) s.phase w (word p at) may refl refl
   gives_soon p x Await None s w span = λ at may. by_word (Soon (CallOnce x) Await) s.phase w (word p at) may refl refl
-  gives_soon p x Run None s w span = λ at may. absurd (false≢true may)
+  gives_soon p x Run None s w span = λ at may. refl
   gives_soon p x _ (Some h) s w span = tt
 
   soon : (p : ℕ) (c : OnceCall V) (l : OncePoint) (h : Option Hold) (s : Plain) (w : ℕ) (span : List Mark) → OwesSoon (once_table value) (once_notes value) p c l h s w span
@@ -191,7 +193,7 @@ module _ {V : Type 0} (value : Option V) where
   soon p TryCallOnceErr Look None s w span = λ at may. by_word (Soon TryCallOnceErr Look) s.phase w (word p at) may refl refl
   soon p TryCallOnceErr TryBegin None s w span = λ at may. by_word (Soon TryCallOnceErr TryBegin) s.phase w (word p at) may refl refl
   soon p TryCallOnceErr Await None s w span = λ at may. by_word (Soon TryCallOnceErr Await) s.phase w (word p at) may refl refl
-  soon p TryCallOnceErr Run None s w span = λ at may. absurd (false≢true may)
+  soon p TryCallOnceErr Run None s w span = λ at may. refl
   soon p Wait Look None s w span = λ at may. made_word (Soon Wait Look) s.phase w (word p at) may refl
   soon p Poll Look None s w span = λ at may. by_word (Soon Poll Look) s.phase w (word p at) may refl refl
   soon p _ _ _ s w span = tt
@@ -206,6 +208,53 @@ module _ {V : Type 0} (value : Option V) where
   begins p Poll None s = (refl, refl, tt, tt)
   begins p Get None s = (refl, refl, tt, tt)
   begins p IsCompleted None s = (refl, refl, tt, tt)
+
+  fits_all : BeginsWhereItFits (once_table value)
+  fits_all (CallOnce x) None = refl
+  fits_all (CallOnce x) (Some h) = refl
+  fits_all (TryCallOnceOk x) None = refl
+  fits_all (TryCallOnceOk x) (Some h) = refl
+  fits_all TryCallOnceErr None = refl
+  fits_all TryCallOnceErr (Some h) = refl
+  fits_all (InitFromRef x) None = refl
+  fits_all (InitFromRef x) (Some h) = refl
+  fits_all Wait None = refl
+  fits_all Wait (Some h) = refl
+  fits_all Poll None = refl
+  fits_all Poll (Some h) = refl
+  fits_all Get None = refl
+  fits_all Get (Some h) = refl
+  fits_all IsCompleted None = refl
+  fits_all IsCompleted (Some h) = refl
+
+  strong : (c : OnceCall V) → is_weak_try (asks_of c) ≡ false
+  strong (CallOnce x) = refl
+  strong (TryCallOnceOk x) = refl
+  strong (InitFromRef x) = refl
+  strong _ = refl
+
+  -- what a step is
+  abbrev Makes : OnceAct → Operation → Type 0
+  Makes act operation = (w : ℕ) → can_by act w ≡ true → (step_by {V = V} (λ n. n) act w).words ≡ performed operation w
+
+  runs_by : (end : OnceAct) (operation : Operation) (l : OncePoint) (h : Option Hold) → Makes end operation → (o : Operation) × Makes (runs end l h) o
+  runs_by end operation TryBegin h ended = (exchanges 0 1, λ w can. swaps V 0 1 w _ _)
+  runs_by end operation Run h ended = (operation, ended)
+  runs_by end operation Look h ended = (loads, λ w can. refl)
+  runs_by end operation Await h ended = (loads, λ w can. refl)
+
+  operation_of : (c : OnceCall V) (l : OncePoint) (h : Option Hold) → (o : Operation) × Makes (act_of c l h) o
+  operation_of (CallOnce x) l h = runs_by (ends (Some x) h) (stores 2) l h (λ w can. refl)
+  operation_of (TryCallOnceOk x) l h = runs_by (ends (Some x) h) (stores 2) l h (λ w can. refl)
+  operation_of TryCallOnceErr l h = runs_by (ends {V = V} None h) (stores 0) l h (λ w can. refl)
+  operation_of (InitFromRef x) l h = runs_by (ends (Some x) h) (stores 2) l h (λ w can. refl)
+  operation_of Wait l h = (loads, λ w can. refl)
+  operation_of Poll l h = (loads, λ w can. refl)
+  operation_of Get l h = (loads, λ w can. refl)
+  operation_of IsCompleted l h = (loads, λ w can. refl)
+
+  operates : (c : OnceCall V) (l : OncePoint) (h : Option Hold) → OperatesAt once (once_table value) c l h
+  operates c l h = let o = operation_of c l h in (0, o.0, one_word (once_table value) (λ w. refl) (λ u w e. e) c l h o.0 o.1)
 
   runs_makes : (end : Act ℕ OncePoint (Answer (Unit {0}))) (p : ℕ) (l : OncePoint) (h : Option Hold) → MakesStep once end p → MakesStep once (runs end l h) p
   runs_makes end p TryBegin h ended = refl
@@ -283,6 +332,9 @@ module _ {V : Type 0} (value : Option V) where
   pub once_pays : PaysWith (once_table value) (once_notes value) brings_of
   once_pays =
       record {
+        fits = fits_all;
+        strong = λ c h. strong c;
+        operates = operates;
         says = λ a. refl;
         first = first_word value;
         shape_first = (refl, refl);

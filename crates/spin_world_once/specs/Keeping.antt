@@ -1,7 +1,8 @@
 -- What users of a `Once` rely on.
-use Rattle.std.specs.Prelude.{◌≡◌, ℕ, Bool, true, false, ◌&&◌, Option, Some, None, is_some, List, [], ◌∷◌, ◌++◌, slice_get}
-use Rattle.spin_step.specs.Plain.{is_complete}
-use Rattle.spin_world_core.specs.declared.answer.Answer.TheVariants.{Value, Failed}
+use Rattle.std.specs.Prelude.{◌≡◌, ℕ, ◌⊎◌, Bool, true, false, ◌&&◌, Option, Some, None, is_some, List, [], ◌∷◌, ◌++◌, slice_get}
+use Rattle.spin_step.specs.Plain.{to_begin, gets, is_complete}
+use Rattle.spin_world_core.specs.declared.answer.Answer.{Answer}
+use Rattle.spin_world_core.specs.declared.answer.Answer.TheVariants.{Value, NoValue, Failed}
 use Rattle.spin_world_core.specs.declared.place.Hold.{Hold}
 use Rattle.spin_world_core.specs.declared.place.Seat.TheVariants.{Calling}
 use Rattle.spin_world_core.specs.declared.schedule.Move.{Move}
@@ -10,15 +11,22 @@ use Rattle.spin_world_core.specs.declared.schedule.Outcome.TheVariants.{Answered
 use Rattle.spin_world_once.specs.declared.once.OnceCall.{OnceCall}
 use Rattle.spin_world_once.specs.declared.once.OnceCall.TheVariants.{Get}
 use Rattle.spin_world_once.specs.declared.once.OncePoint.{OncePoint}
-use Rattle.spin_world_once.specs.declared.once.OncePoint.TheVariants.{TryBegin, Run}
+use Rattle.spin_world_core.specs.Calls.{Asked, initializes, fails_to_initialize, waits_for_value, polls, looks_for_value}
 use Rattle.spin_world_core.specs.Schedules.{State, after, at_first}
-use Rattle.spin_world_core.specs.Runs.{opening}
+use Rattle.spin_world_core.specs.Runs.{Seen, opening, own}
 use Rattle.spin_world_core.specs.Users.{seen_after, outcome_after}
-use Rattle.spin_world_once.specs.Once.{once_machine}
+use Rattle.spin_world_once.specs.Once.{OnceMachine}
+
+abbrev pub Entries : Type 0 → Type 0
+Entries V = List (ℕ × Move (OnceCall V) V)
 
 -- the cell after a schedule
-abbrev pub once_after : {V : Type 0} → Option V → ℕ → List (ℕ × Move (OnceCall V) V) → State ℕ V (OnceCall V) OncePoint
-once_after value n past = after (once_machine value) (at_first (once_machine value) n) past
+abbrev pub once_after : {V : Type 0} → OnceMachine V → ℕ → Entries V → State ℕ V (OnceCall V) OncePoint
+once_after m n past = after m (at_first m n) past
+
+-- the same beside its plain lock
+abbrev pub seen_at : {V : Type 0} → OnceMachine V → ℕ → Entries V → Seen ℕ V (OnceCall V) OncePoint
+seen_at m n past = seen_after m (opening m n) past
 
 -- the owner replaces no value in these entries
 abbrev pub keeps_value : {C V : Type 0} → Move C V → Bool
@@ -30,25 +38,59 @@ is_shared [] = true
 is_shared (e ∷ es) = keeps_value e.1 && is_shared es
 
 -- Once a closure has completed there is a value, and the same from then on, while no owner replaces it
-pub record ValueStays {V : Type 0} (value : Option V) (n : ℕ) (past further : List (ℕ × Move (OnceCall V) V)) : Type 0 where
-  pub complete : is_complete (seen_after (once_machine value) (opening (once_machine value) n) past).plain.phase ≡ is_some (once_after value n past).value
-  pub stays : (v : V) → (once_after value n past).value ≡ Some v → is_shared further ≡ true → (once_after value n (past ++ further)).value ≡ Some v
+pub record ValueStays {V : Type 0} (m : OnceMachine V) (n : ℕ) (past further : Entries V) : Type 0 where
+  pub complete : is_complete (seen_at m n past).plain.phase ≡ is_some (once_after m n past).value
+  pub stays : (v : V) → (once_after m n past).value ≡ Some v → is_shared further ≡ true → (once_after m n (past ++ further)).value ≡ Some v
 
--- at most one party runs a closure, and none once there is a value
-pub record OneRuns {V : Type 0} (value : Option V) (n : ℕ) (past : List (ℕ × Move (OnceCall V) V)) : Type 0 where
-  pub alone : (p q : ℕ) (c d : OnceCall V) (h i : Option Hold) → slice_get (once_after value n past).seats p ≡ Some (Calling c Run h) → slice_get (once_after value n past).seats q ≡ Some (Calling d Run i) → p ≡ q
-  pub before : (p : ℕ) (c : OnceCall V) (h : Option Hold) → slice_get (once_after value n past).seats p ≡ Some (Calling c Run h) → (once_after value n past).value ≡ None
+-- the party runs its closure: it is in a call whose one plain step so far is that it has begun
+pub record RunsClosure {V : Type 0} (m : OnceMachine V) (n : ℕ) (past : Entries V) (p : ℕ) : Type 0 where
+  pub call : OnceCall V
+  pub point : OncePoint
+  pub held : Option Hold
+  pub calls : slice_get (once_after m n past).seats p ≡ Some (Calling call point held)
+  pub begun : own p ((seen_at m n past).span p) ≡ gets p to_begin ∷ []
+
+-- what a closure's end is answered
+abbrev pub answer_of : {V : Type 0} → Option V → Answer V
+answer_of (Some v) = Value v
+answer_of None = Failed
+
+-- At most one party runs a closure, and none once there is a value; its next step ends it
+pub record OneRuns {V : Type 0} (m : OnceMachine V) (n : ℕ) (past : Entries V) : Type 0 where
+  pub alone : (p q : ℕ) → RunsClosure m n past p → RunsClosure m n past q → p ≡ q
+  pub before : (p : ℕ) → RunsClosure m n past p → (once_after m n past).value ≡ None
+  pub ends : (p : ℕ) → (runs : RunsClosure m n past p) → outcome_after m n past p Step ≡ Answered (answer_of (m.brings runs.call)) None
+
+-- which calls answer the value where there is one, and which run a closure where there is none
+abbrev pub wants_value : Asked → Bool
+wants_value initializes = true
+wants_value fails_to_initialize = true
+wants_value waits_for_value = true
+wants_value polls = true
+wants_value looks_for_value = true
+wants_value _ = false
+
+abbrev pub has_closure : Asked → Bool
+has_closure initializes = true
+has_closure fails_to_initialize = true
+has_closure _ = false
+
+-- where there is a value, the next step of each call that wants it answers it; where there is none and no closure runs, that of a poll says so
+pub record AnswersAtOnce {V : Type 0} (m : OnceMachine V) (n : ℕ) (past : Entries V) : Type 0 where
+  pub value : (p : ℕ) (v : V) (c : OnceCall V) (l : OncePoint) (h : Option Hold) → (once_after m n past).value ≡ Some v → slice_get (once_after m n past).seats p ≡ Some (Calling c l h) → wants_value (m.asks c h) ≡ true
+      → outcome_after m n past p Step ≡ Answered (Value v) None
+  pub none : (p : ℕ) (c : OnceCall V) (l : OncePoint) (h : Option Hold) → (once_after m n past).words ≡ 0 → slice_get (once_after m n past).seats p ≡ Some (Calling c l h) → m.asks c h ≡ polls
+      → outcome_after m n past p Step ≡ Answered NoValue None
 
 -- where an answer gives a value, a later `get` gives the same, while no owner replaces it
-abbrev pub GetAgrees : {V : Type 0} → Option V → ℕ → List (ℕ × Move (OnceCall V) V) → List (ℕ × Move (OnceCall V) V) → Type 0
-GetAgrees {V} value n past further =
-    let m = once_machine value in
+abbrev pub GetAgrees : {V : Type 0} → OnceMachine V → ℕ → Entries V → Entries V → Type 0
+GetAgrees {V} m n past further =
     (p q : ℕ) (v : V) (l : OncePoint) (h : Option Hold) → outcome_after m n past p Step ≡ Answered (Value v) None → is_shared further ≡ true
-    → slice_get (once_after value n (past ++ (p, Step) ∷ further)).seats q ≡ Some (Calling Get l h)
+    → slice_get (once_after m n (past ++ (p, Step) ∷ further)).seats q ≡ Some (Calling Get l h)
     → outcome_after m n (past ++ (p, Step) ∷ further) q Step ≡ Answered (Value v) None
 
--- After a closure that failed the word is 0, and where it is 0 a call that tries to begin runs its closure
-pub record MayRunAgain {V : Type 0} (value : Option V) (n : ℕ) (past : List (ℕ × Move (OnceCall V) V)) : Type 0 where
-  pub clears : (p : ℕ) → outcome_after (once_machine value) n past p Step ≡ Answered Failed None → (once_after value n (past ++ (p, Step) ∷ [])).words ≡ 0
-  pub begins : (p : ℕ) (c : OnceCall V) (h : Option Hold) → (once_after value n past).words ≡ 0 → slice_get (once_after value n past).seats p ≡ Some (Calling c TryBegin h)
-      → slice_get (once_after value n (past ++ (p, Step) ∷ [])).seats p ≡ Some (Calling c Run h)
+-- After a closure that failed the word is 0, and where it is 0 a call with a closure runs it by its second step, if nobody else takes one
+pub record MayRunAgain {V : Type 0} (m : OnceMachine V) (n : ℕ) (past : Entries V) : Type 0 where
+  pub clears : (p : ℕ) → outcome_after m n past p Step ≡ Answered Failed None → (once_after m n (past ++ (p, Step) ∷ [])).words ≡ 0
+  pub begins : (p : ℕ) (c : OnceCall V) (l : OncePoint) (h : Option Hold) → (once_after m n past).words ≡ 0 → slice_get (once_after m n past).seats p ≡ Some (Calling c l h) → has_closure (m.asks c h) ≡ true
+      → RunsClosure m n (past ++ (p, Step) ∷ []) p ⊎ RunsClosure m n (past ++ (p, Step) ∷ (p, Step) ∷ []) p

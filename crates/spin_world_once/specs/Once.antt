@@ -31,7 +31,7 @@ is_there w = w == 2
 abbrev pub tells : Option Hold → Next OncePoint (Answer (Unit {0}))
 tells h = Answers (Value tt) h
 
-abbrev OnceAct : Type 0
+abbrev pub OnceAct : Type 0
 OnceAct = Act ℕ OncePoint (Answer (Unit {0}))
 
 -- a call with a closure looks, begins where there is nothing, and waits while another one runs
@@ -77,6 +77,9 @@ abbrev pub opening_word : {V : Type 0} → Option V → ℕ
 opening_word None = 0
 opening_word (Some v) = 2
 
+abbrev pub OnceMachine : Type 0 → Type 0
+OnceMachine V = Machine ℕ V (OnceCall V) OncePoint (Answer V)
+
 abbrev pub once_table : {V : Type 0} → Option V → Table ℕ V (OnceCall V) OncePoint (Answer (Unit {0}))
 once_table value =
     record {
@@ -95,5 +98,5 @@ once_table value =
       says = says_of;
     }
 
-abbrev pub once_machine : {V : Type 0} → Option V → Machine ℕ V (OnceCall V) OncePoint (Answer V)
+abbrev pub once_machine : {V : Type 0} → Option V → OnceMachine V
 once_machine value = machine_with (once_table value) brings_of

@@ -1,8 +1,12 @@
-//! Wrong cells, each with a law that it breaks on a schedule that is named. They show what the laws keep out.
-ghost use Rattle.std.specs.Prelude.{◌≡◌};
-ghost use Rattle.spin_world_core.specs.Runs.{KeepsAll, MomentsAll};
+//! Wrong cells, each with a law that it breaks, most on a schedule that is named. They show what the laws keep out.
+ghost use Rattle.std.specs.Prelude.{◌≡◌, Some, None, []};
+ghost use Rattle.spin_world_core.specs.Operations.{Stepwise};
+ghost use Rattle.spin_world_core.specs.Runs.{KeepsAll, MomentsAll, CountsAll};
 ghost use Rattle.spin_world_core.specs.Values.{ValuesAll};
-ghost use Rattle.spin_world_once.specs.Wrong.{replaces, two_closures, sticks, sticks_silently, one_failure, gets_early, get_beside_a_closure, polls_early, poll_beside_a_closure, tells_another, places_another, one_closure};
+ghost use Rattle.spin_world_once.specs.Once.{once_machine};
+ghost use Rattle.spin_world_once.specs.Keeping.{AnswersAtOnce};
+ghost use Rattle.spin_world_once.specs.Named.{IsOnce};
+ghost use Rattle.spin_world_once.specs.Wrong.{runs_on, six_steps, waits_idly, one_wait, always_fails, never_gets, loses_by_chance, a_look_and_chance, opens_at_nothing, replaces, two_closures, sticks, sticks_silently, one_failure, gets_early, get_beside_a_closure, polls_early, poll_beside_a_closure, tells_another, places_another, one_closure};
 
 /// A second closure whose value replaces the first: it is no value that a closure which completes has placed.
 pub fn a_second_closure_does_not_run<V: Copy>()
@@ -37,4 +41,39 @@ pub fn an_answer_is_the_value_placed<V: Copy>()
 /// A closure in whose place another value is put and answered.
 pub fn a_value_is_the_closures_own<V: Copy>()
     ensures { (u v : V) → (u ≡ v → ⊥) → ValuesAll (places_another v) 1 (one_closure u) → ⊥ }
+{}
+
+/// A closure that never ends: who runs it has only to be answered.
+pub fn a_closure_ends<V: Copy>()
+    ensures { (v : V) → CountsAll (runs_on V) 1 (six_steps v) → ⊥ }
+{}
+
+/// A `wait` that looks once more where there is a value.
+pub fn a_wait_answers_what_it_sees<V: Copy>()
+    ensures { (v : V) → AnswersAtOnce (waits_idly v) 1 one_wait → ⊥ }
+{}
+
+/// A `try_call_once` that fails whatever its closure gives, and is right otherwise.
+pub fn a_try_call_once_runs_its_closure<V: Copy>()
+    ensures { (v : V) → IsOnce None (always_fails V) → ⊥ }
+{}
+
+/// A cell that has lost the value that it was made with, and is right otherwise.
+pub fn an_initialized_cell_has_its_value<V: Copy>()
+    ensures { (v : V) → IsOnce (Some v) (once_machine None) → ⊥ }
+{}
+
+/// A `get` that begins nowhere.
+pub fn a_get_begins<V: Copy>()
+    ensures { Stepwise (never_gets V) → ⊥ }
+{}
+
+/// A `call_once` that loses its exchange without cause.
+pub fn a_lost_exchange_has_a_cause<V: Copy>()
+    ensures { (v : V) → KeepsAll (loses_by_chance V) 1 (a_look_and_chance v) → ⊥ }
+{}
+
+/// A cell with a value whose word says that there is none.
+pub fn a_cell_with_a_value_opens_complete<V: Copy>()
+    ensures { (v : V) → KeepsAll (opens_at_nothing v) 1 [] → ⊥ }
 {}

@@ -1,0 +1,8 @@
+use Rattle.std.proofs.Common.{refl}
+use Rattle.spin_world_core.specs.Calls.{barrier, meets}
+use Rattle.spin_world_core.proofs.Otherwise.{four_steps}
+use Rattle.spin_world_barrier.proofs.refused.a_leader_waits_for_nobody.Goals as goal
+
+pub returns : goal.returns
+returns c = λ all.
+    four_steps barrier 0 meets all.1.1.1.1.1.0.undisturbed refl (record { party = refl; strong = refl }) (record { party = refl; strong = refl }) (record { party = refl; strong = refl }) (record { party = refl; strong = refl }) refl

@@ -1,0 +1,32 @@
+-- What a `Once` is: how it opens, what each of its calls asks, and which value it brings. Where a call begins follows from what it asks.
+use Rattle.std.specs.Prelude.{◌≡◌, ℕ, true, Option, Some, None, [], ◌∷◌}
+use Rattle.spin_step.specs.Plain.{nothing, complete}
+use Rattle.spin_world_core.specs.declared.place.Hold.{Hold}
+use Rattle.spin_world_core.specs.declared.answer.Answer.{Answer}
+use Rattle.spin_world_once.specs.declared.once.OnceCall.TheVariants.{CallOnce, TryCallOnceOk, TryCallOnceErr, InitFromRef, Wait, Poll, Get, IsCompleted}
+use Rattle.spin_world_core.specs.Calls.{once, initializes, fails_to_initialize, waits_for_value, polls, looks_for_value, looks_complete, says_of}
+use Rattle.spin_world_core.specs.Machines.{opening_plain}
+use Rattle.spin_world_core.specs.Acts.{gives_of}
+use Rattle.spin_world_once.specs.Once.{OnceMachine}
+
+-- it is made with this value, or with none
+pub record IsOnce {V : Type 0} (given : Option V) (m : OnceMachine V) : Type 0 where
+  pub coding : m.coding ≡ once
+  pub value : m.value ≡ given
+  pub opens_empty : given ≡ None → (m.words ≡ 0) × ((opening_plain m).phase ≡ nothing)
+  pub opens_complete : (v : V) → given ≡ Some v → (m.words ≡ 2) × ((opening_plain m).phase ≡ complete)
+  pub number : (w : ℕ) → m.numbers w ≡ w ∷ []
+  -- there is nothing to hold
+  pub cap : m.cap ≡ 0
+  pub owned : m.owned ≡ true
+  pub call_once : (v : V) (h : Option Hold) → (m.asks (CallOnce v) h ≡ initializes) × (m.brings (CallOnce v) ≡ Some v)
+  pub try_call_once_ok : (v : V) (h : Option Hold) → (m.asks (TryCallOnceOk v) h ≡ initializes) × (m.brings (TryCallOnceOk v) ≡ Some v)
+  pub try_call_once_err : (h : Option Hold) → (m.asks TryCallOnceErr h ≡ fails_to_initialize) × (m.brings TryCallOnceErr ≡ None)
+  pub init_from_ref : (v : V) (h : Option Hold) → (m.asks (InitFromRef v) h ≡ initializes) × (m.brings (InitFromRef v) ≡ Some v)
+  pub wait : (h : Option Hold) → (m.asks Wait h ≡ waits_for_value) × (m.brings Wait ≡ None)
+  pub poll : (h : Option Hold) → (m.asks Poll h ≡ polls) × (m.brings Poll ≡ None)
+  pub get : (h : Option Hold) → (m.asks Get h ≡ looks_for_value) × (m.brings Get ≡ None)
+  pub is_completed : (h : Option Hold) → (m.asks IsCompleted h ≡ looks_complete) × (m.brings IsCompleted ≡ None)
+  pub says : (a : Answer V) → m.says a ≡ says_of a
+  -- only the answer that is a value gives one
+  pub gives : (a : Answer V) → m.gives a ≡ gives_of a
