@@ -31,7 +31,7 @@ use Rattle.spin_world_core.proofs.Stands.{absent}
 use Rattle.spin_world_core.proofs.Rows.{Point, nowhere, looked, onward, SoundAt}
 use Rattle.spin_world_core.proofs.Shapes.{Notes, keeping_of, OwesAt, goes_by, answers_by, OwesSoon, BeginsAt, makes_own, Pays}
 use Rattle.spin_world_core.proofs.Usual.{two, no_holders}
-use Rattle.spin_world_core.proofs.Operating.{BeginsWhereItFits}
+use Rattle.spin_world_core.proofs.Operating.{BeginsWhereItFits, Refuses}
 use Rattle.spin_world_core.proofs.Paid.{facts_of}
 
 abbrev pub point_of : BarrierPoint → Option Hold → Point
@@ -174,6 +174,10 @@ module _ (n : ℕ) where
   makes p Arrive h = refl
   makes p (Leave g) h = refl
 
+  refuses : Refuses (barrier_table n)
+  refuses c Arrive h next is = absurd (cc (is))
+  refuses c _ h next is = absurd (cc (is))
+
   fits_idle : BeginsWhereItFits (barrier_table n)
   fits_idle c None = refl
   fits_idle c (Some h) = refl
@@ -192,6 +196,7 @@ module _ (n : ℕ) where
       record {
         fits = fits_idle;
         weakly = λ c l h weak is. absurd (false≢true weak);
+        refuses = refuses;
         operates = λ c l h. tt;
         first = two 0 0 (0 % max n 1) ((0 / max n 1) % 2 ^ 64) (omega (arith, mod-le 0 (max n 1))) (omega (arith, div-le_self 0 (max n 1)));
         shape_first = record { no_holders = refl; group = refl };

@@ -155,6 +155,10 @@ swaps V from to w won lost = at_number (w == from)
     at_number true = refl
     at_number false = refl
 
+-- it is lost where another number lies there
+pub lost_there : {L A : Type 0} (V : Type 0) (from to w : ℕ) (won lost next : Next L A) → lost ≡ next → (w == from) ≡ false → (becomes {V = V} w (if w == from then Some to else None) won lost).next ≡ next
+lost_there V from to w won lost next is other = rw other is
+
 -- an exchange of the number that was found before
 pub swaps_found : {L A : Type 0} (V : Type 0) (k w : ℕ) (f : ℕ → Option ℕ) (won found missed : Next L A) → (retried {V = V} (w == k) w (f w) won found missed).words ≡ performed (exchanges k (unwrap_or (f k) k)) w
 swaps_found V k w f won found missed = at_number (w == k) refl

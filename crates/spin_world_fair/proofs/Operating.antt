@@ -13,7 +13,7 @@ use Rattle.spin_world_core.specs.Calls.{fair}
 use Rattle.spin_world_core.specs.Operations.{Operation, loads, exchanges, subtracts, sets_lowest_bit, performed}
 use Rattle.spin_world_core.specs.Acts.{becomes, step_by, can_by}
 use Rattle.spin_world_fair.specs.Fair.{starve, lock_starved, act_of, fair_table}
-use Rattle.spin_world_core.proofs.Operating.{BeginsWhereItFits, TriesWeakly, OperatesAt, one_word, swaps, swaps_found}
+use Rattle.spin_world_core.proofs.Operating.{BeginsWhereItFits, TriesWeakly, Refuses, Operates, OperatesAt, one_word, swaps, lost_there, swaps_found}
 
 module _ {V : Type 0} (v : V) (cap patience : ℕ) where
   pub fits_all : BeginsWhereItFits (fair_table v cap patience)
@@ -45,9 +45,13 @@ module _ {V : Type 0} (v : V) (cap patience : ℕ) where
       clear true = refl
       clear false = refl
 
+  on_word : (c : FairCall) (l : FairPoint) (h : Option Hold) (operation : Operation)
+      → ((w : ℕ) → can_by (act_of {V = V} cap patience c l h) w ≡ true → (step_by {V = V} (λ w. w) (act_of {V = V} cap patience c l h) w).words ≡ performed operation w) → Operates (fair_table v cap patience) c l h 0 operation
+  on_word = one_word (fair_table v cap patience) (λ w. refl) (λ u w same. same)
+
   alone : (c : FairCall) (l : FairPoint) (h : Option Hold) (operation : Operation)
       → ((w : ℕ) → can_by (act_of {V = V} cap patience c l h) w ≡ true → (step_by {V = V} (λ w. w) (act_of {V = V} cap patience c l h) w).words ≡ performed operation w) → OperatesAt fair (fair_table v cap patience) c l h
-  alone c l h operation is = (0, operation, one_word (fair_table v cap patience) (λ w. refl) (λ u w same. same) c l h operation is)
+  alone c l h operation is = (0, operation, on_word c l h operation is)
 
   pub operates : (c : FairCall) (l : FairPoint) (h : Option Hold) → OperatesAt fair (fair_table v cap patience) c l h
   operates TryLock First h = alone TryLock First h (exchanges 0 1) (λ w can. swaps V 0 1 w _ _)
@@ -63,3 +67,9 @@ module _ {V : Type 0} (v : V) (cap patience : ℕ) where
   operates c SetFlag h = alone c SetFlag h sets_lowest_bit (λ w can. sets w _ _)
   operates c Await h = alone c Await h loads (λ w can. refl)
   operates c Unregister h = alone c Unregister h (subtracts 2) (λ w can. refl)
+
+  pub refuses : Refuses (fair_table v cap patience)
+  refuses c (Attempt n) h next is = (0, 0, 1, on_word c (Attempt n) h (exchanges 0 1) (λ w can. swaps V 0 1 w _ _), λ w other. lost_there V 0 1 w _ _ next (cc (is)) other)
+  refuses TryLock First h next is = absurd (cc (is))
+  refuses _ First h next is = absurd (cc (is))
+  refuses c _ h next is = absurd (cc (is))

@@ -30,7 +30,7 @@ use Rattle.spin_world_core.proofs.Usual.{as_found, no_queue, means_word}
 use Rattle.spin_world_core.proofs.Paid.{facts_of}
 use Rattle.spin_world_fair.proofs.Registering.{sooner, Sees, sees_by, sees-other, blind_after, none_left, few_to_load, few_to_register, Looking, Loading, Registering, none_yet, starving-other, looking-other, loading-other, registering-other, goes_on, missed, looked_free, looked_held, looked_late, loaded, retried, full, registered, looked_starving}
 use Rattle.spin_world_fair.proofs.Found.{IsFair, comes, goes_away, same_holders, is_starving, is_starving_still, starver_counts, is_holding, set_by_holder, word_free, flag_clear, word_locked, word_starved, not_there}
-use Rattle.spin_world_fair.proofs.Operating.{fits_all, strong, operates}
+use Rattle.spin_world_fair.proofs.Operating.{fits_all, strong, refuses, operates}
 
 -- a starver goes for the lock with these steps made
 abbrev pub starving_row : (ℕ → List Change) → Row
@@ -308,6 +308,7 @@ module _ {V : Type 0} (v : V) (cap patience : ℕ) where
       record {
         fits = fits_all v cap patience;
         weakly = strong v cap patience;
+        refuses = refuses v cap patience;
         operates = operates v cap patience;
         first = refl;
         shape_first = record { one = omega arith; queue = refl; room = refl };

@@ -28,7 +28,7 @@ use Rattle.spin_world_core.proofs.Facts.{LocalInvariant, Facts}
 use Rattle.spin_world_core.proofs.Stands.{holds, entries_at}
 use Rattle.spin_world_core.proofs.Rows.{starts_sound, SoundAt, Row, Point, starts, looked}
 use Rattle.spin_world_core.proofs.Shapes.{Notes, keeping_of, Means, OwesAt, answers_by, OwesSoon, BeginsAt, makes_own, Pays, CallOf, AtPoint}
-use Rattle.spin_world_core.proofs.Operating.{BeginsWhereItFits, TriesWeakly, OperatesAt, one_word, swaps, swaps_found}
+use Rattle.spin_world_core.proofs.Operating.{BeginsWhereItFits, TriesWeakly, Refuses, Operates, OperatesAt, one_word, swaps, lost_there, swaps_found}
 use Rattle.spin_world_core.proofs.Usual.{as_found, no_queue, means_word, retries_soon}
 use Rattle.spin_world_core.proofs.Paid.{facts_of}
 
@@ -277,9 +277,13 @@ module _ {V : Type 0} (v : V) (cap : ℕ) where
   weakly TryUpgradeWeak l h weak is = refl
   weakly _ l h weak is = absurd (false≢true weak)
 
+  on_word : (c : RwCall) (l : RwPoint) (h : Option Hold) (operation : Operation)
+      → ((w : ℕ) → can_by (act_of {V = V} cap c l h) w ≡ true → (step_by {V = V} (λ w. w) (act_of {V = V} cap c l h) w).words ≡ performed operation w) → Operates (rw_table v cap) c l h 0 operation
+  on_word = one_word (rw_table v cap) (λ w. refl) (λ v w e. e)
+
   at_word : (c : RwCall) (l : RwPoint) (h : Option Hold) (operation : Operation)
       → ((w : ℕ) → can_by (act_of {V = V} cap c l h) w ≡ true → (step_by {V = V} (λ w. w) (act_of {V = V} cap c l h) w).words ≡ performed operation w) → OperatesAt calls.rw (rw_table v cap) c l h
-  at_word c l h operation is = (0, operation, one_word (rw_table v cap) (λ w. refl) (λ v w e. e) c l h operation is)
+  at_word c l h operation is = (0, operation, on_word c l h operation is)
 
   -- who comes to read exchanges the number that it found
   abbrev swap : (ℕ → Option ℕ) → ℕ → Operation
@@ -311,11 +315,30 @@ module _ {V : Type 0} (v : V) (cap : ℕ) where
   operates Release l (Some hold.Upgradable) = at_word Release l (Some hold.Upgradable) (subtracts 2) (λ w can. refl)
   operates Release l h = at_word Release l h (subtracts 1) (λ w can. refl)
 
+  refuses : Refuses (rw_table v cap)
+  refuses TryWriteWeak l h next is = (0, 0, 1, on_word TryWriteWeak l h (exchanges 0 1) (λ w can. swaps V 0 1 w _ _), λ w other. lost_there V 0 1 w _ _ next (cc (is)) other)
+  refuses Write l h next is = (0, 0, 1, on_word Write l h (exchanges 0 1) (λ w can. swaps V 0 1 w _ _), λ w other. lost_there V 0 1 w _ _ next (cc (is)) other)
+  refuses TryUpgradeWeak l h next is = (0, 2, 1, on_word TryUpgradeWeak l h (exchanges 2 1) (λ w can. swaps V 2 1 w _ _), λ w other. lost_there V 2 1 w _ _ next (cc (is)) other)
+  refuses Upgrade l h next is = (0, 2, 1, on_word Upgrade l h (exchanges 2 1) (λ w can. swaps V 2 1 w _ _), λ w other. lost_there V 2 1 w _ _ next (cc (is)) other)
+  refuses TryRead First h next is = absurd (cc (is))
+  refuses TryRead (Exchange n) h next is = absurd (cc (is))
+  refuses Read First h next is = absurd (cc (is))
+  refuses Read (Exchange n) h next is = absurd (cc (is))
+  refuses TryUpgradeableRead First h next is = absurd (cc (is))
+  refuses TryUpgradeableRead (Exchange n) h next is = absurd (cc (is))
+  refuses UpgradeableRead First h next is = absurd (cc (is))
+  refuses UpgradeableRead (Exchange n) h next is = absurd (cc (is))
+  refuses Downgrade l (Some hold.Write) next is = absurd (cc (is))
+  refuses Release l (Some hold.Read) next is = absurd (cc (is))
+  refuses Release l (Some hold.Upgradable) next is = absurd (cc (is))
+  refuses _ l h next is = absurd (cc (is))
+
   pub rw_pays : Pays (rw_table v cap) (rw_notes v cap)
   rw_pays =
       record {
         fits = fits_all;
         weakly = weakly;
+        refuses = refuses;
         operates = operates;
         first = refl;
         shape_first = record { no_queue = refl; room = refl; few = omega arith };

@@ -26,7 +26,7 @@ use Rattle.spin_world_core.proofs.Facts.{LocalInvariant, Facts}
 use Rattle.spin_world_core.proofs.Stands.{holds, entries_at}
 use Rattle.spin_world_core.proofs.Rows.{starts_sound, SoundAt, Row, Point, starts, looked}
 use Rattle.spin_world_core.proofs.Shapes.{Notes, keeping_of, Means, OwesAt, answers_by, OwesSoon, BeginsAt, makes_own, Pays, CallOf, AtPoint}
-use Rattle.spin_world_core.proofs.Operating.{BeginsWhereItFits, TriesWeakly, OperatesAt, one_word, swaps_found}
+use Rattle.spin_world_core.proofs.Operating.{BeginsWhereItFits, TriesWeakly, Refuses, OperatesAt, one_word, swaps_found}
 use Rattle.spin_world_core.proofs.Usual.{as_found, no_queue, means_word, retries_soon}
 use Rattle.spin_world_core.proofs.Paid.{facts_of}
 
@@ -136,6 +136,13 @@ module _ (n : ℕ) where
   abbrev swap : ℕ → Operation
   swap k = exchanges k (unwrap_or (entered n k) k)
 
+  refuses : Refuses (seats_table n)
+  refuses TryEnter First h next is = absurd (cc (is))
+  refuses TryEnter (Exchange k) h next is = absurd (cc (is))
+  refuses Enter First h next is = absurd (cc (is))
+  refuses Enter (Exchange k) h next is = absurd (cc (is))
+  refuses _ l h next is = absurd (cc (is))
+
   operates : (c : SeatsCall) (l : SeatsPoint) (h : Option Hold) → OperatesAt calls.seats (seats_table n) c l h
   operates TryEnter First h = alone TryEnter First h loads (λ w can. refl)
   operates TryEnter (Exchange k) h = alone TryEnter (Exchange k) h (swap k) (λ w can. swaps_found (Unit {0}) k w (entered n) granted (goes_for w) (Answers Refused h))
@@ -149,6 +156,7 @@ module _ (n : ℕ) where
       record {
         fits = fits_all;
         weakly = weakly;
+        refuses = refuses;
         operates = operates;
         first = refl;
         shape_first = record { no_queue = refl; room = refl; all_read = refl; few = omega arith };

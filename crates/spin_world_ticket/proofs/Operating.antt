@@ -17,7 +17,7 @@ use Rattle.spin_world_core.specs.Operations.{Operation, loads, exchanges, stores
 use Rattle.spin_world_core.specs.Acts.{either, passing, becomes, retried, step_by}
 use Rattle.spin_world_ticket.specs.Ticket.{is_left, take, take_at, granted, goes_for, act_of, ticket_table}
 use Rattle.spin_world_core.proofs.Lists.{eqb_self}
-use Rattle.spin_world_core.proofs.Operating.{BeginsWhereItFits, TriesWeakly, OperatesAt}
+use Rattle.spin_world_core.proofs.Operating.{BeginsWhereItFits, TriesWeakly, Refuses, OperatesAt}
 
 module _ {V : Type 0} (v : V) (first : ℕ) where
   pub fits_all : BeginsWhereItFits (ticket_table v first)
@@ -29,6 +29,10 @@ module _ {V : Type 0} (v : V) (first : ℕ) where
   pub strong : TriesWeakly (ticket_table v first)
   strong Lock l h weak is = absurd (false≢true weak)
   strong _ l h weak is = absurd (false≢true weak)
+
+  pub refuses : Refuses (ticket_table v first)
+  refuses c LoadNext h next is = absurd (cc (is))
+  refuses c _ h next is = absurd (cc (is))
 
   abbrev Going : Type 0
   Going = Next TicketPoint (Answer V)

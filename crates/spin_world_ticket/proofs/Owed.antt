@@ -27,7 +27,7 @@ use Rattle.spin_world_core.proofs.Shapes.{Notes, keeping_of, Means, OwesAt, answ
 use Rattle.spin_world_core.proofs.Usual.{two, found_by, no_holders, retries_soon}
 use Rattle.spin_world_core.proofs.Paid.{facts_of}
 use Rattle.spin_world_ticket.proofs.Found.{free_number, Queue, Stays, Rises, stays-other, rises-other, stays_now, try_refused, look_held, look_free, ticket_left, taken_queue}
-use Rattle.spin_world_ticket.proofs.Operating.{fits_all, strong, operates}
+use Rattle.spin_world_ticket.proofs.Operating.{fits_all, strong, refuses, operates}
 
 abbrev pub point_of : TicketCall → TicketPoint → Option Hold → Point
 point_of Lock LoadNext None = looked 0
@@ -234,6 +234,7 @@ module _ {V : Type 0} (v : V) (first : ℕ) where
       record {
         fits = fits_all v first;
         weakly = strong v first;
+        refuses = refuses v first;
         operates = operates v first;
         first = two first first first (first - 0) refl (omega arith);
         shape_first = record { no_holders = refl; numbered = (omega arith, tt); in_range = λ some. absurd (cc (some)) };
