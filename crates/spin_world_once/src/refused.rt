@@ -5,7 +5,7 @@ ghost use Rattle.spin_world_core.specs.Runs.{KeepsAll, MomentsAll, CountsAll};
 ghost use Rattle.spin_world_core.specs.Values.{ValuesAll};
 ghost use Rattle.spin_world_once.specs.Once.{once_machine};
 ghost use Rattle.spin_world_once.specs.Keeping.{AnswersAtOnce};
-ghost use Rattle.spin_world_once.specs.Named.{IsOnce};
+ghost use Rattle.spin_world_once.specs.Named.{IsOnceOf};
 ghost use Rattle.spin_world_once.specs.Wrong.{runs_on, six_steps, waits_idly, one_wait, always_fails, never_gets, loses_by_chance, a_look_and_chance, opens_at_nothing, replaces, two_closures, sticks, sticks_silently, one_failure, gets_early, get_beside_a_closure, polls_early, poll_beside_a_closure, tells_another, places_another, one_closure};
 
 /// A second closure whose value replaces the first: it is no value that a closure which completes has placed.
@@ -55,12 +55,12 @@ pub fn a_wait_answers_what_it_sees<V: Copy>()
 
 /// A `try_call_once` that fails whatever its closure gives, and is right otherwise.
 pub fn a_try_call_once_runs_its_closure<V: Copy>()
-    ensures { (v : V) → IsOnce None (always_fails V) → ⊥ }
+    ensures { (v : V) → IsOnceOf None (always_fails V) → ⊥ }
 {}
 
 /// A cell that has lost the value that it was made with, and is right otherwise.
 pub fn an_initialized_cell_has_its_value<V: Copy>()
-    ensures { (v : V) → IsOnce (Some v) (once_machine None) → ⊥ }
+    ensures { (v : V) → IsOnceOf (Some v) (once_machine None) → ⊥ }
 {}
 
 /// A `get` that begins nowhere.
