@@ -1,3 +1,3 @@
 pub mod Owed
 pub mod Keeping
-pub mod Failing
+pub mod Closures

@@ -138,6 +138,17 @@ beginning m c h = m.begin c h
 abbrev pub never_gets : (V : Type 0) → OnceMachine V
 never_gets V = let m : OnceMachine V = once_machine None in record m { begin = beginning m }
 
+-- a `call_once` that begins by its exchange
+abbrev trying : {V : Type 0} → OnceMachine V → OnceCall V → Option Hold → Option OncePoint
+trying m (CallOnce v) None = Some TryBegin
+trying m c h = m.begin c h
+
+abbrev pub never_looks : (V : Type 0) → OnceMachine V
+never_looks V = let m : OnceMachine V = once_machine None in record m { begin = trying m }
+
+abbrev pub one_call : {V : Type 0} → V → Entries V
+one_call v = (0, Begin (CallOnce v)) ∷ []
+
 -- an exchange that may lose without cause
 abbrev losing : {V : Type 0} → OnceCall V → OncePoint → Option Hold → Option (Next OncePoint (Answer V))
 losing (CallOnce v) TryBegin h = Some (GoesOn Await)

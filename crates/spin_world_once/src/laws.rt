@@ -1,7 +1,7 @@
 //! Laws of a `Once`. Each is the contract of a function that does nothing.
 ghost use Rattle.std.specs.Prelude.{ℕ};
 ghost use Rattle.spin_world_once.specs.declared.once.OnceObject.{OnceObject};
-ghost use Rattle.spin_world_once.specs.Keeping.{Entries, ValueStays, OneRuns, AnswersAtOnce, GetAgrees, MayRunAgain};
+ghost use Rattle.spin_world_once.specs.Keeping.{Entries, ValueStays, OneRuns, AnswersAtOnce, GetAgrees, MayRunAgain, LooksFirst};
 ghost use Rattle.spin_world_once.specs.Named.{IsOnceOf};
 
 use crate::once::OnceObject;
@@ -35,4 +35,9 @@ pub fn a_later_get_agrees<V: Copy>()
 /// After a closure that failed a later one may run.
 pub fn a_later_closure_may_run<V: Copy>()
     ensures { (object : OnceObject V) (n : ℕ) (past : Entries V) → MayRunAgain (⟦<OnceObject<V> as Object>⟧.machine object) n past }
+{}
+
+/// A call begins to run its closure only by the step after a look: it never spins on its exchange.
+pub fn a_closure_begins_after_a_look<V: Copy>()
+    ensures { (object : OnceObject V) (n : ℕ) (past : Entries V) → LooksFirst (⟦<OnceObject<V> as Object>⟧.machine object) n past }
 {}

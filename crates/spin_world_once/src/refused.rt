@@ -4,9 +4,9 @@ ghost use Rattle.spin_world_core.specs.Operations.{Stepwise};
 ghost use Rattle.spin_world_core.specs.Runs.{KeepsAll, MomentsAll, CountsAll};
 ghost use Rattle.spin_world_core.specs.Values.{ValuesAll};
 ghost use Rattle.spin_world_once.specs.Once.{once_machine};
-ghost use Rattle.spin_world_once.specs.Keeping.{AnswersAtOnce};
+ghost use Rattle.spin_world_once.specs.Keeping.{AnswersAtOnce, LooksFirst};
 ghost use Rattle.spin_world_once.specs.Named.{IsOnceOf};
-ghost use Rattle.spin_world_once.specs.Wrong.{runs_on, six_steps, waits_idly, one_wait, always_fails, never_gets, loses_by_chance, a_look_and_chance, opens_at_nothing, replaces, two_closures, sticks, sticks_silently, one_failure, gets_early, get_beside_a_closure, polls_early, poll_beside_a_closure, tells_another, places_another, one_closure};
+ghost use Rattle.spin_world_once.specs.Wrong.{runs_on, six_steps, waits_idly, one_wait, always_fails, never_gets, never_looks, one_call, loses_by_chance, a_look_and_chance, opens_at_nothing, replaces, two_closures, sticks, sticks_silently, one_failure, gets_early, get_beside_a_closure, polls_early, poll_beside_a_closure, tells_another, places_another, one_closure};
 
 /// A second closure whose value replaces the first: it is no value that a closure which completes has placed.
 pub fn a_second_closure_does_not_run<V: Copy>()
@@ -66,6 +66,11 @@ pub fn an_initialized_cell_has_its_value<V: Copy>()
 /// A `get` that begins nowhere.
 pub fn a_get_begins<V: Copy>()
     ensures { Stepwise (never_gets V) → ⊥ }
+{}
+
+/// A `call_once` that begins by its exchange.
+pub fn a_call_once_looks_first<V: Copy>()
+    ensures { (v : V) → LooksFirst (never_looks V) 1 (one_call v) → ⊥ }
 {}
 
 /// A `call_once` that loses its exchange without cause.

@@ -1,4 +1,4 @@
-use Rattle.spin_world_once.proofs.Failing.{a_later_closure_may_run}
+use Rattle.spin_world_once.proofs.Closures.{a_later_closure_may_run}
 use Rattle.spin_world_once.proofs.laws.a_later_closure_may_run.Goals as goal
 
 pub returns : goal.returns
