@@ -1,7 +1,7 @@
 //! Laws of a `Once`. Each is the contract of a function that does nothing.
 ghost use Rattle.std.specs.Prelude.{ℕ};
 ghost use Rattle.spin_world_once.specs.declared.once.OnceObject.{OnceObject};
-ghost use Rattle.spin_world_once.specs.Keeping.{Entries, ValueStays, OneRuns, AnswersAtOnce, GetAgrees, MayRunAgain, LooksFirst};
+ghost use Rattle.spin_world_once.specs.Keeping.{Entries, ValueStays, OneRuns, AnswersAtOnce, GetAgrees, MayRunAgain, LooksFirst, LooksWhereComplete};
 ghost use Rattle.spin_world_once.specs.Named.{IsOnceOf};
 
 use crate::once::OnceObject;
@@ -40,4 +40,9 @@ pub fn a_later_closure_may_run<V: Copy>()
 /// A call begins to run its closure only by the step after a look: it never spins on its exchange.
 pub fn a_closure_begins_after_a_look<V: Copy>()
     ensures { (object : OnceObject V) (n : ℕ) (past : Entries V) → LooksFirst (⟦<OnceObject<V> as Object>⟧.machine object) n past }
+{}
+
+/// No step looks at the value where the word does not say that there is one: a closure may be writing it then.
+pub fn a_value_is_looked_at_where_it_is_complete<V: Copy>()
+    ensures { (object : OnceObject V) → LooksWhereComplete (⟦<OnceObject<V> as Object>⟧.machine object) }
 {}

@@ -4,9 +4,9 @@ ghost use Rattle.spin_world_core.specs.Operations.{Stepwise};
 ghost use Rattle.spin_world_core.specs.Runs.{KeepsAll, MomentsAll, CountsAll};
 ghost use Rattle.spin_world_core.specs.Values.{ValuesAll};
 ghost use Rattle.spin_world_once.specs.Once.{once_machine};
-ghost use Rattle.spin_world_once.specs.Keeping.{AnswersAtOnce, LooksFirst};
+ghost use Rattle.spin_world_once.specs.Keeping.{AnswersAtOnce, LooksFirst, LooksWhereComplete};
 ghost use Rattle.spin_world_once.specs.Named.{IsOnceOf};
-ghost use Rattle.spin_world_once.specs.Wrong.{runs_on, six_steps, waits_idly, one_wait, always_fails, never_gets, never_looks, one_call, loses_by_chance, a_look_and_chance, opens_at_nothing, replaces, two_closures, sticks, sticks_silently, one_failure, gets_early, get_beside_a_closure, polls_early, poll_beside_a_closure, tells_another, places_another, one_closure};
+ghost use Rattle.spin_world_once.specs.Wrong.{peeks, runs_on, six_steps, waits_idly, one_wait, always_fails, never_gets, never_looks, one_call, loses_by_chance, a_look_and_chance, opens_at_nothing, replaces, two_closures, sticks, sticks_silently, one_failure, gets_early, get_beside_a_closure, polls_early, poll_beside_a_closure, tells_another, places_another, one_closure};
 
 /// A second closure whose value replaces the first: it is no value that a closure which completes has placed.
 pub fn a_second_closure_does_not_run<V: Copy>()
@@ -26,6 +26,11 @@ pub fn a_failure_clears_the_word<V: Copy>()
 /// A `get` that answers a value beside a running closure: at no moment of it is there one.
 pub fn a_get_finds_a_value<V: Copy>()
     ensures { (v : V) → MomentsAll (gets_early v) 2 (get_beside_a_closure v) → ⊥ }
+{}
+
+/// A `get` that looks at the value without the word. No schedule shows it; a closure may be writing the value.
+pub fn a_get_looks_at_the_word<V: Copy>()
+    ensures { (v : V) → LooksWhereComplete (peeks V) → ⊥ }
 {}
 
 /// A `poll` that answers none while a closure runs.
