@@ -4,8 +4,8 @@
 #![tactic(auto)]
 
 pub use spin_world_barrier::{
-    BarrierCall, BarrierObject, BarrierPoint, BarrierWords, a_follower_waits_for_its_leader,
-    every_last_of_a_group_leads, the_first_of_a_group_follows,
+    BarrierCall, BarrierObject, BarrierPoint, BarrierWords, a_barrier_is_what_its_call_asks,
+    a_follower_leaves_a_full_group, every_last_of_a_group_leads,
 };
 pub use spin_world_core::{
     Answer, Event, Hold, Move, Next, Object, Outcome, Place, Seat, Stepped, Transcript, World,
@@ -20,10 +20,9 @@ pub use spin_world_flag::{
     a_look_has_a_cause, a_strong_try_has_a_cause,
 };
 pub use spin_world_once::{
-    OnceCall, OnceObject, OncePoint, a_failure_clears_the_word, a_failure_lets_go,
-    a_get_finds_a_value, a_later_closure_may_run, a_later_get_agrees, a_poll_waits_for_the_closure,
-    a_second_closure_does_not_run, a_value_is_the_closures_own, a_value_stays,
-    an_answer_is_the_value_placed, one_closure_runs_at_a_time,
+    OnceCall, OnceObject, OncePoint, a_closure_begins_after_a_look, a_later_closure_may_run,
+    a_later_get_agrees, a_once_is_what_its_calls_ask, a_value_is_answered_at_once,
+    a_value_is_looked_at_where_it_is_complete, a_value_stays, one_closure_runs_at_a_time,
 };
 pub use spin_world_rw::{
     Rw, RwCall, RwPoint, a_downgrade_keeps_writers_out, a_read_write_lock_is_what_its_calls_ask,

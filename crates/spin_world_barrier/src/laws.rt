@@ -1,7 +1,6 @@
 //! Laws of the barrier. Each is the contract of a function that does nothing.
 ghost use Rattle.std.specs.Prelude.{ℕ, List};
 ghost use Rattle.spin_world_barrier.specs.declared.barrier.BarrierObject.{BarrierObject};
-ghost use Rattle.spin_world_barrier.specs.Barrier.{barrier_machine};
 ghost use Rattle.spin_world_barrier.specs.Groups.{Entries, InGroups, FollowersLeave};
 ghost use Rattle.spin_world_barrier.specs.Named.{IsBarrierOf};
 
@@ -15,10 +14,10 @@ pub fn a_barrier_is_what_its_call_asks()
 
 /// Exactly every `n`-th arrival leads, and is told so as it arrives; the words count the arrivals in groups of `n`.
 pub fn every_last_of_a_group_leads()
-    ensures { (n parties : ℕ) (past : Entries) → InGroups (barrier_machine n) n parties past }
+    ensures { (object : BarrierObject) (parties : ℕ) (past : Entries) → InGroups (⟦<BarrierObject as Object>⟧.machine object) object.n parties past }
 {}
 
 /// Whoever follows goes on by its first step after its group is full, however many have arrived since.
 pub fn a_follower_leaves_a_full_group()
-    ensures { (n parties : ℕ) (past : Entries) → FollowersLeave (barrier_machine n) parties past }
+    ensures { (object : BarrierObject) (parties : ℕ) (past : Entries) → FollowersLeave (⟦<BarrierObject as Object>⟧.machine object) parties past }
 {}

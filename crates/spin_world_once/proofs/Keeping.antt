@@ -61,7 +61,7 @@ module _ {V : Type 0} (value : Option V) where
   abbrev Good : OnceSeen V → Type 0
   Good seen = Invariant m (once_keeping value) seen
 
-  good : (n : ℕ) (past : Entries V) → Good (seen_at m n past)
+  pub good : (n : ℕ) (past : Entries V) → Good (seen_at m n past)
   good n past = good_after m (once_keeping value) (once_facts value) (opening m n) past (good_first m (once_keeping value) (once_facts value) n)
 
   -- what an event leaves as the value last written, where there is one

@@ -1,3 +1,4 @@
 pub mod Owed
 pub mod Keeping
-pub mod Failing
+pub mod Closures
+pub mod Unread

@@ -1,6 +1,6 @@
 -- What the table of a `Once` owes.
 use Rattle.std.proofs.Common.{◌≡◌, ℕ, ◌==◌, Bool, true, false, not, ◌&&◌, ◌||◌, is_some, Option, Some, None, List, [], ◌∷◌, if◌then◌else◌, filter, refl, ap, ◌∙◌, subst, inl, inr}
-use Rattle.std.proofs.lemmas.Bool.{false≢true, eq-eqb}
+use Rattle.std.proofs.lemmas.Bool.{false≢true, eq-eqb, ne_eqb}
 use Rattle.spin_step.specs.Plain.{Plain, writing, same_kind, Phase, nothing, running, complete, Holder, Ticket as Queued, to_begin, Change, gets, completes, fails, apply, is_running, is_nothing, is_complete, is_empty, once_word}
 use Rattle.std.specs.List.{list_any}
 use Rattle.spin_step.specs.Parties.{apply_some, IsOpenStep, entries, is_held}
@@ -14,13 +14,14 @@ use Rattle.spin_world_once.specs.declared.once.OnceCall.{OnceCall}
 use Rattle.spin_world_once.specs.declared.once.OnceCall.TheVariants.{CallOnce, TryCallOnceOk, TryCallOnceErr, InitFromRef, Wait, Poll, Get, IsCompleted}
 use Rattle.spin_world_once.specs.declared.once.OncePoint.{OncePoint}
 use Rattle.spin_world_once.specs.declared.once.OncePoint.TheVariants.{Look, TryBegin, Await, Run}
-use Rattle.spin_world_core.specs.Manners.{Manner, plain, look}
+use Rattle.spin_world_core.specs.Manners.{Manner, plain, look, is_look}
 use Rattle.spin_world_core.specs.Calls.{once, Asked, initializes, fails_to_initialize, Mark, Said, gives_value, failed, is_weak_try}
 use Rattle.spin_world_core.specs.Operations.{Operation, loads, exchanges, stores, performed}
 use Rattle.spin_world_core.specs.Acts.{Act, either, becomes, made_if, step_by, can_by}
 use Rattle.spin_world_core.specs.Machines.{opening_phase, opening_plain}
-use Rattle.spin_world_core.specs.Runs.{is_writer}
+use Rattle.spin_world_core.specs.Runs.{is_writer, mark_of}
 use Rattle.spin_world_once.specs.Once.{opening_word, begins_at, begin, is_there, tells, runs, ends, OnceAct, act_of, asks_of, brings_of, once_table, once_machine}
+use Rattle.spin_world_once.specs.Keeping.{has_just_looked}
 use Rattle.spin_world_core.proofs.Facts.{LocalInvariant, Facts}
 use Rattle.spin_world_core.proofs.Stands.{absent}
 use Rattle.spin_world_core.proofs.Rows.{Turn, goes, misses, Row, Point, nowhere, looked, onward, SoundAt}
@@ -47,24 +48,25 @@ point_of Get Look None = looked 0
 point_of IsCompleted Look None = looked 0
 point_of _ _ _ = nowhere
 
--- whoever runs its closure knows that it does
-abbrev pub RunsAt : OncePoint → ℕ → Plain → Type 0
-RunsAt Run p s = s.phase ≡ running p
-RunsAt l p s = Unit {0}
+-- whoever tries to run its closure has just looked, and whoever runs it knows that it does
+abbrev pub RunsAt : OncePoint → ℕ → Plain → List Mark → Type 0
+RunsAt TryBegin p s span = has_just_looked p span ≡ true
+RunsAt Run p s span = s.phase ≡ running p
+RunsAt l p s span = Unit {0}
 
-abbrev pub KnowsAt : {V : Type 0} → OnceCall V → OncePoint → ℕ → Plain → Type 0
-KnowsAt (CallOnce v) l p s = RunsAt l p s
-KnowsAt (TryCallOnceOk v) l p s = RunsAt l p s
-KnowsAt TryCallOnceErr l p s = RunsAt l p s
-KnowsAt (InitFromRef v) l p s = RunsAt l p s
-KnowsAt c l p s = Unit {0}
+abbrev pub KnowsAt : {V : Type 0} → OnceCall V → OncePoint → ℕ → Plain → List Mark → Type 0
+KnowsAt (CallOnce v) l p s span = RunsAt l p s span
+KnowsAt (TryCallOnceOk v) l p s span = RunsAt l p s span
+KnowsAt TryCallOnceErr l p s span = RunsAt l p s span
+KnowsAt (InitFromRef v) l p s span = RunsAt l p s span
+KnowsAt c l p s span = Unit {0}
 
 -- nobody ever holds it or queues
 abbrev pub IsFree : Plain → Type 0
 IsFree s = (s.holders ≡ []) × (s.tickets ≡ [])
 
 abbrev pub once_notes : {V : Type 0} (value : Option V) → Notes (once_table value)
-once_notes value = record { Shape = λ s. IsFree s; point = point_of; Knows = λ c l h p s span. KnowsAt c l p s }
+once_notes value = record { Shape = λ s. IsFree s; point = point_of; Knows = λ c l h p s span. KnowsAt c l p s span }
 
 word_is : (s : Plain) (w : ℕ) → w ∷ [] ≡ once_word s ∷ [] → phase_word s.phase ≡ w
 word_is s w e = cc (e)
@@ -72,6 +74,9 @@ word_is s w e = cc (e)
 -- the word is 2: there is a value
 is_made : (s : Plain) (w : ℕ) → w ∷ [] ≡ once_word s ∷ [] → is_there w ≡ true → is_complete s.phase ≡ true
 is_made s w encodes e = complete-word s.phase w (word_is s w encodes) ∙ e
+
+looks_now : (p : ℕ) (s : Plain) (span : List Mark) → has_just_looked p (mark_of p None look s ∷ span) ≡ true
+looks_now p s span = ap (λ b. if b then true else has_just_looked p span) (eq-eqb p p refl)
 
 module _ {V : Type 0} (value : Option V) where
   abbrev IsMeant : ℕ → Plain → Change → Option ℕ → Type 0
@@ -103,11 +108,11 @@ module _ {V : Type 0} (value : Option V) where
 
   -- a call whose closure gives a value
   gives_owes : (p : ℕ) (x : V) (l : OncePoint) (h : Option Hold) (s : Plain) (w : ℕ) (span : List Mark) → OwesAt (once_table value) (once_notes value) p (CallOnce x) l h s w span
-  gives_owes p x Look None s w span = λ at. ((λ e. (refl, inr (inl refl), inl (inl (made p at e)))), (λ e. (refl, refl, tt, tt, tt)))
+  gives_owes p x Look None s w span = λ at. ((λ e. (refl, inr (inl refl), inl (inl (made p at e)))), (λ e. (refl, refl, tt, tt, looks_now p s span)))
   gives_owes p x TryBegin None s w span = λ at.
       (begin_means p at, (refl, refl, tt, tt, refl), λ closed. branches p at plain (misses (gets p to_begin)) (is_there w) (tells None) (GoesOn Await) (λ e. (refl, inr (inl refl), inl (inl (made p at e)))) (λ e. (refl, refl, tt, tt, tt)))
   gives_owes p x Await None s w span = λ at.
-      ((λ e. (refl, inr (inl refl), inl (inl (made p at e)))), (λ e. branches p at look goes (w == 0) (GoesOn TryBegin) (GoesOn Await) (λ f. (refl, refl, tt, tt, tt)) (λ f. (refl, refl, tt, tt, tt))))
+      ((λ e. (refl, inr (inl refl), inl (inl (made p at e)))), (λ e. branches p at look goes (w == 0) (GoesOn TryBegin) (GoesOn Await) (λ f. (refl, refl, tt, tt, looks_now p s span)) (λ f. (refl, refl, tt, tt, tt))))
   gives_owes p x Run None s w span = λ at. let is = end_means p at 2 (completes p) at.knows (refl, may_end p at at.knows) refl at.shape in (is.0, is.1, (refl, inl refl, inl (inr (refl, refl))))
   gives_owes p x _ (Some h) s w span = tt
 
@@ -115,11 +120,11 @@ module _ {V : Type 0} (value : Option V) where
   owes p (CallOnce x) l h s w span = gives_owes p x l h s w span
   owes p (TryCallOnceOk x) l h s w span = gives_owes p x l h s w span
   owes p (InitFromRef x) l h s w span = gives_owes p x l h s w span
-  owes p TryCallOnceErr Look None s w span = λ at. ((λ e. (refl, inl refl, inl (inl (made p at e)))), (λ e. (refl, refl, tt, tt, tt)))
+  owes p TryCallOnceErr Look None s w span = λ at. ((λ e. (refl, inl refl, inl (inl (made p at e)))), (λ e. (refl, refl, tt, tt, looks_now p s span)))
   owes p TryCallOnceErr TryBegin None s w span = λ at.
       (begin_means p at, (refl, refl, tt, tt, refl), λ closed. branches p at plain (misses (gets p to_begin)) (is_there w) (tells None) (GoesOn Await) (λ e. (refl, inl refl, inl (inl (made p at e)))) (λ e. (refl, refl, tt, tt, tt)))
   owes p TryCallOnceErr Await None s w span = λ at.
-      ((λ e. (refl, inl refl, inl (inl (made p at e)))), (λ e. branches p at look goes (w == 0) (GoesOn TryBegin) (GoesOn Await) (λ f. (refl, refl, tt, tt, tt)) (λ f. (refl, refl, tt, tt, tt))))
+      ((λ e. (refl, inl refl, inl (inl (made p at e)))), (λ e. branches p at look goes (w == 0) (GoesOn TryBegin) (GoesOn Await) (λ f. (refl, refl, tt, tt, looks_now p s span)) (λ f. (refl, refl, tt, tt, tt))))
   owes p TryCallOnceErr Run None s w span = λ at. let is = end_means p at 0 (fails p) at.knows (refl, may_end p at at.knows) refl at.shape in (is.0, is.1, (refl, inl refl, inl (refl, refl)))
   owes p Wait Look None s w span = λ at. ((λ e. (refl, inl refl, inl (inl (made p at e)))), (λ e. (refl, refl, tt, tt, tt)))
   owes p Poll Look None s w span = λ at. (
@@ -302,16 +307,22 @@ module _ {V : Type 0} (value : Option V) where
   sound p IsCompleted Look None = refl
   sound p _ _ _ = tt
 
-  runs-on : (p q : ℕ) (l : OncePoint) (s : Plain) (step : Option Change) → (q ≡ p → ⊥) → IsOpenStep s q step → RunsAt l p s → RunsAt l p (apply_some s step)
-  runs-on p q Run s step ne may runs = runs-others s p q step ne may runs
-  runs-on p q _ s step ne may runs = tt
+  module _ (p q : ℕ) (s : Plain) (step : Option Change) (r : Manner) (span : List Mark) (ne : q ≡ p → ⊥) (may : IsOpenStep s q step) where
+    runs-on : (l : OncePoint) → RunsAt l p s span → RunsAt l p (apply_some s step) (mark_of q step r s ∷ span)
+    runs-on TryBegin has = ap (λ b. if b then is_look r else has_just_looked p span) (ne_eqb q p ne) ∙ has
+    runs-on Run runs = runs-others s p q step ne may runs
+    runs-on Look knows = tt
+    runs-on Await knows = tt
 
-  others : (p q : ℕ) (c : OnceCall V) (l : OncePoint) (s : Plain) (step : Option Change) → (q ≡ p → ⊥) → IsOpenStep s q step → KnowsAt c l p s → KnowsAt c l p (apply_some s step)
-  others p q (CallOnce x) l s step ne may knows = runs-on p q l s step ne may knows
-  others p q (TryCallOnceOk x) l s step ne may knows = runs-on p q l s step ne may knows
-  others p q TryCallOnceErr l s step ne may knows = runs-on p q l s step ne may knows
-  others p q (InitFromRef x) l s step ne may knows = runs-on p q l s step ne may knows
-  others p q _ l s step ne may knows = tt
+    others : (c : OnceCall V) (l : OncePoint) → KnowsAt c l p s span → KnowsAt c l p (apply_some s step) (mark_of q step r s ∷ span)
+    others (CallOnce x) l knows = runs-on l knows
+    others (TryCallOnceOk x) l knows = runs-on l knows
+    others TryCallOnceErr l knows = runs-on l knows
+    others (InitFromRef x) l knows = runs-on l knows
+    others Wait l knows = tt
+    others Poll l knows = tt
+    others Get l knows = tt
+    others IsCompleted l knows = tt
 
   first_word : (opening : Option V) → opening_word opening ∷ [] ≡ once_word (opening_plain (once_machine opening)) ∷ []
   first_word None = refl
@@ -347,7 +358,7 @@ module _ {V : Type 0} (value : Option V) where
         completes_right = completes_right;
         sound = sound;
         begins = begins;
-        others = λ p q c l h s step r span ne free may belongs knows. others p q c l s step ne may knows;
+        others = λ p q c l h s step r span ne free may belongs knows. others p q s step r span ne may c l knows;
         owes = owes;
         tells = tells_at;
         soon = soon;

@@ -1,5 +1,5 @@
 -- What users of a `Once` rely on.
-use Rattle.std.specs.Prelude.{◌≡◌, ℕ, ◌⊎◌, Bool, true, false, ◌&&◌, Option, Some, None, is_some, List, [], ◌∷◌, ◌++◌, slice_get}
+use Rattle.std.specs.Prelude.{◌≡◌, ℕ, ◌⊎◌, Bool, true, false, ◌&&◌, Option, Some, None, is_some, List, [], ◌∷◌, ◌++◌, ◌==◌, if◌then◌else◌, slice_get}
 use Rattle.spin_step.specs.Plain.{to_begin, gets, is_complete}
 use Rattle.spin_world_core.specs.declared.answer.Answer.{Answer}
 use Rattle.spin_world_core.specs.declared.answer.Answer.TheVariants.{Value, NoValue, Failed}
@@ -11,9 +11,10 @@ use Rattle.spin_world_core.specs.declared.schedule.Outcome.TheVariants.{Answered
 use Rattle.spin_world_once.specs.declared.once.OnceCall.{OnceCall}
 use Rattle.spin_world_once.specs.declared.once.OnceCall.TheVariants.{Get}
 use Rattle.spin_world_once.specs.declared.once.OncePoint.{OncePoint}
-use Rattle.spin_world_core.specs.Calls.{Asked, initializes, fails_to_initialize, waits_for_value, polls, looks_for_value}
+use Rattle.spin_world_core.specs.Calls.{Mark, Asked, initializes, fails_to_initialize, waits_for_value, polls, looks_for_value}
+use Rattle.spin_world_core.specs.Manners.{is_look}
 use Rattle.spin_world_core.specs.Schedules.{State, after, at_first}
-use Rattle.spin_world_core.specs.Runs.{Seen, opening, own}
+use Rattle.spin_world_core.specs.Runs.{Seen, scene, opening, own}
 use Rattle.spin_world_core.specs.Users.{seen_after, outcome_after}
 use Rattle.spin_world_once.specs.Once.{OnceMachine}
 
@@ -94,3 +95,16 @@ pub record MayRunAgain {V : Type 0} (m : OnceMachine V) (n : ℕ) (past : Entrie
   pub clears : (p : ℕ) → outcome_after m n past p Step ≡ Answered Failed None → (once_after m n (past ++ (p, Step) ∷ [])).words ≡ 0
   pub begins : (p : ℕ) (c : OnceCall V) (l : OncePoint) (h : Option Hold) → (once_after m n past).words ≡ 0 → slice_get (once_after m n past).seats p ≡ Some (Calling c l h) → has_closure (m.asks c h) ≡ true
       → RunsClosure m n (past ++ (p, Step) ∷ []) p ⊎ RunsClosure m n (past ++ (p, Step) ∷ (p, Step) ∷ []) p
+
+-- the last step of the party's call, if it has made one, was a look
+abbrev pub has_just_looked : ℕ → List Mark → Bool
+has_just_looked p [] = false
+has_just_looked p (m ∷ ms) = if m.party == p then is_look m.manner else has_just_looked p ms
+
+-- a call begins to run its closure only by the step after a look
+abbrev pub LooksFirst : {V : Type 0} → OnceMachine V → ℕ → Entries V → Type 0
+LooksFirst m n past = (p : ℕ) → (scene m (seen_at m n past) p Step).change ≡ Some (gets p to_begin) → has_just_looked p ((seen_at m n past).span p) ≡ true
+
+-- while the word does not say that there is a value, a closure may be writing it: what a step comes to does not depend on what lies there
+abbrev pub LooksWhereComplete : {V : Type 0} → OnceMachine V → Type 0
+LooksWhereComplete {V} m = (w : ℕ) (u v : Option V) (c : OnceCall V) (l : OncePoint) (h : Option Hold) → (w ≡ 2 → ⊥) → m.step w u c l h ≡ m.step w v c l h

@@ -10,7 +10,7 @@ use Rattle.spin_world_core.specs.Acts.{gives_of}
 use Rattle.spin_world_once.specs.Once.{OnceMachine}
 
 -- it is made with this value, or with none
-pub record IsOnce {V : Type 0} (given : Option V) (m : OnceMachine V) : Type 0 where
+pub record IsOnceOf {V : Type 0} (given : Option V) (m : OnceMachine V) : Type 0 where
   pub coding : m.coding ≡ once
   pub value : m.value ≡ given
   pub opens_empty : given ≡ None → (m.words ≡ 0) × ((opening_plain m).phase ≡ nothing)

@@ -63,6 +63,15 @@ gets_early v = stepping (getting v)
 abbrev pub get_beside_a_closure : {V : Type 0} → V → Entries V
 get_beside_a_closure v = (0, Begin (CallOnce v)) ∷ (0, Step) ∷ (0, Step) ∷ (1, Begin Get) ∷ (1, Step) ∷ []
 
+-- a `get` that looks at the value without the word
+abbrev peeking : {V : Type 0} → OnceMachine V → Steps V
+peeking m w (Some v) Get l h = record { words = w; placed = None; next = Answers (Value v) h }
+peeking m w None Get l h = record { words = w; placed = None; next = Answers NoValue h }
+peeking m w value c l h = m.step w value c l h
+
+abbrev pub peeks : (V : Type 0) → OnceMachine V
+peeks V = stepping peeking
+
 -- a `poll` that never waits
 abbrev polling : {V : Type 0} → OnceMachine V → Steps V
 polling m w None Poll Look h = record { words = w; placed = None; next = Answers NoValue h }
@@ -137,6 +146,17 @@ beginning m c h = m.begin c h
 
 abbrev pub never_gets : (V : Type 0) → OnceMachine V
 never_gets V = let m : OnceMachine V = once_machine None in record m { begin = beginning m }
+
+-- a `call_once` that begins by its exchange
+abbrev trying : {V : Type 0} → OnceMachine V → OnceCall V → Option Hold → Option OncePoint
+trying m (CallOnce v) None = Some TryBegin
+trying m c h = m.begin c h
+
+abbrev pub never_looks : (V : Type 0) → OnceMachine V
+never_looks V = let m : OnceMachine V = once_machine None in record m { begin = trying m }
+
+abbrev pub one_call : {V : Type 0} → V → Entries V
+one_call v = (0, Begin (CallOnce v)) ∷ []
 
 -- an exchange that may lose without cause
 abbrev losing : {V : Type 0} → OnceCall V → OncePoint → Option Hold → Option (Next OncePoint (Answer V))

@@ -4,9 +4,9 @@ ghost use Rattle.spin_world_core.specs.Operations.{Stepwise};
 ghost use Rattle.spin_world_core.specs.Runs.{KeepsAll, MomentsAll, CountsAll};
 ghost use Rattle.spin_world_core.specs.Values.{ValuesAll};
 ghost use Rattle.spin_world_once.specs.Once.{once_machine};
-ghost use Rattle.spin_world_once.specs.Keeping.{AnswersAtOnce};
-ghost use Rattle.spin_world_once.specs.Named.{IsOnce};
-ghost use Rattle.spin_world_once.specs.Wrong.{runs_on, six_steps, waits_idly, one_wait, always_fails, never_gets, loses_by_chance, a_look_and_chance, opens_at_nothing, replaces, two_closures, sticks, sticks_silently, one_failure, gets_early, get_beside_a_closure, polls_early, poll_beside_a_closure, tells_another, places_another, one_closure};
+ghost use Rattle.spin_world_once.specs.Keeping.{AnswersAtOnce, LooksFirst, LooksWhereComplete};
+ghost use Rattle.spin_world_once.specs.Named.{IsOnceOf};
+ghost use Rattle.spin_world_once.specs.Wrong.{peeks, runs_on, six_steps, waits_idly, one_wait, always_fails, never_gets, never_looks, one_call, loses_by_chance, a_look_and_chance, opens_at_nothing, replaces, two_closures, sticks, sticks_silently, one_failure, gets_early, get_beside_a_closure, polls_early, poll_beside_a_closure, tells_another, places_another, one_closure};
 
 /// A second closure whose value replaces the first: it is no value that a closure which completes has placed.
 pub fn a_second_closure_does_not_run<V: Copy>()
@@ -26,6 +26,11 @@ pub fn a_failure_clears_the_word<V: Copy>()
 /// A `get` that answers a value beside a running closure: at no moment of it is there one.
 pub fn a_get_finds_a_value<V: Copy>()
     ensures { (v : V) → MomentsAll (gets_early v) 2 (get_beside_a_closure v) → ⊥ }
+{}
+
+/// A `get` that looks at the value without the word. No schedule shows it; a closure may be writing the value.
+pub fn a_get_looks_at_the_word<V: Copy>()
+    ensures { (v : V) → LooksWhereComplete (peeks V) → ⊥ }
 {}
 
 /// A `poll` that answers none while a closure runs.
@@ -55,17 +60,22 @@ pub fn a_wait_answers_what_it_sees<V: Copy>()
 
 /// A `try_call_once` that fails whatever its closure gives, and is right otherwise.
 pub fn a_try_call_once_runs_its_closure<V: Copy>()
-    ensures { (v : V) → IsOnce None (always_fails V) → ⊥ }
+    ensures { (v : V) → IsOnceOf None (always_fails V) → ⊥ }
 {}
 
 /// A cell that has lost the value that it was made with, and is right otherwise.
 pub fn an_initialized_cell_has_its_value<V: Copy>()
-    ensures { (v : V) → IsOnce (Some v) (once_machine None) → ⊥ }
+    ensures { (v : V) → IsOnceOf (Some v) (once_machine None) → ⊥ }
 {}
 
 /// A `get` that begins nowhere.
 pub fn a_get_begins<V: Copy>()
     ensures { Stepwise (never_gets V) → ⊥ }
+{}
+
+/// A `call_once` that begins by its exchange.
+pub fn a_call_once_looks_first<V: Copy>()
+    ensures { (v : V) → LooksFirst (never_looks V) 1 (one_call v) → ⊥ }
 {}
 
 /// A `call_once` that loses its exchange without cause.

@@ -2,4 +2,4 @@ use Rattle.spin_world_once.proofs.Keeping.{a_value_stays}
 use Rattle.spin_world_once.proofs.laws.a_value_stays.Goals as goal
 
 pub returns : goal.returns
-returns g c = λ value n past. a_value_stays value n past
+returns g c = λ object n past. a_value_stays object.value n past

@@ -1,5 +1,5 @@
--- What users of a `Once` rely on after a closure that failed.
-use Rattle.std.proofs.Common.{◌≡◌, ℕ, ◌==◌, Bool, true, false, Option, Some, None, [], ◌∷◌, ◌++◌, slice_get, refl, ap, ◌∙◌, ◌⊎◌, inl, inr}
+-- What users of a `Once` rely on where closures begin, also after one that failed.
+use Rattle.std.proofs.Common.{◌≡◌, ℕ, ◌==◌, Bool, true, false, Option, Some, None, List, [], ◌∷◌, ◌++◌, slice_get, refl, ap, ◌∙◌, subst, ◌⊎◌, inl, inr}
 use Rattle.std.proofs.lemmas.Bool.{false≢true}
 use Rattle.spin_world_core.specs.declared.answer.Answer.{Answer}
 use Rattle.spin_world_core.specs.declared.answer.Answer.TheVariants.{NoValue, Failed}
@@ -11,17 +11,22 @@ use Rattle.spin_world_core.specs.declared.object.Next.TheVariants.{GoesOn, Answe
 use Rattle.spin_world_core.specs.declared.object.Stepped.{Stepped}
 use Rattle.spin_world_core.specs.declared.schedule.Move.TheVariants.{Step}
 use Rattle.spin_world_core.specs.declared.schedule.Outcome.TheVariants as outcome
-use Rattle.spin_world_core.specs.Acts.{either, becomes, filled, step_by, completes_by, step_with}
+use Rattle.spin_step.specs.Plain.{Plain, to_begin, gets}
+use Rattle.spin_world_core.specs.Runs.{Seen, step_at}
+use Rattle.spin_world_core.specs.Calls.{Mark}
+use Rattle.spin_world_core.specs.Acts.{change_by, either, becomes, filled, step_by, completes_by, step_with}
 use Rattle.spin_world_core.specs.Schedules.{happens, moves_at, goes_on, placed, stepped, after, at_first}
 use Rattle.spin_world_once.specs.declared.once.OnceCall.{OnceCall}
 use Rattle.spin_world_once.specs.declared.once.OnceCall.TheVariants.{CallOnce, TryCallOnceOk, TryCallOnceErr, InitFromRef, Wait, Poll, Get, IsCompleted}
 use Rattle.spin_world_once.specs.declared.once.OncePoint.{OncePoint}
 use Rattle.spin_world_once.specs.declared.once.OncePoint.TheVariants.{Look, TryBegin, Await, Run}
 use Rattle.spin_world_once.specs.Once.{begin, is_there, tells, runs, ends, OnceAct, asks_of, OnceMachine, once_machine}
-use Rattle.spin_world_once.specs.Keeping.{Entries, once_after, RunsClosure, has_closure, MayRunAgain}
+use Rattle.spin_world_once.specs.Keeping.{Entries, once_after, RunsClosure, seen_at, has_just_looked, has_closure, MayRunAgain, LooksFirst}
 use Rattle.spin_world_core.proofs.Lists.{get-set_same}
 use Rattle.spin_world_core.proofs.Schedules.{after-append}
-use Rattle.spin_world_once.proofs.Keeping.{OnceState, not_at_run, run_here}
+use Rattle.spin_world_core.proofs.Kept.{Invariant, in_call}
+use Rattle.spin_world_once.proofs.Owed.{once_keeping}
+use Rattle.spin_world_once.proofs.Keeping.{OnceState, good, not_at_run, run_here}
 
 module _ {V : Type 0} (value : Option V) where
   abbrev m : OnceMachine V
@@ -164,3 +169,42 @@ module _ {V : Type 0} (value : Option V) where
         clears = λ p is. ap (λ (s : OnceState V). s.words) (after-append m (at_first m n) past ((p, Step) ∷ [])) ∙ clears_seat now p (slice_get now.seats p) is;
         begins = λ p c l h zero at closure. runs_soon n past p c h zero closure l at;
       }
+
+  -- a closure begins by the exchange alone
+
+  run_begins : (end : OnceAct) (l : OncePoint) (h : Option Hold) (p w : ℕ) → (change_by (λ n. n) end p w ≡ Some (gets p to_begin) → ⊥) → change_by (λ n. n) (runs end l h) p w ≡ Some (gets p to_begin) → l ≡ TryBegin
+  run_begins end TryBegin h p w not e = refl
+  run_begins end Run h p w not e = absurd (not e)
+  run_begins end Look h p w not e = absurd (cc (e))
+  run_begins end Await h p w not e = absurd (cc (e))
+
+  begins_at : (c : OnceCall V) (l : OncePoint) (h : Option Hold) (p w : ℕ) → m.change p w c l h ≡ Some (gets p to_begin) → l ≡ TryBegin
+  begins_at (CallOnce x) l h p w e = run_begins (ends (Some x) h) l h p w (λ f. cc (f)) e
+  begins_at (TryCallOnceOk x) l h p w e = run_begins (ends (Some x) h) l h p w (λ f. cc (f)) e
+  begins_at TryCallOnceErr l h p w e = run_begins (ends {V = V} None h) l h p w (λ f. cc (f)) e
+  begins_at (InitFromRef x) l h p w e = run_begins (ends (Some x) h) l h p w (λ f. cc (f)) e
+  begins_at Wait l h p w e = absurd (cc (e))
+  begins_at Poll l h p w e = absurd (cc (e))
+  begins_at Get l h p w e = absurd (cc (e))
+  begins_at IsCompleted l h p w e = absurd (cc (e))
+
+  looked_at : (c : OnceCall V) (h : Option Hold) (p : ℕ) (s : Plain) (span : List Mark) → (once_keeping value).Knows c TryBegin h p s span → has_just_looked p span ≡ true
+  looked_at (CallOnce x) None p s span knows = knows.1
+  looked_at (TryCallOnceOk x) None p s span knows = knows.1
+  looked_at TryCallOnceErr None p s span knows = knows.1
+  looked_at (InitFromRef x) None p s span knows = knows.1
+  looked_at _ _ p s span knows = absurd knows
+
+  looks_at : (seen : Seen ℕ V (OnceCall V) OncePoint) (p : ℕ) (o : Option (Seat (OnceCall V) OncePoint)) → Invariant m (once_keeping value) seen → slice_get seen.state.seats p ≡ o → step_at m seen.state p Step o ≡ Some (gets p to_begin)
+      → has_just_looked p (seen.span p) ≡ true
+  looks_at seen p (Some (Calling c l h)) good there e =
+      let knows = (in_call m (once_keeping value) seen p c l h good there).knows in
+      looked_at c h p seen.plain (seen.span p) (subst (λ l. (once_keeping value).Knows c l h p seen.plain (seen.span p)) (begins_at c l h p seen.state.words e) knows)
+  looks_at seen p None good there e = absurd (cc (e))
+  looks_at seen p (Some Idle) good there e = absurd (cc (e))
+  looks_at seen p (Some (Holding h)) good there e = absurd (cc (e))
+  looks_at seen p (Some (Leaked h)) good there e = absurd (cc (e))
+  looks_at seen p (Some (Gone h)) good there e = absurd (cc (e))
+
+  pub looks_first : (n : ℕ) (past : Entries V) → LooksFirst m n past
+  looks_first n past = λ p e. looks_at (seen_at m n past) p (slice_get (seen_at m n past).state.seats p) (good value n past) refl e
