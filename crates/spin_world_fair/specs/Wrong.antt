@@ -153,7 +153,7 @@ loads_uncounted v = by_acts v 2 loading_acts
 -- `lock` counts each second look alone
 abbrev glancing_acts : {V : Type 0} → Acts V
 glancing_acts Lock (Look n) h = load_if is_set (λ w. either (nat_lt n 1) (GoesOn First) (GoesOn Load)) (λ w. GoesOn (Attempt n))
-glancing_acts Lock First h = load (λ w. either (is_set w) (GoesOn (Look 1)) (GoesOn (Attempt 1)))
+glancing_acts Lock First h = load (λ w. GoesOn (Look 1))
 glancing_acts c l h = act_of 2 1 c l h
 
 abbrev pub counts_each_second_look : {V : Type 0} → V → Machine ℕ V FairCall FairPoint (Answer V)
