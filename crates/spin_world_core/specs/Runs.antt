@@ -308,9 +308,9 @@ pub record IsLateLook (p n : ℕ) (m : Mark) (older : List Mark) : Type 0 where
   pub unregistered : own p older ≡ []
   pub late : n ≤ held_looks p older
 
--- a call that may starve registers in time: since each such look the party has registered, or found the cap, or its steps since are so few; and not before such a look. It never goes on without looking
+-- a call that may starve registers in time: since each such look the party has registered, or found the cap, or its steps since are so few; and not before such a look. It looks at every step at which it has nothing else to do
 pub record RegistersInTime (IsFew : List Mark → Type 0) (p n : ℕ) (span : List Mark) : Type 0 where
-  pub looking : keeps_looking p span ≡ true
+  pub looking : keeps_looking p n span ≡ true
   pub soon : (recent : List Mark) (m : Mark) (older : List Mark) → span ≡ recent ++ m ∷ older → IsLateLook p n m older → AnyOf (TriesToStarve p) recent ⊎ IsFew recent
   pub patient : (recent : List Mark) (m : Mark) (older : List Mark) → span ≡ recent ++ m ∷ older → Registers p m → n < held_looks p older
 

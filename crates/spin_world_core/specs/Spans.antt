@@ -1,5 +1,5 @@
 -- What a party's call has done so far, by the steps of its span, the latest first.
-use Rattle.std.specs.Prelude.{◌≡◌, ℕ, ◌+◌, Bool, true, false, not, ◌&&◌, ◌||◌, List, [], ◌∷◌, ◌++◌, is_some, option_to_list, ◌==◌, if◌then◌else◌}
+use Rattle.std.specs.Prelude.{◌≡◌, ℕ, ◌+◌, Bool, true, false, not, ◌&&◌, ◌||◌, List, [], ◌∷◌, ◌++◌, is_some, option_to_list, ◌==◌, if◌then◌else◌, nat_lt}
 use Rattle.spin_step.specs.Plain.{Change}
 use Rattle.spin_step.specs.Parties.{is_held}
 use Rattle.spin_step.specs.Steps.{bit}
@@ -34,14 +34,16 @@ held_looks p (m ∷ ms) = held_looks p ms + bit ((m.party == p) && (is_look m.ma
 abbrev pub is_blind : Mark → Bool
 is_blind m = not (is_some m.change) && not (is_look m.manner || is_again m.manner)
 
-abbrev pub last_is_blind : ℕ → List Mark → Bool
-last_is_blind p [] = false
-last_is_blind p (m ∷ ms) = if m.party == p then is_blind m else last_is_blind p ms
+-- where the party may make one: at first, after a plain step, and after a look that found the lock free, or that found it held after n others
+abbrev pub may_be_blind : ℕ → ℕ → List Mark → Bool
+may_be_blind p n [] = true
+may_be_blind p n (m ∷ ms) =
+    if m.party == p then is_some m.change || (is_look m.manner && (not (is_held m.before) || not (nat_lt (held_looks p ms) n))) else may_be_blind p n ms
 
--- of two steps of the party in a row one at least is not blind
-abbrev pub keeps_looking : ℕ → List Mark → Bool
-keeps_looking p [] = true
-keeps_looking p (m ∷ ms) = keeps_looking p ms && not ((m.party == p) && (is_blind m && last_is_blind p ms))
+-- it makes none elsewhere: while it finds the lock held, and no n times yet, each of its steps is a look that counts
+abbrev pub keeps_looking : ℕ → ℕ → List Mark → Bool
+keeps_looking p n [] = true
+keeps_looking p n (m ∷ ms) = keeps_looking p n ms && (not ((m.party == p) && is_blind m) || may_be_blind p n ms)
 
 abbrev pub IsBeginning : List Change → List Change → Type 0
 IsBeginning xs ys = (rest : List Change) × (xs ++ rest ≡ ys)

@@ -28,7 +28,7 @@ use Rattle.spin_world_core.proofs.Rows.{SoundAt, Row, row_looked, Point, nowhere
 use Rattle.spin_world_core.proofs.Shapes.{Notes, keeping_of, Means, call_of, Follows, OwesAt, answers_by, OwesSoon, BeginsAt, makes_own, Pays, CallOf, AtPoint}
 use Rattle.spin_world_core.proofs.Usual.{as_found, no_queue, means_word}
 use Rattle.spin_world_core.proofs.Paid.{facts_of}
-use Rattle.spin_world_fair.proofs.Registering.{sooner, Sees, sees_by, sees-other, blind_after, none_left, few_to_load, few_to_register, Looking, Loading, Registering, none_yet, starving-other, looking-other, loading-other, registering-other, goes_on, missed, looked_free, looked_held, looked_late, loaded, retried, full, registered, looked_starving}
+use Rattle.spin_world_fair.proofs.Registering.{sooner, MayBeBlind, blind-other, blind_after_step, blind_after_free, blind_after_late, allowed, none_left, few_to_load, few_to_register, Looking, Loading, Registering, none_yet, starving-other, looking-other, loading-other, registering-other, goes_on, missed, looked_free, looked_held, looked_late, loaded, retried, full, registered, looked_starving}
 use Rattle.spin_world_fair.proofs.Found.{IsFair, comes, goes_away, same_holders, is_starving, is_starving_still, starver_counts, is_holding, set_by_holder, word_free, flag_clear, word_locked, word_starved, not_there}
 use Rattle.spin_world_fair.proofs.Operating.{fits_all, strong, refuses, operates}
 
@@ -64,13 +64,13 @@ point_of StarverDrop First (Some Starver) = looked 0
 point_of Release First (Some Write) = looked 0
 point_of _ _ _ = nowhere
 
--- what else a party knows: how its `lock` stands to its patience, and that its last step was not blind where the next one is
+-- what else a party knows: how its `lock` stands to its patience, and that the next step may be blind where it is
 abbrev pub KnowsAt : ℕ → FairCall → FairPoint → ℕ → Plain → List Mark → Type 0
-KnowsAt patience Lock (Attempt n) p s span = Looking patience n p span × Sees p span
+KnowsAt patience Lock (Attempt n) p s span = Looking patience n p span × MayBeBlind patience p span
 KnowsAt patience Lock (Look n) p s span = Looking patience n p span
-KnowsAt patience Lock Load p s span = Loading patience p span × Sees p span
+KnowsAt patience Lock Load p s span = Loading patience p span × MayBeBlind patience p span
 KnowsAt patience Lock (Register n) p s span = Registering patience n p s span
-KnowsAt patience Lock SetFlag p s span = RegistersInTime none_left p patience span × Sees p span
+KnowsAt patience Lock SetFlag p s span = RegistersInTime none_left p patience span × MayBeBlind patience p span
 KnowsAt patience Lock First p s span = Unit {0}
 KnowsAt patience Lock _ p s span = RegistersInTime none_left p patience span
 KnowsAt patience _ _ p s span = Unit {0}
@@ -145,7 +145,7 @@ module _ {V : Type 0} (v : V) (cap patience : ℕ) where
   looks_follow true n p s w span is held knows =
       let next = looked_held patience p s span n held (ltb-true n patience is) knows in (refl, refl, nothing_left p _ next.in_time, tt, next)
   looks_follow false n p s w span is held knows =
-      let next = looked_late patience p s span n held (ltb-false n patience is) knows in (refl, refl, loads_in_time p _ next, tt, (next, sees_by p None look s span refl))
+      let next = looked_late patience p s span n held (ltb-false n patience is) knows in (refl, refl, loads_in_time p _ next, tt, (next, blind_after_late patience p s span (omega (arith, knows.many, ltb-false n patience is))))
 
   -- a refused newcomer is told why
   rejected : (b : Bool) (p : ℕ) (s : Plain) (w : ℕ) (span : List Mark) → IsFair cap s → fair_word s ≡ w → (w == 1) ≡ b → (is_empty s.holders && is_empty s.starvers) ≡ false
@@ -167,26 +167,26 @@ module _ {V : Type 0} (v : V) (cap patience : ℕ) where
       )
   owes p Lock (Look n) None s w span = λ at. (
     (λ set. looks_follow (nat_lt n patience) n p s w span refl (held p at ∙ set) at.knows),
-    (λ clear. let next = looked_free patience p s span n (held p at ∙ clear) at.knows in (refl, refl, nothing_left p _ next.in_time, tt, (next, sees_by p None look s span refl))),
+    (λ clear. let next = looked_free patience p s span n (held p at ∙ clear) at.knows in (refl, refl, nothing_left p _ next.in_time, tt, (next, blind_after_free patience p s span (held p at ∙ clear)))),
   )
   owes p Lock Load None s w span = λ at. (
     starve_means p at,
     (λ found. let next = loaded patience p s span w (sym (word p at)) at.knows.1 at.knows.0 in (refl, refl, registers_in_time w p s _ next, (refl, refl, as_found (starve cap) w found), next)),
-    (λ closed. let next = full patience p s span (few_to_load p) plain refl (blind_after patience p s span None plain at.knows.1) closed at.knows.0 in (refl, refl, nothing_left p _ next.in_time, tt, next)),
+    (λ closed. let next = full patience p s span (few_to_load p) plain refl (allowed patience p s span None plain at.knows.1) closed at.knows.0 in (refl, refl, nothing_left p _ next.in_time, tt, next)),
   )
   owes p Lock (Register n) None s w span = λ at. (
     starve_means p at,
-    (λ is. let next = registered patience p s span n at.knows in (refl, refl, nothing_left p _ next, tt, (next, sees_by p (Some (gets p to_starve)) again s span refl))),
+    (λ is. let next = registered patience p s span n at.knows in (refl, refl, nothing_left p _ next, tt, (next, blind_after_step patience p (gets p to_starve) again s span))),
     (λ found. let next = retried patience p s span n w (sym (word p at)) found.0 at.knows in (refl, refl, registers_in_time w p s _ next, (refl, refl, as_found (starve cap) w found.1), next)),
     (λ closed. let next = full patience p s span (few_to_register p s n) again refl refl closed at.knows in (refl, refl, nothing_left p _ next.in_time, tt, next)),
   )
   owes p Lock SetFlag None s w span = λ at.
       let won = goes_on patience p s span (Some (gets p to_lock_starving)) plain refl (λ is. cc (is)) refl at.knows.0 in
-      let lost = goes_on patience p s span None plain refl (λ is. cc (is)) (blind_after patience p s span None plain at.knows.1) at.knows.0 in
+      let lost = goes_on patience p s span None plain refl (λ is. cc (is)) (allowed patience p s span None plain at.knows.1) at.knows.0 in
       (lock_starved_means p at at.known.stand, (refl, refl, nothing_left p _ won, tt, won), (λ closed. (refl, refl, nothing_left p _ lost, tt, lost)))
   owes p Lock Await None s w span = λ at.
       let next = looked_starving patience p s span at.known.made at.knows in
-      ((λ set. (refl, refl, nothing_left p _ next, tt, next)), (λ clear. (refl, refl, nothing_left p _ next, tt, (next, sees_by p None look s span refl))))
+      ((λ set. (refl, refl, nothing_left p _ next, tt, next)), (λ clear. (refl, refl, nothing_left p _ next, tt, (next, blind_after_free patience p s span (held p at ∙ clear)))))
   owes p Lock Unregister None s w span = λ at.
       let means = unstarve_means p at (is_starving_still p s at.known.stand) in
       (means.0, means.1, (refl, inr (inl refl), goes_on patience p s span (Some (stops_starving p)) plain refl (λ is. cc (is)) refl at.knows))
@@ -294,10 +294,10 @@ module _ {V : Type 0} (v : V) (cap patience : ℕ) where
   sound p _ _ _ = tt
 
   others : (p q : ℕ) (c : FairCall) (l : FairPoint) (s : Plain) (step : Option Change) (r : Manner) (span : List Mark) → (q ≡ p → ⊥) → KnowsAt patience c l p s span → KnowsAt patience c l p (apply_some s step) (mark_of q step r s ∷ span)
-  others p q Lock (Attempt n) s step r span ne knows = (looking-other patience p q s step r span ne n knows.0, sees-other patience p q s step r span ne knows.1)
+  others p q Lock (Attempt n) s step r span ne knows = (looking-other patience p q s step r span ne n knows.0, blind-other patience p q s step r span ne knows.1)
   others p q Lock (Look n) s step r span ne knows = looking-other patience p q s step r span ne n knows
-  others p q Lock Load s step r span ne knows = (loading-other patience p q s step r span ne knows.0, sees-other patience p q s step r span ne knows.1)
-  others p q Lock SetFlag s step r span ne knows = (starving-other patience p q s step r span ne knows.0, sees-other patience p q s step r span ne knows.1)
+  others p q Lock Load s step r span ne knows = (loading-other patience p q s step r span ne knows.0, blind-other patience p q s step r span ne knows.1)
+  others p q Lock SetFlag s step r span ne knows = (starving-other patience p q s step r span ne knows.0, blind-other patience p q s step r span ne knows.1)
   others p q Lock (Register n) s step r span ne knows = registering-other patience p q s step r span ne n knows
   others p q Lock First s step r span ne knows = tt
   others p q Lock _ s step r span ne knows = starving-other patience p q s step r span ne knows

@@ -1,20 +1,20 @@
 -- Registering in time: what `lock` knows of the looks in its span, that others leave it true, and what each step makes of it.
-use Rattle.std.proofs.Common.{◌≡◌, ℕ, ◌+◌, ◌<◌, ◌≤◌, ◌⊎◌, ◌==◌, Bool, true, false, not, if◌then◌else◌, ◌&&◌, Option, Some, None, List, [], ◌∷◌, ◌++◌, refl, ap, sym, ◌∙◌, subst, arith, inl, inr, ⊎_elim}
-use Rattle.std.proofs.lemmas.Bool.{ne_eqb, eq-eqb, false≢true}
+use Rattle.std.proofs.Common.{◌≡◌, ℕ, ◌+◌, ◌<◌, ◌≤◌, ◌⊎◌, ◌==◌, Bool, true, false, not, ◌&&◌, ◌||◌, is_some, nat_lt, if◌then◌else◌, Option, Some, None, List, [], ◌∷◌, ◌++◌, refl, ap, sym, ◌∙◌, subst, arith, inl, inr, ⊎_elim}
+use Rattle.std.proofs.lemmas.Bool.{ne_eqb, eq-eqb, le-ltb, false≢true}
 use Rattle.spin_step.specs.Plain.{Plain, Change, gets, to_starve, is_open}
 use Rattle.spin_step.specs.Parties.{apply_some, is_held}
 use Rattle.spin_step.specs.Steps.{bit}
 use Rattle.spin_world_core.specs.Manners.{Manner, plain, again, look, is_look}
 use Rattle.spin_world_core.specs.Calls.{Mark, fair, AnyOf, Registers, TriesToStarve, first_word}
 use Rattle.spin_world_core.specs.Runs.{mark_of, own, own_count, changes, held_looks, IsLateLook, RegistersInTime}
-use Rattle.spin_world_core.specs.Spans.{is_blind, last_is_blind}
+use Rattle.spin_world_core.specs.Spans.{is_blind, may_be_blind}
 use Rattle.spin_world_core.proofs.Lists.{eqb_self}
 use Rattle.spin_world_core.proofs.Spans.{own_count-mine, own_count-other, changes-mine, changes-other}
 use Rattle.spin_world_core.proofs.Rows.{moved}
 
 -- a span that is one step longer
 module _ (Few Fewer : List Mark → Type 0) (p n : ℕ) (now : Mark) (span : List Mark) (keeps : (recent : List Mark) → Few recent → TriesToStarve p now ⊎ Fewer (now ∷ recent)) (first : IsLateLook p n now span → Fewer [])
-    (registers : Registers p now → n < held_looks p span) (sees : ((now.party == p) && (is_blind now && last_is_blind p span)) ≡ false) (old : RegistersInTime Few p n span) where
+    (registers : Registers p now → n < held_looks p span) (sees : (not ((now.party == p) && is_blind now) || may_be_blind p n span) ≡ true) (old : RegistersInTime Few p n span) where
   soon_later : (recent : List Mark) (m : Mark) (older : List Mark) → now ∷ span ≡ recent ++ m ∷ older → IsLateLook p n m older → AnyOf (TriesToStarve p) recent ⊎ Fewer recent
   soon_later [] m older is late =
       let here : now ≡ m = cc (is) in
@@ -36,14 +36,14 @@ module _ (Few Fewer : List Mark → Type 0) (p n : ℕ) (now : Mark) (span : Lis
   patient_later (x ∷ recent) m older is register = let rest : span ≡ recent ++ m ∷ older = cc (is) in old.patient recent m older rest register
 
   later : RegistersInTime Fewer p n (now ∷ span)
-  later = record { looking = ap (λ b. b && not ((now.party == p) && (is_blind now && last_is_blind p span))) old.looking ∙ ap not sees; soon = soon_later; patient = patient_later }
+  later = record { looking = ap (λ b. b && (not ((now.party == p) && is_blind now) || may_be_blind p n span)) old.looking ∙ sees; soon = soon_later; patient = patient_later }
 
 pub sooner : (Few Fewer : List Mark → Type 0) (p n : ℕ) (span : List Mark) → ((recent : List Mark) → Few recent → Fewer recent) → RegistersInTime Few p n span → RegistersInTime Fewer p n span
 sooner Few Fewer p n span fewer old = record { looking = old.looking; soon = λ recent m older is late. ⊎_elim (λ tried. inl tried) (λ few. inr (fewer recent few)) (old.soon recent m older is late); patient = old.patient }
 
--- the party's last step told it something, or changed something
-abbrev pub Sees : ℕ → List Mark → Type 0
-Sees p span = last_is_blind p span ≡ false
+-- the party's next step may tell it nothing
+abbrev pub MayBeBlind : ℕ → ℕ → List Mark → Type 0
+MayBeBlind n p span = may_be_blind p n span ≡ true
 
 -- nothing is left to do of what was to be done after a late look
 abbrev pub none_left : List Mark → Type 0
@@ -90,10 +90,11 @@ module _ (patience p q : ℕ) (s : Plain) (step : Option Change) (r : Manner) (s
   beside : (Few Fewer : List Mark → Type 0) → ((recent : List Mark) → Few recent → Fewer (mark_of q step r s ∷ recent)) → RegistersInTime Few p patience span → RegistersInTime Fewer p patience (mark_of q step r s ∷ span)
   beside Few Fewer keeps old =
       later Few Fewer p patience (mark_of q step r s) span (λ recent few. inr (keeps recent few)) (λ late. absurd (ne late.party)) (λ register. absurd (ne register.0))
-      (ap (λ b. b && (is_blind (mark_of q step r s) && last_is_blind p span)) (ne_eqb q p ne)) old
+      (ap (λ b. not (b && is_blind (mark_of q step r s)) || may_be_blind p patience span) (ne_eqb q p ne)) old
 
-  pub sees-other : Sees p span → Sees p (mark_of q step r s ∷ span)
-  sees-other old = ap (λ b. if b then is_blind (mark_of q step r s) else last_is_blind p span) (ne_eqb q p ne) ∙ old
+  pub blind-other : MayBeBlind patience p span → MayBeBlind patience p (mark_of q step r s ∷ span)
+  blind-other old =
+      ap (λ b. if b then is_some step || (is_look r && (not (is_held s) || not (nat_lt (held_looks p span) patience))) else may_be_blind p patience span) (ne_eqb q p ne) ∙ old
 
   pub starving-other : RegistersInTime none_left p patience span → RegistersInTime none_left p patience (mark_of q step r s ∷ span)
   starving-other old = beside none_left none_left (λ recent few. few) old
@@ -121,41 +122,51 @@ module _ (patience p q : ℕ) (s : Plain) (step : Option Change) (r : Manner) (s
 
 -- a step of its own
 
--- a step that tells it something, or changes something
-pub sees_by : (p : ℕ) (step : Option Change) (r : Manner) (s : Plain) (span : List Mark) → is_blind (mark_of p step r s) ≡ false → Sees p (mark_of p step r s ∷ span)
-sees_by p step r s span is = ap (λ b. if b then is_blind (mark_of p step r s) else last_is_blind p span) (eqb_self p) ∙ is
+-- after it the next one may be blind
+blind_by : (n p : ℕ) (step : Option Change) (r : Manner) (s : Plain) (span : List Mark) → (is_some step || (is_look r && (not (is_held s) || not (nat_lt (held_looks p span) n)))) ≡ true → MayBeBlind n p (mark_of p step r s ∷ span)
+blind_by n p step r s span is =
+    ap (λ b. if b then is_some step || (is_look r && (not (is_held s) || not (nat_lt (held_looks p span) n))) else may_be_blind p n span) (eqb_self p) ∙ is
+
+or_true : (b : Bool) → (b || true) ≡ true
+or_true true = refl
+or_true false = refl
+
+pub blind_after_step : (n p : ℕ) (c : Change) (r : Manner) (s : Plain) (span : List Mark) → MayBeBlind n p (mark_of p (Some c) r s ∷ span)
+blind_after_step n p c r s span = blind_by n p (Some c) r s span refl
+
+pub blind_after_free : (n p : ℕ) (s : Plain) (span : List Mark) → is_held s ≡ false → MayBeBlind n p (mark_of p None look s ∷ span)
+blind_after_free n p s span free = blind_by n p None look s span (ap (λ b. not b || not (nat_lt (held_looks p span) n)) free)
+
+pub blind_after_late : (n p : ℕ) (s : Plain) (span : List Mark) → n ≤ held_looks p span → MayBeBlind n p (mark_of p None look s ∷ span)
+blind_after_late n p s span late = blind_by n p None look s span (ap (λ b. not (is_held s) || not b) (le-ltb (held_looks p span) n late) ∙ or_true (not (is_held s)))
 
 held_looks-mine : (p : ℕ) (step : Option Change) (r : Manner) (s : Plain) (span : List Mark) → held_looks p (mark_of p step r s ∷ span) ≡ held_looks p span + bit (is_look r && is_held s)
 held_looks-mine p step r s span = ap (λ b. held_looks p span + bit (b && (is_look r && is_held s))) (eqb_self p)
 
 module _ (patience p : ℕ) (s : Plain) (span : List Mark) where
-  -- a step is not blind, or the last one was not
-  abbrev pub IsSeeing : Option Change → Manner → Type 0
-  IsSeeing step r = (is_blind (mark_of p step r s) && last_is_blind p span) ≡ false
+  -- the step is not blind, or may be
+  abbrev pub IsAllowed : Option Change → Manner → Type 0
+  IsAllowed step r = (not (is_blind (mark_of p step r s)) || may_be_blind p patience span) ≡ true
 
-  pub blind_after : (step : Option Change) (r : Manner) → Sees p span → IsSeeing step r
-  blind_after step r sees = ap (λ b. is_blind (mark_of p step r s) && b) sees ∙ either_way (is_blind (mark_of p step r s))
-    where
-      either_way : (b : Bool) → (b && false) ≡ false
-      either_way true = refl
-      either_way false = refl
+  pub allowed : (step : Option Change) (r : Manner) → MayBeBlind patience p span → IsAllowed step r
+  allowed step r may = ap (λ b. not (is_blind (mark_of p step r s)) || b) may ∙ or_true (not (is_blind (mark_of p step r s)))
 
-  mine : (step : Option Change) (r : Manner) → IsSeeing step r → ((p == p) && (is_blind (mark_of p step r s) && last_is_blind p span)) ≡ false
-  mine step r sees = ap (λ b. b && (is_blind (mark_of p step r s) && last_is_blind p span)) (eqb_self p) ∙ sees
+  mine : (step : Option Change) (r : Manner) → IsAllowed step r → (not ((p == p) && is_blind (mark_of p step r s)) || may_be_blind p patience span) ≡ true
+  mine step r may = ap (λ b. not (b && is_blind (mark_of p step r s)) || may_be_blind p patience span) (eqb_self p) ∙ may
 
   -- a step that is no look, and doesn't register
-  passes : (Few Fewer : List Mark → Type 0) (step : Option Change) (r : Manner) → is_look r ≡ false → (step ≡ Some (gets p to_starve) → ⊥) → IsSeeing step r → ((recent : List Mark) → Few recent → TriesToStarve p (mark_of p step r s) ⊎ Fewer (mark_of p step r s ∷ recent))
+  passes : (Few Fewer : List Mark → Type 0) (step : Option Change) (r : Manner) → is_look r ≡ false → (step ≡ Some (gets p to_starve) → ⊥) → IsAllowed step r → ((recent : List Mark) → Few recent → TriesToStarve p (mark_of p step r s) ⊎ Fewer (mark_of p step r s ∷ recent))
       → RegistersInTime Few p patience span → RegistersInTime Fewer p patience (mark_of p step r s ∷ span)
-  passes Few Fewer step r no_look other sees keeps old =
-      later Few Fewer p patience (mark_of p step r s) span keeps (λ late. absurd (false≢true (sym no_look ∙ late.looks))) (λ register. absurd (other register.1)) (mine step r sees) old
+  passes Few Fewer step r no_look other may keeps old =
+      later Few Fewer p patience (mark_of p step r s) span keeps (λ late. absurd (false≢true (sym no_look ∙ late.looks))) (λ register. absurd (other register.1)) (mine step r may) old
 
-  pub goes_on : (step : Option Change) (r : Manner) → is_look r ≡ false → (step ≡ Some (gets p to_starve) → ⊥) → IsSeeing step r → RegistersInTime none_left p patience span → RegistersInTime none_left p patience (mark_of p step r s ∷ span)
-  goes_on step r no_look other sees old = passes none_left none_left step r no_look other sees (λ recent few. inr few) old
+  pub goes_on : (step : Option Change) (r : Manner) → is_look r ≡ false → (step ≡ Some (gets p to_starve) → ⊥) → IsAllowed step r → RegistersInTime none_left p patience span → RegistersInTime none_left p patience (mark_of p step r s ∷ span)
+  goes_on step r no_look other may old = passes none_left none_left step r no_look other may (λ recent few. inr few) old
 
-  pub missed : (k : ℕ) (r : Manner) → is_look r ≡ false → Sees p span → Looking patience k p span → Looking patience k p (mark_of p None r s ∷ span)
-  missed k r no_look sees old =
+  pub missed : (k : ℕ) (r : Manner) → is_look r ≡ false → MayBeBlind patience p span → Looking patience k p span → Looking patience k p (mark_of p None r s ∷ span)
+  missed k r no_look may old =
       let same = held_looks-mine p None r s span ∙ ap (λ b. held_looks p span + bit (b && is_held s)) no_look in
-      record { counted = λ lt. omega (arith, same, old.counted lt); many = omega (arith, same, old.many); in_time = goes_on None r no_look (λ is. cc (is)) (blind_after None r sees) old.in_time }
+      record { counted = λ lt. omega (arith, same, old.counted lt); many = omega (arith, same, old.many); in_time = goes_on None r no_look (λ is. cc (is)) (allowed None r may) old.in_time }
 
   -- it finds the lock free
   pub looked_free : (k : ℕ) → is_held s ≡ false → Looking patience k p span → Looking patience k p (mark_of p None look s ∷ span)
@@ -189,11 +200,11 @@ module _ (patience p : ℕ) (s : Plain) (span : List Mark) where
   unseen : (Few : List Mark → Type 0) (r : Manner) → is_look r ≡ false → Going Few patience p span → patience < held_looks p (mark_of p None r s ∷ span)
   unseen Few r no_look old = omega (arith, held_looks-mine p None r s span ∙ ap (λ b. held_looks p span + bit (b && is_held s)) no_look, old.past)
 
-  pub loaded : (w : ℕ) → w ≡ first_word fair s → Sees p span → Loading patience p span → Registering patience w p s (mark_of p None plain s ∷ span)
-  loaded w is sees old =
+  pub loaded : (w : ℕ) → w ≡ first_word fair s → MayBeBlind patience p span → Loading patience p span → Registering patience w p s (mark_of p None plain s ∷ span)
+  loaded w is may old =
       record {
         past = unseen (few_to_load p) plain refl old;
-        in_time = passes (few_to_load p) (few_to_register p s w) None plain refl (λ is. cc (is)) (blind_after None plain sees)
+        in_time = passes (few_to_load p) (few_to_register p s w) None plain refl (λ is. cc (is)) (allowed None plain may)
             (λ recent few. inr (omega (arith, own_count-mine p None plain s recent, changes-mine fair p None plain s recent, ap (λ b. bit (not b)) (eq-eqb (first_word fair s) w (sym is)), few)))
             old.in_time;
       }
@@ -210,12 +221,12 @@ module _ (patience p : ℕ) (s : Plain) (span : List Mark) where
       }
 
   -- it finds the cap
-  pub full : (Few : List Mark → Type 0) (r : Manner) → is_look r ≡ false → IsSeeing None r → is_open s (gets p to_starve) ≡ false → Going Few patience p span → Looking patience patience p (mark_of p None r s ∷ span)
-  full Few r no_look sees closed old =
+  pub full : (Few : List Mark → Type 0) (r : Manner) → is_look r ≡ false → IsAllowed None r → is_open s (gets p to_starve) ≡ false → Going Few patience p span → Looking patience patience p (mark_of p None r s ∷ span)
+  full Few r no_look may closed old =
       record {
         counted = λ lt. absurd (omega (arith, lt));
         many = omega (arith, unseen Few r no_look old);
-        in_time = passes Few none_left None r no_look (λ is. cc (is)) sees (λ recent few. inl (inr (refl, closed))) old.in_time;
+        in_time = passes Few none_left None r no_look (λ is. cc (is)) may (λ recent few. inl (inr (refl, closed))) old.in_time;
       }
 
   pub registered : (n : ℕ) → Registering patience n p s span → RegistersInTime none_left p patience (mark_of p (Some (gets p to_starve)) again s ∷ span)

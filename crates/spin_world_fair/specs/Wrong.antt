@@ -150,6 +150,15 @@ loading_acts c l h = act_of 2 1 c l h
 abbrev pub loads_uncounted : {V : Type 0} → V → Machine ℕ V FairCall FairPoint (Answer V)
 loads_uncounted v = by_acts v 2 loading_acts
 
+-- `lock` counts each second look alone
+abbrev glancing_acts : {V : Type 0} → Acts V
+glancing_acts Lock (Look n) h = load_if is_set (λ w. either (nat_lt n 1) (GoesOn First) (GoesOn Load)) (λ w. GoesOn (Attempt n))
+glancing_acts Lock First h = load (λ w. GoesOn (Look 1))
+glancing_acts c l h = act_of 2 1 c l h
+
+abbrev pub counts_each_second_look : {V : Type 0} → V → Machine ℕ V FairCall FairPoint (Answer V)
+counts_each_second_look v = by_acts v 2 glancing_acts
+
 -- a starver that has set the flag leaves the starvers only once it is the last one
 abbrev lingering_acts : {V : Type 0} → Acts V
 lingering_acts StarverLock Unregister h = load_if (λ w. w == 3) (λ w. GoesOn First) (λ w. GoesOn Unregister)

@@ -4,7 +4,7 @@ ghost use Rattle.spin_world_core.specs.Operations.{Stepwise};
 ghost use Rattle.spin_world_core.specs.Runs.{KeepsAll, MomentsAll, CountsAll};
 ghost use Rattle.spin_world_fair.specs.Fair.{fair_machine};
 ghost use Rattle.spin_world_fair.specs.Named.{IsFairLock};
-ghost use Rattle.spin_world_fair.specs.Wrong.{tries_greedily, try_beside_a_starver, stays_a_starver, try_of_a_starver, starves_without_cap, two_starve, never_registers, lock_beside_a_holder, returns_to_its_exchange, lock_as_it_is_let_go, registers_at_once, hasty_lock, drop_frees, drop_beside_a_holder, tells_the_other_reason, try_beside_a_holder, waits_for_ever, four_looks_of_a_starver, never_looks, loads_uncounted, keeps_the_flag, lock_beside_a_starver, sets_by_chance, starver_in_vain, starves_again, tries_alone, opens_with_a_starver};
+ghost use Rattle.spin_world_fair.specs.Wrong.{tries_greedily, try_beside_a_starver, stays_a_starver, try_of_a_starver, starves_without_cap, two_starve, never_registers, lock_beside_a_holder, returns_to_its_exchange, lock_as_it_is_let_go, registers_at_once, hasty_lock, drop_frees, drop_beside_a_holder, tells_the_other_reason, try_beside_a_holder, waits_for_ever, four_looks_of_a_starver, never_looks, loads_uncounted, counts_each_second_look, keeps_the_flag, lock_beside_a_starver, sets_by_chance, starver_in_vain, starves_again, tries_alone, opens_with_a_starver};
 
 /// A `try_lock` that sets the flag wherever it is clear: beside a starver its step is not open.
 pub fn a_newcomer_yields_to_starvers<V: Copy>()
@@ -60,6 +60,11 @@ pub fn a_lock_looks_between_its_exchanges<V: Copy>()
 /// A `lock` that waits by loads which count nowhere, and so never registers.
 pub fn a_lock_waits_by_looks<V: Copy>()
     ensures { (value : V) → CountsAll (loads_uncounted value) 2 lock_beside_a_holder → ⊥ }
+{}
+
+/// A `lock` that counts each second look alone, and so registers late: while it finds the lock held each step is a look.
+pub fn a_lock_counts_each_look<V: Copy>()
+    ensures { (value : V) → CountsAll (counts_each_second_look value) 2 lock_beside_a_holder → ⊥ }
 {}
 
 /// A `starver_lock` that has set the flag and goes on while another party starves: who has what it asks is answered.

@@ -13,10 +13,10 @@ use Rattle.spin_world_ticket.specs.declared.ticket.TicketPoint.{TicketPoint}
 use Rattle.spin_world_ticket.specs.declared.ticket.TicketPoint.TheVariants.{LoadNext, Take, Await, TryLoadServing, TryTake, LookServing, LookNext}
 use Rattle.spin_world_core.specs.declared.schedule.Move.{Move}
 use Rattle.spin_world_core.specs.declared.schedule.Move.TheVariants.{Begin, Step, Weak}
-use Rattle.spin_step.specs.Plain.{Change}
+use Rattle.spin_step.specs.Plain.{Change, gets, to_enter}
 use Rattle.spin_world_core.specs.Calls.{Asked, looks}
 use Rattle.spin_world_core.specs.Machines.{Machine}
-use Rattle.spin_world_ticket.specs.Ticket.{ticket_machine}
+use Rattle.spin_world_ticket.specs.Ticket.{granted, ticket_machine}
 
 abbrev TicketMachine : Type 0 → Type 0
 TicketMachine V = Machine TicketWords V TicketCall TicketPoint (Answer V)
@@ -65,6 +65,24 @@ no_change_at m p w c l h = m.change p w c l h
 
 abbrev pub never_enters : {V : Type 0} → V → TicketMachine V
 never_enters {V} v = let m : TicketMachine V = ticket_machine v 0 in record m { step = waits_on m; change = no_change_at m }
+
+-- whoever looks first enters
+abbrev enters_now : {V : Type 0} → TicketMachine V → TicketWords → Option V → TicketCall → TicketPoint → Option Hold → Stepped TicketWords V TicketPoint (Answer V)
+enters_now m w value c (Await t) h = stays_at w (granted t)
+enters_now m w value c l h = m.step w value c l h
+
+abbrev enters_at : {V : Type 0} → TicketMachine V → ℕ → TicketWords → TicketCall → TicketPoint → Option Hold → Option Change
+enters_at m p w c (Await t) h = Some (gets p to_enter)
+enters_at m p w c l h = m.change p w c l h
+
+abbrev pub enters_by_look : {V : Type 0} → V → TicketMachine V
+enters_by_look {V} v = let m : TicketMachine V = ticket_machine v 0 in record m { step = enters_now m; change = enters_at m }
+
+-- two queue behind a holder, which lets go, and the later one looks first
+abbrev pub two_queue : {V : Type 0} → Entries V
+two_queue =
+    (0, Begin TryLock) ∷ (0, Step) ∷ (0, Step) ∷ (0, Step) ∷ (1, Begin Lock) ∷ (1, Step) ∷ (1, Step)
+    ∷ (2, Begin Lock) ∷ (2, Step) ∷ (2, Step) ∷ (0, Begin Release) ∷ (0, Step) ∷ (2, Step) ∷ []
 
 -- four steps of a party that is alone
 abbrev pub lock_alone : {V : Type 0} → Entries V

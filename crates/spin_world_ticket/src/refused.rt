@@ -3,7 +3,7 @@ ghost use Rattle.std.specs.Prelude.{◌≡◌, []};
 ghost use Rattle.spin_world_core.specs.Operations.{Stepwise};
 ghost use Rattle.spin_world_core.specs.Runs.{KeepsAll, MomentsAll, CountsAll};
 ghost use Rattle.spin_world_ticket.specs.Named.{IsTicketLock};
-ghost use Rattle.spin_world_ticket.specs.Wrong.{looks_backwards, look_beside_a_queue, queues_behind_nobody, lock_beside_a_holder, never_enters, lock_alone, never_tries, try_alone, looks_at_both, locks_again, tries_by_looking, takes_by_chance, try_in_vain, lock_in_vain, opens_with_a_ticket};
+ghost use Rattle.spin_world_ticket.specs.Wrong.{looks_backwards, look_beside_a_queue, queues_behind_nobody, lock_beside_a_holder, never_enters, lock_alone, enters_by_look, two_queue, never_tries, try_alone, looks_at_both, locks_again, tries_by_looking, takes_by_chance, try_in_vain, lock_in_vain, opens_with_a_ticket};
 
 /// An `is_locked` of a ticket lock that loads the next number first: its `false` has no moment.
 pub fn a_look_loads_the_served_number_first<V: Copy>()
@@ -18,6 +18,11 @@ pub fn a_lock_queues_behind_others<V: Copy>()
 /// A `lock` of a ticket lock that never enters.
 pub fn a_lock_enters<V: Copy>()
     ensures { (value : V) → CountsAll (never_enters value) 1 lock_alone → ⊥ }
+{}
+
+/// A `lock` that enters by its first look, though another party has the earlier ticket: that step is not open.
+pub fn tickets_enter_in_the_order_they_are_taken<V: Copy>()
+    ensures { (value : V) → KeepsAll (enters_by_look value) 3 two_queue → ⊥ }
 {}
 
 /// A `try_lock` that is refused where no ticket stood: the refusal has no moment.
