@@ -1,6 +1,6 @@
 -- What the flag's table owes.
 use Rattle.std.proofs.Common.{◌≡◌, ℕ, Bool, true, false, not, ◌&&◌, Option, Some, None, List, [], ◌∷◌, refl, ap, sym, ◌∙◌, arith, inl}
-use Rattle.std.proofs.lemmas.Bool.{true≢false, false≢true}
+use Rattle.std.proofs.lemmas.Bool.{true≢false}
 use Rattle.spin_step.specs.Plain.{Plain, Ticket as Queued, writing, to_write, gets, releases, is_empty, flag_word}
 use Rattle.spin_step.specs.Parties.{Entries, entries, is_held}
 use Rattle.spin_step.specs.Steps.{bit}
@@ -96,9 +96,9 @@ module _ {V : Type 0} (v : V) where
   fits_all _ (Some h) = refl
 
   weakly : TriesWeakly (flag_table v)
-  weakly TryLockWeak l h weak is = refl
-  weakly Lock l h weak is = absurd (false≢true weak)
-  weakly _ l h weak is = absurd (false≢true weak)
+  weakly p Lock First h = refl
+  weakly p Lock Second h = refl
+  weakly p _ _ h = refl
 
   -- a lost exchange finds a set flag, and leaves it
   taken : (w : Bool) (won lost : Next FlagPoint (Answer V)) → bit (becomes {V = V} w (lock w) won lost).words ≡ performed (exchanges 0 1) (bit w)
