@@ -31,7 +31,7 @@ use Rattle.spin_world_core.proofs.Stands.{absent}
 use Rattle.spin_world_core.proofs.Rows.{Point, nowhere, looked, onward, SoundAt}
 use Rattle.spin_world_core.proofs.Shapes.{Notes, keeping_of, OwesAt, goes_by, answers_by, OwesSoon, BeginsAt, makes_own, Pays}
 use Rattle.spin_world_core.proofs.Usual.{two, no_holders}
-use Rattle.spin_world_core.proofs.Operating.{BeginsWhereItFits, Refuses}
+use Rattle.spin_world_core.proofs.Operating.{BeginsWhereItFits, never_strongly, Refuses}
 use Rattle.spin_world_core.proofs.Paid.{facts_of}
 
 abbrev pub point_of : BarrierPoint → Option Hold → Point
@@ -195,7 +195,7 @@ module _ (n : ℕ) where
   barrier_pays =
       record {
         fits = fits_idle;
-        weakly = λ c l h weak is. absurd (false≢true weak);
+        weakly = λ p c l h. never_strongly meets (act_of n l h) p refl;
         refuses = refuses;
         operates = λ c l h. tt;
         first = two 0 0 (0 % max n 1) ((0 / max n 1) % 2 ^ 64) (omega (arith, mod-le 0 (max n 1))) (omega (arith, div-le_self 0 (max n 1)));

@@ -11,7 +11,7 @@ use Rattle.spin_world_core.specs.declared.object.Next.TheVariants.{GoesOn, Answe
 use Rattle.spin_world_core.specs.declared.object.Stepped.{Stepped}
 use Rattle.spin_world_core.specs.declared.schedule.Move.TheVariants.{Step}
 use Rattle.spin_world_core.specs.Manners.{Manner, by_step}
-use Rattle.spin_world_core.specs.Calls.{Coding, once, encoded, BelongsTo, own_steps, says_of, AnyOf, HasMoment, Mark, is_weak_try}
+use Rattle.spin_world_core.specs.Calls.{Coding, once, encoded, BelongsTo, own_steps, says_of, AnyOf, HasMoment, Mark, may_be_weak}
 use Rattle.spin_world_core.specs.Machines.{Machine, opening_phase, opening_plain}
 use Rattle.spin_world_core.specs.Schedules.{placed}
 use Rattle.spin_world_core.specs.Runs.{mark_of, if_completed, is_writer, own}
@@ -51,7 +51,7 @@ TellsBy V number act p s w = TellsOf (apply_some s (change_by number act p w)).p
 -- what an object shows of its table
 pub record PaysWith {W V C L : Type 0} (t : Table W V C L (Answer (Unit {0}))) (n : Notes t) (brings : C → Option V) : Type 0 where
   pub fits : BeginsWhereItFits t
-  pub strong : (c : C) (h : Option Hold) → is_weak_try (t.asks c h) ≡ false
+  pub strong : (c : C) (h : Option Hold) → may_be_weak (t.asks c h) ≡ false
   pub operates : (c : C) (l : L) (h : Option Hold) → OperatesAt t.coding t c l h
   pub says : (a : Answer (Unit {0})) → t.says a ≡ says_of a
   pub first : t.number t.words ∷ t.others t.words ≡ encoded t.coding (opening_plain (machine_with t brings))

@@ -7,10 +7,10 @@ use Rattle.spin_world_core.specs.declared.answer.Answer.{Answer}
 use Rattle.spin_world_core.specs.declared.object.Next.{Next}
 use Rattle.spin_world_core.specs.declared.object.Next.TheVariants.{GoesOn, Answers}
 use Rattle.spin_world_core.specs.Manners.{Manner, is_again, is_look}
-use Rattle.spin_world_core.specs.Calls.{Coding, barrier, Asked, is_weak_try}
+use Rattle.spin_world_core.specs.Calls.{Coding, barrier, Asked, waits_or_starves, may_be_weak, is_got_weakly}
 use Rattle.spin_world_core.specs.Begins.{fits}
 use Rattle.spin_world_core.specs.Operations.{Operation, exchanges, performed, Performs, IsOneOperation, Stepwise}
-use Rattle.spin_world_core.specs.Acts.{Act, load, load_if, load_for, enter, exchange, weak_exchange, attempt, retry, store, store_if, becomes, passing, retried, step_by, can_by, refusal_by, manner_by, Table, machine_of, completes_by, brought, filled, machine_with}
+use Rattle.spin_world_core.specs.Acts.{Act, load, load_if, load_for, enter, exchange, weak_exchange, attempt, retry, store, store_if, becomes, passing, retried, step_by, made_if, made_where, change_by, can_by, refusal_by, manner_by, Table, machine_of, completes_by, brought, filled, machine_with}
 use Rattle.spin_world_core.specs.Schedules.{placed}
 use Rattle.spin_world_core.proofs.Facts.{GoesOnCounted}
 
@@ -19,8 +19,18 @@ use Rattle.spin_world_core.proofs.Facts.{GoesOnCounted}
 abbrev pub BeginsWhereItFits : {W V C L A : Type 0} → Table W V C L A → Type 0
 BeginsWhereItFits {C = C} t = (c : C) (h : Option Hold) → is_some (t.begin c h) ≡ fits t.coding (t.asks c h) h
 
+-- the step gets by another exchange, or by none, what such a call gets by a weak one
+abbrev pub gets_strongly : {W L A : Type 0} → Asked → Act W L A → ℕ → Bool
+gets_strongly what (enter test step won lost) p = is_got_weakly what (step p)
+gets_strongly what (exchange f step won lost) p = is_got_weakly what (step p)
+gets_strongly what (attempt f step won lost) p = is_got_weakly what (step p)
+gets_strongly what (retry k f step won found missed) p = is_got_weakly what (step p)
+gets_strongly what (store can f step next) p = is_got_weakly what (step p)
+gets_strongly what (store_if can f step test a b) p = is_got_weakly what (step p)
+gets_strongly what _ p = false
+
 abbrev pub TriesWeakly : {W V C L A : Type 0} → Table W V C L A → Type 0
-TriesWeakly {C = C} {L = L} t = (c : C) (l : L) (h : Option Hold) → is_weak_try (t.asks c h) ≡ true → t.begin c h ≡ Some l → is_some (refusal_by (t.act c l h)) ≡ true
+TriesWeakly {C = C} {L = L} t = (p : ℕ) (c : C) (l : L) (h : Option Hold) → gets_strongly (t.asks c h) (t.act c l h) p ≡ false
 
 -- the step at this point is this operation on the i-th word
 pub record Operates {W V C L A : Type 0} (t : Table W V C L A) (c : C) (l : L) (h : Option Hold) (i : ℕ) (operation : Operation) : Type 0 where
@@ -90,6 +100,49 @@ counted_filled change s value (GoesOn l) None r counts = counts
 counted_filled change s value (GoesOn l) (Some d) r counts = tt
 counted_filled change s value (Answers a after) o r counts = tt
 
+-- the plain step that a shape makes is the one that it names
+made_is : {W : Type 0} (o : Option W) (c d : Change) → made_if o c ≡ Some d → c ≡ d
+made_is None c d is = absurd (cc (is))
+made_is (Some to) c d is = cc (is)
+
+made_at : {W : Type 0} (b : Bool) (o : Option W) (c d : Change) → made_where b o c ≡ Some d → c ≡ d
+made_at true o c d is = made_is o c d is
+made_at false o c d is = absurd (cc (is))
+
+got : (what : Asked) (c d : Change) → is_got_weakly what c ≡ false → c ≡ d → is_got_weakly what d ≡ true → {X : Type 0} → X
+got what c d strong same weak = absurd (false≢true (sym strong ∙ (ap (is_got_weakly what) same ∙ weak)))
+
+-- what is got weakly is got by a weak exchange
+refuses_weakly : {W L A : Type 0} (number : W → ℕ) (what : Asked) (act : Act W L A) (p : ℕ) (w : W) (d : Change) → gets_strongly what act p ≡ false → change_by number act p w ≡ Some d → is_got_weakly what d ≡ true → is_some (refusal_by act) ≡ true
+refuses_weakly number what (load next) p w d strong is weak = absurd (cc (is))
+refuses_weakly number what (load_if test a b) p w d strong is weak = absurd (cc (is))
+refuses_weakly number what (load_for f step found missed) p w d strong is weak = absurd (cc (is))
+refuses_weakly number what (enter test step won lost) p w d strong is weak = got what (step p) d strong (made_is (passing (test w) w) (step p) d is) weak
+refuses_weakly number what (exchange f step won lost) p w d strong is weak = got what (step p) d strong (made_is (f w) (step p) d is) weak
+refuses_weakly number what (weak_exchange f step won lost) p w d strong is weak = refl
+refuses_weakly number what (attempt f step won lost) p w d strong is weak = got what (step p) d strong (made_is (f w) (step p) d is) weak
+refuses_weakly number what (retry k f step won found missed) p w d strong is weak = got what (step p) d strong (made_at (number w == k) (f w) (step p) d is) weak
+refuses_weakly number what (store can f step next) p w d strong is weak = got what (step p) d strong (cc (is)) weak
+refuses_weakly number what (store_if can f step test a b) p w d strong is weak = got what (step p) d strong (cc (is)) weak
+
+-- a call that is never weak gets nothing so
+never_got : (what : Asked) (d : Change) → may_be_weak what ≡ false → is_got_weakly what d ≡ false
+never_got (waits_or_starves n) d strong = absurd (false≢true (sym strong))
+never_got _ d strong = strong
+
+-- nor does it by any shape
+pub never_strongly : {W L A : Type 0} (what : Asked) (act : Act W L A) (p : ℕ) → may_be_weak what ≡ false → gets_strongly what act p ≡ false
+never_strongly what (load next) p strong = refl
+never_strongly what (load_if test a b) p strong = refl
+never_strongly what (load_for f step found missed) p strong = refl
+never_strongly what (weak_exchange f step won lost) p strong = refl
+never_strongly what (enter test step won lost) p strong = never_got what (step p) strong
+never_strongly what (exchange f step won lost) p strong = never_got what (step p) strong
+never_strongly what (attempt f step won lost) p strong = never_got what (step p) strong
+never_strongly what (retry k f step won found missed) p strong = never_got what (step p) strong
+never_strongly what (store can f step next) p strong = never_got what (step p) strong
+never_strongly what (store_if can f step test a b) p strong = never_got what (step p) strong
+
 -- The machines
 
 performs_of : {W V C L A : Type 0} (t : Table W V C L A) (c : C) (l : L) (h : Option Hold) (i : ℕ) (operation : Operation) → Operates t c l h i operation → Performs (machine_of t) c l h i operation
@@ -108,8 +161,8 @@ pub stepwise_of : {W V C L A : Type 0} (t : Table W V C L A) → BeginsWhereItFi
 stepwise_of {V = V} t begins weak refuses operates =
     record {
       begins = begins;
-      weak = weak;
       refuses = λ c l h next is. let lost = refuses c l h next is in (lost.0, lost.1, lost.2, performs_of t c l h lost.0 (exchanges lost.1 lost.2) lost.3, λ w v other. lost.4 w other);
+      weak = λ p c l h w d is got. refuses_weakly t.number (t.asks c h) (t.act c l h) p w d (weak p c l h) is got;
       operates = λ c l h. operation_of t t.coding c l h (operates c l h);
       looks = λ c l h is w v. look_stays V t.number (t.asks c h) (t.act c l h) w is;
     }
@@ -126,12 +179,12 @@ operation_with t brings _ c l h o = (
   },
 )
 
-pub stepwise_with : {W V C L : Type 0} (t : Table W V C L (Answer (Unit {0}))) (brings : C → Option V) → BeginsWhereItFits t → ((c : C) (h : Option Hold) → is_weak_try (t.asks c h) ≡ false) → ((c : C) (l : L) (h : Option Hold) → OperatesAt t.coding t c l h) → Stepwise (machine_with t brings)
+pub stepwise_with : {W V C L : Type 0} (t : Table W V C L (Answer (Unit {0}))) (brings : C → Option V) → BeginsWhereItFits t → ((c : C) (h : Option Hold) → may_be_weak (t.asks c h) ≡ false) → ((c : C) (l : L) (h : Option Hold) → OperatesAt t.coding t c l h) → Stepwise (machine_with t brings)
 stepwise_with {V = V} t brings begins strong operates =
     record {
       begins = begins;
-      weak = λ c l h weak is. absurd (false≢true (sym (strong c h) ∙ weak));
       refuses = λ c l h next is. absurd (cc (is));
+      weak = λ p c l h w d is got. absurd (false≢true (sym (never_got (t.asks c h) d (strong c h)) ∙ got));
       operates = λ c l h. operation_with t brings t.coding c l h (operates c l h);
       looks = λ c l h is w v. look_stays V t.number (t.asks c h) (t.act c l h) w is;
     }

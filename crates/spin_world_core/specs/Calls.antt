@@ -244,10 +244,6 @@ Registers p m = (m.party ≡ p) × (m.change ≡ Some (gets p to_starve))
 abbrev pub TriesToStarve : ℕ → Mark → Type 0
 TriesToStarve p m = Registers p m ⊎ FindsClosed p to_starve m
 
-abbrev pub is_weak_try : Asked → Bool
-is_weak_try (tries_weakly ask) = true
-is_weak_try _ = false
-
 -- whether a call may be refused without cause: it makes a weak exchange, once or again and again
 abbrev pub may_be_weak : Asked → Bool
 may_be_weak (tries_weakly ask) = true
@@ -255,6 +251,12 @@ may_be_weak (waits to_write) = true
 may_be_weak (waits to_upgrade) = true
 may_be_weak (waits_or_starves n) = true
 may_be_weak _ = false
+
+-- whether such a call gets this by its weak exchange: who has registered as a starver makes none any more
+abbrev pub is_got_weakly : Asked → Change → Bool
+is_got_weakly (waits_or_starves n) (gets p to_lock_unregistered) = true
+is_got_weakly (waits_or_starves n) c = false
+is_got_weakly what c = may_be_weak what
 
 -- the word that the exchanges are on which a call makes again
 abbrev pub first_word : Coding → Plain → ℕ

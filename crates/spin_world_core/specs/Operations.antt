@@ -3,7 +3,8 @@ use Rattle.std.specs.Prelude.{◌≡◌, ℕ, ◌+◌, ◌-◌, ◌%◌, ◌==�
 use Rattle.spin_world_core.specs.declared.place.Hold.{Hold}
 use Rattle.spin_world_core.specs.declared.object.Next.{Next}
 use Rattle.spin_world_core.specs.Manners.{is_look}
-use Rattle.spin_world_core.specs.Calls.{Coding, barrier, is_weak_try}
+use Rattle.spin_step.specs.Plain.{Change}
+use Rattle.spin_world_core.specs.Calls.{Coding, barrier, is_got_weakly}
 use Rattle.spin_world_core.specs.Begins.{fits}
 use Rattle.spin_world_core.specs.Machines.{Machine}
 
@@ -44,8 +45,8 @@ RefusesAsLost {W} {V} m c l h next =
 pub record Stepwise {W V C L A : Type 0} (m : Machine W V C L A) : Type 0 where
   -- its calls are those of its kind of lock, and each begins just where its party holds what it is for
   pub begins : (c : C) (h : Option Hold) → is_some (m.begin c h) ≡ fits m.coding (m.asks c h) h
-  -- a weak try makes a weak exchange
-  pub weak : (c : C) (l : L) (h : Option Hold) → is_weak_try (m.asks c h) ≡ true → m.begin c h ≡ Some l → is_some (m.refuse c l h) ≡ true
+  -- what a call gets by a weak exchange it gets by no other step
+  pub weak : (p : ℕ) (c : C) (l : L) (h : Option Hold) (w : W) (d : Change) → m.change p w c l h ≡ Some d → is_got_weakly (m.asks c h) d ≡ true → is_some (m.refuse c l h) ≡ true
   pub operates : (c : C) (l : L) (h : Option Hold) → IsOneOperation m.coding m c l h
   pub refuses : (c : C) (l : L) (h : Option Hold) (next : Next L A) → m.refuse c l h ≡ Some next → RefusesAsLost m c l h next
   -- a look changes no word

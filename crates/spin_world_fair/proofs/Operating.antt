@@ -12,8 +12,8 @@ use Rattle.spin_world_fair.specs.declared.fair.FairPoint.TheVariants.{First, Att
 use Rattle.spin_world_core.specs.Calls.{fair}
 use Rattle.spin_world_core.specs.Operations.{Operation, loads, exchanges, subtracts, sets_lowest_bit, performed}
 use Rattle.spin_world_core.specs.Acts.{becomes, step_by, can_by}
-use Rattle.spin_world_fair.specs.Fair.{starve, lock_starved, act_of, fair_table}
-use Rattle.spin_world_core.proofs.Operating.{BeginsWhereItFits, TriesWeakly, Refuses, Operates, OperatesAt, one_word, swaps, lost_there, swaps_found}
+use Rattle.spin_world_fair.specs.Fair.{starve, lock_starved, act_of, asks_of, fair_table}
+use Rattle.spin_world_core.proofs.Operating.{BeginsWhereItFits, TriesWeakly, never_strongly, Refuses, Operates, OperatesAt, one_word, swaps, lost_there, swaps_found}
 
 module _ {V : Type 0} (v : V) (cap patience : ℕ) where
   pub fits_all : BeginsWhereItFits (fair_table v cap patience)
@@ -31,8 +31,10 @@ module _ {V : Type 0} (v : V) (cap patience : ℕ) where
   fits_all _ (Some h) = refl
 
   pub strong : TriesWeakly (fair_table v cap patience)
-  strong Lock l h weak is = absurd (false≢true weak)
-  strong _ l h weak is = absurd (false≢true weak)
+  strong p Lock First h = refl
+  strong p Lock Load h = refl
+  strong p Lock _ h = refl
+  strong p c l h = never_strongly (asks_of patience c h) (act_of {V = V} cap patience c l h) p refl
 
   abbrev Going : Type 0
   Going = Next FairPoint (Answer V)

@@ -96,9 +96,9 @@ module _ {V : Type 0} (v : V) where
   fits_all _ (Some h) = refl
 
   weakly : TriesWeakly (flag_table v)
-  weakly TryLockWeak l h weak is = refl
-  weakly Lock l h weak is = absurd (false≢true weak)
-  weakly _ l h weak is = absurd (false≢true weak)
+  weakly p Lock First h = refl
+  weakly p Lock Second h = refl
+  weakly p _ _ h = refl
 
   -- a lost exchange finds a set flag, and leaves it
   taken : (w : Bool) (won lost : Next FlagPoint (Answer V)) → bit (becomes {V = V} w (lock w) won lost).words ≡ performed (exchanges 0 1) (bit w)

@@ -15,7 +15,7 @@ use Rattle.spin_world_once.specs.declared.once.OnceCall.TheVariants.{CallOnce, T
 use Rattle.spin_world_once.specs.declared.once.OncePoint.{OncePoint}
 use Rattle.spin_world_once.specs.declared.once.OncePoint.TheVariants.{Look, TryBegin, Await, Run}
 use Rattle.spin_world_core.specs.Manners.{Manner, plain, look, is_look}
-use Rattle.spin_world_core.specs.Calls.{once, Asked, initializes, fails_to_initialize, Mark, Said, gives_value, failed, is_weak_try}
+use Rattle.spin_world_core.specs.Calls.{once, Asked, initializes, fails_to_initialize, Mark, Said, gives_value, failed, may_be_weak}
 use Rattle.spin_world_core.specs.Operations.{Operation, loads, exchanges, stores, performed}
 use Rattle.spin_world_core.specs.Acts.{Act, either, becomes, made_if, step_by, can_by}
 use Rattle.spin_world_core.specs.Machines.{opening_phase, opening_plain}
@@ -232,7 +232,7 @@ module _ {V : Type 0} (value : Option V) where
   fits_all IsCompleted None = refl
   fits_all IsCompleted (Some h) = refl
 
-  strong : (c : OnceCall V) → is_weak_try (asks_of c) ≡ false
+  strong : (c : OnceCall V) → may_be_weak (asks_of c) ≡ false
   strong (CallOnce x) = refl
   strong (TryCallOnceOk x) = refl
   strong (InitFromRef x) = refl

@@ -1,7 +1,7 @@
 -- What the table of the read-write lock owes.
 use Rattle.std.proofs.Common.{◌≡◌, ℕ, suc, ◌+◌, ◌-◌, ◌/◌, ◌%◌, ◌≤◌, ◌==◌, Bool, true, ◌&&◌, Option, Some, None, List, [], ◌∷◌, ◌++◌, length, nat_lt, unwrap_or, refl, ap, sym, ◌∙◌, subst, arith, inl, eq-eqb, length-append}
 use Rattle.std.specs.Prelude.{min, max}
-use Rattle.std.proofs.lemmas.Bool.{and_parts, lt-ltb, ltb-true, false≢true}
+use Rattle.std.proofs.lemmas.Bool.{and_parts, lt-ltb, ltb-true}
 use Rattle.spin_step.specs.Plain.{Plain, Kind, reading, upgradable, writing, Holder, holder, to_read, to_read_upgradable, to_write, to_upgrade, Change, gets, releases, turns, apply, is_open, may_read, is_empty, is_holder, is_downgrade, count_kind, without_holder, with_kind, rw_word}
 use Rattle.spin_step.specs.Parties.{Entries, entries, who, IsExclusive}
 use Rattle.spin_step.specs.Steps.{Decides}
@@ -273,9 +273,18 @@ module _ {V : Type 0} (v : V) (cap : ℕ) where
   fits_all _ (Some h) = refl
 
   weakly : TriesWeakly (rw_table v cap)
-  weakly TryWriteWeak l h weak is = refl
-  weakly TryUpgradeWeak l h weak is = refl
-  weakly _ l h weak is = absurd (false≢true weak)
+  weakly p TryRead First h = refl
+  weakly p TryRead (Exchange n) h = refl
+  weakly p Read First h = refl
+  weakly p Read (Exchange n) h = refl
+  weakly p TryUpgradeableRead First h = refl
+  weakly p TryUpgradeableRead (Exchange n) h = refl
+  weakly p UpgradeableRead First h = refl
+  weakly p UpgradeableRead (Exchange n) h = refl
+  weakly p Downgrade l (Some hold.Write) = refl
+  weakly p Release l (Some hold.Read) = refl
+  weakly p Release l (Some hold.Upgradable) = refl
+  weakly p _ _ _ = refl
 
   on_word : (c : RwCall) (l : RwPoint) (h : Option Hold) (operation : Operation)
       → ((w : ℕ) → can_by (act_of {V = V} cap c l h) w ≡ true → (step_by {V = V} (λ w. w) (act_of {V = V} cap c l h) w).words ≡ performed operation w) → Operates (rw_table v cap) c l h 0 operation

@@ -176,6 +176,14 @@ write_strongly c l h = act_of 9 c l h
 abbrev pub writes_strongly : {V : Type 0} → V → RwMachine V
 writes_strongly v = with_steps v write_strongly
 
+-- so is that of `write`
+abbrev pub wait_strongly : {V : Type 0} → RwCall → RwPoint → Option Hold → RwAct V
+wait_strongly Write l h = exchange write (λ p. gets p to_write) (granted hold.Write) (λ w. GoesOn First)
+wait_strongly c l h = act_of 9 c l h
+
+abbrev pub waits_strongly : {V : Type 0} → V → RwMachine V
+waits_strongly v = with_steps v wait_strongly
+
 -- `try_upgrade` may refuse without cause, though it is no weak try
 abbrev pub refuses_an_upgrade : {V : Type 0} → RwCall → RwPoint → Option Hold → Option (Next RwPoint (Answer V))
 refuses_an_upgrade TryUpgrade l h = Some (Answers Refused h)

@@ -4,7 +4,7 @@ ghost use Rattle.spin_world_core.specs.Operations.{Stepwise};
 ghost use Rattle.spin_world_core.specs.Runs.{KeepsAll, MomentsAll, CountsAll};
 ghost use Rattle.spin_world_rw.specs.Rw.{rw_machine};
 ghost use Rattle.spin_world_rw.specs.Named.{IsRw};
-ghost use Rattle.spin_world_rw.specs.Wrong.{upgrades_at_once, upgrade_beside_a_reader, downgrades_in_two, downgrade_alone, reads_and_regrets, reads_and_regrets_unseen, read_beside_a_writer, reads_by_a_mask, writes_by_chance, write_alone, upgrades_anew, upgrade_alone, counts_without_upgradable, count_beside_an_upgradable, looks_for_ever, four_looks, tries_for_ever, read_alone, reads_in_one, reads_by_a_guess, guess_beside_a_reader, reads_weakly, read_by_chance, writes_strongly, upgrades_by_chance, upgrade_by_chance, never_releases, upgrades_any_reader, writes_by_reading, never_writes, opens_written, forgets_its_value, has_no_owner};
+ghost use Rattle.spin_world_rw.specs.Wrong.{upgrades_at_once, upgrade_beside_a_reader, downgrades_in_two, downgrade_alone, reads_and_regrets, reads_and_regrets_unseen, read_beside_a_writer, reads_by_a_mask, writes_by_chance, write_alone, upgrades_anew, upgrade_alone, counts_without_upgradable, count_beside_an_upgradable, looks_for_ever, four_looks, tries_for_ever, read_alone, reads_in_one, reads_by_a_guess, guess_beside_a_reader, reads_weakly, read_by_chance, writes_strongly, waits_strongly, upgrades_by_chance, upgrade_by_chance, never_releases, upgrades_any_reader, writes_by_reading, never_writes, opens_written, forgets_its_value, has_no_owner};
 
 /// A `try_upgrade` that is granted while a reader stands: the plain step isn't open.
 pub fn an_upgrade_is_refused_beside_readers<V: Copy>()
@@ -68,9 +68,10 @@ pub fn a_read_fails_by_no_chance<V: Copy>()
     ensures { (value : V) → KeepsAll (reads_weakly value) 1 read_by_chance → ⊥ }
 {}
 
-/// A weak `try_write` whose exchange is strong.
-pub fn a_weak_try_is_weak<V: Copy>()
-    ensures { (value : V) → Stepwise (writes_strongly value) → ⊥ }
+/// A weak `try_write` whose exchange is strong, and a `write`.
+pub fn a_weak_exchange_is_weak<V: Copy>()
+    ensures tries { (value : V) → Stepwise (writes_strongly value) → ⊥ }
+    ensures waits { (value : V) → Stepwise (waits_strongly value) → ⊥ }
 {}
 
 /// A strong `try_upgrade` that may be refused without cause.

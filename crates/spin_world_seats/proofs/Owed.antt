@@ -1,6 +1,6 @@
 -- What the table of the seats owes.
 use Rattle.std.proofs.Common.{◌≡◌, ℕ, suc, ◌+◌, ◌-◌, ◌≤◌, true, Option, Some, None, List, [], ◌∷◌, length, nat_lt, unwrap_or, refl, ap, sym, ◌∙◌, arith, inl, length-append}
-use Rattle.std.proofs.lemmas.Bool.{lt-ltb, ltb-true, false≢true}
+use Rattle.std.proofs.lemmas.Bool.{lt-ltb, ltb-true}
 use Rattle.spin_step.specs.Plain.{Plain, reading, holder, to_read, gets, releases, apply, may_read, is_holder}
 use Rattle.spin_step.specs.Parties.{Entries, entries}
 use Rattle.spin_step.proofs.Exclusive.{count-more, count-without_holder}
@@ -125,8 +125,11 @@ module _ (n : ℕ) where
   fits_all _ (Some h) = refl
 
   weakly : TriesWeakly (seats_table n)
-  weakly TryEnter l h weak is = absurd (false≢true weak)
-  weakly _ l h weak is = absurd (false≢true weak)
+  weakly p TryEnter First h = refl
+  weakly p TryEnter (Exchange k) h = refl
+  weakly p Enter First h = refl
+  weakly p Enter (Exchange k) h = refl
+  weakly p _ _ _ = refl
 
   alone : (c : SeatsCall) (l : SeatsPoint) (h : Option Hold) (operation : Operation)
       → ((w : ℕ) → can_by (act_of n c l h) w ≡ true → (step_by {V = Unit {0}} (λ w. w) (act_of n c l h) w).words ≡ performed operation w) → OperatesAt calls.seats (seats_table n) c l h

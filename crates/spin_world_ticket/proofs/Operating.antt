@@ -12,12 +12,12 @@ use Rattle.spin_world_ticket.specs.declared.ticket.TicketCall.{TicketCall}
 use Rattle.spin_world_ticket.specs.declared.ticket.TicketCall.TheVariants.{Lock, Release}
 use Rattle.spin_world_ticket.specs.declared.ticket.TicketPoint.{TicketPoint}
 use Rattle.spin_world_ticket.specs.declared.ticket.TicketPoint.TheVariants.{LoadNext, Take, Await, TryLoadNext, TryLoadServing, TryTake, LookServing, LookNext, Serve}
-use Rattle.spin_world_core.specs.Calls.{ticket}
+use Rattle.spin_world_core.specs.Calls.{ticket, may_be_weak}
 use Rattle.spin_world_core.specs.Operations.{Operation, loads, exchanges, stores, performed}
 use Rattle.spin_world_core.specs.Acts.{either, passing, becomes, retried, step_by}
-use Rattle.spin_world_ticket.specs.Ticket.{is_left, take, take_at, granted, goes_for, act_of, ticket_table}
+use Rattle.spin_world_ticket.specs.Ticket.{is_left, take, take_at, granted, goes_for, act_of, asks_of, ticket_table}
 use Rattle.spin_world_core.proofs.Lists.{eqb_self}
-use Rattle.spin_world_core.proofs.Operating.{BeginsWhereItFits, TriesWeakly, Refuses, OperatesAt}
+use Rattle.spin_world_core.proofs.Operating.{BeginsWhereItFits, TriesWeakly, never_strongly, Refuses, OperatesAt}
 
 module _ {V : Type 0} (v : V) (first : ℕ) where
   pub fits_all : BeginsWhereItFits (ticket_table v first)
@@ -26,9 +26,12 @@ module _ {V : Type 0} (v : V) (first : ℕ) where
   fits_all _ None = refl
   fits_all _ (Some h) = refl
 
+  never_weak : (c : TicketCall) (h : Option Hold) → may_be_weak (asks_of c h) ≡ false
+  never_weak Lock h = refl
+  never_weak _ h = refl
+
   pub strong : TriesWeakly (ticket_table v first)
-  strong Lock l h weak is = absurd (false≢true weak)
-  strong _ l h weak is = absurd (false≢true weak)
+  strong p c l h = never_strongly (asks_of c h) (act_of {V = V} l h) p (never_weak c h)
 
   pub refuses : Refuses (ticket_table v first)
   refuses c LoadNext h next is = absurd (cc (is))
