@@ -22,7 +22,8 @@ pub fn one_closure_runs_at_a_time<V: Copy>()
     ensures { (object : OnceObject V) (n : ℕ) (past : Entries V) → OneRuns (⟦<OnceObject<V> as Object>⟧.machine object) n past }
 {}
 
-/// Where there is a value, each call that wants it answers it by its next step.
+/// Where there is a value, each call that wants it answers it by its next step; where there is nothing, a `poll` says so
+/// by its next step.
 pub fn a_value_is_answered_at_once<V: Copy>()
     ensures { (object : OnceObject V) (n : ℕ) (past : Entries V) → AnswersAtOnce (⟦<OnceObject<V> as Object>⟧.machine object) n past }
 {}
