@@ -16,8 +16,7 @@ pub use spin_world_fair::{
     a_word_is_zero_when_nobody_holds_or_starves, starvers_come_first,
 };
 pub use spin_world_flag::{
-    Flag, FlagCall, FlagPoint, a_flag_is_clear_when_nobody_holds, a_lock_tries_again,
-    a_look_has_a_cause, a_strong_try_has_a_cause,
+    Flag, FlagCall, FlagPoint, a_flag_is_clear_when_nobody_holds, a_flag_is_what_its_calls_ask,
 };
 pub use spin_world_once::{
     OnceCall, OnceObject, OncePoint, a_closure_begins_after_a_look, a_later_closure_may_run,
