@@ -68,6 +68,11 @@ module _ {X : Type 0} where
   abbrev pub Seen : Way X → X → Type 0
   Seen way x = Fixed way 1 0 x
 
+  -- which parties may have come to a new cell, and gone
+  abbrev pub IsNew : {V : Type 0} → Way X → List V → Type 0
+  IsNew (fixes fact) vs = Unit {0}
+  IsNew _ vs = vs ≡ []
+
   -- any value may take the place of one that nobody uses
   abbrev pub Frees : Way X → Type 0
   Frees (fixes fact) = (read : Bool) (x : X) → fact read x
@@ -116,6 +121,10 @@ module _ {X V : Type 0} (holds : ℕ → ℕ → List V → Type 0) (ways : Ways
   -- some parties may have come to a cell with these words and this value, and gone
   abbrev pub Starts : ℕ → ℕ → X → Type 0
   Starts n m x = (vs : List V) × Meets n m vs × Fixed ways.0 (readers_of ways.1 vs) (writers_of ways.1 vs) x
+
+  -- nobody has come to a new cell; or, where a value is read for good, who made it has gone
+  abbrev pub Opens : ℕ → ℕ → X → Type 0
+  Opens n m x = (vs : List V) × IsNew ways.0 vs × Meets n m vs × Fixed ways.0 (readers_of ways.1 vs) (writers_of ways.1 vs) x
 
 module _ {V : Type 0} where
   -- the party has this view, or has come to no view yet

@@ -4,7 +4,7 @@
 ghost use Rattle.std.specs.Prelude.{◌≡◌, ◌≢◌, ◌+◌, ◌-◌, ◌%◌, ◌^◌, ◌==◌, ℕ, List, [], Option, bit_and, bit_or};
 ghost use Rattle.std.specs.Coded.{coded_option};
 ghost use prog.Atomic.{either};
-ghost use Rattle.spin_core.specs.Cell.{Ways, off, reads, writes, use_of, Starts, Frees, Seen, Rests, AllowsAt, AllowsSecondAt, Moved, Keeps};
+ghost use Rattle.spin_core.specs.Cell.{Ways, off, reads, writes, use_of, Opens, Frees, Seen, Rests, AllowsAt, AllowsSecondAt, Moved, Keeps};
 ghost use Rattle.spin_core.specs.CellMemory.{Known, cell_owns, cell_shares, permit_owns, permit_shares, writer_owns, writer_shares};
 
 use atomic_table::exchange;
@@ -85,11 +85,11 @@ impl<'a, T, V, P: Rule<T, V>> Model for WritePermit<'a, T, V, P> {
 }
 
 impl<T, V, P: Rule<T, V>> Cell<T, V, P> {
-    /// A cell with no party. `known` asks that whoever may share the rule's own type may share the value, where
-    /// parties read it beside one another.
+    /// A cell to which nobody has come; where a value is read for good it may have one, whose maker has gone. `known`
+    /// asks that whoever may share the rule's own type may share the value, where parties read it beside one another.
     pub fn new(value: T, first: u64, second: u64, key: &P::Key) -> Cell<T, V, P>
         requires known { Known (P.ways key.now) P.row T.row }
-        requires rule { Starts P.holds (P.ways key.now) first second value }
+        requires rule { Opens P.holds (P.ways key.now) first second value }
         ensures key { result ≡ key.now }
     {
         let _ = key;

@@ -1,7 +1,7 @@
 -- The steps of a value that is made once keep its rule.
 use Rattle.std.proofs.Common.{◌≡◌, ℕ, zero, suc, ◌+◌, ◌==◌, List, [], ◌∷◌, ◌++◌, Option, Some, None, refl, sym, ap, subst, arith}
 use prog.Atomic.{either}
-use Rattle.spin_core.specs.Cell.{Use, off, reads, writes, reading, writing, use_of, readers_of, writers_of, Meets, Limits, Starts, Stands as At, after, AllowsAt, Keeps, Moved}
+use Rattle.spin_core.specs.Cell.{Use, off, reads, writes, reading, writing, use_of, readers_of, writers_of, Meets, Limits, Opens, Stands as At, after, AllowsAt, Keeps, Moved}
 use Rattle.spin_core.proofs.CellCounts.{moves}
 use Rattle.spin_core_tests.specs.Once.{use_of_view, once_ways, Stands, IsOnce, Looks, Begins, PutsBack, Completes}
 use Rattle.spin_core_tests.specs.declared.once.View.{View}
@@ -30,11 +30,11 @@ limits key (suc (suc (suc n))) r w s = absurd s
 meets : (key n m : ℕ) (vs : List View) → IsOnce n m vs → Meets IsOnce (once_ways key) n m vs
 meets key n m vs is = (is, limits key n (readers_of f vs) (writers_of f vs) is)
 
-pub not_made : (key : ℕ) → Starts IsOnce (once_ways key) 0 0 (Seed key)
-not_made key = ([], meets key 0 0 [] (refl, refl), refl)
+pub not_made : (key : ℕ) → Opens IsOnce (once_ways key) 0 0 (Seed key)
+not_made key = ([], tt, meets key 0 0 [] (refl, refl), refl)
 
-pub is_made : (key value : ℕ) → value ≡ key + 1 → Starts IsOnce (once_ways key) 2 0 (Done value)
-is_made key value e = (Seeing ∷ [], meets key 2 0 (Seeing ∷ []) (omega arith, refl), e)
+pub is_made : (key value : ℕ) → value ≡ key + 1 → Opens IsOnce (once_ways key) 2 0 (Done value)
+is_made key value e = (Seeing ∷ [], tt, meets key 2 0 (Seeing ∷ []) (omega arith, refl), e)
 
 -- a look: a party that finds 2 comes to see
 pub looks : (key : ℕ) → AllowsAt IsOnce (once_ways key) None None (λ n. n) (Looks 0 0 None)

@@ -6,7 +6,7 @@ use prog.Atomic.{either}
 use Rattle.core.specs.declared.snapshot.Snapshot.{Snapshot}
 use Rattle.spin_step.specs.Plain.{Plain, Phase, nothing, running, complete, gets, completes, fails, to_begin, once_word}
 use Rattle.spin_step.specs.Steps.{Decides, Gives}
-use Rattle.spin_core.specs.Cell.{off, reads, writes, reading, writing, use_of, Meets, Limits, Fixed, Owes, Starts, Stands, after, AllowsAt, Rests, Moved}
+use Rattle.spin_core.specs.Cell.{off, reads, writes, reading, writing, use_of, Meets, Limits, Fixed, Owes, Opens, Stands, after, AllowsAt, Rests, Moved}
 use Rattle.spin_core.specs.Plays.{becomes, becomes_by}
 use Rattle.spin_core.specs.Settled.{loose, SettlesAt}
 use Rattle.spin_core.specs.declared.cell.settled.Loose.{Loose}
@@ -68,11 +68,11 @@ module _ {T S : Type 0} (makes : S → T → Type 0) (key : Snapshot S) where
   meets n m vs has e = (is_once n m vs has e, limits n (seeing vs) (runs vs) has)
 
   -- ---- a new cell
-  pub starts_seeded : (seed : S) → seed ≡ key.value → Starts IsOnce (once_ways makes key) 0 0 (loose (Seed seed))
-  starts_seeded seed e = ([], meets 0 0 [] (refl, refl) refl, e)
+  pub starts_seeded : (seed : S) → seed ≡ key.value → Opens IsOnce (once_ways makes key) 0 0 (loose (Seed seed))
+  starts_seeded seed e = ([], tt, meets 0 0 [] (refl, refl) refl, e)
 
-  pub starts_made : (value : T) → makes key.value value → Starts IsOnce (once_ways makes key) 2 0 (loose (Done value))
-  starts_made value made = (Seeing ∷ [], meets 2 0 (Seeing ∷ []) (omega arith, refl) refl, made)
+  pub starts_made : (value : T) → makes key.value value → Opens IsOnce (once_ways makes key) 2 0 (loose (Done value))
+  starts_made value made = (Seeing ∷ [], tt, meets 2 0 (Seeing ∷ []) (omega arith, refl) refl, made)
 
   -- ---- the owner of a value that was made
   fixed : (r w : ℕ) → 0 < r → (x : Stage T S) → Fixed (once_ways makes key).0 r w (loose x) ≡ IsMadeFrom makes key true x

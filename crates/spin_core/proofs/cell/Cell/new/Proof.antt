@@ -29,7 +29,7 @@ use Rattle.core.specs.contracts.marker.PhantomData as marker
 use Rattle.atomic_table.proofs.Walks.{proved_at, leaves}
 use Rattle.std.proofs.ResultValues.{and_tt}
 use Rattle.atomic_table.specs.Seated.{fact as said}
-use Rattle.spin_core.specs.Cell.{Starts}
+use Rattle.spin_core.specs.Cell.{Starts, Opens}
 use Rattle.spin_core.specs.CellMemory.{Known}
 use Rattle.spin_core.specs.contracts.cell.Cell.TheInside as inside
 use Rattle.spin_core.specs.contracts.cell.Cell.new.{ended, clauses}
@@ -50,15 +50,15 @@ new_spec 𝓤 𝓛 𝓜 𝓡 wired X U P K L _ _ _ g d _ =
     let got = one E z.0.4.0 ((lawful E 𝓛).typed x z.0.4.0 are.0) in let vy : Val = got.0 in let fy : Good E vy = got.2 in let v : Val = vstruct (vcons (vstruct vnil) (vcons (vint w64 n) (vcons (vint w64 k) (vcons vy vnil)))) in
     let Post : Val → SProp 𝓤 = (walk_of 𝓛 En hs c).post z in let Run : List Val → SProp 𝓤 = λ ws. WpFn 𝓤 H 𝓣.C 𝓣.Λ fn ws Post in
     let typed : T (has_ty (layout X) vy && true) × WT v = (fine vy fy, (tt, (record { fits = fits }, (record { fits = fits' }, (fy.1, tt))))) in
-    let Rule : ℕ × ℕ × X.Denot → Type 0 = λ s. Starts g.holds ways s.0 s.1 s.2 in let Knows : Type 0 = Known ways Y R in
+    let Rule : ℕ × ℕ × X.Denot → Type 0 = λ s. Starts g.holds ways s.0 s.1 s.2 in let Opened : Type 0 = Opens g.holds ways n k x in let Knows : Type 0 = Known ways Y R in
     let owned : (ℕ × ℕ × X.Denot) → Fml = λ s. fsep (F.own_val (record { marker = record {}; first = s.0; second = s.1; value = s.2 }) (v ∷ [])) (said (Rule s)) in
-    qed 𝓛 ((raw (alive 𝓛 En.signature z.0.0 z.0.1) ⊛ ‵ (owns (types_at En.signature.params z.0.0) z.0.3 z.0.4)) ∷ raw (fact 𝓤 _) ∷ raw (fact 𝓤 _) ∷ raw (fact 𝓤 _) ∷ raw (fact 𝓤 _) ∷ raw (fact 𝓤 Knows) ∷ raw (fact 𝓤 (Rule (n, k, x))) ∷ []) ∵
-    keep ! (5 ∷ 6 ∷ 0 ∷ []) $ heard ! Knows (λ known. heard ! (Rule (n, k, x)) (λ met. split ! $ move ! (1 ∷ []) $ fsplit ! $ move ! (1 ∷ []) $ drop ! $ nothing ! $ move ! (1 ∷ []) $
+    qed 𝓛 ((raw (alive 𝓛 En.signature z.0.0 z.0.1) ⊛ ‵ (owns (types_at En.signature.params z.0.0) z.0.3 z.0.4)) ∷ raw (fact 𝓤 _) ∷ raw (fact 𝓤 _) ∷ raw (fact 𝓤 _) ∷ raw (fact 𝓤 _) ∷ raw (fact 𝓤 Knows) ∷ raw (fact 𝓤 Opened) ∷ []) ∵
+    keep ! (5 ∷ 6 ∷ 0 ∷ []) $ heard ! Knows (λ known. heard ! Opened (λ opened. split ! $ move ! (1 ∷ []) $ fsplit ! $ move ! (1 ∷ []) $ drop ! $ nothing ! $ move ! (1 ∷ []) $
     rewrite ! 0 (λ (ws : List Val). ‵ (R.own_val x ws)) got.1 refl $ fjoin ! $ flt_i ! k (2 ^ 64) fits' $ feq_i ! (List Val) (vint w64 k ∷ []) (vint w64 k ∷ []) refl $ fjoin ! $ fjoin ! $
     flt_i ! n (2 ^ 64) fits $ feq_i ! (List Val) (vint w64 n ∷ []) (vint w64 n ∷ []) refl $ fjoin ! $ fjoin ! $
     use0 𝓛 (‵ (Mk.own_val (record {}) (vstruct vnil ∷ []))) (makes_shadow 𝓛 (Mk.own_val (record {}) (vstruct vnil ∷ [])) (λ uss. (tt, tt)) (tt, (refl, tt))) $ fjoin ! $
     feq_i ! (List Val) (v ∷ []) (v ∷ []) refl $ fjoin ! $ fpack ! (Valss (Mk ∷ u64 ∷ u64 ∷ R ∷ [])) (within D (tt, (n, (k, (x, tt)))) (v ∷ [])) (vstruct vnil ∷ [], (vint w64 n ∷ [], (vint w64 k ∷ [], (vy ∷ [], tt)))) $
-    nothing ! $ fpack ! (Rule (n, k, x)) (λ _. ftrue) met $ move ! (1 ∷ 0 ∷ []) $ fjoin ! $
+    nothing ! $ fpack ! (Rule (n, k, x)) (λ _. ftrue) (opened.0, opened.2, opened.3) $ move ! (1 ∷ 0 ∷ []) $ fjoin ! $
     fpack ! (ℕ × ℕ × X.Denot) owned (n, k, x) $ fpack ! Knows (λ _. fex (ℕ × ℕ × X.Denot) owned) known $ nothing ! $ fpack ! (Typed F.mir (v ∷ [])) (λ _. ftrue) (typed, tt) $ fjoin ! $
     suffices ! (Run (vy ∷ vint w64 n ∷ vint w64 k ∷ at ∷ [])) (subst (λ (ws : List Val). ent 𝓤 (Run (vy ∷ vint w64 n ∷ vint w64 k ∷ at ∷ [])) (Run ws)) (sym (λ i. got.1 i ++ (are.1.0.0 i ++ (are.1.1.0.0 i ++ (are.1.1.1.0.0 i ++ []))))) (id⊢ 𝓤 (Run (vy ∷ vint w64 n ∷ vint w64 k ∷ at ∷ [])))) $
     enter ! 𝓣.C 𝓣.Λ fn (vy ∷ vint w64 n ∷ vint w64 k ∷ at ∷ []) Post $ alloc_all ! (λ l. pass_all ! refl (fy, ((tt, record { fits = fits }), ((tt, record { fits = fits' }), ((tt, tt), tt)))) $

@@ -1,4 +1,4 @@
-use Rattle.std.proofs.Common.{[]}
+use Rattle.std.proofs.Common.{[], refl}
 use Rattle.spin_rwlock.proofs.Known.{known}
 use Rattle.spin_rwlock.proofs.Steps.{starts}
 use Rattle.spin_rwlock.proofs.rwlock.RwLock+T+R.new.Goals as goal
@@ -7,4 +7,4 @@ pub new-requires-clause-known : goal.new-requires-clause-known
 new-requires-clause-known g c = ((λ u may. known g.row.T may), (λ v u may. known g.row.T may))
 
 pub new-requires-clause-rule : goal.new-requires-clause-rule
-new-requires-clause-rule g c = ([], starts, tt)
+new-requires-clause-rule g c = ([], refl, starts, tt)
