@@ -6,7 +6,6 @@ ghost use Rattle.spin_world_core.specs.Runs.{opening};
 ghost use Rattle.spin_world_core.specs.Users.{seen_after};
 ghost use Rattle.spin_world_flag.specs.declared.flag.FlagCall.{FlagCall};
 ghost use Rattle.spin_world_flag.specs.declared.flag.Flag.{Flag};
-ghost use Rattle.spin_world_flag.specs.Flag.{flag_machine};
 ghost use Rattle.spin_world_flag.specs.Named.{IsFlag};
 
 use crate::flag::Flag;
@@ -19,5 +18,5 @@ pub fn a_flag_is_what_its_calls_ask<V: Copy>()
 
 /// The flag is clear exactly when nobody holds the lock.
 pub fn a_flag_is_clear_when_nobody_holds<V: Copy>()
-    ensures { (value : V) (n : ℕ) (past : List (ℕ × Move FlagCall V)) → ((after (flag_machine value) (at_first (flag_machine value) n) past).words ≡ false) ↔ ((seen_after (flag_machine value) (opening (flag_machine value) n) past).plain.holders ≡ []) }
+    ensures { (object : Flag V) (n : ℕ) (past : List (ℕ × Move FlagCall V)) → let m = ⟦<Flag<V> as Object>⟧.machine object in ((after m (at_first m n) past).words ≡ false) ↔ ((seen_after m (opening m n) past).plain.holders ≡ []) }
 {}

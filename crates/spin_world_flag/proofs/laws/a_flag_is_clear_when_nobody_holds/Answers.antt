@@ -16,7 +16,8 @@ empty_when_clear false hs e none = refl
 empty_when_clear true hs e none = let n : bit true ≡ length hs = cc (e) in absurd (omega (arith, n, ap length none))
 
 pub returns : goal.returns
-returns g c = λ value n past.
+returns g c = λ f n past.
+    let value = f.value in
     let m = flag_machine value in
     let good = good_after m (flag_keeping value) (flag_facts value) (opening m n) past (good_first m (flag_keeping value) (flag_facts value) n) in
     let words = ap (λ s. s.words) (state-seen_after m (opening m n) past) in (
