@@ -181,3 +181,25 @@ fn a_waiting_lock_comes_to_starve(rt: HostRuntime) {
     assert_eq!(rt; seen(&lock), OPEN);
     assert_eq!(rt; lock.into_inner(), 2);
 }
+
+const STARVES: u32 = 100_000;
+
+// Whether each `starve` is granted, though others change the word.
+fn starve_often<R: Wait>(rt: &R, lock: &FairMutex<u64>) -> bool {
+    let mut granted = true;
+    for _ in 0..STARVES {
+        granted = granted && lock.starve(rt).is_some();
+    }
+    granted
+}
+
+#[test]
+fn a_starver_that_lost_a_race_tries_again(rt: HostRuntime) {
+    let lock: FairMutex<u64> = FairMutex::new(1);
+    let (first, second) = thread::join(
+        &rt,
+        || starve_often(&rt, &lock),
+        || starve_often(&rt, &lock),
+    );
+    assert_eq!(rt; (first, second), (true, true));
+}
