@@ -13,6 +13,8 @@ use std::sync::Wait;
 
 mod rule;
 mod starvation;
+#[cfg(test)]
+mod tests;
 mod texts;
 
 pub use self::rule::{FairRule, View};

@@ -26,7 +26,7 @@ pub use spin_ticket::ticket::{TicketMutex, TicketMutexGuard};
 /// Example: `two_threads_lose_no_addition`, `crates/spin_mutex_tests/src/threads.rt`.
 #[derive(Drop)]
 pub struct Mutex<T, R = Spin> {
-    inner: TicketMutex<T, R>,
+    pub(crate) inner: TicketMutex<T, R>,
 }
 
 /// Access to the value of a `Mutex`. Dropping it lets go of the lock.

@@ -181,3 +181,58 @@ fn a_waiting_lock_comes_to_starve(rt: HostRuntime) {
     assert_eq!(rt; seen(&lock), OPEN);
     assert_eq!(rt; lock.into_inner(), 2);
 }
+
+/// A strategy that takes its time.
+struct Slow;
+
+impl RelaxStrategy for Slow {
+    fn relax<W: Wait>(rt: &W) {
+        for _ in 0..20_000 {
+            Yield::relax(rt);
+        }
+    }
+}
+
+// How often the waiting lock may look, about, while the test looks for a starver. Its patience is 25 times that.
+const SLOW_LOOKS: u32 = 40;
+
+#[test]
+fn a_waiting_lock_is_patient(rt: HostRuntime) {
+    let lock: FairMutex<u64, Slow> = FairMutex::new(1);
+    let (shared, host) = (&lock, &rt);
+    let guard = shared.lock(host);
+    let waits = || drop(shared.lock(host));
+    let release = move || {
+        let mut patient = true;
+        for _ in 0..SLOW_LOOKS {
+            Slow::relax(host);
+            patient = patient && seen(shared) == HELD;
+        }
+        drop(guard);
+        patient
+    };
+    let ((), patient) = thread::join(host, waits, release);
+    assert!(rt; patient);
+}
+
+const STARVES: u32 = 100_000;
+
+// Whether each `starve` is granted, though others change the word.
+fn starve_often<R: Wait>(rt: &R, lock: &FairMutex<u64>) -> bool {
+    let mut granted = true;
+    for _ in 0..STARVES {
+        granted = granted && lock.starve(rt).is_some();
+    }
+    granted
+}
+
+#[test]
+fn a_starver_that_lost_a_race_tries_again(rt: HostRuntime) {
+    let lock: FairMutex<u64> = FairMutex::new(1);
+    let (first, second) = thread::join(
+        &rt,
+        || starve_often(&rt, &lock),
+        || starve_often(&rt, &lock),
+    );
+    assert_eq!(rt; (first, second), (true, true));
+}

@@ -1,4 +1,4 @@
-//! Threads take turns, and a guard may end in another thread than the one that took it.
+//! Threads take turns, a look leaves the lock to them, and a guard may end in another thread than the one that took it.
 use crate::lock::read;
 use spin_core::relax::{RelaxStrategy, Yield};
 use spin_mutex::mutex::{FairMutex, Mutex, SpinMutex, TicketMutex};
@@ -124,4 +124,35 @@ fn a_guard_may_end_in_another_thread(rt: HostRuntime) {
         written_elsewhere!(&rt, Mutex),
     ];
     assert_eq!(rt; seen, [Some(3); 4]);
+}
+
+const LOOKS: u32 = 1_000_000;
+
+macro_rules! granted_beside_looks {
+    ($rt:expr, $Lock:ident) => {{
+        let lock: $Lock<u64> = $Lock::new(1);
+        let look = || {
+            for _ in 0..LOOKS {
+                lock.is_locked();
+            }
+        };
+        let try_often = || {
+            let mut granted = true;
+            for _ in 0..LOOKS {
+                granted = granted && lock.try_lock().is_some();
+            }
+            granted
+        };
+        let ((), granted) = thread::join($rt, look, try_often);
+        granted
+    }};
+}
+
+#[test]
+fn a_look_takes_no_lock(rt: HostRuntime) {
+    let granted = [
+        granted_beside_looks!(&rt, SpinMutex),
+        granted_beside_looks!(&rt, FairMutex),
+    ];
+    assert_eq!(rt; granted, [true; 2]);
 }

@@ -2,11 +2,14 @@
 //! are used up; and that a `Mutex` is over them.
 use spin_core::relax::{RelaxStrategy, Yield};
 use spin_mutex::mutex::{Mutex, TicketMutex, TicketMutexGuard};
-use spin_mutex::testing::starting_at as mutex_starting_at;
+use spin_mutex::testing::{next as next_of_mutex, starting_at as mutex_starting_at};
 use spin_ticket::testing::{next, starting_at};
 use std::sync::Wait;
+use std::sync::atomic::AtomicBool;
+use std::sync::atomic::Ordering::SeqCst;
 use std::test::Fail;
 use std::thread;
+use std::thread::Threads;
 
 const MOST_LOOKS: u32 = 10_000_000;
 
@@ -23,7 +26,9 @@ fn used_up_tickets_are_refused(rt: HostRuntime) {
 
 #[test]
 fn a_mutex_of_used_up_tickets_refuses(rt: HostRuntime) -> Result<(), Fail> {
-    let mutex: Mutex<u64> = mutex_starting_at(42, u64::MAX - 1);
+    let mut mutex: Mutex<u64> = mutex_starting_at(42, u64::MAX - 1);
+    *mutex.get_mut() = 42;
+    assert!(rt; !mutex.is_locked());
     let guard = mutex.try_lock().expect(&rt, "one ticket is left");
     assert_eq!(rt; *guard, 42);
     drop(guard);
@@ -59,10 +64,50 @@ fn looks_and_the_owner_take_no_ticket(rt: HostRuntime) {
     assert_eq!(rt; *guard, 43);
 }
 
+/// A lock whose parties queue.
+trait Tickets {
+    /// The number of the next ticket.
+    fn next(&self) -> u64;
+}
+
+impl Tickets for TicketMutex<u64, Yield> {
+    fn next(&self) -> u64 {
+        next(self)
+    }
+}
+
+impl Tickets for Mutex<u64, Yield> {
+    fn next(&self) -> u64 {
+        next_of_mutex(self)
+    }
+}
+
+/// A text of digits under such a lock, by which those who enter tell their order.
+trait Text: Tickets {
+    /// Enters, appends the digit, and stays until the next ticket's number is `last`. Answers whether it came to that.
+    fn append<R: Wait>(&self, rt: &R, digit: u64, last: u64) -> bool;
+}
+
+impl Text for TicketMutex<u64, Yield> {
+    fn append<R: Wait>(&self, rt: &R, digit: u64, last: u64) -> bool {
+        let mut text = self.lock(rt);
+        *text = text.wrapping_mul(10).wrapping_add(digit);
+        comes_to(rt, self, last)
+    }
+}
+
+impl Text for Mutex<u64, Yield> {
+    fn append<R: Wait>(&self, rt: &R, digit: u64, last: u64) -> bool {
+        let mut text = self.lock(rt);
+        *text = text.wrapping_mul(10).wrapping_add(digit);
+        comes_to(rt, self, last)
+    }
+}
+
 // Whether the next ticket's number came to be `number` within the looks.
-fn comes_to<R: Wait>(rt: &R, lock: &TicketMutex<u64, Yield>, number: u64) -> bool {
+fn comes_to<Q: Tickets, R: Wait>(rt: &R, queue: &Q, number: u64) -> bool {
     for _ in 0..MOST_LOOKS {
-        if next(lock) == number {
+        if queue.next() == number {
             return true;
         }
         Yield::relax(rt);
@@ -70,33 +115,87 @@ fn comes_to<R: Wait>(rt: &R, lock: &TicketMutex<u64, Yield>, number: u64) -> boo
     false
 }
 
-fn append<R: Wait>(rt: &R, lock: &TicketMutex<u64, Yield>, digit: u64) {
-    let mut text = lock.lock(rt);
-    *text = text.wrapping_mul(10).wrapping_add(digit);
+// Comes once `before` have come, and stays until all three have.
+fn enter<Q: Text, R: Wait>(rt: &R, queue: &Q, before: u64) -> bool {
+    let in_order = comes_to(rt, queue, before);
+    queue.append(rt, before.wrapping_add(1), 3) && in_order
+}
+
+// Whether three came one after the other while the first was in.
+fn enter_in_three<Q: Text + Sync, R: Threads + Wait + Sync>(rt: &R, queue: &Q) -> bool {
+    let others = || {
+        let (second, third) = thread::join(rt, || enter(rt, queue, 1), || enter(rt, queue, 2));
+        second && third
+    };
+    let (first, others) = thread::join(rt, || enter(rt, queue, 0), others);
+    first && others
 }
 
 #[test]
-fn two_waiters_enter_in_the_order_of_their_tickets(rt: HostRuntime) {
+fn waiters_enter_in_the_order_in_which_they_came(rt: HostRuntime) {
     let lock: TicketMutex<u64, Yield> = TicketMutex::new(0);
-    let (queue, host) = (&lock, &rt);
-    let guard = queue.lock(host);
-    let first = || append(host, queue, 1);
-    let second = || {
-        let queued = comes_to(host, queue, 2);
-        append(host, queue, 2);
-        queued
+    assert!(rt; enter_in_three(&rt, &lock));
+    assert_eq!(rt; lock.into_inner(), 123);
+    let mutex: Mutex<u64, Yield> = Mutex::new(0);
+    assert!(rt; enter_in_three(&rt, &mutex));
+    assert_eq!(rt; mutex.into_inner(), 123);
+}
+
+const TURNS: u64 = 20_000;
+
+/// A queue in which two take turns, each of whom stays until the other has come: from the first ticket to the last
+/// somebody is in.
+#[derive(Drop)]
+struct Relay {
+    // How many have been in.
+    lock: TicketMutex<u64, Yield>,
+    looked: AtomicBool,
+}
+
+impl Relay {
+    // Takes every other turn. The last one stays until the looks are over.
+    fn run<R: Wait>(&self, rt: &R) {
+        for _ in 0..TURNS {
+            let mut before = self.lock.lock(rt);
+            let ticket = *before;
+            *before = ticket.wrapping_add(1);
+            self.await_next(rt, ticket);
+        }
+    }
+
+    fn await_next<R: Wait>(&self, rt: &R, ticket: u64) {
+        for _ in 0..MOST_LOOKS {
+            if next(&self.lock) > ticket.wrapping_add(1) || self.looked.load(SeqCst) {
+                return;
+            }
+            Yield::relax(rt);
+        }
+    }
+
+    // Whether each look from the first ticket to the last found the lock taken.
+    fn look(&self) -> bool {
+        let mut locked = true;
+        for _ in 0..MOST_LOOKS {
+            let has_begun = next(&self.lock) > 0;
+            locked = locked && (!has_begun || self.lock.is_locked());
+            if next(&self.lock) == 2 * TURNS {
+                break;
+            }
+        }
+        self.looked.store(true, SeqCst);
+        locked
+    }
+}
+
+#[test]
+fn a_look_never_finds_a_lock_free_that_is_handed_on(rt: HostRuntime) {
+    let relay = Relay {
+        lock: TicketMutex::new(0),
+        looked: AtomicBool::new(false),
     };
-    let release = move || {
-        let queued = comes_to(host, queue, 3);
-        drop(guard);
-        queued
+    let run_both = || {
+        thread::join(&rt, || relay.run(&rt), || relay.run(&rt));
     };
-    let (_, (second_queued, third_queued)) = thread::join(
-        host,
-        first,
-        || thread::join(host, second, release),
-    );
-    assert!(rt; second_queued);
-    assert!(rt; third_queued);
-    assert_eq!(rt; lock.into_inner(), 12);
+    let ((), locked) = thread::join(&rt, run_both, || relay.look());
+    assert!(rt; locked);
 }

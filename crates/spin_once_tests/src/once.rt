@@ -68,6 +68,7 @@ fn looks_before_and_after(rt: HostRuntime) {
 fn with_a_value_from_the_start_or_without(rt: HostRuntime) {
     let once: Once<u64> = Once::initialized(5);
     equal(&rt, once.is_completed(), true);
+    equal(&rt, once.get().copied(), Some(5));
     equal(&rt, *once.call_once(&rt, || 6), 5);
     equal(&rt, once.try_into_inner(), Some(5));
     let once: Once<u64> = Once::from(5);

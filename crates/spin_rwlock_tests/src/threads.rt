@@ -121,36 +121,3 @@ fn a_writer_beside_five_readers(rt: HostRuntime) {
     equal(&rt, first && second, true);
     equal(&rt, *lock.get_mut(), 10);
 }
-
-/// A value that counts its ends.
-struct Counted<'a> {
-    ends: &'a Cell<u32>,
-}
-
-impl Drop for Counted<'_> {
-    fn drop(self) {
-        let Self { ends } = self;
-        ends.set(ends.get().wrapping_add(1));
-    }
-}
-
-#[test]
-fn a_value_is_dropped_once(rt: HostRuntime) {
-    let ends = Cell::new(0);
-    drop(RwLock::<Counted>::new(Counted { ends: &ends }));
-    equal(&rt, ends.get(), 1);
-    let lock: RwLock<Counted> = RwLock::new(Counted { ends: &ends });
-    let _ = RwLockWriteGuard::leak(lock.write(&rt));
-    drop(lock);
-    equal(&rt, ends.get(), 2);
-    let lock: RwLock<Counted> = RwLock::new(Counted { ends: &ends });
-    drop(RwLockReadGuard::hold(lock.read(&rt)));
-    drop(lock);
-    equal(&rt, ends.get(), 3);
-    let lock: RwLock<Counted> = RwLock::new(Counted { ends: &ends });
-    drop(lock.write(&rt));
-    let value = lock.into_inner();
-    equal(&rt, ends.get(), 3);
-    drop(value);
-    equal(&rt, ends.get(), 4);
-}

@@ -16,6 +16,23 @@ use std::sync::ledger::{Blank, Book, Ledger, Share};
 use std::thread;
 use std::thread::{JoinHandle, Scope, Threads};
 
+/// What each worker passes before its first round.
+pub trait Gate {
+    /// Called once by each worker, before it adds anything. It may wait.
+    fn before<R: Wait>(&self, rt: &R, worker: usize);
+}
+
+/// The gate that lets every worker through.
+#[derive(Clone, Copy)]
+pub struct Open;
+
+impl Gate for Open {
+    fn before<R: Wait>(&self, rt: &R, worker: usize) {
+        let _ = rt;
+        let _ = worker;
+    }
+}
+
 /// The most workers of one run.
 pub const MOST_WORKERS: usize = 64;
 
@@ -106,8 +123,9 @@ impl<P: Plan> Results<P> {
 
 /// What all workers of one run share.
 #[derive(Drop)]
-struct Team<'a, P: Plan, R> {
+struct Team<'a, P: Plan, G, R> {
     rt: &'a R,
+    gate: &'a G,
     // Held while workers are started: they begin once it says that all of them are there.
     begins: Mutex<bool, Yield>,
     barrier: Barrier<Yield>,
@@ -117,9 +135,9 @@ struct Team<'a, P: Plan, R> {
     ghost gains_fit: { rounds * gain < 2 ^ 64 },
 }
 
-impl<P: Plan + Send + Sync, R: Threads + Wait + Sync> Team<'_, P, R> {
+impl<P: Plan + Send + Sync, G: Gate + Sync, R: Threads + Wait + Sync> Team<'_, P, G, R> {
     /// One worker's whole work.
-    fn work(&self, mut share: Share<P>) -> Done<P>
+    fn work(&self, worker: usize, mut share: Share<P>) -> Done<P>
         requires one_part { share.parts ≡ 1 }
         requires gains { share.amount ≡ self.now.rounds * self.now.gain }
     {
@@ -129,6 +147,7 @@ impl<P: Plan + Send + Sync, R: Threads + Wait + Sync> Team<'_, P, R> {
                 worked: false,
             };
         }
+        self.gate.before(self.rt, worker);
         for _round in 0..self.rounds {
             self.results.lock(self.rt).add(self.gain, &mut share);
             if self.barrier.wait(self.rt).is_leader() {
@@ -141,6 +160,7 @@ impl<P: Plan + Send + Sync, R: Threads + Wait + Sync> Team<'_, P, R> {
             worked: true,
         }
     }
+
     /// Joins the workers, and takes their parts of the book back. Answers whether all of them have worked: then nothing of
     /// theirs is left to add.
     fn join_all<A: Allocator>(
@@ -161,13 +181,18 @@ impl<P: Plan + Send + Sync, R: Threads + Wait + Sync> Team<'_, P, R> {
     }
 
     /// Starts a thread for one worker.
-    fn start<'s, E>(&'s self, scope: &Scope<'s, E>, share: Share<P>) -> Option<JoinHandle<Done<P>>>
+    fn start<'s, E>(
+        &'s self,
+        scope: &Scope<'s, E>,
+        worker: usize,
+        share: Share<P>,
+    ) -> Option<JoinHandle<Done<P>>>
         requires one_part { share.parts ≡ 1 }
         requires gains { share.amount ≡ self.now.rounds * self.now.gain }
     {
         let job = move || -> Done<P>
             requires { (share.parts ≡ 1) × (share.amount ≡ self.now.rounds * self.now.gain) }
-        { self.work(share) };
+        { self.work(worker, share) };
         scope.spawn(job).ok()
     }
 
@@ -187,9 +212,9 @@ impl<P: Plan + Send + Sync, R: Threads + Wait + Sync> Team<'_, P, R> {
         ensures started { result ≡ true → vec_len running.new ≡ workers }
         ensures amount { result ≡ true → mine.new.amount ≡ 0 }
     {
-        for _worker in 0..workers {
+        for worker in 0..workers {
             let share = mine.split_off(1, self.rounds * self.gain);
-            let Some(started) = self.start(scope, share) else {
+            let Some(started) = self.start(scope, worker, share) else {
                 return false;
             };
             running.push_reserved(started);
@@ -253,10 +278,11 @@ impl<P: Plan + Send + Sync, R: Threads + Wait + Sync> Team<'_, P, R> {
 }
 
 /// Runs all rounds, over a book that has a part for each worker and one for the caller.
-fn run_by<'a, P: Plan + Send + Sync, R: Threads + Wait + Sync, A: Allocator>(
+fn run_by<'a, P: Plan + Send + Sync, G: Gate + Sync, R: Threads + Wait + Sync, A: Allocator>(
     rt: &'a R,
     alloc: A,
     blank: Blank,
+    gate: &'a G,
     workers: usize,
     rounds: u64,
     gain: u64,
@@ -282,6 +308,7 @@ fn run_by<'a, P: Plan + Send + Sync, R: Threads + Wait + Sync, A: Allocator>(
     };
     let team = Team {
         rt,
+        gate,
         begins: Mutex::new(false),
         barrier: Barrier::new(workers),
         results: Mutex::new(results),
@@ -291,14 +318,15 @@ fn run_by<'a, P: Plan + Send + Sync, R: Threads + Wait + Sync, A: Allocator>(
     team.run(alloc, workers, mine)
 }
 
-/// Runs `rounds` rounds of `workers` threads, in each of which every worker adds `gain`. All are joined before the call
-/// returns.
+/// Runs `rounds` rounds of `workers` threads, in each of which every worker adds `gain`. Each passes the gate once, before
+/// its first round. All are joined before the call returns.
 ///
 /// The total is exact. Where a thread or its memory is refused there is none, and no worker adds anything. Not promised:
 /// that workers run at the same time, and that the call returns.
-pub fn run_phases<R: Threads + Wait + Sync, A: Allocator>(
+pub fn run_phases<G: Gate + Sync, R: Threads + Wait + Sync, A: Allocator>(
     rt: &R,
     alloc: A,
+    gate: &G,
     workers: usize,
     rounds: u64,
     gain: u64,
@@ -308,10 +336,11 @@ pub fn run_phases<R: Threads + Wait + Sync, A: Allocator>(
     requires fits { workers * (rounds * gain) < 2 ^ 64 }
     ensures { IfOk result (λ folded. folded.total ≡ workers * (rounds * gain)) }
 {
-    run_by::<Brand, R, A>(
+    run_by::<Brand, G, R, A>(
         rt,
         alloc,
         Blank::new(workers as u64 + 1),
+        gate,
         workers,
         rounds,
         gain,

@@ -1,6 +1,10 @@
-//! What no clause says: that each round is folded once, by its leader, when all of it is in.
+//! What no clause says: that workers are threads, and that each round is folded once, by its leader, when all of it is in.
 use super::equal::equal;
-use spin_uses::phases::{Folded, run_phases};
+use spin_core::relax::{RelaxStrategy, Yield};
+use spin_uses::phases::{Folded, Gate, Open, run_phases};
+use std::sync::Wait;
+use std::sync::atomic::AtomicU64;
+use std::sync::atomic::Ordering::SeqCst;
 
 #[test]
 fn each_round_is_folded_whole(rt: HostRuntime) {
@@ -9,7 +13,11 @@ fn each_round_is_folded_whole(rt: HostRuntime) {
         rounds: 100,
         smallest: 24,
     };
-    equal(&rt, run_phases(&rt, rt.alloc(), 8, 100, 3), Ok(folded));
+    equal(
+        &rt,
+        run_phases(&rt, rt.alloc(), &Open, 8, 100, 3),
+        Ok(folded),
+    );
 }
 
 #[test]
@@ -19,6 +27,55 @@ fn a_run_may_be_empty(rt: HostRuntime) {
         rounds: 0,
         smallest: u64::MAX,
     };
-    equal(&rt, run_phases(&rt, rt.alloc(), 0, 7, 3), Ok(nothing));
-    equal(&rt, run_phases(&rt, rt.alloc(), 2, 0, 3), Ok(nothing));
+    equal(
+        &rt,
+        run_phases(&rt, rt.alloc(), &Open, 0, 7, 3),
+        Ok(nothing),
+    );
+    equal(
+        &rt,
+        run_phases(&rt, rt.alloc(), &Open, 2, 0, 3),
+        Ok(nothing),
+    );
+}
+
+const MOST_LOOKS: u32 = 10_000_000;
+
+/// A gate at which two workers meet: each comes, and stays until both have.
+#[derive(Drop)]
+struct Meeting {
+    came: AtomicU64,
+    met: AtomicU64,
+}
+
+impl Gate for Meeting {
+    fn before<R: Wait>(&self, rt: &R, worker: usize) {
+        self.came.fetch_or(1 << worker.min(2), SeqCst);
+        for _ in 0..MOST_LOOKS {
+            if self.came.load(SeqCst) == 3 {
+                self.met.fetch_add(1, SeqCst);
+                return;
+            }
+            Yield::relax(rt);
+        }
+    }
+}
+
+#[test]
+fn workers_are_there_at_once(rt: HostRuntime) {
+    let gate = Meeting {
+        came: AtomicU64::new(0),
+        met: AtomicU64::new(0),
+    };
+    let folded = Folded {
+        total: 60,
+        rounds: 10,
+        smallest: 6,
+    };
+    equal(
+        &rt,
+        run_phases(&rt, rt.alloc(), &gate, 2, 10, 3),
+        Ok(folded),
+    );
+    equal(&rt, gate.met.load(SeqCst), 2);
 }

@@ -4,7 +4,7 @@ use Rattle.spin_uses.proofs.phases.Team.start_each.Given as goal
 
 abbrev pub invariant-loop-worker : goal.invariant-loop-worker
 invariant-loop-worker g l =
-    (l.mine.parts + l._worker ≡ l.workers + 1)
-    × (l.mine.amount + l._worker * (l.self.rounds * l.self.gain) ≡ l.workers * (l.self.rounds * l.self.gain))
-    × (vec_len l.running ≡ l._worker)
+    (l.mine.parts + l.worker ≡ l.workers + 1)
+    × (l.mine.amount + l.worker * (l.self.rounds * l.self.gain) ≡ l.workers * (l.self.rounds * l.self.gain))
+    × (vec_len l.running ≡ l.worker)
     × (l.workers ≤ vec_capacity l.running)

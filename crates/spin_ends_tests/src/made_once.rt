@@ -1,44 +1,31 @@
-//! Where a value and an initialiser end.
-
-use crate::equal::equal;
+//! The ends of a value that is made once, and of what makes it.
+use crate::counted::{Counted, ended};
 use spin_once::lazylock::LazyLock;
 use spin_once::once::Once;
 use std::cell::Cell;
 
-/// A value that counts its ends.
-struct Counted<'a> {
-    ends: &'a Cell<u32>,
-}
-
-impl Drop for Counted<'_> {
-    fn drop(self) {
-        let Self { ends } = self;
-        ends.set(ends.get().wrapping_add(1));
-    }
-}
-
 #[test]
-fn a_value_is_dropped_once(rt: HostRuntime) {
+fn the_value_of_a_once_ends_once(rt: HostRuntime) {
     let ends = Cell::new(0);
     let once: Once<Counted> = Once::new();
     once.call_once(&rt, || Counted { ends: &ends });
     once.call_once(&rt, || Counted { ends: &ends });
-    equal(&rt, ends.get(), 0);
+    ended(&rt, &ends, 0, "Once", "made");
     drop(once);
-    equal(&rt, ends.get(), 1);
+    ended(&rt, &ends, 1, "Once", "dropped");
     drop(Once::<Counted>::new());
-    equal(&rt, ends.get(), 1);
+    ended(&rt, &ends, 1, "Once", "dropped without a value");
     let value = Once::<Counted>::initialized(Counted { ends: &ends }).try_into_inner();
-    equal(&rt, ends.get(), 1);
+    ended(&rt, &ends, 1, "Once", "opened");
     drop(value);
-    equal(&rt, ends.get(), 2);
+    ended(&rt, &ends, 2, "Once", "opened, and its value dropped");
     let mut once = Once::<Counted>::initialized(Counted { ends: &ends });
     if let Some(value) = once.get_mut() {
         *value = Counted { ends: &ends };
     }
-    equal(&rt, ends.get(), 3);
+    ended(&rt, &ends, 3, "Once", "written by its owner");
     drop(once);
-    equal(&rt, ends.get(), 4);
+    ended(&rt, &ends, 4, "Once", "written by its owner, and dropped");
 }
 
 #[test]
@@ -50,19 +37,19 @@ fn an_initialiser_and_its_value_end_once(rt: HostRuntime) {
         1
     });
     drop(lazy);
-    equal(&rt, ends.get(), 1);
+    ended(&rt, &ends, 1, "an initialiser", "dropped");
     let run = Counted { ends: &ends };
     let lazy: LazyLock<u64, _> = LazyLock::new(move || {
         drop(run);
         1
     });
     LazyLock::force(&lazy, &rt);
-    equal(&rt, ends.get(), 2);
+    ended(&rt, &ends, 2, "an initialiser", "run");
     drop(lazy);
-    equal(&rt, ends.get(), 2);
+    ended(&rt, &ends, 2, "an initialiser", "run, and its lock dropped");
     let lazy: LazyLock<Counted, _> = LazyLock::new(|| Counted { ends: &ends });
     LazyLock::force(&lazy, &rt);
-    equal(&rt, ends.get(), 2);
+    ended(&rt, &ends, 2, "LazyLock", "forced");
     drop(lazy);
-    equal(&rt, ends.get(), 3);
+    ended(&rt, &ends, 3, "LazyLock", "forced, and dropped");
 }
