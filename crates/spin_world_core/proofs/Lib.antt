@@ -21,3 +21,4 @@ pub mod Playing
 pub mod Users
 pub mod Transcripts
 pub mod Otherwise
+pub mod Joined
