@@ -3,7 +3,11 @@ ghost use Rattle.std.specs.Prelude.{◌≡◌, Some, None, false};
 
 mod gallery;
 mod lines;
+mod objects;
+mod refused;
+mod stops;
 mod transcripts;
+mod worlds;
 
 use self::gallery::GALLERY;
 use self::lines::{OUTSIDE, WITHIN};

@@ -6,6 +6,7 @@ ghost use Rattle.spin_text.specs.Reading.{words_left, last_parties, number_withi
 use crate::words::{Rest, is_word, number_then, only_number, word};
 
 /// The object with what it begins from, and how many parties share it.
+#[derive(Clone, Copy, Debug, PartialEq, Eq)]
 pub enum Header {
     Flag {
         value: u64,

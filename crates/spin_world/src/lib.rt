@@ -9,7 +9,8 @@ pub use spin_world_barrier::{
 };
 pub use spin_world_core::{
     Answer, Event, Hold, Move, Next, Object, Outcome, Place, Seat, Stepped, Transcript, World,
-    looks_find_the_last_write, looks_under_one_guard_agree, two_runs_are_one,
+    looks_find_the_last_write, looks_under_one_guard_agree, run_in_two, runs_are_one,
+    two_runs_are_one,
 };
 pub use spin_world_fair::{
     Fair, FairCall, FairPoint, a_fair_lock_is_what_its_calls_ask,

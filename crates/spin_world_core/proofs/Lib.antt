@@ -22,3 +22,4 @@ pub mod Playing
 pub mod Users
 pub mod Transcripts
 pub mod Otherwise
+pub mod Joined

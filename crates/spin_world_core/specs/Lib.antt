@@ -12,3 +12,4 @@ pub mod Users
 pub mod Transcripts
 pub mod Values
 pub mod Lawful
+pub mod Joined

@@ -14,8 +14,10 @@ mod telling;
 mod world;
 
 pub use answer::Answer;
-pub use laws::{looks_find_the_last_write, looks_under_one_guard_agree, two_runs_are_one};
+pub use laws::{
+    looks_find_the_last_write, looks_under_one_guard_agree, runs_are_one, two_runs_are_one,
+};
 pub use object::{Next, Object, Stepped};
 pub use place::{Hold, Place, Seat};
 pub use schedule::{Event, Move, Outcome, Transcript};
-pub use world::World;
+pub use world::{World, run_in_two};

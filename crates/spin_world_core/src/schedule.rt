@@ -1,4 +1,5 @@
 use crate::object::Object;
+use std::alloc::{Allocator, Global};
 
 /// What a party may do next.
 #[derive(Copy, Debug, PartialEq, Eq)]
@@ -51,6 +52,6 @@ pub struct Event<W, V, A> {
 
 /// What a schedule came to: an event for each of its entries.
 #[derive(Drop)]
-pub struct Transcript<O: Object> {
-    pub events: Vec<Event<O::Words, O::Value, O::Answer>>,
+pub struct Transcript<O: Object, A: Allocator = Global> {
+    pub events: Vec<Event<O::Words, O::Value, O::Answer>, A>,
 }

@@ -8,17 +8,17 @@ ghost use Rattle.spin_world_core.specs.Runs.{CanStep};
 use crate::object::{Next, Object};
 use crate::place::{Hold, Place, Seat};
 use crate::schedule::{Move, Outcome};
-use std::alloc::{AllocError, Global};
+use std::alloc::{AllocError, Allocator};
 use std::marker::Model;
 
 #[derive(Drop)]
-pub struct Table<O: Object> {
+pub struct Table<O: Object, A: Allocator> {
     pub words: O::Words,
     pub value: Option<O::Value>,
-    pub seats: Vec<Seat<O::Call, O::Local>>,
+    pub seats: Vec<Seat<O::Call, O::Local>, A>,
 }
 
-impl<O: Object> Model for Table<O> {
+impl<O: Object, A: Allocator> Model for Table<O, A> {
     ghost use Rattle.spin_world_core.specs.Schedules.{State};
 
     ghost Value = { State O.Words O.Value O.Call O.Local };
@@ -94,16 +94,16 @@ fn let_go_all<C: Copy, L: Copy>(seats: &mut [Seat<C, L>])
 }
 
 /// The seats of so many idle parties.
-pub fn idle_seats<C: Copy, L: Copy>(
-    alloc: Global,
+pub fn idle_seats<C: Copy, L: Copy, A: Allocator>(
+    alloc: A,
     parties: usize,
-) -> Result<Vec<Seat<C, L>>, AllocError>
+) -> Result<Vec<Seat<C, L>, A>, AllocError>
     ensures { IfOk result (λ seats. seats.items ≡ replicate parties Idle) }
 {
     vec![in alloc; Seat::Idle; parties]
 }
 
-impl<O: Object> Table<O> {
+impl<O: Object, A: Allocator> Table<O, A> {
     /// Where the party stands. `None`: there is no such party.
     pub fn place(&self, party: usize) -> Option<Place>
         ensures { result ≡ option_map place_of (slice_get self.now.seats party) }

@@ -3,10 +3,13 @@ ghost use Rattle.std.specs.Prelude.{◌≡◌, None, IfOk, map, replicate};
 ghost use Rattle.spin_world_core.specs.Schedules.{begin_of, with_begin, begins_after};
 
 use crate::schedule::Outcome;
-use std::alloc::{AllocError, Global};
+use std::alloc::{AllocError, Allocator};
 
 /// Nobody's call has begun.
-pub fn no_begins(alloc: Global, parties: usize) -> Result<Vec<Option<usize>>, AllocError>
+pub fn no_begins<A: Allocator>(
+    alloc: A,
+    parties: usize,
+) -> Result<Vec<Option<usize>, A>, AllocError>
     ensures { IfOk result (λ begins. begins.items ≡ replicate parties None) }
 {
     vec![in alloc; None; parties]

@@ -9,21 +9,25 @@ use crate::place::Place;
 use crate::schedule::{Event, Move, Transcript};
 use crate::table::{Table, idle_seats};
 use crate::telling::{forget_begins, no_begins, with_begin};
-use std::alloc::{AllocError, Global};
+use std::alloc::{AllocError, Allocator, Global};
 use std::marker::Model;
+
+mod two_runs;
+
+pub use two_runs::run_in_two;
 
 /// An object and the parties that share it. Parties are numbered from 0.
 #[derive(Drop)]
-pub struct World<O: Object> {
-    alloc: Global,
+pub struct World<O: Object, A: Allocator = Global> {
+    alloc: A,
     object: O,
-    table: Table<O>,
+    table: Table<O, A>,
     /// The place at which each party's call began in the latest run. Kept here, so that a run takes no memory for it.
-    begins: Vec<Option<usize>>,
+    begins: Vec<Option<usize>, A>,
 }
 
 /// Contracts see a world as its object and its state, to which some schedule leads.
-impl<O: Object> Model for World<O> {
+impl<O: Object, A: Allocator> Model for World<O, A> {
     ghost use Rattle.spin_world_core.specs.Schedules.{Shown};
     ghost use Rattle.std.specs.Prelude.{◌≡◌, length};
     ghost use Rattle.spin_world_core.specs.Runs.{IsReached};
@@ -35,9 +39,9 @@ impl<O: Object> Model for World<O> {
     ghost invariant = { λ w. IsReached (O.machine w.object) w.table × (length w.begins.items ≡ length w.table.seats) };
 }
 
-impl<O: Object> World<O> {
+impl<O: Object, A: Allocator + Copy> World<O, A> {
     /// A world of so many parties, all idle. It keeps the allocator, for the transcripts of its runs.
-    pub fn new(alloc: Global, object: O, parties: usize) -> Result<World<O>, AllocError>
+    pub fn new(alloc: A, object: O, parties: usize) -> Result<World<O, A>, AllocError>
         ensures { IfOk result (λ w. w ≡ record { object = object; state = at_first (O.machine object) parties }) }
     {
         let table = Table {
@@ -84,7 +88,7 @@ impl<O: Object> World<O> {
     pub fn run(
         &mut self,
         schedule: &[(usize, Move<O::Call, O::Value>)],
-    ) -> Result<Transcript<O>, AllocError>
+    ) -> Result<Transcript<O, A>, AllocError>
         ensures state { OnOk result (self.new.state ≡ after (O.machine self.old.object) self.old.state schedule.now) }
         ensures object { self.new.object ≡ self.old.object }
         ensures events { let m = O.machine self.old.object in
@@ -118,11 +122,11 @@ impl<O: Object> World<O> {
 }
 
 /// Plays the schedule into a transcript that has the room.
-fn play<O: Object>(
+fn play<O: Object, A: Allocator>(
     object: &O,
-    table: &mut Table<O>,
+    table: &mut Table<O, A>,
     begins: &mut [Option<usize>],
-    events: &mut Vec<Event<O::Words, O::Value, O::Answer>>,
+    events: &mut Vec<Event<O::Words, O::Value, O::Answer>, A>,
     schedule: &[(usize, Move<O::Call, O::Value>)],
 )
     requires can { CanAlways (O.machine object.now) table.old schedule.now }

@@ -329,4 +329,25 @@ pub const FAIR: &[Worked] = &[
          end: 1 value 7\n\
         ",
     ),
+    (
+        "a leaked starver keeps newcomers out for good",
+        "fair 0 1 2 2\n\
+         0 begin starve\n\
+         0 step\n\
+         0 step\n\
+         0 leak\n\
+         1 owner get\n\
+         1 begin try_lock\n\
+         1 step\n\
+        ",
+        "1 0 begun: 0\n\
+         2 0 going on: 0\n\
+         3 0 answer granted from 1: 2\n\
+         4 0 leaked: 2\n\
+         5 1 value 0: 2\n\
+         6 1 begun: 2\n\
+         7 1 answer refused from 6: 2\n\
+         end: 2 value 0\n\
+        ",
+    ),
 ];

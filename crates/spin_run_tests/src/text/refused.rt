@@ -1,0 +1,209 @@
+//! Memory refused to a world: to `World::new`, to `run` and to `run_in_two`, in each room from none to enough.
+ghost use Rattle.std.specs.Prelude.{◌≤◌, length};
+
+use super::objects::{OfHeader, parties_of};
+use super::worlds::{
+    Opening, Shown, Told, Trial, holds, is_at, is_told, look_at, object, opened, play, try_all,
+};
+use bumpalo::Bump;
+use spin_world::{Move, World, run_in_two};
+use std::alloc::Global;
+use std::process::Abort;
+use std::test::Fail;
+
+/// More bytes than any world of a worked schedule takes with its transcripts.
+const ROOM: usize = 16_384;
+
+/// What is allocated is so aligned: between two rooms that differ by less nothing changes.
+const STEP: usize = 8;
+
+/// An arena that gets no more memory than it begins with.
+fn arena(alloc: Global) -> Result<Bump, Fail> {
+    let arena = Bump::try_with_capacity(alloc, ROOM)?;
+    arena.set_allocation_limit(Some(0));
+    Ok(arena)
+}
+
+/// Takes all but so many bytes of an arena.
+fn filled(arena: &Bump, left: usize) -> Result<Vec<u8, &Bump>, Fail> {
+    let size = arena.chunk_capacity().saturating_sub(left);
+    Ok(Vec::with_capacity(arena, size)?)
+}
+
+/// Whether a world can be made where so many bytes are left.
+fn opens_in<O: OfHeader>(alloc: Global, opening: Opening, left: usize) -> Result<bool, Fail> {
+    let object = object::<O>(opening)?;
+    let arena = arena(alloc)?;
+    let filled = filled(&arena, left)?;
+    let opens = World::new(&arena, object, parties_of(opening.header)).is_ok();
+    drop(filled);
+    Ok(opens)
+}
+
+/// What a world that is never refused comes to: at first, behind a first schedule, and behind a second one.
+#[derive(Drop)]
+struct Wanted {
+    first: Shown,
+    between: Shown,
+    told: Vec<Told>,
+    stop: Shown,
+}
+
+fn unrefused<O: OfHeader>(
+    alloc: Global,
+    opening: Opening,
+    past: &[(usize, Move<O::Call, u64>)],
+    schedule: &[(usize, Move<O::Call, u64>)],
+) -> Result<Wanted, Fail> {
+    let mut world = opened::<O, Global>(alloc, opening)?;
+    let first = look_at(alloc, opening, &world)?;
+    let _ = world.run(past)?;
+    let between = look_at(alloc, opening, &world)?;
+    let told = play(alloc, &mut world, schedule)?;
+    let stop = look_at(alloc, opening, &world)?;
+    Ok(Wanted {
+        first,
+        between,
+        told,
+        stop,
+    })
+}
+
+/// The same of a world whose second schedule is refused where so many bytes are left, and then played again: where it is
+/// after the refusal, what the schedule then tells, and where it stops. `None`: so many bytes suffice.
+fn played_again<O: OfHeader>(
+    alloc: Global,
+    opening: Opening,
+    past: &[(usize, Move<O::Call, u64>)],
+    schedule: &[(usize, Move<O::Call, u64>)],
+    left: usize,
+) -> Result<Option<(Shown, Vec<Told>, Shown)>, Fail> {
+    let arena = arena(alloc)?;
+    let mut world = opened::<O, &Bump>(&arena, opening)?;
+    let _ = world.run(past)?;
+    let filled = filled(&arena, left)?;
+    let runs = world.run(schedule).is_ok();
+    drop(filled);
+    if runs {
+        return Ok(None);
+    }
+    let refused = look_at(alloc, opening, &world)?;
+    let told = play(alloc, &mut world, schedule)?;
+    Ok(Some((refused, told, look_at(alloc, opening, &world)?)))
+}
+
+/// Where a world is of whose two runs one was refused where so many bytes are left. `None`: so many suffice.
+fn cut_short<O: OfHeader>(
+    alloc: Global,
+    opening: Opening,
+    schedule: &[(usize, Move<O::Call, u64>)],
+    at: usize,
+    left: usize,
+) -> Result<Option<Shown>, Fail>
+    requires { at ≤ length schedule.now }
+{
+    let arena = arena(alloc)?;
+    let mut world = opened::<O, &Bump>(&arena, opening)?;
+    let filled = filled(&arena, left)?;
+    let runs = run_in_two(&mut world, schedule, at).is_ok();
+    drop(filled);
+    if runs {
+        return Ok(None);
+    }
+    Ok(Some(look_at(alloc, opening, &world)?))
+}
+
+/// How often memory was refused: to a world, to a run, to the first of two runs, and to the second.
+#[derive(Clone, Copy, Debug)]
+struct Refusals {
+    worlds: u32,
+    runs: u32,
+    firsts: u32,
+    seconds: u32,
+}
+
+impl Refusals {
+    fn add(&mut self, world: bool, run: bool, first: bool, second: bool) {
+        self.worlds = self.worlds.saturating_add(u32::from(world));
+        self.runs = self.runs.saturating_add(u32::from(run));
+        self.firsts = self.firsts.saturating_add(u32::from(first));
+        self.seconds = self.seconds.saturating_add(u32::from(second));
+    }
+}
+
+/// Compares what came of a refused run, and of the same run again, with what is wanted.
+fn is_as_wanted(
+    rt: &impl Abort,
+    shows: &str,
+    left: usize,
+    (refused, told, stop): &(Shown, Vec<Told>, Shown),
+    wanted: &Wanted,
+) {
+    is_at(rt, shows, left, refused, &wanted.between);
+    is_at(rt, shows, left, stop, &wanted.stop);
+    holds(rt, shows, left, told.len() == wanted.told.len());
+    for (event, wanted) in told.iter().zip(&wanted.told) {
+        is_told(rt, shows, left, *event, *wanted);
+    }
+}
+
+/// In each room from none to enough: a world is made, it plays on, and it plays in two runs.
+pub fn in_each_room<O: OfHeader>(
+    rt: &impl Abort,
+    alloc: Global,
+    opening: Opening,
+    schedule: &[(usize, Move<O::Call, u64>)],
+) -> Result<(), Fail> {
+    let shows = opening.shows;
+    let at = schedule.len() / 2;
+    let (past, rest) = schedule.split_at(at);
+    let wanted = unrefused::<O>(alloc, opening, past, rest)?;
+    let mut refusals = Refusals {
+        worlds: 0,
+        runs: 0,
+        firsts: 0,
+        seconds: 0,
+    };
+    for step in 0..ROOM / STEP {
+        let left = step * STEP;
+        let opens = opens_in::<O>(alloc, opening, left)?;
+        let again = played_again::<O>(alloc, opening, past, rest, left)?;
+        let two = cut_short::<O>(alloc, opening, schedule, at, left)?;
+        if opens && again.is_none() && two.is_none() {
+            break;
+        }
+        if let Some(again) = &again {
+            is_as_wanted(rt, shows, left, again, &wanted);
+        }
+        let (mut first, mut second) = (false, false);
+        if let Some(stop) = &two {
+            first = *stop == wanted.first;
+            second = *stop == wanted.between;
+            holds(rt, shows, left, first || second);
+        }
+        refusals.add(!opens, again.is_some(), first, second);
+    }
+    all_refused(rt, shows, refusals);
+    Ok(())
+}
+
+/// Each was refused in some room, and none in all.
+fn all_refused(rt: &impl Abort, shows: &str, refusals: Refusals) {
+    let Refusals {
+        worlds,
+        runs,
+        firsts,
+        seconds,
+    } = refusals;
+    for often in [worlds, runs, firsts, seconds] {
+        assert!(rt;
+            0 < often && (often as usize) < ROOM / STEP,
+            "{shows}: {refusals:?}"
+        );
+    }
+}
+
+#[test]
+fn refused_memory_leaves_a_world_as_it_was(rt: HostRuntime) -> Result<(), Fail> {
+    try_all(&rt, rt.alloc(), Trial::Refused)
+}

@@ -1,0 +1,183 @@
+//! Every stop of every call: each beginning of each worked schedule in a world of its own, and each schedule in two runs,
+//! cut at each place.
+ghost use Rattle.std.specs.Prelude.{◌≤◌, length};
+
+use super::objects::{OfHeader, Standing, are_words_of, parties_of};
+use super::worlds::{
+    Opening, Shown, Told, Trial, holds, is_at, is_told, look_at, opened, play, tell, try_all,
+};
+use spin_world::{Answer, Move, Outcome, Place, run_in_two};
+use std::alloc::Global;
+use std::process::Abort;
+use std::test::Fail;
+
+/// What a run comes to: the value before it, its events, and where it stops.
+#[derive(Drop)]
+struct Run {
+    value: Option<u64>,
+    events: Vec<Told>,
+    stop: Shown,
+}
+
+/// Plays a schedule in a world of its own.
+fn run_of<O: OfHeader>(
+    alloc: Global,
+    opening: Opening,
+    schedule: &[(usize, Move<O::Call, u64>)],
+) -> Result<Run, Fail> {
+    let mut world = opened::<O, Global>(alloc, opening)?;
+    let value = world.value();
+    let events = play(alloc, &mut world, schedule)?;
+    let stop = look_at(alloc, opening, &world)?;
+    Ok(Run {
+        value,
+        events,
+        stop,
+    })
+}
+
+/// Plays a schedule in a world of its own, cut in two at this place. What each run tells, and where the second stops.
+fn runs_of<O: OfHeader>(
+    alloc: Global,
+    opening: Opening,
+    schedule: &[(usize, Move<O::Call, u64>)],
+    at: usize,
+) -> Result<(Vec<Told>, Vec<Told>, Shown), Fail>
+    requires { at ≤ length schedule.now }
+{
+    let mut world = opened::<O, Global>(alloc, opening)?;
+    let (first, second) = run_in_two(&mut world, schedule, at)?;
+    let first = tell::<O>(alloc, &first.events)?;
+    let second = tell::<O>(alloc, &second.events)?;
+    Ok((first, second, look_at(alloc, opening, &world)?))
+}
+
+/// Whether a party is in a call or gone, so that its place does not say what it has in the words.
+fn is_unsettled(places: &[Place]) -> bool {
+    for place in places {
+        if matches!(place, Place::InCall | Place::Gone) {
+            return true;
+        }
+    }
+    false
+}
+
+/// How many of these events answer a call.
+fn answers(events: &[Told]) -> u64 {
+    let mut answers = 0u64;
+    for (_, outcome, _) in events {
+        if matches!(outcome, Outcome::Answered { .. }) {
+            answers = answers.saturating_add(1);
+        }
+    }
+    answers
+}
+
+/// The value that an event leaves as the one last written: by a holder, by the owner, or by the closure whose value an
+/// answer gives.
+fn written_by<C: Copy>(
+    action: Move<C, u64>,
+    outcome: Outcome<Answer<u64>, u64>,
+    old: Option<u64>,
+) -> Option<u64> {
+    match (action, outcome) {
+        (Move::Write(value) | Move::OwnerSet(value), Outcome::Written) => Some(value),
+        (
+            _,
+            Outcome::Answered {
+                answer: Answer::Value(value),
+                ..
+            },
+        ) => Some(value),
+        _ => old,
+    }
+}
+
+/// Whether each look of a schedule found the value last written, and the last one lies there.
+fn keeps_value<C: Copy>(schedule: &[(usize, Move<C, u64>)], run: &Run) -> bool {
+    let mut written = run.value;
+    for ((_, action), (_, outcome, _)) in schedule.iter().zip(&run.events) {
+        if matches!(*outcome, Outcome::Value(found) if found != written) {
+            return false;
+        }
+        written = written_by(*action, *outcome, written);
+    }
+    written == run.stop.value
+}
+
+/// Looks at where a run of the first entries of a schedule stops.
+fn is_in_order(rt: &impl Abort, opening: Opening, run: &Run) {
+    let Opening { shows, header } = opening;
+    let at = run.events.len();
+    let Shown {
+        numbers,
+        value,
+        places,
+    } = &run.stop;
+    holds(rt, shows, at, places.len() == parties_of(header));
+    let all = Standing::at(places);
+    let writers = all.writing.saturating_add(all.tickets);
+    let others = all.reading.saturating_add(all.upgradable);
+    holds(rt, shows, at, writers == 0 || writers == 1 && others == 0);
+    let answers = answers(&run.events);
+    let encodes = are_words_of(header, *numbers, all, answers, value.is_some());
+    holds(rt, shows, at, encodes || is_unsettled(places));
+}
+
+/// An event as a run tells it that starts at this place: nothing of where a call began before it.
+fn told_from(start: usize, (party, outcome, numbers): Told) -> Told {
+    let outcome = match outcome {
+        Outcome::Answered { answer, began } => Outcome::Answered {
+            answer,
+            began: began.and_then(|place| place.checked_sub(start)),
+        },
+        outcome => outcome,
+    };
+    (party, outcome, numbers)
+}
+
+/// Compares the events of a run that starts at this place with those of the one run from there on.
+fn is_part(rt: &impl Abort, shows: &str, start: usize, part: &[Told], whole: &[Told]) {
+    holds(rt, shows, start, part.len() == whole.len());
+    for (event, wanted) in part.iter().zip(whole) {
+        is_told(rt, shows, start, *event, told_from(start, *wanted));
+    }
+}
+
+/// Compares what two runs tell, and where they stop, with one run.
+fn are_one(
+    rt: &impl Abort,
+    shows: &str,
+    at: usize,
+    (first, second, stop): &(Vec<Told>, Vec<Told>, Shown),
+    one: &Run,
+) {
+    let (front, back) = one.events.split_at(at.min(one.events.len()));
+    is_part(rt, shows, 0, first, front);
+    is_part(rt, shows, at, second, back);
+    is_at(rt, shows, at, stop, &one.stop);
+}
+
+/// Every stop of a schedule, and every cut.
+pub fn at_each_place<O: OfHeader>(
+    rt: &impl Abort,
+    alloc: Global,
+    opening: Opening,
+    schedule: &[(usize, Move<O::Call, u64>)],
+) -> Result<(), Fail> {
+    let whole = run_of::<O>(alloc, opening, schedule)?;
+    for at in 0..=schedule.len() {
+        let beginning = &schedule[..at];
+        let run = run_of::<O>(alloc, opening, beginning)?;
+        is_in_order(rt, opening, &run);
+        holds(rt, opening.shows, at, keeps_value(beginning, &run));
+        let two = runs_of::<O>(alloc, opening, schedule, at)?;
+        are_one(rt, opening.shows, at, &two, &whole);
+    }
+    Ok(())
+}
+
+#[test]
+fn every_stop_of_every_call(rt: HostRuntime) -> Result<(), Fail> {
+    try_all(&rt, rt.alloc(), Trial::Stops)
+}

@@ -1,0 +1,164 @@
+//! Worked schedules in worlds of their own: one body for every object. What a world comes to is told in plain numbers.
+
+use super::gallery::GALLERY;
+use super::objects::{OfHeader, parties_of};
+use super::refused::in_each_room;
+use super::stops::at_each_place;
+use super::transcripts::WORKED;
+use spin_text::{Header, Rest, first_line, header_of, schedule_of};
+use spin_world::{
+    Answer, BarrierObject, Event, Fair, Flag, Move, OnceObject, Outcome, Place, Rw, Ticket, World,
+};
+use std::alloc::{AllocError, Allocator, Global};
+use std::process::Abort;
+use std::test::Fail;
+
+/// What a schedule shows, and the opening of its world.
+#[derive(Clone, Copy)]
+pub struct Opening {
+    pub shows: &'static str,
+    pub header: Header,
+}
+
+/// The object of that opening.
+pub fn object<O: OfHeader>(opening: Opening) -> Result<O, Fail> {
+    match O::of_header(opening.header) {
+        Some(object) => Ok(object),
+        None => Err(Fail::new(opening.shows)),
+    }
+}
+
+/// A world in that opening.
+pub fn opened<O: OfHeader, A: Allocator + Copy>(
+    alloc: A,
+    opening: Opening,
+) -> Result<World<O, A>, Fail> {
+    let object = object::<O>(opening)?;
+    Ok(World::new(alloc, object, parties_of(opening.header))?)
+}
+
+/// Where a world is: its words as numbers, its value, and the places of its parties.
+#[derive(Debug, PartialEq, Drop)]
+pub struct Shown {
+    pub numbers: (u64, Option<u64>),
+    pub value: Option<u64>,
+    pub places: Vec<Place>,
+}
+
+/// Where a world is. A place past the last party's would be one too many.
+pub fn look_at<O: OfHeader, A: Allocator + Copy>(
+    alloc: Global,
+    opening: Opening,
+    world: &World<O, A>,
+) -> Result<Shown, AllocError> {
+    let mut places = Vec::new(alloc);
+    for party in 0..=parties_of(opening.header) {
+        if let Some(place) = world.place(party) {
+            places.push(place)?;
+        }
+    }
+    Ok(Shown {
+        numbers: O::numbers(world.words()),
+        value: world.value(),
+        places,
+    })
+}
+
+/// An event: the party, what came of its move, and the words after it.
+pub type Told = (usize, Outcome<Answer<u64>, u64>, (u64, Option<u64>));
+
+/// What these events tell.
+pub fn tell<O: OfHeader>(
+    alloc: Global,
+    events: &[Event<O::Words, u64, Answer<u64>>],
+) -> Result<Vec<Told>, AllocError> {
+    let mut told = Vec::new(alloc);
+    for event in events {
+        told.push((event.party, event.outcome, O::numbers(event.words)))?;
+    }
+    Ok(told)
+}
+
+/// Plays a schedule in a world, and tells its events.
+pub fn play<O: OfHeader, A: Allocator + Copy>(
+    alloc: Global,
+    world: &mut World<O, A>,
+    schedule: &[(usize, Move<O::Call, u64>)],
+) -> Result<Vec<Told>, AllocError> {
+    let transcript = world.run(schedule)?;
+    tell::<O>(alloc, &transcript.events)
+}
+
+/// Fails, at a place of a schedule, unless it holds.
+pub fn holds(rt: &impl Abort, shows: &str, at: usize, fact: bool) {
+    assert!(rt; fact, "{shows}, at {at}");
+}
+
+/// Fails, at a place of a schedule, unless a world is where it is wanted.
+pub fn is_at(rt: &impl Abort, shows: &str, at: usize, world: &Shown, wanted: &Shown) {
+    assert_eq!(rt; world, wanted, "{shows}, at {at}");
+}
+
+/// Fails, at a place of a schedule, unless an event is the one that is wanted.
+pub fn is_told(rt: &impl Abort, shows: &str, at: usize, event: Told, wanted: Told) {
+    assert_eq!(rt; event, wanted, "{shows}, at {at}");
+}
+
+/// What is tried of each worked schedule.
+#[derive(Clone, Copy)]
+pub enum Trial {
+    /// Every stop of it, and every cut into two runs.
+    Stops,
+    /// Its allocations refused.
+    Refused,
+}
+
+fn try_schedule<O: OfHeader>(
+    rt: &impl Abort,
+    alloc: Global,
+    trial: Trial,
+    opening: Opening,
+    lines: Rest,
+) -> Result<(), Fail> {
+    let schedule = schedule_of::<O>(alloc, lines)?;
+    match trial {
+        Trial::Stops => at_each_place::<O>(rt, alloc, opening, &schedule),
+        Trial::Refused => in_each_room::<O>(rt, alloc, opening, &schedule),
+    }
+}
+
+/// Tries a text, of whichever object.
+fn try_text(
+    rt: &impl Abort,
+    alloc: Global,
+    trial: Trial,
+    shows: &'static str,
+    text: &str,
+) -> Result<(), Fail> {
+    let (line, lines) = first_line(text.as_bytes());
+    let Some(header) = header_of(line) else {
+        return Err(Fail::new(shows));
+    };
+    let opening = Opening { shows, header };
+    match header {
+        Header::Flag { .. } => try_schedule::<Flag<u64>>(rt, alloc, trial, opening, lines),
+        Header::Ticket { .. } => try_schedule::<Ticket<u64>>(rt, alloc, trial, opening, lines),
+        Header::Rw { .. } => try_schedule::<Rw<u64>>(rt, alloc, trial, opening, lines),
+        Header::Fair { .. } => try_schedule::<Fair<u64>>(rt, alloc, trial, opening, lines),
+        Header::Once { .. } => try_schedule::<OnceObject<u64>>(rt, alloc, trial, opening, lines),
+        Header::Barrier { .. } => try_schedule::<BarrierObject>(rt, alloc, trial, opening, lines),
+    }
+}
+
+/// Tries every worked schedule, and those of the gallery.
+pub fn try_all(rt: &impl Abort, alloc: Global, trial: Trial) -> Result<(), Fail> {
+    for worked in WORKED {
+        for (shows, text, _) in worked {
+            try_text(rt, alloc, trial, shows, text)?;
+        }
+    }
+    for (shows, text, _) in GALLERY {
+        try_text(rt, alloc, trial, shows, text)?;
+    }
+    Ok(())
+}

@@ -1,0 +1,56 @@
+-- Runs one after the other: together they are one run of all their schedules.
+use Rattle.std.specs.Prelude.{◌≡◌, ℕ, ◌-◌, Option, Some, None, List, [], ◌∷◌, ◌++◌, map, take, drop, nat_lt, if◌then◌else◌}
+use Rattle.spin_world_core.specs.declared.schedule.Move.{Move}
+use Rattle.spin_world_core.specs.declared.schedule.Outcome.{Outcome}
+use Rattle.spin_world_core.specs.declared.schedule.Outcome.TheVariants as outcome
+use Rattle.spin_world_core.specs.declared.schedule.Event.{Event}
+use Rattle.spin_world_core.specs.Machines.{Machine}
+use Rattle.spin_world_core.specs.Schedules.{State, after, events_of, with_begins}
+use Rattle.spin_world_core.specs.Runs.{KeepsAll, MomentsAll, CountsAll, AfterAnyPast}
+use Rattle.spin_world_core.specs.Values.{ValuesAll}
+use Rattle.spin_world_core.specs.Transcripts.{TellsAfterAnyPast}
+
+-- all that is promised of a schedule, from the opening of a world of n parties
+pub record Promised {W V C L A : Type 0} (m : Machine W V C L A) (n : ℕ) (entries : List (ℕ × Move C V)) : Type 0 where
+  pub keeps : KeepsAll m n entries
+  pub moments : MomentsAll m n entries
+  pub counts : CountsAll m n entries
+  pub values : ValuesAll m n entries
+
+-- where a call began, as it is told by a run that starts at this place of a longer one: of a call that began before it nothing is told
+abbrev pub began_from : ℕ → Option ℕ → Option ℕ
+began_from start None = None
+began_from start (Some place) = if nat_lt place start then None else Some (place - start)
+
+abbrev pub outcome_from : {V A : Type 0} → ℕ → Outcome A V → Outcome A V
+outcome_from start (outcome.Answered a b) = outcome.Answered a (began_from start b)
+outcome_from start o = o
+
+abbrev pub event_from : {W V A : Type 0} → ℕ → Event W V A → Event W V A
+event_from start e = record e { outcome = outcome_from start e.outcome }
+
+-- these are the events of one run, cut in two at this place; the second list counts from its own start where a call began
+pub record IsCut {W V A : Type 0} (place : ℕ) (one first second : List (Event W V A)) : Type 0 where
+  pub front : first ≡ take place one
+  pub back : second ≡ map (event_from place) (drop place one)
+
+-- any number of runs
+
+abbrev pub joined : {X : Type 0} → List (List X) → List X
+joined [] = []
+joined (xs ∷ xss) = xs ++ joined xss
+
+abbrev pub after_runs : {W V C L A : Type 0} → Machine W V C L A → State W V C L → List (List (ℕ × Move C V)) → State W V C L
+after_runs m s [] = s
+after_runs m s (run ∷ runs) = after_runs m (after m s run) runs
+
+-- what each of them tells
+abbrev pub transcripts_of : {W V C L A : Type 0} → Machine W V C L A → State W V C L → List (List (ℕ × Move C V)) → List (List (Event W V A))
+transcripts_of m s [] = []
+transcripts_of m s (run ∷ runs) = with_begins [] (events_of m s run) ∷ transcripts_of m (after m s run) runs
+
+-- they come to the state of one run of all their schedules joined; their events together tell that schedule's scenes; and all that is promised of a schedule is so of the joined one
+pub record RunsAreOne {W V C L A : Type 0} (m : Machine W V C L A) (s : State W V C L) (runs : List (List (ℕ × Move C V))) : Type 0 where
+  pub state : after_runs m s runs ≡ after m s (joined runs)
+  pub tells : TellsAfterAnyPast m s (joined runs) (joined (transcripts_of m s runs))
+  pub promised : AfterAnyPast m s (joined runs) (Promised m)

@@ -1,0 +1,43 @@
+//! Runs one after the other.
+ghost use Rattle.std.specs.Prelude.{◌≡◌, ◌≤◌, ◌⊎◌, ◌++◌, [], length, take, drop, IfOk, OnOk, OnErr};
+ghost use Rattle.spin_world_core.specs.Schedules.{after, events_of, with_begins};
+ghost use Rattle.spin_world_core.specs.Runs.{IsReached, AfterAnyPast};
+ghost use Rattle.spin_world_core.specs.Transcripts.{TellsAfterAnyPast};
+ghost use Rattle.spin_world_core.specs.Joined.{Promised, IsCut};
+
+use crate::object::Object;
+use crate::schedule::{Move, Transcript};
+use crate::world::World;
+use std::alloc::{AllocError, Allocator};
+
+/// Plays a schedule in two runs: the entries before the place `at`, and then the others.
+///
+/// The two transcripts together are those of one run. Only the second tells where a call began by the place in its own
+/// part, and nothing of a call that began in the first. After an `Err` the world is as it was, or as the first part
+/// leaves it.
+pub fn run_in_two<O: Object, A: Allocator + Copy>(
+    world: &mut World<O, A>,
+    schedule: &[(usize, Move<O::Call, O::Value>)],
+    at: usize,
+) -> Result<(Transcript<O, A>, Transcript<O, A>), AllocError>
+    requires { at ≤ length schedule.now }
+    ensures state { OnOk result (world.new.state ≡ after (O.machine world.old.object) world.old.state schedule.now) }
+    ensures object { world.new.object ≡ world.old.object }
+    ensures events { let m = O.machine world.old.object in
+        IfOk result (λ t. IsCut at (with_begins [] (events_of m world.old.state schedule.now)) t.0.events.items t.1.events.items) }
+    ensures err { let m = O.machine world.old.object in
+        OnErr result ((world.new ≡ world.old) ⊎ (world.new.state ≡ after m world.old.state (take at schedule.now))) }
+    ensures reached { IsReached (O.machine world.new.object) world.new.state }
+
+    // Whichever schedule led to the state before, with this one after it:
+    ensures promised { let m = O.machine world.old.object in
+        AfterAnyPast m world.old.state schedule.now (Promised m) }
+    ensures tells { let m = O.machine world.old.object in
+        IfOk result (λ t. TellsAfterAnyPast m world.old.state schedule.now (t.0.events.items ++ t.1.events.items)) }
+{
+    O::laws();
+    let (front, back) = schedule.split_at(at);
+    let first = world.run(front)?;
+    let second = world.run(back)?;
+    Ok((first, second))
+}
