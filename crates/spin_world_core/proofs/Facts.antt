@@ -14,7 +14,7 @@ use Rattle.spin_world_core.specs.declared.schedule.Outcome.TheVariants as outcom
 use Rattle.spin_world_core.specs.Manners.{Manner, is_again, by_step}
 use Rattle.spin_world_core.specs.Manners as manner
 use Rattle.spin_world_core.specs.Calls.{encoded, BelongsTo, Said, own_steps, Mark, AnyOf, limit, may_be_weak}
-use Rattle.spin_world_core.specs.Undisturbed.{is_open_now}
+use Rattle.spin_world_core.specs.Undisturbed.{is_open_now, steps_alone}
 use Rattle.spin_world_core.specs.Machines.{Machine, opening_plain}
 use Rattle.spin_world_core.specs.Operations.{Stepwise}
 use Rattle.spin_world_core.specs.Schedules.{placed}
@@ -108,9 +108,9 @@ pub record Facts {W V C L A : Type 0} (m : Machine W V C L A) (k : LocalInvarian
       → StepIs m k p c h s v span (m.step w v c l h) (m.change p w c l h) (by_step (m.manner c l h))
   pub counted : (p : ℕ) (c : C) (l : L) (h : Option Hold) (s : Plain) (v : Option V) (w : W) (span : List Mark) → InCall m k p c l h s v w span
       → GoesOnCounted (λ u. m.change p u c l h) s (m.step w v c l h).next (m.change p w c l h) (by_step (m.manner c l h))
-  -- where what a call that may wait asks is open to it, it is answered by its fourth step, if no other party steps
+  -- where what a call that may wait asks is open to it, it is answered by so many steps, if no other party steps
   pub undisturbed : (p : ℕ) (c : C) (l : L) (h : Option Hold) (s : Plain) (v : Option V) (w : W) (span : List Mark) → InCall m k p c l h s v w span
-      → is_open_now p (m.asks c h) span s ≡ true → AnswersWithin m 4 w c l h
+      → is_open_now p (m.asks c h) span s ≡ true → AnswersWithin m (steps_alone m.coding (m.asks c h)) w c l h
   -- a closure completes only where nobody holds the lock
   pub completes_alone : (p : ℕ) (c : C) (l : L) (h : Option Hold) (s : Plain) (v : Option V) (w : W) (span : List Mark) → InCall m k p c l h s v w span
       → (q : ℕ) → m.change p w c l h ≡ Some (completes q) → is_held s ≡ false

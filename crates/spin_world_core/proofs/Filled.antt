@@ -17,6 +17,7 @@ use Rattle.spin_world_core.specs.Schedules.{placed}
 use Rattle.spin_world_core.specs.Runs.{mark_of, if_completed, is_writer, own}
 use Rattle.spin_world_core.specs.Acts.{Act, load, load_if, load_for, enter, exchange, weak_exchange, attempt, retry, store, store_if, step_by, passing, made_where, change_by, is_completion, manner_by, Table, machine_of, completes_by, brought, with_value, filled, gives_of, machine_with}
 use Rattle.spin_world_core.specs.Values.{HasPhase, Gives}
+use Rattle.spin_world_core.specs.Undisturbed.{steps_alone}
 use Rattle.spin_world_core.proofs.Facts.{LocalInvariant, AnswersWithin, InCall, NextIs, NextGives, StepIs, Facts}
 use Rattle.spin_world_core.proofs.Rows.{SoundAt, IsSound, sound_at}
 use Rattle.spin_world_core.proofs.Operating.{BeginsWhereItFits, OperatesAt, counted_filled, stepwise_with}
@@ -270,7 +271,7 @@ module _ {W V C L : Type 0} (t : Table W V C L (Answer (Unit {0}))) (n : Notes t
         counted = λ p c l h s v w span here. counted_filled _ s _ (step_by {V = V} t.number (t.act c l h) w).next _ _
             (counted_at t n pays.sound p c l h s w span (row_of t n c l h) (sound_of p c l h) (at_here p c l h s v w span here) (pays.owes p c l h s w span));
         completes_alone = λ p c l h s v w span here q is. pays.none_holds s here.shape.0;
-        undisturbed = λ p c l h s v w span here may. answers_with 4 w c l h (soon_at t n pays.sound p c l h s w span (row_of t n c l h) (at_here p c l h s v w span here) (pays.soon p c l h s w span) may);
+        undisturbed = λ p c l h s v w span here may. answers_with (steps_alone t.coding (t.asks c h)) w c l h (soon_at t n pays.sound p c l h s w span (row_of t n c l h) (at_here p c l h s v w span here) (pays.soon p c l h s w span) may);
         refuses = λ p c l h s v w span next here is. absurd (cc (is));
         weakly = λ p c l h s v w span next here is. absurd (cc (is));
         phase = λ s v shape. has_phase t.coding s.phase v shape.1;

@@ -13,7 +13,7 @@ use Rattle.spin_world_core.specs.declared.schedule.Move.{Move}
 use Rattle.spin_world_core.specs.declared.schedule.Move.TheVariants.{Step, Weak}
 use Rattle.spin_world_core.specs.Manners.{Manner, plain, again, look, weak, is_again, by_step}
 use Rattle.spin_world_core.specs.Calls.{Coding, Asked, waits, waits_or_starves, initializes, fails_to_initialize, waits_for_value, polls, meets, encoded, is_step_of, BelongsTo, Said, own_steps, AnyOf, Mark, first_word, Limit, registers_after, limit, may_be_weak, once}
-use Rattle.spin_world_core.specs.Undisturbed.{arrived, is_open_next, is_open_now}
+use Rattle.spin_world_core.specs.Undisturbed.{arrived, is_open_next, is_open_now, steps_alone}
 use Rattle.spin_world_core.specs.Runs.{mark_of, if_completed, entries_held, own, failures, changes, IsBeginning, RightAnswer, GoesOnWithin}
 use Rattle.spin_world_core.specs.Acts.{Act, load, load_if, load_for, enter, exchange, weak_exchange, attempt, retry, store, store_if, is_completion, either, stays, passing, becomes, retried, step_by, made_if, made_where, change_by, can_by, refusal_by, is_waiting, look_manner, manner_by, Table, machine_of}
 use Rattle.spin_world_core.specs.Schedules.{placed}
@@ -354,11 +354,11 @@ module _ {W V C L A : Type 0} (t : Table W V C L A) (n : Notes t) (sound_all : (
     weak_at None next sound at owes is = absurd at
     weak_at (Some row) next sound at owes is = weak_is p c l h s w span row at sound (t.act c l h) next (owes at) is
 
-    pub soon_at : (o : Option Row) → AtRow t n p c l h s w span o → AnswersRow t n p (call_of t n c) l h s w span (answers_by t 4 w c l h) (is_waiting (t.asks c h)) o → is_open_now p (t.asks c h) span s ≡ true → answers_by t 4 w c l h ≡ true
+    pub soon_at : (o : Option Row) → AtRow t n p c l h s w span o → AnswersRow t n p (call_of t n c) l h s w span (answers_by t (steps_alone t.coding (t.asks c h)) w c l h) (is_waiting (t.asks c h)) o → is_open_now p (t.asks c h) span s ≡ true → answers_by t (steps_alone t.coding (t.asks c h)) w c l h ≡ true
     soon_at None at soon may = absurd at
     soon_at (Some row) at soon may =
         let waits = waits_where (t.asks c h) (is_empty (own p span)) (arrived p span) p s may in
-        let owed = subst (λ b. AnswersRow t n p (call_of t n c) l h s w span (answers_by t 4 w c l h) b (Some row)) waits soon in
+        let owed = subst (λ b. AnswersRow t n p (call_of t n c) l h s w span (answers_by t (steps_alone t.coding (t.asks c h)) w c l h) b (Some row)) waits soon in
         owed at (subst (λ (cs : List Change). is_open_next (t.asks c h) (is_empty cs) (arrived p span) p s ≡ true) at.known.made may)
 
   pub others_at : (p q : ℕ) (c : C) (l : L) (h : Option Hold) (s : Plain) (step : Option Change) (r : Manner) (span : List Mark) (o : Option Row) → (q ≡ p → ⊥) → IsOpenStep s q step
@@ -422,7 +422,7 @@ module _ {W V C L A : Type 0} (t : Table W V C L A) (n : Notes t) (pays : Pays t
             (steps_at t n pays.sound p c l h s w span (row_of t n c l h) (sound_of p c l h) (makes_step t.coding (t.act c l h) p (pays.makes p c l h)) (at_here p c l h s v w span here) (pays.owes p c l h s w span));
         counted = λ p c l h s v w span here. counted_at t n pays.sound p c l h s w span (row_of t n c l h) (sound_of p c l h) (at_here p c l h s v w span here) (pays.owes p c l h s w span);
         completes_alone = λ p c l h s v w span here q is. absurd (no_completion t.coding t.number (t.act c l h) p w q (pays.makes p c l h) is);
-        undisturbed = λ p c l h s v w span here may. answers_within t n pays.sound 4 w c l h (soon_at t n pays.sound p c l h s w span (row_of t n c l h) (at_here p c l h s v w span here) (pays.soon p c l h s w span) may);
+        undisturbed = λ p c l h s v w span here may. answers_within t n pays.sound (steps_alone t.coding (t.asks c h)) w c l h (soon_at t n pays.sound p c l h s w span (row_of t n c l h) (at_here p c l h s v w span here) (pays.soon p c l h s w span) may);
         refuses = λ p c l h s v w span next here is. refuses_at t n pays.sound p c l h s w span (row_of t n c l h) next (sound_of p c l h) (at_here p c l h s v w span here) (pays.owes p c l h s w span) is;
         weakly = λ p c l h s v w span next here is. weak_at t n pays.sound p c l h s w span (row_of t n c l h) next (sound_of p c l h) (at_here p c l h s v w span here) (pays.owes p c l h s w span) is;
         phase = λ s v shape. phase_none t.coding s.phase v pays.no_value;

@@ -7,7 +7,7 @@ use Rattle.spin_world_core.specs.declared.object.Next.{Next}
 use Rattle.spin_world_core.specs.declared.object.Next.TheVariants.{GoesOn, Answers}
 use Rattle.spin_world_core.specs.Manners.{Manner, plain, again, weak, by_step}
 use Rattle.spin_world_core.specs.Calls.{Coding, Asked, encoded, is_step_of, BelongsTo, own_steps, Mark, AnyOf, Limit, registers_after, limit, may_be_weak}
-use Rattle.spin_world_core.specs.Undisturbed.{arrived, is_open_next}
+use Rattle.spin_world_core.specs.Undisturbed.{arrived, is_open_next, steps_alone}
 use Rattle.spin_world_core.specs.Machines.{opening_plain}
 use Rattle.spin_world_core.specs.Runs.{mark_of, failures, changes}
 use Rattle.spin_world_core.specs.Acts.{Act, load, load_if, load_for, enter, exchange, weak_exchange, attempt, retry, store, store_if, passing, step_by, is_completion, is_waiting, look_manner, Table, machine_of}
@@ -133,13 +133,13 @@ answers_by {V = V} t (suc k) w c l h =
     let st = step_by {V = V} t.number (t.act c l h) w in
     goes_by st.next true (λ l. answers_by t k st.words c l h)
 
--- a call that may wait is answered by its fourth step, where what it asks is open to it and nobody else steps
+-- a call that may wait is answered by so many steps, where what it asks is open to it and nobody else steps
 abbrev pub AnswersRow : {W V C L A : Type 0} (t : Table W V C L A) (n : Notes t) → ℕ → CallOf W L A → L → Option Hold → Plain → W → List Mark → Bool → Bool → Option Row → Type 0
 AnswersRow t n p k l h s w span soon true (Some row) = AtPoint t n p k l h s w span row → is_open_next (k.asks h) (is_empty (row.made p)) (arrived p span) p s ≡ true → soon ≡ true
 AnswersRow t n p k l h s w span soon _ _ = Unit {0}
 
 abbrev pub OwesSoon : {W V C L A : Type 0} (t : Table W V C L A) (n : Notes t) → ℕ → C → L → Option Hold → Plain → W → List Mark → Type 0
-OwesSoon t n p c l h s w span = AnswersRow t n p (call_of t n c) l h s w span (answers_by t 4 w c l h) (is_waiting (t.asks c h)) (row_of t n c l h)
+OwesSoon t n p c l h s w span = AnswersRow t n p (call_of t n c) l h s w span (answers_by t (steps_alone t.coding (t.asks c h)) w c l h) (is_waiting (t.asks c h)) (row_of t n c l h)
 
 -- a call begins with a row that says so
 abbrev pub BeginsRow : {W V C L A : Type 0} (t : Table W V C L A) → Notes t → C → L → Option Hold → ℕ → Plain → Option Row → Type 0

@@ -1,13 +1,13 @@
 -- What the tables of several objects owe in the same way.
-use Rattle.std.proofs.Common.{◌≡◌, ℕ, suc, ◌==◌, Bool, true, false, ◌||◌, is_some, Option, Some, None, List, [], ◌∷◌, refl, ap, sym, ◌∙◌, subst}
-use Rattle.std.proofs.lemmas.Bool.{eqb-true, eq-eqb}
+use Rattle.std.proofs.Common.{◌≡◌, ℕ, zero, suc, ◌==◌, Bool, true, false, ◌||◌, is_some, Option, Some, None, List, [], ◌∷◌, refl, ap, sym, ◌∙◌, subst}
+use Rattle.std.proofs.lemmas.Bool.{eqb-true, eq-eqb, false≢true}
 use Rattle.std.specs.Option.{option_map}
 use Rattle.spin_step.specs.Plain.{Plain, Holder, Ticket, Change, apply, is_open, is_empty}
 use Rattle.spin_step.specs.Parties.{who}
 use Rattle.spin_step.specs.Steps.{Decides}
 use Rattle.spin_world_core.specs.declared.place.Hold.{Hold}
 use Rattle.spin_world_core.specs.declared.object.Next.{Next}
-use Rattle.spin_world_core.specs.declared.object.Next.TheVariants.{GoesOn}
+use Rattle.spin_world_core.specs.declared.object.Next.TheVariants.{GoesOn, Answers}
 use Rattle.spin_world_core.specs.Calls.{encoded}
 use Rattle.spin_world_core.specs.Acts.{Act, retry, step_by, Table}
 use Rattle.spin_world_core.proofs.Shapes.{Notes, Means, goes_by, answers_by}
@@ -55,20 +55,33 @@ means_word t n word numbers p s c (Some to) mine grants shape = ((mine, grants.0
 
 -- Run alone
 
+went : {L A : Type 0} (next : Next L A) (f g : L → Bool) → ((l : L) → f l ≡ true → g l ≡ true) → goes_by next true f ≡ true → goes_by next true g ≡ true
+went (GoesOn l) f g then is = then l is
+went (Answers a after) f g then is = refl
+
+-- what is answered by some step is so by a later one
+later : {W V C L A : Type 0} (t : Table W V C L A) (k : ℕ) (w : W) (c : C) (l : L) (h : Option Hold) → answers_by t k w c l h ≡ true → answers_by t (suc k) w c l h ≡ true
+later t zero w c l h is = absurd (false≢true is)
+later {V = V} t (suc k) w c l h is =
+    let st = step_by {V = V} t.number (t.act c l h) w in
+    went st.next (λ l. answers_by t k st.words c l h) (λ l. answers_by t (suc k) st.words c l h) (λ l is. later t k st.words c l h is) is
+
+-- an exchange that is made again: whatever is left once it has its new words, k steps at most
 module _ {W V C L A : Type 0} (t : Table W V C L A) (c : C) (h : Option Hold) (at : ℕ → L) (f : W → Option W) (step : ℕ → Change) (won : ℕ → Next L A) (missed : Next L A) (w to : W) (some : f w ≡ Some to)
     (again : (n : ℕ) → t.act c (at n) h ≡ retry n f step (won n) (λ w. GoesOn (at (t.number w))) missed)
-    (wins : (k : ℕ) → goes_by (won (t.number w)) true (λ l. answers_by t (suc k) to c l h) ≡ true) where
+    (k : ℕ) (wins : goes_by (won (t.number w)) true (λ l. answers_by t k to c l h) ≡ true) where
   -- how the call goes on by a step of this shape
   abbrev Soon : ℕ → Act W L A → Type 0
-  Soon k act = let st = step_by {V = V} t.number act w in goes_by st.next true (λ l. answers_by t k st.words c l h) ≡ true
+  Soon j act = let st = step_by {V = V} t.number act w in goes_by st.next true (λ l. answers_by t j st.words c l h) ≡ true
 
-  now : (k : ℕ) → answers_by t (suc (suc k)) w c (at (t.number w)) h ≡ true
-  now k = subst (Soon (suc k)) (sym (again (t.number w))) (rw (eq-eqb (t.number w) (t.number w) refl, some) (wins k))
+  -- it has them at once where it is for the number that lies there
+  pub exchanges_now : answers_by t (suc k) w c (at (t.number w)) h ≡ true
+  exchanges_now = subst (Soon k) (sym (again (t.number w))) (rw (eq-eqb (t.number w) (t.number w) refl, some) wins)
 
-  -- an exchange that is made again where the number is another has its new words at once or the second time
-  pub retries_soon : (k n : ℕ) → answers_by t (suc (suc (suc k))) w c (at n) h ≡ true
-  retries_soon k n = at_number (t.number w == n) refl
+  -- and else the second time
+  pub retries_soon : (n : ℕ) → answers_by t (suc (suc k)) w c (at n) h ≡ true
+  retries_soon n = at_number (t.number w == n) refl
     where
-      at_number : (b : Bool) → (t.number w == n) ≡ b → answers_by t (suc (suc (suc k))) w c (at n) h ≡ true
-      at_number true is = subst (λ m. answers_by t (suc (suc (suc k))) w c (at m) h ≡ true) (eqb-true (t.number w) n is) (now (suc k))
-      at_number false is = subst (Soon (suc (suc k))) (sym (again n)) (rw (is, some) (now k))
+      at_number : (b : Bool) → (t.number w == n) ≡ b → answers_by t (suc (suc k)) w c (at n) h ≡ true
+      at_number true is = subst (λ m. answers_by t (suc (suc k)) w c (at m) h ≡ true) (eqb-true (t.number w) n is) (later t (suc k) w c (at (t.number w)) h exchanges_now)
+      at_number false is = subst (Soon (suc k)) (sym (again n)) (rw (is, some) exchanges_now)

@@ -16,7 +16,7 @@ use Rattle.spin_world_core.specs.Manners as manner
 use Rattle.spin_world_core.specs.Calls.{Coding, encoded, BelongsTo, Asked, Said, own_steps, Mark, AnyOf, HasMoment, HasWeakMoment, Limit, unlimited, within, within_changes, gets_within, changes_within, registers_after, FindsClosed, Registers, TriesToStarve, limit, may_be_weak}
 use Rattle.spin_world_core.specs.Begins.{fits}
 pub use Rattle.spin_world_core.specs.Spans.{own, own_count, failures, changes, held_looks, keeps_looking, IsBeginning}
-use Rattle.spin_world_core.specs.Undisturbed.{AnsweredInFour}
+use Rattle.spin_world_core.specs.Undisturbed.{AnsweredSoon}
 use Rattle.spin_world_core.specs.Machines.{Machine, opening_plain}
 use Rattle.spin_world_core.specs.Schedules.{State, Happened, moves_at, at_first, after, may_read, may_write, is_owners}
 
@@ -346,8 +346,8 @@ pub record IsInTime {W V C L A : Type 0} (m : Machine W V C L A) (s : Scene W V 
   pub counted : IsCounted m s.party s.outcome s.move s.seat s.change s.manner s.before.plain
   -- an exchange that is made again fails only where another party has changed its word since the call looked, and once for each change
   pub retries : (q : ℕ) → failures q (s.after.span q) ≤ changes m.coding q (s.after.span q)
-  -- a call that waits is answered by its fourth own step from the moment on at which it is open and nobody disturbs it
-  pub undisturbed : AnsweredInFour m.coding s.party (s.after.span s.party) s.outcome (asked m s.seat)
+  -- a call that waits is answered by its fourth own step at the latest from the moment on at which it is open and nobody disturbs it
+  pub undisturbed : AnsweredSoon m.coding s.party (s.after.span s.party) s.outcome (asked m s.seat)
 
 -- Over a whole schedule, from the opening of a world of n parties
 

@@ -1,11 +1,11 @@
--- Calls that nobody disturbs: from a moment on at which what such a call asks is open, it is answered by its fourth own step.
+-- Calls that nobody disturbs: from a moment on at which what such a call asks is open, it is answered by its fourth own step at the latest.
 use Rattle.std.specs.Prelude.{◌≡◌, ℕ, ◌≤◌, ◌<◌, ◌==◌, ◌&&◌, ◌||◌, Bool, true, false, Option, Some, is_some, List, [], ◌∷◌, ◌++◌, if◌then◌else◌}
-use Rattle.spin_step.specs.Plain.{Plain, writing, to_enter, to_take_and_enter, to_lock_unregistered, to_lock_starving, is_open_to, is_empty, is_first, is_holder, is_nothing, is_complete}
+use Rattle.spin_step.specs.Plain.{Plain, writing, to_write, to_upgrade, to_enter, to_take_and_enter, to_lock_unregistered, to_lock_starving, is_open_to, is_empty, is_first, is_holder, is_nothing, is_complete}
 use Rattle.spin_step.specs.Barriers.{may_leave, is_leading}
 use Rattle.spin_world_core.specs.declared.schedule.Outcome.{Outcome}
 use Rattle.spin_world_core.specs.declared.schedule.Outcome.TheVariants as outcome
 use Rattle.spin_world_core.specs.Manners.{is_weak}
-use Rattle.spin_world_core.specs.Calls.{Coding, encoded, Asked, waits, waits_or_starves, initializes, fails_to_initialize, waits_for_value, polls, meets, Mark}
+use Rattle.spin_world_core.specs.Calls.{Coding, flag, rw, seats, encoded, Asked, waits, waits_or_starves, initializes, fails_to_initialize, waits_for_value, polls, meets, Mark}
 use Rattle.spin_world_core.specs.Spans.{own, own_count}
 
 -- how many had arrived at a barrier with the party's own arrival
@@ -50,8 +50,17 @@ UndisturbedTakes IsFew coding p what span =
     (recent : List Mark) (first : Mark) (older : List Mark) → span ≡ recent ++ first ∷ older → is_open_now p what older first.before ≡ true → AllOf (Leaves coding p) (recent ++ first ∷ [])
     → IsFew (own_count p (recent ++ first ∷ []))
 
--- so a call that goes on has taken fewer than four, and one that is answered four at most
-abbrev pub AnsweredInFour : {V A : Type 0} → Coding → ℕ → List Mark → Outcome A V → Option Asked → Type 0
-AnsweredInFour coding p span (outcome.Answered a b) (Some what) = UndisturbedTakes (λ n. n ≤ 4) coding p what span
-AnsweredInFour coding p span outcome.GoingOn (Some what) = UndisturbedTakes (λ n. n < 4) coding p what span
-AnsweredInFour coding p span _ _ = Unit {0}
+-- How many that is at most: one where the exchange needs no look, two where one look goes before it, and four of every other call
+abbrev pub steps_alone : Coding → Asked → ℕ
+steps_alone rw (waits to_write) = 1
+steps_alone rw (waits to_upgrade) = 1
+steps_alone rw (waits ask) = 2
+steps_alone seats (waits ask) = 2
+steps_alone flag (waits ask) = 2
+steps_alone coding what = 4
+
+-- so a call that goes on has taken fewer, and one that is answered so many at most
+abbrev pub AnsweredSoon : {V A : Type 0} → Coding → ℕ → List Mark → Outcome A V → Option Asked → Type 0
+AnsweredSoon coding p span (outcome.Answered a b) (Some what) = UndisturbedTakes (λ n. n ≤ steps_alone coding what) coding p what span
+AnsweredSoon coding p span outcome.GoingOn (Some what) = UndisturbedTakes (λ n. n < steps_alone coding what) coding p what span
+AnsweredSoon coding p span _ _ = Unit {0}

@@ -68,8 +68,8 @@ module _ {V : Type 0} (v : V) where
 
   soon : (p : ℕ) (c : FlagCall) (l : FlagPoint) (h : Option Hold) (s : Plain) (w : Bool) (span : List Mark)
       → OwesSoon (flag_table v) (flag_notes v) p c l h s w span
-  soon p Lock First None s w span = λ at free. ap (λ b. answers_by (flag_table v) 4 b Lock First None) (clear_is s p w (word_is s w at.encodes) free)
-  soon p Lock Second None s w span = λ at free. ap (λ b. answers_by (flag_table v) 4 b Lock Second None) (clear_is s p w (word_is s w at.encodes) free)
+  soon p Lock First None s w span = λ at free. ap (λ b. answers_by (flag_table v) 2 b Lock First None) (clear_is s p w (word_is s w at.encodes) free)
+  soon p Lock Second None s w span = λ at free. ap (λ b. answers_by (flag_table v) 2 b Lock Second None) (clear_is s p w (word_is s w at.encodes) free)
   soon p _ _ _ s w span = tt
 
   begins : (p : ℕ) (c : FlagCall) (h : Option Hold) (s : Plain) → BeginsAt (flag_table v) (flag_notes v) c h p s (begins_at c h)

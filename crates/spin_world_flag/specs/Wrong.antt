@@ -25,11 +25,9 @@ looks_for_ever {V} v =
       step = λ w value c l h. elim l [ First ↦ m.step w value c First h | Second ↦ record { words = w; placed = None; next = GoesOn Second } ];
     }
 
--- one party locks the flag, the other finds it set, and four looks after the release find it clear
-abbrev pub four_looks : {V : Type 0} → List (ℕ × Move FlagCall V)
-four_looks =
-    (0, Begin TryLock) ∷ (0, Step) ∷ (1, Begin Lock) ∷ (1, Step) ∷ (0, Begin Release) ∷ (0, Step)
-    ∷ (1, Step) ∷ (1, Step) ∷ (1, Step) ∷ (1, Step) ∷ []
+-- one party locks the flag, the other finds it set, and two looks after the release find it clear
+abbrev pub two_looks : {V : Type 0} → List (ℕ × Move FlagCall V)
+two_looks = (0, Begin TryLock) ∷ (0, Step) ∷ (1, Begin Lock) ∷ (1, Step) ∷ (0, Begin Release) ∷ (0, Step) ∷ (1, Step) ∷ (1, Step) ∷ []
 
 -- a strong try that may refuse without cause
 abbrev pub tries_by_chance : {V : Type 0} → V → FlagMachine V

@@ -3,11 +3,11 @@ ghost use Rattle.std.specs.Prelude.{◌≡◌, []};
 ghost use Rattle.spin_world_core.specs.Runs.{MomentsAll, CountsAll};
 ghost use Rattle.spin_world_core.specs.Operations.{Stepwise};
 ghost use Rattle.spin_world_core.specs.Runs.{KeepsAll};
-ghost use Rattle.spin_world_flag.specs.Wrong.{looks_for_ever, four_looks, tries_by_chance, one_try, looks_by_chance, look_beside_a_holder, never_releases, locks_to_read, opens_set};
+ghost use Rattle.spin_world_flag.specs.Wrong.{looks_for_ever, two_looks, tries_by_chance, one_try, looks_by_chance, look_beside_a_holder, never_releases, locks_to_read, opens_set};
 
-/// A flag's `lock` that never tries again after its first refusal: undisturbed it has to be answered by its fourth step.
+/// A flag's `lock` that never tries again after its first refusal: undisturbed it has to be answered by its second step.
 pub fn a_lock_tries_again<V: Copy>()
-    ensures { (value : V) → CountsAll (looks_for_ever value) 2 four_looks → ⊥ }
+    ensures { (value : V) → CountsAll (looks_for_ever value) 2 two_looks → ⊥ }
 {}
 
 /// A strong try that is refused without cause: the refusal has no moment.

@@ -1,5 +1,5 @@
 -- What the table of the read-write lock owes.
-use Rattle.std.proofs.Common.{◌≡◌, ℕ, suc, ◌+◌, ◌-◌, ◌/◌, ◌%◌, ◌≤◌, ◌==◌, Bool, true, ◌&&◌, Option, Some, None, List, [], ◌∷◌, ◌++◌, length, nat_lt, unwrap_or, refl, ap, sym, ◌∙◌, subst, arith, inl, eq-eqb, length-append}
+use Rattle.std.proofs.Common.{◌≡◌, ℕ, ◌+◌, ◌-◌, ◌/◌, ◌%◌, ◌≤◌, ◌==◌, Bool, true, ◌&&◌, Option, Some, None, List, [], ◌∷◌, ◌++◌, length, nat_lt, unwrap_or, refl, ap, sym, ◌∙◌, subst, arith, inl, eq-eqb, length-append}
 use Rattle.std.specs.Prelude.{min, max}
 use Rattle.std.proofs.lemmas.Bool.{and_parts, lt-ltb, ltb-true}
 use Rattle.spin_step.specs.Plain.{Plain, Kind, reading, upgradable, writing, Holder, holder, to_read, to_read_upgradable, to_write, to_upgrade, Change, gets, releases, turns, apply, is_open, may_read, is_empty, is_holder, is_downgrade, count_kind, without_holder, with_kind, rw_word}
@@ -29,7 +29,7 @@ use Rattle.spin_world_core.proofs.Stands.{holds, entries_at}
 use Rattle.spin_world_core.proofs.Rows.{starts_sound, SoundAt, Row, Point, starts, looked}
 use Rattle.spin_world_core.proofs.Shapes.{Notes, keeping_of, Means, OwesAt, answers_by, OwesSoon, BeginsAt, makes_own, Pays, CallOf, AtPoint}
 use Rattle.spin_world_core.proofs.Operating.{BeginsWhereItFits, TriesWeakly, Refuses, Operates, OperatesAt, one_word, swaps, lost_there, swaps_found}
-use Rattle.spin_world_core.proofs.Usual.{as_found, no_queue, means_word, retries_soon}
+use Rattle.spin_world_core.proofs.Usual.{as_found, no_queue, means_word, exchanges_now, retries_soon}
 use Rattle.spin_world_core.proofs.Paid.{facts_of}
 
 -- a call that looked has made one step; each other point is as its call's beginning
@@ -193,19 +193,27 @@ module _ {V : Type 0} (v : V) (cap : ℕ) where
   lets_in : (s : Plain) (w : ℕ) → IsExclusive s → Within cap s → rw_word s ≡ w → may_read s ≡ true → has_room w cap ≡ true
   lets_in s w order shape is may = sym (may_read-word s w cap (one_of_each s order) shape.room is) ∙ may
 
-  reads_soon : (k n w : ℕ) → has_room w cap ≡ true → Soon (suc (suc (suc k))) w Read (Exchange n) None
-  reads_soon k n w room = retries_soon (rw_table v cap) Read None Exchange (read cap) (λ p. gets p to_read) (λ m. granted hold.Read) (GoesOn First) w (w + 4) (rw room refl) (λ m. refl) (λ j. refl) k n
+  module _ (w : ℕ) (room : has_room w cap ≡ true) where
+    reads_now : Soon 1 w Read (Exchange w) None
+    reads_now = exchanges_now (rw_table v cap) Read None Exchange (read cap) (λ p. gets p to_read) (λ m. granted hold.Read) (GoesOn First) w (w + 4) (rw room refl) (λ m. refl) 0 refl
 
-  may_upgrade_soon : (k n w : ℕ) → has_room w cap ≡ true → Soon (suc (suc (suc k))) w UpgradeableRead (Exchange n) None
-  may_upgrade_soon k n w room =
-      retries_soon (rw_table v cap) UpgradeableRead None Exchange (read_upgradable cap) (λ p. gets p to_read_upgradable) (λ m. granted hold.Upgradable) (GoesOn First) w (w + 2) (rw room refl) (λ m. refl) (λ j. refl) k n
+    reads_soon : (n : ℕ) → Soon 2 w Read (Exchange n) None
+    reads_soon n = retries_soon (rw_table v cap) Read None Exchange (read cap) (λ p. gets p to_read) (λ m. granted hold.Read) (GoesOn First) w (w + 4) (rw room refl) (λ m. refl) 0 refl n
+
+    may_upgrade_now : Soon 1 w UpgradeableRead (Exchange w) None
+    may_upgrade_now =
+        exchanges_now (rw_table v cap) UpgradeableRead None Exchange (read_upgradable cap) (λ p. gets p to_read_upgradable) (λ m. granted hold.Upgradable) (GoesOn First) w (w + 2) (rw room refl) (λ m. refl) 0 refl
+
+    may_upgrade_soon : (n : ℕ) → Soon 2 w UpgradeableRead (Exchange n) None
+    may_upgrade_soon n =
+        retries_soon (rw_table v cap) UpgradeableRead None Exchange (read_upgradable cap) (λ p. gets p to_read_upgradable) (λ m. granted hold.Upgradable) (GoesOn First) w (w + 2) (rw room refl) (λ m. refl) 0 refl n
 
   soon : (p : ℕ) (c : RwCall) (l : RwPoint) (h : Option Hold) (s : Plain) (w : ℕ) (span : List Mark)
       → OwesSoon (rw_table v cap) (rw_notes v cap) p c l h s w span
-  soon p Read First None s w span = λ at free. let room = lets_in s w at.exclusive at.shape (word p at) free in rw room (reads_soon 0 w w room)
-  soon p Read (Exchange n) None s w span = λ at free. reads_soon 1 n w (lets_in s w at.exclusive at.shape (word p at) free)
-  soon p UpgradeableRead First None s w span = λ at free. let room = lets_in s w at.exclusive at.shape (word p at) free in rw room (may_upgrade_soon 0 w w room)
-  soon p UpgradeableRead (Exchange n) None s w span = λ at free. may_upgrade_soon 1 n w (lets_in s w at.exclusive at.shape (word p at) free)
+  soon p Read First None s w span = λ at free. let room = lets_in s w at.exclusive at.shape (word p at) free in rw room (reads_now w room)
+  soon p Read (Exchange n) None s w span = λ at free. reads_soon w (lets_in s w at.exclusive at.shape (word p at) free) n
+  soon p UpgradeableRead First None s w span = λ at free. let room = lets_in s w at.exclusive at.shape (word p at) free in rw room (may_upgrade_now w room)
+  soon p UpgradeableRead (Exchange n) None s w span = λ at free. may_upgrade_soon w (lets_in s w at.exclusive at.shape (word p at) free) n
   soon p Write l None s w span = λ at free. let zero : (w == 0) ≡ true = sym (empty-word s.holders w (word_is s w at.encodes)) ∙ free in rw zero refl
   soon p Upgrade l (Some hold.Upgradable) s w span = λ at free.
       let two : (w == 2) ≡ true = sym (only-word s p w (one_of_each s at.exclusive) (holder_by p upgradable s at.known.stand) (word_is s w at.encodes)) ∙ free in rw two refl

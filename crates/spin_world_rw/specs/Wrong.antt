@@ -1,5 +1,5 @@
 -- Read-write locks that are wrong, each in one part of its table, and schedules on which the laws refuse them. Where its steps are wrong, so are the plain steps that they read as.
-use Rattle.std.specs.Prelude.{ℕ, ◌+◌, ◌-◌, ◌/◌, ◌%◌, ◌==◌, true, false, Option, Some, None, List, [], ◌∷◌, ◌++◌, if◌then◌else◌}
+use Rattle.std.specs.Prelude.{ℕ, zero, suc, ◌+◌, ◌-◌, ◌/◌, ◌%◌, ◌==◌, true, false, Option, Some, None, List, [], ◌∷◌, ◌++◌, if◌then◌else◌}
 use Rattle.spin_step.specs.Plain.{reading, upgradable, writing, to_read, to_write, to_upgrade, to_lock_starving, Change, gets, releases}
 use Rattle.spin_world_core.specs.declared.place.Hold.{Hold}
 use Rattle.spin_world_core.specs.declared.place.Hold.TheVariants as hold
@@ -127,10 +127,30 @@ look_for_ever c l h = act_of 9 c l h
 abbrev pub looks_for_ever : {V : Type 0} → V → RwMachine V
 looks_for_ever v = with_steps v look_for_ever
 
-abbrev pub four_looks : {V : Type 0} → List (ℕ × Move RwCall V)
-four_looks = (0, Begin Read) ∷ (0, Step) ∷ (0, Step) ∷ (0, Step) ∷ (0, Step) ∷ []
+abbrev pub two_looks : {V : Type 0} → List (ℕ × Move RwCall V)
+two_looks = (0, Begin Read) ∷ (0, Step) ∷ (0, Step) ∷ []
 
--- `try_read` does
+-- `read` looks twice before it comes
+abbrev pub look_twice : {V : Type 0} → RwCall → RwPoint → Option Hold → RwAct V
+look_twice Read First h = load (λ w. GoesOn (Exchange 1))
+look_twice Read (Exchange (suc zero)) h = act_of 9 Read First h
+look_twice c l h = act_of 9 c l h
+
+abbrev pub looks_twice : {V : Type 0} → V → RwMachine V
+looks_twice v = with_steps v look_twice
+
+-- `write` looks before it comes
+abbrev pub look_first : {V : Type 0} → RwCall → RwPoint → Option Hold → RwAct V
+look_first Write First h = load (λ w. GoesOn (Exchange w))
+look_first c l h = act_of 9 c l h
+
+abbrev pub looks_first : {V : Type 0} → V → RwMachine V
+looks_first v = with_steps v look_first
+
+abbrev pub one_look : {V : Type 0} → List (ℕ × Move RwCall V)
+one_look = (0, Begin Write) ∷ (0, Step) ∷ []
+
+-- `try_read` looks for ever
 abbrev pub try_for_ever : {V : Type 0} → RwCall → RwPoint → Option Hold → RwAct V
 try_for_ever TryRead l h = load (λ w. GoesOn First)
 try_for_ever c l h = act_of 9 c l h

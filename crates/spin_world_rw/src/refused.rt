@@ -4,7 +4,7 @@ ghost use Rattle.spin_world_core.specs.Operations.{Stepwise};
 ghost use Rattle.spin_world_core.specs.Runs.{KeepsAll, MomentsAll, CountsAll};
 ghost use Rattle.spin_world_rw.specs.Rw.{rw_machine};
 ghost use Rattle.spin_world_rw.specs.Named.{IsRw};
-ghost use Rattle.spin_world_rw.specs.Wrong.{upgrades_at_once, upgrade_beside_a_reader, downgrades_in_two, downgrade_alone, reads_and_regrets, reads_and_regrets_unseen, read_beside_a_writer, reads_by_a_mask, writes_by_chance, write_alone, upgrades_anew, upgrade_alone, counts_without_upgradable, count_beside_an_upgradable, looks_for_ever, four_looks, tries_for_ever, read_alone, reads_in_one, reads_by_a_guess, guess_beside_a_reader, reads_weakly, read_by_chance, writes_strongly, waits_strongly, upgrades_by_chance, upgrade_by_chance, never_releases, upgrades_any_reader, writes_by_reading, never_writes, opens_written, forgets_its_value, has_no_owner};
+ghost use Rattle.spin_world_rw.specs.Wrong.{upgrades_at_once, upgrade_beside_a_reader, downgrades_in_two, downgrade_alone, reads_and_regrets, reads_and_regrets_unseen, read_beside_a_writer, reads_by_a_mask, writes_by_chance, write_alone, upgrades_anew, upgrade_alone, counts_without_upgradable, count_beside_an_upgradable, looks_for_ever, two_looks, looks_twice, looks_first, one_look, tries_for_ever, read_alone, reads_in_one, reads_by_a_guess, guess_beside_a_reader, reads_weakly, read_by_chance, writes_strongly, waits_strongly, upgrades_by_chance, upgrade_by_chance, never_releases, upgrades_any_reader, writes_by_reading, never_writes, opens_written, forgets_its_value, has_no_owner};
 
 /// A `try_upgrade` that is granted while a reader stands: the plain step isn't open.
 pub fn an_upgrade_is_refused_beside_readers<V: Copy>()
@@ -43,9 +43,12 @@ pub fn a_count_tells_the_upgradable_reader<V: Copy>()
     ensures { (value : V) → MomentsAll (counts_without_upgradable value) 2 count_beside_an_upgradable → ⊥ }
 {}
 
-/// A `read` that looks for ever: undisturbed it has to be answered by its fourth step.
-pub fn a_read_is_answered<V: Copy>()
-    ensures { (value : V) → CountsAll (looks_for_ever value) 1 four_looks → ⊥ }
+/// A `read` that looks for ever, and one that looks twice: undisturbed it has to be answered by its second step. And a
+/// `write` that looks, where its first step is the exchange.
+pub fn a_call_that_waits_is_answered<V: Copy>()
+    ensures never { (value : V) → CountsAll (looks_for_ever value) 1 two_looks → ⊥ }
+    ensures late { (value : V) → CountsAll (looks_twice value) 1 two_looks → ⊥ }
+    ensures write { (value : V) → CountsAll (looks_first value) 1 one_look → ⊥ }
 {}
 
 /// A `try_read` that looks for ever: it has a limit, whoever disturbs it.

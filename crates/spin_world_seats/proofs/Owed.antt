@@ -1,5 +1,5 @@
 -- What the table of the seats owes.
-use Rattle.std.proofs.Common.{◌≡◌, ℕ, suc, ◌+◌, ◌-◌, ◌≤◌, true, Option, Some, None, List, [], ◌∷◌, length, nat_lt, unwrap_or, refl, ap, sym, ◌∙◌, arith, inl, length-append}
+use Rattle.std.proofs.Common.{◌≡◌, ℕ, ◌+◌, ◌-◌, ◌≤◌, true, Option, Some, None, List, [], ◌∷◌, length, nat_lt, unwrap_or, refl, ap, sym, ◌∙◌, arith, inl, length-append}
 use Rattle.std.proofs.lemmas.Bool.{lt-ltb, ltb-true}
 use Rattle.spin_step.specs.Plain.{Plain, reading, holder, to_read, gets, releases, apply, may_read, is_holder}
 use Rattle.spin_step.specs.Parties.{Entries, entries}
@@ -27,7 +27,7 @@ use Rattle.spin_world_core.proofs.Stands.{holds, entries_at}
 use Rattle.spin_world_core.proofs.Rows.{starts_sound, SoundAt, Row, Point, starts, looked}
 use Rattle.spin_world_core.proofs.Shapes.{Notes, keeping_of, Means, OwesAt, answers_by, OwesSoon, BeginsAt, makes_own, Pays, CallOf, AtPoint}
 use Rattle.spin_world_core.proofs.Operating.{BeginsWhereItFits, TriesWeakly, Refuses, OperatesAt, one_word, swaps_found}
-use Rattle.spin_world_core.proofs.Usual.{as_found, no_queue, means_word, retries_soon}
+use Rattle.spin_world_core.proofs.Usual.{as_found, no_queue, means_word, exchanges_now, retries_soon}
 use Rattle.spin_world_core.proofs.Paid.{facts_of}
 
 -- a call that looked has made one step; each other point is as its call's beginning
@@ -87,16 +87,20 @@ module _ (n : ℕ) where
 
   -- Run alone: the word with a free seat is exchanged, at once or after a look
 
-  sits_soon : (j k w : ℕ) → nat_lt w (seats n) ≡ true → answers_by (seats_table n) (suc (suc (suc j))) w Enter (Exchange k) None ≡ true
-  sits_soon j k w free = retries_soon (seats_table n) Enter None Exchange (entered n) (λ p. gets p to_read) (λ i. granted) (GoesOn First) w (w + 1) (rw free refl) (λ i. refl) (λ i. refl) j k
+  module _ (w : ℕ) (free : nat_lt w (seats n) ≡ true) where
+    sits_now : answers_by (seats_table n) 1 w Enter (Exchange w) None ≡ true
+    sits_now = exchanges_now (seats_table n) Enter None Exchange (entered n) (λ p. gets p to_read) (λ i. granted) (GoesOn First) w (w + 1) (rw free refl) (λ i. refl) 0 refl
+
+    sits_soon : (k : ℕ) → answers_by (seats_table n) 2 w Enter (Exchange k) None ≡ true
+    sits_soon k = retries_soon (seats_table n) Enter None Exchange (entered n) (λ p. gets p to_read) (λ i. granted) (GoesOn First) w (w + 1) (rw free refl) (λ i. refl) 0 refl k
 
   is_free : (s : Plain) (w : ℕ) → Seating n s → seats_word s ≡ w → may_read s ≡ true → nat_lt w (seats n) ≡ true
   is_free s w shape is may = sym (open_is s n w shape.all_read shape.room is) ∙ may
 
   soon : (p : ℕ) (c : SeatsCall) (l : SeatsPoint) (h : Option Hold) (s : Plain) (w : ℕ) (span : List Mark)
       → OwesSoon (seats_table n) (seats_notes n) p c l h s w span
-  soon p Enter First None s w span = λ at may. let free = is_free s w at.shape (word_is s w at.encodes) may in rw free (sits_soon 0 w w free)
-  soon p Enter (Exchange k) None s w span = λ at may. sits_soon 1 k w (is_free s w at.shape (word_is s w at.encodes) may)
+  soon p Enter First None s w span = λ at may. let free = is_free s w at.shape (word_is s w at.encodes) may in rw free (sits_now w free)
+  soon p Enter (Exchange k) None s w span = λ at may. sits_soon w (is_free s w at.shape (word_is s w at.encodes) may) k
   soon p _ _ _ s w span = tt
 
   begins : (p : ℕ) (c : SeatsCall) (h : Option Hold) (s : Plain) → BeginsAt (seats_table n) (seats_notes n) c h p s (begins_at c h)

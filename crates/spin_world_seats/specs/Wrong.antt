@@ -1,5 +1,5 @@
 -- Locks of seats that are wrong, each in one part of its table, and schedules on which the laws refuse them. Where its steps are wrong, so are the plain steps that they read as.
-use Rattle.std.specs.Prelude.{ℕ, ◌-◌, ◌==◌, Option, Some, None, List, [], ◌∷◌, ◌++◌, nat_lt, if◌then◌else◌}
+use Rattle.std.specs.Prelude.{ℕ, zero, suc, ◌-◌, ◌==◌, Option, Some, None, List, [], ◌∷◌, ◌++◌, nat_lt, if◌then◌else◌}
 use Rattle.spin_step.specs.Plain.{reading, to_read, gets, releases}
 use Rattle.spin_seats.specs.Seats.{entered}
 use Rattle.spin_world_core.specs.declared.place.Hold.{Hold}
@@ -9,7 +9,7 @@ use Rattle.spin_world_core.specs.declared.answer.Answer.TheVariants.{Refused, Do
 use Rattle.spin_world_seats.specs.declared.seats.SeatsCall.{SeatsCall}
 use Rattle.spin_world_seats.specs.declared.seats.SeatsCall.TheVariants as call
 use Rattle.spin_world_seats.specs.declared.seats.SeatsPoint.{SeatsPoint}
-use Rattle.spin_world_seats.specs.declared.seats.SeatsPoint.TheVariants.{First}
+use Rattle.spin_world_seats.specs.declared.seats.SeatsPoint.TheVariants.{First, Exchange}
 use Rattle.spin_world_core.specs.declared.schedule.Move.{Move}
 use Rattle.spin_world_core.specs.declared.schedule.Move.TheVariants.{Begin, Step, Weak}
 use Rattle.spin_world_core.specs.Calls.{Asked, tries}
@@ -62,6 +62,18 @@ tries_for_ever = with_steps 2 try_for_ever
 
 abbrev pub two_looks : Entries
 two_looks = takes_a_seat 0
+
+-- `enter` looks twice before it takes a seat
+abbrev look_twice : SeatsCall → SeatsPoint → Option Hold → SeatsAct
+look_twice call.Enter First h = load (λ w. GoesOn (Exchange 2))
+look_twice call.Enter (Exchange (suc (suc zero))) h = act_of 2 call.Enter First h
+look_twice c l h = act_of 2 c l h
+
+abbrev pub looks_twice : SeatsMachine
+looks_twice = with_steps 2 look_twice
+
+abbrev pub enter_alone : Entries
+enter_alone = (0, Begin call.Enter) ∷ (0, Step) ∷ (0, Step) ∷ []
 
 -- a try looks and takes its seat in one event
 abbrev enter_in_one : SeatsCall → SeatsPoint → Option Hold → SeatsAct

@@ -4,7 +4,7 @@ ghost use Rattle.spin_world_core.specs.Operations.{Stepwise};
 ghost use Rattle.spin_world_core.specs.Runs.{KeepsAll, CountsAll};
 ghost use Rattle.spin_world_seats.specs.Seats.{seats_machine};
 ghost use Rattle.spin_world_seats.specs.Named.{IsSeats};
-ghost use Rattle.spin_world_seats.specs.Wrong.{seats_one_too_many, two_on_one_seat, leaves_for_two, one_of_two_leaves, tries_for_ever, two_looks, enters_in_one, enters_by_a_guess, guess_beside_one, enters_by_chance, enter_by_chance, nobody_leaves, enters_or_not, opens_taken};
+ghost use Rattle.spin_world_seats.specs.Wrong.{seats_one_too_many, two_on_one_seat, leaves_for_two, one_of_two_leaves, tries_for_ever, two_looks, looks_twice, enter_alone, enters_in_one, enters_by_a_guess, guess_beside_one, enters_by_chance, enter_by_chance, nobody_leaves, enters_or_not, opens_taken};
 
 /// A lock of one seat on which two sit down: the second one's plain step is not open.
 pub fn nobody_sits_beyond_the_seats()
@@ -19,6 +19,11 @@ pub fn a_leave_frees_one_seat()
 /// A try that looks for ever: it has a limit, whoever disturbs it.
 pub fn a_try_is_answered()
     ensures { CountsAll tries_for_ever 1 two_looks → ⊥ }
+{}
+
+/// An `enter` that looks twice: undisturbed it has to be answered by its second step.
+pub fn an_enter_is_answered()
+    ensures { CountsAll looks_twice 1 enter_alone → ⊥ }
 {}
 
 /// A try that looks and takes its seat in one event: no processor does so in one step.

@@ -190,7 +190,7 @@ module _ {V : Type 0} (v : V) (first : ℕ) where
   takes_soon : (k n : ℕ) (w : TicketWords) → is_left w.next ≡ true → w.serving ≡ w.next → answers_by (ticket_table v first) (suc (suc (suc k))) w Lock (Take n) None ≡ true
   takes_soon k n w left served =
       let after = record w { next = w.next + 1 } in
-      retries_soon (ticket_table v first) Lock None Take take (λ p. gets p to_take_ticket) (λ t. GoesOn (Await t)) (GoesOn LoadNext) w after (rw left refl) (λ m. refl) (λ j. enters_soon j after w.next served) k n
+      retries_soon (ticket_table v first) Lock None Take take (λ p. gets p to_take_ticket) (λ t. GoesOn (Await t)) (GoesOn LoadNext) w after (rw left refl) (λ m. refl) (suc k) (enters_soon k after w.next served) n
 
   soon : (p : ℕ) (c : TicketCall) (l : TicketPoint) (h : Option Hold) (s : Plain) (w : TicketWords) (span : List Mark)
       → OwesSoon (ticket_table v first) (ticket_notes v first) p c l h s w span

@@ -1,9 +1,8 @@
 use Rattle.spin_world_core.specs.Calls.{flag, waits}
 use Rattle.spin_step.specs.Plain.{to_write}
-use Rattle.spin_world_core.proofs.Otherwise.{four_steps}
-use Rattle.std.proofs.Common.{refl}
+use Rattle.spin_world_core.proofs.Otherwise.{too_many}
+use Rattle.std.proofs.Common.{[], ◌∷◌, refl}
 use Rattle.spin_world_flag.proofs.refused.a_lock_tries_again.Goals as goal
 
 pub returns : goal.returns
-returns g c = λ value all.
-    four_steps flag 1 (waits to_write) all.1.1.1.1.1.1.1.1.1.0.undisturbed refl (record { party = refl; strong = refl }) (record { party = refl; strong = refl }) (record { party = refl; strong = refl }) (record { party = refl; strong = refl }) refl
+returns g c = λ value all. too_many flag 1 (waits to_write) 2 (_ ∷ []) _ _ all.1.1.1.1.1.1.1.0.undisturbed refl (record { party = refl; strong = refl }, (record { party = refl; strong = refl }, tt)) refl
