@@ -13,7 +13,8 @@ pub use spin_world_core::{
 };
 pub use spin_world_fair::{
     Fair, FairCall, FairPoint, a_fair_lock_is_what_its_calls_ask,
-    a_word_is_zero_when_nobody_holds_or_starves, starvers_come_first,
+    a_starver_with_the_flag_is_granted_next, a_word_is_zero_when_nobody_holds_or_starves,
+    starvers_come_first,
 };
 pub use spin_world_flag::{
     Flag, FlagCall, FlagPoint, a_flag_is_clear_when_nobody_holds, a_lock_tries_again,

@@ -174,6 +174,18 @@ lock_beside_a_starver =
     (1, Begin Starve) ∷ (1, Step) ∷ (1, Step) ∷ (0, Begin Starve) ∷ (0, Step) ∷ (0, Step)
     ∷ (0, Begin StarverLock) ∷ (0, Step) ∷ (0, Step) ∷ (0, Step) ∷ (0, Step) ∷ (0, Step) ∷ []
 
+-- a starver that has set the flag leaves the starvers by an exchange of the word that it has found, again and again
+abbrev exchanging_acts : {V : Type 0} → Acts V
+exchanging_acts StarverLock Unregister h = load (λ w. GoesOn (Register w))
+exchanging_acts StarverLock (Register n) h = retry n (λ w. Some (w - 2)) (λ p. stops_starving p) granted (λ w. GoesOn (Register w)) (GoesOn Unregister)
+exchanging_acts c l h = act_of 2 1 c l h
+
+abbrev pub leaves_by_exchange : {V : Type 0} → V → Machine ℕ V FairCall FairPoint (Answer V)
+leaves_by_exchange v = by_acts v 2 exchanging_acts
+
+abbrev pub lock_of_a_starver : {V : Type 0} → Entries V
+lock_of_a_starver = (0, Begin Starve) ∷ (0, Step) ∷ (0, Step) ∷ (0, Begin StarverLock) ∷ (0, Step) ∷ []
+
 -- a starver sets the flag by a weak exchange
 abbrev weakly_acts : {V : Type 0} → Acts V
 weakly_acts StarverLock SetFlag h = weak_exchange lock_starved (λ p. gets p to_lock_starving) (GoesOn Unregister) (GoesOn Await)
