@@ -12,7 +12,7 @@ pub use spin_world_core::{
     looks_find_the_last_write, looks_under_one_guard_agree, two_runs_are_one,
 };
 pub use spin_world_fair::{
-    Fair, FairCall, FairPoint, a_fair_lock_is_what_its_calls_ask,
+    Fair, FairCall, FairPoint, a_fair_lock_is_what_its_calls_ask, a_starver_goes_for_a_clear_flag,
     a_starver_with_the_flag_is_granted_next, a_word_is_zero_when_nobody_holds_or_starves,
     starvers_come_first,
 };

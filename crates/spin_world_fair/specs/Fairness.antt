@@ -1,5 +1,5 @@
 -- What users of a fair lock rely on.
-use Rattle.std.specs.Prelude.{◌≡◌, ℕ, true, false, Option, Some, None, List, [], ◌∷◌, slice_get}
+use Rattle.std.specs.Prelude.{◌≡◌, ℕ, ◌+◌, ◌%◌, ◌⊎◌, true, false, Option, Some, None, List, [], ◌∷◌, slice_get}
 use Rattle.spin_step.specs.Plain.{Plain, writing, holder, is_holder, is_starver}
 use Rattle.spin_step.specs.Parties.{Entries, entries, no_entries}
 use Rattle.spin_world_core.specs.declared.answer.Answer.{Answer}
@@ -9,6 +9,8 @@ use Rattle.spin_world_core.specs.declared.place.Seat.TheVariants.{Calling}
 use Rattle.spin_world_core.specs.declared.schedule.Move.{Move}
 use Rattle.spin_world_core.specs.declared.schedule.Move.TheVariants.{Step}
 use Rattle.spin_world_core.specs.declared.schedule.Outcome.TheVariants.{Answered}
+use Rattle.spin_world_core.specs.declared.object.Next.TheVariants.{GoesOn}
+use Rattle.spin_world_core.specs.Acts.{is_waiting}
 use Rattle.spin_world_core.specs.Machines.{Machine}
 use Rattle.spin_world_core.specs.Schedules.{after, at_first}
 use Rattle.spin_world_core.specs.Runs.{opening, scene}
@@ -37,3 +39,19 @@ abbrev pub IsGrantedNext : {V : Type 0} → Machine ℕ V FairCall FairPoint (An
 IsGrantedNext m n past =
     (p : ℕ) (c : FairCall) (l : FairPoint) (h : Option Hold) → slice_get (after m (at_first m n) past).seats p ≡ Some (Calling c l h)
     → entries p (seen_after m (opening m n) past).plain ≡ holds_registered p → outcome_after m n past p Step ≡ Answered Granted None
+
+-- a party is a starver, and has nothing else
+abbrev pub only_starves : ℕ → Entries
+only_starves p = record no_entries { starvers = p ∷ [] }
+
+-- the step at this point sets the flag wherever it is clear
+abbrev pub SetsAClearFlag : {V : Type 0} → Machine ℕ V FairCall FairPoint (Answer V) → FairCall → FairPoint → Option Hold → Type 0
+SetsAClearFlag {V} m c l h = (w : ℕ) (value : Option V) → w % 2 ≡ 0 → (m.step w value c l h).words ≡ w + 1
+
+-- after these entries, where nobody holds: the next step of a starver that waits sets the flag, or goes on to one that does
+abbrev pub GoesForAClearFlag : {V : Type 0} → Machine ℕ V FairCall FairPoint (Answer V) → ℕ → List (ℕ × Move FairCall V) → Type 0
+GoesForAClearFlag m n past =
+    (p : ℕ) (c : FairCall) (l : FairPoint) (h : Option Hold) → let s = after m (at_first m n) past in
+    let plain = (seen_after m (opening m n) past).plain in
+    slice_get s.seats p ≡ Some (Calling c l h) → is_waiting (m.asks c h) ≡ true → entries p plain ≡ only_starves p → plain.holders ≡ []
+    → ((m.step s.words s.value c l h).words ≡ s.words + 1) ⊎ ((to : FairPoint) × ((m.step s.words s.value c l h).next ≡ GoesOn to) × SetsAClearFlag m c to h)
