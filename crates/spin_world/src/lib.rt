@@ -13,8 +13,9 @@ pub use spin_world_core::{
     two_runs_are_one,
 };
 pub use spin_world_fair::{
-    Fair, FairCall, FairPoint, a_fair_lock_is_what_its_calls_ask,
-    a_word_is_zero_when_nobody_holds_or_starves, starvers_come_first,
+    Fair, FairCall, FairPoint, a_fair_lock_is_what_its_calls_ask, a_starver_goes_for_a_clear_flag,
+    a_starver_with_the_flag_is_granted_next, a_word_is_zero_when_nobody_holds_or_starves,
+    starvers_come_first,
 };
 pub use spin_world_flag::{
     Flag, FlagCall, FlagPoint, a_flag_is_clear_when_nobody_holds, a_flag_is_what_its_calls_ask,

@@ -3,3 +3,4 @@ pub mod Registering
 pub mod Operating
 pub mod Owed
 pub mod Fairness
+pub mod Granted

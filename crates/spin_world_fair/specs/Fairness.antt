@@ -1,10 +1,22 @@
 -- What users of a fair lock rely on.
-use Rattle.std.specs.Prelude.{◌≡◌, ℕ, true, false, List, []}
-use Rattle.spin_step.specs.Plain.{Plain, writing, is_holder, is_starver}
+use Rattle.std.specs.Prelude.{◌≡◌, ℕ, ◌+◌, ◌%◌, ◌⊎◌, true, false, Option, Some, None, List, [], ◌∷◌, slice_get}
+use Rattle.spin_step.specs.Plain.{Plain, writing, holder, is_holder, is_starver}
+use Rattle.spin_step.specs.Parties.{Entries, entries, no_entries}
+use Rattle.spin_world_core.specs.declared.answer.Answer.{Answer}
+use Rattle.spin_world_core.specs.declared.answer.Answer.TheVariants.{Granted}
+use Rattle.spin_world_core.specs.declared.place.Hold.{Hold}
+use Rattle.spin_world_core.specs.declared.place.Seat.TheVariants.{Calling}
 use Rattle.spin_world_core.specs.declared.schedule.Move.{Move}
+use Rattle.spin_world_core.specs.declared.schedule.Move.TheVariants.{Step}
+use Rattle.spin_world_core.specs.declared.schedule.Outcome.TheVariants.{Answered}
+use Rattle.spin_world_core.specs.declared.object.Next.TheVariants.{GoesOn}
+use Rattle.spin_world_core.specs.Acts.{is_waiting}
+use Rattle.spin_world_core.specs.Machines.{Machine}
+use Rattle.spin_world_core.specs.Schedules.{after, at_first}
 use Rattle.spin_world_core.specs.Runs.{opening, scene}
-use Rattle.spin_world_core.specs.Users.{seen_after}
+use Rattle.spin_world_core.specs.Users.{seen_after, outcome_after}
 use Rattle.spin_world_fair.specs.declared.fair.FairCall.{FairCall}
+use Rattle.spin_world_fair.specs.declared.fair.FairPoint.{FairPoint}
 use Rattle.spin_world_fair.specs.Fair.{fair_machine}
 
 -- nobody holds the lock, and nobody starves
@@ -17,3 +29,29 @@ ComesAfterStarvers v cap patience n past p move =
     let m = fair_machine v cap patience in
     let before = seen_after m (opening m n) past in
     is_holder p writing before.plain.holders ≡ false → is_starver p before.plain.starvers ≡ false → is_holder p writing (scene m before p move).after.plain.holders ≡ true → before.plain.starvers ≡ []
+
+-- a party has got the lock as a starver, and is registered still
+abbrev pub holds_registered : ℕ → Entries
+holds_registered p = record no_entries { holders = holder p writing ∷ []; starvers = p ∷ [] }
+
+-- after these entries the next step of a call that has come so far is granted the lock, whatever the others do
+abbrev pub IsGrantedNext : {V : Type 0} → Machine ℕ V FairCall FairPoint (Answer V) → ℕ → List (ℕ × Move FairCall V) → Type 0
+IsGrantedNext m n past =
+    (p : ℕ) (c : FairCall) (l : FairPoint) (h : Option Hold) → slice_get (after m (at_first m n) past).seats p ≡ Some (Calling c l h)
+    → entries p (seen_after m (opening m n) past).plain ≡ holds_registered p → outcome_after m n past p Step ≡ Answered Granted None
+
+-- a party is a starver, and has nothing else
+abbrev pub only_starves : ℕ → Entries
+only_starves p = record no_entries { starvers = p ∷ [] }
+
+-- the step at this point sets the flag wherever it is clear
+abbrev pub SetsAClearFlag : {V : Type 0} → Machine ℕ V FairCall FairPoint (Answer V) → FairCall → FairPoint → Option Hold → Type 0
+SetsAClearFlag {V} m c l h = (w : ℕ) (value : Option V) → w % 2 ≡ 0 → (m.step w value c l h).words ≡ w + 1
+
+-- after these entries, where nobody holds: the next step of a starver that waits sets the flag, or goes on to one that does
+abbrev pub GoesForAClearFlag : {V : Type 0} → Machine ℕ V FairCall FairPoint (Answer V) → ℕ → List (ℕ × Move FairCall V) → Type 0
+GoesForAClearFlag m n past =
+    (p : ℕ) (c : FairCall) (l : FairPoint) (h : Option Hold) → let s = after m (at_first m n) past in
+    let plain = (seen_after m (opening m n) past).plain in
+    slice_get s.seats p ≡ Some (Calling c l h) → is_waiting (m.asks c h) ≡ true → entries p plain ≡ only_starves p → plain.holders ≡ []
+    → ((m.step s.words s.value c l h).words ≡ s.words + 1) ⊎ ((to : FairPoint) × ((m.step s.words s.value c l h).next ≡ GoesOn to) × SetsAClearFlag m c to h)

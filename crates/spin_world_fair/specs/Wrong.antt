@@ -1,5 +1,5 @@
 -- Fair locks that are wrong, each in one part of its table or machine, and schedules on which the laws refuse them. Each has room for two starvers, but one where it is said, and its `lock` registers by the second look that finds the flag set.
-use Rattle.std.specs.Prelude.{ℕ, ◌+◌, ◌-◌, ◌*◌, ◌/◌, Option, Some, None, List, [], ◌∷◌, ◌==◌, nat_lt}
+use Rattle.std.specs.Prelude.{ℕ, ◌+◌, ◌-◌, ◌*◌, ◌/◌, Option, Some, None, not, ◌&&◌, List, [], ◌∷◌, ◌++◌, ◌==◌, nat_lt}
 use Rattle.spin_step.specs.Plain.{gets, stops_starving, to_lock_unregistered, to_lock_starving, to_lock_starving_alone, to_starve}
 use Rattle.spin_world_core.specs.declared.place.Hold.{Hold}
 use Rattle.spin_world_core.specs.declared.place.Hold.TheVariants.{Starver}
@@ -128,11 +128,24 @@ waiting_acts c l h = act_of 2 1 c l h
 abbrev pub waits_for_ever : {V : Type 0} → V → Machine ℕ V FairCall FairPoint (Answer V)
 waits_for_ever v = by_acts v 2 waiting_acts
 
--- the flag is set as the starver tries, and clear in the four looks after that
-abbrev pub four_looks_of_a_starver : {V : Type 0} → Entries V
-four_looks_of_a_starver =
+-- the flag is set as the starver tries, and let go then
+abbrev pub let_go_beside_a_starver : {V : Type 0} → Entries V
+let_go_beside_a_starver =
     (0, Begin TryLock) ∷ (0, Step) ∷ (1, Begin Starve) ∷ (1, Step) ∷ (1, Step) ∷ (1, Begin StarverLock) ∷ (1, Step)
-    ∷ (0, Begin Release) ∷ (0, Step) ∷ (1, Step) ∷ (1, Step) ∷ (1, Step) ∷ (1, Step) ∷ []
+    ∷ (0, Begin Release) ∷ (0, Step) ∷ []
+
+-- and four looks after that
+abbrev pub four_looks_of_a_starver : {V : Type 0} → Entries V
+four_looks_of_a_starver = let_go_beside_a_starver ++ (1, Step) ∷ (1, Step) ∷ (1, Step) ∷ (1, Step) ∷ []
+
+-- a starver that waits sets the flag only where it finds the same clear word twice, so that others who come and go keep it waiting
+abbrev hesitating_acts : {V : Type 0} → Acts V
+hesitating_acts StarverLock Await h = load (λ w. GoesOn (Register w))
+hesitating_acts StarverLock (Register n) h = load_if (λ w. not (is_set w) && (w == n)) (λ w. GoesOn SetFlag) (λ w. GoesOn (Register w))
+hesitating_acts c l h = act_of 2 1 c l h
+
+abbrev pub waits_for_quiet : {V : Type 0} → V → Machine ℕ V FairCall FairPoint (Answer V)
+waits_for_quiet v = by_acts v 2 hesitating_acts
 
 -- `lock` never looks
 abbrev unlooking_acts : {V : Type 0} → Acts V
@@ -173,6 +186,18 @@ abbrev pub lock_beside_a_starver : {V : Type 0} → Entries V
 lock_beside_a_starver =
     (1, Begin Starve) ∷ (1, Step) ∷ (1, Step) ∷ (0, Begin Starve) ∷ (0, Step) ∷ (0, Step)
     ∷ (0, Begin StarverLock) ∷ (0, Step) ∷ (0, Step) ∷ (0, Step) ∷ (0, Step) ∷ (0, Step) ∷ []
+
+-- a starver that has set the flag leaves the starvers by an exchange of the word that it has found, again and again
+abbrev exchanging_acts : {V : Type 0} → Acts V
+exchanging_acts StarverLock Unregister h = load (λ w. GoesOn (Register w))
+exchanging_acts StarverLock (Register n) h = retry n (λ w. Some (w - 2)) (λ p. stops_starving p) granted (λ w. GoesOn (Register w)) (GoesOn Unregister)
+exchanging_acts c l h = act_of 2 1 c l h
+
+abbrev pub leaves_by_exchange : {V : Type 0} → V → Machine ℕ V FairCall FairPoint (Answer V)
+leaves_by_exchange v = by_acts v 2 exchanging_acts
+
+abbrev pub lock_of_a_starver : {V : Type 0} → Entries V
+lock_of_a_starver = (0, Begin Starve) ∷ (0, Step) ∷ (0, Step) ∷ (0, Begin StarverLock) ∷ (0, Step) ∷ []
 
 -- a starver sets the flag by a weak exchange
 abbrev weakly_acts : {V : Type 0} → Acts V

@@ -8,7 +8,7 @@ ghost use Rattle.spin_world_fair.specs.declared.fair.FairCall.{FairCall};
 ghost use Rattle.spin_world_fair.specs.declared.fair.Fair.{Fair};
 ghost use Rattle.spin_world_fair.specs.Fair.{fair_machine};
 ghost use Rattle.spin_world_fair.specs.Named.{IsFairLock};
-ghost use Rattle.spin_world_fair.specs.Fairness.{IsFree, ComesAfterStarvers};
+ghost use Rattle.spin_world_fair.specs.Fairness.{IsFree, ComesAfterStarvers, IsGrantedNext, GoesForAClearFlag};
 
 use crate::fair::Fair;
 use spin_world_core::Object;
@@ -27,4 +27,16 @@ pub fn a_word_is_zero_when_nobody_holds_or_starves<V: Copy>()
 /// granted the lock beside a starver.
 pub fn starvers_come_first<V: Copy>()
     ensures { (value : V) (cap patience n : ℕ) (past : List (ℕ × Move FairCall V)) (party : ℕ) (move : Move FairCall V) → ComesAfterStarvers value cap patience n past party move }
+{}
+
+/// A starver that has set the flag is granted the lock by its next step, whatever others do. So none keeps the flag
+/// without an answer while it steps.
+pub fn a_starver_with_the_flag_is_granted_next<V: Copy>()
+    ensures { (value : V) (cap patience n : ℕ) (past : List (ℕ × Move FairCall V)) → IsGrantedNext (fair_machine value cap patience) n past }
+{}
+
+/// A starver that waits, and steps while nobody holds, sets the flag by this step or by its next one, if the flag is
+/// clear then too. So others that register and leave do not keep it from the lock.
+pub fn a_starver_goes_for_a_clear_flag<V: Copy>()
+    ensures { (value : V) (cap patience n : ℕ) (past : List (ℕ × Move FairCall V)) → GoesForAClearFlag (fair_machine value cap patience) n past }
 {}

@@ -3,8 +3,9 @@ ghost use Rattle.std.specs.Prelude.{◌≡◌, []};
 ghost use Rattle.spin_world_core.specs.Operations.{Stepwise};
 ghost use Rattle.spin_world_core.specs.Runs.{KeepsAll, MomentsAll, CountsAll};
 ghost use Rattle.spin_world_fair.specs.Fair.{fair_machine};
+ghost use Rattle.spin_world_fair.specs.Fairness.{IsGrantedNext, GoesForAClearFlag};
 ghost use Rattle.spin_world_fair.specs.Named.{IsFairLock};
-ghost use Rattle.spin_world_fair.specs.Wrong.{tries_greedily, try_beside_a_starver, stays_a_starver, try_of_a_starver, starves_without_cap, two_starve, never_registers, lock_beside_a_holder, returns_to_its_exchange, lock_as_it_is_let_go, registers_at_once, hasty_lock, drop_frees, drop_beside_a_holder, tells_the_other_reason, try_beside_a_holder, waits_for_ever, four_looks_of_a_starver, never_looks, loads_uncounted, counts_each_second_look, keeps_the_flag, lock_beside_a_starver, sets_by_chance, starver_in_vain, starves_again, tries_alone, opens_with_a_starver};
+ghost use Rattle.spin_world_fair.specs.Wrong.{tries_greedily, try_beside_a_starver, stays_a_starver, try_of_a_starver, starves_without_cap, two_starve, never_registers, lock_beside_a_holder, returns_to_its_exchange, lock_as_it_is_let_go, registers_at_once, hasty_lock, drop_frees, drop_beside_a_holder, tells_the_other_reason, try_beside_a_holder, waits_for_ever, four_looks_of_a_starver, waits_for_quiet, let_go_beside_a_starver, never_looks, loads_uncounted, counts_each_second_look, keeps_the_flag, lock_beside_a_starver, leaves_by_exchange, lock_of_a_starver, sets_by_chance, starver_in_vain, starves_again, tries_alone, opens_with_a_starver};
 
 /// A `try_lock` that sets the flag wherever it is clear: beside a starver its step is not open.
 pub fn a_newcomer_yields_to_starvers<V: Copy>()
@@ -70,6 +71,17 @@ pub fn a_lock_counts_each_look<V: Copy>()
 /// A `starver_lock` that has set the flag and goes on while another party starves: who has what it asks is answered.
 pub fn a_starver_that_holds_is_answered<V: Copy>()
     ensures { (value : V) → CountsAll (keeps_the_flag value) 2 lock_beside_a_starver → ⊥ }
+{}
+
+/// A `starver_lock` that has set the flag and leaves the starvers by an exchange, which it makes again for as long as
+/// others come and go in between: it has to be granted by its next step.
+pub fn a_starver_leaves_in_one_step<V: Copy>()
+    ensures { (value : V) → IsGrantedNext (leaves_by_exchange value) 1 lock_of_a_starver → ⊥ }
+{}
+
+/// A `starver_lock` that waits until others have stopped coming and going, though the flag is clear.
+pub fn a_starver_waits_for_the_flag_alone<V: Copy>()
+    ensures { (value : V) → GoesForAClearFlag (waits_for_quiet value) 2 let_go_beside_a_starver → ⊥ }
 {}
 
 /// A starver that sets the flag by a weak exchange: its calls are not refused without cause.

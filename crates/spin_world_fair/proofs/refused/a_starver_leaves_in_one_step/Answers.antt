@@ -1,0 +1,9 @@
+use Rattle.std.proofs.Common.{refl}
+use Rattle.std.specs.Prelude.{Some}
+use Rattle.spin_world_core.specs.declared.place.Hold.TheVariants.{Starver}
+use Rattle.spin_world_fair.specs.declared.fair.FairCall.TheVariants.{StarverLock}
+use Rattle.spin_world_fair.specs.declared.fair.FairPoint.TheVariants.{Unregister}
+use Rattle.spin_world_fair.proofs.refused.a_starver_leaves_in_one_step.Goals as goal
+
+pub returns : goal.returns
+returns g c = λ value law. cc (law 0 StarverLock Unregister (Some Starver) refl refl)
