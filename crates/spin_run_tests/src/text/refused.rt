@@ -69,8 +69,8 @@ fn unrefused<O: OfHeader>(
     })
 }
 
-/// The same of a world whose second schedule is refused where so many bytes are left, and then played again: where it is
-/// after the refusal, what the schedule then tells, and where it stops. `None`: so many bytes suffice.
+/// Where a world is whose second schedule was refused where so many bytes are left; what that schedule tells once there is
+/// room again, and where it then stops. `None`: so many bytes suffice.
 fn played_again<O: OfHeader>(
     alloc: Global,
     opening: Opening,

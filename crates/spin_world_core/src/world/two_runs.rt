@@ -12,8 +12,8 @@ use std::alloc::{AllocError, Allocator};
 
 /// Plays a schedule in two runs: the entries before the place `at`, and then the others.
 ///
-/// The two transcripts together are those of one run. Only the second tells where a call began by the place in its own
-/// part, and nothing of a call that began in the first. After an `Err` the world is as it was, or as the first part
+/// The two transcripts together are that of one run. Each tells where a call began by the place in its own part, and the
+/// second tells nothing of where a call began in the first. After an `Err` the world is as it was, or as the first part
 /// leaves it.
 pub fn run_in_two<O: Object, A: Allocator + Copy>(
     world: &mut World<O, A>,
