@@ -1,5 +1,5 @@
 //! What no contract says of starvers: which call is granted beside one, and that a plain `lock` comes to starve.
-use spin_core::relax::{Loop, RelaxStrategy, Yield};
+use spin_core::relax::{Loop, RelaxStrategy, Spin, Yield};
 use spin_mutex::mutex::fair::LockRejectReason;
 use spin_mutex::mutex::{FairMutex, Starvation};
 use std::mem::forget;
@@ -187,8 +187,8 @@ struct Slow;
 
 impl RelaxStrategy for Slow {
     fn relax<W: Wait>(rt: &W) {
-        for _ in 0..20_000 {
-            Yield::relax(rt);
+        for _ in 0..400_000 {
+            Spin::relax(rt);
         }
     }
 }

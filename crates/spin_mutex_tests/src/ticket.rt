@@ -141,7 +141,7 @@ fn waiters_enter_in_the_order_in_which_they_came(rt: HostRuntime) {
     assert_eq!(rt; mutex.into_inner(), 123);
 }
 
-const TURNS: u64 = 20_000;
+const TURNS: u64 = 8_000;
 
 /// A queue in which two take turns, each of whom stays until the other has come: from the first ticket to the last
 /// somebody is in.
