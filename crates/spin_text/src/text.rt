@@ -61,7 +61,7 @@ fn read_by<I: Source>(alloc: Global, input: &mut I, chunk: &mut [u8]) -> Result<
     requires { 0 < length chunk.old }
     ensures bytes { IfOk result (λ bytes. ReadsAll (I.remaining input.old) (I.remaining input.new) bytes.items) }
     ensures ok { OnOk result (I.failed input.new ≡ I.failed input.old) }
-    ensures stops { IfErr result (StopsReading (I.failed input.new)) }
+    ensures stops { IfErr result (StopsReading (I.failed input.old) (I.failed input.new)) }
 {
     let mut bytes = Vec::new(alloc);
     loop {
@@ -79,7 +79,7 @@ fn read_by<I: Source>(alloc: Global, input: &mut I, chunk: &mut [u8]) -> Result<
 fn read_all<I: Source>(alloc: Global, input: &mut I) -> Result<Vec<u8>, RunError>
     ensures bytes { IfOk result (λ bytes. ReadsAll (I.remaining input.old) (I.remaining input.new) bytes.items) }
     ensures ok { OnOk result (I.failed input.new ≡ I.failed input.old) }
-    ensures stops { IfErr result (StopsReading (I.failed input.new)) }
+    ensures stops { IfErr result (StopsReading (I.failed input.old) (I.failed input.new)) }
 {
     let mut chunk = buffer(alloc, CHUNK)?;
     read_by(alloc, input, &mut chunk)
