@@ -18,4 +18,5 @@ pub use laws::{looks_find_the_last_write, looks_under_one_guard_agree, two_runs_
 pub use object::{Next, Object, Stepped};
 pub use place::{Hold, Place, Seat};
 pub use schedule::{Event, Move, Outcome, Transcript};
+pub use telling::{no_begins, with_begin};
 pub use world::World;

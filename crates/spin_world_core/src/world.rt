@@ -1,12 +1,12 @@
 ghost use Rattle.std.specs.Prelude.{◌≡◌, ◌≤◌, [], length, IfOk, OnOk, OnErr, vec_capacity, slice_get, option_map};
-ghost use Rattle.spin_world_core.specs.Schedules.{at_first, after, events_of, with_begins, place_of};
+ghost use Rattle.spin_world_core.specs.Schedules.{at_first, after, events_of, with_begins, happens, place_of};
 ghost use Rattle.spin_world_core.specs.Runs.{IsReached, AfterAnyPast, CanAlways, KeepsAll, MomentsAll, CountsAll};
 ghost use Rattle.spin_world_core.specs.Values.{ValuesAll};
 ghost use Rattle.spin_world_core.specs.Transcripts.{TellsAfterAnyPast, SaysAfterAnyPast};
 
 use crate::object::Object;
 use crate::place::Place;
-use crate::schedule::{Event, Move, Transcript};
+use crate::schedule::{Event, Move, Outcome, Transcript};
 use crate::table::{Table, idle_seats};
 use crate::telling::{forget_begins, no_begins, with_begin};
 use std::alloc::{AllocError, Global};
@@ -76,6 +76,22 @@ impl<O: Object> World<O> {
     {
         O::laws();
         self.table.place(party)
+    }
+
+    /// What one move of the party comes to. An answer does not tell where its call began: [`World::run`] does.
+    ///
+    /// What `run` promises of a schedule holds of the moves that led here.
+    pub fn act(
+        &mut self,
+        party: usize,
+        action: Move<O::Call, O::Value>,
+    ) -> Outcome<O::Answer, O::Value>
+        ensures happens { record { outcome = result; next = self.new.state } ≡ happens (O.machine self.old.object) self.old.state party action }
+        ensures object { self.new.object ≡ self.old.object }
+        ensures reached { IsReached (O.machine self.new.object) self.new.state }
+    {
+        O::laws();
+        self.table.act(&self.object, party, action)
     }
 
     /// Plays a schedule: each entry is a party and its move.
