@@ -3,6 +3,7 @@ pub mod Calls
 pub mod Machines
 pub mod Acts
 pub mod Schedules
+pub mod Sharing
 pub mod Spans
 pub mod Undisturbed
 pub mod Runs

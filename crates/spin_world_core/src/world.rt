@@ -7,7 +7,7 @@ ghost use Rattle.spin_world_core.specs.Transcripts.{TellsAfterAnyPast, SaysAfter
 use crate::object::Object;
 use crate::place::Place;
 use crate::schedule::{Event, Move, Outcome, Transcript};
-use crate::table::{Table, idle_seats};
+use crate::table::Table;
 use crate::telling::{forget_begins, no_begins, with_begin};
 use std::alloc::{AllocError, Global};
 use std::marker::Model;
@@ -40,11 +40,7 @@ impl<O: Object> World<O> {
     pub fn new(alloc: Global, object: O, parties: usize) -> Result<World<O>, AllocError>
         ensures { IfOk result (λ w. w ≡ record { object = object; state = at_first (O.machine object) parties }) }
     {
-        let table = Table {
-            words: object.opening_words(),
-            value: object.opening_value(),
-            seats: idle_seats(alloc, parties)?,
-        };
+        let table = Table::new(alloc, &object, parties)?;
         Ok(World {
             alloc,
             object,
