@@ -34,7 +34,7 @@ pub count_stops : (words : List (List ℕ)) (workers times : ℕ) (Unread Unwrit
 count_stops words workers times Unread Unwritten t (Ok x) asks unread stops = tt
 count_stops words workers times Unread Unwritten t (Err Usage) asks unread stops = absurd stops
 count_stops words workers times Unread Unwritten t (Err Refused) asks unread stops = ((workers, times, asks), unread, stops)
-count_stops words workers times Unread Unwritten t (Err Memory) asks unread stops = (inl ((workers, times, asks), unread), stops)
+count_stops words workers times Unread Unwritten t (Err Memory) asks unread stops = inl ((workers, times, asks), unread, stops)
 count_stops words workers times Unread Unwritten t (Err Read) asks unread stops = absurd stops
 count_stops words workers times Unread Unwritten t (Err (BadLine n)) asks unread stops = absurd stops
 count_stops words workers times Unread Unwritten t (Err Write) asks unread stops = inl (unread, stops.0, (workers, times, asks, stops.1))
@@ -44,7 +44,8 @@ pub told_usage : (words : List (List ℕ)) (Unread Unwritten : Type 0) (t : Stre
     → AsksNothing words → (status ≡ 2) × Tells failed old new usage_line
 told_usage words Unread Unwritten t failed old new Usage status stops is told none = (is, told)
 told_usage words Unread Unwritten t failed old new Refused status stops is told none = absurd (none.0 stops.0.0 stops.0.1 stops.0.2)
-told_usage words Unread Unwritten t failed old new Memory status stops is told none = absurd (elim stops.0 [ inl count ↦ none.0 count.0.0 count.0.1 count.0.2 | inr world ↦ none.1 world ])
+told_usage words Unread Unwritten t failed old new Memory status stops is told none =
+    absurd (elim stops [ inl count ↦ none.0 count.0.0 count.0.1 count.0.2 | inr world ↦ none.1 world.0 ])
 told_usage words Unread Unwritten t failed old new Read status stops is told none = absurd (none.1 stops.0)
 told_usage words Unread Unwritten t failed old new (BadLine n) status stops is told none = absurd (none.1 stops.0)
 told_usage words Unread Unwritten t failed old new Write status stops is told none =

@@ -36,9 +36,9 @@ abbrev pub Counts : List (List ℕ) → Streams → Type 0
 Counts words t =
     (t.sink_failed ≡ false) × ((workers : ℕ) × (times : ℕ) × AsksCount words workers times × Appends t.written t.written_after (total_text workers times))
 
--- what was asked for was written, and no write failed. Only a world reads
+-- what was asked for was written, and no read and no write failed. Only a world reads
 abbrev pub Does : List (List ℕ) → Type 0 → Streams → Type 0
-Does words Unread t = (Unread × Counts words t) ⊎ (AsksWorld words × (t.sink_failed ≡ false) × Plays t)
+Does words Unread t = (Unread × Counts words t) ⊎ (AsksWorld words × (t.source_failed ≡ false) × (t.sink_failed ≡ false) × Plays t)
 
 -- the lines on standard error
 abbrev pub usage_line : List ℕ

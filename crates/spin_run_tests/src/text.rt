@@ -142,6 +142,29 @@ fn tells_a_failed_write(rt: HostRuntime) {
     }
 }
 
+/// Texts over a writer that takes nothing, each with whether a read fails behind it, and the fault that is met first.
+const TWO_FAULTS: &[(&str, bool, RunError)] = &[
+    ("x\n", true, RunError::Read),
+    ("flag 5 1\n0 jump\n", true, RunError::Read),
+    ("flag 5 1\n", true, RunError::Read),
+    ("", false, RunError::BadLine(1)),
+    ("x\n0 jump\n", false, RunError::BadLine(1)),
+    ("flag 5 1\n0 jump\n0 step \n", false, RunError::BadLine(2)),
+];
+
+#[test]
+fn tells_the_fault_that_is_met_first(rt: HostRuntime) {
+    for (text, read_fails, fault) in TWO_FAULTS {
+        let mut input = Tape {
+            fails: *read_fails,
+            ..Tape::new(text.as_bytes())
+        };
+        let mut output = Paper::new(rt.alloc(), usize::MAX, 0);
+        plays(&rt, rt.alloc(), &mut input, &mut output, Err(*fault), b"");
+        assert_eq!(rt; output.writes, 0);
+    }
+}
+
 /// A writer of std's that takes nothing, or fails, behind the first bytes. It counts its calls.
 #[derive(Drop)]
 struct Stuck<'a> {

@@ -1,12 +1,13 @@
 -- Numbers as words: what is printed is read, and what is read was printed so.
-use Rattle.std.proofs.Common.{◌≡◌, ℕ, suc, zero, ◌<◌, ◌^◌, true, ◌&&◌, Option, Some, None, IfSome, IfNone, nat_lt, List, decimal, length, arith, sym, ◌∙◌, ap, slice_index, subst, refl, cond}
-use Rattle.std.specs.Str.{bytes_eq, IsUtf8}
+use Rattle.std.proofs.Common.{◌≡◌, ℕ, suc, zero, ◌+◌, ◌*◌, ◌<◌, ◌≤◌, ◌^◌, true, ◌&&◌, Option, Some, None, IfSome, IfNone, nat_lt, List, [], ◌∷◌, decimal, length, take, get_or, arith, sym, ◌∙◌, ap, slice_index, subst, refl, cond}
+use Rattle.std.specs.Char.{digit_value}
+use Rattle.std.specs.Str.{bytes_eq}
 use Rattle.std.specs.Str.Parse.{AllDigits, digits_value}
-use Rattle.std.proofs.lemmas.Str.{IsUtf8-from_ascii}
-use Rattle.std.proofs.lemmas.Str.Parse.{numerals_by_value, tells_digits}
+use Rattle.std.proofs.lemmas.Str.Parse.{numerals_by_value, tells_digits, digits_value-take-le}
+use Rattle.std.proofs.lemmas.Int.Digits.{digits_value_more}
 use Rattle.std.proofs.lemmas.Slice.Eq.{bytes_eq-Decides}
 use Rattle.std.proofs.lemmas.Bool.{lt-ltb, ltb-true}
-use Rattle.std.proofs.lemmas.Fmt.{decimal_is_IsNumeral, decimal-digits_value, decimal_digit, first_decimal, IsAscii-decimal}
+use Rattle.std.proofs.lemmas.Fmt.{decimal_is_IsNumeral, decimal-digits_value, decimal_digit, first_decimal}
 use Rattle.spin_text.specs.Numbers.{IsNumber}
 use Rattle.spin_text.specs.Reading.{read_number}
 use Rattle.spin_text.proofs.Options.{chosen, some_is, and_true}
@@ -59,13 +60,22 @@ number_is_read w None some none =
     none n fits (let P : List ℕ → Type 0 = λ v. IsNumber v n in subst P (sym is) (is_number n fits)))
 number_is_read w (Some n) some none = sym (read_number_some w n some.0 (prints_back w n some.0 some.1))
 
--- bytes that are no text are no number
-pub no_text_no_number : (w : List ℕ) → ¬ (IsUtf8 w) → None ≡ read_number w
-no_text_no_number w not_text =
-    read_number_none w (read_number w) refl (λ n fits is.
-    not_text (let P : List ℕ → Type 0 = λ v. IsUtf8 v in subst P (sym is) (IsUtf8-from_ascii (decimal n) (IsAscii-decimal n fits))))
+-- the digits that were read so far, and that the next byte is none, or takes their number past 64 bits
+digit_value_at : (word : List ℕ) (i : ℕ) → AllDigits 10 word → i < length word → digit_value (get_or word i 0) < 10
+digit_value_at [] i digits lt = absurd (omega (arith, lt))
+digit_value_at (c ∷ word) zero digits lt = digits.0
+digit_value_at (c ∷ word) (suc i) digits lt = digit_value_at word i digits.1 (omega (arith, lt))
 
--- the same, where the word was first seen to be text
-pub number_of_text : (w v : List ℕ) (r : Option ℕ) → w ≡ v → IfSome r (λ n. n < 2 ^ 64) → IfSome r (λ n. IsNumber w n) → IfNone r ((n : ℕ) → n < 2 ^ 64 → ¬ (IsNumber w n)) → r ≡ read_number v
-number_of_text w v None same fits some none = number_is_read w None tt none ∙ ap read_number same
-number_of_text w v (Some n) same fits some none = number_is_read w (Some n) (fits, some) tt ∙ ap read_number same
+pub stuck : (word : List ℕ) (i number digit : ℕ) → number ≡ digits_value 10 (take i word) → i < length word → digit ≡ get_or word i 0 → (digit_value digit < 10 → 2 ^ 64 ≤ number * 10 + digit_value digit) → (n : ℕ) → n < 2 ^ 64 → ¬ (IsNumber word n)
+stuck word i number digit so_far lt read past n fits is =
+    let same : digit_value digit ≡ digit_value (get_or word i 0) = ap digit_value read in
+    let small : digit_value digit < 10 = omega (arith, same, digit_value_at word i is.digits.1 lt) in
+    let more : digits_value 10 (take (i + 1) word) ≡ digits_value 10 (take i word) * 10 + digit_value (get_or word i 0) = digits_value_more 10 word i lt in
+    let part : digits_value 10 (take (i + 1) word) ≤ digits_value 10 word = digits_value-take-le 10 word (i + 1) (omega arith) in
+    let big = past small in
+    omega (arith, same, more, part, big, so_far, is.value, fits)
+
+-- what is said of the number that bytes are is that it is read
+pub number_read : (w : List ℕ) (r : Option ℕ) → IfSome r (λ n. n < 2 ^ 64) → IfSome r (λ n. IsNumber w n) → IfNone r ((n : ℕ) → n < 2 ^ 64 → ¬ (IsNumber w n)) → r ≡ read_number w
+number_read w None fits some none = number_is_read w None tt none
+number_read w (Some n) fits some none = number_is_read w (Some n) (fits, some) tt

@@ -1,5 +1,5 @@
 -- A whole text is read as it is spelled: so it has one reading, and its first bad line is where reading stops.
-use Rattle.std.proofs.Common.{◌≡◌, ℕ, suc, Result, Ok, Err, IfOk, IfErr, ◌+◌, ◌-◌, Option, Some, None, List, [], ◌∷◌, ◌++◌, length, map, take, arith, refl, sym, ◌∙◌, ap, subst, length-append, append_assoc}
+use Rattle.std.proofs.Common.{◌≡◌, ℕ, suc, ◌<◌, Result, Ok, Err, IfOk, IfErr, ◌+◌, ◌-◌, Option, Some, None, List, [], ◌∷◌, ◌++◌, length, map, take, arith, refl, sym, ◌∙◌, ap, subst, length-append, append_assoc}
 use Rattle.std.proofs.lemmas.List.{length-map, map-append}
 use Rattle.spin_world_core.specs.declared.answer.Answer.{Answer}
 use Rattle.spin_world_core.specs.declared.schedule.Move.{Move}
@@ -7,7 +7,7 @@ use Rattle.spin_world_core.specs.Machines.{Machine}
 use Rattle.spin_text.specs.declared.header.Header.{Header}
 use Rattle.spin_text.specs.declared.text.RunError.{RunError}
 use Rattle.spin_text.specs.declared.text.RunError.TheVariants as errors
-use Rattle.spin_text.specs.Lines.{words_by_line}
+use Rattle.spin_text.specs.Lines.{words_by_line, header_line, entry_lines}
 use Rattle.spin_text.specs.Spelling.{Calls, entry_words, EntryFits, EntriesFit}
 use Rattle.spin_text.specs.Objects.{CallOf, calls_of, header_words, HeaderFits}
 use Rattle.spin_text.specs.Reading.{◌>>=◌, read_entry, read_header}
@@ -80,14 +80,18 @@ header_stops : (line : List (List ℕ)) → read_header line ≡ None → read_s
 unfolding read_script
 header_stops line none = ap (λ o. o >>= λ h. (read_entries (read_of h) [] >>= λ es. Some (record { header = h; entries = es }))) none
 
-pub bad_header : (lines : List (List (List ℕ))) (line : List (List ℕ)) (more : List (List (List ℕ))) → lines ≡ line ∷ more → None ≡ read_header line → IsFirstBad lines 1
-bad_header lines line more is none =
-    let P : List (List (List ℕ)) → Type 0 = λ ls. IsFirstBad ls 1 in
-    subst P (sym is) (record {
+bad_first : (lines : List (List (List ℕ))) → 0 < length lines → None ≡ read_header (header_line lines) → IsFirstBad lines 1
+bad_first [] there none = absurd (omega (arith, there))
+bad_first (line ∷ more) there none =
+    record {
       there = (omega arith, omega arith);
       before = λ less. absurd (omega (arith, less));
       bad = no_script (line ∷ []) (header_stops line (sym none));
-    })
+    }
+
+pub bad_header : (bytes given : List ℕ) → given ≡ bytes → 0 < length (words_by_line given) → None ≡ read_header (header_line (words_by_line given)) → IsFirstBad (words_by_line bytes) 1
+bad_header bytes given is =
+    subst (λ b. 0 < length (words_by_line given) → None ≡ read_header (header_line (words_by_line given)) → IsFirstBad (words_by_line b) 1) is (bad_first (words_by_line given))
 
 entry_stops : (h : Header) (es : List (ℕ × Move (CallOf h) ℕ)) (line : List (List ℕ)) → HeaderFits h → EntriesFit (calls_of h) es → read_entry (read_of h) line ≡ None
     → read_script (header_words h ∷ (map (entry_words (calls_of h)) es ++ (line ∷ []))) ≡ None
@@ -122,8 +126,13 @@ first_bad h es line more fits each none =
     }
 
 -- the first line is the header that it is read as
-pub headed : (bytes : List ℕ) (h : Header) (line : List (List ℕ)) (rest : List (List (List ℕ))) → read_header line ≡ Some h → words_by_line bytes ≡ line ∷ rest → HeaderFits h × (words_by_line bytes ≡ header_words h ∷ rest)
-headed bytes h line rest found is = let header = header_takes line h found in (header.0, is ∙ ap (λ w. w ∷ rest) header.1)
+headed_lines : (lines : List (List (List ℕ))) (h : Header) → read_header (header_line lines) ≡ Some h → HeaderFits h × (lines ≡ header_words h ∷ entry_lines lines)
+unfolding read_header
+headed_lines [] h found = absurd (cc)
+headed_lines (line ∷ lines) h found = let header = header_takes line h found in (header.0, ap (λ w. w ∷ lines) header.1)
+
+pub headed : (bytes : List ℕ) (h : Header) (given : List ℕ) → given ≡ bytes → read_header (header_line (words_by_line given)) ≡ Some h → HeaderFits h × (words_by_line bytes ≡ header_words h ∷ entry_lines (words_by_line bytes))
+headed bytes h given is found = headed_lines (words_by_line bytes) h (ap (λ b. read_header (header_line (words_by_line b))) (sym is) ∙ found)
 
 -- where the entries stop, the text stops
 pub bad_entry : (bytes : List ℕ) (h : Header) (rest : List (List (List ℕ))) (e : RunError) → HeaderFits h → words_by_line bytes ≡ header_words h ∷ rest → StopsEntries (calls_of h) (read_of h) rest e → StopsPlaying bytes e

@@ -7,4 +7,5 @@ pub mod Reading
 pub mod Readable
 pub mod Objects
 pub mod Transcripts
+pub mod Pieces
 pub mod Texts

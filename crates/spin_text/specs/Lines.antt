@@ -24,3 +24,12 @@ words_of line = slice_split (λ b. b == 32) line
 -- the words of each line
 abbrev pub words_by_line : List ℕ → List (List (List ℕ))
 words_by_line bytes = map words_of (lines_of bytes)
+
+-- the first line is the header's, and each further one an entry's
+abbrev pub header_line : List (List (List ℕ)) → List (List ℕ)
+header_line [] = []
+header_line (line ∷ lines) = line
+
+abbrev pub entry_lines : List (List (List ℕ)) → List (List (List ℕ))
+entry_lines [] = []
+entry_lines (line ∷ lines) = lines

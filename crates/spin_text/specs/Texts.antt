@@ -1,5 +1,5 @@
 -- Which bytes are the text of a schedule, which line of others is the first bad one, and what is written.
-use Rattle.std.specs.Prelude.{◌≡◌, ℕ, ◌+◌, ◌-◌, ◌<◌, ◌≤◌, Bool, true, List, ◌∷◌, length, map, take, Option, None}
+use Rattle.std.specs.Prelude.{◌≡◌, ℕ, ◌+◌, ◌-◌, ◌<◌, ◌≤◌, Bool, true, false, List, ◌∷◌, length, map, take, Option, None}
 use Rattle.std.specs.Io.KnownBytes.{Appends, Consumes, IsAtEnd}
 use Rattle.spin_world_core.specs.declared.answer.Answer.{Answer}
 use Rattle.spin_world_core.specs.declared.schedule.Move.{Move}
@@ -81,21 +81,22 @@ abbrev pub Plays : Streams → Type 0
 Plays t =
     (bytes : List ℕ) × (text : List ℕ) × ReadsAll t.left t.left_after bytes × PlaysBytes bytes text × Appends t.written t.written_after text
 
--- why nothing was written, or at a failed write no more than a beginning of the text
+-- why nothing was written, or at a failed write no more than a beginning of the text. A failed read is always told as one, whatever else is wrong;
+-- a bad line, before anything is written; and a failed write, only of the whole text of lines that are all good
 abbrev pub Stops : Streams → Type 0 → RunError → Type 0
 Stops t Unwritten errors.Read = (t.source_failed ≡ true) × Unwritten
-Stops t Unwritten errors.Memory = Unwritten
-Stops t Unwritten (errors.BadLine n) = ((bytes : List ℕ) × ReadsAll t.left t.left_after bytes × IsFirstBad (words_by_line bytes) n) × Unwritten
+Stops t Unwritten errors.Memory = (t.source_failed ≡ false) × Unwritten
+Stops t Unwritten (errors.BadLine n) = (t.source_failed ≡ false) × ((bytes : List ℕ) × ReadsAll t.left t.left_after bytes × IsFirstBad (words_by_line bytes) n) × Unwritten
 Stops t Unwritten errors.Write =
-    (t.sink_failed ≡ true)
+    (t.source_failed ≡ false) × (t.sink_failed ≡ true)
     × ((bytes : List ℕ) × (text : List ℕ) × ReadsAll t.left t.left_after bytes × PlaysBytes bytes text × AppendsBeginning t.written t.written_after text)
 
 -- the same, of the parts of a call
 
-abbrev pub StopsReading : Bool → RunError → Type 0
-StopsReading failed errors.Read = failed ≡ true
-StopsReading failed errors.Memory = Unit {0}
-StopsReading failed _ = ⊥
+abbrev pub StopsReading : Bool → Bool → RunError → Type 0
+StopsReading failed failed_after errors.Read = failed_after ≡ true
+StopsReading failed failed_after errors.Memory = failed_after ≡ failed
+StopsReading failed failed_after _ = ⊥
 
 abbrev pub StopsPlaying : List ℕ → RunError → Type 0
 StopsPlaying bytes (errors.BadLine n) = IsFirstBad (words_by_line bytes) n

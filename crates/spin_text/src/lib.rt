@@ -9,6 +9,7 @@ mod header;
 mod laws;
 mod numbers;
 mod objects;
+mod put;
 mod text;
 mod transcript;
 mod words;

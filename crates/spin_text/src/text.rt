@@ -1,6 +1,7 @@
 //! A whole text: read, checked, played, and the transcript's text written.
-ghost use Rattle.std.specs.Prelude.{string_bytes, ◌≡◌, ◌<◌, false, length, OnOk, IfOk, IfErr};
-ghost use Rattle.spin_text.specs.Reading.{lines_left};
+ghost use Rattle.std.specs.Prelude.{◌≡◌, ◌<◌, false, length, OnOk, IfOk, IfErr};
+ghost use Rattle.spin_text.specs.Lines.{words_by_line, header_line, entry_lines};
+ghost use Rattle.spin_text.specs.Reading.{read_header};
 ghost use Rattle.spin_text.specs.Readable.{StopsEntries};
 ghost use Rattle.spin_text.specs.Texts.{ReadsAll, Plays, Stops, StopsReading, StopsPlaying, PlaysBytes, PlaysLines};
 
@@ -9,7 +10,7 @@ use crate::entries::entries;
 use crate::header::{Header, header_of};
 use crate::objects::Spelled;
 use crate::transcript::transcript;
-use crate::words::{Rest, first_line};
+use crate::words::first_line;
 use spin_world::{BarrierObject, Fair, Flag, OnceObject, Rw, Ticket};
 use std::alloc::{AllocError, AllocFailed, Global};
 
@@ -61,7 +62,7 @@ fn read_by<I: Source>(alloc: Global, input: &mut I, chunk: &mut [u8]) -> Result<
     requires { 0 < length chunk.old }
     ensures bytes { IfOk result (λ bytes. ReadsAll (I.remaining input.old) (I.remaining input.new) bytes.items) }
     ensures ok { OnOk result (I.failed input.new ≡ I.failed input.old) }
-    ensures stops { IfErr result (StopsReading (I.failed input.new)) }
+    ensures stops { IfErr result (StopsReading (I.failed input.old) (I.failed input.new)) }
 {
     let mut bytes = Vec::new(alloc);
     loop {
@@ -79,36 +80,47 @@ fn read_by<I: Source>(alloc: Global, input: &mut I, chunk: &mut [u8]) -> Result<
 fn read_all<I: Source>(alloc: Global, input: &mut I) -> Result<Vec<u8>, RunError>
     ensures bytes { IfOk result (λ bytes. ReadsAll (I.remaining input.old) (I.remaining input.new) bytes.items) }
     ensures ok { OnOk result (I.failed input.new ≡ I.failed input.old) }
-    ensures stops { IfErr result (StopsReading (I.failed input.new)) }
+    ensures stops { IfErr result (StopsReading (I.failed input.old) (I.failed input.new)) }
 {
     let mut chunk = buffer(alloc, CHUNK)?;
     read_by(alloc, input, &mut chunk)
 }
 
-/// The text of what the lines behind the header come to.
+/// The text of what the lines behind the header come to. Once their entries are made, the bytes' room is the text's.
 fn play_lines<O: Spelled>(
     alloc: Global,
     object: O,
     parties: usize,
-    lines: Rest,
-) -> Result<String, RunError>
-    ensures ok { IfOk result (λ text. PlaysLines O.calls (O.machine object) parties (lines_left lines.entry) (string_bytes text)) }
-    ensures stops { IfErr result (StopsEntries O.calls O.read (lines_left lines.entry)) }
+    bytes: Vec<u8>,
+) -> Result<Vec<u8>, RunError>
+    ensures ok { IfOk result (λ text. PlaysLines O.calls (O.machine object) parties (entry_lines (words_by_line bytes.items)) text.items) }
+    ensures stops { IfErr result (StopsEntries O.calls O.read (entry_lines (words_by_line bytes.items))) }
 {
+    let (_header, lines) = first_line(&bytes);
     let schedule = entries::<O>(alloc, lines)?;
-    Ok(transcript(alloc, object, parties, schedule)?)
+    let mut room = bytes;
+    room.clear();
+    Ok(transcript(alloc, object, parties, &schedule, room)?)
+}
+
+/// The header of bytes, if their first line spells one.
+fn header(bytes: &[u8]) -> Option<Header>
+    ensures first { result ≡ read_header (header_line (words_by_line bytes.now)) }
+    ensures there { 0 < length (words_by_line bytes.now) }
+{
+    let (line, _further) = first_line(bytes);
+    header_of(line)
 }
 
 /// The text of what bytes come to.
-fn play(alloc: Global, bytes: &[u8]) -> Result<String, RunError>
-    ensures ok { IfOk result (λ text. PlaysBytes bytes.now (string_bytes text)) }
-    ensures stops { IfErr result (StopsPlaying bytes.now) }
+fn play(alloc: Global, bytes: Vec<u8>) -> Result<Vec<u8>, RunError>
+    ensures ok { IfOk result (λ text. PlaysBytes bytes.items text.items) }
+    ensures stops { IfErr result (StopsPlaying bytes.items) }
 {
-    let (line, lines) = first_line(bytes);
-    match header_of(line) {
+    match header(&bytes) {
         None => Err(RunError::BadLine(1)),
         Some(Header::Flag { value, parties }) => {
-            play_lines(alloc, Flag::new(value), parties, lines)
+            play_lines(alloc, Flag::new(value), parties, bytes)
         }
         Some(
             Header::Ticket {
@@ -116,14 +128,14 @@ fn play(alloc: Global, bytes: &[u8]) -> Result<String, RunError>
                 first,
                 parties,
             },
-        ) => play_lines(alloc, Ticket::new(value, first), parties, lines),
+        ) => play_lines(alloc, Ticket::new(value, first), parties, bytes),
         Some(
             Header::Rw {
                 value,
                 cap,
                 parties,
             },
-        ) => play_lines(alloc, Rw::new(value, cap), parties, lines),
+        ) => play_lines(alloc, Rw::new(value, cap), parties, bytes),
         Some(
             Header::Fair {
                 value,
@@ -131,11 +143,11 @@ fn play(alloc: Global, bytes: &[u8]) -> Result<String, RunError>
                 spins,
                 parties,
             },
-        ) => play_lines(alloc, Fair::new(value, cap, spins), parties, lines),
+        ) => play_lines(alloc, Fair::new(value, cap, spins), parties, bytes),
         Some(Header::Barrier { n, parties }) => {
-            play_lines(alloc, BarrierObject::new(n), parties, lines)
+            play_lines(alloc, BarrierObject::new(n), parties, bytes)
         }
-        Some(Header::Once { parties }) => play_lines(alloc, OnceObject::new(), parties, lines),
+        Some(Header::Once { parties }) => play_lines(alloc, OnceObject::new(), parties, bytes),
     }
 }
 
@@ -188,6 +200,6 @@ pub fn world_text<I: Source, O: Sink>(
         (output.new ≡ output.old)) }
 {
     let bytes = read_all(alloc, input)?;
-    let text = play(alloc, &bytes)?;
-    write_whole(output, text.as_bytes()).map_err(|_| RunError::Write)
+    let text = play(alloc, bytes)?;
+    write_whole(output, &text).map_err(|_| RunError::Write)
 }

@@ -1,171 +1,222 @@
-//! What a schedule comes to, as text.
-ghost use Rattle.std.specs.Prelude.{string_bytes, ◌≡◌, ◌++◌, ◌+◌, OnOk, IfOk, List, ℕ};
+//! What a schedule comes to, as text. A line is made from its end on, in a buffer.
+ghost use Rattle.std.specs.Prelude.{◌≡◌, ◌≤◌, ◌<◌, ◌++◌, ◌+◌, ◌^◌, OnOk, IfOk, [], ℕ, None, drop, length};
+ghost use Rattle.spin_world_core.specs.Schedules.{after, events_of, with_begins, begin_of};
+ghost use Rattle.spin_text.specs.Pieces.{PutBefore, HasLine, TellsLine};
 ghost use Rattle.spin_text.specs.Reading.{numbers_of};
 ghost use Rattle.spin_text.specs.Transcripts.{value_text, number_text, answer_text, from_text, outcome_text, numbers_text, event_line, event_lines, end_line, transcript_text};
 
 use crate::objects::Spelled;
-use spin_world::{Answer, Event, Move, Outcome, World};
+use crate::put::{put, put_number};
+use spin_world::{Answer, Move, Outcome, World};
+use spin_world_core::{no_begins, with_begin};
 use std::alloc::{AllocError, Global};
 
-fn push_value(text: &mut String, value: Option<u64>) -> Result<(), AllocError>
-    ensures { OnOk result (string_bytes text.new ≡ string_bytes text.old ++ value_text value) }
+/// The room for the longest line: five numbers of 20 digits, and the words between them.
+const LONGEST_LINE: usize = 160;
+
+/// The room that is asked for each line before the first is made. So long are lines in the middle of a long text.
+const USUAL_LINE: usize = 32;
+
+fn put_value(value: Option<u64>, buffer: &mut [u8], end: usize) -> usize
+    requires room { 20 ≤ end }
+    requires within { end ≤ length buffer.old }
+    ensures put { PutBefore (value_text value) buffer.old end buffer.new result }
+    ensures near { end ≤ result + 20 }
 {
     match value {
-        None => text.push_str("none"),
-        Some(value) => text.write(value),
+        None => put(b"none", buffer, end),
+        Some(value) => put_number(value, buffer, end),
     }
 }
 
 /// The words that an answer's text begins with, and the number behind them.
-fn parts_of(answer: Answer<u64>) -> (&'static str, Option<u64>)
-    ensures { result.0.now ++ number_text result.1 ≡ answer_text answer }
+fn parts_of(answer: Answer<u64>) -> (&'static [u8], Option<u64>)
+    ensures parts { result.0.now ++ number_text result.1 ≡ answer_text answer }
+    ensures short { length result.0.now ≤ 8 }
 {
     match answer {
-        Answer::Granted => ("granted", None),
-        Answer::Refused => ("refused", None),
-        Answer::Locked => ("locked", None),
-        Answer::Starved => ("starved", None),
-        Answer::Done => ("done", None),
-        Answer::Is(true) => ("true", None),
-        Answer::Is(false) => ("false", None),
-        Answer::Count(count) => ("", Some(count as u64)),
-        Answer::Value(value) => ("value ", Some(value)),
-        Answer::NoValue => ("none", None),
-        Answer::Failed => ("err", None),
-        Answer::Leader => ("leader", None),
-        Answer::Follower => ("follower", None),
+        Answer::Granted => (b"granted", None),
+        Answer::Refused => (b"refused", None),
+        Answer::Locked => (b"locked", None),
+        Answer::Starved => (b"starved", None),
+        Answer::Done => (b"done", None),
+        Answer::Is(true) => (b"true", None),
+        Answer::Is(false) => (b"false", None),
+        Answer::Count(count) => (b"", Some(count as u64)),
+        Answer::Value(value) => (b"value ", Some(value)),
+        Answer::NoValue => (b"none", None),
+        Answer::Failed => (b"err", None),
+        Answer::Leader => (b"leader", None),
+        Answer::Follower => (b"follower", None),
     }
 }
 
-fn push_answer(text: &mut String, answer: Answer<u64>) -> Result<(), AllocError>
-    ensures { OnOk result (string_bytes text.new ≡ string_bytes text.old ++ answer_text answer) }
+fn put_answer(answer: Answer<u64>, buffer: &mut [u8], end: usize) -> usize
+    requires room { 28 ≤ end }
+    requires within { end ≤ length buffer.old }
+    ensures put { PutBefore (answer_text answer) buffer.old end buffer.new result }
+    ensures near { end ≤ result + 28 }
 {
     let (words, number) = parts_of(answer);
-    text.push_str(words)?;
     match number {
-        None => Ok(()),
-        Some(number) => text.write(number),
+        None => put(words, buffer, end),
+        Some(number) => {
+            let end = put_number(number, buffer, end);
+            put(words, buffer, end)
+        }
     }
 }
 
 /// The line of a call's beginning. Places are counted from 0, and lines from 1.
-fn push_from(text: &mut String, began: Option<usize>) -> Result<(), AllocError>
-    ensures { OnOk result (string_bytes text.new ≡ string_bytes text.old ++ from_text began) }
+fn put_from(began: Option<usize>, buffer: &mut [u8], end: usize) -> usize
+    requires line { HasLine began }
+    requires room { 26 ≤ end }
+    requires within { end ≤ length buffer.old }
+    ensures put { PutBefore (from_text began) buffer.old end buffer.new result }
+    ensures near { end ≤ result + 26 }
 {
-    if let Some(began) = began {
-        text.push_str(" from ")?;
-        text.write(began as u128 + 1)?;
+    match began {
+        None => put(b"", buffer, end),
+        Some(began) => {
+            let end = put_number((began + 1) as u64, buffer, end);
+            put(b" from ", buffer, end)
+        }
     }
-    Ok(())
 }
 
-fn push_outcome(text: &mut String, outcome: Outcome<Answer<u64>, u64>) -> Result<(), AllocError>
-    ensures { OnOk result (string_bytes text.new ≡ string_bytes text.old ++ outcome_text outcome) }
+fn put_outcome(outcome: Outcome<Answer<u64>, u64>, buffer: &mut [u8], end: usize) -> usize
+    requires line { TellsLine outcome }
+    requires room { 61 ≤ end }
+    requires within { end ≤ length buffer.old }
+    ensures put { PutBefore (outcome_text outcome) buffer.old end buffer.new result }
+    ensures near { end ≤ result + 61 }
 {
     match outcome {
-        Outcome::PassedOver => text.push_str("passed over"),
-        Outcome::Begun => text.push_str("begun"),
-        Outcome::GoingOn => text.push_str("going on"),
+        Outcome::PassedOver => put(b"passed over", buffer, end),
+        Outcome::Begun => put(b"begun", buffer, end),
+        Outcome::GoingOn => put(b"going on", buffer, end),
         Outcome::Answered { answer, began } => {
-            text.push_str("answer ")?;
-            push_answer(text, answer)?;
-            push_from(text, began)
+            let end = put_from(began, buffer, end);
+            let end = put_answer(answer, buffer, end);
+            put(b"answer ", buffer, end)
         }
         Outcome::Value(value) => {
-            text.push_str("value ")?;
-            push_value(text, value)
+            let end = put_value(value, buffer, end);
+            put(b"value ", buffer, end)
         }
-        Outcome::Written => text.push_str("written"),
-        Outcome::Leaked => text.push_str("leaked"),
+        Outcome::Written => put(b"written", buffer, end),
+        Outcome::Leaked => put(b"leaked", buffer, end),
     }
 }
 
-fn push_numbers(text: &mut String, numbers: (u64, Option<u64>)) -> Result<(), AllocError>
-    ensures { OnOk result (string_bytes text.new ≡ string_bytes text.old ++ numbers_text (numbers_of numbers)) }
+fn put_numbers(numbers: (u64, Option<u64>), buffer: &mut [u8], end: usize) -> usize
+    requires room { 41 ≤ end }
+    requires within { end ≤ length buffer.old }
+    ensures put { PutBefore (numbers_text (numbers_of numbers)) buffer.old end buffer.new result }
+    ensures near { end ≤ result + 41 }
 {
-    text.write(numbers.0)?;
-    if let Some(second) = numbers.1 {
-        text.push_str(" ")?;
-        text.write(second)?;
+    match numbers.1 {
+        None => put_number(numbers.0, buffer, end),
+        Some(second) => {
+            let end = put_number(second, buffer, end);
+            let end = put(b" ", buffer, end);
+            put_number(numbers.0, buffer, end)
+        }
     }
-    Ok(())
 }
 
-fn push_event(
-    text: &mut String,
+/// The line of an event, up to the end of the buffer.
+fn put_event(
     line: usize,
     party: usize,
     outcome: Outcome<Answer<u64>, u64>,
     numbers: (u64, Option<u64>),
-) -> Result<(), AllocError>
-    ensures { OnOk result (string_bytes text.new
-        ≡ string_bytes text.old ++ event_line line party outcome (numbers_of numbers)) }
+    buffer: &mut [u8],
+) -> usize
+    requires line { TellsLine outcome }
+    requires room { length buffer.old ≡ LONGEST_LINE }
+    ensures line { drop result buffer.new ≡ event_line line party outcome (numbers_of numbers) }
+    ensures within { result ≤ LONGEST_LINE }
 {
-    text.write(line)?;
-    text.push_str(" ")?;
-    text.write(party)?;
-    text.push_str(" ")?;
-    push_outcome(text, outcome)?;
-    text.push_str(": ")?;
-    push_numbers(text, numbers)?;
-    text.push_str("\n")
+    let end = put(b"\n", buffer, buffer.len());
+    let end = put_numbers(numbers, buffer, end);
+    let end = put(b": ", buffer, end);
+    let end = put_outcome(outcome, buffer, end);
+    let end = put(b" ", buffer, end);
+    let end = put_number(party as u64, buffer, end);
+    let end = put(b" ", buffer, end);
+    put_number(line as u64, buffer, end)
 }
 
-fn push_events<O: Spelled>(
-    text: &mut String,
-    events: &[Event<O::Words, u64, Answer<u64>>],
-) -> Result<(), AllocError>
-    ensures { OnOk result ((object : O) → string_bytes text.new
-        ≡ string_bytes text.old ++ event_lines (O.machine object).numbers 1 events.now) }
+/// The last line, up to the end of the buffer.
+fn put_end(numbers: (u64, Option<u64>), value: Option<u64>, buffer: &mut [u8]) -> usize
+    requires room { length buffer.old ≡ LONGEST_LINE }
+    ensures line { drop result buffer.new ≡ end_line (numbers_of numbers) value }
+    ensures within { result ≤ LONGEST_LINE }
 {
-    for (place, event) in events.iter().enumerate() {
-        let numbers = O::numbers(event.words);
-        push_event(text, place + 1, event.party, event.outcome, numbers)?;
+    let end = put(b"\n", buffer, buffer.len());
+    let end = put_value(value, buffer, end);
+    let end = put(b" value ", buffer, end);
+    let end = put_numbers(numbers, buffer, end);
+    put(b"end: ", buffer, end)
+}
+
+/// Plays a schedule, and puts the line of each event behind the text.
+fn push_events<O: Spelled>(
+    text: &mut Vec<u8>,
+    world: &mut World<O>,
+    begins: &mut [Option<usize>],
+    schedule: &[(usize, Move<O::Call, u64>)],
+) -> Result<(), AllocError>
+    requires parties { length begins.old ≡ length world.old.state.seats }
+    requires none_begun { (p : ℕ) → begin_of begins.old p ≡ None }
+    ensures object { OnOk result (world.new.object ≡ world.old.object) }
+    ensures state { OnOk result (world.new.state ≡ after (O.machine world.old.object) world.old.state schedule.now) }
+    ensures text { let m = O.machine world.old.object in
+        OnOk result (text.new.items ≡ text.old.items ++ event_lines m.numbers 1 (with_begins [] (events_of m world.old.state schedule.now))) }
+{
+    let mut buffer = [0u8; LONGEST_LINE];
+    for (place, entry) in schedule.iter().enumerate() {
+        let (party, action) = *entry;
+        let outcome = with_begin(begins, party, place, world.act(party, action));
+        let numbers = O::numbers(world.words());
+        let start = put_event(place + 1, party, outcome, numbers, &mut buffer);
+        text.extend_from_slice(&buffer[start..])?;
     }
     Ok(())
 }
 
+/// Puts the last line behind the text.
 fn push_end(
-    text: &mut String,
+    text: &mut Vec<u8>,
     numbers: (u64, Option<u64>),
     value: Option<u64>,
 ) -> Result<(), AllocError>
-    ensures { OnOk result (string_bytes text.new ≡ string_bytes text.old ++ end_line (numbers_of numbers) value) }
+    ensures { OnOk result (text.new.items ≡ text.old.items ++ end_line (numbers_of numbers) value) }
 {
-    text.push_str("end: ")?;
-    push_numbers(text, numbers)?;
-    text.push_str(" value ")?;
-    push_value(text, value)?;
-    text.push_str("\n")
+    let mut buffer = [0u8; LONGEST_LINE];
+    let start = put_end(numbers, value, &mut buffer);
+    text.extend_from_slice(&buffer[start..])
 }
 
-/// The lines of events, and the line of their end.
-fn text_of<O: Spelled>(
-    alloc: Global,
-    events: &[Event<O::Words, u64, Answer<u64>>],
-    words: O::Words,
-    value: Option<u64>,
-) -> Result<String, AllocError>
-    ensures { IfOk result (λ text. (object : O) → string_bytes text ≡ event_lines (O.machine object).numbers 1 events.now
-        ++ end_line ((O.machine object).numbers words) value) }
-{
-    let mut text = String::new(alloc);
-    push_events::<O>(&mut text, events)?;
-    push_end(&mut text, O::numbers(words), value)?;
-    Ok(text)
-}
-
-/// Plays a schedule in a world of its own, and makes the whole text of what it comes to.
+/// Plays a schedule in a world of its own, and makes the whole text of what it comes to, in this room.
+///
+/// Each line is made as its move is played: no list of events stands in between.
 pub fn transcript<O: Spelled>(
     alloc: Global,
     object: O,
     parties: usize,
-    schedule: Vec<(usize, Move<O::Call, u64>)>,
-) -> Result<String, AllocError>
-    ensures { IfOk result (λ text. string_bytes text ≡ transcript_text (O.machine object) parties schedule.items) }
+    schedule: &[(usize, Move<O::Call, u64>)],
+    room: Vec<u8>,
+) -> Result<Vec<u8>, AllocError>
+    requires { room.items ≡ [] }
+    ensures { IfOk result (λ text. text.items ≡ transcript_text (O.machine object) parties schedule.now) }
 {
     let mut world = World::new(alloc, object, parties)?;
-    let transcript = world.run(&schedule)?;
-    drop(schedule);
-    text_of::<O>(alloc, &transcript.events, world.words(), world.value())
+    let mut begins = no_begins(alloc, parties)?;
+    let mut text = room;
+    text.reserve(schedule.len().saturating_mul(USUAL_LINE))?;
+    push_events(&mut text, &mut world, &mut begins, schedule)?;
+    push_end(&mut text, O::numbers(world.words()), world.value())?;
+    Ok(text)
 }

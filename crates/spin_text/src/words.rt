@@ -5,7 +5,7 @@ ghost use Rattle.std.specs.Str.{bytes_eq};
 ghost use Rattle.spin_text.specs.Lines.{words_by_line, words_of};
 ghost use Rattle.spin_text.specs.Reading.{words_left, lines_left, is_end, read_number, word_at, number_at, last_word, last_number, parts_left, named, only_named};
 
-use crate::numbers::number;
+use crate::numbers::number_of;
 use memchr::memchr;
 
 /// What is left of a line, or of all lines. `None`: nothing, not even an empty word or line.
@@ -62,10 +62,7 @@ pub fn is_over(line: Rest) -> bool
 fn number_word(word: &[u8]) -> Option<u64>
     ensures { result ≡ read_number word.now }
 {
-    match str::from_utf8(word) {
-        Ok(word) => number(word),
-        Err(_) => None,
-    }
+    number_of(word)
 }
 
 /// A number, and the words behind it.

@@ -10,7 +10,7 @@ pub mod Paid
 pub mod Undisturbed
 pub mod Kept
 pub mod Owners
-pub mod Owning
+pub mod Sharing
 pub mod Every
 pub mod Writers
 pub mod Guards

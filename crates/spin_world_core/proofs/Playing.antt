@@ -1,5 +1,6 @@
 -- What has been played of a schedule, at a turn of the loop.
 use Rattle.std.proofs.Common.{◌≡◌, ℕ, zero, suc, map, ◌+◌, ◌<◌, ◌≤◌, ◌==◌, ◌&&◌, Bool, true, false, Option, Some, None, List, [], ◌∷◌, ◌++◌, length, slice_get, slice_set, if◌then◌else◌, unwrap_or, refl, ap, sym, ◌∙◌, arith, subst, ⊎_elim, length-set, take, get_or, length-take-le, zero-add}
+use Rattle.std.proofs.Math.Logic.{∥∥₁_map}
 use Rattle.std.proofs.lemmas.Bool.{cases_lt, true≢false}
 use Rattle.std.proofs.lemmas.Bool.Decides.{eqb_tells}
 use Rattle.std.proofs.lemmas.List.{length-map, take_all}
@@ -8,8 +9,8 @@ use Rattle.spin_world_core.specs.declared.schedule.Outcome.{Outcome}
 use Rattle.spin_world_core.specs.declared.schedule.Outcome.TheVariants as outcome
 use Rattle.spin_world_core.specs.declared.schedule.Event.{Event}
 use Rattle.spin_world_core.specs.Machines.{Machine}
-use Rattle.spin_world_core.specs.Schedules.{State, Happened, happens, after, events_of, with_begins, last_begin, begin_of, begins_after, with_begin, is_begun}
-use Rattle.spin_world_core.specs.Runs.{CanStep, CanAlways}
+use Rattle.spin_world_core.specs.Schedules.{State, Happened, happens, after, events_of, with_begins, last_begin, begin_of, begins_after, with_begin, is_begun, at_first}
+use Rattle.spin_world_core.specs.Runs.{CanStep, CanAlways, IsReached}
 use Rattle.spin_world_core.proofs.Lists.{get-set_within, get-set_other, take_next}
 use Rattle.spin_world_core.proofs.Schedules.{after-append, events_of-append, length-events_of, with_begins_more, last_begin_more, stranger, length-happens}
 
@@ -116,3 +117,9 @@ played_all m from now begins events schedule k played all = subst (Played m from
 pub can_next : {W V C L A : Type 0} (m : Machine W V C L A) (from now : State W V C L) (begins : List (Option ℕ)) (events : List (Event W V A)) (schedule : List (ℕ × Move C V)) (k : ℕ)
     → Played m from now begins events (take k schedule) → CanAlways m from schedule → CanStep m now
 can_next m from now begins events schedule k played can = subst (CanStep m) (sym played.table) (can k)
+
+-- what a move leads to from a state that is reached is reached
+pub reached_next : {W V C L A : Type 0} (m : Machine W V C L A) (s t : State W V C L) (p : ℕ) (move : Move C V) (o : Outcome A V) → (let h : Happened W V C L A = record { outcome = o; next = t } in h ≡ happens m s p move) → IsReached m s → IsReached m t
+reached_next m s t p move o is reached =
+    ∥∥₁_map reached (λ led.
+    (led.0, led.1 ++ (p, move) ∷ [], after-append m (at_first m led.0) led.1 ((p, move) ∷ []) ∙ (ap (λ u. (happens m u p move).next) led.2 ∙ sym (ap (λ h. h.next) is))))

@@ -5,6 +5,7 @@ pub mod Machines
 pub mod Operations
 pub mod Acts
 pub mod Schedules
+pub mod Sharing
 pub mod Spans
 pub mod Undisturbed
 pub mod Runs

@@ -20,4 +20,5 @@ pub use laws::{
 pub use object::{Next, Object, Stepped};
 pub use place::{Hold, Place, Seat};
 pub use schedule::{Event, Move, Outcome, Transcript};
+pub use telling::{no_begins, with_begin};
 pub use world::{World, run_in_two};

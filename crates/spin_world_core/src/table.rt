@@ -1,8 +1,8 @@
 //! The words, the value and the seats of a world, and what one move does to them.
 ghost use Rattle.std.specs.Prelude.{◌≡◌, ◌<◌, Some, IfOk, length, map, replicate, slice_get, option_map};
-ghost use Rattle.std.specs.List.{list_all};
 ghost use Rattle.spin_world_core.specs.declared.place.Seat.TheVariants.{Idle};
-ghost use Rattle.spin_world_core.specs.Schedules.{yields_to_owner, seen_by_owner, resting, may_read, may_write, begun, begins, steps, weakly, reads, writes, leaks, owner_gets, owner_writes, owner_sets, goes_on, is_owners, moves, happens, place_of};
+ghost use Rattle.spin_world_core.specs.Schedules.{at_first, seated, let_go, seen_by_owner, resting, may_read, may_write, begun, begins, steps, weakly, reads, writes, leaks, owner_gets, owner_writes, owner_sets, goes_on, is_owners, moves, happens, place_of};
+ghost use Rattle.spin_world_core.specs.Sharing.{shares, has_leaked};
 ghost use Rattle.spin_world_core.specs.Runs.{CanStep};
 
 use crate::object::{Next, Object};
@@ -15,15 +15,24 @@ use std::marker::Model;
 pub struct Table<O: Object, A: Allocator> {
     pub words: O::Words,
     pub value: Option<O::Value>,
-    pub seats: Vec<Seat<O::Call, O::Local>, A>,
+    seats: Vec<Seat<O::Call, O::Local>, A>,
+    /// How many parties share the value, so that an owner's move need not look at each.
+    sharing: usize,
+    /// How many have leaked, and are not gone.
+    leaked: usize,
 }
 
 impl<O: Object, A: Allocator> Model for Table<O, A> {
     ghost use Rattle.spin_world_core.specs.Schedules.{State};
+    ghost use Rattle.spin_world_core.specs.Sharing.{shares, has_leaked};
+    ghost use Rattle.std.specs.Prelude.{◌≡◌};
+    ghost use Rattle.std.specs.List.{count_by};
 
     ghost Value = { State O.Words O.Value O.Call O.Local };
 
     ghost view = { λ t. record { words = t.words; value = t.value; seats = t.seats.items } };
+
+    ghost invariant = { λ t. (t.sharing ≡ count_by shares t.seats.items) × (t.leaked ≡ count_by has_leaked t.seats.items) };
 }
 
 fn reads_value(hold: Hold) -> bool
@@ -47,10 +56,17 @@ fn seat_of<C: Copy, L: Copy>(holds: Option<Hold>) -> Seat<C, L>
     }
 }
 
-fn yields<C: Copy, L: Copy>(seat: Seat<C, L>) -> bool
-    ensures { result ≡ yields_to_owner seat }
+/// Whether the party shares the value, so that no owner has it.
+fn shares<C: Copy, L: Copy>(seat: Seat<C, L>) -> bool
+    ensures { result ≡ shares seat }
 {
-    !matches!(seat, Seat::Calling(_, _, _) | Seat::Holding(_))
+    matches!(seat, Seat::Calling(_, _, _) | Seat::Holding(_))
+}
+
+fn has_leaked<C: Copy, L: Copy>(seat: Seat<C, L>) -> bool
+    ensures { result ≡ has_leaked seat }
+{
+    matches!(seat, Seat::Leaked(_))
 }
 
 fn place_of<C: Copy, L: Copy>(seat: Seat<C, L>) -> Place
@@ -63,17 +79,6 @@ fn place_of<C: Copy, L: Copy>(seat: Seat<C, L>) -> Place
         Seat::Leaked(hold) => Place::Leaked(hold),
         Seat::Gone(_) => Place::Gone,
     }
-}
-
-fn all_yield<C: Copy, L: Copy>(seats: &[Seat<C, L>]) -> bool
-    ensures { result ≡ list_all yields_to_owner seats.now }
-{
-    for seat in seats {
-        if !yields(*seat) {
-            return false;
-        }
-    }
-    true
 }
 
 fn without_leak<C: Copy, L: Copy>(seat: Seat<C, L>) -> Seat<C, L>
@@ -94,7 +99,7 @@ fn let_go_all<C: Copy, L: Copy>(seats: &mut [Seat<C, L>])
 }
 
 /// The seats of so many idle parties.
-pub fn idle_seats<C: Copy, L: Copy, A: Allocator>(
+fn idle_seats<C: Copy, L: Copy, A: Allocator>(
     alloc: A,
     parties: usize,
 ) -> Result<Vec<Seat<C, L>, A>, AllocError>
@@ -104,6 +109,30 @@ pub fn idle_seats<C: Copy, L: Copy, A: Allocator>(
 }
 
 impl<O: Object, A: Allocator> Table<O, A> {
+    /// What an object begins from, and so many parties, all idle.
+    pub fn new(alloc: A, object: &O, parties: usize) -> Result<Table<O, A>, AllocError>
+        ensures { IfOk result (λ t. t ≡ at_first (O.machine object.now) parties) }
+    {
+        Ok(Table {
+            words: object.opening_words(),
+            value: object.opening_value(),
+            seats: idle_seats(alloc, parties)?,
+            sharing: 0,
+            leaked: 0,
+        })
+    }
+
+    /// The party stands so from now on.
+    fn sit(&mut self, party: usize, seat: Seat<O::Call, O::Local>)
+        requires { party < length self.old.seats }
+        ensures { self.new ≡ seated self.old party seat }
+    {
+        let before = self.seats[party];
+        self.sharing = self.sharing - usize::from(shares(before)) + usize::from(shares(seat));
+        self.leaked = self.leaked - usize::from(has_leaked(before)) + usize::from(has_leaked(seat));
+        self.seats[party] = seat;
+    }
+
     /// Where the party stands. `None`: there is no such party.
     pub fn place(&self, party: usize) -> Option<Place>
         ensures { result ≡ option_map place_of (slice_get self.now.seats party) }
@@ -187,7 +216,7 @@ impl<O: Object, A: Allocator> Table<O, A> {
         match object.begin(call, holds) {
             None => Outcome::PassedOver,
             Some(local) => {
-                self.seats[party] = Seat::Calling(call, local, holds);
+                self.sit(party, Seat::Calling(call, local, holds));
                 Outcome::Begun
             }
         }
@@ -244,11 +273,11 @@ impl<O: Object, A: Allocator> Table<O, A> {
     {
         match next {
             Next::GoesOn(local) => {
-                self.seats[party] = Seat::Calling(call, local, holds);
+                self.sit(party, Seat::Calling(call, local, holds));
                 Outcome::GoingOn
             }
             Next::Answers(answer, after) => {
-                self.seats[party] = seat_of(after);
+                self.sit(party, seat_of(after));
                 Outcome::Answered {
                     answer,
                     began: None,
@@ -291,14 +320,24 @@ impl<O: Object, A: Allocator> Table<O, A> {
         let Seat::Holding(hold) = seat else {
             return Outcome::PassedOver;
         };
-        self.seats[party] = Seat::Leaked(hold);
+        self.sit(party, Seat::Leaked(hold));
         Outcome::Leaked
     }
 
     fn is_owners(&self, object: &O) -> bool
         ensures { result ≡ is_owners (O.machine object.now) self.now }
     {
-        object.is_owned() && all_yield(&self.seats)
+        object.is_owned() && self.sharing == 0
+    }
+
+    /// Gives back what every leaked party holds.
+    fn let_go(&mut self)
+        ensures { self.new ≡ let_go self.old }
+    {
+        if self.leaked > 0 {
+            let_go_all(&mut self.seats);
+            self.leaked = 0;
+        }
     }
 
     fn owner_get(&mut self, object: &O) -> Outcome<O::Answer, O::Value>
@@ -307,7 +346,7 @@ impl<O: Object, A: Allocator> Table<O, A> {
         if !self.is_owners(object) {
             return Outcome::PassedOver;
         }
-        let_go_all(&mut self.seats);
+        self.let_go();
         Outcome::Value(self.value)
     }
 
@@ -324,7 +363,7 @@ impl<O: Object, A: Allocator> Table<O, A> {
     fn owner_writes(&mut self, to: O::Value) -> Outcome<O::Answer, O::Value>
         ensures { record { outcome = result; next = self.new } ≡ owner_writes self.old to self.old.value }
     {
-        let_go_all(&mut self.seats);
+        self.let_go();
         if self.value.is_none() {
             return Outcome::Value(None);
         }

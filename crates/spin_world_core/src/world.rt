@@ -1,13 +1,13 @@
 ghost use Rattle.std.specs.Prelude.{◌≡◌, ◌≤◌, [], length, IfOk, OnOk, OnErr, vec_capacity, slice_get, option_map};
-ghost use Rattle.spin_world_core.specs.Schedules.{at_first, after, events_of, with_begins, place_of};
+ghost use Rattle.spin_world_core.specs.Schedules.{at_first, after, events_of, with_begins, happens, place_of};
 ghost use Rattle.spin_world_core.specs.Runs.{IsReached, AfterAnyPast, CanAlways, KeepsAll, MomentsAll, CountsAll};
 ghost use Rattle.spin_world_core.specs.Values.{ValuesAll};
 ghost use Rattle.spin_world_core.specs.Transcripts.{TellsAfterAnyPast, SaysAfterAnyPast};
 
 use crate::object::Object;
 use crate::place::Place;
-use crate::schedule::{Event, Move, Transcript};
-use crate::table::{Table, idle_seats};
+use crate::schedule::{Event, Move, Outcome, Transcript};
+use crate::table::Table;
 use crate::telling::{forget_begins, no_begins, with_begin};
 use std::alloc::{AllocError, Allocator, Global};
 use std::marker::Model;
@@ -44,11 +44,7 @@ impl<O: Object, A: Allocator + Copy> World<O, A> {
     pub fn new(alloc: A, object: O, parties: usize) -> Result<World<O, A>, AllocError>
         ensures { IfOk result (λ w. w ≡ record { object = object; state = at_first (O.machine object) parties }) }
     {
-        let table = Table {
-            words: object.opening_words(),
-            value: object.opening_value(),
-            seats: idle_seats(alloc, parties)?,
-        };
+        let table = Table::new(alloc, &object, parties)?;
         Ok(World {
             alloc,
             object,
@@ -80,6 +76,22 @@ impl<O: Object, A: Allocator + Copy> World<O, A> {
     {
         O::laws();
         self.table.place(party)
+    }
+
+    /// What one move of the party comes to. An answer does not tell where its call began: [`World::run`] does.
+    ///
+    /// What `run` promises of a schedule holds of the moves that led here.
+    pub fn act(
+        &mut self,
+        party: usize,
+        action: Move<O::Call, O::Value>,
+    ) -> Outcome<O::Answer, O::Value>
+        ensures happens { record { outcome = result; next = self.new.state } ≡ happens (O.machine self.old.object) self.old.state party action }
+        ensures object { self.new.object ≡ self.old.object }
+        ensures reached { IsReached (O.machine self.new.object) self.new.state }
+    {
+        O::laws();
+        self.table.act(&self.object, party, action)
     }
 
     /// Plays a schedule: each entry is a party and its move.

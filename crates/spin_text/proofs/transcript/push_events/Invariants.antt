@@ -1,9 +1,12 @@
--- the text so far, and then the lines of the events to come, are the lines of all
-use Rattle.std.proofs.Common.{string_bytes, ◌≡◌, ◌++◌, ◌+◌, drop}
-use Rattle.spin_text.specs.Transcripts.{event_lines}
+-- the text so far tells the moves so far
+use Rattle.std.proofs.Common.{◌≡◌, length}
+use Rattle.spin_text.proofs.Lines.{Told}
 use Rattle.spin_text.proofs.transcript.push_events.Given as goal
 
 abbrev pub invariant-loop-place : goal.invariant-loop-place
 invariant-loop-place g l =
-    (object : g.row.O.Denot) → string_bytes l.text ++ event_lines (g.O.Object.machine object).numbers (l.place + 1) (drop l.place l.events)
-    ≡ string_bytes l.fn.text ++ event_lines (g.O.Object.machine object).numbers 1 l.events
+    record {
+      told : Told (g.O.Object.machine l.initial.world.object) l.initial.world.state l.world.state l.begins l.schedule l.place l.initial.text.items l.text.items;
+      object : l.world.object ≡ l.initial.world.object;
+      room : length l.buffer ≡ 160;
+    }

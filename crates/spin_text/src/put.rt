@@ -1,0 +1,28 @@
+//! Text that is made from its end on: each piece is put in front of what stands in a buffer already.
+ghost use Rattle.std.specs.Prelude.{◌≡◌, ◌≤◌, ◌+◌, length, decimal};
+ghost use Rattle.spin_text.specs.Pieces.{PutBefore};
+
+use itoa::write_digits;
+
+/// Puts bytes in front of those that stand from `end` on, and answers where they begin.
+#[inline]
+pub fn put(bytes: &[u8], buffer: &mut [u8], end: usize) -> usize
+    requires room { length bytes.now ≤ end }
+    requires within { end ≤ length buffer.old }
+    ensures { PutBefore bytes.now buffer.old end buffer.new result }
+{
+    let start = end - bytes.len();
+    buffer[start..end].copy_from_slice(bytes);
+    start
+}
+
+/// The same of a number's digits.
+#[inline]
+pub fn put_number(number: u64, buffer: &mut [u8], end: usize) -> usize
+    requires room { 20 ≤ end }
+    requires within { end ≤ length buffer.old }
+    ensures put { PutBefore (decimal number) buffer.old end buffer.new result }
+    ensures near { end ≤ result + 20 }
+{
+    write_digits(number, buffer, end)
+}

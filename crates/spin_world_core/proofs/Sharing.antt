@@ -1,0 +1,58 @@
+-- How many parties share the value, and how many have leaked, as seats change.
+use Rattle.std.proofs.Common.{◌≡◌, ◌+◌, Bool, false, List, [], ◌∷◌, length, map, Vec, refl, ap, sym, ◌∙◌, subst, arith, zero-add}
+use mathlib.Core.Bool.{cond}
+use Rattle.std.specs.List.{count_by}
+use Rattle.std.proofs.lemmas.List.{length-map, with_items_is}
+use Rattle.std.proofs.lemmas.List.Sums.{sum_by-cons}
+use Rattle.std.specs.Vec.{with_items}
+use Rattle.spin_world_core.specs.declared.place.Seat.{Seat}
+use Rattle.spin_world_core.specs.declared.place.Seat.TheVariants.{Idle, Calling, Holding, Leaked, Gone}
+use Rattle.spin_world_core.specs.Schedules.{State, seen_by_owner, let_go}
+use Rattle.spin_world_core.specs.Sharing.{shares, has_leaked}
+
+count_by-cons : {X : Type 0} (f : X → Bool) (x : X) (xs : List X) → count_by f (x ∷ xs) ≡ cond (f x) 1 0 + count_by f xs
+count_by-cons f x xs = sum_by-cons (λ y. cond (f y) 1 0) x xs
+
+-- the owner's look changes nothing where none is counted
+pub none_leaked : {C L : Type 0} (seats : List (Seat C L)) → count_by has_leaked seats ≡ 0 → map seen_by_owner seats ≡ seats
+none_leaked [] none = refl
+none_leaked (Idle ∷ seats) none = ap (λ ss. Idle ∷ ss) (none_leaked seats (omega (arith, none, count_by-cons has_leaked Idle seats)))
+none_leaked (Calling c l h ∷ seats) none = ap (λ ss. Calling c l h ∷ ss) (none_leaked seats (omega (arith, none, count_by-cons has_leaked (Calling c l h) seats)))
+none_leaked (Holding h ∷ seats) none = ap (λ ss. Holding h ∷ ss) (none_leaked seats (omega (arith, none, count_by-cons has_leaked (Holding h) seats)))
+none_leaked (Leaked h ∷ seats) none = absurd (omega (arith, none, count_by-cons has_leaked (Leaked h) seats))
+none_leaked (Gone h ∷ seats) none = ap (λ ss. Gone h ∷ ss) (none_leaked seats (omega (arith, none, count_by-cons has_leaked (Gone h) seats)))
+
+shares_as_before : {C L : Type 0} (s : Seat C L) → shares (seen_by_owner s) ≡ shares s
+shares_as_before Idle = refl
+shares_as_before (Calling c l h) = refl
+shares_as_before (Holding h) = refl
+shares_as_before (Leaked h) = refl
+shares_as_before (Gone h) = refl
+
+gone_or_not : {C L : Type 0} (s : Seat C L) → has_leaked (seen_by_owner s) ≡ false
+gone_or_not Idle = refl
+gone_or_not (Calling c l h) = refl
+gone_or_not (Holding h) = refl
+gone_or_not (Leaked h) = refl
+gone_or_not (Gone h) = refl
+
+-- and afterwards as many share it, and nobody has leaked who is not gone
+pub shares_seen : {C L : Type 0} (seats : List (Seat C L)) → count_by shares (map seen_by_owner seats) ≡ count_by shares seats
+shares_seen [] = refl
+shares_seen (s ∷ seats) =
+    count_by-cons shares (seen_by_owner s) (map seen_by_owner seats) ∙ ap (λ b. cond b 1 0 + count_by shares (map seen_by_owner seats)) (shares_as_before s)
+    ∙ ap (λ n. cond (shares s) 1 0 + n) (shares_seen seats) ∙ sym (count_by-cons shares s seats)
+
+pub leaked_seen : {C L : Type 0} (seats : List (Seat C L)) → count_by has_leaked (map seen_by_owner seats) ≡ 0
+leaked_seen [] = refl
+leaked_seen (s ∷ seats) =
+    count_by-cons has_leaked (seen_by_owner s) (map seen_by_owner seats) ∙ ap (λ b. cond b 1 0 + count_by has_leaked (map seen_by_owner seats)) (gone_or_not s)
+    ∙ zero-add (count_by has_leaked (map seen_by_owner seats)) ∙ leaked_seen seats
+
+pub let_go_none : {W V C L : Type 0} (s t : State W V C L) → s ≡ t → count_by has_leaked s.seats ≡ 0 → t ≡ let_go t
+let_go_none s t is none = subst (λ u. u ≡ let_go u) is (ap (λ seats. record s { seats = seats }) (sym (none_leaked s.seats none)))
+
+-- the seats as they are written back
+pub let_go_is : {C L Z : Type 0} (seats : Vec (Seat C L) Z) (now new : List (Seat C L)) → now ≡ seats.items → length now ≡ seats.len → new ≡ map seen_by_owner now
+    → (with_items seats new).items ≡ map seen_by_owner seats.items
+let_go_is seats now new is len made = with_items_is seats new (ap length made ∙ (length-map now seen_by_owner ∙ len)) ∙ (made ∙ ap (map seen_by_owner) is)

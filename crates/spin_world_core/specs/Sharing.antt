@@ -1,0 +1,16 @@
+-- Who shares the value, so that the owner does not have it, and who is gone once the owner has looked.
+use Rattle.std.specs.Prelude.{Bool, true, false, not}
+use Rattle.spin_world_core.specs.declared.place.Seat.{Seat}
+use Rattle.spin_world_core.specs.declared.place.Seat.TheVariants.{Idle, Calling, Holding, Leaked, Gone}
+use Rattle.spin_world_core.specs.Schedules.{yields_to_owner}
+
+-- the party is in a call, or holds
+abbrev pub shares : {C L : Type 0} → Seat C L → Bool
+shares seat = not (yields_to_owner seat)
+
+abbrev pub has_leaked : {C L : Type 0} → Seat C L → Bool
+has_leaked Idle = false
+has_leaked (Calling c l h) = false
+has_leaked (Holding h) = false
+has_leaked (Leaked h) = true
+has_leaked (Gone h) = false
