@@ -116,14 +116,14 @@ sets_flag = allows (Some Starving) (λ n. bit_or n 1) (becomes_by won_if_clear 1
       sym (ap (λ b. if b then HoldingStarving else Starving) (ne_eqb (n % 2) 0 odd)),
     )))
 
-less : (n : ℕ) → 2 ≤ n → n < words → (n + (2 ^ 64 - 2)) % 2 ^ 64 ≡ n - 2
-less n least small = omega (arith, least, small)
+less : (n by : ℕ) → 0 < by → by ≤ n → n < words → (n + (2 ^ 64 - by)) % 2 ^ 64 ≡ n - by
+less n by some least small = omega (arith, some, least, small)
 
 pub stops : Allows IsFair (ways fair) (Some Starving) (λ n. (n + (2 ^ 64 - 2)) % 2 ^ 64) (Stops 2 0 (Some Starving))
 stops = allows (Some Starving) (λ n. (n + (2 ^ 64 - 2)) % 2 ^ 64) (Stops 2 0 (Some Starving)) (λ s p room order one has small.
     let found = starves_in s p has in let fewer = length-without_starver p s.starvers found in (
       Idle,
-      by_step fair (Some Starving) Idle s (stops_starving p) ((fair_word s + (2 ^ 64 - 2)) % 2 ^ 64) 0 found (stop-own s p) tt (less (fair_word s) (omega (arith, fewer)) small ∙ omega (arith, fewer)) refl,
+      by_step fair (Some Starving) Idle s (stops_starving p) ((fair_word s + (2 ^ 64 - 2)) % 2 ^ 64) 0 found (stop-own s p) tt (less (fair_word s) 2 (omega arith) (omega (arith, fewer)) small ∙ omega (arith, fewer)) refl,
       refl,
     ))
 
@@ -131,20 +131,17 @@ pub holds_only : Allows IsFair (ways fair) (Some HoldingStarving) (λ n. (n + (2
 holds_only = allows (Some HoldingStarving) (λ n. (n + (2 ^ 64 - 2)) % 2 ^ 64) (Stops 2 0 (Some HoldingStarving)) (λ s p room order one has small.
     let found = is_starver-from_entries p s.starvers (ap (λ e. e.starvers) has.0) in let fewer = length-without_starver p s.starvers found in (
       Holding,
-      by_step fair (Some HoldingStarving) Holding s (stops_starving p) ((fair_word s + (2 ^ 64 - 2)) % 2 ^ 64) 0 found (stop_holding-own s p) tt (less (fair_word s) (omega (arith, fewer)) small ∙ omega (arith, fewer)) refl,
+      by_step fair (Some HoldingStarving) Holding s (stops_starving p) ((fair_word s + (2 ^ 64 - 2)) % 2 ^ 64) 0 found (stop_holding-own s p) tt (less (fair_word s) 2 (omega arith) (omega (arith, fewer)) small ∙ omega (arith, fewer)) refl,
       refl,
     ))
 
 -- What the holder does
 
-clear : (n : ℕ) → n % 2 ≡ 1 → n < words → bit_and n 18446744073709551614 ≡ n - 1
-clear n odd small = let kept = and_high_numeral n 18446744073709551613 refl small in omega (arith, kept, odd)
-
-pub unlocks : Allows IsFair (ways fair) (Some Holding) (λ n. bit_and n 18446744073709551614) (becomes Idle 18446744073709551614 0 (Some Holding))
-unlocks = allows (Some Holding) (λ n. bit_and n 18446744073709551614) (becomes Idle 18446744073709551614 0 (Some Holding)) (λ s p room order one has small.
+pub unlocks : Allows IsFair (ways fair) (Some Holding) (λ n. (n + (2 ^ 64 - 1)) % 2 ^ 64) (becomes Idle 1 0 (Some Holding))
+unlocks = allows (Some Holding) (λ n. (n + (2 ^ 64 - 1)) % 2 ^ 64) (becomes Idle 1 0 (Some Holding)) (λ s p room order one has small.
     let found = is_holder-from_entries p writing s.holders (ap (λ e. e.holders) has.0) in let fewer = length-without_holder p writing s.holders found in (
       Idle,
-      by_step fair (Some Holding) Idle s (releases p writing) (bit_and (fair_word s) 18446744073709551614) 0 found (release-own s p writing) tt (clear (fair_word s) (omega (arith, fewer, one)) small ∙ omega (arith, fewer)) refl,
+      by_step fair (Some Holding) Idle s (releases p writing) ((fair_word s + (2 ^ 64 - 1)) % 2 ^ 64) 0 found (release-own s p writing) tt (less (fair_word s) 1 (omega arith) (omega (arith, fewer)) small ∙ omega (arith, fewer)) refl,
       refl,
     ))
 

@@ -123,7 +123,8 @@ impl<T, R> FairMutex<T, R> {
     ///
     /// Example: `a_starver_comes_before_newcomers`, `crates/spin_mutex_tests/src/fair.rt`.
     pub fn starve<W: Wait>(&self, rt: &W) -> Option<Starvation<'_, T, R>> {
-        let mut word = self.word();
+        // To begin at 0 spares the load where nobody is there, and is the load where somebody is.
+        let mut word = 0;
         for _ in rt.forever() {
             let registered = fair::starve(word, fair::MAX_STARVERS)?;
             let party = self.cell.enter();

@@ -44,7 +44,12 @@ impl<'a, T, R> Starvation<'a, T, R> {
     pub fn try_lock(self) -> Result<FairMutexGuard<'a, T, R>, Starvation<'a, T, R>>
         ensures { IfOk result (IsHolder use_of_view) }
     {
-        let (found, permit) = self.into_permit().set_bits::<SetFlag>(LOCKED);
+        // First as the only starver: that is one instruction, and to set a flag is a loop.
+        let still = match self.try_lock_fair() {
+            Ok(guard) => return Ok(guard),
+            Err(still) => still,
+        };
+        let (found, permit) = still.into_permit().set_bits::<SetFlag>(LOCKED);
         if fair::is_locked(found as usize) {
             Err(Self::new(permit))
         } else {
