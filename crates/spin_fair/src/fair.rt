@@ -21,6 +21,9 @@ pub use spin_step::fair::LockRejectReason;
 /// After more looks than this that found the lock held, `lock` starves.
 pub const STARVATION_SPINS: usize = 1024;
 
+// Always as long, so that so many looks are so much time.
+const LOOK_PAUSE: u32 = 16;
+
 /// A lock that gives one party at a time access to a value, and spins while it waits. While a party is registered as a
 /// starver, no other gets the lock unless it starves as well.
 ///
@@ -69,7 +72,7 @@ impl<T, R: RelaxStrategy> FairMutex<T, R> {
     {
         match self.try_lock() {
             Some(guard) => guard,
-            None => R::retry(rt, 0, |spins| self.look_and_try(rt, spins)),
+            None => R::retry_after(rt, 0, |_| LOOK_PAUSE, |spins| self.look_and_try(rt, spins)),
         }
     }
 
