@@ -1,10 +1,14 @@
 //! What a waiting call does between two looks at a lock's word.
+ghost use Rattle.std.specs.Prelude.{Some};
 ghost use Rattle.spin_core.specs.Retries.{Succeeds};
 
 use std::hint::spin_loop;
 use std::marker::PhantomData;
 use std::sync::Wait;
 use std::thread::yield_now;
+
+/// The longest pause between two attempts of a call that backs off.
+pub const MOST_HINTS: u32 = 64;
 
 /// How a call that waits passes the time. A lock names its strategy as a type parameter.
 ///
@@ -13,24 +17,66 @@ pub trait RelaxStrategy {
     /// Passes a little time.
     fn relax<W: Wait>(rt: &W);
 
+    /// Passes the time between two attempts of a call that waits: so much of it as is asked for, where the strategy
+    /// spins, and else as `relax` does, once.
+    fn pause<W: Wait>(rt: &W, hints: u32) {
+        let _ = hints;
+        Self::relax(rt);
+    }
+
     /// Relaxes and tries again, until an attempt succeeds. A failed attempt hands on the state in which the next one
     /// begins. Nothing is promised about when it returns.
     ///
-    /// It is for calls whose first attempt has failed, and stands apart: inlined, it would lengthen the path of every
-    /// caller that does not wait.
-    #[cold]
-    #[inline(never)]
+    /// It is for calls whose first attempt has failed.
     final fn retry<S, A, F: Fn(S) -> Result<A, S>, W: Wait>(rt: &W, state: S, attempt: F) -> A
         requires { F.IsAlwaysCallable attempt }
         ensures { Succeeds (F.post attempt) state result }
     {
+        Self::retry_after(rt, state, |_| 1, attempt)
+    }
+
+    /// As `retry`, with a pause before each attempt that the state tells.
+    ///
+    /// It stands apart: inlined, it would lengthen the path of every caller that does not wait.
+    #[cold]
+    #[inline(never)]
+    final fn retry_after<S, A, P: Fn(&S) -> u32, F: Fn(S) -> Result<A, S>, W: Wait>(
+        rt: &W,
+        state: S,
+        pause: P,
+        attempt: F,
+    ) -> A
+        requires pause { P.IsAlwaysCallable pause }
+        requires attempt { F.IsAlwaysCallable attempt }
+        ensures { Succeeds (F.post attempt) state result }
+    {
         let mut state = state;
         for _ in rt.forever() {
-            Self::relax(rt);
+            Self::pause(rt, pause(&state));
             match attempt(state) {
                 Ok(answer) => return answer,
                 Err(next) => state = next,
             }
+        }
+        unreachable!()
+    }
+
+    /// Pauses and tries again, until an attempt gives something. Each pause is twice as long as the last one, up to
+    /// `MOST_HINTS`: a lock that whoever comes next may take is quickest where few look. Nothing is promised about when
+    /// it returns.
+    #[cold]
+    #[inline(never)]
+    final fn back_off<A, F: Fn() -> Option<A>, W: Wait>(rt: &W, attempt: F) -> A
+        requires { F.IsAlwaysCallable attempt }
+        ensures { F.post attempt (Some result) }
+    {
+        let mut hints = 1;
+        for _ in rt.forever() {
+            Self::pause(rt, hints);
+            if let Some(answer) = attempt() {
+                return answer;
+            }
+            hints = hints.saturating_mul(2).min(MOST_HINTS);
         }
         unreachable!()
     }
@@ -43,6 +89,12 @@ impl RelaxStrategy for Spin {
     fn relax<W: Wait>(rt: &W) {
         let _ = rt;
         spin_loop();
+    }
+
+    fn pause<W: Wait>(rt: &W, hints: u32) {
+        for _ in 0..hints {
+            Self::relax(rt);
+        }
     }
 }
 

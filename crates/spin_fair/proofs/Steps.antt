@@ -1,7 +1,6 @@
 -- The steps of a fair mutex keep its rule: each is the plain step that its step function makes.
-use Rattle.std.proofs.Common.{◌≡◌, ℕ, ◌+◌, ◌-◌, ◌*◌, ◌%◌, ◌^◌, ◌<◌, ◌≤◌, true, if◌then◌else◌, List, [], ◌∷◌, ◌/◌, ◌==◌, Option, Some, None, refl, sym, ap, ◌∙◌, arith, subst, eq-eqb, ne_eqb, bit_and, bit_or, length-append}
+use Rattle.std.proofs.Common.{◌≡◌, ℕ, ◌+◌, ◌-◌, ◌*◌, ◌%◌, ◌^◌, ◌<◌, ◌≤◌, true, if◌then◌else◌, List, [], ◌∷◌, ◌/◌, ◌==◌, Option, Some, None, refl, sym, ap, ◌∙◌, arith, subst, eq-eqb, ne_eqb, bit_or, length-append}
 use Rattle.std.proofs.lemmas.List.Sums.{sum_by-le-sum_by}
-use Rattle.std.proofs.lemmas.Grind.{and_high_numeral}
 use Rattle.std.proofs.lemmas.Nat.{or_shifted, or_block}
 use Rattle.std.proofs.lemmas.Bool.{and_parts}
 use Rattle.std.specs.Int.Bits.{or_zero_r}
@@ -137,14 +136,14 @@ sets_flag = allows (Some Starving) (λ n. bit_or n 1) (becomes_by won_if_clear 1
       sym (ap (λ b. if b then HoldingStarving else Starving) (ne_eqb (n % 2) 0 odd)),
     )))
 
-less : (n : ℕ) → 2 ≤ n → n < words → (n + (2 ^ 64 - 2)) % 2 ^ 64 ≡ n - 2
-less n least small = omega (arith, least, small)
+less : (n by : ℕ) → 0 < by → by ≤ n → n < words → (n + (2 ^ 64 - by)) % 2 ^ 64 ≡ n - by
+less n by some least small = omega (arith, some, least, small)
 
 pub stops : Allows IsFair (ways fair) (Some Starving) (λ n. (n + (2 ^ 64 - 2)) % 2 ^ 64) (Stops 2 0 (Some Starving))
 stops = allows (Some Starving) (λ n. (n + (2 ^ 64 - 2)) % 2 ^ 64) (Stops 2 0 (Some Starving)) (λ n vs w is. rw is (omega arith, omega arith)) (λ s p room order one has small.
     let found = starves_in s p has in let fewer = length-without_starver p s.starvers found in (
       Idle,
-      by_step fair (Some Starving) Idle s (stops_starving p) ((fair_word s + (2 ^ 64 - 2)) % 2 ^ 64) 0 found (stop-own s p) tt (less (fair_word s) (omega (arith, fewer)) small ∙ omega (arith, fewer)) refl,
+      by_step fair (Some Starving) Idle s (stops_starving p) ((fair_word s + (2 ^ 64 - 2)) % 2 ^ 64) 0 found (stop-own s p) tt (less (fair_word s) 2 (omega arith) (omega (arith, fewer)) small ∙ omega (arith, fewer)) refl,
       refl,
     ))
 
@@ -152,27 +151,24 @@ pub holds_only : Allows IsFair (ways fair) (Some HoldingStarving) (λ n. (n + (2
 holds_only = allows (Some HoldingStarving) (λ n. (n + (2 ^ 64 - 2)) % 2 ^ 64) (Stops 2 0 (Some HoldingStarving)) (λ n vs w is. rw is (omega arith, omega arith)) (λ s p room order one has small.
     let found = is_starver-from_entries p s.starvers (ap (λ e. e.starvers) has.0) in let fewer = length-without_starver p s.starvers found in (
       Served,
-      by_step fair (Some HoldingStarving) Served s (stops_starving p) ((fair_word s + (2 ^ 64 - 2)) % 2 ^ 64) 0 found (stop_holding-own s p) tt (less (fair_word s) (omega (arith, fewer)) small ∙ omega (arith, fewer)) refl,
+      by_step fair (Some HoldingStarving) Served s (stops_starving p) ((fair_word s + (2 ^ 64 - 2)) % 2 ^ 64) 0 found (stop_holding-own s p) tt (less (fair_word s) 2 (omega arith) (omega (arith, fewer)) small ∙ omega (arith, fewer)) refl,
       refl,
     ))
 
 -- What the holder does
 
-clear : (n : ℕ) → n % 2 ≡ 1 → n < words → bit_and n 18446744073709551614 ≡ n - 1
-clear n odd small = let kept = and_high_numeral n 18446744073709551613 refl small in omega (arith, kept, odd)
-
 -- a newcomer, or who was served
-lets_go : (v : View) → part v ≡ holds writing → Allows IsFair (ways fair) (Some v) (λ n. bit_and n 18446744073709551614) (becomes Idle 18446744073709551614 0 (Some v))
-lets_go v writer = allows (Some v) (λ n. bit_and n 18446744073709551614) (becomes Idle 18446744073709551614 0 (Some v)) (λ n vs w is. rw is (omega arith, omega arith)) (λ s p room order one has small.
+lets_go : (v : View) → part v ≡ holds writing → Allows IsFair (ways fair) (Some v) (λ n. (n + (2 ^ 64 - 1)) % 2 ^ 64) (becomes Idle 1 0 (Some v))
+lets_go v writer = allows (Some v) (λ n. (n + (2 ^ 64 - 1)) % 2 ^ 64) (becomes Idle 1 0 (Some v)) (λ n vs w is. rw is (omega arith, omega arith)) (λ s p room order one has small.
     let own : entries p s ≡ entries_of p (holds writing) = has.0 ∙ ap (entries_of p) writer in
     let found = is_holder-from_entries p writing s.holders (ap (λ e. e.holders) own) in let fewer = length-without_holder p writing s.holders found in (
       Idle,
-      by_step fair (Some v) Idle s (releases p writing) (bit_and (fair_word s) 18446744073709551614) 0 found (ap (λ x. entries_after s (Some (releases p writing)) (entries_of p x)) writer ∙ release-own s p writing) tt
-          (clear (fair_word s) (omega (arith, fewer, one)) small ∙ omega (arith, fewer)) refl,
+      by_step fair (Some v) Idle s (releases p writing) ((fair_word s + (2 ^ 64 - 1)) % 2 ^ 64) 0 found (ap (λ x. entries_after s (Some (releases p writing)) (entries_of p x)) writer ∙ release-own s p writing) tt
+          (less (fair_word s) 1 (omega arith) (omega (arith, fewer)) small ∙ omega (arith, fewer)) refl,
       refl,
     ))
 
-pub unlocks : (v : View) → use_of_view v ≡ writes → Allows IsFair (ways fair) (Some v) (λ n. bit_and n 18446744073709551614) (becomes Idle 18446744073709551614 0 (Some v))
+pub unlocks : (v : View) → use_of_view v ≡ writes → Allows IsFair (ways fair) (Some v) (λ n. (n + (2 ^ 64 - 1)) % 2 ^ 64) (becomes Idle 1 0 (Some v))
 unlocks Idle e = absurd cc
 unlocks Starving e = absurd cc
 unlocks Holding e = lets_go Holding refl

@@ -24,6 +24,9 @@ pub use spin_step::fair::LockRejectReason;
 /// After more looks than this that found the lock held, `lock` starves.
 pub const STARVATION_SPINS: usize = 1024;
 
+// Always as long, so that so many looks are so much time.
+const LOOK_PAUSE: u32 = 16;
+
 /// A lock that gives one party at a time access to a value, and spins while it waits. While a party is registered as a
 /// starver, no other gets the lock unless it starves as well.
 ///
@@ -72,7 +75,7 @@ impl<T, R: RelaxStrategy> FairMutex<T, R> {
     {
         match self.try_lock() {
             Some(guard) => guard,
-            None => R::retry(rt, 0, |spins| self.look_and_try(rt, spins)),
+            None => R::retry_after(rt, 0, |_| LOOK_PAUSE, |spins| self.look_and_try(rt, spins)),
         }
     }
 
@@ -129,7 +132,8 @@ impl<T, R> FairMutex<T, R> {
     ///
     /// Example: `a_starver_comes_before_newcomers`, `crates/spin_mutex_tests/src/fair.rt`.
     pub fn starve<W: Wait>(&self, rt: &W) -> Option<Starvation<'_, T, R>> {
-        let mut word = self.word();
+        // To begin at 0 spares the load where nobody is there, and is the load where somebody is.
+        let mut word = 0;
         for _ in rt.forever() {
             let registered = fair::starve(word, fair::MAX_STARVERS)?;
             let party = self.cell.enter();

@@ -62,7 +62,7 @@ impl<T, R: RelaxStrategy> SpinMutex<T, R> {
     {
         match self.try_lock_weak() {
             Some(guard) => guard,
-            None => R::retry(rt, (), |()| self.look_and_try().ok_or(())),
+            None => R::back_off(rt, || self.look_and_try()),
         }
     }
 

@@ -22,7 +22,7 @@ pub use self::upgradable::RwLockUpgradableGuard;
 pub use self::writer::{RwLockWriteGuard, WriteHeld};
 
 // How often a reader spins that was too late twice. Readers that try again at once keep one another from getting through.
-const STAND_BACK: usize = 32;
+const STAND_BACK: u32 = 128;
 
 /// A lock that lends its value to readers beside one another, or to one writer alone, and spins while it waits.
 ///
@@ -178,7 +178,7 @@ impl<T, R: RelaxStrategy> RwLock<T, R> {
     pub fn write<W: Wait>(&self, rt: &W) -> RwLockWriteGuard<'_, T, R> {
         match self.try_write_weak() {
             Some(guard) => guard,
-            None => R::retry(rt, (), |()| self.try_write_weak().ok_or(())),
+            None => R::back_off(rt, || self.try_write_weak()),
         }
     }
 
@@ -195,9 +195,7 @@ impl<T, R: RelaxStrategy> RwLock<T, R> {
         for _ in rt.forever() {
             let word = match found {
                 Some(word) => {
-                    for _ in 0..STAND_BACK {
-                        Spin::relax(rt);
-                    }
+                    Spin::pause(rt, STAND_BACK);
                     word
                 }
                 None => {

@@ -8,7 +8,7 @@ ghost use Rattle.spin_ticket.specs.declared.ticket.rule.View.TheVariants.{Waitin
 
 use self::rule::{Look, See, Take};
 use spin_core::cell::{Cell, Permit};
-use spin_core::relax::{Loop, RelaxStrategy, Spin, Strategy};
+use spin_core::relax::{Loop, MOST_HINTS, RelaxStrategy, Spin, Strategy};
 use spin_guard::guard::{self, Guard};
 use spin_guard::texts::write_lock;
 use spin_step::ticket;
@@ -34,9 +34,10 @@ pub type TicketMutexGuard<'a, T, R = Spin> = Guard<'a, T, View, TicketRule, R>;
 /// A hold on a `TicketMutex` that lends no value. Only `force_unlock` spends it: dropping it frees nothing.
 pub type Held<'a, T, R = Spin> = guard::Held<'a, T, View, TicketRule, R>;
 
-// A place in the queue.
+// A place in the queue, and how many tickets stood before it when it last looked.
 struct Place<'a, T> {
     number: u64,
+    ahead: u64,
     permit: Permit<'a, T, View, TicketRule>,
     ghost waiting: { permit.view ≡ Some (Waiting number) },
 }
@@ -74,7 +75,7 @@ impl<T, R> TicketMutex<T, R> {
         };
         match place.enter() {
             Ok(guard) => guard,
-            Err(place) => R::retry(rt, place, |place| place.enter()),
+            Err(place) => R::retry_after(rt, place, |place| place.pause(), |place| place.enter()),
         }
     }
 
@@ -126,21 +127,38 @@ impl<T, R> TicketMutex<T, R> {
     fn queue<'a>(&'a self, number: u64) -> Result<Place<'a, T>, u64> {
         let after = ticket::take(number).ok_or(number)?;
         let permit = self.cell.enter().attempt::<Take>(number, after)?;
-        Ok(Place { number, permit })
+        Ok(Place {
+            number,
+            ahead: 0,
+            permit,
+        })
     }
 }
 
 impl<'a, T> Place<'a, T> {
+    // The next in turn looks often, and who has many before it does not disturb them.
+    fn pause(&self) -> u32 {
+        self.ahead.min(MOST_HINTS as u64) as u32
+    }
+
     // Enters where the place's number is served.
     fn enter<R>(self) -> Result<TicketMutexGuard<'a, T, R>, Place<'a, T>>
         ensures { IfOk result (λ guard. guard.writer.view ≡ Entered self.entry.number) }
     {
-        let Self { number, permit } = self;
+        let Self {
+            number,
+            ahead: _,
+            permit,
+        } = self;
         let (serving, permit) = permit.load_second::<See>();
         if ticket::is_turn(serving, number) {
             Ok(Guard::new(permit.into_writer()))
         } else {
-            Err(Place { number, permit })
+            Err(Place {
+                number,
+                ahead: number.saturating_sub(serving),
+                permit,
+            })
         }
     }
 }

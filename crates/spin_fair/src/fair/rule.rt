@@ -89,7 +89,7 @@ impl Uses<View> for FairRule {
 
 impl<T> guard::Release<T, View> for FairRule {
     fn release(writer: WritePermit<'_, T, View, FairRule>) {
-        let (_, permit) = writer.into_permit().keep_bits::<LetsGo<Self>>(!LOCKED);
+        let (_, permit) = writer.into_permit().subtract::<LetsGo<Self>>(LOCKED);
         permit.leave();
     }
 

@@ -5,7 +5,7 @@ ghost use Rattle.spin_fair.specs.Fair.{use_of_view};
 ghost use Rattle.spin_fair.specs.declared.fair.rule.View.TheVariants.{Starving, HoldingStarving};
 
 use super::rule::{AttemptAlone, LOCKED, Look, STARVER, SetFlag, Unregister};
-use super::{FairMutexGuard, FairRule, View};
+use super::{FairMutexGuard, FairRule, LOOK_PAUSE, View};
 use spin_core::cell::Permit;
 use spin_core::relax::{RelaxStrategy, Spin, Strategy};
 use spin_guard::guard::Guard;
@@ -44,7 +44,12 @@ impl<'a, T, R> Starvation<'a, T, R> {
     pub fn try_lock(self) -> Result<FairMutexGuard<'a, T, R>, Starvation<'a, T, R>>
         ensures { IfOk result (IsHolder use_of_view) }
     {
-        let (found, permit) = self.into_permit().set_bits::<SetFlag>(LOCKED);
+        // First as the only starver: that is one instruction, and to set a flag is a loop.
+        let still = match self.try_lock_fair() {
+            Ok(guard) => return Ok(guard),
+            Err(still) => still,
+        };
+        let (found, permit) = still.into_permit().set_bits::<SetFlag>(LOCKED);
         if fair::is_locked(found as usize) {
             Err(Self::new(permit))
         } else {
@@ -85,7 +90,7 @@ impl<'a, T, R: RelaxStrategy> Starvation<'a, T, R> {
     {
         match self.try_lock() {
             Ok(guard) => guard,
-            Err(still) => R::retry(rt, still, Self::look_and_try),
+            Err(still) => R::retry_after(rt, still, |_| LOOK_PAUSE, Self::look_and_try),
         }
     }
 

@@ -1,5 +1,5 @@
 use Rattle.spin_core.specs.Retries.{Succeeds}
-use Rattle.spin_core.proofs.relax.RelaxStrategy.retry.Given as goal
+use Rattle.spin_core.proofs.relax.RelaxStrategy.retry_after.Given as goal
 
 -- an answer from here on is one from the first state on
 abbrev pub invariant-loop : goal.invariant-loop
