@@ -123,3 +123,7 @@ pub reached_next : {W V C L A : Type 0} (m : Machine W V C L A) (s t : State W V
 reached_next m s t p move o is reached =
     ∥∥₁_map reached (λ led.
     (led.0, led.1 ++ (p, move) ∷ [], after-append m (at_first m led.0) led.1 ((p, move) ∷ []) ∙ (ap (λ u. (happens m u p move).next) led.2 ∙ sym (ap (λ h. h.next) is))))
+
+-- and has as many parties
+pub parties_next : {W V C L A : Type 0} (m : Machine W V C L A) (s t : State W V C L) (p : ℕ) (move : Move C V) (o : Outcome A V) → (let h : Happened W V C L A = record { outcome = o; next = t } in h ≡ happens m s p move) → length t.seats ≡ length s.seats
+parties_next m s t p move o is = ap (λ h. length h.next.seats) is ∙ length-happens m s p move

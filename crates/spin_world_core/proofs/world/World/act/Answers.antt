@@ -1,9 +1,8 @@
-use Rattle.std.proofs.Common.{length, subst, sym, ap, ◌∙◌}
+use Rattle.std.proofs.Common.{subst, sym, ◌∙◌}
 use Rattle.std.proofs.Math.Logic.{∥∥₁_elim}
 use Rattle.std.proofs.Math.Bool.{Bool-set}
 use Rattle.spin_world_core.specs.Runs.{CanStep}
-use Rattle.spin_world_core.proofs.Schedules.{length-happens}
-use Rattle.spin_world_core.proofs.Playing.{reached_next}
+use Rattle.spin_world_core.proofs.Playing.{reached_next, parties_next}
 use Rattle.spin_world_core.proofs.world.World.act.Goals as goal
 
 pub act-requires : goal.act-requires
@@ -16,7 +15,7 @@ pub invariant_of-self : goal.invariant_of-self
 invariant_of-self g c =
     let m = g.O.Object.machine c.self.inside.object in (
       reached_next m c.self.inside.table c.act.new.self c.args.party c.args.action c.act.result c.act.ensures c.self.invariant.0,
-      c.self.invariant.1 ∙ sym (ap (λ h. length h.next.seats) c.act.ensures ∙ length-happens m c.self.inside.table c.args.party c.args.action),
+      c.self.invariant.1 ∙ sym (parties_next m c.self.inside.table c.act.new.self c.args.party c.args.action c.act.result c.act.ensures),
     )
 
 pub returns-clause-reached : goal.returns-clause-reached
