@@ -18,7 +18,7 @@ abbrev pub use_of_view : View → Use
 use_of_view Holding = writes
 use_of_view _ = off
 
-abbrev pub IsFair : ℕ → ℕ → List View → Type 0
+abbrev pub IsFair : ℕ → Unit {0} → List View → Type 0
 IsFair = Encodes part most_starvers fair_word no_word
 
 -- what a starver is once it has tried to set the flag of this word

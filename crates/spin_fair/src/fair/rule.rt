@@ -18,12 +18,13 @@ pub enum View {
     HoldingStarving,
 }
 
-/// The word is that of a plain lock of these parties: 1 while one holds it, and 2 for each that starves. The second word
-/// is 0.
+/// The word is that of a plain lock of these parties: 1 while one holds it, and 2 for each that starves.
 pub struct FairRule;
 
 impl<T> Rule<T, View> for FairRule {
     type Key = ();
+
+    type Second = ();
 
     ghost holds = { IsFair };
 
