@@ -1,11 +1,15 @@
 //! The names of the root.
-use super::mutex::{SpinMutex, SpinMutexGuard, TicketMutex, TicketMutexGuard};
+use super::mutex::{
+    FairMutex, FairMutexGuard, SpinMutex, SpinMutexGuard, TicketMutex, TicketMutexGuard,
+};
 use super::relax::Loop;
 use super::step::flag;
 use super::{
-    Barrier, Lazy, LazyLock, Mutex, MutexGuard, Once, RelaxStrategy, Spin, Yield, barrier, mutex,
+    Barrier, Lazy, LazyLock, Mutex, MutexGuard, Once, RelaxStrategy, RwLock, RwLockReadGuard, Spin,
+    Yield, barrier, mutex,
 };
 use std::fmt::Debug;
+use std::mem::size_of;
 use std::process::Abort;
 use std::sync::Wait;
 
@@ -73,4 +77,26 @@ fn values_that_are_lazy(rt: HostRuntime) {
     equal(&rt, *LazyLock::force(&lazy, &rt), 7);
     let lazy: Lazy<u64, _> = Lazy::new(|| 8);
     equal(&rt, *Lazy::force(&lazy, &rt), 8);
+}
+
+// The bytes of each lock of a `u64`: one word and the value, and two words where tickets are taken and served. What is
+// made once has a word and a stage, which says whether it is the seed or the value.
+#[test]
+fn a_lock_has_the_words_that_it_needs(rt: HostRuntime) {
+    equal(&rt, size_of::<SpinMutex<u64>>(), 16);
+    equal(&rt, size_of::<FairMutex<u64>>(), 16);
+    equal(&rt, size_of::<RwLock<u64>>(), 16);
+    equal(&rt, size_of::<TicketMutex<u64>>(), 24);
+    equal(&rt, size_of::<Mutex<u64>>(), 24);
+    equal(&rt, size_of::<Once<u64>>(), 24);
+    equal(&rt, size_of::<LazyLock<u64>>(), 24);
+}
+
+#[test]
+fn a_guard_is_a_pointer(rt: HostRuntime) {
+    equal(&rt, size_of::<SpinMutexGuard<u64>>(), 8);
+    equal(&rt, size_of::<FairMutexGuard<u64>>(), 8);
+    equal(&rt, size_of::<RwLockReadGuard<u64>>(), 8);
+    equal(&rt, size_of::<TicketMutexGuard<u64>>(), 8);
+    equal(&rt, size_of::<MutexGuard<u64>>(), 8);
 }

@@ -1,4 +1,4 @@
--- The fields of a cell in memory: two words that meet the rule, and the value. Assumes `Logic`.
+-- The fields of a cell in memory: the first word, the value, and the second word or nothing. Assumes `Logic`.
 --     fields_out     the words and the value, and the cell again from any that meet the rule
 --     written_out, written_in, row_out, row_in      the fields of the cell as it is written, and of its row
 use Rattle.std.proofs.Common.{ℕ, zero, ◌+◌, List, [], ◌∷◌, refl}
@@ -27,11 +27,11 @@ use Rattle.core.proofs.tally.Steps.{word_out, word_in}
 use Rattle.core.specs.contracts.marker.PhantomData as marker
 use Rattle.atomic_table.specs.Seated.{fact}
 use Rattle.spin_core.specs.Cell.{Ways, Starts}
-use Rattle.spin_core.specs.CellMemory.{offset, Known}
+use Rattle.spin_core.specs.CellMemory.{offset, second_at, Known}
 use Rattle.spin_core.specs.declared.cell.Rule.{Ghosts}
 use Rattle.spin_core.specs.contracts.cell.Cell as C
 
-module _ {M : Type 1} {𝓤 : Ura M} (𝓛 : Logic 𝓤) (m : Member) (V Y K : RattleType) (g : Ghosts Y.Denot (row_of m).Denot V.Denot K.Denot) (key : K.Denot) (b o : ℕ) where
+module _ {M : Type 1} {𝓤 : Ura M} (𝓛 : Logic 𝓤) (m ms : Member) (V Y K : RattleType) (g : Ghosts Y.Denot (row_of m).Denot V.Denot K.Denot (row_of ms).Denot) (key : K.Denot) (b o : ℕ) where
   abbrev Pr : Type 2
   Pr = SProp 𝓤
 
@@ -53,11 +53,14 @@ module _ {M : Type 1} {𝓤 : Ura M} (𝓛 : Logic 𝓤) (m : Member) (V Y K : R
   abbrev R : RattleType
   R = row_of m
 
+  abbrev S : RattleType
+  S = row_of ms
+
   abbrev pub ways : Ways R.Denot V.Denot
   ways = g.ways key
 
   abbrev pub Knows : Type 0
-  Knows = Known ways Y R
+  Knows = Known ways Y S R
 
   abbrev Both : RattleType
   Both = Tuple (V ∷ Y ∷ [])
@@ -66,17 +69,17 @@ module _ {M : Type 1} {𝓤 : Ura M} (𝓛 : Logic 𝓤) (m : Member) (V Y K : R
   pm = record { row = (marker.the_field Both).row; ty = lone (marker.the_field Both).row.mir }
 
   abbrev ks : List Member
-  ks = pm ∷ flag ∷ flag ∷ m ∷ []
+  ks = pm ∷ flag ∷ m ∷ ms ∷ []
 
   abbrev Data : RattleType
   Data = Struct (shape_of [] ks)
 
   -- the words, and the value
   abbrev pub All : Type 0
-  All = ℕ × ℕ × R.Denot
+  All = ℕ × S.Denot × R.Denot
 
   abbrev data_of : All → Data.Denot
-  data_of s = (tt, (s.0, (s.1, (s.2, tt))))
+  data_of s = (tt, (s.0, (s.2, (s.1, tt))))
 
   abbrev pub Fields : All → Fml
   Fields s = part_at Data full_share (data_of s) b o
@@ -94,7 +97,7 @@ module _ {M : Type 1} {𝓤 : Ura M} (𝓛 : Logic 𝓤) (m : Member) (V Y K : R
   owned vs s = fsep (Data.own_val (data_of s) vs) (fact (Rule s))
 
   abbrev pub Written : Fml
-  Written = part_at (C.the_written R V Y K g) full_share key b o
+  Written = part_at (C.the_written R V Y K S g) full_share key b o
 
   pub written_out : ⟦ Written ⟧ ⊢ ⟦ Opened ⟧
   unfolding part_of
@@ -105,10 +108,10 @@ module _ {M : Type 1} {𝓤 : Ura M} (𝓛 : Logic 𝓤) (m : Member) (V Y K : R
   unfolding part_of
   written_in k s = qed 𝓛 (‵ (Fields s) ∷ ‵ (fact (Rule s)) ∷ []) ∵ fpick ! (λ vs. fsplit ! $ move ! (1 ∷ 2 ∷ []) $ fjoin ! $
       fpack ! All (owned vs) s $ fpack ! Knows (λ _. fex All (owned vs)) k $ move ! (1 ∷ 0 ∷ []) $ fjoin ! $
-      fpack ! (List Val) (λ us. fsep (cell_at full_share Data.mir us b o) ((C.the_written R V Y K g).own_val key us)) vs $ done !)
+      fpack ! (List Val) (λ us. fsep (cell_at full_share Data.mir us b o) ((C.the_written R V Y K S g).own_val key us)) vs $ done !)
 
   abbrev pub Row : Fml
-  Row = part_at (C.the_row R V Y K g) full_share key b o
+  Row = part_at (C.the_row R V Y K S g) full_share key b o
 
   pub row_out : ⟦ Row ⟧ ⊢ ⟦ Opened ⟧
   unfolding part_of
@@ -120,21 +123,24 @@ module _ {M : Type 1} {𝓤 : Ura M} (𝓛 : Logic 𝓤) (m : Member) (V Y K : R
   row_in k s = let D : RattleType = Laid Data (Unit {0}) coded_unit (λ _. Data.own_val (data_of s)) (λ _ _ _ _. ftrue) in
       qed 𝓛 (‵ (Fields s) ∷ ‵ (fact (Rule s)) ∷ []) ∵ use1 𝓛 (‵ (part_at D full_share tt b o)) (Laid-in Data (Unit {0}) coded_unit (λ _. data_of s) (λ _ _ _ _. ftrue) 𝓛 tt b o refl) $
       fpick ! (λ vs. fsplit3 ! $ move ! (2 ∷ 3 ∷ []) $ fjoin ! $ fpack ! All (owned vs) s $ fpack ! Knows (λ _. fex All (owned vs)) k $ move ! (2 ∷ 0 ∷ []) $ fjoin ! $ move ! (1 ∷ 0 ∷ []) $ fjoin ! $
-      fpack ! (List Val) (λ us. fsep (cell_at full_share Data.mir us b o) ((C.the_row R V Y K g).own_val key us)) vs $ done !)
+      fpack ! (List Val) (λ us. fsep (cell_at full_share Data.mir us b o) ((C.the_row R V Y K S g).own_val key us)) vs $ done !)
 
   -- ---- the words and the value, side by side
-  abbrev pub standing_words : ℕ × ℕ → Fml
-  standing_words s = fsep (word b (o + 0) s.0) (word b (o + 8) s.1)
+  abbrev pub standing_words : ℕ × S.Denot → Fml
+  standing_words s = fsep (word b (o + 0) s.0) (part_at S full_share s.1 b (o + second_at S R))
 
   abbrev pub At : R.Denot → Fml
   At x = part_at R full_share x b (o + offset R)
 
-  module _ (L : Lawful 𝓛 R) (P : Fml) (to : ⟦ P ⟧ ⊢ ⟦ Opened ⟧) (from : (k : Knows) (s : All) → ⟦ Fields s ⟧ ∗ ⟦ fact (Rule s) ⟧ ⊢ ⟦ P ⟧) where
+  module _ (L : Lawful 𝓛 R) (LS : Lawful 𝓛 S) (P : Fml) (to : ⟦ P ⟧ ⊢ ⟦ Opened ⟧) (from : (k : Knows) (s : All) → ⟦ Fields s ⟧ ∗ ⟦ fact (Rule s) ⟧ ⊢ ⟦ P ⟧) where
     abbrev Mark : Fml
     Mark = part_at (row_of pm) full_share tt b (o + 0)
 
-    abbrev wd : ℕ → ℕ → Fml
-    wd e n = part_at (row_of flag) full_share n b (o + e)
+    abbrev First : ℕ → Fml
+    First n = part_at (row_of flag) full_share n b (o + 0)
+
+    abbrev Second : S.Denot → Fml
+    Second y = part_at S full_share y b (o + second_at S R)
 
     abbrev Back : Pr
     Back = PartsBack 𝓛 full_share [] ks b o
@@ -150,16 +156,16 @@ module _ {M : Type 1} {𝓤 : Ura M} (𝓛 : Logic 𝓤) (m : Member) (V Y K : R
 
     joins : (k : Knows) → ⟦ Mark ⟧ ∗ Back ⊢ Joins
     joins k = qed 𝓛 (‵ Mark ∷ raw Back ∷ []) ∵ each ! joined (λ s. let a : Denots (rows_of ks) = data_of s in assume ! (‵ (standing_words (s.0, s.1)) ⊛ ‵ (At s.2) ⊛ ‵ (fact (Rule s))) $ split3 ! $ fsplit ! $
-        use1 𝓛 (‵ (wd 0 s.0)) (word_in 𝓛 b (o + 0) s.0) $ move ! (1 ∷ []) $ use1 𝓛 (‵ (wd 8 s.1)) (word_in 𝓛 b (o + 8) s.1) $ nothing ! $
-        -- [nothing; the second word; the first word; the value; the rule; the marker; the way back]
-        move ! (3 ∷ 0 ∷ []) $ fjoin ! $ move ! (1 ∷ 0 ∷ []) $ fjoin ! $ move ! (3 ∷ 1 ∷ 0 ∷ []) $ fjoin3 ! $ move ! (2 ∷ []) $
+        use1 𝓛 (‵ (First s.0)) (word_in 𝓛 b (o + 0) s.0) $ nothing ! $
+        -- [nothing; the first word; the second; the value; the rule; the marker; the way back]
+        move ! (2 ∷ 0 ∷ []) $ fjoin ! $ move ! (2 ∷ 0 ∷ []) $ fjoin ! $ move ! (3 ∷ 1 ∷ 0 ∷ []) $ fjoin3 ! $ move ! (2 ∷ []) $
         use1 𝓛 (raw (⟦ parts_at full_share ks zero a b o ⟧ -∗ ⟦ Fields s ⟧)) (all_e 𝓤 (λ (u : Denots (rows_of ks)). ⟦ parts_at full_share ks zero u b o ⟧ -∗ ⟦ part_at Data full_share u b o ⟧) a) $
         move ! (1 ∷ 0 ∷ []) $ use2 𝓛 (‵ (Fields s)) (apply∗ 𝓤 ⟦ parts_at full_share ks zero a b o ⟧ ⟦ Fields s ⟧) $ by ! (from k s))
 
     pub fields_out : ⟦ P ⟧ ⊢ ex 𝓤 Apart
     fields_out = qed 𝓛 (‵ P ∷ []) ∵ use1 𝓛 (‵ Opened) to $ fpick ! (λ k. fpick ! (λ s. fsplit ! $
-        use1 𝓛 ((‵ Mark ⊛ ‵ (wd 0 s.0) ⊛ ‵ (wd 8 s.1) ⊛ ‵ (At s.2) ⊛ ‵ ftrue) ⊛ raw Back)
-        (Struct-parts 𝓛 full_share [] ks (Struct-Lawful 𝓛 (denote.Struct.Declared.shape (marker.the_type Both)) tt, (u64-laws.lawful 𝓛, (u64-laws.lawful 𝓛, (L, tt)))) (data_of s) b o) $ split ! $ split3 ! $
-        move ! (1 ∷ []) $ use1 𝓛 (‵ (word b (o + 0) s.0)) (word_out 𝓛 b (o + 0) s.0) $ move ! (2 ∷ []) $ split3 ! $ use1 𝓛 (‵ (word b (o + 8) s.1)) (word_out 𝓛 b (o + 8) s.1) $
-        -- [the second word; the value; nothing; the first word; the marker; the way back; the rule]
-        move ! (3 ∷ 0 ∷ []) $ fjoin ! $ move ! (3 ∷ 4 ∷ []) $ use2 𝓛 (raw Joins) (joins k) $ show ! Apart (k, s) $ keep ! (1 ∷ 2 ∷ 4 ∷ 0 ∷ []) $ done !))
+        use1 𝓛 ((‵ Mark ⊛ ‵ (First s.0) ⊛ ‵ (At s.2) ⊛ ‵ (Second s.1) ⊛ ‵ ftrue) ⊛ raw Back)
+        (Struct-parts 𝓛 full_share [] ks (Struct-Lawful 𝓛 (denote.Struct.Declared.shape (marker.the_type Both)) tt, (u64-laws.lawful 𝓛, (L, (LS, tt)))) (data_of s) b o) $ split ! $ split3 ! $
+        move ! (1 ∷ []) $ use1 𝓛 (‵ (word b (o + 0) s.0)) (word_out 𝓛 b (o + 0) s.0) $ move ! (2 ∷ []) $ split3 ! $
+        -- [the value; the second word; nothing; the first word; the marker; the way back; the rule]
+        move ! (3 ∷ 1 ∷ []) $ fjoin ! $ move ! (3 ∷ 4 ∷ []) $ use2 𝓛 (raw Joins) (joins k) $ show ! Apart (k, s) $ keep ! (1 ∷ 2 ∷ 4 ∷ 0 ∷ []) $ done !))

@@ -30,22 +30,22 @@ use Rattle.spin_core.specs.CellMemory.{offset, Known, Id, round_code, tag, Part,
 use Rattle.spin_core.proofs.CellParts.{piece_in}
 
 -- ---- what is shared may be had twice, and for less time
-reader_laws : (Y R : RattleType) {V : Type 0} (c : V → Gv) (holds : ℕ → ℕ → List V → Type 0) (ways : Ways R.Denot V) → RowLaws R → (β : Lft) (b o : ℕ) (u : Use) (x : Option R.Denot)
-    → ShrLaws (reader_shares Y R c holds ways β b o u x)
-reader_laws Y R c holds ways L β b o reads (Some x) = some_shr_laws (Known ways Y R) (λ _. within β (shown R b o x)) (λ _. within_shr_laws β (shown R b o x) (L x b (o + offset R)))
-reader_laws Y R c holds ways L β b o reads None = said_shr_laws ffalse tt
-reader_laws Y R c holds ways L β b o off x = nothing_shr_laws
-reader_laws Y R c holds ways L β b o writes x = nothing_shr_laws
+reader_laws : (Y R : RattleType) {V : Type 0} (c : V → Gv) (S : RattleType) (holds : ℕ → S.Denot → List V → Type 0) (ways : Ways R.Denot V) → RowLaws R → (β : Lft) (b o : ℕ) (u : Use) (x : Option R.Denot)
+    → ShrLaws (reader_shares Y R c S holds ways β b o u x)
+reader_laws Y R c S holds ways L β b o reads (Some x) = some_shr_laws (Known ways Y S R) (λ _. within β (shown R b o x)) (λ _. within_shr_laws β (shown R b o x) (L x b (o + offset R)))
+reader_laws Y R c S holds ways L β b o reads None = said_shr_laws ffalse tt
+reader_laws Y R c S holds ways L β b o off x = nothing_shr_laws
+reader_laws Y R c S holds ways L β b o writes x = nothing_shr_laws
 
-pub permit_laws : (Y R : RattleType) {V : Type 0} (c : V → Gv) (holds : ℕ → ℕ → List V → Type 0) (ways : Ways R.Denot V) → RowLaws R → (β : Lft) (p : Ptr) (view : Option V) (x : Option R.Denot)
-    → ShrLaws (permit_shares Y R c holds ways β p view x)
-permit_laws Y R c holds ways L β (block_ptr b o) view x = reader_laws Y R c holds ways L β b o (use_of ways.1 view) x
-permit_laws Y R c holds ways L β null_ptr view x = said_shr_laws ffalse tt
+pub permit_laws : (Y R : RattleType) {V : Type 0} (c : V → Gv) (S : RattleType) (holds : ℕ → S.Denot → List V → Type 0) (ways : Ways R.Denot V) → RowLaws R → (β : Lft) (p : Ptr) (view : Option V) (x : Option R.Denot)
+    → ShrLaws (permit_shares Y R c S holds ways β p view x)
+permit_laws Y R c S holds ways L β (block_ptr b o) view x = reader_laws Y R c S holds ways L β b o (use_of ways.1 view) x
+permit_laws Y R c S holds ways L β null_ptr view x = said_shr_laws ffalse tt
 
-pub writer_laws : (Y R : RattleType) {V : Type 0} (c : V → Gv) (holds : ℕ → ℕ → List V → Type 0) (ways : Ways R.Denot V) → RowLaws R → (β : Lft) (p : Ptr) (view : V) (x : R.Denot)
-    → ShrLaws (writer_shares Y R c holds ways β p view x)
-writer_laws Y R c holds ways L β (block_ptr b o) view x = within_shr_laws β (shown R b o x) (L x b (o + offset R))
-writer_laws Y R c holds ways L β null_ptr view x = said_shr_laws ffalse tt
+pub writer_laws : (Y R : RattleType) {V : Type 0} (c : V → Gv) (S : RattleType) (holds : ℕ → S.Denot → List V → Type 0) (ways : Ways R.Denot V) → RowLaws R → (β : Lft) (p : Ptr) (view : V) (x : R.Denot)
+    → ShrLaws (writer_shares Y R c S holds ways β p view x)
+writer_laws Y R c S holds ways L β (block_ptr b o) view x = within_shr_laws β (shown R b o x) (L x b (o + offset R))
+writer_laws Y R c S holds ways L β null_ptr view x = said_shr_laws ffalse tt
 
 module _ {M : Type 1} {𝓤 : Ura M} (𝓛 : Logic 𝓤) where
   open 𝓛 use {H, A}
@@ -116,37 +116,37 @@ module _ {M : Type 1} {𝓤 : Ura M} (𝓛 : Logic 𝓤) where
         use2 𝓛 (later (‵ (fbor ν At) ⊛ raw (lfts 𝓛 ts))) (by_one 𝓛 ν ts sm (A.bor ν P) (A.bor ν At) (Lends-at opens ν (meet_⊑_right κ β))) $ await ! tt $
         use1 𝓛 (later (‵ (shown R b o x ν) ⊛ raw (lfts 𝓛 ts))) (s x ν ts b (o + offset R) inc sm) $ await ! tt $ now ! $ done !
 
-  module _ (Y R : RattleType) {V : Type 0} (c : V → Gv) (holds : ℕ → ℕ → List V → Type 0) (ways : Ways R.Denot V) (β : Lft) where
+  module _ (Y R : RattleType) {V : Type 0} (c : V → Gv) (S : RattleType) (holds : ℕ → S.Denot → List V → Type 0) (ways : Ways R.Denot V) (β : Lft) where
     abbrev Knows : Type 0
-    Knows = Known ways Y R
+    Knows = Known ways Y S R
 
     abbrev Inv : ℕ → ℕ → Id → Fml
-    Inv b o t = fbor t.life (inner R b o t c holds ways)
+    Inv b o t = fbor t.life (inner R b o t c S holds ways)
 
     -- ---- a writer
     module _ (b o : ℕ) (view : V) (x : R.Denot) where
       abbrev W : Fml
-      W = writer_owns Y R c holds ways β (block_ptr b o) view x
+      W = writer_owns Y R c S holds ways β (block_ptr b o) view x
 
       abbrev Sure : Type 0
       Sure = ways.1 view ≡ writes
 
       abbrev Wr : Id → Fml
-      Wr = writer_at Y R c holds ways β b o view x
+      Wr = writer_at Y R c S holds ways β b o view x
 
       writer_gives : ⟦ W ⟧ ⊢ ex 𝓤 (Gives R b o β x W)
       writer_gives = qed 𝓛 (‵ W ∷ []) ∵ fpick ! (λ k. fpick ! (λ e. fpick ! (λ t. fsplit3 ! $ fsplit ! $ use1 𝓛 (‵ (before β t.life) ⊛ ‵ (before β t.life)) (before_dup 𝓛 β t.life) $ split ! $ move ! (0 ∷ 4 ∷ []) $
           show ! (Gives R b o β x W) t $ types.Kit.frame ! $ types.Kit.frame ! $ assume ! (‵ (tracked R b o t x)) $ move ! (1 ∷ 2 ∷ []) $ fjoin ! $ move ! (0 ∷ 2 ∷ 1 ∷ []) $ fjoin3 ! $
           fpack ! Id Wr t $ fpack ! Sure (λ _. fex Id Wr) e $ fpack ! Knows (λ _. fex Sure (λ _. fex Id Wr)) k $ done !)))
 
-    pub Lends-writer : (l : Lft) → Incl l β → Shares 𝓛 R l → (p : Ptr) (view : V) (x : R.Denot) → Lends 𝓛 (writer_owns Y R c holds ways β p view x) (writer_shares Y R c holds ways β p view x) l
-    Lends-writer l le s (block_ptr b o) view x = Lends-tracked R b o β x (writer_owns Y R c holds ways β (block_ptr b o) view x) l le s (writer_gives b o view x)
-    Lends-writer l le s null_ptr view x = Lends-false 𝓛 (writer_shares Y R c holds ways β null_ptr view x) l
+    pub Lends-writer : (l : Lft) → Incl l β → Shares 𝓛 R l → (p : Ptr) (view : V) (x : R.Denot) → Lends 𝓛 (writer_owns Y R c S holds ways β p view x) (writer_shares Y R c S holds ways β p view x) l
+    Lends-writer l le s (block_ptr b o) view x = Lends-tracked R b o β x (writer_owns Y R c S holds ways β (block_ptr b o) view x) l le s (writer_gives b o view x)
+    Lends-writer l le s null_ptr view x = Lends-false 𝓛 (writer_shares Y R c S holds ways β null_ptr view x) l
 
     -- ---- a permit, at each use
     module _ (b o : ℕ) (view : Option V) where
       abbrev owned_at : Use → Option R.Denot → Id → Fml
-      owned_at u x t = fsep (kept R b o t c holds ways β) (fsep (stand R b o t c view) (right R b o t ways.0 u x))
+      owned_at u x t = fsep (kept R b o t c S holds ways β) (fsep (stand R b o t c view) (right R b o t ways.0 u x))
 
       abbrev Owned : Use → Option R.Denot → Fml
       Owned u x = fex Knows (λ _. fex Id (owned_at u x))
@@ -183,7 +183,7 @@ module _ {M : Type 1} {𝓤 : Ura M} (𝓛 : Logic 𝓤) where
       no_reader l κ ts inc sp = let P : Fml = Owned reads None in qed 𝓛 (‵ (fbor κ P) ∷ raw (lfts 𝓛 ts) ∷ []) ∵ updating ! $
           use2 𝓛 (later (‵ P ⊛ raw (⟦ P ⟧ -∗ H.⇛ (A.bor κ P ∗ lfts 𝓛 ts)))) (𝓛.more.bor_acc_by κ ts P sp) $ await ! tt $ split ! $ fpick ! (λ k. fpick ! (λ t. fsplit3 ! $ keep ! (2 ∷ []) $ by ! (never_e 𝓤 _)))
 
-      Lends-owned : RowLaws R → (l : Lft) → Incl l β → (u : Use) (x : Option R.Denot) → Lends 𝓛 (Owned u x) (reader_shares Y R c holds ways β b o u x) l
+      Lends-owned : RowLaws R → (l : Lft) → Incl l β → (u : Use) (x : Option R.Denot) → Lends 𝓛 (Owned u x) (reader_shares Y R c S holds ways β b o u x) l
       Lends-owned L l le off x = Lends-nothing 𝓛 (Owned off x) l
       Lends-owned L l le writes x = Lends-nothing 𝓛 (Owned writes x) l
       Lends-owned L l le reads None = no_reader l
@@ -191,9 +191,9 @@ module _ {M : Type 1} {𝓤 : Ura M} (𝓛 : Logic 𝓤) where
           qed 𝓛 (‵ (fbor κ P) ∷ raw (lfts 𝓛 ts) ∷ []) ∵ use1 𝓛 (‵ (fbor ν P)) (𝓛.bors.bor_shorten κ ν P (meet_⊑_left κ β)) $
           by ! (by_one 𝓛 ν ts (⊑_meet (span ts) κ β sp (Incl-trans inc le)) (A.bor ν P) ⟦ fex Knows (λ _. shown R b o x ν) ⟧ (lends_shown L x ν (meet_⊑_right κ β)))
 
-    pub Lends-permit : RowLaws R → (l : Lft) → Incl l β → (p : Ptr) (view : Option V) (x : Option R.Denot) → Lends 𝓛 (permit_owns Y R c holds ways β p view x) (permit_shares Y R c holds ways β p view x) l
+    pub Lends-permit : RowLaws R → (l : Lft) → Incl l β → (p : Ptr) (view : Option V) (x : Option R.Denot) → Lends 𝓛 (permit_owns Y R c S holds ways β p view x) (permit_shares Y R c S holds ways β p view x) l
     Lends-permit L l le (block_ptr b o) view x = Lends-owned b o view L l le (use_of ways.1 view) x
-    Lends-permit L l le null_ptr view x = Lends-false 𝓛 (permit_shares Y R c holds ways β null_ptr view x) l
+    Lends-permit L l le null_ptr view x = Lends-false 𝓛 (permit_shares Y R c S holds ways β null_ptr view x) l
 
     -- ---- a party that reads may see the value for the rest of the cell's borrow: its token is never given back
     abbrev pub Sees : ℕ → ℕ → Option R.Denot → R.Denot → Pr
@@ -204,10 +204,10 @@ module _ {M : Type 1} {𝓤 : Ura M} (𝓛 : Logic 𝓤) where
     known_seen lends x e known = tt
     known_seen (fixes fact) x e known = known
 
-    pub sees_on : RowLaws R → (b o : ℕ) (view : Option V) (v : Option R.Denot) → use_of ways.1 view ≡ reads → ⟦ permit_owns Y R c holds ways β (block_ptr b o) view v ⟧ ⊢ H.⇛ (ex 𝓤 (Sees b o v))
-    sees_on L b o view None is = qed 𝓛 (‵ (permit_owns Y R c holds ways β (block_ptr b o) view None) ∷ []) ∵ fpick ! (λ k. fpick ! (λ t. fsplit3 ! $ move ! (2 ∷ []) $
+    pub sees_on : RowLaws R → (b o : ℕ) (view : Option V) (v : Option R.Denot) → use_of ways.1 view ≡ reads → ⟦ permit_owns Y R c S holds ways β (block_ptr b o) view v ⟧ ⊢ H.⇛ (ex 𝓤 (Sees b o v))
+    sees_on L b o view None is = qed 𝓛 (‵ (permit_owns Y R c S holds ways β (block_ptr b o) view None) ∷ []) ∵ fpick ! (λ k. fpick ! (λ t. fsplit3 ! $ move ! (2 ∷ []) $
         rewrite ! 0 (λ (u : Use). ‵ (right R b o t ways.0 u None)) is refl $ keep ! (0 ∷ []) $ by ! (never_e 𝓤 _)))
-    sees_on L b o view (Some x) is = qed 𝓛 (‵ (permit_owns Y R c holds ways β (block_ptr b o) view (Some x)) ∷ []) ∵ updating ! $ fpick ! (λ k. fpick ! (λ t. fsplit3 ! $ fsplit ! $ move ! (3 ∷ []) $
+    sees_on L b o view (Some x) is = qed 𝓛 (‵ (permit_owns Y R c S holds ways β (block_ptr b o) view (Some x)) ∷ []) ∵ updating ! $ fpick ! (λ k. fpick ! (λ t. fsplit3 ! $ fsplit ! $ move ! (3 ∷ []) $
         rewrite ! 0 (λ (u : Use). ‵ (right R b o t ways.0 u (Some x))) is refl $ fpick ! (λ n. fsplit ! $ fpick ! (λ e. fpick ! (λ known. fsplit ! $
         let a : Lft = n ∷ [] in let μ : Lft = a ++ β in let V' : Lft → Fml = shown R b o x in let K = L x b (o + offset R) in
         -- [the token; the tag; what is shown; the end; the invariant; the view]

@@ -6,12 +6,13 @@ use base.Fml.{Lft}
 use base.Shift.{Keyless}
 use types.Keyed.{entry_keyless, entries_keyless}
 use denote.RattleType.{RattleType}
+use denote.Memory.{raw_all}
 use denote.RawPtr.{Ptr, block_ptr, null_ptr}
-use denote.Param.Send.{IsSend, IsSync, part_keyless}
+use denote.Param.Send.{IsSend, IsSync, part_keyless, whole-keyless}
 use Rattle.core.proofs.atomic.Sent.{chain-Keyless}
 use Rattle.atomic_table.specs.Seated.{halved}
 use Rattle.spin_core.specs.Cell.{Use, off, reads, writes, Way, alone, lends, fixes, Ways, use_of}
-use Rattle.spin_core.specs.CellMemory.{offset, Common, IsShared, Known, Id, Round, roster, parts, remains, named, tracked, resting, missing, state, right, stand, kept, cell_shares, permit_owns, permit_shares, reader_shares, writer_owns, writer_shares}
+use Rattle.spin_core.specs.CellMemory.{offset, second_at, Common, Sends, IsShared, Known, Id, Round, roster, parts, remains, named, tracked, resting, missing, state, right, stand, kept, cell_shares, permit_owns, permit_shares, reader_shares, writer_owns, writer_shares}
 
 roster_keyless : {V : Type 0} (c : V → Gv) (ρ k : ℕ) (vs : List V) → Keyless (roster c ρ k vs)
 roster_keyless c ρ k [] = λ g. entries_keyless halved ρ k (λ _. (full_share, g))
@@ -57,37 +58,37 @@ module _ (R : RattleType) (s : IsSend R) (b o : ℕ) (t : Id) where
   right_keyless way writes sees None = tt
   right_keyless way writes sees (Some x) = tracked_keyless x
 
-  module _ {V : Type 0} (c : V → Gv) (holds : ℕ → ℕ → List V → Type 0) (ways : Ways R.Denot V) where
-    kept_keyless : (IsShared ways.0 → Common R) → (κ : Lft) → Keyless (kept R b o t c holds ways κ)
-    kept_keyless sees κ = ((λ νs. chain-Keyless νs κ t.life), λ z. (tt, (tt, λ vs. (roster_keyless c t.views 0 vs, ((λ _. tt), state_keyless ways.0 sees _ _)))))
+  module _ {V : Type 0} (c : V → Gv) (S : RattleType) (holds : ℕ → S.Denot → List V → Type 0) (ways : Ways R.Denot V) where
+    kept_keyless : (IsShared ways.0 → Common R) → Sends S → (κ : Lft) → Keyless (kept R b o t c S holds ways κ)
+    kept_keyless sees sent κ = ((λ νs. chain-Keyless νs κ t.life), λ z. (tt, (whole-keyless (raw_all S.mir) S.own_val sent full_share z.1 b (o + second_at S R), λ vs. (roster_keyless c t.views 0 vs, ((λ _. tt), state_keyless ways.0 sees _ _)))))
 
-module _ (Y R : RattleType) {V : Type 0} (c : V → Gv) (holds : ℕ → ℕ → List V → Type 0) (ways : Ways R.Denot V) where
-  pub cell_keyless : IsSend R → IsSync Y → (p : Ptr) (κ : Lft) → Keyless (cell_shares Y R c holds ways p κ)
-  cell_keyless s y (block_ptr b o) κ = λ known t. kept_keyless R s b o t c holds ways (λ e. known.0 e y.shared) κ
+module _ (Y R : RattleType) {V : Type 0} (c : V → Gv) (S : RattleType) (holds : ℕ → S.Denot → List V → Type 0) (ways : Ways R.Denot V) where
+  pub cell_keyless : IsSend R → IsSync Y → (p : Ptr) (κ : Lft) → Keyless (cell_shares Y R c S holds ways p κ)
+  cell_keyless s y (block_ptr b o) κ = λ known t. kept_keyless R s b o t c S holds ways (λ e. known.0 e y.shared) known.2 κ
   cell_keyless s y null_ptr κ = tt
 
-  pub writer_keyless : IsSend R → IsSync Y → (β : Lft) (p : Ptr) (view : V) (x : R.Denot) → Keyless (writer_owns Y R c holds ways β p view x)
-  writer_keyless s y β (block_ptr b o) view x = λ known e t. (kept_keyless R s b o t c holds ways (λ e. known.0 e y.shared) β, ((λ id. entry_keyless halved t.views id _), tracked_keyless R s b o t x))
+  pub writer_keyless : IsSend R → IsSync Y → (β : Lft) (p : Ptr) (view : V) (x : R.Denot) → Keyless (writer_owns Y R c S holds ways β p view x)
+  writer_keyless s y β (block_ptr b o) view x = λ known e t. (kept_keyless R s b o t c S holds ways (λ e. known.0 e y.shared) known.2 β, ((λ id. entry_keyless halved t.views id _), tracked_keyless R s b o t x))
   writer_keyless s y β null_ptr view x = tt
 
-  some_reads : (view : Option V) → Known ways Y R → use_of ways.1 view ≡ reads → Common Y → Common R
+  some_reads : (view : Option V) → Known ways Y S R → use_of ways.1 view ≡ reads → Common Y → Common R
   some_reads None known e = absurd cc
   some_reads (Some v) known e = known.1 v e
 
-  pub permit_keyless : IsSend R → IsSync Y → (β : Lft) (p : Ptr) (view : Option V) (x : Option R.Denot) → Keyless (permit_owns Y R c holds ways β p view x)
-  permit_keyless s y β (block_ptr b o) view x = λ known t. (kept_keyless R s b o t c holds ways (λ e. known.0 e y.shared) β, (stand_keyless R b o t c view, right_keyless R s b o t ways.0 (use_of ways.1 view) (λ e. some_reads view known e y.shared) x))
+  pub permit_keyless : IsSend R → IsSync Y → (β : Lft) (p : Ptr) (view : Option V) (x : Option R.Denot) → Keyless (permit_owns Y R c S holds ways β p view x)
+  permit_keyless s y β (block_ptr b o) view x = λ known t. (kept_keyless R s b o t c S holds ways (λ e. known.0 e y.shared) known.2 β, (stand_keyless R b o t c view, right_keyless R s b o t ways.0 (use_of ways.1 view) (λ e. some_reads view known e y.shared) x))
   permit_keyless s y β null_ptr view x = tt
 
-  reader_sees : IsSync Y → (β : Lft) (b o : ℕ) (u : Use) → (Known ways Y R → u ≡ reads → Common Y → Common R) → (x : Option R.Denot) (κ : Lft) → Keyless (reader_shares Y R c holds ways β b o u x κ)
+  reader_sees : IsSync Y → (β : Lft) (b o : ℕ) (u : Use) → (Known ways Y S R → u ≡ reads → Common Y → Common R) → (x : Option R.Denot) (κ : Lft) → Keyless (reader_shares Y R c S holds ways β b o u x κ)
   reader_sees y β b o off sees x κ = tt
   reader_sees y β b o reads sees None κ = tt
   reader_sees y β b o reads sees (Some x) κ = λ known. sees known refl y.shared x b (o + offset R) _
   reader_sees y β b o writes sees x κ = tt
 
-  pub permit_sees : IsSync Y → (β : Lft) (p : Ptr) (view : Option V) (x : Option R.Denot) (κ : Lft) → Keyless (permit_shares Y R c holds ways β p view x κ)
+  pub permit_sees : IsSync Y → (β : Lft) (p : Ptr) (view : Option V) (x : Option R.Denot) (κ : Lft) → Keyless (permit_shares Y R c S holds ways β p view x κ)
   permit_sees y β (block_ptr b o) view x κ = reader_sees y β b o (use_of ways.1 view) (some_reads view) x κ
   permit_sees y β null_ptr view x κ = tt
 
-  pub writer_sees : IsSync R → (β : Lft) (p : Ptr) (view : V) (x : R.Denot) (κ : Lft) → Keyless (writer_shares Y R c holds ways β p view x κ)
+  pub writer_sees : IsSync R → (β : Lft) (p : Ptr) (view : V) (x : R.Denot) (κ : Lft) → Keyless (writer_shares Y R c S holds ways β p view x κ)
   writer_sees y β (block_ptr b o) view x κ = y.shared x b (o + offset R) _
   writer_sees y β null_ptr view x κ = tt

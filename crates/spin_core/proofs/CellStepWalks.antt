@@ -24,7 +24,7 @@ use Rattle.spin_core.proofs.PermitFields.{hand_of, Words, made}
 use Rattle.spin_core.proofs.CellSteps as steps
 use Rattle.spin_core.proofs.CellWalks.{Entry, J, Back, mine, enters, exits}
 
-module _ {M : Type 1} {𝓤 : Ura M} (𝓛 : Logic 𝓤) (𝓜 : Model 𝓤 𝓛.H) (𝓡 : Running 𝓤 𝓛.H 𝓜) (ℓ : NamedLft) (T W Y Kr : RattleType) (L : Laws T) (g : Ghosts Y.Denot T.Denot W.Denot Kr.Denot) (b o : ℕ) where
+module _ {M : Type 1} {𝓤 : Ura M} (𝓛 : Logic 𝓤) (𝓜 : Model 𝓤 𝓛.H) (𝓡 : Running 𝓤 𝓛.H 𝓜) (ℓ : NamedLft) (T W Y Kr Sr : RattleType) (L : Laws T) (g : Ghosts Y.Denot T.Denot W.Denot Kr.Denot Sr.Denot) (b o : ℕ) where
   abbrev R : RattleType
   R = param 0 T
 
@@ -32,7 +32,7 @@ module _ {M : Type 1} {𝓤 : Ura M} (𝓛 : Logic 𝓤) (𝓜 : Model 𝓤 𝓛
   LR = param_laws 0 T L
 
   abbrev Hr : RattleType
-  Hr = hand.the_row ℓ R W Y Kr g
+  Hr = hand.the_row ℓ R W Y Kr Sr g
 
   abbrev β : Lft
   β = ℓ.lft
@@ -42,19 +42,19 @@ module _ {M : Type 1} {𝓤 : Ura M} (𝓛 : Logic 𝓤) (𝓜 : Model 𝓤 𝓛
     ways = g.ways h.key
 
     abbrev At : Type 0
-    At = Entry 𝓛 𝓜 𝓡 Y R LR.shr_laws W.coded g.holds ways β b o
+    At = Entry 𝓛 𝓜 𝓡 Y R LR.shr_laws W.coded Sr g.holds ways β b o
 
     abbrev Kept : At → Fml
-    Kept k = kept R b o k.1.0 W.coded.code g.holds ways β
+    Kept k = kept R b o k.1.0 W.coded.code Sr g.holds ways β
 
     abbrev Mine : At → Fml
-    Mine = mine 𝓛 𝓜 𝓡 Y R LR.shr_laws W.coded g.holds ways β b o h.view h.value
+    Mine = mine 𝓛 𝓜 𝓡 Y R LR.shr_laws W.coded Sr g.holds ways β b o h.view h.value
 
     abbrev Inv : At → Fml
-    Inv k = J 𝓛 𝓜 𝓡 Y R LR.shr_laws W.coded g.holds ways β b o k.1.0
+    Inv k = J 𝓛 𝓜 𝓡 Y R LR.shr_laws W.coded Sr g.holds ways β b o k.1.0
 
     abbrev Gives : At → SProp 𝓤
-    Gives = Back 𝓛 𝓜 𝓡 Y R LR.shr_laws W.coded g.holds ways β b o q
+    Gives = Back 𝓛 𝓜 𝓡 Y R LR.shr_laws W.coded Sr g.holds ways β b o q
 
     -- the permit at its new view
     abbrev pub next : W.Denot × Option R.Denot → Hr.Denot
@@ -74,18 +74,18 @@ module _ {M : Type 1} {𝓤 : Ura M} (𝓛 : Logic 𝓤) (𝓜 : Model 𝓤 𝓛
       -- [the way back; the value's token; what the party has; the cell; its invariant; its token]
       pub opens_step : K → Soaks G → (τ : Lft) (r : Share) → Incl τ R.lives
           → ((k : At) → Seq K 𝓛 (raw (Gives k) ∷ ‵ (flft τ r) ∷ ‵ (Mine k) ∷ ‵ (Kept k) ∷ ‵ (finv (Inv k)) ∷ ‵ (flft k.1.0.life k.1.1) ∷ Γ) G)
-          → Seq K 𝓛 (‵ (permit_owns Y R W.coded.code g.holds ways β (block_ptr b o) h.view h.value) ∷ ‵ (flft β q) ∷ ‵ (flft τ r) ∷ Γ) G
+          → Seq K 𝓛 (‵ (permit_owns Y R W.coded.code Sr g.holds ways β (block_ptr b o) h.view h.value) ∷ ‵ (flft β q) ∷ ‵ (flft τ r) ∷ Γ) G
       opens_step t z τ r le f = use3 𝓛 (later (some (λ (k : At). ‵ (finv (Inv k)) ⊛ ‵ (flft k.1.0.life k.1.1) ⊛ ‵ (Mine k) ⊛ ‵ (Kept k) ⊛ raw (Gives k) ⊛ ‵ (flft τ r))))
-          (enters 𝓛 𝓜 𝓡 Y R LR.shr_laws W.coded g.holds ways β b o R.lives (LR.shares 𝓛) h.view h.value q τ r le) $ await t z $ pick t (λ k. split3 t $ move t (2 ∷ []) $ split3 t $ move t (2 ∷ []) $ split t $ f k)
+          (enters 𝓛 𝓜 𝓡 Y R LR.shr_laws W.coded Sr g.holds ways β b o R.lives (LR.shares 𝓛) h.view h.value q τ r le) $ await t z $ pick t (λ k. split3 t $ move t (2 ∷ []) $ split3 t $ move t (2 ∷ []) $ split t $ f k)
 
       pub closes_step : K → Soaks G → (k : At) (then : ℕ → W.Denot → Type 0) (n : ℕ)
           → ((s : W.Denot × Option R.Denot) → Seq K 𝓛 (‵ (Hr.own_val (next s) (hand_of (block_ptr b o) ∷ [])) ∷ ‵ (flft β q) ∷ Says then n s ∷ Γ) G)
-          → Seq K 𝓛 (‵ (fsep (flft k.1.0.life k.1.1) (steps.moved 𝓛 R LR.shr_laws b o k.1.0 W.coded g.holds ways h.view then n h.value)) ∷ ‵ (Kept k) ∷ raw (Gives k) ∷ Γ) G
-      closes_step t z k then n f = let Owned : W.Denot × Option R.Denot → Fml = λ s. permit_owns Y R W.coded.code g.holds ways β (block_ptr b o) (Some s.0) s.1 in
+          → Seq K 𝓛 (‵ (fsep (flft k.1.0.life k.1.1) (steps.moved 𝓛 R LR.shr_laws b o k.1.0 W.coded Sr g.holds ways h.view then n h.value)) ∷ ‵ (Kept k) ∷ raw (Gives k) ∷ Γ) G
+      closes_step t z k then n f = let Owned : W.Denot × Option R.Denot → Fml = λ s. permit_owns Y R W.coded.code Sr g.holds ways β (block_ptr b o) (Some s.0) s.1 in
           let So : W.Denot × Option R.Denot → Type 0 = λ s. Keeps ways h.view (Some s.0) h.value s.1 in
           use3 𝓛 (later (some (λ (s : W.Denot × Option R.Denot). given (then n s.0 × So s) (‵ (Owned s))) ⊛ ‵ (flft β q)))
-          (exits 𝓛 𝓜 𝓡 Y R LR.shr_laws W.coded g.holds ways β b o k h.view then n h.value q) $ await t z $ split t $ pick t (λ s. learn t (λ so.
-          use0 𝓛 (‵ ((Words ℓ R W Y Kr g).own_val (block_ptr b o, (tt, tt)) (hand_of (block_ptr b o) ∷ []))) (made ℓ R W Y Kr g 𝓛 (block_ptr b o)) $ fjoin t $
+          (exits 𝓛 𝓜 𝓡 Y R LR.shr_laws W.coded Sr g.holds ways β b o k h.view then n h.value q) $ await t z $ split t $ pick t (λ s. learn t (λ so.
+          use0 𝓛 (‵ ((Words ℓ R W Y Kr Sr g).own_val (block_ptr b o, (tt, tt)) (hand_of (block_ptr b o) ∷ []))) (made ℓ R W Y Kr Sr g 𝓛 (block_ptr b o)) $ fjoin t $
           use0 𝓛 (raw (fact 𝓤 (h.key ≡ h.key))) (fact_i 𝓤 (h.key ≡ h.key) (emp 𝓤) refl) $ use0 𝓛 (raw (fact 𝓤 (So s))) (fact_i 𝓤 (So s) (emp 𝓤) so.1) $ join t $
           use0 𝓛 (raw (fact 𝓤 (then n s.0))) (fact_i 𝓤 (then n s.0) (emp 𝓤) so.0) $ join t $ move t (1 ∷ 2 ∷ 0 ∷ []) $ f s))
 

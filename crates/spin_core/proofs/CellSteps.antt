@@ -9,6 +9,9 @@ use types.Kit.{‵, raw, ◌⊛◌, given, ◌$◌, ◌∵◌, !, qed, by, move,
 use denote.RattleType.{RattleType}
 use denote.RattleType.{RowLaws}
 use denote.Steps.{nothing}
+use denote.Builtin.{u64}
+use denote.Memory.{part_at}
+use Rattle.core.proofs.tally.Steps.{word_out, word_in}
 use mathlib.Core.Option as maybe
 use lib.ListN.{get_elem?}
 use mir.Syntax.{ty_int}
@@ -25,7 +28,7 @@ use Rattle.atomic_table.specs.Seated.{fact, seen}
 use Rattle.spin_core.proofs.CellRoster.{Moved, moves, Joined, joins}
 use Rattle.spin_core.proofs.CellCounts.{part_of, splits}
 use Rattle.spin_core.specs.Cell.{Ways, use_of, readers_of, writers_of, Meets, Stands, after, AllowsAt, AllowsSecondAt, Going, Keeps, Use, off, Way, reading, writing, Limits}
-use Rattle.spin_core.specs.CellMemory.{roster, Id, state, stand, core, core_at, standing, inner}
+use Rattle.spin_core.specs.CellMemory.{second_at, roster, Id, state, stand, core, core_at, standing, inner}
 use Rattle.spin_core.proofs.CellWays.{going_rest, going_map}
 use Rattle.spin_core.proofs.CellRounds.{held}
 use Rattle.spin_core.proofs.CellTurns as value
@@ -54,7 +57,7 @@ module _ {M : Type 1} {𝓤 : Ura M} (𝓛 : Logic 𝓤) (R : RattleType) (L : R
   abbrev Got : Way R.Denot → Use → Use → Option R.Denot → Fml
   Got = value.Got 𝓛 R L b o t
 
-  module _ {V : Type 0} (cv : Coded V) (holds : ℕ → ℕ → List V → Type 0) (ways : Ways R.Denot V) where
+  module _ {V : Type 0} (cv : Coded V) (S : RattleType) (holds : ℕ → S.Denot → List V → Type 0) (ways : Ways R.Denot V) where
     abbrev way : Way R.Denot
     way = ways.0
 
@@ -64,14 +67,14 @@ module _ {M : Type 1} {𝓤 : Ura M} (𝓛 : Logic 𝓤) (R : RattleType) (L : R
     abbrev ρ : ℕ
     ρ = t.views
 
-    abbrev Core : ℕ × ℕ → Fml
-    Core = core R b o t cv.code holds ways
+    abbrev Core : ℕ × S.Denot → Fml
+    Core = core R b o t cv.code S holds ways
 
     abbrev Stand : Option V → Fml
     Stand = stand R b o t cv.code
 
     abbrev I : Fml
-    I = inner R b o t cv.code holds ways
+    I = inner R b o t cv.code S holds ways
 
     -- what a step leaves its party with, where the number found was n
     abbrev pub told : Option V → (ℕ → V → Type 0) → ℕ → Option R.Denot → V × Option R.Denot → Fml
@@ -107,28 +110,28 @@ module _ {M : Type 1} {𝓤 : Ura M} (𝓛 : Logic 𝓤) (R : RattleType) (L : R
           let F : (ℕ × ℕ) × (ℕ × ℕ) → Type 1 = λ z. Limits way z.0.0 z.0.1 → Going way u (f w) v z.0.0 (Limits way z.1.0 z.1.1) → ⟦ St way z.0.0 z.0.1 ⟧ ∗ ⟦ Held u way v ⟧ ⊢ upd 𝓤 (⟦ St way z.1.0 z.1.1 ⟧ ∗ ⟦ Got way u (f w) v ⟧) in
           subst F (λ i. ((sym was_r i, sym was_w i), (sym (r.2 w) i, sym (q.2 w) i))) (value.turns 𝓛 R L b o t way r.0 q.0 u (f w) v)
 
-    packs : (view : Option V) (id k : ℕ) (s : ℕ × ℕ) (us : List V) (w : V) (v : Option R.Denot) (then : ℕ → V → Type 0) → Meets holds ways s.0 s.1 us → then k w
+    packs : (view : Option V) (id k : ℕ) (s : ℕ × S.Denot) (us : List V) (w : V) (v : Option R.Denot) (then : ℕ → V → Type 0) → Meets holds ways s.0 s.1 us → then k w
         → ⟦ roster cv.code ρ 0 us ⟧ ∗ ⟦ seen cv.code ρ id three_quarters w ⟧ ∗ ⟦ states us ⟧ ∗ ⟦ Got way (use_of f view) (f w) v ⟧ ⊢ ⟦ Core s ⟧ ∗ ⟦ moved view then k v ⟧
     packs view id k s us w v then meets so = qed 𝓛 (‵ (roster cv.code ρ 0 us) ∷ ‵ (seen cv.code ρ id three_quarters w) ∷ ‵ (states us) ∷ ‵ (Got way (use_of f view) (f w) v) ∷ []) ∵ move ! (1 ∷ []) $
         fpack ! ℕ (λ i. seen cv.code ρ i three_quarters w) id $ move ! (3 ∷ []) $ fpick ! (λ v'. fsplit ! $ fpick ! (λ kept. drop ! $ move ! (1 ∷ 0 ∷ []) $ fjoin ! $
         nothing ! $ fpack ! (then k w × Keeps ways view (Some w) v v') (λ _. ftrue) (so, kept) $ fjoin ! $ fpack ! (V × Option R.Denot) (told view then k v) (w, v') $ move ! (2 ∷ []) $
-        nothing ! $ fpack ! (Meets holds ways s.0 s.1 us) (λ _. ftrue) meets $ fjoin ! $ move ! (2 ∷ 0 ∷ []) $ fjoin ! $ fpack ! (List V) (core_at R b o t cv.code holds ways s.0 s.1) us $ done !))
+        nothing ! $ fpack ! (Meets holds ways s.0 s.1 us) (λ _. ftrue) meets $ fjoin ! $ move ! (2 ∷ 0 ∷ []) $ fjoin ! $ fpack ! (List V) (core_at R b o t cv.code S holds ways s.0 s.1) us $ done !))
 
     abbrev pub Mine : Option V → Option R.Denot → Fml
     Mine view v = fsep (Stand view) (Held (use_of f view) way v)
 
     -- what a step from s to s' asks, where it finds k
-    abbrev Law : Option V → Option R.Denot → (ℕ → V → Type 0) → ℕ × ℕ → ℕ × ℕ → ℕ → Type 0
+    abbrev Law : Option V → Option R.Denot → (ℕ → V → Type 0) → ℕ × S.Denot → ℕ × S.Denot → ℕ → Type 0
     Law view v then s s' k = (id : ℕ) (vs : List V) → Meets holds ways s.0 s.1 vs → Stands id view vs
         → (w : V) × Going way (use_of f view) (f w) v (readers_of f vs) (Meets holds ways s'.0 s'.1 (after id view vs w)) × then k w
 
-    limits_of : (view : Option V) (v : Option R.Denot) (r : ℕ) (s : ℕ × ℕ) (us : List V) (w : V) → Going way (use_of f view) (f w) v r (Meets holds ways s.0 s.1 us) → Going way (use_of f view) (f w) v r (Limits way (readers_of f us) (writers_of f us))
+    limits_of : (view : Option V) (v : Option R.Denot) (r : ℕ) (s : ℕ × S.Denot) (us : List V) (w : V) → Going way (use_of f view) (f w) v r (Meets holds ways s.0 s.1 us) → Going way (use_of f view) (f w) v r (Limits way (readers_of f us) (writers_of f us))
     limits_of view v r s us w going = going_map way (use_of f view) (f w) v r (λ (m : Meets holds ways s.0 s.1 us). m.1) going
 
-    meets_of : (view : Option V) (v : Option R.Denot) (r : ℕ) (s : ℕ × ℕ) (us : List V) (w : V) → Going way (use_of f view) (f w) v r (Meets holds ways s.0 s.1 us) → Meets holds ways s.0 s.1 us
+    meets_of : (view : Option V) (v : Option R.Denot) (r : ℕ) (s : ℕ × S.Denot) (us : List V) (w : V) → Going way (use_of f view) (f w) v r (Meets holds ways s.0 s.1 us) → Meets holds ways s.0 s.1 us
     meets_of view v r s vs w going = going_rest way (use_of f view) (f w) v r going
 
-    changes : (view : Option V) (v : Option R.Denot) (then : ℕ → V → Type 0) (s s' : ℕ × ℕ) (k : ℕ) → Law view v then s s' k
+    changes : (view : Option V) (v : Option R.Denot) (then : ℕ → V → Type 0) (s s' : ℕ × S.Denot) (k : ℕ) → Law view v then s s' k
         → ⟦ Core s ⟧ ∗ ⟦ Mine view v ⟧ ⊢ upd 𝓤 (⟦ Core s' ⟧ ∗ ⟦ moved view then k v ⟧)
     changes None v then s s' k law = let Z : Pr = ⟦ Core s' ⟧ ∗ ⟦ moved None then k v ⟧ in qed 𝓛 (‵ (Core s) ∷ ‵ (Mine None v) ∷ []) ∵ fpick ! (λ vs. fsplit ! $ move ! (1 ∷ []) $ fsplit ! $ fpick ! (λ so. drop ! $
         let r = law 0 vs so tt in let w : V = r.0 in let us : List V = vs ++ w ∷ [] in move ! (2 ∷ []) $ fsplit ! $ drop ! $ move ! (1 ∷ 0 ∷ []) $
@@ -147,18 +150,30 @@ module _ {M : Type 1} {𝓤 : Ura M} (𝓛 : Logic 𝓤) (R : RattleType) (L : R
     module _ (q : Share) (view : Option V) (v : Option R.Denot) (g : ℕ → ℕ) (then : ℕ → V → Type 0) where
       pub first_steps : AllowsAt holds ways view v g then → 𝓛.A.inv (fbor t.life I) ∗ (𝓛.A.lft t.life q ∗ ⟦ Mine view v ⟧) ⊢ asks 𝓛 (block_ptr b (o + 0)) g always (λ n. fsep (flft t.life q) (moved view then n v))
       first_steps allows = let e : ℕ = o + 0 in let left : ℕ → Fml = λ n. moved view then n v in let G : Pr = ex 𝓤 (Lies 𝓛 t.life q I b e g always left) in borrowed 𝓛 t.life q I b e g always left ⟦ Mine view v ⟧ (
-          qed 𝓛 (‵ I ∷ ‵ (Mine view v) ∷ []) ∵ suffices ! _ (upd_i 𝓤 G) $ fpick ! (λ s. let n : ℕ = s.0 in let m : ℕ = s.1 in fsplit ! $
+          qed 𝓛 (‵ I ∷ ‵ (Mine view v) ∷ []) ∵ suffices ! _ (upd_i 𝓤 G) $ fpick ! (λ s. let n : ℕ = s.0 in let m : S.Denot = s.1 in fsplit ! $
           use1 𝓛 (given (T (has_ty (ty_int w64) (vint w64 n)) × WT (vint w64 n)) (‵ (word b e n))) (𝓛.laws.at_wt full_share (ty_int w64) b e (vint w64 n)) $ learn ! (λ typed.
           show ! (Lies 𝓛 t.life q I b e g always left) n $ frame ! $ each ! (λ (_ : Unit {0}). Again 𝓛 t.life q I b e g always left n) (λ _. assume ! (‵ (word b e (g n))) $ move ! (1 ∷ []) $ fsplit ! $ move ! (1 ∷ 3 ∷ []) $
-          let s' : ℕ × ℕ = (g n, m) in let Z : Pr = ⟦ I ⟧ ∗ ⟦ left n ⟧ in
+          let s' : ℕ × S.Denot = (g n, m) in let Z : Pr = ⟦ I ⟧ ∗ ⟦ left n ⟧ in
           use2 𝓛 (raw (upd 𝓤 (⟦ Core s' ⟧ ∗ ⟦ left n ⟧))) (changes view v then s s' n (λ id vs meets at. allows id n m vs meets at typed.1.fits)) $ settle 𝓛 Z (‵ (Core s') ⊛ ‵ (left n)) $ split ! $ suffices ! Z (upd_i 𝓤 Z) $
-          move ! (2 ∷ 0 ∷ []) $ fjoin ! $ move ! (2 ∷ 0 ∷ []) $ fjoin ! $ fpack ! (ℕ × ℕ) (standing R b o t cv.code holds ways) s' $ done !))))
+          move ! (2 ∷ 0 ∷ []) $ fjoin ! $ move ! (2 ∷ 0 ∷ []) $ fjoin ! $ fpack ! (ℕ × S.Denot) (standing R b o t cv.code S holds ways) s' $ done !))))
 
-      pub second_steps : AllowsSecondAt holds ways view v g then → 𝓛.A.inv (fbor t.life I) ∗ (𝓛.A.lft t.life q ∗ ⟦ Mine view v ⟧) ⊢ asks 𝓛 (block_ptr b (o + 8)) g always (λ n. fsep (flft t.life q) (moved view then n v))
-      second_steps allows = let e : ℕ = o + 8 in let left : ℕ → Fml = λ n. moved view then n v in let G : Pr = ex 𝓤 (Lies 𝓛 t.life q I b e g always left) in borrowed 𝓛 t.life q I b e g always left ⟦ Mine view v ⟧ (
-          qed 𝓛 (‵ I ∷ ‵ (Mine view v) ∷ []) ∵ suffices ! _ (upd_i 𝓤 G) $ fpick ! (λ s. let n : ℕ = s.0 in let m : ℕ = s.1 in fsplit ! $ move ! (1 ∷ []) $ fsplit ! $
-          use1 𝓛 (given (T (has_ty (ty_int w64) (vint w64 m)) × WT (vint w64 m)) (‵ (word b e m))) (𝓛.laws.at_wt full_share (ty_int w64) b e (vint w64 m)) $ learn ! (λ typed.
-          show ! (Lies 𝓛 t.life q I b e g always left) m $ frame ! $ each ! (λ (_ : Unit {0}). Again 𝓛 t.life q I b e g always left m) (λ _. assume ! (‵ (word b e (g m))) $ move ! (1 ∷ 3 ∷ []) $
-          let s' : ℕ × ℕ = (n, g m) in let Z : Pr = ⟦ I ⟧ ∗ ⟦ left m ⟧ in
-          use2 𝓛 (raw (upd 𝓤 (⟦ Core s' ⟧ ∗ ⟦ left m ⟧))) (changes view v then s s' m (λ id vs meets at. allows id n m vs meets at typed.1.fits)) $ settle 𝓛 Z (‵ (Core s') ⊛ ‵ (left m)) $ split ! $ suffices ! Z (upd_i 𝓤 Z) $
-          move ! (2 ∷ 0 ∷ []) $ fjoin ! $ move ! (2 ∷ 0 ∷ []) $ fjoin ! $ fpack ! (ℕ × ℕ) (standing R b o t cv.code holds ways) s' $ done !))))
+  -- ---- and on the second, where it is one
+  module _ {V : Type 0} (cv : Coded V) (holds : ℕ → ℕ → List V → Type 0) (ways : Ways R.Denot V) (q : Share) (view : Option V) (v : Option R.Denot) (g : ℕ → ℕ) (then : ℕ → V → Type 0) where
+    abbrev J : Fml
+    J = inner R b o t cv.code u64 holds ways
+
+    abbrev left : ℕ → Fml
+    left n = moved cv u64 holds ways view then n v
+
+    abbrev at : ℕ
+    at = o + second_at u64 R
+
+    pub second_steps : AllowsSecondAt holds ways view v g then → 𝓛.A.inv (fbor t.life J) ∗ (𝓛.A.lft t.life q ∗ ⟦ Mine cv u64 holds ways view v ⟧) ⊢ asks 𝓛 (block_ptr b at) g always (λ n. fsep (flft t.life q) (left n))
+    second_steps allows = let G : Pr = ex 𝓤 (Lies 𝓛 t.life q J b at g always left) in borrowed 𝓛 t.life q J b at g always left ⟦ Mine cv u64 holds ways view v ⟧ (
+        qed 𝓛 (‵ J ∷ ‵ (Mine cv u64 holds ways view v) ∷ []) ∵ suffices ! _ (upd_i 𝓤 G) $ fpick ! (λ s. let n : ℕ = s.0 in let m : ℕ = s.1 in fsplit ! $ move ! (1 ∷ []) $ fsplit ! $
+        use1 𝓛 (‵ (word b at m)) (word_out 𝓛 b at m) $
+        use1 𝓛 (given (T (has_ty (ty_int w64) (vint w64 m)) × WT (vint w64 m)) (‵ (word b at m))) (𝓛.laws.at_wt full_share (ty_int w64) b at (vint w64 m)) $ learn ! (λ typed.
+        show ! (Lies 𝓛 t.life q J b at g always left) m $ frame ! $ each ! (λ (_ : Unit {0}). Again 𝓛 t.life q J b at g always left m) (λ _. assume ! (‵ (word b at (g m))) $ use1 𝓛 (‵ (part_at u64 full_share (g m) b at)) (word_in 𝓛 b at (g m)) $ move ! (1 ∷ 3 ∷ []) $
+        let s' : ℕ × ℕ = (n, g m) in let Z : Pr = ⟦ J ⟧ ∗ ⟦ left m ⟧ in
+        use2 𝓛 (raw (upd 𝓤 (⟦ Core cv u64 holds ways s' ⟧ ∗ ⟦ left m ⟧))) (changes cv u64 holds ways view v then s s' m (λ id vs meets at. allows id n m vs meets at typed.1.fits)) $ settle 𝓛 Z (‵ (Core cv u64 holds ways s') ⊛ ‵ (left m)) $ split ! $ suffices ! Z (upd_i 𝓤 Z) $
+        move ! (2 ∷ 0 ∷ []) $ fjoin ! $ move ! (2 ∷ 0 ∷ []) $ fjoin ! $ fpack ! (ℕ × ℕ) (standing R b o t cv.code u64 holds ways) s' $ done !))))

@@ -57,9 +57,9 @@ module _ {M : Type 1} {𝓤 : Ura M} (𝓛 : Logic 𝓤) where
   pub lasts : (κ α : Lft) (q : Share) (P : Fml) → ⟦ before κ α ⟧ ∗ A.bor α P ∗ A.lft κ q ⊢ H.⇛ (A.bor κ P ∗ A.lft κ q)
   lasts κ α q P = qed 𝓛 (‵ (before κ α) ∷ ‵ (fbor α P) ∷ ‵ (flft κ q) ∷ []) ∵ fpick ! (λ νs. by ! (lasts_chain νs κ α q P))
 
-  module _ (Y R : RattleType) {V : Type 0} (cv : Coded V) (holds : ℕ → ℕ → List V → Type 0) (ways : Ways R.Denot V) (β : Lft) (c e : ℕ) (w : V) where
+  module _ (Y R : RattleType) {V : Type 0} (cv : Coded V) (S : RattleType) (holds : ℕ → S.Denot → List V → Type 0) (ways : Ways R.Denot V) (β : Lft) (c e : ℕ) (w : V) where
     abbrev Pen : R.Denot → Fml
-    Pen x = writer_owns Y R cv.code holds ways β (block_ptr c e) w x
+    Pen x = writer_owns Y R cv.code S holds ways β (block_ptr c e) w x
 
     -- a write permit is the value's borrow, and what makes it a permit again at any value
     abbrev pub Cut : R.Denot → Id → Pr
@@ -68,7 +68,7 @@ module _ {M : Type 1} {𝓤 : Ura M} (𝓛 : Logic 𝓤) where
     pub cuts : (x : R.Denot) → ⟦ Pen x ⟧ ⊢ ex 𝓤 (Cut x)
     cuts x = qed 𝓛 (‵ (Pen x) ∷ []) ∵ fpick ! (λ known. fpick ! (λ so. fpick ! (λ t. fsplit3 ! $ fsplit ! $ use1 𝓛 (‵ (before β t.life) ⊛ ‵ (before β t.life)) (before_dup 𝓛 β t.life) $ split ! $ show ! (Cut x) t $ frame ! $
         move ! (3 ∷ []) $ frame ! $ each ! (λ (z : R.Denot). ⟦ tracked R c e t z ⟧ -∗ ⟦ Pen z ⟧) (λ z. assume ! (‵ (tracked R c e t z)) $ move ! (1 ∷ 2 ∷ []) $ fjoin ! $ move ! (0 ∷ 2 ∷ 1 ∷ []) $ fjoin3 ! $
-        let At : Id → Fml = writer_at Y R cv.code holds ways β c e w z in fpack ! Id At t $ fpack ! (ways.1 w ≡ writes) (λ _. fex Id At) so $ fpack ! (Known ways Y R) (λ _. fex (ways.1 w ≡ writes) (λ _. fex Id At)) known $ done !))))
+        let At : Id → Fml = writer_at Y R cv.code S holds ways β c e w z in fpack ! Id At t $ fpack ! (ways.1 w ≡ writes) (λ _. fex Id At) so $ fpack ! (Known ways Y S R) (λ _. fex (ways.1 w ≡ writes) (λ _. fex Id At)) known $ done !))))
 
     module _ (G : RattleType) (F : R.Denot → G.Denot) (inj : (x z : R.Denot) → F x ≡ F z → x ≡ z) (ℓ : Lifetime) (κ : Lft) (inc : Incl κ β) (q : Share) (m : MutBor G.Denot) where
       abbrev Whole : R.Denot → Pr

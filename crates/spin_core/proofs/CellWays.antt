@@ -21,7 +21,7 @@ module _ {X : Type 0} where
   freed (fixes fact) frees zero zero x = frees false x
   freed (fixes fact) frees zero (suc w) x = tt
 
-  pub restarts : {V : Type 0} (holds : ℕ → ℕ → List V → Type 0) (ways : Ways X V) (n m : ℕ) (x y : X) → Frees ways.0 → Starts holds ways n m x → Starts holds ways n m y
+  pub restarts : {V S : Type 0} (holds : ℕ → S → List V → Type 0) (ways : Ways X V) (n : ℕ) (m : S) (x y : X) → Frees ways.0 → Starts holds ways n m x → Starts holds ways n m y
   restarts holds ways n m x y frees starts = (starts.0, starts.1, freed ways.0 frees (readers_of ways.1 starts.0) (writers_of ways.1 starts.0) y)
 
   -- where somebody writes, nothing is known of the value

@@ -106,7 +106,7 @@ numbered-up k n [] numbers = tt
 numbered-up k n (t ∷ ts) numbers = (numbers.0, numbered-up k (suc n) ts numbers.1)
 
 -- the words name nobody
-abbrev pub NamesNobody : (Plain → ℕ) → Type 0
+abbrev pub NamesNobody : {S : Type 0} → (Plain → S) → Type 0
 NamesNobody word = (k : ℕ) (s : Plain) → word (moved_up k s) ≡ word s
 
 pub flag_word-up : NamesNobody flag_word
@@ -161,7 +161,7 @@ module _ {V : Type 0} (part : V → Part) (v : V) where
   others_at (x ∷ xs) behind zero = refl
   others_at (x ∷ xs) behind (suc q) = others_at xs behind q
 
-  module _ (uses : V → Use) (cap : ℕ) (first second : Plain → ℕ) (same_first : NamesNobody first) (same_second : NamesNobody second) where
+  module _ {S : Type 0} (uses : V → Use) (cap : ℕ) (first : Plain → ℕ) (second : Plain → S) (same_first : NamesNobody first) (same_second : NamesNobody second) where
     -- who has nothing, and does not use the value, may go
     pub leaves : uses v ≡ off → ((p : ℕ) → entries_of p (part v) ≡ no_entries) → Rests (Encodes part cap first second) uses (Some v)
     leaves unused nothing = (

@@ -36,12 +36,12 @@ pub pointer : (p : Ptr) → InBlock p → T (has_ty ty_ptr (ptr_val p)) × WT (p
 pointer (block_ptr b o) i = (tt, tt)
 pointer null_ptr i = absurd i
 
-module _ (a : NamedLft) (R V Y K : RattleType) (g : Ghosts Y.Denot R.Denot V.Denot K.Denot) where
+module _ (a : NamedLft) (R V Y K S : RattleType) (g : Ghosts Y.Denot R.Denot V.Denot K.Denot S.Denot) where
   abbrev pub Words : RattleType
-  Words = Struct (shape (permit.the_type a R V Y K g))
+  Words = Struct (shape (permit.the_type a R V Y K S g))
 
   abbrev pub Pens : RattleType
-  Pens = Struct (shape (writer.the_type a R V Y K g))
+  Pens = Struct (shape (writer.the_type a R V Y K S g))
 
   pub told : (p : Ptr) (vs : List Val) → Is Words (p, (tt, tt)) vs → vs ≡ hand_of p ∷ []
   told p vs is = is.1.0 ∙ ap (λ (ws : List Val). vstruct (of_list (ws ++ (is.0.1.0 ++ []))) ∷ []) is.1.1.0 ∙ ap (λ (ws : List Val). vstruct (of_list (ptr_val p ∷ (ws ++ []))) ∷ []) is.1.1.1.0.1.0
@@ -57,29 +57,29 @@ module _ (a : NamedLft) (R V Y K : RattleType) (g : Ghosts Y.Denot R.Denot V.Den
     pen_made p = makes_shadow 𝓛 (Pens.own_val (p, (tt, tt)) (hand_of p ∷ [])) (λ vss. (tt, (tt, ((λ uss. (tt, tt)), tt)))) ((ptr_val p ∷ [], (vstruct vnil ∷ [], tt)), (refl, (refl, ((tt, (refl, tt)), tt))))
 
   pub opened : {M : Type 1} {𝓤 : Ura M} (𝓛 : Logic 𝓤) → Opens 𝓛 Words
-  opened {M} {𝓤 = 𝓤} 𝓛 = (Struct-Copied 𝓛 (shape (permit.the_type a R V Y K g)) (refl, (refl, tt)) (RawPtr-copy.copied M 𝓤 𝓛, ((field_copy (marker.the_type (ShrRef a.mir a.lft R)) tt).copied M 𝓤 𝓛, tt))).opens
+  opened {M} {𝓤 = 𝓤} 𝓛 = (Struct-Copied 𝓛 (shape (permit.the_type a R V Y K S g)) (refl, (refl, tt)) (RawPtr-copy.copied M 𝓤 𝓛, ((field_copy (marker.the_type (ShrRef a.mir a.lft R)) tt).copied M 𝓤 𝓛, tt))).opens
 
   pub pen_opened : {M : Type 1} {𝓤 : Ura M} (𝓛 : Logic 𝓤) → Opens 𝓛 Pens
-  pen_opened {M} {𝓤 = 𝓤} 𝓛 = (Struct-Copied 𝓛 (shape (writer.the_type a R V Y K g)) (refl, (refl, tt)) (RawPtr-copy.copied M 𝓤 𝓛, ((field_copy (marker.the_type (ShrRef a.mir a.lft R)) tt).copied M 𝓤 𝓛, tt))).opens
+  pen_opened {M} {𝓤 = 𝓤} 𝓛 = (Struct-Copied 𝓛 (shape (writer.the_type a R V Y K S g)) (refl, (refl, tt)) (RawPtr-copy.copied M 𝓤 𝓛, ((field_copy (marker.the_type (ShrRef a.mir a.lft R)) tt).copied M 𝓤 𝓛, tt))).opens
 
-module _ {M : Type 1} {𝓤 : Ura M} (𝓛 : Logic 𝓤) (Y R : RattleType) {V : Type 0} (c : V → Gv) (holds : ℕ → ℕ → List V → Type 0) (ways : Ways R.Denot V) (β : Lft) where
-  pub owns_placed : (p : Ptr) (view : Option V) (x : Option R.Denot) → ent 𝓤 (sem 𝓛 (permit_owns Y R c holds ways β p view x)) (fact 𝓤 (InBlock p))
+module _ {M : Type 1} {𝓤 : Ura M} (𝓛 : Logic 𝓤) (Y R : RattleType) {V : Type 0} (c : V → Gv) (S : RattleType) (holds : ℕ → S.Denot → List V → Type 0) (ways : Ways R.Denot V) (β : Lft) where
+  pub owns_placed : (p : Ptr) (view : Option V) (x : Option R.Denot) → ent 𝓤 (sem 𝓛 (permit_owns Y R c S holds ways β p view x)) (fact 𝓤 (InBlock p))
   owns_placed (block_ptr b o) view x = fact_i 𝓤 (Unit {0}) _ tt
   owns_placed null_ptr view x = never_e 𝓤 _
 
-  pub pen_placed : (p : Ptr) (view : V) (x : R.Denot) → ent 𝓤 (sem 𝓛 (writer_owns Y R c holds ways β p view x)) (fact 𝓤 (InBlock p))
+  pub pen_placed : (p : Ptr) (view : V) (x : R.Denot) → ent 𝓤 (sem 𝓛 (writer_owns Y R c S holds ways β p view x)) (fact 𝓤 (InBlock p))
   pen_placed (block_ptr b o) view x = fact_i 𝓤 (Unit {0}) _ tt
   pen_placed null_ptr view x = never_e 𝓤 _
 
-  seen_at : (b o : ℕ) (v : Option R.Denot) (κ : Lft) → ent 𝓤 (sem 𝓛 (reader_shares Y R c holds ways β b o reads v κ)) (fact 𝓤 (Unit {0} × ((x : R.Denot) × (v ≡ Some x))))
+  seen_at : (b o : ℕ) (v : Option R.Denot) (κ : Lft) → ent 𝓤 (sem 𝓛 (reader_shares Y R c S holds ways β b o reads v κ)) (fact 𝓤 (Unit {0} × ((x : R.Denot) × (v ≡ Some x))))
   seen_at b o (Some x) κ = fact_i 𝓤 (Unit {0} × ((y : R.Denot) × (Some x ≡ Some y))) _ (tt, (x, refl))
   seen_at b o None κ = never_e 𝓤 _
 
-  pub sees : (p : Ptr) (view : Option V) (v : Option R.Denot) (κ : Lft) → use_of ways.1 view ≡ reads → ent 𝓤 (sem 𝓛 (permit_shares Y R c holds ways β p view v κ)) (fact 𝓤 (InBlock p × ((x : R.Denot) × (v ≡ Some x))))
+  pub sees : (p : Ptr) (view : Option V) (v : Option R.Denot) (κ : Lft) → use_of ways.1 view ≡ reads → ent 𝓤 (sem 𝓛 (permit_shares Y R c S holds ways β p view v κ)) (fact 𝓤 (InBlock p × ((x : R.Denot) × (v ≡ Some x))))
   sees null_ptr view v κ e = never_e 𝓤 _
   sees (block_ptr b o) view v κ e = let Seen : Option R.Denot → Type 0 = λ z. Unit {0} × ((x : R.Denot) × (z ≡ Some x)) in
-      subst (λ (u : Use). ent 𝓤 (sem 𝓛 (reader_shares Y R c holds ways β b o u v κ)) (fact 𝓤 (Seen v))) (sym e) (seen_at b o v κ)
+      subst (λ (u : Use). ent 𝓤 (sem 𝓛 (reader_shares Y R c S holds ways β b o u v κ)) (fact 𝓤 (Seen v))) (sym e) (seen_at b o v κ)
 
-  pub pen_sees : (p : Ptr) (view : V) (x : R.Denot) (κ : Lft) → ent 𝓤 (sem 𝓛 (writer_shares Y R c holds ways β p view x κ)) (fact 𝓤 (InBlock p))
+  pub pen_sees : (p : Ptr) (view : V) (x : R.Denot) (κ : Lft) → ent 𝓤 (sem 𝓛 (writer_shares Y R c S holds ways β p view x κ)) (fact 𝓤 (InBlock p))
   pen_sees (block_ptr b o) view x κ = fact_i 𝓤 (Unit {0}) _ tt
   pen_sees null_ptr view x κ = never_e 𝓤 _

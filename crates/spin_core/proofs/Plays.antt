@@ -15,8 +15,8 @@ use Rattle.spin_core.proofs.InOrder.{in_order-kept, in_order-fresh, cap-kept}
 use Rattle.spin_core.proofs.Views.{number, part_before, own_part, lock_after}
 use Rattle.spin_core.proofs.CellViews.{came_to}
 
--- a lock over the cell: what each view is to the plain lock and how it uses the value, the view of who has nothing, the words, and that no two parties use the value who may not
-pub record Lock (V : Type 0) : Type 1 where
+-- a lock over the cell: what each view is to the plain lock and how it uses the value, the view of who has nothing, the first word, the second or nothing, and that no two parties use the value who may not
+pub record Lock (V S : Type 0) : Type 1 where
   pub part : V → Part
   pub uses : V → Use
   pub idle : V
@@ -25,13 +25,13 @@ pub record Lock (V : Type 0) : Type 1 where
   pub goes : (u v : Use) (readers : ℕ) (A : Type 0) → A → Going way u v None readers A
   pub cap : ℕ
   pub first : Plain → ℕ
-  pub second : Plain → ℕ
+  pub second : Plain → S
   pub fits : (vs : List V) (s : Plain) → s.cap ≡ cap → IsInOrder s → IsLockOf part vs s → Limits way (readers_of uses vs) (writers_of uses vs)
   pub first_names_nobody : NamesNobody first
   pub second_names_nobody : NamesNobody second
 
 -- in the plain lock s the party p makes a step, or none, by which it becomes the new part, and after which the words are n and m
-pub record Makes (first second : Plain → ℕ) (old new : Part) (s : Plain) (p n m : ℕ) : Type 0 where
+pub record Makes {S : Type 0} (first : Plain → ℕ) (second : Plain → S) (old new : Part) (s : Plain) (p n : ℕ) (m : S) : Type 0 where
   pub step : Option Change
   pub is_open : IsOpenStep s p step
   pub entries : entries_after s step (entries_of p old) ≡ entries_of p new
@@ -39,10 +39,10 @@ pub record Makes (first second : Plain → ℕ) (old new : Part) (s : Plain) (p 
   pub first_is : n ≡ first (apply_some s step)
   pub second_is : m ≡ second (apply_some s step)
 
-module _ {V : Type 0} (lock : Lock V) where
+module _ {V S : Type 0} (lock : Lock V S) where
   open lock use {part, uses, idle, way, cap, first, second}
 
-  abbrev pub Holds : ℕ → ℕ → List V → Type 0
+  abbrev pub Holds : ℕ → S → List V → Type 0
   Holds = Encodes part cap first second
 
   abbrev pub ways : Ways (Unit {0}) V
@@ -53,10 +53,10 @@ module _ {V : Type 0} (lock : Lock V) where
   Each view P = (s : Plain) (p : ℕ) → s.cap ≡ cap → IsInOrder s → HasPart s p (part_before part view) → P s p
 
   -- it comes to the view w
-  abbrev pub Comes : Option V → V → Plain → ℕ → ℕ → ℕ → Type 0
+  abbrev pub Comes : Option V → V → Plain → ℕ → ℕ → S → Type 0
   Comes view w s p n m = Makes first second (part_before part view) (part w) s p n m
 
-  pub by_step : (view : Option V) (w : V) (s : Plain) (c : Change) (n m : ℕ) → is_open s c ≡ true → entries_after s (Some c) (entries_of (who c) (part_before part view)) ≡ entries_of (who c) (part w)
+  pub by_step : (view : Option V) (w : V) (s : Plain) (c : Change) (n : ℕ) (m : S) → is_open s c ≡ true → entries_after s (Some c) (entries_of (who c) (part_before part view)) ≡ entries_of (who c) (part w)
       → Knows (apply s c) (part w) → n ≡ first (apply s c) → m ≡ second (apply s c) → Comes view w s (who c) n m
   by_step view w s c n m may becomes known e f = record { step = Some c; is_open = (refl, may); entries = becomes; knows = known; first_is = e; second_is = f }
 
@@ -64,18 +64,18 @@ module _ {V : Type 0} (lock : Lock V) where
   by_none view w s p same known = record { step = None; is_open = tt; entries = same; knows = known; first_is = refl; second_is = refl }
 
   -- a party gets what it asks for, where the step function's own lemma says so
-  pub by_grant : (view : Option V) (w : V) (s : Plain) (p : ℕ) (ask : Ask) (n m : ℕ) → Decides s (gets p ask) first (Some n) → entries_after s (Some (gets p ask)) (entries_of p (part_before part view)) ≡ entries_of p (part w)
+  pub by_grant : (view : Option V) (w : V) (s : Plain) (p : ℕ) (ask : Ask) (n : ℕ) (m : S) → Decides s (gets p ask) first (Some n) → entries_after s (Some (gets p ask)) (entries_of p (part_before part view)) ≡ entries_of p (part w)
       → Knows (apply s (gets p ask)) (part w) → m ≡ second (apply s (gets p ask)) → Comes view w s p n m
   by_grant view w s p ask n m granted becomes known same = by_step view w s (gets p ask) n m granted.0 becomes known granted.1 same
 
   -- an exchange is one step where it finds the number that it expected, and else another
-  pub by_exchange : (view : Option V) (won lost : V) (s : Plain) (p n m expected new : ℕ) → (n ≡ expected → Comes view won s p new m) → Comes view lost s p n m
+  pub by_exchange : (view : Option V) (won lost : V) (s : Plain) (p n : ℕ) (m : S) (expected new : ℕ) → (n ≡ expected → Comes view won s p new m) → Comes view lost s p n m
       → (w : V) × Comes view w s p (either (n == expected) new n) m × (w ≡ (if n == expected then won else lost))
   by_exchange view won lost s p n m expected new hit miss =
       let G : Bool → Type 0 = λ y. (w : V) × Comes view w s p (either y new n) m × (w ≡ (if y then won else lost)) in
       dite (ℕ_discrete n expected) (λ e. subst G (sym (eq-eqb n expected e)) (won, hit e, refl)) (λ ne. subst G (sym (ne_eqb n expected ne)) (lost, miss, refl))
 
-  after_step : (id : ℕ) (view : Option V) (vs : List V) (w : V) (s : Plain) (n m : ℕ) → Stands id view vs → s.cap ≡ cap → IsInOrder s → IsLockOf part vs s
+  after_step : (id : ℕ) (view : Option V) (vs : List V) (w : V) (s : Plain) (n : ℕ) (m : S) → Stands id view vs → s.cap ≡ cap → IsInOrder s → IsLockOf part vs s
       → Comes view w s (number part id view vs) n m → Meets Holds ways n m (after id view vs w)
   after_step id view vs w s n m at room order is made =
       let new = lock_after part id view vs w s made.step at order is made.is_open made.entries made.knows in
@@ -84,7 +84,7 @@ module _ {V : Type 0} (lock : Lock V) where
       ((apply_some s made.step, cap_is, kept, new, made.first_is, made.second_is), lock.fits (after id view vs w) (apply_some s made.step) cap_is kept new)
 
   -- what a step asks besides what it says
-  abbrev Goes : ℕ → Option V → List V → V → ℕ → ℕ → Type 0
+  abbrev Goes : ℕ → Option V → List V → V → ℕ → S → Type 0
   Goes id view vs w n m = Going way (use_of ways.1 view) (ways.1 w) None (readers_of ways.1 vs) (Meets Holds ways n m (after id view vs w))
 
   -- the same of a lock whose parties are known, all of them, and of a word that a machine holds
@@ -107,20 +107,8 @@ module _ {V : Type 0} (lock : Lock V) where
   pub allows : (view : Option V) (f : ℕ → ℕ) (says : ℕ → V → Type 0) → Each view (λ s p. (w : V) × Comes view w s p (f (first s)) (second s) × says (first s) w) → Allows Holds ways view f says
   allows view f says makes = allows_among view f says (λ s p vs room order is has small. makes s p room order has)
 
-  -- and on the second
-  pub allows_second : (view : Option V) (f : ℕ → ℕ) (says : ℕ → V → Type 0) → Each view (λ s p. (w : V) × Comes view w s p (first s) (f (second s)) × says (second s) w) → AllowsSecond Holds ways view f says
-  allows_second view f says makes id n m vs meets at small =
-      let s = meets.0.0 in let made = makes s (number part id view vs) meets.0.1 meets.0.2 (own_part part id view vs s at meets.0.3) in let w : V = made.0 in
-      subst (λ j. (w : V) × Goes id view vs w n (f j) × says j w) (sym meets.0.5)
-      (subst (λ j. (w : V) × Goes id view vs w j (f (second s)) × says (second s) w) (sym meets.0.4) (
-        w,
-        lock.goes (use_of ways.1 view) (ways.1 w) (readers_of ways.1 vs) (Meets Holds ways (first s) (f (second s)) (after id view vs w))
-            (after_step id view vs w s (first s) (f (second s)) at meets.0.1 meets.0.2 meets.0.3 made.1),
-        made.2,
-      ))
-
   -- a lock to which nobody has come
-  pub begins : (group ticket n m : ℕ) → ticket ≤ ticket_limit → n ≡ first (fresh cap group ticket) → m ≡ second (fresh cap group ticket) → Meets Holds ways n m []
+  pub begins : (group ticket n : ℕ) (m : S) → ticket ≤ ticket_limit → n ≡ first (fresh cap group ticket) → m ≡ second (fresh cap group ticket) → Meets Holds ways n m []
   begins group ticket n m within e f =
       let s = fresh cap group ticket in let order = in_order-fresh cap group ticket within in let nobody : IsLockOf part [] s = λ p. (refl, tt) in
       ((s, refl, order, nobody, e, f), lock.fits [] s refl order nobody)
@@ -153,3 +141,18 @@ module _ {V : Type 0} (lock : Lock V) where
   pub refused_rests : (won : V) (view : Option V) (found expected : ℕ) → found ≢ expected → Moved (λ v. v ≡ (if found == expected then won else idle)) view → Rests Holds uses view
   refused_rests won None found expected other moved = absurd moved
   refused_rests won (Some v) found expected other moved = missed_rests won v found expected other moved
+
+-- of a lock of two words, the same of a step on the second
+module _ {V : Type 0} (lock : Lock V ℕ) where
+  open lock use {part, first, second}
+
+  pub allows_second : (view : Option V) (f : ℕ → ℕ) (says : ℕ → V → Type 0) → Each lock view (λ s p. (w : V) × Comes lock view w s p (first s) (f (second s)) × says (second s) w) → AllowsSecond (Holds lock) (ways lock) view f says
+  allows_second view f says makes id n m vs meets at small =
+      let s = meets.0.0 in let made = makes s (number part id view vs) meets.0.1 meets.0.2 (own_part part id view vs s at meets.0.3) in let w : V = made.0 in
+      subst (λ j. (w : V) × Goes lock id view vs w n (f j) × says j w) (sym meets.0.5)
+      (subst (λ j. (w : V) × Goes lock id view vs w j (f (second s)) × says (second s) w) (sym meets.0.4) (
+        w,
+        lock.goes (use_of (ways lock).1 view) ((ways lock).1 w) (readers_of (ways lock).1 vs) (Meets (Holds lock) (ways lock) (first s) (f (second s)) (after id view vs w))
+            (after_step lock id view vs w s (first s) (f (second s)) at meets.0.1 meets.0.2 meets.0.3 made.1),
+        made.2,
+      ))

@@ -113,17 +113,17 @@ module _ {X : Type 0} where
   abbrev pub Keeps : {V : Type 0} → Ways X V → Option V → Option V → Option X → Option X → Type 0
   Keeps ways view new before after = Kept ways.0 (use_of ways.1 view) (use_of ways.1 new) before after
 
-module _ {X V : Type 0} (holds : ℕ → ℕ → List V → Type 0) (ways : Ways X V) where
-  -- the rule holds of the two words and of the views, and the uses agree with one another
-  abbrev pub Meets : ℕ → ℕ → List V → Type 0
+module _ {X V S : Type 0} (holds : ℕ → S → List V → Type 0) (ways : Ways X V) where
+  -- the rule holds of the first word, of the second or nothing, and of the views, and the uses agree with one another
+  abbrev pub Meets : ℕ → S → List V → Type 0
   Meets n m vs = holds n m vs × Limits ways.0 (readers_of ways.1 vs) (writers_of ways.1 vs)
 
   -- some parties may have come to a cell with these words and this value, and gone
-  abbrev pub Starts : ℕ → ℕ → X → Type 0
+  abbrev pub Starts : ℕ → S → X → Type 0
   Starts n m x = (vs : List V) × Meets n m vs × Fixed ways.0 (readers_of ways.1 vs) (writers_of ways.1 vs) x
 
   -- nobody has come to a new cell; or, where a value is read for good, who made it has gone
-  abbrev pub Opens : ℕ → ℕ → X → Type 0
+  abbrev pub Opens : ℕ → S → X → Type 0
   Opens n m x = (vs : List V) × IsNew ways.0 vs × Meets n m vs × Fixed ways.0 (readers_of ways.1 vs) (writers_of ways.1 vs) x
 
 module _ {V : Type 0} where
@@ -138,27 +138,27 @@ module _ {V : Type 0} where
   after id (Some v) vs w = slice_set vs id w
 
   -- a party that may go: it has no use of the value, and the rule holds as well without it
-  abbrev pub Rests : (ℕ → ℕ → List V → Type 0) → (V → Use) → Option V → Type 0
+  abbrev pub Rests : {S : Type 0} → (ℕ → S → List V → Type 0) → (V → Use) → Option V → Type 0
   Rests holds f None = Unit {0}
-  Rests holds f (Some v) = (f v ≡ off) × ((n m : ℕ) (before behind : List V) → holds n m (before ++ v ∷ behind) → holds n m (before ++ behind))
+  Rests {S} holds f (Some v) = (f v ≡ off) × ((n : ℕ) (m : S) (before behind : List V) → holds n m (before ++ v ∷ behind) → holds n m (before ++ behind))
 
--- What a step asks: whatever the words and the views are when the word becomes f of what it was, the party has a next view that keeps the rule
-module _ {X V : Type 0} (holds : ℕ → ℕ → List V → Type 0) (ways : Ways X V) (view : Option V) where
-  -- of a party that is shown this
-  module _ (shown : Option X) (f : ℕ → ℕ) (then : ℕ → V → Type 0) where
-    -- of the first word
-    abbrev pub AllowsAt : Type 0
-    AllowsAt = (id n m : ℕ) (vs : List V) → Meets holds ways n m vs → Stands id view vs → n < words
-        → (w : V) × Going ways.0 (use_of ways.1 view) (ways.1 w) shown (readers_of ways.1 vs) (Meets holds ways (f n) m (after id view vs w)) × then n w
-
-    -- of the second
-    abbrev pub AllowsSecondAt : Type 0
-    AllowsSecondAt = (id n m : ℕ) (vs : List V) → Meets holds ways n m vs → Stands id view vs → m < words
-        → (w : V) × Going ways.0 (use_of ways.1 view) (ways.1 w) shown (readers_of ways.1 vs) (Meets holds ways n (f m) (after id view vs w)) × then m w
+-- What a step asks of a party that is shown a value, or nothing: whatever the words and the views are when the word becomes f of what it was,
+-- the party has a next view that keeps the rule
+module _ {X V S : Type 0} (holds : ℕ → S → List V → Type 0) (ways : Ways X V) (view : Option V) where
+  -- of the first word
+  abbrev pub AllowsAt : Option X → (ℕ → ℕ) → (ℕ → V → Type 0) → Type 0
+  AllowsAt shown f then = (id n : ℕ) (m : S) (vs : List V) → Meets holds ways n m vs → Stands id view vs → n < words
+      → (w : V) × Going ways.0 (use_of ways.1 view) (ways.1 w) shown (readers_of ways.1 vs) (Meets holds ways (f n) m (after id view vs w)) × then n w
 
   -- the same where the value is not spoken of, as in the first two ways
   abbrev pub Allows : (ℕ → ℕ) → (ℕ → V → Type 0) → Type 0
   Allows f then = AllowsAt None f then
+
+-- of the second, where there is one
+module _ {X V : Type 0} (holds : ℕ → ℕ → List V → Type 0) (ways : Ways X V) (view : Option V) where
+  abbrev pub AllowsSecondAt : Option X → (ℕ → ℕ) → (ℕ → V → Type 0) → Type 0
+  AllowsSecondAt shown f then = (id n m : ℕ) (vs : List V) → Meets holds ways n m vs → Stands id view vs → m < words
+      → (w : V) × Going ways.0 (use_of ways.1 view) (ways.1 w) shown (readers_of ways.1 vs) (Meets holds ways n (f m) (after id view vs w)) × then m w
 
   abbrev pub AllowsSecond : (ℕ → ℕ) → (ℕ → V → Type 0) → Type 0
   AllowsSecond f then = AllowsSecondAt None f then

@@ -1,5 +1,5 @@
 -- What a `Cell` shares, and what its permits own.
--- The cell is shared for a lifetime α. One invariant holds its two words, a quarter of each party's view, and the state of the value.
+-- The cell is shared for a lifetime α. One invariant holds its words, a quarter of each party's view, and the state of the value.
 -- Where the way is `alone`, the state is the borrow of the value, or nothing while a writer has it.
 -- Where it is `lends`, the value at rest is shared for a lifetime a of its own, and a reader has one part in 2 ^ 63 of a's token. A writer ends that lifetime, and begins the next one.
 -- Where it is `fixes`, it is the same, but a reader has any part of a's token, and knows the fact: it never gives its part back.
@@ -11,10 +11,11 @@ use base.Share.{three_quarters}
 use base.Stored.{Gv, coded×, coded_ℕ}
 use base.Shift.{Keyless}
 use base.Fml.{Lft, GName, Share, Fml, ftrue, ffalse, fsep, fex, flft, fbor, flent, fobs, fown}
-use prog.Memory.{up, align}
+use mir.Val.{Val}
+use prog.Memory.{up, align, size}
 use types.SemTy.{Body}
 use denote.RattleType.{RattleType}
-use denote.Memory.{shared_of, lone, mem}
+use denote.Memory.{shared_of, part_at, lone, mem}
 use denote.RawPtr.{Ptr, block_ptr, null_ptr}
 use denote.Sharing.{said, beside, some, ends, always, within, nothing}
 use Rattle.core.specs.Sync.RawAtomic.{word}
@@ -23,13 +24,21 @@ use types.Keyed.{entries_from}
 use base.Share.{quarter}
 use Rattle.spin_core.specs.Cell.{Use, off, reads, writes, Way, alone, lends, fixes, Ways, use_of, readers_of, writers_of, Meets, Starts}
 
--- where the value lies, behind two words
+-- where the value lies, behind the first word
 abbrev pub offset : RattleType → ℕ
-offset R = up (align (lone R.mir)) 16
+offset R = up (align (lone R.mir)) 8
+
+-- where what stands for the second word lies, behind the value
+abbrev pub second_at : RattleType → RattleType → ℕ
+second_at S R = up (align (lone S.mir)) (offset R + size (lone R.mir))
 
 -- any thread may read it through a `&`
 abbrev pub Common : RattleType → Type 0
 Common R = (x : R.Denot) (b e : ℕ) (κ : Lft) → Keyless (shared_of R x b e κ)
+
+-- any thread may have it
+abbrev pub Sends : RattleType → Type 0
+Sends S = (y : S.Denot) (vs : List Val) → Keyless (S.own_val y vs)
 
 -- whether a value that nobody writes is shared
 abbrev pub IsShared : {X : Type 0} → Way X → Type 0
@@ -38,8 +47,9 @@ IsShared lends = Unit {0}
 IsShared (fixes fact) = Unit {0}
 
 -- where parties share the value, or some view reads it, the rule's own type stands for the value's: who may share the one may share the other
-abbrev pub Known : {X V : Type 0} → Ways X V → RattleType → RattleType → Type 0
-Known {V = V} ways Y R = (IsShared ways.0 → Common Y → Common R) × ((v : V) → ways.1 v ≡ reads → Common Y → Common R)
+-- and any thread may have what stands for the second word
+abbrev pub Known : {X V : Type 0} → Ways X V → RattleType → RattleType → RattleType → Type 0
+Known {V = V} ways Y S R = (IsShared ways.0 → Common Y → Common R) × ((v : V) → ways.1 v ≡ reads → Common Y → Common R) × Sends S
 
 -- α, γ, ρ and ν
 pub record Id : Type 0 where
@@ -144,49 +154,49 @@ module _ (R : RattleType) (b o : ℕ) where
       stand None = ftrue
       stand (Some v) = fex ℕ (λ id. seen c t.views id three_quarters v)
 
-      module _ (holds : ℕ → ℕ → List V → Type 0) (ways : Ways R.Denot V) where
-        abbrev pub core_at : ℕ → ℕ → List V → Fml
+      module _ (S : RattleType) (holds : ℕ → S.Denot → List V → Type 0) (ways : Ways R.Denot V) where
+        abbrev pub core_at : ℕ → S.Denot → List V → Fml
         core_at n m vs = fsep (roster c t.views 0 vs) (fsep (fact (Meets holds ways n m vs)) (state ways.0 (readers_of ways.1 vs) (writers_of ways.1 vs)))
 
-        abbrev pub core : ℕ × ℕ → Fml
+        abbrev pub core : ℕ × S.Denot → Fml
         core s = fex (List V) (core_at s.0 s.1)
 
-        abbrev pub standing : ℕ × ℕ → Fml
-        standing s = fsep (word b (o + 0) s.0) (fsep (word b (o + 8) s.1) (core s))
+        abbrev pub standing : ℕ × S.Denot → Fml
+        standing s = fsep (word b (o + 0) s.0) (fsep (part_at S full_share s.1 b (o + second_at S R)) (core s))
 
         abbrev pub inner : Fml
-        inner = fex (ℕ × ℕ) standing
+        inner = fex (ℕ × S.Denot) standing
 
         abbrev pub kept : Lft → Fml
         kept = beside (ends t.life) (always (fbor t.life inner))
 
-module _ (Y R : RattleType) {V : Type 0} (c : V → Gv) (holds : ℕ → ℕ → List V → Type 0) (ways : Ways R.Denot V) where
+module _ (Y R : RattleType) {V : Type 0} (c : V → Gv) (S : RattleType) (holds : ℕ → S.Denot → List V → Type 0) (ways : Ways R.Denot V) where
   -- the cell's own fields, and some views that meet the rule
-  abbrev pub cell_owns : (ℕ → ℕ → R.Denot → Fml) → Fml
-  cell_owns fields = fex (Known ways Y R) (λ _. fex (ℕ × ℕ × R.Denot) (λ s. fsep (fields s.0 s.1 s.2) (fact (Starts holds ways s.0 s.1 s.2))))
+  abbrev pub cell_owns : (ℕ → S.Denot → R.Denot → Fml) → Fml
+  cell_owns fields = fex (Known ways Y S R) (λ _. fex (ℕ × S.Denot × R.Denot) (λ s. fsep (fields s.0 s.1 s.2) (fact (Starts holds ways s.0 s.1 s.2))))
 
   abbrev pub cell_shares : Ptr → Lft → Fml
-  cell_shares (block_ptr b o) = some (Known ways Y R) (λ _. some Id (λ t. kept R b o t c holds ways))
+  cell_shares (block_ptr b o) = some (Known ways Y S R) (λ _. some Id (λ t. kept R b o t c S holds ways))
   cell_shares null_ptr = said ffalse
 
   module _ (β : Lft) where
     abbrev pub permit_at : ℕ → ℕ → Option V → Option R.Denot → Id → Fml
-    permit_at b o view x t = fsep (kept R b o t c holds ways β) (fsep (stand R b o t c view) (right R b o t ways.0 (use_of ways.1 view) x))
+    permit_at b o view x t = fsep (kept R b o t c S holds ways β) (fsep (stand R b o t c view) (right R b o t ways.0 (use_of ways.1 view) x))
 
     abbrev pub permit_owns : Ptr → Option V → Option R.Denot → Fml
-    permit_owns (block_ptr b o) view x = fex (Known ways Y R) (λ _. fex Id (permit_at b o view x))
+    permit_owns (block_ptr b o) view x = fex (Known ways Y S R) (λ _. fex Id (permit_at b o view x))
     permit_owns null_ptr view x = ffalse
 
     abbrev pub writer_at : ℕ → ℕ → V → R.Denot → Id → Fml
-    writer_at b o view x t = fsep (kept R b o t c holds ways β) (fsep (stand R b o t c (Some view)) (tracked R b o t x))
+    writer_at b o view x t = fsep (kept R b o t c S holds ways β) (fsep (stand R b o t c (Some view)) (tracked R b o t x))
 
     abbrev pub writer_owns : Ptr → V → R.Denot → Fml
-    writer_owns (block_ptr b o) view x = fex (Known ways Y R) (λ _. fex (ways.1 view ≡ writes) (λ _. fex Id (writer_at b o view x)))
+    writer_owns (block_ptr b o) view x = fex (Known ways Y S R) (λ _. fex (ways.1 view ≡ writes) (λ _. fex Id (writer_at b o view x)))
     writer_owns null_ptr view x = ffalse
 
   -- what a `&` to a permit holds: a `&` to the value, if it reads, and what its rule asks of that
   abbrev pub reader_shares : Lft → ℕ → ℕ → Use → Option R.Denot → Lft → Fml
-  reader_shares β b o reads (Some x) = some (Known ways Y R) (λ _. within β (shown R b o x))
+  reader_shares β b o reads (Some x) = some (Known ways Y S R) (λ _. within β (shown R b o x))
   reader_shares β b o reads None = said ffalse
   reader_shares β b o off x = nothing
   reader_shares β b o writes x = nothing

@@ -64,10 +64,10 @@ module _ {V : Type 0} (part : V → Part) where
   abbrev pub used_by : V → Use
   used_by v = use_of_part (part v)
 
-  -- the two words are those of a plain lock of these parties, with this cap
-  abbrev pub Encodes : ℕ → (Plain → ℕ) → (Plain → ℕ) → ℕ → ℕ → List V → Type 0
+  -- the first word, and the second or nothing, are those of a plain lock of these parties, with this cap
+  abbrev pub Encodes : {S : Type 0} → ℕ → (Plain → ℕ) → (Plain → S) → ℕ → S → List V → Type 0
   Encodes cap first second n m vs = (s : Plain) × (s.cap ≡ cap) × IsInOrder s × IsLockOf vs s × (n ≡ first s) × (m ≡ second s)
 
--- of a lock of one word, the second is 0
-abbrev pub no_word : Plain → ℕ
-no_word s = 0
+-- a lock of one word has nothing for the second
+abbrev pub no_word : Plain → Unit {0}
+no_word s = tt

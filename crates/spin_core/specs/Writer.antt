@@ -1,6 +1,6 @@
 -- A write permit with another value in its place.
 use Rattle.spin_core.specs.declared.cell.WritePermit.{WritePermit}
 
-module _ {T V P K : Type 0} where
-  abbrev pub with_value : WritePermit T V P K → T → WritePermit T V P K
+module _ {T V P K S : Type 0} where
+  abbrev pub with_value : WritePermit T V P K S → T → WritePermit T V P K S
   with_value it w = record { cell = it.cell; marker = it.marker; key = it.key; view = it.view; value = w }

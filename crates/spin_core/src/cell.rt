@@ -1,7 +1,7 @@
-//! One raw cell under all locks: two words and a value, under a rule over plain data. A lock says what its parties are
+//! One raw cell under all locks: one word or two and a value, under a rule over plain data. A lock says what its parties are
 //! (a *view* each) and what holds of the words and of all views between any two steps; each step owes one fact about
 //! plain data, that it keeps that rule.
-ghost use Rattle.std.specs.Prelude.{◌≡◌, ◌≢◌, ◌+◌, ◌-◌, ◌%◌, ◌^◌, ◌==◌, ℕ, List, [], Option, bit_and, bit_or};
+ghost use Rattle.std.specs.Prelude.{◌≡◌, ◌≢◌, ◌+◌, ◌-◌, ◌%◌, ◌^◌, ◌==◌, ℕ, List, [], Option, bit_or};
 ghost use Rattle.std.specs.Coded.{coded_option};
 ghost use prog.Atomic.{either};
 ghost use Rattle.spin_core.specs.Cell.{Ways, off, reads, writes, use_of, Opens, Frees, Seen, Rests, AllowsAt, AllowsSecondAt, Moved, Keeps};
@@ -9,6 +9,7 @@ ghost use Rattle.spin_core.specs.CellMemory.{Known, cell_owns, cell_shares, perm
 
 use atomic_table::exchange;
 use std::marker::{Brand, Model, Move, Owns, PhantomData};
+use std::mem::ManuallyDrop;
 use std::sync::atomic::Ordering::SeqCst;
 use std::sync::atomic::raw;
 
@@ -21,8 +22,10 @@ pub mod settled;
 pub trait Rule<T, V> {
     // What is settled of a cell when it is made, as the closure that a lazy value comes from.
     type Key;
-    // Of the first word, the second word, and the views of all parties that ever came.
-    ghost holds: { ℕ → ℕ → List V → Type 0 };
+    // The second word, or nothing: a cell has no room for what is nothing.
+    type Second;
+    // Of the first word, the second or nothing, and the views of all parties that ever came.
+    ghost holds: { ℕ → Self.Second → List V → Type 0 };
     // Whether parties may read the value beside one another, and how a party with a given view may use it.
     ghost ways: { Self.Key → Ways T V };
 }
@@ -33,12 +36,12 @@ pub trait Play<V> {
     ghost then: { ℕ → ℕ → Option V → ℕ → V → Type 0 };
 }
 
-/// Two words and a value. Only a party with a permit touches the value. In a clause it is its key.
+/// A word, a value, and a second word or nothing. Only a party with a permit touches the value. In a clause it is its key.
 pub struct Cell<T, V, P: Rule<T, V>> {
     marker: PhantomData<(V, P)>,
     first: u64,
-    second: u64,
     value: T,
+    second: P::Second,
 }
 
 impl<T, V, P: Rule<T, V>> Owns for Cell<T, V, P> {
@@ -46,11 +49,11 @@ impl<T, V, P: Rule<T, V>> Owns for Cell<T, V, P> {
 
     ghost coded = { P.Key.code };
 
-    ghost shr_at = { λ key p κ. cell_shares P.row T.row V.row.coded.code P.holds (P.ways key) p κ };
+    ghost shr_at = { λ key p κ. cell_shares P.row T.row V.row.coded.code P.Second.row P.holds (P.ways key) p κ };
 }
 
 impl<T, V, P: Rule<T, V>> Move for Cell<T, V, P> {
-    ghost own_val = { λ key vs. cell_owns P.row T.row V.row.coded.code P.holds (P.ways key) (λ n m x. Fields.own_val (record { marker = record {}; first = n; second = m; value = x }) vs) };
+    ghost own_val = { λ key vs. cell_owns P.row T.row V.row.coded.code P.Second.row P.holds (P.ways key) (λ n m x. Fields.own_val (record { marker = record {}; first = n; value = x; second = m }) vs) };
 }
 
 /// What a party may do: `view` is what it is to the lock, `None` until its first step, and `value` is shown where its
@@ -64,9 +67,9 @@ pub struct Permit<'a, T, V, P: Rule<T, V>> {
 }
 
 impl<'a, T, V, P: Rule<T, V>> Model for Permit<'a, T, V, P> {
-    ghost also_owns = { λ h. permit_owns P.row T.row V.row.coded.code P.holds (P.ways h.key) 'a h.cell h.view h.value };
+    ghost also_owns = { λ h. permit_owns P.row T.row V.row.coded.code P.Second.row P.holds (P.ways h.key) 'a h.cell h.view h.value };
 
-    ghost also_shares = { λ h _ κ. permit_shares P.row T.row V.row.coded.code P.holds (P.ways h.key) 'a h.cell h.view h.value κ };
+    ghost also_shares = { λ h _ κ. permit_shares P.row T.row V.row.coded.code P.Second.row P.holds (P.ways h.key) 'a h.cell h.view h.value κ };
 }
 
 /// The right to write, which its party has alone. `into_permit` turns it back, and `leak` keeps what it has.
@@ -79,16 +82,16 @@ pub struct WritePermit<'a, T, V, P: Rule<T, V>> {
 }
 
 impl<'a, T, V, P: Rule<T, V>> Model for WritePermit<'a, T, V, P> {
-    ghost also_owns = { λ h. writer_owns P.row T.row V.row.coded.code P.holds (P.ways h.key) 'a h.cell h.view h.value };
+    ghost also_owns = { λ h. writer_owns P.row T.row V.row.coded.code P.Second.row P.holds (P.ways h.key) 'a h.cell h.view h.value };
 
-    ghost also_shares = { λ h _ κ. writer_shares P.row T.row V.row.coded.code P.holds (P.ways h.key) 'a h.cell h.view h.value κ };
+    ghost also_shares = { λ h _ κ. writer_shares P.row T.row V.row.coded.code P.Second.row P.holds (P.ways h.key) 'a h.cell h.view h.value κ };
 }
 
 impl<T, V, P: Rule<T, V>> Cell<T, V, P> {
     /// A cell to which nobody has come; where a value is read for good it may have one, whose maker has gone. `known`
     /// asks that whoever may share the rule's own type may share the value, where parties read it beside one another.
-    pub fn new(value: T, first: u64, second: u64, key: &P::Key) -> Cell<T, V, P>
-        requires known { Known (P.ways key.now) P.row T.row }
+    pub fn new(value: T, first: u64, second: P::Second, key: &P::Key) -> Cell<T, V, P>
+        requires known { Known (P.ways key.now) P.row P.Second.row T.row }
         requires rule { Opens P.holds (P.ways key.now) first second value }
         ensures key { result ≡ key.now }
     {
@@ -96,8 +99,8 @@ impl<T, V, P: Rule<T, V>> Cell<T, V, P> {
         Cell {
             marker: PhantomData,
             first,
-            second,
             value,
+            second,
         }
     }
 
@@ -106,9 +109,10 @@ impl<T, V, P: Rule<T, V>> Cell<T, V, P> {
         let Self {
             marker: _,
             first: _,
-            second: _,
             value,
+            second,
         } = self;
+        let_go(second);
         value
     }
 
@@ -239,75 +243,6 @@ impl<'a, T, V, P: Rule<T, V>> Permit<'a, T, V, P> {
         )
     }
 
-    /// Clears the bits of the first word that are not in `mask`, and returns the word as it was.
-    pub fn keep_bits<M: Play<V>>(self, mask: u64) -> (u64, Permit<'a, T, V, P>)
-        requires { AllowsAt P.holds (P.ways self.key) self.view self.value (λ n. bit_and n mask) (M.then mask 0 self.view) }
-        ensures moved { Moved (M.then mask 0 self.entry.view result.0) result.1.view }
-        ensures kept { Keeps (P.ways self.entry.key) self.entry.view result.1.view self.entry.value result.1.value }
-        ensures key { result.1.key ≡ self.entry.key }
-    {
-        let Permit { cell, marker: _ } = self;
-        let found = unsafe { raw::fetch_and::<Brand>(&raw const (*cell).first, mask, SeqCst) };
-        (
-            found,
-            Permit {
-                cell,
-                marker: PhantomData,
-            },
-        )
-    }
-
-    /// Reads the second word.
-    pub fn load_second<M: Play<V>>(self) -> (u64, Permit<'a, T, V, P>)
-        requires { AllowsSecondAt P.holds (P.ways self.key) self.view self.value (λ n. n) (M.then 0 0 self.view) }
-        ensures moved { Moved (M.then 0 0 self.entry.view result.0) result.1.view }
-        ensures kept { Keeps (P.ways self.entry.key) self.entry.view result.1.view self.entry.value result.1.value }
-        ensures key { result.1.key ≡ self.entry.key }
-    {
-        let Permit { cell, marker: _ } = self;
-        let found = unsafe { raw::load::<Brand>(&raw const (*cell).second, SeqCst) };
-        (
-            found,
-            Permit {
-                cell,
-                marker: PhantomData,
-            },
-        )
-    }
-
-    /// Writes `new` over the second word where it is `old`, and returns the word as it was.
-    pub fn exchange_second<M: Play<V>>(self, old: u64, new: u64) -> (u64, Permit<'a, T, V, P>)
-        requires { AllowsSecondAt P.holds (P.ways self.key) self.view self.value (λ n. either (n == old) new n) (M.then old new self.view) }
-        ensures moved { Moved (M.then old new self.entry.view result.0) result.1.view }
-        ensures kept { Keeps (P.ways self.entry.key) self.entry.view result.1.view self.entry.value result.1.value }
-        ensures key { result.1.key ≡ self.entry.key }
-    {
-        let Permit { cell, marker: _ } = self;
-        let found = unsafe { exchange::<Brand>(&raw const (*cell).second, old, new) };
-        (
-            found,
-            Permit {
-                cell,
-                marker: PhantomData,
-            },
-        )
-    }
-
-    /// Writes `new` over the second word.
-    pub fn store_second<M: Play<V>>(self, new: u64) -> Permit<'a, T, V, P>
-        requires { AllowsSecondAt P.holds (P.ways self.key) self.view self.value (λ _. new) (λ _. M.then 0 new self.view 0) }
-        ensures moved { Moved (M.then 0 new self.entry.view 0) result.view }
-        ensures kept { Keeps (P.ways self.entry.key) self.entry.view result.view self.entry.value result.value }
-        ensures key { result.key ≡ self.entry.key }
-    {
-        let Permit { cell, marker: _ } = self;
-        unsafe { raw::store::<Brand>(&raw const (*cell).second, new, SeqCst) };
-        Permit {
-            cell,
-            marker: PhantomData,
-        }
-    }
-
     /// The value, for a party that reads it.
     pub fn get(&self) -> &T
         requires { use_of (P.ways self.now.key).1 self.now.view ≡ reads }
@@ -355,6 +290,42 @@ impl<'a, T, V, P: Rule<T, V>> Permit<'a, T, V, P> {
     }
 }
 
+/// Steps on the second word, where there is one.
+impl<'a, T, V, P: Rule<T, V, Second = u64>> Permit<'a, T, V, P> {
+    /// Reads the second word.
+    pub fn load_second<M: Play<V>>(self) -> (u64, Permit<'a, T, V, P>)
+        requires { AllowsSecondAt P.holds (P.ways self.key) self.view self.value (λ n. n) (M.then 0 0 self.view) }
+        ensures moved { Moved (M.then 0 0 self.entry.view result.0) result.1.view }
+        ensures kept { Keeps (P.ways self.entry.key) self.entry.view result.1.view self.entry.value result.1.value }
+        ensures key { result.1.key ≡ self.entry.key }
+    {
+        let Permit { cell, marker: _ } = self;
+        let found = unsafe { raw::load::<Brand>(&raw const (*cell).second, SeqCst) };
+        (
+            found,
+            Permit {
+                cell,
+                marker: PhantomData,
+            },
+        )
+    }
+
+    /// Writes `new` over the second word.
+    pub fn store_second<M: Play<V>>(self, new: u64) -> Permit<'a, T, V, P>
+        requires { AllowsSecondAt P.holds (P.ways self.key) self.view self.value (λ _. new) (λ _. M.then 0 new self.view 0) }
+        ensures moved { Moved (M.then 0 new self.entry.view 0) result.view }
+        ensures kept { Keeps (P.ways self.entry.key) self.entry.view result.view self.entry.value result.value }
+        ensures key { result.key ≡ self.entry.key }
+    {
+        let Permit { cell, marker: _ } = self;
+        unsafe { raw::store::<Brand>(&raw const (*cell).second, new, SeqCst) };
+        Permit {
+            cell,
+            marker: PhantomData,
+        }
+    }
+}
+
 impl<'a, T, V, P: Rule<T, V>> WritePermit<'a, T, V, P> {
     pub fn get(&self) -> &T
         ensures { result.now ≡ self.now.value }
@@ -381,6 +352,11 @@ impl<'a, T, V, P: Rule<T, V>> WritePermit<'a, T, V, P> {
             marker: PhantomData,
         }
     }
+}
+
+// Spends what stands for the second word, of a type that need not be `Drop`: it is a number, or nothing.
+fn let_go<S>(second: S) {
+    let _gone = unsafe { ManuallyDrop::new_unchecked(second) };
 }
 
 impl<T: Drop, V, P: Rule<T, V>> Drop for Cell<T, V, P> {

@@ -27,14 +27,14 @@ limits key (suc zero) r w s = (omega (arith, s.1), λ l. s.0)
 limits key (suc (suc zero)) r w s = (omega (arith, s.1), λ l. absurd (omega (arith, l, s.1)))
 limits key (suc (suc (suc n))) r w s = absurd s
 
-meets : (key n m : ℕ) (vs : List View) → IsOnce n m vs → Meets IsOnce (once_ways key) n m vs
+meets : (key n : ℕ) (m : Unit {0}) (vs : List View) → IsOnce n m vs → Meets IsOnce (once_ways key) n m vs
 meets key n m vs is = (is, limits key n (readers_of f vs) (writers_of f vs) is)
 
-pub not_made : (key : ℕ) → Opens IsOnce (once_ways key) 0 0 (Seed key)
-not_made key = ([], tt, meets key 0 0 [] (refl, refl), refl)
+pub not_made : (key : ℕ) → Opens IsOnce (once_ways key) 0 tt (Seed key)
+not_made key = ([], tt, meets key 0 tt [] (refl, refl), refl)
 
-pub is_made : (key value : ℕ) → value ≡ key + 1 → Opens IsOnce (once_ways key) 2 0 (Done value)
-is_made key value e = (Seeing ∷ [], tt, meets key 2 0 (Seeing ∷ []) (omega arith, refl), e)
+pub is_made : (key value : ℕ) → value ≡ key + 1 → Opens IsOnce (once_ways key) 2 tt (Done value)
+is_made key value e = (Seeing ∷ [], tt, meets key 2 tt (Seeing ∷ []) (omega arith, refl), e)
 
 -- a look: a party that finds 2 comes to see
 pub looks : (key : ℕ) → AllowsAt IsOnce (once_ways key) None None (λ n. n) (Looks 0 0 None)
@@ -57,7 +57,7 @@ begins key id (suc (suc zero)) m vs has at small = let r = read_after id None vs
 begins key id (suc (suc (suc n))) m vs has at small = absurd has.0
 
 -- a party that runs finds 1
-runs : (n id : ℕ) (vs : List View) → At id (Some Running) vs → IsOnce n 0 vs → (readers_of f vs ≡ 0) × (writers_of f vs ≡ 1)
+runs : (n id : ℕ) (vs : List View) → At id (Some Running) vs → IsOnce n tt vs → (readers_of f vs ≡ 0) × (writers_of f vs ≡ 1)
 runs zero id vs at s = absurd (let w = write_after id (Some Running) vs Away at in omega (arith, s))
 runs (suc zero) id vs at s = s
 runs (suc (suc zero)) id vs at s = absurd (let w = write_after id (Some Running) vs Away at in omega (arith, s))

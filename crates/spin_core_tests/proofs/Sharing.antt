@@ -18,7 +18,7 @@ no_writer : (v : View) → writing (use_of_view v) ≡ 0
 no_writer Away = refl
 no_writer Reading = refl
 
-meets : (n m : ℕ) (vs : List View) → IsPair n m vs → Meets IsPair ways n m vs
+meets : (n : ℕ) (m : Unit {0}) (vs : List View) → IsPair n m vs → Meets IsPair ways n m vs
 meets n m vs is = let w = none (λ v. writing (use_of_view v)) no_writer vs in (is, omega (arith, is.0, is.1))
 
 pub reads_on : (others new : ℕ) → others < 2 → new ≡ others + 1 → Allows IsPair ways None (λ n. either (n == others) new n) (Joins others new None)

@@ -28,7 +28,7 @@ Stands (suc zero) r w = (r ≡ 0) × (w ≡ 1)
 Stands (suc (suc zero)) r w = (0 < r) × (w ≡ 0)
 Stands _ r w = ⊥
 
-abbrev pub IsOnce : ℕ → ℕ → List View → Type 0
+abbrev pub IsOnce : ℕ → Unit {0} → List View → Type 0
 IsOnce n m vs = Stands n (readers_of use_of_view vs) (writers_of use_of_view vs)
 
 -- a party that finds the value made sees it

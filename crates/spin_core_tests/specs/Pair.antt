@@ -12,7 +12,7 @@ abbrev pub pair_ways : {X : Type 0} → Ways X View
 pair_ways = (lends, use_of_view)
 
 -- the word counts the readers
-abbrev pub IsPair : ℕ → ℕ → List View → Type 0
+abbrev pub IsPair : ℕ → Unit {0} → List View → Type 0
 IsPair n m vs = (n ≡ readers_of use_of_view vs) × (n ≤ 2)
 
 -- a party reads where it found the number that it expected

@@ -16,6 +16,8 @@ struct AnyWords;
 impl Rule<u64, Bystander> for AnyWords {
     type Key = ();
 
+    type Second = u64;
+
     ghost use Rattle.spin_core_tests.specs.Bystanders.{any_words, no_use};
 
     ghost holds = { any_words };
@@ -56,10 +58,8 @@ fn steps_on_the_first_word(rt: HostRuntime) {
     equal(&rt, found, 7);
     let (found, party) = party.set_bits::<TellNothing>(3);
     equal(&rt, found, 4);
-    let (found, party) = party.keep_bits::<TellNothing>(6);
-    equal(&rt, found, 7);
     let (found, party) = party.load::<TellNothing>();
-    equal(&rt, found, 6);
+    equal(&rt, found, 7);
     let (found, party) = party.load_second::<TellNothing>();
     equal(&rt, found, 2);
     party.leave();
@@ -70,10 +70,6 @@ fn steps_on_the_second_word(rt: HostRuntime) {
     let cell: Words = Cell::new(5, 1, 2, &());
     let (found, party) = cell.enter().load_second::<TellNothing>();
     equal(&rt, found, 2);
-    let (found, party) = party.exchange_second::<TellNothing>(2, 9);
-    equal(&rt, found, 2);
-    let (found, party) = party.exchange_second::<TellNothing>(2, 7);
-    equal(&rt, found, 9);
     let party = party.store_second::<TellNothing>(8);
     let (found, party) = party.load_second::<TellNothing>();
     equal(&rt, found, 8);

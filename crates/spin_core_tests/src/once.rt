@@ -26,6 +26,8 @@ impl Rule<Stage, View> for Stage {
 
     type Key = u64;
 
+    type Second = ();
+
     ghost holds = { IsOnce };
 
     ghost ways = { once_ways };
@@ -74,7 +76,7 @@ impl Next {
         ensures { result.cell ≡ seed }
     {
         Next {
-            cell: Cell::new(Stage::Seed(seed), 0, 0, &seed),
+            cell: Cell::new(Stage::Seed(seed), 0, (), &seed),
         }
     }
 
@@ -84,7 +86,7 @@ impl Next {
         ensures { result.cell ≡ seed }
     {
         Next {
-            cell: Cell::new(Stage::Done(seed + 1), 2, 0, &seed),
+            cell: Cell::new(Stage::Done(seed + 1), 2, (), &seed),
         }
     }
 

@@ -18,6 +18,8 @@ impl Rule<u64, View> for u64 {
 
     type Key = ();
 
+    type Second = ();
+
     ghost holds = { IsPair };
 
     ghost ways = { λ _. pair_ways };
@@ -44,7 +46,7 @@ type Pair = Cell<u64, View, u64>;
 type Reader<'a> = Permit<'a, u64, View, u64>;
 
 fn pair(value: u64) -> Pair {
-    Cell::new(value, 0, 0, &())
+    Cell::new(value, 0, (), &())
 }
 
 // Comes to read beside `others`, where so many read.

@@ -40,7 +40,7 @@ facts Served = ((refl, λ p. refl), λ p. refl, refl, omega arith)
 pub fits : (vs : List View) (s : Plain) → s.cap ≡ most_starvers → IsInOrder s → IsLockOf part vs s → Limits {X = Unit {0}} alone (readers_of use_of_view vs) (writers_of use_of_view vs)
 fits vs s room order is = omega (arith, one_holder part (λ v. (facts v).0) most_starvers vs s room order is, none (λ v. reading (use_of_view v)) (λ v. (facts v).2) vs, sum_by-le-sum_by (λ v. writer (use_of_view v)) (λ v. writer (used_by part v)) vs (λ v. (facts v).3))
 
-abbrev pub fair : Lock View
+abbrev pub fair : Lock View (Unit {0})
 fair = record {
   part = part;
   uses = use_of_view;
@@ -63,30 +63,30 @@ of_each : (view : Option View) (P : Plain → ℕ → Type 0) → Each view P �
 of_each view P each s p vs room order is has small = each s p room order (one_holds part (λ v. (facts v).1) vs s order is) has small
 
 -- the rule of the words, and that starvers come first
-with_order : (view : Option View) (f : ℕ → ℕ) (says : ℕ → View → Type 0) → ((n m : ℕ) (vs : List View) (w : View) → Holds fair n m vs → says n w → Fits view w vs)
+with_order : (view : Option View) (f : ℕ → ℕ) (says : ℕ → View → Type 0) → ((n : ℕ) (m : Unit {0}) (vs : List View) (w : View) → Holds fair n m vs → says n w → Fits view w vs)
     → Allows (Holds fair) (ways fair) view f says → Allows IsFair (ways fair) view f says
 with_order view f says fits step id n m vs meets at small =
     let made = step id n m vs (meets.0.0, meets.1) at small in
     (made.0, ((made.1.0, first_after id view vs made.0 at (fits n m vs made.0 meets.0.0 made.2) meets.0.1), made.1.1), made.2)
 
 allows : (view : Option View) (f : ℕ → ℕ) (says : ℕ → View → Type 0) → ((n : ℕ) (vs : List View) (w : View) → says n w → Fits view w vs)
-    → Each view (λ s p. (w : View) × Comes fair view w s p (f (fair_word s)) 0 × says (fair_word s) w) → Allows IsFair (ways fair) view f says
+    → Each view (λ s p. (w : View) × Comes fair view w s p (f (fair_word s)) tt × says (fair_word s) w) → Allows IsFair (ways fair) view f says
 allows view f says fits makes = with_order view f says (λ n m vs w holds. fits n vs w)
-    (allows_among fair view f says (of_each view (λ s p. (w : View) × Comes fair view w s p (f (fair_word s)) 0 × says (fair_word s) w) makes))
+    (allows_among fair view f says (of_each view (λ s p. (w : View) × Comes fair view w s p (f (fair_word s)) tt × says (fair_word s) w) makes))
 
 -- what a party gets by an exchange where it finds the word of which the step function was asked
-gets_at : (view : Option View) (ask : Ask) (won lost : View) (old new : ℕ) → ((n m : ℕ) (vs : List View) → Holds fair n m vs → (n ≡ old → Fits view won vs) × Fits view lost vs) → ((s : Plain) (p : ℕ) → entries_after s (Some (gets p ask)) (entries_of p (part_before part view)) ≡ entries_of p (part won)) → ((s : Plain) → Knows s (part won))
+gets_at : (view : Option View) (ask : Ask) (won lost : View) (old new : ℕ) → ((n : ℕ) (m : Unit {0}) (vs : List View) → Holds fair n m vs → (n ≡ old → Fits view won vs) × Fits view lost vs) → ((s : Plain) (p : ℕ) → entries_after s (Some (gets p ask)) (entries_of p (part_before part view)) ≡ entries_of p (part won)) → ((s : Plain) → Knows s (part won))
     → ((s : Plain) (p : ℕ) → (entries_of p (part_before part view) ≡ entries_of p (part lost)) × Knows s (part lost)) → Each view (λ s p. fair_word s ≡ old → Decides s (gets p ask) fair_word (Some new))
     → Allows IsFair (ways fair) view (λ n. either (n == old) new n) (exchanges (λ _. won) lost old new view)
 gets_at view ask won lost old new fits comes knows still plain = with_order view (λ n. either (n == old) new n) (exchanges (λ _. won) lost old new view)
     (λ n m vs w holds is. let each = fits n m vs holds in dite (ℕ_discrete n old)
     (λ e. subst (λ v. Fits view v vs) (sym (is ∙ ap (λ b. if b then won else lost) (eq-eqb n old e))) (each.0 e))
     (λ ne. subst (λ v. Fits view v vs) (sym (is ∙ ap (λ b. if b then won else lost) (ne_eqb n old ne))) each.1))
-    (exchanged fair view (λ _. won) lost old new still (of_each view (λ s p. fair_word s ≡ old → Comes fair view won s p new 0)
-    (λ s p room order one has small e. by_grant fair view won s p ask new 0 (plain s p room order one has small e) (comes s p) (knows (apply s (gets p ask))) refl)))
+    (exchanged fair view (λ _. won) lost old new still (of_each view (λ s p. fair_word s ≡ old → Comes fair view won s p new tt)
+    (λ s p room order one has small e. by_grant fair view won s p ask new tt (plain s p room order one has small e) (comes s p) (knows (apply s (gets p ask))) refl)))
 
-pub starts : Meets IsFair (ways fair) 0 0 []
-starts = let m = begins fair 0 0 0 0 (omega arith) refl refl in ((m.0, tt), omega arith)
+pub starts : Meets IsFair (ways fair) 0 tt []
+starts = let m = begins fair 0 0 0 tt (omega arith) refl refl in ((m.0, tt), omega arith)
 
 -- What a newcomer does
 
@@ -127,7 +127,7 @@ sets_flag = allows (Some Starving) (λ n. bit_or n 1) (becomes_by won_if_clear 1
     dite (ℕ_discrete (n % 2) 0)
     (λ even. let empty = is_empty-none s.holders (omega (arith, even, one)) in (
       HoldingStarving,
-      by_step fair (Some Starving) HoldingStarving s (gets p to_lock_starving) (bit_or n 1) 0 (rw (starves_in s p has, empty) refl) refl tt (omega (arith, set_clear n even, length-append s.holders (holder p writing ∷ []))) refl,
+      by_step fair (Some Starving) HoldingStarving s (gets p to_lock_starving) (bit_or n 1) tt (rw (starves_in s p has, empty) refl) refl tt (omega (arith, set_clear n even, length-append s.holders (holder p writing ∷ []))) refl,
       sym (ap (λ b. if b then HoldingStarving else Starving) (eq-eqb (n % 2) 0 even)),
     ))
     (λ odd. (
@@ -143,7 +143,7 @@ pub stops : Allows IsFair (ways fair) (Some Starving) (λ n. (n + (2 ^ 64 - 2)) 
 stops = allows (Some Starving) (λ n. (n + (2 ^ 64 - 2)) % 2 ^ 64) (Stops 2 0 (Some Starving)) (λ n vs w is. rw is (omega arith, omega arith)) (λ s p room order one has small.
     let found = starves_in s p has in let fewer = length-without_starver p s.starvers found in (
       Idle,
-      by_step fair (Some Starving) Idle s (stops_starving p) ((fair_word s + (2 ^ 64 - 2)) % 2 ^ 64) 0 found (stop-own s p) tt (less (fair_word s) 2 (omega arith) (omega (arith, fewer)) small ∙ omega (arith, fewer)) refl,
+      by_step fair (Some Starving) Idle s (stops_starving p) ((fair_word s + (2 ^ 64 - 2)) % 2 ^ 64) tt found (stop-own s p) tt (less (fair_word s) 2 (omega arith) (omega (arith, fewer)) small ∙ omega (arith, fewer)) refl,
       refl,
     ))
 
@@ -151,7 +151,7 @@ pub holds_only : Allows IsFair (ways fair) (Some HoldingStarving) (λ n. (n + (2
 holds_only = allows (Some HoldingStarving) (λ n. (n + (2 ^ 64 - 2)) % 2 ^ 64) (Stops 2 0 (Some HoldingStarving)) (λ n vs w is. rw is (omega arith, omega arith)) (λ s p room order one has small.
     let found = is_starver-from_entries p s.starvers (ap (λ e. e.starvers) has.0) in let fewer = length-without_starver p s.starvers found in (
       Served,
-      by_step fair (Some HoldingStarving) Served s (stops_starving p) ((fair_word s + (2 ^ 64 - 2)) % 2 ^ 64) 0 found (stop_holding-own s p) tt (less (fair_word s) 2 (omega arith) (omega (arith, fewer)) small ∙ omega (arith, fewer)) refl,
+      by_step fair (Some HoldingStarving) Served s (stops_starving p) ((fair_word s + (2 ^ 64 - 2)) % 2 ^ 64) tt found (stop_holding-own s p) tt (less (fair_word s) 2 (omega arith) (omega (arith, fewer)) small ∙ omega (arith, fewer)) refl,
       refl,
     ))
 
@@ -163,7 +163,7 @@ lets_go v writer = allows (Some v) (λ n. (n + (2 ^ 64 - 1)) % 2 ^ 64) (becomes 
     let own : entries p s ≡ entries_of p (holds writing) = has.0 ∙ ap (entries_of p) writer in
     let found = is_holder-from_entries p writing s.holders (ap (λ e. e.holders) own) in let fewer = length-without_holder p writing s.holders found in (
       Idle,
-      by_step fair (Some v) Idle s (releases p writing) ((fair_word s + (2 ^ 64 - 1)) % 2 ^ 64) 0 found (ap (λ x. entries_after s (Some (releases p writing)) (entries_of p x)) writer ∙ release-own s p writing) tt
+      by_step fair (Some v) Idle s (releases p writing) ((fair_word s + (2 ^ 64 - 1)) % 2 ^ 64) tt found (ap (λ x. entries_after s (Some (releases p writing)) (entries_of p x)) writer ∙ release-own s p writing) tt
           (less (fair_word s) 1 (omega arith) (omega (arith, fewer)) small ∙ omega (arith, fewer)) refl,
       refl,
     ))

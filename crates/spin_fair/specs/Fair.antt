@@ -35,7 +35,7 @@ abbrev pub StarversFirst : List View → Type 0
 StarversFirst [] = Unit {0}
 StarversFirst (v ∷ vs) = (0 < starver v → sum_by newcomer vs ≡ 0) × StarversFirst vs
 
-abbrev pub IsFair : ℕ → ℕ → List View → Type 0
+abbrev pub IsFair : ℕ → Unit {0} → List View → Type 0
 IsFair word second vs = Encodes part most_starvers fair_word no_word word second vs × StarversFirst vs
 
 -- what a starver is once it has tried to set the flag of this word

@@ -50,7 +50,7 @@ impl<T, R> FairMutex<T, R> {
     ///
     /// Example: `a_starver_comes_before_newcomers`, `crates/spin_mutex_tests/src/fair.rt`.
     pub fn new(value: T) -> Self {
-        let cell = Cell::new(value, 0, 0, &());
+        let cell = Cell::new(value, 0, (), &());
         FairMutex {
             cell,
             strategy: Strategy::named(),

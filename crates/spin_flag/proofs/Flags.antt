@@ -20,7 +20,7 @@ pub kind : (v : View) → OfHolders part v
 kind Idle = (refl, λ p. refl)
 kind Holding = (refl, λ p. refl)
 
-abbrev pub flag : Lock View
+abbrev pub flag : Lock View (Unit {0})
 flag = record {
   part = part;
   uses = use_of_view;
@@ -36,21 +36,21 @@ flag = record {
   second_names_nobody = no_word-up;
 }
 
-pub starts : Meets IsFlag (ways flag) 0 0 []
-starts = begins flag 0 0 0 0 (omega arith) refl refl
+pub starts : Meets IsFlag (ways flag) 0 tt []
+starts = begins flag 0 0 0 tt (omega arith) refl refl
 
 -- the step function's own lemma says that the flag is free where it grants
 pub attempts : (free taken : ℕ) → ((s : Plain) (p : ℕ) → flag_word s ≡ free → Decides s (gets p to_write) flag_word (Some taken))
     → Allows IsFlag (ways flag) None (λ n. either (n == free) taken n) (exchanges (λ _. Holding) Idle free taken None)
 attempts free taken plain =
-    exchanged flag None (λ _. Holding) Idle free taken (λ s p. (refl, tt)) (λ s p vs room order is has small e. by_grant flag None Holding s p to_write taken 0 (plain s p e) refl tt refl)
+    exchanged flag None (λ _. Holding) Idle free taken (λ s p. (refl, tt)) (λ s p vs room order is has small e. by_grant flag None Holding s p to_write taken tt (plain s p e) refl tt refl)
 
 pub releases_flag : (freed : ℕ) → ((s : Plain) (p : ℕ) (k : Kind) → flag_word s ≡ 1 → Gives s (releases p k) flag_word freed)
     → Allows IsFlag (ways flag) (Some Holding) (λ _. freed) (λ _. becomes Idle 0 freed (Some Holding) 0)
 releases_flag freed plain =
     allows flag (Some Holding) (λ _. freed) (λ _. becomes Idle 0 freed (Some Holding) 0) (λ s p room order has.
     let holds = is_holder-from_entries p writing s.holders (ap (λ e. e.holders) has.0) in
-    (Idle, by_step flag (Some Holding) Idle s (releases p writing) freed 0 holds (release-own s p writing) tt (plain s p writing (writes_alone s p order.exclusive holds) holds) refl, refl))
+    (Idle, by_step flag (Some Holding) Idle s (releases p writing) freed tt holds (release-own s p writing) tt (plain s p writing (writes_alone s p order.exclusive holds) holds) refl, refl))
 
 pub holding_of : (v : View) → use_of_view v ≡ writes → v ≡ Holding
 holding_of Idle e = absurd cc

@@ -10,7 +10,7 @@ abbrev pub part : View → Part
 part Idle = idle
 part Holding = holds writing
 
-abbrev pub IsFlag : ℕ → ℕ → List View → Type 0
+abbrev pub IsFlag : ℕ → Unit {0} → List View → Type 0
 IsFlag = Encodes part 0 flag_word no_word
 
 abbrev pub use_of_view : View → Use

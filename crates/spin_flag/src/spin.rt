@@ -40,7 +40,7 @@ impl<T, R> SpinMutex<T, R> {
     /// Example: `a_lock_is_taken_once`, `crates/spin_mutex_tests/src/calls.rt`.
     pub fn new(value: T) -> Self {
         SpinMutex {
-            cell: Cell::new(value, word(false), 0, &()),
+            cell: Cell::new(value, word(false), (), &()),
             strategy: Strategy::named(),
         }
     }

@@ -24,13 +24,13 @@ use Rattle.spin_guard.specs.declared.guard.Release as Release
 use Rattle.spin_guard.specs.declared.guard.Uses as Uses
 use Rattle.spin_guard.specs.contracts.guard.Release.release as trait
 
-module _ (Y V K T : RattleType) (rule : Rule.Ghosts Y.Denot T.Denot V.Denot K.Denot) where
+module _ (Y V K S T : RattleType) (rule : Rule.Ghosts Y.Denot T.Denot V.Denot K.Denot S.Denot) where
   -- the block's own signature
   abbrev pub own : Signature
   own = record {
     lifetimes = 2;
     outlives = record { long = 1; long_ok = tt; short = named 0; short_ok = tt } ∷ [];
-    params = plain (λ κs. Permit.the_row (named_lft 2 0 tt κs) (param 0 T) V Y K rule) ∷ [];
+    params = plain (λ κs. Permit.the_row (named_lft 2 0 tt κs) (param 0 T) V Y K (param 4 S) rule) ∷ [];
     result = plain (λ κs. unit);
   }
 
@@ -38,14 +38,14 @@ module _ (Y V K T : RattleType) (rule : Rule.Ghosts Y.Denot T.Denot V.Denot K.De
     abbrev pub says : Spec 𝓤 own
     says κs a = record { ghost = Unit {0}; requires = λ g. sep 𝓤 (fact 𝓤 (lft_at 2 1 tt κs ⊑ T.lives)) (emp 𝓤); ensures = λ g r. exits 𝓛 own (no, tt) κs a (λ end. emp 𝓤) }
 
-    module _ (𝓜 : Model 𝓤 𝓛.H) (𝓡 : Running 𝓤 𝓛.H 𝓜) (r : Routine) (release : Release.Ghosts Y.Denot T.Denot V.Denot K.Denot) (uses : Uses.Ghosts Y.Denot V.Denot) (release_dict rule_dict uses_dict : Dict) where
+    module _ (𝓜 : Model 𝓤 𝓛.H) (𝓡 : Running 𝓤 𝓛.H 𝓜) (r : Routine) (release : Release.Ghosts Y.Denot T.Denot V.Denot K.Denot S.Denot) (uses : Uses.Ghosts Y.Denot V.Denot) (release_dict rule_dict uses_dict : Dict) where
       pub released : Meets 𝓛 own (𝓡.run r) says
-          → Meets 𝓛 (trait.signature Y T V K release release_dict rule rule_dict uses uses_dict) (𝓡.run r) (trait.spec Y T V K release release_dict rule rule_dict uses uses_dict 𝓛 𝓜.mem 𝓡.returns)
+          → Meets 𝓛 (trait.signature Y T V K S release release_dict rule rule_dict uses uses_dict) (𝓡.run r) (trait.spec Y T V K S release release_dict rule rule_dict uses uses_dict 𝓛 𝓜.mem 𝓡.returns)
       released =
-          let S = trait.signature Y T V K release release_dict rule rule_dict uses uses_dict in let c = trait.spec Y T V K release release_dict rule rule_dict uses uses_dict 𝓛 𝓜.mem 𝓡.returns in
-          implements 𝓛 own 5 S.outlives (λ τs. (τs.0, (τs.1.1.0, tt))) (𝓡.run r) (run_framed 𝓤 𝓛.H 𝓜 𝓡 r) says
+          let Sg = trait.signature Y T V K S release release_dict rule rule_dict uses uses_dict in let c = trait.spec Y T V K S release release_dict rule rule_dict uses uses_dict 𝓛 𝓜.mem 𝓡.returns in
+          implements 𝓛 own 6 Sg.outlives (λ τs. (τs.0, (τs.1.1.0, tt))) (𝓡.run r) (run_framed 𝓤 𝓛.H 𝓜 𝓡 r) says
           (λ τs a. record { ghost = (c τs a).ghost; requires = (c τs a).requires; ensures = (c τs a).ensures })
-          4 (λ τs. τs.1) (λ τs. (Y.lives, (T.lives, (V.lives, (K.lives, tt))))) ((0, tt), ((2, tt), tt))
+          5 (λ τs. τs.1) (λ τs. (Y.lives, (T.lives, (V.lives, (K.lives, (S.lives, tt)))))) ((0, tt), ((2, tt), tt))
           (λ τs a g. emp 𝓤) (λ τs a g. id⊢ 𝓤 ((c τs a).requires g))
           (λ τs h. ((⊑_refl τs.0, (⊑_refl τs.1.1.0, tt)), (h.0.0, tt)))
           (λ τs a g. g) (λ τs h a g. insides_in 𝓤 1 (τs.1.1.0, tt) (T.lives, tt) (emp 𝓤) (h.1.1.0, tt))

@@ -40,7 +40,7 @@ Numbers (suc zero) r w = (r ≡ 0) × (w ≡ 1)
 Numbers (suc (suc zero)) r w = (0 < r) × (w ≡ 0)
 Numbers _ r w = ⊥
 
-numbers : (n m : ℕ) (vs : List View) → IsOnce n m vs → Numbers n (seeing vs) (runs vs)
+numbers : (n : ℕ) (m : Unit {0}) (vs : List View) → IsOnce n m vs → Numbers n (seeing vs) (runs vs)
 numbers n m vs is = subst (λ k. Numbers k (seeing vs) (runs vs)) (sym is.2) (of_phase is.0 is.1)
   where
     of_phase : (s : Phase) → IsPhaseOf vs s → Numbers (once_word (in_phase s)) (seeing vs) (runs vs)
@@ -48,7 +48,7 @@ numbers n m vs is = subst (λ k. Numbers k (seeing vs) (runs vs)) (sym is.2) (of
     of_phase (running p) has = (has.0, has.1)
     of_phase complete has = has
 
-is_once : (n m : ℕ) (vs : List View) → Numbers n (seeing vs) (runs vs) → m ≡ 0 → IsOnce n m vs
+is_once : (n : ℕ) (m : Unit {0}) (vs : List View) → Numbers n (seeing vs) (runs vs) → m ≡ tt → IsOnce n m vs
 is_once zero m vs has e = (nothing, has, refl, e)
 is_once (suc zero) m vs has e = let at = stands_somewhere vs (omega (arith, has)) in (running at.0, (has.0, has.1, at.1), refl, e)
 is_once (suc (suc zero)) m vs has e = (complete, has, refl, e)
@@ -64,15 +64,15 @@ module _ {T S : Type 0} (makes : S → T → Type 0) (key : Snapshot S) where
   limits (suc (suc zero)) r w has = (omega (arith, has), λ l. absurd (omega (arith, l, has)))
   limits (suc (suc (suc n))) r w has = absurd has
 
-  meets : (n m : ℕ) (vs : List View) → Numbers n (seeing vs) (runs vs) → m ≡ 0 → Meets IsOnce (once_ways makes key) n m vs
+  meets : (n : ℕ) (m : Unit {0}) (vs : List View) → Numbers n (seeing vs) (runs vs) → m ≡ tt → Meets IsOnce (once_ways makes key) n m vs
   meets n m vs has e = (is_once n m vs has e, limits n (seeing vs) (runs vs) has)
 
   -- ---- a new cell
-  pub starts_seeded : (seed : S) → seed ≡ key.value → Opens IsOnce (once_ways makes key) 0 0 (loose (Seed seed))
-  starts_seeded seed e = ([], tt, meets 0 0 [] (refl, refl) refl, e)
+  pub starts_seeded : (seed : S) → seed ≡ key.value → Opens IsOnce (once_ways makes key) 0 tt (loose (Seed seed))
+  starts_seeded seed e = ([], tt, meets 0 tt [] (refl, refl) refl, e)
 
-  pub starts_made : (value : T) → makes key.value value → Opens IsOnce (once_ways makes key) 2 0 (loose (Done value))
-  starts_made value made = (Seeing ∷ [], tt, meets 2 0 (Seeing ∷ []) (omega arith, refl) refl, made)
+  pub starts_made : (value : T) → makes key.value value → Opens IsOnce (once_ways makes key) 2 tt (loose (Done value))
+  starts_made value made = (Seeing ∷ [], tt, meets 2 tt (Seeing ∷ []) (omega arith, refl) refl, made)
 
   -- ---- the owner of a value that was made
   fixed : (r w : ℕ) → 0 < r → (x : Stage T S) → Fixed (once_ways makes key).0 r w (loose x) ≡ IsMadeFrom makes key true x
@@ -95,7 +95,7 @@ module _ {T S : Type 0} (makes : S → T → Type 0) (key : Snapshot S) where
       (was_made x (subst (λ A. A) (same x) lies.2), λ y done. (vs, lies.1, subst (λ A. A) (sym (same y)) (made_of_any any y done)))
 
   -- ---- a newcomer that looks, and one that tries to begin
-  looks_at : (id n m : ℕ) (vs : List View) → Numbers n (seeing vs) (runs vs) → m ≡ 0 → Meets IsOnce (once_ways makes key) n m (vs ++ looked n ∷ [])
+  looks_at : (id n : ℕ) (m : Unit {0}) (vs : List View) → Numbers n (seeing vs) (runs vs) → m ≡ tt → Meets IsOnce (once_ways makes key) n m (vs ++ looked n ∷ [])
   looks_at id n m vs has e = let see = see_after id None vs (looked n) tt in let run = run_after id None vs (looked n) tt in meets n m (vs ++ looked n ∷ []) (kept n has see run) e
     where
       kept : (n : ℕ) → Numbers n (seeing vs) (runs vs) → seeing (vs ++ looked n ∷ []) + 0 ≡ seeing vs + reading (use_of_view (looked n)) → runs (vs ++ looked n ∷ []) + 0 ≡ runs vs + writing (use_of_view (looked n))

@@ -34,7 +34,7 @@ IsPhaseOf vs complete = (0 < seeing vs) × (runs vs ≡ 0)
 abbrev pub in_phase : Phase → Plain
 in_phase s = record (fresh 0 0 0) { phase = s }
 
-abbrev pub IsOnce : ℕ → ℕ → List View → Type 0
+abbrev pub IsOnce : ℕ → Unit {0} → List View → Type 0
 IsOnce n m vs = (s : Phase) × IsPhaseOf vs s × (n ≡ once_word (in_phase s)) × (m ≡ no_word (in_phase s))
 
 -- it was made

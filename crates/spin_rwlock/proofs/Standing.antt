@@ -26,8 +26,8 @@ abbrev one_if : Bool → ℕ
 one_if b = cond b 1 0
 
 -- as many holders of a kind stand as there are parties of it
-as_many : (k : Kind) (is : View → Bool) → ((p : ℕ) (v : View) → one_if (is v) ≡ count_kind k (entries_of p (part v)).holders) → (word second : ℕ) (vs : List View) (rule : IsRw word second vs) → count_by is vs ≡ count_kind k rule.0.holders
-as_many k is same word second vs rule =
+as_many : (k : Kind) (is : View → Bool) → ((p : ℕ) (v : View) → one_if (is v) ≡ count_kind k (entries_of p (part v)).holders) → (word : ℕ) (vs : List View) (rule : IsRw word tt vs) → count_by is vs ≡ count_kind k rule.0.holders
+as_many k is same word vs rule =
     exactly (λ h. h.party) (λ h. one_if (same_kind k h.kind)) part (λ v. one_if (is v)) (λ p x. count_kind k (entries_of p x).holders) same vs rule.0.holders
     (λ p. ap (λ e. count_kind k e.holders) (rule.3 p).0) (λ p far. ap (λ e. e.holders) (rule.3 p).0 ∙ ap (λ x. (entries_of p x).holders) (part-beyond part p vs far))
 
@@ -49,20 +49,20 @@ writes p Reading = refl
 writes p Upgradable = refl
 writes p Writing = refl
 
-pub counts_parties : (word second : ℕ) (vs : List View) → IsRw word second vs → word ≡ (4 * readers vs + 2 * upgradables vs) + writers vs
-counts_parties word second vs rule = omega (arith, rule.4, as_many reading is_reading reads word second vs rule, as_many upgradable is_upgradable may_upgrade word second vs rule, as_many writing is_writing writes word second vs rule)
+pub counts_parties : (word : ℕ) (vs : List View) → IsRw word tt vs → word ≡ (4 * readers vs + 2 * upgradables vs) + writers vs
+counts_parties word vs rule = omega (arith, rule.4, as_many reading is_reading reads word vs rule, as_many upgradable is_upgradable may_upgrade word vs rule, as_many writing is_writing writes word vs rule)
 
-pub readers_or_one_writer : (word second : ℕ) (vs : List View) → IsRw word second vs → ReadersOrWriter vs
-readers_or_one_writer word second vs rule = let s = rule.0 in
-    let r = as_many reading is_reading reads word second vs rule in let u = as_many upgradable is_upgradable may_upgrade word second vs rule in let w = as_many writing is_writing writes word second vs rule in
+pub readers_or_one_writer : (word : ℕ) (vs : List View) → IsRw word tt vs → ReadersOrWriter vs
+readers_or_one_writer word vs rule = let s = rule.0 in
+    let r = as_many reading is_reading reads word vs rule in let u = as_many upgradable is_upgradable may_upgrade word vs rule in let w = as_many writing is_writing writes word vs rule in
     record {
       one_upgradable = omega (arith, u, rule.2.exclusive.one_upgradable);
       writer_alone = λ some. omega (arith, r, u, w, kinds-all s.holders, rule.2.exclusive.writer (omega (arith, w, some)));
       within_limit = omega (arith, r, u, w, kinds-all s.holders, fits_cap s rule.1 rule.2);
     }
 
-pub zero_when_free : (word second : ℕ) (vs : List View) → IsRw word second vs → (word ≡ 0 → holders vs ≡ 0) × (holders vs ≡ 0 → word ≡ 0)
-zero_when_free word second vs rule = let e = counts_parties word second vs rule in ((λ z. omega (arith, e, z)), (λ z. omega (arith, e, z)))
+pub zero_when_free : (word : ℕ) (vs : List View) → IsRw word tt vs → (word ≡ 0 → holders vs ≡ 0) × (holders vs ≡ 0 → word ≡ 0)
+zero_when_free word vs rule = let e = counts_parties word vs rule in ((λ z. omega (arith, e, z)), (λ z. omega (arith, e, z)))
 
 -- Over the plain lock
 

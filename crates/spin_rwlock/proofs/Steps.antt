@@ -29,7 +29,7 @@ kind Writing = (λ p. refl, λ p. refl)
 pub rw_word-up : NamesNobody rw_word
 rw_word-up k s = omega (arith, count-up k reading s.holders, count-up k upgradable s.holders, count-up k writing s.holders)
 
-abbrev pub rw-lock : Lock View
+abbrev pub rw-lock : Lock View (Unit {0})
 rw-lock = record {
   part = part;
   uses = use_of_view;
@@ -45,8 +45,8 @@ rw-lock = record {
   second_names_nobody = no_word-up;
 }
 
-pub starts : Meets IsRw (ways rw-lock) 0 0 []
-starts = begins rw-lock 0 0 0 0 (omega arith) refl refl
+pub starts : Meets IsRw (ways rw-lock) 0 tt []
+starts = begins rw-lock 0 0 0 tt (omega arith) refl refl
 
 pub looks_on : Allows IsRw (ways rw-lock) None (λ n. n) (looks 0 0 None)
 looks_on = allows rw-lock None (λ n. n) (looks 0 0 None) (λ s p room order has. (Idle, by_none rw-lock None Idle s p refl tt, (refl, (s, room, order, refl))))
@@ -57,7 +57,7 @@ gets_at : (view : Option View) (ask : Ask) (won lost : View) (old new : ℕ) →
     → ((s : Plain) (p : ℕ) → s.cap ≡ reader_limit → IsInOrder s → HasPart s p (part_before part view) → rw_word s ≡ old → Decides s (gets p ask) rw_word (Some new))
     → Allows IsRw (ways rw-lock) view (λ n. either (n == old) new n) (exchanges (λ _. won) lost old new view)
 gets_at view ask won lost old new comes knows same knows_still plain = exchanged rw-lock view (λ _. won) lost old new (λ s p. (same p, knows_still s))
-    (λ s p vs room order is has small e. by_grant rw-lock view won s p ask new 0 (plain s p room order has e) (comes s p) (knows (apply s (gets p ask))) refl)
+    (λ s p vs room order is has small e. by_grant rw-lock view won s p ask new tt (plain s p room order has e) (comes s p) (knows (apply s (gets p ask))) refl)
 
 pub fits_cap : (s : Plain) → s.cap ≡ reader_limit → IsInOrder s → length s.holders ≤ reader_limit
 fits_cap s room order = omega (arith, order.holders_fit, room)
@@ -95,7 +95,7 @@ turns_by v w k l by was now knows down less = allows rw-lock (Some v) (λ n. (n 
     let stands = is_holder-from_entries p k s.holders (ap (λ e. e.holders) (has.0 ∙ was p)) in
     let small = bounded (with_kind p k l s.holders) (omega (arith, length-with_kind p k l s.holders, fits_cap s room order)) in (
       w,
-      by_step rw-lock (Some v) w s (turns p k l) ((rw_word s + by) % 2 ^ 64) 0 (rw (stands, down) refl) (ap (entries_after s (Some (turns p k l))) (was p) ∙ (turn-own s p k l ∙ sym (now p))) (knows (apply s (turns p k l)))
+      by_step rw-lock (Some v) w s (turns p k l) ((rw_word s + by) % 2 ^ 64) tt (rw (stands, down) refl) (ap (entries_after s (Some (turns p k l))) (was p) ∙ (turn-own s p k l ∙ sym (now p))) (knows (apply s (turns p k l)))
           (omega (arith, word-turned k l p s.holders stands, less, small)) refl,
       refl,
     ))
@@ -114,7 +114,7 @@ goes v k by was less = allows rw-lock (Some v) (λ n. (n + (2 ^ 64 - by)) % 2 ^ 
     let stands = is_holder-from_entries p k s.holders (ap (λ e. e.holders) (has.0 ∙ was p)) in
     let small = bounded s.holders (fits_cap s room order) in (
       Idle,
-      by_step rw-lock (Some v) Idle s (releases p k) ((rw_word s + (2 ^ 64 - by)) % 2 ^ 64) 0 stands (ap (entries_after s (Some (releases p k))) (was p) ∙ release-own s p k) tt
+      by_step rw-lock (Some v) Idle s (releases p k) ((rw_word s + (2 ^ 64 - by)) % 2 ^ 64) tt stands (ap (entries_after s (Some (releases p k))) (was p) ∙ release-own s p k) tt
           (omega (arith, word-less k p s.holders stands, less, small)) refl,
       refl,
     ))

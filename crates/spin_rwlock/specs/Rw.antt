@@ -14,7 +14,7 @@ part Reading = holds reading
 part Upgradable = holds upgradable
 part Writing = holds writing
 
-abbrev pub IsRw : ℕ → ℕ → List View → Type 0
+abbrev pub IsRw : ℕ → Unit {0} → List View → Type 0
 IsRw = Encodes part reader_limit rw_word no_word
 
 -- the word of some read-write lock
@@ -32,5 +32,5 @@ abbrev pub rw_ways : {X : Type 0} → Ways X View
 rw_ways = (lends, use_of_view)
 
 -- a party with this view, which is shown a value
-abbrev pub IsLent : {T P K : Type 0} → Permit T View P K → View → Type 0
+abbrev pub IsLent : {T P K S : Type 0} → Permit T View P K S → View → Type 0
 IsLent it v = (it.view ≡ Some v) × (it.value ≢ None)

@@ -9,17 +9,17 @@ ghost use Rattle.spin_rwlock.specs.Standing.{readers, upgradables, writers, hold
 /// Where the rule of a `RwLock` holds, its word is 4 for each party that reads, 2 for the upgradable reader and 1 for the
 /// writer.
 pub fn the_word_of_a_rwlock_counts_its_parties()
-    ensures { (word second : ℕ) (vs : List View) → IsRw word second vs → word ≡ (4 * readers vs + 2 * upgradables vs) + writers vs }
+    ensures { (word : ℕ) (vs : List View) → IsRw word tt vs → word ≡ (4 * readers vs + 2 * upgradables vs) + writers vs }
 {}
 
 /// There readers stand beside at most one upgradable reader, and a writer alone.
 pub fn the_parties_of_a_rwlock_read_or_one_writes()
-    ensures { (word second : ℕ) (vs : List View) → IsRw word second vs → ReadersOrWriter vs }
+    ensures { (word : ℕ) (vs : List View) → IsRw word tt vs → ReadersOrWriter vs }
 {}
 
 /// There the word is zero exactly when nobody holds.
 pub fn the_word_of_a_rwlock_is_zero_when_nobody_holds()
-    ensures { (word second : ℕ) (vs : List View) → IsRw word second vs → (word ≡ 0 → holders vs ≡ 0) × (holders vs ≡ 0 → word ≡ 0) }
+    ensures { (word : ℕ) (vs : List View) → IsRw word tt vs → (word ≡ 0 → holders vs ≡ 0) × (holders vs ≡ 0 → word ≡ 0) }
 {}
 
 /// A downgrade is one step. No other party may write before it, nor after it, and nothing is in between.

@@ -44,7 +44,7 @@ impl<T, R> RwLock<T, R> {
     /// Example: `a_writer_goes_on_as_a_reader`, `crates/spin_rwlock_tests/src/calls.rt`.
     pub fn new(value: T) -> Self {
         RwLock {
-            cell: Cell::new(value, 0, 0, &()),
+            cell: Cell::new(value, 0, (), &()),
             strategy: PhantomData,
         }
     }

@@ -57,7 +57,7 @@ all_read vs s is =
 fits : (n : ℕ) (vs : List View) (s : Plain) → s.cap ≡ seats n → IsInOrder s → IsLockOf part vs s → Limits {X = Unit {0}} lends (readers_of use_of_view vs) (writers_of use_of_view vs)
 fits n vs s room order is = omega (arith, none (λ v. writes_of (use_of_view v)) nobody_writes vs, as_many_hold vs s is, order.holders_fit, room)
 
-abbrev lock : ℕ → Lock View
+abbrev lock : ℕ → Lock View (Unit {0})
 lock n = record {
   part = part;
   uses = use_of_view;
@@ -86,8 +86,8 @@ within n view f says tells few told step id w m vs meets at small =
     let made = step id w m vs (meets.0.0, meets.1) at small in let is = made.1.0 in
     (made.0, ((is, few w meets.0.1 (omega (arith, is.4, is.2.holders_fit, is.1))), made.1.1), told w made.0 meets.0.1 made.2)
 
-pub starts : (n : ℕ) → Meets (IsSeats n) ways 0 0 []
-starts n = let begun = begins (lock n) 0 0 0 0 (omega arith) refl refl in ((begun.0, omega arith), begun.1)
+pub starts : (n : ℕ) → Meets (IsSeats n) ways 0 tt []
+starts n = let begun = begins (lock n) 0 0 0 tt (omega arith) refl refl in ((begun.0, omega arith), begun.1)
 
 pub looks_on : (n : ℕ) → Allows (IsSeats n) ways None (λ w. w) (looks n 0 0 None)
 looks_on n = within n None (λ w. w) (becomes Idle 0 0 None) (looks n 0 0 None) (λ w few most. few) (λ w v few is. (is, few))
@@ -99,7 +99,7 @@ pub sits_down : (n old new : ℕ) → ((s : Plain) (p : ℕ) → AllRead s → s
 sits_down n old new plain room = let says = exchanges (λ _. Seated) Idle old new None in
     within n None (λ w. either (w == old) new w) says says (λ w few most. either_fits (w == old) new w (seats n) room few) (λ w v few said. said)
     (exchanged (lock n) None (λ _. Seated) Idle old new (λ s p. (refl, tt))
-    (λ s p vs room order is has small e. by_grant (lock n) None Seated s p to_read new 0 (plain s p (all_read vs s is) room e) refl tt refl))
+    (λ s p vs room order is has small e. by_grant (lock n) None Seated s p to_read new tt (plain s p (all_read vs s is) room e) refl tt refl))
 
 pub gets_up : (n : ℕ) → Allows (IsSeats n) ways (Some Seated) (λ w. (w + (2 ^ 64 - 1)) % 2 ^ 64) (becomes Idle 1 0 (Some Seated))
 gets_up n = let says = becomes Idle 1 0 (Some Seated) in
@@ -107,7 +107,7 @@ gets_up n = let says = becomes Idle 1 0 (Some Seated) in
     (allows (lock n) (Some Seated) (λ w. (w + (2 ^ 64 - 1)) % 2 ^ 64) says (λ s p room order has.
     let stands = is_holder-from_entries p reading s.holders (ap (λ e. e.holders) has.0) in (
       Idle,
-      by_step (lock n) (Some Seated) Idle s (releases p reading) ((seats_word s + (2 ^ 64 - 1)) % 2 ^ 64) 0 stands (release-own s p reading) tt
+      by_step (lock n) (Some Seated) Idle s (releases p reading) ((seats_word s + (2 ^ 64 - 1)) % 2 ^ 64) tt stands (release-own s p reading) tt
           (omega (arith, leave-gives s p (seats_word s) refl stands, length-held p reading s.holders (ap (λ e. e.holders) has.0), order.holders_fit, room)) refl,
       refl,
     )))
@@ -138,5 +138,5 @@ readers_sit : (vs : List View) → readers_of use_of_view vs ≡ seated vs
 readers_sit [] = refl
 readers_sit (v ∷ vs) = omega (arith, one_sits v, readers_sit vs, sum_by-cons (λ v. reads_of (use_of_view v)) v vs, sum_by-cons (λ v. cond (sits v) 1 0) v vs)
 
-pub as_many_sit : (n word second : ℕ) (vs : List View) → IsSeats n word second vs → (word ≡ seated vs) × (word ≤ n)
-as_many_sit n word second vs (is, few) = (omega (arith, is.4, as_many_hold vs is.0 is.3, readers_sit vs), omega (arith, few))
+pub as_many_sit : (n word : ℕ) (vs : List View) → IsSeats n word tt vs → (word ≡ seated vs) × (word ≤ n)
+as_many_sit n word vs (is, few) = (omega (arith, is.4, as_many_hold vs is.0 is.3, readers_sit vs), omega (arith, few))

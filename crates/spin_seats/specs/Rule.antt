@@ -11,7 +11,7 @@ abbrev pub part : View → Part
 part Idle = idle
 part Seated = holds reading
 
-abbrev pub IsSeats : ℕ → ℕ → ℕ → List View → Type 0
+abbrev pub IsSeats : ℕ → ℕ → Unit {0} → List View → Type 0
 IsSeats n word second views = Encodes part (seats n) seats_word no_word word second views × (word ≤ seats n)
 
 -- a party looks, sits down nowhere, and finds no more taken than there are seats

@@ -5,5 +5,5 @@ ghost use Rattle.spin_seats.specs.Rule.{IsSeats, seated};
 
 /// Where the rule of a lock of `n` seats holds, its word is the number of the parties that sit, and that is at most `n`.
 pub fn no_more_sit_than_there_are_seats()
-    ensures { (n word second : ℕ) (views : List View) → IsSeats n word second views → (word ≡ seated views) × (word ≤ n) }
+    ensures { (n word : ℕ) (views : List View) → IsSeats n word tt views → (word ≡ seated views) × (word ≤ n) }
 {}

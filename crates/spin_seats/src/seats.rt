@@ -28,7 +28,7 @@ impl<const N: usize> Seats<N> {
     /// A lock whose seats are all free.
     pub fn new() -> Self {
         Seats {
-            cell: Cell::new((), 0, 0, &()),
+            cell: Cell::new((), 0, (), &()),
         }
     }
 

@@ -23,7 +23,7 @@ kind (Saw n) = (refl, λ p. refl)
 kind (Waiting n) = (refl, λ p. refl)
 kind (Entered n) = (refl, λ p. refl)
 
-abbrev pub queue : Lock View
+abbrev pub queue : Lock View ℕ
 queue = record {
   part = part;
   uses = use_of_view;

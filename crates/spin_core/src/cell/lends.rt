@@ -11,7 +11,7 @@ use super::{Rule, WritePermit};
 impl<T, V, P: Rule<T, V>> WritePermit<'_, T, V, P> {
     /// The value. What is written through it is the permit's value once the borrow ends.
     pub fn get_mut(&mut self) -> &mut T
-        ensures* writes_back { sem 𝓛 (follows (the_row (record { mir = named 1; lft = [] }) T.row V.row P.row P.Key.row (record { holds = P.holds; ways = P.ways })) T.row self.entry.ghost_name result.ghost_name (with_value self.old)) }
+        ensures* writes_back { sem 𝓛 (follows (the_row (record { mir = named 1; lft = [] }) T.row V.row P.row P.Key.row P.Second.row (record { holds = P.holds; ways = P.ways })) T.row self.entry.ghost_name result.ghost_name (with_value self.old)) }
         ensures value { result.now ≡ self.old.value }
     {
         unsafe { &mut *(&raw const (*self.cell).value as *mut T) }

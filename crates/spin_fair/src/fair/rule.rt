@@ -21,12 +21,14 @@ pub enum View {
     Served,
 }
 
-/// The word is that of a plain lock of these parties: 1 while one holds it, and 2 for each that starves. The second word
-/// is 0. A newcomer that holds came before each party that starves.
+/// The word is that of a plain lock of these parties: 1 while one holds it, and 2 for each that starves. A newcomer that
+/// holds came before each party that starves.
 pub struct FairRule;
 
 impl<T> Rule<T, View> for FairRule {
     type Key = ();
+
+    type Second = ();
 
     ghost holds = { IsFair };
 

@@ -17,12 +17,13 @@ pub enum View {
     Holding,
 }
 
-/// The word is that of a plain lock whose holders are the parties that hold: 1 while there is one, else 0. The second
-/// word is 0.
+/// The word is that of a plain lock whose holders are the parties that hold: 1 while there is one, else 0.
 pub struct FlagRule;
 
 impl<T> Rule<T, View> for FlagRule {
     type Key = ();
+
+    type Second = ();
 
     ghost holds = { IsFlag };
 

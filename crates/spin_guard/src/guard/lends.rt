@@ -25,7 +25,7 @@ impl<T, V, P: Release<T, V>, R> DerefMut for Guard<'_, T, V, P, R> {
     ghost deref_mut_gives = { λ g x. x ≡ guard_value g };
 
     fn deref_mut(&mut self) -> &mut T
-        ensures* writes_back { sem 𝓛 (follows (the_row (record { mir = named 1; lft = [] }) T.row V.row P.row R.row P.Key.row P.Rule) T.row self.entry.ghost_name result.ghost_name (guard_with self.old)) }
+        ensures* writes_back { sem 𝓛 (follows (the_row (record { mir = named 1; lft = [] }) T.row V.row P.row R.row P.Key.row P.Second.row P.Rule) T.row self.entry.ghost_name result.ghost_name (guard_with self.old)) }
         ensures value { result.now ≡ guard_value self.old }
     {
         self.writer.get_mut()

@@ -55,11 +55,13 @@ impl<T, S> Settles for Stage<T, S> {
     ghost settled = { is_done };
 }
 
-/// The word is that of a plain lock in a phase of these parties. The second word is 0.
+/// The word is that of a plain lock in a phase of these parties.
 impl<T, S: Seed<T>> Rule<Slot<T, S>, View> for Slot<T, S> {
     ghost use Rattle.spin_once.specs.Once.{IsOnce, once_ways};
 
     type Key = Snapshot<S>;
+
+    type Second = ();
 
     ghost holds = { IsOnce };
 
@@ -111,7 +113,7 @@ pub(super) fn seeded<T, S: Seed<T>>(seed: S) -> SeedCell<T, S>
     let slot = Loose {
         value: Stage::Seed(seed),
     };
-    Cell::new(slot, NOTHING as u64, 0, &key)
+    Cell::new(slot, NOTHING as u64, (), &key)
 }
 
 /// Somebody has seen the value.
@@ -122,7 +124,7 @@ pub(super) fn completed<T, S: Seed<T>>(value: T, seed: &S) -> SeedCell<T, S>
     let slot = Loose {
         value: Stage::Done(value),
     };
-    Cell::new(slot, COMPLETE as u64, 0, &Snapshot::of(seed))
+    Cell::new(slot, COMPLETE as u64, (), &Snapshot::of(seed))
 }
 
 /// How far it has come at a moment.

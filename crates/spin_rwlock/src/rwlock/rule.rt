@@ -26,7 +26,7 @@ pub enum View {
 }
 
 /// The word is that of a plain lock of these parties: 4 for each reader, 2 for the upgradable reader, and 1 for the
-/// writer. The second word is 0.
+/// writer.
 ///
 /// No value of this type is made. It has a `T` since parties read a `T` beside one another: who may share the one may
 /// share the other.
@@ -36,6 +36,8 @@ pub struct RwRule<T> {
 
 impl<T> Rule<T, View> for RwRule<T> {
     type Key = ();
+
+    type Second = ();
 
     ghost holds = { IsRw };
 

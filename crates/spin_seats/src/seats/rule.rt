@@ -12,11 +12,13 @@ pub enum View {
     Seated,
 }
 
-/// The word is the number of the parties that sit, at most `N`. The second word is 0.
+/// The word is the number of the parties that sit, at most `N`.
 pub struct SeatsRule<const N: usize>;
 
 impl<const N: usize> Rule<(), View> for SeatsRule<N> {
     type Key = ();
+
+    type Second = ();
 
     ghost holds = { IsSeats N };
 

@@ -25,6 +25,8 @@ pub struct TicketRule;
 impl<T> Rule<T, View> for TicketRule {
     type Key = ();
 
+    type Second = u64;
+
     ghost holds = { IsQueue };
 
     ghost ways = { λ _. (alone, use_of_view) };

@@ -20,9 +20,6 @@ subtract-found-requires g c = first_word Stands _ (λ n. n)
 pub set_bits-found-requires : goal.set_bits-found-requires
 set_bits-found-requires g c = first_word Stands _ (λ n. n)
 
-pub keep_bits-found-requires : goal.keep_bits-found-requires
-keep_bits-found-requires g c = first_word Stands _ (λ n. n)
-
 pub load-found-requires-2 : goal.load-found-requires-2
 load-found-requires-2 g c = first_word Stands _ (λ n. n)
 

@@ -5,12 +5,6 @@ use Rattle.spin_core_tests.proofs.cell.steps_on_the_second_word.Goals as goal
 pub load-found-requires : goal.load-found-requires
 load-found-requires g c = first_word Stands _ (λ n. n)
 
-pub exchange_second-found-requires : goal.exchange_second-found-requires
-exchange_second-found-requires g c = second_word Stands _ (λ n. n)
-
-pub exchange_second-found-requires-2 : goal.exchange_second-found-requires-2
-exchange_second-found-requires-2 g c = second_word Stands _ (λ n. n)
-
 pub store_second-party-requires : goal.store_second-party-requires
 store_second-party-requires g c = second_word Stands _ (λ n. n)
 

@@ -2,4 +2,4 @@ use Rattle.spin_rwlock.proofs.Standing.{readers_or_one_writer}
 use Rattle.spin_rwlock.proofs.laws.the_parties_of_a_rwlock_read_or_one_writes.Goals as goal
 
 pub returns : goal.returns
-returns g word second vs is = readers_or_one_writer word second vs is
+returns g word vs is = readers_or_one_writer word vs is

@@ -2,4 +2,4 @@ use Rattle.spin_rwlock.proofs.Standing.{counts_parties}
 use Rattle.spin_rwlock.proofs.laws.the_word_of_a_rwlock_counts_its_parties.Goals as goal
 
 pub returns : goal.returns
-returns g word second vs is = counts_parties word second vs is
+returns g word vs is = counts_parties word vs is

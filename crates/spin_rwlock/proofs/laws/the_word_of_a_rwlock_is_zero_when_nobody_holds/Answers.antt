@@ -2,4 +2,4 @@ use Rattle.spin_rwlock.proofs.Standing.{zero_when_free}
 use Rattle.spin_rwlock.proofs.laws.the_word_of_a_rwlock_is_zero_when_nobody_holds.Goals as goal
 
 pub returns : goal.returns
-returns g word second vs is = zero_when_free word second vs is
+returns g word vs is = zero_when_free word vs is

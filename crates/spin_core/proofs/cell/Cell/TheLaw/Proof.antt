@@ -20,7 +20,7 @@ use types.Na.{before-Incl}
 use types.Owned.{basic, own_new}
 use denote.RattleType.{RattleType}
 use denote.Laws.{Lawful}
-use denote.Memory.{mem}
+use denote.Memory.{part_at, mem}
 use denote.RawPtr.{block_ptr}
 use denote.Steps.{nothing}
 use denote.Shares.{Shares}
@@ -33,7 +33,7 @@ use denote.Struct.Lending.{Law}
 use Rattle.core.proofs.cell.Borrows.{by_one}
 use Rattle.atomic_table.specs.Seated.{halved}
 use Rattle.spin_core.specs.Cell.{Way, alone, lends, fixes, Ways, writes, Limits, Fixed, Meets, readers_of, writers_of}
-use Rattle.spin_core.specs.CellMemory.{offset, Known, Id, unused, roster, tag, parts, idle, tracked, shared, resting, state, core, core_at, standing, inner, kept, cell_shares}
+use Rattle.spin_core.specs.CellMemory.{offset, second_at, Known, Id, unused, roster, tag, parts, idle, tracked, shared, resting, state, core, core_at, standing, inner, kept, cell_shares}
 use Rattle.spin_core.specs.declared.cell.Rule.{Ghosts}
 use Rattle.spin_core.specs.contracts.cell.Cell as C
 use Rattle.spin_core.proofs.CellFields.{All, Rule, Written, written_out, written_in, standing_words, At, Joins, fields_out}
@@ -45,7 +45,7 @@ use Rattle.atomic_table.specs.Seated.{fact}
 use Rattle.spin_core.proofs.CellRounds.{begun, held, readies, whole, renews, rests_fixed}
 use Rattle.spin_core.proofs.cell.Cell.TheLaw.Statement.{statement}
 
-module _ {M : Type 1} {𝓤 : Ura M} (𝓛 : Logic 𝓤) (m : Member) (V Y K : RattleType) (g : Ghosts Y.Denot (row_of m).Denot V.Denot K.Denot) (key : K.Denot) (L : Lawful 𝓛 (row_of m)) (b o : ℕ) (κ : Lft) where
+module _ {M : Type 1} {𝓤 : Ura M} (𝓛 : Logic 𝓤) (m ms : Member) (V Y K : RattleType) (g : Ghosts Y.Denot (row_of m).Denot V.Denot K.Denot (row_of ms).Denot) (key : K.Denot) (L : Lawful 𝓛 (row_of m)) (LS : Lawful 𝓛 (row_of ms)) (b o : ℕ) (κ : Lft) where
   open 𝓛 use {H, A}
 
   abbrev Pr : Type 2
@@ -69,6 +69,9 @@ module _ {M : Type 1} {𝓤 : Ura M} (𝓛 : Logic 𝓤) (m : Member) (V Y K : R
   abbrev R : RattleType
   R = row_of m
 
+  abbrev S : RattleType
+  S = row_of ms
+
   abbrev c : V.Denot → Gv
   c = V.coded.code
 
@@ -79,19 +82,19 @@ module _ {M : Type 1} {𝓤 : Ura M} (𝓛 : Logic 𝓤) (m : Member) (V Y K : R
   way = ways.0
 
   abbrev Sure : Type 0
-  Sure = Known ways Y R
+  Sure = Known ways Y S R
 
   abbrev P : Fml
-  P = Written 𝓛 m V Y K g key b o
+  P = Written 𝓛 m ms V Y K g key b o
 
   abbrev Back : Pr
-  Back = Joins 𝓛 m V Y K g key b o L P (written_out 𝓛 m V Y K g key b o) (written_in 𝓛 m V Y K g key b o)
+  Back = Joins 𝓛 m ms V Y K g key b o L LS P (written_out 𝓛 m ms V Y K g key b o) (written_in 𝓛 m ms V Y K g key b o)
 
-  abbrev Both : ℕ × ℕ → Fml
-  Both = standing_words 𝓛 m V Y K g key b o
+  abbrev Both : ℕ × S.Denot → Fml
+  Both = standing_words 𝓛 m ms V Y K g key b o
 
-  abbrev Starting : ℕ × ℕ × R.Denot → Type 0
-  Starting = Rule 𝓛 m V Y K g key b o
+  abbrev Starting : ℕ × S.Denot × R.Denot → Type 0
+  Starting = Rule 𝓛 m ms V Y K g key b o
 
   -- what the words' borrow keeps of the value, under its name: the fact, or that somebody writes
   abbrev found : Way R.Denot → GName → ℕ → ℕ → Option R.Denot → Fml
@@ -101,14 +104,14 @@ module _ {M : Type 1} {𝓤 : Ura M} (𝓛 : Logic 𝓤) (m : Member) (V Y K : R
   abbrev Found : Way R.Denot → GName → ℕ → ℕ → Fml
   Found way' ν r w = fex (Option R.Denot) (found way' ν r w)
 
-  abbrev views_at : GName → ℕ × ℕ → List V.Denot → Fml
+  abbrev views_at : GName → ℕ × S.Denot → List V.Denot → Fml
   views_at ν s vs = fsep (fact (Meets g.holds ways s.0 s.1 vs)) (Found way ν (readers_of ways.1 vs) (writers_of ways.1 vs))
 
-  abbrev standing_at : GName → ℕ × ℕ → Fml
-  standing_at ν s = fsep (word b (o + 0) s.0) (fsep (word b (o + 8) s.1) (fex (List V.Denot) (views_at ν s)))
+  abbrev standing_at : GName → ℕ × S.Denot → Fml
+  standing_at ν s = fsep (word b (o + 0) s.0) (fsep (part_at S full_share s.1 b (o + second_at S R)) (fex (List V.Denot) (views_at ν s)))
 
   abbrev Words : GName → Fml
-  Words ν = fex (ℕ × ℕ) (standing_at ν)
+  Words ν = fex (ℕ × S.Denot) (standing_at ν)
 
   abbrev Named : GName → Fml
   Named ν = Body (mem R) b (o + offset R) ν
@@ -120,7 +123,7 @@ module _ {M : Type 1} {𝓤 : Ura M} (𝓛 : Logic 𝓤) (m : Member) (V Y K : R
   Two = fex Sure (λ _. fex GName two)
 
   -- ---- the borrow of the cell becomes one of the words and one of the value
-  starts : (ν : GName) (s : ℕ × ℕ) (vs : List V.Denot) (x : R.Denot) (v : Option R.Denot) → Meets g.holds ways s.0 s.1 vs
+  starts : (ν : GName) (s : ℕ × S.Denot) (vs : List V.Denot) (x : R.Denot) (v : Option R.Denot) → Meets g.holds ways s.0 s.1 vs
       → ⟦ found way ν (readers_of ways.1 vs) (writers_of ways.1 vs) v ⟧ ∗ A.auth ν (R.coded.code x) ⊢ ⟦ fact (Starting (s.0, s.1, x)) ⟧
   starts ν s vs x None meets = let w : ℕ = writers_of ways.1 vs in qed 𝓛 (‵ (fact (0 < w)) ∷ ‵ (fauth ν (R.coded.code x)) ∷ []) ∵ fpick ! (λ writes. drop ! $ drop ! $ nothing ! $
       fpack ! (Starting (s.0, s.1, x)) (λ _. ftrue) (vs, meets, unknown way (readers_of ways.1 vs) w x meets.1 writes) $ done !)
@@ -130,24 +133,24 @@ module _ {M : Type 1} {𝓤 : Ura M} (𝓛 : Logic 𝓤) (m : Member) (V Y K : R
 
   way_back : (ν : GName) → Back ⊢ ⟦ fwand (fsep (fdead κ) (fseps (Words ν ∷ Named ν ∷ []))) (fupd P) ⟧
   unfolding fseps
-  way_back ν = let J : ℕ × ℕ × R.Denot → Pr = λ s. (⟦ Both (s.0, s.1) ⟧ ∗ ⟦ At 𝓛 m V Y K g key b o s.2 ⟧ ∗ ⟦ fact (Starting s) ⟧) -∗ ⟦ P ⟧ in
+  way_back ν = let J : ℕ × S.Denot × R.Denot → Pr = λ s. (⟦ Both (s.0, s.1) ⟧ ∗ ⟦ At 𝓛 m ms V Y K g key b o s.2 ⟧ ∗ ⟦ fact (Starting s) ⟧) -∗ ⟦ P ⟧ in
       qed 𝓛 (raw Back ∷ []) ∵ assume ! (‵ (fsep (fdead κ) (fseps (Words ν ∷ Named ν ∷ [])))) $ suffices ! ⟦ P ⟧ (upd_i 𝓤 ⟦ P ⟧) $
       fsplit ! $ drop ! $ fsplit3 ! $ fpick ! (λ s. move ! (1 ∷ []) $ fpick ! (λ x. fsplit ! $ keep ! (2 ∷ 0 ∷ 1 ∷ 4 ∷ []) $ fsplit3 ! $ move ! (2 ∷ []) $ fpick ! (λ vs. fsplit ! $ fpick ! (λ meets. drop ! $ fpick ! (λ v.
       -- [what was found; the words; the value, under its name; the way back]
-      let t : ℕ × ℕ × R.Denot = (s.0, s.1, x) in move ! (0 ∷ 4 ∷ []) $ use2 𝓛 (‵ (fact (Starting t))) (starts ν s vs x v meets) $ move ! (1 ∷ 2 ∷ []) $ fjoin ! $ move ! (2 ∷ 1 ∷ []) $ join ! $ move ! (1 ∷ 0 ∷ []) $ join ! $ move ! (1 ∷ []) $
-      use1 𝓛 (raw (J t)) (all_e 𝓤 J t) $ move ! (1 ∷ 0 ∷ []) $ by ! (apply∗ 𝓤 (⟦ Both s ⟧ ∗ ⟦ At 𝓛 m V Y K g key b o x ⟧ ∗ ⟦ fact (Starting t) ⟧) ⟦ P ⟧))))))
+      let t : ℕ × S.Denot × R.Denot = (s.0, s.1, x) in move ! (0 ∷ 4 ∷ []) $ use2 𝓛 (‵ (fact (Starting t))) (starts ν s vs x v meets) $ move ! (1 ∷ 2 ∷ []) $ fjoin ! $ move ! (2 ∷ 1 ∷ []) $ join ! $ move ! (1 ∷ 0 ∷ []) $ join ! $ move ! (1 ∷ []) $
+      use1 𝓛 (raw (J t)) (all_e 𝓤 J t) $ move ! (1 ∷ 0 ∷ []) $ by ! (apply∗ 𝓤 (⟦ Both s ⟧ ∗ ⟦ At 𝓛 m ms V Y K g key b o x ⟧ ∗ ⟦ fact (Starting t) ⟧) ⟦ P ⟧))))))
 
   cut : (q : Share) → A.bor κ P ∗ A.lft κ q ⊢ H.⇛ (⟦ Two ⟧ ∗ A.lft κ q)
   unfolding fseps
   cut q = qed 𝓛 (‵ (fbor κ P) ∷ ‵ (flft κ q) ∷ []) ∵ updating ! $ bor_open ! tt $ move ! (1 ∷ []) $
-      use1 𝓛 (some (λ (z : Sure × All 𝓛 m V Y K g key b o). ‵ (Both (z.1.0, z.1.1)) ⊛ ‵ (At 𝓛 m V Y K g key b o z.1.2) ⊛ ‵ (fact (Starting z.1)) ⊛ raw Back)) (fields_out 𝓛 m V Y K g key b o L P (written_out 𝓛 m V Y K g key b o) (written_in 𝓛 m V Y K g key b o)) $
-      pick ! (λ z. let x : R.Denot = z.1.2 in let s : ℕ × ℕ = (z.1.0, z.1.1) in split ! $ move ! (1 ∷ []) $ split3 ! $ move ! (1 ∷ []) $ fpick ! (λ rule. drop ! $
+      use1 𝓛 (some (λ (z : Sure × All 𝓛 m ms V Y K g key b o). ‵ (Both (z.1.0, z.1.1)) ⊛ ‵ (At 𝓛 m ms V Y K g key b o z.1.2) ⊛ ‵ (fact (Starting z.1)) ⊛ raw Back)) (fields_out 𝓛 m ms V Y K g key b o L LS P (written_out 𝓛 m ms V Y K g key b o) (written_in 𝓛 m ms V Y K g key b o)) $
+      pick ! (λ z. let x : R.Denot = z.1.2 in let s : ℕ × S.Denot = (z.1.0, z.1.1) in split ! $ move ! (1 ∷ []) $ split3 ! $ move ! (1 ∷ []) $ fpick ! (λ rule. drop ! $
       let vs : List V.Denot = rule.0 in let r : ℕ = readers_of ways.1 vs in let w : ℕ = writers_of ways.1 vs in
-      name_new ! tt (R.coded.code x) (λ ν. move ! (2 ∷ 1 ∷ []) $ fjoin ! $ fpack ! R.Denot (λ y. fsep (At 𝓛 m V Y K g key b o y) (fauth ν (R.coded.code y))) x $
+      name_new ! tt (R.coded.code x) (λ ν. move ! (2 ∷ 1 ∷ []) $ fjoin ! $ fpack ! R.Denot (λ y. fsep (At 𝓛 m ms V Y K g key b o y) (fauth ν (R.coded.code y))) x $
       nothing ! $ fpack ! (Fixed way r w x) (λ _. ftrue) rule.2 $ move ! (2 ∷ 0 ∷ []) $ fjoin ! $ fpack ! (Option R.Denot) (found way ν r w) (Some x) $
       nothing ! $ fpack ! (Meets g.holds ways s.0 s.1 vs) (λ _. ftrue) rule.1 $ fjoin ! $ fpack ! (List V.Denot) (views_at ν s) vs $
       -- [the views; the value; the way back; the words; the open borrow]
-      move ! (3 ∷ []) $ fsplit ! $ move ! (0 ∷ 1 ∷ 2 ∷ []) $ fjoin3 ! $ fpack ! (ℕ × ℕ) (standing_at ν) s $ nothing ! $ move ! (1 ∷ 2 ∷ 0 ∷ []) $ fjoin3 ! $ move ! (1 ∷ []) $
+      move ! (3 ∷ []) $ fsplit ! $ move ! (0 ∷ 1 ∷ 2 ∷ []) $ fjoin3 ! $ fpack ! (ℕ × S.Denot) (standing_at ν) s $ nothing ! $ move ! (1 ∷ 2 ∷ 0 ∷ []) $ fjoin3 ! $ move ! (1 ∷ []) $
       use1 𝓛 (‵ (fwand (fsep (fdead κ) (fseps (Words ν ∷ Named ν ∷ []))) (fupd P))) (way_back ν) $
       move ! (2 ∷ 1 ∷ 0 ∷ []) $ obor_alter ! tt (Words ν ∷ Named ν ∷ []) $ use1 𝓛 (‵ (fbor κ (Words ν)) ⊛ ‵ (fbor κ (Named ν)) ⊛ ‵ ftrue) (id⊢ 𝓤 _) $ split3 ! $
       fjoin ! $ fpack ! GName two ν $ fpack ! Sure (λ _. fex GName two) z.0 $ now ! $ keep ! (0 ∷ 2 ∷ []) $ done !)))
@@ -199,16 +202,16 @@ module _ {M : Type 1} {𝓤 : Ura M} (𝓛 : Logic 𝓤) (m : Member) (V Y K : R
     finds w r (suc k) = qed 𝓛 (‵ (St w r (suc k)) ∷ []) ∵ drop ! $ nothing ! $ fpack ! (0 < suc k) (λ _. ftrue) (omega arith) $ fpack ! (Option R.Denot) (found w ν r (suc k)) None $ done !
 
     abbrev I : Fml
-    I = inner R b o t c g.holds ways
+    I = inner R b o t c S g.holds ways
 
-    abbrev Core : ℕ × ℕ → Fml
-    Core = core R b o t c g.holds ways
+    abbrev Core : ℕ × S.Denot → Fml
+    Core = core R b o t c S g.holds ways
 
     words_back : emp 𝓤 ⊢ ⟦ fwand (fsep (fdead κ) (fseps (I ∷ []))) (fupd (Words ν)) ⟧
     unfolding fseps
     words_back = qed 𝓛 [] ∵ assume ! (‵ (fsep (fdead κ) (fsep I ftrue))) $ suffices ! ⟦ Words ν ⟧ (upd_i 𝓤 ⟦ Words ν ⟧) $ fsplit3 ! $ keep ! (1 ∷ []) $ fpick ! (λ s. fsplit3 ! $ move ! (2 ∷ []) $
         fpick ! (λ vs. let r : ℕ = readers_of ways.1 vs in let w : ℕ = writers_of ways.1 vs in fsplit3 ! $ move ! (1 ∷ []) $ fpick ! (λ meets. drop ! $ drop ! $ use1 𝓛 (‵ (Found way ν r w)) (finds way r w) $ nothing ! $
-        fpack ! (Meets g.holds ways s.0 s.1 vs) (λ _. ftrue) meets $ fjoin ! $ fpack ! (List V.Denot) (views_at ν s) vs $ move ! (1 ∷ 2 ∷ 0 ∷ []) $ fjoin3 ! $ fpack ! (ℕ × ℕ) (standing_at ν) s $ done !)))
+        fpack ! (Meets g.holds ways s.0 s.1 vs) (λ _. ftrue) meets $ fjoin ! $ fpack ! (List V.Denot) (views_at ν s) vs $ move ! (1 ∷ 2 ∷ 0 ∷ []) $ fjoin3 ! $ fpack ! (ℕ × S.Denot) (standing_at ν) s $ done !)))
 
     -- ---- the invariant is made: some views that meet the rule take their places
     module _ (l : Lft) (shares : Shares 𝓛 R l) (μ : Lft) (e f : Share) (i : Incl μ κ) (j : Incl μ l) where
@@ -224,21 +227,21 @@ module _ {M : Type 1} {𝓤 : Ura M} (𝓛 : Logic 𝓤) (m : Member) (V Y K : R
       abbrev Given : Gv → Pr
       Given u = A.bor κ (Words ν) ∗ A.bor κ (Named ν) ∗ ⟦ unused ρ 0 u ⟧ ∗ ⟦ idle γ ⟧ ∗ A.lft μ e ∗ A.lft μ f
 
-      guarded : (k : Sure) (u : Gv) (q : Share) → Given u ∗ A.lft κ q ⊢ H.⇛ ((⟦ cell_shares Y R c g.holds ways (block_ptr b o) κ ⟧ ∗ A.lft μ e ∗ A.lft μ f) ∗ A.lft κ q)
+      guarded : (k : Sure) (u : Gv) (q : Share) → Given u ∗ A.lft κ q ⊢ H.⇛ ((⟦ cell_shares Y R c S g.holds ways (block_ptr b o) κ ⟧ ∗ A.lft μ e ∗ A.lft μ f) ∗ A.lft κ q)
       unfolding fseps
       guarded k u q = qed 𝓛 ((‵ (fbor κ (Words ν)) ⊛ ‵ (fbor κ (Named ν)) ⊛ ‵ (unused ρ 0 u) ⊛ ‵ (idle γ) ⊛ ‵ (flft μ e) ⊛ ‵ (flft μ f)) ∷ ‵ (flft κ q) ∷ []) ∵ updating ! $
           split ! $ move ! (1 ∷ []) $ split3 ! $ move ! (2 ∷ []) $ split3 ! $ move ! (5 ∷ 6 ∷ []) $ bor_open ! tt $ move ! (1 ∷ []) $ fpick ! (λ s. fsplit3 ! $ move ! (2 ∷ []) $ fpick ! (λ vs. fsplit ! $ fpick ! (λ meets. drop ! $ fpick ! (λ v.
           -- [what was found; the words; the open borrow; the round's name; two tokens; the value; the keys]
-          let S : Fml = St way (readers_of ways.1 vs) (writers_of ways.1 vs) in move ! (0 ∷ 7 ∷ 4 ∷ 5 ∷ 6 ∷ []) $ group ! 5 $ use1 𝓛 (later (‵ S ⊛ ‵ (flft μ e) ⊛ ‵ (flft μ f))) (stands vs v meets.1) $ await ! tt $ split3 ! $
+          let Q : Fml = St way (readers_of ways.1 vs) (writers_of ways.1 vs) in move ! (0 ∷ 7 ∷ 4 ∷ 5 ∷ 6 ∷ []) $ group ! 5 $ use1 𝓛 (later (‵ Q ⊛ ‵ (flft μ e) ⊛ ‵ (flft μ f))) (stands vs v meets.1) $ await ! tt $ split3 ! $
           move ! (6 ∷ []) $ use1 𝓛 (later (‵ (roster c ρ 0 vs))) (via 𝓤 _ (enrols 𝓛 V.coded ρ vs 0 u) (basic 𝓛 ⟦ roster c ρ 0 vs ⟧)) $ await ! tt $ nothing ! $ fpack ! (Meets g.holds ways s.0 s.1 vs) (λ _. ftrue) meets $
-          move ! (1 ∷ 0 ∷ 2 ∷ []) $ fjoin3 ! $ fpack ! (List V.Denot) (core_at R b o t c g.holds ways s.0 s.1) vs $ move ! (3 ∷ 4 ∷ 0 ∷ []) $ fjoin3 ! $ fpack ! (ℕ × ℕ) (standing R b o t c g.holds ways) s $
+          move ! (1 ∷ 0 ∷ 2 ∷ []) $ fjoin3 ! $ fpack ! (List V.Denot) (core_at R b o t c S g.holds ways s.0 s.1) vs $ move ! (3 ∷ 4 ∷ 0 ∷ []) $ fjoin3 ! $ fpack ! (ℕ × S.Denot) (standing R b o t c S g.holds ways) s $
           nothing ! $ move ! (1 ∷ 0 ∷ []) $ fjoin ! $ use0 𝓛 (‵ (fwand (fsep (fdead κ) (fseps (I ∷ []))) (fupd (Words ν)))) words_back $ move ! (4 ∷ 1 ∷ 0 ∷ []) $ obor_alter ! tt (I ∷ []) $
           use1 𝓛 (‵ (fbor κ I) ⊛ ‵ ftrue) (id⊢ 𝓤 _) $ split ! $ use1 𝓛 (later (‵ (finv (fbor κ I)))) (𝓛.invs.inv_new (fbor κ I)) $ await ! tt $
-          use0 𝓛 (‵ (before κ κ)) (before-Incl 𝓛 κ κ (Incl-refl κ)) $ fjoin ! $ fpack ! Id (λ y. kept R b o y c g.holds ways κ) t $
-          fpack ! Sure (λ _. fex Id (λ y. kept R b o y c g.holds ways κ)) k $ now ! $ move ! (0 ∷ 3 ∷ 4 ∷ []) $ group ! 3 $ keep ! (0 ∷ 2 ∷ []) $ done !))))
+          use0 𝓛 (‵ (before κ κ)) (before-Incl 𝓛 κ κ (Incl-refl κ)) $ fjoin ! $ fpack ! Id (λ y. kept R b o y c S g.holds ways κ) t $
+          fpack ! Sure (λ _. fex Id (λ y. kept R b o y c S g.holds ways κ)) k $ now ! $ move ! (0 ∷ 3 ∷ 4 ∷ []) $ group ! 3 $ keep ! (0 ∷ 2 ∷ []) $ done !))))
 
-  made : (l : Lft) → Shares 𝓛 R l → (ts : Toks) → Incl (span ts) l → Incl (span ts) κ → A.bor κ P ∗ lfts 𝓛 ts ⊢ H.⇛ (⟦ cell_shares Y R c g.holds ways (block_ptr b o) κ ⟧ ∗ lfts 𝓛 ts)
-  made l shares ts inc sp = let μ : Lft = span ts in let none : Gv = gnum 0 in let S : Fml = cell_shares Y R c g.holds ways (block_ptr b o) κ in
+  made : (l : Lft) → Shares 𝓛 R l → (ts : Toks) → Incl (span ts) l → Incl (span ts) κ → A.bor κ P ∗ lfts 𝓛 ts ⊢ H.⇛ (⟦ cell_shares Y R c S g.holds ways (block_ptr b o) κ ⟧ ∗ lfts 𝓛 ts)
+  made l shares ts inc sp = let μ : Lft = span ts in let none : Gv = gnum 0 in let Q : Fml = cell_shares Y R c S g.holds ways (block_ptr b o) κ in
       qed 𝓛 (‵ (fbor κ P) ∷ raw (lfts 𝓛 ts) ∷ []) ∵ updating ! $ use2 𝓛 (later (‵ Two ⊛ raw (lfts 𝓛 ts))) (by_one 𝓛 κ ts sp (A.bor κ P) ⟦ Two ⟧ cut) $ await ! tt $ split ! $ fpick ! (λ k. fpick ! (λ ν. fsplit ! $
       use0 𝓛 (later (some (λ (γ : GName). ‵ (tag γ full_share none)))) (via 𝓤 _ (own_new 𝓛 halved (full_share, none)) (basic 𝓛 (ex 𝓤 (λ (γ : GName). ⟦ tag γ full_share none ⟧)))) $ await ! tt $ pick ! (λ γ. fpack ! Gv (tag γ full_share) none $
       use0 𝓛 (later (some (λ (ρ : GName). ‵ (unused ρ 0 none)))) (via 𝓤 _ (entries_new halved 𝓛 0 (λ _. (full_share, none))) (basic 𝓛 (ex 𝓤 (λ (ρ : GName). ⟦ unused ρ 0 none ⟧)))) $ await ! tt $ pick ! (λ ρ.
@@ -247,17 +250,21 @@ module _ {M : Type 1} {𝓤 : Ura M} (𝓛 : Logic 𝓤) (m : Member) (V Y K : R
       split ! $ use1 𝓛 (‵ (flft μ a) ⊛ ‵ (flft μ d)) (𝓛.lfts.lft_split μ q) $ split ! $ move ! (1 ∷ []) $ use1 𝓛 (‵ (flft μ e) ⊛ ‵ (flft μ f)) (𝓛.lfts.lft_split μ d) $ split ! $
       -- [two tokens; a third; the way back; the keys; the name of the round; the words; the value]
       move ! (6 ∷ 7 ∷ 4 ∷ 5 ∷ 0 ∷ 1 ∷ []) $ group ! 6 $
-      use2 𝓛 (later ((‵ S ⊛ ‵ (flft μ e) ⊛ ‵ (flft μ f)) ⊛ ‵ (flft μ a))) (by_one 𝓛 κ ((μ, a) ∷ []) sp (Given γ ρ ν l shares μ e f sp inc none) (⟦ S ⟧ ∗ A.lft μ e ∗ A.lft μ f) (guarded γ ρ ν l shares μ e f sp inc k none)) $ await ! tt $
+      use2 𝓛 (later ((‵ Q ⊛ ‵ (flft μ e) ⊛ ‵ (flft μ f)) ⊛ ‵ (flft μ a))) (by_one 𝓛 κ ((μ, a) ∷ []) sp (Given γ ρ ν l shares μ e f sp inc none) (⟦ Q ⟧ ∗ A.lft μ e ∗ A.lft μ f) (guarded γ ρ ν l shares μ e f sp inc k none)) $ await ! tt $
       split ! $ split3 ! $ move ! (1 ∷ 2 ∷ []) $ use2 𝓛 (‵ (flft μ d)) (𝓛.lfts.lft_join μ d) $ move ! (2 ∷ 0 ∷ []) $ use2 𝓛 (‵ (flft μ q)) (𝓛.lfts.lft_join μ q) $
       move ! (0 ∷ 2 ∷ []) $ use2 𝓛 (raw (lfts 𝓛 ts)) (apply∗ 𝓤 (A.lft μ q) (lfts 𝓛 ts)) $ now ! $ keep ! (1 ∷ 0 ∷ []) $ done !)))))
 
-pub shares : (T V P K : RattleType) (g : Ghosts P.Denot T.Denot V.Denot K.Denot) (L : Laws T) (W : Laws V) (J : Laws P) (I : Laws K) → statement T V P K g L W J I
-shares T V P K g L W J I = let m : Member = record { row = T; ty = layout T } in
-    let same : T ≡ row_of m = λ i. record { Denot = T.Denot; mir = L.one i; written = T.written; reaches = T.reaches; lives = T.lives; own_val = T.own_val; exit = T.exit; coded = T.coded; shr_at = T.shr_at } in
-    subst (λ (τ : List Ty). Law (C.the_written (record T { mir = τ }) V P K g)) (sym L.one) (record {
-      shr_laws = λ d b o. some_shr_laws (Known (g.ways d) P (row_of m)) (λ _. denote.Sharing.some Id (λ t. kept (row_of m) b o t V.coded.code g.holds (g.ways d))) (λ _.
-          some_shr_laws Id (λ t. kept (row_of m) b o t V.coded.code g.holds (g.ways d)) (λ t. let I : Fml = inner (row_of m) b o t V.coded.code g.holds (g.ways d) in
+-- a row whose machine type is one is a member's
+alike : (T : RattleType) (L : Laws T) → T ≡ row_of (record { row = T; ty = layout T })
+alike T L = λ i. record { Denot = T.Denot; mir = L.one i; written = T.written; reaches = T.reaches; lives = T.lives; own_val = T.own_val; exit = T.exit; coded = T.coded; shr_at = T.shr_at }
+
+pub shares : (T V P K S : RattleType) (g : Ghosts P.Denot T.Denot V.Denot K.Denot S.Denot) (L : Laws T) (W : Laws V) (J : Laws P) (I : Laws K) (N : Laws S) → statement T V P K S g L W J I N
+shares T V P K S g L W J I N = let m : Member = record { row = T; ty = layout T } in let ms : Member = record { row = S; ty = layout S } in
+    let same : T ≡ row_of m = alike T L in let same_second : S ≡ row_of ms = alike S N in
+    subst (λ (z : List Ty × List Ty). Law (C.the_written (record T { mir = z.0 }) V P K (record S { mir = z.1 }) g)) (λ i. (sym L.one i, sym N.one i)) (record {
+      shr_laws = λ d b o. some_shr_laws (Known (g.ways d) P (row_of ms) (row_of m)) (λ _. denote.Sharing.some Id (λ t. kept (row_of m) b o t V.coded.code (row_of ms) g.holds (g.ways d))) (λ _.
+          some_shr_laws Id (λ t. kept (row_of m) b o t V.coded.code (row_of ms) g.holds (g.ways d)) (λ t. let I : Fml = inner (row_of m) b o t V.coded.code (row_of ms) g.holds (g.ways d) in
           beside_shr_laws (ends t.life) (always (fbor t.life I)) (ends_shr_laws t.life) (always_shr_laws (fbor t.life I))));
-      shares = λ M 𝓤 𝓛 d κ ts b o inc sp. made 𝓛 m V P K g d (subst (Lawful 𝓛) same (L.lawful 𝓛)) b o κ T.lives (subst (λ (R : RattleType). Shares 𝓛 R T.lives) same (L.shares 𝓛)) ts
-          (Incl-trans inc (Incl-trans (meet_⊑_left (T.lives ++ (V.lives ++ (P.lives ++ (K.lives ++ [])))) _) (meet_⊑_left T.lives (V.lives ++ (P.lives ++ (K.lives ++ [])))))) sp;
+      shares = λ M 𝓤 𝓛 d κ ts b o inc sp. made 𝓛 m ms V P K g d (subst (Lawful 𝓛) same (L.lawful 𝓛)) (subst (Lawful 𝓛) same_second (N.lawful 𝓛)) b o κ T.lives (subst (λ (R : RattleType). Shares 𝓛 R T.lives) same (L.shares 𝓛)) ts
+          (Incl-trans inc (Incl-trans (meet_⊑_left (T.lives ++ (V.lives ++ (P.lives ++ (K.lives ++ (S.lives ++ []))))) _) (meet_⊑_left T.lives (V.lives ++ (P.lives ++ (K.lives ++ (S.lives ++ []))))))) sp;
     })

@@ -1,23 +1,30 @@
 -- `into_inner` takes the value, whatever the words are.
-use Rattle.std.proofs.Common.{◌≡◌, ◌&&◌, T, true, List, [], ◌∷◌, ◌++◌, sym, refl, ◌∙◌, subst, w64}
+use Rattle.std.proofs.Common.{◌≡◌, ◌&&◌, Bool, T, true, false, List, [], ◌∷◌, ◌++◌, sym, refl, ap, ◌∙◌, subst, w64}
 use mir.Syntax.{dcons, dnil, a_type}
-use mir.Val.{Val, vint, vstruct, vcons, vnil, of_list, has_ty}
+use mir.Val.{Val, vunit, vint, vstruct, vcons, vnil, of_list, has_ty}
 use mir.MapTy.{inst_fn}
 use base.Logic.{SProp, ent, id⊢}
-use base.Fml.{fsep, ftrue}
+use base.Fml.{Lft, Share, Fml, fsep, feq, ftrue, flft}
 use contract.Running.{tables}
 use prog.Wp.{WpFn}
-use types.Kit.{‵, raw, ◌⊛◌, ◌$◌, ◌∵◌, !, qed, by, move, keep, drop, split, fsplit, fsplit3, fjoin, fpick, rewrite, feq_l, flt_l, suffices}
-use types.Run.{stop, fld, of_opd, returns, enter}
-use types.ByLocal.{alloc_all, pass_all, free_all, look_at, get, get_in, sets}
+use contract.BorrowLft.{◌⊑◌}
+use contract.Monad.{fact}
+use denote.Param.Laws.{param_laws, arg_laws}
+use Rattle.spin_core.specs.contracts.cell.let_go as callee
+use Rattle.spin_core.proofs.cell.let_go.Met.{met}
+use denote.Triple.Call.{calls_at}
+use denote.Triple.Spec.{triple_of}
+use Rattle.atomic_table.proofs.Calls.{fm}
+use types.Kit.{‵, raw, ◌⊛◌, ◌$◌, ◌∵◌, !, qed, by, move, keep, drop, split, split3, fsplit, fsplit3, fjoin, fpick, join, pick, await, later, some, use1, rewrite, feq_l, flt_l, suffices}
+use types.Run.{stop, fld, of_opd, no_more, and_then, returns, enter}
+use types.ByLocal.{alloc_all, pass_all, free_all, look_at, get, get_in, sets, lands_as}
 use types.Part.{sub, whole}
-use denote.Exit.{no}
+use denote.Exit.{yes, no}
 use denote.RattleType.{RattleType}
 use denote.Signature.{plain}
-use denote.Steps.{nothing, peeks}
+use denote.Steps.{nothing, only, peeks}
 use denote.Laws.{Is, shows}
-use denote.Param.{param, layout, bounded}
-use denote.Triple.Entry.{alive}
+use denote.Param.{param, layout, bounded, arg}
 use denote.Triple.Walked.{Stays, stay_dropped, walk_of, Goes-dropped}
 use Rattle.core.proofs.mem.Param.{El, lawful, Good, one}
 use Rattle.atomic_table.proofs.Walks.{proved_at, leaves}
@@ -28,21 +35,41 @@ use Rattle.spin_core.specs.contracts.cell.Cell.into_inner.Key.{name as #self}
 use Rattle.spin_core.proofs.cell.Cell.into_inner.Statement.{statement}
 use Rattle.spin_core.proofs.cell.Cell.into_inner.Code as code
 
+both : (a b : Bool) → T a → T b → T (a && b)
+both true b h k = k
+both false b h k = absurd h
+
 pub into_inner_spec : {M : Type 1} → statement M
-into_inner_spec 𝓤 𝓛 𝓜 𝓡 wired X U P K L _ _ _ g d _ =
-    let H = 𝓛.H in let 𝓣 = tables 𝓤 H 𝓜 𝓡 𝓡.env in let R : RattleType = param 0 X in let V : RattleType = param 1 U in let Y : RattleType = param 2 P in let Kr : RattleType = param 3 K in let En = ended X U P K g d in let c = clauses X U P K g d 𝓛 𝓜.mem 𝓡.returns in let E : El = record { row = X; laws = L } in
-    let inst = bounded (a_type ∷ a_type ∷ a_type ∷ a_type ∷ []) (X, (U, (P, (K, tt)))) (dcons d dnil) in let fn = inst_fn inst code.function in let closed = code.unfolded 𝓤 H 𝓜 𝓡 wired (X, (U, (P, (K, tt)))) d in let Row : RattleType = cell.the_row R V Y Kr g in
-    let self = plain (λ _. Row) in let hs : Stays En.signature.params En.kept = (stay_dropped self no, tt) in let fine : (v : Val) → Good E v → T (has_ty (layout X) v && true) = λ v h. and_tt (has_ty (layout X) v) h.0 in
-    proved_at 𝓛 En hs c 𝓜 𝓡 (Goes-dropped 𝓛 4 self no (λ κs x f. refl), tt) (#self inst) fn closed (λ z are.
+into_inner_spec 𝓤 𝓛 𝓜 𝓡 wired X U P K S L _ _ _ LS g d _ =
+    let H = 𝓛.H in let 𝓣 = tables 𝓤 H 𝓜 𝓡 𝓡.env in let R : RattleType = param 0 X in let V : RattleType = param 1 U in let Y : RattleType = param 2 P in let Kr : RattleType = param 3 K in let Sr : RattleType = param 4 S in let En = ended X U P K S g d in let c = clauses X U P K S g d 𝓛 𝓜.mem 𝓡.returns in let E : El = record { row = X; laws = L } in let N : El = record { row = S; laws = LS } in
+    let inst = bounded (a_type ∷ a_type ∷ a_type ∷ a_type ∷ a_type ∷ []) (X, (U, (P, (K, (S, tt))))) (dcons d dnil) in let fn = inst_fn inst code.function in let closed = code.unfolded 𝓤 H 𝓜 𝓡 wired (X, (U, (P, (K, (S, tt))))) d in let Row : RattleType = cell.the_row R V Y Kr Sr g in
+    let self = plain (λ _. Row) in let hs : Stays En.signature.params En.kept = (stay_dropped self no, tt) in let fine : (v : Val) → Good E v → T (has_ty (layout X) v && true) = λ v h. and_tt (has_ty (layout X) v) h.0 in let fine_second : (v : Val) → Good N v → T (has_ty (layout S) v && true) = λ v h. and_tt (has_ty (layout S) v) h.0 in
+    proved_at 𝓛 En hs c 𝓜 𝓡 (Goes-dropped 𝓛 5 self no (λ κs x f. refl), tt) (#self inst) fn closed (λ z are.
     let Post : Val → SProp 𝓤 = (walk_of 𝓛 En hs c).post z in let Run : List Val → SProp 𝓤 = λ ws. WpFn 𝓤 H 𝓣.C 𝓣.Λ fn ws Post in
-    qed 𝓛 ((raw (alive 𝓛 En.signature z.0.0 z.0.1) ⊛ ‵ (fsep (Row.own_val z.0.3.0 z.0.4.0) ftrue)) ∷ raw ((c z.0.0 z.0.3).requires z.1) ∷ []) ∵ keep ! (0 ∷ []) $ split ! $ move ! (1 ∷ []) $ fsplit ! $ fsplit ! $ drop ! $
-    fpick ! (λ known. fpick ! (λ s. fsplit ! $ move ! (1 ∷ []) $ drop ! $ fpick ! (λ vss. fsplit ! $ feq_l ! (λ ev. fsplit3 ! $ fpick ! (λ uss. fsplit ! $ feq_l ! (λ em. drop ! $ fsplit ! $ feq_l ! (λ en. flt_l ! (λ fits. fsplit ! $ fsplit ! $ feq_l ! (λ ek. flt_l ! (λ fits'. fsplit ! $
-    peeks ! R (Is R) (shows 𝓛 R) s.2 vss.1.1.1.0 (λ is_so.
-    let got = one E vss.1.1.1.0 ((lawful E 𝓛).typed s.2 vss.1.1.1.0 is_so) in let vy : Val = got.0 in let fy : Good E vy = got.2 in let v : Val = vstruct (vcons (vstruct vnil) (vcons (vint w64 s.0) (vcons (vint w64 s.1) (vcons vy vnil)))) in
-    let whole_is : z.0.4.0 ≡ v ∷ [] = ev ∙ (λ i. vstruct (of_list (em i ++ (en i ++ (ek i ++ (got.1 i ++ []))))) ∷ []) in
-    rewrite ! 0 (λ (ws : List Val). ‵ (R.own_val s.2 ws)) got.1 refl $ keep ! (0 ∷ 3 ∷ []) $
+    let κs = z.0.0 in let qs = z.0.1 in let α : Fml = flft κs.0 qs.0 in let β : Fml = flft κs.1.0 qs.1.0 in let π : Fml = flft κs.1.1.0 qs.1.1.0 in let ι : Fml = flft κs.1.1.1.0 qs.1.1.1.0 in let σ : Lft = κs.1.1.1.1.0 in let q : Share = qs.1.1.1.1.0 in
+    let Z : RattleType = arg (layout S) yes Sr in let Lets = triple_of 𝓛 (callee.signature Z) (callee.spec Z 𝓛 𝓜.mem 𝓡.returns) in
+    let called = met 𝓤 𝓛 𝓜 𝓡 (code.calls-spin_core::cell::let_go 𝓡.env wired) Z (arg_laws (layout S) yes Sr (param_laws 4 S LS) refl) in
+    qed 𝓛 (((‵ α ⊛ (‵ β ⊛ (‵ π ⊛ (‵ ι ⊛ (‵ (flft σ q) ⊛ ‵ ftrue))))) ⊛ ‵ (fsep (Row.own_val z.0.3.0 z.0.4.0) ftrue)) ∷ raw (fact 𝓤 _) ∷ raw (fact 𝓤 _) ∷ raw (fact 𝓤 _) ∷ raw (fact 𝓤 _) ∷ raw (fact 𝓤 (σ ⊑ S.lives)) ∷ ‵ ftrue ∷ []) ∵
+    keep ! (0 ∷ 5 ∷ []) $ split ! $ move ! (1 ∷ []) $ fsplit ! $ fsplit ! $ drop ! $
+    fpick ! (λ known. fpick ! (λ s. fsplit ! $ move ! (1 ∷ []) $ drop ! $ fpick ! (λ vss. fsplit ! $ feq_l ! (λ ev. fsplit3 ! $ fpick ! (λ uss. fsplit ! $ feq_l ! (λ em. drop ! $ fsplit ! $ feq_l ! (λ en. flt_l ! (λ fits. fsplit ! $
+    -- [the value; the second; nothing; the tokens; the second's lifetime]
+    peeks ! R (Is R) (shows 𝓛 R) s.2 vss.1.1.0 (λ is_so. move ! (1 ∷ []) $ fsplit ! $ peeks ! Sr (Is Sr) (shows 𝓛 Sr) s.1 vss.1.1.1.0 (λ is_second.
+    let got = one E vss.1.1.0 ((lawful E 𝓛).typed s.2 vss.1.1.0 is_so) in let vy : Val = got.0 in let fy : Good E vy = got.2 in
+    let got_second = one N vss.1.1.1.0 (((param_laws 4 S LS).lawful 𝓛).typed s.1 vss.1.1.1.0 is_second) in let vz : Val = got_second.0 in let fz : Good N vz = got_second.2 in
+    let v : Val = vstruct (vcons (vstruct vnil) (vcons (vint w64 s.0) (vcons vy (vcons vz vnil)))) in
+    let whole_is : z.0.4.0 ≡ v ∷ [] = ev ∙ (λ i. vstruct (of_list (em i ++ (en i ++ (got.1 i ++ (got_second.1 i ++ []))))) ∷ []) in
+    rewrite ! 0 (λ (ws : List Val). ‵ (Sr.own_val s.1 ws)) got_second.1 refl $ rewrite ! 2 (λ (ws : List Val). ‵ (R.own_val s.2 ws)) got.1 refl $ keep ! (0 ∷ 2 ∷ 4 ∷ 5 ∷ []) $
     suffices ! (Run (v ∷ [])) (subst (λ (ws : List Val). ent 𝓤 (Run (v ∷ [])) (Run ws)) (sym (λ i. whole_is i ++ [])) (id⊢ 𝓤 (Run (v ∷ [])))) $
-    enter ! 𝓣.C 𝓣.Λ fn (v ∷ []) Post $ alloc_all ! (λ l. pass_all ! refl ((fine vy fy, (tt, (record { fits = fits }, (record { fits = fits' }, (fy.1, tt))))), tt) $
-    sets ! (of_opd ! (get_in ! (fld ! refl (stop !)) (sub ! 3 refl (whole !)))) refl fy $ sets ! (of_opd ! (get ! refl)) refl fy $
+    enter ! 𝓣.C 𝓣.Λ fn (v ∷ []) Post $ alloc_all ! (λ l. pass_all ! refl ((both (has_ty (layout X) vy) (has_ty (layout S) vz && true) fy.0 (fine_second vz fz), (tt, (record { fits = fits }, (fy.1, (fz.1, tt))))), tt) $
+    sets ! (of_opd ! (get_in ! (fld ! refl (stop !)) (sub ! 2 refl (whole !)))) refl fy $ sets ! (of_opd ! (get_in ! (fld ! refl (stop !)) (sub ! 3 refl (whole !)))) refl fz $ sets ! (of_opd ! (get ! refl)) refl fz $
+    -- the second is let go, for its lifetime's token
+    let yc : Lets.Ghost = (((σ, tt), (q, tt), tt, (s.1, tt), (vz ∷ [], tt)), tt) in
+    move ! (2 ∷ []) $ split3 ! $ move ! (2 ∷ []) $ split3 ! $ move ! (2 ∷ []) $ split ! $ nothing ! $ move ! (9 ∷ 0 ∷ []) $ join ! $ nothing ! $ move ! (8 ∷ 0 ∷ []) $ fjoin ! $
+    move ! (2 ∷ 3 ∷ 0 ∷ 1 ∷ []) $ join ! $ join ! $ join ! $ use1 𝓛 (raw (Lets.pre yc)) (id⊢ 𝓤 _) $
+    calls_at ! (fm 𝓛 𝓜 𝓡) Lets called yc (and_then ! (get ! refl) (no_more !)) (λ u.
+    use1 𝓛 (later (some (λ (r : Unit {0}). ((‵ (flft σ q) ⊛ ‵ ftrue) ⊛ ‵ (feq (List Val) (u ∷ []) (vunit ∷ []))) ⊛ some (λ (ws : Unit {0} × Unit {0}). ‵ (fsep ftrue ftrue) ⊛ ‵ ftrue)))) (id⊢ 𝓤 _) $ await ! tt $ pick ! (λ r.
+    split ! $ split ! $ move ! (2 ∷ []) $ drop ! $ move ! (1 ∷ []) $ feq_l ! (λ unit. lands_as ! (ap only unit) refl (tt, tt) $
+    move ! (2 ∷ 0 ∷ []) $ join ! $ move ! (1 ∷ 0 ∷ []) $ join ! $ move ! (2 ∷ 0 ∷ []) $ join ! $ move ! (1 ∷ 0 ∷ []) $ join ! $ move ! (1 ∷ []) $
+    sets ! (of_opd ! (get ! refl)) refl fy $
     nothing ! $ nothing ! $ nothing ! $ fjoin ! $
-    returns ! (look_at ! 0 refl) $ free_all ! refl $ keep ! (3 ∷ 0 ∷ 2 ∷ 1 ∷ []) $ by ! (leaves 𝓛 En hs c z vy s.2 (tt, tt) (tt, tt)))))))))))))))
+    returns ! (look_at ! 0 refl) $ free_all ! refl $ keep ! (3 ∷ 0 ∷ 2 ∷ 1 ∷ []) $ by ! (leaves 𝓛 En hs c z vy s.2 (tt, tt) (tt, tt)))))))))))))))))

@@ -12,21 +12,21 @@ use Rattle.spin_core.proofs.cell.Permit.see.Statement.{statement}
 use Rattle.spin_core.proofs.cell.Permit.see.Code as code
 
 pub see_spec : {M : Type 1} → statement M
-see_spec 𝓤 𝓛 𝓜 𝓡 wired T V P K L _ _ _ g d _ =
-    let H = 𝓛.H in let 𝓣 = tables 𝓤 H 𝓜 𝓡 𝓡.env in let R : RattleType = param 0 T in let W : RattleType = param 1 V in let Y : RattleType = param 2 P in let Kr : RattleType = param 3 K in let cw = W.coded in let LR = param_laws 0 T L in
-    let En = ended T V P K g d in let c = clauses T V P K g d 𝓛 𝓜.mem 𝓡.returns in let inst = bounded (a_type ∷ a_type ∷ a_type ∷ a_type ∷ []) (T, (V, (P, (K, tt)))) (dcons d dnil) in let fn = inst_fn inst code.function in let closed = code.unfolded 𝓤 H 𝓜 𝓡 wired (T, (V, (P, (K, tt)))) d in
-    let self = plain (λ κs. hand.the_row (named_lft 5 0 tt κs) R W Y Kr g) in let hs : Stays En.signature.params En.kept = (stay_dropped self no, tt) in
-    proved 𝓛 En hs c 𝓜 𝓡 (Goes-dropped 𝓛 5 self no (λ κs x f. refl), tt) (#self inst) fn closed
-    (λ κs. ((λ x. hand_of x.cell ∷ []), tt)) (λ κs. ((λ x vs so. told (named_lft 5 0 tt κs) R W Y Kr g x.cell vs so.0), tt)) (λ κs qs bounds a gh are.
-    let ℓ = named_lft 5 0 tt κs in let Hr : RattleType = hand.the_row ℓ R W Y Kr g in let h : Hr.Denot = a.0 in let p : Ptr = h.cell in let b : ℕ = block_of p in let o : ℕ = count_of p in let e : ℕ = o + offset R in let β : Lft = κs.0 in let q : Share = qs.0 in let ways = g.ways h.key in
-    let others : Fml = fsep (flft κs.1.0 qs.1.0) (fsep (flft κs.1.1.0 qs.1.1.0) (fsep (flft κs.1.1.1.0 qs.1.1.1.0) (fsep (flft κs.1.1.1.1.0 qs.1.1.1.1.0) ftrue))) in let Owned : Ptr → Fml = λ z. permit_owns Y R cw.code g.holds ways β z h.view h.value in let Asked : Type 0 = use_of ways.1 h.view ≡ reads in
+see_spec 𝓤 𝓛 𝓜 𝓡 wired T V P K S L _ _ _ LS g d _ =
+    let H = 𝓛.H in let 𝓣 = tables 𝓤 H 𝓜 𝓡 𝓡.env in let R : RattleType = param 0 T in let W : RattleType = param 1 V in let Y : RattleType = param 2 P in let Kr : RattleType = param 3 K in let Sr : RattleType = param 4 S in let cw = W.coded in let LR = param_laws 0 T L in
+    let En = ended T V P K S g d in let c = clauses T V P K S g d 𝓛 𝓜.mem 𝓡.returns in let inst = bounded (a_type ∷ a_type ∷ a_type ∷ a_type ∷ a_type ∷ []) (T, (V, (P, (K, (S, tt))))) (dcons d dnil) in let fn = inst_fn inst code.function in let closed = code.unfolded 𝓤 H 𝓜 𝓡 wired (T, (V, (P, (K, (S, tt))))) d in
+    let self = plain (λ κs. hand.the_row (named_lft 6 0 tt κs) R W Y Kr Sr g) in let hs : Stays En.signature.params En.kept = (stay_dropped self no, tt) in
+    proved 𝓛 En hs c 𝓜 𝓡 (Goes-dropped 𝓛 6 self no (λ κs x f. refl), tt) (#self inst) fn closed
+    (λ κs. ((λ x. hand_of x.cell ∷ []), tt)) (λ κs. ((λ x vs so. told (named_lft 6 0 tt κs) R W Y Kr Sr g x.cell vs so.0), tt)) (λ κs qs bounds a gh are.
+    let ℓ = named_lft 6 0 tt κs in let Hr : RattleType = hand.the_row ℓ R W Y Kr Sr g in let h : Hr.Denot = a.0 in let p : Ptr = h.cell in let b : ℕ = block_of p in let o : ℕ = count_of p in let e : ℕ = o + offset R in let β : Lft = κs.0 in let q : Share = qs.0 in let ways = g.ways h.key in
+    let others : Fml = fsep (flft κs.1.0 qs.1.0) (fsep (flft κs.1.1.0 qs.1.1.0) (fsep (flft κs.1.1.1.0 qs.1.1.1.0) (fsep (flft κs.1.1.1.1.0 qs.1.1.1.1.0) (fsep (flft κs.1.1.1.1.1.0 qs.1.1.1.1.1.0) ftrue)))) in let Owned : Ptr → Fml = λ z. permit_owns Y R cw.code Sr g.holds ways β z h.view h.value in let Asked : Type 0 = use_of ways.1 h.view ≡ reads in
     let y : (walk_of 𝓛 En hs c).Ghost = ((κs, qs, bounds, a, (hand_of p ∷ [], tt)), gh) in let Post : Val → SProp 𝓤 = (walk_of 𝓛 En hs c).post y in
-    qed 𝓛 (((‵ (flft β q) ⊛ ‵ others) ⊛ ‵ (owns (types_at En.signature.params κs) a y.0.4)) ∷ raw (fact 𝓤 _) ∷ raw (fact 𝓤 _) ∷ raw (fact 𝓤 _) ∷ raw (fact 𝓤 _) ∷ raw (fact 𝓤 Asked) ∷ []) ∵
-    keep ! (5 ∷ 0 ∷ []) $ heard ! Asked (λ asked. split ! $ split ! $ move ! (2 ∷ []) $ fsplit ! $ fsplit ! $ keep ! (1 ∷ 3 ∷ 4 ∷ []) $
-    use1 𝓛 (given (InBlock p) (‵ (Owned p))) (fact_use 𝓤 _ (owns_placed 𝓛 Y R cw.code g.holds ways β p h.view h.value) (guard_i 𝓤 (InBlock p) (sem 𝓛 (Owned p)))) $ learn ! (λ inb. let at : p ≡ block_ptr b o = at_block p inb in
+    qed 𝓛 (((‵ (flft β q) ⊛ ‵ others) ⊛ ‵ (owns (types_at En.signature.params κs) a y.0.4)) ∷ raw (fact 𝓤 _) ∷ raw (fact 𝓤 _) ∷ raw (fact 𝓤 _) ∷ raw (fact 𝓤 _) ∷ raw (fact 𝓤 _) ∷ raw (fact 𝓤 Asked) ∷ []) ∵
+    keep ! (6 ∷ 0 ∷ []) $ heard ! Asked (λ asked. split ! $ split ! $ move ! (2 ∷ []) $ fsplit ! $ fsplit ! $ keep ! (1 ∷ 3 ∷ 4 ∷ []) $
+    use1 𝓛 (given (InBlock p) (‵ (Owned p))) (fact_use 𝓤 _ (owns_placed 𝓛 Y R cw.code Sr g.holds ways β p h.view h.value) (guard_i 𝓤 (InBlock p) (sem 𝓛 (Owned p)))) $ learn ! (λ inb. let at : p ≡ block_ptr b o = at_block p inb in
     rewrite ! 0 (λ (z : Ptr). ‵ (Owned z)) at refl $
     enter ! 𝓣.C 𝓣.Λ fn (hand_of p ∷ []) Post $ alloc_all ! (λ l. pass_all ! refl (typed p inb, tt) $ let Ev = types.ByLocal.env fn.locals l in
-    use1 𝓛 (later (some (λ (x : T.Denot). given ((h.value ≡ Some x) × Seen ways.0 x) (‵ (hidden_shr R β x b e))))) (sees_on 𝓛 Y R cw.code g.holds ways β LR.shr_laws b o h.view h.value asked) $ await ! tt $ pick ! (λ x. learn ! (λ so.
+    use1 𝓛 (later (some (λ (x : T.Denot). given ((h.value ≡ Some x) × Seen ways.0 x) (‵ (hidden_shr R β x b e))))) (sees_on 𝓛 Y R cw.code Sr g.holds ways β LR.shr_laws b o h.view h.value asked) $ await ! tt $ pick ! (λ x. learn ! (λ so.
     sets ! (is ! (of_opd ! (get_in ! (fld ! refl (stop !)) (sub ! 0 refl (whole !)))) (ap ptr_val at)) refl (tt, tt) $ first ! $ blocks ! $
     sets_last ! (addr ! (through ! refl (fld ! refl (stop !)))) refl (tt, tt) $ exec ! 𝓣.C 𝓣.Λ Ev (tail (tail fn.body)) (at_ret Ev Post) $ sets ! (of_opd ! (get ! refl)) refl (tt, tt) $
     feq_i ! (List Val) (vptr b e ∷ []) (vptr b e ∷ []) refl $ fjoin ! $ move ! (1 ∷ 2 ∷ []) $ join ! $

@@ -43,9 +43,9 @@ use Rattle.spin_core.specs.contracts.cell.WritePermit.get_mut.Key.{name as #self
 use Rattle.spin_core.proofs.cell.WritePermit.get_mut.Statement.{statement}
 use Rattle.spin_core.proofs.cell.WritePermit.get_mut.Code as code
 
-module _ {M : Type 1} {𝓤 : Ura M} (𝓛 : Logic 𝓤) (ℓ : NamedLft) (R W Y Kr : RattleType) (g : Ghosts Y.Denot R.Denot W.Denot Kr.Denot) (κ : Lft) (inc : Incl κ ℓ.lft) (q : Share) (m : MutBor (the_row ℓ R W Y Kr g).Denot) (c e : ℕ) (at : m.now.cell ≡ block_ptr c e) where
+module _ {M : Type 1} {𝓤 : Ura M} (𝓛 : Logic 𝓤) (ℓ : NamedLft) (R W Y Kr Sr : RattleType) (g : Ghosts Y.Denot R.Denot W.Denot Kr.Denot Sr.Denot) (κ : Lft) (inc : Incl κ ℓ.lft) (q : Share) (m : MutBor (the_row ℓ R W Y Kr Sr g).Denot) (c e : ℕ) (at : m.now.cell ≡ block_ptr c e) where
   abbrev G : RattleType
-  G = the_row ℓ R W Y Kr g
+  G = the_row ℓ R W Y Kr Sr g
 
   abbrev h : G.Denot
   h = m.now
@@ -57,54 +57,54 @@ module _ {M : Type 1} {𝓤 : Ura M} (𝓛 : Logic 𝓤) (ℓ : NamedLft) (R W Y
   Whole x = part_at G full_share (F x) m.ref_ptr.0 m.ref_ptr.1
 
   abbrev Pen : Ptr → R.Denot → Fml
-  Pen p x = writer_owns Y R W.coded.code g.holds (g.ways h.key) ℓ.lft p h.view x
+  Pen p x = writer_owns Y R W.coded.code Sr g.holds (g.ways h.key) ℓ.lft p h.view x
 
   abbrev Ws : Fml
-  Ws = part_at (Pens ℓ R W Y Kr g) full_share (h.cell, (tt, tt)) m.ref_ptr.0 m.ref_ptr.1
+  Ws = part_at (Pens ℓ R W Y Kr Sr g) full_share (h.cell, (tt, tt)) m.ref_ptr.0 m.ref_ptr.1
 
   abbrev same : (x z : R.Denot) → F x ≡ F z → x ≡ z
   same x z = ap (λ (it : G.Denot). it.value)
 
   abbrev pub Open : Id → SProp 𝓤
-  Open = Opened 𝓛 Y R W.coded g.holds (g.ways h.key) ℓ.lft c e h.view G F same (named 0) κ inc q m h.value
+  Open = Opened 𝓛 Y R W.coded Sr g.holds (g.ways h.key) ℓ.lft c e h.view G F same (named 0) κ inc q m h.value
 
   abbrev Back : Id → R.Denot → SProp 𝓤
   Back t z = wand 𝓤 (sem 𝓛 (tracked R c e t z)) (sem 𝓛 (Pen (block_ptr c e) z))
 
   cut : ent 𝓤 (sem 𝓛 (Whole h.value)) (ex 𝓤 Open)
-  cut = qed 𝓛 (‵ (Whole h.value) ∷ []) ∵ use1 𝓛 (‵ Ws ⊛ ‵ (Pen h.cell h.value)) (part_out 𝓛 (the_type ℓ R W Y Kr g) full_share h m.ref_ptr.0 m.ref_ptr.1) $ split ! $ move ! (1 ∷ []) $
+  cut = qed 𝓛 (‵ (Whole h.value) ∷ []) ∵ use1 𝓛 (‵ Ws ⊛ ‵ (Pen h.cell h.value)) (part_out 𝓛 (the_type ℓ R W Y Kr Sr g) full_share h m.ref_ptr.0 m.ref_ptr.1) $ split ! $ move ! (1 ∷ []) $
       rewrite ! 0 (λ (p : Ptr). ‵ (Pen p h.value)) at refl $
-      use1 𝓛 (some (λ (t : Id). ‵ (before ℓ.lft t.life) ⊛ ‵ (tracked R c e t h.value) ⊛ raw (all 𝓤 (Back t)))) (cuts 𝓛 Y R W.coded g.holds (g.ways h.key) ℓ.lft c e h.view h.value) $ pick ! (λ t. split3 ! $ show ! Open t $ frame ! $ frame ! $
+      use1 𝓛 (some (λ (t : Id). ‵ (before ℓ.lft t.life) ⊛ ‵ (tracked R c e t h.value) ⊛ raw (all 𝓤 (Back t)))) (cuts 𝓛 Y R W.coded Sr g.holds (g.ways h.key) ℓ.lft c e h.view h.value) $ pick ! (λ t. split3 ! $ show ! Open t $ frame ! $ frame ! $
       each ! (λ (z : R.Denot). wand 𝓤 (sem 𝓛 (tracked R c e t z)) (sem 𝓛 (Whole z))) (λ z. use1 𝓛 (raw (Back t z)) (all_e 𝓤 (Back t) z) $ assume ! (‵ (tracked R c e t z)) $
       use2 𝓛 (‵ (Pen (block_ptr c e) z)) (apply∗ 𝓤 (sem 𝓛 (tracked R c e t z)) (sem 𝓛 (Pen (block_ptr c e) z))) $ rewrite ! 0 (λ (p : Ptr). ‵ (Pen p z)) (sym at) refl $ move ! (1 ∷ 0 ∷ []) $
-      by ! (part_in 𝓛 (the_type ℓ R W Y Kr g) full_share (F z) m.ref_ptr.0 m.ref_ptr.1)))
+      by ! (part_in 𝓛 (the_type ℓ R W Y Kr Sr g) full_share (F z) m.ref_ptr.0 m.ref_ptr.1)))
 
 pub get_mut_spec : {M : Type 1} → statement M
 unfolding part_of
-get_mut_spec 𝓤 𝓛 𝓜 𝓡 wired T V P K L _ _ _ g d _ =
-    let H = 𝓛.H in let 𝓣 = tables 𝓤 H 𝓜 𝓡 𝓡.env in let R : RattleType = param 0 T in let W : RattleType = param 1 V in let Y : RattleType = param 2 P in let Kr : RattleType = param 3 K in let cw = W.coded in
-    let En = ended T V P K g d in let c = clauses T V P K g d 𝓛 𝓜.mem 𝓡.returns in let inst = bounded (a_type ∷ a_type ∷ a_type ∷ a_type ∷ []) (T, (V, (P, (K, tt)))) (dcons d dnil) in let fn = inst_fn inst code.function in let closed = code.unfolded 𝓤 H 𝓜 𝓡 wired (T, (V, (P, (K, tt)))) d in
-    let row = plain (λ κs. the_row (named_lft 6 1 tt κs) R W Y Kr g) in let self = RefMutOf (0 ∷ []) tt row (λ _. tt) in let hs : Stays En.signature.params En.kept = (stay_dropped self no, tt) in
-    proved 𝓛 En hs c 𝓜 𝓡 (Goes-spent_ref 𝓛 6 (0 ∷ []) tt row, tt) (#self inst) fn closed
-    (λ κs. (mut_vals, tt)) (λ κs. (mut_Tells (named 0) κs.0 (the_row (named_lft 6 1 tt κs) R W Y Kr g), tt)) (λ κs qs bounds a gh are.
-    let ℓ = named_lft 6 1 tt κs in let G : RattleType = the_row ℓ R W Y Kr g in let D : RattleType = Pens ℓ R W Y Kr g in let m = a.0 in let b : ℕ = m.ref_ptr.0 in let o : ℕ = m.ref_ptr.1 in let γ : GName = m.ghost_name in let h : G.Denot = m.now in
+get_mut_spec 𝓤 𝓛 𝓜 𝓡 wired T V P K S L _ _ _ LS g d _ =
+    let H = 𝓛.H in let 𝓣 = tables 𝓤 H 𝓜 𝓡 𝓡.env in let R : RattleType = param 0 T in let W : RattleType = param 1 V in let Y : RattleType = param 2 P in let Kr : RattleType = param 3 K in let Sr : RattleType = param 4 S in let cw = W.coded in
+    let En = ended T V P K S g d in let c = clauses T V P K S g d 𝓛 𝓜.mem 𝓡.returns in let inst = bounded (a_type ∷ a_type ∷ a_type ∷ a_type ∷ a_type ∷ []) (T, (V, (P, (K, (S, tt))))) (dcons d dnil) in let fn = inst_fn inst code.function in let closed = code.unfolded 𝓤 H 𝓜 𝓡 wired (T, (V, (P, (K, (S, tt))))) d in
+    let row = plain (λ κs. the_row (named_lft 7 1 tt κs) R W Y Kr Sr g) in let self = RefMutOf (0 ∷ []) tt row (λ _. tt) in let hs : Stays En.signature.params En.kept = (stay_dropped self no, tt) in
+    proved 𝓛 En hs c 𝓜 𝓡 (Goes-spent_ref 𝓛 7 (0 ∷ []) tt row, tt) (#self inst) fn closed
+    (λ κs. (mut_vals, tt)) (λ κs. (mut_Tells (named 0) κs.0 (the_row (named_lft 7 1 tt κs) R W Y Kr Sr g), tt)) (λ κs qs bounds a gh are.
+    let ℓ = named_lft 7 1 tt κs in let G : RattleType = the_row ℓ R W Y Kr Sr g in let D : RattleType = Pens ℓ R W Y Kr Sr g in let m = a.0 in let b : ℕ = m.ref_ptr.0 in let o : ℕ = m.ref_ptr.1 in let γ : GName = m.ghost_name in let h : G.Denot = m.now in
     let κ : Lft = κs.0 in let q : Share = qs.0 in let β : Lft = κs.1.0 in let p : Ptr = h.cell in let pb : ℕ = block_of p in let po : ℕ = count_of p in let e : ℕ = po + offset R in let x : T.Denot = h.value in let F : T.Denot → G.Denot = with_value h in
-    let others : Fml = fsep (flft β qs.1.0) (fsep (flft κs.1.1.0 qs.1.1.0) (fsep (flft κs.1.1.1.0 qs.1.1.1.0) (fsep (flft κs.1.1.1.1.0 qs.1.1.1.1.0) (fsep (flft κs.1.1.1.1.1.0 qs.1.1.1.1.1.0) ftrue)))) in let Had : Ptr → T.Denot → Fml = λ z w. writer_owns Y R cw.code g.holds (g.ways h.key) β z h.view w in
+    let others : Fml = fsep (flft β qs.1.0) (fsep (flft κs.1.1.0 qs.1.1.0) (fsep (flft κs.1.1.1.0 qs.1.1.1.0) (fsep (flft κs.1.1.1.1.0 qs.1.1.1.1.0) (fsep (flft κs.1.1.1.1.1.0 qs.1.1.1.1.1.0) (fsep (flft κs.1.1.1.1.1.1.0 qs.1.1.1.1.1.1.0) ftrue))))) in let Had : Ptr → T.Denot → Fml = λ z w. writer_owns Y R cw.code Sr g.holds (g.ways h.key) β z h.view w in
     let Ws : Fml = part_at D full_share (p, (tt, tt)) b o in let y : (walk_of 𝓛 En hs c).Ghost = ((κs, qs, bounds, a, (vptr b o ∷ [], tt)), gh) in let Post : Val → SProp 𝓤 = (walk_of 𝓛 En hs c).post y in
     qed 𝓛 (((‵ (flft κ q) ⊛ ‵ others) ⊛ ‵ (owns (types_at En.signature.params κs) a y.0.4)) ∷ raw ((c κs a).requires gh) ∷ []) ∵
     split ! $ split ! $ move ! (2 ∷ []) $ fsplit ! $ fsplit3 ! $ keep ! (1 ∷ 2 ∷ 4 ∷ 5 ∷ []) $
     enter ! 𝓣.C 𝓣.Λ fn (vptr b o ∷ []) Post $ alloc_all ! (λ l. pass_all ! refl ((tt, tt), tt) $ let Ev = env fn.locals l in
-    open_ref ! tt (in_memory G) $ use1 𝓛 (‵ Ws ⊛ ‵ (Had p x)) (part_out 𝓛 (the_type ℓ R W Y Kr g) full_share h b o) $ split ! $ move ! (1 ∷ []) $
-    use1 𝓛 (given (InBlock p) (‵ (Had p x))) (fact_use 𝓤 _ (pen_placed 𝓛 Y R cw.code g.holds (g.ways h.key) β p h.view x) (guard_i 𝓤 (InBlock p) (sem 𝓛 (Had p x)))) $ learn ! (λ inb. let at : p ≡ block_ptr pb po = at_block p inb in
+    open_ref ! tt (in_memory G) $ use1 𝓛 (‵ Ws ⊛ ‵ (Had p x)) (part_out 𝓛 (the_type ℓ R W Y Kr Sr g) full_share h b o) $ split ! $ move ! (1 ∷ []) $
+    use1 𝓛 (given (InBlock p) (‵ (Had p x))) (fact_use 𝓤 _ (pen_placed 𝓛 Y R cw.code Sr g.holds (g.ways h.key) β p h.view x) (guard_i 𝓤 (InBlock p) (sem 𝓛 (Had p x)))) $ learn ! (λ inb. let at : p ≡ block_ptr pb po = at_block p inb in
     move ! (1 ∷ []) $ fpick ! (λ vs. fsplit ! $ move ! (1 ∷ []) $ peeks ! D (Is D) (shows 𝓛 D) (p, (tt, tt)) vs (λ is_so.
-    let ev : vs ≡ hand_of (block_ptr pb po) ∷ [] = pen_told ℓ R W Y Kr g p vs is_so ∙ ap (λ (r : Ptr). hand_of r ∷ []) at in
+    let ev : vs ≡ hand_of (block_ptr pb po) ∷ [] = pen_told ℓ R W Y Kr Sr g p vs is_so ∙ ap (λ (r : Ptr). hand_of r ∷ []) at in
     rewrite ! 1 (λ (us : List Val). ‵ (cell_at full_share D.mir us b o)) ev refl $ first ! $ blocks ! $
     sets ! (addr ! (through ! refl (fld ! refl (hop ! (look_in ! 1 (sub ! 0 refl (whole !))) (fld ! refl (stop !)))))) refl (tt, tt) $
     sets_last ! (addr ! (through ! refl (stop !))) refl (tt, tt) $ exec ! 𝓣.C 𝓣.Λ Ev (tail fn.body) (at_ret Ev Post) $ sets ! (of_opd ! (get ! refl)) refl (tt, tt) $
     rewrite ! 1 (λ (us : List Val). ‵ (cell_at full_share D.mir us b o)) (sym ev) refl $ move ! (1 ∷ 0 ∷ []) $ fjoin ! $
     fpack ! (List Val) (λ us. fsep (cell_at full_share D.mir us b o) (D.own_val (p, (tt, tt)) us)) vs $
-    use2 𝓛 (‵ (part_at G full_share h b o)) (part_in 𝓛 (the_type ℓ R W Y Kr g) full_share h b o) $ close_ref ! tt (in_memory G) h $
+    use2 𝓛 (‵ (part_at G full_share h b o)) (part_in 𝓛 (the_type ℓ R W Y Kr Sr g) full_share h b o) $ close_ref ! tt (in_memory G) h $
     use3 𝓛 (later (some (λ (δ : GName). ‵ ((MutRef (named 0) κ R).own_val (record { ref_ptr = (pb, e); ghost_name = δ; now = x }) (vptr pb e ∷ [])) ⊛ ‵ (flft κ q) ⊛ ‵ (follows G R γ δ F))))
-    (goes_through 𝓛 Y R cw g.holds (g.ways h.key) β pb po h.view G F (same 𝓛 ℓ R W Y Kr g κ bounds.0 q m pb po at) (named 0) κ bounds.0 q m x (cut 𝓛 ℓ R W Y Kr g κ bounds.0 q m pb po at)) $ await ! tt $ pick ! (λ δ. split3 ! $
+    (goes_through 𝓛 Y R cw Sr g.holds (g.ways h.key) β pb po h.view G F (same 𝓛 ℓ R W Y Kr Sr g κ bounds.0 q m pb po at) (named 0) κ bounds.0 q m x (cut 𝓛 ℓ R W Y Kr Sr g κ bounds.0 q m pb po at)) $ await ! tt $ pick ! (λ δ. split3 ! $
     move ! (1 ∷ 3 ∷ []) $ join ! $ use0 𝓛 (raw (fact 𝓤 (x ≡ x))) (fact_i 𝓤 (x ≡ x) (emp 𝓤) refl) $ move ! (3 ∷ 0 ∷ []) $ join ! $ nothing ! $ nothing ! $ fjoin ! $
     returns ! (look_at ! 0 refl) $ free_all ! refl $ keep ! (2 ∷ 0 ∷ 3 ∷ 1 ∷ []) $ by ! (leaves 𝓛 En hs c y (vptr pb e) (record { ref_ptr = (pb, e); ghost_name = δ; now = x }) (tt, tt) (tt, tt))))))))

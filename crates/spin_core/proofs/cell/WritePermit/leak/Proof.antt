@@ -12,18 +12,18 @@ use Rattle.spin_core.proofs.cell.WritePermit.leak.Statement.{statement}
 use Rattle.spin_core.proofs.cell.WritePermit.leak.Code as code
 
 pub leak_spec : {M : Type 1} → statement M
-leak_spec 𝓤 𝓛 𝓜 𝓡 wired T V P K L _ _ _ g d _ =
-    let H = 𝓛.H in let 𝓣 = tables 𝓤 H 𝓜 𝓡 𝓡.env in let R : RattleType = param 0 T in let W : RattleType = param 1 V in let Y : RattleType = param 2 P in let Kr : RattleType = param 3 K in let cw = W.coded in
-    let En = ended T V P K g d in let c = clauses T V P K g d 𝓛 𝓜.mem 𝓡.returns in let inst = bounded (a_type ∷ a_type ∷ a_type ∷ a_type ∷ []) (T, (V, (P, (K, tt)))) (dcons d dnil) in let fn = inst_fn inst code.function in let closed = code.unfolded 𝓤 H 𝓜 𝓡 wired (T, (V, (P, (K, tt)))) d in
-    let self = plain (λ κs. pen.the_row (named_lft 5 0 tt κs) R W Y Kr g) in let hs : Stays En.signature.params En.kept = (stay_dropped self no, tt) in
-    proved 𝓛 En hs c 𝓜 𝓡 (Goes-dropped 𝓛 5 self no (λ κs x f. refl), tt) (#self inst) fn closed
-    (λ κs. ((λ x. hand_of x.cell ∷ []), tt)) (λ κs. ((λ x vs so. pen_told (named_lft 5 0 tt κs) R W Y Kr g x.cell vs so.0), tt)) (λ κs qs bounds a gh are.
-    let ℓ = named_lft 5 0 tt κs in let Pr : RattleType = pen.the_row ℓ R W Y Kr g in let h : Pr.Denot = a.0 in let p : Ptr = h.cell in let b : ℕ = block_of p in let o : ℕ = count_of p in let e : ℕ = o + offset R in let β : Lft = κs.0 in let q : Share = qs.0 in let x : T.Denot = h.value in
-    let others : Fml = fsep (flft κs.1.0 qs.1.0) (fsep (flft κs.1.1.0 qs.1.1.0) (fsep (flft κs.1.1.1.0 qs.1.1.1.0) (fsep (flft κs.1.1.1.1.0 qs.1.1.1.1.0) ftrue))) in let Owned : Ptr → Fml = λ z. writer_owns Y R cw.code g.holds (g.ways h.key) β z h.view x in
+leak_spec 𝓤 𝓛 𝓜 𝓡 wired T V P K S L _ _ _ LS g d _ =
+    let H = 𝓛.H in let 𝓣 = tables 𝓤 H 𝓜 𝓡 𝓡.env in let R : RattleType = param 0 T in let W : RattleType = param 1 V in let Y : RattleType = param 2 P in let Kr : RattleType = param 3 K in let Sr : RattleType = param 4 S in let cw = W.coded in
+    let En = ended T V P K S g d in let c = clauses T V P K S g d 𝓛 𝓜.mem 𝓡.returns in let inst = bounded (a_type ∷ a_type ∷ a_type ∷ a_type ∷ a_type ∷ []) (T, (V, (P, (K, (S, tt))))) (dcons d dnil) in let fn = inst_fn inst code.function in let closed = code.unfolded 𝓤 H 𝓜 𝓡 wired (T, (V, (P, (K, (S, tt))))) d in
+    let self = plain (λ κs. pen.the_row (named_lft 6 0 tt κs) R W Y Kr Sr g) in let hs : Stays En.signature.params En.kept = (stay_dropped self no, tt) in
+    proved 𝓛 En hs c 𝓜 𝓡 (Goes-dropped 𝓛 6 self no (λ κs x f. refl), tt) (#self inst) fn closed
+    (λ κs. ((λ x. hand_of x.cell ∷ []), tt)) (λ κs. ((λ x vs so. pen_told (named_lft 6 0 tt κs) R W Y Kr Sr g x.cell vs so.0), tt)) (λ κs qs bounds a gh are.
+    let ℓ = named_lft 6 0 tt κs in let Pr : RattleType = pen.the_row ℓ R W Y Kr Sr g in let h : Pr.Denot = a.0 in let p : Ptr = h.cell in let b : ℕ = block_of p in let o : ℕ = count_of p in let e : ℕ = o + offset R in let β : Lft = κs.0 in let q : Share = qs.0 in let x : T.Denot = h.value in
+    let others : Fml = fsep (flft κs.1.0 qs.1.0) (fsep (flft κs.1.1.0 qs.1.1.0) (fsep (flft κs.1.1.1.0 qs.1.1.1.0) (fsep (flft κs.1.1.1.1.0 qs.1.1.1.1.0) (fsep (flft κs.1.1.1.1.1.0 qs.1.1.1.1.1.0) ftrue)))) in let Owned : Ptr → Fml = λ z. writer_owns Y R cw.code Sr g.holds (g.ways h.key) β z h.view x in
     let y : (walk_of 𝓛 En hs c).Ghost = ((κs, qs, bounds, a, (hand_of p ∷ [], tt)), gh) in let Post : Val → SProp 𝓤 = (walk_of 𝓛 En hs c).post y in
     qed 𝓛 (((‵ (flft β q) ⊛ ‵ others) ⊛ ‵ (owns (types_at En.signature.params κs) a y.0.4)) ∷ raw ((c κs a).requires gh) ∷ []) ∵
     split ! $ split ! $ move ! (2 ∷ []) $ fsplit ! $ fsplit ! $ keep ! (1 ∷ 3 ∷ 4 ∷ []) $
-    use1 𝓛 (given (InBlock p) (‵ (Owned p))) (fact_use 𝓤 _ (pen_placed 𝓛 Y R cw.code g.holds (g.ways h.key) β p h.view x) (guard_i 𝓤 (InBlock p) (sem 𝓛 (Owned p)))) $ learn ! (λ inb. let at : p ≡ block_ptr b o = at_block p inb in
+    use1 𝓛 (given (InBlock p) (‵ (Owned p))) (fact_use 𝓤 _ (pen_placed 𝓛 Y R cw.code Sr g.holds (g.ways h.key) β p h.view x) (guard_i 𝓤 (InBlock p) (sem 𝓛 (Owned p)))) $ learn ! (λ inb. let at : p ≡ block_ptr b o = at_block p inb in
     rewrite ! 0 (λ (z : Ptr). ‵ (Owned z)) at refl $
     enter ! 𝓣.C 𝓣.Λ fn (hand_of p ∷ []) Post $ alloc_all ! (λ l. pass_all ! refl (typed p inb, tt) $ let Ev = types.ByLocal.env fn.locals l in
     fpick ! (λ known. fpick ! (λ so. fpick ! (λ t. fsplit ! $ fsplit ! $ move ! (2 ∷ []) $ fsplit ! $ move ! (1 ∷ []) $ fsplit ! $ move ! (3 ∷ 1 ∷ 5 ∷ []) $

@@ -24,7 +24,7 @@ use denote.Plain.{uint_vals, uint_Tells}
 use denote.Ref.{MutRef, MutBor, mut_vals, mut_Tells}
 use denote.Follow.{follows, lends_Part}
 use denote.Memory.{part_of, part_at, lone, mem as in_memory}
-use denote.Param.{param, bounded}
+use denote.Param.{param, layout, bounded}
 use denote.Param.Laws.{param_laws}
 use denote.Steps.{nothing, heard}
 use denote.Struct.Members.{Member}
@@ -59,28 +59,28 @@ unfolding part_of
 lies X g w b e = refl
 
 pub get_settled_spec : {M : Type 1} → statement M
-get_settled_spec 𝓤 𝓛 𝓜 𝓡 wired X U P K L _ _ _ s d' g d _ _ =
-    let H = 𝓛.H in let 𝓣 = tables 𝓤 H 𝓜 𝓡 𝓡.env in let X₀ : RattleType = param 0 X in let R : RattleType = loose.the_row X₀ in let S : RattleType = settled.the_row X₀ s in let V : RattleType = param 1 U in let Y : RattleType = param 2 P in let Kr : RattleType = param 3 K in
-    let En = ended X U P K s d' g d in let c = clauses X U P K s d' g d 𝓛 𝓜.mem 𝓡.returns in
-    let inst = bounded (a_type ∷ a_type ∷ a_type ∷ a_type ∷ []) (X, (U, (P, (K, tt)))) (dcons d' (dcons d dnil)) in let fn = inst_fn inst code.function in
-    let Ty : RattleType = cell.the_row R V Y Kr g in let m : Member = record { row = R; ty = lone R.mir } in let Lw = (loose_laws.the_row_laws X₀ (param_laws 0 X L)).lawful 𝓛 in let number = plain (λ _. u64) in
+get_settled_spec 𝓤 𝓛 𝓜 𝓡 wired X U P K N L _ _ _ LN s d' g d _ _ =
+    let H = 𝓛.H in let 𝓣 = tables 𝓤 H 𝓜 𝓡 𝓡.env in let X₀ : RattleType = param 0 X in let R : RattleType = loose.the_row X₀ in let S : RattleType = settled.the_row X₀ s in let V : RattleType = param 1 U in let Y : RattleType = param 2 P in let Kr : RattleType = param 3 K in let Nr : RattleType = param 4 N in
+    let En = ended X U P K N s d' g d in let c = clauses X U P K N s d' g d 𝓛 𝓜.mem 𝓡.returns in
+    let inst = bounded (a_type ∷ a_type ∷ a_type ∷ a_type ∷ a_type ∷ []) (X, (U, (P, (K, (N, tt))))) (dcons d' (dcons d dnil)) in let fn = inst_fn inst code.function in
+    let Ty : RattleType = cell.the_row R V Y Kr Nr g in let m : Member = record { row = R; ty = lone R.mir } in let ms : Member = record { row = Nr; ty = layout N } in let Ls = (param_laws 4 N LN).lawful 𝓛 in let Lw = (loose_laws.the_row_laws X₀ (param_laws 0 X L)).lawful 𝓛 in let number = plain (λ _. u64) in
     let hs : Stays En.signature.params En.kept = (stay_dropped (RefMutOf (0 ∷ []) tt (plain (λ _. Ty)) (λ _. tt)) no, (stay_dropped number yes, tt)) in
-    proved 𝓛 En hs c 𝓜 𝓡 (Goes-spent_ref 𝓛 5 (0 ∷ []) tt (plain (λ _. Ty)), (Goes-dropped 𝓛 5 number yes (λ κs x f. refl), tt)) (#self inst) fn (code.unfolded 𝓤 H 𝓜 𝓡 wired (X, (U, (P, (K, tt)))) d' d) (λ κs. (mut_vals, (uint_vals w64, tt))) (λ κs. (mut_Tells (named 0) κs.0 Ty, (uint_Tells w64, tt))) (λ κs qs bounds a gh are.
+    proved 𝓛 En hs c 𝓜 𝓡 (Goes-spent_ref 𝓛 6 (0 ∷ []) tt (plain (λ _. Ty)), (Goes-dropped 𝓛 6 number yes (λ κs x f. refl), tt)) (#self inst) fn (code.unfolded 𝓤 H 𝓜 𝓡 wired (X, (U, (P, (K, (N, tt))))) d' d) (λ κs. (mut_vals, (uint_vals w64, tt))) (λ κs. (mut_Tells (named 0) κs.0 Ty, (uint_Tells w64, tt))) (λ κs qs bounds a gh are.
     let b : ℕ = a.0.ref_ptr.0 in let o : ℕ = a.0.ref_ptr.1 in let key : K.Denot = a.0.now in let γ : GName = a.0.ghost_name in let wanted : ℕ = a.1.0 in let κ : Lft = κs.0 in let q : Share = qs.0 in let e : ℕ = o + offset R in let at : Val = vptr b e in
     let y : (walk_of 𝓛 En hs c).Ghost = ((κs, qs, bounds, a, (vptr b o ∷ [], (vint w64 wanted ∷ [], tt))), gh) in let Post : Val → SProp 𝓤 = (walk_of 𝓛 En hs c).post y in let Lent : RattleType = MutRef (named 0) κ S in let Out : RattleType = option.the_row Lent in
-    let others : Fml = fsep (flft κs.1.0 qs.1.0) (fsep (flft κs.1.1.0 qs.1.1.0) (fsep (flft κs.1.1.1.0 qs.1.1.1.0) (fsep (flft κs.1.1.1.1.0 qs.1.1.1.1.0) ftrue))) in
-    let Ok : Type 0 = SettlesAt g.holds (g.ways key) s.settled wanted in let Q : SProp 𝓤 = sem 𝓛 (Row 𝓛 m V Y Kr g key b o) in let words : ℕ × ℕ → Fml = standing_words 𝓛 m V Y Kr g key b o in let Lies : R.Denot → Fml = At 𝓛 m V Y Kr g key b o in
-    let Holds : All 𝓛 m V Y Kr g key b o → Type 0 = Rule 𝓛 m V Y Kr g key b o in let Joined : SProp 𝓤 = Joins 𝓛 m V Y Kr g key b o Lw (Row 𝓛 m V Y Kr g key b o) (row_out 𝓛 m V Y Kr g key b o) (row_in 𝓛 m V Y Kr g key b o) in
-    let J : All 𝓛 m V Y Kr g key b o → SProp 𝓤 = λ t. wand 𝓤 (sep 𝓤 (sem 𝓛 (words (t.0, t.1))) (sep 𝓤 (sem 𝓛 (Lies t.2)) (sem 𝓛 (said (Holds t))))) Q in
+    let others : Fml = fsep (flft κs.1.0 qs.1.0) (fsep (flft κs.1.1.0 qs.1.1.0) (fsep (flft κs.1.1.1.0 qs.1.1.1.0) (fsep (flft κs.1.1.1.1.0 qs.1.1.1.1.0) (fsep (flft κs.1.1.1.1.1.0 qs.1.1.1.1.1.0) ftrue)))) in
+    let Ok : Type 0 = SettlesAt g.holds (g.ways key) s.settled wanted in let Q : SProp 𝓤 = sem 𝓛 (Row 𝓛 m ms V Y Kr g key b o) in let words : ℕ × N.Denot → Fml = standing_words 𝓛 m ms V Y Kr g key b o in let Lies : R.Denot → Fml = At 𝓛 m ms V Y Kr g key b o in
+    let Holds : All 𝓛 m ms V Y Kr g key b o → Type 0 = Rule 𝓛 m ms V Y Kr g key b o in let Joined : SProp 𝓤 = Joins 𝓛 m ms V Y Kr g key b o Lw Ls (Row 𝓛 m ms V Y Kr g key b o) (row_out 𝓛 m ms V Y Kr g key b o) (row_in 𝓛 m ms V Y Kr g key b o) in
+    let J : All 𝓛 m ms V Y Kr g key b o → SProp 𝓤 = λ t. wand 𝓤 (sep 𝓤 (sem 𝓛 (words (t.0, t.1))) (sep 𝓤 (sem 𝓛 (Lies t.2)) (sem 𝓛 (said (Holds t))))) Q in
     -- all of the cell but its value, and the cell again from any value that the rule allows
-    let Rest : ℕ × ℕ → SProp 𝓤 = λ ns. sep 𝓤 (sem 𝓛 (words ns)) Joined in
-    let shuts : (t : All 𝓛 m V Y Kr g key b o) → Holds t → ent 𝓤 (sep 𝓤 (sem 𝓛 (Lies t.2)) (Rest (t.0, t.1))) Q = λ t rule.
+    let Rest : ℕ × N.Denot → SProp 𝓤 = λ ns. sep 𝓤 (sem 𝓛 (words ns)) Joined in
+    let shuts : (t : All 𝓛 m ms V Y Kr g key b o) → Holds t → ent 𝓤 (sep 𝓤 (sem 𝓛 (Lies t.2)) (Rest (t.0, t.1))) Q = λ t rule.
     qed 𝓛 (‵ (Lies t.2) ∷ (‵ (words (t.0, t.1)) ⊛ raw Joined) ∷ []) ∵ move ! (1 ∷ []) $ split ! $ nothing ! $ fpack ! (Holds t) (λ _. ftrue) rule $ move ! (3 ∷ 0 ∷ []) $ join ! $ move ! (1 ∷ 0 ∷ []) $ join ! $ move ! (1 ∷ []) $
     use1 𝓛 (raw (J t)) (all_e 𝓤 J t) $ move ! (1 ∷ 0 ∷ []) $ by ! (apply∗ 𝓤 (sep 𝓤 (sem 𝓛 (words (t.0, t.1))) (sep 𝓤 (sem 𝓛 (Lies t.2)) (sem 𝓛 (said (Holds t))))) Q) in
-    qed 𝓛 (((‵ (flft κ q) ⊛ ‵ others) ⊛ ‵ (owns (types_at En.signature.params κs) a y.0.4)) ∷ raw (fact 𝓤 _) ∷ raw (fact 𝓤 _) ∷ raw (fact 𝓤 _) ∷ raw (fact 𝓤 _) ∷ raw (fact 𝓤 Ok) ∷ []) ∵ keep ! (5 ∷ 0 ∷ []) $ heard ! Ok (λ ok. split ! $ split ! $ move ! (2 ∷ []) $ fsplit ! $ fsplit3 ! $ keep ! (1 ∷ 2 ∷ 4 ∷ 5 ∷ []) $
+    qed 𝓛 (((‵ (flft κ q) ⊛ ‵ others) ⊛ ‵ (owns (types_at En.signature.params κs) a y.0.4)) ∷ raw (fact 𝓤 _) ∷ raw (fact 𝓤 _) ∷ raw (fact 𝓤 _) ∷ raw (fact 𝓤 _) ∷ raw (fact 𝓤 _) ∷ raw (fact 𝓤 Ok) ∷ []) ∵ keep ! (6 ∷ 0 ∷ []) $ heard ! Ok (λ ok. split ! $ split ! $ move ! (2 ∷ []) $ fsplit ! $ fsplit3 ! $ keep ! (1 ∷ 2 ∷ 4 ∷ 5 ∷ []) $
     enter ! 𝓣.C 𝓣.Λ fn (vptr b o ∷ vint w64 wanted ∷ []) Post $ alloc_all ! (λ l. pass_all ! refl ((tt, tt), ((tt, record { fits = are.1.0.1 }), tt)) $ let Ev = env fn.locals l in
-    open_ref ! tt (in_memory Ty) $ use1 𝓛 (some (λ (z : Knows 𝓛 m V Y Kr g key b o × All 𝓛 m V Y Kr g key b o). ‵ (words (z.1.0, z.1.1)) ⊛ ‵ (Lies z.1.2) ⊛ ‵ (said (Holds z.1)) ⊛ raw Joined))
-    (fields_out 𝓛 m V Y Kr g key b o Lw (Row 𝓛 m V Y Kr g key b o) (row_out 𝓛 m V Y Kr g key b o) (row_in 𝓛 m V Y Kr g key b o)) $ pick ! (λ z. let n : ℕ = z.1.0 in let k : ℕ = z.1.1 in let x : R.Denot = z.1.2 in
+    open_ref ! tt (in_memory Ty) $ use1 𝓛 (some (λ (z : Knows 𝓛 m ms V Y Kr g key b o × All 𝓛 m ms V Y Kr g key b o). ‵ (words (z.1.0, z.1.1)) ⊛ ‵ (Lies z.1.2) ⊛ ‵ (said (Holds z.1)) ⊛ raw Joined))
+    (fields_out 𝓛 m ms V Y Kr g key b o Lw Ls (Row 𝓛 m ms V Y Kr g key b o) (row_out 𝓛 m ms V Y Kr g key b o) (row_in 𝓛 m ms V Y Kr g key b o)) $ pick ! (λ z. let n : ℕ = z.1.0 in let k : N.Denot = z.1.1 in let x : R.Denot = z.1.2 in
     split ! $ fsplit ! $ move ! (2 ∷ []) $ split3 ! $ move ! (1 ∷ []) $ fpick ! (λ rule. drop ! $ move ! (2 ∷ []) $
     -- [the first word; the value; the way back; the second word; the open borrow; its two names; the tokens]
     well_typed ! (λ good. sets ! (of_opd ! (load ! (through ! refl (fld ! refl (stop !))) (look ! 0 refl))) refl (tt, record { fits = good.1.fits }) $ sets ! (of_opd ! (get ! refl)) refl (tt, record { fits = are.1.0.1 }) $
@@ -97,6 +97,6 @@ get_settled_spec 𝓤 𝓛 𝓜 𝓡 wired X U P K L _ _ _ s d' g d _ _ =
     split3 ! $ use1 𝓛 (‵ (Out.own_val (Some r) (live 1 (vcons at vnil) ∷ []))) (Some-of 𝓛 Lent r at) $ move ! (2 ∷ []) $ drop ! $ move ! (1 ∷ 2 ∷ []) $ join ! $ nothing ! $ nothing ! $ nothing ! $ fjoin ! $ nothing ! $ fjoin ! $
     returns ! (look_at ! 0 refl) $ free_all ! refl $ keep ! (2 ∷ 0 ∷ 3 ∷ 1 ∷ []) $ by ! (leaves 𝓛 En hs c y (live 1 (vcons at vnil)) (Some r) (tt, (tt, tt)) (tt, (tt, tt)))))
     (λ other. sets_last ! (agg ! (and_then ! (lit ! tt) (no_more !))) refl (tt, (record { fits = lit< tt }, tt)) $ exec ! 𝓣.C 𝓣.Λ Ev (after 4 fn.body) (at_ret Ev Post) $ sets ! (of_opd ! (get ! refl)) refl (tt, (record { fits = lit< tt }, tt)) $
-    move ! (0 ∷ 3 ∷ []) $ fjoin ! $ move ! (0 ∷ 2 ∷ []) $ join ! $ move ! (1 ∷ 0 ∷ []) $ use2 𝓛 (‵ (Row 𝓛 m V Y Kr g key b o)) (shuts z.1 rule) $ close_ref ! tt (in_memory Ty) key $ drop ! $ drop ! $ join ! $
+    move ! (0 ∷ 3 ∷ []) $ fjoin ! $ move ! (0 ∷ 2 ∷ []) $ join ! $ move ! (1 ∷ 0 ∷ []) $ use2 𝓛 (‵ (Row 𝓛 m ms V Y Kr g key b o)) (shuts z.1 rule) $ close_ref ! tt (in_memory Ty) key $ drop ! $ drop ! $ join ! $
     use0 𝓛 (‵ (Out.own_val None (live 0 vnil ∷ []))) (none_of 𝓛 Lent) $ move ! (1 ∷ []) $ nothing ! $ nothing ! $ nothing ! $ fjoin ! $ nothing ! $ fjoin ! $
     returns ! (look_at ! 0 refl) $ free_all ! refl $ keep ! (2 ∷ 0 ∷ 3 ∷ 1 ∷ []) $ by ! (leaves 𝓛 En hs c y (live 0 vnil) None (tt, (tt, tt)) (tt, (tt, tt))))))))))

@@ -85,7 +85,7 @@ module _ (ℓ : NamedLft) (T S : RattleType) (LT : Laws T) (LS : Laws S) where
   Key = unit-field.row
 
   abbrev pub Pen : RattleType
-  Pen = Permit.the_row ℓ R V.the_row (F.the_row R) Key (ghosts R)
+  Pen = Permit.the_row ℓ R V.the_row (F.the_row R) Key Key (ghosts R)
 
   abbrev pub put : G.Denot → Pen.Denot → G.Denot
   put h p = record { writer = p; strategy = h.strategy }
@@ -104,16 +104,17 @@ deref_mut_spec {M} 𝓤 𝓛 𝓜 𝓡 wired T S LT LS =
     let En = ended T S in let c = clauses T S 𝓛 𝓜.mem 𝓡.returns in let inst = layouts (a_type ∷ a_type ∷ []) (T, (S, tt)) in let fn = inst_fn inst code.function in let closed = code.unfolded 𝓤 H 𝓜 𝓡 wired (T, (S, tt)) in
     let row = plain (λ κs. the_row (named_lft 4 1 tt κs) R Q) in let self = RefMutOf (0 ∷ []) tt row (λ _. tt) in let hs : Stays En.signature.params En.kept = (stay_dropped self no, tt) in
     let X : RattleType = arg (layout T) yes R in let W : RattleType = arg (raw_type (layout V.the_row)) no V.the_row in let Y : RattleType = arg (ty_struct [] (tcons (layout T) tnil)) no (F.the_row R) in let U : RattleType = arg ty_unit no unit-field.row in let I : RattleType = arg (layout T) no R in
-    let called = met 𝓤 𝓛 𝓜 𝓡 (code.calls-spin_core::cell::WritePermit::get_mut 𝓡.env wired) X W Y U (arg_laws (layout T) yes R (param_laws 0 T LT) refl)
+    let unit_laws = arg_laws ty_unit no unit-field.row (of_field unit-field unit-laws refl (copy_shared unit-field unit-copy)) refl in let met_rule = bound 𝓡.env I (arg_laws (layout T) no R (param_laws 0 T LT) refl) M 𝓤 𝓛 𝓜 𝓡 in
+    let called = met 𝓤 𝓛 𝓜 𝓡 (code.calls-spin_core::cell::WritePermit::get_mut 𝓡.env wired) X W Y U U (arg_laws (layout T) yes R (param_laws 0 T LT) refl)
     (arg_laws (raw_type (layout V.the_row)) no V.the_row VL.the_row_laws refl) (arg_laws (ty_struct [] (tcons (layout T) tnil)) no (F.the_row R) (FL.the_row_laws R (param_laws 0 T LT)) refl)
-    (arg_laws ty_unit no unit-field.row (of_field unit-field unit-laws refl (copy_shared unit-field unit-copy)) refl) (ghosts I) (dict I) (record { Self-Key-lives = (bound 𝓡.env I (arg_laws (layout T) no R (param_laws 0 T LT) refl) M 𝓤 𝓛 𝓜 𝓡).Self-Key-lives }) in
+    unit_laws unit_laws (ghosts I) (dict I) (record { Self-Key-lives = met_rule.Self-Key-lives; Self-Second-lives = met_rule.Self-Second-lives }) in
     proved 𝓛 En hs c 𝓜 𝓡 (Goes-spent_ref 𝓛 4 (0 ∷ []) tt row, tt) (#self inst) fn closed
     (λ κs. (mut_vals, tt)) (λ κs. (mut_Tells (named 0) κs.0 (the_row (named_lft 4 1 tt κs) R Q), tt)) (λ κs qs bounds a gh are.
     let ℓ = named_lft 4 1 tt κs in let G : RattleType = the_row ℓ R Q in let P : RattleType = Pen ℓ T S LT LS in let m = a.0 in let b : ℕ = m.ref_ptr.0 in let o : ℕ = m.ref_ptr.1 in let γ : GName = m.ghost_name in let h : G.Denot = m.now in
     let κ : Lft = κs.0 in let q : Share = qs.0 in let β : Lft = κs.1.0 in let τ : Lft = κs.1.1.0 in let s : Share = qs.1.1.0 in let u : Fml = flft κs.1.1.1.0 qs.1.1.1.0 in
     let y : (walk_of 𝓛 En hs c).Ghost = ((κs, qs, bounds, a, (vptr b o ∷ [], tt)), gh) in let Post : Val → SProp 𝓤 = (walk_of 𝓛 En hs c).post y in
-    let κs' : Lfts 6 = (κ, (β, (τ, ([], (τ, ([], tt)))))) in let qs' : Shares 6 = (q, (qs.1.0, (Share.left s, (full_share, (Share.right s, (full_share, tt)))))) in
-    let C = triple_of 𝓛 (callee.signature X W Y U (ghosts I) (dict I)) (callee.spec X W Y U (ghosts I) (dict I) 𝓛 𝓜.mem 𝓡.returns) in
+    let κs' : Lfts 7 = (κ, (β, (τ, ([], (τ, ([], ([], tt))))))) in let qs' : Shares 7 = (q, (qs.1.0, (Share.left s, (full_share, (Share.right s, (full_share, (full_share, tt))))))) in
+    let C = triple_of 𝓛 (callee.signature X W Y U U (ghosts I) (dict I)) (callee.spec X W Y U U (ghosts I) (dict I) 𝓛 𝓜.mem 𝓡.returns) in
     qed 𝓛 (((‵ (flft κ q) ⊛ (‵ (flft β qs.1.0) ⊛ (‵ (flft τ qs.1.1.0) ⊛ (‵ u ⊛ ‵ ftrue)))) ⊛ ‵ (owns (types_at En.signature.params κs) a y.0.4)) ∷ raw (fact 𝓤 (Incl τ T.lives)) ∷ raw (fact 𝓤 (Incl κs.1.1.1.0 S.lives)) ∷ ‵ ftrue ∷ []) ∵
     split ! $ split ! $ move ! (1 ∷ []) $ split3 ! $ move ! (4 ∷ []) $ fsplit ! $ fsplit3 ! $
     -- [its place; its value; its borrow; nothing; β; τ; the others; κ; T lives; ..]
@@ -126,14 +127,14 @@ deref_mut_spec {M} 𝓤 𝓛 𝓜 𝓡 wired T S LT LS =
     -- [the argument; κ; what follows; β; τ; the others; T lives; ..]
     move ! (6 ∷ []) $ heard ! (Incl τ T.lives) (λ lives. move ! (4 ∷ []) $ use1 𝓛 (‵ (flft τ (Share.left s)) ⊛ ‵ (flft τ (Share.right s))) (𝓛.lfts.lft_split τ s) $ split ! $
     -- [τ; τ; the argument; κ; what follows; β; the others; ..]
-    use0 𝓛 (‵ (flft [] full_share)) (𝓛.lfts.lft-nil full_share) $ use0 𝓛 (‵ (flft [] full_share)) (𝓛.lfts.lft-nil full_share) $ nothing ! $
-    move ! (1 ∷ 0 ∷ []) $ fjoin ! $ move ! (3 ∷ 0 ∷ []) $ fjoin ! $ move ! (1 ∷ 0 ∷ []) $ fjoin ! $ move ! (1 ∷ 0 ∷ []) $ fjoin ! $ move ! (4 ∷ 0 ∷ []) $ fjoin ! $ move ! (2 ∷ 0 ∷ []) $ fjoin ! $ join ! $
+    use0 𝓛 (‵ (flft [] full_share)) (𝓛.lfts.lft-nil full_share) $ use0 𝓛 (‵ (flft [] full_share)) (𝓛.lfts.lft-nil full_share) $ use0 𝓛 (‵ (flft [] full_share)) (𝓛.lfts.lft-nil full_share) $ nothing ! $
+    move ! (1 ∷ 0 ∷ []) $ fjoin ! $ move ! (1 ∷ 0 ∷ []) $ fjoin ! $ move ! (3 ∷ 0 ∷ []) $ fjoin ! $ move ! (1 ∷ 0 ∷ []) $ fjoin ! $ move ! (1 ∷ 0 ∷ []) $ fjoin ! $ move ! (4 ∷ 0 ∷ []) $ fjoin ! $ move ! (2 ∷ 0 ∷ []) $ fjoin ! $ join ! $
     -- [tokens and argument; what follows; the others; ..]
-    nothing ! $ use0 𝓛 (raw (fact 𝓤 (Incl [] U.lives))) (fact_i 𝓤 (Incl [] U.lives) (emp 𝓤) (⊑_static [])) $ join ! $ use0 𝓛 (raw (fact 𝓤 (Incl τ Y.lives))) (fact_i 𝓤 (Incl τ Y.lives) (emp 𝓤) (twice τ T.lives lives)) $ join ! $ use0 𝓛 (raw (fact 𝓤 (Incl [] W.lives))) (fact_i 𝓤 (Incl [] W.lives) (emp 𝓤) (⊑_static [])) $ join ! $
+    nothing ! $ use0 𝓛 (raw (fact 𝓤 (Incl [] U.lives))) (fact_i 𝓤 (Incl [] U.lives) (emp 𝓤) (⊑_static [])) $ join ! $ use0 𝓛 (raw (fact 𝓤 (Incl [] U.lives))) (fact_i 𝓤 (Incl [] U.lives) (emp 𝓤) (⊑_static [])) $ join ! $ use0 𝓛 (raw (fact 𝓤 (Incl τ Y.lives))) (fact_i 𝓤 (Incl τ Y.lives) (emp 𝓤) (twice τ T.lives lives)) $ join ! $ use0 𝓛 (raw (fact 𝓤 (Incl [] W.lives))) (fact_i 𝓤 (Incl [] W.lives) (emp 𝓤) (⊑_static [])) $ join ! $
     use0 𝓛 (raw (fact 𝓤 (Incl τ T.lives))) (fact_i 𝓤 (Incl τ T.lives) (emp 𝓤) lives) $ join ! $ move ! (1 ∷ 0 ∷ []) $ join ! $ use1 𝓛 (raw (C.pre yc)) (id⊢ 𝓤 (C.pre yc)) $
     sets ! (addr ! (through ! refl (fld ! starts (stop !)))) refl (tt, tt) $
     calls_at ! (fm 𝓛 𝓜 𝓡) C called yc (and_then ! (get ! refl) (no_more !)) (λ v.
-    use1 𝓛 (later (some (λ (r : MutBor T.Denot). ((‵ (flft κ q) ⊛ (‵ (flft β qs.1.0) ⊛ (‵ (flft τ (Share.left s)) ⊛ (‵ (flft [] full_share) ⊛ (‵ (flft τ (Share.right s)) ⊛ ‵ (fsep (flft [] full_share) ftrue)))))) ⊛ ‵ ((MutRef (named 0) κ R).own_val r (v ∷ []))) ⊛
+    use1 𝓛 (later (some (λ (r : MutBor T.Denot). ((‵ (flft κ q) ⊛ (‵ (flft β qs.1.0) ⊛ (‵ (flft τ (Share.left s)) ⊛ (‵ (flft [] full_share) ⊛ (‵ (flft τ (Share.right s)) ⊛ ‵ (fsep (flft [] full_share) (fsep (flft [] full_share) ftrue))))))) ⊛ ‵ ((MutRef (named 0) κ R).own_val r (v ∷ []))) ⊛
     some (λ (ws : Unit {0} × Unit {0}). ‵ (fsep ftrue ftrue) ⊛ (‵ (follows P R δ r.ghost_name (with_value h.writer)) ⊛ raw (fact 𝓤 (r.now ≡ h.writer.value))))))) (id⊢ 𝓤 (C.post yc v)) $
     await ! tt $ pick ! (λ r. split ! $ split ! $ move ! (1 ∷ []) $ fsplit3 ! $ feq_l ! (λ e. move ! (3 ∷ []) $ pick ! (λ ws. split3 ! $ drop ! $ move ! (5 ∷ 0 ∷ []) $
     use2 𝓛 (‵ (follows G R γ r.ghost_name (write_with h))) (follows_then 𝓛 G P R (put ℓ T S LT LS h) (with_value h.writer) γ δ r.ghost_name) $
