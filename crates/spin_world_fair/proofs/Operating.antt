@@ -1,6 +1,5 @@
 -- Each step of the fair lock's table is one operation on its word.
 use Rattle.std.proofs.Common.{◌≡◌, ℕ, ◌+◌, ◌==◌, ◌%◌, Bool, true, false, if◌then◌else◌, unwrap_or, Option, Some, None, refl}
-use Rattle.std.proofs.lemmas.Bool.{false≢true}
 use Rattle.spin_world_core.specs.declared.answer.Answer.{Answer}
 use Rattle.spin_world_core.specs.declared.object.Next.{Next}
 use Rattle.spin_world_core.specs.declared.place.Hold.{Hold}

@@ -113,7 +113,7 @@ module _ {V : Type 0} (v : V) (cap : ℕ) where
       let one = goes_some seen.plain p e.0 sc.change here.exclusive stays.0 is.keeps.opens (stays_now p sc.after es stays.1) in
       (omega (arith, rest.0, one), rest.1)
 
-  pub opens_by_releases : (n : ℕ) (past further : List (ℕ × Move RwCall V)) → Opens v cap n past further
+  pub opens_by_releases : (n : ℕ) (past further : List (ℕ × Move RwCall V)) → Opens (rw_machine v cap) n past further
   opens_by_releases n past further p stays =
       let m = rw_machine v cap in
       let all = past ++ further in
@@ -168,7 +168,7 @@ module _ {V : Type 0} (v : V) (cap : ℕ) where
   holds_after p held DowngradeToUpgradeable s is mine = absurd (cc (is))
   holds_after p held _ s is mine = absurd (cc (is))
 
-  pub downgrades : (n : ℕ) (past : List (ℕ × Move RwCall V)) → Downgrades v cap n past
+  pub downgrades : (n : ℕ) (past : List (ℕ × Move RwCall V)) → Downgrades (rw_machine v cap) n past
   downgrades n past p c l h held is there =
       let m = rw_machine v cap in
       let all = past ++ (p, Step) ∷ [] in

@@ -2,6 +2,7 @@
 use Rattle.std.specs.Prelude.{◌≡◌, ℕ, ◌+◌, ◌<◌, ◌≤◌, ◌↔◌, Bool, true, false, Option, Some, None, List, [], ◌∷◌, ◌++◌, length, slice_get, min, max}
 use Rattle.spin_step.specs.Plain.{Plain, reading, upgradable, writing, to_write, to_upgrade, is_open_to, is_holder, count_kind, rw_word}
 use Rattle.spin_step.specs.Readers.{reader_limit, reader_goes}
+use Rattle.spin_world_core.specs.declared.answer.Answer.{Answer}
 use Rattle.spin_world_core.specs.declared.answer.Answer.TheVariants.{Granted, Done}
 use Rattle.spin_world_core.specs.declared.place.Hold.{Hold}
 use Rattle.spin_world_core.specs.declared.place.Hold.TheVariants as hold
@@ -16,7 +17,6 @@ use Rattle.spin_world_core.specs.Machines.{Machine}
 use Rattle.spin_world_core.specs.Schedules.{after, at_first}
 use Rattle.spin_world_core.specs.Runs.{Seen, scene, opening}
 use Rattle.spin_world_core.specs.Users.{seen_after, outcome_after, steps_made}
-use Rattle.spin_world_rw.specs.Rw.{rw_machine}
 
 -- a lock of this cap, with this word and these holders: who writes holds alone, at most one of them may upgrade, and they are never more than may hold
 pub record StandTogether (cap w : ℕ) (s : Plain) : Type 0 where
@@ -36,16 +36,16 @@ less DowngradeToUpgradeable = Some hold.Upgradable
 less _ = None
 
 -- a downgrade is one step, from a state in which no other party may become the writer to another such state
-pub record DowngradesAtOnce {V : Type 0} (v : V) (cap n : ℕ) (past : List (ℕ × Move RwCall V)) (p : ℕ) (held : Hold) : Type 0 where
-  pub before : let m = rw_machine v cap in KeepsWritersOut p (seen_after m (opening m n) past).plain
-  pub done : let m = rw_machine v cap in outcome_after m n past p Step ≡ Answered Done None
-  pub holds : let m = rw_machine v cap in slice_get (after m (at_first m n) (past ++ (p, Step) ∷ [])).seats p ≡ Some (Holding held)
-  pub later : let m = rw_machine v cap in KeepsWritersOut p (seen_after m (opening m n) (past ++ (p, Step) ∷ [])).plain
+pub record DowngradesAtOnce {V : Type 0} (m : Machine ℕ V RwCall RwPoint (Answer V)) (n : ℕ) (past : List (ℕ × Move RwCall V)) (p : ℕ) (held : Hold) : Type 0 where
+  pub before : KeepsWritersOut p (seen_after m (opening m n) past).plain
+  pub done : outcome_after m n past p Step ≡ Answered Done None
+  pub holds : slice_get (after m (at_first m n) (past ++ (p, Step) ∷ [])).seats p ≡ Some (Holding held)
+  pub later : KeepsWritersOut p (seen_after m (opening m n) (past ++ (p, Step) ∷ [])).plain
 
-abbrev pub Downgrades : {V : Type 0} → V → ℕ → ℕ → List (ℕ × Move RwCall V) → Type 0
-Downgrades v cap n past =
-    (p : ℕ) (c : RwCall) (l : RwPoint) (h : Option Hold) (held : Hold) → less c ≡ Some held → let m = rw_machine v cap in
-    slice_get (after m (at_first m n) past).seats p ≡ Some (Calling c l h) → DowngradesAtOnce v cap n past p held
+abbrev pub Downgrades : {V : Type 0} → Machine ℕ V RwCall RwPoint (Answer V) → ℕ → List (ℕ × Move RwCall V) → Type 0
+Downgrades m n past =
+    (p : ℕ) (c : RwCall) (l : RwPoint) (h : Option Hold) (held : Hold) → less c ≡ Some held
+    → slice_get (after m (at_first m n) past).seats p ≡ Some (Calling c l h) → DowngradesAtOnce m n past p held
 
 -- how many readers go in the events of these entries
 abbrev pub readers_gone : {W V C L A : Type 0} → Machine W V C L A → Seen W V C L → List (ℕ × Move C V) → ℕ
@@ -64,19 +64,19 @@ upgrades Upgrade = true
 upgrades _ = false
 
 -- Beside an upgradable holder stand only readers that stood there before, and the upgrade is open exactly when all that stood have gone
-pub record OpensByReleases {V : Type 0} (v : V) (cap n : ℕ) (past further : List (ℕ × Move RwCall V)) (p : ℕ) : Type 0 where
+pub record OpensByReleases {V : Type 0} (m : Machine ℕ V RwCall RwPoint (Answer V)) (n : ℕ) (past further : List (ℕ × Move RwCall V)) (p : ℕ) : Type 0 where
   -- the readers never grow, and each that goes is one less
-  pub readers : let m = rw_machine v cap in
+  pub readers :
       count_kind reading (seen_after m (opening m n) (past ++ further)).plain.holders + readers_gone m (seen_after m (opening m n) past) further ≡ count_kind reading (seen_after m (opening m n) past).plain.holders
-  pub opens : let m = rw_machine v cap in
+  pub opens :
       (is_open_to (seen_after m (opening m n) (past ++ further)).plain p to_upgrade ≡ true) ↔ (readers_gone m (seen_after m (opening m n) past) further ≡ count_kind reading (seen_after m (opening m n) past).plain.holders)
   -- and exactly then the next step of the holder's own upgrade is granted
-  pub granted : (c : RwCall) (l : RwPoint) (h : Option Hold) → upgrades c ≡ true → let m = rw_machine v cap in
-      slice_get (after m (at_first m n) (past ++ further)).seats p ≡ Some (Calling c l h)
+  pub granted : (c : RwCall) (l : RwPoint) (h : Option Hold) → upgrades c ≡ true
+      → slice_get (after m (at_first m n) (past ++ further)).seats p ≡ Some (Calling c l h)
       → (outcome_after m n (past ++ further) p Step ≡ Answered Granted None) ↔ (readers_gone m (seen_after m (opening m n) past) further ≡ count_kind reading (seen_after m (opening m n) past).plain.holders)
 
-abbrev pub Opens : {V : Type 0} → V → ℕ → ℕ → List (ℕ × Move RwCall V) → List (ℕ × Move RwCall V) → Type 0
-Opens v cap n past further = (p : ℕ) → let m = rw_machine v cap in StaysUpgradable p m (seen_after m (opening m n) past) further → OpensByReleases v cap n past further p
+abbrev pub Opens : {V : Type 0} → Machine ℕ V RwCall RwPoint (Answer V) → ℕ → List (ℕ × Move RwCall V) → List (ℕ × Move RwCall V) → Type 0
+Opens m n past further = (p : ℕ) → StaysUpgradable p m (seen_after m (opening m n) past) further → OpensByReleases m n past further p
 
 -- the calls that change what a party holds and keep its guard
 abbrev pub converts : RwCall → Bool

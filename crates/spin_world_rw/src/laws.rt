@@ -6,7 +6,6 @@ ghost use Rattle.spin_world_core.specs.Runs.{opening};
 ghost use Rattle.spin_world_core.specs.Users.{seen_after, ReadsAgreeAcross};
 ghost use Rattle.spin_world_rw.specs.declared.rw.RwCall.{RwCall};
 ghost use Rattle.spin_world_rw.specs.declared.rw.Rw.{Rw};
-ghost use Rattle.spin_world_rw.specs.Rw.{rw_machine};
 ghost use Rattle.spin_world_rw.specs.Named.{IsRw};
 ghost use Rattle.spin_world_rw.specs.Standing.{StandTogether, Downgrades, Opens, converts};
 
@@ -20,27 +19,27 @@ pub fn a_read_write_lock_is_what_its_calls_ask<V: Copy>()
 
 /// Readers stand beside at most one upgradable reader, and a writer alone. No more hold than the cap says.
 pub fn readers_stand_beside_no_writer<V: Copy>()
-    ensures { (value : V) (cap n : ℕ) (past : List (ℕ × Move RwCall V)) → StandTogether cap (after (rw_machine value cap) (at_first (rw_machine value cap) n) past).words (seen_after (rw_machine value cap) (opening (rw_machine value cap) n) past).plain }
+    ensures { (object : Rw V) (n : ℕ) (past : List (ℕ × Move RwCall V)) → let m = ⟦<Rw<V> as Object>⟧.machine object in StandTogether object.cap (after m (at_first m n) past).words (seen_after m (opening m n) past).plain }
 {}
 
 /// The word is zero exactly when nobody holds the lock.
 pub fn a_word_is_zero_when_nobody_holds<V: Copy>()
-    ensures { (value : V) (cap n : ℕ) (past : List (ℕ × Move RwCall V)) → ((after (rw_machine value cap) (at_first (rw_machine value cap) n) past).words ≡ 0) ↔ ((seen_after (rw_machine value cap) (opening (rw_machine value cap) n) past).plain.holders ≡ []) }
+    ensures { (object : Rw V) (n : ℕ) (past : List (ℕ × Move RwCall V)) → let m = ⟦<Rw<V> as Object>⟧.machine object in ((after m (at_first m n) past).words ≡ 0) ↔ ((seen_after m (opening m n) past).plain.holders ≡ []) }
 {}
 
 /// A downgrade is one step. Neither before it nor after it may another party become the writer, and no state is between.
 pub fn a_downgrade_keeps_writers_out<V: Copy>()
-    ensures { (value : V) (cap n : ℕ) (past : List (ℕ × Move RwCall V)) → Downgrades value cap n past }
+    ensures { (object : Rw V) (n : ℕ) (past : List (ℕ × Move RwCall V)) → Downgrades (⟦<Rw<V> as Object>⟧.machine object) n past }
 {}
 
 /// While a party stays the upgradable reader no reader comes, and its upgrade is open exactly when as many readers have
 /// gone as stood beside it: not before, and then its next step is granted.
 pub fn an_upgrade_opens_by_releases<V: Copy>()
-    ensures { (value : V) (cap n : ℕ) (past further : List (ℕ × Move RwCall V)) → Opens value cap n past further }
+    ensures { (object : Rw V) (n : ℕ) (past further : List (ℕ × Move RwCall V)) → Opens (⟦<Rw<V> as Object>⟧.machine object) n past further }
 {}
 
 /// Two looks of a party find the same value where it neither wrote nor let go between them, whatever it converted its
 /// guard to.
 pub fn looks_agree_across_conversions<V: Copy>()
-    ensures { (value : V) (cap n : ℕ) (past : List (ℕ × Move RwCall V)) → ReadsAgreeAcross converts (rw_machine value cap) n past }
+    ensures { (object : Rw V) (n : ℕ) (past : List (ℕ × Move RwCall V)) → ReadsAgreeAcross converts (⟦<Rw<V> as Object>⟧.machine object) n past }
 {}

@@ -6,7 +6,6 @@ ghost use Rattle.spin_world_core.specs.Runs.{opening};
 ghost use Rattle.spin_world_core.specs.Users.{seen_after};
 ghost use Rattle.spin_world_seats.specs.declared.seats.SeatsCall.{SeatsCall};
 ghost use Rattle.spin_world_seats.specs.declared.seats.Seats.{Seats};
-ghost use Rattle.spin_world_seats.specs.Seats.{seats_machine};
 ghost use Rattle.spin_world_seats.specs.Named.{IsSeats};
 
 use crate::seats::Seats;
@@ -19,5 +18,5 @@ pub fn seats_are_what_their_calls_ask()
 
 /// The word is how many parties sit, and they are never more than there are seats.
 pub fn no_more_sit_than_there_are_seats()
-    ensures { (seats n : ℕ) (past : List (ℕ × Move SeatsCall (Unit {0}))) → let m = seats_machine seats in let word = (after m (at_first m n) past).words in (word ≡ length (seen_after m (opening m n) past).plain.holders) × (word ≤ seats) }
+    ensures { (object : Seats) (n : ℕ) (past : List (ℕ × Move SeatsCall (Unit {0}))) → let m = ⟦<Seats as Object>⟧.machine object in let word = (after m (at_first m n) past).words in (word ≡ length (seen_after m (opening m n) past).plain.holders) × (word ≤ object.seats) }
 {}

@@ -119,7 +119,7 @@ module _ {V : Type 0} (v : V) (first : ℕ) where
       let at_end = ap (λ (s : Seen TicketWords V TicketCall TicketPoint). serving_word s.plain) (seen-append (opening m n) past further) in
       omega (arith, (in_order n past).serving, served seen further (good n past), at_end)
 
-  pub in_turn : (n : ℕ) (past further : List (ℕ × Move TicketCall V)) → InTurn v first n past further
+  pub in_turn : (n : ℕ) (past further : List (ℕ × Move TicketCall V)) → InTurn (ticket_machine v first) n past further
   in_turn n past further =
       record {
         enters = λ p t c l h there waits.

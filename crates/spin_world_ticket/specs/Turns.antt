@@ -3,6 +3,7 @@ use Rattle.std.specs.Prelude.{◌≡◌, ℕ, ◌+◌, ◌↔◌, Bool, true, fa
 use Rattle.spin_step.specs.Plain.{Plain, ticket, Change, serves, next_word, serving_word}
 use Rattle.spin_step.specs.Parties.{Entries, entries, no_entries, first_alone_entered}
 use Rattle.spin_step.specs.Tickets.{Numbered}
+use Rattle.spin_world_core.specs.declared.answer.Answer.{Answer}
 use Rattle.spin_world_core.specs.declared.answer.Answer.TheVariants.{Granted}
 use Rattle.spin_world_core.specs.declared.place.Hold.{Hold}
 use Rattle.spin_world_core.specs.declared.place.Hold.TheVariants as hold
@@ -16,7 +17,6 @@ use Rattle.spin_world_ticket.specs.declared.ticket.TicketWords.{TicketWords}
 use Rattle.spin_world_core.specs.Machines.{Machine}
 use Rattle.spin_world_core.specs.Schedules.{after, at_first}
 use Rattle.spin_world_core.specs.Runs.{Seen, opening}
-use Rattle.spin_world_ticket.specs.Ticket.{ticket_machine}
 use Rattle.spin_world_core.specs.Users.{seen_after, outcome_after, steps_made}
 
 -- a ticket goes
@@ -40,14 +40,12 @@ abbrev pub waits_with : ℕ → ℕ → Entries
 waits_with p t = record no_entries { tickets = ticket p t false ∷ [] }
 
 -- After further entries, where the number s was served before them, exactly those tickets have entered or may enter of which t - s have gone since
-pub record InTurn {V : Type 0} (v : V) (first n : ℕ) (past further : List (ℕ × Move TicketCall V)) : Type 0 where
+pub record InTurn {V : Type 0} (m : Machine TicketWords V TicketCall TicketPoint (Answer V)) (n : ℕ) (past further : List (ℕ × Move TicketCall V)) : Type 0 where
   -- the next step of whoever waits with the ticket t is granted the lock exactly when t - s tickets have gone
-  pub enters : (p t : ℕ) (c : TicketCall) (l : TicketPoint) (h : Option Hold) → let m = ticket_machine v first in
-      slice_get (after m (at_first m n) (past ++ further)).seats p ≡ Some (Calling c l h)
+  pub enters : (p t : ℕ) (c : TicketCall) (l : TicketPoint) (h : Option Hold) → slice_get (after m (at_first m n) (past ++ further)).seats p ≡ Some (Calling c l h)
       → entries p (seen_after m (opening m n) (past ++ further)).plain ≡ waits_with p t
       → (outcome_after m n (past ++ further) p Step ≡ Answered Granted None)
       ↔ ((after m (at_first m n) past).words.serving + tickets_gone m (seen_after m (opening m n) past) further ≡ t)
   -- and where somebody holds with the ticket t, so many have
-  pub holds : (p t : ℕ) → let m = ticket_machine v first in
-      slice_get (after m (at_first m n) (past ++ further)).seats p ≡ Some (Holding (hold.Ticket t))
+  pub holds : (p t : ℕ) → slice_get (after m (at_first m n) (past ++ further)).seats p ≡ Some (Holding (hold.Ticket t))
       → (after m (at_first m n) past).words.serving + tickets_gone m (seen_after m (opening m n) past) further ≡ t

@@ -7,7 +7,6 @@ ghost use Rattle.spin_world_core.specs.Users.{seen_after};
 ghost use Rattle.spin_world_ticket.specs.declared.ticket.TicketCall.{TicketCall};
 ghost use Rattle.spin_world_ticket.specs.declared.ticket.Ticket.{Ticket};
 ghost use Rattle.spin_world_ticket.specs.Named.{IsTicketLock};
-ghost use Rattle.spin_world_ticket.specs.Ticket.{ticket_machine};
 ghost use Rattle.spin_world_ticket.specs.Turns.{InOrder, InTurn};
 
 use crate::ticket::Ticket;
@@ -20,11 +19,11 @@ pub fn a_ticket_lock_is_what_its_calls_ask<V: Copy>()
 
 /// The two words are the numbers of a queue of tickets, whose first alone may have entered.
 pub fn tickets_stand_in_order<V: Copy>()
-    ensures { (value : V) (first n : ℕ) (past : List (ℕ × Move TicketCall V)) → InOrder (after (ticket_machine value first) (at_first (ticket_machine value first) n) past).words (seen_after (ticket_machine value first) (opening (ticket_machine value first) n) past).plain }
+    ensures { (object : Ticket V) (n : ℕ) (past : List (ℕ × Move TicketCall V)) → let m = ⟦<Ticket<V> as Object>⟧.machine object in InOrder (after m (at_first m n) past).words (seen_after m (opening m n) past).plain }
 {}
 
 /// A party that waits with a ticket enters by its next step exactly when as many tickets have gone as stood between the
 /// number that was served and its own, and so before any later ticket.
 pub fn tickets_enter_by_releases<V: Copy>()
-    ensures { (value : V) (first n : ℕ) (past further : List (ℕ × Move TicketCall V)) → InTurn value first n past further }
+    ensures { (object : Ticket V) (n : ℕ) (past further : List (ℕ × Move TicketCall V)) → InTurn (⟦<Ticket<V> as Object>⟧.machine object) n past further }
 {}

@@ -8,10 +8,10 @@ use Rattle.spin_world_fair.proofs.Fairness.{free_when_zero, zero_when_free}
 use Rattle.spin_world_fair.proofs.laws.a_word_is_zero_when_nobody_holds_or_starves.Goals as goal
 
 pub returns : goal.returns
-returns g c = λ value cap patience n past.
-    let m = fair_machine value cap patience in
-    let k = fair_keeping value cap patience in
-    let f = fair_facts value cap patience in
+returns g c = λ fair n past.
+    let m = fair_machine fair.value fair.cap fair.patience in
+    let k = fair_keeping fair.value fair.cap fair.patience in
+    let f = fair_facts fair.value fair.cap fair.patience in
     let good = good_after m k f (opening m n) past (good_first m k f n) in
     let words = ap (λ s. s.words) (state-seen_after m (opening m n) past) in
     let plain = (seen_after m (opening m n) past).plain in

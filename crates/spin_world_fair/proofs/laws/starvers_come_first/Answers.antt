@@ -7,10 +7,10 @@ use Rattle.spin_world_fair.proofs.Fairness.{comes_after_starvers}
 use Rattle.spin_world_fair.proofs.laws.starvers_come_first.Goals as goal
 
 pub returns : goal.returns
-returns g c = λ value cap patience n past p move.
-    let m = fair_machine value cap patience in
-    let k = fair_keeping value cap patience in
-    let f = fair_facts value cap patience in
+returns g c = λ fair n past p move.
+    let m = fair_machine fair.value fair.cap fair.patience in
+    let k = fair_keeping fair.value fair.cap fair.patience in
+    let f = fair_facts fair.value fair.cap fair.patience in
     let before = seen_after m (opening m n) past in
     let keeps = (kept m k f before p move (good_after m k f (opening m n) past (good_first m k f n))).keeps in
     λ idle newcomer holds. comes_after_starvers before.plain p (scene m before p move).change keeps.opens keeps.belongs idle newcomer holds

@@ -9,7 +9,8 @@ word : (a b : ℕ) → a ∷ [] ≡ b ∷ [] → a ≡ b
 word a b e = cc (e)
 
 pub returns : goal.returns
-returns g seats n past =
+returns g object n past =
+    let seats = object.seats in
     let m = seats_machine seats in
     let good = good_after m (seats_keeping seats) (seats_facts seats) (opening m n) past (good_first m (seats_keeping seats) (seats_facts seats) n) in
     let words = sym (ap (λ s. s.words) (state-seen_after m (opening m n) past)) ∙ word _ _ good.encodes in

@@ -2,4 +2,4 @@ use Rattle.spin_world_ticket.proofs.Queues.{in_order}
 use Rattle.spin_world_ticket.proofs.laws.tickets_stand_in_order.Goals as goal
 
 pub returns : goal.returns
-returns g c = λ value first n past. in_order value first n past
+returns g c = λ t n past. in_order t.value t.first n past
