@@ -1,5 +1,5 @@
-//! Spinning locks that are proved: each change of a lock's word is a public pure function, and these functions are
-//! the only steps on it.
+//! Spinning locks that are proved: what each step makes of a lock's word is a public pure function, one of those in
+//! [`step`].
 #![tactic(auto)]
 
 pub use mutex::MutexGuard;
