@@ -8,25 +8,27 @@ use std::mem::size_of;
 use std::{io, sync};
 
 /// The bytes of each lock of a `u64` and of its guard, in the order in which `bench/compare` names them.
-const SIZES: [usize; 14] = [
-    size_of::<SpinMutex<u64>>(),
-    size_of::<SpinMutexGuard<'static, u64>>(),
-    size_of::<Mutex<u64>>(),
-    size_of::<MutexGuard<'static, u64>>(),
-    size_of::<TicketMutex<u64>>(),
-    size_of::<TicketMutexGuard<'static, u64>>(),
-    size_of::<FairMutex<u64>>(),
-    size_of::<FairMutexGuard<'static, u64>>(),
-    size_of::<RwLock<u64>>(),
-    size_of::<RwLockReadGuard<'static, u64>>(),
-    size_of::<RwLockUpgradableGuard<'static, u64>>(),
-    size_of::<RwLockWriteGuard<'static, u64>>(),
-    size_of::<sync::Mutex<u64>>(),
-    size_of::<sync::MutexGuard<'static, u64>>(),
-];
+fn sizes() -> [usize; 14] {
+    [
+        size_of::<SpinMutex<u64>>(),
+        size_of::<SpinMutexGuard<'static, u64>>(),
+        size_of::<Mutex<u64>>(),
+        size_of::<MutexGuard<'static, u64>>(),
+        size_of::<TicketMutex<u64>>(),
+        size_of::<TicketMutexGuard<'static, u64>>(),
+        size_of::<FairMutex<u64>>(),
+        size_of::<FairMutexGuard<'static, u64>>(),
+        size_of::<RwLock<u64>>(),
+        size_of::<RwLockReadGuard<'static, u64>>(),
+        size_of::<RwLockUpgradableGuard<'static, u64>>(),
+        size_of::<RwLockWriteGuard<'static, u64>>(),
+        size_of::<sync::Mutex<u64>>(),
+        size_of::<sync::MutexGuard<'static, u64>>(),
+    ]
+}
 
 pub fn print<R: Print>(rt: &R) -> io::Result<()> {
-    for bytes in SIZES {
+    for bytes in sizes() {
         println!(rt; "{bytes}")?;
     }
     Ok(())
