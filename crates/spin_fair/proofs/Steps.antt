@@ -13,7 +13,8 @@ use Rattle.spin_step.specs.Parties.{entries, entries_after}
 use Rattle.spin_step.specs.Steps.{Decides}
 use Rattle.spin_step.specs.Starvers.{most_starvers, OneHolds}
 use Rattle.spin_core.specs.Cell.{writes, alone, reading, writing as writer, readers_of, writers_of, Limits, Meets, Allows, Rests, Moved, words}
-use Rattle.spin_core.specs.Views.{Knows, HasPart, holds, entries_of, IsInOrder, IsLockOf, used_by, no_word}
+use Rattle.spin_core.specs.Views.{Knows, HasPart, holds, entries_of, IsLockOf, used_by, no_word}
+use Rattle.spin_step.specs.Orders.{IsInOrder}
 use Rattle.spin_core.specs.Plays.{becomes, becomes_by, exchanges}
 use Rattle.spin_core.proofs.CellCounts.{none}
 use Rattle.spin_step.proofs.Holders.{is_holder-from_entries, is_empty-none, length-without_holder}

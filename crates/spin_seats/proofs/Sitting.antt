@@ -7,7 +7,8 @@ use Rattle.spin_step.specs.Plain.{Plain, reading, count_kind, same_kind, gets, r
 use Rattle.spin_step.specs.Steps.{Decides}
 use Rattle.spin_step.proofs.Holders.{is_holder-from_entries, length-held}
 use Rattle.spin_core.specs.Cell.{Ways, Limits, lends, reading as reads_of, writing as writes_of, readers_of, writers_of, Meets, Allows, Rests, Moved}
-use Rattle.spin_core.specs.Views.{IsInOrder, IsLockOf, entries_of, no_word}
+use Rattle.spin_core.specs.Views.{IsLockOf, entries_of, no_word}
+use Rattle.spin_step.specs.Orders.{IsInOrder}
 use Rattle.spin_core.specs.Plays.{becomes, exchanges}
 use Rattle.spin_core.proofs.CellCounts.{none}
 use Rattle.spin_core.proofs.Leaving.{flag_word-up, no_word-up}
