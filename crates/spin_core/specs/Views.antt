@@ -1,6 +1,6 @@
 -- The plain lock of a cell's parties: what each of them is to it, as its view says.
-use Rattle.std.specs.Prelude.{◌≡◌, ℕ, zero, suc, ◌≤◌, Bool, true, List, [], ◌∷◌, length, max}
-use Rattle.spin_step.specs.Plain.{Plain, Kind, reading, upgradable, writing, holder, ticket, ticket_limit, serving_word}
+use Rattle.std.specs.Prelude.{◌≡◌, ℕ, zero, suc, ◌≤◌, Bool, true, List, [], ◌∷◌, length, if◌then◌else◌}
+use Rattle.spin_step.specs.Plain.{Plain, Kind, writing, is_reader, holder, ticket, ticket_limit, serving_word}
 use Rattle.spin_step.specs.Parties.{Entries, entries, no_entries}
 use Rattle.spin_step.specs.Orders.{IsInOrder}
 use Rattle.spin_core.specs.Cell.{Use, off, reads, writes}
@@ -30,9 +30,7 @@ Knows s _ = Unit {0}
 
 -- how it uses the value
 abbrev pub use_of_part : Part → Use
-use_of_part (holds writing) = writes
-use_of_part (holds reading) = reads
-use_of_part (holds upgradable) = reads
+use_of_part (holds k) = if is_reader k then reads else writes
 use_of_part (queues n true) = writes
 use_of_part holds_starving = writes
 use_of_part _ = off
