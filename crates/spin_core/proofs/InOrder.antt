@@ -1,7 +1,7 @@
 -- What open steps keep of every plain lock.
 use Rattle.std.proofs.Common.{◌≡◌, ℕ, ◌+◌, ◌≤◌, ◌==◌, Bool, true, false, if◌then◌else◌, List, [], ◌∷◌, ◌++◌, length, max, Option, Some, None, nat_lt, refl, ap, arith, length-append}
 use Rattle.std.proofs.lemmas.Bool.{ltb-true, and_parts}
-use Rattle.spin_step.specs.Plain.{Plain, Kind, reading, upgradable, writing, Ask, to_read, to_read_upgradable, to_write, to_upgrade, to_take_ticket, to_enter, to_take_and_enter, to_lock_unregistered, to_lock_starving, to_lock_starving_alone, to_starve, to_begin, Change, gets, releases, serves, stops_starving, turns, completes, fails, arrives, apply, is_open, is_open_to, is_empty, is_starver, is_only_starver, count_kind, may_read, holder, with_kind, without_starver, ticket_limit, fresh}
+use Rattle.spin_step.specs.Plain.{Plain, Kind, reading, upgradable, writing, Ask, to_read, to_read_upgradable, to_write, to_upgrade, to_take_ticket, to_take_and_enter, to_lock_unregistered, to_lock_starving, to_lock_starving_alone, to_starve, Change, gets, releases, serves, stops_starving, turns, apply, is_open, is_open_to, is_empty, is_starver, is_only_starver, count_kind, may_read, holder, with_kind, without_starver, ticket_limit, fresh}
 use Rattle.spin_step.specs.Parties.{apply_some, IsOpenStep}
 use Rattle.spin_step.specs.Tickets.{Numbered}
 use Rattle.spin_core.specs.Views.{IsInOrder}
@@ -11,37 +11,17 @@ use Rattle.spin_step.proofs.Tickets.{numbered-gets, numbered-serves}
 
 numbered-kept : (s : Plain) (c : Change) → Numbered s → Numbered (apply s c)
 numbered-kept s (gets p ask) numbered = numbered-gets s p ask numbered
-numbered-kept s (releases p k) numbered = numbered
 numbered-kept s (serves p) numbered = numbered-serves s p numbered
-numbered-kept s (stops_starving p) numbered = numbered
-numbered-kept s (turns p k l) numbered = numbered
-numbered-kept s (completes p) numbered = numbered
-numbered-kept s (fails p) numbered = numbered
-numbered-kept s (arrives p) numbered = numbered
+numbered-kept s _ numbered = numbered
 
 within-gets : (s : Plain) (p : ℕ) (ask : Ask) → s.next ≤ ticket_limit → is_open_to s p ask ≡ true → (apply s (gets p ask)).next ≤ ticket_limit
-within-gets s p to_read within may = within
-within-gets s p to_read_upgradable within may = within
-within-gets s p to_write within may = within
-within-gets s p to_upgrade within may = within
 within-gets s p to_take_ticket within may = let l = ltb-true s.next 18446744073709551615 may in omega arith
-within-gets s p to_enter within may = within
 within-gets s p to_take_and_enter within may = let l = ltb-true s.next 18446744073709551615 (and_parts (is_empty s.tickets) (nat_lt s.next 18446744073709551615) may).1 in omega arith
-within-gets s p to_lock_unregistered within may = within
-within-gets s p to_lock_starving within may = within
-within-gets s p to_lock_starving_alone within may = within
-within-gets s p to_starve within may = within
-within-gets s p to_begin within may = within
+within-gets s p _ within may = within
 
 within-kept : (s : Plain) (c : Change) → s.next ≤ ticket_limit → is_open s c ≡ true → (apply s c).next ≤ ticket_limit
 within-kept s (gets p ask) within may = within-gets s p ask within may
-within-kept s (releases p k) within may = within
-within-kept s (serves p) within may = within
-within-kept s (stops_starving p) within may = within
-within-kept s (turns p k l) within may = within
-within-kept s (completes p) within may = within
-within-kept s (fails p) within may = within
-within-kept s (arrives p) within may = within
+within-kept s _ within may = within
 
 -- no more holders, and no more starvers, than there is room for
 abbrev Fits : Plain → Type 0
@@ -63,14 +43,11 @@ fits-gets s p to_read fits may = fits-reader s p reading fits may
 fits-gets s p to_read_upgradable fits may = fits-reader s p upgradable fits may
 fits-gets s p to_write fits may = fits-first s p writing fits may
 fits-gets s p to_upgrade fits may = fits-turned s p upgradable writing fits
-fits-gets s p to_take_ticket fits may = fits
-fits-gets s p to_enter fits may = fits
-fits-gets s p to_take_and_enter fits may = fits
 fits-gets s p to_lock_unregistered fits may = fits-first s p writing fits (and_parts (is_empty s.holders) (is_empty s.starvers) may).0
 fits-gets s p to_lock_starving fits may = fits-first s p writing fits (and_parts (is_starver p s.starvers) (is_empty s.holders) may).1
 fits-gets s p to_lock_starving_alone fits may = fits-first s p writing fits (and_parts (is_only_starver p s.starvers) (is_empty s.holders) may).1
 fits-gets s p to_starve fits may = (fits.0, omega (arith, length-append s.starvers (p ∷ []), ltb-true (length s.starvers) s.cap may))
-fits-gets s p to_begin fits may = fits
+fits-gets s p _ fits may = fits
 
 length-without_starver : (p : ℕ) (qs : List ℕ) → length (without_starver p qs) ≤ length qs
 length-without_starver p [] = omega arith
@@ -83,37 +60,14 @@ length-without_starver p (q ∷ qs) = at (q == p) (length-without_starver p qs)
 fits-kept : (s : Plain) (c : Change) → Fits s → is_open s c ≡ true → Fits (apply s c)
 fits-kept s (gets p ask) fits may = fits-gets s p ask fits may
 fits-kept s (releases p k) fits may = (omega (arith, length-without_holder p k s.holders may, fits.0), fits.1)
-fits-kept s (serves p) fits may = fits
 fits-kept s (stops_starving p) fits may = (fits.0, omega (arith, length-without_starver p s.starvers, fits.1))
 fits-kept s (turns p k l) fits may = fits-turned s p k l fits
-fits-kept s (completes p) fits may = fits
-fits-kept s (fails p) fits may = fits
-fits-kept s (arrives p) fits may = fits
-
-cap-gets : (s : Plain) (p : ℕ) (ask : Ask) → (apply s (gets p ask)).cap ≡ s.cap
-cap-gets s p to_read = refl
-cap-gets s p to_read_upgradable = refl
-cap-gets s p to_write = refl
-cap-gets s p to_upgrade = refl
-cap-gets s p to_take_ticket = refl
-cap-gets s p to_enter = refl
-cap-gets s p to_take_and_enter = refl
-cap-gets s p to_lock_unregistered = refl
-cap-gets s p to_lock_starving = refl
-cap-gets s p to_lock_starving_alone = refl
-cap-gets s p to_starve = refl
-cap-gets s p to_begin = refl
+fits-kept s _ fits may = fits
 
 pub cap-kept : (s : Plain) (step : Option Change) → (apply_some s step).cap ≡ s.cap
-cap-kept s None = refl
-cap-kept s (Some (gets p ask)) = cap-gets s p ask
-cap-kept s (Some (releases p k)) = refl
-cap-kept s (Some (serves p)) = refl
-cap-kept s (Some (stops_starving p)) = refl
-cap-kept s (Some (turns p k l)) = refl
-cap-kept s (Some (completes p)) = refl
-cap-kept s (Some (fails p)) = refl
-cap-kept s (Some (arrives p)) = refl
+cap-kept s (Some (gets p to_read)) = refl
+cap-kept s (Some (gets p _)) = refl
+cap-kept s _ = refl
 
 pub in_order-kept : (s : Plain) (p : ℕ) (step : Option Change) → IsInOrder s → IsOpenStep s p step → IsInOrder (apply_some s step)
 in_order-kept s p None x may = x

@@ -1,3 +1,4 @@
+pub mod Signs
 pub mod InOrder
 pub mod Leaving
 pub mod Owners
@@ -6,7 +7,6 @@ pub mod Knowing
 pub mod Views
 pub mod CellCounts
 pub mod CellFields
-pub mod CellInside
 pub mod CellLends
 pub mod CellParts
 pub mod CellRoster
