@@ -41,7 +41,3 @@ module _ {V : Type 0} (g : V → ℕ) where
   -- a sum loses the party's part as it was, and gains its part as it is
   pub moves : (id : ℕ) (view : Option V) (vs : List V) (w : V) → Stands id view vs → sum_by g (after id view vs w) + part_of g view ≡ sum_by g vs + g w
   moves id view vs w h = let s = splits id view vs h in let a = s.2 w in omega (arith, s.1)
-
-  -- where nobody counted and the party comes to a view that doesn't, nobody counts
-  pub still_none : (id : ℕ) (view : Option V) (vs : List V) (w : V) → Stands id view vs → sum_by g vs ≡ 0 → g w ≡ 0 → sum_by g (after id view vs w) ≡ 0
-  still_none id view vs w h before here = let m = moves id view vs w h in omega arith

@@ -6,10 +6,10 @@ use seplogic.Ra.Ura.{Ura}
 use mir.Val.{Val}
 use base.Fraction.{full_share}
 use base.Stored.{coded_unit}
-use base.Logic.{SProp, ent, sep, wand, ex, all, all_e, apply∗}
+use base.Logic.{SProp, ex, all, all_e, apply∗}
 use base.Fml.{Fml, ftrue, fsep, fex}
-use types.Logic.{Logic, sem}
-use types.Kit.{‵, raw, ◌⊛◌, ◌$◌, ◌∵◌, !, qed, by, move, keep, use1, use2, split, split3, fsplit, fsplit3, fjoin, fjoin3, fpick, fpack, show, each, assume, done}
+use types.Logic.{Logic}
+use types.Kit.{join, ‵, raw, ◌⊛◌, ◌$◌, ◌∵◌, !, qed, by, move, keep, use1, use2, split, split3, fsplit, fsplit3, fjoin, fjoin3, fpick, fpack, show, each, assume, done}
 use denote.RattleType.{RattleType, Denots}
 use denote.Laws.{Lawful}
 use denote.Memory.{part_of, part_at, cell_at, lone}
@@ -30,26 +30,11 @@ use Rattle.spin_core.specs.Cell.{Ways, Starts}
 use Rattle.spin_core.specs.CellMemory.{offset, second_at, Known}
 use Rattle.spin_core.specs.declared.cell.Rule.{Ghosts}
 use Rattle.spin_core.specs.contracts.cell.Cell as C
+use Rattle.spin_core.proofs.Signs.{signs}
 
 module _ {M : Type 1} {𝓤 : Ura M} (𝓛 : Logic 𝓤) (m ms : Member) (V Y K : RattleType) (g : Ghosts Y.Denot (row_of m).Denot V.Denot K.Denot (row_of ms).Denot) (key : K.Denot) (b o : ℕ) where
-  abbrev Pr : Type 2
-  Pr = SProp 𝓤
+  open (signs 𝓛) use {◌⊢◌, ◌∗◌, ◌-∗◌, ⟦◌⟧}
 
-  abbrev ◌⊢◌ : Pr → Pr → Type 1
-  P ⊢ Q = ent 𝓤 P Q
-
-  abbrev ◌∗◌ : Pr → Pr → Pr
-  P ∗ Q = sep 𝓤 P Q
-
-  abbrev ◌-∗◌ : Pr → Pr → Pr
-  P -∗ Q = wand 𝓤 P Q
-
-  abbrev ⟦◌⟧ : Fml → Pr
-  ⟦ P ⟧ = sem 𝓛 P
-
-  infix 26 ◌⊢◌
-  infixr 35 ◌∗◌
-  infixr 30 ◌-∗◌
   abbrev R : RattleType
   R = row_of m
 
@@ -142,16 +127,16 @@ module _ {M : Type 1} {𝓤 : Ura M} (𝓛 : Logic 𝓤) (m ms : Member) (V Y K 
     abbrev Second : S.Denot → Fml
     Second y = part_at S full_share y b (o + second_at S R)
 
-    abbrev Back : Pr
+    abbrev Back : SProp 𝓤
     Back = PartsBack 𝓛 full_share [] ks b o
 
-    abbrev joined : All → Pr
+    abbrev joined : All → SProp 𝓤
     joined s = (⟦ standing_words (s.0, s.1) ⟧ ∗ ⟦ At s.2 ⟧ ∗ ⟦ fact (Rule s) ⟧) -∗ ⟦ P ⟧
 
-    abbrev pub Joins : Pr
+    abbrev pub Joins : SProp 𝓤
     Joins = all 𝓤 joined
 
-    abbrev pub Apart : Knows × All → Pr
+    abbrev pub Apart : Knows × All → SProp 𝓤
     Apart z = ⟦ standing_words (z.1.0, z.1.1) ⟧ ∗ ⟦ At z.1.2 ⟧ ∗ ⟦ fact (Rule z.1) ⟧ ∗ Joins
 
     joins : (k : Knows) → ⟦ Mark ⟧ ∗ Back ⊢ Joins
@@ -169,3 +154,8 @@ module _ {M : Type 1} {𝓤 : Ura M} (𝓛 : Logic 𝓤) (m ms : Member) (V Y K 
         move ! (1 ∷ []) $ use1 𝓛 (‵ (word b (o + 0) s.0)) (word_out 𝓛 b (o + 0) s.0) $ move ! (2 ∷ []) $ split3 ! $
         -- [the value; the second word; nothing; the first word; the marker; the way back; the rule]
         move ! (3 ∷ 1 ∷ []) $ fjoin ! $ move ! (3 ∷ 4 ∷ []) $ use2 𝓛 (raw Joins) (joins k) $ show ! Apart (k, s) $ keep ! (1 ∷ 2 ∷ 4 ∷ 0 ∷ []) $ done !))
+
+    -- the cell again, from any value that the rule allows
+    pub rejoined : (s : All) → Rule s → ⟦ At s.2 ⟧ ∗ ⟦ standing_words (s.0, s.1) ⟧ ∗ Joins ⊢ ⟦ P ⟧
+    rejoined s rule = qed 𝓛 (‵ (At s.2) ∷ ‵ (standing_words (s.0, s.1)) ∷ raw Joins ∷ []) ∵ nothing ! $ fpack ! (Rule s) (λ _. ftrue) rule $ move ! (1 ∷ 0 ∷ []) $ join ! $ move ! (1 ∷ 0 ∷ []) $ join ! $ move ! (1 ∷ []) $
+        use1 𝓛 (raw (joined s)) (all_e 𝓤 joined s) $ move ! (1 ∷ 0 ∷ []) $ by ! (apply∗ 𝓤 (⟦ standing_words (s.0, s.1) ⟧ ∗ ⟦ At s.2 ⟧ ∗ ⟦ fact (Rule s) ⟧) ⟦ P ⟧)

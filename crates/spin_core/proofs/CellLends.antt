@@ -1,20 +1,20 @@
 -- What a `&` to a permit holds: its reader or its writer lends what it has of the value. Assumes `Logic`.
---     by_before     a step for a token of α is a step for one of κ.        Lends-tracked     the law of a party that tracks the value
+--     Lends-tracked     the law of a party that tracks the value
 --     permit_laws, Lends-permit     the laws of a permit.        writer_laws, Lends-writer     the laws of a writer
 use Rattle.std.proofs.Common.{◌≡◌, ℕ, ◌+◌, List, [], ◌∷◌, ◌++◌, refl, Option, Some, None}
 use seplogic.Ra.Ura.{Ura}
 use base.Share
 use base.Fraction.{full_share}
 use base.Stored.{Gv}
-use base.Logic.{SProp, ent, sep, wand, ex, guard, upd_i, apply∗, never_e, id⊢}
+use base.Logic.{SProp, ex, guard, upd_i, apply∗, never_e, id⊢}
 use base.Fml.{Lft, Share, Incl, Incl-refl, Incl-trans, Fml, ftrue, ffalse, fsep, fseps, fex, fwand, fupd, fdead, fobs, fbor, flft, finv}
 use base.Before.{before}
 use contract.BorrowLft.{meet_⊑_left, meet_⊑_right, ⊑_meet}
-use ghost.Rules.{Toks, span}
-use types.Logic.{Logic, sem, lfts}
+use ghost.Rules.{span}
+use types.Logic.{Logic, lfts}
 use types.Kit.{‵, raw, ◌⊛◌, some, later, given, ◌$◌, ◌∵◌, !, qed, by, move, keep, drop, group, use1, use2, use3, split, split3, fsplit, fsplit3, fjoin, fjoin3, fpick, fpack, pick, show, check, rewrite, assume, suffices, learn, await, updating, now, done}
 use types.Tokens.{bor_new, bor_open, obor_close, obor_alter, bor_fracture}
-use types.Na.{before_acc, before_dup, before_shorten}
+use types.Na.{before_dup, before_shorten}
 use denote.RattleType.{RattleType, RowLaws}
 use denote.Memory.{part_at, mem}
 use denote.Moves.{moves, moves_before}
@@ -25,17 +25,17 @@ use denote.Shares.{Shares, settles}
 use denote.Steps.{nothing}
 use denote.Struct.Lending.{Lends, Lends-false, Lends-nothing}
 use Rattle.core.proofs.cell.Borrows.{by_one, unnest_before}
-use Rattle.spin_core.specs.Cell.{Use, off, reads, writes, Way, alone, lends, fixes, Seen, Ways, use_of}
+use Rattle.spin_core.specs.Cell.{Use, off, reads, writes, Way, fixes, Seen, Ways, use_of}
 use Rattle.spin_core.specs.CellMemory.{offset, Known, Id, round_code, tag, Part, piece, shown, named, tracked, right, stand, inner, kept, permit_owns, permit_shares, reader_shares, writer_at, writer_owns, writer_shares}
 use Rattle.spin_core.proofs.CellParts.{piece_in}
+use Rattle.spin_core.proofs.Signs.{signs}
 
 -- ---- what is shared may be had twice, and for less time
 reader_laws : (Y R : RattleType) {V : Type 0} (c : V → Gv) (S : RattleType) (holds : ℕ → S.Denot → List V → Type 0) (ways : Ways R.Denot V) → RowLaws R → (β : Lft) (b o : ℕ) (u : Use) (x : Option R.Denot)
     → ShrLaws (reader_shares Y R c S holds ways β b o u x)
 reader_laws Y R c S holds ways L β b o reads (Some x) = some_shr_laws (Known ways Y S R) (λ _. within β (shown R b o x)) (λ _. within_shr_laws β (shown R b o x) (L x b (o + offset R)))
 reader_laws Y R c S holds ways L β b o reads None = said_shr_laws ffalse tt
-reader_laws Y R c S holds ways L β b o off x = nothing_shr_laws
-reader_laws Y R c S holds ways L β b o writes x = nothing_shr_laws
+reader_laws Y R c S holds ways L β b o _ x = nothing_shr_laws
 
 pub permit_laws : (Y R : RattleType) {V : Type 0} (c : V → Gv) (S : RattleType) (holds : ℕ → S.Denot → List V → Type 0) (ways : Ways R.Denot V) → RowLaws R → (β : Lft) (p : Ptr) (view : Option V) (x : Option R.Denot)
     → ShrLaws (permit_shares Y R c S holds ways β p view x)
@@ -49,31 +49,7 @@ writer_laws Y R c S holds ways L β null_ptr view x = said_shr_laws ffalse tt
 
 module _ {M : Type 1} {𝓤 : Ura M} (𝓛 : Logic 𝓤) where
   open 𝓛 use {H, A}
-
-  abbrev Pr : Type 2
-  Pr = SProp 𝓤
-
-  abbrev ◌⊢◌ : Pr → Pr → Type 1
-  P ⊢ Q = ent 𝓤 P Q
-
-  abbrev ◌∗◌ : Pr → Pr → Pr
-  P ∗ Q = sep 𝓤 P Q
-
-  abbrev ◌-∗◌ : Pr → Pr → Pr
-  P -∗ Q = wand 𝓤 P Q
-
-  abbrev ⟦◌⟧ : Fml → Pr
-  ⟦ P ⟧ = sem 𝓛 P
-
-  infix 26 ◌⊢◌
-  infixr 35 ◌∗◌
-  infixr 30 ◌-∗◌
-  -- a step for one token of α is a step for one of κ
-  pub by_before : (κ α : Lft) (q : Share) (X Y : Pr) → ((s : Share) → X ∗ A.lft α s ⊢ H.⇛ (Y ∗ A.lft α s)) → ⟦ before κ α ⟧ ∗ X ∗ A.lft κ q ⊢ H.⇛ (Y ∗ A.lft κ q)
-  by_before κ α q X Y f = qed 𝓛 (‵ (before κ α) ∷ raw X ∷ ‵ (flft κ q) ∷ []) ∵ updating ! $ move ! (0 ∷ 2 ∷ []) $
-      use2 𝓛 (later (some (λ (us : Toks). given (Incl (span us) α) (raw (lfts 𝓛 us) ⊛ raw (lfts 𝓛 us -∗ H.⇛ (A.lft κ q)))))) (before_acc 𝓛 κ α ((κ, q) ∷ []) (Incl-refl κ)) $ await ! tt $ pick ! (λ us. learn ! (λ h. split ! $
-      move ! (2 ∷ 0 ∷ []) $ use2 𝓛 (later (raw Y ⊛ raw (lfts 𝓛 us))) (by_one 𝓛 α us h X Y f) $ await ! tt $ split ! $
-      move ! (1 ∷ 2 ∷ []) $ use2 𝓛 (later (‵ (flft κ q))) (apply∗ 𝓤 (lfts 𝓛 us) (H.⇛ (A.lft κ q))) $ await ! tt $ now ! $ move ! (1 ∷ 0 ∷ []) $ done !))
+  open (signs 𝓛) use {◌⊢◌, ◌∗◌, ◌-∗◌, ⟦◌⟧}
 
   -- ---- a party that tracks the value, as a writer does
   module _ (R : RattleType) (b o : ℕ) (β : Lft) (x : R.Denot) (P : Fml) where
@@ -89,7 +65,7 @@ module _ {M : Type 1} {𝓤 : Ura M} (𝓛 : Logic 𝓤) where
     abbrev Tr : Id → Fml
     Tr t = tracked R b o t x
 
-    abbrev pub Gives : Id → Pr
+    abbrev pub Gives : Id → SProp 𝓤
     Gives t = ⟦ before β t.life ⟧ ∗ ⟦ Tr t ⟧ ∗ (⟦ Tr t ⟧ -∗ ⟦ P ⟧)
 
     again : (ν : Lft) (t : Id) → (⟦ Tr t ⟧ -∗ ⟦ P ⟧) ⊢ ⟦ fwand (fsep (fdead ν) (fseps (Ob t ∷ fbor t.life (N t) ∷ []))) (fupd P) ⟧
@@ -196,13 +172,12 @@ module _ {M : Type 1} {𝓤 : Ura M} (𝓛 : Logic 𝓤) where
     Lends-permit L l le null_ptr view x = Lends-false 𝓛 (permit_shares Y R c S holds ways β null_ptr view x) l
 
     -- ---- a party that reads may see the value for the rest of the cell's borrow: its token is never given back
-    abbrev pub Sees : ℕ → ℕ → Option R.Denot → R.Denot → Pr
+    abbrev pub Sees : ℕ → ℕ → Option R.Denot → R.Denot → SProp 𝓤
     Sees b o v x = guard 𝓤 ((v ≡ Some x) × Seen ways.0 x) ⟦ shown R b o x β ⟧
 
     known_seen : (way : Way R.Denot) (x : R.Denot) (e : Share) → Part way x e → Seen way x
-    known_seen alone x e known = tt
-    known_seen lends x e known = tt
     known_seen (fixes fact) x e known = known
+    known_seen _ x e known = tt
 
     pub sees_on : RowLaws R → (b o : ℕ) (view : Option V) (v : Option R.Denot) → use_of ways.1 view ≡ reads → ⟦ permit_owns Y R c S holds ways β (block_ptr b o) view v ⟧ ⊢ H.⇛ (ex 𝓤 (Sees b o v))
     sees_on L b o view None is = qed 𝓛 (‵ (permit_owns Y R c S holds ways β (block_ptr b o) view None) ∷ []) ∵ fpick ! (λ k. fpick ! (λ t. fsplit3 ! $ move ! (2 ∷ []) $

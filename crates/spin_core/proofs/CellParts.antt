@@ -9,31 +9,20 @@ use base.Fraction.{full_share}
 use base.FractionLaws.{Counts, counts_some, Counts-op, Counts-all, not-OpDef-full_share}
 use base.Stored.{Gv, coded×, coded_ℕ}
 use base.SetCodes.{coded, SetCoded-set}
-use base.Logic.{SProp, ent, sep, guard, upd, guard_i}
-use base.Fml.{GName, Share, Fml, fex, flft}
-use types.Logic.{Logic, sem}
+use base.Logic.{SProp, guard, upd, guard_i}
+use base.Fml.{GName, Share, fex, flft}
+use types.Logic.{Logic}
 use types.Kit.{‵, ◌⊛◌, given, ◌$◌, ◌∵◌, !, qed, by, move, split, fsplit, fjoin, fpick, fpack, learn, check, use1, use2, done}
 use types.Owned.{own_sum, own_join, own_step}
 use denote.RattleType.{RattleType}
 use Rattle.atomic_table.specs.Seated.{halved, itself}
 use Rattle.spin_core.specs.Cell.{Way, fixes}
 use Rattle.spin_core.specs.CellMemory.{Round, round_code, tag, share, parts, Part, piece}
+use Rattle.spin_core.proofs.Signs.{signs}
 
 module _ {M : Type 1} {𝓤 : Ura M} (𝓛 : Logic 𝓤) (R : RattleType) (γ : GName) where
-  abbrev Pr : Type 2
-  Pr = SProp 𝓤
+  open (signs 𝓛) use {◌⊢◌, ◌∗◌, ⟦◌⟧}
 
-  abbrev ◌⊢◌ : Pr → Pr → Type 1
-  P ⊢ Q = ent 𝓤 P Q
-
-  abbrev ◌∗◌ : Pr → Pr → Pr
-  P ∗ Q = sep 𝓤 P Q
-
-  abbrev ⟦◌⟧ : Fml → Pr
-  ⟦ P ⟧ = sem 𝓛 P
-
-  infix 26 ◌⊢◌
-  infixr 35 ◌∗◌
   sum : (g : Gv) (r e f : Share) → r ∈ Share.op e f → ◌∈◌ {α = Share × Gv} (r, g) (halved.op (e, g) (f, g))
   sum g r e f m = Prod.mk-mem-op Share.op (Ag.op (SetCoded-set (coded itself))) {a = e} {a' = f} {x = r} {b = g} {b' = g} {y = g} m (Ag.idem (SetCoded-set (coded itself)) g)
 
@@ -66,7 +55,7 @@ module _ {M : Type 1} {𝓤 : Ura M} (𝓛 : Logic 𝓤) (R : RattleType) (γ : 
   pub parts_agree : (s u : Round R) (i j : ℕ) → ⟦ parts R γ s i ⟧ ∗ ⟦ parts R γ u j ⟧ ⊢ guard 𝓤 (s ≡ u) (⟦ parts R γ s i ⟧ ∗ ⟦ parts R γ u j ⟧)
   parts_agree s u i j = let g : Gv = round_code R s in let h : Gv = round_code R u in
       qed 𝓛 (‵ (parts R γ s i) ∷ ‵ (parts R γ u j) ∷ []) ∵ fpick ! (λ e. fpick ! (λ ce. fsplit ! $ move ! (2 ∷ []) $ fpick ! (λ f. fpick ! (λ cf. fsplit ! $ move ! (3 ∷ 1 ∷ []) $
-      let Z : Pr = ⟦ tag γ e g ⟧ ∗ ⟦ tag γ f h ⟧ in use2 𝓛 (given (s ≡ u) (‵ (tag γ e g) ⊛ ‵ (tag γ f h))) (own_sum 𝓛 halved γ (e, g) (f, h) (guard 𝓤 (s ≡ u) Z) (λ x m. guard_i 𝓤 (s ≡ u) Z ((coded× coded_ℕ R.coded).inj s u m.0.1))) $
+      let Z : SProp 𝓤 = ⟦ tag γ e g ⟧ ∗ ⟦ tag γ f h ⟧ in use2 𝓛 (given (s ≡ u) (‵ (tag γ e g) ⊛ ‵ (tag γ f h))) (own_sum 𝓛 halved γ (e, g) (f, h) (guard 𝓤 (s ≡ u) Z) (λ x m. guard_i 𝓤 (s ≡ u) Z ((coded× coded_ℕ R.coded).inj s u m.0.1))) $
       learn ! (λ same. check ! same $ split ! $ move ! (2 ∷ 1 ∷ []) $ fjoin ! $ use1 𝓛 (‵ (parts R γ u j)) (parts_in u j f cf) $ move ! (2 ∷ 1 ∷ []) $ fjoin ! $ use1 𝓛 (‵ (parts R γ s i)) (parts_in s i e ce) $ done !)))))
 
   -- ---- some part of a round, where its readers read for good

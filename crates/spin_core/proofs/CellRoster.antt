@@ -15,30 +15,19 @@ use base.Share
 use base.Stored.{Gv, Coded}
 use base.SetCodes.{coded, SetCoded-set}
 use base.Algebras.{pcs, shares}
-use base.Logic.{SProp, ent, sep, ex, all, guard, upd, via, all_e, ex_e, guard_e, guard_i, upd_i, upd_mono}
+use base.Logic.{SProp, ex, all, guard, upd, via, all_e, ex_e, guard_e, guard_i, upd_i, upd_mono}
 use base.Fml.{GName, Share, Fml}
-use types.Logic.{Logic, sem}
+use types.Logic.{Logic}
 use types.Keyed.{entry, entries_take, entries_beside, entry_cut, entry_glue, entry_set}
 use types.Kit.{‵, raw, ◌⊛◌, given, ◌$◌, ◌∵◌, !, qed, by, move, keep, drop, split, fpick, fpack, pick, learn, check, each, suffices, settle, done, use1, use2, rewrite}
 use types.Kit as Kit
 use Rattle.atomic_table.specs.Seated.{itself, halved, seen}
 use Rattle.spin_core.specs.CellMemory.{unused, roster}
+use Rattle.spin_core.proofs.Signs.{signs}
 
 module _ {M : Type 1} {𝓤 : Ura M} (𝓛 : Logic 𝓤) {V : Type 0} (cv : Coded V) (γ : GName) where
-  abbrev Pr : Type 2
-  Pr = SProp 𝓤
+  open (signs 𝓛) use {◌⊢◌, ◌∗◌, ⟦◌⟧}
 
-  abbrev ◌⊢◌ : Pr → Pr → Type 1
-  P ⊢ Q = ent 𝓤 P Q
-
-  abbrev ◌∗◌ : Pr → Pr → Pr
-  P ∗ Q = sep 𝓤 P Q
-
-  abbrev ⟦◌⟧ : Fml → Pr
-  ⟦ P ⟧ = sem 𝓛 P
-
-  infix 26 ◌⊢◌
-  infixr 35 ◌∗◌
   abbrev c : V → Gv
   c = cv.code
 
@@ -56,17 +45,17 @@ module _ {M : Type 1} {𝓤 : Ura M} (𝓛 : Logic 𝓤) {V : Type 0} (cv : Code
 
   -- whoever has the whole of an entry makes a view of it, in two parts
   resets : (k : ℕ) (g : Gv) (u : V) → ⟦ Whole k g ⟧ ⊢ upd 𝓤 (⟦ L k u ⟧ ∗ ⟦ R k u ⟧)
-  resets k g u = let B : Share × Gv → Type 0 = λ x. Path (Share × Gv) x (full_share, c u) in let F : Share × Gv → Pr = λ x. guard 𝓤 (B x) ⟦ entry halved γ k x ⟧ in let Z : Pr = ⟦ L k u ⟧ ∗ ⟦ R k u ⟧ in
+  resets k g u = let B : Share × Gv → Type 0 = λ x. Path (Share × Gv) x (full_share, c u) in let F : Share × Gv → SProp 𝓤 = λ x. guard 𝓤 (B x) ⟦ entry halved γ k x ⟧ in let Z : SProp 𝓤 = ⟦ L k u ⟧ ∗ ⟦ R k u ⟧ in
       via 𝓤 (upd 𝓤 (ex 𝓤 F)) (entry_set halved 𝓛 γ k (full_share, g) B ∣ ((full_share, c u), refl) ∣₁ (λ f d. absurd (not-OpDef-full_share f.0 d.0)))
       (upd_mono 𝓤 {P = ex 𝓤 F} {Q = Z} (ex_e 𝓤 F (λ x. guard_e 𝓤 (B x) ⟦ entry halved γ k x ⟧ (λ e. subst (λ (y : Share × Gv). ⟦ entry halved γ k y ⟧ ⊢ Z) (sym e)
       (entry_cut halved 𝓛 γ k (quarter, c u) (three_quarters, c u) (full_share, c u) (two_parts (c u)))))))
 
   joined : (k : ℕ) (w v : V) → ⟦ L k w ⟧ ∗ ⟦ R k v ⟧ ⊢ guard 𝓤 (w ≡ v) ⟦ Whole k (c w) ⟧
-  joined k w v = let F : Share × Gv → Pr = λ x. guard 𝓤 (x ∈ halved.op (quarter, c w) (three_quarters, c v)) ⟦ entry halved γ k x ⟧ in let Z : Pr = guard 𝓤 (w ≡ v) ⟦ Whole k (c w) ⟧ in
+  joined k w v = let F : Share × Gv → SProp 𝓤 = λ x. guard 𝓤 (x ∈ halved.op (quarter, c w) (three_quarters, c v)) ⟦ entry halved γ k x ⟧ in let Z : SProp 𝓤 = guard 𝓤 (w ≡ v) ⟦ Whole k (c w) ⟧ in
       via 𝓤 (ex 𝓤 F) (entry_glue halved 𝓛 γ k (quarter, c w) (three_quarters, c v)) (ex_e 𝓤 F (λ x. guard_e 𝓤 (x ∈ halved.op (quarter, c w) (three_quarters, c v)) ⟦ entry halved γ k x ⟧ (λ m.
       subst (λ (y : Share × Gv). ⟦ entry halved γ k y ⟧ ⊢ Z) m.1 (guard_i 𝓤 (w ≡ v) ⟦ Whole k (c w) ⟧ (cv.inj w v m.0.1)))))
 
-  abbrev pub Moved : ℕ → List V → ℕ → ℕ → V → Pr
+  abbrev pub Moved : ℕ → List V → ℕ → ℕ → V → SProp 𝓤
   Moved k vs i j u = upd 𝓤 (⟦ roster c γ k (set vs i u) ⟧ ∗ ⟦ R j u ⟧)
 
   -- a party's view is the roster's, and both move
@@ -80,23 +69,23 @@ module _ {M : Type 1} {𝓤 : Ura M} (𝓛 : Logic 𝓤) {V : Type 0} (cv : Code
       rewrite ! 1 (λ (m : ℕ). ‵ (R m u)) (sym is) refl $ move ! (0 ∷ 2 ∷ []) $ Kit.join ! $ done !))
   moves (w ∷ ws) k (suc i) j v e = qed 𝓛 ((‵ (L k w) ⊛ ‵ (roster c γ (suc k) ws)) ∷ ‵ (R j v) ∷ []) ∵ split ! $ move ! (1 ∷ 2 ∷ []) $
       use2 𝓛 (given (get_elem? ws i ≡ some v) (raw (all 𝓤 (Moved (suc k) ws i j)))) (moves ws (suc k) i j v (omega arith)) $ learn ! (λ at. check ! at $ each ! (Moved k (w ∷ ws) (suc i) j) (λ u.
-      use1 𝓛 (raw (Moved (suc k) ws i j u)) (all_e 𝓤 (Moved (suc k) ws i j) u) $ let Z : Pr = ⟦ roster c γ k (w ∷ set ws i u) ⟧ ∗ ⟦ R j u ⟧ in
+      use1 𝓛 (raw (Moved (suc k) ws i j u)) (all_e 𝓤 (Moved (suc k) ws i j) u) $ let Z : SProp 𝓤 = ⟦ roster c γ k (w ∷ set ws i u) ⟧ ∗ ⟦ R j u ⟧ in
       settle 𝓛 Z (‵ (roster c γ (suc k) (set ws i u)) ⊛ ‵ (R j u)) $ split ! $ suffices ! _ (upd_i 𝓤 Z) $ move ! (2 ∷ 0 ∷ []) $ Kit.join ! $ done !))
 
-  abbrev pub Joined : ℕ → List V → V → ℕ → Pr
+  abbrev pub Joined : ℕ → List V → V → ℕ → SProp 𝓤
   Joined k vs u j = ⟦ roster c γ k (vs ++ u ∷ []) ⟧ ∗ ⟦ R j u ⟧
 
   -- a new party takes the next key
   pub joins : (vs : List V) (k : ℕ) (u : V) → ⟦ roster c γ k vs ⟧ ⊢ upd 𝓤 (ex 𝓤 (Joined k vs u))
-  joins [] k u = let Z : Pr = ex 𝓤 (Joined k [] u) in qed 𝓛 (‵ (roster c γ k []) ∷ []) ∵ fpick ! (λ g. use1 𝓛 (‵ (Whole k g) ⊛ ‵ (unused γ (suc k) g)) (entries_take halved 𝓛 γ k (λ _. (full_share, g))) $ split ! $
+  joins [] k u = let Z : SProp 𝓤 = ex 𝓤 (Joined k [] u) in qed 𝓛 (‵ (roster c γ k []) ∷ []) ∵ fpick ! (λ g. use1 𝓛 (‵ (Whole k g) ⊛ ‵ (unused γ (suc k) g)) (entries_take halved 𝓛 γ k (λ _. (full_share, g))) $ split ! $
       use1 𝓛 (raw (upd 𝓤 (⟦ L k u ⟧ ∗ ⟦ R k u ⟧))) (resets k g u) $ settle 𝓛 Z (‵ (L k u) ⊛ ‵ (R k u)) $ split ! $ suffices ! _ (upd_i 𝓤 Z) $ Kit.show ! (Joined k [] u) k $
       move ! (2 ∷ []) $ fpack ! Gv (unused γ (suc k)) g $ move ! (1 ∷ 0 ∷ []) $ Kit.join ! $ done !)
-  joins (w ∷ ws) k u = let Z : Pr = ex 𝓤 (Joined k (w ∷ ws) u) in qed 𝓛 (‵ (L k w) ∷ ‵ (roster c γ (suc k) ws) ∷ []) ∵ move ! (1 ∷ []) $ use1 𝓛 (raw (upd 𝓤 (ex 𝓤 (Joined (suc k) ws u)))) (joins ws (suc k) u) $
+  joins (w ∷ ws) k u = let Z : SProp 𝓤 = ex 𝓤 (Joined k (w ∷ ws) u) in qed 𝓛 (‵ (L k w) ∷ ‵ (roster c γ (suc k) ws) ∷ []) ∵ move ! (1 ∷ []) $ use1 𝓛 (raw (upd 𝓤 (ex 𝓤 (Joined (suc k) ws u)))) (joins ws (suc k) u) $
       settle 𝓛 Z (Kit.some (λ (j : ℕ). ‵ (roster c γ (suc k) (ws ++ u ∷ [])) ⊛ ‵ (R j u))) $ pick ! (λ j. split ! $ suffices ! _ (upd_i 𝓤 Z) $ Kit.show ! (Joined k (w ∷ ws) u) j $ move ! (2 ∷ 0 ∷ []) $ Kit.join ! $ done !)
 
   -- the views of parties that are gone
   pub enrols : (vs : List V) (k : ℕ) (g : Gv) → ⟦ unused γ k g ⟧ ⊢ upd 𝓤 ⟦ roster c γ k vs ⟧
   enrols [] k g = qed 𝓛 (‵ (unused γ k g) ∷ []) ∵ suffices ! _ (upd_i 𝓤 ⟦ roster c γ k [] ⟧) $ fpack ! Gv (unused γ k) g $ done !
-  enrols (w ∷ ws) k g = let Z : Pr = ⟦ roster c γ k (w ∷ ws) ⟧ in qed 𝓛 (‵ (unused γ k g) ∷ []) ∵ use1 𝓛 (‵ (Whole k g) ⊛ ‵ (unused γ (suc k) g)) (entries_take halved 𝓛 γ k (λ _. (full_share, g))) $ split ! $
+  enrols (w ∷ ws) k g = let Z : SProp 𝓤 = ⟦ roster c γ k (w ∷ ws) ⟧ in qed 𝓛 (‵ (unused γ k g) ∷ []) ∵ use1 𝓛 (‵ (Whole k g) ⊛ ‵ (unused γ (suc k) g)) (entries_take halved 𝓛 γ k (λ _. (full_share, g))) $ split ! $
       use1 𝓛 (raw (upd 𝓤 (⟦ L k w ⟧ ∗ ⟦ R k w ⟧))) (resets k g w) $ settle 𝓛 Z (‵ (L k w) ⊛ ‵ (R k w)) $ split ! $ move ! (2 ∷ []) $
       use1 𝓛 (raw (upd 𝓤 ⟦ roster c γ (suc k) ws ⟧)) (enrols ws (suc k) g) $ settle 𝓛 Z (‵ (roster c γ (suc k) ws)) $ suffices ! _ (upd_i 𝓤 Z) $ keep ! (1 ∷ 0 ∷ []) $ done !

@@ -2,38 +2,26 @@
 use Rattle.std.proofs.Common.{ℕ, zero, suc, ◌+◌, ◌-◌, ◌^◌, Bool, false, [], ◌∷◌, ◌++◌, Option, Some, None}
 use seplogic.Ra.Ura.{Ura}
 use base.Fraction.{full_share}
-use base.Logic.{SProp, ent, sep, upd, upd_i}
+use base.Logic.{upd, upd_i}
 use base.FractionLaws.{Counts-all}
 use base.Fml.{Lft, Share, Incl, Incl-trans, Fml, ffalse, fsep, fex, fbor, flft, fdead, fobs}
 use contract.BorrowLft.{meet_⊑_left, meet_⊑_right, ⊑_meet}
 use ghost.Rules.{Toks, span}
-use types.Logic.{Logic, sem, lfts}
+use types.Logic.{Logic, lfts}
 use types.Kit.{‵, raw, ◌⊛◌, later, ◌$◌, ◌∵◌, !, qed, by, move, keep, split, split3, fsplit, fsplit3, fjoin, fjoin3, fpick, fpack, use1, use2, use3, await, updating, now, settle, suffices, done}
 use types.Tokens.{lft_new, lft_end, lent_back}
 use denote.RattleType.{RattleType}
 use denote.Memory.{part_at, mem}
 use denote.Shares.{Shares, settles}
-use Rattle.spin_core.specs.Cell.{Use, off, reads, writes, Way, alone, lends, fixes, Fixed}
+use Rattle.spin_core.specs.Cell.{Use, writes, Way, lends, fixes, Fixed}
 use Rattle.spin_core.specs.CellMemory.{Id, idle, tag, round_code, share, parts, piece, remains, resting, offset, shown, named, tracked, waits, shared, right}
 use Rattle.spin_core.proofs.CellParts.{parts_in, piece_in, renames}
+use Rattle.spin_core.proofs.Signs.{signs}
 
 module _ {M : Type 1} {𝓤 : Ura M} (𝓛 : Logic 𝓤) (R : RattleType) (b o : ℕ) (t : Id) where
   open 𝓛 use {H, A}
+  open (signs 𝓛) use {◌⊢◌, ◌∗◌, ⟦◌⟧}
 
-  abbrev Pr : Type 2
-  Pr = SProp 𝓤
-
-  abbrev ◌⊢◌ : Pr → Pr → Type 1
-  P ⊢ Q = ent 𝓤 P Q
-
-  abbrev ◌∗◌ : Pr → Pr → Pr
-  P ∗ Q = sep 𝓤 P Q
-
-  abbrev ⟦◌⟧ : Fml → Pr
-  ⟦ P ⟧ = sem 𝓛 P
-
-  infix 26 ◌⊢◌
-  infixr 35 ◌∗◌
   abbrev α : Lft
   α = t.life
 
@@ -52,11 +40,9 @@ module _ {M : Type 1} {𝓤 : Ura M} (𝓛 : Logic 𝓤) (R : RattleType) (b o :
 
   -- what a party has during a step: a writer has begun the next round, where others may come to read
   abbrev pub held : Use → Way R.Denot → Option R.Denot → Fml
-  held off way v = right R b o t way off v
-  held reads way v = right R b o t way reads v
-  held writes alone v = right R b o t alone writes v
   held writes lends v = next v
   held writes (fixes fact) v = next v
+  held u way v = right R b o t way u v
 
   -- from a borrow of the value, what is shared of it for a new lifetime
   pub begins : (l : Lft) → Shares 𝓛 R l → (x : R.Denot) (μ : Lft) (s : Share) (τ : Lft) (r : Share) → Incl μ α → Incl τ l
@@ -98,21 +84,15 @@ module _ {M : Type 1} {𝓤 : Ura M} (𝓛 : Logic 𝓤) (R : RattleType) (b o :
   -- before a step, and after it
   pub readies : (l : Lft) → Shares 𝓛 R l → (u : Use) (way : Way R.Denot) (v : Option R.Denot) (μ : Lft) (s : Share) (τ : Lft) (r : Share) → Incl μ α → Incl τ l
       → ⟦ right R b o t way u v ⟧ ∗ A.lft μ s ∗ A.lft τ r ⊢ H.⇛ (⟦ held u way v ⟧ ∗ A.lft μ s ∗ A.lft τ r)
-  readies l shares off way v μ s τ r i j = 𝓛.laws.⇛_intro _
-  readies l shares reads way v μ s τ r i j = 𝓛.laws.⇛_intro _
-  readies l shares writes alone v μ s τ r i j = 𝓛.laws.⇛_intro _
-  readies l shares writes lends None μ s τ r i j = 𝓛.laws.⇛_intro _
-  readies l shares writes lends (Some x) μ s τ r i j = begins l shares x μ s τ r i j
-  readies l shares writes (fixes fact) None μ s τ r i j = 𝓛.laws.⇛_intro _
-  readies l shares writes (fixes fact) (Some x) μ s τ r i j = begins l shares x μ s τ r i j
+  readies l shares writes lends (Some x) = begins l shares x
+  readies l shares writes (fixes fact) (Some x) = begins l shares x
+  readies l shares _ _ _ = λ μ s τ r i j. 𝓛.laws.⇛_intro _
 
   puts_down : (way : Way R.Denot) (v : Option R.Denot) → ⟦ next v ⟧ ⊢ H.⇛ ⟦ right R b o t way writes v ⟧
   puts_down way None = 𝓛.laws.⇛_intro _
   puts_down way (Some x) = qed 𝓛 (‵ (fex ℕ (begun x)) ∷ []) ∵ updating ! $ fpick ! (λ a. use1 𝓛 (later (‵ (tracked R b o t x))) (ends x a) $ await ! tt $ now ! $ done !)
 
   pub settles_down : (u : Use) (way : Way R.Denot) (v : Option R.Denot) → ⟦ held u way v ⟧ ⊢ H.⇛ ⟦ right R b o t way u v ⟧
-  settles_down off way v = 𝓛.laws.⇛_intro _
-  settles_down reads way v = 𝓛.laws.⇛_intro _
-  settles_down writes alone v = 𝓛.laws.⇛_intro _
   settles_down writes lends v = puts_down lends v
   settles_down writes (fixes fact) v = puts_down (fixes fact) v
+  settles_down _ _ v = 𝓛.laws.⇛_intro _

@@ -43,20 +43,17 @@ module _ (R : RattleType) (s : IsSend R) (b o : ℕ) (t : Id) where
 
   missing_keyless : (way : Way R.Denot) → Keyless (missing R b o t way)
   missing_keyless alone = tt
-  missing_keyless lends = λ g. tt
-  missing_keyless (fixes fact) = λ g. tt
+  missing_keyless _ = λ g. tt
 
   state_keyless : (way : Way R.Denot) → (IsShared way → Common R) → (r w : ℕ) → Keyless (state R b o t way r w)
   state_keyless way sees r zero = resting_keyless way sees r
   state_keyless way sees r (suc w) = missing_keyless way
 
   right_keyless : (way : Way R.Denot) (u : Use) → (u ≡ reads → Common R) → (x : Option R.Denot) → Keyless (right R b o t way u x)
-  right_keyless way off sees None = tt
-  right_keyless way off sees (Some x) = tt
-  right_keyless way reads sees None = tt
   right_keyless way reads sees (Some x) = λ a. ((λ e n. (tt, tt)), sees refl x b (o + offset R) (a ∷ t.life))
-  right_keyless way writes sees None = tt
   right_keyless way writes sees (Some x) = tracked_keyless x
+  right_keyless way off sees None = tt
+  right_keyless way _ sees _ = tt
 
   module _ {V : Type 0} (c : V → Gv) (S : RattleType) (holds : ℕ → S.Denot → List V → Type 0) (ways : Ways R.Denot V) where
     kept_keyless : (IsShared ways.0 → Common R) → Sends S → (κ : Lft) → Keyless (kept R b o t c S holds ways κ)
@@ -80,10 +77,8 @@ module _ (Y R : RattleType) {V : Type 0} (c : V → Gv) (S : RattleType) (holds 
   permit_keyless s y β null_ptr view x = tt
 
   reader_sees : IsSync Y → (β : Lft) (b o : ℕ) (u : Use) → (Known ways Y S R → u ≡ reads → Common Y → Common R) → (x : Option R.Denot) (κ : Lft) → Keyless (reader_shares Y R c S holds ways β b o u x κ)
-  reader_sees y β b o off sees x κ = tt
-  reader_sees y β b o reads sees None κ = tt
   reader_sees y β b o reads sees (Some x) κ = λ known. sees known refl y.shared x b (o + offset R) _
-  reader_sees y β b o writes sees x κ = tt
+  reader_sees y β b o _ sees _ κ = tt
 
   pub permit_sees : IsSync Y → (β : Lft) (p : Ptr) (view : Option V) (x : Option R.Denot) (κ : Lft) → Keyless (permit_shares Y R c S holds ways β p view x κ)
   permit_sees y β (block_ptr b o) view x κ = reader_sees y β b o (use_of ways.1 view) (some_reads view) x κ

@@ -3,11 +3,11 @@ use Rattle.std.proofs.Common.{◌≡◌, ℕ, ◌+◌, List, [], ◌∷◌, ◌+
 use seplogic.Ra.Ura.{Ura}
 use mir.Syntax.{Lifetime}
 use mir.Val.{Val}
-use base.Logic.{SProp, ent, sep, wand, ex, all, all_e, via, apply∗}
+use base.Logic.{SProp, ex, all, all_e, via, apply∗}
 use base.Fml.{Lft, GName, Share, Incl, Incl-refl, Fml, fex, fobs, fbor, flft}
 use base.Stored.{Coded}
 use base.Before.{before, chain}
-use types.Logic.{Logic, sem}
+use types.Logic.{Logic}
 use types.SemTy.{Body}
 use types.Kit.{‵, raw, ◌⊛◌, some, later, ◌$◌, ◌∵◌, !, qed, by, move, drop, split, split3, fsplit, fsplit3, fjoin, fjoin3, fpick, fpack, pick, show, frame, each, assume, feq_i, use1, use2, use3, await, updating, now, done}
 use types.Tokens.{shr_bor_dup}
@@ -23,28 +23,12 @@ use denote.Through.{Lent}
 use Rattle.core.proofs.cell.Through.{hands_before}
 use Rattle.spin_core.specs.Cell.{Ways, writes}
 use Rattle.spin_core.specs.CellMemory.{Known, Id, offset, named, tracked, writer_at, writer_owns}
+use Rattle.spin_core.proofs.Signs.{signs}
 
 module _ {M : Type 1} {𝓤 : Ura M} (𝓛 : Logic 𝓤) where
   open 𝓛 use {H, A}
+  open (signs 𝓛) use {◌⊢◌, ◌∗◌, ◌-∗◌, ⟦◌⟧}
 
-  abbrev Pr : Type 2
-  Pr = SProp 𝓤
-
-  abbrev ◌⊢◌ : Pr → Pr → Type 1
-  P ⊢ Q = ent 𝓤 P Q
-
-  abbrev ◌∗◌ : Pr → Pr → Pr
-  P ∗ Q = sep 𝓤 P Q
-
-  abbrev ◌-∗◌ : Pr → Pr → Pr
-  P -∗ Q = wand 𝓤 P Q
-
-  abbrev ⟦◌⟧ : Fml → Pr
-  ⟦ P ⟧ = sem 𝓛 P
-
-  infix 26 ◌⊢◌
-  infixr 35 ◌∗◌
-  infixr 30 ◌-∗◌
   lasts_chain : (νs : List Lft) (κ α : Lft) (q : Share) (P : Fml) → ⟦ chain νs κ α ⟧ ∗ A.bor α P ∗ A.lft κ q ⊢ H.⇛ (A.bor κ P ∗ A.lft κ q)
   lasts_chain [] κ α q P = qed 𝓛 (‵ (chain [] κ α) ∷ ‵ (fbor α P) ∷ ‵ (flft κ q) ∷ []) ∵ updating ! $ fpick ! (λ h. drop ! $ use1 𝓛 (‵ (fbor κ P)) (𝓛.bors.bor_shorten α κ P h) $ now ! $ done !)
   lasts_chain (ν ∷ νs) κ α q P = qed 𝓛 (‵ (chain (ν ∷ νs) κ α) ∷ ‵ (fbor α P) ∷ ‵ (flft κ q) ∷ []) ∵ updating ! $ fsplit ! $ shr_bor_dup ! $ move ! (0 ∷ 4 ∷ []) $
@@ -62,7 +46,7 @@ module _ {M : Type 1} {𝓤 : Ura M} (𝓛 : Logic 𝓤) where
     Pen x = writer_owns Y R cv.code S holds ways β (block_ptr c e) w x
 
     -- a write permit is the value's borrow, and what makes it a permit again at any value
-    abbrev pub Cut : R.Denot → Id → Pr
+    abbrev pub Cut : R.Denot → Id → SProp 𝓤
     Cut x t = ⟦ before β t.life ⟧ ∗ ⟦ tracked R c e t x ⟧ ∗ all 𝓤 (λ (z : R.Denot). ⟦ tracked R c e t z ⟧ -∗ ⟦ Pen z ⟧)
 
     pub cuts : (x : R.Denot) → ⟦ Pen x ⟧ ⊢ ex 𝓤 (Cut x)
@@ -71,17 +55,17 @@ module _ {M : Type 1} {𝓤 : Ura M} (𝓛 : Logic 𝓤) where
         let At : Id → Fml = writer_at Y R cv.code S holds ways β c e w z in fpack ! Id At t $ fpack ! (ways.1 w ≡ writes) (λ _. fex Id At) so $ fpack ! (Known ways Y S R) (λ _. fex (ways.1 w ≡ writes) (λ _. fex Id At)) known $ done !))))
 
     module _ (G : RattleType) (F : R.Denot → G.Denot) (inj : (x z : R.Denot) → F x ≡ F z → x ≡ z) (ℓ : Lifetime) (κ : Lft) (inc : Incl κ β) (q : Share) (m : MutBor G.Denot) where
-      abbrev Whole : R.Denot → Pr
+      abbrev Whole : R.Denot → SProp 𝓤
       Whole z = ⟦ (mem G).own_at (F z) m.ref_ptr.0 m.ref_ptr.1 ⟧
 
-      abbrev Again : Id → R.Denot → Pr
+      abbrev Again : Id → R.Denot → SProp 𝓤
       Again t z = ⟦ tracked R c e t z ⟧ -∗ Whole z
 
       -- the whole that holds the permit is cut alike
-      abbrev pub Opened : R.Denot → Id → Pr
+      abbrev pub Opened : R.Denot → Id → SProp 𝓤
       Opened x t = ⟦ before β t.life ⟧ ∗ ⟦ tracked R c e t x ⟧ ∗ all 𝓤 (Again t)
 
-      abbrev Parts : R.Denot → Id → Pr
+      abbrev Parts : R.Denot → Id → SProp 𝓤
       Parts z t = ⟦ before β t.life ⟧ ∗ A.obs t.value (R.coded.code z) ∗ A.bor t.life (named R c e t) ∗ all 𝓤 (Again t)
 
       abbrev pub inside : R.Denot → MutBor R.Denot

@@ -3,9 +3,9 @@ use Rattle.std.proofs.Common.{◌≡◌, ◌≢◌, ℕ, suc, ◌+◌, ◌-◌, 
 use seplogic.Ra.Ura.{Ura}
 use base.Fraction.{full_share}
 use base.Stored.{Gv}
-use base.Logic.{SProp, ent, sep, guard, upd, upd_i, via, id⊢, never_e, snd∗}
+use base.Logic.{SProp, guard, upd, upd_i, via, id⊢, never_e, snd∗}
 use base.Fml.{Lft, Share, Fml, ftrue, fsep, fex, flft, fobs}
-use types.Logic.{Logic, sem}
+use types.Logic.{Logic}
 use types.Kit.{‵, raw, ◌⊛◌, given, ◌$◌, ◌∵◌, !, qed, by, move, keep, drop, split, fsplit, fsplit3, fjoin, fjoin3, fpick, fpack, learn, rewrite, settle, suffices, use1, use2, done}
 use denote.RattleType.{RattleType}
 use denote.SharingLaws.{contraction}
@@ -19,22 +19,11 @@ use Rattle.spin_core.specs.CellMemory.{Id, Round, round_code, tag, share, parts,
 use Rattle.spin_core.proofs.CellWays.{going_rest}
 use Rattle.spin_core.proofs.CellParts.{parts_cut, parts_glue, parts_whole, parts_agree, piece_cut}
 use Rattle.spin_core.proofs.CellRounds.{begun, held, whole, renews, rests_lent, rests_fixed}
+use Rattle.spin_core.proofs.Signs.{signs}
 
 module _ {M : Type 1} {𝓤 : Ura M} (𝓛 : Logic 𝓤) (R : RattleType) (L : RowLaws R) (b o : ℕ) (t : Id) where
-  abbrev Pr : Type 2
-  Pr = SProp 𝓤
+  open (signs 𝓛) use {◌⊢◌, ◌∗◌, ⟦◌⟧}
 
-  abbrev ◌⊢◌ : Pr → Pr → Type 1
-  P ⊢ Q = ent 𝓤 P Q
-
-  abbrev ◌∗◌ : Pr → Pr → Pr
-  P ∗ Q = sep 𝓤 P Q
-
-  abbrev ⟦◌⟧ : Fml → Pr
-  ⟦ P ⟧ = sem 𝓛 P
-
-  infix 26 ◌⊢◌
-  infixr 35 ◌∗◌
   abbrev γ : ℕ
   γ = t.round
 
@@ -59,7 +48,7 @@ module _ {M : Type 1} {𝓤 : Ura M} (𝓛 : Logic 𝓤) (R : RattleType) (L : R
       rewrite ! 0 (λ (s : Round R). ‵ (shared R b o t s)) same refl $ move ! (1 ∷ 0 ∷ []) $ fjoin ! $ fpack ! ℕ (λ e. lent r (e, x)) c $ keep ! (0 ∷ []) $ done !))))
 
   write_back : (x : R.Denot) → ⟦ idle γ ⟧ ∗ ⟦ fex ℕ (begun 𝓛 R b o t x) ⟧ ⊢ upd 𝓤 ⟦ Rest lends 0 x ⟧
-  write_back x = let Z : Pr = ⟦ Rest lends 0 x ⟧ in qed 𝓛 (‵ (idle γ) ∷ ‵ (fex ℕ (begun 𝓛 R b o t x)) ∷ []) ∵ use2 𝓛 (raw (upd 𝓤 ⟦ whole 𝓛 R b o t x ⟧)) (renews 𝓛 R b o t x) $
+  write_back x = let Z : SProp 𝓤 = ⟦ Rest lends 0 x ⟧ in qed 𝓛 (‵ (idle γ) ∷ ‵ (fex ℕ (begun 𝓛 R b o t x)) ∷ []) ∵ use2 𝓛 (raw (upd 𝓤 ⟦ whole 𝓛 R b o t x ⟧)) (renews 𝓛 R b o t x) $
       settle 𝓛 Z (‵ (whole 𝓛 R b o t x)) $ suffices ! Z (upd_i 𝓤 Z) $ by ! (rests_lent 𝓛 R b o t x)
 
   -- ---- a reader or a writer takes its part
@@ -130,10 +119,8 @@ module _ {M : Type 1} {𝓤 : Ura M} (𝓛 : Logic 𝓤) (R : RattleType) (L : R
 
   nobody : (u : Use) (way : Way R.Denot) → u ≢ off → ⟦ Held u way None ⟧ ⊢ ⟦ base.Fml.ffalse ⟧
   nobody off way on = absurd (on refl)
-  nobody reads way on = id⊢ 𝓤 _
   nobody writes alone on = id⊢ 𝓤 _
-  nobody writes lends on = id⊢ 𝓤 _
-  nobody writes (fixes fact) on = id⊢ 𝓤 _
+  nobody _ _ on = id⊢ 𝓤 _
 
   -- who comes takes its part
   arrives : (u : Use) (way : Way R.Denot) (x : R.Denot) (r w : ℕ) → Returns way → u ≢ off → Limits way (r + reading u) (w + writing u) → Kept way off u None (Some x)
@@ -143,35 +130,19 @@ module _ {M : Type 1} {𝓤 : Ura M} (𝓛 : Logic 𝓤) (R : RattleType) (L : R
 
   first_shown : (way : Way R.Denot) (u : Use) (x : R.Denot) → Returns way → u ≢ off → Kept way off u None (Some x)
   first_shown way off x is on = absurd (on refl)
-  first_shown alone reads x is on = ((x, refl), tt)
-  first_shown alone writes x is on = ((x, refl), tt)
-  first_shown lends reads x is on = ((x, refl), tt)
-  first_shown lends writes x is on = ((x, refl), tt)
   first_shown (fixes fact) u x is on = absurd is
+  first_shown _ _ x is on = ((x, refl), tt)
 
   -- what is known of a value that a party keeps, leaves, or comes to use
   goes_on : (way : Way R.Denot) (u u' : Use) (x : R.Denot) → u ≢ off → u' ≢ off → Kept way u u' (Some x) (Some x)
-  goes_on way off u' x on on' = absurd (on refl)
-  goes_on way u off x on on' = absurd (on' refl)
-  goes_on alone reads reads x on on' = (refl, tt)
-  goes_on alone reads writes x on on' = (refl, tt)
-  goes_on alone writes reads x on on' = (refl, tt)
-  goes_on alone writes writes x on on' = (refl, tt)
-  goes_on lends reads reads x on on' = (refl, tt)
-  goes_on lends reads writes x on on' = (refl, tt)
-  goes_on lends writes reads x on on' = (refl, tt)
-  goes_on lends writes writes x on on' = (refl, tt)
-  goes_on (fixes fact) reads reads x on on' = (refl, tt)
-  goes_on (fixes fact) reads writes x on on' = (refl, tt)
-  goes_on (fixes fact) writes reads x on on' = (refl, tt)
-  goes_on (fixes fact) writes writes x on on' = (refl, tt)
+  goes_on alone off u' x on on' = absurd (on refl)
+  goes_on _ off u' x on on' = absurd (on refl)
+  goes_on _ u off x on on' = absurd (on' refl)
+  goes_on _ _ _ x on on' = (refl, tt)
 
   ends_at : (way : Way R.Denot) (u : Use) (v : Option R.Denot) → Kept way u off v None
-  ends_at alone u v = (refl, tt)
-  ends_at lends u v = (refl, tt)
   ends_at (fixes fact) off v = (refl, tt)
-  ends_at (fixes fact) reads v = (refl, tt)
-  ends_at (fixes fact) writes v = (refl, tt)
+  ends_at _ _ v = (refl, tt)
 
   module _ (way : Way R.Denot) (r w : ℕ) where
     abbrev Before : Use → Fml
@@ -185,7 +156,7 @@ module _ {M : Type 1} {𝓤 : Ura M} (𝓛 : Logic 𝓤) (R : RattleType) (L : R
 
     -- a party that goes on as it is
     stays : (u : Use) (v v' : Option R.Denot) → ⟦ Held u way v ⟧ ⊢ ⟦ Held u way v' ⟧ → Kept way u u v v' → ⟦ Before u ⟧ ∗ ⟦ Held u way v ⟧ ⊢ upd 𝓤 (⟦ Before u ⟧ ∗ ⟦ Got way u u v ⟧)
-    stays u v v' same kept = let Z : Pr = ⟦ Before u ⟧ ∗ ⟦ Got way u u v ⟧ in qed 𝓛 (‵ (Before u) ∷ ‵ (Held u way v) ∷ []) ∵ suffices ! Z (upd_i 𝓤 Z) $ move ! (1 ∷ []) $
+    stays u v v' same kept = let Z : SProp 𝓤 = ⟦ Before u ⟧ ∗ ⟦ Got way u u v ⟧ in qed 𝓛 (‵ (Before u) ∷ ‵ (Held u way v) ∷ []) ∵ suffices ! Z (upd_i 𝓤 Z) $ move ! (1 ∷ []) $
         use1 𝓛 (‵ (Held u way v')) same $ use1 𝓛 (‵ (Got way u u v)) (got_in way u u v v' kept) $ move ! (1 ∷ 0 ∷ []) $ done !
 
     rests : (v : Option R.Denot) → Turns off off v
@@ -199,20 +170,20 @@ module _ {M : Type 1} {𝓤 : Ura M} (𝓛 : Logic 𝓤) (R : RattleType) (L : R
     -- ---- where readers give back
     comes : (u : Use) → Returns way → u ≢ off → (v : Option R.Denot) → Turns off u v
     comes u is on (Some x) lim lim' = qed 𝓛 (‵ (Before off) ∷ ‵ base.Fml.ffalse ∷ []) ∵ drop ! $ by ! (never_e 𝓤 _)
-    comes u is on None lim going = let lim' : Lim u = going_rest way off u None (r + reading off) going in let Z : Pr = ⟦ Before u ⟧ ∗ ⟦ Got way off u None ⟧ in let none : w + 0 ≡ 0 = (let z = none_else u way r w on lim' in omega arith) in let same_r : r + 0 ≡ r = omega arith in
+    comes u is on None lim going = let lim' : Lim u = going_rest way off u None (r + reading off) going in let Z : SProp 𝓤 = ⟦ Before u ⟧ ∗ ⟦ Got way off u None ⟧ in let none : w + 0 ≡ 0 = (let z = none_else u way r w on lim' in omega arith) in let same_r : r + 0 ≡ r = omega arith in
         qed 𝓛 (‵ (Before off) ∷ ‵ ftrue ∷ []) ∵ suffices ! Z (upd_i 𝓤 Z) $ rewrite ! 0 (λ (k : ℕ × ℕ). ‵ (St way k.0 k.1)) (λ i. (same_r i, none i)) refl $ fpick ! (λ x.
         use1 𝓛 (‵ (Before u) ⊛ ‵ (Got way off u None)) (arrives u way x r w is on lim' (first_shown way u x is on)) $ split ! $ keep ! (0 ∷ 1 ∷ []) $ done !)
 
     goes : (u : Use) → Returns way → u ≢ off → (v : Option R.Denot) → Turns u off v
     goes u is on None lim lim' = via 𝓤 _ (snd∗ 𝓤 ⟦ Before u ⟧ ⟦ Held u way None ⟧) (via 𝓤 _ (nobody u way on) (never_e 𝓤 _))
-    goes u is on (Some x) lim going = let Z : Pr = ⟦ Before off ⟧ ∗ ⟦ Got way u off (Some x) ⟧ in let none : 0 ≡ w + 0 = (let z = none_else u way r w on lim in omega arith) in let same_r : r ≡ r + 0 = omega arith in
+    goes u is on (Some x) lim going = let Z : SProp 𝓤 = ⟦ Before off ⟧ ∗ ⟦ Got way u off (Some x) ⟧ in let none : 0 ≡ w + 0 = (let z = none_else u way r w on lim in omega arith) in let same_r : r ≡ r + 0 = omega arith in
         qed 𝓛 (‵ (Before u) ∷ ‵ (Held u way (Some x)) ∷ []) ∵ use2 𝓛 (raw (upd 𝓤 ⟦ Rest way r x ⟧)) (gives u way x r w is on lim) $ settle 𝓛 Z (‵ (Rest way r x)) $ suffices ! Z (upd_i 𝓤 Z) $
         fpack ! R.Denot (Rest way r) x $ rewrite ! 0 (λ (k : ℕ × ℕ). ‵ (St way k.0 k.1)) (λ i. (same_r i, none i)) refl $ nothing ! $ use1 𝓛 (‵ (Got way u off (Some x))) (got_in way u off (Some x) None (ends_at way u (Some x))) $
         keep ! (1 ∷ 0 ∷ []) $ done !
 
     passes : (u u' : Use) → Returns way → u ≢ off → u' ≢ off → (v : Option R.Denot) → Turns u u' v
     passes u u' is on on' None lim lim' = via 𝓤 _ (snd∗ 𝓤 ⟦ Before u ⟧ ⟦ Held u way None ⟧) (via 𝓤 _ (nobody u way on) (never_e 𝓤 _))
-    passes u u' is on on' (Some x) lim going = let lim' : Lim u' = going_rest way u u' (Some x) (r + reading u) going in let Z : Pr = ⟦ Before u' ⟧ ∗ ⟦ Got way u u' (Some x) ⟧ in
+    passes u u' is on on' (Some x) lim going = let lim' : Lim u' = going_rest way u u' (Some x) (r + reading u) going in let Z : SProp 𝓤 = ⟦ Before u' ⟧ ∗ ⟦ Got way u u' (Some x) ⟧ in
         qed 𝓛 (‵ (Before u) ∷ ‵ (Held u way (Some x)) ∷ []) ∵ use2 𝓛 (raw (upd 𝓤 ⟦ Rest way r x ⟧)) (gives u way x r w is on lim) $ settle 𝓛 Z (‵ (Rest way r x)) $ suffices ! Z (upd_i 𝓤 Z) $
         use1 𝓛 (‵ (Before u') ⊛ ‵ (Held u' way (Some x))) (takes u' way x r w is on' lim') $ split ! $ move ! (1 ∷ []) $ use1 𝓛 (‵ (Got way u u' (Some x))) (got_in way u u' (Some x) (Some x) (goes_on way u u' x on on')) $
         move ! (1 ∷ 0 ∷ []) $ done !
@@ -262,11 +233,11 @@ module _ {M : Type 1} {𝓤 : Ura M} (𝓛 : Logic 𝓤) (R : RattleType) (L : R
     leaves_whole (suc r) w u x none none' on known = absurd (omega (arith, none))
     leaves_whole zero (suc w) u x none none' on known = absurd (omega (arith, none'))
     leaves_whole zero zero writes x none none' on known = absurd (on refl)
-    leaves_whole zero zero off x none none' on known = let Z : Pr = ⟦ St fixed 0 0 ⟧ ∗ ⟦ Got fixed writes off (Some x) ⟧ in
+    leaves_whole zero zero off x none none' on known = let Z : SProp 𝓤 = ⟦ St fixed 0 0 ⟧ ∗ ⟦ Got fixed writes off (Some x) ⟧ in
         qed 𝓛 (‵ (idle γ) ∷ ‵ (fex ℕ (begun 𝓛 R b o t x)) ∷ []) ∵ use2 𝓛 (raw (upd 𝓤 ⟦ whole 𝓛 R b o t x ⟧)) (renews 𝓛 R b o t x) $ settle 𝓛 Z (‵ (whole 𝓛 R b o t x)) $ suffices ! Z (upd_i 𝓤 Z) $
         use1 𝓛 (‵ (Rest fixed 0 x)) (rests_fixed 𝓛 R b o t fact 0 x known) $ fpack ! R.Denot (Rest fixed 0) x $ nothing ! $
         use1 𝓛 (‵ (Got fixed writes off (Some x))) (got_in fixed writes off (Some x) None (refl, tt)) $ move ! (1 ∷ 0 ∷ []) $ done !
-    leaves_whole zero zero reads x none none' on known = let Z : Pr = ⟦ St fixed 1 0 ⟧ ∗ ⟦ Got fixed writes reads (Some x) ⟧ in
+    leaves_whole zero zero reads x none none' on known = let Z : SProp 𝓤 = ⟦ St fixed 1 0 ⟧ ∗ ⟦ Got fixed writes reads (Some x) ⟧ in
         qed 𝓛 (‵ (idle γ) ∷ ‵ (fex ℕ (begun 𝓛 R b o t x)) ∷ []) ∵ use2 𝓛 (raw (upd 𝓤 ⟦ whole 𝓛 R b o t x ⟧)) (renews 𝓛 R b o t x) $ settle 𝓛 Z (‵ (whole 𝓛 R b o t x)) $ suffices ! Z (upd_i 𝓤 Z) $
         use1 𝓛 (‵ (Rest fixed 1 x)) (rests_fixed 𝓛 R b o t fact 1 x known) $
         use1 𝓛 (given (fact true x) (‵ (St fixed 2 0) ⊛ ‵ (reader R b o t fixed x))) (reads_on 0 x) $ learn ! (λ again. split ! $ move ! (1 ∷ []) $
@@ -274,7 +245,7 @@ module _ {M : Type 1} {𝓤 : Ura M} (𝓛 : Logic 𝓤) (R : RattleType) (L : R
 
     fixed_comes : (r w : ℕ) (u : Use) → w ≡ 0 → ((x : R.Denot) → ⟦ Rest fixed r x ⟧ ⊢ ⟦ St fixed (r + reading u) (w + writing u) ⟧ ∗ ⟦ Got fixed off u None ⟧)
         → ⟦ St fixed (r + 0) (w + 0) ⟧ ∗ ⟦ ftrue ⟧ ⊢ upd 𝓤 (⟦ St fixed (r + reading u) (w + writing u) ⟧ ∗ ⟦ Got fixed off u None ⟧)
-    fixed_comes r w u none to = let Z : Pr = ⟦ St fixed (r + reading u) (w + writing u) ⟧ ∗ ⟦ Got fixed off u None ⟧ in let none' : w + 0 ≡ 0 = omega (arith, none) in let same : r + 0 ≡ r = omega arith in
+    fixed_comes r w u none to = let Z : SProp 𝓤 = ⟦ St fixed (r + reading u) (w + writing u) ⟧ ∗ ⟦ Got fixed off u None ⟧ in let none' : w + 0 ≡ 0 = omega (arith, none) in let same : r + 0 ≡ r = omega arith in
         qed 𝓛 (‵ (St fixed (r + 0) (w + 0)) ∷ ‵ ftrue ∷ []) ∵ suffices ! Z (upd_i 𝓤 Z) $ rewrite ! 0 (λ (k : ℕ × ℕ). ‵ (St fixed k.0 k.1)) (λ i. (same i, none' i)) refl $ fpick ! (λ x.
         use1 𝓛 (‵ (St fixed (r + reading u) (w + writing u)) ⊛ ‵ (Got fixed off u None)) (to x) $ split ! $ keep ! (0 ∷ 1 ∷ []) $ done !)
 

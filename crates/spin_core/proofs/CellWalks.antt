@@ -2,7 +2,7 @@
 use Rattle.std.proofs.Common.{◌≡◌, sym, refl, ℕ, List, [], ◌∷◌, Option, Some, None}
 use seplogic.Ra.Ura.{Ura}
 use base.Stored.{Coded}
-use base.Logic.{SProp, ent, sep, wand, ex, guard, guard_i, ex_i, via, apply∗, never_e}
+use base.Logic.{SProp, ent, ex, guard, guard_i, ex_i, via, apply∗, never_e}
 use base.Fml.{Lft, Share, Incl, Incl-refl, Fml, fsep, fex, fbor, finv, flft}
 use base.Before.{before}
 use prog.Model.{Model}
@@ -18,28 +18,12 @@ use Rattle.spin_core.specs.Cell.{Use, writes, Ways, use_of, Keeps}
 use Rattle.spin_core.specs.CellMemory.{Known, Id, right, inner, kept, permit_at, permit_owns, writer_at, writer_owns}
 use Rattle.spin_core.proofs.CellRounds.{held, readies, settles_down}
 use Rattle.spin_core.proofs.CellSteps.{Mine, moved}
+use Rattle.spin_core.proofs.Signs.{signs}
 
 module _ {M : Type 1} {𝓤 : Ura M} (𝓛 : Logic 𝓤) (𝓜 : Model 𝓤 𝓛.H) (𝓡 : Running 𝓤 𝓛.H 𝓜) (Y R : RattleType) (L : denote.RattleType.RowLaws R) {V : Type 0} (cv : Coded V) (S : RattleType) (holds : ℕ → S.Denot → List V → Type 0) (ways : Ways R.Denot V) (β : Lft) (b o : ℕ) where
   open 𝓛 use {H, A}
+  open (signs 𝓛) use {◌⊢◌, ◌∗◌, ◌-∗◌, ⟦◌⟧}
 
-  abbrev Pr : Type 2
-  Pr = SProp 𝓤
-
-  abbrev ◌⊢◌ : Pr → Pr → Type 1
-  P ⊢ Q = ent 𝓤 P Q
-
-  abbrev ◌∗◌ : Pr → Pr → Pr
-  P ∗ Q = sep 𝓤 P Q
-
-  abbrev ◌-∗◌ : Pr → Pr → Pr
-  P -∗ Q = wand 𝓤 P Q
-
-  abbrev ⟦◌⟧ : Fml → Pr
-  ⟦ P ⟧ = sem 𝓛 P
-
-  infix 26 ◌⊢◌
-  infixr 35 ◌∗◌
-  infixr 30 ◌-∗◌
   -- why the rule may share, the cell's names, and a share of its lifetime's token
   abbrev pub Entry : Type 0
   Entry = Known ways Y S R × (Id × Share)
@@ -47,13 +31,13 @@ module _ {M : Type 1} {𝓤 : Ura M} (𝓛 : Logic 𝓤) (𝓜 : Model 𝓤 𝓛
   abbrev pub J : Id → Fml
   J t = fbor t.life (inner R b o t cv.code S holds ways)
 
-  abbrev pub Back : Share → Entry → Pr
+  abbrev pub Back : Share → Entry → SProp 𝓤
   Back q k = A.lft k.1.0.life k.1.1 -∗ H.⇛ (A.lft β q)
 
   abbrev pub mine : Option V → Option R.Denot → Entry → Fml
   mine view v k = Mine 𝓛 R L b o k.1.0 cv S holds ways view v
 
-  abbrev pub Entered : Option V → Option R.Denot → Share → Lft → Share → Entry → Pr
+  abbrev pub Entered : Option V → Option R.Denot → Share → Lft → Share → Entry → SProp 𝓤
   Entered view v q τ r k = ⟦ finv (J k.1.0) ⟧ ∗ A.lft k.1.0.life k.1.1 ∗ ⟦ mine view v k ⟧ ∗ ⟦ kept R b o k.1.0 cv.code S holds ways β ⟧ ∗ Back q k ∗ A.lft τ r
 
   pub enters : (l : Lft) → Shares 𝓛 R l → (view : Option V) (v : Option R.Denot) (q : Share) (τ : Lft) (r : Share) → Incl τ l
@@ -66,7 +50,7 @@ module _ {M : Type 1} {𝓤 : Ura M} (𝓛 : Logic 𝓤) (𝓜 : Model 𝓤 𝓛
       (readies 𝓛 R b o t l shares (use_of ways.1 view) ways.0 v t.life s τ r (Incl-refl t.life) le) $ await ! tt $ split3 ! $ move ! (3 ∷ 0 ∷ []) $ fjoin ! $
       now ! $ show ! (Entered view v q τ r) (known, (t, s)) $ move ! (5 ∷ 1 ∷ 0 ∷ 4 ∷ 3 ∷ 2 ∷ []) $ done !)))
 
-  abbrev pub Left : Option V → (ℕ → V → Type 0) → ℕ → Option R.Denot → V × Option R.Denot → Pr
+  abbrev pub Left : Option V → (ℕ → V → Type 0) → ℕ → Option R.Denot → V × Option R.Denot → SProp 𝓤
   Left view then n v s = guard 𝓤 (then n s.0 × Keeps ways view (Some s.0) v s.1) ⟦ permit_owns Y R cv.code S holds ways β (block_ptr b o) (Some s.0) s.1 ⟧
 
   pub exits : (k : Entry) (view : Option V) (then : ℕ → V → Type 0) (n : ℕ) (v : Option R.Denot) (q : Share)

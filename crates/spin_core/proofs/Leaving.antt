@@ -10,7 +10,7 @@ use Rattle.spin_step.specs.Parties.{Entries, entries, no_entries, none_entered, 
 use Rattle.spin_step.specs.Tickets.{numbered_from}
 use Rattle.spin_step.proofs.Sums.{sum_kinds, one_of}
 use Rattle.spin_core.specs.Cell.{Use, off, Rests}
-use Rattle.spin_core.specs.Views.{Part, idle, holds, queues, saw_served, starves, holds_starving, entries_of, Knows, HasPart, part_at, Encodes, no_word}
+use Rattle.spin_core.specs.Views.{Part, idle, saw_served, entries_of, Knows, HasPart, part_at, Encodes, no_word}
 use Rattle.spin_step.specs.Orders.{IsInOrder}
 
 -- who is behind the place k moves up; and the place where it was
@@ -83,11 +83,7 @@ entries-up k q s none =
 
 part-up : (k p : ℕ) (x : Part) → entries_up k (entries_of p x) ≡ entries_of (up k p) x
 part-up k p idle = refl
-part-up k p (holds j) = refl
-part-up k p (queues n entered) = refl
-part-up k p (saw_served n) = refl
-part-up k p starves = refl
-part-up k p holds_starving = refl
+part-up k p _ = refl
 
 -- Nothing but the names changes
 
@@ -146,12 +142,8 @@ in_order-up k s order = record {
 }
 
 knows-up : (k : ℕ) (s : Plain) (x : Part) → Knows s x → Knows (moved_up k s) x
-knows-up k s idle known = tt
-knows-up k s (holds j) known = tt
-knows-up k s (queues n entered) known = tt
 knows-up k s (saw_served n) known = omega (arith, known, serving_word-up k s)
-knows-up k s starves known = tt
-knows-up k s holds_starving known = tt
+knows-up k s _ known = tt
 
 module _ {V : Type 0} (part : V → Part) (v : V) where
   gone_at : (before behind : List V) → part_at part (before ++ v ∷ behind) (length before) ≡ part v

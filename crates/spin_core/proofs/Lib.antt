@@ -1,3 +1,4 @@
+pub mod Signs
 pub mod Leaving
 pub mod Owners
 pub mod Plays
@@ -5,7 +6,6 @@ pub mod Knowing
 pub mod Views
 pub mod CellCounts
 pub mod CellFields
-pub mod CellInside
 pub mod CellLends
 pub mod CellParts
 pub mod CellRoster

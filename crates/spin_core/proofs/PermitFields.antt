@@ -1,5 +1,5 @@
 -- The machine values of the two permits: a pointer to the cell and an empty marker. Assumes `Logic`.
-use Rattle.std.proofs.Common.{◌≡◌, ℕ, T, List, [], ◌∷◌, ◌++◌, refl, sym, subst, ap, ◌∙◌, Option, Some, None}
+use Rattle.std.proofs.Common.{◌&&◌, Bool, true, false, ◌≡◌, ℕ, T, List, [], ◌∷◌, ◌++◌, refl, sym, subst, ap, ◌∙◌, Option, Some, None}
 use seplogic.Ra.Ura.{Ura}
 use mir.Syntax.{ty_ptr, ty_struct, tcons, tnil}
 use mir.Val.{Val, vstruct, vcons, vnil, of_list, has_ty, WT}
@@ -23,7 +23,10 @@ use Rattle.spin_core.specs.declared.cell.Rule.{Ghosts}
 use Rattle.spin_core.specs.Cell.{Use, reads, Ways, use_of}
 use Rattle.spin_core.specs.CellMemory.{permit_owns, writer_owns, reader_shares, permit_shares, writer_shares}
 use Rattle.spin_core.specs.contracts.cell.Permit as permit
-use Rattle.spin_core.specs.contracts.cell.WritePermit as writer
+
+pub both : (a b : Bool) → T a → T b → T (a && b)
+both true b h k = k
+both false b h k = absurd h
 
 abbrev pub hand_of : Ptr → Val
 hand_of p = vstruct (vcons (ptr_val p) (vcons (vstruct vnil) vnil))
@@ -37,30 +40,19 @@ pointer (block_ptr b o) i = (tt, tt)
 pointer null_ptr i = absurd i
 
 module _ (a : NamedLft) (R V Y K S : RattleType) (g : Ghosts Y.Denot R.Denot V.Denot K.Denot S.Denot) where
+  -- of a permit, and of a write permit as well
   abbrev pub Words : RattleType
   Words = Struct (shape (permit.the_type a R V Y K S g))
 
-  abbrev pub Pens : RattleType
-  Pens = Struct (shape (writer.the_type a R V Y K S g))
-
   pub told : (p : Ptr) (vs : List Val) → Is Words (p, (tt, tt)) vs → vs ≡ hand_of p ∷ []
   told p vs is = is.1.0 ∙ ap (λ (ws : List Val). vstruct (of_list (ws ++ (is.0.1.0 ++ []))) ∷ []) is.1.1.0 ∙ ap (λ (ws : List Val). vstruct (of_list (ptr_val p ∷ (ws ++ []))) ∷ []) is.1.1.1.0.1.0
-
-  pub pen_told : (p : Ptr) (vs : List Val) → Is Pens (p, (tt, tt)) vs → vs ≡ hand_of p ∷ []
-  pen_told p vs is = is.1.0 ∙ ap (λ (ws : List Val). vstruct (of_list (ws ++ (is.0.1.0 ++ []))) ∷ []) is.1.1.0 ∙ ap (λ (ws : List Val). vstruct (of_list (ptr_val p ∷ (ws ++ []))) ∷ []) is.1.1.1.0.1.0
 
   module _ {M : Type 1} {𝓤 : Ura M} (𝓛 : Logic 𝓤) where
     pub made : (p : Ptr) → ent 𝓤 (emp 𝓤) (sem 𝓛 (Words.own_val (p, (tt, tt)) (hand_of p ∷ [])))
     made p = makes_shadow 𝓛 (Words.own_val (p, (tt, tt)) (hand_of p ∷ [])) (λ vss. (tt, (tt, ((λ uss. (tt, tt)), tt)))) ((ptr_val p ∷ [], (vstruct vnil ∷ [], tt)), (refl, (refl, ((tt, (refl, tt)), tt))))
 
-    pub pen_made : (p : Ptr) → ent 𝓤 (emp 𝓤) (sem 𝓛 (Pens.own_val (p, (tt, tt)) (hand_of p ∷ [])))
-    pen_made p = makes_shadow 𝓛 (Pens.own_val (p, (tt, tt)) (hand_of p ∷ [])) (λ vss. (tt, (tt, ((λ uss. (tt, tt)), tt)))) ((ptr_val p ∷ [], (vstruct vnil ∷ [], tt)), (refl, (refl, ((tt, (refl, tt)), tt))))
-
   pub opened : {M : Type 1} {𝓤 : Ura M} (𝓛 : Logic 𝓤) → Opens 𝓛 Words
   opened {M} {𝓤 = 𝓤} 𝓛 = (Struct-Copied 𝓛 (shape (permit.the_type a R V Y K S g)) (refl, (refl, tt)) (RawPtr-copy.copied M 𝓤 𝓛, ((field_copy (marker.the_type (ShrRef a.mir a.lft R)) tt).copied M 𝓤 𝓛, tt))).opens
-
-  pub pen_opened : {M : Type 1} {𝓤 : Ura M} (𝓛 : Logic 𝓤) → Opens 𝓛 Pens
-  pen_opened {M} {𝓤 = 𝓤} 𝓛 = (Struct-Copied 𝓛 (shape (writer.the_type a R V Y K S g)) (refl, (refl, tt)) (RawPtr-copy.copied M 𝓤 𝓛, ((field_copy (marker.the_type (ShrRef a.mir a.lft R)) tt).copied M 𝓤 𝓛, tt))).opens
 
 module _ {M : Type 1} {𝓤 : Ura M} (𝓛 : Logic 𝓤) (Y R : RattleType) {V : Type 0} (c : V → Gv) (S : RattleType) (holds : ℕ → S.Denot → List V → Type 0) (ways : Ways R.Denot V) (β : Lft) where
   pub owns_placed : (p : Ptr) (view : Option V) (x : Option R.Denot) → ent 𝓤 (sem 𝓛 (permit_owns Y R c S holds ways β p view x)) (fact 𝓤 (InBlock p))

@@ -60,9 +60,7 @@ module _ {X : Type 0} where
   abbrev pub Fixed : Way X → ℕ → ℕ → X → Type 0
   Fixed (fixes fact) (suc r) w x = fact true x
   Fixed (fixes fact) zero zero x = fact false x
-  Fixed (fixes fact) zero (suc w) x = Unit {0}
-  Fixed alone r w x = Unit {0}
-  Fixed lends r w x = Unit {0}
+  Fixed _ r w x = Unit {0}
 
   -- what a party knows of the value that it reads
   abbrev pub Seen : Way X → X → Type 0

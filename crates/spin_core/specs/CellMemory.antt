@@ -43,8 +43,7 @@ Sends S = (y : S.Denot) (vs : List Val) → Keyless (S.own_val y vs)
 -- whether a value that nobody writes is shared
 abbrev pub IsShared : {X : Type 0} → Way X → Type 0
 IsShared alone = ⊥
-IsShared lends = Unit {0}
-IsShared (fixes fact) = Unit {0}
+IsShared _ = Unit {0}
 
 -- where parties share the value, or some view reads it, the rule's own type stands for the value's: who may share the one may share the other
 -- and any thread may have what stands for the second word
@@ -128,8 +127,7 @@ module _ (R : RattleType) (b o : ℕ) where
     -- what lies there while a writer has it
     abbrev pub missing : Way R.Denot → Fml
     missing alone = ftrue
-    missing lends = idle t.round
-    missing (fixes fact) = idle t.round
+    missing _ = idle t.round
 
     -- the same with r readers and w writers
     abbrev pub state : Way R.Denot → ℕ → ℕ → Fml
@@ -142,11 +140,9 @@ module _ (R : RattleType) (b o : ℕ) where
     -- what a party has of the value
     abbrev pub right : Way R.Denot → Use → Option R.Denot → Fml
     right way off None = ftrue
-    right way off (Some x) = ffalse
-    right way reads None = ffalse
     right way reads (Some x) = reader way x
-    right way writes None = ffalse
     right way writes (Some x) = tracked x
+    right way _ _ = ffalse
 
     module _ {V : Type 0} (c : V → Gv) where
       -- what a party has of its view
@@ -198,8 +194,7 @@ module _ (Y R : RattleType) {V : Type 0} (c : V → Gv) (S : RattleType) (holds 
   abbrev pub reader_shares : Lft → ℕ → ℕ → Use → Option R.Denot → Lft → Fml
   reader_shares β b o reads (Some x) = some (Known ways Y S R) (λ _. within β (shown R b o x))
   reader_shares β b o reads None = said ffalse
-  reader_shares β b o off x = nothing
-  reader_shares β b o writes x = nothing
+  reader_shares β b o _ x = nothing
 
   abbrev pub permit_shares : Lft → Ptr → Option V → Option R.Denot → Lft → Fml
   permit_shares β (block_ptr b o) view x = reader_shares β b o (use_of ways.1 view) x

@@ -12,7 +12,7 @@ use Rattle.spin_core.specs.Views.{entries_of, IsLockOf}
 use Rattle.spin_core.proofs.CellCounts.{moves, without}
 use Rattle.spin_core.proofs.Owners.{within}
 use Rattle.spin_fair.specs.declared.fair.rule.View.{View}
-use Rattle.spin_fair.specs.declared.fair.rule.View.TheVariants.{Idle, Starving, Holding, HoldingStarving, Served}
+use Rattle.spin_fair.specs.declared.fair.rule.View.TheVariants.{Idle, Holding}
 use Rattle.spin_fair.specs.Fair.{part, newcomer, starver, StarversFirst}
 
 -- who comes and holds finds no starver; else who is a newcomer, or a starver, was one
@@ -47,10 +47,7 @@ nobody (q ∷ qs) none = absurd (cc (none))
 
 registered : (p : ℕ) (v : View) → starver v ≡ sum_by (λ q. 1) (entries_of p (part v)).starvers
 registered p Idle = refl
-registered p Starving = refl
-registered p Holding = refl
-registered p HoldingStarving = refl
-registered p Served = refl
+registered p _ = refl
 
 pub nobody_starves : (vs : List View) (s : Plain) → IsLockOf part vs s → is_empty s.starvers ≡ true → sum_by starver vs ≡ 0
 nobody_starves vs s is none =

@@ -33,10 +33,7 @@ use Rattle.spin_fair.proofs.First.{Fits, first_after, first_without, nobody_star
 -- it is one holder or none, who holds writes, nobody reads, and who uses the value holds
 facts : (v : View) → OfHolders part v × Writes part (part v) × (reading (use_of_view v) ≡ 0) × (writer (use_of_view v) ≤ writer (used_by part v))
 facts Idle = ((refl, λ p. refl), λ p. refl, refl, omega arith)
-facts Starving = ((refl, λ p. refl), λ p. refl, refl, omega arith)
-facts Holding = ((refl, λ p. refl), λ p. refl, refl, omega arith)
-facts HoldingStarving = ((refl, λ p. refl), λ p. refl, refl, omega arith)
-facts Served = ((refl, λ p. refl), λ p. refl, refl, omega arith)
+facts _ = ((refl, λ p. refl), λ p. refl, refl, omega arith)
 
 pub fits : (vs : List View) (s : Plain) → s.cap ≡ most_starvers → IsInOrder s → IsLockOf part vs s → Limits {X = Unit {0}} alone (readers_of use_of_view vs) (writers_of use_of_view vs)
 fits vs s room order is = omega (arith, one_holder part (λ v. (facts v).0) most_starvers vs s room order is, none (λ v. reading (use_of_view v)) (λ v. (facts v).2) vs, sum_by-le-sum_by (λ v. writer (use_of_view v)) (λ v. writer (used_by part v)) vs (λ v. (facts v).3))
@@ -170,11 +167,9 @@ lets_go v writer = allows (Some v) (λ n. (n + (2 ^ 64 - 1)) % 2 ^ 64) (becomes 
     ))
 
 pub unlocks : (v : View) → use_of_view v ≡ writes → Allows IsFair (ways fair) (Some v) (λ n. (n + (2 ^ 64 - 1)) % 2 ^ 64) (becomes Idle 1 0 (Some v))
-unlocks Idle e = absurd cc
-unlocks Starving e = absurd cc
 unlocks Holding e = lets_go Holding refl
-unlocks HoldingStarving e = absurd cc
 unlocks Served e = lets_go Served refl
+unlocks _ e = absurd cc
 
 -- Who may go
 

@@ -15,7 +15,7 @@ use Rattle.spin_once.specs.Once.{use_of_view, seeing, runs, IsPhaseOf, in_phase,
 use Rattle.spin_once.specs.declared.seeded.rule.View.{View}
 use Rattle.spin_once.specs.declared.seeded.rule.View.TheVariants.{Idle, Running, Seeing}
 use Rattle.spin_once.specs.declared.seeded.rule.Stage.{Stage}
-use Rattle.spin_once.specs.declared.seeded.rule.Stage.TheVariants.{Seed, Taken, Done}
+use Rattle.spin_once.specs.declared.seeded.rule.Stage.TheVariants.{Seed, Done}
 
 -- how many see the value and how many run, after a party has come to another view
 see_after : (id : ℕ) (view : Option View) (vs : List View) (w : View) → Stands id view vs → seeing (after id view vs w) + reading (use_of use_of_view view) ≡ seeing vs + reading (use_of_view w)
@@ -30,8 +30,7 @@ run_after id (Some v) vs w at = moves (λ v. writing (use_of_view v)) id (Some v
 stands_somewhere : (vs : List View) → 0 < runs vs → (p : ℕ) × (get_elem? vs p ≡ some Running)
 stands_somewhere [] few = absurd (omega (arith, few))
 stands_somewhere (Running ∷ vs) few = (0, refl)
-stands_somewhere (Idle ∷ vs) few = let later = stands_somewhere vs few in (suc later.0, later.1)
-stands_somewhere (Seeing ∷ vs) few = let later = stands_somewhere vs few in (suc later.0, later.1)
+stands_somewhere (_ ∷ vs) few = let later = stands_somewhere vs few in (suc later.0, later.1)
 
 -- the rule by numbers alone: the word, how many see, how many run
 abbrev Numbers : ℕ → ℕ → ℕ → Type 0
@@ -44,9 +43,8 @@ numbers : (n : ℕ) (m : Unit {0}) (vs : List View) → IsOnce n m vs → Number
 numbers n m vs is = subst (λ k. Numbers k (seeing vs) (runs vs)) (sym is.2) (of_phase is.0 is.1)
   where
     of_phase : (s : Phase) → IsPhaseOf vs s → Numbers (once_word (in_phase s)) (seeing vs) (runs vs)
-    of_phase nothing has = has
     of_phase (running p) has = (has.0, has.1)
-    of_phase complete has = has
+    of_phase _ has = has
 
 is_once : (n : ℕ) (m : Unit {0}) (vs : List View) → Numbers n (seeing vs) (runs vs) → m ≡ tt → IsOnce n m vs
 is_once zero m vs has e = (nothing, has, refl, e)
@@ -59,10 +57,9 @@ module _ {T S : Type 0} (makes : S → T → Type 0) (key : Snapshot S) where
   Allowed = AllowsAt IsOnce (once_ways makes key)
 
   limits : (n r w : ℕ) → Numbers n r w → Limits (once_ways makes key).0 r w
-  limits zero r w has = (omega (arith, has), λ l. has.0)
-  limits (suc zero) r w has = (omega (arith, has), λ l. has.0)
   limits (suc (suc zero)) r w has = (omega (arith, has), λ l. absurd (omega (arith, l, has)))
   limits (suc (suc (suc n))) r w has = absurd has
+  limits _ r w has = (omega (arith, has), λ l. has.0)
 
   meets : (n : ℕ) (m : Unit {0}) (vs : List View) → Numbers n (seeing vs) (runs vs) → m ≡ tt → Meets IsOnce (once_ways makes key) n m vs
   meets n m vs has e = (is_once n m vs has e, limits n (seeing vs) (runs vs) has)
@@ -81,13 +78,11 @@ module _ {T S : Type 0} (makes : S → T → Type 0) (key : Snapshot S) where
 
   was_made : (x : Stage T S) → IsMadeFrom makes key true x → is_done x ≡ true
   was_made (Done value) made = refl
-  was_made (Seed seed) made = absurd made
-  was_made Taken made = absurd made
+  was_made _ made = absurd made
 
   made_of_any : ((seed : S) (value : T) → makes seed value) → (x : Stage T S) → is_done x ≡ true → IsMadeFrom makes key true x
   made_of_any any (Done value) done = any key.value value
-  made_of_any any (Seed seed) done = absurd cc
-  made_of_any any Taken done = absurd cc
+  made_of_any any _ done = absurd cc
 
   -- where one sees the value it was made, and any that was made may take its place
   pub settles : ((seed : S) (value : T) → makes seed value) → SettlesAt IsOnce (once_ways makes key) is_done 2
@@ -100,17 +95,14 @@ module _ {T S : Type 0} (makes : S → T → Type 0) (key : Snapshot S) where
     where
       kept : (n : ℕ) → Numbers n (seeing vs) (runs vs) → seeing (vs ++ looked n ∷ []) + 0 ≡ seeing vs + reading (use_of_view (looked n)) → runs (vs ++ looked n ∷ []) + 0 ≡ runs vs + writing (use_of_view (looked n))
           → Numbers n (seeing (vs ++ looked n ∷ [])) (runs (vs ++ looked n ∷ []))
-      kept zero has see run = (omega (arith, see, has), omega (arith, run, has))
-      kept (suc zero) has see run = (omega (arith, see, has), omega (arith, run, has))
-      kept (suc (suc zero)) has see run = (omega (arith, see, has), omega (arith, run, has))
       kept (suc (suc (suc n))) has see run = absurd has
+      kept _ has see run = (omega (arith, see, has), omega (arith, run, has))
 
   -- who sees finds one that sees
   looks_owes : (n : ℕ) (vs : List View) → Numbers n (seeing vs) (runs vs) → (A : Type 0) → A → (off ≡ reads → use_of_view (looked n) ≡ reads) × Owes (λ (read : Bool) (x : Loose (Stage T S)). IsMadeFrom makes key read x.value) off (use_of_view (looked n)) None (seeing vs) × A
-  looks_owes zero vs has A a = (λ e. e, tt, a)
-  looks_owes (suc zero) vs has A a = (λ e. e, tt, a)
   looks_owes (suc (suc zero)) vs has A a = (λ e. refl, has.0, a)
   looks_owes (suc (suc (suc n))) vs has A a = absurd has
+  looks_owes _ vs has A a = (λ e. e, tt, a)
 
   pub looks : Allowed None None (λ n. n) (becomes_by looked 0 0 None)
   looks id n m vs has at small = let known = numbers n m vs has.0 in (looked n, looks_owes n vs known _ (looks_at id n m vs known has.0.3), refl)
@@ -125,10 +117,9 @@ module _ {T S : Type 0} (makes : S → T → Type 0) (key : Snapshot S) where
 
   -- ---- the party that runs
   alone : (n id : ℕ) (vs : List View) → Stands id (Some Running) vs → Numbers n (seeing vs) (runs vs) → (n ≡ 1) × (seeing vs ≡ 0) × (runs vs ≡ 1)
-  alone zero id vs at has = absurd (let run = run_after id (Some Running) vs Idle at in omega (arith, has, run))
   alone (suc zero) id vs at has = (refl, has.0, has.1)
-  alone (suc (suc zero)) id vs at has = absurd (let run = run_after id (Some Running) vs Idle at in omega (arith, has, run))
   alone (suc (suc (suc n))) id vs at has = absurd has
+  alone _ id vs at has = absurd (let run = run_after id (Some Running) vs Idle at in omega (arith, has, run))
 
   pub completes_with : (new : ℕ) (value : T) → ((s : Plain) (p : ℕ) → once_word s ≡ 1 → Gives s (completes p) once_word new) → makes key.value value → Allowed (Some Running) (Some (loose (Done value))) (λ _. new) (λ _. becomes Seeing 0 new (Some Running) 0)
   completes_with new value plain made id n m vs has at small =

@@ -1,9 +1,8 @@
 -- What a look at a value that is made from a seed tells.
 use Rattle.spin_once.specs.declared.seeded.rule.Progress.{Progress}
-use Rattle.spin_once.specs.declared.seeded.rule.Progress.TheVariants.{Nothing, Running, Value}
+use Rattle.spin_once.specs.declared.seeded.rule.Progress.TheVariants.{Value}
 
 -- a value may be made from the seed
 abbrev pub LooksMade : {T S : Type 0} → (S → T → Type 0) → S → Progress T → Type 0
 LooksMade makes seed (Value value) = makes seed value.now
-LooksMade makes seed Nothing = Unit {0}
-LooksMade makes seed Running = Unit {0}
+LooksMade makes seed _ = Unit {0}

@@ -10,7 +10,7 @@ use Rattle.spin_core.specs.declared.cell.settled.Loose.{Loose}
 use Rattle.spin_once.specs.declared.seeded.rule.View.{View}
 use Rattle.spin_once.specs.declared.seeded.rule.View.TheVariants.{Idle, Running, Seeing}
 use Rattle.spin_once.specs.declared.seeded.rule.Stage.{Stage}
-use Rattle.spin_once.specs.declared.seeded.rule.Stage.TheVariants.{Seed, Taken, Done}
+use Rattle.spin_once.specs.declared.seeded.rule.Stage.TheVariants.{Seed, Done}
 
 abbrev pub use_of_view : View → Use
 use_of_view Idle = off
@@ -40,18 +40,14 @@ IsOnce n m vs = (s : Phase) × IsPhaseOf vs s × (n ≡ once_word (in_phase s)) 
 -- it was made
 abbrev pub is_done : {T S : Type 0} → Stage T S → Bool
 is_done (Done value) = true
-is_done (Seed seed) = false
-is_done Taken = false
+is_done _ = false
 
 module _ {T S : Type 0} (makes : S → T → Type 0) where
   -- a value that somebody sees may be made from the key, and what nobody uses is the key itself
   abbrev pub IsMadeFrom : Snapshot S → Bool → Stage T S → Type 0
   IsMadeFrom key true (Done value) = makes key.value value
-  IsMadeFrom key true (Seed seed) = ⊥
-  IsMadeFrom key true Taken = ⊥
   IsMadeFrom key false (Seed seed) = seed ≡ key.value
-  IsMadeFrom key false (Done value) = ⊥
-  IsMadeFrom key false Taken = ⊥
+  IsMadeFrom _ _ _ = ⊥
 
   abbrev pub once_ways : Snapshot S → Ways (Loose (Stage T S)) View
   once_ways key = (fixes (λ read x. IsMadeFrom key read x.value), use_of_view)

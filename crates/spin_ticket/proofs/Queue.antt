@@ -19,9 +19,7 @@ use Rattle.spin_ticket.specs.Queue.{part, IsQueue, use_of_view, Looks, Sees, Tak
 
 pub kind : (v : View) → OfTickets part v
 kind Idle = (refl, λ p. refl)
-kind (Saw n) = (refl, λ p. refl)
-kind (Waiting n) = (refl, λ p. refl)
-kind (Entered n) = (refl, λ p. refl)
+kind _ = (refl, λ p. refl)
 
 abbrev pub queue : Lock View ℕ
 queue = record {
@@ -81,10 +79,8 @@ finds_own n = allows_second queue (Some (Entered n)) (λ m. m) (Sees 0 0 (Some (
 
 -- who writes has entered
 pub entered_of : (v : View) → use_of_view v ≡ writes → (n : ℕ) × (v ≡ Entered n)
-entered_of Idle uses = absurd cc
-entered_of (Saw n) uses = absurd cc
-entered_of (Waiting n) uses = absurd cc
 entered_of (Entered n) uses = (n, refl)
+entered_of _ uses = absurd cc
 
 pub found_own : (view : Option View) (n found : ℕ) → Moved (Sees 0 0 (Some (Entered n)) found) view → (found < ticket_limit) × (view ≡ Some (Entered found))
 found_own None n found moved = absurd moved

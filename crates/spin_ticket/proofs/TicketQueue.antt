@@ -7,15 +7,13 @@ use Rattle.spin_core.proofs.Owners.{exactly}
 use Rattle.spin_step.proofs.Tickets.{one_if, has_number, count-lower, count-upper, count-between, entered_is_served}
 use Rattle.spin_core.proofs.Views.{part-there, part-beyond}
 use Rattle.spin_ticket.specs.declared.ticket.rule.View.{View}
-use Rattle.spin_ticket.specs.declared.ticket.rule.View.TheVariants.{Idle, Saw, Waiting, Entered}
+use Rattle.spin_ticket.specs.declared.ticket.rule.View.TheVariants.{Idle, Entered}
 use Rattle.spin_ticket.specs.Queue.{part, IsQueue}
 use Rattle.spin_ticket.specs.TicketQueue.{tickets_of, IsPlainQueue, stands_with, IsInTurn}
 
 standing : (id : ℕ) (v : View) → (entries_of id (part v)).tickets ≡ tickets_of id v
 standing id Idle = refl
-standing id (Saw n) = refl
-standing id (Waiting n) = refl
-standing id (Entered n) = refl
+standing id _ = refl
 
 plain_queue : (next serving : ℕ) (vs : List View) (is : IsQueue next serving vs) → IsPlainQueue is.0 next serving vs
 plain_queue next serving vs is = record {
@@ -32,9 +30,7 @@ is_plain next serving vs is = (is.0, plain_queue next serving vs is)
 
 stands : (t p : ℕ) (v : View) → one_if (stands_with t v) ≡ sum_by (has_number t) (entries_of p (part v)).tickets
 stands t p Idle = refl
-stands t p (Saw n) = refl
-stands t p (Waiting n) = omega arith
-stands t p (Entered n) = omega arith
+stands t p _ = omega arith
 
 pub is_in_turn : (next serving : ℕ) (vs : List View) → IsQueue next serving vs → IsInTurn next serving vs
 is_in_turn next serving vs is = let s = is.0 in let order = is.2 in

@@ -6,12 +6,12 @@ use base.Share
 use base.Fraction.{full_share}
 use base.FractionLaws.{Counts-all}
 use base.Stored.{Gv, gnum}
-use base.Logic.{SProp, ent, sep, wand, ex, emp, all_e, upd, upd_i, via, apply∗, snd∗, id⊢}
+use base.Logic.{SProp, ex, emp, all_e, upd, upd_i, via, apply∗, snd∗, id⊢}
 use base.Fml.{Lft, GName, Share, Incl, Fml, ftrue, fsep, fseps, fex, fwand, fupd, fdead, fauth, fobs, fbor, flft, finv, Incl-refl, Incl-trans}
 use base.Before.{before}
 use contract.BorrowLft.{meet_⊑_left}
 use ghost.Rules.{Toks, span}
-use types.Logic.{Logic, sem, lfts}
+use types.Logic.{Logic, lfts}
 use types.SemTy.{Body}
 use types.Keyed.{entries_new}
 use types.Kit.{‵, raw, ◌⊛◌, some, later, ◌$◌, ◌∵◌, !, qed, by, move, keep, drop, use0, use1, use2, use3, split, split3, join, fsplit, fsplit3, fjoin, fjoin3, fpick, fpack, pick, assume, suffices, settle, await, group, updating, now, done}
@@ -44,28 +44,12 @@ use Rattle.core.specs.Sync.RawAtomic.{word}
 use Rattle.atomic_table.specs.Seated.{fact}
 use Rattle.spin_core.proofs.CellRounds.{begun, held, readies, whole, renews, rests_fixed}
 use Rattle.spin_core.proofs.cell.Cell.TheLaw.Statement.{statement}
+use Rattle.spin_core.proofs.Signs.{signs}
 
 module _ {M : Type 1} {𝓤 : Ura M} (𝓛 : Logic 𝓤) (m ms : Member) (V Y K : RattleType) (g : Ghosts Y.Denot (row_of m).Denot V.Denot K.Denot (row_of ms).Denot) (key : K.Denot) (L : Lawful 𝓛 (row_of m)) (LS : Lawful 𝓛 (row_of ms)) (b o : ℕ) (κ : Lft) where
   open 𝓛 use {H, A}
+  open (signs 𝓛) use {◌⊢◌, ◌∗◌, ◌-∗◌, ⟦◌⟧}
 
-  abbrev Pr : Type 2
-  Pr = SProp 𝓤
-
-  abbrev ◌⊢◌ : Pr → Pr → Type 1
-  P ⊢ Q = ent 𝓤 P Q
-
-  abbrev ◌∗◌ : Pr → Pr → Pr
-  P ∗ Q = sep 𝓤 P Q
-
-  abbrev ◌-∗◌ : Pr → Pr → Pr
-  P -∗ Q = wand 𝓤 P Q
-
-  abbrev ⟦◌⟧ : Fml → Pr
-  ⟦ P ⟧ = sem 𝓛 P
-
-  infix 26 ◌⊢◌
-  infixr 35 ◌∗◌
-  infixr 30 ◌-∗◌
   abbrev R : RattleType
   R = row_of m
 
@@ -87,7 +71,7 @@ module _ {M : Type 1} {𝓤 : Ura M} (𝓛 : Logic 𝓤) (m ms : Member) (V Y K 
   abbrev P : Fml
   P = Written 𝓛 m ms V Y K g key b o
 
-  abbrev Back : Pr
+  abbrev Back : SProp 𝓤
   Back = Joins 𝓛 m ms V Y K g key b o L LS P (written_out 𝓛 m ms V Y K g key b o) (written_in 𝓛 m ms V Y K g key b o)
 
   abbrev Both : ℕ × S.Denot → Fml
@@ -133,7 +117,7 @@ module _ {M : Type 1} {𝓤 : Ura M} (𝓛 : Logic 𝓤) (m ms : Member) (V Y K 
 
   way_back : (ν : GName) → Back ⊢ ⟦ fwand (fsep (fdead κ) (fseps (Words ν ∷ Named ν ∷ []))) (fupd P) ⟧
   unfolding fseps
-  way_back ν = let J : ℕ × S.Denot × R.Denot → Pr = λ s. (⟦ Both (s.0, s.1) ⟧ ∗ ⟦ At 𝓛 m ms V Y K g key b o s.2 ⟧ ∗ ⟦ fact (Starting s) ⟧) -∗ ⟦ P ⟧ in
+  way_back ν = let J : ℕ × S.Denot × R.Denot → SProp 𝓤 = λ s. (⟦ Both (s.0, s.1) ⟧ ∗ ⟦ At 𝓛 m ms V Y K g key b o s.2 ⟧ ∗ ⟦ fact (Starting s) ⟧) -∗ ⟦ P ⟧ in
       qed 𝓛 (raw Back ∷ []) ∵ assume ! (‵ (fsep (fdead κ) (fseps (Words ν ∷ Named ν ∷ [])))) $ suffices ! ⟦ P ⟧ (upd_i 𝓤 ⟦ P ⟧) $
       fsplit ! $ drop ! $ fsplit3 ! $ fpick ! (λ s. move ! (1 ∷ []) $ fpick ! (λ x. fsplit ! $ keep ! (2 ∷ 0 ∷ 1 ∷ 4 ∷ []) $ fsplit3 ! $ move ! (2 ∷ []) $ fpick ! (λ vs. fsplit ! $ fpick ! (λ meets. drop ! $ fpick ! (λ v.
       -- [what was found; the words; the value, under its name; the way back]
@@ -175,14 +159,13 @@ module _ {M : Type 1} {𝓤 : Ura M} (𝓛 : Logic 𝓤) (m ms : Member) (V Y K 
         rest (suc k) small a = via 𝓤 _ (parts_cut 𝓛 R γ (a, x) (2 ^ 63) (suc k) (2 ^ 63 - suc k) (omega arith) (omega arith) (omega arith) (omega arith)) (snd∗ 𝓤 ⟦ parts R γ (a, x) (suc k) ⟧ ⟦ parts R γ (a, x) (2 ^ 63 - suc k) ⟧)
 
     rests : (w : Way R.Denot) (r : ℕ) (x : R.Denot) → ⟦ whole 𝓛 R b o t x ⟧ ⊢ ⟦ resting R b o t w r x ⟧ → ⟦ idle γ ⟧ ∗ ⟦ fex ℕ (begun 𝓛 R b o t x) ⟧ ⊢ upd 𝓤 ⟦ St w r 0 ⟧
-    rests w r x to = let Z : Pr = ⟦ St w r 0 ⟧ in qed 𝓛 (‵ (idle γ) ∷ ‵ (fex ℕ (begun 𝓛 R b o t x)) ∷ []) ∵ use2 𝓛 (raw (upd 𝓤 ⟦ whole 𝓛 R b o t x ⟧)) (renews 𝓛 R b o t x) $ settle 𝓛 Z (‵ (whole 𝓛 R b o t x)) $ suffices ! Z (upd_i 𝓤 Z) $
+    rests w r x to = let Z : SProp 𝓤 = ⟦ St w r 0 ⟧ in qed 𝓛 (‵ (idle γ) ∷ ‵ (fex ℕ (begun 𝓛 R b o t x)) ∷ []) ∵ use2 𝓛 (raw (upd 𝓤 ⟦ whole 𝓛 R b o t x ⟧)) (renews 𝓛 R b o t x) $ settle 𝓛 Z (‵ (whole 𝓛 R b o t x)) $ suffices ! Z (upd_i 𝓤 Z) $
         use1 𝓛 (‵ (resting R b o t w r x)) to $ fpack ! R.Denot (resting R b o t w r) x $ done !
 
     away : (w : Way R.Denot) (r k : ℕ) → 0 < k → ⟦ idle γ ⟧ ⊢ ⟦ St w r k ⟧
     away w r zero writer = absurd (omega (arith, writer))
     away alone r (suc k) writer = qed 𝓛 (‵ (idle γ) ∷ []) ∵ drop ! $ nothing ! $ done !
-    away lends r (suc k) writer = id⊢ 𝓤 _
-    away (fixes f) r (suc k) writer = id⊢ 𝓤 _
+    away _ r (suc k) writer = id⊢ 𝓤 _
 
     begins : (w : Way R.Denot) (r k : ℕ) (x : R.Denot) → Limits w r k → Fixed w r k x → ⟦ idle γ ⟧ ∗ ⟦ Ready w x ⟧ ⊢ upd 𝓤 ⟦ St w r k ⟧
     begins alone r zero x lim known = qed 𝓛 (‵ (idle γ) ∷ ‵ (tracked R b o t x) ∷ []) ∵ drop ! $ fpack ! R.Denot (resting R b o t alone r) x $ by ! (upd_i 𝓤 ⟦ St alone r 0 ⟧)
@@ -224,7 +207,7 @@ module _ {M : Type 1} {𝓤 : Ura M} (𝓛 : Logic 𝓤) (m ms : Member) (V Y K 
           use3 𝓛 (later (‵ (Ready way x) ⊛ ‵ (flft μ e) ⊛ ‵ (flft μ f))) (readies 𝓛 R b o t l shares writes way (Some x) μ e μ f i j) $ await ! tt $ split3 ! $ move ! (3 ∷ 0 ∷ []) $
           use2 𝓛 (later (‵ (St way r w))) (via 𝓤 _ (begins way r w x lim known) (basic 𝓛 ⟦ St way r w ⟧)) $ await ! tt $ now ! $ done !)
 
-      abbrev Given : Gv → Pr
+      abbrev Given : Gv → SProp 𝓤
       Given u = A.bor κ (Words ν) ∗ A.bor κ (Named ν) ∗ ⟦ unused ρ 0 u ⟧ ∗ ⟦ idle γ ⟧ ∗ A.lft μ e ∗ A.lft μ f
 
       guarded : (k : Sure) (u : Gv) (q : Share) → Given u ∗ A.lft κ q ⊢ H.⇛ ((⟦ cell_shares Y R c S g.holds ways (block_ptr b o) κ ⟧ ∗ A.lft μ e ∗ A.lft μ f) ∗ A.lft κ q)

@@ -1,9 +1,5 @@
 -- `enter` makes a permit that has taken no step.
-use Rattle.spin_core.proofs.WalkNames.{◌≡◌, ℕ, [], ◌∷◌, refl, None, dcons, dnil, a_type, named, Val, vptr, inst_fn, emp, SProp, fex, Lft, Share, Fml, ftrue, fsep, flft, ‵, raw, ◌⊛◌, ◌$◌, ◌∵◌, !, qed, by, move, keep, split, join, fsplit, fjoin, fpick, fpack, use0, stop, addr, no_more, and_then, returns, enter, alloc_all, pass_all, free_all, look_at, get, through, sets, agg, tables, fact, fact_i, yes, RattleType, owns, types_at, plain, named_lft, Ptr, block_ptr, nothing, param, bounded, Stays, stay_dropped, walk_of, Goes-dropped, proved, leaves}
-use base.Logic.{emp}
-use denote.Builtin.{RefOf}
-use denote.Ref.{shr_vals, shr_Tells}
-use denote.Opens.{unhide}
+use Rattle.spin_core.proofs.WalkNames.{◌≡◌, ℕ, [], ◌∷◌, refl, None, dcons, dnil, a_type, named, Val, vptr, inst_fn, emp, SProp, fex, Lft, Share, Fml, ftrue, fsep, flft, ‵, raw, ◌⊛◌, ◌$◌, ◌∵◌, !, qed, by, move, keep, split, join, fsplit, fjoin, fpick, fpack, use0, stop, addr, no_more, and_then, returns, enter, alloc_all, pass_all, free_all, look_at, get, through, sets, agg, tables, fact, fact_i, yes, RattleType, owns, types_at, plain, named_lft, Ptr, block_ptr, nothing, param, bounded, Stays, stay_dropped, walk_of, Goes-dropped, proved, leaves, RefOf, shr_vals, shr_Tells, unhide}
 use Rattle.spin_core.specs.CellMemory.{Known, Id, permit_at}
 use Rattle.spin_core.specs.contracts.cell.Cell as cell
 use Rattle.spin_core.specs.contracts.cell.Permit as hand

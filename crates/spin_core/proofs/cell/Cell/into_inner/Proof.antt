@@ -1,49 +1,24 @@
 -- `into_inner` takes the value, whatever the words are.
-use Rattle.std.proofs.Common.{◌≡◌, ◌&&◌, Bool, T, true, false, List, [], ◌∷◌, ◌++◌, sym, refl, ap, ◌∙◌, subst, w64}
-use mir.Syntax.{dcons, dnil, a_type}
-use mir.Val.{Val, vunit, vint, vstruct, vcons, vnil, of_list, has_ty}
-use mir.MapTy.{inst_fn}
-use base.Logic.{SProp, ent, id⊢}
-use base.Fml.{Lft, Share, Fml, fsep, feq, ftrue, flft}
-use contract.Running.{tables}
-use prog.Wp.{WpFn}
-use contract.BorrowLft.{◌⊑◌}
-use contract.Monad.{fact}
-use denote.Param.Laws.{param_laws, arg_laws}
+use Rattle.spin_core.proofs.PermitFields.{both}
+use Rattle.spin_core.proofs.WalkNames.{◌≡◌, ◌&&◌, T, true, List, [], ◌∷◌, ◌++◌, sym, refl, ap, ◌∙◌, subst, w64, dcons, dnil, a_type, Val, vunit, vint, vstruct, vcons, vnil, of_list, has_ty, inst_fn, SProp, ent, id⊢, Lft, Share, Fml, fsep, feq, ftrue, flft, tables, WpFn, ◌⊑◌, fact, param_laws, fm, ‵, raw, ◌⊛◌, ◌$◌, ◌∵◌, !, qed, by, move, keep, drop, split, split3, fsplit, fsplit3, fjoin, fpick, join, pick, await, later, some, use1, rewrite, feq_l, flt_l, suffices, stop, fld, of_opd, no_more, and_then, returns, enter, alloc_all, pass_all, free_all, look_at, get, get_in, sets, sub, whole, yes, no, RattleType, plain, nothing, only, peeks, Is, shows, param, layout, bounded, Stays, stay_dropped, walk_of, Goes-dropped, El, lawful, Good, one, proved_at, leaves}
+use denote.Param.Laws.{arg_laws}
 use Rattle.spin_core.specs.contracts.cell.let_go as callee
 use Rattle.spin_core.proofs.cell.let_go.Met.{met}
 use denote.Triple.Call.{calls_at}
 use denote.Triple.Spec.{triple_of}
-use Rattle.atomic_table.proofs.Calls.{fm}
-use types.Kit.{‵, raw, ◌⊛◌, ◌$◌, ◌∵◌, !, qed, by, move, keep, drop, split, split3, fsplit, fsplit3, fjoin, fpick, join, pick, await, later, some, use1, rewrite, feq_l, flt_l, suffices}
-use types.Run.{stop, fld, of_opd, no_more, and_then, returns, enter}
-use types.ByLocal.{alloc_all, pass_all, free_all, look_at, get, get_in, sets, lands_as}
-use types.Part.{sub, whole}
-use denote.Exit.{yes, no}
-use denote.RattleType.{RattleType}
-use denote.Signature.{plain}
-use denote.Steps.{nothing, only, peeks}
-use denote.Laws.{Is, shows}
-use denote.Param.{param, layout, bounded, arg}
-use denote.Triple.Walked.{Stays, stay_dropped, walk_of, Goes-dropped}
-use Rattle.core.proofs.mem.Param.{El, lawful, Good, one}
-use Rattle.atomic_table.proofs.Walks.{proved_at, leaves}
-use Rattle.std.proofs.ResultValues.{and_tt}
+use types.ByLocal.{lands_as}
+use denote.Param.{arg}
 use Rattle.spin_core.specs.contracts.cell.Cell as cell
 use Rattle.spin_core.specs.contracts.cell.Cell.into_inner.{ended, clauses}
 use Rattle.spin_core.specs.contracts.cell.Cell.into_inner.Key.{name as #self}
 use Rattle.spin_core.proofs.cell.Cell.into_inner.Statement.{statement}
 use Rattle.spin_core.proofs.cell.Cell.into_inner.Code as code
 
-both : (a b : Bool) → T a → T b → T (a && b)
-both true b h k = k
-both false b h k = absurd h
-
 pub into_inner_spec : {M : Type 1} → statement M
 into_inner_spec 𝓤 𝓛 𝓜 𝓡 wired X U P K S L _ _ _ LS g d _ =
     let H = 𝓛.H in let 𝓣 = tables 𝓤 H 𝓜 𝓡 𝓡.env in let R : RattleType = param 0 X in let V : RattleType = param 1 U in let Y : RattleType = param 2 P in let Kr : RattleType = param 3 K in let Sr : RattleType = param 4 S in let En = ended X U P K S g d in let c = clauses X U P K S g d 𝓛 𝓜.mem 𝓡.returns in let E : El = record { row = X; laws = L } in let N : El = record { row = S; laws = LS } in
     let inst = bounded (a_type ∷ a_type ∷ a_type ∷ a_type ∷ a_type ∷ []) (X, (U, (P, (K, (S, tt))))) (dcons d dnil) in let fn = inst_fn inst code.function in let closed = code.unfolded 𝓤 H 𝓜 𝓡 wired (X, (U, (P, (K, (S, tt))))) d in let Row : RattleType = cell.the_row R V Y Kr Sr g in
-    let self = plain (λ _. Row) in let hs : Stays En.signature.params En.kept = (stay_dropped self no, tt) in let fine : (v : Val) → Good E v → T (has_ty (layout X) v && true) = λ v h. and_tt (has_ty (layout X) v) h.0 in let fine_second : (v : Val) → Good N v → T (has_ty (layout S) v && true) = λ v h. and_tt (has_ty (layout S) v) h.0 in
+    let self = plain (λ _. Row) in let hs : Stays En.signature.params En.kept = (stay_dropped self no, tt) in let fine : (v : Val) → Good E v → T (has_ty (layout X) v && true) = λ v h. both (has_ty (layout X) v) true h.0 tt in let fine_second : (v : Val) → Good N v → T (has_ty (layout S) v && true) = λ v h. both (has_ty (layout S) v) true h.0 tt in
     proved_at 𝓛 En hs c 𝓜 𝓡 (Goes-dropped 𝓛 5 self no (λ κs x f. refl), tt) (#self inst) fn closed (λ z are.
     let Post : Val → SProp 𝓤 = (walk_of 𝓛 En hs c).post z in let Run : List Val → SProp 𝓤 = λ ws. WpFn 𝓤 H 𝓣.C 𝓣.Λ fn ws Post in
     let κs = z.0.0 in let qs = z.0.1 in let α : Fml = flft κs.0 qs.0 in let β : Fml = flft κs.1.0 qs.1.0 in let π : Fml = flft κs.1.1.0 qs.1.1.0 in let ι : Fml = flft κs.1.1.1.0 qs.1.1.1.0 in let σ : Lft = κs.1.1.1.1.0 in let q : Share = qs.1.1.1.1.0 in

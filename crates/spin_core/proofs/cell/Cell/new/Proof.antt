@@ -1,34 +1,9 @@
 -- `new` lays the words and the value side by side.
-use Rattle.std.proofs.Common.{◌≡◌, ℕ, ◌^◌, ◌<◌, ◌&&◌, Bool, T, true, false, List, [], ◌∷◌, ◌++◌, sym, refl, subst, w64}
-use mir.Syntax.{dcons, dnil, a_type}
-use mir.Val.{Val, vint, vptr, vstruct, vcons, vnil, has_ty, WT}
-use mir.MapTy.{inst_fn}
-use base.Logic.{SProp, emp, ent, id⊢}
-use base.Fml.{Fml, ftrue, fsep, fex}
-use contract.Monad.{fact, fact_i}
-use contract.Running.{tables}
-use prog.Wp.{WpFn}
-use types.Kit.{‵, raw, ◌⊛◌, ◌$◌, ◌∵◌, !, qed, by, move, keep, split, fsplit, fsplit3, fjoin, fpack, use0, rewrite, feq_i, flt_i, suffices}
-use types.Run.{of_opd, no_more, and_then, returns, enter}
-use types.ByLocal.{alloc_all, pass_all, free_all, look_at, get, sets}
-use types.Part.{agg}
-use denote.Exit.{yes, no}
-use denote.RattleType.{RattleType, Valss, owns}
-use denote.Signature.{types_at, plain}
-use denote.Steps.{nothing, heard}
-use denote.Laws.{Typed}
-use denote.Param.{param, layout, bounded}
-use denote.Param.Laws.{param_laws}
-use denote.Builtin.{RefOf, u64}
+use Rattle.spin_core.proofs.PermitFields.{both}
+use Rattle.spin_core.proofs.WalkNames.{◌≡◌, ℕ, ◌^◌, ◌<◌, ◌&&◌, T, true, List, [], ◌∷◌, ◌++◌, sym, refl, subst, w64, dcons, dnil, a_type, Val, vint, vptr, vstruct, vcons, vnil, has_ty, WT, inst_fn, SProp, emp, ent, id⊢, Fml, ftrue, fsep, fex, fact, fact_i, tables, WpFn, ‵, raw, ◌⊛◌, ◌$◌, ◌∵◌, !, qed, by, move, keep, split, fsplit, fsplit3, fjoin, fpack, use0, rewrite, feq_i, flt_i, suffices, of_opd, no_more, and_then, returns, enter, alloc_all, pass_all, free_all, look_at, get, sets, agg, yes, no, RattleType, Valss, owns, types_at, plain, nothing, heard, Typed, param, layout, bounded, param_laws, RefOf, u64, within, alive, Stays, stay_dropped, walk_of, Goes-dropped, El, lawful, Good, one, proved_at, leaves}
 use denote.Shadow.{makes_shadow}
-use denote.Struct.Struct.{within}
 use denote.Struct.Tuple.{Tuple}
-use denote.Triple.Entry.{alive}
-use denote.Triple.Walked.{Stays, stay_dropped, walk_of, Goes-dropped}
-use Rattle.core.proofs.mem.Param.{El, lawful, Good, one}
 use Rattle.core.specs.contracts.marker.PhantomData as marker
-use Rattle.atomic_table.proofs.Walks.{proved_at, leaves}
-use Rattle.std.proofs.ResultValues.{and_tt}
 use Rattle.atomic_table.specs.Seated.{fact as said}
 use Rattle.spin_core.specs.Cell.{Starts, Opens}
 use Rattle.spin_core.specs.CellMemory.{Known}
@@ -38,10 +13,6 @@ use Rattle.spin_core.specs.contracts.cell.Cell.new.Key.{name as #self}
 use Rattle.spin_core.proofs.cell.Cell.new.Statement.{statement}
 use Rattle.spin_core.proofs.cell.Cell.new.Code as code
 
-both : (a b : Bool) → T a → T b → T (a && b)
-both true b h k = k
-both false b h k = absurd h
-
 pub new_spec : {M : Type 1} → statement M
 new_spec 𝓤 𝓛 𝓜 𝓡 wired X U P K S L _ _ _ LS g d _ =
     let H = 𝓛.H in let 𝓣 = tables 𝓤 H 𝓜 𝓡 𝓡.env in let R : RattleType = param 0 X in let V : RattleType = param 1 U in let Y : RattleType = param 2 P in let Kr : RattleType = param 3 K in let Sr : RattleType = param 4 S in let En = ended X U P K S g d in let c = clauses X U P K S g d 𝓛 𝓜.mem 𝓡.returns in let E : El = record { row = X; laws = L } in let N : El = record { row = S; laws = LS } in
@@ -49,7 +20,7 @@ new_spec 𝓤 𝓛 𝓜 𝓡 wired X U P K S L _ _ _ LS g d _ =
     let item = plain (λ _. R) in let number = plain (λ _. u64) in let second = plain (λ _. Sr) in let about = RefOf (0 ∷ []) tt (plain (λ _. Kr)) (λ _. tt) in
     let hs : Stays En.signature.params En.kept = (stay_dropped item no, (stay_dropped number yes, (stay_dropped second no, (stay_dropped about yes, tt)))) in
     let F : RattleType = inside.the_row R V Y Kr Sr g in let D = denote.Struct.Declared.shape (inside.the_type R V Y Kr Sr g) in let Mk : RattleType = (marker.the_field (Tuple (V ∷ Y ∷ []))).row in
-    let fine : (v : Val) → Good E v → T (has_ty (layout X) v && true) = λ v h. and_tt (has_ty (layout X) v) h.0 in let fine_second : (v : Val) → Good N v → T (has_ty (layout S) v && true) = λ v h. and_tt (has_ty (layout S) v) h.0 in
+    let fine : (v : Val) → Good E v → T (has_ty (layout X) v && true) = λ v h. both (has_ty (layout X) v) true h.0 tt in let fine_second : (v : Val) → Good N v → T (has_ty (layout S) v && true) = λ v h. both (has_ty (layout S) v) true h.0 tt in
     proved_at 𝓛 En hs c 𝓜 𝓡 (Goes-dropped 𝓛 6 item no (λ κs x f. refl), (Goes-dropped 𝓛 6 number yes (λ κs x f. refl), (Goes-dropped 𝓛 6 second no (λ κs x f. refl), (Goes-dropped 𝓛 6 about yes (λ κs x f. refl), tt)))) (#self inst) fn closed (λ z are.
     let x : X.Denot = z.0.3.0 in let n : ℕ = z.0.3.1.0 in let k : S.Denot = z.0.3.1.1.0 in let key : K.Denot = z.0.3.1.1.1.0.now in let at : Val = vptr z.0.3.1.1.1.0.ref_ptr.0 z.0.3.1.1.1.0.ref_ptr.1 in let ways = g.ways key in let fits : n < 2 ^ 64 = are.1.0.1 in
     let got = one E z.0.4.0 ((lawful E 𝓛).typed x z.0.4.0 are.0) in let vy : Val = got.0 in let fy : Good E vy = got.2 in

@@ -1,6 +1,5 @@
 -- `get` shows the value for as long as the permit is borrowed.
-use Rattle.spin_core.proofs.WalkNames.{fpick, ◌≡◌, ℕ, ◌+◌, List, [], ◌∷◌, ◌++◌, refl, ap, Option, Some, dcons, dnil, a_type, named, Val, vptr, inst_fn, emp, SProp, guard_i, Lft, Fml, ftrue, fsep, flft, Incl-refl, sem, ‵, raw, ◌⊛◌, given, at_ret, ◌$◌, ◌∵◌, !, qed, by, move, keep, split, join, fsplit, fjoin, learn, use0, use1, rewrite, feq_i, stop, fld, addr, of_opd, first, blocks, exec, returns, enter, alloc_all, pass_all, free_all, look_at, get, through, sets, sets_last, env, sub, whole, tables, fact, fact_i, fact_use, yes, RattleType, owns, types_at, plain, named_lft, Ptr, InBlock, block_ptr, block_of, count_of, at_block, nothing, heard, param, bounded, param_laws, Stays, stay_dropped, walk_of, Goes-dropped, tail, proved, leaves}
-use Rattle.spin_core.proofs.WalkNames.{RefOf, shr_vals, shr_Tells, unhide, hop, look_in, lent_out, shortens, ⊑_meet, hidden_shr, cell_at, looks, peeks, shuts, Is, shows, ◌∙◌, sym, fhide}
+use Rattle.spin_core.proofs.WalkNames.{fpick, ◌≡◌, ℕ, ◌+◌, List, [], ◌∷◌, ◌++◌, refl, ap, Option, Some, dcons, dnil, a_type, named, Val, vptr, inst_fn, emp, SProp, guard_i, Lft, Fml, ftrue, fsep, flft, Incl-refl, sem, ‵, raw, ◌⊛◌, given, at_ret, ◌$◌, ◌∵◌, !, qed, by, move, keep, split, join, fsplit, fjoin, learn, use0, use1, rewrite, feq_i, stop, fld, addr, of_opd, first, blocks, exec, returns, enter, alloc_all, pass_all, free_all, look_at, get, through, sets, sets_last, env, sub, whole, tables, fact, fact_i, fact_use, yes, RattleType, owns, types_at, plain, named_lft, Ptr, InBlock, block_ptr, block_of, count_of, at_block, nothing, heard, param, bounded, param_laws, Stays, stay_dropped, walk_of, Goes-dropped, tail, proved, leaves, RefOf, shr_vals, shr_Tells, unhide, hop, look_in, lent_out, shortens, ⊑_meet, hidden_shr, cell_at, looks, peeks, shuts, Is, shows, ◌∙◌, sym, fhide}
 use Rattle.core.specs.contracts.marker.PhantomData as marker
 use Rattle.spin_core.specs.Cell.{Use, reads, use_of}
 use Rattle.spin_core.specs.CellMemory.{offset, reader_shares, permit_shares}

@@ -1,11 +1,10 @@
 -- `into_writer` keeps what the permit owns, at a view that writes.
 use Rattle.spin_core.proofs.WalkNames.{◌≡◌, [], ◌∷◌, refl, sym, Some, dcons, dnil, a_type, Val, inst_fn, emp, SProp, guard_i, Lft, Share, Fml, ftrue, fsep, flft, sem, ‵, raw, ◌⊛◌, some, given, ◌$◌, ◌∵◌, !, qed, by, move, keep, split, join, fsplit, fjoin, pick, learn, use0, use1, stop, fld, of_opd, no_more, and_then, returns, enter, alloc_all, pass_all, free_all, look_at, get, get_in, sets, agg, sub, whole, tables, fact, fact_i, fact_use, no, RattleType, owns, types_at, plain, named_lft, Ptr, InBlock, nothing, heard, param, bounded, Stays, stay_dropped, walk_of, Goes-dropped, proved, leaves}
-use base.Logic.{emp}
 use Rattle.spin_core.specs.Cell.{writes, use_of}
 use Rattle.spin_core.specs.CellMemory.{permit_owns, writer_owns}
 use Rattle.spin_core.specs.contracts.cell.Permit as hand
 use Rattle.spin_core.specs.contracts.cell.WritePermit as pen
-use Rattle.spin_core.proofs.PermitFields.{hand_of, told, typed, Pens, pen_made, owns_placed}
+use Rattle.spin_core.proofs.PermitFields.{hand_of, told, typed, Words, made, owns_placed}
 use Rattle.spin_core.proofs.CellWalks.{Writes, to_writer}
 use Rattle.spin_core.specs.contracts.cell.Permit.into_writer.{ended, clauses}
 use Rattle.spin_core.specs.contracts.cell.Permit.into_writer.Key.{name as #self}
@@ -30,6 +29,6 @@ into_writer_spec 𝓤 𝓛 𝓜 𝓡 wired T V P K S L _ _ _ LS g d _ =
     let good = Rattle.spin_core.proofs.PermitFields.pointer p inb in sets ! (of_opd ! (get_in ! (fld ! refl (stop !)) (sub ! 0 refl (whole !)))) refl good $ sets ! (agg ! (no_more !)) refl (tt, tt) $
     sets ! (agg ! (and_then ! (get ! refl) (and_then ! (get ! refl) (no_more !)))) refl (typed p inb) $
     let h' : Pr.Denot = record { cell = p; marker = record {}; key = h.key; view = s.0; value = s.1 } in let v : Val = hand_of p in
-    use0 𝓛 (‵ ((Pens ℓ R W Y Kr Sr g).own_val (p, (tt, tt)) (v ∷ []))) (pen_made ℓ R W Y Kr Sr g 𝓛 p) $ fjoin ! $ move ! (1 ∷ 2 ∷ []) $ join ! $
+    use0 𝓛 (‵ ((Words ℓ R W Y Kr Sr g).own_val (p, (tt, tt)) (v ∷ []))) (made ℓ R W Y Kr Sr g 𝓛 p) $ fjoin ! $ move ! (1 ∷ 2 ∷ []) $ join ! $
     let Told : Type 0 = (Some s.0 ≡ h.view) × (Some s.1 ≡ h.value) in use0 𝓛 (raw (fact 𝓤 (h.key ≡ h.key))) (fact_i 𝓤 (h.key ≡ h.key) (emp 𝓤) refl) $ use0 𝓛 (raw (fact 𝓤 Told)) (fact_i 𝓤 Told (emp 𝓤) (sym so.0, sym so.1)) $ join ! $ nothing ! $ nothing ! $ fjoin ! $
     returns ! (look_at ! 0 refl) $ free_all ! refl $ keep ! (2 ∷ 0 ∷ 3 ∷ 1 ∷ []) $ by ! (leaves 𝓛 En hs c y v h' (tt, tt) (tt, tt))))))))

@@ -1,6 +1,5 @@
 -- `see` gives a party's part of the value away, for the rest of the cell's borrow.
 use Rattle.spin_core.proofs.WalkNames.{Some, some, pick, heard, hidden_shr, param_laws, ◌≡◌, sym, ℕ, ◌+◌, List, [], ◌∷◌, refl, ap, dcons, dnil, a_type, Val, vptr, inst_fn, emp, SProp, guard_i, Lft, Share, Fml, ftrue, fsep, flft, sem, ‵, raw, ◌⊛◌, given, later, at_ret, ◌$◌, ◌∵◌, !, qed, by, move, keep, split, join, fsplit, fjoin, learn, use0, use1, await, rewrite, feq_i, stop, fld, addr, of_opd, first, blocks, exec, returns, enter, alloc_all, pass_all, free_all, look_at, get, get_in, through, sets, sets_last, is, env, sub, whole, tables, fact, fact_i, fact_use, no, RattleType, owns, types_at, plain, named_lft, Ptr, InBlock, block_ptr, ptr_val, block_of, count_of, at_block, nothing, param, bounded, Stays, stay_dropped, walk_of, Goes-dropped, tail, proved, leaves}
-use base.Logic.{emp}
 use Rattle.spin_core.specs.CellMemory.{offset, permit_owns}
 use Rattle.spin_core.specs.Cell.{reads, use_of, Seen}
 use Rattle.spin_core.specs.contracts.cell.Permit as hand

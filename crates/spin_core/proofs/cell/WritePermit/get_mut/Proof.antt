@@ -1,42 +1,21 @@
 -- `get_mut` lends the value, and the permit follows it. Assumes `Logic`.
-use Rattle.std.proofs.Common.{◌≡◌, ℕ, ◌+◌, List, [], ◌∷◌, refl, sym, ap, ◌∙◌}
+use Rattle.spin_core.proofs.WalkNames.{◌≡◌, ℕ, ◌+◌, List, [], ◌∷◌, refl, sym, ap, ◌∙◌, a_type, named, dcons, dnil, Val, vptr, inst_fn, full_share, SProp, ent, wand, emp, guard_i, apply∗, Lft, Share, Fml, ftrue, fsep, flft, before, Logic, sem, split3, ‵, raw, ◌⊛◌, at_ret, ◌$◌, ◌∵◌, !, qed, by, move, keep, split, join, fsplit, fsplit3, fjoin, use0, use1, use2, use3, later, some, given, learn, await, pick, fpick, fpack, rewrite, stop, addr, of_opd, first, blocks, exec, returns, enter, fld, hop, alloc_all, pass_all, free_all, look_at, get, through, sets, sets_last, env, sub, whole, look_in, tables, fact, fact_i, fact_use, no, RattleType, owns, Is, shows, types_at, plain, named_lft, RefMutOf, nothing, peeks, param, bounded, cell_at, part_at, Ptr, InBlock, block_ptr, block_of, count_of, at_block, Stays, stay_dropped, walk_of, tail, proved, leaves}
 use seplogic.Ra.Ura.{Ura}
-use mir.Syntax.{a_type, named, dcons, dnil}
-use mir.Val.{Val, vptr}
-use mir.MapTy.{inst_fn}
-use base.Fraction.{full_share}
-use base.Logic.{SProp, ent, wand, emp, ex, all, all_e, guard_i, apply∗}
+use base.Logic.{ex, all, all_e}
 use denote.Ref.{NamedLft, MutBor}
 use Rattle.spin_core.specs.declared.cell.Rule.{Ghosts}
-use base.Fml.{Incl, Lft, GName, Share, Fml, ftrue, fsep, flft}
-use base.Before.{before}
-use types.Logic.{Logic, sem}
-use types.Kit.{each, show, split3, ‵, raw, ◌⊛◌, at_ret, ◌$◌, ◌∵◌, !, qed, by, move, keep, split, join, fsplit, fsplit3, fjoin, frame, use0, use1, use2, use3, later, some, given, learn, await, pick, fpick, fpack, rewrite, assume}
-use types.Run.{stop, addr, of_opd, first, blocks, exec, returns, enter, fld, hop}
-use types.ByLocal.{alloc_all, pass_all, free_all, look_at, get, through, sets, sets_last, env}
-use types.Part.{sub, whole, look_in}
+use base.Fml.{Incl, GName}
+use types.Kit.{each, show, frame, assume}
 use types.Mut.{open_ref, close_ref}
-use contract.Running.{tables}
-use contract.Monad.{fact, fact_i, fact_use}
-use denote.Exit.{no}
-use denote.RattleType.{RattleType, owns}
-use denote.Laws.{Is, shows}
-use denote.Signature.{types_at, plain, named_lft}
-use denote.Builtin.{RefMutOf}
 use denote.Ref.{MutRef, mut_vals, mut_Tells}
-use denote.Steps.{nothing, peeks}
-use denote.Param.{param, bounded}
-use denote.Memory.{cell_at, part_at, part_of, mem as in_memory}
-use denote.RawPtr.{Ptr, InBlock, block_ptr, block_of, count_of, at_block}
+use denote.Memory.{part_of, mem as in_memory}
 use denote.Struct.OwningLaws.{part_out, part_in}
 use denote.Follow.{follows}
-use denote.Triple.Walked.{Stays, stay_dropped, walk_of, Goes-spent_ref}
-use Rattle.core.proofs.atomic.Steps.{tail}
-use Rattle.atomic_table.proofs.Walks.{proved, leaves}
+use denote.Triple.Walked.{Goes-spent_ref}
 use Rattle.spin_core.specs.CellMemory.{Id, offset, tracked, writer_owns}
 use Rattle.spin_core.specs.Writer.{with_value}
 use Rattle.spin_core.specs.contracts.cell.WritePermit.{the_type, the_row}
-use Rattle.spin_core.proofs.PermitFields.{hand_of, Pens, pen_told, pen_placed}
+use Rattle.spin_core.proofs.PermitFields.{hand_of, Words, told, pen_placed}
 use Rattle.spin_core.proofs.CellThrough.{cuts, Opened, through as goes_through}
 use Rattle.spin_core.specs.contracts.cell.WritePermit.get_mut.{ended, clauses}
 use Rattle.spin_core.specs.contracts.cell.WritePermit.get_mut.Key.{name as #self}
@@ -60,7 +39,7 @@ module _ {M : Type 1} {𝓤 : Ura M} (𝓛 : Logic 𝓤) (ℓ : NamedLft) (R W Y
   Pen p x = writer_owns Y R W.coded.code Sr g.holds (g.ways h.key) ℓ.lft p h.view x
 
   abbrev Ws : Fml
-  Ws = part_at (Pens ℓ R W Y Kr Sr g) full_share (h.cell, (tt, tt)) m.ref_ptr.0 m.ref_ptr.1
+  Ws = part_at (Words ℓ R W Y Kr Sr g) full_share (h.cell, (tt, tt)) m.ref_ptr.0 m.ref_ptr.1
 
   abbrev same : (x z : R.Denot) → F x ≡ F z → x ≡ z
   same x z = ap (λ (it : G.Denot). it.value)
@@ -87,7 +66,7 @@ get_mut_spec 𝓤 𝓛 𝓜 𝓡 wired T V P K S L _ _ _ LS g d _ =
     let row = plain (λ κs. the_row (named_lft 7 1 tt κs) R W Y Kr Sr g) in let self = RefMutOf (0 ∷ []) tt row (λ _. tt) in let hs : Stays En.signature.params En.kept = (stay_dropped self no, tt) in
     proved 𝓛 En hs c 𝓜 𝓡 (Goes-spent_ref 𝓛 7 (0 ∷ []) tt row, tt) (#self inst) fn closed
     (λ κs. (mut_vals, tt)) (λ κs. (mut_Tells (named 0) κs.0 (the_row (named_lft 7 1 tt κs) R W Y Kr Sr g), tt)) (λ κs qs bounds a gh are.
-    let ℓ = named_lft 7 1 tt κs in let G : RattleType = the_row ℓ R W Y Kr Sr g in let D : RattleType = Pens ℓ R W Y Kr Sr g in let m = a.0 in let b : ℕ = m.ref_ptr.0 in let o : ℕ = m.ref_ptr.1 in let γ : GName = m.ghost_name in let h : G.Denot = m.now in
+    let ℓ = named_lft 7 1 tt κs in let G : RattleType = the_row ℓ R W Y Kr Sr g in let D : RattleType = Words ℓ R W Y Kr Sr g in let m = a.0 in let b : ℕ = m.ref_ptr.0 in let o : ℕ = m.ref_ptr.1 in let γ : GName = m.ghost_name in let h : G.Denot = m.now in
     let κ : Lft = κs.0 in let q : Share = qs.0 in let β : Lft = κs.1.0 in let p : Ptr = h.cell in let pb : ℕ = block_of p in let po : ℕ = count_of p in let e : ℕ = po + offset R in let x : T.Denot = h.value in let F : T.Denot → G.Denot = with_value h in
     let others : Fml = fsep (flft β qs.1.0) (fsep (flft κs.1.1.0 qs.1.1.0) (fsep (flft κs.1.1.1.0 qs.1.1.1.0) (fsep (flft κs.1.1.1.1.0 qs.1.1.1.1.0) (fsep (flft κs.1.1.1.1.1.0 qs.1.1.1.1.1.0) (fsep (flft κs.1.1.1.1.1.1.0 qs.1.1.1.1.1.1.0) ftrue))))) in let Had : Ptr → T.Denot → Fml = λ z w. writer_owns Y R cw.code Sr g.holds (g.ways h.key) β z h.view w in
     let Ws : Fml = part_at D full_share (p, (tt, tt)) b o in let y : (walk_of 𝓛 En hs c).Ghost = ((κs, qs, bounds, a, (vptr b o ∷ [], tt)), gh) in let Post : Val → SProp 𝓤 = (walk_of 𝓛 En hs c).post y in
@@ -97,7 +76,7 @@ get_mut_spec 𝓤 𝓛 𝓜 𝓡 wired T V P K S L _ _ _ LS g d _ =
     open_ref ! tt (in_memory G) $ use1 𝓛 (‵ Ws ⊛ ‵ (Had p x)) (part_out 𝓛 (the_type ℓ R W Y Kr Sr g) full_share h b o) $ split ! $ move ! (1 ∷ []) $
     use1 𝓛 (given (InBlock p) (‵ (Had p x))) (fact_use 𝓤 _ (pen_placed 𝓛 Y R cw.code Sr g.holds (g.ways h.key) β p h.view x) (guard_i 𝓤 (InBlock p) (sem 𝓛 (Had p x)))) $ learn ! (λ inb. let at : p ≡ block_ptr pb po = at_block p inb in
     move ! (1 ∷ []) $ fpick ! (λ vs. fsplit ! $ move ! (1 ∷ []) $ peeks ! D (Is D) (shows 𝓛 D) (p, (tt, tt)) vs (λ is_so.
-    let ev : vs ≡ hand_of (block_ptr pb po) ∷ [] = pen_told ℓ R W Y Kr Sr g p vs is_so ∙ ap (λ (r : Ptr). hand_of r ∷ []) at in
+    let ev : vs ≡ hand_of (block_ptr pb po) ∷ [] = told ℓ R W Y Kr Sr g p vs is_so ∙ ap (λ (r : Ptr). hand_of r ∷ []) at in
     rewrite ! 1 (λ (us : List Val). ‵ (cell_at full_share D.mir us b o)) ev refl $ first ! $ blocks ! $
     sets ! (addr ! (through ! refl (fld ! refl (hop ! (look_in ! 1 (sub ! 0 refl (whole !))) (fld ! refl (stop !)))))) refl (tt, tt) $
     sets_last ! (addr ! (through ! refl (stop !))) refl (tt, tt) $ exec ! 𝓣.C 𝓣.Λ Ev (tail fn.body) (at_ret Ev Post) $ sets ! (of_opd ! (get ! refl)) refl (tt, tt) $

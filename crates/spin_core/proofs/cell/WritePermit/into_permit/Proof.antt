@@ -1,11 +1,10 @@
 -- `into_permit` keeps what the permit owns.
 use Rattle.spin_core.proofs.WalkNames.{◌≡◌, [], ◌∷◌, refl, Some, dcons, dnil, a_type, Val, inst_fn, emp, SProp, guard_i, Lft, Share, Fml, ftrue, fsep, flft, sem, ‵, raw, ◌⊛◌, given, ◌$◌, ◌∵◌, !, qed, by, move, keep, split, join, fsplit, fjoin, learn, use0, use1, stop, fld, of_opd, no_more, and_then, returns, enter, alloc_all, pass_all, free_all, look_at, get, get_in, sets, agg, sub, whole, tables, fact, fact_i, fact_use, no, RattleType, owns, types_at, plain, named_lft, Ptr, InBlock, nothing, param, bounded, Stays, stay_dropped, walk_of, Goes-dropped, proved, leaves}
-use base.Logic.{emp}
 use Rattle.spin_core.specs.Cell.{writes}
 use Rattle.spin_core.specs.CellMemory.{permit_owns, writer_owns}
 use Rattle.spin_core.specs.contracts.cell.Permit as hand
 use Rattle.spin_core.specs.contracts.cell.WritePermit as pen
-use Rattle.spin_core.proofs.PermitFields.{hand_of, Words, made, pen_told, typed, pen_placed}
+use Rattle.spin_core.proofs.PermitFields.{hand_of, Words, made, told, typed, pen_placed}
 use Rattle.spin_core.proofs.CellWalks.{from_writer}
 use Rattle.spin_core.specs.contracts.cell.WritePermit.into_permit.{ended, clauses}
 use Rattle.spin_core.specs.contracts.cell.WritePermit.into_permit.Key.{name as #self}
@@ -18,7 +17,7 @@ into_permit_spec 𝓤 𝓛 𝓜 𝓡 wired T V P K S L _ _ _ LS g d _ =
     let En = ended T V P K S g d in let c = clauses T V P K S g d 𝓛 𝓜.mem 𝓡.returns in let inst = bounded (a_type ∷ a_type ∷ a_type ∷ a_type ∷ a_type ∷ []) (T, (V, (P, (K, (S, tt))))) (dcons d dnil) in let fn = inst_fn inst code.function in let closed = code.unfolded 𝓤 H 𝓜 𝓡 wired (T, (V, (P, (K, (S, tt))))) d in
     let self = plain (λ κs. pen.the_row (named_lft 6 0 tt κs) R W Y Kr Sr g) in let hs : Stays En.signature.params En.kept = (stay_dropped self no, tt) in
     proved 𝓛 En hs c 𝓜 𝓡 (Goes-dropped 𝓛 6 self no (λ κs x f. refl), tt) (#self inst) fn closed
-    (λ κs. ((λ x. hand_of x.cell ∷ []), tt)) (λ κs. ((λ x vs so. pen_told (named_lft 6 0 tt κs) R W Y Kr Sr g x.cell vs so.0), tt)) (λ κs qs bounds a gh are.
+    (λ κs. ((λ x. hand_of x.cell ∷ []), tt)) (λ κs. ((λ x vs so. told (named_lft 6 0 tt κs) R W Y Kr Sr g x.cell vs so.0), tt)) (λ κs qs bounds a gh are.
     let ℓ = named_lft 6 0 tt κs in let Hr : RattleType = hand.the_row ℓ R W Y Kr Sr g in let Pr : RattleType = pen.the_row ℓ R W Y Kr Sr g in let h : Pr.Denot = a.0 in let p : Ptr = h.cell in let β : Lft = κs.0 in let q : Share = qs.0 in
     let others : Fml = fsep (flft κs.1.0 qs.1.0) (fsep (flft κs.1.1.0 qs.1.1.0) (fsep (flft κs.1.1.1.0 qs.1.1.1.0) (fsep (flft κs.1.1.1.1.0 qs.1.1.1.1.0) (fsep (flft κs.1.1.1.1.1.0 qs.1.1.1.1.1.0) ftrue)))) in let Owned : Fml = writer_owns Y R cw.code Sr g.holds (g.ways h.key) β p h.view h.value in
     let y : (walk_of 𝓛 En hs c).Ghost = ((κs, qs, bounds, a, (hand_of p ∷ [], tt)), gh) in let Post : Val → SProp 𝓤 = (walk_of 𝓛 En hs c).post y in let Use_is : Type 0 = (g.ways h.key).1 h.view ≡ writes in

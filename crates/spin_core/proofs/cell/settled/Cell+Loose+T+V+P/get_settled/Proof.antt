@@ -1,40 +1,23 @@
 -- `get_settled` reads the first word, and lends the value where that is the number asked for. Assumes `Logic`.
-use Rattle.std.proofs.Common.{◌≡◌, ℕ, ◌+◌, [], ◌∷◌, sym, refl, subst, lit<, eqb→eq, w8, w64}
-use mir.Syntax.{Body, seq, assign, place, rv_opd, copy, aggregate, int, dcons, dnil, a_type, named}
-use mir.Val.{Val, vint, vptr, vcons, vnil}
-use mir.MapTy.{inst_fn}
-use base.Fraction.{full_share}
-use base.Logic.{SProp, ent, sep, wand, all_e, apply∗}
-use base.Fml.{Lft, GName, Share, Fml, ftrue, fsep, flft}
+use Rattle.spin_core.proofs.WalkNames.{◌≡◌, ℕ, ◌+◌, [], ◌∷◌, sym, refl, subst, lit<, w64, dcons, dnil, a_type, named, Val, vint, vptr, vcons, vnil, inst_fn, full_share, SProp, ent, sep, Lft, Share, Fml, ftrue, fsep, flft, sem, ‵, raw, ◌⊛◌, some, later, at_ret, ◌$◌, ◌∵◌, !, qed, by, move, keep, drop, use0, use1, use2, split, split3, join, pick, await, rewrite, fsplit, fsplit3, fjoin, fpick, stop, fld, addr, load, lit, of_opd, and_then, no_more, first, blocks, exec, returns, enter, agg, alloc_all, pass_all, free_all, look_at, get, through, sets, sets_last, env, tables, fact, yes, no, RattleType, owns, types_at, plain, RefMutOf, u64, uint_vals, uint_Tells, part_at, param, layout, bounded, param_laws, nothing, heard, Stays, stay_dropped, walk_of, Goes-dropped, proved, leaves}
+use Rattle.std.proofs.Common.{eqb→eq, w8}
+use mir.Syntax.{Body, seq, assign, place, rv_opd, copy, aggregate, int}
+use base.Fml.{GName}
 use prog.Wp.{Wp, after_seq, at_return}
-use types.Logic.{sem}
-use types.Kit.{‵, raw, ◌⊛◌, some, later, at_ret, any_q, ◌$◌, ◌∵◌, !, qed, by, move, keep, drop, use0, use1, use2, split, split3, join, group, pick, await, rewrite, fsplit, fsplit3, fjoin, fpick, fpack}
-use types.Run.{look, stop, fld, addr, load, lit, bin, of_opd, and_then, no_more, well_typed, first, blocks, branches, exec, returns, enter}
-use types.Part.{agg}
+use types.Kit.{any_q, group}
+use types.Run.{look, bin, well_typed, branches}
 use types.Match.{live}
 use types.Mut.{open_ref, close_ref}
-use types.ByLocal.{alloc_all, pass_all, free_all, look_at, get, through, sets, sets_last, env}
-use contract.Running.{tables}
-use contract.Monad.{fact}
-use denote.Exit.{yes, no}
-use denote.RattleType.{RattleType, owns}
-use denote.Signature.{types_at, plain}
-use denote.Builtin.{RefMutOf, u64}
-use denote.Plain.{uint_vals, uint_Tells}
 use denote.Ref.{MutRef, MutBor, mut_vals, mut_Tells}
 use denote.Follow.{follows, lends_Part}
-use denote.Memory.{part_of, part_at, lone, mem as in_memory}
-use denote.Param.{param, layout, bounded}
-use denote.Param.Laws.{param_laws}
-use denote.Steps.{nothing, heard}
+use denote.Memory.{part_of, lone, mem as in_memory}
 use denote.Struct.Members.{Member}
-use denote.Triple.Walked.{Stays, stay_dropped, walk_of, Goes-dropped, Goes-spent_ref}
+use denote.Triple.Walked.{Goes-spent_ref}
 use Rattle.core.specs.contracts.option.Option as option
 use Rattle.core.specs.declared.option.Option.TheVariants.{None, Some}
 use Rattle.core.proofs.option.Made.{Some-of, none_of}
 use Rattle.core.proofs.alloc.Shapes.{after}
 use Rattle.atomic_table.specs.Seated.{fact as said}
-use Rattle.atomic_table.proofs.Walks.{proved, leaves}
 use Rattle.spin_core.specs.Cell.{Starts}
 use Rattle.spin_core.specs.Settled.{SettlesAt}
 use Rattle.spin_core.specs.CellMemory.{offset}
@@ -43,7 +26,7 @@ use Rattle.spin_core.specs.contracts.cell.Cell as cell
 use Rattle.spin_core.specs.contracts.cell.settled.Loose as loose
 use Rattle.spin_core.specs.contracts.cell.settled.Settled as settled
 use Rattle.spin_core.proofs.cell.settled.Loose.TheLaws as loose_laws
-use Rattle.spin_core.proofs.CellFields.{Knows, All, Rule, Row, row_out, row_in, standing_words, At, Joins, fields_out}
+use Rattle.spin_core.proofs.CellFields.{Knows, All, Rule, Row, row_out, row_in, standing_words, At, Joins, fields_out, rejoined}
 use Rattle.spin_core.specs.contracts.cell.settled.Cell+Loose+T+V+P.get_settled.{ended, clauses}
 use Rattle.spin_core.specs.contracts.cell.settled.Cell+Loose+T+V+P.get_settled.Key.{name as #self}
 use Rattle.spin_core.proofs.cell.settled.Cell+Loose+T+V+P.get_settled.Statement.{statement}
@@ -71,12 +54,8 @@ get_settled_spec 𝓤 𝓛 𝓜 𝓡 wired X U P K N L _ _ _ LN s d' g d _ _ =
     let others : Fml = fsep (flft κs.1.0 qs.1.0) (fsep (flft κs.1.1.0 qs.1.1.0) (fsep (flft κs.1.1.1.0 qs.1.1.1.0) (fsep (flft κs.1.1.1.1.0 qs.1.1.1.1.0) (fsep (flft κs.1.1.1.1.1.0 qs.1.1.1.1.1.0) ftrue)))) in
     let Ok : Type 0 = SettlesAt g.holds (g.ways key) s.settled wanted in let Q : SProp 𝓤 = sem 𝓛 (Row 𝓛 m ms V Y Kr g key b o) in let words : ℕ × N.Denot → Fml = standing_words 𝓛 m ms V Y Kr g key b o in let Lies : R.Denot → Fml = At 𝓛 m ms V Y Kr g key b o in
     let Holds : All 𝓛 m ms V Y Kr g key b o → Type 0 = Rule 𝓛 m ms V Y Kr g key b o in let Joined : SProp 𝓤 = Joins 𝓛 m ms V Y Kr g key b o Lw Ls (Row 𝓛 m ms V Y Kr g key b o) (row_out 𝓛 m ms V Y Kr g key b o) (row_in 𝓛 m ms V Y Kr g key b o) in
-    let J : All 𝓛 m ms V Y Kr g key b o → SProp 𝓤 = λ t. wand 𝓤 (sep 𝓤 (sem 𝓛 (words (t.0, t.1))) (sep 𝓤 (sem 𝓛 (Lies t.2)) (sem 𝓛 (said (Holds t))))) Q in
-    -- all of the cell but its value, and the cell again from any value that the rule allows
     let Rest : ℕ × N.Denot → SProp 𝓤 = λ ns. sep 𝓤 (sem 𝓛 (words ns)) Joined in
-    let shuts : (t : All 𝓛 m ms V Y Kr g key b o) → Holds t → ent 𝓤 (sep 𝓤 (sem 𝓛 (Lies t.2)) (Rest (t.0, t.1))) Q = λ t rule.
-    qed 𝓛 (‵ (Lies t.2) ∷ (‵ (words (t.0, t.1)) ⊛ raw Joined) ∷ []) ∵ move ! (1 ∷ []) $ split ! $ nothing ! $ fpack ! (Holds t) (λ _. ftrue) rule $ move ! (3 ∷ 0 ∷ []) $ join ! $ move ! (1 ∷ 0 ∷ []) $ join ! $ move ! (1 ∷ []) $
-    use1 𝓛 (raw (J t)) (all_e 𝓤 J t) $ move ! (1 ∷ 0 ∷ []) $ by ! (apply∗ 𝓤 (sep 𝓤 (sem 𝓛 (words (t.0, t.1))) (sep 𝓤 (sem 𝓛 (Lies t.2)) (sem 𝓛 (said (Holds t))))) Q) in
+    let shuts : (t : All 𝓛 m ms V Y Kr g key b o) → Holds t → ent 𝓤 (sep 𝓤 (sem 𝓛 (Lies t.2)) (Rest (t.0, t.1))) Q = rejoined 𝓛 m ms V Y Kr g key b o Lw Ls (Row 𝓛 m ms V Y Kr g key b o) (row_out 𝓛 m ms V Y Kr g key b o) (row_in 𝓛 m ms V Y Kr g key b o) in
     qed 𝓛 (((‵ (flft κ q) ⊛ ‵ others) ⊛ ‵ (owns (types_at En.signature.params κs) a y.0.4)) ∷ raw (fact 𝓤 _) ∷ raw (fact 𝓤 _) ∷ raw (fact 𝓤 _) ∷ raw (fact 𝓤 _) ∷ raw (fact 𝓤 _) ∷ raw (fact 𝓤 Ok) ∷ []) ∵ keep ! (6 ∷ 0 ∷ []) $ heard ! Ok (λ ok. split ! $ split ! $ move ! (2 ∷ []) $ fsplit ! $ fsplit3 ! $ keep ! (1 ∷ 2 ∷ 4 ∷ 5 ∷ []) $
     enter ! 𝓣.C 𝓣.Λ fn (vptr b o ∷ vint w64 wanted ∷ []) Post $ alloc_all ! (λ l. pass_all ! refl ((tt, tt), ((tt, record { fits = are.1.0.1 }), tt)) $ let Ev = env fn.locals l in
     open_ref ! tt (in_memory Ty) $ use1 𝓛 (some (λ (z : Knows 𝓛 m ms V Y Kr g key b o × All 𝓛 m ms V Y Kr g key b o). ‵ (words (z.1.0, z.1.1)) ⊛ ‵ (Lies z.1.2) ⊛ ‵ (said (Holds z.1)) ⊛ raw Joined))
