@@ -11,7 +11,7 @@ use std::sync::Wait;
 /// Its generation is counted in 64 bits: a party that looks again only after a multiple of 2^64 groups waits on for one
 /// more. None leaves early.
 ///
-/// Example: `ten_threads_wait_for_one_another_twice_over`, `crates/spin_uses_tests/src/barrier.rt`.
+/// Example: the test `ten_threads_wait_for_one_another_twice_over`.
 #[derive(Drop)]
 pub struct Barrier<R = Spin> {
     state: Mutex<State, R>,
@@ -19,7 +19,7 @@ pub struct Barrier<R = Spin> {
 
 /// What `Barrier::wait` answers.
 ///
-/// Example: `a_group_of_none_is_a_group_of_one`, `crates/spin_uses_tests/src/barrier.rt`.
+/// Example: the test `a_group_of_none_is_a_group_of_one`.
 #[derive(Clone, Copy)]
 pub struct BarrierWaitResult {
     leads: bool,
@@ -28,7 +28,7 @@ pub struct BarrierWaitResult {
 impl BarrierWaitResult {
     /// Whether this party leads its group. One party of each group does: the one that arrived last.
     ///
-    /// Example: `a_group_of_none_is_a_group_of_one`, `crates/spin_uses_tests/src/barrier.rt`.
+    /// Example: the test `a_group_of_none_is_a_group_of_one`.
     pub fn is_leader(&self) -> bool
         ensures { result ≡ self.now.leads }
     {
@@ -39,7 +39,7 @@ impl BarrierWaitResult {
 impl<R> Barrier<R> {
     /// A barrier whose groups have `n` parties, at which nobody has arrived. A group of 0 is one of 1: nobody waits there.
     ///
-    /// Example: `a_group_of_none_is_a_group_of_one`, `crates/spin_uses_tests/src/barrier.rt`.
+    /// Example: the test `a_group_of_none_is_a_group_of_one`.
     pub fn new(n: usize) -> Self {
         Barrier {
             state: Mutex::new(State::new(n)),
@@ -53,7 +53,7 @@ impl<R: RelaxStrategy> Barrier<R> {
     ///
     /// The last party of a group fills it, leads, and doesn't wait.
     ///
-    /// Example: `ten_threads_wait_for_one_another_twice_over`, `crates/spin_uses_tests/src/barrier.rt`.
+    /// Example: the test `ten_threads_wait_for_one_another_twice_over`.
     pub fn wait<W: Wait>(&self, rt: &W) -> BarrierWaitResult {
         let mut state = self.state.lock(rt);
         let leads = state.arrive();

@@ -32,7 +32,7 @@ const LOOK_PAUSE: u32 = 16;
 ///
 /// Among starvers, and among newcomers where nobody starves, there is no order.
 ///
-/// Example: `six_threads_lose_no_addition`, `crates/spin_mutex_tests/src/threads.rt`.
+/// Example: the test `six_threads_lose_no_addition`.
 #[derive(Drop)]
 pub struct FairMutex<T, R = Spin> {
     cell: Cell<T, View, FairRule>,
@@ -48,7 +48,7 @@ pub type Held<'a, T, R = Spin> = guard::Held<'a, T, View, FairRule, R>;
 impl<T, R> FairMutex<T, R> {
     /// An open lock, for which nobody starves.
     ///
-    /// Example: `a_starver_comes_before_newcomers`, `crates/spin_mutex_tests/src/fair.rt`.
+    /// Example: the test `a_starver_comes_before_newcomers`.
     pub fn new(value: T) -> Self {
         let cell = Cell::new(value, 0, (), &());
         FairMutex {
@@ -59,7 +59,7 @@ impl<T, R> FairMutex<T, R> {
 
     /// The last value, whatever the word is: leaked holds and forgotten starvers count no more.
     ///
-    /// Example: `the_owner_has_the_last_value_and_takes_no_lock`, `crates/spin_mutex_tests/src/calls.rt`.
+    /// Example: the test `the_owner_has_the_last_value_and_takes_no_lock`.
     pub fn into_inner(self) -> T {
         self.cell.into_inner()
     }
@@ -69,7 +69,7 @@ impl<T, R: RelaxStrategy> FairMutex<T, R> {
     /// Takes the lock, and relaxes while somebody holds it. Once it has looked in vain for a while it starves, and so
     /// comes before newcomers. Nothing is promised about when it returns.
     ///
-    /// Example: `a_held_lock_opens_by_force`, `crates/spin_mutex_tests/src/calls.rt`.
+    /// Example: the test `a_held_lock_opens_by_force`.
     pub fn lock<W: Wait>(&self, rt: &W) -> FairMutexGuard<'_, T, R>
         ensures { IsHolder use_of_view result }
     {
@@ -105,7 +105,7 @@ impl<T, R> FairMutex<T, R> {
     /// Takes the lock, or refuses where somebody holds it or starves. It makes one exchange. Its guard is a newcomer's:
     /// while that holds, no starver is registered that came before it.
     ///
-    /// Example: `a_lock_is_taken_once`, `crates/spin_mutex_tests/src/calls.rt`.
+    /// Example: the test `a_lock_is_taken_once`.
     pub fn try_lock<'a>(&'a self) -> Option<FairMutexGuard<'a, T, R>>
         ensures holder { IfSome result (IsHolder use_of_view) }
         ensures newcomer { IfSome result (λ guard. guard.writer.view ≡ Holding) }
@@ -130,7 +130,7 @@ impl<T, R> FairMutex<T, R> {
     /// Registers the caller as a starver, or refuses at the cap of starvers. It tries again where another party changed
     /// the word, and promises nothing about when it returns.
     ///
-    /// Example: `a_starver_comes_before_newcomers`, `crates/spin_mutex_tests/src/fair.rt`.
+    /// Example: the test `a_starver_comes_before_newcomers`.
     pub fn starve<W: Wait>(&self, rt: &W) -> Option<Starvation<'_, T, R>> {
         // To begin at 0 spares the load where nobody is there, and is the load where somebody is.
         let mut word = 0;
@@ -157,7 +157,7 @@ impl<T, R> FairMutex<T, R> {
 
     /// The value, whatever the word is: nobody else has the lock.
     ///
-    /// Example: `the_owner_has_the_last_value_and_takes_no_lock`, `crates/spin_mutex_tests/src/calls.rt`.
+    /// Example: the test `the_owner_has_the_last_value_and_takes_no_lock`.
     pub fn get_mut(&mut self) -> &mut T {
         self.cell.get_mut()
     }

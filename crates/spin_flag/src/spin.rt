@@ -21,7 +21,7 @@ pub use self::rule::{FlagRule, View};
 
 /// A lock that gives one party at a time access to a value, and spins while it waits.
 ///
-/// Example: `six_threads_lose_no_addition`, `crates/spin_mutex_tests/src/threads.rt`.
+/// Example: the test `six_threads_lose_no_addition`.
 #[derive(Drop)]
 pub struct SpinMutex<T, R = Spin> {
     cell: Cell<T, View, FlagRule>,
@@ -37,7 +37,7 @@ pub type Held<'a, T, R = Spin> = guard::Held<'a, T, View, FlagRule, R>;
 impl<T, R> SpinMutex<T, R> {
     /// An open lock.
     ///
-    /// Example: `a_lock_is_taken_once`, `crates/spin_mutex_tests/src/calls.rt`.
+    /// Example: the test `a_lock_is_taken_once`.
     pub fn new(value: T) -> Self {
         SpinMutex {
             cell: Cell::new(value, word(false), (), &()),
@@ -47,7 +47,7 @@ impl<T, R> SpinMutex<T, R> {
 
     /// The last value, whatever the flag is.
     ///
-    /// Example: `the_owner_has_the_last_value_and_takes_no_lock`, `crates/spin_mutex_tests/src/calls.rt`.
+    /// Example: the test `the_owner_has_the_last_value_and_takes_no_lock`.
     pub fn into_inner(self) -> T {
         self.cell.into_inner()
     }
@@ -56,7 +56,7 @@ impl<T, R> SpinMutex<T, R> {
 impl<T, R: RelaxStrategy> SpinMutex<T, R> {
     /// Takes the lock, and relaxes while somebody holds it. Nothing is promised about when it returns.
     ///
-    /// Example: `a_lock_has_what_was_written`, `crates/spin_mutex_tests/src/values.rt`.
+    /// Example: the test `a_lock_has_what_was_written`.
     pub fn lock<W: Wait>(&self, rt: &W) -> SpinMutexGuard<'_, T, R>
         ensures { IsHolder use_of_view result }
     {
@@ -81,7 +81,7 @@ impl<T, R: RelaxStrategy> SpinMutex<T, R> {
 impl<T, R> SpinMutex<T, R> {
     /// Takes the lock, or refuses where somebody holds it. It makes one exchange.
     ///
-    /// Example: `a_lock_is_taken_once`, `crates/spin_mutex_tests/src/calls.rt`.
+    /// Example: the test `a_lock_is_taken_once`.
     pub fn try_lock<'a>(&'a self) -> Option<SpinMutexGuard<'a, T, R>>
         ensures { IfSome result (IsHolder use_of_view) }
     {
@@ -111,7 +111,7 @@ impl<T, R> SpinMutex<T, R> {
 
     /// The value, whatever the flag is: nobody else has the lock.
     ///
-    /// Example: `the_owner_has_the_last_value_and_takes_no_lock`, `crates/spin_mutex_tests/src/calls.rt`.
+    /// Example: the test `the_owner_has_the_last_value_and_takes_no_lock`.
     pub fn get_mut(&mut self) -> &mut T {
         self.cell.get_mut()
     }

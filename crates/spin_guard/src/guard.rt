@@ -66,7 +66,7 @@ impl<'a, T, V, P: Release<T, V>, R> Guard<'a, T, V, P, R> {
 
     /// The value for as long as the lock lives. The lock stays taken.
     ///
-    /// Example: `a_leaked_value_stays_writable`, `crates/spin_mutex_tests/src/calls.rt`.
+    /// Example: the test `a_leaked_value_stays_writable`.
     pub fn leak(this: Self) -> &'a mut T
         ensures { result.now ≡ guard_value this.entry }
     {

@@ -23,7 +23,7 @@ pub use spin_ticket::ticket::{TicketMutex, TicketMutexGuard};
 /// which they came. Which lock it is inside is not part of its contract, so `try_lock` may also refuse where nobody holds
 /// it.
 ///
-/// Example: `two_threads_lose_no_addition`, `crates/spin_mutex_tests/src/threads.rt`.
+/// Example: the test `two_threads_lose_no_addition`.
 #[derive(Drop)]
 pub struct Mutex<T, R = Spin> {
     pub(crate) inner: TicketMutex<T, R>,
@@ -46,7 +46,7 @@ pub struct Held<'a, T, R = Spin> {
 impl<T, R> Mutex<T, R> {
     /// An open lock.
     ///
-    /// Example: `a_lock_is_taken_once`, `crates/spin_mutex_tests/src/calls.rt`.
+    /// Example: the test `a_lock_is_taken_once`.
     pub fn new(value: T) -> Self {
         Self::over(TicketMutex::new(value))
     }
@@ -58,7 +58,7 @@ impl<T, R> Mutex<T, R> {
 
     /// The last value, whether the lock is taken or not.
     ///
-    /// Example: `the_owner_has_the_last_value_and_takes_no_lock`, `crates/spin_mutex_tests/src/calls.rt`.
+    /// Example: the test `the_owner_has_the_last_value_and_takes_no_lock`.
     pub fn into_inner(self) -> T {
         let Self { inner } = self;
         inner.into_inner()
@@ -66,14 +66,14 @@ impl<T, R> Mutex<T, R> {
 
     /// The value, whether the lock is taken or not: nobody else has it.
     ///
-    /// Example: `the_owner_has_the_last_value_and_takes_no_lock`, `crates/spin_mutex_tests/src/calls.rt`.
+    /// Example: the test `the_owner_has_the_last_value_and_takes_no_lock`.
     pub fn get_mut(&mut self) -> &mut T {
         self.inner.get_mut()
     }
 
     /// Takes the lock, or refuses. It refuses where somebody holds it.
     ///
-    /// Example: `a_lock_is_taken_once`, `crates/spin_mutex_tests/src/calls.rt`.
+    /// Example: the test `a_lock_is_taken_once`.
     pub fn try_lock(&self) -> Option<MutexGuard<'_, T, R>>
         ensures { IfSome result (λ guard. holds guard) }
     {
@@ -99,7 +99,7 @@ impl<T, R> Mutex<T, R> {
 impl<T, R: RelaxStrategy> Mutex<T, R> {
     /// Takes the lock, and relaxes while it can't. Nothing is promised about when it returns.
     ///
-    /// Example: `a_lock_has_what_was_written`, `crates/spin_mutex_tests/src/values.rt`.
+    /// Example: the test `a_lock_has_what_was_written`.
     pub fn lock<W: Wait>(&self, rt: &W) -> MutexGuard<'_, T, R>
         ensures { holds result }
     {
@@ -113,7 +113,7 @@ impl<T, R: RelaxStrategy> Mutex<T, R> {
 impl<'a, T, R> MutexGuard<'a, T, R> {
     /// The value for as long as the lock lives. The lock stays taken.
     ///
-    /// Example: `a_leaked_value_stays_writable`, `crates/spin_mutex_tests/src/calls.rt`.
+    /// Example: the test `a_leaked_value_stays_writable`.
     pub fn leak(this: Self) -> &'a mut T
         ensures { result.now ≡ value_of this.entry }
     {

@@ -37,7 +37,7 @@ impl<T, F, M: Promise<T>> Seed<T> for Initialiser<F, M> {
 ///
 /// `M` says what is promised of the value: each answer of the initialiser has to keep it.
 ///
-/// Example: `ten_threads_see_the_same_and_the_text_is_read_once`, `crates/spin_uses_tests/src/settings.rt`.
+/// Example: the test `ten_threads_see_the_same_and_the_text_is_read_once`.
 #[derive(Drop)]
 pub struct LazyLock<T, F = fn() -> T, R = Spin, M: Promise<T> = ()> {
     seeded: Seeded<T, Initialiser<F, M>>,
@@ -73,7 +73,7 @@ impl<T, F: FnOnce() -> T, R: RelaxStrategy, M: Promise<T> + Drop> LazyLock<T, F,
     /// The value. The first that asks runs the initialiser; while it runs the others relax. Nothing is promised about when
     /// it returns.
     ///
-    /// Example: `it_runs_once`, `crates/spin_once_tests/src/lazylock.rt`.
+    /// Example: the test `it_runs_once`.
     pub fn force<'a, W: Wait>(this: &'a Self, rt: &W) -> &'a T
         requires callable { F.pre (initialiser this.now) }
         requires keeps { (value : T) → F.post (initialiser this.now) value → M.keeps (promise this.now) value }

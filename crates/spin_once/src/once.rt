@@ -20,7 +20,7 @@ impl<T> Seed<T> for () {
 /// A closure that asks its own `Once` for the value waits for ever, or, by a call that does not wait, finds that there is
 /// none yet.
 ///
-/// Example: `with_a_value_from_the_start_or_without`, `crates/spin_once_tests/src/once.rt`.
+/// Example: the test `with_a_value_from_the_start_or_without`.
 #[derive(Drop)]
 pub struct Once<T = (), R = Spin> {
     seeded: Seeded<T, ()>,
@@ -74,7 +74,7 @@ impl<T, R: RelaxStrategy> Once<T, R> {
     /// The value. Where there is none it runs the closure, whose answer is the value from then on; while another closure
     /// runs it relaxes until that one has ended. Nothing is promised about when it returns.
     ///
-    /// Example: `looks_before_and_after`, `crates/spin_once_tests/src/once.rt`.
+    /// Example: the test `looks_before_and_after`.
     pub fn call_once<F: FnOnce() -> T, W: Wait>(&self, rt: &W, f: F) -> &T
         requires { F.pre f }
     {
@@ -99,7 +99,7 @@ impl<T, R: RelaxStrategy> Once<T, R> {
     /// As `call_once`, of a closure that may fail. Its `Err` is answered, and there is no value: a later closure may give
     /// one. An `Err` is always this caller's own closure's.
     ///
-    /// Example: `a_closure_that_fails_leaves_the_next_one_its_turn`, `crates/spin_once_tests/src/once.rt`.
+    /// Example: the test `a_closure_that_fails_leaves_the_next_one_its_turn`.
     pub fn try_call_once<F: FnOnce() -> Result<T, E>, E, W: Wait>(
         &self,
         rt: &W,
@@ -135,7 +135,7 @@ impl<T, R: RelaxStrategy> Once<T, R> {
 
     /// As `call_once`, of a closure that copies the value.
     ///
-    /// Example: `a_copy_of_a_value`, `crates/spin_once_tests/src/once.rt`.
+    /// Example: the test `a_copy_of_a_value`.
     pub fn init_from_ref<W: Wait>(&self, rt: &W, value: &T) -> &T
     where
         T: Copy,

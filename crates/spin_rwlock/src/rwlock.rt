@@ -31,7 +31,7 @@ const STAND_BACK: u32 = 128;
 ///
 /// `P` is always `RwRule<T>`, and never named.
 ///
-/// Example: `a_writer_beside_five_readers`, `crates/spin_rwlock_tests/src/threads.rt`.
+/// Example: the test `a_writer_beside_five_readers`.
 #[derive(Drop)]
 pub struct RwLock<T, R = Spin, P: Rule<T, View> = RwRule<T>> {
     cell: Cell<T, View, P>,
@@ -41,7 +41,7 @@ pub struct RwLock<T, R = Spin, P: Rule<T, View> = RwRule<T>> {
 impl<T, R> RwLock<T, R> {
     /// A lock that nobody holds.
     ///
-    /// Example: `a_writer_goes_on_as_a_reader`, `crates/spin_rwlock_tests/src/calls.rt`.
+    /// Example: the test `a_writer_goes_on_as_a_reader`.
     pub fn new(value: T) -> Self {
         RwLock {
             cell: Cell::new(value, 0, (), &()),
@@ -51,7 +51,7 @@ impl<T, R> RwLock<T, R> {
 
     /// The value, whatever the word is: nobody else has the lock.
     ///
-    /// Example: `a_leaked_reader_stays`, `crates/spin_rwlock_tests/src/calls.rt`.
+    /// Example: the test `a_leaked_reader_stays`.
     pub fn get_mut(&mut self) -> &mut T {
         self.cell.get_mut()
     }
@@ -59,7 +59,7 @@ impl<T, R> RwLock<T, R> {
     /// Comes to read, or refuses beside a writer or an upgradable reader, or at the cap of readers. It tries again only
     /// where another party changed the word, and promises nothing about when it returns.
     ///
-    /// Example: `a_writer_goes_on_as_a_reader`, `crates/spin_rwlock_tests/src/calls.rt`.
+    /// Example: the test `a_writer_goes_on_as_a_reader`.
     pub fn try_read<W: Wait>(&self, rt: &W) -> Option<RwLockReadGuard<'_, T, R>> {
         match self.lend_from(0) {
             Ok(guard) => Some(guard),
@@ -77,7 +77,7 @@ impl<T, R> RwLock<T, R> {
 
     /// Comes to write, or refuses beside any holder. It makes one exchange.
     ///
-    /// Example: `held_readers_go_one_by_one`, `crates/spin_rwlock_tests/src/calls.rt`.
+    /// Example: the test `held_readers_go_one_by_one`.
     pub fn try_write<'a>(&'a self) -> Option<RwLockWriteGuard<'a, T, R>> {
         Some(RwLockWriteGuard::new(rule::write(&self.cell)?))
     }
@@ -156,7 +156,7 @@ impl<T, R: RelaxStrategy> RwLock<T, R> {
     /// Comes to read, and relaxes while it is refused, or for a moment where other parties were faster twice. Nothing is
     /// promised about when it returns.
     ///
-    /// Example: `guards_of_two_threads_read_one_lock`, `crates/spin_rwlock_tests/src/threads.rt`.
+    /// Example: the test `guards_of_two_threads_read_one_lock`.
     pub fn read<W: Wait>(&self, rt: &W) -> RwLockReadGuard<'_, T, R> {
         match self.lend_from(0) {
             Ok(guard) => guard,
@@ -174,7 +174,7 @@ impl<T, R: RelaxStrategy> RwLock<T, R> {
 
     /// Comes to write, and relaxes while it is refused. Nothing is promised about when it returns.
     ///
-    /// Example: `a_writer_goes_on_as_a_reader`, `crates/spin_rwlock_tests/src/calls.rt`.
+    /// Example: the test `a_writer_goes_on_as_a_reader`.
     pub fn write<W: Wait>(&self, rt: &W) -> RwLockWriteGuard<'_, T, R> {
         match self.try_write_weak() {
             Some(guard) => guard,

@@ -21,7 +21,7 @@ pub use self::rule::{TicketRule, View};
 
 /// A lock that gives one party at a time access to a value, in the order in which they came, and spins while it waits.
 ///
-/// Example: `six_threads_lose_no_addition`, `crates/spin_mutex_tests/src/threads.rt`.
+/// Example: the test `six_threads_lose_no_addition`.
 #[derive(Drop)]
 pub struct TicketMutex<T, R = Spin> {
     pub(crate) cell: Cell<T, View, TicketRule>,
@@ -45,7 +45,7 @@ struct Place<'a, T> {
 impl<T, R> TicketMutex<T, R> {
     /// An open lock.
     ///
-    /// Example: `a_lock_is_taken_once`, `crates/spin_mutex_tests/src/calls.rt`.
+    /// Example: the test `a_lock_is_taken_once`.
     pub fn new(value: T) -> Self {
         TicketMutex {
             cell: Cell::new(value, 0, 0, &()),
@@ -55,7 +55,7 @@ impl<T, R> TicketMutex<T, R> {
 
     /// The last value, whatever the words are.
     ///
-    /// Example: `the_owner_has_the_last_value_and_takes_no_lock`, `crates/spin_mutex_tests/src/calls.rt`.
+    /// Example: the test `the_owner_has_the_last_value_and_takes_no_lock`.
     pub fn into_inner(self) -> T {
         self.cell.into_inner()
     }
@@ -63,7 +63,7 @@ impl<T, R> TicketMutex<T, R> {
     /// Takes a ticket, and relaxes until its number is served. Once tickets are used up it waits for ever. Nothing is
     /// promised about when it returns.
     ///
-    /// Example: `a_lock_has_what_was_written`, `crates/spin_mutex_tests/src/values.rt`.
+    /// Example: the test `a_lock_has_what_was_written`.
     pub fn lock<W: Wait>(&self, rt: &W) -> TicketMutexGuard<'_, T, R>
     where
         R: RelaxStrategy,
@@ -82,7 +82,7 @@ impl<T, R> TicketMutex<T, R> {
     /// Takes the lock, or refuses where a ticket stands, or where tickets are used up. It makes one pass: at most two
     /// loads and one exchange.
     ///
-    /// Example: `a_lock_is_taken_once`, `crates/spin_mutex_tests/src/calls.rt`.
+    /// Example: the test `a_lock_is_taken_once`.
     pub fn try_lock<'a>(&'a self) -> Option<TicketMutexGuard<'a, T, R>>
         ensures { IfSome result (IsHolder use_of_view) }
     {
@@ -113,7 +113,7 @@ impl<T, R> TicketMutex<T, R> {
 
     /// The value, whatever the words are: nobody else has the lock.
     ///
-    /// Example: `the_owner_has_the_last_value_and_takes_no_lock`, `crates/spin_mutex_tests/src/calls.rt`.
+    /// Example: the test `the_owner_has_the_last_value_and_takes_no_lock`.
     pub fn get_mut(&mut self) -> &mut T {
         self.cell.get_mut()
     }

@@ -40,7 +40,7 @@ impl<'a, T, R> Starvation<'a, T, R> {
 
     /// Takes the lock, or refuses where somebody holds it. Where it refuses, the same starver stays registered.
     ///
-    /// Example: `a_refused_starver_stays_registered`, `crates/spin_mutex_tests/src/fair.rt`.
+    /// Example: the test `a_refused_starver_stays_registered`.
     pub fn try_lock(self) -> Result<FairMutexGuard<'a, T, R>, Starvation<'a, T, R>>
         ensures { IfOk result (IsHolder use_of_view) }
     {

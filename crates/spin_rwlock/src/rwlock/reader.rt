@@ -41,7 +41,7 @@ impl<'a, T, K: Kind, R> SharedGuard<'a, T, K, R> {
     /// The value for as long as the lock lives. The reader stays for good, so that nobody writes any more, and where it
     /// may upgrade nobody comes any more.
     ///
-    /// Example: `a_leaked_reader_stays`, `crates/spin_rwlock_tests/src/calls.rt`.
+    /// Example: the test `a_leaked_reader_stays`.
     pub fn leak(this: Self) -> &'a T
         ensures { Some result.now ≡ shared_value this.entry }
     {

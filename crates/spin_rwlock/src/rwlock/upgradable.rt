@@ -16,7 +16,7 @@ impl<'a, T, R> SharedGuard<'a, T, Upgrader, R> {
 
     /// Becomes the writer, or refuses beside another holder. It makes one exchange, and keeps the value either way.
     ///
-    /// Example: `an_upgradable_reader_beside_a_reader`, `crates/spin_rwlock_tests/src/calls.rt`.
+    /// Example: the test `an_upgradable_reader_beside_a_reader`.
     pub fn try_upgrade(self) -> Result<RwLockWriteGuard<'a, T, R>, Self>
         ensures granted { IfOk result (λ guard. Some (write_value guard) ≡ shared_value self.entry) }
         ensures refused { IfErr result (λ guard. shared_value guard ≡ shared_value self.entry) }
@@ -37,7 +37,7 @@ impl<'a, T, R> SharedGuard<'a, T, Upgrader, R> {
 
     /// Goes on as a reader, beside whom others may come again. It makes one step, and can't be refused.
     ///
-    /// Example: `an_upgradable_reader_goes_on_as_a_reader`, `crates/spin_rwlock_tests/src/calls.rt`.
+    /// Example: the test `an_upgradable_reader_goes_on_as_a_reader`.
     pub fn downgrade(self) -> RwLockReadGuard<'a, T, R>
         ensures { shared_value result ≡ shared_value self.entry }
     {
@@ -51,7 +51,7 @@ impl<'a, T, R: RelaxStrategy> SharedGuard<'a, T, Upgrader, R> {
     /// Becomes the writer, and relaxes while another holder stands. It never lets go in between: what it saw is what it
     /// finds. Nothing is promised about when it returns.
     ///
-    /// Example: `up_and_down_and_up_again`, `crates/spin_rwlock_tests/src/calls.rt`.
+    /// Example: the test `up_and_down_and_up_again`.
     pub fn upgrade<W: Wait>(self, rt: &W) -> RwLockWriteGuard<'a, T, R>
         ensures { Some (write_value result) ≡ shared_value self.entry }
     {

@@ -38,7 +38,7 @@ impl<'a, T, R> RwLockWriteGuard<'a, T, R> {
     /// Goes on as a reader, beside whom others may come. It makes one step, and can't be refused: no other writer comes
     /// in between.
     ///
-    /// Example: `a_writer_goes_on_as_a_reader`, `crates/spin_rwlock_tests/src/calls.rt`.
+    /// Example: the test `a_writer_goes_on_as_a_reader`.
     pub fn downgrade(self) -> RwLockReadGuard<'a, T, R>
         ensures { shared_value result ≡ Some (write_value self.entry) }
     {
@@ -47,7 +47,7 @@ impl<'a, T, R> RwLockWriteGuard<'a, T, R> {
 
     /// Goes on as the upgradable reader. It makes one step, and can't be refused: no other writer comes in between.
     ///
-    /// Example: `up_and_down_and_up_again`, `crates/spin_rwlock_tests/src/calls.rt`.
+    /// Example: the test `up_and_down_and_up_again`.
     pub fn downgrade_to_upgradeable(self) -> RwLockUpgradableGuard<'a, T, R>
         ensures { shared_value result ≡ Some (write_value self.entry) }
     {
@@ -56,7 +56,7 @@ impl<'a, T, R> RwLockWriteGuard<'a, T, R> {
 
     /// The value for as long as the lock lives. The lock stays taken.
     ///
-    /// Example: `a_leaked_upgradable_reader_and_a_leaked_writer_stay`, `crates/spin_rwlock_tests/src/calls.rt`.
+    /// Example: the test `a_leaked_upgradable_reader_and_a_leaked_writer_stay`.
     pub fn leak(this: Self) -> &'a mut T
         ensures { result.now ≡ write_value this.entry }
     {

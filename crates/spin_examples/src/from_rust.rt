@@ -1,0 +1,82 @@
+//! Forms that a program over the Rust crate has, as they are here.
+ghost use Rattle.std.specs.Prelude.{◌≤◌};
+ghost use Rattle.spin.specs.Lazy.{initialiser};
+
+use spin::mutex::spin::Held;
+use spin::mutex::{FairMutex, SpinMutex, SpinMutexGuard};
+use spin::{LazyLock, Mutex, Once, RwLock};
+use std::num::ParseIntError;
+use std::sync::Wait;
+use std::thread;
+use std::thread::Threads;
+
+/// Adds 1 to a total that lies with the caller.
+pub fn add_one<W: Wait>(rt: &W, total: &Mutex<u64>) {
+    let mut guard = total.lock(rt);
+    *guard = guard.wrapping_add(1);
+}
+
+/// The lock lies where the threads are started, and each of them is lent it.
+pub fn add_from_two<R: Threads + Wait + Sync>(rt: &R) -> u64 {
+    let total = Mutex::new(0);
+    let lent = &total;
+    thread::join(rt, || add_one(rt, lent), || add_one(rt, lent));
+    total.into_inner()
+}
+
+/// Takes the lock without a guard: the hold is a value, and frees nothing when it is dropped.
+pub fn take<'a, W: Wait>(rt: &W, lock: &'a SpinMutex<u64>) -> Held<'a, u64> {
+    SpinMutexGuard::hold(lock.lock(rt))
+}
+
+/// Frees the lock. It spends the hold, so nobody frees it twice.
+pub fn give_back(held: Held<'_, u64>) {
+    SpinMutex::force_unlock(held);
+}
+
+/// The value of a lazy lock, which its first caller makes.
+pub fn doubled<W: Wait, F: FnOnce() -> u64>(rt: &W, lazy: &LazyLock<u64, F>) -> u64
+    requires { F.pre (initialiser lazy.now) }
+{
+    LazyLock::force(lazy, rt).wrapping_mul(2)
+}
+
+/// Starves for the lock, or waits as a newcomer where no more may starve.
+pub fn add_starving<W: Wait>(rt: &W, total: &FairMutex<u64>) {
+    let mut guard = match total.starve(rt) {
+        Some(place) => place.lock(rt),
+        None => total.lock(rt),
+    };
+    *guard = guard.wrapping_add(1);
+}
+
+/// One thread takes the lock, another writes and lets go.
+pub fn set_elsewhere<R: Threads + Wait + Sync>(rt: &R, total: &Mutex<u64>, value: u64) {
+    let mut guard = total.lock(rt);
+    let write = move || {
+        *guard = value;
+    };
+    thread::join(rt, write, || ());
+}
+
+/// Raises a limit that is too low. Nobody writes between the look and the change, nor between that and the answer.
+pub fn raise<W: Wait>(rt: &W, limit: &RwLock<u64>, least: u64) -> u64
+    ensures { least ≤ result }
+{
+    let guard = limit.upgradeable_read(rt);
+    if least <= *guard {
+        return *guard;
+    }
+    let mut guard = guard.upgrade(rt);
+    *guard = least;
+    *guard.downgrade()
+}
+
+/// The port that the text names. A text that names none leaves no value, and another caller may try.
+pub fn port_of<'a, W: Wait>(
+    rt: &W,
+    port: &'a Once<u16>,
+    text: &str,
+) -> Result<&'a u16, ParseIntError> {
+    port.try_call_once(rt, || text.parse())
+}
