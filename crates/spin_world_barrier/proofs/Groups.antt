@@ -69,12 +69,8 @@ module _ (n : ℕ) where
   leads_at s p last (Some (Calling c Arrive h)) leading =
       let so = arrives_so s p (arrive n s.words) c h (leads n s.words) in
       (λ e. (refl, eqb-true last 0 (sym leading ∙ so.0 e)), λ both. so.1 (leading ∙ eq-eqb last 0 both.1))
-  leads_at s p last (Some (Calling c (Leave g) h)) leading = (λ e. absurd (leads_not s p g c h (is_past g s.words) e), λ both. absurd (false≢true both.0))
-  leads_at s p last None leading = (λ e. absurd (cc (e)), λ both. absurd (false≢true both.0))
-  leads_at s p last (Some Idle) leading = (λ e. absurd (cc (e)), λ both. absurd (false≢true both.0))
-  leads_at s p last (Some (Holding h)) leading = (λ e. absurd (cc (e)), λ both. absurd (false≢true both.0))
-  leads_at s p last (Some (Leaked h)) leading = (λ e. absurd (cc (e)), λ both. absurd (false≢true both.0))
-  leads_at s p last (Some (Gone h)) leading = (λ e. absurd (cc (e)), λ both. absurd (false≢true both.0))
+  leads_at s p last (Some (Calling c (Leave g) h)) leading = (λ e. absurd (leads_not s p g c h (is_past g s.words.generation) e), λ both. absurd (false≢true both.0))
+  leads_at s p last _ leading = (λ e. absurd (cc (e)), λ both. absurd (false≢true both.0))
 
   pub in_groups : (parties : ℕ) (past : Entries) → InGroups m n parties past
   in_groups parties past =
@@ -109,7 +105,7 @@ module _ (n : ℕ) where
       let waits = (in_call m (barrier_keeping n) seen p c (Leave g) None good there).knows.1 in
       let past = barrier_may_leave-tells seen.plain waits.number n w.count w.generation g is waits.come waits.found ∙ ap (may_leave seen.plain) (sym waits.is_number) in
       let step = ap (λ o. (moves_at m seen.state p Step o).outcome) there in
-      let so = looks_so seen.state p g c None (is_past g w) in
+      let so = looks_so seen.state p g c None (is_past g w.generation) in
       (λ e. sym past ∙ so.0 (sym step ∙ e), λ full. step ∙ so.1 (past ∙ full))
   leaves_at seen p c Arrive (Some h) good there has = absurd ((in_call m (barrier_keeping n) seen p c Arrive (Some h) good there).knows)
   leaves_at seen p c (Leave g) (Some h) good there has = absurd ((in_call m (barrier_keeping n) seen p c (Leave g) (Some h) good there).knows)

@@ -1,37 +1,37 @@
 -- What the barrier's table owes.
-use Rattle.std.proofs.Common.{◌≡◌, ℕ, ◌+◌, ◌/◌, ◌%◌, ◌^◌, ◌≤◌, ◌==◌, Bool, true, false, ◌&&◌, ◌||◌, is_some, Option, Some, None, List, [], ◌∷◌, if◌then◌else◌, refl, ap, sym, ◌∙◌, subst, arith, inl, inr}
+use Rattle.std.proofs.Common.{◌≡◌, ℕ, zero, suc, ◌+◌, ◌/◌, ◌%◌, ◌^◌, ◌≤◌, ◌==◌, Bool, true, false, ◌&&◌, ◌||◌, is_some, Option, Some, None, List, [], ◌∷◌, if◌then◌else◌, refl, ap, sym, ◌∙◌, subst, arith, inl, inr}
 use Rattle.std.specs.Prelude.{max}
-use Rattle.std.proofs.lemmas.Bool.{false≢true, ne_eqb}
+use Rattle.std.proofs.lemmas.Bool.{false≢true, true≢false, ne_eqb}
 use Rattle.std.proofs.Math.Bool.{or-false}
 use Rattle.std.proofs.Math.Nat.{mod-le, div-le_self}
-use Rattle.spin_step.specs.Plain.{Plain, Change, gets, releases, serves, stops_starving, turns, completes, fails, arrives, Ask, to_read, to_read_upgradable, to_write, to_upgrade, to_take_ticket, to_enter, to_take_and_enter, to_lock_unregistered, to_lock_starving, to_lock_starving_alone, to_starve, to_begin, apply, count_word, generation_word}
+use Rattle.spin_step.specs.Plain.{Plain, Change, gets, arrives, Ask, to_read, apply, count_word, generation_word}
 use Rattle.spin_step.specs.Parties.{apply_some}
 use Rattle.spin_step.specs.Barriers.{IsBarrier, is_leading, generation_at, may_leave}
 use Rattle.spin_step.proofs.Barriers.{barrier_arrive-words, barrier_count-below, barrier_may_leave-tells, barrier_may_leave-full}
 use Rattle.spin_world_core.specs.declared.answer.Answer.{Answer}
-use Rattle.spin_world_core.specs.declared.answer.Answer.TheVariants.{Follower}
+use Rattle.spin_world_core.specs.declared.answer.Answer.TheVariants.{Leader, Follower}
 use Rattle.spin_world_core.specs.declared.place.Hold.{Hold}
 use Rattle.spin_world_core.specs.declared.object.Next.TheVariants.{GoesOn, Answers}
 use Rattle.spin_world_barrier.specs.declared.barrier.BarrierWords.{BarrierWords}
 use Rattle.spin_world_barrier.specs.declared.barrier.BarrierCall.{BarrierCall}
 use Rattle.spin_world_barrier.specs.declared.barrier.BarrierPoint.{BarrierPoint}
 use Rattle.spin_world_barrier.specs.declared.barrier.BarrierPoint.TheVariants.{Arrive, Leave}
-use Rattle.spin_world_core.specs.Manners.{Manner}
+use Rattle.spin_world_core.specs.Manners.{Manner, plain}
 use Rattle.spin_world_core.specs.Calls.{barrier, BelongsTo, may_be_got, Mark, meets, follows, AnyOf, Arrives}
 use Rattle.spin_world_core.specs.Undisturbed.{arrived}
-use Rattle.spin_world_core.specs.Acts.{either}
+use Rattle.spin_world_core.specs.Acts.{either, begin_of}
 use Rattle.spin_world_core.specs.Runs.{mark_of}
 use Rattle.spin_world_core.specs.Users.{passes}
 use Rattle.spin_step.specs.Steps.{bit}
 use Rattle.spin_world_barrier.specs.Groups.{is_arrival}
-use Rattle.spin_world_barrier.specs.Barrier.{begins_at, is_past, act_of, barrier_table, barrier_machine}
+use Rattle.spin_world_barrier.specs.Barrier.{is_past, leads, barrier_memory, act_of, barrier_table, barrier_machine}
 use Rattle.spin_world_core.proofs.Lists.{eqb_self}
 use Rattle.spin_world_core.proofs.Facts.{LocalInvariant, Facts}
 use Rattle.spin_world_core.proofs.Stands.{absent}
-use Rattle.spin_world_core.proofs.Rows.{Point, nowhere, looked, onward, SoundAt}
-use Rattle.spin_world_core.proofs.Shapes.{Notes, keeping_of, OwesAt, goes_by, answers_by, OwesSoon, BeginsAt, makes_own, Pays}
-use Rattle.spin_world_core.proofs.Usual.{two, no_holders}
-use Rattle.spin_world_core.proofs.Operating.{BeginsWhereItFits, never_strongly, Refuses}
+use Rattle.spin_world_core.proofs.Rows.{goes, Point, nowhere, looked, onward, SoundAt}
+use Rattle.spin_world_core.proofs.Shapes.{Notes, keeping_of, OwesAt, goes_by, answers_by, OwesSoon, BeginsAt, Pays}
+use Rattle.spin_world_core.proofs.Usual.{two, no_holders, branches}
+use Rattle.spin_world_core.proofs.Operating.{fits_act, IsPlace, operates_by}
 use Rattle.spin_world_core.proofs.Paid.{facts_of}
 
 abbrev pub point_of : BarrierPoint → Option Hold → Point
@@ -64,28 +64,13 @@ barrier_notes n = record { Shape = λ s. IsOf n s; point = λ c l h. point_of l 
 
 got_none : (ask : Ask) → may_be_got barrier ask ≡ false
 got_none to_read = refl
-got_none to_read_upgradable = refl
-got_none to_write = refl
-got_none to_upgrade = refl
-got_none to_take_ticket = refl
-got_none to_enter = refl
-got_none to_take_and_enter = refl
-got_none to_lock_unregistered = refl
-got_none to_lock_starving = refl
-got_none to_lock_starving_alone = refl
-got_none to_starve = refl
-got_none to_begin = refl
+got_none _ = refl
 
 by_arrival : (P : Option Change → Type 0) → P None → ((p : ℕ) → P (Some (arrives p))) → (step : Option Change) → BelongsTo barrier step → P step
 by_arrival P none one None belongs = none
 by_arrival P none one (Some (gets p ask)) belongs = absurd (false≢true (sym (got_none ask) ∙ belongs))
-by_arrival P none one (Some (releases p k)) belongs = absurd (false≢true belongs)
-by_arrival P none one (Some (serves p)) belongs = absurd (false≢true belongs)
-by_arrival P none one (Some (stops_starving p)) belongs = absurd (false≢true belongs)
-by_arrival P none one (Some (turns p k l)) belongs = absurd (false≢true belongs)
-by_arrival P none one (Some (completes p)) belongs = absurd (false≢true belongs)
-by_arrival P none one (Some (fails p)) belongs = absurd (false≢true belongs)
 by_arrival P none one (Some (arrives p)) belongs = one p
+by_arrival P none one (Some _) belongs = absurd (false≢true belongs)
 
 -- another step leaves the group's size, and does not lower the arrivals
 record Rises (s t : Plain) : Type 0 where
@@ -116,6 +101,11 @@ no_arrival : (b : Bool) → (b && false) ≡ false
 no_arrival true = refl
 no_arrival false = refl
 
+places : (i : ℕ) → IsPlace barrier_memory i
+places zero = record { stays = λ w. refl; put = λ k w. refl }
+places (suc zero) = record { stays = λ w. refl; put = λ k w. refl }
+places (suc (suc i)) = record { stays = λ w. refl; put = λ k w. refl }
+
 module _ (n : ℕ) where
   pub is_barrier : (s : Plain) (w : BarrierWords) → w.count ∷ w.generation ∷ [] ≡ count_word s ∷ generation_word s ∷ [] → IsOf n s → IsBarrier s n w.count w.generation
   is_barrier s w encodes of = record { group = of.group; counts = cc (encodes); generations = cc (encodes) }
@@ -144,8 +134,9 @@ module _ (n : ℕ) where
       let after = barrier_arrive-words s n w.count w.generation is in (
         barrier_count-below s n w.count w.generation is,
         ((refl, refl), two _ _ _ _ (sym after.words.counts) (sym after.words.generations), record { no_holders = at.shape.no_holders; group = at.shape.group }),
-        (λ full. (refl, inl refl, inl (s.arrivals + 1, (refl, refl, refl), sym after.leads ∙ full))),
-        (λ behind. (refl, refl, tt, tt, waits_from p s _ span w.generation is.generations (sym after.leads ∙ behind) (after.stays behind))),
+        branches p at (Some (arrives p)) plain goes (leads n w) (Answers Leader None) (GoesOn (Leave w.generation)) (λ full. (refl, inl refl, inl (s.arrivals + 1, (refl, refl, refl), sym after.leads ∙ full)))
+            (λ behind. (refl, refl, tt, tt, waits_from p s _ span w.generation is.generations (sym after.leads ∙ behind) (after.stays behind))),
+        (λ closed. absurd (true≢false closed)),
       )
   owes p c (Leave g) None s w span = λ at.
       let is = is_barrier s w at.encodes at.shape in
@@ -162,25 +153,17 @@ module _ (n : ℕ) where
       let is = is_barrier s w at.encodes at.shape in
       let waits = at.knows in
       let leaves : may_leave s waits.number ≡ true = sym (or-false (may_leave s waits.number)) ∙ (ap (λ b. may_leave s waits.number || b) (sym waits.follows) ∙ subst (λ k. (may_leave s k || is_leading s k) ≡ true) waits.is_number may) in
-      let past : is_past g w ≡ true = barrier_may_leave-tells s waits.number n w.count w.generation g is waits.come waits.found ∙ leaves in
+      let past : is_past g w.generation ≡ true = barrier_may_leave-tells s waits.number n w.count w.generation g is waits.come waits.found ∙ leaves in
       ap (λ b. goes_by {A = Answer ℕ} (either b (Answers Follower None) (GoesOn (Leave g))) true (λ l. answers_by (barrier_table n) 3 w c l None)) past
   soon p _ _ (Some h) s w span = tt
 
-  begins : (p : ℕ) (c : BarrierCall) (h : Option Hold) (s : Plain) → BeginsAt (barrier_table n) (barrier_notes n) c h p s (begins_at h)
+  begins : (p : ℕ) (c : BarrierCall) (h : Option Hold) (s : Plain) → BeginsAt (barrier_table n) (barrier_notes n) c h p s (begin_of (barrier_table n) c h)
   begins p c None s = (refl, refl, tt, tt)
   begins p c (Some h) s = tt
 
-  makes : (p : ℕ) (l : BarrierPoint) (h : Option Hold) → makes_own barrier (act_of n l h) p ≡ true
-  makes p Arrive h = refl
-  makes p (Leave g) h = refl
-
-  refuses : Refuses (barrier_table n)
-  refuses c Arrive h next is = absurd (cc (is))
-  refuses c _ h next is = absurd (cc (is))
-
-  fits_idle : BeginsWhereItFits (barrier_table n)
-  fits_idle c None = refl
-  fits_idle c (Some h) = refl
+  fits_all : (p : ℕ) (l : BarrierPoint) (h : Option Hold) → fits_act barrier meets (act_of n l h) p ≡ true
+  fits_all p Arrive h = refl
+  fits_all p (Leave g) h = refl
 
   sound : (p : ℕ) (l : BarrierPoint) (h : Option Hold) → SoundAt barrier meets p (point_of l h)
   sound p Arrive None = refl
@@ -194,16 +177,12 @@ module _ (n : ℕ) where
   pub barrier_pays : Pays (barrier_table n) (barrier_notes n)
   barrier_pays =
       record {
-        fits = fits_idle;
-        weakly = λ p c l h. never_strongly meets (act_of n l h) p refl;
-        refuses = refuses;
-        operates = λ c l h. tt;
+        fits = λ p c l h. fits_all p l h;
+        operates = operates_by (barrier_table n) places;
         first = two 0 0 (0 % max n 1) ((0 / max n 1) % 2 ^ 64) (omega (arith, mod-le 0 (max n 1))) (omega (arith, div-le_self 0 (max n 1)));
         shape_first = record { no_holders = refl; group = refl };
         numbers_tell = two_words;
-        no_value = refl;
         one_list = λ s of. no_holders s of.no_holders;
-        makes = λ p c l h. makes p l h;
         sound = λ p c l h. sound p l h;
         begins = begins;
         others = λ p q c l h s step r span ne of may belongs knows. others p q l s step r span ne belongs knows;
@@ -215,4 +194,4 @@ abbrev pub barrier_keeping : (n : ℕ) → LocalInvariant ℕ BarrierCall Barrie
 barrier_keeping n = keeping_of (barrier_table n) (barrier_notes n)
 
 pub barrier_facts : (n : ℕ) → Facts (barrier_machine n) (barrier_keeping n)
-barrier_facts n = facts_of (barrier_table n) (barrier_notes n) (barrier_pays n)
+barrier_facts n = facts_of (barrier_table n) (barrier_notes n) (barrier_pays n) refl

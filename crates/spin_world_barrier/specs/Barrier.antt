@@ -1,5 +1,5 @@
 -- The barrier's call, step by step, and how it reads on the plain lock.
-use Rattle.std.specs.Prelude.{ℕ, Bool, false, not, Option, Some, None, [], ◌∷◌, ◌==◌, nat_lt, max}
+use Rattle.std.specs.Prelude.{ℕ, Bool, false, not, Option, Some, None, ◌==◌, nat_lt, max}
 use Rattle.spin_step.specs.Plain.{arrives}
 use Rattle.spin_step.specs.Barriers.{arrived}
 use Rattle.spin_world_core.specs.declared.place.Hold.{Hold}
@@ -12,11 +12,7 @@ use Rattle.spin_world_barrier.specs.declared.barrier.BarrierPoint.{BarrierPoint}
 use Rattle.spin_world_barrier.specs.declared.barrier.BarrierPoint.TheVariants.{Arrive, Leave}
 use Rattle.spin_world_core.specs.Calls.{barrier, meets, says_of}
 use Rattle.spin_world_core.specs.Machines.{Machine}
-use Rattle.spin_world_core.specs.Acts.{Act, load_if, store_if, Table, machine_of}
-
-abbrev pub begins_at : Option Hold → Option BarrierPoint
-begins_at None = Some Arrive
-begins_at (Some h) = None
+use Rattle.spin_world_core.specs.Acts.{Memory, two_numbers, Act, load_if, section, either, Table, machine_of}
 
 -- the words after one more arrival at a barrier whose groups have n, and whether that one leads
 abbrev pub arrive : ℕ → BarrierWords → BarrierWords
@@ -30,12 +26,21 @@ abbrev pub is_below : ℕ → BarrierWords → Bool
 is_below n w = nat_lt w.count (max n 1)
 
 -- another generation is found than this one
-abbrev pub is_past : ℕ → BarrierWords → Bool
-is_past g w = not (w.generation == g)
+abbrev pub is_past : ℕ → ℕ → Bool
+is_past g generation = not (generation == g)
 
+-- its two words: how many have arrived, and the generation
+abbrev pub barrier_memory : Memory BarrierWords
+barrier_memory = two_numbers (λ w. w.count) (λ w. w.generation) (λ k w. record w { count = k }) (λ k w. record w { generation = k })
+
+abbrev pub word_of : BarrierPoint → ℕ
+word_of Arrive = 0
+word_of (Leave g) = 1
+
+-- no arrival is refused
 abbrev pub act_of : ℕ → BarrierPoint → Option Hold → Act BarrierWords BarrierPoint (Answer ℕ)
-act_of n Arrive h = store_if (is_below n) (arrive n) (λ p. arrives p) (leads n) (Answers Leader h) (λ w. GoesOn (Leave w.generation))
-act_of n (Leave g) h = load_if (is_past g) (λ w. Answers Follower h) (λ w. GoesOn (Leave g))
+act_of n Arrive h = section (is_below n) (λ w. Some (arrive n w)) (λ p. arrives p) (λ w. either (leads n w) (Answers Leader h) (GoesOn (Leave w.generation))) (λ w. GoesOn Arrive)
+act_of n (Leave g) h = load_if (is_past g) (λ k. Answers Follower h) (λ k. GoesOn (Leave g))
 
 abbrev pub BarrierMachine : Type 0
 BarrierMachine = Machine BarrierWords ℕ BarrierCall BarrierPoint (Answer ℕ)
@@ -50,9 +55,9 @@ barrier_table n =
       cap = 0;
       group = n;
       first = 0;
-      number = λ w. w.count;
-      others = λ w. w.generation ∷ [];
-      begin = λ c h. begins_at h;
+      memory = barrier_memory;
+      start = λ c h. Arrive;
+      word = word_of;
       act = λ c l h. act_of n l h;
       asks = λ c h. meets;
       says = says_of;

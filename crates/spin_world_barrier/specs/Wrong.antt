@@ -53,7 +53,7 @@ nobody_leads = record pairs { step = follower_step }
 -- whoever fills its group goes on once the next one is full
 abbrev late_step : Steps
 late_step w value c Arrive h = record { words = arrive 1 w; placed = None; next = GoesOn (Leave (arrive 1 w).generation) }
-late_step w value c (Leave g) h = record { words = w; placed = None; next = either (is_past g w) (Answers Leader h) (GoesOn (Leave g)) }
+late_step w value c (Leave g) h = record { words = w; placed = None; next = either (is_past g w.generation) (Answers Leader h) (GoesOn (Leave g)) }
 
 abbrev pub leads_late : BarrierMachine
 leads_late = record ones { step = late_step }
@@ -69,7 +69,7 @@ told_late = record ones { step = told_step }
 -- whoever follows goes on only where nobody has come for the next group
 abbrev quiet_step : Steps
 quiet_step w value c Arrive h = pairs.step w value c Arrive h
-quiet_step w value c (Leave g) h = record { words = w; placed = None; next = either (is_past g w && (w.count == 0)) (Answers Follower h) (GoesOn (Leave g)) }
+quiet_step w value c (Leave g) h = record { words = w; placed = None; next = either (is_past g w.generation && (w.count == 0)) (Answers Follower h) (GoesOn (Leave g)) }
 
 abbrev pub leaves_in_quiet : BarrierMachine
 leaves_in_quiet = record pairs { step = quiet_step }

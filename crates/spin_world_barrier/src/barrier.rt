@@ -1,6 +1,6 @@
 ghost use Rattle.std.specs.Prelude.{◌≡◌, true};
 ghost use Rattle.spin_world_core.specs.Acts.{stays, step_by, can_by};
-ghost use Rattle.spin_world_barrier.specs.Barrier.{act_of, barrier_machine};
+ghost use Rattle.spin_world_barrier.specs.Barrier.{barrier_memory, word_of, act_of, barrier_machine};
 
 use spin_step::barrier;
 use spin_step::barrier::State;
@@ -116,8 +116,8 @@ impl Object for BarrierObject {
         local: BarrierPoint,
         holds: Option<Hold>,
     ) -> Stepped<BarrierWords, u64, BarrierPoint, Answer<u64>>
-        requires { can_by (act_of self.now.n local holds) words ≡ true }
-        ensures { result ≡ step_by (λ w. w.count) (act_of self.now.n local holds) words }
+        requires { can_by barrier_memory (word_of local) (act_of self.now.n local holds) words ≡ true }
+        ensures { result ≡ step_by barrier_memory (word_of local) (act_of self.now.n local holds) words }
     {
         let _ = (value, call);
         let BarrierWords { count, generation } = words;

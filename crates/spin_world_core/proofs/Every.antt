@@ -35,8 +35,7 @@ leaves old new put _ is = is
 counts : {W V C L A : Type 0} (m : Machine W V C L A) (s : State W V C L) (p : ℕ) (c : C) (l : L) (h : Option Hold) (plain : Plain) (next : Next L A) (step : Option Change) (r : Manner)
     → GoesOnCounted (λ u. m.change p u c l h) plain next step r → IsCounted m p (goes_on s p c h next).outcome Step (Some (Calling c l h)) step r plain
 counts m s p c l h plain (GoesOn l') None r counted = counted
-counts m s p c l h plain (GoesOn l') (Some d) r counted = tt
-counts m s p c l h plain (Answers a after) step r counted = tt
+counts m s p c l h plain _ _ r counted = tt
 
 -- a weak refusal is no exchange that fails
 uncounted : {W V C L A : Type 0} (m : Machine W V C L A) (s : State W V C L) (p : ℕ) (c : C) (l : L) (h : Option Hold) (plain : Plain) (next : Next L A) → IsCounted m p (goes_on s p c h next).outcome Weak (Some (Calling c l h)) None manner.weak plain
@@ -123,19 +122,16 @@ can_after m k f seen [] good = λ p c l h there. f.can p c l h seen.plain seen.s
 can_after m k f seen (e ∷ es) good = can_after m k f (scene m seen e.0 e.1).after es (kept m k f seen e.0 e.1 good).good
 
 pub none_stand : (C L : Type 0) (s : Plain) (n i q : ℕ) → entries q s ≡ no_entries → StandsFor {C = C} {L = L} s q [] (slice_get (replicate n Idle) i)
-none_stand C L s zero i q e = e
-none_stand C L s (suc n) zero q e = e
 none_stand C L s (suc n) (suc i) q e = none_stand C L s n i q e
+none_stand C L s _ _ q e = e
 
 none_know : {V C L : Type 0} (k : LocalInvariant V C L) (s : Plain) (n i q : ℕ) → KnowsAt k s q [] (slice_get (replicate n Idle) i)
-none_know k s zero i q = tt
-none_know k s (suc n) zero q = tt
 none_know k s (suc n) (suc i) q = none_know k s n i q
+none_know k s _ _ q = tt
 
 none_run : {W V C L A : Type 0} (m : Machine W V C L A) (n i q : ℕ) → RunsOn m m.words q [] (slice_get (replicate n Idle) i)
-none_run m zero i q = tt
-none_run m (suc n) zero q = tt
 none_run m (suc n) (suc i) q = none_run m n i q
+none_run m _ _ q = tt
 
 pub good_first : {W V C L A : Type 0} (m : Machine W V C L A) (k : LocalInvariant V C L) (f : Facts m k) (n : ℕ) → Invariant m k (opening m n)
 good_first {C = C} {L = L} m k f n =

@@ -1,7 +1,7 @@
 -- An object whose closures make its value: what its table owes, and that it then shows all local facts.
-use Rattle.std.proofs.Common.{◌≡◌, ℕ, zero, suc, ◌==◌, Bool, true, false, ◌||◌, is_some, Option, Some, None, List, ◌∷◌, refl, ap, sym, ◌∙◌, subst}
+use Rattle.std.proofs.Common.{◌≡◌, ℕ, zero, suc, Bool, true, false, is_some, Option, Some, None, List, [], ◌∷◌, refl, ap, sym, ◌∙◌, subst}
 use Rattle.std.proofs.lemmas.Bool.{true≢false, false≢true}
-use Rattle.spin_step.specs.Plain.{Plain, Phase, nothing, running, complete, Ask, to_read, to_begin, Change, gets, releases, serves, stops_starving, turns, completes, fails, arrives, apply, is_open, is_nothing, is_running, is_complete, is_empty}
+use Rattle.spin_step.specs.Plain.{Plain, Phase, nothing, running, complete, Ask, to_read, to_begin, Change, gets, completes, fails, apply, is_open, is_nothing, is_running, is_complete}
 use Rattle.spin_step.specs.Parties.{apply_some, IsOpenStep, entries, is_held}
 use Rattle.spin_world_core.specs.declared.answer.Answer.{Answer}
 use Rattle.spin_world_core.specs.declared.answer.Answer.TheVariants.{Granted, Refused, Locked, Starved, Done, Is, Count, Value, NoValue, Failed, Leader, Follower}
@@ -15,27 +15,22 @@ use Rattle.spin_world_core.specs.Calls.{Coding, once, encoded, BelongsTo, own_st
 use Rattle.spin_world_core.specs.Machines.{Machine, opening_phase, opening_plain}
 use Rattle.spin_world_core.specs.Schedules.{placed}
 use Rattle.spin_world_core.specs.Runs.{mark_of, if_completed, is_writer, own}
-use Rattle.spin_world_core.specs.Acts.{Act, load, load_if, load_for, enter, exchange, weak_exchange, attempt, retry, store, store_if, step_by, passing, made_where, change_by, is_completion, manner_by, Table, machine_of, completes_by, brought, with_value, filled, gives_of, machine_with}
+use Rattle.spin_world_core.specs.Acts.{Memory, Act, store, step_by, change_at, change_by, makes_by, is_completion, manner_by, Table, machine_of, completes_by, brought, with_value, filled, gives_of, machine_with}
 use Rattle.spin_world_core.specs.Values.{HasPhase, Gives}
 use Rattle.spin_world_core.specs.Undisturbed.{steps_alone}
 use Rattle.spin_world_core.proofs.Facts.{LocalInvariant, AnswersWithin, InCall, NextIs, NextGives, StepIs, Facts}
-use Rattle.spin_world_core.proofs.Rows.{SoundAt, IsSound, sound_at}
-use Rattle.spin_world_core.proofs.Operating.{BeginsWhereItFits, OperatesAt, counted_filled, stepwise_with}
-use Rattle.spin_world_core.proofs.Shapes.{Notes, row_of, KnowsRow, keeping_of, AtRow, OwesAt, goes_by, answers_by, OwesSoon, BeginsAt}
-use Rattle.spin_world_core.proofs.Paid.{uncompleted, MakesStep, Went, here_at, steps_at, counted_at, can_at, soon_at, others_at, begins_at}
+use Rattle.spin_world_core.proofs.Operating.{change_is, counted_filled, stepwise_with}
+use Rattle.spin_world_core.proofs.Shapes.{Notes, row_of, KnowsRow, keeping_of, goes_by, answers_by, Pays}
+use Rattle.spin_world_core.proofs.Paid.{uncompleted, Went, went_here, can_here, counted_here, soon_here, others_here, begins_here}
+
+abbrev is_end : Option Change → Bool
+is_end None = false
+is_end (Some c) = is_completion c
 
 -- only a store completes a closure, whoever the party is, and only one whose call brings this value
 abbrev pub CompletesRight : {W V L A : Type 0} → Act W L A → ℕ → Option V → Type 0
-CompletesRight (load next) p value = Unit {0}
-CompletesRight (load_if test a b) p value = Unit {0}
-CompletesRight (load_for f step found missed) p value = Unit {0}
-CompletesRight (store can f step next) p value = (is_completion (step p) ≡ is_completion (step 0)) × (is_completion (step p) ≡ true → is_some value ≡ true)
-CompletesRight (enter test step won lost) p value = is_completion (step p) ≡ false
-CompletesRight (exchange f step won lost) p value = is_completion (step p) ≡ false
-CompletesRight (weak_exchange f step won lost) p value = is_completion (step p) ≡ false
-CompletesRight (attempt f step won lost) p value = is_completion (step p) ≡ false
-CompletesRight (retry k f step won found missed) p value = is_completion (step p) ≡ false
-CompletesRight (store_if can f step test a b) p value = is_completion (step p) ≡ false
+CompletesRight (store can operation step next) p value = (is_completion (step p) ≡ is_completion (step 0)) × (is_completion (step p) ≡ true → is_some value ≡ true)
+CompletesRight act p value = is_end (makes_by act p) ≡ false
 
 -- an answer that gives a value is given where there is one
 abbrev pub TellsSo : Phase → Answer (Unit {0}) → Type 0
@@ -46,32 +41,20 @@ abbrev pub TellsOf : {L : Type 0} → Phase → Next L (Answer (Unit {0})) → T
 TellsOf phase (GoesOn l) = Unit {0}
 TellsOf phase (Answers a after) = TellsSo phase a
 
-abbrev pub TellsBy : {W L : Type 0} (V : Type 0) → (W → ℕ) → Act W L (Answer (Unit {0})) → ℕ → Plain → W → Type 0
-TellsBy V number act p s w = TellsOf (apply_some s (change_by number act p w)).phase (step_by {V = V} number act w).next
+abbrev pub TellsBy : {W L : Type 0} (V : Type 0) → Memory W → ℕ → Act W L (Answer (Unit {0})) → ℕ → Plain → W → Type 0
+TellsBy V m i act p s w = TellsOf (apply_some s (change_by m i act p w)).phase (step_by {V = V} m i act w).next
 
 -- what an object shows of its table
 pub record PaysWith {W V C L : Type 0} (t : Table W V C L (Answer (Unit {0}))) (n : Notes t) (brings : C → Option V) : Type 0 where
-  pub fits : BeginsWhereItFits t
+  pub pays : Pays t n
   pub strong : (c : C) (h : Option Hold) → may_be_weak (t.asks c h) ≡ false
-  pub operates : (c : C) (l : L) (h : Option Hold) → OperatesAt t.coding t c l h
   pub says : (a : Answer (Unit {0})) → t.says a ≡ says_of a
-  pub first : t.number t.words ∷ t.others t.words ≡ encoded t.coding (opening_plain (machine_with t brings))
-  pub shape_first : n.Shape (opening_plain (machine_with t brings))
   pub phase_first : is_complete (opening_phase t.coding t.value) ≡ is_some t.value
-  pub numbers_tell : (v w : W) → t.number v ∷ t.others v ≡ t.number w ∷ t.others w → v ≡ w
   -- nobody holds it
-  pub one_list : (s : Plain) → n.Shape s → (is_empty s.holders || is_empty s.tickets) ≡ true
   pub none_writes : (s : Plain) (p : ℕ) → n.Shape s → is_writer (entries p s) ≡ false
   pub none_holds : (s : Plain) → n.Shape s → is_held s ≡ false
-  pub makes : (p : ℕ) (c : C) (l : L) (h : Option Hold) → MakesStep t.coding (t.act c l h) p
   pub completes_right : (p : ℕ) (c : C) (l : L) (h : Option Hold) → CompletesRight (t.act c l h) p (brings c)
-  pub sound : (p : ℕ) (c : C) (l : L) (h : Option Hold) → SoundAt t.coding (t.asks c h) p (n.point c l h)
-  pub begins : (p : ℕ) (c : C) (h : Option Hold) (s : Plain) → BeginsAt t n c h p s (t.begin c h)
-  pub others : (p q : ℕ) (c : C) (l : L) (h : Option Hold) (s : Plain) (step : Option Change) (r : Manner) (span : List Mark) → (q ≡ p → ⊥) → n.Shape s → IsOpenStep s q step → BelongsTo t.coding step
-      → n.Knows c l h p s span → n.Knows c l h p (apply_some s step) (mark_of q step r s ∷ span)
-  pub owes : (p : ℕ) (c : C) (l : L) (h : Option Hold) (s : Plain) (w : W) (span : List Mark) → OwesAt t n p c l h s w span
-  pub tells : (p : ℕ) (c : C) (l : L) (h : Option Hold) (s : Plain) (w : W) → t.number w ∷ t.others w ≡ encoded t.coding s → TellsBy V t.number (t.act c l h) p s w
-  pub soon : (p : ℕ) (c : C) (l : L) (h : Option Hold) (s : Plain) (w : W) (span : List Mark) → OwesSoon t n p c l h s w span
+  pub tells : (p : ℕ) (c : C) (l : L) (h : Option Hold) (s : Plain) (w : W) → t.memory.numbers w ≡ encoded t.coding s → TellsBy V t.memory (t.word l) (t.act c l h) p s w
 
 -- Phases and values
 
@@ -81,30 +64,22 @@ has_phase _ phase v e = tt
 
 nothing_incomplete : (phase : Phase) → is_nothing phase ≡ true → is_complete phase ≡ false
 nothing_incomplete nothing e = refl
-nothing_incomplete (running p) e = absurd (false≢true e)
-nothing_incomplete complete e = absurd (false≢true e)
+nothing_incomplete _ e = absurd (false≢true e)
 
 running_incomplete : (p : ℕ) (phase : Phase) → is_running p phase ≡ true → is_complete phase ≡ false
-running_incomplete p nothing e = absurd (false≢true e)
 running_incomplete p (running q) e = refl
-running_incomplete p complete e = absurd (false≢true e)
+running_incomplete p _ e = absurd (false≢true e)
 
 phase-got : (s : Plain) (p : ℕ) (ask : Ask) (b : Bool) → is_open s (gets p ask) ≡ true → is_complete s.phase ≡ b → is_complete (apply s (gets p ask)).phase ≡ b
 phase-got s p to_begin b may e = sym (nothing_incomplete s.phase may) ∙ e
-phase-got s p to_read b may e = e
 phase-got s p _ b may e = e
 
 -- no other step than a closure's end changes whether there is a value
 phase-kept : (s : Plain) (p : ℕ) (step : Option Change) (b : Bool) → ((q : ℕ) → step ≡ Some (completes q) → ⊥) → IsOpenStep s p step → is_complete s.phase ≡ b → is_complete (apply_some s step).phase ≡ b
-phase-kept s p None b not may e = e
 phase-kept s p (Some (gets q ask)) b not may e = phase-got s q ask b may.1 e
-phase-kept s p (Some (releases q k)) b not may e = e
-phase-kept s p (Some (serves q)) b not may e = e
-phase-kept s p (Some (stops_starving q)) b not may e = e
-phase-kept s p (Some (turns q k l)) b not may e = e
 phase-kept s p (Some (completes q)) b not may e = absurd (not q refl)
 phase-kept s p (Some (fails q)) b not may e = sym (running_incomplete q s.phase may.1) ∙ e
-phase-kept s p (Some (arrives q)) b not may e = e
+phase-kept s p _ b not may e = e
 
 -- what a step puts in the value's place agrees with its plain step
 record Puts {V : Type 0} (s : Plain) (v value put : Option V) (step : Option Change) : Type 0 where
@@ -115,10 +90,8 @@ record Puts {V : Type 0} (s : Plain) (v value put : Option V) (step : Option Cha
 puts_none : {V : Type 0} (s : Plain) (p : ℕ) (v value : Option V) (step : Option Change) → ((q : ℕ) → step ≡ Some (completes q) → ⊥) → IsOpenStep s p step → is_complete s.phase ≡ is_some v → Puts s v value None step
 puts_none s p v value step not may e = record { phase = phase-kept s p step (is_some v) not may e; places = uncompleted v None step not; brings = λ q is. absurd (not q is) }
 
-completes_not : {W : Type 0} (b : Bool) (o : Option W) (d : Change) (q : ℕ) → is_completion d ≡ false → made_where b o d ≡ Some (completes q) → ⊥
-completes_not true (Some to) d q not e = let is : d ≡ completes q = cc (e) in true≢false (ap is_completion (sym is) ∙ not)
-completes_not true None d q not e = cc (e)
-completes_not false o d q not e = cc (e)
+is_no_end : (o : Option Change) (q : ℕ) → is_end o ≡ false → o ≡ Some (completes q) → ⊥
+is_no_end o q none is = true≢false (ap is_end (sym is) ∙ none)
 
 puts_some : {V : Type 0} (s : Plain) (p q : ℕ) (v value : Option V) → is_some value ≡ true → Puts s v value value (Some (completes q))
 puts_some s p q v None some = absurd (false≢true some)
@@ -127,59 +100,23 @@ puts_some s p q v (Some x) some = record { phase = refl; places = refl; brings =
 puts_stored : {V : Type 0} (s : Plain) (p : ℕ) (v value : Option V) (b : Bool) (d : Change) → is_completion d ≡ b → (is_completion d ≡ true → is_some value ≡ true) → IsOpenStep s p (Some d) → is_complete s.phase ≡ is_some v
     → Puts s v value (brought b value) (Some d)
 puts_stored s p v value true (completes q) is some may e = puts_some s p q v value (some refl)
-puts_stored s p v value true (gets q ask) is some may e = absurd (false≢true is)
-puts_stored s p v value true (releases q k) is some may e = absurd (false≢true is)
-puts_stored s p v value true (serves q) is some may e = absurd (false≢true is)
-puts_stored s p v value true (stops_starving q) is some may e = absurd (false≢true is)
-puts_stored s p v value true (turns q k l) is some may e = absurd (false≢true is)
-puts_stored s p v value true (fails q) is some may e = absurd (false≢true is)
-puts_stored s p v value true (arrives q) is some may e = absurd (false≢true is)
-puts_stored s p v value false d is some may e = puts_none s p v value (Some d) (λ q same. completes_not {W = ℕ} true (Some 0) d q is same) may e
+puts_stored s p v value true _ is some may e = absurd (false≢true is)
+puts_stored s p v value false d is some may e = puts_none s p v value (Some d) (λ q same. is_no_end (Some d) q is same) may e
 
-puts_by : {W V L A : Type 0} (number : W → ℕ) (act : Act W L A) (s : Plain) (p : ℕ) (v value : Option V) (w : W) → CompletesRight act p value → IsOpenStep s p (change_by number act p w) → is_complete s.phase ≡ is_some v
-    → Puts s v value (brought (completes_by act) value) (change_by number act p w)
-puts_by number (store can f step next) s p v value w right may e = puts_stored s p v value (is_completion (step 0)) (step p) right.0 right.1 may e
-puts_by number (load next) s p v value w right may e = puts_none s p v value None (λ q is. cc (is)) may e
-puts_by number (load_if test a b) s p v value w right may e = puts_none s p v value None (λ q is. cc (is)) may e
-puts_by number (load_for f step found missed) s p v value w right may e = puts_none s p v value None (λ q is. cc (is)) may e
-puts_by number (enter test step won lost) s p v value w right may e = puts_none s p v value _ (λ q is. completes_not true (passing (test w) w) (step p) q right is) may e
-puts_by number (exchange f step won lost) s p v value w right may e = puts_none s p v value _ (λ q is. completes_not true (f w) (step p) q right is) may e
-puts_by number (weak_exchange f step won lost) s p v value w right may e = puts_none s p v value _ (λ q is. completes_not true (f w) (step p) q right is) may e
-puts_by number (attempt f step won lost) s p v value w right may e = puts_none s p v value _ (λ q is. completes_not true (f w) (step p) q right is) may e
-puts_by number (retry k f step won found missed) s p v value w right may e = puts_none s p v value _ (λ q is. completes_not (number w == k) (f w) (step p) q right is) may e
-puts_by number (store_if can f step test a b) s p v value w right may e = puts_none s p v value _ (λ q is. completes_not true (Some w) (step p) q right is) may e
+puts_by : {W V L A : Type 0} (n : ℕ) (act : Act W L A) (s : Plain) (p : ℕ) (v value : Option V) (w : W) → CompletesRight act p value → IsOpenStep s p (change_at n act p w) → is_complete s.phase ≡ is_some v
+    → Puts s v value (brought (completes_by act) value) (change_at n act p w)
+puts_by n (store can operation step next) s p v value w right may e = puts_stored s p v value (is_completion (step 0)) (step p) right.0 right.1 may e
+puts_by n act s p v value w right may e = puts_none s p v value (change_at n act p w) (λ q is. is_no_end (makes_by act p) q right (change_is n act p w (completes q) is)) may e
 
 -- Answers
 
 says_with : {V : Type 0} (phase : Phase) (a : Answer (Unit {0})) (v : Option V) → is_complete phase ≡ is_some v → TellsSo phase a → says_of (with_value a v) ≡ says_of a
-says_with phase (Value u) (Some x) e tells = refl
 says_with phase (Value u) None e tells = absurd (true≢false (sym tells ∙ e))
-says_with phase Granted v e tells = refl
-says_with phase Refused v e tells = refl
-says_with phase Locked v e tells = refl
-says_with phase Starved v e tells = refl
-says_with phase Done v e tells = refl
-says_with phase (Is b) v e tells = refl
-says_with phase (Count k) v e tells = refl
-says_with phase NoValue v e tells = refl
-says_with phase Failed v e tells = refl
-says_with phase Leader v e tells = refl
-says_with phase Follower v e tells = refl
+says_with phase _ _ e tells = refl
 
 gives_once : {V : Type 0} (a : Answer (Unit {0})) (v : Option V) → Gives once (says_of (with_value a v)) (gives_of (with_value a v)) v
 gives_once (Value u) (Some x) = refl
-gives_once (Value u) None = refl
-gives_once Granted v = refl
-gives_once Refused v = refl
-gives_once Locked v = refl
-gives_once Starved v = refl
-gives_once Done v = refl
-gives_once (Is b) v = refl
-gives_once (Count k) v = refl
-gives_once NoValue v = refl
-gives_once Failed v = refl
-gives_once Leader v = refl
-gives_once Follower v = refl
+gives_once _ _ = refl
 
 gives_with : {V : Type 0} (coding : Coding) (a : Answer (Unit {0})) (v : Option V) → Gives coding (says_of (with_value a v)) (gives_of (with_value a v)) v
 gives_with once a v = gives_once a v
@@ -197,9 +134,6 @@ module _ {W V C L : Type 0} (t : Table W V C L (Answer (Unit {0}))) (n : Notes t
   abbrev pub keeping_with : LocalInvariant V C L
   keeping_with = record { Shape = λ s v. n.Shape s × (is_complete s.phase ≡ is_some v); Knows = λ c l h p s span. KnowsRow t n c l h p s span (row_of t n c l h) }
 
-  sound_of : (p : ℕ) (c : C) (l : L) (h : Option Hold) → IsSound t.coding (t.asks c h) p (row_of t n c l h)
-  sound_of p c l h = sound_at t.coding (t.asks c h) h p (n.point c l h) (pays.sound p c l h)
-
   next_with : (p : ℕ) (c : C) (h : Option Hold) (s : Plain) (span : List Mark) (v : Option V) (next : Next L (Answer (Unit {0}))) → is_complete s.phase ≡ is_some v → TellsOf s.phase next
       → NextIs (machine_of t) (keeping_of t n) Step p c h s span next → NextIs m keeping_with Step p c h s span (filled v next)
   next_with p c h s span v (GoesOn l) e tells is = record { knows = is.knows; own_so_far = is.own_so_far; in_time = is.in_time }
@@ -215,28 +149,25 @@ module _ {W V C L : Type 0} (t : Table W V C L (Answer (Unit {0}))) (n : Notes t
   answers_with : (k : ℕ) (w : W) (c : C) (l : L) (h : Option Hold) → answers_by t k w c l h ≡ true → AnswersWithin m k w c l h
   answers_with zero w c l h soon = absurd (false≢true soon)
   answers_with (suc k) w c l h soon = λ v j is.
-      let st = step_by {V = V} t.number (t.act c l h) w in
+      let st = step_by {V = V} t.memory (t.word l) (t.act c l h) w in
       answers_with k st.words c j h (subst (λ next. goes_by next true (λ i. answers_by t k st.words c i h) ≡ true) (unfilled _ st.next j is) soon)
 
   -- at a point of a call
   module _ (p : ℕ) (c : C) (l : L) (h : Option Hold) (s : Plain) (v : Option V) (w : W) (span : List Mark) (here : InCall m keeping_with p c l h s v w span) where
-    at_here : AtRow t n p c l h s w span (row_of t n c l h)
-    at_here = here_at t n pays.sound p c l h s w span (row_of t n c l h) here.encodes here.shape.0 here.exclusive here.retries here.knows
-
     abbrev st : Stepped W V L (Answer (Unit {0}))
-    st = step_by t.number (t.act c l h) w
+    st = step_by t.memory (t.word l) (t.act c l h) w
 
     abbrev step : Option Change
-    step = change_by t.number (t.act c l h) p w
+    step = change_by t.memory (t.word l) (t.act c l h) p w
 
     abbrev manner : Manner
     manner = by_step (manner_by (t.asks c h) (t.act c l h))
 
     went : Went t n p c h s span st step manner
-    went = steps_at t n pays.sound p c l h s w span (row_of t n c l h) (sound_of p c l h) (pays.makes p c l h) at_here (pays.owes p c l h s w span)
+    went = went_here t n pays.pays p c l h s w span here.encodes here.shape.0 here.exclusive here.retries here.knows
 
     puts : Puts s v (brings c) (brought (completes_by (t.act c l h)) (brings c)) step
-    puts = puts_by t.number (t.act c l h) s p v (brings c) w (pays.completes_right p c l h) went.opens here.shape.1
+    puts = puts_by _ (t.act c l h) s p v (brings c) w (pays.completes_right p c l h) went.opens here.shape.1
 
     step_here : StepIs m keeping_with p c h s v span (m.step w v c l h) step manner
     step_here =
@@ -257,24 +188,23 @@ module _ {W V C L : Type 0} (t : Table W V C L (Answer (Unit {0}))) (n : Notes t
   pub facts_with : Facts m keeping_with
   facts_with =
       record {
-        stepwise = stepwise_with t brings pays.fits pays.strong pays.operates;
-        first = pays.first;
-        shape_first = (pays.shape_first, pays.phase_first);
-        numbers_tell = pays.numbers_tell;
-        one_list = λ s v shape. pays.one_list s shape.0;
+        stepwise = stepwise_with t brings pays.pays.fits pays.pays.operates pays.strong;
+        first = pays.pays.first;
+        shape_first = (pays.pays.shape_first, pays.phase_first);
+        numbers_tell = pays.pays.numbers_tell;
+        one_list = λ s v shape. pays.pays.one_list s shape.0;
         shape_written = λ s p old v writes shape. absurd (false≢true (sym (pays.none_writes s p shape.0) ∙ writes));
         shape_set = λ s old v shape. shape;
-        begins = λ p c l h s e mine. begins_at t n pays.sound p c l h s (row_of t n c l h) mine (subst (BeginsAt t n c h p s) e (pays.begins p c h s));
-        others = λ p q c l h s v step r span ne shape exclusive may belongs knows. others_at t n pays.sound p q c l h s step r span (row_of t n c l h) ne may (pays.others p q c l h s step r span ne shape.0 may belongs) knows;
-        can = λ p c l h s v w span here. can_at t n pays.sound p c l h s w span (row_of t n c l h) (sound_of p c l h) (at_here p c l h s v w span here) (pays.owes p c l h s w span);
+        begins = λ p c l h s e mine. begins_here t n pays.pays p c l h s t.words [] e mine;
+        others = λ p q c l h s v step r span ne shape exclusive may belongs knows. others_here t n pays.pays p c l h s t.words span q step r ne shape.0 may belongs knows;
+        can = λ p c l h s v w span here. can_here t n pays.pays p c l h s w span here.encodes here.shape.0 here.exclusive here.retries here.knows;
         steps = step_here;
-        counted = λ p c l h s v w span here. counted_filled _ s _ (step_by {V = V} t.number (t.act c l h) w).next _ _
-            (counted_at t n pays.sound p c l h s w span (row_of t n c l h) (sound_of p c l h) (at_here p c l h s v w span here) (pays.owes p c l h s w span));
+        counted = λ p c l h s v w span here. counted_filled _ s _ (step_by {V = V} t.memory (t.word l) (t.act c l h) w).next _ _ (counted_here t n pays.pays p c l h s w span here.encodes here.shape.0 here.exclusive here.retries here.knows);
         completes_alone = λ p c l h s v w span here q is. pays.none_holds s here.shape.0;
-        undisturbed = λ p c l h s v w span here may. answers_with (steps_alone t.coding (t.asks c h)) w c l h (soon_at t n pays.sound p c l h s w span (row_of t n c l h) (at_here p c l h s v w span here) (pays.soon p c l h s w span) may);
+        undisturbed = λ p c l h s v w span here may. answers_with (steps_alone t.coding (t.asks c h)) w c l h (soon_here t n pays.pays p c l h s w span here.encodes here.shape.0 here.exclusive here.retries here.knows may);
         refuses = λ p c l h s v w span next here is. absurd (cc (is));
         weakly = λ p c l h s v w span next here is. absurd (cc (is));
         phase = λ s v shape. has_phase t.coding s.phase v shape.1;
-        values = λ p c l h s v w span here. record { brings = (puts p c l h s v w span here).brings; gives = gives_at p c l h s v w span here _ (step_by {V = V} t.number (t.act c l h) w).next };
+        values = λ p c l h s v w span here. record { brings = (puts p c l h s v w span here).brings; gives = gives_at p c l h s v w span here _ (step_by {V = V} t.memory (t.word l) (t.act c l h) w).next };
         refusal_gives = λ p c l h s v w span next here is. absurd (cc (is));
       }

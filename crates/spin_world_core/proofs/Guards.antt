@@ -62,34 +62,23 @@ Reads s p _ = is_reader (entries p s) ≡ true
 
 reads_at : {W V C L A : Type 0} (m : Machine W V C L A) (k : LocalInvariant V C L) (r : Found C V) (g : KeepsGuard m k r.keeps) (w : Option V) (s : Plain) (p : ℕ) (span : List Mark) (o : Option (Seat C L)) → StandsFor s p span o → KnowsAt k s p span o
     → Guard r w o → Reads s p o
-reads_at m k r g w s p span None stands knows guard = absurd guard
-reads_at m k r g w s p span (Some Idle) stands knows guard = absurd guard
-reads_at m k r g w s p span (Some (Calling c l None)) stands knows guard = absurd guard
 reads_at m k r g w s p span (Some (Calling c l (Some h))) stands knows guard = g.reads p c l h s span guard.0 guard.1 knows
 reads_at m k r g w s p span (Some (Holding h)) stands knows guard = ap is_reader stands ∙ (reader_of p h ∙ guard.0)
 reads_at m k r g w s p span (Some (Leaked h)) stands knows guard = ap is_reader stands ∙ (reader_of p h ∙ guard.0)
 reads_at m k r g w s p span (Some (Gone h)) stands knows guard = tt
+reads_at m k r g w s p span _ stands knows guard = absurd guard
 
 -- where a closure completes, nobody has a guard
 not_beside : {V C L : Type 0} (r : Found C V) (w v : Option V) (s : Plain) (p : ℕ) (o : Option (Seat C L)) → Reads s p o → is_held s ≡ false → Guard r w o → Guard r v o
-not_beside r w v s p (Some (Gone h)) reads none guard = guard
-not_beside r w v s p None reads none guard = guard
-not_beside r w v s p (Some Idle) reads none guard = guard
 not_beside r w v s p (Some (Calling c l h)) reads none guard = absurd (true≢false (sym (touched s p reads) ∙ none))
 not_beside r w v s p (Some (Holding h)) reads none guard = absurd (true≢false (sym (touched s p reads) ∙ none))
 not_beside r w v s p (Some (Leaked h)) reads none guard = absurd (true≢false (sym (touched s p reads) ∙ none))
+not_beside r w v s p _ reads none guard = guard
 
 completed : {V C L : Type 0} (r : Found C V) (w value : Option V) (s : Plain) (p : ℕ) (o : Option (Seat C L)) (step : Option Change) → Reads s p o → ((q : ℕ) → step ≡ Some (completes q) → is_held s ≡ false)
     → Guard r w o → Guard r (if_completed w value step) o
-completed r w value s p o None reads alone guard = guard
-completed r w value s p o (Some (gets q ask)) reads alone guard = guard
-completed r w value s p o (Some (releases q k)) reads alone guard = guard
-completed r w value s p o (Some (serves q)) reads alone guard = guard
-completed r w value s p o (Some (stops_starving q)) reads alone guard = guard
-completed r w value s p o (Some (turns q k l)) reads alone guard = guard
 completed r w value s p o (Some (completes q)) reads alone guard = not_beside r w value s p o reads (alone q refl) guard
-completed r w value s p o (Some (fails q)) reads alone guard = guard
-completed r w value s p o (Some (arrives q)) reads alone guard = guard
+completed r w value s p o _ reads alone guard = guard
 
 -- the guard isn't the party's whose seat is such
 elsewhere : {W V C L : Type 0} (r : Found C V) (seen : Seen W V C L) (p q : ℕ) (y : Seat C L) → slice_get seen.state.seats q ≡ Some y → (Guard r seen.written (Some y) → ⊥) → Guard r seen.written (slice_get seen.state.seats p) → q ≡ p → ⊥
@@ -144,12 +133,10 @@ guard_read A r seen p q y false guard = guard
 -- nobody else writes beside the guard
 not_written : {W V C L A : Type 0} (m : Machine W V C L A) (k : LocalInvariant V C L) (f : Facts m k) (r : Found C V) (seen : Seen W V C L) (p q : ℕ) (v : Option V) (o : Option (Seat C L)) → Invariant m k seen → Reads seen.plain p o
     → is_writer (entries q seen.plain) ≡ true → (q ≡ p → ⊥) → Guard r seen.written o → Guard r v o
-not_written m k f r seen p q v (Some (Gone h)) good reads writes ne guard = guard
-not_written m k f r seen p q v None good reads writes ne guard = guard
-not_written m k f r seen p q v (Some Idle) good reads writes ne guard = guard
 not_written m k f r seen p q v (Some (Calling c l h)) good reads writes ne guard = absurd (ne (one_toucher seen.plain p q good.exclusive (f.one_list seen.plain seen.state.value good.shape) reads writes))
 not_written m k f r seen p q v (Some (Holding h)) good reads writes ne guard = absurd (ne (one_toucher seen.plain p q good.exclusive (f.one_list seen.plain seen.state.value good.shape) reads writes))
 not_written m k f r seen p q v (Some (Leaked h)) good reads writes ne guard = absurd (ne (one_toucher seen.plain p q good.exclusive (f.one_list seen.plain seen.state.value good.shape) reads writes))
+not_written m k f r seen p q v _ good reads writes ne guard = guard
 
 guard_written : {W V C L A : Type 0} (m : Machine W V C L A) (k : LocalInvariant V C L) (f : Facts m k) (r : Found C V) (g : KeepsGuard m k r.keeps) (seen : Seen W V C L) (p q : ℕ) (v : V) (h : Hold) (y : Seat C L) (b : Bool) → Invariant m k seen → entries q seen.plain ≡ entries_of q h → may_write h ≡ b
     → Guard r seen.written (slice_get seen.state.seats p) → (q ≡ p → ⊥) → After r p (scene_of {A = A} seen q (Write v) (Some y) (written_by seen.state v b) None manner.plain None)
@@ -168,13 +155,9 @@ guard_leaked A r seen p q h there guard =
     (cases_eq q p)
 
 guard_let_go : {V C L : Type 0} (r : Found C V) (w : Option V) (o : Option (Seat C L)) → Guard r w o → Guard r w (option_map seen_by_owner o)
-guard_let_go r w None guard = guard
-guard_let_go r w (Some Idle) guard = guard
-guard_let_go r w (Some (Calling c l None)) guard = guard
-guard_let_go r w (Some (Calling c l (Some h))) guard = guard
-guard_let_go r w (Some (Holding h)) guard = guard
 guard_let_go r w (Some (Leaked h)) guard = tt
 guard_let_go r w (Some (Gone h)) guard = tt
+guard_let_go r w _ guard = guard
 
 guard_let_go_all : {W V C L : Type 0} (r : Found C V) (seen : Seen W V C L) (p : ℕ) → Guard r seen.written (slice_get seen.state.seats p) → Guard r seen.written (slice_get (map seen_by_owner seen.state.seats) p)
 guard_let_go_all r seen p guard = rw (slice_get-map seen_by_owner seen.state.seats p) (guard_let_go r seen.written (slice_get seen.state.seats p) guard)
@@ -185,12 +168,11 @@ guard_owner_gets A r seen p q y false guard = guard
 
 -- the owner writes only where nobody has a guard
 gone_for : {V C L : Type 0} (r : Found C V) (w v : Option V) (o : Option (Seat C L)) → ((x : Seat C L) → o ≡ Some x → yields_to_owner x ≡ true) → Guard r w o → Guard r v (option_map seen_by_owner o)
-gone_for r w v None away guard = guard
-gone_for r w v (Some Idle) away guard = guard
 gone_for r w v (Some (Calling c l h)) away guard = absurd (false≢true (away (Calling c l h) refl))
 gone_for r w v (Some (Holding h)) away guard = absurd (false≢true (away (Holding h) refl))
 gone_for r w v (Some (Leaked h)) away guard = tt
 gone_for r w v (Some (Gone h)) away guard = tt
+gone_for r w v _ away guard = guard
 
 guard_owner_writes : {W V C L : Type 0} (A : Type 0) (r : Found C V) (seen : Seen W V C L) (p q : ℕ) (v : V) (y : Seat C L) (o : Option V) → list_all yields_to_owner seen.state.seats ≡ true → Guard r seen.written (slice_get seen.state.seats p)
     → After r p (scene_of {A = A} seen q (OwnerSet v) (Some y) (owner_writes seen.state v o) None manner.plain None)

@@ -29,9 +29,8 @@ seen_after-append m seen (x ∷ xs) ys = seen_after-append m (scene m seen x.0 x
 
 tells-append : {W V C L A : Type 0} (ss ts : List (Scene W V C L A)) (es fs : List (Event W V A)) → EachTells ss es → EachTells ts fs → EachTells (ss ++ ts) (es ++ fs)
 tells-append [] ts [] fs front back = back
-tells-append [] ts (e ∷ es) fs front back = absurd front
-tells-append (s ∷ ss) ts [] fs front back = absurd front
 tells-append (s ∷ ss) ts (e ∷ es) fs front back = (front.0, tells-append ss ts es fs front.1 back)
+tells-append _ ts _ fs front back = absurd front
 
 -- the events of two runs together tell the scenes of one
 tells_both : {W V C L A : Type 0} (m : Machine W V C L A) (s : State W V C L) (first second : List (ℕ × Move C V)) (es fs : List (Event W V A))
@@ -89,12 +88,7 @@ begin_from p xs ys =
 
 with_begin_from : {V A : Type 0} (start : ℕ) (began here : Option ℕ) (o : Outcome A V) → began_from start began ≡ here → with_begin here o ≡ outcome_from start (with_begin began o)
 with_begin_from start began here (outcome.Answered a b) is = ap (λ k. outcome.Answered a k) (sym is)
-with_begin_from start began here outcome.PassedOver is = refl
-with_begin_from start began here outcome.Begun is = refl
-with_begin_from start began here outcome.GoingOn is = refl
-with_begin_from start began here (outcome.Value v) is = refl
-with_begin_from start began here outcome.Written is = refl
-with_begin_from start began here outcome.Leaked is = refl
+with_begin_from start began here _ is = refl
 
 with_begins-append : {W V A : Type 0} (before xs ys : List (Event W V A)) → with_begins before (xs ++ ys) ≡ with_begins before xs ++ with_begins (before ++ xs) ys
 with_begins-append before [] ys = ap (λ b. with_begins b ys) (sym (append-nil before))

@@ -140,14 +140,10 @@ passed_kept m k f seen p move seat good closed may = passed_over m k f seen p mo
 -- a party that doesn't step keeps its entries
 stands_beside : {C L : Type 0} (s : Plain) (p q : ℕ) (step : Option Change) (r : Manner) (span : List Mark) (o : Option (Seat C L)) → (p ≡ q → ⊥) → IsOpenStep s p step
     → StandsFor s q span o → StandsFor (apply_some s step) q (mark_of p step r s ∷ span) o
-stands_beside s p q step r span None ne may stands = entries-other s p q step ne may ∙ stands
-stands_beside s p q step r span (Some Idle) ne may stands = entries-other s p q step ne may ∙ stands
 stands_beside s p q step r span (Some (Calling c l h)) ne may stands =
     let e = entries_so_far q span (entries_held q h) in
     entries-other s p q step ne may ∙ (stands ∙ sym (ap (λ b. if b then entries_after s step e else e) (ne_eqb p q ne)))
-stands_beside s p q step r span (Some (Holding h)) ne may stands = entries-other s p q step ne may ∙ stands
-stands_beside s p q step r span (Some (Leaked h)) ne may stands = entries-other s p q step ne may ∙ stands
-stands_beside s p q step r span (Some (Gone h)) ne may stands = entries-other s p q step ne may ∙ stands
+stands_beside s p q step r span _ ne may stands = entries-other s p q step ne may ∙ stands
 
 -- one that steps has made the step alone
 stands_stepped : (s : Plain) (p : ℕ) (step : Option Change) (r : Manner) (span : List Mark) (e : Entries) → IsOpenStep s p step → entries p s ≡ entries_so_far p span e
@@ -166,12 +162,8 @@ knows_resting k s p span (Some h) = tt
 
 knows_beside : {W V C L A : Type 0} (m : Machine W V C L A) (k : LocalInvariant V C L) (f : Facts m k) (p q : ℕ) (s : Plain) (v : Option V) (step : Option Change) (r : Manner) (span : List Mark) (o : Option (Seat C L))
     → (p ≡ q → ⊥) → k.Shape s v → IsExclusive s → IsOpenStep s p step → BelongsTo m.coding step → KnowsAt k s q span o → KnowsAt k (apply_some s step) q (mark_of p step r s ∷ span) o
-knows_beside m k f p q s v step r span None ne shape exclusive may belongs knows = tt
-knows_beside m k f p q s v step r span (Some Idle) ne shape exclusive may belongs knows = tt
 knows_beside m k f p q s v step r span (Some (Calling c l h)) ne shape exclusive may belongs knows = f.others q p c l h s v step r span ne shape exclusive may belongs knows
-knows_beside m k f p q s v step r span (Some (Holding h)) ne shape exclusive may belongs knows = tt
-knows_beside m k f p q s v step r span (Some (Leaked h)) ne shape exclusive may belongs knows = tt
-knows_beside m k f p q s v step r span (Some (Gone h)) ne shape exclusive may belongs knows = tt
+knows_beside m k f p q s v step r span _ ne shape exclusive may belongs knows = tt
 
 -- the party's own seat is x now, and the others' are as they were
 at_seat : {C L : Type 0} (P : ℕ → Option (Seat C L) → Type 0) (seats : List (Seat C L)) (p : ℕ) (x y : Seat C L) → slice_get seats p ≡ Some y
@@ -313,17 +305,11 @@ begun_kept m k f seen p c h y (Some l) good there stands is_begin is_open may =
 
 pub reader_of : (p : ℕ) (h : Hold) → is_reader (entries_of p h) ≡ may_read h
 reader_of p hold.Read = refl
-reader_of p hold.Upgradable = refl
-reader_of p hold.Write = refl
-reader_of p (hold.Ticket t) = refl
-reader_of p hold.Starver = refl
+reader_of p _ = refl
 
 pub writer_of : (p : ℕ) (h : Hold) → is_writer (entries_of p h) ≡ may_write h
 writer_of p hold.Read = refl
-writer_of p hold.Upgradable = refl
-writer_of p hold.Write = refl
-writer_of p (hold.Ticket t) = refl
-writer_of p hold.Starver = refl
+writer_of p _ = refl
 
 pub read_kept : {W V C L A : Type 0} (m : Machine W V C L A) (k : LocalInvariant V C L) (f : Facts m k) (seen : Seen W V C L) (p : ℕ) (h : Hold) (y : Seat C L) (b : Bool)
     → Invariant m k seen → entries p seen.plain ≡ entries_of p h → may_read h ≡ b → is_open_move m seen.state Read (Some y) ≡ may_read h → (is_reader (entries p seen.plain) ≡ false → MayPass m seen p Read (Some y))

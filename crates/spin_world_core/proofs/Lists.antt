@@ -19,11 +19,9 @@ get-set_within (z ∷ xs) zero x lt = refl
 get-set_within (z ∷ xs) (suc p) x lt = get-set_within xs p x (omega arith)
 
 pub get-set_other : {X : Type 0} (xs : List X) (p q : ℕ) (x : X) → (p ≡ q → ⊥) → slice_get (slice_set xs p x) q ≡ slice_get xs q
-get-set_other [] p q x ne = refl
 get-set_other (z ∷ xs) zero zero x ne = absurd (ne refl)
-get-set_other (z ∷ xs) zero (suc q) x ne = refl
-get-set_other (z ∷ xs) (suc p) zero x ne = refl
 get-set_other (z ∷ xs) (suc p) (suc q) x ne = get-set_other xs p q x (λ e. ne (ap suc e))
+get-set_other _ _ _ x ne = refl
 
 -- a list that has been mapped up to a place
 pub mapped_here : {X : Type 0} (f : X → X) (xs : List X) (i : ℕ) (d : X) → get_or (map f (take i xs) ++ drop i xs) i d ≡ get_or xs i d
@@ -58,9 +56,8 @@ get-replicate (suc n) zero x y e = cc (e)
 get-replicate (suc n) (suc p) x y e = get-replicate n p x y e
 
 pub get-replicate_or : {X : Type 0} (n p : ℕ) (x : X) → unwrap_or (slice_get (replicate n x) p) x ≡ x
-get-replicate_or zero p x = refl
-get-replicate_or (suc n) zero x = refl
 get-replicate_or (suc n) (suc p) x = get-replicate_or n p x
+get-replicate_or _ _ x = refl
 
 -- whether all of a list are so, at an element of it
 pub all_from : {X : Type 0} (f : X → Bool) (xs : List X) (i : ℕ) (x : X) (b : Bool) → list_all f (drop i xs) ≡ list_all f xs → i < length xs → x ≡ get_or xs i x → b ≡ f x

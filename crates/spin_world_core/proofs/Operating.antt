@@ -1,225 +1,267 @@
--- What a table owes of its calls' beginnings and of its steps as operations, and what its shapes show of themselves.
-use Rattle.std.proofs.Common.{◌≡◌, ℕ, Bool, true, false, ◌==◌, Option, Some, None, [], ◌∷◌, is_some, get_or, slice_set, unwrap_or, if◌then◌else◌, refl, ap, sym, ◌∙◌}
-use Rattle.std.proofs.lemmas.Bool.{eqb-true, false≢true}
+-- The steps of a table as operations: what its shapes show of themselves.
+use Rattle.std.proofs.Common.{◌≡◌, ℕ, zero, suc, Bool, true, false, not, ◌&&◌, ◌||◌, ◌==◌, ◌%◌, ◌+◌, Option, Some, None, List, is_some, get_or, slice_set, unwrap_or, if◌then◌else◌, refl, ap, sym, ◌∙◌, subst}
+use Rattle.std.proofs.lemmas.Bool.{eqb-true, and_parts, false≢true, true≢false}
 use Rattle.spin_step.specs.Plain.{Plain, Change, is_open}
 use Rattle.spin_world_core.specs.declared.place.Hold.{Hold}
 use Rattle.spin_world_core.specs.declared.answer.Answer.{Answer}
 use Rattle.spin_world_core.specs.declared.object.Next.{Next}
 use Rattle.spin_world_core.specs.declared.object.Next.TheVariants.{GoesOn, Answers}
 use Rattle.spin_world_core.specs.Manners.{Manner, is_again, is_look}
-use Rattle.spin_world_core.specs.Calls.{Coding, barrier, Asked, waits_or_starves, may_be_weak, is_got_weakly}
+use Rattle.spin_world_core.specs.Calls.{Coding, barrier, is_step_of, Asked, waits_or_starves, looks, may_be_weak, is_got_weakly}
 use Rattle.spin_world_core.specs.Begins.{fits}
-use Rattle.spin_world_core.specs.Operations.{Operation, exchanges, performed, Performs, IsOneOperation, Stepwise}
-use Rattle.spin_world_core.specs.Acts.{Act, load, load_if, load_for, enter, exchange, weak_exchange, attempt, retry, store, store_if, becomes, passing, retried, step_by, made_if, made_where, change_by, can_by, refusal_by, manner_by, Table, machine_of, completes_by, brought, filled, machine_with}
+use Rattle.spin_world_core.specs.Operations.{Operation, loads, exchanges, adds, subtracts, sets_lowest_bit, stores, performed, Performs, IsOneOperation, RefusesAsLost, Stepwise}
+use Rattle.spin_world_core.specs.Acts.{Memory, one_number, number_at, Act, load, load_if, load_for, enter, exchange, weak_exchange, attempt, retry, store, section, swap, tried, guessed, becomes, passing, retried, place_of, step_at, made_if, change_at, refusal_by, makes_by, operation_by, is_section, step_by, manner_by, Table, begin_of, machine_of, completes_by, brought, filled, machine_with}
 use Rattle.spin_world_core.specs.Schedules.{placed}
 use Rattle.spin_world_core.proofs.Facts.{GoesOnCounted}
 
 -- The debts
 
-abbrev pub BeginsWhereItFits : {W V C L A : Type 0} → Table W V C L A → Type 0
-BeginsWhereItFits {C = C} t = (c : C) (h : Option Hold) → is_some (t.begin c h) ≡ fits t.coding (t.asks c h) h
+-- the plain step is one that this kind of lock makes, and one that such a call gets by a weak exchange is got by no other; and only a barrier's step is a section
+abbrev pub fits_step : Coding → Asked → Bool → Option Change → Bool
+fits_step coding what weakly None = true
+fits_step coding what weakly (Some c) = is_step_of coding c && (weakly || not (is_got_weakly what c))
 
--- the step gets by another exchange, or by none, what such a call gets by a weak one
-abbrev pub gets_strongly : {W L A : Type 0} → Asked → Act W L A → ℕ → Bool
-gets_strongly what (enter test step won lost) p = is_got_weakly what (step p)
-gets_strongly what (exchange f step won lost) p = is_got_weakly what (step p)
-gets_strongly what (attempt f step won lost) p = is_got_weakly what (step p)
-gets_strongly what (retry k f step won found missed) p = is_got_weakly what (step p)
-gets_strongly what (store can f step next) p = is_got_weakly what (step p)
-gets_strongly what (store_if can f step test a b) p = is_got_weakly what (step p)
-gets_strongly what _ p = false
+abbrev pub may_be_section : Coding → Bool → Bool
+may_be_section barrier is = true
+may_be_section _ is = not is
 
-abbrev pub TriesWeakly : {W V C L A : Type 0} → Table W V C L A → Type 0
-TriesWeakly {C = C} {L = L} t = (p : ℕ) (c : C) (l : L) (h : Option Hold) → gets_strongly (t.asks c h) (t.act c l h) p ≡ false
+abbrev pub fits_act : {W L A : Type 0} → Coding → Asked → Act W L A → ℕ → Bool
+fits_act coding what act p = fits_step coding what (is_some (refusal_by act)) (makes_by act p) && may_be_section coding (is_section act)
 
--- the step at this point is this operation on the i-th word
-pub record Operates {W V C L A : Type 0} (t : Table W V C L A) (c : C) (l : L) (h : Option Hold) (i : ℕ) (operation : Operation) : Type 0 where
-  pub words : (w : W) → can_by (t.act c l h) w ≡ true
-      → (let to = (step_by {V = V} t.number (t.act c l h) w).words in t.number to ∷ t.others to ≡ slice_set (t.number w ∷ t.others w) i (performed operation (get_or (t.number w ∷ t.others w) i 0)))
-  pub next : (w u : W) → get_or (t.number w ∷ t.others w) i 0 ≡ get_or (t.number u ∷ t.others u) i 0 → (step_by {V = V} t.number (t.act c l h) w).next ≡ (step_by {V = V} t.number (t.act c l h) u).next
+-- a step that is no section makes its operation on its word, and leaves the others
+abbrev pub Operates : {W V C L A : Type 0} → Table W V C L A → Type 0
+Operates {W} {V} {C} {L} t =
+    (c : C) (l : L) (h : Option Hold) (w : W) → is_section (t.act c l h) ≡ false
+    → (let i = place_of (t.word l) (t.act c l h) in t.memory.numbers (step_by {V = V} t.memory (t.word l) (t.act c l h) w).words ≡ slice_set (t.memory.numbers w) i (performed (operation_by (t.act c l h)) (number_at t.memory i w)))
 
-abbrev pub OperatesAt : {W V C L A : Type 0} → Coding → Table W V C L A → C → L → Option Hold → Type 0
-OperatesAt barrier t c l h = Unit {0}
-OperatesAt _ t c l h = (i : ℕ) × (operation : Operation) × Operates t c l h i operation
+-- a new number takes its place alone
+pub record IsPlace {W : Type 0} (m : Memory W) (i : ℕ) : Type 0 where
+  pub stays : (w : W) → slice_set (m.numbers w) i (number_at m i w) ≡ m.numbers w
+  pub put : (k : ℕ) (w : W) → m.numbers (m.put i k w) ≡ slice_set (m.numbers w) i k
 
--- a weak refusal is that of an exchange
-abbrev pub Refuses : {W V C L A : Type 0} → Table W V C L A → Type 0
-Refuses {W} {V} {C} {L} {A} t =
-    (c : C) (l : L) (h : Option Hold) (next : Next L A) → refusal_by (t.act c l h) ≡ Some next
-    → (i from to : ℕ) × Operates t c l h i (exchanges from to) × ((w : W) → (get_or (t.number w ∷ t.others w) i 0 == from) ≡ false → (step_by {V = V} t.number (t.act c l h) w).next ≡ next)
+pub one_place : (i : ℕ) → IsPlace one_number i
+one_place zero = record { stays = λ w. refl; put = λ k w. refl }
+one_place (suc i) = record { stays = λ w. refl; put = λ k w. refl }
 
--- The shapes
+-- What an operation comes to
 
--- a step places no value by itself
-became_unplaced : {W V L A : Type 0} (w : W) (o : Option W) (won lost : Next L A) → (becomes {V = V} w o won lost).placed ≡ None
-became_unplaced w None won lost = refl
-became_unplaced w (Some to) won lost = refl
+becomes-next : {X W L A : Type 0} (V : Type 0) (f g : X → W) (w u : W) (o : Option X) (won lost : Next L A) → (becomes {V = V} f w o won lost).next ≡ (becomes {V = V} g u o won lost).next
+becomes-next V f g w u None won lost = refl
+becomes-next V f g w u (Some x) won lost = refl
 
-unplaced : {W V L A : Type 0} (number : W → ℕ) (act : Act W L A) (w : W) → (step_by {V = V} number act w).placed ≡ None
-unplaced number (load next) w = refl
-unplaced number (load_if test a b) w = refl
-unplaced number (load_for f step found missed) w = refl
-unplaced number (enter test step won lost) w = became_unplaced w (passing (test w) w) won lost
-unplaced number (exchange f step won lost) w = became_unplaced w (f w) won (lost w)
-unplaced number (weak_exchange f step won lost) w = became_unplaced w (f w) won lost
-unplaced number (attempt f step won lost) w = became_unplaced w (f w) won lost
-unplaced {V = V} number (retry k f step won found missed) w = at_number (number w == k)
+retried-next : {W L A : Type 0} (V : Type 0) (f g : ℕ → W) (b : Bool) (w u : W) (o : Option ℕ) (won found missed : Next L A) → (retried {V = V} f b w o won found missed).next ≡ (retried {V = V} g b u o won found missed).next
+retried-next V f g true w u o won found missed = becomes-next V f g w u o won missed
+retried-next V f g false w u o won found missed = refl
+
+tried-is : (operation : Operation) (n : ℕ) → unwrap_or (tried operation n) n ≡ performed operation n
+tried-is (exchanges from to) n = at_number (n == from)
   where
-    at_number : (b : Bool) → (retried {V = V} b w (f w) won (found w) missed).placed ≡ None
-    at_number true = became_unplaced w (f w) won missed
+    at_number : (b : Bool) → unwrap_or (if b then Some to else None) n ≡ (if b then to else n)
+    at_number true = refl
     at_number false = refl
-unplaced number (store can f step next) w = refl
-unplaced number (store_if can f step test a b) w = refl
-
--- a look changes no word
-look_stays : {W L A : Type 0} (V : Type 0) (number : W → ℕ) (what : Asked) (act : Act W L A) (w : W) → is_look (manner_by what act) ≡ true → (step_by {V = V} number act w).words ≡ w
-look_stays V number what (load_if test a b) w is = refl
-look_stays V number what (enter test step won lost) w is = passed (test w)
+tried-is sets_lowest_bit n = clear (n % 2 == 0)
   where
-    passed : (b : Bool) → (becomes {V = V} w (passing b w) won lost).words ≡ w
-    passed true = refl
-    passed false = refl
-look_stays V number what (load next) w is = refl
-look_stays V number what (load_for f step found missed) w is = refl
-look_stays V number what (exchange f step won lost) w is = absurd (false≢true is)
-look_stays V number what (weak_exchange f step won lost) w is = absurd (false≢true is)
-look_stays V number what (attempt f step won lost) w is = absurd (false≢true is)
-look_stays V number what (retry k f step won found missed) w is = absurd (false≢true is)
-look_stays V number what (store can f step next) w is = absurd (false≢true is)
-look_stays V number what (store_if can f step test a b) w is = absurd (false≢true is)
+    clear : (b : Bool) → unwrap_or (if b then Some (n + 1) else None) n ≡ (if b then n + 1 else n)
+    clear true = refl
+    clear false = refl
+tried-is _ n = refl
+
+guessed-is : (k : ℕ) (f : ℕ → Option ℕ) (n : ℕ) → unwrap_or (guessed k f n) n ≡ performed (swap k f) n
+guessed-is k f n = at_number (n == k) refl
+  where
+    at_number : (b : Bool) → (n == k) ≡ b → unwrap_or (if b then f n else None) n ≡ (if b then unwrap_or (f k) k else n)
+    at_number true is = ap (λ j. unwrap_or (f j) j) (eqb-true n k is)
+    at_number false is = refl
+
+not-true : (b : Bool) → not b ≡ true → b ≡ false
+not-true false is = refl
+not-true true is = absurd (false≢true is)
+
+-- On a word
+
+module _ {W L A : Type 0} (V : Type 0) (m : Memory W) where
+  becomes-words : (i : ℕ) (w : W) (o : Option ℕ) (to : ℕ) (won lost : Next L A) → IsPlace m i → unwrap_or o (number_at m i w) ≡ to → m.numbers (becomes {V = V} (λ k. m.put i k w) w o won lost).words ≡ slice_set (m.numbers w) i to
+  becomes-words i w None to won lost place is = sym (place.stays w) ∙ ap (slice_set (m.numbers w) i) is
+  becomes-words i w (Some k) to won lost place is = place.put k w ∙ ap (slice_set (m.numbers w) i) is
+
+  retried-words : (i : ℕ) (w : W) (b : Bool) (o : Option ℕ) (to : ℕ) (won found missed : Next L A) → IsPlace m i → unwrap_or (if b then o else None) (number_at m i w) ≡ to
+      → m.numbers (retried {V = V} (λ k. m.put i k w) b w o won found missed).words ≡ slice_set (m.numbers w) i to
+  retried-words i w true o to won found missed place is = becomes-words i w o to won missed place is
+  retried-words i w false o to won found missed place is = becomes-words i w None to won missed place is
+
+  -- a look changes no word
+  passed : (w : W) (n : ℕ) (b : Bool) (won lost : Next L A) → (becomes {V = V} (λ k. w) w (passing b n) won lost).words ≡ w
+  passed w n true won lost = refl
+  passed w n false won lost = refl
+
+  pub look_stays : (i : ℕ) (what : Asked) (act : Act W L A) (w : W) → is_look (manner_by what act) ≡ true → (step_by {V = V} m i act w).words ≡ w
+  look_stays i what (load_if test a b) w is = refl
+  look_stays i what (enter test step won lost) w is = passed w _ (test (number_at m i w)) won lost
+  look_stays i what _ w is = absurd (false≢true is)
+
+  -- a step places no value by itself
+  became_unplaced : {X : Type 0} (put : X → W) (w : W) (o : Option X) (won lost : Next L A) → (becomes {V = V} put w o won lost).placed ≡ None
+  became_unplaced put w None won lost = refl
+  became_unplaced put w (Some x) won lost = refl
+
+  retried_unplaced : (put : ℕ → W) (b : Bool) (w : W) (o : Option ℕ) (won found missed : Next L A) → (retried {V = V} put b w o won found missed).placed ≡ None
+  retried_unplaced put true w o won found missed = became_unplaced put w o won missed
+  retried_unplaced put false w o won found missed = refl
+
+  unplaced : (i n : ℕ) (act : Act W L A) (w : W) → (step_at {V = V} m i n act w).placed ≡ None
+  unplaced i n (enter test step won lost) w = became_unplaced _ w (passing (test n) n) won lost
+  unplaced i n (exchange operation step won lost) w = became_unplaced _ w (tried operation n) won (lost n)
+  unplaced i n (weak_exchange k f step won lost) w = became_unplaced _ w (tried (swap k f) n) won lost
+  unplaced i n (attempt k f step won lost) w = became_unplaced _ w (guessed k f n) won lost
+  unplaced i n (retry k f step won found missed) w = retried_unplaced _ (n == k) w (f n) won (found n) missed
+  unplaced i n (section can f step won lost) w = became_unplaced _ w (f w) (won w) (lost w)
+  unplaced i n _ w = refl
+
+  -- the words after a step that is no section
+  step-words : (i : ℕ) (act : Act W L A) (w : W) → IsPlace m i → is_section act ≡ false → let n = number_at m i w in m.numbers (step_at {V = V} m i n act w).words ≡ slice_set (m.numbers w) i (performed (operation_by act) n)
+  step-words i (enter test step won lost) w place one = ap m.numbers (passed w _ (test (number_at m i w)) won lost) ∙ sym (place.stays w)
+  step-words i (exchange operation step won lost) w place one = becomes-words i w _ _ won _ place (tried-is operation _)
+  step-words i (weak_exchange k f step won lost) w place one = becomes-words i w _ _ won lost place (tried-is (swap k f) _)
+  step-words i (attempt k f step won lost) w place one = becomes-words i w _ _ won lost place (guessed-is k f _)
+  step-words i (retry k f step won found missed) w place one = retried-words i w _ _ _ won _ missed place (guessed-is k f _)
+  step-words i (store can operation step next) w place one = place.put _ w
+  step-words i (section can f step won lost) w place one = absurd (true≢false one)
+  step-words i _ w place one = sym (place.stays w)
+
+  step-next : (i n : ℕ) (act : Act W L A) (w u : W) → is_section act ≡ false → (step_at {V = V} m i n act w).next ≡ (step_at {V = V} m i n act u).next
+  step-next i n (enter test step won lost) w u one = becomes-next V _ _ w u (passing (test n) n) won lost
+  step-next i n (exchange operation step won lost) w u one = becomes-next V _ _ w u (tried operation n) won (lost n)
+  step-next i n (weak_exchange k f step won lost) w u one = becomes-next V _ _ w u (tried (swap k f) n) won lost
+  step-next i n (attempt k f step won lost) w u one = becomes-next V _ _ w u (guessed k f n) won lost
+  step-next i n (retry k f step won found missed) w u one = retried-next V _ _ (n == k) w u (f n) won (found n) missed
+  step-next i n (section can f step won lost) w u one = absurd (true≢false one)
+  step-next i n _ w u one = refl
+
+  -- an exchange is lost where another number lies there
+  lost_there : (i k to n : ℕ) (w : W) (won lost : Next L A) → (n == k) ≡ false → (becomes {V = V} (λ j. m.put i j w) w (tried (exchanges k to) n) won lost).next ≡ lost
+  lost_there i k to n w won lost other = rw other refl
+
+-- The plain step that a shape makes is the one that it names
+
+made_is : {X : Type 0} (o : Option X) (c d : Change) → made_if o c ≡ Some d → Some c ≡ Some d
+made_is None c d is = absurd (cc (is))
+made_is (Some to) c d is = is
+
+pub change_is : {W L A : Type 0} (n : ℕ) (act : Act W L A) (p : ℕ) (w : W) (d : Change) → change_at n act p w ≡ Some d → makes_by act p ≡ Some d
+change_is n (enter test step won lost) p w d is = made_is (passing (test n) n) (step p) d is
+change_is n (exchange operation step won lost) p w d is = made_is (tried operation n) (step p) d is
+change_is n (weak_exchange k f step won lost) p w d is = made_is (tried (swap k f) n) (step p) d is
+change_is n (attempt k f step won lost) p w d is = made_is (guessed k f n) (step p) d is
+change_is n (retry k f step won found missed) p w d is = made_is (guessed k f n) (step p) d is
+change_is n (section can f step won lost) p w d is = made_is (f w) (step p) d is
+change_is n (store can operation step next) p w d is = is
+change_is n _ p w d is = absurd (cc (is))
+
+-- so it is one that the lock makes, and what is got weakly is got by a weak exchange
+pub fits_made : (coding : Coding) (what : Asked) (weakly : Bool) (o : Option Change) (d : Change) → fits_step coding what weakly o ≡ true → o ≡ Some d → (is_step_of coding d ≡ true) × (is_got_weakly what d ≡ true → weakly ≡ true)
+fits_made coding what weakly None d fit is = absurd (cc (is))
+fits_made coding what true (Some c) d fit is =
+    let same : c ≡ d = cc (is) in
+    (ap (is_step_of coding) (sym same) ∙ (and_parts (is_step_of coding c) true fit).0, λ got. refl)
+fits_made coding what false (Some c) d fit is =
+    let same : c ≡ d = cc (is) in
+    let parts = and_parts (is_step_of coding c) (not (is_got_weakly what c)) fit in
+    (ap (is_step_of coding) (sym same) ∙ parts.0, λ got. absurd (true≢false (sym parts.1 ∙ (ap (λ e. not (is_got_weakly what e)) same ∙ ap not got))))
 
 -- a step that goes on and makes nothing is counted, if it is where what it could make is open
 pub counted_of : {W L A : Type 0} (change : W → Option Change) (s : Plain) (next : Next L A) (o : Option Change) (r : Manner)
     → ((w : W) (d : Change) → change w ≡ Some d → is_open s d ≡ true → o ≡ None → is_again r ≡ true) → GoesOnCounted change s next o r
 counted_of change s (GoesOn l) None r counts = λ w d is may. counts w d is may refl
-counted_of change s (GoesOn l) (Some d) r counts = tt
-counted_of change s (Answers a after) o r counts = tt
+counted_of change s _ _ r counts = tt
 
 pub counted_filled : {W V L : Type 0} (change : W → Option Change) (s : Plain) (value : Option V) (next : Next L (Answer (Unit {0}))) (o : Option Change) (r : Manner) → GoesOnCounted change s next o r → GoesOnCounted change s (filled value next) o r
 counted_filled change s value (GoesOn l) None r counts = counts
-counted_filled change s value (GoesOn l) (Some d) r counts = tt
-counted_filled change s value (Answers a after) o r counts = tt
-
--- the plain step that a shape makes is the one that it names
-made_is : {W : Type 0} (o : Option W) (c d : Change) → made_if o c ≡ Some d → c ≡ d
-made_is None c d is = absurd (cc (is))
-made_is (Some to) c d is = cc (is)
-
-made_at : {W : Type 0} (b : Bool) (o : Option W) (c d : Change) → made_where b o c ≡ Some d → c ≡ d
-made_at true o c d is = made_is o c d is
-made_at false o c d is = absurd (cc (is))
-
-got : (what : Asked) (c d : Change) → is_got_weakly what c ≡ false → c ≡ d → is_got_weakly what d ≡ true → {X : Type 0} → X
-got what c d strong same weak = absurd (false≢true (sym strong ∙ (ap (is_got_weakly what) same ∙ weak)))
-
--- what is got weakly is got by a weak exchange
-refuses_weakly : {W L A : Type 0} (number : W → ℕ) (what : Asked) (act : Act W L A) (p : ℕ) (w : W) (d : Change) → gets_strongly what act p ≡ false → change_by number act p w ≡ Some d → is_got_weakly what d ≡ true → is_some (refusal_by act) ≡ true
-refuses_weakly number what (load next) p w d strong is weak = absurd (cc (is))
-refuses_weakly number what (load_if test a b) p w d strong is weak = absurd (cc (is))
-refuses_weakly number what (load_for f step found missed) p w d strong is weak = absurd (cc (is))
-refuses_weakly number what (enter test step won lost) p w d strong is weak = got what (step p) d strong (made_is (passing (test w) w) (step p) d is) weak
-refuses_weakly number what (exchange f step won lost) p w d strong is weak = got what (step p) d strong (made_is (f w) (step p) d is) weak
-refuses_weakly number what (weak_exchange f step won lost) p w d strong is weak = refl
-refuses_weakly number what (attempt f step won lost) p w d strong is weak = got what (step p) d strong (made_is (f w) (step p) d is) weak
-refuses_weakly number what (retry k f step won found missed) p w d strong is weak = got what (step p) d strong (made_at (number w == k) (f w) (step p) d is) weak
-refuses_weakly number what (store can f step next) p w d strong is weak = got what (step p) d strong (cc (is)) weak
-refuses_weakly number what (store_if can f step test a b) p w d strong is weak = got what (step p) d strong (cc (is)) weak
+counted_filled change s value _ _ r counts = tt
 
 -- a call that is never weak gets nothing so
 never_got : (what : Asked) (d : Change) → may_be_weak what ≡ false → is_got_weakly what d ≡ false
 never_got (waits_or_starves n) d strong = absurd (false≢true (sym strong))
 never_got _ d strong = strong
 
--- nor does it by any shape
-pub never_strongly : {W L A : Type 0} (what : Asked) (act : Act W L A) (p : ℕ) → may_be_weak what ≡ false → gets_strongly what act p ≡ false
-never_strongly what (load next) p strong = refl
-never_strongly what (load_if test a b) p strong = refl
-never_strongly what (load_for f step found missed) p strong = refl
-never_strongly what (weak_exchange f step won lost) p strong = refl
-never_strongly what (enter test step won lost) p strong = never_got what (step p) strong
-never_strongly what (exchange f step won lost) p strong = never_got what (step p) strong
-never_strongly what (attempt f step won lost) p strong = never_got what (step p) strong
-never_strongly what (retry k f step won found missed) p strong = never_got what (step p) strong
-never_strongly what (store can f step next) p strong = never_got what (step p) strong
-never_strongly what (store_if can f step test a b) p strong = never_got what (step p) strong
+strong_step : (coding : Coding) (what : Asked) (weakly : Bool) (o : Option Change) → may_be_weak what ≡ false → fits_step coding looks weakly o ≡ fits_step coding what weakly o
+strong_step coding what weakly None strong = refl
+strong_step coding what weakly (Some d) strong = ap (λ got. is_step_of coding d && (weakly || not got)) (sym (never_got what d strong))
+
+-- so its steps fit if those of a look do
+pub fits_strong : {W L A : Type 0} (coding : Coding) (what : Asked) (act : Act W L A) (p : ℕ) → may_be_weak what ≡ false → fits_act coding looks act p ≡ true → fits_act coding what act p ≡ true
+fits_strong coding what act p strong fit = ap (λ b. b && may_be_section coding (is_section act)) (sym (strong_step coding what (is_some (refusal_by act)) (makes_by act p) strong)) ∙ fit
+
+-- so a table of such places makes its operations
+pub operates_by : {W V C L A : Type 0} (t : Table W V C L A) → ((i : ℕ) → IsPlace t.memory i) → Operates t
+operates_by {V = V} t places c l h w one = let i = place_of (t.word l) (t.act c l h) in step-words V t.memory i (t.act c l h) w (places i) one
 
 -- The machines
 
-performs_of : {W V C L A : Type 0} (t : Table W V C L A) (c : C) (l : L) (h : Option Hold) (i : ℕ) (operation : Operation) → Operates t c l h i operation → Performs (machine_of t) c l h i operation
-performs_of {V = V} t c l h i operation is =
-    record {
-      words = λ w v can. is.words w can;
-      next = λ w u v can may same. is.next w u same;
-      placed = λ w u v. unplaced {V = V} t.number (t.act c l h) w ∙ sym (unplaced {V = V} t.number (t.act c l h) u);
-    }
+begins_fit : {X : Type 0} (b : Bool) (x : X) → is_some (passing b x) ≡ b
+begins_fit true x = refl
+begins_fit false x = refl
 
-operation_of : {W V C L A : Type 0} (t : Table W V C L A) (coding : Coding) (c : C) (l : L) (h : Option Hold) → OperatesAt coding t c l h → IsOneOperation coding (machine_of t) c l h
-operation_of t barrier c l h o = tt
-operation_of t _ c l h o = (o.0, o.1, performs_of t c l h o.0 o.1 o.2)
+module _ {W V C L A : Type 0} (t : Table W V C L A) (fit : (p : ℕ) (c : C) (l : L) (h : Option Hold) → fits_act t.coding (t.asks c h) (t.act c l h) p ≡ true) (operates : Operates t) where
+  fits_one : (c : C) (l : L) (h : Option Hold) → may_be_section t.coding (is_section (t.act c l h)) ≡ true
+  fits_one c l h = (and_parts _ _ (fit 0 c l h)).1
 
-pub stepwise_of : {W V C L A : Type 0} (t : Table W V C L A) → BeginsWhereItFits t → TriesWeakly t → Refuses t → ((c : C) (l : L) (h : Option Hold) → OperatesAt t.coding t c l h) → Stepwise (machine_of t)
-stepwise_of {V = V} t begins weak refuses operates =
-    record {
-      begins = begins;
-      refuses = λ c l h next is. let lost = refuses c l h next is in (lost.0, lost.1, lost.2, performs_of t c l h lost.0 (exchanges lost.1 lost.2) lost.3, λ w v other. lost.4 w other);
-      weak = λ p c l h w d is got. refuses_weakly t.number (t.asks c h) (t.act c l h) p w d (weak p c l h) is got;
-      operates = λ c l h. operation_of t t.coding c l h (operates c l h);
-      looks = λ c l h is w v. look_stays V t.number (t.asks c h) (t.act c l h) w is;
-    }
+  pub fits_change : (p : ℕ) (c : C) (l : L) (h : Option Hold) (n : ℕ) (w : W) (d : Change) → change_at n (t.act c l h) p w ≡ Some d → (is_step_of t.coding d ≡ true) × (is_got_weakly (t.asks c h) d ≡ true → is_some (refusal_by (t.act c l h)) ≡ true)
+  fits_change p c l h n w d is = fits_made t.coding (t.asks c h) _ (makes_by (t.act c l h) p) d (and_parts _ _ (fit p c l h)).0 (change_is n (t.act c l h) p w d is)
 
-operation_with : {W V C L : Type 0} (t : Table W V C L (Answer (Unit {0}))) (brings : C → Option V) (coding : Coding) (c : C) (l : L) (h : Option Hold) → OperatesAt coding t c l h → IsOneOperation coding (machine_with t brings) c l h
-operation_with t brings barrier c l h o = tt
-operation_with t brings _ c l h o = (
-  o.0,
-  o.1,
-  record {
-    words = λ w v can. o.2.words w can;
-    next = λ w u v can may same. ap (filled (placed (brought (completes_by (t.act c l h)) (brings c)) v)) (o.2.next w u same);
-    placed = λ w u v. refl;
-  },
-)
-
-pub stepwise_with : {W V C L : Type 0} (t : Table W V C L (Answer (Unit {0}))) (brings : C → Option V) → BeginsWhereItFits t → ((c : C) (h : Option Hold) → may_be_weak (t.asks c h) ≡ false) → ((c : C) (l : L) (h : Option Hold) → OperatesAt t.coding t c l h) → Stepwise (machine_with t brings)
-stepwise_with {V = V} t brings begins strong operates =
-    record {
-      begins = begins;
-      refuses = λ c l h next is. absurd (cc (is));
-      weak = λ p c l h w d is got. absurd (false≢true (sym (never_got (t.asks c h) d (strong c h)) ∙ got));
-      operates = λ c l h. operation_with t brings t.coding c l h (operates c l h);
-      looks = λ c l h is w v. look_stays V t.number (t.asks c h) (t.act c l h) w is;
-    }
-
--- Tables of one word
-
-module _ {W V C L A : Type 0} (t : Table W V C L A) (alone : (w : W) → t.others w ≡ []) (tells : (v w : W) → t.number v ≡ t.number w → v ≡ w) where
-  pub one_word : (c : C) (l : L) (h : Option Hold) (operation : Operation) → ((w : W) → can_by (t.act c l h) w ≡ true → t.number (step_by {V = V} t.number (t.act c l h) w).words ≡ performed operation (t.number w)) → Operates t c l h 0 operation
-  one_word c l h operation is =
+  performs_of : (c : C) (l : L) (h : Option Hold) → is_section (t.act c l h) ≡ false → Performs (machine_of t) c l h (place_of (t.word l) (t.act c l h)) (operation_by (t.act c l h))
+  performs_of c l h one =
+      let i = place_of (t.word l) (t.act c l h) in
       record {
-        words = λ w can. let to = (step_by {V = V} t.number (t.act c l h) w).words in
-            rw (alone to, alone w) (ap (λ n. n ∷ []) (is w can));
-        next = λ w u same. ap (λ w. (step_by {V = V} t.number (t.act c l h) w).next) (tells w u same);
+        words = λ w v can. operates c l h w one;
+        next = λ w u v can may same. ap (λ n. (step_at {V = V} t.memory i n (t.act c l h) w).next) same ∙ step-next V t.memory i (number_at t.memory i u) (t.act c l h) w u one;
+        placed = λ w u v. unplaced V t.memory i (number_at t.memory i w) (t.act c l h) w ∙ sym (unplaced V t.memory i (number_at t.memory i u) (t.act c l h) u);
       }
 
--- an exchange of one number for another
-pub swaps : {L A : Type 0} (V : Type 0) (from to w : ℕ) (won lost : Next L A) → (becomes {V = V} w (if w == from then Some to else None) won lost).words ≡ performed (exchanges from to) w
-swaps V from to w won lost = at_number (w == from)
-  where
-    at_number : (b : Bool) → (becomes {V = V} w (if b then Some to else None) won lost).words ≡ (if b then to else w)
-    at_number true = refl
-    at_number false = refl
+  operation_of : (coding : Coding) (c : C) (l : L) (h : Option Hold) → may_be_section coding (is_section (t.act c l h)) ≡ true → IsOneOperation coding (machine_of t) c l h
+  operation_of barrier c l h one = tt
+  operation_of _ c l h one = (_, _, performs_of c l h (not-true _ one))
 
--- it is lost where another number lies there
-pub lost_there : {L A : Type 0} (V : Type 0) (from to w : ℕ) (won lost next : Next L A) → lost ≡ next → (w == from) ≡ false → (becomes {V = V} w (if w == from then Some to else None) won lost).next ≡ next
-lost_there V from to w won lost next is other = rw other is
+  lost_of : (c : C) (l : L) (h : Option Hold) (act : Act W L A) (next : Next L A) → t.act c l h ≡ act → refusal_by act ≡ Some next → RefusesAsLost (machine_of t) c l h next
+  lost_of c l h (weak_exchange k f step won lost) next same is =
+      let goes : lost ≡ next = cc (is) in (
+        t.word l,
+        k,
+        unwrap_or (f k) k,
+        subst (λ act. Performs (machine_of t) c l h (place_of (t.word l) act) (operation_by act)) same (performs_of c l h (ap is_section same)),
+        λ w v other. subst (λ act. (step_by {V = V} t.memory (t.word l) act w).next ≡ next) (sym same) (lost_there V t.memory (t.word l) k (unwrap_or (f k) k) (number_at t.memory (t.word l) w) w won lost other ∙ goes),
+      )
+  lost_of c l h _ next same is = absurd (cc (is))
 
--- an exchange of the number that was found before
-pub swaps_found : {L A : Type 0} (V : Type 0) (k w : ℕ) (f : ℕ → Option ℕ) (won found missed : Next L A) → (retried {V = V} (w == k) w (f w) won found missed).words ≡ performed (exchanges k (unwrap_or (f k) k)) w
-swaps_found V k w f won found missed = at_number (w == k) refl
-  where
-    given : (o : Option ℕ) → (becomes {V = V} w o won missed).words ≡ unwrap_or o w
-    given None = refl
-    given (Some to) = refl
+  pub stepwise_of : Stepwise (machine_of t)
+  stepwise_of =
+      record {
+        begins = λ c h. begins_fit (fits t.coding (t.asks c h) h) (t.start c h);
+        refuses = λ c l h next is. lost_of c l h (t.act c l h) next refl is;
+        weak = λ p c l h w d is. (fits_change p c l h (number_at t.memory (place_of (t.word l) (t.act c l h)) w) w d is).1;
+        operates = λ c l h. operation_of t.coding c l h (fits_one c l h);
+        looks = λ c l h is w v. look_stays V t.memory (t.word l) (t.asks c h) (t.act c l h) w is;
+      }
 
-    at_number : (b : Bool) → (w == k) ≡ b → (retried {V = V} b w (f w) won found missed).words ≡ (if b then unwrap_or (f k) k else w)
-    at_number true is = given (f w) ∙ ap (λ n. unwrap_or (f n) n) (eqb-true w k is)
-    at_number false is = refl
+module _ {W V C L : Type 0} (t : Table W V C L (Answer (Unit {0}))) (brings : C → Option V) (fit : (p : ℕ) (c : C) (l : L) (h : Option Hold) → fits_act t.coding (t.asks c h) (t.act c l h) p ≡ true) (operates : Operates t) where
+  operation_with : (coding : Coding) (c : C) (l : L) (h : Option Hold) → IsOneOperation coding (machine_of t) c l h → IsOneOperation coding (machine_with t brings) c l h
+  operation_with barrier c l h o = tt
+  operation_with _ c l h o = (
+    o.0,
+    o.1,
+    record {
+      words = λ w v can. o.2.words w v can;
+      next = λ w u v can may same. ap (filled (placed (brought (completes_by (t.act c l h)) (brings c)) v)) (o.2.next w u v can may same);
+      placed = λ w u v. refl;
+    },
+  )
+
+  pub stepwise_with : ((c : C) (h : Option Hold) → may_be_weak (t.asks c h) ≡ false) → Stepwise (machine_with t brings)
+  stepwise_with strong =
+      let is = stepwise_of t fit operates in
+      record {
+        begins = is.begins;
+        refuses = λ c l h next is. absurd (cc (is));
+        weak = λ p c l h w d is got. absurd (false≢true (sym (never_got (t.asks c h) d (strong c h)) ∙ got));
+        operates = λ c l h. operation_with t.coding c l h (is.operates c l h);
+        looks = is.looks;
+      }

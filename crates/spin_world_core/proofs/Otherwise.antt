@@ -50,7 +50,6 @@ exchanged from to w x is = at_number (w == from) refl is
 
 -- no one operation adds d twice and then leaves a full word
 pub no_operation : (i : ℕ) (operation : Operation) (d full : ℕ) → 0 < d → Becomes i operation 0 d → Becomes i operation d (d + d) → Becomes i operation full full → ⊥
-no_operation zero loads d full some once twice left = let none : d ≡ 0 = cc (once) in omega (arith, some, none)
 no_operation zero (exchanges from to) d full some once twice left =
     ⊎_elim
     (λ (first : 0 ≡ from). ⊎_elim (λ (second : d ≡ from). omega (arith, some, first, second)) (λ (same : d + d ≡ d). omega (arith, some, same)) (exchanged from to d (d + d) (cc (twice))))
@@ -61,4 +60,4 @@ no_operation zero sets_lowest_bit d full some once twice left =
     let one : d ≡ 1 = cc (once) in
     let two : 2 ≡ 1 = subst (λ n. n + n ≡ performed sets_lowest_bit n) one (cc (twice)) in omega (arith, two)
 no_operation zero (stores k) d full some once twice left = let first : d ≡ k = cc (once) in let second : d + d ≡ k = cc (twice) in omega (arith, some, first, second)
-no_operation (suc i) operation d full some once twice left = let none : d ≡ 0 = cc (once) in omega (arith, some, none)
+no_operation _ _ d full some once twice left = let none : d ≡ 0 = cc (once) in omega (arith, some, none)

@@ -24,28 +24,19 @@ all-get test (y ∷ xs) zero x all e = subst (λ z. test z ≡ true) (cc (e)) (a
 all-get test (y ∷ xs) (suc q) x all e = all-get test xs q x (and_parts (test y) (list_all test xs) all).1 e
 
 yields_at : {C L : Type 0} (s : Plain) (q : ℕ) (span : List Mark) (o : Option (Seat C L)) → StandsFor s q span o → ((x : Seat C L) → o ≡ Some x → yields_to_owner x ≡ true) → YieldsToOwner s q o
-yields_at s q span None stands away = stands
-yields_at s q span (Some Idle) stands away = stands
 yields_at s q span (Some (Calling c l h)) stands away = absurd (false≢true (away (Calling c l h) refl))
 yields_at s q span (Some (Holding h)) stands away = absurd (false≢true (away (Holding h) refl))
 yields_at s q span (Some (Leaked h)) stands away = tt
 yields_at s q span (Some (Gone h)) stands away = tt
+yields_at s q span _ stands away = stands
 
 stands_let_go : {C L : Type 0} (s : Plain) (q : ℕ) (span : List Mark) (o : Option (Seat C L)) → StandsFor s q span o → StandsFor s q span (option_map seen_by_owner o)
-stands_let_go s q span None stands = stands
 stands_let_go s q span (Some Idle) stands = stands
-stands_let_go s q span (Some (Calling c l h)) stands = stands
-stands_let_go s q span (Some (Holding h)) stands = stands
-stands_let_go s q span (Some (Leaked h)) stands = stands
-stands_let_go s q span (Some (Gone h)) stands = stands
+stands_let_go s q span _ stands = stands
 
 knows_let_go : {V C L : Type 0} (k : LocalInvariant V C L) (s : Plain) (q : ℕ) (span : List Mark) (o : Option (Seat C L)) → KnowsAt k s q span o → KnowsAt k s q span (option_map seen_by_owner o)
-knows_let_go k s q span None knows = knows
 knows_let_go k s q span (Some Idle) knows = knows
-knows_let_go k s q span (Some (Calling c l h)) knows = knows
-knows_let_go k s q span (Some (Holding h)) knows = knows
-knows_let_go k s q span (Some (Leaked h)) knows = knows
-knows_let_go k s q span (Some (Gone h)) knows = knows
+knows_let_go k s q span _ knows = knows
 
 good_let_go : {W V C L A : Type 0} (m : Machine W V C L A) (k : LocalInvariant V C L) (seen : Seen W V C L) (v wr : Option V) → Invariant m k seen → k.Shape seen.plain v → v ≡ wr
     → Invariant m k (record { state = let_go (record seen.state { value = v }); plain = seen.plain; span = seen.span; written = wr })
@@ -73,11 +64,9 @@ all-from test [] each = refl
 all-from test (x ∷ xs) each = and_from (test x) (list_all test xs) (each zero x refl) (all-from test xs (λ q y e. each (suc q) y e))
 
 yields : {C L : Type 0} (s : Plain) (q : ℕ) (x : Seat C L) → YieldsToOwner s q (Some x) → yields_to_owner x ≡ true
-yields s q Idle may = refl
 yields s q (Calling c l h) may = absurd may
 yields s q (Holding h) may = absurd may
-yields s q (Leaked h) may = refl
-yields s q (Gone h) may = refl
+yields s q _ may = refl
 
 none_owns : {W V C L A : Type 0} (m : Machine W V C L A) (seen : Seen W V C L) → is_owners m seen.state ≡ false → m.owned ≡ true → IsOwners seen → ⊥
 none_owns m seen closed owned all =

@@ -36,21 +36,11 @@ begun_more : {V A : Type 0} (begins : List (Option ℕ)) (p q k : ℕ) (old : Op
     → (is_begun o ≡ true → p < length begins) → begin_of begins q ≡ old
     → begin_of (begins_after begins p k o) q ≡ (if (p == q) && is_begun o then Some k else old)
 begun_more begins p q k old outcome.Begun lt e = begun_at begins p q k old (lt refl) e
-begun_more begins p q k old outcome.PassedOver lt e = e ∙ never (p == q) (Some k) old
-begun_more begins p q k old outcome.GoingOn lt e = e ∙ never (p == q) (Some k) old
-begun_more begins p q k old (outcome.Answered a b) lt e = e ∙ never (p == q) (Some k) old
-begun_more begins p q k old (outcome.Value v) lt e = e ∙ never (p == q) (Some k) old
-begun_more begins p q k old outcome.Written lt e = e ∙ never (p == q) (Some k) old
-begun_more begins p q k old outcome.Leaked lt e = e ∙ never (p == q) (Some k) old
+begun_more begins p q k old _ lt e = e ∙ never (p == q) (Some k) old
 
 length-begins_after : {V A : Type 0} (begins : List (Option ℕ)) (p k : ℕ) (o : Outcome A V) → length (begins_after begins p k o) ≡ length begins
 length-begins_after begins p k outcome.Begun = length-set begins p (Some k)
-length-begins_after begins p k outcome.PassedOver = refl
-length-begins_after begins p k outcome.GoingOn = refl
-length-begins_after begins p k (outcome.Answered a b) = refl
-length-begins_after begins p k (outcome.Value v) = refl
-length-begins_after begins p k outcome.Written = refl
-length-begins_after begins p k outcome.Leaked = refl
+length-begins_after begins p k _ = refl
 
 -- only a party that exists begins a call
 begins_within : {W V C L A : Type 0} (m : Machine W V C L A) (s : State W V C L) (p : ℕ) (move : Move C V) → is_begun (happens m s p move).outcome ≡ true → p < length s.seats
@@ -59,9 +49,8 @@ begins_within m s p move e =
 
 -- nobody's call has begun
 none_begun : (begins : List (Option ℕ)) (p : ℕ) → begin_of (map (λ b. None) begins) p ≡ None
-none_begun [] p = refl
-none_begun (b ∷ bs) zero = refl
 none_begun (b ∷ bs) (suc p) = none_begun bs p
+none_begun _ _ = refl
 
 pub forgotten : {W V C L A : Type 0} (m : Machine W V C L A) (s : State W V C L) (begins now : List (Option ℕ)) → now ≡ map (λ b. None) begins → length begins ≡ length s.seats → Played {A = A} m s s now [] []
 forgotten m s begins now is parties =

@@ -10,7 +10,7 @@ use Rattle.spin_world_core.specs.declared.place.Hold.TheVariants.{Upgradable, Wr
 use Rattle.spin_world_core.specs.Manners.{Manner, is_again}
 use Rattle.spin_world_core.specs.Calls.{Coding, ticket, Asked, waits, waits_or_starves, tries, tries_weakly, tries_to_know, looks, counts_readers, counts_writers, turns_to, gives_back, initializes, fails_to_initialize, waits_for_value, polls, looks_for_value, looks_complete, meets, Said, granted, refused, done, tells, counted, gives_value, failed, leads, grant, let_go_of, own_steps, Mark, AnyOf, Grants, HasMoment, HasWeakMoment, FindsClosed, first_word, Limit, unlimited, within, within_changes, gets_within, changes_within, registers_after, limit}
 use Rattle.spin_world_core.specs.Runs.{mark_of, own, own_count, failures, changes, RegistersInTime, EndsWithin, GoesOnWithin}
-use Rattle.spin_world_core.specs.Acts.{Act, retry, Table}
+use Rattle.spin_world_core.specs.Acts.{Act, retry}
 use Rattle.spin_world_core.proofs.Stands.{Stand, entries_at, stand_of}
 use Rattle.spin_world_core.proofs.Spans.{nil_left, own-mine, own-other, own_count-mine, own_count-other, failures-mine, failures-other, changes-mine, changes-other}
 
@@ -78,7 +78,6 @@ module _ (p : ℕ) (s : Plain) (step : Option Change) (r : Manner) (span : List 
       omega (arith, own_count-mine p step r s span, one, ltb-true j (suc k) lt)
 
   pub spent-mine : (what : Limit) (coding : Coding) (t : Turn) (cs : List Change) (j k : ℕ) → Turned t s step r → own p (mark_of p step r s ∷ span) ≡ cs → MaySpend what t cs j k p coding (mark_of p step r s ∷ span) → Spends what j p span → Spends what k p (mark_of p step r s ∷ span)
-  spent-mine unlimited coding t cs j k how is may spent = tt
   spent-mine (within n) coding t cs j k how is may spent = omega (arith, own_count-mine p step r s span, ltb-true j k may)
   spent-mine (within_changes n) coding goes cs j k how is may spent = counts_one j k may spent
   spent-mine (within_changes n) coding loses cs j k how is may spent = counts_lost j k may how spent
@@ -87,9 +86,9 @@ module _ (p : ℕ) (s : Plain) (step : Option Change) (r : Manner) (span : List 
   spent-mine (gets_within ask n) coding goes [] j k how is may spent = λ none. on_each (counts_one j k may) (λ found. inr found) (spent (none_before none))
   spent-mine (gets_within ask n) coding loses [] j k how is may spent = λ none. on_each (counts_lost j k may how) (λ found. inr found) (spent (none_before none))
   spent-mine (gets_within ask n) coding (misses c) [] j k how is may spent = λ none. inr (inl (refl, subst (λ d. is_open s d ≡ false) may how))
-  spent-mine (registers_after n i) coding t cs j k how is may spent = tt
   spent-mine (changes_within n) coding t (c ∷ cs) j k how is may spent = λ none. absurd (cc (is, none))
   spent-mine (changes_within n) coding t [] j k how is may spent = λ none. omega (arith, own_count-mine p step r s span, ltb-true j k may, spent (none_before none))
+  spent-mine _ coding t cs j k how is may spent = tt
 
 -- a call may go on so, and be answered by the next step
 
@@ -98,10 +97,9 @@ goes_within unlimited coding t cs j k p span is timely retries may spent = tt
 goes_within (within n) coding t cs j k p span is timely retries may spent = omega (arith, ltb-true k n timely, spent)
 goes_within (within_changes n) coding t cs j k p span is timely retries may spent = omega (arith, ltb-true k n timely, spent, retries)
 goes_within (gets_within ask n) coding t [] j k p span is timely retries may spent = λ none. on_each (λ le. omega (arith, ltb-true k n timely, le, retries)) (λ found. found) (spent none)
-goes_within (gets_within ask n) coding t (c ∷ cs) j k p span is timely retries may spent = λ none. absurd (cc (is, none))
 goes_within (changes_within n) coding t [] j k p span is timely retries may spent = λ none. omega (arith, ltb-true k n timely, spent none)
-goes_within (changes_within n) coding t (c ∷ cs) j k p span is timely retries may spent = λ none. absurd (cc (is, none))
 goes_within (registers_after n i) coding t cs j k p span is timely retries may spent = may
+goes_within _ coding t (c ∷ cs) j k p span is timely retries may spent = λ none. absurd (cc (is, none))
 
 -- what an answer owes of its call's time where that is shown by what the party knows
 abbrev pub OwesEnd : Limit → Coding → ℕ → List Mark → Type 0
@@ -110,13 +108,11 @@ OwesEnd _ coding p span = Unit {0}
 
 pub ends_within : (what : Limit) (coding : Coding) (cs : List Change) (k p : ℕ) (s : Plain) (step : Option Change) (r : Manner) (span : List Mark) → is_timely what cs k ≡ true → failures p span ≤ changes coding p span → Spends what k p span
     → OwesEnd what coding p (mark_of p step r s ∷ span) → EndsWithin what coding p (mark_of p step r s ∷ span)
-ends_within unlimited coding cs k p s step r span timely retries spent owed = tt
 ends_within (within n) coding cs k p s step r span timely retries spent owed = omega (arith, ltb-true k n timely, spent, own_count-mine p step r s span)
 ends_within (within_changes n) coding cs k p s step r span timely retries spent owed =
     omega (arith, ltb-true k n timely, spent, retries, own_count-mine p step r s span, changes-mine coding p step r s span)
-ends_within (gets_within ask n) coding cs k p s step r span timely retries spent owed = tt
-ends_within (changes_within n) coding cs k p s step r span timely retries spent owed = tt
 ends_within (registers_after n i) coding cs k p s step r span timely retries spent owed = owed
+ends_within _ coding cs k p s step r span timely retries spent owed = tt
 
 -- Its plain steps, and the moment of a grant
 
@@ -136,10 +132,9 @@ any_map P Q (x ∷ xs) f (inl here) = inl (f x here)
 any_map P Q (x ∷ xs) f (inr there) = inr (any_map P Q xs f there)
 
 granted_here : (p : ℕ) (ask : Ask) (m : Mark) (b : Bool) (step : Option Change) → (m.party == p) ≡ b → m.change ≡ step → IsOpenStep m.before m.party step → AnyOf (λ c. c ≡ gets p ask) (if b then option_to_list step else []) → Grants p ask m
-granted_here p ask m true None mine is may any = absurd any
 granted_here p ask m true (Some c) mine is may (inl same) = (eqb-true m.party p mine, subst (λ d. is_open m.before d ≡ true) same may.1, is ∙ ap (λ (d : Change). Some d) same)
 granted_here p ask m true (Some c) mine is may (inr none) = absurd none
-granted_here p ask m false step mine is may any = absurd any
+granted_here p ask m _ _ mine is may any = absurd any
 
 granted_at : (p : ℕ) (ask : Ask) (span : List Mark) → Opened span → AnyOf (λ c. c ≡ gets p ask) (own p span) → AnyOf (Grants p ask) span
 granted_at p ask [] opened any = any
@@ -290,21 +285,20 @@ starts_sound coding what p None = tt
 starts_sound coding what p (Some l) = timely_first coding what
 
 -- where the next step is a retry: no more retries have failed than others have changed the first word, it not counted if it has changed since; and what was found is enough
-abbrev pub Expects : {W V C L A : Type 0} → Table W V C L A → Act W L A → ℕ → Plain → List Mark → Type 0
-Expects {W = W} t (retry n f step won found missed) p s span =
-    (failures p span + bit (not (first_word t.coding s == n)) ≤ changes t.coding p span) × ((w : W) → t.number w ≡ n → is_some (f w) ≡ true)
-Expects t _ p s span = Unit {0}
+abbrev pub Expects : {W L A : Type 0} → Coding → Act W L A → ℕ → Plain → List Mark → Type 0
+Expects coding (retry k f step won found missed) p s span = (failures p span + bit (not (first_word coding s == k)) ≤ changes coding p span) × (is_some (f k) ≡ true)
+Expects coding _ p s span = Unit {0}
 
--- what is owed of it by a step that finds the words w
-abbrev pub Found : {W V C L A : Type 0} → Table W V C L A → Act W L A → W → Option Change → Type 0
-Found {W = W} t (retry n f step won found missed) w made = (made ≡ None) × (t.number w ≡ n) × ((to : W) → t.number to ≡ n → is_some (f to) ≡ true)
-Found t _ w made = Unit {0}
+-- what is owed of it by a step that finds n in the first word
+abbrev pub Found : {W L A : Type 0} → Act W L A → ℕ → Option Change → Type 0
+Found (retry k f step won found missed) n made = (made ≡ None) × (n ≡ k) × (is_some (f k) ≡ true)
+Found _ n made = Unit {0}
 
-pub record Known {W V C L A : Type 0} (t : Table W V C L A) (what : Asked) (act : Act W L A) (row : Row) (p : ℕ) (s : Plain) (span : List Mark) : Type 0 where
+pub record Known {W L A : Type 0} (coding : Coding) (what : Asked) (act : Act W L A) (row : Row) (p : ℕ) (s : Plain) (span : List Mark) : Type 0 where
   pub stand : entries p s ≡ entries_at p row.stand
   pub made : own p span ≡ row.made p
-  pub spent : Spends (limit t.coding what) row.spent p span
-  pub expects : Expects t act p s span
+  pub spent : Spends (limit coding what) row.spent p span
+  pub expects : Expects coding act p s span
   pub opened : Opened span
 
 -- after a step of its own
@@ -313,41 +307,39 @@ unmoved : (a b : ℕ) (coding : Coding) (p n : ℕ) (s : Plain) (step : Option C
 unmoved a b coding p n s step le none is =
     omega (arith, le, ap (λ (o : Option Change). bit (not (first_word coding (apply_some s o) == n))) none, ap (λ x. bit (not x)) (eq-eqb (first_word coding s) n is))
 
-pub expects-mine : {W V C L A : Type 0} (t : Table W V C L A) (act : Act W L A) (w : W) (p : ℕ) (s : Plain) (step : Option Change) (r : Manner) (span : List Mark) → t.number w ≡ first_word t.coding s
-    → failures p (mark_of p step r s ∷ span) ≤ changes t.coding p (mark_of p step r s ∷ span) → Found t act w step → Expects t act p (apply_some s step) (mark_of p step r s ∷ span)
-expects-mine t (retry n f c won found missed) w p s step r span is le finds =
-    (unmoved (failures p (mark_of p step r s ∷ span)) (changes t.coding p (mark_of p step r s ∷ span)) t.coding p n s step le finds.0 (sym is ∙ finds.1), finds.2)
-expects-mine t _ w p s step r span is le finds = tt
+pub expects-mine : {W L A : Type 0} (coding : Coding) (act : Act W L A) (n p : ℕ) (s : Plain) (step : Option Change) (r : Manner) (span : List Mark) → n ≡ first_word coding s
+    → failures p (mark_of p step r s ∷ span) ≤ changes coding p (mark_of p step r s ∷ span) → Found act n step → Expects coding act p (apply_some s step) (mark_of p step r s ∷ span)
+expects-mine coding (retry k f c won found missed) n p s step r span is le finds =
+    (unmoved (failures p (mark_of p step r s ∷ span)) (changes coding p (mark_of p step r s ∷ span)) coding p k s step le finds.0 (sym is ∙ finds.1), finds.2)
+expects-mine coding _ n p s step r span is le finds = tt
 
 -- as a call begins
 
 pub none_spent : (what : Limit) (k p : ℕ) → Spends what k p []
-none_spent unlimited k p = tt
 none_spent (within n) k p = omega arith
 none_spent (within_changes n) k p = omega arith
 none_spent (gets_within ask n) k p = λ none. inl (omega arith)
-none_spent (registers_after n j) k p = tt
 none_spent (changes_within n) k p = λ none. omega arith
+none_spent _ k p = tt
 
 abbrev pub NoRetry : {W L A : Type 0} → Act W L A → Type 0
 NoRetry (retry k f step won found missed) = ⊥
 NoRetry _ = Unit {0}
 
-pub none_expected : {W V C L A : Type 0} (t : Table W V C L A) (act : Act W L A) (p : ℕ) (s : Plain) → NoRetry act → Expects t act p s []
-none_expected t (retry k f step won found missed) p s none = absurd none
-none_expected t _ p s none = tt
+pub none_expected : {W L A : Type 0} (coding : Coding) (act : Act W L A) (p : ℕ) (s : Plain) → NoRetry act → Expects coding act p s []
+none_expected coding (retry k f step won found missed) p s none = absurd none
+none_expected coding _ p s none = tt
 
 -- after another party's step
 
 spent-other : (what : Limit) (k p q : ℕ) (s : Plain) (step : Option Change) (r : Manner) (span : List Mark) → (q ≡ p → ⊥) → Spends what k p span → Spends what k p (mark_of q step r s ∷ span)
-spent-other unlimited k p q s step r span ne spent = tt
 spent-other (within n) k p q s step r span ne spent = omega (arith, own_count-other p q step r s span ne, spent)
 spent-other (within_changes n) k p q s step r span ne spent = omega (arith, own_count-other p q step r s span ne, failures-other p q step r s span ne, spent)
 spent-other (gets_within ask n) k p q s step r span ne spent = λ none.
     on_each (λ le. omega (arith, own_count-other p q step r s span ne, failures-other p q step r s span ne, le)) (λ found. inr found)
     (spent (sym (own-other p q step r s span ne) ∙ none))
-spent-other (registers_after n j) k p q s step r span ne spent = tt
 spent-other (changes_within n) k p q s step r span ne spent = λ none. omega (arith, own_count-other p q step r s span ne, spent (sym (own-other p q step r s span ne) ∙ none))
+spent-other _ k p q s step r span ne spent = tt
 
 bit_le : (b : Bool) → bit b ≤ 1
 bit_le true = omega arith
@@ -361,21 +353,21 @@ moved a b n x y le =
     (λ (d : y ≡ x → ⊥). omega (arith, le, ap (λ c. bit (not c)) (ne_eqb y x d), bit_le (not (y == n))))
     (cases_eq y x)
 
-expects-other : {W V C L A : Type 0} (t : Table W V C L A) (act : Act W L A) (p q : ℕ) (s : Plain) (step : Option Change) (r : Manner) (span : List Mark) → (q ≡ p → ⊥) → Expects t act p s span
-    → Expects t act p (apply_some s step) (mark_of q step r s ∷ span)
-expects-other t (retry n f c won found missed) p q s step r span ne expects = (
-  omega (arith, failures-other p q step r s span ne, changes-other t.coding p q step r s span ne, moved (failures p span) (changes t.coding p span) n (first_word t.coding s) (first_word t.coding (apply_some s step)) expects.0),
+expects-other : {W L A : Type 0} (coding : Coding) (act : Act W L A) (p q : ℕ) (s : Plain) (step : Option Change) (r : Manner) (span : List Mark) → (q ≡ p → ⊥) → Expects coding act p s span
+    → Expects coding act p (apply_some s step) (mark_of q step r s ∷ span)
+expects-other coding (retry k f c won found missed) p q s step r span ne expects = (
+  omega (arith, failures-other p q step r s span ne, changes-other coding p q step r s span ne, moved (failures p span) (changes coding p span) k (first_word coding s) (first_word coding (apply_some s step)) expects.0),
   expects.1,
 )
-expects-other t _ p q s step r span ne expects = tt
+expects-other coding _ p q s step r span ne expects = tt
 
-pub known-other : {W V C L A : Type 0} (t : Table W V C L A) (what : Asked) (act : Act W L A) (row : Row) (p q : ℕ) (s : Plain) (step : Option Change) (r : Manner) (span : List Mark) → (q ≡ p → ⊥) → IsOpenStep s q step
-    → Known t what act row p s span → Known t what act row p (apply_some s step) (mark_of q step r s ∷ span)
-known-other t what act row p q s step r span ne may known =
+pub known-other : {W L A : Type 0} (coding : Coding) (what : Asked) (act : Act W L A) (row : Row) (p q : ℕ) (s : Plain) (step : Option Change) (r : Manner) (span : List Mark) → (q ≡ p → ⊥) → IsOpenStep s q step
+    → Known coding what act row p s span → Known coding what act row p (apply_some s step) (mark_of q step r s ∷ span)
+known-other coding what act row p q s step r span ne may known =
     record {
       stand = entries-other s q p step ne may ∙ known.stand;
       made = own-other p q step r s span ne ∙ known.made;
-      spent = spent-other (limit t.coding what) row.spent p q s step r span ne known.spent;
-      expects = expects-other t act p q s step r span ne known.expects;
+      spent = spent-other (limit coding what) row.spent p q s step r span ne known.spent;
+      expects = expects-other coding act p q s step r span ne known.expects;
       opened = (may, known.opened);
     }

@@ -1,19 +1,19 @@
 -- What the table of an object owes, point by point, and that its machine then shows all local facts.
-use Rattle.std.proofs.Common.{◌≡◌, ℕ, zero, suc, ◌≤◌, Bool, true, false, not, ◌&&◌, ◌||◌, ◌==◌, is_some, Option, Some, None, List, [], ◌∷◌, ◌++◌, option_to_list}
+use Rattle.std.proofs.Common.{◌≡◌, ℕ, zero, suc, ◌≤◌, Bool, true, false, ◌||◌, ◌==◌, is_some, Option, Some, None, List, [], ◌∷◌, ◌++◌, option_to_list}
 use Rattle.spin_step.specs.Plain.{Plain, Change, apply, is_open, is_empty}
 use Rattle.spin_step.specs.Parties.{apply_some, IsOpenStep, IsExclusive}
 use Rattle.spin_world_core.specs.declared.place.Hold.{Hold}
 use Rattle.spin_world_core.specs.declared.object.Next.{Next}
 use Rattle.spin_world_core.specs.declared.object.Next.TheVariants.{GoesOn, Answers}
 use Rattle.spin_world_core.specs.Manners.{Manner, plain, again, weak, by_step}
-use Rattle.spin_world_core.specs.Calls.{Coding, Asked, encoded, is_step_of, BelongsTo, own_steps, Mark, AnyOf, Limit, registers_after, limit, may_be_weak}
+use Rattle.spin_world_core.specs.Calls.{Asked, encoded, BelongsTo, own_steps, Mark, AnyOf, Limit, registers_after, limit, may_be_weak}
 use Rattle.spin_world_core.specs.Undisturbed.{arrived, is_open_next, steps_alone}
 use Rattle.spin_world_core.specs.Machines.{opening_plain}
 use Rattle.spin_world_core.specs.Runs.{mark_of, failures, changes}
-use Rattle.spin_world_core.specs.Acts.{Act, load, load_if, load_for, enter, exchange, weak_exchange, attempt, retry, store, store_if, passing, step_by, is_completion, is_waiting, look_manner, Table, machine_of}
-use Rattle.spin_world_core.specs.Values.{makes_value}
+use Rattle.spin_world_core.specs.Acts.{number_at, Act, load, load_if, load_for, enter, exchange, weak_exchange, attempt, retry, store, section, swap, tried, guessed, passing, place_of, step_by, is_waiting, look_manner, Table, begin_of, machine_of}
+use Rattle.spin_world_core.specs.Operations.{performed}
 use Rattle.spin_world_core.proofs.Facts.{LocalInvariant}
-use Rattle.spin_world_core.proofs.Operating.{BeginsWhereItFits, TriesWeakly, Refuses, OperatesAt}
+use Rattle.spin_world_core.proofs.Operating.{fits_act, Operates}
 use Rattle.spin_world_core.proofs.Stands.{stand_of, stand_after}
 use Rattle.spin_world_core.proofs.Rows.{Turn, goes, loses, misses, MaySpend, OwesRight, Row, Point, row_at, SoundAt, Found, NoRetry, Known}
 
@@ -28,7 +28,7 @@ row_of t n c l h = row_at (t.asks c h) h (n.point c l h)
 
 abbrev pub KnowsRow : {W V C L A : Type 0} (t : Table W V C L A) → Notes t → C → L → Option Hold → ℕ → Plain → List Mark → Option Row → Type 0
 KnowsRow t n c l h p s span None = ⊥
-KnowsRow t n c l h p s span (Some row) = Known t (t.asks c h) (t.act c l h) row p s span × n.Knows c l h p s span
+KnowsRow t n c l h p s span (Some row) = Known t.coding (t.asks c h) (t.act c l h) row p s span × n.Knows c l h p s span
 
 abbrev pub keeping_of : {W V C L A : Type 0} (t : Table W V C L A) → Notes t → LocalInvariant V C L
 keeping_of t n = record { Shape = λ s v. n.Shape s; Knows = λ c l h p s span. KnowsRow t n c l h p s span (row_of t n c l h) }
@@ -45,10 +45,10 @@ call_of t n c = record { asks = λ h. t.asks c h; act = λ l h. t.act c l h; poi
 
 -- what holds where a party is about to step
 pub record AtPoint {W V C L A : Type 0} (t : Table W V C L A) (n : Notes t) (p : ℕ) (k : CallOf W L A) (l : L) (h : Option Hold) (s : Plain) (w : W) (span : List Mark) (row : Row) : Type 0 where
-  pub encodes : t.number w ∷ t.others w ≡ encoded t.coding s
+  pub encodes : t.memory.numbers w ≡ encoded t.coding s
   pub shape : n.Shape s
   pub exclusive : IsExclusive s
-  pub known : Known t (k.asks h) (k.act l h) row p s span
+  pub known : Known t.coding (k.asks h) (k.act l h) row p s span
   pub knows : k.Knows l h p s span
   pub retries : failures p span ≤ changes t.coding p span
 
@@ -61,10 +61,10 @@ AtRow t n p c l h s w span (Some row) = At t n p c l h s w span row
 
 -- The debts
 
--- the step function's new words are those after the plain step, which is open and the party's own; its refusal says that the step is closed
-abbrev pub Means : {W V C L A : Type 0} (t : Table W V C L A) → Notes t → ℕ → Plain → Change → Option W → Type 0
-Means t n p s c None = is_open s c ≡ false
-Means t n p s c (Some to) = IsOpenStep s p (Some c) × (t.number to ∷ t.others to ≡ encoded t.coding (apply s c)) × n.Shape (apply s c)
+-- what the step function gives makes the words after the plain step, which is open and the party's own; its refusal says that the step is closed
+abbrev pub Means : {X W V C L A : Type 0} (t : Table W V C L A) → Notes t → ℕ → Plain → Change → (X → W) → Option X → Type 0
+Means t n p s c put None = is_open s c ≡ false
+Means t n p s c put (Some x) = IsOpenStep s p (Some c) × (t.memory.numbers (put x) ≡ encoded t.coding (apply s c)) × n.Shape (apply s c)
 
 -- an exchange that is made again goes on by another number, by which there are new words. That it is another matters only to a call that registers in time
 abbrev pub FindsAnother : Limit → Bool → Bool → Type 0
@@ -76,13 +76,13 @@ abbrev pub is_answer : {L A : Type 0} → Next L A → Bool
 is_answer (GoesOn l) = false
 is_answer (Answers a after) = true
 
-module _ {W V C L A : Type 0} (t : Table W V C L A) (n : Notes t) (p : ℕ) (k : CallOf W L A) (h : Option Hold) (s : Plain) (w : W) (span : List Mark) (row : Row) where
+module _ {W V C L A : Type 0} (t : Table W V C L A) (notes : Notes t) (p : ℕ) (k : CallOf W L A) (h : Option Hold) (s : Plain) (w : W) (span : List Mark) (row : Row) where
   -- the next point's row is this one after the step
   abbrev pub FollowsRow : Option Change → Manner → Turn → L → Option Row → Type 0
   FollowsRow step r turn l None = ⊥
   FollowsRow step r turn l (Some to) =
       (stand_after s.next step row.stand ≡ Some to.stand) × (row.made p ++ option_to_list step ≡ to.made p)
-      × MaySpend (limit t.coding (k.asks h)) turn (to.made p) row.spent to.spent p t.coding (mark_of p step r s ∷ span) × Found t (k.act l h) w step × k.Knows l h p (apply_some s step) (mark_of p step r s ∷ span)
+      × MaySpend (limit t.coding (k.asks h)) turn (to.made p) row.spent to.spent p t.coding (mark_of p step r s ∷ span) × Found (k.act l h) (number_at t.memory 0 w) step × k.Knows l h p (apply_some s step) (mark_of p step r s ∷ span)
 
   -- how a call goes on is right, by this step and this turn
   abbrev pub Follows : Bool → Option Change → Manner → Turn → Next L A → Type 0
@@ -91,33 +91,37 @@ module _ {W V C L A : Type 0} (t : Table W V C L A) (n : Notes t) (p : ℕ) (k :
       (stand_after s.next step row.stand ≡ Some (stand_of after)) × AnyOf (λ steps. row.made p ++ option_to_list step ≡ steps) (own_steps (k.asks h) (t.says a) p)
       × OwesRight weakly (k.asks h) (t.says a) p (mark_of p step r s ∷ span)
 
-  abbrev pub Owes : Act W L A → Type 0
-  Owes (load next) = Follows false None plain goes (next w)
-  Owes (load_if test a b) =
+  -- on the i-th word, which is n
+  abbrev pub OwesOn : ℕ → ℕ → Act W L A → Type 0
+  OwesOn i n (load next) = Follows false None plain goes (next n)
+  OwesOn i n (load_if test a b) =
       let looking = by_step (look_manner (k.asks h)) in
-      (test w ≡ true → Follows false None looking goes (a w)) × (test w ≡ false → Follows false None looking goes (b w))
-  Owes (load_for f step found missed) =
-      Means t n p s (step p) (f w) × (is_some (f w) ≡ true → Follows false None plain goes (found w)) × (is_open s (step p) ≡ false → Follows false None plain (misses (step p)) missed)
-  Owes (enter test step won lost) =
+      (test n ≡ true → Follows false None looking goes (a n)) × (test n ≡ false → Follows false None looking goes (b n))
+  OwesOn i n (load_for f step found missed) =
+      Means t notes p s (step p) (λ j. t.memory.put i j w) (f n) × (is_some (f n) ≡ true → Follows false None plain goes (found n)) × (is_open s (step p) ≡ false → Follows false None plain (misses (step p)) missed)
+  OwesOn i n (enter test step won lost) =
       let looking = by_step (look_manner (k.asks h)) in
-      Means t n p s (step p) (passing (test w) w) × Follows false (Some (step p)) looking goes won × (is_open s (step p) ≡ false → Follows false None looking (misses (step p)) lost)
-  Owes (exchange f step won lost) =
-      Means t n p s (step p) (f w) × Follows false (Some (step p)) plain goes won × (is_open s (step p) ≡ false → Follows false None plain (misses (step p)) (lost w))
-  Owes (weak_exchange f step won lost) =
-      Means t n p s (step p) (f w) × Follows false (Some (step p)) plain goes won × (is_open s (step p) ≡ false → Follows false None plain (misses (step p)) lost) × Follows true None weak goes lost
+      Means t notes p s (step p) (λ j. w) (passing (test n) n) × Follows false (Some (step p)) looking goes won × (is_open s (step p) ≡ false → Follows false None looking (misses (step p)) lost)
+  OwesOn i n (exchange operation step won lost) =
+      Means t notes p s (step p) (λ j. t.memory.put i j w) (tried operation n) × Follows false (Some (step p)) plain goes won × (is_open s (step p) ≡ false → Follows false None plain (misses (step p)) (lost n))
+  OwesOn i n (weak_exchange j f step won lost) =
+      Means t notes p s (step p) (λ j. t.memory.put i j w) (tried (swap j f) n) × Follows false (Some (step p)) plain goes won × (is_open s (step p) ≡ false → Follows false None plain (misses (step p)) lost) × Follows true None weak goes lost
       × (may_be_weak (k.asks h) ≡ true) × (row.made p ≡ [])
-  Owes (attempt f step won lost) =
-      ((to : W) → f w ≡ Some to → Means t n p s (step p) (Some to) × Follows false (Some (step p)) plain goes won) × (f w ≡ None → Follows false None plain goes lost) × (is_answer lost ≡ true)
-  Owes (retry j f step won found missed) =
-      Means t n p s (step p) (f w) × (t.number w ≡ j → Follows false (Some (step p)) again goes won)
-      × (FindsAnother (limit t.coding (k.asks h)) (t.number w == j) (is_some (f w)) → Follows false None again loses (found w)) × (is_open s (step p) ≡ false → Follows false None again (misses (step p)) missed)
-  Owes (store can f step next) = (can w ≡ true) × Means t n p s (step p) (Some (f w)) × Follows false (Some (step p)) plain goes next
-  Owes (store_if can f step test a b) =
-      (can w ≡ true) × Means t n p s (step p) (Some (f w)) × (test w ≡ true → Follows false (Some (step p)) plain goes a) × (test w ≡ false → Follows false (Some (step p)) plain goes (b w))
+  OwesOn i n (attempt j f step won lost) =
+      ((to : ℕ) → guessed j f n ≡ Some to → Means t notes p s (step p) (λ j. t.memory.put i j w) (Some to) × Follows false (Some (step p)) plain goes won) × (guessed j f n ≡ None → Follows false None plain goes lost) × (is_answer lost ≡ true)
+  OwesOn i n (retry j f step won found missed) =
+      Means t notes p s (step p) (λ j. t.memory.put i j w) (f n) × (n ≡ j → Follows false (Some (step p)) again goes won) × (FindsAnother (limit t.coding (k.asks h)) (n == j) (is_some (f n)) → Follows false None again loses (found n))
+      × (is_open s (step p) ≡ false → Follows false None again (misses (step p)) missed)
+  OwesOn i n (store can operation step next) = (can n ≡ true) × Means t notes p s (step p) (λ j. t.memory.put i j w) (Some (performed operation n)) × Follows false (Some (step p)) plain goes next
+  OwesOn i n (section can f step won lost) =
+      (can w ≡ true) × Means t notes p s (step p) (λ u. u) (f w) × Follows false (Some (step p)) plain goes (won w) × (is_open s (step p) ≡ false → Follows false None plain (misses (step p)) (lost w))
+
+  abbrev pub Owes : ℕ → Act W L A → Type 0
+  Owes i act = OwesOn (place_of i act) (number_at t.memory (place_of i act) w) act
 
 abbrev pub OwesRow : {W V C L A : Type 0} (t : Table W V C L A) (n : Notes t) → ℕ → CallOf W L A → L → Option Hold → Plain → W → List Mark → Option Row → Type 0
 OwesRow t n p k l h s w span None = Unit {0}
-OwesRow t n p k l h s w span (Some row) = AtPoint t n p k l h s w span row → Owes t n p k h s w span row (k.act l h)
+OwesRow t n p k l h s w span (Some row) = AtPoint t n p k l h s w span row → Owes t n p k h s w span row (t.word l) (k.act l h)
 
 abbrev pub OwesAt : {W V C L A : Type 0} (t : Table W V C L A) (n : Notes t) → ℕ → C → L → Option Hold → Plain → W → List Mark → Type 0
 OwesAt t n p c l h s w span = OwesRow t n p (call_of t n c) l h s w span (row_of t n c l h)
@@ -130,7 +134,7 @@ goes_by (Answers a after) x f = x
 abbrev pub answers_by : {W V C L A : Type 0} → Table W V C L A → ℕ → W → C → L → Option Hold → Bool
 answers_by t zero w c l h = false
 answers_by {V = V} t (suc k) w c l h =
-    let st = step_by {V = V} t.number (t.act c l h) w in
+    let st = step_by {V = V} t.memory (t.word l) (t.act c l h) w in
     goes_by st.next true (λ l. answers_by t k st.words c l h)
 
 -- a call that may wait is answered by so many steps, where what it asks is open to it and nobody else steps
@@ -150,34 +154,16 @@ abbrev pub BeginsAt : {W V C L A : Type 0} (t : Table W V C L A) → Notes t →
 BeginsAt t n c h p s None = Unit {0}
 BeginsAt t n c h p s (Some l) = BeginsRow t n c l h p s (row_of t n c l h)
 
--- the plain steps are those of this kind of lock; none completes a closure, since none places a value
-abbrev pub is_own : Coding → Change → Bool
-is_own coding c = is_step_of coding c && not (is_completion c)
-
-abbrev pub makes_own : {W L A : Type 0} → Coding → Act W L A → ℕ → Bool
-makes_own coding (enter test step won lost) p = is_own coding (step p)
-makes_own coding (exchange f step won lost) p = is_own coding (step p)
-makes_own coding (weak_exchange f step won lost) p = is_own coding (step p)
-makes_own coding (attempt f step won lost) p = is_own coding (step p)
-makes_own coding (retry k f step won found missed) p = is_own coding (step p)
-makes_own coding (store can f step next) p = is_own coding (step p)
-makes_own coding (store_if can f step test a b) p = is_own coding (step p)
-makes_own coding _ p = true
-
 -- what an object shows of its table
 pub record Pays {W V C L A : Type 0} (t : Table W V C L A) (n : Notes t) : Type 0 where
-  pub fits : BeginsWhereItFits t
-  pub weakly : TriesWeakly t
-  pub refuses : Refuses t
-  pub operates : (c : C) (l : L) (h : Option Hold) → OperatesAt t.coding t c l h
-  pub first : t.number t.words ∷ t.others t.words ≡ encoded t.coding (opening_plain (machine_of t))
+  pub fits : (p : ℕ) (c : C) (l : L) (h : Option Hold) → fits_act t.coding (t.asks c h) (t.act c l h) p ≡ true
+  pub operates : Operates t
+  pub first : t.memory.numbers t.words ≡ encoded t.coding (opening_plain (machine_of t))
   pub shape_first : n.Shape (opening_plain (machine_of t))
-  pub numbers_tell : (v w : W) → t.number v ∷ t.others v ≡ t.number w ∷ t.others w → v ≡ w
-  pub no_value : makes_value t.coding ≡ false
+  pub numbers_tell : (v w : W) → t.memory.numbers v ≡ t.memory.numbers w → v ≡ w
   pub one_list : (s : Plain) → n.Shape s → (is_empty s.holders || is_empty s.tickets) ≡ true
-  pub makes : (p : ℕ) (c : C) (l : L) (h : Option Hold) → makes_own t.coding (t.act c l h) p ≡ true
   pub sound : (p : ℕ) (c : C) (l : L) (h : Option Hold) → SoundAt t.coding (t.asks c h) p (n.point c l h)
-  pub begins : (p : ℕ) (c : C) (h : Option Hold) (s : Plain) → BeginsAt t n c h p s (t.begin c h)
+  pub begins : (p : ℕ) (c : C) (h : Option Hold) (s : Plain) → BeginsAt t n c h p s (begin_of t c h)
   pub others : (p q : ℕ) (c : C) (l : L) (h : Option Hold) (s : Plain) (step : Option Change) (r : Manner) (span : List Mark) → (q ≡ p → ⊥) → n.Shape s → IsOpenStep s q step → BelongsTo t.coding step
       → n.Knows c l h p s span → n.Knows c l h p (apply_some s step) (mark_of q step r s ∷ span)
   pub owes : (p : ℕ) (c : C) (l : L) (h : Option Hold) (s : Plain) (w : W) (span : List Mark) → OwesAt t n p c l h s w span

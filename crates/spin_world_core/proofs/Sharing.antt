@@ -24,17 +24,11 @@ none_leaked (Gone h ∷ seats) none = ap (λ ss. Gone h ∷ ss) (none_leaked sea
 
 shares_as_before : {C L : Type 0} (s : Seat C L) → shares (seen_by_owner s) ≡ shares s
 shares_as_before Idle = refl
-shares_as_before (Calling c l h) = refl
-shares_as_before (Holding h) = refl
-shares_as_before (Leaked h) = refl
-shares_as_before (Gone h) = refl
+shares_as_before _ = refl
 
 gone_or_not : {C L : Type 0} (s : Seat C L) → has_leaked (seen_by_owner s) ≡ false
 gone_or_not Idle = refl
-gone_or_not (Calling c l h) = refl
-gone_or_not (Holding h) = refl
-gone_or_not (Leaked h) = refl
-gone_or_not (Gone h) = refl
+gone_or_not _ = refl
 
 -- and afterwards as many share it, and nobody has leaked who is not gone
 pub shares_seen : {C L : Type 0} (seats : List (Seat C L)) → count_by shares (map seen_by_owner seats) ≡ count_by shares seats

@@ -33,12 +33,8 @@ stand_of (Some (Ticket n)) = queues n true
 stand_of (Some Starver) = starves
 
 pub held_at : (p : ℕ) (h : Option Hold) → entries_held p h ≡ entries_at p (stand_of h)
-held_at p None = refl
 held_at p (Some Read) = refl
-held_at p (Some Upgradable) = refl
-held_at p (Some Write) = refl
-held_at p (Some (Ticket n)) = refl
-held_at p (Some Starver) = refl
+held_at p _ = refl
 
 -- what a step of its own makes of it, where n is the next ticket's number. `None`: no such step is made there
 abbrev pub after_getting : ℕ → Ask → Stand → Option Stand

@@ -32,12 +32,7 @@ use Rattle.spin_world_core.proofs.Schedules.{length-happens}
 
 same_but_begin : {V A : Type 0} (began : Option ℕ) (o : Outcome A V) → without_begin (with_begin began o) ≡ without_begin o
 same_but_begin began outcome.PassedOver = refl
-same_but_begin began outcome.Begun = refl
-same_but_begin began outcome.GoingOn = refl
-same_but_begin began (outcome.Answered a b) = refl
-same_but_begin began (outcome.Value v) = refl
-same_but_begin began outcome.Written = refl
-same_but_begin began outcome.Leaked = refl
+same_but_begin began _ = refl
 
 -- a step's outcome doesn't say where its call began
 no_begin_after : {W V C L A : Type 0} (s : State W V C L) (p : ℕ) (c : C) (h : Option Hold) (n : Next L A) → without_begin (goes_on s p c h n).outcome ≡ (goes_on s p c h n).outcome
@@ -156,21 +151,11 @@ brings_gone_on {V = V} {A = A} seen p q move c l h w v value step manner (Answer
 
 quiet_step : {V A : Type 0} (C : Type 0) (o : Outcome A V) (stage : Stage) → stage_by_owner {C = C} o Step stage ≡ stage
 quiet_step C outcome.PassedOver stage = refl
-quiet_step C outcome.Begun stage = refl
-quiet_step C outcome.GoingOn stage = refl
-quiet_step C (outcome.Answered a b) stage = refl
-quiet_step C (outcome.Value v) stage = refl
-quiet_step C outcome.Written stage = refl
-quiet_step C outcome.Leaked stage = refl
+quiet_step C _ stage = refl
 
 quiet_weak : {V A : Type 0} (C : Type 0) (o : Outcome A V) (stage : Stage) → stage_by_owner {C = C} o Weak stage ≡ stage
 quiet_weak C outcome.PassedOver stage = refl
-quiet_weak C outcome.Begun stage = refl
-quiet_weak C outcome.GoingOn stage = refl
-quiet_weak C (outcome.Answered a b) stage = refl
-quiet_weak C (outcome.Value v) stage = refl
-quiet_weak C outcome.Written stage = refl
-quiet_weak C outcome.Leaked stage = refl
+quiet_weak C _ stage = refl
 
 brings_refused : {W V C L A : Type 0} (seen : Seen W V C L) (p q : ℕ) (c : C) (l : L) (h : Option Hold) (o : Option (Next L A)) → slice_get seen.state.seats q ≡ Some (Calling c l h)
     → Brings p (scene_of seen q Weak (Some (Calling c l h)) (refuses seen.state q c h o) None manner.weak None)
@@ -186,12 +171,8 @@ brings_written A seen p q v y true = same_either (q == p) (stage_of (slice_get s
 brings_written A seen p q v y false = same_either (q == p) (stage_of (slice_get seen.state.seats p))
 
 let_go : {C L : Type 0} (o : Option (Seat C L)) → stage_of (option_map seen_by_owner o) ≡ let_go_stage (stage_of o)
-let_go None = refl
 let_go (Some Idle) = refl
-let_go (Some (Calling c l h)) = refl
-let_go (Some (Holding h)) = refl
-let_go (Some (Leaked h)) = refl
-let_go (Some (Gone h)) = refl
+let_go _ = refl
 
 -- the owner's look makes every leaked party gone
 let_go_all : {C L : Type 0} (seats : List (Seat C L)) (p : ℕ) (b : Bool)
@@ -235,9 +216,8 @@ stage-seen_after m seen p (e ∷ es) =
     ∙ ap (λ stage. stage_after p stage (scenes m (scene m seen e.0 e.1).after es)) (brings_at m seen p e.0 e.1 (slice_get seen.state.seats e.0) refl)
 
 stage_at_first : (C L : Type 0) (n p : ℕ) → stage_of {C = C} {L = L} (slice_get (replicate n Idle) p) ≡ at_rest
-stage_at_first C L zero p = refl
-stage_at_first C L (suc n) zero = refl
 stage_at_first C L (suc n) (suc p) = stage_at_first C L n p
+stage_at_first C L _ _ = refl
 
 length-seen_after : {W V C L A : Type 0} (m : Machine W V C L A) (seen : Seen W V C L) (es : List (ℕ × Move C V)) → length (seen_after m seen es).state.seats ≡ length seen.state.seats
 length-seen_after m seen [] = refl
@@ -257,11 +237,9 @@ none_there (x ∷ xs) (suc p) e = omega (arith, none_there xs p e)
 
 says_at : {C L : Type 0} (n p : ℕ) (s : Plain) (span : List Mark) (o : Option (Seat C L)) → (o ≡ None → n ≤ p) → StandsFor s p span o → PlaceSays (stage_of o) n s p span (option_map place_of o)
 says_at n p s span None past stands = (past refl, stands)
-says_at n p s span (Some Idle) past stands = stands
 says_at n p s span (Some (Calling c l h)) past stands = (h, stands)
-says_at n p s span (Some (Holding h)) past stands = stands
-says_at n p s span (Some (Leaked h)) past stands = stands
 says_at n p s span (Some (Gone h)) past stands = (h, stands)
+says_at n p s span _ past stands = stands
 
 says_seen : {W V C L A : Type 0} (m : Machine W V C L A) (p n : ℕ) (past : List (ℕ × Move C V)) → KeepsAll m n past
     → let seen = seen_after m (opening m n) past in PlaceSays (stage_after p at_rest (scenes m (opening m n) past)) n seen.plain p (seen.span p) (option_map place_of (slice_get seen.state.seats p))

@@ -89,12 +89,8 @@ pub beside : {W V C L A : Type 0} (m : Machine W V C L A) (w w' : W) (p q : ℕ)
     → (encoded m.coding (apply_some s step) ≡ encoded m.coding s → w' ≡ w)
     → ((c : C) (l : L) (h : Option Hold) → o ≡ Some (Calling c l h) → is_open_now q (m.asks c h) span s ≡ true → AnswersWithin m (steps_alone m.coding (m.asks c h)) w c l h)
     → RunsOn m w q span o → RunsOn m w' q (mark_of p step r s ∷ span) o
-beside m w w' p q s step r span None ne same begins runs = tt
-beside m w w' p q s step r span (Some Idle) ne same begins runs = tt
 beside m w w' p q s step r span (Some (Calling c l h)) ne same begins runs = λ recent first older is may leaves. beside_at m w w' p q c l h s step r span ne same (begins c l h refl) runs recent first older is may leaves
-beside m w w' p q s step r span (Some (Holding h)) ne same begins runs = tt
-beside m w w' p q s step r span (Some (Leaked h)) ne same begins runs = tt
-beside m w w' p q s step r span (Some (Gone h)) ne same begins runs = tt
+beside m w w' p q s step r span _ ne same begins runs = tt
 
 pub runs_resting : {W V C L A : Type 0} (m : Machine W V C L A) (w : W) (p : ℕ) (span : List Mark) (after : Option Hold) → RunsOn m w p span (Some (resting after))
 runs_resting m w p span None = tt
@@ -109,12 +105,8 @@ pub runs_fresh : {W V C L A : Type 0} (m : Machine W V C L A) (w : W) (p : ℕ) 
 runs_fresh m w p c l h = λ recent first older is may leaves. absurd (no_split recent older first is)
 
 pub runs_let_go : {W V C L A : Type 0} (m : Machine W V C L A) (w : W) (p : ℕ) (span : List Mark) (o : Option (Seat C L)) → RunsOn m w p span o → RunsOn m w p span (option_map seen_by_owner o)
-runs_let_go m w p span None runs = runs
 runs_let_go m w p span (Some Idle) runs = runs
-runs_let_go m w p span (Some (Calling c l h)) runs = runs
-runs_let_go m w p span (Some (Holding h)) runs = runs
-runs_let_go m w p span (Some (Leaked h)) runs = runs
-runs_let_go m w p span (Some (Gone h)) runs = runs
+runs_let_go m w p span _ runs = runs
 
 -- a call that goes on has a step left
 pub more_left : {W V C L A : Type 0} (m : Machine W V C L A) (w : W) (c : C) (l : L) (h : Option Hold) (taken k : ℕ) → taken + k ≤ steps_alone m.coding (m.asks c h) → AnswersWithin m k w c l h → taken < steps_alone m.coding (m.asks c h)

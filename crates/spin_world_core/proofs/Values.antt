@@ -28,20 +28,12 @@ module _ {W V C L A : Type 0} (m : Machine W V C L A) where
 
   gives-weak : (s : State W V C L) (p : ℕ) (c : C) (h : Option Hold) (o : Option (Next L A)) → ((next : Next L A) → o ≡ Some next → NextGives m s.value next)
       → GivesAt m Weak (refuses s p c h o).outcome (refuses s p c h o).next.value
-  gives-weak s p c h None gives = tt
-  gives-weak s p c h (Some (GoesOn l)) gives = tt
   gives-weak s p c h (Some (Answers a after)) gives = gives (Answers a after) refl
+  gives-weak s p c h _ gives = tt
 
   brings-by : (c : C) (l : L) (h : Option Hold) (step : Option Change) (value : Option V) → ((q : ℕ) → step ≡ Some (completes q) → value ≡ m.brings c) → Brings m step (Some (Calling c l h)) value
-  brings-by c l h None value brings = tt
   brings-by c l h (Some (completes q)) value brings = brings q refl
-  brings-by c l h (Some (gets p ask)) value brings = tt
-  brings-by c l h (Some (releases p k)) value brings = tt
-  brings-by c l h (Some (serves p)) value brings = tt
-  brings-by c l h (Some (stops_starving p)) value brings = tt
-  brings-by c l h (Some (turns p k j)) value brings = tt
-  brings-by c l h (Some (fails p)) value brings = tt
-  brings-by c l h (Some (arrives p)) value brings = tt
+  brings-by c l h _ value brings = tt
 
   module _ (k : LocalInvariant V C L) (f : Facts m k) where
     -- an event that is no step of a call
@@ -49,30 +41,15 @@ module _ {W V C L A : Type 0} (m : Machine W V C L A) where
     still seen s after brings gives = record { phase = f.phase s.after.plain s.after.state.value after.shape; brings = brings; gives = gives }
 
     keeps_at : (seen : Seen W V C L) (p : ℕ) (move : Move C V) (o : Option (Seat C L)) → Invariant m k seen → slice_get seen.state.seats p ≡ o → Invariant m k (scene_at m seen p move o).after → KeepsValue m (scene_at m seen p move o)
-    keeps_at seen p (Begin c) o good there after = still seen _ after tt tt
     keeps_at seen p Step (Some (Calling c l h)) good there after =
         let st = m.step seen.state.words seen.state.value c l h in
         let now : State W V C L = record seen.state { words = st.words; value = placed st.placed seen.state.value } in
         let is = f.values p c l h seen.plain seen.state.value seen.state.words (seen.span p) (in_call m k seen p c l h good there) in
         still seen _ after (brings-by c l h (m.change p seen.state.words c l h) _ (λ q e. value-goes_on now p c h st.next ∙ is.brings q e)) (gives-step now p c h st.next is.gives)
-    keeps_at seen p Step None good there after = still seen _ after tt tt
-    keeps_at seen p Step (Some Idle) good there after = still seen _ after tt tt
-    keeps_at seen p Step (Some (Holding h)) good there after = still seen _ after tt tt
-    keeps_at seen p Step (Some (Leaked h)) good there after = still seen _ after tt tt
-    keeps_at seen p Step (Some (Gone h)) good there after = still seen _ after tt tt
     keeps_at seen p Weak (Some (Calling c l h)) good there after =
         still seen _ after tt
         (gives-weak seen.state p c h (m.refuse c l h) (λ next is. f.refusal_gives p c l h seen.plain seen.state.value seen.state.words (seen.span p) next (in_call m k seen p c l h good there) is))
-    keeps_at seen p Weak None good there after = still seen _ after tt tt
-    keeps_at seen p Weak (Some Idle) good there after = still seen _ after tt tt
-    keeps_at seen p Weak (Some (Holding h)) good there after = still seen _ after tt tt
-    keeps_at seen p Weak (Some (Leaked h)) good there after = still seen _ after tt tt
-    keeps_at seen p Weak (Some (Gone h)) good there after = still seen _ after tt tt
-    keeps_at seen p Read o good there after = still seen _ after tt tt
-    keeps_at seen p (Write v) o good there after = still seen _ after tt tt
-    keeps_at seen p Leak o good there after = still seen _ after tt tt
-    keeps_at seen p OwnerGet o good there after = still seen _ after tt tt
-    keeps_at seen p (OwnerSet v) o good there after = still seen _ after tt tt
+    keeps_at seen p _ _ good there after = still seen _ after tt tt
 
     -- one event
     pub keeps_value : (seen : Seen W V C L) (p : ℕ) (move : Move C V) → Invariant m k seen → KeepsValue m (scene m seen p move)

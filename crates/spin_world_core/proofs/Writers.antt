@@ -28,9 +28,8 @@ one_here true h e = refl
 one_here false h e = absurd cc
 
 one_party : (p q : ℕ) (hs : List Holder) → length hs ≡ 1 → not (is_empty (filter (λ h. h.party == p) hs)) ≡ true → not (is_empty (filter (λ h. h.party == q) hs)) ≡ true → q ≡ p
-one_party p q [] one here there = absurd (omega (arith, one))
 one_party p q (h ∷ []) one here there = sym (eqb-true h.party q (one_here (h.party == q) h there)) ∙ eqb-true h.party p (one_here (h.party == p) h here)
-one_party p q (h ∷ g ∷ hs) one here there = absurd (omega (arith, one))
+one_party p q _ one here there = absurd (omega (arith, one))
 
 not_any : (b e : Bool) (t : Ticket) (f : List Ticket) → t.entered ≡ e → not e ≡ true → list_any (λ u. u.entered) f ≡ false → list_any (λ u. u.entered) (cond b (t ∷ f) f) ≡ false
 not_any true true t f is un rest = absurd cc

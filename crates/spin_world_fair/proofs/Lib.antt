@@ -1,6 +1,5 @@
 pub mod Found
 pub mod Registering
-pub mod Operating
 pub mod Owed
 pub mod Fairness
 pub mod Granted

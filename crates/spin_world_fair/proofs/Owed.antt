@@ -5,7 +5,7 @@ use Rattle.std.proofs.lemmas.Bool.{and_parts, eqb-true, eq-eqb, ltb-true, ltb-fa
 use Rattle.spin_step.specs.Plain.{Plain, writing, Ask, to_lock_unregistered, to_lock_starving, to_lock_starving_alone, to_starve, Change, gets, releases, stops_starving, apply, is_open, is_empty, is_starver, is_only_starver, fair_word}
 use Rattle.spin_step.specs.Parties.{apply_some, entries, is_held}
 use Rattle.spin_step.specs.Steps.{Decides}
-use Rattle.spin_step.specs.Starvers.{most_starvers}
+use Rattle.spin_step.specs.Starvers.{most_starvers, is_set, lock, starve, lock_fair}
 use Rattle.spin_step.proofs.FairSteps.{fair_lock-grants, fair_starve-grants, fair_lock_fair-grants, fair_lock_starved-grants, fair_unstarve-gives, fair_unlock-gives, fair_is_locked-tells}
 use Rattle.spin_world_core.specs.declared.place.Hold.{Hold}
 use Rattle.spin_world_core.specs.declared.place.Hold.TheVariants.{Write, Starver}
@@ -18,19 +18,20 @@ use Rattle.spin_world_fair.specs.declared.fair.FairCall.TheVariants.{Lock, TryLo
 use Rattle.spin_world_fair.specs.declared.fair.FairPoint.{FairPoint}
 use Rattle.spin_world_fair.specs.declared.fair.FairPoint.TheVariants.{First, Attempt, Look, Load, Register, SetFlag, Await, Unregister}
 use Rattle.spin_world_core.specs.Manners.{Manner, plain, again, look, weak}
-use Rattle.spin_world_core.specs.Calls.{Mark, fair, grant, granted}
+use Rattle.spin_world_core.specs.Calls.{Mark, fair, looks, grant, granted}
 use Rattle.spin_world_core.specs.Runs.{mark_of, own_count, changes, RegistersInTime}
-use Rattle.spin_world_core.specs.Acts.{either}
-use Rattle.spin_world_fair.specs.Fair.{asks_of, begins_at, lock, starve, lock_fair, lock_starved, is_set, act_of, fair_table, fair_machine}
+use Rattle.spin_world_core.specs.Acts.{either, tried, begin_of}
+use Rattle.spin_world_core.specs.Operations.{sets_lowest_bit}
+use Rattle.spin_world_fair.specs.Fair.{asks_of, act_of, fair_table, fair_machine}
+use Rattle.spin_world_core.proofs.Operating.{fits_act, fits_strong, one_place, operates_by}
 use Rattle.spin_world_core.proofs.Facts.{LocalInvariant, Facts}
 use Rattle.spin_world_core.proofs.Stands.{holds, starves, holds_and_starves, entries_at}
 use Rattle.spin_world_core.proofs.Rows.{SoundAt, Row, row_looked, Point, nowhere, looked, onward, goes}
-use Rattle.spin_world_core.proofs.Shapes.{Notes, keeping_of, Means, call_of, Follows, OwesAt, answers_by, OwesSoon, BeginsAt, makes_own, Pays, CallOf, AtPoint}
-use Rattle.spin_world_core.proofs.Usual.{as_found, no_queue, means_word}
+use Rattle.spin_world_core.proofs.Shapes.{Notes, keeping_of, Means, call_of, Follows, OwesAt, answers_by, OwesSoon, BeginsAt, Pays, CallOf, AtPoint}
+use Rattle.spin_world_core.proofs.Usual.{no_queue, means_word}
 use Rattle.spin_world_core.proofs.Paid.{facts_of}
 use Rattle.spin_world_fair.proofs.Registering.{sooner, MayBeBlind, blind-other, blind_after_step, blind_after_free, blind_after_late, allowed, none_left, few_to_load, few_to_register, Looking, Loading, Registering, none_yet, starving-other, looking-other, loading-other, registering-other, goes_on, missed, looked_free, looked_held, looked_late, loaded, retried, full, registered, looked_starving}
 use Rattle.spin_world_fair.proofs.Found.{IsFair, comes, goes_away, same_holders, is_starving, is_starving_still, starver_counts, is_holding, set_by_holder, word_free, flag_clear, word_locked, word_starved, not_there}
-use Rattle.spin_world_fair.proofs.Operating.{fits_all, strong, refuses, operates}
 
 -- a starver goes for the lock with these steps made
 abbrev pub starving_row : (ℕ → List Change) → Row
@@ -80,7 +81,7 @@ fair_notes v cap patience = record { Shape = λ s. IsFair cap s; point = point_o
 
 module _ {V : Type 0} (v : V) (cap patience : ℕ) where
   abbrev IsMeant : ℕ → Plain → Change → Option ℕ → Type 0
-  IsMeant p s c o = Means (fair_table v cap patience) (fair_notes v cap patience) p s c o
+  IsMeant p s c o = Means (fair_table v cap patience) (fair_notes v cap patience) p s c (λ k. k) o
 
   gets_means : (p : ℕ) (ask : Ask) (s : Plain) (o : Option ℕ) → Decides s (gets p ask) fair_word o → (is_open s (gets p ask) ≡ true → IsFair cap (apply s (gets p ask))) → IsMeant p s (gets p ask) o
   gets_means p ask s o = means_word (fair_table v cap patience) (fair_notes v cap patience) fair_word (λ to after is. ap (λ n. n ∷ []) is) p s (gets p ask) o refl
@@ -103,9 +104,9 @@ module _ {V : Type 0} (v : V) (cap patience : ℕ) where
     lock_fair_means mine =
         gets_means p to_lock_starving_alone s (lock_fair w) (fair_lock_fair-grants s p w at.shape.one (is_starving p s mine) word) (λ free. comes cap p s at.shape (and_parts (is_only_starver p s.starvers) (is_empty s.holders) free).1)
 
-    lock_starved_means : entries p s ≡ entries_at p starves → IsMeant p s (gets p to_lock_starving) (lock_starved w)
+    lock_starved_means : entries p s ≡ entries_at p starves → IsMeant p s (gets p to_lock_starving) (tried sets_lowest_bit w)
     lock_starved_means mine =
-        gets_means p to_lock_starving s (lock_starved w) (fair_lock_starved-grants s p w at.shape.one (is_starving p s mine) word) (λ free. comes cap p s at.shape (and_parts (is_starver p s.starvers) (is_empty s.holders) free).1)
+        gets_means p to_lock_starving s (tried sets_lowest_bit w) (fair_lock_starved-grants s p w at.shape.one (is_starving p s mine) word) (λ free. comes cap p s at.shape (and_parts (is_starver p s.starvers) (is_empty s.holders) free).1)
 
     -- a starver leaves the starvers, with the lock or without
     unstarve_means : is_starver p s.starvers ≡ true → (nat_lt 1 w ≡ true) × IsMeant p s (stops_starving p) (Some (w - 2))
@@ -171,13 +172,13 @@ module _ {V : Type 0} (v : V) (cap patience : ℕ) where
   )
   owes p Lock Load None s w span = λ at. (
     starve_means p at,
-    (λ found. let next = loaded patience p s span w (sym (word p at)) at.knows.1 at.knows.0 in (refl, refl, registers_in_time w p s _ next, (refl, refl, as_found (starve cap) w found), next)),
+    (λ found. let next = loaded patience p s span w (sym (word p at)) at.knows.1 at.knows.0 in (refl, refl, registers_in_time w p s _ next, (refl, refl, found), next)),
     (λ closed. let next = full patience p s span (few_to_load p) plain refl (allowed patience p s span None plain at.knows.1) closed at.knows.0 in (refl, refl, nothing_left p _ next.in_time, tt, next)),
   )
   owes p Lock (Register n) None s w span = λ at. (
     starve_means p at,
     (λ is. let next = registered patience p s span n at.knows in (refl, refl, nothing_left p _ next, tt, (next, blind_after_step patience p (gets p to_starve) again s span))),
-    (λ found. let next = retried patience p s span n w (sym (word p at)) found.0 at.knows in (refl, refl, registers_in_time w p s _ next, (refl, refl, as_found (starve cap) w found.1), next)),
+    (λ found. let next = retried patience p s span n w (sym (word p at)) found.0 at.knows in (refl, refl, registers_in_time w p s _ next, (refl, refl, found.1), next)),
     (λ closed. let next = full patience p s span (few_to_register p s n) again refl refl closed at.knows in (refl, refl, nothing_left p _ next.in_time, tt, next)),
   )
   owes p Lock SetFlag None s w span = λ at.
@@ -193,13 +194,8 @@ module _ {V : Type 0} (v : V) (cap patience : ℕ) where
   owes p TryLock First None s w span = λ at. (lock_means p at, (refl, inl refl, tt), (λ closed. (refl, inl refl, inl closed)))
   owes p TryLockStarver First None s w span = λ at. (lock_means p at, (refl, inl refl, tt), (λ closed. rejected (w == 1) p s w span at.shape (word p at) refl closed))
   owes p IsLocked First None s w span = λ at. (refl, inl refl, inl (held p at))
-  owes p Starve Load None s w span = λ at. (starve_means p at, (λ found. (refl, refl, refl, (refl, refl, as_found (starve cap) w found), tt)), (λ closed. (refl, inl refl, inl closed)))
-  owes p Starve (Register n) None s w span = λ at. (
-    starve_means p at,
-    (λ is. (refl, inl refl, tt)),
-    (λ found. (refl, refl, refl, (refl, refl, as_found (starve cap) w found), tt)),
-    (λ closed. (refl, inl refl, inl closed)),
-  )
+  owes p Starve Load None s w span = λ at. (starve_means p at, (λ found. (refl, refl, refl, (refl, refl, found), tt)), (λ closed. (refl, inl refl, inl closed)))
+  owes p Starve (Register n) None s w span = λ at. (starve_means p at, (λ is. (refl, inl refl, tt)), (λ found. (refl, refl, refl, (refl, refl, found), tt)), (λ closed. (refl, inl refl, inl closed)))
   owes p StarverTryLockFair First (Some Starver) s w span = λ at. (lock_fair_means p at at.known.stand, (refl, refl, refl, tt, tt), (λ closed. (refl, inl refl, inl closed)))
   owes p StarverTryLockFair Unregister (Some Starver) s w span = λ at. let means = unstarve_means p at (is_starving_still p s at.known.stand) in (means.0, means.1, (refl, inl refl, tt))
   owes p StarverTryLock SetFlag (Some Starver) s w span = λ at. (lock_starved_means p at at.known.stand, (refl, refl, refl, tt, tt), (λ closed. (refl, inl refl, inl closed)))
@@ -252,7 +248,7 @@ module _ {V : Type 0} (v : V) (cap patience : ℕ) where
   soon p StarverLock Unregister (Some Starver) s w span = λ at free. refl
   soon p _ _ _ s w span = tt
 
-  begins : (p : ℕ) (c : FairCall) (h : Option Hold) (s : Plain) → BeginsAt (fair_table v cap patience) (fair_notes v cap patience) c h p s (begins_at c h)
+  begins : (p : ℕ) (c : FairCall) (h : Option Hold) (s : Plain) → BeginsAt (fair_table v cap patience) (fair_notes v cap patience) c h p s (begin_of (fair_table v cap patience) c h)
   begins p Lock None s = (refl, refl, tt, (record { counted = λ lt. omega arith; many = omega arith; in_time = none_yet }, refl))
   begins p TryLock None s = (refl, refl, tt, tt)
   begins p TryLockStarver None s = (refl, refl, tt, tt)
@@ -265,9 +261,14 @@ module _ {V : Type 0} (v : V) (cap patience : ℕ) where
   begins p Release (Some Write) s = (refl, refl, tt, tt)
   begins p _ _ s = tt
 
-  makes : (p : ℕ) (l : FairPoint) (c : FairCall) (h : Option Hold) → makes_own fair (act_of {V = V} cap patience c l h) p ≡ true
-  makes p First TryLock h = refl
-  makes p _ c h = refl
+  fits_looks : (p : ℕ) (l : FairPoint) (c : FairCall) (h : Option Hold) → fits_act fair looks (act_of {V = V} cap patience c l h) p ≡ true
+  fits_looks p First TryLock h = refl
+  fits_looks p _ c h = refl
+
+  fits_all : (p : ℕ) (c : FairCall) (l : FairPoint) (h : Option Hold) → fits_act fair (asks_of patience c h) (act_of {V = V} cap patience c l h) p ≡ true
+  fits_all p Lock First h = refl
+  fits_all p Lock _ h = refl
+  fits_all p c l h = fits_strong fair (asks_of patience c h) (act_of {V = V} cap patience c l h) p refl (fits_looks p l c h)
 
   sound : (p : ℕ) (c : FairCall) (l : FairPoint) (h : Option Hold) → SoundAt fair (asks_of patience c h) p (point_of c l h)
   sound p Lock (Attempt n) None = refl
@@ -306,16 +307,12 @@ module _ {V : Type 0} (v : V) (cap patience : ℕ) where
   pub fair_pays : Pays (fair_table v cap patience) (fair_notes v cap patience)
   fair_pays =
       record {
-        fits = fits_all v cap patience;
-        weakly = strong v cap patience;
-        refuses = refuses v cap patience;
-        operates = operates v cap patience;
+        fits = fits_all;
+        operates = operates_by (fair_table v cap patience) one_place;
         first = refl;
         shape_first = record { one = omega arith; queue = refl; room = refl };
         numbers_tell = λ u w e. cc (e);
-        no_value = refl;
         one_list = λ s shape. no_queue s shape.queue;
-        makes = λ p c l h. makes p l c h;
         sound = sound;
         begins = begins;
         others = λ p q c l h s step r span ne shape may belongs knows. others p q c l s step r span ne knows;
@@ -327,4 +324,4 @@ abbrev pub fair_keeping : {V : Type 0} (v : V) (cap patience : ℕ) → LocalInv
 fair_keeping v cap patience = keeping_of (fair_table v cap patience) (fair_notes v cap patience)
 
 pub fair_facts : {V : Type 0} (v : V) (cap patience : ℕ) → Facts (fair_machine v cap patience) (fair_keeping v cap patience)
-fair_facts v cap patience = facts_of (fair_table v cap patience) (fair_notes v cap patience) (fair_pays v cap patience)
+fair_facts v cap patience = facts_of (fair_table v cap patience) (fair_notes v cap patience) (fair_pays v cap patience) refl

@@ -1,7 +1,7 @@
 -- The fair lock's calls, step by step, and how they read on the plain lock.
-use Rattle.std.specs.Prelude.{ℕ, ◌+◌, ◌-◌, ◌/◌, ◌%◌, Bool, true, Option, Some, None, [], ◌==◌, if◌then◌else◌, nat_lt, min}
-use Rattle.spin_step.specs.Plain.{writing, to_lock_unregistered, to_lock_starving, to_lock_starving_alone, to_starve, gets, releases, stops_starving}
-use Rattle.spin_step.specs.Starvers.{most_starvers}
+use Rattle.std.specs.Prelude.{ℕ, ◌+◌, true, Option, Some, None, ◌==◌, nat_lt, min}
+use Rattle.spin_step.specs.Plain.{writing, to_lock_unregistered, to_lock_starving, to_lock_starving_alone, to_starve, gets, releases, stops_starving, holder_weight, starver_weight}
+use Rattle.spin_step.specs.Starvers.{most_starvers, is_set, lock, starve, lock_fair}
 use Rattle.spin_world_core.specs.declared.place.Hold.{Hold}
 use Rattle.spin_world_core.specs.declared.place.Hold.TheVariants.{Write, Starver}
 use Rattle.spin_world_core.specs.declared.object.Next.{Next}
@@ -14,37 +14,16 @@ use Rattle.spin_world_fair.specs.declared.fair.FairPoint.{FairPoint}
 use Rattle.spin_world_fair.specs.declared.fair.FairPoint.TheVariants.{First, Attempt, Look, Load, Register, SetFlag, Await, Unregister}
 use Rattle.spin_world_core.specs.Calls.{fair, Asked, waits, waits_or_starves, tries, tries_to_know, looks, gives_back, says_of}
 use Rattle.spin_world_core.specs.Machines.{Machine}
-use Rattle.spin_world_core.specs.Acts.{Act, either, load, load_if, load_for, exchange, weak_exchange, retry, store, Table, machine_of}
+use Rattle.spin_world_core.specs.Acts.{one_number, Act, either, load, load_if, load_for, exchange, weak_exchange, retry, store, swap, Table, machine_of}
+use Rattle.spin_world_core.specs.Operations.{subtracts, sets_lowest_bit}
 
--- a starver's calls begin at its place among the starvers, a release at a writer's hold, and every other call where nothing is held
-abbrev pub begins_at : FairCall → Option Hold → Option FairPoint
-begins_at Lock None = Some (Attempt 0)
-begins_at TryLock None = Some First
-begins_at TryLockStarver None = Some First
-begins_at IsLocked None = Some First
-begins_at Starve None = Some Load
-begins_at StarverTryLockFair (Some Starver) = Some First
-begins_at StarverTryLock (Some Starver) = Some SetFlag
-begins_at StarverLock (Some Starver) = Some SetFlag
-begins_at StarverDrop (Some Starver) = Some First
-begins_at Release (Some Write) = Some First
-begins_at _ _ = None
-
--- the step functions
-abbrev pub lock : ℕ → Option ℕ
-lock w = if w == 0 then Some 1 else None
-
-abbrev pub starve : ℕ → ℕ → Option ℕ
-starve cap w = if nat_lt (w / 2) (min cap most_starvers) then Some (w + 2) else None
-
-abbrev pub lock_fair : ℕ → Option ℕ
-lock_fair w = if w == 2 then Some 3 else None
-
-abbrev pub lock_starved : ℕ → Option ℕ
-lock_starved w = if w % 2 == 0 then Some (w + 1) else None
-
-abbrev pub is_set : ℕ → Bool
-is_set w = w % 2 == 1
+-- where calls begin
+abbrev pub starts_at : FairCall → FairPoint
+starts_at Lock = Attempt 0
+starts_at Starve = Load
+starts_at StarverTryLock = SetFlag
+starts_at StarverLock = SetFlag
+starts_at _ = First
 
 -- how the calls go on
 
@@ -53,7 +32,7 @@ granted = Answers Granted (Some Write)
 
 -- why a word refuses a party that is no starver
 abbrev pub rejects : {V : Type 0} → Option Hold → ℕ → Next FairPoint (Answer V)
-rejects h w = Answers (either (w == 1) Locked Starved) h
+rejects h w = Answers (either (w == holder_weight) Locked Starved) h
 
 -- `lock` looks on, or has looked often enough to register
 abbrev pub looks_on : {V : Type 0} → ℕ → ℕ → Next FairPoint (Answer V)
@@ -75,22 +54,22 @@ finds_flag_set _ h = GoesOn Await
 
 -- the calls of one step, and the first step of the fair try
 abbrev pub act_of_first : {V : Type 0} → FairCall → Option Hold → Act ℕ FairPoint (Answer V)
-act_of_first TryLock h = exchange lock (λ p. gets p to_lock_unregistered) granted (λ w. Answers Refused h)
-act_of_first TryLockStarver h = exchange lock (λ p. gets p to_lock_unregistered) granted (rejects h)
-act_of_first StarverTryLockFair h = exchange lock_fair (λ p. gets p to_lock_starving_alone) (GoesOn Unregister) (λ w. Answers Refused h)
-act_of_first StarverDrop h = store (λ w. nat_lt 1 w) (λ w. w - 2) (λ p. stops_starving p) (Answers Done None)
-act_of_first Release h = store is_set (λ w. w - 1) (λ p. releases p writing) (Answers Done None)
+act_of_first TryLock h = exchange (swap 0 lock) (λ p. gets p to_lock_unregistered) granted (λ w. Answers Refused h)
+act_of_first TryLockStarver h = exchange (swap 0 lock) (λ p. gets p to_lock_unregistered) granted (rejects h)
+act_of_first StarverTryLockFair h = exchange (swap starver_weight lock_fair) (λ p. gets p to_lock_starving_alone) (GoesOn Unregister) (λ w. Answers Refused h)
+act_of_first StarverDrop h = store (λ w. nat_lt 1 w) (subtracts starver_weight) (λ p. stops_starving p) (Answers Done None)
+act_of_first Release h = store is_set (subtracts holder_weight) (λ p. releases p writing) (Answers Done None)
 act_of_first _ h = load (λ w. Answers (Is (is_set w)) h)
 
 abbrev pub act_of : {V : Type 0} → ℕ → ℕ → FairCall → FairPoint → Option Hold → Act ℕ FairPoint (Answer V)
 act_of cap patience c First h = act_of_first c h
-act_of cap patience c (Attempt n) h = weak_exchange lock (λ p. gets p to_lock_unregistered) granted (GoesOn (Look n))
+act_of cap patience c (Attempt n) h = weak_exchange 0 lock (λ p. gets p to_lock_unregistered) granted (GoesOn (Look n))
 act_of cap patience c (Look n) h = load_if is_set (λ w. looks_on patience n) (λ w. GoesOn (Attempt n))
 act_of cap patience c Load h = load_for (starve cap) (λ p. gets p to_starve) (λ w. GoesOn (Register w)) (finds_no_room patience c h)
 act_of cap patience c (Register n) h = retry n (starve cap) (λ p. gets p to_starve) (registered c) (λ w. GoesOn (Register w)) (finds_no_room patience c h)
-act_of cap patience c SetFlag h = exchange lock_starved (λ p. gets p to_lock_starving) (GoesOn Unregister) (λ w. finds_flag_set c h)
+act_of cap patience c SetFlag h = exchange sets_lowest_bit (λ p. gets p to_lock_starving) (GoesOn Unregister) (λ w. finds_flag_set c h)
 act_of cap patience c Await h = load_if is_set (λ w. GoesOn Await) (λ w. GoesOn SetFlag)
-act_of cap patience c Unregister h = store (λ w. nat_lt 1 w) (λ w. w - 2) (λ p. stops_starving p) granted
+act_of cap patience c Unregister h = store (λ w. nat_lt 1 w) (subtracts starver_weight) (λ p. stops_starving p) granted
 
 abbrev pub asks_of : ℕ → FairCall → Option Hold → Asked
 asks_of patience Lock h = waits_or_starves patience
@@ -115,9 +94,9 @@ fair_table v cap patience =
       cap = min cap most_starvers;
       group = 0;
       first = 0;
-      number = λ w. w;
-      others = λ w. [];
-      begin = begins_at;
+      memory = one_number;
+      start = λ c h. starts_at c;
+      word = λ l. 0;
       act = act_of cap patience;
       asks = asks_of patience;
       says = says_of;

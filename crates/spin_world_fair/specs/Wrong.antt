@@ -1,6 +1,6 @@
 -- Fair locks that are wrong, each in one part of its table or machine, and schedules on which the laws refuse them. Each has room for two starvers, but one where it is said, and its `lock` registers by the second look that finds the flag set.
 use Rattle.std.specs.Prelude.{ℕ, ◌+◌, ◌-◌, ◌*◌, ◌/◌, Option, Some, None, not, ◌&&◌, List, [], ◌∷◌, ◌++◌, ◌==◌, nat_lt}
-use Rattle.spin_step.specs.Plain.{gets, stops_starving, to_lock_unregistered, to_lock_starving, to_lock_starving_alone, to_starve}
+use Rattle.spin_step.specs.Plain.{gets, stops_starving, to_lock_unregistered, to_lock_starving, to_lock_starving_alone, to_starve, starver_weight}
 use Rattle.spin_world_core.specs.declared.place.Hold.{Hold}
 use Rattle.spin_world_core.specs.declared.place.Hold.TheVariants.{Starver}
 use Rattle.spin_world_core.specs.declared.object.Next.TheVariants.{GoesOn, Answers}
@@ -14,8 +14,10 @@ use Rattle.spin_world_core.specs.declared.schedule.Move.{Move}
 use Rattle.spin_world_core.specs.declared.schedule.Move.TheVariants.{Begin, Step, Weak}
 use Rattle.spin_world_core.specs.Calls.{Asked, tries}
 use Rattle.spin_world_core.specs.Machines.{Machine}
-use Rattle.spin_world_core.specs.Acts.{Act, either, load, load_if, exchange, weak_exchange, retry, store, machine_of}
-use Rattle.spin_world_fair.specs.Fair.{lock, lock_starved, is_set, granted, act_of, fair_table, fair_machine}
+use Rattle.spin_world_core.specs.Acts.{Act, either, load, load_if, exchange, weak_exchange, retry, section, swap, machine_of}
+use Rattle.spin_world_core.specs.Operations.{sets_lowest_bit}
+use Rattle.spin_step.specs.Starvers.{is_set, lock, lock_fair}
+use Rattle.spin_world_fair.specs.Fair.{granted, act_of, fair_table, fair_machine}
 
 abbrev Acts : Type 0 → Type 0
 Acts V = FairCall → FairPoint → Option Hold → Act ℕ FairPoint (Answer V)
@@ -29,7 +31,7 @@ Entries V = List (ℕ × Move FairCall V)
 
 -- `try_lock` sets the flag wherever it is clear
 abbrev greedy_acts : {V : Type 0} → Acts V
-greedy_acts TryLock First h = exchange lock_starved (λ p. gets p to_lock_unregistered) granted (λ w. Answers Refused h)
+greedy_acts TryLock First h = exchange sets_lowest_bit (λ p. gets p to_lock_unregistered) granted (λ w. Answers Refused h)
 greedy_acts c l h = act_of 2 1 c l h
 
 abbrev pub tries_greedily : {V : Type 0} → V → Machine ℕ V FairCall FairPoint (Answer V)
@@ -40,7 +42,7 @@ try_beside_a_starver = (0, Begin Starve) ∷ (0, Step) ∷ (0, Step) ∷ (1, Beg
 
 -- `starver_try_lock` never takes its starver out
 abbrev staying_acts : {V : Type 0} → Acts V
-staying_acts StarverTryLock SetFlag h = exchange lock_starved (λ p. gets p to_lock_starving) granted (λ w. Answers Refused h)
+staying_acts StarverTryLock SetFlag h = exchange sets_lowest_bit (λ p. gets p to_lock_starving) granted (λ w. Answers Refused h)
 staying_acts c l h = act_of 2 1 c l h
 
 abbrev pub stays_a_starver : {V : Type 0} → V → Machine ℕ V FairCall FairPoint (Answer V)
@@ -88,7 +90,7 @@ lock_as_it_is_let_go =
 
 -- `lock` registers before its looks
 abbrev hasty_acts : {V : Type 0} → Acts V
-hasty_acts Lock (Attempt n) h = weak_exchange lock (λ p. gets p to_lock_unregistered) granted (GoesOn Load)
+hasty_acts Lock (Attempt n) h = weak_exchange 0 lock (λ p. gets p to_lock_unregistered) granted (GoesOn Load)
 hasty_acts c l h = act_of 2 1 c l h
 
 abbrev pub registers_at_once : {V : Type 0} → V → Machine ℕ V FairCall FairPoint (Answer V)
@@ -100,7 +102,7 @@ hasty_lock = (0, Begin TryLock) ∷ (0, Step) ∷ (1, Begin Lock) ∷ (1, Step) 
 
 -- `starver_drop` frees the flag
 abbrev freeing_acts : {V : Type 0} → Acts V
-freeing_acts StarverDrop First h = store (λ w. nat_lt 1 w) (λ w. (w - 2) / 2 * 2) (λ p. stops_starving p) (Answers Done None)
+freeing_acts StarverDrop First h = section (λ w. nat_lt 1 w) (λ w. Some ((w - 2) / 2 * 2)) (λ p. stops_starving p) (λ w. Answers Done None) (λ w. Answers Done None)
 freeing_acts c l h = act_of 2 1 c l h
 
 abbrev pub drop_frees : {V : Type 0} → V → Machine ℕ V FairCall FairPoint (Answer V)
@@ -111,7 +113,7 @@ drop_beside_a_holder = (0, Begin TryLock) ∷ (0, Step) ∷ (1, Begin Starve) �
 
 -- a refused newcomer is told the other reason
 abbrev lying_acts : {V : Type 0} → Acts V
-lying_acts TryLockStarver First h = exchange lock (λ p. gets p to_lock_unregistered) granted (λ w. Answers (either (w == 1) Starved Locked) h)
+lying_acts TryLockStarver First h = exchange (swap 0 lock) (λ p. gets p to_lock_unregistered) granted (λ w. Answers (either (w == 1) Starved Locked) h)
 lying_acts c l h = act_of 2 1 c l h
 
 abbrev pub tells_the_other_reason : {V : Type 0} → V → Machine ℕ V FairCall FairPoint (Answer V)
@@ -149,7 +151,7 @@ waits_for_quiet v = by_acts v 2 hesitating_acts
 
 -- `lock` never looks
 abbrev unlooking_acts : {V : Type 0} → Acts V
-unlooking_acts Lock (Attempt n) h = weak_exchange lock (λ p. gets p to_lock_unregistered) granted (GoesOn (Attempt n))
+unlooking_acts Lock (Attempt n) h = weak_exchange 0 lock (λ p. gets p to_lock_unregistered) granted (GoesOn (Attempt n))
 unlooking_acts c l h = act_of 2 1 c l h
 
 abbrev pub never_looks : {V : Type 0} → V → Machine ℕ V FairCall FairPoint (Answer V)
@@ -201,7 +203,7 @@ lock_of_a_starver = (0, Begin Starve) ∷ (0, Step) ∷ (0, Step) ∷ (0, Begin 
 
 -- a starver sets the flag by a weak exchange
 abbrev weakly_acts : {V : Type 0} → Acts V
-weakly_acts StarverLock SetFlag h = weak_exchange lock_starved (λ p. gets p to_lock_starving) (GoesOn Unregister) (GoesOn Await)
+weakly_acts StarverLock SetFlag h = weak_exchange starver_weight lock_fair (λ p. gets p to_lock_starving) (GoesOn Unregister) (GoesOn Await)
 weakly_acts c l h = act_of 2 1 c l h
 
 abbrev pub sets_by_chance : {V : Type 0} → V → Machine ℕ V FairCall FairPoint (Answer V)

@@ -2,8 +2,9 @@ ghost use Rattle.std.specs.Prelude.{◌≡◌, ◌≢◌, ◌<◌, ◌+◌, ◌-
 ghost use Rattle.spin_world_core.specs.declared.object.Next.TheVariants.{GoesOn, Answers};
 ghost use Rattle.spin_world_core.specs.declared.answer.Answer.TheVariants.{Done};
 ghost use Rattle.spin_world_fair.specs.declared.fair.FairPoint.TheVariants.{Attempt, Register, SetFlag, Await};
-ghost use Rattle.spin_world_core.specs.Acts.{either, stays, becomes, retried, step_by, can_by};
-ghost use Rattle.spin_world_fair.specs.Fair.{lock, starve, is_set, granted, rejects, looks_on, finds_no_room, registered, finds_flag_set, act_of_first, act_of, fair_machine};
+ghost use Rattle.spin_world_core.specs.Acts.{one_number, either, stays, becomes, retried, step_by, can_by};
+ghost use Rattle.spin_step.specs.Starvers.{starve, is_set};
+ghost use Rattle.spin_world_fair.specs.Fair.{granted, rejects, looks_on, finds_no_room, registered, finds_flag_set, act_of_first, act_of, fair_machine};
 
 use spin_step::fair;
 use spin_step::fair::LockRejectReason;
@@ -100,7 +101,7 @@ fn exchange<V: Copy>(
     won: Next<FairPoint, Answer<V>>,
     lost: Next<FairPoint, Answer<V>>,
 ) -> Stepped<usize, V, FairPoint, Answer<V>>
-    ensures { result ≡ becomes word new won lost }
+    ensures { result ≡ becomes (λ w. w) word new won lost }
 {
     match new {
         Some(new) => stay(new, won),
@@ -169,7 +170,7 @@ impl<V: Copy> Fair<V> {
         found: usize,
         holds: Option<Hold>,
     ) -> Stepped<usize, V, FairPoint, Answer<V>>
-        ensures { result ≡ retried (word == found) word (starve self.now.cap word) (registered call) (GoesOn (Register word)) (finds_no_room self.now.patience call holds) }
+        ensures { result ≡ retried (λ w. w) (word == found) word (starve self.now.cap word) (registered call) (GoesOn (Register word)) (finds_no_room self.now.patience call holds) }
     {
         if word != found {
             return stay(word, self.go_to_register(call, word, holds));
@@ -221,8 +222,8 @@ fn step_first<V: Copy>(
     call: FairCall,
     holds: Option<Hold>,
 ) -> Stepped<usize, V, FairPoint, Answer<V>>
-    requires { can_by (act_of_first {V = V} call holds) word ≡ true }
-    ensures { result ≡ step_by (λ w. w) (act_of_first call holds) word }
+    requires { can_by one_number 0 (act_of_first {V = V} call holds) word ≡ true }
+    ensures { result ≡ step_by one_number 0 (act_of_first call holds) word }
 {
     let refused = Next::Answers(Answer::Refused, holds);
     let done = Next::Answers(Answer::Done, None);
@@ -309,8 +310,8 @@ impl<V: Copy> Object for Fair<V> {
         local: FairPoint,
         holds: Option<Hold>,
     ) -> Stepped<usize, V, FairPoint, Answer<V>>
-        requires { can_by (act_of {V = V} self.now.cap self.now.patience call local holds) words ≡ true }
-        ensures { result ≡ step_by (λ w. w) (act_of self.now.cap self.now.patience call local holds) words }
+        requires { can_by one_number 0 (act_of {V = V} self.now.cap self.now.patience call local holds) words ≡ true }
+        ensures { result ≡ step_by one_number 0 (act_of self.now.cap self.now.patience call local holds) words }
     {
         let _ = value;
         match local {

@@ -1,9 +1,11 @@
 -- What the flag's table owes.
-use Rattle.std.proofs.Common.{◌≡◌, ◌==◌, ℕ, Bool, true, false, not, ◌&&◌, Option, Some, None, List, [], ◌∷◌, refl, ap, sym, ◌∙◌, arith, inl}
+use Rattle.std.proofs.Common.{◌≡◌, ℕ, Bool, true, false, not, ◌&&◌, Option, Some, None, List, [], ◌∷◌, refl, ap, sym, ◌∙◌, arith, inl}
 use Rattle.std.proofs.lemmas.Bool.{true≢false, false≢true}
 use Rattle.spin_step.specs.Plain.{Plain, Ticket as Queued, writing, to_write, gets, releases, is_empty, flag_word}
 use Rattle.spin_step.specs.Parties.{Entries, entries, is_held}
-use Rattle.spin_step.specs.Steps.{bit}
+use Rattle.std.specs.Option.{option_map}
+use Rattle.spin_step.specs.Flags as flags
+use Rattle.spin_step.specs.Steps.{bit, Decides}
 use Rattle.spin_step.proofs.Holders.{is_holder-from_entries, length-held}
 use Rattle.spin_step.proofs.Flags.{flag_lock-grants, flag_unlock-gives}
 use Rattle.spin_world_core.specs.declared.answer.Answer.{Answer}
@@ -14,41 +16,43 @@ use Rattle.spin_world_flag.specs.declared.flag.FlagCall.TheVariants.{Lock, TryLo
 use Rattle.spin_world_flag.specs.declared.flag.FlagPoint.{FlagPoint}
 use Rattle.spin_world_flag.specs.declared.flag.FlagPoint.TheVariants.{First, Second}
 use Rattle.spin_world_core.specs.Calls.{Mark, flag}
-use Rattle.spin_world_core.specs.Operations.{Operation, loads, exchanges, stores, performed}
-use Rattle.spin_world_core.specs.Acts.{becomes, step_by, can_by}
-use Rattle.spin_world_core.specs.declared.object.Next.{Next}
-use Rattle.spin_world_flag.specs.Flag.{asks_of, begins_at, lock, act_of, flag_table, flag_machine}
+use Rattle.spin_world_core.specs.Acts.{swap, tried, begin_of}
+use Rattle.spin_world_flag.specs.Flag.{asks_of, lock, is_set, act_of, flag_table, flag_machine}
 use Rattle.spin_world_core.proofs.Facts.{LocalInvariant, Facts}
 use Rattle.spin_world_core.proofs.Stands.{holds, entries_at}
 use Rattle.spin_world_core.proofs.Rows.{starts_sound, Row, starts}
-use Rattle.spin_world_core.proofs.Shapes.{Notes, keeping_of, Means, OwesAt, answers_by, OwesSoon, BeginsAt, makes_own, Pays, CallOf, AtPoint}
-use Rattle.spin_world_core.proofs.Usual.{means_by, no_queue}
-use Rattle.spin_world_core.proofs.Operating.{BeginsWhereItFits, TriesWeakly, Refuses, Operates, OperatesAt, one_word}
+use Rattle.spin_world_core.proofs.Shapes.{Notes, keeping_of, Means, OwesAt, answers_by, OwesSoon, BeginsAt, Pays, CallOf, AtPoint}
+use Rattle.spin_world_core.proofs.Usual.{no_queue}
+use Rattle.spin_world_core.proofs.Operating.{fits_act, Operates}
 use Rattle.spin_world_core.proofs.Paid.{facts_of}
 
 -- Each point is as the call's beginning: nothing has changed yet, and only `Lock`, which has no limit, has made a step before another
 abbrev pub flag_notes : {V : Type 0} (v : V) → Notes (flag_table v)
-flag_notes v = record { Shape = λ s. s.tickets ≡ []; point = λ c l h. starts (begins_at c h); Knows = λ c l h p s span. Unit {0} }
+flag_notes v = record { Shape = λ s. s.tickets ≡ []; point = λ c l h. starts (begin_of (flag_table v) c h); Knows = λ c l h p s span. Unit {0} }
 
 module _ {V : Type 0} (v : V) where
   word_is : (s : Plain) (w : Bool) → bit w ∷ [] ≡ flag_word s ∷ [] → flag_word s ≡ bit w
   word_is s w e = cc (e)
 
+  lock_if : (p : ℕ) (s : Plain) (w : Bool) → Decides s (gets p to_write) flag_word (option_map bit (flags.lock w)) → s.tickets ≡ [] → Means (flag_table v) (flag_notes v) p s (gets p to_write) is_set (tried (swap 0 lock) (bit w))
+  lock_if p s true grants queue = grants
+  lock_if p s false grants queue = ((refl, grants.0), ap (λ n. n ∷ []) grants.1, queue)
+
   -- what the step functions mean there
   module _ {k : CallOf Bool FlagPoint (Answer V)} {l : FlagPoint} {h : Option Hold} {s : Plain} {w : Bool} {span : List Mark} {row : Row} (p : ℕ) (at : AtPoint (flag_table v) (flag_notes v) p k l h s w span row) where
-    lock_means : Means (flag_table v) (flag_notes v) p s (gets p to_write) (lock w)
-    lock_means = means_by (flag_table v) (flag_notes v) p s (gets p to_write) flag_word (lock w) refl (flag_lock-grants s p w (word_is s w at.encodes)) (λ to may is. (ap (λ n. n ∷ []) is, at.shape))
+    lock_means : Means (flag_table v) (flag_notes v) p s (gets p to_write) is_set (tried (swap 0 lock) (bit w))
+    lock_means = lock_if p s w (flag_lock-grants s p w (word_is s w at.encodes)) at.shape
 
-    unlock_means : entries p s ≡ entries_at p (holds writing) → Means (flag_table v) (flag_notes v) p s (releases p writing) (Some false)
+    unlock_means : entries p s ≡ entries_at p (holds writing) → Means (flag_table v) (flag_notes v) p s (releases p writing) is_set (Some 0)
     unlock_means mine =
         let found = is_holder-from_entries p writing s.holders (ap (λ (e : Entries). e.holders) mine) in
         ((refl, found), ap (λ n. n ∷ []) (flag_unlock-gives s p writing w (word_is s w at.encodes) found), at.shape)
 
-  is_set : (p : ℕ) (s : Plain) (w : Bool) → entries p s ≡ entries_at p (holds writing) → flag_word s ≡ bit w → w ≡ true
-  is_set p s true mine word = refl
-  is_set p s false mine word = absurd (omega (arith, length-held p writing s.holders (ap (λ (e : Entries). e.holders) mine), word))
+  finds_set : (p : ℕ) (s : Plain) (w : Bool) → entries p s ≡ entries_at p (holds writing) → flag_word s ≡ bit w → is_set (bit w) ≡ true
+  finds_set p s true mine word = refl
+  finds_set p s false mine word = absurd (omega (arith, length-held p writing s.holders (ap (λ (e : Entries). e.holders) mine), word))
 
-  held_is : (s : Plain) (p : ℕ) (w : Bool) → flag_word s ≡ bit w → s.tickets ≡ [] → is_held s ≡ w
+  held_is : (s : Plain) (p : ℕ) (w : Bool) → flag_word s ≡ bit w → s.tickets ≡ [] → is_held s ≡ is_set (bit w)
   held_is s p true word queue = ap (λ b. not (b && is_empty s.tickets)) (flag_lock-grants s p true word)
   held_is s p false word queue = ap (λ b. not (b && is_empty s.tickets)) (flag_lock-grants s p false word).0 ∙ ap (λ (ts : List Queued). not (is_empty ts)) queue
 
@@ -58,7 +62,7 @@ module _ {V : Type 0} (v : V) where
   owes p TryLock l None s w span = λ at. (lock_means p at, (refl, inl refl, tt), (λ closed. (refl, inl refl, inl closed)))
   owes p TryLockWeak l None s w span = λ at. (lock_means p at, (refl, inl refl, tt), (λ closed. (refl, inl refl, inl closed)), (refl, inl refl, tt), refl, refl)
   owes p IsLocked l None s w span = λ at. (refl, inl refl, inl (held_is s p w (word_is s w at.encodes) at.shape))
-  owes p Release l (Some Write) s w span = λ at. (is_set p s w at.known.stand (word_is s w at.encodes), unlock_means p at at.known.stand, (refl, inl refl, tt))
+  owes p Release l (Some Write) s w span = λ at. (finds_set p s w at.known.stand (word_is s w at.encodes), unlock_means p at at.known.stand, (refl, inl refl, tt))
   owes p _ _ _ s w span = tt
 
   -- a clear flag is set by the exchange, at once or after a look
@@ -72,75 +76,43 @@ module _ {V : Type 0} (v : V) where
   soon p Lock Second None s w span = λ at free. ap (λ b. answers_by (flag_table v) 2 b Lock Second None) (clear_is s p w (word_is s w at.encodes) free)
   soon p _ _ _ s w span = tt
 
-  begins : (p : ℕ) (c : FlagCall) (h : Option Hold) (s : Plain) → BeginsAt (flag_table v) (flag_notes v) c h p s (begins_at c h)
+  begins : (p : ℕ) (c : FlagCall) (h : Option Hold) (s : Plain) → BeginsAt (flag_table v) (flag_notes v) c h p s (begin_of (flag_table v) c h)
   begins p Release (Some Write) s = (refl, refl, tt, tt)
   begins p Release _ s = tt
   begins p Lock None s = (refl, refl, tt, tt)
   begins p _ None s = (refl, refl, tt, tt)
   begins p _ (Some h) s = tt
 
-  makes : (p : ℕ) (c : FlagCall) (l : FlagPoint) (h : Option Hold) → makes_own flag (act_of {V = V} c l h) p ≡ true
-  makes p Lock First h = refl
-  makes p _ _ h = refl
+  fits_all : (p : ℕ) (c : FlagCall) (l : FlagPoint) (h : Option Hold) → fits_act flag (asks_of c h) (act_of {V = V} c l h) p ≡ true
+  fits_all p Lock First h = refl
+  fits_all p _ _ h = refl
 
   same_bit : (v w : Bool) → bit v ≡ bit w → v ≡ w
-  same_bit true true e = refl
   same_bit true false e = absurd (omega (arith, e))
   same_bit false true e = absurd (omega (arith, e))
-  same_bit false false e = refl
-
-  fits_all : BeginsWhereItFits (flag_table v)
-  fits_all Release (Some Write) = refl
-  fits_all Release _ = refl
-  fits_all _ None = refl
-  fits_all _ (Some h) = refl
-
-  weakly : TriesWeakly (flag_table v)
-  weakly p Lock First h = refl
-  weakly p Lock Second h = refl
-  weakly p _ _ h = refl
+  same_bit _ _ e = refl
 
   -- a lost exchange finds a set flag, and leaves it
-  taken : (w : Bool) (won lost : Next FlagPoint (Answer V)) → bit (becomes {V = V} w (lock w) won lost).words ≡ performed (exchanges 0 1) (bit w)
-  taken true won lost = refl
-  taken false won lost = refl
-
-  alone : (c : FlagCall) (l : FlagPoint) (h : Option Hold) (operation : Operation) → ((w : Bool) → can_by (act_of {V = V} c l h) w ≡ true → bit (step_by {V = V} bit (act_of {V = V} c l h) w).words ≡ performed operation (bit w)) → Operates (flag_table v) c l h 0 operation
-  alone c l h operation is = one_word (flag_table v) (λ w. refl) same_bit c l h operation is
-
-  operates : (c : FlagCall) (l : FlagPoint) (h : Option Hold) → OperatesAt flag (flag_table v) c l h
-  operates Lock First h = (0, (exchanges 0 1), alone Lock First h (exchanges 0 1) (λ w can. taken w _ _))
-  operates Lock Second h = (0, loads, alone Lock Second h loads (λ w can. refl))
-  operates TryLock l h = (0, (exchanges 0 1), alone TryLock l h (exchanges 0 1) (λ w can. taken w _ _))
-  operates TryLockWeak l h = (0, (exchanges 0 1), alone TryLockWeak l h (exchanges 0 1) (λ w can. taken w _ _))
-  operates IsLocked l h = (0, loads, alone IsLocked l h loads (λ w can. refl))
-  operates Release l h = (0, (stores 0), alone Release l h (stores 0) (λ w can. refl))
-
-  -- where a flag is set, the exchange of a clear one is lost
-  lost : (w : Bool) (won missed next : Next FlagPoint (Answer V)) → missed ≡ next → (bit w == 0) ≡ false → (becomes {V = V} w (lock w) won missed).next ≡ next
-  lost true won missed next is other = is
-  lost false won missed next is other = absurd (true≢false other)
-
-  refuses : Refuses (flag_table v)
-  refuses Lock First h next is = (0, 0, 1, alone Lock First h (exchanges 0 1) (λ w can. taken w _ _), λ w other. lost w _ _ next (cc (is)) other)
-  refuses TryLockWeak l h next is = (0, 0, 1, alone TryLockWeak l h (exchanges 0 1) (λ w can. taken w _ _), λ w other. lost w _ _ next (cc (is)) other)
-  refuses Lock Second h next is = absurd (cc (is))
-  refuses _ l h next is = absurd (cc (is))
+  operates : Operates (flag_table v)
+  operates Lock First h true one = refl
+  operates Lock First h false one = refl
+  operates TryLock l h true one = refl
+  operates TryLock l h false one = refl
+  operates TryLockWeak l h true one = refl
+  operates TryLockWeak l h false one = refl
+  operates Lock Second h w one = refl
+  operates _ l h w one = refl
 
   pub flag_pays : Pays (flag_table v) (flag_notes v)
   flag_pays =
       record {
         fits = fits_all;
-        weakly = weakly;
-        refuses = refuses;
         operates = operates;
         first = refl;
         shape_first = refl;
         numbers_tell = λ v w e. same_bit v w (cc (e));
-        no_value = refl;
         one_list = no_queue;
-        makes = makes;
-        sound = λ p c l h. starts_sound flag (asks_of c h) p (begins_at c h);
+        sound = λ p c l h. starts_sound flag (asks_of c h) p (begin_of (flag_table v) c h);
         begins = begins;
         others = λ p q c l h s step r span ne shape may belongs knows. tt;
         owes = owes;
@@ -151,4 +123,4 @@ abbrev pub flag_keeping : {V : Type 0} (v : V) → LocalInvariant V FlagCall Fla
 flag_keeping v = keeping_of (flag_table v) (flag_notes v)
 
 pub flag_facts : {V : Type 0} (v : V) → Facts (flag_machine v) (flag_keeping v)
-flag_facts v = facts_of (flag_table v) (flag_notes v) (flag_pays v)
+flag_facts v = facts_of (flag_table v) (flag_notes v) (flag_pays v) refl

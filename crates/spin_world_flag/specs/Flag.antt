@@ -1,7 +1,9 @@
 -- The flag's calls, step by step, and how they read on the plain lock.
-use Rattle.std.specs.Prelude.{Bool, true, false, Option, Some, None, [], if◌then◌else◌}
+use Rattle.std.specs.Prelude.{ℕ, ◌==◌, Bool, true, false, Option, Some, None, [], ◌∷◌}
 use Rattle.spin_step.specs.Plain.{writing, to_write, gets, releases}
 use Rattle.spin_step.specs.Steps.{bit}
+use Rattle.spin_step.specs.Flags as flags
+use Rattle.std.specs.Option.{option_map}
 use Rattle.spin_world_core.specs.declared.place.Hold.{Hold}
 use Rattle.spin_world_core.specs.declared.place.Hold.TheVariants.{Write}
 use Rattle.spin_world_core.specs.declared.object.Next.{Next}
@@ -14,30 +16,30 @@ use Rattle.spin_world_core.specs.declared.answer.Answer.{Answer}
 use Rattle.spin_world_core.specs.declared.answer.Answer.TheVariants.{Granted, Refused, Done, Is}
 use Rattle.spin_world_core.specs.Calls.{flag, Asked, waits, tries, tries_weakly, looks, gives_back, says_of}
 use Rattle.spin_world_core.specs.Machines.{Machine}
-use Rattle.spin_world_core.specs.Acts.{Act, load, load_if, exchange, weak_exchange, store, Table, machine_of}
+use Rattle.spin_world_core.specs.Acts.{Memory, Act, load, load_if, exchange, weak_exchange, store, swap, Table, machine_of}
+use Rattle.spin_world_core.specs.Operations.{stores}
 
--- a release begins at a writer's hold, and every other call where nothing is held
-abbrev pub begins_at : FlagCall → Option Hold → Option FlagPoint
-begins_at Release (Some Write) = Some First
-begins_at Release _ = None
-begins_at _ None = Some First
-begins_at _ (Some h) = None
+abbrev pub is_set : ℕ → Bool
+is_set n = n == 1
 
--- a clear flag is set
-abbrev pub lock : Bool → Option Bool
-lock w = if w then None else Some true
+-- the step function on numbers
+abbrev pub lock : ℕ → Option ℕ
+lock n = option_map bit (flags.lock (is_set n))
+
+abbrev pub flag_memory : Memory Bool
+flag_memory = record { numbers = λ w. bit w ∷ []; put = λ i n w. is_set n }
 
 abbrev pub granted : {V : Type 0} → Next FlagPoint (Answer V)
 granted = Answers Granted (Some Write)
 
 -- the exchange of `Lock` is weak, and `Lock` looks until the flag is clear before the next one; only a set flag is cleared
 abbrev pub act_of : {V : Type 0} → FlagCall → FlagPoint → Option Hold → Act Bool FlagPoint (Answer V)
-act_of Lock First h = weak_exchange lock (λ p. gets p to_write) granted (GoesOn Second)
-act_of Lock Second h = load_if (λ w. w) (λ w. GoesOn Second) (λ w. GoesOn First)
-act_of TryLock l h = exchange lock (λ p. gets p to_write) granted (λ w. Answers Refused h)
-act_of TryLockWeak l h = weak_exchange lock (λ p. gets p to_write) granted (Answers Refused h)
-act_of IsLocked l h = load (λ w. Answers (Is w) h)
-act_of Release l h = store (λ w. w) (λ w. false) (λ p. releases p writing) (Answers Done None)
+act_of Lock First h = weak_exchange 0 lock (λ p. gets p to_write) granted (GoesOn Second)
+act_of Lock Second h = load_if is_set (λ n. GoesOn Second) (λ n. GoesOn First)
+act_of TryLock l h = exchange (swap 0 lock) (λ p. gets p to_write) granted (λ n. Answers Refused h)
+act_of TryLockWeak l h = weak_exchange 0 lock (λ p. gets p to_write) granted (Answers Refused h)
+act_of IsLocked l h = load (λ n. Answers (Is (is_set n)) h)
+act_of Release l h = store is_set (stores 0) (λ p. releases p writing) (Answers Done None)
 
 abbrev pub asks_of : FlagCall → Option Hold → Asked
 asks_of Lock h = waits to_write
@@ -56,9 +58,9 @@ flag_table v =
       cap = 0;
       group = 0;
       first = 0;
-      number = bit;
-      others = λ w. [];
-      begin = begins_at;
+      memory = flag_memory;
+      start = λ c h. First;
+      word = λ l. 0;
       act = act_of;
       asks = asks_of;
       says = says_of;

@@ -1,7 +1,9 @@
 ghost use Rattle.std.specs.Prelude.{◌≡◌, true};
 ghost use Rattle.spin_step.specs.Steps.{bit};
 ghost use Rattle.spin_world_core.specs.Acts.{becomes, stays, step_by, can_by};
-ghost use Rattle.spin_world_flag.specs.Flag.{lock, granted, act_of, flag_machine};
+ghost use Rattle.std.specs.Option.{option_map};
+ghost use Rattle.spin_step.specs.Flags.{lock};
+ghost use Rattle.spin_world_flag.specs.Flag.{is_set, flag_memory, granted, act_of, flag_machine};
 
 use spin_step::flag;
 use spin_world_core::{Answer, Hold, Next, Object, Stepped};
@@ -47,7 +49,7 @@ fn exchange<V: Copy>(
     words: bool,
     refusal: Next<FlagPoint, Answer<V>>,
 ) -> Stepped<bool, V, FlagPoint, Answer<V>>
-    ensures { result ≡ becomes words (lock words) granted refusal }
+    ensures { result ≡ becomes is_set words (option_map bit (lock words)) granted refusal }
 {
     match flag::lock(words) {
         Some(taken) => Stepped {
@@ -132,8 +134,8 @@ impl<V: Copy> Object for Flag<V> {
         local: FlagPoint,
         holds: Option<Hold>,
     ) -> Stepped<bool, V, FlagPoint, Answer<V>>
-        requires { can_by (act_of {V = V} call local holds) words ≡ true }
-        ensures { result ≡ step_by bit (act_of call local holds) words }
+        requires { can_by flag_memory 0 (act_of {V = V} call local holds) words ≡ true }
+        ensures { result ≡ step_by flag_memory 0 (act_of call local holds) words }
     {
         let _ = value;
         match (call, local) {

@@ -1,6 +1,7 @@
 -- What users of a `Once` rely on where closures begin, also after one that failed.
 use Rattle.std.proofs.Common.{◌≡◌, ℕ, ◌==◌, Bool, true, false, Option, Some, None, List, [], ◌∷◌, ◌++◌, slice_get, refl, ap, ◌∙◌, subst, ◌⊎◌, inl, inr}
 use Rattle.std.proofs.lemmas.Bool.{false≢true}
+use Rattle.spin_step.specs.Flags.{begun}
 use Rattle.spin_world_core.specs.declared.answer.Answer.{Answer}
 use Rattle.spin_world_core.specs.declared.answer.Answer.TheVariants.{NoValue, Failed}
 use Rattle.spin_world_core.specs.declared.place.Hold.{Hold}
@@ -14,13 +15,13 @@ use Rattle.spin_world_core.specs.declared.schedule.Outcome.TheVariants as outcom
 use Rattle.spin_step.specs.Plain.{Plain, to_begin, gets}
 use Rattle.spin_world_core.specs.Runs.{Seen, step_at}
 use Rattle.spin_world_core.specs.Calls.{Mark}
-use Rattle.spin_world_core.specs.Acts.{change_by, either, becomes, filled, step_by, completes_by, step_with}
+use Rattle.spin_world_core.specs.Acts.{one_number, change_by, either, becomes, filled, step_by, completes_by, step_with}
 use Rattle.spin_world_core.specs.Schedules.{happens, moves_at, goes_on, placed, stepped, after, at_first}
 use Rattle.spin_world_once.specs.declared.once.OnceCall.{OnceCall}
 use Rattle.spin_world_once.specs.declared.once.OnceCall.TheVariants.{CallOnce, TryCallOnceOk, TryCallOnceErr, InitFromRef, Wait, Poll, Get, IsCompleted}
 use Rattle.spin_world_once.specs.declared.once.OncePoint.{OncePoint}
 use Rattle.spin_world_once.specs.declared.once.OncePoint.TheVariants.{Look, TryBegin, Await, Run}
-use Rattle.spin_world_once.specs.Once.{begin, is_there, tells, runs, ends, OnceAct, asks_of, OnceMachine, once_machine}
+use Rattle.spin_world_once.specs.Once.{is_there, tells, runs, ends, OnceAct, asks_of, OnceMachine, once_machine}
 use Rattle.spin_world_once.specs.Keeping.{Entries, once_after, RunsClosure, seen_at, has_just_looked, has_closure, MayRunAgain, LooksFirst}
 use Rattle.spin_world_core.proofs.Lists.{get-set_same}
 use Rattle.spin_world_core.proofs.Schedules.{after-append}
@@ -61,15 +62,15 @@ module _ {V : Type 0} (value : Option V) where
   abbrev unplaced : OnceState V → OnceState V
   unplaced s = record s { words = s.words; value = placed None s.value }
 
-  begun : (s : OnceState V) (p : ℕ) (c : OnceCall V) (h : Option Hold) (made : Option V) (o : Option ℕ)
-      → Clears s p c h (step_with s.value made false (becomes s.words o (GoesOn Run) (either (is_there s.words) (tells h) (GoesOn Await))))
-  begun s p c h made None = λ e. absurd (told (unplaced s) p c h s.value (is_there s.words) (GoesOn Await) (λ f. cc (f)) e)
-  begun s p c h made (Some to) = λ e. absurd (cc (e))
+  begins_or_not : (s : OnceState V) (p : ℕ) (c : OnceCall V) (h : Option Hold) (made : Option V) (o : Option ℕ)
+      → Clears s p c h (step_with s.value made false (becomes (λ (k : ℕ). k) s.words o (GoesOn Run) (either (is_there s.words) (tells h) (GoesOn Await))))
+  begins_or_not s p c h made None = λ e. absurd (told (unplaced s) p c h s.value (is_there s.words) (GoesOn Await) (λ f. cc (f)) e)
+  begins_or_not s p c h made (Some to) = λ e. absurd (cc (e))
 
-  run_clears : (s : OnceState V) (p : ℕ) (c : OnceCall V) (end : OnceAct) (made : Option V) (l : OncePoint) (h : Option Hold) → Clears s p c h (step_with s.value made (completes_by end) (step_by (λ w. w) end s.words))
-      → Clears s p c h (step_with s.value made (completes_by (runs end l h)) (step_by (λ w. w) (runs end l h) s.words))
+  run_clears : (s : OnceState V) (p : ℕ) (c : OnceCall V) (end : OnceAct) (made : Option V) (l : OncePoint) (h : Option Hold) → Clears s p c h (step_with s.value made (completes_by end) (step_by one_number 0 end s.words))
+      → Clears s p c h (step_with s.value made (completes_by (runs end l h)) (step_by one_number 0 (runs end l h) s.words))
   run_clears s p c end made Look h ended = λ e. absurd (told (unplaced s) p c h s.value (is_there s.words) (GoesOn TryBegin) (λ f. cc (f)) e)
-  run_clears s p c end made TryBegin h ended = begun s p c h made (begin s.words)
+  run_clears s p c end made TryBegin h ended = begins_or_not s p c h made (begun s.words)
   run_clears s p c end made Await h ended = λ e. absurd (told (unplaced s) p c h s.value (is_there s.words) _ (waited (unplaced s) p c h s.value (s.words == 0) (GoesOn TryBegin) (GoesOn Await) (λ f. cc (f)) (λ f. cc (f))) e)
   run_clears s p c end made Run h ended = ended
 
@@ -85,11 +86,7 @@ module _ {V : Type 0} (value : Option V) where
 
   clears_seat : (s : OnceState V) (p : ℕ) (o : Option (Seat (OnceCall V) OncePoint)) → (moves_at m s p Step o).outcome ≡ outcome.Answered Failed None → (moves_at m s p Step o).next.words ≡ 0
   clears_seat s p (Some (Calling c l h)) e = words-goes_on _ p c h (m.step s.words s.value c l h).next ∙ clears_at s p c l h e
-  clears_seat s p None e = absurd (cc (e))
-  clears_seat s p (Some Idle) e = absurd (cc (e))
-  clears_seat s p (Some (Holding h)) e = absurd (cc (e))
-  clears_seat s p (Some (Leaked h)) e = absurd (cc (e))
-  clears_seat s p (Some (Gone h)) e = absurd (cc (e))
+  clears_seat s p _ e = absurd (cc (e))
 
   -- where the word is 0, a look leads to the exchange, and the exchange to the closure
 
@@ -99,21 +96,16 @@ module _ {V : Type 0} (value : Option V) where
   next_point TryBegin = Run
   next_point Run = Run
 
-  run_on : (end : OnceAct) (made v : Option V) (l : OncePoint) (h : Option Hold) → (l ≡ Run → ⊥) → (step_with v made (completes_by (runs end l h)) (step_by (λ w. w) (runs end l h) 0)).next ≡ GoesOn (next_point l)
+  run_on : (end : OnceAct) (made v : Option V) (l : OncePoint) (h : Option Hold) → (l ≡ Run → ⊥) → (step_with v made (completes_by (runs end l h)) (step_by one_number 0 (runs end l h) 0)).next ≡ GoesOn (next_point l)
   run_on end made v Run h not = absurd (not refl)
-  run_on end made v Look h not = refl
-  run_on end made v TryBegin h not = refl
-  run_on end made v Await h not = refl
+  run_on end made v _ h not = refl
 
   on_at : (c : OnceCall V) (v : Option V) (l : OncePoint) (h : Option Hold) → has_closure (asks_of c) ≡ true → (l ≡ Run → ⊥) → (m.step 0 v c l h).next ≡ GoesOn (next_point l)
   on_at (CallOnce x) v l h closure not = run_on (ends (Some x) h) (Some x) v l h not
   on_at (TryCallOnceOk x) v l h closure not = run_on (ends (Some x) h) (Some x) v l h not
   on_at TryCallOnceErr v l h closure not = run_on (ends {V = V} None h) None v l h not
   on_at (InitFromRef x) v l h closure not = run_on (ends (Some x) h) (Some x) v l h not
-  on_at Wait v l h closure not = absurd (false≢true closure)
-  on_at Poll v l h closure not = absurd (false≢true closure)
-  on_at Get v l h closure not = absurd (false≢true closure)
-  on_at IsCompleted v l h closure not = absurd (false≢true closure)
+  on_at _ v l h closure not = absurd (false≢true closure)
 
   seat_next : (s : OnceState V) (p : ℕ) (c : OnceCall V) (l : OncePoint) (h : Option Hold) → s.words ≡ 0 → slice_get s.seats p ≡ Some (Calling c l h) → has_closure (asks_of c) ≡ true → (l ≡ Run → ⊥)
       → slice_get (happens m s p Step).next.seats p ≡ Some (Calling c (next_point l) h)
@@ -125,21 +117,17 @@ module _ {V : Type 0} (value : Option V) where
   word_next : (s : OnceState V) (p : ℕ) (c : OnceCall V) (l : OncePoint) (h : Option Hold) → slice_get s.seats p ≡ Some (Calling c l h) → ((w : ℕ) (v : Option V) → (m.step w v c l h).words ≡ w) → (happens m s p Step).next.words ≡ s.words
   word_next s p c l h at stays = ap (λ o. (moves_at m s p Step o).next.words) at ∙ (words-goes_on _ p c h (m.step s.words s.value c l h).next ∙ stays s.words s.value)
 
-  run_leaves : (end : OnceAct) (made v : Option V) (w : ℕ) (l : OncePoint) (h : Option Hold) → next_point l ≡ TryBegin → (step_with v made (completes_by (runs end l h)) (step_by (λ w. w) (runs end l h) w)).words ≡ w
-  run_leaves end made v w Look h leads = refl
-  run_leaves end made v w Await h leads = refl
+  run_leaves : (end : OnceAct) (made v : Option V) (w : ℕ) (l : OncePoint) (h : Option Hold) → next_point l ≡ TryBegin → (step_with v made (completes_by (runs end l h)) (step_by one_number 0 (runs end l h) w)).words ≡ w
   run_leaves end made v w TryBegin h leads = absurd (cc (leads))
   run_leaves end made v w Run h leads = absurd (cc (leads))
+  run_leaves end made v w _ h leads = refl
 
   leaves_at : (c : OnceCall V) (l : OncePoint) (h : Option Hold) → has_closure (asks_of c) ≡ true → next_point l ≡ TryBegin → (w : ℕ) (v : Option V) → (m.step w v c l h).words ≡ w
   leaves_at (CallOnce x) l h closure leads = λ w v. run_leaves (ends (Some x) h) (Some x) v w l h leads
   leaves_at (TryCallOnceOk x) l h closure leads = λ w v. run_leaves (ends (Some x) h) (Some x) v w l h leads
   leaves_at TryCallOnceErr l h closure leads = λ w v. run_leaves (ends {V = V} None h) None v w l h leads
   leaves_at (InitFromRef x) l h closure leads = λ w v. run_leaves (ends (Some x) h) (Some x) v w l h leads
-  leaves_at Wait l h closure leads = absurd (false≢true closure)
-  leaves_at Poll l h closure leads = absurd (false≢true closure)
-  leaves_at Get l h closure leads = absurd (false≢true closure)
-  leaves_at IsCompleted l h closure leads = absurd (false≢true closure)
+  leaves_at _ l h closure leads = absurd (false≢true closure)
 
   module _ (n : ℕ) (past : Entries V) (p : ℕ) (c : OnceCall V) (h : Option Hold) (zero : (once_after m n past).words ≡ 0) (closure : has_closure (asks_of c) ≡ true) where
     by_exchange : slice_get (once_after m n past).seats p ≡ Some (Calling c TryBegin h) → RunsClosure m n (past ++ (p, Step) ∷ []) p
@@ -172,21 +160,17 @@ module _ {V : Type 0} (value : Option V) where
 
   -- a closure begins by the exchange alone
 
-  run_begins : (end : OnceAct) (l : OncePoint) (h : Option Hold) (p w : ℕ) → (change_by (λ n. n) end p w ≡ Some (gets p to_begin) → ⊥) → change_by (λ n. n) (runs end l h) p w ≡ Some (gets p to_begin) → l ≡ TryBegin
+  run_begins : (end : OnceAct) (l : OncePoint) (h : Option Hold) (p w : ℕ) → (change_by one_number 0 end p w ≡ Some (gets p to_begin) → ⊥) → change_by one_number 0 (runs end l h) p w ≡ Some (gets p to_begin) → l ≡ TryBegin
   run_begins end TryBegin h p w not e = refl
   run_begins end Run h p w not e = absurd (not e)
-  run_begins end Look h p w not e = absurd (cc (e))
-  run_begins end Await h p w not e = absurd (cc (e))
+  run_begins end _ h p w not e = absurd (cc (e))
 
   begins_at : (c : OnceCall V) (l : OncePoint) (h : Option Hold) (p w : ℕ) → m.change p w c l h ≡ Some (gets p to_begin) → l ≡ TryBegin
   begins_at (CallOnce x) l h p w e = run_begins (ends (Some x) h) l h p w (λ f. cc (f)) e
   begins_at (TryCallOnceOk x) l h p w e = run_begins (ends (Some x) h) l h p w (λ f. cc (f)) e
   begins_at TryCallOnceErr l h p w e = run_begins (ends {V = V} None h) l h p w (λ f. cc (f)) e
   begins_at (InitFromRef x) l h p w e = run_begins (ends (Some x) h) l h p w (λ f. cc (f)) e
-  begins_at Wait l h p w e = absurd (cc (e))
-  begins_at Poll l h p w e = absurd (cc (e))
-  begins_at Get l h p w e = absurd (cc (e))
-  begins_at IsCompleted l h p w e = absurd (cc (e))
+  begins_at _ l h p w e = absurd (cc (e))
 
   looked_at : (c : OnceCall V) (h : Option Hold) (p : ℕ) (s : Plain) (span : List Mark) → (once_keeping value).Knows c TryBegin h p s span → has_just_looked p span ≡ true
   looked_at (CallOnce x) None p s span knows = knows.1
@@ -200,11 +184,7 @@ module _ {V : Type 0} (value : Option V) where
   looks_at seen p (Some (Calling c l h)) good there e =
       let knows = (in_call m (once_keeping value) seen p c l h good there).knows in
       looked_at c h p seen.plain (seen.span p) (subst (λ l. (once_keeping value).Knows c l h p seen.plain (seen.span p)) (begins_at c l h p seen.state.words e) knows)
-  looks_at seen p None good there e = absurd (cc (e))
-  looks_at seen p (Some Idle) good there e = absurd (cc (e))
-  looks_at seen p (Some (Holding h)) good there e = absurd (cc (e))
-  looks_at seen p (Some (Leaked h)) good there e = absurd (cc (e))
-  looks_at seen p (Some (Gone h)) good there e = absurd (cc (e))
+  looks_at seen p _ good there e = absurd (cc (e))
 
   pub looks_first : (n : ℕ) (past : Entries V) → LooksFirst m n past
   looks_first n past = λ p e. looks_at (seen_at m n past) p (slice_get (seen_at m n past).state.seats p) (good value n past) refl e

@@ -14,7 +14,7 @@ use Rattle.spin_world_core.specs.declared.schedule.Move.{Move}
 use Rattle.spin_world_core.specs.declared.schedule.Move.TheVariants.{Begin, Step, Weak, Read, Write, Leak, OwnerGet, OwnerSet}
 use Rattle.spin_world_core.specs.declared.schedule.Outcome.{Outcome}
 use Rattle.spin_world_core.specs.declared.schedule.Outcome.TheVariants as outcome
-use Rattle.spin_world_core.specs.Acts.{step_by, completes_by, step_with}
+use Rattle.spin_world_core.specs.Acts.{one_number, step_by, completes_by, step_with}
 use Rattle.spin_world_core.specs.Schedules.{State, happens, moves_at, goes_on, placed, stepped, after, at_first}
 use Rattle.spin_world_core.specs.Runs.{Seen, scene, opening, own, last_written, placed_at, MayTouch}
 use Rattle.spin_world_core.specs.Users.{outcome_after}
@@ -35,14 +35,12 @@ use Rattle.spin_world_core.proofs.Values as values
 use Rattle.spin_world_once.proofs.Owed.{IsFree, none_writes, once_keeping, once_facts}
 
 not_running : (phase : Phase) (q : ℕ) → is_complete phase ≡ true → is_running q phase ≡ true → ⊥
-not_running nothing q there runs = false≢true there
-not_running (running p) q there runs = false≢true there
 not_running complete q there runs = false≢true runs
+not_running _ q there runs = false≢true there
 
 made_word : (phase : Phase) → is_complete phase ≡ true → phase_word phase ≡ 2
-made_word nothing e = absurd (false≢true e)
-made_word (running p) e = absurd (false≢true e)
 made_word complete e = refl
+made_word _ e = absurd (false≢true e)
 
 is_none : {X : Type 0} (o : Option X) → false ≡ is_some o → o ≡ None
 is_none None e = refl
@@ -69,18 +67,7 @@ module _ {V : Type 0} (value : Option V) where
       → MayTouch seen p o move → ((q : ℕ) → step ≡ Some (completes q) → ⊥) → last_written o move seen.written put step ≡ seen.written
   written_stays seen p outcome.Written (Write v) put step free keeps touches not = absurd (false≢true (sym (none_writes value seen.plain p free) ∙ touches))
   written_stays seen p outcome.Written (OwnerSet v) put step free keeps touches not = absurd (false≢true keeps)
-  written_stays seen p outcome.Written (Begin c) put step free keeps touches not = sym (uncompleted seen.written put step not)
-  written_stays seen p outcome.Written Step put step free keeps touches not = sym (uncompleted seen.written put step not)
-  written_stays seen p outcome.Written Weak put step free keeps touches not = sym (uncompleted seen.written put step not)
-  written_stays seen p outcome.Written Read put step free keeps touches not = sym (uncompleted seen.written put step not)
-  written_stays seen p outcome.Written Leak put step free keeps touches not = sym (uncompleted seen.written put step not)
-  written_stays seen p outcome.Written OwnerGet put step free keeps touches not = sym (uncompleted seen.written put step not)
-  written_stays seen p outcome.PassedOver move put step free keeps touches not = sym (uncompleted seen.written put step not)
-  written_stays seen p outcome.Begun move put step free keeps touches not = sym (uncompleted seen.written put step not)
-  written_stays seen p outcome.GoingOn move put step free keeps touches not = sym (uncompleted seen.written put step not)
-  written_stays seen p (outcome.Answered a b) move put step free keeps touches not = sym (uncompleted seen.written put step not)
-  written_stays seen p (outcome.Value r) move put step free keeps touches not = sym (uncompleted seen.written put step not)
-  written_stays seen p outcome.Leaked move put step free keeps touches not = sym (uncompleted seen.written put step not)
+  written_stays seen p _ _ put step free keeps touches not = sym (uncompleted seen.written put step not)
 
   opens_none : (s : Plain) (p : ℕ) (step : Option Change) → is_complete s.phase ≡ true → IsOpenStep s p step → (q : ℕ) → step ≡ Some (completes q) → ⊥
   opens_none s p step there may q is = not_running s.phase q there (subst (λ o. IsOpenStep s p o) is may).1
@@ -177,14 +164,11 @@ module _ {V : Type 0} (value : Option V) where
 
   -- the end of a closure
   ended : (s : OnceState V) (p : ℕ) (c : OnceCall V) (h : Option Hold) → has_closure (asks_of c) ≡ true → (stepped s p c h (m.step s.words s.value c Run h)).outcome ≡ outcome.Answered (answer_of (brings_of c)) None
-  ended s p (CallOnce v) h closure = refl
-  ended s p (TryCallOnceOk v) h closure = refl
-  ended s p TryCallOnceErr h closure = refl
-  ended s p (InitFromRef v) h closure = refl
   ended s p Wait h closure = absurd (false≢true closure)
   ended s p Poll h closure = absurd (false≢true closure)
   ended s p Get h closure = absurd (false≢true closure)
   ended s p IsCompleted h closure = absurd (false≢true closure)
+  ended s p _ h closure = refl
 
   closure_at : (c : OnceCall V) (h : Option Hold) (p : ℕ) (s : Plain) (span : List Mark) → (once_keeping value).Knows c Run h p s span → has_closure (asks_of c) ≡ true
   closure_at (CallOnce v) None p s span knows = refl
@@ -216,21 +200,17 @@ module _ {V : Type 0} (value : Option V) where
       let word : seen.state.words ≡ once_word seen.plain = cc ((good n past).encodes) in
       ap (λ (s : OnceState V). s.words) (sym (state-seen_after m (opening m n) past)) ∙ (word ∙ made_word seen.plain.phase ((a_value_stays n past []).complete ∙ ap is_some is))
 
-  run_told : (end : OnceAct) (made : Option V) (l : OncePoint) (h : Option Hold) (v : V) → (l ≡ Run → ⊥) → (step_with (Some v) made (completes_by (runs end l h)) (step_by (λ w. w) (runs end l h) 2)).next ≡ Answers (Value v) h
+  run_told : (end : OnceAct) (made : Option V) (l : OncePoint) (h : Option Hold) (v : V) → (l ≡ Run → ⊥) → (step_with (Some v) made (completes_by (runs end l h)) (step_by one_number 0 (runs end l h) 2)).next ≡ Answers (Value v) h
   run_told end made Run h v not = absurd (not refl)
-  run_told end made Look h v not = refl
-  run_told end made TryBegin h v not = refl
-  run_told end made Await h v not = refl
+  run_told end made _ h v not = refl
 
   told_at : (c : OnceCall V) (l : OncePoint) (h : Option Hold) (v : V) → wants_value (asks_of c) ≡ true → (l ≡ Run → ⊥) → (m.step 2 (Some v) c l h).next ≡ Answers (Value v) h
   told_at (CallOnce x) l h v wants not = run_told (ends (Some x) h) (Some x) l h v not
   told_at (TryCallOnceOk x) l h v wants not = run_told (ends (Some x) h) (Some x) l h v not
   told_at TryCallOnceErr l h v wants not = run_told (ends {V = V} None h) None l h v not
   told_at (InitFromRef x) l h v wants not = run_told (ends (Some x) h) (Some x) l h v not
-  told_at Wait l h v wants not = refl
-  told_at Poll l h v wants not = refl
-  told_at Get l h v wants not = refl
   told_at IsCompleted l h v wants not = absurd (false≢true wants)
+  told_at _ l h v wants not = refl
 
   value_told : (n : ℕ) (past : Entries V) (p : ℕ) (v : V) (c : OnceCall V) (l : OncePoint) (h : Option Hold) → (once_after m n past).value ≡ Some v → slice_get (once_after m n past).seats p ≡ Some (Calling c l h)
       → wants_value (asks_of c) ≡ true → outcome_after m n past p Step ≡ outcome.Answered (Value v) None
@@ -243,13 +223,7 @@ module _ {V : Type 0} (value : Option V) where
 
   none_at : (c : OnceCall V) (l : OncePoint) (h : Option Hold) (v : Option V) → asks_of c ≡ polls → (m.step 0 v c l h).next ≡ Answers NoValue h
   none_at Poll l h v e = refl
-  none_at (CallOnce x) l h v e = absurd (cc (e))
-  none_at (TryCallOnceOk x) l h v e = absurd (cc (e))
-  none_at TryCallOnceErr l h v e = absurd (cc (e))
-  none_at (InitFromRef x) l h v e = absurd (cc (e))
-  none_at Wait l h v e = absurd (cc (e))
-  none_at Get l h v e = absurd (cc (e))
-  none_at IsCompleted l h v e = absurd (cc (e))
+  none_at _ l h v e = absurd (cc (e))
 
   pub a_value_is_answered_at_once : (n : ℕ) (past : Entries V) → AnswersAtOnce m n past
   a_value_is_answered_at_once n past =

@@ -5,6 +5,7 @@ use Rattle.spin_step.specs.Plain.{Plain, writing, same_kind, Phase, nothing, run
 use Rattle.std.specs.List.{list_any}
 use Rattle.spin_step.specs.Parties.{apply_some, IsOpenStep, entries, is_held}
 use Rattle.spin_step.proofs.Onces.{phase_word, complete-word, nothing-word, running-word, once_begin-grants, runs-others}
+use Rattle.spin_step.specs.Flags.{begun}
 use Rattle.spin_world_core.specs.declared.answer.Answer.{Answer}
 use Rattle.spin_world_core.specs.declared.answer.Answer.TheVariants.{NoValue}
 use Rattle.spin_world_core.specs.declared.place.Hold.{Hold}
@@ -15,20 +16,18 @@ use Rattle.spin_world_once.specs.declared.once.OnceCall.TheVariants.{CallOnce, T
 use Rattle.spin_world_once.specs.declared.once.OncePoint.{OncePoint}
 use Rattle.spin_world_once.specs.declared.once.OncePoint.TheVariants.{Look, TryBegin, Await, Run}
 use Rattle.spin_world_core.specs.Manners.{Manner, plain, look, is_look}
-use Rattle.spin_world_core.specs.Calls.{once, Asked, initializes, fails_to_initialize, Mark, Said, gives_value, failed, may_be_weak}
-use Rattle.spin_world_core.specs.Operations.{Operation, loads, exchanges, stores, performed}
-use Rattle.spin_world_core.specs.Acts.{Act, either, becomes, made_if, step_by, can_by}
+use Rattle.spin_world_core.specs.Calls.{once, Asked, looks, initializes, fails_to_initialize, Mark, Said, gives_value, failed, may_be_weak}
+use Rattle.spin_world_core.specs.Acts.{one_number, Act, either, becomes, made_if, begin_of}
 use Rattle.spin_world_core.specs.Machines.{opening_phase, opening_plain}
 use Rattle.spin_world_core.specs.Runs.{is_writer, mark_of}
-use Rattle.spin_world_once.specs.Once.{opening_word, begins_at, begin, is_there, tells, runs, ends, OnceAct, act_of, asks_of, brings_of, once_table, once_machine}
+use Rattle.spin_world_once.specs.Once.{opening_word, is_there, tells, runs, ends, OnceAct, act_of, asks_of, brings_of, once_table, once_machine}
 use Rattle.spin_world_once.specs.Keeping.{has_just_looked}
 use Rattle.spin_world_core.proofs.Facts.{LocalInvariant, Facts}
 use Rattle.spin_world_core.proofs.Stands.{absent}
 use Rattle.spin_world_core.proofs.Rows.{Turn, goes, misses, Row, Point, nowhere, looked, onward, SoundAt}
-use Rattle.spin_world_core.proofs.Paid.{MakesStep}
 use Rattle.spin_world_core.proofs.Shapes.{Notes, Means, Follows, OwesAt, answers_by, OwesSoon, BeginsAt, CallOf, AtPoint}
-use Rattle.spin_world_core.proofs.Usual.{no_holders, means_word}
-use Rattle.spin_world_core.proofs.Operating.{BeginsWhereItFits, OperatesAt, one_word, swaps}
+use Rattle.spin_world_core.proofs.Usual.{no_holders, means_word, branches}
+use Rattle.spin_world_core.proofs.Operating.{fits_act, fits_strong, one_place, operates_by}
 use Rattle.spin_world_core.proofs.Filled.{CompletesRight, TellsOf, TellsBy, PaysWith, keeping_with, facts_with}
 
 -- a call with a closure looks, until it runs its closure: then it has begun to, and is left with its end
@@ -80,7 +79,7 @@ looks_now p s span = ap (λ b. if b then true else has_just_looked p span) (eq-e
 
 module _ {V : Type 0} (value : Option V) where
   abbrev IsMeant : ℕ → Plain → Change → Option ℕ → Type 0
-  IsMeant p s c o = Means (once_table value) (once_notes value) p s c o
+  IsMeant p s c o = Means (once_table value) (once_notes value) p s c (λ k. k) o
 
   -- what the step functions mean, and what is found
   module _ {k : CallOf ℕ OncePoint (Answer (Unit {0}))} {l : OncePoint} {h : Option Hold} {s : Plain} {w : ℕ} {span : List Mark} {row : Row} (p : ℕ) (at : AtPoint (once_table value) (once_notes value) p k l h s w span row) where
@@ -90,8 +89,8 @@ module _ {V : Type 0} (value : Option V) where
     made : is_there w ≡ true → is_complete s.phase ≡ true
     made = is_made s w at.encodes
 
-    begin_means : IsMeant p s (gets p to_begin) (begin w)
-    begin_means = means_word (once_table value) (once_notes value) once_word (λ to after is. ap (λ n. n ∷ []) is) p s (gets p to_begin) (begin w) refl (once_begin-grants s p w word) (λ may. at.shape)
+    begin_means : IsMeant p s (gets p to_begin) (begun w)
+    begin_means = means_word (once_table value) (once_notes value) once_word (λ to after is. ap (λ n. n ∷ []) is) p s (gets p to_begin) (begun w) refl (once_begin-grants s p w word) (λ may. at.shape)
 
     -- a closure's end, by the party that runs it
     end_means : (to : ℕ) (end : Change) → s.phase ≡ running p → IsOpenStep s p (Some end) → to ≡ once_word (apply s end) → IsFree (apply s end) → ((w == 1) ≡ true) × IsMeant p s end (Some to)
@@ -100,19 +99,13 @@ module _ {V : Type 0} (value : Option V) where
     may_end : s.phase ≡ running p → is_running p s.phase ≡ true
     may_end mine = ap (is_running p) mine ∙ eq-eqb p p refl
 
-    -- how a call goes on, by a test
-    branches : (r : Manner) (turn : Turn) (b : Bool) (x y : Next OncePoint (Answer (Unit {0}))) → (b ≡ true → Follows (once_table value) (once_notes value) p k h s w span row false None r turn x)
-        → (b ≡ false → Follows (once_table value) (once_notes value) p k h s w span row false None r turn y) → Follows (once_table value) (once_notes value) p k h s w span row false None r turn (either b x y)
-    branches r turn true x y f g = f refl
-    branches r turn false x y f g = g refl
-
   -- a call whose closure gives a value
   gives_owes : (p : ℕ) (x : V) (l : OncePoint) (h : Option Hold) (s : Plain) (w : ℕ) (span : List Mark) → OwesAt (once_table value) (once_notes value) p (CallOnce x) l h s w span
   gives_owes p x Look None s w span = λ at. ((λ e. (refl, inr (inl refl), inl (inl (made p at e)))), (λ e. (refl, refl, tt, tt, looks_now p s span)))
   gives_owes p x TryBegin None s w span = λ at.
-      (begin_means p at, (refl, refl, tt, tt, refl), λ closed. branches p at plain (misses (gets p to_begin)) (is_there w) (tells None) (GoesOn Await) (λ e. (refl, inr (inl refl), inl (inl (made p at e)))) (λ e. (refl, refl, tt, tt, tt)))
+      (begin_means p at, (refl, refl, tt, tt, refl), λ closed. branches p at None plain (misses (gets p to_begin)) (is_there w) (tells None) (GoesOn Await) (λ e. (refl, inr (inl refl), inl (inl (made p at e)))) (λ e. (refl, refl, tt, tt, tt)))
   gives_owes p x Await None s w span = λ at.
-      ((λ e. (refl, inr (inl refl), inl (inl (made p at e)))), (λ e. branches p at look goes (w == 0) (GoesOn TryBegin) (GoesOn Await) (λ f. (refl, refl, tt, tt, looks_now p s span)) (λ f. (refl, refl, tt, tt, tt))))
+      ((λ e. (refl, inr (inl refl), inl (inl (made p at e)))), (λ e. branches p at None look goes (w == 0) (GoesOn TryBegin) (GoesOn Await) (λ f. (refl, refl, tt, tt, looks_now p s span)) (λ f. (refl, refl, tt, tt, tt))))
   gives_owes p x Run None s w span = λ at. let is = end_means p at 2 (completes p) at.knows (refl, may_end p at at.knows) refl at.shape in (is.0, is.1, (refl, inl refl, inl (inr (refl, refl))))
   gives_owes p x _ (Some h) s w span = tt
 
@@ -122,14 +115,14 @@ module _ {V : Type 0} (value : Option V) where
   owes p (InitFromRef x) l h s w span = gives_owes p x l h s w span
   owes p TryCallOnceErr Look None s w span = λ at. ((λ e. (refl, inl refl, inl (inl (made p at e)))), (λ e. (refl, refl, tt, tt, looks_now p s span)))
   owes p TryCallOnceErr TryBegin None s w span = λ at.
-      (begin_means p at, (refl, refl, tt, tt, refl), λ closed. branches p at plain (misses (gets p to_begin)) (is_there w) (tells None) (GoesOn Await) (λ e. (refl, inl refl, inl (inl (made p at e)))) (λ e. (refl, refl, tt, tt, tt)))
+      (begin_means p at, (refl, refl, tt, tt, refl), λ closed. branches p at None plain (misses (gets p to_begin)) (is_there w) (tells None) (GoesOn Await) (λ e. (refl, inl refl, inl (inl (made p at e)))) (λ e. (refl, refl, tt, tt, tt)))
   owes p TryCallOnceErr Await None s w span = λ at.
-      ((λ e. (refl, inl refl, inl (inl (made p at e)))), (λ e. branches p at look goes (w == 0) (GoesOn TryBegin) (GoesOn Await) (λ f. (refl, refl, tt, tt, looks_now p s span)) (λ f. (refl, refl, tt, tt, tt))))
+      ((λ e. (refl, inl refl, inl (inl (made p at e)))), (λ e. branches p at None look goes (w == 0) (GoesOn TryBegin) (GoesOn Await) (λ f. (refl, refl, tt, tt, looks_now p s span)) (λ f. (refl, refl, tt, tt, tt))))
   owes p TryCallOnceErr Run None s w span = λ at. let is = end_means p at 0 (fails p) at.knows (refl, may_end p at at.knows) refl at.shape in (is.0, is.1, (refl, inl refl, inl (refl, refl)))
   owes p Wait Look None s w span = λ at. ((λ e. (refl, inl refl, inl (inl (made p at e)))), (λ e. (refl, refl, tt, tt, tt)))
   owes p Poll Look None s w span = λ at. (
     (λ e. (refl, inl refl, inl (inl (made p at e)))),
-    (λ e. branches p at look goes (w == 0) (Answers NoValue None) (GoesOn Look) (λ f. (refl, inl refl, inl (nothing-word s.phase w (word p at) ∙ f))) (λ f. (refl, refl, tt, tt, tt))),
+    (λ e. branches p at None look goes (w == 0) (Answers NoValue None) (GoesOn Look) (λ f. (refl, inl refl, inl (nothing-word s.phase w (word p at) ∙ f))) (λ f. (refl, refl, tt, tt, tt))),
   )
   owes p Get Look None s w span = λ at. ((λ e. (refl, inl refl, inl (inl (made p at e)))), (λ e. (refl, inl refl, inl (complete-word s.phase w (word p at) ∙ e))))
   owes p IsCompleted Look None s w span = λ at. (refl, inl refl, inl (complete-word s.phase w (word p at)))
@@ -142,7 +135,7 @@ module _ {V : Type 0} (value : Option V) where
   tells_if phase false h y there other = other
 
   tells_begin : (s : Plain) (p w : ℕ) (b : Bool) (h : Option Hold) → (is_there w ≡ true → is_complete s.phase ≡ true)
-      → TellsOf (apply_some s (made_if {W = ℕ} (if b then Some 1 else None) (gets p to_begin))).phase (becomes {V = V} w (if b then Some 1 else None) (GoesOn Run) (either (is_there w) (tells h) (GoesOn Await))).next
+      → TellsOf (apply_some s (made_if {X = ℕ} (if b then Some 1 else None) (gets p to_begin))).phase (becomes {V = V} (λ (k : ℕ). k) w (if b then Some 1 else None) (GoesOn Run) (either (is_there w) (tells h) (GoesOn Await))).next
   tells_begin s p w true h there = tt
   tells_begin s p w false h there = tells_if s.phase (is_there w) h (GoesOn Await) there tt
 
@@ -154,13 +147,13 @@ module _ {V : Type 0} (value : Option V) where
   tells_poll phase true h = tt
   tells_poll phase false h = tt
 
-  runs_tell : (end : Act ℕ OncePoint (Answer (Unit {0}))) (l : OncePoint) (h : Option Hold) (p : ℕ) (s : Plain) (w : ℕ) → w ∷ [] ≡ once_word s ∷ [] → TellsBy V (λ n. n) end p s w → TellsBy V (λ n. n) (runs end l h) p s w
+  runs_tell : (end : Act ℕ OncePoint (Answer (Unit {0}))) (l : OncePoint) (h : Option Hold) (p : ℕ) (s : Plain) (w : ℕ) → w ∷ [] ≡ once_word s ∷ [] → TellsBy V one_number 0 end p s w → TellsBy V one_number 0 (runs end l h) p s w
   runs_tell end Look h p s w e ended = tells_if s.phase (is_there w) h (GoesOn TryBegin) (is_made s w e) tt
   runs_tell end TryBegin h p s w e ended = tells_begin s p w (w == 0) h (is_made s w e)
   runs_tell end Await h p s w e ended = tells_if s.phase (is_there w) h _ (is_made s w e) (tells_await s.phase (w == 0))
   runs_tell end Run h p s w e ended = ended
 
-  tells_at : (p : ℕ) (c : OnceCall V) (l : OncePoint) (h : Option Hold) (s : Plain) (w : ℕ) → w ∷ [] ≡ once_word s ∷ [] → TellsBy V (λ n. n) (act_of c l h) p s w
+  tells_at : (p : ℕ) (c : OnceCall V) (l : OncePoint) (h : Option Hold) (s : Plain) (w : ℕ) → w ∷ [] ≡ once_word s ∷ [] → TellsBy V one_number 0 (act_of c l h) p s w
   tells_at p (CallOnce x) l h s w e = runs_tell (ends (Some x) h) l h p s w e refl
   tells_at p (TryCallOnceOk x) l h s w e = runs_tell (ends (Some x) h) l h p s w e refl
   tells_at p TryCallOnceErr l h s w e = runs_tell (ends {V = V} None h) l h p s w e tt
@@ -177,9 +170,8 @@ module _ {V : Type 0} (value : Option V) where
   by_word P complete w is may none some = subst P is some
 
   made_word : (P : ℕ → Type 0) (phase : Phase) (w : ℕ) → phase_word phase ≡ w → is_complete phase ≡ true → P 2 → P w
-  made_word P nothing w is may some = absurd (false≢true may)
-  made_word P (running p) w is may some = absurd (false≢true may)
   made_word P complete w is may some = subst P is some
+  made_word P _ w is may some = absurd (false≢true may)
 
   abbrev Soon : OnceCall V → OncePoint → ℕ → Type 0
   Soon c l w = answers_by (once_table value) 4 w c l None ≡ true
@@ -203,98 +195,44 @@ module _ {V : Type 0} (value : Option V) where
   soon p Poll Look None s w span = λ at may. by_word (Soon Poll Look) s.phase w (word p at) may refl refl
   soon p _ _ _ s w span = tt
 
-  begins : (p : ℕ) (c : OnceCall V) (h : Option Hold) (s : Plain) → BeginsAt (once_table value) (once_notes value) c h p s (begins_at h)
-  begins p c (Some h) s = tt
+  begins : (p : ℕ) (c : OnceCall V) (h : Option Hold) (s : Plain) → BeginsAt (once_table value) (once_notes value) c h p s (begin_of (once_table value) c h)
   begins p (CallOnce x) None s = (refl, refl, tt, tt)
-  begins p (TryCallOnceOk x) None s = (refl, refl, tt, tt)
-  begins p TryCallOnceErr None s = (refl, refl, tt, tt)
-  begins p (InitFromRef x) None s = (refl, refl, tt, tt)
-  begins p Wait None s = (refl, refl, tt, tt)
-  begins p Poll None s = (refl, refl, tt, tt)
-  begins p Get None s = (refl, refl, tt, tt)
-  begins p IsCompleted None s = (refl, refl, tt, tt)
-
-  fits_all : BeginsWhereItFits (once_table value)
-  fits_all (CallOnce x) None = refl
-  fits_all (CallOnce x) (Some h) = refl
-  fits_all (TryCallOnceOk x) None = refl
-  fits_all (TryCallOnceOk x) (Some h) = refl
-  fits_all TryCallOnceErr None = refl
-  fits_all TryCallOnceErr (Some h) = refl
-  fits_all (InitFromRef x) None = refl
-  fits_all (InitFromRef x) (Some h) = refl
-  fits_all Wait None = refl
-  fits_all Wait (Some h) = refl
-  fits_all Poll None = refl
-  fits_all Poll (Some h) = refl
-  fits_all Get None = refl
-  fits_all Get (Some h) = refl
-  fits_all IsCompleted None = refl
-  fits_all IsCompleted (Some h) = refl
+  begins p _ None s = (refl, refl, tt, tt)
+  begins p (CallOnce x) (Some h) s = tt
+  begins p _ (Some h) s = tt
 
   strong : (c : OnceCall V) → may_be_weak (asks_of c) ≡ false
   strong (CallOnce x) = refl
-  strong (TryCallOnceOk x) = refl
-  strong (InitFromRef x) = refl
   strong _ = refl
 
-  -- what a step is
-  abbrev Makes : OnceAct → Operation → Type 0
-  Makes act operation = (w : ℕ) → can_by act w ≡ true → (step_by {V = V} (λ n. n) act w).words ≡ performed operation w
+  runs_fit : (end : OnceAct) (p : ℕ) (l : OncePoint) (h : Option Hold) → fits_act once looks end p ≡ true → fits_act once looks (runs end l h) p ≡ true
+  runs_fit end p TryBegin h ended = refl
+  runs_fit end p Run h ended = ended
+  runs_fit end p _ h ended = refl
 
-  runs_by : (end : OnceAct) (operation : Operation) (l : OncePoint) (h : Option Hold) → Makes end operation → (o : Operation) × Makes (runs end l h) o
-  runs_by end operation TryBegin h ended = (exchanges 0 1, λ w can. swaps V 0 1 w _ _)
-  runs_by end operation Run h ended = (operation, ended)
-  runs_by end operation Look h ended = (loads, λ w can. refl)
-  runs_by end operation Await h ended = (loads, λ w can. refl)
+  fits_looks : (p : ℕ) (c : OnceCall V) (l : OncePoint) (h : Option Hold) → fits_act once looks (act_of c l h) p ≡ true
+  fits_looks p (CallOnce x) l h = runs_fit (ends (Some x) h) p l h refl
+  fits_looks p (TryCallOnceOk x) l h = runs_fit (ends (Some x) h) p l h refl
+  fits_looks p TryCallOnceErr l h = runs_fit (ends {V = V} None h) p l h refl
+  fits_looks p (InitFromRef x) l h = runs_fit (ends (Some x) h) p l h refl
+  fits_looks p _ l h = refl
 
-  operation_of : (c : OnceCall V) (l : OncePoint) (h : Option Hold) → (o : Operation) × Makes (act_of c l h) o
-  operation_of (CallOnce x) l h = runs_by (ends (Some x) h) (stores 2) l h (λ w can. refl)
-  operation_of (TryCallOnceOk x) l h = runs_by (ends (Some x) h) (stores 2) l h (λ w can. refl)
-  operation_of TryCallOnceErr l h = runs_by (ends {V = V} None h) (stores 0) l h (λ w can. refl)
-  operation_of (InitFromRef x) l h = runs_by (ends (Some x) h) (stores 2) l h (λ w can. refl)
-  operation_of Wait l h = (loads, λ w can. refl)
-  operation_of Poll l h = (loads, λ w can. refl)
-  operation_of Get l h = (loads, λ w can. refl)
-  operation_of IsCompleted l h = (loads, λ w can. refl)
-
-  operates : (c : OnceCall V) (l : OncePoint) (h : Option Hold) → OperatesAt once (once_table value) c l h
-  operates c l h = let o = operation_of c l h in (0, o.0, one_word (once_table value) (λ w. refl) (λ u w e. e) c l h o.0 o.1)
-
-  runs_makes : (end : Act ℕ OncePoint (Answer (Unit {0}))) (p : ℕ) (l : OncePoint) (h : Option Hold) → MakesStep once end p → MakesStep once (runs end l h) p
-  runs_makes end p TryBegin h ended = refl
-  runs_makes end p Run h ended = ended
-  runs_makes end p _ h ended = tt
-
-  makes : (p : ℕ) (c : OnceCall V) (l : OncePoint) (h : Option Hold) → MakesStep once (act_of c l h) p
-  makes p (CallOnce x) l h = runs_makes (ends (Some x) h) p l h refl
-  makes p (TryCallOnceOk x) l h = runs_makes (ends (Some x) h) p l h refl
-  makes p TryCallOnceErr l h = runs_makes (ends {V = V} None h) p l h refl
-  makes p (InitFromRef x) l h = runs_makes (ends (Some x) h) p l h refl
-  makes p Wait l h = tt
-  makes p Poll l h = tt
-  makes p Get l h = tt
-  makes p IsCompleted l h = tt
-
-  runs_complete : (end : Act ℕ OncePoint (Answer (Unit {0}))) (p : ℕ) (l : OncePoint) (h : Option Hold) (x : Option V) → CompletesRight end p x → CompletesRight (runs end l h) p x
+  runs_complete : (end : OnceAct) (p : ℕ) (l : OncePoint) (h : Option Hold) (x : Option V) → CompletesRight end p x → CompletesRight (runs end l h) p x
   runs_complete end p TryBegin h x ended = refl
   runs_complete end p Run h x ended = ended
-  runs_complete end p _ h x ended = tt
+  runs_complete end p _ h x ended = refl
 
   completes_right : (p : ℕ) (c : OnceCall V) (l : OncePoint) (h : Option Hold) → CompletesRight (act_of c l h) p (brings_of c)
   completes_right p (CallOnce x) l h = runs_complete (ends (Some x) h) p l h (Some x) (refl, λ e. refl)
   completes_right p (TryCallOnceOk x) l h = runs_complete (ends (Some x) h) p l h (Some x) (refl, λ e. refl)
   completes_right p TryCallOnceErr l h = runs_complete (ends {V = V} None h) p l h None (refl, λ e. absurd (false≢true e))
   completes_right p (InitFromRef x) l h = runs_complete (ends (Some x) h) p l h (Some x) (refl, λ e. refl)
-  completes_right p Wait l h = tt
-  completes_right p Poll l h = tt
-  completes_right p Get l h = tt
-  completes_right p IsCompleted l h = tt
+  completes_right p _ l h = refl
 
   run_sound : (what : Asked) (end : ℕ → Change) (said : Said) (p : ℕ) (l : OncePoint) (h : Option Hold) → SoundAt once what p (looked 0) → SoundAt once what p (run_point end said Run None) → SoundAt once what p (run_point end said l h)
-  run_sound what end said p l (Some h) looks ended = tt
-  run_sound what end said p Run None looks ended = ended
-  run_sound what end said p _ None looks ended = looks
+  run_sound what end said p l (Some h) searches ended = tt
+  run_sound what end said p Run None searches ended = ended
+  run_sound what end said p _ None searches ended = searches
 
   sound : (p : ℕ) (c : OnceCall V) (l : OncePoint) (h : Option Hold) → SoundAt once (asks_of c) p (point_of c l h)
   sound p (CallOnce x) l h = run_sound initializes completes gives_value p l h refl (refl, inl refl)
@@ -311,18 +249,14 @@ module _ {V : Type 0} (value : Option V) where
     runs-on : (l : OncePoint) → RunsAt l p s span → RunsAt l p (apply_some s step) (mark_of q step r s ∷ span)
     runs-on TryBegin has = ap (λ b. if b then is_look r else has_just_looked p span) (ne_eqb q p ne) ∙ has
     runs-on Run runs = runs-others s p q step ne may runs
-    runs-on Look knows = tt
-    runs-on Await knows = tt
+    runs-on _ knows = tt
 
     others : (c : OnceCall V) (l : OncePoint) → KnowsAt c l p s span → KnowsAt c l p (apply_some s step) (mark_of q step r s ∷ span)
     others (CallOnce x) l knows = runs-on l knows
     others (TryCallOnceOk x) l knows = runs-on l knows
     others TryCallOnceErr l knows = runs-on l knows
     others (InitFromRef x) l knows = runs-on l knows
-    others Wait l knows = tt
-    others Poll l knows = tt
-    others Get l knows = tt
-    others IsCompleted l knows = tt
+    others _ l knows = tt
 
   first_word : (opening : Option V) → opening_word opening ∷ [] ≡ once_word (opening_plain (once_machine opening)) ∷ []
   first_word None = refl
@@ -343,25 +277,26 @@ module _ {V : Type 0} (value : Option V) where
   pub once_pays : PaysWith (once_table value) (once_notes value) brings_of
   once_pays =
       record {
-        fits = fits_all;
+        pays = record {
+          fits = λ p c l h. fits_strong once (asks_of c) (act_of c l h) p (strong c) (fits_looks p c l h);
+          operates = operates_by (once_table value) one_place;
+          first = first_word value;
+          shape_first = (refl, refl);
+          numbers_tell = λ u w e. cc (e);
+          one_list = λ s free. no_holders s free.0;
+          sound = sound;
+          begins = begins;
+          others = λ p q c l h s step r span ne free may belongs knows. others p q s step r span ne may c l knows;
+          owes = owes;
+          soon = soon;
+        };
         strong = λ c h. strong c;
-        operates = operates;
         says = λ a. refl;
-        first = first_word value;
-        shape_first = (refl, refl);
         phase_first = first_phase value;
-        numbers_tell = λ u w e. cc (e);
-        one_list = λ s free. no_holders s free.0;
         none_writes = none_writes;
         none_holds = none_held;
-        makes = makes;
         completes_right = completes_right;
-        sound = sound;
-        begins = begins;
-        others = λ p q c l h s step r span ne free may belongs knows. others p q s step r span ne may c l knows;
-        owes = owes;
         tells = tells_at;
-        soon = soon;
       }
 
 abbrev pub once_keeping : {V : Type 0} (value : Option V) → LocalInvariant V (OnceCall V) OncePoint

@@ -1,18 +1,19 @@
 -- No step of a `Once` looks at the value where the word does not say that there is one.
 use Rattle.std.proofs.Common.{◌≡◌, ℕ, ◌==◌, Bool, true, false, Option, Some, None, refl, ap}
 use Rattle.std.proofs.lemmas.Bool.{true≢false, ne_eqb}
+use Rattle.spin_step.specs.Flags.{begun}
 use Rattle.spin_world_core.specs.declared.answer.Answer.{Answer}
 use Rattle.spin_world_core.specs.declared.answer.Answer.TheVariants.{NoValue}
 use Rattle.spin_world_core.specs.declared.place.Hold.{Hold}
 use Rattle.spin_world_core.specs.declared.object.Next.{Next}
 use Rattle.spin_world_core.specs.declared.object.Next.TheVariants.{GoesOn, Answers}
 use Rattle.spin_world_core.specs.declared.object.Stepped.{Stepped}
-use Rattle.spin_world_core.specs.Acts.{either, becomes, filled, step_by, completes_by, step_with}
+use Rattle.spin_world_core.specs.Acts.{one_number, either, becomes, filled, step_by, completes_by, step_with}
 use Rattle.spin_world_once.specs.declared.once.OnceCall.{OnceCall}
 use Rattle.spin_world_once.specs.declared.once.OnceCall.TheVariants.{CallOnce, TryCallOnceOk, TryCallOnceErr, InitFromRef, Wait, Poll, Get, IsCompleted}
 use Rattle.spin_world_once.specs.declared.once.OncePoint.{OncePoint}
 use Rattle.spin_world_once.specs.declared.once.OncePoint.TheVariants.{Look, TryBegin, Await, Run}
-use Rattle.spin_world_once.specs.Once.{begin, is_there, tells, runs, ends, OnceAct, once_machine}
+use Rattle.spin_world_once.specs.Once.{is_there, tells, runs, ends, OnceAct, once_machine}
 use Rattle.spin_world_once.specs.Keeping.{LooksWhereComplete}
 
 module _ {V : Type 0} (u v : Option V) where
@@ -35,15 +36,15 @@ module _ {V : Type 0} (u v : Option V) where
   stayed w same = ap (staying w) same
 
   tried : (made : Option V) (w : ℕ) (o : Option ℕ) (h : Option Hold) → is_there w ≡ false
-      → step_with u made false (becomes w o (GoesOn Run) (either (is_there w) (tells h) (GoesOn Await))) ≡ step_with v made false (becomes w o (GoesOn Run) (either (is_there w) (tells h) (GoesOn Await)))
+      → step_with u made false (becomes (λ (k : ℕ). k) w o (GoesOn Run) (either (is_there w) (tells h) (GoesOn Await))) ≡ step_with v made false (becomes (λ (k : ℕ). k) w o (GoesOn Run) (either (is_there w) (tells h) (GoesOn Await)))
   tried made w None h closed = stayed w (unread (is_there w) h (GoesOn Await) closed refl)
   tried made w (Some to) h closed = refl
 
   run_unread : (end : OnceAct) (made : Option V) (l : OncePoint) (h : Option Hold) (w : ℕ) → is_there w ≡ false
-      → step_with u made (completes_by end) (step_by (λ n. n) end w) ≡ step_with v made (completes_by end) (step_by (λ n. n) end w)
-      → step_with u made (completes_by (runs end l h)) (step_by (λ n. n) (runs end l h) w) ≡ step_with v made (completes_by (runs end l h)) (step_by (λ n. n) (runs end l h) w)
+      → step_with u made (completes_by end) (step_by one_number 0 end w) ≡ step_with v made (completes_by end) (step_by one_number 0 end w)
+      → step_with u made (completes_by (runs end l h)) (step_by one_number 0 (runs end l h) w) ≡ step_with v made (completes_by (runs end l h)) (step_by one_number 0 (runs end l h) w)
   run_unread end made Look h w closed ended = stayed w (unread (is_there w) h (GoesOn TryBegin) closed refl)
-  run_unread end made TryBegin h w closed ended = tried made w (begin w) h closed
+  run_unread end made TryBegin h w closed ended = tried made w (begun w) h closed
   run_unread end made Await h w closed ended = stayed w (unread (is_there w) h _ closed (branch (w == 0) (GoesOn TryBegin) (GoesOn Await) refl refl))
   run_unread end made Run h w closed ended = ended
 

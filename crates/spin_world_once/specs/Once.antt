@@ -1,6 +1,7 @@
 -- The calls of a `Once`, step by step, and how they read on the plain lock.
-use Rattle.std.specs.Prelude.{ℕ, Bool, true, Option, Some, None, [], ◌==◌, if◌then◌else◌}
+use Rattle.std.specs.Prelude.{ℕ, Bool, true, Option, Some, None, ◌==◌}
 use Rattle.spin_step.specs.Plain.{to_begin, gets, completes, fails}
+use Rattle.spin_step.specs.Flags.{begun, completed, failed}
 use Rattle.spin_world_core.specs.declared.place.Hold.{Hold}
 use Rattle.spin_world_core.specs.declared.object.Next.{Next}
 use Rattle.spin_world_core.specs.declared.object.Next.TheVariants.{GoesOn, Answers}
@@ -12,16 +13,8 @@ use Rattle.spin_world_once.specs.declared.once.OncePoint.{OncePoint}
 use Rattle.spin_world_once.specs.declared.once.OncePoint.TheVariants.{Look, TryBegin, Await, Run}
 use Rattle.spin_world_core.specs.Calls.{once, Asked, initializes, fails_to_initialize, waits_for_value, polls, looks_for_value, looks_complete, says_of}
 use Rattle.spin_world_core.specs.Machines.{Machine}
-use Rattle.spin_world_core.specs.Acts.{Act, load, load_if, exchange, store, either, Table, machine_with}
-
--- every call begins where nothing is held
-abbrev pub begins_at : Option Hold → Option OncePoint
-begins_at None = Some Look
-begins_at (Some h) = None
-
--- nothing becomes running
-abbrev pub begin : ℕ → Option ℕ
-begin w = if w == 0 then Some 1 else None
+use Rattle.spin_world_core.specs.Acts.{one_number, Act, load, load_if, exchange, store, swap, either, Table, machine_with}
+use Rattle.spin_world_core.specs.Operations.{stores}
 
 -- there is a value
 abbrev pub is_there : ℕ → Bool
@@ -37,14 +30,14 @@ OnceAct = Act ℕ OncePoint (Answer (Unit {0}))
 -- a call with a closure looks, begins where there is nothing, and waits while another one runs
 abbrev pub runs : OnceAct → OncePoint → Option Hold → OnceAct
 runs end Look h = load_if is_there (λ w. tells h) (λ w. GoesOn TryBegin)
-runs end TryBegin h = exchange begin (λ p. gets p to_begin) (GoesOn Run) (λ w. either (is_there w) (tells h) (GoesOn Await))
+runs end TryBegin h = exchange (swap 0 begun) (λ p. gets p to_begin) (GoesOn Run) (λ w. either (is_there w) (tells h) (GoesOn Await))
 runs end Await h = load_if is_there (λ w. tells h) (λ w. either (w == 0) (GoesOn TryBegin) (GoesOn Await))
 runs end Run h = end
 
 -- the end of its closure, which gives a value that is placed in the same step, or fails
 abbrev pub ends : {V : Type 0} → Option V → Option Hold → OnceAct
-ends (Some v) h = store (λ w. w == 1) (λ w. 2) (λ p. completes p) (tells h)
-ends None h = store (λ w. w == 1) (λ w. 0) (λ p. fails p) (Answers Failed h)
+ends (Some v) h = store (λ w. w == 1) (stores (completed 1)) (λ p. completes p) (tells h)
+ends None h = store (λ w. w == 1) (stores (failed 1)) (λ p. fails p) (Answers Failed h)
 
 -- the value that the call's closure gives
 abbrev pub brings_of : {V : Type 0} → OnceCall V → Option V
@@ -90,9 +83,9 @@ once_table value =
       cap = 0;
       group = 0;
       first = 0;
-      number = λ w. w;
-      others = λ w. [];
-      begin = λ c h. begins_at h;
+      memory = one_number;
+      start = λ c h. Look;
+      word = λ l. 0;
       act = act_of;
       asks = λ c h. asks_of c;
       says = says_of;

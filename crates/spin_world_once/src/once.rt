@@ -1,5 +1,5 @@
 ghost use Rattle.std.specs.Prelude.{◌≡◌, Some, None, true};
-ghost use Rattle.spin_world_core.specs.Acts.{stays, either, step_by, can_by, completes_by, filled, step_with};
+ghost use Rattle.spin_world_core.specs.Acts.{one_number, stays, either, step_by, can_by, completes_by, filled, step_with};
 ghost use Rattle.spin_world_once.specs.Once.{is_there, tells, runs, ends, brings_of, act_of, once_machine};
 
 use spin_step::once;
@@ -113,8 +113,8 @@ fn run<V: Copy>(
     local: OncePoint,
     holds: Option<Hold>,
 ) -> Stepped<u8, V, OncePoint, Answer<V>>
-    requires { can_by (runs (ends made holds) local holds) words ≡ true }
-    ensures { result ≡ step_with value made (completes_by (runs (ends made holds) local holds)) (step_by (λ w. w) (runs (ends made holds) local holds) words) }
+    requires { can_by one_number 0 (runs (ends made holds) local holds) words ≡ true }
+    ensures { result ≡ step_with value made (completes_by (runs (ends made holds) local holds)) (step_by one_number 0 (runs (ends made holds) local holds) words) }
 {
     match local {
         OncePoint::Look => {
@@ -201,8 +201,8 @@ impl<V: Copy> Object for OnceObject<V> {
         local: OncePoint,
         holds: Option<Hold>,
     ) -> Stepped<u8, V, OncePoint, Answer<V>>
-        requires { can_by (act_of call local holds) words ≡ true }
-        ensures { result ≡ step_with value (brings_of call) (completes_by (act_of call local holds)) (step_by (λ w. w) (act_of call local holds) words) }
+        requires { can_by one_number 0 (act_of call local holds) words ≡ true }
+        ensures { result ≡ step_with value (brings_of call) (completes_by (act_of call local holds)) (step_by one_number 0 (act_of call local holds) words) }
     {
         match call {
             OnceCall::CallOnce(made)

@@ -22,24 +22,23 @@ use Rattle.spin_world_rw.specs.declared.rw.RwPoint.{RwPoint}
 use Rattle.spin_world_rw.specs.declared.rw.RwPoint.TheVariants.{First, Exchange}
 use Rattle.spin_world_core.specs.Calls.{Mark}
 use Rattle.spin_world_core.specs.Calls as calls
-use Rattle.spin_world_core.specs.Operations.{Operation, loads, exchanges, adds, subtracts, performed}
-use Rattle.spin_world_core.specs.Acts.{step_by, can_by}
-use Rattle.spin_world_rw.specs.Rw.{begins_at, granted, goes_for, act_of, asks_of, rw_table, rw_machine}
+use Rattle.spin_world_core.specs.Acts.{begin_of}
+use Rattle.spin_world_rw.specs.Rw.{granted, act_of, asks_of, rw_table, rw_machine}
 use Rattle.spin_world_core.proofs.Facts.{LocalInvariant, Facts}
 use Rattle.spin_world_core.proofs.Stands.{holds, entries_at}
 use Rattle.spin_world_core.proofs.Rows.{starts_sound, SoundAt, Row, Point, starts, looked}
-use Rattle.spin_world_core.proofs.Shapes.{Notes, keeping_of, Means, OwesAt, answers_by, OwesSoon, BeginsAt, makes_own, Pays, CallOf, AtPoint}
-use Rattle.spin_world_core.proofs.Operating.{BeginsWhereItFits, TriesWeakly, Refuses, Operates, OperatesAt, one_word, swaps, lost_there, swaps_found}
-use Rattle.spin_world_core.proofs.Usual.{as_found, no_queue, means_word, exchanges_now, retries_soon}
+use Rattle.spin_world_core.proofs.Shapes.{Notes, keeping_of, Means, OwesAt, answers_by, OwesSoon, BeginsAt, Pays, CallOf, AtPoint}
+use Rattle.spin_world_core.proofs.Operating.{fits_act, one_place, operates_by}
+use Rattle.spin_world_core.proofs.Usual.{no_queue, means_word, exchanges_now, retries_soon}
 use Rattle.spin_world_core.proofs.Paid.{facts_of}
 
 -- a call that looked has made one step; each other point is as its call's beginning
-abbrev pub point_of : RwCall → RwPoint → Option Hold → Point
-point_of TryRead (Exchange n) None = looked 1
-point_of Read (Exchange n) None = looked 1
-point_of TryUpgradeableRead (Exchange n) None = looked 1
-point_of UpgradeableRead (Exchange n) None = looked 1
-point_of c l h = starts (begins_at c h)
+abbrev pub point_of : {V : Type 0} → V → ℕ → RwCall → RwPoint → Option Hold → Point
+point_of v cap TryRead (Exchange n) None = looked 1
+point_of v cap Read (Exchange n) None = looked 1
+point_of v cap TryUpgradeableRead (Exchange n) None = looked 1
+point_of v cap UpgradeableRead (Exchange n) None = looked 1
+point_of v cap c l h = starts (begin_of (rw_table v cap) c h)
 
 -- the shape of the lock: nobody queues, and no more hold than a word can tell
 pub record Within (cap : ℕ) (s : Plain) : Type 0 where
@@ -48,7 +47,7 @@ pub record Within (cap : ℕ) (s : Plain) : Type 0 where
   pub few : length s.holders ≤ max s.cap 1
 
 abbrev pub rw_notes : {V : Type 0} (v : V) (cap : ℕ) → Notes (rw_table v cap)
-rw_notes v cap = record { Shape = λ s. Within cap s; point = point_of; Knows = λ c l h p s span. Unit {0} }
+rw_notes v cap = record { Shape = λ s. Within cap s; point = point_of v cap; Knows = λ c l h p s span. Unit {0} }
 
 -- a party that stands so is a holder
 pub holder_by : (p : ℕ) (k : Kind) (s : Plain) → entries p s ≡ entries_at p (holds k) → is_holder p k s.holders ≡ true
@@ -56,7 +55,7 @@ holder_by p k s mine = is_holder-from_entries p k s.holders (ap (λ (e : Entries
 
 module _ {V : Type 0} (v : V) (cap : ℕ) where
   abbrev IsMeant : ℕ → Plain → Change → Option ℕ → Type 0
-  IsMeant p s c o = Means (rw_table v cap) (rw_notes v cap) p s c o
+  IsMeant p s c o = Means (rw_table v cap) (rw_notes v cap) p s c (λ k. k) o
 
   word_is : (s : Plain) (w : ℕ) → w ∷ [] ≡ rw_word s ∷ [] → rw_word s ≡ w
   word_is s w e = cc (e)
@@ -117,34 +116,14 @@ module _ {V : Type 0} (v : V) (cap : ℕ) where
     finds_room found = lt-ltb (w / weight reading) reader_limit (omega (arith, (upgradable-word s p at.exclusive (omega (arith, at.shape.few, at.shape.room)) found).1, word))
 
   owes : (p : ℕ) (c : RwCall) (l : RwPoint) (h : Option Hold) (s : Plain) (w : ℕ) (span : List Mark) → OwesAt (rw_table v cap) (rw_notes v cap) p c l h s w span
-  owes p TryRead First None s w span = λ at. (read_means p at, (λ found. (refl, refl, refl, (refl, refl, as_found (read cap) w found), tt)), (λ closed. (refl, inl refl, inl closed)))
-  owes p TryRead (Exchange n) None s w span = λ at. (
-    read_means p at,
-    (λ is. (refl, inl refl, tt)),
-    (λ found. (refl, refl, refl, (refl, refl, as_found (read cap) w found), tt)),
-    (λ closed. (refl, inl refl, inl closed)),
-  )
-  owes p Read First None s w span = λ at. (read_means p at, (λ found. (refl, refl, tt, (refl, refl, as_found (read cap) w found), tt)), (λ closed. (refl, refl, tt, tt, tt)))
-  owes p Read (Exchange n) None s w span = λ at. (
-    read_means p at,
-    (λ is. (refl, inl refl, tt)),
-    (λ found. (refl, refl, tt, (refl, refl, as_found (read cap) w found), tt)),
-    (λ closed. (refl, refl, tt, tt, tt)),
-  )
-  owes p TryUpgradeableRead First None s w span = λ at. (upgradable_means p at, (λ found. (refl, refl, refl, (refl, refl, as_found (read_upgradable cap) w found), tt)), (λ closed. (refl, inl refl, inl closed)))
-  owes p TryUpgradeableRead (Exchange n) None s w span = λ at. (
-    upgradable_means p at,
-    (λ is. (refl, inl refl, tt)),
-    (λ found. (refl, refl, refl, (refl, refl, as_found (read_upgradable cap) w found), tt)),
-    (λ closed. (refl, inl refl, inl closed)),
-  )
-  owes p UpgradeableRead First None s w span = λ at. (upgradable_means p at, (λ found. (refl, refl, tt, (refl, refl, as_found (read_upgradable cap) w found), tt)), (λ closed. (refl, refl, tt, tt, tt)))
-  owes p UpgradeableRead (Exchange n) None s w span = λ at. (
-    upgradable_means p at,
-    (λ is. (refl, inl refl, tt)),
-    (λ found. (refl, refl, tt, (refl, refl, as_found (read_upgradable cap) w found), tt)),
-    (λ closed. (refl, refl, tt, tt, tt)),
-  )
+  owes p TryRead First None s w span = λ at. (read_means p at, (λ found. (refl, refl, refl, (refl, refl, found), tt)), (λ closed. (refl, inl refl, inl closed)))
+  owes p TryRead (Exchange n) None s w span = λ at. (read_means p at, (λ is. (refl, inl refl, tt)), (λ found. (refl, refl, refl, (refl, refl, found), tt)), (λ closed. (refl, inl refl, inl closed)))
+  owes p Read First None s w span = λ at. (read_means p at, (λ found. (refl, refl, tt, (refl, refl, found), tt)), (λ closed. (refl, refl, tt, tt, tt)))
+  owes p Read (Exchange n) None s w span = λ at. (read_means p at, (λ is. (refl, inl refl, tt)), (λ found. (refl, refl, tt, (refl, refl, found), tt)), (λ closed. (refl, refl, tt, tt, tt)))
+  owes p TryUpgradeableRead First None s w span = λ at. (upgradable_means p at, (λ found. (refl, refl, refl, (refl, refl, found), tt)), (λ closed. (refl, inl refl, inl closed)))
+  owes p TryUpgradeableRead (Exchange n) None s w span = λ at. (upgradable_means p at, (λ is. (refl, inl refl, tt)), (λ found. (refl, refl, refl, (refl, refl, found), tt)), (λ closed. (refl, inl refl, inl closed)))
+  owes p UpgradeableRead First None s w span = λ at. (upgradable_means p at, (λ found. (refl, refl, tt, (refl, refl, found), tt)), (λ closed. (refl, refl, tt, tt, tt)))
+  owes p UpgradeableRead (Exchange n) None s w span = λ at. (upgradable_means p at, (λ is. (refl, inl refl, tt)), (λ found. (refl, refl, tt, (refl, refl, found), tt)), (λ closed. (refl, refl, tt, tt, tt)))
   owes p TryWrite l None s w span = λ at. (write_means p at, (refl, inl refl, tt), (λ closed. (refl, inl refl, inl closed)))
   owes p TryWriteWeak l None s w span = λ at. (write_means p at, (refl, inl refl, tt), (λ closed. (refl, inl refl, inl closed)), (refl, inl refl, tt), refl, refl)
   owes p Write l None s w span = λ at. (write_means p at, (refl, inl refl, tt), (λ closed. (refl, refl, tt, tt, tt)), (refl, refl, tt, tt, tt), refl, refl)
@@ -200,7 +179,7 @@ module _ {V : Type 0} (v : V) (cap : ℕ) where
       let two : (w == weight upgradable) ≡ true = sym (only-word s p w (one_of_each s at.exclusive) (holder_by p upgradable s at.known.stand) (word_is s w at.encodes)) ∙ free in rw two refl
   soon p _ _ _ s w span = tt
 
-  begins : (p : ℕ) (c : RwCall) (h : Option Hold) (s : Plain) → BeginsAt (rw_table v cap) (rw_notes v cap) c h p s (begins_at c h)
+  begins : (p : ℕ) (c : RwCall) (h : Option Hold) (s : Plain) → BeginsAt (rw_table v cap) (rw_notes v cap) c h p s (begin_of (rw_table v cap) c h)
   begins p TryRead None s = (refl, refl, tt, tt)
   begins p Read None s = (refl, refl, tt, tt)
   begins p TryUpgradeableRead None s = (refl, refl, tt, tt)
@@ -221,129 +200,32 @@ module _ {V : Type 0} (v : V) (cap : ℕ) where
   begins p Release (Some hold.Write) s = (refl, refl, tt, tt)
   begins p _ _ s = tt
 
-  makes : (p : ℕ) (c : RwCall) (l : RwPoint) (h : Option Hold) → makes_own calls.rw (act_of {V = V} cap c l h) p ≡ true
-  makes p TryRead First h = refl
-  makes p TryRead (Exchange n) h = refl
-  makes p Read First h = refl
-  makes p Read (Exchange n) h = refl
-  makes p TryUpgradeableRead First h = refl
-  makes p TryUpgradeableRead (Exchange n) h = refl
-  makes p UpgradeableRead First h = refl
-  makes p UpgradeableRead (Exchange n) h = refl
-  makes p Downgrade l (Some hold.Write) = refl
-  makes p Release l (Some hold.Read) = refl
-  makes p Release l (Some hold.Upgradable) = refl
-  makes p _ _ _ = refl
-
-  sound : (p : ℕ) (c : RwCall) (l : RwPoint) (h : Option Hold) → SoundAt calls.rw (asks_of c h) p (point_of c l h)
+  sound : (p : ℕ) (c : RwCall) (l : RwPoint) (h : Option Hold) → SoundAt calls.rw (asks_of c h) p (point_of v cap c l h)
   sound p TryRead (Exchange n) None = refl
   sound p Read (Exchange n) None = refl
   sound p TryUpgradeableRead (Exchange n) None = refl
   sound p UpgradeableRead (Exchange n) None = refl
-  sound p c l h = starts_sound calls.rw (asks_of c h) p (begins_at c h)
+  sound p c l h = starts_sound calls.rw (asks_of c h) p (begin_of (rw_table v cap) c h)
 
-  fits_all : BeginsWhereItFits (rw_table v cap)
-  fits_all TryUpgrade (Some hold.Upgradable) = refl
-  fits_all TryUpgrade _ = refl
-  fits_all TryUpgradeWeak (Some hold.Upgradable) = refl
-  fits_all TryUpgradeWeak _ = refl
-  fits_all Upgrade (Some hold.Upgradable) = refl
-  fits_all Upgrade _ = refl
-  fits_all Downgrade (Some hold.Upgradable) = refl
-  fits_all Downgrade (Some hold.Write) = refl
-  fits_all Downgrade _ = refl
-  fits_all DowngradeToUpgradeable (Some hold.Write) = refl
-  fits_all DowngradeToUpgradeable _ = refl
-  fits_all Release (Some hold.Read) = refl
-  fits_all Release (Some hold.Upgradable) = refl
-  fits_all Release (Some hold.Write) = refl
-  fits_all Release _ = refl
-  fits_all _ None = refl
-  fits_all _ (Some h) = refl
-
-  weakly : TriesWeakly (rw_table v cap)
-  weakly p TryRead First h = refl
-  weakly p TryRead (Exchange n) h = refl
-  weakly p Read First h = refl
-  weakly p Read (Exchange n) h = refl
-  weakly p TryUpgradeableRead First h = refl
-  weakly p TryUpgradeableRead (Exchange n) h = refl
-  weakly p UpgradeableRead First h = refl
-  weakly p UpgradeableRead (Exchange n) h = refl
-  weakly p Downgrade l (Some hold.Write) = refl
-  weakly p Release l (Some hold.Read) = refl
-  weakly p Release l (Some hold.Upgradable) = refl
-  weakly p _ _ _ = refl
-
-  on_word : (c : RwCall) (l : RwPoint) (h : Option Hold) (operation : Operation)
-      → ((w : ℕ) → can_by (act_of {V = V} cap c l h) w ≡ true → (step_by {V = V} (λ w. w) (act_of {V = V} cap c l h) w).words ≡ performed operation w) → Operates (rw_table v cap) c l h 0 operation
-  on_word = one_word (rw_table v cap) (λ w. refl) (λ v w e. e)
-
-  at_word : (c : RwCall) (l : RwPoint) (h : Option Hold) (operation : Operation)
-      → ((w : ℕ) → can_by (act_of {V = V} cap c l h) w ≡ true → (step_by {V = V} (λ w. w) (act_of {V = V} cap c l h) w).words ≡ performed operation w) → OperatesAt calls.rw (rw_table v cap) c l h
-  at_word c l h operation is = (0, operation, on_word c l h operation is)
-
-  -- who comes to read exchanges the number that it found
-  abbrev swap : (ℕ → Option ℕ) → ℕ → Operation
-  swap f n = exchanges n (unwrap_or (f n) n)
-
-  operates : (c : RwCall) (l : RwPoint) (h : Option Hold) → OperatesAt calls.rw (rw_table v cap) c l h
-  operates TryRead First h = at_word TryRead First h loads (λ w can. refl)
-  operates TryRead (Exchange n) h = at_word TryRead (Exchange n) h (swap (read cap) n) (λ w can. swaps_found V n w (read cap) (granted hold.Read) (goes_for w) (Answers Refused h))
-  operates Read First h = at_word Read First h loads (λ w can. refl)
-  operates Read (Exchange n) h = at_word Read (Exchange n) h (swap (read cap) n) (λ w can. swaps_found V n w (read cap) (granted hold.Read) (goes_for w) (GoesOn First))
-  operates TryUpgradeableRead First h = at_word TryUpgradeableRead First h loads (λ w can. refl)
-  operates TryUpgradeableRead (Exchange n) h =
-      at_word TryUpgradeableRead (Exchange n) h (swap (read_upgradable cap) n) (λ w can. swaps_found V n w (read_upgradable cap) (granted hold.Upgradable) (goes_for w) (Answers Refused h))
-  operates UpgradeableRead First h = at_word UpgradeableRead First h loads (λ w can. refl)
-  operates UpgradeableRead (Exchange n) h =
-      at_word UpgradeableRead (Exchange n) h (swap (read_upgradable cap) n) (λ w can. swaps_found V n w (read_upgradable cap) (granted hold.Upgradable) (goes_for w) (GoesOn First))
-  operates TryWrite l h = at_word TryWrite l h (exchanges 0 (weight writing)) (λ w can. swaps V 0 (weight writing) w (granted hold.Write) (Answers Refused h))
-  operates TryWriteWeak l h = at_word TryWriteWeak l h (exchanges 0 (weight writing)) (λ w can. swaps V 0 (weight writing) w (granted hold.Write) (Answers Refused h))
-  operates Write l h = at_word Write l h (exchanges 0 (weight writing)) (λ w can. swaps V 0 (weight writing) w (granted hold.Write) (GoesOn First))
-  operates ReaderCount l h = at_word ReaderCount l h loads (λ w can. refl)
-  operates WriterCount l h = at_word WriterCount l h loads (λ w can. refl)
-  operates TryUpgrade l h = at_word TryUpgrade l h (exchanges (weight upgradable) (weight writing)) (λ w can. swaps V (weight upgradable) (weight writing) w (granted hold.Write) (Answers Refused h))
-  operates TryUpgradeWeak l h = at_word TryUpgradeWeak l h (exchanges (weight upgradable) (weight writing)) (λ w can. swaps V (weight upgradable) (weight writing) w (granted hold.Write) (Answers Refused h))
-  operates Upgrade l h = at_word Upgrade l h (exchanges (weight upgradable) (weight writing)) (λ w can. swaps V (weight upgradable) (weight writing) w (granted hold.Write) (GoesOn First))
-  operates Downgrade l (Some hold.Write) = at_word Downgrade l (Some hold.Write) (adds (weight reading - weight writing)) (λ w can. refl)
-  operates Downgrade l h = at_word Downgrade l h (adds (weight reading - weight upgradable)) (λ w can. refl)
-  operates DowngradeToUpgradeable l h = at_word DowngradeToUpgradeable l h (adds (weight upgradable - weight writing)) (λ w can. refl)
-  operates Release l (Some hold.Read) = at_word Release l (Some hold.Read) (subtracts (weight reading)) (λ w can. refl)
-  operates Release l (Some hold.Upgradable) = at_word Release l (Some hold.Upgradable) (subtracts (weight upgradable)) (λ w can. refl)
-  operates Release l h = at_word Release l h (subtracts (weight writing)) (λ w can. refl)
-
-  refuses : Refuses (rw_table v cap)
-  refuses TryWriteWeak l h next is = (0, 0, weight writing, on_word TryWriteWeak l h (exchanges 0 (weight writing)) (λ w can. swaps V 0 (weight writing) w _ _), λ w other. lost_there V 0 (weight writing) w _ _ next (cc (is)) other)
-  refuses Write l h next is = (0, 0, weight writing, on_word Write l h (exchanges 0 (weight writing)) (λ w can. swaps V 0 (weight writing) w _ _), λ w other. lost_there V 0 (weight writing) w _ _ next (cc (is)) other)
-  refuses TryUpgradeWeak l h next is = (0, weight upgradable, weight writing, on_word TryUpgradeWeak l h (exchanges (weight upgradable) (weight writing)) (λ w can. swaps V (weight upgradable) (weight writing) w _ _), λ w other. lost_there V (weight upgradable) (weight writing) w _ _ next (cc (is)) other)
-  refuses Upgrade l h next is = (0, weight upgradable, weight writing, on_word Upgrade l h (exchanges (weight upgradable) (weight writing)) (λ w can. swaps V (weight upgradable) (weight writing) w _ _), λ w other. lost_there V (weight upgradable) (weight writing) w _ _ next (cc (is)) other)
-  refuses TryRead First h next is = absurd (cc (is))
-  refuses TryRead (Exchange n) h next is = absurd (cc (is))
-  refuses Read First h next is = absurd (cc (is))
-  refuses Read (Exchange n) h next is = absurd (cc (is))
-  refuses TryUpgradeableRead First h next is = absurd (cc (is))
-  refuses TryUpgradeableRead (Exchange n) h next is = absurd (cc (is))
-  refuses UpgradeableRead First h next is = absurd (cc (is))
-  refuses UpgradeableRead (Exchange n) h next is = absurd (cc (is))
-  refuses Downgrade l (Some hold.Write) next is = absurd (cc (is))
-  refuses Release l (Some hold.Read) next is = absurd (cc (is))
-  refuses Release l (Some hold.Upgradable) next is = absurd (cc (is))
-  refuses _ l h next is = absurd (cc (is))
+  fits_all : (p : ℕ) (c : RwCall) (l : RwPoint) (h : Option Hold) → fits_act calls.rw (asks_of c h) (act_of {V = V} cap c l h) p ≡ true
+  fits_all p TryRead First h = refl
+  fits_all p Read First h = refl
+  fits_all p TryUpgradeableRead First h = refl
+  fits_all p UpgradeableRead First h = refl
+  fits_all p Downgrade l (Some hold.Write) = refl
+  fits_all p Release l (Some hold.Read) = refl
+  fits_all p Release l (Some hold.Upgradable) = refl
+  fits_all p _ _ _ = refl
 
   pub rw_pays : Pays (rw_table v cap) (rw_notes v cap)
   rw_pays =
       record {
         fits = fits_all;
-        weakly = weakly;
-        refuses = refuses;
-        operates = operates;
+        operates = operates_by (rw_table v cap) one_place;
         first = refl;
         shape_first = record { no_queue = refl; room = refl; few = omega arith };
         numbers_tell = λ v w e. cc (e);
-        no_value = refl;
         one_list = λ s shape. no_queue s shape.no_queue;
-        makes = makes;
         sound = sound;
         begins = begins;
         others = λ p q c l h s step r span ne shape may belongs knows. tt;
@@ -355,4 +237,4 @@ abbrev pub rw_keeping : {V : Type 0} (v : V) (cap : ℕ) → LocalInvariant V Rw
 rw_keeping v cap = keeping_of (rw_table v cap) (rw_notes v cap)
 
 pub rw_facts : {V : Type 0} (v : V) (cap : ℕ) → Facts (rw_machine v cap) (rw_keeping v cap)
-rw_facts v cap = facts_of (rw_table v cap) (rw_notes v cap) (rw_pays v cap)
+rw_facts v cap = facts_of (rw_table v cap) (rw_notes v cap) (rw_pays v cap) refl

@@ -59,8 +59,8 @@ keeps_writers_out p k s found = λ q ne. out q ne s.holders found
 
 -- What an upgrade comes to
 
-came : (V : Type 0) (s : State ℕ V RwCall RwPoint) (p w : ℕ) (c : RwCall) (h : Option Hold) (lost : Next RwPoint (Answer V)) (b : Bool) → ((stepped {A = Answer V} s p c h (becomes w None (granted hold.Write) lost)).outcome ≡ Answered Granted None → ⊥)
-    → ((stepped {A = Answer V} s p c h (becomes w (if b then Some 1 else None) (granted hold.Write) lost)).outcome ≡ Answered Granted None) ↔ (b ≡ true)
+came : (V : Type 0) (s : State ℕ V RwCall RwPoint) (p w : ℕ) (c : RwCall) (h : Option Hold) (lost : Next RwPoint (Answer V)) (b : Bool) → ((stepped {A = Answer V} s p c h (becomes (λ (k : ℕ). k) w None (granted hold.Write) lost)).outcome ≡ Answered Granted None → ⊥)
+    → ((stepped {A = Answer V} s p c h (becomes (λ (k : ℕ). k) w (if b then Some 1 else None) (granted hold.Write) lost)).outcome ≡ Answered Granted None) ↔ (b ≡ true)
 came V s p w c h lost true never = (λ e. refl, λ e. refl)
 came V s p w c h lost false never = (λ e. absurd (never e), λ e. absurd (true≢false (sym e)))
 
@@ -207,7 +207,7 @@ module _ {V : Type 0} (v : V) (cap : ℕ) where
   reads_there p DowngradeToUpgradeable l _ s span is knows = absurd knows
   reads_there p _ l h s span is knows = absurd (false≢true is)
 
-  reads_on : (w : ℕ) (o : Option ℕ) (won lost : Next RwPoint (Answer V)) → ReadsOn won → ReadsOn lost → ReadsOn (becomes {V = V} w o won lost).next
+  reads_on : (w : ℕ) (o : Option ℕ) (won lost : Next RwPoint (Answer V)) → ReadsOn won → ReadsOn lost → ReadsOn (becomes {V = V} (λ (k : ℕ). k) w o won lost).next
   reads_on w None won lost on on_lost = on_lost
   reads_on w (Some to) won lost on on_lost = on
 

@@ -1,7 +1,7 @@
 -- The calls of the read-write lock, step by step, and how they read on the plain lock.
-use Rattle.std.specs.Prelude.{ℕ, ◌/◌, ◌==◌, ◌&&◌, true, Option, Some, None, is_some, [], nat_lt, min}
+use Rattle.std.specs.Prelude.{ℕ, ◌-◌, ◌/◌, ◌==◌, ◌&&◌, true, Option, Some, None, is_some, nat_lt, min}
 use Rattle.spin_step.specs.Plain.{reading, upgradable, writing, weight, Ask, to_read, to_read_upgradable, to_write, to_upgrade, gets, releases, turns}
-use Rattle.spin_step.specs.Readers.{reader_limit, readers_in, writers_in, tells, read, read_upgradable, write, upgrade, released, turned}
+use Rattle.spin_step.specs.Readers.{reader_limit, readers_in, writers_in, tells, read, read_upgradable, write, upgrade}
 use Rattle.spin_world_core.specs.declared.place.Hold.{Hold}
 use Rattle.spin_world_core.specs.declared.place.Hold.TheVariants as hold
 use Rattle.spin_world_core.specs.declared.object.Next.{Next}
@@ -15,29 +15,8 @@ use Rattle.spin_world_rw.specs.declared.rw.RwPoint.{RwPoint}
 use Rattle.spin_world_rw.specs.declared.rw.RwPoint.TheVariants.{First, Exchange}
 use Rattle.spin_world_core.specs.Calls.{rw, Asked, waits, tries, tries_weakly, counts_readers, counts_writers, turns_to, gives_back, says_of}
 use Rattle.spin_world_core.specs.Machines.{Machine}
-use Rattle.spin_world_core.specs.Acts.{Act, load, load_for, exchange, weak_exchange, retry, store, either, stays, retried, Table, machine_of}
-
--- who holds nothing may come, look and count; a conversion begins at the hold that it changes, and a release at any
-abbrev pub begins_at : RwCall → Option Hold → Option RwPoint
-begins_at TryRead None = Some First
-begins_at Read None = Some First
-begins_at TryUpgradeableRead None = Some First
-begins_at UpgradeableRead None = Some First
-begins_at TryWrite None = Some First
-begins_at TryWriteWeak None = Some First
-begins_at Write None = Some First
-begins_at ReaderCount None = Some First
-begins_at WriterCount None = Some First
-begins_at TryUpgrade (Some hold.Upgradable) = Some First
-begins_at TryUpgradeWeak (Some hold.Upgradable) = Some First
-begins_at Upgrade (Some hold.Upgradable) = Some First
-begins_at Downgrade (Some hold.Upgradable) = Some First
-begins_at Downgrade (Some hold.Write) = Some First
-begins_at DowngradeToUpgradeable (Some hold.Write) = Some First
-begins_at Release (Some hold.Read) = Some First
-begins_at Release (Some hold.Upgradable) = Some First
-begins_at Release (Some hold.Write) = Some First
-begins_at _ _ = None
+use Rattle.spin_world_core.specs.Acts.{one_number, Act, load, load_for, exchange, weak_exchange, retry, store, swap, either, stays, retried, Table, machine_of}
+use Rattle.spin_world_core.specs.Operations.{adds, subtracts}
 
 abbrev pub granted : {V : Type 0} → Hold → Next RwPoint (Answer V)
 granted held = Answers Granted (Some held)
@@ -54,7 +33,7 @@ comes_by f ask held missed (Exchange n) = retry n f (λ p. gets p ask) (granted 
 -- what its step comes to, where the step function answers so
 abbrev pub comes_at : {V : Type 0} → RwPoint → ℕ → Option ℕ → Hold → Next RwPoint (Answer V) → Stepped ℕ V RwPoint (Answer V)
 comes_at First w to held missed = stays w (either (is_some to) (goes_for w) missed)
-comes_at (Exchange n) w to held missed = retried (w == n) w to (granted held) (goes_for w) missed
+comes_at (Exchange n) w to held missed = retried (λ k. k) (w == n) w to (granted held) (goes_for w) missed
 
 -- the waiting exchanges of `Write` and `Upgrade` are weak; a conversion and a release are an addition or a subtraction, by what is held
 abbrev pub act_of : {V : Type 0} → ℕ → RwCall → RwPoint → Option Hold → Act ℕ RwPoint (Answer V)
@@ -62,20 +41,20 @@ act_of cap TryRead l h = comes_by (read cap) to_read hold.Read (Answers Refused 
 act_of cap Read l h = comes_by (read cap) to_read hold.Read (GoesOn First) l
 act_of cap TryUpgradeableRead l h = comes_by (read_upgradable cap) to_read_upgradable hold.Upgradable (Answers Refused h) l
 act_of cap UpgradeableRead l h = comes_by (read_upgradable cap) to_read_upgradable hold.Upgradable (GoesOn First) l
-act_of cap TryWrite l h = exchange write (λ p. gets p to_write) (granted hold.Write) (λ w. Answers Refused h)
-act_of cap TryWriteWeak l h = weak_exchange write (λ p. gets p to_write) (granted hold.Write) (Answers Refused h)
-act_of cap Write l h = weak_exchange write (λ p. gets p to_write) (granted hold.Write) (GoesOn First)
+act_of cap TryWrite l h = exchange (swap 0 write) (λ p. gets p to_write) (granted hold.Write) (λ w. Answers Refused h)
+act_of cap TryWriteWeak l h = weak_exchange 0 write (λ p. gets p to_write) (granted hold.Write) (Answers Refused h)
+act_of cap Write l h = weak_exchange 0 write (λ p. gets p to_write) (granted hold.Write) (GoesOn First)
 act_of cap ReaderCount l h = load (λ w. Answers (Count (readers_in w)) h)
 act_of cap WriterCount l h = load (λ w. Answers (Count (writers_in w)) h)
-act_of cap TryUpgrade l h = exchange upgrade (λ p. gets p to_upgrade) (granted hold.Write) (λ w. Answers Refused h)
-act_of cap TryUpgradeWeak l h = weak_exchange upgrade (λ p. gets p to_upgrade) (granted hold.Write) (Answers Refused h)
-act_of cap Upgrade l h = weak_exchange upgrade (λ p. gets p to_upgrade) (granted hold.Write) (GoesOn First)
-act_of cap Downgrade l (Some hold.Write) = store (tells writing) (turned writing reading) (λ p. turns p writing reading) (Answers Done (Some hold.Read))
-act_of cap Downgrade l h = store (λ w. tells upgradable w && nat_lt (w / weight reading) reader_limit) (turned upgradable reading) (λ p. turns p upgradable reading) (Answers Done (Some hold.Read))
-act_of cap DowngradeToUpgradeable l h = store (tells writing) (turned writing upgradable) (λ p. turns p writing upgradable) (Answers Done (Some hold.Upgradable))
-act_of cap Release l (Some hold.Read) = store (tells reading) (released reading) (λ p. releases p reading) (Answers Done None)
-act_of cap Release l (Some hold.Upgradable) = store (tells upgradable) (released upgradable) (λ p. releases p upgradable) (Answers Done None)
-act_of cap Release l h = store (tells writing) (released writing) (λ p. releases p writing) (Answers Done None)
+act_of cap TryUpgrade l h = exchange (swap (weight upgradable) upgrade) (λ p. gets p to_upgrade) (granted hold.Write) (λ w. Answers Refused h)
+act_of cap TryUpgradeWeak l h = weak_exchange (weight upgradable) upgrade (λ p. gets p to_upgrade) (granted hold.Write) (Answers Refused h)
+act_of cap Upgrade l h = weak_exchange (weight upgradable) upgrade (λ p. gets p to_upgrade) (granted hold.Write) (GoesOn First)
+act_of cap Downgrade l (Some hold.Write) = store (tells writing) (adds (weight reading - weight writing)) (λ p. turns p writing reading) (Answers Done (Some hold.Read))
+act_of cap Downgrade l h = store (λ w. tells upgradable w && nat_lt (w / weight reading) reader_limit) (adds (weight reading - weight upgradable)) (λ p. turns p upgradable reading) (Answers Done (Some hold.Read))
+act_of cap DowngradeToUpgradeable l h = store (tells writing) (adds (weight upgradable - weight writing)) (λ p. turns p writing upgradable) (Answers Done (Some hold.Upgradable))
+act_of cap Release l (Some hold.Read) = store (tells reading) (subtracts (weight reading)) (λ p. releases p reading) (Answers Done None)
+act_of cap Release l (Some hold.Upgradable) = store (tells upgradable) (subtracts (weight upgradable)) (λ p. releases p upgradable) (Answers Done None)
+act_of cap Release l h = store (tells writing) (subtracts (weight writing)) (λ p. releases p writing) (Answers Done None)
 
 abbrev pub asks_of : RwCall → Option Hold → Asked
 asks_of TryRead h = tries to_read
@@ -104,9 +83,9 @@ rw_table v cap =
       cap = min cap reader_limit;
       group = 0;
       first = 0;
-      number = λ w. w;
-      others = λ w. [];
-      begin = begins_at;
+      memory = one_number;
+      start = λ c h. First;
+      word = λ l. 0;
       act = act_of cap;
       asks = asks_of;
       says = says_of;

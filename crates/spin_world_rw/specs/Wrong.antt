@@ -15,9 +15,10 @@ use Rattle.spin_world_core.specs.declared.schedule.Move.TheVariants.{Begin, Step
 use Rattle.spin_world_core.specs.Machines.{Machine}
 use Rattle.spin_world_core.specs.declared.object.Next.{Next}
 use Rattle.spin_world_core.specs.Calls.{Asked, waits}
-use Rattle.spin_world_core.specs.Acts.{Act, load, exchange, weak_exchange, store, Table, machine_of}
-use Rattle.spin_step.specs.Readers.{tells, read, write, released}
-use Rattle.spin_world_rw.specs.Rw.{granted, goes_for, begins_at, act_of, asks_of, rw_table}
+use Rattle.spin_world_core.specs.Acts.{Act, load, exchange, weak_exchange, store, section, swap, Table, machine_of}
+use Rattle.spin_world_core.specs.Operations.{exchanges, adds, subtracts, stores}
+use Rattle.spin_step.specs.Readers.{tells, read, write}
+use Rattle.spin_world_rw.specs.Rw.{granted, goes_for, act_of, asks_of, rw_table, rw_machine}
 
 abbrev RwAct : Type 0 → Type 0
 RwAct V = Act ℕ RwPoint (Answer V)
@@ -34,7 +35,7 @@ with_steps {V} v act = let t : RwTable V = rw_table v 9 in machine_of (record t 
 
 -- `try_upgrade` is granted while readers stand
 abbrev pub upgrade_at_once : {V : Type 0} → RwCall → RwPoint → Option Hold → RwAct V
-upgrade_at_once TryUpgrade l h = exchange (λ w. Some (weight writing)) (λ p. gets p to_upgrade) (granted hold.Write) (λ w. Answers Refused h)
+upgrade_at_once TryUpgrade l h = exchange (stores (weight writing)) (λ p. gets p to_upgrade) (granted hold.Write) (λ w. Answers Refused h)
 upgrade_at_once c l h = act_of 9 c l h
 
 abbrev pub upgrades_at_once : {V : Type 0} → V → RwMachine V
@@ -48,8 +49,8 @@ upgrade_beside_a_reader = read_alone ++ (1, Begin TryUpgradeableRead) ∷ (1, St
 
 -- `downgrade` frees the writer, and then takes a reader's place
 abbrev pub downgrade_in_two : {V : Type 0} → RwCall → RwPoint → Option Hold → RwAct V
-downgrade_in_two Downgrade First (Some hold.Write) = store (tells writing) (released writing) (λ p. releases p writing) (GoesOn (Exchange 0))
-downgrade_in_two Downgrade (Exchange n) h = store (λ w. true) (λ w. w + weight reading) (λ p. gets p to_read) (Answers Done (Some hold.Read))
+downgrade_in_two Downgrade First (Some hold.Write) = store (tells writing) (subtracts (weight writing)) (λ p. releases p writing) (GoesOn (Exchange 0))
+downgrade_in_two Downgrade (Exchange n) h = store (λ w. true) (adds (weight reading)) (λ p. gets p to_read) (Answers Done (Some hold.Read))
 downgrade_in_two c l h = act_of 9 c l h
 
 abbrev pub downgrades_in_two : {V : Type 0} → V → RwMachine V
@@ -60,8 +61,8 @@ downgrade_alone = (0, Begin TryWrite) ∷ (0, Step) ∷ (0, Begin Downgrade) ∷
 
 -- `try_read` adds its reader, and takes it off where there was no room
 abbrev pub read_and_regret : {V : Type 0} → RwCall → RwPoint → Option Hold → RwAct V
-read_and_regret TryRead First h = store (λ w. true) (λ w. w + weight reading) (λ p. gets p to_read) (GoesOn (Exchange 0))
-read_and_regret TryRead (Exchange n) h = store (λ w. true) (released reading) (λ p. releases p reading) (Answers Refused h)
+read_and_regret TryRead First h = store (λ w. true) (adds (weight reading)) (λ p. gets p to_read) (GoesOn (Exchange 0))
+read_and_regret TryRead (Exchange n) h = store (λ w. true) (subtracts (weight reading)) (λ p. releases p reading) (Answers Refused h)
 read_and_regret c l h = act_of 9 c l h
 
 abbrev pub reads_and_regrets : {V : Type 0} → V → RwMachine V
@@ -80,7 +81,7 @@ read_beside_a_writer = (0, Begin TryWrite) ∷ (0, Step) ∷ (1, Begin TryRead) 
 
 -- `try_read` looks for the upgradable reader alone
 abbrev pub read_by_a_mask : {V : Type 0} → RwCall → RwPoint → Option Hold → RwAct V
-read_by_a_mask TryRead l h = exchange (λ w. if tells upgradable w then None else Some (w + weight reading)) (λ p. gets p to_read) (granted hold.Read) (λ w. Answers Refused h)
+read_by_a_mask TryRead l h = section (λ w. true) (λ w. if tells upgradable w then None else Some (w + weight reading)) (λ p. gets p to_read) (λ w. granted hold.Read) (λ w. Answers Refused h)
 read_by_a_mask c l h = act_of 9 c l h
 
 abbrev pub reads_by_a_mask : {V : Type 0} → V → RwMachine V
@@ -99,8 +100,8 @@ write_alone = (0, Begin TryWrite) ∷ (0, Step) ∷ []
 
 -- `upgrade` lets go, and then comes to write as anybody does
 abbrev pub upgrade_anew : {V : Type 0} → RwCall → RwPoint → Option Hold → RwAct V
-upgrade_anew Upgrade First h = store (tells upgradable) (released upgradable) (λ p. releases p upgradable) (GoesOn (Exchange 0))
-upgrade_anew Upgrade (Exchange n) h = weak_exchange write (λ p. gets p to_write) (granted hold.Write) (GoesOn (Exchange 0))
+upgrade_anew Upgrade First h = store (tells upgradable) (subtracts (weight upgradable)) (λ p. releases p upgradable) (GoesOn (Exchange 0))
+upgrade_anew Upgrade (Exchange n) h = weak_exchange 0 write (λ p. gets p to_write) (granted hold.Write) (GoesOn (Exchange 0))
 upgrade_anew c l h = act_of 9 c l h
 
 abbrev pub upgrades_anew : {V : Type 0} → V → RwMachine V
@@ -161,7 +162,7 @@ tries_for_ever v = with_steps v try_for_ever
 
 -- `try_read` looks and comes in one event
 abbrev pub read_in_one : {V : Type 0} → RwCall → RwPoint → Option Hold → RwAct V
-read_in_one TryRead l h = exchange (read 9) (λ p. gets p to_read) (granted hold.Read) (λ w. Answers Refused h)
+read_in_one TryRead l h = section (λ w. true) (read 9) (λ p. gets p to_read) (λ w. granted hold.Read) (λ w. Answers Refused h)
 read_in_one c l h = act_of 9 c l h
 
 abbrev pub reads_in_one : {V : Type 0} → V → RwMachine V
@@ -169,7 +170,7 @@ reads_in_one v = with_steps v read_in_one
 
 -- `read` guesses that nobody holds, and where it was wrong that counts as no exchange that failed
 abbrev pub read_by_a_guess : {V : Type 0} → RwCall → RwPoint → Option Hold → RwAct V
-read_by_a_guess Read First h = exchange (λ w. if w == 0 then Some (weight reading) else None) (λ p. gets p to_read) (granted hold.Read) goes_for
+read_by_a_guess Read First h = exchange (exchanges 0 (weight reading)) (λ p. gets p to_read) (granted hold.Read) goes_for
 read_by_a_guess c l h = act_of 9 c l h
 
 abbrev pub reads_by_a_guess : {V : Type 0} → V → RwMachine V
@@ -180,7 +181,7 @@ guess_beside_a_reader = read_alone ++ (1, Begin Read) ∷ (1, Step) ∷ []
 
 -- the exchange of `read` is weak
 abbrev pub read_weakly : {V : Type 0} → RwCall → RwPoint → Option Hold → RwAct V
-read_weakly Read (Exchange n) h = weak_exchange (λ w. if w == n then read 9 w else None) (λ p. gets p to_read) (granted hold.Read) (GoesOn First)
+read_weakly Read (Exchange n) h = weak_exchange n (read 9) (λ p. gets p to_read) (granted hold.Read) (GoesOn First)
 read_weakly c l h = act_of 9 c l h
 
 abbrev pub reads_weakly : {V : Type 0} → V → RwMachine V
@@ -191,7 +192,7 @@ read_by_chance = (0, Begin Read) ∷ (0, Step) ∷ (0, Weak) ∷ []
 
 -- the exchange of the weak try is strong
 abbrev pub write_strongly : {V : Type 0} → RwCall → RwPoint → Option Hold → RwAct V
-write_strongly TryWriteWeak l h = exchange write (λ p. gets p to_write) (granted hold.Write) (λ w. Answers Refused h)
+write_strongly TryWriteWeak l h = exchange (swap 0 write) (λ p. gets p to_write) (granted hold.Write) (λ w. Answers Refused h)
 write_strongly c l h = act_of 9 c l h
 
 abbrev pub writes_strongly : {V : Type 0} → V → RwMachine V
@@ -199,7 +200,7 @@ writes_strongly v = with_steps v write_strongly
 
 -- so is that of `write`
 abbrev pub wait_strongly : {V : Type 0} → RwCall → RwPoint → Option Hold → RwAct V
-wait_strongly Write l h = exchange write (λ p. gets p to_write) (granted hold.Write) (λ w. GoesOn First)
+wait_strongly Write l h = exchange (swap 0 write) (λ p. gets p to_write) (granted hold.Write) (λ w. GoesOn First)
 wait_strongly c l h = act_of 9 c l h
 
 abbrev pub waits_strongly : {V : Type 0} → V → RwMachine V
@@ -217,20 +218,20 @@ abbrev pub upgrade_by_chance : {V : Type 0} → List (ℕ × Move RwCall V)
 upgrade_by_chance = (0, Begin TryUpgradeableRead) ∷ (0, Step) ∷ (0, Step) ∷ (0, Begin TryUpgrade) ∷ (0, Weak) ∷ []
 
 -- nobody may release
-abbrev pub begin_no_release : RwCall → Option Hold → Option RwPoint
-begin_no_release Release h = None
-begin_no_release c h = begins_at c h
+abbrev pub begin_no_release : (RwCall → Option Hold → Option RwPoint) → RwCall → Option Hold → Option RwPoint
+begin_no_release begin Release h = None
+begin_no_release begin c h = begin c h
 
 abbrev pub never_releases : {V : Type 0} → V → RwMachine V
-never_releases {V} v = let t : RwTable V = rw_table v 9 in machine_of (record t { begin = begin_no_release })
+never_releases {V} v = let m : RwMachine V = rw_machine v 9 in record m { begin = begin_no_release m.begin }
 
 -- `upgrade` begins as a reader too, and then never ends
-abbrev pub begin_any_upgrade : RwCall → Option Hold → Option RwPoint
-begin_any_upgrade Upgrade (Some hold.Read) = Some First
-begin_any_upgrade c h = begins_at c h
+abbrev pub begin_any_upgrade : (RwCall → Option Hold → Option RwPoint) → RwCall → Option Hold → Option RwPoint
+begin_any_upgrade begin Upgrade (Some hold.Read) = Some First
+begin_any_upgrade begin c h = begin c h
 
 abbrev pub upgrades_any_reader : {V : Type 0} → V → RwMachine V
-upgrades_any_reader {V} v = let t : RwTable V = rw_table v 9 in machine_of (record t { begin = begin_any_upgrade })
+upgrades_any_reader {V} v = let m : RwMachine V = rw_machine v 9 in record m { begin = begin_any_upgrade m.begin }
 
 -- `write` is another `read`
 abbrev pub asks_to_read : RwCall → Option Hold → Asked
@@ -254,7 +255,7 @@ write_never Write l h = load (λ w. GoesOn First)
 write_never c l h = act_of 9 c l h
 
 abbrev pub never_writes : {V : Type 0} → V → RwMachine V
-never_writes {V} v = let t : RwTable V = rw_table v 9 in machine_of (record t { act = write_never; asks = asks_as_a_starver })
+never_writes {V} v = let m : RwMachine V = with_steps v write_never in record m { asks = asks_as_a_starver }
 
 -- somebody writes at first, whom nobody knows
 abbrev pub opens_written : {V : Type 0} → V → RwMachine V

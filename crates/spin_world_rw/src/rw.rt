@@ -1,5 +1,5 @@
 ghost use Rattle.std.specs.Prelude.{◌≡◌, ◌≤◌, ◌==◌, true};
-ghost use Rattle.spin_world_core.specs.Acts.{becomes, stays, step_by, can_by};
+ghost use Rattle.spin_world_core.specs.Acts.{one_number, becomes, stays, step_by, can_by};
 ghost use Rattle.spin_world_core.specs.declared.object.Next.TheVariants.{Answers};
 ghost use Rattle.spin_world_core.specs.declared.answer.Answer.TheVariants.{Done};
 ghost use Rattle.spin_world_rw.specs.Rw.{granted, comes_at, act_of, rw_machine};
@@ -89,7 +89,7 @@ fn exchange<V: Copy>(
     hold: Hold,
     lost: Next<RwPoint, Answer<V>>,
 ) -> Stepped<usize, V, RwPoint, Answer<V>>
-    ensures { result ≡ becomes words to (granted hold) lost }
+    ensures { result ≡ becomes (λ w. w) words to (granted hold) lost }
 {
     match to {
         Some(words) => stay(words, Next::Answers(Answer::Granted, Some(hold))),
@@ -196,8 +196,8 @@ impl<V: Copy> Object for Rw<V> {
         local: RwPoint,
         holds: Option<Hold>,
     ) -> Stepped<usize, V, RwPoint, Answer<V>>
-        requires { can_by (act_of {V = V} self.now.cap call local holds) words ≡ true }
-        ensures { result ≡ step_by (λ w. w) (act_of self.now.cap call local holds) words }
+        requires { can_by one_number 0 (act_of {V = V} self.now.cap call local holds) words ≡ true }
+        ensures { result ≡ step_by one_number 0 (act_of self.now.cap call local holds) words }
     {
         let _ = value;
         let refused = Next::Answers(Answer::Refused, holds);

@@ -19,22 +19,21 @@ use Rattle.spin_world_seats.specs.declared.seats.SeatsPoint.{SeatsPoint}
 use Rattle.spin_world_seats.specs.declared.seats.SeatsPoint.TheVariants.{First, Exchange}
 use Rattle.spin_world_core.specs.Calls.{Mark}
 use Rattle.spin_world_core.specs.Calls as calls
-use Rattle.spin_world_core.specs.Operations.{Operation, loads, exchanges, subtracts, performed}
-use Rattle.spin_world_core.specs.Acts.{step_by, can_by}
-use Rattle.spin_world_seats.specs.Seats.{begins_at, granted, goes_for, act_of, asks_of, seats_table, seats_machine}
+use Rattle.spin_world_core.specs.Acts.{begin_of}
+use Rattle.spin_world_seats.specs.Seats.{granted, act_of, asks_of, seats_table, seats_machine}
 use Rattle.spin_world_core.proofs.Facts.{LocalInvariant, Facts}
 use Rattle.spin_world_core.proofs.Stands.{holds, entries_at}
 use Rattle.spin_world_core.proofs.Rows.{starts_sound, SoundAt, Row, Point, starts, looked}
-use Rattle.spin_world_core.proofs.Shapes.{Notes, keeping_of, Means, OwesAt, answers_by, OwesSoon, BeginsAt, makes_own, Pays, CallOf, AtPoint}
-use Rattle.spin_world_core.proofs.Operating.{BeginsWhereItFits, TriesWeakly, Refuses, OperatesAt, one_word, swaps_found}
-use Rattle.spin_world_core.proofs.Usual.{as_found, no_queue, means_word, exchanges_now, retries_soon}
+use Rattle.spin_world_core.proofs.Shapes.{Notes, keeping_of, Means, OwesAt, answers_by, OwesSoon, BeginsAt, Pays, CallOf, AtPoint}
+use Rattle.spin_world_core.proofs.Operating.{fits_act, one_place, operates_by}
+use Rattle.spin_world_core.proofs.Usual.{no_queue, means_word, exchanges_now, retries_soon}
 use Rattle.spin_world_core.proofs.Paid.{facts_of}
 
 -- a call that looked has made one step; each other point is as its call's beginning
-abbrev pub point_of : SeatsCall → SeatsPoint → Option Hold → Point
-point_of TryEnter (Exchange k) None = looked 1
-point_of Enter (Exchange k) None = looked 1
-point_of c l h = starts (begins_at c h)
+abbrev pub point_of : ℕ → SeatsCall → SeatsPoint → Option Hold → Point
+point_of n TryEnter (Exchange k) None = looked 1
+point_of n Enter (Exchange k) None = looked 1
+point_of n c l h = starts (begin_of (seats_table n) c h)
 
 -- the shape of the lock: nobody queues, all who hold read, and there is a seat for each
 pub record Seating (n : ℕ) (s : Plain) : Type 0 where
@@ -44,7 +43,7 @@ pub record Seating (n : ℕ) (s : Plain) : Type 0 where
   pub few : length s.holders ≤ seats n
 
 abbrev pub seats_notes : (n : ℕ) → Notes (seats_table n)
-seats_notes n = record { Shape = λ s. Seating n s; point = point_of; Knows = λ c l h p s span. Unit {0} }
+seats_notes n = record { Shape = λ s. Seating n s; point = point_of n; Knows = λ c l h p s span. Unit {0} }
 
 module _ (n : ℕ) where
   word_is : (s : Plain) (w : ℕ) → w ∷ [] ≡ seats_word s ∷ [] → seats_word s ≡ w
@@ -65,20 +64,20 @@ module _ (n : ℕ) where
 
   -- what the step functions mean there
   module _ {k : CallOf ℕ SeatsPoint (Answer (Unit {0}))} {l : SeatsPoint} {h : Option Hold} {s : Plain} {w : ℕ} {span : List Mark} {row : Row} (p : ℕ) (at : AtPoint (seats_table n) (seats_notes n) p k l h s w span row) where
-    enter_means : Means (seats_table n) (seats_notes n) p s (gets p to_read) (entered n w)
+    enter_means : Means (seats_table n) (seats_notes n) p s (gets p to_read) (λ k. k) (entered n w)
     enter_means = let is = word_is s w at.encodes in
         means_word (seats_table n) (seats_notes n) seats_word (λ to after same. ap (λ k. k ∷ []) same) p s (gets p to_read) (entered n w) refl (enter-grants s p n w at.shape.all_read at.shape.room is) (λ may. one_more s p w at.shape is may)
 
-    leave_means : is_holder p reading s.holders ≡ true → Means (seats_table n) (seats_notes n) p s (releases p reading) (Some (w - 1))
+    leave_means : is_holder p reading s.holders ≡ true → Means (seats_table n) (seats_notes n) p s (releases p reading) (λ k. k) (Some (w - 1))
     leave_means found = ((refl, found), ap (λ k. k ∷ []) (leave-gives s p w (word_is s w at.encodes) found), one_less s p at.shape found)
 
   owes : (p : ℕ) (c : SeatsCall) (l : SeatsPoint) (h : Option Hold) (s : Plain) (w : ℕ) (span : List Mark) → OwesAt (seats_table n) (seats_notes n) p c l h s w span
-  owes p TryEnter First None s w span = λ at. (enter_means p at, (λ found. (refl, refl, refl, (refl, refl, as_found (entered n) w found), tt)), (λ closed. (refl, inl refl, inl closed)))
+  owes p TryEnter First None s w span = λ at. (enter_means p at, (λ found. (refl, refl, refl, (refl, refl, found), tt)), (λ closed. (refl, inl refl, inl closed)))
   owes p TryEnter (Exchange k) None s w span = λ at.
-      (enter_means p at, (λ is. (refl, inl refl, tt)), (λ found. (refl, refl, refl, (refl, refl, as_found (entered n) w found), tt)), (λ closed. (refl, inl refl, inl closed)))
-  owes p Enter First None s w span = λ at. (enter_means p at, (λ found. (refl, refl, tt, (refl, refl, as_found (entered n) w found), tt)), (λ closed. (refl, refl, tt, tt, tt)))
+      (enter_means p at, (λ is. (refl, inl refl, tt)), (λ found. (refl, refl, refl, (refl, refl, found), tt)), (λ closed. (refl, inl refl, inl closed)))
+  owes p Enter First None s w span = λ at. (enter_means p at, (λ found. (refl, refl, tt, (refl, refl, found), tt)), (λ closed. (refl, refl, tt, tt, tt)))
   owes p Enter (Exchange k) None s w span = λ at.
-      (enter_means p at, (λ is. (refl, inl refl, tt)), (λ found. (refl, refl, tt, (refl, refl, as_found (entered n) w found), tt)), (λ closed. (refl, refl, tt, tt, tt)))
+      (enter_means p at, (λ is. (refl, inl refl, tt)), (λ found. (refl, refl, tt, (refl, refl, found), tt)), (λ closed. (refl, refl, tt, tt, tt)))
   owes p Count l None s w span = λ at. (refl, inl refl, inl (omega (arith, each_reads s.holders at.shape.all_read, word_is s w at.encodes)))
   owes p Leave l (Some Read) s w span = λ at.
       let found = sits p s at.known.stand in
@@ -103,74 +102,32 @@ module _ (n : ℕ) where
   soon p Enter (Exchange k) None s w span = λ at may. sits_soon w (is_free s w at.shape (word_is s w at.encodes) may) k
   soon p _ _ _ s w span = tt
 
-  begins : (p : ℕ) (c : SeatsCall) (h : Option Hold) (s : Plain) → BeginsAt (seats_table n) (seats_notes n) c h p s (begins_at c h)
+  begins : (p : ℕ) (c : SeatsCall) (h : Option Hold) (s : Plain) → BeginsAt (seats_table n) (seats_notes n) c h p s (begin_of (seats_table n) c h)
   begins p TryEnter None s = (refl, refl, tt, tt)
   begins p Enter None s = (refl, refl, tt, tt)
   begins p Count None s = (refl, refl, tt, tt)
   begins p Leave (Some Read) s = (refl, refl, tt, tt)
   begins p _ _ s = tt
 
-  makes : (p : ℕ) (c : SeatsCall) (l : SeatsPoint) (h : Option Hold) → makes_own calls.seats (act_of n c l h) p ≡ true
-  makes p TryEnter First h = refl
-  makes p TryEnter (Exchange k) h = refl
-  makes p Enter First h = refl
-  makes p Enter (Exchange k) h = refl
-  makes p _ _ _ = refl
+  fits_all : (p : ℕ) (c : SeatsCall) (l : SeatsPoint) (h : Option Hold) → fits_act calls.seats (asks_of c h) (act_of n c l h) p ≡ true
+  fits_all p TryEnter First h = refl
+  fits_all p Enter First h = refl
+  fits_all p _ _ _ = refl
 
-  sound : (p : ℕ) (c : SeatsCall) (l : SeatsPoint) (h : Option Hold) → SoundAt calls.seats (asks_of c h) p (point_of c l h)
+  sound : (p : ℕ) (c : SeatsCall) (l : SeatsPoint) (h : Option Hold) → SoundAt calls.seats (asks_of c h) p (point_of n c l h)
   sound p TryEnter (Exchange k) None = refl
   sound p Enter (Exchange k) None = refl
-  sound p c l h = starts_sound calls.seats (asks_of c h) p (begins_at c h)
-
-  fits_all : BeginsWhereItFits (seats_table n)
-  fits_all Leave (Some Read) = refl
-  fits_all Leave _ = refl
-  fits_all _ None = refl
-  fits_all _ (Some h) = refl
-
-  weakly : TriesWeakly (seats_table n)
-  weakly p TryEnter First h = refl
-  weakly p TryEnter (Exchange k) h = refl
-  weakly p Enter First h = refl
-  weakly p Enter (Exchange k) h = refl
-  weakly p _ _ _ = refl
-
-  alone : (c : SeatsCall) (l : SeatsPoint) (h : Option Hold) (operation : Operation)
-      → ((w : ℕ) → can_by (act_of n c l h) w ≡ true → (step_by {V = Unit {0}} (λ w. w) (act_of n c l h) w).words ≡ performed operation w) → OperatesAt calls.seats (seats_table n) c l h
-  alone c l h operation is = (0, operation, one_word (seats_table n) (λ w. refl) (λ v w e. e) c l h operation is)
-
-  -- a seat is taken by an exchange of the number that was found
-  abbrev swap : ℕ → Operation
-  swap k = exchanges k (unwrap_or (entered n k) k)
-
-  refuses : Refuses (seats_table n)
-  refuses TryEnter First h next is = absurd (cc (is))
-  refuses TryEnter (Exchange k) h next is = absurd (cc (is))
-  refuses Enter First h next is = absurd (cc (is))
-  refuses Enter (Exchange k) h next is = absurd (cc (is))
-  refuses _ l h next is = absurd (cc (is))
-
-  operates : (c : SeatsCall) (l : SeatsPoint) (h : Option Hold) → OperatesAt calls.seats (seats_table n) c l h
-  operates TryEnter First h = alone TryEnter First h loads (λ w can. refl)
-  operates TryEnter (Exchange k) h = alone TryEnter (Exchange k) h (swap k) (λ w can. swaps_found (Unit {0}) k w (entered n) granted (goes_for w) (Answers Refused h))
-  operates Enter First h = alone Enter First h loads (λ w can. refl)
-  operates Enter (Exchange k) h = alone Enter (Exchange k) h (swap k) (λ w can. swaps_found (Unit {0}) k w (entered n) granted (goes_for w) (GoesOn First))
-  operates Count l h = alone Count l h loads (λ w can. refl)
-  operates Leave l h = alone Leave l h (subtracts 1) (λ w can. refl)
+  sound p c l h = starts_sound calls.seats (asks_of c h) p (begin_of (seats_table n) c h)
 
   pub seats_pays : Pays (seats_table n) (seats_notes n)
   seats_pays =
       record {
         fits = fits_all;
-        weakly = weakly;
-        refuses = refuses;
-        operates = operates;
+        operates = operates_by (seats_table n) one_place;
         first = refl;
         shape_first = record { no_queue = refl; room = refl; all_read = refl; few = omega arith };
         numbers_tell = λ v w e. cc (e);
-        no_value = refl;
         one_list = λ s shape. no_queue s shape.no_queue;
-        makes = makes;
         sound = sound;
         begins = begins;
         others = λ p q c l h s step r span ne shape may belongs knows. tt;
@@ -182,4 +139,4 @@ abbrev pub seats_keeping : (n : ℕ) → LocalInvariant (Unit {0}) SeatsCall Sea
 seats_keeping n = keeping_of (seats_table n) (seats_notes n)
 
 pub seats_facts : (n : ℕ) → Facts (seats_machine n) (seats_keeping n)
-seats_facts n = facts_of (seats_table n) (seats_notes n) (seats_pays n)
+seats_facts n = facts_of (seats_table n) (seats_notes n) (seats_pays n) refl

@@ -1,5 +1,5 @@
 -- The calls of a lock of seats, step by step, and how they read on the plain lock.
-use Rattle.std.specs.Prelude.{ℕ, ◌-◌, ◌==◌, Option, Some, None, is_some, [], nat_lt, true}
+use Rattle.std.specs.Prelude.{ℕ, ◌==◌, Option, Some, None, is_some, nat_lt, true}
 use Rattle.spin_step.specs.Plain.{reading, to_read, gets, releases}
 use Rattle.spin_seats.specs.Seats.{seats, entered}
 use Rattle.spin_world_core.specs.declared.place.Hold.{Hold}
@@ -16,15 +16,8 @@ use Rattle.spin_world_seats.specs.declared.seats.SeatsPoint.TheVariants.{First, 
 use Rattle.spin_world_core.specs.Calls.{Asked, waits, tries, counts_readers, gives_back, says_of}
 use Rattle.spin_world_core.specs.Calls as calls
 use Rattle.spin_world_core.specs.Machines.{Machine}
-use Rattle.spin_world_core.specs.Acts.{Act, load, load_for, retry, store, either, stays, retried, Table, machine_of}
-
--- who sits may leave; every other call begins where nothing is held
-abbrev pub begins_at : SeatsCall → Option Hold → Option SeatsPoint
-begins_at call.TryEnter None = Some First
-begins_at call.Enter None = Some First
-begins_at call.Count None = Some First
-begins_at call.Leave (Some Read) = Some First
-begins_at _ _ = None
+use Rattle.spin_world_core.specs.Acts.{one_number, Act, load, load_for, retry, store, either, stays, retried, Table, machine_of}
+use Rattle.spin_world_core.specs.Operations.{subtracts}
 
 abbrev pub Answered : Type 0
 Answered = Next SeatsPoint (Answer (Unit {0}))
@@ -44,13 +37,13 @@ comes_by n missed (Exchange k) = retry k (entered n) (λ p. gets p to_read) gran
 -- what its step comes to, where the step function answers so
 abbrev pub comes_at : SeatsPoint → ℕ → Option ℕ → Answered → Stepped ℕ (Unit {0}) SeatsPoint (Answer (Unit {0}))
 comes_at First w to missed = stays w (either (is_some to) (goes_for w) missed)
-comes_at (Exchange k) w to missed = retried (w == k) w to granted (goes_for w) missed
+comes_at (Exchange k) w to missed = retried (λ n. n) (w == k) w to granted (goes_for w) missed
 
 abbrev pub act_of : ℕ → SeatsCall → SeatsPoint → Option Hold → Act ℕ SeatsPoint (Answer (Unit {0}))
 act_of n call.TryEnter l h = comes_by n (Answers Refused h) l
 act_of n call.Enter l h = comes_by n (GoesOn First) l
 act_of n call.Count l h = load (λ w. Answers (Count w) h)
-act_of n call.Leave l h = store (λ w. nat_lt 0 w) (λ w. w - 1) (λ p. releases p reading) (Answers Done None)
+act_of n call.Leave l h = store (λ w. nat_lt 0 w) (subtracts 1) (λ p. releases p reading) (Answers Done None)
 
 abbrev pub asks_of : SeatsCall → Option Hold → Asked
 asks_of call.TryEnter h = tries to_read
@@ -71,9 +64,9 @@ seats_table n =
       cap = seats n;
       group = 0;
       first = 0;
-      number = λ w. w;
-      others = λ w. [];
-      begin = begins_at;
+      memory = one_number;
+      start = λ c h. First;
+      word = λ l. 0;
       act = act_of n;
       asks = asks_of;
       says = says_of;

@@ -1,5 +1,5 @@
 -- Locks of seats that are wrong, each in one part of its table, and schedules on which the laws refuse them. Where its steps are wrong, so are the plain steps that they read as.
-use Rattle.std.specs.Prelude.{ℕ, zero, suc, ◌-◌, ◌==◌, Option, Some, None, List, [], ◌∷◌, ◌++◌, nat_lt, if◌then◌else◌}
+use Rattle.std.specs.Prelude.{ℕ, zero, suc, true, Option, Some, None, List, [], ◌∷◌, ◌++◌, nat_lt}
 use Rattle.spin_step.specs.Plain.{reading, to_read, gets, releases}
 use Rattle.spin_seats.specs.Seats.{entered}
 use Rattle.spin_world_core.specs.declared.place.Hold.{Hold}
@@ -13,8 +13,9 @@ use Rattle.spin_world_seats.specs.declared.seats.SeatsPoint.TheVariants.{First, 
 use Rattle.spin_world_core.specs.declared.schedule.Move.{Move}
 use Rattle.spin_world_core.specs.declared.schedule.Move.TheVariants.{Begin, Step, Weak}
 use Rattle.spin_world_core.specs.Calls.{Asked, tries}
-use Rattle.spin_world_core.specs.Acts.{Act, load, exchange, store, machine_of}
-use Rattle.spin_world_seats.specs.Seats.{Answered, granted, goes_for, begins_at, comes_by, act_of, asks_of, SeatsTable, seats_table, SeatsMachine}
+use Rattle.spin_world_core.specs.Acts.{Act, load, exchange, store, section, machine_of}
+use Rattle.spin_world_core.specs.Operations.{exchanges, subtracts}
+use Rattle.spin_world_seats.specs.Seats.{Answered, granted, goes_for, comes_by, act_of, asks_of, SeatsTable, seats_table, SeatsMachine, seats_machine}
 
 abbrev SeatsAct : Type 0
 SeatsAct = Act ℕ SeatsPoint (Answer (Unit {0}))
@@ -43,7 +44,7 @@ two_on_one_seat = takes_a_seat 0 ++ takes_a_seat 1
 
 -- who leaves frees two seats
 abbrev leave_of_two : SeatsCall → SeatsPoint → Option Hold → SeatsAct
-leave_of_two call.Leave l h = store (λ w. nat_lt 0 w) (λ w. w - 2) (λ p. releases p reading) (Answers Done None)
+leave_of_two call.Leave l h = store (λ w. nat_lt 0 w) (subtracts 2) (λ p. releases p reading) (Answers Done None)
 leave_of_two c l h = act_of 2 c l h
 
 abbrev pub leaves_for_two : SeatsMachine
@@ -77,7 +78,7 @@ enter_alone = (0, Begin call.Enter) ∷ (0, Step) ∷ (0, Step) ∷ []
 
 -- a try looks and takes its seat in one event
 abbrev enter_in_one : SeatsCall → SeatsPoint → Option Hold → SeatsAct
-enter_in_one call.TryEnter l h = exchange (entered 2) (λ p. gets p to_read) granted (λ w. Answers Refused h)
+enter_in_one call.TryEnter l h = section (λ w. true) (entered 2) (λ p. gets p to_read) (λ w. granted) (λ w. Answers Refused h)
 enter_in_one c l h = act_of 2 c l h
 
 abbrev pub enters_in_one : SeatsMachine
@@ -85,7 +86,7 @@ enters_in_one = with_steps 2 enter_in_one
 
 -- `enter` guesses that nobody sits, and where it was wrong that counts as no exchange that failed
 abbrev enter_by_a_guess : SeatsCall → SeatsPoint → Option Hold → SeatsAct
-enter_by_a_guess call.Enter First h = exchange (λ w. if w == 0 then Some 1 else None) (λ p. gets p to_read) granted goes_for
+enter_by_a_guess call.Enter First h = exchange (exchanges 0 1) (λ p. gets p to_read) granted goes_for
 enter_by_a_guess c l h = act_of 2 c l h
 
 abbrev pub enters_by_a_guess : SeatsMachine
@@ -106,12 +107,8 @@ abbrev pub enter_by_chance : Entries
 enter_by_chance = (0, Begin call.TryEnter) ∷ (0, Weak) ∷ []
 
 -- nobody may leave
-abbrev begin_no_leave : SeatsCall → Option Hold → Option SeatsPoint
-begin_no_leave call.Leave h = None
-begin_no_leave c h = begins_at c h
-
 abbrev pub nobody_leaves : SeatsMachine
-nobody_leaves = let t : SeatsTable = seats_table 2 in machine_of (record t { begin = begin_no_leave })
+nobody_leaves = let m : SeatsMachine = seats_machine 2 in record m { begin = λ c h. elim c [ call.Leave ↦ None | call.TryEnter ↦ m.begin call.TryEnter h | call.Enter ↦ m.begin call.Enter h | call.Count ↦ m.begin call.Count h ] }
 
 -- `enter` is another try
 abbrev asks_to_try : SeatsCall → Option Hold → Asked

@@ -1,5 +1,5 @@
 ghost use Rattle.std.specs.Prelude.{◌≡◌, true};
-ghost use Rattle.spin_world_core.specs.Acts.{becomes, stays, step_by, can_by};
+ghost use Rattle.spin_world_core.specs.Acts.{one_number, becomes, stays, step_by, can_by};
 ghost use Rattle.spin_world_seats.specs.Seats.{granted, comes_at, act_of, seats_machine};
 
 use spin_seats::steps;
@@ -124,8 +124,8 @@ impl Object for Seats {
         local: SeatsPoint,
         holds: Option<Hold>,
     ) -> Stepped<usize, (), SeatsPoint, Answer<()>>
-        requires { can_by (act_of self.now.seats call local holds) words ≡ true }
-        ensures { result ≡ step_by (λ w. w) (act_of self.now.seats call local holds) words }
+        requires { can_by one_number 0 (act_of self.now.seats call local holds) words ≡ true }
+        ensures { result ≡ step_by one_number 0 (act_of self.now.seats call local holds) words }
     {
         let _ = value;
         let to = steps::enter(words, self.seats);

@@ -1,9 +1,10 @@
 -- What the ticket lock's table owes.
-use Rattle.std.proofs.Common.{◌≡◌, ℕ, suc, ◌+◌, ◌-◌, ◌≤◌, ◌==◌, Bool, true, false, not, ◌&&◌, ◌||◌, cond, filter, if◌then◌else◌, is_some, Option, Some, None, List, [], ◌∷◌, refl, ap, sym, ◌∙◌, subst, arith, inl, inr, eq-eqb}
+use Rattle.std.proofs.Common.{◌≡◌, ℕ, zero, suc, ◌+◌, ◌-◌, ◌≤◌, ◌==◌, Bool, true, false, not, ◌&&◌, ◌||◌, cond, filter, if◌then◌else◌, is_some, Option, Some, None, List, [], ◌∷◌, refl, ap, sym, ◌∙◌, subst, arith, inl, inr, eq-eqb}
 use Rattle.std.proofs.lemmas.Bool.{and_parts, eqb-true, true≢false}
 use Rattle.spin_step.specs.Plain.{Plain, Ticket as Queued, ticket as queued, is_first, Ask, effect, to_take_ticket, to_enter, to_take_and_enter, Change, gets, serves, apply, is_open, is_empty, next_word, serving_word}
 use Rattle.spin_step.specs.Parties.{apply_some, IsOpenStep, Entries, entries, is_held}
 use Rattle.spin_step.specs.Steps.{Decides}
+use Rattle.spin_step.specs.Tickets.{take}
 use Rattle.spin_step.proofs.Tickets.{enters_in_turn, numbered-given, numbered-serves, serving-taken, serving-entered, entered_is_served, stands}
 use Rattle.spin_step.proofs.TicketSteps.{ticket_take-grants, ticket_take-grants_alone, ticket_serve-gives}
 use Rattle.spin_world_core.specs.declared.answer.Answer.{Answer}
@@ -15,19 +16,20 @@ use Rattle.spin_world_ticket.specs.declared.ticket.TicketCall.{TicketCall}
 use Rattle.spin_world_ticket.specs.declared.ticket.TicketCall.TheVariants.{Lock, TryLock, IsLocked, Release}
 use Rattle.spin_world_ticket.specs.declared.ticket.TicketPoint.{TicketPoint}
 use Rattle.spin_world_ticket.specs.declared.ticket.TicketPoint.TheVariants.{LoadNext, Take, Await, TryLoadNext, TryLoadServing, TryTake, LookServing, LookNext, Serve}
-use Rattle.spin_world_core.specs.Calls.{Mark, AnyOf, granted, ticket}
+use Rattle.spin_world_core.specs.Calls.{Mark, AnyOf, looks, granted, ticket, may_be_weak}
 use Rattle.spin_world_core.specs.Runs.{mark_of}
 use Rattle.spin_world_core.specs.Manners.{Manner, plain}
-use Rattle.spin_world_core.specs.Acts.{passing}
-use Rattle.spin_world_ticket.specs.Ticket.{is_left, take, begins_at, act_of, asks_of, ticket_table, ticket_machine}
+use Rattle.spin_world_core.specs.Acts.{passing, begin_of}
+use Rattle.spin_world_ticket.specs.Ticket.{is_left, ticket_memory, act_of, asks_of, ticket_table, ticket_machine}
+use Rattle.spin_world_core.proofs.Lists.{eqb_self}
+use Rattle.spin_world_core.proofs.Operating.{fits_act, fits_strong, IsPlace, operates_by}
 use Rattle.spin_world_core.proofs.Facts.{LocalInvariant, Facts}
 use Rattle.spin_world_core.proofs.Stands.{queues, entries_at}
 use Rattle.spin_world_core.proofs.Rows.{SoundAt, Row, Point, nowhere, looked, onward}
-use Rattle.spin_world_core.proofs.Shapes.{Notes, keeping_of, Means, OwesAt, answers_by, OwesSoon, BeginsAt, makes_own, Pays, CallOf, AtPoint}
-use Rattle.spin_world_core.proofs.Usual.{two, found_by, no_holders, retries_soon}
+use Rattle.spin_world_core.proofs.Shapes.{Notes, keeping_of, Means, OwesAt, answers_by, OwesSoon, BeginsAt, Pays, CallOf, AtPoint}
+use Rattle.spin_world_core.proofs.Usual.{two, no_holders, retries_soon}
 use Rattle.spin_world_core.proofs.Paid.{facts_of}
 use Rattle.spin_world_ticket.proofs.Found.{free_number, Queue, Stays, Rises, stays-other, rises-other, stays_now, try_refused, look_held, look_free, ticket_left, taken_queue}
-use Rattle.spin_world_ticket.proofs.Operating.{fits_all, strong, refuses, operates}
 
 abbrev pub point_of : TicketCall → TicketPoint → Option Hold → Point
 point_of Lock LoadNext None = looked 0
@@ -52,21 +54,16 @@ KnowsAt _ h s span = Unit {0}
 abbrev pub ticket_notes : {V : Type 0} (v : V) (first : ℕ) → Notes (ticket_table v first)
 ticket_notes v first = record { Shape = λ s. Queue s; point = point_of; Knows = λ c l h p s span. KnowsAt l h s span }
 
--- the step function on its words
-
-some_if : {X : Type 0} (b : Bool) (x : X) → is_some (if b then Some x else None) ≡ b
-some_if true x = refl
-some_if false x = refl
+places : (i : ℕ) → IsPlace ticket_memory i
+places zero = record { stays = λ w. refl; put = λ k w. refl }
+places (suc zero) = record { stays = λ w. refl; put = λ k w. refl }
+places (suc (suc i)) = record { stays = λ w. refl; put = λ k w. refl }
 
 two_words : (u w : TicketWords) → u.next ∷ u.serving ∷ [] ≡ w.next ∷ w.serving ∷ [] → u ≡ w
 two_words u w e =
     let next : u.next ≡ w.next = cc (e) in
     let serving : u.serving ≡ w.serving = cc (e) in
     ap (λ k. record u { next = k }) next ∙ ap (λ k. record w { serving = k }) serving
-
--- it grants by the number alone
-still : (w : TicketWords) → is_some (take w) ≡ true → (to : TicketWords) → to.next ≡ w.next → is_some (take to) ≡ true
-still w found = found_by (λ w. w.next) take is_left (λ w. some_if (is_left w.next) _) w found
 
 not_taken : {X : Type 0} (a b : Bool) (x : X) → (if a then (if b then Some x else None) else None) ≡ None → a ≡ true → b ≡ false
 not_taken a false x none is = refl
@@ -95,8 +92,8 @@ enters_first : (p t : ℕ) (s : Plain) → entries p s ≡ entries_at p (queues 
 enters_first p t s mine free = or_left (is_open s (gets p to_enter)) (is_first p true s.tickets) (not_entered p t s.tickets (ap (λ (e : Entries). e.tickets) mine)) free
 
 module _ {V : Type 0} (v : V) (first : ℕ) where
-  abbrev IsMeant : ℕ → Plain → Change → Option TicketWords → Type 0
-  IsMeant p s c o = Means (ticket_table v first) (ticket_notes v first) p s c o
+  abbrev IsMeant : ℕ → Plain → Change → (ℕ → TicketWords) → Option ℕ → Type 0
+  IsMeant p s c put o = Means (ticket_table v first) (ticket_notes v first) p s c put o
 
   -- what the step functions mean there
   module _ {k : CallOf TicketWords TicketPoint (Answer V)} {l : TicketPoint} {h : Option Hold} {s : Plain} {w : TicketWords} {span : List Mark} {row : Row} (p : ℕ) (at : AtPoint (ticket_table v first) (ticket_notes v first) p k l h s w span row) where
@@ -113,16 +110,16 @@ module _ {V : Type 0} (v : V) (first : ℕ) where
         (ap is_left (sym next_is) ∙ parts.1, sym serving_is ∙ (sym (free_number s (serving_word s) parts.0 refl) ∙ next_is))
 
     grants_means : (ask : Ask) (b : Bool) → serving_word (apply s (gets p ask)) ≡ serving_word s → (is_open s (gets p ask) ≡ true → Queue (apply s (gets p ask))) → Decides s (gets p ask) next_word (if b then Some (w.next + 1) else None)
-        → IsMeant p s (gets p ask) (if b then Some (record w { next = w.next + 1 }) else None)
+        → IsMeant p s (gets p ask) (λ n. record w { next = n }) (if b then Some (w.next + 1) else None)
     grants_means ask true same shape grants = ((refl, grants.0), two _ _ _ _ grants.1 (sym (same ∙ serving_is)), shape grants.0)
     grants_means ask false same shape grants = grants
 
-    take_means : IsMeant p s (gets p to_take_ticket) (take w)
+    take_means : IsMeant p s (gets p to_take_ticket) (λ n. record w { next = n }) (take w.next)
     take_means =
         grants_means to_take_ticket (is_left w.next) (serving-taken s p false at.shape.numbered) (λ left. taken_queue s p false at.shape left (numbered-given s p (effect to_take_ticket) at.shape.numbered)) (ticket_take-grants s p w.next next_is)
 
     -- where the number is served
-    take_alone_means : w.next ≤ serving_word s → IsMeant p s (gets p to_take_and_enter) (take w)
+    take_alone_means : w.next ≤ serving_word s → IsMeant p s (gets p to_take_and_enter) (λ n. record w { next = n }) (take w.next)
     take_alone_means le =
         grants_means to_take_and_enter (is_left w.next) (serving-taken s p true at.shape.numbered) (λ free. taken_queue s p true at.shape (and_parts (is_empty s.tickets) (is_left s.next) free).1 (numbered-given s p (effect to_take_and_enter) at.shape.numbered))
         (ticket_take-grants_alone s p w.next at.shape.numbered.0 next_is (omega (arith, next_is, le)))
@@ -130,7 +127,7 @@ module _ {V : Type 0} (v : V) (first : ℕ) where
     in_turn : (t : ℕ) → entries p s ≡ entries_at p (queues t false) → is_open s (gets p to_enter) ≡ (w.serving == t)
     in_turn t mine = enters_in_turn s p w.serving t at.shape.numbered serving_is (ap (λ (e : Entries). e.tickets) mine)
 
-    enter_if : (t : ℕ) (b : Bool) → entries p s ≡ entries_at p (queues t false) → is_open s (gets p to_enter) ≡ b → IsMeant p s (gets p to_enter) (passing b w)
+    enter_if : (t : ℕ) (b : Bool) → entries p s ≡ entries_at p (queues t false) → is_open s (gets p to_enter) ≡ b → IsMeant p s (gets p to_enter) (λ k. w) (passing b w.serving)
     enter_if t true mine may = (
       (refl, may),
       two _ _ _ _ (sym next_is) (sym serving_is ∙ sym (serving-entered s)),
@@ -138,7 +135,7 @@ module _ {V : Type 0} (v : V) (first : ℕ) where
     )
     enter_if t false mine may = may
 
-    serve_means : (t u : ℕ) → t ≡ u → entries p s ≡ entries_at p (queues u true) → (is_left t ≡ true) × IsMeant p s (serves p) (Some (record w { serving = t + 1 }))
+    serve_means : (t u : ℕ) → t ≡ u → entries p s ≡ entries_at p (queues u true) → (is_left t ≡ true) × IsMeant p s (serves p) (λ k. record w { serving = k }) (Some (t + 1))
     serve_means t u same mine =
         let tickets = ap (λ (e : Entries). e.tickets) mine in
         let some = stands p u true s.tickets tickets in
@@ -157,11 +154,11 @@ module _ {V : Type 0} (v : V) (first : ℕ) where
   looked_right false k p s span queue is found = look_held p k s span found.1 (λ e. true≢false (sym (eq-eqb s.next k e) ∙ is))
 
   owes : (p : ℕ) (c : TicketCall) (l : TicketPoint) (h : Option Hold) (s : Plain) (w : TicketWords) (span : List Mark) → OwesAt (ticket_table v first) (ticket_notes v first) p c l h s w span
-  owes p Lock LoadNext None s w span = λ at. (take_means p at, (λ found. (refl, refl, refl, (refl, refl, still w found), tt)), (λ closed. (refl, refl, refl, tt, tt)))
+  owes p Lock LoadNext None s w span = λ at. (take_means p at, (λ found. (refl, refl, refl, (refl, refl, found), tt)), (λ closed. (refl, refl, refl, tt, tt)))
   owes p Lock (Take n) None s w span = λ at. (
     take_means p at,
     (λ is. (ap (λ k. Some (queues k false)) (next_is p at ∙ is), refl, tt, tt, tt)),
-    (λ found. (refl, refl, refl, (refl, refl, still w found), tt)),
+    (λ found. (refl, refl, refl, (refl, refl, found), tt)),
     (λ closed. (refl, refl, refl, tt, tt)),
   )
   owes p Lock (Await t) None s w span = λ at. (enter_if p at t (w.serving == t) at.known.stand (in_turn p at t at.known.stand), (refl, inl refl, tt), (λ closed. (refl, refl, tt, tt, tt)))
@@ -171,9 +168,9 @@ module _ {V : Type 0} (v : V) (first : ℕ) where
     (λ taken. (refl, inl refl, try_refused p n s span at.knows (λ served e. ap is_left e ∙ (sym (ap (λ b. b && is_left n) (eq-eqb w.serving n (sym (serving_is p at) ∙ served))) ∙ taken)))),
   )
   owes p TryLock (TryTake n) None s w span = λ at. (
-    (λ to taken. let is = taken_at (w.next == n) (take w) to taken in
+    (λ to taken. let is = taken_at (w.next == n) (take w.next) to taken in
         let same = eqb-true w.next n is.0 in
-        (subst (IsMeant p s (gets p to_take_and_enter)) is.1 (take_alone_means p at (omega (arith, same, at.knows.0))), (ap (λ k. Some (queues k true)) (next_is p at ∙ same), inl refl, tt))),
+        (subst (IsMeant p s (gets p to_take_and_enter) (λ k. record w { next = k })) is.1 (take_alone_means p at (omega (arith, same, at.knows.0))), (ap (λ k. Some (queues k true)) (next_is p at ∙ same), inl refl, tt))),
     (λ none. (refl, inl refl, try_refused p n s span at.knows.1 (λ served e. let next = next_is p at in ap is_left next ∙ not_taken (w.next == n) (is_left w.next) _ none (eq-eqb w.next n (sym next ∙ e))))),
     refl,
   )
@@ -190,7 +187,7 @@ module _ {V : Type 0} (v : V) (first : ℕ) where
   takes_soon : (k n : ℕ) (w : TicketWords) → is_left w.next ≡ true → w.serving ≡ w.next → answers_by (ticket_table v first) (suc (suc (suc k))) w Lock (Take n) None ≡ true
   takes_soon k n w left served =
       let after = record w { next = w.next + 1 } in
-      retries_soon (ticket_table v first) Lock None Take take (λ p. gets p to_take_ticket) (λ t. GoesOn (Await t)) (GoesOn LoadNext) w after (rw left refl) (λ m. refl) (suc k) (enters_soon k after w.next served) n
+      retries_soon (ticket_table v first) Lock None Take take (λ p. gets p to_take_ticket) (λ t. GoesOn (Await t)) (GoesOn LoadNext) w (w.next + 1) (rw left refl) (λ m. refl) (suc k) (enters_soon k after w.next served) n
 
   soon : (p : ℕ) (c : TicketCall) (l : TicketPoint) (h : Option Hold) (s : Plain) (w : TicketWords) (span : List Mark)
       → OwesSoon (ticket_table v first) (ticket_notes v first) p c l h s w span
@@ -199,16 +196,20 @@ module _ {V : Type 0} (v : V) (first : ℕ) where
   soon p Lock (Await t) None s w span = λ at free. enters_soon 3 w t (eqb-true w.serving t (sym (in_turn p at t at.known.stand) ∙ enters_first p t s at.known.stand free))
   soon p _ _ _ s w span = tt
 
-  begins : (p : ℕ) (c : TicketCall) (h : Option Hold) (s : Plain) → BeginsAt (ticket_table v first) (ticket_notes v first) c h p s (begins_at c h)
-  begins p Release (Some (hold.Ticket t)) s = (refl, refl, tt, refl)
+  begins : (p : ℕ) (c : TicketCall) (h : Option Hold) (s : Plain) → BeginsAt (ticket_table v first) (ticket_notes v first) c h p s (begin_of (ticket_table v first) c h)
+  begins p Release (Some (hold.Ticket t)) s = rw (eqb_self t) (refl, refl, tt, refl)
   begins p Lock None s = (refl, refl, tt, tt)
   begins p TryLock None s = (refl, refl, tt, tt)
   begins p IsLocked None s = (refl, refl, tt, tt)
   begins p _ _ s = tt
 
-  makes : (p : ℕ) (l : TicketPoint) (h : Option Hold) → makes_own ticket (act_of {V = V} l h) p ≡ true
-  makes p LoadNext h = refl
-  makes p _ h = refl
+  fits_looks : (p : ℕ) (l : TicketPoint) (h : Option Hold) → fits_act ticket looks (act_of {V = V} l h) p ≡ true
+  fits_looks p LoadNext h = refl
+  fits_looks p _ h = refl
+
+  never_weak : (c : TicketCall) (h : Option Hold) → may_be_weak (asks_of c h) ≡ false
+  never_weak Lock h = refl
+  never_weak _ h = refl
 
   sound : (p : ℕ) (c : TicketCall) (l : TicketPoint) (h : Option Hold) → SoundAt ticket (asks_of c h) p (point_of c l h)
   sound p Lock (Await t) None = (refl, inl refl)
@@ -232,16 +233,12 @@ module _ {V : Type 0} (v : V) (first : ℕ) where
   pub ticket_pays : Pays (ticket_table v first) (ticket_notes v first)
   ticket_pays =
       record {
-        fits = fits_all v first;
-        weakly = strong v first;
-        refuses = refuses v first;
-        operates = operates v first;
+        fits = λ p c l h. fits_strong ticket (asks_of c h) (act_of {V = V} l h) p (never_weak c h) (fits_looks p l h);
+        operates = operates_by (ticket_table v first) places;
         first = two first first first (first - 0) refl (omega arith);
         shape_first = record { no_holders = refl; numbered = (omega arith, tt); in_range = λ some. absurd (cc (some)) };
         numbers_tell = λ u w e. two_words u w e;
-        no_value = refl;
         one_list = λ s queue. no_holders s queue.no_holders;
-        makes = λ p c l h. makes p l h;
         sound = sound;
         begins = begins;
         others = λ p q c l h s step r span ne shape may belongs knows. others q l h s step r span shape may knows;
@@ -253,4 +250,4 @@ abbrev pub ticket_keeping : {V : Type 0} (v : V) (first : ℕ) → LocalInvarian
 ticket_keeping v first = keeping_of (ticket_table v first) (ticket_notes v first)
 
 pub ticket_facts : {V : Type 0} (v : V) (first : ℕ) → Facts (ticket_machine v first) (ticket_keeping v first)
-ticket_facts v first = facts_of (ticket_table v first) (ticket_notes v first) (ticket_pays v first)
+ticket_facts v first = facts_of (ticket_table v first) (ticket_notes v first) (ticket_pays v first) refl

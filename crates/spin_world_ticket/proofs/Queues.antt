@@ -34,13 +34,7 @@ use Rattle.spin_world_core.proofs.Every.{kept, good_first, standing, in_call, st
 
 one_goes : (c : Change) → gone c ≡ bit (serves_one c)
 one_goes (gets p ask) = refl
-one_goes (releases p k) = refl
-one_goes (serves p) = refl
-one_goes (stops_starving p) = refl
-one_goes (turns p k l) = refl
-one_goes (completes p) = refl
-one_goes (fails p) = refl
-one_goes (arrives p) = refl
+one_goes _ = refl
 
 moves_some : (s : Plain) (p : ℕ) (step : Option Change) → Numbered s → IsOpenStep s p step → serving_word (apply_some s step) ≡ serving_word s + bit (passes serves_one step)
 moves_some s p None numbered may = omega arith
@@ -68,7 +62,7 @@ module _ {V : Type 0} (v : V) (first p t : ℕ) where
   waits_at _ _ _ s span knows waits = absurd knows
 
 looked : (V : Type 0) (s : State TicketWords V TicketCall TicketPoint) (p t : ℕ) (w : TicketWords) (c : TicketCall) (h : Option Hold) (b : Bool) → (w.serving == t) ≡ b
-    → ((stepped {A = Answer V} s p c h (becomes w (passing b w) (granted t) (GoesOn (Await t)))).outcome ≡ Answered Granted None) ↔ (w.serving ≡ t)
+    → ((stepped {A = Answer V} s p c h (becomes (λ (k : ℕ). w) w (passing b w.serving) (granted t) (GoesOn (Await t)))).outcome ≡ Answered Granted None) ↔ (w.serving ≡ t)
 looked V s p t w c h true is = (λ e. eqb-true w.serving t is, λ e. refl)
 looked V s p t w c h false is = (λ e. absurd (cc (e)), λ e. absurd (true≢false (sym (eq-eqb w.serving t e) ∙ is)))
 

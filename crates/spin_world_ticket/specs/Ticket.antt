@@ -1,6 +1,7 @@
 -- The ticket lock's calls, step by step, and how they read on the plain lock.
-use Rattle.std.specs.Prelude.{ℕ, ◌+◌, Bool, true, not, ◌&&◌, Option, Some, None, [], ◌∷◌, ◌==◌, if◌then◌else◌, nat_lt}
+use Rattle.std.specs.Prelude.{ℕ, Bool, true, not, ◌&&◌, Option, Some, None, ◌==◌, nat_lt}
 use Rattle.spin_step.specs.Plain.{ticket_limit, to_take_ticket, to_enter, to_take_and_enter, gets, serves}
+use Rattle.spin_step.specs.Tickets.{take, served}
 use Rattle.spin_world_core.specs.declared.place.Hold.{Hold}
 use Rattle.spin_world_core.specs.declared.place.Hold.TheVariants as hold
 use Rattle.spin_world_core.specs.declared.object.Next.{Next}
@@ -14,49 +15,53 @@ use Rattle.spin_world_ticket.specs.declared.ticket.TicketPoint.{TicketPoint}
 use Rattle.spin_world_ticket.specs.declared.ticket.TicketPoint.TheVariants.{LoadNext, Take, Await, TryLoadNext, TryLoadServing, TryTake, LookServing, LookNext, Serve}
 use Rattle.spin_world_core.specs.Calls.{ticket, Asked, waits, tries, looks, gives_back, says_of}
 use Rattle.spin_world_core.specs.Machines.{Machine}
-use Rattle.spin_world_core.specs.Acts.{Act, load, load_if, load_for, enter, attempt, retry, store, Table, machine_of}
+use Rattle.spin_world_core.specs.Acts.{Memory, two_numbers, Act, load, load_if, load_for, enter, attempt, retry, store, Table, machine_of}
+use Rattle.spin_world_core.specs.Operations.{stores}
 
--- a release begins at the hold of a ticket that has entered, and every other call where nothing is held
-abbrev pub begins_at : TicketCall → Option Hold → Option TicketPoint
-begins_at Lock None = Some LoadNext
-begins_at TryLock None = Some TryLoadNext
-begins_at IsLocked None = Some LookServing
-begins_at Release (Some (hold.Ticket t)) = Some (Serve t)
-begins_at _ _ = None
+-- where calls begin; a release with the ticket that it holds
+abbrev pub starts_at : TicketCall → Option Hold → TicketPoint
+starts_at Lock h = LoadNext
+starts_at TryLock h = TryLoadNext
+starts_at IsLocked h = LookServing
+starts_at Release (Some (hold.Ticket t)) = Serve t
+starts_at Release _ = Serve 0
+
+-- its two words: the next ticket, and the one that is served
+abbrev pub ticket_memory : Memory TicketWords
+ticket_memory = two_numbers (λ w. w.next) (λ w. w.serving) (λ k w. record w { next = k }) (λ k w. record w { serving = k })
+
+abbrev pub word_of : TicketPoint → ℕ
+word_of (Await t) = 1
+word_of (TryLoadServing n) = 1
+word_of LookServing = 1
+word_of (Serve t) = 1
+word_of _ = 0
 
 -- some tickets are left where this one is next
 abbrev pub is_left : ℕ → Bool
 is_left n = nat_lt n ticket_limit
 
--- the next ticket is taken
-abbrev pub take : TicketWords → Option TicketWords
-take w = if is_left w.next then Some (record w { next = w.next + 1 }) else None
-
--- the next ticket is taken where it is this one
-abbrev pub take_at : ℕ → TicketWords → Option TicketWords
-take_at n w = if w.next == n then take w else None
-
 -- the number that is served is this one, and its ticket is left
-abbrev pub is_free : ℕ → TicketWords → Bool
-is_free n w = (w.serving == n) && is_left n
+abbrev pub is_free : ℕ → ℕ → Bool
+is_free n serving = (serving == n) && is_left n
 
 abbrev pub granted : {V : Type 0} → ℕ → Next TicketPoint (Answer V)
 granted t = Answers Granted (Some (hold.Ticket t))
 
 -- `lock` goes for the number that it found next
-abbrev pub goes_for : {V : Type 0} → TicketWords → Next TicketPoint (Answer V)
-goes_for w = GoesOn (Take w.next)
+abbrev pub goes_for : {V : Type 0} → ℕ → Next TicketPoint (Answer V)
+goes_for n = GoesOn (Take n)
 
 abbrev pub act_of : {V : Type 0} → TicketPoint → Option Hold → Act TicketWords TicketPoint (Answer V)
 act_of LoadNext h = load_for take (λ p. gets p to_take_ticket) goes_for (GoesOn LoadNext)
 act_of (Take n) h = retry n take (λ p. gets p to_take_ticket) (GoesOn (Await n)) goes_for (GoesOn LoadNext)
-act_of (Await t) h = enter (λ w. w.serving == t) (λ p. gets p to_enter) (granted t) (GoesOn (Await t))
-act_of TryLoadNext h = load (λ w. GoesOn (TryLoadServing w.next))
-act_of (TryLoadServing n) h = load_if (is_free n) (λ w. GoesOn (TryTake n)) (λ w. Answers Refused h)
-act_of (TryTake n) h = attempt (take_at n) (λ p. gets p to_take_and_enter) (granted n) (Answers Refused h)
-act_of LookServing h = load (λ w. GoesOn (LookNext w.serving))
-act_of (LookNext k) h = load (λ w. Answers (Is (not (w.next == k))) h)
-act_of (Serve t) h = store (λ w. is_left t) (λ w. record w { serving = t + 1 }) (λ p. serves p) (Answers Done None)
+act_of (Await t) h = enter (λ k. k == t) (λ p. gets p to_enter) (granted t) (GoesOn (Await t))
+act_of TryLoadNext h = load (λ n. GoesOn (TryLoadServing n))
+act_of (TryLoadServing n) h = load_if (is_free n) (λ k. GoesOn (TryTake n)) (λ k. Answers Refused h)
+act_of (TryTake n) h = attempt n take (λ p. gets p to_take_and_enter) (granted n) (Answers Refused h)
+act_of LookServing h = load (λ k. GoesOn (LookNext k))
+act_of (LookNext k) h = load (λ n. Answers (Is (not (n == k))) h)
+act_of (Serve t) h = store (λ k. is_left t) (stores (served t)) (λ p. serves p) (Answers Done None)
 
 abbrev pub asks_of : TicketCall → Option Hold → Asked
 asks_of Lock h = waits to_enter
@@ -74,9 +79,9 @@ ticket_table v first =
       cap = 0;
       group = 0;
       first = first;
-      number = λ w. w.next;
-      others = λ w. w.serving ∷ [];
-      begin = begins_at;
+      memory = ticket_memory;
+      start = starts_at;
+      word = word_of;
       act = λ c l h. act_of l h;
       asks = asks_of;
       says = says_of;

@@ -2,8 +2,9 @@ ghost use Rattle.std.specs.Prelude.{◌≡◌, ◌==◌, ◌&&◌, true};
 ghost use Rattle.spin_world_core.specs.declared.object.Next.TheVariants.{GoesOn, Answers};
 ghost use Rattle.spin_world_core.specs.declared.answer.Answer.TheVariants.{Refused};
 ghost use Rattle.spin_world_ticket.specs.declared.ticket.TicketPoint.TheVariants.{LoadNext, Take, Await, TryTake};
-ghost use Rattle.spin_world_core.specs.Acts.{either, stays, becomes, step_by, can_by};
-ghost use Rattle.spin_world_ticket.specs.Ticket.{is_left, take_at, granted, act_of, ticket_machine};
+ghost use Rattle.spin_world_core.specs.Acts.{guessed, either, stays, becomes, step_by, can_by};
+ghost use Rattle.spin_step.specs.Tickets.{take};
+ghost use Rattle.spin_world_ticket.specs.Ticket.{is_left, ticket_memory, word_of, granted, act_of, ticket_machine};
 
 use spin_step::ticket;
 use spin_world_core::{Answer, Hold, Next, Object, Stepped};
@@ -69,17 +70,6 @@ impl<V> Ticket<V> {
     }
 }
 
-/// The words after the ticket of the expected number is taken. `None`: it isn't next, or tickets are used up.
-fn take(words: TicketWords, expected: u64) -> Option<TicketWords>
-    ensures { result ≡ take_at expected words }
-{
-    if words.next != expected {
-        return None;
-    }
-    let next = ticket::take(expected)?;
-    Some(TicketWords { next, ..words })
-}
-
 /// A step that leaves the words as they are.
 fn stay<V: Copy>(
     words: TicketWords,
@@ -101,10 +91,13 @@ fn exchange<V: Copy>(
     won: Next<TicketPoint, Answer<V>>,
     lost: Next<TicketPoint, Answer<V>>,
 ) -> Stepped<TicketWords, V, TicketPoint, Answer<V>>
-    ensures { result ≡ becomes words (take_at expected words) won lost }
+    ensures { result ≡ becomes (λ next. record words { next = next }) words (guessed expected take words.next) won lost }
 {
-    match take(words, expected) {
-        Some(words) => stay(words, won),
+    if words.next != expected {
+        return stay(words, lost);
+    }
+    match ticket::take(expected) {
+        Some(next) => stay(TicketWords { next, ..words }, won),
         None => stay(words, lost),
     }
 }
@@ -202,8 +195,8 @@ impl<V: Copy> Object for Ticket<V> {
         local: TicketPoint,
         holds: Option<Hold>,
     ) -> Stepped<TicketWords, V, TicketPoint, Answer<V>>
-        requires { can_by (act_of {V = V} local holds) words ≡ true }
-        ensures { result ≡ step_by (λ w. w.next) (act_of local holds) words }
+        requires { can_by ticket_memory (word_of local) (act_of {V = V} local holds) words ≡ true }
+        ensures { result ≡ step_by ticket_memory (word_of local) (act_of local holds) words }
     {
         let _ = (value, call);
         match local {
