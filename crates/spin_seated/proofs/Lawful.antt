@@ -2,13 +2,14 @@
 use Rattle.std.proofs.Common.{◌≡◌, ℕ, zero, suc, ◌≤◌, true, false, List, [], ◌∷◌, ◌++◌, map, length, Some, slice_get, refl, ap, ◌∙◌, arith}
 use Rattle.spin_step.specs.Plain.{Holder, is_empty}
 use Rattle.spin_seated.specs.declared.history.Entry.{Entry}
-use Rattle.spin_seated.specs.declared.mutex.Opening.{Opening}
+use Rattle.spin_seated.specs.declared.lock.Opening.{Opening}
 use Rattle.spin_seated.specs.declared.mutex.Call.{Call}
 use Rattle.spin_seated.specs.declared.mutex.Call.TheVariants.{TryLock, IsLocked, Read, Write, Unlock}
-use Rattle.spin_seated.specs.declared.mutex.Answer.{Answer}
-use Rattle.spin_seated.specs.declared.mutex.Answer.TheVariants.{Truth, Value}
+use Rattle.spin_seated.specs.declared.lock.Answer.{Answer}
+use Rattle.spin_seated.specs.declared.lock.Answer.TheVariants.{Truth, Value}
 use Rattle.spin_seated.specs.Histories.{BeginsWith, entry, calls_by, after, state, IsLegal, Met}
-use Rattle.spin_seated.specs.Mutex.{Locked, after_call, mutex, Knows}
+use Rattle.spin_seated.specs.Locked.{Locked}
+use Rattle.spin_seated.specs.Mutex.{after_call, mutex, Knows}
 use Rattle.spin_seated.specs.Lawful.{History, holders, written, last_written}
 use Rattle.spin_seated.proofs.Histories.{after-append, legal-split, calls_by-append}
 use Rattle.spin_seated.proofs.Holders.{Alone, alone_state, held_by, truth_is, value_tried}

@@ -1,5 +1,6 @@
 pub mod Histories
 pub mod Lawful
+pub mod Locked
 pub mod Mutex
 pub mod Passes
 pub mod Turns

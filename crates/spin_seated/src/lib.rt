@@ -4,4 +4,5 @@
 pub mod adding;
 pub mod history;
 pub mod laws;
+pub mod lock;
 pub mod mutex;

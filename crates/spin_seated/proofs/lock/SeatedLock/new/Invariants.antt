@@ -2,7 +2,7 @@ use Rattle.std.proofs.Common.{◌≡◌, ◌-◌, [], map}
 use Rattle.std.specs.List.{range_with_len}
 use Rattle.spin_seated.specs.Histories.{newcomer}
 use Rattle.spin_seated.specs.Passes.{new_pass}
-use Rattle.spin_seated.proofs.mutex.SeatedMutex.new.Given as goal
+use Rattle.spin_seated.proofs.lock.SeatedLock.new.Given as goal
 
 -- the passes below the counter are handed out, and the seat stands for the others
 abbrev pub invariant-loop : goal.invariant-loop
