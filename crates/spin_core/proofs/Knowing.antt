@@ -5,7 +5,8 @@ use mathlib.Core.Logic.{dite}
 use native.Mathlib.Decide.{dec_lt}
 use Rattle.spin_step.specs.Plain.{Plain, writing, Holder, same_kind, count_kind}
 use Rattle.spin_step.specs.Starvers.{OneHolds}
-use Rattle.spin_core.specs.Views.{Part, entries_of, IsInOrder, part_at, IsLockOf}
+use Rattle.spin_core.specs.Views.{Part, entries_of, part_at, IsLockOf}
+use Rattle.spin_step.specs.Orders.{IsInOrder}
 
 -- all of these write
 abbrev pub AllWrite : List Holder → Type 0

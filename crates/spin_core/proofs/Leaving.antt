@@ -5,11 +5,13 @@ use Rattle.std.proofs.lemmas.List.{length-map}
 use Rattle.std.proofs.lemmas.List.Sums.{sum_by-cons}
 use mathlib.Core.Logic.{dite}
 use native.Mathlib.Decide.{ℕ_discrete}
-use Rattle.spin_step.specs.Plain.{Plain, Kind, reading, upgradable, writing, Holder, holder, Ticket, ticket, same_kind, count_kind, flag_word, rw_word, fair_word, next_word, serving_word}
+use Rattle.spin_step.specs.Plain.{Plain, Kind, writing, Holder, holder, Ticket, ticket, may_upgrade, weight, flag_word, rw_word, fair_word, next_word, serving_word}
 use Rattle.spin_step.specs.Parties.{Entries, entries, no_entries, none_entered, first_alone_entered}
 use Rattle.spin_step.specs.Tickets.{numbered_from}
+use Rattle.spin_step.proofs.Sums.{sum_kinds, one_of}
 use Rattle.spin_core.specs.Cell.{Use, off, Rests}
-use Rattle.spin_core.specs.Views.{Part, idle, holds, queues, saw_served, starves, holds_starving, entries_of, Knows, HasPart, IsInOrder, part_at, Encodes, no_word}
+use Rattle.spin_core.specs.Views.{Part, idle, holds, queues, saw_served, starves, holds_starving, entries_of, Knows, HasPart, part_at, Encodes, no_word}
+use Rattle.spin_step.specs.Orders.{IsInOrder}
 
 -- who is behind the place k moves up; and the place where it was
 abbrev up : ℕ → ℕ → ℕ
@@ -89,9 +91,9 @@ part-up k p holds_starving = refl
 
 -- Nothing but the names changes
 
-pub count-up : (k : ℕ) (j : Kind) (hs : List Holder) → count_kind j (map (holder_up k) hs) ≡ count_kind j hs
-count-up k j [] = refl
-count-up k j (h ∷ hs) = omega (arith, count-up k j hs, sum_by-cons (λ (g : Holder). cond (same_kind j g.kind) 1 0) h hs, sum_by-cons (λ (g : Holder). cond (same_kind j g.kind) 1 0) (holder_up k h) (map (holder_up k) hs))
+pub sum-up : (k : ℕ) (f : Kind → ℕ) (hs : List Holder) → sum_kinds f (map (holder_up k) hs) ≡ sum_kinds f hs
+sum-up k f [] = refl
+sum-up k f (h ∷ hs) = omega (arith, sum-up k f hs, sum_by-cons (λ (g : Holder). f g.kind) h hs, sum_by-cons (λ (g : Holder). f g.kind) (holder_up k h) (map (holder_up k) hs))
 
 none_entered-up : (k : ℕ) (ts : List Ticket) → none_entered (map (ticket_up k) ts) ≡ none_entered ts
 none_entered-up k [] = refl
@@ -116,7 +118,7 @@ pub fair_word-up : NamesNobody fair_word
 fair_word-up k s = omega (arith, length-map s.holders (holder_up k), length-map s.starvers (up k))
 
 pub rw_word-up : NamesNobody rw_word
-rw_word-up k s = omega (arith, count-up k reading s.holders, count-up k upgradable s.holders, count-up k writing s.holders)
+rw_word-up k s = sum-up k weight s.holders
 
 pub next_word-up : NamesNobody next_word
 next_word-up k s = refl
@@ -130,8 +132,8 @@ no_word-up k s = refl
 in_order-up : (k : ℕ) (s : Plain) → IsInOrder s → IsInOrder (moved_up k s)
 in_order-up k s order = record {
   exclusive = record {
-    writer = λ some. length-map s.holders (holder_up k) ∙ order.exclusive.writer (omega (arith, count-up k writing s.holders, some));
-    one_upgradable = omega (arith, count-up k upgradable s.holders, order.exclusive.one_upgradable);
+    writer = λ some. length-map s.holders (holder_up k) ∙ order.exclusive.writer (omega (arith, sum-up k (one_of writing) s.holders, some));
+    one_upgradable = omega (arith, sum-up k (λ j. cond (may_upgrade j) 1 0) s.holders, order.exclusive.one_upgradable);
     one_entered = first_alone-up k s.tickets ∙ order.exclusive.one_entered;
   };
   numbered = (

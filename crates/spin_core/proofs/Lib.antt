@@ -1,4 +1,3 @@
-pub mod InOrder
 pub mod Leaving
 pub mod Owners
 pub mod Plays

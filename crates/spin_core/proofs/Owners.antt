@@ -9,7 +9,8 @@ use Rattle.spin_step.specs.Plain.{Plain, writing as writer, Holder, Ticket, same
 use Rattle.spin_step.specs.Parties.{none_entered, first_alone_entered, IsExclusive}
 use Rattle.spin_step.specs.Steps.{bit}
 use Rattle.spin_core.specs.Cell.{alone, lends, most_readers, reading, writing, Limits, readers_of, writers_of}
-use Rattle.spin_core.specs.Views.{Part, entries_of, used_by, IsInOrder, part_at, IsLockOf}
+use Rattle.spin_core.specs.Views.{Part, entries_of, used_by, part_at, IsLockOf}
+use Rattle.spin_step.specs.Orders.{IsInOrder}
 use Rattle.spin_core.proofs.CellCounts.{none}
 
 module _ {X : Type 0} (owner : X → ℕ) (weight : X → ℕ) where

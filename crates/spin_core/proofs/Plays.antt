@@ -8,10 +8,11 @@ use Rattle.spin_step.specs.Plain.{Plain, Change, Ask, gets, apply, is_open, fres
 use Rattle.spin_step.specs.Steps.{Decides}
 use Rattle.spin_step.specs.Parties.{who, apply_some, IsOpenStep, entries_after, no_entries}
 use Rattle.spin_core.specs.Cell.{Use, Way, Ways, Limits, Going, Meets, Allows, AllowsSecond, Moved, Rests, Stands, after, readers_of, writers_of, use_of, off, words}
-use Rattle.spin_core.specs.Views.{Part, idle as nothing, entries_of, Knows, HasPart, IsInOrder, IsLockOf, Encodes}
+use Rattle.spin_core.specs.Views.{Part, idle as nothing, entries_of, Knows, HasPart, IsLockOf, Encodes}
+use Rattle.spin_step.specs.Orders.{IsInOrder}
 use Rattle.spin_core.specs.Plays.{becomes, exchanges}
 use Rattle.spin_core.proofs.Leaving.{NamesNobody, leaves}
-use Rattle.spin_core.proofs.InOrder.{in_order-kept, in_order-fresh, cap-kept}
+use Rattle.spin_step.proofs.InOrder.{in_order-kept, in_order-fresh, cap-kept}
 use Rattle.spin_core.proofs.Views.{number, part_before, own_part, lock_after}
 use Rattle.spin_core.proofs.CellViews.{came_to}
 

@@ -8,7 +8,8 @@ use Rattle.std.specs.Prelude.{slice_get}
 use Rattle.spin_step.specs.Plain.{Plain, Kind, writing, Change, releases, stops_starving, turns}
 use Rattle.spin_step.specs.Parties.{entries_after, apply_some, IsOpenStep}
 use Rattle.spin_core.specs.Cell.{Stands, after}
-use Rattle.spin_core.specs.Views.{Part, idle, holds, queues, saw_served, starves, holds_starving, entries_of, Knows, HasPart, IsInOrder, part_at, IsLockOf}
+use Rattle.spin_core.specs.Views.{Part, idle, holds, queues, saw_served, starves, holds_starving, entries_of, Knows, HasPart, part_at, IsLockOf}
+use Rattle.spin_step.specs.Orders.{IsInOrder}
 use Rattle.spin_step.proofs.Entries.{entries-own, entries-other}
 use Rattle.spin_step.proofs.Holders.{same_kind-self}
 use Rattle.spin_step.proofs.Tickets.{serving-moves}

@@ -1,8 +1,8 @@
 -- The plain lock of a cell's parties: what each of them is to it, as its view says.
 use Rattle.std.specs.Prelude.{◌≡◌, ℕ, zero, suc, ◌≤◌, Bool, true, List, [], ◌∷◌, length, max}
 use Rattle.spin_step.specs.Plain.{Plain, Kind, reading, upgradable, writing, holder, ticket, ticket_limit, serving_word}
-use Rattle.spin_step.specs.Parties.{Entries, entries, no_entries, IsExclusive}
-use Rattle.spin_step.specs.Tickets.{Numbered}
+use Rattle.spin_step.specs.Parties.{Entries, entries, no_entries}
+use Rattle.spin_step.specs.Orders.{IsInOrder}
 use Rattle.spin_core.specs.Cell.{Use, off, reads, writes}
 
 -- what one party is to the lock
@@ -40,14 +40,6 @@ use_of_part _ = off
 -- the party with this number is this to the lock
 abbrev pub HasPart : Plain → ℕ → Part → Type 0
 HasPart s p x = (entries p s ≡ entries_of p x) × Knows s x
-
--- what open steps keep of every lock
-pub record IsInOrder (s : Plain) : Type 0 where
-  pub exclusive : IsExclusive s
-  pub numbered : Numbered s
-  pub within_limit : s.next ≤ ticket_limit
-  pub holders_fit : length s.holders ≤ max 1 s.cap
-  pub starvers_fit : length s.starvers ≤ s.cap
 
 module _ {V : Type 0} (part : V → Part) where
   -- a party's number is the place of its view; there is nobody beyond

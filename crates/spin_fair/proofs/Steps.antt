@@ -1,5 +1,5 @@
 -- The steps of a fair mutex keep its rule: each is the plain step that its step function makes.
-use Rattle.std.proofs.Common.{◌≡◌, ℕ, ◌+◌, ◌-◌, ◌*◌, ◌%◌, ◌^◌, ◌<◌, ◌≤◌, true, if◌then◌else◌, List, [], ◌∷◌, ◌/◌, ◌==◌, Option, Some, None, refl, sym, ap, ◌∙◌, arith, subst, eq-eqb, ne_eqb, bit_or, length-append}
+use Rattle.std.proofs.Common.{◌≡◌, ℕ, ◌+◌, ◌-◌, ◌*◌, ◌%◌, ◌^◌, ◌<◌, ◌≤◌, true, if◌then◌else◌, List, [], ◌∷◌, ◌/◌, ◌==◌, Option, Some, None, refl, sym, ap, ◌∙◌, arith, subst, eq-eqb, ne_eqb, bit_or, length-append, inl, inr, unwrap_or}
 use Rattle.std.proofs.lemmas.List.Sums.{sum_by-le-sum_by}
 use Rattle.std.proofs.lemmas.Nat.{or_shifted, or_block}
 use Rattle.std.proofs.lemmas.Bool.{and_parts}
@@ -11,9 +11,10 @@ use prog.Atomic.{either}
 use Rattle.spin_step.specs.Plain.{Plain, Ask, apply, is_empty, writing, holder, is_starver, gets, releases, stops_starving, to_lock_unregistered, to_lock_starving, to_lock_starving_alone, to_starve, fair_word}
 use Rattle.spin_step.specs.Parties.{entries, entries_after}
 use Rattle.spin_step.specs.Steps.{Decides}
-use Rattle.spin_step.specs.Starvers.{most_starvers, OneHolds}
+use Rattle.spin_step.specs.Starvers.{most_starvers, OneHolds, lock_starved}
 use Rattle.spin_core.specs.Cell.{writes, alone, reading, writing as writer, readers_of, writers_of, Limits, Meets, Allows, Rests, Moved, words}
-use Rattle.spin_core.specs.Views.{Knows, HasPart, holds, entries_of, IsInOrder, IsLockOf, used_by, no_word}
+use Rattle.spin_core.specs.Views.{Knows, HasPart, holds, entries_of, IsLockOf, used_by, no_word}
+use Rattle.spin_step.specs.Orders.{IsInOrder}
 use Rattle.spin_core.specs.Plays.{becomes, becomes_by, exchanges}
 use Rattle.spin_core.proofs.CellCounts.{none}
 use Rattle.spin_step.proofs.Holders.{is_holder-from_entries, is_empty-none, length-without_holder}
@@ -26,7 +27,7 @@ use Rattle.spin_step.proofs.Starvers.{is_starver-from_entries, length-without_st
 use Rattle.spin_core.proofs.Views.{part_before, release-own, stop-own, stop_holding-own}
 use Rattle.spin_fair.specs.declared.fair.rule.View.{View}
 use Rattle.spin_fair.specs.declared.fair.rule.View.TheVariants.{Idle, Starving, Holding, HoldingStarving, Served}
-use Rattle.spin_fair.specs.Fair.{part, use_of_view, newcomer, IsFair, won_if_clear, Stops, Stays}
+use Rattle.spin_fair.specs.Fair.{part, use_of_view, newcomer, IsFair, won_if_clear, Stops, Stays, HoldsAt, StarvesAt}
 use Rattle.spin_fair.proofs.First.{Fits, first_after, first_without, nobody_starves}
 
 -- it is one holder or none, who holds writes, nobody reads, and who uses the value holds
@@ -192,3 +193,31 @@ left_rests view moved = also view (plays.left_rests fair view moved)
 
 pub missed_rests : (won v : View) (found expected : ℕ) → found ≢ expected → v ≡ (if found == expected then won else Idle) → Rests IsFair use_of_view (Some v)
 missed_rests won v found expected other is = also (Some v) (plays.missed_rests fair won v found expected other is)
+
+-- An addition does not see the word
+
+within : (s : Plain) → s.cap ≡ most_starvers → IsInOrder s → OneHolds s → fair_word s < words
+within s room order one = omega (arith, room, order.starvers_fit, one)
+
+one_holds_in : (word : ℕ) (second : Unit {0}) (vs : List View) (rule : IsFair word second vs) → OneHolds rule.0.0
+one_holds_in word second vs rule = one_holds part (λ v. (facts v).1) vs rule.0.0 rule.0.2 rule.0.3
+
+pub unlocks_as_step : (word : ℕ) (second : Unit {0}) (vs : List View) (p : ℕ) → IsFair word second vs → HoldsAt vs p → ((word % 2 == 1) ≡ true) × ((word + (2 ^ 64 - 1)) % 2 ^ 64 ≡ word - 1)
+unlocks_as_step word second vs p rule at =
+    let s = rule.0.0 in let one = one_holds_in word second vs rule in
+    let found = is_holder-from_entries p writing s.holders (ap (λ e. e.holders) ((rule.0.3 p).0 ∙ ap (entries_of p) at)) in let fewer = length-without_holder p writing s.holders found in
+    (eq-eqb (word % 2) 1 (omega (arith, rule.0.4, one, fewer)), omega (arith, rule.0.4, within s rule.0.1 rule.0.2 one, fewer))
+
+starver_goes : (word : ℕ) (second : Unit {0}) (vs : List View) (p : ℕ) (rule : IsFair word second vs) → (entries p rule.0.0).starvers ≡ p ∷ [] → (2 ≤ word) × ((word + (2 ^ 64 - 2)) % 2 ^ 64 ≡ word - 2)
+starver_goes word second vs p rule mine =
+    let s = rule.0.0 in let one = one_holds_in word second vs rule in let fewer = length-without_starver p s.starvers (is_starver-from_entries p s.starvers mine) in
+    (omega (arith, rule.0.4, fewer), omega (arith, rule.0.4, within s rule.0.1 rule.0.2 one, fewer))
+
+pub stops_as_step : (word : ℕ) (second : Unit {0}) (vs : List View) (p : ℕ) → IsFair word second vs → StarvesAt vs p → (2 ≤ word) × ((word + (2 ^ 64 - 2)) % 2 ^ 64 ≡ word - 2)
+stops_as_step word second vs p rule (inl at) = starver_goes word second vs p rule (ap (λ e. e.starvers) ((rule.0.3 p).0 ∙ ap (entries_of p) at))
+stops_as_step word second vs p rule (inr at) = starver_goes word second vs p rule (ap (λ e. e.starvers) ((rule.0.3 p).0 ∙ ap (entries_of p) at))
+
+pub sets_as_step : (word : ℕ) → bit_or word 1 ≡ unwrap_or (lock_starved word) word
+sets_as_step word = dite (ℕ_discrete (word % 2) 0)
+    (λ even. set_clear word even ∙ sym (ap (λ b. unwrap_or (if b then Some (word + 1) else None) word) (eq-eqb (word % 2) 0 even)))
+    (λ odd. set_set word odd ∙ sym (ap (λ b. unwrap_or (if b then Some (word + 1) else None) word) (ne_eqb (word % 2) 0 odd)))

@@ -1,9 +1,9 @@
 -- The rule of a fair mutex: its word is that of a plain lock whose holders and starvers are its parties, and starvers come first.
-use Rattle.std.specs.Prelude.{◌≡◌, ℕ, ◌<◌, List, [], ◌∷◌, Option, Some, None, if◌then◌else◌, ◌%◌, ◌==◌, sum_by}
+use Rattle.std.specs.Prelude.{◌≡◌, ◌⊎◌, ℕ, ◌<◌, List, [], ◌∷◌, Option, Some, None, if◌then◌else◌, ◌%◌, ◌==◌, sum_by}
 use Rattle.spin_step.specs.Plain.{writing, fair_word}
 use Rattle.spin_step.specs.Starvers.{most_starvers}
 use Rattle.spin_core.specs.Cell.{Use, off, writes}
-use Rattle.spin_core.specs.Views.{Part, idle, holds, starves, holds_starving, Encodes, no_word}
+use Rattle.spin_core.specs.Views.{Part, idle, holds, starves, holds_starving, part_at, Encodes, no_word}
 use Rattle.spin_fair.specs.declared.fair.rule.View.{View}
 use Rattle.spin_fair.specs.declared.fair.rule.View.TheVariants.{Idle, Starving, Holding, HoldingStarving, Served}
 
@@ -55,3 +55,11 @@ Stops old new (Some v) found after = after ≡ stopped v
 abbrev pub Stays : ℕ → ℕ → Option View → ℕ → View → Type 0
 Stays old new None found after = after ≡ Idle
 Stays old new (Some v) found after = after ≡ v
+
+-- the party with this number holds the lock, and starves no more
+abbrev pub HoldsAt : List View → ℕ → Type 0
+HoldsAt vs p = part_at part vs p ≡ holds writing
+
+-- the party with this number is registered as a starver
+abbrev pub StarvesAt : List View → ℕ → Type 0
+StarvesAt vs p = (part_at part vs p ≡ starves) ⊎ (part_at part vs p ≡ holds_starving)

@@ -1,26 +1,19 @@
--- What the rule of a read-write lock says of its parties, and what its plain lock lets them do beside an upgradable reader.
-use Rattle.std.proofs.Common.{◌≡◌, ℕ, ◌+◌, ◌*◌, Bool, true, false, cond, List, [], ◌∷◌, Some, refl, ap, ◌∙◌, arith}
+-- What the rule of a read-write lock says of its parties.
+use Rattle.std.proofs.Common.{◌≡◌, ℕ, ◌+◌, ◌-◌, ◌*◌, ◌%◌, ◌^◌, ◌≤◌, ◌<◌, Bool, true, false, cond, List, [], ◌∷◌, Some, length, refl, ap, ◌∙◌, arith}
 use Rattle.std.specs.Prelude.{count_by}
-use Rattle.std.proofs.lemmas.List.Sums.{sum_by-cons}
-use Rattle.std.proofs.lemmas.Bool.{and_parts}
-use Rattle.spin_step.specs.Plain.{Plain, Kind, reading, upgradable, writing, Change, turns, to_write, to_upgrade, apply, is_open, is_open_to, is_holder, is_downgrade, same_kind, count_kind, with_kind}
-use Rattle.spin_step.specs.Parties.{who, IsExclusive}
-use Rattle.spin_step.proofs.Exclusive.{length-with_kind, exclusive-kept}
-use Rattle.spin_step.proofs.Holders.{length-without_holder, is_empty-some}
-use Rattle.spin_step.proofs.Readers.{kinds-all}
-use Rattle.spin_step.specs.Steps.{bit}
-use Rattle.spin_step.specs.Readers.{reader_goes}
-use Rattle.spin_step.proofs.Upgrading.{readers_only_go, alone_when_gone}
+use Rattle.spin_step.specs.Plain.{Plain, Kind, reading, upgradable, writing, weight, may_turn, may_upgrade, is_holder, same_kind, count_kind, with_kind, rw_word}
+use Rattle.spin_step.specs.Readers.{reader_limit, tells, released, turned}
+use Rattle.spin_step.proofs.Holders.{is_holder-from_entries}
+use Rattle.spin_step.proofs.Readers.{tells-holder}
+use Rattle.spin_step.proofs.Sums.{by_kinds, all_kinds, sum-less, sum-turned, length-with_kind}
 use Rattle.spin_core.specs.Views.{entries_of}
 use Rattle.spin_core.proofs.Owners.{exactly}
 use Rattle.spin_core.proofs.Views.{part-beyond}
 use Rattle.spin_rwlock.specs.declared.rwlock.rule.View.{View}
 use Rattle.spin_rwlock.specs.declared.rwlock.rule.View.TheVariants.{Idle, Reading, Upgradable, Writing}
 use Rattle.spin_rwlock.specs.Rw.{part, IsRw}
-use Rattle.spin_rwlock.specs.Standing.{is_reading, is_upgradable, is_writing, readers, upgradables, writers, holders, ReadersOrWriter, StaysUpgradable, apply_all, reader_releases}
-use Rattle.spin_rwlock.proofs.Steps.{fits_cap}
-
--- Over the parties
+use Rattle.spin_rwlock.specs.Standing.{is_reading, is_upgradable, is_writing, readers, upgradables, writers, holders, ReadersOrWriter, HoldsAt}
+use Rattle.spin_rwlock.proofs.Steps.{fits_cap, bounded}
 
 abbrev one_if : Bool → ℕ
 one_if b = cond b 1 0
@@ -37,11 +30,11 @@ reads p Reading = refl
 reads p Upgradable = refl
 reads p Writing = refl
 
-may_upgrade : (p : ℕ) (v : View) → one_if (is_upgradable v) ≡ count_kind upgradable (entries_of p (part v)).holders
-may_upgrade p Idle = refl
-may_upgrade p Reading = refl
-may_upgrade p Upgradable = refl
-may_upgrade p Writing = refl
+is_upgrader : (p : ℕ) (v : View) → one_if (is_upgradable v) ≡ count_kind upgradable (entries_of p (part v)).holders
+is_upgrader p Idle = refl
+is_upgrader p Reading = refl
+is_upgrader p Upgradable = refl
+is_upgrader p Writing = refl
 
 writes : (p : ℕ) (v : View) → one_if (is_writing v) ≡ count_kind writing (entries_of p (part v)).holders
 writes p Idle = refl
@@ -49,48 +42,45 @@ writes p Reading = refl
 writes p Upgradable = refl
 writes p Writing = refl
 
-pub counts_parties : (word : ℕ) (vs : List View) → IsRw word tt vs → word ≡ (4 * readers vs + 2 * upgradables vs) + writers vs
-counts_parties word vs rule = omega (arith, rule.4, as_many reading is_reading reads word vs rule, as_many upgradable is_upgradable may_upgrade word vs rule, as_many writing is_writing writes word vs rule)
+pub counts_parties : (word : ℕ) (vs : List View) → IsRw word tt vs → word ≡ (weight reading * readers vs + weight upgradable * upgradables vs) + weight writing * writers vs
+counts_parties word vs rule = omega (arith, rule.4, by_kinds weight rule.0.holders, as_many reading is_reading reads word vs rule, as_many upgradable is_upgradable is_upgrader word vs rule, as_many writing is_writing writes word vs rule)
 
 pub readers_or_one_writer : (word : ℕ) (vs : List View) → IsRw word tt vs → ReadersOrWriter vs
 readers_or_one_writer word vs rule = let s = rule.0 in
-    let r = as_many reading is_reading reads word vs rule in let u = as_many upgradable is_upgradable may_upgrade word vs rule in let w = as_many writing is_writing writes word vs rule in
+    let r = as_many reading is_reading reads word vs rule in let u = as_many upgradable is_upgradable is_upgrader word vs rule in let w = as_many writing is_writing writes word vs rule in
     record {
-      one_upgradable = omega (arith, u, rule.2.exclusive.one_upgradable);
-      writer_alone = λ some. omega (arith, r, u, w, kinds-all s.holders, rule.2.exclusive.writer (omega (arith, w, some)));
-      within_limit = omega (arith, r, u, w, kinds-all s.holders, fits_cap s rule.1 rule.2);
+      one_upgradable = omega (arith, u, by_kinds (λ k. cond (may_upgrade k) 1 0) s.holders, rule.2.exclusive.one_upgradable);
+      writer_alone = λ some. omega (arith, r, u, w, all_kinds s.holders, rule.2.exclusive.writer (omega (arith, w, some)));
+      within_limit = omega (arith, r, u, w, all_kinds s.holders, fits_cap s rule.1 rule.2);
     }
 
 pub zero_when_free : (word : ℕ) (vs : List View) → IsRw word tt vs → (word ≡ 0 → holders vs ≡ 0) × (holders vs ≡ 0 → word ≡ 0)
 zero_when_free word vs rule = let e = counts_parties word vs rule in ((λ z. omega (arith, e, z)), (λ z. omega (arith, e, z)))
 
--- Over the plain lock
+-- An addition does not see the word
 
-pub downgrade_keeps_out : (s : Plain) (p q : ℕ) (k l : Kind) → is_open s (turns p k l) ≡ true → (is_open_to s q to_write ≡ false) × (is_open_to (apply s (turns p k l)) q to_write ≡ false)
-downgrade_keeps_out s p q k l may =
-    let some = length-without_holder p k s.holders (and_parts (is_holder p k s.holders) (is_downgrade k l) may).0 in
-    (is_empty-some s.holders (omega (arith, some)), is_empty-some (with_kind p k l s.holders) (omega (arith, some, length-with_kind p k l s.holders)))
+stands : (vs : List View) (p : ℕ) (k : Kind) (word : ℕ) (rule : IsRw word tt vs) → HoldsAt vs p k → is_holder p k rule.0.holders ≡ true
+stands vs p k word rule at = is_holder-from_entries p k rule.0.holders (ap (λ e. e.holders) (rule.3 p).0 ∙ ap (λ x. (entries_of p x).holders) at)
 
-one_bit : (b : Bool) → one_if b ≡ bit b
-one_bit true = refl
-one_bit false = refl
+told : (vs : List View) (p : ℕ) (k : Kind) (word : ℕ) (rule : IsRw word tt vs) → HoldsAt vs p k → tells k word ≡ true
+told vs p k word rule at =
+    let s = rule.0 in
+    ap (tells k) rule.4 ∙ tells-holder s p k rule.2.exclusive (fits_cap s rule.1 rule.2) (stands vs p k word rule at)
 
-stands_at : (p : ℕ) (s : Plain) (cs : List Change) → StaysUpgradable p s cs → is_holder p upgradable s.holders ≡ true
-stands_at p s [] stays = stays
-stands_at p s (c ∷ cs) stays = stays.0
+pub goes_as_step : (word : ℕ) (vs : List View) (p : ℕ) (k : Kind) → IsRw word tt vs → HoldsAt vs p k → (tells k word ≡ true) × ((word + (2 ^ 64 - weight k)) % 2 ^ 64 ≡ released k word)
+goes_as_step word vs p k rule at =
+    let s = rule.0 in
+    (told vs p k word rule at, omega (arith, rule.4, bounded s.holders (fits_cap s rule.1 rule.2), sum-less weight p k s.holders (stands vs p k word rule at)))
 
-pub readers_go : (s : Plain) (p : ℕ) (cs : List Change) → IsExclusive s → StaysUpgradable p s cs → count_kind reading (apply_all s cs).holders + reader_releases cs ≡ count_kind reading s.holders
-readers_go s p [] x stays = omega arith
-readers_go s p (c ∷ cs) x stays =
-    omega (arith, readers_go (apply s c) p cs (exclusive-kept s (who c) (Some c) x (refl, stays.1)) stays.2, readers_only_go s p c x stays.0 stays.1 (stands_at p (apply s c) cs stays.2), one_bit (reader_goes c), sum_by-cons (λ d. one_if (reader_goes d)) c cs)
+heavier : (j k : Kind) → may_turn j k ≡ true → weight j ≤ weight k
+heavier writing reading may = omega arith
+heavier writing upgradable may = omega arith
+heavier upgradable reading may = omega arith
+heavier _ _ may = absurd cc
 
-pub upgrade_opens : (s : Plain) (p : ℕ) (cs : List Change) → IsExclusive s → StaysUpgradable p s cs
-    → (is_open_to (apply_all s cs) p to_upgrade ≡ true → reader_releases cs ≡ count_kind reading s.holders) × (reader_releases cs ≡ count_kind reading s.holders → is_open_to (apply_all s cs) p to_upgrade ≡ true)
-upgrade_opens s p [] x stays = (
-  (λ may. omega (arith, (alone_when_gone s p x stays).0 may)),
-  (λ e. (alone_when_gone s p x stays).1 (omega (arith, e))),
-)
-upgrade_opens s p (c ∷ cs) x stays =
-    let rest = upgrade_opens (apply s c) p cs (exclusive-kept s (who c) (Some c) x (refl, stays.1)) stays.2 in
-    let one = readers_only_go s p c x stays.0 stays.1 (stands_at p (apply s c) cs stays.2) in let more = sum_by-cons (λ d. one_if (reader_goes d)) c cs in
-    ((λ may. omega (arith, rest.0 may, one, more, one_bit (reader_goes c))), (λ e. rest.1 (omega (arith, e, one, more, one_bit (reader_goes c)))))
+pub turns_as_step : (word : ℕ) (vs : List View) (p : ℕ) (j k : Kind) → IsRw word tt vs → HoldsAt vs p j → may_turn j k ≡ true → (tells j word ≡ true) × ((word + (weight k - weight j)) % 2 ^ 64 ≡ turned j k word)
+turns_as_step word vs p j k rule at may =
+    let s = rule.0 in
+    let some = sum-turned weight p j k s.holders (stands vs p j word rule at) in
+    let within = bounded (with_kind p j k s.holders) (omega (arith, length-with_kind p j k s.holders, fits_cap s rule.1 rule.2)) in
+    (told vs p j word rule at, omega (arith, rule.4, heavier j k may, some, within))

@@ -1,20 +1,21 @@
 -- The steps of a read-write lock keep its rule: each is the plain step that its step function makes.
 use Rattle.std.proofs.Common.{◌≡◌, ℕ, ◌+◌, ◌-◌, ◌%◌, ◌^◌, ◌<◌, ◌≤◌, true, List, [], length, ◌==◌, Option, Some, None, refl, sym, ap, ◌∙◌, arith, eq-eqb}
+use Rattle.std.proofs.lemmas.List.Sums.{count_by-le-length}
 use prog.Atomic.{either}
-use Rattle.spin_step.specs.Plain.{count_kind, Plain, Kind, reading, upgradable, writing, Holder, is_holder, is_downgrade, with_kind, Ask, apply, gets, releases, turns, to_read, to_read_upgradable, to_write, to_upgrade, rw_word}
+use Rattle.spin_step.specs.Plain.{Plain, Kind, reading, upgradable, writing, Holder, is_holder, may_turn, with_kind, weight, is_reader, reader_count, Ask, apply, gets, releases, turns, to_read, to_read_upgradable, to_write, to_upgrade, rw_word}
 use Rattle.spin_step.specs.Parties.{entries_after}
 use Rattle.spin_step.specs.Steps.{Decides}
 use Rattle.spin_step.specs.Readers.{reader_limit, OneOfEach}
 use Rattle.spin_core.specs.Cell.{lends, writes, Meets, Allows, Rests, Moved}
-use Rattle.spin_core.specs.Views.{Knows, holds, entries_of, IsInOrder, HasPart, no_word}
+use Rattle.spin_core.specs.Views.{Knows, holds, entries_of, HasPart, no_word}
+use Rattle.spin_step.specs.Orders.{IsInOrder}
 use Rattle.spin_core.specs.Plays.{becomes, exchanges}
-use Rattle.spin_step.proofs.Exclusive.{length-with_kind}
+use Rattle.spin_step.proofs.Sums.{by_kinds, all_kinds, sum-less, sum-turned, length-with_kind}
 use Rattle.spin_step.proofs.Holders.{is_holder-from_entries}
-use Rattle.spin_core.proofs.Leaving.{NamesNobody, count-up, no_word-up}
+use Rattle.spin_core.proofs.Leaving.{rw_word-up, no_word-up}
 use Rattle.spin_core.proofs.Owners.{OfReaders, readers_or_writer}
 use Rattle.spin_core.proofs.Plays.{Lock, ways, allows, by_step, by_grant, by_none, exchanged, begins, left_rests}
-use Rattle.spin_step.proofs.ReaderSteps.{one_of_each}
-use Rattle.spin_step.proofs.Readers.{worth, word_of, word-less, word-turned, kinds-all}
+use Rattle.spin_step.proofs.Readers.{one_of_each, word_of}
 use Rattle.spin_core.proofs.Views.{part_before, release-own, turn-own}
 use Rattle.spin_rwlock.specs.declared.rwlock.rule.View.{View}
 use Rattle.spin_rwlock.specs.declared.rwlock.rule.View.TheVariants.{Idle, Reading, Upgradable, Writing}
@@ -25,9 +26,6 @@ kind Idle = (λ p. refl, λ p. refl)
 kind Reading = (λ p. refl, λ p. refl)
 kind Upgradable = (λ p. refl, λ p. refl)
 kind Writing = (λ p. refl, λ p. refl)
-
-pub rw_word-up : NamesNobody rw_word
-rw_word-up k s = omega (arith, count-up k reading s.holders, count-up k upgradable s.holders, count-up k writing s.holders)
 
 abbrev pub rw-lock : Lock View (Unit {0})
 rw-lock = record {
@@ -63,8 +61,8 @@ pub fits_cap : (s : Plain) → s.cap ≡ reader_limit → IsInOrder s → length
 fits_cap s room order = omega (arith, order.holders_fit, room)
 
 -- so many read in a lock whose holders are within its cap
-pub readers_fit : (word count : ℕ) → IsRwWord word → ((s : Plain) → OneOfEach s → rw_word s ≡ word → count ≡ count_kind reading s.holders + count_kind upgradable s.holders) → count ≤ reader_limit
-readers_fit word count (s, room, order, e) plain = omega (arith, plain s (one_of_each s order.exclusive) (sym e), kinds-all s.holders, fits_cap s room order)
+pub readers_fit : (word count : ℕ) → IsRwWord word → ((s : Plain) → OneOfEach s → rw_word s ≡ word → count ≡ reader_count s.holders) → count ≤ reader_limit
+readers_fit word count (s, room, order, e) plain = omega (arith, plain s (one_of_each s order.exclusive) (sym e), count_by-le-length (λ (h : Holder). is_reader h.kind) s.holders, fits_cap s room order)
 
 -- What a newcomer does
 
@@ -86,17 +84,17 @@ upgrades old new plain = gets_at (Some Upgradable) to_upgrade Writing Upgradable
 -- What a holder does to go on with less, or to go
 
 -- no sum wraps below the cap
-bounded : (hs : List Holder) → length hs ≤ reader_limit → word_of hs < 2 ^ 63
-bounded hs within = omega (arith, kinds-all hs, within)
+pub bounded : (hs : List Holder) → length hs ≤ reader_limit → word_of hs < 2 ^ 63
+bounded hs within = omega (arith, by_kinds weight hs, all_kinds hs, within)
 
-turns_by : (v w : View) (k l : Kind) (by : ℕ) → ((p : ℕ) → entries_of p (part v) ≡ entries_of p (holds k)) → ((p : ℕ) → entries_of p (part w) ≡ entries_of p (holds l)) → ((s : Plain) → Knows s (part w)) → is_downgrade k l ≡ true → worth k + by ≡ worth l
+turns_by : (v w : View) (k l : Kind) (by : ℕ) → ((p : ℕ) → entries_of p (part v) ≡ entries_of p (holds k)) → ((p : ℕ) → entries_of p (part w) ≡ entries_of p (holds l)) → ((s : Plain) → Knows s (part w)) → may_turn k l ≡ true → weight k + by ≡ weight l
     → Allows IsRw (ways rw-lock) (Some v) (λ n. (n + by) % 2 ^ 64) (becomes w by 0 (Some v))
 turns_by v w k l by was now knows down less = allows rw-lock (Some v) (λ n. (n + by) % 2 ^ 64) (becomes w by 0 (Some v)) (λ s p room order has.
     let stands = is_holder-from_entries p k s.holders (ap (λ e. e.holders) (has.0 ∙ was p)) in
     let small = bounded (with_kind p k l s.holders) (omega (arith, length-with_kind p k l s.holders, fits_cap s room order)) in (
       w,
       by_step rw-lock (Some v) w s (turns p k l) ((rw_word s + by) % 2 ^ 64) tt (rw (stands, down) refl) (ap (entries_after s (Some (turns p k l))) (was p) ∙ (turn-own s p k l ∙ sym (now p))) (knows (apply s (turns p k l)))
-          (omega (arith, word-turned k l p s.holders stands, less, small)) refl,
+          (omega (arith, sum-turned weight p k l s.holders stands, less, small)) refl,
       refl,
     ))
 
@@ -109,13 +107,13 @@ writer_reads_upgradable = turns_by Writing Upgradable writing upgradable 1 (λ p
 pub upgradable_reads : Allows IsRw (ways rw-lock) (Some Upgradable) (λ n. (n + 2) % 2 ^ 64) (becomes Reading 2 0 (Some Upgradable))
 upgradable_reads = turns_by Upgradable Reading upgradable reading 2 (λ p. refl) (λ p. refl) (λ s. tt) refl refl
 
-goes : (v : View) (k : Kind) (by : ℕ) → ((p : ℕ) → entries_of p (part v) ≡ entries_of p (holds k)) → by ≡ worth k → Allows IsRw (ways rw-lock) (Some v) (λ n. (n + (2 ^ 64 - by)) % 2 ^ 64) (becomes Idle by 0 (Some v))
+goes : (v : View) (k : Kind) (by : ℕ) → ((p : ℕ) → entries_of p (part v) ≡ entries_of p (holds k)) → by ≡ weight k → Allows IsRw (ways rw-lock) (Some v) (λ n. (n + (2 ^ 64 - by)) % 2 ^ 64) (becomes Idle by 0 (Some v))
 goes v k by was less = allows rw-lock (Some v) (λ n. (n + (2 ^ 64 - by)) % 2 ^ 64) (becomes Idle by 0 (Some v)) (λ s p room order has.
     let stands = is_holder-from_entries p k s.holders (ap (λ e. e.holders) (has.0 ∙ was p)) in
     let small = bounded s.holders (fits_cap s room order) in (
       Idle,
       by_step rw-lock (Some v) Idle s (releases p k) ((rw_word s + (2 ^ 64 - by)) % 2 ^ 64) tt stands (ap (entries_after s (Some (releases p k))) (was p) ∙ release-own s p k) tt
-          (omega (arith, word-less k p s.holders stands, less, small)) refl,
+          (omega (arith, sum-less weight p k s.holders stands, less, small)) refl,
       refl,
     ))
 

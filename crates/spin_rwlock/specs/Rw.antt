@@ -3,7 +3,8 @@ use Rattle.std.specs.Prelude.{◌≡◌, ◌≢◌, ℕ, List, Option, Some, Non
 use Rattle.spin_step.specs.Plain.{Plain, reading, upgradable, writing, rw_word}
 use Rattle.spin_step.specs.Readers.{reader_limit}
 use Rattle.spin_core.specs.Cell.{Use, lends, Ways}
-use Rattle.spin_core.specs.Views.{Part, idle, holds, IsInOrder, Encodes, used_by, no_word}
+use Rattle.spin_core.specs.Views.{Part, idle, holds, Encodes, used_by, no_word}
+use Rattle.spin_step.specs.Orders.{IsInOrder}
 use Rattle.spin_core.specs.declared.cell.Permit.{Permit}
 use Rattle.spin_rwlock.specs.declared.rwlock.rule.View.{View}
 use Rattle.spin_rwlock.specs.declared.rwlock.rule.View.TheVariants.{Idle, Reading, Upgradable, Writing}

@@ -1,7 +1,9 @@
--- Who stands in a read-write lock, counted over its parties, and how its plain lock goes on while an upgradable reader stands.
+-- Who stands in a read-write lock, counted over its parties.
 use Rattle.std.specs.Prelude.{◌≡◌, ℕ, ◌+◌, ◌<◌, ◌≤◌, Bool, true, false, List, [], ◌∷◌, count_by}
-use Rattle.spin_step.specs.Plain.{Plain, upgradable, Change, apply, is_open, is_holder}
-use Rattle.spin_step.specs.Readers.{reader_limit, reader_goes}
+use Rattle.spin_step.specs.Plain.{Kind}
+use Rattle.spin_step.specs.Readers.{reader_limit}
+use Rattle.spin_core.specs.Views.{holds, part_at}
+use Rattle.spin_rwlock.specs.Rw.{part}
 use Rattle.spin_rwlock.specs.declared.rwlock.rule.View.{View}
 use Rattle.spin_rwlock.specs.declared.rwlock.rule.View.TheVariants.{Reading, Upgradable, Writing}
 
@@ -35,14 +37,6 @@ pub record ReadersOrWriter (vs : List View) : Type 0 where
   pub writer_alone : 0 < writers vs → holders vs ≡ 1
   pub within_limit : holders vs ≤ reader_limit
 
--- open steps, one after another, through which the party stays the upgradable reader
-abbrev pub StaysUpgradable : ℕ → Plain → List Change → Type 0
-StaysUpgradable p s [] = is_holder p upgradable s.holders ≡ true
-StaysUpgradable p s (c ∷ cs) = (is_holder p upgradable s.holders ≡ true) × (is_open s c ≡ true) × StaysUpgradable p (apply s c) cs
-
-abbrev pub apply_all : Plain → List Change → Plain
-apply_all s [] = s
-apply_all s (c ∷ cs) = apply_all (apply s c) cs
-
-abbrev pub reader_releases : List Change → ℕ
-reader_releases cs = count_by reader_goes cs
+-- the party with this number holds the lock so
+abbrev pub HoldsAt : List View → ℕ → Kind → Type 0
+HoldsAt vs p k = part_at part vs p ≡ holds k

@@ -1,15 +1,14 @@
 //! Laws of the lock. Each is the contract of a function that does nothing.
-ghost use Rattle.std.specs.Prelude.{◌≡◌, ◌+◌, ◌*◌, ℕ, List, true, false};
-ghost use Rattle.spin_step.specs.Plain.{Plain, Kind, Change, reading, to_write, to_upgrade, turns, apply, is_open, is_open_to, count_kind};
-ghost use Rattle.spin_step.specs.Parties.{IsExclusive};
+ghost use Rattle.std.specs.Prelude.{◌≡◌, ◌+◌, ◌-◌, ◌*◌, ◌%◌, ◌^◌, ℕ, List, true};
+ghost use Rattle.spin_step.specs.Plain.{Kind, reading, upgradable, writing, weight, may_turn};
+ghost use Rattle.spin_step.specs.Readers.{tells, released, turned};
 ghost use Rattle.spin_rwlock.specs.declared.rwlock.rule.View.{View};
 ghost use Rattle.spin_rwlock.specs.Rw.{IsRw};
-ghost use Rattle.spin_rwlock.specs.Standing.{readers, upgradables, writers, holders, ReadersOrWriter, StaysUpgradable, apply_all, reader_releases};
+ghost use Rattle.spin_rwlock.specs.Standing.{readers, upgradables, writers, holders, ReadersOrWriter, HoldsAt};
 
-/// Where the rule of a `RwLock` holds, its word is 4 for each party that reads, 2 for the upgradable reader and 1 for the
-/// writer.
+/// Where the rule of a `RwLock` holds, its word is the sum of what its parties weigh.
 pub fn the_word_of_a_rwlock_counts_its_parties()
-    ensures { (word : ℕ) (vs : List View) → IsRw word tt vs → word ≡ (4 * readers vs + 2 * upgradables vs) + writers vs }
+    ensures { (word : ℕ) (vs : List View) → IsRw word tt vs → word ≡ (weight reading * readers vs + weight upgradable * upgradables vs) + weight writing * writers vs }
 {}
 
 /// There readers stand beside at most one upgradable reader, and a writer alone.
@@ -22,18 +21,9 @@ pub fn the_word_of_a_rwlock_is_zero_when_nobody_holds()
     ensures { (word : ℕ) (vs : List View) → IsRw word tt vs → (word ≡ 0 → holders vs ≡ 0) × (holders vs ≡ 0 → word ≡ 0) }
 {}
 
-/// A downgrade is one step. No other party may write before it, nor after it, and nothing is in between.
-pub fn a_downgrade_lets_no_writer_in()
-    ensures { (s : Plain) (p q : ℕ) (k l : Kind) → is_open s (turns p k l) ≡ true → (is_open_to s q to_write ≡ false) × (is_open_to (apply s (turns p k l)) q to_write ≡ false) }
-{}
-
-/// While an upgradable reader stands no further reader comes, and each that goes is one less.
-pub fn beside_an_upgradable_reader_readers_only_go()
-    ensures { (s : Plain) (p : ℕ) (cs : List Change) → IsExclusive s → StaysUpgradable p s cs → count_kind reading (apply_all s cs).holders + reader_releases cs ≡ count_kind reading s.holders }
-{}
-
-/// So where so many readers stand beside it, it may become the writer after exactly as many of their releases.
-pub fn an_upgrade_is_open_when_the_readers_are_gone()
-    ensures { (s : Plain) (p : ℕ) (cs : List Change) → IsExclusive s → StaysUpgradable p s cs →
-        (is_open_to (apply_all s cs) p to_upgrade ≡ true → reader_releases cs ≡ count_kind reading s.holders) × (reader_releases cs ≡ count_kind reading s.holders → is_open_to (apply_all s cs) p to_upgrade ≡ true) }
+/// A holder goes by a subtraction, and becomes another by an addition, neither of which sees the word. On each word that
+/// the rule allows they make what the step function of that release, and of that downgrade, does there.
+pub fn an_addition_is_its_step_function()
+    ensures release { (word : ℕ) (vs : List View) (p : ℕ) (k : Kind) → IsRw word tt vs → HoldsAt vs p k → (tells k word ≡ true) × ((word + (2 ^ 64 - weight k)) % 2 ^ 64 ≡ released k word) }
+    ensures downgrade { (word : ℕ) (vs : List View) (p : ℕ) (j k : Kind) → IsRw word tt vs → HoldsAt vs p j → may_turn j k ≡ true → (tells j word ≡ true) × ((word + (weight k - weight j)) % 2 ^ 64 ≡ turned j k word) }
 {}

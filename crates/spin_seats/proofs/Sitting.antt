@@ -7,7 +7,8 @@ use Rattle.spin_step.specs.Plain.{Plain, reading, count_kind, same_kind, gets, r
 use Rattle.spin_step.specs.Steps.{Decides}
 use Rattle.spin_step.proofs.Holders.{is_holder-from_entries, length-held}
 use Rattle.spin_core.specs.Cell.{Ways, Limits, lends, reading as reads_of, writing as writes_of, readers_of, writers_of, Meets, Allows, Rests, Moved}
-use Rattle.spin_core.specs.Views.{IsInOrder, IsLockOf, entries_of, no_word}
+use Rattle.spin_core.specs.Views.{IsLockOf, holds, entries_of, part_at, no_word}
+use Rattle.spin_step.specs.Orders.{IsInOrder}
 use Rattle.spin_core.specs.Plays.{becomes, exchanges}
 use Rattle.spin_core.proofs.CellCounts.{none}
 use Rattle.spin_core.proofs.Leaving.{flag_word-up, no_word-up}
@@ -140,3 +141,8 @@ readers_sit (v ∷ vs) = omega (arith, one_sits v, readers_sit vs, sum_by-cons (
 
 pub as_many_sit : (n word : ℕ) (vs : List View) → IsSeats n word tt vs → (word ≡ seated vs) × (word ≤ n)
 as_many_sit n word vs (is, few) = (omega (arith, is.4, as_many_hold vs is.0 is.3, readers_sit vs), omega (arith, few))
+
+pub gets_up_as_step : (n word : ℕ) (vs : List View) (p : ℕ) → IsSeats n word tt vs → part_at part vs p ≡ holds reading → (1 ≤ word) × ((word + (2 ^ 64 - 1)) % 2 ^ 64 ≡ word - 1)
+gets_up_as_step n word vs p (is, few) at =
+    let some = length-held p reading is.0.holders (ap (λ e. e.holders) ((is.3 p).0 ∙ ap (entries_of p) at)) in
+    (omega (arith, is.4, some), omega (arith, is.4, some, few))

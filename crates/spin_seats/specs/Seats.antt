@@ -1,5 +1,5 @@
 -- A lock of seats: a plain lock whose holders all read, as many as the cap lets in. Its word is their number.
-use Rattle.std.specs.Prelude.{◌≡◌, ℕ, ◌+◌, Option, Some, None, length, min, nat_lt, if◌then◌else◌}
+use Rattle.std.specs.Prelude.{◌≡◌, ℕ, ◌+◌, ◌-◌, Option, Some, None, length, min, nat_lt, if◌then◌else◌}
 use Rattle.spin_step.specs.Plain.{Plain, reading, count_kind}
 
 -- the most seats that there may be, usize::MAX / 8
@@ -19,3 +19,7 @@ AllRead s = count_kind reading s.holders ≡ length s.holders
 -- the word after one more has sat down, where a seat is free
 abbrev pub entered : ℕ → ℕ → Option ℕ
 entered n w = if nat_lt w (seats n) then Some (w + 1) else None
+
+-- the word after one who sat has gone
+abbrev pub left : ℕ → ℕ
+left w = w - 1

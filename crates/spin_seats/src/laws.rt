@@ -1,9 +1,18 @@
-//! A law of the lock. It is the contract of a function that does nothing.
-ghost use Rattle.std.specs.Prelude.{◌≡◌, ◌≤◌, ℕ, List};
+//! Laws of the lock. Each is the contract of a function that does nothing.
+ghost use Rattle.std.specs.Prelude.{◌≡◌, ◌≤◌, ◌+◌, ◌-◌, ◌%◌, ◌^◌, ℕ, List};
 ghost use Rattle.spin_seats.specs.declared.seats.rule.View.{View};
-ghost use Rattle.spin_seats.specs.Rule.{IsSeats, seated};
+ghost use Rattle.spin_step.specs.Plain.{reading};
+ghost use Rattle.spin_core.specs.Views.{holds, part_at};
+ghost use Rattle.spin_seats.specs.Seats.{left};
+ghost use Rattle.spin_seats.specs.Rule.{IsSeats, part, seated};
 
 /// Where the rule of a lock of `n` seats holds, its word is the number of the parties that sit, and that is at most `n`.
 pub fn no_more_sit_than_there_are_seats()
     ensures { (n word : ℕ) (views : List View) → IsSeats n word tt views → (word ≡ seated views) × (word ≤ n) }
+{}
+
+/// Who sits gets up by a subtraction, which does not see the word. On each word that the rule allows it makes what the step
+/// function gives there.
+pub fn a_subtraction_is_its_step_function()
+    ensures { (n word : ℕ) (views : List View) (p : ℕ) → IsSeats n word tt views → part_at part views p ≡ holds reading → (1 ≤ word) × ((word + (2 ^ 64 - 1)) % 2 ^ 64 ≡ left word) }
 {}

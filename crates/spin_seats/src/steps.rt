@@ -1,8 +1,8 @@
 //! Seats in one word: how many are taken.
-ghost use Rattle.std.specs.Prelude.{◌≡◌, ◌-◌, ◌≤◌, ℕ};
+ghost use Rattle.std.specs.Prelude.{◌≡◌, ◌≤◌, ℕ};
 ghost use Rattle.spin_step.specs.Plain.{Plain, gets, releases, to_read, reading};
 ghost use Rattle.spin_step.specs.Steps.{Decides, Gives};
-ghost use Rattle.spin_seats.specs.Seats.{AllRead, entered, seats, seats_word};
+ghost use Rattle.spin_seats.specs.Seats.{AllRead, entered, left, seats, seats_word};
 
 /// The most seats that a lock has, however many it is asked to have.
 pub const MAX_SEATS: usize = usize::MAX / 8;
@@ -22,7 +22,7 @@ pub fn enter(word: usize, room: usize) -> Option<usize>
 /// The word after a party that sat has gone.
 pub fn leave(word: usize) -> usize
     requires { 1 ≤ word }
-    ensures exact { result ≡ word - 1 }
+    ensures exact { result ≡ left word }
     ensures plain { (s : Plain) (party : ℕ) → seats_word s ≡ word → Gives s (releases party reading) seats_word result }
 {
     word - 1

@@ -3,8 +3,9 @@ use Rattle.std.proofs.Common.{◌≡◌, ℕ, ◌==◌, Bool, true, false, not, 
 use Rattle.std.proofs.lemmas.Bool.{eq-eqb, eqb-true, ne_eqb, and_parts, false≢true}
 use Rattle.std.proofs.lemmas.List.{append-nil}
 use Rattle.std.proofs.lemmas.List.Elements.{filter-append}
-use Rattle.spin_step.specs.Plain.{Plain, Kind, reading, upgradable, writing, Holder, Ticket, Ask, to_read, to_read_upgradable, to_write, to_upgrade, to_take_ticket, to_enter, to_take_and_enter, to_lock_unregistered, to_lock_starving, to_lock_starving_alone, to_starve, to_begin, Change, gets, releases, serves, stops_starving, turns, completes, fails, arrives, apply, is_open, is_first, holder, ticket, same_kind, without_holder, with_kind, without_starver, with_first_entered, without_first}
-use Rattle.spin_step.specs.Parties.{who, apply_some, IsOpenStep, Entries, entries, entries_after}
+use Rattle.spin_step.specs.Plain.{Plain, Kind, Holder, Ticket, Effect, comes, becomes, queues, enters, starves, runs, effect, given, Change, gets, releases, serves, stops_starving, turns, completes, fails, arrives, apply, is_open, is_first, holder, ticket, same_kind, without_holder, with_kind, without_starver, with_first_entered, without_first}
+use Rattle.spin_step.specs.Parties.{who, apply_some, IsOpenStep, Entries, entries, with_entries, entries_after}
+use Rattle.spin_step.proofs.Exclusive.{Lets, lets}
 
 -- one more at the end of a list, under a test
 filter-append_true : {X : Type 0} (test : X → Bool) (xs : List X) (x : X) → test x ≡ true → filter test (xs ++ x ∷ []) ≡ filter test xs ++ x ∷ []
@@ -62,30 +63,22 @@ in_tickets e ts = record e { tickets = ts }
 abbrev in_starvers : Entries → List ℕ → Entries
 in_starvers e qs = record e { starvers = qs }
 
-others-gets : (s : Plain) (p : ℕ) (ask : Ask) (q : ℕ) → (p ≡ q → ⊥) → is_open s (gets p ask) ≡ true → entries q (apply s (gets p ask)) ≡ entries q s
-others-gets s p to_read q ne may = ap (in_holders (entries q s)) (filter-append_false (λ h. h.party == q) s.holders (holder p reading) (ne_eqb p q ne))
-others-gets s p to_read_upgradable q ne may = ap (in_holders (entries q s)) (filter-append_false (λ h. h.party == q) s.holders (holder p upgradable) (ne_eqb p q ne))
-others-gets s p to_write q ne may = ap (in_holders (entries q s)) (filter-append_false (λ h. h.party == q) s.holders (holder p writing) (ne_eqb p q ne))
-others-gets s p to_upgrade q ne may = ap (in_holders (entries q s)) (others-with_kind p q upgradable writing s.holders ne)
-others-gets s p to_take_ticket q ne may = ap (in_tickets (entries q s)) (filter-append_false (λ t. t.party == q) s.tickets (ticket p s.next false) (ne_eqb p q ne))
-others-gets s p to_enter q ne may = ap (in_tickets (entries q s)) (others-with_first_entered p q false s.tickets ne may)
-others-gets s p to_take_and_enter q ne may = ap (in_tickets (entries q s)) (filter-append_false (λ t. t.party == q) s.tickets (ticket p s.next true) (ne_eqb p q ne))
-others-gets s p to_lock_unregistered q ne may = ap (in_holders (entries q s)) (filter-append_false (λ h. h.party == q) s.holders (holder p writing) (ne_eqb p q ne))
-others-gets s p to_lock_starving q ne may = ap (in_holders (entries q s)) (filter-append_false (λ h. h.party == q) s.holders (holder p writing) (ne_eqb p q ne))
-others-gets s p to_lock_starving_alone q ne may = ap (in_holders (entries q s)) (filter-append_false (λ h. h.party == q) s.holders (holder p writing) (ne_eqb p q ne))
-others-gets s p to_starve q ne may = ap (in_starvers (entries q s)) (filter-append_false (λ r. r == q) s.starvers p (ne_eqb p q ne))
-others-gets s p to_begin q ne may = refl
+others-given : (s : Plain) (p : ℕ) (e : Effect) (q : ℕ) → (p ≡ q → ⊥) → Lets s p e → entries q (given s p e) ≡ entries q s
+others-given s p (comes k) q ne let_in = ap (in_holders (entries q s)) (filter-append_false (λ h. h.party == q) s.holders (holder p k) (ne_eqb p q ne))
+others-given s p (becomes j k) q ne let_in = ap (in_holders (entries q s)) (others-with_kind p q j k s.holders ne)
+others-given s p (queues b) q ne let_in = ap (in_tickets (entries q s)) (filter-append_false (λ t. t.party == q) s.tickets (ticket p s.next b) (ne_eqb p q ne))
+others-given s p enters q ne let_in = ap (in_tickets (entries q s)) (others-with_first_entered p q false s.tickets ne let_in)
+others-given s p starves q ne let_in = ap (in_starvers (entries q s)) (filter-append_false (λ r. r == q) s.starvers p (ne_eqb p q ne))
+others-given s p runs q ne let_in = refl
 
 -- another party's open step leaves a party's entries as they were
 pub entries-others : (s : Plain) (c : Change) (q : ℕ) → (who c ≡ q → ⊥) → is_open s c ≡ true → entries q (apply s c) ≡ entries q s
-entries-others s (gets p ask) q ne may = others-gets s p ask q ne may
+entries-others s (gets p ask) q ne may = others-given s p (effect ask) q ne (lets s p ask may)
 entries-others s (releases p k) q ne may = ap (in_holders (entries q s)) (others-without_holder p q k s.holders ne)
 entries-others s (serves p) q ne may = ap (in_tickets (entries q s)) (others-without_first p q true s.tickets ne may)
 entries-others s (stops_starving p) q ne may = ap (in_starvers (entries q s)) (others-without_starver p q s.starvers ne)
 entries-others s (turns p k l) q ne may = ap (in_holders (entries q s)) (others-with_kind p q k l s.holders ne)
-entries-others s (completes p) q ne may = refl
-entries-others s (fails p) q ne may = refl
-entries-others s (arrives p) q ne may = refl
+entries-others s _ q ne may = refl
 
 pub entries-other : (s : Plain) (p q : ℕ) (step : Option Change) → (p ≡ q → ⊥) → IsOpenStep s p step → entries q (apply_some s step) ≡ entries q s
 entries-other s p q None ne may = refl
@@ -133,29 +126,25 @@ own-without_first p b [] e = refl
 own-without_first p b (t ∷ ts) e =
     ap (λ b. without_first (cond b (t ∷ filter (λ t. t.party == p) ts) (filter (λ t. t.party == p) ts))) (sym (first_is p b t ts e))
 
-own-gets : (s : Plain) (p : ℕ) (ask : Ask) → is_open s (gets p ask) ≡ true → entries p (apply s (gets p ask)) ≡ entries_after s (Some (gets p ask)) (entries p s)
-own-gets s p to_read may = ap (in_holders (entries p s)) (filter-append_true (λ h. h.party == p) s.holders (holder p reading) (eq-eqb p p refl))
-own-gets s p to_read_upgradable may = ap (in_holders (entries p s)) (filter-append_true (λ h. h.party == p) s.holders (holder p upgradable) (eq-eqb p p refl))
-own-gets s p to_write may = ap (in_holders (entries p s)) (filter-append_true (λ h. h.party == p) s.holders (holder p writing) (eq-eqb p p refl))
-own-gets s p to_upgrade may = ap (in_holders (entries p s)) (own-with_kind p upgradable writing s.holders)
-own-gets s p to_take_ticket may = ap (in_tickets (entries p s)) (filter-append_true (λ t. t.party == p) s.tickets (ticket p s.next false) (eq-eqb p p refl))
-own-gets s p to_enter may = ap (in_tickets (entries p s)) (own-with_first_entered p false s.tickets may)
-own-gets s p to_take_and_enter may = ap (in_tickets (entries p s)) (filter-append_true (λ t. t.party == p) s.tickets (ticket p s.next true) (eq-eqb p p refl))
-own-gets s p to_lock_unregistered may = ap (in_holders (entries p s)) (filter-append_true (λ h. h.party == p) s.holders (holder p writing) (eq-eqb p p refl))
-own-gets s p to_lock_starving may = ap (in_holders (entries p s)) (filter-append_true (λ h. h.party == p) s.holders (holder p writing) (eq-eqb p p refl))
-own-gets s p to_lock_starving_alone may = ap (in_holders (entries p s)) (filter-append_true (λ h. h.party == p) s.holders (holder p writing) (eq-eqb p p refl))
-own-gets s p to_starve may = ap (in_starvers (entries p s)) (filter-append_true (λ r. r == p) s.starvers p (eq-eqb p p refl))
-own-gets s p to_begin may = refl
+-- a party's entries as such a change changes them alone
+abbrev with_effect : Plain → ℕ → Effect → Entries → Entries
+with_effect s p e x = let t = given (with_entries s x) p e in record { holders = t.holders; tickets = t.tickets; starvers = t.starvers }
+
+own-given : (s : Plain) (p : ℕ) (e : Effect) → Lets s p e → entries p (given s p e) ≡ with_effect s p e (entries p s)
+own-given s p (comes k) let_in = ap (in_holders (entries p s)) (filter-append_true (λ h. h.party == p) s.holders (holder p k) (eq-eqb p p refl))
+own-given s p (becomes j k) let_in = ap (in_holders (entries p s)) (own-with_kind p j k s.holders)
+own-given s p (queues b) let_in = ap (in_tickets (entries p s)) (filter-append_true (λ t. t.party == p) s.tickets (ticket p s.next b) (eq-eqb p p refl))
+own-given s p enters let_in = ap (in_tickets (entries p s)) (own-with_first_entered p false s.tickets let_in)
+own-given s p starves let_in = ap (in_starvers (entries p s)) (filter-append_true (λ r. r == p) s.starvers p (eq-eqb p p refl))
+own-given s p runs let_in = refl
 
 entries-owns : (s : Plain) (c : Change) → is_open s c ≡ true → entries (who c) (apply s c) ≡ entries_after s (Some c) (entries (who c) s)
-entries-owns s (gets p ask) may = own-gets s p ask may
+entries-owns s (gets p ask) may = own-given s p (effect ask) (lets s p ask may)
 entries-owns s (releases p k) may = ap (in_holders (entries p s)) (own-without_holder p k s.holders)
 entries-owns s (serves p) may = ap (in_tickets (entries p s)) (own-without_first p true s.tickets may)
 entries-owns s (stops_starving p) may = ap (in_starvers (entries p s)) (own-without_starver p s.starvers)
 entries-owns s (turns p k l) may = ap (in_holders (entries p s)) (own-with_kind p k l s.holders)
-entries-owns s (completes p) may = refl
-entries-owns s (fails p) may = refl
-entries-owns s (arrives p) may = refl
+entries-owns s _ may = refl
 
 -- a party's own open step changes its entries as it would change them alone
 pub entries-own : (s : Plain) (p : ℕ) (step : Option Change) → IsOpenStep s p step → entries p (apply_some s step) ≡ entries_after s step (entries p s)

@@ -5,7 +5,7 @@ use Rattle.std.proofs.lemmas.Bool.{eqb-true, eq-eqb, true≢false}
 use Rattle.spin_step.specs.Plain.{Plain, Kind, Holder, Ticket, holder, writing, is_empty, is_starver, is_only_starver, gets, releases, stops_starving, to_lock_unregistered, to_lock_starving, to_lock_starving_alone, to_starve, fair_word}
 use Rattle.spin_step.specs.Parties.{is_held}
 use Rattle.spin_step.specs.Steps.{Decides, Gives}
-use Rattle.spin_step.specs.Starvers.{most_starvers, OneHolds}
+use Rattle.spin_step.specs.Starvers.{most_starvers, OneHolds, is_set, lock, starve, unstarved, lock_fair, lock_starved, unlocked}
 use Rattle.spin_step.proofs.Deciding.{decides_if}
 use Rattle.spin_step.proofs.Holders.{is_empty-none, is_empty-some, length-without_holder}
 use Rattle.spin_step.proofs.Starvers.{length-without_starver}
@@ -53,10 +53,10 @@ lock_if s p w true is zero =
     )
 lock_if s p w false is some = somebody s.holders s.starvers (λ e. not_equal w 0 some (omega (arith, e, is)))
 
-pub fair_lock-grants : (s : Plain) (p w : ℕ) → fair_word s ≡ w → Decides s (gets p to_lock_unregistered) fair_word (if w == 0 then Some 1 else None)
+pub fair_lock-grants : (s : Plain) (p w : ℕ) → fair_word s ≡ w → Decides s (gets p to_lock_unregistered) fair_word (lock w)
 fair_lock-grants s p w is = lock_if s p w (w == 0) is refl
 
-pub fair_starve-grants : (s : Plain) (p w cap : ℕ) → OneHolds s → s.cap ≡ min cap most_starvers → fair_word s ≡ w → Decides s (gets p to_starve) fair_word (if nat_lt (w / 2) (min cap most_starvers) then Some (w + 2) else None)
+pub fair_starve-grants : (s : Plain) (p w cap : ℕ) → OneHolds s → s.cap ≡ min cap most_starvers → fair_word s ≡ w → Decides s (gets p to_starve) fair_word (starve cap w)
 fair_starve-grants s p w cap one room is =
     decides_if s (gets p to_starve) fair_word (nat_lt (w / 2) (min cap most_starvers)) (w + 2) (ap (λ n. nat_lt n s.cap) (flag_is s w one is).1 ∙ ap (nat_lt (w / 2)) room)
     (λ may. omega (arith, is, length-append s.starvers (p ∷ [])))
@@ -69,7 +69,7 @@ lock_fair_if s p w true one starves is two =
     )
 lock_fair_if s p w false one starves is other = not_alone p s.holders s.starvers (λ e. not_equal w 2 other (omega (arith, e, is)))
 
-pub fair_lock_fair-grants : (s : Plain) (p w : ℕ) → OneHolds s → is_starver p s.starvers ≡ true → fair_word s ≡ w → Decides s (gets p to_lock_starving_alone) fair_word (if w == 2 then Some 3 else None)
+pub fair_lock_fair-grants : (s : Plain) (p w : ℕ) → OneHolds s → is_starver p s.starvers ≡ true → fair_word s ≡ w → Decides s (gets p to_lock_starving_alone) fair_word (lock_fair w)
 fair_lock_fair-grants s p w one starves is = lock_fair_if s p w (w == 2) one starves is refl
 
 lock_starved_if : (s : Plain) (p w : ℕ) (b : Bool) → OneHolds s → is_starver p s.starvers ≡ true → fair_word s ≡ w → (w % 2 == 0) ≡ b → Decides s (gets p to_lock_starving) fair_word (if b then Some (w + 1) else None)
@@ -85,13 +85,13 @@ lock_starved_if s p w false one starves is set =
     some_hold : (n : ℕ) → (n ≡ 0 → ⊥) → 1 ≤ n
     some_hold n some = omega (arith, some)
 
-pub fair_lock_starved-grants : (s : Plain) (p w : ℕ) → OneHolds s → is_starver p s.starvers ≡ true → fair_word s ≡ w → Decides s (gets p to_lock_starving) fair_word (if w % 2 == 0 then Some (w + 1) else None)
+pub fair_lock_starved-grants : (s : Plain) (p w : ℕ) → OneHolds s → is_starver p s.starvers ≡ true → fair_word s ≡ w → Decides s (gets p to_lock_starving) fair_word (lock_starved w)
 fair_lock_starved-grants s p w one starves is = lock_starved_if s p w (w % 2 == 0) one starves is refl
 
-pub fair_unstarve-gives : (s : Plain) (p w : ℕ) → fair_word s ≡ w → Gives s (stops_starving p) fair_word (w - 2)
+pub fair_unstarve-gives : (s : Plain) (p w : ℕ) → fair_word s ≡ w → Gives s (stops_starving p) fair_word (unstarved w)
 fair_unstarve-gives s p w is = λ found. omega (arith, length-without_starver p s.starvers found, is)
 
-pub fair_unlock-gives : (s : Plain) (p : ℕ) (k : Kind) (w : ℕ) → fair_word s ≡ w → Gives s (releases p k) fair_word (w - 1)
+pub fair_unlock-gives : (s : Plain) (p : ℕ) (k : Kind) (w : ℕ) → fair_word s ≡ w → Gives s (releases p k) fair_word (unlocked w)
 fair_unlock-gives s p k w is = λ found. omega (arith, length-without_holder p k s.holders found, is)
 
 locked_if : (s : Plain) (w : ℕ) (b : Bool) → OneHolds s → s.tickets ≡ [] → fair_word s ≡ w → (w % 2 == 1) ≡ b → is_held s ≡ b
@@ -104,5 +104,5 @@ locked_if s w false one queue is even =
     nobody : (n : ℕ) → n ≤ 1 → (n ≡ 1 → ⊥) → 0 ≡ n
     nobody n le other = omega (arith, le, other)
 
-pub fair_is_locked-tells : (s : Plain) (w : ℕ) → OneHolds s → s.tickets ≡ [] → fair_word s ≡ w → is_held s ≡ (w % 2 == 1)
+pub fair_is_locked-tells : (s : Plain) (w : ℕ) → OneHolds s → s.tickets ≡ [] → fair_word s ≡ w → is_held s ≡ is_set w
 fair_is_locked-tells s w one queue is = locked_if s w (w % 2 == 1) one queue is refl

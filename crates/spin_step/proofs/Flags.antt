@@ -2,10 +2,11 @@
 use Rattle.std.proofs.Common.{◌≡◌, ℕ, Bool, true, false, Some, None, [], ◌∷◌, if◌then◌else◌, sym, arith, length-append}
 use Rattle.std.specs.Option.{option_map}
 use Rattle.spin_step.specs.Plain.{Plain, Kind, writing, holder, gets, releases, to_write, flag_word}
+use Rattle.spin_step.specs.Flags.{lock}
 use Rattle.spin_step.specs.Steps.{bit, Decides, Gives}
 use Rattle.spin_step.proofs.Holders.{length-without_holder, is_empty-none, is_empty-some}
 
-pub flag_lock-grants : (s : Plain) (p : ℕ) (w : Bool) → flag_word s ≡ bit w → Decides s (gets p to_write) flag_word (option_map bit (if w then None else Some true))
+pub flag_lock-grants : (s : Plain) (p : ℕ) (w : Bool) → flag_word s ≡ bit w → Decides s (gets p to_write) flag_word (option_map bit (lock w))
 flag_lock-grants s p true e = is_empty-some s.holders (omega (arith, e))
 flag_lock-grants s p false e = (is_empty-none s.holders (sym e), omega (arith, length-append s.holders (holder p writing ∷ []), e))
 

@@ -1,12 +1,14 @@
-pub mod Entries
+pub mod Sums
 pub mod Holders
 pub mod Exclusive
+pub mod Entries
 pub mod Deciding
 pub mod Flags
 pub mod Starvers
 pub mod FairSteps
 pub mod Tickets
 pub mod TicketSteps
+pub mod InOrder
 pub mod Readers
 pub mod ReaderSteps
 pub mod Barriers

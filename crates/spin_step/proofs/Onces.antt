@@ -3,6 +3,7 @@ use Rattle.std.proofs.Common.{◌≡◌, ℕ, ◌==◌, Bool, true, false, Optio
 use Rattle.std.proofs.lemmas.Bool.{false≢true, eqb-true}
 use Rattle.spin_step.specs.Plain.{Plain, Phase, nothing, running, complete, Ask, to_read, to_begin, Change, gets, releases, serves, stops_starving, turns, completes, fails, arrives, apply, is_open, is_nothing, is_running, is_complete, once_word}
 use Rattle.spin_step.specs.Parties.{apply_some, IsOpenStep}
+use Rattle.spin_step.specs.Flags.{begun}
 use Rattle.spin_step.specs.Steps.{Decides}
 
 -- the word of a phase
@@ -27,7 +28,7 @@ begin_if : (s : Plain) (p : ℕ) (b : Bool) → is_open s (gets p to_begin) ≡ 
 begin_if s p true may = (may, refl)
 begin_if s p false may = may
 
-pub once_begin-grants : (s : Plain) (p w : ℕ) → once_word s ≡ w → Decides s (gets p to_begin) once_word (if w == 0 then Some 1 else None)
+pub once_begin-grants : (s : Plain) (p w : ℕ) → once_word s ≡ w → Decides s (gets p to_begin) once_word (begun w)
 once_begin-grants s p w is = begin_if s p (w == 0) (nothing-word s.phase w is)
 
 not_nothing : (phase : Phase) (p : ℕ) {X : Type 0} → phase ≡ running p → is_nothing phase ≡ true → X
@@ -35,7 +36,6 @@ not_nothing phase p is none = absurd (false≢true (ap is_nothing (sym is) ∙ n
 
 others_got : (s : Plain) (p q : ℕ) (ask : Ask) → is_open s (gets q ask) ≡ true → s.phase ≡ running p → (apply s (gets q ask)).phase ≡ running p
 others_got s p q to_begin may is = not_nothing s.phase p is may
-others_got s p q to_read may is = is
 others_got s p q _ may is = is
 
 its_own : (s : Plain) (p q : ℕ) {X : Type 0} → (q ≡ p → ⊥) → is_running q s.phase ≡ true → s.phase ≡ running p → X
@@ -45,10 +45,6 @@ its_own s p q ne may is = absurd (ne (sym (eqb-true p q (ap (is_running q) (sym 
 pub runs-others : (s : Plain) (p q : ℕ) (step : Option Change) → (q ≡ p → ⊥) → IsOpenStep s q step → s.phase ≡ running p → (apply_some s step).phase ≡ running p
 runs-others s p q None ne may is = is
 runs-others s p q (Some (gets r ask)) ne may is = others_got s p r ask may.1 is
-runs-others s p q (Some (releases r k)) ne may is = is
-runs-others s p q (Some (serves r)) ne may is = is
-runs-others s p q (Some (stops_starving r)) ne may is = is
-runs-others s p q (Some (turns r k l)) ne may is = is
 runs-others s p q (Some (completes r)) ne may is = its_own s p r (λ e. ne (sym may.0 ∙ e)) may.1 is
 runs-others s p q (Some (fails r)) ne may is = its_own s p r (λ e. ne (sym may.0 ∙ e)) may.1 is
-runs-others s p q (Some (arrives r)) ne may is = is
+runs-others s p q (Some _) ne may is = is

@@ -1,58 +1,136 @@
--- What the step functions of the read-write lock are to the plain lock.
-use Rattle.std.proofs.Common.{◌≡◌, ℕ, ◌+◌, ◌*◌, ◌/◌, ◌%◌, ◌==◌, Bool, true, false, ◌&&◌, ◌||◌, List, [], ◌∷◌, ◌++◌, length, refl, sym, ap, ◌∙◌, arith, eq-eqb, ne_eqb, nat_lt}
+-- What the word of the read-write lock tells, in which nobody stands beside a writer.
+use Rattle.std.proofs.Common.{◌≡◌, ℕ, ◌+◌, ◌*◌, ◌/◌, ◌%◌, ◌<◌, ◌≤◌, ◌==◌, Bool, true, false, not, ◌&&◌, ◌||◌, List, [], ◌∷◌, ◌++◌, length, refl, sym, ap, ◌∙◌, arith, eq-eqb, ne_eqb, nat_lt, cond}
 use Rattle.std.specs.Prelude.{min}
+use Rattle.std.proofs.lemmas.Bool.{and_parts, le-ltb}
 use mathlib.Core.Logic.{dite}
-use native.Mathlib.Decide.{ℕ_discrete}
-use Rattle.spin_step.specs.Plain.{Plain, Kind, reading, upgradable, writing, Holder, holder, same_kind, count_kind, is_holder, is_only, without_holder, with_kind, may_read, rw_word}
-use Rattle.spin_step.specs.Readers.{reader_limit, OneOfEach, has_room}
-use Rattle.spin_step.proofs.Exclusive.{weight, count-more, count-cons, count-without_holder, count-with_kind}
+use native.Mathlib.Decide.{ℕ_discrete, dec_lt}
+use Rattle.spin_step.specs.Plain.{Plain, Kind, reading, upgradable, writing, Holder, holder, same_kind, weight, may_upgrade, upgraders, admits, count_against, count_kind, is_reader, reader_count, is_empty, is_holder, is_only, may_come, rw_word}
+use Rattle.spin_step.specs.Parties.{IsExclusive}
+use Rattle.spin_step.specs.Readers.{reader_limit, OneOfEach, readers_in, writers_in, tells, has_room}
+use Rattle.spin_step.proofs.Holders.{is_empty-none, is_empty-some}
+use Rattle.spin_step.proofs.Sums.{sum_kinds, one_of, by_kinds, all_kinds, sum-less}
 
--- how much of the word one holder is
-abbrev pub worth : Kind → ℕ
-worth k = (4 * weight reading k + 2 * weight upgradable k) + weight writing k
+abbrev upgrader : Kind → ℕ
+upgrader k = cond (may_upgrade k) 1 0
+
+abbrev against : Kind → Kind → ℕ
+against k j = cond (not (admits j k)) 1 0
 
 abbrev pub word_of : List Holder → ℕ
-word_of hs = (4 * count_kind reading hs + 2 * count_kind upgradable hs) + count_kind writing hs
+word_of hs = sum_kinds weight hs
 
-pub word-more : (k : Kind) (p : ℕ) (hs : List Holder) → word_of (hs ++ holder p k ∷ []) ≡ word_of hs + worth k
-word-more k p hs = omega (arith, count-more reading hs p k, count-more upgradable hs p k, count-more writing hs p k)
+pub one_of_each : (s : Plain) → IsExclusive s → OneOfEach s
+one_of_each s alone = (alone.one_upgradable, dite (dec_lt 0 (count_kind writing s.holders)) (λ some. omega (arith, all_kinds s.holders, alone.writer some)) (λ none. omega (arith, none)))
 
-pub word-less : (k : Kind) (p : ℕ) (hs : List Holder) → is_holder p k hs ≡ true → word_of (without_holder p k hs) + worth k ≡ word_of hs
-word-less k p hs found = omega (arith, count-without_holder reading p k hs found, count-without_holder upgradable p k hs found, count-without_holder writing p k hs found)
+-- what a lock's word says of each kind of its holders
+record Counts (s : Plain) (w : ℕ) : Type 0 where
+  all : length s.holders ≡ (count_kind reading s.holders + count_kind upgradable s.holders) + count_kind writing s.holders
+  word : w ≡ (4 * count_kind reading s.holders + 2 * count_kind upgradable s.holders) + count_kind writing s.holders
+  upgraders : count_kind upgradable s.holders ≤ 1
+  writers : count_kind writing s.holders ≤ 1
 
-pub word-turned : (k l : Kind) (p : ℕ) (hs : List Holder) → is_holder p k hs ≡ true → word_of (with_kind p k l hs) + worth k ≡ word_of hs + worth l
-word-turned k l p hs found = omega (arith, count-with_kind reading p k l hs found, count-with_kind upgradable p k l hs found, count-with_kind writing p k l hs found)
+counts : (s : Plain) (word : ℕ) → OneOfEach s → rw_word s ≡ word → Counts s word
+counts s word one is =
+    record { all = all_kinds s.holders; word = omega (arith, by_kinds weight s.holders, is); upgraders = omega (arith, by_kinds upgrader s.holders, one.0); writers = one.1 }
 
-weight-one : (k : Kind) → (weight reading k + weight upgradable k) + weight writing k ≡ 1
-weight-one reading = refl
-weight-one upgradable = refl
-weight-one writing = refl
+-- the low bits tell who stands beside the readers, and the others how many those are
+come-word : (k : Kind) (s : Plain) (word cap : ℕ) → count_against k s.holders ≡ count_kind upgradable s.holders + count_kind writing s.holders → OneOfEach s → s.cap ≡ min cap reader_limit → rw_word s ≡ word → may_come k s ≡ has_room word cap
+come-word k s word cap others one room is =
+    let c = counts s word one is in
+    dite (ℕ_discrete (count_against k s.holders) 0)
+    (λ none.
+    let all : length s.holders ≡ word / 4 = omega (arith, c.all, c.word, others, none) in
+    rw (eq-eqb (count_against k s.holders) 0 none, eq-eqb (word % 4) 0 (omega (arith, c.word, others, none)), all, room) refl)
+    (λ some. rw (ne_eqb (count_against k s.holders) 0 some, ne_eqb (word % 4) 0 (λ low. some (omega (arith, c.upgraders, c.writers, c.word, others, low)))) refl)
 
--- each holder is of one of the three kinds
-pub kinds-all : (hs : List Holder) → length hs ≡ (count_kind reading hs + count_kind upgradable hs) + count_kind writing hs
-kinds-all [] = refl
-kinds-all (h ∷ hs) = omega (arith, weight-one h.kind, kinds-all hs, count-cons reading h hs, count-cons upgradable h hs, count-cons writing h hs)
+pub read-word : (s : Plain) (word cap : ℕ) → OneOfEach s → s.cap ≡ min cap reader_limit → rw_word s ≡ word → may_come reading s ≡ has_room word cap
+read-word s word cap one room is = come-word reading s word cap (omega (arith, by_kinds (against reading) s.holders)) one room is
+
+pub upgradable_read-word : (s : Plain) (word cap : ℕ) → OneOfEach s → s.cap ≡ min cap reader_limit → rw_word s ≡ word → may_come upgradable s ≡ has_room word cap
+upgradable_read-word s word cap one room is = come-word upgradable s word cap (omega (arith, by_kinds (against upgradable) s.holders)) one room is
+
+-- the word is zero exactly when nobody holds
+pub empty-word : (hs : List Holder) (word : ℕ) → word_of hs ≡ word → is_empty hs ≡ (word == 0)
+empty-word hs word is =
+    dite (ℕ_discrete word 0)
+    (λ none. is_empty-none hs (omega (arith, all_kinds hs, by_kinds weight hs, is, none)) ∙ sym (eq-eqb word 0 none))
+    (λ some. is_empty-some hs (omega (arith, all_kinds hs, by_kinds weight hs, is, some)) ∙ sym (ne_eqb word 0 some))
+
+-- Holders that are alone
 
 or_false : (b : Bool) → (b || false) ≡ true → b ≡ true
 or_false true e = refl
 or_false false e = e
 
--- the holder of a lock in which one stands
-pub only-holder : (p : ℕ) (k : Kind) (hs : List Holder) → is_holder p k hs ≡ true → length hs ≡ 1 → is_only p k hs ≡ true
+only-holder : (p : ℕ) (k : Kind) (hs : List Holder) → is_holder p k hs ≡ true → length hs ≡ 1 → is_only p k hs ≡ true
 only-holder p k [] found one = absurd cc
 only-holder p k (h ∷ []) found one = or_false ((h.party == p) && same_kind k h.kind) found
 only-holder p k (h ∷ i ∷ hs) found one = absurd (omega (arith, one))
 
--- where each of the two stands once at most, the low bits tell who stands beside the readers
-pub may_read-word : (s : Plain) (word cap : ℕ) → OneOfEach s → s.cap ≡ min cap reader_limit → rw_word s ≡ word → may_read s ≡ has_room word cap
-may_read-word s word cap one room is =
-    let others : ℕ = count_kind writing s.holders + count_kind upgradable s.holders in
-    dite (ℕ_discrete others 0)
-    (λ none.
-    let all : length s.holders ≡ word / 4 = omega (arith, kinds-all s.holders, none, is) in
-    let low : word % 4 ≡ 0 = omega (arith, none, is) in
-    ap (λ b. b && nat_lt (length s.holders) s.cap) (eq-eqb others 0 none)
-    ∙ (ap (λ n. nat_lt n s.cap) all ∙ (ap (nat_lt (word / 4)) room ∙ sym (ap (λ b. b && nat_lt (word / 4) (min cap reader_limit)) (eq-eqb (word % 4) 0 low)))))
-    (λ some.
-    ap (λ b. b && nat_lt (length s.holders) s.cap) (ne_eqb others 0 some)
-    ∙ sym (ap (λ b. b && nat_lt (word / 4) (min cap reader_limit)) (ne_eqb (word % 4) 0 (λ low. some (omega (arith, one.0, one.1, is, low))))))
+pub only_holds : (p : ℕ) (k : Kind) (hs : List Holder) → is_only p k hs ≡ true → (is_holder p k hs ≡ true) × (length hs ≡ 1)
+only_holds p k [] only = absurd cc
+only_holds p k (h ∷ []) only = (ap (λ b. b || false) only, refl)
+only_holds p k (h ∷ i ∷ hs) only = absurd cc
+
+-- a party of this kind is alone exactly where as many hold
+pub only-length : (p : ℕ) (k : Kind) (hs : List Holder) → is_holder p k hs ≡ true → is_only p k hs ≡ (length hs == 1)
+only-length p k hs found = dite (ℕ_discrete (length hs) 1)
+    (λ one. only-holder p k hs found one ∙ sym (eq-eqb (length hs) 1 one))
+    (λ more. lone (is_only p k hs) (λ only. more (only_holds p k hs only).1) ∙ sym (ne_eqb (length hs) 1 more))
+  where
+    lone : (b : Bool) → (b ≡ true → ⊥) → b ≡ false
+    lone true never = absurd (never refl)
+    lone false never = refl
+
+-- the upgradable reader is alone exactly at its own weight
+pub only-word : (s : Plain) (p word : ℕ) → OneOfEach s → is_holder p upgradable s.holders ≡ true → rw_word s ≡ word → is_only p upgradable s.holders ≡ (word == 2)
+only-word s p word one found is =
+    let c = counts s word one is in
+    let some = sum-less (one_of upgradable) p upgradable s.holders found in
+    only-length p upgradable s.holders found ∙ dite (ℕ_discrete word 2)
+    (λ two. eq-eqb (length s.holders) 1 (omega (arith, c.all, c.word, c.writers, some, two)) ∙ sym (eq-eqb word 2 two))
+    (λ other. ne_eqb (length s.holders) 1 (λ lone. other (omega (arith, c.all, c.word, some, lone))) ∙ sym (ne_eqb word 2 other))
+
+-- What a holder finds
+
+pub reader-word : (s : Plain) (p : ℕ) → is_holder p reading s.holders ≡ true → 4 ≤ rw_word s
+reader-word s p found = omega (arith, sum-less weight p reading s.holders found)
+
+-- beside the upgradable reader stand readers alone
+pub beside_upgradable : (s : Plain) (p : ℕ) → IsExclusive s → is_holder p upgradable s.holders ≡ true → (count_kind upgradable s.holders ≡ 1) × (count_kind writing s.holders ≡ 0)
+beside_upgradable s p alone found =
+    let some = sum-less (one_of upgradable) p upgradable s.holders found in
+    let one : count_kind upgradable s.holders ≡ 1 = omega (arith, some, by_kinds upgrader s.holders, alone.one_upgradable) in
+    (one, dite (dec_lt 0 (count_kind writing s.holders)) (λ writes. absurd (omega (arith, alone.writer writes, all_kinds s.holders, one, writes))) (λ none. omega (arith, none)))
+
+pub upgradable-word : (s : Plain) (p : ℕ) → IsExclusive s → length s.holders ≤ reader_limit → is_holder p upgradable s.holders ≡ true → (rw_word s % 4 ≡ 2) × (rw_word s / 4 < reader_limit)
+upgradable-word s p alone few found =
+    let beside = beside_upgradable s p alone found in let c = counts s (rw_word s) (one_of_each s alone) refl in
+    (omega (arith, beside.0, beside.1, c.word), omega (arith, beside.0, beside.1, c.word, c.all, few))
+
+pub writer-word : (s : Plain) (p : ℕ) → IsExclusive s → is_holder p writing s.holders ≡ true → rw_word s ≡ 1
+writer-word s p alone found =
+    let some = sum-less (one_of writing) p writing s.holders found in
+    omega (arith, some, by_kinds weight s.holders, all_kinds s.holders, alone.writer (omega (arith, some)))
+
+-- so the word tells each holder
+pub tells-holder : (s : Plain) (p : ℕ) (k : Kind) → IsExclusive s → length s.holders ≤ reader_limit → is_holder p k s.holders ≡ true → tells k (rw_word s) ≡ true
+tells-holder s p reading alone few found = ap not (le-ltb (rw_word s) (weight reading) (reader-word s p found))
+tells-holder s p upgradable alone few found = eq-eqb (rw_word s % weight reading) (weight upgradable) (upgradable-word s p alone few found).0
+tells-holder s p writing alone few found = eq-eqb (rw_word s) (weight writing) (writer-word s p alone found)
+
+-- Where all holders read
+
+pub nobody_against : (hs : List Holder) → count_kind reading hs ≡ length hs → count_against reading hs ≡ 0
+nobody_against hs all = omega (arith, all, all_kinds hs, by_kinds (against reading) hs)
+
+pub each_reads : (hs : List Holder) → count_kind reading hs ≡ length hs → reader_count hs ≡ length hs
+each_reads hs all = omega (arith, all, all_kinds hs, by_kinds (λ k. cond (is_reader k) 1 0) hs)
+
+-- What a count tells
+
+pub readers-word : (s : Plain) (word : ℕ) → OneOfEach s → rw_word s ≡ word → reader_count s.holders ≡ readers_in word
+readers-word s word one is = let c = counts s word one is in omega (arith, by_kinds (λ k. cond (is_reader k) 1 0) s.holders, c.word, c.upgraders, c.writers)
+
+pub writers-word : (s : Plain) (word : ℕ) → OneOfEach s → rw_word s ≡ word → count_kind writing s.holders ≡ writers_in word
+writers-word s word one is = let c = counts s word one is in omega (arith, c.word, c.upgraders, c.writers)

@@ -5,7 +5,7 @@ use Rattle.std.proofs.lemmas.List.Sums.{sum_by-cons}
 use mathlib.Core.Logic.{dite}
 use native.Mathlib.Decide.{ℕ_discrete}
 use Rattle.std.proofs.lemmas.Bool.{and_parts, true≢false}
-use Rattle.spin_step.specs.Plain.{Plain, Ticket, ticket, is_first, is_empty, serving_word, Ask, to_read, to_read_upgradable, to_write, to_upgrade, to_take_ticket, to_enter, to_take_and_enter, to_lock_unregistered, to_lock_starving, to_lock_starving_alone, to_starve, to_begin, Change, gets, releases, serves, stops_starving, turns, completes, fails, arrives, apply, is_open, with_first_entered, without_first}
+use Rattle.spin_step.specs.Plain.{Plain, Ticket, ticket, is_first, is_empty, serving_word, Effect, comes, becomes, queues, enters, starves, runs, effect, given, Change, gets, releases, serves, stops_starving, turns, completes, fails, arrives, apply, is_open, with_first_entered, without_first}
 use Rattle.spin_step.specs.Parties.{none_entered, first_alone_entered}
 use Rattle.spin_step.specs.Tickets.{numbered_from, Numbered, gone}
 
@@ -98,22 +98,13 @@ pub serving-gone : (n : ℕ) (ts : List Ticket) → length ts ≤ n → is_empty
 serving-gone n [] within some = absurd (cc (some))
 serving-gone n (t ∷ ts) within some = omega (arith, within)
 
-pub numbered-gets : (s : Plain) (p : ℕ) (ask : Ask) → Numbered s → Numbered (apply s (gets p ask))
-numbered-gets s p to_read numbered = numbered
-numbered-gets s p to_read_upgradable numbered = numbered
-numbered-gets s p to_write numbered = numbered
-numbered-gets s p to_upgrade numbered = numbered
-numbered-gets s p to_take_ticket numbered = numbered-taken s p false numbered
-numbered-gets s p to_enter numbered = (
+pub numbered-given : (s : Plain) (p : ℕ) (e : Effect) → Numbered s → Numbered (given s p e)
+numbered-given s p (queues b) numbered = numbered-taken s p b numbered
+numbered-given s p enters numbered = (
   omega (arith, length-entered s.tickets, numbered.0),
   subst (λ k. numbered_from k (with_first_entered s.tickets)) (sym (serving-entered s)) (numbered-entered (serving_word s) s.tickets numbered.1),
 )
-numbered-gets s p to_take_and_enter numbered = numbered-taken s p true numbered
-numbered-gets s p to_lock_unregistered numbered = numbered
-numbered-gets s p to_lock_starving numbered = numbered
-numbered-gets s p to_lock_starving_alone numbered = numbered
-numbered-gets s p to_starve numbered = numbered
-numbered-gets s p to_begin numbered = numbered
+numbered-given s p _ numbered = numbered
 
 pub numbered-serves : (s : Plain) (p : ℕ) → Numbered s → Numbered (apply s (serves p))
 numbered-serves s p numbered = numbered-gone s.next s.tickets numbered
@@ -122,44 +113,25 @@ pub first_stands : (p : ℕ) (b : Bool) (ts : List Ticket) → is_first p b ts �
 first_stands p b [] e = absurd (cc (e))
 first_stands p b (t ∷ ts) e = refl
 
-serving-gets : (s : Plain) (p : ℕ) (ask : Ask) → Numbered s → serving_word (apply s (gets p ask)) ≡ serving_word s
-serving-gets s p to_read numbered = refl
-serving-gets s p to_read_upgradable numbered = refl
-serving-gets s p to_write numbered = refl
-serving-gets s p to_upgrade numbered = refl
-serving-gets s p to_take_ticket numbered = serving-taken s p false numbered
-serving-gets s p to_enter numbered = serving-entered s
-serving-gets s p to_take_and_enter numbered = serving-taken s p true numbered
-serving-gets s p to_lock_unregistered numbered = refl
-serving-gets s p to_lock_starving numbered = refl
-serving-gets s p to_lock_starving_alone numbered = refl
-serving-gets s p to_starve numbered = refl
-serving-gets s p to_begin numbered = refl
+serving-given : (s : Plain) (p : ℕ) (e : Effect) → Numbered s → serving_word (given s p e) ≡ serving_word s
+serving-given s p (queues b) numbered = serving-taken s p b numbered
+serving-given s p enters numbered = serving-entered s
+serving-given s p _ numbered = refl
 
 -- what is served grows by one with each ticket that goes, and by nothing else
 pub serving-moves : (s : Plain) (c : Change) → Numbered s → is_open s c ≡ true → serving_word (apply s c) ≡ serving_word s + gone c
-serving-moves s (gets p ask) numbered may = omega (arith, serving-gets s p ask numbered)
-serving-moves s (releases p k) numbered may = omega arith
+serving-moves s (gets p ask) numbered may = omega (arith, serving-given s p (effect ask) numbered)
 serving-moves s (serves p) numbered may = serving-gone s.next s.tickets numbered.0 (first_stands p true s.tickets may)
-serving-moves s (stops_starving p) numbered may = omega arith
-serving-moves s (turns p k l) numbered may = omega arith
-serving-moves s (completes p) numbered may = omega arith
-serving-moves s (fails p) numbered may = omega arith
-serving-moves s (arrives p) numbered may = omega arith
+serving-moves s _ numbered may = omega arith
 
 -- what is served stays, or the first ticket goes and the next one is served
 abbrev pub Advances : Plain → Change → Type 0
 Advances s c = (serving_word (apply s c) ≡ serving_word s) ⊎ ((is_empty s.tickets ≡ false) × (serving_word (apply s c) ≡ serving_word s + 1))
 
 pub serving-advances : (s : Plain) (c : Change) → Numbered s → is_open s c ≡ true → Advances s c
-serving-advances s (gets p ask) numbered may = inl (serving-gets s p ask numbered)
-serving-advances s (releases p k) numbered may = inl refl
+serving-advances s (gets p ask) numbered may = inl (serving-given s p (effect ask) numbered)
 serving-advances s (serves p) numbered may = let some = first_stands p true s.tickets may in inr (some, serving-gone s.next s.tickets numbered.0 some)
-serving-advances s (stops_starving p) numbered may = inl refl
-serving-advances s (turns p k l) numbered may = inl refl
-serving-advances s (completes p) numbered may = inl refl
-serving-advances s (fails p) numbered may = inl refl
-serving-advances s (arrives p) numbered may = inl refl
+serving-advances s _ numbered may = inl refl
 
 -- Who stands
 

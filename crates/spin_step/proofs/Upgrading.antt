@@ -1,67 +1,86 @@
 -- While an upgradable reader stands the readers only go, and it is alone once all have gone.
-use Rattle.std.proofs.Common.{◌≡◌, ℕ, ◌+◌, ◌==◌, ◌↔◌, Bool, true, false, ◌&&◌, ◌||◌, List, [], ◌∷◌, length, ap, arith}
-use Rattle.std.proofs.lemmas.Bool.{eqb-true, and_parts, false≢true}
-use Rattle.spin_step.specs.Plain.{Plain, Kind, reading, upgradable, writing, Holder, Change, gets, releases, serves, stops_starving, turns, completes, fails, arrives, to_read, to_read_upgradable, to_write, to_upgrade, to_take_ticket, to_enter, to_take_and_enter, to_lock_unregistered, to_lock_starving, to_lock_starving_alone, to_starve, to_begin, apply, is_open, is_empty, is_holder, is_only, is_starver, is_only_starver, is_downgrade, count_kind, with_kind, without_holder}
-use Rattle.spin_step.specs.Parties.{IsExclusive}
+use Rattle.std.proofs.Common.{◌≡◌, ℕ, ◌+◌, ◌==◌, ◌↔◌, inl, inr, Bool, true, false, ◌&&◌, ◌||◌, cond, not, List, [], ◌∷◌, Some, length, refl, ap, sym, ◌∙◌, arith, eq-eqb, eqb-true}
+use Rattle.std.proofs.lemmas.List.Sums.{sum_by-cons}
+use Rattle.std.proofs.lemmas.Bool.{and_parts, false≢true}
+use Rattle.spin_step.specs.Plain.{Plain, Kind, reading, upgradable, writing, Holder, holder, admits, Effect, comes, becomes, effect, given, Change, gets, releases, turns, to_write, to_upgrade, apply, is_open, is_open_to, is_empty, is_holder, is_only, may_turn, count_kind, with_kind, without_holder}
+use Rattle.spin_step.specs.Parties.{who, IsExclusive}
 use Rattle.spin_step.specs.Steps.{bit}
 use Rattle.spin_step.specs.Readers.{reader_goes}
-use Rattle.spin_step.proofs.Exclusive.{empty_is, count-without_holder, count-with_kind}
-use Rattle.spin_step.proofs.Readers.{kinds-all, only-holder}
-use Rattle.spin_step.proofs.ReaderSteps.{beside_upgradable, only_word}
+use Rattle.spin_step.specs.Upgrading.{StaysUpgradable, apply_all, reader_releases}
+use Rattle.spin_step.proofs.Exclusive.{Lets, lets, empty_is, room_to_come, exclusive-kept}
+use Rattle.spin_step.proofs.Holders.{length-without_holder, is_empty-some}
+use Rattle.spin_step.proofs.Sums.{one_of, by_kinds, all_kinds, sum-less, sum-turned, length-with_kind}
+use Rattle.spin_step.proofs.Readers.{beside_upgradable, only_holds, only-length}
 
-only_is : (p : ℕ) (k : Kind) (hs : List Holder) → is_only p k hs ≡ true → is_holder p k hs ≡ true
-only_is p k [] only = absurd cc
-only_is p k (h ∷ []) only = ap (λ b. b || false) only
-only_is p k (h ∷ i ∷ hs) only = absurd cc
+-- nobody else may come where it stands
+nobody_comes : (s : Plain) (p q : ℕ) (k : Kind) → IsExclusive s → is_holder p upgradable s.holders ≡ true → Lets s q (comes k) → ⊥
+nobody_comes s p q k alone found (inl none) = omega (arith, (beside_upgradable s p alone found).0, all_kinds s.holders, ap length (empty_is s.holders none))
+nobody_comes s p q reading alone found (inr may) = omega (arith, (beside_upgradable s p alone found).0, by_kinds (λ j. cond (not (admits j reading)) 1 0) s.holders, (room_to_come reading s may).0)
+nobody_comes s p q upgradable alone found (inr may) = omega (arith, (beside_upgradable s p alone found).0, by_kinds (λ j. cond (not (admits j upgradable)) 1 0) s.holders, (room_to_come upgradable s may).0)
+nobody_comes s p q writing alone found (inr may) = omega (arith, (beside_upgradable s p alone found).0, by_kinds (λ j. cond (not (admits j writing)) 1 0) s.holders, (room_to_come writing s may).0)
 
-no_more : (p : ℕ) (hs : List Holder) → count_kind upgradable hs ≡ 0 → is_holder p upgradable hs ≡ true → ⊥
-no_more p hs none found = omega (arith, none, count-without_holder upgradable p upgradable hs found)
-
--- where it stands nobody else may come
-module _ (s : Plain) (p : ℕ) (alone : IsExclusive s) (found : is_holder p upgradable s.holders ≡ true) where
-  not_empty : is_empty s.holders ≡ true → ⊥
-  not_empty none = omega (arith, (beside_upgradable s p alone found).0, kinds-all s.holders, ap length (empty_is s.holders none))
-
-  no_reader_comes : (below : Bool) → (((count_kind writing s.holders + count_kind upgradable s.holders) == 0) && below) ≡ true → ⊥
-  no_reader_comes below may = omega (arith, (beside_upgradable s p alone found).0, eqb-true (count_kind writing s.holders + count_kind upgradable s.holders) 0 (and_parts ((count_kind writing s.holders + count_kind upgradable s.holders) == 0) below may).0)
+-- who gets something leaves the readers as they are, or upgrades
+readers_stay : (s : Plain) (p q : ℕ) (e : Effect) → IsExclusive s → is_holder p upgradable s.holders ≡ true → Lets s q e → is_holder p upgradable (given s q e).holders ≡ true → count_kind reading (given s q e).holders ≡ count_kind reading s.holders
+readers_stay s p q (comes k) alone found let_in stays = absurd (nobody_comes s p q k alone found let_in)
+readers_stay s p q (becomes j k) alone found let_in stays =
+    let one = (only_holds q j s.holders let_in).1 in
+    let after = with_kind q j k s.holders in
+    omega (arith, one, all_kinds s.holders, (beside_upgradable s p alone found).0, length-with_kind q j k s.holders, all_kinds after, sum-less (one_of upgradable) p upgradable after stays)
+readers_stay s p q _ alone found let_in stays = omega arith
 
 -- each step through which it stays leaves the readers as they are, or is a reader's that goes
 pub readers_only_go : (s : Plain) (p : ℕ) (c : Change) → IsExclusive s → is_holder p upgradable s.holders ≡ true → is_open s c ≡ true → is_holder p upgradable (apply s c).holders ≡ true
     → count_kind reading (apply s c).holders + bit (reader_goes c) ≡ count_kind reading s.holders
-readers_only_go s p (gets q to_read) alone found may stays = absurd (no_reader_comes s p alone found _ may)
-readers_only_go s p (gets q to_read_upgradable) alone found may stays = absurd (no_reader_comes s p alone found _ may)
-readers_only_go s p (gets q to_write) alone found may stays = absurd (not_empty s p alone found may)
-readers_only_go s p (gets q to_upgrade) alone found may stays =
-    absurd (no_more p (with_kind q upgradable writing s.holders) (omega (arith, (beside_upgradable s p alone found).0, count-with_kind upgradable q upgradable writing s.holders (only_is q upgradable s.holders may))) stays)
-readers_only_go s p (gets q to_take_ticket) alone found may stays = omega arith
-readers_only_go s p (gets q to_enter) alone found may stays = omega arith
-readers_only_go s p (gets q to_take_and_enter) alone found may stays = omega arith
-readers_only_go s p (gets q to_lock_unregistered) alone found may stays = absurd (not_empty s p alone found (and_parts (is_empty s.holders) (is_empty s.starvers) may).0)
-readers_only_go s p (gets q to_lock_starving) alone found may stays = absurd (not_empty s p alone found (and_parts (is_starver q s.starvers) (is_empty s.holders) may).1)
-readers_only_go s p (gets q to_lock_starving_alone) alone found may stays = absurd (not_empty s p alone found (and_parts (is_only_starver q s.starvers) (is_empty s.holders) may).1)
-readers_only_go s p (gets q to_starve) alone found may stays = omega arith
-readers_only_go s p (gets q to_begin) alone found may stays = omega arith
-readers_only_go s p (releases q reading) alone found may stays = omega (arith, count-without_holder reading q reading s.holders may)
-readers_only_go s p (releases q upgradable) alone found may stays =
-    absurd (no_more p (without_holder q upgradable s.holders) (omega (arith, (beside_upgradable s p alone found).0, count-without_holder upgradable q upgradable s.holders may)) stays)
-readers_only_go s p (releases q writing) alone found may stays = absurd (omega (arith, (beside_upgradable s p alone found).1, count-without_holder writing q writing s.holders may))
-readers_only_go s p (turns q reading l) alone found may stays = absurd (false≢true (and_parts (is_holder q reading s.holders) (is_downgrade reading l) may).1)
+readers_only_go s p (gets q ask) alone found may stays = omega (arith, readers_stay s p q (effect ask) alone found (lets s q ask may) stays)
+readers_only_go s p (releases q reading) alone found may stays = omega (arith, sum-less (one_of reading) q reading s.holders may)
+readers_only_go s p (releases q upgradable) alone found may stays = omega (arith, sum-less (one_of reading) q upgradable s.holders may)
+readers_only_go s p (releases q writing) alone found may stays = omega (arith, sum-less (one_of reading) q writing s.holders may)
+readers_only_go s p (turns q writing k) alone found may stays =
+    absurd (omega (arith, (beside_upgradable s p alone found).1, sum-less (one_of writing) q writing s.holders (and_parts (is_holder q writing s.holders) (may_turn writing k) may).0))
 readers_only_go s p (turns q upgradable reading) alone found may stays =
-    absurd (no_more p (with_kind q upgradable reading s.holders)
-    (omega (arith, (beside_upgradable s p alone found).0, count-with_kind upgradable q upgradable reading s.holders (and_parts (is_holder q upgradable s.holders) true may).0)) stays)
-readers_only_go s p (turns q upgradable _) alone found may stays = absurd (false≢true (and_parts (is_holder q upgradable s.holders) false may).1)
-readers_only_go s p (turns q writing l) alone found may stays =
-    absurd (omega (arith, (beside_upgradable s p alone found).1, count-without_holder writing q writing s.holders (and_parts (is_holder q writing s.holders) (is_downgrade writing l) may).0))
-readers_only_go s p (serves q) alone found may stays = omega arith
-readers_only_go s p (stops_starving q) alone found may stays = omega arith
-readers_only_go s p (completes q) alone found may stays = omega arith
-readers_only_go s p (fails q) alone found may stays = omega arith
-readers_only_go s p (arrives q) alone found may stays = omega arith
+    let turned = sum-turned (one_of upgradable) q upgradable reading s.holders (and_parts (is_holder q upgradable s.holders) true may).0 in
+    absurd (omega (arith, (beside_upgradable s p alone found).0, turned, sum-less (one_of upgradable) p upgradable (with_kind q upgradable reading s.holders) stays))
+readers_only_go s p (turns q j k) alone found may stays = absurd (false≢true (and_parts (is_holder q j s.holders) (may_turn j k) may).1)
+readers_only_go s p _ alone found may stays = omega arith
 
 -- it is alone exactly when no reader is left
 pub alone_when_gone : (s : Plain) (p : ℕ) → IsExclusive s → is_holder p upgradable s.holders ≡ true → (is_only p upgradable s.holders ≡ true) ↔ (count_kind reading s.holders ≡ 0)
 alone_when_gone s p alone found =
     let beside = beside_upgradable s p alone found in (
-      λ only. omega (arith, only_word p s.holders only, beside.0),
-      λ none. only-holder p upgradable s.holders found (omega (arith, kinds-all s.holders, beside.0, beside.1, none)),
+      λ only. omega (arith, (only_holds p upgradable s.holders only).1, all_kinds s.holders, beside.0),
+      λ none. only-length p upgradable s.holders found ∙ eq-eqb (length s.holders) 1 (omega (arith, all_kinds s.holders, beside.0, beside.1, none)),
     )
+
+-- Over lists of steps
+
+pub downgrade_keeps_out : (s : Plain) (p q : ℕ) (k l : Kind) → is_open s (turns p k l) ≡ true → (is_open_to s q to_write ≡ false) × (is_open_to (apply s (turns p k l)) q to_write ≡ false)
+downgrade_keeps_out s p q k l may =
+    let some = length-without_holder p k s.holders (and_parts (is_holder p k s.holders) (may_turn k l) may).0 in
+    (is_empty-some s.holders (omega (arith, some)), is_empty-some (with_kind p k l s.holders) (omega (arith, some, length-with_kind p k l s.holders)))
+
+abbrev one_if : Bool → ℕ
+one_if b = cond b 1 0
+
+one_bit : (b : Bool) → one_if b ≡ bit b
+one_bit true = refl
+one_bit false = refl
+
+stands_at : (p : ℕ) (s : Plain) (cs : List Change) → StaysUpgradable p s cs → is_holder p upgradable s.holders ≡ true
+stands_at p s [] stays = stays
+stands_at p s (c ∷ cs) stays = stays.0
+
+pub readers_go : (s : Plain) (p : ℕ) (cs : List Change) → IsExclusive s → StaysUpgradable p s cs → count_kind reading (apply_all s cs).holders + reader_releases cs ≡ count_kind reading s.holders
+readers_go s p [] x stays = omega arith
+readers_go s p (c ∷ cs) x stays =
+    omega (arith, readers_go (apply s c) p cs (exclusive-kept s (who c) (Some c) x (refl, stays.1)) stays.2, readers_only_go s p c x stays.0 stays.1 (stands_at p (apply s c) cs stays.2), one_bit (reader_goes c), sum_by-cons (λ d. one_if (reader_goes d)) c cs)
+
+pub upgrade_opens : (s : Plain) (p : ℕ) (cs : List Change) → IsExclusive s → StaysUpgradable p s cs
+    → (is_open_to (apply_all s cs) p to_upgrade ≡ true → reader_releases cs ≡ count_kind reading s.holders) × (reader_releases cs ≡ count_kind reading s.holders → is_open_to (apply_all s cs) p to_upgrade ≡ true)
+upgrade_opens s p [] x stays = (
+  (λ may. omega (arith, (alone_when_gone s p x stays).0 may)),
+  (λ e. (alone_when_gone s p x stays).1 (omega (arith, e))),
+)
+upgrade_opens s p (c ∷ cs) x stays =
+    let rest = upgrade_opens (apply s c) p cs (exclusive-kept s (who c) (Some c) x (refl, stays.1)) stays.2 in
+    let one = readers_only_go s p c x stays.0 stays.1 (stands_at p (apply s c) cs stays.2) in let more = sum_by-cons (λ d. one_if (reader_goes d)) c cs in
+    ((λ may. omega (arith, rest.0 may, one, more, one_bit (reader_goes c))), (λ e. rest.1 (omega (arith, e, one, more, one_bit (reader_goes c)))))

@@ -5,3 +5,6 @@ pub mod Tickets
 pub mod Starvers
 pub mod Readers
 pub mod Barriers
+pub mod Orders
+pub mod Flags
+pub mod Upgrading

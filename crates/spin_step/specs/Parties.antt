@@ -1,6 +1,6 @@
 -- What one party has in a plain lock, and what no two may have at once.
 use Rattle.std.specs.Prelude.{◌≡◌, ℕ, ◌<◌, ◌≤◌, Bool, true, not, ◌&&◌, Option, Some, None, List, [], ◌∷◌, length, filter, ◌==◌}
-use Rattle.spin_step.specs.Plain.{Plain, upgradable, writing, Holder, Ticket, Change, gets, releases, serves, stops_starving, turns, completes, fails, arrives, apply, is_open, is_empty, count_kind}
+use Rattle.spin_step.specs.Plain.{Plain, writing, upgraders, Holder, Ticket, Change, gets, releases, serves, stops_starving, turns, completes, fails, arrives, apply, is_open, is_empty, count_kind}
 
 -- whose step it is
 abbrev pub who : Change → ℕ
@@ -63,8 +63,8 @@ abbrev pub first_alone_entered : List Ticket → Bool
 first_alone_entered [] = true
 first_alone_entered (t ∷ ts) = none_entered ts
 
--- nobody holds beside a writer, at most one holder is upgradable, and at most one ticket has entered
+-- nobody holds beside a writer, at most one holder may upgrade, and at most one ticket has entered
 pub record IsExclusive (s : Plain) : Type 0 where
   pub writer : 0 < count_kind writing s.holders → length s.holders ≡ 1
-  pub one_upgradable : count_kind upgradable s.holders ≤ 1
+  pub one_upgradable : upgraders s.holders ≤ 1
   pub one_entered : first_alone_entered s.tickets ≡ true

@@ -1,6 +1,6 @@
 -- The plain lock: lists of named parties and a few numbers, without a word, a bit or a loop.
 -- One record serves every lock here; each lock uses the part that it needs, and leaves the rest as it was at first.
-use Rattle.std.specs.Prelude.{ℕ, ◌+◌, ◌-◌, ◌*◌, ◌/◌, ◌%◌, ◌^◌, Bool, true, false, not, ◌&&◌, ◌||◌, if◌then◌else◌, List, [], ◌∷◌, ◌++◌, length, max, nat_lt, ◌==◌, count_by}
+use Rattle.std.specs.Prelude.{ℕ, ◌+◌, ◌-◌, ◌*◌, ◌/◌, ◌%◌, ◌^◌, Bool, true, false, not, ◌&&◌, ◌||◌, if◌then◌else◌, List, [], ◌∷◌, ◌++◌, length, max, nat_lt, ◌==◌, count_by, sum_by}
 
 -- how a holder holds the lock
 pub data Kind : Type 0 where
@@ -105,14 +105,39 @@ abbrev pub is_complete : Phase → Bool
 is_complete complete = true
 is_complete _ = false
 
--- no writer and no upgradable reader stands, and there is room below the cap
-abbrev pub may_read : Plain → Bool
-may_read s = ((count_kind writing s.holders + count_kind upgradable s.holders) == 0) && nat_lt (length s.holders) s.cap
+abbrev pub is_reader : Kind → Bool
+is_reader writing = false
+is_reader _ = true
+
+abbrev pub reader_count : List Holder → ℕ
+reader_count hs = count_by (λ h. is_reader h.kind) hs
+
+-- who may become the writer
+abbrev pub may_upgrade : Kind → Bool
+may_upgrade upgradable = true
+may_upgrade _ = false
+
+abbrev pub upgraders : List Holder → ℕ
+upgraders hs = count_by (λ h. may_upgrade h.kind) hs
+
+-- a holder of the first kind lets one of the second come
+abbrev pub admits : Kind → Kind → Bool
+admits reading reading = true
+admits reading upgradable = true
+admits _ _ = false
+
+-- how many keep a newcomer of this kind out
+abbrev pub count_against : Kind → List Holder → ℕ
+count_against k hs = count_by (λ h. not (admits h.kind k)) hs
+
+-- everybody who stands lets a newcomer of this kind come, and there is room below the cap
+abbrev pub may_come : Kind → Plain → Bool
+may_come k s = (count_against k s.holders == 0) && nat_lt (length s.holders) s.cap
 
 -- whether what the party asks for is open to it
 abbrev pub is_open_to : Plain → ℕ → Ask → Bool
-is_open_to s p to_read = may_read s
-is_open_to s p to_read_upgradable = may_read s
+is_open_to s p to_read = may_come reading s
+is_open_to s p to_read_upgradable = may_come upgradable s
 is_open_to s p to_write = is_empty s.holders
 is_open_to s p to_upgrade = is_only p upgradable s.holders
 is_open_to s p to_take_ticket = nat_lt s.next ticket_limit
@@ -135,19 +160,19 @@ pub data Change : Type 0 where
   fails : ℕ → Change
   arrives : ℕ → Change
 
--- which kind may become which, other than by an upgrade
-abbrev pub is_downgrade : Kind → Kind → Bool
-is_downgrade writing reading = true
-is_downgrade writing upgradable = true
-is_downgrade upgradable reading = true
-is_downgrade _ _ = false
+-- which kind may become which, whoever else stands
+abbrev pub may_turn : Kind → Kind → Bool
+may_turn writing reading = true
+may_turn writing upgradable = true
+may_turn upgradable reading = true
+may_turn _ _ = false
 
 abbrev pub is_open : Plain → Change → Bool
 is_open s (gets p ask) = is_open_to s p ask
 is_open s (releases p k) = is_holder p k s.holders
 is_open s (serves p) = is_first p true s.tickets
 is_open s (stops_starving p) = is_starver p s.starvers
-is_open s (turns p k l) = is_holder p k s.holders && is_downgrade k l
+is_open s (turns p k l) = is_holder p k s.holders && may_turn k l
 is_open s (completes p) = is_running p s.phase
 is_open s (fails p) = is_running p s.phase
 is_open s (arrives p) = true
@@ -181,23 +206,39 @@ abbrev pub without_first : List Ticket → List Ticket
 without_first [] = []
 without_first (t ∷ ts) = ts
 
--- the state after a party has got what it asked for
-abbrev pub given : Plain → ℕ → Ask → Plain
-given s p to_read = record s { holders = s.holders ++ holder p reading ∷ [] }
-given s p to_read_upgradable = record s { holders = s.holders ++ holder p upgradable ∷ [] }
-given s p to_write = record s { holders = s.holders ++ holder p writing ∷ [] }
-given s p to_upgrade = record s { holders = with_kind p upgradable writing s.holders }
-given s p to_take_ticket = record s { tickets = s.tickets ++ ticket p s.next false ∷ []; next = s.next + 1 }
-given s p to_enter = record s { tickets = with_first_entered s.tickets }
-given s p to_take_and_enter = record s { tickets = s.tickets ++ ticket p s.next true ∷ []; next = s.next + 1 }
-given s p to_lock_unregistered = record s { holders = s.holders ++ holder p writing ∷ [] }
-given s p to_lock_starving = record s { holders = s.holders ++ holder p writing ∷ [] }
-given s p to_lock_starving_alone = record s { holders = s.holders ++ holder p writing ∷ [] }
-given s p to_starve = record s { starvers = s.starvers ++ p ∷ [] }
-given s p to_begin = record s { phase = running p }
+-- what a party changes as it gets what it asks for
+pub data Effect : Type 0 where
+  comes : Kind → Effect  -- it is one more holder, of this kind
+  becomes : Kind → Kind → Effect  -- it holds by another kind
+  queues : Bool → Effect  -- it takes the next ticket, and has or hasn't entered with it
+  enters : Effect
+  starves : Effect
+  runs : Effect  -- its closure runs
+
+abbrev pub effect : Ask → Effect
+effect to_read = comes reading
+effect to_read_upgradable = comes upgradable
+effect to_write = comes writing
+effect to_upgrade = becomes upgradable writing
+effect to_take_ticket = queues false
+effect to_enter = enters
+effect to_take_and_enter = queues true
+effect to_lock_unregistered = comes writing
+effect to_lock_starving = comes writing
+effect to_lock_starving_alone = comes writing
+effect to_starve = starves
+effect to_begin = runs
+
+abbrev pub given : Plain → ℕ → Effect → Plain
+given s p (comes k) = record s { holders = s.holders ++ holder p k ∷ [] }
+given s p (becomes j k) = record s { holders = with_kind p j k s.holders }
+given s p (queues entered) = record s { tickets = s.tickets ++ ticket p s.next entered ∷ []; next = s.next + 1 }
+given s p enters = record s { tickets = with_first_entered s.tickets }
+given s p starves = record s { starvers = s.starvers ++ p ∷ [] }
+given s p runs = record s { phase = running p }
 
 abbrev pub apply : Plain → Change → Plain
-apply s (gets p ask) = given s p ask
+apply s (gets p ask) = given s p (effect ask)
 apply s (releases p k) = record s { holders = without_holder p k s.holders }
 apply s (serves p) = record s { tickets = without_first s.tickets }
 apply s (stops_starving p) = record s { starvers = without_starver p s.starvers }
@@ -210,11 +251,24 @@ apply s (arrives p) = record s { arrivals = s.arrivals + 1 }
 abbrev pub flag_word : Plain → ℕ
 flag_word s = length s.holders
 
+-- how much of a read-write lock's word a holder of each kind is
+abbrev pub weight : Kind → ℕ
+weight reading = 4
+weight upgradable = 2
+weight writing = 1
+
 abbrev pub rw_word : Plain → ℕ
-rw_word s = (4 * count_kind reading s.holders + 2 * count_kind upgradable s.holders) + count_kind writing s.holders
+rw_word s = sum_by (λ h. weight h.kind) s.holders
+
+-- how much of a fair lock's word its holder is, and each starver
+abbrev pub holder_weight : ℕ
+holder_weight = 1
+
+abbrev pub starver_weight : ℕ
+starver_weight = 2
 
 abbrev pub fair_word : Plain → ℕ
-fair_word s = length s.holders + 2 * length s.starvers
+fair_word s = holder_weight * length s.holders + starver_weight * length s.starvers
 
 abbrev pub next_word : Plain → ℕ
 next_word s = s.next

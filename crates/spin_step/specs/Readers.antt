@@ -1,18 +1,55 @@
 -- The read-write lock as its step functions see it.
-use Rattle.std.specs.Prelude.{ℕ, ◌≤◌, ◌==◌, ◌&&◌, ◌/◌, ◌%◌, Bool, true, false, nat_lt, min}
-use Rattle.spin_step.specs.Plain.{Plain, reading, upgradable, writing, Change, releases, count_kind}
+use Rattle.std.specs.Prelude.{ℕ, ◌≤◌, ◌+◌, ◌-◌, ◌/◌, ◌%◌, ◌==◌, ◌&&◌, Bool, true, false, not, Option, Some, None, if◌then◌else◌, nat_lt, min}
+use Rattle.spin_step.specs.Plain.{Plain, Kind, reading, upgradable, writing, Change, releases, weight, count_kind, upgraders}
 
 -- the limit of holders, usize::MAX / 4 / 2
 abbrev pub reader_limit : ℕ
 reader_limit = 2305843009213693951
 
--- at most one holder is upgradable, and at most one writes
+-- at most one holder may upgrade, and at most one writes
 abbrev pub OneOfEach : Plain → Type 0
-OneOfEach s = (count_kind upgradable s.holders ≤ 1) × (count_kind writing s.holders ≤ 1)
+OneOfEach s = (upgraders s.holders ≤ 1) × (count_kind writing s.holders ≤ 1)
+
+-- What a word tells
+
+-- how many read, the upgradable reader included
+abbrev pub readers_in : ℕ → ℕ
+readers_in word = word / weight reading + (word % weight reading) / weight upgradable
+
+abbrev pub writers_in : ℕ → ℕ
+writers_in word = word % weight upgradable
+
+-- whether a holder of this kind stands
+abbrev pub tells : Kind → ℕ → Bool
+tells reading word = not (nat_lt word (weight reading))
+tells upgradable word = (word % weight reading) == weight upgradable
+tells writing word = word == weight writing
 
 -- the word has no low bit, and counts fewer readers than the cap
 abbrev pub has_room : ℕ → ℕ → Bool
-has_room word cap = (word % 4 == 0) && nat_lt (word / 4) (min cap reader_limit)
+has_room word cap = (word % weight reading == 0) && nat_lt (word / weight reading) (min cap reader_limit)
+
+-- The results of the step functions
+
+abbrev pub read : ℕ → ℕ → Option ℕ
+read cap word = if has_room word cap then Some (word + weight reading) else None
+
+abbrev pub read_upgradable : ℕ → ℕ → Option ℕ
+read_upgradable cap word = if has_room word cap then Some (word + weight upgradable) else None
+
+abbrev pub write : ℕ → Option ℕ
+write word = if word == 0 then Some (weight writing) else None
+
+abbrev pub upgrade : ℕ → Option ℕ
+upgrade word = if word == weight upgradable then Some (weight writing) else None
+
+-- a holder of this kind has gone
+abbrev pub released : Kind → ℕ → ℕ
+released k word = word - weight k
+
+-- a holder of the first kind has become one of the second
+abbrev pub turned : Kind → Kind → ℕ → ℕ
+turned j k word = word + (weight k - weight j)
 
 -- the change is a reader that goes
 abbrev pub reader_goes : Change → Bool

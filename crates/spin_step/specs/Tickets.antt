@@ -1,6 +1,6 @@
 -- The queue of tickets as it stands: numbered one by one, up to the next number.
-use Rattle.std.specs.Prelude.{◌≡◌, ℕ, suc, ◌≤◌, ◌==◌, Bool, false, List, [], ◌∷◌, length, filter}
-use Rattle.spin_step.specs.Plain.{Plain, Ticket, ticket, Change, gets, serves, to_enter, is_open, serving_word}
+use Rattle.std.specs.Prelude.{◌≡◌, ℕ, suc, ◌≤◌, ◌+◌, ◌==◌, Bool, false, Option, Some, None, List, [], ◌∷◌, length, filter, if◌then◌else◌, nat_lt}
+use Rattle.spin_step.specs.Plain.{Plain, Ticket, ticket, ticket_limit, Change, gets, serves, to_enter, is_open, serving_word}
 
 abbrev pub numbered_from : ℕ → List Ticket → Type 0
 numbered_from k [] = Unit {0}
@@ -14,6 +14,14 @@ Numbered s = (length s.tickets ≤ s.next) × numbered_from (serving_word s) s.t
 abbrev pub IsTurn : ℕ → ℕ → Bool → Type 0
 IsTurn serving number turn =
     (s : Plain) (party : ℕ) → Numbered s → serving_word s ≡ serving → filter (λ t. t.party == party) s.tickets ≡ ticket party number false ∷ [] → is_open s (gets party to_enter) ≡ turn
+
+-- The results of the step functions
+
+abbrev pub take : ℕ → Option ℕ
+take next = if nat_lt next ticket_limit then Some (next + 1) else None
+
+abbrev pub served : ℕ → ℕ
+served number = number + 1
 
 -- how many tickets go with a plain step
 abbrev pub gone : Change → ℕ

@@ -6,6 +6,7 @@
 pub mod barrier;
 pub mod fair;
 pub mod flag;
+pub mod laws;
 pub mod once;
 pub mod rw;
 pub mod ticket;

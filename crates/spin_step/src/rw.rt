@@ -1,27 +1,35 @@
-//! Readers, one upgradable reader and one writer in one word: 4 for each reader, 2 for the upgradable reader, and 1 for
-//! the writer.
-ghost use Rattle.std.specs.Prelude.{◌≡◌, ◌<◌, ◌≤◌, ◌+◌, ◌-◌, ◌/◌, ◌%◌, ◌==◌, ℕ, Option, Some, None, true, if◌then◌else◌, min};
-ghost use Rattle.spin_step.specs.Plain.{Plain, reading, upgradable, writing, gets, releases, turns, to_read, to_read_upgradable, to_write, to_upgrade, is_holder, count_kind, rw_word};
+//! Readers, one upgradable reader and one writer in one word: the sum of what each holder weighs.
+ghost use Rattle.std.specs.Prelude.{◌≡◌, ◌<◌, ◌≤◌, ◌/◌, ◌%◌, ℕ, true, min};
+ghost use Rattle.spin_step.specs.Plain.{Plain, reading, upgradable, writing, weight, gets, releases, turns, to_read, to_read_upgradable, to_write, to_upgrade, is_holder, count_kind, reader_count, rw_word};
 ghost use Rattle.spin_step.specs.Steps.{Decides, Gives};
-ghost use Rattle.spin_step.specs.Readers.{reader_limit, OneOfEach, has_room};
+ghost use Rattle.spin_step.specs.Readers.{reader_limit, OneOfEach, readers_in, writers_in, tells, has_room, read, read_upgradable, write, upgrade, released, turned};
+
+/// What each reader is in the word.
+pub const READER: usize = 4;
+
+/// What the upgradable reader is in the word.
+pub const UPGRADABLE: usize = 2;
+
+/// What the writer is in the word.
+pub const WRITER: usize = 1;
 
 /// The most holders that may stand at a time, the upgradable reader included.
-pub const MAX_READERS: usize = usize::MAX / 4 / 2;
+pub const MAX_READERS: usize = usize::MAX / READER / 2;
 
 // Whether a reader may come, upgradable or not.
 fn has_room(word: usize, cap: usize) -> bool
     ensures { result ≡ has_room word cap }
 {
-    word % 4 == 0 && word / 4 < cap.min(MAX_READERS)
+    word % READER == 0 && word / READER < cap.min(MAX_READERS)
 }
 
 /// The word after a party has come to read, or `None` beside an upgradable reader or a writer, or at the cap.
 pub fn read(word: usize, cap: usize) -> Option<usize>
-    ensures exact { result ≡ (if has_room word cap then Some (word + 4) else None) }
+    ensures exact { result ≡ read cap word }
     ensures plain { (s : Plain) (party : ℕ) → OneOfEach s → s.cap ≡ min cap reader_limit → rw_word s ≡ word → Decides s (gets party to_read) rw_word result }
 {
     if has_room(word, cap) {
-        Some(word + 4)
+        Some(word + READER)
     } else {
         None
     }
@@ -30,11 +38,11 @@ pub fn read(word: usize, cap: usize) -> Option<usize>
 /// The word after a party has come to read and may upgrade, or `None` beside an upgradable reader or a writer, or at the
 /// cap.
 pub fn upgradable(word: usize, cap: usize) -> Option<usize>
-    ensures exact { result ≡ (if has_room word cap then Some (word + 2) else None) }
+    ensures exact { result ≡ read_upgradable cap word }
     ensures plain { (s : Plain) (party : ℕ) → OneOfEach s → s.cap ≡ min cap reader_limit → rw_word s ≡ word → Decides s (gets party to_read_upgradable) rw_word result }
 {
     if has_room(word, cap) {
-        Some(word + 2)
+        Some(word + UPGRADABLE)
     } else {
         None
     }
@@ -42,87 +50,91 @@ pub fn upgradable(word: usize, cap: usize) -> Option<usize>
 
 /// The word after a party has come to write, or `None` beside any holder.
 pub fn write(word: usize) -> Option<usize>
-    ensures exact { result ≡ (if word == 0 then Some 1 else None) }
+    ensures exact { result ≡ write word }
     ensures plain { (s : Plain) (party : ℕ) → rw_word s ≡ word → Decides s (gets party to_write) rw_word result }
 {
-    if word == 0 { Some(1) } else { None }
+    if word == 0 { Some(WRITER) } else { None }
 }
 
 /// The word after the upgradable reader has become the writer, or `None` beside another holder.
 pub fn upgrade(word: usize) -> Option<usize>
-    ensures exact { result ≡ (if word == 2 then Some 1 else None) }
+    ensures exact { result ≡ upgrade word }
     ensures plain { (s : Plain) (party : ℕ) → OneOfEach s → is_holder party upgradable s.holders ≡ true → rw_word s ≡ word → Decides s (gets party to_upgrade) rw_word result }
 {
-    if word == 2 { Some(1) } else { None }
+    if word == UPGRADABLE {
+        Some(WRITER)
+    } else {
+        None
+    }
 }
 
 /// The word after a reader has gone.
 pub fn release_read(word: usize) -> usize
-    requires { 4 ≤ word }
-    ensures exact { result ≡ word - 4 }
+    requires { tells reading word ≡ true }
+    ensures exact { result ≡ released reading word }
     ensures plain { (s : Plain) (party : ℕ) → rw_word s ≡ word → Gives s (releases party reading) rw_word result }
 {
-    word - 4
+    word - READER
 }
 
 /// The word after the upgradable reader has gone.
 pub fn release_upgradable(word: usize) -> usize
-    requires { word % 4 ≡ 2 }
-    ensures exact { result ≡ word - 2 }
+    requires { tells upgradable word ≡ true }
+    ensures exact { result ≡ released upgradable word }
     ensures plain { (s : Plain) (party : ℕ) → rw_word s ≡ word → Gives s (releases party upgradable) rw_word result }
 {
-    word - 2
+    word - UPGRADABLE
 }
 
 /// The word after the writer has gone.
 pub fn release_write(word: usize) -> usize
-    requires { word ≡ 1 }
-    ensures exact { result ≡ 0 }
+    requires { tells writing word ≡ true }
+    ensures exact { result ≡ released writing word }
     ensures plain { (s : Plain) (party : ℕ) → rw_word s ≡ word → Gives s (releases party writing) rw_word result }
 {
-    word - 1
+    word - WRITER
 }
 
 /// The word after the writer has become a reader.
 pub fn write_to_read(word: usize) -> usize
-    requires { word ≡ 1 }
-    ensures exact { result ≡ 4 }
+    requires { tells writing word ≡ true }
+    ensures exact { result ≡ turned writing reading word }
     ensures plain { (s : Plain) (party : ℕ) → rw_word s ≡ word → Gives s (turns party writing reading) rw_word result }
 {
-    word + 3
+    word + (READER - WRITER)
 }
 
 /// The word after the writer has become the upgradable reader.
 pub fn write_to_upgradable(word: usize) -> usize
-    requires { word ≡ 1 }
-    ensures exact { result ≡ 2 }
+    requires { tells writing word ≡ true }
+    ensures exact { result ≡ turned writing upgradable word }
     ensures plain { (s : Plain) (party : ℕ) → rw_word s ≡ word → Gives s (turns party writing upgradable) rw_word result }
 {
-    word + 1
+    word + (UPGRADABLE - WRITER)
 }
 
 /// The word after the upgradable reader has become a reader.
 pub fn upgradable_to_read(word: usize) -> usize
-    requires kind { word % 4 ≡ 2 }
-    requires within { word / 4 < reader_limit }
-    ensures exact { result ≡ word + 2 }
+    requires kind { tells upgradable word ≡ true }
+    requires within { word / weight reading < reader_limit }
+    ensures exact { result ≡ turned upgradable reading word }
     ensures plain { (s : Plain) (party : ℕ) → rw_word s ≡ word → Gives s (turns party upgradable reading) rw_word result }
 {
-    word + 2
+    word + (READER - UPGRADABLE)
 }
 
 /// How many read, the upgradable reader included.
 pub fn readers(word: usize) -> usize
-    ensures exact { result ≡ word / 4 + (word % 4) / 2 }
-    ensures plain { (s : Plain) → OneOfEach s → rw_word s ≡ word → result ≡ count_kind reading s.holders + count_kind upgradable s.holders }
+    ensures exact { result ≡ readers_in word }
+    ensures plain { (s : Plain) → OneOfEach s → rw_word s ≡ word → result ≡ reader_count s.holders }
 {
-    word / 4 + word % 4 / 2
+    word / READER + word % READER / UPGRADABLE
 }
 
 /// How many write: one at most.
 pub fn writers(word: usize) -> usize
-    ensures exact { result ≡ word % 2 }
+    ensures exact { result ≡ writers_in word }
     ensures plain { (s : Plain) → OneOfEach s → rw_word s ≡ word → result ≡ count_kind writing s.holders }
 {
-    word % 2
+    word % UPGRADABLE
 }

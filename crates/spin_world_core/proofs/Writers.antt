@@ -4,7 +4,8 @@ use Rattle.std.specs.List.{list_any}
 use Rattle.std.proofs.lemmas.Bool.{eqb-true, and_parts, or_cases, true≢false, false≢true}
 use Rattle.spin_step.specs.Plain.{Plain, writing, Holder, Ticket, same_kind, count_kind, is_empty}
 use Rattle.spin_step.specs.Parties.{entries, is_held, IsExclusive, none_entered, first_alone_entered}
-use Rattle.spin_step.proofs.Exclusive.{count-cons}
+use Rattle.std.proofs.lemmas.List.Sums.{sum_by-cons}
+use Rattle.spin_step.proofs.Sums.{one_of}
 use Rattle.spin_world_core.specs.Runs.{is_reader, is_writer}
 
 is_some_list : {X : Type 0} (test : X → Bool) (xs : List X) → list_any test xs ≡ true → not (is_empty xs) ≡ true
@@ -20,7 +21,7 @@ a_writer false k h f n is any rest = omega (arith, rest any)
 writer_counts : (q : ℕ) (hs : List Holder) → list_any (λ h. same_kind writing h.kind) (filter (λ h. h.party == q) hs) ≡ true → 0 < count_kind writing hs
 writer_counts q [] any = absurd cc
 writer_counts q (h ∷ hs) any =
-    omega (arith, count-cons writing h hs, a_writer (h.party == q) (same_kind writing h.kind) h (filter (λ g. g.party == q) hs) (count_kind writing hs) refl any (writer_counts q hs))
+    omega (arith, sum_by-cons (λ (g : Holder). one_of writing g.kind) h hs, a_writer (h.party == q) (same_kind writing h.kind) h (filter (λ g. g.party == q) hs) (count_kind writing hs) refl any (writer_counts q hs))
 
 one_here : (b : Bool) (h : Holder) → not (is_empty (cond b (h ∷ []) [])) ≡ true → b ≡ true
 one_here true h e = refl

@@ -2,14 +2,15 @@
 use Rattle.std.proofs.Common.{◌≡◌, ℕ, ◌+◌, ◌-◌, ◌/◌, ◌%◌, ◌≤◌, ◌==◌, Bool, true, ◌&&◌, Option, Some, None, List, [], ◌∷◌, ◌++◌, length, nat_lt, unwrap_or, refl, ap, sym, ◌∙◌, subst, arith, inl, eq-eqb, length-append}
 use Rattle.std.specs.Prelude.{min, max}
 use Rattle.std.proofs.lemmas.Bool.{and_parts, lt-ltb, ltb-true}
-use Rattle.spin_step.specs.Plain.{Plain, Kind, reading, upgradable, writing, Holder, holder, to_read, to_read_upgradable, to_write, to_upgrade, Change, gets, releases, turns, apply, is_open, may_read, is_empty, is_holder, is_downgrade, count_kind, without_holder, with_kind, rw_word}
+use Rattle.spin_step.specs.Plain.{Plain, Kind, reading, upgradable, writing, weight, Holder, holder, to_read, to_read_upgradable, to_write, to_upgrade, Change, gets, releases, turns, apply, is_open, may_come, is_empty, is_holder, may_turn, count_kind, without_holder, with_kind, rw_word}
 use Rattle.spin_step.specs.Parties.{Entries, entries, who, IsExclusive}
 use Rattle.spin_step.specs.Steps.{Decides}
-use Rattle.spin_step.specs.Readers.{reader_limit, has_room}
+use Rattle.spin_step.specs.Readers.{reader_limit, tells, has_room, read, read_upgradable, write, upgrade, released, turned as turned_to}
 use Rattle.spin_step.proofs.Holders.{is_holder-from_entries, length-without_holder}
-use Rattle.spin_step.proofs.Exclusive.{length-with_kind, empty_is}
-use Rattle.spin_step.proofs.Readers.{worth, may_read-word}
-use Rattle.spin_step.proofs.ReaderSteps.{one_of_each, rw_read-grants, rw_upgradable-grants, rw_write-grants, rw_upgrade-grants, rw_release-gives, rw_turn-gives, reader-word, upgradable-word, writer-word, readers-word, writers-word, only-word, empty-word}
+use Rattle.spin_step.proofs.Exclusive.{empty_is, room_to_come}
+use Rattle.spin_step.proofs.Sums.{length-with_kind}
+use Rattle.spin_step.proofs.Readers.{one_of_each, read-word, upgradable_read-word, upgradable-word, tells-holder, readers-word, writers-word, only-word, empty-word}
+use Rattle.spin_step.proofs.ReaderSteps.{rw_read-grants, rw_upgradable-grants, rw_write-grants, rw_upgrade-grants, rw_release-gives, rw_turn-gives}
 use Rattle.spin_world_core.specs.declared.answer.Answer.{Answer}
 use Rattle.spin_world_core.specs.declared.place.Hold.{Hold}
 use Rattle.spin_world_core.specs.declared.place.Hold.TheVariants as hold
@@ -23,7 +24,7 @@ use Rattle.spin_world_core.specs.Calls.{Mark}
 use Rattle.spin_world_core.specs.Calls as calls
 use Rattle.spin_world_core.specs.Operations.{Operation, loads, exchanges, adds, subtracts, performed}
 use Rattle.spin_world_core.specs.Acts.{step_by, can_by}
-use Rattle.spin_world_rw.specs.Rw.{begins_at, read, read_upgradable, write, upgrade, granted, goes_for, act_of, asks_of, rw_table, rw_machine}
+use Rattle.spin_world_rw.specs.Rw.{begins_at, granted, goes_for, act_of, asks_of, rw_table, rw_machine}
 use Rattle.spin_world_core.proofs.Facts.{LocalInvariant, Facts}
 use Rattle.spin_world_core.proofs.Stands.{holds, entries_at}
 use Rattle.spin_world_core.proofs.Rows.{starts_sound, SoundAt, Row, Point, starts, looked}
@@ -65,9 +66,8 @@ module _ {V : Type 0} (v : V) (cap : ℕ) where
   with_holders : (s : Plain) (hs : List Holder) → Within cap s → length hs ≤ max s.cap 1 → Within cap (record s { holders = hs })
   with_holders s hs shape few = record { no_queue = shape.no_queue; room = shape.room; few = few }
 
-  one_more : (s : Plain) (h : Holder) (b : Bool) → Within cap s → (b && nat_lt (length s.holders) s.cap) ≡ true → Within cap (record s { holders = s.holders ++ h ∷ [] })
-  one_more s h b shape may =
-      with_holders s (s.holders ++ h ∷ []) shape (omega (arith, ltb-true (length s.holders) s.cap (and_parts b (nat_lt (length s.holders) s.cap) may).1, shape.room, length-append s.holders (h ∷ [])))
+  one_more : (s : Plain) (p : ℕ) (k : Kind) → Within cap s → may_come k s ≡ true → Within cap (record s { holders = s.holders ++ holder p k ∷ [] })
+  one_more s p k shape may = with_holders s (s.holders ++ holder p k ∷ []) shape (omega (arith, (room_to_come k s may).1, shape.room, length-append s.holders (holder p k ∷ [])))
 
   alone : (s : Plain) (h : Holder) → Within cap s → is_empty s.holders ≡ true → Within cap (record s { holders = s.holders ++ h ∷ [] })
   alone s h shape may = with_holders s (s.holders ++ h ∷ []) shape (omega (arith, ap length (empty_is s.holders may), length-append s.holders (h ∷ [])))
@@ -83,19 +83,16 @@ module _ {V : Type 0} (v : V) (cap : ℕ) where
   decides : (p : ℕ) (s : Plain) (c : Change) (o : Option ℕ) → who c ≡ p → Decides s c rw_word o → (is_open s c ≡ true → Within cap (apply s c)) → IsMeant p s c o
   decides p s c o = means_word (rw_table v cap) (rw_notes v cap) rw_word (λ to after is. ap (λ n. n ∷ []) is) p s c o
 
-  abbrev others_than : Plain → Bool
-  others_than s = (count_kind writing s.holders + count_kind upgradable s.holders) == 0
-
   module _ {c : CallOf ℕ RwPoint (Answer V)} {l : RwPoint} {h : Option Hold} {s : Plain} {w : ℕ} {span : List Mark} {row : Row} (p : ℕ) (at : AtPoint (rw_table v cap) (rw_notes v cap) p c l h s w span row) where
     word : rw_word s ≡ w
     word = word_is s w at.encodes
 
     read_means : IsMeant p s (gets p to_read) (read cap w)
-    read_means = decides p s (gets p to_read) (read cap w) refl (rw_read-grants s p w cap (one_of_each s at.exclusive) at.shape.room word) (λ may. one_more s (holder p reading) (others_than s) at.shape may)
+    read_means = decides p s (gets p to_read) (read cap w) refl (rw_read-grants s p w cap (one_of_each s at.exclusive) at.shape.room word) (λ may. one_more s p reading at.shape may)
 
     upgradable_means : IsMeant p s (gets p to_read_upgradable) (read_upgradable cap w)
     upgradable_means =
-        decides p s (gets p to_read_upgradable) (read_upgradable cap w) refl (rw_upgradable-grants s p w cap (one_of_each s at.exclusive) at.shape.room word) (λ may. one_more s (holder p upgradable) (others_than s) at.shape may)
+        decides p s (gets p to_read_upgradable) (read_upgradable cap w) refl (rw_upgradable-grants s p w cap (one_of_each s at.exclusive) at.shape.room word) (λ may. one_more s p upgradable at.shape may)
 
     write_means : IsMeant p s (gets p to_write) (write w)
     write_means = decides p s (gets p to_write) (write w) refl (rw_write-grants s p w word) (λ may. alone s (holder p writing) at.shape may)
@@ -103,26 +100,21 @@ module _ {V : Type 0} (v : V) (cap : ℕ) where
     upgrade_means : entries p s ≡ entries_at p (holds upgradable) → IsMeant p s (gets p to_upgrade) (upgrade w)
     upgrade_means mine = decides p s (gets p to_upgrade) (upgrade w) refl (rw_upgrade-grants s p w (one_of_each s at.exclusive) (holder_by p upgradable s mine) word) (λ may. turned s p upgradable writing at.shape)
 
-    turn_means : (j k : Kind) (to : ℕ) → is_holder p j s.holders ≡ true → is_downgrade j k ≡ true → to + worth j ≡ w + worth k → IsMeant p s (turns p j k) (Some to)
-    turn_means j k to found down by =
-        let may : is_open s (turns p j k) ≡ true = ap (λ b. b && is_downgrade j k) found ∙ down in
-        ((refl, may), ap (λ n. n ∷ []) (rw_turn-gives s p j k w to word by may), turned s p j k at.shape)
+    turn_means : (j k : Kind) → is_holder p j s.holders ≡ true → may_turn j k ≡ true → weight j ≤ weight k → IsMeant p s (turns p j k) (Some (turned_to j k w))
+    turn_means j k found down more =
+        let may : is_open s (turns p j k) ≡ true = ap (λ b. b && may_turn j k) found ∙ down in
+        ((refl, may), ap (λ n. n ∷ []) (rw_turn-gives s p j k w more word may), turned s p j k at.shape)
 
-    release_means : (k : Kind) → is_holder p k s.holders ≡ true → IsMeant p s (releases p k) (Some (w - worth k))
+    release_means : (k : Kind) → is_holder p k s.holders ≡ true → IsMeant p s (releases p k) (Some (released k w))
     release_means k found = ((refl, found), ap (λ n. n ∷ []) (rw_release-gives s p k w word found), fewer s p k at.shape found)
 
-  -- What holders find
+    -- What holders find
 
-  reads_word : (p : ℕ) (s : Plain) (w : ℕ) → rw_word s ≡ w → is_holder p reading s.holders ≡ true → nat_lt 3 w ≡ true
-  reads_word p s w is found = lt-ltb 3 w (omega (arith, reader-word s p found, is))
+    finds : (k : Kind) → is_holder p k s.holders ≡ true → tells k w ≡ true
+    finds k found = ap (tells k) (sym word) ∙ tells-holder s p k at.exclusive (omega (arith, at.shape.few, at.shape.room)) found
 
-  may_upgrade_word : (p : ℕ) (s : Plain) (w : ℕ) → IsExclusive s → Within cap s → rw_word s ≡ w → is_holder p upgradable s.holders ≡ true → ((w % 4 == 2) ≡ true) × (nat_lt (w / 4) reader_limit ≡ true)
-  may_upgrade_word p s w order shape is found =
-      let found_word = upgradable-word s p order (omega (arith, shape.few, shape.room)) found in
-      (eq-eqb (w % 4) 2 (omega (arith, found_word.0, is)), lt-ltb (w / 4) reader_limit (omega (arith, found_word.1, is)))
-
-  writes_word : (p : ℕ) (s : Plain) (w : ℕ) → IsExclusive s → rw_word s ≡ w → is_holder p writing s.holders ≡ true → w ≡ 1
-  writes_word p s w order is found = omega (arith, writer-word s p order found, is)
+    finds_room : is_holder p upgradable s.holders ≡ true → nat_lt (w / weight reading) reader_limit ≡ true
+    finds_room found = lt-ltb (w / weight reading) reader_limit (omega (arith, (upgradable-word s p at.exclusive (omega (arith, at.shape.few, at.shape.room)) found).1, word))
 
   owes : (p : ℕ) (c : RwCall) (l : RwPoint) (h : Option Hold) (s : Plain) (w : ℕ) (span : List Mark) → OwesAt (rw_table v cap) (rw_notes v cap) p c l h s w span
   owes p TryRead First None s w span = λ at. (read_means p at, (λ found. (refl, refl, refl, (refl, refl, as_found (read cap) w found), tt)), (λ closed. (refl, inl refl, inl closed)))
@@ -161,28 +153,14 @@ module _ {V : Type 0} (v : V) (cap : ℕ) where
   owes p TryUpgrade l (Some hold.Upgradable) s w span = λ at. (upgrade_means p at at.known.stand, (refl, inl refl, tt), (λ closed. (refl, inl refl, inl closed)))
   owes p TryUpgradeWeak l (Some hold.Upgradable) s w span = λ at. (upgrade_means p at at.known.stand, (refl, inl refl, tt), (λ closed. (refl, inl refl, inl closed)), (refl, inl refl, tt), refl, refl)
   owes p Upgrade l (Some hold.Upgradable) s w span = λ at. (upgrade_means p at at.known.stand, (refl, inl refl, tt), (λ closed. (refl, refl, tt, tt, tt)), (refl, refl, tt, tt, tt), refl, refl)
-  owes p Downgrade l (Some hold.Write) s w span = λ at.
-      let found = holder_by p writing s at.known.stand in
-      let one = writes_word p s w at.exclusive (word p at) found in
-      (eq-eqb w 1 one, turn_means p at writing reading (w + 3) found refl (omega (arith, one)), (refl, inl refl, tt))
+  owes p Downgrade l (Some hold.Write) s w span = λ at. let found = holder_by p writing s at.known.stand in (finds p at writing found, turn_means p at writing reading found refl (omega arith), (refl, inl refl, tt))
   owes p Downgrade l (Some hold.Upgradable) s w span = λ at.
       let found = holder_by p upgradable s at.known.stand in
-      let two = may_upgrade_word p s w at.exclusive at.shape (word p at) found in
-      (ap (λ b. b && nat_lt (w / 4) reader_limit) two.0 ∙ two.1, turn_means p at upgradable reading (w + 2) found refl (omega arith), (refl, inl refl, tt))
-  owes p DowngradeToUpgradeable l (Some hold.Write) s w span = λ at.
-      let found = holder_by p writing s at.known.stand in
-      let one = writes_word p s w at.exclusive (word p at) found in
-      (eq-eqb w 1 one, turn_means p at writing upgradable (w + 1) found refl (omega (arith, one)), (refl, inl refl, tt))
-  owes p Release l (Some hold.Read) s w span = λ at.
-      let found = holder_by p reading s at.known.stand in
-      (reads_word p s w (word p at) found, release_means p at reading found, (refl, inl refl, tt))
-  owes p Release l (Some hold.Upgradable) s w span = λ at.
-      let found = holder_by p upgradable s at.known.stand in
-      ((may_upgrade_word p s w at.exclusive at.shape (word p at) found).0, release_means p at upgradable found, (refl, inl refl, tt))
-  owes p Release l (Some hold.Write) s w span = λ at.
-      let found = holder_by p writing s at.known.stand in
-      let one = writes_word p s w at.exclusive (word p at) found in
-      (eq-eqb w 1 one, subst (λ n. IsMeant p s (releases p writing) (Some n)) (omega (arith, one)) (release_means p at writing found), (refl, inl refl, tt))
+      (ap (λ b. b && nat_lt (w / weight reading) reader_limit) (finds p at upgradable found) ∙ finds_room p at found, turn_means p at upgradable reading found refl (omega arith), (refl, inl refl, tt))
+  owes p DowngradeToUpgradeable l (Some hold.Write) s w span = λ at. let found = holder_by p writing s at.known.stand in (finds p at writing found, turn_means p at writing upgradable found refl (omega arith), (refl, inl refl, tt))
+  owes p Release l (Some hold.Read) s w span = λ at. let found = holder_by p reading s at.known.stand in (finds p at reading found, release_means p at reading found, (refl, inl refl, tt))
+  owes p Release l (Some hold.Upgradable) s w span = λ at. let found = holder_by p upgradable s at.known.stand in (finds p at upgradable found, release_means p at upgradable found, (refl, inl refl, tt))
+  owes p Release l (Some hold.Write) s w span = λ at. let found = holder_by p writing s at.known.stand in (finds p at writing found, release_means p at writing found, (refl, inl refl, tt))
   owes p _ _ _ s w span = tt
 
   -- Run alone: the word that lets a party in is exchanged, at once or after a look
@@ -190,33 +168,36 @@ module _ {V : Type 0} (v : V) (cap : ℕ) where
   abbrev Soon : ℕ → ℕ → RwCall → RwPoint → Option Hold → Type 0
   Soon k w c l h = answers_by (rw_table v cap) k w c l h ≡ true
 
-  lets_in : (s : Plain) (w : ℕ) → IsExclusive s → Within cap s → rw_word s ≡ w → may_read s ≡ true → has_room w cap ≡ true
-  lets_in s w order shape is may = sym (may_read-word s w cap (one_of_each s order) shape.room is) ∙ may
+  lets_in : (s : Plain) (w : ℕ) → IsExclusive s → Within cap s → rw_word s ≡ w → may_come reading s ≡ true → has_room w cap ≡ true
+  lets_in s w order shape is may = sym (read-word s w cap (one_of_each s order) shape.room is) ∙ may
+
+  lets_in_upgradable : (s : Plain) (w : ℕ) → IsExclusive s → Within cap s → rw_word s ≡ w → may_come upgradable s ≡ true → has_room w cap ≡ true
+  lets_in_upgradable s w order shape is may = sym (upgradable_read-word s w cap (one_of_each s order) shape.room is) ∙ may
 
   module _ (w : ℕ) (room : has_room w cap ≡ true) where
     reads_now : Soon 1 w Read (Exchange w) None
-    reads_now = exchanges_now (rw_table v cap) Read None Exchange (read cap) (λ p. gets p to_read) (λ m. granted hold.Read) (GoesOn First) w (w + 4) (rw room refl) (λ m. refl) 0 refl
+    reads_now = exchanges_now (rw_table v cap) Read None Exchange (read cap) (λ p. gets p to_read) (λ m. granted hold.Read) (GoesOn First) w (w + weight reading) (rw room refl) (λ m. refl) 0 refl
 
     reads_soon : (n : ℕ) → Soon 2 w Read (Exchange n) None
-    reads_soon n = retries_soon (rw_table v cap) Read None Exchange (read cap) (λ p. gets p to_read) (λ m. granted hold.Read) (GoesOn First) w (w + 4) (rw room refl) (λ m. refl) 0 refl n
+    reads_soon n = retries_soon (rw_table v cap) Read None Exchange (read cap) (λ p. gets p to_read) (λ m. granted hold.Read) (GoesOn First) w (w + weight reading) (rw room refl) (λ m. refl) 0 refl n
 
     may_upgrade_now : Soon 1 w UpgradeableRead (Exchange w) None
     may_upgrade_now =
-        exchanges_now (rw_table v cap) UpgradeableRead None Exchange (read_upgradable cap) (λ p. gets p to_read_upgradable) (λ m. granted hold.Upgradable) (GoesOn First) w (w + 2) (rw room refl) (λ m. refl) 0 refl
+        exchanges_now (rw_table v cap) UpgradeableRead None Exchange (read_upgradable cap) (λ p. gets p to_read_upgradable) (λ m. granted hold.Upgradable) (GoesOn First) w (w + weight upgradable) (rw room refl) (λ m. refl) 0 refl
 
     may_upgrade_soon : (n : ℕ) → Soon 2 w UpgradeableRead (Exchange n) None
     may_upgrade_soon n =
-        retries_soon (rw_table v cap) UpgradeableRead None Exchange (read_upgradable cap) (λ p. gets p to_read_upgradable) (λ m. granted hold.Upgradable) (GoesOn First) w (w + 2) (rw room refl) (λ m. refl) 0 refl n
+        retries_soon (rw_table v cap) UpgradeableRead None Exchange (read_upgradable cap) (λ p. gets p to_read_upgradable) (λ m. granted hold.Upgradable) (GoesOn First) w (w + weight upgradable) (rw room refl) (λ m. refl) 0 refl n
 
   soon : (p : ℕ) (c : RwCall) (l : RwPoint) (h : Option Hold) (s : Plain) (w : ℕ) (span : List Mark)
       → OwesSoon (rw_table v cap) (rw_notes v cap) p c l h s w span
   soon p Read First None s w span = λ at free. let room = lets_in s w at.exclusive at.shape (word p at) free in rw room (reads_now w room)
   soon p Read (Exchange n) None s w span = λ at free. reads_soon w (lets_in s w at.exclusive at.shape (word p at) free) n
-  soon p UpgradeableRead First None s w span = λ at free. let room = lets_in s w at.exclusive at.shape (word p at) free in rw room (may_upgrade_now w room)
-  soon p UpgradeableRead (Exchange n) None s w span = λ at free. may_upgrade_soon w (lets_in s w at.exclusive at.shape (word p at) free) n
+  soon p UpgradeableRead First None s w span = λ at free. let room = lets_in_upgradable s w at.exclusive at.shape (word p at) free in rw room (may_upgrade_now w room)
+  soon p UpgradeableRead (Exchange n) None s w span = λ at free. may_upgrade_soon w (lets_in_upgradable s w at.exclusive at.shape (word p at) free) n
   soon p Write l None s w span = λ at free. let zero : (w == 0) ≡ true = sym (empty-word s.holders w (word_is s w at.encodes)) ∙ free in rw zero refl
   soon p Upgrade l (Some hold.Upgradable) s w span = λ at free.
-      let two : (w == 2) ≡ true = sym (only-word s p w (one_of_each s at.exclusive) (holder_by p upgradable s at.known.stand) (word_is s w at.encodes)) ∙ free in rw two refl
+      let two : (w == weight upgradable) ≡ true = sym (only-word s p w (one_of_each s at.exclusive) (holder_by p upgradable s at.known.stand) (word_is s w at.encodes)) ∙ free in rw two refl
   soon p _ _ _ s w span = tt
 
   begins : (p : ℕ) (c : RwCall) (h : Option Hold) (s : Plain) → BeginsAt (rw_table v cap) (rw_notes v cap) c h p s (begins_at c h)
@@ -317,26 +298,26 @@ module _ {V : Type 0} (v : V) (cap : ℕ) where
   operates UpgradeableRead First h = at_word UpgradeableRead First h loads (λ w can. refl)
   operates UpgradeableRead (Exchange n) h =
       at_word UpgradeableRead (Exchange n) h (swap (read_upgradable cap) n) (λ w can. swaps_found V n w (read_upgradable cap) (granted hold.Upgradable) (goes_for w) (GoesOn First))
-  operates TryWrite l h = at_word TryWrite l h (exchanges 0 1) (λ w can. swaps V 0 1 w (granted hold.Write) (Answers Refused h))
-  operates TryWriteWeak l h = at_word TryWriteWeak l h (exchanges 0 1) (λ w can. swaps V 0 1 w (granted hold.Write) (Answers Refused h))
-  operates Write l h = at_word Write l h (exchanges 0 1) (λ w can. swaps V 0 1 w (granted hold.Write) (GoesOn First))
+  operates TryWrite l h = at_word TryWrite l h (exchanges 0 (weight writing)) (λ w can. swaps V 0 (weight writing) w (granted hold.Write) (Answers Refused h))
+  operates TryWriteWeak l h = at_word TryWriteWeak l h (exchanges 0 (weight writing)) (λ w can. swaps V 0 (weight writing) w (granted hold.Write) (Answers Refused h))
+  operates Write l h = at_word Write l h (exchanges 0 (weight writing)) (λ w can. swaps V 0 (weight writing) w (granted hold.Write) (GoesOn First))
   operates ReaderCount l h = at_word ReaderCount l h loads (λ w can. refl)
   operates WriterCount l h = at_word WriterCount l h loads (λ w can. refl)
-  operates TryUpgrade l h = at_word TryUpgrade l h (exchanges 2 1) (λ w can. swaps V 2 1 w (granted hold.Write) (Answers Refused h))
-  operates TryUpgradeWeak l h = at_word TryUpgradeWeak l h (exchanges 2 1) (λ w can. swaps V 2 1 w (granted hold.Write) (Answers Refused h))
-  operates Upgrade l h = at_word Upgrade l h (exchanges 2 1) (λ w can. swaps V 2 1 w (granted hold.Write) (GoesOn First))
-  operates Downgrade l (Some hold.Write) = at_word Downgrade l (Some hold.Write) (adds 3) (λ w can. refl)
-  operates Downgrade l h = at_word Downgrade l h (adds 2) (λ w can. refl)
-  operates DowngradeToUpgradeable l h = at_word DowngradeToUpgradeable l h (adds 1) (λ w can. refl)
-  operates Release l (Some hold.Read) = at_word Release l (Some hold.Read) (subtracts 4) (λ w can. refl)
-  operates Release l (Some hold.Upgradable) = at_word Release l (Some hold.Upgradable) (subtracts 2) (λ w can. refl)
-  operates Release l h = at_word Release l h (subtracts 1) (λ w can. refl)
+  operates TryUpgrade l h = at_word TryUpgrade l h (exchanges (weight upgradable) (weight writing)) (λ w can. swaps V (weight upgradable) (weight writing) w (granted hold.Write) (Answers Refused h))
+  operates TryUpgradeWeak l h = at_word TryUpgradeWeak l h (exchanges (weight upgradable) (weight writing)) (λ w can. swaps V (weight upgradable) (weight writing) w (granted hold.Write) (Answers Refused h))
+  operates Upgrade l h = at_word Upgrade l h (exchanges (weight upgradable) (weight writing)) (λ w can. swaps V (weight upgradable) (weight writing) w (granted hold.Write) (GoesOn First))
+  operates Downgrade l (Some hold.Write) = at_word Downgrade l (Some hold.Write) (adds (weight reading - weight writing)) (λ w can. refl)
+  operates Downgrade l h = at_word Downgrade l h (adds (weight reading - weight upgradable)) (λ w can. refl)
+  operates DowngradeToUpgradeable l h = at_word DowngradeToUpgradeable l h (adds (weight upgradable - weight writing)) (λ w can. refl)
+  operates Release l (Some hold.Read) = at_word Release l (Some hold.Read) (subtracts (weight reading)) (λ w can. refl)
+  operates Release l (Some hold.Upgradable) = at_word Release l (Some hold.Upgradable) (subtracts (weight upgradable)) (λ w can. refl)
+  operates Release l h = at_word Release l h (subtracts (weight writing)) (λ w can. refl)
 
   refuses : Refuses (rw_table v cap)
-  refuses TryWriteWeak l h next is = (0, 0, 1, on_word TryWriteWeak l h (exchanges 0 1) (λ w can. swaps V 0 1 w _ _), λ w other. lost_there V 0 1 w _ _ next (cc (is)) other)
-  refuses Write l h next is = (0, 0, 1, on_word Write l h (exchanges 0 1) (λ w can. swaps V 0 1 w _ _), λ w other. lost_there V 0 1 w _ _ next (cc (is)) other)
-  refuses TryUpgradeWeak l h next is = (0, 2, 1, on_word TryUpgradeWeak l h (exchanges 2 1) (λ w can. swaps V 2 1 w _ _), λ w other. lost_there V 2 1 w _ _ next (cc (is)) other)
-  refuses Upgrade l h next is = (0, 2, 1, on_word Upgrade l h (exchanges 2 1) (λ w can. swaps V 2 1 w _ _), λ w other. lost_there V 2 1 w _ _ next (cc (is)) other)
+  refuses TryWriteWeak l h next is = (0, 0, weight writing, on_word TryWriteWeak l h (exchanges 0 (weight writing)) (λ w can. swaps V 0 (weight writing) w _ _), λ w other. lost_there V 0 (weight writing) w _ _ next (cc (is)) other)
+  refuses Write l h next is = (0, 0, weight writing, on_word Write l h (exchanges 0 (weight writing)) (λ w can. swaps V 0 (weight writing) w _ _), λ w other. lost_there V 0 (weight writing) w _ _ next (cc (is)) other)
+  refuses TryUpgradeWeak l h next is = (0, weight upgradable, weight writing, on_word TryUpgradeWeak l h (exchanges (weight upgradable) (weight writing)) (λ w can. swaps V (weight upgradable) (weight writing) w _ _), λ w other. lost_there V (weight upgradable) (weight writing) w _ _ next (cc (is)) other)
+  refuses Upgrade l h next is = (0, weight upgradable, weight writing, on_word Upgrade l h (exchanges (weight upgradable) (weight writing)) (λ w can. swaps V (weight upgradable) (weight writing) w _ _), λ w other. lost_there V (weight upgradable) (weight writing) w _ _ next (cc (is)) other)
   refuses TryRead First h next is = absurd (cc (is))
   refuses TryRead (Exchange n) h next is = absurd (cc (is))
   refuses Read First h next is = absurd (cc (is))

@@ -7,7 +7,7 @@ use Rattle.spin_step.specs.Steps.{bit}
 use Rattle.spin_step.proofs.Exclusive.{empty_is}
 use Rattle.spin_step.specs.Readers.{reader_goes}
 use Rattle.spin_step.proofs.Upgrading.{readers_only_go, alone_when_gone}
-use Rattle.spin_step.proofs.ReaderSteps.{one_of_each, only-word, empty-word}
+use Rattle.spin_step.proofs.Readers.{one_of_each, only-word, empty-word, word_of}
 use Rattle.spin_world_core.specs.declared.answer.Answer.{Answer}
 use Rattle.spin_world_core.specs.declared.answer.Answer.TheVariants.{Granted, Refused, Done}
 use Rattle.spin_world_core.specs.declared.place.Hold.{Hold}
@@ -27,7 +27,8 @@ use Rattle.spin_world_core.specs.Schedules.{State, moves_at, stepped, after, at_
 use Rattle.spin_world_core.specs.Runs.{Seen, scene, opening, entries_of, is_reader}
 use Rattle.spin_world_core.specs.Acts.{becomes}
 use Rattle.spin_world_core.specs.Users.{seen_after, passes, ReadsAgreeAcross}
-use Rattle.spin_world_rw.specs.Rw.{upgrade, granted, rw_machine}
+use Rattle.spin_step.specs.Readers.{upgrade}
+use Rattle.spin_world_rw.specs.Rw.{granted, rw_machine}
 use Rattle.spin_world_rw.specs.Standing.{StandTogether, KeepsWritersOut, less, Downgrades, readers_gone, StaysUpgradable, upgrades, Opens, converts}
 use Rattle.spin_world_rw.proofs.Owed.{holder_by, rw_keeping, rw_facts}
 use Rattle.spin_world_core.proofs.Lists.{get-set_same}
@@ -93,7 +94,7 @@ module _ {V : Type 0} (v : V) (cap : ℕ) where
   zero_when_free n past =
       let seen = seen_after (rw_machine v cap) (opening (rw_machine v cap) n) past in (
         λ zero. empty_is seen.plain.holders (empty-word seen.plain.holders 0 (sym (words_are n past) ∙ zero)),
-        λ none. words_are n past ∙ ap (λ hs. (4 * count_kind reading hs + 2 * count_kind upgradable hs) + count_kind writing hs) none,
+        λ none. words_are n past ∙ ap word_of none,
       )
 
   -- An upgrade opens by releases

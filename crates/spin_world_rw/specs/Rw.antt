@@ -1,7 +1,7 @@
 -- The calls of the read-write lock, step by step, and how they read on the plain lock.
-use Rattle.std.specs.Prelude.{ℕ, ◌+◌, ◌-◌, ◌/◌, ◌%◌, ◌==◌, ◌&&◌, true, Option, Some, None, is_some, [], if◌then◌else◌, nat_lt, min}
-use Rattle.spin_step.specs.Plain.{reading, upgradable, writing, Ask, to_read, to_read_upgradable, to_write, to_upgrade, gets, releases, turns}
-use Rattle.spin_step.specs.Readers.{reader_limit, has_room}
+use Rattle.std.specs.Prelude.{ℕ, ◌/◌, ◌==◌, ◌&&◌, true, Option, Some, None, is_some, [], nat_lt, min}
+use Rattle.spin_step.specs.Plain.{reading, upgradable, writing, weight, Ask, to_read, to_read_upgradable, to_write, to_upgrade, gets, releases, turns}
+use Rattle.spin_step.specs.Readers.{reader_limit, readers_in, writers_in, tells, read, read_upgradable, write, upgrade, released, turned}
 use Rattle.spin_world_core.specs.declared.place.Hold.{Hold}
 use Rattle.spin_world_core.specs.declared.place.Hold.TheVariants as hold
 use Rattle.spin_world_core.specs.declared.object.Next.{Next}
@@ -39,28 +39,6 @@ begins_at Release (Some hold.Upgradable) = Some First
 begins_at Release (Some hold.Write) = Some First
 begins_at _ _ = None
 
--- the word with one more reader, one more that may upgrade, a writer, and a writer in place of one that may upgrade
-
-abbrev pub read : ℕ → ℕ → Option ℕ
-read cap w = if has_room w cap then Some (w + 4) else None
-
-abbrev pub read_upgradable : ℕ → ℕ → Option ℕ
-read_upgradable cap w = if has_room w cap then Some (w + 2) else None
-
-abbrev pub write : ℕ → Option ℕ
-write w = if w == 0 then Some 1 else None
-
-abbrev pub upgrade : ℕ → Option ℕ
-upgrade w = if w == 2 then Some 1 else None
-
--- how many holders of each sort the word tells
-
-abbrev pub readers_in : ℕ → ℕ
-readers_in w = w / 4 + (w % 4) / 2
-
-abbrev pub writers_in : ℕ → ℕ
-writers_in w = w % 2
-
 abbrev pub granted : {V : Type 0} → Hold → Next RwPoint (Answer V)
 granted held = Answers Granted (Some held)
 
@@ -92,12 +70,12 @@ act_of cap WriterCount l h = load (λ w. Answers (Count (writers_in w)) h)
 act_of cap TryUpgrade l h = exchange upgrade (λ p. gets p to_upgrade) (granted hold.Write) (λ w. Answers Refused h)
 act_of cap TryUpgradeWeak l h = weak_exchange upgrade (λ p. gets p to_upgrade) (granted hold.Write) (Answers Refused h)
 act_of cap Upgrade l h = weak_exchange upgrade (λ p. gets p to_upgrade) (granted hold.Write) (GoesOn First)
-act_of cap Downgrade l (Some hold.Write) = store (λ w. w == 1) (λ w. w + 3) (λ p. turns p writing reading) (Answers Done (Some hold.Read))
-act_of cap Downgrade l h = store (λ w. (w % 4 == 2) && nat_lt (w / 4) reader_limit) (λ w. w + 2) (λ p. turns p upgradable reading) (Answers Done (Some hold.Read))
-act_of cap DowngradeToUpgradeable l h = store (λ w. w == 1) (λ w. w + 1) (λ p. turns p writing upgradable) (Answers Done (Some hold.Upgradable))
-act_of cap Release l (Some hold.Read) = store (λ w. nat_lt 3 w) (λ w. w - 4) (λ p. releases p reading) (Answers Done None)
-act_of cap Release l (Some hold.Upgradable) = store (λ w. w % 4 == 2) (λ w. w - 2) (λ p. releases p upgradable) (Answers Done None)
-act_of cap Release l h = store (λ w. w == 1) (λ w. w - 1) (λ p. releases p writing) (Answers Done None)
+act_of cap Downgrade l (Some hold.Write) = store (tells writing) (turned writing reading) (λ p. turns p writing reading) (Answers Done (Some hold.Read))
+act_of cap Downgrade l h = store (λ w. tells upgradable w && nat_lt (w / weight reading) reader_limit) (turned upgradable reading) (λ p. turns p upgradable reading) (Answers Done (Some hold.Read))
+act_of cap DowngradeToUpgradeable l h = store (tells writing) (turned writing upgradable) (λ p. turns p writing upgradable) (Answers Done (Some hold.Upgradable))
+act_of cap Release l (Some hold.Read) = store (tells reading) (released reading) (λ p. releases p reading) (Answers Done None)
+act_of cap Release l (Some hold.Upgradable) = store (tells upgradable) (released upgradable) (λ p. releases p upgradable) (Answers Done None)
+act_of cap Release l h = store (tells writing) (released writing) (λ p. releases p writing) (Answers Done None)
 
 abbrev pub asks_of : RwCall → Option Hold → Asked
 asks_of TryRead h = tries to_read

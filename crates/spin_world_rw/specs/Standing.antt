@@ -1,6 +1,6 @@
 -- What users of a read-write lock rely on: who stands beside whom, and when an upgrade opens.
 use Rattle.std.specs.Prelude.{◌≡◌, ℕ, ◌+◌, ◌<◌, ◌≤◌, ◌↔◌, Bool, true, false, Option, Some, None, List, [], ◌∷◌, ◌++◌, length, slice_get, min, max}
-use Rattle.spin_step.specs.Plain.{Plain, reading, upgradable, writing, to_write, to_upgrade, is_open_to, is_holder, count_kind, rw_word}
+use Rattle.spin_step.specs.Plain.{Plain, reading, upgradable, writing, to_write, to_upgrade, is_open_to, is_holder, count_kind, upgraders, rw_word}
 use Rattle.spin_step.specs.Readers.{reader_limit, reader_goes}
 use Rattle.spin_world_core.specs.declared.answer.Answer.{Answer}
 use Rattle.spin_world_core.specs.declared.answer.Answer.TheVariants.{Granted, Done}
@@ -22,7 +22,7 @@ use Rattle.spin_world_core.specs.Users.{seen_after, outcome_after, steps_made}
 pub record StandTogether (cap w : ℕ) (s : Plain) : Type 0 where
   pub word : w ≡ rw_word s
   pub writer : 0 < count_kind writing s.holders → length s.holders ≡ 1
-  pub one_upgradable : count_kind upgradable s.holders ≤ 1
+  pub one_upgradable : upgraders s.holders ≤ 1
   pub within : length s.holders ≤ max (min cap reader_limit) 1
 
 -- no other party may become the writer, neither as it comes nor by an upgrade

@@ -1,6 +1,6 @@
 -- Read-write locks that are wrong, each in one part of its table, and schedules on which the laws refuse them. Where its steps are wrong, so are the plain steps that they read as.
 use Rattle.std.specs.Prelude.{ℕ, zero, suc, ◌+◌, ◌-◌, ◌/◌, ◌%◌, ◌==◌, true, false, Option, Some, None, List, [], ◌∷◌, ◌++◌, if◌then◌else◌}
-use Rattle.spin_step.specs.Plain.{reading, upgradable, writing, to_read, to_write, to_upgrade, to_lock_starving, Change, gets, releases}
+use Rattle.spin_step.specs.Plain.{reading, upgradable, writing, weight, to_read, to_write, to_upgrade, to_lock_starving, Change, gets, releases}
 use Rattle.spin_world_core.specs.declared.place.Hold.{Hold}
 use Rattle.spin_world_core.specs.declared.place.Hold.TheVariants as hold
 use Rattle.spin_world_core.specs.declared.object.Next.TheVariants.{GoesOn, Answers}
@@ -16,7 +16,8 @@ use Rattle.spin_world_core.specs.Machines.{Machine}
 use Rattle.spin_world_core.specs.declared.object.Next.{Next}
 use Rattle.spin_world_core.specs.Calls.{Asked, waits}
 use Rattle.spin_world_core.specs.Acts.{Act, load, exchange, weak_exchange, store, Table, machine_of}
-use Rattle.spin_world_rw.specs.Rw.{granted, goes_for, read, write, begins_at, act_of, asks_of, rw_table}
+use Rattle.spin_step.specs.Readers.{tells, read, write, released}
+use Rattle.spin_world_rw.specs.Rw.{granted, goes_for, begins_at, act_of, asks_of, rw_table}
 
 abbrev RwAct : Type 0 → Type 0
 RwAct V = Act ℕ RwPoint (Answer V)
@@ -33,7 +34,7 @@ with_steps {V} v act = let t : RwTable V = rw_table v 9 in machine_of (record t 
 
 -- `try_upgrade` is granted while readers stand
 abbrev pub upgrade_at_once : {V : Type 0} → RwCall → RwPoint → Option Hold → RwAct V
-upgrade_at_once TryUpgrade l h = exchange (λ w. Some 1) (λ p. gets p to_upgrade) (granted hold.Write) (λ w. Answers Refused h)
+upgrade_at_once TryUpgrade l h = exchange (λ w. Some (weight writing)) (λ p. gets p to_upgrade) (granted hold.Write) (λ w. Answers Refused h)
 upgrade_at_once c l h = act_of 9 c l h
 
 abbrev pub upgrades_at_once : {V : Type 0} → V → RwMachine V
@@ -47,8 +48,8 @@ upgrade_beside_a_reader = read_alone ++ (1, Begin TryUpgradeableRead) ∷ (1, St
 
 -- `downgrade` frees the writer, and then takes a reader's place
 abbrev pub downgrade_in_two : {V : Type 0} → RwCall → RwPoint → Option Hold → RwAct V
-downgrade_in_two Downgrade First (Some hold.Write) = store (λ w. w == 1) (λ w. 0) (λ p. releases p writing) (GoesOn (Exchange 0))
-downgrade_in_two Downgrade (Exchange n) h = store (λ w. true) (λ w. w + 4) (λ p. gets p to_read) (Answers Done (Some hold.Read))
+downgrade_in_two Downgrade First (Some hold.Write) = store (tells writing) (released writing) (λ p. releases p writing) (GoesOn (Exchange 0))
+downgrade_in_two Downgrade (Exchange n) h = store (λ w. true) (λ w. w + weight reading) (λ p. gets p to_read) (Answers Done (Some hold.Read))
 downgrade_in_two c l h = act_of 9 c l h
 
 abbrev pub downgrades_in_two : {V : Type 0} → V → RwMachine V
@@ -59,8 +60,8 @@ downgrade_alone = (0, Begin TryWrite) ∷ (0, Step) ∷ (0, Begin Downgrade) ∷
 
 -- `try_read` adds its reader, and takes it off where there was no room
 abbrev pub read_and_regret : {V : Type 0} → RwCall → RwPoint → Option Hold → RwAct V
-read_and_regret TryRead First h = store (λ w. true) (λ w. w + 4) (λ p. gets p to_read) (GoesOn (Exchange 0))
-read_and_regret TryRead (Exchange n) h = store (λ w. true) (λ w. w - 4) (λ p. releases p reading) (Answers Refused h)
+read_and_regret TryRead First h = store (λ w. true) (λ w. w + weight reading) (λ p. gets p to_read) (GoesOn (Exchange 0))
+read_and_regret TryRead (Exchange n) h = store (λ w. true) (released reading) (λ p. releases p reading) (Answers Refused h)
 read_and_regret c l h = act_of 9 c l h
 
 abbrev pub reads_and_regrets : {V : Type 0} → V → RwMachine V
@@ -79,7 +80,7 @@ read_beside_a_writer = (0, Begin TryWrite) ∷ (0, Step) ∷ (1, Begin TryRead) 
 
 -- `try_read` looks for the upgradable reader alone
 abbrev pub read_by_a_mask : {V : Type 0} → RwCall → RwPoint → Option Hold → RwAct V
-read_by_a_mask TryRead l h = exchange (λ w. if w % 4 / 2 == 0 then Some (w + 4) else None) (λ p. gets p to_read) (granted hold.Read) (λ w. Answers Refused h)
+read_by_a_mask TryRead l h = exchange (λ w. if tells upgradable w then None else Some (w + weight reading)) (λ p. gets p to_read) (granted hold.Read) (λ w. Answers Refused h)
 read_by_a_mask c l h = act_of 9 c l h
 
 abbrev pub reads_by_a_mask : {V : Type 0} → V → RwMachine V
@@ -98,8 +99,8 @@ write_alone = (0, Begin TryWrite) ∷ (0, Step) ∷ []
 
 -- `upgrade` lets go, and then comes to write as anybody does
 abbrev pub upgrade_anew : {V : Type 0} → RwCall → RwPoint → Option Hold → RwAct V
-upgrade_anew Upgrade First h = store (λ w. w % 4 == 2) (λ w. w - 2) (λ p. releases p upgradable) (GoesOn (Exchange 0))
-upgrade_anew Upgrade (Exchange n) h = weak_exchange (λ w. if w == 0 then Some 1 else None) (λ p. gets p to_write) (granted hold.Write) (GoesOn (Exchange 0))
+upgrade_anew Upgrade First h = store (tells upgradable) (released upgradable) (λ p. releases p upgradable) (GoesOn (Exchange 0))
+upgrade_anew Upgrade (Exchange n) h = weak_exchange write (λ p. gets p to_write) (granted hold.Write) (GoesOn (Exchange 0))
 upgrade_anew c l h = act_of 9 c l h
 
 abbrev pub upgrades_anew : {V : Type 0} → V → RwMachine V
@@ -110,7 +111,7 @@ upgrade_alone = (0, Begin TryUpgradeableRead) ∷ (0, Step) ∷ (0, Step) ∷ (0
 
 -- `reader_count` leaves the upgradable reader out
 abbrev pub count_without_upgradable : {V : Type 0} → RwCall → RwPoint → Option Hold → RwAct V
-count_without_upgradable ReaderCount l h = load (λ w. Answers (Count (w / 4)) h)
+count_without_upgradable ReaderCount l h = load (λ w. Answers (Count (w / weight reading)) h)
 count_without_upgradable c l h = act_of 9 c l h
 
 abbrev pub counts_without_upgradable : {V : Type 0} → V → RwMachine V
@@ -168,7 +169,7 @@ reads_in_one v = with_steps v read_in_one
 
 -- `read` guesses that nobody holds, and where it was wrong that counts as no exchange that failed
 abbrev pub read_by_a_guess : {V : Type 0} → RwCall → RwPoint → Option Hold → RwAct V
-read_by_a_guess Read First h = exchange (λ w. if w == 0 then Some 4 else None) (λ p. gets p to_read) (granted hold.Read) goes_for
+read_by_a_guess Read First h = exchange (λ w. if w == 0 then Some (weight reading) else None) (λ p. gets p to_read) (granted hold.Read) goes_for
 read_by_a_guess c l h = act_of 9 c l h
 
 abbrev pub reads_by_a_guess : {V : Type 0} → V → RwMachine V

@@ -1,11 +1,11 @@
 -- What the table of the seats owes.
 use Rattle.std.proofs.Common.{◌≡◌, ℕ, ◌+◌, ◌-◌, ◌≤◌, true, Option, Some, None, List, [], ◌∷◌, length, nat_lt, unwrap_or, refl, ap, sym, ◌∙◌, arith, inl, length-append}
 use Rattle.std.proofs.lemmas.Bool.{lt-ltb, ltb-true}
-use Rattle.spin_step.specs.Plain.{Plain, reading, holder, to_read, gets, releases, apply, may_read, is_holder}
+use Rattle.spin_step.specs.Plain.{Plain, reading, holder, to_read, gets, releases, apply, may_come, is_holder}
 use Rattle.spin_step.specs.Parties.{Entries, entries}
-use Rattle.spin_step.proofs.Exclusive.{count-more, count-without_holder}
+use Rattle.spin_step.proofs.Sums.{one_of, sum-more, sum-less}
 use Rattle.spin_step.proofs.Holders.{is_holder-from_entries, length-without_holder}
-use Rattle.spin_step.proofs.Readers.{kinds-all}
+use Rattle.spin_step.proofs.Readers.{each_reads}
 use Rattle.spin_seats.specs.Seats.{AllRead, seats, seats_word, entered}
 use Rattle.spin_seats.proofs.Taken.{open_is, enter-grants, leave-gives}
 use Rattle.spin_world_core.specs.declared.answer.Answer.{Answer}
@@ -53,15 +53,15 @@ module _ (n : ℕ) where
   sits : (p : ℕ) (s : Plain) → entries p s ≡ entries_at p (holds reading) → is_holder p reading s.holders ≡ true
   sits p s mine = is_holder-from_entries p reading s.holders (ap (λ (e : Entries). e.holders) mine)
 
-  one_more : (s : Plain) (p w : ℕ) → Seating n s → seats_word s ≡ w → may_read s ≡ true → Seating n (apply s (gets p to_read))
+  one_more : (s : Plain) (p w : ℕ) → Seating n s → seats_word s ≡ w → may_come reading s ≡ true → Seating n (apply s (gets p to_read))
   one_more s p w shape is may =
       let free = ltb-true w (seats n) (sym (open_is s n w shape.all_read shape.room is) ∙ may) in let more = length-append s.holders (holder p reading ∷ []) in
-      record { no_queue = shape.no_queue; room = shape.room; all_read = omega (arith, count-more reading s.holders p reading, more, shape.all_read); few = omega (arith, more, free, is) }
+      record { no_queue = shape.no_queue; room = shape.room; all_read = omega (arith, sum-more (one_of reading) s.holders p reading, more, shape.all_read); few = omega (arith, more, free, is) }
 
   one_less : (s : Plain) (p : ℕ) → Seating n s → is_holder p reading s.holders ≡ true → Seating n (apply s (releases p reading))
   one_less s p shape found =
       let less = length-without_holder p reading s.holders found in
-      record { no_queue = shape.no_queue; room = shape.room; all_read = omega (arith, count-without_holder reading p reading s.holders found, less, shape.all_read); few = omega (arith, less, shape.few) }
+      record { no_queue = shape.no_queue; room = shape.room; all_read = omega (arith, sum-less (one_of reading) p reading s.holders found, less, shape.all_read); few = omega (arith, less, shape.few) }
 
   -- what the step functions mean there
   module _ {k : CallOf ℕ SeatsPoint (Answer (Unit {0}))} {l : SeatsPoint} {h : Option Hold} {s : Plain} {w : ℕ} {span : List Mark} {row : Row} (p : ℕ) (at : AtPoint (seats_table n) (seats_notes n) p k l h s w span row) where
@@ -79,7 +79,7 @@ module _ (n : ℕ) where
   owes p Enter First None s w span = λ at. (enter_means p at, (λ found. (refl, refl, tt, (refl, refl, as_found (entered n) w found), tt)), (λ closed. (refl, refl, tt, tt, tt)))
   owes p Enter (Exchange k) None s w span = λ at.
       (enter_means p at, (λ is. (refl, inl refl, tt)), (λ found. (refl, refl, tt, (refl, refl, as_found (entered n) w found), tt)), (λ closed. (refl, refl, tt, tt, tt)))
-  owes p Count l None s w span = λ at. (refl, inl refl, inl (omega (arith, kinds-all s.holders, at.shape.all_read, word_is s w at.encodes)))
+  owes p Count l None s w span = λ at. (refl, inl refl, inl (omega (arith, each_reads s.holders at.shape.all_read, word_is s w at.encodes)))
   owes p Leave l (Some Read) s w span = λ at.
       let found = sits p s at.known.stand in
       (lt-ltb 0 w (omega (arith, length-without_holder p reading s.holders found, word_is s w at.encodes)), leave_means p at found, (refl, inl refl, tt))
@@ -94,7 +94,7 @@ module _ (n : ℕ) where
     sits_soon : (k : ℕ) → answers_by (seats_table n) 2 w Enter (Exchange k) None ≡ true
     sits_soon k = retries_soon (seats_table n) Enter None Exchange (entered n) (λ p. gets p to_read) (λ i. granted) (GoesOn First) w (w + 1) (rw free refl) (λ i. refl) 0 refl k
 
-  is_free : (s : Plain) (w : ℕ) → Seating n s → seats_word s ≡ w → may_read s ≡ true → nat_lt w (seats n) ≡ true
+  is_free : (s : Plain) (w : ℕ) → Seating n s → seats_word s ≡ w → may_come reading s ≡ true → nat_lt w (seats n) ≡ true
   is_free s w shape is may = sym (open_is s n w shape.all_read shape.room is) ∙ may
 
   soon : (p : ℕ) (c : SeatsCall) (l : SeatsPoint) (h : Option Hold) (s : Plain) (w : ℕ) (span : List Mark)

@@ -1,10 +1,10 @@
 -- What the ticket lock's table owes.
 use Rattle.std.proofs.Common.{◌≡◌, ℕ, suc, ◌+◌, ◌-◌, ◌≤◌, ◌==◌, Bool, true, false, not, ◌&&◌, ◌||◌, cond, filter, if◌then◌else◌, is_some, Option, Some, None, List, [], ◌∷◌, refl, ap, sym, ◌∙◌, subst, arith, inl, inr, eq-eqb}
 use Rattle.std.proofs.lemmas.Bool.{and_parts, eqb-true, true≢false}
-use Rattle.spin_step.specs.Plain.{Plain, Ticket as Queued, ticket as queued, is_first, Ask, to_take_ticket, to_enter, to_take_and_enter, Change, gets, serves, apply, is_open, is_empty, next_word, serving_word}
+use Rattle.spin_step.specs.Plain.{Plain, Ticket as Queued, ticket as queued, is_first, Ask, effect, to_take_ticket, to_enter, to_take_and_enter, Change, gets, serves, apply, is_open, is_empty, next_word, serving_word}
 use Rattle.spin_step.specs.Parties.{apply_some, IsOpenStep, Entries, entries, is_held}
 use Rattle.spin_step.specs.Steps.{Decides}
-use Rattle.spin_step.proofs.Tickets.{enters_in_turn, numbered-gets, numbered-serves, serving-taken, serving-entered, entered_is_served, stands}
+use Rattle.spin_step.proofs.Tickets.{enters_in_turn, numbered-given, numbered-serves, serving-taken, serving-entered, entered_is_served, stands}
 use Rattle.spin_step.proofs.TicketSteps.{ticket_take-grants, ticket_take-grants_alone, ticket_serve-gives}
 use Rattle.spin_world_core.specs.declared.answer.Answer.{Answer}
 use Rattle.spin_world_core.specs.declared.object.Next.TheVariants.{GoesOn}
@@ -119,12 +119,12 @@ module _ {V : Type 0} (v : V) (first : ℕ) where
 
     take_means : IsMeant p s (gets p to_take_ticket) (take w)
     take_means =
-        grants_means to_take_ticket (is_left w.next) (serving-taken s p false at.shape.numbered) (λ left. taken_queue s p false at.shape left (numbered-gets s p to_take_ticket at.shape.numbered)) (ticket_take-grants s p w.next next_is)
+        grants_means to_take_ticket (is_left w.next) (serving-taken s p false at.shape.numbered) (λ left. taken_queue s p false at.shape left (numbered-given s p (effect to_take_ticket) at.shape.numbered)) (ticket_take-grants s p w.next next_is)
 
     -- where the number is served
     take_alone_means : w.next ≤ serving_word s → IsMeant p s (gets p to_take_and_enter) (take w)
     take_alone_means le =
-        grants_means to_take_and_enter (is_left w.next) (serving-taken s p true at.shape.numbered) (λ free. taken_queue s p true at.shape (and_parts (is_empty s.tickets) (is_left s.next) free).1 (numbered-gets s p to_take_and_enter at.shape.numbered))
+        grants_means to_take_and_enter (is_left w.next) (serving-taken s p true at.shape.numbered) (λ free. taken_queue s p true at.shape (and_parts (is_empty s.tickets) (is_left s.next) free).1 (numbered-given s p (effect to_take_and_enter) at.shape.numbered))
         (ticket_take-grants_alone s p w.next at.shape.numbered.0 next_is (omega (arith, next_is, le)))
 
     in_turn : (t : ℕ) → entries p s ≡ entries_at p (queues t false) → is_open s (gets p to_enter) ≡ (w.serving == t)
@@ -134,7 +134,7 @@ module _ {V : Type 0} (v : V) (first : ℕ) where
     enter_if t true mine may = (
       (refl, may),
       two _ _ _ _ (sym next_is) (sym serving_is ∙ sym (serving-entered s)),
-      record { no_holders = at.shape.no_holders; numbered = numbered-gets s p to_enter at.shape.numbered; in_range = λ some. at.shape.in_range (stands p t false s.tickets (ap (λ (e : Entries). e.tickets) mine)) },
+      record { no_holders = at.shape.no_holders; numbered = numbered-given s p (effect to_enter) at.shape.numbered; in_range = λ some. at.shape.in_range (stands p t false s.tickets (ap (λ (e : Entries). e.tickets) mine)) },
     )
     enter_if t false mine may = may
 

@@ -7,6 +7,7 @@ ghost use Rattle.spin_fair.specs.Fair.{IsFair, use_of_view, Stays, Stops, won_if
 
 use spin_core::cell::{Play, Rule, WritePermit};
 use spin_guard::guard::{self, LetsGo, Uses};
+use spin_step::fair;
 
 /// What a party is to the lock.
 #[derive(Clone, Copy)]
@@ -21,7 +22,7 @@ pub enum View {
     Served,
 }
 
-/// The word is that of a plain lock of these parties: 1 while one holds it, and 2 for each that starves. A newcomer that
+/// The word is that of a plain lock of these parties: the sum of what its holder and its starvers weigh. A newcomer that
 /// holds came before each party that starves.
 pub struct FairRule;
 
@@ -36,10 +37,10 @@ impl<T> Rule<T, View> for FairRule {
 }
 
 /// In the word: somebody holds the lock.
-pub(super) const LOCKED: u64 = 1;
+pub(super) const LOCKED: u64 = fair::HOLDER as u64;
 
 /// In the word: one starver.
-pub(super) const STARVER: u64 = 2;
+pub(super) const STARVER: u64 = fair::STARVER as u64;
 
 /// A party comes, and holds where it found the word that it expected.
 pub(super) struct Attempt;

@@ -10,11 +10,11 @@ use spin_core::cell::{Cell, Permit, Play, Rule, WritePermit};
 use spin_step::rw;
 
 // What a holder of each kind is in the word.
-const READER: u64 = 4;
+const READER: u64 = rw::READER as u64;
 
-const UPGRADABLE: u64 = 2;
+const UPGRADABLE: u64 = rw::UPGRADABLE as u64;
 
-const WRITER: u64 = 1;
+const WRITER: u64 = rw::WRITER as u64;
 
 /// What a party is to the lock.
 #[derive(Clone, Copy)]
@@ -25,8 +25,7 @@ pub enum View {
     Writing,
 }
 
-/// The word is that of a plain lock of these parties: 4 for each reader, 2 for the upgradable reader, and 1 for the
-/// writer.
+/// The word is that of a plain lock of these parties: the sum of what each weighs.
 ///
 /// No value of this type is made. It has a `T` since parties read a `T` beside one another: who may share the one may
 /// share the other.
@@ -203,7 +202,7 @@ pub(super) fn upgrade<T>(party: Party<'_, T>) -> Result<Writer<'_, T>, Party<'_,
     ensures granted { IfOk result (λ writer. (writer.view ≡ Writing) × (party.entry.value ≡ Some writer.value)) }
     ensures refused { IfErr result (λ still. (still.view ≡ Some Upgradable) × (still.value ≡ party.entry.value)) }
 {
-    let next = rw::upgrade(UPGRADABLE as usize).unwrap();
+    let next = rw::upgrade(rw::UPGRADABLE).unwrap();
     let (found, permit) = party.exchange::<Upgrades>(UPGRADABLE, next as u64);
     if found == UPGRADABLE {
         Ok(permit.into_writer())

@@ -1,8 +1,7 @@
-use Rattle.std.proofs.Common.{arith, true}
-use Rattle.std.proofs.lemmas.Bool.{and_parts}
-use Rattle.spin_step.specs.Plain.{reading, upgradable, is_holder}
-use Rattle.spin_step.proofs.Readers.{word-turned}
+use Rattle.std.proofs.Common.{arith}
+use Rattle.spin_step.specs.Plain.{reading, upgradable}
+use Rattle.spin_step.proofs.ReaderSteps.{rw_turn-gives}
 use Rattle.spin_step.proofs.rw.upgradable_to_read.Goals as goal
 
 pub returns-clause-plain : goal.returns-clause-plain
-returns-clause-plain c s party word found = omega (arith, word-turned upgradable reading party s.holders (and_parts (is_holder party upgradable s.holders) true found).0, word)
+returns-clause-plain c s party word may = rw_turn-gives s party upgradable reading c.args.word (omega arith) word may

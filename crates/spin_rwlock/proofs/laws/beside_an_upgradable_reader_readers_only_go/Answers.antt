@@ -1,5 +1,0 @@
-use Rattle.spin_rwlock.proofs.Standing.{readers_go}
-use Rattle.spin_rwlock.proofs.laws.beside_an_upgradable_reader_readers_only_go.Goals as goal
-
-pub returns : goal.returns
-returns g s p cs apart stays = readers_go s p cs apart stays
