@@ -3,4 +3,6 @@ pub mod Lawful
 pub mod Locked
 pub mod Mutex
 pub mod Passes
+pub mod Rw
+pub mod RwLawful
 pub mod Turns

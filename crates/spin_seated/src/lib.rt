@@ -6,3 +6,4 @@ pub mod history;
 pub mod laws;
 pub mod lock;
 pub mod mutex;
+pub mod rwlock;
