@@ -1,16 +1,17 @@
 -- What the mutex owes for each kind of step: the call may be made, the words become those of the state after it, and the answer is the plain one.
 use Rattle.std.proofs.Common.{◌≡◌, ℕ, ◌==◌, Bool, true, false, not, List, [], ◌∷◌, length, Some, refl, sym, ap, subst, ◌∙◌, ne_eqb, arith}
 use prog.Atomic.{either}
-use Rattle.atomic_table.specs.Table.{Step}
 use Rattle.spin_step.specs.Plain.{Plain, Holder, writing, gets, releases, to_write, is_open, apply, flag_word}
 use Rattle.spin_seated.specs.declared.history.Entry.{Entry}
 use Rattle.spin_seated.specs.declared.mutex.Call.{Call}
 use Rattle.spin_seated.specs.declared.mutex.Call.TheVariants.{TryLock, IsLocked}
-use Rattle.spin_seated.specs.declared.mutex.Answer.{Answer}
-use Rattle.spin_seated.specs.declared.mutex.Answer.TheVariants.{Truth}
+use Rattle.spin_seated.specs.declared.lock.Answer.{Answer}
+use Rattle.spin_seated.specs.declared.lock.Answer.TheVariants.{Truth}
 use Rattle.spin_seated.specs.Histories.{state, Fits, Owed, Owes}
-use Rattle.spin_seated.specs.Mutex.{Locked, mutex, Knows, holds, tries, looks, reads, writes, frees}
-use Rattle.spin_seated.proofs.Holders.{held_by, alone_state, alone_is, is_held_by, still}
+use Rattle.spin_seated.specs.Locked.{Locked}
+use Rattle.spin_seated.specs.Mutex.{mutex, Knows, holds, tries, looks, reads, writes, frees}
+use Rattle.spin_seated.proofs.Histories.{still}
+use Rattle.spin_seated.proofs.Holders.{held_by, alone_state, alone_is, is_held_by, steady}
 
 -- the step function's theorem: on a clear flag the lock is open, and new is the flag after it
 abbrev pub Takes : ℕ → Type 0
@@ -31,25 +32,25 @@ looks_at : (p : ℕ) (s : Locked) (hs : List Holder) → Owed mutex p 0 (λ n. n
 looks_at p s [] = (refl, refl, refl)
 looks_at p s (h ∷ hs) = (refl, refl, ap (λ (b : Bool). Truth (not b)) (not_zero h hs))
 
-module _ {X : Type 0} (x : Knows) (st : Step X) where
-  pub tries_owed : (old new : ℕ) → old ≡ 0 → Takes new → Owes mutex x 0 (λ n. either (n == old) new n) (tries st)
+module _ (x : Knows) where
+  pub tries_owed : (old new : ℕ) → old ≡ 0 → Takes new → Owes mutex x 0 (λ n. either (n == old) new n) (tries old)
   tries_owed old new is takes =
-      subst (λ (o : ℕ). Owes mutex x 0 (λ n. either (n == o) new n) (tries st)) (sym is)
+      subst (λ (o : ℕ). Owes mutex x 0 (λ n. either (n == o) new n) (tries o)) (sym is)
       (λ log legal fits small. let s : Locked = state mutex x.opening log in tries_at x.pass new takes s s.lock.holders)
 
-  pub looks_owed : Owes mutex x 0 (λ n. n) (looks st)
+  pub looks_owed : Owes mutex x 0 (λ n. n) (looks 0)
   looks_owed log legal fits small = let s : Locked = state mutex x.opening log in looks_at x.pass s s.lock.holders
 
   may : holds x ≡ true → (log : List (Entry Call Answer)) → Fits mutex x.opening log x → is_held_by x.pass (state mutex x.opening log) ≡ true
-  may held log fits = still x log fits.begins fits.own ∙ held
+  may held log fits = still mutex steady x log fits.begins fits.own ∙ held
 
-  pub reads_owed : holds x ≡ true → Owes mutex x 1 (λ n. n) (reads st)
+  pub reads_owed : holds x ≡ true → Owes mutex x 1 (λ n. n) (reads 0)
   reads_owed held log legal fits small = (may held log fits, refl, refl)
 
-  pub writes_owed : holds x ≡ true → Owes mutex x 1 (λ _. st.first) (writes st)
-  writes_owed held log legal fits small = (may held log fits, refl, refl)
+  pub writes_owed : (new : ℕ) → holds x ≡ true → Owes mutex x 1 (λ _. new) (λ _. writes new new)
+  writes_owed new held log legal fits small = (may held log fits, refl, refl)
 
-  pub frees_owed : (new : ℕ) → Leaves new → holds x ≡ true → Owes mutex x 0 (λ _. new) (frees st)
+  pub frees_owed : (new : ℕ) → Leaves new → holds x ≡ true → Owes mutex x 0 (λ _. new) (λ _. frees new new)
   frees_owed new leaves held log legal fits small =
       let s : Locked = state mutex x.opening log in
       let mine = may held log fits in

@@ -4,7 +4,7 @@ use Rattle.std.proofs.lemmas.Bool.{false≢true}
 use Rattle.std.proofs.lemmas.List.{append_cancel_right}
 use Rattle.spin_seated.specs.declared.history.Entry.{Entry}
 use Rattle.spin_seated.specs.declared.history.Known.{Known}
-use Rattle.spin_seated.specs.Histories.{Machine, BeginsWith, entry, calls_by, after, state, IsLegalFrom, IsLegal, Made}
+use Rattle.spin_seated.specs.Histories.{Machine, BeginsWith, entry, calls_by, after, state, IsLegalFrom, IsLegal, holds, Made, Met}
 
 module _ {X : Type 0} where
   pub begins_here : (xs : List X) → BeginsWith xs xs
@@ -45,7 +45,7 @@ module _ {C A : Type 0} where
       (omega (arith, ap length one, ap length two, ap length same, length-append (calls_by p first) (calls_by p some.rest), length-append (calls_by p mid) (calls_by p more.rest))) in
       one ∙ (ap (λ (l : List (Entry C A)). calls_by p first ++ l) none_left ∙ append-nil (calls_by p first))
 
-module _ {K S C A : Type 0} (m : Machine K S C A) where
+module _ {K S C A H : Type 0} (m : Machine K S C A H) where
   pub after-append : (s : S) (xs ys : List (Entry C A)) → after m s (xs ++ ys) ≡ after m (after m s xs) ys
   after-append s [] ys = refl
   after-append s (e ∷ es) ys = after-append (m.next e.pass e.call s) es ys
@@ -60,20 +60,20 @@ module _ {K S C A : Type 0} (m : Machine K S C A) where
   legal-split n s (e ∷ es) ys legal = let two = legal-split n (m.next e.pass e.call s) es ys legal.3 in ((legal.0, legal.1, legal.2, two.0), two.1)
 
   -- what a call of another pass leaves as it is, calls of others leave as it is
-  module _ (H : S → Bool) (p : ℕ) (steady : (q : ℕ) (d : C) (s : S) → q ≢ p → H (m.next q d s) ≡ H s) where
+  module _ (p : ℕ) (steady : (q : ℕ) (d : C) (s : S) → q ≢ p → m.holds p (m.next q d s) ≡ m.holds p s) where
     passed_by : (s : S) (e : Entry C A) (es : List (Entry C A)) (b : Bool) → (e.pass == p) ≡ b → (if b then e ∷ calls_by p es else calls_by p es) ≡ []
-        → (calls_by p es ≡ [] → H (after m (m.next e.pass e.call s) es) ≡ H (m.next e.pass e.call s)) → H (after m (m.next e.pass e.call s) es) ≡ H s
+        → (calls_by p es ≡ [] → m.holds p (after m (m.next e.pass e.call s) es) ≡ m.holds p (m.next e.pass e.call s)) → m.holds p (after m (m.next e.pass e.call s) es) ≡ m.holds p s
     passed_by s e es true own alone rest = absurd (cc alone)
     passed_by s e es false other alone rest = rest alone ∙ steady e.pass e.call s (λ same. false≢true (sym other ∙ eq-eqb e.pass p same))
 
-    pub stands : (s : S) (log : List (Entry C A)) → calls_by p log ≡ [] → H (after m s log) ≡ H s
+    pub stands : (s : S) (log : List (Entry C A)) → calls_by p log ≡ [] → m.holds p (after m s log) ≡ m.holds p s
     stands s [] alone = refl
     stands s (e ∷ es) alone = passed_by s e es (e.pass == p) refl alone (stands (m.next e.pass e.call s) es)
 
-    pub stands_on : (k : K) (log seen : List (Entry C A)) → BeginsWith log seen → calls_by p log ≡ calls_by p seen → H (state m k log) ≡ H (state m k seen)
+    pub stands_on : (k : K) (log seen : List (Entry C A)) → BeginsWith log seen → calls_by p log ≡ calls_by p seen → m.holds p (state m k log) ≡ m.holds p (state m k seen)
     stands_on k log seen begins own =
         let alone : calls_by p begins.rest ≡ [] = nothing_more (calls_by p seen) (calls_by p begins.rest) (sym (calls_by-append p seen begins.rest) ∙ (ap (calls_by p) (sym begins.is) ∙ own)) in
-        ap (λ (l : List (Entry C A)). H (state m k l)) begins.is ∙ (ap H (after-append (m.start k) seen begins.rest) ∙ stands (state m k seen) begins.rest alone)
+        ap (λ (l : List (Entry C A)). m.holds p (state m k l)) begins.is ∙ (ap (m.holds p) (after-append (m.start k) seen begins.rest) ∙ stands (state m k seen) begins.rest alone)
 
   -- where a call stands: what came before it, and what the call found and left there
   pub record MadeAt (x : Known K C A) (c : C) (a : A) (y : Known K C A) : Type 0 where
@@ -105,3 +105,27 @@ module _ {K S C A : Type 0} (m : Machine K S C A) where
         answer = two.1.2;
         left = ap (λ (k : K). state m k y.seen) made.opening ∙ (ap (state m x.opening) made.history ∙ after-append (m.start x.opening) before last);
       }
+
+  -- what a pass knows of its hold is so in the history of all, and its own calls alone change it
+  module _ (steady : (p q : ℕ) (c : C) (s : S) → q ≢ p → m.holds p (m.next q c s) ≡ m.holds p s) (x : Known K C A) where
+    pub still : (log : List (Entry C A)) → BeginsWith log x.seen → calls_by x.pass log ≡ calls_by x.pass x.seen → m.holds x.pass (state m x.opening log) ≡ holds m x
+    still log begins own = stands_on x.pass (λ q c s apart. steady x.pass q c s apart) x.opening log x.seen begins own
+
+    pub after_meet : (log : List (Entry C A)) (y : Known K C A) → Met m x log y → holds m y ≡ holds m x
+    after_meet log y met =
+        ap (λ (p : ℕ). m.holds p (state m y.opening y.seen)) met.pass ∙ (ap (λ (k : K). m.holds x.pass (state m k y.seen)) met.opening ∙ (ap (λ (l : List (Entry C A)). m.holds x.pass (state m x.opening l)) met.history ∙ still log met.begins met.own))
+
+    -- a call: what is held after it, by the state that it found, in which the pass held what it knows
+    module _ (c : C) (a : A) (y : Known K C A) (made : Made m x c a y) where
+      abbrev pub found : S
+      found = state m x.opening (made_at x c a y made).before
+
+      pub holds_next : holds m y ≡ m.holds x.pass (m.next x.pass c found)
+      holds_next = ap (λ (p : ℕ). m.holds p (state m y.opening y.seen)) made.pass ∙ ap (m.holds x.pass) (made_at x c a y made).left
+
+      pub held_before : m.holds x.pass found ≡ holds m x
+      held_before = still (made_at x c a y made).before (made_at x c a y made).begins (made_at x c a y made).own
+
+      -- a call that leaves what is held
+      pub after_same : ((s : S) → m.holds x.pass (m.next x.pass c s) ≡ m.holds x.pass s) → holds m y ≡ holds m x
+      after_same same = holds_next ∙ (same found ∙ held_before)

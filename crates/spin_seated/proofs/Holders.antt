@@ -2,14 +2,15 @@
 use Rattle.std.proofs.Common.{◌≡◌, ℕ, ◌<◌, ◌≢◌, ◌==◌, ◌&&◌, ◌||◌, Bool, true, false, if◌then◌else◌, List, [], ◌∷◌, refl, sym, ap, subst, ◌∙◌, eq-eqb, ne_eqb, eqb-true}
 use Rattle.spin_step.specs.Plain.{Holder, holder, writing, same_kind, is_holder, is_empty, without_holder, apply, gets, to_write}
 use Rattle.spin_seated.specs.declared.history.Entry.{Entry}
-use Rattle.spin_seated.specs.declared.mutex.Opening.{Opening}
+use Rattle.spin_seated.specs.declared.lock.Opening.{Opening}
 use Rattle.spin_seated.specs.declared.mutex.Call.{Call}
 use Rattle.spin_seated.specs.declared.mutex.Call.TheVariants.{TryLock, IsLocked, Read, Write, Unlock}
-use Rattle.spin_seated.specs.declared.mutex.Answer.{Answer}
-use Rattle.spin_seated.specs.declared.mutex.Answer.TheVariants.{Truth}
-use Rattle.spin_seated.specs.Histories.{BeginsWith, calls_by, after, state, IsLegalFrom, IsLegal, Made, Met}
-use Rattle.spin_seated.specs.Mutex.{Locked, may_call, after_call, mutex, Knows, holds}
-use Rattle.spin_seated.proofs.Histories.{stands_on, MadeAt, made_at}
+use Rattle.spin_seated.specs.declared.lock.Answer.{Answer}
+use Rattle.spin_seated.specs.declared.lock.Answer.TheVariants.{Truth}
+use Rattle.spin_seated.specs.Histories.{after, state, IsLegalFrom, IsLegal, Made}
+use Rattle.spin_seated.specs.Locked.{Locked}
+use Rattle.spin_seated.specs.Mutex.{may_call, after_call, mutex, Knows, holds}
+use Rattle.spin_seated.proofs.Histories.{made_at, holds_next, held_before}
 
 -- the state with these holders
 abbrev pub held_by : Locked → List Holder → Locked
@@ -88,27 +89,6 @@ pub value_tried : (p : ℕ) (s : Locked) (b : Bool) → (if b then record s { lo
 value_tried p s true = refl
 value_tried p s false = refl
 
--- what a pass knows of its hold is so in the history of all
-pub still : (x : Knows) (log : List (Entry Call Answer)) → BeginsWith log x.seen → calls_by x.pass log ≡ calls_by x.pass x.seen → is_held_by x.pass (state mutex x.opening log) ≡ holds x
-still x log begins own = stands_on mutex (is_held_by x.pass) x.pass (λ q c s apart. steady x.pass q c s apart) x.opening log x.seen begins own
-
--- and after its own calls
-module _ (x : Knows) (c : Call) (a : Answer) (y : Knows) (made : Made mutex x c a y) where
-  abbrev call : MadeAt mutex x c a y
-  call = made_at mutex x c a y made
-
-  abbrev found : Locked
-  found = state mutex x.opening call.before
-
-  holds_next : holds y ≡ is_held_by x.pass (after_call x.pass c found)
-  holds_next = ap (λ (p : ℕ). is_held_by p (state mutex y.opening y.seen)) made.pass ∙ ap (is_held_by x.pass) call.left
-
-  held_before : is_held_by x.pass found ≡ holds x
-  held_before = still x call.before call.begins call.own
-
-  alone_before : Alone x.opening.passes found.lock.holders
-  alone_before = alone_state x.opening call.before call.legal
-
 pub truth_is : (b t : Bool) → Truth b ≡ Truth t → b ≡ t
 truth_is b t same = cc same
 
@@ -124,18 +104,10 @@ pub after_try : (x : Knows) (b : Bool) (y : Knows) → Made mutex x TryLock (Tru
 after_try x b y made =
     let at = made_at mutex x TryLock (Truth b) y made in
     let s : Locked = state mutex x.opening at.before in
-    holds_next x TryLock (Truth b) y made ∙ (tried x.pass s s.lock.holders b at.answer ∙ ap (λ (t : Bool). t || b) (held_before x TryLock (Truth b) y made))
-
--- a look, a read and a write change no hold
-pub after_same : (x : Knows) (c : Call) (a : Answer) (y : Knows) → ((p : ℕ) (s : Locked) → is_held_by p (after_call p c s) ≡ is_held_by p s) → Made mutex x c a y → holds y ≡ holds x
-after_same x c a y same made = holds_next x c a y made ∙ (same x.pass (found x c a y made) ∙ held_before x c a y made)
+    holds_next mutex steady x TryLock (Truth b) y made ∙ (tried x.pass s s.lock.holders b at.answer ∙ ap (λ (t : Bool). t || b) (held_before mutex steady x TryLock (Truth b) y made))
 
 pub after_unlock : (x : Knows) (a : Answer) (y : Knows) → Made mutex x Unlock a y → holds y ≡ false
 after_unlock x a y made =
     let at = made_at mutex x Unlock a y made in
     let s : Locked = state mutex x.opening at.before in
-    holds_next x Unlock a y made ∙ ap (is_holder x.pass writing) (freed x.opening.passes x.pass s.lock.holders (alone_before x Unlock a y made) at.may)
-
-pub after_meet : (x : Knows) (log : List (Entry Call Answer)) (y : Knows) → Met mutex x log y → holds y ≡ holds x
-after_meet x log y met =
-    ap (λ (p : ℕ). is_held_by p (state mutex y.opening y.seen)) met.pass ∙ (ap (λ (k : Opening). is_held_by x.pass (state mutex k y.seen)) met.opening ∙ (ap (λ (l : List (Entry Call Answer)). is_held_by x.pass (state mutex x.opening l)) met.history ∙ still x log met.begins met.own))
+    holds_next mutex steady x Unlock a y made ∙ ap (is_holder x.pass writing) (freed x.opening.passes x.pass s.lock.holders (alone_state x.opening at.before at.legal) at.may)

@@ -27,7 +27,7 @@ module _ {K C A : Type 0} where
   names-cut p [] = refl
   names-cut p (x ∷ xs) = omega arith
 
-module _ {K S C A : Type 0} (m : Machine K S C A) where
+module _ {K S C A H : Type 0} (m : Machine K S C A H) where
   -- the history of all, and what each seat knows after it has gone on by one call
   module _ (k : K) (log : List (Entry C A)) where
     stays : (x : Known K C A) (p : ℕ) (c : C) (a : A) → p ≢ x.pass → Fits m k log x → Fits m k (log ++ entry p c a ∷ []) x
@@ -135,12 +135,12 @@ module _ {K S C A : Type 0} (m : Machine K S C A) where
         (steps (told (slice_index (m.words now) i)) (owes kept.log kept.legal own_fits (subst (λ (words : List ℕ). slice_index words i < 18446744073709551616) kept.words small)))
 
   -- a step of a pass that owes what the lock owes for it
-  pub allows : {X : Type 0} (k : K) (slots id : ℕ) (me : Me X (List (Known K C A))) (x : Known K C A) (i : ℕ) (f : ℕ → ℕ) (st : Step X) (told : Step X → ℕ → Option (C × A))
-      → me ≡ (x ∷ [], []) → x.opening ≡ k → Owes m x i f (told st) → Allows (Kept m k) slots id me i f (Tells m told st me)
+  pub allows : {X : Type 0} (k : K) (slots id : ℕ) (me : Me X (List (Known K C A))) (x : Known K C A) (i : ℕ) (f : ℕ → ℕ) (st : Step X) (told : ℕ → ℕ → Option (C × A))
+      → me ≡ (x ∷ [], []) → x.opening ≡ k → Owes m x i f (told st.first) → Allows (Kept m k) slots id me i f (Tells m told st me)
   allows {X} k slots id me x i f st told is opening owes =
       subst (λ (o : K). Allows (Kept m o) slots id me i f (Tells m told st me)) opening
       (subst (λ (u : Me X (List (Known K C A))). Allows (Kept m x.opening) slots id u i f (Tells m told st u)) (sym is)
-      (λ s kept size at small. steps_here x id i f s kept at (told st) owes small))
+      (λ s kept size at small. steps_here x id i f s kept at (told st.first) owes small))
 
   -- a load by the seat of two passes, which then know the history of all
   pub shows : {X : Type 0} (k : K) (slots id : ℕ) (me : Me X (List (Known K C A))) (x y : Known K C A) (i : ℕ) (st : Step X)

@@ -2,13 +2,14 @@
 use Rattle.std.proofs.Common.{◌≡◌, ℕ, zero, suc, ◌≤◌, true, false, List, [], ◌∷◌, ◌++◌, map, length, Some, slice_get, refl, ap, ◌∙◌, arith}
 use Rattle.spin_step.specs.Plain.{Holder, is_empty}
 use Rattle.spin_seated.specs.declared.history.Entry.{Entry}
-use Rattle.spin_seated.specs.declared.mutex.Opening.{Opening}
+use Rattle.spin_seated.specs.declared.history.Known.{Known}
+use Rattle.spin_seated.specs.declared.lock.Opening.{Opening}
 use Rattle.spin_seated.specs.declared.mutex.Call.{Call}
 use Rattle.spin_seated.specs.declared.mutex.Call.TheVariants.{TryLock, IsLocked, Read, Write, Unlock}
-use Rattle.spin_seated.specs.declared.mutex.Answer.{Answer}
-use Rattle.spin_seated.specs.declared.mutex.Answer.TheVariants.{Truth, Value}
-use Rattle.spin_seated.specs.Histories.{BeginsWith, entry, calls_by, after, state, IsLegal, Met}
-use Rattle.spin_seated.specs.Mutex.{Locked, after_call, mutex, Knows}
+use Rattle.spin_seated.specs.declared.lock.Answer.TheVariants.{Truth, Value}
+use Rattle.spin_seated.specs.Histories.{Machine, BeginsWith, entry, calls_by, after, state, IsLegal, Met}
+use Rattle.spin_seated.specs.Locked.{Locked}
+use Rattle.spin_seated.specs.Mutex.{after_call, mutex}
 use Rattle.spin_seated.specs.Lawful.{History, holders, written, last_written}
 use Rattle.spin_seated.proofs.Histories.{after-append, legal-split, calls_by-append}
 use Rattle.spin_seated.proofs.Holders.{Alone, alone_state, held_by, truth_is, value_tried}
@@ -61,19 +62,21 @@ read k before rest p v legal =
     let same : v ≡ (state mutex k before).value = cc (two.1.2) in
     same ∙ value_is (mutex.start k) before
 
-pub in_order : (log seen : History) (p : ℕ) → BeginsWith log seen → BeginsWith (calls_by p log) (calls_by p seen)
-in_order log seen p begins = record { rest = calls_by p begins.rest; is = ap (calls_by p) begins.is ∙ calls_by-append p seen begins.rest }
+-- of any lock
+module _ {K S C A H : Type 0} (m : Machine K S C A H) where
+  pub in_order : (log seen : List (Entry C A)) (p : ℕ) → BeginsWith log seen → BeginsWith (calls_by p log) (calls_by p seen)
+  in_order log seen p begins = record { rest = calls_by p begins.rest; is = ap (calls_by p) begins.is ∙ calls_by-append p seen begins.rest }
 
-get-append : (xs ys : History) (n : ℕ) (e : Entry Call Answer) → slice_get xs n ≡ Some e → slice_get (xs ++ ys) n ≡ Some e
-get-append [] ys n e is = absurd (cc is)
-get-append (x ∷ xs) ys zero e is = is
-get-append (x ∷ xs) ys (suc n) e is = get-append xs ys n e is
+  get-append : (xs ys : List (Entry C A)) (n : ℕ) (e : Entry C A) → slice_get xs n ≡ Some e → slice_get (xs ++ ys) n ≡ Some e
+  get-append [] ys n e is = absurd (cc is)
+  get-append (x ∷ xs) ys zero e is = is
+  get-append (x ∷ xs) ys (suc n) e is = get-append xs ys n e is
 
-still_there : (log seen : History) → BeginsWith log seen → (n : ℕ) (e : Entry Call Answer) → slice_get seen n ≡ Some e → slice_get log n ≡ Some e
-still_there log seen begins n e is = ap (λ (l : History). slice_get l n) begins.is ∙ get-append seen begins.rest n e is
+  still_there : (log seen : List (Entry C A)) → BeginsWith log seen → (n : ℕ) (e : Entry C A) → slice_get seen n ≡ Some e → slice_get log n ≡ Some e
+  still_there log seen begins n e is = ap (λ (l : List (Entry C A)). slice_get l n) begins.is ∙ get-append seen begins.rest n e is
 
-pub agree : (a b met_a met_b : Knows) → Met mutex a met_a.seen met_a → Met mutex b met_a.seen met_b
-    → (met_b.seen ≡ met_a.seen) × ((n : ℕ) (e : Entry Call Answer) → slice_get a.seen n ≡ Some e → slice_get met_b.seen n ≡ Some e)
-    × ((n : ℕ) (e : Entry Call Answer) → slice_get b.seen n ≡ Some e → slice_get met_a.seen n ≡ Some e)
-agree a b met_a met_b first second =
-    (second.history, (λ n e is. ap (λ (l : History). slice_get l n) second.history ∙ still_there met_a.seen a.seen first.begins n e is), still_there met_a.seen b.seen second.begins)
+  pub agree : (a b met_a met_b : Known K C A) → Met m a met_a.seen met_a → Met m b met_a.seen met_b
+      → (met_b.seen ≡ met_a.seen) × ((n : ℕ) (e : Entry C A) → slice_get a.seen n ≡ Some e → slice_get met_b.seen n ≡ Some e)
+      × ((n : ℕ) (e : Entry C A) → slice_get b.seen n ≡ Some e → slice_get met_a.seen n ≡ Some e)
+  agree a b met_a met_b first second =
+      (second.history, (λ n e is. ap (λ (l : List (Entry C A)). slice_get l n) second.history ∙ still_there met_a.seen a.seen first.begins n e is), still_there met_a.seen b.seen second.begins)

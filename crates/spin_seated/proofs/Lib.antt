@@ -4,5 +4,8 @@ pub mod Holders
 pub mod Keeping
 pub mod Lawful
 pub mod Passes
+pub mod RwDebts
+pub mod RwLawful
+pub mod RwSteps
 pub mod Totals
 pub mod Turns

@@ -3,13 +3,14 @@ use Rattle.std.proofs.Common.{◌≡◌, ℕ, zero, suc, ◌+◌, ◌<◌, ◌�
 use Rattle.std.proofs.lemmas.Bool.{false≢true}
 use Rattle.spin_step.specs.Plain.{Holder, holder, writing, same_kind, is_holder, is_empty}
 use Rattle.spin_seated.specs.declared.history.Entry.{Entry}
-use Rattle.spin_seated.specs.declared.mutex.Opening.{Opening}
+use Rattle.spin_seated.specs.declared.lock.Opening.{Opening}
 use Rattle.spin_seated.specs.declared.mutex.Call.{Call}
 use Rattle.spin_seated.specs.declared.mutex.Call.TheVariants.{TryLock, IsLocked, Read, Write, Unlock}
-use Rattle.spin_seated.specs.declared.mutex.Answer.{Answer}
-use Rattle.spin_seated.specs.declared.mutex.Answer.TheVariants.{Truth, Value, Done}
+use Rattle.spin_seated.specs.declared.lock.Answer.{Answer}
+use Rattle.spin_seated.specs.declared.lock.Answer.TheVariants.{Truth, Value, Done}
 use Rattle.spin_seated.specs.Histories.{BeginsWith, entry, calls_by, after, state, IsLegalFrom, IsLegal, Made, Met}
-use Rattle.spin_seated.specs.Mutex.{Locked, may_call, plain_answer, after_call, mutex, Knows}
+use Rattle.spin_seated.specs.Locked.{Locked}
+use Rattle.spin_seated.specs.Mutex.{may_call, plain_answer, after_call, mutex, Knows}
 use Rattle.spin_seated.specs.Turns.{Turn, away, entered, has_read, has_written, next_turn, turn_from, own_calls, turn_of, is_write, writes_in}
 use Rattle.spin_seated.proofs.Totals.{total-append}
 use Rattle.spin_seated.proofs.Holders.{Alone, alone_is, alone_after, alone_state, freed, tried, truth_is, is_held_by, steady, value_tried}

@@ -8,14 +8,16 @@ use Rattle.spin_seated.specs.declared.history.Entry.{Entry}
 use Rattle.spin_seated.specs.declared.history.Known.{Known}
 
 -- The plain object: how it begins from what `new` was handed, how many passes `new` gives, and the words of a state;
--- and for a pass, its call and a state: whether the call may be made there, its answer, and the state after it
-pub record Machine (K S C A : Type 0) : Type 0 where
+-- for a pass, its call and a state, whether the call may be made there, its answer, and the state after it;
+-- and what a pass holds in a state
+pub record Machine (K S C A H : Type 0) : Type 0 where
   pub start : K → S
   pub passes : K → ℕ
   pub words : S → List ℕ
   pub may : ℕ → C → S → Bool
   pub answer : ℕ → C → S → A
   pub next : ℕ → C → S → S
+  pub holds : ℕ → S → H
 
 -- the list begins with another, and goes on
 pub record BeginsWith {X : Type 0} (all first : List X) : Type 0 where
@@ -57,7 +59,7 @@ module _ {K C A : Type 0} where
   abbrev pub names : ℕ → List (Known K C A) → ℕ
   names p v = total (λ x. cond (x.pass == p) 1 0) v
 
-module _ {K S C A : Type 0} (m : Machine K S C A) where
+module _ {K S C A H : Type 0} (m : Machine K S C A H) where
   -- the state after these calls
   abbrev pub after : S → List (Entry C A) → S
   after s [] = s
@@ -74,6 +76,10 @@ module _ {K S C A : Type 0} (m : Machine K S C A) where
 
   abbrev pub IsLegal : K → List (Entry C A) → Type 0
   IsLegal k log = IsLegalFrom (m.passes k) (m.start k) log
+
+  -- what a pass holds at the end of its history
+  abbrev pub holds : Known K C A → H
+  holds x = m.holds x.pass (state x.opening x.seen)
 
   -- a pass has made a call: the history that it knew before goes on to one that ends with the call and its answer,
   -- is legal, and has of the pass's own calls one more, at the end
@@ -123,9 +129,9 @@ module _ {K S C A : Type 0} (m : Machine K S C A) where
   Turned None x y = y ≡ x
   Turned (Some t) x y = Made x t.0 t.1 y
 
-  -- what a step of one pass tells: which call it was, by its operands and the word that it found
-  abbrev pub Tells : {X : Type 0} → (Step X → ℕ → Option (C × A)) → Step X → Me X (List (Known K C A)) → ℕ → Me X (List (Known K C A)) → Type 0
-  Tells told step before found after = One (λ x. One (λ y. Turned (told step found) x y) after.0) before.0 × (after.1 ≡ before.1)
+  -- what a step of one pass tells: which call it was, by its first operand and the word that it found
+  abbrev pub Tells : {X : Type 0} → (ℕ → ℕ → Option (C × A)) → Step X → Me X (List (Known K C A)) → ℕ → Me X (List (Known K C A)) → Type 0
+  Tells told step before found after = One (λ x. One (λ y. Turned (told step.first found) x y) after.0) before.0 × (after.1 ≡ before.1)
 
   -- what a step of the seat of two passes tells: both know one history
   abbrev pub Shows : {X : Type 0} → Step X → Me X (List (Known K C A)) → ℕ → Me X (List (Known K C A)) → Type 0

@@ -1,10 +1,10 @@
 -- What a history of a mutex says, in the words of its users.
 use Rattle.std.specs.Prelude.{ℕ, List, [], ◌∷◌, map}
 use Rattle.spin_seated.specs.declared.history.Entry.{Entry}
-use Rattle.spin_seated.specs.declared.mutex.Opening.{Opening}
+use Rattle.spin_seated.specs.declared.lock.Opening.{Opening}
 use Rattle.spin_seated.specs.declared.mutex.Call.{Call}
 use Rattle.spin_seated.specs.declared.mutex.Call.TheVariants.{Write}
-use Rattle.spin_seated.specs.declared.mutex.Answer.{Answer}
+use Rattle.spin_seated.specs.declared.lock.Answer.{Answer}
 use Rattle.spin_seated.specs.Histories.{state}
 use Rattle.spin_seated.specs.Mutex.{mutex}
 

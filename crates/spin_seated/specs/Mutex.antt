@@ -1,20 +1,15 @@
--- The plain mutex: the lock of named holders, with a value.
-use Rattle.std.specs.Prelude.{◌≡◌, ℕ, Bool, true, if◌then◌else◌, List, [], ◌∷◌, Option, Some, None, not, ◌==◌}
-use Rattle.spin_step.specs.Plain.{Plain, fresh, writing, is_open, apply, gets, releases, to_write, flag_word, is_holder, is_empty}
-use Rattle.atomic_table.specs.Table.{Step}
-use Rattle.atomic_table.specs.Seated.{TableId}
-use Rattle.atomic_table.specs.declared.shared.Seat.{Seat}
-use Rattle.spin_seated.specs.declared.history.Known.{Known}
-use Rattle.spin_seated.specs.declared.mutex.Opening.{Opening}
+-- The plain mutex.
+use Rattle.std.specs.Prelude.{ℕ, Bool, true, if◌then◌else◌, [], ◌∷◌, Option, Some, not, ◌==◌}
+use Rattle.spin_step.specs.Plain.{fresh, writing, is_open, apply, gets, releases, to_write, flag_word, is_holder, is_empty}
+use Rattle.spin_seated.specs.declared.lock.Opening.{Opening}
+use Rattle.spin_seated.specs.declared.lock.Answer.{Answer}
+use Rattle.spin_seated.specs.declared.lock.Answer.TheVariants.{Truth, Value, Done}
 use Rattle.spin_seated.specs.declared.mutex.Call.{Call}
 use Rattle.spin_seated.specs.declared.mutex.Call.TheVariants.{TryLock, IsLocked, Read, Write, Unlock}
-use Rattle.spin_seated.specs.declared.mutex.Answer.{Answer}
-use Rattle.spin_seated.specs.declared.mutex.Answer.TheVariants.{Truth, Value, Done}
-use Rattle.spin_seated.specs.Histories.{Machine, state, newcomer}
-
-pub record Locked : Type 0 where
-  pub lock : Plain
-  pub value : ℕ
+use Rattle.spin_seated.specs.declared.history.Known.{Known}
+use Rattle.spin_seated.specs.Histories as histories
+use Rattle.spin_seated.specs.Histories.{Machine}
+use Rattle.spin_seated.specs.Locked.{Locked}
 
 abbrev pub opened : Opening → Locked
 opened k = record { lock = fresh 1 1 0; value = k.value }
@@ -41,7 +36,7 @@ after_call p Read s = s
 after_call p (Write v) s = record s { value = v }
 after_call p Unlock s = record s { lock = apply s.lock (releases p writing) }
 
-abbrev pub mutex : Machine Opening Locked Call Answer
+abbrev pub mutex : Machine Opening Locked Call Answer Bool
 mutex =
     record {
       start = opened;
@@ -50,6 +45,7 @@ mutex =
       may = may_call;
       answer = plain_answer;
       next = after_call;
+      holds = λ p s. is_holder p writing s.lock.holders;
     }
 
 -- what a pass of the mutex knows
@@ -58,45 +54,20 @@ Knows = Known Opening Call Answer
 
 -- the pass holds at the end of its history
 abbrev pub holds : Knows → Bool
-holds x = is_holder x.pass writing (state mutex x.opening x.seen).lock.holders
+holds x = histories.holds mutex x
 
--- what a step tells, by the word that it found and its operands
-module _ {X : Type 0} where
-  abbrev pub tries : Step X → ℕ → Option (Call × Answer)
-  tries step found = Some (TryLock, Truth (found == 0))
+-- what a step tells, by its operand and the word that it found
+abbrev pub tries : ℕ → ℕ → Option (Call × Answer)
+tries old found = Some (TryLock, Truth (found == 0))
 
-  abbrev pub looks : Step X → ℕ → Option (Call × Answer)
-  looks step found = Some (IsLocked, Truth (not (found == 0)))
+abbrev pub looks : ℕ → ℕ → Option (Call × Answer)
+looks none found = Some (IsLocked, Truth (not (found == 0)))
 
-  abbrev pub reads : Step X → ℕ → Option (Call × Answer)
-  reads step found = Some (Read, Value found)
+abbrev pub reads : ℕ → ℕ → Option (Call × Answer)
+reads none found = Some (Read, Value found)
 
-  abbrev pub writes : Step X → ℕ → Option (Call × Answer)
-  writes step found = Some (Write step.first, Done)
+abbrev pub writes : ℕ → ℕ → Option (Call × Answer)
+writes new found = Some (Write new, Done)
 
-  abbrev pub frees : Step X → ℕ → Option (Call × Answer)
-  frees step found = Some (Unlock, Done)
-
--- a pass as clauses see it: whose it is, and what it knows
-pub record Seated : Type 0 where
-  pub table : TableId
-  pub known : Knows
-
-abbrev pub nobody : Knows
-nobody = newcomer (record { value = 0; passes = 0 }) 0
-
-abbrev pub no_table : TableId
-no_table = record { words = 0; slots = 0; views_name = 0; atom = 0; block = 0; offset = 0; slot_names = [] }
-
-abbrev pub first_of_view : List Knows → Knows
-first_of_view [] = nobody
-first_of_view (x ∷ xs) = x
-
-abbrev pub seated_of : Option (Seat ℕ (List Knows)) → Seated
-seated_of None = record { table = no_table; known = nobody }
-seated_of (Some s) = record { table = s.table_id; known = first_of_view s.me.0 }
-
--- there is a seat, and it stands for one pass
-abbrev pub IsOneSeat : Option (Seat ℕ (List Knows)) → Type 0
-IsOneSeat None = ⊥
-IsOneSeat (Some s) = s.me ≡ (first_of_view s.me.0 ∷ [], [])
+abbrev pub frees : ℕ → ℕ → Option (Call × Answer)
+frees new found = Some (Unlock, Done)

@@ -1,28 +1,59 @@
--- Which passes belong to a mutex.
-use Rattle.std.specs.Prelude.{◌≡◌, ℕ, List, map}
+-- A pass as clauses see it, and which passes belong to a lock.
+use Rattle.std.specs.Prelude.{◌≡◌, ℕ, List, [], ◌∷◌, Option, Some, None, map}
 use Rattle.std.specs.List.{range_with_len}
 use Rattle.atomic_table.specs.Seated.{TableId}
-use Rattle.spin_seated.specs.declared.mutex.Opening.{Opening}
-use Rattle.spin_seated.specs.declared.mutex.SeatedMutex.{SeatedMutex}
+use Rattle.atomic_table.specs.declared.shared.Seat.{Seat}
+use Rattle.spin_seated.specs.declared.history.Known.{Known}
+use Rattle.spin_seated.specs.declared.lock.Opening.{Opening}
+use Rattle.spin_seated.specs.declared.lock.Answer.{Answer}
+use Rattle.spin_seated.specs.declared.lock.SeatedLock.{SeatedLock}
 use Rattle.spin_seated.specs.Histories.{newcomer}
-use Rattle.spin_seated.specs.Mutex.{Seated}
 
--- a pass of this table that has made no call, and knows of none
-abbrev pub new_pass : TableId → Opening → ℕ → Seated
-new_pass table opening p = record { table = table; known = newcomer opening p }
+abbrev pub no_table : TableId
+no_table = record { words = 0; slots = 0; views_name = 0; atom = 0; block = 0; offset = 0; slot_names = [] }
 
-module _ {A : Type 0} where
-  -- what the mutex was opened with
-  abbrev pub opening_of : SeatedMutex A → Opening
+-- what a pass of a lock with these calls knows
+abbrev pub Knows : Type 0 → Type 0
+Knows C = Known Opening C Answer
+
+-- a pass: whose it is, and what it knows
+pub record Seated (C : Type 0) : Type 0 where
+  pub table : TableId
+  pub known : Known Opening C Answer
+
+module _ {C : Type 0} where
+  abbrev pub nobody : Knows C
+  nobody = newcomer (record { value = 0; passes = 0 }) 0
+
+  abbrev pub first_of_view : List (Knows C) → Knows C
+  first_of_view [] = nobody
+  first_of_view (x ∷ xs) = x
+
+  abbrev pub seated_of : Option (Seat ℕ (List (Knows C))) → Seated C
+  seated_of None = record { table = no_table; known = nobody }
+  seated_of (Some s) = record { table = s.table_id; known = first_of_view s.me.0 }
+
+  -- there is a seat, and it stands for one pass
+  abbrev pub IsOneSeat : Option (Seat ℕ (List (Knows C))) → Type 0
+  IsOneSeat None = ⊥
+  IsOneSeat (Some s) = s.me ≡ (first_of_view s.me.0 ∷ [], [])
+
+  -- a pass of this table that has made no call, and knows of none
+  abbrev pub new_pass : TableId → Opening → ℕ → Seated C
+  new_pass table opening p = record { table = table; known = newcomer opening p }
+
+module _ {C A H : Type 0} where
+  -- what the lock was opened with
+  abbrev pub opening_of : SeatedLock C A H → Opening
   opening_of lock = lock.table.shared.key
 
-  abbrev pub IsPassOf : SeatedMutex A → Seated → Type 0
+  abbrev pub IsPassOf : SeatedLock C A H → Seated C → Type 0
   IsPassOf lock p = (p.table ≡ lock.table.shared.table_id) × (p.known.opening ≡ opening_of lock)
 
   -- the pass of this number, as `new` gave it
-  abbrev pub pass_of : SeatedMutex A → ℕ → Seated
+  abbrev pub pass_of : SeatedLock C A H → ℕ → Seated C
   pass_of lock p = new_pass lock.table.shared.table_id (opening_of lock) p
 
   -- a pass for each number below that which `new` was asked for
-  abbrev pub all_passes_of : SeatedMutex A → List Seated
+  abbrev pub all_passes_of : SeatedLock C A H → List (Seated C)
   all_passes_of lock = map (pass_of lock) (range_with_len 0 (opening_of lock).passes)

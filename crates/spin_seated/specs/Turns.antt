@@ -1,14 +1,14 @@
 -- A pass that adds: each time that it is granted the lock, it reads, writes one more than it read or writes nothing, and lets go.
-use Rattle.std.specs.Prelude.{◌≡◌, ℕ, ◌+◌, ◌==◌, true, false, if◌then◌else◌, List, [], ◌∷◌, Option, Some, None, option_and_then}
+use Rattle.std.specs.Prelude.{◌≡◌, ℕ, Bool, ◌+◌, ◌==◌, true, false, if◌then◌else◌, List, [], ◌∷◌, Option, Some, None, option_and_then}
 use Rattle.spin_seated.specs.declared.history.Entry.{Entry}
 use Rattle.spin_seated.specs.declared.mutex.Call.{Call}
 use Rattle.spin_seated.specs.declared.mutex.Call.TheVariants.{TryLock, Read, Write, Unlock}
-use Rattle.spin_seated.specs.declared.mutex.Answer.{Answer}
-use Rattle.spin_seated.specs.declared.mutex.Answer.TheVariants.{Truth, Value, Done}
+use Rattle.spin_seated.specs.declared.lock.Answer.{Answer}
+use Rattle.spin_seated.specs.declared.lock.Answer.TheVariants.{Truth, Value, Done}
 use Rattle.spin_seated.specs.Histories.{calls_by, total}
-use Rattle.spin_seated.specs.declared.mutex.SeatedMutex.{SeatedMutex}
-use Rattle.spin_seated.specs.Mutex.{Knows, Seated}
-use Rattle.spin_seated.specs.Passes.{IsPassOf}
+use Rattle.spin_seated.specs.declared.lock.SeatedLock.{SeatedLock}
+use Rattle.spin_seated.specs.Mutex.{Knows}
+use Rattle.spin_seated.specs.Passes.{Seated, IsPassOf}
 
 -- how far it is
 pub data Turn : Type 0 where
@@ -48,5 +48,5 @@ writes_in log = total (λ e. is_write e.call) log
 
 module _ {A : Type 0} where
   -- a pass of this mutex that has done nothing but add, and has written so often
-  abbrev pub HasAdded : SeatedMutex A → Seated → ℕ → Type 0
+  abbrev pub HasAdded : SeatedLock Call A Bool → Seated Call → ℕ → Type 0
   HasAdded lock p n = IsPassOf lock p × (turn_of p.known ≡ Some away) × (writes_in (own_calls p.known) ≡ n)

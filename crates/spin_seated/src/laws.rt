@@ -1,11 +1,11 @@
 //! Laws of the histories that passes know. Each is the contract of a function that does nothing.
 ghost use Rattle.std.specs.Prelude.{◌≡◌, ℕ, ◌≤◌, true, false, List, [], ◌∷◌, ◌++◌, Some, length, slice_get};
 ghost use Rattle.spin_seated.specs.declared.history.Entry.{Entry};
-ghost use Rattle.spin_seated.specs.declared.mutex.Opening.{Opening};
+ghost use Rattle.spin_seated.specs.declared.lock.Opening.{Opening};
 ghost use Rattle.spin_seated.specs.declared.mutex.Call.{Call};
 ghost use Rattle.spin_seated.specs.declared.mutex.Call.TheVariants.{TryLock, Read};
-ghost use Rattle.spin_seated.specs.declared.mutex.Answer.{Answer};
-ghost use Rattle.spin_seated.specs.declared.mutex.Answer.TheVariants.{Truth, Value};
+ghost use Rattle.spin_seated.specs.declared.lock.Answer.{Answer};
+ghost use Rattle.spin_seated.specs.declared.lock.Answer.TheVariants.{Truth, Value};
 ghost use Rattle.spin_seated.specs.Histories.{BeginsWith, entry, calls_by, IsLegal, Met};
 ghost use Rattle.spin_seated.specs.Mutex.{mutex, Knows};
 ghost use Rattle.spin_seated.specs.Lawful.{History, holders, last_written};

@@ -4,4 +4,6 @@
 pub mod adding;
 pub mod history;
 pub mod laws;
+pub mod lock;
 pub mod mutex;
+pub mod rwlock;

@@ -1,22 +1,13 @@
 //! A mutex of one flag and one number, whose callers know what they did.
-ghost use Rattle.std.specs.Prelude.{◌≡◌};
+ghost use Rattle.spin_seated.specs.Mutex.{mutex};
 
-use crate::history::View;
-use atomic_table::{Table, TableRule};
-use std::alloc::{Allocator, Global};
+use crate::lock::{self, Calls, SeatedLock};
+use std::alloc::Global;
 
 mod calls;
-mod pass;
 mod plays;
 
-pub use pass::Pass;
-
-/// What `new` was handed.
-#[derive(Clone, Copy)]
-pub struct Opening {
-    pub value: u64,
-    pub passes: usize,
-}
+pub use crate::lock::{Answer, Opening};
 
 /// What a pass can ask of a `SeatedMutex`.
 #[derive(Clone, Copy)]
@@ -28,32 +19,20 @@ pub enum Call {
     Unlock,
 }
 
-/// What it is answered.
-#[derive(Clone, Copy)]
-pub enum Answer {
-    Truth(bool),
-    Value(u64),
-    Done,
-}
+impl Calls for Call {
+    type Hold = bool;
 
-/// What a seat at the table knows.
-pub type Knows = View<Opening, Call, Answer>;
+    ghost machine = { mutex };
 
-/// The first word is the flag, the second the value. They are those of the plain lock after one legal history.
-pub struct Law;
+    fn nothing() -> bool {
+        false
+    }
 
-impl TableRule<u64, Knows, Opening> for Law {
-    ghost use Rattle.spin_seated.specs.Histories.{Kept, all_passes};
-    ghost use Rattle.spin_seated.specs.Mutex.{mutex};
-
-    ghost holds = { Kept mutex };
-
-    ghost first = { all_passes mutex };
+    fn laws() {}
 }
 
 /// A lock of one number, whose calls stand in one history.
-#[derive(Drop)]
-pub struct SeatedMutex<A: Allocator = Global> {
-    table: Table<u64, Knows, Opening, Law, A>,
-    ghost two_words: { table.shared.table_id.words ≡ 2 },
-}
+pub type SeatedMutex<A = Global> = SeatedLock<Call, A>;
+
+/// A place among the callers of one `SeatedMutex`; `holds` says whether it holds the lock.
+pub type Pass = lock::Pass<Call>;

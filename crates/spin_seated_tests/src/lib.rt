@@ -1,5 +1,7 @@
-//! Tests of the mutex with seats: what no contract says of it.
+//! Tests of the seated locks: what no contract says of them.
 #![tactic(auto)]
 
 #[cfg(test)]
 mod calls;
+#[cfg(test)]
+mod readers;

@@ -1,6 +1,6 @@
 use Rattle.std.proofs.Common.{◌≡◌, ◌+◌, Bool, if◌then◌else◌, Some, None, refl, ap, eq-eqb, arith}
 use Rattle.spin_seated.specs.declared.mutex.Call.TheVariants.{TryLock, Read, Write, Unlock}
-use Rattle.spin_seated.specs.declared.mutex.Answer.TheVariants.{Truth}
+use Rattle.spin_seated.specs.declared.lock.Answer.TheVariants.{Truth}
 use Rattle.spin_seated.specs.Turns.{away, entered, has_read, has_written, next_turn, turn_of}
 use Rattle.spin_seated.proofs.Turns.{turn_goes, writes_grow}
 use Rattle.spin_seated.proofs.adding.add.Goals as goal

@@ -1,5 +1,6 @@
+use Rattle.spin_seated.specs.Mutex.{mutex}
 use Rattle.spin_seated.proofs.Lawful.{agree}
 use Rattle.spin_seated.proofs.laws.who_met_agree.Goals as goal
 
 pub returns : goal.returns
-returns c = agree
+returns c = agree mutex

@@ -1,0 +1,126 @@
+-- The plain read-write lock.
+use Rattle.std.specs.Prelude.{ℕ, ◌==◌, Bool, true, false, if◌then◌else◌, List, [], ◌∷◌, Option, Some, None, filter}
+use Rattle.spin_step.specs.Plain.{Plain, Kind, reading, upgradable, writing, Holder, fresh, Change, gets, releases, turns, to_read, to_write, is_open, count_kind, reader_count, rw_word}
+use Rattle.spin_step.specs.Parties.{apply_some}
+use Rattle.spin_step.specs.Readers.{reader_limit, readers_in, writers_in, has_room}
+use Rattle.spin_seated.specs.declared.lock.Opening.{Opening}
+use Rattle.spin_seated.specs.declared.lock.Answer.{Answer}
+use Rattle.spin_seated.specs.declared.lock.Answer.TheVariants.{Truth, Value, Done}
+use Rattle.spin_seated.specs.declared.rwlock.Call.{Call}
+use Rattle.spin_seated.specs.declared.rwlock.Call.TheVariants.{TryRead, TryWrite, ReaderCount, WriterCount, Read, Write, UnlockRead, UnlockWrite, Downgrade}
+use Rattle.spin_seated.specs.declared.rwlock.SeatedHold.{SeatedHold}
+use Rattle.spin_seated.specs.declared.rwlock.SeatedHold.TheVariants as hold
+use Rattle.spin_seated.specs.declared.history.Known.{Known}
+use Rattle.spin_seated.specs.Histories as histories
+use Rattle.spin_seated.specs.Histories.{Machine}
+use Rattle.spin_seated.specs.Locked.{Locked}
+
+abbrev pub opened : Opening → Locked
+opened k = record { lock = fresh reader_limit 1 0; value = k.value }
+
+-- how a holder of this kind holds; nobody here is upgradable
+abbrev pub hold_of : Kind → SeatedHold
+hold_of reading = hold.Read
+hold_of upgradable = hold.Read
+hold_of writing = hold.Write
+
+-- of the places that a pass has among the holders, the first
+abbrev pub held : List Holder → Option SeatedHold
+held [] = None
+held (h ∷ hs) = Some (hold_of h.kind)
+
+abbrev pub hold_in : ℕ → Locked → Option SeatedHold
+hold_in p s = held (filter (λ h. h.party == p) s.lock.holders)
+
+-- which calls a pass may make that holds this
+abbrev pub may_with : Call → Option SeatedHold → Bool
+may_with TryRead None = true
+may_with TryWrite None = true
+may_with ReaderCount h = true
+may_with WriterCount h = true
+may_with Read (Some h) = true
+may_with (Write v) (Some hold.Write) = true
+may_with UnlockRead (Some hold.Read) = true
+may_with UnlockWrite (Some hold.Write) = true
+may_with Downgrade (Some hold.Write) = true
+may_with _ _ = false
+
+-- the plain step that a call is for
+abbrev pub change : ℕ → Call → Option Change
+change p TryRead = Some (gets p to_read)
+change p TryWrite = Some (gets p to_write)
+change p UnlockRead = Some (releases p reading)
+change p UnlockWrite = Some (releases p writing)
+change p Downgrade = Some (turns p writing reading)
+change p _ = None
+
+-- it is made where it is open
+abbrev pub where_open : Plain → Option Change → Option Change
+where_open s None = None
+where_open s (Some c) = if is_open s c then Some c else None
+
+abbrev pub written : Call → ℕ → ℕ
+written (Write w) v = w
+written _ v = v
+
+abbrev pub after_call : ℕ → Call → Locked → Locked
+after_call p c s = record { lock = apply_some s.lock (where_open s.lock (change p c)); value = written c s.value }
+
+abbrev pub plain_answer : ℕ → Call → Locked → Answer
+plain_answer p TryRead s = Truth (is_open s.lock (gets p to_read))
+plain_answer p TryWrite s = Truth (is_open s.lock (gets p to_write))
+plain_answer p ReaderCount s = Value (reader_count s.lock.holders)
+plain_answer p WriterCount s = Value (count_kind writing s.lock.holders)
+plain_answer p Read s = Value s.value
+plain_answer p _ s = Done
+
+abbrev pub rw : Machine Opening Locked Call Answer (Option SeatedHold)
+rw =
+    record {
+      start = opened;
+      passes = λ k. k.passes;
+      words = λ s. rw_word s.lock ∷ s.value ∷ [];
+      may = λ p c s. may_with c (hold_in p s);
+      answer = plain_answer;
+      next = after_call;
+      holds = hold_in;
+    }
+
+-- what a pass of the lock knows
+abbrev pub Knows : Type 0
+Knows = Known Opening Call Answer
+
+-- what the pass holds at the end of its history
+abbrev pub holds : Knows → Option SeatedHold
+holds x = histories.holds rw x
+
+-- what a step tells, by its operand and the word that it found
+
+-- a try to read is refused by a word that has no room, and granted by an exchange that found what it looked for
+abbrev pub refused_by : ℕ → Option (Call × Answer)
+refused_by found = if has_room found reader_limit then None else Some (TryRead, Truth false)
+
+abbrev pub looks : ℕ → ℕ → Option (Call × Answer)
+looks none found = refused_by found
+
+abbrev pub comes : ℕ → ℕ → Option (Call × Answer)
+comes old found = if found == old then Some (TryRead, Truth true) else refused_by found
+
+abbrev pub comes_to_write : ℕ → ℕ → Option (Call × Answer)
+comes_to_write old found = Some (TryWrite, Truth (found == 0))
+
+abbrev pub counts_readers : ℕ → ℕ → Option (Call × Answer)
+counts_readers none found = Some (ReaderCount, Value (readers_in found))
+
+abbrev pub counts_writers : ℕ → ℕ → Option (Call × Answer)
+counts_writers none found = Some (WriterCount, Value (writers_in found))
+
+abbrev pub reads : ℕ → ℕ → Option (Call × Answer)
+reads none found = Some (Read, Value found)
+
+abbrev pub writes : ℕ → ℕ → Option (Call × Answer)
+writes new found = Some (Write new, Done)
+
+-- a step that is this call, whatever it finds
+abbrev pub is_call : Call → ℕ → ℕ → Option (Call × Answer)
+is_call c by found = Some (c, Done)

@@ -1,0 +1,72 @@
+//! A lock on a table of two words, whose calls stand in one history. What a call may be, and what it is answered, each lock
+//! says by a machine of plain answers.
+ghost use Rattle.std.specs.Prelude.{◌≡◌, ℕ};
+ghost use Rattle.spin_seated.specs.Histories.{Machine};
+ghost use Rattle.spin_seated.specs.Locked.{Locked, IsLock};
+
+use crate::history::View;
+use atomic_table::{Table, TableRule};
+use std::alloc::{Allocator, Global};
+use std::marker::PhantomData;
+
+mod making;
+mod pass;
+mod steps;
+
+pub use self::pass::{Pass, Place};
+pub(crate) use self::steps::Tells;
+
+/// What `new` was handed.
+#[derive(Clone, Copy)]
+pub struct Opening {
+    pub value: u64,
+    pub passes: usize,
+}
+
+/// What a call is answered.
+#[derive(Clone, Copy)]
+pub enum Answer {
+    Truth(bool),
+    Value(u64),
+    Done,
+}
+
+/// The calls of a lock, which say what lock it is.
+pub trait Calls {
+    /// What a pass may hold.
+    type Hold: Copy;
+
+    ghost use Rattle.spin_seated.specs.declared.lock.Opening.{Opening};
+    ghost use Rattle.spin_seated.specs.declared.lock.Answer.{Answer};
+
+    // The plain lock: which calls a pass may make, what they are answered, and what a pass holds after them.
+    ghost machine: { Machine Opening Locked Self Answer Self.Hold };
+
+    /// What a pass holds that has made no call.
+    fn nothing() -> Self::Hold
+        ensures { (k : Opening) (p : ℕ) → machine.holds p (machine.start k) ≡ result };
+
+    /// The laws. It does nothing.
+    fn laws()
+        ensures { IsLock machine };
+}
+
+/// The words are those of the plain lock after one legal history. No value of this type is made.
+pub struct Law<C> {
+    calls: PhantomData<C>,
+}
+
+impl<C: Calls> TableRule<u64, View<Opening, C, Answer>, Opening> for Law<C> {
+    ghost use Rattle.spin_seated.specs.Histories.{Kept, all_passes};
+
+    ghost holds = { Kept C.machine };
+
+    ghost first = { all_passes C.machine };
+}
+
+/// A lock of one number, whose calls `C` stand in one history. The first word is the lock's, the second the value.
+#[derive(Drop)]
+pub struct SeatedLock<C: Calls, A: Allocator = Global> {
+    table: Table<u64, View<Opening, C, Answer>, Opening, Law<C>, A>,
+    ghost two_words: { table.shared.table_id.words ≡ 2 },
+}

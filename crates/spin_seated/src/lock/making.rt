@@ -1,0 +1,36 @@
+//! How a lock and its passes are made.
+ghost use Rattle.std.specs.Prelude.{◌≡◌, ◌<◌, IfOk};
+ghost use Rattle.spin_seated.specs.Passes.{opening_of, all_passes_of};
+
+use super::{Calls, Opening, Pass, Place, SeatedLock};
+use crate::history::First;
+use atomic_table::Table;
+use std::alloc::{AllocError, Allocator};
+
+impl<C: Calls, A: Allocator> SeatedLock<C, A> {
+    /// A lock that nobody holds, and the passes to call it with, numbered from 0 on.
+    pub fn new(
+        alloc: A,
+        value: u64,
+        passes: usize,
+    ) -> Result<(SeatedLock<C, A>, Vec<Pass<C>, A>), AllocError>
+    where
+        A: Clone,
+        requires { 0 < passes }
+        ensures opening { IfOk result (λ r. opening_of r.0 ≡ record { value = value; passes = passes }) }
+        ensures passes { IfOk result (λ r. r.1.items ≡ all_passes_of r.0) }
+    {
+        C::laws();
+        let opening = Opening { value, passes };
+        let (table, mut seat) = Table::of_words(alloc.clone()?, &[0, value], &opening)?;
+        let mut all = Vec::with_capacity(alloc, passes)?;
+        for _ in 0..passes {
+            let own = table.shared.split_seat::<First>(&mut seat);
+            all.push(Pass {
+                place: Place { seat: Some(own) },
+                holding: C::nothing(),
+            })?;
+        }
+        Ok((SeatedLock { table }, all))
+    }
+}

@@ -1,0 +1,49 @@
+//! What a caller calls with.
+ghost use Rattle.std.specs.Prelude.{◌≡◌};
+ghost use Rattle.spin_seated.specs.Histories.{holds};
+ghost use Rattle.spin_seated.specs.Passes.{Seated, seated_of, IsOneSeat};
+
+use super::{Answer, Calls, Opening};
+use crate::history::View;
+use atomic_table::Seat;
+use std::marker::Model;
+
+/// A seat at the table that stands for one pass.
+#[derive(Drop)]
+pub struct Place<C> {
+    pub(super) seat: Option<Seat<u64, View<Opening, C, Answer>>>,
+}
+
+impl<C> Model for Place<C> {
+    ghost Value = { Seated C };
+
+    ghost view = { λ p. seated_of p.seat };
+
+    ghost invariant = { λ p. IsOneSeat p.seat };
+}
+
+/// A place among the callers of one lock. Contracts see what it knows: a history, in which all its own calls stand.
+///
+/// It can't be copied, and may go to another thread. A pass that is dropped while it holds the lock stays its holder.
+#[derive(Drop)]
+pub struct Pass<C: Calls> {
+    pub(crate) place: Place<C>,
+    pub(crate) holding: C::Hold,
+}
+
+impl<C: Calls> Model for Pass<C> {
+    ghost Value = { Seated C };
+
+    ghost view = { λ p. p.place };
+
+    ghost invariant = { λ p. p.holding ≡ holds C.machine p.place.known };
+}
+
+impl<C: Calls> Pass<C> {
+    /// What it holds at the end of its history.
+    pub fn holds(&self) -> C::Hold
+        ensures { result ≡ holds C.machine self.now.known }
+    {
+        self.holding
+    }
+}

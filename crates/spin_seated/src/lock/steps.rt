@@ -1,0 +1,151 @@
+//! The steps on the table. Each tells which call it is; what it owes is that the call may be made, that the words become
+//! those of the state after it, and that its answer is the plain one.
+ghost use Rattle.std.specs.Prelude.{◌≡◌, ℕ, ◌<◌, ◌+◌, ◌-◌, ◌%◌, ◌^◌, ◌==◌, Option};
+ghost use prog.Atomic.{either};
+ghost use Rattle.spin_seated.specs.Histories.{Owes, Turned, Met, holds};
+ghost use Rattle.spin_seated.specs.Passes.{IsPassOf};
+
+use super::{Answer, Calls, Opening, Pass, Place, SeatedLock};
+use crate::history::{Both, First, View};
+use atomic_table::Play;
+use std::alloc::Allocator;
+use std::marker::PhantomData;
+
+/// Which call a kind of step is, and its answer; none where it is no call.
+pub(crate) trait Tells<C> {
+    ghost use Rattle.spin_seated.specs.declared.lock.Answer.{Answer};
+
+    // Of the operand (0 where there is none) and the word found; of an exchange, the word that it looks for.
+    ghost told: { ℕ → ℕ → Option (C × Answer) };
+}
+
+pub(crate) struct Told<C, T> {
+    names: PhantomData<(C, T)>,
+}
+
+impl<C: Calls, T: Tells<C>> Play<u64, View<Opening, C, Answer>> for Told<C, T> {
+    ghost use Rattle.spin_seated.specs.Histories.{Tells};
+
+    ghost then = { Tells C.machine T.told };
+}
+
+pub(crate) struct Meets<C> {
+    names: PhantomData<C>,
+}
+
+impl<C: Calls> Play<u64, View<Opening, C, Answer>> for Meets<C> {
+    ghost use Rattle.spin_seated.specs.Histories.{Shows};
+
+    ghost then = { Shows C.machine };
+}
+
+impl<C: Calls, A: Allocator> SeatedLock<C, A> {
+    /// Reads a word.
+    pub(crate) fn load<T: Tells<C>>(&self, place: &mut Place<C>, word: usize) -> u64
+        requires own { IsPassOf self.now place.old }
+        requires word { word < 2 }
+        requires owes { Owes C.machine place.old.known word (λ n. n) (T.told 0) }
+        ensures own { IsPassOf self.now place.new }
+        ensures told { Turned C.machine (T.told 0 result) place.old.known place.new.known }
+    {
+        let Some(seat) = &mut place.seat else {
+            unreachable!()
+        };
+        self.table.shared.load::<Told<C, T>>(seat, word)
+    }
+
+    /// Writes `new` over a word.
+    pub(crate) fn store<T: Tells<C>>(&self, place: &mut Place<C>, word: usize, new: u64)
+        requires own { IsPassOf self.now place.old }
+        requires word { word < 2 }
+        requires owes { Owes C.machine place.old.known word (λ _. new) (λ _. T.told new new) }
+        ensures own { IsPassOf self.now place.new }
+        ensures told { Turned C.machine (T.told new new) place.old.known place.new.known }
+    {
+        let Some(seat) = &mut place.seat else {
+            unreachable!()
+        };
+        self.table.shared.store::<Told<C, T>>(seat, word, new);
+    }
+
+    /// Writes `new` over a word where it is `old`, and returns the word as it was.
+    pub(crate) fn exchange<T: Tells<C>>(
+        &self,
+        place: &mut Place<C>,
+        word: usize,
+        old: u64,
+        new: u64,
+    ) -> u64
+        requires own { IsPassOf self.now place.old }
+        requires word { word < 2 }
+        requires owes { Owes C.machine place.old.known word (λ n. either (n == old) new n) (T.told old) }
+        ensures own { IsPassOf self.now place.new }
+        ensures told { Turned C.machine (T.told old result) place.old.known place.new.known }
+    {
+        let Some(seat) = &mut place.seat else {
+            unreachable!()
+        };
+        self.table
+            .shared
+            .compare_exchange::<Told<C, T>>(seat, word, old, new)
+    }
+
+    /// Adds `by` to a word, modulo 2^64.
+    pub(crate) fn add<T: Tells<C>>(&self, place: &mut Place<C>, word: usize, by: u64) -> u64
+        requires own { IsPassOf self.now place.old }
+        requires word { word < 2 }
+        requires owes { Owes C.machine place.old.known word (λ n. (n + by) % 2 ^ 64) (T.told by) }
+        ensures own { IsPassOf self.now place.new }
+        ensures told { Turned C.machine (T.told by result) place.old.known place.new.known }
+    {
+        let Some(seat) = &mut place.seat else {
+            unreachable!()
+        };
+        self.table.shared.fetch_add::<Told<C, T>>(seat, word, by)
+    }
+
+    /// Subtracts `by` from a word, modulo 2^64.
+    pub(crate) fn subtract<T: Tells<C>>(&self, place: &mut Place<C>, word: usize, by: u64) -> u64
+        requires own { IsPassOf self.now place.old }
+        requires word { word < 2 }
+        requires owes { Owes C.machine place.old.known word (λ n. (n + (2 ^ 64 - by)) % 2 ^ 64) (T.told by) }
+        ensures own { IsPassOf self.now place.new }
+        ensures told { Turned C.machine (T.told by result) place.old.known place.new.known }
+    {
+        let Some(seat) = &mut place.seat else {
+            unreachable!()
+        };
+        self.table.shared.fetch_sub::<Told<C, T>>(seat, word, by)
+    }
+
+    /// Both passes come to know one history. It makes three loads of the first word, which decide nothing.
+    pub fn meet(&self, a: &mut Pass<C>, b: &mut Pass<C>)
+        requires first { IsPassOf self.now a.old }
+        requires second { IsPassOf self.now b.old }
+        ensures own { IsPassOf self.now a.new × IsPassOf self.now b.new }
+        ensures first { Met C.machine a.old.known a.new.known.seen a.new.known }
+        ensures second { Met C.machine b.old.known a.new.known.seen b.new.known }
+        ensures holds { (holds C.machine a.new.known ≡ holds C.machine a.old.known) × (holds C.machine b.new.known ≡ holds C.machine b.old.known) }
+    {
+        C::laws();
+        self.meet_at(&mut a.place, &mut b.place);
+    }
+
+    fn meet_at(&self, a: &mut Place<C>, b: &mut Place<C>)
+        requires first { IsPassOf self.now a.old }
+        requires second { IsPassOf self.now b.old }
+        ensures own { IsPassOf self.now a.new × IsPassOf self.now b.new }
+        ensures first { Met C.machine a.old.known a.new.known.seen a.new.known }
+        ensures second { Met C.machine b.old.known a.new.known.seen b.new.known }
+    {
+        let Some(other) = b.seat.take() else {
+            unreachable!()
+        };
+        let Some(seat) = &mut a.seat else {
+            unreachable!()
+        };
+        self.table.shared.join_seat::<Both>(seat, other);
+        self.table.shared.load::<Meets<C>>(seat, 0);
+        b.seat = Some(self.table.shared.split_seat::<First>(seat));
+    }
+}

@@ -1,0 +1,38 @@
+//! Laws of the histories that passes of a `SeatedRwLock` know. Each is the contract of a function that does nothing.
+ghost use Rattle.std.specs.Prelude.{◌≡◌, ℕ, ◌<◌, Bool, List, [], ◌∷◌, ◌++◌, Some, length, slice_get};
+ghost use Rattle.spin_step.specs.Plain.{writing, count_kind, reader_count, is_empty};
+ghost use Rattle.spin_seated.specs.declared.history.Entry.{Entry};
+ghost use Rattle.spin_seated.specs.declared.lock.Opening.{Opening};
+ghost use Rattle.spin_seated.specs.declared.lock.Answer.{Answer};
+ghost use Rattle.spin_seated.specs.declared.lock.Answer.TheVariants.{Truth, Value};
+ghost use Rattle.spin_seated.specs.declared.rwlock.Call.{Call};
+ghost use Rattle.spin_seated.specs.declared.rwlock.Call.TheVariants.{TryWrite, ReaderCount, WriterCount, Read};
+ghost use Rattle.spin_seated.specs.Histories.{entry, IsLegal, Met};
+ghost use Rattle.spin_seated.specs.Rw.{rw, Knows};
+ghost use Rattle.spin_seated.specs.RwLawful.{History, holders, last_written};
+
+/// Nobody writes while another reads or writes.
+pub fn nobody_writes_beside_another()
+    ensures { (k : Opening) (log : History) → IsLegal rw k log → 0 < count_kind writing (holders k log) → length (holders k log) ≡ 1 }
+{}
+
+/// A try to write is granted exactly where nobody holds.
+pub fn a_writer_comes_where_nobody_holds()
+    ensures { (k : Opening) (before after : History) (p : ℕ) (granted : Bool) → IsLegal rw k (before ++ entry p TryWrite (Truth granted) ∷ after) → granted ≡ is_empty (holders k before) }
+{}
+
+/// A read gives the last write before it, or else the value that the lock was opened with, also of one who wrote and reads
+/// on.
+pub fn a_read_gives_the_last_write()
+    ensures { (k : Opening) (before after : History) (p v : ℕ) → IsLegal rw k (before ++ entry p Read (Value v) ∷ after) → v ≡ last_written k.value before }
+{}
+
+/// A count is the number of those who hold so at that point.
+pub fn a_count_is_the_number_of_holders()
+    ensures { (k : Opening) (before after : History) (p n : ℕ) → (IsLegal rw k (before ++ entry p ReaderCount (Value n) ∷ after) → n ≡ reader_count (holders k before)) × (IsLegal rw k (before ++ entry p WriterCount (Value n) ∷ after) → n ≡ count_kind writing (holders k before)) }
+{}
+
+/// Two passes that met agree on every answer so far: what either had seen stands at the same place in what both know now.
+pub fn who_met_agree()
+    ensures { (a b met_a met_b : Knows) → Met rw a met_a.seen met_a → Met rw b met_a.seen met_b → (met_b.seen ≡ met_a.seen) × ((n : ℕ) (e : Entry Call Answer) → slice_get a.seen n ≡ Some e → slice_get met_b.seen n ≡ Some e) × ((n : ℕ) (e : Entry Call Answer) → slice_get b.seen n ≡ Some e → slice_get met_a.seen n ≡ Some e) }
+{}

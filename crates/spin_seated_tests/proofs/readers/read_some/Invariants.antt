@@ -1,0 +1,8 @@
+-- each turn of the loop leaves the pass as it found it: of this lock, without a hold
+use Rattle.std.proofs.Common.{◌≡◌, ◌≤◌, None}
+use Rattle.spin_seated.specs.Passes.{IsPassOf}
+use Rattle.spin_seated.specs.Rw.{holds}
+use Rattle.spin_seated_tests.proofs.readers.read_some.Given as goal
+
+abbrev pub invariant-loop : goal.invariant-loop
+invariant-loop g l = IsPassOf l.lock l.pass × (holds l.pass.known ≡ None) × (l.times ≤ l.counter)

@@ -1,0 +1,192 @@
+//! What no contract says of a `SeatedRwLock`: that a try is granted at all, that memory suffices, and threads that end.
+ghost use Rattle.std.specs.Prelude.{◌≡◌, None, IfOk};
+ghost use Rattle.spin_seated.specs.Passes.{IsPassOf, pass_of};
+ghost use Rattle.spin_seated.specs.Rw.{holds};
+
+use bumpalo::Bump;
+use spin_core::relax::{RelaxStrategy, Yield};
+use spin_seated::rwlock::{RwPass, SeatedHold, SeatedRwLock};
+use std::alloc::{AllocError, Global};
+use std::sync::Wait;
+use std::test::Fail;
+use std::thread::join;
+
+const TURNS: u32 = 10_000_000;
+
+const TIMES: u32 = 300;
+
+fn open_for_three(
+    alloc: Global,
+    value: u64,
+) -> Result<(SeatedRwLock, RwPass, RwPass, RwPass), AllocError>
+    ensures { IfOk result (λ r. (r.1 ≡ pass_of r.0 0) × (r.2 ≡ pass_of r.0 1) × (r.3 ≡ pass_of r.0 2)) }
+{
+    let (lock, mut passes) = SeatedRwLock::new(alloc, value, 3)?;
+    let Some(c) = passes.pop() else {
+        unreachable!()
+    };
+    let Some(b) = passes.pop() else {
+        unreachable!()
+    };
+    let Some(a) = passes.pop() else {
+        unreachable!()
+    };
+    Ok((lock, a, b, c))
+}
+
+fn reads(pass: &RwPass) -> bool {
+    matches!(pass.holds(), Some(SeatedHold::Read))
+}
+
+#[test]
+fn readers_stand_beside_one_another(rt: HostRuntime) -> Result<(), Fail> {
+    let (lock, mut a, mut b, mut c) = open_for_three(rt.alloc(), 5)?;
+    assert!(rt; lock.try_read(&rt, &mut a));
+    assert!(rt; lock.try_read(&rt, &mut b));
+    assert!(rt; !lock.try_write(&mut c));
+    assert_eq!(rt; lock.reader_count(&mut c), 2);
+    assert_eq!(rt; lock.writer_count(&mut c), 0);
+    assert_eq!(rt; lock.read(&mut b), 5);
+    lock.unlock_read(&mut a);
+    lock.unlock_read(&mut b);
+    assert!(rt; a.holds().is_none() && b.holds().is_none());
+    Ok(())
+}
+
+#[test]
+fn a_writer_goes_on_as_a_reader(rt: HostRuntime) -> Result<(), Fail> {
+    let (lock, mut a, mut b, mut c) = open_for_three(rt.alloc(), 5)?;
+    assert!(rt; lock.try_write(&mut c));
+    assert_eq!(rt; lock.writer_count(&mut a), 1);
+    assert!(rt; !lock.try_read(&rt, &mut a));
+    lock.write(&mut c, 9);
+    lock.downgrade(&mut c);
+    assert!(rt; reads(&c));
+    assert!(rt; lock.try_read(&rt, &mut a));
+    assert_eq!(rt; lock.read(&mut a), 9);
+    assert!(rt; !lock.try_write(&mut b));
+    assert_eq!(rt; lock.reader_count(&mut b), 2);
+    lock.unlock_read(&mut a);
+    lock.unlock_read(&mut c);
+    assert!(rt; lock.try_write(&mut b));
+    lock.unlock_write(&mut b);
+    assert!(rt; b.holds().is_none());
+    Ok(())
+}
+
+// Adds 1 so many times, each time that it is let in, and looks at its own number again as a reader.
+fn add_some<R: Wait>(rt: &R, lock: &SeatedRwLock, mut pass: RwPass) -> (RwPass, bool)
+    requires { IsPassOf lock.now pass × (holds pass.known ≡ None) }
+    ensures { IsPassOf lock.now result.0 × (holds result.0.known ≡ None) }
+{
+    let mut added = 0u32;
+    let mut same = true;
+    for _ in 0..TURNS {
+        if added == TIMES {
+            break;
+        }
+        if lock.try_write(&mut pass) {
+            let value = lock.read(&mut pass).wrapping_add(1);
+            lock.write(&mut pass, value);
+            lock.downgrade(&mut pass);
+            same &= lock.read(&mut pass) == value;
+            lock.unlock_read(&mut pass);
+            added += 1;
+        } else {
+            Yield::relax(rt);
+        }
+    }
+    (pass, same && added == TIMES)
+}
+
+// Reads so many times, each time that it is let in, and says whether no number was less than one before.
+fn read_some<R: Wait>(rt: &R, lock: &SeatedRwLock, mut pass: RwPass) -> (RwPass, bool)
+    requires { IsPassOf lock.now pass × (holds pass.known ≡ None) }
+    ensures { IsPassOf lock.now result.0 × (holds result.0.known ≡ None) }
+{
+    let mut times = 0u32;
+    let mut last = 0u64;
+    let mut grows = true;
+    for _ in 0..TURNS {
+        if times == TIMES {
+            break;
+        }
+        if lock.try_read(rt, &mut pass) {
+            let value = lock.read(&mut pass);
+            grows &= last <= value;
+            last = value;
+            lock.unlock_read(&mut pass);
+            times += 1;
+        } else {
+            Yield::relax(rt);
+        }
+    }
+    (pass, grows && times == TIMES)
+}
+
+#[test]
+fn two_threads_read_what_a_third_writes(rt: HostRuntime) -> Result<(), Fail> {
+    let (lock, a, b, c) = open_for_three(rt.alloc(), 0)?;
+    let (shared, rt) = (&lock, &rt);
+    let ((mut a, added), ((mut b, first), (mut c, second))) = join(
+        rt,
+        || -> (RwPass, bool)
+            requires { IsPassOf shared.now a × (holds a.known ≡ None) }
+            ensures { IsPassOf shared.entry.now result.0 }
+        { add_some(rt, shared, a) },
+        || -> ((RwPass, bool), (RwPass, bool))
+            requires { IsPassOf shared.now b × (holds b.known ≡ None) × IsPassOf shared.now c × (holds c.known ≡ None) }
+            ensures { IsPassOf shared.entry.now result.0.0 × IsPassOf shared.entry.now result.1.0 }
+        {
+            join(
+                rt,
+                || -> (RwPass, bool)
+                    requires { IsPassOf shared.now b × (holds b.known ≡ None) }
+                    ensures { IsPassOf shared.entry.now result.0 }
+                { read_some(rt, shared, b) },
+                || -> (RwPass, bool)
+                    requires { IsPassOf shared.now c × (holds c.known ≡ None) }
+                    ensures { IsPassOf shared.entry.now result.0 }
+                { read_some(rt, shared, c) },
+            )
+        },
+    );
+    assert!(rt; added && first && second);
+    lock.meet(&mut a, &mut b);
+    lock.meet(&mut a, &mut c);
+    assert_eq!(rt; lock.reader_count(&mut a), 0);
+    assert_eq!(rt; lock.writer_count(&mut a), 0);
+    Ok(())
+}
+
+// Whether a lock for three fits where so many bytes are left.
+fn opens_in(arena: &Bump, left: usize) -> bool {
+    arena.set_allocation_limit(Some(0));
+    let filled = arena.chunk_capacity().saturating_sub(left);
+    let Ok(filled) = Vec::<u8, &Bump>::with_capacity(arena, filled) else {
+        return false;
+    };
+    let opened = SeatedRwLock::new(arena, 5, 3);
+    drop(filled);
+    match opened {
+        Ok((lock, passes)) => {
+            drop(passes);
+            drop(lock);
+            true
+        }
+        Err(_) => false,
+    }
+}
+
+#[test]
+fn refused_memory_is_an_error(rt: HostRuntime) -> Result<(), Fail> {
+    let mut refused = 0u32;
+    for left in 0..256usize {
+        let arena = Bump::try_with_capacity(rt.alloc(), 512)?;
+        if !opens_in(&arena, left) {
+            refused = refused.saturating_add(1);
+        }
+    }
+    assert!(rt; 16 <= refused && refused < 256);
+    Ok(())
+}
