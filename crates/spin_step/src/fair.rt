@@ -88,7 +88,11 @@ pub fn lock_fair(word: usize) -> Option<usize>
     ensures exact { result ≡ lock_fair word }
     ensures plain { (s : Plain) (party : ℕ) → OneHolds s → is_starver party s.starvers ≡ true → fair_word s ≡ word → Decides s (gets party to_lock_starving_alone) fair_word result }
 {
-    if word == STARVER { Some(STARVER + HOLDER) } else { None }
+    if word == STARVER {
+        Some(STARVER + HOLDER)
+    } else {
+        None
+    }
 }
 
 /// The word after a starver has taken the lock, or `None` where somebody holds it.
@@ -96,7 +100,11 @@ pub fn lock_starved(word: usize) -> Option<usize>
     ensures exact { result ≡ lock_starved word }
     ensures plain { (s : Plain) (party : ℕ) → OneHolds s → is_starver party s.starvers ≡ true → fair_word s ≡ word → Decides s (gets party to_lock_starving) fair_word result }
 {
-    if word % STARVER == 0 { Some(word + HOLDER) } else { None }
+    if word % STARVER == 0 {
+        Some(word + HOLDER)
+    } else {
+        None
+    }
 }
 
 /// The word after its holder has let go.
