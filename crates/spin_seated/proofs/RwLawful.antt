@@ -1,14 +1,16 @@
 -- What follows of a legal history of a read-write lock.
-use Rattle.std.proofs.Common.{◌≡◌, ℕ, Bool, [], ◌∷◌, ◌++◌, refl, ◌∙◌}
-use Rattle.spin_step.specs.Plain.{writing, count_kind, reader_count, is_empty}
+use Rattle.std.proofs.Common.{◌≡◌, ℕ, ◌==◌, ◌&&◌, Bool, [], ◌∷◌, ◌++◌, length, nat_lt, refl, ap, ◌∙◌}
+use Rattle.spin_step.specs.Plain.{reading, writing, count_kind, count_against, may_come, reader_count, is_empty}
+use Rattle.spin_step.specs.Readers.{reader_limit}
+use Rattle.spin_step.proofs.InOrder.{cap-kept}
 use Rattle.spin_seated.specs.declared.lock.Opening.{Opening}
 use Rattle.spin_seated.specs.declared.lock.Answer.{Answer}
 use Rattle.spin_seated.specs.declared.lock.Answer.TheVariants.{Truth, Value}
 use Rattle.spin_seated.specs.declared.rwlock.Call.{Call}
-use Rattle.spin_seated.specs.declared.rwlock.Call.TheVariants.{TryWrite, ReaderCount, WriterCount, Read}
+use Rattle.spin_seated.specs.declared.rwlock.Call.TheVariants.{TryRead, TryWrite, ReaderCount, WriterCount, Read}
 use Rattle.spin_seated.specs.Histories.{entry, after, state, IsLegal}
 use Rattle.spin_seated.specs.Locked.{Locked}
-use Rattle.spin_seated.specs.Rw.{rw, after_call, plain_answer}
+use Rattle.spin_seated.specs.Rw.{rw, change, where_open, after_call, plain_answer}
 use Rattle.spin_seated.specs.RwLawful.{History, holders, last_written}
 use Rattle.spin_seated.proofs.Histories.{legal-split}
 
@@ -19,6 +21,15 @@ answered k before rest p c a legal = (legal-split rw k.passes (rw.start k) befor
 value_is : (s : Locked) (log : History) → (after rw s log).value ≡ last_written s.value log
 value_is s [] = refl
 value_is s (e ∷ es) = value_is (after_call e.pass e.call s) es
+
+cap_is : (s : Locked) (log : History) → (after rw s log).lock.cap ≡ s.lock.cap
+cap_is s [] = refl
+cap_is s (e ∷ es) = cap_is (after_call e.pass e.call s) es ∙ cap-kept s.lock (where_open s.lock (change e.pass e.call))
+
+pub reader_comes : (k : Opening) (before rest : History) (p : ℕ) (granted : Bool) → IsLegal rw k (before ++ entry p TryRead (Truth granted) ∷ rest) → granted ≡ ((count_against reading (holders k before) == 0) && nat_lt (length (holders k before)) reader_limit)
+reader_comes k before rest p granted legal =
+    let same : granted ≡ may_come reading (state rw k before).lock = cc (answered k before rest p TryRead (Truth granted) legal) in
+    same ∙ ap (λ n. (count_against reading (holders k before) == 0) && nat_lt (length (holders k before)) n) (cap_is (rw.start k) before)
 
 pub writer_comes : (k : Opening) (before rest : History) (p : ℕ) (granted : Bool) → IsLegal rw k (before ++ entry p TryWrite (Truth granted) ∷ rest) → granted ≡ is_empty (holders k before)
 writer_comes k before rest p granted legal = cc (answered k before rest p TryWrite (Truth granted) legal)

@@ -69,7 +69,8 @@ impl<A: Allocator> SeatedLock<Call, A> {
         let Some(taken) = rw::write(0) else {
             unreachable!()
         };
-        let granted = self.exchange::<ComesToWrite>(&mut pass.place, WORD, 0, taken as u64) == 0;
+        let found = self.exchange::<ComesToWrite>(&mut pass.place, WORD, 0, taken as u64);
+        let granted = found == 0;
         if granted {
             pass.holding = Some(SeatedHold::Write);
         }

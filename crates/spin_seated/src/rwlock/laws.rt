@@ -1,12 +1,13 @@
 //! Laws of the histories that passes of a `SeatedRwLock` know. Each is the contract of a function that does nothing.
-ghost use Rattle.std.specs.Prelude.{◌≡◌, ℕ, ◌<◌, Bool, List, [], ◌∷◌, ◌++◌, Some, length, slice_get};
-ghost use Rattle.spin_step.specs.Plain.{writing, count_kind, reader_count, is_empty};
+ghost use Rattle.std.specs.Prelude.{◌≡◌, ℕ, ◌<◌, ◌==◌, ◌&&◌, Bool, List, [], ◌∷◌, ◌++◌, Some, length, nat_lt, slice_get};
+ghost use Rattle.spin_step.specs.Plain.{reading, writing, count_kind, count_against, reader_count, is_empty};
+ghost use Rattle.spin_step.specs.Readers.{reader_limit};
 ghost use Rattle.spin_seated.specs.declared.history.Entry.{Entry};
 ghost use Rattle.spin_seated.specs.declared.lock.Opening.{Opening};
 ghost use Rattle.spin_seated.specs.declared.lock.Answer.{Answer};
 ghost use Rattle.spin_seated.specs.declared.lock.Answer.TheVariants.{Truth, Value};
 ghost use Rattle.spin_seated.specs.declared.rwlock.Call.{Call};
-ghost use Rattle.spin_seated.specs.declared.rwlock.Call.TheVariants.{TryWrite, ReaderCount, WriterCount, Read};
+ghost use Rattle.spin_seated.specs.declared.rwlock.Call.TheVariants.{TryRead, TryWrite, ReaderCount, WriterCount, Read};
 ghost use Rattle.spin_seated.specs.Histories.{entry, IsLegal, Met};
 ghost use Rattle.spin_seated.specs.Rw.{rw, Knows};
 ghost use Rattle.spin_seated.specs.RwLawful.{History, holders, last_written};
@@ -14,6 +15,12 @@ ghost use Rattle.spin_seated.specs.RwLawful.{History, holders, last_written};
 /// Nobody writes while another reads or writes.
 pub fn nobody_writes_beside_another()
     ensures { (k : Opening) (log : History) → IsLegal rw k log → 0 < count_kind writing (holders k log) → length (holders k log) ≡ 1 }
+{}
+
+/// A try to read is granted exactly where nobody stands who keeps readers out, as a writer does, and fewer hold than
+/// `MAX_READERS`.
+pub fn a_reader_comes_where_nobody_keeps_it_out()
+    ensures { (k : Opening) (before after : History) (p : ℕ) (granted : Bool) → IsLegal rw k (before ++ entry p TryRead (Truth granted) ∷ after) → granted ≡ ((count_against reading (holders k before) == 0) && nat_lt (length (holders k before)) reader_limit) }
 {}
 
 /// A try to write is granted exactly where nobody holds.
