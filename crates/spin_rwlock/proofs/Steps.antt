@@ -2,7 +2,7 @@
 use Rattle.std.proofs.Common.{◌≡◌, ℕ, ◌+◌, ◌-◌, ◌%◌, ◌^◌, ◌<◌, ◌≤◌, true, List, [], length, ◌==◌, Option, Some, None, refl, sym, ap, ◌∙◌, arith, eq-eqb}
 use Rattle.std.proofs.lemmas.List.Sums.{count_by-le-length}
 use prog.Atomic.{either}
-use Rattle.spin_step.specs.Plain.{Plain, Kind, reading, upgradable, writing, Holder, is_holder, may_turn, with_kind, weight, is_reader, reader_count, Ask, apply, gets, releases, turns, to_read, to_read_upgradable, to_write, to_upgrade, rw_word}
+use Rattle.spin_step.specs.Plain.{Plain, Kind, reading, upgradable, asking, writing, Holder, is_holder, may_turn, with_kind, weight, is_reader, reader_count, Ask, apply, gets, releases, turns, to_read, to_read_upgradable, to_write, to_upgrade, to_upgrade_asked, rw_word}
 use Rattle.spin_step.specs.Parties.{entries_after}
 use Rattle.spin_step.specs.Steps.{Decides}
 use Rattle.spin_step.specs.Readers.{reader_limit, OneOfEach}
@@ -18,13 +18,14 @@ use Rattle.spin_core.proofs.Plays.{Lock, ways, allows, by_step, by_grant, by_non
 use Rattle.spin_step.proofs.Readers.{one_of_each, word_of}
 use Rattle.spin_core.proofs.Views.{part_before, release-own, turn-own}
 use Rattle.spin_rwlock.specs.declared.rwlock.rule.View.{View}
-use Rattle.spin_rwlock.specs.declared.rwlock.rule.View.TheVariants.{Idle, Reading, Upgradable, Writing}
+use Rattle.spin_rwlock.specs.declared.rwlock.rule.View.TheVariants.{Idle, Reading, Upgradable, Asking, Writing}
 use Rattle.spin_rwlock.specs.Rw.{part, IsRw, IsRwWord, looks, use_of_view}
 
 pub kind : (v : View) → OfReaders part v
 kind Idle = (λ p. refl, λ p. refl)
 kind Reading = (λ p. refl, λ p. refl)
 kind Upgradable = (λ p. refl, λ p. refl)
+kind Asking = (λ p. refl, λ p. refl)
 kind Writing = (λ p. refl, λ p. refl)
 
 abbrev pub rw-lock : Lock View (Unit {0})
@@ -81,7 +82,13 @@ pub upgrades : (old new : ℕ) → ((s : Plain) (p : ℕ) → OneOfEach s → is
 upgrades old new plain = gets_at (Some Upgradable) to_upgrade Writing Upgradable old new (λ s p. rw (eq-eqb p p refl) refl) (λ s. tt) (λ p. refl) (λ s. tt)
     (λ s p room order has e. plain s p (one_of_each s order.exclusive) (is_holder-from_entries p upgradable s.holders (ap (λ e. e.holders) has.0)) e)
 
--- What a holder does to go on with less, or to go
+-- What the reader that asked does
+
+pub upgrades_asked : (old new : ℕ) → ((s : Plain) (p : ℕ) → OneOfEach s → is_holder p asking s.holders ≡ true → rw_word s ≡ old → Decides s (gets p to_upgrade_asked) rw_word (Some new)) → Allows IsRw (ways rw-lock) (Some Asking) (λ n. either (n == old) new n) (exchanges (λ _. Writing) Asking old new (Some Asking))
+upgrades_asked old new plain = gets_at (Some Asking) to_upgrade_asked Writing Asking old new (λ s p. rw (eq-eqb p p refl) refl) (λ s. tt) (λ p. refl) (λ s. tt)
+    (λ s p room order has e. plain s p (one_of_each s order.exclusive) (is_holder-from_entries p asking s.holders (ap (λ e. e.holders) has.0)) e)
+
+-- What a holder does to go on with less, to ask, or to go
 
 -- no sum wraps below the cap
 pub bounded : (hs : List Holder) → length hs ≤ reader_limit → word_of hs < 2 ^ 63
@@ -98,14 +105,17 @@ turns_by v w k l by was now knows down less = allows rw-lock (Some v) (λ n. (n 
       refl,
     ))
 
-pub writer_reads : Allows IsRw (ways rw-lock) (Some Writing) (λ n. (n + 3) % 2 ^ 64) (becomes Reading 3 0 (Some Writing))
-writer_reads = turns_by Writing Reading writing reading 3 (λ p. refl) (λ p. refl) (λ s. tt) refl refl
+pub writer_reads : Allows IsRw (ways rw-lock) (Some Writing) (λ n. (n + (weight reading - weight writing)) % 2 ^ 64) (becomes Reading (weight reading - weight writing) 0 (Some Writing))
+writer_reads = turns_by Writing Reading writing reading (weight reading - weight writing) (λ p. refl) (λ p. refl) (λ s. tt) refl refl
 
-pub writer_reads_upgradable : Allows IsRw (ways rw-lock) (Some Writing) (λ n. (n + 1) % 2 ^ 64) (becomes Upgradable 1 0 (Some Writing))
-writer_reads_upgradable = turns_by Writing Upgradable writing upgradable 1 (λ p. refl) (λ p. refl) (λ s. tt) refl refl
+pub writer_reads_upgradable : Allows IsRw (ways rw-lock) (Some Writing) (λ n. (n + (weight upgradable - weight writing)) % 2 ^ 64) (becomes Upgradable (weight upgradable - weight writing) 0 (Some Writing))
+writer_reads_upgradable = turns_by Writing Upgradable writing upgradable (weight upgradable - weight writing) (λ p. refl) (λ p. refl) (λ s. tt) refl refl
 
-pub upgradable_reads : Allows IsRw (ways rw-lock) (Some Upgradable) (λ n. (n + 2) % 2 ^ 64) (becomes Reading 2 0 (Some Upgradable))
-upgradable_reads = turns_by Upgradable Reading upgradable reading 2 (λ p. refl) (λ p. refl) (λ s. tt) refl refl
+pub upgradable_reads : Allows IsRw (ways rw-lock) (Some Upgradable) (λ n. (n + (weight reading - weight upgradable)) % 2 ^ 64) (becomes Reading (weight reading - weight upgradable) 0 (Some Upgradable))
+upgradable_reads = turns_by Upgradable Reading upgradable reading (weight reading - weight upgradable) (λ p. refl) (λ p. refl) (λ s. tt) refl refl
+
+pub upgradable_asks : Allows IsRw (ways rw-lock) (Some Upgradable) (λ n. (n + (weight asking - weight upgradable)) % 2 ^ 64) (becomes Asking (weight asking - weight upgradable) 0 (Some Upgradable))
+upgradable_asks = turns_by Upgradable Asking upgradable asking (weight asking - weight upgradable) (λ p. refl) (λ p. refl) (λ s. tt) refl refl
 
 goes : (v : View) (k : Kind) (by : ℕ) → ((p : ℕ) → entries_of p (part v) ≡ entries_of p (holds k)) → by ≡ weight k → Allows IsRw (ways rw-lock) (Some v) (λ n. (n + (2 ^ 64 - by)) % 2 ^ 64) (becomes Idle by 0 (Some v))
 goes v k by was less = allows rw-lock (Some v) (λ n. (n + (2 ^ 64 - by)) % 2 ^ 64) (becomes Idle by 0 (Some v)) (λ s p room order has.
@@ -117,14 +127,14 @@ goes v k by was less = allows rw-lock (Some v) (λ n. (n + (2 ^ 64 - by)) % 2 ^ 
       refl,
     ))
 
-pub reader_goes : Allows IsRw (ways rw-lock) (Some Reading) (λ n. (n + (2 ^ 64 - 4)) % 2 ^ 64) (becomes Idle 4 0 (Some Reading))
-reader_goes = goes Reading reading 4 (λ p. refl) refl
+pub reader_goes : Allows IsRw (ways rw-lock) (Some Reading) (λ n. (n + (2 ^ 64 - weight reading)) % 2 ^ 64) (becomes Idle (weight reading) 0 (Some Reading))
+reader_goes = goes Reading reading (weight reading) (λ p. refl) refl
 
-pub upgradable_goes : Allows IsRw (ways rw-lock) (Some Upgradable) (λ n. (n + (2 ^ 64 - 2)) % 2 ^ 64) (becomes Idle 2 0 (Some Upgradable))
-upgradable_goes = goes Upgradable upgradable 2 (λ p. refl) refl
+pub upgradable_goes : Allows IsRw (ways rw-lock) (Some Upgradable) (λ n. (n + (2 ^ 64 - weight upgradable)) % 2 ^ 64) (becomes Idle (weight upgradable) 0 (Some Upgradable))
+upgradable_goes = goes Upgradable upgradable (weight upgradable) (λ p. refl) refl
 
-pub writer_goes : Allows IsRw (ways rw-lock) (Some Writing) (λ n. (n + (2 ^ 64 - 1)) % 2 ^ 64) (becomes Idle 1 0 (Some Writing))
-writer_goes = goes Writing writing 1 (λ p. refl) refl
+pub writer_goes : Allows IsRw (ways rw-lock) (Some Writing) (λ n. (n + (2 ^ 64 - weight writing)) % 2 ^ 64) (becomes Idle (weight writing) 0 (Some Writing))
+writer_goes = goes Writing writing (weight writing) (λ p. refl) refl
 
 -- Who may go
 
@@ -136,4 +146,5 @@ pub writing_of : (v : View) → use_of_view v ≡ writes → v ≡ Writing
 writing_of Idle e = absurd cc
 writing_of Reading e = absurd cc
 writing_of Upgradable e = absurd cc
+writing_of Asking e = absurd cc
 writing_of Writing e = refl

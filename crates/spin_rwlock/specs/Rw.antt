@@ -1,18 +1,19 @@
 -- The rule of a read-write lock: its word is that of a plain lock whose holders are its parties.
 use Rattle.std.specs.Prelude.{◌≡◌, ◌≢◌, ℕ, List, Option, Some, None}
-use Rattle.spin_step.specs.Plain.{Plain, reading, upgradable, writing, rw_word}
+use Rattle.spin_step.specs.Plain.{Plain, reading, upgradable, asking, writing, rw_word}
 use Rattle.spin_step.specs.Readers.{reader_limit}
 use Rattle.spin_core.specs.Cell.{Use, lends, Ways}
 use Rattle.spin_core.specs.Views.{Part, idle, holds, Encodes, used_by, no_word}
 use Rattle.spin_step.specs.Orders.{IsInOrder}
 use Rattle.spin_core.specs.declared.cell.Permit.{Permit}
 use Rattle.spin_rwlock.specs.declared.rwlock.rule.View.{View}
-use Rattle.spin_rwlock.specs.declared.rwlock.rule.View.TheVariants.{Idle, Reading, Upgradable, Writing}
+use Rattle.spin_rwlock.specs.declared.rwlock.rule.View.TheVariants.{Idle, Reading, Upgradable, Asking, Writing}
 
 abbrev pub part : View → Part
 part Idle = idle
 part Reading = holds reading
 part Upgradable = holds upgradable
+part Asking = holds asking
 part Writing = holds writing
 
 abbrev pub IsRw : ℕ → Unit {0} → List View → Type 0

@@ -5,7 +5,7 @@ use Rattle.spin_step.specs.Readers.{reader_limit}
 use Rattle.spin_core.specs.Views.{holds, part_at}
 use Rattle.spin_rwlock.specs.Rw.{part}
 use Rattle.spin_rwlock.specs.declared.rwlock.rule.View.{View}
-use Rattle.spin_rwlock.specs.declared.rwlock.rule.View.TheVariants.{Reading, Upgradable, Writing}
+use Rattle.spin_rwlock.specs.declared.rwlock.rule.View.TheVariants.{Reading, Upgradable, Asking, Writing}
 
 abbrev pub is_reading : View → Bool
 is_reading Reading = true
@@ -14,6 +14,10 @@ is_reading _ = false
 abbrev pub is_upgradable : View → Bool
 is_upgradable Upgradable = true
 is_upgradable _ = false
+
+abbrev pub is_asking : View → Bool
+is_asking Asking = true
+is_asking _ = false
 
 abbrev pub is_writing : View → Bool
 is_writing Writing = true
@@ -25,15 +29,18 @@ readers vs = count_by is_reading vs
 abbrev pub upgradables : List View → ℕ
 upgradables vs = count_by is_upgradable vs
 
+abbrev pub askers : List View → ℕ
+askers vs = count_by is_asking vs
+
 abbrev pub writers : List View → ℕ
 writers vs = count_by is_writing vs
 
 abbrev pub holders : List View → ℕ
-holders vs = (readers vs + upgradables vs) + writers vs
+holders vs = ((readers vs + upgradables vs) + askers vs) + writers vs
 
--- readers stand beside at most one upgradable reader, a writer stands alone, and no more hold than may
+-- readers stand beside at most one that may upgrade, whether it asks or not, a writer stands alone, and no more hold than may
 pub record ReadersOrWriter (vs : List View) : Type 0 where
-  pub one_upgradable : upgradables vs ≤ 1
+  pub one_upgradable : upgradables vs + askers vs ≤ 1
   pub writer_alone : 0 < writers vs → holders vs ≡ 1
   pub within_limit : holders vs ≤ reader_limit
 

@@ -26,8 +26,9 @@ const STAND_BACK: u32 = 128;
 
 /// A lock that lends its value to readers beside one another, or to one writer alone, and spins while it waits.
 ///
-/// One reader at a time may be upgradable: it may become the writer without letting go, and no further reader comes
-/// while it stands. Writers are not preferred: while readers come again and again, no writer may get in.
+/// One reader at a time may be upgradable: it may become the writer without letting go. It keeps no reader out until
+/// its `upgrade` asks; from then on no further reader comes. Writers are not preferred: while readers come again and
+/// again, no writer may get in.
 ///
 /// `P` is always `RwRule<T>`, and never named.
 ///
@@ -56,8 +57,8 @@ impl<T, R> RwLock<T, R> {
         self.cell.get_mut()
     }
 
-    /// Comes to read, or refuses beside a writer or an upgradable reader, or at the cap of readers. It tries again only
-    /// where another party changed the word, and promises nothing about when it returns.
+    /// Comes to read, or refuses beside a writer or a reader that asks to upgrade, or at the cap of readers. It tries
+    /// again only where another party changed the word, and promises nothing about when it returns.
     ///
     /// Example: the test `a_writer_goes_on_as_a_reader`.
     pub fn try_read<W: Wait>(&self, rt: &W) -> Option<RwLockReadGuard<'_, T, R>> {
@@ -67,7 +68,7 @@ impl<T, R> RwLock<T, R> {
         }
     }
 
-    /// Comes to read and may upgrade, or refuses as `try_read` does.
+    /// Comes to read and may upgrade, or refuses as `try_read` does, and beside another that may.
     pub fn try_upgradeable_read<W: Wait>(&self, rt: &W) -> Option<RwLockUpgradableGuard<'_, T, R>> {
         match self.lend_from(0) {
             Ok(guard) => Some(guard),

@@ -20,7 +20,10 @@ fn an_upgradable_reader_beside_a_reader(rt: HostRuntime) {
         .try_upgradeable_read(&rt)
         .expect(&rt, "beside a reader");
     counts_are(&rt, &lock, 2, 0);
-    equal(&rt, lock.try_read(&rt).is_none(), true);
+    let other = lock.try_read(&rt).expect(&rt, "nobody asks to upgrade");
+    counts_are(&rt, &lock, 3, 0);
+    drop(other);
+    counts_are(&rt, &lock, 2, 0);
     equal(&rt, lock.try_upgradeable_read(&rt).is_none(), true);
     equal(&rt, lock.try_write().is_none(), true);
     let upgradable = upgradable
@@ -39,6 +42,7 @@ fn an_upgradable_reader_beside_a_reader(rt: HostRuntime) {
 fn a_writer_goes_on_as_a_reader(rt: HostRuntime) {
     let lock: RwLock<u64> = RwLock::new(1);
     let writer = lock.write(&rt);
+    equal(&rt, lock.try_read(&rt).is_none(), true);
     equal(&rt, lock.try_upgradeable_read(&rt).is_none(), true);
     counts_are(&rt, &lock, 0, 1);
     let reader = writer.downgrade();
@@ -77,11 +81,13 @@ fn an_upgradable_reader_goes_on_as_a_reader(rt: HostRuntime) {
     let lock: RwLock<u64> = RwLock::new(1);
     let upgradable = lock.upgradeable_read(&rt);
     counts_are(&rt, &lock, 1, 0);
-    equal(&rt, lock.try_read(&rt).is_none(), true);
-    let reader = upgradable.downgrade();
-    let other = lock.try_read(&rt).expect(&rt, "beside a reader");
+    let first = lock.try_read(&rt).expect(&rt, "nobody asks to upgrade");
     counts_are(&rt, &lock, 2, 0);
-    equal(&rt, (*reader, *other), (1, 1));
+    let reader = upgradable.downgrade();
+    counts_are(&rt, &lock, 2, 0);
+    let second = lock.try_read(&rt).expect(&rt, "beside readers");
+    counts_are(&rt, &lock, 3, 0);
+    equal(&rt, (*first, *reader, *second), (1, 1, 1));
 }
 
 #[test]
@@ -158,7 +164,9 @@ fn a_leaked_upgradable_reader_and_a_leaked_writer_stay(rt: HostRuntime) {
         *RwLockUpgradableGuard::leak(lock.upgradeable_read(&rt)),
         1,
     );
-    equal(&rt, lock.try_read(&rt).is_none(), true);
+    equal(&rt, lock.try_read(&rt).is_some(), true);
+    equal(&rt, lock.try_upgradeable_read(&rt).is_none(), true);
+    equal(&rt, lock.try_write().is_none(), true);
 
     let lock: RwLock<u64> = RwLock::new(1);
     let value = RwLockWriteGuard::leak(lock.write(&rt));

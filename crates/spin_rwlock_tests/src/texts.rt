@@ -32,7 +32,7 @@ fn a_lock_shows_its_value_where_it_may_be_read(rt: HostRuntime) -> Result<(), Fa
     display_is(&rt, &reader, "5")?;
     drop(reader);
     let upgradable = lock.upgradeable_read(&rt);
-    debug_is(&rt, &lock, "RwLock { <locked> }")?;
+    debug_is(&rt, &lock, "RwLock { data: 5 }")?;
     debug_is(&rt, &upgradable, "5")?;
     display_is(&rt, &upgradable, "5")?;
     let writer = upgradable.upgrade(&rt);

@@ -64,6 +64,16 @@ fn an_upgradable_guard_upgrades_in_another_thread(rt: HostRuntime) {
 }
 
 #[test]
+fn an_upgrade_ends_when_the_readers_have_gone(rt: HostRuntime) {
+    let lock: RwLock<u64, Yield> = RwLock::new(1);
+    let readers = (lock.read(&rt), lock.read(&rt));
+    let guard = lock.upgradeable_read(&rt);
+    let (writer, ()) = thread::join(&rt, || guard.upgrade(&rt), || drop(readers));
+    equal(&rt, (lock.reader_count(), lock.writer_count()), (0, 1));
+    equal(&rt, *writer, 1);
+}
+
+#[test]
 fn guards_of_two_threads_read_one_lock(rt: HostRuntime) {
     let lock: RwLock<u64> = RwLock::new(1);
     let (first, second) = thread::join(&rt, || lock.read(&rt), || lock.read(&rt));

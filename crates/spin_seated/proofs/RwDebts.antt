@@ -38,7 +38,7 @@ module _ (p : ℕ) (s : Locked) (st : Standing s) (h : Option SeatedHold) (has :
   may : (c : Call) → may_with c h ≡ true → may_with c (hold_in p s) ≡ true
   may c m = ap (may_with c) has ∙ m
 
-  room : is_open s.lock (gets p to_read) ≡ has_room word reader_limit
+  room : is_open s.lock (gets p to_read) ≡ has_room reading word reader_limit
   room = read-word s.lock word reader_limit (one_of_each s.lock st.exclusive) st.cap refl
 
   refused : (b : Bool) → may_with TryRead h ≡ true → is_open s.lock (gets p to_read) ≡ b → Owed rw p 0 (λ _. word) s (if b then None else Some (TryRead, Truth false))
@@ -46,7 +46,7 @@ module _ (p : ℕ) (s : Locked) (st : Standing s) (h : Option SeatedHold) (has :
   refused false m is = (may TryRead m, sym (ap (words_if (gets p to_read)) is), ap Truth (sym is))
 
   looks_at : may_with TryRead h ≡ true → Owed rw p 0 (λ _. word) s (refused_by word)
-  looks_at m = refused (has_room word reader_limit) m room
+  looks_at m = refused (has_room reading word reader_limit) m room
 
   comes_at : (old new : ℕ) (b : Bool) → may_with TryRead h ≡ true → (word == old) ≡ b → LetsRead old new
       → Owed rw p 0 (λ _. either b new word) s (if b then Some (TryRead, Truth true) else refused_by word)

@@ -20,9 +20,8 @@ opened k = record { lock = fresh reader_limit 1 0; value = k.value }
 
 -- how a holder of this kind holds; nobody here is upgradable
 abbrev pub hold_of : Kind → SeatedHold
-hold_of reading = hold.Read
-hold_of upgradable = hold.Read
 hold_of writing = hold.Write
+hold_of _ = hold.Read
 
 -- of the places that a pass has among the holders, the first
 abbrev pub held : List Holder → Option SeatedHold
@@ -98,7 +97,7 @@ holds x = histories.holds rw x
 
 -- a try to read is refused by a word that has no room, and granted by an exchange that found what it looked for
 abbrev pub refused_by : ℕ → Option (Call × Answer)
-refused_by found = if has_room found reader_limit then None else Some (TryRead, Truth false)
+refused_by found = if has_room reading found reader_limit then None else Some (TryRead, Truth false)
 
 abbrev pub looks : ℕ → ℕ → Option (Call × Answer)
 looks none found = refused_by found

@@ -1,7 +1,7 @@
 -- No open step brings a second holder beside a writer, a second one that may upgrade, or a second entered ticket.
 use Rattle.std.proofs.Common.{◌≡◌, ℕ, ◌+◌, ◌<◌, ◌≤◌, ◌==◌, ◌⊎◌, inl, inr, Bool, true, false, not, ◌&&◌, cond, Option, Some, None, List, [], ◌∷◌, ◌++◌, length, refl, ap, ◌∙◌, arith, length-append, nat_lt}
 use Rattle.std.proofs.lemmas.Bool.{eqb-true, and_parts, ltb-true}
-use Rattle.spin_step.specs.Plain.{Plain, Kind, reading, upgradable, writing, Holder, Ticket, Ask, to_read, to_read_upgradable, to_write, to_upgrade, to_take_ticket, to_enter, to_take_and_enter, to_lock_unregistered, to_lock_starving, to_lock_starving_alone, to_starve, to_begin, Effect, comes, becomes, queues, enters, starves, runs, effect, given, Change, gets, releases, serves, stops_starving, turns, completes, fails, arrives, apply, is_open, is_open_to, is_holder, is_only, is_first, is_starver, is_only_starver, is_empty, is_nothing, may_turn, may_come, may_upgrade, upgraders, count_against, admits, holder, ticket, ticket_limit, count_kind, without_holder, with_kind, with_first_entered, without_first}
+use Rattle.spin_step.specs.Plain.{Plain, Kind, reading, upgradable, asking, writing, Holder, Ticket, Ask, to_read, to_read_upgradable, to_write, to_upgrade, to_upgrade_asked, to_take_ticket, to_enter, to_take_and_enter, to_lock_unregistered, to_lock_starving, to_lock_starving_alone, to_starve, to_begin, Effect, comes, becomes, queues, enters, starves, runs, effect, given, Change, gets, releases, serves, stops_starving, turns, completes, fails, arrives, apply, is_open, is_open_to, is_holder, is_only, is_first, is_starver, is_only_starver, is_empty, is_nothing, may_turn, may_come, may_upgrade, upgraders, count_against, admits, holder, ticket, ticket_limit, count_kind, without_holder, with_kind, with_first_entered, without_first}
 use Rattle.spin_step.specs.Parties.{apply_some, IsOpenStep, IsExclusive, none_entered, first_alone_entered}
 use Rattle.spin_step.proofs.Holders.{length-without_holder}
 use Rattle.spin_step.proofs.Sums.{one_of, sum_kinds, by_kinds, all_kinds, sum-more, sum-less, sum-turned, length-with_kind}
@@ -26,6 +26,7 @@ lets s p to_read may = inr may
 lets s p to_read_upgradable may = inr may
 lets s p to_write may = inl may
 lets s p to_upgrade may = may
+lets s p to_upgrade_asked may = may
 lets s p to_take_ticket may = (ltb-true s.next ticket_limit may, λ e. absurd cc)
 lets s p to_enter may = may
 lets s p to_take_and_enter may = let parts = and_parts (is_empty s.tickets) (nat_lt s.next ticket_limit) may in (ltb-true s.next ticket_limit parts.1, λ e. parts.0)
@@ -77,6 +78,7 @@ come upgradable p hs a none =
       writer = λ some. absurd (omega (arith, by_kinds (against upgradable) hs, sum-more (one_of writing) hs p upgradable, none, some));
       one_upgradable = omega (arith, by_kinds (against upgradable) hs, by_kinds upgrader hs, sum-more upgrader hs p upgradable, none);
     }
+come asking p hs a none = alone (hs ++ holder p asking ∷ []) (omega (arith, by_kinds (against asking) hs, all_kinds hs, none, length-append hs (holder p asking ∷ [])))
 come writing p hs a none = alone (hs ++ holder p writing ∷ []) (omega (arith, by_kinds (against writing) hs, all_kinds hs, none, length-append hs (holder p writing ∷ [])))
 
 released : (hs : List Holder) (p : ℕ) (k : Kind) → Apart hs → is_holder p k hs ≡ true → Apart (without_holder p k hs)
@@ -98,6 +100,11 @@ turned hs p upgradable reading a found may =
     record {
       writer = λ some. length-with_kind p upgradable reading hs ∙ a.writer (omega (arith, sum-turned (one_of writing) p upgradable reading hs found, some));
       one_upgradable = omega (arith, sum-turned upgrader p upgradable reading hs found, a.one_upgradable);
+    }
+turned hs p upgradable asking a found may =
+    record {
+      writer = λ some. length-with_kind p upgradable asking hs ∙ a.writer (omega (arith, sum-turned (one_of writing) p upgradable asking hs found, some));
+      one_upgradable = omega (arith, sum-turned upgrader p upgradable asking hs found, a.one_upgradable);
     }
 turned hs p _ _ a found may = absurd cc
 

@@ -1,7 +1,7 @@
 -- Lists of holders, as a party comes, changes or goes.
 use Rattle.std.proofs.lemmas.List.Sums.{length-filter, count_by-le-length}
 use Rattle.std.proofs.Common.{ap, ◌∙◌, cond, filter, ◌≤◌, ◌≡◌, ℕ, ◌+◌, Bool, true, false, ◌||◌, ◌&&◌, if◌then◌else◌, List, [], ◌∷◌, length, ◌==◌, arith, refl}
-use Rattle.spin_step.specs.Plain.{Kind, reading, upgradable, writing, Holder, holder, same_kind, is_holder, is_empty, without_holder}
+use Rattle.spin_step.specs.Plain.{Kind, reading, upgradable, asking, writing, Holder, holder, same_kind, is_holder, is_empty, without_holder}
 
 length-without_first : (b : Bool) (p : ℕ) (k : Kind) (h : Holder) (hs : List Holder) → (b || is_holder p k hs) ≡ true
     → (is_holder p k hs ≡ true → length hs ≡ length (without_holder p k hs) + 1)
@@ -17,6 +17,7 @@ length-without_holder p k (h ∷ hs) found =
 pub same_kind-self : (k : Kind) → same_kind k k ≡ true
 same_kind-self reading = refl
 same_kind-self upgradable = refl
+same_kind-self asking = refl
 same_kind-self writing = refl
 
 here_or_later : (b : Bool) (p : ℕ) (k : Kind) (h : Holder) (hs : List Holder) → (h.party == p) ≡ b
@@ -44,3 +45,12 @@ is_empty-none (x ∷ xs) e = absurd (omega (arith, e))
 pub is_empty-some : {X : Type 0} (xs : List X) → 1 ≤ length xs → is_empty xs ≡ false
 is_empty-some [] e = absurd (omega arith)
 is_empty-some (x ∷ xs) e = refl
+
+-- whether a party holds so is seen from what is its own
+pub is_holder-own : (p : ℕ) (k : Kind) (hs : List Holder) → is_holder p k hs ≡ is_holder p k (filter (λ h. h.party == p) hs)
+is_holder-own p k [] = refl
+is_holder-own p k (h ∷ hs) = at (h.party == p) refl (is_holder-own p k hs)
+  where
+    at : (b : Bool) → (h.party == p) ≡ b → is_holder p k hs ≡ is_holder p k (filter (λ h. h.party == p) hs) → is_holder p k (h ∷ hs) ≡ is_holder p k (cond b (h ∷ filter (λ h. h.party == p) hs) (filter (λ h. h.party == p) hs))
+    at true is rest = ap (λ c. ((h.party == p) && same_kind k h.kind) || c) rest
+    at false is rest = ap (λ b. (b && same_kind k h.kind) || is_holder p k hs) is ∙ rest

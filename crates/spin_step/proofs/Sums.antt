@@ -4,7 +4,7 @@ use Rattle.std.specs.Prelude.{sum_by}
 use Rattle.std.proofs.lemmas.Bool.{and_parts, false≢true}
 use Rattle.std.proofs.lemmas.List.Sums.{sum_by-cons, sum_by_push}
 use Rattle.std.proofs.Math.Nat.{mul-suc}
-use Rattle.spin_step.specs.Plain.{Kind, reading, upgradable, writing, Holder, holder, same_kind, count_kind, is_holder, without_holder, with_kind}
+use Rattle.spin_step.specs.Plain.{Kind, reading, upgradable, asking, writing, Holder, holder, same_kind, count_kind, is_holder, without_holder, with_kind}
 
 abbrev pub sum_kinds : (Kind → ℕ) → List Holder → ℕ
 sum_kinds f hs = sum_by (λ h. f h.kind) hs
@@ -13,21 +13,23 @@ sum_kinds f hs = sum_by (λ h. f h.kind) hs
 abbrev pub one_of : Kind → Kind → ℕ
 one_of j k = cond (same_kind j k) 1 0
 
-one_more : (f : Kind → ℕ) (k : Kind) (r u w : ℕ) → f k + ((f reading * r + f upgradable * u) + f writing * w) ≡ (f reading * (one_of reading k + r) + f upgradable * (one_of upgradable k + u)) + f writing * (one_of writing k + w)
-one_more f reading r u w = omega (arith, mul-suc (f reading) r)
-one_more f upgradable r u w = omega (arith, mul-suc (f upgradable) u)
-one_more f writing r u w = omega (arith, mul-suc (f writing) w)
+one_more : (f : Kind → ℕ) (k : Kind) (r u a w : ℕ) → f k + (((f reading * r + f upgradable * u) + f asking * a) + f writing * w) ≡ ((f reading * (one_of reading k + r) + f upgradable * (one_of upgradable k + u)) + f asking * (one_of asking k + a)) + f writing * (one_of writing k + w)
+one_more f reading r u a w = omega (arith, mul-suc (f reading) r)
+one_more f upgradable r u a w = omega (arith, mul-suc (f upgradable) u)
+one_more f asking r u a w = omega (arith, mul-suc (f asking) a)
+one_more f writing r u a w = omega (arith, mul-suc (f writing) w)
 
 -- each holder is of one of the kinds
-pub by_kinds : (f : Kind → ℕ) (hs : List Holder) → sum_kinds f hs ≡ (f reading * count_kind reading hs + f upgradable * count_kind upgradable hs) + f writing * count_kind writing hs
+pub by_kinds : (f : Kind → ℕ) (hs : List Holder) → sum_kinds f hs ≡ ((f reading * count_kind reading hs + f upgradable * count_kind upgradable hs) + f asking * count_kind asking hs) + f writing * count_kind writing hs
 by_kinds f [] = omega arith
 by_kinds f (h ∷ hs) =
     let r : count_kind reading (h ∷ hs) ≡ one_of reading h.kind + count_kind reading hs = sum_by-cons (λ (h : Holder). one_of reading h.kind) h hs in
     let u : count_kind upgradable (h ∷ hs) ≡ one_of upgradable h.kind + count_kind upgradable hs = sum_by-cons (λ (h : Holder). one_of upgradable h.kind) h hs in
+    let a : count_kind asking (h ∷ hs) ≡ one_of asking h.kind + count_kind asking hs = sum_by-cons (λ (h : Holder). one_of asking h.kind) h hs in
     let w : count_kind writing (h ∷ hs) ≡ one_of writing h.kind + count_kind writing hs = sum_by-cons (λ (h : Holder). one_of writing h.kind) h hs in
-    rw (sum_by-cons (λ (h : Holder). f h.kind) h hs, r, u, w, by_kinds f hs) (one_more f h.kind (count_kind reading hs) (count_kind upgradable hs) (count_kind writing hs))
+    rw (sum_by-cons (λ (h : Holder). f h.kind) h hs, r, u, a, w, by_kinds f hs) (one_more f h.kind (count_kind reading hs) (count_kind upgradable hs) (count_kind asking hs) (count_kind writing hs))
 
-pub all_kinds : (hs : List Holder) → length hs ≡ (count_kind reading hs + count_kind upgradable hs) + count_kind writing hs
+pub all_kinds : (hs : List Holder) → length hs ≡ ((count_kind reading hs + count_kind upgradable hs) + count_kind asking hs) + count_kind writing hs
 all_kinds hs = omega (arith, by_kinds (λ k. 1) hs, ones hs)
   where
     ones : (hs : List Holder) → length hs ≡ sum_kinds (λ k. 1) hs
@@ -37,6 +39,7 @@ all_kinds hs = omega (arith, by_kinds (λ k. 1) hs, ones hs)
 same_kind_is : (j k : Kind) → same_kind j k ≡ true → j ≡ k
 same_kind_is reading reading e = refl
 same_kind_is upgradable upgradable e = refl
+same_kind_is asking asking e = refl
 same_kind_is writing writing e = refl
 same_kind_is _ _ e = absurd cc
 

@@ -5,7 +5,8 @@ use Rattle.std.specs.Prelude.{ℕ, ◌+◌, ◌-◌, ◌*◌, ◌/◌, ◌%◌, 
 -- how a holder holds the lock
 pub data Kind : Type 0 where
   reading : Kind
-  upgradable : Kind
+  upgradable : Kind  -- it reads, and may upgrade
+  asking : Kind  -- it reads still, and has asked to upgrade
   writing : Kind
 
 pub record Holder : Type 0 where
@@ -48,6 +49,7 @@ pub data Ask : Type 0 where
   to_read_upgradable : Ask
   to_write : Ask
   to_upgrade : Ask
+  to_upgrade_asked : Ask  -- by a party that has asked before
   to_take_ticket : Ask
   to_enter : Ask
   to_take_and_enter : Ask  -- the ticket lock's try
@@ -60,6 +62,7 @@ pub data Ask : Type 0 where
 abbrev pub same_kind : Kind → Kind → Bool
 same_kind reading reading = true
 same_kind upgradable upgradable = true
+same_kind asking asking = true
 same_kind writing writing = true
 same_kind _ _ = false
 
@@ -115,6 +118,7 @@ reader_count hs = count_by (λ h. is_reader h.kind) hs
 -- who may become the writer
 abbrev pub may_upgrade : Kind → Bool
 may_upgrade upgradable = true
+may_upgrade asking = true
 may_upgrade _ = false
 
 abbrev pub upgraders : List Holder → ℕ
@@ -124,6 +128,7 @@ upgraders hs = count_by (λ h. may_upgrade h.kind) hs
 abbrev pub admits : Kind → Kind → Bool
 admits reading reading = true
 admits reading upgradable = true
+admits upgradable reading = true
 admits _ _ = false
 
 -- how many keep a newcomer of this kind out
@@ -140,6 +145,7 @@ is_open_to s p to_read = may_come reading s
 is_open_to s p to_read_upgradable = may_come upgradable s
 is_open_to s p to_write = is_empty s.holders
 is_open_to s p to_upgrade = is_only p upgradable s.holders
+is_open_to s p to_upgrade_asked = is_only p asking s.holders
 is_open_to s p to_take_ticket = nat_lt s.next ticket_limit
 is_open_to s p to_enter = is_first p false s.tickets
 is_open_to s p to_take_and_enter = is_empty s.tickets && nat_lt s.next ticket_limit
@@ -165,6 +171,7 @@ abbrev pub may_turn : Kind → Kind → Bool
 may_turn writing reading = true
 may_turn writing upgradable = true
 may_turn upgradable reading = true
+may_turn upgradable asking = true
 may_turn _ _ = false
 
 abbrev pub is_open : Plain → Change → Bool
@@ -220,6 +227,7 @@ effect to_read = comes reading
 effect to_read_upgradable = comes upgradable
 effect to_write = comes writing
 effect to_upgrade = becomes upgradable writing
+effect to_upgrade_asked = becomes asking writing
 effect to_take_ticket = queues false
 effect to_enter = enters
 effect to_take_and_enter = queues true
@@ -253,8 +261,9 @@ flag_word s = length s.holders
 
 -- how much of a read-write lock's word a holder of each kind is
 abbrev pub weight : Kind → ℕ
-weight reading = 4
+weight reading = 8
 weight upgradable = 2
+weight asking = 6
 weight writing = 1
 
 abbrev pub rw_word : Plain → ℕ

@@ -1,10 +1,10 @@
 -- The read-write lock as its step functions see it.
-use Rattle.std.specs.Prelude.{ℕ, ◌≤◌, ◌+◌, ◌-◌, ◌/◌, ◌%◌, ◌==◌, ◌&&◌, Bool, true, false, not, Option, Some, None, if◌then◌else◌, nat_lt, min}
-use Rattle.spin_step.specs.Plain.{Plain, Kind, reading, upgradable, writing, Change, releases, weight, count_kind, upgraders}
+use Rattle.std.specs.Prelude.{ℕ, ◌≤◌, ◌+◌, ◌-◌, ◌/◌, ◌%◌, ◌==◌, ◌&&◌, ◌||◌, Bool, true, false, not, Option, Some, None, if◌then◌else◌, nat_lt, min}
+use Rattle.spin_step.specs.Plain.{Plain, Kind, reading, upgradable, asking, writing, Change, releases, weight, count_kind, upgraders}
 
--- the limit of holders, usize::MAX / 4 / 2
+-- the limit of holders, usize::MAX / 8 / 2
 abbrev pub reader_limit : ℕ
-reader_limit = 2305843009213693951
+reader_limit = 1152921504606846975
 
 -- at most one holder may upgrade, and at most one writes
 abbrev pub OneOfEach : Plain → Type 0
@@ -12,9 +12,9 @@ OneOfEach s = (upgraders s.holders ≤ 1) × (count_kind writing s.holders ≤ 1
 
 -- What a word tells
 
--- how many read, the upgradable reader included
+-- how many read, who may upgrade included
 abbrev pub readers_in : ℕ → ℕ
-readers_in word = word / weight reading + (word % weight reading) / weight upgradable
+readers_in word = word / weight reading + (word % (weight asking - weight upgradable)) / weight upgradable
 
 abbrev pub writers_in : ℕ → ℕ
 writers_in word = word % weight upgradable
@@ -23,25 +23,34 @@ writers_in word = word % weight upgradable
 abbrev pub tells : Kind → ℕ → Bool
 tells reading word = not (nat_lt word (weight reading))
 tells upgradable word = (word % weight reading) == weight upgradable
+tells asking word = (word % weight reading) == weight asking
 tells writing word = word == weight writing
 
--- the word has no low bit, and counts fewer readers than the cap
-abbrev pub has_room : ℕ → ℕ → Bool
-has_room word cap = (word % weight reading == 0) && nat_lt (word / weight reading) (min cap reader_limit)
+-- nobody stands who keeps out one that comes to read, or to read and upgrade
+abbrev pub lets_in : Kind → ℕ → Bool
+lets_in reading word = (word % weight reading == 0) || (word % weight reading == weight upgradable)
+lets_in _ word = word % weight reading == 0
+
+-- so it may come, and the word counts fewer readers than the cap
+abbrev pub has_room : Kind → ℕ → ℕ → Bool
+has_room k word cap = lets_in k word && nat_lt (readers_in word) (min cap reader_limit)
 
 -- The results of the step functions
 
 abbrev pub read : ℕ → ℕ → Option ℕ
-read cap word = if has_room word cap then Some (word + weight reading) else None
+read cap word = if has_room reading word cap then Some (word + weight reading) else None
 
 abbrev pub read_upgradable : ℕ → ℕ → Option ℕ
-read_upgradable cap word = if has_room word cap then Some (word + weight upgradable) else None
+read_upgradable cap word = if has_room upgradable word cap then Some (word + weight upgradable) else None
 
 abbrev pub write : ℕ → Option ℕ
 write word = if word == 0 then Some (weight writing) else None
 
 abbrev pub upgrade : ℕ → Option ℕ
 upgrade word = if word == weight upgradable then Some (weight writing) else None
+
+abbrev pub upgrade_asked : ℕ → Option ℕ
+upgrade_asked word = if word == weight asking then Some (weight writing) else None
 
 -- a holder of this kind has gone
 abbrev pub released : Kind → ℕ → ℕ

@@ -1,14 +1,19 @@
-//! Readers, one upgradable reader and one writer in one word: the sum of what each holder weighs.
+//! Readers, one of whom may upgrade, and one writer in one word: the sum of what each holder weighs.
+//!
+//! Who may upgrade keeps nobody out until it asks; from then on the readers only go.
 ghost use Rattle.std.specs.Prelude.{◌≡◌, ◌<◌, ◌≤◌, ◌/◌, ◌%◌, ℕ, true, min};
-ghost use Rattle.spin_step.specs.Plain.{Plain, reading, upgradable, writing, weight, gets, releases, turns, to_read, to_read_upgradable, to_write, to_upgrade, is_holder, count_kind, reader_count, rw_word};
+ghost use Rattle.spin_step.specs.Plain.{Plain, reading, upgradable, asking, writing, weight, gets, releases, turns, to_read, to_read_upgradable, to_write, to_upgrade, to_upgrade_asked, is_holder, count_kind, reader_count, rw_word};
 ghost use Rattle.spin_step.specs.Steps.{Decides, Gives};
-ghost use Rattle.spin_step.specs.Readers.{reader_limit, OneOfEach, readers_in, writers_in, tells, has_room, read, read_upgradable, write, upgrade, released, turned};
+ghost use Rattle.spin_step.specs.Readers.{reader_limit, OneOfEach, readers_in, writers_in, tells, has_room, read, read_upgradable, write, upgrade, upgrade_asked, released, turned};
 
 /// What each reader is in the word.
-pub const READER: usize = 4;
+pub const READER: usize = 8;
 
 /// What the upgradable reader is in the word.
 pub const UPGRADABLE: usize = 2;
+
+/// What the upgradable reader adds once it asks to upgrade.
+pub const ASKING: usize = 4;
 
 /// What the writer is in the word.
 pub const WRITER: usize = 1;
@@ -16,32 +21,40 @@ pub const WRITER: usize = 1;
 /// The most holders that may stand at a time, the upgradable reader included.
 pub const MAX_READERS: usize = usize::MAX / READER / 2;
 
-// Whether a reader may come, upgradable or not.
-fn has_room(word: usize, cap: usize) -> bool
-    ensures { result ≡ has_room word cap }
+// Whether a reader may come.
+fn may_read(word: usize, cap: usize) -> bool
+    ensures { result ≡ has_room reading word cap }
 {
-    word % READER == 0 && word / READER < cap.min(MAX_READERS)
+    let low = word % READER;
+    (low == 0 || low == UPGRADABLE) && readers(word) < cap.min(MAX_READERS)
 }
 
-/// The word after a party has come to read, or `None` beside an upgradable reader or a writer, or at the cap.
+// Whether a reader may come that may upgrade.
+fn may_read_upgradable(word: usize, cap: usize) -> bool
+    ensures { result ≡ has_room upgradable word cap }
+{
+    word % READER == 0 && readers(word) < cap.min(MAX_READERS)
+}
+
+/// The word after a party has come to read, or `None` beside a writer or a reader that asks to upgrade, or at the cap.
 pub fn read(word: usize, cap: usize) -> Option<usize>
     ensures exact { result ≡ read cap word }
     ensures plain { (s : Plain) (party : ℕ) → OneOfEach s → s.cap ≡ min cap reader_limit → rw_word s ≡ word → Decides s (gets party to_read) rw_word result }
 {
-    if has_room(word, cap) {
+    if may_read(word, cap) {
         Some(word + READER)
     } else {
         None
     }
 }
 
-/// The word after a party has come to read and may upgrade, or `None` beside an upgradable reader or a writer, or at the
+/// The word after a party has come to read and may upgrade, or `None` beside a writer or another that may, or at the
 /// cap.
 pub fn upgradable(word: usize, cap: usize) -> Option<usize>
     ensures exact { result ≡ read_upgradable cap word }
     ensures plain { (s : Plain) (party : ℕ) → OneOfEach s → s.cap ≡ min cap reader_limit → rw_word s ≡ word → Decides s (gets party to_read_upgradable) rw_word result }
 {
-    if has_room(word, cap) {
+    if may_read_upgradable(word, cap) {
         Some(word + UPGRADABLE)
     } else {
         None
@@ -62,6 +75,27 @@ pub fn upgrade(word: usize) -> Option<usize>
     ensures plain { (s : Plain) (party : ℕ) → OneOfEach s → is_holder party upgradable s.holders ≡ true → rw_word s ≡ word → Decides s (gets party to_upgrade) rw_word result }
 {
     if word == UPGRADABLE {
+        Some(WRITER)
+    } else {
+        None
+    }
+}
+
+/// The word after the upgradable reader has asked to upgrade.
+pub fn ask(word: usize) -> usize
+    requires { tells upgradable word ≡ true }
+    ensures exact { result ≡ turned upgradable asking word }
+    ensures plain { (s : Plain) (party : ℕ) → rw_word s ≡ word → Gives s (turns party upgradable asking) rw_word result }
+{
+    word + ASKING
+}
+
+/// The word after the reader that asked has become the writer, or `None` beside another holder.
+pub fn upgrade_asked(word: usize) -> Option<usize>
+    ensures exact { result ≡ upgrade_asked word }
+    ensures plain { (s : Plain) (party : ℕ) → OneOfEach s → is_holder party asking s.holders ≡ true → rw_word s ≡ word → Decides s (gets party to_upgrade_asked) rw_word result }
+{
+    if word == UPGRADABLE + ASKING {
         Some(WRITER)
     } else {
         None
@@ -123,12 +157,12 @@ pub fn upgradable_to_read(word: usize) -> usize
     word + (READER - UPGRADABLE)
 }
 
-/// How many read, the upgradable reader included.
+/// How many read, who may upgrade included, whether it has asked or not.
 pub fn readers(word: usize) -> usize
     ensures exact { result ≡ readers_in word }
     ensures plain { (s : Plain) → OneOfEach s → rw_word s ≡ word → result ≡ reader_count s.holders }
 {
-    word / READER + word % READER / UPGRADABLE
+    word / READER + word % ASKING / UPGRADABLE
 }
 
 /// How many write: one at most.

@@ -4,6 +4,7 @@ ghost use Rattle.spin_text.specs.Lines.{words_of};
 ghost use Rattle.spin_text.specs.Reading.{words_left, last_parties, number_within, read_flag_header, read_ticket_header, read_rw_header, read_fair_header, read_barrier_header, read_once_header, read_header};
 
 use crate::words::{Rest, is_word, number_then, only_number, word};
+use spin_step::rw;
 
 /// The object with what it begins from, and how many parties share it.
 #[derive(Clone, Copy, Debug, PartialEq, Eq)]
@@ -39,9 +40,6 @@ pub enum Header {
 
 /// The most parties that a text may name.
 const MOST_PARTIES: u64 = 1000;
-
-/// The largest cap on readers: 2^61 - 1.
-const MOST_READERS: u64 = 2_305_843_009_213_693_951;
 
 /// The largest cap on starvers: 2^62 - 1.
 const MOST_STARVERS: u64 = 4_611_686_018_427_387_903;
@@ -103,7 +101,7 @@ fn rw(line: Rest) -> Option<Header>
     ensures { result ≡ read_rw_header (words_left line.entry) }
 {
     let (value, line) = number_then(line)?;
-    let (cap, line) = within(line, 1, MOST_READERS)?;
+    let (cap, line) = within(line, 1, rw::MAX_READERS as u64)?;
     let parties = parties(line)?;
     Some(Header::Rw {
         value,

@@ -157,7 +157,7 @@ fn play(alloc: Global, bytes: Vec<u8>) -> Result<Vec<u8>, RunError>
 ///
 /// - `flag VALUE PARTIES`
 /// - `ticket VALUE FIRST PARTIES`
-/// - `rw VALUE CAP PARTIES`, with a cap from 1 to 2^61 - 1
+/// - `rw VALUE CAP PARTIES`, with a cap from 1 to 2^60 - 1
 /// - `fair VALUE CAP SPINS PARTIES`, with a cap from 1 to 2^62 - 1 and up to 1024 spins
 /// - `once PARTIES`, which has no value at first
 /// - `barrier N PARTIES`

@@ -17,7 +17,8 @@ pub trait Answers {
 /// Answers by key, each made once and kept.
 ///
 /// An answer that is there is found by a reader, beside others. Where there is none, the one reader that may upgrade
-/// makes it while others still read, becomes the writer to add it, and goes on as a reader.
+/// makes it; other readers come and go meanwhile, for the answers that are there. It becomes the writer to add it, and
+/// goes on as a reader.
 #[derive(Drop)]
 pub struct Cache<C: Answers, A: Allocator = Global, R = Spin> {
     table: RwLock<Table<C, A>, R>,

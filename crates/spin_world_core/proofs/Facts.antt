@@ -13,7 +13,7 @@ use Rattle.spin_world_core.specs.declared.schedule.Move.TheVariants.{Step, Weak}
 use Rattle.spin_world_core.specs.declared.schedule.Outcome.TheVariants as outcome
 use Rattle.spin_world_core.specs.Manners.{Manner, is_again, by_step}
 use Rattle.spin_world_core.specs.Manners as manner
-use Rattle.spin_world_core.specs.Calls.{encoded, BelongsTo, Said, own_steps, Mark, AnyOf, limit, may_be_weak}
+use Rattle.spin_world_core.specs.Calls.{encoded, BelongsTo, Said, own_steps, Mark, AnyOf, limit, may_be_weak, before_weakly}
 use Rattle.spin_world_core.specs.Undisturbed.{is_open_now, steps_alone}
 use Rattle.spin_world_core.specs.Machines.{Machine, opening_plain}
 use Rattle.spin_world_core.specs.Operations.{Stepwise}
@@ -119,7 +119,7 @@ pub record Facts {W V C L A : Type 0} (m : Machine W V C L A) (k : LocalInvarian
       → m.refuse c l h ≡ Some next → NextIs m k Weak p c h s (mark_of p None manner.weak s ∷ span) next
   -- and is made by a call that may be weak, before it has made a plain step
   pub weakly : (p : ℕ) (c : C) (l : L) (h : Option Hold) (s : Plain) (v : Option V) (w : W) (span : List Mark) (next : Next L A) → InCall m k p c l h s v w span
-      → m.refuse c l h ≡ Some next → (may_be_weak (m.asks c h) ≡ true) × (own p span ≡ [])
+      → m.refuse c l h ≡ Some next → (may_be_weak (m.asks c h) ≡ true) × (own p span ≡ before_weakly (m.asks c h) p)
   -- values that closures make
   pub phase : (s : Plain) (v : Option V) → k.Shape s v → HasPhase m.coding s.phase v
   pub values : (p : ℕ) (c : C) (l : L) (h : Option Hold) (s : Plain) (v : Option V) (w : W) (span : List Mark) → InCall m k p c l h s v w span

@@ -1,13 +1,13 @@
 -- The steps of a table as operations: what its shapes show of themselves.
 use Rattle.std.proofs.Common.{◌≡◌, ℕ, zero, suc, Bool, true, false, not, ◌&&◌, ◌||◌, ◌==◌, ◌%◌, ◌+◌, Option, Some, None, List, is_some, get_or, slice_set, unwrap_or, if◌then◌else◌, refl, ap, sym, ◌∙◌, subst}
 use Rattle.std.proofs.lemmas.Bool.{eqb-true, and_parts, false≢true, true≢false}
-use Rattle.spin_step.specs.Plain.{Plain, Change, is_open}
+use Rattle.spin_step.specs.Plain.{Plain, to_upgrade_asked, Change, is_open}
 use Rattle.spin_world_core.specs.declared.place.Hold.{Hold}
 use Rattle.spin_world_core.specs.declared.answer.Answer.{Answer}
 use Rattle.spin_world_core.specs.declared.object.Next.{Next}
 use Rattle.spin_world_core.specs.declared.object.Next.TheVariants.{GoesOn, Answers}
 use Rattle.spin_world_core.specs.Manners.{Manner, is_again, is_look}
-use Rattle.spin_world_core.specs.Calls.{Coding, barrier, is_step_of, Asked, waits_or_starves, looks, may_be_weak, is_got_weakly}
+use Rattle.spin_world_core.specs.Calls.{Coding, barrier, is_step_of, Asked, waits, waits_or_starves, looks, may_be_weak, is_got_weakly}
 use Rattle.spin_world_core.specs.Begins.{fits}
 use Rattle.spin_world_core.specs.Operations.{Operation, loads, exchanges, adds, subtracts, sets_lowest_bit, stores, performed, Performs, IsOneOperation, RefusesAsLost, Stepwise}
 use Rattle.spin_world_core.specs.Acts.{Memory, one_number, number_at, Act, load, load_if, load_for, enter, exchange, weak_exchange, attempt, retry, store, section, swap, tried, guessed, becomes, passing, retried, place_of, step_at, made_if, change_at, refusal_by, makes_by, operation_by, is_section, step_by, manner_by, Table, begin_of, machine_of, completes_by, brought, filled, machine_with}
@@ -181,6 +181,7 @@ counted_filled change s value _ _ r counts = tt
 -- a call that is never weak gets nothing so
 never_got : (what : Asked) (d : Change) → may_be_weak what ≡ false → is_got_weakly what d ≡ false
 never_got (waits_or_starves n) d strong = absurd (false≢true (sym strong))
+never_got (waits to_upgrade_asked) d strong = absurd (false≢true (sym strong))
 never_got _ d strong = strong
 
 strong_step : (coding : Coding) (what : Asked) (weakly : Bool) (o : Option Change) → may_be_weak what ≡ false → fits_step coding looks weakly o ≡ fits_step coding what weakly o

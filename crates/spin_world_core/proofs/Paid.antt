@@ -12,7 +12,7 @@ use Rattle.spin_world_core.specs.declared.schedule.Outcome.TheVariants as outcom
 use Rattle.spin_world_core.specs.declared.schedule.Move.{Move}
 use Rattle.spin_world_core.specs.declared.schedule.Move.TheVariants.{Step, Weak}
 use Rattle.spin_world_core.specs.Manners.{Manner, plain, again, look, weak, is_again, by_step}
-use Rattle.spin_world_core.specs.Calls.{Coding, Asked, waits, waits_or_starves, initializes, fails_to_initialize, waits_for_value, polls, meets, encoded, is_step_of, BelongsTo, Said, own_steps, AnyOf, Mark, first_word, Limit, registers_after, limit, may_be_weak, once}
+use Rattle.spin_world_core.specs.Calls.{Coding, Asked, waits, waits_or_starves, initializes, fails_to_initialize, waits_for_value, polls, meets, encoded, is_step_of, BelongsTo, Said, own_steps, AnyOf, Mark, first_word, Limit, registers_after, limit, may_be_weak, before_weakly, once}
 use Rattle.spin_world_core.specs.Undisturbed.{arrived, is_open_next, is_open_now, steps_alone}
 use Rattle.spin_world_core.specs.Runs.{mark_of, if_completed, entries_held, own, failures, changes, IsBeginning, RightAnswer, GoesOnWithin}
 use Rattle.spin_world_core.specs.Acts.{number_at, Act, load, load_if, load_for, enter, exchange, weak_exchange, attempt, retry, store, section, swap, tried, guessed, either, stays, passing, becomes, retried, step_by, made_if, change_by, can_by, refusal_by, makes_by, is_waiting, look_manner, manner_by, Table, begin_of, machine_of}
@@ -220,7 +220,7 @@ module _ {W V C L A : Type 0} (t : Table W V C L A) (n : Notes t) (sound_all : (
 
     -- a weak exchange is its call's first plain step
     pub refusal_is : (i : ℕ) (act : Act W L A) (next : Next L A) → Owes t n p (call_of t n c) h s w span row i act → refusal_by act ≡ Some next
-        → NextIs (machine_of t) (keeping_of t n) Weak p c h s (mark_of p None weak s ∷ span) next × (may_be_weak (t.asks c h) ≡ true) × (own p span ≡ [])
+        → NextIs (machine_of t) (keeping_of t n) Weak p c h s (mark_of p None weak s ∷ span) next × (may_be_weak (t.asks c h) ≡ true) × (own p span ≡ before_weakly (t.asks c h) p)
     refusal_is i (weak_exchange k f step won lost) next owes is =
         let same : lost ≡ next = cc (is) in (
           subst (λ x. NextIs (machine_of t) (keeping_of t n) Weak p c h s (mark_of p None weak s ∷ span) x) same (followed true None weak goes lost tt tt (λ e none. unretried refl e) owes.3),
@@ -303,7 +303,7 @@ module _ {W V C L A : Type 0} (t : Table W V C L A) (n : Notes t) (pays : Pays t
     pub can_here : can_by t.memory (t.word l) (t.act c l h) w ≡ true
     can_here = by_row _ (λ row at sound owes. can_is t n pays.sound p c l h s w span row at sound (t.word l) (t.act c l h) owes)
 
-    pub refusal_here : (next : Next L A) → refusal_by (t.act c l h) ≡ Some next → NextIs (machine_of t) (keeping_of t n) Weak p c h s (mark_of p None weak s ∷ span) next × (may_be_weak (t.asks c h) ≡ true) × (own p span ≡ [])
+    pub refusal_here : (next : Next L A) → refusal_by (t.act c l h) ≡ Some next → NextIs (machine_of t) (keeping_of t n) Weak p c h s (mark_of p None weak s ∷ span) next × (may_be_weak (t.asks c h) ≡ true) × (own p span ≡ before_weakly (t.asks c h) p)
     refusal_here next is = by_row _ (λ row at sound owes. refusal_is t n pays.sound p c l h s w span row at sound (t.word l) (t.act c l h) next owes is)
 
     pub counted_here : GoesOnCounted (λ u. change_by t.memory (t.word l) (t.act c l h) p u) s (step_by {V = V} t.memory (t.word l) (t.act c l h) w).next (change_by t.memory (t.word l) (t.act c l h) p w) (by_step (manner_by (t.asks c h) (t.act c l h)))

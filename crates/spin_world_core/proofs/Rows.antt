@@ -1,7 +1,7 @@
 -- What a party in a call knows of itself and of its span, and that its own steps and those of others keep it.
 use Rattle.std.proofs.Common.{◌≡◌, ℕ, suc, ◌+◌, ◌≤◌, ◌⊎◌, ◌==◌, Bool, true, false, not, ◌&&◌, is_some, Option, Some, None, List, [], ◌∷◌, ◌++◌, option_to_list, nat_lt, if◌then◌else◌, refl, ap, sym, ◌∙◌, subst, arith, inl, inr, ⊎_elim}
 use Rattle.std.proofs.lemmas.Bool.{ne_eqb, eqb-true, ltb-true, cases_eq, eq-eqb}
-use Rattle.spin_step.specs.Plain.{Plain, upgradable, writing, Ask, to_read, to_enter, to_lock_unregistered, to_lock_starving, to_begin, Change, gets, turns, completes, fails, arrives, is_open}
+use Rattle.spin_step.specs.Plain.{Plain, upgradable, writing, Ask, to_read, to_upgrade_asked, to_enter, to_lock_unregistered, to_lock_starving, to_begin, Change, gets, turns, completes, fails, arrives, is_open}
 use Rattle.spin_step.specs.Parties.{apply_some, IsOpenStep, entries}
 use Rattle.spin_step.specs.Steps.{bit}
 use Rattle.spin_step.proofs.Entries.{entries-other}
@@ -146,6 +146,7 @@ granted_at p ask (m ∷ ms) opened any =
 
 gets_in_grant : (p : ℕ) (ask : Ask) → AnyOf (λ c. c ≡ gets p ask) (grant p ask)
 gets_in_grant p to_enter = inr (inl refl)
+gets_in_grant p to_upgrade_asked = inr (inl refl)
 gets_in_grant p _ = inl refl
 
 granted_moment : (p : ℕ) (ask : Ask) (span : List Mark) → Opened span → AnyOf (λ steps. own p span ≡ steps) (grant p ask ∷ []) → AnyOf (Grants p ask) span
@@ -189,6 +190,7 @@ ends_owed coding true (waits_or_starves n) granted p span is owed = owed
 ends_owed coding false (waits_or_starves n) granted p span is owed = owed
 ends_owed coding weakly (waits_or_starves n) _ p span is owed = absurd is
 ends_owed coding weakly (waits to_enter) said p span is owed = tt
+ends_owed coding weakly (waits to_upgrade_asked) said p span is owed = tt
 ends_owed coding weakly (tries to_read) said p span is owed = tt
 ends_owed ticket weakly looks said p span is owed = tt
 ends_owed coding weakly _ said p span is owed = tt
@@ -267,6 +269,7 @@ timely_try coding _ = refl
 
 timely_wait : (coding : Coding) (ask : Ask) → is_timely (limit coding (waits ask)) [] 0 ≡ true
 timely_wait coding to_enter = refl
+timely_wait coding to_upgrade_asked = refl
 timely_wait coding _ = refl
 
 timely_look : (coding : Coding) → is_timely (limit coding looks) [] 0 ≡ true

@@ -6,7 +6,7 @@ use Rattle.spin_world_core.specs.declared.place.Hold.{Hold}
 use Rattle.spin_world_core.specs.declared.object.Next.{Next}
 use Rattle.spin_world_core.specs.declared.object.Next.TheVariants.{GoesOn, Answers}
 use Rattle.spin_world_core.specs.Manners.{Manner, plain, again, weak, by_step}
-use Rattle.spin_world_core.specs.Calls.{Asked, encoded, BelongsTo, own_steps, Mark, AnyOf, Limit, registers_after, limit, may_be_weak}
+use Rattle.spin_world_core.specs.Calls.{Asked, encoded, BelongsTo, own_steps, Mark, AnyOf, Limit, registers_after, limit, may_be_weak, before_weakly}
 use Rattle.spin_world_core.specs.Undisturbed.{arrived, is_open_next, steps_alone}
 use Rattle.spin_world_core.specs.Machines.{opening_plain}
 use Rattle.spin_world_core.specs.Runs.{mark_of, failures, changes}
@@ -106,7 +106,7 @@ module _ {W V C L A : Type 0} (t : Table W V C L A) (notes : Notes t) (p : ℕ) 
       Means t notes p s (step p) (λ j. t.memory.put i j w) (tried operation n) × Follows false (Some (step p)) plain goes won × (is_open s (step p) ≡ false → Follows false None plain (misses (step p)) (lost n))
   OwesOn i n (weak_exchange j f step won lost) =
       Means t notes p s (step p) (λ j. t.memory.put i j w) (tried (swap j f) n) × Follows false (Some (step p)) plain goes won × (is_open s (step p) ≡ false → Follows false None plain (misses (step p)) lost) × Follows true None weak goes lost
-      × (may_be_weak (k.asks h) ≡ true) × (row.made p ≡ [])
+      × (may_be_weak (k.asks h) ≡ true) × (row.made p ≡ before_weakly (k.asks h) p)
   OwesOn i n (attempt j f step won lost) =
       ((to : ℕ) → guessed j f n ≡ Some to → Means t notes p s (step p) (λ j. t.memory.put i j w) (Some to) × Follows false (Some (step p)) plain goes won) × (guessed j f n ≡ None → Follows false None plain goes lost) × (is_answer lost ≡ true)
   OwesOn i n (retry j f step won found missed) =

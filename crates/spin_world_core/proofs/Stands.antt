@@ -1,6 +1,6 @@
 -- What a party has in a call, and what its own plain steps make of it.
 use Rattle.std.proofs.Common.{◌≡◌, ℕ, Bool, true, false, ◌&&◌, Option, Some, None, [], ◌∷◌, if◌then◌else◌, refl, ap, ◌∙◌, subst}
-use Rattle.spin_step.specs.Plain.{Plain, Kind, reading, upgradable, writing, holder, ticket as queued, Ask, to_read, to_read_upgradable, to_write, to_upgrade, to_take_ticket, to_enter, to_take_and_enter, to_lock_unregistered, to_lock_starving, to_lock_starving_alone, to_starve, to_begin, Change, gets, releases, serves, stops_starving, turns, completes, fails, arrives}
+use Rattle.spin_step.specs.Plain.{Plain, Kind, reading, upgradable, asking, writing, holder, ticket as queued, Ask, to_read, to_read_upgradable, to_write, to_upgrade, to_upgrade_asked, to_take_ticket, to_enter, to_take_and_enter, to_lock_unregistered, to_lock_starving, to_lock_starving_alone, to_starve, to_begin, Change, gets, releases, serves, stops_starving, turns, completes, fails, arrives}
 use Rattle.spin_step.specs.Parties.{who, apply_some, IsOpenStep, Entries, entries, no_entries, entries_after}
 use Rattle.spin_step.proofs.Entries.{entries-own}
 use Rattle.spin_world_core.specs.declared.place.Hold.{Hold}
@@ -42,6 +42,7 @@ after_getting n to_read absent = Some (holds reading)
 after_getting n to_read_upgradable absent = Some (holds upgradable)
 after_getting n to_write absent = Some (holds writing)
 after_getting n to_upgrade (holds upgradable) = Some (holds writing)
+after_getting n to_upgrade_asked (holds asking) = Some (holds writing)
 after_getting n to_take_ticket absent = Some (queues n false)
 after_getting n to_enter (queues m false) = Some (queues m true)
 after_getting n to_take_and_enter absent = Some (queues n true)
@@ -85,6 +86,7 @@ got s p to_read absent = refl
 got s p to_read_upgradable absent = refl
 got s p to_write absent = refl
 got s p to_upgrade (holds upgradable) = ap (λ b. record no_entries { holders = if b && true then holder p writing ∷ [] else holder p upgradable ∷ [] }) (eqb_self p)
+got s p to_upgrade_asked (holds asking) = ap (λ b. record no_entries { holders = if b && true then holder p writing ∷ [] else holder p asking ∷ [] }) (eqb_self p)
 got s p to_take_ticket absent = refl
 got s p to_enter (queues m false) = refl
 got s p to_take_and_enter absent = refl

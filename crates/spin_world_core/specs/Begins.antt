@@ -1,6 +1,6 @@
 -- Which calls each kind of lock has, by what they ask, and what a party has to hold where such a call begins.
 use Rattle.std.specs.Prelude.{◌==◌, ◌&&◌, Bool, true, false, Option, Some, None}
-use Rattle.spin_step.specs.Plain.{reading, upgradable, Ask, to_read, to_read_upgradable, to_write, to_upgrade, to_enter, to_take_and_enter, to_lock_unregistered, to_lock_starving, to_lock_starving_alone, to_starve}
+use Rattle.spin_step.specs.Plain.{reading, upgradable, Ask, to_read, to_read_upgradable, to_write, to_upgrade, to_upgrade_asked, to_enter, to_take_and_enter, to_lock_unregistered, to_lock_starving, to_lock_starving_alone, to_starve}
 use Rattle.spin_world_core.specs.declared.place.Hold.{Hold}
 use Rattle.spin_world_core.specs.declared.place.Hold.TheVariants.{Read, Upgradable, Write, Ticket, Starver}
 use Rattle.spin_world_core.specs.Calls.{Coding, flag, ticket, fair, rw, once, barrier, seats, Asked, waits, waits_or_starves, tries, tries_weakly, tries_to_know, looks, counts_readers, counts_writers, turns_to, gives_back, initializes, fails_to_initialize, waits_for_value, polls, looks_for_value, looks_complete, meets}
@@ -8,6 +8,7 @@ use Rattle.spin_world_core.specs.Calls.{Coding, flag, ticket, fair, rw, once, ba
 -- an upgrade is an upgradable reader's, and a starver's lock or try is a starver's; whoever asks for anything else holds nothing
 abbrev pub held_for : Ask → Option Hold
 held_for to_upgrade = Some Upgradable
+held_for to_upgrade_asked = Some Upgradable
 held_for to_lock_starving = Some Starver
 held_for to_lock_starving_alone = Some Starver
 held_for _ = None
@@ -63,7 +64,7 @@ has_call rw counts_readers = true
 has_call rw counts_writers = true
 has_call rw (tries to_upgrade) = true
 has_call rw (tries_weakly to_upgrade) = true
-has_call rw (waits to_upgrade) = true
+has_call rw (waits to_upgrade_asked) = true
 has_call rw (turns_to (Some Upgradable) reading) = true
 has_call rw (turns_to (Some Write) reading) = true
 has_call rw (turns_to (Some Write) upgradable) = true

@@ -1,6 +1,6 @@
 -- What a call asks of the plain lock, and what each of its answers means there. These tables serve every object; an object names rows of them.
 use Rattle.std.specs.Prelude.{◌≡◌, ℕ, ◌+◌, ◌≤◌, ◌⊎◌, ◌&&◌, Bool, true, false, not, Option, Some, None, List, [], ◌∷◌, get_or}
-use Rattle.spin_step.specs.Plain.{Plain, Kind, reading, upgradable, writing, Ask, to_read, to_read_upgradable, to_write, to_upgrade, to_take_ticket, to_enter, to_take_and_enter, to_lock_unregistered, to_lock_starving, to_lock_starving_alone, to_starve, to_begin, Change, gets, releases, serves, stops_starving, turns, completes, fails, arrives, is_open_to, is_empty, is_nothing, is_complete, count_kind, reader_count, flag_word, next_word, serving_word, fair_word, rw_word, once_word, count_word, generation_word}
+use Rattle.spin_step.specs.Plain.{Plain, Kind, reading, upgradable, asking, writing, Ask, to_read, to_read_upgradable, to_write, to_upgrade, to_upgrade_asked, to_take_ticket, to_enter, to_take_and_enter, to_lock_unregistered, to_lock_starving, to_lock_starving_alone, to_starve, to_begin, Change, gets, releases, serves, stops_starving, turns, completes, fails, arrives, is_open_to, is_empty, is_nothing, is_complete, count_kind, reader_count, flag_word, next_word, serving_word, fair_word, rw_word, once_word, count_word, generation_word}
 use Rattle.spin_step.specs.Parties.{is_held}
 use Rattle.spin_step.specs.Barriers.{is_leading, filled_by}
 use Rattle.spin_world_core.specs.declared.answer.Answer.{Answer}
@@ -43,6 +43,7 @@ may_be_got rw to_read = true
 may_be_got rw to_read_upgradable = true
 may_be_got rw to_write = true
 may_be_got rw to_upgrade = true
+may_be_got rw to_upgrade_asked = true
 may_be_got once to_begin = true
 may_be_got seats to_read = true
 may_be_got _ _ = false
@@ -115,8 +116,9 @@ says_of Failed = failed
 says_of Leader = leads
 says_of Follower = follows
 
--- a party is granted what it asks; one that enters has taken its ticket before, and a starver who gets the lock leaves the starvers
+-- a party is granted what it asks; one that enters has taken its ticket before, one that waits to upgrade has asked before, and a starver who gets the lock leaves the starvers
 abbrev pub grant : ℕ → Ask → List Change
+grant p to_upgrade_asked = turns p upgradable asking ∷ gets p to_upgrade_asked ∷ []
 grant p to_enter = gets p to_take_ticket ∷ gets p to_enter ∷ []
 grant p to_lock_starving = gets p to_lock_starving ∷ stops_starving p ∷ []
 grant p to_lock_starving_alone = gets p to_lock_starving_alone ∷ stops_starving p ∷ []
@@ -248,14 +250,21 @@ TriesToStarve p m = Registers p m ⊎ FindsClosed p to_starve m
 abbrev pub may_be_weak : Asked → Bool
 may_be_weak (tries_weakly ask) = true
 may_be_weak (waits to_write) = true
-may_be_weak (waits to_upgrade) = true
+may_be_weak (waits to_upgrade_asked) = true
 may_be_weak (waits_or_starves n) = true
 may_be_weak _ = false
+
+-- the plain steps that such a call makes before its weak exchange: who waits to upgrade asks first
+abbrev pub before_weakly : Asked → ℕ → List Change
+before_weakly (waits to_upgrade_asked) p = turns p upgradable asking ∷ []
+before_weakly _ p = []
 
 -- whether such a call gets this by its weak exchange: who has registered as a starver makes none any more
 abbrev pub is_got_weakly : Asked → Change → Bool
 is_got_weakly (waits_or_starves n) (gets p to_lock_unregistered) = true
 is_got_weakly (waits_or_starves n) c = false
+is_got_weakly (waits to_upgrade_asked) (gets p to_upgrade_asked) = true
+is_got_weakly (waits to_upgrade_asked) c = false
 is_got_weakly what c = may_be_weak what
 
 -- the word that the exchanges are on which a call makes again
@@ -273,9 +282,10 @@ pub data Limit : Type 0 where
 
 -- A try, a look, a count, a downgrade or a release on one word takes one step, and a try or a look on the two words of a queue three; a starver's try takes a second step to leave the starvers.
 -- Each try that looks first and then makes its exchange again and again takes two, and one more for each change by others.
--- A call that waits has no limit, but who queues has a ticket by then, who may starve registers by its second step after each look past its patience, and who meets others at a barrier arrives by its first step
+-- A call that waits has no limit, but who queues has a ticket by then, who may starve registers by its second step after each look past its patience, and who upgrades asks, and who meets others at a barrier arrives, by its first step
 abbrev pub limit : Coding → Asked → Limit
 limit coding (waits to_enter) = gets_within to_take_ticket 2
+limit coding (waits to_upgrade_asked) = changes_within 1
 limit coding (waits ask) = unlimited
 limit coding (waits_or_starves n) = registers_after n 2
 limit coding (tries to_read) = within_changes 2

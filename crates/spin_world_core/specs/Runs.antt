@@ -13,7 +13,7 @@ use Rattle.spin_world_core.specs.declared.schedule.Outcome.{Outcome}
 use Rattle.spin_world_core.specs.declared.schedule.Outcome.TheVariants as outcome
 use Rattle.spin_world_core.specs.Manners.{Manner, is_again, is_look, by_step}
 use Rattle.spin_world_core.specs.Manners as manner
-use Rattle.spin_world_core.specs.Calls.{Coding, encoded, BelongsTo, Asked, Said, own_steps, Mark, AnyOf, HasMoment, HasWeakMoment, Limit, unlimited, within, within_changes, gets_within, changes_within, registers_after, FindsClosed, Registers, TriesToStarve, limit, may_be_weak}
+use Rattle.spin_world_core.specs.Calls.{Coding, encoded, BelongsTo, Asked, Said, own_steps, Mark, AnyOf, HasMoment, HasWeakMoment, Limit, unlimited, within, within_changes, gets_within, changes_within, registers_after, FindsClosed, Registers, TriesToStarve, limit, may_be_weak, before_weakly}
 use Rattle.spin_world_core.specs.Begins.{fits}
 pub use Rattle.spin_world_core.specs.Spans.{own, own_count, failures, changes, held_looks, keeps_looking, IsBeginning}
 use Rattle.spin_world_core.specs.Undisturbed.{AnsweredSoon}
@@ -234,9 +234,9 @@ ComesTo OwnerGet step old new o = (o ≡ outcome.Value old) × (new ≡ old)
 ComesTo (OwnerSet v) step None new o = (o ≡ outcome.Value None) × (new ≡ None)
 ComesTo (OwnerSet v) step (Some u) new o = (o ≡ outcome.Written) × (new ≡ Some v)
 
--- only a call that may be refused without cause is so, and before it has made a plain step
+-- only a call that may be refused without cause is so, where it has made no plain step but those that go before its weak exchange
 abbrev pub IsWeakCall : {V C : Type 0} → Move C V → ℕ → List Mark → Option Asked → Type 0
-IsWeakCall Weak p span (Some what) = (may_be_weak what ≡ true) × (own p span ≡ [])
+IsWeakCall Weak p span (Some what) = (may_be_weak what ≡ true) × (own p span ≡ before_weakly what p)
 IsWeakCall Weak p span None = ⊥
 IsWeakCall _ p span what = Unit {0}
 

@@ -1,6 +1,6 @@
 -- Calls that nobody disturbs: from a moment on at which what such a call asks is open, it is answered by its fourth own step at the latest.
 use Rattle.std.specs.Prelude.{◌≡◌, ℕ, ◌≤◌, ◌<◌, ◌==◌, ◌&&◌, ◌||◌, Bool, true, false, Option, Some, is_some, List, [], ◌∷◌, ◌++◌, if◌then◌else◌}
-use Rattle.spin_step.specs.Plain.{Plain, writing, to_write, to_upgrade, to_enter, to_take_and_enter, to_lock_unregistered, to_lock_starving, is_open_to, is_empty, is_first, is_holder, is_nothing, is_complete}
+use Rattle.spin_step.specs.Plain.{Plain, writing, to_write, to_upgrade, to_upgrade_asked, to_enter, to_take_and_enter, to_lock_unregistered, to_lock_starving, is_open_to, is_empty, is_first, is_holder, is_nothing, is_complete}
 use Rattle.spin_step.specs.Barriers.{may_leave, is_leading}
 use Rattle.spin_world_core.specs.declared.schedule.Outcome.{Outcome}
 use Rattle.spin_world_core.specs.declared.schedule.Outcome.TheVariants as outcome
@@ -14,10 +14,12 @@ arrived p [] = 0
 arrived p (m ∷ ms) = if (m.party == p) && is_some m.change then m.after.arrivals else arrived p ms
 
 -- Whether it is open to the party what its call asks in its present state, where the call may wait: `first` if it has made no plain step yet. Who has got it already has only to be answered.
--- Who queues asks for a ticket that enters at once, and with its ticket to enter; who may starve asks as everybody does, and once it has registered as a starver; and whoever has arrived at a barrier asks to leave
+-- Who queues asks for a ticket that enters at once, and with its ticket to enter; who waits to upgrade has nothing but its own asking before it, and then the upgrade; who may starve asks as everybody does, and once it has registered as a starver; and whoever has arrived at a barrier asks to leave
 abbrev pub is_open_next : Asked → Bool → ℕ → ℕ → Plain → Bool
 is_open_next (waits to_enter) true k p s = is_open_to s p to_take_and_enter
 is_open_next (waits to_enter) false k p s = is_open_to s p to_enter || is_first p true s.tickets
+is_open_next (waits to_upgrade_asked) true k p s = is_open_to s p to_upgrade
+is_open_next (waits to_upgrade_asked) false k p s = is_open_to s p to_upgrade_asked || is_holder p writing s.holders
 is_open_next (waits ask) true k p s = is_open_to s p ask
 is_open_next (waits ask) false k p s = true
 is_open_next (waits_or_starves n) true k p s = is_open_to s p to_lock_unregistered
@@ -50,10 +52,9 @@ UndisturbedTakes IsFew coding p what span =
     (recent : List Mark) (first : Mark) (older : List Mark) → span ≡ recent ++ first ∷ older → is_open_now p what older first.before ≡ true → AllOf (Leaves coding p) (recent ++ first ∷ [])
     → IsFew (own_count p (recent ++ first ∷ []))
 
--- How many that is at most: one where the exchange needs no look, two where one look goes before it, and four of every other call
+-- How many that is at most: one where the exchange needs no look, two where one look goes before it, or where it is asked for first, and four of every other call
 abbrev pub steps_alone : Coding → Asked → ℕ
 steps_alone rw (waits to_write) = 1
-steps_alone rw (waits to_upgrade) = 1
 steps_alone rw (waits ask) = 2
 steps_alone seats (waits ask) = 2
 steps_alone flag (waits ask) = 2

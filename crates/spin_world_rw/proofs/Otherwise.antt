@@ -1,6 +1,6 @@
 -- What shows that a lock is wrong: own steps that begin no list which the call's answers name.
 use Rattle.std.proofs.Common.{Some, [], ◌∷◌, inl, inr}
-use Rattle.spin_step.specs.Plain.{reading, upgradable, writing, to_upgrade, releases}
+use Rattle.spin_step.specs.Plain.{reading, upgradable, writing, to_upgrade_asked, releases}
 use Rattle.spin_world_core.specs.declared.place.Hold.TheVariants as hold
 use Rattle.spin_world_core.specs.Calls.{waits, turns_to, Said, granted, done, own_steps, AnyOf}
 use Rattle.spin_world_core.specs.Spans.{IsBeginning}
@@ -12,7 +12,7 @@ frees_first done (inr none) = none
 frees_first _ any = any
 
 -- an upgradable reader that lets go first makes none of an upgrade
-pub lets_go_first : (said : Said) → AnyOf (λ steps. IsBeginning (releases 0 upgradable ∷ []) steps) (own_steps (waits to_upgrade) said 0) → ⊥
+pub lets_go_first : (said : Said) → AnyOf (λ steps. IsBeginning (releases 0 upgradable ∷ []) steps) (own_steps (waits to_upgrade_asked) said 0) → ⊥
 lets_go_first granted (inl begins) = absurd (cc (begins.1))
 lets_go_first granted (inr none) = none
 lets_go_first _ any = any

@@ -1,16 +1,16 @@
 -- What the table of the read-write lock owes.
-use Rattle.std.proofs.Common.{◌≡◌, ℕ, ◌+◌, ◌-◌, ◌/◌, ◌%◌, ◌≤◌, ◌==◌, Bool, true, ◌&&◌, Option, Some, None, List, [], ◌∷◌, ◌++◌, length, nat_lt, unwrap_or, refl, ap, sym, ◌∙◌, subst, arith, inl, eq-eqb, length-append}
+use Rattle.std.proofs.Common.{◌≡◌, ℕ, ◌+◌, ◌-◌, ◌/◌, ◌%◌, ◌≤◌, ◌==◌, Bool, true, false, ◌&&◌, ◌||◌, Option, Some, None, List, [], ◌∷◌, ◌++◌, length, nat_lt, unwrap_or, refl, ap, sym, ◌∙◌, subst, arith, inl, eq-eqb, length-append}
 use Rattle.std.specs.Prelude.{min, max}
-use Rattle.std.proofs.lemmas.Bool.{and_parts, lt-ltb, ltb-true}
-use Rattle.spin_step.specs.Plain.{Plain, Kind, reading, upgradable, writing, weight, Holder, holder, to_read, to_read_upgradable, to_write, to_upgrade, Change, gets, releases, turns, apply, is_open, may_come, is_empty, is_holder, may_turn, count_kind, without_holder, with_kind, rw_word}
+use Rattle.std.proofs.lemmas.Bool.{and_parts, lt-ltb, eqb-true, true≢false}
+use Rattle.spin_step.specs.Plain.{Plain, Kind, reading, upgradable, asking, writing, weight, Holder, holder, to_read, to_read_upgradable, to_write, to_upgrade, to_upgrade_asked, Change, gets, releases, turns, apply, is_open, may_come, is_empty, is_holder, is_only, may_turn, count_kind, without_holder, with_kind, rw_word}
 use Rattle.spin_step.specs.Parties.{Entries, entries, who, IsExclusive}
 use Rattle.spin_step.specs.Steps.{Decides}
-use Rattle.spin_step.specs.Readers.{reader_limit, tells, has_room, read, read_upgradable, write, upgrade, released, turned as turned_to}
-use Rattle.spin_step.proofs.Holders.{is_holder-from_entries, length-without_holder}
+use Rattle.spin_step.specs.Readers.{reader_limit, tells, has_room, read, read_upgradable, write, upgrade, upgrade_asked, released, turned as turned_to}
+use Rattle.spin_step.proofs.Holders.{is_holder-from_entries, is_holder-own, length-without_holder}
 use Rattle.spin_step.proofs.Exclusive.{empty_is, room_to_come}
 use Rattle.spin_step.proofs.Sums.{length-with_kind}
-use Rattle.spin_step.proofs.Readers.{one_of_each, read-word, upgradable_read-word, upgradable-word, tells-holder, readers-word, writers-word, only-word, empty-word}
-use Rattle.spin_step.proofs.ReaderSteps.{rw_read-grants, rw_upgradable-grants, rw_write-grants, rw_upgrade-grants, rw_release-gives, rw_turn-gives}
+use Rattle.spin_step.proofs.Readers.{one_of_each, read-word, upgradable_read-word, upgradable-word, tells-holder, readers-word, writers-word, only_upgradable-word, only_asking-word, empty-word}
+use Rattle.spin_step.proofs.ReaderSteps.{rw_read-grants, rw_upgradable-grants, rw_write-grants, rw_upgrade-grants, rw_upgrade_asked-grants, rw_release-gives, rw_turn-gives}
 use Rattle.spin_world_core.specs.declared.answer.Answer.{Answer}
 use Rattle.spin_world_core.specs.declared.place.Hold.{Hold}
 use Rattle.spin_world_core.specs.declared.place.Hold.TheVariants as hold
@@ -19,21 +19,26 @@ use Rattle.spin_world_core.specs.declared.object.Next.TheVariants.{GoesOn, Answe
 use Rattle.spin_world_rw.specs.declared.rw.RwCall.{RwCall}
 use Rattle.spin_world_rw.specs.declared.rw.RwCall.TheVariants.{TryRead, Read, TryUpgradeableRead, UpgradeableRead, TryWrite, TryWriteWeak, Write, ReaderCount, WriterCount, TryUpgrade, TryUpgradeWeak, Upgrade, Downgrade, DowngradeToUpgradeable, Release}
 use Rattle.spin_world_rw.specs.declared.rw.RwPoint.{RwPoint}
-use Rattle.spin_world_rw.specs.declared.rw.RwPoint.TheVariants.{First, Exchange}
+use Rattle.spin_world_rw.specs.declared.rw.RwPoint.TheVariants.{First, Exchange, Asking}
 use Rattle.spin_world_core.specs.Calls.{Mark}
 use Rattle.spin_world_core.specs.Calls as calls
 use Rattle.spin_world_core.specs.Acts.{begin_of}
 use Rattle.spin_world_rw.specs.Rw.{granted, act_of, asks_of, rw_table, rw_machine}
 use Rattle.spin_world_core.proofs.Facts.{LocalInvariant, Facts}
 use Rattle.spin_world_core.proofs.Stands.{holds, entries_at}
-use Rattle.spin_world_core.proofs.Rows.{starts_sound, SoundAt, Row, Point, starts, looked}
+use Rattle.spin_world_core.proofs.Rows.{starts_sound, SoundAt, Row, Point, starts, looked, onward}
 use Rattle.spin_world_core.proofs.Shapes.{Notes, keeping_of, Means, OwesAt, answers_by, OwesSoon, BeginsAt, Pays, CallOf, AtPoint}
 use Rattle.spin_world_core.proofs.Operating.{fits_act, one_place, operates_by}
 use Rattle.spin_world_core.proofs.Usual.{no_queue, means_word, exchanges_now, retries_soon}
 use Rattle.spin_world_core.proofs.Paid.{facts_of}
 
+-- a reader that asked to upgrade gets to write
+abbrev pub asking_row : Row
+asking_row = record { stand = holds asking; made = λ p. turns p upgradable asking ∷ []; rest = λ p. gets p to_upgrade_asked ∷ []; said = calls.granted; spent = 0 }
+
 -- a call that looked has made one step; each other point is as its call's beginning
 abbrev pub point_of : {V : Type 0} → V → ℕ → RwCall → RwPoint → Option Hold → Point
+point_of v cap Upgrade Asking (Some hold.Upgradable) = onward asking_row
 point_of v cap TryRead (Exchange n) None = looked 1
 point_of v cap Read (Exchange n) None = looked 1
 point_of v cap TryUpgradeableRead (Exchange n) None = looked 1
@@ -52,6 +57,15 @@ rw_notes v cap = record { Shape = λ s. Within cap s; point = point_of v cap; Kn
 -- a party that stands so is a holder
 pub holder_by : (p : ℕ) (k : Kind) (s : Plain) → entries p s ≡ entries_at p (holds k) → is_holder p k s.holders ≡ true
 holder_by p k s mine = is_holder-from_entries p k s.holders (ap (λ (e : Entries). e.holders) mine)
+
+-- who asks to upgrade and has nothing else does not write
+writes_nothing : (p : ℕ) (s : Plain) → entries p s ≡ entries_at p (holds asking) → is_holder p writing s.holders ≡ false
+writes_nothing p s mine =
+    is_holder-own p writing s.holders ∙ (ap (λ (e : Entries). is_holder p writing e.holders) mine ∙ ap (λ b. (b && false) || false) (eq-eqb p p refl))
+
+or_left : (a b : Bool) → b ≡ false → (a || b) ≡ true → a ≡ true
+or_left true b none e = refl
+or_left false b none e = absurd (true≢false (sym e ∙ none))
 
 module _ {V : Type 0} (v : V) (cap : ℕ) where
   abbrev IsMeant : ℕ → Plain → Change → Option ℕ → Type 0
@@ -99,6 +113,9 @@ module _ {V : Type 0} (v : V) (cap : ℕ) where
     upgrade_means : entries p s ≡ entries_at p (holds upgradable) → IsMeant p s (gets p to_upgrade) (upgrade w)
     upgrade_means mine = decides p s (gets p to_upgrade) (upgrade w) refl (rw_upgrade-grants s p w (one_of_each s at.exclusive) (holder_by p upgradable s mine) word) (λ may. turned s p upgradable writing at.shape)
 
+    upgrade_asked_means : entries p s ≡ entries_at p (holds asking) → IsMeant p s (gets p to_upgrade_asked) (upgrade_asked w)
+    upgrade_asked_means mine = decides p s (gets p to_upgrade_asked) (upgrade_asked w) refl (rw_upgrade_asked-grants s p w (one_of_each s at.exclusive) (holder_by p asking s mine) word) (λ may. turned s p asking writing at.shape)
+
     turn_means : (j k : Kind) → is_holder p j s.holders ≡ true → may_turn j k ≡ true → weight j ≤ weight k → IsMeant p s (turns p j k) (Some (turned_to j k w))
     turn_means j k found down more =
         let may : is_open s (turns p j k) ≡ true = ap (λ b. b && may_turn j k) found ∙ down in
@@ -116,14 +133,14 @@ module _ {V : Type 0} (v : V) (cap : ℕ) where
     finds_room found = lt-ltb (w / weight reading) reader_limit (omega (arith, (upgradable-word s p at.exclusive (omega (arith, at.shape.few, at.shape.room)) found).1, word))
 
   owes : (p : ℕ) (c : RwCall) (l : RwPoint) (h : Option Hold) (s : Plain) (w : ℕ) (span : List Mark) → OwesAt (rw_table v cap) (rw_notes v cap) p c l h s w span
-  owes p TryRead First None s w span = λ at. (read_means p at, (λ found. (refl, refl, refl, (refl, refl, found), tt)), (λ closed. (refl, inl refl, inl closed)))
   owes p TryRead (Exchange n) None s w span = λ at. (read_means p at, (λ is. (refl, inl refl, tt)), (λ found. (refl, refl, refl, (refl, refl, found), tt)), (λ closed. (refl, inl refl, inl closed)))
-  owes p Read First None s w span = λ at. (read_means p at, (λ found. (refl, refl, tt, (refl, refl, found), tt)), (λ closed. (refl, refl, tt, tt, tt)))
+  owes p TryRead l None s w span = λ at. (read_means p at, (λ found. (refl, refl, refl, (refl, refl, found), tt)), (λ closed. (refl, inl refl, inl closed)))
   owes p Read (Exchange n) None s w span = λ at. (read_means p at, (λ is. (refl, inl refl, tt)), (λ found. (refl, refl, tt, (refl, refl, found), tt)), (λ closed. (refl, refl, tt, tt, tt)))
-  owes p TryUpgradeableRead First None s w span = λ at. (upgradable_means p at, (λ found. (refl, refl, refl, (refl, refl, found), tt)), (λ closed. (refl, inl refl, inl closed)))
+  owes p Read l None s w span = λ at. (read_means p at, (λ found. (refl, refl, tt, (refl, refl, found), tt)), (λ closed. (refl, refl, tt, tt, tt)))
   owes p TryUpgradeableRead (Exchange n) None s w span = λ at. (upgradable_means p at, (λ is. (refl, inl refl, tt)), (λ found. (refl, refl, refl, (refl, refl, found), tt)), (λ closed. (refl, inl refl, inl closed)))
-  owes p UpgradeableRead First None s w span = λ at. (upgradable_means p at, (λ found. (refl, refl, tt, (refl, refl, found), tt)), (λ closed. (refl, refl, tt, tt, tt)))
+  owes p TryUpgradeableRead l None s w span = λ at. (upgradable_means p at, (λ found. (refl, refl, refl, (refl, refl, found), tt)), (λ closed. (refl, inl refl, inl closed)))
   owes p UpgradeableRead (Exchange n) None s w span = λ at. (upgradable_means p at, (λ is. (refl, inl refl, tt)), (λ found. (refl, refl, tt, (refl, refl, found), tt)), (λ closed. (refl, refl, tt, tt, tt)))
+  owes p UpgradeableRead l None s w span = λ at. (upgradable_means p at, (λ found. (refl, refl, tt, (refl, refl, found), tt)), (λ closed. (refl, refl, tt, tt, tt)))
   owes p TryWrite l None s w span = λ at. (write_means p at, (refl, inl refl, tt), (λ closed. (refl, inl refl, inl closed)))
   owes p TryWriteWeak l None s w span = λ at. (write_means p at, (refl, inl refl, tt), (λ closed. (refl, inl refl, inl closed)), (refl, inl refl, tt), refl, refl)
   owes p Write l None s w span = λ at. (write_means p at, (refl, inl refl, tt), (λ closed. (refl, refl, tt, tt, tt)), (refl, refl, tt, tt, tt), refl, refl)
@@ -131,7 +148,8 @@ module _ {V : Type 0} (v : V) (cap : ℕ) where
   owes p WriterCount l None s w span = λ at. (refl, inl refl, inl (writers-word s w (one_of_each s at.exclusive) (word p at)))
   owes p TryUpgrade l (Some hold.Upgradable) s w span = λ at. (upgrade_means p at at.known.stand, (refl, inl refl, tt), (λ closed. (refl, inl refl, inl closed)))
   owes p TryUpgradeWeak l (Some hold.Upgradable) s w span = λ at. (upgrade_means p at at.known.stand, (refl, inl refl, tt), (λ closed. (refl, inl refl, inl closed)), (refl, inl refl, tt), refl, refl)
-  owes p Upgrade l (Some hold.Upgradable) s w span = λ at. (upgrade_means p at at.known.stand, (refl, inl refl, tt), (λ closed. (refl, refl, tt, tt, tt)), (refl, refl, tt, tt, tt), refl, refl)
+  owes p Upgrade Asking (Some hold.Upgradable) s w span = λ at. (upgrade_asked_means p at at.known.stand, (refl, inl refl, tt), (λ closed. (refl, refl, tt, tt, tt)), (refl, refl, tt, tt, tt), refl, refl)
+  owes p Upgrade l (Some hold.Upgradable) s w span = λ at. let found = holder_by p upgradable s at.known.stand in (finds p at upgradable found, turn_means p at upgradable asking found refl (omega arith), (refl, refl, tt, tt, tt))
   owes p Downgrade l (Some hold.Write) s w span = λ at. let found = holder_by p writing s at.known.stand in (finds p at writing found, turn_means p at writing reading found refl (omega arith), (refl, inl refl, tt))
   owes p Downgrade l (Some hold.Upgradable) s w span = λ at.
       let found = holder_by p upgradable s at.known.stand in
@@ -147,19 +165,20 @@ module _ {V : Type 0} (v : V) (cap : ℕ) where
   abbrev Soon : ℕ → ℕ → RwCall → RwPoint → Option Hold → Type 0
   Soon k w c l h = answers_by (rw_table v cap) k w c l h ≡ true
 
-  lets_in : (s : Plain) (w : ℕ) → IsExclusive s → Within cap s → rw_word s ≡ w → may_come reading s ≡ true → has_room w cap ≡ true
+  lets_in : (s : Plain) (w : ℕ) → IsExclusive s → Within cap s → rw_word s ≡ w → may_come reading s ≡ true → has_room reading w cap ≡ true
   lets_in s w order shape is may = sym (read-word s w cap (one_of_each s order) shape.room is) ∙ may
 
-  lets_in_upgradable : (s : Plain) (w : ℕ) → IsExclusive s → Within cap s → rw_word s ≡ w → may_come upgradable s ≡ true → has_room w cap ≡ true
+  lets_in_upgradable : (s : Plain) (w : ℕ) → IsExclusive s → Within cap s → rw_word s ≡ w → may_come upgradable s ≡ true → has_room upgradable w cap ≡ true
   lets_in_upgradable s w order shape is may = sym (upgradable_read-word s w cap (one_of_each s order) shape.room is) ∙ may
 
-  module _ (w : ℕ) (room : has_room w cap ≡ true) where
+  module _ (w : ℕ) (room : has_room reading w cap ≡ true) where
     reads_now : Soon 1 w Read (Exchange w) None
     reads_now = exchanges_now (rw_table v cap) Read None Exchange (read cap) (λ p. gets p to_read) (λ m. granted hold.Read) (GoesOn First) w (w + weight reading) (rw room refl) (λ m. refl) 0 refl
 
     reads_soon : (n : ℕ) → Soon 2 w Read (Exchange n) None
     reads_soon n = retries_soon (rw_table v cap) Read None Exchange (read cap) (λ p. gets p to_read) (λ m. granted hold.Read) (GoesOn First) w (w + weight reading) (rw room refl) (λ m. refl) 0 refl n
 
+  module _ (w : ℕ) (room : has_room upgradable w cap ≡ true) where
     may_upgrade_now : Soon 1 w UpgradeableRead (Exchange w) None
     may_upgrade_now =
         exchanges_now (rw_table v cap) UpgradeableRead None Exchange (read_upgradable cap) (λ p. gets p to_read_upgradable) (λ m. granted hold.Upgradable) (GoesOn First) w (w + weight upgradable) (rw room refl) (λ m. refl) 0 refl
@@ -170,13 +189,18 @@ module _ {V : Type 0} (v : V) (cap : ℕ) where
 
   soon : (p : ℕ) (c : RwCall) (l : RwPoint) (h : Option Hold) (s : Plain) (w : ℕ) (span : List Mark)
       → OwesSoon (rw_table v cap) (rw_notes v cap) p c l h s w span
-  soon p Read First None s w span = λ at free. let room = lets_in s w at.exclusive at.shape (word p at) free in rw room (reads_now w room)
   soon p Read (Exchange n) None s w span = λ at free. reads_soon w (lets_in s w at.exclusive at.shape (word p at) free) n
-  soon p UpgradeableRead First None s w span = λ at free. let room = lets_in_upgradable s w at.exclusive at.shape (word p at) free in rw room (may_upgrade_now w room)
+  soon p Read l None s w span = λ at free. let room = lets_in s w at.exclusive at.shape (word p at) free in rw room (reads_now w room)
   soon p UpgradeableRead (Exchange n) None s w span = λ at free. may_upgrade_soon w (lets_in_upgradable s w at.exclusive at.shape (word p at) free) n
+  soon p UpgradeableRead l None s w span = λ at free. let room = lets_in_upgradable s w at.exclusive at.shape (word p at) free in rw room (may_upgrade_now w room)
   soon p Write l None s w span = λ at free. let zero : (w == 0) ≡ true = sym (empty-word s.holders w (word_is s w at.encodes)) ∙ free in rw zero refl
+  soon p Upgrade Asking (Some hold.Upgradable) s w span = λ at free.
+      let open_now = or_left (is_only p asking s.holders) (is_holder p writing s.holders) (writes_nothing p s at.known.stand) free in
+      let six : w ≡ weight asking = eqb-true w (weight asking) (sym (only_asking-word s p w (one_of_each s at.exclusive) (holder_by p asking s at.known.stand) (word_is s w at.encodes)) ∙ open_now) in
+      ap (λ k. answers_by (rw_table v cap) 2 k Upgrade Asking (Some hold.Upgradable)) six
   soon p Upgrade l (Some hold.Upgradable) s w span = λ at free.
-      let two : (w == weight upgradable) ≡ true = sym (only-word s p w (one_of_each s at.exclusive) (holder_by p upgradable s at.known.stand) (word_is s w at.encodes)) ∙ free in rw two refl
+      let two : w ≡ weight upgradable = eqb-true w (weight upgradable) (sym (only_upgradable-word s p w (one_of_each s at.exclusive) (holder_by p upgradable s at.known.stand) (word_is s w at.encodes)) ∙ free) in
+      ap (λ k. answers_by (rw_table v cap) 2 k Upgrade l (Some hold.Upgradable)) two
   soon p _ _ _ s w span = tt
 
   begins : (p : ℕ) (c : RwCall) (h : Option Hold) (s : Plain) → BeginsAt (rw_table v cap) (rw_notes v cap) c h p s (begin_of (rw_table v cap) c h)
@@ -201,6 +225,7 @@ module _ {V : Type 0} (v : V) (cap : ℕ) where
   begins p _ _ s = tt
 
   sound : (p : ℕ) (c : RwCall) (l : RwPoint) (h : Option Hold) → SoundAt calls.rw (asks_of c h) p (point_of v cap c l h)
+  sound p Upgrade Asking (Some hold.Upgradable) = (refl, inl refl)
   sound p TryRead (Exchange n) None = refl
   sound p Read (Exchange n) None = refl
   sound p TryUpgradeableRead (Exchange n) None = refl
@@ -208,6 +233,7 @@ module _ {V : Type 0} (v : V) (cap : ℕ) where
   sound p c l h = starts_sound calls.rw (asks_of c h) p (begin_of (rw_table v cap) c h)
 
   fits_all : (p : ℕ) (c : RwCall) (l : RwPoint) (h : Option Hold) → fits_act calls.rw (asks_of c h) (act_of {V = V} cap c l h) p ≡ true
+  fits_all p Upgrade Asking h = refl
   fits_all p TryRead First h = refl
   fits_all p Read First h = refl
   fits_all p TryUpgradeableRead First h = refl

@@ -1,13 +1,14 @@
 -- What users of a read-write lock rely on.
 use Rattle.std.proofs.Common.{◌≡◌, ℕ, ◌+◌, ◌*◌, ◌==◌, ◌↔◌, Bool, true, false, ◌&&◌, ◌||◌, if◌then◌else◌, Option, Some, None, List, [], ◌∷◌, ◌++◌, slice_get, slice_set, refl, ap, sym, ◌∙◌, subst, arith}
 use Rattle.std.proofs.lemmas.Bool.{eqb-true, ne_eqb, true≢false, false≢true}
-use Rattle.spin_step.specs.Plain.{Plain, Kind, reading, upgradable, writing, Holder, Change, is_empty, is_holder, is_only, same_kind, count_kind, rw_word}
-use Rattle.spin_step.specs.Parties.{apply_some, IsOpenStep, entries, IsExclusive}
+use Rattle.spin_step.specs.Plain.{Plain, Kind, reading, upgradable, asking, writing, Holder, Change, is_empty, is_holder, is_only, same_kind, count_kind, rw_word}
+use Rattle.spin_step.specs.Parties.{apply_some, IsOpenStep, Entries, entries, IsExclusive}
 use Rattle.spin_step.specs.Steps.{bit}
 use Rattle.spin_step.proofs.Exclusive.{empty_is}
+use Rattle.spin_step.proofs.Holders.{is_holder-own}
 use Rattle.spin_step.specs.Readers.{reader_goes}
 use Rattle.spin_step.proofs.Upgrading.{readers_only_go, alone_when_gone}
-use Rattle.spin_step.proofs.Readers.{one_of_each, only-word, empty-word, word_of}
+use Rattle.spin_step.proofs.Readers.{one_of_each, only_asking-word, empty-word, word_of}
 use Rattle.spin_world_core.specs.declared.answer.Answer.{Answer}
 use Rattle.spin_world_core.specs.declared.answer.Answer.TheVariants.{Granted, Refused, Done}
 use Rattle.spin_world_core.specs.declared.place.Hold.{Hold}
@@ -19,27 +20,30 @@ use Rattle.spin_world_core.specs.declared.schedule.Move.{Move}
 use Rattle.spin_world_core.specs.declared.schedule.Move.TheVariants.{Step}
 use Rattle.spin_world_core.specs.declared.schedule.Outcome.TheVariants.{Answered}
 use Rattle.spin_world_rw.specs.declared.rw.RwCall.{RwCall}
-use Rattle.spin_world_rw.specs.declared.rw.RwCall.TheVariants.{TryUpgrade, TryUpgradeWeak, Upgrade, Downgrade, DowngradeToUpgradeable}
+use Rattle.spin_world_rw.specs.declared.rw.RwCall.TheVariants.{TryRead, Read, TryUpgradeableRead, UpgradeableRead, TryUpgrade, TryUpgradeWeak, Upgrade, Downgrade, DowngradeToUpgradeable}
 use Rattle.spin_world_rw.specs.declared.rw.RwPoint.{RwPoint}
-use Rattle.spin_world_rw.specs.declared.rw.RwPoint.TheVariants.{First}
-use Rattle.spin_world_core.specs.Calls.{Mark}
+use Rattle.spin_world_rw.specs.declared.rw.RwPoint.TheVariants.{First, Exchange, Asking}
+use Rattle.spin_world_core.specs.Calls.{Asked, Mark, turns_to, gives_back}
 use Rattle.spin_world_core.specs.Schedules.{State, moves_at, stepped, after, at_first, may_read}
 use Rattle.spin_world_core.specs.Runs.{Seen, scene, opening, entries_of, is_reader}
-use Rattle.spin_world_core.specs.Acts.{becomes}
+use Rattle.spin_world_core.specs.Acts.{becomes, begin_of}
 use Rattle.spin_world_core.specs.Users.{seen_after, passes, ReadsAgreeAcross}
-use Rattle.spin_step.specs.Readers.{upgrade}
-use Rattle.spin_world_rw.specs.Rw.{granted, rw_machine}
-use Rattle.spin_world_rw.specs.Standing.{StandTogether, KeepsWritersOut, less, Downgrades, readers_gone, StaysUpgradable, upgrades, Opens, converts}
-use Rattle.spin_world_rw.proofs.Owed.{holder_by, rw_keeping, rw_facts}
+use Rattle.spin_step.specs.Readers.{upgrade, upgrade_asked}
+use Rattle.spin_world_rw.specs.Rw.{granted, asks_of, rw_table, rw_machine}
+use Rattle.spin_world_rw.specs.Standing.{StandTogether, KeepsWritersOut, less, Downgrades, readers_gone, StaysAsking, Opens, converts}
+use Rattle.spin_world_rw.proofs.Owed.{holder_by, rw_notes, rw_keeping, rw_facts}
+use Rattle.spin_world_core.proofs.Stands.{stand_of, entries_at}
+use Rattle.spin_world_core.proofs.Rows.{row_at, looked, starts}
+use Rattle.spin_world_core.proofs.Shapes.{KnowsRow}
 use Rattle.spin_world_core.proofs.Lists.{get-set_same}
 use Rattle.spin_world_core.proofs.Kept.{Invariant}
 use Rattle.spin_world_core.proofs.Every.{kept, good_first, standing, in_call, state-seen_after, good_after}
 use Rattle.spin_world_core.proofs.Schedules.{after-append}
 use Rattle.spin_world_core.proofs.Guards.{ReadsOn, reads_agree_across, seen_after-append}
 
--- Who stands beside an upgradable reader
+-- Who stands beside a reader that asks to upgrade
 
-goes_some : (s : Plain) (p q : ℕ) (step : Option Change) → IsExclusive s → is_holder p upgradable s.holders ≡ true → IsOpenStep s q step → is_holder p upgradable (apply_some s step).holders ≡ true
+goes_some : (s : Plain) (p q : ℕ) (step : Option Change) → IsExclusive s → is_holder p asking s.holders ≡ true → IsOpenStep s q step → is_holder p asking (apply_some s step).holders ≡ true
     → count_kind reading (apply_some s step).holders + bit (passes reader_goes step) ≡ count_kind reading s.holders
 goes_some s p q None alone found may stays = omega arith
 goes_some s p q (Some c) alone found may stays = readers_only_go s p c alone found may.1 stays
@@ -52,10 +56,12 @@ one_party false b e = absurd cc
 keeps_writers_out : (p : ℕ) (k : Kind) (s : Plain) → is_holder p k s.holders ≡ true → KeepsWritersOut p s
 keeps_writers_out p k s found = λ q ne. out q ne s.holders found
   where
-    out : (q : ℕ) → (q ≡ p → ⊥) → (hs : List Holder) → is_holder p k hs ≡ true → (is_empty hs ≡ false) × (is_only q upgradable hs ≡ false)
+    out : (q : ℕ) → (q ≡ p → ⊥) → (hs : List Holder) → is_holder p k hs ≡ true → (is_empty hs ≡ false) × (is_only q upgradable hs ≡ false) × (is_only q asking hs ≡ false)
     out q ne [] found = absurd cc
-    out q ne (h ∷ []) found = (refl, ap (λ b. b && same_kind upgradable h.kind) (ne_eqb h.party q (λ e. ne (sym e ∙ eqb-true h.party p (one_party (h.party == p) (same_kind k h.kind) found)))))
-    out q ne (h ∷ i ∷ hs) found = (refl, refl)
+    out q ne (h ∷ []) found =
+        let another = ne_eqb h.party q (λ e. ne (sym e ∙ eqb-true h.party p (one_party (h.party == p) (same_kind k h.kind) found))) in
+        (refl, ap (λ b. b && same_kind upgradable h.kind) another, ap (λ b. b && same_kind asking h.kind) another)
+    out q ne (h ∷ i ∷ hs) found = (refl, refl, refl)
 
 -- What an upgrade comes to
 
@@ -64,13 +70,45 @@ came : (V : Type 0) (s : State ℕ V RwCall RwPoint) (p w : ℕ) (c : RwCall) (h
 came V s p w c h lost true never = (λ e. refl, λ e. refl)
 came V s p w c h lost false never = (λ e. absurd (never e), λ e. absurd (true≢false (sym e)))
 
+-- a party that has just what its hold says does not ask
+another_kind : (b : Bool) → ((b && false) || false) ≡ true → ⊥
+another_kind true e = false≢true e
+another_kind false e = false≢true e
+
+asks_not : (h : Option Hold) (p : ℕ) → is_holder p asking (entries_at p (stand_of h)).holders ≡ true → ⊥
+asks_not (Some hold.Read) p e = another_kind (p == p) e
+asks_not (Some hold.Upgradable) p e = another_kind (p == p) e
+asks_not (Some hold.Write) p e = another_kind (p == p) e
+asks_not _ p e = false≢true e
+
+does_not_ask : (h : Option Hold) (p : ℕ) (s : Plain) → entries p s ≡ entries_at p (stand_of h) → is_holder p asking s.holders ≡ true → ⊥
+does_not_ask h p s mine found = asks_not h p (ap (λ (e : Entries). is_holder p asking e.holders) (sym mine) ∙ (sym (is_holder-own p asking s.holders) ∙ found))
+
 module _ {V : Type 0} (v : V) (cap : ℕ) where
-  upgraded : (s : State ℕ V RwCall RwPoint) (p : ℕ) (c : RwCall) (l : RwPoint) (h : Option Hold) → upgrades c ≡ true
-      → ((moves_at (rw_machine v cap) s p Step (Some (Calling c l h))).outcome ≡ Answered Granted None) ↔ ((s.words == 2) ≡ true)
-  upgraded s p TryUpgrade l h is = came V s p s.words TryUpgrade h (Answers Refused h) (s.words == 2) (λ e. absurd (cc (e)))
-  upgraded s p TryUpgradeWeak l h is = came V s p s.words TryUpgradeWeak h (Answers Refused h) (s.words == 2) (λ e. absurd (cc (e)))
-  upgraded s p Upgrade l h is = came V s p s.words Upgrade h (GoesOn First) (s.words == 2) (λ e. absurd (cc (e)))
-  upgraded s p _ l h is = absurd (false≢true is)
+  -- where a call has taken no step, or looks alone, its party has what it held as it began
+  stood : (what : Asked) (c : RwCall) (l : RwPoint) (h : Option Hold) (k : ℕ) (p : ℕ) (s : Plain) (span : List Mark) → KnowsRow (rw_table v cap) (rw_notes v cap) c l h p s span (row_at what h (looked k)) → entries p s ≡ entries_at p (stand_of h)
+  stood (turns_to (Some hold.Write) kind) c l h k p s span knows = knows.0.stand
+  stood (turns_to (Some hold.Upgradable) kind) c l h k p s span knows = knows.0.stand
+  stood (turns_to _ kind) c l h k p s span knows = absurd knows
+  stood (gives_back (Some held)) c l h k p s span knows = knows.0.stand
+  stood (gives_back None) c l h k p s span knows = absurd knows
+  stood _ c l h k p s span knows = knows.0.stand
+
+  stood_first : (c : RwCall) (l : RwPoint) (h : Option Hold) (first : Option RwPoint) (p : ℕ) (s : Plain) (span : List Mark) → KnowsRow (rw_table v cap) (rw_notes v cap) c l h p s span (row_at (asks_of c h) h (starts first)) → entries p s ≡ entries_at p (stand_of h)
+  stood_first c l h None p s span knows = absurd knows
+  stood_first c l h (Some first) p s span knows = stood (asks_of c h) c l h 0 p s span knows
+
+  -- who asks is in its upgrade, and goes for the word of a reader that is alone and asks
+  abbrev Upgrades : State ℕ V RwCall RwPoint → ℕ → RwCall → RwPoint → Option Hold → Type 0
+  Upgrades s p c l h = ((moves_at (rw_machine v cap) s p Step (Some (Calling c l h))).outcome ≡ Answered Granted None) ↔ ((s.words == 6) ≡ true)
+
+  upgraded : (s : State ℕ V RwCall RwPoint) (p : ℕ) (c : RwCall) (l : RwPoint) (h : Option Hold) (plain : Plain) (span : List Mark) → (rw_keeping v cap).Knows c l h p plain span → is_holder p asking plain.holders ≡ true → Upgrades s p c l h
+  upgraded s p Upgrade Asking (Some hold.Upgradable) plain span knows found = came V s p s.words Upgrade (Some hold.Upgradable) (GoesOn Asking) (s.words == 6) (λ e. absurd (cc (e)))
+  upgraded s p TryRead (Exchange n) None plain span knows found = absurd (does_not_ask None p plain (stood (asks_of TryRead None) TryRead (Exchange n) None 1 p plain span knows) found)
+  upgraded s p Read (Exchange n) None plain span knows found = absurd (does_not_ask None p plain (stood (asks_of Read None) Read (Exchange n) None 1 p plain span knows) found)
+  upgraded s p TryUpgradeableRead (Exchange n) None plain span knows found = absurd (does_not_ask None p plain (stood (asks_of TryUpgradeableRead None) TryUpgradeableRead (Exchange n) None 1 p plain span knows) found)
+  upgraded s p UpgradeableRead (Exchange n) None plain span knows found = absurd (does_not_ask None p plain (stood (asks_of UpgradeableRead None) UpgradeableRead (Exchange n) None 1 p plain span knows) found)
+  upgraded s p c l h plain span knows found = absurd (does_not_ask h p plain (stood_first c l h (begin_of (rw_table v cap) c h) p plain span knows) found)
 
   -- Over a whole schedule
 
@@ -99,12 +137,12 @@ module _ {V : Type 0} (v : V) (cap : ℕ) where
 
   -- An upgrade opens by releases
 
-  stays_now : (p : ℕ) (seen : Seen ℕ V RwCall RwPoint) (es : List (ℕ × Move RwCall V)) → StaysUpgradable p (rw_machine v cap) seen es → is_holder p upgradable seen.plain.holders ≡ true
+  stays_now : (p : ℕ) (seen : Seen ℕ V RwCall RwPoint) (es : List (ℕ × Move RwCall V)) → StaysAsking p (rw_machine v cap) seen es → is_holder p asking seen.plain.holders ≡ true
   stays_now p seen [] stays = stays
   stays_now p seen (e ∷ es) stays = stays.0
 
-  gone_through : (p : ℕ) (seen : Seen ℕ V RwCall RwPoint) (es : List (ℕ × Move RwCall V)) → Invariant (rw_machine v cap) (rw_keeping v cap) seen → StaysUpgradable p (rw_machine v cap) seen es
-      → (count_kind reading (seen_after (rw_machine v cap) seen es).plain.holders + readers_gone (rw_machine v cap) seen es ≡ count_kind reading seen.plain.holders) × (is_holder p upgradable (seen_after (rw_machine v cap) seen es).plain.holders ≡ true)
+  gone_through : (p : ℕ) (seen : Seen ℕ V RwCall RwPoint) (es : List (ℕ × Move RwCall V)) → Invariant (rw_machine v cap) (rw_keeping v cap) seen → StaysAsking p (rw_machine v cap) seen es
+      → (count_kind reading (seen_after (rw_machine v cap) seen es).plain.holders + readers_gone (rw_machine v cap) seen es ≡ count_kind reading seen.plain.holders) × (is_holder p asking (seen_after (rw_machine v cap) seen es).plain.holders ≡ true)
   gone_through p seen [] here stays = (omega arith, stays)
   gone_through p seen (e ∷ es) here stays =
       let m = rw_machine v cap in
@@ -124,18 +162,20 @@ module _ {V : Type 0} (v : V) (cap : ℕ) where
       let joined = seen_after-append m (opening m n) past further in
       let readers : count_kind reading later.plain.holders + readers_gone m before further ≡ count_kind reading before.plain.holders =
       ap (λ (s : Seen ℕ V RwCall RwPoint). count_kind reading s.plain.holders + readers_gone m before further) joined ∙ gone.0 in
-      let found : is_holder p upgradable later.plain.holders ≡ true = ap (λ (s : Seen ℕ V RwCall RwPoint). is_holder p upgradable s.plain.holders) joined ∙ gone.1 in
+      let found : is_holder p asking later.plain.holders ≡ true = ap (λ (s : Seen ℕ V RwCall RwPoint). is_holder p asking s.plain.holders) joined ∙ gone.1 in
       let here = good n all in
       let alone = alone_when_gone later.plain p here.exclusive found in
-      let left : (is_only p upgradable later.plain.holders ≡ true) ↔ (readers_gone m before further ≡ count_kind reading before.plain.holders) =
+      let left : (is_only p asking later.plain.holders ≡ true) ↔ (readers_gone m before further ≡ count_kind reading before.plain.holders) =
       (λ only. let none = alone.0 only in omega (arith, readers, none), λ all_gone. alone.1 (omega (arith, readers, all_gone))) in
       let now = after m (at_first m n) all in
-      let told : is_only p upgradable later.plain.holders ≡ (now.words == 2) = only-word later.plain p now.words (one_of_each later.plain here.exclusive) found (sym (words_are n all)) in
+      let told : is_only p asking later.plain.holders ≡ (now.words == 6) = only_asking-word later.plain p now.words (one_of_each later.plain here.exclusive) found (sym (words_are n all)) in
+      let state = state-seen_after m (opening m n) all in
       record {
         readers = readers;
         opens = left;
-        granted = λ c l h upgrading there.
-            let step = upgraded now p c l h upgrading in
+        granted = λ c l h there.
+            let sitting = in_call m (rw_keeping v cap) later p c l h here (ap (λ (s : State ℕ V RwCall RwPoint). slice_get s.seats p) state ∙ there) in
+            let step = upgraded now p c l h later.plain (later.span p) sitting.knows found in
             let at = ap (λ o. (moves_at m now p Step o).outcome) there in
             (λ e. left.0 (told ∙ step.0 (sym at ∙ e)), λ e. at ∙ step.1 (sym told ∙ left.1 e));
       }
@@ -196,6 +236,7 @@ module _ {V : Type 0} (v : V) (cap : ℕ) where
   reads_there : (p : ℕ) (c : RwCall) (l : RwPoint) (h : Hold) (s : Plain) (span : List Mark) → converts c ≡ true → (rw_keeping v cap).Knows c l (Some h) p s span → is_reader (entries p s) ≡ true
   reads_there p TryUpgrade l hold.Upgradable s span is knows = ap is_reader knows.0.stand
   reads_there p TryUpgradeWeak l hold.Upgradable s span is knows = ap is_reader knows.0.stand
+  reads_there p Upgrade Asking hold.Upgradable s span is knows = ap is_reader knows.0.stand
   reads_there p Upgrade l hold.Upgradable s span is knows = ap is_reader knows.0.stand
   reads_there p Downgrade l hold.Upgradable s span is knows = ap is_reader knows.0.stand
   reads_there p Downgrade l hold.Write s span is knows = ap is_reader knows.0.stand
@@ -214,7 +255,8 @@ module _ {V : Type 0} (v : V) (cap : ℕ) where
   steps_on : (c : RwCall) (l : RwPoint) (h : Hold) (w : ℕ) (value : Option V) → converts c ≡ true → may_read h ≡ true → ReadsOn ((rw_machine v cap).step w value c l (Some h)).next
   steps_on TryUpgrade l h w value is may = reads_on w (upgrade w) (granted hold.Write) (Answers Refused (Some h)) refl may
   steps_on TryUpgradeWeak l h w value is may = reads_on w (upgrade w) (granted hold.Write) (Answers Refused (Some h)) refl may
-  steps_on Upgrade l h w value is may = reads_on w (upgrade w) (granted hold.Write) (GoesOn First) refl tt
+  steps_on Upgrade Asking h w value is may = reads_on w (upgrade_asked w) (granted hold.Write) (GoesOn Asking) refl tt
+  steps_on Upgrade l h w value is may = tt
   steps_on Downgrade l hold.Write w value is may = refl
   steps_on Downgrade l _ w value is may = refl
   steps_on DowngradeToUpgradeable l h w value is may = refl
@@ -222,7 +264,8 @@ module _ {V : Type 0} (v : V) (cap : ℕ) where
 
   refuses_on : (c : RwCall) (l : RwPoint) (h : Hold) (next : Next RwPoint (Answer V)) → converts c ≡ true → may_read h ≡ true → (rw_machine v cap).refuse c l (Some h) ≡ Some next → ReadsOn next
   refuses_on TryUpgradeWeak l h next is may weak = let same : Answers Refused (Some h) ≡ next = cc (weak) in subst (λ (x : Next RwPoint (Answer V)). ReadsOn x) same may
-  refuses_on Upgrade l h next is may weak = let same : GoesOn First ≡ next = cc (weak) in subst (λ (x : Next RwPoint (Answer V)). ReadsOn x) same tt
+  refuses_on Upgrade Asking h next is may weak = let same : GoesOn Asking ≡ next = cc (weak) in subst (λ (x : Next RwPoint (Answer V)). ReadsOn x) same tt
+  refuses_on Upgrade l h next is may weak = absurd (cc (weak))
   refuses_on TryUpgrade l h next is may weak = absurd (cc (weak))
   refuses_on Downgrade l hold.Write next is may weak = absurd (cc (weak))
   refuses_on Downgrade l _ next is may weak = absurd (cc (weak))

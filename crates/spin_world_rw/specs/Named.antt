@@ -1,6 +1,6 @@
 -- What a read-write lock is: how it opens, how many it lets in, and what each of its calls asks. Where a call begins follows from what it asks.
 use Rattle.std.specs.Prelude.{◌≡◌, ℕ, true, Option, Some, [], ◌∷◌, min}
-use Rattle.spin_step.specs.Plain.{reading, upgradable, to_read, to_read_upgradable, to_write, to_upgrade, fresh}
+use Rattle.spin_step.specs.Plain.{reading, upgradable, to_read, to_read_upgradable, to_write, to_upgrade, to_upgrade_asked, fresh}
 use Rattle.spin_step.specs.Readers.{reader_limit}
 use Rattle.spin_world_core.specs.declared.place.Hold.{Hold}
 use Rattle.spin_world_core.specs.declared.answer.Answer.{Answer}
@@ -29,7 +29,7 @@ pub record IsRw {V : Type 0} (given : V) (cap : ℕ) (m : Machine ℕ V RwCall R
   pub writer_count : (h : Option Hold) → m.asks WriterCount h ≡ counts_writers
   pub try_upgrade : (h : Option Hold) → m.asks TryUpgrade h ≡ tries to_upgrade
   pub try_upgrade_weak : (h : Option Hold) → m.asks TryUpgradeWeak h ≡ tries_weakly to_upgrade
-  pub upgrade : (h : Option Hold) → m.asks Upgrade h ≡ waits to_upgrade
+  pub upgrade : (h : Option Hold) → m.asks Upgrade h ≡ waits to_upgrade_asked
   pub downgrade : (h : Option Hold) → m.asks Downgrade h ≡ turns_to h reading
   pub downgrade_to_upgradeable : (h : Option Hold) → m.asks DowngradeToUpgradeable h ≡ turns_to h upgradable
   pub release : (h : Option Hold) → m.asks Release h ≡ gives_back h

@@ -1,6 +1,6 @@
 -- What users of a read-write lock rely on: who stands beside whom, and when an upgrade opens.
 use Rattle.std.specs.Prelude.{◌≡◌, ℕ, ◌+◌, ◌<◌, ◌≤◌, ◌↔◌, Bool, true, false, Option, Some, None, List, [], ◌∷◌, ◌++◌, length, slice_get, min, max}
-use Rattle.spin_step.specs.Plain.{Plain, reading, upgradable, writing, to_write, to_upgrade, is_open_to, is_holder, count_kind, upgraders, rw_word}
+use Rattle.spin_step.specs.Plain.{Plain, reading, asking, writing, to_write, to_upgrade, to_upgrade_asked, is_open_to, is_holder, count_kind, upgraders, rw_word}
 use Rattle.spin_step.specs.Readers.{reader_limit, reader_goes}
 use Rattle.spin_world_core.specs.declared.answer.Answer.{Answer}
 use Rattle.spin_world_core.specs.declared.answer.Answer.TheVariants.{Granted, Done}
@@ -27,7 +27,7 @@ pub record StandTogether (cap w : ℕ) (s : Plain) : Type 0 where
 
 -- no other party may become the writer, neither as it comes nor by an upgrade
 abbrev pub KeepsWritersOut : ℕ → Plain → Type 0
-KeepsWritersOut p s = (q : ℕ) → (q ≡ p → ⊥) → (is_open_to s q to_write ≡ false) × (is_open_to s q to_upgrade ≡ false)
+KeepsWritersOut p s = (q : ℕ) → (q ≡ p → ⊥) → (is_open_to s q to_write ≡ false) × (is_open_to s q to_upgrade ≡ false) × (is_open_to s q to_upgrade_asked ≡ false)
 
 -- what a party holds after its downgrade
 abbrev pub less : RwCall → Option Hold
@@ -51,32 +51,25 @@ Downgrades m n past =
 abbrev pub readers_gone : {W V C L A : Type 0} → Machine W V C L A → Seen W V C L → List (ℕ × Move C V) → ℕ
 readers_gone m seen es = steps_made reader_goes m seen es
 
--- the party is the upgradable holder before and after each of these entries
-abbrev pub StaysUpgradable : {W V C L A : Type 0} → ℕ → Machine W V C L A → Seen W V C L → List (ℕ × Move C V) → Type 0
-StaysUpgradable p m seen [] = is_holder p upgradable seen.plain.holders ≡ true
-StaysUpgradable p m seen (e ∷ es) = (is_holder p upgradable seen.plain.holders ≡ true) × StaysUpgradable p m (scene m seen e.0 e.1).after es
+-- the party is the holder that asks, before and after each of these entries
+abbrev pub StaysAsking : {W V C L A : Type 0} → ℕ → Machine W V C L A → Seen W V C L → List (ℕ × Move C V) → Type 0
+StaysAsking p m seen [] = is_holder p asking seen.plain.holders ≡ true
+StaysAsking p m seen (e ∷ es) = (is_holder p asking seen.plain.holders ≡ true) × StaysAsking p m (scene m seen e.0 e.1).after es
 
--- the calls that upgrade
-abbrev pub upgrades : RwCall → Bool
-upgrades TryUpgrade = true
-upgrades TryUpgradeWeak = true
-upgrades Upgrade = true
-upgrades _ = false
-
--- Beside an upgradable holder stand only readers that stood there before, and the upgrade is open exactly when all that stood have gone
+-- Beside a holder that asks stand only readers that stood there when it asked, and its upgrade is open exactly when all that stood have gone
 pub record OpensByReleases {V : Type 0} (m : Machine ℕ V RwCall RwPoint (Answer V)) (n : ℕ) (past further : List (ℕ × Move RwCall V)) (p : ℕ) : Type 0 where
   -- the readers never grow, and each that goes is one less
   pub readers :
       count_kind reading (seen_after m (opening m n) (past ++ further)).plain.holders + readers_gone m (seen_after m (opening m n) past) further ≡ count_kind reading (seen_after m (opening m n) past).plain.holders
   pub opens :
-      (is_open_to (seen_after m (opening m n) (past ++ further)).plain p to_upgrade ≡ true) ↔ (readers_gone m (seen_after m (opening m n) past) further ≡ count_kind reading (seen_after m (opening m n) past).plain.holders)
+      (is_open_to (seen_after m (opening m n) (past ++ further)).plain p to_upgrade_asked ≡ true) ↔ (readers_gone m (seen_after m (opening m n) past) further ≡ count_kind reading (seen_after m (opening m n) past).plain.holders)
   -- and exactly then the next step of the holder's own upgrade is granted
-  pub granted : (c : RwCall) (l : RwPoint) (h : Option Hold) → upgrades c ≡ true
+  pub granted : (c : RwCall) (l : RwPoint) (h : Option Hold)
       → slice_get (after m (at_first m n) (past ++ further)).seats p ≡ Some (Calling c l h)
       → (outcome_after m n (past ++ further) p Step ≡ Answered Granted None) ↔ (readers_gone m (seen_after m (opening m n) past) further ≡ count_kind reading (seen_after m (opening m n) past).plain.holders)
 
 abbrev pub Opens : {V : Type 0} → Machine ℕ V RwCall RwPoint (Answer V) → ℕ → List (ℕ × Move RwCall V) → List (ℕ × Move RwCall V) → Type 0
-Opens m n past further = (p : ℕ) → StaysUpgradable p m (seen_after m (opening m n) past) further → OpensByReleases m n past further p
+Opens m n past further = (p : ℕ) → StaysAsking p m (seen_after m (opening m n) past) further → OpensByReleases m n past further p
 
 -- the calls that change what a party holds and keep its guard
 abbrev pub converts : RwCall → Bool

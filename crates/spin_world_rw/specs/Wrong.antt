@@ -1,6 +1,6 @@
 -- Read-write locks that are wrong, each in one part of its table, and schedules on which the laws refuse them. Where its steps are wrong, so are the plain steps that they read as.
 use Rattle.std.specs.Prelude.{ℕ, zero, suc, ◌+◌, ◌-◌, ◌/◌, ◌%◌, ◌==◌, true, false, Option, Some, None, List, [], ◌∷◌, ◌++◌, if◌then◌else◌}
-use Rattle.spin_step.specs.Plain.{reading, upgradable, writing, weight, to_read, to_write, to_upgrade, to_lock_starving, Change, gets, releases}
+use Rattle.spin_step.specs.Plain.{reading, upgradable, asking, writing, weight, to_read, to_write, to_upgrade, to_upgrade_asked, to_lock_starving, Change, gets, releases, turns}
 use Rattle.spin_world_core.specs.declared.place.Hold.{Hold}
 use Rattle.spin_world_core.specs.declared.place.Hold.TheVariants as hold
 use Rattle.spin_world_core.specs.declared.object.Next.TheVariants.{GoesOn, Answers}
@@ -9,7 +9,7 @@ use Rattle.spin_world_core.specs.declared.answer.Answer.TheVariants.{Refused, Do
 use Rattle.spin_world_rw.specs.declared.rw.RwCall.{RwCall}
 use Rattle.spin_world_rw.specs.declared.rw.RwCall.TheVariants.{TryRead, Read, TryUpgradeableRead, TryWrite, TryWriteWeak, Write, ReaderCount, TryUpgrade, Upgrade, Downgrade, Release}
 use Rattle.spin_world_rw.specs.declared.rw.RwPoint.{RwPoint}
-use Rattle.spin_world_rw.specs.declared.rw.RwPoint.TheVariants.{First, Exchange}
+use Rattle.spin_world_rw.specs.declared.rw.RwPoint.TheVariants.{First, Exchange, Asking}
 use Rattle.spin_world_core.specs.declared.schedule.Move.{Move}
 use Rattle.spin_world_core.specs.declared.schedule.Move.TheVariants.{Begin, Step, Weak}
 use Rattle.spin_world_core.specs.Machines.{Machine}
@@ -46,6 +46,34 @@ read_alone = (0, Begin TryRead) ∷ (0, Step) ∷ (0, Step) ∷ []
 
 abbrev pub upgrade_beside_a_reader : {V : Type 0} → List (ℕ × Move RwCall V)
 upgrade_beside_a_reader = read_alone ++ (1, Begin TryUpgradeableRead) ∷ (1, Step) ∷ (1, Step) ∷ (1, Begin TryUpgrade) ∷ (1, Step) ∷ []
+
+-- `upgrade` asks and is granted in one event, while readers stand
+abbrev pub upgrade_unasked : {V : Type 0} → RwCall → RwPoint → Option Hold → RwAct V
+upgrade_unasked Upgrade l h = exchange (stores (weight writing)) (λ p. gets p to_upgrade_asked) (granted hold.Write) (λ w. GoesOn Asking)
+upgrade_unasked c l h = act_of 9 c l h
+
+abbrev pub upgrades_unasked : {V : Type 0} → V → RwMachine V
+upgrades_unasked v = with_steps v upgrade_unasked
+
+abbrev pub ask_beside_a_reader : {V : Type 0} → List (ℕ × Move RwCall V)
+ask_beside_a_reader = read_alone ++ (1, Begin TryUpgradeableRead) ∷ (1, Step) ∷ (1, Step) ∷ (1, Begin Upgrade) ∷ (1, Step) ∷ []
+
+-- `upgrade` asks twice
+abbrev pub ask_twice : {V : Type 0} → RwCall → RwPoint → Option Hold → RwAct V
+ask_twice Upgrade First h = store (λ w. true) (adds (weight asking - weight upgradable)) (λ p. turns p upgradable asking) (GoesOn (Exchange 0))
+ask_twice Upgrade (Exchange n) h = store (λ w. true) (adds (weight asking - weight upgradable)) (λ p. turns p upgradable asking) (GoesOn Asking)
+ask_twice c l h = act_of 9 c l h
+
+abbrev pub asks_twice : {V : Type 0} → V → RwMachine V
+asks_twice v = with_steps v ask_twice
+
+-- `downgrade` leaves a reader that asks in the word
+abbrev pub downgrade_asking : {V : Type 0} → RwCall → RwPoint → Option Hold → RwAct V
+downgrade_asking Downgrade l (Some hold.Write) = store (tells writing) (adds (weight reading + weight asking - weight upgradable - weight writing)) (λ p. turns p writing reading) (Answers Done (Some hold.Read))
+downgrade_asking c l h = act_of 9 c l h
+
+abbrev pub downgrades_asking : {V : Type 0} → V → RwMachine V
+downgrades_asking v = with_steps v downgrade_asking
 
 -- `downgrade` frees the writer, and then takes a reader's place
 abbrev pub downgrade_in_two : {V : Type 0} → RwCall → RwPoint → Option Hold → RwAct V
@@ -110,6 +138,12 @@ upgrades_anew v = with_steps v upgrade_anew
 abbrev pub upgrade_alone : {V : Type 0} → List (ℕ × Move RwCall V)
 upgrade_alone = (0, Begin TryUpgradeableRead) ∷ (0, Step) ∷ (0, Step) ∷ (0, Begin Upgrade) ∷ (0, Step) ∷ []
 
+abbrev pub two_steps_of_an_upgrade : {V : Type 0} → List (ℕ × Move RwCall V)
+two_steps_of_an_upgrade = upgrade_alone ++ (0, Step) ∷ []
+
+abbrev pub read_beside_an_asking_reader : {V : Type 0} → List (ℕ × Move RwCall V)
+read_beside_an_asking_reader = upgrade_alone ++ (1, Begin TryRead) ∷ (1, Step) ∷ []
+
 -- `reader_count` leaves the upgradable reader out
 abbrev pub count_without_upgradable : {V : Type 0} → RwCall → RwPoint → Option Hold → RwAct V
 count_without_upgradable ReaderCount l h = load (λ w. Answers (Count (w / weight reading)) h)
@@ -120,6 +154,17 @@ counts_without_upgradable v = with_steps v count_without_upgradable
 
 abbrev pub count_beside_an_upgradable : {V : Type 0} → List (ℕ × Move RwCall V)
 count_beside_an_upgradable = (0, Begin TryUpgradeableRead) ∷ (0, Step) ∷ (0, Step) ∷ (1, Begin ReaderCount) ∷ (1, Step) ∷ []
+
+-- `reader_count` leaves the reader out that asks to upgrade
+abbrev pub count_without_asking : {V : Type 0} → RwCall → RwPoint → Option Hold → RwAct V
+count_without_asking ReaderCount l h = load (λ w. Answers (Count (if tells upgradable w then suc (w / weight reading) else w / weight reading)) h)
+count_without_asking c l h = act_of 9 c l h
+
+abbrev pub counts_without_asking : {V : Type 0} → V → RwMachine V
+counts_without_asking v = with_steps v count_without_asking
+
+abbrev pub count_beside_an_asking_reader : {V : Type 0} → List (ℕ × Move RwCall V)
+count_beside_an_asking_reader = upgrade_alone ++ (1, Begin ReaderCount) ∷ (1, Step) ∷ []
 
 -- `read` looks for ever
 abbrev pub look_for_ever : {V : Type 0} → RwCall → RwPoint → Option Hold → RwAct V

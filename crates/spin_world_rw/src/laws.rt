@@ -17,7 +17,8 @@ pub fn a_read_write_lock_is_what_its_calls_ask<V: Copy>()
     ensures { (object : Rw V) → IsRw object.value object.cap (⟦<Rw<V> as Object>⟧.machine object) }
 {}
 
-/// Readers stand beside at most one upgradable reader, and a writer alone. No more hold than the cap says.
+/// Readers stand beside at most one that may upgrade, whether it asks or not, and a writer alone. No more hold than the
+/// cap says.
 pub fn readers_stand_beside_no_writer<V: Copy>()
     ensures { (object : Rw V) (n : ℕ) (past : List (ℕ × Move RwCall V)) → let m = ⟦<Rw<V> as Object>⟧.machine object in StandTogether object.cap (after m (at_first m n) past).words (seen_after m (opening m n) past).plain }
 {}
@@ -32,8 +33,8 @@ pub fn a_downgrade_keeps_writers_out<V: Copy>()
     ensures { (object : Rw V) (n : ℕ) (past : List (ℕ × Move RwCall V)) → Downgrades (⟦<Rw<V> as Object>⟧.machine object) n past }
 {}
 
-/// While a party stays the upgradable reader no reader comes, and its upgrade is open exactly when as many readers have
-/// gone as stood beside it: not before, and then its next step is granted.
+/// While a party asks to upgrade no reader comes, and its upgrade is open exactly when as many readers have gone as
+/// stood beside it when it asked: not before, and then its next step is granted.
 pub fn an_upgrade_opens_by_releases<V: Copy>()
     ensures { (object : Rw V) (n : ℕ) (past further : List (ℕ × Move RwCall V)) → Opens (⟦<Rw<V> as Object>⟧.machine object) n past further }
 {}

@@ -4,11 +4,23 @@ ghost use Rattle.spin_world_core.specs.Operations.{Stepwise};
 ghost use Rattle.spin_world_core.specs.Runs.{KeepsAll, MomentsAll, CountsAll};
 ghost use Rattle.spin_world_rw.specs.Rw.{rw_machine};
 ghost use Rattle.spin_world_rw.specs.Named.{IsRw};
-ghost use Rattle.spin_world_rw.specs.Wrong.{upgrades_at_once, upgrade_beside_a_reader, downgrades_in_two, downgrade_alone, reads_and_regrets, reads_and_regrets_unseen, read_beside_a_writer, reads_by_a_mask, writes_by_chance, write_alone, upgrades_anew, upgrade_alone, counts_without_upgradable, count_beside_an_upgradable, looks_for_ever, two_looks, looks_twice, looks_first, one_look, tries_for_ever, read_alone, reads_in_one, reads_by_a_guess, guess_beside_a_reader, reads_weakly, read_by_chance, writes_strongly, waits_strongly, upgrades_by_chance, upgrade_by_chance, never_releases, upgrades_any_reader, writes_by_reading, never_writes, opens_written, forgets_its_value, has_no_owner};
+ghost use Rattle.spin_world_rw.specs.Wrong.{upgrades_at_once, upgrade_beside_a_reader, upgrades_unasked, ask_beside_a_reader, asks_twice, two_steps_of_an_upgrade, downgrades_asking, read_beside_an_asking_reader, counts_without_asking, count_beside_an_asking_reader, downgrades_in_two, downgrade_alone, reads_and_regrets, reads_and_regrets_unseen, read_beside_a_writer, reads_by_a_mask, writes_by_chance, write_alone, upgrades_anew, upgrade_alone, counts_without_upgradable, count_beside_an_upgradable, looks_for_ever, two_looks, looks_twice, looks_first, one_look, tries_for_ever, read_alone, reads_in_one, reads_by_a_guess, guess_beside_a_reader, reads_weakly, read_by_chance, writes_strongly, waits_strongly, upgrades_by_chance, upgrade_by_chance, never_releases, upgrades_any_reader, writes_by_reading, never_writes, opens_written, forgets_its_value, has_no_owner};
 
 /// A `try_upgrade` that is granted while a reader stands: the plain step isn't open.
 pub fn an_upgrade_is_refused_beside_readers<V: Copy>()
     ensures { (value : V) → KeepsAll (upgrades_at_once value) 2 upgrade_beside_a_reader → ⊥ }
+{}
+
+/// An `upgrade` that asks and is granted in one event while a reader stands, and one that asks twice: the plain step isn't
+/// open to a party that has not asked, or has.
+pub fn an_upgrade_asks_once<V: Copy>()
+    ensures unasked { (value : V) → KeepsAll (upgrades_unasked value) 2 ask_beside_a_reader → ⊥ }
+    ensures twice { (value : V) → KeepsAll (asks_twice value) 1 two_steps_of_an_upgrade → ⊥ }
+{}
+
+/// A `downgrade` of the writer that leaves the word of a reader that asks: it tells a holder who isn't there.
+pub fn a_downgrade_asks_nothing<V: Copy>()
+    ensures { (value : V) → KeepsAll (downgrades_asking value) 1 downgrade_alone → ⊥ }
 {}
 
 /// A `downgrade` that frees the writer and then takes a reader's place: its one step changes what the party holds.
@@ -23,9 +35,10 @@ pub fn a_refused_try_adds_no_reader<V: Copy>()
     ensures unseen { (value : V) → KeepsAll (reads_and_regrets_unseen value) 2 read_beside_a_writer → ⊥ }
 {}
 
-/// A `try_read` that looks for the upgradable reader alone, and so comes beside a writer.
+/// A `try_read` that looks for the upgradable reader alone, and so comes beside a writer, and beside a reader that asks.
 pub fn a_reader_stays_out_beside_a_writer<V: Copy>()
-    ensures { (value : V) → KeepsAll (reads_by_a_mask value) 2 read_beside_a_writer → ⊥ }
+    ensures writer { (value : V) → KeepsAll (reads_by_a_mask value) 2 read_beside_a_writer → ⊥ }
+    ensures asking { (value : V) → KeepsAll (reads_by_a_mask value) 2 read_beside_an_asking_reader → ⊥ }
 {}
 
 /// A strong `try_write` that refuses where nobody holds: the refusal has no moment.
@@ -38,9 +51,10 @@ pub fn an_upgrade_never_lets_go<V: Copy>()
     ensures { (value : V) → KeepsAll (upgrades_anew value) 1 upgrade_alone → ⊥ }
 {}
 
-/// A `reader_count` that leaves the upgradable reader out: so many read at no moment of the call.
+/// A `reader_count` that leaves the upgradable reader out, or only where it asks: so many read at no moment of the call.
 pub fn a_count_tells_the_upgradable_reader<V: Copy>()
-    ensures { (value : V) → MomentsAll (counts_without_upgradable value) 2 count_beside_an_upgradable → ⊥ }
+    ensures upgradable { (value : V) → MomentsAll (counts_without_upgradable value) 2 count_beside_an_upgradable → ⊥ }
+    ensures asking { (value : V) → MomentsAll (counts_without_asking value) 2 count_beside_an_asking_reader → ⊥ }
 {}
 
 /// A `read` that looks for ever, and one that looks twice: undisturbed it has to be answered by its second step. And a

@@ -10,11 +10,11 @@ use spin_world_core::{Answer, Hold, Next, Object, Stepped};
 /// A call of an [`Rw`]. A try that names no cause is refused where what it asks is not open at a moment of the call.
 #[derive(Clone, Copy, Debug, PartialEq, Eq)]
 pub enum RwCall {
-    /// Comes to read, or is refused: beside the upgradable reader or the writer, or where as many hold as may.
+    /// Comes to read, or is refused: beside the writer or a reader that asks to upgrade, or where as many hold as may.
     TryRead,
     /// Comes to read, in as many steps as it needs.
     Read,
-    /// Comes to read and may upgrade, or is refused for the same causes.
+    /// Comes to read and may upgrade, or is refused for the same causes, or beside another that may.
     TryUpgradeableRead,
     /// Comes to read and may upgrade, in as many steps as it needs.
     UpgradeableRead,
@@ -32,7 +32,7 @@ pub enum RwCall {
     TryUpgrade,
     /// The same by a weak exchange, which may also refuse without cause.
     TryUpgradeWeak,
-    /// The upgradable reader becomes the writer, in as many steps as it needs.
+    /// The upgradable reader asks to become the writer, and becomes it in as many steps as it needs.
     Upgrade,
     /// The writer or the upgradable reader becomes a reader, in one step.
     Downgrade,
@@ -42,12 +42,14 @@ pub enum RwCall {
     Release,
 }
 
-/// Which step of its call comes next. Only a call that comes to read has a second one.
+/// Which step of its call comes next. Only a call that comes to read, or that waits to upgrade, has a second one.
 #[derive(Clone, Copy, Debug, PartialEq, Eq)]
 pub enum RwPoint {
     First,
     /// The exchange of this word, which the call has found.
     Exchange(usize),
+    /// The exchange of a reader that has asked to upgrade.
+    Asking,
 }
 
 /// A lock of readers, one upgradable reader and one writer, in one word.
@@ -178,12 +180,14 @@ impl<V: Copy> Object for Rw<V> {
         local: RwPoint,
         holds: Option<Hold>,
     ) -> Option<Next<RwPoint, Answer<V>>> {
-        let _ = local;
         match call {
             RwCall::TryWriteWeak | RwCall::TryUpgradeWeak => {
                 Some(Next::Answers(Answer::Refused, holds))
             }
-            RwCall::Write | RwCall::Upgrade => Some(Next::GoesOn(RwPoint::First)),
+            RwCall::Write => Some(Next::GoesOn(RwPoint::First)),
+            RwCall::Upgrade if matches!(local, RwPoint::Asking) => {
+                Some(Next::GoesOn(RwPoint::Asking))
+            }
             _ => None,
         }
     }
@@ -232,7 +236,18 @@ impl<V: Copy> Object for Rw<V> {
             RwCall::TryUpgrade | RwCall::TryUpgradeWeak => {
                 exchange(words, rw::upgrade(words), Hold::Write, refused)
             }
-            RwCall::Upgrade => exchange(words, rw::upgrade(words), Hold::Write, again),
+            RwCall::Upgrade => {
+                let asked = Next::GoesOn(RwPoint::Asking);
+                match local {
+                    RwPoint::Asking => exchange(
+                        words,
+                        rw::upgrade_asked(words),
+                        Hold::Write,
+                        asked,
+                    ),
+                    _ => stay(rw::ask(words), asked),
+                }
+            }
             RwCall::Downgrade => done(
                 match holds {
                     Some(Hold::Write) => rw::write_to_read(words),

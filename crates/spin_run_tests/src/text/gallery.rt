@@ -278,18 +278,20 @@ pub const GALLERY: &[Worked] = &[
          0 begin try_upgradeable_read\n\
          0 step\n\
          0 step\n\
+         0 begin upgrade\n\
+         0 step\n\
          1 begin try_read\n\
          1 step\n\
-         0 begin try_upgrade\n\
          0 step\n\
         ",
         "1 0 begun: 0\n\
          2 0 going on: 0\n\
          3 0 answer granted from 1: 2\n\
-         4 1 begun: 2\n\
-         5 1 answer refused from 4: 2\n\
-         6 0 begun: 2\n\
-         7 0 answer granted from 6: 1\n\
+         4 0 begun: 2\n\
+         5 0 going on: 6\n\
+         6 1 begun: 6\n\
+         7 1 answer refused from 6: 6\n\
+         8 0 answer granted from 4: 1\n\
          end: 1 value 5\n\
         ",
     ),
@@ -302,17 +304,23 @@ pub const GALLERY: &[Worked] = &[
          0 begin downgrade_to_upgradeable\n\
          0 step\n\
          1 step\n\
+         1 step\n\
          0 begin release\n\
          0 step\n\
+         1 begin release\n\
+         1 step\n\
         ",
         "1 0 begun: 0\n\
          2 0 answer granted from 1: 1\n\
          3 1 begun: 1\n\
          4 0 begun: 1\n\
          5 0 answer done from 4: 2\n\
-         6 1 answer refused from 3: 2\n\
-         7 0 begun: 2\n\
-         8 0 answer done from 7: 0\n\
+         6 1 going on: 2\n\
+         7 1 answer granted from 3: 10\n\
+         8 0 begun: 10\n\
+         9 0 answer done from 8: 8\n\
+         10 1 begun: 8\n\
+         11 1 answer done from 10: 0\n\
          end: 0 value 5\n\
         ",
     ),
@@ -350,10 +358,10 @@ pub const GALLERY: &[Worked] = &[
          2 0 going on: 0\n\
          3 1 begun: 0\n\
          4 1 going on: 0\n\
-         5 1 answer granted from 3: 4\n\
-         6 0 going on: 4\n\
-         7 0 answer granted from 1: 8\n\
-         end: 8 value 1\n\
+         5 1 answer granted from 3: 8\n\
+         6 0 going on: 8\n\
+         7 0 answer granted from 1: 16\n\
+         end: 16 value 1\n\
         ",
     ),
     (
@@ -375,18 +383,18 @@ pub const GALLERY: &[Worked] = &[
         ",
         "1 0 begun: 0\n\
          2 0 going on: 0\n\
-         3 0 answer granted from 1: 4\n\
-         4 1 begun: 4\n\
-         5 1 going on: 4\n\
-         6 1 answer granted from 4: 6\n\
-         7 2 begun: 6\n\
-         8 2 answer refused from 7: 6\n\
-         9 1 begun: 6\n\
-         10 1 answer done from 9: 8\n\
-         11 2 begun: 8\n\
-         12 2 answer refused from 11: 8\n\
-         13 0 value 1: 8\n\
-         end: 8 value 1\n\
+         3 0 answer granted from 1: 8\n\
+         4 1 begun: 8\n\
+         5 1 going on: 8\n\
+         6 1 answer granted from 4: 10\n\
+         7 2 begun: 10\n\
+         8 2 answer refused from 7: 10\n\
+         9 1 begun: 10\n\
+         10 1 answer done from 9: 16\n\
+         11 2 begun: 16\n\
+         12 2 answer refused from 11: 16\n\
+         13 0 value 1: 16\n\
+         end: 16 value 1\n\
         ",
     ),
     (
@@ -404,14 +412,14 @@ pub const GALLERY: &[Worked] = &[
         ",
         "1 0 begun: 0\n\
          2 0 going on: 0\n\
-         3 0 answer granted from 1: 4\n\
-         4 1 begun: 4\n\
-         5 1 going on: 4\n\
-         6 0 begun: 4\n\
+         3 0 answer granted from 1: 8\n\
+         4 1 begun: 8\n\
+         5 1 going on: 8\n\
+         6 0 begun: 8\n\
          7 0 answer done from 6: 0\n\
          8 1 going on: 0\n\
-         9 1 answer granted from 4: 4\n\
-         end: 4 value 5\n\
+         9 1 answer granted from 4: 8\n\
+         end: 8 value 5\n\
         ",
     ),
     (

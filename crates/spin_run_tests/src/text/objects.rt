@@ -137,7 +137,7 @@ pub fn are_words_of(
     match header {
         Header::Flag { .. } => first == all.writing,
         Header::Fair { .. } => first == sum(all.starvers, 2, all.writing),
-        Header::Rw { .. } => first == sum(all.reading, 4, sum(all.upgradable, 2, all.writing)),
+        Header::Rw { .. } => first == sum(all.reading, 8, sum(all.upgradable, 2, all.writing)),
         Header::Once { .. } => first == if has_value { 2 } else { 0 },
         Header::Ticket { .. } => first.checked_sub(second.unwrap_or(0)) == Some(all.tickets),
         Header::Barrier { n, .. } => {

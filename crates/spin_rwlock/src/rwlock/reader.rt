@@ -38,8 +38,8 @@ impl<'a, T, K: Kind, R> SharedGuard<'a, T, K, R> {
         }
     }
 
-    /// The value for as long as the lock lives. The reader stays for good, so that nobody writes any more, and where it
-    /// may upgrade nobody comes any more.
+    /// The value for as long as the lock lives. The reader stays for good, so that nobody writes any more; and where it
+    /// is one that may upgrade, no other such comes any more.
     ///
     /// Example: the test `a_leaked_reader_stays`.
     pub fn leak(this: Self) -> &'a T

@@ -4,7 +4,7 @@ ghost use Rattle.spin_core.specs.Cell.{reads};
 ghost use Rattle.spin_core.specs.Plays.{becomes, exchanges};
 ghost use Rattle.spin_rwlock.specs.Rw.{IsRw, IsRwWord, looks, rw_ways, use_of_view, IsLent};
 ghost use Rattle.spin_rwlock.specs.declared.rwlock.rule.View.{View};
-ghost use Rattle.spin_rwlock.specs.declared.rwlock.rule.View.TheVariants.{Idle, Reading, Upgradable, Writing};
+ghost use Rattle.spin_rwlock.specs.declared.rwlock.rule.View.TheVariants.{Idle, Reading, Upgradable, Asking, Writing};
 
 use spin_core::cell::{Cell, Permit, Play, Rule, WritePermit};
 use spin_step::rw;
@@ -14,6 +14,8 @@ const READER: u64 = rw::READER as u64;
 
 const UPGRADABLE: u64 = rw::UPGRADABLE as u64;
 
+const ASKING: u64 = rw::ASKING as u64;
+
 const WRITER: u64 = rw::WRITER as u64;
 
 /// What a party is to the lock.
@@ -22,6 +24,8 @@ pub enum View {
     Idle,
     Reading,
     Upgradable,
+    /// It reads still, and has asked to become the writer.
+    Asking,
     Writing,
 }
 
@@ -71,6 +75,18 @@ struct Upgrades;
 
 impl Play<View> for Upgrades {
     ghost then = { exchanges (λ _. Writing) Upgradable };
+}
+
+struct Asks;
+
+impl Play<View> for Asks {
+    ghost then = { becomes Asking };
+}
+
+struct UpgradesAsked;
+
+impl Play<View> for UpgradesAsked {
+    ghost then = { exchanges (λ _. Writing) Asking };
 }
 
 struct ReadsOn;
@@ -205,6 +221,30 @@ pub(super) fn upgrade<T>(party: Party<'_, T>) -> Result<Writer<'_, T>, Party<'_,
     let next = rw::upgrade(rw::UPGRADABLE).unwrap();
     let (found, permit) = party.exchange::<Upgrades>(UPGRADABLE, next as u64);
     if found == UPGRADABLE {
+        Ok(permit.into_writer())
+    } else {
+        Err(permit)
+    }
+}
+
+/// The upgradable reader asks to become the writer, as `rw::ask` has it: from now on no reader comes.
+pub(super) fn ask<T>(party: Party<'_, T>) -> Party<'_, T>
+    requires { IsLent party Upgradable }
+    ensures { IsLent result Asking × (result.value ≡ party.entry.value) }
+{
+    party.add::<Asks>(ASKING).1
+}
+
+/// The reader that asked becomes the writer, or goes on asking beside another holder.
+pub(super) fn upgrade_asked<T>(party: Party<'_, T>) -> Result<Writer<'_, T>, Party<'_, T>>
+    requires { IsLent party Asking }
+    ensures granted { IfOk result (λ writer. (writer.view ≡ Writing) × (party.entry.value ≡ Some writer.value)) }
+    ensures refused { IfErr result (λ still. IsLent still Asking × (still.value ≡ party.entry.value)) }
+{
+    let expected = UPGRADABLE + ASKING;
+    let next = rw::upgrade_asked(rw::UPGRADABLE + rw::ASKING).unwrap();
+    let (found, permit) = party.exchange::<UpgradesAsked>(expected, next as u64);
+    if found == expected {
         Ok(permit.into_writer())
     } else {
         Err(permit)

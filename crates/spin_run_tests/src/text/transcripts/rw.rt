@@ -15,6 +15,7 @@ pub const RW: &[Worked] = &[
          1 step\n\
          0 begin upgrade\n\
          0 step\n\
+         0 step\n\
         ",
         "1 0 begun: 0\n\
          2 0 answer granted from 1: 1\n\
@@ -24,7 +25,8 @@ pub const RW: &[Worked] = &[
          6 0 answer done from 5: 2\n\
          7 1 passed over: 2\n\
          8 0 begun: 2\n\
-         9 0 answer granted from 8: 1\n\
+         9 0 going on: 6\n\
+         10 0 answer granted from 8: 1\n\
          end: 1 value 1\n\
         ",
     ),
@@ -48,13 +50,13 @@ pub const RW: &[Worked] = &[
         ",
         "1 0 begun: 0\n\
          2 0 going on: 0\n\
-         3 0 answer granted from 1: 4\n\
-         4 1 begun: 4\n\
-         5 1 going on: 4\n\
-         6 1 answer granted from 4: 6\n\
-         7 1 begun: 6\n\
-         8 1 answer refused from 7: 6\n\
-         9 0 begun: 6\n\
+         3 0 answer granted from 1: 8\n\
+         4 1 begun: 8\n\
+         5 1 going on: 8\n\
+         6 1 answer granted from 4: 10\n\
+         7 1 begun: 10\n\
+         8 1 answer refused from 7: 10\n\
+         9 0 begun: 10\n\
          10 0 answer done from 9: 2\n\
          11 1 begun: 2\n\
          12 1 answer refused from 11: 2\n\
@@ -84,19 +86,52 @@ pub const RW: &[Worked] = &[
         ",
         "1 0 begun: 0\n\
          2 0 going on: 0\n\
-         3 0 answer granted from 1: 4\n\
-         4 1 begun: 4\n\
-         5 1 going on: 4\n\
-         6 1 answer granted from 4: 6\n\
-         7 1 begun: 6\n\
-         8 1 answer refused from 7: 6\n\
-         9 0 begun: 6\n\
+         3 0 answer granted from 1: 8\n\
+         4 1 begun: 8\n\
+         5 1 going on: 8\n\
+         6 1 answer granted from 4: 10\n\
+         7 1 begun: 10\n\
+         8 1 answer refused from 7: 10\n\
+         9 0 begun: 10\n\
          10 0 answer done from 9: 2\n\
          11 1 begun: 2\n\
          12 1 answer refused from 11: 2\n\
          13 1 begun: 2\n\
          14 1 passed over: 2\n\
          15 1 answer granted from 13: 1\n\
+         end: 1 value 1\n\
+        ",
+    ),
+    (
+        "while an upgradable reader asks, readers only go",
+        "rw 1 3 3\n\
+         0 begin upgradeable_read\n\
+         0 step\n\
+         0 step\n\
+         1 begin try_read\n\
+         1 step\n\
+         1 step\n\
+         0 begin upgrade\n\
+         0 step\n\
+         2 begin try_read\n\
+         2 step\n\
+         1 begin release\n\
+         1 step\n\
+         0 step\n\
+        ",
+        "1 0 begun: 0\n\
+         2 0 going on: 0\n\
+         3 0 answer granted from 1: 2\n\
+         4 1 begun: 2\n\
+         5 1 going on: 2\n\
+         6 1 answer granted from 4: 10\n\
+         7 0 begun: 10\n\
+         8 0 going on: 14\n\
+         9 2 begun: 14\n\
+         10 2 answer refused from 9: 14\n\
+         11 1 begun: 14\n\
+         12 1 answer done from 11: 6\n\
+         13 0 answer granted from 7: 1\n\
          end: 1 value 1\n\
         ",
     ),
@@ -114,6 +149,11 @@ pub const RW: &[Worked] = &[
          2 begin writer_count\n\
          2 step\n\
          2 begin try_read\n\
+         2 step\n\
+         2 step\n\
+         2 begin release\n\
+         2 step\n\
+         2 begin try_upgradeable_read\n\
          2 step\n\
          2 begin try_write\n\
          2 step\n\
@@ -134,41 +174,48 @@ pub const RW: &[Worked] = &[
         ",
         "1 0 begun: 0\n\
          2 0 going on: 0\n\
-         3 0 answer granted from 1: 4\n\
-         4 1 begun: 4\n\
-         5 1 going on: 4\n\
-         6 1 answer granted from 4: 6\n\
-         7 2 begun: 6\n\
-         8 2 answer 2 from 7: 6\n\
-         9 2 begun: 6\n\
-         10 2 answer 0 from 9: 6\n\
-         11 2 begun: 6\n\
-         12 2 answer refused from 11: 6\n\
-         13 2 begun: 6\n\
-         14 2 answer refused from 13: 6\n\
-         15 1 begun: 6\n\
-         16 1 answer refused from 15: 6\n\
-         17 1 begun: 6\n\
-         18 1 answer done from 17: 4\n\
-         19 2 begun: 4\n\
-         20 2 going on: 4\n\
-         21 2 answer granted from 19: 8\n\
-         22 1 begun: 8\n\
-         23 1 going on: 8\n\
-         24 1 answer granted from 22: 10\n\
-         25 3 begun: 10\n\
-         26 3 answer 3 from 25: 10\n\
-         27 3 begun: 10\n\
-         28 3 answer 0 from 27: 10\n\
-         end: 10 value 1\n\
+         3 0 answer granted from 1: 8\n\
+         4 1 begun: 8\n\
+         5 1 going on: 8\n\
+         6 1 answer granted from 4: 10\n\
+         7 2 begun: 10\n\
+         8 2 answer 2 from 7: 10\n\
+         9 2 begun: 10\n\
+         10 2 answer 0 from 9: 10\n\
+         11 2 begun: 10\n\
+         12 2 going on: 10\n\
+         13 2 answer granted from 11: 18\n\
+         14 2 begun: 18\n\
+         15 2 answer done from 14: 10\n\
+         16 2 begun: 10\n\
+         17 2 answer refused from 16: 10\n\
+         18 2 begun: 10\n\
+         19 2 answer refused from 18: 10\n\
+         20 1 begun: 10\n\
+         21 1 answer refused from 20: 10\n\
+         22 1 begun: 10\n\
+         23 1 answer done from 22: 8\n\
+         24 2 begun: 8\n\
+         25 2 going on: 8\n\
+         26 2 answer granted from 24: 16\n\
+         27 1 begun: 16\n\
+         28 1 going on: 16\n\
+         29 1 answer granted from 27: 18\n\
+         30 3 begun: 18\n\
+         31 3 answer 3 from 30: 18\n\
+         32 3 begun: 18\n\
+         33 3 answer 0 from 32: 18\n\
+         end: 18 value 1\n\
         ",
     ),
-    // Line 17: who holds the lock doesn't come anew.
+    // Line 19: who holds the lock doesn't come anew.
     (
         "a writer goes down to a reader",
         "rw 1 9 2\n\
          0 begin try_write_weak\n\
          0 step\n\
+         1 begin try_read\n\
+         1 step\n\
          1 begin try_upgradeable_read\n\
          1 step\n\
          1 begin writer_count\n\
@@ -190,36 +237,40 @@ pub const RW: &[Worked] = &[
          3 1 begun: 1\n\
          4 1 answer refused from 3: 1\n\
          5 1 begun: 1\n\
-         6 1 answer 1 from 5: 1\n\
-         7 0 begun: 1\n\
-         8 0 answer done from 7: 4\n\
-         9 1 begun: 4\n\
-         10 1 going on: 4\n\
-         11 1 answer granted from 9: 6\n\
-         12 1 begun: 6\n\
-         13 1 answer done from 12: 4\n\
-         14 1 begun: 4\n\
-         15 1 going on: 4\n\
-         16 1 answer granted from 14: 8\n\
-         17 0 passed over: 8\n\
-         end: 8 value 1\n\
+         6 1 answer refused from 5: 1\n\
+         7 1 begun: 1\n\
+         8 1 answer 1 from 7: 1\n\
+         9 0 begun: 1\n\
+         10 0 answer done from 9: 8\n\
+         11 1 begun: 8\n\
+         12 1 going on: 8\n\
+         13 1 answer granted from 11: 10\n\
+         14 1 begun: 10\n\
+         15 1 answer done from 14: 8\n\
+         16 1 begun: 8\n\
+         17 1 going on: 8\n\
+         18 1 answer granted from 16: 16\n\
+         19 0 passed over: 16\n\
+         end: 16 value 1\n\
         ",
     ),
     (
         "an upgradable reader goes down to a reader",
-        "rw 1 9 2\n\
+        "rw 1 9 3\n\
          0 begin upgradeable_read\n\
          0 step\n\
          0 step\n\
          1 begin try_read\n\
          1 step\n\
+         1 step\n\
          0 begin downgrade\n\
          0 step\n\
-         1 begin try_read\n\
-         1 step\n\
-         1 step\n\
+         2 begin try_read\n\
+         2 step\n\
+         2 step\n\
          0 read\n\
          1 read\n\
+         2 read\n\
          0 begin release\n\
          0 step\n\
         ",
@@ -227,19 +278,22 @@ pub const RW: &[Worked] = &[
          2 0 going on: 0\n\
          3 0 answer granted from 1: 2\n\
          4 1 begun: 2\n\
-         5 1 answer refused from 4: 2\n\
-         6 0 begun: 2\n\
-         7 0 answer done from 6: 4\n\
-         8 1 begun: 4\n\
-         9 1 going on: 4\n\
-         10 1 answer granted from 8: 8\n\
-         11 0 value 1: 8\n\
-         12 1 value 1: 8\n\
-         13 0 begun: 8\n\
-         14 0 answer done from 13: 4\n\
-         end: 4 value 1\n\
+         5 1 going on: 2\n\
+         6 1 answer granted from 4: 10\n\
+         7 0 begun: 10\n\
+         8 0 answer done from 7: 16\n\
+         9 2 begun: 16\n\
+         10 2 going on: 16\n\
+         11 2 answer granted from 9: 24\n\
+         12 0 value 1: 24\n\
+         13 1 value 1: 24\n\
+         14 2 value 1: 24\n\
+         15 0 begun: 24\n\
+         16 0 answer done from 15: 16\n\
+         end: 16 value 1\n\
         ",
     ),
+    // Line 12: to ask is no exchange, so it is not weak.
     (
         "a conversion keeps the value",
         "rw 1 9 2\n\
@@ -254,6 +308,8 @@ pub const RW: &[Worked] = &[
          0 begin downgrade_to_upgradeable\n\
          0 step\n\
          0 begin upgrade\n\
+         0 weak\n\
+         0 step\n\
          0 weak\n\
          0 step\n\
          0 read\n\
@@ -272,16 +328,18 @@ pub const RW: &[Worked] = &[
          9 0 begun: 1\n\
          10 0 answer done from 9: 2\n\
          11 0 begun: 2\n\
-         12 0 going on: 2\n\
-         13 0 answer granted from 11: 1\n\
-         14 0 value 2: 1\n\
-         15 0 begun: 1\n\
-         16 0 answer done from 15: 0\n\
-         17 1 value 2: 0\n\
+         12 0 passed over: 2\n\
+         13 0 going on: 6\n\
+         14 0 going on: 6\n\
+         15 0 answer granted from 11: 1\n\
+         16 0 value 2: 1\n\
+         17 0 begun: 1\n\
+         18 0 answer done from 17: 0\n\
+         19 1 value 2: 0\n\
          end: 0 value 2\n\
         ",
     ),
-    // Line 13: its exchange finds an upgradable reader, so it looks again.
+    // Line 13: its exchange finds an upgradable reader, so it tries again beside it. Line 16: now it asks, so it looks again.
     (
         "calls wait for the writer and for readers",
         "rw 1 9 3\n\
@@ -298,9 +356,13 @@ pub const RW: &[Worked] = &[
          2 step\n\
          2 step\n\
          1 step\n\
+         2 begin upgrade\n\
+         2 step\n\
+         1 step\n\
          1 step\n\
          0 begin write\n\
          0 step\n\
+         2 step\n\
          2 begin release\n\
          2 step\n\
          1 step\n\
@@ -323,17 +385,21 @@ pub const RW: &[Worked] = &[
          11 2 going on: 0\n\
          12 2 answer granted from 6: 2\n\
          13 1 going on: 2\n\
-         14 1 going on: 2\n\
-         15 0 begun: 2\n\
-         16 0 going on: 2\n\
-         17 2 begun: 2\n\
-         18 2 answer done from 17: 0\n\
-         19 1 going on: 0\n\
-         20 1 answer granted from 4: 4\n\
-         21 0 going on: 4\n\
-         22 1 begun: 4\n\
-         23 1 answer done from 22: 0\n\
-         24 0 answer granted from 15: 1\n\
+         14 2 begun: 2\n\
+         15 2 going on: 6\n\
+         16 1 going on: 6\n\
+         17 1 going on: 6\n\
+         18 0 begun: 6\n\
+         19 0 going on: 6\n\
+         20 2 answer granted from 14: 1\n\
+         21 2 begun: 1\n\
+         22 2 answer done from 21: 0\n\
+         23 1 going on: 0\n\
+         24 1 answer granted from 4: 8\n\
+         25 0 going on: 8\n\
+         26 1 begun: 8\n\
+         27 1 answer done from 26: 0\n\
+         28 0 answer granted from 18: 1\n\
          end: 1 value 1\n\
         ",
     ),
@@ -361,23 +427,23 @@ pub const RW: &[Worked] = &[
         ",
         "1 0 begun: 0\n\
          2 0 going on: 0\n\
-         3 0 answer granted from 1: 4\n\
-         4 0 leaked: 4\n\
-         5 1 begun: 4\n\
-         6 1 answer 1 from 5: 4\n\
-         7 1 begun: 4\n\
-         8 1 going on: 4\n\
-         9 1 answer granted from 7: 8\n\
-         10 1 passed over: 8\n\
-         11 1 begun: 8\n\
-         12 1 answer done from 11: 4\n\
-         13 1 begun: 4\n\
-         14 1 answer refused from 13: 4\n\
-         15 0 value 1: 4\n\
-         16 1 written: 4\n\
-         17 0 passed over: 4\n\
-         18 1 value 5: 4\n\
-         end: 4 value 5\n\
+         3 0 answer granted from 1: 8\n\
+         4 0 leaked: 8\n\
+         5 1 begun: 8\n\
+         6 1 answer 1 from 5: 8\n\
+         7 1 begun: 8\n\
+         8 1 going on: 8\n\
+         9 1 answer granted from 7: 16\n\
+         10 1 passed over: 16\n\
+         11 1 begun: 16\n\
+         12 1 answer done from 11: 8\n\
+         13 1 begun: 8\n\
+         14 1 answer refused from 13: 8\n\
+         15 0 value 1: 8\n\
+         16 1 written: 8\n\
+         17 0 passed over: 8\n\
+         18 1 value 5: 8\n\
+         end: 8 value 5\n\
         ",
     ),
     (
@@ -407,22 +473,22 @@ pub const RW: &[Worked] = &[
         ",
         "1 0 begun: 0\n\
          2 0 going on: 0\n\
-         3 0 answer granted from 1: 4\n\
-         4 1 begun: 4\n\
-         5 1 going on: 4\n\
-         6 1 answer granted from 4: 8\n\
-         7 2 begun: 8\n\
-         8 2 going on: 8\n\
-         9 2 answer granted from 7: 12\n\
-         10 3 begun: 12\n\
-         11 3 answer refused from 10: 12\n\
-         12 0 begun: 12\n\
-         13 0 answer done from 12: 8\n\
-         14 1 begun: 8\n\
-         15 1 answer done from 14: 4\n\
-         16 3 begun: 4\n\
-         17 3 answer refused from 16: 4\n\
-         18 2 begun: 4\n\
+         3 0 answer granted from 1: 8\n\
+         4 1 begun: 8\n\
+         5 1 going on: 8\n\
+         6 1 answer granted from 4: 16\n\
+         7 2 begun: 16\n\
+         8 2 going on: 16\n\
+         9 2 answer granted from 7: 24\n\
+         10 3 begun: 24\n\
+         11 3 answer refused from 10: 24\n\
+         12 0 begun: 24\n\
+         13 0 answer done from 12: 16\n\
+         14 1 begun: 16\n\
+         15 1 answer done from 14: 8\n\
+         16 3 begun: 8\n\
+         17 3 answer refused from 16: 8\n\
+         18 2 begun: 8\n\
          19 2 answer done from 18: 0\n\
          20 3 begun: 0\n\
          21 3 answer granted from 20: 1\n\

@@ -6,11 +6,11 @@ use Rattle.spin_step.specs.Readers.{reader_limit, OneOfEach, has_room}
 use Rattle.spin_step.proofs.ReaderSteps.{rw_upgradable-grants}
 use Rattle.spin_step.proofs.rw.upgradable.Goals as goal
 
-at : (b : Bool) (s : Plain) (party word cap : ℕ) → has_room word cap ≡ b → OneOfEach s → s.cap ≡ min cap reader_limit → rw_word s ≡ word → Decides s (gets party to_read_upgradable) rw_word (if b then Some (word + weight upgradable) else None)
+at : (b : Bool) (s : Plain) (party word cap : ℕ) → has_room upgradable word cap ≡ b → OneOfEach s → s.cap ≡ min cap reader_limit → rw_word s ≡ word → Decides s (gets party to_read_upgradable) rw_word (if b then Some (word + weight upgradable) else None)
 at b s party word cap is one room same = subst (λ b. Decides s (gets party to_read_upgradable) rw_word (if b then Some (word + weight upgradable) else None)) is (rw_upgradable-grants s party word cap one room same)
 
-pub returns-then-has_room-clause-plain : goal.returns-then-has_room-clause-plain
-returns-then-has_room-clause-plain c s party one cap word = at _ s party c.args.word c.args.cap (sym c.has_room.ensures ∙ c.if-has_room.true) one cap word
+pub returns-then-may_read_upgradable-clause-plain : goal.returns-then-may_read_upgradable-clause-plain
+returns-then-may_read_upgradable-clause-plain c s party one cap word = at _ s party c.args.word c.args.cap (sym c.may_read_upgradable.ensures ∙ c.if-may_read_upgradable.true) one cap word
 
-pub returns-else-has_room-clause-plain : goal.returns-else-has_room-clause-plain
-returns-else-has_room-clause-plain c s party one cap word = at _ s party c.args.word c.args.cap (sym c.has_room.ensures ∙ c.if-has_room.false) one cap word
+pub returns-else-may_read_upgradable-clause-plain : goal.returns-else-may_read_upgradable-clause-plain
+returns-else-may_read_upgradable-clause-plain c s party one cap word = at _ s party c.args.word c.args.cap (sym c.may_read_upgradable.ensures ∙ c.if-may_read_upgradable.false) one cap word

@@ -1,4 +1,5 @@
 use Rattle.std.proofs.Common.{ap, sym, ◌∙◌}
+use Rattle.spin_step.specs.Plain.{reading}
 use Rattle.spin_step.specs.Readers.{reader_limit, has_room}
 use Rattle.spin_seated.specs.Rw.{holds}
 use Rattle.spin_seated.proofs.RwDebts.{looks_owed, comes_owed, told_nothing}
@@ -10,4 +11,4 @@ load-found-requires-clause-owes g c = looks_owed c.args.place.now.known c.requir
 pub exchange-found-requires-clause-owes : goal.exchange-found-requires-clause-owes
 exchange-found-requires-clause-owes g c =
     comes_owed c.loop.place.known c.loop.found c.in-Some-read.next (λ s p one cap is. c.in-Some-read.ensures.plain s p one cap is)
-    (ap holds (told_nothing (has_room c.loop.found reader_limit) _ c.in-Some-read.next c.args.place.now.known c.loop.place.known (sym c.in-Some-read.ensures.exact) c.loop.invariant.told) ∙ c.requires.free)
+    (ap holds (told_nothing (has_room reading c.loop.found reader_limit) _ c.in-Some-read.next c.args.place.now.known c.loop.place.known (sym c.in-Some-read.ensures.exact) c.loop.invariant.told) ∙ c.requires.free)
