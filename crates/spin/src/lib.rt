@@ -1,5 +1,5 @@
-//! Spinning locks that are proved: what each step makes of a lock's word is a public pure function, one of those in
-//! [`step`].
+//! Spinning locks that are proved, under the names of the Rust crate `spin`: what each step makes of a lock's word is a
+//! public pure function, one of those in [`step`]. A user of the locks names this crate alone.
 #![tactic(auto)]
 
 pub use mutex::MutexGuard;

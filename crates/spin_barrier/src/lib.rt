@@ -1,4 +1,4 @@
-//! A barrier, at which threads wait for one another.
+//! `Barrier`, at which threads wait for one another: a `Mutex` over the state that a step function changes.
 #![tactic(auto)]
 
 pub mod barrier;

@@ -1,4 +1,5 @@
-//! What all the locks stand on: how a caller waits, and the raw cell.
+//! What all the locks stand on: the raw cell (`cell`), which alone makes raw atomic steps on words, and how a caller
+//! waits (`relax`).
 #![tactic(auto)]
 
 pub mod cell;

@@ -1,3 +1,4 @@
+//! Tests of what the pages print.
 use super::account::{count, count_up_to};
 use super::from_rust::{
     add_from_two, add_one, add_starving, doubled, give_back, port_of, raise, set_elsewhere, take,

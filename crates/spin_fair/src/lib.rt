@@ -1,4 +1,4 @@
-//! A spinning mutex whose starving parties come before newcomers.
+//! `FairMutex`: a spinning mutex whose starving parties come before newcomers.
 #![tactic(auto)]
 
 pub mod fair;

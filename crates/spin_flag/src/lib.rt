@@ -1,4 +1,4 @@
-//! A spinning mutex of one flag.
+//! `SpinMutex`: a spinning mutex of one flag.
 #![tactic(auto)]
 
 pub mod spin;

@@ -1,4 +1,4 @@
-//! Spinning locks that one party at a time may hold.
+//! `Mutex`, over the contract of one lock alone; and beside it the three mutexes that it can be over.
 #![tactic(auto)]
 
 pub mod mutex;

@@ -1,4 +1,4 @@
-//! A value that is made once, and then read at the price of a load.
+//! `Once` and `LazyLock`, over one private core: a value that is made once, and then read at the price of a load.
 #![tactic(auto)]
 
 mod kept;

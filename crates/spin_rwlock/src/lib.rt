@@ -1,4 +1,4 @@
-//! A spinning lock for many readers or one writer.
+//! `RwLock`: a spinning lock for many readers, one of whom may upgrade, or for one writer.
 #![tactic(auto)]
 
 pub mod laws;

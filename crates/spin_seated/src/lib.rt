@@ -1,4 +1,5 @@
-//! Locks whose callers can compare what they did: each call stands in one history, and who meets knows one of them.
+//! `SeatedMutex` and `SeatedRwLock`, whose callers can compare what they did: each call stands in one history, and
+//! callers that meet know the same one.
 #![tactic(auto)]
 
 pub mod adding;

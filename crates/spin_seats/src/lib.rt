@@ -1,4 +1,4 @@
-//! A spinning lock of so many seats: a counting semaphore whose guards lend the value to read.
+//! `Seats`: a counting semaphore that spins. It is the example of a lock of one's own.
 #![tactic(auto)]
 
 pub mod laws;

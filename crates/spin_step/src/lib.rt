@@ -1,4 +1,5 @@
-//! Every change of a lock's word, as a pure function from the word before to the word after.
+//! Every change of a lock's word, as a pure function from the word before to the word after; and the plain lock, of
+//! which each of them makes one step.
 //!
 //! A refusal is `None` and gives no new word.
 #![tactic(auto)]

@@ -1,4 +1,4 @@
-//! Laws of the locks. Each is the contract of a function that does nothing.
+//! Laws of the lock. Each is the contract of a function that does nothing.
 ghost use Rattle.std.specs.Prelude.{ℕ, List};
 ghost use Rattle.spin_step.specs.Plain.{Plain};
 ghost use Rattle.spin_ticket.specs.declared.ticket.rule.View.{View};

@@ -1,4 +1,4 @@
-//! A spinning mutex of tickets.
+//! `TicketMutex`: a spinning mutex whose parties enter in the order of their tickets.
 #![tactic(auto)]
 
 pub mod laws;

@@ -1,4 +1,5 @@
-//! Callers of the locks. Each has a promise of its own, which rests on the promises of the locks.
+//! Callers of the locks: a ledger, a cache, rounds of workers, settings. Each has a promise of its own, which rests on
+//! the promises of the locks.
 #![tactic(auto)]
 
 pub mod cache;

@@ -1,6 +1,4 @@
-//! A world of many parties that take the steps of a lock's calls one at a time, in any order that a schedule names.
-//!
-//! A user names this crate alone. The world and its laws are those of `spin_world_core`; each object has a crate of its own.
+//! What a user of worlds names: the world, its laws, and six objects, each of which has a crate of its own.
 #![tactic(auto)]
 
 pub use spin_world_barrier::{

@@ -1,3 +1,4 @@
+//! The barrier, by its step functions.
 ghost use Rattle.std.specs.Prelude.{◌≡◌, true};
 ghost use Rattle.spin_world_core.specs.Acts.{stays, step_by, can_by};
 ghost use Rattle.spin_world_barrier.specs.Barrier.{barrier_memory, word_of, act_of, barrier_machine};

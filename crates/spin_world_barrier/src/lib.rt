@@ -1,4 +1,4 @@
-//! The barrier of groups, as an object of the world.
+//! `BarrierObject`: the barrier of groups, as an object of the world.
 #![tactic(auto)]
 
 mod barrier;

@@ -1,3 +1,4 @@
+//! What a call is answered.
 /// An answer of a call, of any object. `V` is the type of the object's value.
 #[derive(Copy, Debug, PartialEq, Eq)]
 pub enum Answer<V> {

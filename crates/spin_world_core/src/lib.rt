@@ -1,6 +1,5 @@
-//! A world of many parties that take the steps of a lock's calls one at a time, in any order that a schedule names.
-//!
-//! The world, its laws, and what a lock has to show to be an [`Object`] of it. The objects stand in crates of their own.
+//! The world: many parties that take the steps of a lock's calls one at a time, in any order that a schedule names. Its
+//! laws, and what a lock has to show to be an [`Object`] of it.
 #![tactic(auto)]
 
 mod answer;

@@ -1,3 +1,4 @@
+//! What a lock has to show to be played in a world.
 ghost use Rattle.std.specs.Prelude.{◌≡◌, true};
 ghost use Rattle.spin_world_core.specs.Machines.{Machine};
 ghost use Rattle.spin_world_core.specs.Lawful.{Lawful};

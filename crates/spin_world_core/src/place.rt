@@ -1,3 +1,4 @@
+//! Where a party stands.
 /// What a party holds.
 #[derive(Clone, Copy, Debug, PartialEq, Eq)]
 pub enum Hold {

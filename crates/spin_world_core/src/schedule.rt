@@ -1,3 +1,4 @@
+//! A schedule's moves, and the transcript of what came of them.
 use crate::object::Object;
 use std::alloc::{Allocator, Global};
 

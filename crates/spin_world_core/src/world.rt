@@ -1,3 +1,4 @@
+//! A world of one object: it plays a schedule, or one move.
 ghost use Rattle.std.specs.Prelude.{◌≡◌, ◌≤◌, [], length, IfOk, OnOk, OnErr, vec_capacity, slice_get, option_map};
 ghost use Rattle.spin_world_core.specs.Schedules.{at_first, after, events_of, with_begins, happens, place_of};
 ghost use Rattle.spin_world_core.specs.Runs.{IsReached, AfterAnyPast, CanAlways, KeepsAll, MomentsAll, CountsAll};

@@ -1,3 +1,4 @@
+//! The fair lock, by its step functions.
 ghost use Rattle.std.specs.Prelude.{◌≡◌, ◌≢◌, ◌<◌, ◌+◌, ◌-◌, ◌==◌, ◌%◌, true, is_some};
 ghost use Rattle.spin_world_core.specs.declared.object.Next.TheVariants.{GoesOn, Answers};
 ghost use Rattle.spin_world_core.specs.declared.answer.Answer.TheVariants.{Done};

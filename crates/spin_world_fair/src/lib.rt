@@ -1,4 +1,4 @@
-//! The lock of a flag with its starvers, as an object of the world.
+//! `Fair`: the lock of a flag with its starvers, as an object of the world.
 #![tactic(auto)]
 
 mod fair;

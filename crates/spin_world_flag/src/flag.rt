@@ -1,3 +1,4 @@
+//! The flag, by its step functions.
 ghost use Rattle.std.specs.Prelude.{◌≡◌, true};
 ghost use Rattle.spin_step.specs.Steps.{bit};
 ghost use Rattle.spin_world_core.specs.Acts.{becomes, stays, step_by, can_by};

@@ -1,4 +1,4 @@
-//! The lock of one flag, as an object of the world.
+//! `Flag`: the lock of one flag, as an object of the world.
 #![tactic(auto)]
 
 mod flag;

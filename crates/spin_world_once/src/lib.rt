@@ -1,4 +1,4 @@
-//! The cell that one closure fills, as an object of the world.
+//! `OnceObject`: the cell that one closure fills, as an object of the world.
 #![tactic(auto)]
 
 mod laws;

@@ -1,3 +1,4 @@
+//! The once-only cell, by its step functions.
 ghost use Rattle.std.specs.Prelude.{◌≡◌, Some, None, true};
 ghost use Rattle.spin_world_core.specs.Acts.{one_number, stays, either, step_by, can_by, completes_by, filled, step_with};
 ghost use Rattle.spin_world_once.specs.Once.{is_there, tells, runs, ends, brings_of, act_of, once_machine};

@@ -1,4 +1,4 @@
-//! The lock of readers, one upgradable reader and one writer, as an object of the world.
+//! `Rw`: the lock of readers, one of whom may upgrade, and one writer, as an object of the world.
 #![tactic(auto)]
 
 mod laws;

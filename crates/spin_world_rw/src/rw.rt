@@ -1,3 +1,4 @@
+//! The read-write lock, by its step functions.
 ghost use Rattle.std.specs.Prelude.{◌≡◌, ◌≤◌, ◌==◌, true};
 ghost use Rattle.spin_world_core.specs.Acts.{one_number, becomes, stays, step_by, can_by};
 ghost use Rattle.spin_world_core.specs.declared.object.Next.TheVariants.{Answers};

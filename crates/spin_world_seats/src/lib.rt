@@ -1,4 +1,4 @@
-//! The lock of seats, as an object of the world.
+//! `Seats`: the lock of seats, as an object of the world.
 #![tactic(auto)]
 
 mod laws;

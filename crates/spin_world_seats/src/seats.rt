@@ -1,3 +1,4 @@
+//! The lock of seats, by its step functions.
 ghost use Rattle.std.specs.Prelude.{◌≡◌, true};
 ghost use Rattle.spin_world_core.specs.Acts.{one_number, becomes, stays, step_by, can_by};
 ghost use Rattle.spin_world_seats.specs.Seats.{granted, comes_at, act_of, seats_machine};

@@ -1,3 +1,4 @@
+//! Schedules as rows, played and compared.
 use spin_world::{Answer, Move, Object, Outcome, Place, World};
 use std::alloc::Global;
 use std::fmt::Debug;

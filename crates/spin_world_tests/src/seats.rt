@@ -1,3 +1,4 @@
+//! Worked schedules of the seats.
 use crate::play::{Row, Run, answered, play};
 use spin_world::{Answer, Hold, Move, Outcome, Place};
 use spin_world_seats::{Seats, SeatsCall};

@@ -1,3 +1,4 @@
+//! Runs one after the other, places, caps, and owners.
 use crate::play::{Row, Run, answered, play};
 use spin_world::{
     Answer, Fair, FairCall, Flag, FlagCall, Hold, Move, OnceCall, OnceObject, Outcome, Place,

@@ -1,4 +1,4 @@
-//! The lock of two numbers, whose parties enter in the order of their tickets, as an object of the world.
+//! `Ticket`: the lock of two numbers, whose parties enter in the order of their tickets, as an object of the world.
 #![tactic(auto)]
 
 mod laws;

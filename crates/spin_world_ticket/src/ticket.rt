@@ -1,3 +1,4 @@
+//! The ticket lock, by its step functions.
 ghost use Rattle.std.specs.Prelude.{◌≡◌, ◌==◌, ◌&&◌, true};
 ghost use Rattle.spin_world_core.specs.declared.object.Next.TheVariants.{GoesOn, Answers};
 ghost use Rattle.spin_world_core.specs.declared.answer.Answer.TheVariants.{Refused};

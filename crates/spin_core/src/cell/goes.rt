@@ -1,4 +1,4 @@
-// Steps of a party that goes where they don't bring it what it came for.
+//! Steps of a party that goes where they don't bring it what it came for.
 ghost use Rattle.std.specs.Prelude.{◌≡◌, ◌≢◌, ◌==◌, ℕ, Some, IfOk, IfErr};
 ghost use prog.Atomic.{either};
 ghost use Rattle.spin_core.specs.Cell.{Rests, AllowsAt, Moved, Keeps};

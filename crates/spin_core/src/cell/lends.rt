@@ -1,4 +1,4 @@
-// The `&mut` that a write permit lends, apart from the file that declares the permit, since its clause names the permit's row.
+//! The `&mut` that a write permit lends, apart from the file that declares the permit, since its clause names the permit's row.
 ghost use Rattle.std.specs.Prelude.{◌≡◌, []};
 ghost use mir.Syntax.{named};
 ghost use types.Logic.{sem};

@@ -1,4 +1,4 @@
-// What a cell lends to its owner of a value that has to stay what it has come to.
+//! What a cell lends to its owner of a value that has to stay what it has come to.
 ghost use Rattle.std.specs.Prelude.{◌≡◌, Bool, true};
 
 use super::{Cell, Rule};

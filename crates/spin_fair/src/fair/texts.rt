@@ -1,4 +1,4 @@
-// `Debug` of the lock.
+//! `Debug` of the lock.
 ghost use Rattle.std.specs.Prelude.{Option};
 ghost use Rattle.std.specs.Fmt.{DisplaysOnOk};
 ghost use Rattle.spin_fair.specs.Texts.{fair_text};

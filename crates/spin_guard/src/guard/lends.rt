@@ -1,4 +1,4 @@
-// `Deref` and `DerefMut` of the guard, apart from the file that declares it, since their clauses name its row.
+//! `Deref` and `DerefMut` of the guard, apart from the file that declares it, since their clauses name its row.
 ghost use Rattle.std.specs.Prelude.{◌≡◌, []};
 ghost use mir.Syntax.{named};
 ghost use types.Logic.{sem};

@@ -1,4 +1,4 @@
-// `Debug` of the lock, and `Debug` and `Display` of its guard, which prints as its value.
+//! `Debug` of the lock, and `Debug` and `Display` of its guard, which prints as its value.
 ghost use Rattle.std.specs.Prelude.{Option};
 ghost use Rattle.std.specs.Fmt.{DisplaysOnOk};
 ghost use Rattle.spin_mutex.specs.MutexGuard.{value_of};

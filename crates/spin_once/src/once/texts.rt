@@ -1,4 +1,4 @@
-// `Debug` of a `Once`.
+//! `Debug` of a `Once`.
 ghost use Rattle.std.specs.Prelude.{Option, codes};
 ghost use Rattle.std.specs.Fmt.{DisplaysOnOk};
 ghost use Rattle.spin_once.specs.Texts.{once_text};

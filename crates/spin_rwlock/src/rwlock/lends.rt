@@ -1,5 +1,5 @@
-// `Deref` of the guards, and `DerefMut` of the writer's, apart from the files that declare them, since the clauses name
-// their values and rows.
+//! `Deref` of the guards, and `DerefMut` of the writer's, apart from the files that declare them, since the clauses name
+//! their values and rows.
 ghost use Rattle.std.specs.Prelude.{◌≡◌, Some, []};
 ghost use mir.Syntax.{named};
 ghost use types.Logic.{sem};

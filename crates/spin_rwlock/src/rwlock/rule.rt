@@ -1,4 +1,4 @@
-//! What the parties of a `RwLock` are, what its word says of them, and each kind of step.
+//! What the parties of an `RwLock` are, what its word says of them, and each kind of step.
 ghost use Rattle.std.specs.Prelude.{◌≡◌, refl, Some, IfSome, IfOk, IfErr};
 ghost use Rattle.spin_core.specs.Cell.{reads};
 ghost use Rattle.spin_core.specs.Plays.{becomes, exchanges};

@@ -1,4 +1,4 @@
-// `Debug` of the lock, and `Debug` and `Display` of its guards, which print as their value.
+//! `Debug` of the lock, and `Debug` and `Display` of its guards, which print as their value.
 ghost use Rattle.std.specs.Prelude.{Option};
 ghost use Rattle.std.specs.Fmt.{DisplaysOnOk};
 ghost use Rattle.std.specs.Option.{option_copied};

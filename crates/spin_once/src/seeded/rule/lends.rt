@@ -1,4 +1,4 @@
-// The `&mut` to a value that was made, apart from the file that declares a stage, since its clause names the stage's row.
+//! The `&mut` to a value that was made, apart from the file that declares a stage, since its clause names the stage's row.
 ghost use Rattle.std.specs.Borrow.{sem, follows};
 ghost use Rattle.spin_once.specs.Made.{made_row, made_of};
 
