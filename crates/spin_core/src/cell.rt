@@ -365,14 +365,21 @@ impl<T: Drop, V, P: Rule<T, V>> Drop for Cell<T, V, P> {
     }
 }
 
+// SAFETY: who has the cell has the value, and nobody else has a permit.
 unsafe impl<T: Send, V, P: Rule<T, V>> Send for Cell<T, V, P> {}
 
+// SAFETY: steps on the words are atomic, and the value goes from party to party, in whatever threads they are. Where parties
+// read it beside one another, `Known` asks that whoever may share the rule may share the value.
 unsafe impl<T: Send, V, P: Rule<T, V> + Sync> Sync for Cell<T, V, P> {}
 
+// SAFETY: any thread may take the party's next step, and by it come to the value.
 unsafe impl<T: Send, V, P: Rule<T, V> + Sync> Send for Permit<'_, T, V, P> {}
 
+// SAFETY: a `&` to a permit shows the value only where its view reads, and of that `Known` asks what the cell asks.
 unsafe impl<T, V, P: Rule<T, V> + Sync> Sync for Permit<'_, T, V, P> {}
 
+// SAFETY: its new thread has the value to itself, as its old one had.
 unsafe impl<T: Send, V, P: Rule<T, V> + Sync> Send for WritePermit<'_, T, V, P> {}
 
+// SAFETY: a `&` to it lends a `&T` and no more.
 unsafe impl<T: Sync, V, P: Rule<T, V>> Sync for WritePermit<'_, T, V, P> {}

@@ -130,6 +130,8 @@ impl<R> Strategy<R> {
     }
 }
 
+// SAFETY: it names a strategy, and no `R` lies in it.
 unsafe impl<R> Send for Strategy<R> {}
 
+// SAFETY: as for `Send`: there is nothing to share.
 unsafe impl<R> Sync for Strategy<R> {}

@@ -146,14 +146,20 @@ impl<T, R> From<T> for Mutex<T, R> {
     }
 }
 
+// SAFETY: the lock inside goes along, which owns the value.
 unsafe impl<T: Send, R> Send for Mutex<T, R> {}
 
+// SAFETY: the lock inside gives the value to one holder at a time, in whatever thread that is.
 unsafe impl<T: Send, R> Sync for Mutex<T, R> {}
 
+// SAFETY: its new thread has the value to itself, as its old one had.
 unsafe impl<T: Send, R> Send for MutexGuard<'_, T, R> {}
 
+// SAFETY: a shared guard lends a `&T` and no more.
 unsafe impl<T: Sync, R> Sync for MutexGuard<'_, T, R> {}
 
+// SAFETY: its new thread hands the value on to whoever comes next: what a guard asks.
 unsafe impl<T: Send, R> Send for Held<'_, T, R> {}
 
+// SAFETY: a shared hold lends nothing. It asks what the lock asks.
 unsafe impl<T: Send, R> Sync for Held<'_, T, R> {}

@@ -34,6 +34,8 @@ impl<F: Drop> Drop for Kept<F> {
     }
 }
 
+// SAFETY: it is the value, which goes along.
 unsafe impl<F: Send> Send for Kept<F> {}
 
+// SAFETY: a `&` to it shows nothing of the value; only its owner moves that out, who may be in another thread.
 unsafe impl<F: Send> Sync for Kept<F> {}

@@ -104,7 +104,9 @@ impl<T, F: FnOnce() -> T, R: RelaxStrategy, M: Promise<T> + Drop> LazyLock<T, F,
     }
 }
 
+// SAFETY: its cell goes along, which owns initialiser, promise and value.
 unsafe impl<T: Send, F: Send, R, M: Promise<T> + Send> Send for LazyLock<T, F, R, M> {}
 
+// SAFETY: any thread may run the initialiser, and then all read the value beside one another.
 unsafe impl<T: Send + Sync, F: Send, R, M: Promise<T> + Send + Sync> Sync
     for LazyLock<T, F, R, M> {}

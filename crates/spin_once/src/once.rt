@@ -168,6 +168,8 @@ impl<T, R> From<T> for Once<T, R> {
     }
 }
 
+// SAFETY: its cell goes along, which owns the value.
 unsafe impl<T: Send, R> Send for Once<T, R> {}
 
+// SAFETY: a value that one thread puts is read by all of them beside one another, and may be dropped in any.
 unsafe impl<T: Send + Sync, R> Sync for Once<T, R> {}

@@ -227,6 +227,8 @@ impl<T, R> From<T> for RwLock<T, R> {
     }
 }
 
+// SAFETY: its cell goes along, which owns the value. Of the rule no value is made.
 unsafe impl<T: Send, R, P: Rule<T, View>> Send for RwLock<T, R, P> {}
 
+// SAFETY: any thread may come to write the value, and several read it beside one another. The cell asks it of the rule.
 unsafe impl<T: Send + Sync, R, P: Rule<T, View> + Sync> Sync for RwLock<T, R, P> {}

@@ -123,6 +123,8 @@ impl<T, R> Drop for Starvation<'_, T, R> {
     }
 }
 
+// SAFETY: a starver's permit. The thread that it goes to may come to the value by it.
 unsafe impl<T: Send, R> Send for Starvation<'_, T, R> {}
 
+// SAFETY: a shared one lends nothing. It asks what the lock asks.
 unsafe impl<T: Send, R> Sync for Starvation<'_, T, R> {}

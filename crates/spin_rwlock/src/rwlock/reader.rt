@@ -100,10 +100,14 @@ impl<T, R> Drop for ReadHeld<'_, T, R> {
     }
 }
 
+// SAFETY: in its new thread it may come to write, and others go on reading in theirs.
 unsafe impl<T: Send + Sync, K: Kind, R> Send for SharedGuard<'_, T, K, R> {}
 
+// SAFETY: a shared guard lends a `&T` and no more.
 unsafe impl<T: Sync, K: Kind, R> Sync for SharedGuard<'_, T, K, R> {}
 
+// SAFETY: its new thread lets go by it, as a guard's would: what a guard asks.
 unsafe impl<T: Send + Sync, R> Send for ReadHeld<'_, T, R> {}
 
+// SAFETY: a shared hold lends nothing. It asks what the lock asks.
 unsafe impl<T: Send + Sync, R> Sync for ReadHeld<'_, T, R> {}

@@ -113,10 +113,14 @@ impl<T, R> Drop for WriteHeld<'_, T, R> {
     }
 }
 
+// SAFETY: its new thread has the value to itself, and may go on as a reader beside others.
 unsafe impl<T: Send + Sync, R> Send for RwLockWriteGuard<'_, T, R> {}
 
+// SAFETY: a shared guard lends a `&T` and no more.
 unsafe impl<T: Sync, R> Sync for RwLockWriteGuard<'_, T, R> {}
 
+// SAFETY: its new thread hands the value on to whoever comes next: what a guard asks.
 unsafe impl<T: Send + Sync, R> Send for WriteHeld<'_, T, R> {}
 
+// SAFETY: a shared hold lends nothing. It asks what the lock asks.
 unsafe impl<T: Send + Sync, R> Sync for WriteHeld<'_, T, R> {}
