@@ -1,3 +1,2 @@
-pub mod Tables
 pub mod Transfers
 pub mod Lines

@@ -1,4 +1,3 @@
-pub mod Cache
 pub mod Phases
 pub mod Ledger
 pub mod Settings

@@ -1,14 +1,19 @@
 //! Callers of one cache, alone and in threads.
-ghost use Rattle.std.specs.Prelude.{◌≡◌, ◌==◌, ◌*◌, ◌%◌, ◌^◌, IfOk};
+ghost use Rattle.std.specs.Prelude.{◌≡◌, ◌==◌, ◌*◌, ◌%◌, ◌^◌, map, string_bytes, IfOk};
+ghost use Rattle.std.specs.Char.{to_ascii_uppercase};
+ghost use Rattle.std.specs.Str.{bytes_eq};
+ghost use Rattle.std.proofs.Common.{rules};
 
 use super::equal::equal;
 use spin_core::relax::Yield;
 use spin_uses::cache::{Answers, Cache};
 use std::alloc::{AllocError, Global};
 use std::cell::Cell;
+use std::process::Abort;
 use std::sync::Wait;
 use std::test::Fail;
 use std::thread;
+use std::thread::Threads;
 
 const KEYS: u64 = 100;
 
@@ -16,7 +21,15 @@ const KEYS: u64 = 100;
 struct Squares;
 
 impl Answers for Squares {
+    type Key = u64;
+
+    type Value = u64;
+
     ghost may = { λ key value. value == (key * key) % 2 ^ 64 };
+
+    ghost respects_eq = { Prim.search rules };
+
+    ghost respects_clone = { Prim.search rules };
 }
 
 type SquareCache = Cache<Squares, Global, Yield>;
@@ -32,7 +45,7 @@ fn square<W: Wait>(
 {
     cache.answer(rt, key, |key| {
         made.set(made.get().wrapping_add(1));
-        key.wrapping_mul(key)
+        Ok(key.wrapping_mul(*key))
     })
 }
 
@@ -64,7 +77,98 @@ fn an_answer_that_is_there_takes_no_write(rt: HostRuntime) -> Result<(), Fail> {
     equal(&rt, square(&rt, &cache, 3, &made)?, 9);
     let reader = cache.read(&rt);
     equal(&rt, square(&rt, &cache, 3, &made)?, 9);
-    equal(&rt, reader.answer(3), Some(9));
+    equal(&rt, reader.answer(&3).copied(), Some(9));
+    equal(&rt, reader.answer(&4).copied(), None);
     equal(&rt, made.get(), 1);
     Ok(())
+}
+
+// Two threads, each of which looks for a square that is there.
+fn read_in_two<R: Abort + Threads + Wait + Sync>(rt: &R, cache: &SquareCache) {
+    let (first, second) = thread::join(
+        rt,
+        || cache.read(rt).answer(&3).copied(),
+        || cache.read(rt).answer(&3).copied(),
+    );
+    equal(rt, first, Some(9));
+    equal(rt, second, Some(9));
+}
+
+// Readers that waited for who makes an answer would wait for ever, as it waits for them.
+#[test]
+fn readers_come_while_an_answer_is_made(rt: HostRuntime) -> Result<(), Fail> {
+    let cache: SquareCache = Cache::new(rt.alloc());
+    let made = Cell::new(0);
+    square(&rt, &cache, 3, &made)?;
+    let answer: Result<u64, AllocError> = cache.answer(&rt, 4, |key| {
+        read_in_two(&rt, &cache);
+        Ok(key.wrapping_mul(*key))
+    });
+    equal(&rt, answer?, 16);
+    equal(&rt, cache.read(&rt).answer(&4).copied(), Some(16));
+    Ok(())
+}
+
+/// The name in capitals.
+struct Shouts;
+
+impl Answers for Shouts {
+    type Key = String;
+
+    type Value = String;
+
+    ghost may = { λ key value. bytes_eq (string_bytes value) (map to_ascii_uppercase (string_bytes key)) };
+
+    ghost respects_eq = { Prim.search rules };
+
+    ghost respects_clone = { Prim.search rules };
+}
+
+fn shout<W: Wait>(
+    rt: &W,
+    cache: &Cache<Shouts>,
+    alloc: Global,
+    name: &str,
+) -> Result<String, AllocError>
+    ensures { IfOk result (λ shouted. string_bytes shouted ≡ map to_ascii_uppercase name.now) }
+{
+    let key = String::from_str(alloc, name)?;
+    cache.answer(rt, key, |key| key.to_ascii_uppercase(alloc))
+}
+
+#[test]
+fn a_cache_of_texts(rt: HostRuntime) -> Result<(), Fail> {
+    let cache = Cache::new(rt.alloc());
+    for name in ["ada", "grace", "ada"] {
+        let shouted = shout(&rt, &cache, rt.alloc(), name)?;
+        equal(&rt, shouted == name.to_ascii_uppercase(rt.alloc())?, true);
+    }
+    Ok(())
+}
+
+/// Why no answer was made.
+#[derive(Clone, Copy, Debug, PartialEq, Eq)]
+enum Unmade {
+    Odd,
+    NoMemory,
+}
+
+impl From<AllocError> for Unmade {
+    fn from(_refused: AllocError) -> Unmade {
+        Unmade::NoMemory
+    }
+}
+
+// What was refused is asked for again by the next caller.
+#[test]
+fn an_answer_that_is_refused_is_not_kept(rt: HostRuntime) {
+    let cache: SquareCache = Cache::new(rt.alloc());
+    equal(
+        &rt,
+        cache.answer(&rt, 3, |_| Err(Unmade::Odd)),
+        Err(Unmade::Odd),
+    );
+    let made = cache.answer(&rt, 3, |key| Ok::<_, Unmade>(key.wrapping_mul(*key)));
+    equal(&rt, made, Ok(9));
+    equal(&rt, cache.answer(&rt, 3, |_| Err(Unmade::Odd)), Ok(9));
 }

@@ -1,64 +1,49 @@
 //! A table of answers that only grows: what is in it stays as it is, since nothing here takes an entry out or changes one.
-ghost use Rattle.std.specs.Prelude.{◌≡◌, ℕ, true, Some, None, IfSome, IfOk};
-ghost use Rattle.spin_uses.specs.Cache.{answer_in, newest_in, may_all};
+ghost use Rattle.std.specs.Prelude.{◌≡◌, Some, None, IsTrue, IfSome, OnOk, OnErr};
+ghost use Rattle.std.specs.Option.{ForSome, option_copied};
+ghost use Rattle.std.specs.HashMap.{get, IsUnchanged};
 
 use super::Answers;
 use std::alloc::{AllocError, Allocator};
+use std::collections::HashMap;
+use std::hash::{BuildHasherDefault, FoldHasher};
 use std::marker::PhantomData;
 
-/// An answer that was made for a key.
-#[derive(Clone, Copy)]
-struct Entry {
-    key: u64,
-    value: u64,
-}
-
-/// The answers that were made, in their order.
+/// The answers that were made, by their keys.
 #[derive(Drop)]
 pub struct Table<C: Answers, A: Allocator> {
-    entries: Vec<Entry, A>,
+    map: HashMap<C::Key, C::Value, BuildHasherDefault<FoldHasher>, A>,
     answers: PhantomData<C>,
-    ghost sound: { may_all C.may entries.items ≡ true },
+    ghost sound: { (k : C.Key) → ForSome (get C.Key.eq map k) (λ v. IsTrue (C.may k v)) },
 }
 
 impl<C: Answers, A: Allocator> Table<C, A> {
     pub(super) fn new(alloc: A) -> Self {
         Table {
-            entries: Vec::new(alloc),
+            map: HashMap::new(alloc),
             answers: PhantomData,
         }
     }
 
     /// The answer for the key, if one was made.
-    pub fn answer(&self, key: u64) -> Option<u64>
-        ensures exact { result ≡ answer_in key self.now.entries.items }
-        ensures may { IfSome result (λ value. C.may key value ≡ true) }
+    pub fn answer(&self, key: &C::Key) -> Option<&C::Value>
+        ensures exact { option_copied result ≡ get C.Key.eq self.now.map key.now }
+        ensures may { IfSome result (λ value. IsTrue (C.may key.now value.now)) }
     {
-        for entry in &self.entries {
-            if entry.key == key {
-                return Some(entry.value);
-            }
-        }
-        None
-    }
-
-    /// The answer that was made last.
-    pub(super) fn newest(&self) -> Option<u64>
-        ensures { result ≡ newest_in self.now.entries.items }
-    {
-        let entry = self.entries.last()?;
-        Some(entry.value)
+        self.map.get(key)
     }
 
     /// Adds an answer for a key that has none. `Err` where there is no memory for it. No answer is lost, or another than it was.
-    pub(super) fn add(&mut self, key: u64, value: u64) -> Result<(), AllocError>
-        requires may { C.may key value ≡ true }
-        requires fresh { answer_in key self.old.entries.items ≡ None }
-        ensures added { IfOk result (λ _. answer_in key self.new.entries.items ≡ Some value) }
-        ensures newest { IfOk result (λ _. newest_in self.new.entries.items ≡ Some value) }
-        ensures kept { (k v : ℕ) → answer_in k self.old.entries.items ≡ Some v → answer_in k self.new.entries.items ≡ Some v }
+    pub(super) fn add(&mut self, key: C::Key, value: C::Value) -> Result<(), AllocError>
+    where
+        A: Clone,
+        requires may { IsTrue (C.may key value) }
+        requires fresh { get C.Key.eq self.old.map key ≡ None }
+        ensures added { OnOk result (get C.Key.eq self.new.map key ≡ Some value) }
+        ensures kept { (k : C.Key) (v : C.Value) → get C.Key.eq self.old.map k ≡ Some v → get C.Key.eq self.new.map k ≡ Some v }
+        ensures err { OnErr result (IsUnchanged self.old.map self.new.map) }
     {
-        self.entries.push(Entry { key, value })?;
+        self.map.insert(key, value)?;
         Ok(())
     }
 }
