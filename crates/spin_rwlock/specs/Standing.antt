@@ -1,39 +1,34 @@
 -- Who stands in a read-write lock, counted over its parties.
-use Rattle.std.specs.Prelude.{◌≡◌, ℕ, ◌+◌, ◌<◌, ◌≤◌, Bool, true, false, List, [], ◌∷◌, count_by}
-use Rattle.spin_step.specs.Plain.{Kind}
+use Rattle.std.specs.Prelude.{◌≡◌, ℕ, ◌+◌, ◌<◌, ◌≤◌, Bool, false, List, count_by}
+use Rattle.spin_step.specs.Plain.{Kind, reading, upgradable, asking, writing, same_kind}
 use Rattle.spin_step.specs.Readers.{reader_limit}
 use Rattle.spin_core.specs.Views.{holds, part_at}
 use Rattle.spin_rwlock.specs.Rw.{part}
 use Rattle.spin_rwlock.specs.declared.rwlock.rule.View.{View}
-use Rattle.spin_rwlock.specs.declared.rwlock.rule.View.TheVariants.{Reading, Upgradable, Asking, Writing}
+use Rattle.spin_rwlock.specs.declared.rwlock.rule.View.TheVariants.{Idle, Reading, Upgradable, Asking, Writing}
 
-abbrev pub is_reading : View → Bool
-is_reading Reading = true
-is_reading _ = false
+abbrev pub has_kind : Kind → View → Bool
+has_kind k Idle = false
+has_kind k Reading = same_kind k reading
+has_kind k Upgradable = same_kind k upgradable
+has_kind k Asking = same_kind k asking
+has_kind k Writing = same_kind k writing
 
-abbrev pub is_upgradable : View → Bool
-is_upgradable Upgradable = true
-is_upgradable _ = false
-
-abbrev pub is_asking : View → Bool
-is_asking Asking = true
-is_asking _ = false
-
-abbrev pub is_writing : View → Bool
-is_writing Writing = true
-is_writing _ = false
+-- how many hold so
+abbrev pub held : Kind → List View → ℕ
+held k vs = count_by (has_kind k) vs
 
 abbrev pub readers : List View → ℕ
-readers vs = count_by is_reading vs
+readers vs = held reading vs
 
 abbrev pub upgradables : List View → ℕ
-upgradables vs = count_by is_upgradable vs
+upgradables vs = held upgradable vs
 
 abbrev pub askers : List View → ℕ
-askers vs = count_by is_asking vs
+askers vs = held asking vs
 
 abbrev pub writers : List View → ℕ
-writers vs = count_by is_writing vs
+writers vs = held writing vs
 
 abbrev pub holders : List View → ℕ
 holders vs = ((readers vs + upgradables vs) + askers vs) + writers vs

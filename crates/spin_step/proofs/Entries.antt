@@ -3,7 +3,7 @@ use Rattle.std.proofs.Common.{◌≡◌, ℕ, ◌==◌, Bool, true, false, not, 
 use Rattle.std.proofs.lemmas.Bool.{eq-eqb, eqb-true, ne_eqb, and_parts, false≢true}
 use Rattle.std.proofs.lemmas.List.{append-nil}
 use Rattle.std.proofs.lemmas.List.Elements.{filter-append}
-use Rattle.spin_step.specs.Plain.{Plain, Kind, Holder, Ticket, Effect, comes, becomes, queues, enters, starves, runs, effect, given, Change, gets, releases, serves, stops_starving, turns, completes, fails, arrives, apply, is_open, is_first, holder, ticket, same_kind, without_holder, with_kind, without_starver, with_first_entered, without_first}
+use Rattle.spin_step.specs.Plain.{Plain, Kind, Holder, Ticket, Effect, comes, becomes, queues, enters, starves, runs, effect, given, Change, gets, releases, serves, stops_starving, turns, apply, is_open, is_first, holder, ticket, same_kind, without_holder, with_kind, without_starver, with_first_entered, without_first}
 use Rattle.spin_step.specs.Parties.{who, apply_some, IsOpenStep, Entries, entries, with_entries, entries_after}
 use Rattle.spin_step.proofs.Exclusive.{Lets, lets}
 

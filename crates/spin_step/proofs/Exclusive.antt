@@ -1,10 +1,10 @@
 -- No open step brings a second holder beside a writer, a second one that may upgrade, or a second entered ticket.
-use Rattle.std.proofs.Common.{◌≡◌, ℕ, ◌+◌, ◌<◌, ◌≤◌, ◌==◌, ◌⊎◌, inl, inr, Bool, true, false, not, ◌&&◌, cond, Option, Some, None, List, [], ◌∷◌, ◌++◌, length, refl, ap, ◌∙◌, arith, length-append, nat_lt}
+use Rattle.std.proofs.Common.{◌≡◌, ℕ, ◌+◌, ◌<◌, ◌≤◌, ◌==◌, ◌⊎◌, inl, inr, true, false, not, ◌&&◌, Option, Some, None, List, [], ◌∷◌, ◌++◌, length, refl, ap, ◌∙◌, arith, length-append, nat_lt}
 use Rattle.std.proofs.lemmas.Bool.{eqb-true, and_parts, ltb-true}
-use Rattle.spin_step.specs.Plain.{Plain, Kind, reading, upgradable, asking, writing, Holder, Ticket, Ask, to_read, to_read_upgradable, to_write, to_upgrade, to_upgrade_asked, to_take_ticket, to_enter, to_take_and_enter, to_lock_unregistered, to_lock_starving, to_lock_starving_alone, to_starve, to_begin, Effect, comes, becomes, queues, enters, starves, runs, effect, given, Change, gets, releases, serves, stops_starving, turns, completes, fails, arrives, apply, is_open, is_open_to, is_holder, is_only, is_first, is_starver, is_only_starver, is_empty, is_nothing, may_turn, may_come, may_upgrade, upgraders, count_against, admits, holder, ticket, ticket_limit, count_kind, without_holder, with_kind, with_first_entered, without_first}
+use Rattle.spin_step.specs.Plain.{Plain, Kind, reading, upgradable, asking, writing, Holder, Ticket, Ask, to_read, to_read_upgradable, to_write, to_upgrade, to_upgrade_asked, to_take_ticket, to_enter, to_take_and_enter, to_lock_unregistered, to_lock_starving, to_lock_starving_alone, to_starve, to_begin, Effect, comes, becomes, queues, enters, starves, runs, effect, given, Change, gets, releases, serves, turns, apply, is_open, is_open_to, is_holder, is_only, is_first, is_starver, is_only_starver, is_empty, is_nothing, may_turn, may_come, upgraders, count_against, holder, ticket, ticket_limit, count_kind, without_holder, with_kind, with_first_entered, without_first}
 use Rattle.spin_step.specs.Parties.{apply_some, IsOpenStep, IsExclusive, none_entered, first_alone_entered}
 use Rattle.spin_step.proofs.Holders.{length-without_holder}
-use Rattle.spin_step.proofs.Sums.{one_of, sum_kinds, by_kinds, all_kinds, sum-more, sum-less, sum-turned, length-with_kind}
+use Rattle.spin_step.proofs.Sums.{upgrader, against, one_of, by_kinds, all_kinds, sum-more, sum-less, sum-turned, length-with_kind}
 
 pub empty_is : {X : Type 0} (xs : List X) → is_empty xs ≡ true → xs ≡ []
 empty_is [] e = refl
@@ -46,12 +46,6 @@ room_to_come k s may =
 record Apart (hs : List Holder) : Type 0 where
   writer : 0 < count_kind writing hs → length hs ≡ 1
   one_upgradable : upgraders hs ≤ 1
-
-abbrev upgrader : Kind → ℕ
-upgrader k = cond (may_upgrade k) 1 0
-
-abbrev against : Kind → Kind → ℕ
-against k j = cond (not (admits j k)) 1 0
 
 holders_of : (s : Plain) → IsExclusive s → Apart s.holders
 holders_of s x = record { writer = x.writer; one_upgradable = x.one_upgradable }

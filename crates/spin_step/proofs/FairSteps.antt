@@ -1,6 +1,7 @@
 -- What the step functions of the flag with its starvers are to the plain lock.
-use Rattle.std.proofs.Common.{◌≡◌, ℕ, ◌+◌, ◌-◌, ◌*◌, ◌/◌, ◌%◌, ◌≤◌, ◌==◌, Bool, true, false, not, ◌&&◌, ◌||◌, Some, None, List, [], ◌∷◌, length, nat_lt, if◌then◌else◌, refl, ap, sym, ◌∙◌, arith, length-append}
+use Rattle.std.proofs.Common.{◌≡◌, ℕ, ◌+◌, ◌*◌, ◌/◌, ◌%◌, ◌≤◌, ◌==◌, Bool, true, false, not, ◌&&◌, Some, None, List, [], ◌∷◌, length, nat_lt, if◌then◌else◌, refl, ap, sym, ◌∙◌, arith, length-append}
 use Rattle.std.specs.Prelude.{min}
+use Rattle.std.proofs.Math.Bool.{or-false}
 use Rattle.std.proofs.lemmas.Bool.{eqb-true, eq-eqb, true≢false}
 use Rattle.spin_step.specs.Plain.{Plain, Kind, Holder, Ticket, holder, writing, is_empty, is_starver, is_only_starver, gets, releases, stops_starving, to_lock_unregistered, to_lock_starving, to_lock_starving_alone, to_starve, fair_word}
 use Rattle.spin_step.specs.Parties.{is_held}
@@ -22,11 +23,7 @@ somebody (h ∷ hs) qs some = refl
 
 starves_alone : (p : ℕ) (qs : List ℕ) → length qs ≡ 1 → is_starver p qs ≡ true → is_only_starver p qs ≡ true
 starves_alone p [] one starves = absurd (omega (arith, one))
-starves_alone p (q ∷ []) one starves = or_false (q == p) starves
-  where
-    or_false : (b : Bool) → (b || false) ≡ true → b ≡ true
-    or_false true e = refl
-    or_false false e = e
+starves_alone p (q ∷ []) one starves = sym (or-false (q == p)) ∙ starves
 starves_alone p (q ∷ r ∷ qs) one starves = absurd (omega (arith, one))
 
 and_false : (b : Bool) → (b && false) ≡ false

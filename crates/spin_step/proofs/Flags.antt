@@ -1,5 +1,5 @@
 -- What the flag's step functions are to the plain lock.
-use Rattle.std.proofs.Common.{◌≡◌, ℕ, Bool, true, false, Some, None, [], ◌∷◌, if◌then◌else◌, sym, arith, length-append}
+use Rattle.std.proofs.Common.{◌≡◌, ℕ, Bool, true, false, [], ◌∷◌, sym, arith, length-append}
 use Rattle.std.specs.Option.{option_map}
 use Rattle.spin_step.specs.Plain.{Plain, Kind, writing, holder, gets, releases, to_write, flag_word}
 use Rattle.spin_step.specs.Flags.{lock}

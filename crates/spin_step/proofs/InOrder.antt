@@ -1,6 +1,6 @@
 -- Open steps keep every plain lock in order.
-use Rattle.std.proofs.Common.{◌≡◌, ℕ, ◌+◌, ◌≤◌, ◌==◌, Bool, true, false, inl, inr, if◌then◌else◌, List, [], ◌∷◌, ◌++◌, length, max, Option, Some, None, refl, ap, arith, length-append}
-use Rattle.spin_step.specs.Plain.{Plain, Kind, holder, Effect, comes, becomes, queues, enters, starves, runs, effect, given, Change, gets, releases, serves, stops_starving, turns, completes, fails, arrives, apply, is_open, with_kind, without_starver, ticket_limit, fresh}
+use Rattle.std.proofs.Common.{◌≡◌, ℕ, ◌≤◌, ◌==◌, Bool, true, false, inl, inr, if◌then◌else◌, List, [], ◌∷◌, length, max, Option, Some, None, refl, ap, arith, length-append}
+use Rattle.spin_step.specs.Plain.{Plain, Kind, holder, Effect, comes, becomes, queues, starves, effect, given, Change, gets, releases, serves, stops_starving, turns, apply, is_open, with_kind, without_starver, ticket_limit, fresh}
 use Rattle.spin_step.specs.Parties.{apply_some, IsOpenStep}
 use Rattle.spin_step.specs.Tickets.{Numbered}
 use Rattle.spin_step.specs.Orders.{IsInOrder}

@@ -1,7 +1,7 @@
 -- What the steps of a once-only cell are to the plain lock.
 use Rattle.std.proofs.Common.{◌≡◌, ℕ, ◌==◌, Bool, true, false, Option, Some, None, if◌then◌else◌, refl, ap, sym, ◌∙◌}
 use Rattle.std.proofs.lemmas.Bool.{false≢true, eqb-true}
-use Rattle.spin_step.specs.Plain.{Plain, Phase, nothing, running, complete, Ask, to_read, to_begin, Change, gets, releases, serves, stops_starving, turns, completes, fails, arrives, apply, is_open, is_nothing, is_running, is_complete, once_word}
+use Rattle.spin_step.specs.Plain.{Plain, Phase, nothing, running, complete, Ask, to_begin, Change, gets, completes, fails, apply, is_open, is_nothing, is_running, is_complete, once_word}
 use Rattle.spin_step.specs.Parties.{apply_some, IsOpenStep}
 use Rattle.spin_step.specs.Flags.{begun}
 use Rattle.spin_step.specs.Steps.{Decides}

@@ -1,8 +1,8 @@
 -- What the step functions of the read-write lock are to the plain lock.
-use Rattle.std.proofs.Common.{◌≡◌, ℕ, ◌+◌, ◌-◌, ◌<◌, ◌≤◌, ◌==◌, true, ◌&&◌, [], ◌∷◌, ◌++◌, length, sym, ap, ◌∙◌, arith, eqb-true}
+use Rattle.std.proofs.Common.{◌≡◌, ℕ, ◌+◌, ◌≤◌, ◌==◌, true, sym, ap, ◌∙◌, arith, eqb-true}
 use Rattle.std.specs.Prelude.{min}
 use Rattle.std.proofs.lemmas.Bool.{and_parts}
-use Rattle.spin_step.specs.Plain.{Plain, Kind, reading, upgradable, asking, writing, holder, weight, to_read, to_read_upgradable, to_write, to_upgrade, to_upgrade_asked, gets, releases, turns, is_holder, may_turn, rw_word}
+use Rattle.spin_step.specs.Plain.{Plain, Kind, reading, upgradable, asking, writing, weight, to_read, to_read_upgradable, to_write, to_upgrade, to_upgrade_asked, gets, releases, turns, is_holder, may_turn, rw_word}
 use Rattle.spin_step.specs.Steps.{Decides, Gives}
 use Rattle.spin_step.specs.Readers.{reader_limit, OneOfEach, has_room, read, read_upgradable, write, upgrade, upgrade_asked, released, turned}
 use Rattle.spin_step.proofs.Deciding.{decides_if}

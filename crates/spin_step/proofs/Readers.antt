@@ -1,20 +1,15 @@
 -- What the word of the read-write lock tells, in which nobody stands beside a writer.
-use Rattle.std.proofs.Common.{◌≡◌, ℕ, ◌+◌, ◌*◌, ◌/◌, ◌%◌, ◌<◌, ◌≤◌, ◌==◌, Bool, true, false, not, ◌&&◌, ◌||◌, List, [], ◌∷◌, ◌++◌, length, refl, sym, ap, ◌∙◌, arith, eq-eqb, ne_eqb, nat_lt, cond, ◌⊎◌, inl, inr}
+use Rattle.std.proofs.Common.{◌≡◌, ℕ, ◌+◌, ◌*◌, ◌/◌, ◌%◌, ◌<◌, ◌≤◌, ◌==◌, Bool, true, false, not, ◌&&◌, ◌||◌, List, [], ◌∷◌, length, refl, sym, ap, ◌∙◌, arith, eq-eqb, ne_eqb, cond, ◌⊎◌, inl, inr}
 use Rattle.std.specs.Prelude.{min}
-use Rattle.std.proofs.lemmas.Bool.{and_parts, le-ltb}
+use Rattle.std.proofs.Math.Bool.{or-false}
+use Rattle.std.proofs.lemmas.Bool.{le-ltb}
 use mathlib.Core.Logic.{dite}
 use native.Mathlib.Decide.{ℕ_discrete, dec_lt}
-use Rattle.spin_step.specs.Plain.{Plain, Kind, reading, upgradable, asking, writing, Holder, holder, same_kind, weight, may_upgrade, upgraders, admits, count_against, count_kind, is_reader, reader_count, is_empty, is_holder, is_only, may_come, rw_word}
+use Rattle.spin_step.specs.Plain.{Plain, Kind, reading, upgradable, asking, writing, Holder, same_kind, weight, count_against, count_kind, is_reader, reader_count, is_empty, is_holder, is_only, may_come, rw_word}
 use Rattle.spin_step.specs.Parties.{IsExclusive}
 use Rattle.spin_step.specs.Readers.{reader_limit, OneOfEach, readers_in, writers_in, tells, lets_in, has_room}
 use Rattle.spin_step.proofs.Holders.{is_empty-none, is_empty-some}
-use Rattle.spin_step.proofs.Sums.{sum_kinds, one_of, by_kinds, all_kinds, sum-less}
-
-abbrev upgrader : Kind → ℕ
-upgrader k = cond (may_upgrade k) 1 0
-
-abbrev against : Kind → Kind → ℕ
-against k j = cond (not (admits j k)) 1 0
+use Rattle.spin_step.proofs.Sums.{upgrader, against, sum_kinds, one_of, by_kinds, all_kinds, sum-less}
 
 abbrev pub word_of : List Holder → ℕ
 word_of hs = sum_kinds weight hs
@@ -69,13 +64,9 @@ empty-word hs word is =
 
 -- Holders that are alone
 
-or_false : (b : Bool) → (b || false) ≡ true → b ≡ true
-or_false true e = refl
-or_false false e = e
-
 only-holder : (p : ℕ) (k : Kind) (hs : List Holder) → is_holder p k hs ≡ true → length hs ≡ 1 → is_only p k hs ≡ true
 only-holder p k [] found one = absurd cc
-only-holder p k (h ∷ []) found one = or_false ((h.party == p) && same_kind k h.kind) found
+only-holder p k (h ∷ []) found one = sym (or-false ((h.party == p) && same_kind k h.kind)) ∙ found
 only-holder p k (h ∷ i ∷ hs) found one = absurd (omega (arith, one))
 
 pub only_holds : (p : ℕ) (k : Kind) (hs : List Holder) → is_only p k hs ≡ true → (is_holder p k hs ≡ true) × (length hs ≡ 1)

@@ -1,10 +1,10 @@
 -- Sums over holders, by their kinds.
-use Rattle.std.proofs.Common.{◌≡◌, ℕ, ◌+◌, ◌*◌, ◌==◌, Bool, true, false, ◌&&◌, ◌||◌, cond, if◌then◌else◌, List, [], ◌∷◌, ◌++◌, length, refl, ap, sym, ◌∙◌, arith}
+use Rattle.std.proofs.Common.{◌≡◌, ℕ, ◌+◌, ◌*◌, ◌==◌, Bool, true, false, not, ◌&&◌, ◌||◌, cond, if◌then◌else◌, List, [], ◌∷◌, ◌++◌, length, refl, ap, sym, arith}
 use Rattle.std.specs.Prelude.{sum_by}
 use Rattle.std.proofs.lemmas.Bool.{and_parts, false≢true}
 use Rattle.std.proofs.lemmas.List.Sums.{sum_by-cons, sum_by_push}
 use Rattle.std.proofs.Math.Nat.{mul-suc}
-use Rattle.spin_step.specs.Plain.{Kind, reading, upgradable, asking, writing, Holder, holder, same_kind, count_kind, is_holder, without_holder, with_kind}
+use Rattle.spin_step.specs.Plain.{Kind, reading, upgradable, asking, writing, Holder, holder, same_kind, may_upgrade, admits, count_kind, is_holder, without_holder, with_kind}
 
 abbrev pub sum_kinds : (Kind → ℕ) → List Holder → ℕ
 sum_kinds f hs = sum_by (λ h. f h.kind) hs
@@ -12,6 +12,14 @@ sum_kinds f hs = sum_by (λ h. f h.kind) hs
 -- one for a holder of this kind
 abbrev pub one_of : Kind → Kind → ℕ
 one_of j k = cond (same_kind j k) 1 0
+
+-- one for a holder who may become the writer
+abbrev pub upgrader : Kind → ℕ
+upgrader k = cond (may_upgrade k) 1 0
+
+-- one for a holder of kind j who keeps out one of kind k
+abbrev pub against : Kind → Kind → ℕ
+against k j = cond (not (admits j k)) 1 0
 
 one_more : (f : Kind → ℕ) (k : Kind) (r u a w : ℕ) → f k + (((f reading * r + f upgradable * u) + f asking * a) + f writing * w) ≡ ((f reading * (one_of reading k + r) + f upgradable * (one_of upgradable k + u)) + f asking * (one_of asking k + a)) + f writing * (one_of writing k + w)
 one_more f reading r u a w = omega (arith, mul-suc (f reading) r)

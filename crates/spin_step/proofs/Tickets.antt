@@ -5,7 +5,7 @@ use Rattle.std.proofs.lemmas.List.Sums.{sum_by-cons}
 use mathlib.Core.Logic.{dite}
 use native.Mathlib.Decide.{ℕ_discrete}
 use Rattle.std.proofs.lemmas.Bool.{and_parts, true≢false}
-use Rattle.spin_step.specs.Plain.{Plain, Ticket, ticket, is_first, is_empty, serving_word, Effect, comes, becomes, queues, enters, starves, runs, effect, given, Change, gets, releases, serves, stops_starving, turns, completes, fails, arrives, apply, is_open, with_first_entered, without_first}
+use Rattle.spin_step.specs.Plain.{Plain, Ticket, ticket, is_first, is_empty, serving_word, Effect, queues, enters, effect, given, Change, gets, serves, apply, is_open, with_first_entered, without_first}
 use Rattle.spin_step.specs.Parties.{none_entered, first_alone_entered}
 use Rattle.spin_step.specs.Tickets.{numbered_from, Numbered, gone}
 

@@ -1,8 +1,8 @@
 -- While a reader asks to upgrade the readers only go, and it is alone once all have gone.
-use Rattle.std.proofs.Common.{◌≡◌, ℕ, ◌+◌, ◌==◌, ◌↔◌, inl, inr, Bool, true, false, ◌&&◌, ◌||◌, cond, not, List, [], ◌∷◌, Some, length, refl, ap, sym, ◌∙◌, arith, eq-eqb, eqb-true}
+use Rattle.std.proofs.Common.{◌≡◌, ℕ, ◌+◌, ◌↔◌, inl, inr, Bool, true, false, cond, not, List, [], ◌∷◌, Some, length, refl, ap, ◌∙◌, arith, eq-eqb}
 use Rattle.std.proofs.lemmas.List.Sums.{sum_by-cons}
 use Rattle.std.proofs.lemmas.Bool.{and_parts, false≢true}
-use Rattle.spin_step.specs.Plain.{Plain, Kind, reading, upgradable, asking, writing, Holder, holder, admits, Effect, comes, becomes, effect, given, Change, gets, releases, turns, to_write, to_upgrade_asked, apply, is_open, is_open_to, is_empty, is_holder, is_only, may_turn, count_kind, with_kind, without_holder}
+use Rattle.spin_step.specs.Plain.{Plain, Kind, reading, upgradable, asking, writing, admits, Effect, comes, becomes, effect, given, Change, gets, releases, turns, to_write, to_upgrade_asked, apply, is_open, is_open_to, is_holder, is_only, may_turn, count_kind, with_kind}
 use Rattle.spin_step.specs.Parties.{who, IsExclusive}
 use Rattle.spin_step.specs.Steps.{bit}
 use Rattle.spin_step.specs.Readers.{reader_goes}

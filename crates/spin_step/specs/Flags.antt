@@ -1,5 +1,5 @@
 -- The results of the step functions of a flag, and of a once-only cell.
-use Rattle.std.specs.Prelude.{ℕ, ◌+◌, ◌-◌, ◌==◌, Bool, true, false, Option, Some, None, if◌then◌else◌}
+use Rattle.std.specs.Prelude.{ℕ, ◌+◌, ◌-◌, ◌==◌, Bool, true, Option, Some, None, if◌then◌else◌}
 
 abbrev pub lock : Bool → Option Bool
 lock flag = if flag then None else Some true
