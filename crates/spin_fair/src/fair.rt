@@ -46,7 +46,7 @@ pub type FairMutexGuard<'a, T, R = Spin> = Guard<'a, T, View, FairRule, R>;
 pub type Held<'a, T, R = Spin> = guard::Held<'a, T, View, FairRule, R>;
 
 impl<T, R> FairMutex<T, R> {
-    /// An open lock, for which nobody starves.
+    /// A free lock, for which nobody starves.
     ///
     /// Example: the test `a_starver_comes_before_newcomers`.
     pub fn new(value: T) -> Self {
@@ -167,14 +167,14 @@ impl<T, R> FairMutex<T, R> {
     }
 }
 
-/// An open lock of the default value.
+/// A free lock of the default value.
 impl<T: Default, R> Default for FairMutex<T, R> {
     fn default() -> Self {
         Self::new(T::default())
     }
 }
 
-/// An open lock of the value.
+/// A free lock of the value.
 impl<T, R> From<T> for FairMutex<T, R> {
     fn from(value: T) -> Self {
         Self::new(value)

@@ -35,7 +35,7 @@ pub type SpinMutexGuard<'a, T, R = Spin> = Guard<'a, T, View, FlagRule, R>;
 pub type Held<'a, T, R = Spin> = guard::Held<'a, T, View, FlagRule, R>;
 
 impl<T, R> SpinMutex<T, R> {
-    /// An open lock.
+    /// A free lock.
     ///
     /// Example: the test `a_lock_is_taken_once`.
     pub fn new(value: T) -> Self {
@@ -92,7 +92,7 @@ impl<T, R> SpinMutex<T, R> {
         Some(Guard::new(permit.into_writer()))
     }
 
-    /// As `try_lock`. It may refuse an open lock for no reason, so repeat it; this one never does.
+    /// As `try_lock`. It may refuse a free lock for no reason, so repeat it; this one never does.
     pub fn try_lock_weak<'a>(&'a self) -> Option<SpinMutexGuard<'a, T, R>>
         ensures { IfSome result (IsHolder use_of_view) }
     {
@@ -117,14 +117,14 @@ impl<T, R> SpinMutex<T, R> {
     }
 }
 
-/// An open lock of the default value.
+/// A free lock of the default value.
 impl<T: Default, R> Default for SpinMutex<T, R> {
     fn default() -> Self {
         Self::new(T::default())
     }
 }
 
-/// An open lock of the value.
+/// A free lock of the value.
 impl<T, R> From<T> for SpinMutex<T, R> {
     fn from(value: T) -> Self {
         Self::new(value)

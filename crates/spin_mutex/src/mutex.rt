@@ -44,7 +44,7 @@ pub struct Held<'a, T, R = Spin> {
 }
 
 impl<T, R> Mutex<T, R> {
-    /// An open lock.
+    /// A free lock.
     ///
     /// Example: the test `a_lock_is_taken_once`.
     pub fn new(value: T) -> Self {
@@ -132,14 +132,14 @@ impl<'a, T, R> MutexGuard<'a, T, R> {
     }
 }
 
-/// An open lock of the default value.
+/// A free lock of the default value.
 impl<T: Default, R> Default for Mutex<T, R> {
     fn default() -> Self {
         Self::new(T::default())
     }
 }
 
-/// An open lock of the value.
+/// A free lock of the value.
 impl<T, R> From<T> for Mutex<T, R> {
     fn from(value: T) -> Self {
         Self::new(value)

@@ -7,7 +7,7 @@ use std::sync::Wait;
 // What is seen while a try has taken the lock: the value, a second try refused, a locked lock.
 type Held = (Option<u64>, bool, bool);
 
-// What is seen of an open lock, while it is taken, and after that.
+// What is seen of a free lock, while it is taken, and after that.
 fn take_once<'a, L: Lock<'a, u64>>(rt: &impl Wait, lock: &'a L) -> (bool, Held, bool, u64, bool) {
     let before = lock.is_locked();
     let taken = lock.try_lock();

@@ -83,7 +83,7 @@ impl<T, R> RwLock<T, R> {
         Some(RwLockWriteGuard::new(rule::write(&self.cell)?))
     }
 
-    /// As `try_write`. It may refuse an open lock for no reason, so repeat it; this one never does.
+    /// As `try_write`. It may refuse a free lock for no reason, so repeat it; this one never does.
     pub fn try_write_weak<'a>(&'a self) -> Option<RwLockWriteGuard<'a, T, R>> {
         self.try_write()
     }

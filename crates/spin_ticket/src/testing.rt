@@ -3,7 +3,7 @@ use crate::ticket::TicketMutex;
 use spin_core::cell::Cell;
 use spin_core::relax::Strategy;
 
-/// An open lock whose first ticket has the number `first`.
+/// A free lock whose first ticket has the number `first`.
 pub fn starting_at<T, R>(value: T, first: u64) -> TicketMutex<T, R> {
     TicketMutex {
         cell: Cell::new(value, first, first, &()),

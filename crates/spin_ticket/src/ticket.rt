@@ -43,7 +43,7 @@ struct Place<'a, T> {
 }
 
 impl<T, R> TicketMutex<T, R> {
-    /// An open lock.
+    /// A free lock.
     ///
     /// Example: the test `a_lock_is_taken_once`.
     pub fn new(value: T) -> Self {
@@ -172,14 +172,14 @@ impl<T: Debug, R> Debug for TicketMutex<T, R> {
     }
 }
 
-/// An open lock of the default value.
+/// A free lock of the default value.
 impl<T: Default, R> Default for TicketMutex<T, R> {
     fn default() -> Self {
         Self::new(T::default())
     }
 }
 
-/// An open lock of the value.
+/// A free lock of the value.
 impl<T, R> From<T> for TicketMutex<T, R> {
     fn from(value: T) -> Self {
         Self::new(value)
