@@ -2,16 +2,12 @@
 use Rattle.std.proofs.Common.{◌≡◌, ℕ, ◌==◌, Bool, true, false, not, List, [], ◌∷◌, length, Some, refl, sym, ap, subst, ◌∙◌, ne_eqb, arith}
 use prog.Atomic.{either}
 use Rattle.spin_step.specs.Plain.{Plain, Holder, writing, gets, releases, to_write, is_open, apply, flag_word}
-use Rattle.spin_seated.specs.declared.history.Entry.{Entry}
-use Rattle.spin_seated.specs.declared.mutex.Call.{Call}
 use Rattle.spin_seated.specs.declared.mutex.Call.TheVariants.{TryLock, IsLocked}
-use Rattle.spin_seated.specs.declared.lock.Answer.{Answer}
 use Rattle.spin_seated.specs.declared.lock.Answer.TheVariants.{Truth}
-use Rattle.spin_seated.specs.Histories.{state, Fits, Owed, Owes}
+use Rattle.spin_seated.specs.Histories.{state, Owed, Owes}
 use Rattle.spin_seated.specs.Locked.{Locked}
 use Rattle.spin_seated.specs.Mutex.{mutex, Knows, holds, tries, looks, reads, writes, frees}
-use Rattle.spin_seated.proofs.Histories.{still}
-use Rattle.spin_seated.proofs.Holders.{held_by, alone_state, alone_is, is_held_by, steady}
+use Rattle.spin_seated.proofs.Holders.{held_by, alone_state, alone_is, is_held_by}
 
 -- the step function's theorem: on a clear flag the lock is open, and new is the flag after it
 abbrev pub Takes : ℕ → Type 0
@@ -36,23 +32,20 @@ module _ (x : Knows) where
   pub tries_owed : (old new : ℕ) → old ≡ 0 → Takes new → Owes mutex x 0 (λ n. either (n == old) new n) (tries old)
   tries_owed old new is takes =
       subst (λ (o : ℕ). Owes mutex x 0 (λ n. either (n == o) new n) (tries o)) (sym is)
-      (λ log legal fits small. let s : Locked = state mutex x.opening log in tries_at x.pass new takes s s.lock.holders)
+      (λ log legal has small. let s : Locked = state mutex x.opening log in tries_at x.pass new takes s s.lock.holders)
 
   pub looks_owed : Owes mutex x 0 (λ n. n) (looks 0)
-  looks_owed log legal fits small = let s : Locked = state mutex x.opening log in looks_at x.pass s s.lock.holders
-
-  may : holds x ≡ true → (log : List (Entry Call Answer)) → Fits mutex x.opening log x → is_held_by x.pass (state mutex x.opening log) ≡ true
-  may held log fits = still mutex steady x log fits.begins fits.own ∙ held
+  looks_owed log legal has small = let s : Locked = state mutex x.opening log in looks_at x.pass s s.lock.holders
 
   pub reads_owed : holds x ≡ true → Owes mutex x 1 (λ n. n) (reads 0)
-  reads_owed held log legal fits small = (may held log fits, refl, refl)
+  reads_owed held log legal has small = (has ∙ held, refl, refl)
 
   pub writes_owed : (new : ℕ) → holds x ≡ true → Owes mutex x 1 (λ _. new) (λ _. writes new new)
-  writes_owed new held log legal fits small = (may held log fits, refl, refl)
+  writes_owed new held log legal has small = (has ∙ held, refl, refl)
 
   pub frees_owed : (new : ℕ) → Leaves new → holds x ≡ true → Owes mutex x 0 (λ _. new) (λ _. frees new new)
-  frees_owed new leaves held log legal fits small =
+  frees_owed new leaves held log legal has small =
       let s : Locked = state mutex x.opening log in
-      let mine = may held log fits in
+      let mine : is_held_by x.pass s ≡ true = has ∙ held in
       let one : flag_word s.lock ≡ 1 = ap length (alone_is x.opening.passes x.pass s.lock.holders (alone_state x.opening log legal) mine) in
       (mine, ap (λ (n : ℕ). n ∷ s.value ∷ []) (leaves s.lock x.pass one mine), refl)

@@ -1,10 +1,10 @@
 -- Histories that grow.
-use Rattle.std.proofs.Common.{◌≡◌, ℕ, ◌<◌, ◌≢◌, ◌==◌, Bool, true, false, if◌then◌else◌, List, [], ◌∷◌, ◌++◌, refl, sym, ap, ◌∙◌, append_assoc, append-nil, length, length-append, eq-eqb, ne_eqb, subst, arith}
+use Rattle.std.proofs.Common.{◌≡◌, ℕ, ◌<◌, ◌≢◌, ◌==◌, Bool, true, false, if◌then◌else◌, List, [], ◌∷◌, ◌++◌, Option, Some, None, refl, sym, ap, ◌∙◌, append_assoc, append-nil, length, length-append, eq-eqb, ne_eqb, subst, arith}
 use Rattle.std.proofs.lemmas.Bool.{false≢true}
 use Rattle.std.proofs.lemmas.List.{append_cancel_right}
 use Rattle.spin_seated.specs.declared.history.Entry.{Entry}
 use Rattle.spin_seated.specs.declared.history.Known.{Known}
-use Rattle.spin_seated.specs.Histories.{Machine, BeginsWith, entry, calls_by, after, state, IsLegalFrom, IsLegal, holds, Made, Met}
+use Rattle.spin_seated.specs.Histories.{Machine, BeginsWith, entry, calls_by, after, state, IsLegalFrom, IsLegal, holds, IsTracked, Made, Met, Turned, held_then}
 
 module _ {X : Type 0} where
   pub begins_here : (xs : List X) → BeginsWith xs xs
@@ -59,6 +59,16 @@ module _ {K S C A H : Type 0} (m : Machine K S C A H) where
   legal-split n s [] ys legal = (tt, legal)
   legal-split n s (e ∷ es) ys legal = let two = legal-split n (m.next e.pass e.call s) es ys legal.3 in ((legal.0, legal.1, legal.2, two.0), two.1)
 
+  -- what is so at first, and is kept by each call that may be made, is so after each legal history
+  module _ (P : S → Type 0) (n : ℕ) (kept : (p : ℕ) (c : C) (s : S) → p < n → m.may p c s ≡ true → P s → P (m.next p c s)) where
+    pub always : (s : S) (log : List (Entry C A)) → P s → IsLegalFrom m n s log → P (after m s log)
+    always s [] first legal = first
+    always s (e ∷ es) first legal = always (m.next e.pass e.call s) es (kept e.pass e.call s legal.0 legal.1 first) legal.3
+
+  -- a call in a legal history: what is before it is legal, and its answer is the plain one
+  pub answered : (k : K) (before rest : List (Entry C A)) (p : ℕ) (c : C) (a : A) → IsLegal m k (before ++ entry p c a ∷ rest) → IsLegal m k before × (a ≡ m.answer p c (state m k before))
+  answered k before rest p c a legal = let two = legal-split (m.passes k) (m.start k) before (entry p c a ∷ rest) legal in (two.0, two.1.2)
+
   -- what a call of another pass leaves as it is, calls of others leave as it is
   module _ (p : ℕ) (steady : (q : ℕ) (d : C) (s : S) → q ≢ p → m.holds p (m.next q d s) ≡ m.holds p s) where
     passed_by : (s : S) (e : Entry C A) (es : List (Entry C A)) (b : Bool) → (e.pass == p) ≡ b → (if b then e ∷ calls_by p es else calls_by p es) ≡ []
@@ -107,25 +117,21 @@ module _ {K S C A H : Type 0} (m : Machine K S C A H) where
       }
 
   -- what a pass knows of its hold is so in the history of all, and its own calls alone change it
-  module _ (steady : (p q : ℕ) (c : C) (s : S) → q ≢ p → m.holds p (m.next q c s) ≡ m.holds p s) (x : Known K C A) where
+  module _ (tracked : IsTracked m) (x : Known K C A) where
     pub still : (log : List (Entry C A)) → BeginsWith log x.seen → calls_by x.pass log ≡ calls_by x.pass x.seen → m.holds x.pass (state m x.opening log) ≡ holds m x
-    still log begins own = stands_on x.pass (λ q c s apart. steady x.pass q c s apart) x.opening log x.seen begins own
+    still log begins own = stands_on x.pass (λ q c s apart. tracked.steady x.pass q c s apart) x.opening log x.seen begins own
 
     pub after_meet : (log : List (Entry C A)) (y : Known K C A) → Met m x log y → holds m y ≡ holds m x
     after_meet log y met =
         ap (λ (p : ℕ). m.holds p (state m y.opening y.seen)) met.pass ∙ (ap (λ (k : K). m.holds x.pass (state m k y.seen)) met.opening ∙ (ap (λ (l : List (Entry C A)). m.holds x.pass (state m x.opening l)) met.history ∙ still log met.begins met.own))
 
-    -- a call: what is held after it, by the state that it found, in which the pass held what it knows
-    module _ (c : C) (a : A) (y : Known K C A) (made : Made m x c a y) where
-      abbrev pub found : S
-      found = state m x.opening (made_at x c a y made).before
+    pub after_own : (c : C) (a : A) (y : Known K C A) → Made m x c a y → holds m y ≡ m.held_after c a (holds m x)
+    after_own c a y made =
+        let at = made_at x c a y made in
+        let found : S = state m x.opening at.before in
+        ap (λ (p : ℕ). m.holds p (state m y.opening y.seen)) made.pass ∙ (ap (m.holds x.pass) at.left ∙ (tracked.own x.opening at.before x.pass c at.legal at.may
+        ∙ (ap (λ (b : A). m.held_after c b (m.holds x.pass found)) (sym at.answer) ∙ ap (m.held_after c a) (still at.before at.begins at.own))))
 
-      pub holds_next : holds m y ≡ m.holds x.pass (m.next x.pass c found)
-      holds_next = ap (λ (p : ℕ). m.holds p (state m y.opening y.seen)) made.pass ∙ ap (m.holds x.pass) (made_at x c a y made).left
-
-      pub held_before : m.holds x.pass found ≡ holds m x
-      held_before = still (made_at x c a y made).before (made_at x c a y made).begins (made_at x c a y made).own
-
-      -- a call that leaves what is held
-      pub after_same : ((s : S) → m.holds x.pass (m.next x.pass c s) ≡ m.holds x.pass s) → holds m y ≡ holds m x
-      after_same same = holds_next ∙ (same found ∙ held_before)
+    pub after_step : (t : Option (C × A)) (y : Known K C A) → Turned m t x y → holds m y ≡ held_then m t (holds m x)
+    after_step None y same = ap (holds m) same
+    after_step (Some t) y made = after_own t.0 t.1 y made

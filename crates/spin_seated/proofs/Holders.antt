@@ -7,10 +7,10 @@ use Rattle.spin_seated.specs.declared.mutex.Call.{Call}
 use Rattle.spin_seated.specs.declared.mutex.Call.TheVariants.{TryLock, IsLocked, Read, Write, Unlock}
 use Rattle.spin_seated.specs.declared.lock.Answer.{Answer}
 use Rattle.spin_seated.specs.declared.lock.Answer.TheVariants.{Truth}
-use Rattle.spin_seated.specs.Histories.{after, state, IsLegalFrom, IsLegal, Made}
+use Rattle.spin_seated.specs.Histories.{state, IsLegal, IsTracked}
 use Rattle.spin_seated.specs.Locked.{Locked}
-use Rattle.spin_seated.specs.Mutex.{may_call, after_call, mutex, Knows, holds}
-use Rattle.spin_seated.proofs.Histories.{made_at, holds_next, held_before}
+use Rattle.spin_seated.specs.Mutex.{may_call, plain_answer, after_call, held_after, mutex}
+use Rattle.spin_seated.proofs.Histories.{always}
 
 -- the state with these holders
 abbrev pub held_by : Locked → List Holder → Locked
@@ -47,12 +47,8 @@ alone_after n p Read s given may alone = alone
 alone_after n p (Write v) s given may alone = alone
 alone_after n p Unlock s given may alone = subst (Alone n) (sym (freed n p s.lock.holders alone may)) tt
 
-pub alone_from : (n : ℕ) (s : Locked) (log : List (Entry Call Answer)) → Alone n s.lock.holders → IsLegalFrom mutex n s log → Alone n (after mutex s log).lock.holders
-alone_from n s [] alone legal = alone
-alone_from n s (e ∷ es) alone legal = alone_from n (after_call e.pass e.call s) es (alone_after n e.pass e.call s legal.0 legal.1 alone) legal.3
-
 pub alone_state : (k : Opening) (log : List (Entry Call Answer)) → IsLegal mutex k log → Alone k.passes (state mutex k log).lock.holders
-alone_state k log legal = alone_from k.passes (mutex.start k) log tt legal
+alone_state k log legal = always mutex (λ s. Alone k.passes s.lock.holders) k.passes (λ p c s. alone_after k.passes p c s) (mutex.start k) log tt legal
 
 other_tries : (p q : ℕ) (s : Locked) (hs : List Holder) → q ≢ p → is_holder p writing (after_call q TryLock (held_by s hs)).lock.holders ≡ is_holder p writing hs
 other_tries p q s [] apart = ap (λ (b : Bool). (b && true) || false) (ne_eqb q p apart)
@@ -100,14 +96,12 @@ pub tried : (p : ℕ) (s : Locked) (hs : List Holder) (b : Bool) → Truth b ≡
 tried p s [] b is = ap (λ (t : Bool). (t && true) || false) (eq-eqb p p refl) ∙ sym (truth_is b true is)
 tried p s (h ∷ hs) b is = sym (ap (λ (t : Bool). is_holder p writing (h ∷ hs) || t) (truth_is b false is) ∙ or_false (is_holder p writing (h ∷ hs)))
 
-pub after_try : (x : Knows) (b : Bool) (y : Knows) → Made mutex x TryLock (Truth b) y → holds y ≡ (holds x || b)
-after_try x b y made =
-    let at = made_at mutex x TryLock (Truth b) y made in
-    let s : Locked = state mutex x.opening at.before in
-    holds_next mutex steady x TryLock (Truth b) y made ∙ (tried x.pass s s.lock.holders b at.answer ∙ ap (λ (t : Bool). t || b) (held_before mutex steady x TryLock (Truth b) y made))
+own_after : (n p : ℕ) (c : Call) (s : Locked) → Alone n s.lock.holders → may_call p c s ≡ true → is_held_by p (after_call p c s) ≡ held_after c (plain_answer p c s) (is_held_by p s)
+own_after n p TryLock s alone may = tried p s s.lock.holders (is_empty s.lock.holders) refl
+own_after n p IsLocked s alone may = refl
+own_after n p Read s alone may = refl
+own_after n p (Write v) s alone may = refl
+own_after n p Unlock s alone may = ap (is_holder p writing) (freed n p s.lock.holders alone may)
 
-pub after_unlock : (x : Knows) (a : Answer) (y : Knows) → Made mutex x Unlock a y → holds y ≡ false
-after_unlock x a y made =
-    let at = made_at mutex x Unlock a y made in
-    let s : Locked = state mutex x.opening at.before in
-    holds_next mutex steady x Unlock a y made ∙ ap (is_holder x.pass writing) (freed x.opening.passes x.pass s.lock.holders (alone_state x.opening at.before at.legal) at.may)
+pub tracked : IsTracked mutex
+tracked = record { own = λ k log p c legal may. own_after k.passes p c (state mutex k log) (alone_state k log legal) may; steady = steady }

@@ -8,9 +8,9 @@ use Rattle.atomic_table.specs.Table.{State, Step, Me, Act, keeps, Valid, Allows,
 use Rattle.atomic_table.proofs.Lists.{at_set, at_snoc, set_again, set_else}
 use Rattle.spin_seated.specs.declared.history.Entry.{Entry}
 use Rattle.spin_seated.specs.declared.history.Known.{Known}
-use Rattle.spin_seated.specs.Histories.{Machine, entry, calls_by, newcomer, names, total, One, state, IsLegal, Made, Met, Fits, AllFit, Kept, all_passes, Turned, Tells, Shows, Owed, Owes}
+use Rattle.spin_seated.specs.Histories.{Machine, entry, calls_by, newcomer, names, total, One, state, IsLegal, Made, Met, Fits, AllFit, Kept, all_passes, IsTracked, Turned, Tells, Shows, Owed, Owes}
 use Rattle.spin_seated.proofs.Totals.{total-append, total-set, two_at_most}
-use Rattle.spin_seated.proofs.Histories.{begins_here, begins_longer, calls_by-append, calls_by-own, calls_by-other, after-append, legal-append}
+use Rattle.spin_seated.proofs.Histories.{begins_here, begins_longer, calls_by-append, calls_by-own, calls_by-other, after-append, legal-append, still}
 
 module _ {K C A : Type 0} where
   -- the same pass, with this history
@@ -129,18 +129,18 @@ module _ {K S C A H : Type 0} (m : Machine K S C A H) where
     steps (Some t) owed =
         (knowing x (longer t.0 t.1 owed.0 owed.1 owed.2) ∷ [], keeps, tt, makes t.0 t.1 owed.0 owed.1 owed.2, (made t.0 t.1 owed.0 owed.1 owed.2, refl))
 
-    steps_here : (told : ℕ → Option (C × A)) → Owes m x i f told → slice_index s.words i < 18446744073709551616 → Steps s.words (told (slice_index s.words i))
-    steps_here told owes small =
+    steps_here : IsTracked m → (told : ℕ → Option (C × A)) → Owes m x i f told → slice_index s.words i < 18446744073709551616 → Steps s.words (told (slice_index s.words i))
+    steps_here tracked told owes small =
         subst (λ (words : List ℕ). Steps words (told (slice_index words i))) (sym kept.words)
-        (steps (told (slice_index (m.words now) i)) (owes kept.log kept.legal own_fits (subst (λ (words : List ℕ). slice_index words i < 18446744073709551616) kept.words small)))
+        (steps (told (slice_index (m.words now) i)) (owes kept.log kept.legal (still m tracked x kept.log own_fits.begins own_fits.own) (subst (λ (words : List ℕ). slice_index words i < 18446744073709551616) kept.words small)))
 
   -- a step of a pass that owes what the lock owes for it
-  pub allows : {X : Type 0} (k : K) (slots id : ℕ) (me : Me X (List (Known K C A))) (x : Known K C A) (i : ℕ) (f : ℕ → ℕ) (st : Step X) (told : ℕ → ℕ → Option (C × A))
+  pub allows : {X : Type 0} → IsTracked m → (k : K) (slots id : ℕ) (me : Me X (List (Known K C A))) (x : Known K C A) (i : ℕ) (f : ℕ → ℕ) (st : Step X) (told : ℕ → ℕ → Option (C × A))
       → me ≡ (x ∷ [], []) → x.opening ≡ k → Owes m x i f (told st.first) → Allows (Kept m k) slots id me i f (Tells m told st me)
-  allows {X} k slots id me x i f st told is opening owes =
+  allows {X} tracked k slots id me x i f st told is opening owes =
       subst (λ (o : K). Allows (Kept m o) slots id me i f (Tells m told st me)) opening
       (subst (λ (u : Me X (List (Known K C A))). Allows (Kept m x.opening) slots id u i f (Tells m told st u)) (sym is)
-      (λ s kept size at small. steps_here x id i f s kept at (told st.first) owes small))
+      (λ s kept size at small. steps_here x id i f s kept at tracked (told st.first) owes small))
 
   -- a load by the seat of two passes, which then know the history of all
   pub shows : {X : Type 0} (k : K) (slots id : ℕ) (me : Me X (List (Known K C A))) (x y : Known K C A) (i : ℕ) (st : Step X)

@@ -6,14 +6,47 @@ use Rattle.spin_seated.specs.declared.history.Known.{Known}
 use Rattle.spin_seated.specs.declared.lock.Opening.{Opening}
 use Rattle.spin_seated.specs.declared.mutex.Call.{Call}
 use Rattle.spin_seated.specs.declared.mutex.Call.TheVariants.{TryLock, IsLocked, Read, Write, Unlock}
+use Rattle.spin_seated.specs.declared.lock.Answer.{Answer}
 use Rattle.spin_seated.specs.declared.lock.Answer.TheVariants.{Truth, Value}
 use Rattle.spin_seated.specs.Histories.{Machine, BeginsWith, entry, calls_by, after, state, IsLegal, Met}
-use Rattle.spin_seated.specs.Locked.{Locked}
+use Rattle.spin_seated.specs.Locked.{Locked, value_after}
 use Rattle.spin_seated.specs.Mutex.{after_call, mutex}
 use Rattle.spin_seated.specs.Lawful.{History, holders, written, last_written}
-use Rattle.spin_seated.proofs.Histories.{after-append, legal-split, calls_by-append}
+use Rattle.spin_seated.proofs.Histories.{after-append, answered, calls_by-append}
 use Rattle.spin_seated.proofs.Holders.{Alone, alone_state, held_by, truth_is, value_tried}
 
+-- of any lock
+module _ {K S C A H : Type 0} (m : Machine K S C A H) where
+  pub in_order : (log seen : List (Entry C A)) (p : ℕ) → BeginsWith log seen → BeginsWith (calls_by p log) (calls_by p seen)
+  in_order log seen p begins = record { rest = calls_by p begins.rest; is = ap (calls_by p) begins.is ∙ calls_by-append p seen begins.rest }
+
+  get-append : (xs ys : List (Entry C A)) (n : ℕ) (e : Entry C A) → slice_get xs n ≡ Some e → slice_get (xs ++ ys) n ≡ Some e
+  get-append [] ys n e is = absurd (cc is)
+  get-append (x ∷ xs) ys zero e is = is
+  get-append (x ∷ xs) ys (suc n) e is = get-append xs ys n e is
+
+  still_there : (log seen : List (Entry C A)) → BeginsWith log seen → (n : ℕ) (e : Entry C A) → slice_get seen n ≡ Some e → slice_get log n ≡ Some e
+  still_there log seen begins n e is = ap (λ (l : List (Entry C A)). slice_get l n) begins.is ∙ get-append seen begins.rest n e is
+
+  pub agree : (a b met_a met_b : Known K C A) → Met m a met_a.seen met_a → Met m b met_a.seen met_b
+      → (met_b.seen ≡ met_a.seen) × ((n : ℕ) (e : Entry C A) → slice_get a.seen n ≡ Some e → slice_get met_b.seen n ≡ Some e)
+      × ((n : ℕ) (e : Entry C A) → slice_get b.seen n ≡ Some e → slice_get met_a.seen n ≡ Some e)
+  agree a b met_a met_b first second =
+      (second.history, (λ n e is. ap (λ (l : List (Entry C A)). slice_get l n) second.history ∙ still_there met_a.seen a.seen first.begins n e is), still_there met_a.seen b.seen second.begins)
+
+module _ {C H : Type 0} (m : Machine Opening Locked C Answer H) (written : C → ℕ → ℕ) (writes : (p : ℕ) (c : C) (s : Locked) → (m.next p c s).value ≡ written c s.value) where
+  value_is : (s : Locked) (log : List (Entry C Answer)) → (after m s log).value ≡ value_after written s.value log
+  value_is s [] = refl
+  value_is s (e ∷ es) = value_is (m.next e.pass e.call s) es ∙ ap (λ (v : ℕ). value_after written v es) (writes e.pass e.call s)
+
+  -- a call that is answered the value
+  pub read_is : (k : Opening) (before rest : List (Entry C Answer)) (p v : ℕ) (c : C) → ((s : Locked) → m.answer p c s ≡ Value s.value) → IsLegal m k (before ++ entry p c (Value v) ∷ rest)
+      → v ≡ value_after written (m.start k).value before
+  read_is k before rest p v c reads legal =
+      let same : v ≡ (state m k before).value = cc ((answered m k before rest p c (Value v) legal).1, reads (state m k before)) in
+      same ∙ value_is (m.start k) before
+
+-- of the mutex
 one_at_most : (n : ℕ) (hs : List Holder) → Alone n hs → length (map (λ h. h.party) hs) ≤ 1
 one_at_most n [] alone = omega arith
 one_at_most n (h ∷ []) alone = omega arith
@@ -35,48 +68,20 @@ lost n (h ∷ g ∷ hs) alone is = absurd alone
 pub granted : (k : Opening) (before rest : History) (p : ℕ) → IsLegal mutex k (before ++ entry p TryLock (Truth true) ∷ rest)
     → (holders k before ≡ []) × (holders k (before ++ entry p TryLock (Truth true) ∷ []) ≡ p ∷ [])
 granted k before rest p legal =
-    let two = legal-split mutex k.passes (mutex.start k) before (entry p TryLock (Truth true) ∷ rest) legal in
     let s : Locked = state mutex k before in
-    let both = won p s s.lock.holders two.1.2 in
+    let both = won p s s.lock.holders (answered mutex k before rest p TryLock (Truth true) legal).1 in
     (both.0, ap (λ (s : Locked). map (λ h. h.party) s.lock.holders) (after-append mutex (mutex.start k) before (entry p TryLock (Truth true) ∷ [])) ∙ both.1)
 
 pub refused : (k : Opening) (before rest : History) (p : ℕ) → IsLegal mutex k (before ++ entry p TryLock (Truth false) ∷ rest) → (q : ℕ) × (holders k before ≡ q ∷ [])
 refused k before rest p legal =
-    let two = legal-split mutex k.passes (mutex.start k) before (entry p TryLock (Truth false) ∷ rest) legal in
-    lost k.passes (state mutex k before).lock.holders (alone_state k before two.0) two.1.2
+    let two = answered mutex k before rest p TryLock (Truth false) legal in lost k.passes (state mutex k before).lock.holders (alone_state k before two.0) two.1
 
-value_after : (p : ℕ) (c : Call) (s : Locked) → (after_call p c s).value ≡ written c s.value
-value_after p TryLock s = value_tried p s (is_empty s.lock.holders)
-value_after p IsLocked s = refl
-value_after p Read s = refl
-value_after p (Write w) s = refl
-value_after p Unlock s = refl
-
-value_is : (s : Locked) (log : History) → (after mutex s log).value ≡ last_written s.value log
-value_is s [] = refl
-value_is s (e ∷ es) = value_is (after_call e.pass e.call s) es ∙ ap (λ (v : ℕ). last_written v es) (value_after e.pass e.call s)
+written_by : (p : ℕ) (c : Call) (s : Locked) → (after_call p c s).value ≡ written c s.value
+written_by p TryLock s = value_tried p s (is_empty s.lock.holders)
+written_by p IsLocked s = refl
+written_by p Read s = refl
+written_by p (Write w) s = refl
+written_by p Unlock s = refl
 
 pub read : (k : Opening) (before rest : History) (p v : ℕ) → IsLegal mutex k (before ++ entry p Read (Value v) ∷ rest) → v ≡ last_written k.value before
-read k before rest p v legal =
-    let two = legal-split mutex k.passes (mutex.start k) before (entry p Read (Value v) ∷ rest) legal in
-    let same : v ≡ (state mutex k before).value = cc (two.1.2) in
-    same ∙ value_is (mutex.start k) before
-
--- of any lock
-module _ {K S C A H : Type 0} (m : Machine K S C A H) where
-  pub in_order : (log seen : List (Entry C A)) (p : ℕ) → BeginsWith log seen → BeginsWith (calls_by p log) (calls_by p seen)
-  in_order log seen p begins = record { rest = calls_by p begins.rest; is = ap (calls_by p) begins.is ∙ calls_by-append p seen begins.rest }
-
-  get-append : (xs ys : List (Entry C A)) (n : ℕ) (e : Entry C A) → slice_get xs n ≡ Some e → slice_get (xs ++ ys) n ≡ Some e
-  get-append [] ys n e is = absurd (cc is)
-  get-append (x ∷ xs) ys zero e is = is
-  get-append (x ∷ xs) ys (suc n) e is = get-append xs ys n e is
-
-  still_there : (log seen : List (Entry C A)) → BeginsWith log seen → (n : ℕ) (e : Entry C A) → slice_get seen n ≡ Some e → slice_get log n ≡ Some e
-  still_there log seen begins n e is = ap (λ (l : List (Entry C A)). slice_get l n) begins.is ∙ get-append seen begins.rest n e is
-
-  pub agree : (a b met_a met_b : Known K C A) → Met m a met_a.seen met_a → Met m b met_a.seen met_b
-      → (met_b.seen ≡ met_a.seen) × ((n : ℕ) (e : Entry C A) → slice_get a.seen n ≡ Some e → slice_get met_b.seen n ≡ Some e)
-      × ((n : ℕ) (e : Entry C A) → slice_get b.seen n ≡ Some e → slice_get met_a.seen n ≡ Some e)
-  agree a b met_a met_b first second =
-      (second.history, (λ n e is. ap (λ (l : List (Entry C A)). slice_get l n) second.history ∙ still_there met_a.seen a.seen first.begins n e is), still_there met_a.seen b.seen second.begins)
+read k before rest p v = read_is mutex written written_by k before rest p v Read (λ s. refl)

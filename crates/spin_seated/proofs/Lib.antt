@@ -5,7 +5,6 @@ pub mod Keeping
 pub mod Lawful
 pub mod Passes
 pub mod RwDebts
-pub mod RwLawful
 pub mod RwSteps
 pub mod Totals
 pub mod Turns

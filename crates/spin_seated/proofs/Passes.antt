@@ -6,8 +6,9 @@ use Rattle.atomic_table.specs.Table.{Step, Me, Allows}
 use Rattle.spin_seated.specs.declared.history.Entry.{Entry}
 use Rattle.spin_seated.specs.declared.lock.Opening.{Opening}
 use Rattle.spin_seated.specs.declared.lock.Answer.{Answer}
-use Rattle.spin_seated.specs.Histories.{Machine, newcomer, One, Two, Kept, Met, Turned, Tells, Shows, Owes}
+use Rattle.spin_seated.specs.Histories.{Machine, newcomer, holds, One, Two, Kept, IsTracked, Met, Turned, held_then, Tells, Shows, Owes}
 use Rattle.spin_seated.specs.Passes.{Knows, Seated, seated_of, first_of_view, IsOneSeat}
+use Rattle.spin_seated.proofs.Histories.{after_step}
 use Rattle.spin_seated.proofs.Keeping.{allows}
 
 module _ {S C H : Type 0} (m : Machine Opening S C Answer H) where
@@ -26,9 +27,9 @@ module _ {S C H : Type 0} (m : Machine Opening S C Answer H) where
     its_view = one_seat o s is one ∙ ap (λ (u : Seated C). (u.known ∷ [], [])) seat_is
 
     -- a step of the pass that owes what the lock owes for it
-    pub allowed : (k : Opening) (slots i : ℕ) (f : ℕ → ℕ) (st : Step ℕ) (told : ℕ → ℕ → Option (C × Answer)) → v.known.opening ≡ k → Owes m v.known i f (told st.first)
+    pub allowed : IsTracked m → (k : Opening) (slots i : ℕ) (f : ℕ → ℕ) (st : Step ℕ) (told : ℕ → ℕ → Option (C × Answer)) → v.known.opening ≡ k → Owes m v.known i f (told st.first)
         → Allows (Kept m k) slots s.id s.me i f (Tells m told st s.me)
-    allowed k slots i f st told opening owes = allows m k slots s.id s.me v.known i f st told its_view opening owes
+    allowed tracked k slots i f st told opening owes = allows m tracked k slots s.id s.me v.known i f st told its_view opening owes
 
     -- what the step told, of the seat as it is now
     one_of : (P : Knows C → Type 0) (w : List (Knows C)) → One P w → (w ≡ first_of_view w ∷ []) × P (first_of_view w)
@@ -36,12 +37,12 @@ module _ {S C H : Type 0} (m : Machine Opening S C Answer H) where
     one_of P (x ∷ []) h = (refl, h)
     one_of P (x ∷ y ∷ xs) h = absurd h
 
-    pub turned : (st : Step ℕ) (told : ℕ → ℕ → Option (C × Answer)) (found : ℕ) (me : Me ℕ (List (Knows C))) → Tells m told st s.me found me
-        → (me ≡ (first_of_view me.0 ∷ [], [])) × Turned m (told st.first found) v.known (first_of_view me.0)
-    turned st told found me tells =
+    pub turned : IsTracked m → (st : Step ℕ) (told : ℕ → ℕ → Option (C × Answer)) (found : ℕ) (me : Me ℕ (List (Knows C))) → Tells m told st s.me found me
+        → (me ≡ (first_of_view me.0 ∷ [], [])) × (holds m (first_of_view me.0) ≡ held_then m (told st.first found) (holds m v.known))
+    turned tracked st told found me tells =
         let t : Tells m told st (v.known ∷ [], []) found me = subst (λ (u : Me ℕ (List (Knows C))). Tells m told st u found me) its_view tells in
         let w = one_of (λ y. Turned m (told st.first found) v.known y) me.0 t.0 in
-        ((λ i. (w.0 i, t.1 i)), w.1)
+        ((λ i. (w.0 i, t.1 i)), after_step m tracked v.known (told st.first found) (first_of_view me.0) w.1)
 
   -- Two passes that meet: the seat of both, before and after its step, and what each is left with
   module _ (st : Step ℕ) (x y : Knows C) (found : ℕ) (before me of_x of_y : Me ℕ (List (Knows C))) where
@@ -74,11 +75,6 @@ module _ {S C H : Type 0} (m : Machine Opening S C Answer H) where
           first = subst (λ (l : List (Entry C Answer)). Met m x l (first_of_view of_x.0)) same (subst (λ (q : Knows C). Met m x log q) is_x w.3.2);
           second = subst (λ (l : List (Entry C Answer)). Met m y l (first_of_view of_y.0)) same (subst (λ (q : Knows C). Met m y log q) is_y w.3.1);
         }
-
-  -- the pass that stood for one comes out of the step as this call made, or as it was
-  pub turned_opening : (t : Option (C × Answer)) (x y : Knows C) → Turned m t x y → y.opening ≡ x.opening
-  turned_opening None x y is = ap (λ (q : Knows C). q.opening) is
-  turned_opening (Some t) x y made = made.opening
 
 range-first : (a n : ℕ) → a < n → range_with_len a (n - a) ≡ a ∷ range_with_len (a + 1) (n - (a + 1))
 range-first a n below = let e : n - a ≡ suc (n - (a + 1)) = omega arith in ap (range_with_len a) e

@@ -1,5 +1,5 @@
 -- One history of all calls, over a machine of plain answers; what each pass knows of it, and what a step tells.
-use Rattle.std.specs.Prelude.{◌≡◌, ℕ, ◌+◌, ◌<◌, ◌≤◌, Bool, true, cond, if◌then◌else◌, ◌==◌, List, [], ◌∷◌, ◌++◌, Option, Some, None, slice_index, slice_set, map}
+use Rattle.std.specs.Prelude.{◌≡◌, ◌≢◌, ℕ, ◌+◌, ◌<◌, ◌≤◌, Bool, true, cond, if◌then◌else◌, ◌==◌, List, [], ◌∷◌, ◌++◌, Option, Some, None, slice_index, slice_set, map}
 use Rattle.std.specs.List.{range_with_len}
 use mathlib.Core.Option.{some}
 use lib.ListN.{get_elem?}
@@ -9,7 +9,7 @@ use Rattle.spin_seated.specs.declared.history.Known.{Known}
 
 -- The plain object: how it begins from what `new` was handed, how many passes `new` gives, and the words of a state;
 -- for a pass, its call and a state, whether the call may be made there, its answer, and the state after it;
--- and what a pass holds in a state
+-- what a pass holds in a state; and what it holds after a call of its own, by the answer and what it held
 pub record Machine (K S C A H : Type 0) : Type 0 where
   pub start : K → S
   pub passes : K → ℕ
@@ -18,6 +18,7 @@ pub record Machine (K S C A H : Type 0) : Type 0 where
   pub answer : ℕ → C → S → A
   pub next : ℕ → C → S → S
   pub holds : ℕ → S → H
+  pub held_after : C → A → H → H
 
 -- the list begins with another, and goes on
 pub record BeginsWith {X : Type 0} (all first : List X) : Type 0 where
@@ -81,6 +82,12 @@ module _ {K S C A H : Type 0} (m : Machine K S C A H) where
   abbrev pub holds : Known K C A → H
   holds x = m.holds x.pass (state x.opening x.seen)
 
+  -- a pass's own calls tell what it holds: those of others leave it as it is
+  pub record IsTracked : Type 0 where
+    pub own : (k : K) (log : List (Entry C A)) (p : ℕ) (c : C) → IsLegal k log → m.may p c (state k log) ≡ true
+        → m.holds p (m.next p c (state k log)) ≡ m.held_after c (m.answer p c (state k log)) (m.holds p (state k log))
+    pub steady : (p q : ℕ) (c : C) (s : S) → q ≢ p → m.holds p (m.next q c s) ≡ m.holds p s
+
   -- a pass has made a call: the history that it knew before goes on to one that ends with the call and its answer,
   -- is legal, and has of the pass's own calls one more, at the end
   pub record Made (x : Known K C A) (c : C) (a : A) (y : Known K C A) : Type 0 where
@@ -129,6 +136,11 @@ module _ {K S C A H : Type 0} (m : Machine K S C A H) where
   Turned None x y = y ≡ x
   Turned (Some t) x y = Made x t.0 t.1 y
 
+  -- what a pass holds after such a step
+  abbrev pub held_then : Option (C × A) → H → H
+  held_then None h = h
+  held_then (Some t) h = m.held_after t.0 t.1 h
+
   -- what a step of one pass tells: which call it was, by its first operand and the word that it found
   abbrev pub Tells : {X : Type 0} → (ℕ → ℕ → Option (C × A)) → Step X → Me X (List (Known K C A)) → ℕ → Me X (List (Known K C A)) → Type 0
   Tells told step before found after = One (λ x. One (λ y. Turned (told step.first found) x y) after.0) before.0 × (after.1 ≡ before.1)
@@ -144,8 +156,8 @@ module _ {K S C A H : Type 0} (m : Machine K S C A H) where
   Owed p i f s (Some t) =
       (m.may p t.0 s ≡ true) × (slice_set (m.words s) i (f (slice_index (m.words s) i)) ≡ m.words (m.next p t.0 s)) × (t.1 ≡ m.answer p t.0 s)
 
-  -- the same at each legal history that agrees with what the pass knows
+  -- the same at each legal history, in which the pass holds what it knows
   abbrev pub Owes : Known K C A → (i : ℕ) → (ℕ → ℕ) → (ℕ → Option (C × A)) → Type 0
   Owes x i f told =
-      (log : List (Entry C A)) → IsLegal x.opening log → Fits x.opening log x → slice_index (m.words (state x.opening log)) i < 18446744073709551616
+      (log : List (Entry C A)) → IsLegal x.opening log → m.holds x.pass (state x.opening log) ≡ holds x → slice_index (m.words (state x.opening log)) i < 18446744073709551616
       → Owed x.pass i f (state x.opening log) (told (slice_index (m.words (state x.opening log)) i))

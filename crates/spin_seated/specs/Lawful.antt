@@ -1,11 +1,12 @@
 -- What a history of a mutex says, in the words of its users.
-use Rattle.std.specs.Prelude.{ℕ, List, [], ◌∷◌, map}
+use Rattle.std.specs.Prelude.{ℕ, List, map}
 use Rattle.spin_seated.specs.declared.history.Entry.{Entry}
 use Rattle.spin_seated.specs.declared.lock.Opening.{Opening}
 use Rattle.spin_seated.specs.declared.mutex.Call.{Call}
 use Rattle.spin_seated.specs.declared.mutex.Call.TheVariants.{Write}
 use Rattle.spin_seated.specs.declared.lock.Answer.{Answer}
 use Rattle.spin_seated.specs.Histories.{state}
+use Rattle.spin_seated.specs.Locked.{value_after}
 use Rattle.spin_seated.specs.Mutex.{mutex}
 
 abbrev pub History : Type 0
@@ -21,5 +22,4 @@ written _ v = v
 
 -- the value of the last write, or the one that stood there before
 abbrev pub last_written : ℕ → History → ℕ
-last_written v [] = v
-last_written v (e ∷ es) = last_written (written e.call v) es
+last_written v log = value_after written v log

@@ -1,5 +1,5 @@
 -- The plain mutex.
-use Rattle.std.specs.Prelude.{ℕ, Bool, true, if◌then◌else◌, [], ◌∷◌, Option, Some, not, ◌==◌}
+use Rattle.std.specs.Prelude.{ℕ, Bool, true, false, ◌||◌, if◌then◌else◌, [], ◌∷◌, Option, Some, not, ◌==◌}
 use Rattle.spin_step.specs.Plain.{fresh, writing, is_open, apply, gets, releases, to_write, flag_word, is_holder, is_empty}
 use Rattle.spin_seated.specs.declared.lock.Opening.{Opening}
 use Rattle.spin_seated.specs.declared.lock.Answer.{Answer}
@@ -36,6 +36,11 @@ after_call p Read s = s
 after_call p (Write v) s = record s { value = v }
 after_call p Unlock s = record s { lock = apply s.lock (releases p writing) }
 
+abbrev pub held_after : Call → Answer → Bool → Bool
+held_after TryLock (Truth granted) held = held || granted
+held_after Unlock a held = false
+held_after c a held = held
+
 abbrev pub mutex : Machine Opening Locked Call Answer Bool
 mutex =
     record {
@@ -46,6 +51,7 @@ mutex =
       answer = plain_answer;
       next = after_call;
       holds = λ p s. is_holder p writing s.lock.holders;
+      held_after = held_after;
     }
 
 -- what a pass of the mutex knows

@@ -73,6 +73,14 @@ plain_answer p WriterCount s = Value (count_kind writing s.lock.holders)
 plain_answer p Read s = Value s.value
 plain_answer p _ s = Done
 
+abbrev pub held_after : Call → Answer → Option SeatedHold → Option SeatedHold
+held_after TryRead (Truth granted) h = if granted then Some hold.Read else h
+held_after TryWrite (Truth granted) h = if granted then Some hold.Write else h
+held_after UnlockRead a h = None
+held_after UnlockWrite a h = None
+held_after Downgrade a h = Some hold.Read
+held_after c a h = h
+
 abbrev pub rw : Machine Opening Locked Call Answer (Option SeatedHold)
 rw =
     record {
@@ -83,6 +91,7 @@ rw =
       answer = plain_answer;
       next = after_call;
       holds = hold_in;
+      held_after = held_after;
     }
 
 -- what a pass of the lock knows

@@ -1,8 +1,7 @@
-//! What no contract says: that a try is granted at all, that memory suffices, and two threads that repeat a try until it is granted.
+//! What no contract says of a `SeatedMutex`: that a try is granted at all, and two threads that repeat a try until it is granted.
 ghost use Rattle.std.specs.Prelude.{◌≡◌};
 ghost use Rattle.spin_seated.specs.Passes.{IsPassOf};
 
-use bumpalo::Bump;
 use spin_core::relax::{RelaxStrategy, Yield};
 use spin_seated::adding::{add_in_two, open_for_two};
 use spin_seated::mutex::{Pass, SeatedMutex};
@@ -88,37 +87,5 @@ fn what_two_threads_add_is_read(rt: HostRuntime) -> Result<(), Fail> {
     let (read, first, second) = add_in_two(&rt, rt.alloc(), 1000)?;
     assert!(rt; 0 < read && first <= 1000 && second <= 1000);
     assert_eq!(rt; read, first + second);
-    Ok(())
-}
-
-// Whether a mutex for two fits where so many bytes are left.
-fn opens_in(arena: &Bump, left: usize) -> bool {
-    arena.set_allocation_limit(Some(0));
-    let filled = arena.chunk_capacity().saturating_sub(left);
-    let Ok(filled) = Vec::<u8, &Bump>::with_capacity(arena, filled) else {
-        return false;
-    };
-    let opened = SeatedMutex::new(arena, 5, 2);
-    drop(filled);
-    match opened {
-        Ok((lock, passes)) => {
-            drop(passes);
-            drop(lock);
-            true
-        }
-        Err(_) => false,
-    }
-}
-
-#[test]
-fn refused_memory_is_an_error(rt: HostRuntime) -> Result<(), Fail> {
-    let mut refused = 0u32;
-    for left in 0..256usize {
-        let arena = Bump::try_with_capacity(rt.alloc(), 512)?;
-        if !opens_in(&arena, left) {
-            refused = refused.saturating_add(1);
-        }
-    }
-    assert!(rt; 16 <= refused && refused < 256);
     Ok(())
 }

@@ -4,4 +4,6 @@
 #[cfg(test)]
 mod calls;
 #[cfg(test)]
+mod memory;
+#[cfg(test)]
 mod readers;

@@ -1,9 +1,8 @@
-//! What no contract says of a `SeatedRwLock`: that a try is granted at all, that memory suffices, and threads that end.
+//! What no contract says of a `SeatedRwLock`: that a try is granted at all, and threads that end.
 ghost use Rattle.std.specs.Prelude.{◌≡◌, None, IfOk};
 ghost use Rattle.spin_seated.specs.Passes.{IsPassOf, pass_of};
 ghost use Rattle.spin_seated.specs.Rw.{holds};
 
-use bumpalo::Bump;
 use spin_core::relax::{RelaxStrategy, Yield};
 use spin_seated::rwlock::{RwPass, SeatedHold, SeatedRwLock};
 use std::alloc::{AllocError, Global};
@@ -156,37 +155,5 @@ fn two_threads_read_what_a_third_writes(rt: HostRuntime) -> Result<(), Fail> {
     lock.meet(&mut a, &mut c);
     assert_eq!(rt; lock.reader_count(&mut a), 0);
     assert_eq!(rt; lock.writer_count(&mut a), 0);
-    Ok(())
-}
-
-// Whether a lock for three fits where so many bytes are left.
-fn opens_in(arena: &Bump, left: usize) -> bool {
-    arena.set_allocation_limit(Some(0));
-    let filled = arena.chunk_capacity().saturating_sub(left);
-    let Ok(filled) = Vec::<u8, &Bump>::with_capacity(arena, filled) else {
-        return false;
-    };
-    let opened = SeatedRwLock::new(arena, 5, 3);
-    drop(filled);
-    match opened {
-        Ok((lock, passes)) => {
-            drop(passes);
-            drop(lock);
-            true
-        }
-        Err(_) => false,
-    }
-}
-
-#[test]
-fn refused_memory_is_an_error(rt: HostRuntime) -> Result<(), Fail> {
-    let mut refused = 0u32;
-    for left in 0..256usize {
-        let arena = Bump::try_with_capacity(rt.alloc(), 512)?;
-        if !opens_in(&arena, left) {
-            refused = refused.saturating_add(1);
-        }
-    }
-    assert!(rt; 16 <= refused && refused < 256);
     Ok(())
 }

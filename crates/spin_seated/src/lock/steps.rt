@@ -2,7 +2,7 @@
 //! those of the state after it, and that its answer is the plain one.
 ghost use Rattle.std.specs.Prelude.{◌≡◌, ℕ, ◌<◌, ◌+◌, ◌-◌, ◌%◌, ◌^◌, ◌==◌, Option};
 ghost use prog.Atomic.{either};
-ghost use Rattle.spin_seated.specs.Histories.{Owes, Turned, Met, holds};
+ghost use Rattle.spin_seated.specs.Histories.{Owes, Turned, Met, holds, held_then};
 ghost use Rattle.spin_seated.specs.Passes.{IsPassOf};
 
 use super::{Answer, Calls, Opening, Pass, Place, SeatedLock};
@@ -47,7 +47,9 @@ impl<C: Calls, A: Allocator> SeatedLock<C, A> {
         requires owes { Owes C.machine place.old.known word (λ n. n) (T.told 0) }
         ensures own { IsPassOf self.now place.new }
         ensures told { Turned C.machine (T.told 0 result) place.old.known place.new.known }
+        ensures holds { holds C.machine place.new.known ≡ held_then C.machine (T.told 0 result) (holds C.machine place.old.known) }
     {
+        C::laws();
         let Some(seat) = &mut place.seat else {
             unreachable!()
         };
@@ -61,7 +63,9 @@ impl<C: Calls, A: Allocator> SeatedLock<C, A> {
         requires owes { Owes C.machine place.old.known word (λ _. new) (λ _. T.told new new) }
         ensures own { IsPassOf self.now place.new }
         ensures told { Turned C.machine (T.told new new) place.old.known place.new.known }
+        ensures holds { holds C.machine place.new.known ≡ held_then C.machine (T.told new new) (holds C.machine place.old.known) }
     {
+        C::laws();
         let Some(seat) = &mut place.seat else {
             unreachable!()
         };
@@ -81,7 +85,9 @@ impl<C: Calls, A: Allocator> SeatedLock<C, A> {
         requires owes { Owes C.machine place.old.known word (λ n. either (n == old) new n) (T.told old) }
         ensures own { IsPassOf self.now place.new }
         ensures told { Turned C.machine (T.told old result) place.old.known place.new.known }
+        ensures holds { holds C.machine place.new.known ≡ held_then C.machine (T.told old result) (holds C.machine place.old.known) }
     {
+        C::laws();
         let Some(seat) = &mut place.seat else {
             unreachable!()
         };
@@ -97,7 +103,9 @@ impl<C: Calls, A: Allocator> SeatedLock<C, A> {
         requires owes { Owes C.machine place.old.known word (λ n. (n + by) % 2 ^ 64) (T.told by) }
         ensures own { IsPassOf self.now place.new }
         ensures told { Turned C.machine (T.told by result) place.old.known place.new.known }
+        ensures holds { holds C.machine place.new.known ≡ held_then C.machine (T.told by result) (holds C.machine place.old.known) }
     {
+        C::laws();
         let Some(seat) = &mut place.seat else {
             unreachable!()
         };
@@ -111,7 +119,9 @@ impl<C: Calls, A: Allocator> SeatedLock<C, A> {
         requires owes { Owes C.machine place.old.known word (λ n. (n + (2 ^ 64 - by)) % 2 ^ 64) (T.told by) }
         ensures own { IsPassOf self.now place.new }
         ensures told { Turned C.machine (T.told by result) place.old.known place.new.known }
+        ensures holds { holds C.machine place.new.known ≡ held_then C.machine (T.told by result) (holds C.machine place.old.known) }
     {
+        C::laws();
         let Some(seat) = &mut place.seat else {
             unreachable!()
         };

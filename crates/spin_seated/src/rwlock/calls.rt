@@ -43,6 +43,7 @@ impl<A: Allocator> SeatedLock<Call, A> {
         requires free { holds place.old.known ≡ None }
         ensures own { IsPassOf self.now place.new }
         ensures made { Made rw place.old.known TryRead (Truth result) place.new.known }
+        ensures holds { holds place.new.known ≡ (if result then Some hold.Read else None) }
     {
         let mut found = self.load::<Looks>(place, WORD);
         for _ in rt.forever() {

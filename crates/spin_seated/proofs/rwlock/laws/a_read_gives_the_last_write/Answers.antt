@@ -1,5 +1,8 @@
-use Rattle.spin_seated.proofs.RwLawful.{read}
+use Rattle.std.proofs.Common.{refl}
+use Rattle.spin_seated.specs.declared.rwlock.Call.TheVariants.{Read}
+use Rattle.spin_seated.specs.Rw.{rw, written}
+use Rattle.spin_seated.proofs.Lawful.{read_is}
 use Rattle.spin_seated.proofs.rwlock.laws.a_read_gives_the_last_write.Goals as goal
 
 pub returns : goal.returns
-returns c = read
+returns c = λ k before rest p v. read_is rw written (λ p c s. refl) k before rest p v Read (λ s. refl)

@@ -1,5 +1,8 @@
-use Rattle.spin_seated.proofs.RwLawful.{writer_comes}
+use Rattle.spin_seated.specs.declared.rwlock.Call.TheVariants.{TryWrite}
+use Rattle.spin_seated.specs.declared.lock.Answer.TheVariants.{Truth}
+use Rattle.spin_seated.specs.Rw.{rw}
+use Rattle.spin_seated.proofs.Histories.{answered}
 use Rattle.spin_seated.proofs.rwlock.laws.a_writer_comes_where_nobody_holds.Goals as goal
 
 pub returns : goal.returns
-returns c = writer_comes
+returns c = λ k before rest p granted legal. cc (answered rw k before rest p TryWrite (Truth granted) legal).1

@@ -1,8 +1,7 @@
-use Rattle.std.proofs.Common.{ap, sym, ◌∙◌}
+use Rattle.std.proofs.Common.{◌∙◌}
 use Rattle.spin_step.specs.Plain.{reading}
 use Rattle.spin_step.specs.Readers.{reader_limit, has_room}
-use Rattle.spin_seated.specs.Rw.{holds}
-use Rattle.spin_seated.proofs.RwDebts.{looks_owed, comes_owed, told_nothing}
+use Rattle.spin_seated.proofs.RwDebts.{looks_owed, comes_owed, held_still}
 use Rattle.spin_seated.proofs.rwlock.calls.SeatedLock+Call+A.come.Goals as goal
 
 pub load-found-requires-clause-owes : goal.load-found-requires-clause-owes
@@ -11,4 +10,7 @@ load-found-requires-clause-owes g c = looks_owed c.args.place.now.known c.requir
 pub exchange-found-requires-clause-owes : goal.exchange-found-requires-clause-owes
 exchange-found-requires-clause-owes g c =
     comes_owed c.loop.place.known c.loop.found c.in-Some-read.next (λ s p one cap is. c.in-Some-read.ensures.plain s p one cap is)
-    (ap holds (told_nothing (has_room reading c.loop.found reader_limit) _ c.in-Some-read.next c.args.place.now.known c.loop.place.known (sym c.in-Some-read.ensures.exact) c.loop.invariant.told) ∙ c.requires.free)
+    (held_still (has_room reading c.loop.found reader_limit) c.args.place.now.known c.loop.place.known c.loop.invariant.told ∙ c.requires.free)
+
+pub returns-in_default-clause-holds : goal.returns-in_default-clause-holds
+returns-in_default-clause-holds g c = held_still (has_room reading c.loop.found reader_limit) c.args.place.now.known c.loop.place.known c.loop.invariant.told ∙ c.requires.free

@@ -1,15 +1,8 @@
-use Rattle.std.proofs.Common.{ap, sym, ◌∙◌}
+use Rattle.std.proofs.Common.{ap, ◌∙◌}
 use Rattle.spin_seated.specs.declared.rwlock.Call.TheVariants.{Read}
 use Rattle.spin_seated.specs.Rw.{holds, may_with}
-use Rattle.spin_seated.proofs.RwSteps.{after_own}
 use Rattle.spin_seated.proofs.RwDebts.{reads_owed}
 use Rattle.spin_seated.proofs.rwlock.calls.SeatedLock+Call+A.read.Goals as goal
 
 pub load-requires-clause-owes : goal.load-requires-clause-owes
 load-requires-clause-owes g c = reads_owed c.pass.inside.place.known (ap (λ v. may_with Read (holds v.known)) c.pass.view_is ∙ c.requires.holder)
-
-pub invariant_of-pass : goal.invariant_of-pass
-invariant_of-pass g c = c.pass.invariant ∙ sym (after_own c.pass.inside.place.known Read _ _ c.load.ensures.told)
-
-pub returns-clause-holds : goal.returns-clause-holds
-returns-clause-holds g c = after_own c.pass.inside.place.known Read _ _ c.load.ensures.told ∙ ap (λ v. holds v.known) c.pass.view_is

@@ -1,0 +1,56 @@
+//! What no contract says of `new`: that memory suffices, and that where it is refused nothing stays allocated.
+use bumpalo::Bump;
+use spin_seated::lock::{Calls, SeatedLock};
+use spin_seated::{mutex, rwlock};
+use std::alloc::{AllocError, Global};
+use std::test::Fail;
+
+// The bytes of a lock's two words. Its passes are allocated after them.
+const WORDS: u32 = 16;
+
+// Whether a lock for two fits where so many bytes are left.
+fn opens_in<C: Calls>(arena: &Bump, left: usize) -> bool {
+    arena.set_allocation_limit(Some(0));
+    let filled = arena.chunk_capacity().saturating_sub(left);
+    let Ok(filled) = Vec::<u8, &Bump>::with_capacity(arena, filled) else {
+        return false;
+    };
+    let opened = SeatedLock::<C, &Bump>::new(arena, 5, 2);
+    drop(filled);
+    match opened {
+        Ok((lock, passes)) => {
+            drop(passes);
+            drop(lock);
+            true
+        }
+        Err(_) => false,
+    }
+}
+
+// Whether each allocation of a lock is refused where too little is left, and each time, as where the lock is dropped, all
+// that it had is free again: an arena of which a block is still out refuses to be reset.
+fn gives_all_back<C: Calls>(alloc: Global) -> Result<bool, AllocError> {
+    let mut refused = 0u32;
+    for left in 0..256usize {
+        let mut arena = Bump::try_with_capacity(alloc, 512)?;
+        if !opens_in::<C>(&arena, left) {
+            refused = refused.saturating_add(1);
+        }
+        if arena.reset().is_err() {
+            return Ok(false);
+        }
+    }
+    Ok(WORDS < refused && refused < 256)
+}
+
+#[test]
+fn a_refused_mutex_gives_all_back(rt: HostRuntime) -> Result<(), Fail> {
+    assert!(rt; gives_all_back::<mutex::Call>(rt.alloc())?);
+    Ok(())
+}
+
+#[test]
+fn a_refused_rwlock_gives_all_back(rt: HostRuntime) -> Result<(), Fail> {
+    assert!(rt; gives_all_back::<rwlock::Call>(rt.alloc())?);
+    Ok(())
+}
