@@ -7,17 +7,12 @@ use Rattle.spin_step.specs.Readers.{reader_limit, OneOfEach, has_room}
 use Rattle.spin_step.proofs.Readers.{one_of_each, read-word, empty-word, reader-word, writer-word, readers-word, writers-word}
 use Rattle.spin_step.proofs.ReaderSteps.{rw_release-gives, rw_turn-gives}
 use Rattle.spin_seated.specs.declared.history.Entry.{Entry}
-use Rattle.spin_seated.specs.declared.lock.Answer.{Answer}
-use Rattle.spin_seated.specs.declared.lock.Answer.TheVariants.{Truth, Value}
-use Rattle.spin_seated.specs.declared.rwlock.Call.{Call}
-use Rattle.spin_seated.specs.declared.rwlock.Call.TheVariants.{TryRead, TryWrite, Read, Write, UnlockRead, UnlockWrite, Downgrade}
-use Rattle.spin_seated.specs.declared.rwlock.SeatedHold.{SeatedHold}
 use Rattle.spin_seated.specs.declared.rwlock.SeatedHold.TheVariants as hold
 use Rattle.spin_seated.specs.Histories.{state, Turned, Owed, Owes}
-use Rattle.spin_seated.specs.Locked.{Locked}
-use Rattle.spin_seated.specs.Rw.{hold_in, may_with, rw, Knows, holds, refused_by, looks, comes, comes_to_write, counts_readers, counts_writers, reads, writes, is_call}
+use Rattle.spin_seated.specs.Passes.{Seated}
+use Rattle.spin_seated.specs.Rw.{Locked, Answer, Truth, Value, Call, TryRead, TryWrite, Read, Write, UnlockRead, UnlockWrite, Downgrade, SeatedHold, kind_of, hold_in, may_with, rw, Knows, holds, refused_by, looks, comes, comes_to_write, counts_readers, counts_writers, reads, writes, is_call}
 use Rattle.spin_seated.proofs.Histories.{after_own}
-use Rattle.spin_seated.proofs.RwSteps.{kind_of, places, there, Standing, standing, tracked}
+use Rattle.spin_seated.proofs.RwSteps.{places, there, Standing, standing, tracked}
 
 -- the step function's theorem: at this word the lock is open to a reader, and new is the word after it
 abbrev pub LetsRead : ℕ → ℕ → Type 0
@@ -65,50 +60,55 @@ module _ (p : ℕ) (s : Locked) (st : Standing s) where
   stands : (k : SeatedHold) → hold_in p s ≡ Some k → is_holder p (kind_of k) s.lock.holders ≡ true
   stands k has = there p s k (st.one_place p ∙ ap (places p) has)
 
-module _ (x : Knows) where
-  -- the state that a step of this pass finds
-  abbrev found : List (Entry Call Answer) → Locked
-  found log = state rw x.opening log
+-- the state that a step of this pass finds
+abbrev found : Knows → List (Entry Call Answer) → Locked
+found x log = state rw x.opening log
 
-  pub looks_owed : holds x ≡ None → Owes rw x 0 (λ n. n) (looks 0)
-  looks_owed free log legal has small = looks_at x.pass (found log) (standing x.opening log legal) (has ∙ free)
+pub looks_owed : (x : Knows) → holds x ≡ None → Owes rw x 0 (λ n. n) (looks 0)
+looks_owed x free log legal has small = looks_at x.pass (found x log) (standing x.opening log legal) (has ∙ free)
 
-  pub comes_owed : (old new : ℕ) → LetsRead old new → holds x ≡ None → Owes rw x 0 (λ n. either (n == old) new n) (comes old)
-  comes_owed old new lets free log legal has small = comes_at x.pass (found log) (standing x.opening log legal) old new (rw_word (found log).lock == old) (has ∙ free) refl lets
+pub comes_owed : (x : Knows) (old new : ℕ) → LetsRead old new → holds x ≡ None → Owes rw x 0 (λ n. either (n == old) new n) (comes old)
+comes_owed x old new lets free log legal has small = comes_at x.pass (found x log) (standing x.opening log legal) old new (rw_word (found x log).lock == old) (has ∙ free) refl lets
 
-  pub comes_to_write_owed : (new : ℕ) → LetsWrite new → holds x ≡ None → Owes rw x 0 (λ n. either (n == 0) new n) (comes_to_write 0)
-  comes_to_write_owed new lets free log legal has small = comes_to_write_at x.pass (found log) (standing x.opening log legal) new (rw_word (found log).lock == 0) (has ∙ free) refl lets
+-- a pass that a call has open, and as the call found it
+module _ {v w : Seated Call} (same : v ≡ w) where
+  held_now : holds v.known ≡ holds w.known
+  held_now = ap (λ (u : Seated Call). holds u.known) same
 
-  pub counts_readers_owed : Owes rw x 0 (λ n. n) (counts_readers 0)
-  counts_readers_owed log legal has small = (refl, refl, ap Value (sym (readers-word (found log).lock _ (one x.pass (found log) (standing x.opening log legal)) refl)))
+  pub comes_to_write_owed : (new : ℕ) → LetsWrite new → holds w.known ≡ None → Owes rw v.known 0 (λ n. either (n == 0) new n) (comes_to_write 0)
+  comes_to_write_owed new lets free log legal has small =
+      comes_to_write_at v.known.pass (found v.known log) (standing v.known.opening log legal) new (rw_word (found v.known log).lock == 0) (has ∙ (held_now ∙ free)) refl lets
 
-  pub counts_writers_owed : Owes rw x 0 (λ n. n) (counts_writers 0)
-  counts_writers_owed log legal has small = (refl, refl, ap Value (sym (writers-word (found log).lock _ (one x.pass (found log) (standing x.opening log legal)) refl)))
+  pub counts_readers_owed : Owes rw v.known 0 (λ n. n) (counts_readers 0)
+  counts_readers_owed log legal has small = (refl, refl, ap Value (sym (readers-word (found v.known log).lock _ (one v.known.pass (found v.known log) (standing v.known.opening log legal)) refl)))
 
-  pub reads_owed : may_with Read (holds x) ≡ true → Owes rw x 1 (λ n. n) (reads 0)
-  reads_owed held log legal has small = (ap (may_with Read) has ∙ held, refl, refl)
+  pub counts_writers_owed : Owes rw v.known 0 (λ n. n) (counts_writers 0)
+  counts_writers_owed log legal has small = (refl, refl, ap Value (sym (writers-word (found v.known log).lock _ (one v.known.pass (found v.known log) (standing v.known.opening log legal)) refl)))
 
-  pub writes_owed : (new : ℕ) → holds x ≡ Some hold.Write → Owes rw x 1 (λ _. new) (λ _. writes new new)
-  writes_owed new held log legal has small = (ap (may_with (Write new)) (has ∙ held), refl, refl)
+  pub reads_owed : may_with Read (holds w.known) ≡ true → Owes rw v.known 1 (λ n. n) (reads 0)
+  reads_owed held log legal has small = (ap (may_with Read) (has ∙ held_now) ∙ held, refl, refl)
 
-  pub reader_goes_owed : (by : ℕ) → by ≡ weight reading → holds x ≡ Some hold.Read → Owes rw x 0 (λ n. (n + (2 ^ 64 - by)) % 2 ^ 64) (is_call UnlockRead by)
-  reader_goes_owed by is held log legal has small =
-      let s : Locked = found log in let st = standing x.opening log legal in let mine = stands x.pass s st hold.Read (has ∙ held) in
-      let to = rw_release-gives s.lock x.pass reading (rw_word s.lock) refl mine in let some = reader-word s.lock x.pass mine in
-      (ap (may_with UnlockRead) (has ∙ held), ends x.pass s st (releases x.pass reading) true _ mine (omega (arith, to, some, is, small)), refl)
+  pub writes_owed : (new : ℕ) → holds w.known ≡ Some hold.Write → Owes rw v.known 1 (λ _. new) (λ _. writes new new)
+  writes_owed new held log legal has small = (ap (may_with (Write new)) (has ∙ (held_now ∙ held)), refl, refl)
 
-  pub writer_goes_owed : (by : ℕ) → by ≡ weight writing → holds x ≡ Some hold.Write → Owes rw x 0 (λ n. (n + (2 ^ 64 - by)) % 2 ^ 64) (is_call UnlockWrite by)
-  writer_goes_owed by is held log legal has small =
-      let s : Locked = found log in let st = standing x.opening log legal in let mine = stands x.pass s st hold.Write (has ∙ held) in
-      let to = rw_release-gives s.lock x.pass writing (rw_word s.lock) refl mine in let alone = writer-word s.lock x.pass st.exclusive mine in
-      (ap (may_with UnlockWrite) (has ∙ held), ends x.pass s st (releases x.pass writing) true _ mine (omega (arith, to, alone, is)), refl)
+  pub reader_goes_owed : holds w.known ≡ Some hold.Read → Owes rw v.known 0 (λ n. (n + (2 ^ 64 - weight reading)) % 2 ^ 64) (is_call UnlockRead (weight reading))
+  reader_goes_owed held log legal has small =
+      let s : Locked = found v.known log in let st = standing v.known.opening log legal in let mine = stands v.known.pass s st hold.Read (has ∙ (held_now ∙ held)) in
+      let to = rw_release-gives s.lock v.known.pass reading (rw_word s.lock) refl mine in let some = reader-word s.lock v.known.pass mine in
+      (ap (may_with UnlockRead) (has ∙ (held_now ∙ held)), ends v.known.pass s st (releases v.known.pass reading) true _ mine (omega (arith, to, some, small)), refl)
 
-  pub reads_on_owed : (by : ℕ) → by ≡ weight reading - weight writing → holds x ≡ Some hold.Write → Owes rw x 0 (λ n. (n + by) % 2 ^ 64) (is_call Downgrade by)
-  reads_on_owed by is held log legal has small =
-      let s : Locked = found log in let st = standing x.opening log legal in let mine = stands x.pass s st hold.Write (has ∙ held) in
-      let may : is_open s.lock (turns x.pass writing reading) ≡ true = ap (λ (b : Bool). b && true) mine in
-      let to = rw_turn-gives s.lock x.pass writing reading (rw_word s.lock) (omega arith) refl may in let alone = writer-word s.lock x.pass st.exclusive mine in
-      (ap (may_with Downgrade) (has ∙ held), ends x.pass s st (turns x.pass writing reading) true _ may (omega (arith, to, alone, is)), refl)
+  pub writer_goes_owed : holds w.known ≡ Some hold.Write → Owes rw v.known 0 (λ n. (n + (2 ^ 64 - weight writing)) % 2 ^ 64) (is_call UnlockWrite (weight writing))
+  writer_goes_owed held log legal has small =
+      let s : Locked = found v.known log in let st = standing v.known.opening log legal in let mine = stands v.known.pass s st hold.Write (has ∙ (held_now ∙ held)) in
+      let to = rw_release-gives s.lock v.known.pass writing (rw_word s.lock) refl mine in let alone = writer-word s.lock v.known.pass st.exclusive mine in
+      (ap (may_with UnlockWrite) (has ∙ (held_now ∙ held)), ends v.known.pass s st (releases v.known.pass writing) true _ mine (omega (arith, to, alone)), refl)
+
+  pub reads_on_owed : holds w.known ≡ Some hold.Write → Owes rw v.known 0 (λ n. (n + (weight reading - weight writing)) % 2 ^ 64) (is_call Downgrade (weight reading - weight writing))
+  reads_on_owed held log legal has small =
+      let s : Locked = found v.known log in let st = standing v.known.opening log legal in let mine = stands v.known.pass s st hold.Write (has ∙ (held_now ∙ held)) in
+      let may : is_open s.lock (turns v.known.pass writing reading) ≡ true = ap (λ (b : Bool). b && true) mine in
+      let to = rw_turn-gives s.lock v.known.pass writing reading (rw_word s.lock) (omega arith) refl may in let alone = writer-word s.lock v.known.pass st.exclusive mine in
+      (ap (may_with Downgrade) (has ∙ (held_now ∙ held)), ends v.known.pass s st (turns v.known.pass writing reading) true _ may (omega (arith, to, alone)), refl)
 
 -- a refusal leaves what is held, as does a step that told nothing
 pub held_still : (b : Bool) (x y : Knows) → Turned rw (if b then None else Some (TryRead, Truth false)) x y → holds y ≡ holds x

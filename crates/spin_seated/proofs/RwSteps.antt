@@ -2,7 +2,7 @@
 use Rattle.std.proofs.Common.{◌≡◌, ℕ, ◌≢◌, ◌==◌, ◌&&◌, Bool, true, false, if◌then◌else◌, List, [], ◌∷◌, ◌++◌, Option, Some, None, filter, refl, sym, ap, subst, ◌∙◌, eq-eqb, arith}
 use mathlib.Core.Logic.{dite}
 use native.Mathlib.Decide.{ℕ_discrete}
-use Rattle.spin_step.specs.Plain.{Plain, Kind, reading, writing, Holder, holder, Change, gets, releases, turns, to_read, to_write, is_open, is_holder, without_holder, with_kind}
+use Rattle.spin_step.specs.Plain.{Plain, reading, writing, Holder, holder, Change, gets, releases, turns, to_read, to_write, is_open, is_holder, without_holder, with_kind}
 use Rattle.spin_step.specs.Parties.{who, IsOpenStep, IsExclusive, Entries, entries, entries_after}
 use Rattle.spin_step.specs.Readers.{reader_limit}
 use Rattle.spin_step.proofs.Holders.{is_holder-from_entries, same_kind-self}
@@ -10,15 +10,9 @@ use Rattle.spin_step.proofs.Exclusive.{exclusive-kept}
 use Rattle.spin_step.proofs.InOrder.{cap-kept}
 use Rattle.spin_step.proofs.Entries.{entries-other, entries-own}
 use Rattle.spin_seated.specs.declared.history.Entry.{Entry}
-use Rattle.spin_seated.specs.declared.lock.Opening.{Opening}
-use Rattle.spin_seated.specs.declared.lock.Answer.{Answer}
-use Rattle.spin_seated.specs.declared.rwlock.Call.{Call}
-use Rattle.spin_seated.specs.declared.rwlock.Call.TheVariants.{TryRead, TryWrite, ReaderCount, WriterCount, Read, Write, UnlockRead, UnlockWrite, Downgrade}
-use Rattle.spin_seated.specs.declared.rwlock.SeatedHold.{SeatedHold}
 use Rattle.spin_seated.specs.declared.rwlock.SeatedHold.TheVariants as hold
 use Rattle.spin_seated.specs.Histories.{state, IsLegal, IsTracked}
-use Rattle.spin_seated.specs.Locked.{Locked}
-use Rattle.spin_seated.specs.Rw.{held, hold_in, may_with, change, where_open, after_call, plain_answer, held_after, rw}
+use Rattle.spin_seated.specs.Rw.{Opening, Locked, Answer, Call, TryRead, TryWrite, ReaderCount, WriterCount, Read, Write, UnlockRead, UnlockWrite, Downgrade, SeatedHold, kind_of, held, hold_in, may_with, change, where_open, after_call, plain_answer, held_after, rw}
 use Rattle.spin_seated.proofs.Histories.{always}
 
 -- where a call makes a step, it is the pass's own, and open
@@ -45,10 +39,6 @@ pub steady : (p q : ℕ) (c : Call) (s : Locked) → q ≢ p → hold_in p (afte
 steady p q c s apart = ap held (others p q c s apart)
 
 -- the places that a pass has who holds so
-abbrev pub kind_of : SeatedHold → Kind
-kind_of hold.Read = reading
-kind_of hold.Write = writing
-
 abbrev pub places : ℕ → Option SeatedHold → List Holder
 places p None = []
 places p (Some k) = holder p (kind_of k) ∷ []

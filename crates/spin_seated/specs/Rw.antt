@@ -1,19 +1,19 @@
--- The plain read-write lock.
+-- The plain read-write lock. It passes on the types that its words are about.
 use Rattle.std.specs.Prelude.{ℕ, ◌==◌, Bool, true, false, if◌then◌else◌, List, [], ◌∷◌, Option, Some, None, filter}
 use Rattle.spin_step.specs.Plain.{Plain, Kind, reading, upgradable, writing, Holder, fresh, Change, gets, releases, turns, to_read, to_write, is_open, count_kind, reader_count, rw_word}
 use Rattle.spin_step.specs.Parties.{apply_some}
 use Rattle.spin_step.specs.Readers.{reader_limit, readers_in, writers_in, has_room}
-use Rattle.spin_seated.specs.declared.lock.Opening.{Opening}
-use Rattle.spin_seated.specs.declared.lock.Answer.{Answer}
-use Rattle.spin_seated.specs.declared.lock.Answer.TheVariants.{Truth, Value, Done}
-use Rattle.spin_seated.specs.declared.rwlock.Call.{Call}
-use Rattle.spin_seated.specs.declared.rwlock.Call.TheVariants.{TryRead, TryWrite, ReaderCount, WriterCount, Read, Write, UnlockRead, UnlockWrite, Downgrade}
-use Rattle.spin_seated.specs.declared.rwlock.SeatedHold.{SeatedHold}
+pub use Rattle.spin_seated.specs.declared.lock.Opening.{Opening}
+pub use Rattle.spin_seated.specs.declared.lock.Answer.{Answer}
+pub use Rattle.spin_seated.specs.declared.lock.Answer.TheVariants.{Truth, Value, Done}
+pub use Rattle.spin_seated.specs.declared.rwlock.Call.{Call}
+pub use Rattle.spin_seated.specs.declared.rwlock.Call.TheVariants.{TryRead, TryWrite, ReaderCount, WriterCount, Read, Write, UnlockRead, UnlockWrite, Downgrade}
+pub use Rattle.spin_seated.specs.declared.rwlock.SeatedHold.{SeatedHold}
 use Rattle.spin_seated.specs.declared.rwlock.SeatedHold.TheVariants as hold
 use Rattle.spin_seated.specs.declared.history.Known.{Known}
 use Rattle.spin_seated.specs.Histories as histories
 use Rattle.spin_seated.specs.Histories.{Machine}
-use Rattle.spin_seated.specs.Locked.{Locked}
+pub use Rattle.spin_seated.specs.Locked.{Locked}
 
 abbrev pub opened : Opening → Locked
 opened k = record { lock = fresh reader_limit 1 0; value = k.value }
@@ -22,6 +22,10 @@ opened k = record { lock = fresh reader_limit 1 0; value = k.value }
 abbrev pub hold_of : Kind → SeatedHold
 hold_of writing = hold.Write
 hold_of _ = hold.Read
+
+abbrev pub kind_of : SeatedHold → Kind
+kind_of hold.Read = reading
+kind_of hold.Write = writing
 
 -- of the places that a pass has among the holders, the first
 abbrev pub held : List Holder → Option SeatedHold

@@ -1,6 +1,4 @@
-use Rattle.spin_seated.specs.declared.rwlock.Call.TheVariants.{ReaderCount, WriterCount}
-use Rattle.spin_seated.specs.declared.lock.Answer.TheVariants.{Value}
-use Rattle.spin_seated.specs.Rw.{rw}
+use Rattle.spin_seated.specs.Rw.{rw, ReaderCount, WriterCount, Value}
 use Rattle.spin_seated.proofs.Histories.{answered}
 use Rattle.spin_seated.proofs.rwlock.laws.a_count_is_the_number_of_holders.Goals as goal
 

@@ -1,6 +1,5 @@
 use Rattle.std.proofs.Common.{refl}
-use Rattle.spin_seated.specs.declared.rwlock.Call.TheVariants.{Read}
-use Rattle.spin_seated.specs.Rw.{rw, written}
+use Rattle.spin_seated.specs.Rw.{rw, written, Read}
 use Rattle.spin_seated.proofs.Lawful.{read_is}
 use Rattle.spin_seated.proofs.rwlock.laws.a_read_gives_the_last_write.Goals as goal
 

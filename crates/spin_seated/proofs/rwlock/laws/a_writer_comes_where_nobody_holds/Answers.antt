@@ -1,6 +1,4 @@
-use Rattle.spin_seated.specs.declared.rwlock.Call.TheVariants.{TryWrite}
-use Rattle.spin_seated.specs.declared.lock.Answer.TheVariants.{Truth}
-use Rattle.spin_seated.specs.Rw.{rw}
+use Rattle.spin_seated.specs.Rw.{rw, TryWrite, Truth}
 use Rattle.spin_seated.proofs.Histories.{answered}
 use Rattle.spin_seated.proofs.rwlock.laws.a_writer_comes_where_nobody_holds.Goals as goal
 
