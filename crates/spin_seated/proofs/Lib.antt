@@ -7,4 +7,3 @@ pub mod Passes
 pub mod RwDebts
 pub mod RwSteps
 pub mod Totals
-pub mod Turns

@@ -5,4 +5,3 @@ pub mod Mutex
 pub mod Passes
 pub mod Rw
 pub mod RwLawful
-pub mod Turns

@@ -2,7 +2,6 @@
 //! callers that meet know the same one.
 #![tactic(auto)]
 
-pub mod adding;
 pub mod history;
 pub mod laws;
 pub mod lock;

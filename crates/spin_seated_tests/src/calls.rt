@@ -3,13 +3,26 @@ ghost use Rattle.std.specs.Prelude.{◌≡◌};
 ghost use Rattle.spin_seated.specs.Passes.{IsPassOf};
 
 use spin_core::relax::{RelaxStrategy, Yield};
-use spin_seated::adding::{add_in_two, open_for_two};
 use spin_seated::mutex::{Pass, SeatedMutex};
+use std::alloc::{AllocError, Global};
 use std::sync::Wait;
 use std::test::Fail;
 use std::thread::join;
 
 const TURNS: u32 = 10_000_000;
+
+fn open_for_two(alloc: Global, value: u64) -> Result<(SeatedMutex, Pass, Pass), AllocError>
+    ensures { IfOk result (λ r. (r.1 ≡ pass_of r.0 0) × (r.2 ≡ pass_of r.0 1)) }
+{
+    let (lock, mut passes) = SeatedMutex::new(alloc, value, 2)?;
+    let Some(second) = passes.pop() else {
+        unreachable!()
+    };
+    let Some(first) = passes.pop() else {
+        unreachable!()
+    };
+    Ok((lock, first, second))
+}
 
 fn is_send<T: Send>() {}
 
@@ -79,13 +92,5 @@ fn two_threads_lose_no_addition(rt: HostRuntime) -> Result<(), Fail> {
     lock.meet(&mut a, &mut b);
     assert!(rt; lock.try_lock(&mut a));
     assert_eq!(rt; lock.read(&mut a), 200);
-    Ok(())
-}
-
-#[test]
-fn what_two_threads_add_is_read(rt: HostRuntime) -> Result<(), Fail> {
-    let (read, first, second) = add_in_two(&rt, rt.alloc(), 1000)?;
-    assert!(rt; 0 < read && first <= 1000 && second <= 1000);
-    assert_eq!(rt; read, first + second);
     Ok(())
 }

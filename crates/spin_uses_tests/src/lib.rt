@@ -12,6 +12,8 @@ mod ledger;
 #[cfg(test)]
 mod phases;
 #[cfg(test)]
+mod seated;
+#[cfg(test)]
 mod seats;
 #[cfg(test)]
 mod settings;

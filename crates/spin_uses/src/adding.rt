@@ -3,9 +3,9 @@
 //! The proof is from the one history that both passes know once they have met. No call says what another thread did.
 ghost use Rattle.std.specs.Prelude.{◌≡◌, ◌+◌, Some, if◌then◌else◌, IfOk, IfSome};
 ghost use Rattle.spin_seated.specs.Passes.{IsPassOf, opening_of, pass_of};
-ghost use Rattle.spin_seated.specs.Turns.{away, turn_of, own_calls, writes_in, HasAdded};
+ghost use Rattle.spin_uses.specs.Turns.{away, turn_of, own_calls, writes_in, HasAdded};
 
-use crate::mutex::{Pass, SeatedMutex};
+use spin_seated::mutex::{Pass, SeatedMutex};
 use std::alloc::{AllocError, Global};
 use std::thread::{Threads, join};
 
