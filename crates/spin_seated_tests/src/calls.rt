@@ -1,6 +1,6 @@
 //! What no contract says of a `SeatedMutex`: that a try is granted at all, and two threads that repeat a try until it is granted.
-ghost use Rattle.std.specs.Prelude.{◌≡◌};
-ghost use Rattle.spin_seated.specs.Passes.{IsPassOf};
+ghost use Rattle.std.specs.Prelude.{◌≡◌, IfOk};
+ghost use Rattle.spin_seated.specs.Passes.{IsPassOf, pass_of};
 
 use spin_core::relax::{RelaxStrategy, Yield};
 use spin_seated::mutex::{Pass, SeatedMutex};
