@@ -1,4 +1,4 @@
-//! Tests of the lock for readers: what no contract says of it.
+//! Tests of `RwLock`: what no contract says of it.
 #![tactic(auto)]
 
 #[cfg(test)]
