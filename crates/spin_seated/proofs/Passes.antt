@@ -1,6 +1,6 @@
 -- A pass before and after a step of its seat.
 use Rattle.std.specs.List.{range_with_len}
-use Rattle.std.proofs.Common.{◌≡◌, ◌+◌, ◌-◌, ◌<◌, suc, map, arith, ℕ, List, [], ◌∷◌, take, drop, Option, Some, None, refl, sym, ap, subst, ◌∙◌}
+use Rattle.std.proofs.Common.{◌≡◌, ◌+◌, ◌-◌, ◌<◌, suc, map, arith, ℕ, List, [], ◌∷◌, take, drop, Option, Some, refl, sym, ap, subst, ◌∙◌}
 use Rattle.atomic_table.specs.declared.shared.Seat.{Seat}
 use Rattle.atomic_table.specs.Table.{Step, Me, Allows}
 use Rattle.spin_seated.specs.declared.history.Entry.{Entry}

@@ -1,6 +1,6 @@
 -- The plain read-write lock. It passes on the types that its words are about.
 use Rattle.std.specs.Prelude.{ℕ, ◌==◌, Bool, true, false, if◌then◌else◌, List, [], ◌∷◌, Option, Some, None, filter}
-use Rattle.spin_step.specs.Plain.{Plain, Kind, reading, upgradable, writing, Holder, fresh, Change, gets, releases, turns, to_read, to_write, is_open, count_kind, reader_count, rw_word}
+use Rattle.spin_step.specs.Plain.{Plain, Kind, reading, writing, Holder, fresh, Change, gets, releases, turns, to_read, to_write, is_open, count_kind, reader_count, rw_word}
 use Rattle.spin_step.specs.Parties.{apply_some}
 use Rattle.spin_step.specs.Readers.{reader_limit, readers_in, writers_in, has_room}
 pub use Rattle.spin_seated.specs.declared.lock.Opening.{Opening}
