@@ -21,8 +21,10 @@ pub trait Answers {
 
     ghost may: { Self.Key → Self.Value → Bool };
 
+    // Keys that are equal share an answer.
     ghost respects_eq: { (k q : Self.Key) (v : Self.Value) → IsTrue (Self.Key.eq k q) → IsTrue (may k v) → IsTrue (may q v) };
 
+    // A clone is what is answered.
     ghost respects_clone: { (k : Self.Key) (v w : Self.Value) → Self.Value.is_clone v w → IsTrue (may k v) → IsTrue (may k w) };
 }
 
@@ -50,7 +52,7 @@ impl<C: Answers, A: Allocator + Clone, R: RelaxStrategy> Cache<C, A, R> {
     }
 
     /// The answer for the key, which `make` makes where there is none yet. `Err` where `make` makes none, and where there
-    /// is no memory for it; then none is kept.
+    /// is no memory for it; then none is kept. `make` may read this cache, but not fill it: it would wait for itself.
     pub fn answer<W: Wait, E: From<AllocError>, F: FnOnce(&C::Key) -> Result<C::Value, E>>(
         &self,
         rt: &W,
