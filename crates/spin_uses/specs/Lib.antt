@@ -3,3 +3,4 @@ pub mod Ledger
 pub mod Settings
 pub mod SharedSettings
 pub mod Turns
+pub mod Publishing

@@ -6,4 +6,5 @@ pub mod adding;
 pub mod cache;
 pub mod ledger;
 pub mod phases;
+pub mod publishing;
 pub mod settings;

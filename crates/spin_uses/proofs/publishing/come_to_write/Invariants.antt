@@ -1,0 +1,16 @@
+-- who was refused stands as before
+use Rattle.std.proofs.Common.{◌≡◌, [], None}
+use Rattle.spin_seated.specs.Passes.{IsPassOf}
+use Rattle.spin_seated.specs.Rw.{holds}
+use Rattle.spin_uses.specs.Publishing.{GoesOn}
+use Rattle.spin_uses.proofs.publishing.come_to_write.Given as goal
+
+abbrev pub invariant-loop : goal.invariant-loop
+invariant-loop g l =
+    record {
+      goes_on : (goal.iterator-loop g).can_next l.iterator';
+      ends : (goal.iterator-loop g).is_finite l.iterator';
+      own : IsPassOf l.lock l.pass;
+      free : holds l.pass.known ≡ None;
+      same : GoesOn l.fn.pass.known l.pass.known [] [];
+    }

@@ -1,0 +1,205 @@
+//! A proved caller: one thread publishes values under one lock while two read it, and no reader sees an older value than it
+//! saw before.
+//!
+//! The proof is from the one history that all three know once they have met. No call says what another thread did.
+ghost use Rattle.std.specs.Prelude.{◌≡◌, [], ◌∷◌, None, Some, IfOk, length};
+ghost use Rattle.spin_seated.specs.declared.rwlock.SeatedHold.TheVariants as hold;
+ghost use Rattle.spin_seated.specs.Passes.{IsPassOf, opening_of, pass_of};
+ghost use Rattle.spin_seated.specs.Rw.{holds};
+ghost use Rattle.spin_seated.specs.RwLawful.{values_written, values_read, InOrderOf};
+ghost use Rattle.spin_uses.specs.Publishing.{rw_calls, GoesOn, HasLooked};
+
+use spin_core::relax::{RelaxStrategy, Yield};
+use spin_seated::rwlock::laws::a_pass_reads_in_the_order_of_the_writes;
+use spin_seated::rwlock::{RwPass, SeatedRwLock};
+use std::alloc::{AllocError, Global};
+use std::sync::Wait;
+use std::thread::{Threads, join};
+
+fn open_for_three(
+    alloc: Global,
+    value: u64,
+) -> Result<(SeatedRwLock, RwPass, RwPass, RwPass), AllocError>
+    ensures opening { IfOk result (λ r. opening_of r.0 ≡ record { value = value; passes = 3 }) }
+    ensures passes { IfOk result (λ r. (r.1 ≡ pass_of r.0 0) × (r.2 ≡ pass_of r.0 1) × (r.3 ≡ pass_of r.0 2)) }
+{
+    let (lock, mut passes) = SeatedRwLock::new(alloc, value, 3)?;
+    let Some(third) = passes.pop() else {
+        unreachable!()
+    };
+    let Some(second) = passes.pop() else {
+        unreachable!()
+    };
+    let Some(first) = passes.pop() else {
+        unreachable!()
+    };
+    Ok((lock, first, second, third))
+}
+
+fn come_to_read<W: Wait>(rt: &W, lock: &SeatedRwLock, pass: &mut RwPass)
+    requires own { IsPassOf lock.now pass.old }
+    requires free { holds pass.old.known ≡ None }
+    ensures own { IsPassOf lock.now pass.new }
+    ensures holds { holds pass.new.known ≡ Some hold.Read }
+    ensures goes_on { GoesOn pass.old.known pass.new.known [] [] }
+{
+    for _ in rt.forever() {
+        if lock.try_read(rt, pass) {
+            return;
+        }
+        Yield::relax(rt);
+    }
+    unreachable!()
+}
+
+fn come_to_write<W: Wait>(rt: &W, lock: &SeatedRwLock, pass: &mut RwPass)
+    requires own { IsPassOf lock.now pass.old }
+    requires free { holds pass.old.known ≡ None }
+    ensures own { IsPassOf lock.now pass.new }
+    ensures holds { holds pass.new.known ≡ Some hold.Write }
+    ensures goes_on { GoesOn pass.old.known pass.new.known [] [] }
+{
+    for _ in rt.forever() {
+        if lock.try_write(pass) {
+            return;
+        }
+        Yield::relax(rt);
+    }
+    unreachable!()
+}
+
+/// Publishes a value as soon as it is let in.
+fn publish<W: Wait>(rt: &W, lock: &SeatedRwLock, pass: &mut RwPass, value: u64)
+    requires own { IsPassOf lock.now pass.old }
+    requires free { holds pass.old.known ≡ None }
+    ensures own { IsPassOf lock.now pass.new }
+    ensures free { holds pass.new.known ≡ None }
+    ensures goes_on { GoesOn pass.old.known pass.new.known [] (value ∷ []) }
+{
+    come_to_write(rt, lock, pass);
+    lock.write(pass, value);
+    lock.unlock_write(pass);
+}
+
+/// Looks at the value as soon as it is let in.
+fn look<W: Wait>(rt: &W, lock: &SeatedRwLock, pass: &mut RwPass) -> u64
+    requires own { IsPassOf lock.now pass.old }
+    requires free { holds pass.old.known ≡ None }
+    ensures own { IsPassOf lock.now pass.new }
+    ensures free { holds pass.new.known ≡ None }
+    ensures goes_on { GoesOn pass.old.known pass.new.known (result ∷ []) [] }
+{
+    come_to_read(rt, lock, pass);
+    let value = lock.read(pass);
+    lock.unlock_read(pass);
+    value
+}
+
+fn publish_all<W: Wait>(rt: &W, lock: &SeatedRwLock, mut pass: RwPass, values: &[u64]) -> RwPass
+    requires own { IsPassOf lock.now pass }
+    requires free { holds pass.known ≡ None }
+    ensures own { IsPassOf lock.now result }
+    ensures goes_on { GoesOn pass.known result.known [] values.now }
+{
+    for value in values {
+        publish(rt, lock, &mut pass, *value);
+    }
+    pass
+}
+
+type Looked = Result<(RwPass, Vec<u64>), AllocError>;
+
+fn look_often<W: Wait>(
+    rt: &W,
+    alloc: Global,
+    lock: &SeatedRwLock,
+    mut pass: RwPass,
+    times: usize,
+) -> Looked
+    requires own { IsPassOf lock.now pass }
+    requires free { holds pass.known ≡ None }
+    ensures own { IfOk result (λ r. IsPassOf lock.now r.0) }
+    ensures goes_on { IfOk result (λ r. GoesOn pass.known r.0.known r.1.items []) }
+    ensures times { IfOk result (λ r. length r.1.items ≡ times) }
+{
+    let mut seen = Vec::new(alloc);
+    for _ in 0..times {
+        seen.push(look(rt, lock, &mut pass))?;
+    }
+    Ok((pass, seen))
+}
+
+fn look_in_two<R: Threads + Wait + Sync>(
+    rt: &R,
+    alloc: Global,
+    lock: &SeatedRwLock,
+    first: RwPass,
+    second: RwPass,
+    times: usize,
+) -> (Looked, Looked)
+    requires passes { (first ≡ pass_of lock.now 1) × (second ≡ pass_of lock.now 2) }
+    ensures first { IfOk result.0 (λ r. HasLooked lock.now 1 times r.0 r.1.items) }
+    ensures second { IfOk result.1 (λ r. HasLooked lock.now 2 times r.0 r.1.items) }
+{
+    join(
+        rt,
+        || -> Looked
+            requires { first ≡ pass_of lock.now 1 }
+            ensures { IfOk result (λ r. HasLooked lock.entry.now 1 times r.0 r.1.items) }
+        { look_often(rt, alloc, lock, first, times) },
+        || -> Looked
+            requires { second ≡ pass_of lock.now 2 }
+            ensures { IfOk result (λ r. HasLooked lock.entry.now 2 times r.0 r.1.items) }
+        { look_often(rt, alloc, lock, second, times) },
+    )
+}
+
+/// What two readers saw of what a third pass published, once all have met.
+///
+/// The readers meet first. What they know then goes on to what the writer knows after it has met one of them.
+pub fn compare(lock: &SeatedRwLock, writer: &mut RwPass, first: &mut RwPass, second: &mut RwPass)
+    requires writer { IsPassOf lock.now writer.old × (writer.old.known.pass ≡ 0) }
+    requires first { IsPassOf lock.now first.old × (first.old.known.pass ≡ 1) }
+    requires second { IsPassOf lock.now second.old × (second.old.known.pass ≡ 2) }
+    requires three { (opening_of lock.now).passes ≡ 3 }
+    requires one_writes { (values_written (rw_calls first.old.known) ≡ []) × (values_written (rw_calls second.old.known) ≡ []) }
+    ensures first { InOrderOf ((opening_of lock.now).value ∷ values_written (rw_calls writer.old.known)) (values_read (rw_calls first.old.known)) }
+    ensures second { InOrderOf ((opening_of lock.now).value ∷ values_written (rw_calls writer.old.known)) (values_read (rw_calls second.old.known)) }
+{
+    lock.meet(first, second);
+    lock.meet(writer, first);
+    a_pass_reads_in_the_order_of_the_writes();
+}
+
+/// One thread publishes the values in their order, and two look while it does, each so many times. What each sees are the
+/// opening value and those published, in their order: never an older one than it saw before.
+///
+/// Nothing is promised about when it returns: each thread waits until it is let in.
+pub fn publish_to_two<R: Threads + Wait + Sync>(
+    rt: &R,
+    alloc: Global,
+    opening: u64,
+    values: &[u64],
+    times: usize,
+) -> Result<(Vec<u64>, Vec<u64>), AllocError>
+    ensures first { IfOk result (λ r. InOrderOf (opening ∷ values.now) r.0.items × (length r.0.items ≡ times)) }
+    ensures second { IfOk result (λ r. InOrderOf (opening ∷ values.now) r.1.items × (length r.1.items ≡ times)) }
+{
+    let (lock, writer, first, second) = open_for_three(alloc, opening)?;
+    let shared = &lock;
+    let (mut writer, (first, second)) = join(
+        rt,
+        || -> RwPass
+            requires { writer ≡ pass_of shared.now 0 }
+            ensures { IsPassOf shared.entry.now result × GoesOn (pass_of shared.entry.now 0).known result.known [] values.entry.now }
+        { publish_all(rt, shared, writer, values) },
+        || -> (Looked, Looked)
+            requires { (first ≡ pass_of shared.now 1) × (second ≡ pass_of shared.now 2) }
+            ensures { IfOk result.0 (λ r. HasLooked shared.entry.now 1 times r.0 r.1.items) × IfOk result.1 (λ r. HasLooked shared.entry.now 2 times r.0 r.1.items) }
+        { look_in_two(rt, alloc, shared, first, second, times) },
+    );
+    let (mut first, seen_first) = first?;
+    let (mut second, seen_second) = second?;
+    compare(shared, &mut writer, &mut first, &mut second);
+    Ok((seen_first, seen_second))
+}
