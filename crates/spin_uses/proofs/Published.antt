@@ -1,12 +1,12 @@
 -- What passes read and wrote, by the calls that they made, and what that is in one history of all.
-use Rattle.std.proofs.Common.{◌≡◌, ℕ, zero, suc, ◌<◌, ◌≢◌, ◌==◌, Bool, true, false, if◌then◌else◌, List, [], ◌∷◌, ◌++◌, refl, sym, ap, subst, ◌∙◌, eqb-true, eq-eqb, arith}
+use Rattle.std.proofs.Common.{◌≡◌, ℕ, zero, suc, ◌<◌, ◌≢◌, ◌==◌, Bool, true, false, if◌then◌else◌, List, [], ◌∷◌, ◌++◌, refl, sym, ap, subst, ◌∙◌, eq-eqb, arith}
 use Rattle.std.proofs.lemmas.Grind.{flat_map-append}
 use Rattle.std.proofs.lemmas.Bool.{false≢true}
 use Rattle.spin_seated.specs.declared.history.Entry.{Entry}
 use Rattle.spin_seated.specs.declared.lock.Opening.{Opening}
 use Rattle.spin_seated.specs.declared.lock.Answer.{Answer}
 use Rattle.spin_seated.specs.declared.rwlock.Call.{Call}
-use Rattle.spin_seated.specs.Histories.{BeginsWith, entry, calls_by, IsLegalFrom, IsLegal, Met}
+use Rattle.spin_seated.specs.Histories.{calls_by, IsLegalFrom, IsLegal, Met}
 use Rattle.spin_seated.specs.Locked.{Locked}
 use Rattle.spin_seated.specs.Rw.{rw, after_call, Knows}
 use Rattle.spin_seated.specs.RwLawful.{History, written_by, values_written, values_read, InOrderOf, done, looks, goes_on}
