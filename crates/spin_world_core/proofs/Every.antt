@@ -1,5 +1,5 @@
 -- Every event of every schedule keeps all that is promised, of any object that shows its local facts.
-use Rattle.std.proofs.Common.{◌≡◌, ℕ, Option, Some, None, List, [], ◌∷◌, zero, suc, is_some, replicate, slice_get, refl, ap, ◌∙◌, arith}
+use Rattle.std.proofs.Common.{◌≡◌, ℕ, Option, Some, None, List, [], ◌∷◌, suc, is_some, replicate, slice_get, refl, ap, ◌∙◌, arith}
 use Rattle.std.proofs.lemmas.Bool.{true≢false, false≢true}
 use Rattle.spin_step.specs.Plain.{Plain, Change, completes}
 use Rattle.spin_step.specs.Parties.{entries, no_entries}

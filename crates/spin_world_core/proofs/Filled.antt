@@ -1,18 +1,18 @@
 -- An object whose closures make its value: what its table owes, and that it then shows all local facts.
 use Rattle.std.proofs.Common.{◌≡◌, ℕ, zero, suc, Bool, true, false, is_some, Option, Some, None, List, [], ◌∷◌, refl, ap, sym, ◌∙◌, subst}
 use Rattle.std.proofs.lemmas.Bool.{true≢false, false≢true}
-use Rattle.spin_step.specs.Plain.{Plain, Phase, nothing, running, complete, Ask, to_read, to_begin, Change, gets, completes, fails, apply, is_open, is_nothing, is_running, is_complete}
+use Rattle.spin_step.specs.Plain.{Plain, Phase, nothing, running, Ask, to_begin, Change, gets, completes, fails, apply, is_open, is_nothing, is_running, is_complete}
 use Rattle.spin_step.specs.Parties.{apply_some, IsOpenStep, entries, is_held}
 use Rattle.spin_world_core.specs.declared.answer.Answer.{Answer}
-use Rattle.spin_world_core.specs.declared.answer.Answer.TheVariants.{Granted, Refused, Locked, Starved, Done, Is, Count, Value, NoValue, Failed, Leader, Follower}
+use Rattle.spin_world_core.specs.declared.answer.Answer.TheVariants.{Value}
 use Rattle.spin_world_core.specs.declared.place.Hold.{Hold}
 use Rattle.spin_world_core.specs.declared.object.Next.{Next}
 use Rattle.spin_world_core.specs.declared.object.Next.TheVariants.{GoesOn, Answers}
 use Rattle.spin_world_core.specs.declared.object.Stepped.{Stepped}
 use Rattle.spin_world_core.specs.declared.schedule.Move.TheVariants.{Step}
 use Rattle.spin_world_core.specs.Manners.{Manner, by_step}
-use Rattle.spin_world_core.specs.Calls.{Coding, once, encoded, BelongsTo, own_steps, says_of, AnyOf, HasMoment, Mark, may_be_weak}
-use Rattle.spin_world_core.specs.Machines.{Machine, opening_phase, opening_plain}
+use Rattle.spin_world_core.specs.Calls.{Coding, once, encoded, own_steps, says_of, AnyOf, HasMoment, Mark, may_be_weak}
+use Rattle.spin_world_core.specs.Machines.{Machine, opening_phase}
 use Rattle.spin_world_core.specs.Schedules.{placed}
 use Rattle.spin_world_core.specs.Runs.{mark_of, if_completed, is_writer, own}
 use Rattle.spin_world_core.specs.Acts.{Memory, Act, store, step_by, change_at, change_by, makes_by, is_completion, manner_by, Table, machine_of, completes_by, brought, with_value, filled, gives_of, machine_with}

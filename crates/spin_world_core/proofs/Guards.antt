@@ -4,7 +4,7 @@ use Rattle.std.specs.List.{list_all}
 use Rattle.std.specs.Option.{option_map}
 use Rattle.std.proofs.lemmas.Bool.{cases_eq, eq-eqb, and_parts, true≢false, false≢true}
 use Rattle.std.proofs.lemmas.Option.{slice_get-map}
-use Rattle.spin_step.specs.Plain.{Plain, Change, gets, releases, serves, stops_starving, turns, completes, fails, arrives}
+use Rattle.spin_step.specs.Plain.{Plain, Change, completes}
 use Rattle.spin_step.specs.Parties.{entries, is_held}
 use Rattle.spin_world_core.specs.declared.place.Hold.{Hold}
 use Rattle.spin_world_core.specs.declared.place.Seat.{Seat}

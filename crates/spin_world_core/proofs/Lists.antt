@@ -1,9 +1,7 @@
 -- Lists that are read and written by place.
-use Rattle.std.proofs.Common.{◌≡◌, ℕ, zero, suc, ◌+◌, ◌<◌, ◌==◌, Bool, true, ◌&&◌, Some, List, [], ◌∷◌, ◌++◌, map, length, get_or, take, drop, set, replicate, slice_get, slice_set, unwrap_or, refl, ap, sym, ◌∙◌, arith, add-one}
+use Rattle.std.proofs.Common.{◌≡◌, ℕ, zero, suc, ◌+◌, ◌<◌, ◌==◌, true, Some, List, [], ◌∷◌, ◌++◌, map, length, get_or, take, drop, set, slice_get, slice_set, refl, ap, sym, ◌∙◌, arith, add-one}
 use Rattle.std.proofs.lemmas.Bool.{eq-eqb}
-use Rattle.std.proofs.lemmas.List.{at_drop_more}
 use Rattle.std.proofs.Math.Seq.{take-suc}
-use Rattle.std.specs.List.{list_all}
 
 pub eqb_self : (p : ℕ) → (p == p) ≡ true
 eqb_self p = eq-eqb p p refl
@@ -45,21 +43,3 @@ mapped_next f xs ys i x y is lt read made =
 
 pub take_next : {X : Type 0} (xs : List X) (i : ℕ) (x : X) → i < length xs → x ≡ get_or xs i x → take (i + 1) xs ≡ take i xs ++ x ∷ []
 take_next xs i x lt is = rw add-one (take-suc xs i x lt ∙ ap (λ y. take i xs ++ y ∷ []) (sym is))
-
-pub replicate_more : {X : Type 0} (n : ℕ) (x : X) → replicate n x ++ x ∷ [] ≡ replicate (suc n) x
-replicate_more zero x = refl
-replicate_more (suc n) x = ap (λ ys. x ∷ ys) (replicate_more n x)
-
-pub get-replicate : {X : Type 0} (n p : ℕ) (x y : X) → slice_get (replicate n x) p ≡ Some y → y ≡ x
-get-replicate zero p x y e = absurd (cc (e))
-get-replicate (suc n) zero x y e = cc (e)
-get-replicate (suc n) (suc p) x y e = get-replicate n p x y e
-
-pub get-replicate_or : {X : Type 0} (n p : ℕ) (x : X) → unwrap_or (slice_get (replicate n x) p) x ≡ x
-get-replicate_or (suc n) (suc p) x = get-replicate_or n p x
-get-replicate_or _ _ x = refl
-
--- whether all of a list are so, at an element of it
-pub all_from : {X : Type 0} (f : X → Bool) (xs : List X) (i : ℕ) (x : X) (b : Bool) → list_all f (drop i xs) ≡ list_all f xs → i < length xs → x ≡ get_or xs i x → b ≡ f x
-    → (b && list_all f (drop (i + 1) xs)) ≡ list_all f xs
-all_from f xs i x b so lt read made = ap (λ c. c && list_all f (drop (i + 1) xs)) (made ∙ ap f read) ∙ (sym (at_drop_more (list_all f) xs i x lt) ∙ so)

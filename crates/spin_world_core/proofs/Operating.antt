@@ -1,16 +1,16 @@
 -- The steps of a table as operations: what its shapes show of themselves.
-use Rattle.std.proofs.Common.{◌≡◌, ℕ, zero, suc, Bool, true, false, not, ◌&&◌, ◌||◌, ◌==◌, ◌%◌, ◌+◌, Option, Some, None, List, is_some, get_or, slice_set, unwrap_or, if◌then◌else◌, refl, ap, sym, ◌∙◌, subst}
+use Rattle.std.proofs.Common.{◌≡◌, ℕ, zero, suc, Bool, true, false, not, ◌&&◌, ◌||◌, ◌==◌, ◌%◌, ◌+◌, Option, Some, None, is_some, slice_set, unwrap_or, if◌then◌else◌, refl, ap, sym, ◌∙◌, subst}
 use Rattle.std.proofs.lemmas.Bool.{eqb-true, and_parts, false≢true, true≢false}
 use Rattle.spin_step.specs.Plain.{Plain, to_upgrade_asked, Change, is_open}
 use Rattle.spin_world_core.specs.declared.place.Hold.{Hold}
 use Rattle.spin_world_core.specs.declared.answer.Answer.{Answer}
 use Rattle.spin_world_core.specs.declared.object.Next.{Next}
-use Rattle.spin_world_core.specs.declared.object.Next.TheVariants.{GoesOn, Answers}
+use Rattle.spin_world_core.specs.declared.object.Next.TheVariants.{GoesOn}
 use Rattle.spin_world_core.specs.Manners.{Manner, is_again, is_look}
 use Rattle.spin_world_core.specs.Calls.{Coding, barrier, is_step_of, Asked, waits, waits_or_starves, looks, may_be_weak, is_got_weakly}
 use Rattle.spin_world_core.specs.Begins.{fits}
-use Rattle.spin_world_core.specs.Operations.{Operation, loads, exchanges, adds, subtracts, sets_lowest_bit, stores, performed, Performs, IsOneOperation, RefusesAsLost, Stepwise}
-use Rattle.spin_world_core.specs.Acts.{Memory, one_number, number_at, Act, load, load_if, load_for, enter, exchange, weak_exchange, attempt, retry, store, section, swap, tried, guessed, becomes, passing, retried, place_of, step_at, made_if, change_at, refusal_by, makes_by, operation_by, is_section, step_by, manner_by, Table, begin_of, machine_of, completes_by, brought, filled, machine_with}
+use Rattle.spin_world_core.specs.Operations.{Operation, exchanges, sets_lowest_bit, performed, Performs, IsOneOperation, RefusesAsLost, Stepwise}
+use Rattle.spin_world_core.specs.Acts.{Memory, one_number, number_at, Act, load_if, enter, exchange, weak_exchange, attempt, retry, store, section, swap, tried, guessed, becomes, passing, retried, place_of, step_at, made_if, change_at, refusal_by, makes_by, operation_by, is_section, step_by, manner_by, Table, machine_of, completes_by, brought, filled, machine_with}
 use Rattle.spin_world_core.specs.Schedules.{placed}
 use Rattle.spin_world_core.proofs.Facts.{GoesOnCounted}
 

@@ -5,7 +5,7 @@ use Rattle.spin_step.specs.Plain.{Plain, Change}
 use Rattle.spin_step.specs.Parties.{apply_some}
 use Rattle.spin_world_core.specs.declared.place.Hold.{Hold}
 use Rattle.spin_world_core.specs.declared.place.Seat.{Seat}
-use Rattle.spin_world_core.specs.declared.place.Seat.TheVariants.{Idle, Calling, Holding, Leaked, Gone}
+use Rattle.spin_world_core.specs.declared.place.Seat.TheVariants.{Idle, Calling}
 use Rattle.spin_world_core.specs.declared.object.Next.{Next}
 use Rattle.spin_world_core.specs.declared.object.Next.TheVariants.{GoesOn}
 use Rattle.spin_world_core.specs.Manners.{Manner, is_weak}

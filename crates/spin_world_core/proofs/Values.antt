@@ -1,13 +1,13 @@
 -- Every event keeps what is promised of values that closures make.
-use Rattle.std.proofs.Common.{◌≡◌, ℕ, Option, Some, None, List, [], ◌∷◌, slice_get, refl, ◌∙◌}
-use Rattle.spin_step.specs.Plain.{Change, gets, releases, serves, stops_starving, turns, completes, fails, arrives}
+use Rattle.std.proofs.Common.{◌≡◌, ℕ, Option, Some, List, [], ◌∷◌, slice_get, refl, ◌∙◌}
+use Rattle.spin_step.specs.Plain.{Change, completes}
 use Rattle.spin_world_core.specs.declared.place.Hold.{Hold}
 use Rattle.spin_world_core.specs.declared.place.Seat.{Seat}
-use Rattle.spin_world_core.specs.declared.place.Seat.TheVariants.{Idle, Calling, Holding, Leaked, Gone}
+use Rattle.spin_world_core.specs.declared.place.Seat.TheVariants.{Calling}
 use Rattle.spin_world_core.specs.declared.object.Next.{Next}
 use Rattle.spin_world_core.specs.declared.object.Next.TheVariants.{GoesOn, Answers}
 use Rattle.spin_world_core.specs.declared.schedule.Move.{Move}
-use Rattle.spin_world_core.specs.declared.schedule.Move.TheVariants.{Begin, Step, Weak, Read, Write, Leak, OwnerGet, OwnerSet}
+use Rattle.spin_world_core.specs.declared.schedule.Move.TheVariants.{Step, Weak}
 use Rattle.spin_world_core.specs.Machines.{Machine, opening_plain}
 use Rattle.spin_world_core.specs.Schedules.{State, goes_on, refuses, placed}
 use Rattle.spin_world_core.specs.Runs.{Seen, Scene, scene_at, scene, Every, opening}

@@ -1,5 +1,5 @@
 -- What a call asks of the plain lock, and what each of its answers means there. These tables serve every object; an object names rows of them.
-use Rattle.std.specs.Prelude.{◌≡◌, ℕ, ◌+◌, ◌≤◌, ◌⊎◌, ◌&&◌, Bool, true, false, not, Option, Some, None, List, [], ◌∷◌, get_or}
+use Rattle.std.specs.Prelude.{◌≡◌, ℕ, ◌≤◌, ◌⊎◌, ◌&&◌, Bool, true, false, not, Option, Some, None, List, [], ◌∷◌, get_or}
 use Rattle.spin_step.specs.Plain.{Plain, Kind, reading, upgradable, asking, writing, Ask, to_read, to_read_upgradable, to_write, to_upgrade, to_upgrade_asked, to_take_ticket, to_enter, to_take_and_enter, to_lock_unregistered, to_lock_starving, to_lock_starving_alone, to_starve, to_begin, Change, gets, releases, serves, stops_starving, turns, completes, fails, arrives, is_open_to, is_empty, is_nothing, is_complete, count_kind, reader_count, flag_word, next_word, serving_word, fair_word, rw_word, once_word, count_word, generation_word}
 use Rattle.spin_step.specs.Parties.{is_held}
 use Rattle.spin_step.specs.Barriers.{is_leading, filled_by}
