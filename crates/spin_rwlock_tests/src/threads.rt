@@ -1,7 +1,7 @@
 //! Locks and guards in several threads.
 
 use crate::equal::equal;
-use spin_core::relax::{Spin, Yield};
+use spin_core::relax::{RelaxStrategy, Spin, Yield};
 use spin_rwlock::rwlock::{
     ReadHeld, RwLock, RwLockReadGuard, RwLockUpgradableGuard, RwLockWriteGuard, WriteHeld,
 };
@@ -80,6 +80,36 @@ fn guards_of_two_threads_read_one_lock(rt: HostRuntime) {
     equal(&rt, lock.reader_count(), 2);
     equal(&rt, lock.try_write().is_none(), true);
     equal(&rt, (*first, *second), (1, 1));
+}
+
+const TURNS: u32 = 10_000_000;
+
+// Tries to read until it is refused.
+fn is_kept_out<R: Wait>(rt: &R, lock: &RwLock<u64, Yield>) -> bool {
+    for _ in 0..TURNS {
+        if lock.try_read(rt).is_none() {
+            return true;
+        }
+        Yield::relax(rt);
+    }
+    false
+}
+
+#[test]
+fn no_reader_comes_once_an_upgrade_has_asked(rt: HostRuntime) {
+    let lock: RwLock<u64, Yield> = RwLock::new(1);
+    let reader = lock.read(&rt);
+    let guard = lock.upgradeable_read(&rt);
+    let (writer, kept_out) = thread::join(
+        &rt,
+        || guard.upgrade(&rt),
+        || {
+            let kept_out = is_kept_out(&rt, &lock);
+            drop(reader);
+            kept_out
+        },
+    );
+    equal(&rt, (kept_out, *writer), (true, 1));
 }
 
 // All additions are made under one guard, so a reader sees none of them or all.

@@ -1,7 +1,7 @@
 -- What users of a read-write lock rely on.
 use Rattle.std.proofs.Common.{◌≡◌, ℕ, ◌+◌, ◌*◌, ◌==◌, ◌↔◌, Bool, true, false, ◌&&◌, ◌||◌, if◌then◌else◌, Option, Some, None, List, [], ◌∷◌, ◌++◌, slice_get, slice_set, refl, ap, sym, ◌∙◌, subst, arith}
 use Rattle.std.proofs.lemmas.Bool.{eqb-true, ne_eqb, true≢false, false≢true}
-use Rattle.spin_step.specs.Plain.{Plain, Kind, reading, upgradable, asking, writing, Holder, Change, is_empty, is_holder, is_only, same_kind, count_kind, rw_word}
+use Rattle.spin_step.specs.Plain.{Plain, Kind, reading, upgradable, asking, writing, Holder, Change, is_empty, is_holder, is_only, same_kind, count_kind, rw_word, weight}
 use Rattle.spin_step.specs.Parties.{apply_some, IsOpenStep, Entries, entries, IsExclusive}
 use Rattle.spin_step.specs.Steps.{bit}
 use Rattle.spin_step.proofs.Exclusive.{empty_is}
@@ -100,10 +100,10 @@ module _ {V : Type 0} (v : V) (cap : ℕ) where
 
   -- who asks is in its upgrade, and goes for the word of a reader that is alone and asks
   abbrev Upgrades : State ℕ V RwCall RwPoint → ℕ → RwCall → RwPoint → Option Hold → Type 0
-  Upgrades s p c l h = ((moves_at (rw_machine v cap) s p Step (Some (Calling c l h))).outcome ≡ Answered Granted None) ↔ ((s.words == 6) ≡ true)
+  Upgrades s p c l h = ((moves_at (rw_machine v cap) s p Step (Some (Calling c l h))).outcome ≡ Answered Granted None) ↔ ((s.words == weight asking) ≡ true)
 
   upgraded : (s : State ℕ V RwCall RwPoint) (p : ℕ) (c : RwCall) (l : RwPoint) (h : Option Hold) (plain : Plain) (span : List Mark) → (rw_keeping v cap).Knows c l h p plain span → is_holder p asking plain.holders ≡ true → Upgrades s p c l h
-  upgraded s p Upgrade Asking (Some hold.Upgradable) plain span knows found = came V s p s.words Upgrade (Some hold.Upgradable) (GoesOn Asking) (s.words == 6) (λ e. absurd (cc (e)))
+  upgraded s p Upgrade Asking (Some hold.Upgradable) plain span knows found = came V s p s.words Upgrade (Some hold.Upgradable) (GoesOn Asking) (s.words == weight asking) (λ e. absurd (cc (e)))
   upgraded s p TryRead (Exchange n) None plain span knows found = absurd (does_not_ask None p plain (stood (asks_of TryRead None) TryRead (Exchange n) None 1 p plain span knows) found)
   upgraded s p Read (Exchange n) None plain span knows found = absurd (does_not_ask None p plain (stood (asks_of Read None) Read (Exchange n) None 1 p plain span knows) found)
   upgraded s p TryUpgradeableRead (Exchange n) None plain span knows found = absurd (does_not_ask None p plain (stood (asks_of TryUpgradeableRead None) TryUpgradeableRead (Exchange n) None 1 p plain span knows) found)
@@ -168,7 +168,7 @@ module _ {V : Type 0} (v : V) (cap : ℕ) where
       let left : (is_only p asking later.plain.holders ≡ true) ↔ (readers_gone m before further ≡ count_kind reading before.plain.holders) =
       (λ only. let none = alone.0 only in omega (arith, readers, none), λ all_gone. alone.1 (omega (arith, readers, all_gone))) in
       let now = after m (at_first m n) all in
-      let told : is_only p asking later.plain.holders ≡ (now.words == 6) = only_asking-word later.plain p now.words (one_of_each later.plain here.exclusive) found (sym (words_are n all)) in
+      let told : is_only p asking later.plain.holders ≡ (now.words == weight asking) = only_asking-word later.plain p now.words (one_of_each later.plain here.exclusive) found (sym (words_are n all)) in
       let state = state-seen_after m (opening m n) all in
       record {
         readers = readers;
