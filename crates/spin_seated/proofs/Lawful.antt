@@ -1,5 +1,6 @@
 -- What follows of a legal history.
-use Rattle.std.proofs.Common.{◌≡◌, ℕ, zero, suc, ◌≤◌, true, false, List, [], ◌∷◌, ◌++◌, map, length, Some, slice_get, refl, ap, ◌∙◌, arith}
+use Rattle.std.proofs.Common.{◌≡◌, ℕ, zero, suc, ◌≤◌, true, false, List, [], ◌∷◌, ◌++◌, map, length, Option, Some, None, slice_get, Bool, if◌then◌else◌, ◌==◌, refl, sym, ap, subst, ◌∙◌, arith}
+use Rattle.std.specs.Option.{unwrap_or, option_to_list}
 use Rattle.spin_step.specs.Plain.{Holder, is_empty}
 use Rattle.spin_seated.specs.declared.history.Entry.{Entry}
 use Rattle.spin_seated.specs.declared.history.Known.{Known}
@@ -8,10 +9,10 @@ use Rattle.spin_seated.specs.declared.mutex.Call.{Call}
 use Rattle.spin_seated.specs.declared.mutex.Call.TheVariants.{TryLock, IsLocked, Read, Write, Unlock}
 use Rattle.spin_seated.specs.declared.lock.Answer.{Answer}
 use Rattle.spin_seated.specs.declared.lock.Answer.TheVariants.{Truth, Value}
-use Rattle.spin_seated.specs.Histories.{Machine, BeginsWith, entry, calls_by, after, state, IsLegal, Met}
-use Rattle.spin_seated.specs.Locked.{Locked, value_after}
-use Rattle.spin_seated.specs.Mutex.{after_call, mutex}
-use Rattle.spin_seated.specs.Lawful.{History, holders, written, last_written}
+use Rattle.spin_seated.specs.Histories.{Machine, BeginsWith, entry, calls_by, after, state, IsLegalFrom, IsLegal, Met}
+use Rattle.spin_seated.specs.Locked.{Locked, value_after, all_written, all_read, InOrderOf, done, looks, goes_on}
+use Rattle.spin_seated.specs.Mutex.{plain_answer, after_call, mutex}
+use Rattle.spin_seated.specs.Lawful.{History, holders, written, read_by, last_written}
 use Rattle.spin_seated.proofs.Histories.{after-append, answered, calls_by-append}
 use Rattle.spin_seated.proofs.Holders.{Alone, alone_state, held_by, truth_is, value_tried}
 
@@ -34,7 +35,19 @@ module _ {K S C A H : Type 0} (m : Machine K S C A H) where
   agree a b met_a met_b first second =
       (second.history, (λ n e is. ap (λ (l : List (Entry C A)). slice_get l n) second.history ∙ still_there met_a.seen a.seen first.begins n e is), still_there met_a.seen b.seen second.begins)
 
-module _ {C H : Type 0} (m : Machine Opening Locked C Answer H) (written : C → ℕ → ℕ) (writes : (p : ℕ) (c : C) (s : Locked) → (m.next p c s).value ≡ written c s.value) where
+-- what a call reads, beside what it writes: the value that stands there, which it leaves
+abbrev pub Reads : Option ℕ → Option ℕ → ℕ → Type 0
+Reads None w v = Unit {0}
+Reads (Some x) None v = x ≡ v
+Reads (Some x) (Some w) v = ⊥
+
+next : (r w : Option ℕ) (v : ℕ) (more seen : List ℕ) → Reads r w v → InOrderOf (unwrap_or w v ∷ more) seen → InOrderOf (v ∷ (option_to_list w ++ more)) (option_to_list r ++ seen)
+next None None v more seen is rest = rest
+next None (Some w) v more seen is rest = goes_on rest
+next (Some x) None v more seen is rest = subst (λ (n : ℕ). InOrderOf (v ∷ more) (n ∷ seen)) (sym is) (looks rest)
+next (Some x) (Some w) v more seen is rest = absurd is
+
+module _ {C H : Type 0} (m : Machine Opening Locked C Answer H) (written : C → Option ℕ) (writes : (p : ℕ) (c : C) (s : Locked) → (m.next p c s).value ≡ unwrap_or (written c) s.value) where
   value_is : (s : Locked) (log : List (Entry C Answer)) → (after m s log).value ≡ value_after written s.value log
   value_is s [] = refl
   value_is s (e ∷ es) = value_is (m.next e.pass e.call s) es ∙ ap (λ (v : ℕ). value_after written v es) (writes e.pass e.call s)
@@ -45,6 +58,18 @@ module _ {C H : Type 0} (m : Machine Opening Locked C Answer H) (written : C →
   read_is k before rest p v c reads legal =
       let same : v ≡ (state m k before).value = cc ((answered m k before rest p c (Value v) legal).1, reads (state m k before)) in
       same ∙ value_is (m.start k) before
+
+  module _ (read : C → Answer → Option ℕ) (reads : (p : ℕ) (c : C) (s : Locked) → Reads (read c (m.answer p c s)) (written c) s.value) where
+    one_call : (e : Entry C Answer) (v : ℕ) (more : List ℕ) (own : List (Entry C Answer)) (b : Bool) → Reads (read e.call e.answer) (written e.call) v
+        → InOrderOf (unwrap_or (written e.call) v ∷ more) (all_read read own) → InOrderOf (v ∷ (option_to_list (written e.call) ++ more)) (all_read read (if b then e ∷ own else own))
+    one_call e v more own true is rest = next (read e.call e.answer) (written e.call) v more (all_read read own) is rest
+    one_call e v more own false is rest = next None (written e.call) v more (all_read read own) tt rest
+
+    pub reads_in_order : (n : ℕ) (s : Locked) (log : List (Entry C Answer)) (p : ℕ) → IsLegalFrom m n s log → InOrderOf (s.value ∷ all_written written log) (all_read read (calls_by p log))
+    reads_in_order n s [] p legal = done
+    reads_in_order n s (e ∷ es) p legal =
+        one_call e s.value (all_written written es) (calls_by p es) (e.pass == p) (subst (λ (a : Answer). Reads (read e.call a) (written e.call) s.value) (sym legal.2) (reads e.pass e.call s))
+        (subst (λ (v : ℕ). InOrderOf (v ∷ all_written written es) (all_read read (calls_by p es))) (writes e.pass e.call s) (reads_in_order n (m.next e.pass e.call s) es p legal.3))
 
 -- of the mutex
 one_at_most : (n : ℕ) (hs : List Holder) → Alone n hs → length (map (λ h. h.party) hs) ≤ 1
@@ -76,7 +101,7 @@ pub refused : (k : Opening) (before rest : History) (p : ℕ) → IsLegal mutex 
 refused k before rest p legal =
     let two = answered mutex k before rest p TryLock (Truth false) legal in lost k.passes (state mutex k before).lock.holders (alone_state k before two.0) two.1
 
-written_by : (p : ℕ) (c : Call) (s : Locked) → (after_call p c s).value ≡ written c s.value
+pub written_by : (p : ℕ) (c : Call) (s : Locked) → (after_call p c s).value ≡ unwrap_or (written c) s.value
 written_by p TryLock s = value_tried p s (is_empty s.lock.holders)
 written_by p IsLocked s = refl
 written_by p Read s = refl
@@ -85,3 +110,10 @@ written_by p Unlock s = refl
 
 pub read : (k : Opening) (before rest : History) (p v : ℕ) → IsLegal mutex k (before ++ entry p Read (Value v) ∷ rest) → v ≡ last_written k.value before
 read k before rest p v = read_is mutex written written_by k before rest p v Read (λ s. refl)
+
+pub read_then : (p : ℕ) (c : Call) (s : Locked) → Reads (read_by c (plain_answer p c s)) (written c) s.value
+read_then p Read s = refl
+read_then p TryLock s = tt
+read_then p IsLocked s = tt
+read_then p (Write w) s = tt
+read_then p Unlock s = tt

@@ -5,6 +5,5 @@ pub mod Keeping
 pub mod Lawful
 pub mod Passes
 pub mod RwDebts
-pub mod RwReads
 pub mod RwSteps
 pub mod Totals

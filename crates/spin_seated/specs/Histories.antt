@@ -52,6 +52,10 @@ module _ {C A : Type 0} where
   calls_by p (e ∷ es) = if e.pass == p then e ∷ calls_by p es else calls_by p es
 
 module _ {K C A : Type 0} where
+  -- the calls that a pass made, by what it knows
+  abbrev pub own_calls : Known K C A → List (Entry C A)
+  own_calls x = calls_by x.pass x.seen
+
   -- a pass that has made no call, and knows of none
   abbrev pub newcomer : K → ℕ → Known K C A
   newcomer k p = record { opening = k; pass = p; seen = [] }

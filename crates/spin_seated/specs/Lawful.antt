@@ -1,12 +1,13 @@
 -- What a history of a mutex says, in the words of its users.
-use Rattle.std.specs.Prelude.{ℕ, List, map}
+use Rattle.std.specs.Prelude.{ℕ, List, map, Option, Some, None}
 use Rattle.spin_seated.specs.declared.history.Entry.{Entry}
 use Rattle.spin_seated.specs.declared.lock.Opening.{Opening}
 use Rattle.spin_seated.specs.declared.mutex.Call.{Call}
-use Rattle.spin_seated.specs.declared.mutex.Call.TheVariants.{Write}
+use Rattle.spin_seated.specs.declared.mutex.Call.TheVariants.{Read, Write}
 use Rattle.spin_seated.specs.declared.lock.Answer.{Answer}
+use Rattle.spin_seated.specs.declared.lock.Answer.TheVariants.{Value}
 use Rattle.spin_seated.specs.Histories.{state}
-use Rattle.spin_seated.specs.Locked.{value_after}
+use Rattle.spin_seated.specs.Locked.{value_after, all_written, all_read}
 use Rattle.spin_seated.specs.Mutex.{mutex}
 
 abbrev pub History : Type 0
@@ -16,10 +17,22 @@ History = List (Entry Call Answer)
 abbrev pub holders : Opening → History → List ℕ
 holders k log = map (λ h. h.party) (state mutex k log).lock.holders
 
-abbrev pub written : Call → ℕ → ℕ
-written (Write w) v = w
-written _ v = v
+-- the value that a call writes, and that a call reads
+abbrev pub written : Call → Option ℕ
+written (Write w) = Some w
+written _ = None
+
+abbrev pub read_by : Call → Answer → Option ℕ
+read_by Read (Value v) = Some v
+read_by _ _ = None
 
 -- the value of the last write, or the one that stood there before
 abbrev pub last_written : ℕ → History → ℕ
 last_written v log = value_after written v log
+
+-- all values that were written, and all that were read, in the order of the history
+abbrev pub values_written : History → List ℕ
+values_written log = all_written written log
+
+abbrev pub values_read : History → List ℕ
+values_read log = all_read read_by log

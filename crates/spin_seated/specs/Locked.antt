@@ -1,5 +1,7 @@
 -- A lock of one number: the lock of named holders, with a value.
-use Rattle.std.specs.Prelude.{◌≡◌, ℕ, List, [], ◌∷◌}
+use Rattle.std.specs.Prelude.{◌≡◌, ℕ, List, [], ◌∷◌, Option, Some, None}
+use Rattle.std.specs.List.{flat_map}
+use Rattle.std.specs.Option.{unwrap_or, option_to_list}
 use Rattle.spin_step.specs.Plain.{Plain}
 use Rattle.spin_seated.specs.declared.history.Entry.{Entry}
 use Rattle.spin_seated.specs.declared.lock.Opening.{Opening}
@@ -10,10 +12,23 @@ pub record Locked : Type 0 where
   pub lock : Plain
   pub value : ℕ
 
--- the value after these calls, where each writes so
-abbrev pub value_after : {C A : Type 0} → (C → ℕ → ℕ) → ℕ → List (Entry C A) → ℕ
+-- the value after these calls, where each writes what `written` says, if anything
+abbrev pub value_after : {C A : Type 0} → (C → Option ℕ) → ℕ → List (Entry C A) → ℕ
 value_after written v [] = v
-value_after written v (e ∷ es) = value_after written (written e.call v) es
+value_after written v (e ∷ es) = value_after written (unwrap_or (written e.call) v) es
+
+-- all values that these calls wrote, and all that they read, in the order of the history
+abbrev pub all_written : {C A : Type 0} → (C → Option ℕ) → List (Entry C A) → List ℕ
+all_written written log = flat_map (λ e. option_to_list (written e.call)) log
+
+abbrev pub all_read : {C A : Type 0} → (C → A → Option ℕ) → List (Entry C A) → List ℕ
+all_read read log = flat_map (λ e. option_to_list (read e.call e.answer)) log
+
+-- who looks now and then at a value that becomes each of these in turn sees those, in their order: none is older than one seen before
+pub data InOrderOf : List ℕ → List ℕ → Type 0 where
+  done : {values : List ℕ} → InOrderOf values []
+  looks : {value : ℕ} {values seen : List ℕ} → InOrderOf (value ∷ values) seen → InOrderOf (value ∷ values) (value ∷ seen)
+  goes_on : {value : ℕ} {values seen : List ℕ} → InOrderOf values seen → InOrderOf (value ∷ values) seen
 
 -- what each lock shows of its machine: how it begins, and that a pass's own calls tell what it holds
 pub record IsLock {C H : Type 0} (m : Machine Opening Locked C Answer H) : Type 0 where

@@ -1,5 +1,6 @@
 -- The plain read-write lock. It passes on the types that its words are about.
 use Rattle.std.specs.Prelude.{ℕ, ◌==◌, Bool, true, false, if◌then◌else◌, List, [], ◌∷◌, Option, Some, None, filter}
+use Rattle.std.specs.Option.{unwrap_or}
 use Rattle.spin_step.specs.Plain.{Plain, Kind, reading, writing, Holder, fresh, Change, gets, releases, turns, to_read, to_write, is_open, count_kind, reader_count, rw_word}
 use Rattle.spin_step.specs.Parties.{apply_some}
 use Rattle.spin_step.specs.Readers.{reader_limit, readers_in, writers_in, has_room}
@@ -62,12 +63,13 @@ abbrev pub where_open : Plain → Option Change → Option Change
 where_open s None = None
 where_open s (Some c) = if is_open s c then Some c else None
 
-abbrev pub written : Call → ℕ → ℕ
-written (Write w) v = w
-written _ v = v
+-- the value that it writes
+abbrev pub written : Call → Option ℕ
+written (Write w) = Some w
+written _ = None
 
 abbrev pub after_call : ℕ → Call → Locked → Locked
-after_call p c s = record { lock = apply_some s.lock (where_open s.lock (change p c)); value = written c s.value }
+after_call p c s = record { lock = apply_some s.lock (where_open s.lock (change p c)); value = unwrap_or (written c) s.value }
 
 abbrev pub plain_answer : ℕ → Call → Locked → Answer
 plain_answer p TryRead s = Truth (is_open s.lock (gets p to_read))

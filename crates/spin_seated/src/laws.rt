@@ -8,7 +8,10 @@ ghost use Rattle.spin_seated.specs.declared.lock.Answer.{Answer};
 ghost use Rattle.spin_seated.specs.declared.lock.Answer.TheVariants.{Truth, Value};
 ghost use Rattle.spin_seated.specs.Histories.{BeginsWith, entry, calls_by, IsLegal, Met};
 ghost use Rattle.spin_seated.specs.Mutex.{mutex, Knows};
-ghost use Rattle.spin_seated.specs.Lawful.{History, holders, last_written};
+ghost use Rattle.spin_seated.specs.Locked.{InOrderOf};
+ghost use Rattle.spin_seated.specs.Lawful.{History, holders, last_written, values_written, values_read};
+ghost use Rattle.spin_seated.specs.Rw.{rw};
+ghost use Rattle.spin_seated.specs.RwLawful as rw_lawful;
 
 /// At most one pass holds the lock.
 pub fn one_pass_holds_at_most()
@@ -28,6 +31,13 @@ pub fn who_is_refused_found_a_holder()
 /// A read gives the last write before it, or else the value that the lock was opened with.
 pub fn a_read_gives_the_last_write()
     ensures { (k : Opening) (before after : History) (p v : ℕ) → IsLegal mutex k (before ++ entry p Read (Value v) ∷ after) → v ≡ last_written k.value before }
+{}
+
+/// A pass of either lock reads the opening value and those that were written, in their order: never an older one than it read
+/// before.
+pub fn a_pass_reads_in_the_order_of_the_writes()
+    ensures mutex { (k : Opening) (log : History) (p : ℕ) → IsLegal mutex k log → InOrderOf (k.value ∷ values_written log) (values_read (calls_by p log)) }
+    ensures rwlock { (k : Opening) (log : rw_lawful.History) (p : ℕ) → IsLegal rw k log → InOrderOf (k.value ∷ rw_lawful.values_written log) (rw_lawful.values_read (calls_by p log)) }
 {}
 
 /// As a history goes on, the calls of each pass go on, in the order in which they were made.

@@ -1,28 +1,14 @@
 //! What no contract says of a `SeatedMutex`: that a try is granted at all, and two threads that repeat a try until it is granted.
-ghost use Rattle.std.specs.Prelude.{◌≡◌, IfOk};
-ghost use Rattle.spin_seated.specs.Passes.{IsPassOf, pass_of};
+ghost use Rattle.spin_seated.specs.Passes.{IsPassOf};
 
 use spin_core::relax::{RelaxStrategy, Yield};
 use spin_seated::mutex::{Pass, SeatedMutex};
-use std::alloc::{AllocError, Global};
+use spin_seated_uses::adding::open_for_two;
 use std::sync::Wait;
 use std::test::Fail;
 use std::thread::join;
 
 const TURNS: u32 = 10_000_000;
-
-fn open_for_two(alloc: Global, value: u64) -> Result<(SeatedMutex, Pass, Pass), AllocError>
-    ensures { IfOk result (λ r. (r.1 ≡ pass_of r.0 0) × (r.2 ≡ pass_of r.0 1)) }
-{
-    let (lock, mut passes) = SeatedMutex::new(alloc, value, 2)?;
-    let Some(second) = passes.pop() else {
-        unreachable!()
-    };
-    let Some(first) = passes.pop() else {
-        unreachable!()
-    };
-    Ok((lock, first, second))
-}
 
 fn is_send<T: Send>() {}
 

@@ -1,6 +1,8 @@
-//! Tests of the seated locks: what no contract says of them.
+//! Tests of the seated locks and of their callers: what no contract says of them.
 #![tactic(auto)]
 
+#[cfg(test)]
+mod callers;
 #[cfg(test)]
 mod calls;
 #[cfg(test)]

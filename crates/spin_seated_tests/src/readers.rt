@@ -1,11 +1,11 @@
 //! What no contract says of a `SeatedRwLock`: that a try is granted at all, and threads that end.
-ghost use Rattle.std.specs.Prelude.{◌≡◌, None, IfOk};
-ghost use Rattle.spin_seated.specs.Passes.{IsPassOf, pass_of};
+ghost use Rattle.std.specs.Prelude.{◌≡◌, None};
+ghost use Rattle.spin_seated.specs.Passes.{IsPassOf};
 ghost use Rattle.spin_seated.specs.Rw.{holds};
 
 use spin_core::relax::{RelaxStrategy, Yield};
 use spin_seated::rwlock::{RwPass, SeatedHold, SeatedRwLock};
-use std::alloc::{AllocError, Global};
+use spin_seated_uses::publishing::open_for_three;
 use std::sync::Wait;
 use std::test::Fail;
 use std::thread::join;
@@ -13,25 +13,6 @@ use std::thread::join;
 const TURNS: u32 = 10_000_000;
 
 const TIMES: u32 = 300;
-
-fn open_for_three(
-    alloc: Global,
-    value: u64,
-) -> Result<(SeatedRwLock, RwPass, RwPass, RwPass), AllocError>
-    ensures { IfOk result (λ r. (r.1 ≡ pass_of r.0 0) × (r.2 ≡ pass_of r.0 1) × (r.3 ≡ pass_of r.0 2)) }
-{
-    let (lock, mut passes) = SeatedRwLock::new(alloc, value, 3)?;
-    let Some(c) = passes.pop() else {
-        unreachable!()
-    };
-    let Some(b) = passes.pop() else {
-        unreachable!()
-    };
-    let Some(a) = passes.pop() else {
-        unreachable!()
-    };
-    Ok((lock, a, b, c))
-}
 
 fn reads(pass: &RwPass) -> bool {
     matches!(pass.holds(), Some(SeatedHold::Read))

@@ -1,4 +1,2 @@
 pub mod Transfers
 pub mod Lines
-pub mod Published
-pub mod Turns

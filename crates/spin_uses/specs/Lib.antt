@@ -2,5 +2,3 @@ pub mod Phases
 pub mod Ledger
 pub mod Settings
 pub mod SharedSettings
-pub mod Turns
-pub mod Publishing

@@ -2,9 +2,7 @@
 //! the promises of the locks.
 #![tactic(auto)]
 
-pub mod adding;
 pub mod cache;
 pub mod ledger;
 pub mod phases;
-pub mod publishing;
 pub mod settings;

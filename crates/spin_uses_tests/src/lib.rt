@@ -12,8 +12,6 @@ mod ledger;
 #[cfg(test)]
 mod phases;
 #[cfg(test)]
-mod seated;
-#[cfg(test)]
 mod seats;
 #[cfg(test)]
 mod settings;

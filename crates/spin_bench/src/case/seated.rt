@@ -1,11 +1,11 @@
 //! A lock whose one caller knows what it did.
 ghost use Rattle.std.specs.Prelude.{◌≡◌, Some};
 ghost use Rattle.spin_seated.specs.Passes.{IsPassOf};
-ghost use Rattle.spin_uses.specs.Turns.{away, turn_of};
+ghost use Rattle.spin_seated_uses.specs.Turns.{away, turn_of};
 
 use super::Case;
 use spin_seated::mutex::{Pass, SeatedMutex};
-use spin_uses::adding::add;
+use spin_seated_uses::adding::add;
 use std::alloc::{AllocError, Global};
 use std::sync;
 use std::sync::Wait;

@@ -8,9 +8,9 @@ ghost use Rattle.spin_seated.specs.declared.lock.Answer.{Answer};
 ghost use Rattle.spin_seated.specs.declared.lock.Answer.TheVariants.{Truth, Value};
 ghost use Rattle.spin_seated.specs.declared.rwlock.Call.{Call};
 ghost use Rattle.spin_seated.specs.declared.rwlock.Call.TheVariants.{TryRead, TryWrite, ReaderCount, WriterCount, Read};
-ghost use Rattle.spin_seated.specs.Histories.{entry, calls_by, IsLegal, Met};
+ghost use Rattle.spin_seated.specs.Histories.{entry, IsLegal, Met};
 ghost use Rattle.spin_seated.specs.Rw.{rw, Knows};
-ghost use Rattle.spin_seated.specs.RwLawful.{History, holders, last_written, values_written, values_read, InOrderOf};
+ghost use Rattle.spin_seated.specs.RwLawful.{History, holders, last_written};
 
 /// Nobody writes while another reads or writes.
 pub fn nobody_writes_beside_another()
@@ -32,11 +32,6 @@ pub fn a_writer_comes_where_nobody_holds()
 /// on.
 pub fn a_read_gives_the_last_write()
     ensures { (k : Opening) (before after : History) (p v : ℕ) → IsLegal rw k (before ++ entry p Read (Value v) ∷ after) → v ≡ last_written k.value before }
-{}
-
-/// A pass reads the opening value and those that were written, in their order: never an older one than it read before.
-pub fn a_pass_reads_in_the_order_of_the_writes()
-    ensures { (k : Opening) (log : History) (p : ℕ) → IsLegal rw k log → InOrderOf (k.value ∷ values_written log) (values_read (calls_by p log)) }
 {}
 
 /// A count is the number of those who hold so at that point.

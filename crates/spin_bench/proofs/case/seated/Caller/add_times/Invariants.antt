@@ -1,7 +1,7 @@
 -- each turn of the loop leaves the pass as it found it: of this lock, and away
 use Rattle.std.proofs.Common.{◌≡◌, Some}
 use Rattle.spin_seated.specs.Passes.{IsPassOf}
-use Rattle.spin_uses.specs.Turns.{away, turn_of}
+use Rattle.spin_seated_uses.specs.Turns.{away, turn_of}
 use Rattle.spin_bench.proofs.case.seated.Caller.add_times.Given as goal
 
 abbrev pub invariant-loop : goal.invariant-loop

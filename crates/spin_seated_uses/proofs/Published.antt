@@ -1,20 +1,20 @@
 -- What passes read and wrote, by the calls that they made, and what that is in one history of all.
 use Rattle.std.proofs.Common.{◌≡◌, ℕ, zero, suc, ◌<◌, ◌≢◌, ◌==◌, Bool, true, false, if◌then◌else◌, List, [], ◌∷◌, ◌++◌, refl, sym, ap, subst, ◌∙◌, eq-eqb, arith}
 use Rattle.std.proofs.lemmas.Grind.{flat_map-append}
+use Rattle.std.specs.Option.{option_to_list}
 use Rattle.std.proofs.lemmas.Bool.{false≢true}
 use Rattle.spin_seated.specs.declared.history.Entry.{Entry}
 use Rattle.spin_seated.specs.declared.lock.Opening.{Opening}
 use Rattle.spin_seated.specs.declared.lock.Answer.{Answer}
 use Rattle.spin_seated.specs.declared.rwlock.Call.{Call}
-use Rattle.spin_seated.specs.Histories.{calls_by, IsLegalFrom, IsLegal, Met}
-use Rattle.spin_seated.specs.Locked.{Locked}
-use Rattle.spin_seated.specs.Rw.{rw, after_call, Knows}
-use Rattle.spin_seated.specs.RwLawful.{History, written_by, values_written, values_read, InOrderOf, done, looks, goes_on}
+use Rattle.spin_seated.specs.Histories.{calls_by, own_calls, IsLegalFrom, IsLegal, Met}
+use Rattle.spin_seated.specs.Locked.{Locked, InOrderOf, done, looks, goes_on}
+use Rattle.spin_seated.specs.Rw.{rw, after_call, written, Knows}
+use Rattle.spin_seated.specs.RwLawful.{History, values_written, values_read}
 use Rattle.spin_seated.proofs.Histories.{calls_by-append}
-use Rattle.spin_uses.specs.Publishing.{rw_calls}
 
 values_written-append : (xs ys : History) → values_written (xs ++ ys) ≡ values_written xs ++ values_written ys
-values_written-append xs ys = flat_map-append (λ (e : Entry Call Answer). written_by e.call) xs ys
+values_written-append xs ys = flat_map-append (λ (e : Entry Call Answer). option_to_list (written e.call)) xs ys
 
 -- where one pass alone writes, all that is written is its own
 none_after : (xs ys : List ℕ) → xs ++ ys ≡ [] → (xs ≡ []) × (ys ≡ [])
@@ -22,17 +22,17 @@ none_after [] ys none = (refl, none)
 none_after (x ∷ xs) ys none = absurd (cc none)
 
 silent_after : (e : Entry Call Answer) (es : History) (b : Bool) → values_written (if b then e ∷ es else es) ≡ [] → values_written es ≡ []
-silent_after e es true silent = (none_after (written_by e.call) (values_written es) silent).1
+silent_after e es true silent = (none_after (option_to_list (written e.call)) (values_written es) silent).1
 silent_after e es false silent = silent
 
-silent_now : (e : Entry Call Answer) (es : History) → values_written (calls_by e.pass (e ∷ es)) ≡ [] → written_by e.call ≡ []
+silent_now : (e : Entry Call Answer) (es : History) → values_written (calls_by e.pass (e ∷ es)) ≡ [] → option_to_list (written e.call) ≡ []
 silent_now e es silent =
-    (none_after (written_by e.call) (values_written (calls_by e.pass es))
+    (none_after (option_to_list (written e.call)) (values_written (calls_by e.pass es))
     (subst (λ (b : Bool). values_written (if b then e ∷ calls_by e.pass es else calls_by e.pass es) ≡ []) (eq-eqb e.pass e.pass refl) silent)).0
 
-one_more : (p : ℕ) (e : Entry Call Answer) (es : History) (b : Bool) → (b ≡ false → written_by e.call ≡ []) → values_written es ≡ values_written (calls_by p es)
+one_more : (p : ℕ) (e : Entry Call Answer) (es : History) (b : Bool) → (b ≡ false → option_to_list (written e.call) ≡ []) → values_written es ≡ values_written (calls_by p es)
     → values_written (e ∷ es) ≡ values_written (if b then e ∷ calls_by p es else calls_by p es)
-one_more p e es true silent rest = ap (λ (l : List ℕ). written_by e.call ++ l) rest
+one_more p e es true silent rest = ap (λ (l : List ℕ). option_to_list (written e.call) ++ l) rest
 one_more p e es false silent rest = ap (λ (l : List ℕ). l ++ values_written es) (silent refl) ∙ rest
 
 one_writes : (n p : ℕ) (s : Locked) (log : History) → IsLegalFrom rw n s log → ((q : ℕ) → q < n → q ≢ p → values_written (calls_by q log) ≡ []) → values_written log ≡ values_written (calls_by p log)
@@ -56,9 +56,9 @@ others log one two (suc (suc (suc q))) below apart = absurd (omega arith)
 
 -- two readers meet, and then the writer meets one of them
 module _ (k : Opening) (w x y met_x met_y met_w met_z : Knows) (three : k.passes ≡ 3) (of_x : x.opening ≡ k) (number_w : w.pass ≡ 0) (number_x : x.pass ≡ 1) (number_y : y.pass ≡ 2)
-    (silent_x : values_written (rw_calls x) ≡ []) (silent_y : values_written (rw_calls y) ≡ [])
+    (silent_x : values_written (own_calls x) ≡ []) (silent_y : values_written (own_calls y) ≡ [])
     (first : Met rw x met_x.seen met_x) (second : Met rw y met_x.seen met_y) (third : Met rw w met_w.seen met_w) (fourth : Met rw met_x met_w.seen met_z) where
-  own : (p : ℕ) (z : Knows) (log : History) → z.pass ≡ p → calls_by z.pass log ≡ rw_calls z → calls_by p log ≡ rw_calls z
+  own : (p : ℕ) (z : Knows) (log : History) → z.pass ≡ p → calls_by z.pass log ≡ own_calls z → calls_by p log ≡ own_calls z
   own p z log number same = ap (λ (q : ℕ). calls_by q log) (sym number) ∙ same
 
   abbrev before : History
@@ -67,7 +67,7 @@ module _ (k : Opening) (w x y met_x met_y met_w met_z : Knows) (three : k.passes
   legal : IsLegal rw k before
   legal = subst (λ (o : Opening). IsLegal rw o before) of_x first.legal
 
-  silent : (p : ℕ) (z : Knows) → calls_by p before ≡ rw_calls z → values_written (rw_calls z) ≡ [] → values_written (calls_by p before) ≡ []
+  silent : (p : ℕ) (z : Knows) → calls_by p before ≡ own_calls z → values_written (own_calls z) ≡ [] → values_written (calls_by p before) ≡ []
   silent p z same none = ap values_written same ∙ none
 
   mine : values_written before ≡ values_written (calls_by 0 before)
@@ -75,17 +75,17 @@ module _ (k : Opening) (w x y met_x met_y met_w met_z : Knows) (three : k.passes
       one_writes 3 0 (rw.start k) before (subst (λ (n : ℕ). IsLegalFrom rw n (rw.start k) before) three legal)
       (others before (silent 1 x (own 1 x before number_x first.own) silent_x) (silent 2 y (own 2 y before number_y second.own) silent_y))
 
-  whole : values_written (rw_calls w) ≡ values_written before ++ values_written (calls_by 0 fourth.begins.rest)
+  whole : values_written (own_calls w) ≡ values_written before ++ values_written (calls_by 0 fourth.begins.rest)
   whole =
       ap values_written (sym (own 0 w met_w.seen number_w third.own) ∙ (ap (calls_by 0) fourth.begins.is ∙ calls_by-append 0 before fourth.begins.rest))
       ∙ (values_written-append (calls_by 0 before) (calls_by 0 fourth.begins.rest) ∙ ap (λ (l : List ℕ). l ++ values_written (calls_by 0 fourth.begins.rest)) (sym mine))
 
-  seen_by : (p : ℕ) (z : Knows) → calls_by p before ≡ rw_calls z → InOrderOf (k.value ∷ values_written before) (values_read (calls_by p before)) → InOrderOf (k.value ∷ values_written (rw_calls w)) (values_read (rw_calls z))
+  seen_by : (p : ℕ) (z : Knows) → calls_by p before ≡ own_calls z → InOrderOf (k.value ∷ values_written before) (values_read (calls_by p before)) → InOrderOf (k.value ∷ values_written (own_calls w)) (values_read (own_calls z))
   seen_by p z same ordered =
-      subst (λ (l : List ℕ). InOrderOf (k.value ∷ l) (values_read (rw_calls z))) (sym whole)
-      (longer (k.value ∷ values_written before) (values_written (calls_by 0 fourth.begins.rest)) (values_read (rw_calls z))
+      subst (λ (l : List ℕ). InOrderOf (k.value ∷ l) (values_read (own_calls z))) (sym whole)
+      (longer (k.value ∷ values_written before) (values_written (calls_by 0 fourth.begins.rest)) (values_read (own_calls z))
       (subst (λ (l : History). InOrderOf (k.value ∷ values_written before) (values_read l)) same ordered))
 
   pub compared : ((o : Opening) (log : History) (p : ℕ) → IsLegal rw o log → InOrderOf (o.value ∷ values_written log) (values_read (calls_by p log)))
-      → InOrderOf (k.value ∷ values_written (rw_calls w)) (values_read (rw_calls x)) × InOrderOf (k.value ∷ values_written (rw_calls w)) (values_read (rw_calls y))
+      → InOrderOf (k.value ∷ values_written (own_calls w)) (values_read (own_calls x)) × InOrderOf (k.value ∷ values_written (own_calls w)) (values_read (own_calls y))
   compared law = (seen_by 1 x (own 1 x before number_x first.own) (law k before 1 legal), seen_by 2 y (own 2 y before number_y second.own) (law k before 2 legal))

@@ -5,7 +5,7 @@ use Rattle.spin_seated.specs.declared.mutex.Call.{Call}
 use Rattle.spin_seated.specs.declared.mutex.Call.TheVariants.{TryLock, Read, Write, Unlock}
 use Rattle.spin_seated.specs.declared.lock.Answer.{Answer}
 use Rattle.spin_seated.specs.declared.lock.Answer.TheVariants.{Truth, Value, Done}
-use Rattle.spin_seated.specs.Histories.{calls_by, total}
+use Rattle.spin_seated.specs.Histories.{own_calls, total}
 use Rattle.spin_seated.specs.declared.lock.SeatedLock.{SeatedLock}
 use Rattle.spin_seated.specs.Mutex.{Knows}
 use Rattle.spin_seated.specs.Passes.{Seated, IsPassOf}
@@ -30,10 +30,6 @@ next_turn _ _ _ = None
 abbrev pub turn_from : Turn → List (Entry Call Answer) → Option Turn
 turn_from t [] = Some t
 turn_from t (e ∷ es) = option_and_then (λ u. turn_from u es) (next_turn t e.call e.answer)
-
--- the calls that a pass made
-abbrev pub own_calls : Knows → List (Entry Call Answer)
-own_calls x = calls_by x.pass x.seen
 
 abbrev pub turn_of : Knows → Option Turn
 turn_of x = turn_from away (own_calls x)

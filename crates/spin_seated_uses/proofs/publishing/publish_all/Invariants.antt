@@ -1,8 +1,8 @@
 use Rattle.std.proofs.Common.{◌≡◌, [], None, take}
 use Rattle.spin_seated.specs.Passes.{IsPassOf}
 use Rattle.spin_seated.specs.Rw.{holds}
-use Rattle.spin_uses.specs.Publishing.{GoesOn}
-use Rattle.spin_uses.proofs.publishing.publish_all.Given as goal
+use Rattle.spin_seated_uses.specs.Publishing.{GoesOn}
+use Rattle.spin_seated_uses.proofs.publishing.publish_all.Given as goal
 
 abbrev pub invariant-loop-value : goal.invariant-loop-value
 invariant-loop-value g l =

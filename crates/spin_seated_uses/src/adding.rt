@@ -2,8 +2,9 @@
 //!
 //! The proof is from the one history that both passes know once they have met. No call says what another thread did.
 ghost use Rattle.std.specs.Prelude.{◌≡◌, ◌+◌, Some, if◌then◌else◌, IfOk, IfSome};
+ghost use Rattle.spin_seated.specs.Histories.{own_calls};
 ghost use Rattle.spin_seated.specs.Passes.{IsPassOf, opening_of, pass_of};
-ghost use Rattle.spin_uses.specs.Turns.{away, turn_of, own_calls, writes_in, HasAdded};
+ghost use Rattle.spin_seated_uses.specs.Turns.{away, turn_of, writes_in, HasAdded};
 
 use spin_seated::mutex::{Pass, SeatedMutex};
 use std::alloc::{AllocError, Global};

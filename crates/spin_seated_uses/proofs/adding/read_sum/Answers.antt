@@ -1,7 +1,7 @@
 use Rattle.std.proofs.Common.{sym, ◌∙◌}
 use Rattle.std.proofs.lemmas.Bool.{false≢true}
-use Rattle.spin_uses.proofs.Turns.{is_granted, sums}
-use Rattle.spin_uses.proofs.adding.read_sum.Goals as goal
+use Rattle.spin_seated_uses.proofs.Turns.{is_granted, sums}
+use Rattle.spin_seated_uses.proofs.adding.read_sum.Goals as goal
 
 pub unreachable-requires : goal.unreachable-requires
 unreachable-requires c =

@@ -1,8 +1,8 @@
 use Rattle.std.proofs.Common.{◌≡◌, [], None, length}
 use Rattle.spin_seated.specs.Passes.{IsPassOf}
 use Rattle.spin_seated.specs.Rw.{holds}
-use Rattle.spin_uses.specs.Publishing.{GoesOn}
-use Rattle.spin_uses.proofs.publishing.look_often.Given as goal
+use Rattle.spin_seated_uses.specs.Publishing.{GoesOn}
+use Rattle.spin_seated_uses.proofs.publishing.look_often.Given as goal
 
 abbrev pub invariant-loop : goal.invariant-loop
 invariant-loop g l =

@@ -1,9 +1,9 @@
 use Rattle.std.proofs.Common.{◌≡◌, ◌+◌, Bool, if◌then◌else◌, Some, None, refl, ap, eq-eqb, arith}
 use Rattle.spin_seated.specs.declared.mutex.Call.TheVariants.{TryLock, Read, Write, Unlock}
 use Rattle.spin_seated.specs.declared.lock.Answer.TheVariants.{Truth}
-use Rattle.spin_uses.specs.Turns.{away, entered, has_read, has_written, next_turn, turn_of}
-use Rattle.spin_uses.proofs.Turns.{turn_goes, writes_grow}
-use Rattle.spin_uses.proofs.adding.add.Goals as goal
+use Rattle.spin_seated_uses.specs.Turns.{away, entered, has_read, has_written, next_turn, turn_of}
+use Rattle.spin_seated_uses.proofs.Turns.{turn_goes, writes_grow}
+use Rattle.spin_seated_uses.proofs.adding.add.Goals as goal
 
 pub returns-then-not-try_lock-clause-turn : goal.returns-then-not-try_lock-clause-turn
 returns-then-not-try_lock-clause-turn c =

@@ -3,20 +3,16 @@ use Rattle.std.specs.Prelude.{◌≡◌, ℕ, List, [], ◌++◌, Option, length
 use Rattle.spin_seated.specs.declared.lock.SeatedLock.{SeatedLock}
 use Rattle.spin_seated.specs.declared.rwlock.Call.{Call}
 use Rattle.spin_seated.specs.declared.rwlock.SeatedHold.{SeatedHold}
-use Rattle.spin_seated.specs.Histories.{calls_by}
+use Rattle.spin_seated.specs.Histories.{own_calls}
 use Rattle.spin_seated.specs.Passes.{Seated, IsPassOf, pass_of}
 use Rattle.spin_seated.specs.Rw.{Knows}
-use Rattle.spin_seated.specs.RwLawful.{History, values_written, values_read}
-
--- the calls that a pass made
-abbrev pub rw_calls : Knows → History
-rw_calls x = calls_by x.pass x.seen
+use Rattle.spin_seated.specs.RwLawful.{values_written, values_read}
 
 -- a pass has gone on: it has read and written these values more
 pub record GoesOn (x y : Knows) (read written : List ℕ) : Type 0 where
   pub number : y.pass ≡ x.pass
-  pub reads : values_read (rw_calls y) ≡ values_read (rw_calls x) ++ read
-  pub writes : values_written (rw_calls y) ≡ values_written (rw_calls x) ++ written
+  pub reads : values_read (own_calls y) ≡ values_read (own_calls x) ++ read
+  pub writes : values_written (own_calls y) ≡ values_written (own_calls x) ++ written
 
 module _ {A : Type 0} where
   -- the pass of this number has read these values, so many, and has written none

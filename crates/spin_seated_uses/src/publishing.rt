@@ -3,20 +3,22 @@
 //!
 //! The proof is from the one history that all three know once they have met. No call says what another thread did.
 ghost use Rattle.std.specs.Prelude.{◌≡◌, [], ◌∷◌, None, Some, IfOk, length};
-ghost use Rattle.spin_seated.specs.declared.rwlock.SeatedHold.TheVariants as hold;
+ghost use Rattle.spin_seated.specs.Histories.{own_calls};
+ghost use Rattle.spin_seated.specs.Locked.{InOrderOf};
 ghost use Rattle.spin_seated.specs.Passes.{IsPassOf, opening_of, pass_of};
 ghost use Rattle.spin_seated.specs.Rw.{holds};
-ghost use Rattle.spin_seated.specs.RwLawful.{values_written, values_read, InOrderOf};
-ghost use Rattle.spin_uses.specs.Publishing.{rw_calls, GoesOn, HasLooked};
+ghost use Rattle.spin_seated.specs.RwLawful.{values_written, values_read};
+ghost use Rattle.spin_seated_uses.specs.Publishing.{GoesOn, HasLooked};
 
 use spin_core::relax::{RelaxStrategy, Yield};
-use spin_seated::rwlock::laws::a_pass_reads_in_the_order_of_the_writes;
-use spin_seated::rwlock::{RwPass, SeatedRwLock};
+use spin_seated::laws::a_pass_reads_in_the_order_of_the_writes;
+use spin_seated::rwlock::{RwPass, SeatedHold, SeatedRwLock};
 use std::alloc::{AllocError, Global};
 use std::sync::Wait;
 use std::thread::{Threads, join};
 
-fn open_for_three(
+/// A lock for three callers, and their passes.
+pub fn open_for_three(
     alloc: Global,
     value: u64,
 ) -> Result<(SeatedRwLock, RwPass, RwPass, RwPass), AllocError>
@@ -36,31 +38,20 @@ fn open_for_three(
     Ok((lock, first, second, third))
 }
 
-fn come_to_read<W: Wait>(rt: &W, lock: &SeatedRwLock, pass: &mut RwPass)
+/// Tries until it is let in to hold so.
+fn come<W: Wait>(rt: &W, lock: &SeatedRwLock, pass: &mut RwPass, hold: SeatedHold)
     requires own { IsPassOf lock.now pass.old }
     requires free { holds pass.old.known ≡ None }
     ensures own { IsPassOf lock.now pass.new }
-    ensures holds { holds pass.new.known ≡ Some hold.Read }
+    ensures holds { holds pass.new.known ≡ Some hold }
     ensures goes_on { GoesOn pass.old.known pass.new.known [] [] }
 {
     for _ in rt.forever() {
-        if lock.try_read(rt, pass) {
-            return;
-        }
-        Yield::relax(rt);
-    }
-    unreachable!()
-}
-
-fn come_to_write<W: Wait>(rt: &W, lock: &SeatedRwLock, pass: &mut RwPass)
-    requires own { IsPassOf lock.now pass.old }
-    requires free { holds pass.old.known ≡ None }
-    ensures own { IsPassOf lock.now pass.new }
-    ensures holds { holds pass.new.known ≡ Some hold.Write }
-    ensures goes_on { GoesOn pass.old.known pass.new.known [] [] }
-{
-    for _ in rt.forever() {
-        if lock.try_write(pass) {
+        let granted = match hold {
+            SeatedHold::Read => lock.try_read(rt, pass),
+            SeatedHold::Write => lock.try_write(pass),
+        };
+        if granted {
             return;
         }
         Yield::relax(rt);
@@ -76,7 +67,7 @@ fn publish<W: Wait>(rt: &W, lock: &SeatedRwLock, pass: &mut RwPass, value: u64)
     ensures free { holds pass.new.known ≡ None }
     ensures goes_on { GoesOn pass.old.known pass.new.known [] (value ∷ []) }
 {
-    come_to_write(rt, lock, pass);
+    come(rt, lock, pass, SeatedHold::Write);
     lock.write(pass, value);
     lock.unlock_write(pass);
 }
@@ -89,7 +80,7 @@ fn look<W: Wait>(rt: &W, lock: &SeatedRwLock, pass: &mut RwPass) -> u64
     ensures free { holds pass.new.known ≡ None }
     ensures goes_on { GoesOn pass.old.known pass.new.known (result ∷ []) [] }
 {
-    come_to_read(rt, lock, pass);
+    come(rt, lock, pass, SeatedHold::Read);
     let value = lock.read(pass);
     lock.unlock_read(pass);
     value
@@ -162,9 +153,9 @@ pub fn compare(lock: &SeatedRwLock, writer: &mut RwPass, first: &mut RwPass, sec
     requires first { IsPassOf lock.now first.old × (first.old.known.pass ≡ 1) }
     requires second { IsPassOf lock.now second.old × (second.old.known.pass ≡ 2) }
     requires three { (opening_of lock.now).passes ≡ 3 }
-    requires one_writes { (values_written (rw_calls first.old.known) ≡ []) × (values_written (rw_calls second.old.known) ≡ []) }
-    ensures first { InOrderOf ((opening_of lock.now).value ∷ values_written (rw_calls writer.old.known)) (values_read (rw_calls first.old.known)) }
-    ensures second { InOrderOf ((opening_of lock.now).value ∷ values_written (rw_calls writer.old.known)) (values_read (rw_calls second.old.known)) }
+    requires one_writes { (values_written (own_calls first.old.known) ≡ []) × (values_written (own_calls second.old.known) ≡ []) }
+    ensures first { InOrderOf ((opening_of lock.now).value ∷ values_written (own_calls writer.old.known)) (values_read (own_calls first.old.known)) }
+    ensures second { InOrderOf ((opening_of lock.now).value ∷ values_written (own_calls writer.old.known)) (values_read (own_calls second.old.known)) }
 {
     lock.meet(first, second);
     lock.meet(writer, first);

@@ -1,6 +1,6 @@
 //! What no contract says of the callers of the seated locks: that they are let in, that memory suffices, and that their threads end.
-use spin_uses::adding::add_in_two;
-use spin_uses::publishing::publish_to_two;
+use spin_seated_uses::adding::add_in_two;
+use spin_seated_uses::publishing::publish_to_two;
 use std::test::Fail;
 
 #[test]

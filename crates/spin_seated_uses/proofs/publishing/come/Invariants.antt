@@ -2,8 +2,8 @@
 use Rattle.std.proofs.Common.{◌≡◌, [], None}
 use Rattle.spin_seated.specs.Passes.{IsPassOf}
 use Rattle.spin_seated.specs.Rw.{holds}
-use Rattle.spin_uses.specs.Publishing.{GoesOn}
-use Rattle.spin_uses.proofs.publishing.come_to_read.Given as goal
+use Rattle.spin_seated_uses.specs.Publishing.{GoesOn}
+use Rattle.spin_seated_uses.proofs.publishing.come.Given as goal
 
 abbrev pub invariant-loop : goal.invariant-loop
 invariant-loop g l =

@@ -8,10 +8,10 @@ use Rattle.spin_seated.specs.declared.mutex.Call.{Call}
 use Rattle.spin_seated.specs.declared.mutex.Call.TheVariants.{TryLock, IsLocked, Read, Write, Unlock}
 use Rattle.spin_seated.specs.declared.lock.Answer.{Answer}
 use Rattle.spin_seated.specs.declared.lock.Answer.TheVariants.{Truth, Value, Done}
-use Rattle.spin_seated.specs.Histories.{BeginsWith, entry, calls_by, after, state, IsLegalFrom, IsLegal, Made, Met}
+use Rattle.spin_seated.specs.Histories.{BeginsWith, entry, calls_by, own_calls, after, state, IsLegalFrom, IsLegal, Made, Met}
 use Rattle.spin_seated.specs.Locked.{Locked}
 use Rattle.spin_seated.specs.Mutex.{may_call, plain_answer, after_call, mutex, Knows}
-use Rattle.spin_uses.specs.Turns.{Turn, away, entered, has_read, has_written, next_turn, turn_from, own_calls, turn_of, is_write, writes_in}
+use Rattle.spin_seated_uses.specs.Turns.{Turn, away, entered, has_read, has_written, next_turn, turn_from, turn_of, is_write, writes_in}
 use Rattle.spin_seated.proofs.Totals.{total-append}
 use Rattle.spin_seated.proofs.Holders.{Alone, alone_is, alone_after, alone_state, freed, tried, truth_is, is_held_by, steady, value_tried}
 use Rattle.spin_seated.proofs.Histories.{made_at, none_between}

@@ -1,6 +1,6 @@
 use Rattle.std.proofs.Common.{◌≡◌, ◌≤◌}
-use Rattle.spin_uses.specs.Turns.{HasAdded}
-use Rattle.spin_uses.proofs.adding.add_some.Given as goal
+use Rattle.spin_seated_uses.specs.Turns.{HasAdded}
+use Rattle.spin_seated_uses.proofs.adding.add_some.Given as goal
 
 abbrev pub invariant-loop : goal.invariant-loop
 invariant-loop l =

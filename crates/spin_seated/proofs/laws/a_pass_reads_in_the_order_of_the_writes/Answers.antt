@@ -1,0 +1,18 @@
+-- Of the read-write lock no call but `Read` reads, and it writes nothing.
+use Rattle.std.proofs.Common.{ℕ, refl}
+use Rattle.spin_seated.specs.Mutex.{mutex}
+use Rattle.spin_seated.specs.Lawful as lawful
+use Rattle.spin_seated.specs.Rw.{Locked, Call, Read, rw, written, plain_answer}
+use Rattle.spin_seated.specs.RwLawful.{read_by}
+use Rattle.spin_seated.proofs.Lawful.{Reads, reads_in_order, written_by, read_then}
+use Rattle.spin_seated.proofs.laws.a_pass_reads_in_the_order_of_the_writes.Goals as goal
+
+rw_reads : (p : ℕ) (c : Call) (s : Locked) → Reads (read_by c (plain_answer p c s)) (written c) s.value
+rw_reads p Read s = refl
+rw_reads p _ s = tt
+
+pub returns-clause-mutex : goal.returns-clause-mutex
+returns-clause-mutex c = λ k log p. reads_in_order mutex lawful.written written_by lawful.read_by read_then k.passes (mutex.start k) log p
+
+pub returns-clause-rwlock : goal.returns-clause-rwlock
+returns-clause-rwlock c = λ k log p. reads_in_order rw written (λ p c s. refl) read_by rw_reads k.passes (rw.start k) log p
