@@ -1,6 +1,6 @@
 //! The barrier, by its step functions.
 ghost use Rattle.std.specs.Prelude.{◌≡◌, true};
-ghost use Rattle.spin_world_core.specs.Acts.{stays, step_by, can_by};
+ghost use Rattle.spin_world_core.specs.Acts.{step_by, can_by};
 ghost use Rattle.spin_world_barrier.specs.Barrier.{barrier_memory, word_of, act_of, barrier_machine};
 
 use spin_step::barrier;
@@ -46,20 +46,6 @@ impl BarrierObject {
         ensures { result ≡ record { n = n } }
     {
         BarrierObject { n }
-    }
-}
-
-/// A step that leaves these words.
-fn stay(
-    words: BarrierWords,
-    next: Next<BarrierPoint, Answer<u64>>,
-) -> Stepped<BarrierWords, u64, BarrierPoint, Answer<u64>>
-    ensures { result ≡ stays words next }
-{
-    Stepped {
-        words,
-        placed: None,
-        next,
     }
 }
 
@@ -139,7 +125,7 @@ impl Object for BarrierObject {
                 } else {
                     Next::GoesOn(BarrierPoint::Leave(generation))
                 };
-                stay(words, next)
+                Stepped::stay(words, next)
             }
             BarrierPoint::Leave(found) => {
                 let next = if generation != found {
@@ -147,7 +133,7 @@ impl Object for BarrierObject {
                 } else {
                     Next::GoesOn(BarrierPoint::Leave(found))
                 };
-                stay(words, next)
+                Stepped::stay(words, next)
             }
         }
     }

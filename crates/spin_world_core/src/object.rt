@@ -1,5 +1,6 @@
 //! What a lock has to show to be played in a world.
 ghost use Rattle.std.specs.Prelude.{◌≡◌, true};
+ghost use Rattle.spin_world_core.specs.Acts.{stays};
 ghost use Rattle.spin_world_core.specs.Machines.{Machine};
 ghost use Rattle.spin_world_core.specs.Lawful.{Lawful};
 
@@ -21,6 +22,19 @@ pub struct Stepped<W, V, L, A> {
     /// The value that the step puts in its place, if it does.
     pub placed: Option<V>,
     pub next: Next<L, A>,
+}
+
+impl<W, V, L, A> Stepped<W, V, L, A> {
+    /// A step that leaves these words, and the value as it is.
+    pub fn stay(words: W, next: Next<L, A>) -> Self
+        ensures { result ≡ stays words next }
+    {
+        Stepped {
+            words,
+            placed: None,
+            next,
+        }
+    }
 }
 
 /// A lock, seen as its words and the steps of its calls.

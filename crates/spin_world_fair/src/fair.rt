@@ -3,7 +3,7 @@ ghost use Rattle.std.specs.Prelude.{◌≡◌, ◌≢◌, ◌<◌, ◌+◌, ◌-
 ghost use Rattle.spin_world_core.specs.declared.object.Next.TheVariants.{GoesOn, Answers};
 ghost use Rattle.spin_world_core.specs.declared.answer.Answer.TheVariants.{Done};
 ghost use Rattle.spin_world_fair.specs.declared.fair.FairPoint.TheVariants.{Attempt, Register, SetFlag, Await};
-ghost use Rattle.spin_world_core.specs.Acts.{one_number, either, stays, becomes, retried, step_by, can_by};
+ghost use Rattle.spin_world_core.specs.Acts.{one_number, either, becomes, retried, step_by, can_by};
 ghost use Rattle.spin_step.specs.Starvers.{starve, is_set};
 ghost use Rattle.spin_world_fair.specs.Fair.{granted, rejects, looks_on, finds_no_room, registered, finds_flag_set, act_of_first, act_of, fair_machine};
 
@@ -81,20 +81,6 @@ impl<V> Fair<V> {
     }
 }
 
-/// A step that leaves the word as it is, or puts this one in its place.
-fn stay<V: Copy>(
-    word: usize,
-    next: Next<FairPoint, Answer<V>>,
-) -> Stepped<usize, V, FairPoint, Answer<V>>
-    ensures { result ≡ stays word next }
-{
-    Stepped {
-        words: word,
-        placed: None,
-        next,
-    }
-}
-
 /// A step that puts the new word in place of this one where a step function gives one, and goes on by whether it does.
 fn exchange<V: Copy>(
     word: usize,
@@ -105,8 +91,8 @@ fn exchange<V: Copy>(
     ensures { result ≡ becomes (λ w. w) word new won lost }
 {
     match new {
-        Some(new) => stay(new, won),
-        None => stay(word, lost),
+        Some(new) => Stepped::stay(new, won),
+        None => Stepped::stay(word, lost),
     }
 }
 
@@ -174,7 +160,7 @@ impl<V: Copy> Fair<V> {
         ensures { result ≡ retried (λ w. w) (word == found) word (starve self.now.cap word) (registered call) (GoesOn (Register word)) (finds_no_room self.now.patience call holds) }
     {
         if word != found {
-            return stay(word, self.go_to_register(call, word, holds));
+            return Stepped::stay(word, self.go_to_register(call, word, holds));
         }
         let won = match call {
             FairCall::Lock => Next::GoesOn(FairPoint::SetFlag),
@@ -231,16 +217,16 @@ fn step_first<V: Copy>(
     match call {
         FairCall::TryLock => exchange(word, fair::lock(word), grant(), refused),
         FairCall::TryLockStarver => match fair::lock(word) {
-            Some(taken) => stay(taken, grant()),
-            None => stay(word, reject(word, holds)),
+            Some(taken) => Stepped::stay(taken, grant()),
+            None => Stepped::stay(word, reject(word, holds)),
         },
         FairCall::StarverTryLockFair => {
             let won = Next::GoesOn(FairPoint::Unregister);
             exchange(word, fair::lock_fair(word), won, refused)
         }
-        FairCall::StarverDrop => stay(fair::unstarve(word), done),
-        FairCall::Release => stay(fair::unlock(word), done),
-        _ => stay(
+        FairCall::StarverDrop => Stepped::stay(fair::unstarve(word), done),
+        FairCall::Release => Stepped::stay(fair::unlock(word), done),
+        _ => Stepped::stay(
             word,
             Next::Answers(Answer::Is(fair::is_locked(word)), holds),
         ),
@@ -323,8 +309,8 @@ impl<V: Copy> Object for Fair<V> {
                 grant(),
                 Next::GoesOn(FairPoint::Look(looks)),
             ),
-            FairPoint::Look(looks) => stay(words, self.look(words, looks)),
-            FairPoint::Load => stay(words, self.go_to_register(call, words, holds)),
+            FairPoint::Look(looks) => Stepped::stay(words, self.look(words, looks)),
+            FairPoint::Load => Stepped::stay(words, self.go_to_register(call, words, holds)),
             FairPoint::Register(found) => self.register(call, words, found, holds),
             FairPoint::SetFlag => exchange(
                 words,
@@ -332,8 +318,8 @@ impl<V: Copy> Object for Fair<V> {
                 Next::GoesOn(FairPoint::Unregister),
                 find_flag_set(call, holds),
             ),
-            FairPoint::Await => stay(words, await_clear(words)),
-            FairPoint::Unregister => stay(fair::unstarve(words), grant()),
+            FairPoint::Await => Stepped::stay(words, await_clear(words)),
+            FairPoint::Unregister => Stepped::stay(fair::unstarve(words), grant()),
         }
     }
 

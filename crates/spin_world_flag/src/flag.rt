@@ -1,7 +1,7 @@
 //! The flag, by its step functions.
 ghost use Rattle.std.specs.Prelude.{◌≡◌, true};
 ghost use Rattle.spin_step.specs.Steps.{bit};
-ghost use Rattle.spin_world_core.specs.Acts.{becomes, stays, step_by, can_by};
+ghost use Rattle.spin_world_core.specs.Acts.{becomes, step_by, can_by};
 ghost use Rattle.std.specs.Option.{option_map};
 ghost use Rattle.spin_step.specs.Flags.{lock};
 ghost use Rattle.spin_world_flag.specs.Flag.{is_set, flag_memory, granted, act_of, flag_machine};
@@ -53,30 +53,8 @@ fn exchange<V: Copy>(
     ensures { result ≡ becomes is_set words (option_map bit (lock words)) granted refusal }
 {
     match flag::lock(words) {
-        Some(taken) => Stepped {
-            words: taken,
-            placed: None,
-            next: Next::Answers(Answer::Granted, Some(Hold::Write)),
-        },
-        None => Stepped {
-            words,
-            placed: None,
-            next: refusal,
-        },
-    }
-}
-
-/// A step that leaves the word as it is.
-fn stay<V: Copy>(
-    words: bool,
-    next: Next<FlagPoint, Answer<V>>,
-) -> Stepped<bool, V, FlagPoint, Answer<V>>
-    ensures { result ≡ stays words next }
-{
-    Stepped {
-        words,
-        placed: None,
-        next,
+        Some(taken) => Stepped::stay(taken, Next::Answers(Answer::Granted, Some(Hold::Write))),
+        None => Stepped::stay(words, refusal),
     }
 }
 
@@ -141,7 +119,7 @@ impl<V: Copy> Object for Flag<V> {
         let _ = value;
         match (call, local) {
             (FlagCall::Lock, FlagPoint::First) => exchange(words, Next::GoesOn(FlagPoint::Second)),
-            (FlagCall::Lock, FlagPoint::Second) => stay(
+            (FlagCall::Lock, FlagPoint::Second) => Stepped::stay(
                 words,
                 Next::GoesOn(if words {
                     FlagPoint::Second
@@ -152,9 +130,12 @@ impl<V: Copy> Object for Flag<V> {
             (FlagCall::TryLock | FlagCall::TryLockWeak, _) => {
                 exchange(words, Next::Answers(Answer::Refused, holds))
             }
-            (FlagCall::IsLocked, _) => stay(words, Next::Answers(Answer::Is(words), holds)),
+            (FlagCall::IsLocked, _) => Stepped::stay(
+                words,
+                Next::Answers(Answer::Is(words), holds),
+            ),
             (FlagCall::Release, _) => {
-                stay(flag::unlock(words), Next::Answers(Answer::Done, None))
+                Stepped::stay(flag::unlock(words), Next::Answers(Answer::Done, None))
             }
         }
     }

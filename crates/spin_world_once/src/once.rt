@@ -1,6 +1,6 @@
 //! The once-only cell, by its step functions.
 ghost use Rattle.std.specs.Prelude.{◌≡◌, Some, None, true};
-ghost use Rattle.spin_world_core.specs.Acts.{one_number, stays, either, step_by, can_by, completes_by, filled, step_with};
+ghost use Rattle.spin_world_core.specs.Acts.{one_number, either, step_by, can_by, completes_by, filled, step_with};
 ghost use Rattle.spin_world_once.specs.Once.{is_there, tells, runs, ends, brings_of, act_of, once_machine};
 
 use spin_step::once;
@@ -66,20 +66,6 @@ impl<V> OnceObject<V> {
     }
 }
 
-/// A step that leaves the word as it is.
-fn stay<V: Copy>(
-    words: u8,
-    next: Next<OncePoint, Answer<V>>,
-) -> Stepped<u8, V, OncePoint, Answer<V>>
-    ensures { result ≡ stays words next }
-{
-    Stepped {
-        words,
-        placed: None,
-        next,
-    }
-}
-
 /// The answer that is the value.
 fn tell<V: Copy>(value: Option<V>, holds: Option<Hold>) -> Next<OncePoint, Answer<V>>
     ensures { result ≡ filled value (tells holds) }
@@ -120,13 +106,13 @@ fn run<V: Copy>(
     match local {
         OncePoint::Look => {
             let other = Next::GoesOn(OncePoint::TryBegin);
-            stay(words, look(words, value, holds, other))
+            Stepped::stay(words, look(words, value, holds, other))
         }
         OncePoint::TryBegin => match once::begin(words) {
-            Some(running) => stay(running, Next::GoesOn(OncePoint::Run)),
+            Some(running) => Stepped::stay(running, Next::GoesOn(OncePoint::Run)),
             None => {
                 let other = Next::GoesOn(OncePoint::Await);
-                stay(words, look(words, value, holds, other))
+                Stepped::stay(words, look(words, value, holds, other))
             }
         },
         OncePoint::Await => {
@@ -135,7 +121,7 @@ fn run<V: Copy>(
             } else {
                 OncePoint::Await
             });
-            stay(words, look(words, value, holds, other))
+            Stepped::stay(words, look(words, value, holds, other))
         }
         OncePoint::Run => match made {
             Some(made) => Stepped {
@@ -143,7 +129,7 @@ fn run<V: Copy>(
                 placed: Some(made),
                 next: Next::Answers(Answer::Value(made), holds),
             },
-            None => stay(once::fail(words), Next::Answers(Answer::Failed, holds)),
+            None => Stepped::stay(once::fail(words), Next::Answers(Answer::Failed, holds)),
         },
     }
 }
@@ -210,7 +196,7 @@ impl<V: Copy> Object for OnceObject<V> {
             | OnceCall::TryCallOnceOk(made)
             | OnceCall::InitFromRef(made) => { run(words, value, Some(made), local, holds) }
             OnceCall::TryCallOnceErr => run(words, value, None, local, holds),
-            OnceCall::Wait => stay(
+            OnceCall::Wait => Stepped::stay(
                 words,
                 look(words, value, holds, Next::GoesOn(OncePoint::Look)),
             ),
@@ -220,13 +206,16 @@ impl<V: Copy> Object for OnceObject<V> {
                 } else {
                     Next::GoesOn(OncePoint::Look)
                 };
-                stay(words, look(words, value, holds, other))
+                Stepped::stay(words, look(words, value, holds, other))
             }
             OnceCall::Get => {
                 let other = Next::Answers(Answer::NoValue, holds);
-                stay(words, look(words, value, holds, other))
+                Stepped::stay(words, look(words, value, holds, other))
             }
-            OnceCall::IsCompleted => stay(words, Next::Answers(Answer::Is(words == 2), holds)),
+            OnceCall::IsCompleted => Stepped::stay(
+                words,
+                Next::Answers(Answer::Is(words == 2), holds),
+            ),
         }
     }
 

@@ -71,20 +71,6 @@ impl<V> Rw<V> {
     }
 }
 
-/// A step that leaves the word at this.
-fn stay<V: Copy>(
-    words: usize,
-    next: Next<RwPoint, Answer<V>>,
-) -> Stepped<usize, V, RwPoint, Answer<V>>
-    ensures { result ≡ stays words next }
-{
-    Stepped {
-        words,
-        placed: None,
-        next,
-    }
-}
-
 /// A step that puts the new word in its place where there is one: the party then holds the lock so.
 fn exchange<V: Copy>(
     words: usize,
@@ -95,8 +81,8 @@ fn exchange<V: Copy>(
     ensures { result ≡ becomes (λ w. w) words to (granted hold) lost }
 {
     match to {
-        Some(words) => stay(words, Next::Answers(Answer::Granted, Some(hold))),
-        None => stay(words, lost),
+        Some(words) => Stepped::stay(words, Next::Answers(Answer::Granted, Some(hold))),
+        None => Stepped::stay(words, lost),
     }
 }
 
@@ -112,8 +98,8 @@ fn come<V: Copy>(
 {
     match point {
         RwPoint::Exchange(found) if found == words => exchange(words, to, hold, missed),
-        _ if to.is_some() => stay(words, Next::GoesOn(RwPoint::Exchange(words))),
-        _ => stay(words, missed),
+        _ if to.is_some() => Stepped::stay(words, Next::GoesOn(RwPoint::Exchange(words))),
+        _ => Stepped::stay(words, missed),
     }
 }
 
@@ -121,7 +107,7 @@ fn come<V: Copy>(
 fn done<V: Copy>(words: usize, holds: Option<Hold>) -> Stepped<usize, V, RwPoint, Answer<V>>
     ensures { result ≡ stays words (Answers Done holds) }
 {
-    stay(words, Next::Answers(Answer::Done, holds))
+    Stepped::stay(words, Next::Answers(Answer::Done, holds))
 }
 
 impl<V: Copy> Object for Rw<V> {
@@ -223,13 +209,13 @@ impl<V: Copy> Object for Rw<V> {
             }
             RwCall::Write => exchange(words, rw::write(words), Hold::Write, again),
             RwCall::ReaderCount => {
-                stay(
+                Stepped::stay(
                     words,
                     Next::Answers(Answer::Count(rw::readers(words)), holds),
                 )
             }
             RwCall::WriterCount => {
-                stay(
+                Stepped::stay(
                     words,
                     Next::Answers(Answer::Count(rw::writers(words)), holds),
                 )
@@ -246,7 +232,7 @@ impl<V: Copy> Object for Rw<V> {
                         Hold::Write,
                         asked,
                     ),
-                    _ => stay(rw::ask(words), asked),
+                    _ => Stepped::stay(rw::ask(words), asked),
                 }
             }
             RwCall::Downgrade => done(

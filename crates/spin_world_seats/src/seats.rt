@@ -1,6 +1,6 @@
 //! The lock of seats, by its step functions.
 ghost use Rattle.std.specs.Prelude.{◌≡◌, true};
-ghost use Rattle.spin_world_core.specs.Acts.{one_number, becomes, stays, step_by, can_by};
+ghost use Rattle.spin_world_core.specs.Acts.{one_number, becomes, step_by, can_by};
 ghost use Rattle.spin_world_seats.specs.Seats.{granted, comes_at, act_of, seats_machine};
 
 use spin_seats::steps;
@@ -42,20 +42,6 @@ impl Seats {
     }
 }
 
-/// A step that leaves the word at this.
-fn stay(
-    words: usize,
-    next: Next<SeatsPoint, Answer<()>>,
-) -> Stepped<usize, (), SeatsPoint, Answer<()>>
-    ensures { result ≡ stays words next }
-{
-    Stepped {
-        words,
-        placed: None,
-        next,
-    }
-}
-
 /// A step of a call that takes a seat. `to`: the word with the seat taken, where one is free.
 fn come(
     point: SeatsPoint,
@@ -67,10 +53,10 @@ fn come(
 {
     match (point, to) {
         (SeatsPoint::Exchange(found), Some(taken)) if found == words => {
-            stay(taken, Next::Answers(Answer::Granted, Some(Hold::Read)))
+            Stepped::stay(taken, Next::Answers(Answer::Granted, Some(Hold::Read)))
         }
-        (_, Some(_)) => stay(words, Next::GoesOn(SeatsPoint::Exchange(words))),
-        (_, None) => stay(words, missed),
+        (_, Some(_)) => Stepped::stay(words, Next::GoesOn(SeatsPoint::Exchange(words))),
+        (_, None) => Stepped::stay(words, missed),
     }
 }
 
@@ -133,8 +119,11 @@ impl Object for Seats {
         match call {
             SeatsCall::TryEnter => come(local, words, to, Next::Answers(Answer::Refused, holds)),
             SeatsCall::Enter => come(local, words, to, Next::GoesOn(SeatsPoint::First)),
-            SeatsCall::Count => stay(words, Next::Answers(Answer::Count(words), holds)),
-            SeatsCall::Leave => stay(steps::leave(words), Next::Answers(Answer::Done, None)),
+            SeatsCall::Count => Stepped::stay(words, Next::Answers(Answer::Count(words), holds)),
+            SeatsCall::Leave => Stepped::stay(
+                steps::leave(words),
+                Next::Answers(Answer::Done, None),
+            ),
         }
     }
 

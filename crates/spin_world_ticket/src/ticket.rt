@@ -3,7 +3,7 @@ ghost use Rattle.std.specs.Prelude.{◌≡◌, ◌==◌, ◌&&◌, true};
 ghost use Rattle.spin_world_core.specs.declared.object.Next.TheVariants.{GoesOn, Answers};
 ghost use Rattle.spin_world_core.specs.declared.answer.Answer.TheVariants.{Refused};
 ghost use Rattle.spin_world_ticket.specs.declared.ticket.TicketPoint.TheVariants.{LoadNext, Take, Await, TryTake};
-ghost use Rattle.spin_world_core.specs.Acts.{guessed, either, stays, becomes, step_by, can_by};
+ghost use Rattle.spin_world_core.specs.Acts.{guessed, either, becomes, step_by, can_by};
 ghost use Rattle.spin_step.specs.Tickets.{take};
 ghost use Rattle.spin_world_ticket.specs.Ticket.{is_left, ticket_memory, word_of, granted, act_of, ticket_machine};
 
@@ -71,20 +71,6 @@ impl<V> Ticket<V> {
     }
 }
 
-/// A step that leaves the words as they are.
-fn stay<V: Copy>(
-    words: TicketWords,
-    next: Next<TicketPoint, Answer<V>>,
-) -> Stepped<TicketWords, V, TicketPoint, Answer<V>>
-    ensures { result ≡ stays words next }
-{
-    Stepped {
-        words,
-        placed: None,
-        next,
-    }
-}
-
 /// A step that takes the ticket of the expected number, and goes on by whether it did.
 fn exchange<V: Copy>(
     words: TicketWords,
@@ -95,11 +81,11 @@ fn exchange<V: Copy>(
     ensures { result ≡ becomes (λ next. record words { next = next }) words (guessed expected take words.next) won lost }
 {
     if words.next != expected {
-        return stay(words, lost);
+        return Stepped::stay(words, lost);
     }
     match ticket::take(expected) {
-        Some(next) => stay(TicketWords { next, ..words }, won),
-        None => stay(words, lost),
+        Some(next) => Stepped::stay(TicketWords { next, ..words }, won),
+        None => Stepped::stay(words, lost),
     }
 }
 
@@ -201,19 +187,22 @@ impl<V: Copy> Object for Ticket<V> {
     {
         let _ = (value, call);
         match local {
-            TicketPoint::LoadNext => stay(words, go_for(words.next)),
+            TicketPoint::LoadNext => Stepped::stay(words, go_for(words.next)),
             TicketPoint::Take(next) => exchange(
                 words,
                 next,
                 Next::GoesOn(TicketPoint::Await(next)),
                 go_for(words.next),
             ),
-            TicketPoint::Await(ticket) => stay(words, look_for_turn(words.serving, ticket)),
+            TicketPoint::Await(ticket) => Stepped::stay(
+                words,
+                look_for_turn(words.serving, ticket),
+            ),
             TicketPoint::TryLoadNext => {
-                stay(words, Next::GoesOn(TicketPoint::TryLoadServing(words.next)))
+                Stepped::stay(words, Next::GoesOn(TicketPoint::TryLoadServing(words.next)))
             }
             TicketPoint::TryLoadServing(next) => {
-                stay(words, look_for_free(words.serving, next, holds))
+                Stepped::stay(words, look_for_free(words.serving, next, holds))
             }
             TicketPoint::TryTake(next) => exchange(
                 words,
@@ -222,10 +211,10 @@ impl<V: Copy> Object for Ticket<V> {
                 Next::Answers(Answer::Refused, holds),
             ),
             TicketPoint::LookServing => {
-                stay(words, Next::GoesOn(TicketPoint::LookNext(words.serving)))
+                Stepped::stay(words, Next::GoesOn(TicketPoint::LookNext(words.serving)))
             }
             TicketPoint::LookNext(serving) => {
-                stay(
+                Stepped::stay(
                     words,
                     Next::Answers(Answer::Is(words.next != serving), holds),
                 )
