@@ -1,6 +1,6 @@
 -- The plain lock of a cell's parties: what each of them is to it, as its view says.
-use Rattle.std.specs.Prelude.{◌≡◌, ℕ, zero, suc, ◌≤◌, Bool, true, List, [], ◌∷◌, length, if◌then◌else◌}
-use Rattle.spin_step.specs.Plain.{Plain, Kind, writing, is_reader, holder, ticket, ticket_limit, serving_word}
+use Rattle.std.specs.Prelude.{◌≡◌, ℕ, zero, suc, ◌≤◌, Bool, true, List, [], ◌∷◌, if◌then◌else◌}
+use Rattle.spin_step.specs.Plain.{Plain, Kind, writing, is_reader, holder, ticket, serving_word}
 use Rattle.spin_step.specs.Parties.{Entries, entries, no_entries}
 use Rattle.spin_step.specs.Orders.{IsInOrder}
 use Rattle.spin_core.specs.Cell.{Use, off, reads, writes}

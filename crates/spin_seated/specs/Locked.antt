@@ -1,5 +1,5 @@
 -- A lock of one number: the lock of named holders, with a value.
-use Rattle.std.specs.Prelude.{◌≡◌, ℕ, List, [], ◌∷◌, Option, Some, None}
+use Rattle.std.specs.Prelude.{◌≡◌, ℕ, List, [], ◌∷◌, Option}
 use Rattle.std.specs.List.{flat_map}
 use Rattle.std.specs.Option.{unwrap_or, option_to_list}
 use Rattle.spin_step.specs.Plain.{Plain}

@@ -9,7 +9,7 @@ use Rattle.spin_world_core.specs.declared.answer.Answer.{Answer}
 use Rattle.spin_world_core.specs.declared.answer.Answer.TheVariants.{Leader, Follower}
 use Rattle.spin_world_core.specs.declared.place.Hold.{Hold}
 use Rattle.spin_world_core.specs.declared.place.Seat.{Seat}
-use Rattle.spin_world_core.specs.declared.place.Seat.TheVariants.{Idle, Calling, Holding, Leaked, Gone}
+use Rattle.spin_world_core.specs.declared.place.Seat.TheVariants.{Calling}
 use Rattle.spin_world_core.specs.declared.object.Next.TheVariants.{GoesOn, Answers}
 use Rattle.spin_world_core.specs.declared.schedule.Move.TheVariants.{Step}
 use Rattle.spin_world_core.specs.declared.schedule.Outcome.TheVariants.{Answered}

@@ -1,6 +1,6 @@
 -- What the flag's table owes.
 use Rattle.std.proofs.Common.{◌≡◌, ℕ, Bool, true, false, not, ◌&&◌, Option, Some, None, List, [], ◌∷◌, refl, ap, sym, ◌∙◌, arith, inl}
-use Rattle.std.proofs.lemmas.Bool.{true≢false, false≢true}
+use Rattle.std.proofs.lemmas.Bool.{true≢false}
 use Rattle.spin_step.specs.Plain.{Plain, Ticket as Queued, writing, to_write, gets, releases, is_empty, flag_word}
 use Rattle.spin_step.specs.Parties.{Entries, entries, is_held}
 use Rattle.std.specs.Option.{option_map}

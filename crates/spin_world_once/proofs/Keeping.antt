@@ -1,7 +1,7 @@
 -- What users of a `Once` rely on: one closure at a time, and one value.
 use Rattle.std.proofs.Common.{◌≡◌, ℕ, ◌==◌, true, false, is_some, Option, Some, None, List, [], ◌∷◌, ◌++◌, slice_get, refl, ap, sym, ◌∙◌, subst}
 use Rattle.std.proofs.lemmas.Bool.{and_parts, false≢true}
-use Rattle.spin_step.specs.Plain.{Plain, Phase, nothing, running, complete, to_begin, Change, gets, completes, is_running, is_complete, once_word}
+use Rattle.spin_step.specs.Plain.{Plain, Phase, running, complete, to_begin, Change, gets, completes, is_running, is_complete, once_word}
 use Rattle.spin_step.specs.Parties.{IsOpenStep}
 use Rattle.spin_step.proofs.Onces.{phase_word}
 use Rattle.spin_world_core.specs.declared.answer.Answer.{Answer}
@@ -11,7 +11,7 @@ use Rattle.spin_world_core.specs.declared.place.Seat.TheVariants.{Calling}
 use Rattle.spin_world_core.specs.declared.object.Next.TheVariants.{Answers}
 use Rattle.spin_world_core.specs.declared.object.Stepped.{Stepped}
 use Rattle.spin_world_core.specs.declared.schedule.Move.{Move}
-use Rattle.spin_world_core.specs.declared.schedule.Move.TheVariants.{Begin, Step, Weak, Read, Write, Leak, OwnerGet, OwnerSet}
+use Rattle.spin_world_core.specs.declared.schedule.Move.TheVariants.{Step, Write, OwnerSet}
 use Rattle.spin_world_core.specs.declared.schedule.Outcome.{Outcome}
 use Rattle.spin_world_core.specs.declared.schedule.Outcome.TheVariants as outcome
 use Rattle.spin_world_core.specs.Acts.{one_number, step_by, completes_by, step_with}
@@ -23,7 +23,7 @@ use Rattle.spin_world_core.specs.Calls.{Mark, polls}
 use Rattle.spin_world_once.specs.declared.once.OnceCall.{OnceCall}
 use Rattle.spin_world_once.specs.declared.once.OnceCall.TheVariants.{CallOnce, TryCallOnceOk, TryCallOnceErr, InitFromRef, Wait, Poll, Get, IsCompleted}
 use Rattle.spin_world_once.specs.declared.once.OncePoint.{OncePoint}
-use Rattle.spin_world_once.specs.declared.once.OncePoint.TheVariants.{Look, TryBegin, Await, Run}
+use Rattle.spin_world_once.specs.declared.once.OncePoint.TheVariants.{Look, Run}
 use Rattle.spin_world_once.specs.Once.{runs, ends, OnceAct, asks_of, brings_of, OnceMachine, once_machine}
 use Rattle.spin_world_once.specs.Keeping.{Entries, once_after, seen_at, keeps_value, is_shared, ValueStays, RunsClosure, answer_of, OneRuns, wants_value, has_closure, AnswersAtOnce, GetAgrees}
 use Rattle.spin_world_core.proofs.Schedules.{after-append}

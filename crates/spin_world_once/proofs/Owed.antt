@@ -24,8 +24,8 @@ use Rattle.spin_world_once.specs.Once.{opening_word, is_there, tells, runs, ends
 use Rattle.spin_world_once.specs.Keeping.{has_just_looked}
 use Rattle.spin_world_core.proofs.Facts.{LocalInvariant, Facts}
 use Rattle.spin_world_core.proofs.Stands.{absent}
-use Rattle.spin_world_core.proofs.Rows.{Turn, goes, misses, Row, Point, nowhere, looked, onward, SoundAt}
-use Rattle.spin_world_core.proofs.Shapes.{Notes, Means, Follows, OwesAt, answers_by, OwesSoon, BeginsAt, CallOf, AtPoint}
+use Rattle.spin_world_core.proofs.Rows.{goes, misses, Row, Point, nowhere, looked, onward, SoundAt}
+use Rattle.spin_world_core.proofs.Shapes.{Notes, Means, OwesAt, answers_by, OwesSoon, BeginsAt, CallOf, AtPoint}
 use Rattle.spin_world_core.proofs.Usual.{no_holders, means_word, branches}
 use Rattle.spin_world_core.proofs.Operating.{fits_act, fits_strong, one_place, operates_by}
 use Rattle.spin_world_core.proofs.Filled.{CompletesRight, TellsOf, TellsBy, PaysWith, keeping_with, facts_with}

@@ -1,5 +1,5 @@
 -- What users of a read-write lock rely on.
-use Rattle.std.proofs.Common.{◌≡◌, ℕ, ◌+◌, ◌*◌, ◌==◌, ◌↔◌, Bool, true, false, ◌&&◌, ◌||◌, if◌then◌else◌, Option, Some, None, List, [], ◌∷◌, ◌++◌, slice_get, slice_set, refl, ap, sym, ◌∙◌, subst, arith}
+use Rattle.std.proofs.Common.{◌≡◌, ℕ, ◌+◌, ◌==◌, ◌↔◌, Bool, true, false, ◌&&◌, ◌||◌, if◌then◌else◌, Option, Some, None, List, [], ◌∷◌, ◌++◌, slice_get, slice_set, refl, ap, sym, ◌∙◌, subst, arith}
 use Rattle.std.proofs.lemmas.Bool.{eqb-true, ne_eqb, true≢false, false≢true}
 use Rattle.spin_step.specs.Plain.{Plain, Kind, reading, upgradable, asking, writing, Holder, Change, is_empty, is_holder, is_only, same_kind, count_kind, rw_word, weight}
 use Rattle.spin_step.specs.Parties.{apply_some, IsOpenStep, Entries, entries, IsExclusive}
@@ -22,7 +22,7 @@ use Rattle.spin_world_core.specs.declared.schedule.Outcome.TheVariants.{Answered
 use Rattle.spin_world_rw.specs.declared.rw.RwCall.{RwCall}
 use Rattle.spin_world_rw.specs.declared.rw.RwCall.TheVariants.{TryRead, Read, TryUpgradeableRead, UpgradeableRead, TryUpgrade, TryUpgradeWeak, Upgrade, Downgrade, DowngradeToUpgradeable}
 use Rattle.spin_world_rw.specs.declared.rw.RwPoint.{RwPoint}
-use Rattle.spin_world_rw.specs.declared.rw.RwPoint.TheVariants.{First, Exchange, Asking}
+use Rattle.spin_world_rw.specs.declared.rw.RwPoint.TheVariants.{Exchange, Asking}
 use Rattle.spin_world_core.specs.Calls.{Asked, Mark, turns_to, gives_back}
 use Rattle.spin_world_core.specs.Schedules.{State, moves_at, stepped, after, at_first, may_read}
 use Rattle.spin_world_core.specs.Runs.{Seen, scene, opening, entries_of, is_reader}

@@ -1,5 +1,5 @@
 -- Read-write locks that are wrong, each in one part of its table, and schedules on which the laws refuse them. Where its steps are wrong, so are the plain steps that they read as.
-use Rattle.std.specs.Prelude.{ℕ, zero, suc, ◌+◌, ◌-◌, ◌/◌, ◌%◌, ◌==◌, true, false, Option, Some, None, List, [], ◌∷◌, ◌++◌, if◌then◌else◌}
+use Rattle.std.specs.Prelude.{ℕ, zero, suc, ◌+◌, ◌-◌, ◌/◌, true, false, Option, Some, None, List, [], ◌∷◌, ◌++◌, if◌then◌else◌}
 use Rattle.spin_step.specs.Plain.{reading, upgradable, asking, writing, weight, to_read, to_write, to_upgrade, to_upgrade_asked, to_lock_starving, Change, gets, releases, turns}
 use Rattle.spin_world_core.specs.declared.place.Hold.{Hold}
 use Rattle.spin_world_core.specs.declared.place.Hold.TheVariants as hold

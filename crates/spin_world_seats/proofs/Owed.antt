@@ -1,5 +1,5 @@
 -- What the table of the seats owes.
-use Rattle.std.proofs.Common.{◌≡◌, ℕ, ◌+◌, ◌-◌, ◌≤◌, true, Option, Some, None, List, [], ◌∷◌, length, nat_lt, unwrap_or, refl, ap, sym, ◌∙◌, arith, inl, length-append}
+use Rattle.std.proofs.Common.{◌≡◌, ℕ, ◌+◌, ◌-◌, ◌≤◌, true, Option, Some, None, List, [], ◌∷◌, length, nat_lt, refl, ap, sym, ◌∙◌, arith, inl, length-append}
 use Rattle.std.proofs.lemmas.Bool.{lt-ltb, ltb-true}
 use Rattle.spin_step.specs.Plain.{Plain, reading, holder, to_read, gets, releases, apply, may_come, is_holder}
 use Rattle.spin_step.specs.Parties.{Entries, entries}
@@ -11,8 +11,7 @@ use Rattle.spin_seats.proofs.Taken.{open_is, enter-grants, leave-gives}
 use Rattle.spin_world_core.specs.declared.answer.Answer.{Answer}
 use Rattle.spin_world_core.specs.declared.place.Hold.{Hold}
 use Rattle.spin_world_core.specs.declared.place.Hold.TheVariants.{Read}
-use Rattle.spin_world_core.specs.declared.answer.Answer.TheVariants.{Refused}
-use Rattle.spin_world_core.specs.declared.object.Next.TheVariants.{GoesOn, Answers}
+use Rattle.spin_world_core.specs.declared.object.Next.TheVariants.{GoesOn}
 use Rattle.spin_world_seats.specs.declared.seats.SeatsCall.{SeatsCall}
 use Rattle.spin_world_seats.specs.declared.seats.SeatsCall.TheVariants.{TryEnter, Enter, Count, Leave}
 use Rattle.spin_world_seats.specs.declared.seats.SeatsPoint.{SeatsPoint}

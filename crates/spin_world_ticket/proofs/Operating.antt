@@ -1,5 +1,5 @@
 -- What no one operation can be.
-use Rattle.std.proofs.Common.{◌≡◌, ℕ, zero, suc, get_or, [], ◌∷◌, refl}
+use Rattle.std.proofs.Common.{◌≡◌, ℕ, zero, get_or, [], ◌∷◌, refl}
 use Rattle.spin_world_ticket.specs.declared.ticket.TicketWords.{TicketWords}
 
 -- what depends on both numbers depends on no single one

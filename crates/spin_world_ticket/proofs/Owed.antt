@@ -1,5 +1,5 @@
 -- What the ticket lock's table owes.
-use Rattle.std.proofs.Common.{◌≡◌, ℕ, zero, suc, ◌+◌, ◌-◌, ◌≤◌, ◌==◌, Bool, true, false, not, ◌&&◌, ◌||◌, cond, filter, if◌then◌else◌, is_some, Option, Some, None, List, [], ◌∷◌, refl, ap, sym, ◌∙◌, subst, arith, inl, inr, eq-eqb}
+use Rattle.std.proofs.Common.{◌≡◌, ℕ, zero, suc, ◌+◌, ◌-◌, ◌≤◌, ◌==◌, Bool, true, false, not, ◌&&◌, ◌||◌, cond, filter, if◌then◌else◌, Option, Some, None, List, [], ◌∷◌, refl, ap, sym, ◌∙◌, subst, arith, inl, inr, eq-eqb}
 use Rattle.std.proofs.lemmas.Bool.{and_parts, eqb-true, true≢false}
 use Rattle.spin_step.specs.Plain.{Plain, Ticket as Queued, ticket as queued, is_first, Ask, effect, to_take_ticket, to_enter, to_take_and_enter, Change, gets, serves, apply, is_open, is_empty, next_word, serving_word}
 use Rattle.spin_step.specs.Parties.{apply_some, IsOpenStep, Entries, entries, is_held}

@@ -1,7 +1,7 @@
 -- What users of a ticket lock rely on.
 use Rattle.std.proofs.Common.{◌≡◌, ℕ, ◌+◌, ◌==◌, ◌↔◌, Bool, true, false, Option, Some, None, List, [], ◌∷◌, ◌++◌, slice_get, refl, ap, sym, ◌∙◌, subst, arith}
 use Rattle.std.proofs.lemmas.Bool.{eqb-true, eq-eqb, true≢false, false≢true}
-use Rattle.spin_step.specs.Plain.{Plain, ticket as queued, Ticket as Queued, Change, gets, releases, serves, stops_starving, turns, completes, fails, arrives, serving_word}
+use Rattle.spin_step.specs.Plain.{Plain, ticket as queued, Ticket as Queued, Change, gets, serving_word}
 use Rattle.spin_step.specs.Parties.{apply_some, IsOpenStep, Entries, entries, none_entered}
 use Rattle.spin_step.specs.Steps.{bit}
 use Rattle.spin_step.specs.Tickets.{Numbered, gone}
