@@ -1,10 +1,11 @@
 -- The steps of a fair mutex keep its rule: each is the plain step that its step function makes.
-use Rattle.std.proofs.Common.{◌≡◌, ℕ, ◌+◌, ◌-◌, ◌*◌, ◌%◌, ◌^◌, ◌<◌, ◌≤◌, true, if◌then◌else◌, List, [], ◌∷◌, ◌/◌, ◌==◌, Option, Some, None, refl, sym, ap, ◌∙◌, arith, subst, eq-eqb, ne_eqb, bit_or, length-append, inl, inr, unwrap_or}
+use Rattle.std.proofs.Common.{◌≡◌, ℕ, ◌+◌, ◌-◌, ◌*◌, ◌%◌, ◌^◌, ◌<◌, ◌≤◌, true, if◌then◌else◌, List, [], ◌∷◌, ◌/◌, ◌==◌, Bool, Option, Some, None, refl, sym, ap, ◌∙◌, arith, subst, eq-eqb, ne_eqb, bit_or, length-append, set, inl, inr, unwrap_or}
 use Rattle.std.proofs.lemmas.List.Sums.{sum_by-le-sum_by}
 use Rattle.std.proofs.lemmas.Nat.{or_shifted, or_block}
 use Rattle.std.proofs.lemmas.Bool.{and_parts}
 use Rattle.std.specs.Int.Bits.{or_zero_r}
 use Rattle.std.specs.Prelude.{◌≢◌}
+use lib.Seq.{set-set}
 use mathlib.Core.Logic.{dite}
 use native.Mathlib.Decide.{ℕ_discrete}
 use prog.Atomic.{either}
@@ -28,7 +29,7 @@ use Rattle.spin_core.proofs.Views.{part_before, release-own, stop-own, stop_hold
 use Rattle.spin_fair.specs.declared.fair.rule.View.{View}
 use Rattle.spin_fair.specs.declared.fair.rule.View.TheVariants.{Idle, Starving, Holding, HoldingStarving, Served}
 use Rattle.spin_fair.specs.Fair.{part, use_of_view, newcomer, IsFair, won_if_clear, Stops, Stays, HoldsAt, StarvesAt}
-use Rattle.spin_fair.proofs.First.{Fits, first_after, first_without, nobody_starves}
+use Rattle.spin_fair.proofs.First.{Fits, first_after, first_without, nobody_starves, placed}
 
 -- it is one holder or none, who holds writes, nobody reads, and who uses the value holds
 facts : (v : View) → OfHolders part v × Writes part (part v) × (reading (use_of_view v) ≡ 0) × (writer (use_of_view v) ≤ writer (used_by part v))
@@ -106,9 +107,9 @@ starves_in s p has = is_starver-from_entries p s.starvers (ap (λ e. e.starvers)
 pub looks_starving : Allows IsFair (ways fair) (Some Starving) (λ n. n) (Stays 0 0 (Some Starving))
 looks_starving = allows (Some Starving) (λ n. n) (Stays 0 0 (Some Starving)) (λ n vs w is. rw is (omega arith, omega arith)) (λ s p room order one has small. (Starving, by_none fair (Some Starving) Starving s p refl tt, refl))
 
-pub attempts_alone : (word taken : ℕ) → ((s : Plain) (p : ℕ) → OneHolds s → is_starver p s.starvers ≡ true → fair_word s ≡ word → Decides s (gets p to_lock_starving_alone) fair_word (Some taken))
+takes_alone : (word taken : ℕ) → ((s : Plain) (p : ℕ) → OneHolds s → is_starver p s.starvers ≡ true → fair_word s ≡ word → Decides s (gets p to_lock_starving_alone) fair_word (Some taken))
     → Allows IsFair (ways fair) (Some Starving) (λ n. either (n == word) taken n) (exchanges (λ _. HoldingStarving) Starving word taken (Some Starving))
-attempts_alone word taken plain = gets_at (Some Starving) to_lock_starving_alone HoldingStarving Starving word taken (λ n m vs holds. (λ e. (omega arith, omega arith), (omega arith, omega arith))) (λ s p. refl) (λ s. tt) (λ s p. (refl, tt)) (λ s p room order one has small e. plain s p one (starves_in s p has) e)
+takes_alone word taken plain = gets_at (Some Starving) to_lock_starving_alone HoldingStarving Starving word taken (λ n m vs holds. (λ e. (omega arith, omega arith), (omega arith, omega arith))) (λ s p. refl) (λ s. tt) (λ s p. (refl, tt)) (λ s p room order one has small e. plain s p one (starves_in s p has) e)
 
 set_clear : (n : ℕ) → n % 2 ≡ 0 → bit_or n 1 ≡ n + 1
 set_clear n even = ap (λ m. bit_or m 1) (let e : n ≡ n / 2 * 2 = omega arith in e) ∙ (or_shifted (n / 2) 1 1 (omega arith) ∙ (let e : n / 2 * 2 + 1 ≡ n + 1 = omega arith in e))
@@ -152,6 +153,21 @@ holds_only = allows (Some HoldingStarving) (λ n. (n + (2 ^ 64 - 2)) % 2 ^ 64) (
       by_step fair (Some HoldingStarving) Served s (stops_starving p) ((fair_word s + (2 ^ 64 - 2)) % 2 ^ 64) tt found (stop_holding-own s p) tt (less (fair_word s) 2 (omega arith) (omega (arith, fewer)) small ∙ omega (arith, fewer)) refl,
       refl,
     ))
+
+-- both at once, which are the only starver's two steps
+pub attempts_alone : (word taken : ℕ) → ((s : Plain) (p : ℕ) → OneHolds s → is_starver p s.starvers ≡ true → fair_word s ≡ word → Decides s (gets p to_lock_starving_alone) fair_word (Some taken)) → 2 ≤ taken → taken < words
+    → Allows IsFair (ways fair) (Some Starving) (λ n. either (n == word) (taken - 2) n) (exchanges (λ _. Served) Starving word (taken - 2) (Some Starving))
+attempts_alone word taken plain least small id n m vs meets at below =
+    let meet : ℕ → List View → Type 0 = λ word vs. Meets IsFair (ways fair) word m vs in
+    let Takes : Bool → Type 0 = λ b. (w : View) × meet (either b taken n) (set vs id w) × (w ≡ (if b then HoldingStarving else Starving)) in
+    let Serves : Bool → Type 0 = λ b. (w : View) × meet (either b (taken - 2) n) (set vs id w) × (w ≡ (if b then Served else Starving)) in
+    let found : Takes (n == word) = takes_alone word taken plain id n m vs meets at below in
+    dite (ℕ_discrete n word)
+    (λ e.
+    let took = subst Takes (eq-eqb n word e) found in
+    let served = holds_only id taken m (set vs id HoldingStarving) (subst (λ w. meet taken (set vs id w)) took.2 took.1) (placed vs id Starving HoldingStarving at) small in
+    subst Serves (sym (eq-eqb n word e)) (served.0, subst (λ vs. meet (taken - 2) vs) (set-set vs id HoldingStarving served.0) (subst (λ j. meet j (set (set vs id HoldingStarving) id served.0)) (less taken 2 (omega arith) least small) served.1), served.2))
+    (λ ne. subst Serves (sym (ne_eqb n word ne)) (subst Takes (ne_eqb n word ne) found))
 
 -- What the holder does
 

@@ -25,7 +25,7 @@ pub use spin_step::fair::LockRejectReason;
 pub const STARVATION_SPINS: usize = 1024;
 
 // Always as long, so that so many looks are so much time.
-const LOOK_PAUSE: u32 = 16;
+const LOOK_PAUSE: u32 = 32;
 
 /// A lock that gives one party at a time access to a value, and spins while it waits. While a party is registered as a
 /// starver, no other gets the lock unless it starves as well.

@@ -22,7 +22,7 @@ pub use self::upgradable::RwLockUpgradableGuard;
 pub use self::writer::{RwLockWriteGuard, WriteHeld};
 
 // How often a reader spins that was too late twice. Readers that try again at once keep one another from getting through.
-const STAND_BACK: u32 = 128;
+const STAND_BACK: u32 = 256;
 
 /// A lock that lends its value to readers beside one another, or to one writer alone, and spins while it waits.
 ///

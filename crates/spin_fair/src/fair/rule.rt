@@ -2,7 +2,7 @@
 ghost use Rattle.std.specs.Prelude.{refl};
 ghost use Rattle.spin_core.specs.Cell.{alone, use_of};
 ghost use Rattle.spin_core.specs.Plays.{becomes_by, exchanges};
-ghost use Rattle.spin_fair.specs.declared.fair.rule.View.TheVariants.{Idle, Starving, Holding, HoldingStarving};
+ghost use Rattle.spin_fair.specs.declared.fair.rule.View.TheVariants.{Idle, Starving, Holding, Served};
 ghost use Rattle.spin_fair.specs.Fair.{IsFair, use_of_view, Stays, Stops, won_if_clear};
 
 use spin_core::cell::{Play, Rule, WritePermit};
@@ -56,11 +56,11 @@ impl Play<View> for Register {
     ghost then = { exchanges (λ _. Starving) Idle };
 }
 
-/// A starver holds where it found the word that it expected.
+/// A starver holds, and starves no more, where it found the word that it expected.
 pub(super) struct AttemptAlone;
 
 impl Play<View> for AttemptAlone {
-    ghost then = { exchanges (λ _. HoldingStarving) Starving };
+    ghost then = { exchanges (λ _. Served) Starving };
 }
 
 /// A starver holds where it found the flag clear.

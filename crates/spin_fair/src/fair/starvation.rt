@@ -26,13 +26,14 @@ impl<'a, T, R> Starvation<'a, T, R> {
     pub fn try_lock_fair(self) -> Result<FairMutexGuard<'a, T, R>, Starvation<'a, T, R>>
         ensures { IfOk result (IsHolder use_of_view) }
     {
-        let alone = 2;
+        let alone = fair::STARVER;
         let taken = fair::lock_fair(alone).unwrap();
+        // Both steps at once: nobody sees the lock held by a party that starves still.
         let (found, permit) = self
             .into_permit()
-            .exchange::<AttemptAlone>(alone as u64, taken as u64);
+            .exchange::<AttemptAlone>(alone as u64, fair::unstarve(taken) as u64);
         if found == alone as u64 {
-            Ok(stop_starving(permit))
+            Ok(Guard::new(permit.into_writer()))
         } else {
             Err(Self::new(permit))
         }
