@@ -27,6 +27,12 @@ struct Work {
     seen: u64,
 }
 
+/// The work of all threads, and the calls of the one that made the fewest.
+struct Works {
+    all: Work,
+    fewest: u64,
+}
+
 impl Sum for Work {
     fn sum<I: Iterator<Item = Work>>(all: I) -> Work {
         all.fold(Work::default(), |sum, more| Work {
@@ -53,7 +59,7 @@ fn until_told<C: Case>(case: &C, worker: u64, chunk: u64, told: &AtomicBool) -> 
 
 // Does the work in so many threads, and tells them to stop after some time. None begins before all are there, and none at
 // all where one is refused, since the others might wait for it.
-fn among<F>(threads: u64, time: Duration, told: &AtomicBool, work: F) -> Work
+fn among<F>(threads: u64, time: Duration, told: &AtomicBool, work: F) -> Works
 where
     F: Fn(u64) -> Work + Sync,
 {
@@ -75,14 +81,19 @@ where
         drop(closed);
         thread::sleep(time);
         told.store(true, SeqCst);
-        workers
+        let works: Vec<_> = workers
             .into_iter()
             .map(|worker| worker.join().expect("no call panics"))
-            .sum()
+            .collect();
+        Works {
+            fewest: works.iter().map(|work| work.calls).min().unwrap_or(0),
+            all: works.into_iter().sum(),
+        }
     })
 }
 
-// One round, of which a line tells how many calls there were and how many nanoseconds they took. It answers what they saw.
+// One round, of which a line tells how many calls there were, how many nanoseconds they took, and how many of them the thread
+// made that made the fewest. It answers what they saw.
 fn round<C: Case>(case: &C, threads: u64) -> u64 {
     let chunk = if threads == 1 {
         CHUNK_ALONE
@@ -91,11 +102,12 @@ fn round<C: Case>(case: &C, threads: u64) -> u64 {
     };
     let OnALine(told) = &OnALine::<AtomicBool>::default();
     let start = Instant::now();
-    let work = among(threads, ROUND, told, |worker| {
+    let works = among(threads, ROUND, told, |worker| {
         until_told(case, worker, chunk, told)
     });
-    println!("{} {}", work.calls, start.elapsed().as_nanos());
-    work.seen
+    let nanos = start.elapsed().as_nanos();
+    println!("{} {nanos} {}", works.all.calls, works.fewest);
+    works.all.seen
 }
 
 /// What was seen in all, together with what is left at the end, where each thread has made so many calls under a new lock:
@@ -103,10 +115,10 @@ fn round<C: Case>(case: &C, threads: u64) -> u64 {
 pub fn count<C: Case>(threads: u64, calls: u64) -> u64 {
     let OnALine(case) = &OnALine(C::of(threads));
     let told = &AtomicBool::default();
-    let work = among(threads, Duration::ZERO, told, |worker| {
+    let works = among(threads, Duration::ZERO, told, |worker| {
         repeat(case, worker, calls)
     });
-    case.added().wrapping_add(work.seen)
+    case.added().wrapping_add(works.all.seen)
 }
 
 /// Measures several rounds under one new lock. It answers as [`count`] does.

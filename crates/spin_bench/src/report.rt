@@ -46,7 +46,8 @@ const BESIDE: [&str; 10] = [
 /// What is done with a case.
 #[derive(Clone, Copy)]
 enum Task {
-    /// Rounds, of each of which a line tells how many calls there were, and how many nanoseconds they took.
+    /// Rounds, of each of which a line tells how many calls there were, how many nanoseconds they took, and how many of them
+    /// the thread made that made the fewest.
     Measure,
     /// So many calls in each thread.
     Try(u64),
@@ -69,7 +70,7 @@ fn rounds<C: Case + Sync, R: Threads + Wait + Clock + Print + Sync>(
         let start = Instant::now(rt)?;
         team.run(threads, Duration::from_millis(ROUND_MILLIS))?;
         let nanos = start.elapsed(rt)?.as_nanos();
-        println!(rt; "{} {nanos}", team.calls())?;
+        println!(rt; "{} {nanos} {}", team.calls(), team.fewest())?;
         seen = seen.wrapping_add(team.seen());
     }
     Ok(seen)

@@ -18,6 +18,8 @@ pub struct Team<'a, C, R> {
     complete: sync::Mutex<bool>,
     stop: AtomicBool,
     calls: AtomicU64,
+    /// The calls of the thread that made the fewest.
+    fewest: sync::Mutex<u64>,
     seen: AtomicU64,
 }
 
@@ -31,6 +33,7 @@ impl<'a, C: Case + Sync, R: Threads + Wait + Clock + Sync> Team<'a, C, R> {
             complete: sync::Mutex::new(false),
             stop: AtomicBool::new(false),
             calls: AtomicU64::new(0),
+            fewest: sync::Mutex::new(u64::MAX),
             seen: AtomicU64::new(0),
         }
     }
@@ -38,6 +41,11 @@ impl<'a, C: Case + Sync, R: Threads + Wait + Clock + Sync> Team<'a, C, R> {
     /// How many calls were made.
     pub fn calls(&self) -> u64 {
         self.calls.load(Ordering::SeqCst)
+    }
+
+    /// How many of them the thread made that made the fewest.
+    pub fn fewest(&self) -> u64 {
+        *self.fewest.lock(self.rt)
     }
 
     /// The sum of what they saw.
@@ -59,6 +67,8 @@ impl<'a, C: Case + Sync, R: Threads + Wait + Clock + Sync> Team<'a, C, R> {
             }
         }
         self.calls.fetch_add(calls, Ordering::SeqCst);
+        let mut fewest = self.fewest.lock(self.rt);
+        *fewest = calls.min(*fewest);
         self.seen.fetch_add(seen, Ordering::SeqCst);
     }
 
