@@ -1,6 +1,6 @@
 //! What a lock has to show to be played in a world.
 ghost use Rattle.std.specs.Prelude.{◌≡◌, true};
-ghost use Rattle.spin_world_core.specs.Acts.{stays};
+ghost use Rattle.spin_world_core.specs.Acts.{stays, becomes};
 ghost use Rattle.spin_world_core.specs.Machines.{Machine};
 ghost use Rattle.spin_world_core.specs.Lawful.{Lawful};
 
@@ -33,6 +33,18 @@ impl<W, V, L, A> Stepped<W, V, L, A> {
             words,
             placed: None,
             next,
+        }
+    }
+}
+
+impl<W: Copy, V, L: Copy, A: Copy> Stepped<W, V, L, A> {
+    /// A step that puts new words in place of these where there are any, and goes on by whether there are.
+    pub fn exchange(words: W, to: Option<W>, won: Next<L, A>, lost: Next<L, A>) -> Self
+        ensures { result ≡ becomes (λ w. w) words to won lost }
+    {
+        match to {
+            Some(words) => Self::stay(words, won),
+            None => Self::stay(words, lost),
         }
     }
 }

@@ -3,7 +3,7 @@ ghost use Rattle.std.specs.Prelude.{◌≡◌, ◌≢◌, ◌<◌, ◌+◌, ◌-
 ghost use Rattle.spin_world_core.specs.declared.object.Next.TheVariants.{GoesOn, Answers};
 ghost use Rattle.spin_world_core.specs.declared.answer.Answer.TheVariants.{Done};
 ghost use Rattle.spin_world_fair.specs.declared.fair.FairPoint.TheVariants.{Attempt, Register, SetFlag, Await};
-ghost use Rattle.spin_world_core.specs.Acts.{one_number, either, becomes, retried, step_by, can_by};
+ghost use Rattle.spin_world_core.specs.Acts.{one_number, either, retried, step_by, can_by};
 ghost use Rattle.spin_step.specs.Starvers.{starve, is_set};
 ghost use Rattle.spin_world_fair.specs.Fair.{granted, rejects, looks_on, finds_no_room, registered, finds_flag_set, act_of_first, act_of, fair_machine};
 
@@ -81,21 +81,6 @@ impl<V> Fair<V> {
     }
 }
 
-/// A step that puts the new word in place of this one where a step function gives one, and goes on by whether it does.
-fn exchange<V: Copy>(
-    word: usize,
-    new: Option<usize>,
-    won: Next<FairPoint, Answer<V>>,
-    lost: Next<FairPoint, Answer<V>>,
-) -> Stepped<usize, V, FairPoint, Answer<V>>
-    ensures { result ≡ becomes (λ w. w) word new won lost }
-{
-    match new {
-        Some(new) => Stepped::stay(new, won),
-        None => Stepped::stay(word, lost),
-    }
-}
-
 /// Why `TryLockStarver` is refused.
 fn reject<V: Copy>(word: usize, holds: Option<Hold>) -> Next<FairPoint, Answer<V>>
     requires { word ≢ 0 }
@@ -166,7 +151,7 @@ impl<V: Copy> Fair<V> {
             FairCall::Lock => Next::GoesOn(FairPoint::SetFlag),
             _ => Next::Answers(Answer::Granted, Some(Hold::Starver)),
         };
-        exchange(
+        Stepped::exchange(
             word,
             fair::starve(word, self.cap),
             won,
@@ -215,14 +200,14 @@ fn step_first<V: Copy>(
     let refused = Next::Answers(Answer::Refused, holds);
     let done = Next::Answers(Answer::Done, None);
     match call {
-        FairCall::TryLock => exchange(word, fair::lock(word), grant(), refused),
+        FairCall::TryLock => Stepped::exchange(word, fair::lock(word), grant(), refused),
         FairCall::TryLockStarver => match fair::lock(word) {
             Some(taken) => Stepped::stay(taken, grant()),
             None => Stepped::stay(word, reject(word, holds)),
         },
         FairCall::StarverTryLockFair => {
             let won = Next::GoesOn(FairPoint::Unregister);
-            exchange(word, fair::lock_fair(word), won, refused)
+            Stepped::exchange(word, fair::lock_fair(word), won, refused)
         }
         FairCall::StarverDrop => Stepped::stay(fair::unstarve(word), done),
         FairCall::Release => Stepped::stay(fair::unlock(word), done),
@@ -303,7 +288,7 @@ impl<V: Copy> Object for Fair<V> {
         let _ = value;
         match local {
             FairPoint::First => step_first(words, call, holds),
-            FairPoint::Attempt(looks) => exchange(
+            FairPoint::Attempt(looks) => Stepped::exchange(
                 words,
                 fair::lock(words),
                 grant(),
@@ -312,7 +297,7 @@ impl<V: Copy> Object for Fair<V> {
             FairPoint::Look(looks) => Stepped::stay(words, self.look(words, looks)),
             FairPoint::Load => Stepped::stay(words, self.go_to_register(call, words, holds)),
             FairPoint::Register(found) => self.register(call, words, found, holds),
-            FairPoint::SetFlag => exchange(
+            FairPoint::SetFlag => Stepped::exchange(
                 words,
                 fair::lock_starved(words),
                 Next::GoesOn(FairPoint::Unregister),

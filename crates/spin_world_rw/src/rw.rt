@@ -80,10 +80,7 @@ fn exchange<V: Copy>(
 ) -> Stepped<usize, V, RwPoint, Answer<V>>
     ensures { result ≡ becomes (λ w. w) words to (granted hold) lost }
 {
-    match to {
-        Some(words) => Stepped::stay(words, Next::Answers(Answer::Granted, Some(hold))),
-        None => Stepped::stay(words, lost),
-    }
+    Stepped::exchange(words, to, Next::Answers(Answer::Granted, Some(hold)), lost)
 }
 
 /// A step of a call that comes to read. `to`: the word with the party, where the word that it finds lets it in.
