@@ -33,11 +33,6 @@ changes [] id v w at fits first = absurd (some-ne-none v (sym at))
 changes (x ∷ xs) zero v w at fits first = let same : starver x ≡ starver v = ap starver (some-injective x v at) in (λ l. first.0 (omega (arith, l, fits.0, same)), first.1)
 changes (x ∷ xs) (suc i) v w at fits first = let m = moves newcomer i (Some v) xs w at in (λ l. omega (arith, m, first.0 l, fits.1), changes xs i v w at fits first.1)
 
-pub placed : (vs : List View) (id : ℕ) (v w : View) → get_elem? vs id ≡ some v → get_elem? (set vs id w) id ≡ some w
-placed [] id v w at = absurd (some-ne-none v (sym at))
-placed (x ∷ xs) zero v w at = refl
-placed (x ∷ xs) (suc i) v w at = placed xs i v w at
-
 pub first_after : (id : ℕ) (view : Option View) (vs : List View) (w : View) → Stands id view vs → Fits view w vs → StarversFirst vs → StarversFirst (after id view vs w)
 first_after id None vs w at fits first = joins vs w fits first
 first_after id (Some v) vs w at fits first = changes vs id v w at fits first

@@ -18,6 +18,7 @@ use Rattle.spin_core.specs.Views.{Knows, HasPart, holds, entries_of, IsLockOf, u
 use Rattle.spin_step.specs.Orders.{IsInOrder}
 use Rattle.spin_core.specs.Plays.{becomes, becomes_by, exchanges}
 use Rattle.spin_core.proofs.CellCounts.{none}
+use Rattle.spin_core.proofs.CellViews.{stands_after}
 use Rattle.spin_step.proofs.Holders.{is_holder-from_entries, is_empty-none, length-without_holder}
 use Rattle.spin_core.proofs.Knowing.{Writes, one_holds}
 use Rattle.spin_core.proofs.Leaving.{fair_word-up, no_word-up}
@@ -29,7 +30,7 @@ use Rattle.spin_core.proofs.Views.{part_before, release-own, stop-own, stop_hold
 use Rattle.spin_fair.specs.declared.fair.rule.View.{View}
 use Rattle.spin_fair.specs.declared.fair.rule.View.TheVariants.{Idle, Starving, Holding, HoldingStarving, Served}
 use Rattle.spin_fair.specs.Fair.{part, use_of_view, newcomer, IsFair, won_if_clear, Stops, Stays, HoldsAt, StarvesAt}
-use Rattle.spin_fair.proofs.First.{Fits, first_after, first_without, nobody_starves, placed}
+use Rattle.spin_fair.proofs.First.{Fits, first_after, first_without, nobody_starves}
 
 -- it is one holder or none, who holds writes, nobody reads, and who uses the value holds
 facts : (v : View) → OfHolders part v × Writes part (part v) × (reading (use_of_view v) ≡ 0) × (writer (use_of_view v) ≤ writer (used_by part v))
@@ -165,7 +166,7 @@ attempts_alone word taken plain least small id n m vs meets at below =
     dite (ℕ_discrete n word)
     (λ e.
     let took = subst Takes (eq-eqb n word e) found in
-    let served = holds_only id taken m (set vs id HoldingStarving) (subst (λ w. meet taken (set vs id w)) took.2 took.1) (placed vs id Starving HoldingStarving at) small in
+    let served = holds_only id taken m (set vs id HoldingStarving) (subst (λ w. meet taken (set vs id w)) took.2 took.1) (stands_after id Starving HoldingStarving vs at) small in
     subst Serves (sym (eq-eqb n word e)) (served.0, subst (λ vs. meet (taken - 2) vs) (set-set vs id HoldingStarving served.0) (subst (λ j. meet j (set (set vs id HoldingStarving) id served.0)) (less taken 2 (omega arith) least small) served.1), served.2))
     (λ ne. subst Serves (sym (ne_eqb n word ne)) (subst Takes (ne_eqb n word ne) found))
 
