@@ -17,6 +17,10 @@ const ROUNDS: usize = 7;
 /// How long one round is, in milliseconds.
 const ROUND_MILLIS: u64 = 100;
 
+/// How many cases the block has room for in which a case lies. So large a block begins a page but for the 16 bytes that
+/// the allocator keeps there. So no lock lies across two cache lines, as none does in the Rust driver.
+const BLOCK: usize = 32_768;
+
 /// The cases that one thread does alone.
 const ALONE: [&str; 8] = [
     "fair_starve",
@@ -76,27 +80,39 @@ fn rounds<C: Case + Sync, R: Threads + Wait + Clock + Print + Sync>(
     Ok(seen)
 }
 
+/// Does the task, and answers what was seen in all.
+fn on_shared<C: Case + Sync, R: Threads + Wait + Clock + Print + Sync>(
+    rt: &R,
+    task: Task,
+    threads: usize,
+    case: &C,
+) -> io::Result<u64> {
+    match task {
+        Task::Measure => rounds(rt, case, threads),
+        Task::Try(calls) => {
+            let team = Team::new(rt, case, calls, 1);
+            team.run(threads, Duration::ZERO)?;
+            Ok(team.seen())
+        }
+    }
+}
+
 /// Does the task, and answers what was seen in all, together with what is left at the end: the number of calls, where
 /// each did what it had to.
-fn on_case<C: Case + Sync, R: Threads + Wait + Clock + Print + Sync>(
+fn on_case<C: Case + Sync, R: Threads + Wait + Clock + Print + AllocGlobal + Sync>(
     rt: &R,
     task: Task,
     threads: usize,
     case: C,
 ) -> io::Result<u64> {
-    let seen = match task {
-        Task::Measure => rounds(rt, &case, threads)?,
-        Task::Try(calls) => {
-            let team = Team::new(rt, &case, calls, 1);
-            team.run(threads, Duration::ZERO)?;
-            team.seen()
-        }
-    };
-    Ok(case.added().wrapping_add(seen))
+    let mut block = Vec::with_capacity(rt.alloc(), BLOCK)?;
+    block.push_reserved(case);
+    let seen = on_shared(rt, task, threads, &block[0])?;
+    Ok(block.remove(0).added().wrapping_add(seen))
 }
 
 /// The same of a call.
-fn on_call<C: Call + Sync, R: Threads + Wait + Clock + Print + Sync>(
+fn on_call<C: Call + Sync, R: Threads + Wait + Clock + Print + AllocGlobal + Sync>(
     rt: &R,
     task: Task,
     threads: usize,

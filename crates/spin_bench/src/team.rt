@@ -19,7 +19,7 @@ pub struct Team<'a, C, R> {
     stop: AtomicBool,
     calls: AtomicU64,
     /// The calls of the thread that made the fewest.
-    fewest: sync::Mutex<u64>,
+    fewest: AtomicU64,
     seen: AtomicU64,
 }
 
@@ -33,7 +33,7 @@ impl<'a, C: Case + Sync, R: Threads + Wait + Clock + Sync> Team<'a, C, R> {
             complete: sync::Mutex::new(false),
             stop: AtomicBool::new(false),
             calls: AtomicU64::new(0),
-            fewest: sync::Mutex::new(u64::MAX),
+            fewest: AtomicU64::new(u64::MAX),
             seen: AtomicU64::new(0),
         }
     }
@@ -45,7 +45,7 @@ impl<'a, C: Case + Sync, R: Threads + Wait + Clock + Sync> Team<'a, C, R> {
 
     /// How many of them the thread made that made the fewest.
     pub fn fewest(&self) -> u64 {
-        *self.fewest.lock(self.rt)
+        self.fewest.load(Ordering::SeqCst)
     }
 
     /// The sum of what they saw.
@@ -67,8 +67,7 @@ impl<'a, C: Case + Sync, R: Threads + Wait + Clock + Sync> Team<'a, C, R> {
             }
         }
         self.calls.fetch_add(calls, Ordering::SeqCst);
-        let mut fewest = self.fewest.lock(self.rt);
-        *fewest = calls.min(*fewest);
+        self.fewest.fetch_min(calls, Ordering::SeqCst);
         self.seen.fetch_add(seen, Ordering::SeqCst);
     }
 
