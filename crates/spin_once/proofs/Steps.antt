@@ -133,6 +133,12 @@ module _ {T S : Type 0} (makes : S → T → Type 0) (key : Snapshot S) where
       let next : new ≡ 0 = plain (in_phase (running id)) id refl (eq-eqb id id refl) in
       (Idle, (λ e. absurd (let d : writes ≡ reads = e in cc), same, subst (λ k. Meets IsOnce (once_ways makes key) k m (after id (Some Running) vs Idle)) (sym next) (meets 0 m (after id (Some Running) vs Idle) (omega (arith, see, one), omega (arith, run, one)) has.0.3)), refl)
 
+-- who writes runs
+pub runs_alone : (v : View) → use_of_view v ≡ writes → v ≡ Running
+runs_alone Running e = refl
+runs_alone Idle e = absurd (let d : off ≡ writes = e in cc)
+runs_alone Seeing e = absurd (let d : reads ≡ writes = e in cc)
+
 -- ---- who may go
 idle_rests : Rests IsOnce use_of_view (Some Idle)
 idle_rests = (

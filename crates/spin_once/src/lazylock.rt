@@ -95,8 +95,8 @@ impl<T, F: FnOnce() -> T, R: RelaxStrategy, M: Promise<T> + Drop> LazyLock<T, F,
     {
         match self.seeded.come::<R, W>(rt) {
             Come::Value(value) => value,
-            Come::Turn(turn, seed) => {
-                let Initialiser { kept, promise: _ } = seed;
+            Come::Turn(turn) => {
+                let (turn, Initialiser { kept, promise: _ }) = turn.take();
                 let f = kept.into_inner();
                 turn.complete(f())
             }

@@ -92,7 +92,7 @@ impl<T, R: RelaxStrategy> Once<T, R> {
     {
         match self.seeded.come::<R, W>(rt) {
             Come::Value(value) => value,
-            Come::Turn(turn, ()) => turn.complete(f()),
+            Come::Turn(turn) => turn.complete(f()),
         }
     }
 
@@ -122,12 +122,12 @@ impl<T, R: RelaxStrategy> Once<T, R> {
     {
         let turn = match self.seeded.come::<R, W>(rt) {
             Come::Value(value) => return Ok(value),
-            Come::Turn(turn, ()) => turn,
+            Come::Turn(turn) => turn,
         };
         match f() {
             Ok(value) => Ok(turn.complete(value)),
             Err(error) => {
-                turn.fail(());
+                turn.fail();
                 Err(error)
             }
         }

@@ -1,11 +1,10 @@
 //! A value that is made once, from a seed: what `Once` and `LazyLock` share.
-ghost use Rattle.std.specs.Prelude.{◌≡◌, IfSome};
-ghost use Rattle.spin_once.specs.Finds.{FindsMade, TakesMade};
+ghost use Rattle.std.specs.Prelude.{◌≡◌, IfSome, IfOk};
+ghost use Rattle.spin_once.specs.Finds.{TakesMade};
 
 use self::rule::{Begins, COMPLETE, NOTHING, Progress, SeedCell, Stage, made, seen};
 use spin_core::relax::RelaxStrategy;
 use spin_step::once;
-use std::mem;
 use std::sync::Wait;
 
 mod known;
@@ -13,10 +12,9 @@ mod rule;
 mod turn;
 
 pub(crate) use self::rule::Seed;
-use self::turn::Found;
 pub(crate) use self::turn::Turn;
 
-/// At first a seed lies there. A party that begins has it alone, and gives a value for it or puts it back. Once there is
+/// At first a seed lies there. A party that begins has it alone, and gives a value for it or leaves it there. Once there is
 /// a value, every party sees that one.
 #[derive(Drop)]
 pub(crate) struct Seeded<T, S: Seed<T>> {
@@ -26,8 +24,8 @@ pub(crate) struct Seeded<T, S: Seed<T>> {
 /// What a party comes to that wants a value.
 pub(crate) enum Come<'a, T, S: Seed<T>> {
     Value(&'a T),
-    /// Nobody had begun, or who had has put the seed back: it is this party's turn.
-    Turn(Turn<'a, T, S>, S),
+    /// Nobody had begun, or who had has left the seed: it is this party's turn.
+    Turn(Turn<'a, T, S>),
 }
 
 impl<T, S: Seed<T>> Seeded<T, S> {
@@ -80,8 +78,9 @@ impl<T, S: Seed<T>> Seeded<T, S> {
         Some(made(settled))
     }
 
-    fn begin(&self) -> Found<'_, T, S>
-        ensures { FindsMade S.makes self.now.cell.value result }
+    // One attempt to begin. `Err`: another party runs.
+    fn begin(&self) -> Result<Come<'_, T, S>, ()>
+        ensures { IfOk result (TakesMade S.makes self.now.cell.value) }
     {
         let running = once::begin(NOTHING).unwrap();
         let (found, permit) = self
@@ -89,17 +88,13 @@ impl<T, S: Seed<T>> Seeded<T, S> {
             .enter()
             .exchange::<Begins>(NOTHING as u64, running as u64);
         if found == COMPLETE as u64 {
-            return Found::Value(seen(permit));
+            return Ok(Come::Value(seen(permit)));
         }
         if found != NOTHING as u64 {
             permit.leave();
-            return Found::Busy;
+            return Err(());
         }
-        let mut writer = permit.into_writer();
-        match mem::replace(&mut writer.get_mut().value, Stage::Taken) {
-            Stage::Seed(seed) => Found::Seed(Turn::new(writer), seed),
-            _ => unreachable!(),
-        }
+        Ok(Come::Turn(Turn::new(permit.into_writer())))
     }
 
     /// The value once nobody runs any more, if there is one then.
@@ -130,16 +125,19 @@ impl<T, S: Seed<T>> Seeded<T, S> {
     pub(crate) fn come<R: RelaxStrategy, W: Wait>(&self, rt: &W) -> Come<'_, T, S>
         ensures { TakesMade S.makes self.now.cell.value result }
     {
-        for _ in rt.forever() {
-            match self.begin() {
-                Found::Seed(turn, seed) => return Come::Turn(turn, seed),
-                Found::Value(value) => return Come::Value(value),
-                Found::Busy => {}
-            }
-            if let Some(value) = self.poll::<R, W>(rt) {
-                return Come::Value(value);
-            }
+        match self.begin() {
+            Ok(come) => come,
+            Err(()) => R::retry(rt, (), |()| self.begin_later::<R, W>(rt)),
         }
-        unreachable!()
+    }
+
+    // An attempt once nobody runs any more.
+    fn begin_later<R: RelaxStrategy, W: Wait>(&self, rt: &W) -> Result<Come<'_, T, S>, ()>
+        ensures { IfOk result (TakesMade S.makes self.now.cell.value) }
+    {
+        match self.poll::<R, W>(rt) {
+            Some(value) => Ok(Come::Value(value)),
+            None => self.begin(),
+        }
     }
 }

@@ -1,36 +1,38 @@
 //! A party's turn to make the value.
 ghost use Rattle.std.specs.Prelude.{◌≡◌, Some};
 ghost use Rattle.spin_core.specs.Settled.{loose};
+ghost use Rattle.spin_once.specs.Finds.{HasSeed, HasTaken};
 ghost use Rattle.spin_once.specs.declared.seeded.rule.View.TheVariants.{Running};
-ghost use Rattle.spin_once.specs.declared.seeded.rule.Stage.TheVariants.{Taken};
 
 use super::rule::{Completes, Fails, Party, RUNNING, Seed, Stage, Writer, seen};
 use spin_step::once;
-use std::mem;
+use std::mem::{self, ManuallyDrop};
 
-/// The party that began: it has the cell's value alone, until it gives one or puts the seed back.
+/// The party that began: it has the cell's value alone, until it gives one or leaves the seed to the next.
 pub(crate) struct Turn<'a, T, S: Seed<T>> {
     writer: Writer<'a, T, S>,
-    ghost taken: { writer.value ≡ loose Taken },
-}
-
-/// What a party that tries to begin finds.
-pub(crate) enum Found<'a, T, S: Seed<T>> {
-    Seed(Turn<'a, T, S>, S),
-    /// Another party runs.
-    Busy,
-    Value(&'a T),
 }
 
 impl<'a, T, S: Seed<T>> Turn<'a, T, S> {
     pub(super) fn new(writer: Writer<'a, T, S>) -> Self
-        requires { writer.value ≡ loose Taken }
         ensures { result.writer ≡ writer.entry }
     {
         Turn { writer }
     }
 
-    /// The value stays for good, and this party sees it with all others.
+    /// Takes the seed out.
+    pub(crate) fn take(self) -> (Self, S)
+        requires { HasSeed self.writer.key.value self }
+        ensures { HasTaken self.entry.writer.key.value result }
+    {
+        let Self { mut writer } = self;
+        match mem::replace(&mut writer.get_mut().value, Stage::Taken) {
+            Stage::Seed(seed) => (Turn { writer }, seed),
+            _ => unreachable!(),
+        }
+    }
+
+    /// The value stays for good, and this party sees it with all others. A seed that nobody took out is not dropped.
     pub(crate) fn complete(self, value: T) -> &'a T
         requires { S.makes self.writer.key.value value }
         ensures { result.now ≡ value }
@@ -39,11 +41,12 @@ impl<'a, T, S: Seed<T>> Turn<'a, T, S> {
         seen(party.store::<Completes>(once::complete(RUNNING) as u64))
     }
 
-    /// The seed goes back, and the next party may begin.
-    pub(crate) fn fail(self, seed: S)
-        requires { seed ≡ self.writer.key.value }
+    /// The seed lies there still, and the next party may begin.
+    pub(crate) fn fail(self)
+        requires { HasSeed self.writer.key.value self }
     {
-        let party = self.put(Stage::Seed(seed));
+        let Self { writer } = self;
+        let party = writer.into_permit();
         party.store::<Fails>(once::fail(RUNNING) as u64).leave();
     }
 
@@ -52,9 +55,13 @@ impl<'a, T, S: Seed<T>> Turn<'a, T, S> {
         ensures key { result.key ≡ self.entry.writer.key }
     {
         let Self { mut writer } = self;
-        match mem::replace(&mut writer.get_mut().value, stage) {
-            Stage::Taken => writer.into_permit(),
-            _ => unreachable!(),
-        }
+        spend(mem::replace(&mut writer.get_mut().value, stage));
+        writer.into_permit()
     }
+}
+
+// Spends what was there, with no test of it: who has the turn knows that it is no value, and a first `call_once` is
+// quicker by two tests.
+fn spend<T, S>(stage: Stage<T, S>) {
+    let _gone = unsafe { ManuallyDrop::new_unchecked(stage) };
 }
