@@ -56,13 +56,10 @@ impl<const N: usize> Seats<N> {
 
     /// Takes a seat, and relaxes while all are taken. Nothing is promised about when it returns.
     pub fn enter<W: Wait>(&self, rt: &W) -> SeatGuard<'_, N> {
-        for _ in rt.forever() {
-            if let Some(guard) = self.try_enter(rt) {
-                return guard;
-            }
-            Spin::relax(rt);
+        match self.try_enter(rt) {
+            Some(guard) => guard,
+            None => Spin::back_off(rt, || self.try_enter(rt)),
         }
-        unreachable!()
     }
 
     // Takes a seat at this word, or tells which word it found in its place.
