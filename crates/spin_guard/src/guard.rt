@@ -6,8 +6,8 @@ ghost use Rattle.spin_core.specs.Plays.{becomes};
 
 use spin_core::cell::{Permit, Play, Rule, WritePermit};
 use std::marker::PhantomData;
+use std::ops::{Deref, DerefMut};
 
-mod lends;
 mod texts;
 
 /// How the parties of a lock use its value, whatever the value's type is.
@@ -108,6 +108,38 @@ impl<'a, T, V, P: Release<T, V>, R> Held<'a, T, V, P, R> {
             strategy: _,
         } = self;
         permit
+    }
+}
+
+impl<T, V, P: Release<T, V>, R> Deref for Guard<'_, T, V, P, R> {
+    ghost use Rattle.spin_guard.specs.Guard.{guard_value};
+
+    type Target = T;
+
+    ghost deref_gives = { λ g x. x ≡ guard_value g };
+
+    fn deref(&self) -> &T
+        ensures { result.now ≡ guard_value self.now }
+    {
+        self.writer.get()
+    }
+}
+
+impl<T, V, P: Release<T, V>, R> DerefMut for Guard<'_, T, V, P, R> {
+    ghost use Rattle.std.specs.Prelude.{[]};
+    ghost use mir.Syntax.{named};
+    ghost use types.Logic.{sem};
+    ghost use denote.Follow.{follows};
+    ghost use Rattle.spin_guard.specs.contracts.guard.Guard.{the_row};
+    ghost use Rattle.spin_guard.specs.Guard.{guard_value, guard_with};
+
+    ghost deref_mut_gives = { λ g x. x ≡ guard_value g };
+
+    fn deref_mut(&mut self) -> &mut T
+        ensures* writes_back { sem 𝓛 (follows (the_row (record { mir = named 1; lft = [] }) T.row V.row P.row R.row P.Key.row P.Second.row P.Rule) T.row self.entry.ghost_name result.ghost_name (guard_with self.old)) }
+        ensures value { result.now ≡ guard_value self.old }
+    {
+        self.writer.get_mut()
     }
 }
 

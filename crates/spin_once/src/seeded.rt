@@ -2,7 +2,7 @@
 ghost use Rattle.std.specs.Prelude.{◌≡◌, IfSome, IfOk};
 ghost use Rattle.spin_once.specs.Finds.{TakesMade};
 
-use self::rule::{Begins, COMPLETE, NOTHING, Progress, SeedCell, Stage, made, seen};
+use self::rule::{Begins, COMPLETE, NOTHING, Progress, SeedCell, Stage, seen};
 use spin_core::relax::RelaxStrategy;
 use spin_step::once;
 use std::sync::Wait;
@@ -75,7 +75,7 @@ impl<T, S: Seed<T>> Seeded<T, S> {
         requires any { (seed : S) (value : T) → S.makes seed value }
     {
         let settled = self.cell.get_settled(COMPLETE as u64)?;
-        Some(made(settled))
+        Some(Stage::made(settled))
     }
 
     // One attempt to begin. `Err`: another party runs.

@@ -10,7 +10,6 @@ use spin_step::rw;
 use std::marker::PhantomData;
 use std::sync::Wait;
 
-mod lends;
 mod reader;
 mod rule;
 mod texts;

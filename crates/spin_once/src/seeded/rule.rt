@@ -8,13 +8,9 @@ ghost use Rattle.spin_once.specs.declared.seeded.rule.View.TheVariants.{Idle, Ru
 ghost use Rattle.spin_once.specs.declared.seeded.rule.Stage.TheVariants.{Done};
 
 use super::known::known;
-use spin_core::cell::settled::{Loose, Settles};
+use spin_core::cell::settled::{Loose, Settled, Settles};
 use spin_core::cell::{Cell, Permit, Play, Rule, WritePermit};
 use std::snapshot::Snapshot;
-
-mod lends;
-
-pub(super) use self::lends::made;
 
 // The states of the word.
 pub(super) const NOTHING: u8 = 0;
@@ -47,6 +43,21 @@ pub enum Stage<T, S> {
 }
 
 pub(super) type Slot<T, S> = Loose<Stage<T, S>>;
+
+impl<T, S> Stage<T, S> {
+    ghost use Rattle.std.specs.Borrow.{sem, follows};
+    ghost use Rattle.spin_once.specs.Made.{made_row, made_of};
+
+    /// The value. Any may take its place, and is one that was made then.
+    pub(in crate::seeded) fn made(settled: &mut Settled<Self>) -> &mut T
+        ensures* writes_back { sem 𝓛 (follows (made_row T.row S.row) T.row settled.entry.ghost_name result.ghost_name made_of) }
+    {
+        match &mut settled.value {
+            Stage::Done(value) => value,
+            _ => unreachable!(),
+        }
+    }
+}
 
 /// A value that was made stays made.
 impl<T, S> Settles for Stage<T, S> {

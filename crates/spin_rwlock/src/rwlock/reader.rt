@@ -7,10 +7,11 @@ use super::rule::{Kind, Party, Reader, RwRule, View};
 use spin_core::cell::Permit;
 use spin_core::relax::Spin;
 use std::marker::PhantomData;
+use std::ops::Deref;
 
 /// The value of a `RwLock` to read, of a reader of kind `K`. Dropping it lets go of the lock.
 pub struct SharedGuard<'a, T, K: Kind, R = Spin> {
-    pub(super) permit: Permit<'a, T, View, RwRule<T>>,
+    permit: Permit<'a, T, View, RwRule<T>>,
     marker: PhantomData<(K, R)>,
     ghost lent: { IsLent permit K.view },
 }
@@ -85,6 +86,20 @@ impl<'a, T, R> ReadHeld<'a, T, R> {
             strategy: _,
         } = self;
         permit
+    }
+}
+
+impl<T, K: Kind, R> Deref for SharedGuard<'_, T, K, R> {
+    ghost use Rattle.spin_rwlock.specs.Guards.{shared_value};
+
+    type Target = T;
+
+    ghost deref_gives = { λ g x. Some x ≡ shared_value g };
+
+    fn deref(&self) -> &T
+        ensures { Some result.now ≡ shared_value self.now }
+    {
+        self.permit.get()
     }
 }
 

@@ -9,10 +9,11 @@ use super::upgradable::RwLockUpgradableGuard;
 use spin_core::cell::{Permit, WritePermit};
 use spin_core::relax::Spin;
 use std::marker::PhantomData;
+use std::ops::{Deref, DerefMut};
 
 /// The value of a `RwLock` to write, of its one holder. Dropping it lets go of the lock.
 pub struct RwLockWriteGuard<'a, T, R = Spin> {
-    pub(super) writer: WritePermit<'a, T, View, RwRule<T>>,
+    writer: WritePermit<'a, T, View, RwRule<T>>,
     strategy: PhantomData<R>,
 }
 
@@ -98,6 +99,38 @@ impl<'a, T, R> WriteHeld<'a, T, R> {
             strategy: _,
         } = self;
         permit
+    }
+}
+
+impl<T, R> Deref for RwLockWriteGuard<'_, T, R> {
+    ghost use Rattle.spin_rwlock.specs.Guards.{write_value};
+
+    type Target = T;
+
+    ghost deref_gives = { λ g x. x ≡ write_value g };
+
+    fn deref(&self) -> &T
+        ensures { result.now ≡ write_value self.now }
+    {
+        self.writer.get()
+    }
+}
+
+impl<T, R> DerefMut for RwLockWriteGuard<'_, T, R> {
+    ghost use Rattle.std.specs.Prelude.{[]};
+    ghost use mir.Syntax.{named};
+    ghost use types.Logic.{sem};
+    ghost use denote.Follow.{follows};
+    ghost use Rattle.spin_rwlock.specs.contracts.rwlock.writer.RwLockWriteGuard.{the_row};
+    ghost use Rattle.spin_rwlock.specs.Guards.{write_value, write_with};
+
+    ghost deref_mut_gives = { λ g x. x ≡ write_value g };
+
+    fn deref_mut(&mut self) -> &mut T
+        ensures* writes_back { sem 𝓛 (follows (the_row (record { mir = named 1; lft = [] }) T.row R.row) T.row self.entry.ghost_name result.ghost_name (write_with self.old)) }
+        ensures value { result.now ≡ write_value self.old }
+    {
+        self.writer.get_mut()
     }
 }
 

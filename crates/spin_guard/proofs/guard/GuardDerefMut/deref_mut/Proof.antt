@@ -40,10 +40,10 @@ use Rattle.spin_core.proofs.cell.WritePermit.get_mut.Met.{met}
 use Rattle.spin_guard.specs.contracts.guard.Guard.{the_type, the_row, struct}
 use Rattle.spin_guard.proofs.guard.Guard.TheLaws.{the_loose}
 use Rattle.spin_guard.specs.Guard.{guard_with}
-use Rattle.spin_guard.specs.contracts.guard.lends.GuardDerefMut.deref_mut.{ended, clauses}
-use Rattle.spin_guard.specs.contracts.guard.lends.GuardDerefMut.deref_mut.Key.{name as #self}
-use Rattle.spin_guard.proofs.guard.lends.GuardDerefMut.deref_mut.Statement.{statement}
-use Rattle.spin_guard.proofs.guard.lends.GuardDerefMut.deref_mut.Code as code
+use Rattle.spin_guard.specs.contracts.guard.GuardDerefMut.deref_mut.{ended, clauses}
+use Rattle.spin_guard.specs.contracts.guard.GuardDerefMut.deref_mut.Key.{name as #self}
+use Rattle.spin_guard.proofs.guard.GuardDerefMut.deref_mut.Statement.{statement}
+use Rattle.spin_guard.proofs.guard.GuardDerefMut.deref_mut.Code as code
 
 module _ (ℓ : NamedLft) (T V P S K N : RattleType) (LT : Laws T) (LV : Laws V) (LP : Laws P) (LS : Laws S) (LK : Laws K) (LN : Laws N) (g : Ghosts P.Denot T.Denot V.Denot K.Denot N.Denot) where
   abbrev G : RattleType

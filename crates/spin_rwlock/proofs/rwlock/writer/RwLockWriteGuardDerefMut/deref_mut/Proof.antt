@@ -55,10 +55,10 @@ use Rattle.spin_rwlock.specs.contracts.rwlock.rule.RwRuleRuleView.TheImpl.{ghost
 use Rattle.spin_rwlock.proofs.rwlock.rule.RwRuleRuleView.TheImpl.Met.{bound}
 use Rattle.spin_rwlock.specs.Guards.{write_with}
 use Rattle.spin_rwlock.proofs.Known.{first}
-use Rattle.spin_rwlock.specs.contracts.rwlock.lends.RwLockWriteGuardDerefMut.deref_mut.{ended, clauses}
-use Rattle.spin_rwlock.specs.contracts.rwlock.lends.RwLockWriteGuardDerefMut.deref_mut.Key.{name as #self}
-use Rattle.spin_rwlock.proofs.rwlock.lends.RwLockWriteGuardDerefMut.deref_mut.Statement.{statement}
-use Rattle.spin_rwlock.proofs.rwlock.lends.RwLockWriteGuardDerefMut.deref_mut.Code as code
+use Rattle.spin_rwlock.specs.contracts.rwlock.writer.RwLockWriteGuardDerefMut.deref_mut.{ended, clauses}
+use Rattle.spin_rwlock.specs.contracts.rwlock.writer.RwLockWriteGuardDerefMut.deref_mut.Key.{name as #self}
+use Rattle.spin_rwlock.proofs.rwlock.writer.RwLockWriteGuardDerefMut.deref_mut.Statement.{statement}
+use Rattle.spin_rwlock.proofs.rwlock.writer.RwLockWriteGuardDerefMut.deref_mut.Code as code
 
 -- the writer stands at the guard's beginning
 starts : {τ : Ty} → ◌≡◌ {A = Option (Ty × ℕ)} (found (τ, up (align τ) 0)) (found (τ, 0))

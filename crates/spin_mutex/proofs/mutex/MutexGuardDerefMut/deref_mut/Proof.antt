@@ -40,8 +40,8 @@ use Rattle.core.proofs.atomic.Steps.{fm}
 use Rattle.atomic_table.proofs.Walks.{proved, leaves}
 use Rattle.spin_guard.specs.Guard.{guard_value, guard_with}
 use Rattle.spin_guard.specs.contracts.guard.Guard as Inner
-use Rattle.spin_guard.specs.contracts.guard.lends.GuardDerefMut.deref_mut as callee
-use Rattle.spin_guard.proofs.guard.lends.GuardDerefMut.deref_mut.Met.{met}
+use Rattle.spin_guard.specs.contracts.guard.GuardDerefMut.deref_mut as callee
+use Rattle.spin_guard.proofs.guard.GuardDerefMut.deref_mut.Met.{met}
 use Rattle.spin_ticket.specs.contracts.ticket.rule.View as V
 use Rattle.spin_ticket.specs.contracts.ticket.rule.TicketRule as F
 use Rattle.spin_ticket.proofs.ticket.rule.View.TheLaws as VL
@@ -54,10 +54,10 @@ use Rattle.spin_ticket.proofs.ticket.rule.TicketRuleReleaseView.TheImpl.Met as r
 use Rattle.spin_mutex.specs.contracts.mutex.MutexGuard.{the_type, the_row, struct}
 use Rattle.spin_mutex.proofs.mutex.MutexGuard.TheLaws.{the_loose}
 use Rattle.spin_mutex.specs.MutexGuard.{with_value}
-use Rattle.spin_mutex.specs.contracts.mutex.lends.MutexGuardDerefMut.deref_mut.{ended, clauses}
-use Rattle.spin_mutex.specs.contracts.mutex.lends.MutexGuardDerefMut.deref_mut.Key.{name as #self}
-use Rattle.spin_mutex.proofs.mutex.lends.MutexGuardDerefMut.deref_mut.Statement.{statement}
-use Rattle.spin_mutex.proofs.mutex.lends.MutexGuardDerefMut.deref_mut.Code as code
+use Rattle.spin_mutex.specs.contracts.mutex.MutexGuardDerefMut.deref_mut.{ended, clauses}
+use Rattle.spin_mutex.specs.contracts.mutex.MutexGuardDerefMut.deref_mut.Key.{name as #self}
+use Rattle.spin_mutex.proofs.mutex.MutexGuardDerefMut.deref_mut.Statement.{statement}
+use Rattle.spin_mutex.proofs.mutex.MutexGuardDerefMut.deref_mut.Code as code
 
 module _ (ℓ : NamedLft) (T S : RattleType) (LT : Laws T) (LS : Laws S) where
   abbrev R : RattleType
@@ -92,7 +92,7 @@ deref_mut_spec {M} 𝓤 𝓛 𝓜 𝓡 wired T S LT LS =
     let LX : Laws X = arg_laws (layout T) yes R (param_laws 0 T LT) refl in
     let releases = release_met.bound 𝓡.env (code.calls-spin_ticket::ticket::rule::TicketRuleReleaseView::release 𝓡.env wired) X LX M 𝓤 𝓛 𝓜 𝓡 in
     let rules = rule_met.bound 𝓡.env X LX M 𝓤 𝓛 𝓜 𝓡 in
-    let called = met 𝓤 𝓛 𝓜 𝓡 (code.calls-spin_guard::guard::lends::GuardDerefMut::deref_mut 𝓡.env wired) X W Y Z U N LX (arg_laws (raw_type (layout V.the_row)) no V.the_row VL.the_row_laws refl)
+    let called = met 𝓤 𝓛 𝓜 𝓡 (code.calls-spin_guard::guard::GuardDerefMut::deref_mut 𝓡.env wired) X W Y Z U N LX (arg_laws (raw_type (layout V.the_row)) no V.the_row VL.the_row_laws refl)
     (arg_laws (raw_type (layout F.the_row)) no F.the_row FL.the_row_laws refl) (arg_laws (layout S) yes Q (param_laws 1 S LS) refl) (arg_laws ty_unit no unit (of_field unit-field unit-laws refl (copy_shared unit-field unit-copy)) refl) (arg_laws (ty_int w64) no u64 (of_field u64-field u64-laws refl (copy_shared u64-field u64-copy)) refl)
     (release.ghosts X) (release.dict X) (rule.ghosts X) (rule.dict X) uses.ghosts uses.dict (record { same = releases.same; Self-Key-lives = releases.Self-Key-lives; Self-Second-lives = releases.Self-Second-lives; release = releases.release })
     (record { Self-Key-lives = rules.Self-Key-lives; Self-Second-lives = rules.Self-Second-lives }) record {} in
