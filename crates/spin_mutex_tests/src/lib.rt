@@ -4,6 +4,8 @@
 #[cfg(test)]
 mod calls;
 #[cfg(test)]
+mod equal;
+#[cfg(test)]
 mod fair;
 #[cfg(test)]
 mod lock;
