@@ -1,4 +1,5 @@
 //! What no contract says of starvers: which call is granted beside one, and that a plain `lock` comes to starve.
+use crate::equal::equal;
 use spin_core::relax::{Loop, RelaxStrategy, Spin, Yield};
 use spin_mutex::mutex::fair::LockRejectReason;
 use spin_mutex::mutex::{FairMutex, Starvation};
@@ -20,141 +21,106 @@ const STARVED: Seen = (false, Some(LockRejectReason::Starved));
 
 const HELD_AND_STARVED: Seen = (true, Some(LockRejectReason::Starved));
 
+// Why a newcomer who may starve is refused.
+fn refusal<R>(lock: &FairMutex<u64, R>) -> Option<LockRejectReason> {
+    lock.try_lock_starver().err()
+}
+
 fn seen<R>(lock: &FairMutex<u64, R>) -> Seen {
-    let refused = lock.try_lock_starver().err();
+    let refused = refusal(lock);
     (lock.is_locked(), refused)
 }
 
-// A starver that came while somebody held the lock, which is free again. What was seen before it came, whether a newcomer
-// was refused then, and what was seen beside it.
-fn starve_beside_a_guard<'a>(
-    rt: &(impl Abort + Wait),
-    lock: &'a FairMutex<u64>,
-) -> (Seen, bool, Seen, Starvation<'a, u64>) {
-    let guard = lock.lock(rt);
-    let before = seen(lock);
-    let refused = lock.try_lock().is_none();
-    let starvation = lock.starve(rt).expect(rt, "below the cap");
-    let beside = seen(lock);
-    drop(guard);
-    (before, refused, beside, starvation)
+fn shows<R>(rt: &impl Abort, lock: &FairMutex<u64, R>, wanted: Seen) {
+    equal(rt, seen(lock), wanted);
 }
 
-// What is seen of a free lock with a starver, whether a newcomer is refused there, and what is seen while the starver has
-// entered.
-fn enter<'a>(
-    rt: &impl Abort,
-    lock: &'a FairMutex<u64>,
-    starvation: Starvation<'a, u64>,
-) -> (Seen, bool, Seen, u64) {
-    let before = seen(lock);
-    let refused = lock.try_lock().is_none();
-    let guard = starvation.try_lock().ok().expect(rt, "open");
-    (before, refused, seen(lock), *guard)
-}
-
-// What is seen while a lone starver has entered.
-fn enter_alone(rt: &impl Abort, lock: &FairMutex<u64>, starvation: Starvation<'_, u64>) -> Seen {
-    let guard = starvation.try_lock_fair().ok().expect(rt, "open");
-    let entered = seen(lock);
-    drop(guard);
-    entered
-}
-
-// What is seen while a starver that waited has entered, and after it.
-fn enter_in_the_end<R: RelaxStrategy>(
-    rt: &impl Wait,
-    lock: &FairMutex<u64, R>,
-    starvation: Starvation<'_, u64, R>,
-) -> (Seen, Seen) {
-    let guard = starvation.lock(rt);
-    let entered = seen(lock);
-    drop(guard);
-    (entered, seen(lock))
+fn starve<'a, R>(rt: &(impl Abort + Wait), lock: &'a FairMutex<u64, R>) -> Starvation<'a, u64, R> {
+    lock.starve(rt).expect(rt, "below the cap")
 }
 
 #[test]
 fn a_starver_comes_before_newcomers(rt: HostRuntime) {
     let lock: FairMutex<u64> = FairMutex::new(42);
-    let (before, refused, beside, starvation) = starve_beside_a_guard(&rt, &lock);
-    assert_eq!(rt; (before, refused, beside), (HELD, true, HELD_AND_STARVED));
-    let entered = enter(&rt, &lock, starvation);
-    assert_eq!(rt; entered, (STARVED, true, HELD, 42));
+    let guard = lock.lock(&rt);
+    shows(&rt, &lock, HELD);
+    equal(&rt, lock.try_lock().is_none(), true);
+    let starvation = starve(&rt, &lock);
+    shows(&rt, &lock, HELD_AND_STARVED);
+    drop(guard);
+    shows(&rt, &lock, STARVED);
+    equal(&rt, lock.try_lock().is_none(), true);
+    let guard = starvation.try_lock().ok().expect(&rt, "open");
+    shows(&rt, &lock, HELD);
+    equal(&rt, *guard, 42);
+}
+
+// A starver that waited has entered, and then the lock is open.
+fn enters_in_the_end<R: RelaxStrategy>(
+    rt: &(impl Abort + Wait),
+    lock: &FairMutex<u64, R>,
+    starvation: Starvation<'_, u64, R>,
+) {
+    let guard = starvation.lock(rt);
+    shows(rt, lock, HELD);
+    drop(guard);
+    shows(rt, lock, OPEN);
 }
 
 #[test]
 fn each_call_of_a_starver_enters(rt: HostRuntime) {
     let lock: FairMutex<u64> = FairMutex::new(42);
-    let starvation = lock.starve(&rt).expect(&rt, "below the cap");
-    let alone = enter_alone(&rt, &lock, starvation);
-    let starvation = lock.starve(&rt).expect(&rt, "below the cap");
-    let in_the_end = enter_in_the_end(&rt, &lock, starvation);
-    assert_eq!(rt; (alone, in_the_end), (HELD, (HELD, OPEN)));
+    let starvation = starve(&rt, &lock);
+    let guard = starvation.try_lock_fair().ok().expect(&rt, "open");
+    shows(&rt, &lock, HELD);
+    drop(guard);
+    enters_in_the_end(&rt, &lock, starve(&rt, &lock));
 }
 
 #[test]
 fn a_refusal_says_why(rt: HostRuntime) {
     let lock: FairMutex<u64> = FairMutex::new(42);
     let guard = lock.lock(&rt);
-    let held = seen(&lock);
-    let starvation = lock.starve(&rt).expect(&rt, "below the cap");
-    let both = seen(&lock);
+    shows(&rt, &lock, HELD);
+    let starvation = starve(&rt, &lock);
+    shows(&rt, &lock, HELD_AND_STARVED);
     drop(guard);
-    let starved = seen(&lock);
+    shows(&rt, &lock, STARVED);
     drop(starvation);
-    assert_eq!(rt; (held, both), (HELD, HELD_AND_STARVED));
-    assert_eq!(rt; (starved, seen(&lock)), (STARVED, OPEN));
-}
-
-// A starver that was refused beside another, and then beside a guard of the other's; what is seen at first, after the
-// first refusal, while the other has entered, and after the further refusals.
-fn be_refused<'a>(
-    rt: &impl Abort,
-    lock: &'a FairMutex<u64, Loop>,
-    first: Starvation<'a, u64, Loop>,
-    second: Starvation<'a, u64, Loop>,
-) -> ([Seen; 4], Starvation<'a, u64, Loop>) {
-    let before = seen(lock);
-    let first = first.try_lock_fair().err().expect(rt, "two starve");
-    let refused = seen(lock);
-    let guard = second.try_lock().ok().expect(rt, "open");
-    let entered = seen(lock);
-    let first = first.try_lock().err().expect(rt, "held");
-    let first = first.try_lock_fair().err().expect(rt, "held");
-    let refused_again = seen(lock);
-    drop(guard);
-    ([before, refused, entered, refused_again], first)
+    shows(&rt, &lock, OPEN);
 }
 
 #[test]
 fn a_refused_starver_stays_registered(rt: HostRuntime) {
     let lock: FairMutex<u64, Loop> = FairMutex::new(42);
-    let first = lock.starve(&rt).expect(&rt, "below the cap");
-    let second = lock.starve(&rt).expect(&rt, "below the cap");
-    let (refused, first) = be_refused(&rt, &lock, first, second);
-    assert_eq!(rt;
-        refused,
-        [STARVED, STARVED, HELD_AND_STARVED, HELD_AND_STARVED]
-    );
-    assert_eq!(rt; enter_in_the_end(&rt, &lock, first), (HELD, OPEN));
+    let (first, second) = (starve(&rt, &lock), starve(&rt, &lock));
+    shows(&rt, &lock, STARVED);
+    let first = first.try_lock_fair().err().expect(&rt, "two starve");
+    shows(&rt, &lock, STARVED);
+    let guard = second.try_lock().ok().expect(&rt, "open");
+    shows(&rt, &lock, HELD_AND_STARVED);
+    let first = first.try_lock().err().expect(&rt, "held");
+    let first = first.try_lock_fair().err().expect(&rt, "held");
+    shows(&rt, &lock, HELD_AND_STARVED);
+    drop(guard);
+    enters_in_the_end(&rt, &lock, first);
 }
 
 #[test]
 fn a_forgotten_starver_keeps_newcomers_away(rt: HostRuntime) {
     let lock: FairMutex<u64> = FairMutex::new(42);
-    forget(lock.starve(&rt));
-    assert_eq!(rt; seen(&lock), STARVED);
-    assert!(rt; lock.try_lock().is_none());
-    let starvation = lock.starve(&rt).expect(&rt, "below the cap");
-    assert!(rt; starvation.try_lock().is_ok());
-    assert_eq!(rt; seen(&lock), STARVED);
-    assert_eq!(rt; lock.into_inner(), 42);
+    forget(starve(&rt, &lock));
+    shows(&rt, &lock, STARVED);
+    equal(&rt, lock.try_lock().is_none(), true);
+    equal(&rt, starve(&rt, &lock).try_lock().is_ok(), true);
+    shows(&rt, &lock, STARVED);
+    equal(&rt, lock.into_inner(), 42);
 }
 
 // Whether a newcomer came to be refused for a starver within the looks.
 fn comes_to_starve<R: Wait>(rt: &R, lock: &FairMutex<u64, Yield>) -> bool {
     for _ in 0..MOST_LOOKS {
-        if let Err(LockRejectReason::Starved) = lock.try_lock_starver() {
+        if refusal(lock) == Some(LockRejectReason::Starved) {
             return true;
         }
         Yield::relax(rt);
@@ -177,9 +143,9 @@ fn a_waiting_lock_comes_to_starve(rt: HostRuntime) {
         starved
     };
     let (_, starved) = thread::join(host, waits, release);
-    assert!(rt; starved);
-    assert_eq!(rt; seen(&lock), OPEN);
-    assert_eq!(rt; lock.into_inner(), 2);
+    equal(&rt, starved, true);
+    shows(&rt, &lock, OPEN);
+    equal(&rt, lock.into_inner(), 2);
 }
 
 /// A strategy that takes its time.
@@ -212,27 +178,25 @@ fn a_waiting_lock_is_patient(rt: HostRuntime) {
         patient
     };
     let ((), patient) = thread::join(host, waits, release);
-    assert!(rt; patient);
+    equal(&rt, patient, true);
 }
 
 const STARVES: u32 = 100_000;
 
-// Whether each `starve` is granted, though others change the word.
-fn starve_often<R: Wait>(rt: &R, lock: &FairMutex<u64>) -> bool {
-    let mut granted = true;
+// Each `starve` is granted, though others change the word.
+fn starve_often<R: Abort + Wait>(rt: &R, lock: &FairMutex<u64>) {
     for _ in 0..STARVES {
-        granted = granted && lock.starve(rt).is_some();
+        drop(starve(rt, lock));
     }
-    granted
 }
 
 #[test]
 fn a_starver_that_lost_a_race_tries_again(rt: HostRuntime) {
     let lock: FairMutex<u64> = FairMutex::new(1);
-    let (first, second) = thread::join(
+    thread::join(
         &rt,
         || starve_often(&rt, &lock),
         || starve_often(&rt, &lock),
     );
-    assert_eq!(rt; (first, second), (true, true));
+    shows(&rt, &lock, OPEN);
 }
