@@ -1,4 +1,5 @@
 //! Threads take turns, a look leaves the lock to them, and a guard may end in another thread than the one that took it.
+use crate::equal::equal;
 use crate::lock::read;
 use spin_core::relax::{RelaxStrategy, Yield};
 use spin_mutex::mutex::{FairMutex, Mutex, SpinMutex, TicketMutex};
@@ -67,7 +68,7 @@ fn two_threads_lose_no_addition(rt: HostRuntime) {
         || add_often(host, sum, 100),
         || add_often(host, sum, 100),
     );
-    assert_eq!(rt; lock.into_inner(), 200);
+    equal(&rt, lock.into_inner(), 200);
 }
 
 fn add_in_three<S: Sum + Sync, R: Threads + Wait + Sync>(rt: &R, sum: &S) {
@@ -97,7 +98,7 @@ fn six_threads_lose_no_addition(rt: HostRuntime) {
         sum_of_six!(&rt, FairMutex),
         sum_of_six!(&rt, Mutex),
     ];
-    assert_eq!(rt; sums, [6000; 4]);
+    equal(&rt, sums, [6000; 4]);
 }
 
 fn write_elsewhere<G: DerefMut<Target = u64> + Drop + Send>(rt: &impl Threads, mut guard: G) {
@@ -123,7 +124,7 @@ fn a_guard_may_end_in_another_thread(rt: HostRuntime) {
         written_elsewhere!(&rt, FairMutex),
         written_elsewhere!(&rt, Mutex),
     ];
-    assert_eq!(rt; seen, [Some(3); 4]);
+    equal(&rt, seen, [Some(3); 4]);
 }
 
 const LOOKS: u32 = 1_000_000;
@@ -154,5 +155,5 @@ fn a_look_takes_no_lock(rt: HostRuntime) {
         granted_beside_looks!(&rt, SpinMutex),
         granted_beside_looks!(&rt, FairMutex),
     ];
-    assert_eq!(rt; granted, [true; 2]);
+    equal(&rt, granted, [true; 2]);
 }

@@ -1,5 +1,6 @@
 //! What no contract says of tickets: that parties enter in their order, which calls take one, and what is left once they
 //! are used up; and that a `Mutex` is over them.
+use crate::equal::equal;
 use spin_core::relax::{RelaxStrategy, Yield};
 use spin_mutex::mutex::{Mutex, TicketMutex, TicketMutexGuard};
 use spin_mutex::testing::{next as next_of_mutex, starting_at as mutex_starting_at};
@@ -7,7 +8,6 @@ use spin_ticket::testing::{next, starting_at};
 use std::sync::Wait;
 use std::sync::atomic::AtomicBool;
 use std::sync::atomic::Ordering::SeqCst;
-use std::test::Fail;
 use std::thread;
 use std::thread::Threads;
 
@@ -17,51 +17,50 @@ const MOST_LOOKS: u32 = 10_000_000;
 fn used_up_tickets_are_refused(rt: HostRuntime) {
     let lock: TicketMutex<u64> = starting_at(42, u64::MAX - 1);
     let guard = lock.try_lock().expect(&rt, "one ticket is left");
-    assert_eq!(rt; *guard, 42);
+    equal(&rt, *guard, 42);
     drop(guard);
-    assert!(rt; lock.try_lock().is_none());
-    assert!(rt; !lock.is_locked());
-    assert_eq!(rt; lock.into_inner(), 42);
+    equal(&rt, lock.try_lock().is_none(), true);
+    equal(&rt, lock.is_locked(), false);
+    equal(&rt, lock.into_inner(), 42);
 }
 
 #[test]
-fn a_mutex_of_used_up_tickets_refuses(rt: HostRuntime) -> Result<(), Fail> {
+fn a_mutex_of_used_up_tickets_refuses(rt: HostRuntime) {
     let mut mutex: Mutex<u64> = mutex_starting_at(42, u64::MAX - 1);
     *mutex.get_mut() = 42;
-    assert!(rt; !mutex.is_locked());
+    equal(&rt, mutex.is_locked(), false);
     let guard = mutex.try_lock().expect(&rt, "one ticket is left");
-    assert_eq!(rt; *guard, 42);
+    equal(&rt, *guard, 42);
     drop(guard);
-    assert!(rt; mutex.try_lock().is_none());
-    assert!(rt; !mutex.is_locked());
-    let text = format!(in rt.alloc(); "{mutex:?}")?;
-    assert_eq!(rt; text.as_str(), "Mutex { <locked> }");
-    assert_eq!(rt; mutex.into_inner(), 42);
-    Ok(())
+    equal(&rt, mutex.try_lock().is_none(), true);
+    equal(&rt, mutex.is_locked(), false);
+    let text = format!(in rt.alloc(); "{mutex:?}").expect(&rt, "memory");
+    equal(&rt, text.as_str(), "Mutex { <locked> }");
+    equal(&rt, mutex.into_inner(), 42);
 }
 
 #[test]
 fn the_last_ticket_locks(rt: HostRuntime) {
     let lock: TicketMutex<u64> = starting_at(42, u64::MAX - 1);
     let guard = lock.lock(&rt);
-    assert_eq!(rt; next(&lock), u64::MAX);
-    assert!(rt; lock.is_locked());
+    equal(&rt, next(&lock), u64::MAX);
+    equal(&rt, lock.is_locked(), true);
     TicketMutex::force_unlock(TicketMutexGuard::hold(guard));
-    assert!(rt; !lock.is_locked());
-    assert!(rt; lock.try_lock().is_none());
-    assert_eq!(rt; next(&lock), u64::MAX);
+    equal(&rt, lock.is_locked(), false);
+    equal(&rt, lock.try_lock().is_none(), true);
+    equal(&rt, next(&lock), u64::MAX);
 }
 
 #[test]
 fn looks_and_the_owner_take_no_ticket(rt: HostRuntime) {
     let mut lock: TicketMutex<u64> = starting_at(42, u64::MAX - 1);
-    assert!(rt; !lock.is_locked());
+    equal(&rt, lock.is_locked(), false);
     *lock.get_mut() = 43;
-    assert!(rt; !lock.is_locked());
-    assert_eq!(rt; next(&lock), u64::MAX - 1);
+    equal(&rt, lock.is_locked(), false);
+    equal(&rt, next(&lock), u64::MAX - 1);
     let guard = lock.try_lock().expect(&rt, "one ticket is left");
-    assert!(rt; lock.is_locked());
-    assert_eq!(rt; *guard, 43);
+    equal(&rt, lock.is_locked(), true);
+    equal(&rt, *guard, 43);
 }
 
 /// A lock whose parties queue.
@@ -134,11 +133,11 @@ fn enter_in_three<Q: Text + Sync, R: Threads + Wait + Sync>(rt: &R, queue: &Q) -
 #[test]
 fn waiters_enter_in_the_order_in_which_they_came(rt: HostRuntime) {
     let lock: TicketMutex<u64, Yield> = TicketMutex::new(0);
-    assert!(rt; enter_in_three(&rt, &lock));
-    assert_eq!(rt; lock.into_inner(), 123);
+    equal(&rt, enter_in_three(&rt, &lock), true);
+    equal(&rt, lock.into_inner(), 123);
     let mutex: Mutex<u64, Yield> = Mutex::new(0);
-    assert!(rt; enter_in_three(&rt, &mutex));
-    assert_eq!(rt; mutex.into_inner(), 123);
+    equal(&rt, enter_in_three(&rt, &mutex), true);
+    equal(&rt, mutex.into_inner(), 123);
 }
 
 const TURNS: u64 = 8_000;
@@ -197,5 +196,5 @@ fn a_look_never_finds_a_lock_free_that_is_handed_on(rt: HostRuntime) {
         thread::join(&rt, || relay.run(&rt), || relay.run(&rt));
     };
     let ((), locked) = thread::join(&rt, run_both, || relay.look());
-    assert!(rt; locked);
+    equal(&rt, locked, true);
 }

@@ -3,6 +3,7 @@ ghost use Rattle.std.specs.Prelude.{◌≡◌};
 ghost use Rattle.spin_guard.specs.Guard.{guard_value};
 ghost use Rattle.spin_mutex.specs.MutexGuard.{value_of};
 
+use crate::equal::equal;
 use spin_mutex::mutex::{
     Mutex, MutexGuard, SpinMutex, SpinMutexGuard, TicketMutex, TicketMutexGuard,
 };
@@ -53,5 +54,5 @@ fn a_lock_has_what_was_written(rt: HostRuntime) {
         written!(&rt, TicketMutex, swap_in_turn),
         written!(&rt, Mutex, swap_into),
     ];
-    assert_eq!(rt; seen, [(1, 3, 3); 3]);
+    equal(&rt, seen, [(1, 3, 3); 3]);
 }
