@@ -144,7 +144,7 @@ pub(super) fn look<T, S: Seed<T>>(cell: &SeedCell<T, S>) -> Progress<'_, T>
 {
     let (found, permit) = cell.enter().load::<Looks>();
     if found == COMPLETE as u64 {
-        return Progress::Value(known(lying(permit)));
+        return Progress::Value(seen(permit));
     }
     permit.leave();
     if found == NOTHING as u64 {
@@ -154,16 +154,13 @@ pub(super) fn look<T, S: Seed<T>>(cell: &SeedCell<T, S>) -> Progress<'_, T>
     }
 }
 
-/// The value, for good, of a party that sees it. The compiler tests that it lies there.
+/// The value, for good, of a party that sees it.
 pub(super) fn seen<'a, T, S: Seed<T>>(party: Party<'a, T, S>) -> &'a T
     requires { party.view ≡ Some Seeing }
     ensures value { party.entry.value ≡ Some (loose (Done result.now)) }
     ensures made { S.makes party.entry.key.value result.now }
 {
-    match lying(party) {
-        Some(value) => value,
-        None => unreachable!(),
-    }
+    known(lying(party))
 }
 
 // What lies there for a party that sees it.
