@@ -6,7 +6,7 @@ ghost use Rattle.spin_fair.specs.declared.fair.rule.View.TheVariants.{Holding};
 
 use self::rule::{Attempt, Look, Register};
 use spin_core::cell::Cell;
-use spin_core::relax::{RelaxStrategy, Spin, Strategy};
+use spin_core::relax::{MOST_HINTS, RelaxStrategy, Spin, Strategy};
 use spin_guard::guard::{self, Guard};
 use spin_step::fair;
 use std::sync::Wait;
@@ -23,9 +23,6 @@ pub use spin_step::fair::LockRejectReason;
 
 /// After more looks than this that found the lock held, `lock` starves.
 pub const STARVATION_SPINS: usize = 1024;
-
-// Always as long, so that so many looks are so much time.
-const LOOK_PAUSE: u32 = 32;
 
 /// A lock that gives one party at a time access to a value, and spins while it waits. While a party is registered as a
 /// starver, no other gets the lock unless it starves as well.
@@ -75,12 +72,12 @@ impl<T, R: RelaxStrategy> FairMutex<T, R> {
     {
         match self.try_lock() {
             Some(guard) => guard,
-            None => R::retry_after(rt, 0, |_| LOOK_PAUSE, |spins| self.look_and_try(rt, spins)),
+            None => R::retry_after(rt, 0, |_| MOST_HINTS, |spins| self.look_and_try(rt, spins)),
         }
     }
 
     // Looks first, so that waiters read a shared line and do not write it. `spins` counts the looks that found the lock
-    // held: once they are too many it starves.
+    // held: once they are too many it starves. All pauses are as long, so that so many looks are so much time.
     fn look_and_try<'a, W: Wait>(
         &'a self,
         rt: &W,
