@@ -1,13 +1,13 @@
 -- The steps of a table as operations: what its shapes show of themselves.
 use Rattle.std.proofs.Common.{◌≡◌, ℕ, zero, suc, Bool, true, false, not, ◌&&◌, ◌||◌, ◌==◌, ◌%◌, ◌+◌, Option, Some, None, is_some, slice_set, unwrap_or, if◌then◌else◌, refl, ap, sym, ◌∙◌, subst}
 use Rattle.std.proofs.lemmas.Bool.{eqb-true, and_parts, false≢true, true≢false}
-use Rattle.spin_step.specs.Plain.{Plain, to_upgrade_asked, Change, is_open}
+use Rattle.spin_step.specs.Plain.{Plain, Change, is_open}
 use Rattle.spin_world_core.specs.declared.place.Hold.{Hold}
 use Rattle.spin_world_core.specs.declared.answer.Answer.{Answer}
 use Rattle.spin_world_core.specs.declared.object.Next.{Next}
 use Rattle.spin_world_core.specs.declared.object.Next.TheVariants.{GoesOn}
 use Rattle.spin_world_core.specs.Manners.{Manner, is_again, is_look}
-use Rattle.spin_world_core.specs.Calls.{Coding, barrier, is_step_of, Asked, waits, waits_or_starves, looks, may_be_weak, is_got_weakly}
+use Rattle.spin_world_core.specs.Calls.{Coding, barrier, is_step_of, Asked, looks, may_be_weak, is_exchanged, is_got_weakly}
 use Rattle.spin_world_core.specs.Begins.{fits}
 use Rattle.spin_world_core.specs.Operations.{Operation, exchanges, sets_lowest_bit, performed, Performs, IsOneOperation, RefusesAsLost, Stepwise}
 use Rattle.spin_world_core.specs.Acts.{Memory, one_number, number_at, Act, load_if, enter, exchange, weak_exchange, attempt, retry, store, section, swap, tried, guessed, becomes, passing, retried, place_of, step_at, made_if, change_at, refusal_by, makes_by, operation_by, is_section, step_by, manner_by, Table, machine_of, completes_by, brought, filled, machine_with}
@@ -179,14 +179,9 @@ counted_filled change s value (GoesOn l) None r counts = counts
 counted_filled change s value _ _ r counts = tt
 
 -- a call that is never weak gets nothing so
-never_got : (what : Asked) (d : Change) → may_be_weak what ≡ false → is_got_weakly what d ≡ false
-never_got (waits_or_starves n) d strong = absurd (false≢true (sym strong))
-never_got (waits to_upgrade_asked) d strong = absurd (false≢true (sym strong))
-never_got _ d strong = strong
-
 strong_step : (coding : Coding) (what : Asked) (weakly : Bool) (o : Option Change) → may_be_weak what ≡ false → fits_step coding looks weakly o ≡ fits_step coding what weakly o
 strong_step coding what weakly None strong = refl
-strong_step coding what weakly (Some d) strong = ap (λ got. is_step_of coding d && (weakly || not got)) (sym (never_got what d strong))
+strong_step coding what weakly (Some d) strong = ap (λ may. is_step_of coding d && (weakly || not (may && is_exchanged what d))) (sym strong)
 
 -- so its steps fit if those of a look do
 pub fits_strong : {W L A : Type 0} (coding : Coding) (what : Asked) (act : Act W L A) (p : ℕ) → may_be_weak what ≡ false → fits_act coding looks act p ≡ true → fits_act coding what act p ≡ true
@@ -262,7 +257,7 @@ module _ {W V C L : Type 0} (t : Table W V C L (Answer (Unit {0}))) (brings : C 
       record {
         begins = is.begins;
         refuses = λ c l h next is. absurd (cc (is));
-        weak = λ p c l h w d is got. absurd (false≢true (sym (never_got (t.asks c h) d (strong c h)) ∙ got));
+        weak = λ p c l h w d is got. absurd (false≢true (sym (strong c h) ∙ (and_parts (may_be_weak (t.asks c h)) (is_exchanged (t.asks c h) d) got).0));
         operates = λ c l h. operation_with t.coding c l h (is.operates c l h);
         looks = is.looks;
       }

@@ -259,13 +259,16 @@ abbrev pub before_weakly : Asked → ℕ → List Change
 before_weakly (waits to_upgrade_asked) p = turns p upgradable asking ∷ []
 before_weakly _ p = []
 
--- whether such a call gets this by its weak exchange: who has registered as a starver makes none any more
+-- what such a call gets by its weak exchange: who has registered as a starver makes none any more
+abbrev pub is_exchanged : Asked → Change → Bool
+is_exchanged (waits_or_starves n) (gets p to_lock_unregistered) = true
+is_exchanged (waits_or_starves n) c = false
+is_exchanged (waits to_upgrade_asked) (gets p to_upgrade_asked) = true
+is_exchanged (waits to_upgrade_asked) c = false
+is_exchanged what c = true
+
 abbrev pub is_got_weakly : Asked → Change → Bool
-is_got_weakly (waits_or_starves n) (gets p to_lock_unregistered) = true
-is_got_weakly (waits_or_starves n) c = false
-is_got_weakly (waits to_upgrade_asked) (gets p to_upgrade_asked) = true
-is_got_weakly (waits to_upgrade_asked) c = false
-is_got_weakly what c = may_be_weak what
+is_got_weakly what c = may_be_weak what && is_exchanged what c
 
 -- the word that the exchanges are on which a call makes again
 abbrev pub first_word : Coding → Plain → ℕ
