@@ -9,7 +9,7 @@ use Rattle.spin_step.specs.Plain.{Plain, Kind, reading, upgradable, asking, writ
 use Rattle.spin_step.specs.Parties.{IsExclusive}
 use Rattle.spin_step.specs.Readers.{reader_limit, OneOfEach, readers_in, writers_in, tells, lets_in, has_room}
 use Rattle.spin_step.proofs.Holders.{is_empty-none, is_empty-some}
-use Rattle.spin_step.proofs.Sums.{upgrader, against, sum_kinds, one_of, by_kinds, all_kinds, sum-less}
+use Rattle.spin_step.proofs.Sums.{upgrader, against, sum_kinds, over_kinds, one_of, by_kinds, all_kinds, sum-less}
 
 abbrev pub word_of : List Holder → ℕ
 word_of hs = sum_kinds weight hs
@@ -19,8 +19,8 @@ one_of_each s alone = (alone.one_upgradable, dite (dec_lt 0 (count_kind writing 
 
 -- what a lock's word says of each kind of its holders
 record Counts (s : Plain) (w : ℕ) : Type 0 where
-  all : length s.holders ≡ ((count_kind reading s.holders + count_kind upgradable s.holders) + count_kind asking s.holders) + count_kind writing s.holders
-  word : w ≡ ((8 * count_kind reading s.holders + 2 * count_kind upgradable s.holders) + 6 * count_kind asking s.holders) + count_kind writing s.holders
+  all : length s.holders ≡ over_kinds (λ k. count_kind k s.holders)
+  word : w ≡ over_kinds (λ k. weight k * count_kind k s.holders)
   upgraders : count_kind upgradable s.holders + count_kind asking s.holders ≤ 1
   writers : count_kind writing s.holders ≤ 1
 
@@ -52,8 +52,8 @@ read-word s word cap one room is =
 pub upgradable_read-word : (s : Plain) (word cap : ℕ) → OneOfEach s → s.cap ≡ min cap reader_limit → rw_word s ≡ word → may_come upgradable s ≡ has_room upgradable word cap
 upgradable_read-word s word cap one room is =
     let c = counts s word one is in let others = by_kinds (against upgradable) s.holders in
-    come-word upgradable s word cap (λ none. (eq-eqb (word % 8) 0 (omega (arith, c.word, others, none)), omega (arith, c.all, c.word, others, none)))
-    (λ some. ne_eqb (word % 8) 0 (λ e. some (omega (arith, c.word, c.upgraders, c.writers, others, e)))) room
+    come-word upgradable s word cap (λ none. (eq-eqb (word % weight reading) 0 (omega (arith, c.word, others, none)), omega (arith, c.all, c.word, others, none)))
+    (λ some. ne_eqb (word % weight reading) 0 (λ e. some (omega (arith, c.word, c.upgraders, c.writers, others, e)))) room
 
 -- the word is zero exactly when nobody holds
 pub empty-word : (hs : List Holder) (word : ℕ) → word_of hs ≡ word → is_empty hs ≡ (word == 0)
@@ -102,14 +102,14 @@ only_asking-word s p word one found is =
 
 -- What a holder finds
 
-pub reader-word : (s : Plain) (p : ℕ) → is_holder p reading s.holders ≡ true → 8 ≤ rw_word s
+pub reader-word : (s : Plain) (p : ℕ) → is_holder p reading s.holders ≡ true → weight reading ≤ rw_word s
 reader-word s p found = omega (arith, sum-less weight p reading s.holders found)
 
 -- nobody writes beside one that may upgrade
 no_writer : (s : Plain) → IsExclusive s → 1 ≤ count_kind upgradable s.holders + count_kind asking s.holders → count_kind writing s.holders ≡ 0
 no_writer s alone some = dite (dec_lt 0 (count_kind writing s.holders)) (λ writes. absurd (omega (arith, alone.writer writes, all_kinds s.holders, some, writes))) (λ none. omega (arith, none))
 
-pub upgradable-word : (s : Plain) (p : ℕ) → IsExclusive s → length s.holders ≤ reader_limit → is_holder p upgradable s.holders ≡ true → (rw_word s % 8 ≡ 2) × (rw_word s / 8 < reader_limit)
+pub upgradable-word : (s : Plain) (p : ℕ) → IsExclusive s → length s.holders ≤ reader_limit → is_holder p upgradable s.holders ≡ true → (rw_word s % weight reading ≡ weight upgradable) × (rw_word s / weight reading < reader_limit)
 upgradable-word s p alone few found =
     let some = sum-less (one_of upgradable) p upgradable s.holders found in let c = counts s (rw_word s) (one_of_each s alone) refl in let none = no_writer s alone (omega (arith, some)) in
     (omega (arith, some, none, c.upgraders, c.word), omega (arith, some, none, c.upgraders, c.word, c.all, few))

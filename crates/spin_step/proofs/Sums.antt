@@ -21,23 +21,26 @@ upgrader k = cond (may_upgrade k) 1 0
 abbrev pub against : Kind → Kind → ℕ
 against k j = cond (not (admits j k)) 1 0
 
-one_more : (f : Kind → ℕ) (k : Kind) (r u a w : ℕ) → f k + (((f reading * r + f upgradable * u) + f asking * a) + f writing * w) ≡ ((f reading * (one_of reading k + r) + f upgradable * (one_of upgradable k + u)) + f asking * (one_of asking k + a)) + f writing * (one_of writing k + w)
-one_more f reading r u a w = omega (arith, mul-suc (f reading) r)
-one_more f upgradable r u a w = omega (arith, mul-suc (f upgradable) u)
-one_more f asking r u a w = omega (arith, mul-suc (f asking) a)
-one_more f writing r u a w = omega (arith, mul-suc (f writing) w)
+-- what each kind has, together
+abbrev pub over_kinds : (Kind → ℕ) → ℕ
+over_kinds f = ((f reading + f upgradable) + f asking) + f writing
+
+one_more : (f : Kind → ℕ) (k : Kind) (n : Kind → ℕ) → f k + over_kinds (λ j. f j * n j) ≡ over_kinds (λ j. f j * (one_of j k + n j))
+one_more f reading n = omega (arith, mul-suc (f reading) (n reading))
+one_more f upgradable n = omega (arith, mul-suc (f upgradable) (n upgradable))
+one_more f asking n = omega (arith, mul-suc (f asking) (n asking))
+one_more f writing n = omega (arith, mul-suc (f writing) (n writing))
 
 -- each holder is of one of the kinds
-pub by_kinds : (f : Kind → ℕ) (hs : List Holder) → sum_kinds f hs ≡ ((f reading * count_kind reading hs + f upgradable * count_kind upgradable hs) + f asking * count_kind asking hs) + f writing * count_kind writing hs
+pub by_kinds : (f : Kind → ℕ) (hs : List Holder) → sum_kinds f hs ≡ over_kinds (λ k. f k * count_kind k hs)
 by_kinds f [] = omega arith
 by_kinds f (h ∷ hs) =
-    let r : count_kind reading (h ∷ hs) ≡ one_of reading h.kind + count_kind reading hs = sum_by-cons (λ (h : Holder). one_of reading h.kind) h hs in
-    let u : count_kind upgradable (h ∷ hs) ≡ one_of upgradable h.kind + count_kind upgradable hs = sum_by-cons (λ (h : Holder). one_of upgradable h.kind) h hs in
-    let a : count_kind asking (h ∷ hs) ≡ one_of asking h.kind + count_kind asking hs = sum_by-cons (λ (h : Holder). one_of asking h.kind) h hs in
-    let w : count_kind writing (h ∷ hs) ≡ one_of writing h.kind + count_kind writing hs = sum_by-cons (λ (h : Holder). one_of writing h.kind) h hs in
-    rw (sum_by-cons (λ (h : Holder). f h.kind) h hs, r, u, a, w, by_kinds f hs) (one_more f h.kind (count_kind reading hs) (count_kind upgradable hs) (count_kind asking hs) (count_kind writing hs))
+    rw (sum_by-cons (λ (h : Holder). f h.kind) h hs, more reading, more upgradable, more asking, more writing, by_kinds f hs) (one_more f h.kind (λ k. count_kind k hs))
+  where
+    more : (k : Kind) → count_kind k (h ∷ hs) ≡ one_of k h.kind + count_kind k hs
+    more k = sum_by-cons (λ (h : Holder). one_of k h.kind) h hs
 
-pub all_kinds : (hs : List Holder) → length hs ≡ ((count_kind reading hs + count_kind upgradable hs) + count_kind asking hs) + count_kind writing hs
+pub all_kinds : (hs : List Holder) → length hs ≡ over_kinds (λ k. count_kind k hs)
 all_kinds hs = omega (arith, by_kinds (λ k. 1) hs, ones hs)
   where
     ones : (hs : List Holder) → length hs ≡ sum_kinds (λ k. 1) hs

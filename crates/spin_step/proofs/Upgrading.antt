@@ -1,24 +1,28 @@
 -- While a reader asks to upgrade the readers only go, and it is alone once all have gone.
-use Rattle.std.proofs.Common.{◌≡◌, ℕ, ◌+◌, ◌↔◌, inl, inr, Bool, true, false, cond, not, List, [], ◌∷◌, Some, length, refl, ap, ◌∙◌, arith, eq-eqb}
+use Rattle.std.proofs.Common.{◌≡◌, ℕ, ◌+◌, ◌↔◌, inl, inr, Bool, true, false, cond, List, [], ◌∷◌, Some, length, refl, ap, ◌∙◌, arith, eq-eqb}
 use Rattle.std.proofs.lemmas.List.Sums.{sum_by-cons}
 use Rattle.std.proofs.lemmas.Bool.{and_parts, false≢true}
-use Rattle.spin_step.specs.Plain.{Plain, Kind, reading, upgradable, asking, writing, admits, Effect, comes, becomes, effect, given, Change, gets, releases, turns, to_write, to_upgrade_asked, apply, is_open, is_open_to, is_holder, is_only, may_turn, count_kind, with_kind}
+use Rattle.spin_step.specs.Plain.{Plain, Kind, reading, upgradable, asking, writing, same_kind, Effect, comes, becomes, effect, given, Change, gets, releases, turns, to_write, to_upgrade_asked, apply, is_open, is_open_to, is_holder, is_only, may_turn, count_kind, with_kind}
 use Rattle.spin_step.specs.Parties.{who, IsExclusive}
 use Rattle.spin_step.specs.Steps.{bit}
 use Rattle.spin_step.specs.Readers.{reader_goes}
 use Rattle.spin_step.specs.Upgrading.{StaysAsking, apply_all, reader_releases}
 use Rattle.spin_step.proofs.Exclusive.{Lets, lets, empty_is, room_to_come, exclusive-kept}
 use Rattle.spin_step.proofs.Holders.{length-without_holder, is_empty-some}
-use Rattle.spin_step.proofs.Sums.{one_of, by_kinds, all_kinds, sum-less, length-with_kind}
+use Rattle.spin_step.proofs.Sums.{against, one_of, by_kinds, all_kinds, sum-less, length-with_kind}
 use Rattle.spin_step.proofs.Readers.{beside_asking, only_holds, only-length}
+
+abbrev one_if : Bool → ℕ
+one_if b = cond b 1 0
+
+one_bit : (b : Bool) → one_if b ≡ bit b
+one_bit true = refl
+one_bit false = refl
 
 -- nobody else may come where it stands
 nobody_comes : (s : Plain) (p q : ℕ) (k : Kind) → IsExclusive s → is_holder p asking s.holders ≡ true → Lets s q (comes k) → ⊥
 nobody_comes s p q k alone found (inl none) = omega (arith, (beside_asking s p alone found).0, all_kinds s.holders, ap length (empty_is s.holders none))
-nobody_comes s p q reading alone found (inr may) = omega (arith, (beside_asking s p alone found).0, by_kinds (λ j. cond (not (admits j reading)) 1 0) s.holders, (room_to_come reading s may).0)
-nobody_comes s p q upgradable alone found (inr may) = omega (arith, (beside_asking s p alone found).0, by_kinds (λ j. cond (not (admits j upgradable)) 1 0) s.holders, (room_to_come upgradable s may).0)
-nobody_comes s p q asking alone found (inr may) = omega (arith, (beside_asking s p alone found).0, by_kinds (λ j. cond (not (admits j asking)) 1 0) s.holders, (room_to_come asking s may).0)
-nobody_comes s p q writing alone found (inr may) = omega (arith, (beside_asking s p alone found).0, by_kinds (λ j. cond (not (admits j writing)) 1 0) s.holders, (room_to_come writing s may).0)
+nobody_comes s p q k alone found (inr may) = omega (arith, (beside_asking s p alone found).0, by_kinds (against k) s.holders, (room_to_come k s may).0)
 
 -- who gets something leaves the readers as they are, or upgrades
 readers_stay : (s : Plain) (p q : ℕ) (e : Effect) → IsExclusive s → is_holder p asking s.holders ≡ true → Lets s q e → is_holder p asking (given s q e).holders ≡ true → count_kind reading (given s q e).holders ≡ count_kind reading s.holders
@@ -33,10 +37,7 @@ readers_stay s p q _ alone found let_in stays = omega arith
 pub readers_only_go : (s : Plain) (p : ℕ) (c : Change) → IsExclusive s → is_holder p asking s.holders ≡ true → is_open s c ≡ true → is_holder p asking (apply s c).holders ≡ true
     → count_kind reading (apply s c).holders + bit (reader_goes c) ≡ count_kind reading s.holders
 readers_only_go s p (gets q ask) alone found may stays = omega (arith, readers_stay s p q (effect ask) alone found (lets s q ask may) stays)
-readers_only_go s p (releases q reading) alone found may stays = omega (arith, sum-less (one_of reading) q reading s.holders may)
-readers_only_go s p (releases q upgradable) alone found may stays = omega (arith, sum-less (one_of reading) q upgradable s.holders may)
-readers_only_go s p (releases q asking) alone found may stays = omega (arith, sum-less (one_of reading) q asking s.holders may)
-readers_only_go s p (releases q writing) alone found may stays = omega (arith, sum-less (one_of reading) q writing s.holders may)
+readers_only_go s p (releases q k) alone found may stays = omega (arith, sum-less (one_of reading) q k s.holders may, one_bit (same_kind reading k))
 readers_only_go s p (turns q writing k) alone found may stays =
     absurd (omega (arith, (beside_asking s p alone found).2, sum-less (one_of writing) q writing s.holders (and_parts (is_holder q writing s.holders) (may_turn writing k) may).0))
 readers_only_go s p (turns q upgradable k) alone found may stays =
@@ -58,13 +59,6 @@ pub downgrade_keeps_out : (s : Plain) (p q : ℕ) (k l : Kind) → is_open s (tu
 downgrade_keeps_out s p q k l may =
     let some = length-without_holder p k s.holders (and_parts (is_holder p k s.holders) (may_turn k l) may).0 in
     (is_empty-some s.holders (omega (arith, some)), is_empty-some (with_kind p k l s.holders) (omega (arith, some, length-with_kind p k l s.holders)))
-
-abbrev one_if : Bool → ℕ
-one_if b = cond b 1 0
-
-one_bit : (b : Bool) → one_if b ≡ bit b
-one_bit true = refl
-one_bit false = refl
 
 stands_at : (p : ℕ) (s : Plain) (cs : List Change) → StaysAsking p s cs → is_holder p asking s.holders ≡ true
 stands_at p s [] stays = stays

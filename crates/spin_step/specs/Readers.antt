@@ -1,6 +1,6 @@
 -- The read-write lock as its step functions see it.
-use Rattle.std.specs.Prelude.{ℕ, ◌≤◌, ◌+◌, ◌-◌, ◌/◌, ◌%◌, ◌==◌, ◌&&◌, ◌||◌, Bool, true, false, not, Option, Some, None, if◌then◌else◌, nat_lt, min}
-use Rattle.spin_step.specs.Plain.{Plain, Kind, reading, upgradable, asking, writing, Change, releases, weight, count_kind, upgraders}
+use Rattle.std.specs.Prelude.{ℕ, ◌≤◌, ◌+◌, ◌-◌, ◌/◌, ◌%◌, ◌==◌, ◌&&◌, ◌||◌, Bool, false, not, Option, Some, None, if◌then◌else◌, nat_lt, min}
+use Rattle.spin_step.specs.Plain.{Plain, Kind, reading, upgradable, asking, writing, same_kind, Change, releases, weight, count_kind, upgraders}
 
 -- the limit of holders, usize::MAX / 8 / 2
 abbrev pub reader_limit : ℕ
@@ -62,5 +62,5 @@ turned j k word = word + (weight k - weight j)
 
 -- the change is a reader that goes
 abbrev pub reader_goes : Change → Bool
-reader_goes (releases p reading) = true
+reader_goes (releases p k) = same_kind reading k
 reader_goes _ = false
