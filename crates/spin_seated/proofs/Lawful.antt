@@ -1,5 +1,5 @@
 -- What follows of a legal history.
-use Rattle.std.proofs.Common.{◌≡◌, ℕ, zero, suc, ◌≤◌, true, false, List, [], ◌∷◌, ◌++◌, map, length, Option, Some, None, slice_get, Bool, if◌then◌else◌, ◌==◌, refl, sym, ap, subst, ◌∙◌, arith}
+use Rattle.std.proofs.Common.{◌≡◌, ℕ, zero, suc, ◌≤◌, true, false, List, [], ◌∷◌, ◌++◌, map, length, Option, Some, None, slice_get, Bool, not, if◌then◌else◌, ◌==◌, refl, sym, ap, subst, ◌∙◌, arith}
 use Rattle.std.specs.Option.{unwrap_or, option_to_list}
 use Rattle.spin_step.specs.Plain.{Holder, is_empty}
 use Rattle.spin_seated.specs.declared.history.Entry.{Entry}
@@ -117,3 +117,11 @@ read_then p TryLock s = tt
 read_then p IsLocked s = tt
 read_then p (Write w) s = tt
 read_then p Unlock s = tt
+
+same_emptiness : (hs : List Holder) → is_empty hs ≡ is_empty (map (λ h. h.party) hs)
+same_emptiness [] = refl
+same_emptiness (h ∷ hs) = refl
+
+pub looked : (k : Opening) (before rest : History) (p : ℕ) (held : Bool) → IsLegal mutex k (before ++ entry p IsLocked (Truth held) ∷ rest) → held ≡ not (is_empty (holders k before))
+looked k before rest p held legal =
+    truth_is held (not (is_empty (state mutex k before).lock.holders)) (answered mutex k before rest p IsLocked (Truth held) legal).1 ∙ ap not (same_emptiness (state mutex k before).lock.holders)

@@ -6,10 +6,10 @@ use Rattle.spin_seated.specs.declared.lock.Opening.{Opening}
 use Rattle.spin_seated.specs.declared.lock.Answer.{Answer}
 use Rattle.spin_seated.specs.declared.lock.Answer.TheVariants.{Value}
 use Rattle.spin_seated.specs.declared.rwlock.Call.{Call}
-use Rattle.spin_seated.specs.declared.rwlock.Call.TheVariants.{Read}
+use Rattle.spin_seated.specs.declared.rwlock.Call.TheVariants.{Read, Write}
 use Rattle.spin_seated.specs.Histories.{state}
 use Rattle.spin_seated.specs.Locked.{value_after, all_written, all_read}
-use Rattle.spin_seated.specs.Rw.{rw, written}
+use Rattle.spin_seated.specs.Rw.{rw}
 
 abbrev pub History : Type 0
 History = List (Entry Call Answer)
@@ -17,6 +17,11 @@ History = List (Entry Call Answer)
 -- those who hold the lock after these calls
 abbrev pub holders : Opening → History → List Holder
 holders k log = (state rw k log).lock.holders
+
+-- the value that a call writes
+abbrev pub written : Call → Option ℕ
+written (Write w) = Some w
+written _ = None
 
 -- the value of the last write, or the one that stood there before
 abbrev pub last_written : ℕ → History → ℕ

@@ -1,9 +1,10 @@
 //! Laws of the histories that passes know. Each is the contract of a function that does nothing.
-ghost use Rattle.std.specs.Prelude.{◌≡◌, ℕ, ◌≤◌, true, false, List, [], ◌∷◌, ◌++◌, Some, length, slice_get};
+ghost use Rattle.std.specs.Prelude.{Bool, not, ◌≡◌, ℕ, ◌≤◌, true, false, List, [], ◌∷◌, ◌++◌, Some, length, slice_get};
+ghost use Rattle.spin_step.specs.Plain.{is_empty};
 ghost use Rattle.spin_seated.specs.declared.history.Entry.{Entry};
 ghost use Rattle.spin_seated.specs.declared.lock.Opening.{Opening};
 ghost use Rattle.spin_seated.specs.declared.mutex.Call.{Call};
-ghost use Rattle.spin_seated.specs.declared.mutex.Call.TheVariants.{TryLock, Read};
+ghost use Rattle.spin_seated.specs.declared.mutex.Call.TheVariants.{TryLock, IsLocked, Read};
 ghost use Rattle.spin_seated.specs.declared.lock.Answer.{Answer};
 ghost use Rattle.spin_seated.specs.declared.lock.Answer.TheVariants.{Truth, Value};
 ghost use Rattle.spin_seated.specs.Histories.{BeginsWith, entry, calls_by, IsLegal, Met};
@@ -48,4 +49,9 @@ pub fn calls_of_a_pass_keep_their_order()
 /// Two passes that met agree on every answer so far: what either had seen stands at the same place in what both know now.
 pub fn who_met_agree()
     ensures { (a b met_a met_b : Knows) → Met mutex a met_a.seen met_a → Met mutex b met_a.seen met_b → (met_b.seen ≡ met_a.seen) × ((n : ℕ) (e : Entry Call Answer) → slice_get a.seen n ≡ Some e → slice_get met_b.seen n ≡ Some e) × ((n : ℕ) (e : Entry Call Answer) → slice_get b.seen n ≡ Some e → slice_get met_a.seen n ≡ Some e) }
+{}
+
+/// A look tells whether a pass holds the lock.
+pub fn a_look_tells_whether_a_pass_holds()
+    ensures { (k : Opening) (before after : History) (p : ℕ) (held : Bool) → IsLegal mutex k (before ++ entry p IsLocked (Truth held) ∷ after) → held ≡ not (is_empty (holders k before)) }
 {}

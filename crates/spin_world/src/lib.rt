@@ -2,8 +2,8 @@
 #![tactic(auto)]
 
 pub use spin_world_barrier::{
-    BarrierCall, BarrierObject, BarrierPoint, BarrierWords, a_barrier_is_what_its_call_asks,
-    a_follower_leaves_a_full_group, every_last_of_a_group_leads,
+    BarrierCall, BarrierObject, BarrierPoint, BarrierWords, a_follower_leaves_a_full_group,
+    every_last_of_a_group_leads,
 };
 pub use spin_world_core::{
     Answer, Event, Hold, Move, Next, Object, Outcome, Place, Seat, Stepped, Transcript, World,
@@ -11,24 +11,20 @@ pub use spin_world_core::{
     two_runs_are_one,
 };
 pub use spin_world_fair::{
-    Fair, FairCall, FairPoint, a_fair_lock_is_what_its_calls_ask, a_starver_goes_for_a_clear_flag,
+    Fair, FairCall, FairPoint, a_starver_goes_for_a_clear_flag,
     a_starver_with_the_flag_is_granted_next, a_word_is_zero_when_nobody_holds_or_starves,
     starvers_come_first,
 };
-pub use spin_world_flag::{
-    Flag, FlagCall, FlagPoint, a_flag_is_clear_when_nobody_holds, a_flag_is_what_its_calls_ask,
-};
+pub use spin_world_flag::{Flag, FlagCall, FlagPoint, a_flag_is_clear_when_nobody_holds};
 pub use spin_world_once::{
     OnceCall, OnceObject, OncePoint, a_closure_begins_after_a_look, a_later_closure_may_run,
-    a_later_get_agrees, a_once_is_what_its_calls_ask, a_value_is_answered_at_once,
-    a_value_is_looked_at_where_it_is_complete, a_value_stays, one_closure_runs_at_a_time,
+    a_later_get_agrees, a_value_is_answered_at_once, a_value_is_looked_at_where_it_is_complete,
+    a_value_stays, one_closure_runs_at_a_time,
 };
 pub use spin_world_rw::{
-    Rw, RwCall, RwPoint, a_downgrade_keeps_writers_out, a_read_write_lock_is_what_its_calls_ask,
-    a_word_is_zero_when_nobody_holds, an_upgrade_opens_by_releases, looks_agree_across_conversions,
-    readers_stand_beside_no_writer,
+    Rw, RwCall, RwPoint, a_downgrade_keeps_writers_out, a_word_is_zero_when_nobody_holds,
+    an_upgrade_opens_by_releases, looks_agree_across_conversions, readers_stand_beside_no_writer,
 };
 pub use spin_world_ticket::{
-    Ticket, TicketCall, TicketPoint, TicketWords, a_ticket_lock_is_what_its_calls_ask,
-    tickets_enter_by_releases, tickets_stand_in_order,
+    Ticket, TicketCall, TicketPoint, TicketWords, tickets_enter_by_releases, tickets_stand_in_order,
 };

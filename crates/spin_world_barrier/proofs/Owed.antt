@@ -30,7 +30,7 @@ use Rattle.spin_world_core.proofs.Facts.{LocalInvariant, Facts}
 use Rattle.spin_world_core.proofs.Stands.{absent}
 use Rattle.spin_world_core.proofs.Rows.{goes, Point, nowhere, looked, onward, SoundAt}
 use Rattle.spin_world_core.proofs.Shapes.{Notes, keeping_of, OwesAt, goes_by, answers_by, OwesSoon, BeginsAt, Pays}
-use Rattle.spin_world_core.proofs.Usual.{two, no_holders, branches}
+use Rattle.spin_world_core.proofs.Usual.{aimless, two, no_holders, branches}
 use Rattle.spin_world_core.proofs.Operating.{fits_act, IsPlace, operates_by}
 use Rattle.spin_world_core.proofs.Paid.{facts_of}
 
@@ -184,6 +184,7 @@ module _ (n : ℕ) where
         numbers_tell = two_words;
         one_list = λ s of. no_holders s of.no_holders;
         sound = λ p c l h. sound p l h;
+        aims = λ p c l h. aimless p meets _ _ (λ made. refl);
         begins = begins;
         others = λ p q c l h s step r span ne of may belongs knows. others p q l s step r span ne belongs knows;
         owes = owes;

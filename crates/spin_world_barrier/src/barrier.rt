@@ -2,6 +2,7 @@
 ghost use Rattle.std.specs.Prelude.{◌≡◌, true};
 ghost use Rattle.spin_world_core.specs.Acts.{step_by, can_by};
 ghost use Rattle.spin_world_barrier.specs.Barrier.{barrier_memory, word_of, act_of, barrier_machine};
+ghost use Rattle.spin_world_barrier.specs.Named.{IsBarrierOf};
 
 use spin_step::barrier;
 use spin_step::barrier::State;
@@ -43,7 +44,8 @@ pub struct BarrierObject {
 impl BarrierObject {
     /// A barrier whose groups have `n` arrivals; 0 counts as 1.
     pub fn new(n: usize) -> BarrierObject
-        ensures { result ≡ record { n = n } }
+        ensures fields { result ≡ record { n = n } }
+        ensures named { IsBarrierOf n (⟦<BarrierObject as Object>⟧.machine result) }
     {
         BarrierObject { n }
     }

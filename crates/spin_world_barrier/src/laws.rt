@@ -2,15 +2,9 @@
 ghost use Rattle.std.specs.Prelude.{ℕ, List};
 ghost use Rattle.spin_world_barrier.specs.declared.barrier.BarrierObject.{BarrierObject};
 ghost use Rattle.spin_world_barrier.specs.Groups.{Entries, InGroups, FollowersLeave};
-ghost use Rattle.spin_world_barrier.specs.Named.{IsBarrierOf};
 
 use crate::barrier::BarrierObject;
 use spin_world_core::Object;
-
-/// What a [`BarrierObject`] is: how it opens, the size of its groups, and what its call asks.
-pub fn a_barrier_is_what_its_call_asks()
-    ensures { (object : BarrierObject) → IsBarrierOf object.n (⟦<BarrierObject as Object>⟧.machine object) }
-{}
 
 /// Exactly every `n`-th arrival leads, and is told so as it arrives; the words count the arrivals in groups of `n`.
 pub fn every_last_of_a_group_leads()

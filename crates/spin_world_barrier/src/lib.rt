@@ -6,6 +6,4 @@ mod laws;
 pub mod refused;
 
 pub use barrier::{BarrierCall, BarrierObject, BarrierPoint, BarrierWords};
-pub use laws::{
-    a_barrier_is_what_its_call_asks, a_follower_leaves_a_full_group, every_last_of_a_group_leads,
-};
+pub use laws::{a_follower_leaves_a_full_group, every_last_of_a_group_leads};

@@ -1,7 +1,7 @@
 -- Every event of every schedule keeps all that is promised, of any object that shows its local facts.
 use Rattle.std.proofs.Common.{◌≡◌, ℕ, Option, Some, None, List, [], ◌∷◌, suc, is_some, replicate, slice_get, refl, ap, ◌∙◌, arith}
 use Rattle.std.proofs.lemmas.Bool.{true≢false, false≢true}
-use Rattle.spin_step.specs.Plain.{Plain, Change, completes}
+use Rattle.spin_step.specs.Plain.{Plain, Ask, Change, completes}
 use Rattle.spin_step.specs.Parties.{entries, no_entries}
 use Rattle.spin_world_core.specs.declared.place.Hold.{Hold}
 use Rattle.spin_world_core.specs.declared.place.Seat.{Seat}
@@ -14,9 +14,11 @@ use Rattle.spin_world_core.specs.Manners.{Manner, by_step}
 use Rattle.spin_world_core.specs.Manners as manner
 use Rattle.spin_world_core.specs.Machines.{Machine, opening_plain}
 use Rattle.spin_world_core.specs.Schedules.{State, after, at_first, goes_on, placed, refuses, may_read, may_write, is_owners}
-use Rattle.spin_world_core.specs.Runs.{Seen, Scene, IsStep, StepLeaves, IsCounted, scene_of, scene_at, scene, if_completed, StandsFor, Every, Keeps, IsRight, IsInTime, opening, KeepsAll, MomentsAll, CountsAll, CanStep}
+use Rattle.spin_world_core.specs.Calls.{tries, Mark}
+use Rattle.spin_world_core.specs.Order.{Gets, GetsWhenDue, TriesOn}
+use Rattle.spin_world_core.specs.Runs.{own, Seen, Scene, IsStep, StepLeaves, IsCounted, scene_of, scene_at, scene, if_completed, StandsFor, Every, Keeps, IsRight, IsInTime, opening, KeepsAll, MomentsAll, CountsAll, CanStep}
 use Rattle.spin_world_core.specs.Users.{seen_after}
-use Rattle.spin_world_core.proofs.Facts.{LocalInvariant, KnowsAt, GoesOnCounted, Facts}
+use Rattle.spin_world_core.proofs.Facts.{LocalInvariant, KnowsAt, GoesOnOpen, GoesOnCounted, Facts}
 pub use Rattle.spin_world_core.proofs.Kept.{standing, in_call}
 use Rattle.spin_world_core.proofs.Undisturbed.{RunsOn}
 use Rattle.spin_world_core.proofs.Kept.{Invariant, Kept, passed_over, passed_kept, went_on, begun_kept, read_kept, write_kept, leak_kept}
@@ -37,6 +39,26 @@ counts : {W V C L A : Type 0} (m : Machine W V C L A) (s : State W V C L) (p : �
 counts m s p c l h plain (GoesOn l') None r counted = counted
 counts m s p c l h plain _ _ r counted = tt
 
+dues : {W V C L A : Type 0} (m : Machine W V C L A) (s : State W V C L) (p : ℕ) (c : C) (h : Option Hold) (plain : Plain) (span : List Mark) (next : Next L A) (step : Option Change) (r : Manner)
+    → Gets m.coding p (m.asks c h) span plain step r → GetsWhenDue {C = C} {V = V} m.coding p (goes_on s p c h next).outcome Step (Some (m.asks c h)) span plain step r
+dues m s p c h plain span (GoesOn l') step r due = due
+dues m s p c h plain span (Answers a rest) step r due = due
+
+tries_all : {W V C L A : Type 0} (m : Machine W V C L A) (s : State W V C L) (p : ℕ) (c : C) (h : Option Hold) (plain : Plain) (span : List Mark) (next : Next L A) (step : Option Change)
+    → ((ask : Ask) → m.asks c h ≡ tries ask → own p span ≡ [] → GoesOnOpen ask p span plain next step) → TriesOn {C = C} {V = V} p (goes_on s p c h next).outcome Step (Some (m.asks c h)) span plain step
+tries_all m s p c h plain span (GoesOn l') None may = may
+tries_all m s p c h plain span (GoesOn l') (Some d) may = tt
+tries_all m s p c h plain span (Answers a rest) step may = tt
+
+-- a weak refusal is neither due nor a try's
+weakly_due : {W V C L A : Type 0} (m : Machine W V C L A) (s : State W V C L) (p : ℕ) (c : C) (h : Option Hold) (plain : Plain) (span : List Mark) (next : Next L A) → GetsWhenDue {C = C} {V = V} m.coding p (goes_on s p c h next).outcome Weak (Some (m.asks c h)) span plain None manner.weak
+weakly_due m s p c h plain span (GoesOn l') = tt
+weakly_due m s p c h plain span (Answers a rest) = tt
+
+weakly_tried : {W V C L A : Type 0} (m : Machine W V C L A) (s : State W V C L) (p : ℕ) (c : C) (h : Option Hold) (plain : Plain) (span : List Mark) (next : Next L A) → TriesOn {C = C} {V = V} p (goes_on s p c h next).outcome Weak (Some (m.asks c h)) span plain None
+weakly_tried m s p c h plain span (GoesOn l') = tt
+weakly_tried m s p c h plain span (Answers a rest) = tt
+
 -- a weak refusal is no exchange that fails
 uncounted : {W V C L A : Type 0} (m : Machine W V C L A) (s : State W V C L) (p : ℕ) (c : C) (l : L) (h : Option Hold) (plain : Plain) (next : Next L A) → IsCounted m p (goes_on s p c h next).outcome Weak (Some (Calling c l h)) None manner.weak plain
 uncounted m s p c l h plain (GoesOn l') = tt
@@ -52,6 +74,8 @@ step_kept m k f seen p c l h good there =
     went_on m k f seen p Step c l h step (by_step (m.manner c l h)) st.placed st.words (placed st.placed seen.state.value) st.next good there is.opens is.belongs is.encodes is.shape (is.places ∙ ap (λ old. if_completed old st.placed step) good.written) is.next is.fails (λ strong j answers. answers seen.state.value) refl
     (is_step (record seen.state { words = st.words; value = placed st.placed seen.state.value }) p c h st.next, leaves seen.state.value (placed st.placed seen.state.value) st.placed step is.places) tt
     (counts m (record seen.state { words = st.words; value = placed st.placed seen.state.value }) p c l h seen.plain st.next step (by_step (m.manner c l h)) (f.counted p c l h seen.plain seen.state.value seen.state.words (seen.span p) here))
+    (dues m (record seen.state { words = st.words; value = placed st.placed seen.state.value }) p c h seen.plain (seen.span p) st.next step (by_step (m.manner c l h)) (f.due p c l h seen.plain seen.state.value seen.state.words (seen.span p) here))
+    (tries_all m (record seen.state { words = st.words; value = placed st.placed seen.state.value }) p c h seen.plain (seen.span p) st.next step (f.tries_on p c l h seen.plain seen.state.value seen.state.words (seen.span p) here))
 
 weak_kept : {W V C L A : Type 0} (m : Machine W V C L A) (k : LocalInvariant V C L) (f : Facts m k) (seen : Seen W V C L) (p : ℕ) (c : C) (l : L) (h : Option Hold) (o : Option (Next L A)) → Invariant m k seen → slice_get seen.state.seats p ≡ Some (Calling c l h)
     → m.refuse c l h ≡ o → Kept m k (scene_of seen p Weak (Some (Calling c l h)) (refuses seen.state p c h o) None manner.weak None)
@@ -60,6 +84,7 @@ weak_kept m k f seen p c l h (Some next) good there is =
     went_on m k f seen p Weak c l h None manner.weak None seen.state.words seen.state.value next good there tt tt good.encodes good.shape good.written
     (f.refuses p c l h seen.plain seen.state.value seen.state.words (seen.span p) next (in_call m k seen p c l h good there) is) (λ e. absurd (false≢true e)) (λ strong. absurd (true≢false strong)) (ap is_some is) (is_step seen.state p c h next, refl)
     (f.weakly p c l h seen.plain seen.state.value seen.state.words (seen.span p) next (in_call m k seen p c l h good there) is) (uncounted m seen.state p c l h seen.plain next)
+    (weakly_due m seen.state p c h seen.plain (seen.span p) next) (weakly_tried m seen.state p c h seen.plain (seen.span p) next)
 
 kept_at : {W V C L A : Type 0} (m : Machine W V C L A) (k : LocalInvariant V C L) (f : Facts m k) (seen : Seen W V C L) (p : ℕ) (move : Move C V) (o : Option (Seat C L)) → Invariant m k seen → slice_get seen.state.seats p ≡ o → Kept m k (scene_at m seen p move o)
 kept_at m k f seen p (Begin c) None good there = passed_kept m k f seen p (Begin c) None good refl tt

@@ -1,6 +1,6 @@
 -- What an object shows of itself: local facts, without a word of schedules.
 use Rattle.std.proofs.Common.{◌≡◌, ℕ, zero, suc, ◌<◌, ◌≤◌, true, false, ◌||◌, Option, Some, None, List, [], ◌∷◌}
-use Rattle.spin_step.specs.Plain.{Plain, Change, completes, is_open, is_empty}
+use Rattle.spin_step.specs.Plain.{Plain, Ask, Change, completes, is_open, is_empty}
 use Rattle.spin_step.specs.Parties.{apply_some, IsOpenStep, entries, is_held, IsExclusive}
 use Rattle.spin_world_core.specs.declared.place.Hold.{Hold}
 use Rattle.spin_world_core.specs.declared.place.Seat.{Seat}
@@ -13,7 +13,8 @@ use Rattle.spin_world_core.specs.declared.schedule.Move.TheVariants.{Step, Weak}
 use Rattle.spin_world_core.specs.declared.schedule.Outcome.TheVariants as outcome
 use Rattle.spin_world_core.specs.Manners.{Manner, is_again, by_step}
 use Rattle.spin_world_core.specs.Manners as manner
-use Rattle.spin_world_core.specs.Calls.{encoded, BelongsTo, Said, own_steps, Mark, AnyOf, limit, may_be_weak, before_weakly}
+use Rattle.spin_world_core.specs.Calls.{tries, encoded, BelongsTo, Said, own_steps, Mark, AnyOf, limit, may_be_weak, before_weakly}
+use Rattle.spin_world_core.specs.Order.{Gets, MayTryOn}
 use Rattle.spin_world_core.specs.Undisturbed.{is_open_now, steps_alone}
 use Rattle.spin_world_core.specs.Machines.{Machine, opening_plain}
 use Rattle.spin_world_core.specs.Operations.{Stepwise}
@@ -82,6 +83,11 @@ pub record ValueIs {W V C L A : Type 0} (m : Machine W V C L A) (c : C) (v : Opt
   pub brings : (q : ℕ) → step ≡ Some (completes q) → placed st.placed v ≡ m.brings c
   pub gives : NextGives m (placed st.placed v) st.next
 
+-- a try that goes on so makes its plain step, or does so where it may
+abbrev pub GoesOnOpen : {L A : Type 0} → Ask → ℕ → List Mark → Plain → Next L A → Option Change → Type 0
+GoesOnOpen ask p span s (GoesOn l) None = MayTryOn ask p span s
+GoesOnOpen ask p span s _ _ = Unit {0}
+
 -- a step by which the call goes on and makes no plain step, though it is open: it counts
 abbrev pub GoesOnCounted : {W L A : Type 0} → (W → Option Change) → Plain → Next L A → Option Change → Manner → Type 0
 GoesOnCounted {W} change s (GoesOn l) None manner = (w : W) (d : Change) → change w ≡ Some d → is_open s d ≡ true → is_again manner ≡ true
@@ -108,6 +114,12 @@ pub record Facts {W V C L A : Type 0} (m : Machine W V C L A) (k : LocalInvarian
       → StepIs m k p c h s v span (m.step w v c l h) (m.change p w c l h) (by_step (m.manner c l h))
   pub counted : (p : ℕ) (c : C) (l : L) (h : Option Hold) (s : Plain) (v : Option V) (w : W) (span : List Mark) → InCall m k p c l h s v w span
       → GoesOnCounted (λ u. m.change p u c l h) s (m.step w v c l h).next (m.change p w c l h) (by_step (m.manner c l h))
+  -- a call whose next step is due gets by it what it goes for, where that is open
+  pub due : (p : ℕ) (c : C) (l : L) (h : Option Hold) (s : Plain) (v : Option V) (w : W) (span : List Mark) → InCall m k p c l h s v w span
+      → Gets m.coding p (m.asks c h) span s (m.change p w c l h) (by_step (m.manner c l h))
+  -- a try goes on only where it may
+  pub tries_on : (p : ℕ) (c : C) (l : L) (h : Option Hold) (s : Plain) (v : Option V) (w : W) (span : List Mark) → InCall m k p c l h s v w span
+      → (ask : Ask) → m.asks c h ≡ tries ask → own p span ≡ [] → GoesOnOpen ask p span s (m.step w v c l h).next (m.change p w c l h)
   -- where what a call that may wait asks is open to it, it is answered by so many steps, if no other party steps
   pub undisturbed : (p : ℕ) (c : C) (l : L) (h : Option Hold) (s : Plain) (v : Option V) (w : W) (span : List Mark) → InCall m k p c l h s v w span
       → is_open_now p (m.asks c h) span s ≡ true → AnswersWithin m (steps_alone m.coding (m.asks c h)) w c l h

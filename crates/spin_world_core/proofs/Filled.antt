@@ -19,9 +19,9 @@ use Rattle.spin_world_core.specs.Acts.{Memory, Act, store, step_by, change_at, c
 use Rattle.spin_world_core.specs.Values.{HasPhase, Gives}
 use Rattle.spin_world_core.specs.Undisturbed.{steps_alone}
 use Rattle.spin_world_core.proofs.Facts.{LocalInvariant, AnswersWithin, InCall, NextIs, NextGives, StepIs, Facts}
-use Rattle.spin_world_core.proofs.Operating.{change_is, counted_filled, stepwise_with}
+use Rattle.spin_world_core.proofs.Operating.{change_is, open_filled, counted_filled, stepwise_with}
 use Rattle.spin_world_core.proofs.Shapes.{Notes, row_of, KnowsRow, keeping_of, goes_by, answers_by, Pays}
-use Rattle.spin_world_core.proofs.Paid.{uncompleted, Went, went_here, can_here, counted_here, soon_here, others_here, begins_here}
+use Rattle.spin_world_core.proofs.Paid.{uncompleted, Went, went_here, can_here, counted_here, due_here, tries_here, soon_here, others_here, begins_here}
 
 abbrev is_end : Option Change → Bool
 is_end None = false
@@ -200,6 +200,8 @@ module _ {W V C L : Type 0} (t : Table W V C L (Answer (Unit {0}))) (n : Notes t
         can = λ p c l h s v w span here. can_here t n pays.pays p c l h s w span here.encodes here.shape.0 here.exclusive here.retries here.knows;
         steps = step_here;
         counted = λ p c l h s v w span here. counted_filled _ s _ (step_by {V = V} t.memory (t.word l) (t.act c l h) w).next _ _ (counted_here t n pays.pays p c l h s w span here.encodes here.shape.0 here.exclusive here.retries here.knows);
+        due = λ p c l h s v w span here. due_here t n pays.pays p c l h s w span here.encodes here.shape.0 here.exclusive here.retries here.knows;
+        tries_on = λ p c l h s v w span here ask is none. open_filled ask p span s _ (step_by {V = V} t.memory (t.word l) (t.act c l h) w).next _ (tries_here t n pays.pays p c l h s w span here.encodes here.shape.0 here.exclusive here.retries here.knows ask is none);
         completes_alone = λ p c l h s v w span here q is. pays.none_holds s here.shape.0;
         undisturbed = λ p c l h s v w span here may. answers_with (steps_alone t.coding (t.asks c h)) w c l h (soon_here t n pays.pays p c l h s w span here.encodes here.shape.0 here.exclusive here.retries here.knows may);
         refuses = λ p c l h s v w span next here is. absurd (cc (is));

@@ -24,6 +24,7 @@ use Rattle.spin_world_core.specs.Runs.{Seen, Scene, scene_of, mark_of, own_count
 use Rattle.spin_world_core.proofs.Lists.{get-set_same, get-set_other, eqb_self}
 use Rattle.spin_world_core.proofs.Spans.{retries-mine, retries-other}
 use Rattle.spin_world_core.specs.Undisturbed.{is_open_now, Leaves, AllOf}
+use Rattle.spin_world_core.specs.Order.{GetsWhenDue, TriesOn}
 use Rattle.spin_world_core.proofs.Facts.{LocalInvariant, KnowsAt, InCall, NextIs, AnswersWithin, Facts}
 use Rattle.spin_world_core.proofs.Undisturbed.{RunsOn, GoesWithin, LeftBy, stepped, beside, runs_resting, runs_fresh, more_left}
 
@@ -129,7 +130,7 @@ passed_over m k f seen p move seat r good closed may =
         in_place = λ happened. absurd (happened refl);
       };
       right = tt;
-      in_time = record { in_time = tt; counted = tt; retries = good.retries; undisturbed = tt };
+      in_time = record { in_time = tt; counted = tt; retries = good.retries; undisturbed = tt; due = tt; tries_on = tt };
       good = good;
     }
 
@@ -249,8 +250,10 @@ pub went_on : {W V C L A : Type 0} (m : Machine W V C L A) (k : LocalInvariant V
     → (is_weak r ≡ false → (j : ℕ) → AnswersWithin m (suc j) seen.state.words c l h → GoesWithin m j w c h next)
     → is_open_move m seen.state move (Some (Calling c l h)) ≡ true → ComesTo move step seen.state.value v (goes_on (record seen.state { words = w; value = v }) p c h next).outcome → IsWeakCall move p (seen.span p) (Some (m.asks c h))
     → IsCounted m p (goes_on (record seen.state { words = w; value = v }) p c h next).outcome move (Some (Calling c l h)) step r seen.plain
+    → GetsWhenDue m.coding p (goes_on (record seen.state { words = w; value = v }) p c h next).outcome move (Some (m.asks c h)) (seen.span p) seen.plain step r
+    → TriesOn p (goes_on (record seen.state { words = w; value = v }) p c h next).outcome move (Some (m.asks c h)) (seen.span p) seen.plain step
     → Kept m k (scene_of seen p move (Some (Calling c l h)) (goes_on (record seen.state { words = w; value = v }) p c h next) step r value)
-went_on m k f seen p move c l h step r value w v (GoesOn l') good there may belongs encodes shape written next fails steps is_open comes weak counted =
+went_on m k f seen p move c l h step r value w v (GoesOn l') good there may belongs encodes shape written next fails steps is_open comes weak counted due tries_on =
     let runs = left_by m k f seen p c l h step r w (GoesOn l') good there steps in
     let stands = stands_stepped seen.plain p step r (seen.span p) (entries_held p h) may (subst (λ o. StandsFor seen.plain p (seen.span p) o) there (good.places p)) in
     let after = good_stepped m k f seen p (Calling c l' h) (Calling c l h) step r w v (if_completed seen.written value step) good there may belongs encodes shape written stands next.knows fails (λ recent first older is may leaves.
@@ -261,13 +264,15 @@ went_on m k f seen p move c l h step r value w v (GoesOn l') good there may belo
       in_time = record {
         in_time = next.in_time;
         counted = counted;
+        due = due;
+        tries_on = tries_on;
         retries = after.retries;
         undisturbed = λ recent first older is may leaves.
             let t = runs recent first older is may leaves in more_left m w c l' h (own_count p (recent ++ first ∷ [])) t.steps t.few (t.goes l' refl);
       };
       good = after;
     }
-went_on {C = C} {L = L} m k f seen p move c l h step r value w v (Answers a rest) good there may belongs encodes shape written next fails steps is_open comes weak counted =
+went_on {C = C} {L = L} m k f seen p move c l h step r value w v (Answers a rest) good there may belongs encodes shape written next fails steps is_open comes weak counted due tries_on =
     let runs = left_by m k f seen p c l h step r w (Answers a rest) good there steps in
     let plain = apply_some seen.plain step in
     let span = mark_of p step r seen.plain ∷ seen.span p in
@@ -276,7 +281,7 @@ went_on {C = C} {L = L} m k f seen p move c l h step r value w v (Answers a rest
     record {
       keeps = keeps_from m k f _ after may belongs (λ r e. absurd (cc (e))) tt (λ e. cc (e)) is_open next.own_steps_are comes weak;
       right = next.right;
-      in_time = record { in_time = next.in_time; counted = tt; retries = after.retries; undisturbed = λ recent first older is may leaves. omega (arith, (runs recent first older is may leaves).few) };
+      in_time = record { in_time = next.in_time; counted = tt; due = due; tries_on = tt; retries = after.retries; undisturbed = λ recent first older is may leaves. omega (arith, (runs recent first older is may leaves).few) };
       good = after;
     }
 
@@ -297,7 +302,7 @@ begun_kept m k f seen p c h y (Some l) good there stands is_begin is_open may =
     record {
       keeps = keeps_from m k f _ after tt tt (λ r e. absurd (cc (e))) tt (λ e. cc (e)) (is_open ∙ ap is_some is_begin) tt (refl, refl) tt;
       right = tt;
-      in_time = record { in_time = tt; counted = tt; retries = after.retries; undisturbed = tt };
+      in_time = record { in_time = tt; counted = tt; retries = after.retries; undisturbed = tt; due = tt; tries_on = tt };
       good = after;
     }
 
@@ -319,7 +324,7 @@ read_kept m k f seen p h y true good stands may is_open lets =
     record {
       keeps = keeps_from m k f _ good tt tt (λ r e. cc (e, good.written)) (ap is_reader stands ∙ (reader_of p h ∙ may)) (λ e. cc (e)) (is_open ∙ may) tt (refl, refl) tt;
       right = tt;
-      in_time = record { in_time = tt; counted = tt; retries = good.retries; undisturbed = tt };
+      in_time = record { in_time = tt; counted = tt; retries = good.retries; undisturbed = tt; due = tt; tries_on = tt };
       good = good;
     }
 
@@ -337,7 +342,7 @@ write_kept m k f seen p v h y true good stands may is_open lets =
     record {
       keeps = keeps_from m k f _ after tt tt (λ r e. absurd (cc (e))) writes (λ e. cc (e)) (is_open ∙ may) tt (refl, refl) tt;
       right = tt;
-      in_time = record { in_time = tt; counted = tt; retries = after.retries; undisturbed = tt };
+      in_time = record { in_time = tt; counted = tt; retries = after.retries; undisturbed = tt; due = tt; tries_on = tt };
       good = after;
     }
 
@@ -349,6 +354,6 @@ leak_kept m k f seen p h good there stands =
     record {
       keeps = keeps_from m k f _ after tt tt (λ r e. absurd (cc (e))) tt (λ e. cc (e)) refl tt (refl, refl) tt;
       right = tt;
-      in_time = record { in_time = tt; counted = tt; retries = after.retries; undisturbed = tt };
+      in_time = record { in_time = tt; counted = tt; retries = after.retries; undisturbed = tt; due = tt; tries_on = tt };
       good = after;
     }

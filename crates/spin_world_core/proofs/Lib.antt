@@ -23,3 +23,4 @@ pub mod Users
 pub mod Transcripts
 pub mod Otherwise
 pub mod Joined
+pub mod Begins

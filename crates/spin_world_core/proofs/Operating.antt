@@ -1,18 +1,18 @@
 -- The steps of a table as operations: what its shapes show of themselves.
-use Rattle.std.proofs.Common.{◌≡◌, ℕ, zero, suc, Bool, true, false, not, ◌&&◌, ◌||◌, ◌==◌, ◌%◌, ◌+◌, Option, Some, None, is_some, slice_set, unwrap_or, if◌then◌else◌, refl, ap, sym, ◌∙◌, subst}
+use Rattle.std.proofs.Common.{◌≡◌, ℕ, zero, suc, Bool, true, false, not, ◌&&◌, ◌||◌, ◌==◌, ◌%◌, ◌+◌, Option, Some, None, is_some, slice_set, unwrap_or, if◌then◌else◌, refl, ap, sym, ◌∙◌, subst, List}
 use Rattle.std.proofs.lemmas.Bool.{eqb-true, and_parts, false≢true, true≢false}
-use Rattle.spin_step.specs.Plain.{Plain, Change, is_open}
+use Rattle.spin_step.specs.Plain.{Plain, Ask, Change, is_open}
 use Rattle.spin_world_core.specs.declared.place.Hold.{Hold}
 use Rattle.spin_world_core.specs.declared.answer.Answer.{Answer}
 use Rattle.spin_world_core.specs.declared.object.Next.{Next}
-use Rattle.spin_world_core.specs.declared.object.Next.TheVariants.{GoesOn}
+use Rattle.spin_world_core.specs.declared.object.Next.TheVariants.{GoesOn, Answers}
 use Rattle.spin_world_core.specs.Manners.{Manner, is_again, is_look}
-use Rattle.spin_world_core.specs.Calls.{Coding, barrier, is_step_of, Asked, looks, may_be_weak, is_exchanged, is_got_weakly}
+use Rattle.spin_world_core.specs.Calls.{Coding, barrier, is_step_of, Asked, looks, may_be_weak, is_exchanged, is_got_weakly, Mark}
 use Rattle.spin_world_core.specs.Begins.{fits}
 use Rattle.spin_world_core.specs.Operations.{Operation, exchanges, sets_lowest_bit, performed, Performs, IsOneOperation, RefusesAsLost, Stepwise}
 use Rattle.spin_world_core.specs.Acts.{Memory, one_number, number_at, Act, load_if, enter, exchange, weak_exchange, attempt, retry, store, section, swap, tried, guessed, becomes, passing, retried, place_of, step_at, made_if, change_at, refusal_by, makes_by, operation_by, is_section, step_by, manner_by, Table, machine_of, completes_by, brought, filled, machine_with}
 use Rattle.spin_world_core.specs.Schedules.{placed}
-use Rattle.spin_world_core.proofs.Facts.{GoesOnCounted}
+use Rattle.spin_world_core.proofs.Facts.{GoesOnOpen, GoesOnCounted}
 
 -- The debts
 
@@ -178,6 +178,11 @@ pub counted_filled : {W V L : Type 0} (change : W → Option Change) (s : Plain)
 counted_filled change s value (GoesOn l) None r counts = counts
 counted_filled change s value _ _ r counts = tt
 
+pub open_filled : {V L : Type 0} (ask : Ask) (p : ℕ) (span : List Mark) (s : Plain) (value : Option V) (next : Next L (Answer (Unit {0}))) (o : Option Change) → GoesOnOpen ask p span s next o → GoesOnOpen ask p span s (filled value next) o
+open_filled ask p span s value (GoesOn l) None may = may
+open_filled ask p span s value (GoesOn l) (Some c) may = tt
+open_filled ask p span s value (Answers a after) o may = tt
+
 -- a call that is never weak gets nothing so
 strong_step : (coding : Coding) (what : Asked) (weakly : Bool) (o : Option Change) → may_be_weak what ≡ false → fits_step coding looks weakly o ≡ fits_step coding what weakly o
 strong_step coding what weakly None strong = refl
@@ -186,6 +191,11 @@ strong_step coding what weakly (Some d) strong = ap (λ may. is_step_of coding d
 -- so its steps fit if those of a look do
 pub fits_strong : {W L A : Type 0} (coding : Coding) (what : Asked) (act : Act W L A) (p : ℕ) → may_be_weak what ≡ false → fits_act coding looks act p ≡ true → fits_act coding what act p ≡ true
 fits_strong coding what act p strong fit = ap (λ b. b && may_be_section coding (is_section act)) (sym (strong_step coding what (is_some (refusal_by act)) (makes_by act p) strong)) ∙ fit
+
+-- a step that finds its number makes its plain step
+made_there : (b : Bool) (x : ℕ) (c : Change) → b ≡ true → is_some (made_if (if b then Some x else None) c) ≡ true
+made_there true x c is = refl
+made_there false x c is = absurd (false≢true is)
 
 -- so a table of such places makes its operations
 pub operates_by : {W V C L A : Type 0} (t : Table W V C L A) → ((i : ℕ) → IsPlace t.memory i) → Operates t
@@ -225,6 +235,7 @@ module _ {W V C L A : Type 0} (t : Table W V C L A) (fit : (p : ℕ) (c : C) (l 
         unwrap_or (f k) k,
         subst (λ act. Performs (machine_of t) c l h (place_of (t.word l) act) (operation_by act)) same (performs_of c l h (ap is_section same)),
         λ w v other. subst (λ act. (step_by {V = V} t.memory (t.word l) act w).next ≡ next) (sym same) (lost_there V t.memory (t.word l) k (unwrap_or (f k) k) (number_at t.memory (t.word l) w) w won lost other ∙ goes),
+        λ p w found. subst (λ act. is_some (change_at (number_at t.memory (place_of (t.word l) act) w) act p w) ≡ true) (sym same) (made_there (number_at t.memory (t.word l) w == k) (unwrap_or (f k) k) (step p) found),
       )
   lost_of c l h _ next same is = absurd (cc (is))
 

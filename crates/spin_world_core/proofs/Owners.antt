@@ -81,7 +81,7 @@ owner_get_kept m k f seen p y true good may =
     record {
       keeps = keeps_from m k f _ after tt tt (λ r e. cc (e, good.written)) (owners m k seen good may) (λ e. cc (e)) may tt (refl, refl) tt;
       right = tt;
-      in_time = record { in_time = tt; counted = tt; retries = after.retries; undisturbed = tt };
+      in_time = record { in_time = tt; counted = tt; retries = after.retries; undisturbed = tt; due = tt; tries_on = tt };
       good = after;
     }
 
@@ -92,7 +92,7 @@ owner_writes_kept {C = C} {A = A} m k f seen p v y None good may found =
     record {
       keeps = keeps_from m k f _ after tt tt (λ r e. cc (e, good.written, found)) (owners m k seen good may) (λ e. cc (e)) may tt (subst (λ old. ComesTo {C = C} {A = A} (OwnerSet v) None old seen.state.value (outcome.Value None)) (sym found) (refl, found)) tt;
       right = tt;
-      in_time = record { in_time = tt; counted = tt; retries = after.retries; undisturbed = tt };
+      in_time = record { in_time = tt; counted = tt; retries = after.retries; undisturbed = tt; due = tt; tries_on = tt };
       good = after;
     }
 owner_writes_kept {C = C} {A = A} m k f seen p v y (Some old) good may found =
@@ -100,7 +100,7 @@ owner_writes_kept {C = C} {A = A} m k f seen p v y (Some old) good may found =
     record {
       keeps = keeps_from m k f _ after tt tt (λ r e. absurd (cc (e))) (owners m k seen good may) (λ e. cc (e)) may tt (subst (λ o. ComesTo {C = C} {A = A} (OwnerSet v) None o (Some v) outcome.Written) (sym found) (refl, refl)) tt;
       right = tt;
-      in_time = record { in_time = tt; counted = tt; retries = after.retries; undisturbed = tt };
+      in_time = record { in_time = tt; counted = tt; retries = after.retries; undisturbed = tt; due = tt; tries_on = tt };
       good = after;
     }
 

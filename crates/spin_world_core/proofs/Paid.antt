@@ -1,7 +1,7 @@
 -- An object that pays what its table owes shows all local facts.
 use Rattle.std.proofs.Common.{◌≡◌, ℕ, zero, suc, ◌+◌, ◌<◌, ◌≤◌, ◌==◌, Bool, true, false, not, is_some, Option, Some, None, List, [], ◌∷◌, ◌++◌, option_to_list, get_or, if◌then◌else◌, refl, ap, sym, ◌∙◌, subst, arith}
 use Rattle.std.proofs.lemmas.Bool.{and_parts, false≢true, true≢false, eqb-true}
-use Rattle.spin_step.specs.Plain.{Plain, Phase, is_empty, Change, completes, is_open}
+use Rattle.spin_step.specs.Plain.{Plain, Phase, is_empty, Ask, Change, gets, completes, is_open, is_open_to}
 use Rattle.spin_step.specs.Parties.{apply_some, IsOpenStep, entries, IsExclusive}
 use Rattle.spin_step.specs.Steps.{bit}
 use Rattle.spin_world_core.specs.declared.place.Hold.{Hold}
@@ -11,20 +11,21 @@ use Rattle.spin_world_core.specs.declared.object.Stepped.{Stepped}
 use Rattle.spin_world_core.specs.declared.schedule.Outcome.TheVariants as outcome
 use Rattle.spin_world_core.specs.declared.schedule.Move.{Move}
 use Rattle.spin_world_core.specs.declared.schedule.Move.TheVariants.{Step, Weak}
-use Rattle.spin_world_core.specs.Manners.{Manner, plain, again, look, weak, is_again, by_step}
-use Rattle.spin_world_core.specs.Calls.{Coding, Asked, waits, waits_or_starves, initializes, fails_to_initialize, waits_for_value, polls, meets, encoded, is_step_of, BelongsTo, Said, own_steps, AnyOf, Mark, first_word, Limit, registers_after, limit, may_be_weak, before_weakly, once}
+use Rattle.spin_world_core.specs.Manners.{Manner, plain, again, look, weak, is_again, is_look, by_step}
+use Rattle.spin_world_core.specs.Calls.{Coding, Asked, waits, waits_or_starves, tries, initializes, fails_to_initialize, waits_for_value, polls, meets, encoded, is_step_of, BelongsTo, Said, own_steps, AnyOf, Mark, first_word, Limit, registers_after, limit, may_be_weak, before_weakly, once}
 use Rattle.spin_world_core.specs.Undisturbed.{arrived, is_open_next, is_open_now, steps_alone}
+use Rattle.spin_world_core.specs.Order.{goes_for, Way, always, by_looks, past_looks, way_of, is_due_by, LooksElse, Gets, MayTryOn}
 use Rattle.spin_world_core.specs.Runs.{mark_of, if_completed, entries_held, own, failures, changes, IsBeginning, RightAnswer, GoesOnWithin}
 use Rattle.spin_world_core.specs.Acts.{number_at, Act, load, load_if, load_for, enter, exchange, weak_exchange, attempt, retry, store, section, swap, tried, guessed, either, stays, passing, becomes, retried, step_by, made_if, change_by, can_by, refusal_by, makes_by, is_waiting, look_manner, manner_by, Table, begin_of, machine_of}
 use Rattle.spin_world_core.specs.Operations.{performed}
 use Rattle.spin_world_core.specs.Schedules.{placed}
 use Rattle.spin_world_core.specs.Values.{makes_value, HasPhase, Gives}
-use Rattle.spin_world_core.proofs.Facts.{AnswersWithin, InCall, NextIs, NextGives, GoesOnCounted, StepIs, Facts}
+use Rattle.spin_world_core.proofs.Facts.{AnswersWithin, InCall, NextIs, NextGives, GoesOnOpen, GoesOnCounted, StepIs, Facts}
 use Rattle.spin_world_core.proofs.Operating.{fits_change, fits_made, counted_of, stepwise_of}
 use Rattle.spin_world_core.proofs.Spans.{own-mine, retries-mine}
 use Rattle.spin_world_core.proofs.Stands.{entries_at, stand_of, held_at, stand-mine}
-use Rattle.spin_world_core.proofs.Rows.{Opened, OwesRight, Turn, goes, loses, misses, Turned, spent-mine, goes_within, ends_within, ends_owed, any_map, moment_of, weak_moment_of, Row, IsSound, sound_at, Expects, expects-mine, none_spent, none_expected, known-other, SoundAt}
-use Rattle.spin_world_core.proofs.Shapes.{Notes, is_answer, row_of, KnowsRow, keeping_of, call_of, At, AtRow, Means, FindsAnother, FollowsRow, Follows, Owes, OwesRow, goes_by, answers_by, AnswersRow, BeginsRow, BeginsAt, Pays}
+use Rattle.spin_world_core.proofs.Rows.{Opened, OwesRight, Turn, goes, finds_open, loses, misses, Turned, may_spend, may_try, no_try, tries_open, need, need_of, Needs, rests, peeks, needs-mine, needs_first, rests_undue, spent-mine, goes_within, ends_within, ends_owed, any_map, moment_of, weak_moment_of, Row, IsSound, sound_at, Expects, expects-mine, none_spent, none_expected, known-other, SoundAt}
+use Rattle.spin_world_core.proofs.Shapes.{Notes, is_answer, row_of, KnowsRow, keeping_of, call_of, At, AtRow, Means, FindsAnother, FollowsRow, Follows, Owes, OwesRow, goes_by, answers_by, AnswersRow, BeginsRow, BeginsAt, sure_by, aim_by, aim_of, aimed, aimed_at, Pays}
 
 -- a step that completes no closure leaves the value last written
 pub uncompleted : {V : Type 0} (old put : Option V) (step : Option Change) → ((q : ℕ) → step ≡ Some (completes q) → ⊥) → old ≡ if_completed old put step
@@ -43,6 +44,22 @@ gives_none _ said given value none = tt
 completes_none : (coding : Coding) (q : ℕ) → makes_value coding ≡ false → is_step_of coding (completes q) ≡ true → ⊥
 completes_none once q none own = true≢false none
 completes_none _ q none own = false≢true own
+
+abbrev Aimed : {W L A : Type 0} → Asked → Act W L A → List Change → ℕ → Type 0
+Aimed what act made p = aim_by what act p ≡ aimed p (aim_of what made) (aim_by what act p)
+
+aims_sure : {W L A : Type 0} (what : Asked) (act : Act W L A) (made : List Change) (ask : Ask) (p : ℕ) → goes_for what made ≡ Some ask → Aimed what act made p → sure_by act p ≡ aimed p (Some ask) (sure_by act p)
+aims_sure (tries a) act made ask p is aims = absurd (cc (is))
+aims_sure _ act made ask p is aims = aims ∙ ap (λ o. aimed p o (sure_by act p)) is
+
+aims_try : {W L A : Type 0} (what : Asked) (act : Act W L A) (made : List Change) (ask : Ask) (p : ℕ) → what ≡ tries ask → made ≡ [] → Aimed what act made p → aim_by (tries ask) act p ≡ aimed p (Some ask) (aim_by (tries ask) act p)
+aims_try what act made ask p is none aims = subst (λ cs. Aimed (tries ask) act cs p) none (subst (λ k. Aimed k act made p) is aims)
+
+-- only a call that waits goes for anything so
+goes_waiting : (what : Asked) (made : List Change) (ask : Ask) → goes_for what made ≡ Some ask → is_waiting what ≡ true
+goes_waiting (waits a) made ask is = refl
+goes_waiting (waits_or_starves n) made ask is = refl
+goes_waiting _ made ask is = absurd (cc (is))
 
 -- what a step of such a shape comes to; it places no value by itself
 pub record Went {W V C L A : Type 0} (t : Table W V C L A) (n : Notes t) (p : ℕ) (c : C) (h : Option Hold) (s : Plain) (span : List Mark) (st : Stepped W V L A) (step : Option Change) (r : Manner) : Type 0 where
@@ -106,20 +123,23 @@ module _ {W V C L A : Type 0} (t : Table W V C L A) (n : Notes t) (sound_all : (
     goes_to step r turn m None may turned lost sound follows = absurd follows
     goes_to step r turn m (Some to) may turned lost sound follows =
         let retries = retries-mine t.coding p step r s span at.retries lost in
+        let spends = may_spend (t.asks c h) turn step p s span _ follows.2 in
+        let found = needs-mine (need_of t.coding (t.asks c h) (to.made p) (t.act c m h)) _ p s step r span follows.3 in
         let made = made_now step r (to.made p) follows.1 in
-        let spent = spent-mine p s step r span (limit t.coding (t.asks c h)) t.coding turn (to.made p) row.spent to.spent turned made follows.2 at.known.spent in (
+        let spent = spent-mine p s step r span (limit t.coding (t.asks c h)) t.coding turn (to.made p) row.spent to.spent turned made spends at.known.spent in (
           (
             record {
               stand = stand-mine s p step row.stand to.stand may at.known.stand follows.0;
               made = made;
               spent = spent;
-              expects = expects-mine t.coding (t.act c m h) (number_at t.memory 0 w) p s step r span (first_is w s at.encodes) retries follows.3;
+              expects = expects-mine t.coding (t.act c m h) (number_at t.memory 0 w) p s step r span (first_is w s at.encodes) retries found.1;
+              needs = found.0;
               opened = (may, at.known.opened);
             },
             follows.4,
           ),
           (to.said, any_map (λ steps. to.made p ++ to.rest p ≡ steps) (λ steps. IsBeginning (own p (mark_of p step r s ∷ span)) steps) (own_steps (t.asks c h) to.said p) (λ steps e. (to.rest p, ap (λ cs. cs ++ to.rest p) made ∙ e)) sound.1),
-          goes_within (limit t.coding (t.asks c h)) t.coding turn (to.made p) row.spent to.spent p (mark_of p step r s ∷ span) made sound.0 retries follows.2 spent,
+          goes_within (limit t.coding (t.asks c h)) t.coding turn (to.made p) row.spent to.spent p (mark_of p step r s ∷ span) made sound.0 retries spends spent,
         )
 
     followed : (weakly : Bool) (step : Option Change) (r : Manner) (turn : Turn) (next : Next L A) → IsOpenStep s p step → Turned turn s step r → (is_again r ≡ true → step ≡ None → failures p span < changes t.coding p span)
@@ -200,7 +220,7 @@ module _ {W V C L A : Type 0} (t : Table W V C L A) (n : Notes t) (sound_all : (
         → Is (step_by t.memory i act w) (change_by t.memory i act p w) (by_step (manner_by (t.asks c h) act))
     step_is i (load next) own expects owes = stay_is plain goes (next (number_at t.memory i w)) tt (unretried refl) owes
     step_is i (load_if test a b) own expects owes = tested (by_step (look_manner (t.asks c h))) (test (number_at t.memory i w)) _ _ (no_retry (is_waiting (t.asks c h))) owes.0 owes.1
-    step_is i (load_for f step found missed) own expects owes = looked (λ k. t.memory.put i k w) plain goes (f (number_at t.memory i w)) (step p) _ missed tt (unretried refl) owes.0 owes.1 owes.2
+    step_is i (load_for f step found missed) own expects owes = looked (λ k. t.memory.put i k w) plain finds_open (f (number_at t.memory i w)) (step p) _ missed tt (unretried refl) owes.0 owes.1 owes.2
     step_is i (enter test step won lost) own expects owes =
         exchanged (λ k. w) (by_step (look_manner (t.asks c h))) (passing (test (number_at t.memory i w)) (number_at t.memory i w)) (step p) won lost (no_retry (is_waiting (t.asks c h))) (own (step p) refl) owes.0 owes.1 owes.2
     step_is i (exchange operation step won lost) own expects owes = exchanged (λ k. t.memory.put i k w) plain (tried operation (number_at t.memory i w)) (step p) won _ refl (own (step p) refl) owes.0 owes.1 owes.2
@@ -251,17 +271,115 @@ module _ {W V C L A : Type 0} (t : Table W V C L A) (n : Notes t) (sound_all : (
     counted_is i (section can f step won lost) owes = counted_of _ s _ _ _ (λ u d is may none. refuted (λ u. u) (f w) (f u) (step p) d owes.1 is may none)
     counted_is i _ owes = counted_of _ s _ None _ (λ u d is may none. absurd (cc (is)))
 
+    -- what is due, and open, is got
+    gets_it : {X : Type 0} (put : X → W) (o : Option X) (d e : Change) → Means t n p s d put o → d ≡ e → is_open s e ≡ true → made_if o d ≡ Some e
+    gets_it put None d e means is may = absurd (true≢false (sym may ∙ (sym (ap (is_open s) is) ∙ means)))
+    gets_it put (Some x) d e means is may = ap Some is
+
+    due_is : (i : ℕ) (act : Act W L A) (ask : Ask) (way : Way) → Needs (need (Some ask) way (rests act) (peeks act)) p span → sure_by act p ≡ aimed p (Some ask) (sure_by act p) → Owes t n p (call_of t n c) h s w span row i act
+        → is_due_by way p span ≡ true → is_open_to s p ask ≡ true → change_by t.memory i act p w ≡ Some (gets p ask)
+    due_is i (load next) ask way needs aim owes is may = absurd (rests_undue ask way false p span needs is)
+    due_is i (load_if test a b) ask way needs aim owes is may = absurd (rests_undue ask way true p span needs is)
+    due_is i (load_for f step found missed) ask way needs aim owes is may = absurd (rests_undue ask way false p span needs is)
+    due_is i (attempt k f step won lost) ask way needs aim owes is may = absurd (rests_undue ask way false p span needs is)
+    due_is i (retry k f step won found missed) ask way needs aim owes is may = absurd (rests_undue ask way false p span needs is)
+    due_is i (enter test step won lost) ask way needs aim owes is may = gets_it (λ k. w) _ (step p) (gets p ask) owes.0 (cc (aim)) may
+    due_is i (exchange operation step won lost) ask way needs aim owes is may = gets_it (λ k. t.memory.put i k w) _ (step p) (gets p ask) owes.0 (cc (aim)) may
+    due_is i (weak_exchange k f step won lost) ask way needs aim owes is may = gets_it (λ k. t.memory.put i k w) _ (step p) (gets p ask) owes.0 (cc (aim)) may
+    due_is i (store can operation step next) ask way needs aim owes is may = aim
+    due_is i (section can f step won lost) ask way needs aim owes is may = gets_it (λ u. u) _ (step p) (gets p ask) owes.1 (cc (aim)) may
+
+    -- and else it looks
+    looks_else : (act : Act W L A) (what : Asked) (ask : Ask) (way : Way) → is_waiting what ≡ true → Needs (need (Some ask) way (rests act) (peeks act)) p span → LooksElse way p span (by_step (manner_by what act))
+    looks_else act what ask always waiting needs = tt
+    looks_else act what ask past_looks waiting needs = tt
+    looks_else (load_if test a b) what ask by_looks waiting needs = λ is. ap (λ x. is_look (by_step (either x look plain))) waiting
+    looks_else (load next) what ask by_looks waiting needs = absurd needs
+    looks_else (load_for f step found missed) what ask by_looks waiting needs = absurd needs
+    looks_else (attempt k f step won lost) what ask by_looks waiting needs = absurd needs
+    looks_else (retry k f step won found missed) what ask by_looks waiting needs = absurd needs
+    looks_else _ what ask by_looks waiting needs = λ is. absurd (true≢false (sym needs ∙ is))
+
+    pub gets_is : (i : ℕ) (act : Act W L A) (ask : Ask) (way : Way) → is_waiting (t.asks c h) ≡ true → Needs (need (Some ask) way (rests act) (peeks act)) p span → sure_by act p ≡ aimed p (Some ask) (sure_by act p) → Owes t n p (call_of t n c) h s w span row i act
+        → (is_due_by way p span ≡ true → is_open_to s p ask ≡ true → change_by t.memory i act p w ≡ Some (gets p ask)) × LooksElse way p span (by_step (manner_by (t.asks c h) act))
+    gets_is i act ask way waiting needs aim owes = (due_is i act ask way needs aim owes, looks_else act (t.asks c h) ask way waiting needs)
+
+    -- a try goes on only where it may
+    module _ (ask : Ask) (is : t.asks c h ≡ tries ask) where
+      made_on : (next : Next L A) (d : Change) → GoesOnOpen ask p span s next (Some d)
+      made_on (GoesOn m) d = tt
+      made_on (Answers a after) d = tt
+
+      open_on : (next : Next L A) → is_open_to s p ask ≡ true → GoesOnOpen ask p span s next None
+      open_on (GoesOn m) may = tries_open ask p span s may
+      open_on (Answers a after) may = tt
+
+      tried_to : (m : L) (r : Manner) (o : Option Row) → FollowsRow t n p (call_of t n c) h s w span row None r goes m o → MayTryOn ask p span s
+      tried_to m r None follows = absurd follows
+      tried_to m r (Some to) follows = may_try (t.asks c h) ask p s span _ is follows.2
+
+      tried_on : (r : Manner) (next : Next L A) → Follows t n p (call_of t n c) h s w span row false None r goes next → GoesOnOpen ask p span s next None
+      tried_on r (GoesOn m) follows = tried_to m r (row_of t n c m h) follows
+      tried_on r (Answers a after) follows = tt
+
+      missed_to : (m : L) (r : Manner) (d : Change) (o : Option Row) → FollowsRow t n p (call_of t n c) h s w span row None r (misses d) m o → MayTryOn ask p span s
+      missed_to m r d None follows = absurd follows
+      missed_to m r d (Some to) follows = absurd (no_try (t.asks c h) ask d None p s span _ is follows.2)
+
+      missed_on : (r : Manner) (d : Change) (next : Next L A) → Follows t n p (call_of t n c) h s w span row false None r (misses d) next → GoesOnOpen ask p span s next None
+      missed_on r d (GoesOn m) follows = missed_to m r d (row_of t n c m h) follows
+      missed_on r d (Answers a after) follows = tt
+
+      tested_on : (r : Manner) (b : Bool) (x y : Next L A) → (b ≡ true → Follows t n p (call_of t n c) h s w span row false None r goes x) → (b ≡ false → Follows t n p (call_of t n c) h s w span row false None r goes y) → GoesOnOpen ask p span s (either b x y) None
+      tested_on r true x y f g = tried_on r x (f refl)
+      tested_on r false x y f g = tried_on r y (g refl)
+
+      looked_on : {X : Type 0} (put : X → W) (r : Manner) (o : Option X) (d : Change) (found missed : Next L A) → d ≡ gets p ask → Means t n p s d put o → (is_open s d ≡ false → Follows t n p (call_of t n c) h s w span row false None r (misses d) missed)
+          → GoesOnOpen ask p span s (either (is_some o) found missed) None
+      looked_on put r None d found missed aim means g = missed_on r d missed (g means)
+      looked_on put r (Some x) d found missed aim means g = open_on found (subst (λ e. is_open s e ≡ true) aim means.0.1)
+
+      exchanged_on : {X : Type 0} (put : X → W) (r : Manner) (o : Option X) (d : Change) (won lost : Next L A) → Means t n p s d put o → (is_open s d ≡ false → Follows t n p (call_of t n c) h s w span row false None r (misses d) lost)
+          → GoesOnOpen ask p span s (becomes {V = V} put w o won lost).next (made_if o d)
+      exchanged_on put r None d won lost means g = missed_on r d lost (g means)
+      exchanged_on put r (Some x) d won lost means g = made_on won d
+
+      attempted_on : (put : ℕ → W) (o : Option ℕ) (d : Change) (won lost : Next L A) → is_answer lost ≡ true → GoesOnOpen ask p span s (becomes {V = V} put w o won lost).next (made_if o d)
+      attempted_on put (Some to) d won lost last = made_on won d
+      attempted_on put None d won (GoesOn m) last = absurd (false≢true last)
+      attempted_on put None d won (Answers a after) last = tt
+
+      retried_on : (put : ℕ → W) (b : Bool) (o : Option ℕ) (d : Change) (won found missed : Next L A) → d ≡ gets p ask → Means t n p s d put o → (is_open s d ≡ false → Follows t n p (call_of t n c) h s w span row false None again (misses d) missed)
+          → GoesOnOpen ask p span s (retried {V = V} put b w o won found missed).next (made_if (if b then o else None) d)
+      retried_on put true o d won found missed aim means g = exchanged_on put again o d won missed means g
+      retried_on put false o d won found missed aim means g = looked_on put again o d found missed aim means g
+
+      pub tries_is : (i : ℕ) (act : Act W L A) → aim_by (tries ask) act p ≡ aimed p (Some ask) (aim_by (tries ask) act p) → Owes t n p (call_of t n c) h s w span row i act → GoesOnOpen ask p span s (step_by {V = V} t.memory i act w).next (change_by t.memory i act p w)
+      tries_is i (load next) aim owes = tried_on plain _ owes
+      tries_is i (load_if test a b) aim owes = tested_on (by_step (look_manner (t.asks c h))) (test (number_at t.memory i w)) _ _ owes.0 owes.1
+      tries_is i (load_for f step found missed) aim owes = looked_on (λ k. t.memory.put i k w) plain (f (number_at t.memory i w)) (step p) _ missed (cc (aim)) owes.0 owes.2
+      tries_is i (enter test step won lost) aim owes = exchanged_on (λ k. w) (by_step (look_manner (t.asks c h))) (passing (test (number_at t.memory i w)) (number_at t.memory i w)) (step p) won lost owes.0 owes.2
+      tries_is i (exchange operation step won lost) aim owes = exchanged_on (λ k. t.memory.put i k w) plain (tried operation (number_at t.memory i w)) (step p) won _ owes.0 owes.2
+      tries_is i (weak_exchange k f step won lost) aim owes = exchanged_on (λ k. t.memory.put i k w) plain (tried (swap k f) (number_at t.memory i w)) (step p) won lost owes.0 owes.2
+      tries_is i (attempt k f step won lost) aim owes = attempted_on (λ k. t.memory.put i k w) _ (step p) won lost owes.2
+      tries_is i (retry k f step won found missed) aim owes = retried_on (λ k. t.memory.put 0 k w) (number_at t.memory 0 w == k) (f (number_at t.memory 0 w)) (step p) won _ missed (cc (aim)) owes.0 owes.3
+      tries_is i (store can operation step next) aim owes = made_on next (step p)
+      tries_is i (section can f step won lost) aim owes = exchanged_on (λ u. u) plain (f w) (step p) (won w) (lost w) owes.1 owes.3
+
   -- at a point, which has a row
   module _ (p : ℕ) (c : C) (l : L) (h : Option Hold) (s : Plain) (w : W) (span : List Mark) where
     pub here_at : (o : Option Row) → t.memory.numbers w ≡ encoded t.coding s → n.Shape s → IsExclusive s → failures p span ≤ changes t.coding p span → KnowsRow t n c l h p s span o → AtRow t n p c l h s w span o
     here_at None encodes shape exclusive retries knows = knows
     here_at (Some row) encodes shape exclusive retries knows = record { encodes = encodes; shape = shape; exclusive = exclusive; known = knows.0; knows = knows.1; retries = retries }
 
+    abbrev Aims : Row → Type 0
+    Aims row = Aimed (t.asks c h) (t.act c l h) (row.made p) p
+
     -- what is so at its row is so there
-    pub at_row : (P : Type 0) → ((row : Row) → At t n p c l h s w span row → IsSound t.coding (t.asks c h) p (Some row) → Owes t n p (call_of t n c) h s w span row (t.word l) (t.act c l h) → P)
-        → (o : Option Row) → IsSound t.coding (t.asks c h) p o → AtRow t n p c l h s w span o → OwesRow t n p (call_of t n c) l h s w span o → P
-    at_row P f None sound at owes = absurd at
-    at_row P f (Some row) sound at owes = f row at sound (owes at)
+    pub at_row : (P : Type 0) → ((row : Row) → At t n p c l h s w span row → IsSound t.coding (t.asks c h) p (Some row) → Owes t n p (call_of t n c) h s w span row (t.word l) (t.act c l h) → Aims row → P)
+        → (o : Option Row) → IsSound t.coding (t.asks c h) p o → AtRow t n p c l h s w span o → OwesRow t n p (call_of t n c) l h s w span o → aim_by (t.asks c h) (t.act c l h) p ≡ aimed_at p (t.asks c h) o (aim_by (t.asks c h) (t.act c l h) p) → P
+    at_row P f None sound at owes aims = absurd at
+    at_row P f (Some row) sound at owes aims = f row at sound (owes at) aims
 
     pub soon_at : (o : Option Row) → AtRow t n p c l h s w span o → AnswersRow t n p (call_of t n c) l h s w span (answers_by t (steps_alone t.coding (t.asks c h)) w c l h) (is_waiting (t.asks c h)) o → is_open_now p (t.asks c h) span s ≡ true → answers_by t (steps_alone t.coding (t.asks c h)) w c l h ≡ true
     soon_at None at soon may = absurd at
@@ -282,7 +400,8 @@ module _ {W V C L A : Type 0} (t : Table W V C L A) (n : Notes t) (sound_all : (
       stand = mine ∙ (held_at p h ∙ ap (entries_at p) (sym begins.0));
       made = sym begins.1;
       spent = none_spent (limit t.coding (t.asks c h)) row.spent p;
-      expects = none_expected t.coding (t.act c l h) p s begins.2;
+      expects = none_expected t.coding (t.act c l h) p s (needs_first (need_of t.coding (t.asks c h) (row.made p) (t.act c l h)) _ p begins.2).1;
+      needs = (needs_first (need_of t.coding (t.asks c h) (row.made p) (t.act c l h)) _ p begins.2).0;
       opened = tt;
     },
     begins.3,
@@ -294,20 +413,33 @@ module _ {W V C L A : Type 0} (t : Table W V C L A) (n : Notes t) (pays : Pays t
     here : AtRow t n p c l h s w span (row_of t n c l h)
     here = here_at t n pays.sound p c l h s w span (row_of t n c l h) encodes shape exclusive retries knows
 
-    by_row : (P : Type 0) → ((row : Row) → At t n p c l h s w span row → IsSound t.coding (t.asks c h) p (Some row) → Owes t n p (call_of t n c) h s w span row (t.word l) (t.act c l h) → P) → P
-    by_row P f = at_row t n pays.sound p c l h s w span P f (row_of t n c l h) (sound_at t.coding (t.asks c h) h p (n.point c l h) (pays.sound p c l h)) here (pays.owes p c l h s w span)
+    by_row : (P : Type 0) → ((row : Row) → At t n p c l h s w span row → IsSound t.coding (t.asks c h) p (Some row) → Owes t n p (call_of t n c) h s w span row (t.word l) (t.act c l h) → Aims t n pays.sound p c l h s w span row → P) → P
+    by_row P f = at_row t n pays.sound p c l h s w span P f (row_of t n c l h) (sound_at t.coding (t.asks c h) h p (n.point c l h) (pays.sound p c l h)) here (pays.owes p c l h s w span) (pays.aims p c l h)
 
     pub went_here : Went t n p c h s span (step_by t.memory (t.word l) (t.act c l h) w) (change_by t.memory (t.word l) (t.act c l h) p w) (by_step (manner_by (t.asks c h) (t.act c l h)))
-    went_here = by_row _ (λ row at sound owes. step_is t n pays.sound p c l h s w span row at sound (t.word l) (t.act c l h) (λ d is. (fits_made t.coding (t.asks c h) _ _ d (and_parts _ _ (pays.fits p c l h)).0 is).0) at.known.expects owes)
+    went_here = by_row _ (λ row at sound owes aims. step_is t n pays.sound p c l h s w span row at sound (t.word l) (t.act c l h) (λ d is. (fits_made t.coding (t.asks c h) _ _ d (and_parts _ _ (pays.fits p c l h)).0 is).0) at.known.expects owes)
 
     pub can_here : can_by t.memory (t.word l) (t.act c l h) w ≡ true
-    can_here = by_row _ (λ row at sound owes. can_is t n pays.sound p c l h s w span row at sound (t.word l) (t.act c l h) owes)
+    can_here = by_row _ (λ row at sound owes aims. can_is t n pays.sound p c l h s w span row at sound (t.word l) (t.act c l h) owes)
 
     pub refusal_here : (next : Next L A) → refusal_by (t.act c l h) ≡ Some next → NextIs (machine_of t) (keeping_of t n) Weak p c h s (mark_of p None weak s ∷ span) next × (may_be_weak (t.asks c h) ≡ true) × (own p span ≡ before_weakly (t.asks c h) p)
-    refusal_here next is = by_row _ (λ row at sound owes. refusal_is t n pays.sound p c l h s w span row at sound (t.word l) (t.act c l h) next owes is)
+    refusal_here next is = by_row _ (λ row at sound owes aims. refusal_is t n pays.sound p c l h s w span row at sound (t.word l) (t.act c l h) next owes is)
 
     pub counted_here : GoesOnCounted (λ u. change_by t.memory (t.word l) (t.act c l h) p u) s (step_by {V = V} t.memory (t.word l) (t.act c l h) w).next (change_by t.memory (t.word l) (t.act c l h) p w) (by_step (manner_by (t.asks c h) (t.act c l h)))
-    counted_here = by_row _ (λ row at sound owes. counted_is t n pays.sound p c l h s w span row at sound (t.word l) (t.act c l h) owes)
+    counted_here = by_row _ (λ row at sound owes aims. counted_is t n pays.sound p c l h s w span row at sound (t.word l) (t.act c l h) owes)
+
+    pub due_here : Gets t.coding p (t.asks c h) span s (change_by t.memory (t.word l) (t.act c l h) p w) (by_step (manner_by (t.asks c h) (t.act c l h)))
+    due_here ask aim = by_row _ (λ row at sound owes aims.
+        let is = subst (λ cs. goes_for (t.asks c h) cs ≡ Some ask) at.known.made aim in
+        let way = way_of t.coding (t.asks c h) (row.made p) in
+        let act = t.act c l h in
+        subst (λ cs. let way = way_of t.coding (t.asks c h) cs in (is_due_by way p span ≡ true → is_open_to s p ask ≡ true → change_by t.memory (t.word l) act p w ≡ Some (gets p ask)) × LooksElse way p span (by_step (manner_by (t.asks c h) act))) (sym at.known.made)
+        (gets_is t n pays.sound p c l h s w span row at sound (t.word l) act ask way (goes_waiting (t.asks c h) (row.made p) ask is) (subst (λ o. Needs (need o way (rests act) (peeks act)) p span) is at.known.needs) (aims_sure (t.asks c h) act (row.made p) ask p is aims) owes))
+
+    pub tries_here : (ask : Ask) → t.asks c h ≡ tries ask → own p span ≡ [] → GoesOnOpen ask p span s (step_by {V = V} t.memory (t.word l) (t.act c l h) w).next (change_by t.memory (t.word l) (t.act c l h) p w)
+    tries_here ask is none = by_row _ (λ row at sound owes aims.
+        tries_is t n pays.sound p c l h s w span row at sound ask is (t.word l) (t.act c l h)
+        (aims_try (t.asks c h) (t.act c l h) (row.made p) ask p is (sym at.known.made ∙ none) aims) owes)
 
     pub soon_here : is_open_now p (t.asks c h) span s ≡ true → answers_by t (steps_alone t.coding (t.asks c h)) w c l h ≡ true
     soon_here may = soon_at t n pays.sound p c l h s w span (row_of t n c l h) here (pays.soon p c l h s w span) may
@@ -356,6 +488,8 @@ module _ {W V C L A : Type 0} (t : Table W V C L A) (n : Notes t) (pays : Pays t
         can = λ p c l h s v w span here. can_here t n pays p c l h s w span here.encodes here.shape here.exclusive here.retries here.knows;
         steps = step_here;
         counted = λ p c l h s v w span here. counted_here t n pays p c l h s w span here.encodes here.shape here.exclusive here.retries here.knows;
+        due = λ p c l h s v w span here. due_here t n pays p c l h s w span here.encodes here.shape here.exclusive here.retries here.knows;
+        tries_on = λ p c l h s v w span here. tries_here t n pays p c l h s w span here.encodes here.shape here.exclusive here.retries here.knows;
         completes_alone = λ p c l h s v w span here q is. absurd (no_completion p c l h w q is);
         undisturbed = λ p c l h s v w span here may. answers_within t n pays.sound (steps_alone t.coding (t.asks c h)) w c l h (soon_here t n pays p c l h s w span here.encodes here.shape here.exclusive here.retries here.knows may);
         refuses = λ p c l h s v w span next here is. (refusal_here t n pays p c l h s w span here.encodes here.shape here.exclusive here.retries here.knows next is).0;

@@ -1,29 +1,33 @@
 -- What a party in a call knows of itself and of its span, and that its own steps and those of others keep it.
-use Rattle.std.proofs.Common.{◌≡◌, ℕ, suc, ◌+◌, ◌≤◌, ◌⊎◌, ◌==◌, Bool, true, false, not, ◌&&◌, is_some, Option, Some, None, List, [], ◌∷◌, ◌++◌, option_to_list, nat_lt, if◌then◌else◌, refl, ap, sym, ◌∙◌, subst, arith, inl, inr, ⊎_elim}
-use Rattle.std.proofs.lemmas.Bool.{ne_eqb, eqb-true, ltb-true, cases_eq, eq-eqb}
-use Rattle.spin_step.specs.Plain.{Plain, upgradable, writing, Ask, to_read, to_upgrade_asked, to_enter, to_lock_unregistered, to_lock_starving, to_begin, Change, gets, turns, completes, fails, arrives, is_open}
-use Rattle.spin_step.specs.Parties.{apply_some, IsOpenStep, entries}
+use Rattle.std.proofs.Common.{◌≡◌, ℕ, suc, ◌+◌, ◌≤◌, ◌⊎◌, ◌==◌, Bool, true, false, not, ◌&&◌, ◌||◌, is_some, Option, Some, None, List, [], ◌∷◌, ◌++◌, option_to_list, nat_lt, if◌then◌else◌, refl, ap, sym, ◌∙◌, subst, arith, inl, inr, ⊎_elim}
+use Rattle.std.proofs.lemmas.Bool.{ne_eqb, eqb-true, ltb-true, cases_eq, eq-eqb, true≢false}
+use Rattle.spin_step.specs.Plain.{Plain, upgradable, writing, Ask, to_read, to_upgrade_asked, to_enter, to_take_and_enter, to_lock_unregistered, to_lock_starving, to_begin, Change, gets, turns, completes, fails, arrives, is_open, is_open_to}
+use Rattle.spin_step.specs.Parties.{apply_some, IsOpenStep, entries, is_held}
 use Rattle.spin_step.specs.Steps.{bit}
 use Rattle.spin_step.proofs.Entries.{entries-other}
 use Rattle.spin_world_core.specs.declared.place.Hold.{Hold}
 use Rattle.spin_world_core.specs.declared.place.Hold.TheVariants.{Upgradable, Write}
-use Rattle.spin_world_core.specs.Manners.{Manner, is_again}
+use Rattle.spin_world_core.specs.Manners.{Manner, is_again, is_look}
 use Rattle.spin_world_core.specs.Calls.{Coding, ticket, Asked, waits, waits_or_starves, tries, tries_weakly, tries_to_know, looks, counts_readers, counts_writers, turns_to, gives_back, initializes, fails_to_initialize, waits_for_value, polls, looks_for_value, looks_complete, meets, Said, granted, refused, done, tells, counted, gives_value, failed, leads, grant, let_go_of, own_steps, Mark, AnyOf, Grants, HasMoment, HasWeakMoment, FindsClosed, first_word, Limit, unlimited, within, within_changes, gets_within, changes_within, registers_after, limit}
 use Rattle.spin_world_core.specs.Runs.{mark_of, own, own_count, failures, changes, RegistersInTime, EndsWithin, GoesOnWithin}
-use Rattle.spin_world_core.specs.Acts.{Act, retry}
+use Rattle.spin_world_core.specs.Order.{goes_for, is_due, Way, always, by_looks, past_looks, way_of, is_due_by, MayTryOn}
+use Rattle.spin_world_core.specs.Acts.{Act, load, load_if, load_for, attempt, retry}
+use Rattle.spin_world_core.proofs.Lists.{eqb_self}
 use Rattle.spin_world_core.proofs.Stands.{Stand, entries_at, stand_of}
 use Rattle.spin_world_core.proofs.Spans.{nil_left, own-mine, own-other, own_count-mine, own_count-other, failures-mine, failures-other, changes-mine, changes-other}
 
 -- The count of its steps
 
--- an own step makes its way, is a retry that failed, or finds that a plain step is closed
+-- an own step makes its way, finds that a plain step is open, is a retry that failed, or finds that a plain step is closed
 pub data Turn : Type 0 where
   goes : Turn
+  finds_open : Turn
   loses : Turn
   misses : Change → Turn
 
 abbrev pub Turned : Turn → Plain → Option Change → Manner → Type 0
 Turned goes s step r = Unit {0}
+Turned finds_open s step r = Unit {0}
 Turned loses s step r = (is_again r ≡ true) × (step ≡ None)
 Turned (misses c) s step r = is_open s c ≡ false
 
@@ -44,11 +48,36 @@ MaySpend (within_changes n) loses cs j k p coding span = nat_lt j (suc k) ≡ tr
 MaySpend (within_changes n) t cs j k p coding span = nat_lt j k ≡ true
 MaySpend (gets_within ask n) t (c ∷ cs) j k p coding span = Unit {0}
 MaySpend (gets_within ask n) goes [] j k p coding span = nat_lt j k ≡ true
+MaySpend (gets_within ask n) finds_open [] j k p coding span = nat_lt j k ≡ true
 MaySpend (gets_within ask n) loses [] j k p coding span = nat_lt j (suc k) ≡ true
 MaySpend (gets_within ask n) (misses c) [] j k p coding span = c ≡ gets p ask
 MaySpend (changes_within n) t (c ∷ cs) j k p coding span = Unit {0}
 MaySpend (changes_within n) t [] j k p coding span = nat_lt j k ≡ true
 MaySpend (registers_after n i) t cs j k p coding span = GoesOnWithin (registers_after n i) coding p span
+
+-- a try that has found its plain step closed goes on no more, and by a look alone only where it may
+abbrev pub MayGoOn : Asked → Turn → Option Change → ℕ → Plain → List Mark → Type 0 → Type 0
+MayGoOn (tries ask) (misses c) step p s span Spend = ⊥
+MayGoOn (tries ask) goes None p s span Spend = Spend × MayTryOn ask p span s
+MayGoOn what turn step p s span Spend = Spend
+
+pub may_spend : (what : Asked) (turn : Turn) (step : Option Change) (p : ℕ) (s : Plain) (span : List Mark) (Spend : Type 0) → MayGoOn what turn step p s span Spend → Spend
+may_spend (tries ask) (misses c) step p s span Spend may = absurd may
+may_spend (tries ask) goes None p s span Spend may = may.0
+may_spend (tries ask) goes (Some c) p s span Spend may = may
+may_spend (tries ask) finds_open step p s span Spend may = may
+may_spend (tries ask) loses step p s span Spend may = may
+may_spend what turn step p s span Spend may = may
+
+pub may_try : (what : Asked) (ask : Ask) (p : ℕ) (s : Plain) (span : List Mark) (Spend : Type 0) → what ≡ tries ask → MayGoOn what goes None p s span Spend → MayTryOn ask p span s
+may_try what ask p s span Spend is may = (subst (λ k. MayGoOn k goes None p s span Spend) is may).1
+
+pub no_try : (what : Asked) (ask : Ask) (c : Change) (step : Option Change) (p : ℕ) (s : Plain) (span : List Mark) (Spend : Type 0) → what ≡ tries ask → MayGoOn what (misses c) step p s span Spend → ⊥
+no_try what ask c step p s span Spend is may = subst (λ k. MayGoOn k (misses c) step p s span Spend) is may
+
+pub tries_open : (ask : Ask) (p : ℕ) (span : List Mark) (s : Plain) → is_open_to s p ask ≡ true → MayTryOn ask p span s
+tries_open to_take_and_enter p span s may = inl may
+tries_open _ p span s may = may
 
 -- with so many spent a call may go on
 abbrev pub is_timely : Limit → List Change → ℕ → Bool
@@ -80,10 +109,12 @@ module _ (p : ℕ) (s : Plain) (step : Option Change) (r : Manner) (span : List 
   pub spent-mine : (what : Limit) (coding : Coding) (t : Turn) (cs : List Change) (j k : ℕ) → Turned t s step r → own p (mark_of p step r s ∷ span) ≡ cs → MaySpend what t cs j k p coding (mark_of p step r s ∷ span) → Spends what j p span → Spends what k p (mark_of p step r s ∷ span)
   spent-mine (within n) coding t cs j k how is may spent = omega (arith, own_count-mine p step r s span, ltb-true j k may)
   spent-mine (within_changes n) coding goes cs j k how is may spent = counts_one j k may spent
+  spent-mine (within_changes n) coding finds_open cs j k how is may spent = counts_one j k may spent
   spent-mine (within_changes n) coding loses cs j k how is may spent = counts_lost j k may how spent
   spent-mine (within_changes n) coding (misses c) cs j k how is may spent = counts_one j k may spent
   spent-mine (gets_within ask n) coding t (c ∷ cs) j k how is may spent = λ none. absurd (cc (is, none))
   spent-mine (gets_within ask n) coding goes [] j k how is may spent = λ none. on_each (counts_one j k may) (λ found. inr found) (spent (none_before none))
+  spent-mine (gets_within ask n) coding finds_open [] j k how is may spent = λ none. on_each (counts_one j k may) (λ found. inr found) (spent (none_before none))
   spent-mine (gets_within ask n) coding loses [] j k how is may spent = λ none. on_each (counts_lost j k may how) (λ found. inr found) (spent (none_before none))
   spent-mine (gets_within ask n) coding (misses c) [] j k how is may spent = λ none. inr (inl (refl, subst (λ d. is_open s d ≡ false) may how))
   spent-mine (changes_within n) coding t (c ∷ cs) j k how is may spent = λ none. absurd (cc (is, none))
@@ -297,11 +328,70 @@ abbrev pub Found : {W L A : Type 0} → Act W L A → ℕ → Option Change → 
 Found (retry k f step won found missed) n made = (made ≡ None) × (n ≡ k) × (is_some (f k) ≡ true)
 Found _ n made = Unit {0}
 
+-- what a point needs of what is due there
+pub data Need : Type 0 where
+  free : Need
+  due : Need
+  undue : Need
+  never : Need
+
+-- a load, or an exchange that may fail though its plain step is open
+abbrev pub rests : {W L A : Type 0} → Act W L A → Bool
+rests (load next) = true
+rests (load_if test a b) = true
+rests (load_for f step found missed) = true
+rests (attempt k f step won lost) = true
+rests (retry k f step won found missed) = true
+rests _ = false
+
+abbrev pub peeks : {W L A : Type 0} → Act W L A → Bool
+peeks (load_if test a b) = true
+peeks _ = false
+
+-- by whether the next step rests, and whether it is a look
+abbrev pub need : Option Ask → Way → Bool → Bool → Need
+need None way resting peeking = free
+need (Some ask) by_looks true true = undue
+need (Some ask) by_looks false peeking = due
+need (Some ask) past_looks true peeking = undue
+need (Some ask) way false peeking = free
+need (Some ask) way resting peeking = never
+
+abbrev pub need_of : {W L A : Type 0} → Coding → Asked → List Change → Act W L A → Need
+need_of coding what made act = need (goes_for what made) (way_of coding what made) (rests act) (peeks act)
+
+abbrev pub Needs : Need → ℕ → List Mark → Type 0
+Needs free p span = Unit {0}
+Needs due p span = is_due p span ≡ true
+Needs undue p span = is_due p span ≡ false
+Needs never p span = ⊥
+
+-- what is owed of that by a step before it
+abbrev pub makes_due : Option Change → Manner → Plain → Bool
+makes_due step r s = is_some step || (is_look r && not (is_held s))
+
+abbrev pub FoundBy : Need → Type 0 → Option Change → Manner → Plain → Type 0
+FoundBy free Finds step r s = Finds
+FoundBy due Finds step r s = Finds × (makes_due step r s ≡ true)
+FoundBy undue Finds step r s = Finds × (makes_due step r s ≡ false)
+FoundBy never Finds step r s = ⊥
+
+-- and by a beginning
+abbrev pub NoRetry : {W L A : Type 0} → Act W L A → Type 0
+NoRetry (retry k f step won found missed) = ⊥
+NoRetry _ = Unit {0}
+
+abbrev pub BeginsBy : Need → Type 0 → Type 0
+BeginsBy undue Begins = ⊥
+BeginsBy never Begins = ⊥
+BeginsBy _ Begins = Begins
+
 pub record Known {W L A : Type 0} (coding : Coding) (what : Asked) (act : Act W L A) (row : Row) (p : ℕ) (s : Plain) (span : List Mark) : Type 0 where
   pub stand : entries p s ≡ entries_at p row.stand
   pub made : own p span ≡ row.made p
   pub spent : Spends (limit coding what) row.spent p span
   pub expects : Expects coding act p s span
+  pub needs : Needs (need_of coding what (row.made p) act) p span
   pub opened : Opened span
 
 -- after a step of its own
@@ -316,6 +406,28 @@ expects-mine coding (retry k f c won found missed) n p s step r span is le finds
     (unmoved (failures p (mark_of p step r s ∷ span)) (changes coding p (mark_of p step r s ∷ span)) coding p k s step le finds.0 (sym is ∙ finds.1), finds.2)
 expects-mine coding _ n p s step r span is le finds = tt
 
+due-mine : (p : ℕ) (s : Plain) (step : Option Change) (r : Manner) (span : List Mark) → is_due p (mark_of p step r s ∷ span) ≡ makes_due step r s
+due-mine p s step r span = ap (λ b. if b then makes_due step r s else is_due p span) (eqb_self p)
+
+pub needs-mine : (needed : Need) (Finds : Type 0) (p : ℕ) (s : Plain) (step : Option Change) (r : Manner) (span : List Mark) → FoundBy needed Finds step r s → Needs needed p (mark_of p step r s ∷ span) × Finds
+needs-mine free Finds p s step r span found = (tt, found)
+needs-mine due Finds p s step r span found = (due-mine p s step r span ∙ found.1, found.0)
+needs-mine undue Finds p s step r span found = (due-mine p s step r span ∙ found.1, found.0)
+needs-mine never Finds p s step r span found = absurd found
+
+pub needs_first : (needed : Need) (Begins : Type 0) (p : ℕ) → BeginsBy needed Begins → Needs needed p [] × Begins
+needs_first free Begins p begins = (tt, begins)
+needs_first due Begins p begins = (refl, begins)
+needs_first undue Begins p begins = absurd begins
+needs_first never Begins p begins = absurd begins
+
+-- a step that rests goes for nothing
+pub rests_undue : (ask : Ask) (way : Way) (peeking : Bool) (p : ℕ) (span : List Mark) → Needs (need (Some ask) way true peeking) p span → is_due_by way p span ≡ true → ⊥
+rests_undue ask always peeking p span needs is = needs
+rests_undue ask by_looks true p span needs is = true≢false (sym is ∙ needs)
+rests_undue ask by_looks false p span needs is = needs
+rests_undue ask past_looks peeking p span needs is = true≢false (sym is ∙ needs)
+
 -- as a call begins
 
 pub none_spent : (what : Limit) (k p : ℕ) → Spends what k p []
@@ -324,10 +436,6 @@ none_spent (within_changes n) k p = omega arith
 none_spent (gets_within ask n) k p = λ none. inl (omega arith)
 none_spent (changes_within n) k p = λ none. omega arith
 none_spent _ k p = tt
-
-abbrev pub NoRetry : {W L A : Type 0} → Act W L A → Type 0
-NoRetry (retry k f step won found missed) = ⊥
-NoRetry _ = Unit {0}
 
 pub none_expected : {W L A : Type 0} (coding : Coding) (act : Act W L A) (p : ℕ) (s : Plain) → NoRetry act → Expects coding act p s []
 none_expected coding (retry k f step won found missed) p s none = absurd none
@@ -364,6 +472,15 @@ expects-other coding (retry k f c won found missed) p q s step r span ne expects
 )
 expects-other coding _ p q s step r span ne expects = tt
 
+due-other : (p q : ℕ) (s : Plain) (step : Option Change) (r : Manner) (span : List Mark) → (q ≡ p → ⊥) → is_due p (mark_of q step r s ∷ span) ≡ is_due p span
+due-other p q s step r span ne = ap (λ b. if b then makes_due step r s else is_due p span) (ne_eqb q p ne)
+
+needs-other : (needed : Need) (p q : ℕ) (s : Plain) (step : Option Change) (r : Manner) (span : List Mark) → (q ≡ p → ⊥) → Needs needed p span → Needs needed p (mark_of q step r s ∷ span)
+needs-other free p q s step r span ne needs = tt
+needs-other due p q s step r span ne needs = due-other p q s step r span ne ∙ needs
+needs-other undue p q s step r span ne needs = due-other p q s step r span ne ∙ needs
+needs-other never p q s step r span ne needs = needs
+
 pub known-other : {W L A : Type 0} (coding : Coding) (what : Asked) (act : Act W L A) (row : Row) (p q : ℕ) (s : Plain) (step : Option Change) (r : Manner) (span : List Mark) → (q ≡ p → ⊥) → IsOpenStep s q step
     → Known coding what act row p s span → Known coding what act row p (apply_some s step) (mark_of q step r s ∷ span)
 known-other coding what act row p q s step r span ne may known =
@@ -372,5 +489,6 @@ known-other coding what act row p q s step r span ne may known =
       made = own-other p q step r s span ne ∙ known.made;
       spent = spent-other (limit coding what) row.spent p q s step r span ne known.spent;
       expects = expects-other coding act p q s step r span ne known.expects;
+      needs = needs-other (need_of coding what (row.made p) act) p q s step r span ne known.needs;
       opened = (may, known.opened);
     }

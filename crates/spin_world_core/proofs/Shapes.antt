@@ -1,21 +1,22 @@
 -- What the table of an object owes, point by point, and that its machine then shows all local facts.
 use Rattle.std.proofs.Common.{◌≡◌, ℕ, zero, suc, ◌≤◌, Bool, true, false, ◌||◌, ◌==◌, is_some, Option, Some, None, List, [], ◌∷◌, ◌++◌, option_to_list}
-use Rattle.spin_step.specs.Plain.{Plain, Change, apply, is_open, is_empty}
+use Rattle.spin_step.specs.Plain.{Plain, Ask, Change, gets, apply, is_open, is_empty}
 use Rattle.spin_step.specs.Parties.{apply_some, IsOpenStep, IsExclusive}
 use Rattle.spin_world_core.specs.declared.place.Hold.{Hold}
 use Rattle.spin_world_core.specs.declared.object.Next.{Next}
 use Rattle.spin_world_core.specs.declared.object.Next.TheVariants.{GoesOn, Answers}
 use Rattle.spin_world_core.specs.Manners.{Manner, plain, again, weak, by_step}
-use Rattle.spin_world_core.specs.Calls.{Asked, encoded, BelongsTo, own_steps, Mark, AnyOf, Limit, registers_after, limit, may_be_weak, before_weakly}
+use Rattle.spin_world_core.specs.Calls.{Asked, tries, encoded, BelongsTo, own_steps, Mark, AnyOf, Limit, registers_after, limit, may_be_weak, before_weakly}
 use Rattle.spin_world_core.specs.Undisturbed.{arrived, is_open_next, steps_alone}
+use Rattle.spin_world_core.specs.Order.{goes_for}
 use Rattle.spin_world_core.specs.Machines.{opening_plain}
 use Rattle.spin_world_core.specs.Runs.{mark_of, failures, changes}
-use Rattle.spin_world_core.specs.Acts.{number_at, Act, load, load_if, load_for, enter, exchange, weak_exchange, attempt, retry, store, section, swap, tried, guessed, passing, place_of, step_by, is_waiting, look_manner, Table, begin_of, machine_of}
+use Rattle.spin_world_core.specs.Acts.{number_at, Act, load, load_if, load_for, enter, exchange, weak_exchange, attempt, retry, store, section, swap, tried, guessed, passing, place_of, step_by, makes_by, is_waiting, look_manner, Table, begin_of, machine_of}
 use Rattle.spin_world_core.specs.Operations.{performed}
 use Rattle.spin_world_core.proofs.Facts.{LocalInvariant}
 use Rattle.spin_world_core.proofs.Operating.{fits_act, Operates}
 use Rattle.spin_world_core.proofs.Stands.{stand_of, stand_after}
-use Rattle.spin_world_core.proofs.Rows.{Turn, goes, loses, misses, MaySpend, OwesRight, Row, Point, row_at, SoundAt, Found, NoRetry, Known}
+use Rattle.spin_world_core.proofs.Rows.{Turn, goes, finds_open, loses, misses, MaySpend, MayGoOn, OwesRight, Row, Point, row_at, SoundAt, Found, need_of, FoundBy, NoRetry, BeginsBy, Known}
 
 -- what an object notes beside its table: the shape of its plain lock, the row of each point, and what else a party knows there
 pub record Notes {W V C L A : Type 0} (t : Table W V C L A) : Type 1 where
@@ -82,7 +83,8 @@ module _ {W V C L A : Type 0} (t : Table W V C L A) (notes : Notes t) (p : ℕ) 
   FollowsRow step r turn l None = ⊥
   FollowsRow step r turn l (Some to) =
       (stand_after s.next step row.stand ≡ Some to.stand) × (row.made p ++ option_to_list step ≡ to.made p)
-      × MaySpend (limit t.coding (k.asks h)) turn (to.made p) row.spent to.spent p t.coding (mark_of p step r s ∷ span) × Found (k.act l h) (number_at t.memory 0 w) step × k.Knows l h p (apply_some s step) (mark_of p step r s ∷ span)
+      × MayGoOn (k.asks h) turn step p s span (MaySpend (limit t.coding (k.asks h)) turn (to.made p) row.spent to.spent p t.coding (mark_of p step r s ∷ span))
+      × FoundBy (need_of t.coding (k.asks h) (to.made p) (k.act l h)) (Found (k.act l h) (number_at t.memory 0 w) step) step r s × k.Knows l h p (apply_some s step) (mark_of p step r s ∷ span)
 
   -- how a call goes on is right, by this step and this turn
   abbrev pub Follows : Bool → Option Change → Manner → Turn → Next L A → Type 0
@@ -98,7 +100,7 @@ module _ {W V C L A : Type 0} (t : Table W V C L A) (notes : Notes t) (p : ℕ) 
       let looking = by_step (look_manner (k.asks h)) in
       (test n ≡ true → Follows false None looking goes (a n)) × (test n ≡ false → Follows false None looking goes (b n))
   OwesOn i n (load_for f step found missed) =
-      Means t notes p s (step p) (λ j. t.memory.put i j w) (f n) × (is_some (f n) ≡ true → Follows false None plain goes (found n)) × (is_open s (step p) ≡ false → Follows false None plain (misses (step p)) missed)
+      Means t notes p s (step p) (λ j. t.memory.put i j w) (f n) × (is_some (f n) ≡ true → Follows false None plain finds_open (found n)) × (is_open s (step p) ≡ false → Follows false None plain (misses (step p)) missed)
   OwesOn i n (enter test step won lost) =
       let looking = by_step (look_manner (k.asks h)) in
       Means t notes p s (step p) (λ j. w) (passing (test n) n) × Follows false (Some (step p)) looking goes won × (is_open s (step p) ≡ false → Follows false None looking (misses (step p)) lost)
@@ -148,11 +150,43 @@ OwesSoon t n p c l h s w span = AnswersRow t n p (call_of t n c) l h s w span (a
 -- a call begins with a row that says so
 abbrev pub BeginsRow : {W V C L A : Type 0} (t : Table W V C L A) → Notes t → C → L → Option Hold → ℕ → Plain → Option Row → Type 0
 BeginsRow t n c l h p s None = ⊥
-BeginsRow t n c l h p s (Some row) = (row.stand ≡ stand_of h) × (row.made p ≡ []) × NoRetry (t.act c l h) × n.Knows c l h p s []
+BeginsRow t n c l h p s (Some row) = (row.stand ≡ stand_of h) × (row.made p ≡ []) × BeginsBy (need_of t.coding (t.asks c h) (row.made p) (t.act c l h)) (NoRetry (t.act c l h)) × n.Knows c l h p s []
 
 abbrev pub BeginsAt : {W V C L A : Type 0} (t : Table W V C L A) → Notes t → C → Option Hold → ℕ → Plain → Option L → Type 0
 BeginsAt t n c h p s None = Unit {0}
 BeginsAt t n c h p s (Some l) = BeginsRow t n c l h p s (row_of t n c l h)
+
+-- the plain step that a step makes wherever it is open
+abbrev pub sure_by : {W L A : Type 0} → Act W L A → ℕ → Option Change
+sure_by (enter test step won lost) p = Some (step p)
+sure_by (exchange operation step won lost) p = Some (step p)
+sure_by (weak_exchange k f step won lost) p = Some (step p)
+sure_by (store can operation step next) p = Some (step p)
+sure_by (section can f step won lost) p = Some (step p)
+sure_by _ p = None
+
+-- and of a try also the one that it looks for
+abbrev pub aim_by : {W L A : Type 0} → Asked → Act W L A → ℕ → Option Change
+aim_by (tries ask) (load_for f step found missed) p = Some (step p)
+aim_by (tries ask) act p = makes_by act p
+aim_by what act p = sure_by act p
+
+-- what a call gets next that tries, or goes for it without a look: its steps are for that and nothing else
+abbrev pub aim_of : Asked → List Change → Option Ask
+aim_of (tries ask) [] = Some ask
+aim_of (tries ask) (c ∷ cs) = None
+aim_of what made = goes_for what made
+
+abbrev pub aimed : ℕ → Option Ask → Option Change → Option Change
+aimed p (Some ask) (Some c) = Some (gets p ask)
+aimed p _ step = step
+
+abbrev pub aimed_at : ℕ → Asked → Option Row → Option Change → Option Change
+aimed_at p what None step = step
+aimed_at p what (Some row) step = aimed p (aim_of what (row.made p)) step
+
+abbrev pub AimsAt : {W V C L A : Type 0} (t : Table W V C L A) → Notes t → ℕ → C → L → Option Hold → Type 0
+AimsAt t n p c l h = aim_by (t.asks c h) (t.act c l h) p ≡ aimed_at p (t.asks c h) (row_of t n c l h) (aim_by (t.asks c h) (t.act c l h) p)
 
 -- what an object shows of its table
 pub record Pays {W V C L A : Type 0} (t : Table W V C L A) (n : Notes t) : Type 0 where
@@ -163,6 +197,7 @@ pub record Pays {W V C L A : Type 0} (t : Table W V C L A) (n : Notes t) : Type 
   pub numbers_tell : (v w : W) → t.memory.numbers v ≡ t.memory.numbers w → v ≡ w
   pub one_list : (s : Plain) → n.Shape s → (is_empty s.holders || is_empty s.tickets) ≡ true
   pub sound : (p : ℕ) (c : C) (l : L) (h : Option Hold) → SoundAt t.coding (t.asks c h) p (n.point c l h)
+  pub aims : (p : ℕ) (c : C) (l : L) (h : Option Hold) → AimsAt t n p c l h
   pub begins : (p : ℕ) (c : C) (h : Option Hold) (s : Plain) → BeginsAt t n c h p s (begin_of t c h)
   pub others : (p q : ℕ) (c : C) (l : L) (h : Option Hold) (s : Plain) (step : Option Change) (r : Manner) (span : List Mark) → (q ≡ p → ⊥) → n.Shape s → IsOpenStep s q step → BelongsTo t.coding step
       → n.Knows c l h p s span → n.Knows c l h p (apply_some s step) (mark_of q step r s ∷ span)

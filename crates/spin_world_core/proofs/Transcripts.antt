@@ -1,5 +1,5 @@
 -- A transcript tells the scenes, and a place what its party's moves and entries say.
-use Rattle.std.proofs.Common.{◌≡◌, ℕ, zero, suc, ◌≤◌, ◌==◌, Bool, true, false, Option, Some, None, List, [], ◌∷◌, ◌++◌, length, map, replicate, slice_get, slice_set, if◌then◌else◌, refl, ap, sym, ◌∙◌, subst, arith, ⊎_elim}
+use Rattle.std.proofs.Common.{◌≡◌, ℕ, ◌<◌, zero, suc, ◌≤◌, ◌==◌, Bool, true, false, Option, Some, None, List, [], ◌∷◌, ◌++◌, length, map, replicate, slice_get, slice_set, if◌then◌else◌, refl, ap, sym, ◌∙◌, subst, arith, ⊎_elim}
 use Rattle.std.specs.Option.{option_map}
 use Rattle.std.proofs.lemmas.Bool.Decides.{eqb_tells}
 use Rattle.std.proofs.lemmas.List.{length-replicate}
@@ -235,11 +235,18 @@ none_there [] p e = omega arith
 none_there (x ∷ xs) zero e = absurd (cc (e))
 none_there (x ∷ xs) (suc p) e = omega (arith, none_there xs p e)
 
-says_at : {C L : Type 0} (n p : ℕ) (s : Plain) (span : List Mark) (o : Option (Seat C L)) → (o ≡ None → n ≤ p) → StandsFor s p span o → PlaceSays (stage_of o) n s p span (option_map place_of o)
-says_at n p s span None past stands = (past refl, stands)
-says_at n p s span (Some (Calling c l h)) past stands = (h, stands)
-says_at n p s span (Some (Gone h)) past stands = (h, stands)
-says_at n p s span _ past stands = stands
+there_within : {X : Type 0} (xs : List X) (p : ℕ) (x : X) → slice_get xs p ≡ Some x → p < length xs
+there_within [] p x e = absurd (cc (e))
+there_within (y ∷ xs) zero x e = omega arith
+there_within (y ∷ xs) (suc p) x e = omega (arith, there_within xs p x e)
+
+says_at : {C L : Type 0} (n p : ℕ) (s : Plain) (span : List Mark) (o : Option (Seat C L)) → (o ≡ None → n ≤ p) → ((x : Seat C L) → o ≡ Some x → p < n) → StandsFor s p span o → PlaceSays (stage_of o) n s p span (option_map place_of o)
+says_at n p s span None past within stands = (past refl, stands)
+says_at n p s span (Some (Calling c l h)) past within stands = (within _ refl, h, stands)
+says_at n p s span (Some (Gone h)) past within stands = (within _ refl, h, stands)
+says_at n p s span (Some Idle) past within stands = (within _ refl, stands)
+says_at n p s span (Some (Holding h)) past within stands = (within _ refl, stands)
+says_at n p s span (Some (Leaked h)) past within stands = (within _ refl, stands)
 
 says_seen : {W V C L A : Type 0} (m : Machine W V C L A) (p n : ℕ) (past : List (ℕ × Move C V)) → KeepsAll m n past
     → let seen = seen_after m (opening m n) past in PlaceSays (stage_after p at_rest (scenes m (opening m n) past)) n seen.plain p (seen.span p) (option_map place_of (slice_get seen.state.seats p))
@@ -249,7 +256,7 @@ says_seen {C = C} {L = L} m p n past keeps =
     let count = length-seen_after m (opening m n) past ∙ length-replicate n Idle in
     let stands = stand_after m (opening m n) past keeps.each (λ q. none_stand C L (opening_plain m) n q q refl) p in
     subst (λ st. PlaceSays st n seen.plain p (seen.span p) (option_map place_of (slice_get seen.state.seats p))) stage
-    (says_at n p seen.plain (seen.span p) (slice_get seen.state.seats p) (λ e. omega (arith, count, none_there seen.state.seats p e)) stands)
+    (says_at n p seen.plain (seen.span p) (slice_get seen.state.seats p) (λ e. omega (arith, count, none_there seen.state.seats p e)) (λ x e. omega (arith, count, there_within seen.state.seats p x e)) stands)
 
 pub says_after : {W V C L A : Type 0} (m : Machine W V C L A) (s : State W V C L) (p : ℕ) → ((n : ℕ) (past : List (ℕ × Move C V)) → KeepsAll m n past)
     → (told : Option Place) → told ≡ option_map place_of (slice_get s.seats p) → SaysAfterAnyPast m s p told

@@ -7,11 +7,11 @@ use Rattle.spin_step.specs.Steps.{Decides}
 use Rattle.spin_world_core.specs.declared.place.Hold.{Hold}
 use Rattle.spin_world_core.specs.declared.object.Next.{Next}
 use Rattle.spin_world_core.specs.declared.object.Next.TheVariants.{GoesOn, Answers}
-use Rattle.spin_world_core.specs.Calls.{encoded, Mark}
+use Rattle.spin_world_core.specs.Calls.{Asked, encoded, Mark}
 use Rattle.spin_world_core.specs.Manners.{Manner}
 use Rattle.spin_world_core.specs.Acts.{number_at, Act, retry, either, step_by, Table}
 use Rattle.spin_world_core.proofs.Rows.{Turn, Row}
-use Rattle.spin_world_core.proofs.Shapes.{Notes, Means, CallOf, AtPoint, Follows, goes_by, answers_by}
+use Rattle.spin_world_core.proofs.Shapes.{aim_of, aimed, aimed_at, Notes, Means, CallOf, AtPoint, Follows, goes_by, answers_by}
 
 -- The words
 
@@ -50,6 +50,11 @@ pub branches : {W V C L A : Type 0} {t : Table W V C L A} {n : Notes t} {k : Cal
     → (b ≡ true → Follows t n p k h s w span row false step r turn x) → (b ≡ false → Follows t n p k h s w span row false step r turn y) → Follows t n p k h s w span row false step r turn (either b x y)
 branches p at step r turn true x y f g = f refl
 branches p at step r turn false x y f g = g refl
+
+-- a call that neither tries nor goes for anything without a look
+pub aimless : (p : ℕ) (what : Asked) (o : Option Row) (step : Option Change) → ((made : List Change) → aim_of what made ≡ None) → step ≡ aimed_at p what o step
+aimless p what None step none = refl
+aimless p what (Some row) step none = sym (ap (λ aim. aimed p aim step) (none (row.made p)))
 
 -- Run alone
 

@@ -283,7 +283,7 @@ pub data Limit : Type 0 where
   changes_within : ℕ → Limit  -- a call that waits has made a plain step by then
   registers_after : ℕ → ℕ → Limit  -- from each look on that finds the lock held after so many others, a call that waits registers as a starver by so many steps, others' changes since that look counted too, or finds the cap
 
--- A try, a look, a count, a downgrade or a release on one word takes one step, and a try or a look on the two words of a queue three; a starver's try takes a second step to leave the starvers.
+-- A try, a look, a count, a downgrade or a release on one word takes one step, and on the two words of a queue a look takes two and a try three; a starver's try takes a second step to leave the starvers.
 -- Each try that looks first and then makes its exchange again and again takes two, and one more for each change by others.
 -- A call that waits has no limit, but who queues has a ticket by then, who may starve registers by its second step after each look past its patience, and who upgrades asks, and who meets others at a barrier arrives, by its first step
 abbrev pub limit : Coding → Asked → Limit
@@ -300,7 +300,7 @@ limit coding (tries to_lock_starving_alone) = within 2
 limit coding (tries ask) = within 1
 limit coding (tries_weakly ask) = within 1
 limit coding (tries_to_know ask) = within 1
-limit ticket looks = within 3
+limit ticket looks = within 2
 limit coding looks = within 1
 limit coding counts_readers = within 1
 limit coding counts_writers = within 1

@@ -8,6 +8,7 @@ pub mod Schedules
 pub mod Sharing
 pub mod Spans
 pub mod Undisturbed
+pub mod Order
 pub mod Runs
 pub mod Users
 pub mod Transcripts

@@ -40,6 +40,7 @@ IsOneOperation _ m c l h = (i : ℕ) × (operation : Operation) × Performs m c 
 abbrev pub RefusesAsLost : {W V C L A : Type 0} → Machine W V C L A → C → L → Option Hold → Next L A → Type 0
 RefusesAsLost {W} {V} m c l h next =
     (i from to : ℕ) × Performs m c l h i (exchanges from to) × ((w : W) (v : Option V) → (get_or (m.numbers w) i 0 == from) ≡ false → (m.step w v c l h).next ≡ next)
+    × ((p : ℕ) (w : W) → (get_or (m.numbers w) i 0 == from) ≡ true → is_some (m.change p w c l h) ≡ true)
 
 -- what holds of the calls and steps of an object, whatever the schedule
 pub record Stepwise {W V C L A : Type 0} (m : Machine W V C L A) : Type 0 where

@@ -17,6 +17,7 @@ use Rattle.spin_world_core.specs.Calls.{Coding, encoded, BelongsTo, Asked, Said,
 use Rattle.spin_world_core.specs.Begins.{fits}
 pub use Rattle.spin_world_core.specs.Spans.{own, own_count, failures, changes, held_looks, keeps_looking, IsBeginning}
 use Rattle.spin_world_core.specs.Undisturbed.{AnsweredSoon}
+use Rattle.spin_world_core.specs.Order.{GetsWhenDue, TriesOn}
 use Rattle.spin_world_core.specs.Machines.{Machine, opening_plain}
 use Rattle.spin_world_core.specs.Schedules.{State, Happened, moves_at, at_first, after, may_read, may_write, is_owners}
 
@@ -348,6 +349,10 @@ pub record IsInTime {W V C L A : Type 0} (m : Machine W V C L A) (s : Scene W V 
   pub retries : (q : ℕ) → failures q (s.after.span q) ≤ changes m.coding q (s.after.span q)
   -- a call that waits is answered by its fourth own step at the latest from the moment on at which it is open and nobody disturbs it
   pub undisturbed : AnsweredSoon m.coding s.party (s.after.span s.party) s.outcome (asked m s.seat)
+  -- a call that waits for its turn without a look goes for it by its first step, and after a look that found the lock free, and looks else
+  pub due : GetsWhenDue m.coding s.party s.outcome s.move (asked m s.seat) (s.before.span s.party) s.before.plain s.change s.manner
+  -- a try goes on only where what it asks is open
+  pub tries_on : TriesOn s.party s.outcome s.move (asked m s.seat) (s.before.span s.party) s.before.plain s.change
 
 -- Over a whole schedule, from the opening of a world of n parties
 

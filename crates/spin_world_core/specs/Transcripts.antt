@@ -1,5 +1,6 @@
 -- What a transcript and a place tell, against the events of the schedule and the plain lock beside them.
-use Rattle.std.specs.Prelude.{◌≡◌, ℕ, ◌≤◌, Option, Some, None, List, [], ◌∷◌, ◌==◌, if◌then◌else◌}
+use Rattle.std.specs.Prelude.{◌≡◌, ℕ, ◌≤◌, ◌<◌, Bool, true, false, ◌&&◌, Option, Some, None, List, [], ◌∷◌, ◌++◌, length, ◌==◌, if◌then◌else◌}
+use Rattle.std.specs.List.{list_any}
 use Rattle.spin_step.specs.Plain.{Plain}
 use Rattle.spin_step.specs.Parties.{entries, no_entries}
 use Rattle.spin_world_core.specs.declared.place.Hold.{Hold}
@@ -12,7 +13,7 @@ use Rattle.spin_world_core.specs.declared.schedule.Outcome.TheVariants as outcom
 use Rattle.spin_world_core.specs.declared.schedule.Event.{Event}
 use Rattle.spin_world_core.specs.Calls.{Mark}
 use Rattle.spin_world_core.specs.Machines.{Machine}
-use Rattle.spin_world_core.specs.Schedules.{State, after, at_first}
+use Rattle.spin_world_core.specs.Schedules.{State, after, at_first, is_begun}
 use Rattle.spin_world_core.specs.Runs.{Seen, Scene, scene, opening, entries_of, entries_held, entries_so_far}
 use Rattle.spin_world_core.specs.Users.{seen_after}
 
@@ -76,11 +77,11 @@ stage_after p stage (s ∷ ss) = stage_after p (stage_by_owner s.outcome s.move 
 -- the place that is told of a party of a world of n parties is the stage to which it has come, and its entries in the plain lock are what the place says
 abbrev pub PlaceSays : Stage → ℕ → Plain → ℕ → List Mark → Option Place → Type 0
 PlaceSays stage n s p span None = (n ≤ p) × (entries p s ≡ no_entries)
-PlaceSays at_rest n s p span (Some place.Idle) = entries p s ≡ no_entries
-PlaceSays at_rest n s p span (Some (place.Holding h)) = entries p s ≡ entries_of p h
-PlaceSays in_call n s p span (Some place.InCall) = (held : Option Hold) × (entries p s ≡ entries_so_far p span (entries_held p held))
-PlaceSays has_leaked n s p span (Some (place.Leaked h)) = entries p s ≡ entries_of p h
-PlaceSays is_gone n s p span (Some place.Gone) = (h : Hold) × (entries p s ≡ entries_of p h)
+PlaceSays at_rest n s p span (Some place.Idle) = (p < n) × (entries p s ≡ no_entries)
+PlaceSays at_rest n s p span (Some (place.Holding h)) = (p < n) × (entries p s ≡ entries_of p h)
+PlaceSays in_call n s p span (Some place.InCall) = (p < n) × (held : Option Hold) × (entries p s ≡ entries_so_far p span (entries_held p held))
+PlaceSays has_leaked n s p span (Some (place.Leaked h)) = (p < n) × (entries p s ≡ entries_of p h)
+PlaceSays is_gone n s p span (Some place.Gone) = (p < n) × (h : Hold) × (entries p s ≡ entries_of p h)
 PlaceSays _ n s p span _ = ⊥
 
 -- so it is, whatever schedule of whatever world led to this state
@@ -88,3 +89,26 @@ abbrev pub SaysAfterAnyPast : {W V C L A : Type 0} → Machine W V C L A → Sta
 SaysAfterAnyPast {V = V} {C = C} m s p told =
     (n : ℕ) (past : List (ℕ × Move C V)) → after m (at_first m n) past ≡ s
     → let seen = seen_after m (opening m n) past in PlaceSays (stage_after p at_rest (scenes m (opening m n) past)) n seen.plain p (seen.span p) told
+
+-- the event begins a call of the party
+abbrev pub begins_of : {W V A : Type 0} → ℕ → Event W V A → Bool
+begins_of p e = (e.party == p) && is_begun e.outcome
+
+-- this is the place of the last of these events that begins a call of the party; none does where it is None
+pub record IsLastOf {W V A : Type 0} (p : ℕ) (events : List (Event W V A)) (place : ℕ) : Type 0 where
+  pub front : List (Event W V A)
+  pub event : Event W V A
+  pub back : List (Event W V A)
+  pub is : events ≡ front ++ event ∷ back
+  pub place_is : length front ≡ place
+  pub begins : begins_of p event ≡ true
+  pub none_later : list_any (begins_of p) back ≡ false
+
+abbrev pub IsLastBegin : {W V A : Type 0} → ℕ → List (Event W V A) → Option ℕ → Type 0
+IsLastBegin p events None = list_any (begins_of p) events ≡ false
+IsLastBegin p events (Some place) = IsLastOf p events place
+
+-- each answer tells at which place of the transcript its party's call began
+abbrev pub TellsBegins : {W V A : Type 0} → List (Event W V A) → Type 0
+TellsBegins {W} {V} {A} events =
+    (front : List (Event W V A)) (e : Event W V A) (back : List (Event W V A)) (a : A) (began : Option ℕ) → events ≡ front ++ e ∷ back → e.outcome ≡ outcome.Answered a began → IsLastBegin e.party front began

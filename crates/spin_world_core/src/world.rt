@@ -3,7 +3,7 @@ ghost use Rattle.std.specs.Prelude.{◌≡◌, ◌≤◌, [], length, IfOk, OnOk
 ghost use Rattle.spin_world_core.specs.Schedules.{at_first, after, events_of, with_begins, happens, place_of};
 ghost use Rattle.spin_world_core.specs.Runs.{IsReached, AfterAnyPast, CanAlways, KeepsAll, MomentsAll, CountsAll};
 ghost use Rattle.spin_world_core.specs.Values.{ValuesAll};
-ghost use Rattle.spin_world_core.specs.Transcripts.{TellsAfterAnyPast, SaysAfterAnyPast};
+ghost use Rattle.spin_world_core.specs.Transcripts.{TellsAfterAnyPast, SaysAfterAnyPast, TellsBegins};
 
 use crate::object::Object;
 use crate::place::Place;
@@ -120,6 +120,7 @@ impl<O: Object, A: Allocator + Copy> World<O, A> {
             AfterAnyPast m self.old.state schedule.now (ValuesAll m) }
         ensures tells { let m = O.machine self.old.object in
             IfOk result (λ t. TellsAfterAnyPast m self.old.state schedule.now t.events.items) }
+        ensures begins { IfOk result (λ t. TellsBegins t.events.items) }
     {
         O::laws();
         let mut events = Vec::with_capacity(self.alloc, schedule.len())?;

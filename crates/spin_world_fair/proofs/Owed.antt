@@ -1,5 +1,5 @@
 -- What the fair lock's table owes.
-use Rattle.std.proofs.Common.{◌≡◌, ℕ, suc, ◌<◌, ◌+◌, ◌-◌, ◌%◌, ◌==◌, Bool, true, false, ◌&&◌, nat_lt, Option, Some, None, List, [], ◌∷◌, refl, ap, sym, ◌∙◌, arith, inl, inr}
+use Rattle.std.proofs.Common.{◌≡◌, ℕ, suc, ◌<◌, ◌+◌, ◌-◌, ◌%◌, ◌==◌, Bool, true, false, not, ◌&&◌, nat_lt, Option, Some, None, List, [], ◌∷◌, refl, ap, sym, ◌∙◌, arith, inl, inr}
 use Rattle.std.specs.Prelude.{min}
 use Rattle.std.proofs.lemmas.Bool.{and_parts, eqb-true, eq-eqb, ltb-true, ltb-false}
 use Rattle.spin_step.specs.Plain.{Plain, writing, Ask, to_lock_unregistered, to_lock_starving, to_lock_starving_alone, to_starve, Change, gets, releases, stops_starving, apply, is_open, is_empty, is_starver, is_only_starver, fair_word}
@@ -27,7 +27,7 @@ use Rattle.spin_world_core.proofs.Operating.{fits_act, fits_strong, one_place, o
 use Rattle.spin_world_core.proofs.Facts.{LocalInvariant, Facts}
 use Rattle.spin_world_core.proofs.Stands.{holds, starves, holds_and_starves, entries_at}
 use Rattle.spin_world_core.proofs.Rows.{SoundAt, Row, row_looked, Point, nowhere, looked, onward, goes}
-use Rattle.spin_world_core.proofs.Shapes.{Notes, keeping_of, Means, call_of, Follows, OwesAt, answers_by, OwesSoon, BeginsAt, Pays, CallOf, AtPoint}
+use Rattle.spin_world_core.proofs.Shapes.{AimsAt, Notes, keeping_of, Means, call_of, Follows, OwesAt, answers_by, OwesSoon, BeginsAt, Pays, CallOf, AtPoint}
 use Rattle.spin_world_core.proofs.Usual.{no_queue, means_word}
 use Rattle.spin_world_core.proofs.Paid.{facts_of}
 use Rattle.spin_world_fair.proofs.Registering.{sooner, MayBeBlind, blind-other, blind_after_step, blind_after_free, blind_after_late, allowed, none_left, few_to_load, few_to_register, Looking, Loading, Registering, none_yet, starving-other, looking-other, loading-other, registering-other, goes_on, missed, looked_free, looked_held, looked_late, loaded, retried, full, registered, looked_starving}
@@ -144,9 +144,9 @@ module _ {V : Type 0} (v : V) (cap patience : ℕ) where
   looks_follow : (b : Bool) (n p : ℕ) (s : Plain) (w : ℕ) (span : List Mark) → nat_lt n patience ≡ b → is_held s ≡ true → Looking patience n p span
       → Goes (row_looked None 0 (λ p. grant p to_lock_unregistered) granted) Lock p s w span look (either b (GoesOn (Look (n + 1))) (GoesOn Load))
   looks_follow true n p s w span is held knows =
-      let next = looked_held patience p s span n held (ltb-true n patience is) knows in (refl, refl, nothing_left p _ next.in_time, tt, next)
+      let next = looked_held patience p s span n held (ltb-true n patience is) knows in (refl, refl, nothing_left p _ next.in_time, (tt, ap not held), next)
   looks_follow false n p s w span is held knows =
-      let next = looked_late patience p s span n held (ltb-false n patience is) knows in (refl, refl, loads_in_time p _ next, tt, (next, blind_after_late patience p s span (omega (arith, knows.many, ltb-false n patience is))))
+      let next = looked_late patience p s span n held (ltb-false n patience is) knows in (refl, refl, loads_in_time p _ next, (tt, ap not held), (next, blind_after_late patience p s span (omega (arith, knows.many, ltb-false n patience is))))
 
   -- a refused newcomer is told why
   rejected : (b : Bool) (p : ℕ) (s : Plain) (w : ℕ) (span : List Mark) → IsFair cap s → fair_word s ≡ w → (w == 1) ≡ b → (is_empty s.holders && is_empty s.starvers) ≡ false
@@ -161,8 +161,8 @@ module _ {V : Type 0} (v : V) (cap patience : ℕ) where
       let refused = missed patience p s span n weak refl at.knows.1 at.knows.0 in (
         lock_means p at,
         (refl, inl refl, goes_on patience p s span (Some (gets p to_lock_unregistered)) plain refl (λ is. cc (is)) refl at.knows.0.in_time),
-        (λ closed. (refl, refl, nothing_left p _ lost.in_time, tt, lost)),
-        (refl, refl, nothing_left p _ refused.in_time, tt, refused),
+        (λ closed. (refl, refl, nothing_left p _ lost.in_time, (tt, refl), lost)),
+        (refl, refl, nothing_left p _ refused.in_time, (tt, refl), refused),
         refl,
         refl,
       )
@@ -172,22 +172,22 @@ module _ {V : Type 0} (v : V) (cap patience : ℕ) where
   )
   owes p Lock Load None s w span = λ at. (
     starve_means p at,
-    (λ found. let next = loaded patience p s span w (sym (word p at)) at.knows.1 at.knows.0 in (refl, refl, registers_in_time w p s _ next, (refl, refl, found), next)),
-    (λ closed. let next = full patience p s span (few_to_load p) plain refl (allowed patience p s span None plain at.knows.1) closed at.knows.0 in (refl, refl, nothing_left p _ next.in_time, tt, next)),
+    (λ found. let next = loaded patience p s span w (sym (word p at)) at.knows.1 at.knows.0 in (refl, refl, registers_in_time w p s _ next, ((refl, refl, found), refl), next)),
+    (λ closed. let next = full patience p s span (few_to_load p) plain refl (allowed patience p s span None plain at.knows.1) closed at.knows.0 in (refl, refl, nothing_left p _ next.in_time, (tt, refl), next)),
   )
   owes p Lock (Register n) None s w span = λ at. (
     starve_means p at,
-    (λ is. let next = registered patience p s span n at.knows in (refl, refl, nothing_left p _ next, tt, (next, blind_after_step patience p (gets p to_starve) again s span))),
-    (λ found. let next = retried patience p s span n w (sym (word p at)) found.0 at.knows in (refl, refl, registers_in_time w p s _ next, (refl, refl, found.1), next)),
-    (λ closed. let next = full patience p s span (few_to_register p s n) again refl refl closed at.knows in (refl, refl, nothing_left p _ next.in_time, tt, next)),
+    (λ is. let next = registered patience p s span n at.knows in (refl, refl, nothing_left p _ next, (tt, refl), (next, blind_after_step patience p (gets p to_starve) again s span))),
+    (λ found. let next = retried patience p s span n w (sym (word p at)) found.0 at.knows in (refl, refl, registers_in_time w p s _ next, ((refl, refl, found.1), refl), next)),
+    (λ closed. let next = full patience p s span (few_to_register p s n) again refl refl closed at.knows in (refl, refl, nothing_left p _ next.in_time, (tt, refl), next)),
   )
   owes p Lock SetFlag None s w span = λ at.
       let won = goes_on patience p s span (Some (gets p to_lock_starving)) plain refl (λ is. cc (is)) refl at.knows.0 in
       let lost = goes_on patience p s span None plain refl (λ is. cc (is)) (allowed patience p s span None plain at.knows.1) at.knows.0 in
-      (lock_starved_means p at at.known.stand, (refl, refl, nothing_left p _ won, tt, won), (λ closed. (refl, refl, nothing_left p _ lost, tt, lost)))
+      (lock_starved_means p at at.known.stand, (refl, refl, nothing_left p _ won, tt, won), (λ closed. (refl, refl, nothing_left p _ lost, (tt, refl), lost)))
   owes p Lock Await None s w span = λ at.
       let next = looked_starving patience p s span at.known.made at.knows in
-      ((λ set. (refl, refl, nothing_left p _ next, tt, next)), (λ clear. (refl, refl, nothing_left p _ next, tt, (next, blind_after_free patience p s span (held p at ∙ clear)))))
+      ((λ set. (refl, refl, nothing_left p _ next, (tt, ap not (held p at ∙ set)), next)), (λ clear. (refl, refl, nothing_left p _ next, (tt, ap not (held p at ∙ clear)), (next, blind_after_free patience p s span (held p at ∙ clear)))))
   owes p Lock Unregister None s w span = λ at.
       let means = unstarve_means p at (is_starving_still p s at.known.stand) in
       (means.0, means.1, (refl, inr (inl refl), goes_on patience p s span (Some (stops_starving p)) plain refl (λ is. cc (is)) refl at.knows))
@@ -200,8 +200,8 @@ module _ {V : Type 0} (v : V) (cap patience : ℕ) where
   owes p StarverTryLockFair Unregister (Some Starver) s w span = λ at. let means = unstarve_means p at (is_starving_still p s at.known.stand) in (means.0, means.1, (refl, inl refl, tt))
   owes p StarverTryLock SetFlag (Some Starver) s w span = λ at. (lock_starved_means p at at.known.stand, (refl, refl, refl, tt, tt), (λ closed. (refl, inl refl, inl closed)))
   owes p StarverTryLock Unregister (Some Starver) s w span = λ at. let means = unstarve_means p at (is_starving_still p s at.known.stand) in (means.0, means.1, (refl, inl refl, tt))
-  owes p StarverLock SetFlag (Some Starver) s w span = λ at. (lock_starved_means p at at.known.stand, (refl, refl, tt, tt, tt), (λ closed. (refl, refl, tt, tt, tt)))
-  owes p StarverLock Await (Some Starver) s w span = λ at. ((λ set. (refl, refl, tt, tt, tt)), (λ clear. (refl, refl, tt, tt, tt)))
+  owes p StarverLock SetFlag (Some Starver) s w span = λ at. (lock_starved_means p at at.known.stand, (refl, refl, tt, tt, tt), (λ closed. (refl, refl, tt, (tt, refl), tt)))
+  owes p StarverLock Await (Some Starver) s w span = λ at. ((λ set. (refl, refl, tt, (tt, ap not (held p at ∙ set)), tt)), (λ clear. (refl, refl, tt, (tt, ap not (held p at ∙ clear)), tt)))
   owes p StarverLock Unregister (Some Starver) s w span = λ at. let means = unstarve_means p at (is_starving_still p s at.known.stand) in (means.0, means.1, (refl, inl refl, tt))
   owes p StarverDrop First (Some Starver) s w span = λ at. let means = unstarve_means p at (is_starving p s at.known.stand) in (means.0, means.1, (refl, inl refl, tt))
   owes p Release First (Some Write) s w span = λ at. let means = unlock_means p at at.known.stand in (means.0, means.1, (refl, inl refl, tt))
@@ -247,6 +247,30 @@ module _ {V : Type 0} (v : V) (cap patience : ℕ) where
   soon p StarverLock Await (Some Starver) s w span = λ at free. awaits_soon w StarverLock (Some Starver) (clear_word p at free)
   soon p StarverLock Unregister (Some Starver) s w span = λ at free. refl
   soon p _ _ _ s w span = tt
+
+  aims : (p : ℕ) (c : FairCall) (l : FairPoint) (h : Option Hold) → AimsAt (fair_table v cap patience) (fair_notes v cap patience) p c l h
+  aims p Lock (Attempt n) None = refl
+  aims p Lock (Look n) None = refl
+  aims p Lock Load None = refl
+  aims p Lock (Register n) None = refl
+  aims p Lock SetFlag None = refl
+  aims p Lock Await None = refl
+  aims p Lock Unregister None = refl
+  aims p TryLock First None = refl
+  aims p TryLockStarver First None = refl
+  aims p IsLocked First None = refl
+  aims p Starve Load None = refl
+  aims p Starve (Register n) None = refl
+  aims p StarverTryLockFair First (Some Starver) = refl
+  aims p StarverTryLockFair Unregister (Some Starver) = refl
+  aims p StarverTryLock SetFlag (Some Starver) = refl
+  aims p StarverTryLock Unregister (Some Starver) = refl
+  aims p StarverLock SetFlag (Some Starver) = refl
+  aims p StarverLock Await (Some Starver) = refl
+  aims p StarverLock Unregister (Some Starver) = refl
+  aims p StarverDrop First (Some Starver) = refl
+  aims p Release First (Some Write) = refl
+  aims p _ _ _ = refl
 
   begins : (p : ℕ) (c : FairCall) (h : Option Hold) (s : Plain) → BeginsAt (fair_table v cap patience) (fair_notes v cap patience) c h p s (begin_of (fair_table v cap patience) c h)
   begins p Lock None s = (refl, refl, tt, (record { counted = λ lt. omega arith; many = omega arith; in_time = none_yet }, refl))
@@ -314,6 +338,7 @@ module _ {V : Type 0} (v : V) (cap patience : ℕ) where
         numbers_tell = λ u w e. cc (e);
         one_list = λ s shape. no_queue s shape.queue;
         sound = sound;
+        aims = aims;
         begins = begins;
         others = λ p q c l h s step r span ne shape may belongs knows. others p q c l s step r span ne knows;
         owes = owes;

@@ -231,3 +231,42 @@ tries_alone v = let m = fair_machine v 2 1 in record m { asks = λ c h. asks_as 
 -- a starver stands at first, which is nobody
 abbrev pub opens_with_a_starver : {V : Type 0} → V → Machine ℕ V FairCall FairPoint (Answer V)
 opens_with_a_starver v = let m = fair_machine v 2 1 in record m { words = 2 }
+
+-- `lock` goes to its exchange only where it finds neither the flag nor a starver
+abbrev wary_acts : {V : Type 0} → Acts V
+wary_acts Lock (Look n) h = load_if is_set (λ w. either (nat_lt n 1) (GoesOn (Look (n + 1))) (GoesOn Load)) (λ w. either (w == 0) (GoesOn (Attempt n)) (GoesOn (Look n)))
+wary_acts c l h = act_of 2 1 c l h
+
+abbrev pub waits_for_starvers : {V : Type 0} → V → Machine ℕ V FairCall FairPoint (Answer V)
+waits_for_starvers v = by_acts v 2 wary_acts
+
+-- it looks at a clear flag beside a starver, which drops its place then
+abbrev pub lock_beside_a_dropped_starver : {V : Type 0} → Entries V
+lock_beside_a_dropped_starver =
+    (0, Begin TryLock) ∷ (0, Step) ∷ (1, Begin Starve) ∷ (1, Step) ∷ (1, Step) ∷ (2, Begin Lock) ∷ (2, Step)
+    ∷ (0, Begin Release) ∷ (0, Step) ∷ (2, Step) ∷ (1, Begin StarverDrop) ∷ (1, Step) ∷ (2, Step) ∷ []
+
+-- `starver_try_lock` that finds the flag set looks once more, and is refused whatever it finds
+abbrev late_acts : {V : Type 0} → Acts V
+late_acts StarverTryLock SetFlag h = exchange sets_lowest_bit (λ p. gets p to_lock_starving) (GoesOn Unregister) (λ w. GoesOn First)
+late_acts StarverTryLock First h = load (λ w. Answers Refused h)
+late_acts c l h = act_of 2 1 c l h
+
+abbrev pub refuses_late : {V : Type 0} → V → Machine ℕ V FairCall FairPoint (Answer V)
+refuses_late v = by_acts v 2 late_acts
+
+abbrev pub starver_beside_a_holder : {V : Type 0} → Entries V
+starver_beside_a_holder =
+    (0, Begin TryLock) ∷ (0, Step) ∷ (1, Begin Starve) ∷ (1, Step) ∷ (1, Step) ∷ (1, Begin StarverTryLock) ∷ (1, Step) ∷ []
+
+-- a starver that finds the flag set tries to set it again, without a look
+abbrev spinning_acts : {V : Type 0} → Acts V
+spinning_acts StarverLock SetFlag h = exchange sets_lowest_bit (λ p. gets p to_lock_starving) (GoesOn Unregister) (λ w. GoesOn SetFlag)
+spinning_acts c l h = act_of 2 1 c l h
+
+abbrev pub spins_by_setting : {V : Type 0} → V → Machine ℕ V FairCall FairPoint (Answer V)
+spins_by_setting v = by_acts v 2 spinning_acts
+
+abbrev pub two_steps_of_a_starver : {V : Type 0} → Entries V
+two_steps_of_a_starver =
+    (0, Begin TryLock) ∷ (0, Step) ∷ (1, Begin Starve) ∷ (1, Step) ∷ (1, Step) ∷ (1, Begin StarverLock) ∷ (1, Step) ∷ (1, Step) ∷ []

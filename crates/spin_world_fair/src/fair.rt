@@ -6,6 +6,7 @@ ghost use Rattle.spin_world_fair.specs.declared.fair.FairPoint.TheVariants.{Atte
 ghost use Rattle.spin_world_core.specs.Acts.{one_number, either, retried, step_by, can_by};
 ghost use Rattle.spin_step.specs.Starvers.{starve, is_set};
 ghost use Rattle.spin_world_fair.specs.Fair.{granted, rejects, looks_on, finds_no_room, registered, finds_flag_set, act_of_first, act_of, fair_machine};
+ghost use Rattle.spin_world_fair.specs.Named.{IsFairLock};
 
 use spin_step::fair;
 use spin_step::fair::LockRejectReason;
@@ -65,13 +66,14 @@ pub struct Fair<V> {
     patience: usize,
 }
 
-impl<V> Fair<V> {
+impl<V: Copy> Fair<V> {
     /// A free lock with this value. As many starvers as `cap` may stand at a time, and no more than `fair::MAX_STARVERS`;
     /// a `Lock` registers once it has made more than `spins` + 1 looks that found the flag set.
     pub fn new(value: V, cap: usize, spins: usize) -> Fair<V>
         requires somebody { cap ≢ 0 }
         requires counted { spins < 18446744073709551615 }
-        ensures { result ≡ record { value = value; cap = cap; patience = spins + 1 } }
+        ensures fields { result ≡ record { value = value; cap = cap; patience = spins + 1 } }
+        ensures named { IsFairLock value cap (spins + 1) (⟦<Fair<V> as Object>⟧.machine result) }
     {
         Fair {
             value,

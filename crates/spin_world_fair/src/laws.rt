@@ -6,16 +6,10 @@ ghost use Rattle.spin_world_core.specs.Runs.{opening};
 ghost use Rattle.spin_world_core.specs.Users.{seen_after};
 ghost use Rattle.spin_world_fair.specs.declared.fair.FairCall.{FairCall};
 ghost use Rattle.spin_world_fair.specs.declared.fair.Fair.{Fair};
-ghost use Rattle.spin_world_fair.specs.Named.{IsFairLock};
 ghost use Rattle.spin_world_fair.specs.Fairness.{IsFree, ComesAfterStarvers, IsGrantedNext, GoesForAClearFlag};
 
 use crate::fair::Fair;
 use spin_world_core::Object;
-
-/// What a [`Fair`] is: how it opens, how many may starve, and what each of its calls asks.
-pub fn a_fair_lock_is_what_its_calls_ask<V: Copy>()
-    ensures { (object : Fair V) → IsFairLock object.value object.cap object.patience (⟦<Fair<V> as Object>⟧.machine object) }
-{}
 
 /// The word is zero exactly when nobody holds the lock and nobody is registered as a starver.
 pub fn a_word_is_zero_when_nobody_holds_or_starves<V: Copy>()

@@ -7,7 +7,6 @@ pub mod refused;
 
 pub use fair::{Fair, FairCall, FairPoint};
 pub use laws::{
-    a_fair_lock_is_what_its_calls_ask, a_starver_goes_for_a_clear_flag,
-    a_starver_with_the_flag_is_granted_next, a_word_is_zero_when_nobody_holds_or_starves,
-    starvers_come_first,
+    a_starver_goes_for_a_clear_flag, a_starver_with_the_flag_is_granted_next,
+    a_word_is_zero_when_nobody_holds_or_starves, starvers_come_first,
 };

@@ -21,7 +21,7 @@ use Rattle.spin_world_flag.specs.Flag.{asks_of, lock, is_set, act_of, flag_table
 use Rattle.spin_world_core.proofs.Facts.{LocalInvariant, Facts}
 use Rattle.spin_world_core.proofs.Stands.{holds, entries_at}
 use Rattle.spin_world_core.proofs.Rows.{starts_sound, Row, starts}
-use Rattle.spin_world_core.proofs.Shapes.{Notes, keeping_of, Means, OwesAt, answers_by, OwesSoon, BeginsAt, Pays, CallOf, AtPoint}
+use Rattle.spin_world_core.proofs.Shapes.{AimsAt, Notes, keeping_of, Means, OwesAt, answers_by, OwesSoon, BeginsAt, Pays, CallOf, AtPoint}
 use Rattle.spin_world_core.proofs.Usual.{no_queue}
 use Rattle.spin_world_core.proofs.Operating.{fits_act, Operates}
 use Rattle.spin_world_core.proofs.Paid.{facts_of}
@@ -57,8 +57,8 @@ module _ {V : Type 0} (v : V) where
   held_is s p false word queue = ap (λ b. not (b && is_empty s.tickets)) (flag_lock-grants s p false word).0 ∙ ap (λ (ts : List Queued). not (is_empty ts)) queue
 
   owes : (p : ℕ) (c : FlagCall) (l : FlagPoint) (h : Option Hold) (s : Plain) (w : Bool) (span : List Mark) → OwesAt (flag_table v) (flag_notes v) p c l h s w span
-  owes p Lock First None s w span = λ at. (lock_means p at, (refl, inl refl, tt), (λ closed. (refl, refl, tt, tt, tt)), (refl, refl, tt, tt, tt), refl, refl)
-  owes p Lock Second None s w span = λ at. ((λ e. (refl, refl, tt, tt, tt)), (λ e. (refl, refl, tt, tt, tt)))
+  owes p Lock First None s w span = λ at. (lock_means p at, (refl, inl refl, tt), (λ closed. (refl, refl, tt, (tt, refl), tt)), (refl, refl, tt, (tt, refl), tt), refl, refl)
+  owes p Lock Second None s w span = λ at. let held = held_is s p w (word_is s w at.encodes) at.shape in ((λ e. (refl, refl, tt, (tt, ap not (held ∙ e)), tt)), (λ e. (refl, refl, tt, (tt, ap not (held ∙ e)), tt)))
   owes p TryLock l None s w span = λ at. (lock_means p at, (refl, inl refl, tt), (λ closed. (refl, inl refl, inl closed)))
   owes p TryLockWeak l None s w span = λ at. (lock_means p at, (refl, inl refl, tt), (λ closed. (refl, inl refl, inl closed)), (refl, inl refl, tt), refl, refl)
   owes p IsLocked l None s w span = λ at. (refl, inl refl, inl (held_is s p w (word_is s w at.encodes) at.shape))
@@ -75,6 +75,15 @@ module _ {V : Type 0} (v : V) where
   soon p Lock First None s w span = λ at free. ap (λ b. answers_by (flag_table v) 2 b Lock First None) (clear_is s p w (word_is s w at.encodes) free)
   soon p Lock Second None s w span = λ at free. ap (λ b. answers_by (flag_table v) 2 b Lock Second None) (clear_is s p w (word_is s w at.encodes) free)
   soon p _ _ _ s w span = tt
+
+  aims : (p : ℕ) (c : FlagCall) (l : FlagPoint) (h : Option Hold) → AimsAt (flag_table v) (flag_notes v) p c l h
+  aims p Lock First None = refl
+  aims p Lock Second None = refl
+  aims p TryLock l None = refl
+  aims p TryLockWeak l None = refl
+  aims p IsLocked l None = refl
+  aims p Release l (Some Write) = refl
+  aims p _ _ _ = refl
 
   begins : (p : ℕ) (c : FlagCall) (h : Option Hold) (s : Plain) → BeginsAt (flag_table v) (flag_notes v) c h p s (begin_of (flag_table v) c h)
   begins p Release (Some Write) s = (refl, refl, tt, tt)
@@ -113,6 +122,7 @@ module _ {V : Type 0} (v : V) where
         numbers_tell = λ v w e. same_bit v w (cc (e));
         one_list = no_queue;
         sound = λ p c l h. starts_sound flag (asks_of c h) p (begin_of (flag_table v) c h);
+        aims = aims;
         begins = begins;
         others = λ p q c l h s step r span ne shape may belongs knows. tt;
         owes = owes;

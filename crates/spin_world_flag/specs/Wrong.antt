@@ -1,5 +1,5 @@
 -- Flags that are wrong, each in one part of its machine, and schedules on which the laws refuse them.
-use Rattle.std.specs.Prelude.{ℕ, Bool, true, false, Some, None, List, [], ◌∷◌}
+use Rattle.std.specs.Prelude.{ℕ, Bool, true, false, Option, Some, None, List, [], ◌∷◌}
 use Rattle.spin_world_core.specs.declared.object.Next.TheVariants.{GoesOn, Answers}
 use Rattle.spin_world_core.specs.declared.answer.Answer.{Answer}
 use Rattle.spin_world_core.specs.declared.answer.Answer.TheVariants.{Refused, Is}
@@ -11,8 +11,9 @@ use Rattle.spin_world_core.specs.declared.schedule.Move.{Move}
 use Rattle.spin_world_core.specs.declared.schedule.Move.TheVariants.{Begin, Step, Weak}
 use Rattle.spin_world_core.specs.Machines.{Machine}
 use Rattle.spin_world_core.specs.Calls.{waits}
-use Rattle.spin_step.specs.Plain.{to_read}
-use Rattle.spin_world_flag.specs.Flag.{flag_machine}
+use Rattle.spin_step.specs.Plain.{gets, to_read, to_write}
+use Rattle.spin_world_core.specs.Acts.{weak_exchange, Table, machine_of}
+use Rattle.spin_world_flag.specs.Flag.{lock, granted, flag_table, flag_machine}
 
 abbrev FlagMachine : Type 0 → Type 0
 FlagMachine V = Machine Bool V FlagCall FlagPoint (Answer V)
@@ -54,3 +55,27 @@ locks_to_read {V} v = let m : FlagMachine V = flag_machine v in record m { asks 
 -- a lock that is held by nobody at first, and for good
 abbrev pub opens_set : {V : Type 0} → V → FlagMachine V
 opens_set {V} v = let m : FlagMachine V = flag_machine v in record m { words = true }
+
+-- a `lock` that begins by its look
+abbrev pub begins_late : FlagCall → Option FlagPoint → Option FlagPoint
+begins_late Lock (Some First) = Some Second
+begins_late c o = o
+
+abbrev pub looks_first : {V : Type 0} → V → FlagMachine V
+looks_first {V} v = let m : FlagMachine V = flag_machine v in record m { begin = λ c h. begins_late c (m.begin c h) }
+
+abbrev pub lock_alone : {V : Type 0} → List (ℕ × Move FlagCall V)
+lock_alone = (0, Begin Lock) ∷ (0, Step) ∷ []
+
+-- a `lock` whose look may refuse without cause, as where it finds the flag set
+abbrev pub refuses_at_its_look : {V : Type 0} → V → FlagMachine V
+refuses_at_its_look {V} v = let m : FlagMachine V = flag_machine v in record m { refuse = λ c l h. elim l [ First ↦ m.refuse c First h | Second ↦ Some (GoesOn Second) ] }
+
+-- a `lock` that never looks
+abbrev pub never_looks : {V : Type 0} → V → FlagMachine V
+never_looks {V} v =
+    let t : Table Bool V FlagCall FlagPoint (Answer V) = flag_table v in
+    machine_of (record t { act = λ c l h. elim c [ Lock ↦ weak_exchange 0 lock (λ p. gets p to_write) granted (GoesOn First) | TryLock ↦ t.act TryLock l h | TryLockWeak ↦ t.act TryLockWeak l h | IsLocked ↦ t.act IsLocked l h | Release ↦ t.act Release l h ] })
+
+abbrev pub lock_beside_a_holder : {V : Type 0} → List (ℕ × Move FlagCall V)
+lock_beside_a_holder = (0, Begin TryLock) ∷ (0, Step) ∷ (1, Begin Lock) ∷ (1, Step) ∷ (1, Step) ∷ []

@@ -5,6 +5,7 @@ ghost use Rattle.spin_world_core.specs.Acts.{becomes, step_by, can_by};
 ghost use Rattle.std.specs.Option.{option_map};
 ghost use Rattle.spin_step.specs.Flags.{lock};
 ghost use Rattle.spin_world_flag.specs.Flag.{is_set, flag_memory, granted, act_of, flag_machine};
+ghost use Rattle.spin_world_flag.specs.Named.{IsFlag};
 
 use spin_step::flag;
 use spin_world_core::{Answer, Hold, Next, Object, Stepped};
@@ -36,10 +37,11 @@ pub struct Flag<V> {
     value: V,
 }
 
-impl<V> Flag<V> {
+impl<V: Copy> Flag<V> {
     /// A free lock with this value.
     pub fn new(value: V) -> Flag<V>
-        ensures { result ≡ record { value = value } }
+        ensures fields { result ≡ record { value = value } }
+        ensures named { IsFlag value (⟦<Flag<V> as Object>⟧.machine result) }
     {
         Flag { value }
     }

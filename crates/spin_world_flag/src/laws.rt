@@ -6,15 +6,9 @@ ghost use Rattle.spin_world_core.specs.Runs.{opening};
 ghost use Rattle.spin_world_core.specs.Users.{seen_after};
 ghost use Rattle.spin_world_flag.specs.declared.flag.FlagCall.{FlagCall};
 ghost use Rattle.spin_world_flag.specs.declared.flag.Flag.{Flag};
-ghost use Rattle.spin_world_flag.specs.Named.{IsFlag};
 
 use crate::flag::Flag;
 use spin_world_core::Object;
-
-/// What a [`Flag`] is: how it opens, and what each of its calls asks.
-pub fn a_flag_is_what_its_calls_ask<V: Copy>()
-    ensures { (object : Flag V) → IsFlag object.value (⟦<Flag<V> as Object>⟧.machine object) }
-{}
 
 /// The flag is clear exactly when nobody holds the lock.
 pub fn a_flag_is_clear_when_nobody_holds<V: Copy>()

@@ -6,4 +6,4 @@ mod laws;
 pub mod refused;
 
 pub use flag::{Flag, FlagCall, FlagPoint};
-pub use laws::{a_flag_is_clear_when_nobody_holds, a_flag_is_what_its_calls_ask};
+pub use laws::a_flag_is_clear_when_nobody_holds;

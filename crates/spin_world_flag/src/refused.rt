@@ -3,7 +3,7 @@ ghost use Rattle.std.specs.Prelude.{◌≡◌, []};
 ghost use Rattle.spin_world_core.specs.Runs.{MomentsAll, CountsAll};
 ghost use Rattle.spin_world_core.specs.Operations.{Stepwise};
 ghost use Rattle.spin_world_core.specs.Runs.{KeepsAll};
-ghost use Rattle.spin_world_flag.specs.Wrong.{looks_for_ever, two_looks, tries_by_chance, one_try, looks_by_chance, look_beside_a_holder, never_releases, locks_to_read, opens_set};
+ghost use Rattle.spin_world_flag.specs.Wrong.{never_looks, lock_beside_a_holder, refuses_at_its_look, looks_first, lock_alone, looks_for_ever, two_looks, tries_by_chance, one_try, looks_by_chance, look_beside_a_holder, never_releases, locks_to_read, opens_set};
 
 /// A flag's `lock` that never tries again after its first refusal: undisturbed it has to be answered by its second step.
 pub fn a_lock_tries_again<V: Copy>()
@@ -33,4 +33,20 @@ pub fn a_lock_asks_what_a_flag_grants<V: Copy>()
 /// A flag that is set at first, though nobody holds it.
 pub fn a_flag_opens_clear<V: Copy>()
     ensures { (value : V) → KeepsAll (opens_set value) 1 [] → ⊥ }
+{}
+
+/// A `lock` that begins by its look: by its first step it gets the lock where it is free.
+pub fn a_lock_begins_by_its_exchange<V: Copy>()
+    ensures { (value : V) → CountsAll (looks_first value) 1 lock_alone → ⊥ }
+{}
+
+/// A `lock` that may be refused without cause at its look: where the number lies there that an exchange expects, it would
+/// make its plain step.
+pub fn a_look_refuses_by_no_chance<V: Copy>()
+    ensures { (value : V) → Stepwise (refuses_at_its_look value) → ⊥ }
+{}
+
+/// A `lock` that makes its exchange again where it was lost, and never looks.
+pub fn a_lock_looks_between_its_exchanges<V: Copy>()
+    ensures { (value : V) → CountsAll (never_looks value) 2 lock_beside_a_holder → ⊥ }
 {}

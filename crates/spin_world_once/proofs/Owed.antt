@@ -25,8 +25,8 @@ use Rattle.spin_world_once.specs.Keeping.{has_just_looked}
 use Rattle.spin_world_core.proofs.Facts.{LocalInvariant, Facts}
 use Rattle.spin_world_core.proofs.Stands.{absent}
 use Rattle.spin_world_core.proofs.Rows.{goes, misses, Row, Point, nowhere, looked, onward, SoundAt}
-use Rattle.spin_world_core.proofs.Shapes.{Notes, Means, OwesAt, answers_by, OwesSoon, BeginsAt, CallOf, AtPoint}
-use Rattle.spin_world_core.proofs.Usual.{no_holders, means_word, branches}
+use Rattle.spin_world_core.proofs.Shapes.{aim_of, Notes, Means, OwesAt, answers_by, OwesSoon, BeginsAt, CallOf, AtPoint}
+use Rattle.spin_world_core.proofs.Usual.{aimless, no_holders, means_word, branches}
 use Rattle.spin_world_core.proofs.Operating.{fits_act, fits_strong, one_place, operates_by}
 use Rattle.spin_world_core.proofs.Filled.{CompletesRight, TellsOf, TellsBy, PaysWith, keeping_with, facts_with}
 
@@ -201,6 +201,10 @@ module _ {V : Type 0} (value : Option V) where
   begins p (CallOnce x) (Some h) s = tt
   begins p _ (Some h) s = tt
 
+  no_aim : (c : OnceCall V) (made : List Change) → aim_of (asks_of c) made ≡ None
+  no_aim (CallOnce x) made = refl
+  no_aim _ made = refl
+
   strong : (c : OnceCall V) → may_be_weak (asks_of c) ≡ false
   strong (CallOnce x) = refl
   strong _ = refl
@@ -285,6 +289,7 @@ module _ {V : Type 0} (value : Option V) where
           numbers_tell = λ u w e. cc (e);
           one_list = λ s free. no_holders s free.0;
           sound = sound;
+          aims = λ p c l h. aimless p (asks_of c) _ _ (no_aim c);
           begins = begins;
           others = λ p q c l h s step r span ne free may belongs knows. others p q s step r span ne may c l knows;
           owes = owes;

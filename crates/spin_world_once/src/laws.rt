@@ -2,15 +2,9 @@
 ghost use Rattle.std.specs.Prelude.{ℕ};
 ghost use Rattle.spin_world_once.specs.declared.once.OnceObject.{OnceObject};
 ghost use Rattle.spin_world_once.specs.Keeping.{Entries, ValueStays, OneRuns, AnswersAtOnce, GetAgrees, MayRunAgain, LooksFirst, LooksWhereComplete};
-ghost use Rattle.spin_world_once.specs.Named.{IsOnceOf};
 
 use crate::once::OnceObject;
 use spin_world_core::Object;
-
-/// What a [`OnceObject`] is: how it opens, what each of its calls asks, and which value it brings.
-pub fn a_once_is_what_its_calls_ask<V: Copy>()
-    ensures { (object : OnceObject V) → IsOnceOf object.value (⟦<OnceObject<V> as Object>⟧.machine object) }
-{}
 
 /// A cell that has a value keeps that value, for as long as its owner does not replace it.
 pub fn a_value_stays<V: Copy>()

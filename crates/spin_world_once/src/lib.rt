@@ -7,7 +7,7 @@ pub mod refused;
 
 pub use laws::{
     a_closure_begins_after_a_look, a_later_closure_may_run, a_later_get_agrees,
-    a_once_is_what_its_calls_ask, a_value_is_answered_at_once,
-    a_value_is_looked_at_where_it_is_complete, a_value_stays, one_closure_runs_at_a_time,
+    a_value_is_answered_at_once, a_value_is_looked_at_where_it_is_complete, a_value_stays,
+    one_closure_runs_at_a_time,
 };
 pub use once::{OnceCall, OnceObject, OncePoint};

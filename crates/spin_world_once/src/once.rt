@@ -2,6 +2,7 @@
 ghost use Rattle.std.specs.Prelude.{◌≡◌, Some, None, true};
 ghost use Rattle.spin_world_core.specs.Acts.{one_number, either, step_by, can_by, completes_by, filled, step_with};
 ghost use Rattle.spin_world_once.specs.Once.{is_there, tells, runs, ends, brings_of, act_of, once_machine};
+ghost use Rattle.spin_world_once.specs.Named.{IsOnceOf};
 
 use spin_step::once;
 use spin_world_core::{Answer, Hold, Next, Object, Stepped};
@@ -50,17 +51,19 @@ pub struct OnceObject<V> {
     value: Option<V>,
 }
 
-impl<V> OnceObject<V> {
+impl<V: Copy> OnceObject<V> {
     /// There is nothing yet.
     pub fn new() -> OnceObject<V>
-        ensures { result ≡ record { value = None } }
+        ensures fields { result ≡ record { value = None } }
+        ensures named { IsOnceOf None (⟦<OnceObject<V> as Object>⟧.machine result) }
     {
         OnceObject { value: None }
     }
 
     /// There is this value from the start.
     pub fn initialized(value: V) -> OnceObject<V>
-        ensures { result ≡ record { value = Some value } }
+        ensures fields { result ≡ record { value = Some value } }
+        ensures named { IsOnceOf (Some value) (⟦<OnceObject<V> as Object>⟧.machine result) }
     {
         OnceObject { value: Some(value) }
     }

@@ -26,7 +26,7 @@ use Rattle.spin_world_rw.specs.Rw.{granted, act_of, asks_of, rw_table, rw_machin
 use Rattle.spin_world_core.proofs.Facts.{LocalInvariant, Facts}
 use Rattle.spin_world_core.proofs.Stands.{holds, entries_at}
 use Rattle.spin_world_core.proofs.Rows.{starts_sound, SoundAt, Row, Point, starts, looked, onward}
-use Rattle.spin_world_core.proofs.Shapes.{Notes, keeping_of, Means, OwesAt, answers_by, OwesSoon, BeginsAt, Pays, CallOf, AtPoint}
+use Rattle.spin_world_core.proofs.Shapes.{AimsAt, Notes, keeping_of, Means, OwesAt, answers_by, OwesSoon, BeginsAt, Pays, CallOf, AtPoint}
 use Rattle.spin_world_core.proofs.Operating.{fits_act, one_place, operates_by}
 use Rattle.spin_world_core.proofs.Usual.{no_queue, means_word, exchanges_now, retries_soon}
 use Rattle.spin_world_core.proofs.Paid.{facts_of}
@@ -202,6 +202,32 @@ module _ {V : Type 0} (v : V) (cap : ℕ) where
       ap (λ k. answers_by (rw_table v cap) 2 k Upgrade l (Some hold.Upgradable)) two
   soon p _ _ _ s w span = tt
 
+  aims : (p : ℕ) (c : RwCall) (l : RwPoint) (h : Option Hold) → AimsAt (rw_table v cap) (rw_notes v cap) p c l h
+  aims p TryRead (Exchange n) None = refl
+  aims p TryRead l None = refl
+  aims p Read (Exchange n) None = refl
+  aims p Read l None = refl
+  aims p TryUpgradeableRead (Exchange n) None = refl
+  aims p TryUpgradeableRead l None = refl
+  aims p UpgradeableRead (Exchange n) None = refl
+  aims p UpgradeableRead l None = refl
+  aims p TryWrite l None = refl
+  aims p TryWriteWeak l None = refl
+  aims p Write l None = refl
+  aims p ReaderCount l None = refl
+  aims p WriterCount l None = refl
+  aims p TryUpgrade l (Some hold.Upgradable) = refl
+  aims p TryUpgradeWeak l (Some hold.Upgradable) = refl
+  aims p Upgrade Asking (Some hold.Upgradable) = refl
+  aims p Upgrade l (Some hold.Upgradable) = refl
+  aims p Downgrade l (Some hold.Write) = refl
+  aims p Downgrade l (Some hold.Upgradable) = refl
+  aims p DowngradeToUpgradeable l (Some hold.Write) = refl
+  aims p Release l (Some hold.Read) = refl
+  aims p Release l (Some hold.Upgradable) = refl
+  aims p Release l (Some hold.Write) = refl
+  aims p _ _ _ = refl
+
   begins : (p : ℕ) (c : RwCall) (h : Option Hold) (s : Plain) → BeginsAt (rw_table v cap) (rw_notes v cap) c h p s (begin_of (rw_table v cap) c h)
   begins p TryRead None s = (refl, refl, tt, tt)
   begins p Read None s = (refl, refl, tt, tt)
@@ -252,6 +278,7 @@ module _ {V : Type 0} (v : V) (cap : ℕ) where
         numbers_tell = λ v w e. cc (e);
         one_list = λ s shape. no_queue s shape.no_queue;
         sound = sound;
+        aims = aims;
         begins = begins;
         others = λ p q c l h s step r span ne shape may belongs knows. tt;
         owes = owes;

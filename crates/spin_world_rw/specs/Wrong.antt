@@ -15,9 +15,9 @@ use Rattle.spin_world_core.specs.declared.schedule.Move.TheVariants.{Begin, Step
 use Rattle.spin_world_core.specs.Machines.{Machine}
 use Rattle.spin_world_core.specs.declared.object.Next.{Next}
 use Rattle.spin_world_core.specs.Calls.{Asked, waits}
-use Rattle.spin_world_core.specs.Acts.{Act, load, exchange, weak_exchange, store, section, swap, Table, machine_of}
+use Rattle.spin_world_core.specs.Acts.{Act, load, load_for, exchange, weak_exchange, store, section, swap, Table, machine_of}
 use Rattle.spin_world_core.specs.Operations.{exchanges, adds, subtracts, stores}
-use Rattle.spin_step.specs.Readers.{tells, read, write}
+use Rattle.spin_step.specs.Readers.{tells, read, write, upgrade, upgrade_asked}
 use Rattle.spin_world_rw.specs.Rw.{granted, goes_for, act_of, asks_of, rw_table, rw_machine}
 
 abbrev RwAct : Type 0 → Type 0
@@ -57,6 +57,14 @@ upgrades_unasked v = with_steps v upgrade_unasked
 
 abbrev pub ask_beside_a_reader : {V : Type 0} → List (ℕ × Move RwCall V)
 ask_beside_a_reader = read_alone ++ (1, Begin TryUpgradeableRead) ∷ (1, Step) ∷ (1, Step) ∷ (1, Begin Upgrade) ∷ (1, Step) ∷ []
+
+-- `upgrade` tries again and again, and never asks
+abbrev pub upgrade_plainly : {V : Type 0} → RwCall → RwPoint → Option Hold → RwAct V
+upgrade_plainly Upgrade l h = weak_exchange (weight upgradable) upgrade (λ p. gets p to_upgrade) (granted hold.Write) (GoesOn First)
+upgrade_plainly c l h = act_of 9 c l h
+
+abbrev pub upgrades_plainly : {V : Type 0} → V → RwMachine V
+upgrades_plainly v = with_steps v upgrade_plainly
 
 -- `upgrade` asks twice
 abbrev pub ask_twice : {V : Type 0} → RwCall → RwPoint → Option Hold → RwAct V
@@ -312,3 +320,28 @@ forgets_its_value {V} v = let t : RwTable V = rw_table v 9 in machine_of (record
 
 abbrev pub has_no_owner : {V : Type 0} → V → RwMachine V
 has_no_owner {V} v = let t : RwTable V = rw_table v 9 in machine_of (record t { owned = false })
+
+-- `try_read` that finds it closed looks once more, and is refused whatever it finds
+abbrev pub read_late : {V : Type 0} → RwCall → RwPoint → Option Hold → RwAct V
+read_late TryRead First h = load_for (read 9) (λ p. gets p to_read) goes_for (GoesOn Asking)
+read_late TryRead Asking h = load (λ w. Answers Refused h)
+read_late c l h = act_of 9 c l h
+
+abbrev pub refuses_late : {V : Type 0} → V → RwMachine V
+refuses_late v = with_steps v read_late
+
+abbrev pub try_beside_a_writer : {V : Type 0} → List (ℕ × Move RwCall V)
+try_beside_a_writer = (0, Begin TryWrite) ∷ (0, Step) ∷ (1, Begin TryRead) ∷ (1, Step) ∷ []
+
+-- `upgrade` that was refused looks before it tries again
+abbrev pub upgrade_by_looks : {V : Type 0} → RwCall → RwPoint → Option Hold → RwAct V
+upgrade_by_looks Upgrade Asking h = weak_exchange (weight asking) upgrade_asked (λ p. gets p to_upgrade_asked) (granted hold.Write) (GoesOn (Exchange 0))
+upgrade_by_looks Upgrade (Exchange n) h = load (λ w. GoesOn Asking)
+upgrade_by_looks c l h = act_of 9 c l h
+
+abbrev pub upgrades_by_looks : {V : Type 0} → V → RwMachine V
+upgrades_by_looks v = with_steps v upgrade_by_looks
+
+-- a weak refusal, and a step where nobody reads
+abbrev pub upgrade_after_a_refusal : {V : Type 0} → List (ℕ × Move RwCall V)
+upgrade_after_a_refusal = (0, Begin TryUpgradeableRead) ∷ (0, Step) ∷ (0, Step) ∷ (0, Begin Upgrade) ∷ (0, Step) ∷ (0, Weak) ∷ (0, Step) ∷ []

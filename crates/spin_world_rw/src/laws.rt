@@ -6,16 +6,10 @@ ghost use Rattle.spin_world_core.specs.Runs.{opening};
 ghost use Rattle.spin_world_core.specs.Users.{seen_after, ReadsAgreeAcross};
 ghost use Rattle.spin_world_rw.specs.declared.rw.RwCall.{RwCall};
 ghost use Rattle.spin_world_rw.specs.declared.rw.Rw.{Rw};
-ghost use Rattle.spin_world_rw.specs.Named.{IsRw};
 ghost use Rattle.spin_world_rw.specs.Standing.{StandTogether, Downgrades, Opens, converts};
 
 use crate::rw::Rw;
 use spin_world_core::Object;
-
-/// What an [`Rw`] is: how it opens, how many it lets in, and what each of its calls asks.
-pub fn a_read_write_lock_is_what_its_calls_ask<V: Copy>()
-    ensures { (object : Rw V) → IsRw object.value object.cap (⟦<Rw<V> as Object>⟧.machine object) }
-{}
 
 /// Readers stand beside at most one that may upgrade, whether it asks or not, and a writer alone. No more hold than the
 /// cap says.

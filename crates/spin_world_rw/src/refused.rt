@@ -4,7 +4,7 @@ ghost use Rattle.spin_world_core.specs.Operations.{Stepwise};
 ghost use Rattle.spin_world_core.specs.Runs.{KeepsAll, MomentsAll, CountsAll};
 ghost use Rattle.spin_world_rw.specs.Rw.{rw_machine};
 ghost use Rattle.spin_world_rw.specs.Named.{IsRw};
-ghost use Rattle.spin_world_rw.specs.Wrong.{upgrades_at_once, upgrade_beside_a_reader, upgrades_unasked, ask_beside_a_reader, asks_twice, two_steps_of_an_upgrade, downgrades_asking, read_beside_an_asking_reader, counts_without_asking, count_beside_an_asking_reader, downgrades_in_two, downgrade_alone, reads_and_regrets, reads_and_regrets_unseen, read_beside_a_writer, reads_by_a_mask, writes_by_chance, write_alone, upgrades_anew, upgrade_alone, counts_without_upgradable, count_beside_an_upgradable, looks_for_ever, two_looks, looks_twice, looks_first, one_look, tries_for_ever, read_alone, reads_in_one, reads_by_a_guess, guess_beside_a_reader, reads_weakly, read_by_chance, writes_strongly, waits_strongly, upgrades_by_chance, upgrade_by_chance, never_releases, upgrades_any_reader, writes_by_reading, never_writes, opens_written, forgets_its_value, has_no_owner};
+ghost use Rattle.spin_world_rw.specs.Wrong.{upgrades_plainly, upgrades_by_looks, upgrade_after_a_refusal, refuses_late, try_beside_a_writer, upgrades_at_once, upgrade_beside_a_reader, upgrades_unasked, ask_beside_a_reader, asks_twice, two_steps_of_an_upgrade, downgrades_asking, read_beside_an_asking_reader, counts_without_asking, count_beside_an_asking_reader, downgrades_in_two, downgrade_alone, reads_and_regrets, reads_and_regrets_unseen, read_beside_a_writer, reads_by_a_mask, writes_by_chance, write_alone, upgrades_anew, upgrade_alone, counts_without_upgradable, count_beside_an_upgradable, looks_for_ever, two_looks, looks_twice, looks_first, one_look, tries_for_ever, read_alone, reads_in_one, reads_by_a_guess, guess_beside_a_reader, reads_weakly, read_by_chance, writes_strongly, waits_strongly, upgrades_by_chance, upgrade_by_chance, never_releases, upgrades_any_reader, writes_by_reading, never_writes, opens_written, forgets_its_value, has_no_owner};
 
 /// A `try_upgrade` that is granted while a reader stands: the plain step isn't open.
 pub fn an_upgrade_is_refused_beside_readers<V: Copy>()
@@ -16,6 +16,13 @@ pub fn an_upgrade_is_refused_beside_readers<V: Copy>()
 pub fn an_upgrade_asks_once<V: Copy>()
     ensures unasked { (value : V) → KeepsAll (upgrades_unasked value) 2 ask_beside_a_reader → ⊥ }
     ensures twice { (value : V) → KeepsAll (asks_twice value) 1 two_steps_of_an_upgrade → ⊥ }
+{}
+
+/// An `upgrade` that tries again and again and never asks: its grant has made other steps than an upgrade's, and beside a
+/// reader it has not asked by its first step.
+pub fn an_upgrade_asks<V: Copy>()
+    ensures alone { (value : V) → KeepsAll (upgrades_plainly value) 1 upgrade_alone → ⊥ }
+    ensures beside { (value : V) → CountsAll (upgrades_plainly value) 2 ask_beside_a_reader → ⊥ }
 {}
 
 /// A `downgrade` of the writer that leaves the word of a reader that asks: it tells a holder who isn't there.
@@ -122,4 +129,14 @@ pub fn a_lock_is_as_it_was_made<V: Copy>()
     ensures value { (value : V) → IsRw value 9 (forgets_its_value value) → ⊥ }
     ensures owner { (value : V) → IsRw value 9 (has_no_owner value) → ⊥ }
     ensures cap { (value : V) → IsRw value 9 (rw_machine value 1) → ⊥ }
+{}
+
+/// A `try_read` that finds it closed, looks once more, and is refused even where it is open by then.
+pub fn a_try_is_refused_where_it_finds_it_closed<V: Copy>()
+    ensures { (value : V) → CountsAll (refuses_late value) 2 try_beside_a_writer → ⊥ }
+{}
+
+/// An `upgrade` that looks between its exchanges: each of its steps, once it has asked, gets it where it is open.
+pub fn an_upgrade_makes_its_exchange_again<V: Copy>()
+    ensures { (value : V) → CountsAll (upgrades_by_looks value) 1 upgrade_after_a_refusal → ⊥ }
 {}

@@ -4,6 +4,7 @@ ghost use Rattle.spin_world_core.specs.Acts.{one_number, becomes, stays, step_by
 ghost use Rattle.spin_world_core.specs.declared.object.Next.TheVariants.{Answers};
 ghost use Rattle.spin_world_core.specs.declared.answer.Answer.TheVariants.{Done};
 ghost use Rattle.spin_world_rw.specs.Rw.{granted, comes_at, act_of, rw_machine};
+ghost use Rattle.spin_world_rw.specs.Named.{IsRw};
 
 use spin_step::rw;
 use spin_world_core::{Answer, Hold, Next, Object, Stepped};
@@ -60,12 +61,13 @@ pub struct Rw<V> {
     cap: usize,
 }
 
-impl<V> Rw<V> {
+impl<V: Copy> Rw<V> {
     /// A free lock with this value. As many may read at a time as the cap says, and at most
     /// [`MAX_READERS`](rw::MAX_READERS), the upgradable reader included.
     pub fn new(value: V, cap: usize) -> Rw<V>
         requires some { 1 ≤ cap }
-        ensures { result ≡ record { value = value; cap = cap } }
+        ensures fields { result ≡ record { value = value; cap = cap } }
+        ensures named { IsRw value cap (⟦<Rw<V> as Object>⟧.machine result) }
     {
         Rw { value, cap }
     }

@@ -23,7 +23,7 @@ use Rattle.spin_world_seats.specs.Seats.{granted, act_of, asks_of, seats_table, 
 use Rattle.spin_world_core.proofs.Facts.{LocalInvariant, Facts}
 use Rattle.spin_world_core.proofs.Stands.{holds, entries_at}
 use Rattle.spin_world_core.proofs.Rows.{starts_sound, SoundAt, Row, Point, starts, looked}
-use Rattle.spin_world_core.proofs.Shapes.{Notes, keeping_of, Means, OwesAt, answers_by, OwesSoon, BeginsAt, Pays, CallOf, AtPoint}
+use Rattle.spin_world_core.proofs.Shapes.{AimsAt, Notes, keeping_of, Means, OwesAt, answers_by, OwesSoon, BeginsAt, Pays, CallOf, AtPoint}
 use Rattle.spin_world_core.proofs.Operating.{fits_act, one_place, operates_by}
 use Rattle.spin_world_core.proofs.Usual.{no_queue, means_word, exchanges_now, retries_soon}
 use Rattle.spin_world_core.proofs.Paid.{facts_of}
@@ -101,6 +101,15 @@ module _ (n : ℕ) where
   soon p Enter (Exchange k) None s w span = λ at may. sits_soon w (is_free s w at.shape (word_is s w at.encodes) may) k
   soon p _ _ _ s w span = tt
 
+  aims : (p : ℕ) (c : SeatsCall) (l : SeatsPoint) (h : Option Hold) → AimsAt (seats_table n) (seats_notes n) p c l h
+  aims p TryEnter First None = refl
+  aims p TryEnter (Exchange k) None = refl
+  aims p Enter First None = refl
+  aims p Enter (Exchange k) None = refl
+  aims p Count l None = refl
+  aims p Leave l (Some Read) = refl
+  aims p _ _ _ = refl
+
   begins : (p : ℕ) (c : SeatsCall) (h : Option Hold) (s : Plain) → BeginsAt (seats_table n) (seats_notes n) c h p s (begin_of (seats_table n) c h)
   begins p TryEnter None s = (refl, refl, tt, tt)
   begins p Enter None s = (refl, refl, tt, tt)
@@ -128,6 +137,7 @@ module _ (n : ℕ) where
         numbers_tell = λ v w e. cc (e);
         one_list = λ s shape. no_queue s shape.no_queue;
         sound = sound;
+        aims = aims;
         begins = begins;
         others = λ p q c l h s step r span ne shape may belongs knows. tt;
         owes = owes;

@@ -6,15 +6,9 @@ ghost use Rattle.spin_world_core.specs.Runs.{opening};
 ghost use Rattle.spin_world_core.specs.Users.{seen_after};
 ghost use Rattle.spin_world_seats.specs.declared.seats.SeatsCall.{SeatsCall};
 ghost use Rattle.spin_world_seats.specs.declared.seats.Seats.{Seats};
-ghost use Rattle.spin_world_seats.specs.Named.{IsSeats};
 
 use crate::seats::Seats;
 use spin_world_core::Object;
-
-/// What a [`Seats`] is: how it opens, how many seats it has, and what each of its calls asks.
-pub fn seats_are_what_their_calls_ask()
-    ensures { (object : Seats) → IsSeats object.seats (⟦<Seats as Object>⟧.machine object) }
-{}
 
 /// The word is how many parties sit, and they are never more than there are seats.
 pub fn no_more_sit_than_there_are_seats()

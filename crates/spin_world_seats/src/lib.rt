@@ -5,5 +5,5 @@ mod laws;
 pub mod refused;
 mod seats;
 
-pub use laws::{no_more_sit_than_there_are_seats, seats_are_what_their_calls_ask};
+pub use laws::no_more_sit_than_there_are_seats;
 pub use seats::{Seats, SeatsCall, SeatsPoint};

@@ -2,6 +2,7 @@
 ghost use Rattle.std.specs.Prelude.{◌≡◌, true};
 ghost use Rattle.spin_world_core.specs.Acts.{one_number, becomes, step_by, can_by};
 ghost use Rattle.spin_world_seats.specs.Seats.{granted, comes_at, act_of, seats_machine};
+ghost use Rattle.spin_world_seats.specs.Named.{IsSeats};
 
 use spin_seats::steps;
 use spin_world_core::{Answer, Hold, Next, Object, Stepped};
@@ -36,7 +37,8 @@ pub struct Seats {
 impl Seats {
     /// A lock whose seats are all free.
     pub fn new(seats: usize) -> Seats
-        ensures { result ≡ record { seats = seats } }
+        ensures fields { result ≡ record { seats = seats } }
+        ensures named { IsSeats seats (⟦<Seats as Object>⟧.machine result) }
     {
         Seats { seats }
     }

@@ -25,8 +25,8 @@ use Rattle.spin_world_core.proofs.Lists.{eqb_self}
 use Rattle.spin_world_core.proofs.Operating.{fits_act, fits_strong, IsPlace, operates_by}
 use Rattle.spin_world_core.proofs.Facts.{LocalInvariant, Facts}
 use Rattle.spin_world_core.proofs.Stands.{queues, entries_at}
-use Rattle.spin_world_core.proofs.Rows.{SoundAt, Row, Point, nowhere, looked, onward}
-use Rattle.spin_world_core.proofs.Shapes.{Notes, keeping_of, Means, OwesAt, answers_by, OwesSoon, BeginsAt, Pays, CallOf, AtPoint}
+use Rattle.spin_world_core.proofs.Rows.{any_map, SoundAt, Row, Point, nowhere, looked, onward}
+use Rattle.spin_world_core.proofs.Shapes.{AimsAt, Notes, keeping_of, Means, OwesAt, answers_by, OwesSoon, BeginsAt, Pays, CallOf, AtPoint}
 use Rattle.spin_world_core.proofs.Usual.{two, no_holders, retries_soon}
 use Rattle.spin_world_core.proofs.Paid.{facts_of}
 use Rattle.spin_world_ticket.proofs.Found.{free_number, Queue, Stays, Rises, stays-other, rises-other, stays_now, try_refused, look_held, look_free, ticket_left, taken_queue}
@@ -44,15 +44,15 @@ point_of Release (Serve t) (Some (hold.Ticket u)) = looked 0
 point_of _ _ _ = nowhere
 
 -- what else a party knows: since it found the number, a ticket has stood or that is served still; and it goes with the ticket that it holds
-abbrev KnowsAt : TicketPoint → Option Hold → Plain → List Mark → Type 0
-KnowsAt (TryLoadServing n) h s span = Stays n s span
-KnowsAt (TryTake n) h s span = Rises n s span
-KnowsAt (LookNext k) h s span = Rises k s span
-KnowsAt (Serve t) (Some (hold.Ticket u)) s span = t ≡ u
-KnowsAt _ h s span = Unit {0}
+abbrev KnowsAt : TicketPoint → Option Hold → ℕ → Plain → List Mark → Type 0
+KnowsAt (TryLoadServing n) h p s span = Stays n s span × AnyOf (λ m. (m.party ≡ p) × (next_word m.before ≡ n)) span
+KnowsAt (TryTake n) h p s span = Rises n s span
+KnowsAt (LookNext k) h p s span = Rises k s span
+KnowsAt (Serve t) (Some (hold.Ticket u)) p s span = t ≡ u
+KnowsAt _ h p s span = Unit {0}
 
 abbrev pub ticket_notes : {V : Type 0} (v : V) (first : ℕ) → Notes (ticket_table v first)
-ticket_notes v first = record { Shape = λ s. Queue s; point = point_of; Knows = λ c l h p s span. KnowsAt l h s span }
+ticket_notes v first = record { Shape = λ s. Queue s; point = point_of; Knows = λ c l h p s span. KnowsAt l h p s span }
 
 places : (i : ℕ) → IsPlace ticket_memory i
 places zero = record { stays = λ w. refl; put = λ k w. refl }
@@ -162,10 +162,16 @@ module _ {V : Type 0} (v : V) (first : ℕ) where
     (λ closed. (refl, refl, refl, tt, tt)),
   )
   owes p Lock (Await t) None s w span = λ at. (enter_if p at t (w.serving == t) at.known.stand (in_turn p at t at.known.stand), (refl, inl refl, tt), (λ closed. (refl, refl, tt, tt, tt)))
-  owes p TryLock TryLoadNext None s w span = λ at. (refl, refl, refl, tt, subst (λ n. Stays n s (mark_of p None plain s ∷ span)) (next_is p at) (stays_now s p span (is_empty s.tickets) refl))
+  owes p TryLock TryLoadNext None s w span = λ at. (
+    refl,
+    refl,
+    (refl, inr (inl (omega (arith, at.known.spent)))),
+    tt,
+    (subst (λ n. Stays n s (mark_of p None plain s ∷ span)) (next_is p at) (stays_now s p span (is_empty s.tickets) refl), inl (refl, next_is p at)),
+  )
   owes p TryLock (TryLoadServing n) None s w span = λ at. (
-    (λ free. let served = serving_is p at ∙ eqb-true w.serving n (and_parts (w.serving == n) (is_left n) free).0 in (refl, refl, refl, tt, (omega (arith, served), inr served))),
-    (λ taken. (refl, inl refl, try_refused p n s span at.knows (λ served e. ap is_left e ∙ (sym (ap (λ b. b && is_left n) (eq-eqb w.serving n (sym (serving_is p at) ∙ served))) ∙ taken)))),
+    (λ free. let served = serving_is p at ∙ eqb-true w.serving n (and_parts (w.serving == n) (is_left n) free).0 in (refl, refl, (refl, inr (inr (any_map _ (λ m. (m.party ≡ p) × (next_word m.before ≡ serving_word s)) span (λ m found. (found.0, found.1 ∙ sym served)) at.knows.1))), tt, (omega (arith, served), inr served))),
+    (λ taken. (refl, inl refl, try_refused p n s span at.knows.0 (λ served e. ap is_left e ∙ (sym (ap (λ b. b && is_left n) (eq-eqb w.serving n (sym (serving_is p at) ∙ served))) ∙ taken)))),
   )
   owes p TryLock (TryTake n) None s w span = λ at. (
     (λ to taken. let is = taken_at (w.next == n) (take w.next) to taken in
@@ -196,6 +202,18 @@ module _ {V : Type 0} (v : V) (first : ℕ) where
   soon p Lock (Await t) None s w span = λ at free. enters_soon 3 w t (eqb-true w.serving t (sym (in_turn p at t at.known.stand) ∙ enters_first p t s at.known.stand free))
   soon p _ _ _ s w span = tt
 
+  aims : (p : ℕ) (c : TicketCall) (l : TicketPoint) (h : Option Hold) → AimsAt (ticket_table v first) (ticket_notes v first) p c l h
+  aims p Lock LoadNext None = refl
+  aims p Lock (Take n) None = refl
+  aims p Lock (Await t) None = refl
+  aims p TryLock TryLoadNext None = refl
+  aims p TryLock (TryLoadServing n) None = refl
+  aims p TryLock (TryTake n) None = refl
+  aims p IsLocked LookServing None = refl
+  aims p IsLocked (LookNext k) None = refl
+  aims p Release (Serve t) (Some (hold.Ticket u)) = refl
+  aims p _ _ _ = refl
+
   begins : (p : ℕ) (c : TicketCall) (h : Option Hold) (s : Plain) → BeginsAt (ticket_table v first) (ticket_notes v first) c h p s (begin_of (ticket_table v first) c h)
   begins p Release (Some (hold.Ticket t)) s = rw (eqb_self t) (refl, refl, tt, refl)
   begins p Lock None s = (refl, refl, tt, tt)
@@ -223,12 +241,12 @@ module _ {V : Type 0} (v : V) (first : ℕ) where
   sound p Release (Serve t) (Some (hold.Ticket u)) = refl
   sound p _ _ _ = tt
 
-  others : (q : ℕ) (l : TicketPoint) (h : Option Hold) (s : Plain) (step : Option Change) (r : Manner) (span : List Mark) → Queue s → IsOpenStep s q step → KnowsAt l h s span → KnowsAt l h (apply_some s step) (mark_of q step r s ∷ span)
-  others q (TryLoadServing n) h s step r span queue may knows = stays-other n q s step r span queue.numbered may knows
-  others q (TryTake n) h s step r span queue may knows = rises-other n q s step r span queue.numbered may knows
-  others q (LookNext k) h s step r span queue may knows = rises-other k q s step r span queue.numbered may knows
-  others q (Serve t) (Some (hold.Ticket u)) s step r span queue may knows = knows
-  others q _ h s step r span queue may knows = tt
+  others : (p q : ℕ) (l : TicketPoint) (h : Option Hold) (s : Plain) (step : Option Change) (r : Manner) (span : List Mark) → Queue s → IsOpenStep s q step → KnowsAt l h p s span → KnowsAt l h p (apply_some s step) (mark_of q step r s ∷ span)
+  others p q (TryLoadServing n) h s step r span queue may knows = (stays-other n q s step r span queue.numbered may knows.0, inr knows.1)
+  others p q (TryTake n) h s step r span queue may knows = rises-other n q s step r span queue.numbered may knows
+  others p q (LookNext k) h s step r span queue may knows = rises-other k q s step r span queue.numbered may knows
+  others p q (Serve t) (Some (hold.Ticket u)) s step r span queue may knows = knows
+  others p q _ h s step r span queue may knows = tt
 
   pub ticket_pays : Pays (ticket_table v first) (ticket_notes v first)
   ticket_pays =
@@ -240,8 +258,9 @@ module _ {V : Type 0} (v : V) (first : ℕ) where
         numbers_tell = λ u w e. two_words u w e;
         one_list = λ s queue. no_holders s queue.no_holders;
         sound = sound;
+        aims = aims;
         begins = begins;
-        others = λ p q c l h s step r span ne shape may belongs knows. others q l h s step r span shape may knows;
+        others = λ p q c l h s step r span ne shape may belongs knows. others p q l h s step r span shape may knows;
         owes = owes;
         soon = soon;
       }

@@ -141,3 +141,15 @@ lock_in_vain = (0, Begin Lock) ∷ (0, Step) ∷ (0, Weak) ∷ []
 -- a lock in whose queue a ticket stands at first, which is nobody's
 abbrev pub opens_with_a_ticket : {V : Type 0} → V → TicketMachine V
 opens_with_a_ticket {V} v = let m : TicketMachine V = ticket_machine v 0 in record m { words = record { next = 1; serving = 0 } }
+
+-- `is_locked` makes a load in vain between its two
+abbrev pub idle_look : {V : Type 0} → TicketMachine V → TicketWords → Option V → TicketCall → TicketPoint → Option Hold → Stepped TicketWords V TicketPoint (Answer V)
+idle_look m w value IsLocked LookServing h = stays_at w (GoesOn (TryLoadServing w.serving))
+idle_look m w value IsLocked (TryLoadServing k) h = stays_at w (GoesOn (LookNext k))
+idle_look m w value c l h = m.step w value c l h
+
+abbrev pub looks_in_vain : {V : Type 0} → V → TicketMachine V
+looks_in_vain {V} v = let m : TicketMachine V = ticket_machine v 0 in record m { step = idle_look m }
+
+abbrev pub three_loads : {V : Type 0} → Entries V
+three_loads = (0, Begin IsLocked) ∷ (0, Step) ∷ (0, Step) ∷ []

@@ -6,16 +6,10 @@ ghost use Rattle.spin_world_core.specs.Runs.{opening};
 ghost use Rattle.spin_world_core.specs.Users.{seen_after};
 ghost use Rattle.spin_world_ticket.specs.declared.ticket.TicketCall.{TicketCall};
 ghost use Rattle.spin_world_ticket.specs.declared.ticket.Ticket.{Ticket};
-ghost use Rattle.spin_world_ticket.specs.Named.{IsTicketLock};
 ghost use Rattle.spin_world_ticket.specs.Turns.{InOrder, InTurn};
 
 use crate::ticket::Ticket;
 use spin_world_core::Object;
-
-/// What a [`Ticket`] is: how it opens, and what each of its calls asks.
-pub fn a_ticket_lock_is_what_its_calls_ask<V: Copy>()
-    ensures { (object : Ticket V) → IsTicketLock object.value object.first (⟦<Ticket<V> as Object>⟧.machine object) }
-{}
 
 /// The two words are the numbers of a queue of tickets, whose first alone may have entered.
 pub fn tickets_stand_in_order<V: Copy>()

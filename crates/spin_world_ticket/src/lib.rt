@@ -5,7 +5,5 @@ mod laws;
 pub mod refused;
 mod ticket;
 
-pub use laws::{
-    a_ticket_lock_is_what_its_calls_ask, tickets_enter_by_releases, tickets_stand_in_order,
-};
+pub use laws::{tickets_enter_by_releases, tickets_stand_in_order};
 pub use ticket::{Ticket, TicketCall, TicketPoint, TicketWords};

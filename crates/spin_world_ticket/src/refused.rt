@@ -3,7 +3,7 @@ ghost use Rattle.std.specs.Prelude.{◌≡◌, []};
 ghost use Rattle.spin_world_core.specs.Operations.{Stepwise};
 ghost use Rattle.spin_world_core.specs.Runs.{KeepsAll, MomentsAll, CountsAll};
 ghost use Rattle.spin_world_ticket.specs.Named.{IsTicketLock};
-ghost use Rattle.spin_world_ticket.specs.Wrong.{looks_backwards, look_beside_a_queue, queues_behind_nobody, lock_beside_a_holder, never_enters, lock_alone, enters_by_look, two_queue, never_tries, try_alone, looks_at_both, locks_again, tries_by_looking, takes_by_chance, try_in_vain, lock_in_vain, opens_with_a_ticket};
+ghost use Rattle.spin_world_ticket.specs.Wrong.{looks_in_vain, three_loads, looks_backwards, look_beside_a_queue, queues_behind_nobody, lock_beside_a_holder, never_enters, lock_alone, enters_by_look, two_queue, never_tries, try_alone, looks_at_both, locks_again, tries_by_looking, takes_by_chance, try_in_vain, lock_in_vain, opens_with_a_ticket};
 
 /// An `is_locked` of a ticket lock that loads the next number first: its `false` has no moment.
 pub fn a_look_loads_the_served_number_first<V: Copy>()
@@ -58,4 +58,9 @@ pub fn a_ticket_is_taken_by_a_strong_exchange<V: Copy>()
 /// A ticket lock in whose queue a ticket stands at first.
 pub fn a_ticket_lock_opens_empty<V: Copy>()
     ensures { (value : V) → KeepsAll (opens_with_a_ticket value) 1 [] → ⊥ }
+{}
+
+/// An `is_locked` of three loads: it answers by its second.
+pub fn a_look_takes_two_loads<V: Copy>()
+    ensures { (value : V) → CountsAll (looks_in_vain value) 1 three_loads → ⊥ }
 {}

@@ -6,6 +6,7 @@ ghost use Rattle.spin_world_ticket.specs.declared.ticket.TicketPoint.TheVariants
 ghost use Rattle.spin_world_core.specs.Acts.{guessed, either, becomes, step_by, can_by};
 ghost use Rattle.spin_step.specs.Tickets.{take};
 ghost use Rattle.spin_world_ticket.specs.Ticket.{is_left, ticket_memory, word_of, granted, act_of, ticket_machine};
+ghost use Rattle.spin_world_ticket.specs.Named.{IsTicketLock};
 
 use spin_step::ticket;
 use spin_world_core::{Answer, Hold, Next, Object, Stepped};
@@ -62,10 +63,11 @@ pub struct Ticket<V> {
     first: u64,
 }
 
-impl<V> Ticket<V> {
+impl<V: Copy> Ticket<V> {
     /// A free lock with this value, whose first ticket has this number. Tickets are numbered up to `u64::MAX - 1`.
     pub fn new(value: V, first: u64) -> Ticket<V>
-        ensures { result ≡ record { value = value; first = first } }
+        ensures fields { result ≡ record { value = value; first = first } }
+        ensures named { IsTicketLock value first (⟦<Ticket<V> as Object>⟧.machine result) }
     {
         Ticket { value, first }
     }

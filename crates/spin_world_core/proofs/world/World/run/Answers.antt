@@ -9,6 +9,7 @@ use Rattle.spin_world_core.specs.Runs.{CanStep, IsReached}
 use Rattle.spin_world_core.specs.Transcripts.{TellsAfterAnyPast}
 use Rattle.spin_world_core.proofs.Schedules.{after-append}
 use Rattle.spin_world_core.proofs.Transcripts.{tells_after}
+use Rattle.spin_world_core.proofs.Begins.{begins_told}
 use Rattle.spin_world_core.proofs.world.World.run.Goals as goal
 
 pub returns-in_err-events-clause-keeps : goal.returns-in_err-events-clause-keeps
@@ -69,3 +70,6 @@ returns-clause-tells g c =
     let m = g.O.Object.machine c.self.inside.object in
     subst (λ w. TellsAfterAnyPast (g.O.Object.machine w.object) w.state c.args.schedule.now c.play.new.events.items) {x = record { object = c.self.inside.object; state = c.self.inside.table }} c.self.view_is
     (tells_after m c.self.inside.table c.args.schedule.now c.play.new.events.items c.play.ensures.events)
+
+pub returns-clause-begins : goal.returns-clause-begins
+returns-clause-begins g c = begins_told _ c.play.new.events.items c.play.ensures.events

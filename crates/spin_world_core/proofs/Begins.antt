@@ -1,0 +1,74 @@
+-- Each answer tells where its call began.
+use Rattle.std.proofs.Common.{◌≡◌, ℕ, suc, ◌+◌, ◌==◌, ◌&&◌, ◌||◌, ◌⊎◌, Bool, true, false, Option, Some, None, List, [], ◌∷◌, ◌++◌, length, if◌then◌else◌, refl, ap, sym, ◌∙◌, subst, arith, append_assoc, inl, inr}
+use Rattle.std.specs.List.{list_any}
+use Rattle.std.proofs.lemmas.List.{append-nil, length-append}
+use Rattle.std.proofs.lemmas.Bool.{true≢false}
+use Rattle.spin_world_core.specs.declared.schedule.Outcome.{Outcome}
+use Rattle.spin_world_core.specs.declared.schedule.Outcome.TheVariants as outcome
+use Rattle.spin_world_core.specs.declared.schedule.Event.{Event}
+use Rattle.spin_world_core.specs.Schedules.{with_begins, with_begin, last_begin, is_begun}
+use Rattle.spin_world_core.specs.Transcripts.{begins_of, IsLastOf, IsLastBegin, TellsBegins}
+use Rattle.spin_world_core.proofs.Schedules.{last_begin_more}
+
+answered : {V A : Type 0} (r b : Option ℕ) (o : Outcome A V) (a : A) → with_begin r o ≡ outcome.Answered a b → b ≡ r
+answered r b (outcome.Answered x y) a is = cc (is)
+answered r b _ a is = absurd (cc (is))
+
+begun_still : {V A : Type 0} (r : Option ℕ) (o : Outcome A V) → is_begun (with_begin r o) ≡ is_begun o
+begun_still r (outcome.Answered x y) = refl
+begun_still r _ = refl
+
+module _ {W V A : Type 0} where
+  -- what `last_begin` finds: what was found before, or the last that begins
+  abbrev Finds : ℕ → ℕ → Option ℕ → List (Event W V A) → Option ℕ → Type 0
+  Finds p k found xs r =
+      ((list_any (begins_of p) xs ≡ false) × (r ≡ found)) ⊎ ((place : ℕ) × (r ≡ Some (k + place)) × IsLastOf p xs place)
+
+  later : (p k : ℕ) (found : Option ℕ) (e : Event W V A) (es : List (Event W V A)) (r : Option ℕ) (b : Bool) → begins_of p e ≡ b
+      → Finds p (k + 1) (if b then Some k else found) es r → Finds p k found (e ∷ es) r
+  later p k found e es r true is (inl t) = inr (0, t.1 ∙ ap Some (omega arith), record { front = []; event = e; back = es; is = refl; place_is = refl; begins = is; none_later = t.0 })
+  later p k found e es r false is (inl t) = inl (ap (λ b. b || list_any (begins_of p) es) is ∙ t.0, t.1)
+  later p k found e es r b is (inr t) =
+      inr (suc t.0, t.1 ∙ ap Some (omega arith), record { front = e ∷ t.2.front; event = t.2.event; back = t.2.back; is = ap (λ xs. e ∷ xs) t.2.is; place_is = ap suc t.2.place_is; begins = t.2.begins; none_later = t.2.none_later })
+
+  finds : (p k : ℕ) (found : Option ℕ) (xs : List (Event W V A)) → Finds p k found xs (last_begin p k found xs)
+  finds p k found [] = inl (refl, refl)
+  finds p k found (e ∷ es) = later p k found e es (last_begin p k found (e ∷ es)) (begins_of p e) refl (finds p (k + 1) (if begins_of p e then Some k else found) es)
+
+  found_last : (p : ℕ) (xs : List (Event W V A)) (r : Option ℕ) → Finds p 0 None xs r → IsLastBegin p xs r
+  found_last p xs r (inl t) = subst (IsLastBegin p xs) (sym t.1) t.0
+  found_last p xs r (inr t) = subst (IsLastBegin p xs) (sym (t.1 ∙ ap Some (omega arith))) t.2
+
+  tells : (before told es front : List (Event W V A)) (e : Event W V A) (back : List (Event W V A)) (a : A) (b : Option ℕ)
+      → ((p : ℕ) → last_begin p 0 None told ≡ last_begin p 0 None before) → length told ≡ length before
+      → with_begins before es ≡ front ++ e ∷ back → e.outcome ≡ outcome.Answered a b → b ≡ last_begin e.party 0 None (told ++ front)
+  tells before told [] [] e back a b same long is answers = absurd (cc (is))
+  tells before told [] (f ∷ fs) e back a b same long is answers = absurd (cc (is))
+  tells before told (y ∷ ys) [] e back a b same long is answers =
+      let r = last_begin y.party 0 None before in
+      let here : record y { outcome = with_begin r y.outcome } ≡ e = cc (is) in
+      answered r b y.outcome a (ap (λ (x : Event W V A). x.outcome) here ∙ answers) ∙ (sym (same y.party) ∙ (ap (λ (x : Event W V A). last_begin x.party 0 None told) here ∙ ap (last_begin e.party 0 None) (sym (append-nil told))))
+  tells before told (y ∷ ys) (f ∷ fs) e back a b same long is answers =
+      let r = last_begin y.party 0 None before in
+      let here : record y { outcome = with_begin r y.outcome } ≡ f = cc (is) in
+      let rest : with_begins (before ++ y ∷ []) ys ≡ fs ++ e ∷ back = cc (is) in
+      let party : f.party ≡ y.party = ap (λ (x : Event W V A). x.party) (sym here) in
+      let begun : is_begun f.outcome ≡ is_begun y.outcome = ap (λ (x : Event W V A). is_begun x.outcome) (sym here) ∙ begun_still r y.outcome in
+      let more : (p : ℕ) → last_begin p 0 None (told ++ f ∷ []) ≡ last_begin p 0 None (before ++ y ∷ []) =
+      λ p. last_begin_more p 0 None told f
+      ∙ (ap (λ n. if (n == p) && is_begun f.outcome then Some (0 + length told) else last_begin p 0 None told) party
+      ∙ (ap (λ c. if (y.party == p) && c then Some (0 + length told) else last_begin p 0 None told) begun
+      ∙ (ap (λ n. if (y.party == p) && is_begun y.outcome then Some (0 + n) else last_begin p 0 None told) long
+      ∙ (ap (λ o. if (y.party == p) && is_begun y.outcome then Some (0 + length before) else o) (same p)
+      ∙ sym (last_begin_more p 0 None before y))))) in
+      tells (before ++ y ∷ []) (told ++ f ∷ []) ys fs e back a b more (omega (arith, long, length-append told (f ∷ []), length-append before (y ∷ []))) rest answers
+      ∙ ap (last_begin e.party 0 None) (append_assoc told (f ∷ []) fs)
+
+  pub begins_told : (es told : List (Event W V A)) → told ≡ with_begins [] es → TellsBegins told
+  begins_told es told is = λ front e back a b split answers.
+      let found = tells [] [] es front e back a b (λ p. refl) refl (sym is ∙ split) answers in
+      subst (IsLastBegin e.party front) (sym found) (found_last e.party front _ (finds e.party 0 None front))
+
+  -- not so of events that tell no beginning
+  wrong : (a : A) (w : W) → TellsBegins {W = W} {V = V} {A = A} (record { party = 0; outcome = outcome.Begun; words = w } ∷ record { party = 0; outcome = outcome.Answered a None; words = w } ∷ []) → ⊥
+  wrong a w law = true≢false (law (record { party = 0; outcome = outcome.Begun; words = w } ∷ []) (record { party = 0; outcome = outcome.Answered a None; words = w }) [] a None refl refl)

@@ -1,0 +1,64 @@
+-- Which step of a call follows which.
+use Rattle.std.specs.Prelude.{◌≡◌, ℕ, ◌⊎◌, ◌==◌, ◌&&◌, ◌||◌, Bool, true, false, not, Option, Some, None, is_some, List, [], ◌∷◌, if◌then◌else◌}
+use Rattle.spin_step.specs.Plain.{Plain, Ask, to_write, to_upgrade_asked, to_take_and_enter, to_lock_unregistered, to_lock_starving, Change, gets, is_open_to, next_word, serving_word}
+use Rattle.spin_step.specs.Parties.{is_held}
+use Rattle.spin_world_core.specs.declared.schedule.Move.{Move}
+use Rattle.spin_world_core.specs.declared.schedule.Move.TheVariants.{Step}
+use Rattle.spin_world_core.specs.declared.schedule.Outcome.{Outcome}
+use Rattle.spin_world_core.specs.declared.schedule.Outcome.TheVariants as outcome
+use Rattle.spin_world_core.specs.Manners.{Manner, is_look}
+use Rattle.spin_world_core.specs.Calls.{Coding, rw, Asked, waits, waits_or_starves, tries, Mark, AnyOf}
+use Rattle.spin_world_core.specs.Spans.{own, own_count}
+
+-- what a call that waits for its turn without a look goes for, by the plain steps that it has made. Who comes to read or to a queue looks first
+abbrev pub goes_for : Asked → List Change → Option Ask
+goes_for (waits to_write) [] = Some to_write
+goes_for (waits to_lock_starving) [] = Some to_lock_starving
+goes_for (waits to_upgrade_asked) (c ∷ []) = Some to_upgrade_asked
+goes_for (waits_or_starves n) [] = Some to_lock_unregistered
+goes_for (waits_or_starves n) (c ∷ []) = Some to_lock_starving
+goes_for _ _ = None
+
+-- its next step is due: it is its first, or follows a plain step, or a look that found the lock free
+abbrev pub is_due : ℕ → List Mark → Bool
+is_due p [] = true
+is_due p (m ∷ ms) = if m.party == p then is_some m.change || (is_look m.manner && not (is_held m.before)) else is_due p ms
+
+-- by which of its steps such a call goes for it
+pub data Way : Type 0 where
+  always : Way  -- by each
+  by_looks : Way  -- where it is due, and else it looks
+  past_looks : Way  -- where it is due; a newcomer at a fair lock may also register
+
+abbrev pub way_of : Coding → Asked → List Change → Way
+way_of rw what made = always
+way_of coding (waits_or_starves n) [] = past_looks
+way_of coding what made = by_looks
+
+abbrev pub is_due_by : Way → ℕ → List Mark → Bool
+is_due_by always p span = true
+is_due_by way p span = is_due p span
+
+abbrev pub LooksElse : Way → ℕ → List Mark → Manner → Type 0
+LooksElse by_looks p span r = is_due p span ≡ false → is_look r ≡ true
+LooksElse way p span r = Unit {0}
+
+-- by a step that goes for it the call gets it, where it is open
+abbrev pub Gets : Coding → ℕ → Asked → List Mark → Plain → Option Change → Manner → Type 0
+Gets coding p what span s step r =
+    (ask : Ask) → goes_for what (own p span) ≡ Some ask
+    → let way = way_of coding what (own p span) in (is_due_by way p span ≡ true → is_open_to s p ask ≡ true → step ≡ Some (gets p ask)) × LooksElse way p span r
+
+abbrev pub GetsWhenDue : {C V A : Type 0} → Coding → ℕ → Outcome A V → Move C V → Option Asked → List Mark → Plain → Option Change → Manner → Type 0
+GetsWhenDue coding p outcome.GoingOn Step (Some what) span s step r = Gets coding p what span s step r
+GetsWhenDue coding p (outcome.Answered a b) Step (Some what) span s step r = Gets coding p what span s step r
+GetsWhenDue coding p _ _ _ span s step r = Unit {0}
+
+-- A try goes on, before its plain step, only by a step at which what it asks is open. Whoever tries to come by a queue's two words goes on by its first load too, and by one that finds served the number that it has found next
+abbrev pub MayTryOn : Ask → ℕ → List Mark → Plain → Type 0
+MayTryOn to_take_and_enter p span s = (is_open_to s p to_take_and_enter ≡ true) ⊎ (own_count p span ≡ 0) ⊎ AnyOf (λ m. (m.party ≡ p) × (next_word m.before ≡ serving_word s)) span
+MayTryOn ask p span s = is_open_to s p ask ≡ true
+
+abbrev pub TriesOn : {C V A : Type 0} → ℕ → Outcome A V → Move C V → Option Asked → List Mark → Plain → Option Change → Type 0
+TriesOn p outcome.GoingOn Step (Some what) span s None = (ask : Ask) → what ≡ tries ask → own p span ≡ [] → MayTryOn ask p span s
+TriesOn p _ _ _ span s step = Unit {0}
