@@ -10,7 +10,7 @@ use Rattle.spin_core.specs.Views.{entries_of}
 use Rattle.spin_core.proofs.Owners.{exactly}
 use Rattle.spin_core.proofs.Views.{part-beyond}
 use Rattle.spin_rwlock.specs.declared.rwlock.rule.View.{View}
-use Rattle.spin_rwlock.specs.declared.rwlock.rule.View.TheVariants.{Idle, Reading, Upgradable, Asking, Writing}
+use Rattle.spin_rwlock.specs.declared.rwlock.rule.View.TheVariants.{Idle, Reading, Upgradable, Asking, Writing, WritingAsked}
 use Rattle.spin_rwlock.specs.Rw.{part, IsRw}
 use Rattle.spin_rwlock.specs.Standing.{has_kind, held, readers, upgradables, askers, writers, holders, ReadersOrWriter, HoldsAt}
 use Rattle.spin_rwlock.proofs.Steps.{fits_cap, bounded}
@@ -25,6 +25,7 @@ one_holder k p Reading = omega (arith, sum_by-cons (λ (h : Holder). one_of k h.
 one_holder k p Upgradable = omega (arith, sum_by-cons (λ (h : Holder). one_of k h.kind) (holder p upgradable) [])
 one_holder k p Asking = omega (arith, sum_by-cons (λ (h : Holder). one_of k h.kind) (holder p asking) [])
 one_holder k p Writing = omega (arith, sum_by-cons (λ (h : Holder). one_of k h.kind) (holder p writing) [])
+one_holder k p WritingAsked = omega (arith, sum_by-cons (λ (h : Holder). one_of k h.kind) (holder p writing) [])
 
 -- as many parties hold so as holders of the plain lock are of this kind
 as_many : (k : Kind) (word : ℕ) (vs : List View) (rule : IsRw word tt vs) → held k vs ≡ count_kind k rule.0.holders

@@ -18,7 +18,7 @@ use Rattle.spin_core.proofs.Plays.{Lock, ways, allows, by_step, by_grant, by_non
 use Rattle.spin_step.proofs.Readers.{one_of_each, word_of}
 use Rattle.spin_core.proofs.Views.{part_before, release-own, turn-own}
 use Rattle.spin_rwlock.specs.declared.rwlock.rule.View.{View}
-use Rattle.spin_rwlock.specs.declared.rwlock.rule.View.TheVariants.{Idle, Reading, Upgradable, Asking, Writing}
+use Rattle.spin_rwlock.specs.declared.rwlock.rule.View.TheVariants.{Idle, Reading, Upgradable, Asking, Writing, WritingAsked}
 use Rattle.spin_rwlock.specs.Rw.{part, IsRw, IsRwWord, looks, use_of_view}
 
 pub kind : (v : View) → OfReaders part v
@@ -27,6 +27,7 @@ kind Reading = (λ p. refl, λ p. refl)
 kind Upgradable = (λ p. refl, λ p. refl)
 kind Asking = (λ p. refl, λ p. refl)
 kind Writing = (λ p. refl, λ p. refl)
+kind WritingAsked = (λ p. refl, λ p. refl)
 
 abbrev pub rw-lock : Lock View (Unit {0})
 rw-lock = record {
@@ -84,8 +85,8 @@ upgrades old new plain = gets_at (Some Upgradable) to_upgrade Writing Upgradable
 
 -- What the reader that asked does
 
-pub upgrades_asked : (old new : ℕ) → ((s : Plain) (p : ℕ) → OneOfEach s → is_holder p asking s.holders ≡ true → rw_word s ≡ old → Decides s (gets p to_upgrade_asked) rw_word (Some new)) → Allows IsRw (ways rw-lock) (Some Asking) (λ n. either (n == old) new n) (exchanges (λ _. Writing) Asking old new (Some Asking))
-upgrades_asked old new plain = gets_at (Some Asking) to_upgrade_asked Writing Asking old new (λ s p. rw (eq-eqb p p refl) refl) (λ s. tt) (λ p. refl) (λ s. tt)
+pub upgrades_asked : (old new : ℕ) → ((s : Plain) (p : ℕ) → OneOfEach s → is_holder p asking s.holders ≡ true → rw_word s ≡ old → Decides s (gets p to_upgrade_asked) rw_word (Some new)) → Allows IsRw (ways rw-lock) (Some Asking) (λ n. either (n == old) new n) (exchanges (λ _. WritingAsked) Asking old new (Some Asking))
+upgrades_asked old new plain = gets_at (Some Asking) to_upgrade_asked WritingAsked Asking old new (λ s p. rw (eq-eqb p p refl) refl) (λ s. tt) (λ p. refl) (λ s. tt)
     (λ s p room order has e. plain s p (one_of_each s order.exclusive) (is_holder-from_entries p asking s.holders (ap (λ e. e.holders) has.0)) e)
 
 -- What a holder does to go on with less, to ask, or to go
@@ -105,11 +106,17 @@ turns_by v w k l by was now knows down less = allows rw-lock (Some v) (λ n. (n 
       refl,
     ))
 
-pub writer_reads : Allows IsRw (ways rw-lock) (Some Writing) (λ n. (n + (weight reading - weight writing)) % 2 ^ 64) (becomes Reading (weight reading - weight writing) 0 (Some Writing))
-writer_reads = turns_by Writing Reading writing reading (weight reading - weight writing) (λ p. refl) (λ p. refl) (λ s. tt) refl refl
+-- who writes, whether it asked or not
+writes_as : (v : View) → use_of_view v ≡ writes → (p : ℕ) → entries_of p (part v) ≡ entries_of p (holds writing)
+writes_as Writing e p = refl
+writes_as WritingAsked e p = refl
+writes_as _ e p = absurd cc
 
-pub writer_reads_upgradable : Allows IsRw (ways rw-lock) (Some Writing) (λ n. (n + (weight upgradable - weight writing)) % 2 ^ 64) (becomes Upgradable (weight upgradable - weight writing) 0 (Some Writing))
-writer_reads_upgradable = turns_by Writing Upgradable writing upgradable (weight upgradable - weight writing) (λ p. refl) (λ p. refl) (λ s. tt) refl refl
+pub writer_reads : (v : View) → use_of_view v ≡ writes → Allows IsRw (ways rw-lock) (Some v) (λ n. (n + (weight reading - weight writing)) % 2 ^ 64) (becomes Reading (weight reading - weight writing) 0 (Some v))
+writer_reads v e = turns_by v Reading writing reading (weight reading - weight writing) (writes_as v e) (λ p. refl) (λ s. tt) refl refl
+
+pub writer_reads_upgradable : (v : View) → use_of_view v ≡ writes → Allows IsRw (ways rw-lock) (Some v) (λ n. (n + (weight upgradable - weight writing)) % 2 ^ 64) (becomes Upgradable (weight upgradable - weight writing) 0 (Some v))
+writer_reads_upgradable v e = turns_by v Upgradable writing upgradable (weight upgradable - weight writing) (writes_as v e) (λ p. refl) (λ s. tt) refl refl
 
 pub upgradable_reads : Allows IsRw (ways rw-lock) (Some Upgradable) (λ n. (n + (weight reading - weight upgradable)) % 2 ^ 64) (becomes Reading (weight reading - weight upgradable) 0 (Some Upgradable))
 upgradable_reads = turns_by Upgradable Reading upgradable reading (weight reading - weight upgradable) (λ p. refl) (λ p. refl) (λ s. tt) refl refl
@@ -133,18 +140,11 @@ reader_goes = goes Reading reading (weight reading) (λ p. refl) refl
 pub upgradable_goes : Allows IsRw (ways rw-lock) (Some Upgradable) (λ n. (n + (2 ^ 64 - weight upgradable)) % 2 ^ 64) (becomes Idle (weight upgradable) 0 (Some Upgradable))
 upgradable_goes = goes Upgradable upgradable (weight upgradable) (λ p. refl) refl
 
-pub writer_goes : Allows IsRw (ways rw-lock) (Some Writing) (λ n. (n + (2 ^ 64 - weight writing)) % 2 ^ 64) (becomes Idle (weight writing) 0 (Some Writing))
-writer_goes = goes Writing writing (weight writing) (λ p. refl) refl
+pub writer_goes : (v : View) → use_of_view v ≡ writes → Allows IsRw (ways rw-lock) (Some v) (λ n. (n + (2 ^ 64 - weight writing)) % 2 ^ 64) (becomes Idle (weight writing) 0 (Some v))
+writer_goes v e = goes v writing (weight writing) (writes_as v e) refl
 
 -- Who may go
 
 pub looked : (view : Option View) (found : ℕ) → Moved (λ v. (v ≡ Idle) × IsRwWord found) view → Rests IsRw use_of_view view × IsRwWord found
 looked None found moved = absurd moved
 looked (Some v) found moved = (left_rests rw-lock (Some v) moved.0, moved.1)
-
-pub writing_of : (v : View) → use_of_view v ≡ writes → v ≡ Writing
-writing_of Idle e = absurd cc
-writing_of Reading e = absurd cc
-writing_of Upgradable e = absurd cc
-writing_of Asking e = absurd cc
-writing_of Writing e = refl

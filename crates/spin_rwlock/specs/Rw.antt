@@ -7,7 +7,7 @@ use Rattle.spin_core.specs.Views.{Part, idle, holds, Encodes, used_by, no_word}
 use Rattle.spin_step.specs.Orders.{IsInOrder}
 use Rattle.spin_core.specs.declared.cell.Permit.{Permit}
 use Rattle.spin_rwlock.specs.declared.rwlock.rule.View.{View}
-use Rattle.spin_rwlock.specs.declared.rwlock.rule.View.TheVariants.{Idle, Reading, Upgradable, Asking, Writing}
+use Rattle.spin_rwlock.specs.declared.rwlock.rule.View.TheVariants.{Idle, Reading, Upgradable, Asking, Writing, WritingAsked}
 
 abbrev pub part : View → Part
 part Idle = idle
@@ -15,6 +15,7 @@ part Reading = holds reading
 part Upgradable = holds upgradable
 part Asking = holds asking
 part Writing = holds writing
+part WritingAsked = holds writing
 
 abbrev pub IsRw : ℕ → Unit {0} → List View → Type 0
 IsRw = Encodes part reader_limit rw_word no_word

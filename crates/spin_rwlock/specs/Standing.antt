@@ -5,7 +5,7 @@ use Rattle.spin_step.specs.Readers.{reader_limit}
 use Rattle.spin_core.specs.Views.{holds, part_at}
 use Rattle.spin_rwlock.specs.Rw.{part}
 use Rattle.spin_rwlock.specs.declared.rwlock.rule.View.{View}
-use Rattle.spin_rwlock.specs.declared.rwlock.rule.View.TheVariants.{Idle, Reading, Upgradable, Asking, Writing}
+use Rattle.spin_rwlock.specs.declared.rwlock.rule.View.TheVariants.{Idle, Reading, Upgradable, Asking, Writing, WritingAsked}
 
 abbrev pub has_kind : Kind → View → Bool
 has_kind k Idle = false
@@ -13,6 +13,7 @@ has_kind k Reading = same_kind k reading
 has_kind k Upgradable = same_kind k upgradable
 has_kind k Asking = same_kind k asking
 has_kind k Writing = same_kind k writing
+has_kind k WritingAsked = same_kind k writing
 
 -- how many hold so
 abbrev pub held : Kind → List View → ℕ

@@ -4,7 +4,7 @@ ghost use Rattle.spin_core.specs.Cell.{reads};
 ghost use Rattle.spin_core.specs.Plays.{becomes, exchanges};
 ghost use Rattle.spin_rwlock.specs.Rw.{IsRw, IsRwWord, looks, rw_ways, use_of_view, IsLent};
 ghost use Rattle.spin_rwlock.specs.declared.rwlock.rule.View.{View};
-ghost use Rattle.spin_rwlock.specs.declared.rwlock.rule.View.TheVariants.{Idle, Reading, Upgradable, Asking, Writing};
+ghost use Rattle.spin_rwlock.specs.declared.rwlock.rule.View.TheVariants.{Idle, Reading, Upgradable, Asking, Writing, WritingAsked};
 
 use spin_core::cell::{Cell, Permit, Play, Rule, WritePermit};
 use spin_step::rw;
@@ -27,6 +27,8 @@ pub enum View {
     /// It reads still, and has asked to become the writer.
     Asking,
     Writing,
+    /// It writes, and asked before it came.
+    WritingAsked,
 }
 
 /// The word is that of a plain lock of these parties: the sum of what each weighs.
@@ -86,7 +88,7 @@ impl Play<View> for Asks {
 struct UpgradesAsked;
 
 impl Play<View> for UpgradesAsked {
-    ghost then = { exchanges (λ _. Writing) Asking };
+    ghost then = { exchanges (λ _. WritingAsked) Asking };
 }
 
 struct ReadsOn;
@@ -238,7 +240,7 @@ pub(super) fn ask<T>(party: Party<'_, T>) -> Party<'_, T>
 /// The reader that asked becomes the writer, or goes on asking beside another holder.
 pub(super) fn upgrade_asked<T>(party: Party<'_, T>) -> Result<Writer<'_, T>, Party<'_, T>>
     requires { IsLent party Asking }
-    ensures granted { IfOk result (λ writer. (writer.view ≡ Writing) × (party.entry.value ≡ Some writer.value)) }
+    ensures granted { IfOk result (λ writer. (writer.view ≡ WritingAsked) × (party.entry.value ≡ Some writer.value)) }
     ensures refused { IfErr result (λ still. IsLent still Asking × (still.value ≡ party.entry.value)) }
 {
     let expected = UPGRADABLE + ASKING;

@@ -2,7 +2,7 @@
 ghost use Rattle.std.specs.Prelude.{◌≡◌, Some, IfOk, IfErr};
 ghost use Rattle.spin_rwlock.specs.Guards.{write_value};
 ghost use Rattle.spin_rwlock.specs.Rw.{IsLent};
-ghost use Rattle.spin_rwlock.specs.declared.rwlock.rule.View.TheVariants.{Asking};
+ghost use Rattle.spin_rwlock.specs.declared.rwlock.rule.View.TheVariants.{Asking, WritingAsked};
 
 use super::reader::{RwLockReadGuard, SharedGuard};
 use super::rule::{Party, Upgrader, ask, upgradable_to_read, upgrade, upgrade_asked};
@@ -58,7 +58,8 @@ impl<'a, T, R: RelaxStrategy> SharedGuard<'a, T, Upgrader, R> {
     ///
     /// Example: the test `up_and_down_and_up_again`.
     pub fn upgrade<W: Wait>(self, rt: &W) -> RwLockWriteGuard<'a, T, R>
-        ensures { Some (write_value result) ≡ shared_value self.entry }
+        ensures asked { result.writer.view ≡ WritingAsked }
+        ensures value { Some (write_value result) ≡ shared_value self.entry }
     {
         match upgrade_asked(ask(self.into_permit())) {
             Ok(writer) => RwLockWriteGuard::new(writer),
@@ -75,7 +76,8 @@ fn wait_to_upgrade<'a, T, R: RelaxStrategy, W: Wait>(
     asking: Party<'a, T>,
 ) -> RwLockWriteGuard<'a, T, R>
     requires { IsLent asking Asking }
-    ensures { Some (write_value result) ≡ asking.entry.value }
+    ensures asked { result.writer.view ≡ WritingAsked }
+    ensures value { Some (write_value result) ≡ asking.entry.value }
 {
     let mut asking = asking;
     for _ in rt.forever() {

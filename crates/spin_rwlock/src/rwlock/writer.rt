@@ -28,7 +28,7 @@ impl<'a, T, R> RwLockWriteGuard<'a, T, R> {
     ghost use Rattle.spin_rwlock.specs.Guards.{shared_value, write_value, write_held_value};
 
     pub(super) fn new(writer: Writer<'a, T>) -> Self
-        ensures { write_value result ≡ writer.entry.value }
+        ensures { result.writer ≡ writer.entry }
     {
         RwLockWriteGuard {
             writer,
