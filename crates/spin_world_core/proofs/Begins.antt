@@ -2,7 +2,6 @@
 use Rattle.std.proofs.Common.{◌≡◌, ℕ, suc, ◌+◌, ◌==◌, ◌&&◌, ◌||◌, ◌⊎◌, Bool, true, false, Option, Some, None, List, [], ◌∷◌, ◌++◌, length, if◌then◌else◌, refl, ap, sym, ◌∙◌, subst, arith, append_assoc, inl, inr}
 use Rattle.std.specs.List.{list_any}
 use Rattle.std.proofs.lemmas.List.{append-nil, length-append}
-use Rattle.std.proofs.lemmas.Bool.{true≢false}
 use Rattle.spin_world_core.specs.declared.schedule.Outcome.{Outcome}
 use Rattle.spin_world_core.specs.declared.schedule.Outcome.TheVariants as outcome
 use Rattle.spin_world_core.specs.declared.schedule.Event.{Event}
@@ -68,7 +67,3 @@ module _ {W V A : Type 0} where
   begins_told es told is = λ front e back a b split answers.
       let found = tells [] [] es front e back a b (λ p. refl) refl (sym is ∙ split) answers in
       subst (IsLastBegin e.party front) (sym found) (found_last e.party front _ (finds e.party 0 None front))
-
-  -- not so of events that tell no beginning
-  wrong : (a : A) (w : W) → TellsBegins {W = W} {V = V} {A = A} (record { party = 0; outcome = outcome.Begun; words = w } ∷ record { party = 0; outcome = outcome.Answered a None; words = w } ∷ []) → ⊥
-  wrong a w law = true≢false (law (record { party = 0; outcome = outcome.Begun; words = w } ∷ []) (record { party = 0; outcome = outcome.Answered a None; words = w }) [] a None refl refl)

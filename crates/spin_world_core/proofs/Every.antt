@@ -88,9 +88,9 @@ weak_kept m k f seen p c l h (Some next) good there is =
 
 kept_at : {W V C L A : Type 0} (m : Machine W V C L A) (k : LocalInvariant V C L) (f : Facts m k) (seen : Seen W V C L) (p : ℕ) (move : Move C V) (o : Option (Seat C L)) → Invariant m k seen → slice_get seen.state.seats p ≡ o → Kept m k (scene_at m seen p move o)
 kept_at m k f seen p (Begin c) None good there = passed_kept m k f seen p (Begin c) None good refl tt
-kept_at m k f seen p (Begin c) (Some Idle) good there = begun_kept m k f seen p c None Idle (m.begin c None) good there (standing m k seen p Idle good there) refl refl (λ closed. closed)
+kept_at m k f seen p (Begin c) (Some Idle) good there = begun_kept m k f seen p c None Idle (m.begin c None) good there (standing m k seen p Idle good there) refl refl (λ closed. closed) refl
 kept_at m k f seen p (Begin c) (Some (Calling d l h)) good there = passed_kept m k f seen p (Begin c) (Some (Calling d l h)) good refl tt
-kept_at m k f seen p (Begin c) (Some (Holding h)) good there = begun_kept m k f seen p c (Some h) (Holding h) (m.begin c (Some h)) good there (standing m k seen p (Holding h) good there) refl refl (λ closed. closed)
+kept_at m k f seen p (Begin c) (Some (Holding h)) good there = begun_kept m k f seen p c (Some h) (Holding h) (m.begin c (Some h)) good there (standing m k seen p (Holding h) good there) refl refl (λ closed. closed) refl
 kept_at m k f seen p (Begin c) (Some (Leaked h)) good there = passed_kept m k f seen p (Begin c) (Some (Leaked h)) good refl tt
 kept_at m k f seen p (Begin c) (Some (Gone h)) good there = passed_kept m k f seen p (Begin c) (Some (Gone h)) good refl tt
 kept_at m k f seen p Step None good there = passed_kept m k f seen p Step None good refl tt

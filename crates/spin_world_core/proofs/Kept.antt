@@ -20,7 +20,7 @@ use Rattle.spin_world_core.specs.Calls.{encoded, BelongsTo, Mark}
 use Rattle.spin_world_core.specs.Begins.{fits}
 use Rattle.spin_world_core.specs.Machines.{Machine}
 use Rattle.spin_world_core.specs.Schedules.{State, passed, seated, begun, goes_on, resting, read_by, written_by, may_read, may_write}
-use Rattle.spin_world_core.specs.Runs.{Seen, Scene, scene_of, mark_of, own_count, failures, changes, if_completed, is_open_move, entries_of, entries_held, entries_so_far, StandsFor, is_reader, is_writer, MayTouch, MayPass, is_in_place, ComesTo, IsWeakCall, OwnSteps, asked, Keeps, IsRight, IsCounted, IsInTime}
+use Rattle.spin_world_core.specs.Runs.{InItsCall, LeavesCalls, held_at, Seen, Scene, scene_of, mark_of, own_count, failures, changes, if_completed, is_open_move, entries_of, entries_held, entries_so_far, StandsFor, is_reader, is_writer, MayTouch, MayPass, is_in_place, ComesTo, IsWeakCall, OwnSteps, asked, Keeps, IsRight, IsCounted, IsInTime}
 use Rattle.spin_world_core.proofs.Lists.{get-set_same, get-set_other, eqb_self}
 use Rattle.spin_world_core.proofs.Spans.{retries-mine, retries-other}
 use Rattle.spin_world_core.specs.Undisturbed.{is_open_now, Leaves, AllOf}
@@ -86,8 +86,9 @@ placed_right m s (OwnerSet v) (Some seat) e = refl
 pub keeps_from : {W V C L A : Type 0} (m : Machine W V C L A) (k : LocalInvariant V C L) (f : Facts m k) (s : Scene W V C L A) → Invariant m k s.after
     → IsOpenStep s.before.plain s.party s.change → BelongsTo m.coding s.change → ((r : Option V) → s.outcome ≡ outcome.Value r → r ≡ s.before.written) → MayTouch s.before s.party s.outcome s.move
     → (s.outcome ≡ outcome.PassedOver → ⊥) → is_open_move m s.before.state s.move s.seat ≡ true → OwnSteps m s.party (s.after.span s.party) s.outcome (asked m s.seat)
-    → ComesTo s.move s.change s.before.state.value s.after.state.value s.outcome → IsWeakCall s.move s.party (s.before.span s.party) (asked m s.seat) → Keeps m s
-keeps_from m k f s good opens belongs reads touches happened is_open own comes weak =
+    → ComesTo s.move s.change s.before.state.value s.after.state.value s.outcome → IsWeakCall s.move s.party (s.before.span s.party) (asked m s.seat)
+    → InItsCall s.outcome s.move s.seat (slice_get s.after.state.seats s.party) → LeavesCalls s.party s.before s.after → Keeps m s
+keeps_from m k f s good opens belongs reads touches happened is_open own comes weak in_call calls =
     record {
       opens = opens;
       belongs = belongs;
@@ -105,6 +106,8 @@ keeps_from m k f s good opens belongs reads touches happened is_open own comes w
       weak = λ happened. weak;
       own = own;
       in_place = λ happened. placed_right m s.before.state s.move s.seat is_open;
+      in_call = in_call;
+      calls = calls;
     }
 
 pub passed_over : {W V C L A : Type 0} (m : Machine W V C L A) (k : LocalInvariant V C L) (f : Facts m k) (seen : Seen W V C L) (p : ℕ) (move : Move C V) (seat : Option (Seat C L)) (r : Manner)
@@ -128,6 +131,8 @@ passed_over m k f seen p move seat r good closed may =
         weak = λ happened. absurd (happened refl);
         own = tt;
         in_place = λ happened. absurd (happened refl);
+        in_call = tt;
+        calls = λ q c l h ne is. is;
       };
       right = tt;
       in_time = record { in_time = tt; counted = tt; retries = good.retries; undisturbed = tt; due = tt; tries_on = tt };
@@ -259,7 +264,7 @@ went_on m k f seen p move c l h step r value w v (GoesOn l') good there may belo
     let after = good_stepped m k f seen p (Calling c l' h) (Calling c l h) step r w v (if_completed seen.written value step) good there may belongs encodes shape written stands next.knows fails (λ recent first older is may leaves.
     let t = runs recent first older is may leaves in record { steps = t.steps; few = t.few; answers = t.goes l' refl }) in
     record {
-      keeps = keeps_from m k f _ after may belongs (λ r e. absurd (cc (e))) tt (λ e. cc (e)) is_open next.own_so_far comes weak;
+      keeps = keeps_from m k f _ after may belongs (λ r e. absurd (cc (e))) tt (λ e. cc (e)) is_open next.own_so_far comes weak (l', get-set_same seen.state.seats p (Calling c l' h) (Calling c l h) there) (λ q d u j ne is. get-set_other seen.state.seats p q (Calling c l' h) ne ∙ is);
       right = tt;
       in_time = record {
         in_time = next.in_time;
@@ -279,7 +284,7 @@ went_on {C = C} {L = L} m k f seen p move c l h step r value w v (Answers a rest
     let after = good_stepped m k f seen p (resting rest) (Calling c l h) step r w v (if_completed seen.written value step) good there may belongs encodes shape written
     (stands_resting C L plain p span rest next.stands) (knows_resting k plain p span rest) fails (runs_resting m w p span rest) in
     record {
-      keeps = keeps_from m k f _ after may belongs (λ r e. absurd (cc (e))) tt (λ e. cc (e)) is_open next.own_steps_are comes weak;
+      keeps = keeps_from m k f _ after may belongs (λ r e. absurd (cc (e))) tt (λ e. cc (e)) is_open next.own_steps_are comes weak tt (λ q d u j ne is. get-set_other seen.state.seats p q (resting rest) ne ∙ is);
       right = next.right;
       in_time = record { in_time = next.in_time; counted = tt; due = due; tries_on = tt; retries = after.retries; undisturbed = λ recent first older is may leaves. omega (arith, (runs recent first older is may leaves).few) };
       good = after;
@@ -287,10 +292,10 @@ went_on {C = C} {L = L} m k f seen p move c l h step r value w v (Answers a rest
 
 pub begun_kept : {W V C L A : Type 0} (m : Machine W V C L A) (k : LocalInvariant V C L) (f : Facts m k) (seen : Seen W V C L) (p : ℕ) (c : C) (h : Option Hold) (y : Seat C L) (o : Option L)
     → Invariant m k seen → slice_get seen.state.seats p ≡ Some y → entries p seen.plain ≡ entries_held p h → m.begin c h ≡ o → is_open_move m seen.state (Begin c) (Some y) ≡ is_some (m.begin c h)
-    → (fits m.coding (m.asks c h) h ≡ false → MayPass m seen p (Begin c) (Some y))
+    → (fits m.coding (m.asks c h) h ≡ false → MayPass m seen p (Begin c) (Some y)) → held_at (Some y) ≡ h
     → Kept m k (scene_of seen p (Begin c) (Some y) (begun seen.state p c h o) None manner.plain None)
-begun_kept m k f seen p c h y None good there stands is_begin is_open may = passed_kept m k f seen p (Begin c) (Some y) good (is_open ∙ ap is_some is_begin) (may (sym (f.stepwise.begins c h) ∙ ap is_some is_begin))
-begun_kept m k f seen p c h y (Some l) good there stands is_begin is_open may =
+begun_kept m k f seen p c h y None good there stands is_begin is_open may held = passed_kept m k f seen p (Begin c) (Some y) good (is_open ∙ ap is_some is_begin) (may (sym (f.stepwise.begins c h) ∙ ap is_some is_begin))
+begun_kept m k f seen p c h y (Some l) good there stands is_begin is_open may held =
     let span : ℕ → List Mark = λ q. if p == q then [] else seen.span q in
     let fresh : [] ≡ span p = sym (ap (λ b. if b then [] else seen.span p) (eqb_self p)) in
     let after = good_seated m k seen p (Calling c l h) y span good there
@@ -300,7 +305,8 @@ begun_kept m k f seen p c h y (Some l) good there stands is_begin is_open may =
     (subst (λ ms. failures p ms ≤ changes m.coding p ms) fresh (omega arith))
     (subst (λ ms. RunsOn m seen.state.words p ms (Some (Calling c l h))) fresh (runs_fresh m seen.state.words p c l h)) in
     record {
-      keeps = keeps_from m k f _ after tt tt (λ r e. absurd (cc (e))) tt (λ e. cc (e)) (is_open ∙ ap is_some is_begin) tt (refl, refl) tt;
+      keeps = keeps_from m k f _ after tt tt (λ r e. absurd (cc (e))) tt (λ e. cc (e)) (is_open ∙ ap is_some is_begin) tt (refl, refl) tt
+          (l, get-set_same seen.state.seats p (Calling c l h) y there ∙ ap (λ j. Some (Calling c l j)) (sym held)) (λ q d u j ne is. get-set_other seen.state.seats p q (Calling c l h) ne ∙ is);
       right = tt;
       in_time = record { in_time = tt; counted = tt; retries = after.retries; undisturbed = tt; due = tt; tries_on = tt };
       good = after;
@@ -322,7 +328,7 @@ pub read_kept : {W V C L A : Type 0} (m : Machine W V C L A) (k : LocalInvariant
 read_kept m k f seen p h y false good stands may is_open lets = passed_kept m k f seen p Read (Some y) good (is_open ∙ may) (lets (ap is_reader stands ∙ (reader_of p h ∙ may)))
 read_kept m k f seen p h y true good stands may is_open lets =
     record {
-      keeps = keeps_from m k f _ good tt tt (λ r e. cc (e, good.written)) (ap is_reader stands ∙ (reader_of p h ∙ may)) (λ e. cc (e)) (is_open ∙ may) tt (refl, refl) tt;
+      keeps = keeps_from m k f _ good tt tt (λ r e. cc (e, good.written)) (ap is_reader stands ∙ (reader_of p h ∙ may)) (λ e. cc (e)) (is_open ∙ may) tt (refl, refl) tt tt (λ q c l h ne is. is);
       right = tt;
       in_time = record { in_time = tt; counted = tt; retries = good.retries; undisturbed = tt; due = tt; tries_on = tt };
       good = good;
@@ -340,7 +346,7 @@ write_kept m k f seen p v h y true good stands may is_open lets =
     let writes = ap is_writer stands ∙ (writer_of p h ∙ may) in
     let after = good_written m k seen v good (f.shape_written seen.plain p seen.state.value v writes good.shape) in
     record {
-      keeps = keeps_from m k f _ after tt tt (λ r e. absurd (cc (e))) writes (λ e. cc (e)) (is_open ∙ may) tt (refl, refl) tt;
+      keeps = keeps_from m k f _ after tt tt (λ r e. absurd (cc (e))) writes (λ e. cc (e)) (is_open ∙ may) tt (refl, refl) tt tt (λ q c l h ne is. is);
       right = tt;
       in_time = record { in_time = tt; counted = tt; retries = after.retries; undisturbed = tt; due = tt; tries_on = tt };
       good = after;
@@ -352,7 +358,7 @@ pub leak_kept : {W V C L A : Type 0} (m : Machine W V C L A) (k : LocalInvariant
 leak_kept m k f seen p h good there stands =
     let after = good_seated m k seen p (Leaked h) (Holding h) seen.span good there (λ q ne. refl) stands tt (good.retries p) tt in
     record {
-      keeps = keeps_from m k f _ after tt tt (λ r e. absurd (cc (e))) tt (λ e. cc (e)) refl tt (refl, refl) tt;
+      keeps = keeps_from m k f _ after tt tt (λ r e. absurd (cc (e))) tt (λ e. cc (e)) refl tt (refl, refl) tt tt (λ q d u j ne is. get-set_other seen.state.seats p q (Leaked h) ne ∙ is);
       right = tt;
       in_time = record { in_time = tt; counted = tt; retries = after.retries; undisturbed = tt; due = tt; tries_on = tt };
       good = after;

@@ -1,10 +1,11 @@
 -- What an owner's move keeps.
-use Rattle.std.proofs.Common.{◌≡◌, ℕ, Bool, true, false, Option, Some, None, List, [], ◌∷◌, zero, suc, slice_get, refl, sym, ◌∙◌, subst}
+use Rattle.std.proofs.Common.{◌≡◌, ℕ, Bool, true, false, Option, Some, None, List, [], ◌∷◌, zero, suc, map, slice_get, refl, sym, ap, ◌∙◌, subst}
 use Rattle.std.specs.List.{list_all}
 use Rattle.std.specs.Option.{option_map}
 use Rattle.std.proofs.lemmas.Bool.{and_from, and_parts, false≢true, true≢false}
 use Rattle.std.proofs.lemmas.Option.{slice_get-map}
 use Rattle.spin_step.specs.Plain.{Plain}
+use Rattle.spin_world_core.specs.declared.place.Hold.{Hold}
 use Rattle.spin_world_core.specs.declared.place.Seat.{Seat}
 use Rattle.spin_world_core.specs.declared.place.Seat.TheVariants.{Idle, Calling, Holding, Leaked, Gone}
 use Rattle.spin_world_core.specs.declared.schedule.Move.TheVariants.{OwnerGet, OwnerSet}
@@ -73,13 +74,17 @@ none_owns m seen closed owned all =
     true≢false (sym (and_from m.owned (list_all yields_to_owner seen.state.seats) owned
     (all-from yields_to_owner seen.state.seats (λ q x e. yields seen.plain q x (subst (λ o. YieldsToOwner seen.plain q o) e (all q))))) ∙ closed)
 
+-- and takes nobody on who is in a call
+leaves_calls : {C L : Type 0} (seats : List (Seat C L)) {p : ℕ} (q : ℕ) (c : C) (l : L) (h : Option Hold) → (p ≡ q → ⊥) → slice_get seats q ≡ Some (Calling c l h) → slice_get (map seen_by_owner seats) q ≡ Some (Calling c l h)
+leaves_calls seats q c l h ne is = slice_get-map seen_by_owner seats q ∙ ap (option_map seen_by_owner) is
+
 pub owner_get_kept : {W V C L A : Type 0} (m : Machine W V C L A) (k : LocalInvariant V C L) (f : Facts m k) (seen : Seen W V C L) (p : ℕ) (y : Seat C L) (b : Bool)
     → Invariant m k seen → is_owners m seen.state ≡ b → Kept m k (scene_of seen p OwnerGet (Some y) (owner_gets seen.state b) None manner.plain None)
 owner_get_kept m k f seen p y false good may = passed_kept m k f seen p OwnerGet (Some y) good may (none_owns m seen may)
 owner_get_kept m k f seen p y true good may =
     let after = good_let_go m k seen seen.state.value seen.written good good.shape good.written in
     record {
-      keeps = keeps_from m k f _ after tt tt (λ r e. cc (e, good.written)) (owners m k seen good may) (λ e. cc (e)) may tt (refl, refl) tt;
+      keeps = keeps_from m k f _ after tt tt (λ r e. cc (e, good.written)) (owners m k seen good may) (λ e. cc (e)) may tt (refl, refl) tt tt (leaves_calls seen.state.seats);
       right = tt;
       in_time = record { in_time = tt; counted = tt; retries = after.retries; undisturbed = tt; due = tt; tries_on = tt };
       good = after;
@@ -90,7 +95,7 @@ owner_writes_kept : {W V C L A : Type 0} (m : Machine W V C L A) (k : LocalInvar
 owner_writes_kept {C = C} {A = A} m k f seen p v y None good may found =
     let after = good_let_go m k seen seen.state.value seen.written good good.shape good.written in
     record {
-      keeps = keeps_from m k f _ after tt tt (λ r e. cc (e, good.written, found)) (owners m k seen good may) (λ e. cc (e)) may tt (subst (λ old. ComesTo {C = C} {A = A} (OwnerSet v) None old seen.state.value (outcome.Value None)) (sym found) (refl, found)) tt;
+      keeps = keeps_from m k f _ after tt tt (λ r e. cc (e, good.written, found)) (owners m k seen good may) (λ e. cc (e)) may tt (subst (λ old. ComesTo {C = C} {A = A} (OwnerSet v) None old seen.state.value (outcome.Value None)) (sym found) (refl, found)) tt tt (leaves_calls seen.state.seats);
       right = tt;
       in_time = record { in_time = tt; counted = tt; retries = after.retries; undisturbed = tt; due = tt; tries_on = tt };
       good = after;
@@ -98,7 +103,7 @@ owner_writes_kept {C = C} {A = A} m k f seen p v y None good may found =
 owner_writes_kept {C = C} {A = A} m k f seen p v y (Some old) good may found =
     let after = good_let_go m k seen (Some v) (Some v) good (f.shape_set seen.plain old v (subst (λ o. k.Shape seen.plain o) found good.shape)) refl in
     record {
-      keeps = keeps_from m k f _ after tt tt (λ r e. absurd (cc (e))) (owners m k seen good may) (λ e. cc (e)) may tt (subst (λ o. ComesTo {C = C} {A = A} (OwnerSet v) None o (Some v) outcome.Written) (sym found) (refl, refl)) tt;
+      keeps = keeps_from m k f _ after tt tt (λ r e. absurd (cc (e))) (owners m k seen good may) (λ e. cc (e)) may tt (subst (λ o. ComesTo {C = C} {A = A} (OwnerSet v) None o (Some v) outcome.Written) (sym found) (refl, refl)) tt tt (leaves_calls seen.state.seats);
       right = tt;
       in_time = record { in_time = tt; counted = tt; retries = after.retries; undisturbed = tt; due = tt; tries_on = tt };
       good = after;

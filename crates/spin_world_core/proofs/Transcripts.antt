@@ -23,7 +23,7 @@ use Rattle.spin_world_core.specs.Machines.{Machine, opening_plain}
 use Rattle.spin_world_core.specs.Schedules.{State, moves_at, happens, begun, goes_on, placed, refuses, read_by, written_by, may_read, may_write, is_owners, seen_by_owner, owner_gets, owner_sets, events_of, with_begins, with_begin, last_begin, place_of}
 use Rattle.spin_world_core.specs.Runs.{Seen, Scene, scene, scene_at, scene_of, Every, Keeps, KeepsAll, StandsFor, opening}
 use Rattle.spin_world_core.specs.Users.{seen_after}
-use Rattle.spin_world_core.specs.Transcripts.{scenes, without_begin, EachTells, TellsAfterAnyPast, Stage, at_rest, in_call, has_leaked, is_gone, stage_by_own, stage_by_owner, let_go_stage, stage_after, PlaceSays, SaysAfterAnyPast}
+use Rattle.spin_world_core.specs.Transcripts.{scenes, without_begin, EachTells, TellsAfterAnyPast, Stage, at_rest, in_call, has_leaked, is_gone, stage_by_own, stage_by_owner, let_go_stage, stage_after, StandsAt, PlaceSays, SaysAfterAnyPast}
 use Rattle.spin_world_core.proofs.Lists.{get-set_same, get-set_other}
 use Rattle.spin_world_core.proofs.Every.{none_stand, state-seen_after}
 use Rattle.spin_world_core.proofs.Schedules.{length-happens}
@@ -240,13 +240,15 @@ there_within [] p x e = absurd (cc (e))
 there_within (y ∷ xs) zero x e = omega arith
 there_within (y ∷ xs) (suc p) x e = omega (arith, there_within xs p x e)
 
-says_at : {C L : Type 0} (n p : ℕ) (s : Plain) (span : List Mark) (o : Option (Seat C L)) → (o ≡ None → n ≤ p) → ((x : Seat C L) → o ≡ Some x → p < n) → StandsFor s p span o → PlaceSays (stage_of o) n s p span (option_map place_of o)
+stands_at : {C L : Type 0} (s : Plain) (p : ℕ) (span : List Mark) (seat : Seat C L) → StandsFor s p span (Some seat) → StandsAt (stage_of (Some seat)) s p span (place_of seat)
+stands_at s p span (Calling c l h) stands = (h, stands)
+stands_at s p span (Gone h) stands = (h, stands)
+stands_at s p span _ stands = stands
+
+says_at : {C L : Type 0} (n p : ℕ) (s : Plain) (span : List Mark) (o : Option (Seat C L)) → (o ≡ None → n ≤ p) → ((seat : Seat C L) → o ≡ Some seat → p < n) → StandsFor s p span o
+    → PlaceSays (stage_of o) n s p span (option_map place_of o)
 says_at n p s span None past within stands = (past refl, stands)
-says_at n p s span (Some (Calling c l h)) past within stands = (within _ refl, h, stands)
-says_at n p s span (Some (Gone h)) past within stands = (within _ refl, h, stands)
-says_at n p s span (Some Idle) past within stands = (within _ refl, stands)
-says_at n p s span (Some (Holding h)) past within stands = (within _ refl, stands)
-says_at n p s span (Some (Leaked h)) past within stands = (within _ refl, stands)
+says_at n p s span (Some seat) past within stands = (within seat refl, stands_at s p span seat stands)
 
 says_seen : {W V C L A : Type 0} (m : Machine W V C L A) (p n : ℕ) (past : List (ℕ × Move C V)) → KeepsAll m n past
     → let seen = seen_after m (opening m n) past in PlaceSays (stage_after p at_rest (scenes m (opening m n) past)) n seen.plain p (seen.span p) (option_map place_of (slice_get seen.state.seats p))

@@ -256,6 +256,23 @@ OwnSteps m p span outcome.GoingOn (Some what) = (said : Said) × AnyOf (λ steps
 OwnSteps m p span outcome.GoingOn None = ⊥
 OwnSteps m p span _ _ = Unit {0}
 
+-- A party's call
+
+abbrev pub held_at : {C L : Type 0} → Option (Seat C L) → Option Hold
+held_at (Some (Holding h)) = Some h
+held_at _ = None
+
+-- a party that begins a call is in that call, with what it held, and one that goes on is in its call still
+abbrev pub InItsCall : {V C L A : Type 0} → Outcome A V → Move C V → Option (Seat C L) → Option (Seat C L) → Type 0
+InItsCall {L = L} outcome.Begun (Begin c) before after = (l : L) × (after ≡ Some (Calling c l (held_at before)))
+InItsCall {L = L} outcome.GoingOn move (Some (Calling c l h)) after = (next : L) × (after ≡ Some (Calling c next h))
+InItsCall _ move before after = Unit {0}
+
+-- where another party is in a call, it stays where it is
+abbrev pub LeavesCalls : {W V C L : Type 0} → ℕ → Seen W V C L → Seen W V C L → Type 0
+LeavesCalls {C = C} {L = L} p before after =
+    (q : ℕ) (c : C) (l : L) (h : Option Hold) → (p ≡ q → ⊥) → slice_get before.state.seats q ≡ Some (Calling c l h) → slice_get after.state.seats q ≡ Some (Calling c l h)
+
 -- What is promised of an event
 
 pub record Keeps {W V C L A : Type 0} (m : Machine W V C L A) (s : Scene W V C L A) : Type 0 where
@@ -291,6 +308,9 @@ pub record Keeps {W V C L A : Type 0} (m : Machine W V C L A) (s : Scene W V C L
   pub own : OwnSteps m s.party (s.after.span s.party) s.outcome (asked m s.seat)
   -- a party moves by where it stands: it steps in a call, looks and writes where it holds or has leaked, and no more once it is gone
   pub in_place : (s.outcome ≡ outcome.PassedOver → ⊥) → is_in_place s.move s.seat ≡ true
+  -- it is in the call that it began until that is answered, and no other party's move takes it on in it
+  pub in_call : InItsCall s.outcome s.move s.seat (slice_get s.after.state.seats s.party)
+  pub calls : LeavesCalls s.party s.before s.after
 
 -- an answer is right at a moment of the call; only a weak try may be refused without cause, by its weak exchange
 abbrev pub RightAnswer : {W V C L A : Type 0} → Machine W V C L A → ℕ → List Mark → Outcome A V → Option Asked → Move C V → Type 0

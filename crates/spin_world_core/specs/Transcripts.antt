@@ -74,15 +74,19 @@ abbrev pub stage_after : {W V C L A : Type 0} → ℕ → Stage → List (Scene 
 stage_after p stage [] = stage
 stage_after p stage (s ∷ ss) = stage_after p (stage_by_owner s.outcome s.move (if s.party == p then stage_by_own s.outcome stage else stage)) ss
 
--- the place that is told of a party of a world of n parties is the stage to which it has come, and its entries in the plain lock are what the place says
+-- at this stage of a party, its entries in the plain lock are what this place says
+abbrev pub StandsAt : Stage → Plain → ℕ → List Mark → Place → Type 0
+StandsAt at_rest s p span place.Idle = entries p s ≡ no_entries
+StandsAt at_rest s p span (place.Holding h) = entries p s ≡ entries_of p h
+StandsAt in_call s p span place.InCall = (held : Option Hold) × (entries p s ≡ entries_so_far p span (entries_held p held))
+StandsAt has_leaked s p span (place.Leaked h) = entries p s ≡ entries_of p h
+StandsAt is_gone s p span place.Gone = (h : Hold) × (entries p s ≡ entries_of p h)
+StandsAt _ s p span _ = ⊥
+
+-- a world of n parties tells a place of these alone, and it is the stage to which the party has come
 abbrev pub PlaceSays : Stage → ℕ → Plain → ℕ → List Mark → Option Place → Type 0
 PlaceSays stage n s p span None = (n ≤ p) × (entries p s ≡ no_entries)
-PlaceSays at_rest n s p span (Some place.Idle) = (p < n) × (entries p s ≡ no_entries)
-PlaceSays at_rest n s p span (Some (place.Holding h)) = (p < n) × (entries p s ≡ entries_of p h)
-PlaceSays in_call n s p span (Some place.InCall) = (p < n) × (held : Option Hold) × (entries p s ≡ entries_so_far p span (entries_held p held))
-PlaceSays has_leaked n s p span (Some (place.Leaked h)) = (p < n) × (entries p s ≡ entries_of p h)
-PlaceSays is_gone n s p span (Some place.Gone) = (p < n) × (h : Hold) × (entries p s ≡ entries_of p h)
-PlaceSays _ n s p span _ = ⊥
+PlaceSays stage n s p span (Some place) = (p < n) × StandsAt stage s p span place
 
 -- so it is, whatever schedule of whatever world led to this state
 abbrev pub SaysAfterAnyPast : {W V C L A : Type 0} → Machine W V C L A → State W V C L → ℕ → Option Place → Type 0

@@ -2,7 +2,7 @@
 ghost use Rattle.std.specs.Prelude.{◌≡◌, ◌≤◌, ◌⊎◌, ◌++◌, [], length, take, drop, IfOk, OnOk, OnErr};
 ghost use Rattle.spin_world_core.specs.Schedules.{after, events_of, with_begins};
 ghost use Rattle.spin_world_core.specs.Runs.{IsReached, AfterAnyPast};
-ghost use Rattle.spin_world_core.specs.Transcripts.{TellsAfterAnyPast};
+ghost use Rattle.spin_world_core.specs.Transcripts.{TellsAfterAnyPast, TellsBegins};
 ghost use Rattle.spin_world_core.specs.Joined.{Promised, IsCut};
 
 use crate::object::Object;
@@ -34,6 +34,10 @@ pub fn run_in_two<O: Object, A: Allocator + Copy>(
         AfterAnyPast m world.old.state schedule.now (Promised m) }
     ensures tells { let m = O.machine world.old.object in
         IfOk result (λ t. TellsAfterAnyPast m world.old.state schedule.now (t.0.events.items ++ t.1.events.items)) }
+
+    // In the one run each answer tells where its call began, and so in each part:
+    ensures begins { let m = O.machine world.old.object in
+        IfOk result (λ t. TellsBegins (with_begins [] (events_of m world.old.state schedule.now)) × TellsBegins t.0.events.items × TellsBegins t.1.events.items) }
 {
     O::laws();
     let (front, back) = schedule.split_at(at);

@@ -1,3 +1,5 @@
+use Rattle.std.proofs.Common.{refl}
+use Rattle.spin_world_core.proofs.Begins.{begins_told}
 use Rattle.spin_world_core.proofs.Joined.{plays_on, state_on, events_on, tells_on, promised_after}
 use Rattle.spin_world_core.proofs.world.two_runs.run_in_two.Goals as goal
 
@@ -24,3 +26,6 @@ pub returns-clause-tells : goal.returns-clause-tells
 returns-clause-tells g c =
     let on = plays_on g.O.Object.machine _ _ _ _ _ _ _ _ c.run.ensures.object c.split_at.ensures.front c.split_at.ensures.back c.in_ok-first.ensures.state in
     tells_on _ _ _ _ _ _ _ _ _ _ on c.in_ok-first.ensures.tells c.in_ok-second.ensures.tells
+
+pub returns-clause-begins : goal.returns-clause-begins
+returns-clause-begins g c = (begins_told _ _ refl, c.in_ok-first.ensures.begins, c.in_ok-second.ensures.begins)
