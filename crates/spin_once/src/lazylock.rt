@@ -10,28 +10,33 @@ use std::sync::Wait;
 
 mod texts;
 
-/// What is promised of a value.
+/// Names what a caller may rest on of a value.
 pub trait Promise<T> {
-    // Of the promise and a value, that it keeps it.
+    // The value keeps the promise.
     ghost keeps: { Self → T → Type 0 };
 }
 
-/// Nothing.
+/// Promises nothing.
 impl<T> Promise<T> for () {
     ghost keeps = { λ _ _. Unit {0} };
 }
 
-/// What makes a value that keeps a promise.
+/// Makes a value that keeps a promise: a closure, or a struct of the caller's own.
+///
+/// A struct may always make its value, unless its `can` asks more. It may hold what is lent to it.
+///
+/// Example: the test `ten_threads_see_the_same`.
 pub trait Makes<T, M: Promise<T>> {
-    // Where it may run.
+    // What has to hold where it makes the value.
     ghost can: { Self → M → Type 0 } = { λ _ _. Unit {0} };
 
+    /// Makes the value.
     fn make(self, promise: M) -> T
         requires { can self promise }
         ensures { M.keeps promise result };
 }
 
-/// A closure does where it may be called and each of its answers keeps the promise. Its own struct may do so always.
+/// A closure makes a value where it may be called, and each of its answers keeps the promise.
 impl<T, F: FnOnce() -> T, M: Promise<T> + Drop> Makes<T, M> for F {
     ghost can = { λ f promise. F.pre f × ((value : T) → F.post f value → M.keeps promise value) };
 
@@ -55,9 +60,9 @@ impl<T, F, M: Promise<T>> Seed<T> for Initialiser<F, M> {
 /// A value that its initialiser makes, when somebody first asks for it. The initialiser runs once; whoever asks while it
 /// runs spins until it has ended, and sees the same value. One that asks its own `LazyLock` for the value waits for ever.
 ///
-/// `M` says what is promised of the value: each answer of the initialiser has to keep it.
+/// `M` says what is promised of the value, and the initialiser keeps it.
 ///
-/// Example: the test `ten_threads_see_the_same_and_the_text_is_read_once`.
+/// Example: the test `it_runs_once`.
 #[derive(Drop)]
 pub struct LazyLock<T, F = fn() -> T, R = Spin, M: Promise<T> = ()> {
     seeded: Seeded<T, Initialiser<F, M>>,

@@ -6,7 +6,8 @@ use super::objects::{OfHeader, Standing, are_words_of, parties_of};
 use super::worlds::{
     Opening, Shown, Told, Trial, holds, is_at, is_told, look_at, opened, play, tell, try_all,
 };
-use spin_world::{Answer, Move, Outcome, Place, run_in_two};
+use spin_text::Header;
+use spin_world::{Answer, Fair, FairCall, Move, Outcome, Place, run_in_two};
 use std::alloc::Global;
 use std::process::Abort;
 use std::test::Fail;
@@ -180,4 +181,24 @@ pub fn at_each_place<O: OfHeader>(
 #[test]
 fn every_stop_of_every_call(rt: HostRuntime) -> Result<(), Fail> {
     try_all(&rt, rt.alloc(), Trial::Stops)
+}
+
+/// A `lock` that registers by its 1029th step: the exchange, 1026 looks, the load, and the exchange.
+#[test]
+fn every_stop_of_a_lock_that_registers(rt: HostRuntime) -> Result<(), Fail> {
+    let header = Header::Fair {
+        value: 0,
+        cap: 1,
+        spins: 1024,
+        parties: 2,
+    };
+    let opening = Opening {
+        shows: "a lock registers by its 1029th step",
+        header,
+    };
+    let mut schedule: [(usize, Move<FairCall, u64>); 1032] = [(1, Move::Step); 1032];
+    schedule[0] = (0, Move::Begin(FairCall::TryLock));
+    schedule[1] = (0, Move::Step);
+    schedule[2] = (1, Move::Begin(FairCall::Lock));
+    at_each_place::<Fair<u64>>(&rt, rt.alloc(), opening, &schedule)
 }
