@@ -1,6 +1,7 @@
 pub mod Debts
 pub mod Histories
 pub mod Holders
+pub mod Holding
 pub mod Keeping
 pub mod Lawful
 pub mod Passes

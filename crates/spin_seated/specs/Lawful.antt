@@ -1,13 +1,13 @@
 -- What a history of a mutex says, in the words of its users.
-use Rattle.std.specs.Prelude.{ℕ, List, map, Option, Some, None}
+use Rattle.std.specs.Prelude.{◌≡◌, ℕ, Bool, true, false, List, map, Option, Some, None}
 use Rattle.spin_seated.specs.declared.history.Entry.{Entry}
 use Rattle.spin_seated.specs.declared.lock.Opening.{Opening}
 use Rattle.spin_seated.specs.declared.mutex.Call.{Call}
-use Rattle.spin_seated.specs.declared.mutex.Call.TheVariants.{Read, Write}
+use Rattle.spin_seated.specs.declared.mutex.Call.TheVariants.{TryLock, IsLocked, Read, Write, Unlock}
 use Rattle.spin_seated.specs.declared.lock.Answer.{Answer}
-use Rattle.spin_seated.specs.declared.lock.Answer.TheVariants.{Value}
+use Rattle.spin_seated.specs.declared.lock.Answer.TheVariants.{Truth, Value}
 use Rattle.spin_seated.specs.Histories.{state}
-use Rattle.spin_seated.specs.Locked.{value_after, all_written, all_read}
+use Rattle.spin_seated.specs.Locked.{hold_after, value_after, all_written, all_read}
 use Rattle.spin_seated.specs.Mutex.{mutex}
 
 abbrev pub History : Type 0
@@ -16,6 +16,22 @@ History = List (Entry Call Answer)
 -- the passes that hold the lock after these calls
 abbrev pub holders : Opening → History → List ℕ
 holders k log = map (λ h. h.party) (state mutex k log).lock.holders
+
+-- a pass holds from a try that is granted to it until it unlocks
+abbrev pub holds_then : Call → Answer → Bool → Bool
+holds_then TryLock (Truth true) held = true
+holds_then Unlock a held = false
+holds_then c a held = held
+
+-- it holds after these calls of its own
+abbrev pub holds_by : History → Bool
+holds_by own = hold_after holds_then false own
+
+-- which calls come from a pass that holds, or not
+abbrev pub MayCall : Call → Bool → Type 0
+MayCall TryLock held = Unit {0}
+MayCall IsLocked held = Unit {0}
+MayCall c held = held ≡ true
 
 -- the value that a call writes, and that a call reads
 abbrev pub written : Call → Option ℕ

@@ -17,6 +17,11 @@ abbrev pub value_after : {C A : Type 0} → (C → Option ℕ) → ℕ → List 
 value_after written v [] = v
 value_after written v (e ∷ es) = value_after written (unwrap_or (written e.call) v) es
 
+-- what a pass holds after these calls of its own, where each makes of its hold what `turn` says
+abbrev pub hold_after : {C H : Type 0} → (C → Answer → H → H) → H → List (Entry C Answer) → H
+hold_after turn h [] = h
+hold_after turn h (e ∷ es) = hold_after turn (turn e.call e.answer h) es
+
 -- all values that these calls wrote, and all that they read, in the order of the history
 abbrev pub all_written : {C A : Type 0} → (C → Option ℕ) → List (Entry C A) → List ℕ
 all_written written log = flat_map (λ e. option_to_list (written e.call)) log

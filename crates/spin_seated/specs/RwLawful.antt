@@ -1,14 +1,16 @@
 -- What a history of a read-write lock says, in the words of its users.
-use Rattle.std.specs.Prelude.{ℕ, List, Option, Some, None}
-use Rattle.spin_step.specs.Plain.{Holder}
+use Rattle.std.specs.Prelude.{◌≡◌, ℕ, true, List, [], ◌∷◌, Option, Some, None}
+use Rattle.spin_step.specs.Plain.{reading, writing, Holder, holder}
 use Rattle.spin_seated.specs.declared.history.Entry.{Entry}
 use Rattle.spin_seated.specs.declared.lock.Opening.{Opening}
 use Rattle.spin_seated.specs.declared.lock.Answer.{Answer}
-use Rattle.spin_seated.specs.declared.lock.Answer.TheVariants.{Value}
+use Rattle.spin_seated.specs.declared.lock.Answer.TheVariants.{Truth, Value}
 use Rattle.spin_seated.specs.declared.rwlock.Call.{Call}
-use Rattle.spin_seated.specs.declared.rwlock.Call.TheVariants.{Read, Write}
+use Rattle.spin_seated.specs.declared.rwlock.Call.TheVariants.{TryRead, TryWrite, Read, Write, UnlockRead, UnlockWrite, Downgrade}
+use Rattle.spin_seated.specs.declared.rwlock.SeatedHold.{SeatedHold}
+use Rattle.spin_seated.specs.declared.rwlock.SeatedHold.TheVariants as hold
 use Rattle.spin_seated.specs.Histories.{state}
-use Rattle.spin_seated.specs.Locked.{value_after, all_written, all_read}
+use Rattle.spin_seated.specs.Locked.{hold_after, value_after, all_written, all_read}
 use Rattle.spin_seated.specs.Rw.{rw}
 
 abbrev pub History : Type 0
@@ -17,6 +19,36 @@ History = List (Entry Call Answer)
 -- those who hold the lock after these calls
 abbrev pub holders : Opening → History → List Holder
 holders k log = (state rw k log).lock.holders
+
+-- a pass reads or writes from a try on that is granted to it until it unlocks, and reads on after a downgrade
+abbrev pub holds_then : Call → Answer → Option SeatedHold → Option SeatedHold
+holds_then TryRead (Truth true) held = Some hold.Read
+holds_then TryWrite (Truth true) held = Some hold.Write
+holds_then UnlockRead a held = None
+holds_then UnlockWrite a held = None
+holds_then Downgrade a held = Some hold.Read
+holds_then c a held = held
+
+-- what it holds after these calls of its own
+abbrev pub holds_by : History → Option SeatedHold
+holds_by own = hold_after holds_then None own
+
+-- its place among the holders
+abbrev pub place_of : ℕ → Option SeatedHold → List Holder
+place_of p None = []
+place_of p (Some hold.Read) = holder p reading ∷ []
+place_of p (Some hold.Write) = holder p writing ∷ []
+
+-- which calls come from a pass that holds nothing, that holds, that reads, or that writes
+abbrev pub MayCall : Call → Option SeatedHold → Type 0
+MayCall TryRead held = held ≡ None
+MayCall TryWrite held = held ≡ None
+MayCall Read held = held ≡ None → ⊥
+MayCall UnlockRead held = held ≡ Some hold.Read
+MayCall (Write v) held = held ≡ Some hold.Write
+MayCall UnlockWrite held = held ≡ Some hold.Write
+MayCall Downgrade held = held ≡ Some hold.Write
+MayCall c held = Unit {0}
 
 -- the value that a call writes
 abbrev pub written : Call → Option ℕ

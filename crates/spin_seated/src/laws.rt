@@ -1,5 +1,5 @@
 //! Laws of the histories that passes know. Each is the contract of a function that does nothing.
-ghost use Rattle.std.specs.Prelude.{Bool, not, ◌≡◌, ℕ, ◌≤◌, true, false, List, [], ◌∷◌, ◌++◌, Some, length, slice_get};
+ghost use Rattle.std.specs.Prelude.{Bool, not, ◌≡◌, ℕ, ◌≤◌, ◌==◌, true, false, List, [], ◌∷◌, ◌++◌, Some, filter, if◌then◌else◌, length, slice_get};
 ghost use Rattle.spin_step.specs.Plain.{is_empty};
 ghost use Rattle.spin_seated.specs.declared.history.Entry.{Entry};
 ghost use Rattle.spin_seated.specs.declared.lock.Opening.{Opening};
@@ -8,9 +8,9 @@ ghost use Rattle.spin_seated.specs.declared.mutex.Call.TheVariants.{TryLock, IsL
 ghost use Rattle.spin_seated.specs.declared.lock.Answer.{Answer};
 ghost use Rattle.spin_seated.specs.declared.lock.Answer.TheVariants.{Truth, Value};
 ghost use Rattle.spin_seated.specs.Histories.{BeginsWith, entry, calls_by, IsLegal, Met};
-ghost use Rattle.spin_seated.specs.Mutex.{mutex, Knows};
+ghost use Rattle.spin_seated.specs.Mutex.{mutex, Knows, holds};
 ghost use Rattle.spin_seated.specs.Locked.{InOrderOf};
-ghost use Rattle.spin_seated.specs.Lawful.{History, holders, last_written, values_written, values_read};
+ghost use Rattle.spin_seated.specs.Lawful.{History, holders, holds_by, MayCall, last_written, values_written, values_read};
 ghost use Rattle.spin_seated.specs.Rw.{rw};
 ghost use Rattle.spin_seated.specs.RwLawful as rw_lawful;
 
@@ -44,6 +44,14 @@ pub fn a_pass_reads_in_the_order_of_the_writes()
 /// As a history goes on, the calls of each pass go on, in the order in which they were made.
 pub fn calls_of_a_pass_keep_their_order()
     ensures { (log seen : History) (p : ℕ) → BeginsWith log seen → BeginsWith (calls_by p log) (calls_by p seen) }
+{}
+
+/// A pass holds from a try on that is granted to it until it unlocks, and stands among the holders just then. Only who holds
+/// reads, writes and unlocks.
+pub fn a_pass_holds_from_its_try_until_it_unlocks()
+    ensures holds { (x : Knows) → IsLegal mutex x.opening x.seen → holds x ≡ holds_by (calls_by x.pass x.seen) }
+    ensures stands { (k : Opening) (log : History) (p : ℕ) → IsLegal mutex k log → filter (λ q. q == p) (holders k log) ≡ (if holds_by (calls_by p log) then p ∷ [] else []) }
+    ensures calls { (k : Opening) (before after : History) (p : ℕ) (c : Call) (a : Answer) → IsLegal mutex k (before ++ entry p c a ∷ after) → MayCall c (holds_by (calls_by p before)) }
 {}
 
 /// Two passes that met agree on every answer so far: what either had seen stands at the same place in what both know now.

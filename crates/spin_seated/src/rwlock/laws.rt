@@ -1,5 +1,5 @@
 //! Laws of the histories that passes of a `SeatedRwLock` know. Each is the contract of a function that does nothing.
-ghost use Rattle.std.specs.Prelude.{◌≡◌, ℕ, ◌<◌, ◌==◌, ◌&&◌, Bool, List, [], ◌∷◌, ◌++◌, Some, length, nat_lt, slice_get};
+ghost use Rattle.std.specs.Prelude.{◌≡◌, ℕ, ◌<◌, ◌==◌, ◌&&◌, Bool, List, [], ◌∷◌, ◌++◌, Some, filter, length, nat_lt, slice_get};
 ghost use Rattle.spin_step.specs.Plain.{reading, writing, count_kind, count_against, reader_count, is_empty};
 ghost use Rattle.spin_step.specs.Readers.{reader_limit};
 ghost use Rattle.spin_seated.specs.declared.history.Entry.{Entry};
@@ -8,9 +8,9 @@ ghost use Rattle.spin_seated.specs.declared.lock.Answer.{Answer};
 ghost use Rattle.spin_seated.specs.declared.lock.Answer.TheVariants.{Truth, Value};
 ghost use Rattle.spin_seated.specs.declared.rwlock.Call.{Call};
 ghost use Rattle.spin_seated.specs.declared.rwlock.Call.TheVariants.{TryRead, TryWrite, ReaderCount, WriterCount, Read};
-ghost use Rattle.spin_seated.specs.Histories.{entry, IsLegal, Met};
-ghost use Rattle.spin_seated.specs.Rw.{rw, Knows};
-ghost use Rattle.spin_seated.specs.RwLawful.{History, holders, last_written};
+ghost use Rattle.spin_seated.specs.Histories.{entry, calls_by, IsLegal, Met};
+ghost use Rattle.spin_seated.specs.Rw.{rw, Knows, holds};
+ghost use Rattle.spin_seated.specs.RwLawful.{History, holders, holds_by, place_of, MayCall, last_written};
 
 /// Nobody writes while another reads or writes.
 pub fn nobody_writes_beside_another()
@@ -37,6 +37,14 @@ pub fn a_read_gives_the_last_write()
 /// A count is the number of those who hold so at that point.
 pub fn a_count_is_the_number_of_holders()
     ensures { (k : Opening) (before after : History) (p n : ℕ) → (IsLegal rw k (before ++ entry p ReaderCount (Value n) ∷ after) → n ≡ reader_count (holders k before)) × (IsLegal rw k (before ++ entry p WriterCount (Value n) ∷ after) → n ≡ count_kind writing (holders k before)) }
+{}
+
+/// A pass holds from a try on that is granted to it until it unlocks, reads on after a downgrade, and stands among the
+/// holders as it holds. Each call but a count comes from a pass that holds what the call is for.
+pub fn a_pass_holds_from_its_try_until_it_unlocks()
+    ensures holds { (x : Knows) → IsLegal rw x.opening x.seen → holds x ≡ holds_by (calls_by x.pass x.seen) }
+    ensures stands { (k : Opening) (log : History) (p : ℕ) → IsLegal rw k log → filter (λ h. h.party == p) (holders k log) ≡ place_of p (holds_by (calls_by p log)) }
+    ensures calls { (k : Opening) (before after : History) (p : ℕ) (c : Call) (a : Answer) → IsLegal rw k (before ++ entry p c a ∷ after) → MayCall c (holds_by (calls_by p before)) }
 {}
 
 /// Two passes that met agree on every answer so far: what either had seen stands at the same place in what both know now.
