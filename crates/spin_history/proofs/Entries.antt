@@ -1,0 +1,47 @@
+-- The last of some entries, and entries in an order.
+use Rattle.std.proofs.Common.{◌≡◌, List, [], ◌∷◌, ◌++◌, Option, None, Some, IfSome, refl, sym, subst, ap}
+use mathlib.Core.List.{IsPrefix}
+use Rattle.spin_history.specs.Entries.{last, InOrder, IsAtOrAfter}
+
+module _ {T : Type 0} where
+  pub last_of : (l : List T) (x : T) → last (l ++ x ∷ []) ≡ Some x
+  last_of [] x = refl
+  last_of (y ∷ []) x = refl
+  last_of (y ∷ z ∷ l) x = last_of (z ∷ l) x
+
+  -- the same of a list that was told to be this one
+  pub last_is : (m l : List T) (x : T) → m ≡ l ++ x ∷ [] → last m ≡ Some x
+  last_is m l x e = subst (λ (z : List T). last z ≡ Some x) (sym e) (last_of l x)
+
+  from : T → Option T → T
+  from d None = d
+  from d (Some x) = x
+
+  module _ (le : T → T → Type 0) (reflexive : (x : T) → le x x) (transitive : (x y z : T) → le x y → le y z → le x z) where
+    first : (x : T) (l : List T) (w : T) → InOrder le (x ∷ l) → last (x ∷ l) ≡ Some w → le x w
+    unfolding from
+    first x [] w h e = subst (le x) (ap (from x) e) (reflexive x)
+    first x (y ∷ l) w h e = transitive x y w h.0 (first y l w h.1 e)
+
+    over : (k t : List T) (w : T) → InOrder le (k ++ t) → last (k ++ t) ≡ Some w → IsAtOrAfter le k w
+    over [] t w h e = tt
+    over (x ∷ []) t w h e = first x t w h e
+    over (x ∷ y ∷ k) t w h e = over (y ∷ k) t w h.1 e
+
+    -- the last entry is at or after that of each prefix
+    pub later : (k l : List T) (w : T) → IsPrefix k l → InOrder le l → last l ≡ Some w → IsAtOrAfter le k w
+    later k l w p h e = over k p.0 w (subst (InOrder le) (sym p.1) h) (subst (λ (z : List T). last z ≡ Some w) (sym p.1) e)
+
+    pub goes_on : (l : List T) (v x : T) → InOrder le l → last l ≡ Some v → le v x → InOrder le (l ++ x ∷ [])
+    unfolding from
+    goes_on [] v x h e up = tt
+    goes_on (y ∷ []) v x h e up = (subst (λ (z : T). le z x) (sym (ap (from y) e)) up, tt)
+    goes_on (y ∷ z ∷ l) v x h e up = (h.0, goes_on (z ∷ l) v x h.1 e up)
+
+    -- who has seen no more than v has seen no more than x
+    pub at_or_after : (k : List T) (v x : T) → IsAtOrAfter le k v → le v x → IsAtOrAfter le k x
+    at_or_after k v x = by_last (last k)
+      where
+        by_last : (o : Option T) → IfSome o (λ before. le before v) → le v x → IfSome o (λ before. le before x)
+        by_last None h g = tt
+        by_last (Some b) h g = transitive b v x h g

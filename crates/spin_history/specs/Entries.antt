@@ -1,0 +1,36 @@
+-- The entries of a log: what who reads and who writes learns of them, and entries in an order.
+use Rattle.std.specs.Prelude.{◌≡◌, List, [], ◌∷◌, ◌++◌, Option, None, Some, IfSome, ⊤}
+use mathlib.Core.List.{IsPrefix}
+use mathlib.Core.HLevel.{×_prop, Unit-prop}
+
+abbrev pub last : {T : Type 0} → List T → Option T
+last [] = None
+last (x ∷ []) = Some x
+last (x ∷ y ∷ l) = last (y ∷ l)
+
+-- a caller that knew `old` reads x, and knows `new`
+abbrev pub Reads : {T : Type 0} → List T → T → List T → Type 0
+Reads old x new = IsPrefix old new × (last new ≡ Some x)
+
+-- a caller that knew `old` writes x, and knows `new`
+abbrev pub Writes : {T : Type 0} → List T → T → List T → Type 0
+Writes {T} old x new = (between : List T) × (new ≡ (old ++ between) ++ x ∷ [])
+
+-- a caller that knew `old` finds x, writes y with nothing between, and knows `new`
+abbrev pub Updates : {T : Type 0} → List T → T → T → List T → Type 0
+Updates {T} old x y new = (found : List T) × (Reads old x found × (new ≡ found ++ y ∷ []))
+
+-- each entry may come after the one before it
+abbrev pub InOrder : {T : Type 0} → (T → T → Type 0) → List T → Type 0
+InOrder le [] = ⊤
+InOrder le (x ∷ []) = ⊤
+InOrder le (x ∷ y ∷ l) = le x y × InOrder le (y ∷ l)
+
+pub InOrder-prop : {T : Type 0} (le : T → T → Type 0) → ((x y : T) → IsProp (le x y)) → (l : List T) → IsProp (InOrder le l)
+InOrder-prop le p [] = Unit-prop
+InOrder-prop le p (x ∷ []) = Unit-prop
+InOrder-prop le p (x ∷ y ∷ l) = ×_prop (p x y) (InOrder-prop le p (y ∷ l))
+
+-- x is not before the last of these entries
+abbrev pub IsAtOrAfter : {T : Type 0} → (T → T → Type 0) → List T → T → Type 0
+IsAtOrAfter le seen x = IfSome (last seen) (λ before. le before x)

@@ -1,0 +1,120 @@
+//! A value that changes only in an order of its caller's choice.
+ghost use Rattle.std.specs.Prelude.{◌≡◌, [], Some};
+ghost use Rattle.std.specs.Fn.{FnOnceReturnsAt};
+ghost use mathlib.Core.List.{IsPrefix};
+ghost use Rattle.spin_history.specs.Entries.{last, InOrder, InOrder-prop, IsAtOrAfter};
+
+use crate::log::{ClosedLog, History, Log, Snapshot};
+use crate::register::Register;
+use std::marker::PhantomData;
+
+/// What may come after what: a preorder on `T`.
+pub trait Order<T> {
+    ghost le: { T → T → Type 0 };
+
+    ghost fact: { (x y : T) → IsProp (le x y) };
+
+    ghost reflexive: { (x : T) → le x x };
+
+    ghost transitive: { (x y z : T) → le x y → le y z → le x z };
+}
+
+/// Numbers that never fall.
+pub struct Ascending;
+
+impl Order<u64> for Ascending {
+    ghost use Rattle.std.specs.Prelude.{ℕ, ◌≤◌};
+    ghost use Rattle.std.proofs.Common.{le_refl, le_trans};
+    ghost use Rattle.std.proofs.Math.Bridge.{le_prop};
+
+    ghost le = { λ x y. x ≤ y };
+
+    ghost fact = { λ x y. le_prop };
+
+    ghost reflexive = { λ x. le_refl x };
+
+    ghost transitive = { λ x y z h k. le_trans h k };
+}
+
+/// A value that changes only as the order `P` allows. Nobody reads a value from before one that they have seen.
+///
+/// Put it under any lock. Each call takes a [`Snapshot`] of the caller's, and brings it up to date.
+#[derive(Drop)]
+pub struct Growing<T, P: Order<T>, H: History> {
+    register: Register<T, H>,
+    order: PhantomData<P>,
+    ghost ordered: { InOrder P.le register.log.entries } by { InOrder-prop P.le P.fact register.log.entries },
+}
+
+impl<T, P: Order<T>, H: History> Growing<T, P, H> {
+    /// Creates a value that grows from this one. The log is empty before.
+    pub fn new(value: T, log: Log<T, H>) -> Self
+        requires { log.entries ≡ [] }
+    {
+        Growing {
+            register: Register::new(value, log),
+            order: PhantomData,
+        }
+    }
+
+    /// Returns a snapshot of all values so far.
+    pub fn snapshot(&self) -> Snapshot<T, H>
+        ensures { last result.entries ≡ Some self.now.register.value }
+    {
+        self.register.snapshot()
+    }
+
+    /// Lends the value.
+    ///
+    /// # Contract
+    /// It is the last write, and it is at or after the last value that the caller saw (`IsAtOrAfter`), whoever wrote.
+    pub fn get(&self, seen: &mut Snapshot<T, H>) -> &T
+        ensures grown { IsAtOrAfter P.le seen.old.entries result.now }
+        ensures later { IsPrefix seen.old.entries seen.new.entries }
+        ensures last { last seen.new.entries ≡ Some result.now }
+        ensures value { result.now ≡ self.now.register.value }
+    {
+        self.register.get(seen)
+    }
+
+    /// Returns the value and its whole history, to which nothing is added any more.
+    pub fn close(self) -> (T, ClosedLog<T, H>)
+        ensures ordered { InOrder P.le result.1.entries }
+        ensures last { last result.1.entries ≡ Some result.0 }
+    {
+        let Self { register, order: _ } = self;
+        register.close()
+    }
+}
+
+impl<T: Drop, P: Order<T>, H: History> Growing<T, P, H> {
+    /// Writes what a closure makes of the value.
+    ///
+    /// # Contract
+    /// Whatever the value, the closure answers one that may come after it.
+    pub fn advance<F: FnOnce(&T) -> T>(&mut self, by: F, seen: &mut Snapshot<T, H>)
+        requires callable { F.IsAlwaysCallable by }
+        requires grows { (x y : T) → FnOnceReturnsAt F.FnOnce by x y → P.le x y }
+        ensures grown { IsAtOrAfter P.le seen.old.entries self.new.register.value }
+        ensures later { IsPrefix seen.old.entries seen.new.entries }
+        ensures last { last seen.new.entries ≡ Some self.new.register.value }
+    {
+        let Growing { register, order: _ } = self;
+        register.update(by, seen);
+    }
+}
+
+impl<T: Copy, P: Order<T>, H: History> Growing<T, P, H> {
+    /// Returns a copy of the value.
+    ///
+    /// # Contract
+    /// As [`get`](Growing::get).
+    pub fn read(&self, seen: &mut Snapshot<T, H>) -> T
+        ensures grown { IsAtOrAfter P.le seen.old.entries result }
+        ensures later { IsPrefix seen.old.entries seen.new.entries }
+        ensures last { last seen.new.entries ≡ Some result }
+        ensures value { result ≡ self.now.register.value }
+    {
+        *self.get(seen)
+    }
+}

@@ -1,0 +1,7 @@
+//! What other threads wrote under a lock, known to its callers: a monotone log with snapshots, and the types that stand on
+//! it. It is ghost state, and changes no lock.
+#![tactic(auto)]
+
+pub mod growing;
+pub mod log;
+pub mod register;

@@ -1,0 +1,126 @@
+//! A value whose callers know the history of what was written there.
+ghost use Rattle.std.specs.Prelude.{◌≡◌, [], ◌∷◌, ◌++◌, Some};
+ghost use Rattle.std.specs.Fn.{FnOnceReturnsAt};
+ghost use mathlib.Core.List.{IsPrefix};
+ghost use Rattle.spin_history.specs.Entries.{last, Reads, Writes, Updates};
+
+use crate::log::{ClosedLog, History, Log, Snapshot};
+
+/// A value, and the log of all that was ever written there: its last entry is the value.
+///
+/// Put it under any lock. Each call takes a [`Snapshot`] of the caller's, and brings it up to date.
+#[derive(Drop)]
+pub struct Register<T, H: History> {
+    value: T,
+    log: Log<T, H>,
+    ghost latest: { last log.entries ≡ Some value },
+}
+
+impl<T, H: History> Register<T, H> {
+    /// Creates a register. The value is the next entry of the log.
+    #[tactic(auto, using(crate::proofs::Entries::last_is))]
+    pub fn new(value: T, log: Log<T, H>) -> Self
+        ensures { result.log.entries ≡ log.entries ++ value ∷ [] }
+    {
+        let mut log = log;
+        log.append(&value);
+        Register { value, log }
+    }
+
+    /// Returns a snapshot of all that was written so far.
+    pub fn snapshot(&self) -> Snapshot<T, H>
+        ensures exact { result.entries ≡ self.now.log.entries }
+        ensures last { last result.entries ≡ Some self.now.value }
+    {
+        self.log.snapshot()
+    }
+
+    /// Lends the value.
+    ///
+    /// # Contract
+    /// It is the last write of a history that goes on from what the caller knew (`Reads`).
+    pub fn get(&self, seen: &mut Snapshot<T, H>) -> &T
+        ensures later { IsPrefix seen.old.entries seen.new.entries }
+        ensures last { last seen.new.entries ≡ Some result.now }
+        ensures exact { seen.new.entries ≡ self.now.log.entries }
+        ensures value { result.now ≡ self.now.value }
+    {
+        self.log.observe(seen);
+        &self.value
+    }
+
+    /// Compares two references to the register that are held at the same time.
+    ///
+    /// # Contract
+    /// They show the same value.
+    pub fn same(&self, other: &Register<T, H>)
+        ensures value { self.now.value ≡ other.now.value }
+        ensures entries { self.now.log.entries ≡ other.now.log.entries }
+    {
+        self.log.same(&other.log);
+    }
+
+    /// Returns the value and the whole history, to which nothing is added any more.
+    ///
+    /// # Contract
+    /// The value is the last entry. Every snapshot is a prefix of the history, by [`ClosedLog::observe`].
+    pub fn close(self) -> (T, ClosedLog<T, H>)
+        ensures exact { result.1.entries ≡ self.log.entries }
+        ensures last { last result.1.entries ≡ Some result.0 }
+    {
+        let Self { value, log } = self;
+        (value, log.close())
+    }
+}
+
+impl<T: Drop, H: History> Register<T, H> {
+    /// Writes a value.
+    ///
+    /// # Contract
+    /// It is the last entry of a history that goes on from what the caller knew (`Writes`). Nothing comes between what the
+    /// register had and this write.
+    #[tactic(auto, using(crate::proofs::Entries::last_is))]
+    pub fn write(&mut self, new: T, seen: &mut Snapshot<T, H>)
+        ensures later { Writes seen.old.entries new seen.new.entries }
+        ensures value { self.new.value ≡ new }
+        ensures exact { seen.new.entries ≡ self.old.log.entries ++ new ∷ [] }
+        ensures left { self.new.log.entries ≡ self.old.log.entries ++ new ∷ [] }
+    {
+        let Register { value, log } = self;
+        log.observe(seen);
+        *value = new;
+        log.append(value);
+        log.observe(seen);
+    }
+
+    /// Writes what a closure makes of the value.
+    ///
+    /// # Contract
+    /// The closure is called with the last write, and its answer is the next one (`Updates`).
+    pub fn update<F: FnOnce(&T) -> T>(&mut self, by: F, seen: &mut Snapshot<T, H>)
+        requires { F.IsAlwaysCallable by }
+        ensures called { FnOnceReturnsAt F.FnOnce by self.old.value self.new.value }
+        ensures later { Updates seen.old.entries self.old.value self.new.value seen.new.entries }
+        ensures known { IsPrefix seen.old.entries self.old.log.entries }
+        ensures exact { seen.new.entries ≡ self.old.log.entries ++ self.new.value ∷ [] }
+        ensures left { self.new.log.entries ≡ self.old.log.entries ++ self.new.value ∷ [] }
+    {
+        let next = by(self.get(seen));
+        self.write(next, seen);
+    }
+}
+
+impl<T: Copy, H: History> Register<T, H> {
+    /// Returns a copy of the value.
+    ///
+    /// # Contract
+    /// It is the last write of a history that goes on from what the caller knew (`Reads`).
+    pub fn read(&self, seen: &mut Snapshot<T, H>) -> T
+        ensures later { IsPrefix seen.old.entries seen.new.entries }
+        ensures last { last seen.new.entries ≡ Some result }
+        ensures exact { seen.new.entries ≡ self.now.log.entries }
+        ensures value { result ≡ self.now.value }
+    {
+        *self.get(seen)
+    }
+}
