@@ -8,6 +8,7 @@ use self::rule::{Attempt, Look, Register};
 use spin_core::cell::Cell;
 use spin_core::relax::{MOST_HINTS, RelaxStrategy, Spin, Strategy};
 use spin_guard::guard::{self, Guard};
+use spin_lock::lock::Lock;
 use spin_step::fair;
 use std::sync::Wait;
 
@@ -175,5 +176,18 @@ impl<T: Default, R> Default for FairMutex<T, R> {
 impl<T, R> From<T> for FairMutex<T, R> {
     fn from(value: T) -> Self {
         Self::new(value)
+    }
+}
+
+impl<T, R: RelaxStrategy> Lock<T> for FairMutex<T, R> {
+    fn with<A, F: FnOnce(&mut T) -> A, W: Wait>(&self, rt: &W, by: F) -> A {
+        by(&mut *self.lock(rt))
+    }
+
+    fn try_with<A, F: FnOnce(&mut T) -> A>(&self, by: F) -> Result<A, F> {
+        match self.try_lock() {
+            Some(mut guard) => Ok(by(&mut *guard)),
+            None => Err(by),
+        }
     }
 }

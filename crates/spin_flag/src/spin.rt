@@ -10,6 +10,7 @@ use spin_core::cell::Cell;
 use spin_core::relax::{RelaxStrategy, Spin, Strategy};
 use spin_guard::guard::{self, Guard};
 use spin_guard::texts::write_lock;
+use spin_lock::lock::Lock;
 use spin_step::flag;
 use std::fmt;
 use std::fmt::{Debug, Formatter};
@@ -137,5 +138,18 @@ impl<T: Debug, R> Debug for SpinMutex<T, R> {
         ensures { (found : Option T) × DisplaysOnOk W.write_str_gives f.old result (lock_text T.debug_output found) f.new }
     {
         write_lock(self.try_lock().as_ref().map(|guard| &**guard), f)
+    }
+}
+
+impl<T, R: RelaxStrategy> Lock<T> for SpinMutex<T, R> {
+    fn with<A, F: FnOnce(&mut T) -> A, W: Wait>(&self, rt: &W, by: F) -> A {
+        by(&mut *self.lock(rt))
+    }
+
+    fn try_with<A, F: FnOnce(&mut T) -> A>(&self, by: F) -> Result<A, F> {
+        match self.try_lock() {
+            Some(mut guard) => Ok(by(&mut *guard)),
+            None => Err(by),
+        }
     }
 }

@@ -3,6 +3,7 @@ ghost use Rattle.std.specs.Prelude.{◌≡◌, Some, IfSome};
 ghost use Rattle.spin_mutex.specs.MutexGuard.{value_of, holds, held_value};
 
 use spin_core::relax::{RelaxStrategy, Spin};
+use spin_lock::lock::Lock;
 use std::marker::PhantomData;
 use std::ops::{Deref, DerefMut};
 use std::sync::Wait;
@@ -173,6 +174,19 @@ impl<T: Default, R> Default for Mutex<T, R> {
 impl<T, R> From<T> for Mutex<T, R> {
     fn from(value: T) -> Self {
         Self::new(value)
+    }
+}
+
+impl<T, R: RelaxStrategy> Lock<T> for Mutex<T, R> {
+    fn with<A, F: FnOnce(&mut T) -> A, W: Wait>(&self, rt: &W, by: F) -> A {
+        by(&mut *self.lock(rt))
+    }
+
+    fn try_with<A, F: FnOnce(&mut T) -> A>(&self, by: F) -> Result<A, F> {
+        match self.try_lock() {
+            Some(mut guard) => Ok(by(&mut *guard)),
+            None => Err(by),
+        }
     }
 }
 

@@ -6,6 +6,7 @@ ghost use Rattle.spin_rwlock.specs.Rw.{IsRwWord};
 use self::rule::{Kind, RwRule, View};
 use spin_core::cell::{Cell, Rule};
 use spin_core::relax::{Loop, RelaxStrategy, Spin};
+use spin_lock::lock::{Lock, SharedLock};
 use spin_step::rw;
 use std::marker::PhantomData;
 use std::sync::Wait;
@@ -223,6 +224,32 @@ impl<T: Default, R> Default for RwLock<T, R> {
 impl<T, R> From<T> for RwLock<T, R> {
     fn from(value: T) -> Self {
         Self::new(value)
+    }
+}
+
+impl<T, R: RelaxStrategy> Lock<T> for RwLock<T, R> {
+    fn with<A, F: FnOnce(&mut T) -> A, W: Wait>(&self, rt: &W, by: F) -> A {
+        by(&mut *self.write(rt))
+    }
+
+    fn try_with<A, F: FnOnce(&mut T) -> A>(&self, by: F) -> Result<A, F> {
+        match self.try_write() {
+            Some(mut guard) => Ok(by(&mut *guard)),
+            None => Err(by),
+        }
+    }
+}
+
+impl<T, R: RelaxStrategy> SharedLock<T> for RwLock<T, R> {
+    fn with_shared<A, F: FnOnce(&T) -> A, W: Wait>(&self, rt: &W, by: F) -> A {
+        by(&*self.read(rt))
+    }
+
+    fn try_with_shared<A, F: FnOnce(&T) -> A, W: Wait>(&self, rt: &W, by: F) -> Result<A, F> {
+        match self.try_read(rt) {
+            Some(guard) => Ok(by(&*guard)),
+            None => Err(by),
+        }
     }
 }
 

@@ -11,6 +11,7 @@ use spin_core::cell::{Cell, Permit};
 use spin_core::relax::{Loop, MOST_HINTS, RelaxStrategy, Spin, Strategy};
 use spin_guard::guard::{self, Guard};
 use spin_guard::texts::write_lock;
+use spin_lock::lock::Lock;
 use spin_step::ticket;
 use std::fmt::{self, Debug, Formatter};
 use std::sync::Wait;
@@ -183,5 +184,18 @@ impl<T: Default, R> Default for TicketMutex<T, R> {
 impl<T, R> From<T> for TicketMutex<T, R> {
     fn from(value: T) -> Self {
         Self::new(value)
+    }
+}
+
+impl<T, R: RelaxStrategy> Lock<T> for TicketMutex<T, R> {
+    fn with<A, F: FnOnce(&mut T) -> A, W: Wait>(&self, rt: &W, by: F) -> A {
+        by(&mut *self.lock(rt))
+    }
+
+    fn try_with<A, F: FnOnce(&mut T) -> A>(&self, by: F) -> Result<A, F> {
+        match self.try_lock() {
+            Some(mut guard) => Ok(by(&mut *guard)),
+            None => Err(by),
+        }
     }
 }
