@@ -2,11 +2,13 @@
 ghost use Rattle.std.specs.Prelude.{◌≡◌, [], Some};
 ghost use Rattle.std.specs.Fn.{FnOnceReturnsAt};
 ghost use mathlib.Core.List.{IsPrefix};
-ghost use Rattle.spin_history.specs.Entries.{last, InOrder, InOrder-prop, IsAtOrAfter};
+ghost use Rattle.spin_history.specs.Entries.{last, InOrder, InOrder-prop, IsAtOrAfter, Reads};
 
 use crate::log::{ClosedLog, History, Log, Snapshot};
 use crate::register::Register;
+use spin_lock::lock::{Lock, SharedLock};
 use std::marker::PhantomData;
+use std::sync::Wait;
 
 /// What may come after what: a preorder on `T`.
 pub trait Order<T> {
@@ -117,4 +119,94 @@ impl<T: Copy, P: Order<T>, H: History> Growing<T, P, H> {
     {
         *self.get(seen)
     }
+}
+
+/// Reads a growing value under a lock.
+///
+/// # Contract
+/// The answer is the last write, and it is at or after the last value that the caller saw, whoever wrote.
+pub fn read<T: Copy, P: Order<T>, H: History, L: Lock<Growing<T, P, H>>, W: Wait>(
+    rt: &W,
+    lock: &L,
+    seen: &mut Snapshot<T, H>,
+) -> T
+    ensures grown { IsAtOrAfter P.le seen.old.entries result }
+    ensures later { IsPrefix seen.old.entries seen.new.entries }
+    ensures last { last seen.new.entries ≡ Some result }
+{
+    let known = seen.copy();
+    let (value, found) = lock.with(
+        rt,
+        move |growing: &mut Growing<T, P, H>| -> (T, Snapshot<T, H>)
+            ensures grown { IsAtOrAfter P.le known.entries result.0 }
+            ensures read { Reads known.entries result.0 result.1.entries }
+        {
+            let mut seen = known;
+            let value = growing.read(&mut seen);
+            (value, seen)
+        },
+    );
+    *seen = found;
+    value
+}
+
+/// Reads a growing value under a lock, beside other readers.
+///
+/// # Contract
+/// As [`read`].
+pub fn read_shared<T: Copy, P: Order<T>, H: History, L: SharedLock<Growing<T, P, H>>, W: Wait>(
+    rt: &W,
+    lock: &L,
+    seen: &mut Snapshot<T, H>,
+) -> T
+    ensures grown { IsAtOrAfter P.le seen.old.entries result }
+    ensures later { IsPrefix seen.old.entries seen.new.entries }
+    ensures last { last seen.new.entries ≡ Some result }
+{
+    let known = seen.copy();
+    let (value, found) = lock.with_shared(
+        rt,
+        move |growing: &Growing<T, P, H>| -> (T, Snapshot<T, H>)
+            ensures grown { IsAtOrAfter P.le known.entries result.0 }
+            ensures read { Reads known.entries result.0 result.1.entries }
+        {
+            let mut seen = known;
+            let value = growing.read(&mut seen);
+            (value, seen)
+        },
+    );
+    *seen = found;
+    value
+}
+
+/// Writes what a closure makes of a growing value, under a lock.
+///
+/// # Contract
+/// Whatever the value, the closure answers one that may come after it. The new value is the last write, and it is at or
+/// after the last value that the caller saw.
+pub fn advance<
+    T: Drop,
+    P: Order<T>,
+    H: History,
+    L: Lock<Growing<T, P, H>>,
+    F: FnOnce(&T) -> T,
+    W: Wait,
+>(rt: &W, lock: &L, by: F, seen: &mut Snapshot<T, H>)
+    requires callable { F.IsAlwaysCallable by }
+    requires grows { (x y : T) → FnOnceReturnsAt F.FnOnce by x y → P.le x y }
+    ensures { (new : T) × (IsAtOrAfter P.le seen.old.entries new × Reads seen.old.entries new seen.new.entries) }
+{
+    let known = seen.copy();
+    *seen = lock.with(
+        rt,
+        move |growing: &mut Growing<T, P, H>| -> Snapshot<T, H>
+            requires callable { F.IsAlwaysCallable by }
+            requires grows { (x y : T) → FnOnceReturnsAt F.FnOnce by x y → P.le x y }
+            ensures { (new : T) × (IsAtOrAfter P.le known.entries new × Reads known.entries new result.entries) }
+        {
+            let mut seen = known;
+            growing.advance(by, &mut seen);
+            seen
+        },
+    );
 }

@@ -5,3 +5,4 @@
 pub mod growing;
 pub mod log;
 pub mod register;
+pub mod tally;

@@ -5,6 +5,8 @@ ghost use mathlib.Core.List.{IsPrefix};
 ghost use Rattle.spin_history.specs.Entries.{last, Reads, Writes, Updates};
 
 use crate::log::{ClosedLog, History, Log, Snapshot};
+use spin_lock::lock::{Lock, SharedLock};
+use std::sync::Wait;
 
 /// A value, and the log of all that was ever written there: its last entry is the value.
 ///
@@ -123,4 +125,111 @@ impl<T: Copy, H: History> Register<T, H> {
     {
         *self.get(seen)
     }
+}
+
+/// Reads a register under a lock.
+///
+/// # Contract
+/// The answer is the last write of a history that goes on from what the caller knew.
+pub fn read<T: Copy, H: History, L: Lock<Register<T, H>>, W: Wait>(
+    rt: &W,
+    lock: &L,
+    seen: &mut Snapshot<T, H>,
+) -> T
+    ensures later { IsPrefix seen.old.entries seen.new.entries }
+    ensures last { last seen.new.entries ≡ Some result }
+{
+    let known = seen.copy();
+    let (value, found) = lock.with(
+        rt,
+        move |register: &mut Register<T, H>| -> (T, Snapshot<T, H>)
+            ensures { Reads known.entries result.0 result.1.entries }
+        {
+            let mut seen = known;
+            let value = register.read(&mut seen);
+            (value, seen)
+        },
+    );
+    *seen = found;
+    value
+}
+
+/// Reads a register under a lock, beside other readers.
+///
+/// # Contract
+/// As [`read`].
+pub fn read_shared<T: Copy, H: History, L: SharedLock<Register<T, H>>, W: Wait>(
+    rt: &W,
+    lock: &L,
+    seen: &mut Snapshot<T, H>,
+) -> T
+    ensures later { IsPrefix seen.old.entries seen.new.entries }
+    ensures last { last seen.new.entries ≡ Some result }
+{
+    let known = seen.copy();
+    let (value, found) = lock.with_shared(
+        rt,
+        move |register: &Register<T, H>| -> (T, Snapshot<T, H>)
+            ensures { Reads known.entries result.0 result.1.entries }
+        {
+            let mut seen = known;
+            let value = register.read(&mut seen);
+            (value, seen)
+        },
+    );
+    *seen = found;
+    value
+}
+
+/// Writes to a register under a lock.
+///
+/// # Contract
+/// The value is the last entry of a history that goes on from what the caller knew.
+pub fn write<T: Drop, H: History, L: Lock<Register<T, H>>, W: Wait>(
+    rt: &W,
+    lock: &L,
+    new: T,
+    seen: &mut Snapshot<T, H>,
+)
+    ensures { Writes seen.old.entries new seen.new.entries }
+{
+    let known = seen.copy();
+    *seen = lock.with(
+        rt,
+        move |register: &mut Register<T, H>| -> Snapshot<T, H>
+            ensures { Writes known.entries new result.entries }
+        {
+            let mut seen = known;
+            register.write(new, &mut seen);
+            seen
+        },
+    );
+}
+
+/// Writes what a closure makes of the value, under a lock.
+///
+/// # Contract
+/// The closure is called with the last write of a history that goes on from what the caller knew, and its answer is the
+/// next one: nothing comes between.
+pub fn update<T: Drop, H: History, L: Lock<Register<T, H>>, F: FnOnce(&T) -> T, W: Wait>(
+    rt: &W,
+    lock: &L,
+    by: F,
+    seen: &mut Snapshot<T, H>,
+)
+    requires { F.IsAlwaysCallable by }
+    ensures { (before after : T) × (FnOnceReturnsAt F.FnOnce by before after × Updates seen.old.entries before after seen.new.entries) }
+{
+    let known = seen.copy();
+    *seen = lock.with(
+        rt,
+        move |register: &mut Register<T, H>| -> Snapshot<T, H>
+            requires { F.IsAlwaysCallable by }
+            ensures { (before after : T) × (FnOnceReturnsAt F.FnOnce by before after × Updates known.entries before after result.entries) }
+        {
+            let mut seen = known;
+            register.update(by, &mut seen);
+            seen
+        },
+    );
 }
