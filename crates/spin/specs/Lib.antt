@@ -7,6 +7,8 @@ pub use Rattle.spin_fair.specs.Fair
 pub use Rattle.spin_rwlock.specs.Guards
 pub use Rattle.spin_once.specs.Lazy
 pub use Rattle.spin_core.specs.Retries
+pub use Rattle.spin_history.specs.Entries
+pub use Rattle.spin_lock.specs.Calls
 pub use Rattle.spin_step.specs.Plain
 pub use Rattle.spin_step.specs.Parties
 pub use Rattle.spin_step.specs.Steps

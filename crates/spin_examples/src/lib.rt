@@ -3,5 +3,6 @@
 
 pub mod account;
 pub mod from_rust;
+pub mod registers;
 #[cfg(test)]
 mod tests;

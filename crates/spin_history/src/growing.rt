@@ -4,7 +4,7 @@ ghost use Rattle.std.specs.Fn.{FnOnceReturnsAt};
 ghost use mathlib.Core.List.{IsPrefix};
 ghost use Rattle.spin_history.specs.Entries.{last, InOrder, InOrder-prop, IsAtOrAfter, Reads};
 
-use crate::log::{ClosedLog, History, Log, Snapshot};
+use crate::history::{ClosedLog, History, Log, Snapshot};
 use crate::register::Register;
 use spin_lock::lock::{Lock, SharedLock};
 use std::marker::PhantomData;

@@ -3,6 +3,6 @@
 #![tactic(auto)]
 
 pub mod growing;
-pub mod log;
+pub mod history;
 pub mod register;
 pub mod tally;
