@@ -2,7 +2,7 @@
 ghost use Rattle.std.specs.Prelude.{◌≡◌, [], Some};
 ghost use Rattle.std.specs.Fn.{FnOnceReturnsAt};
 ghost use mathlib.Core.List.{IsPrefix};
-ghost use Rattle.spin_history.specs.Entries.{last, InOrder, InOrder-prop, IsAtOrAfter, Reads};
+ghost use Rattle.spin_history.specs.Entries.{last, InOrder, InOrder-prop, IsAtOrAfter, Reads, Updates};
 
 use crate::history::{ClosedLog, History, Log, Snapshot};
 use crate::register::Register;
@@ -79,6 +79,20 @@ impl<T, P: Order<T>, H: History> Growing<T, P, H> {
         self.register.get(seen)
     }
 
+    /// Calls a closure with the value, and returns its answer.
+    ///
+    /// # Contract
+    /// As [`get`](Self::get).
+    pub fn inspect<A, F: FnOnce(&T) -> A>(&self, by: F, seen: &mut Snapshot<T, H>) -> A
+        requires { F.IsAlwaysCallable by }
+        ensures called { FnOnceReturnsAt F.FnOnce by self.now.register.value result }
+        ensures grown { IsAtOrAfter P.le seen.old.entries self.now.register.value }
+        ensures later { IsPrefix seen.old.entries seen.new.entries }
+        ensures last { last seen.new.entries ≡ Some self.now.register.value }
+    {
+        by(self.get(seen))
+    }
+
     /// Returns the value and its whole history, to which nothing is added any more.
     pub fn close(self) -> (T, ClosedLog<T, H>)
         ensures ordered { InOrder P.le result.1.entries }
@@ -93,12 +107,14 @@ impl<T: Drop, P: Order<T>, H: History> Growing<T, P, H> {
     /// Writes what a closure makes of the value.
     ///
     /// # Contract
-    /// Whatever the value, the closure answers one that may come after it.
+    /// Whatever the value, the closure answers one that may come after it. The closure is called with the last write, its
+    /// answer is the next one (`Updates`), and that is at or after the last value that the caller saw.
     pub fn advance<F: FnOnce(&T) -> T>(&mut self, by: F, seen: &mut Snapshot<T, H>)
         requires callable { F.IsAlwaysCallable by }
         requires grows { (x y : T) → FnOnceReturnsAt F.FnOnce by x y → P.le x y }
+        ensures called { FnOnceReturnsAt F.FnOnce by self.old.register.value self.new.register.value }
         ensures grown { IsAtOrAfter P.le seen.old.entries self.new.register.value }
-        ensures later { IsPrefix seen.old.entries seen.new.entries }
+        ensures later { Updates seen.old.entries self.old.register.value self.new.register.value seen.new.entries }
         ensures last { last seen.new.entries ≡ Some self.new.register.value }
     {
         let Growing { register, order: _ } = self;
@@ -121,6 +137,38 @@ impl<T: Copy, P: Order<T>, H: History> Growing<T, P, H> {
     }
 }
 
+/// Calls a closure with the value of a growing value under a lock, and returns its answer.
+///
+/// # Contract
+/// The closure is called with the last write, which is at or after the last value that the caller saw, whoever wrote.
+pub fn inspect<
+    T,
+    P: Order<T>,
+    H: History,
+    L: Lock<Growing<T, P, H>>,
+    A,
+    F: FnOnce(&T) -> A,
+    W: Wait,
+>(rt: &W, lock: &L, by: F, seen: &mut Snapshot<T, H>) -> A
+    requires { F.IsAlwaysCallable by }
+    ensures { (value : T) × (FnOnceReturnsAt F.FnOnce by value result × (IsAtOrAfter P.le seen.old.entries value × Reads seen.old.entries value seen.new.entries)) }
+{
+    let known = seen.copy();
+    let (answer, found) = lock.with(
+        rt,
+        move |growing: &mut Growing<T, P, H>| -> (A, Snapshot<T, H>)
+            requires { F.IsAlwaysCallable by }
+            ensures { (value : T) × (FnOnceReturnsAt F.FnOnce by value result.0 × (IsAtOrAfter P.le known.entries value × Reads known.entries value result.1.entries)) }
+        {
+            let mut seen = known;
+            let answer = growing.inspect(by, &mut seen);
+            (answer, seen)
+        },
+    );
+    *seen = found;
+    answer
+}
+
 /// Reads a growing value under a lock.
 ///
 /// # Contract
@@ -134,20 +182,46 @@ pub fn read<T: Copy, P: Order<T>, H: History, L: Lock<Growing<T, P, H>>, W: Wait
     ensures later { IsPrefix seen.old.entries seen.new.entries }
     ensures last { last seen.new.entries ≡ Some result }
 {
-    let known = seen.copy();
-    let (value, found) = lock.with(
+    inspect(
         rt,
-        move |growing: &mut Growing<T, P, H>| -> (T, Snapshot<T, H>)
-            ensures grown { IsAtOrAfter P.le known.entries result.0 }
-            ensures read { Reads known.entries result.0 result.1.entries }
+        lock,
+        |value: &T| -> T
+            ensures { result ≡ value.now }
+        { *value },
+        seen,
+    )
+}
+
+/// Calls a closure with the value of a growing value under a lock, beside other readers, and returns its answer.
+///
+/// # Contract
+/// As [`inspect`].
+pub fn inspect_shared<
+    T,
+    P: Order<T>,
+    H: History,
+    L: SharedLock<Growing<T, P, H>>,
+    A,
+    F: FnOnce(&T) -> A,
+    W: Wait,
+>(rt: &W, lock: &L, by: F, seen: &mut Snapshot<T, H>) -> A
+    requires { F.IsAlwaysCallable by }
+    ensures { (value : T) × (FnOnceReturnsAt F.FnOnce by value result × (IsAtOrAfter P.le seen.old.entries value × Reads seen.old.entries value seen.new.entries)) }
+{
+    let known = seen.copy();
+    let (answer, found) = lock.with_shared(
+        rt,
+        move |growing: &Growing<T, P, H>| -> (A, Snapshot<T, H>)
+            requires { F.IsAlwaysCallable by }
+            ensures { (value : T) × (FnOnceReturnsAt F.FnOnce by value result.0 × (IsAtOrAfter P.le known.entries value × Reads known.entries value result.1.entries)) }
         {
             let mut seen = known;
-            let value = growing.read(&mut seen);
-            (value, seen)
+            let answer = growing.inspect(by, &mut seen);
+            (answer, seen)
         },
     );
     *seen = found;
-    value
+    answer
 }
 
 /// Reads a growing value under a lock, beside other readers.
@@ -163,27 +237,21 @@ pub fn read_shared<T: Copy, P: Order<T>, H: History, L: SharedLock<Growing<T, P,
     ensures later { IsPrefix seen.old.entries seen.new.entries }
     ensures last { last seen.new.entries ≡ Some result }
 {
-    let known = seen.copy();
-    let (value, found) = lock.with_shared(
+    inspect_shared(
         rt,
-        move |growing: &Growing<T, P, H>| -> (T, Snapshot<T, H>)
-            ensures grown { IsAtOrAfter P.le known.entries result.0 }
-            ensures read { Reads known.entries result.0 result.1.entries }
-        {
-            let mut seen = known;
-            let value = growing.read(&mut seen);
-            (value, seen)
-        },
-    );
-    *seen = found;
-    value
+        lock,
+        |value: &T| -> T
+            ensures { result ≡ value.now }
+        { *value },
+        seen,
+    )
 }
 
 /// Writes what a closure makes of a growing value, under a lock.
 ///
 /// # Contract
-/// Whatever the value, the closure answers one that may come after it. The new value is the last write, and it is at or
-/// after the last value that the caller saw.
+/// Whatever the value, the closure answers one that may come after it. The closure is called with the last write, its answer
+/// is the next one, and that is at or after the last value that the caller saw.
 pub fn advance<
     T: Drop,
     P: Order<T>,
@@ -194,7 +262,7 @@ pub fn advance<
 >(rt: &W, lock: &L, by: F, seen: &mut Snapshot<T, H>)
     requires callable { F.IsAlwaysCallable by }
     requires grows { (x y : T) → FnOnceReturnsAt F.FnOnce by x y → P.le x y }
-    ensures { (new : T) × (IsAtOrAfter P.le seen.old.entries new × Reads seen.old.entries new seen.new.entries) }
+    ensures { (before new : T) × (FnOnceReturnsAt F.FnOnce by before new × (IsAtOrAfter P.le seen.old.entries new × Updates seen.old.entries before new seen.new.entries)) }
 {
     let known = seen.copy();
     *seen = lock.with(
@@ -202,7 +270,7 @@ pub fn advance<
         move |growing: &mut Growing<T, P, H>| -> Snapshot<T, H>
             requires callable { F.IsAlwaysCallable by }
             requires grows { (x y : T) → FnOnceReturnsAt F.FnOnce by x y → P.le x y }
-            ensures { (new : T) × (IsAtOrAfter P.le known.entries new × Reads known.entries new result.entries) }
+            ensures { (before new : T) × (FnOnceReturnsAt F.FnOnce by before new × (IsAtOrAfter P.le known.entries new × Updates known.entries before new result.entries)) }
         {
             let mut seen = known;
             growing.advance(by, &mut seen);

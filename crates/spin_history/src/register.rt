@@ -51,6 +51,19 @@ impl<T, H: History> Register<T, H> {
         &self.value
     }
 
+    /// Calls a closure with the value, and returns its answer.
+    ///
+    /// # Contract
+    /// As [`get`](Self::get).
+    pub fn inspect<A, F: FnOnce(&T) -> A>(&self, by: F, seen: &mut Snapshot<T, H>) -> A
+        requires { F.IsAlwaysCallable by }
+        ensures called { FnOnceReturnsAt F.FnOnce by self.now.value result }
+        ensures later { IsPrefix seen.old.entries seen.new.entries }
+        ensures last { last seen.new.entries ≡ Some self.now.value }
+    {
+        by(self.get(seen))
+    }
+
     /// Compares two references to the register that are held at the same time.
     ///
     /// # Contract
@@ -127,6 +140,35 @@ impl<T: Copy, H: History> Register<T, H> {
     }
 }
 
+/// Calls a closure with the value of a register under a lock, and returns its answer.
+///
+/// # Contract
+/// The closure is called with the last write of a history that goes on from what the caller knew.
+pub fn inspect<T, H: History, L: Lock<Register<T, H>>, A, F: FnOnce(&T) -> A, W: Wait>(
+    rt: &W,
+    lock: &L,
+    by: F,
+    seen: &mut Snapshot<T, H>,
+) -> A
+    requires { F.IsAlwaysCallable by }
+    ensures { (value : T) × (FnOnceReturnsAt F.FnOnce by value result × Reads seen.old.entries value seen.new.entries) }
+{
+    let known = seen.copy();
+    let (answer, found) = lock.with(
+        rt,
+        move |register: &mut Register<T, H>| -> (A, Snapshot<T, H>)
+            requires { F.IsAlwaysCallable by }
+            ensures { (value : T) × (FnOnceReturnsAt F.FnOnce by value result.0 × Reads known.entries value result.1.entries) }
+        {
+            let mut seen = known;
+            let answer = register.inspect(by, &mut seen);
+            (answer, seen)
+        },
+    );
+    *seen = found;
+    answer
+}
+
 /// Reads a register under a lock.
 ///
 /// # Contract
@@ -139,19 +181,43 @@ pub fn read<T: Copy, H: History, L: Lock<Register<T, H>>, W: Wait>(
     ensures later { IsPrefix seen.old.entries seen.new.entries }
     ensures last { last seen.new.entries ≡ Some result }
 {
-    let known = seen.copy();
-    let (value, found) = lock.with(
+    inspect(
         rt,
-        move |register: &mut Register<T, H>| -> (T, Snapshot<T, H>)
-            ensures { Reads known.entries result.0 result.1.entries }
+        lock,
+        |value: &T| -> T
+            ensures { result ≡ value.now }
+        { *value },
+        seen,
+    )
+}
+
+/// Calls a closure with the value of a register under a lock, beside other readers, and returns its answer.
+///
+/// # Contract
+/// As [`inspect`].
+pub fn inspect_shared<T, H: History, L: SharedLock<Register<T, H>>, A, F: FnOnce(&T) -> A, W: Wait>(
+    rt: &W,
+    lock: &L,
+    by: F,
+    seen: &mut Snapshot<T, H>,
+) -> A
+    requires { F.IsAlwaysCallable by }
+    ensures { (value : T) × (FnOnceReturnsAt F.FnOnce by value result × Reads seen.old.entries value seen.new.entries) }
+{
+    let known = seen.copy();
+    let (answer, found) = lock.with_shared(
+        rt,
+        move |register: &Register<T, H>| -> (A, Snapshot<T, H>)
+            requires { F.IsAlwaysCallable by }
+            ensures { (value : T) × (FnOnceReturnsAt F.FnOnce by value result.0 × Reads known.entries value result.1.entries) }
         {
             let mut seen = known;
-            let value = register.read(&mut seen);
-            (value, seen)
+            let answer = register.inspect(by, &mut seen);
+            (answer, seen)
         },
     );
     *seen = found;
-    value
+    answer
 }
 
 /// Reads a register under a lock, beside other readers.
@@ -166,19 +232,14 @@ pub fn read_shared<T: Copy, H: History, L: SharedLock<Register<T, H>>, W: Wait>(
     ensures later { IsPrefix seen.old.entries seen.new.entries }
     ensures last { last seen.new.entries ≡ Some result }
 {
-    let known = seen.copy();
-    let (value, found) = lock.with_shared(
+    inspect_shared(
         rt,
-        move |register: &Register<T, H>| -> (T, Snapshot<T, H>)
-            ensures { Reads known.entries result.0 result.1.entries }
-        {
-            let mut seen = known;
-            let value = register.read(&mut seen);
-            (value, seen)
-        },
-    );
-    *seen = found;
-    value
+        lock,
+        |value: &T| -> T
+            ensures { result ≡ value.now }
+        { *value },
+        seen,
+    )
 }
 
 /// Writes to a register under a lock.
