@@ -7,8 +7,9 @@ use spin_rwlock::rwlock::{
 };
 use std::cell::Cell;
 use std::sync::Wait;
+use std::sync::atomic::AtomicBool;
+use std::sync::atomic::Ordering::SeqCst;
 use std::thread;
-use std::thread::Threads;
 
 fn is_send<T: Send>() {}
 
@@ -44,49 +45,20 @@ fn travel_with_a_value_that_may(rt: HostRuntime) {
 }
 
 #[test]
-fn a_guard_may_end_in_another_thread(rt: HostRuntime) {
-    let lock: RwLock<u64> = RwLock::new(1);
-    let mut guard = lock.write(&rt);
-    let write = move || {
-        *guard = 3;
-    };
-    thread::join(&rt, write, || ());
-    equal(&rt, *lock.try_write().expect(&rt, "free"), 3);
-}
-
-#[test]
-fn an_upgradable_guard_upgrades_in_another_thread(rt: HostRuntime) {
-    let lock: RwLock<u64> = RwLock::new(1);
-    let guard = lock.upgradeable_read(&rt);
-    let (writer, ()) = thread::join(&rt, || guard.upgrade(&rt), || ());
-    equal(&rt, lock.writer_count(), 1);
-    equal(&rt, *writer.downgrade(), 1);
-}
-
-#[test]
-fn an_upgrade_ends_when_the_readers_have_gone(rt: HostRuntime) {
-    let lock: RwLock<u64, Yield> = RwLock::new(1);
-    let readers = (lock.read(&rt), lock.read(&rt));
-    let guard = lock.upgradeable_read(&rt);
-    let (writer, ()) = thread::join(&rt, || guard.upgrade(&rt), || drop(readers));
-    equal(&rt, (lock.reader_count(), lock.writer_count()), (0, 1));
-    equal(&rt, *writer, 1);
-}
-
-#[test]
 fn guards_of_two_threads_read_one_lock(rt: HostRuntime) {
     let lock: RwLock<u64> = RwLock::new(1);
     let (first, second) = thread::join(&rt, || lock.read(&rt), || lock.read(&rt));
-    equal(&rt, lock.reader_count(), 2);
-    equal(&rt, lock.try_write().is_none(), true);
+    let refused = lock.try_write().is_none();
     equal(&rt, (*first, *second), (1, 1));
+    equal(&rt, (lock.reader_count(), refused), (2, true));
 }
 
-const TURNS: u32 = 10_000_000;
+// It looks at most this often, so that the test ends whatever happens.
+const MOST_LOOKS: u32 = 10_000_000;
 
 // Tries to read until it is refused.
 fn is_kept_out<R: Wait>(rt: &R, lock: &RwLock<u64, Yield>) -> bool {
-    for _ in 0..TURNS {
+    for _ in 0..MOST_LOOKS {
         if lock.try_read(rt).is_none() {
             return true;
         }
@@ -95,21 +67,104 @@ fn is_kept_out<R: Wait>(rt: &R, lock: &RwLock<u64, Yield>) -> bool {
     false
 }
 
+// The upgrade ends when the readers have gone, which are in another thread.
 #[test]
 fn no_reader_comes_once_an_upgrade_has_asked(rt: HostRuntime) {
     let lock: RwLock<u64, Yield> = RwLock::new(1);
-    let reader = lock.read(&rt);
+    let readers = (lock.read(&rt), lock.read(&rt));
     let guard = lock.upgradeable_read(&rt);
     let (writer, kept_out) = thread::join(
         &rt,
         || guard.upgrade(&rt),
         || {
             let kept_out = is_kept_out(&rt, &lock);
-            drop(reader);
+            drop(readers);
             kept_out
         },
     );
     equal(&rt, (kept_out, *writer), (true, 1));
+    equal(&rt, (lock.reader_count(), lock.writer_count()), (0, 1));
+}
+
+fn await_flag<R: Wait>(rt: &R, flag: &AtomicBool) {
+    for _ in 0..MOST_LOOKS {
+        if flag.load(SeqCst) {
+            return;
+        }
+        Yield::relax(rt);
+    }
+}
+
+// Long enough for another thread to be refused.
+fn pause<R: Wait>(rt: &R) {
+    for _ in 0..1000 {
+        Yield::relax(rt);
+    }
+}
+
+fn come_to_write<R: Wait>(rt: &R, lock: &RwLock<u64, Yield>, comes: &AtomicBool) {
+    comes.store(true, SeqCst);
+    let mut guard = lock.write(rt);
+    *guard = guard.wrapping_mul(2);
+}
+
+// Once the other thread comes it finds this writer, and then a reader.
+fn write_and_read<R: Wait>(
+    rt: &R,
+    mut writer: RwLockWriteGuard<'_, u64, Yield>,
+    comes: &AtomicBool,
+) {
+    await_flag(rt, comes);
+    pause(rt);
+    *writer = 3;
+    let reader = writer.downgrade();
+    pause(rt);
+    drop(reader);
+}
+
+#[test]
+fn a_writer_waits_for_a_writer_and_for_a_reader(rt: HostRuntime) {
+    let lock: RwLock<u64, Yield> = RwLock::new(1);
+    let comes = AtomicBool::new(false);
+    let writer = lock.write(&rt);
+    thread::join(
+        &rt,
+        || come_to_write(&rt, &lock, &comes),
+        || write_and_read(&rt, writer, &comes),
+    );
+    equal(&rt, *lock.try_write().expect(&rt, "free"), 6);
+}
+
+// Enough for some of the tries of two threads to fall into one another, or into a look that takes the lock.
+const TRIES: u32 = 1_000_000;
+
+fn read_often<R: Wait>(rt: &R, lock: &RwLock<u64>) -> bool {
+    let mut granted = true;
+    for _ in 0..TRIES {
+        lock.writer_count();
+        granted = granted && lock.try_read(rt).is_some();
+    }
+    granted
+}
+
+fn read_upgradable_often<R: Wait>(rt: &R, lock: &RwLock<u64>) -> bool {
+    let mut granted = true;
+    for _ in 0..TRIES {
+        lock.writer_count();
+        granted = granted && lock.try_upgradeable_read(rt).is_some();
+    }
+    granted
+}
+
+#[test]
+fn a_try_to_read_that_lost_a_race_tries_again(rt: HostRuntime) {
+    let lock = RwLock::new(1);
+    let granted = thread::join(
+        &rt,
+        || read_often(&rt, &lock),
+        || read_upgradable_often(&rt, &lock),
+    );
+    equal(&rt, granted, (true, true));
 }
 
 // All additions are made under one guard, so a reader sees none of them or all.
@@ -129,35 +184,20 @@ fn sees_all_or_nothing<R: Wait>(rt: &R, lock: &RwLock<u64, Yield>) -> bool {
     sound
 }
 
-fn read_in_two<R: Threads + Wait + Sync>(rt: &R, lock: &RwLock<u64, Yield>) -> bool {
-    let (first, second) = thread::join(
-        rt,
-        || sees_all_or_nothing(rt, lock),
-        || sees_all_or_nothing(rt, lock),
-    );
-    first && second
+// The first adds, and the others read. Whether no reader saw a part.
+fn add_or_read<R: Wait>(rt: &R, lock: &RwLock<u64, Yield>, index: usize) -> bool {
+    if index == 0 {
+        add_ten(rt, lock);
+        return true;
+    }
+    sees_all_or_nothing(rt, lock)
 }
 
 #[test]
 fn a_writer_beside_five_readers(rt: HostRuntime) {
     let mut lock = RwLock::new(0);
-    let write_and_read = || {
-        let ((), sound) = thread::join(
-            &rt,
-            || add_ten(&rt, &lock),
-            || sees_all_or_nothing(&rt, &lock),
-        );
-        sound
-    };
-    let read_in_four = || {
-        let (first, second) = thread::join(
-            &rt,
-            || read_in_two(&rt, &lock),
-            || read_in_two(&rt, &lock),
-        );
-        first && second
-    };
-    let (first, second) = thread::join(&rt, write_and_read, read_in_four);
-    equal(&rt, first && second, true);
+    let act = |index: usize| add_or_read(&rt, &lock, index);
+    let sound = thread::map_indices(&rt, rt.alloc(), 6, &act).expect(&rt, "memory");
+    equal(&rt, sound.as_slice(), [true; 6].as_slice());
     equal(&rt, *lock.get_mut(), 10);
 }
