@@ -11,3 +11,5 @@ mod once;
 mod texts;
 #[cfg(test)]
 mod threads;
+#[cfg(test)]
+mod waits;

@@ -6,9 +6,8 @@ use spin_once::lazylock::LazyLock;
 use spin_once::once::Once;
 use std::cell::Cell;
 use std::sync::Wait;
+use std::sync::atomic::AtomicU64;
 use std::sync::atomic::Ordering::SeqCst;
-use std::sync::atomic::{AtomicBool, AtomicU64};
-use std::test::Fail;
 use std::thread;
 
 fn is_send<T: Send>() {}
@@ -52,66 +51,18 @@ fn ask<R: Wait>(rt: &R, once: &Once<u64, Yield>, runs: &AtomicU64, number: u64) 
 }
 
 #[test]
-fn ten_that_call_at_once_run_one_closure(rt: HostRuntime) -> Result<(), Fail> {
+fn ten_that_call_at_once_run_one_closure(rt: HostRuntime) {
     let once: Once<u64, Yield> = Once::new();
     let runs = AtomicU64::new(0);
-    let values = thread::map_indices(
-        &rt,
-        rt.alloc(),
-        10,
-        &|index| { ask(&rt, &once, &runs, index as u64) },
-    )?;
+    let call = |index: usize| ask(&rt, &once, &runs, index as u64);
+    let values = thread::map_indices(&rt, rt.alloc(), 10, &call).expect(&rt, "memory");
+    let value = *once.get().expect(&rt, "all have called");
+    equal(&rt, values.as_slice(), [value; 10].as_slice());
     equal(&rt, runs.load(SeqCst), 1);
-    let value = once.get().copied();
-    equal(&rt, value.is_some(), true);
-    for seen in &values {
-        equal(&rt, Some(*seen), value);
-    }
-    Ok(())
-}
-
-// It looks for the flag at most this often, so that the test ends whatever happens.
-const MOST_LOOKS: u32 = 10_000_000;
-
-fn await_flag<R: Wait>(rt: &R, flag: &AtomicBool) {
-    for _ in 0..MOST_LOOKS {
-        if flag.load(SeqCst) {
-            return;
-        }
-        Yield::relax(rt);
-    }
 }
 
 #[test]
-fn a_poll_waits_while_a_closure_runs(rt: HostRuntime) {
-    let once: Once<u64, Yield> = Once::new();
-    let runs = AtomicBool::new(false);
-    let polls = AtomicBool::new(false);
-    let run = || {
-        let value = once.call_once(&rt, || {
-            runs.store(true, SeqCst);
-            await_flag(&rt, &polls);
-            for _ in 0..1000 {
-                Yield::relax(&rt);
-            }
-            7
-        });
-        *value
-    };
-    let poll = || {
-        await_flag(&rt, &runs);
-        let early = once.get().copied();
-        polls.store(true, SeqCst);
-        (early, once.poll(&rt).copied())
-    };
-    let (made, (early, polled)) = thread::join(&rt, run, poll);
-    equal(&rt, made, 7);
-    equal(&rt, early, None);
-    equal(&rt, polled, Some(7));
-}
-
-#[test]
-fn ten_that_ask_at_once_run_it_once(rt: HostRuntime) -> Result<(), Fail> {
+fn ten_that_ask_at_once_run_it_once(rt: HostRuntime) {
     let runs = AtomicU64::new(0);
     let lazy: LazyLock<u64, _, Yield> = LazyLock::new(|| {
         runs.fetch_add(1, SeqCst);
@@ -120,10 +71,8 @@ fn ten_that_ask_at_once_run_it_once(rt: HostRuntime) -> Result<(), Fail> {
         }
         5
     });
-    let values = thread::map_indices(&rt, rt.alloc(), 10, &|_| *LazyLock::force(&lazy, &rt))?;
+    let ask = |_index: usize| *LazyLock::force(&lazy, &rt);
+    let values = thread::map_indices(&rt, rt.alloc(), 10, &ask).expect(&rt, "memory");
+    equal(&rt, values.as_slice(), [5; 10].as_slice());
     equal(&rt, runs.load(SeqCst), 1);
-    for seen in &values {
-        equal(&rt, *seen, 5);
-    }
-    Ok(())
 }

@@ -1,0 +1,114 @@
+//! Who finds another's closure running waits for it, goes on with its value, and runs none of its own.
+
+use crate::equal::equal;
+use spin_core::relax::{RelaxStrategy, Yield};
+use spin_once::once::Once;
+use std::sync::Wait;
+use std::sync::atomic::AtomicU64;
+use std::sync::atomic::Ordering::SeqCst;
+use std::thread;
+
+// It looks for the number at most this often, so that the test ends whatever happens.
+const MOST_LOOKS: u32 = 10_000_000;
+
+fn await_number<R: Wait>(rt: &R, number: &AtomicU64, wanted: u64) {
+    for _ in 0..MOST_LOOKS {
+        if number.load(SeqCst) >= wanted {
+            return;
+        }
+        Yield::relax(rt);
+    }
+}
+
+// Long enough for a call that has come meanwhile to find what it waits for.
+fn pause<R: Wait>(rt: &R) {
+    for _ in 0..1000 {
+        Yield::relax(rt);
+    }
+}
+
+/// A value that four threads wait for, while a fifth makes it.
+#[derive(Drop)]
+struct Shared {
+    once: Once<u64, Yield>,
+    // How many have come to wait.
+    came: AtomicU64,
+    // How many closures have begun.
+    begun: AtomicU64,
+}
+
+impl Shared {
+    // It begins once one waits for it, and runs until all four do.
+    fn make<R: Wait>(&self, rt: &R) -> u64 {
+        await_number(rt, &self.came, 1);
+        pause(rt);
+        let value = self.once.call_once(rt, || {
+            self.begin();
+            await_number(rt, &self.came, 4);
+            pause(rt);
+            7
+        });
+        *value
+    }
+
+    fn begin(&self) -> u64 {
+        self.begun.fetch_add(1, SeqCst)
+    }
+
+    fn come(&self) {
+        self.came.fetch_add(1, SeqCst);
+    }
+
+    // Waits from before a closure runs.
+    fn wait<R: Wait>(&self, rt: &R) -> u64 {
+        self.come();
+        *self.once.wait(rt)
+    }
+
+    // Comes while the closure runs, with another.
+    fn call<R: Wait>(&self, rt: &R) -> u64 {
+        await_number(rt, &self.begun, 1);
+        self.come();
+        *self.once.call_once(rt, || self.begin())
+    }
+
+    // Likewise, with one that fails.
+    fn try_call<R: Wait>(&self, rt: &R) -> Option<u64> {
+        await_number(rt, &self.begun, 1);
+        self.come();
+        let value = self.once.try_call_once(rt, || Err(self.begin()));
+        value.ok().copied()
+    }
+
+    // Comes while the closure runs, and there is no value yet.
+    fn poll<R: Wait>(&self, rt: &R) -> Option<u64> {
+        await_number(rt, &self.begun, 1);
+        let is_early = self.once.get().is_none();
+        self.come();
+        let value = self.once.poll(rt).copied();
+        if is_early { value } else { None }
+    }
+
+    fn act<R: Wait>(&self, rt: &R, index: usize) -> Option<u64> {
+        match index {
+            0 => Some(self.make(rt)),
+            1 => Some(self.wait(rt)),
+            2 => Some(self.call(rt)),
+            3 => self.try_call(rt),
+            _ => self.poll(rt),
+        }
+    }
+}
+
+#[test]
+fn four_wait_for_the_closure_of_a_fifth(rt: HostRuntime) {
+    let shared = Shared {
+        once: Once::new(),
+        came: AtomicU64::new(0),
+        begun: AtomicU64::new(0),
+    };
+    let act = |index: usize| shared.act(&rt, index);
+    let values = thread::map_indices(&rt, rt.alloc(), 5, &act).expect(&rt, "memory");
+    equal(&rt, values.as_slice(), [Some(7); 5].as_slice());
+    equal(&rt, shared.begun.load(SeqCst), 1);
+}
