@@ -9,6 +9,8 @@ mod equal;
 mod once;
 mod pair;
 #[cfg(test)]
+mod relax;
+#[cfg(test)]
 mod rw;
 #[cfg(test)]
 mod steps;

@@ -1,0 +1,35 @@
+//! How long the pauses of a call that backs off are, which no contract says.
+use super::equal::equal;
+use spin_core::relax::{MOST_HINTS, RelaxStrategy};
+use std::cell::Cell;
+use std::sync::Wait;
+
+/// A strategy that does not come back from a pause of no hints, of too many, or of a number that no doubling gives.
+struct Strict;
+
+impl RelaxStrategy for Strict {
+    fn relax<W: Wait>(rt: &W) {
+        let _ = rt;
+    }
+
+    fn pause<W: Wait>(rt: &W, hints: u32) {
+        if hints.is_power_of_two() && hints <= MOST_HINTS {
+            return;
+        }
+        for _ in rt.forever() {}
+    }
+}
+
+// More than it takes for a number that is doubled each time to wrap.
+const ATTEMPTS: u32 = 100;
+
+#[test]
+fn pauses_double_up_to_a_bound(rt: HostRuntime) {
+    let attempts = Cell::new(0u32);
+    let attempt = || {
+        attempts.set(attempts.get().wrapping_add(1));
+        (attempts.get() == ATTEMPTS).then_some(())
+    };
+    Strict::back_off(&rt, attempt);
+    equal(&rt, attempts.get(), ATTEMPTS);
+}
