@@ -10,6 +10,8 @@ use std::thread;
 
 const MOST_LOOKS: u32 = 10_000_000;
 
+const STARVED_LOOKS: u32 = 1_000_000;
+
 // Whether somebody holds the lock, and why a newcomer who may starve is refused.
 type Seen = (bool, Option<LockRejectReason>);
 
@@ -128,6 +130,15 @@ fn comes_to_starve<R: Wait>(rt: &R, lock: &FairMutex<u64, Yield>) -> bool {
     false
 }
 
+// Whether newcomers are refused for a starver at each of many looks.
+fn stays_starved<R>(lock: &FairMutex<u64, R>) -> bool {
+    let mut starved = true;
+    for _ in 0..STARVED_LOOKS {
+        starved = starved && refusal(lock) == Some(LockRejectReason::Starved);
+    }
+    starved
+}
+
 #[test]
 fn a_waiting_lock_comes_to_starve(rt: HostRuntime) {
     let lock: FairMutex<u64, Yield> = FairMutex::new(1);
@@ -138,7 +149,7 @@ fn a_waiting_lock_comes_to_starve(rt: HostRuntime) {
         *own = 2;
     };
     let release = move || {
-        let starved = comes_to_starve(host, shared);
+        let starved = comes_to_starve(host, shared) && stays_starved(shared);
         drop(guard);
         starved
     };
@@ -193,10 +204,7 @@ fn starve_often<R: Abort + Wait>(rt: &R, lock: &FairMutex<u64>) {
 #[test]
 fn a_starver_that_lost_a_race_tries_again(rt: HostRuntime) {
     let lock: FairMutex<u64> = FairMutex::new(1);
-    thread::join(
-        &rt,
-        || starve_often(&rt, &lock),
-        || starve_often(&rt, &lock),
-    );
+    let starve_in_one = |_index: usize| starve_often(&rt, &lock);
+    thread::map_indices(&rt, rt.alloc(), 2, &starve_in_one).expect(&rt, "memory");
     shows(&rt, &lock, OPEN);
 }

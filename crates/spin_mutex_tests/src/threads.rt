@@ -3,7 +3,9 @@ use crate::equal::equal;
 use crate::lock::read;
 use spin_core::relax::{RelaxStrategy, Yield};
 use spin_mutex::mutex::{FairMutex, Mutex, SpinMutex, TicketMutex};
+use std::alloc::Global;
 use std::ops::DerefMut;
+use std::process::Abort;
 use std::sync::Wait;
 use std::thread;
 use std::thread::Threads;
@@ -59,33 +61,28 @@ fn add_often<S: Sum, R: Wait>(rt: &R, sum: &S, times: u32) {
     }
 }
 
+// Each thread adds a thousand times.
+fn add_in<S: Sum + Sync, R: Abort + Threads + Wait + Sync>(
+    rt: &R,
+    alloc: Global,
+    sum: &S,
+    threads: usize,
+) {
+    let add = |_index: usize| add_often(rt, sum, 1000);
+    thread::map_indices(rt, alloc, threads, &add).expect(rt, "memory");
+}
+
 #[test]
 fn two_threads_lose_no_addition(rt: HostRuntime) {
     let lock = Mutex::new(0);
-    let (sum, host) = (&lock, &rt);
-    thread::join(
-        host,
-        || add_often(host, sum, 100),
-        || add_often(host, sum, 100),
-    );
-    equal(&rt, lock.into_inner(), 200);
-}
-
-fn add_in_three<S: Sum + Sync, R: Threads + Wait + Sync>(rt: &R, sum: &S) {
-    let others = || {
-        thread::join(rt, || add_often(rt, sum, 1000), || add_often(rt, sum, 1000));
-    };
-    thread::join(rt, || add_often(rt, sum, 1000), others);
-}
-
-fn add_in_six<S: Sum + Sync, R: Threads + Wait + Sync>(rt: &R, sum: &S) {
-    thread::join(rt, || add_in_three(rt, sum), || add_in_three(rt, sum));
+    add_in(&rt, rt.alloc(), &lock, 2);
+    equal(&rt, lock.into_inner(), 2000);
 }
 
 macro_rules! sum_of_six {
     ($rt:expr, $Lock:ident) => {{
         let lock = $Lock::new(0);
-        add_in_six($rt, &lock);
+        add_in($rt, $rt.alloc(), &lock, 6);
         lock.into_inner()
     }};
 }
@@ -129,31 +126,58 @@ fn a_guard_may_end_in_another_thread(rt: HostRuntime) {
 
 const LOOKS: u32 = 1_000_000;
 
-macro_rules! granted_beside_looks {
-    ($rt:expr, $Lock:ident) => {{
-        let lock: $Lock<u64> = $Lock::new(1);
-        let look = || {
-            for _ in 0..LOOKS {
-                lock.is_locked();
-            }
-        };
-        let try_often = || {
-            let mut granted = true;
-            for _ in 0..LOOKS {
-                granted = granted && lock.try_lock().is_some();
-            }
-            granted
-        };
-        let ((), granted) = thread::join($rt, look, try_often);
-        granted
-    }};
+/// A lock at which one looks while another tries it.
+trait Tried {
+    fn is_locked(&self) -> bool;
+
+    fn is_granted(&self) -> bool;
+}
+
+impl Tried for SpinMutex<u64> {
+    fn is_locked(&self) -> bool {
+        SpinMutex::is_locked(self)
+    }
+
+    fn is_granted(&self) -> bool {
+        self.try_lock().is_some()
+    }
+}
+
+impl Tried for FairMutex<u64> {
+    fn is_locked(&self) -> bool {
+        FairMutex::is_locked(self)
+    }
+
+    fn is_granted(&self) -> bool {
+        self.try_lock().is_some()
+    }
+}
+
+// The first looks, and the other tries. Whether no try was refused.
+fn look_or_try<L: Tried>(lock: &L, index: usize) -> bool {
+    let mut granted = true;
+    for _ in 0..LOOKS {
+        if index == 0 {
+            lock.is_locked();
+        } else {
+            granted = granted && lock.is_granted();
+        }
+    }
+    granted
+}
+
+fn grants_beside_looks<L: Tried + Sync, R: Abort + Threads + Sync>(
+    rt: &R,
+    alloc: Global,
+    lock: &L,
+) {
+    let act = |index: usize| look_or_try(lock, index);
+    let granted = thread::map_indices(rt, alloc, 2, &act).expect(rt, "memory");
+    equal(rt, granted.as_slice(), [true; 2].as_slice());
 }
 
 #[test]
 fn a_look_takes_no_lock(rt: HostRuntime) {
-    let granted = [
-        granted_beside_looks!(&rt, SpinMutex),
-        granted_beside_looks!(&rt, FairMutex),
-    ];
-    equal(&rt, granted, [true; 2]);
+    grants_beside_looks(&rt, rt.alloc(), &SpinMutex::<u64>::new(1));
+    grants_beside_looks(&rt, rt.alloc(), &FairMutex::<u64>::new(1));
 }

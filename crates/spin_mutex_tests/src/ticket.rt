@@ -5,6 +5,8 @@ use spin_core::relax::{RelaxStrategy, Yield};
 use spin_mutex::mutex::{Mutex, TicketMutex, TicketMutexGuard};
 use spin_mutex::testing::{next as next_of_mutex, starting_at as mutex_starting_at};
 use spin_ticket::testing::{next, starting_at};
+use std::alloc::Global;
+use std::process::Abort;
 use std::sync::Wait;
 use std::sync::atomic::AtomicBool;
 use std::sync::atomic::Ordering::SeqCst;
@@ -120,24 +122,24 @@ fn enter<Q: Text, R: Wait>(rt: &R, queue: &Q, before: u64) -> bool {
     queue.append(rt, before.wrapping_add(1), 3) && in_order
 }
 
-// Whether three came one after the other while the first was in.
-fn enter_in_three<Q: Text + Sync, R: Threads + Wait + Sync>(rt: &R, queue: &Q) -> bool {
-    let others = || {
-        let (second, third) = thread::join(rt, || enter(rt, queue, 1), || enter(rt, queue, 2));
-        second && third
-    };
-    let (first, others) = thread::join(rt, || enter(rt, queue, 0), others);
-    first && others
+// Three come one after the other while the first is in.
+fn enter_in_three<Q: Text + Sync, R: Abort + Threads + Wait + Sync>(
+    rt: &R,
+    alloc: Global,
+    queue: &Q,
+) {
+    let enter_one = |index: usize| enter(rt, queue, index as u64);
+    let in_order = thread::map_indices(rt, alloc, 3, &enter_one).expect(rt, "memory");
+    equal(rt, in_order.as_slice(), [true; 3].as_slice());
 }
 
 #[test]
 fn waiters_enter_in_the_order_in_which_they_came(rt: HostRuntime) {
     let lock: TicketMutex<u64, Yield> = TicketMutex::new(0);
-    equal(&rt, enter_in_three(&rt, &lock), true);
-    equal(&rt, lock.into_inner(), 123);
+    enter_in_three(&rt, rt.alloc(), &lock);
     let mutex: Mutex<u64, Yield> = Mutex::new(0);
-    equal(&rt, enter_in_three(&rt, &mutex), true);
-    equal(&rt, mutex.into_inner(), 123);
+    enter_in_three(&rt, rt.alloc(), &mutex);
+    equal(&rt, (lock.into_inner(), mutex.into_inner()), (123, 123));
 }
 
 const TURNS: u64 = 8_000;
@@ -184,6 +186,15 @@ impl Relay {
         self.looked.store(true, SeqCst);
         locked
     }
+
+    // The first looks, and two take turns.
+    fn act<R: Wait>(&self, rt: &R, index: usize) -> bool {
+        if index == 0 {
+            return self.look();
+        }
+        self.run(rt);
+        true
+    }
 }
 
 #[test]
@@ -192,9 +203,7 @@ fn a_look_never_finds_a_lock_free_that_is_handed_on(rt: HostRuntime) {
         lock: TicketMutex::new(0),
         looked: AtomicBool::new(false),
     };
-    let run_both = || {
-        thread::join(&rt, || relay.run(&rt), || relay.run(&rt));
-    };
-    let ((), locked) = thread::join(&rt, run_both, || relay.look());
-    equal(&rt, locked, true);
+    let act = |index: usize| relay.act(&rt, index);
+    let locked = thread::map_indices(&rt, rt.alloc(), 3, &act).expect(&rt, "memory");
+    equal(&rt, locked.as_slice(), [true; 3].as_slice());
 }
