@@ -15,31 +15,33 @@ fn count(runs: &Cell<u32>) {
     runs.set(runs.get().wrapping_add(1));
 }
 
+// By a closure that gives the value.
+fn make<R: Wait>(rt: &R, once: &Once<u64>, runs: &Cell<u32>, value: u64) -> u64 {
+    let give = || {
+        count(runs);
+        value
+    };
+    *once.call_once(rt, give)
+}
+
+// By a closure that gives none.
+fn fail<R: Wait>(rt: &R, once: &Once<u64>, runs: &Cell<u32>) -> Result<u64, ()> {
+    let give = || {
+        count(runs);
+        Err(())
+    };
+    once.try_call_once(rt, give).copied()
+}
+
 #[test]
 fn a_closure_that_fails_leaves_the_next_one_its_turn(rt: HostRuntime) {
     let runs = Cell::new(0u32);
     let once: Once<u64> = Once::new();
-    let failed = once.try_call_once(&rt, || {
-        count(&runs);
-        Err(())
-    });
-    equal(&rt, failed.copied(), Err(()));
+    equal(&rt, fail(&rt, &once, &runs), Err(()));
     equal(&rt, once.get().copied(), None);
-    let seven = once.call_once(&rt, || {
-        count(&runs);
-        7
-    });
-    equal(&rt, *seven, 7);
-    let seven = once.call_once(&rt, || {
-        count(&runs);
-        8
-    });
-    equal(&rt, *seven, 7);
-    let seven = once.try_call_once(&rt, || {
-        count(&runs);
-        Err(())
-    });
-    equal(&rt, seven.copied(), Ok(7));
+    equal(&rt, make(&rt, &once, &runs, 7), 7);
+    equal(&rt, make(&rt, &once, &runs, 8), 7);
+    equal(&rt, fail(&rt, &once, &runs), Ok(7));
     equal(&rt, runs.get(), 2);
 }
 
@@ -93,19 +95,28 @@ fn its_owner_changes_the_value(rt: HostRuntime) {
     }
     equal(&rt, once.is_completed(), true);
     equal(&rt, once.try_into_inner(), Some(6));
+}
+
+#[test]
+fn its_owner_changes_a_value_that_was_made(rt: HostRuntime) {
+    let runs = Cell::new(0u32);
     let mut once: Once<u64> = Once::new();
-    equal(&rt, once.get_mut().is_none(), true);
-    equal(&rt, *once.call_once(&rt, || 7), 7);
-    if let Some(value) = once.get_mut() {
+    equal(&rt, lends(&mut once).is_none(), true);
+    equal(&rt, make(&rt, &once, &runs, 7), 7);
+    if let Some(value) = lends(&mut once) {
         *value = 8;
     }
     equal(&rt, once.get().copied(), Some(8));
-    equal(&rt, *once.call_once(&rt, || 9), 8);
+    equal(&rt, make(&rt, &once, &runs, 9), 8);
     equal(&rt, once.poll(&rt).copied(), Some(8));
     equal(&rt, *once.wait(&rt), 8);
     equal(&rt, once.try_into_inner(), Some(8));
+}
+
+#[test]
+fn its_owner_finds_no_value_and_leaves_none(rt: HostRuntime) {
     let mut once: Once<u64> = Once::new();
-    equal(&rt, once.get_mut().is_none(), true);
+    equal(&rt, lends(&mut once).is_none(), true);
     equal(&rt, once.try_into_inner(), None);
 }
 
