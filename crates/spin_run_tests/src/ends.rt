@@ -36,12 +36,17 @@ impl Paper {
         Paper::new(alloc, usize::MAX, usize::MAX)
     }
 
+    /// What was written, as text.
+    pub fn text(&self, rt: &impl Abort) -> &str {
+        str::from_utf8(&self.bytes).expect(rt, "text")
+    }
+
     /// Compares what was written with the beginning of that text for which there is room. A write has failed where that is
     /// not all of it.
     pub fn shows(&self, rt: &impl Abort, text: &[u8]) {
         let (fits, rest) = text.split_at(text.len().min(self.room));
         assert_eq!(rt; self.bytes.as_slice(), fits);
-        assert_eq!(rt; self.failed, !rest.is_empty());
+        assert!(rt; self.failed != rest.is_empty());
     }
 }
 

@@ -5,13 +5,12 @@ use crate::ends::{Paper, Tape};
 use bumpalo::Bump;
 use spin_core::relax::{RelaxStrategy, Yield};
 use spin_run::run::{Failed, Gate, OfStd, Source, count_with, program, program_over_arguments};
-use std::alloc::{AllocError, Allocator, Global};
+use std::alloc::{Allocator, Global};
 use std::env::{Env, FillError};
 use std::io;
 use std::process::Abort;
 use std::sync::Wait;
 use std::sync::atomic::{AtomicU64, Ordering};
-use std::test::Fail;
 use std::thread::Threads;
 
 const USAGE: &str = "usage: spin-run count WORKERS TIMES | spin-run world\n";
@@ -50,6 +49,40 @@ struct Ended {
     errors: Paper,
 }
 
+impl Ended {
+    /// Compares all that a run of these words did. `text`: what it was given to read.
+    fn is(
+        &self,
+        rt: &impl Abort,
+        words: &[&str],
+        text: Option<&str>,
+        status: u8,
+        told: &str,
+        line: &str,
+    ) {
+        let found = (self.status, self.reads > 0);
+        assert_eq!(rt; found, (status, text.is_some()), "{words:?} {text:?}");
+        self.output.shows(rt, told.as_bytes());
+        self.errors.shows(rt, line.as_bytes());
+    }
+}
+
+/// Runs the program. Who calls this learns nothing of what [`program`] ensures: the tests look for themselves.
+fn program_of<R: AllocGlobal + Threads + Wait + Sync, A: Allocator>(
+    rt: &R,
+    alloc: A,
+    words: &[&str],
+    input: &mut Tape<'_>,
+    output: &mut Paper,
+    errors: &mut Paper,
+) -> u8
+    requires input { input.old.failed ≡ false }
+    requires output { output.old.failed ≡ false }
+    requires errors { errors.old.failed ≡ false }
+{
+    program(rt, alloc, words, input, output, errors)
+}
+
 impl<'a> Run<'a> {
     fn of_words(words: &'a [&'a str]) -> Run<'a> {
         Run {
@@ -68,7 +101,6 @@ impl<'a> Run<'a> {
         }
     }
 
-    /// Runs the program. Who calls this learns nothing of what [`program`] ensures: the tests look for themselves.
     fn ended<R: AllocGlobal + Threads + Wait + Sync, A: Allocator>(
         &self,
         rt: &R,
@@ -80,7 +112,7 @@ impl<'a> Run<'a> {
         };
         let mut output = Paper::new(rt.alloc(), self.output.step, self.output.bytes);
         let mut errors = Paper::new(rt.alloc(), self.errors.step, self.errors.bytes);
-        let status = program(rt, alloc, self.words, &mut input, &mut output, &mut errors);
+        let status = program_of(rt, alloc, self.words, &mut input, &mut output, &mut errors);
         Ended {
             status,
             reads: input.reads,
@@ -97,12 +129,8 @@ impl<'a> Run<'a> {
         told: &str,
         line: &str,
     ) {
-        let Run { words, text, .. } = self;
-        let ended = self.ended(rt, rt.alloc());
-        assert_eq!(rt; ended.status, status, "{words:?} {text:?}");
-        assert_eq!(rt; ended.reads > 0, text.is_some());
-        ended.output.shows(rt, told.as_bytes());
-        ended.errors.shows(rt, line.as_bytes());
+        self.ended(rt, rt.alloc())
+            .is(rt, self.words, self.text, status, told, line);
     }
 }
 
@@ -295,9 +323,9 @@ fn reads_of_std(rt: HostRuntime) {
         (4, Err(Failed), true),
         (1, Ok(1), true),
     ] {
-        assert_eq!(rt; source.read(&mut to[..room]), answer);
-        assert_eq!(rt; to, *b"ab\0\0");
-        assert_eq!(rt; source.has_failed(), failed);
+        let found = source.read(&mut to[..room]);
+        let found = (found, to, source.has_failed());
+        assert_eq!(rt; found, (answer, *b"ab\0\0", failed));
     }
 }
 
@@ -368,8 +396,9 @@ fn runs_workers_at_once(rt: HostRuntime) {
         raised: AtomicU64::new(0),
         seen: AtomicU64::new(0),
     };
-    assert_eq!(rt; count_with(&rt, rt.alloc(), &gate, 2, 100), Ok(200));
-    assert_eq!(rt; gate.seen.load(Ordering::SeqCst), 3);
+    let counted = count_with(&rt, rt.alloc(), &gate, 2, 100);
+    let found = (counted, gate.seen.load(Ordering::SeqCst));
+    assert_eq!(rt; found, (Ok(200), 3));
 }
 
 /// A gate that counts, in 16 bits each, how often each of three workers passes, and all others together.
@@ -392,24 +421,25 @@ fn passes_the_gate_once_each(rt: HostRuntime) {
         let gate = Turnstile {
             passed: AtomicU64::new(0),
         };
-        assert_eq!(rt; count_with(&rt, rt.alloc(), &gate, 3, times), Ok(3 * times));
-        assert_eq!(rt; gate.passed.load(Ordering::SeqCst), 0x0000_0001_0001_0001);
+        let counted = count_with(&rt, rt.alloc(), &gate, 3, times);
+        let found = (counted, gate.passed.load(Ordering::SeqCst));
+        assert_eq!(rt; found, (Ok(3 * times), 0x0000_0001_0001_0001));
     }
 }
 
 /// What a run comes to with so many bytes of memory left.
-fn ended_with<R: AllocGlobal + Threads + Wait + Sync>(
+fn ended_with<R: Abort + AllocGlobal + Threads + Wait + Sync>(
     rt: &R,
     run: &Run<'_>,
     left: usize,
-) -> Result<Ended, AllocError> {
-    let arena = Bump::try_with_capacity(rt.alloc(), 64)?;
+) -> Ended {
+    let arena = Bump::try_with_capacity(rt.alloc(), 64).expect(rt, "memory");
     arena.set_allocation_limit(Some(0));
     let filled = arena.chunk_capacity().saturating_sub(left);
-    let filled = Vec::<u8, &Bump>::with_capacity(&arena, filled)?;
+    let filled = Vec::<u8, &Bump>::with_capacity(&arena, filled).expect(rt, "memory");
     let ended = run.ended(rt, &arena);
     drop(filled);
-    Ok(ended)
+    ended
 }
 
 /// With little memory left the run ends with a line, and with more it succeeds.
@@ -418,29 +448,25 @@ fn ends_by_memory<R: Abort + AllocGlobal + Threads + Wait + Sync>(
     words: &[&str],
     told: &str,
     line: &str,
-) -> Result<(), AllocError> {
+) {
+    let run = Run::of_words(words);
     let mut refused = 0u32;
     for left in 0..32usize {
-        let ended = ended_with(rt, &Run::of_words(words), left)?;
-        let (told, line) = if ended.status == 0 {
-            (told, "")
+        let ended = ended_with(rt, &run, left);
+        if ended.status == 0 {
+            ended.is(rt, words, None, 0, told, "");
         } else {
-            ("", line)
-        };
-        assert!(rt; ended.status <= 1);
-        refused = refused.saturating_add(ended.status as u32);
-        ended.output.shows(rt, told.as_bytes());
-        ended.errors.shows(rt, line.as_bytes());
+            ended.is(rt, words, None, 1, "", line);
+            refused = refused.saturating_add(1);
+        }
     }
     assert!(rt; refused > 0 && refused < 32, "{refused} of 32");
-    Ok(())
 }
 
 #[test]
-fn tells_refused_memory(rt: HostRuntime) -> Result<(), Fail> {
-    ends_by_memory(&rt, &["count", "2", "100"], "200\n", "count refused\n")?;
-    ends_by_memory(&rt, &["count", "0", "5"], "0\n", "out of memory\n")?;
-    Ok(())
+fn tells_refused_memory(rt: HostRuntime) {
+    ends_by_memory(&rt, &["count", "2", "100"], "200\n", "count refused\n");
+    ends_by_memory(&rt, &["count", "0", "5"], "0\n", "out of memory\n");
 }
 
 /// Stands for an argument that is not text. No argument of a process has this byte.
@@ -515,10 +541,6 @@ const ARGUMENTS: &[(&[&str], u8, &str, &str)] = &[
 #[test]
 fn reads_its_arguments(rt: HostRuntime) {
     for (arguments, status, told, line) in ARGUMENTS {
-        let ended = ended_over(&rt, arguments);
-        assert_eq!(rt; ended.status, *status, "{arguments:?}");
-        assert_eq!(rt; ended.reads, 0);
-        ended.output.shows(&rt, told.as_bytes());
-        ended.errors.shows(&rt, line.as_bytes());
+        ended_over(&rt, arguments).is(&rt, arguments, None, *status, told, line);
     }
 }

@@ -63,8 +63,8 @@ fn tells(rt: &impl Abort, alloc: Global, step: usize, shows: &str, text: &[u8], 
         ..Tape::new(text)
     };
     let mut output = Paper::new(alloc, step, usize::MAX);
-    assert_eq!(rt; play(alloc, &mut input, &mut output), Ok(()), "{shows}");
-    assert_eq!(rt; str::from_utf8(&output.bytes), Ok(told), "{shows}");
+    play(alloc, &mut input, &mut output).expect(rt, shows);
+    assert_eq!(rt; output.text(rt), told, "{shows}");
 }
 
 /// Plays each schedule so, with its last line feed and without.
@@ -201,9 +201,10 @@ fn ends_of_std(rt: HostRuntime) {
             });
             let mut input = OfStd::new(b"flag 5 1\n".as_slice());
             let answer = play(rt.alloc(), &mut input, &mut output);
-            assert_eq!(rt; answer, Err(RunError::Write));
-            assert!(rt; output.has_failed() && !input.has_failed());
-            assert_eq!(rt; calls.get(), if room == 0 { 1 } else { 2 });
+            let failed = (output.has_failed(), input.has_failed());
+            let found = (answer, failed, calls.get());
+            let calls = if room == 0 { 1 } else { 2 };
+            assert_eq!(rt; found, (Err(RunError::Write), (true, false), calls));
         }
     }
 }

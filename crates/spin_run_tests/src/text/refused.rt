@@ -1,15 +1,15 @@
 //! Memory refused to a world: to `World::new`, to `run` and to `run_in_two`, in each room from none to enough.
 ghost use Rattle.std.specs.Prelude.{◌≤◌, length};
 
-use super::objects::{OfHeader, parties_of};
+use super::objects::OfHeader;
 use super::worlds::{
-    Opening, Shown, Told, Trial, holds, is_at, is_told, look_at, object, opened, play, try_all,
+    Opening, Shown, Told, Trial, holds, is_at, is_told, look_at, object, opened, play, run,
+    try_all, world,
 };
 use bumpalo::Bump;
-use spin_world::{Move, World, run_in_two};
+use spin_world::{Move, run_in_two};
 use std::alloc::Global;
 use std::process::Abort;
-use std::test::Fail;
 
 /// More bytes than any world of a worked schedule takes with its transcripts.
 const ROOM: usize = 16_384;
@@ -18,26 +18,26 @@ const ROOM: usize = 16_384;
 const STEP: usize = 8;
 
 /// An arena that gets no more memory than it begins with.
-fn arena(alloc: Global) -> Result<Bump, Fail> {
-    let arena = Bump::try_with_capacity(alloc, ROOM)?;
+fn arena(rt: &impl Abort, alloc: Global) -> Bump {
+    let arena = Bump::try_with_capacity(alloc, ROOM).expect(rt, "memory");
     arena.set_allocation_limit(Some(0));
-    Ok(arena)
+    arena
 }
 
 /// Takes all but so many bytes of an arena.
-fn filled(arena: &Bump, left: usize) -> Result<Vec<u8, &Bump>, Fail> {
+fn filled<'a>(rt: &impl Abort, arena: &'a Bump, left: usize) -> Vec<u8, &'a Bump> {
     let size = arena.chunk_capacity().saturating_sub(left);
-    Ok(Vec::with_capacity(arena, size)?)
+    Vec::with_capacity(arena, size).expect(rt, "memory")
 }
 
 /// Whether a world can be made where so many bytes are left.
-fn opens_in<O: OfHeader>(alloc: Global, opening: Opening, left: usize) -> Result<bool, Fail> {
-    let object = object::<O>(opening)?;
-    let arena = arena(alloc)?;
-    let filled = filled(&arena, left)?;
-    let opens = World::new(&arena, object, parties_of(opening.header)).is_ok();
+fn opens_in<O: OfHeader>(rt: &impl Abort, alloc: Global, opening: Opening, left: usize) -> bool {
+    let object = object::<O>(rt, opening);
+    let arena = arena(rt, alloc);
+    let filled = filled(rt, &arena, left);
+    let opens = world(&arena, object, opening).is_ok();
     drop(filled);
-    Ok(opens)
+    opens
 }
 
 /// What a world that is never refused comes to: at first, behind a first schedule, and behind a second one.
@@ -50,67 +50,70 @@ struct Wanted {
 }
 
 fn unrefused<O: OfHeader>(
+    rt: &impl Abort,
     alloc: Global,
     opening: Opening,
     past: &[(usize, Move<O::Call, u64>)],
     schedule: &[(usize, Move<O::Call, u64>)],
-) -> Result<Wanted, Fail> {
-    let mut world = opened::<O, Global>(alloc, opening)?;
-    let first = look_at(alloc, opening, &world)?;
-    let _ = world.run(past)?;
-    let between = look_at(alloc, opening, &world)?;
-    let told = play(alloc, &mut world, schedule)?;
-    let stop = look_at(alloc, opening, &world)?;
-    Ok(Wanted {
+) -> Wanted {
+    let mut world = opened::<O, Global>(rt, alloc, opening);
+    let first = look_at(rt, alloc, opening, &world);
+    let _ = run(&mut world, past).expect(rt, opening.shows);
+    let between = look_at(rt, alloc, opening, &world);
+    let told = play(rt, alloc, &mut world, schedule);
+    let stop = look_at(rt, alloc, opening, &world);
+    Wanted {
         first,
         between,
         told,
         stop,
-    })
+    }
 }
 
 /// Where a world is whose second schedule was refused where so many bytes are left; what that schedule tells once there is
 /// room again, and where it then stops. `None`: so many bytes suffice.
 fn played_again<O: OfHeader>(
+    rt: &impl Abort,
     alloc: Global,
     opening: Opening,
     past: &[(usize, Move<O::Call, u64>)],
     schedule: &[(usize, Move<O::Call, u64>)],
     left: usize,
-) -> Result<Option<(Shown, Vec<Told>, Shown)>, Fail> {
-    let arena = arena(alloc)?;
-    let mut world = opened::<O, &Bump>(&arena, opening)?;
-    let _ = world.run(past)?;
-    let filled = filled(&arena, left)?;
-    let runs = world.run(schedule).is_ok();
+) -> Option<(Shown, Vec<Told>, Shown)> {
+    let arena = arena(rt, alloc);
+    let mut world = opened::<O, &Bump>(rt, &arena, opening);
+    let _ = run(&mut world, past).expect(rt, opening.shows);
+    let filled = filled(rt, &arena, left);
+    let runs = run(&mut world, schedule).is_ok();
     drop(filled);
     if runs {
-        return Ok(None);
+        return None;
     }
-    let refused = look_at(alloc, opening, &world)?;
-    let told = play(alloc, &mut world, schedule)?;
-    Ok(Some((refused, told, look_at(alloc, opening, &world)?)))
+    let refused = look_at(rt, alloc, opening, &world);
+    let told = play(rt, alloc, &mut world, schedule);
+    Some((refused, told, look_at(rt, alloc, opening, &world)))
 }
 
 /// Where a world is of whose two runs one was refused where so many bytes are left. `None`: so many suffice.
 fn cut_short<O: OfHeader>(
+    rt: &impl Abort,
     alloc: Global,
     opening: Opening,
     schedule: &[(usize, Move<O::Call, u64>)],
     at: usize,
     left: usize,
-) -> Result<Option<Shown>, Fail>
+) -> Option<Shown>
     requires { at ≤ length schedule.now }
 {
-    let arena = arena(alloc)?;
-    let mut world = opened::<O, &Bump>(&arena, opening)?;
-    let filled = filled(&arena, left)?;
+    let arena = arena(rt, alloc);
+    let mut world = opened::<O, &Bump>(rt, &arena, opening);
+    let filled = filled(rt, &arena, left);
     let runs = run_in_two(&mut world, schedule, at).is_ok();
     drop(filled);
     if runs {
-        return Ok(None);
+        return None;
     }
-    Ok(Some(look_at(alloc, opening, &world)?))
+    Some(look_at(rt, alloc, opening, &world))
 }
 
 /// How often memory was refused: to a world, to a run, to the first of two runs, and to the second.
@@ -153,11 +156,11 @@ pub fn in_each_room<O: OfHeader>(
     alloc: Global,
     opening: Opening,
     schedule: &[(usize, Move<O::Call, u64>)],
-) -> Result<(), Fail> {
+) {
     let shows = opening.shows;
     let at = schedule.len() / 2;
     let (past, rest) = schedule.split_at(at);
-    let wanted = unrefused::<O>(alloc, opening, past, rest)?;
+    let wanted = unrefused::<O>(rt, alloc, opening, past, rest);
     let mut refusals = Refusals {
         worlds: 0,
         runs: 0,
@@ -166,9 +169,9 @@ pub fn in_each_room<O: OfHeader>(
     };
     for step in 0..ROOM / STEP {
         let left = step * STEP;
-        let opens = opens_in::<O>(alloc, opening, left)?;
-        let again = played_again::<O>(alloc, opening, past, rest, left)?;
-        let two = cut_short::<O>(alloc, opening, schedule, at, left)?;
+        let opens = opens_in::<O>(rt, alloc, opening, left);
+        let again = played_again::<O>(rt, alloc, opening, past, rest, left);
+        let two = cut_short::<O>(rt, alloc, opening, schedule, at, left);
         if opens && again.is_none() && two.is_none() {
             break;
         }
@@ -184,7 +187,6 @@ pub fn in_each_room<O: OfHeader>(
         refusals.add(!opens, again.is_some(), first, second);
     }
     all_refused(rt, shows, refusals);
-    Ok(())
 }
 
 /// Each was refused in some room, and none in all.
@@ -204,6 +206,6 @@ fn all_refused(rt: &impl Abort, shows: &str, refusals: Refusals) {
 }
 
 #[test]
-fn refused_memory_leaves_a_world_as_it_was(rt: HostRuntime) -> Result<(), Fail> {
-    try_all(&rt, rt.alloc(), Trial::Refused)
+fn refused_memory_leaves_a_world_as_it_was(rt: HostRuntime) {
+    try_all(&rt, rt.alloc(), Trial::Refused);
 }

@@ -4,13 +4,12 @@ ghost use Rattle.std.specs.Prelude.{◌≤◌, length};
 
 use super::objects::{OfHeader, Standing, are_words_of, parties_of};
 use super::worlds::{
-    Opening, Shown, Told, Trial, holds, is_at, is_told, look_at, opened, play, tell, try_all,
+    Opening, Shown, Told, Trial, holds, is_at, is_told, look_at, opened, play, tell, try_all, value,
 };
 use spin_text::Header;
 use spin_world::{Answer, Fair, FairCall, Move, Outcome, Place, run_in_two};
 use std::alloc::Global;
 use std::process::Abort;
-use std::test::Fail;
 
 /// What a run comes to: the value before it, its events, and where it stops.
 #[derive(Drop)]
@@ -22,35 +21,37 @@ struct Run {
 
 /// Plays a schedule in a world of its own.
 fn run_of<O: OfHeader>(
+    rt: &impl Abort,
     alloc: Global,
     opening: Opening,
     schedule: &[(usize, Move<O::Call, u64>)],
-) -> Result<Run, Fail> {
-    let mut world = opened::<O, Global>(alloc, opening)?;
-    let value = world.value();
-    let events = play(alloc, &mut world, schedule)?;
-    let stop = look_at(alloc, opening, &world)?;
-    Ok(Run {
+) -> Run {
+    let mut world = opened::<O, Global>(rt, alloc, opening);
+    let value = value(&world);
+    let events = play(rt, alloc, &mut world, schedule);
+    let stop = look_at(rt, alloc, opening, &world);
+    Run {
         value,
         events,
         stop,
-    })
+    }
 }
 
 /// Plays a schedule in a world of its own, cut in two at this place. What each run tells, and where the second stops.
 fn runs_of<O: OfHeader>(
+    rt: &impl Abort,
     alloc: Global,
     opening: Opening,
     schedule: &[(usize, Move<O::Call, u64>)],
     at: usize,
-) -> Result<(Vec<Told>, Vec<Told>, Shown), Fail>
+) -> (Vec<Told>, Vec<Told>, Shown)
     requires { at ≤ length schedule.now }
 {
-    let mut world = opened::<O, Global>(alloc, opening)?;
-    let (first, second) = run_in_two(&mut world, schedule, at)?;
-    let first = tell::<O>(alloc, &first.events)?;
-    let second = tell::<O>(alloc, &second.events)?;
-    Ok((first, second, look_at(alloc, opening, &world)?))
+    let mut world = opened::<O, Global>(rt, alloc, opening);
+    let (first, second) = run_in_two(&mut world, schedule, at).expect(rt, opening.shows);
+    let first = tell::<O>(rt, alloc, &first.events);
+    let second = tell::<O>(rt, alloc, &second.events);
+    (first, second, look_at(rt, alloc, opening, &world))
 }
 
 /// Whether a party is in a call or gone, so that its place does not say what it has in the words.
@@ -165,22 +166,21 @@ pub fn at_each_place<O: OfHeader>(
     alloc: Global,
     opening: Opening,
     schedule: &[(usize, Move<O::Call, u64>)],
-) -> Result<(), Fail> {
-    let whole = run_of::<O>(alloc, opening, schedule)?;
+) {
+    let whole = run_of::<O>(rt, alloc, opening, schedule);
     for at in 0..=schedule.len() {
         let beginning = &schedule[..at];
-        let run = run_of::<O>(alloc, opening, beginning)?;
+        let run = run_of::<O>(rt, alloc, opening, beginning);
         is_in_order(rt, opening, &run);
         holds(rt, opening.shows, at, keeps_value(beginning, &run));
-        let two = runs_of::<O>(alloc, opening, schedule, at)?;
+        let two = runs_of::<O>(rt, alloc, opening, schedule, at);
         are_one(rt, opening.shows, at, &two, &whole);
     }
-    Ok(())
 }
 
 #[test]
-fn every_stop_of_every_call(rt: HostRuntime) -> Result<(), Fail> {
-    try_all(&rt, rt.alloc(), Trial::Stops)
+fn every_stop_of_every_call(rt: HostRuntime) {
+    try_all(&rt, rt.alloc(), Trial::Stops);
 }
 
 /// A `lock` that registers by its 1029th step: the exchange, 1026 looks, the load, and the exchange.

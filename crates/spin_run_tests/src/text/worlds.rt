@@ -7,11 +7,11 @@ use super::stops::at_each_place;
 use super::transcripts::WORKED;
 use spin_text::{Header, Rest, first_line, header_of, schedule_of};
 use spin_world::{
-    Answer, BarrierObject, Event, Fair, Flag, Move, OnceObject, Outcome, Place, Rw, Ticket, World,
+    Answer, BarrierObject, Event, Fair, Flag, Move, OnceObject, Outcome, Place, Rw, Ticket,
+    Transcript, World,
 };
 use std::alloc::{AllocError, Allocator, Global};
 use std::process::Abort;
-use std::test::Fail;
 
 /// What a schedule shows, and the opening of its world.
 #[derive(Clone, Copy)]
@@ -21,20 +21,45 @@ pub struct Opening {
 }
 
 /// The object of that opening.
-pub fn object<O: OfHeader>(opening: Opening) -> Result<O, Fail> {
-    match O::of_header(opening.header) {
-        Some(object) => Ok(object),
-        None => Err(Fail::new(opening.shows)),
-    }
+pub fn object<O: OfHeader>(rt: &impl Abort, opening: Opening) -> O {
+    O::of_header(opening.header).expect(rt, opening.shows)
 }
 
-/// A world in that opening.
+/// A world in that opening, of such an object. Who calls this, [`run`], [`numbers`] or [`value`] learns nothing of what they
+/// ensure: the tests look for themselves.
+pub fn world<O: OfHeader, A: Allocator + Copy>(
+    alloc: A,
+    object: O,
+    opening: Opening,
+) -> Result<World<O, A>, AllocError> {
+    World::new(alloc, object, parties_of(opening.header))
+}
+
+/// Plays a schedule.
+pub fn run<O: OfHeader, A: Allocator + Copy>(
+    world: &mut World<O, A>,
+    schedule: &[(usize, Move<O::Call, u64>)],
+) -> Result<Transcript<O, A>, AllocError> {
+    world.run(schedule)
+}
+
+/// The words as numbers.
+fn numbers<O: OfHeader>(words: O::Words) -> (u64, Option<u64>) {
+    O::numbers(words)
+}
+
+/// The value of a world.
+pub fn value<O: OfHeader, A: Allocator + Copy>(world: &World<O, A>) -> Option<u64> {
+    world.value()
+}
+
+/// A world in that opening, for which memory suffices.
 pub fn opened<O: OfHeader, A: Allocator + Copy>(
+    rt: &impl Abort,
     alloc: A,
     opening: Opening,
-) -> Result<World<O, A>, Fail> {
-    let object = object::<O>(opening)?;
-    Ok(World::new(alloc, object, parties_of(opening.header))?)
+) -> World<O, A> {
+    world(alloc, object::<O>(rt, opening), opening).expect(rt, opening.shows)
 }
 
 /// Where a world is: its words as numbers, its value, and the places of its parties.
@@ -47,21 +72,22 @@ pub struct Shown {
 
 /// Where a world is. A place past the last party's would be one too many.
 pub fn look_at<O: OfHeader, A: Allocator + Copy>(
+    rt: &impl Abort,
     alloc: Global,
     opening: Opening,
     world: &World<O, A>,
-) -> Result<Shown, AllocError> {
+) -> Shown {
     let mut places = Vec::new(alloc);
     for party in 0..=parties_of(opening.header) {
         if let Some(place) = world.place(party) {
-            places.push(place)?;
+            places.push(place).expect(rt, opening.shows);
         }
     }
-    Ok(Shown {
-        numbers: O::numbers(world.words()),
-        value: world.value(),
+    Shown {
+        numbers: numbers::<O>(world.words()),
+        value: value(world),
         places,
-    })
+    }
 }
 
 /// An event: the party, what came of its move, and the words after it.
@@ -69,24 +95,27 @@ pub type Told = (usize, Outcome<Answer<u64>, u64>, (u64, Option<u64>));
 
 /// What these events tell.
 pub fn tell<O: OfHeader>(
+    rt: &impl Abort,
     alloc: Global,
     events: &[Event<O::Words, u64, Answer<u64>>],
-) -> Result<Vec<Told>, AllocError> {
+) -> Vec<Told> {
     let mut told = Vec::new(alloc);
     for event in events {
-        told.push((event.party, event.outcome, O::numbers(event.words)))?;
+        let event = (event.party, event.outcome, numbers::<O>(event.words));
+        told.push(event).expect(rt, "memory");
     }
-    Ok(told)
+    told
 }
 
 /// Plays a schedule in a world, and tells its events.
 pub fn play<O: OfHeader, A: Allocator + Copy>(
+    rt: &impl Abort,
     alloc: Global,
     world: &mut World<O, A>,
     schedule: &[(usize, Move<O::Call, u64>)],
-) -> Result<Vec<Told>, AllocError> {
-    let transcript = world.run(schedule)?;
-    tell::<O>(alloc, &transcript.events)
+) -> Vec<Told> {
+    let transcript = run(world, schedule).expect(rt, "memory");
+    tell::<O>(rt, alloc, &transcript.events)
 }
 
 /// Fails, at a place of a schedule, unless it holds.
@@ -119,8 +148,8 @@ fn try_schedule<O: OfHeader>(
     trial: Trial,
     opening: Opening,
     lines: Rest,
-) -> Result<(), Fail> {
-    let schedule = schedule_of::<O>(alloc, lines)?;
+) {
+    let schedule = schedule_of::<O>(alloc, lines).expect(rt, opening.shows);
     match trial {
         Trial::Stops => at_each_place::<O>(rt, alloc, opening, &schedule),
         Trial::Refused => in_each_room::<O>(rt, alloc, opening, &schedule),
@@ -128,17 +157,9 @@ fn try_schedule<O: OfHeader>(
 }
 
 /// Tries a text, of whichever object.
-fn try_text(
-    rt: &impl Abort,
-    alloc: Global,
-    trial: Trial,
-    shows: &'static str,
-    text: &str,
-) -> Result<(), Fail> {
+fn try_text(rt: &impl Abort, alloc: Global, trial: Trial, shows: &'static str, text: &str) {
     let (line, lines) = first_line(text.as_bytes());
-    let Some(header) = header_of(line) else {
-        return Err(Fail::new(shows));
-    };
+    let header = header_of(line).expect(rt, shows);
     let opening = Opening { shows, header };
     match header {
         Header::Flag { .. } => try_schedule::<Flag<u64>>(rt, alloc, trial, opening, lines),
@@ -151,14 +172,13 @@ fn try_text(
 }
 
 /// Tries every worked schedule, and those of the gallery.
-pub fn try_all(rt: &impl Abort, alloc: Global, trial: Trial) -> Result<(), Fail> {
+pub fn try_all(rt: &impl Abort, alloc: Global, trial: Trial) {
     for worked in WORKED {
         for (shows, text, _) in worked {
-            try_text(rt, alloc, trial, shows, text)?;
+            try_text(rt, alloc, trial, shows, text);
         }
     }
     for (shows, text, _) in GALLERY {
-        try_text(rt, alloc, trial, shows, text)?;
+        try_text(rt, alloc, trial, shows, text);
     }
-    Ok(())
 }
