@@ -1,5 +1,5 @@
 -- Barriers that are wrong, each in one part of its machine, and schedules on which the laws refuse them.
-use Rattle.std.specs.Prelude.{ℕ, ◌==◌, ◌&&◌, Option, Some, None, [], ◌∷◌}
+use Rattle.std.specs.Prelude.{ℕ, ◌==◌, ◌&&◌, Option, Some, None, [], ◌∷◌, ◌+◌}
 use Rattle.spin_world_core.specs.declared.place.Hold.{Hold}
 use Rattle.spin_world_core.specs.declared.object.Next.TheVariants.{GoesOn, Answers}
 use Rattle.spin_world_core.specs.declared.object.Stepped.{Stepped}
@@ -115,3 +115,14 @@ one_group = (0, Begin Wait) ∷ (0, Step) ∷ (1, Begin Wait) ∷ (1, Step) ∷ 
 
 abbrev pub one_group_and_one : Entries
 one_group_and_one = (0, Begin Wait) ∷ (0, Step) ∷ (1, Begin Wait) ∷ (1, Step) ∷ (2, Begin Wait) ∷ (2, Step) ∷ []
+
+-- whoever follows goes on only while the group after its own gathers
+abbrev next_step : Steps
+next_step w value c Arrive h = pairs.step w value c Arrive h
+next_step w value c (Leave g) h = record { words = w; placed = None; next = either (w.generation == g + 1) (Answers Follower h) (GoesOn (Leave g)) }
+
+abbrev pub leaves_in_the_next : BarrierMachine
+leaves_in_the_next = record pairs { step = next_step }
+
+abbrev pub two_groups : Entries
+two_groups = (0, Begin Wait) ∷ (0, Step) ∷ (1, Begin Wait) ∷ (1, Step) ∷ (2, Begin Wait) ∷ (2, Step) ∷ (3, Begin Wait) ∷ (3, Step) ∷ []

@@ -3,7 +3,7 @@ ghost use Rattle.spin_world_core.specs.Operations.{Stepwise};
 ghost use Rattle.spin_world_core.specs.Runs.{KeepsAll, MomentsAll, CountsAll};
 ghost use Rattle.spin_world_barrier.specs.Groups.{InGroups, FollowersLeave};
 ghost use Rattle.spin_world_barrier.specs.Named.{IsBarrierOf};
-ghost use Rattle.spin_world_barrier.specs.Wrong.{first_leads, leaves_early, nobody_leads, leads_late, told_late, leaves_in_quiet, never_begins, asks_for_a_value, leaves_by_chance, opens_with_one, gathers_three, one_call, one_arrival, two_steps, five_steps, an_arrival_and_chance, one_group, one_group_and_one};
+ghost use Rattle.spin_world_barrier.specs.Wrong.{first_leads, leaves_early, nobody_leads, leads_late, told_late, leaves_in_quiet, never_begins, asks_for_a_value, leaves_by_chance, opens_with_one, gathers_three, one_call, one_arrival, two_steps, five_steps, an_arrival_and_chance, one_group, one_group_and_one, leaves_in_the_next, two_groups};
 
 /// A barrier whose first arrival of each group leads: it fills no group.
 pub fn the_first_of_a_group_follows()
@@ -58,4 +58,9 @@ pub fn a_barrier_opens_empty()
 /// A barrier that gathers other groups than it was asked for, and is right otherwise.
 pub fn a_group_has_the_size_asked_for()
     ensures { IsBarrierOf 2 gathers_three → ⊥ }
+{}
+
+/// A follower that leaves only while the next group gathers: one that comes too late for that would wait for good.
+pub fn a_follower_leaves_after_later_groups()
+    ensures { FollowersLeave leaves_in_the_next 4 two_groups → ⊥ }
 {}

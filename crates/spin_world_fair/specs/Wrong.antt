@@ -270,3 +270,17 @@ spins_by_setting v = by_acts v 2 spinning_acts
 abbrev pub two_steps_of_a_starver : {V : Type 0} → Entries V
 two_steps_of_a_starver =
     (0, Begin TryLock) ∷ (0, Step) ∷ (1, Begin Starve) ∷ (1, Step) ∷ (1, Step) ∷ (1, Begin StarverLock) ∷ (1, Step) ∷ (1, Step) ∷ []
+
+-- `lock` begins its count anew where it has found the flag clear
+abbrev forgetting_acts : {V : Type 0} → Acts V
+forgetting_acts Lock (Look n) h = load_if is_set (λ w. either (nat_lt n 1) (GoesOn (Look (n + 1))) (GoesOn Load)) (λ w. GoesOn (Attempt 0))
+forgetting_acts c l h = act_of 2 1 c l h
+
+abbrev pub counts_anew : {V : Type 0} → V → Machine ℕ V FairCall FairPoint (Answer V)
+counts_anew v = by_acts v 2 forgetting_acts
+
+-- a look finds the flag set, the next one clear, and the exchange is lost to another; then three looks more
+abbrev pub lock_past_a_clear_flag : {V : Type 0} → Entries V
+lock_past_a_clear_flag =
+    (0, Begin TryLock) ∷ (0, Step) ∷ (1, Begin Lock) ∷ (1, Step) ∷ (1, Step) ∷ (0, Begin Release) ∷ (0, Step) ∷ (1, Step)
+    ∷ (0, Begin TryLock) ∷ (0, Step) ∷ (1, Step) ∷ (1, Step) ∷ (1, Step) ∷ (1, Step) ∷ []

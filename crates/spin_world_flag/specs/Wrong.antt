@@ -1,8 +1,9 @@
 -- Flags that are wrong, each in one part of its machine, and schedules on which the laws refuse them.
+use Rattle.spin_world_core.specs.declared.place.Hold.TheVariants.{Read}
 use Rattle.std.specs.Prelude.{ℕ, Bool, true, false, Option, Some, None, List, [], ◌∷◌}
 use Rattle.spin_world_core.specs.declared.object.Next.TheVariants.{GoesOn, Answers}
 use Rattle.spin_world_core.specs.declared.answer.Answer.{Answer}
-use Rattle.spin_world_core.specs.declared.answer.Answer.TheVariants.{Refused, Is}
+use Rattle.spin_world_core.specs.declared.answer.Answer.TheVariants.{Refused, Is, Granted}
 use Rattle.spin_world_flag.specs.declared.flag.FlagCall.{FlagCall}
 use Rattle.spin_world_flag.specs.declared.flag.FlagCall.TheVariants.{Lock, TryLock, TryLockWeak, IsLocked, Release}
 use Rattle.spin_world_flag.specs.declared.flag.FlagPoint.{FlagPoint}
@@ -12,7 +13,7 @@ use Rattle.spin_world_core.specs.declared.schedule.Move.TheVariants.{Begin, Step
 use Rattle.spin_world_core.specs.Machines.{Machine}
 use Rattle.spin_world_core.specs.Calls.{waits}
 use Rattle.spin_step.specs.Plain.{gets, to_read, to_write}
-use Rattle.spin_world_core.specs.Acts.{weak_exchange, Table, machine_of}
+use Rattle.spin_world_core.specs.Acts.{weak_exchange, Table, machine_of, exchange, swap}
 use Rattle.spin_world_flag.specs.Flag.{lock, granted, flag_table, flag_machine}
 
 abbrev FlagMachine : Type 0 → Type 0
@@ -79,3 +80,12 @@ never_looks {V} v =
 
 abbrev pub lock_beside_a_holder : {V : Type 0} → List (ℕ × Move FlagCall V)
 lock_beside_a_holder = (0, Begin TryLock) ∷ (0, Step) ∷ (1, Begin Lock) ∷ (1, Step) ∷ (1, Step) ∷ []
+
+-- a `try_lock` whose party is told that it reads
+abbrev pub grants_to_read : {V : Type 0} → V → FlagMachine V
+grants_to_read {V} v =
+    let t : Table Bool V FlagCall FlagPoint (Answer V) = flag_table v in
+    machine_of (record t { act = λ c l h. elim c [ TryLock ↦ exchange (swap 0 lock) (λ p. gets p to_write) (Answers Granted (Some Read)) (λ n. Answers Refused h) | Lock ↦ t.act Lock l h | TryLockWeak ↦ t.act TryLockWeak l h | IsLocked ↦ t.act IsLocked l h | Release ↦ t.act Release l h ] })
+
+abbrev pub whole_try : {V : Type 0} → List (ℕ × Move FlagCall V)
+whole_try = (0, Begin TryLock) ∷ (0, Step) ∷ []

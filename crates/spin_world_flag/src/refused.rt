@@ -3,7 +3,7 @@ ghost use Rattle.std.specs.Prelude.{◌≡◌, []};
 ghost use Rattle.spin_world_core.specs.Runs.{MomentsAll, CountsAll};
 ghost use Rattle.spin_world_core.specs.Operations.{Stepwise};
 ghost use Rattle.spin_world_core.specs.Runs.{KeepsAll};
-ghost use Rattle.spin_world_flag.specs.Wrong.{never_looks, lock_beside_a_holder, refuses_at_its_look, looks_first, lock_alone, looks_for_ever, two_looks, tries_by_chance, one_try, looks_by_chance, look_beside_a_holder, never_releases, locks_to_read, opens_set};
+ghost use Rattle.spin_world_flag.specs.Wrong.{never_looks, lock_beside_a_holder, refuses_at_its_look, looks_first, lock_alone, looks_for_ever, two_looks, tries_by_chance, one_try, looks_by_chance, look_beside_a_holder, never_releases, locks_to_read, opens_set, grants_to_read, whole_try};
 
 /// A flag's `lock` that never tries again after its first refusal: undisturbed it has to be answered by its second step.
 pub fn a_lock_tries_again<V: Copy>()
@@ -49,4 +49,9 @@ pub fn a_look_refuses_by_no_chance<V: Copy>()
 /// A `lock` that makes its exchange again where it was lost, and never looks.
 pub fn a_lock_looks_between_its_exchanges<V: Copy>()
     ensures { (value : V) → CountsAll (never_looks value) 2 lock_beside_a_holder → ⊥ }
+{}
+
+/// A `try_lock` whose party is told that it reads, and holds the lock to write.
+pub fn a_place_is_what_the_party_holds<V: Copy>()
+    ensures { (value : V) → KeepsAll (grants_to_read value) 1 whole_try → ⊥ }
 {}

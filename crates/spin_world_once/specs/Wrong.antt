@@ -1,5 +1,5 @@
 -- Cells that are wrong, each in one part of its machine, and schedules on which the laws refuse them.
-use Rattle.std.specs.Prelude.{ℕ, Option, Some, None, [], ◌∷◌}
+use Rattle.std.specs.Prelude.{ℕ, Option, Some, None, [], ◌∷◌, ◌==◌, if◌then◌else◌}
 use Rattle.spin_world_core.specs.declared.place.Hold.{Hold}
 use Rattle.spin_world_core.specs.declared.object.Next.TheVariants.{GoesOn, Answers}
 use Rattle.spin_world_core.specs.declared.object.Stepped.{Stepped}
@@ -172,3 +172,15 @@ a_look_and_chance v = (0, Begin (CallOnce v)) ∷ (0, Step) ∷ (0, Weak) ∷ []
 -- a cell with a value whose word says that there is none
 abbrev pub opens_at_nothing : {V : Type 0} → V → OnceMachine V
 opens_at_nothing {V} v = let m : OnceMachine V = once_machine (Some v) in record m { words = 0 }
+
+-- a call that waits for a closure and finds nothing looks once more before it begins
+abbrev hesitating : {V : Type 0} → OnceMachine V → Steps V
+hesitating m w value (CallOnce v) Await h = if w == 0 then record { words = w; placed = None; next = GoesOn Look } else m.step w value (CallOnce v) Await h
+hesitating m w value c l h = m.step w value c l h
+
+abbrev pub hesitates : (V : Type 0) → OnceMachine V
+hesitates V = stepping hesitating
+
+-- a closure runs, another call waits for it, and it fails
+abbrev pub a_failure_beside_a_call : {V : Type 0} → V → Entries V
+a_failure_beside_a_call v = (0, Begin TryCallOnceErr) ∷ (0, Step) ∷ (0, Step) ∷ (1, Begin (CallOnce v)) ∷ (1, Step) ∷ (1, Step) ∷ (0, Step) ∷ []

@@ -4,9 +4,9 @@ ghost use Rattle.spin_world_core.specs.Operations.{Stepwise};
 ghost use Rattle.spin_world_core.specs.Runs.{KeepsAll, MomentsAll, CountsAll};
 ghost use Rattle.spin_world_core.specs.Values.{ValuesAll};
 ghost use Rattle.spin_world_once.specs.Once.{once_machine};
-ghost use Rattle.spin_world_once.specs.Keeping.{AnswersAtOnce, LooksFirst, LooksWhereComplete};
+ghost use Rattle.spin_world_once.specs.Keeping.{AnswersAtOnce, LooksFirst, LooksWhereComplete, MayRunAgain};
 ghost use Rattle.spin_world_once.specs.Named.{IsOnceOf};
-ghost use Rattle.spin_world_once.specs.Wrong.{peeks, runs_on, six_steps, waits_idly, one_wait, always_fails, never_gets, never_looks, one_call, loses_by_chance, a_look_and_chance, opens_at_nothing, replaces, two_closures, sticks, sticks_silently, one_failure, gets_early, get_beside_a_closure, polls_early, poll_beside_a_closure, tells_another, places_another, one_closure};
+ghost use Rattle.spin_world_once.specs.Wrong.{peeks, runs_on, six_steps, waits_idly, one_wait, always_fails, never_gets, never_looks, one_call, loses_by_chance, a_look_and_chance, opens_at_nothing, replaces, two_closures, sticks, sticks_silently, one_failure, gets_early, get_beside_a_closure, polls_early, poll_beside_a_closure, tells_another, places_another, one_closure, hesitates, a_failure_beside_a_call};
 
 /// A second closure whose value replaces the first: it is no value that a closure which completes has placed.
 pub fn a_second_closure_does_not_run<V: Copy>()
@@ -86,4 +86,10 @@ pub fn a_lost_exchange_has_a_cause<V: Copy>()
 /// A cell with a value whose word says that there is none.
 pub fn a_cell_with_a_value_opens_complete<V: Copy>()
     ensures { (v : V) → KeepsAll (opens_at_nothing v) 1 [] → ⊥ }
+{}
+
+/// A call that waits for a closure which fails, and then looks twice before it runs its own: where there is nothing it does
+/// so by its second step.
+pub fn a_waiting_call_takes_over<V: Copy>()
+    ensures { (v : V) → MayRunAgain (hesitates V) 2 (a_failure_beside_a_call v) → ⊥ }
 {}

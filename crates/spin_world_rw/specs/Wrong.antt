@@ -1,13 +1,13 @@
 -- Read-write locks that are wrong, each in one part of its table, and schedules on which the laws refuse them. Where its steps are wrong, so are the plain steps that they read as.
 use Rattle.std.specs.Prelude.{ℕ, zero, suc, ◌+◌, ◌-◌, ◌/◌, true, false, Option, Some, None, List, [], ◌∷◌, ◌++◌, if◌then◌else◌}
-use Rattle.spin_step.specs.Plain.{reading, upgradable, asking, writing, weight, to_read, to_write, to_upgrade, to_upgrade_asked, to_lock_starving, Change, gets, releases, turns}
+use Rattle.spin_step.specs.Plain.{reading, upgradable, asking, writing, weight, to_read, to_write, to_upgrade, to_upgrade_asked, to_lock_starving, Change, gets, releases, turns, to_read_upgradable}
 use Rattle.spin_world_core.specs.declared.place.Hold.{Hold}
 use Rattle.spin_world_core.specs.declared.place.Hold.TheVariants as hold
 use Rattle.spin_world_core.specs.declared.object.Next.TheVariants.{GoesOn, Answers}
 use Rattle.spin_world_core.specs.declared.answer.Answer.{Answer}
 use Rattle.spin_world_core.specs.declared.answer.Answer.TheVariants.{Refused, Done, Count}
 use Rattle.spin_world_rw.specs.declared.rw.RwCall.{RwCall}
-use Rattle.spin_world_rw.specs.declared.rw.RwCall.TheVariants.{TryRead, Read, TryUpgradeableRead, TryWrite, TryWriteWeak, Write, ReaderCount, TryUpgrade, Upgrade, Downgrade, Release}
+use Rattle.spin_world_rw.specs.declared.rw.RwCall.TheVariants.{TryRead, Read, TryUpgradeableRead, TryWrite, TryWriteWeak, Write, ReaderCount, TryUpgrade, Upgrade, Downgrade, Release, DowngradeToUpgradeable}
 use Rattle.spin_world_rw.specs.declared.rw.RwPoint.{RwPoint}
 use Rattle.spin_world_rw.specs.declared.rw.RwPoint.TheVariants.{First, Exchange, Asking}
 use Rattle.spin_world_core.specs.declared.schedule.Move.{Move}
@@ -17,8 +17,8 @@ use Rattle.spin_world_core.specs.declared.object.Next.{Next}
 use Rattle.spin_world_core.specs.Calls.{Asked, waits}
 use Rattle.spin_world_core.specs.Acts.{Act, load, load_for, exchange, weak_exchange, store, section, swap, Table, machine_of}
 use Rattle.spin_world_core.specs.Operations.{exchanges, adds, subtracts, stores}
-use Rattle.spin_step.specs.Readers.{tells, read, write, upgrade, upgrade_asked}
-use Rattle.spin_world_rw.specs.Rw.{granted, goes_for, act_of, asks_of, rw_table, rw_machine}
+use Rattle.spin_step.specs.Readers.{tells, read, write, upgrade, upgrade_asked, read_upgradable}
+use Rattle.spin_world_rw.specs.Rw.{granted, goes_for, act_of, asks_of, rw_table, rw_machine, comes_by}
 
 abbrev RwAct : Type 0 → Type 0
 RwAct V = Act ℕ RwPoint (Answer V)
@@ -345,3 +345,25 @@ upgrades_by_looks v = with_steps v upgrade_by_looks
 -- a weak refusal, and a step where nobody reads
 abbrev pub upgrade_after_a_refusal : {V : Type 0} → List (ℕ × Move RwCall V)
 upgrade_after_a_refusal = (0, Begin TryUpgradeableRead) ∷ (0, Step) ∷ (0, Step) ∷ (0, Begin Upgrade) ∷ (0, Step) ∷ (0, Weak) ∷ (0, Step) ∷ []
+
+-- an upgradable reader comes beside as many readers as the cap says, which is one here
+abbrev come_upgradable : {V : Type 0} → RwCall → RwPoint → Option Hold → RwAct V
+come_upgradable TryUpgradeableRead l h = comes_by (read_upgradable 2) to_read_upgradable hold.Upgradable (Answers Refused h) l
+come_upgradable c l h = act_of 1 c l h
+
+abbrev pub comes_beyond_the_cap : {V : Type 0} → V → RwMachine V
+comes_beyond_the_cap {V} v = let t : RwTable V = rw_table v 1 in machine_of (record t { act = come_upgradable })
+
+abbrev pub upgradable_beside_a_reader : {V : Type 0} → List (ℕ × Move RwCall V)
+upgradable_beside_a_reader = read_alone ++ (1, Begin TryUpgradeableRead) ∷ (1, Step) ∷ (1, Step) ∷ []
+
+-- a downgrade to upgradable ends as a reader
+abbrev end_reading : {V : Type 0} → RwCall → RwPoint → Option Hold → RwAct V
+end_reading DowngradeToUpgradeable l h = store (tells writing) (adds (weight reading - weight writing)) (λ p. turns p writing reading) (Answers Done (Some hold.Read))
+end_reading c l h = act_of 9 c l h
+
+abbrev pub ends_reading : {V : Type 0} → V → RwMachine V
+ends_reading v = with_steps v end_reading
+
+abbrev pub downgrade_to_upgradable : {V : Type 0} → List (ℕ × Move RwCall V)
+downgrade_to_upgradable = (0, Begin TryWrite) ∷ (0, Step) ∷ (0, Begin DowngradeToUpgradeable) ∷ (0, Step) ∷ []

@@ -4,7 +4,7 @@ ghost use Rattle.spin_world_core.specs.Operations.{Stepwise};
 ghost use Rattle.spin_world_core.specs.Runs.{KeepsAll, MomentsAll, CountsAll};
 ghost use Rattle.spin_world_rw.specs.Rw.{rw_machine};
 ghost use Rattle.spin_world_rw.specs.Named.{IsRw};
-ghost use Rattle.spin_world_rw.specs.Wrong.{upgrades_plainly, upgrades_by_looks, upgrade_after_a_refusal, refuses_late, try_beside_a_writer, upgrades_at_once, upgrade_beside_a_reader, upgrades_unasked, ask_beside_a_reader, asks_twice, two_steps_of_an_upgrade, downgrades_asking, read_beside_an_asking_reader, counts_without_asking, count_beside_an_asking_reader, downgrades_in_two, downgrade_alone, reads_and_regrets, reads_and_regrets_unseen, read_beside_a_writer, reads_by_a_mask, writes_by_chance, write_alone, upgrades_anew, upgrade_alone, counts_without_upgradable, count_beside_an_upgradable, looks_for_ever, two_looks, looks_twice, looks_first, one_look, tries_for_ever, read_alone, reads_in_one, reads_by_a_guess, guess_beside_a_reader, reads_weakly, read_by_chance, writes_strongly, waits_strongly, upgrades_by_chance, upgrade_by_chance, never_releases, upgrades_any_reader, writes_by_reading, never_writes, opens_written, forgets_its_value, has_no_owner};
+ghost use Rattle.spin_world_rw.specs.Wrong.{upgrades_plainly, upgrades_by_looks, upgrade_after_a_refusal, refuses_late, try_beside_a_writer, upgrades_at_once, upgrade_beside_a_reader, upgrades_unasked, ask_beside_a_reader, asks_twice, two_steps_of_an_upgrade, downgrades_asking, read_beside_an_asking_reader, counts_without_asking, count_beside_an_asking_reader, downgrades_in_two, downgrade_alone, reads_and_regrets, reads_and_regrets_unseen, read_beside_a_writer, reads_by_a_mask, writes_by_chance, write_alone, upgrades_anew, upgrade_alone, counts_without_upgradable, count_beside_an_upgradable, looks_for_ever, two_looks, looks_twice, looks_first, one_look, tries_for_ever, read_alone, reads_in_one, reads_by_a_guess, guess_beside_a_reader, reads_weakly, read_by_chance, writes_strongly, waits_strongly, upgrades_by_chance, upgrade_by_chance, never_releases, upgrades_any_reader, writes_by_reading, never_writes, opens_written, forgets_its_value, has_no_owner, comes_beyond_the_cap, upgradable_beside_a_reader, ends_reading, downgrade_to_upgradable};
 
 /// A `try_upgrade` that is granted while a reader stands: the plain step isn't open.
 pub fn an_upgrade_is_refused_beside_readers<V: Copy>()
@@ -139,4 +139,14 @@ pub fn a_try_is_refused_where_it_finds_it_closed<V: Copy>()
 /// An `upgrade` that looks between its exchanges: each of its steps, once it has asked, gets it where it is open.
 pub fn an_upgrade_makes_its_exchange_again<V: Copy>()
     ensures { (value : V) → CountsAll (upgrades_by_looks value) 1 upgrade_after_a_refusal → ⊥ }
+{}
+
+/// A `try_upgradeable_read` that lets an upgradable reader in beyond the cap: it is one of those that the cap counts.
+pub fn the_cap_counts_the_upgradable_reader<V: Copy>()
+    ensures { (value : V) → KeepsAll (comes_beyond_the_cap value) 2 upgradable_beside_a_reader → ⊥ }
+{}
+
+/// A `downgrade_to_upgradeable` after which its party only reads.
+pub fn a_downgrade_is_to_what_it_names<V: Copy>()
+    ensures { (value : V) → KeepsAll (ends_reading value) 1 downgrade_to_upgradable → ⊥ }
 {}

@@ -1,11 +1,11 @@
 -- Locks of seats that are wrong, each in one part of its table, and schedules on which the laws refuse them. Where its steps are wrong, so are the plain steps that they read as.
-use Rattle.std.specs.Prelude.{ℕ, zero, suc, true, Option, Some, None, List, [], ◌∷◌, ◌++◌, nat_lt}
+use Rattle.std.specs.Prelude.{ℕ, zero, suc, true, Option, Some, None, List, [], ◌∷◌, ◌++◌, nat_lt, ◌-◌}
 use Rattle.spin_step.specs.Plain.{reading, to_read, gets, releases}
 use Rattle.spin_seats.specs.Seats.{entered}
 use Rattle.spin_world_core.specs.declared.place.Hold.{Hold}
 use Rattle.spin_world_core.specs.declared.object.Next.TheVariants.{GoesOn, Answers}
 use Rattle.spin_world_core.specs.declared.answer.Answer.{Answer}
-use Rattle.spin_world_core.specs.declared.answer.Answer.TheVariants.{Refused, Done}
+use Rattle.spin_world_core.specs.declared.answer.Answer.TheVariants.{Refused, Done, Count}
 use Rattle.spin_world_seats.specs.declared.seats.SeatsCall.{SeatsCall}
 use Rattle.spin_world_seats.specs.declared.seats.SeatsCall.TheVariants as call
 use Rattle.spin_world_seats.specs.declared.seats.SeatsPoint.{SeatsPoint}
@@ -125,3 +125,21 @@ enters_or_not = let t : SeatsTable = seats_table 2 in machine_of (record t { act
 -- a seat is taken at first, by nobody
 abbrev pub opens_taken : SeatsMachine
 opens_taken = let t : SeatsTable = seats_table 2 in machine_of (record t { words = 1 })
+
+-- a lock without seats on which one sits down
+abbrev pub seats_one_on_none : SeatsMachine
+seats_one_on_none = with_steps 0 (act_of 1)
+
+abbrev pub one_sits : Entries
+one_sits = takes_a_seat 0
+
+-- `count` tells how many seats are free
+abbrev count_free : SeatsCall → SeatsPoint → Option Hold → SeatsAct
+count_free call.Count l h = load (λ w. Answers (Count (2 - w)) h)
+count_free c l h = act_of 2 c l h
+
+abbrev pub counts_free : SeatsMachine
+counts_free = with_steps 2 count_free
+
+abbrev pub count_alone : Entries
+count_alone = (0, Begin call.Count) ∷ (0, Step) ∷ []

@@ -1,10 +1,10 @@
 //! Wrong locks of seats, each with a law that it breaks. They show what the laws keep out.
 ghost use Rattle.std.specs.Prelude.{◌≡◌, []};
 ghost use Rattle.spin_world_core.specs.Operations.{Stepwise};
-ghost use Rattle.spin_world_core.specs.Runs.{KeepsAll, CountsAll};
+ghost use Rattle.spin_world_core.specs.Runs.{KeepsAll, CountsAll, MomentsAll};
 ghost use Rattle.spin_world_seats.specs.Seats.{seats_machine};
 ghost use Rattle.spin_world_seats.specs.Named.{IsSeats};
-ghost use Rattle.spin_world_seats.specs.Wrong.{seats_one_too_many, two_on_one_seat, leaves_for_two, one_of_two_leaves, tries_for_ever, two_looks, looks_twice, enter_alone, enters_in_one, enters_by_a_guess, guess_beside_one, enters_by_chance, enter_by_chance, nobody_leaves, enters_or_not, opens_taken};
+ghost use Rattle.spin_world_seats.specs.Wrong.{seats_one_too_many, two_on_one_seat, leaves_for_two, one_of_two_leaves, tries_for_ever, two_looks, looks_twice, enter_alone, enters_in_one, enters_by_a_guess, guess_beside_one, enters_by_chance, enter_by_chance, nobody_leaves, enters_or_not, opens_taken, seats_one_on_none, one_sits, counts_free, count_alone};
 
 /// A lock of one seat on which two sit down: the second one's plain step is not open.
 pub fn nobody_sits_beyond_the_seats()
@@ -59,4 +59,14 @@ pub fn all_seats_are_free_at_first()
 /// A lock with fewer seats than it was asked to have.
 pub fn a_lock_has_its_seats()
     ensures { IsSeats 2 (seats_machine 1) → ⊥ }
+{}
+
+/// A lock without seats on which one sits down.
+pub fn nobody_sits_where_there_are_no_seats()
+    ensures { KeepsAll seats_one_on_none 1 one_sits → ⊥ }
+{}
+
+/// A `count` that tells how many seats are free: at no moment of it do so many sit.
+pub fn a_count_tells_who_sits()
+    ensures { MomentsAll counts_free 1 count_alone → ⊥ }
 {}

@@ -1,5 +1,5 @@
 -- Ticket locks that are wrong, each in one part of its machine, and schedules on which the laws refuse them.
-use Rattle.std.specs.Prelude.{ℕ, Bool, false, not, ◌==◌, Option, Some, None, List, [], ◌∷◌}
+use Rattle.std.specs.Prelude.{ℕ, Bool, false, not, ◌==◌, Option, Some, None, List, [], ◌∷◌, ◌+◌, ◌-◌, nat_lt, if◌then◌else◌}
 use Rattle.spin_world_core.specs.declared.place.Hold.{Hold}
 use Rattle.spin_world_core.specs.declared.object.Next.{Next}
 use Rattle.spin_world_core.specs.declared.object.Next.TheVariants.{GoesOn, Answers}
@@ -13,7 +13,7 @@ use Rattle.spin_world_ticket.specs.declared.ticket.TicketPoint.{TicketPoint}
 use Rattle.spin_world_ticket.specs.declared.ticket.TicketPoint.TheVariants.{LoadNext, Take, Await, TryLoadServing, TryTake, LookServing, LookNext}
 use Rattle.spin_world_core.specs.declared.schedule.Move.{Move}
 use Rattle.spin_world_core.specs.declared.schedule.Move.TheVariants.{Begin, Step, Weak}
-use Rattle.spin_step.specs.Plain.{Change, gets, to_enter}
+use Rattle.spin_step.specs.Plain.{Change, gets, to_enter, ticket_limit}
 use Rattle.spin_world_core.specs.Calls.{Asked, looks}
 use Rattle.spin_world_core.specs.Machines.{Machine}
 use Rattle.spin_world_ticket.specs.Ticket.{granted, ticket_machine}
@@ -153,3 +153,11 @@ looks_in_vain {V} v = let m : TicketMachine V = ticket_machine v 0 in record m {
 
 abbrev pub three_loads : {V : Type 0} → Entries V
 three_loads = (0, Begin IsLocked) ∷ (0, Step) ∷ (0, Step) ∷ []
+
+-- a `try_lock` that takes the last ticket for used up
+abbrev gives_up_early : {V : Type 0} → TicketMachine V → TicketWords → Option V → TicketCall → TicketPoint → Option Hold → Stepped TicketWords V TicketPoint (Answer V)
+gives_up_early m w value c (TryLoadServing n) h = if nat_lt (n + 1) ticket_limit then m.step w value c (TryLoadServing n) h else stays_at w (Answers Refused h)
+gives_up_early m w value c l h = m.step w value c l h
+
+abbrev pub leaves_the_last_ticket : {V : Type 0} → V → TicketMachine V
+leaves_the_last_ticket {V} v = let m : TicketMachine V = ticket_machine v (ticket_limit - 1) in record m { step = gives_up_early m }

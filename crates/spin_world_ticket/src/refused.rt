@@ -3,7 +3,7 @@ ghost use Rattle.std.specs.Prelude.{◌≡◌, []};
 ghost use Rattle.spin_world_core.specs.Operations.{Stepwise};
 ghost use Rattle.spin_world_core.specs.Runs.{KeepsAll, MomentsAll, CountsAll};
 ghost use Rattle.spin_world_ticket.specs.Named.{IsTicketLock};
-ghost use Rattle.spin_world_ticket.specs.Wrong.{looks_in_vain, three_loads, looks_backwards, look_beside_a_queue, queues_behind_nobody, lock_beside_a_holder, never_enters, lock_alone, enters_by_look, two_queue, never_tries, try_alone, looks_at_both, locks_again, tries_by_looking, takes_by_chance, try_in_vain, lock_in_vain, opens_with_a_ticket};
+ghost use Rattle.spin_world_ticket.specs.Wrong.{looks_in_vain, three_loads, looks_backwards, look_beside_a_queue, queues_behind_nobody, lock_beside_a_holder, never_enters, lock_alone, enters_by_look, two_queue, never_tries, try_alone, looks_at_both, locks_again, tries_by_looking, takes_by_chance, try_in_vain, lock_in_vain, opens_with_a_ticket, leaves_the_last_ticket};
 
 /// An `is_locked` of a ticket lock that loads the next number first: its `false` has no moment.
 pub fn a_look_loads_the_served_number_first<V: Copy>()
@@ -63,4 +63,9 @@ pub fn a_ticket_lock_opens_empty<V: Copy>()
 /// An `is_locked` of three loads: it answers by its second.
 pub fn a_look_takes_two_loads<V: Copy>()
     ensures { (value : V) → CountsAll (looks_in_vain value) 1 three_loads → ⊥ }
+{}
+
+/// A `try_lock` that is refused where the last ticket is next: it is no less a ticket than the others.
+pub fn the_last_ticket_is_taken<V: Copy>()
+    ensures { (value : V) → MomentsAll (leaves_the_last_ticket value) 1 try_alone → ⊥ }
 {}
