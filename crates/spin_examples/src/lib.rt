@@ -2,7 +2,10 @@
 #![tactic(auto)]
 
 pub mod account;
+pub mod any_lock;
 pub mod from_rust;
 pub mod registers;
 #[cfg(test)]
 mod tests;
+pub mod totals;
+pub mod versions;

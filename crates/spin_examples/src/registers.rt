@@ -4,8 +4,9 @@ ghost use mathlib.Core.List.{IsPrefix};
 ghost use Rattle.spin.specs.Entries.{Reads, Writes, Updates};
 
 use spin::RwLock;
-use spin::history::{History, Log, Session, Snapshot, open};
+use spin::history::{BlankLog, History, Snapshot};
 use spin::register::{self, Register};
+use std::marker::Brand;
 use std::sync::Wait;
 use std::thread::{Threads, join};
 
@@ -129,4 +130,30 @@ pub fn two_write_two_read<H: History + Send + Sync, W: Threads + Wait + Sync>(
     );
     found.0.1.compare(&found.1.1);
     (wrote, found)
+}
+
+fn four_threads_by<H: History + Send + Sync, W: Threads + Wait + Sync>(
+    rt: &W,
+    values: (u64, u64),
+    blank: BlankLog,
+) -> ((u64, u64), u64)
+    requires { blank.name ≡ H.name }
+{
+    let log = blank.open::<u64, H>();
+    let start = log.snapshot();
+    let lock: RwLock<Register<u64, H>> = RwLock::new(Register::new(0, log));
+    let (wrote, ((first, mut seen), (second, other))) = two_write_two_read(
+        rt, &lock, values, &start,
+    );
+    let (last, closed) = lock.into_inner().close();
+    seen.merge(&wrote.0);
+    seen.merge(&wrote.1);
+    seen.merge(&other);
+    closed.observe(&mut seen);
+    ((first, second), last)
+}
+
+/// What two readers of a register that held 0 found while two threads wrote, and the last value.
+pub fn four_threads<W: Threads + Wait + Sync>(rt: &W, values: (u64, u64)) -> ((u64, u64), u64) {
+    four_threads_by::<Brand, W>(rt, values, BlankLog::new())
 }

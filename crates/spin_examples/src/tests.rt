@@ -3,7 +3,10 @@ use super::account::{count, count_up_to};
 use super::from_rust::{
     add_from_two, add_one, add_starving, doubled, give_back, port_of, raise, set_elsewhere, take,
 };
-use spin::mutex::{FairMutex, Mutex, SpinMutex};
+use super::registers::four_threads;
+use super::versions::race;
+use super::{any_lock, totals};
+use spin::mutex::{FairMutex, Mutex, SpinMutex, TicketMutex};
 use spin::{LazyLock, Once, RwLock, Yield};
 use std::thread;
 
@@ -46,4 +49,40 @@ fn shared_values_as_in_rust(rt: HostRuntime) {
     assert!(rt; port_of(&rt, &port, "no port").is_err());
     assert_eq!(rt; port_of(&rt, &port, "80").ok().copied(), Some(80));
     assert_eq!(rt; port_of(&rt, &port, "none").ok().copied(), Some(80));
+}
+
+#[test]
+fn threads_know_the_history(rt: HostRuntime) {
+    let ((first, second), last) = four_threads(&rt, (3, 5));
+    assert!(rt; first == 0 || first == 3 || first == 5);
+    assert!(rt; second == 0 || second == 3 || second == 5);
+    assert!(rt; last == 3 || last == 5);
+    let ((first, second), (third, fourth), last) = race(&rt, 1000);
+    assert!(rt; first <= second && second <= last && third <= fourth && fourth <= last);
+    assert_eq!(rt; last, 2000);
+    assert_eq!(rt; totals::add_from_two(&rt, (3, 5)), (3, 5, 8));
+    assert_eq!(rt;
+        totals::add_from_two(&rt, (0, u64::MAX)),
+        (0, u64::MAX, u64::MAX)
+    );
+}
+
+#[test]
+fn one_code_for_every_lock(rt: HostRuntime) {
+    let (spin, ticket, fair): (SpinMutex<u64>, TicketMutex<u64>, FairMutex<u64>) = (
+        SpinMutex::new(1),
+        TicketMutex::new(2),
+        FairMutex::new(3),
+    );
+    let (mutex, shared): (spin::Mutex<u64>, RwLock<u64>) = (spin::Mutex::new(4), RwLock::new(5));
+    assert_eq!(rt; any_lock::count(&rt, &spin), 2);
+    assert_eq!(rt; any_lock::count(&rt, &ticket), 3);
+    assert_eq!(rt; any_lock::count(&rt, &fair), 4);
+    assert_eq!(rt; any_lock::count(&rt, &mutex), 5);
+    assert_eq!(rt; any_lock::count(&rt, &shared), 6);
+    assert_eq!(rt; any_lock::read_up_to(&rt, &shared, 9), 6);
+    assert_eq!(rt; any_lock::try_count(&spin), Some(3));
+    let guard = spin.lock(&rt);
+    assert_eq!(rt; any_lock::try_count(&spin), None);
+    drop(guard);
 }

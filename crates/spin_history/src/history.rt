@@ -92,35 +92,6 @@ impl BlankLog {
     }
 }
 
-/// What a program does with a new log, whatever its history is named. [`open`] runs it.
-pub trait Session<T> {
-    type Output;
-
-    // What the session promises of its answer.
-    ghost gives: { Self → Self.Output → Type 0 };
-
-    fn run<H: History + Send + Sync>(self, log: Log<T, H>) -> Self::Output
-        requires { log.entries ≡ [] }
-        ensures { gives self result };
-}
-
-/// Opens a log, and runs a session with it.
-///
-/// # Contract
-/// The answer is what the session promises.
-pub fn open<T, S: Session<T>>(session: S) -> S::Output
-    ensures { S.gives session result }
-{
-    open_as::<T, S, Brand>(session, BlankLog::new())
-}
-
-fn open_as<T, S: Session<T>, H: History + Send + Sync>(session: S, blank: BlankLog) -> S::Output
-    requires { blank.name ≡ H.name }
-    ensures { S.gives session result }
-{
-    session.run(blank.open::<T, H>())
-}
-
 impl<T, H: History> Log<T, H> {
     /// Appends an entry.
     pub fn append(&mut self, value: &T)

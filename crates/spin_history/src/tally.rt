@@ -1,11 +1,10 @@
 //! A number that threads add to, whose total is exactly what was added.
-ghost use Rattle.std.specs.Prelude.{◌≡◌, ℕ, ◌+◌, ◌<◌, MatchBool};
+ghost use Rattle.std.specs.Prelude.{◌≡◌, ◌+◌, ◌<◌, MatchBool};
 
 use spin_lock::lock::Lock;
-use std::marker::Brand;
 use std::mem;
 use std::sync::Wait;
-use std::sync::ledger::{Blank, Book, Ledger, Share};
+use std::sync::ledger::{Book, Ledger, Share};
 
 /// A number that threads add to, and the ledger's book of what they added: its total is the number.
 ///
@@ -55,44 +54,6 @@ impl<L: Ledger> Tally<L> {
         self.added.audit(every);
         self.count
     }
-}
-
-/// What a program does with a new tally, whatever its ledger is named. [`open`] runs it.
-pub trait Session {
-    type Output;
-
-    // Into how many parts the ledger is cut.
-    ghost parts: { Self → ℕ };
-
-    // What the session promises of its answer.
-    ghost gives: { Self → Self.Output → Type 0 };
-
-    fn run<L: Ledger + Send + Sync>(self, tally: Tally<L>, every: Share<L>) -> Self::Output
-        requires whole { every.parts ≡ L.parts }
-        requires parts { every.parts ≡ parts self }
-        requires nothing { every.amount ≡ 0 }
-        ensures { gives self result };
-}
-
-/// Opens a tally whose ledger has so many parts, and runs a session with it.
-///
-/// # Contract
-/// The answer is what the session promises.
-pub fn open<S: Session>(parts: u64, session: S) -> S::Output
-    requires { parts ≡ S.parts session }
-    ensures { S.gives session result }
-{
-    open_as::<S, Brand>(session, Blank::new(parts))
-}
-
-fn open_as<S: Session, L: Ledger + Send + Sync>(session: S, blank: Blank) -> S::Output
-    requires name { blank.name ≡ L.name }
-    requires parts { blank.parts ≡ L.parts }
-    requires asked { blank.parts ≡ S.parts session }
-    ensures { S.gives session result }
-{
-    let (book, every) = blank.open::<L>();
-    session.run(Tally::new(book), every)
 }
 
 /// Adds `more` to a tally under a lock. Returns `false`, and adds nothing, where the sum would not fit.

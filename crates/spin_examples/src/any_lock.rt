@@ -1,0 +1,34 @@
+//! Code that does not care which lock it is handed.
+ghost use Rattle.std.specs.Prelude.{◌≤◌};
+
+use spin::lock::{Lock, SharedLock};
+use std::sync::Wait;
+
+/// Counts one more under any lock.
+pub fn count<L: Lock<u64>, W: Wait>(rt: &W, lock: &L) -> u64 {
+    lock.with(rt, |number| {
+        *number = number.wrapping_add(1);
+        *number
+    })
+}
+
+/// Counts one more, or says that the lock is held.
+pub fn try_count<L: Lock<u64>>(lock: &L) -> Option<u64> {
+    lock.try_with(|number| {
+        *number = number.wrapping_add(1);
+        *number
+    })
+    .ok()
+}
+
+/// Reads a number beside other readers, cut off at `most`.
+pub fn read_up_to<L: SharedLock<u64>, W: Wait>(rt: &W, lock: &L, most: u64) -> u64
+    ensures { result ≤ most }
+{
+    lock.with_shared(
+        rt,
+        |number: &u64| -> u64
+            ensures { result ≤ most }
+        { if *number < most { *number } else { most } },
+    )
+}

@@ -1,0 +1,110 @@
+//! A version that threads raise, and that never falls for those who read it.
+ghost use Rattle.std.specs.Prelude.{◌≡◌, ◌≤◌, Some};
+ghost use Rattle.spin.specs.Entries.{last};
+
+use spin::RwLock;
+use spin::growing::{self, Ascending, Growing};
+use spin::history::{BlankLog, History, Snapshot};
+use std::marker::Brand;
+use std::sync::Wait;
+use std::thread::{Threads, join};
+
+/// A version under a lock that readers share.
+pub type Version<H> = RwLock<Growing<u64, Ascending, H>>;
+
+fn raise<H: History, W: Wait>(
+    rt: &W,
+    version: &Version<H>,
+    times: u64,
+    mut seen: Snapshot<u64, H>,
+) {
+    for _ in 0..times {
+        growing::advance(
+            rt,
+            version,
+            |old: &u64| -> u64
+                ensures { old.now ≤ result }
+            { old.saturating_add(1) },
+            &mut seen,
+        );
+    }
+}
+
+/// What two reads found, and what is known of the version since.
+type Watched<H> = ((u64, u64), Snapshot<u64, H>);
+
+/// Reads twice. The second value is not below the first, whoever raised the version between.
+fn watch<H: History, W: Wait>(
+    rt: &W,
+    version: &Version<H>,
+    mut seen: Snapshot<u64, H>,
+) -> Watched<H>
+    ensures rising { result.0.0 ≤ result.0.1 }
+    ensures last { last result.1.entries ≡ Some result.0.1 }
+{
+    let first = growing::read_shared(rt, version, &mut seen);
+    let second = growing::read_shared(rt, version, &mut seen);
+    ((first, second), seen)
+}
+
+fn watch_both<H: History + Send + Sync, W: Threads + Wait + Sync>(
+    rt: &W,
+    version: &Version<H>,
+    first: Snapshot<u64, H>,
+    second: Snapshot<u64, H>,
+) -> (Watched<H>, Watched<H>)
+    ensures first { (result.0.0.0 ≤ result.0.0.1) × (last result.0.1.entries ≡ Some result.0.0.1) }
+    ensures second { (result.1.0.0 ≤ result.1.0.1) × (last result.1.1.entries ≡ Some result.1.0.1) }
+{
+    join(
+        rt,
+        move || -> Watched<H>
+            ensures { (result.0.0 ≤ result.0.1) × (last result.1.entries ≡ Some result.0.1) }
+        { watch(rt, version, first) },
+        move || -> Watched<H>
+            ensures { (result.0.0 ≤ result.0.1) × (last result.1.entries ≡ Some result.0.1) }
+        { watch(rt, version, second) },
+    )
+}
+
+fn race_by<H: History + Send + Sync, W: Threads + Wait + Sync>(
+    rt: &W,
+    times: u64,
+    blank: BlankLog,
+) -> ((u64, u64), (u64, u64), u64)
+    requires { blank.name ≡ H.name }
+    ensures first { (result.0.0 ≤ result.0.1) × (result.0.1 ≤ result.2) }
+    ensures second { (result.1.0 ≤ result.1.1) × (result.1.1 ≤ result.2) }
+{
+    let log = blank.open::<u64, H>();
+    let (start, other) = (log.snapshot(), log.snapshot());
+    let (first, second) = (log.snapshot(), log.snapshot());
+    let lock: Version<H> = RwLock::new(Growing::new(0, log));
+    let version = &lock;
+    let (_, ((one, mut first), (two, mut second))) = join(
+        rt,
+        move || {
+            join(
+                rt,
+                move || raise(rt, version, times, start),
+                move || raise(rt, version, times, other),
+            );
+        },
+        move || -> (Watched<H>, Watched<H>)
+            ensures first { (result.0.0.0 ≤ result.0.0.1) × (last result.0.1.entries ≡ Some result.0.0.1) }
+            ensures second { (result.1.0.0 ≤ result.1.0.1) × (last result.1.1.entries ≡ Some result.1.0.1) }
+        { watch_both(rt, version, first, second) },
+    );
+    let end = lock.into_inner();
+    let last = end.read(&mut first);
+    end.read(&mut second);
+    (one, two, last)
+}
+
+/// Two threads raise a version from 0, and two read it twice beside them. No reader sees it fall, nor above its end.
+pub fn race<W: Threads + Wait + Sync>(rt: &W, times: u64) -> ((u64, u64), (u64, u64), u64)
+    ensures first { (result.0.0 ≤ result.0.1) × (result.0.1 ≤ result.2) }
+    ensures second { (result.1.0 ≤ result.1.1) × (result.1.1 ≤ result.2) }
+{
+    race_by::<Brand, W>(rt, times, BlankLog::new())
+}

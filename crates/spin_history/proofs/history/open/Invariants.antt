@@ -1,4 +1,0 @@
-use Rattle.spin_history.proofs.history.open.Given as goal
-
-abbrev pub ghosts-open_as : goal.ghosts-open_as
-ghosts-open_as g a = record { name = a.blank.name }
