@@ -94,10 +94,12 @@ fn held_readers_go_one_by_one(rt: HostRuntime) {
     let lock = free();
     let first = RwLockReadGuard::hold(lock.read(&rt));
     let second = RwLockReadGuard::hold(lock.read(&rt));
-    is_read_by(&rt, &lock, 2);
+    let third = RwLockReadGuard::hold(lock.read(&rt));
+    is_read_by(&rt, &lock, 3);
     RwLock::force_read_decrement(first);
-    is_read_by(&rt, &lock, 1);
     RwLock::force_read_decrement(second);
+    is_read_by(&rt, &lock, 1);
+    RwLock::force_read_decrement(third);
     is_free(&rt, &lock);
 }
 

@@ -3,7 +3,7 @@ ghost use Rattle.std.specs.Prelude.{◌≤◌, length};
 
 use super::objects::OfHeader;
 use super::worlds::{
-    Opening, Shown, Told, Trial, holds, is_at, is_told, look_at, object, opened, play, run,
+    Opening, Shown, Told, Trial, holds, is_at, is_told, look_at, object, opened, play,
     try_all, world,
 };
 use bumpalo::Bump;
@@ -58,7 +58,7 @@ fn unrefused<O: OfHeader>(
 ) -> Wanted {
     let mut world = opened::<O, Global>(rt, alloc, opening);
     let first = look_at(rt, alloc, opening, &world);
-    let _ = run(&mut world, past).expect(rt, opening.shows);
+    let _ = world.run(past).expect(rt, opening.shows);
     let between = look_at(rt, alloc, opening, &world);
     let told = play(rt, alloc, &mut world, schedule);
     let stop = look_at(rt, alloc, opening, &world);
@@ -82,9 +82,9 @@ fn played_again<O: OfHeader>(
 ) -> Option<(Shown, Vec<Told>, Shown)> {
     let arena = arena(rt, alloc);
     let mut world = opened::<O, &Bump>(rt, &arena, opening);
-    let _ = run(&mut world, past).expect(rt, opening.shows);
+    let _ = world.run(past).expect(rt, opening.shows);
     let filled = filled(rt, &arena, left);
-    let runs = run(&mut world, schedule).is_ok();
+    let runs = world.run(schedule).is_ok();
     drop(filled);
     if runs {
         return None;

@@ -185,7 +185,7 @@ fn every_stop_of_every_call(rt: HostRuntime) {
 
 /// A `lock` that registers by its 1029th step: the exchange, 1026 looks, the load, and the exchange.
 #[test]
-fn every_stop_of_a_lock_that_registers(rt: HostRuntime) -> Result<(), Fail> {
+fn every_stop_of_a_lock_that_registers(rt: HostRuntime) {
     let header = Header::Fair {
         value: 0,
         cap: 1,
@@ -200,5 +200,5 @@ fn every_stop_of_a_lock_that_registers(rt: HostRuntime) -> Result<(), Fail> {
     schedule[0] = (0, Move::Begin(FairCall::TryLock));
     schedule[1] = (0, Move::Step);
     schedule[2] = (1, Move::Begin(FairCall::Lock));
-    at_each_place::<Fair<u64>>(&rt, rt.alloc(), opening, &schedule)
+    at_each_place::<Fair<u64>>(&rt, rt.alloc(), opening, &schedule);
 }

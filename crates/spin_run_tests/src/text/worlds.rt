@@ -7,8 +7,7 @@ use super::stops::at_each_place;
 use super::transcripts::WORKED;
 use spin_text::{Header, Rest, first_line, header_of, schedule_of};
 use spin_world::{
-    Answer, BarrierObject, Event, Fair, Flag, Move, OnceObject, Outcome, Place, Rw, Ticket,
-    Transcript, World,
+    Answer, BarrierObject, Event, Fair, Flag, Move, OnceObject, Outcome, Place, Rw, Ticket, World,
 };
 use std::alloc::{AllocError, Allocator, Global};
 use std::process::Abort;
@@ -33,14 +32,6 @@ pub fn world<O: OfHeader, A: Allocator + Copy>(
     opening: Opening,
 ) -> Result<World<O, A>, AllocError> {
     World::new(alloc, object, parties_of(opening.header))
-}
-
-/// Plays a schedule.
-pub fn run<O: OfHeader, A: Allocator + Copy>(
-    world: &mut World<O, A>,
-    schedule: &[(usize, Move<O::Call, u64>)],
-) -> Result<Transcript<O, A>, AllocError> {
-    world.run(schedule)
 }
 
 /// The words as numbers.
@@ -114,7 +105,7 @@ pub fn play<O: OfHeader, A: Allocator + Copy>(
     world: &mut World<O, A>,
     schedule: &[(usize, Move<O::Call, u64>)],
 ) -> Vec<Told> {
-    let transcript = run(world, schedule).expect(rt, "memory");
+    let transcript = world.run(schedule).expect(rt, "memory");
     tell::<O>(rt, alloc, &transcript.events)
 }
 
