@@ -45,6 +45,17 @@ fn travel_with_a_value_that_may(rt: HostRuntime) {
 }
 
 #[test]
+fn a_guard_may_end_in_another_thread(rt: HostRuntime) {
+    let lock: RwLock<u64> = RwLock::new(1);
+    let mut guard = lock.write(&rt);
+    let write = move || {
+        *guard = 3;
+    };
+    thread::join(&rt, write, || ());
+    equal(&rt, *lock.try_write().expect(&rt, "free"), 3);
+}
+
+#[test]
 fn guards_of_two_threads_read_one_lock(rt: HostRuntime) {
     let lock: RwLock<u64> = RwLock::new(1);
     let (first, second) = thread::join(&rt, || lock.read(&rt), || lock.read(&rt));

@@ -3,8 +3,8 @@ ghost use Rattle.std.specs.Prelude.{◌≤◌, length};
 
 use super::objects::OfHeader;
 use super::worlds::{
-    Opening, Shown, Told, Trial, holds, is_at, is_told, look_at, object, opened, play,
-    try_all, world,
+    Opening, Shown, Told, Trial, holds, is_at, is_told, look_at, object, opened, play, try_all,
+    world,
 };
 use bumpalo::Bump;
 use spin_world::{Move, run_in_two};
