@@ -12,7 +12,12 @@ ghost use Rattle.spin_seated.specs.Mutex.{mutex, Knows, holds};
 ghost use Rattle.spin_seated.specs.Locked.{InOrderOf};
 ghost use Rattle.spin_seated.specs.Lawful.{History, holders, holds_by, MayCall, last_written, values_written, values_read};
 ghost use Rattle.spin_seated.specs.Rw.{rw};
+ghost use Rattle.spin_seated.specs.declared.lock.SeatedLock.{SeatedLock};
+ghost use Rattle.spin_seated.specs.Passes.{opening_of, all_passes_of};
 ghost use Rattle.spin_seated.specs.RwLawful as rw_lawful;
+
+use crate::lock::Calls;
+use std::alloc::Allocator;
 
 /// At most one pass holds the lock.
 pub fn one_pass_holds_at_most()
@@ -62,4 +67,9 @@ pub fn who_met_agree()
 /// A look tells whether a pass holds the lock.
 pub fn a_look_tells_whether_a_pass_holds()
     ensures { (k : Opening) (before after : History) (p : ℕ) (held : Bool) → IsLegal mutex k (before ++ entry p IsLocked (Truth held) ∷ after) → held ≡ not (is_empty (holders k before)) }
+{}
+
+/// A lock has as many passes as it was asked for.
+pub fn a_lock_has_as_many_passes_as_asked_for<C: Calls, A: Allocator>()
+    ensures { (lock : SeatedLock C A C.Hold) → length (all_passes_of lock) ≡ (opening_of lock).passes }
 {}
