@@ -17,13 +17,14 @@ use Rattle.spin_world_ticket.specs.declared.ticket.TicketCall.TheVariants.{Lock,
 use Rattle.spin_world_ticket.specs.declared.ticket.TicketPoint.{TicketPoint}
 use Rattle.spin_world_ticket.specs.declared.ticket.TicketPoint.TheVariants.{LoadNext, Take, Await, TryLoadNext, TryLoadServing, TryTake, LookServing, LookNext, Serve}
 use Rattle.spin_world_core.specs.Calls.{Mark, AnyOf, looks, granted, ticket, may_be_weak}
-use Rattle.spin_world_core.specs.Runs.{mark_of}
+use Rattle.spin_world_core.specs.Runs.{mark_of, own_count}
 use Rattle.spin_world_core.specs.Manners.{Manner, plain}
 use Rattle.spin_world_core.specs.Acts.{passing, begin_of}
 use Rattle.spin_world_ticket.specs.Ticket.{is_left, ticket_memory, act_of, asks_of, ticket_table, ticket_machine}
 use Rattle.spin_world_core.proofs.Lists.{eqb_self}
 use Rattle.spin_world_core.proofs.Operating.{fits_act, fits_strong, IsPlace, operates_by}
 use Rattle.spin_world_core.proofs.Facts.{LocalInvariant, Facts}
+use Rattle.spin_world_core.proofs.Spans.{own_count-mine, own_count-other}
 use Rattle.spin_world_core.proofs.Stands.{queues, entries_at}
 use Rattle.spin_world_core.proofs.Rows.{any_map, SoundAt, Row, Point, nowhere, looked, onward}
 use Rattle.spin_world_core.proofs.Shapes.{AimsAt, Notes, keeping_of, Means, OwesAt, answers_by, OwesSoon, BeginsAt, Pays, CallOf, AtPoint}
@@ -45,8 +46,8 @@ point_of _ _ _ = nowhere
 
 -- what else a party knows: since it found the number, a ticket has stood or that is served still; and it goes with the ticket that it holds
 abbrev KnowsAt : TicketPoint → Option Hold → ℕ → Plain → List Mark → Type 0
-KnowsAt (TryLoadServing n) h p s span = Stays n s span × AnyOf (λ m. (m.party ≡ p) × (next_word m.before ≡ n)) span
-KnowsAt (TryTake n) h p s span = Rises n s span
+KnowsAt (TryLoadServing n) h p s span = Stays n s span × AnyOf (λ m. (m.party ≡ p) × (next_word m.before ≡ n)) span × (own_count p span ≡ 1)
+KnowsAt (TryTake n) h p s span = Rises n s span × (own_count p span ≡ 2)
 KnowsAt (LookNext k) h p s span = Rises k s span
 KnowsAt (Serve t) (Some (hold.Ticket u)) p s span = t ≡ u
 KnowsAt _ h p s span = Unit {0}
@@ -167,17 +168,17 @@ module _ {V : Type 0} (v : V) (first : ℕ) where
     refl,
     (refl, inr (inl (omega (arith, at.known.spent)))),
     tt,
-    (subst (λ n. Stays n s (mark_of p None plain s ∷ span)) (next_is p at) (stays_now s p span (is_empty s.tickets) refl), inl (refl, next_is p at)),
+    (subst (λ n. Stays n s (mark_of p None plain s ∷ span)) (next_is p at) (stays_now s p span (is_empty s.tickets) refl), inl (refl, next_is p at), omega (arith, own_count-mine p None plain s span, at.known.spent)),
   )
   owes p TryLock (TryLoadServing n) None s w span = λ at. (
-    (λ free. let served = serving_is p at ∙ eqb-true w.serving n (and_parts (w.serving == n) (is_left n) free).0 in (refl, refl, (refl, inr (inr (any_map _ (λ m. (m.party ≡ p) × (next_word m.before ≡ serving_word s)) span (λ m found. (found.0, found.1 ∙ sym served)) at.knows.1))), tt, (omega (arith, served), inr served))),
+    (λ free. let served = serving_is p at ∙ eqb-true w.serving n (and_parts (w.serving == n) (is_left n) free).0 in (refl, refl, (refl, inr (inr (any_map _ (λ m. (m.party ≡ p) × (next_word m.before ≡ serving_word s)) span (λ m found. (found.0, found.1 ∙ sym served)) at.knows.1))), tt, ((omega (arith, served), inr served), omega (arith, own_count-mine p None plain s span, at.knows.2)))),
     (λ taken. (refl, inl refl, try_refused p n s span at.knows.0 (λ served e. ap is_left e ∙ (sym (ap (λ b. b && is_left n) (eq-eqb w.serving n (sym (serving_is p at) ∙ served))) ∙ taken)))),
   )
   owes p TryLock (TryTake n) None s w span = λ at. (
     (λ to taken. let is = taken_at (w.next == n) (take w.next) to taken in
         let same = eqb-true w.next n is.0 in
-        (subst (IsMeant p s (gets p to_take_and_enter) (λ k. record w { next = k })) is.1 (take_alone_means p at (omega (arith, same, at.knows.0))), (ap (λ k. Some (queues k true)) (next_is p at ∙ same), inl refl, tt))),
-    (λ none. (refl, inl refl, try_refused p n s span at.knows.1 (λ served e. let next = next_is p at in ap is_left next ∙ not_taken (w.next == n) (is_left w.next) _ none (eq-eqb w.next n (sym next ∙ e))))),
+        (subst (IsMeant p s (gets p to_take_and_enter) (λ k. record w { next = k })) is.1 (take_alone_means p at (omega (arith, same, at.knows.0.0))), (ap (λ k. Some (queues k true)) (next_is p at ∙ same), inl refl, tt))),
+    (λ none. (refl, inl refl, try_refused p n s span at.knows.0.1 (λ served e. let next = next_is p at in ap is_left next ∙ not_taken (w.next == n) (is_left w.next) _ none (eq-eqb w.next n (sym next ∙ e))))),
     refl,
   )
   owes p IsLocked LookServing None s w span = λ at. (refl, refl, refl, tt, (omega (arith, serving_is p at), inr (serving_is p at)))
@@ -241,12 +242,12 @@ module _ {V : Type 0} (v : V) (first : ℕ) where
   sound p Release (Serve t) (Some (hold.Ticket u)) = refl
   sound p _ _ _ = tt
 
-  others : (p q : ℕ) (l : TicketPoint) (h : Option Hold) (s : Plain) (step : Option Change) (r : Manner) (span : List Mark) → Queue s → IsOpenStep s q step → KnowsAt l h p s span → KnowsAt l h p (apply_some s step) (mark_of q step r s ∷ span)
-  others p q (TryLoadServing n) h s step r span queue may knows = (stays-other n q s step r span queue.numbered may knows.0, inr knows.1)
-  others p q (TryTake n) h s step r span queue may knows = rises-other n q s step r span queue.numbered may knows
-  others p q (LookNext k) h s step r span queue may knows = rises-other k q s step r span queue.numbered may knows
-  others p q (Serve t) (Some (hold.Ticket u)) s step r span queue may knows = knows
-  others p q _ h s step r span queue may knows = tt
+  others : (p q : ℕ) (ne : q ≡ p → ⊥) (l : TicketPoint) (h : Option Hold) (s : Plain) (step : Option Change) (r : Manner) (span : List Mark) → Queue s → IsOpenStep s q step → KnowsAt l h p s span → KnowsAt l h p (apply_some s step) (mark_of q step r s ∷ span)
+  others p q ne (TryLoadServing n) h s step r span queue may knows = (stays-other n q s step r span queue.numbered may knows.0, inr knows.1, own_count-other p q step r s span ne ∙ knows.2)
+  others p q ne (TryTake n) h s step r span queue may knows = (rises-other n q s step r span queue.numbered may knows.0, own_count-other p q step r s span ne ∙ knows.1)
+  others p q ne (LookNext k) h s step r span queue may knows = rises-other k q s step r span queue.numbered may knows
+  others p q ne (Serve t) (Some (hold.Ticket u)) s step r span queue may knows = knows
+  others p q ne _ h s step r span queue may knows = tt
 
   pub ticket_pays : Pays (ticket_table v first) (ticket_notes v first)
   ticket_pays =
@@ -260,7 +261,7 @@ module _ {V : Type 0} (v : V) (first : ℕ) where
         sound = sound;
         aims = aims;
         begins = begins;
-        others = λ p q c l h s step r span ne shape may belongs knows. others p q l h s step r span shape may knows;
+        others = λ p q c l h s step r span ne shape may belongs knows. others p q ne l h s step r span shape may knows;
         owes = owes;
         soon = soon;
       }

@@ -1,6 +1,6 @@
 -- What users of a ticket lock rely on: its tickets stand in order, and enter in their turn.
-use Rattle.std.specs.Prelude.{◌≡◌, ℕ, ◌+◌, ◌↔◌, Bool, true, false, Option, Some, None, List, [], ◌∷◌, ◌++◌, slice_get}
-use Rattle.spin_step.specs.Plain.{Plain, ticket, Change, serves, next_word, serving_word}
+use Rattle.std.specs.Prelude.{◌≡◌, ℕ, ◌+◌, ◌<◌, ◌↔◌, Bool, true, false, Option, Some, None, List, [], ◌∷◌, ◌++◌, slice_get}
+use Rattle.spin_step.specs.Plain.{Plain, ticket, ticket_limit, to_take_and_enter, Change, serves, next_word, serving_word}
 use Rattle.spin_step.specs.Parties.{Entries, entries, no_entries, first_alone_entered}
 use Rattle.spin_step.specs.Tickets.{Numbered}
 use Rattle.spin_world_core.specs.declared.answer.Answer.{Answer}
@@ -10,13 +10,14 @@ use Rattle.spin_world_core.specs.declared.place.Hold.TheVariants as hold
 use Rattle.spin_world_core.specs.declared.place.Seat.TheVariants.{Calling, Holding}
 use Rattle.spin_world_core.specs.declared.schedule.Move.{Move}
 use Rattle.spin_world_core.specs.declared.schedule.Move.TheVariants.{Step}
-use Rattle.spin_world_core.specs.declared.schedule.Outcome.TheVariants.{Answered}
+use Rattle.spin_world_core.specs.declared.schedule.Outcome.TheVariants.{GoingOn, Answered}
 use Rattle.spin_world_ticket.specs.declared.ticket.TicketCall.{TicketCall}
 use Rattle.spin_world_ticket.specs.declared.ticket.TicketPoint.{TicketPoint}
 use Rattle.spin_world_ticket.specs.declared.ticket.TicketWords.{TicketWords}
+use Rattle.spin_world_core.specs.Calls.{Mark, AnyOf, tries}
 use Rattle.spin_world_core.specs.Machines.{Machine}
 use Rattle.spin_world_core.specs.Schedules.{after, at_first}
-use Rattle.spin_world_core.specs.Runs.{Seen, opening}
+use Rattle.spin_world_core.specs.Runs.{Seen, opening, own_count}
 use Rattle.spin_world_core.specs.Users.{seen_after, outcome_after, steps_made}
 
 -- a ticket goes
@@ -49,3 +50,15 @@ pub record InTurn {V : Type 0} (m : Machine TicketWords V TicketCall TicketPoint
   -- and where somebody holds with the ticket t, so many have
   pub holds : (p t : ℕ) → slice_get (after m (at_first m n) (past ++ further)).seats p ≡ Some (Holding (hold.Ticket t))
       → (after m (at_first m n) past).words.serving + tickets_gone m (seen_after m (opening m n) past) further ≡ t
+
+-- at a step of the party the number k was next
+abbrev pub FoundNext : ℕ → ℕ → List Mark → Type 0
+FoundNext p k span = AnyOf (λ m. (m.party ≡ p) × (next_word m.before ≡ k)) span
+
+-- Whoever tries goes on by its first step, and by its second where the number that was next at its first is served then, and is no used up one
+abbrev pub TriesByTwoLoads : {V : Type 0} → Machine TicketWords V TicketCall TicketPoint (Answer V) → ℕ → List (ℕ × Move TicketCall V) → Type 0
+TriesByTwoLoads m n past =
+    let seen = seen_after m (opening m n) past in
+    (p : ℕ) (c : TicketCall) (l : TicketPoint) (h : Option Hold) → slice_get (after m (at_first m n) past).seats p ≡ Some (Calling c l h) → m.asks c h ≡ tries to_take_and_enter
+    → (own_count p (seen.span p) ≡ 0 → outcome_after m n past p Step ≡ GoingOn)
+    × (own_count p (seen.span p) ≡ 1 → FoundNext p (serving_word seen.plain) (seen.span p) → serving_word seen.plain < ticket_limit → outcome_after m n past p Step ≡ GoingOn)

@@ -10,13 +10,14 @@ use Rattle.spin_world_ticket.specs.declared.ticket.TicketWords.{TicketWords}
 use Rattle.spin_world_ticket.specs.declared.ticket.TicketCall.{TicketCall}
 use Rattle.spin_world_ticket.specs.declared.ticket.TicketCall.TheVariants.{Lock, TryLock, IsLocked, Release}
 use Rattle.spin_world_ticket.specs.declared.ticket.TicketPoint.{TicketPoint}
-use Rattle.spin_world_ticket.specs.declared.ticket.TicketPoint.TheVariants.{LoadNext, Take, Await, TryLoadServing, TryTake, LookServing, LookNext}
+use Rattle.spin_world_ticket.specs.declared.ticket.TicketPoint.TheVariants.{LoadNext, Take, Await, TryLoadNext, TryLoadServing, TryTake, LookServing, LookNext}
 use Rattle.spin_world_core.specs.declared.schedule.Move.{Move}
 use Rattle.spin_world_core.specs.declared.schedule.Move.TheVariants.{Begin, Step, Weak}
 use Rattle.spin_step.specs.Plain.{Change, gets, to_enter, ticket_limit}
 use Rattle.spin_world_core.specs.Calls.{Asked, looks}
 use Rattle.spin_world_core.specs.Machines.{Machine}
-use Rattle.spin_world_ticket.specs.Ticket.{granted, ticket_machine}
+use Rattle.spin_world_core.specs.Acts.{either}
+use Rattle.spin_world_ticket.specs.Ticket.{is_free, granted, ticket_machine}
 
 abbrev TicketMachine : Type 0 → Type 0
 TicketMachine V = Machine TicketWords V TicketCall TicketPoint (Answer V)
@@ -161,3 +162,28 @@ gives_up_early m w value c l h = m.step w value c l h
 
 abbrev pub leaves_the_last_ticket : {V : Type 0} → V → TicketMachine V
 leaves_the_last_ticket {V} v = let m : TicketMachine V = ticket_machine v (ticket_limit - 1) in record m { step = gives_up_early m }
+
+-- a `try_lock` that loads the number that is served, and takes that one as its ticket
+abbrev hurries : {V : Type 0} → TicketMachine V → TicketWords → Option V → TicketCall → TicketPoint → Option Hold → Stepped TicketWords V TicketPoint (Answer V)
+hurries m w value c TryLoadNext h = stays_at w (GoesOn (TryTake w.serving))
+hurries m w value c l h = m.step w value c l h
+
+abbrev pub tries_by_one_load : {V : Type 0} → V → TicketMachine V
+tries_by_one_load {V} v = let m : TicketMachine V = ticket_machine v 0 in record m { step = hurries m }
+
+abbrev pub one_load : {V : Type 0} → Entries V
+one_load = (0, Begin TryLock) ∷ (0, Step) ∷ []
+
+-- a `try_lock` that loads the number that is served before the next one
+abbrev turns_round : {V : Type 0} → TicketMachine V → TicketWords → Option V → TicketCall → TicketPoint → Option Hold → Stepped TicketWords V TicketPoint (Answer V)
+turns_round m w value c TryLoadNext h = stays_at w (GoesOn (TryLoadServing w.serving))
+turns_round m w value c (TryLoadServing k) h = stays_at w (either (is_free k w.next) (GoesOn (TryTake k)) (Answers Refused h))
+turns_round m w value c l h = m.step w value c l h
+
+abbrev pub swaps_its_loads : {V : Type 0} → V → TicketMachine V
+swaps_its_loads {V} v = let m : TicketMachine V = ticket_machine v 0 in record m { step = turns_round m }
+
+-- a holder lets go between its two loads
+abbrev pub let_go_between : {V : Type 0} → Entries V
+let_go_between =
+    (0, Begin TryLock) ∷ (0, Step) ∷ (0, Step) ∷ (0, Step) ∷ (1, Begin TryLock) ∷ (1, Step) ∷ (0, Begin Release) ∷ (0, Step) ∷ []

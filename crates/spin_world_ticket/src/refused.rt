@@ -3,7 +3,8 @@ ghost use Rattle.std.specs.Prelude.{◌≡◌, []};
 ghost use Rattle.spin_world_core.specs.Operations.{Stepwise};
 ghost use Rattle.spin_world_core.specs.Runs.{KeepsAll, MomentsAll, CountsAll};
 ghost use Rattle.spin_world_ticket.specs.Named.{IsTicketLock};
-ghost use Rattle.spin_world_ticket.specs.Wrong.{looks_in_vain, three_loads, looks_backwards, look_beside_a_queue, queues_behind_nobody, lock_beside_a_holder, never_enters, lock_alone, enters_by_look, two_queue, never_tries, try_alone, looks_at_both, locks_again, tries_by_looking, takes_by_chance, try_in_vain, lock_in_vain, opens_with_a_ticket, leaves_the_last_ticket};
+ghost use Rattle.spin_world_ticket.specs.Turns.{TriesByTwoLoads};
+ghost use Rattle.spin_world_ticket.specs.Wrong.{tries_by_one_load, one_load, swaps_its_loads, let_go_between, looks_in_vain, three_loads, looks_backwards, look_beside_a_queue, queues_behind_nobody, lock_beside_a_holder, never_enters, lock_alone, enters_by_look, two_queue, never_tries, try_alone, looks_at_both, locks_again, tries_by_looking, takes_by_chance, try_in_vain, lock_in_vain, opens_with_a_ticket, leaves_the_last_ticket};
 
 /// An `is_locked` of a ticket lock that loads the next number first: its `false` has no moment.
 pub fn a_look_loads_the_served_number_first<V: Copy>()
@@ -68,4 +69,10 @@ pub fn a_look_takes_two_loads<V: Copy>()
 /// A `try_lock` that is refused where the last ticket is next: it is no less a ticket than the others.
 pub fn the_last_ticket_is_taken<V: Copy>()
     ensures { (value : V) → MomentsAll (leaves_the_last_ticket value) 1 try_alone → ⊥ }
+{}
+
+/// A `try_lock` that takes the number that it finds served, by two steps; and one that loads that number before the next.
+pub fn a_try_loads_the_next_number_first<V: Copy>()
+    ensures hurries { (value : V) → TriesByTwoLoads (tries_by_one_load value) 1 one_load → ⊥ }
+    ensures swaps { (value : V) → TriesByTwoLoads (swaps_its_loads value) 2 let_go_between → ⊥ }
 {}
