@@ -52,6 +52,7 @@ impl<T, P: Order<T>, H: History> Growing<T, P, H> {
     /// Creates a value that grows from this one. The log is empty before.
     pub fn new(value: T, log: Log<T, H>) -> Self
         requires { log.entries ≡ [] }
+        ensures { result.register.value ≡ value }
     {
         Growing {
             register: Register::new(value, log),
@@ -95,6 +96,7 @@ impl<T, P: Order<T>, H: History> Growing<T, P, H> {
 
     /// Returns the value and its whole history, to which nothing is added any more.
     pub fn close(self) -> (T, ClosedLog<T, H>)
+        ensures value { result.0 ≡ self.register.value }
         ensures ordered { InOrder P.le result.1.entries }
         ensures last { last result.1.entries ≡ Some result.0 }
     {

@@ -22,7 +22,8 @@ impl<T, H: History> Register<T, H> {
     /// Creates a register. The value is the next entry of the log.
     #[tactic(auto, using(crate::proofs::Entries::last_is))]
     pub fn new(value: T, log: Log<T, H>) -> Self
-        ensures { result.log.entries ≡ log.entries ++ value ∷ [] }
+        ensures value { result.value ≡ value }
+        ensures exact { result.log.entries ≡ log.entries ++ value ∷ [] }
     {
         let mut log = log;
         log.append(&value);
@@ -80,6 +81,7 @@ impl<T, H: History> Register<T, H> {
     /// # Contract
     /// The value is the last entry. Every snapshot is a prefix of the history, by [`ClosedLog::observe`].
     pub fn close(self) -> (T, ClosedLog<T, H>)
+        ensures value { result.0 ≡ self.value }
         ensures exact { result.1.entries ≡ self.log.entries }
         ensures last { last result.1.entries ≡ Some result.0 }
     {

@@ -1,5 +1,5 @@
 //! A number that threads add to, whose total is exactly what was added.
-ghost use Rattle.std.specs.Prelude.{◌≡◌, ◌+◌, ◌<◌, MatchBool};
+ghost use Rattle.std.specs.Prelude.{◌≡◌, ℕ, ◌+◌, ◌^◌, ◌<◌, ◌≤◌, MatchBool, ⊤};
 
 use spin_lock::lock::Lock;
 use std::mem;
@@ -30,6 +30,7 @@ impl<L: Ledger> Tally<L> {
     /// Adds `more`, and counts it in the caller's share. Returns `false`, and adds nothing, where the sum would not fit.
     pub fn add(&mut self, mine: &mut Share<L>, more: u64) -> bool
         requires { 0 < mine.old.parts }
+        ensures full { MatchBool result ⊤ ((self.old.count < 2 ^ 64) × (2 ^ 64 ≤ self.old.count + more)) }
         ensures parts { mine.new.parts ≡ mine.old.parts }
         ensures amount { MatchBool result (mine.new.amount ≡ mine.old.amount + more) (mine.new.amount ≡ mine.old.amount) }
     {
@@ -59,7 +60,7 @@ impl<L: Ledger> Tally<L> {
 /// Adds `more` to a tally under a lock. Returns `false`, and adds nothing, where the sum would not fit.
 ///
 /// # Contract
-/// The caller's share counts what it added.
+/// The caller's share counts what it added. `false` comes only where the sum would not fit.
 pub fn add<L: Ledger, K: Lock<Tally<L>>, W: Wait>(
     rt: &W,
     lock: &K,
@@ -67,6 +68,7 @@ pub fn add<L: Ledger, K: Lock<Tally<L>>, W: Wait>(
     more: u64,
 ) -> bool
     requires { 0 < mine.old.parts }
+    ensures full { MatchBool result ⊤ ((before : ℕ) × ((before < 2 ^ 64) × (2 ^ 64 ≤ before + more))) }
     ensures parts { mine.new.parts ≡ mine.old.parts }
     ensures amount { MatchBool result (mine.new.amount ≡ mine.old.amount + more) (mine.new.amount ≡ mine.old.amount) }
 {
@@ -76,6 +78,7 @@ pub fn add<L: Ledger, K: Lock<Tally<L>>, W: Wait>(
         rt,
         move |tally: &mut Tally<L>| -> (bool, Share<L>)
             requires { 0 < held.parts }
+            ensures full { MatchBool result.0 ⊤ ((before : ℕ) × ((before < 2 ^ 64) × (2 ^ 64 ≤ before + more))) }
             ensures parts { result.1.parts ≡ held.parts }
             ensures amount { MatchBool result.0 (result.1.amount ≡ held.amount + more) (result.1.amount ≡ held.amount) }
         {
