@@ -26,5 +26,6 @@ pub use spin_world_rw::{
     an_upgrade_opens_by_releases, looks_agree_across_conversions, readers_stand_beside_no_writer,
 };
 pub use spin_world_ticket::{
-    Ticket, TicketCall, TicketPoint, TicketWords, tickets_enter_by_releases, tickets_stand_in_order,
+    Ticket, TicketCall, TicketPoint, TicketWords, a_try_finds_its_number_by_two_loads,
+    tickets_enter_by_releases, tickets_stand_in_order,
 };

@@ -5,5 +5,7 @@ mod laws;
 pub mod refused;
 mod ticket;
 
-pub use laws::{tickets_enter_by_releases, tickets_stand_in_order};
+pub use laws::{
+    a_try_finds_its_number_by_two_loads, tickets_enter_by_releases, tickets_stand_in_order,
+};
 pub use ticket::{Ticket, TicketCall, TicketPoint, TicketWords};
