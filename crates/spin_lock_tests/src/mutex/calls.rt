@@ -1,5 +1,5 @@
 //! Which call is granted, and what frees a lock: the mutexes have the same calls, under the same names.
-use crate::lock::{Lock, read, write};
+use crate::mutex::lock::{Lock, read, write};
 use spin_core::relax::Loop;
 use spin_mutex::mutex::{FairMutex, Mutex, SpinMutex, TicketMutex};
 use std::sync::Wait;

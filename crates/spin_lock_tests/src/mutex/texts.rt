@@ -1,6 +1,6 @@
 //! The texts as they are printed, with options too, and that a lock is left as it was.
 use crate::equal::equal;
-use crate::lock::Lock;
+use crate::mutex::lock::Lock;
 use spin_mutex::mutex::{FairMutex, Mutex, SpinMutex, TicketMutex};
 use std::fmt;
 use std::fmt::{Debug, Display, Write};

@@ -1,5 +1,5 @@
 //! The ends of each lock by which threads take turns. A lock for readers ends in three ways, by who had it last.
-use crate::counted::{Counted, ended};
+use crate::ends::counted::{Counted, ended};
 use spin_mutex::mutex::{
     FairMutex, FairMutexGuard, Mutex, MutexGuard, SpinMutex, SpinMutexGuard, TicketMutex,
     TicketMutexGuard,

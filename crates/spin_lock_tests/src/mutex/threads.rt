@@ -1,6 +1,6 @@
 //! Threads take turns, a look leaves the lock to them, and a guard may end in another thread than the one that took it.
 use crate::equal::equal;
-use crate::lock::read;
+use crate::mutex::lock::read;
 use spin_core::relax::{RelaxStrategy, Yield};
 use spin_mutex::mutex::{FairMutex, Mutex, SpinMutex, TicketMutex};
 use std::alloc::Global;

@@ -1,5 +1,5 @@
 //! The ends of a value that is made once, and of what makes it.
-use crate::counted::{Counted, ended};
+use crate::ends::counted::{Counted, ended};
 use spin_once::lazylock::LazyLock;
 use spin_once::once::Once;
 use std::cell::Cell;

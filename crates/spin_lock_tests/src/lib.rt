@@ -1,0 +1,13 @@
+//! Tests of the locks over the raw cell, each kind in a module of its own: what no contract says of them.
+#![tactic(auto)]
+
+#[cfg(test)]
+mod ends;
+#[cfg(test)]
+mod equal;
+#[cfg(test)]
+mod mutex;
+#[cfg(test)]
+mod once;
+#[cfg(test)]
+mod rwlock;

@@ -1,0 +1,6 @@
+//! `Once` and `LazyLock`, and proved callers.
+mod calls;
+mod lazylock;
+mod texts;
+mod threads;
+mod waits;

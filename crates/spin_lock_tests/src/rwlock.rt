@@ -1,0 +1,5 @@
+//! `RwLock`.
+mod calls;
+mod texts;
+mod threads;
+mod values;
