@@ -1,5 +1,6 @@
 -- `enter` makes a permit that has taken no step.
-use Rattle.spin_core.proofs.WalkNames.{◌≡◌, ℕ, [], ◌∷◌, refl, None, dcons, dnil, a_type, named, Val, vptr, inst_fn, emp, SProp, fex, Lft, Share, Fml, ftrue, fsep, flft, ‵, raw, ◌⊛◌, ◌$◌, ◌∵◌, !, qed, by, move, keep, split, join, fsplit, fjoin, fpick, fpack, use0, stop, addr, no_more, and_then, returns, enter, alloc_all, pass_all, free_all, look_at, get, through, sets, agg, tables, fact, fact_i, yes, RattleType, owns, types_at, plain, named_lft, Ptr, block_ptr, nothing, param, bounded, Stays, stay_dropped, walk_of, Goes-dropped, proved, leaves, RefOf, shr_vals, shr_Tells, unhide}
+use Rattle.spin_core.proofs.WalkNames.{◌≡◌, ℕ, [], ◌∷◌, refl, None, dcons, dnil, a_type, named, Val, vptr, inst_fn, emp, SProp, fex, Lft, Share, Fml, flft, ‵, raw, ◌⊛◌, ◌$◌, ◌∵◌, !, qed, by, move, keep, split, join, fsplit, fjoin, fpick, fpack, use0, stop, addr, no_more, and_then, returns, enter, alloc_all, pass_all, free_all, look_at, get, through, sets, agg, tables, fact, fact_i, yes, RattleType, owns, types_at, plain, named_lft, Ptr, block_ptr, nothing, param, bounded, Stays, stay_dropped, walk_of, Goes-dropped, proved, leaves, RefOf, shr_vals, shr_Tells, unhide}
+use Rattle.spin_core.proofs.CellStepWalks.{others}
 use Rattle.spin_core.specs.CellMemory.{Known, Id, permit_at}
 use Rattle.spin_core.specs.contracts.cell.Cell as cell
 use Rattle.spin_core.specs.contracts.cell.Permit as hand
@@ -16,9 +17,9 @@ enter_spec 𝓤 𝓛 𝓜 𝓡 wired T V P K S L _ _ _ LS g d _ =
     let Row : RattleType = cell.the_row R W Y Kr Sr g in let self = RefOf (0 ∷ []) tt (plain (λ _. Row)) (λ _. tt) in let hs : Stays En.signature.params En.kept = (stay_dropped self yes, tt) in
     proved 𝓛 En hs c 𝓜 𝓡 (Goes-dropped 𝓛 6 self yes (λ κs x f. refl), tt) (#self inst) fn closed (λ κs. (shr_vals, tt)) (λ κs. (shr_Tells (named 0) κs.0 Row, tt)) (λ κs qs bounds a gh are.
     let b : ℕ = a.0.ref_ptr.0 in let o : ℕ = a.0.ref_ptr.1 in let κ : Lft = κs.0 in let q : Share = qs.0 in let ℓ = named_lft 6 0 tt κs in let Hr : RattleType = hand.the_row ℓ R W Y Kr Sr g in
-    let others : Fml = fsep (flft κs.1.0 qs.1.0) (fsep (flft κs.1.1.0 qs.1.1.0) (fsep (flft κs.1.1.1.0 qs.1.1.1.0) (fsep (flft κs.1.1.1.1.0 qs.1.1.1.1.0) (fsep (flft κs.1.1.1.1.1.0 qs.1.1.1.1.1.0) ftrue)))) in let p : Ptr = block_ptr b o in let At : Id → Fml = permit_at Y R cw.code Sr g.holds (g.ways a.0.now) κ b o None None in
+    let os : Fml = others 5 κs.1 qs.1 in let p : Ptr = block_ptr b o in let At : Id → Fml = permit_at Y R cw.code Sr g.holds (g.ways a.0.now) κ b o None None in
     let y : (walk_of 𝓛 En hs c).Ghost = ((κs, qs, bounds, a, (vptr b o ∷ [], tt)), gh) in let Post : Val → SProp 𝓤 = (walk_of 𝓛 En hs c).post y in
-    qed 𝓛 (((‵ (flft κ q) ⊛ ‵ others) ⊛ ‵ (owns (types_at En.signature.params κs) a y.0.4)) ∷ raw ((c κs a).requires gh) ∷ []) ∵
+    qed 𝓛 (((‵ (flft κ q) ⊛ ‵ os) ⊛ ‵ (owns (types_at En.signature.params κs) a y.0.4)) ∷ raw ((c κs a).requires gh) ∷ []) ∵
     split ! $ split ! $ move ! (2 ∷ []) $ fsplit ! $ fsplit ! $ keep ! (1 ∷ 3 ∷ 4 ∷ []) $
     enter ! 𝓣.C 𝓣.Λ fn (vptr b o ∷ []) Post $ alloc_all ! (λ l. pass_all ! refl ((tt, tt), tt) $
     sets ! (addr ! (through ! refl (stop !))) refl (tt, tt) $ sets ! (agg ! (no_more !)) refl (tt, tt) $ sets ! (agg ! (and_then ! (get ! refl) (and_then ! (get ! refl) (no_more !)))) refl (tt, (tt, (tt, tt))) $

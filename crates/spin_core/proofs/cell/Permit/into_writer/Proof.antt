@@ -1,5 +1,6 @@
 -- `into_writer` keeps what the permit owns, at a view that writes.
-use Rattle.spin_core.proofs.WalkNames.{◌≡◌, [], ◌∷◌, refl, sym, Some, dcons, dnil, a_type, Val, inst_fn, emp, SProp, guard_i, Lft, Share, Fml, ftrue, fsep, flft, sem, ‵, raw, ◌⊛◌, some, given, ◌$◌, ◌∵◌, !, qed, by, move, keep, split, join, fsplit, fjoin, pick, learn, use0, use1, stop, fld, of_opd, no_more, and_then, returns, enter, alloc_all, pass_all, free_all, look_at, get, get_in, sets, agg, sub, whole, tables, fact, fact_i, fact_use, no, RattleType, owns, types_at, plain, named_lft, Ptr, InBlock, nothing, heard, param, bounded, Stays, stay_dropped, walk_of, Goes-dropped, proved, leaves}
+use Rattle.spin_core.proofs.WalkNames.{◌≡◌, [], ◌∷◌, refl, sym, Some, dcons, dnil, a_type, Val, inst_fn, emp, SProp, guard_i, Lft, Share, Fml, flft, sem, ‵, raw, ◌⊛◌, some, given, ◌$◌, ◌∵◌, !, qed, by, move, keep, split, join, fsplit, fjoin, pick, learn, use0, use1, stop, fld, of_opd, no_more, and_then, returns, enter, alloc_all, pass_all, free_all, look_at, get, get_in, sets, agg, sub, whole, tables, fact, fact_i, fact_use, no, RattleType, owns, types_at, plain, named_lft, Ptr, InBlock, nothing, heard, param, bounded, Stays, stay_dropped, walk_of, Goes-dropped, proved, leaves}
+use Rattle.spin_core.proofs.CellStepWalks.{others}
 use Rattle.spin_core.specs.Cell.{writes, use_of}
 use Rattle.spin_core.specs.CellMemory.{permit_owns, writer_owns}
 use Rattle.spin_core.specs.contracts.cell.Permit as hand
@@ -19,9 +20,9 @@ into_writer_spec 𝓤 𝓛 𝓜 𝓡 wired T V P K S L _ _ _ LS g d _ =
     proved 𝓛 En hs c 𝓜 𝓡 (Goes-dropped 𝓛 6 self no (λ κs x f. refl), tt) (#self inst) fn closed
     (λ κs. ((λ x. hand_of x.cell ∷ []), tt)) (λ κs. ((λ x vs so. told (named_lft 6 0 tt κs) R W Y Kr Sr g x.cell vs so.0), tt)) (λ κs qs bounds a gh are.
     let ℓ = named_lft 6 0 tt κs in let Hr : RattleType = hand.the_row ℓ R W Y Kr Sr g in let Pr : RattleType = pen.the_row ℓ R W Y Kr Sr g in let h : Hr.Denot = a.0 in let p : Ptr = h.cell in let β : Lft = κs.0 in let q : Share = qs.0 in
-    let others : Fml = fsep (flft κs.1.0 qs.1.0) (fsep (flft κs.1.1.0 qs.1.1.0) (fsep (flft κs.1.1.1.0 qs.1.1.1.0) (fsep (flft κs.1.1.1.1.0 qs.1.1.1.1.0) (fsep (flft κs.1.1.1.1.1.0 qs.1.1.1.1.1.0) ftrue)))) in let Owned : Fml = permit_owns Y R cw.code Sr g.holds (g.ways h.key) β p h.view h.value in let Asked : Type 0 = use_of (g.ways h.key).1 h.view ≡ writes in
+    let os : Fml = others 5 κs.1 qs.1 in let Owned : Fml = permit_owns Y R cw.code Sr g.holds (g.ways h.key) β p h.view h.value in let Asked : Type 0 = use_of (g.ways h.key).1 h.view ≡ writes in
     let y : (walk_of 𝓛 En hs c).Ghost = ((κs, qs, bounds, a, (hand_of p ∷ [], tt)), gh) in let Post : Val → SProp 𝓤 = (walk_of 𝓛 En hs c).post y in
-    qed 𝓛 (((‵ (flft β q) ⊛ ‵ others) ⊛ ‵ (owns (types_at En.signature.params κs) a y.0.4)) ∷ raw (fact 𝓤 _) ∷ raw (fact 𝓤 _) ∷ raw (fact 𝓤 _) ∷ raw (fact 𝓤 _) ∷ raw (fact 𝓤 _) ∷ raw (fact 𝓤 Asked) ∷ []) ∵
+    qed 𝓛 (((‵ (flft β q) ⊛ ‵ os) ⊛ ‵ (owns (types_at En.signature.params κs) a y.0.4)) ∷ raw (fact 𝓤 _) ∷ raw (fact 𝓤 _) ∷ raw (fact 𝓤 _) ∷ raw (fact 𝓤 _) ∷ raw (fact 𝓤 _) ∷ raw (fact 𝓤 Asked) ∷ []) ∵
     keep ! (6 ∷ 0 ∷ []) $ heard ! Asked (λ asked. split ! $ split ! $ move ! (2 ∷ []) $ fsplit ! $ fsplit ! $ keep ! (1 ∷ 3 ∷ 4 ∷ []) $
     use1 𝓛 (given (InBlock p) (‵ Owned)) (fact_use 𝓤 _ (owns_placed 𝓛 Y R cw.code Sr g.holds (g.ways h.key) β p h.view h.value) (guard_i 𝓤 (InBlock p) (sem 𝓛 Owned))) $ learn ! (λ inb.
     use1 𝓛 (some (λ (s : V.Denot × T.Denot). given (Writes h.view h.value s) (‵ (writer_owns Y R cw.code Sr g.holds (g.ways h.key) β p s.0 s.1)))) (to_writer 𝓛 Y R cw Sr g.holds (g.ways h.key) β p h.view h.value asked) $ pick ! (λ s. learn ! (λ so.

@@ -1,5 +1,6 @@
 -- `see` gives a party's part of the value away, for the rest of the cell's borrow.
-use Rattle.spin_core.proofs.WalkNames.{Some, some, pick, heard, hidden_shr, param_laws, ◌≡◌, sym, ℕ, ◌+◌, List, [], ◌∷◌, refl, ap, dcons, dnil, a_type, Val, vptr, inst_fn, emp, SProp, guard_i, Lft, Share, Fml, ftrue, fsep, flft, sem, ‵, raw, ◌⊛◌, given, later, at_ret, ◌$◌, ◌∵◌, !, qed, by, move, keep, split, join, fsplit, fjoin, learn, use0, use1, await, rewrite, feq_i, stop, fld, addr, of_opd, first, blocks, exec, returns, enter, alloc_all, pass_all, free_all, look_at, get, get_in, through, sets, sets_last, is, env, sub, whole, tables, fact, fact_i, fact_use, no, RattleType, owns, types_at, plain, named_lft, Ptr, InBlock, block_ptr, ptr_val, block_of, count_of, at_block, nothing, param, bounded, Stays, stay_dropped, walk_of, Goes-dropped, tail, proved, leaves}
+use Rattle.spin_core.proofs.WalkNames.{Some, some, pick, heard, hidden_shr, param_laws, ◌≡◌, sym, ℕ, ◌+◌, List, [], ◌∷◌, refl, ap, dcons, dnil, a_type, Val, vptr, inst_fn, emp, SProp, guard_i, Lft, Share, Fml, flft, sem, ‵, raw, ◌⊛◌, given, later, at_ret, ◌$◌, ◌∵◌, !, qed, by, move, keep, split, join, fsplit, fjoin, learn, use0, use1, await, rewrite, feq_i, stop, fld, addr, of_opd, first, blocks, exec, returns, enter, alloc_all, pass_all, free_all, look_at, get, get_in, through, sets, sets_last, is, env, sub, whole, tables, fact, fact_i, fact_use, no, RattleType, owns, types_at, plain, named_lft, Ptr, InBlock, block_ptr, ptr_val, block_of, count_of, at_block, nothing, param, bounded, Stays, stay_dropped, walk_of, Goes-dropped, tail, proved, leaves}
+use Rattle.spin_core.proofs.CellStepWalks.{others}
 use Rattle.spin_core.specs.CellMemory.{offset, permit_owns}
 use Rattle.spin_core.specs.Cell.{reads, use_of, Seen}
 use Rattle.spin_core.specs.contracts.cell.Permit as hand
@@ -18,9 +19,9 @@ see_spec 𝓤 𝓛 𝓜 𝓡 wired T V P K S L _ _ _ LS g d _ =
     proved 𝓛 En hs c 𝓜 𝓡 (Goes-dropped 𝓛 6 self no (λ κs x f. refl), tt) (#self inst) fn closed
     (λ κs. ((λ x. hand_of x.cell ∷ []), tt)) (λ κs. ((λ x vs so. told (named_lft 6 0 tt κs) R W Y Kr Sr g x.cell vs so.0), tt)) (λ κs qs bounds a gh are.
     let ℓ = named_lft 6 0 tt κs in let Hr : RattleType = hand.the_row ℓ R W Y Kr Sr g in let h : Hr.Denot = a.0 in let p : Ptr = h.cell in let b : ℕ = block_of p in let o : ℕ = count_of p in let e : ℕ = o + offset R in let β : Lft = κs.0 in let q : Share = qs.0 in let ways = g.ways h.key in
-    let others : Fml = fsep (flft κs.1.0 qs.1.0) (fsep (flft κs.1.1.0 qs.1.1.0) (fsep (flft κs.1.1.1.0 qs.1.1.1.0) (fsep (flft κs.1.1.1.1.0 qs.1.1.1.1.0) (fsep (flft κs.1.1.1.1.1.0 qs.1.1.1.1.1.0) ftrue)))) in let Owned : Ptr → Fml = λ z. permit_owns Y R cw.code Sr g.holds ways β z h.view h.value in let Asked : Type 0 = use_of ways.1 h.view ≡ reads in
+    let os : Fml = others 5 κs.1 qs.1 in let Owned : Ptr → Fml = λ z. permit_owns Y R cw.code Sr g.holds ways β z h.view h.value in let Asked : Type 0 = use_of ways.1 h.view ≡ reads in
     let y : (walk_of 𝓛 En hs c).Ghost = ((κs, qs, bounds, a, (hand_of p ∷ [], tt)), gh) in let Post : Val → SProp 𝓤 = (walk_of 𝓛 En hs c).post y in
-    qed 𝓛 (((‵ (flft β q) ⊛ ‵ others) ⊛ ‵ (owns (types_at En.signature.params κs) a y.0.4)) ∷ raw (fact 𝓤 _) ∷ raw (fact 𝓤 _) ∷ raw (fact 𝓤 _) ∷ raw (fact 𝓤 _) ∷ raw (fact 𝓤 _) ∷ raw (fact 𝓤 Asked) ∷ []) ∵
+    qed 𝓛 (((‵ (flft β q) ⊛ ‵ os) ⊛ ‵ (owns (types_at En.signature.params κs) a y.0.4)) ∷ raw (fact 𝓤 _) ∷ raw (fact 𝓤 _) ∷ raw (fact 𝓤 _) ∷ raw (fact 𝓤 _) ∷ raw (fact 𝓤 _) ∷ raw (fact 𝓤 Asked) ∷ []) ∵
     keep ! (6 ∷ 0 ∷ []) $ heard ! Asked (λ asked. split ! $ split ! $ move ! (2 ∷ []) $ fsplit ! $ fsplit ! $ keep ! (1 ∷ 3 ∷ 4 ∷ []) $
     use1 𝓛 (given (InBlock p) (‵ (Owned p))) (fact_use 𝓤 _ (owns_placed 𝓛 Y R cw.code Sr g.holds ways β p h.view h.value) (guard_i 𝓤 (InBlock p) (sem 𝓛 (Owned p)))) $ learn ! (λ inb. let at : p ≡ block_ptr b o = at_block p inb in
     rewrite ! 0 (λ (z : Ptr). ‵ (Owned z)) at refl $

@@ -1,6 +1,7 @@
 -- `get` shows the value for as long as the permit is borrowed.
-use Rattle.spin_core.proofs.WalkNames.{◌≡◌, ℕ, ◌+◌, List, [], ◌∷◌, ◌++◌, refl, ap, dcons, dnil, a_type, named, Val, vptr, inst_fn, emp, SProp, guard_i, Lft, Fml, ftrue, fsep, flft, Incl-refl, sem, ‵, raw, ◌⊛◌, given, at_ret, ◌$◌, ◌∵◌, !, qed, by, move, keep, split, join, fsplit, fjoin, learn, use0, use1, rewrite, feq_i, stop, fld, addr, of_opd, first, blocks, exec, returns, enter, alloc_all, pass_all, free_all, look_at, get, through, sets, sets_last, env, sub, whole, tables, fact, fact_i, fact_use, yes, RattleType, owns, types_at, plain, named_lft, Ptr, InBlock, block_ptr, block_of, count_of, at_block, nothing, param, bounded, param_laws, Stays, stay_dropped, walk_of, Goes-dropped, tail, proved, leaves, RefOf, shr_vals, shr_Tells, unhide, hop, look_in, lent_out, shortens, ⊑_meet, hidden_shr, cell_at, looks, peeks, shuts, Is, shows, ◌∙◌, sym, fhide}
+use Rattle.spin_core.proofs.WalkNames.{◌≡◌, ℕ, ◌+◌, List, [], ◌∷◌, ◌++◌, refl, ap, dcons, dnil, a_type, named, Val, vptr, inst_fn, emp, SProp, guard_i, Lft, Fml, flft, Incl-refl, sem, ‵, raw, ◌⊛◌, given, at_ret, ◌$◌, ◌∵◌, !, qed, by, move, keep, split, join, fsplit, fjoin, learn, use0, use1, rewrite, feq_i, stop, fld, addr, of_opd, first, blocks, exec, returns, enter, alloc_all, pass_all, free_all, look_at, get, through, sets, sets_last, env, sub, whole, tables, fact, fact_i, fact_use, yes, RattleType, owns, types_at, plain, named_lft, Ptr, InBlock, block_ptr, block_of, count_of, at_block, nothing, param, bounded, param_laws, Stays, stay_dropped, walk_of, Goes-dropped, tail, proved, leaves, RefOf, shr_vals, shr_Tells, unhide, hop, look_in, lent_out, shortens, ⊑_meet, hidden_shr, cell_at, looks, peeks, shuts, Is, shows, ◌∙◌, sym, fhide}
 use Rattle.core.specs.contracts.marker.PhantomData as marker
+use Rattle.spin_core.proofs.CellStepWalks.{others}
 use Rattle.spin_core.specs.CellMemory.{offset, writer_shares}
 use Rattle.spin_core.specs.contracts.cell.WritePermit as hand
 use Rattle.spin_core.proofs.PermitFields.{hand_of, Words, told, opened, pen_sees}
@@ -17,10 +18,10 @@ get_spec 𝓤 𝓛 𝓜 𝓡 wired T V P K S L _ _ _ LS g d _ =
     proved 𝓛 En hs c 𝓜 𝓡 (Goes-dropped 𝓛 7 self yes (λ κs x f. refl), tt) (#self inst) fn closed
     (λ κs. (shr_vals, tt)) (λ κs. (shr_Tells (named 0) κs.0 (hand.the_row (named_lft 7 1 tt κs) R W Y Kr Sr g), tt)) (λ κs qs bounds a gh are.
     let ℓ = named_lft 7 1 tt κs in let Hr : RattleType = hand.the_row ℓ R W Y Kr Sr g in let D : RattleType = Words ℓ R W Y Kr Sr g in let b : ℕ = a.0.ref_ptr.0 in let o : ℕ = a.0.ref_ptr.1 in let κ : Lft = κs.0 in let β : Lft = κs.1.0 in
-    let h : Hr.Denot = a.0.now in let p : Ptr = h.cell in let others : Fml = fsep (flft β qs.1.0) (fsep (flft κs.1.1.0 qs.1.1.0) (fsep (flft κs.1.1.1.0 qs.1.1.1.0) (fsep (flft κs.1.1.1.1.0 qs.1.1.1.1.0) (fsep (flft κs.1.1.1.1.1.0 qs.1.1.1.1.1.0) (fsep (flft κs.1.1.1.1.1.1.0 qs.1.1.1.1.1.1.0) ftrue))))) in
+    let h : Hr.Denot = a.0.now in let p : Ptr = h.cell in let os : Fml = others 6 κs.1 qs.1 in
     let pb : ℕ = block_of p in let po : ℕ = count_of p in let e : ℕ = po + offset R in let x : T.Denot = h.value in let Lent : Fml = writer_shares Y R cw.code Sr g.holds (g.ways h.key) β p h.view x κ in
     let y : (walk_of 𝓛 En hs c).Ghost = ((κs, qs, bounds, a, (vptr b o ∷ [], tt)), gh) in let Post : Val → SProp 𝓤 = (walk_of 𝓛 En hs c).post y in
-    qed 𝓛 (((‵ (flft κ qs.0) ⊛ ‵ others) ⊛ ‵ (owns (types_at En.signature.params κs) a y.0.4)) ∷ raw ((c κs a).requires gh) ∷ []) ∵
+    qed 𝓛 (((‵ (flft κ qs.0) ⊛ ‵ os) ⊛ ‵ (owns (types_at En.signature.params κs) a y.0.4)) ∷ raw ((c κs a).requires gh) ∷ []) ∵
     split ! $ split ! $ move ! (2 ∷ []) $ fsplit ! $ fsplit ! $ keep ! (1 ∷ 3 ∷ 4 ∷ []) $
     enter ! 𝓣.C 𝓣.Λ fn (vptr b o ∷ []) Post $ alloc_all ! (λ l. pass_all ! refl ((tt, tt), tt) $ let Ev = types.ByLocal.env fn.locals l in
     use1 𝓛 (‵ (hidden_shr D κ (p, (tt, tt)) b o) ⊛ ‵ (fhide Lent))

@@ -1,8 +1,9 @@
 -- `get_mut` lends the value, and the permit follows it. Assumes `Logic`.
-use Rattle.spin_core.proofs.WalkNames.{◌≡◌, ℕ, ◌+◌, List, [], ◌∷◌, refl, sym, ap, ◌∙◌, a_type, named, dcons, dnil, Val, vptr, inst_fn, full_share, SProp, ent, wand, emp, guard_i, apply∗, Lft, Share, Fml, ftrue, fsep, flft, before, Logic, sem, split3, ‵, raw, ◌⊛◌, at_ret, ◌$◌, ◌∵◌, !, qed, by, move, keep, split, join, fsplit, fsplit3, fjoin, use0, use1, use2, use3, later, some, given, learn, await, pick, fpick, fpack, rewrite, stop, addr, of_opd, first, blocks, exec, returns, enter, fld, hop, alloc_all, pass_all, free_all, look_at, get, through, sets, sets_last, env, sub, whole, look_in, tables, fact, fact_i, fact_use, no, RattleType, owns, Is, shows, types_at, plain, named_lft, RefMutOf, nothing, peeks, param, bounded, cell_at, part_at, Ptr, InBlock, block_ptr, block_of, count_of, at_block, Stays, stay_dropped, walk_of, tail, proved, leaves}
+use Rattle.spin_core.proofs.WalkNames.{◌≡◌, ℕ, ◌+◌, List, [], ◌∷◌, refl, sym, ap, ◌∙◌, a_type, named, dcons, dnil, Val, vptr, inst_fn, full_share, SProp, ent, wand, emp, guard_i, apply∗, Lft, Share, Fml, fsep, flft, before, Logic, sem, split3, ‵, raw, ◌⊛◌, at_ret, ◌$◌, ◌∵◌, !, qed, by, move, keep, split, join, fsplit, fsplit3, fjoin, use0, use1, use2, use3, later, some, given, learn, await, pick, fpick, fpack, rewrite, stop, addr, of_opd, first, blocks, exec, returns, enter, fld, hop, alloc_all, pass_all, free_all, look_at, get, through, sets, sets_last, env, sub, whole, look_in, tables, fact, fact_i, fact_use, no, RattleType, owns, Is, shows, types_at, plain, named_lft, RefMutOf, nothing, peeks, param, bounded, cell_at, part_at, Ptr, InBlock, block_ptr, block_of, count_of, at_block, Stays, stay_dropped, walk_of, tail, proved, leaves}
 use seplogic.Ra.Ura.{Ura}
 use base.Logic.{ex, all, all_e}
 use denote.Ref.{NamedLft, MutBor}
+use Rattle.spin_core.proofs.CellStepWalks.{others}
 use Rattle.spin_core.specs.declared.cell.Rule.{Ghosts}
 use base.Fml.{Incl, GName}
 use types.Kit.{each, show, frame, assume}
@@ -68,9 +69,9 @@ get_mut_spec 𝓤 𝓛 𝓜 𝓡 wired T V P K S L _ _ _ LS g d _ =
     (λ κs. (mut_vals, tt)) (λ κs. (mut_Tells (named 0) κs.0 (the_row (named_lft 7 1 tt κs) R W Y Kr Sr g), tt)) (λ κs qs bounds a gh are.
     let ℓ = named_lft 7 1 tt κs in let G : RattleType = the_row ℓ R W Y Kr Sr g in let D : RattleType = Words ℓ R W Y Kr Sr g in let m = a.0 in let b : ℕ = m.ref_ptr.0 in let o : ℕ = m.ref_ptr.1 in let γ : GName = m.ghost_name in let h : G.Denot = m.now in
     let κ : Lft = κs.0 in let q : Share = qs.0 in let β : Lft = κs.1.0 in let p : Ptr = h.cell in let pb : ℕ = block_of p in let po : ℕ = count_of p in let e : ℕ = po + offset R in let x : T.Denot = h.value in let F : T.Denot → G.Denot = with_value h in
-    let others : Fml = fsep (flft β qs.1.0) (fsep (flft κs.1.1.0 qs.1.1.0) (fsep (flft κs.1.1.1.0 qs.1.1.1.0) (fsep (flft κs.1.1.1.1.0 qs.1.1.1.1.0) (fsep (flft κs.1.1.1.1.1.0 qs.1.1.1.1.1.0) (fsep (flft κs.1.1.1.1.1.1.0 qs.1.1.1.1.1.1.0) ftrue))))) in let Had : Ptr → T.Denot → Fml = λ z w. writer_owns Y R cw.code Sr g.holds (g.ways h.key) β z h.view w in
+    let os : Fml = others 6 κs.1 qs.1 in let Had : Ptr → T.Denot → Fml = λ z w. writer_owns Y R cw.code Sr g.holds (g.ways h.key) β z h.view w in
     let Ws : Fml = part_at D full_share (p, (tt, tt)) b o in let y : (walk_of 𝓛 En hs c).Ghost = ((κs, qs, bounds, a, (vptr b o ∷ [], tt)), gh) in let Post : Val → SProp 𝓤 = (walk_of 𝓛 En hs c).post y in
-    qed 𝓛 (((‵ (flft κ q) ⊛ ‵ others) ⊛ ‵ (owns (types_at En.signature.params κs) a y.0.4)) ∷ raw ((c κs a).requires gh) ∷ []) ∵
+    qed 𝓛 (((‵ (flft κ q) ⊛ ‵ os) ⊛ ‵ (owns (types_at En.signature.params κs) a y.0.4)) ∷ raw ((c κs a).requires gh) ∷ []) ∵
     split ! $ split ! $ move ! (2 ∷ []) $ fsplit ! $ fsplit3 ! $ keep ! (1 ∷ 2 ∷ 4 ∷ 5 ∷ []) $
     enter ! 𝓣.C 𝓣.Λ fn (vptr b o ∷ []) Post $ alloc_all ! (λ l. pass_all ! refl ((tt, tt), tt) $ let Ev = env fn.locals l in
     open_ref ! tt (in_memory G) $ use1 𝓛 (‵ Ws ⊛ ‵ (Had p x)) (part_out 𝓛 (the_type ℓ R W Y Kr Sr g) full_share h b o) $ split ! $ move ! (1 ∷ []) $

@@ -1,6 +1,7 @@
 -- `leak` gives the value's borrow away, for the rest of the cell's.
-use Rattle.spin_core.proofs.WalkNames.{◌≡◌, ℕ, ◌+◌, List, [], ◌∷◌, refl, ap, dcons, dnil, a_type, named, Val, vptr, inst_fn, emp, SProp, guard_i, Lft, Share, Fml, ftrue, fsep, flft, fbor, sem, ‵, raw, ◌⊛◌, given, later, at_ret, ◌$◌, ◌∵◌, !, qed, by, move, keep, split, join, fsplit, fjoin, fjoin3, fpick, learn, use0, use1, use3, await, rewrite, feq_i, stop, fld, addr, of_opd, first, blocks, exec, returns, enter, alloc_all, pass_all, free_all, look_at, get, get_in, through, sets, sets_last, is, env, sub, whole, tables, fact, fact_i, fact_use, no, RattleType, owns, types_at, plain, named_lft, Ptr, InBlock, block_ptr, ptr_val, block_of, count_of, at_block, nothing, param, bounded, Stays, stay_dropped, walk_of, Goes-dropped, tail, proved, leaves}
+use Rattle.spin_core.proofs.WalkNames.{◌≡◌, ℕ, ◌+◌, List, [], ◌∷◌, refl, ap, dcons, dnil, a_type, named, Val, vptr, inst_fn, emp, SProp, guard_i, Lft, Share, Fml, flft, fbor, sem, ‵, raw, ◌⊛◌, given, later, at_ret, ◌$◌, ◌∵◌, !, qed, by, move, keep, split, join, fsplit, fjoin, fjoin3, fpick, learn, use0, use1, use3, await, rewrite, feq_i, stop, fld, addr, of_opd, first, blocks, exec, returns, enter, alloc_all, pass_all, free_all, look_at, get, get_in, through, sets, sets_last, is, env, sub, whole, tables, fact, fact_i, fact_use, no, RattleType, owns, types_at, plain, named_lft, Ptr, InBlock, block_ptr, ptr_val, block_of, count_of, at_block, nothing, param, bounded, Stays, stay_dropped, walk_of, Goes-dropped, tail, proved, leaves}
 use denote.Ref.{MutRef}
+use Rattle.spin_core.proofs.CellStepWalks.{others}
 use Rattle.spin_core.specs.CellMemory.{offset, named as body, writer_owns}
 use Rattle.spin_core.specs.contracts.cell.WritePermit as pen
 use Rattle.spin_core.proofs.PermitFields.{hand_of, told, typed, pen_placed}
@@ -18,9 +19,9 @@ leak_spec 𝓤 𝓛 𝓜 𝓡 wired T V P K S L _ _ _ LS g d _ =
     proved 𝓛 En hs c 𝓜 𝓡 (Goes-dropped 𝓛 6 self no (λ κs x f. refl), tt) (#self inst) fn closed
     (λ κs. ((λ x. hand_of x.cell ∷ []), tt)) (λ κs. ((λ x vs so. told (named_lft 6 0 tt κs) R W Y Kr Sr g x.cell vs so.0), tt)) (λ κs qs bounds a gh are.
     let ℓ = named_lft 6 0 tt κs in let Pr : RattleType = pen.the_row ℓ R W Y Kr Sr g in let h : Pr.Denot = a.0 in let p : Ptr = h.cell in let b : ℕ = block_of p in let o : ℕ = count_of p in let e : ℕ = o + offset R in let β : Lft = κs.0 in let q : Share = qs.0 in let x : T.Denot = h.value in
-    let others : Fml = fsep (flft κs.1.0 qs.1.0) (fsep (flft κs.1.1.0 qs.1.1.0) (fsep (flft κs.1.1.1.0 qs.1.1.1.0) (fsep (flft κs.1.1.1.1.0 qs.1.1.1.1.0) (fsep (flft κs.1.1.1.1.1.0 qs.1.1.1.1.1.0) ftrue)))) in let Owned : Ptr → Fml = λ z. writer_owns Y R cw.code Sr g.holds (g.ways h.key) β z h.view x in
+    let os : Fml = others 5 κs.1 qs.1 in let Owned : Ptr → Fml = λ z. writer_owns Y R cw.code Sr g.holds (g.ways h.key) β z h.view x in
     let y : (walk_of 𝓛 En hs c).Ghost = ((κs, qs, bounds, a, (hand_of p ∷ [], tt)), gh) in let Post : Val → SProp 𝓤 = (walk_of 𝓛 En hs c).post y in
-    qed 𝓛 (((‵ (flft β q) ⊛ ‵ others) ⊛ ‵ (owns (types_at En.signature.params κs) a y.0.4)) ∷ raw ((c κs a).requires gh) ∷ []) ∵
+    qed 𝓛 (((‵ (flft β q) ⊛ ‵ os) ⊛ ‵ (owns (types_at En.signature.params κs) a y.0.4)) ∷ raw ((c κs a).requires gh) ∷ []) ∵
     split ! $ split ! $ move ! (2 ∷ []) $ fsplit ! $ fsplit ! $ keep ! (1 ∷ 3 ∷ 4 ∷ []) $
     use1 𝓛 (given (InBlock p) (‵ (Owned p))) (fact_use 𝓤 _ (pen_placed 𝓛 Y R cw.code Sr g.holds (g.ways h.key) β p h.view x) (guard_i 𝓤 (InBlock p) (sem 𝓛 (Owned p)))) $ learn ! (λ inb. let at : p ≡ block_ptr b o = at_block p inb in
     rewrite ! 0 (λ (z : Ptr). ‵ (Owned z)) at refl $

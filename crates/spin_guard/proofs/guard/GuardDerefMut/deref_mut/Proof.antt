@@ -1,37 +1,22 @@
 -- `deref_mut` lends the guard's permit to `get_mut`, and the guard follows what follows the permit. Assumes `Logic`.
-use Rattle.std.proofs.Common.{◌≡◌, ℕ, ◌+◌, List, [], ◌∷◌, refl, ap}
+use Rattle.spin_core.proofs.WalkNames.{◌≡◌, ℕ, ◌+◌, List, [], ◌∷◌, refl, ap, dcons, dnil, a_type, named, Val, vptr, vunit, inst_fn, SProp, id⊢, Lft, Share, Fml, ftrue, fsep, flft, fbor, Logic, ‵, raw, ◌⊛◌, ◌$◌, ◌∵◌, !, qed, by, move, keep, drop, split, split3, join, fsplit, fsplit3, fjoin, fjoin3, feq_i, feq_l, use1, use2, use3, later, some, await, pick, stop, addr, no_more, and_then, returns, enter, fld, alloc_all, pass_all, free_all, look_at, get, through, sets, tables, fact, yes, no, RattleType, owns, types_at, plain, named_lft, RefMutOf, nothing, param, layout, bounded, param_laws, Stays, stay_dropped, walk_of, proved, leaves}
 use seplogic.Ra.Ura.{Ura}
-use mir.Syntax.{dcons, dnil, a_type, named}
-use mir.Val.{Val, vptr, vunit}
-use mir.MapTy.{inst_fn}
-use base.Logic.{SProp, id⊢}
-use base.Fml.{Lft, GName, Share, Incl, Fml, ftrue, fsep, flft, fobs, fbor}
-use types.Logic.{Logic}
+use base.Fml.{GName, Incl, fobs}
 use types.SemTy.{Body}
-use types.Kit.{‵, raw, ◌⊛◌, ◌$◌, ◌∵◌, !, qed, by, move, keep, drop, split, split3, join, fsplit, fsplit3, fjoin, fjoin3, feq_i, feq_l, use1, use2, use3, later, some, await, pick}
-use types.Run.{stop, addr, no_more, and_then, returns, enter, fld}
-use types.ByLocal.{alloc_all, pass_all, free_all, look_at, get, through, sets, lands_as}
+use types.ByLocal.{lands_as}
 use lib.ListN.{get_or}
 use contract.Lifetimes.{Lfts, Shares}
-use contract.Running.{tables}
-use contract.Monad.{fact}
-use denote.Exit.{yes, no}
 use denote.Ref.{NamedLft, MutBor, MutRef, mut_vals, mut_Tells}
-use denote.RattleType.{RattleType, owns}
-use denote.Signature.{types_at, plain, named_lft}
-use denote.Builtin.{RefMutOf}
-use denote.Steps.{nothing}
-use denote.Param.{param, layout, bounded, arg}
-use denote.Param.Laws.{Laws, param_laws, arg_laws}
+use denote.Param.{arg}
+use denote.Param.Laws.{Laws, arg_laws}
 use denote.Memory.{mem as in_memory}
 use denote.Follow.{follows, follows_then}
 use denote.Triple.Spec.{triple_of}
 use denote.Triple.Call.{calls_at}
-use denote.Triple.Walked.{Stays, stay_dropped, walk_of, Goes-spent_ref}
+use denote.Triple.Walked.{Goes-spent_ref}
 use borrow.Follows.Field.{HandsTo, hands_on}
 use borrow.Struct.Lend.{kept_record, record_fill, record_apart}
 use Rattle.core.proofs.atomic.Steps.{fm}
-use Rattle.atomic_table.proofs.Walks.{proved, leaves}
 use Rattle.spin_core.specs.Writer.{with_value}
 use Rattle.spin_core.specs.declared.cell.Rule.{Ghosts}
 use Rattle.spin_core.specs.contracts.cell.WritePermit as Permit

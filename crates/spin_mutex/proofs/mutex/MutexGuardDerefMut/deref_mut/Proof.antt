@@ -1,31 +1,18 @@
 -- `deref_mut` lends the inner guard to its own `deref_mut`, and the guard follows what follows the inner one. Assumes `Logic`.
-use Rattle.std.proofs.Common.{w64, ◌≡◌, ℕ, ◌+◌, List, [], ◌∷◌, refl, sym, ap}
+use Rattle.spin_core.proofs.WalkNames.{w64, ◌≡◌, ℕ, ◌+◌, List, [], ◌∷◌, refl, sym, ap, a_type, named, Val, vptr, vunit, inst_fn, full_share, SProp, emp, id⊢, Lft, Share, Fml, ftrue, fsep, flft, fbor, Logic, ‵, raw, ◌⊛◌, ◌$◌, ◌∵◌, !, qed, by, move, keep, drop, split, split3, join, fsplit, fsplit3, fjoin, fjoin3, feq_i, feq_l, use0, use1, use2, use3, later, some, await, pick, stop, addr, no_more, and_then, returns, enter, fld, alloc_all, pass_all, free_all, look_at, get, through, sets, tables, fact, fact_i, yes, no, RattleType, owns, types_at, plain, named_lft, RefMutOf, u64, nothing, param, layout, param_laws, Stays, stay_dropped, walk_of, proved, leaves}
 use seplogic.Ra.Ura.{Ura}
 use mir.Raw.{raw as raw_type}
-use mir.Syntax.{a_type, named, ty_int, ty_unit}
-use mir.Val.{Val, vptr, vunit}
-use mir.MapTy.{inst_fn}
+use mir.Syntax.{ty_int, ty_unit}
 use lib.ListN.{get_or}
-use base.Fraction.{full_share}
-use base.Logic.{SProp, emp, id⊢}
-use base.Fml.{Lft, GName, Share, Fml, Incl, ftrue, fsep, flft, fobs, fbor}
-use types.Logic.{Logic}
+use base.Fml.{GName, Incl, fobs}
 use types.SemTy.{Body}
-use types.Kit.{‵, raw, ◌⊛◌, ◌$◌, ◌∵◌, !, qed, by, move, keep, drop, split, split3, join, fsplit, fsplit3, fjoin, fjoin3, feq_i, feq_l, use0, use1, use2, use3, later, some, await, pick}
-use types.Run.{stop, addr, no_more, and_then, returns, enter, fld}
-use types.ByLocal.{alloc_all, pass_all, free_all, look_at, get, through, sets, lands_as}
+use types.ByLocal.{lands_as}
 use contract.BorrowLft.{⊑_static}
 use contract.Lifetimes.{Lfts, Shares}
-use contract.Running.{tables}
-use contract.Monad.{fact, fact_i}
-use denote.Exit.{yes, no}
 use denote.Ref.{NamedLft, MutBor, MutRef, mut_vals, mut_Tells}
-use denote.RattleType.{RattleType, owns}
-use denote.Signature.{types_at, plain, named_lft}
-use denote.Builtin.{RefMutOf, unit, u64}
-use denote.Steps.{nothing}
-use denote.Param.{param, layout, layouts, arg}
-use denote.Param.Laws.{Laws, of_field, param_laws, arg_laws}
+use denote.Builtin.{unit}
+use denote.Param.{layouts, arg}
+use denote.Param.Laws.{Laws, of_field, arg_laws}
 use denote.Param.Shared.{copy_shared}
 use denote.Struct.Field.{unit-field, u64-field}
 use denote.Struct.Laws.{unit-laws, unit-copy, u64-laws, u64-copy}
@@ -33,11 +20,10 @@ use denote.Memory.{mem as in_memory}
 use denote.Follow.{follows, follows_then}
 use denote.Triple.Spec.{triple_of}
 use denote.Triple.Call.{calls_at}
-use denote.Triple.Walked.{Stays, stay_dropped, walk_of, Goes-spent_ref}
+use denote.Triple.Walked.{Goes-spent_ref}
 use borrow.Follows.Field.{HandsTo, hands_on}
 use borrow.Struct.Lend.{own_same, kept_record_as, record_fill_as, record_apart_as}
 use Rattle.core.proofs.atomic.Steps.{fm}
-use Rattle.atomic_table.proofs.Walks.{proved, leaves}
 use Rattle.spin_guard.specs.Guard.{guard_value, guard_with}
 use Rattle.spin_guard.specs.contracts.guard.Guard as Inner
 use Rattle.spin_guard.specs.contracts.guard.GuardDerefMut.deref_mut as callee

@@ -1,27 +1,7 @@
 -- `into_inner` takes the value out of the struct.
-use Rattle.std.proofs.Common.{◌≡◌, List, [], ◌∷◌, ◌++◌, sym, refl, subst, ◌∙◌}
-use mir.Syntax.{a_type}
-use mir.Val.{Val, vstruct, vcons, vnil, has_ty, of_list}
-use mir.MapTy.{inst_fn}
-use base.Logic.{SProp, emp, ent, id⊢}
-use contract.Monad.{fact, fact_i}
-use contract.Running.{tables}
-use prog.Wp.{WpFn}
-use types.Kit.{‵, raw, ◌⊛◌, ◌$◌, ◌∵◌, !, qed, by, move, keep, split, fsplit, fsplit3, fjoin, fpick, use0, rewrite, feq_l, suffices}
-use types.Run.{of_opd, stop, fld, returns, enter}
-use types.ByLocal.{alloc_all, pass_all, free_all, look_at, get, get_in, sets}
-use types.Part.{sub, whole}
-use denote.Exit.{no}
-use denote.RattleType.{RattleType, owns}
-use denote.Laws.{Is, shows}
-use denote.Signature.{types_at, plain}
-use denote.Steps.{nothing, peeks}
-use denote.Param.{param, layout, layouts}
-use denote.Triple.Entry.{alive}
-use denote.Triple.Walked.{Stays, stay_dropped, walk_of}
+use Rattle.spin_core.proofs.WalkNames.{◌≡◌, List, [], ◌∷◌, ◌++◌, sym, refl, subst, ◌∙◌, a_type, Val, vstruct, vcons, vnil, has_ty, of_list, inst_fn, SProp, emp, ent, id⊢, fact, fact_i, tables, WpFn, ‵, raw, ◌⊛◌, ◌$◌, ◌∵◌, !, qed, by, move, keep, split, fsplit, fsplit3, fjoin, fpick, use0, rewrite, feq_l, suffices, of_opd, stop, fld, returns, enter, alloc_all, pass_all, free_all, look_at, get, get_in, sets, sub, whole, no, RattleType, owns, Is, shows, types_at, plain, nothing, peeks, param, layout, alive, Stays, stay_dropped, walk_of, El, lawful, Good, one, proved_at, leaves}
+use denote.Param.{layouts}
 use Rattle.core.proofs.alloc.Calls.{Goes-blank}
-use Rattle.core.proofs.mem.Param.{El, lawful, Good, one}
-use Rattle.atomic_table.proofs.Walks.{proved_at, leaves}
 use Rattle.std.proofs.ResultValues.{and_tt}
 use Rattle.spin_once.specs.contracts.kept.Kept as kept
 use Rattle.spin_once.specs.contracts.kept.Kept.into_inner.{ended, clauses}

@@ -1,26 +1,6 @@
 -- `new` puts the value into the struct.
-use Rattle.std.proofs.Common.{◌≡◌, List, [], ◌∷◌, ◌++◌, sym, refl, subst}
-use mir.Syntax.{a_type}
-use mir.Val.{Val, vstruct, vcons, vnil, has_ty, of_list}
-use mir.MapTy.{inst_fn}
-use base.Logic.{SProp, emp, ent, id⊢}
-use base.Fml.{fsep, feq}
-use contract.Monad.{fact, fact_i}
-use contract.Running.{tables}
-use prog.Wp.{WpFn}
-use types.Kit.{‵, raw, ◌⊛◌, ◌$◌, ◌∵◌, !, qed, by, move, keep, split, fsplit, fjoin, fpack, use0, rewrite, feq_i, suffices}
-use types.Run.{of_opd, no_more, and_then, returns, enter}
-use types.ByLocal.{alloc_all, pass_all, free_all, look_at, get, sets}
-use types.Part.{agg}
-use denote.Exit.{no}
-use denote.RattleType.{RattleType, Valss, owns}
-use denote.Signature.{types_at, plain}
-use denote.Steps.{nothing}
-use denote.Param.{param, layout, layouts}
-use denote.Triple.Entry.{alive}
-use denote.Triple.Walked.{Stays, stay_dropped, walk_of, Goes-dropped}
-use Rattle.core.proofs.mem.Param.{El, lawful, Good, one}
-use Rattle.atomic_table.proofs.Walks.{proved_at, leaves}
+use Rattle.spin_core.proofs.WalkNames.{◌≡◌, List, [], ◌∷◌, ◌++◌, sym, refl, subst, a_type, Val, vstruct, vcons, vnil, has_ty, of_list, inst_fn, SProp, emp, ent, id⊢, fsep, feq, fact, fact_i, tables, WpFn, ‵, raw, ◌⊛◌, ◌$◌, ◌∵◌, !, qed, by, move, keep, split, fsplit, fjoin, fpack, use0, rewrite, feq_i, suffices, of_opd, no_more, and_then, returns, enter, alloc_all, pass_all, free_all, look_at, get, sets, agg, no, RattleType, Valss, owns, types_at, plain, nothing, param, layout, alive, Stays, stay_dropped, walk_of, Goes-dropped, El, lawful, Good, one, proved_at, leaves}
+use denote.Param.{layouts}
 use Rattle.std.proofs.ResultValues.{and_tt}
 use Rattle.spin_once.specs.contracts.kept.Kept as kept
 use Rattle.spin_once.specs.contracts.kept.Kept.new.{ended, clauses}

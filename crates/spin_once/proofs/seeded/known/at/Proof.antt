@@ -1,27 +1,9 @@
 -- `at` makes a reference of the pointer, which is that of the reference that is known to be there.
-use Rattle.std.proofs.Common.{◌≡◌, List, [], ◌∷◌, ◌++◌, sym, refl, subst, ap, ◌∙◌, lit<, Option, Some, None}
-use mir.Syntax.{a_type, named}
-use mir.Val.{Val, vptr, of_list}
-use mir.MapTy.{inst_fn}
-use base.Logic.{SProp, emp, ent, id⊢}
-use contract.Monad.{fact, fact_i}
-use contract.Running.{tables}
-use prog.Wp.{WpFn}
-use types.Kit.{‵, raw, ◌⊛◌, at_ret, ◌$◌, ◌∵◌, !, qed, by, move, keep, split, fsplit, fjoin, fpick, feq_i, feq_l, use0, rewrite, suffices}
+use Rattle.spin_core.proofs.WalkNames.{◌≡◌, List, [], ◌∷◌, ◌++◌, sym, refl, subst, ap, ◌∙◌, lit<, Option, Some, None, a_type, named, Val, vptr, of_list, inst_fn, SProp, emp, ent, id⊢, fact, fact_i, tables, WpFn, ‵, raw, ◌⊛◌, at_ret, ◌$◌, ◌∵◌, !, qed, by, move, keep, split, fsplit, fjoin, fpick, feq_i, feq_l, use0, rewrite, suffices, of_opd, addr, stop, first, blocks, exec, returns, enter, alloc_all, pass_all, free_all, look_at, get, through, sets, sets_last, env, yes, RattleType, owns, Ptr, ptr_val, types_at, plain, nothing, heard, param, alive, Stays, stay_dropped, walk_of, Goes-dropped, tail, proved_at, leaves}
 use types.Match.{live}
-use types.Run.{of_opd, addr, stop, first, blocks, exec, returns, enter}
-use types.ByLocal.{alloc_all, pass_all, free_all, look_at, get, through, sets, sets_last, env}
-use denote.Exit.{yes}
-use denote.RattleType.{RattleType, owns}
 use denote.Ref.{Bor, ShrRef}
-use denote.RawPtr.{RawPtr, Ptr, ptr_val}
-use denote.Signature.{types_at, plain}
-use denote.Steps.{nothing, heard}
-use denote.Param.{param, layouts}
-use denote.Triple.Entry.{alive}
-use denote.Triple.Walked.{Stays, stay_dropped, walk_of, Goes-dropped}
-use Rattle.core.proofs.atomic.Steps.{tail}
-use Rattle.atomic_table.proofs.Walks.{proved_at, leaves}
+use denote.RawPtr.{RawPtr}
+use denote.Param.{layouts}
 use Rattle.std.specs.Prelude.{IfSome, IsSomeAnd}
 use Rattle.std.specs.Ptr.{as_ptr}
 use Rattle.std.specs.contracts.option.Option as option

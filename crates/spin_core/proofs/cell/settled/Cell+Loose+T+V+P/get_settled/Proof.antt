@@ -1,5 +1,5 @@
 -- `get_settled` reads the first word, and lends the value where that is the number asked for. Assumes `Logic`.
-use Rattle.spin_core.proofs.WalkNames.{◌≡◌, ℕ, ◌+◌, [], ◌∷◌, sym, refl, subst, lit<, w64, dcons, dnil, a_type, named, Val, vint, vptr, vcons, vnil, inst_fn, full_share, SProp, ent, sep, Lft, Share, Fml, ftrue, fsep, flft, sem, ‵, raw, ◌⊛◌, some, later, at_ret, ◌$◌, ◌∵◌, !, qed, by, move, keep, drop, use0, use1, use2, split, split3, join, pick, await, rewrite, fsplit, fsplit3, fjoin, fpick, stop, fld, addr, load, lit, of_opd, and_then, no_more, first, blocks, exec, returns, enter, agg, alloc_all, pass_all, free_all, look_at, get, through, sets, sets_last, env, tables, fact, yes, no, RattleType, owns, types_at, plain, RefMutOf, u64, uint_vals, uint_Tells, part_at, param, layout, bounded, param_laws, nothing, heard, Stays, stay_dropped, walk_of, Goes-dropped, proved, leaves}
+use Rattle.spin_core.proofs.WalkNames.{◌≡◌, ℕ, ◌+◌, [], ◌∷◌, sym, refl, subst, lit<, w64, dcons, dnil, a_type, named, Val, vint, vptr, vcons, vnil, inst_fn, full_share, SProp, ent, sep, Lft, Share, Fml, flft, sem, ‵, raw, ◌⊛◌, some, later, at_ret, ◌$◌, ◌∵◌, !, qed, by, move, keep, drop, use0, use1, use2, split, split3, join, pick, await, rewrite, fsplit, fsplit3, fjoin, fpick, stop, fld, addr, load, lit, of_opd, and_then, no_more, first, blocks, exec, returns, enter, agg, alloc_all, pass_all, free_all, look_at, get, through, sets, sets_last, env, tables, fact, yes, no, RattleType, owns, types_at, plain, RefMutOf, u64, uint_vals, uint_Tells, part_at, param, layout, bounded, param_laws, nothing, heard, Stays, stay_dropped, walk_of, Goes-dropped, proved, leaves}
 use Rattle.std.proofs.Common.{eqb→eq, w8}
 use mir.Syntax.{Body, seq, assign, place, rv_opd, copy, aggregate, int}
 use base.Fml.{GName}
@@ -18,6 +18,7 @@ use Rattle.core.specs.declared.option.Option.TheVariants.{None, Some}
 use Rattle.core.proofs.option.Made.{Some-of, none_of}
 use Rattle.core.proofs.alloc.Shapes.{after}
 use Rattle.atomic_table.specs.Seated.{fact as said}
+use Rattle.spin_core.proofs.CellStepWalks.{others}
 use Rattle.spin_core.specs.Cell.{Starts}
 use Rattle.spin_core.specs.Settled.{SettlesAt}
 use Rattle.spin_core.specs.CellMemory.{offset}
@@ -51,12 +52,12 @@ get_settled_spec 𝓤 𝓛 𝓜 𝓡 wired X U P K N L _ _ _ LN s d' g d _ _ =
     proved 𝓛 En hs c 𝓜 𝓡 (Goes-spent_ref 𝓛 6 (0 ∷ []) tt (plain (λ _. Ty)), (Goes-dropped 𝓛 6 number yes (λ κs x f. refl), tt)) (#self inst) fn (code.unfolded 𝓤 H 𝓜 𝓡 wired (X, (U, (P, (K, (N, tt))))) d' d) (λ κs. (mut_vals, (uint_vals w64, tt))) (λ κs. (mut_Tells (named 0) κs.0 Ty, (uint_Tells w64, tt))) (λ κs qs bounds a gh are.
     let b : ℕ = a.0.ref_ptr.0 in let o : ℕ = a.0.ref_ptr.1 in let key : K.Denot = a.0.now in let γ : GName = a.0.ghost_name in let wanted : ℕ = a.1.0 in let κ : Lft = κs.0 in let q : Share = qs.0 in let e : ℕ = o + offset R in let at : Val = vptr b e in
     let y : (walk_of 𝓛 En hs c).Ghost = ((κs, qs, bounds, a, (vptr b o ∷ [], (vint w64 wanted ∷ [], tt))), gh) in let Post : Val → SProp 𝓤 = (walk_of 𝓛 En hs c).post y in let Lent : RattleType = MutRef (named 0) κ S in let Out : RattleType = option.the_row Lent in
-    let others : Fml = fsep (flft κs.1.0 qs.1.0) (fsep (flft κs.1.1.0 qs.1.1.0) (fsep (flft κs.1.1.1.0 qs.1.1.1.0) (fsep (flft κs.1.1.1.1.0 qs.1.1.1.1.0) (fsep (flft κs.1.1.1.1.1.0 qs.1.1.1.1.1.0) ftrue)))) in
+    let os : Fml = others 5 κs.1 qs.1 in
     let Ok : Type 0 = SettlesAt g.holds (g.ways key) s.settled wanted in let Q : SProp 𝓤 = sem 𝓛 (Row 𝓛 m ms V Y Kr g key b o) in let words : ℕ × N.Denot → Fml = standing_words 𝓛 m ms V Y Kr g key b o in let Lies : R.Denot → Fml = At 𝓛 m ms V Y Kr g key b o in
     let Holds : All 𝓛 m ms V Y Kr g key b o → Type 0 = Rule 𝓛 m ms V Y Kr g key b o in let Joined : SProp 𝓤 = Joins 𝓛 m ms V Y Kr g key b o Lw Ls (Row 𝓛 m ms V Y Kr g key b o) (row_out 𝓛 m ms V Y Kr g key b o) (row_in 𝓛 m ms V Y Kr g key b o) in
     let Rest : ℕ × N.Denot → SProp 𝓤 = λ ns. sep 𝓤 (sem 𝓛 (words ns)) Joined in
     let shuts : (t : All 𝓛 m ms V Y Kr g key b o) → Holds t → ent 𝓤 (sep 𝓤 (sem 𝓛 (Lies t.2)) (Rest (t.0, t.1))) Q = rejoined 𝓛 m ms V Y Kr g key b o Lw Ls (Row 𝓛 m ms V Y Kr g key b o) (row_out 𝓛 m ms V Y Kr g key b o) (row_in 𝓛 m ms V Y Kr g key b o) in
-    qed 𝓛 (((‵ (flft κ q) ⊛ ‵ others) ⊛ ‵ (owns (types_at En.signature.params κs) a y.0.4)) ∷ raw (fact 𝓤 _) ∷ raw (fact 𝓤 _) ∷ raw (fact 𝓤 _) ∷ raw (fact 𝓤 _) ∷ raw (fact 𝓤 _) ∷ raw (fact 𝓤 Ok) ∷ []) ∵ keep ! (6 ∷ 0 ∷ []) $ heard ! Ok (λ ok. split ! $ split ! $ move ! (2 ∷ []) $ fsplit ! $ fsplit3 ! $ keep ! (1 ∷ 2 ∷ 4 ∷ 5 ∷ []) $
+    qed 𝓛 (((‵ (flft κ q) ⊛ ‵ os) ⊛ ‵ (owns (types_at En.signature.params κs) a y.0.4)) ∷ raw (fact 𝓤 _) ∷ raw (fact 𝓤 _) ∷ raw (fact 𝓤 _) ∷ raw (fact 𝓤 _) ∷ raw (fact 𝓤 _) ∷ raw (fact 𝓤 Ok) ∷ []) ∵ keep ! (6 ∷ 0 ∷ []) $ heard ! Ok (λ ok. split ! $ split ! $ move ! (2 ∷ []) $ fsplit ! $ fsplit3 ! $ keep ! (1 ∷ 2 ∷ 4 ∷ 5 ∷ []) $
     enter ! 𝓣.C 𝓣.Λ fn (vptr b o ∷ vint w64 wanted ∷ []) Post $ alloc_all ! (λ l. pass_all ! refl ((tt, tt), ((tt, record { fits = are.1.0.1 }), tt)) $ let Ev = env fn.locals l in
     open_ref ! tt (in_memory Ty) $ use1 𝓛 (some (λ (z : Knows 𝓛 m ms V Y Kr g key b o × All 𝓛 m ms V Y Kr g key b o). ‵ (words (z.1.0, z.1.1)) ⊛ ‵ (Lies z.1.2) ⊛ ‵ (said (Holds z.1)) ⊛ raw Joined))
     (fields_out 𝓛 m ms V Y Kr g key b o Lw Ls (Row 𝓛 m ms V Y Kr g key b o) (row_out 𝓛 m ms V Y Kr g key b o) (row_in 𝓛 m ms V Y Kr g key b o)) $ pick ! (λ z. let n : ℕ = z.1.0 in let k : N.Denot = z.1.1 in let x : R.Denot = z.1.2 in
