@@ -8,7 +8,7 @@ use std::sync::Wait;
 use std::thread::yield_now;
 
 /// The longest pause between two attempts of a call that backs off.
-pub const MOST_HINTS: u32 = 64;
+pub const MAX_HINTS: u32 = 64;
 
 /// How a call that waits passes the time. A lock names its strategy as a type parameter.
 ///
@@ -62,7 +62,7 @@ pub trait RelaxStrategy {
     }
 
     /// Pauses and tries again, until an attempt gives something. Each pause is twice as long as the last one, up to
-    /// `MOST_HINTS`: a lock that whoever comes next may take is quickest where few look. Nothing is promised about when
+    /// `MAX_HINTS`: a lock that whoever comes next may take is quickest where few look. Nothing is promised about when
     /// it returns.
     #[cold]
     #[inline(never)]
@@ -76,7 +76,7 @@ pub trait RelaxStrategy {
             if let Some(answer) = attempt() {
                 return answer;
             }
-            hints = hints.saturating_mul(2).min(MOST_HINTS);
+            hints = hints.saturating_mul(2).min(MAX_HINTS);
         }
         unreachable!()
     }

@@ -30,9 +30,6 @@ limits key (suc (suc (suc n))) r w s = absurd s
 meets : (key n : ℕ) (m : Unit {0}) (vs : List View) → IsOnce n m vs → Meets IsOnce (once_ways key) n m vs
 meets key n m vs is = (is, limits key n (readers_of f vs) (writers_of f vs) is)
 
-pub not_made : (key : ℕ) → Opens IsOnce (once_ways key) 0 tt (Seed key)
-not_made key = ([], tt, meets key 0 tt [] (refl, refl), refl)
-
 pub is_made : (key value : ℕ) → value ≡ key + 1 → Opens IsOnce (once_ways key) 2 tt (Done value)
 is_made key value e = (Seeing ∷ [], tt, meets key 2 tt (Seeing ∷ []) (omega arith, refl), e)
 

@@ -1,6 +1,6 @@
 //! How long the pauses of a call that backs off are, which no contract says.
 use super::equal::equal;
-use spin_core::relax::{MOST_HINTS, RelaxStrategy};
+use spin_core::relax::{MAX_HINTS, RelaxStrategy};
 use std::cell::Cell;
 use std::sync::Wait;
 
@@ -13,7 +13,7 @@ impl RelaxStrategy for Strict {
     }
 
     fn pause<W: Wait>(rt: &W, hints: u32) {
-        if hints.is_power_of_two() && hints <= MOST_HINTS {
+        if hints.is_power_of_two() && hints <= MAX_HINTS {
             return;
         }
         for _ in rt.forever() {}

@@ -6,7 +6,7 @@ ghost use Rattle.spin_fair.specs.declared.fair.rule.View.TheVariants.{Holding};
 
 use self::rule::{Attempt, Look, Register};
 use spin_core::cell::Cell;
-use spin_core::relax::{MOST_HINTS, RelaxStrategy, Spin, Strategy};
+use spin_core::relax::{MAX_HINTS, RelaxStrategy, Spin, Strategy};
 use spin_guard::guard::{self, Guard};
 use spin_lock::lock::Lock;
 use spin_step::fair;
@@ -73,7 +73,7 @@ impl<T, R: RelaxStrategy> FairMutex<T, R> {
     {
         match self.try_lock() {
             Some(guard) => guard,
-            None => R::retry_after(rt, 0, |_| MOST_HINTS, |spins| self.look_and_try(rt, spins)),
+            None => R::retry_after(rt, 0, |_| MAX_HINTS, |spins| self.look_and_try(rt, spins)),
         }
     }
 

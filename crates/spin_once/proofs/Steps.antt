@@ -65,9 +65,6 @@ module _ {T S : Type 0} (makes : S → T → Type 0) (key : Snapshot S) where
   meets n m vs has e = (is_once n m vs has e, limits n (seeing vs) (runs vs) has)
 
   -- ---- a new cell
-  pub starts_seeded : (seed : S) → seed ≡ key.value → Opens IsOnce (once_ways makes key) 0 tt (loose (Seed seed))
-  starts_seeded seed e = ([], tt, meets 0 tt [] (refl, refl) refl, e)
-
   pub starts_made : (value : T) → makes key.value value → Opens IsOnce (once_ways makes key) 2 tt (loose (Done value))
   starts_made value made = (Seeing ∷ [], tt, meets 2 tt (Seeing ∷ []) (omega arith, refl) refl, made)
 

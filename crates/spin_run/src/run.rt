@@ -7,7 +7,7 @@ mod locks;
 mod process;
 
 pub use command::program;
-pub use counting::{CountError, MOST_TIMES, MOST_WORKERS, count_with};
+pub use counting::{CountError, MAX_TIMES, MAX_WORKERS, count_with};
 pub use gate::{Gate, Open};
 pub use process::program_over_arguments;
 pub use spin_text::{

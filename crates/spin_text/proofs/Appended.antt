@@ -2,7 +2,7 @@
 use Rattle.std.proofs.Common.{◌≡◌, ℕ, ◌+◌, ◌-◌, subst, List, ◌++◌, length, take, drop, Option, Some, None, sym, ◌∙◌, ap, arith, append_assoc, length-drop}
 use Rattle.std.proofs.lemmas.List.{drop-drop, drop-take, take-append-drop}
 use Rattle.std.proofs.lemmas.Grind.{common_steps}
-use Rattle.std.specs.Io.KnownBytes.{Appends, Keeps}
+use Rattle.std.specs.Io.KnownBytes.{Appends}
 
 -- what grows by one text and then by another grows by both
 pub Appends-append : (a b c : Option (List ℕ)) (xs ys : List ℕ) → Appends a b xs → Appends b c ys → Appends a c (xs ++ ys)
@@ -10,13 +10,6 @@ Appends-append None b c xs ys p q = tt
 Appends-append (Some s) None c xs ys p q = absurd p
 Appends-append (Some s) (Some t) None xs ys p q = absurd q
 Appends-append (Some s) (Some t) (Some u) xs ys p q = q ∙ (ap (λ w. w ++ ys) p ∙ append_assoc s xs ys)
-
--- what grows and is then kept has grown
-pub Appends-Keeps : (a b c : Option (List ℕ)) (xs : List ℕ) → Appends a b xs → Keeps b c → Appends a c xs
-Appends-Keeps None b c xs p q = tt
-Appends-Keeps (Some s) None c xs p q = absurd p
-Appends-Keeps (Some s) (Some t) None xs p q = absurd q
-Appends-Keeps (Some s) (Some t) (Some u) xs p q = q ∙ p
 
 -- fewer of the first bytes are the same
 take-take : (text : List ℕ) (n k : ℕ) → take n (take (n + k) text) ≡ take n text

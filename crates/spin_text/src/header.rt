@@ -4,7 +4,7 @@ ghost use Rattle.spin_text.specs.Lines.{words_of};
 ghost use Rattle.spin_text.specs.Reading.{words_left, last_parties, number_within, read_flag_header, read_ticket_header, read_rw_header, read_fair_header, read_barrier_header, read_once_header, read_header};
 
 use crate::words::{Rest, is_word, number_then, only_number, word};
-use spin_step::rw;
+use spin_step::{fair, rw};
 
 /// The object with what it begins from, and how many parties share it.
 #[derive(Clone, Copy, Debug, PartialEq, Eq)]
@@ -39,13 +39,13 @@ pub enum Header {
 }
 
 /// The most parties that a text may name.
-const MOST_PARTIES: u64 = 1000;
+const MAX_PARTIES: u64 = 1000;
 
-/// The largest cap on starvers: 2^62 - 1.
-const MOST_STARVERS: u64 = 4_611_686_018_427_387_903;
+/// The largest cap on starvers.
+const MAX_STARVERS: u64 = fair::MAX_STARVERS as u64;
 
 /// The most looks that the lock of a `Fair` may make before it registers.
-const MOST_SPINS: u64 = 1024;
+const MAX_SPINS: u64 = 1024;
 
 /// A number from `least` to `most`, and the words behind it.
 #[tactic(auto, unfolding(crate::specs::Reading::number_within))]
@@ -66,7 +66,7 @@ fn parties(line: Rest) -> Option<usize>
     ensures { result ≡ last_parties (words_left line.entry) }
 {
     let parties = only_number(line)?;
-    if (1..=MOST_PARTIES).contains(&parties) {
+    if (1..=MAX_PARTIES).contains(&parties) {
         Some(parties as usize)
     } else {
         None
@@ -115,8 +115,8 @@ fn fair(line: Rest) -> Option<Header>
     ensures { result ≡ read_fair_header (words_left line.entry) }
 {
     let (value, line) = number_then(line)?;
-    let (cap, line) = within(line, 1, MOST_STARVERS)?;
-    let (spins, line) = within(line, 0, MOST_SPINS)?;
+    let (cap, line) = within(line, 1, MAX_STARVERS)?;
+    let (spins, line) = within(line, 0, MAX_SPINS)?;
     let parties = parties(line)?;
     Some(Header::Fair {
         value,

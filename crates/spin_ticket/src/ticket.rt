@@ -8,7 +8,7 @@ ghost use Rattle.spin_ticket.specs.declared.ticket.rule.View.TheVariants.{Waitin
 
 use self::rule::{Look, See, Take};
 use spin_core::cell::{Cell, Permit};
-use spin_core::relax::{Loop, MOST_HINTS, RelaxStrategy, Spin, Strategy};
+use spin_core::relax::{Loop, MAX_HINTS, RelaxStrategy, Spin, Strategy};
 use spin_guard::guard::{self, Guard};
 use spin_guard::texts::write_lock;
 use spin_lock::lock::Lock;
@@ -139,7 +139,7 @@ impl<T, R> TicketMutex<T, R> {
 impl<'a, T> Place<'a, T> {
     // The next in turn looks often, and who has many before it does not disturb them.
     fn pause(&self) -> u32 {
-        self.ahead.min(MOST_HINTS as u64) as u32
+        self.ahead.min(MAX_HINTS as u64) as u32
     }
 
     // Enters where the place's number is served.

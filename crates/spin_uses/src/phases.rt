@@ -34,7 +34,7 @@ impl Gate for Open {
 }
 
 /// The most workers of one run.
-pub const MOST_WORKERS: usize = 64;
+pub const MAX_WORKERS: usize = 64;
 
 /// Why there is no total.
 #[derive(Clone, Copy, Debug, PartialEq, Eq)]
@@ -331,7 +331,7 @@ pub fn run_phases<G: Gate + Sync, R: Threads + Wait + Sync, A: Allocator>(
     rounds: u64,
     gain: u64,
 ) -> Result<Folded, PhasesError>
-    requires workers { workers ≤ MOST_WORKERS }
+    requires workers { workers ≤ MAX_WORKERS }
     requires each { rounds * gain < 2 ^ 64 }
     requires fits { workers * (rounds * gain) < 2 ^ 64 }
     ensures { IfOk result (λ folded. folded.total ≡ workers * (rounds * gain)) }

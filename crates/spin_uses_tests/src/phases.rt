@@ -39,7 +39,7 @@ fn a_run_may_be_empty(rt: HostRuntime) {
     );
 }
 
-const MOST_LOOKS: u32 = 10_000_000;
+const MAX_LOOKS: u32 = 10_000_000;
 
 /// A gate at which two workers meet: each comes, and stays until both have.
 #[derive(Drop)]
@@ -51,7 +51,7 @@ struct Meeting {
 impl Gate for Meeting {
     fn before<R: Wait>(&self, rt: &R, worker: usize) {
         self.came.fetch_or(1 << worker.min(2), SeqCst);
-        for _ in 0..MOST_LOOKS {
+        for _ in 0..MAX_LOOKS {
             if self.came.load(SeqCst) == 3 {
                 self.met.fetch_add(1, SeqCst);
                 return;

@@ -7,7 +7,7 @@ ghost use Rattle.spin_fair.specs.declared.fair.rule.View.TheVariants.{Starving, 
 use super::rule::{AttemptAlone, LOCKED, Look, STARVER, SetFlag, Unregister};
 use super::{FairMutexGuard, FairRule, View};
 use spin_core::cell::Permit;
-use spin_core::relax::{MOST_HINTS, RelaxStrategy, Spin, Strategy};
+use spin_core::relax::{MAX_HINTS, RelaxStrategy, Spin, Strategy};
 use spin_guard::guard::Guard;
 use spin_step::fair;
 use std::sync::Wait;
@@ -91,7 +91,7 @@ impl<'a, T, R: RelaxStrategy> Starvation<'a, T, R> {
     {
         match self.try_lock() {
             Ok(guard) => guard,
-            Err(still) => R::retry_after(rt, still, |_| MOST_HINTS, Self::look_and_try),
+            Err(still) => R::retry_after(rt, still, |_| MAX_HINTS, Self::look_and_try),
         }
     }
 

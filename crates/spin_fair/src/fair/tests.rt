@@ -5,25 +5,25 @@ use std::mem::forget;
 use std::sync::Wait;
 use std::thread;
 
-const MOST_LOOKS: usize = 10_000_000;
+const MAX_LOOKS: usize = 10_000_000;
 
 const HELD_AND_STARVED: usize = 3;
 
 // How many looks it takes until one gets the lock.
 fn looks_until_it_enters<R: Wait>(rt: &R, lock: &FairMutex<u64, Yield>) -> usize {
     let mut spins = 0;
-    for looks in 1..MOST_LOOKS {
+    for looks in 1..MAX_LOOKS {
         match lock.look_and_try(rt, spins) {
             Ok(_guard) => return looks,
             Err(counted) => spins = counted,
         }
     }
-    MOST_LOOKS
+    MAX_LOOKS
 }
 
 // Whether somebody came to starve for a held lock.
 fn comes_to_starve<R: Wait>(rt: &R, lock: &FairMutex<u64, Yield>) -> bool {
-    for _ in 0..MOST_LOOKS {
+    for _ in 0..MAX_LOOKS {
         if lock.word() == HELD_AND_STARVED {
             return true;
         }

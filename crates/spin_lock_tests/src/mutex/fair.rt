@@ -8,7 +8,7 @@ use std::process::Abort;
 use std::sync::Wait;
 use std::thread;
 
-const MOST_LOOKS: u32 = 10_000_000;
+const MAX_LOOKS: u32 = 10_000_000;
 
 const STARVED_LOOKS: u32 = 1_000_000;
 
@@ -121,7 +121,7 @@ fn a_forgotten_starver_keeps_newcomers_away(rt: HostRuntime) {
 
 // Whether a newcomer came to be refused for a starver within the looks.
 fn comes_to_starve<R: Wait>(rt: &R, lock: &FairMutex<u64, Yield>) -> bool {
-    for _ in 0..MOST_LOOKS {
+    for _ in 0..MAX_LOOKS {
         if refusal(lock) == Some(LockRejectReason::Starved) {
             return true;
         }

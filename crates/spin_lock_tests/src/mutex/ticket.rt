@@ -13,7 +13,7 @@ use std::sync::atomic::Ordering::SeqCst;
 use std::thread;
 use std::thread::Threads;
 
-const MOST_LOOKS: u32 = 10_000_000;
+const MAX_LOOKS: u32 = 10_000_000;
 
 #[test]
 fn used_up_tickets_are_refused(rt: HostRuntime) {
@@ -107,7 +107,7 @@ impl Text for Mutex<u64, Yield> {
 
 // Whether the next ticket's number came to be `number` within the looks.
 fn comes_to<Q: Tickets, R: Wait>(rt: &R, queue: &Q, number: u64) -> bool {
-    for _ in 0..MOST_LOOKS {
+    for _ in 0..MAX_LOOKS {
         if queue.next() == number {
             return true;
         }
@@ -165,7 +165,7 @@ impl Relay {
     }
 
     fn await_next<R: Wait>(&self, rt: &R, ticket: u64) {
-        for _ in 0..MOST_LOOKS {
+        for _ in 0..MAX_LOOKS {
             if next(&self.lock) > ticket.wrapping_add(1) || self.looked.load(SeqCst) {
                 return;
             }
@@ -176,7 +176,7 @@ impl Relay {
     // Whether each look from the first ticket to the last found the lock taken.
     fn look(&self) -> bool {
         let mut locked = true;
-        for _ in 0..MOST_LOOKS {
+        for _ in 0..MAX_LOOKS {
             let has_begun = next(&self.lock) > 0;
             locked = locked && (!has_begun || self.lock.is_locked());
             if next(&self.lock) == 2 * TURNS {

@@ -9,10 +9,10 @@ use std::sync::atomic::Ordering::SeqCst;
 use std::thread;
 
 // It looks for the number at most this often, so that the test ends whatever happens.
-const MOST_LOOKS: u32 = 10_000_000;
+const MAX_LOOKS: u32 = 10_000_000;
 
 fn await_number<R: Wait>(rt: &R, number: &AtomicU64, wanted: u64) {
-    for _ in 0..MOST_LOOKS {
+    for _ in 0..MAX_LOOKS {
         if number.load(SeqCst) >= wanted {
             return;
         }

@@ -65,11 +65,11 @@ fn guards_of_two_threads_read_one_lock(rt: HostRuntime) {
 }
 
 // It looks at most this often, so that the test ends whatever happens.
-const MOST_LOOKS: u32 = 10_000_000;
+const MAX_LOOKS: u32 = 10_000_000;
 
 // Tries to read until it is refused.
 fn is_kept_out<R: Wait>(rt: &R, lock: &RwLock<u64, Yield>) -> bool {
-    for _ in 0..MOST_LOOKS {
+    for _ in 0..MAX_LOOKS {
         if lock.try_read(rt).is_none() {
             return true;
         }
@@ -98,7 +98,7 @@ fn no_reader_comes_once_an_upgrade_has_asked(rt: HostRuntime) {
 }
 
 fn await_flag<R: Wait>(rt: &R, flag: &AtomicBool) {
-    for _ in 0..MOST_LOOKS {
+    for _ in 0..MAX_LOOKS {
         if flag.load(SeqCst) {
             return;
         }

@@ -5,7 +5,7 @@ ghost use Rattle.spin_run.specs.declared.run.faults.Fault.{Fault};
 ghost use Rattle.spin_run.specs.Command.{AsksCount, AsksWorld, AsksNothing, Does, Tells, texts_of, total_text, usage_line};
 ghost use Rattle.spin_run.specs.Faults.{Stops, StopsCount, line_of, status_of};
 
-use super::counting::{MOST_TIMES, MOST_WORKERS, count_with};
+use super::counting::{MAX_TIMES, MAX_WORKERS, count_with};
 use super::faults::{Fault, report};
 use super::gate::Open;
 use spin_text::{Sink, Source, number, world_text, write_whole};
@@ -30,7 +30,7 @@ fn count_of(words: &[&str]) -> Option<Count>
     }
     let workers = number(words[1])?;
     let times = number(words[2])?;
-    if workers > MOST_WORKERS as u64 || times > MOST_TIMES {
+    if workers > MAX_WORKERS as u64 || times > MAX_TIMES {
         return None;
     }
     Some(Count {
@@ -54,8 +54,8 @@ fn write_count<O: Sink, R: Threads + Wait + Sync, A: Allocator>(
     asked: Count,
     output: &mut O,
 ) -> Result<(), Fault>
-    requires workers { asked.workers ≤ MOST_WORKERS }
-    requires times { asked.times ≤ MOST_TIMES }
+    requires workers { asked.workers ≤ MAX_WORKERS }
+    requires times { asked.times ≤ MAX_TIMES }
     ensures bytes { OnOk result (Appends (O.written output.old) (O.written output.new) (total_text asked.workers asked.times)) }
     ensures ok { OnOk result (O.failed output.new ≡ O.failed output.old) }
     ensures fault { IfErr result (StopsCount asked.workers asked.times (output.new ≡ output.old)

@@ -11,10 +11,10 @@ use std::thread;
 use std::thread::{JoinHandle, Scope, Threads};
 
 /// The most workers that one count may have.
-pub const MOST_WORKERS: usize = 64;
+pub const MAX_WORKERS: usize = 64;
 
 /// The most additions that one worker may make.
-pub const MOST_TIMES: u64 = 1_000_000;
+pub const MAX_TIMES: u64 = 1_000_000;
 
 /// Why there is no total.
 #[derive(Clone, Copy, Debug, PartialEq, Eq)]
@@ -214,8 +214,8 @@ pub fn count_with<G: Gate + Sync, R: Threads + Wait + Sync, A: Allocator>(
     workers: usize,
     times: u64,
 ) -> Result<u64, CountError>
-    requires workers { workers ≤ MOST_WORKERS }
-    requires times { times ≤ MOST_TIMES }
+    requires workers { workers ≤ MAX_WORKERS }
+    requires times { times ≤ MAX_TIMES }
     ensures { IfOk result (λ total. total ≡ workers * times) }
 {
     count_by::<Brand, G, R, A>(
