@@ -3,6 +3,7 @@
 
 pub mod account;
 pub mod any_lock;
+pub mod counter;
 pub mod from_rust;
 pub mod registers;
 #[cfg(test)]
