@@ -3,8 +3,8 @@ ghost use Rattle.std.specs.Prelude.{◌≤◌, length};
 
 use super::objects::OfHeader;
 use super::worlds::{
-    Opening, Shown, Told, Trial, holds, is_at, is_told, look_at, object, opened, play, try_all,
-    world,
+    Opening, Shown, Told, Trial, holds, is_at, is_told, look_at, object, opened, play, run,
+    try_all, world,
 };
 use bumpalo::Bump;
 use spin_world::{Move, run_in_two};
@@ -58,7 +58,7 @@ fn unrefused<O: OfHeader>(
 ) -> Wanted {
     let mut world = opened::<O, Global>(rt, alloc, opening);
     let first = look_at(rt, alloc, opening, &world);
-    let _ = world.run(past).expect(rt, opening.shows);
+    let _ = run(&mut world, past).expect(rt, opening.shows);
     let between = look_at(rt, alloc, opening, &world);
     let told = play(rt, alloc, &mut world, schedule);
     let stop = look_at(rt, alloc, opening, &world);
@@ -70,8 +70,16 @@ fn unrefused<O: OfHeader>(
     }
 }
 
-/// Where a world is whose second schedule was refused where so many bytes are left; what that schedule tells once there is
-/// room again, and where it then stops. `None`: so many bytes suffice.
+/// What a world comes to whose second schedule was refused: where it is, what that schedule tells once there is room again,
+/// and where it then stops.
+#[derive(Drop)]
+struct Again {
+    refused: Shown,
+    told: Vec<Told>,
+    stop: Shown,
+}
+
+/// Plays a second schedule where so many bytes are left, and again where it was refused. `None`: so many bytes suffice.
 fn played_again<O: OfHeader>(
     rt: &impl Abort,
     alloc: Global,
@@ -79,19 +87,24 @@ fn played_again<O: OfHeader>(
     past: &[(usize, Move<O::Call, u64>)],
     schedule: &[(usize, Move<O::Call, u64>)],
     left: usize,
-) -> Option<(Shown, Vec<Told>, Shown)> {
+) -> Option<Again> {
     let arena = arena(rt, alloc);
     let mut world = opened::<O, &Bump>(rt, &arena, opening);
-    let _ = world.run(past).expect(rt, opening.shows);
+    let _ = run(&mut world, past).expect(rt, opening.shows);
     let filled = filled(rt, &arena, left);
-    let runs = world.run(schedule).is_ok();
+    let runs = run(&mut world, schedule).is_ok();
     drop(filled);
     if runs {
         return None;
     }
     let refused = look_at(rt, alloc, opening, &world);
     let told = play(rt, alloc, &mut world, schedule);
-    Some((refused, told, look_at(rt, alloc, opening, &world)))
+    let stop = look_at(rt, alloc, opening, &world);
+    Some(Again {
+        refused,
+        told,
+        stop,
+    })
 }
 
 /// Where a world is of whose two runs one was refused where so many bytes are left. `None`: so many suffice.
@@ -135,17 +148,11 @@ impl Refusals {
 }
 
 /// Compares what came of a refused run, and of the same run again, with what is wanted.
-fn is_as_wanted(
-    rt: &impl Abort,
-    shows: &str,
-    left: usize,
-    (refused, told, stop): &(Shown, Vec<Told>, Shown),
-    wanted: &Wanted,
-) {
-    is_at(rt, shows, left, refused, &wanted.between);
-    is_at(rt, shows, left, stop, &wanted.stop);
-    holds(rt, shows, left, told.len() == wanted.told.len());
-    for (event, wanted) in told.iter().zip(&wanted.told) {
+fn is_as_wanted(rt: &impl Abort, shows: &str, left: usize, again: &Again, wanted: &Wanted) {
+    is_at(rt, shows, left, &again.refused, &wanted.between);
+    is_at(rt, shows, left, &again.stop, &wanted.stop);
+    holds(rt, shows, left, again.told.len() == wanted.told.len());
+    for (event, wanted) in again.told.iter().zip(&wanted.told) {
         is_told(rt, shows, left, *event, *wanted);
     }
 }

@@ -4,17 +4,17 @@ ghost use Rattle.std.specs.Prelude.{◌≤◌, length};
 
 use super::objects::{OfHeader, Standing, are_words_of, parties_of};
 use super::worlds::{
-    Opening, Shown, Told, Trial, holds, is_at, is_told, look_at, opened, play, tell, try_all, value,
+    Opening, Shown, Told, Trial, holds, is_at, is_told, look_at, opened, play, tell, try_all,
 };
 use spin_text::Header;
 use spin_world::{Answer, Fair, FairCall, Move, Outcome, Place, run_in_two};
 use std::alloc::Global;
 use std::process::Abort;
 
-/// What a run comes to: the value before it, its events, and where it stops.
+/// What a run comes to: where it starts, its events, and where it stops.
 #[derive(Drop)]
 struct Run {
-    value: Option<u64>,
+    start: Shown,
     events: Vec<Told>,
     stop: Shown,
 }
@@ -27,31 +27,44 @@ fn run_of<O: OfHeader>(
     schedule: &[(usize, Move<O::Call, u64>)],
 ) -> Run {
     let mut world = opened::<O, Global>(rt, alloc, opening);
-    let value = value(&world);
+    let start = look_at(rt, alloc, opening, &world);
     let events = play(rt, alloc, &mut world, schedule);
     let stop = look_at(rt, alloc, opening, &world);
     Run {
-        value,
+        start,
         events,
         stop,
     }
 }
 
-/// Plays a schedule in a world of its own, cut in two at this place. What each run tells, and where the second stops.
+/// What two runs come to: what each tells, and where the second stops.
+#[derive(Drop)]
+struct Two {
+    first: Vec<Told>,
+    second: Vec<Told>,
+    stop: Shown,
+}
+
+/// Plays a schedule in a world of its own, cut in two at this place.
 fn runs_of<O: OfHeader>(
     rt: &impl Abort,
     alloc: Global,
     opening: Opening,
     schedule: &[(usize, Move<O::Call, u64>)],
     at: usize,
-) -> (Vec<Told>, Vec<Told>, Shown)
+) -> Two
     requires { at ≤ length schedule.now }
 {
     let mut world = opened::<O, Global>(rt, alloc, opening);
     let (first, second) = run_in_two(&mut world, schedule, at).expect(rt, opening.shows);
     let first = tell::<O>(rt, alloc, &first.events);
     let second = tell::<O>(rt, alloc, &second.events);
-    (first, second, look_at(rt, alloc, opening, &world))
+    let stop = look_at(rt, alloc, opening, &world);
+    Two {
+        first,
+        second,
+        stop,
+    }
 }
 
 /// Whether a party is in a call or gone, so that its place does not say what it has in the words.
@@ -97,7 +110,7 @@ fn written_by<C: Copy>(
 
 /// Whether each look of a schedule found the value last written, and the last one lies there.
 fn keeps_value<C: Copy>(schedule: &[(usize, Move<C, u64>)], run: &Run) -> bool {
-    let mut written = run.value;
+    let mut written = run.start.value;
     for ((_, action), (_, outcome, _)) in schedule.iter().zip(&run.events) {
         if matches!(*outcome, Outcome::Value(found) if found != written) {
             return false;
@@ -147,17 +160,11 @@ fn is_part(rt: &impl Abort, shows: &str, start: usize, part: &[Told], whole: &[T
 }
 
 /// Compares what two runs tell, and where they stop, with one run.
-fn are_one(
-    rt: &impl Abort,
-    shows: &str,
-    at: usize,
-    (first, second, stop): &(Vec<Told>, Vec<Told>, Shown),
-    one: &Run,
-) {
+fn are_one(rt: &impl Abort, shows: &str, at: usize, two: &Two, one: &Run) {
     let (front, back) = one.events.split_at(at.min(one.events.len()));
-    is_part(rt, shows, 0, first, front);
-    is_part(rt, shows, at, second, back);
-    is_at(rt, shows, at, stop, &one.stop);
+    is_part(rt, shows, 0, &two.first, front);
+    is_part(rt, shows, at, &two.second, back);
+    is_at(rt, shows, at, &two.stop, &one.stop);
 }
 
 /// Every stop of a schedule, and every cut.

@@ -7,7 +7,8 @@ use super::stops::at_each_place;
 use super::transcripts::WORKED;
 use spin_text::{Header, Rest, first_line, header_of, schedule_of};
 use spin_world::{
-    Answer, BarrierObject, Event, Fair, Flag, Move, OnceObject, Outcome, Place, Rw, Ticket, World,
+    Answer, BarrierObject, Event, Fair, Flag, Move, OnceObject, Outcome, Place, Rw, Ticket,
+    Transcript, World,
 };
 use std::alloc::{AllocError, Allocator, Global};
 use std::process::Abort;
@@ -34,13 +35,21 @@ pub fn world<O: OfHeader, A: Allocator + Copy>(
     World::new(alloc, object, parties_of(opening.header))
 }
 
+/// Runs a schedule in a world.
+pub fn run<O: OfHeader, A: Allocator + Copy>(
+    world: &mut World<O, A>,
+    schedule: &[(usize, Move<O::Call, u64>)],
+) -> Result<Transcript<O, A>, AllocError> {
+    world.run(schedule)
+}
+
 /// The words as numbers.
 fn numbers<O: OfHeader>(words: O::Words) -> (u64, Option<u64>) {
     O::numbers(words)
 }
 
 /// The value of a world.
-pub fn value<O: OfHeader, A: Allocator + Copy>(world: &World<O, A>) -> Option<u64> {
+fn value<O: OfHeader, A: Allocator + Copy>(world: &World<O, A>) -> Option<u64> {
     world.value()
 }
 
@@ -84,6 +93,11 @@ pub fn look_at<O: OfHeader, A: Allocator + Copy>(
 /// An event: the party, what came of its move, and the words after it.
 pub type Told = (usize, Outcome<Answer<u64>, u64>, (u64, Option<u64>));
 
+/// What an event tells.
+fn told_of<O: OfHeader>(event: &Event<O::Words, u64, Answer<u64>>) -> Told {
+    (event.party, event.outcome, numbers::<O>(event.words))
+}
+
 /// What these events tell.
 pub fn tell<O: OfHeader>(
     rt: &impl Abort,
@@ -92,8 +106,7 @@ pub fn tell<O: OfHeader>(
 ) -> Vec<Told> {
     let mut told = Vec::new(alloc);
     for event in events {
-        let event = (event.party, event.outcome, numbers::<O>(event.words));
-        told.push(event).expect(rt, "memory");
+        told.push(told_of::<O>(event)).expect(rt, "memory");
     }
     told
 }
@@ -105,7 +118,7 @@ pub fn play<O: OfHeader, A: Allocator + Copy>(
     world: &mut World<O, A>,
     schedule: &[(usize, Move<O::Call, u64>)],
 ) -> Vec<Told> {
-    let transcript = world.run(schedule).expect(rt, "memory");
+    let transcript = run(world, schedule).expect(rt, "memory");
     tell::<O>(rt, alloc, &transcript.events)
 }
 
