@@ -5,7 +5,6 @@ use spin_core::relax::{RelaxStrategy, Yield};
 use spin_seated::mutex::{Pass, SeatedMutex};
 use spin_seated_uses::adding::open_for_two;
 use std::sync::Wait;
-use std::test::Fail;
 use std::thread::join;
 
 const TURNS: u32 = 10_000_000;
@@ -23,8 +22,8 @@ fn a_pass_may_go_to_another_thread(rt: HostRuntime) {
 }
 
 #[test]
-fn a_hold_lets_nobody_in(rt: HostRuntime) -> Result<(), Fail> {
-    let (lock, mut first, mut second) = open_for_two(rt.alloc(), 5)?;
+fn a_hold_lets_nobody_in(rt: HostRuntime) {
+    let (lock, mut first, mut second) = open_for_two(rt.alloc(), 5).expect(&rt, "memory");
     assert!(rt; lock.try_lock(&mut first));
     assert!(rt; !lock.try_lock(&mut second));
     assert!(rt; lock.is_locked(&mut second));
@@ -35,7 +34,6 @@ fn a_hold_lets_nobody_in(rt: HostRuntime) -> Result<(), Fail> {
     assert!(rt; !first.holds());
     assert!(rt; lock.try_lock(&mut second));
     assert_eq!(rt; lock.read(&mut second), 9);
-    Ok(())
 }
 
 // Adds 1 a hundred times, and each time tries until the lock is granted.
@@ -61,8 +59,8 @@ fn add_a_hundred<R: Wait>(rt: &R, lock: &SeatedMutex, mut pass: Pass) -> Pass
 }
 
 #[test]
-fn two_threads_lose_no_addition(rt: HostRuntime) -> Result<(), Fail> {
-    let (lock, a, b) = open_for_two(rt.alloc(), 0)?;
+fn two_threads_lose_no_addition(rt: HostRuntime) {
+    let (lock, a, b) = open_for_two(rt.alloc(), 0).expect(&rt, "memory");
     let shared = &lock;
     let (mut a, mut b) = join(
         &rt,
@@ -78,5 +76,4 @@ fn two_threads_lose_no_addition(rt: HostRuntime) -> Result<(), Fail> {
     lock.meet(&mut a, &mut b);
     assert!(rt; lock.try_lock(&mut a));
     assert_eq!(rt; lock.read(&mut a), 200);
-    Ok(())
 }

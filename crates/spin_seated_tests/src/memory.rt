@@ -2,8 +2,8 @@
 use bumpalo::Bump;
 use spin_seated::lock::{Calls, SeatedLock};
 use spin_seated::{mutex, rwlock};
-use std::alloc::{AllocError, Global};
-use std::test::Fail;
+use std::alloc::Global;
+use std::process::Abort;
 
 // The bytes of a lock's two words. Its passes are allocated after them.
 const WORDS: u32 = 16;
@@ -29,28 +29,26 @@ fn opens_in<C: Calls>(arena: &Bump, left: usize) -> bool {
 
 // Whether each allocation of a lock is refused where too little is left, and each time, as where the lock is dropped, all
 // that it had is free again: an arena of which a block is still out refuses to be reset.
-fn gives_all_back<C: Calls>(alloc: Global) -> Result<bool, AllocError> {
+fn gives_all_back<C: Calls>(rt: &impl Abort, alloc: Global) -> bool {
     let mut refused = 0u32;
     for left in 0..256usize {
-        let mut arena = Bump::try_with_capacity(alloc, 512)?;
+        let mut arena = Bump::try_with_capacity(alloc, 512).expect(rt, "memory");
         if !opens_in::<C>(&arena, left) {
             refused = refused.saturating_add(1);
         }
         if arena.reset().is_err() {
-            return Ok(false);
+            return false;
         }
     }
-    Ok(WORDS < refused && refused < 256)
+    WORDS < refused && refused < 256
 }
 
 #[test]
-fn a_refused_mutex_gives_all_back(rt: HostRuntime) -> Result<(), Fail> {
-    assert!(rt; gives_all_back::<mutex::Call>(rt.alloc())?);
-    Ok(())
+fn a_refused_mutex_gives_all_back(rt: HostRuntime) {
+    assert!(rt; gives_all_back::<mutex::Call>(&rt, rt.alloc()));
 }
 
 #[test]
-fn a_refused_rwlock_gives_all_back(rt: HostRuntime) -> Result<(), Fail> {
-    assert!(rt; gives_all_back::<rwlock::Call>(rt.alloc())?);
-    Ok(())
+fn a_refused_rwlock_gives_all_back(rt: HostRuntime) {
+    assert!(rt; gives_all_back::<rwlock::Call>(&rt, rt.alloc()));
 }

@@ -7,7 +7,6 @@ use spin_core::relax::{RelaxStrategy, Yield};
 use spin_seated::rwlock::{RwPass, SeatedHold, SeatedRwLock};
 use spin_seated_uses::publishing::open_for_three;
 use std::sync::Wait;
-use std::test::Fail;
 use std::thread::join;
 
 const TURNS: u32 = 10_000_000;
@@ -19,8 +18,8 @@ fn reads(pass: &RwPass) -> bool {
 }
 
 #[test]
-fn readers_stand_beside_one_another(rt: HostRuntime) -> Result<(), Fail> {
-    let (lock, mut a, mut b, mut c) = open_for_three(rt.alloc(), 5)?;
+fn readers_stand_beside_one_another(rt: HostRuntime) {
+    let (lock, mut a, mut b, mut c) = open_for_three(rt.alloc(), 5).expect(&rt, "memory");
     assert!(rt; lock.try_read(&rt, &mut a));
     assert!(rt; lock.try_read(&rt, &mut b));
     assert!(rt; !lock.try_write(&mut c));
@@ -30,12 +29,11 @@ fn readers_stand_beside_one_another(rt: HostRuntime) -> Result<(), Fail> {
     lock.unlock_read(&mut a);
     lock.unlock_read(&mut b);
     assert!(rt; a.holds().is_none() && b.holds().is_none());
-    Ok(())
 }
 
 #[test]
-fn a_writer_goes_on_as_a_reader(rt: HostRuntime) -> Result<(), Fail> {
-    let (lock, mut a, mut b, mut c) = open_for_three(rt.alloc(), 5)?;
+fn a_writer_goes_on_as_a_reader(rt: HostRuntime) {
+    let (lock, mut a, mut b, mut c) = open_for_three(rt.alloc(), 5).expect(&rt, "memory");
     assert!(rt; lock.try_write(&mut c));
     assert_eq!(rt; lock.writer_count(&mut a), 1);
     assert!(rt; !lock.try_read(&rt, &mut a));
@@ -51,7 +49,6 @@ fn a_writer_goes_on_as_a_reader(rt: HostRuntime) -> Result<(), Fail> {
     assert!(rt; lock.try_write(&mut b));
     lock.unlock_write(&mut b);
     assert!(rt; b.holds().is_none());
-    Ok(())
 }
 
 // Adds 1 so many times, each time that it is let in, and looks at its own number again as a reader.
@@ -105,8 +102,8 @@ fn read_some<R: Wait>(rt: &R, lock: &SeatedRwLock, mut pass: RwPass) -> (RwPass,
 }
 
 #[test]
-fn two_threads_read_what_a_third_writes(rt: HostRuntime) -> Result<(), Fail> {
-    let (lock, a, b, c) = open_for_three(rt.alloc(), 0)?;
+fn two_threads_read_what_a_third_writes(rt: HostRuntime) {
+    let (lock, a, b, c) = open_for_three(rt.alloc(), 0).expect(&rt, "memory");
     let (shared, rt) = (&lock, &rt);
     let ((mut a, added), ((mut b, first), (mut c, second))) = join(
         rt,
@@ -136,5 +133,4 @@ fn two_threads_read_what_a_third_writes(rt: HostRuntime) -> Result<(), Fail> {
     lock.meet(&mut a, &mut c);
     assert_eq!(rt; lock.reader_count(&mut a), 0);
     assert_eq!(rt; lock.writer_count(&mut a), 0);
-    Ok(())
 }
