@@ -13,6 +13,10 @@ module _ {T : Type 0} where
   pub last_is : (m l : List T) (x : T) → m ≡ l ++ x ∷ [] → last m ≡ Some x
   last_is m l x e = subst (λ (z : List T). last z ≡ Some x) (sym e) (last_of l x)
 
+  -- what holds of two values holds of those that they are equal to
+  pub at_both : (R : T → T → Type 0) {x x' y y' : T} → x ≡ x' → y ≡ y' → R x y → R x' y'
+  at_both R {x} {x'} {y} {y'} e d h = subst (λ (z : T). R z y') e (subst (R x) d h)
+
   from : T → Option T → T
   from d None = d
   from d (Some x) = x

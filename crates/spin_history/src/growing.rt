@@ -1,6 +1,6 @@
 //! A value that changes only in an order of its caller's choice.
 ghost use Rattle.std.specs.Prelude.{◌≡◌, [], Some};
-ghost use Rattle.std.specs.Fn.{FnOnceReturnsAt};
+ghost use Rattle.std.specs.Fn.{FnOnceReturnsAt, FnOnceReturnsAtMut};
 ghost use mathlib.Core.List.{IsPrefix};
 ghost use Rattle.spin_history.specs.Entries.{last, InOrder, InOrder-prop, IsAtOrAfter, Reads, Updates};
 
@@ -94,6 +94,23 @@ impl<T, P: Order<T>, H: History> Growing<T, P, H> {
         by(self.get(seen))
     }
 
+    /// Calls a closure with the value, which it may change in place, and returns its answer.
+    ///
+    /// # Contract
+    /// Whatever the value, the closure leaves one there that may come after it. The closure is called with the last write,
+    /// what it leaves is the next one (`Updates`), and that is at or after the last value that the caller saw.
+    pub fn change<A, F: FnOnce(&mut T) -> A>(&mut self, by: F, seen: &mut Snapshot<T, H>) -> A
+        requires callable { F.IsAlwaysCallable by }
+        requires grows { (x y : T) (answer : A) → FnOnceReturnsAtMut F.FnOnce by x answer y → P.le x y }
+        ensures called { FnOnceReturnsAtMut F.FnOnce by self.old.register.value result self.new.register.value }
+        ensures grown { IsAtOrAfter P.le seen.old.entries self.new.register.value }
+        ensures later { Updates seen.old.entries self.old.register.value self.new.register.value seen.new.entries }
+        ensures last { last seen.new.entries ≡ Some self.new.register.value }
+    {
+        let Growing { register, order: _ } = self;
+        register.change(by, seen)
+    }
+
     /// Returns the value and its whole history, to which nothing is added any more.
     pub fn close(self) -> (T, ClosedLog<T, H>)
         ensures value { result.0 ≡ self.register.value }
@@ -119,8 +136,15 @@ impl<T: Drop, P: Order<T>, H: History> Growing<T, P, H> {
         ensures later { Updates seen.old.entries self.old.register.value self.new.register.value seen.new.entries }
         ensures last { last seen.new.entries ≡ Some self.new.register.value }
     {
-        let Growing { register, order: _ } = self;
-        register.update(by, seen);
+        self.change(
+            move |value: &mut T|
+                requires { F.IsAlwaysCallable by }
+                ensures { FnOnceReturnsAt F.FnOnce by value.old value.new }
+            {
+                *value = by(value);
+            },
+            seen,
+        );
     }
 }
 
@@ -249,6 +273,41 @@ pub fn read_shared<T: Copy, P: Order<T>, H: History, L: SharedLock<Growing<T, P,
     )
 }
 
+/// Calls a closure with the value of a growing value under a lock, which it may change in place, and returns its answer.
+///
+/// # Contract
+/// Whatever the value, the closure leaves one there that may come after it. The closure is called with the last write, what
+/// it leaves is the next one, and that is at or after the last value that the caller saw.
+pub fn change<
+    T,
+    P: Order<T>,
+    H: History,
+    L: Lock<Growing<T, P, H>>,
+    A,
+    F: FnOnce(&mut T) -> A,
+    W: Wait,
+>(rt: &W, lock: &L, by: F, seen: &mut Snapshot<T, H>) -> A
+    requires callable { F.IsAlwaysCallable by }
+    requires grows { (x y : T) (answer : A) → FnOnceReturnsAtMut F.FnOnce by x answer y → P.le x y }
+    ensures { (before new : T) × (FnOnceReturnsAtMut F.FnOnce by before result new × (IsAtOrAfter P.le seen.old.entries new × Updates seen.old.entries before new seen.new.entries)) }
+{
+    let known = seen.copy();
+    let (answer, found) = lock.with(
+        rt,
+        move |growing: &mut Growing<T, P, H>| -> (A, Snapshot<T, H>)
+            requires callable { F.IsAlwaysCallable by }
+            requires grows { (x y : T) (answer : A) → FnOnceReturnsAtMut F.FnOnce by x answer y → P.le x y }
+            ensures { (before new : T) × (FnOnceReturnsAtMut F.FnOnce by before result.0 new × (IsAtOrAfter P.le known.entries new × Updates known.entries before new result.1.entries)) }
+        {
+            let mut seen = known;
+            let answer = growing.change(by, &mut seen);
+            (answer, seen)
+        },
+    );
+    *seen = found;
+    answer
+}
+
 /// Writes what a closure makes of a growing value, under a lock.
 ///
 /// # Contract
@@ -266,17 +325,15 @@ pub fn advance<
     requires grows { (x y : T) → FnOnceReturnsAt F.FnOnce by x y → P.le x y }
     ensures { (before new : T) × (FnOnceReturnsAt F.FnOnce by before new × (IsAtOrAfter P.le seen.old.entries new × Updates seen.old.entries before new seen.new.entries)) }
 {
-    let known = seen.copy();
-    *seen = lock.with(
+    change(
         rt,
-        move |growing: &mut Growing<T, P, H>| -> Snapshot<T, H>
-            requires callable { F.IsAlwaysCallable by }
-            requires grows { (x y : T) → FnOnceReturnsAt F.FnOnce by x y → P.le x y }
-            ensures { (before new : T) × (FnOnceReturnsAt F.FnOnce by before new × (IsAtOrAfter P.le known.entries new × Updates known.entries before new result.entries)) }
+        lock,
+        move |value: &mut T|
+            requires { F.IsAlwaysCallable by }
+            ensures { FnOnceReturnsAt F.FnOnce by value.old value.new }
         {
-            let mut seen = known;
-            growing.advance(by, &mut seen);
-            seen
+            *value = by(value);
         },
+        seen,
     );
 }

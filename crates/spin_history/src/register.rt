@@ -1,6 +1,6 @@
 //! A value whose callers know the history of what was written there.
 ghost use Rattle.std.specs.Prelude.{◌≡◌, [], ◌∷◌, ◌++◌, Some};
-ghost use Rattle.std.specs.Fn.{FnOnceReturnsAt};
+ghost use Rattle.std.specs.Fn.{FnOnceReturnsAt, FnOnceReturnsAtMut};
 ghost use mathlib.Core.List.{IsPrefix};
 ghost use Rattle.spin_history.specs.Entries.{last, Reads, Writes, Updates};
 
@@ -65,6 +65,27 @@ impl<T, H: History> Register<T, H> {
         by(self.get(seen))
     }
 
+    /// Calls a closure with the value, which it may change in place, and returns its answer.
+    ///
+    /// # Contract
+    /// The closure is called with the last write, and what it leaves there is the next one (`Updates`).
+    #[tactic(auto, using(crate::proofs::Entries::last_is))]
+    pub fn change<A, F: FnOnce(&mut T) -> A>(&mut self, by: F, seen: &mut Snapshot<T, H>) -> A
+        requires { F.IsAlwaysCallable by }
+        ensures called { FnOnceReturnsAtMut F.FnOnce by self.old.value result self.new.value }
+        ensures later { Updates seen.old.entries self.old.value self.new.value seen.new.entries }
+        ensures known { IsPrefix seen.old.entries self.old.log.entries }
+        ensures exact { seen.new.entries ≡ self.old.log.entries ++ self.new.value ∷ [] }
+        ensures left { self.new.log.entries ≡ self.old.log.entries ++ self.new.value ∷ [] }
+    {
+        let Register { value, log } = self;
+        log.observe(seen);
+        let answer = by(value);
+        log.append(value);
+        log.observe(seen);
+        answer
+    }
+
     /// Compares two references to the register that are held at the same time.
     ///
     /// # Contract
@@ -96,18 +117,20 @@ impl<T: Drop, H: History> Register<T, H> {
     /// # Contract
     /// It is the last entry of a history that goes on from what the caller knew (`Writes`). Nothing comes between what the
     /// register had and this write.
-    #[tactic(auto, using(crate::proofs::Entries::last_is))]
     pub fn write(&mut self, new: T, seen: &mut Snapshot<T, H>)
         ensures later { Writes seen.old.entries new seen.new.entries }
         ensures value { self.new.value ≡ new }
         ensures exact { seen.new.entries ≡ self.old.log.entries ++ new ∷ [] }
         ensures left { self.new.log.entries ≡ self.old.log.entries ++ new ∷ [] }
     {
-        let Register { value, log } = self;
-        log.observe(seen);
-        *value = new;
-        log.append(value);
-        log.observe(seen);
+        self.change(
+            move |value: &mut T|
+                ensures { value.new ≡ new }
+            {
+                *value = new;
+            },
+            seen,
+        );
     }
 
     /// Writes what a closure makes of the value.
@@ -122,8 +145,15 @@ impl<T: Drop, H: History> Register<T, H> {
         ensures exact { seen.new.entries ≡ self.old.log.entries ++ self.new.value ∷ [] }
         ensures left { self.new.log.entries ≡ self.old.log.entries ++ self.new.value ∷ [] }
     {
-        let next = by(self.get(seen));
-        self.write(next, seen);
+        self.change(
+            move |value: &mut T|
+                requires { F.IsAlwaysCallable by }
+                ensures { FnOnceReturnsAt F.FnOnce by value.old value.new }
+            {
+                *value = by(value);
+            },
+            seen,
+        );
     }
 }
 
@@ -244,6 +274,36 @@ pub fn read_shared<T: Copy, H: History, L: SharedLock<Register<T, H>>, W: Wait>(
     )
 }
 
+/// Calls a closure with the value of a register under a lock, which it may change in place, and returns its answer.
+///
+/// # Contract
+/// The closure is called with the last write of a history that goes on from what the caller knew, and what it leaves
+/// there is the next one: nothing comes between.
+pub fn change<T, H: History, L: Lock<Register<T, H>>, A, F: FnOnce(&mut T) -> A, W: Wait>(
+    rt: &W,
+    lock: &L,
+    by: F,
+    seen: &mut Snapshot<T, H>,
+) -> A
+    requires { F.IsAlwaysCallable by }
+    ensures { (before after : T) × (FnOnceReturnsAtMut F.FnOnce by before result after × Updates seen.old.entries before after seen.new.entries) }
+{
+    let known = seen.copy();
+    let (answer, found) = lock.with(
+        rt,
+        move |register: &mut Register<T, H>| -> (A, Snapshot<T, H>)
+            requires { F.IsAlwaysCallable by }
+            ensures { (before after : T) × (FnOnceReturnsAtMut F.FnOnce by before result.0 after × Updates known.entries before after result.1.entries) }
+        {
+            let mut seen = known;
+            let answer = register.change(by, &mut seen);
+            (answer, seen)
+        },
+    );
+    *seen = found;
+    answer
+}
+
 /// Writes to a register under a lock.
 ///
 /// # Contract
@@ -256,16 +316,15 @@ pub fn write<T: Drop, H: History, L: Lock<Register<T, H>>, W: Wait>(
 )
     ensures { Writes seen.old.entries new seen.new.entries }
 {
-    let known = seen.copy();
-    *seen = lock.with(
+    change(
         rt,
-        move |register: &mut Register<T, H>| -> Snapshot<T, H>
-            ensures { Writes known.entries new result.entries }
+        lock,
+        move |value: &mut T|
+            ensures { value.new ≡ new }
         {
-            let mut seen = known;
-            register.write(new, &mut seen);
-            seen
+            *value = new;
         },
+        seen,
     );
 }
 
@@ -283,16 +342,15 @@ pub fn update<T: Drop, H: History, L: Lock<Register<T, H>>, F: FnOnce(&T) -> T, 
     requires { F.IsAlwaysCallable by }
     ensures { (before after : T) × (FnOnceReturnsAt F.FnOnce by before after × Updates seen.old.entries before after seen.new.entries) }
 {
-    let known = seen.copy();
-    *seen = lock.with(
+    change(
         rt,
-        move |register: &mut Register<T, H>| -> Snapshot<T, H>
+        lock,
+        move |value: &mut T|
             requires { F.IsAlwaysCallable by }
-            ensures { (before after : T) × (FnOnceReturnsAt F.FnOnce by before after × Updates known.entries before after result.entries) }
+            ensures { FnOnceReturnsAt F.FnOnce by value.old value.new }
         {
-            let mut seen = known;
-            register.update(by, &mut seen);
-            seen
+            *value = by(value);
         },
+        seen,
     );
 }

@@ -1,13 +1,9 @@
-use Rattle.std.proofs.Common.{sym, subst}
-use Rattle.spin_history.specs.Entries.{InOrder}
-use Rattle.spin_history.proofs.Entries.{later, goes_on, at_or_after}
+use Rattle.std.specs.Fn.{FnOnceReturnsAt}
+use Rattle.spin_history.proofs.Entries.{at_both}
 use Rattle.spin_history.proofs.growing.Growing.advance.Goals as goal
 
-pub invariant_of-self : goal.invariant_of-self
-invariant_of-self g c = let o = g.P.Order in let me = c.args.self.now in let old = me.register.value in let new = c.update.new.self.value in record {
-  ordered = subst (InOrder o.le) (sym c.update.ensures.left) (goes_on o.le o.reflexive o.transitive me.register.log.entries old new me.ordered me.register.latest (c.requires.grows old new c.update.ensures.called));
-}
+pub change-requires-clause-grows : goal.change-requires-clause-grows
+change-requires-clause-grows g c = λ x y answer changed. c.requires.grows x y (at_both (FnOnceReturnsAt g.F.FnOnce c.args.by) changed.shows changed.leaves changed.met)
 
-pub returns-clause-grown : goal.returns-clause-grown
-returns-clause-grown g c = let o = g.P.Order in let me = c.args.self.now in let old = me.register.value in let new = c.update.new.self.value in let seen = c.args.seen.now.entries in
-    at_or_after o.le o.reflexive o.transitive seen old new (later o.le o.reflexive o.transitive seen me.register.log.entries old c.update.ensures.known me.ordered me.register.latest) (c.requires.grows old new c.update.ensures.called)
+pub returns-clause-called : goal.returns-clause-called
+returns-clause-called g c = let changed = c.change.ensures.called in at_both (FnOnceReturnsAt g.F.FnOnce c.args.by) changed.shows changed.leaves changed.met
