@@ -1,4 +1,4 @@
-//! A spinning mutex of one flag.
+//! A spinning mutex of one flag, which the thread that finds it clear sets. Begin at [`SpinMutex::lock`].
 ghost use Rattle.std.specs.Prelude.{Option, IfSome};
 ghost use Rattle.std.specs.Fmt.{DisplaysOnOk};
 ghost use Rattle.spin_guard.specs.Guard.{IsHolder};
@@ -20,25 +20,76 @@ mod rule;
 
 pub use self::rule::{FlagRule, View};
 
-/// A lock that gives one party at a time access to a value, and spins while it waits.
+/// A mutual exclusion lock with one flag as its state, on which a waiting thread spins.
 ///
-/// Example: the test `six_threads_lose_no_addition`.
+/// Waiting threads may overtake each other. Where they have to be served in order of arrival, take `TicketMutex`. A
+/// waiting thread passes the time with the strategy `R`.
+///
+/// # Contract
+/// While a guard or a hold of the lock lives, no other call acquires it. A guard gives a value of `T`, with all that
+/// the invariant of `T` says. Nothing else is promised of what other threads wrote.
+///
+/// # Examples
+/// ```
+/// let lock: SpinMutex<u64> = SpinMutex::new(4);
+/// let guard: SpinMutexGuard<u64> = lock.lock(&rt);
+/// equal(&rt, *guard, 4);
+/// ```
 #[derive(Drop)]
 pub struct SpinMutex<T, R = Spin> {
     cell: Cell<T, View, FlagRule>,
     strategy: Strategy<R>,
 }
 
-/// Access to the value of a `SpinMutex`. Dropping it lets go of the lock.
+/// The guard of a [`SpinMutex`]. Dropping it releases the lock.
+///
+/// # Contract
+/// `guard_value` is the value behind the guard. What is written through the guard is read through it.
+///
+/// # Examples
+/// ```
+/// fn swap_in<R>(guard: &mut SpinMutexGuard<'_, u64, R>, value: u64) -> u64
+///     ensures old_value { result ≡ guard_value guard.old }
+///     ensures new_value { guard_value guard.new ≡ value }
+/// {
+///     let old = **guard;
+///     **guard = value;
+///     old
+/// }
+/// ```
 pub type SpinMutexGuard<'a, T, R = Spin> = Guard<'a, T, View, FlagRule, R>;
 
-/// A hold on a `SpinMutex` that lends no value. Only `force_unlock` spends it: dropping it frees nothing.
+/// A hold on a [`SpinMutex`]: it keeps the lock without a guard, and gives no access to the value.
+///
+/// [`SpinMutex::force_unlock`] takes it and releases the lock. Dropping it does not release the lock.
+///
+/// # Contract
+/// `held_value` is the value that the guard had.
+///
+/// # Examples
+/// ```
+/// pub fn take<'a, W: Wait>(rt: &W, lock: &'a SpinMutex<u64>) -> Held<'a, u64> {
+///     SpinMutexGuard::hold(lock.lock(rt))
+/// }
+///
+/// pub fn give_back(held: Held<'_, u64>) {
+///     SpinMutex::force_unlock(held);
+/// }
+/// ```
 pub type Held<'a, T, R = Spin> = guard::Held<'a, T, View, FlagRule, R>;
 
 impl<T, R> SpinMutex<T, R> {
-    /// A free lock.
+    /// Creates an unlocked mutex that holds `value`.
     ///
-    /// Example: the test `a_lock_is_taken_once`.
+    /// # Contract
+    /// No clause. The call returns.
+    ///
+    /// # Examples
+    /// ```
+    /// let lock: SpinMutex<u64> = SpinMutex::new(4);
+    /// let guard: SpinMutexGuard<u64> = lock.lock(&rt);
+    /// equal(&rt, *guard, 4);
+    /// ```
     pub fn new(value: T) -> Self {
         SpinMutex {
             cell: Cell::new(value, word(false), (), &()),
@@ -46,18 +97,38 @@ impl<T, R> SpinMutex<T, R> {
         }
     }
 
-    /// The last value, whatever the flag is.
+    /// Consumes the mutex and returns the value.
     ///
-    /// Example: the test `the_owner_has_the_last_value_and_takes_no_lock`.
+    /// It does not look at the flag: no other thread has the mutex. A value that was leaked or held is returned too.
+    ///
+    /// # Contract
+    /// No clause. The call returns.
+    ///
+    /// # Examples
+    /// ```
+    /// drop(self.lock(rt));
+    /// self.into_inner()
+    /// ```
     pub fn into_inner(self) -> T {
         self.cell.into_inner()
     }
 }
 
 impl<T, R: RelaxStrategy> SpinMutex<T, R> {
-    /// Takes the lock, and relaxes while somebody holds it. Nothing is promised about when it returns.
+    /// Acquires the mutex, spinning until it is free.
     ///
-    /// Example: the test `a_lock_has_what_was_written`.
+    /// After a failed attempt the thread backs off: it pauses with strategy `R`, and looks at the flag before it tries
+    /// again. With [`Spin`] each pause is twice as long as the last one, up to a limit. The call never returns if its
+    /// own thread holds the lock.
+    ///
+    /// # Contract
+    /// The guard belongs to a holder of the lock (`IsHolder`). Whether and when the call returns is not promised.
+    ///
+    /// # Examples
+    /// ```
+    /// let mut sum = self.lock(rt);
+    /// *sum = sum.wrapping_add(1);
+    /// ```
     pub fn lock<W: Wait>(&self, rt: &W) -> SpinMutexGuard<'_, T, R>
         ensures { IsHolder use_of_view result }
     {
@@ -67,7 +138,7 @@ impl<T, R: RelaxStrategy> SpinMutex<T, R> {
         }
     }
 
-    // Looks first, so that waiters read a shared line and do not write it.
+    // A load comes first, so that waiting threads share the cache line and do not write it.
     fn look_and_try<'a>(&'a self) -> Option<SpinMutexGuard<'a, T, R>>
         ensures { IfSome result (IsHolder use_of_view) }
     {
@@ -80,9 +151,20 @@ impl<T, R: RelaxStrategy> SpinMutex<T, R> {
 }
 
 impl<T, R> SpinMutex<T, R> {
-    /// Takes the lock, or refuses where somebody holds it. It makes one exchange.
+    /// Tries to acquire the mutex. Returns `None` at once if it is held.
     ///
-    /// Example: the test `a_lock_is_taken_once`.
+    /// It makes one compare-exchange.
+    ///
+    /// # Contract
+    /// A guard belongs to a holder of the lock (`IsHolder`). `None` promises nothing. The call returns.
+    ///
+    /// # Examples
+    /// ```
+    /// match self.try_lock() {
+    ///     Some(mut guard) => Ok(by(&mut *guard)),
+    ///     None => Err(by),
+    /// }
+    /// ```
     pub fn try_lock<'a>(&'a self) -> Option<SpinMutexGuard<'a, T, R>>
         ensures { IfSome result (IsHolder use_of_view) }
     {
@@ -93,46 +175,90 @@ impl<T, R> SpinMutex<T, R> {
         Some(Guard::new(permit.into_writer()))
     }
 
-    /// As `try_lock`. It may refuse a free lock for no reason, so repeat it; this one never does.
+    /// Like [`try_lock`](Self::try_lock), but may fail spuriously, so call it in a loop. (This implementation never
+    /// does.)
+    ///
+    /// # Contract
+    /// That of `try_lock`.
+    ///
+    /// # Examples
+    /// ```
+    /// let guard = lock.lock(&rt);
+    /// assert!(rt; lock.try_lock_weak().is_none());
+    /// drop(guard);
+    /// ```
     pub fn try_lock_weak<'a>(&'a self) -> Option<SpinMutexGuard<'a, T, R>>
         ensures { IfSome result (IsHolder use_of_view) }
     {
         self.try_lock()
     }
 
-    /// Whether somebody holds the lock at the moment of its one load.
+    /// Returns `true` if the lock was held at some moment during this call.
+    ///
+    /// It makes one load. By the time the caller reads the answer it may be out of date.
+    ///
+    /// # Contract
+    /// No clause. The call returns.
+    ///
+    /// # Examples
+    /// ```
+    /// let held = take(&rt, &lock);
+    /// assert!(rt; lock.is_locked());
+    /// give_back(held);
+    /// assert!(rt; !lock.is_locked());
+    /// ```
     pub fn is_locked(&self) -> bool {
         is_set(self.cell.enter().look::<Look>())
     }
 
-    /// Lets go of the lock that a guard was held on.
+    /// Releases the lock that the hold keeps.
+    ///
+    /// The hold is spent, so no lock is released twice.
+    ///
+    /// # Contract
+    /// No clause. The call returns.
+    ///
+    /// # Examples
+    /// ```
+    /// pub fn give_back(held: Held<'_, u64>) {
+    ///     SpinMutex::force_unlock(held);
+    /// }
+    /// ```
     pub fn force_unlock(held: Held<'_, T, R>) {
         held.release();
     }
 
-    /// The value, whatever the flag is: nobody else has the lock.
+    /// Returns a mutable reference to the value.
     ///
-    /// Example: the test `the_owner_has_the_last_value_and_takes_no_lock`.
+    /// It neither looks at the flag nor acquires the lock: no other thread has the mutex.
+    ///
+    /// # Contract
+    /// No clause. The call returns.
+    ///
+    /// # Examples
+    /// ```
+    /// *lock.get_mut() = 5;
+    /// ```
     pub fn get_mut(&mut self) -> &mut T {
         self.cell.get_mut()
     }
 }
 
-/// A free lock of the default value.
+/// Creates an unlocked mutex that holds the default value.
 impl<T: Default, R> Default for SpinMutex<T, R> {
     fn default() -> Self {
         Self::new(T::default())
     }
 }
 
-/// A free lock of the value.
+/// Creates an unlocked mutex that holds the value.
 impl<T, R> From<T> for SpinMutex<T, R> {
     fn from(value: T) -> Self {
         Self::new(value)
     }
 }
 
-/// One attempt to take the lock, which it then holds while it writes. Where that is refused it writes `<locked>`.
+/// Tries once to acquire the lock, and holds it while it writes the value. Where the lock is held it writes `<locked>`.
 impl<T: Debug, R> Debug for SpinMutex<T, R> {
     fn fmt<W: fmt::Write>(&self, f: &mut Formatter<W>) -> fmt::Result
         ensures { (found : Option T) × DisplaysOnOk W.write_str_gives f.old result (lock_text T.debug_output found) f.new }

@@ -1,4 +1,4 @@
-//! What the parties of a `SpinMutex` are, and what its word says of them.
+//! What a party is to a `SpinMutex`, and what the word of the lock says of its parties. Begin at [`FlagRule`].
 ghost use Rattle.std.specs.Prelude.{◌≡◌, ◌≢◌, ℕ, IsTrue, ◌↔◌, refl};
 ghost use Rattle.spin_step.specs.Steps.{bit};
 ghost use Rattle.spin_core.specs.Cell.{alone, use_of};
@@ -10,14 +10,17 @@ use spin_core::cell::{Play, Rule, WritePermit};
 use spin_guard::guard::{self, LetsGo, Uses};
 use spin_step::flag;
 
-/// What a party is to the lock.
+/// What a party (one call, and the guard that it returns) is to the lock.
 #[derive(Clone, Copy)]
 pub enum View {
     Idle,
     Holding,
 }
 
-/// The word is that of a plain lock whose holders are the parties that hold: 1 while there is one, else 0.
+/// The rule of a [`SpinMutex`](super::SpinMutex): its word is 1 while a party holds the lock, and else 0.
+///
+/// # Contract
+/// `IsFlag`: the word is that of a plain lock whose holders are the parties that hold.
 pub struct FlagRule;
 
 impl<T> Rule<T, View> for FlagRule {
@@ -30,14 +33,14 @@ impl<T> Rule<T, View> for FlagRule {
     ghost ways = { λ _. (alone, use_of_view) };
 }
 
-/// A party comes and holds nothing.
+/// A load: the party comes and holds nothing.
 pub(super) struct Look;
 
 impl Play<View> for Look {
     ghost then = { becomes Idle };
 }
 
-/// A party comes, and holds where it found the word that it expected.
+/// A compare-exchange: the party comes, and holds if it found the word that it expected.
 pub(super) struct Attempt;
 
 impl Play<View> for Attempt {
@@ -60,14 +63,14 @@ impl<T> guard::Release<T, View> for FlagRule {
     ghost same = { λ key view. refl };
 }
 
-/// The word of a flag.
+/// Returns the word that encodes the flag.
 pub(super) fn word(flag: bool) -> u64
     ensures { result ≡ bit flag }
 {
     flag as u64
 }
 
-/// The flag of a word.
+/// Returns the flag that the word encodes.
 pub(super) fn is_set(word: u64) -> bool
     ensures { IsTrue result ↔ (word ≢ 0) }
 {
