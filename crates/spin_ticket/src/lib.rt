@@ -1,4 +1,6 @@
-//! `TicketMutex`: a spinning mutex whose parties enter in the order of their tickets.
+//! `TicketMutex`: a spinning mutex that serves threads in the order of their tickets.
+//!
+//! Begin at [`ticket::TicketMutex`], and there at `lock`. [`laws`] says what follows from its rule.
 #![tactic(auto)]
 
 pub mod laws;

@@ -1,9 +1,19 @@
-//! For tests of what happens as tickets are taken and used up, also of the crates above.
+//! What tests need that look at the tickets, also tests of the crates above. Begin at [`starting_at`].
 use crate::ticket::TicketMutex;
 use spin_core::cell::Cell;
 use spin_core::relax::Strategy;
 
-/// A free lock whose first ticket has the number `first`.
+/// Creates an unlocked mutex whose first ticket has the number `first`.
+///
+/// # Contract
+/// No clause. The call returns.
+///
+/// # Examples
+/// ```
+/// let lock: TicketMutex<u64> = starting_at(42, u64::MAX - 1);
+/// let guard = lock.try_lock().expect(&rt, "one ticket is left");
+/// equal(&rt, *guard, 42);
+/// ```
 pub fn starting_at<T, R>(value: T, first: u64) -> TicketMutex<T, R> {
     TicketMutex {
         cell: Cell::new(value, first, first, &()),
@@ -11,7 +21,16 @@ pub fn starting_at<T, R>(value: T, first: u64) -> TicketMutex<T, R> {
     }
 }
 
-/// The number of the next ticket.
+/// Returns the number of the next ticket.
+///
+/// # Contract
+/// No clause. The call returns.
+///
+/// # Examples
+/// ```
+/// let guard = lock.lock(&rt);
+/// equal(&rt, next(&lock), u64::MAX);
+/// ```
 pub fn next<T, R>(lock: &TicketMutex<T, R>) -> u64 {
     lock.next()
 }

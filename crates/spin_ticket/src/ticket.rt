@@ -1,4 +1,4 @@
-//! A spinning mutex of tickets: its parties enter in the order in which they took a number.
+//! A spinning mutex of tickets, which serves the threads in their order of arrival. Begin at [`TicketMutex::lock`].
 ghost use Rattle.std.specs.Prelude.{◌≡◌, Option, Some, IfSome, IfOk};
 ghost use Rattle.std.specs.Fmt.{DisplaysOnOk};
 ghost use Rattle.spin_guard.specs.Guard.{IsHolder};
@@ -20,22 +20,62 @@ mod rule;
 
 pub use self::rule::{TicketRule, View};
 
-/// A lock that gives one party at a time access to a value, in the order in which they came, and spins while it waits.
+/// A mutual exclusion lock that serves its threads in order of arrival, and on which a waiting thread spins.
 ///
-/// Example: the test `six_threads_lose_no_addition`.
+/// Each call of [`lock`](Self::lock) takes a ticket with the next number, and enters when that number is served. With
+/// more spinning threads than cores it may wait for a thread that is not scheduled: take `SpinMutex` there, or the
+/// strategy `Yield`. A waiting thread passes the time with the strategy `R`.
+///
+/// # Contract
+/// While a guard or a hold of the lock lives, no other call acquires it. Threads enter in the order of their tickets
+/// (`the_parties_of_a_ticket_mutex_enter_in_turn`). A guard gives a value of `T`, with all that the invariant of `T`
+/// says. Nothing else is promised of what other threads wrote.
+///
+/// # Examples
+/// ```
+/// let lock: TicketMutex<u64> = TicketMutex::new(5);
+/// let guard: TicketMutexGuard<u64> = lock.lock(&rt);
+/// equal(&rt, *guard, 5);
+/// ```
 #[derive(Drop)]
 pub struct TicketMutex<T, R = Spin> {
     pub(crate) cell: Cell<T, View, TicketRule>,
     pub(crate) strategy: Strategy<R>,
 }
 
-/// Access to the value of a `TicketMutex`. Dropping it serves the next ticket.
+/// The guard of a [`TicketMutex`]. Dropping it releases the lock, and serves the next ticket.
+///
+/// # Contract
+/// `guard_value` is the value behind the guard. What is written through the guard is read through it.
+///
+/// # Examples
+/// ```
+/// fn swap_in_turn<R>(guard: &mut TicketMutexGuard<'_, u64, R>, value: u64) -> u64
+///     ensures old_value { result ≡ guard_value guard.old }
+///     ensures new_value { guard_value guard.new ≡ value }
+/// {
+///     let old = **guard;
+///     **guard = value;
+///     old
+/// }
+/// ```
 pub type TicketMutexGuard<'a, T, R = Spin> = Guard<'a, T, View, TicketRule, R>;
 
-/// A hold on a `TicketMutex` that lends no value. Only `force_unlock` spends it: dropping it frees nothing.
+/// A hold on a [`TicketMutex`]: it keeps the lock without a guard, and gives no access to the value.
+///
+/// [`TicketMutex::force_unlock`] takes it and releases the lock. Dropping it does not release the lock.
+///
+/// # Contract
+/// `held_value` is the value that the guard had.
+///
+/// # Examples
+/// ```
+/// TicketMutex::force_unlock(TicketMutexGuard::hold(guard));
+/// equal(&rt, lock.is_locked(), false);
+/// ```
 pub type Held<'a, T, R = Spin> = guard::Held<'a, T, View, TicketRule, R>;
 
-// A place in the queue, and how many tickets stood before it when it last looked.
+// A place in the queue, and how many tickets were before it when it last looked.
 struct Place<'a, T> {
     number: u64,
     ahead: u64,
@@ -44,9 +84,17 @@ struct Place<'a, T> {
 }
 
 impl<T, R> TicketMutex<T, R> {
-    /// A free lock.
+    /// Creates an unlocked mutex that holds `value`.
     ///
-    /// Example: the test `a_lock_is_taken_once`.
+    /// # Contract
+    /// No clause. The call returns.
+    ///
+    /// # Examples
+    /// ```
+    /// let lock: TicketMutex<u64> = TicketMutex::new(5);
+    /// let guard: TicketMutexGuard<u64> = lock.lock(&rt);
+    /// equal(&rt, *guard, 5);
+    /// ```
     pub fn new(value: T) -> Self {
         TicketMutex {
             cell: Cell::new(value, 0, 0, &()),
@@ -54,17 +102,36 @@ impl<T, R> TicketMutex<T, R> {
         }
     }
 
-    /// The last value, whatever the words are.
+    /// Consumes the mutex and returns the value.
     ///
-    /// Example: the test `the_owner_has_the_last_value_and_takes_no_lock`.
+    /// It takes no ticket: no other thread has the mutex. A value that was leaked or held is returned too.
+    ///
+    /// # Contract
+    /// No clause. The call returns.
+    ///
+    /// # Examples
+    /// ```
+    /// equal(&rt, lock.is_locked(), false);
+    /// equal(&rt, lock.into_inner(), 42);
+    /// ```
     pub fn into_inner(self) -> T {
         self.cell.into_inner()
     }
 
-    /// Takes a ticket, and relaxes until its number is served. Once tickets are used up it waits for ever. Nothing is
-    /// promised about when it returns.
+    /// Acquires the mutex, spinning until every thread that came before has released it.
     ///
-    /// Example: the test `a_lock_has_what_was_written`.
+    /// The call takes a ticket and waits with strategy `R` until its number is served. With [`Spin`] it looks less
+    /// often the more tickets are before it. The call never returns if its own thread holds the lock, or once all
+    /// 2^64 - 1 tickets are used up.
+    ///
+    /// # Contract
+    /// The guard belongs to a holder of the lock (`IsHolder`). Whether and when the call returns is not promised.
+    ///
+    /// # Examples
+    /// ```
+    /// let mut sum = self.lock(rt);
+    /// *sum = sum.wrapping_add(1);
+    /// ```
     pub fn lock<W: Wait>(&self, rt: &W) -> TicketMutexGuard<'_, T, R>
     where
         R: RelaxStrategy,
@@ -80,10 +147,21 @@ impl<T, R> TicketMutex<T, R> {
         }
     }
 
-    /// Takes the lock, or refuses where a ticket stands, or where tickets are used up. It makes one pass: at most two
-    /// loads and one exchange.
+    /// Tries to acquire the mutex. Returns `None` at once if a thread holds it or waits for it, or if the tickets are
+    /// used up.
     ///
-    /// Example: the test `a_lock_is_taken_once`.
+    /// It makes at most two loads and one compare-exchange.
+    ///
+    /// # Contract
+    /// A guard belongs to a holder of the lock (`IsHolder`). `None` promises nothing. The call returns.
+    ///
+    /// # Examples
+    /// ```
+    /// let guard = lock.try_lock().expect(&rt, "one ticket is left");
+    /// equal(&rt, *guard, 42);
+    /// drop(guard);
+    /// equal(&rt, lock.try_lock().is_none(), true);
+    /// ```
     pub fn try_lock<'a>(&'a self) -> Option<TicketMutexGuard<'a, T, R>>
         ensures { IfSome result (IsHolder use_of_view) }
     {
@@ -98,7 +176,19 @@ impl<T, R> TicketMutex<T, R> {
         Some(Guard::new(permit.into_writer()))
     }
 
-    /// Whether a ticket stood at a moment of the call.
+    /// Returns `true` if a thread held the lock, or waited for it, at some moment during this call.
+    ///
+    /// It makes two loads. By the time the caller reads the answer it may be out of date.
+    ///
+    /// # Contract
+    /// No clause. The call returns.
+    ///
+    /// # Examples
+    /// ```
+    /// equal(&rt, lock.is_locked(), true);
+    /// TicketMutex::force_unlock(TicketMutexGuard::hold(guard));
+    /// equal(&rt, lock.is_locked(), false);
+    /// ```
     pub fn is_locked(&self) -> bool {
         // In this order, so that tickets stood between the two numbers.
         let (serving, permit) = self.cell.enter().load_second::<See>();
@@ -107,24 +197,45 @@ impl<T, R> TicketMutex<T, R> {
         !ticket::is_turn(serving, next)
     }
 
-    /// Lets go of the lock that a guard was held on: serves the number after its ticket.
+    /// Releases the lock that the hold keeps, and serves the next ticket.
+    ///
+    /// The hold is spent, so no lock is released twice.
+    ///
+    /// # Contract
+    /// No clause. The call returns.
+    ///
+    /// # Examples
+    /// ```
+    /// TicketMutex::force_unlock(TicketMutexGuard::hold(guard));
+    /// equal(&rt, lock.is_locked(), false);
+    /// ```
     pub fn force_unlock(held: Held<'_, T, R>) {
         held.release();
     }
 
-    /// The value, whatever the words are: nobody else has the lock.
+    /// Returns a mutable reference to the value.
     ///
-    /// Example: the test `the_owner_has_the_last_value_and_takes_no_lock`.
+    /// It takes no ticket: no other thread has the mutex.
+    ///
+    /// # Contract
+    /// No clause. The call returns.
+    ///
+    /// # Examples
+    /// ```
+    /// *lock.get_mut() = 43;
+    /// equal(&rt, lock.is_locked(), false);
+    /// ```
     pub fn get_mut(&mut self) -> &mut T {
         self.cell.get_mut()
     }
 
-    // The next ticket's number.
+    // Returns the number of the next ticket.
     pub(crate) fn next(&self) -> u64 {
         self.cell.enter().look::<Look>()
     }
 
-    // Takes the ticket of this number, or tells which it found to be next. Where tickets are used up that is this one.
+    // Takes the ticket with this number. `Err` has the number that was found in its place, which is the same once the
+    // tickets are used up.
     fn queue<'a>(&'a self, number: u64) -> Result<Place<'a, T>, u64> {
         let after = ticket::take(number).ok_or(number)?;
         let permit = self.cell.enter().attempt::<Take>(number, after)?;
@@ -137,12 +248,12 @@ impl<T, R> TicketMutex<T, R> {
 }
 
 impl<'a, T> Place<'a, T> {
-    // The next in turn looks often, and who has many before it does not disturb them.
+    // The next thread in turn looks often. One with many before it looks seldom, so that it does not disturb them.
     fn pause(&self) -> u32 {
         self.ahead.min(MAX_HINTS as u64) as u32
     }
 
-    // Enters where the place's number is served.
+    // Enters if the number of the place is served.
     fn enter<R>(self) -> Result<TicketMutexGuard<'a, T, R>, Place<'a, T>>
         ensures { IfOk result (λ guard. guard.writer.view ≡ Entered self.entry.number) }
     {
@@ -164,7 +275,7 @@ impl<'a, T> Place<'a, T> {
     }
 }
 
-/// One attempt to take the lock, which it then holds while it writes. Where that is refused it writes `<locked>`.
+/// Tries once to acquire the lock, and holds it while it writes the value. Where the try fails it writes `<locked>`.
 impl<T: Debug, R> Debug for TicketMutex<T, R> {
     fn fmt<W: fmt::Write>(&self, f: &mut Formatter<W>) -> fmt::Result
         ensures { (found : Option T) × DisplaysOnOk W.write_str_gives f.old result (lock_text T.debug_output found) f.new }
@@ -173,14 +284,14 @@ impl<T: Debug, R> Debug for TicketMutex<T, R> {
     }
 }
 
-/// A free lock of the default value.
+/// Creates an unlocked mutex that holds the default value.
 impl<T: Default, R> Default for TicketMutex<T, R> {
     fn default() -> Self {
         Self::new(T::default())
     }
 }
 
-/// A free lock of the value.
+/// Creates an unlocked mutex that holds the value.
 impl<T, R> From<T> for TicketMutex<T, R> {
     fn from(value: T) -> Self {
         Self::new(value)

@@ -1,4 +1,4 @@
-//! What the parties of a `TicketMutex` are, and what its two words say of them.
+//! What a party is to a `TicketMutex`, and what the two words of the lock say of its parties. Begin at [`TicketRule`].
 ghost use Rattle.std.specs.Prelude.{refl};
 ghost use Rattle.spin_core.specs.Cell.{alone, use_of};
 ghost use Rattle.spin_ticket.specs.Queue.{IsQueue, use_of_view, Looks, Sees, Takes};
@@ -8,7 +8,7 @@ use spin_core::cell::{Play, Rule, WritePermit};
 use spin_guard::guard::{self, LetsGo, Uses};
 use spin_step::ticket;
 
-/// What a party is to the lock. A number is that of a ticket.
+/// What a party (one call, and the guard that it returns) is to the lock. A number is that of a ticket.
 #[derive(Clone, Copy)]
 pub enum View {
     Idle,
@@ -18,8 +18,10 @@ pub enum View {
     Entered(u64),
 }
 
-/// The first word is the next ticket's number, the second the number that is served, in a plain lock whose tickets are
-/// those of the parties that wait or have entered.
+/// The rule of a [`TicketMutex`](super::TicketMutex): its words are the number of the next ticket and the number served.
+///
+/// # Contract
+/// `IsQueue`: the words are those of a plain lock whose tickets are those of the parties that wait or have entered.
 pub struct TicketRule;
 
 impl<T> Rule<T, View> for TicketRule {
@@ -32,22 +34,22 @@ impl<T> Rule<T, View> for TicketRule {
     ghost ways = { λ _. (alone, use_of_view) };
 }
 
-/// A look at the next number.
+/// A load of the next number.
 pub(super) struct Look;
 
 impl Play<View> for Look {
     ghost then = { Looks };
 }
 
-/// A look at the number that is served.
+/// A load of the number that is served.
 pub(super) struct See;
 
 impl Play<View> for See {
     ghost then = { Sees };
 }
 
-/// A party takes the ticket that it expected to be next. It enters with that where it saw the number served, and else
-/// waits.
+/// A compare-exchange: the party takes the ticket that it expected to be next. If it saw that number served, it has
+/// entered with it. Else it waits.
 pub(super) struct Take;
 
 impl Play<View> for Take {
