@@ -1,4 +1,4 @@
-//! A spinning mutex whose starving parties come before newcomers.
+//! A spinning mutex in which starvers come before newcomers. Begin at [`FairMutex::lock`] and [`FairMutex::starve`].
 ghost use Rattle.std.specs.Prelude.{◌≡◌, Some, IfSome, IfOk};
 ghost use Rattle.spin_guard.specs.Guard.{IsHolder};
 ghost use Rattle.spin_fair.specs.Fair.{use_of_view};
@@ -22,31 +22,85 @@ pub use self::rule::{FairRule, View};
 pub use self::starvation::Starvation;
 pub use spin_step::fair::LockRejectReason;
 
-/// After more looks than this that found the lock held, `lock` starves.
+/// The number of looks that [`FairMutex::lock`] may make at a held lock before it starves.
+///
+/// At its next look that finds the lock held, it registers as a starver.
+///
+/// # Examples
+/// ```
+/// let seen = thread::join(&rt, || looks_until_it_enters(&rt, &lock), let_go);
+/// assert_eq!(rt; seen, (STARVATION_SPINS + 2, true));
+/// ```
 pub const STARVATION_SPINS: usize = 1024;
 
-/// A lock that gives one party at a time access to a value, and spins while it waits. While a party is registered as a
-/// starver, no other gets the lock unless it starves as well.
+/// A mutual exclusion lock in which a thread that waits for long comes before newcomers, and on which it spins.
 ///
-/// Among starvers, and among newcomers where nobody starves, there is no order.
+/// A thread that waits for long registers as a starver. While a starver is registered, only starvers acquire the lock.
+/// Starvers may overtake each other, and so may newcomers. A waiting thread passes the time with the strategy `R`.
 ///
-/// Example: the test `six_threads_lose_no_addition`.
+/// # Contract
+/// While a guard or a hold of the lock lives, no other call acquires it. A newcomer that holds the lock came before
+/// each registered starver (`no_newcomer_holds_that_came_behind_a_starver`). A guard gives a value of `T`, with all
+/// that the invariant of `T` says. Nothing else is promised of what other threads wrote.
+///
+/// # Examples
+/// ```
+/// let mut guard = match total.starve(rt) {
+///     Some(place) => place.lock(rt),
+///     None => total.lock(rt),
+/// };
+/// *guard = guard.wrapping_add(1);
+/// ```
 #[derive(Drop)]
 pub struct FairMutex<T, R = Spin> {
     cell: Cell<T, View, FairRule>,
     strategy: Strategy<R>,
 }
 
-/// Access to the value of a `FairMutex`. Dropping it lets go of the lock, and leaves who starves registered.
+/// The guard of a [`FairMutex`]. Dropping it releases the lock, and leaves the starvers registered.
+///
+/// # Contract
+/// `guard_value` is the value behind the guard. What is written through the guard is read through it.
+///
+/// # Examples
+/// ```
+/// if let Ok(mut sum) = starver.try_lock() {
+///     *sum = sum.wrapping_add(1);
+/// }
+/// ```
 pub type FairMutexGuard<'a, T, R = Spin> = Guard<'a, T, View, FairRule, R>;
 
-/// A hold on a `FairMutex` that lends no value. Only `force_unlock` spends it: dropping it frees nothing.
+/// A hold on a [`FairMutex`]: it keeps the lock without a guard, and gives no access to the value.
+///
+/// [`FairMutex::force_unlock`] takes it and releases the lock. Dropping it does not release the lock.
+///
+/// # Contract
+/// `held_value` is the value that the guard had.
+///
+/// # Examples
+/// ```
+/// fn hold(guard: Self::Guard) -> Self::Held {
+///     FairMutexGuard::hold(guard)
+/// }
+///
+/// fn force_unlock(held: Self::Held) {
+///     FairMutex::force_unlock(held);
+/// }
+/// ```
 pub type Held<'a, T, R = Spin> = guard::Held<'a, T, View, FairRule, R>;
 
 impl<T, R> FairMutex<T, R> {
-    /// A free lock, for which nobody starves.
+    /// Creates an unlocked mutex that holds `value` and has no starvers.
     ///
-    /// Example: the test `a_starver_comes_before_newcomers`.
+    /// # Contract
+    /// No clause. The call returns.
+    ///
+    /// # Examples
+    /// ```
+    /// let fair = FairMutex::new(7);
+    /// add_starving(&rt, &fair);
+    /// assert_eq!(rt; fair.into_inner(), 8);
+    /// ```
     pub fn new(value: T) -> Self {
         let cell = Cell::new(value, 0, (), &());
         FairMutex {
@@ -55,19 +109,39 @@ impl<T, R> FairMutex<T, R> {
         }
     }
 
-    /// The last value, whatever the word is: leaked holds and forgotten starvers count no more.
+    /// Consumes the mutex and returns the value.
     ///
-    /// Example: the test `the_owner_has_the_last_value_and_takes_no_lock`.
+    /// It does not look at the word: no other thread has the mutex. Leaked holds and forgotten starvers do not matter.
+    ///
+    /// # Contract
+    /// No clause. The call returns.
+    ///
+    /// # Examples
+    /// ```
+    /// let fair = FairMutex::new(7);
+    /// add_starving(&rt, &fair);
+    /// assert_eq!(rt; fair.into_inner(), 8);
+    /// ```
     pub fn into_inner(self) -> T {
         self.cell.into_inner()
     }
 }
 
 impl<T, R: RelaxStrategy> FairMutex<T, R> {
-    /// Takes the lock, and relaxes while somebody holds it. Once it has looked in vain for a while it starves, and so
-    /// comes before newcomers. Nothing is promised about when it returns.
+    /// Acquires the mutex, spinning until it is free.
     ///
-    /// Example: the test `a_held_lock_opens_by_force`.
+    /// After a failed attempt the thread pauses with strategy `R`, and looks at the word before it tries again. After
+    /// more than [`STARVATION_SPINS`] looks that found the lock held it starves (see [`starve`](Self::starve)), unless
+    /// too many do. The call never returns if its own thread holds the lock.
+    ///
+    /// # Contract
+    /// The guard belongs to a holder of the lock (`IsHolder`). Whether and when the call returns is not promised.
+    ///
+    /// # Examples
+    /// ```
+    /// let mut sum = self.lock(rt);
+    /// *sum = sum.wrapping_add(1);
+    /// ```
     pub fn lock<W: Wait>(&self, rt: &W) -> FairMutexGuard<'_, T, R>
         ensures { IsHolder use_of_view result }
     {
@@ -77,8 +151,8 @@ impl<T, R: RelaxStrategy> FairMutex<T, R> {
         }
     }
 
-    // Looks first, so that waiters read a shared line and do not write it. `spins` counts the looks that found the lock
-    // held: once they are too many it starves. All pauses are as long, so that so many looks are so much time.
+    // A load comes first, so that waiting threads share the cache line and do not write it. `spins` counts the looks
+    // that found the lock held, until there are enough to starve. All pauses are equally long, so looks measure time.
     fn look_and_try<'a, W: Wait>(
         &'a self,
         rt: &W,
@@ -100,10 +174,21 @@ impl<T, R: RelaxStrategy> FairMutex<T, R> {
 }
 
 impl<T, R> FairMutex<T, R> {
-    /// Takes the lock, or refuses where somebody holds it or starves. It makes one exchange. Its guard is a newcomer's:
-    /// while that holds, no starver is registered that came before it.
+    /// Tries to acquire the mutex. Returns `None` at once if it is held, or if a starver is registered.
     ///
-    /// Example: the test `a_lock_is_taken_once`.
+    /// It makes one compare-exchange.
+    ///
+    /// # Contract
+    /// A guard belongs to a holder of the lock (`IsHolder`), which came as a newcomer (its view is `Holding`). So no
+    /// registered starver came before it. `None` promises nothing. The call returns.
+    ///
+    /// # Examples
+    /// ```
+    /// match self.try_lock() {
+    ///     Some(mut guard) => Ok(by(&mut *guard)),
+    ///     None => Err(by),
+    /// }
+    /// ```
     pub fn try_lock<'a>(&'a self) -> Option<FairMutexGuard<'a, T, R>>
         ensures holder { IfSome result (IsHolder use_of_view) }
         ensures newcomer { IfSome result (λ guard. guard.writer.view ≡ Holding) }
@@ -111,7 +196,17 @@ impl<T, R> FairMutex<T, R> {
         self.try_lock_starver().ok()
     }
 
-    /// As `try_lock`, and says why it refuses.
+    /// Like [`try_lock`](Self::try_lock), but returns the reason for a failure.
+    ///
+    /// # Contract
+    /// `Ok` is as `Some` of `try_lock`. `Err` promises nothing. The call returns.
+    ///
+    /// # Examples
+    /// ```
+    /// fn refusal<R>(lock: &FairMutex<u64, R>) -> Option<LockRejectReason> {
+    ///     lock.try_lock_starver().err()
+    /// }
+    /// ```
     pub fn try_lock_starver<'a>(&'a self) -> Result<FairMutexGuard<'a, T, R>, LockRejectReason>
         ensures holder { IfOk result (IsHolder use_of_view) }
         ensures newcomer { IfOk result (λ guard. guard.writer.view ≡ Holding) }
@@ -125,12 +220,25 @@ impl<T, R> FairMutex<T, R> {
         }
     }
 
-    /// Registers the caller as a starver, or refuses at the cap of starvers. It tries again where another party changed
-    /// the word, and promises nothing about when it returns.
+    /// Registers the caller as a starver. Returns `None` if [`fair::MAX_STARVERS`] are registered.
     ///
-    /// Example: the test `a_starver_comes_before_newcomers`.
+    /// From then on no newcomer acquires the lock, until the starver has the lock or is dropped. The call repeats its
+    /// compare-exchange while other threads change the word.
+    ///
+    /// # Contract
+    /// `Some` is registered, as each `Starvation` is. `None` promises nothing. Whether and when the call returns is not
+    /// promised.
+    ///
+    /// # Examples
+    /// ```
+    /// let mut guard = match total.starve(rt) {
+    ///     Some(place) => place.lock(rt),
+    ///     None => total.lock(rt),
+    /// };
+    /// *guard = guard.wrapping_add(1);
+    /// ```
     pub fn starve<W: Wait>(&self, rt: &W) -> Option<Starvation<'_, T, R>> {
-        // To begin at 0 spares the load where nobody is there, and is the load where somebody is.
+        // To begin at 0 saves a load if the word is 0. If it is not, the failed exchange is the load.
         let mut word = 0;
         for _ in rt.forever() {
             let registered = fair::starve(word, fair::MAX_STARVERS)?;
@@ -143,19 +251,50 @@ impl<T, R> FairMutex<T, R> {
         unreachable!()
     }
 
-    /// Whether somebody holds the lock at the moment of its one load.
+    /// Returns `true` if the lock was held at some moment during this call.
+    ///
+    /// It makes one load. By the time the caller reads the answer it may be out of date.
+    ///
+    /// # Contract
+    /// No clause. The call returns.
+    ///
+    /// # Examples
+    /// ```
+    /// equal(&rt, lock.is_locked(), false);
+    /// let guard = lock.lock(&rt);
+    /// ```
     pub fn is_locked(&self) -> bool {
         fair::is_locked(self.word())
     }
 
-    /// Lets go of the lock that a guard was held on.
+    /// Releases the lock that the hold keeps.
+    ///
+    /// The hold is spent, so no lock is released twice. Starvers stay registered.
+    ///
+    /// # Contract
+    /// No clause. The call returns.
+    ///
+    /// # Examples
+    /// ```
+    /// fn force_unlock(held: Self::Held) {
+    ///     FairMutex::force_unlock(held);
+    /// }
+    /// ```
     pub fn force_unlock(held: Held<'_, T, R>) {
         held.release();
     }
 
-    /// The value, whatever the word is: nobody else has the lock.
+    /// Returns a mutable reference to the value.
     ///
-    /// Example: the test `the_owner_has_the_last_value_and_takes_no_lock`.
+    /// It neither looks at the word nor acquires the lock: no other thread has the mutex.
+    ///
+    /// # Contract
+    /// No clause. The call returns.
+    ///
+    /// # Examples
+    /// ```
+    /// *lock.get_mut() = 5;
+    /// ```
     pub fn get_mut(&mut self) -> &mut T {
         self.cell.get_mut()
     }
@@ -165,14 +304,14 @@ impl<T, R> FairMutex<T, R> {
     }
 }
 
-/// A free lock of the default value.
+/// Creates an unlocked mutex that holds the default value.
 impl<T: Default, R> Default for FairMutex<T, R> {
     fn default() -> Self {
         Self::new(T::default())
     }
 }
 
-/// A free lock of the value.
+/// Creates an unlocked mutex that holds the value.
 impl<T, R> From<T> for FairMutex<T, R> {
     fn from(value: T) -> Self {
         Self::new(value)

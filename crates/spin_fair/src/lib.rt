@@ -1,4 +1,6 @@
-//! `FairMutex`: a spinning mutex whose starving parties come before newcomers.
+//! `FairMutex`: a spinning mutex in which starvers come before newcomers.
+//!
+//! Begin at [`fair::FairMutex`], and there at `lock` and `starve`. [`laws`] says what follows from its rule.
 #![tactic(auto)]
 
 pub mod fair;

@@ -1,4 +1,4 @@
-//! What the parties of a `FairMutex` are, and what its word says of them.
+//! What a party is to a `FairMutex`, and what the word of the lock says of its parties. Begin at [`FairRule`].
 ghost use Rattle.std.specs.Prelude.{refl};
 ghost use Rattle.spin_core.specs.Cell.{alone, use_of};
 ghost use Rattle.spin_core.specs.Plays.{becomes_by, exchanges};
@@ -9,21 +9,23 @@ use spin_core::cell::{Play, Rule, WritePermit};
 use spin_guard::guard::{self, LetsGo, Uses};
 use spin_step::fair;
 
-/// What a party is to the lock.
+/// What a party (one call, and the guard that it returns) is to the lock.
 #[derive(Clone, Copy)]
 pub enum View {
     Idle,
     Starving,
-    /// It holds, and came as a newcomer.
+    /// It holds the lock, and came as a newcomer.
     Holding,
-    /// It has the flag, and is registered still: it uses the value once it has stopped starving.
+    /// It has set the flag, and is still registered: it uses the value once it has stopped starving.
     HoldingStarving,
-    /// It holds, and starved for it.
+    /// It holds the lock, and starved for it.
     Served,
 }
 
-/// The word is that of a plain lock of these parties: the sum of what its holder and its starvers weigh. A newcomer that
-/// holds came before each party that starves.
+/// The rule of a [`FairMutex`](super::FairMutex): its word is the sum of what its holder and its starvers weigh.
+///
+/// # Contract
+/// `IsFair`: the word is that of a plain lock of these parties, and a newcomer that holds came before each starver.
 pub struct FairRule;
 
 impl<T> Rule<T, View> for FairRule {
@@ -36,48 +38,48 @@ impl<T> Rule<T, View> for FairRule {
     ghost ways = { λ _. (alone, use_of_view) };
 }
 
-/// In the word: somebody holds the lock.
+/// The weight of the holder in the word.
 pub(super) const LOCKED: u64 = fair::HOLDER as u64;
 
-/// In the word: one starver.
+/// The weight of a starver in the word.
 pub(super) const STARVER: u64 = fair::STARVER as u64;
 
-/// A party comes, and holds where it found the word that it expected.
+/// A compare-exchange: the party comes, and holds if it found the word that it expected.
 pub(super) struct Attempt;
 
 impl Play<View> for Attempt {
     ghost then = { exchanges (λ _. Holding) Idle };
 }
 
-/// A party comes, and starves where it found the word that it expected.
+/// A compare-exchange: the party comes, and starves if it found the word that it expected.
 pub(super) struct Register;
 
 impl Play<View> for Register {
     ghost then = { exchanges (λ _. Starving) Idle };
 }
 
-/// A starver holds, and starves no more, where it found the word that it expected.
+/// A compare-exchange: a starver holds, and stops starving, if it found the word that it expected.
 pub(super) struct AttemptAlone;
 
 impl Play<View> for AttemptAlone {
     ghost then = { exchanges (λ _. Served) Starving };
 }
 
-/// A starver holds where it found the flag clear.
+/// A bit operation: a starver holds if it found the flag clear.
 pub(super) struct SetFlag;
 
 impl Play<View> for SetFlag {
     ghost then = { becomes_by won_if_clear };
 }
 
-/// A starver stops starving, and holds what it held.
+/// A subtraction: a starver stops starving, and still holds what it held.
 pub(super) struct Unregister;
 
 impl Play<View> for Unregister {
     ghost then = { Stops };
 }
 
-/// A party stays what it is, or comes and is nothing.
+/// A load: the party stays what it is, or comes and holds nothing.
 pub(super) struct Look;
 
 impl Play<View> for Look {

@@ -1,4 +1,5 @@
-//! A starver's place: it comes before newcomers until it has the lock, or gives up.
+//! A thread that starves for a `FairMutex`: it comes before newcomers until it has the lock or gives up. Begin at
+//! [`Starvation::lock`].
 ghost use Rattle.std.specs.Prelude.{◌≡◌, Some, IfOk};
 ghost use Rattle.spin_guard.specs.Guard.{IsHolder};
 ghost use Rattle.spin_fair.specs.Fair.{use_of_view};
@@ -12,8 +13,19 @@ use spin_guard::guard::Guard;
 use spin_step::fair;
 use std::sync::Wait;
 
-/// A party that starves for a `FairMutex`. Dropping it stops starving. Where it is forgotten it stays a starver, and
-/// newcomers never get the lock again.
+/// A registered starver of a `FairMutex`. Dropping it ends the registration.
+///
+/// While it lives, no newcomer acquires the lock. If it is forgotten (`forget`), no newcomer ever acquires the lock
+/// again.
+///
+/// # Contract
+/// Its party is registered (its view is `Starving`).
+///
+/// # Examples
+/// ```
+/// let starvation = starve(&rt, &lock);
+/// let guard = starvation.try_lock_fair().ok().expect(&rt, "open");
+/// ```
 pub struct Starvation<'a, T, R = Spin> {
     permit: Permit<'a, T, View, FairRule>,
     strategy: Strategy<R>,
@@ -21,14 +33,25 @@ pub struct Starvation<'a, T, R = Spin> {
 }
 
 impl<'a, T, R> Starvation<'a, T, R> {
-    /// Takes the lock, or refuses where somebody holds it or another party starves. Where it refuses, the same starver
-    /// stays registered.
+    /// Tries to acquire the mutex as its only starver. Fails at once if it is held, or if another starver is
+    /// registered.
+    ///
+    /// A failure returns the same starver, which stays registered. The call makes one compare-exchange.
+    ///
+    /// # Contract
+    /// `Ok` belongs to a holder of the lock (`IsHolder`). `Err` is registered. The call returns.
+    ///
+    /// # Examples
+    /// ```
+    /// let starvation = starve(&rt, &lock);
+    /// let guard = starvation.try_lock_fair().ok().expect(&rt, "open");
+    /// ```
     pub fn try_lock_fair(self) -> Result<FairMutexGuard<'a, T, R>, Starvation<'a, T, R>>
         ensures { IfOk result (IsHolder use_of_view) }
     {
         let alone = fair::STARVER;
         let taken = fair::lock_fair(alone).unwrap();
-        // Both steps at once: nobody sees the lock held by a party that starves still.
+        // Both steps at once, so that no thread sees a holder that is still registered.
         let (found, permit) = self
             .into_permit()
             .exchange::<AttemptAlone>(alone as u64, fair::unstarve(taken) as u64);
@@ -39,13 +62,23 @@ impl<'a, T, R> Starvation<'a, T, R> {
         }
     }
 
-    /// Takes the lock, or refuses where somebody holds it. Where it refuses, the same starver stays registered.
+    /// Tries to acquire the mutex. Fails at once if it is held.
     ///
-    /// Example: the test `a_refused_starver_stays_registered`.
+    /// A failure returns the same starver, which stays registered.
+    ///
+    /// # Contract
+    /// `Ok` belongs to a holder of the lock (`IsHolder`). `Err` is registered. The call returns.
+    ///
+    /// # Examples
+    /// ```
+    /// if let Ok(mut sum) = starver.try_lock() {
+    ///     *sum = sum.wrapping_add(1);
+    /// }
+    /// ```
     pub fn try_lock(self) -> Result<FairMutexGuard<'a, T, R>, Starvation<'a, T, R>>
         ensures { IfOk result (IsHolder use_of_view) }
     {
-        // First as the only starver: that is one instruction, and to set a flag is a loop.
+        // First as the only starver, which is one instruction: to set a bit and see the word compiles to a loop.
         let still = match self.try_lock_fair() {
             Ok(guard) => return Ok(guard),
             Err(still) => still,
@@ -58,7 +91,7 @@ impl<'a, T, R> Starvation<'a, T, R> {
         }
     }
 
-    // Whether somebody holds the lock, at the moment of one load.
+    // Returns whether the lock is held, by one load.
     fn look(self) -> (bool, Self) {
         let (found, permit) = self.into_permit().load::<Look>();
         (fair::is_locked(found as usize), Self::new(permit))
@@ -85,7 +118,22 @@ impl<'a, T, R> Starvation<'a, T, R> {
 }
 
 impl<'a, T, R: RelaxStrategy> Starvation<'a, T, R> {
-    /// Takes the lock, and relaxes while somebody holds it. Nothing is promised about when it returns.
+    /// Acquires the mutex, spinning until it is free.
+    ///
+    /// After a failed attempt the thread pauses with strategy `R`, and looks at the word before it tries again. Other
+    /// starvers may overtake it.
+    ///
+    /// # Contract
+    /// The guard belongs to a holder of the lock (`IsHolder`). Whether and when the call returns is not promised.
+    ///
+    /// # Examples
+    /// ```
+    /// let mut guard = match total.starve(rt) {
+    ///     Some(place) => place.lock(rt),
+    ///     None => total.lock(rt),
+    /// };
+    /// *guard = guard.wrapping_add(1);
+    /// ```
     pub fn lock<W: Wait>(self, rt: &W) -> FairMutexGuard<'a, T, R>
         ensures { IsHolder use_of_view result }
     {
@@ -95,7 +143,7 @@ impl<'a, T, R: RelaxStrategy> Starvation<'a, T, R> {
         }
     }
 
-    // Looks first, as the lock's other waiters do.
+    // A load comes first, as for the lock's other waiting threads.
     fn look_and_try(self) -> Result<FairMutexGuard<'a, T, R>, Self>
         ensures { IfOk result (IsHolder use_of_view) }
     {
@@ -108,7 +156,7 @@ impl<'a, T, R: RelaxStrategy> Starvation<'a, T, R> {
     }
 }
 
-// The party that has taken the lock is no starver any more.
+// The holder ends its registration.
 fn stop_starving<'a, T, R>(permit: Permit<'a, T, View, FairRule>) -> FairMutexGuard<'a, T, R>
     requires { permit.view ≡ Some HoldingStarving }
     ensures { IsHolder use_of_view result }

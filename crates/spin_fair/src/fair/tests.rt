@@ -1,4 +1,5 @@
-//! When a `lock` that waits comes to starve. No caller can count its looks: a strategy has nothing to count in.
+//! Tests of when a waiting `lock` starves. They stand here, since a caller cannot count its looks: a strategy has no
+//! state.
 use super::{FairMutex, STARVATION_SPINS};
 use spin_core::relax::{RelaxStrategy, Yield};
 use std::mem::forget;
@@ -9,7 +10,7 @@ const MAX_LOOKS: usize = 10_000_000;
 
 const HELD_AND_STARVED: usize = 3;
 
-// How many looks it takes until one gets the lock.
+// Returns the number of looks until one acquires the lock.
 fn looks_until_it_enters<R: Wait>(rt: &R, lock: &FairMutex<u64, Yield>) -> usize {
     let mut spins = 0;
     for looks in 1..MAX_LOOKS {
@@ -21,7 +22,7 @@ fn looks_until_it_enters<R: Wait>(rt: &R, lock: &FairMutex<u64, Yield>) -> usize
     MAX_LOOKS
 }
 
-// Whether somebody came to starve for a held lock.
+// Returns whether a starver was registered for a held lock.
 fn comes_to_starve<R: Wait>(rt: &R, lock: &FairMutex<u64, Yield>) -> bool {
     for _ in 0..MAX_LOOKS {
         if lock.word() == HELD_AND_STARVED {

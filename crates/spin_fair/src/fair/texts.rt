@@ -1,4 +1,4 @@
-//! `Debug` of the lock.
+//! `Debug` of a `FairMutex`. Begin at its `fmt`.
 ghost use Rattle.std.specs.Prelude.{Option};
 ghost use Rattle.std.specs.Fmt.{DisplaysOnOk};
 ghost use Rattle.spin_fair.specs.Texts.{fair_text};
@@ -8,8 +8,8 @@ use spin_guard::texts::write_named;
 use std::fmt;
 use std::fmt::{Debug, Formatter};
 
-/// One attempt to take the lock, which it then holds while it writes. Where that is refused it writes `<locked>` in place
-/// of the value.
+/// Tries once to acquire the lock, and holds it while it writes the value. Where the try fails it writes `<locked>` in
+/// place of the value.
 impl<T: Debug, R> Debug for FairMutex<T, R> {
     fn fmt<W: fmt::Write>(&self, f: &mut Formatter<W>) -> fmt::Result
         ensures { (found : Option T) × DisplaysOnOk W.write_str_gives f.old result (fair_text T.debug_output found) f.new }
