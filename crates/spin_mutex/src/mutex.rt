@@ -1,4 +1,5 @@
-//! `Mutex`, over the contract of an inner lock alone, and the locks that it can be over.
+//! `Mutex`, over the contract of an inner lock alone, and the three mutexes that it can be over. Begin at
+//! [`Mutex::lock`].
 ghost use Rattle.std.specs.Prelude.{◌≡◌, Some, IfSome};
 ghost use Rattle.spin_mutex.specs.MutexGuard.{value_of, holds, held_value};
 
@@ -20,17 +21,44 @@ pub use spin_ticket::laws::{
 pub use spin_ticket::ticket;
 pub use spin_ticket::ticket::{TicketMutex, TicketMutexGuard};
 
-/// A lock that gives one party at a time access to a value. Inside it is a `TicketMutex`, so parties enter in the order in
-/// which they came. Which lock it is inside is not part of its contract, so `try_lock` may also refuse where nobody holds
-/// it.
+/// A mutual exclusion lock on which a waiting thread spins.
 ///
-/// Example: the test `two_threads_lose_no_addition`.
+/// Inside it is a [`TicketMutex`], so threads are served in order of arrival. Which lock is inside is not part of the
+/// contract. A waiting thread passes the time with the strategy `R`.
+///
+/// # Contract
+/// While a guard or a hold of the lock lives, no other call acquires it. A guard gives a value of `T`, with all that
+/// the invariant of `T` says. Nothing else is promised of what other threads wrote.
+///
+/// # Examples
+/// ```
+/// let total = Mutex::new(0);
+/// let lent = &total;
+/// thread::join(rt, || add_one(rt, lent), || add_one(rt, lent));
+/// total.into_inner()
+/// ```
 #[derive(Drop)]
 pub struct Mutex<T, R = Spin> {
     pub(crate) inner: TicketMutex<T, R>,
 }
 
-/// Access to the value of a `Mutex`. Dropping it lets go of the lock.
+/// The guard of a [`Mutex`]. Dropping it releases the lock.
+///
+/// It gives access to the value by `Deref` and `DerefMut`.
+///
+/// # Contract
+/// `value_of` is the value behind the guard. What is written through the guard is read through it.
+///
+/// # Examples
+/// ```
+/// pub fn count_up_to(guard: &mut MutexGuard<'_, u64, Yield>, most: u64)
+///     ensures { value_of guard.old ≤ most → value_of guard.new ≤ most }
+/// {
+///     if **guard < most {
+///         **guard += 1;
+///     }
+/// }
+/// ```
 #[derive(Drop)]
 pub struct MutexGuard<'a, T, R = Spin> {
     inner: TicketMutexGuard<'a, T, R>,
@@ -38,43 +66,98 @@ pub struct MutexGuard<'a, T, R = Spin> {
     life: PhantomData<&'a ()>,
 }
 
-/// A hold on a `Mutex` that lends no value. Only `force_unlock` spends it: dropping it frees nothing.
+/// A hold on a [`Mutex`]: it keeps the lock without a guard, and gives no access to the value.
+///
+/// [`Mutex::force_unlock`] takes it and releases the lock. Dropping it does not release the lock.
+///
+/// # Contract
+/// `held_value` is the value that the guard had.
+///
+/// # Examples
+/// ```
+/// fn hold(guard: Self::Guard) -> Self::Held {
+///     MutexGuard::hold(guard)
+/// }
+///
+/// fn force_unlock(held: Self::Held) {
+///     Mutex::force_unlock(held);
+/// }
+/// ```
 #[derive(Drop)]
 pub struct Held<'a, T, R = Spin> {
     inner: ticket::Held<'a, T, R>,
 }
 
 impl<T, R> Mutex<T, R> {
-    /// A free lock.
+    /// Creates an unlocked mutex that holds `value`.
     ///
-    /// Example: the test `a_lock_is_taken_once`.
+    /// # Contract
+    /// No clause. The call returns.
+    ///
+    /// # Examples
+    /// ```
+    /// let lock: Mutex<u64> = Mutex::new(1);
+    /// let mut guard: MutexGuard<u64, Spin> = lock.lock(&rt);
+    /// *guard = 2;
+    /// drop(guard);
+    /// equal(&rt, lock.into_inner(), 2);
+    /// ```
     pub fn new(value: T) -> Self {
         Self::over(TicketMutex::new(value))
     }
 
-    // Over a lock that is there.
+    // Wraps a lock that exists.
     pub(crate) fn over(inner: TicketMutex<T, R>) -> Self {
         Mutex { inner }
     }
 
-    /// The last value, whether the lock is taken or not.
+    /// Consumes the mutex and returns the value.
     ///
-    /// Example: the test `the_owner_has_the_last_value_and_takes_no_lock`.
+    /// It does not acquire the lock: no other thread has the mutex. A value that was leaked or held is returned too.
+    ///
+    /// # Contract
+    /// No clause. The call returns.
+    ///
+    /// # Examples
+    /// ```
+    /// let counter = Mutex::new(0);
+    /// let (lent, host) = (&counter, &rt);
+    /// std::thread::join(host, || count(host, lent), || count(host, lent));
+    /// assert_eq!(rt; counter.into_inner(), 2);
+    /// ```
     pub fn into_inner(self) -> T {
         let Self { inner } = self;
         inner.into_inner()
     }
 
-    /// The value, whether the lock is taken or not: nobody else has it.
+    /// Returns a mutable reference to the value.
     ///
-    /// Example: the test `the_owner_has_the_last_value_and_takes_no_lock`.
+    /// It does not acquire the lock: no other thread has the mutex.
+    ///
+    /// # Contract
+    /// No clause. The call returns.
+    ///
+    /// # Examples
+    /// ```
+    /// *mutex.get_mut() = 42;
+    /// equal(&rt, mutex.is_locked(), false);
+    /// ```
     pub fn get_mut(&mut self) -> &mut T {
         self.inner.get_mut()
     }
 
-    /// Takes the lock, or refuses. It refuses where somebody holds it.
+    /// Tries to acquire the mutex. Returns `None` at once if it is held.
     ///
-    /// Example: the test `a_lock_is_taken_once`.
+    /// Since the lock inside is not part of the contract, `None` is possible for a free mutex too.
+    ///
+    /// # Contract
+    /// A guard belongs to a holder of the lock (`holds`). `None` promises nothing. The call returns.
+    ///
+    /// # Examples
+    /// ```
+    /// let lock: Mutex<u64> = Mutex::new(5);
+    /// let guard = lock.try_lock().expect(&rt, "open");
+    /// ```
     pub fn try_lock(&self) -> Option<MutexGuard<'_, T, R>>
         ensures { IfSome result (λ guard. holds guard) }
     {
@@ -85,12 +168,35 @@ impl<T, R> Mutex<T, R> {
         })
     }
 
-    /// Whether the lock was taken at a moment of the call.
+    /// Returns `true` if a thread held the lock, or waited for it, at some moment during this call.
+    ///
+    /// By the time the caller reads the answer it may be out of date.
+    ///
+    /// # Contract
+    /// No clause. The call returns.
+    ///
+    /// # Examples
+    /// ```
+    /// let lock: mutex::Mutex<u64, Yield> = mutex::Mutex::new(3);
+    /// equal(&rt, lock.is_locked(), false);
+    /// ```
     pub fn is_locked(&self) -> bool {
         self.inner.is_locked()
     }
 
-    /// Lets go of the lock that a guard was held on.
+    /// Releases the lock that the hold keeps.
+    ///
+    /// The hold is spent, so no lock is released twice.
+    ///
+    /// # Contract
+    /// No clause. The call returns.
+    ///
+    /// # Examples
+    /// ```
+    /// fn force_unlock(held: Self::Held) {
+    ///     Mutex::force_unlock(held);
+    /// }
+    /// ```
     pub fn force_unlock(held: Held<'_, T, R>) {
         let Held { inner } = held;
         TicketMutex::force_unlock(inner);
@@ -98,9 +204,18 @@ impl<T, R> Mutex<T, R> {
 }
 
 impl<T, R: RelaxStrategy> Mutex<T, R> {
-    /// Takes the lock, and relaxes while it can't. Nothing is promised about when it returns.
+    /// Acquires the mutex, spinning until it is free.
     ///
-    /// Example: the test `a_lock_has_what_was_written`.
+    /// A waiting thread passes the time with the strategy `R`. The call never returns if its own thread holds the lock.
+    ///
+    /// # Contract
+    /// The guard belongs to a holder of the lock (`holds`). Whether and when the call returns is not promised.
+    ///
+    /// # Examples
+    /// ```
+    /// let mut guard = counter.lock(rt);
+    /// *guard = guard.saturating_add(1);
+    /// ```
     pub fn lock<W: Wait>(&self, rt: &W) -> MutexGuard<'_, T, R>
         ensures { holds result }
     {
@@ -112,9 +227,17 @@ impl<T, R: RelaxStrategy> Mutex<T, R> {
 }
 
 impl<'a, T, R> MutexGuard<'a, T, R> {
-    /// The value for as long as the lock lives. The lock stays taken.
+    /// Consumes the guard and returns a mutable reference to the value.
     ///
-    /// Example: the test `a_leaked_value_stays_writable`.
+    /// The lock stays held, and the reference lives as long as the borrow of the lock.
+    ///
+    /// # Contract
+    /// The reference has the value of the guard. The call returns.
+    ///
+    /// # Examples
+    /// ```
+    /// let _ = MutexGuard::leak(self.lock(rt));
+    /// ```
     pub fn leak(this: Self) -> &'a mut T
         ensures { result.now ≡ value_of this.entry }
     {
@@ -122,7 +245,17 @@ impl<'a, T, R> MutexGuard<'a, T, R> {
         TicketMutexGuard::leak(inner)
     }
 
-    /// Keeps the lock taken, without a guard, until `force_unlock`.
+    /// Consumes the guard and keeps the lock held, until [`Mutex::force_unlock`].
+    ///
+    /// # Contract
+    /// `held_value` of the hold is the value of the guard. The call returns.
+    ///
+    /// # Examples
+    /// ```
+    /// fn hold(guard: Self::Guard) -> Self::Held {
+    ///     MutexGuard::hold(guard)
+    /// }
+    /// ```
     pub fn hold(this: Self) -> Held<'a, T, R>
         ensures { held_value result ≡ Some (value_of this.entry) }
     {
@@ -163,14 +296,14 @@ impl<T, R> DerefMut for MutexGuard<'_, T, R> {
     }
 }
 
-/// A free lock of the default value.
+/// Creates an unlocked mutex that holds the default value.
 impl<T: Default, R> Default for Mutex<T, R> {
     fn default() -> Self {
         Self::new(T::default())
     }
 }
 
-/// A free lock of the value.
+/// Creates an unlocked mutex that holds the value.
 impl<T, R> From<T> for Mutex<T, R> {
     fn from(value: T) -> Self {
         Self::new(value)

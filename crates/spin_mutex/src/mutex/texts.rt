@@ -1,4 +1,5 @@
-//! `Debug` of the lock, and `Debug` and `Display` of its guard, which prints as its value.
+//! `Debug` of a `Mutex`, and `Debug` and `Display` of its guard. Begin at `Debug` of the lock: a guard prints as its
+//! value.
 ghost use Rattle.std.specs.Prelude.{Option};
 ghost use Rattle.std.specs.Fmt.{DisplaysOnOk};
 ghost use Rattle.spin_mutex.specs.MutexGuard.{value_of};
@@ -8,7 +9,7 @@ use super::{Mutex, MutexGuard};
 use std::fmt;
 use std::fmt::{Debug, Display, Formatter};
 
-/// It prints as the lock inside.
+/// Prints as the lock inside.
 impl<T: Debug, R> Debug for Mutex<T, R> {
     fn fmt<W: fmt::Write>(&self, f: &mut Formatter<W>) -> fmt::Result
         ensures { (found : Option T) × DisplaysOnOk W.write_str_gives f.old result (lock_text T.debug_output found) f.new }
