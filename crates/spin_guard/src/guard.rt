@@ -1,5 +1,5 @@
-//! The guard of a party that writes, and its hold without a guard, for every lock over a `Cell`. A lock says what lets
-//! go of it, and names both by an alias.
+//! The guard of a party that writes, and its hold without a guard, for every lock over a `Cell`. Begin at [`Release`]:
+//! a lock implements it, and names [`Guard`] and [`Held`] by an alias.
 ghost use Rattle.std.specs.Prelude.{◌≡◌, Option, Some};
 ghost use Rattle.spin_core.specs.Cell.{Use, writes, use_of};
 ghost use Rattle.spin_core.specs.Plays.{becomes};
@@ -10,7 +10,19 @@ use std::ops::{Deref, DerefMut};
 
 mod texts;
 
-/// How the parties of a lock use its value, whatever the value's type is.
+/// The use that each party of a lock has of the value, whatever the value's type is.
+///
+/// # Contract
+/// `use_at` is the use of a party with a given view, and `idle` the view of one that has nothing of the lock.
+///
+/// # Examples
+/// ```
+/// impl Uses<View> for FlagRule {
+///     ghost use_at = { use_of use_of_view };
+///
+///     ghost idle = { Idle };
+/// }
+/// ```
 pub trait Uses<V> {
     // Of a party with this view, or with none yet.
     ghost use_at: { Option V → Use };
@@ -19,7 +31,17 @@ pub trait Uses<V> {
     ghost idle: { V };
 }
 
-/// The step by which a party lets go of what it has of a lock with the rule `P`.
+/// The step by which a party releases what it has of a lock with the rule `P`.
+///
+/// # Contract
+/// After the step the party has the view `P.idle`.
+///
+/// # Examples
+/// ```
+/// let free = flag::unlock(true);
+/// let permit = writer.into_permit();
+/// permit.store::<LetsGo<Self>>(word(free)).leave();
+/// ```
 pub struct LetsGo<P> {
     rule: PhantomData<P>,
 }
@@ -28,23 +50,78 @@ impl<V, P: Uses<V>> Play<V> for LetsGo<P> {
     ghost then = { becomes P.idle };
 }
 
-/// What lets go of a lock.
+/// A lock that a writing party can release, which is what its [`Guard`] asks.
+///
+/// # Contract
+/// The uses of `Uses` are those of the rule (`same`).
+///
+/// # Examples
+/// ```
+/// fn release(writer: WritePermit<'_, T, View, FlagRule>) {
+///     let free = flag::unlock(true);
+///     let permit = writer.into_permit();
+///     permit.store::<LetsGo<Self>>(word(free)).leave();
+/// }
+///
+/// ghost same = { λ key view. refl };
+/// ```
 pub trait Release<T, V>: Rule<T, V> + Uses<V> {
-    /// The party that writes lets go, and goes.
+    /// Releases the lock of the writing party, which leaves it.
+    ///
+    /// # Contract
+    /// No clause. A permit cannot be dropped, so the body has to end it: the party rests, or keeps its use for good.
+    ///
+    /// # Examples
+    /// ```
+    /// fn release(writer: WritePermit<'_, T, View, FlagRule>) {
+    ///     let free = flag::unlock(true);
+    ///     let permit = writer.into_permit();
+    ///     permit.store::<LetsGo<Self>>(word(free)).leave();
+    /// }
+    /// ```
     fn release(writer: WritePermit<'_, T, V, Self>);
 
-    // The uses are those of the rule. They are named apart from it, since a ghost field can't name the rule's members.
+    // The uses are those of the rule. They have names of their own, since a ghost field can't name the rule's members.
     ghost same: { (key : Self.Key) (view : Option V) → Self.use_at view ≡ use_of (Self.ways key).1 view };
 }
 
-/// Access to the value of a lock, of the one party that writes. Dropping it lets go of the lock. `R` tells apart guards
-/// that are alike otherwise.
+/// The guard of a lock's one writing party. Dropping it releases the lock.
+///
+/// It gives access to the value by `Deref` and `DerefMut`. `R` is the strategy of the lock, which the guard does not
+/// use.
+///
+/// # Contract
+/// `guard_value` is the value behind the guard. What is written through the guard is read through it.
+///
+/// # Examples
+/// ```
+/// fn swap_in<R>(guard: &mut SpinMutexGuard<'_, u64, R>, value: u64) -> u64
+///     ensures old_value { result ≡ guard_value guard.old }
+///     ensures new_value { guard_value guard.new ≡ value }
+/// {
+///     let old = **guard;
+///     **guard = value;
+///     old
+/// }
+/// ```
 pub struct Guard<'a, T, V, P: Release<T, V>, R> {
     writer: WritePermit<'a, T, V, P>,
     strategy: PhantomData<R>,
 }
 
-/// A hold on a lock that lends no value. Only `release` spends it: dropping it frees nothing.
+/// A hold on a lock: it keeps the lock without a guard, and gives no access to the value.
+///
+/// [`release`](Held::release) takes it and releases the lock. Dropping it does not release the lock.
+///
+/// # Contract
+/// Its party still has the use of a writer (`holding`). `held_value` is the value that the guard had.
+///
+/// # Examples
+/// ```
+/// pub fn take<'a, W: Wait>(rt: &W, lock: &'a SpinMutex<u64>) -> Held<'a, u64> {
+///     SpinMutexGuard::hold(lock.lock(rt))
+/// }
+/// ```
 pub struct Held<'a, T, V, P: Release<T, V>, R> {
     permit: Permit<'a, T, V, P>,
     strategy: PhantomData<R>,
@@ -54,7 +131,16 @@ pub struct Held<'a, T, V, P: Release<T, V>, R> {
 impl<'a, T, V, P: Release<T, V>, R> Guard<'a, T, V, P, R> {
     ghost use Rattle.spin_guard.specs.Guard.{guard_value, held_value};
 
-    /// The guard of a party that came to write.
+    /// Creates the guard of a party that acquired the lock.
+    ///
+    /// # Contract
+    /// The guard has this permit. The call returns.
+    ///
+    /// # Examples
+    /// ```
+    /// Ok(permit) => Ok(Guard::new(permit.into_writer())),
+    /// Err(found) => Err(fair::reject(found as usize)),
+    /// ```
     pub fn new(writer: WritePermit<'a, T, V, P>) -> Self
         ensures { result.writer ≡ writer.entry }
     {
@@ -64,16 +150,34 @@ impl<'a, T, V, P: Release<T, V>, R> Guard<'a, T, V, P, R> {
         }
     }
 
-    /// The value for as long as the lock lives. The lock stays taken.
+    /// Consumes the guard and returns a mutable reference to the value.
     ///
-    /// Example: the test `a_leaked_value_stays_writable`.
+    /// The lock stays held, and the reference lives as long as the borrow of the lock.
+    ///
+    /// # Contract
+    /// The reference has the value of the guard. The call returns.
+    ///
+    /// # Examples
+    /// ```
+    /// let _ = SpinMutexGuard::leak(self.lock(rt));
+    /// ```
     pub fn leak(this: Self) -> &'a mut T
         ensures { result.now ≡ guard_value this.entry }
     {
         this.into_writer().leak()
     }
 
-    /// Keeps the lock taken, without a guard.
+    /// Consumes the guard and keeps the lock held.
+    ///
+    /// # Contract
+    /// `held_value` of the hold is the value of the guard. The call returns.
+    ///
+    /// # Examples
+    /// ```
+    /// pub fn take<'a, W: Wait>(rt: &W, lock: &'a SpinMutex<u64>) -> Held<'a, u64> {
+    ///     SpinMutexGuard::hold(lock.lock(rt))
+    /// }
+    /// ```
     pub fn hold(this: Self) -> Held<'a, T, V, P, R>
         ensures { held_value result ≡ Some (guard_value this.entry) }
     {
@@ -95,7 +199,17 @@ impl<'a, T, V, P: Release<T, V>, R> Guard<'a, T, V, P, R> {
 }
 
 impl<'a, T, V, P: Release<T, V>, R> Held<'a, T, V, P, R> {
-    /// Lets go of the lock.
+    /// Releases the lock that the hold keeps.
+    ///
+    /// # Contract
+    /// No clause. The call returns.
+    ///
+    /// # Examples
+    /// ```
+    /// pub fn force_unlock(held: Held<'_, T, R>) {
+    ///     held.release();
+    /// }
+    /// ```
     pub fn release(self) {
         P::release(self.into_permit().into_writer());
     }

@@ -1,4 +1,4 @@
-//! How a lock prints, whichever it is.
+//! What a lock prints, whichever it is. Begin at [`write_lock`].
 ghost use Rattle.std.specs.Fmt.{DisplaysOnOk};
 ghost use Rattle.std.specs.Option.{option_copied};
 ghost use Rattle.spin_guard.specs.Texts.{lock_text, named_text};
@@ -6,14 +6,37 @@ ghost use Rattle.spin_guard.specs.Texts.{lock_text, named_text};
 use std::fmt;
 use std::fmt::{Debug, Formatter};
 
-/// Writes a mutex by the value that one attempt got. It is called `Mutex`, as in the Rust crate.
+/// Writes a mutex with the value that one try found, or as locked.
+///
+/// The text calls each mutex `Mutex`, as the Rust crate does.
+///
+/// # Contract
+/// Without options, an `Ok` call has written `lock_text` of the value.
+///
+/// # Examples
+/// ```
+/// write_lock(self.try_lock().as_ref().map(|guard| &**guard), f)
+/// ```
 pub fn write_lock<T: Debug, W: fmt::Write>(value: Option<&T>, f: &mut Formatter<W>) -> fmt::Result
     ensures { DisplaysOnOk W.write_str_gives f.old result (lock_text T.debug_output (option_copied value.entry)) f.new }
 {
     write_named("Mutex { data: ", "Mutex { <locked> }", value, f)
 }
 
-/// Writes a lock by the value that one attempt got: behind `shown`, or in its place `locked`.
+/// Writes a lock with the value that one try found: `shown` and the value and ` }`, or else `locked`.
+///
+/// # Contract
+/// Without options, an `Ok` call has written `named_text` of these.
+///
+/// # Examples
+/// ```
+/// write_named(
+///     "FairMutex { data: ",
+///     "FairMutex { data: <locked> }",
+///     value,
+///     f,
+/// )
+/// ```
 pub fn write_named<T: Debug, W: fmt::Write>(
     shown: &str,
     locked: &str,

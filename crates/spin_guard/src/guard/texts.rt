@@ -1,4 +1,4 @@
-//! `Debug` and `Display` of a guard, which prints as its value.
+//! `Debug` and `Display` of a guard, which prints as its value. Begin at `Debug`.
 ghost use Rattle.spin_guard.specs.Guard.{guard_value};
 
 use super::{Guard, Release};
