@@ -1,4 +1,4 @@
-//! A spinning lock for many readers or one writer.
+//! A spinning lock for many readers or one writer. Begin at [`RwLock::read`] and [`RwLock::write`].
 ghost use Rattle.std.specs.Prelude.{◌≤◌};
 ghost use Rattle.spin_step.specs.Readers.{reader_limit};
 ghost use Rattle.spin_rwlock.specs.Rw.{IsRwWord};
@@ -21,18 +21,31 @@ pub use self::reader::{ReadHeld, RwLockReadGuard, SharedGuard};
 pub use self::upgradable::RwLockUpgradableGuard;
 pub use self::writer::{RwLockWriteGuard, WriteHeld};
 
-// How often a reader spins that was too late twice. Readers that try again at once keep one another from getting through.
+// How often a reader that was too late twice spins. Readers that try again at once keep each other from succeeding.
 const STAND_BACK: u32 = 256;
 
-/// A lock that lends its value to readers beside one another, or to one writer alone, and spins while it waits.
+/// A reader-writer lock: many readers share the value, or one writer has it alone. A waiting thread spins.
 ///
-/// One reader at a time may be upgradable: it may become the writer without letting go. It keeps no reader out until
-/// its `upgrade` asks; from then on no further reader comes. Writers are not preferred: while readers come again and
-/// again, no writer may get in.
+/// One reader at a time may be upgradable: it may become the writer without releasing the lock. Until its
+/// [`upgrade`](RwLockUpgradableGuard::upgrade) asks, it keeps no reader out; from then on no new reader is admitted.
+/// Writers are not preferred: readers that keep coming may keep a writer out. A waiting thread passes the time with the
+/// strategy `R`. `P` is always `RwRule<T>`, and never named.
 ///
-/// `P` is always `RwRule<T>`, and never named.
+/// # Contract
+/// While the guard or the hold of a writer lives, no other guard gives access to the value. A guard gives a value of
+/// `T`, with all that the invariant of `T` says. It stays the same while an upgradable reader becomes the writer, and
+/// while a holder is downgraded. Nothing else is promised of what other threads wrote.
 ///
-/// Example: the test `a_writer_beside_five_readers`.
+/// # Examples
+/// ```
+/// let guard = limit.upgradeable_read(rt);
+/// if least <= *guard {
+///     return *guard;
+/// }
+/// let mut guard = guard.upgrade(rt);
+/// *guard = least;
+/// *guard.downgrade()
+/// ```
 #[derive(Drop)]
 pub struct RwLock<T, R = Spin, P: Rule<T, View> = RwRule<T>> {
     cell: Cell<T, View, P>,
@@ -40,9 +53,17 @@ pub struct RwLock<T, R = Spin, P: Rule<T, View> = RwRule<T>> {
 }
 
 impl<T, R> RwLock<T, R> {
-    /// A lock that nobody holds.
+    /// Creates an unlocked lock that holds `value`.
     ///
-    /// Example: the test `a_writer_goes_on_as_a_reader`.
+    /// # Contract
+    /// No clause. The call returns.
+    ///
+    /// # Examples
+    /// ```
+    /// let limit = RwLock::new(3);
+    /// assert_eq!(rt; (raise(&rt, &limit, 2), raise(&rt, &limit, 4)), (3, 4));
+    /// assert_eq!(rt; limit.into_inner(), 4);
+    /// ```
     pub fn new(value: T) -> Self {
         RwLock {
             cell: Cell::new(value, 0, (), &()),
@@ -50,17 +71,38 @@ impl<T, R> RwLock<T, R> {
         }
     }
 
-    /// The value, whatever the word is: nobody else has the lock.
+    /// Returns a mutable reference to the value.
     ///
-    /// Example: the test `a_leaked_reader_stays`.
+    /// It neither looks at the word nor acquires the lock: no other thread has the lock.
+    ///
+    /// # Contract
+    /// No clause. The call returns.
+    ///
+    /// # Examples
+    /// ```
+    /// *lock.get_mut() = 5;
+    /// is_free(&rt, &lock);
+    /// equal(&rt, lock.into_inner(), 5);
+    /// ```
     pub fn get_mut(&mut self) -> &mut T {
         self.cell.get_mut()
     }
 
-    /// Comes to read, or refuses beside a writer or a reader that asks to upgrade, or at the cap of readers. It tries
-    /// again only where another party changed the word, and promises nothing about when it returns.
+    /// Tries to acquire shared access. Returns `None` if a writer holds the lock or an upgrade is pending.
     ///
-    /// Example: the test `a_writer_goes_on_as_a_reader`.
+    /// It also returns `None` at the limit of readers, `rw::MAX_READERS`. The call repeats its compare-exchange only
+    /// while other threads change the word.
+    ///
+    /// # Contract
+    /// A guard is that of a reader. `None` promises nothing. Whether and when the call returns is not promised.
+    ///
+    /// # Examples
+    /// ```
+    /// match self.try_read(rt) {
+    ///     Some(guard) => Ok(by(&*guard)),
+    ///     None => Err(by),
+    /// }
+    /// ```
     pub fn try_read<W: Wait>(&self, rt: &W) -> Option<RwLockReadGuard<'_, T, R>> {
         match self.lend_from(0) {
             Ok(guard) => Some(guard),
@@ -68,7 +110,21 @@ impl<T, R> RwLock<T, R> {
         }
     }
 
-    /// Comes to read and may upgrade, or refuses as `try_read` does, and beside another that may.
+    /// Tries to acquire upgradable shared access. Returns `None` if a writer or an upgradable reader holds the lock.
+    ///
+    /// It also returns `None` at the limit of readers. The call repeats its compare-exchange only while other threads
+    /// change the word.
+    ///
+    /// # Contract
+    /// A guard is that of the upgradable reader. `None` promises nothing. Whether and when the call returns is not
+    /// promised.
+    ///
+    /// # Examples
+    /// ```
+    /// let reads = lock.try_read(rt).is_some();
+    /// let upgrades = lock.try_upgradeable_read(rt).is_some();
+    /// let writes = lock.try_write().is_some();
+    /// ```
     pub fn try_upgradeable_read<W: Wait>(&self, rt: &W) -> Option<RwLockUpgradableGuard<'_, T, R>> {
         match self.lend_from(0) {
             Ok(guard) => Some(guard),
@@ -76,38 +132,116 @@ impl<T, R> RwLock<T, R> {
         }
     }
 
-    /// Comes to write, or refuses beside any holder. It makes one exchange.
+    /// Tries to acquire exclusive access. Returns `None` at once if any thread holds the lock.
     ///
-    /// Example: the test `held_readers_go_one_by_one`.
+    /// It makes one compare-exchange.
+    ///
+    /// # Contract
+    /// A guard is that of the writer. `None` promises nothing. The call returns.
+    ///
+    /// # Examples
+    /// ```
+    /// match self.try_write() {
+    ///     Some(mut guard) => Ok(by(&mut *guard)),
+    ///     None => Err(by),
+    /// }
+    /// ```
     pub fn try_write<'a>(&'a self) -> Option<RwLockWriteGuard<'a, T, R>> {
         Some(RwLockWriteGuard::new(rule::write(&self.cell)?))
     }
 
-    /// As `try_write`. It may refuse a free lock for no reason, so repeat it; this one never does.
+    /// Like [`try_write`](Self::try_write), but may fail spuriously, so call it in a loop. (This implementation never
+    /// does.)
+    ///
+    /// # Contract
+    /// That of `try_write`.
+    ///
+    /// # Examples
+    /// ```
+    /// for _ in 0..WEAK_ATTEMPTS {
+    ///     let granted = lock.try_write_weak();
+    ///     if granted.is_some() {
+    ///         return granted;
+    ///     }
+    /// }
+    /// ```
     pub fn try_write_weak<'a>(&'a self) -> Option<RwLockWriteGuard<'a, T, R>> {
         self.try_write()
     }
 
-    /// How many read at the moment of its one load, the upgradable reader included: at most `rw::MAX_READERS`.
+    /// Returns the number of readers at some moment during this call, the upgradable reader included.
+    ///
+    /// It makes one load. By the time the caller reads the answer it may be out of date.
+    ///
+    /// # Contract
+    /// The answer is at most `rw::MAX_READERS` (`reader_limit`). The call returns.
+    ///
+    /// # Examples
+    /// ```
+    /// let (first, second) = thread::join(&rt, || lock.read(&rt), || lock.read(&rt));
+    /// let refused = lock.try_write().is_none();
+    /// equal(&rt, (*first, *second), (1, 1));
+    /// equal(&rt, (lock.reader_count(), refused), (2, true));
+    /// ```
     pub fn reader_count(&self) -> usize
         ensures { result ≤ reader_limit }
     {
         rw::readers(self.word())
     }
 
-    /// How many write at the moment of its one load: 0 or 1.
+    /// Returns the number of writers at some moment during this call: 0 or 1.
+    ///
+    /// It makes one load. By the time the caller reads the answer it may be out of date.
+    ///
+    /// # Contract
+    /// The answer is at most 1. The call returns.
+    ///
+    /// # Examples
+    /// ```
+    /// equal(&rt, (kept_out, *writer), (true, 1));
+    /// equal(&rt, (lock.reader_count(), lock.writer_count()), (0, 1));
+    /// ```
     pub fn writer_count(&self) -> usize
         ensures { result ≤ 1 }
     {
         rw::writers(self.word())
     }
 
-    /// Lets go of a reader's place that a guard was held on.
+    /// Releases the shared access that the hold keeps.
+    ///
+    /// The hold is spent, so no reader is released twice.
+    ///
+    /// # Contract
+    /// No clause. The call returns.
+    ///
+    /// # Examples
+    /// ```
+    /// let first = RwLockReadGuard::hold(lock.read(&rt));
+    /// let second = RwLockReadGuard::hold(lock.read(&rt));
+    /// let third = RwLockReadGuard::hold(lock.read(&rt));
+    /// is_read_by(&rt, &lock, 3);
+    /// RwLock::force_read_decrement(first);
+    /// RwLock::force_read_decrement(second);
+    /// is_read_by(&rt, &lock, 1);
+    /// ```
     pub fn force_read_decrement(held: ReadHeld<'_, T, R>) {
         held.release();
     }
 
-    /// Lets go of the lock that the writer's guard was held on.
+    /// Releases the exclusive access that the hold keeps.
+    ///
+    /// The hold is spent, so no writer is released twice.
+    ///
+    /// # Contract
+    /// No clause. The call returns.
+    ///
+    /// # Examples
+    /// ```
+    /// let held = RwLockWriteGuard::hold(writer);
+    /// is_written(&rt, &lock);
+    /// RwLock::force_write_unlock(held);
+    /// is_free(&rt, &lock);
+    /// ```
     pub fn force_write_unlock(held: WriteHeld<'_, T, R>) {
         held.release();
     }
@@ -118,13 +252,14 @@ impl<T, R> RwLock<T, R> {
         rule::word(&self.cell)
     }
 
-    // A reader of this kind comes at this word. `Err` has the word that it found in its place, or none where it is refused.
+    // Tries once to admit a reader of this kind at this word. `Err` has the word that was found in its place, or `None`
+    // if the word admits no such reader.
     fn lend_at<K: Kind>(&self, word: usize) -> Result<SharedGuard<'_, T, K, R>, Option<usize>> {
         Ok(SharedGuard::new(K::come(&self.cell, word)?))
     }
 
-    // A reader of this kind comes at this word, or at the one that it finds in its place. To begin at 0 is to take the lock
-    // for a free one: that spares the load where it is free, and is the load where it is not.
+    // Tries to admit a reader of this kind at this word, and then at the word found in its place. To begin at 0 saves a
+    // load if the lock is free. If it is not, the failed exchange is the load.
     fn lend_from<K: Kind>(&self, word: usize) -> Result<SharedGuard<'_, T, K, R>, Option<usize>> {
         match self.lend_at(word) {
             Err(Some(found)) => self.lend_at(found),
@@ -132,7 +267,7 @@ impl<T, R> RwLock<T, R> {
         }
     }
 
-    // Tries from this word on, while other parties change the word that was looked at.
+    // Tries from this word on, as long as other threads change the word that was found.
     fn try_to_lend<K: Kind, W: Wait>(
         &self,
         rt: &W,
@@ -147,17 +282,38 @@ impl<T, R> RwLock<T, R> {
 }
 
 impl<T, R, P: Rule<T, View>> RwLock<T, R, P> {
-    /// The last value, whatever the word is.
+    /// Consumes the lock and returns the value.
+    ///
+    /// It does not look at the word: no other thread has the lock. A value that was leaked or held is returned too.
+    ///
+    /// # Contract
+    /// No clause. The call returns.
+    ///
+    /// # Examples
+    /// ```
+    /// let limit = RwLock::new(3);
+    /// assert_eq!(rt; (raise(&rt, &limit, 2), raise(&rt, &limit, 4)), (3, 4));
+    /// assert_eq!(rt; limit.into_inner(), 4);
+    /// ```
     pub fn into_inner(self) -> T {
         self.cell.into_inner()
     }
 }
 
 impl<T, R: RelaxStrategy> RwLock<T, R> {
-    /// Comes to read, and relaxes while it is refused, or for a moment where other parties were faster twice. Nothing is
-    /// promised about when it returns.
+    /// Acquires shared access, spinning while a writer holds the lock or an upgrade is pending.
     ///
-    /// Example: the test `guards_of_two_threads_read_one_lock`.
+    /// It also spins at the limit of readers, `rw::MAX_READERS`. A waiting thread passes the time with strategy `R`; a
+    /// reader that was too late twice backs off. The call never returns if its own thread holds the lock as a writer.
+    ///
+    /// # Contract
+    /// The guard is that of a reader. Whether and when the call returns is not promised.
+    ///
+    /// # Examples
+    /// ```
+    /// let sum = *lock.read(rt);
+    /// sound = sound && (sum == 0 || sum == 10);
+    /// ```
     pub fn read<W: Wait>(&self, rt: &W) -> RwLockReadGuard<'_, T, R> {
         match self.lend_from(0) {
             Ok(guard) => guard,
@@ -165,7 +321,24 @@ impl<T, R: RelaxStrategy> RwLock<T, R> {
         }
     }
 
-    /// Comes to read and may upgrade, and waits as `read` does. Nothing is promised about when it returns.
+    /// Acquires upgradable shared access, spinning while a writer or an upgradable reader holds the lock.
+    ///
+    /// It waits as [`read`](Self::read) does. The call never returns if its own thread is the writer or the upgradable
+    /// reader.
+    ///
+    /// # Contract
+    /// The guard is that of the upgradable reader. Whether and when the call returns is not promised.
+    ///
+    /// # Examples
+    /// ```
+    /// let guard = limit.upgradeable_read(rt);
+    /// if least <= *guard {
+    ///     return *guard;
+    /// }
+    /// let mut guard = guard.upgrade(rt);
+    /// *guard = least;
+    /// *guard.downgrade()
+    /// ```
     pub fn upgradeable_read<W: Wait>(&self, rt: &W) -> RwLockUpgradableGuard<'_, T, R> {
         match self.lend_from(0) {
             Ok(guard) => guard,
@@ -173,9 +346,21 @@ impl<T, R: RelaxStrategy> RwLock<T, R> {
         }
     }
 
-    /// Comes to write, and relaxes while it is refused. Nothing is promised about when it returns.
+    /// Acquires exclusive access, spinning until no thread holds the lock.
     ///
-    /// Example: the test `a_writer_goes_on_as_a_reader`.
+    /// After a failed attempt the thread backs off: it pauses with strategy `R` and tries again. With [`Spin`] each
+    /// pause is twice as long as the last one, up to a limit. The call never returns if its own thread holds the lock.
+    ///
+    /// # Contract
+    /// The guard is that of the writer. Whether and when the call returns is not promised.
+    ///
+    /// # Examples
+    /// ```
+    /// let mut sum = lock.write(rt);
+    /// for _ in 0..10 {
+    ///     *sum = sum.wrapping_add(1);
+    /// }
+    /// ```
     pub fn write<W: Wait>(&self, rt: &W) -> RwLockWriteGuard<'_, T, R> {
         match self.try_write_weak() {
             Some(guard) => guard,
@@ -183,8 +368,8 @@ impl<T, R: RelaxStrategy> RwLock<T, R> {
         }
     }
 
-    // It stands apart: inlined, it would lengthen the path of every caller that does not wait. It relaxes by what it found,
-    // which `retry` does not.
+    // Kept out of line: inlined, it would lengthen the path of every caller that does not wait. Its pause depends on
+    // what it found, which `retry` does not offer.
     #[cold]
     #[inline(never)]
     fn wait_to_lend<K: Kind, W: Wait>(
@@ -213,14 +398,14 @@ impl<T, R: RelaxStrategy> RwLock<T, R> {
     }
 }
 
-/// A lock of the default value, which nobody holds.
+/// Creates an unlocked lock that holds the default value.
 impl<T: Default, R> Default for RwLock<T, R> {
     fn default() -> Self {
         Self::new(T::default())
     }
 }
 
-/// A lock of the value, which nobody holds.
+/// Creates an unlocked lock that holds the value.
 impl<T, R> From<T> for RwLock<T, R> {
     fn from(value: T) -> Self {
         Self::new(value)
@@ -256,5 +441,5 @@ impl<T, R: RelaxStrategy> SharedLock<T> for RwLock<T, R> {
 // SAFETY: its cell goes along, which owns the value. Of the rule no value is made.
 unsafe impl<T: Send, R, P: Rule<T, View>> Send for RwLock<T, R, P> {}
 
-// SAFETY: any thread may come to write the value, and several read it beside one another. The cell asks it of the rule.
+// SAFETY: any thread may write the value, and several may read it at once. The cell asks it of the rule.
 unsafe impl<T: Send + Sync, R, P: Rule<T, View> + Sync> Sync for RwLock<T, R, P> {}

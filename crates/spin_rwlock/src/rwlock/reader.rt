@@ -1,4 +1,4 @@
-//! The guard of a reader, of either kind, and the hold of one without a guard.
+//! The guard of a reader, of either kind, and a reader's hold without a guard. Begin at [`RwLockReadGuard`].
 ghost use Rattle.std.specs.Prelude.{◌≡◌, Some};
 ghost use Rattle.spin_rwlock.specs.Rw.{IsLent};
 ghost use Rattle.spin_rwlock.specs.declared.rwlock.rule.View.TheVariants.{Reading};
@@ -9,17 +9,56 @@ use spin_core::relax::Spin;
 use std::marker::PhantomData;
 use std::ops::Deref;
 
-/// The value of a `RwLock` to read, of a reader of kind `K`. Dropping it lets go of the lock.
+/// The guard of a reader of kind `K`. Dropping it releases the shared access.
+///
+/// It gives access to the value by `Deref`. Its two kinds are [`RwLockReadGuard`] and
+/// [`RwLockUpgradableGuard`](super::RwLockUpgradableGuard).
+///
+/// # Contract
+/// `shared_value` is `Some` of the value behind the guard, which stays the same while the guard lives.
+///
+/// # Examples
+/// ```
+/// fn sees_the_same_once_it_leaks<R>(guard: RwLockReadGuard<'_, u64, R>) -> (u64, u64)
+///     ensures { result.0 ≡ result.1 }
+/// {
+///     let seen = (*guard, *guard);
+///     (seen.1, *RwLockReadGuard::leak(guard))
+/// }
+/// ```
 pub struct SharedGuard<'a, T, K: Kind, R = Spin> {
     permit: Permit<'a, T, View, RwRule<T>>,
     marker: PhantomData<(K, R)>,
     ghost lent: { IsLent permit K.view },
 }
 
-/// The value of a `RwLock` to read, beside other readers. Dropping it lets go of the lock.
+/// The guard of a reader of an [`RwLock`](super::RwLock). Dropping it releases the shared access.
+///
+/// # Contract
+/// That of [`SharedGuard`].
+///
+/// # Examples
+/// ```
+/// let (first, second) = thread::join(&rt, || lock.read(&rt), || lock.read(&rt));
+/// let refused = lock.try_write().is_none();
+/// equal(&rt, (*first, *second), (1, 1));
+/// ```
 pub type RwLockReadGuard<'a, T, R = Spin> = SharedGuard<'a, T, Reader, R>;
 
-/// A reader's hold on a `RwLock` that lends no value. Only `force_read_decrement` spends it: dropping it frees nothing.
+/// A reader's hold on an `RwLock`: it keeps the shared access without a guard, and shows no value.
+///
+/// [`force_read_decrement`](super::RwLock::force_read_decrement) takes it and releases the access. Dropping it does not
+/// release the access.
+///
+/// # Contract
+/// Its party still reads (`reading`). `read_held_value` is the value that the guard showed.
+///
+/// # Examples
+/// ```
+/// let third = RwLockReadGuard::hold(lock.read(&rt));
+/// is_read_by(&rt, &lock, 3);
+/// RwLock::force_read_decrement(first);
+/// ```
 pub struct ReadHeld<'a, T, R = Spin> {
     permit: Permit<'a, T, View, RwRule<T>>,
     strategy: PhantomData<R>,
@@ -39,10 +78,19 @@ impl<'a, T, K: Kind, R> SharedGuard<'a, T, K, R> {
         }
     }
 
-    /// The value for as long as the lock lives. The reader stays for good, so that nobody writes any more; and where it
-    /// is one that may upgrade, no other such comes any more.
+    /// Consumes the guard and returns a reference to the value.
     ///
-    /// Example: the test `a_leaked_reader_stays`.
+    /// The reference lives as long as the borrow of the lock. The reader stays for good, so no thread acquires
+    /// exclusive access any more. If the reader was upgradable, no other becomes upgradable.
+    ///
+    /// # Contract
+    /// The reference has the value of the guard. The call returns.
+    ///
+    /// # Examples
+    /// ```
+    /// let value = *RwLockReadGuard::leak(lock.read(&rt));
+    /// is_read_by(&rt, &lock, 1);
+    /// ```
     pub fn leak(this: Self) -> &'a T
         ensures { Some result.now ≡ shared_value this.entry }
     {
@@ -61,7 +109,16 @@ impl<'a, T, K: Kind, R> SharedGuard<'a, T, K, R> {
 impl<'a, T, R> SharedGuard<'a, T, Reader, R> {
     ghost use Rattle.spin_rwlock.specs.Guards.{shared_value, read_held_value};
 
-    /// Keeps the reader's place, without a guard.
+    /// Consumes the guard and keeps the shared access.
+    ///
+    /// # Contract
+    /// `read_held_value` of the hold is the value of the guard. The call returns.
+    ///
+    /// # Examples
+    /// ```
+    /// drop(RwLockReadGuard::hold(lock.read(&rt)));
+    /// is_read_by(&rt, &lock, 1);
+    /// ```
     pub fn hold(this: Self) -> ReadHeld<'a, T, R>
         ensures { read_held_value result ≡ shared_value this.entry }
     {
@@ -73,7 +130,7 @@ impl<'a, T, R> SharedGuard<'a, T, Reader, R> {
 }
 
 impl<'a, T, R> ReadHeld<'a, T, R> {
-    /// The reader lets go.
+    /// Releases the shared access.
     pub(super) fn release(self) {
         Reader::go(self.into_permit());
     }
@@ -115,13 +172,13 @@ impl<T, R> Drop for ReadHeld<'_, T, R> {
     }
 }
 
-// SAFETY: in its new thread it may come to write, and others go on reading in theirs.
+// SAFETY: in its new thread it may become the writer, and other threads still read in theirs.
 unsafe impl<T: Send + Sync, K: Kind, R> Send for SharedGuard<'_, T, K, R> {}
 
 // SAFETY: a shared guard lends a `&T` and no more.
 unsafe impl<T: Sync, K: Kind, R> Sync for SharedGuard<'_, T, K, R> {}
 
-// SAFETY: its new thread lets go by it, as a guard's would: what a guard asks.
+// SAFETY: its new thread releases by it, as a guard's would: what a guard asks.
 unsafe impl<T: Send + Sync, R> Send for ReadHeld<'_, T, R> {}
 
 // SAFETY: a shared hold lends nothing. It asks what the lock asks.

@@ -1,4 +1,5 @@
-//! What the parties of an `RwLock` are, what its word says of them, and each kind of step.
+//! What a party is to an `RwLock`, what the word of the lock says of its parties, and each kind of step. Begin at
+//! [`RwRule`].
 ghost use Rattle.std.specs.Prelude.{◌≡◌, refl, Some, IfSome, IfOk, IfErr};
 ghost use Rattle.spin_core.specs.Cell.{reads};
 ghost use Rattle.spin_core.specs.Plays.{becomes, exchanges};
@@ -9,7 +10,7 @@ ghost use Rattle.spin_rwlock.specs.declared.rwlock.rule.View.TheVariants.{Idle, 
 use spin_core::cell::{Cell, Permit, Play, Rule, WritePermit};
 use spin_step::rw;
 
-// What a holder of each kind is in the word.
+// The weight of a holder of each kind in the word.
 const READER: u64 = rw::READER as u64;
 
 const UPGRADABLE: u64 = rw::UPGRADABLE as u64;
@@ -18,23 +19,26 @@ const ASKING: u64 = rw::ASKING as u64;
 
 const WRITER: u64 = rw::WRITER as u64;
 
-/// What a party is to the lock.
+/// What a party (one call, and the guard that it returns) is to the lock.
 #[derive(Clone, Copy)]
 pub enum View {
     Idle,
     Reading,
     Upgradable,
-    /// It reads still, and has asked to become the writer.
+    /// It still reads, and has asked to become the writer.
     Asking,
     Writing,
     /// It writes, and asked before it came.
     WritingAsked,
 }
 
-/// The word is that of a plain lock of these parties: the sum of what each weighs.
+/// The rule of an [`RwLock`](super::RwLock): its word is the sum of the weights of its holders.
 ///
-/// No value of this type is made. It has a `T` since parties read a `T` beside one another: who may share the one may
+/// No value of this type is made. It has a `T` since several parties read a `T` at once: whatever may share the one may
 /// share the other.
+///
+/// # Contract
+/// `IsRw`: the word is that of a plain lock of these parties.
 pub struct RwRule<T> {
     never: T,
 }
@@ -115,7 +119,7 @@ impl Play<View> for Goes {
     ghost then = { becomes Idle };
 }
 
-/// The word at a moment.
+/// Returns the word, by one load.
 pub(super) fn word<T>(cell: &RwCell<T>) -> usize
     ensures { IsRwWord result }
 {
@@ -124,26 +128,45 @@ pub(super) fn word<T>(cell: &RwCell<T>) -> usize
     found as usize
 }
 
-/// A kind of reader.
+/// A kind of reader: [`Reader`] or [`Upgrader`].
+///
+/// # Contract
+/// A reader of the kind has the view `view`, which reads the value (`lends`).
+///
+/// # Examples
+/// ```
+/// fn go<T>(party: Party<'_, T>)
+///     requires { party.view ≡ Some Upgradable }
+/// {
+///     party.subtract::<Goes>(UPGRADABLE).1.leave();
+/// }
+/// ```
 pub trait Kind {
-    // What its party is to the lock.
+    // The view of its party.
     ghost view: { View };
 
-    /// A party comes at this word. `Err` has the word that it found in its place, or none where it is refused.
+    /// Tries once to admit such a reader at this word. `Err` has the word that was found in its place, or `None` if the
+    /// word admits no such reader.
+    ///
+    /// # Contract
+    /// `Ok` has the view of the kind, and shows the value (`IsLent`).
     fn come<T>(cell: &RwCell<T>, word: usize) -> Result<Party<'_, T>, Option<usize>>
         ensures { IfOk result (λ party. IsLent party Self.view) };
 
-    /// The party goes.
+    /// Releases the shared access of such a reader.
+    ///
+    /// # Contract
+    /// The caller hands over a party with the view of the kind.
     fn go<T>(party: Party<'_, T>)
         requires { party.view ≡ Some Self.view };
 
     ghost lends: { use_of_view Self.view ≡ reads };
 }
 
-/// A reader that stays one.
+/// The kind of a plain reader.
 pub struct Reader;
 
-/// The reader that may become the writer.
+/// The kind of the upgradable reader.
 pub struct Upgrader;
 
 impl Kind for Reader {
@@ -200,7 +223,7 @@ impl Kind for Upgrader {
     ghost lends = { refl };
 }
 
-/// A party comes to write, or refuses beside any holder.
+/// Tries once to admit a writer. Fails if the lock has a holder.
 pub(super) fn write<T>(cell: &RwCell<T>) -> Option<Writer<'_, T>>
     ensures { IfSome result (λ writer. writer.view ≡ Writing) }
 {
@@ -214,7 +237,7 @@ pub(super) fn write<T>(cell: &RwCell<T>) -> Option<Writer<'_, T>>
     }
 }
 
-/// The upgradable reader becomes the writer, or refuses beside another holder.
+/// Tries once to make the upgradable reader the writer. Fails if the lock has another holder.
 pub(super) fn upgrade<T>(party: Party<'_, T>) -> Result<Writer<'_, T>, Party<'_, T>>
     requires { IsLent party Upgradable }
     ensures granted { IfOk result (λ writer. (writer.view ≡ Writing) × (party.entry.value ≡ Some writer.value)) }
@@ -229,7 +252,7 @@ pub(super) fn upgrade<T>(party: Party<'_, T>) -> Result<Writer<'_, T>, Party<'_,
     }
 }
 
-/// The upgradable reader asks to become the writer, as `rw::ask` has it: from now on no reader comes.
+/// Asks for the upgradable reader to become the writer, as `rw::ask` says: from now on no reader is admitted.
 pub(super) fn ask<T>(party: Party<'_, T>) -> Party<'_, T>
     requires { IsLent party Upgradable }
     ensures { IsLent result Asking × (result.value ≡ party.entry.value) }
@@ -237,7 +260,7 @@ pub(super) fn ask<T>(party: Party<'_, T>) -> Party<'_, T>
     party.add::<Asks>(ASKING).1
 }
 
-/// The reader that asked becomes the writer, or goes on asking beside another holder.
+/// Tries once to make the reader that has asked the writer. If the lock has another holder, it still asks.
 pub(super) fn upgrade_asked<T>(party: Party<'_, T>) -> Result<Writer<'_, T>, Party<'_, T>>
     requires { IsLent party Asking }
     ensures granted { IfOk result (λ writer. (writer.view ≡ WritingAsked) × (party.entry.value ≡ Some writer.value)) }
@@ -253,14 +276,14 @@ pub(super) fn upgrade_asked<T>(party: Party<'_, T>) -> Result<Writer<'_, T>, Par
     }
 }
 
-/// The writer goes on as a reader, as `rw::write_to_read` has it.
+/// Makes the writer a reader, as `rw::write_to_read` says.
 pub(super) fn write_to_read<T>(writer: Writer<'_, T>) -> Party<'_, T>
     ensures { (result.view ≡ Some Reading) × (result.value ≡ Some writer.entry.value) }
 {
     writer.into_permit().add::<ReadsOn>(READER - WRITER).1
 }
 
-/// The writer goes on as the upgradable reader, as `rw::write_to_upgradable` has it.
+/// Makes the writer the upgradable reader, as `rw::write_to_upgradable` says.
 pub(super) fn write_to_upgradable<T>(writer: Writer<'_, T>) -> Party<'_, T>
     ensures { (result.view ≡ Some Upgradable) × (result.value ≡ Some writer.entry.value) }
 {
@@ -268,7 +291,7 @@ pub(super) fn write_to_upgradable<T>(writer: Writer<'_, T>) -> Party<'_, T>
     permit.add::<ReadsOnUpgradable>(UPGRADABLE - WRITER).1
 }
 
-/// The upgradable reader goes on as a reader, as `rw::upgradable_to_read` has it.
+/// Makes the upgradable reader a plain reader, as `rw::upgradable_to_read` says.
 pub(super) fn upgradable_to_read<T>(party: Party<'_, T>) -> Party<'_, T>
     requires { IsLent party Upgradable }
     ensures { (result.view ≡ Some Reading) × (result.value ≡ party.entry.value) }
@@ -276,7 +299,7 @@ pub(super) fn upgradable_to_read<T>(party: Party<'_, T>) -> Party<'_, T>
     party.add::<ReadsOn>(READER - UPGRADABLE).1
 }
 
-/// The writer goes.
+/// Releases the exclusive access of the writer.
 pub(super) fn release_write<T>(writer: Writer<'_, T>) {
     writer.into_permit().subtract::<Goes>(WRITER).1.leave();
 }

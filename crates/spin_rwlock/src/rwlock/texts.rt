@@ -1,4 +1,5 @@
-//! `Debug` of the lock, and `Debug` and `Display` of its guards, which print as their value.
+//! `Debug` of an `RwLock`, and `Debug` and `Display` of its guards. Begin at `Debug` of the lock: a guard prints as its
+//! value.
 ghost use Rattle.std.specs.Prelude.{Option};
 ghost use Rattle.std.specs.Fmt.{DisplaysOnOk};
 ghost use Rattle.std.specs.Option.{option_copied};
@@ -12,8 +13,8 @@ use super::writer::RwLockWriteGuard;
 use std::fmt;
 use std::fmt::{Debug, Display, Formatter};
 
-/// One attempt to read, of one load and at most one exchange; the guard is held while the value is written. Where it gets
-/// none it writes `<locked>`.
+/// Tries once to acquire shared access, and keeps it while it writes the value. Where the try fails it writes
+/// `<locked>`. The try makes one load and at most one compare-exchange.
 impl<T: Debug, R> Debug for RwLock<T, R> {
     fn fmt<W: fmt::Write>(&self, f: &mut Formatter<W>) -> fmt::Result
         ensures { (found : Option T) × DisplaysOnOk W.write_str_gives f.old result (rw_text T.debug_output found) f.new }
@@ -23,7 +24,7 @@ impl<T: Debug, R> Debug for RwLock<T, R> {
     }
 }
 
-// Writes the lock by the value that one attempt got.
+// Writes the lock with the value that one try found, or as locked.
 fn write_lock<T: Debug, W: fmt::Write>(value: Option<&T>, f: &mut Formatter<W>) -> fmt::Result
     ensures { DisplaysOnOk W.write_str_gives f.old result (rw_text T.debug_output (option_copied value.entry)) f.new }
 {

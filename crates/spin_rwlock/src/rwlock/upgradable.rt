@@ -1,4 +1,4 @@
-//! What the guard of the reader that may become the writer has beside a reader's.
+//! The guard of the upgradable reader: what it can do beside reading. Begin at `upgrade`.
 ghost use Rattle.std.specs.Prelude.{◌≡◌, Some, IfOk, IfErr};
 ghost use Rattle.spin_rwlock.specs.Guards.{write_value};
 ghost use Rattle.spin_rwlock.specs.Rw.{IsLent};
@@ -10,17 +10,43 @@ use super::writer::RwLockWriteGuard;
 use spin_core::relax::{RelaxStrategy, Spin};
 use std::sync::Wait;
 
-/// The value of a `RwLock` to read, of the one reader that may become the writer. Other readers come and go beside it
-/// until its `upgrade` asks. Dropping it lets go of the lock.
+/// The guard of the upgradable reader of an [`RwLock`](super::RwLock). Dropping it releases the shared access.
+///
+/// Other readers come and go beside it, until its `upgrade` asks.
+///
+/// # Contract
+/// That of [`SharedGuard`]. The value stays the same when the reader becomes the writer.
+///
+/// # Examples
+/// ```
+/// let guard = limit.upgradeable_read(rt);
+/// if least <= *guard {
+///     return *guard;
+/// }
+/// let mut guard = guard.upgrade(rt);
+/// *guard = least;
+/// ```
 pub type RwLockUpgradableGuard<'a, T, R = Spin> = SharedGuard<'a, T, Upgrader, R>;
 
 impl<'a, T, R> SharedGuard<'a, T, Upgrader, R> {
     ghost use Rattle.spin_rwlock.specs.Guards.{shared_value, write_value};
 
-    /// Becomes the writer, or refuses beside another holder. It makes one exchange, and keeps the value either way. It
-    /// does not ask first, so readers go on coming.
+    /// Tries to become the writer. Fails at once if another reader holds the lock.
     ///
-    /// Example: the test `an_upgradable_reader_beside_a_reader`.
+    /// A failure returns the same guard. The call makes one compare-exchange. It does not ask first, so new readers are
+    /// still admitted.
+    ///
+    /// # Contract
+    /// The guard that is returned, of either kind, has the value that this one had. The call returns.
+    ///
+    /// # Examples
+    /// ```
+    /// let seen = *guard;
+    /// match guard.try_upgrade() {
+    ///     Ok(guard) => (seen, *guard),
+    ///     Err(guard) => (seen, *guard),
+    /// }
+    /// ```
     pub fn try_upgrade(self) -> Result<RwLockWriteGuard<'a, T, R>, Self>
         ensures granted { IfOk result (λ guard. Some (write_value guard) ≡ shared_value self.entry) }
         ensures refused { IfErr result (λ guard. shared_value guard ≡ shared_value self.entry) }
@@ -31,7 +57,19 @@ impl<'a, T, R> SharedGuard<'a, T, Upgrader, R> {
         }
     }
 
-    /// As `try_upgrade`. It may refuse for no reason, so repeat it; this one never does.
+    /// Like [`try_upgrade`](Self::try_upgrade), but may fail spuriously, so call it in a loop. (This implementation
+    /// never does.)
+    ///
+    /// # Contract
+    /// That of `try_upgrade`.
+    ///
+    /// # Examples
+    /// ```
+    /// match upgradable.try_upgrade_weak() {
+    ///     Ok(writer) => return Some(*writer),
+    ///     Err(still) => upgradable = still,
+    /// }
+    /// ```
     pub fn try_upgrade_weak(self) -> Result<RwLockWriteGuard<'a, T, R>, Self>
         ensures granted { IfOk result (λ guard. Some (write_value guard) ≡ shared_value self.entry) }
         ensures refused { IfErr result (λ guard. shared_value guard ≡ shared_value self.entry) }
@@ -39,9 +77,19 @@ impl<'a, T, R> SharedGuard<'a, T, Upgrader, R> {
         self.try_upgrade()
     }
 
-    /// Goes on as a reader, so that another that may upgrade may come. It makes one step, and can't be refused.
+    /// Becomes a plain reader, so that another thread may become upgradable. It never fails.
     ///
-    /// Example: the test `an_upgradable_reader_goes_on_as_a_reader`.
+    /// It makes one atomic addition.
+    ///
+    /// # Contract
+    /// The reader's guard has the value that this one had. The call returns.
+    ///
+    /// # Examples
+    /// ```
+    /// let seen = *guard;
+    /// let guard = guard.downgrade();
+    /// (seen, *guard)
+    /// ```
     pub fn downgrade(self) -> RwLockReadGuard<'a, T, R>
         ensures { shared_value result ≡ shared_value self.entry }
     {
@@ -52,11 +100,21 @@ impl<'a, T, R> SharedGuard<'a, T, Upgrader, R> {
 impl<'a, T, R: RelaxStrategy> SharedGuard<'a, T, Upgrader, R> {
     ghost use Rattle.spin_rwlock.specs.Guards.{shared_value, write_value};
 
-    /// Becomes the writer. It asks first, and no further reader comes from then on; then it relaxes while another
-    /// holder stands. It never lets go in between: what it saw is what it finds. Nothing is promised about when it
-    /// returns.
+    /// Becomes the writer, spinning until every other reader has released the lock.
     ///
-    /// Example: the test `up_and_down_and_up_again`.
+    /// It asks first, and from then on no new reader is admitted. It keeps its access in between, so the value does not
+    /// change. The call never returns if its own thread holds a further reader's guard.
+    ///
+    /// # Contract
+    /// The writer's guard has the value that this one had, and its party has asked (its view is `WritingAsked`).
+    /// Whether and when the call returns is not promised.
+    ///
+    /// # Examples
+    /// ```
+    /// let seen = *guard;
+    /// let guard = guard.upgrade(rt);
+    /// (seen, *guard)
+    /// ```
     pub fn upgrade<W: Wait>(self, rt: &W) -> RwLockWriteGuard<'a, T, R>
         ensures asked { result.writer.view ≡ WritingAsked }
         ensures value { Some (write_value result) ≡ shared_value self.entry }
@@ -68,7 +126,7 @@ impl<'a, T, R: RelaxStrategy> SharedGuard<'a, T, Upgrader, R> {
     }
 }
 
-// It stands apart: inlined, it would lengthen the path of every caller that does not wait.
+// Kept out of line: inlined, it would lengthen the path of every caller that does not wait.
 #[cold]
 #[inline(never)]
 fn wait_to_upgrade<'a, T, R: RelaxStrategy, W: Wait>(

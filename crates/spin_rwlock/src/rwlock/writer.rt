@@ -1,4 +1,4 @@
-//! The writer's guard, and its hold without a guard.
+//! The writer's guard, and its hold without a guard. Begin at [`RwLockWriteGuard`].
 ghost use Rattle.std.specs.Prelude.{◌≡◌, Some};
 ghost use Rattle.spin_core.specs.Cell.{use_of, writes};
 ghost use Rattle.spin_rwlock.specs.Rw.{use_of_view};
@@ -11,13 +11,43 @@ use spin_core::relax::Spin;
 use std::marker::PhantomData;
 use std::ops::{Deref, DerefMut};
 
-/// The value of a `RwLock` to write, of its one holder. Dropping it lets go of the lock.
+/// The guard of the writer of an [`RwLock`](super::RwLock). Dropping it releases the exclusive access.
+///
+/// It gives access to the value by `Deref` and `DerefMut`.
+///
+/// # Contract
+/// `write_value` is the value behind the guard. What is written through the guard is read through it.
+///
+/// # Examples
+/// ```
+/// fn reads_back_after_downgrade<R>(guard: RwLockWriteGuard<'_, u64, R>, value: u64) -> u64
+///     ensures { result ≡ value }
+/// {
+///     let mut guard = guard;
+///     *guard = value;
+///     *guard.downgrade()
+/// }
+/// ```
 pub struct RwLockWriteGuard<'a, T, R = Spin> {
     writer: WritePermit<'a, T, View, RwRule<T>>,
     strategy: PhantomData<R>,
 }
 
-/// The writer's hold on a `RwLock` that lends no value. Only `force_write_unlock` spends it: dropping it frees nothing.
+/// The writer's hold on an `RwLock`: it keeps the exclusive access without a guard, and shows no value.
+///
+/// [`force_write_unlock`](super::RwLock::force_write_unlock) takes it and releases the access. Dropping it does not
+/// release the access.
+///
+/// # Contract
+/// Its party still writes (`writing`). `write_held_value` is the value that the guard had.
+///
+/// # Examples
+/// ```
+/// let held = RwLockWriteGuard::hold(writer);
+/// is_written(&rt, &lock);
+/// RwLock::force_write_unlock(held);
+/// is_free(&rt, &lock);
+/// ```
 pub struct WriteHeld<'a, T, R = Spin> {
     permit: Permit<'a, T, View, RwRule<T>>,
     strategy: PhantomData<R>,
@@ -36,35 +66,72 @@ impl<'a, T, R> RwLockWriteGuard<'a, T, R> {
         }
     }
 
-    /// Goes on as a reader, beside whom others may come. It makes one step, and can't be refused: no other writer comes
-    /// in between.
+    /// Becomes a reader, beside which other readers are admitted. It never fails.
     ///
-    /// Example: the test `a_writer_goes_on_as_a_reader`.
+    /// It makes one atomic addition, so no other writer comes in between.
+    ///
+    /// # Contract
+    /// The reader's guard has the value that this one had. The call returns.
+    ///
+    /// # Examples
+    /// ```
+    /// let mut guard = guard;
+    /// *guard = value;
+    /// *guard.downgrade()
+    /// ```
     pub fn downgrade(self) -> RwLockReadGuard<'a, T, R>
         ensures { shared_value result ≡ Some (write_value self.entry) }
     {
         SharedGuard::new(write_to_read(self.into_writer()))
     }
 
-    /// Goes on as the upgradable reader. It makes one step, and can't be refused: no other writer comes in between.
+    /// Becomes the upgradable reader. It never fails.
     ///
-    /// Example: the test `up_and_down_and_up_again`.
+    /// It makes one atomic addition, so no other writer comes in between.
+    ///
+    /// # Contract
+    /// The upgradable reader's guard has the value that this one had. The call returns.
+    ///
+    /// # Examples
+    /// ```
+    /// let mut guard = guard;
+    /// *guard = value;
+    /// *guard.downgrade_to_upgradeable()
+    /// ```
     pub fn downgrade_to_upgradeable(self) -> RwLockUpgradableGuard<'a, T, R>
         ensures { shared_value result ≡ Some (write_value self.entry) }
     {
         SharedGuard::new(write_to_upgradable(self.into_writer()))
     }
 
-    /// The value for as long as the lock lives. The lock stays taken.
+    /// Consumes the guard and returns a mutable reference to the value.
     ///
-    /// Example: the test `a_leaked_upgradable_reader_and_a_leaked_writer_stay`.
+    /// The lock stays held, and the reference lives as long as the borrow of the lock.
+    ///
+    /// # Contract
+    /// The reference has the value of the guard. The call returns.
+    ///
+    /// # Examples
+    /// ```
+    /// *RwLockWriteGuard::leak(written.write(&rt)) = 7;
+    /// is_written(&rt, &written);
+    /// ```
     pub fn leak(this: Self) -> &'a mut T
         ensures { result.now ≡ write_value this.entry }
     {
         this.into_writer().leak()
     }
 
-    /// Keeps the lock taken, without a guard.
+    /// Consumes the guard and keeps the lock held.
+    ///
+    /// # Contract
+    /// `write_held_value` of the hold is the value of the guard. The call returns.
+    ///
+    /// # Examples
+    /// ```
+    /// let held = RwLockWriteGuard::hold(writer);
+    /// is_written(&rt, &lock);
+    /// ```
     pub fn hold(this: Self) -> WriteHeld<'a, T, R>
         ensures { write_held_value result ≡ Some (write_value this.entry) }
     {
@@ -86,7 +153,7 @@ impl<'a, T, R> RwLockWriteGuard<'a, T, R> {
 }
 
 impl<'a, T, R> WriteHeld<'a, T, R> {
-    /// The writer lets go.
+    /// Releases the exclusive access.
     pub(super) fn release(self) {
         release_write(self.into_permit().into_writer());
     }
@@ -146,7 +213,7 @@ impl<T, R> Drop for WriteHeld<'_, T, R> {
     }
 }
 
-// SAFETY: its new thread has the value to itself, and may go on as a reader beside others.
+// SAFETY: its new thread has the value to itself, and may become a reader beside others.
 unsafe impl<T: Send + Sync, R> Send for RwLockWriteGuard<'_, T, R> {}
 
 // SAFETY: a shared guard lends a `&T` and no more.
