@@ -1,5 +1,8 @@
-//! Spinning locks that are proved, under the names of the Rust crate `spin`: what each step makes of a lock's word is a
-//! public pure function, one of those in [`step`]. A user of the locks names this crate alone.
+//! Spinning locks that are proved, under the names of the Rust crate `spin`: each change of a lock's word is a public
+//! pure function of [`step`]. A user of the locks names this crate alone.
+//!
+//! Begin at [`Mutex`], and look at [`RwLock`], [`Once`], [`LazyLock`] and [`Barrier`]. The module [`mutex`] has the
+//! mutexes [`SpinMutex`](mutex::SpinMutex), [`TicketMutex`](mutex::TicketMutex) and [`FairMutex`](mutex::FairMutex).
 #![tactic(auto)]
 
 pub use mutex::MutexGuard;
@@ -13,28 +16,111 @@ pub use spin_mutex::mutex;
 pub use spin_once::{lazylock, once};
 pub use spin_rwlock::rwlock;
 
-/// A `Barrier` with the default strategy.
+/// A [`barrier::Barrier`] with the default strategy, [`Spin`].
+///
+/// # Contract
+/// That of `barrier::Barrier`.
+///
+/// # Examples
+/// ```
+/// let one: Barrier = Barrier::new(1);
+/// let waited: barrier::BarrierWaitResult = one.wait(&rt);
+/// equal(&rt, waited.is_leader(), true);
+/// ```
 pub type Barrier = barrier::Barrier<Spin>;
 
-/// A `Mutex` with the default strategy.
+/// A [`mutex::Mutex`] with the default strategy, [`Spin`].
+///
+/// # Contract
+/// That of `mutex::Mutex`.
+///
+/// # Examples
+/// ```
+/// let total = Mutex::new(0);
+/// let lent = &total;
+/// thread::join(rt, || add_one(rt, lent), || add_one(rt, lent));
+/// total.into_inner()
+/// ```
 pub type Mutex<T> = mutex::Mutex<T, Spin>;
 
-/// A `RwLock` with the default strategy.
+/// A [`rwlock::RwLock`] with the default strategy, [`Spin`].
+///
+/// # Contract
+/// That of `rwlock::RwLock`.
+///
+/// # Examples
+/// ```
+/// let limit = RwLock::new(3);
+/// assert_eq!(rt; (raise(&rt, &limit, 2), raise(&rt, &limit, 4)), (3, 4));
+/// assert_eq!(rt; limit.into_inner(), 4);
+/// ```
 pub type RwLock<T> = rwlock::RwLock<T, Spin>;
 
-/// The guard of a reader that may upgrade, of a `RwLock` with the default strategy.
+/// The guard of the upgradable reader of a [`RwLock`].
+///
+/// # Contract
+/// That of `rwlock::RwLockUpgradableGuard`.
+///
+/// # Examples
+/// ```
+/// let guard = limit.upgradeable_read(rt);
+/// if least <= *guard {
+///     return *guard;
+/// }
+/// let mut guard = guard.upgrade(rt);
+/// *guard = least;
+/// ```
 pub type RwLockUpgradableGuard<'a, T> = rwlock::RwLockUpgradableGuard<'a, T, Spin>;
 
-/// The guard of a writer, of a `RwLock` with the default strategy.
+/// The guard of the writer of a [`RwLock`].
+///
+/// # Contract
+/// That of `rwlock::RwLockWriteGuard`.
+///
+/// # Examples
+/// ```
+/// let mut guard = guard.upgrade(rt);
+/// *guard = least;
+/// *guard.downgrade()
+/// ```
 pub type RwLockWriteGuard<'a, T> = rwlock::RwLockWriteGuard<'a, T, Spin>;
 
-/// A `Once` with the default strategy.
+/// A [`once::Once`] with the default strategy, [`Spin`].
+///
+/// # Contract
+/// That of `once::Once`.
+///
+/// # Examples
+/// ```
+/// let port: Once<u16> = Once::new();
+/// assert!(rt; port_of(&rt, &port, "no port").is_err());
+/// assert_eq!(rt; port_of(&rt, &port, "80").ok().copied(), Some(80));
+/// assert_eq!(rt; port_of(&rt, &port, "none").ok().copied(), Some(80));
+/// ```
 pub type Once<T = ()> = once::Once<T, Spin>;
 
-/// A `LazyLock` with the default strategy.
+/// A [`lazylock::LazyLock`] with the default strategy, [`Spin`].
+///
+/// # Contract
+/// That of `lazylock::LazyLock`.
+///
+/// # Examples
+/// ```
+/// let lazy: LazyLock<u64, _> = LazyLock::new(|| 7);
+/// equal(&rt, *LazyLock::force(&lazy, &rt), 7);
+/// ```
 pub type LazyLock<T, F = fn() -> T> = lazylock::LazyLock<T, F, Spin>;
 
-/// The same, by the name that it had before.
+/// The earlier name of [`LazyLock`].
+///
+/// # Contract
+/// That of `lazylock::LazyLock`.
+///
+/// # Examples
+/// ```
+/// let lazy: Lazy<u64, _> = Lazy::new(|| 8);
+/// equal(&rt, *Lazy::force(&lazy, &rt), 8);
+/// ```
 #[deprecated(note = "use `spin::LazyLock`")]
 pub type Lazy<T, F = fn() -> T> = lazylock::LazyLock<T, F, Spin>;
 

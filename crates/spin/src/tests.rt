@@ -1,4 +1,4 @@
-//! The names of the root.
+//! Tests of the names that the root has. Begin at [`a_mutex_by_its_short_name`].
 use super::mutex::{
     FairMutex, FairMutexGuard, SpinMutex, SpinMutexGuard, TicketMutex, TicketMutexGuard,
 };
@@ -79,8 +79,8 @@ fn values_that_are_lazy(rt: HostRuntime) {
     equal(&rt, *Lazy::force(&lazy, &rt), 8);
 }
 
-// The bytes of each lock of a `u64`: one word and the value, and two words where tickets are taken and served. What is
-// made once has a word and a stage, which says whether it is the seed or the value.
+// The bytes of each lock of a `u64`: one word and the value, and a second word in a lock of tickets. A value that is
+// made once has a word and a stage beside it, which says whether it is the seed or the value.
 #[test]
 fn a_lock_has_the_words_that_it_needs(rt: HostRuntime) {
     equal(&rt, size_of::<SpinMutex<u64>>(), 16);
