@@ -139,8 +139,8 @@ impl<T, R: RelaxStrategy> FairMutex<T, R> {
     ///
     /// # Examples
     /// ```
-    /// let mut sum = self.lock(rt);
-    /// *sum = sum.wrapping_add(1);
+    /// let mut own = shared.lock(host);
+    /// *own = 2;
     /// ```
     pub fn lock<W: Wait>(&self, rt: &W) -> FairMutexGuard<'_, T, R>
         ensures { IsHolder use_of_view result }
@@ -294,6 +294,8 @@ impl<T, R> FairMutex<T, R> {
     /// # Examples
     /// ```
     /// *lock.get_mut() = 5;
+    /// let seen = write_after_the_owner(&lock);
+    /// let last = *lock.get_mut();
     /// ```
     pub fn get_mut(&mut self) -> &mut T {
         self.cell.get_mut()

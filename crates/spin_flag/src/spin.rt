@@ -106,8 +106,9 @@ impl<T, R> SpinMutex<T, R> {
     ///
     /// # Examples
     /// ```
-    /// drop(self.lock(rt));
-    /// self.into_inner()
+    /// let new = *guard;
+    /// drop(guard);
+    /// (old, new, lock.into_inner())
     /// ```
     pub fn into_inner(self) -> T {
         self.cell.into_inner()
@@ -126,8 +127,9 @@ impl<T, R: RelaxStrategy> SpinMutex<T, R> {
     ///
     /// # Examples
     /// ```
-    /// let mut sum = self.lock(rt);
-    /// *sum = sum.wrapping_add(1);
+    /// let guard = spin.lock(&rt);
+    /// assert_eq!(rt; any_lock::try_count(&spin), None);
+    /// drop(guard);
     /// ```
     pub fn lock<W: Wait>(&self, rt: &W) -> SpinMutexGuard<'_, T, R>
         ensures { IsHolder use_of_view result }
@@ -238,6 +240,8 @@ impl<T, R> SpinMutex<T, R> {
     /// # Examples
     /// ```
     /// *lock.get_mut() = 5;
+    /// let seen = write_after_the_owner(&lock);
+    /// let last = *lock.get_mut();
     /// ```
     pub fn get_mut(&mut self) -> &mut T {
         self.cell.get_mut()

@@ -129,8 +129,9 @@ impl<T, R> TicketMutex<T, R> {
     ///
     /// # Examples
     /// ```
-    /// let mut sum = self.lock(rt);
-    /// *sum = sum.wrapping_add(1);
+    /// let mut before = self.lock.lock(rt);
+    /// let ticket = *before;
+    /// *before = ticket.wrapping_add(1);
     /// ```
     pub fn lock<W: Wait>(&self, rt: &W) -> TicketMutexGuard<'_, T, R>
     where
