@@ -22,9 +22,7 @@ pub use self::rule::{FairRule, View};
 pub use self::starvation::Starvation;
 pub use spin_step::fair::LockRejectReason;
 
-/// The number of looks that [`FairMutex::lock`] may make at a held lock before it starves.
-///
-/// At its next look that finds the lock held, it registers as a starver.
+/// The patience of [`FairMutex::lock`]: after more looks than this that found the lock held, it starves.
 ///
 /// # Examples
 /// ```
@@ -33,7 +31,7 @@ pub use spin_step::fair::LockRejectReason;
 /// ```
 pub const STARVATION_SPINS: usize = 1024;
 
-/// A mutual exclusion lock in which a thread that waits for long comes before newcomers, and on which it spins.
+/// A spinning mutual exclusion lock in which a thread that has waited for long comes before newcomers.
 ///
 /// A thread that waits for long registers as a starver. While a starver is registered, only starvers acquire the lock.
 /// Starvers may overtake each other, and so may newcomers. A waiting thread passes the time with the strategy `R`.
