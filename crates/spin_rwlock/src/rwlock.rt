@@ -33,8 +33,8 @@ const STAND_BACK: u32 = 256;
 ///
 /// # Contract
 /// While the guard or the hold of a writer lives, no other guard gives access to the value. A guard gives a value of
-/// `T`, with all that the invariant of `T` says. It stays the same while an upgradable reader becomes the writer, and
-/// while a holder is downgraded. Nothing else is promised of what other threads wrote.
+/// `T`, with all that the invariant of `T` says. An upgrade and a downgrade keep the value. Nothing else is promised of
+/// what other threads wrote.
 ///
 /// # Examples
 /// ```

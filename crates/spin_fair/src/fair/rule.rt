@@ -24,6 +24,8 @@ pub enum View {
 
 /// The rule of a [`FairMutex`](super::FairMutex): its word is the sum of what its holder and its starvers weigh.
 ///
+/// No caller names it: it is a parameter of the type of the guard.
+///
 /// # Contract
 /// `IsFair`: the word is that of a plain lock of these parties, and a newcomer that holds came before each starver.
 pub struct FairRule;

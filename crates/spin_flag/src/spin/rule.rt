@@ -19,6 +19,8 @@ pub enum View {
 
 /// The rule of a [`SpinMutex`](super::SpinMutex): its word is 1 while a party holds the lock, and else 0.
 ///
+/// No caller names it: it is a parameter of the type of the guard.
+///
 /// # Contract
 /// `IsFlag`: the word is that of a plain lock whose holders are the parties that hold.
 pub struct FlagRule;

@@ -28,14 +28,14 @@ pub enum View {
     /// It still reads, and has asked to become the writer.
     Asking,
     Writing,
-    /// It writes, and asked before it came.
+    /// It writes, and had asked before.
     WritingAsked,
 }
 
 /// The rule of an [`RwLock`](super::RwLock): its word is the sum of the weights of its holders.
 ///
-/// No value of this type is made. It has a `T` since several parties read a `T` at once: whatever may share the one may
-/// share the other.
+/// No value of this type is made, and no caller names it. It has a `T` since several parties read a `T` at once:
+/// whatever may share the one may share the other.
 ///
 /// # Contract
 /// `IsRw`: the word is that of a plain lock of these parties.

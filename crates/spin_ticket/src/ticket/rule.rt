@@ -18,7 +18,9 @@ pub enum View {
     Entered(u64),
 }
 
-/// The rule of a [`TicketMutex`](super::TicketMutex): its words are the number of the next ticket and the number served.
+/// The rule of a [`TicketMutex`](super::TicketMutex): its words are the next ticket's number and the number served.
+///
+/// No caller names it: it is a parameter of the type of the guard.
 ///
 /// # Contract
 /// `IsQueue`: the words are those of a plain lock whose tickets are those of the parties that wait or have entered.
