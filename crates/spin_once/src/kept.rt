@@ -1,10 +1,11 @@
-//! A value that is moved in and out, and never read through a `&`.
+//! A value that is moved in and out, and never read through a `&`. So a `LazyLock` may be shared though its initialiser
+//! may not.
 ghost use Rattle.std.specs.Prelude.{◌≡◌};
 ghost use base.Fml.{ftrue};
 
 use std::marker::Model;
 
-/// It may be shared wherever it may be sent, since a `&` to it shows nothing.
+/// A value of which a `&` shows nothing, so that it may be shared if it may be sent.
 pub(crate) struct Kept<F> {
     inner: F,
 }
@@ -34,8 +35,8 @@ impl<F: Drop> Drop for Kept<F> {
     }
 }
 
-// SAFETY: it is the value, which goes along.
+// SAFETY: it owns the value and nothing else.
 unsafe impl<F: Send> Send for Kept<F> {}
 
-// SAFETY: a `&` to it shows nothing of the value; only its owner moves that out, who may be in another thread.
+// SAFETY: a `&` to it shows nothing of the value. Only its owner, maybe in another thread, moves the value out.
 unsafe impl<F: Send> Sync for Kept<F> {}

@@ -1,4 +1,5 @@
-//! A value that its own initialiser makes, when somebody first asks for it.
+//! A value that its own initialiser makes when a thread first asks for it. Begin with [`LazyLock::new`] and
+//! [`LazyLock::force`]; [`LazyLock::promising`] tells callers more of the value than its type does.
 ghost use Rattle.std.specs.Prelude.{◌≡◌};
 ghost use Rattle.spin_once.specs.Lazy.{initialiser, promise};
 
@@ -10,33 +11,58 @@ use std::sync::Wait;
 
 mod texts;
 
-/// Names what a caller may rest on of a value.
+/// A promise on a value: what callers may rely on, whoever made it.
+///
+/// # Examples
+/// ```
+/// impl Promise<u64> for Is {
+///     ghost keeps = { λ promised value. value ≡ promised.0 };
+/// }
+/// ```
 pub trait Promise<T> {
     // The value keeps the promise.
     ghost keeps: { Self → T → Type 0 };
 }
 
-/// Promises nothing.
+/// The promise of nothing.
 impl<T> Promise<T> for () {
     ghost keeps = { λ _ _. Unit {0} };
 }
 
-/// Makes a value that keeps a promise: a closure, or a struct of the caller's own.
+/// An initialiser: it makes a value that keeps a promise. Each closure is one, and so may be a struct of the caller's
+/// own.
 ///
-/// A struct may always make its value, unless its `can` asks more. It may hold what is lent to it.
+/// A struct may always make its value, unless its `can` asks for more. It may hold borrowed data.
 ///
-/// Example: the test `ten_threads_see_the_same`.
+/// # Examples
+/// ```
+/// impl<'t> Makes<Answer, AnswerFor<'t>> for Reads {
+///     fn make(self, promise: AnswerFor<'t>) -> Answer {
+///         promise.0.parse()
+///     }
+/// }
+/// ```
 pub trait Makes<T, M: Promise<T>> {
-    // What has to hold where it makes the value.
+    // What has to hold when it makes the value.
     ghost can: { Self → M → Type 0 } = { λ _ _. Unit {0} };
 
     /// Makes the value.
+    ///
+    /// # Contract
+    /// `can` holds of the initialiser and the promise. The value keeps the promise.
+    ///
+    /// # Examples
+    /// ```
+    /// fn make(self, promise: AnswerFor<'t>) -> Answer {
+    ///     promise.0.parse()
+    /// }
+    /// ```
     fn make(self, promise: M) -> T
         requires { can self promise }
         ensures { M.keeps promise result };
 }
 
-/// A closure makes a value where it may be called, and each of its answers keeps the promise.
+/// A closure may make the value if its precondition holds and each answer that it may give keeps the promise.
 impl<T, F: FnOnce() -> T, M: Promise<T> + Drop> Makes<T, M> for F {
     ghost can = { λ f promise. F.pre f × ((value : T) → F.post f value → M.keeps promise value) };
 
@@ -46,7 +72,7 @@ impl<T, F: FnOnce() -> T, M: Promise<T> + Drop> Makes<T, M> for F {
     }
 }
 
-/// An initialiser that has not run, and what is promised of its answer.
+/// An initialiser that has not run, and what is promised of its value.
 #[derive(Drop)]
 pub(crate) struct Initialiser<F, M> {
     kept: Kept<F>,
@@ -57,12 +83,18 @@ impl<T, F, M: Promise<T>> Seed<T> for Initialiser<F, M> {
     ghost makes = { λ seed value. M.keeps seed.promise value };
 }
 
-/// A value that its initialiser makes, when somebody first asks for it. The initialiser runs once; whoever asks while it
-/// runs spins until it has ended, and sees the same value. One that asks its own `LazyLock` for the value waits for ever.
+/// A value that its initialiser makes when a thread first asks for it.
 ///
-/// `M` says what is promised of the value, and the initialiser keeps it.
+/// The initialiser runs at most once. A thread that asks while it runs spins until it has ended, and gets the same
+/// value. An initialiser that asks for the value of its own `LazyLock` never returns.
 ///
-/// Example: the test `it_runs_once`.
+/// `M` says what is promised of the value, and the initialiser keeps it. By default that is nothing.
+///
+/// # Examples
+/// ```
+/// let lazy: LazyLock<u64, _> = LazyLock::new(|| 7);
+/// equal(&rt, *LazyLock::force(&lazy, &rt), 7);
+/// ```
 #[derive(Drop)]
 pub struct LazyLock<T, F = fn() -> T, R = Spin, M: Promise<T> = ()> {
     seeded: Seeded<T, Initialiser<F, M>>,
@@ -70,7 +102,16 @@ pub struct LazyLock<T, F = fn() -> T, R = Spin, M: Promise<T> = ()> {
 }
 
 impl<T, F: FnOnce() -> T, R> LazyLock<T, F, R> {
-    /// The initialiser has not run. Nothing is promised of its answer.
+    /// Creates a `LazyLock` whose initialiser is `f`. It runs nothing, and promises nothing of the value.
+    ///
+    /// # Contract
+    /// Its `initialiser` is `f`.
+    ///
+    /// # Examples
+    /// ```
+    /// let lazy: LazyLock<FortyTwo, _> = LazyLock::new(|| FortyTwo { number: 41 + 1 });
+    /// LazyLock::force(&lazy, rt).number
+    /// ```
     pub fn new(f: F) -> Self
         ensures { initialiser result ≡ f }
     {
@@ -79,7 +120,16 @@ impl<T, F: FnOnce() -> T, R> LazyLock<T, F, R> {
 }
 
 impl<T, F, R, M: Promise<T>> LazyLock<T, F, R, M> {
-    /// As `new`, with a promise that the answer will keep.
+    /// Creates a `LazyLock` whose initialiser is `f`, with a promise that the value will keep. It runs nothing.
+    ///
+    /// # Contract
+    /// Its `initialiser` is `f`, and its `promise` is the one given.
+    ///
+    /// # Examples
+    /// ```
+    /// let lazy: LazyLock<u64, _, Spin, Is> = LazyLock::promising(Is(92), || 92);
+    /// *LazyLock::force(&lazy, rt)
+    /// ```
     pub fn promising(promised: M, f: F) -> Self
         ensures made { initialiser result ≡ f }
         ensures kept { promise result ≡ promised }
@@ -95,10 +145,22 @@ impl<T, F, R, M: Promise<T>> LazyLock<T, F, R, M> {
 }
 
 impl<T, F: Makes<T, M>, R: RelaxStrategy, M: Promise<T>> LazyLock<T, F, R, M> {
-    /// The value. The first that asks runs the initialiser; while it runs the others relax. Nothing is promised about when
-    /// it returns.
+    /// Returns the value, and runs the initialiser first if no caller has.
     ///
-    /// Example: the test `it_runs_once`.
+    /// While another caller runs the initialiser, the thread waits with strategy `R` until that has ended. The call
+    /// never returns if the initialiser asks for the value of this `LazyLock`.
+    ///
+    /// # Contract
+    /// The initialiser may make the value (`can`): of a closure, its precondition holds and each of its answers keeps
+    /// the promise. The value keeps the promise. Whether and when the call returns is not promised.
+    ///
+    /// # Examples
+    /// ```
+    /// equal(&rt, runs.get(), 0);
+    /// equal(&rt, *LazyLock::force(&lazy, &rt), 92);
+    /// equal(&rt, *LazyLock::force(&lazy, &rt), 92);
+    /// equal(&rt, runs.get(), 1);
+    /// ```
     pub fn force<'a, W: Wait>(this: &'a Self, rt: &W) -> &'a T
         requires { F.can (initialiser this.now) (promise this.now) }
         ensures { M.keeps (promise this.now) result.now }
@@ -109,7 +171,7 @@ impl<T, F: Makes<T, M>, R: RelaxStrategy, M: Promise<T>> LazyLock<T, F, R, M> {
         }
     }
 
-    // It stands apart: inlined, it would lengthen the path of every caller that finds a value.
+    // Kept apart: inlined, it would lengthen the path of each caller that finds a value.
     #[cold]
     #[inline(never)]
     fn make<W: Wait>(&self, rt: &W) -> &T
@@ -126,9 +188,9 @@ impl<T, F: Makes<T, M>, R: RelaxStrategy, M: Promise<T>> LazyLock<T, F, R, M> {
     }
 }
 
-// SAFETY: its cell goes along, which owns initialiser, promise and value.
+// SAFETY: it owns its cell, and that owns the initialiser, the promise and the value.
 unsafe impl<T: Send, F: Send, R, M: Promise<T> + Send> Send for LazyLock<T, F, R, M> {}
 
-// SAFETY: any thread may run the initialiser, and then all read the value beside one another.
+// SAFETY: any thread may run the initialiser, and does so alone. Then all threads read the value, at the same time.
 unsafe impl<T: Send + Sync, F: Send, R, M: Promise<T> + Send + Sync> Sync
     for LazyLock<T, F, R, M> {}

@@ -1,4 +1,5 @@
-//! `Once` and `LazyLock`, over one private core: a value that is made once, and then read at the price of a load.
+//! `Once` and `LazyLock`: a value that is made once, and then read at the price of one load. Begin with [`once::Once`];
+//! [`lazylock::LazyLock`] is for a value that brings its own initialiser.
 #![tactic(auto)]
 
 mod kept;

@@ -1,4 +1,4 @@
-//! A value that one closure makes.
+//! A value that one closure makes. Begin with [`Once::new`] and [`Once::call_once`].
 ghost use Rattle.std.specs.Prelude.{◌≡◌, IfErr, Err};
 
 use crate::seeded::{Come, Seed, Seeded};
@@ -8,19 +8,24 @@ use std::sync::Wait;
 
 mod texts;
 
-/// A `Once` is made from nothing: a closure that a caller brings may give any value.
+/// A `Once` starts from nothing, so the closure of a caller may give any value.
 impl<T> Seed<T> for () {
     ghost makes = { λ _ _. Unit {0} };
 }
 
-/// A value that is made at most once, by a closure that one of its users brings. From then on it stays, and a look at it
-/// is one load.
+/// A value that is made at most once, by a closure that one of its callers brings.
 ///
-/// One closure runs at a time, and none once there is a value. A caller that finds one running spins until it has ended.
-/// A closure that asks its own `Once` for the value waits for ever, or, by a call that does not wait, finds that there is
-/// none yet.
+/// Once there is a value it stays, and reading it costs one load. At most one closure runs at a time, and none runs
+/// once there is a value. A caller that finds one running spins until it has ended.
 ///
-/// Example: the test `with_a_value_from_the_start_or_without`.
+/// A closure that waits for the value of its own `Once` never returns. A call that does not wait, as
+/// [`get`](Once::get), finds that there is no value yet.
+///
+/// # Examples
+/// ```
+/// let once: Once<u64> = Once::new();
+/// equal(&rt, *once.call_once(&rt, || 6), 6);
+/// ```
 #[derive(Drop)]
 pub struct Once<T = (), R = Spin> {
     seeded: Seeded<T, ()>,
@@ -28,7 +33,15 @@ pub struct Once<T = (), R = Spin> {
 }
 
 impl<T, R> Once<T, R> {
-    /// There is no value yet.
+    /// Creates a `Once` without a value.
+    ///
+    /// # Examples
+    /// ```
+    /// let once: Once<u64, Loop> = Once::new();
+    /// equal(&rt, once.poll(&rt).copied(), None);
+    /// equal(&rt, once.get().copied(), None);
+    /// equal(&rt, once.is_completed(), false);
+    /// ```
     pub fn new() -> Self {
         Once {
             seeded: Seeded::new(()),
@@ -36,7 +49,15 @@ impl<T, R> Once<T, R> {
         }
     }
 
-    /// The value is there from the start.
+    /// Creates a `Once` that holds `value`.
+    ///
+    /// # Examples
+    /// ```
+    /// let once: Once<u64> = Once::initialized(5);
+    /// equal(&rt, once.is_completed(), true);
+    /// equal(&rt, once.get().copied(), Some(5));
+    /// equal(&rt, *once.call_once(&rt, || 6), 5);
+    /// ```
     pub fn initialized(value: T) -> Self {
         Once {
             seeded: Seeded::initialized(value, &()),
@@ -44,23 +65,57 @@ impl<T, R> Once<T, R> {
         }
     }
 
-    /// The value, if there is one: it makes one load. The value stays for as long as the `Once` is shared.
+    /// Returns the value, or `None` if there is none yet.
+    ///
+    /// It makes one load and never waits. The reference is good for as long as the `Once` is borrowed.
+    ///
+    /// # Examples
+    /// ```
+    /// equal(&rt, once.get().copied(), None);
+    /// equal(&rt, once.is_completed(), false);
+    /// equal(&rt, *once.call_once(&rt, || 3), 3);
+    /// equal(&rt, once.poll(&rt).copied(), Some(3));
+    /// equal(&rt, once.get().copied(), Some(3));
+    /// ```
     pub fn get(&self) -> Option<&T> {
         self.seeded.get()
     }
 
-    /// Whether there is a value, as `get` finds it.
+    /// Returns `true` if [`get`](Once::get) finds a value. It stays `true` while the `Once` is shared, since a value
+    /// stays.
+    ///
+    /// # Examples
+    /// ```
+    /// let unit: Once = Once::initialized(());
+    /// equal(&rt, unit.is_completed(), true);
+    /// ```
     pub fn is_completed(&self) -> bool {
         self.get().is_some()
     }
 
-    /// The value, if there is one: nobody else has the `Once`. It stays where it is, and what is written over it is the
-    /// value from then on.
+    /// Returns a mutable reference to the value, or `None` if there is none.
+    ///
+    /// The borrow shows that no other thread has the `Once`. What is written through the reference is the value from
+    /// then on.
+    ///
+    /// # Examples
+    /// ```
+    /// let mut once = Once::<Counted>::initialized(Counted { ends: &ends });
+    /// if let Some(value) = once.get_mut() {
+    ///     *value = Counted { ends: &ends };
+    /// }
+    /// ```
     pub fn get_mut(&mut self) -> Option<&mut T> {
         self.seeded.get_mut()
     }
 
-    /// The value, if there is one.
+    /// Consumes the `Once`, and returns its value, or `None` if there is none.
+    ///
+    /// # Examples
+    /// ```
+    /// equal(&rt, *once.call_once(&rt, || 6), 5);
+    /// equal(&rt, once.try_into_inner(), Some(5));
+    /// ```
     pub fn try_into_inner(self) -> Option<T> {
         let Self {
             seeded,
@@ -71,10 +126,20 @@ impl<T, R> Once<T, R> {
 }
 
 impl<T, R: RelaxStrategy> Once<T, R> {
-    /// The value. Where there is none it runs the closure, whose answer is the value from then on; while another closure
-    /// runs it relaxes until that one has ended. Nothing is promised about when it returns.
+    /// Returns the value, and makes it first by calling `f` if there is none.
     ///
-    /// Example: the test `looks_before_and_after`.
+    /// While another caller's closure runs, the thread waits with strategy `R` until that one has ended. Then `f` is
+    /// called only if that closure left no value. The call never returns if `f` waits for the value of this `Once`.
+    ///
+    /// # Contract
+    /// The precondition of `f` holds. Of the value is known what its type `T` says. Whether and when the call returns
+    /// is not promised.
+    ///
+    /// # Examples
+    /// ```
+    /// let once: Once<u64> = Once::new();
+    /// equal(&rt, *once.call_once(&rt, || 6), 6);
+    /// ```
     pub fn call_once<F: FnOnce() -> T, W: Wait>(&self, rt: &W, f: F) -> &T
         requires { F.pre f }
     {
@@ -84,7 +149,7 @@ impl<T, R: RelaxStrategy> Once<T, R> {
         }
     }
 
-    // It stands apart: inlined, it would lengthen the path of every caller that finds a value.
+    // Kept apart: inlined, it would lengthen the path of each caller that finds a value.
     #[cold]
     #[inline(never)]
     fn make<F: FnOnce() -> T, W: Wait>(&self, rt: &W, f: F) -> &T
@@ -96,10 +161,18 @@ impl<T, R: RelaxStrategy> Once<T, R> {
         }
     }
 
-    /// As `call_once`, of a closure that may fail. Its `Err` is answered, and there is no value: a later closure may give
-    /// one. An `Err` is always this caller's own closure's.
+    /// Like [`call_once`](Once::call_once), with a closure that may fail.
     ///
-    /// Example: the test `a_closure_that_fails_leaves_the_next_one_its_turn`.
+    /// If `f` fails, the call returns its `Err`, and there is no value still: another caller's closure may give one.
+    ///
+    /// # Contract
+    /// The precondition of `f` holds. An `Err` is an answer of this caller's own `f`, never that of another's. Whether
+    /// and when the call returns is not promised.
+    ///
+    /// # Examples
+    /// ```
+    /// port.try_call_once(rt, || text.parse())
+    /// ```
     pub fn try_call_once<F: FnOnce() -> Result<T, E>, E, W: Wait>(
         &self,
         rt: &W,
@@ -133,9 +206,17 @@ impl<T, R: RelaxStrategy> Once<T, R> {
         }
     }
 
-    /// As `call_once`, of a closure that copies the value.
+    /// Like [`call_once`](Once::call_once), with a copy of `value` in place of what a closure gives.
     ///
-    /// Example: the test `a_copy_of_a_value`.
+    /// # Contract
+    /// Whether and when the call returns is not promised.
+    ///
+    /// # Examples
+    /// ```
+    /// let once: Once<u64> = Once::new();
+    /// equal(&rt, *once.init_from_ref(&rt, &1), 1);
+    /// equal(&rt, *once.init_from_ref(&rt, &2), 1);
+    /// ```
     pub fn init_from_ref<W: Wait>(&self, rt: &W, value: &T) -> &T
     where
         T: Copy,
@@ -143,33 +224,55 @@ impl<T, R: RelaxStrategy> Once<T, R> {
         self.call_once(rt, || *value)
     }
 
-    /// The value, once there is one. It relaxes until then, also where nobody has begun to make it.
+    /// Returns the value, spinning until there is one, even if no caller has begun to make it.
+    ///
+    /// # Contract
+    /// Whether and when the call returns is not promised.
+    ///
+    /// # Examples
+    /// ```
+    /// let once: Once<u64> = Once::from(5);
+    /// equal(&rt, *once.wait(&rt), 5);
+    /// ```
     pub fn wait<W: Wait>(&self, rt: &W) -> &T {
         self.seeded.wait::<R, W>(rt)
     }
 
-    /// The value, or `None` where there is none and no closure runs. While one runs it relaxes until that has ended.
+    /// Returns the value, or `None` if there is none and no closure runs. While one runs, it spins until that one has
+    /// ended.
+    ///
+    /// # Contract
+    /// Whether and when the call returns is not promised.
+    ///
+    /// # Examples
+    /// ```
+    /// equal(&rt, once.poll(&rt).copied(), None);
+    /// equal(&rt, once.get().copied(), None);
+    /// equal(&rt, once.is_completed(), false);
+    /// equal(&rt, *once.call_once(&rt, || 3), 3);
+    /// equal(&rt, once.poll(&rt).copied(), Some(3));
+    /// ```
     pub fn poll<W: Wait>(&self, rt: &W) -> Option<&T> {
         self.seeded.poll::<R, W>(rt)
     }
 }
 
-/// There is no value yet.
+/// Creates a `Once` without a value.
 impl<T, R> Default for Once<T, R> {
     fn default() -> Self {
         Self::new()
     }
 }
 
-/// The value is there from the start.
+/// Creates a `Once` that holds `value`.
 impl<T, R> From<T> for Once<T, R> {
     fn from(value: T) -> Self {
         Self::initialized(value)
     }
 }
 
-// SAFETY: its cell goes along, which owns the value.
+// SAFETY: it owns its cell, and that owns the value.
 unsafe impl<T: Send, R> Send for Once<T, R> {}
 
-// SAFETY: a value that one thread puts is read by all of them beside one another, and may be dropped in any.
+// SAFETY: all threads read the value that one of them made, at the same time, and any of them may drop it.
 unsafe impl<T: Send + Sync, R> Sync for Once<T, R> {}

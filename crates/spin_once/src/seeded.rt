@@ -1,4 +1,5 @@
-//! A value that is made once, from a seed: what `Once` and `LazyLock` share.
+//! A value that is made once, from a seed: what `Once` and `LazyLock` share. Begin with [`Seeded::come`], which gives
+//! the value or the turn to make it.
 ghost use Rattle.std.specs.Prelude.{◌≡◌, IfSome, IfOk};
 ghost use Rattle.spin_once.specs.Finds.{TakesMade};
 
@@ -14,22 +15,24 @@ mod turn;
 pub(crate) use self::rule::Seed;
 pub(crate) use self::turn::Turn;
 
-/// At first a seed lies there. A party that begins has it alone, and gives a value for it or leaves it there. Once there is
-/// a value, every party sees that one.
+/// A cell that holds a seed, and later the value made from it.
+///
+/// A thread that begins has the seed alone. It gives a value, or leaves the seed for the next. Once there is a value,
+/// all threads see that one.
 #[derive(Drop)]
 pub(crate) struct Seeded<T, S: Seed<T>> {
     cell: SeedCell<T, S>,
 }
 
-/// What a party comes to that wants a value.
+/// What a thread gets that asks for the value.
 pub(crate) enum Come<'a, T, S: Seed<T>> {
     Value(&'a T),
-    /// Nobody had begun, or who had has left the seed: it is this party's turn.
+    /// The turn to make the value: no thread had begun, or the last one left the seed.
     Turn(Turn<'a, T, S>),
 }
 
 impl<T, S: Seed<T>> Seeded<T, S> {
-    /// Nobody has begun.
+    /// Creates a cell with a seed.
     pub(crate) fn new(seed: S) -> Self
         ensures { result.cell.value ≡ seed }
     {
@@ -38,7 +41,7 @@ impl<T, S: Seed<T>> Seeded<T, S> {
         }
     }
 
-    /// There is a value from the start, which may be made from such a seed.
+    /// Creates a cell with a value that may be made from `seed`.
     pub(crate) fn initialized(value: T, seed: &S) -> Self
         requires { S.makes seed.now value }
         ensures { result.cell.value ≡ seed.now }
@@ -48,7 +51,7 @@ impl<T, S: Seed<T>> Seeded<T, S> {
         }
     }
 
-    /// The value, if there is one at the moment of its one load.
+    /// Returns the value that its one load finds.
     pub(crate) fn get(&self) -> Option<&T>
         ensures { IfSome result (λ value. S.makes self.now.cell.value value.now) }
     {
@@ -58,7 +61,7 @@ impl<T, S: Seed<T>> Seeded<T, S> {
         }
     }
 
-    /// The value, whatever the word is: nobody else has the cell.
+    /// Returns the value. It reads no word, since the cell is not shared any more.
     pub(crate) fn into_inner(self) -> Option<T>
     where
         S: Drop,
@@ -70,7 +73,7 @@ impl<T, S: Seed<T>> Seeded<T, S> {
         }
     }
 
-    /// The value, if there is one, to be written. Nobody else has the cell.
+    /// Returns a mutable reference to the value. The borrow shows that no other thread has the cell.
     pub(crate) fn get_mut(&mut self) -> Option<&mut T>
         requires any { (seed : S) (value : T) → S.makes seed value }
     {
@@ -78,7 +81,7 @@ impl<T, S: Seed<T>> Seeded<T, S> {
         Some(Stage::made(settled))
     }
 
-    // One attempt to begin. `Err`: another party runs.
+    // Tries once to begin. Fails while another thread makes the value.
     fn begin(&self) -> Result<Come<'_, T, S>, ()>
         ensures { IfOk result (TakesMade S.makes self.now.cell.value) }
     {
@@ -97,7 +100,7 @@ impl<T, S: Seed<T>> Seeded<T, S> {
         Ok(Come::Turn(Turn::new(permit.into_writer())))
     }
 
-    /// The value once nobody runs any more, if there is one then.
+    /// Spins while a thread makes the value, and then returns it if there is one.
     pub(crate) fn poll<R: RelaxStrategy, W: Wait>(&self, rt: &W) -> Option<&T>
         ensures { IfSome result (λ value. S.makes self.now.cell.value value.now) }
     {
@@ -111,7 +114,7 @@ impl<T, S: Seed<T>> Seeded<T, S> {
         unreachable!()
     }
 
-    /// The value, once there is one.
+    /// Spins until there is a value, and returns it.
     pub(crate) fn wait<R: RelaxStrategy, W: Wait>(&self, rt: &W) -> &T
         ensures { S.makes self.now.cell.value result.now }
     {
@@ -121,7 +124,7 @@ impl<T, S: Seed<T>> Seeded<T, S> {
         }
     }
 
-    /// The value, or this party's turn to make it. It waits while another party runs.
+    /// Returns the value, or the turn to make it. Spins while another thread makes it.
     pub(crate) fn come<R: RelaxStrategy, W: Wait>(&self, rt: &W) -> Come<'_, T, S>
         ensures { TakesMade S.makes self.now.cell.value result }
     {
@@ -131,7 +134,7 @@ impl<T, S: Seed<T>> Seeded<T, S> {
         }
     }
 
-    // An attempt once nobody runs any more.
+    // Tries to begin once no other thread makes the value.
     fn begin_later<R: RelaxStrategy, W: Wait>(&self, rt: &W) -> Result<Come<'_, T, S>, ()>
         ensures { IfOk result (TakesMade S.makes self.now.cell.value) }
     {

@@ -1,4 +1,5 @@
-//! How a value that is made once prints.
+//! How a value that is made once prints: `Debug` of [`Once`](crate::once::Once) and of
+//! [`LazyLock`](crate::lazylock::LazyLock).
 ghost use Rattle.std.specs.Fmt.{DisplaysOnOk};
 ghost use Rattle.std.specs.Option.{option_copied};
 ghost use Rattle.spin_once.specs.Texts.{once_text};
@@ -6,7 +7,7 @@ ghost use Rattle.spin_once.specs.Texts.{once_text};
 use std::fmt;
 use std::fmt::{Debug, Formatter};
 
-/// Writes what has this name by the value that one look found.
+/// Writes the name, and the value that a load found or `<uninit>`.
 pub(crate) fn write_once<T: Debug, W: fmt::Write>(
     name: &str,
     value: Option<&T>,

@@ -8,7 +8,7 @@ use crate::texts::write_once;
 use std::fmt;
 use std::fmt::{Debug, Formatter};
 
-/// By one look, which runs nothing: it writes `<uninit>` where there is no value.
+/// Prints the value that one load finds, or `<uninit>`. It never runs the initialiser.
 impl<T: Debug, F, R, M: Promise<T>> Debug for LazyLock<T, F, R, M> {
     fn fmt<W: fmt::Write>(&self, f: &mut Formatter<W>) -> fmt::Result
         ensures { (found : Option T) × DisplaysOnOk W.write_str_gives f.old result (once_text (codes "LazyLock") T.debug_output found) f.new }

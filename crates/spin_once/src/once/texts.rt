@@ -8,7 +8,7 @@ use crate::texts::write_once;
 use std::fmt;
 use std::fmt::{Debug, Formatter};
 
-/// By one look: it writes `<uninit>` where there is no value.
+/// Prints the value that one load finds, or `<uninit>`.
 impl<T: Debug, R> Debug for Once<T, R> {
     fn fmt<W: fmt::Write>(&self, f: &mut Formatter<W>) -> fmt::Result
         ensures { (found : Option T) × DisplaysOnOk W.write_str_gives f.old result (once_text (codes "Once") T.debug_output found) f.new }

@@ -1,11 +1,11 @@
-//! A value that is known to be there, and is not looked for.
+//! A value that is proved to be there. So where it is read no test is left.
 ghost use Rattle.std.specs.Prelude.{◌≡◌, IsSome, IsSomeAnd, IfSome};
 ghost use Rattle.std.specs.Ptr.{as_ptr};
 
 use std::ptr;
 
-/// The value. That there is one is proved, and the compiler takes it that nobody reads through null. So where the value is
-/// read, no test of it is left.
+/// Returns the value. That there is one is proved, and the compiler takes it that nobody reads through null: it drops
+/// the test.
 pub(super) fn known<'a, T>(value: Option<&'a T>) -> &'a T
     requires { IsSome value }
     ensures { IfSome value.entry (λ there. result.now ≡ there.now) }
@@ -13,7 +13,7 @@ pub(super) fn known<'a, T>(value: Option<&'a T>) -> &'a T
     at(value, address(value))
 }
 
-/// Where the value lies, or null.
+/// Returns the address of the value, or null.
 fn address<T>(value: Option<&T>) -> *const T
     ensures { IfSome value.entry (λ there. result ≡ as_ptr there) }
 {
@@ -23,7 +23,7 @@ fn address<T>(value: Option<&T>) -> *const T
     }
 }
 
-/// The value, which lies at this address.
+/// Returns the value at this address.
 fn at<'a, T>(value: Option<&'a T>, address: *const T) -> &'a T
     requires { IsSomeAnd value (λ there. address ≡ as_ptr there) }
     ensures { IfSome value.entry (λ there. result.now ≡ there.now) }

@@ -1,4 +1,5 @@
-//! What the parties of a `Seeded` are, what its word says of them, and each kind of step.
+//! The rule of a [`Seeded`](super::Seeded): what each party is to the value (`View`), what the word says of all of
+//! them, and each kind of step.
 ghost use Rattle.std.specs.Prelude.{◌≡◌, Some, IsSomeAnd};
 ghost use Rattle.spin_core.specs.Plays.{becomes, becomes_by};
 ghost use Rattle.spin_core.specs.Settled.{loose};
@@ -21,7 +22,7 @@ pub(super) const COMPLETE: u8 = 2;
 
 /// What a value is made from.
 pub trait Seed<T> {
-    // Of the seed and a value, that it may be made from it.
+    // The value may be made from the seed.
     ghost makes: { Self → T → Type 0 };
 }
 
@@ -48,7 +49,7 @@ impl<T, S> Stage<T, S> {
     ghost use Rattle.std.specs.Borrow.{sem, follows};
     ghost use Rattle.spin_once.specs.Made.{made_row, made_of};
 
-    /// The value. Any may take its place, and is one that was made then.
+    /// Returns the value that was made. Another that is written over it counts as made too.
     pub(in crate::seeded) fn made(settled: &mut Settled<Self>) -> &mut T
         ensures* writes_back { sem 𝓛 (follows (made_row T.row S.row) T.row settled.entry.ghost_name result.ghost_name made_of) }
     {
@@ -66,7 +67,7 @@ impl<T, S> Settles for Stage<T, S> {
     ghost settled = { is_done };
 }
 
-/// The word is that of a plain lock in a phase of these parties.
+/// The word is that of a plain lock in whose phase these parties are.
 impl<T, S: Seed<T>> Rule<Slot<T, S>, View> for Slot<T, S> {
     ghost use Rattle.spin_once.specs.Once.{IsOnce, once_ways};
 
@@ -85,7 +86,7 @@ pub(super) type Party<'a, T, S> = Permit<'a, Slot<T, S>, View, Slot<T, S>>;
 
 pub(super) type Writer<'a, T, S> = WritePermit<'a, Slot<T, S>, View, Slot<T, S>>;
 
-/// How far it has come, at a look.
+/// What a look finds.
 pub(crate) enum Progress<'a, T> {
     Nothing,
     Running,
@@ -116,7 +117,7 @@ impl Play<View> for Fails {
     ghost then = { becomes Idle };
 }
 
-/// Nobody has begun.
+/// Creates a cell with a seed, to which no party has come.
 pub(super) fn seeded<T, S: Seed<T>>(seed: S) -> SeedCell<T, S>
     ensures { result.value ≡ seed }
 {
@@ -127,7 +128,7 @@ pub(super) fn seeded<T, S: Seed<T>>(seed: S) -> SeedCell<T, S>
     Cell::new(slot, NOTHING as u64, (), &key)
 }
 
-/// Somebody has seen the value.
+/// Creates a cell with a value, which a party has seen.
 pub(super) fn completed<T, S: Seed<T>>(value: T, seed: &S) -> SeedCell<T, S>
     requires { S.makes seed.now value }
     ensures { result.value ≡ seed.now }
@@ -138,7 +139,7 @@ pub(super) fn completed<T, S: Seed<T>>(value: T, seed: &S) -> SeedCell<T, S>
     Cell::new(slot, COMPLETE as u64, (), &Snapshot::of(seed))
 }
 
-/// How far it has come at a moment.
+/// Looks once. By the time the caller reads the answer it may be out of date, but a value stays.
 pub(super) fn look<T, S: Seed<T>>(cell: &SeedCell<T, S>) -> Progress<'_, T>
     ensures { LooksMade S.makes cell.now.value result }
 {
@@ -154,7 +155,7 @@ pub(super) fn look<T, S: Seed<T>>(cell: &SeedCell<T, S>) -> Progress<'_, T>
     }
 }
 
-/// The value, for good, of a party that sees it.
+/// Returns the value to a party that sees it, for as long as the cell is borrowed.
 pub(super) fn seen<'a, T, S: Seed<T>>(party: Party<'a, T, S>) -> &'a T
     requires { party.view ≡ Some Seeing }
     ensures value { party.entry.value ≡ Some (loose (Done result.now)) }
@@ -163,7 +164,7 @@ pub(super) fn seen<'a, T, S: Seed<T>>(party: Party<'a, T, S>) -> &'a T
     known(lying(party))
 }
 
-// What lies there for a party that sees it.
+// What lies in the cell of a party that sees the value: that value.
 fn lying<'a, T, S: Seed<T>>(party: Party<'a, T, S>) -> Option<&'a T>
     requires { party.view ≡ Some Seeing }
     ensures { IsSomeAnd result (λ there. (party.entry.value ≡ Some (loose (Done there.now))) × S.makes party.entry.key.value there.now) }

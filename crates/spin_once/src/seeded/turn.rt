@@ -1,4 +1,4 @@
-//! A party's turn to make the value.
+//! The turn to make the value. It ends by [`Turn::complete`] or [`Turn::fail`].
 ghost use Rattle.std.specs.Prelude.{◌≡◌, Some};
 ghost use Rattle.spin_core.specs.Settled.{loose};
 ghost use Rattle.spin_once.specs.Finds.{HasSeed, HasTaken};
@@ -8,7 +8,7 @@ use super::rule::{Completes, Fails, Party, RUNNING, Seed, Stage, Writer, seen};
 use spin_step::once;
 use std::mem::{self, ManuallyDrop};
 
-/// The party that began: it has the cell's value alone, until it gives one or leaves the seed to the next.
+/// The right of the party that began: it has the cell's content alone.
 pub(crate) struct Turn<'a, T, S: Seed<T>> {
     writer: Writer<'a, T, S>,
 }
@@ -32,7 +32,7 @@ impl<'a, T, S: Seed<T>> Turn<'a, T, S> {
         }
     }
 
-    /// The value stays for good, and this party sees it with all others. A seed that nobody took out is not dropped.
+    /// Puts the value, which all parties see from then on. A seed that was not taken out is not dropped.
     pub(crate) fn complete(self, value: T) -> &'a T
         requires { S.makes self.writer.key.value value }
         ensures { result.now ≡ value }
@@ -41,7 +41,7 @@ impl<'a, T, S: Seed<T>> Turn<'a, T, S> {
         seen(party.store::<Completes>(once::complete(RUNNING) as u64))
     }
 
-    /// The seed lies there still, and the next party may begin.
+    /// Leaves the seed where it is, so that the next party may begin.
     pub(crate) fn fail(self)
         requires { HasSeed self.writer.key.value self }
     {
@@ -60,8 +60,8 @@ impl<'a, T, S: Seed<T>> Turn<'a, T, S> {
     }
 }
 
-// Spends what was there, with no test of it: who has the turn knows that it is no value, and a first `call_once` is
-// quicker by two tests.
+// Forgets what was there, without a test: who has the turn knows that it is no value. A first `call_once` saves two
+// tests.
 fn spend<T, S>(stage: Stage<T, S>) {
     let _gone = unsafe { ManuallyDrop::new_unchecked(stage) };
 }
