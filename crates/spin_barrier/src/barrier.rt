@@ -1,4 +1,7 @@
-//! A barrier: its parties arrive in groups, and wait until their group is full. It is over the contract of `Mutex` alone.
+//! A barrier: threads arrive in groups, and wait until their group is full. Begin with [`Barrier::new`] and
+//! [`Barrier::wait`].
+//!
+//! It rests on the contract of `Mutex` alone.
 ghost use Rattle.std.specs.Prelude.{◌≡◌};
 
 use spin_core::relax::{RelaxStrategy, Spin};
@@ -6,29 +9,48 @@ use spin_mutex::mutex::Mutex;
 use spin_step::barrier::{self, State};
 use std::sync::Wait;
 
-/// A place where threads wait for one another. It may be used again and again: after each group the next one gathers.
+/// A barrier at which the threads of a group wait for one another. It is reusable: after each group the next one
+/// gathers.
 ///
-/// Its generation is counted in 64 bits: a party that looks again only after a multiple of 2^64 groups waits on for one
-/// more. None leaves early.
+/// Groups are counted in 64 bits. A thread that looks again only after a multiple of 2^64 groups waits for one group
+/// more. No thread leaves early.
 ///
-/// Example: the test `ten_threads_wait_for_one_another_twice_over`.
+/// # Examples
+/// ```
+/// let one: Barrier = Barrier::new(1);
+/// let waited: barrier::BarrierWaitResult = one.wait(&rt);
+/// equal(&rt, waited.is_leader(), true);
+/// ```
 #[derive(Drop)]
 pub struct Barrier<R = Spin> {
     state: Mutex<State, R>,
 }
 
-/// What `Barrier::wait` answers.
+/// The answer of [`Barrier::wait`]: whether the thread leads its group.
 ///
-/// Example: the test `a_group_of_none_is_a_group_of_one`.
+/// # Examples
+/// ```
+/// let waited: barrier::BarrierWaitResult = one.wait(&rt);
+/// equal(&rt, waited.is_leader(), true);
+/// ```
 #[derive(Clone, Copy)]
 pub struct BarrierWaitResult {
     leads: bool,
 }
 
 impl BarrierWaitResult {
-    /// Whether this party leads its group. One party of each group does: the one that arrived last.
+    /// Returns `true` if this thread leads its group. One thread of each group does: the one that arrived last.
     ///
-    /// Example: the test `a_group_of_none_is_a_group_of_one`.
+    /// # Contract
+    /// Each call on the same answer returns the same.
+    ///
+    /// # Examples
+    /// ```
+    /// let barrier: Barrier = Barrier::new(n);
+    /// for _ in 0..3 {
+    ///     equal(&rt, barrier.wait(&rt).is_leader(), true);
+    /// }
+    /// ```
     pub fn is_leader(&self) -> bool
         ensures { result ≡ self.now.leads }
     {
@@ -37,9 +59,14 @@ impl BarrierWaitResult {
 }
 
 impl<R> Barrier<R> {
-    /// A barrier whose groups have `n` parties, at which nobody has arrived. A group of 0 is one of 1: nobody waits there.
+    /// Creates a barrier for groups of `n` threads, at which no thread has arrived. With 0 a group is one thread, as
+    /// with 1: it does not wait.
     ///
-    /// Example: the test `a_group_of_none_is_a_group_of_one`.
+    /// # Examples
+    /// ```
+    /// let one: barrier::Barrier<Yield> = barrier::Barrier::new(1);
+    /// equal(&rt, one.wait(&rt).is_leader(), true);
+    /// ```
     pub fn new(n: usize) -> Self {
         Barrier {
             state: Mutex::new(State::new(n)),
@@ -48,12 +75,23 @@ impl<R> Barrier<R> {
 }
 
 impl<R: RelaxStrategy> Barrier<R> {
-    /// Arrives, by `State::arrive` under the lock, and then relaxes until the group is full. Nothing is promised about when
-    /// it returns.
+    /// Arrives at the barrier, and spins until the group is full.
     ///
-    /// The last party of a group fills it, leads, and doesn't wait.
+    /// The arrival is one [`State::arrive`] under the lock. The last thread of a group fills it, leads it, and does not
+    /// wait. The others look again under the lock, with strategy `R` between two looks.
     ///
-    /// Example: the test `ten_threads_wait_for_one_another_twice_over`.
+    /// # Contract
+    /// Whether and when the call returns is not promised. That a thread stays for its group and that one leads is known
+    /// of the step functions ([`State::arrive`] and `may_leave`); of this call a test shows it.
+    ///
+    /// # Examples
+    /// ```
+    /// self.results.lock(self.rt).add(self.gain, &mut share);
+    /// if self.barrier.wait(self.rt).is_leader() {
+    ///     self.results.lock(self.rt).fold();
+    /// }
+    /// self.barrier.wait(self.rt);
+    /// ```
     pub fn wait<W: Wait>(&self, rt: &W) -> BarrierWaitResult {
         let mut state = self.state.lock(rt);
         let leads = state.arrive();

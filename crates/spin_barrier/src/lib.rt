@@ -1,4 +1,6 @@
-//! `Barrier`, at which threads wait for one another: a `Mutex` over the state that a step function changes.
+//! `Barrier`, at which threads wait for one another: a `Mutex` over a state that a step function changes.
+//!
+//! Begin with [`barrier::Barrier`].
 #![tactic(auto)]
 
 pub mod barrier;

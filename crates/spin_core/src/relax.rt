@@ -1,4 +1,5 @@
-//! What a waiting call does between two looks at a lock's word.
+//! How a waiting call passes the time between two looks at a lock's word. Begin with [`RelaxStrategy`] and its three
+//! implementations [`Spin`], [`Yield`] and [`Loop`].
 ghost use Rattle.std.specs.Prelude.{Some};
 ghost use Rattle.spin_core.specs.Retries.{Succeeds};
 
@@ -7,27 +8,72 @@ use std::marker::PhantomData;
 use std::sync::Wait;
 use std::thread::yield_now;
 
-/// The longest pause between two attempts of a call that backs off.
+/// The longest pause between two attempts of a call that backs off, in hints.
+///
+/// # Examples
+/// ```
+/// hints = hints.saturating_mul(2).min(MAX_HINTS);
+/// ```
 pub const MAX_HINTS: u32 = 64;
 
-/// How a call that waits passes the time. A lock names its strategy as a type parameter.
+/// How a waiting call passes the time. A lock names its strategy as its type parameter `R`.
 ///
-/// `relax` is handed the right to wait of the call that waits. It returns; nothing else is promised of it.
+/// Each method takes the waiting call's own right to wait. Nothing is promised of a strategy, not even that its methods
+/// return: a lock whose strategy hangs waits for ever.
+///
+/// # Examples
+/// ```
+/// impl RelaxStrategy for Loop {
+///     fn relax<W: Wait>(rt: &W) {
+///         let _ = rt;
+///     }
+/// }
+/// ```
 pub trait RelaxStrategy {
     /// Passes a little time.
+    ///
+    /// # Examples
+    /// ```
+    /// Yield::relax(rt);
+    /// ```
     fn relax<W: Wait>(rt: &W);
 
-    /// Passes the time between two attempts of a call that waits: so much of it as is asked for, where the strategy
-    /// spins, and else as `relax` does, once.
+    /// Passes the time between two attempts of a waiting call: `hints` times as much as `relax` if the strategy spins,
+    /// and else one `relax`.
+    ///
+    /// # Examples
+    /// ```
+    /// fn pause<W: Wait>(rt: &W, hints: u32) {
+    ///     for _ in 0..hints {
+    ///         Self::relax(rt);
+    ///     }
+    /// }
+    /// ```
     fn pause<W: Wait>(rt: &W, hints: u32) {
         let _ = hints;
         Self::relax(rt);
     }
 
-    /// Relaxes and tries again, until an attempt succeeds. A failed attempt hands on the state in which the next one
-    /// begins. Nothing is promised about when it returns.
+    /// Relaxes and tries again, until an attempt succeeds.
     ///
-    /// It is for calls whose first attempt has failed.
+    /// A failed attempt hands on the state in which the next one begins. Use it in calls whose first attempt has
+    /// failed.
+    ///
+    /// # Contract
+    /// The closure is always callable. The first attempt begins in `state`, and each later one in the state of the
+    /// failure before it. The answer is that of the last attempt (`Succeeds`). Whether and when the call returns is not
+    /// promised.
+    ///
+    /// # Examples
+    /// ```
+    /// R::retry(rt, (), |()| {
+    ///     if barrier::may_leave(*self.state.lock(rt), generation) {
+    ///         Ok(())
+    ///     } else {
+    ///         Err(())
+    ///     }
+    /// })
+    /// ```
     final fn retry<S, A, F: Fn(S) -> Result<A, S>, W: Wait>(rt: &W, state: S, attempt: F) -> A
         requires { F.IsAlwaysCallable attempt }
         ensures { Succeeds (F.post attempt) state result }
@@ -35,9 +81,20 @@ pub trait RelaxStrategy {
         Self::retry_after(rt, state, |_| 1, attempt)
     }
 
-    /// As `retry`, with a pause before each attempt that the state tells.
+    /// Like [`retry`](RelaxStrategy::retry), with a pause before each attempt whose length depends on the state.
     ///
-    /// It stands apart: inlined, it would lengthen the path of every caller that does not wait.
+    /// It is kept apart: inlined, it would lengthen the path of each caller that does not wait.
+    ///
+    /// # Contract
+    /// As that of `retry`; `pause` is always callable too.
+    ///
+    /// # Examples
+    /// ```
+    /// match self.try_lock() {
+    ///     Some(guard) => guard,
+    ///     None => R::retry_after(rt, 0, |_| MAX_HINTS, |spins| self.look_and_try(rt, spins)),
+    /// }
+    /// ```
     #[cold]
     #[inline(never)]
     final fn retry_after<S, A, P: Fn(&S) -> u32, F: Fn(S) -> Result<A, S>, W: Wait>(
@@ -61,9 +118,22 @@ pub trait RelaxStrategy {
         unreachable!()
     }
 
-    /// Pauses and tries again, until an attempt gives something. Each pause is twice as long as the last one, up to
-    /// `MAX_HINTS`: a lock that whoever comes next may take is quickest where few look. Nothing is promised about when
-    /// it returns.
+    /// Pauses and tries again, until an attempt gives something.
+    ///
+    /// Each pause is twice as long as the last one, up to [`MAX_HINTS`]. A lock that any next thread may acquire is
+    /// quickest if few look at it.
+    ///
+    /// # Contract
+    /// The closure is always callable, and the answer is one that it gave. Whether and when the call returns is not
+    /// promised.
+    ///
+    /// # Examples
+    /// ```
+    /// match self.try_enter(rt) {
+    ///     Some(guard) => guard,
+    ///     None => Spin::back_off(rt, || self.try_enter(rt)),
+    /// }
+    /// ```
     #[cold]
     #[inline(never)]
     final fn back_off<A, F: Fn() -> Option<A>, W: Wait>(rt: &W, attempt: F) -> A
@@ -82,7 +152,13 @@ pub trait RelaxStrategy {
     }
 }
 
-/// Gives the processor's hint for spinning. This is the default of every lock.
+/// The strategy that gives the processor's hint for spinning. It is the default of every lock.
+///
+/// # Examples
+/// ```
+/// let mut guard: MutexGuard<u64, Spin> = lock.lock(&rt);
+/// *guard = 2;
+/// ```
 pub struct Spin;
 
 impl RelaxStrategy for Spin {
@@ -98,7 +174,13 @@ impl RelaxStrategy for Spin {
     }
 }
 
-/// Yields the time slice, so that another thread may run.
+/// The strategy that yields the time slice, so that another thread may run.
+///
+/// # Examples
+/// ```
+/// let lock: mutex::Mutex<u64, Yield> = mutex::Mutex::new(3);
+/// equal(&rt, lock.is_locked(), false);
+/// ```
 pub struct Yield;
 
 impl RelaxStrategy for Yield {
@@ -108,7 +190,13 @@ impl RelaxStrategy for Yield {
     }
 }
 
-/// Does nothing, and so keeps the processor busy.
+/// The strategy that does nothing, and so keeps the processor busy.
+///
+/// # Examples
+/// ```
+/// let once: Once<u64, Loop> = Once::new();
+/// equal(&rt, once.poll(&rt).copied(), None);
+/// ```
 pub struct Loop;
 
 impl RelaxStrategy for Loop {
@@ -117,14 +205,30 @@ impl RelaxStrategy for Loop {
     }
 }
 
-/// The strategy of a lock, by its name alone: there is nothing in it, so a lock may go to another thread whatever `R` is.
+/// The strategy of a lock by its name alone: no `R` lies in it, so a lock may go to another thread whatever `R` is.
+///
+/// # Examples
+/// ```
+/// SpinMutex {
+///     cell: Cell::new(value, word(false), (), &()),
+///     strategy: Strategy::named(),
+/// }
+/// ```
 #[derive(Drop)]
 pub struct Strategy<R> {
     name: PhantomData<R>,
 }
 
 impl<R> Strategy<R> {
-    /// The strategy `R`.
+    /// Creates the name of the strategy `R`.
+    ///
+    /// # Examples
+    /// ```
+    /// SpinMutex {
+    ///     cell: Cell::new(value, word(false), (), &()),
+    ///     strategy: Strategy::named(),
+    /// }
+    /// ```
     pub fn named() -> Self {
         Strategy { name: PhantomData }
     }

@@ -1,5 +1,6 @@
-//! `Once` and `LazyLock`: a value that is made once, and then read at the price of one load. Begin with [`once::Once`];
-//! [`lazylock::LazyLock`] is for a value that brings its own initialiser.
+//! `Once` and `LazyLock`: a value that is made once, and then read at the price of a load.
+//!
+//! Begin with [`once::Once`]. A [`lazylock::LazyLock`] brings its own initialiser.
 #![tactic(auto)]
 
 mod kept;
