@@ -1,22 +1,40 @@
-//! Arrivals in groups: the last one of each group leads, and the others may leave once it has come.
+//! Arrivals in groups: the last of each group leads it, and the others may leave when it has come. Begin with
+//! [`State`].
 ghost use Rattle.std.specs.Prelude.{◌≡◌, ◌<◌, ◌≤◌, ◌+◌, ◌==◌, ℕ, true, false, not, max};
 ghost use Rattle.spin_step.specs.Plain.{Plain, arrives, apply, fresh};
 ghost use Rattle.spin_step.specs.Barriers.{IsBarrier, arrived, is_leading, filled_by, generation_at, may_leave};
 
-/// How far a barrier has come.
+/// How far a barrier has come: how many threads of the present group have arrived.
+///
+/// # Examples
+/// ```
+/// let mut state = State::new(0);
+/// equal(&rt, state.arrive(), true);
+/// equal(&rt, state.arrive(), true);
+/// equal(&rt, (state.n, state.count, state.generation), (0, 0, 2));
+/// ```
 #[derive(Clone, Copy, Debug, PartialEq, Eq)]
 pub struct State {
-    /// How many arrivals make a group; 0 counts as 1.
+    /// How many arrivals make a group. 0 counts as 1.
     pub n: usize,
-    /// How many have arrived of the group that gathers.
+    /// How many threads of the group that gathers have arrived.
     pub count: usize,
-    /// How many groups have been filled. It wraps.
+    /// How many groups were filled. It wraps.
     pub generation: usize,
     pub ghost below: { count < max n 1 },
 }
 
 impl State {
-    /// Nobody has arrived yet.
+    /// Creates the state of a barrier at which no thread has arrived.
+    ///
+    /// # Contract
+    /// It is the state of a fresh plain barrier with groups of `n` (`IsBarrier`).
+    ///
+    /// # Examples
+    /// ```
+    /// let (first, leads) = barrier::arrive(State::new(2));
+    /// equal(&rt, leads, false);
+    /// ```
     pub fn new(n: usize) -> State
         ensures n { result.n ≡ n }
         ensures plain { (cap first : ℕ) → IsBarrier (fresh cap n first) n result.count result.generation }
@@ -28,7 +46,18 @@ impl State {
         }
     }
 
-    /// The state after one more arrival takes its place. Answers whether that arrival leads.
+    /// Counts one more arrival, and returns `true` if that one leads: it is the last of its group.
+    ///
+    /// # Contract
+    /// The state and the answer are exact. If the state was that of a plain barrier, it is now that of the plain
+    /// barrier with one arrival more (`IsBarrier`), and the answer is the plain one (`is_leading`).
+    ///
+    /// # Examples
+    /// ```
+    /// let mut state = State::new(0);
+    /// equal(&rt, state.arrive(), true);
+    /// equal(&rt, state.arrive(), true);
+    /// ```
     pub fn arrive(&mut self) -> bool
         ensures n { self.new.n ≡ self.old.n }
         ensures exact { ((self.new.count, self.new.generation), result) ≡ arrived self.old.n self.old.count self.old.generation }
@@ -41,7 +70,19 @@ impl State {
     }
 }
 
-/// The state after one more arrival, and whether that one leads: it is the last one of its group.
+/// Returns the state after one more arrival, and `true` if that one leads: it is the last of its group.
+///
+/// # Contract
+/// As that of [`State::arrive`].
+///
+/// # Examples
+/// ```
+/// let (first, leads) = barrier::arrive(State::new(2));
+/// equal(&rt, leads, false);
+/// equal(&rt, barrier::may_leave(first, 0), false);
+/// let (second, leads) = barrier::arrive(first);
+/// equal(&rt, leads, true);
+/// ```
 pub fn arrive(state: State) -> (State, bool)
     ensures n { result.0.n ≡ state.n }
     ensures exact { ((result.0.count, result.0.generation), result.1) ≡ arrived state.n state.count state.generation }
@@ -70,9 +111,19 @@ pub fn arrive(state: State) -> (State, bool)
     }
 }
 
-/// Whether a party that found this generation with its arrival, and didn't lead, may leave.
+/// Returns `true` if a thread that arrived in `generation`, and does not lead, may leave.
 ///
-/// It may once its group is full. After a multiple of 2^64 groups more it may not, until the next one is.
+/// It may leave when its group is full. After a multiple of 2^64 groups more it may not, until the next one is full.
+///
+/// # Contract
+/// The answer is exact, and that of the plain barrier. If it is `true`, the group of that arrival is full.
+///
+/// # Examples
+/// ```
+/// let (second, leads) = barrier::arrive(first);
+/// equal(&rt, leads, true);
+/// equal(&rt, barrier::may_leave(second, 0), true);
+/// ```
 pub fn may_leave(state: State, generation: usize) -> bool
     ensures exact { result ≡ not (state.generation == generation) }
     ensures plain { (s : Plain) (k : ℕ) → IsBarrier s state.n state.count state.generation → k ≤ s.arrivals → generation_at s k ≡ generation → result ≡ may_leave s k }

@@ -1,4 +1,6 @@
-//! The holder and the registered starvers in one word: the sum of what each weighs.
+//! The holder and the starvers in one word: the sum of what each weighs. Begin with [`lock`] and [`starve`].
+//!
+//! A starver is a thread that has registered so as to come before all others, which are newcomers.
 ghost use Rattle.std.specs.Prelude.{◌≡◌, ◌≢◌, ◌≤◌, ◌+◌, ◌-◌, ◌/◌, ◌%◌, ◌==◌, ℕ, Option, Some, None, [], true, if◌then◌else◌, nat_lt, min};
 ghost use Rattle.spin_step.specs.Plain.{Plain, Kind, gets, releases, stops_starving, to_lock_unregistered, to_lock_starving, to_lock_starving_alone, to_starve, is_starver, starver_weight, fair_word};
 ghost use Rattle.spin_step.specs.Parties.{is_held};
@@ -10,21 +12,34 @@ use std::error::Error;
 use std::fmt;
 use std::fmt::{Display, Formatter};
 
-/// What the holder is in the word.
+/// The weight of the holder in the word.
 pub const HOLDER: usize = 1;
 
-/// What each registered starver is in the word.
+/// The weight of each starver in the word.
 pub const STARVER: usize = 2;
 
-/// The most starvers that may be registered at a time.
+/// The most starvers that may be registered at the same time.
+///
+/// # Examples
+/// ```
+/// let most = 2 * fair::MAX_STARVERS + 1;
+/// equal(&rt, fair::starve(most - 2, usize::MAX), Some(most));
+/// equal(&rt, fair::starve(most, usize::MAX), None);
+/// ```
 pub const MAX_STARVERS: usize = isize::MAX as usize / 2;
 
-/// Why a party that is no starver was refused.
+/// Why a thread that is no starver fails to acquire the lock.
+///
+/// # Examples
+/// ```
+/// let told = format!(in rt.alloc(); "{Locked} {Starved} {Locked:?} {Starved:?}")?;
+/// equal(&rt, told.as_str(), "locked starved Locked Starved");
+/// ```
 #[derive(Clone, Copy, Debug, PartialEq, Eq)]
 pub enum LockRejectReason {
-    /// Somebody holds the lock, and nobody starves.
+    /// The lock is held, and no thread starves.
     Locked,
-    /// A starver stands, which comes first.
+    /// A thread starves, and comes first.
     Starved,
 }
 
@@ -41,7 +56,17 @@ impl Display for LockRejectReason {
 
 impl Error for LockRejectReason {}
 
-/// The word after a party that is no starver has taken the lock, or `None` where somebody holds it or starves.
+/// Returns the word after a thread that is no starver acquires the lock, or `None` if it is held or a thread starves.
+///
+/// # Contract
+/// The answer is exact, and decides as the plain lock does (`Decides`).
+///
+/// # Examples
+/// ```
+/// equal(&rt, fair::lock(0), Some(1));
+/// equal(&rt, fair::lock(1), None);
+/// equal(&rt, fair::lock(2), None);
+/// ```
 pub fn lock(word: usize) -> Option<usize>
     ensures exact { result ≡ lock word }
     ensures plain { (s : Plain) (party : ℕ) → fair_word s ≡ word → Decides s (gets party to_lock_unregistered) fair_word result }
@@ -49,7 +74,17 @@ pub fn lock(word: usize) -> Option<usize>
     if word == 0 { Some(HOLDER) } else { None }
 }
 
-/// Why `lock` refuses this word.
+/// Returns why [`lock`] refuses this word.
+///
+/// # Contract
+/// The word is not 0. The answer is exact, and true of the plain lock (`Tells`).
+///
+/// # Examples
+/// ```
+/// equal(&rt, fair::reject(1), Locked);
+/// equal(&rt, fair::reject(2), Starved);
+/// equal(&rt, fair::reject(3), Starved);
+/// ```
 pub fn reject(word: usize) -> LockRejectReason
     requires { word ≢ 0 }
     ensures exact { result ≡ reject word }
@@ -62,7 +97,17 @@ pub fn reject(word: usize) -> LockRejectReason
     }
 }
 
-/// The word after a party has registered as a starver, or `None` at the cap.
+/// Returns the word after a thread registers as a starver, or `None` if `cap` starvers or [`MAX_STARVERS`] are
+/// registered.
+///
+/// # Contract
+/// The answer is exact, and decides as the plain lock does (`Decides`).
+///
+/// # Examples
+/// ```
+/// equal(&rt, fair::starve(1, 1), Some(3));
+/// equal(&rt, fair::starve(2, 1), None);
+/// ```
 pub fn starve(word: usize, cap: usize) -> Option<usize>
     ensures exact { result ≡ starve cap word }
     ensures plain { (s : Plain) (party : ℕ) → OneHolds s → s.cap ≡ min cap most_starvers → fair_word s ≡ word → Decides s (gets party to_starve) fair_word result }
@@ -74,7 +119,15 @@ pub fn starve(word: usize, cap: usize) -> Option<usize>
     }
 }
 
-/// The word after a starver has stopped starving.
+/// Returns the word after a starver ends its registration.
+///
+/// # Contract
+/// The word counts a starver. The answer is exact, and gives the plain lock's next state (`Gives`).
+///
+/// # Examples
+/// ```
+/// equal(&rt, fair::unstarve(3), 1);
+/// ```
 pub fn unstarve(word: usize) -> usize
     requires { starver_weight ≤ word }
     ensures exact { result ≡ unstarved word }
@@ -83,7 +136,16 @@ pub fn unstarve(word: usize) -> usize
     word - STARVER
 }
 
-/// The word after a starver has taken the lock, or `None` where somebody holds it or another party starves.
+/// Returns the word after a starver acquires the lock, or `None` if it is held or another thread starves.
+///
+/// # Contract
+/// The answer is exact, and decides as the plain lock does (`Decides`).
+///
+/// # Examples
+/// ```
+/// equal(&rt, fair::lock_fair(2), Some(3));
+/// equal(&rt, fair::lock_fair(4), None);
+/// ```
 pub fn lock_fair(word: usize) -> Option<usize>
     ensures exact { result ≡ lock_fair word }
     ensures plain { (s : Plain) (party : ℕ) → OneHolds s → is_starver party s.starvers ≡ true → fair_word s ≡ word → Decides s (gets party to_lock_starving_alone) fair_word result }
@@ -95,7 +157,16 @@ pub fn lock_fair(word: usize) -> Option<usize>
     }
 }
 
-/// The word after a starver has taken the lock, or `None` where somebody holds it.
+/// Returns the word after a starver acquires the lock, or `None` if it is held.
+///
+/// # Contract
+/// The answer is exact, and decides as the plain lock does (`Decides`).
+///
+/// # Examples
+/// ```
+/// equal(&rt, fair::lock_starved(4), Some(5));
+/// equal(&rt, fair::lock_starved(5), None);
+/// ```
 pub fn lock_starved(word: usize) -> Option<usize>
     ensures exact { result ≡ lock_starved word }
     ensures plain { (s : Plain) (party : ℕ) → OneHolds s → is_starver party s.starvers ≡ true → fair_word s ≡ word → Decides s (gets party to_lock_starving) fair_word result }
@@ -107,7 +178,15 @@ pub fn lock_starved(word: usize) -> Option<usize>
     }
 }
 
-/// The word after its holder has let go.
+/// Returns the word after the holder releases the lock.
+///
+/// # Contract
+/// The word shows a holder. The answer is exact, and gives the plain lock's next state (`Gives`).
+///
+/// # Examples
+/// ```
+/// equal(&rt, fair::unlock(3), 2);
+/// ```
 pub fn unlock(word: usize) -> usize
     requires { is_set word ≡ true }
     ensures exact { result ≡ unlocked word }
@@ -116,7 +195,16 @@ pub fn unlock(word: usize) -> usize
     word - HOLDER
 }
 
-/// Whether somebody holds the lock.
+/// Returns `true` if a thread holds the lock.
+///
+/// # Contract
+/// The answer is exact, and that of the plain lock.
+///
+/// # Examples
+/// ```
+/// equal(&rt, fair::is_locked(2), false);
+/// equal(&rt, fair::is_locked(3), true);
+/// ```
 pub fn is_locked(word: usize) -> bool
     ensures exact { result ≡ is_set word }
     ensures plain { (s : Plain) → OneHolds s → s.tickets ≡ [] → fair_word s ≡ word → is_held s ≡ result }

@@ -1,11 +1,20 @@
-//! One flag: set while somebody holds the lock.
+//! One flag: it is set while a thread holds the lock. Begin with [`lock`].
 ghost use Rattle.std.specs.Prelude.{◌≡◌, ℕ, Option, true, false, IsTrue, if◌then◌else◌};
 ghost use Rattle.std.specs.Option.{option_map};
 ghost use Rattle.spin_step.specs.Plain.{Plain, Kind, gets, releases, to_write, flag_word};
 ghost use Rattle.spin_step.specs.Flags.{lock};
 ghost use Rattle.spin_step.specs.Steps.{bit, Decides, Gives};
 
-/// The flag after a party has taken the lock, or `None` where somebody holds it.
+/// Returns the flag after a thread acquires the lock, or `None` if the lock is held.
+///
+/// # Contract
+/// The answer is exact, and decides as the plain lock does (`Decides`).
+///
+/// # Examples
+/// ```
+/// equal(&rt, flag::lock(false), Some(true));
+/// equal(&rt, flag::lock(true), None);
+/// ```
 pub fn lock(flag: bool) -> Option<bool>
     ensures exact { result ≡ lock flag }
     ensures plain { (s : Plain) (party : ℕ) → flag_word s ≡ bit flag → Decides s (gets party to_write) flag_word (option_map bit result) }
@@ -13,7 +22,15 @@ pub fn lock(flag: bool) -> Option<bool>
     if flag { None } else { Some(true) }
 }
 
-/// The flag after its holder has let go.
+/// Returns the flag after the holder releases the lock.
+///
+/// # Contract
+/// The flag is set. The answer is exact, and gives the plain lock's next state (`Gives`).
+///
+/// # Examples
+/// ```
+/// equal(&rt, flag::unlock(true), false);
+/// ```
 pub fn unlock(flag: bool) -> bool
     requires { IsTrue flag }
     ensures exact { result ≡ false }

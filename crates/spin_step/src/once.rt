@@ -1,10 +1,21 @@
-//! How far a once-only cell has come, in one byte: 0 for nothing, 1 while a closure runs, 2 once there is a value.
+//! How far a once-only cell has come, in one byte: 0 without a value, 1 while a closure runs, 2 with a value. Begin
+//! with [`begin`].
 ghost use Rattle.std.specs.Prelude.{◌≡◌, ℕ, ◌==◌, Option, Some, None, if◌then◌else◌};
 ghost use Rattle.spin_step.specs.Plain.{Plain, gets, completes, fails, to_begin, once_word};
 ghost use Rattle.spin_step.specs.Flags.{begun, completed, failed};
 ghost use Rattle.spin_step.specs.Steps.{Decides, Gives};
 
-/// The state after a party has begun to run its closure, or `None` where one runs or a value is there.
+/// Returns the state after a thread begins to run its closure, or `None` if one runs or there is a value.
+///
+/// # Contract
+/// The answer is exact, and decides as the plain lock does (`Decides`).
+///
+/// # Examples
+/// ```
+/// equal(&rt, once::begin(0), Some(1));
+/// equal(&rt, once::begin(1), None);
+/// equal(&rt, once::begin(2), None);
+/// ```
 pub fn begin(state: u8) -> Option<u8>
     ensures exact { result ≡ begun state }
     ensures plain { (s : Plain) (party : ℕ) → once_word s ≡ state → Decides s (gets party to_begin) once_word result }
@@ -12,7 +23,15 @@ pub fn begin(state: u8) -> Option<u8>
     if state == 0 { Some(1) } else { None }
 }
 
-/// The state after the closure that runs has given a value.
+/// Returns the state after the closure that runs gives a value.
+///
+/// # Contract
+/// A closure runs: the state is 1. The answer is exact, and gives the plain lock's next state (`Gives`).
+///
+/// # Examples
+/// ```
+/// equal(&rt, once::complete(1), 2);
+/// ```
 pub fn complete(state: u8) -> u8
     requires { state ≡ 1 }
     ensures exact { result ≡ completed state }
@@ -21,7 +40,15 @@ pub fn complete(state: u8) -> u8
     state + 1
 }
 
-/// The state after the closure that runs has ended without a value: the next one may begin.
+/// Returns the state after the closure that runs ends without a value. The next closure may begin.
+///
+/// # Contract
+/// A closure runs: the state is 1. The answer is exact, and gives the plain lock's next state (`Gives`).
+///
+/// # Examples
+/// ```
+/// equal(&rt, once::fail(1), 0);
+/// ```
 pub fn fail(state: u8) -> u8
     requires { state ≡ 1 }
     ensures exact { result ≡ failed state }

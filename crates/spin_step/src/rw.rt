@@ -1,27 +1,34 @@
-//! Readers, one of whom may upgrade, and one writer in one word: the sum of what each holder weighs.
+//! Readers, one of which may upgrade, or one writer in one word: the sum of what each holder weighs. Begin with
+//! [`read`] and [`write`].
 //!
-//! Who may upgrade keeps nobody out until it asks; from then on the readers only go.
+//! The upgradable reader keeps no reader out until it asks to upgrade. From then on the readers only leave.
 ghost use Rattle.std.specs.Prelude.{◌≡◌, ◌<◌, ◌≤◌, ◌/◌, ◌%◌, ℕ, true, min};
 ghost use Rattle.spin_step.specs.Plain.{Plain, reading, upgradable, asking, writing, weight, gets, releases, turns, to_read, to_read_upgradable, to_write, to_upgrade, to_upgrade_asked, is_holder, count_kind, reader_count, rw_word};
 ghost use Rattle.spin_step.specs.Steps.{Decides, Gives};
 ghost use Rattle.spin_step.specs.Readers.{reader_limit, OneOfEach, readers_in, writers_in, tells, has_room, read, read_upgradable, write, upgrade, upgrade_asked, released, turned};
 
-/// What each reader is in the word.
+/// The weight of each reader in the word.
 pub const READER: usize = 8;
 
-/// What the upgradable reader is in the word.
+/// The weight of the upgradable reader in the word.
 pub const UPGRADABLE: usize = 2;
 
-/// What the upgradable reader adds once it asks to upgrade.
+/// What the upgradable reader adds to its weight when it asks to upgrade.
 pub const ASKING: usize = 4;
 
-/// What the writer is in the word.
+/// The weight of the writer in the word.
 pub const WRITER: usize = 1;
 
-/// The most holders that may stand at a time, the upgradable reader included.
+/// The most readers that may hold the lock at the same time, with the upgradable one.
+///
+/// # Examples
+/// ```
+/// let most = 8 * rw::MAX_READERS;
+/// equal(&rt, rw::read(most - 8, usize::MAX), Some(most));
+/// ```
 pub const MAX_READERS: usize = usize::MAX / READER / 2;
 
-// Whether a reader may come.
+// Whether the lock lets a reader in.
 fn may_read(word: usize, cap: usize) -> bool
     ensures { result ≡ has_room reading word cap }
 {
@@ -29,14 +36,25 @@ fn may_read(word: usize, cap: usize) -> bool
     (low == 0 || low == UPGRADABLE) && readers(word) < cap.min(MAX_READERS)
 }
 
-// Whether a reader may come that may upgrade.
+// Whether the lock lets an upgradable reader in.
 fn may_read_upgradable(word: usize, cap: usize) -> bool
     ensures { result ≡ has_room upgradable word cap }
 {
     word % READER == 0 && readers(word) < cap.min(MAX_READERS)
 }
 
-/// The word after a party has come to read, or `None` beside a writer or a reader that asks to upgrade, or at the cap.
+/// Returns the word after a reader acquires the lock. It is `None` beside a writer or a reader that asks to upgrade,
+/// and at the cap: the smaller of `cap` and [`MAX_READERS`].
+///
+/// # Contract
+/// The answer is exact, and decides as the plain lock does (`Decides`).
+///
+/// # Examples
+/// ```
+/// equal(&rt, rw::read(0, 2), Some(8));
+/// equal(&rt, rw::read(8, 2), Some(16));
+/// equal(&rt, rw::read(16, 2), None);
+/// ```
 pub fn read(word: usize, cap: usize) -> Option<usize>
     ensures exact { result ≡ read cap word }
     ensures plain { (s : Plain) (party : ℕ) → OneOfEach s → s.cap ≡ min cap reader_limit → rw_word s ≡ word → Decides s (gets party to_read) rw_word result }
@@ -48,8 +66,18 @@ pub fn read(word: usize, cap: usize) -> Option<usize>
     }
 }
 
-/// The word after a party has come to read and may upgrade, or `None` beside a writer or another that may, or at the
-/// cap.
+/// Returns the word after an upgradable reader acquires the lock. It is `None` beside a writer or another upgradable
+/// reader, and at the cap: the smaller of `cap` and [`MAX_READERS`].
+///
+/// # Contract
+/// The answer is exact, and decides as the plain lock does (`Decides`).
+///
+/// # Examples
+/// ```
+/// equal(&rt, rw::upgradable(0, 2), Some(2));
+/// equal(&rt, rw::upgradable(8, 2), Some(10));
+/// equal(&rt, rw::upgradable(16, 2), None);
+/// ```
 pub fn upgradable(word: usize, cap: usize) -> Option<usize>
     ensures exact { result ≡ read_upgradable cap word }
     ensures plain { (s : Plain) (party : ℕ) → OneOfEach s → s.cap ≡ min cap reader_limit → rw_word s ≡ word → Decides s (gets party to_read_upgradable) rw_word result }
@@ -61,7 +89,16 @@ pub fn upgradable(word: usize, cap: usize) -> Option<usize>
     }
 }
 
-/// The word after a party has come to write, or `None` beside any holder.
+/// Returns the word after a writer acquires the lock, or `None` beside any holder.
+///
+/// # Contract
+/// The answer is exact, and decides as the plain lock does (`Decides`).
+///
+/// # Examples
+/// ```
+/// equal(&rt, rw::write(0), Some(1));
+/// equal(&rt, rw::write(1), None);
+/// ```
 pub fn write(word: usize) -> Option<usize>
     ensures exact { result ≡ write word }
     ensures plain { (s : Plain) (party : ℕ) → rw_word s ≡ word → Decides s (gets party to_write) rw_word result }
@@ -69,7 +106,16 @@ pub fn write(word: usize) -> Option<usize>
     if word == 0 { Some(WRITER) } else { None }
 }
 
-/// The word after the upgradable reader has become the writer, or `None` beside another holder.
+/// Returns the word after the upgradable reader becomes the writer, or `None` beside another holder.
+///
+/// # Contract
+/// The answer is exact, and decides as the plain lock does (`Decides`).
+///
+/// # Examples
+/// ```
+/// equal(&rt, rw::upgrade(2), Some(1));
+/// equal(&rt, rw::upgrade(10), None);
+/// ```
 pub fn upgrade(word: usize) -> Option<usize>
     ensures exact { result ≡ upgrade word }
     ensures plain { (s : Plain) (party : ℕ) → OneOfEach s → is_holder party upgradable s.holders ≡ true → rw_word s ≡ word → Decides s (gets party to_upgrade) rw_word result }
@@ -81,7 +127,17 @@ pub fn upgrade(word: usize) -> Option<usize>
     }
 }
 
-/// The word after the upgradable reader has asked to upgrade.
+/// Returns the word after the upgradable reader asks to upgrade.
+///
+/// # Contract
+/// The word shows an upgradable reader that has not asked. The answer is exact, and gives the plain lock's next state
+/// (`Gives`).
+///
+/// # Examples
+/// ```
+/// equal(&rt, rw::ask(2), 6);
+/// equal(&rt, rw::ask(10), 14);
+/// ```
 pub fn ask(word: usize) -> usize
     requires { tells upgradable word ≡ true }
     ensures exact { result ≡ turned upgradable asking word }
@@ -90,7 +146,16 @@ pub fn ask(word: usize) -> usize
     word + ASKING
 }
 
-/// The word after the reader that asked has become the writer, or `None` beside another holder.
+/// Returns the word after the reader that asks becomes the writer, or `None` beside another holder.
+///
+/// # Contract
+/// The answer is exact, and decides as the plain lock does (`Decides`).
+///
+/// # Examples
+/// ```
+/// equal(&rt, rw::upgrade_asked(14), None);
+/// equal(&rt, rw::upgrade_asked(6), Some(1));
+/// ```
 pub fn upgrade_asked(word: usize) -> Option<usize>
     ensures exact { result ≡ upgrade_asked word }
     ensures plain { (s : Plain) (party : ℕ) → OneOfEach s → is_holder party asking s.holders ≡ true → rw_word s ≡ word → Decides s (gets party to_upgrade_asked) rw_word result }
@@ -102,7 +167,15 @@ pub fn upgrade_asked(word: usize) -> Option<usize>
     }
 }
 
-/// The word after a reader has gone.
+/// Returns the word after a reader releases the lock.
+///
+/// # Contract
+/// The word shows a reader. The answer is exact, and gives the plain lock's next state (`Gives`).
+///
+/// # Examples
+/// ```
+/// equal(&rt, rw::release_read(18), 10);
+/// ```
 pub fn release_read(word: usize) -> usize
     requires { tells reading word ≡ true }
     ensures exact { result ≡ released reading word }
@@ -111,7 +184,16 @@ pub fn release_read(word: usize) -> usize
     word - READER
 }
 
-/// The word after the upgradable reader has gone.
+/// Returns the word after the upgradable reader releases the lock.
+///
+/// # Contract
+/// The word shows an upgradable reader that has not asked. The answer is exact, and gives the plain lock's next state
+/// (`Gives`).
+///
+/// # Examples
+/// ```
+/// equal(&rt, rw::release_upgradable(10), 8);
+/// ```
 pub fn release_upgradable(word: usize) -> usize
     requires { tells upgradable word ≡ true }
     ensures exact { result ≡ released upgradable word }
@@ -120,7 +202,15 @@ pub fn release_upgradable(word: usize) -> usize
     word - UPGRADABLE
 }
 
-/// The word after the writer has gone.
+/// Returns the word after the writer releases the lock.
+///
+/// # Contract
+/// The word shows a writer. The answer is exact, and gives the plain lock's next state (`Gives`).
+///
+/// # Examples
+/// ```
+/// equal(&rt, rw::release_write(1), 0);
+/// ```
 pub fn release_write(word: usize) -> usize
     requires { tells writing word ≡ true }
     ensures exact { result ≡ released writing word }
@@ -129,7 +219,15 @@ pub fn release_write(word: usize) -> usize
     word - WRITER
 }
 
-/// The word after the writer has become a reader.
+/// Returns the word after the writer becomes a reader.
+///
+/// # Contract
+/// The word shows a writer. The answer is exact, and gives the plain lock's next state (`Gives`).
+///
+/// # Examples
+/// ```
+/// equal(&rt, rw::write_to_read(1), 8);
+/// ```
 pub fn write_to_read(word: usize) -> usize
     requires { tells writing word ≡ true }
     ensures exact { result ≡ turned writing reading word }
@@ -138,7 +236,15 @@ pub fn write_to_read(word: usize) -> usize
     word + (READER - WRITER)
 }
 
-/// The word after the writer has become the upgradable reader.
+/// Returns the word after the writer becomes the upgradable reader.
+///
+/// # Contract
+/// The word shows a writer. The answer is exact, and gives the plain lock's next state (`Gives`).
+///
+/// # Examples
+/// ```
+/// equal(&rt, rw::write_to_upgradable(1), 2);
+/// ```
 pub fn write_to_upgradable(word: usize) -> usize
     requires { tells writing word ≡ true }
     ensures exact { result ≡ turned writing upgradable word }
@@ -147,7 +253,16 @@ pub fn write_to_upgradable(word: usize) -> usize
     word + (UPGRADABLE - WRITER)
 }
 
-/// The word after the upgradable reader has become a reader.
+/// Returns the word after the upgradable reader becomes a reader.
+///
+/// # Contract
+/// The word shows an upgradable reader that has not asked, and fewer other readers than [`MAX_READERS`]. The answer is
+/// exact, and gives the plain lock's next state (`Gives`).
+///
+/// # Examples
+/// ```
+/// equal(&rt, rw::upgradable_to_read(10), 16);
+/// ```
 pub fn upgradable_to_read(word: usize) -> usize
     requires kind { tells upgradable word ≡ true }
     requires within { word / weight reading < reader_limit }
@@ -157,7 +272,17 @@ pub fn upgradable_to_read(word: usize) -> usize
     word + (READER - UPGRADABLE)
 }
 
-/// How many read, who may upgrade included, whether it has asked or not.
+/// Returns how many threads read, with the upgradable reader, whether or not it asks.
+///
+/// # Contract
+/// The answer is exact, and that of the plain lock.
+///
+/// # Examples
+/// ```
+/// equal(&rt, (rw::readers(10), rw::writers(10)), (2, 0));
+/// equal(&rt, (rw::readers(14), rw::writers(14)), (2, 0));
+/// equal(&rt, (rw::readers(18), rw::writers(18)), (3, 0));
+/// ```
 pub fn readers(word: usize) -> usize
     ensures exact { result ≡ readers_in word }
     ensures plain { (s : Plain) → OneOfEach s → rw_word s ≡ word → result ≡ reader_count s.holders }
@@ -165,7 +290,16 @@ pub fn readers(word: usize) -> usize
     word / READER + word % ASKING / UPGRADABLE
 }
 
-/// How many write: one at most.
+/// Returns how many threads write: 0 or 1.
+///
+/// # Contract
+/// The answer is exact, and that of the plain lock.
+///
+/// # Examples
+/// ```
+/// equal(&rt, (rw::readers(0), rw::writers(0)), (0, 0));
+/// equal(&rt, (rw::readers(1), rw::writers(1)), (0, 1));
+/// ```
 pub fn writers(word: usize) -> usize
     ensures exact { result ≡ writers_in word }
     ensures plain { (s : Plain) → OneOfEach s → rw_word s ≡ word → result ≡ count_kind writing s.holders }

@@ -1,12 +1,22 @@
-//! Tickets: each party takes the next number, and enters once its number is served.
+//! Tickets: each thread takes the next number, and enters when its number is served. Begin with [`take`].
 ghost use Rattle.std.specs.Prelude.{◌≡◌, ◌<◌, ◌≤◌, ◌+◌, ◌==◌, ℕ, Some, None, length, nat_lt, if◌then◌else◌};
 ghost use Rattle.spin_step.specs.Plain.{Plain, ticket_limit, gets, serves, to_take_ticket, to_take_and_enter, next_word, serving_word};
 ghost use Rattle.spin_step.specs.Steps.{Decides, Gives};
 ghost use Rattle.spin_step.specs.Tickets.{IsTurn, take, served};
 
-/// The next ticket's number after a party has taken the ticket `next`, or `None` where tickets are used up.
+/// Returns the number of the next ticket after a thread takes ticket `next`, or `None` if no number is left.
 ///
-/// Where nobody stands in the queue, the party that takes the ticket enters with it.
+/// If the queue is empty, the thread enters with the ticket that it takes.
+///
+/// # Contract
+/// The answer is exact, and decides as the plain lock does (`Decides`). If `next` is served, it also decides as a plain
+/// step that takes the ticket and enters at once.
+///
+/// # Examples
+/// ```
+/// equal(&rt, ticket::take(u64::MAX - 1), Some(u64::MAX));
+/// equal(&rt, ticket::take(u64::MAX), None);
+/// ```
 pub fn take(next: u64) -> Option<u64>
     ensures exact { result ≡ take next }
     ensures plain { (s : Plain) (party : ℕ) → next_word s ≡ next → Decides s (gets party to_take_ticket) next_word result }
@@ -19,7 +29,10 @@ pub fn take(next: u64) -> Option<u64>
     }
 }
 
-/// The number that is served after the party with this ticket has gone.
+/// Returns the number that is served after the thread with `ticket` leaves.
+///
+/// # Contract
+/// The ticket is below the limit of tickets. The answer is exact, and gives the plain lock's next state (`Gives`).
 pub fn serve(ticket: u64) -> u64
     requires { ticket < ticket_limit }
     ensures exact { result ≡ served ticket }
@@ -28,7 +41,10 @@ pub fn serve(ticket: u64) -> u64
     ticket + 1
 }
 
-/// Whether the party with this ticket may enter.
+/// Returns `true` if the thread with `ticket` may enter while `serving` is served.
+///
+/// # Contract
+/// The answer is exact: the plain lock lets the thread enter if it is `true`, and only then (`IsTurn`).
 pub fn is_turn(serving: u64, ticket: u64) -> bool
     ensures exact { result ≡ (serving == ticket) }
     ensures plain { IsTurn serving ticket result }
