@@ -1,6 +1,8 @@
-//! One raw cell under all locks: one word or two and a value, under a rule over plain data. A lock says what its parties are
-//! (a *view* each) and what holds of the words and of all views between any two steps; each step owes one fact about
-//! plain data, that it keeps that rule.
+//! One raw cell under all locks: one word or two and a value, under a rule over plain data. Begin with [`Rule`], and
+//! with [`Cell::enter`] and [`Permit`].
+//!
+//! A lock says what each of its parties is to it (a *view*), and what holds of the words and of all views between any
+//! two steps. For each kind of step it owes one fact about plain data: that the step keeps this rule.
 ghost use Rattle.std.specs.Prelude.{◌≡◌, ◌≢◌, ◌+◌, ◌-◌, ◌%◌, ◌^◌, ◌==◌, ℕ, List, [], Option, bit_or};
 ghost use Rattle.std.specs.Coded.{coded_option};
 ghost use prog.Atomic.{either};
@@ -16,26 +18,61 @@ use std::sync::atomic::raw;
 mod goes;
 pub mod settled;
 
-/// What holds of a cell's words and of what its parties are, between any two steps. `V` is what a party is to the
-/// lock, a plain `Copy` enum of the lock's own, and `T` the value's type.
+/// A rule: what holds of a cell's words and of its parties between any two steps.
+///
+/// `V` is what a party is to the lock, a plain `Copy` enum of the lock's own, and `T` the value's type.
+///
+/// # Examples
+/// ```
+/// impl<const N: usize> Rule<(), View> for SeatsRule<N> {
+///     type Key = ();
+///
+///     type Second = ();
+///
+///     ghost holds = { IsSeats N };
+///
+///     ghost ways = { λ _. seat_ways };
+/// }
+/// ```
 pub trait Rule<T, V> {
-    // What is settled of a cell when it is made, as the closure that a lazy value comes from.
+    // What is settled when a cell is made, as the closure of a lazy value.
     type Key;
-    // The second word, or nothing: a cell has no room for what is nothing.
+    // The second word, or nothing: then the cell has no room for it.
     type Second;
     // Of the first word, the second or nothing, and the views of all parties that ever came.
     ghost holds: { ℕ → Self.Second → List V → Type 0 };
-    // Whether parties may read the value beside one another, and how a party with a given view may use it.
+    // Whether parties may read the value at the same time, and how a party with a given view may use it.
     ghost ways: { Self.Key → Ways T V };
 }
 
-/// What one kind of step tells its caller.
+/// A kind of step, by what it tells its caller.
+///
+/// # Examples
+/// ```
+/// impl Play<View> for GetUp {
+///     ghost then = { becomes Idle };
+/// }
+/// ```
 pub trait Play<V> {
     // Of the operands (0 where there is none), the view before, the number found and the view after.
     ghost then: { ℕ → ℕ → Option V → ℕ → V → Type 0 };
 }
 
-/// A word, a value, and a second word or nothing. Only a party with a permit touches the value. In a clause it is its key.
+/// A cell: a word, a value, and a second word or nothing. Only a party with a permit touches the value.
+///
+/// In a clause a cell is its key.
+///
+/// # Examples
+/// ```
+/// let (found, permit) = self
+///     .cell
+///     .enter()
+///     .exchange::<SitDown>(word as u64, next as u64);
+/// if found == word as u64 {
+///     return Some(Ok(SeatGuard { permit }));
+/// }
+/// permit.leave();
+/// ```
 pub struct Cell<T, V, P: Rule<T, V>> {
     marker: PhantomData<(V, P)>,
     first: u64,
@@ -55,8 +92,11 @@ impl<T, V, P: Rule<T, V>> Move for Cell<T, V, P> {
     ghost own_val = { λ key vs. cell_owns P.row T.row V.row.coded.code P.Second.row P.holds (P.ways key) (λ n m x. Fields.own_val (record { marker = record {}; first = n; value = x; second = m }) vs) };
 }
 
-/// What a party may do: `view` is what it is to the lock, `None` until its first step, and `value` is shown where its
-/// view reads or writes. It is not dropped: `leave` ends it where its party is at rest, and `leak` keeps a use of the value.
+/// A permit: what its party may do. `view` is what the party is to the lock, `None` until its first step. `value` is
+/// shown if that view reads or writes.
+///
+/// A permit cannot be dropped. [`leave`](Permit::leave) ends it if its party is at rest, and [`leak`](Permit::leak)
+/// keeps its use of the value.
 pub struct Permit<'a, T, V, P: Rule<T, V>> {
     cell: *const Cell<T, V, P>,
     marker: PhantomData<&'a T>,
@@ -71,7 +111,8 @@ impl<'a, T, V, P: Rule<T, V>> Model for Permit<'a, T, V, P> {
     ghost also_shares = { λ h _ κ. permit_shares P.row T.row V.row.coded.code P.Second.row P.holds (P.ways h.key) 'a h.cell h.view h.value κ };
 }
 
-/// The right to write, which its party has alone. `into_permit` turns it back, and `leak` keeps what it has.
+/// The right to write the value, which its party has alone. [`into_permit`](WritePermit::into_permit) turns it back,
+/// and [`leak`](WritePermit::leak) keeps it for good.
 pub struct WritePermit<'a, T, V, P: Rule<T, V>> {
     cell: *const Cell<T, V, P>,
     marker: PhantomData<&'a T>,
@@ -87,8 +128,12 @@ impl<'a, T, V, P: Rule<T, V>> Model for WritePermit<'a, T, V, P> {
 }
 
 impl<T, V, P: Rule<T, V>> Cell<T, V, P> {
-    /// A cell to which nobody has come; where a value is read for good it may have one, whose maker has gone. `known`
-    /// asks that whoever may share the rule's own type may share the value, where parties read it beside one another.
+    /// Creates a cell to which no party has come. If its value is read for good, it may have one from the start, whose
+    /// maker has left.
+    ///
+    /// # Contract
+    /// The rule holds of the words. If parties read the value at the same time, whoever may share the rule's own type
+    /// may share the value (`Known`).
     pub fn new(value: T, first: u64, second: P::Second, key: &P::Key) -> Cell<T, V, P>
         requires known { Known (P.ways key.now) P.row P.Second.row T.row }
         requires rule { Opens P.holds (P.ways key.now) first second value }
@@ -103,7 +148,7 @@ impl<T, V, P: Rule<T, V>> Cell<T, V, P> {
         }
     }
 
-    /// The value, whatever the words are.
+    /// Consumes the cell, and returns its value. It reads no word.
     pub fn into_inner(self) -> T {
         let Self {
             marker: _,
@@ -115,14 +160,17 @@ impl<T, V, P: Rule<T, V>> Cell<T, V, P> {
         value
     }
 
-    /// The value, whatever the words are: nobody else has the cell.
+    /// Returns a mutable reference to the value. It reads no word: the borrow shows that there is no permit.
+    ///
+    /// # Contract
+    /// Any value may take the place of one that no party uses (`Frees`).
     pub fn get_mut(&mut self) -> &mut T
         requires { Frees (P.ways self.old).0 }
     {
         &mut self.value
     }
 
-    /// A permit that has taken no step.
+    /// Returns a permit that has taken no step.
     pub fn enter(&self) -> Permit<'_, T, V, P>
         ensures key { result.key ≡ self.now }
         ensures fresh { (result.view ≡ None) × (result.value ≡ None) }
@@ -134,8 +182,9 @@ impl<T, V, P: Rule<T, V>> Cell<T, V, P> {
     }
 }
 
-/// Each step asks that whatever the words and the views are, the party has a next view that keeps the rule, and says
-/// what its `Play` says. A value that is shown before and after a step is the same.
+/// Steps on the first word. Each asks that the party has a next view that keeps the rule, whatever the words and the
+/// other views are, and of which its `Play` holds. Then that `Play` holds, and a value that is shown before and after
+/// is the same.
 impl<'a, T, V, P: Rule<T, V>> Permit<'a, T, V, P> {
     /// Reads the first word.
     pub fn load<M: Play<V>>(self) -> (u64, Permit<'a, T, V, P>)
@@ -155,7 +204,7 @@ impl<'a, T, V, P: Rule<T, V>> Permit<'a, T, V, P> {
         )
     }
 
-    /// Writes `new` over the first word where it is `old`, and returns the word as it was.
+    /// Writes `new` over the first word if it is `old`, and returns the word as it was.
     pub fn exchange<M: Play<V>>(self, old: u64, new: u64) -> (u64, Permit<'a, T, V, P>)
         requires { AllowsAt P.holds (P.ways self.key) self.view self.value (λ n. either (n == old) new n) (M.then old new self.view) }
         ensures moved { Moved (M.then old new self.entry.view result.0) result.1.view }
@@ -242,7 +291,7 @@ impl<'a, T, V, P: Rule<T, V>> Permit<'a, T, V, P> {
         )
     }
 
-    /// The value, for a party that reads it.
+    /// Returns a reference to the value, for a party that reads it.
     pub fn get(&self) -> &T
         requires { use_of (P.ways self.now.key).1 self.now.view ≡ reads }
         ensures { Some result.now ≡ self.now.value }
@@ -250,7 +299,8 @@ impl<'a, T, V, P: Rule<T, V>> Permit<'a, T, V, P> {
         unsafe { &(*self.cell).value }
     }
 
-    /// The value for the rest of the borrow of its cell, for a party that reads it. The party reads it for good.
+    /// Returns a reference to the value for the rest of the cell's borrow, for a party that reads it. The party reads
+    /// it for good.
     pub fn see(self) -> &'a T
         requires { use_of (P.ways self.key).1 self.view ≡ reads }
         ensures value { Some result.now ≡ self.entry.value }
@@ -260,7 +310,7 @@ impl<'a, T, V, P: Rule<T, V>> Permit<'a, T, V, P> {
         unsafe { &(*cell).value }
     }
 
-    /// The right to write the value, of a party that has it alone.
+    /// Turns the permit of a party that has the value alone into the right to write it.
     pub fn into_writer(self) -> WritePermit<'a, T, V, P>
         requires { use_of (P.ways self.key).1 self.view ≡ writes }
         ensures same { (Some result.view ≡ self.entry.view) × (Some result.value ≡ self.entry.value) }
@@ -273,15 +323,15 @@ impl<'a, T, V, P: Rule<T, V>> Permit<'a, T, V, P> {
         }
     }
 
-    /// The party goes. It has to be at rest: it does not use the value, and the rule holds as well without it.
+    /// Ends the permit. The party has to be at rest: it does not use the value, and the rule holds as well without it.
     pub fn leave(self)
         requires { Rests P.holds (P.ways self.key).1 self.view }
     {
         let Permit { cell: _, marker: _ } = self;
     }
 
-    /// The party keeps its use of the value for good, and nobody acts for it any more: a lock that it holds stays taken.
-    /// A party that only waits cannot stay: a queue would stop at it.
+    /// Ends the permit, and keeps its use of the value for good: a lock that the party holds stays held. A party that
+    /// only waits cannot do so, since a queue would stop at it.
     pub fn leak(self)
         requires { use_of (P.ways self.key).1 self.view ≢ off }
     {
@@ -289,7 +339,7 @@ impl<'a, T, V, P: Rule<T, V>> Permit<'a, T, V, P> {
     }
 }
 
-/// Steps on the second word, where there is one.
+/// Steps on the second word, if there is one.
 impl<'a, T, V, P: Rule<T, V, Second = u64>> Permit<'a, T, V, P> {
     /// Reads the second word.
     pub fn load_second<M: Play<V>>(self) -> (u64, Permit<'a, T, V, P>)
@@ -326,13 +376,14 @@ impl<'a, T, V, P: Rule<T, V, Second = u64>> Permit<'a, T, V, P> {
 }
 
 impl<'a, T, V, P: Rule<T, V>> WritePermit<'a, T, V, P> {
+    /// Returns a reference to the value.
     pub fn get(&self) -> &T
         ensures { result.now ≡ self.now.value }
     {
         unsafe { &(*self.cell).value }
     }
 
-    /// The value for the rest of the borrow of its cell. The party stays for good what it is.
+    /// Returns a mutable reference to the value for the rest of the cell's borrow. The party stays for good what it is.
     pub fn leak(self) -> &'a mut T
         ensures { result.now ≡ self.entry.value }
     {
@@ -340,6 +391,7 @@ impl<'a, T, V, P: Rule<T, V>> WritePermit<'a, T, V, P> {
         unsafe { &mut *(&raw const (*cell).value as *mut T) }
     }
 
+    /// Turns the right to write back into a permit.
     pub fn into_permit(self) -> Permit<'a, T, V, P>
         ensures use_of_view { (P.ways self.entry.key).1 self.entry.view ≡ writes }
         ensures same { (result.view ≡ Some self.entry.view) × (result.value ≡ Some self.entry.value) }
@@ -360,7 +412,7 @@ impl<T, V, P: Rule<T, V>> WritePermit<'_, T, V, P> {
     ghost use Rattle.spin_core.specs.contracts.cell.WritePermit.{the_row};
     ghost use Rattle.spin_core.specs.Writer.{with_value};
 
-    /// The value. What is written through it is the permit's value once the borrow ends.
+    /// Returns a mutable reference to the value. What is written through it is the permit's value when the borrow ends.
     pub fn get_mut(&mut self) -> &mut T
         ensures* writes_back { sem 𝓛 (follows (the_row (record { mir = named 1; lft = [] }) T.row V.row P.row P.Key.row P.Second.row (record { holds = P.holds; ways = P.ways })) T.row self.entry.ghost_name result.ghost_name (with_value self.old)) }
         ensures value { result.now ≡ self.old.value }
@@ -369,7 +421,7 @@ impl<T, V, P: Rule<T, V>> WritePermit<'_, T, V, P> {
     }
 }
 
-// Spends what stands for the second word, of a type that need not be `Drop`: it is a number, or nothing.
+// Forgets what stands for the second word, whose type need not be `Drop`: it is a number, or nothing.
 fn let_go<S>(second: S) {
     let _gone = unsafe { ManuallyDrop::new_unchecked(second) };
 }
@@ -380,20 +432,20 @@ impl<T: Drop, V, P: Rule<T, V>> Drop for Cell<T, V, P> {
     }
 }
 
-// SAFETY: who has the cell has the value, and nobody else has a permit.
+// SAFETY: the owner of the cell has the value, and there is no permit.
 unsafe impl<T: Send, V, P: Rule<T, V>> Send for Cell<T, V, P> {}
 
-// SAFETY: steps on the words are atomic, and the value goes from party to party, in whatever threads they are. Where parties
-// read it beside one another, `Known` asks that whoever may share the rule may share the value.
+// SAFETY: steps on the words are atomic, and the value goes from party to party, in whatever threads they are. If
+// parties read it at the same time, `Known` asks that whoever may share the rule may share the value.
 unsafe impl<T: Send, V, P: Rule<T, V> + Sync> Sync for Cell<T, V, P> {}
 
-// SAFETY: any thread may take the party's next step, and by it come to the value.
+// SAFETY: any thread may take the party's next step, and by it reach the value.
 unsafe impl<T: Send, V, P: Rule<T, V> + Sync> Send for Permit<'_, T, V, P> {}
 
-// SAFETY: a `&` to a permit shows the value only where its view reads, and of that `Known` asks what the cell asks.
+// SAFETY: a `&` to a permit shows the value only if its view reads, and of that `Known` asks what the cell asks.
 unsafe impl<T, V, P: Rule<T, V> + Sync> Sync for Permit<'_, T, V, P> {}
 
-// SAFETY: its new thread has the value to itself, as its old one had.
+// SAFETY: its new thread has the value alone, as its old one had.
 unsafe impl<T: Send, V, P: Rule<T, V> + Sync> Send for WritePermit<'_, T, V, P> {}
 
 // SAFETY: a `&` to it lends a `&T` and no more.

@@ -1,4 +1,4 @@
-//! Laws of the lock. Each is the contract of a function that does nothing.
+//! Laws of the lock. Each is the contract of a function that does nothing, so none has an example.
 ghost use Rattle.std.specs.Prelude.{◌≡◌, ◌≤◌, ◌+◌, ◌-◌, ◌%◌, ◌^◌, ℕ, List};
 ghost use Rattle.spin_seats.specs.declared.seats.rule.View.{View};
 ghost use Rattle.spin_step.specs.Plain.{reading};
@@ -6,13 +6,14 @@ ghost use Rattle.spin_core.specs.Views.{holds, part_at};
 ghost use Rattle.spin_seats.specs.Seats.{left};
 ghost use Rattle.spin_seats.specs.Rule.{IsSeats, part, seated};
 
-/// Where the rule of a lock of `n` seats holds, its word is the number of the parties that sit, and that is at most `n`.
+/// States that where the rule of a lock of `n` seats holds, its word is the number of parties that sit, and that is at
+/// most `n`.
 pub fn no_more_sit_than_there_are_seats()
     ensures { (n word : ℕ) (views : List View) → IsSeats n word tt views → (word ≡ seated views) × (word ≤ n) }
 {}
 
-/// Who sits gets up by a subtraction, which does not see the word. On each word that the rule allows it makes what the step
-/// function gives there.
+/// States that a subtraction is the step function. Who frees a seat subtracts without a look at the word, and on each
+/// word that the rule allows that gives what the step function gives.
 pub fn a_subtraction_is_its_step_function()
     ensures { (n word : ℕ) (views : List View) (p : ℕ) → IsSeats n word tt views → part_at part views p ≡ holds reading → (1 ≤ word) × ((word + (2 ^ 64 - 1)) % 2 ^ 64 ≡ left word) }
 {}

@@ -1,4 +1,4 @@
-//! A spinning lock of `N` seats: a counting semaphore.
+//! A spinning lock of `N` seats: a counting semaphore. Begin with [`Seats::new`] and [`Seats::enter`].
 ghost use Rattle.std.specs.Prelude.{◌≡◌, ◌≤◌, Some};
 ghost use Rattle.spin_seats.specs.Seats.{seats};
 ghost use Rattle.spin_seats.specs.declared.seats.rule.View.TheVariants.{Seated};
@@ -11,28 +11,67 @@ use std::sync::Wait;
 
 mod rule;
 
-/// A lock of `N` seats, and at most [`MAX_SEATS`](steps::MAX_SEATS): no more guards of it stand at a time. Who waits for a
-/// seat is not served in turn.
+/// A lock of `N` seats, but of no more than [`MAX_SEATS`](steps::MAX_SEATS): at most so many threads have a guard at
+/// the same time.
+///
+/// Waiting threads may overtake one another.
+///
+///
+/// # Examples
+/// ```
+/// let seats: Seats<2> = Seats::new();
+/// equal(&rt, seats.count(), 0);
+/// let first = seats.try_enter(&rt).expect(&rt, "two are free");
+/// let second = seats.enter(&rt);
+/// equal(&rt, seats.count(), 2);
+/// ```
 #[derive(Drop)]
 pub struct Seats<const N: usize> {
     cell: Cell<(), View, SeatsRule<N>>,
 }
 
-/// A seat. Dropping it frees it.
+/// A seat of a [`Seats`]. Dropping it frees the seat.
+///
+/// # Examples
+/// ```
+/// let guard = seats.enter(rt);
+/// equal(rt, inside.fetch_add(1, Ordering::SeqCst) < 2, true);
+/// inside.fetch_sub(1, Ordering::SeqCst);
+/// drop(guard);
+/// ```
 pub struct SeatGuard<'a, const N: usize> {
     permit: Permit<'a, (), View, SeatsRule<N>>,
     ghost sits: { permit.view ≡ Some Seated },
 }
 
 impl<const N: usize> Seats<N> {
-    /// A lock whose seats are all free.
+    /// Creates a lock whose seats are all free.
+    ///
+    /// # Examples
+    /// ```
+    /// let seats: Seats<2> = Seats::new();
+    /// equal(&rt, seats.count(), 0);
+    /// ```
     pub fn new() -> Self {
         Seats {
             cell: Cell::new((), 0, (), &()),
         }
     }
 
-    /// How many seats are taken at the moment of its one load: at most `N`, and at most [`MAX_SEATS`](steps::MAX_SEATS).
+    /// Returns how many seats were taken at some moment during this call. By the time the caller reads the answer it
+    /// may be out of date.
+    ///
+    /// # Contract
+    /// The answer is at most `N`, and at most [`MAX_SEATS`](steps::MAX_SEATS).
+    ///
+    ///
+    /// # Examples
+    /// ```
+    /// equal(&rt, seats.count(), 2);
+    /// equal(&rt, seats.try_enter(&rt).is_none(), true);
+    /// drop(first);
+    /// equal(&rt, seats.count(), 1);
+    /// ```
     pub fn count(&self) -> usize
         ensures { result ≤ seats N }
     {
@@ -41,8 +80,19 @@ impl<const N: usize> Seats<N> {
         found as usize
     }
 
-    /// Takes a seat, or refuses where all are taken. It tries again only where another party changed the word, and
-    /// promises nothing about when it returns.
+    /// Tries to take a seat. Returns `None` if all are taken.
+    ///
+    /// It tries again if another thread changed the word meanwhile.
+    ///
+    /// # Contract
+    /// Whether and when the call returns is not promised.
+    ///
+    ///
+    /// # Examples
+    /// ```
+    /// let third = seats.try_enter(&rt).expect(&rt, "one is free");
+    /// equal(&rt, seats.try_enter(&rt).is_none(), true);
+    /// ```
     pub fn try_enter<W: Wait>(&self, rt: &W) -> Option<SeatGuard<'_, N>> {
         let mut word = self.count();
         for _ in rt.forever() {
@@ -54,7 +104,19 @@ impl<const N: usize> Seats<N> {
         unreachable!()
     }
 
-    /// Takes a seat, and relaxes while all are taken. Nothing is promised about when it returns.
+    /// Takes a seat, spinning until one is free. The thread backs off: each pause between two tries is longer than the
+    /// last, up to a limit.
+    ///
+    /// # Contract
+    /// Whether and when the call returns is not promised.
+    ///
+    ///
+    /// # Examples
+    /// ```
+    /// let first = seats.try_enter(&rt).expect(&rt, "two are free");
+    /// let second = seats.enter(&rt);
+    /// equal(&rt, seats.count(), 2);
+    /// ```
     pub fn enter<W: Wait>(&self, rt: &W) -> SeatGuard<'_, N> {
         match self.try_enter(rt) {
             Some(guard) => guard,
@@ -62,7 +124,7 @@ impl<const N: usize> Seats<N> {
         }
     }
 
-    // Takes a seat at this word, or tells which word it found in its place.
+    // Tries to take a seat at this word. Returns the word that it found if that is another.
     fn enter_at(&self, word: usize) -> Option<Result<SeatGuard<'_, N>, usize>> {
         let next = steps::enter(word, N)?;
         let (found, permit) = self
@@ -77,7 +139,7 @@ impl<const N: usize> Seats<N> {
     }
 }
 
-/// A lock whose seats are all free.
+/// Creates a lock whose seats are all free.
 impl<const N: usize> Default for Seats<N> {
     fn default() -> Self {
         Self::new()

@@ -1,4 +1,4 @@
-//! Seats in one word: how many are taken.
+//! Step functions of seats in one word: how many are taken. Begin with [`enter`].
 ghost use Rattle.std.specs.Prelude.{◌≡◌, ◌≤◌, ℕ};
 ghost use Rattle.spin_step.specs.Plain.{Plain, gets, releases, to_read, reading};
 ghost use Rattle.spin_step.specs.Steps.{Decides, Gives};
@@ -7,7 +7,16 @@ ghost use Rattle.spin_seats.specs.Seats.{AllRead, entered, left, seats, seats_wo
 /// The most seats that a lock has, however many it is asked to have.
 pub const MAX_SEATS: usize = usize::MAX / 8;
 
-/// The word after a party has sat down, or `None` where all seats are taken.
+/// Returns the word after a thread takes a seat, or `None` if all are taken.
+///
+/// # Contract
+/// The answer is exact, and decides as a plain lock of readers does whose cap is the number of seats (`Decides`).
+///
+///
+/// # Examples
+/// ```
+/// let next = steps::enter(word, N)?;
+/// ```
 pub fn enter(word: usize, room: usize) -> Option<usize>
     ensures exact { result ≡ entered room word }
     ensures plain { (s : Plain) (party : ℕ) → AllRead s → s.cap ≡ seats room → seats_word s ≡ word → Decides s (gets party to_read) seats_word result }
@@ -19,7 +28,10 @@ pub fn enter(word: usize, room: usize) -> Option<usize>
     }
 }
 
-/// The word after a party that sat has gone.
+/// Returns the word after a thread frees its seat.
+///
+/// # Contract
+/// A seat is taken. The answer is exact, and gives the plain lock's next state (`Gives`).
 pub fn leave(word: usize) -> usize
     requires { 1 ≤ word }
     ensures exact { result ≡ left word }

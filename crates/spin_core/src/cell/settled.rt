@@ -1,11 +1,20 @@
-//! What a cell lends to its owner of a value that has to stay what it has come to.
+//! What a cell lends its owner of a value that has to stay what it has become. Begin with [`Settles`].
 ghost use Rattle.std.specs.Prelude.{◌≡◌, Bool, true};
 
 use super::{Cell, Rule};
 
-/// What a value may come to, and then has to stay.
+/// What a value may become, and then has to stay.
+///
+/// # Examples
+/// ```
+/// impl<T, S> Settles for Stage<T, S> {
+///     ghost use Rattle.spin_once.specs.Once.{is_done};
+///
+///     ghost settled = { is_done };
+/// }
+/// ```
 pub trait Settles {
-    // Whether it has come to it.
+    // Whether it has become that.
     ghost settled: { Self → Bool };
 }
 
@@ -24,7 +33,17 @@ pub struct Settled<T: Settles> {
 impl<T: Settles, V, P: Rule<Loose<T>, V>> Cell<Loose<T>, V, P> {
     ghost use Rattle.spin_core.specs.Settled.{SettlesAt};
 
-    /// The value, where the first word is this one: then it is settled, and stays so. Nobody else has the cell.
+    /// Returns a mutable reference to the value if the first word is `first`. The borrow shows that there is no permit.
+    ///
+    /// # Contract
+    /// Where the rule holds of that word the value is settled (`SettlesAt`), and stays so.
+    ///
+    ///
+    /// # Examples
+    /// ```
+    /// let settled = self.cell.get_settled(COMPLETE as u64)?;
+    /// Some(Stage::made(settled))
+    /// ```
     pub fn get_settled(&mut self, first: u64) -> Option<&mut Settled<T>>
         requires { SettlesAt P.holds (P.ways self.old) T.settled first }
     {

@@ -1,4 +1,5 @@
-//! What the parties of a lock of seats are, what its word says of them, and each kind of step.
+//! The rule of a lock of seats: what each party is to it ([`View`]), what its word says of all of them, and each kind
+//! of step.
 ghost use Rattle.spin_core.specs.Plays.{becomes, exchanges};
 ghost use Rattle.spin_seats.specs.Rule.{IsSeats, looks, seat_ways};
 ghost use Rattle.spin_seats.specs.declared.seats.rule.View.TheVariants.{Idle, Seated};
@@ -12,7 +13,7 @@ pub enum View {
     Seated,
 }
 
-/// The word is the number of the parties that sit, at most `N`.
+/// The rule: the word is the number of parties that sit, and that is at most `N`.
 pub struct SeatsRule<const N: usize>;
 
 impl<const N: usize> Rule<(), View> for SeatsRule<N> {
@@ -25,21 +26,21 @@ impl<const N: usize> Rule<(), View> for SeatsRule<N> {
     ghost ways = { λ _. seat_ways };
 }
 
-/// A party comes and sits down nowhere. It finds no more than `N` sitting.
+/// A party comes, and takes no seat. It finds that at most `N` sit.
 pub(super) struct Look<const N: usize>;
 
 impl<const N: usize> Play<View> for Look<N> {
     ghost then = { looks N };
 }
 
-/// A party comes, and sits where it found the word that it expected.
+/// A party comes, and sits if it finds the word that it expects.
 pub(super) struct SitDown;
 
 impl Play<View> for SitDown {
     ghost then = { exchanges (λ _. Seated) Idle };
 }
 
-/// A party that sat goes.
+/// A party that sits goes.
 pub(super) struct GetUp;
 
 impl Play<View> for GetUp {
