@@ -1,25 +1,26 @@
-//! What a pass knows. No value of these types is made: they are what clauses speak of, and cost nothing.
+//! What a pass knows. No value of these types is made: clauses speak of them, and they cost nothing. Begin with
+//! [`Known`].
 use atomic_table::{Join, Split};
 use std::collections::LinkedList;
 
-/// One call of a history: which pass made it, and what it was answered.
+/// One call of a history: which pass made it, and its answer.
 pub struct Entry<C, A> {
     pub pass: usize,
     pub call: C,
     pub answer: A,
 }
 
-/// What a pass knows: what the lock was opened with, the pass's own number, and a history.
+/// What a pass knows: what the lock was opened with, the number of the pass, and a history.
 pub struct Known<K, C, A> {
     pub opening: K,
     pub pass: usize,
     pub seen: LinkedList<Entry<C, A>>,
 }
 
-/// What a seat at the table knows, for each of the passes that it stands for.
+/// What a seat at the table knows, of each pass that it stands for.
 pub type View<K, C, A> = LinkedList<Known<K, C, A>>;
 
-/// The first pass of a view goes to a seat of its own.
+/// The first pass of a view gets a seat of its own.
 pub(crate) struct First;
 
 impl<K, C, A> Split<View<K, C, A>> for First {
@@ -30,7 +31,7 @@ impl<K, C, A> Split<View<K, C, A>> for First {
     ghost right = { λ v. take 1 v };
 }
 
-/// A seat stands for the passes of two.
+/// One seat stands for the passes of two.
 pub(crate) struct Both;
 
 impl<K, C, A> Join<View<K, C, A>> for Both {

@@ -1,5 +1,5 @@
-//! A lock on a table of two words, whose calls stand in one history. What a call may be, and what it is answered, each lock
-//! says by a machine of plain answers.
+//! A lock on a table of two words, whose calls stand in one history. Begin with [`SeatedLock`]; each lock says by a
+//! machine of plain answers which calls may be made and what they answer ([`Calls`]).
 ghost use Rattle.std.specs.Prelude.{◌≡◌, ℕ};
 ghost use Rattle.spin_seated.specs.Histories.{Machine};
 ghost use Rattle.spin_seated.specs.Locked.{Locked, IsLock};
@@ -16,14 +16,14 @@ mod steps;
 pub use self::pass::{Pass, Place};
 pub(crate) use self::steps::Tells;
 
-/// What `new` was handed.
+/// What `new` was called with.
 #[derive(Clone, Copy)]
 pub struct Opening {
     pub value: u64,
     pub passes: usize,
 }
 
-/// What a call is answered.
+/// What a call answers.
 #[derive(Clone, Copy)]
 pub enum Answer {
     Truth(bool),
@@ -32,6 +32,21 @@ pub enum Answer {
 }
 
 /// The calls of a lock, which say what lock it is.
+///
+/// # Examples
+/// ```
+/// impl Calls for Call {
+///     type Hold = bool;
+///
+///     ghost machine = { mutex };
+///
+///     fn nothing() -> bool {
+///         false
+///     }
+///
+///     fn laws() {}
+/// }
+/// ```
 pub trait Calls {
     /// What a pass may hold.
     type Hold: Copy;
@@ -42,16 +57,34 @@ pub trait Calls {
     // The plain lock: which calls a pass may make, what they are answered, and what a pass holds after them.
     ghost machine: { Machine Opening Locked Self Answer Self.Hold };
 
-    /// What a pass holds that has made no call.
+    /// Returns what a pass holds that has made no call.
+    ///
+    /// # Contract
+    /// It is what each pass holds in the machine's first state.
+    ///
+    /// # Examples
+    /// ```
+    /// fn nothing() -> Option<SeatedHold> {
+    ///     None
+    /// }
+    /// ```
     fn nothing() -> Self::Hold
         ensures { (k : Opening) (p : ℕ) → machine.holds p (machine.start k) ≡ result };
 
-    /// The laws. It does nothing.
+    /// Does nothing.
+    ///
+    /// # Contract
+    /// The machine is that of a lock (`IsLock`).
+    ///
+    /// # Examples
+    /// ```
+    /// fn laws() {}
+    /// ```
     fn laws()
         ensures { IsLock machine };
 }
 
-/// The words are those of the plain lock after one legal history. No value of this type is made.
+/// The rule of the table: its words are those of the plain lock after one legal history. No value of it is made.
 pub struct Law<C> {
     calls: PhantomData<C>,
 }
@@ -65,6 +98,12 @@ impl<C: Calls> TableRule<u64, View<Opening, C, Answer>, Opening> for Law<C> {
 }
 
 /// A lock of one number, whose calls `C` stand in one history. The first word is the lock's, the second the value.
+///
+///
+/// # Examples
+/// ```
+/// let opened = SeatedLock::<C, &Bump>::new(arena, 5, 2);
+/// ```
 #[derive(Drop)]
 pub struct SeatedLock<C: Calls, A: Allocator = Global> {
     table: Table<u64, View<Opening, C, Answer>, Opening, Law<C>, A>,

@@ -1,4 +1,4 @@
-//! A mutex of one flag and one number, whose callers know what they did.
+//! A mutex of one flag and one number, whose callers can prove what happened. Begin with [`SeatedMutex`] and [`Pass`].
 ghost use Rattle.spin_seated.specs.Mutex.{mutex};
 
 use crate::lock::{self, Calls, SeatedLock};
@@ -9,7 +9,7 @@ mod plays;
 
 pub use crate::lock::{Answer, Opening};
 
-/// What a pass can ask of a `SeatedMutex`.
+/// A call of a `SeatedMutex`, as it stands in a history.
 #[derive(Clone, Copy)]
 pub enum Call {
     TryLock,
@@ -31,8 +31,19 @@ impl Calls for Call {
     fn laws() {}
 }
 
-/// A lock of one number, whose calls stand in one history.
+/// A mutex of one number, whose calls stand in one history.
+///
+/// Like a `Mutex`, and callers can also prove what happened, not only what holds now.
+///
+///
+/// # Examples
+/// ```
+/// let (lock, mut first, mut second) = open_for_two(rt.alloc(), 5).expect(&rt, "memory");
+/// assert!(rt; lock.try_lock(&mut first));
+/// assert!(rt; !lock.try_lock(&mut second));
+/// assert!(rt; lock.is_locked(&mut second));
+/// ```
 pub type SeatedMutex<A = Global> = SeatedLock<Call, A>;
 
-/// A place among the callers of one `SeatedMutex`; `holds` says whether it holds the lock.
+/// A place among the callers of one `SeatedMutex`. `holds` says whether it holds the lock.
 pub type Pass = lock::Pass<Call>;

@@ -1,4 +1,5 @@
-//! A lock of one number for readers beside one another, or for one writer, whose callers know what they did.
+//! A lock of one number for many readers or one writer, whose callers can prove what happened. Begin with
+//! [`SeatedRwLock`] and [`RwPass`].
 ghost use Rattle.spin_seated.specs.Rw.{rw};
 
 use crate::lock::{self, Calls, SeatedLock};
@@ -17,7 +18,7 @@ pub enum SeatedHold {
     Write,
 }
 
-/// What a pass can ask of a `SeatedRwLock`.
+/// A call of a `SeatedRwLock`, as it stands in a history.
 #[derive(Clone, Copy)]
 pub enum Call {
     TryRead,
@@ -43,8 +44,16 @@ impl Calls for Call {
     fn laws() {}
 }
 
-/// A lock of one number that many read or one writes, whose calls stand in one history.
+/// A lock of one number for many readers or one writer, whose calls stand in one history.
+///
+/// # Examples
+/// ```
+/// let (lock, mut a, mut b, mut c) = open_for_three(rt.alloc(), 5).expect(&rt, "memory");
+/// assert!(rt; lock.try_read(&rt, &mut a));
+/// assert!(rt; lock.try_read(&rt, &mut b));
+/// assert!(rt; !lock.try_write(&mut c));
+/// ```
 pub type SeatedRwLock<A = Global> = SeatedLock<Call, A>;
 
-/// A place among the callers of one `SeatedRwLock`; `holds` says how it holds the lock.
+/// A place among the callers of one `SeatedRwLock`. `holds` says how it holds the lock.
 pub type RwPass = lock::Pass<Call>;

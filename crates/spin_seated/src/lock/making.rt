@@ -1,4 +1,4 @@
-//! How a lock and its passes are made.
+//! How a lock and its passes are made: [`SeatedLock::new`].
 ghost use Rattle.std.specs.Prelude.{◌≡◌, ◌<◌, IfOk};
 ghost use Rattle.spin_seated.specs.Passes.{opening_of, all_passes_of};
 
@@ -8,7 +8,23 @@ use atomic_table::Table;
 use std::alloc::{AllocError, Allocator};
 
 impl<C: Calls, A: Allocator> SeatedLock<C, A> {
-    /// A lock that nobody holds, and the passes to call it with, numbered from 0 on.
+    /// Creates a lock that no pass holds, and its passes, numbered from 0 on. Fails if there is no memory.
+    ///
+    /// # Contract
+    /// There is at least one pass. The lock was opened with `value` and so many passes, and these are all its passes,
+    /// none of which has made a call.
+    ///
+    /// # Examples
+    /// ```
+    /// let (lock, mut passes) = SeatedMutex::new(alloc, value, 2)?;
+    /// let Some(second) = passes.pop() else {
+    ///     unreachable!()
+    /// };
+    /// let Some(first) = passes.pop() else {
+    ///     unreachable!()
+    /// };
+    /// Ok((lock, first, second))
+    /// ```
     pub fn new(
         alloc: A,
         value: u64,

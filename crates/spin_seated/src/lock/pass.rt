@@ -1,4 +1,4 @@
-//! What a caller calls with.
+//! Passes, with which callers call. Begin with [`Pass`].
 ghost use Rattle.std.specs.Prelude.{◌≡◌};
 ghost use Rattle.spin_seated.specs.Histories.{holds};
 ghost use Rattle.spin_seated.specs.Passes.{Seated, seated_of, IsOneSeat};
@@ -22,9 +22,16 @@ impl<C> Model for Place<C> {
     ghost invariant = { λ p. IsOneSeat p.seat };
 }
 
-/// A place among the callers of one lock. Contracts see what it knows: a history, in which all its own calls stand.
+/// A place among the callers of one lock. Contracts see what it knows: a history with all calls made with it.
 ///
-/// It can't be copied, and may go to another thread. A pass that is dropped while it holds the lock stays its holder.
+/// It cannot be copied, and may go to another thread. A pass that is dropped while it holds the lock leaves the lock
+/// held.
+///
+///
+/// # Examples
+/// ```
+/// is_send::<Pass>();
+/// ```
 #[derive(Drop)]
 pub struct Pass<C: Calls> {
     pub(crate) place: Place<C>,
@@ -40,7 +47,15 @@ impl<C: Calls> Model for Pass<C> {
 }
 
 impl<C: Calls> Pass<C> {
-    /// What it holds at the end of its history.
+    /// Returns what the pass holds.
+    ///
+    /// # Contract
+    /// It is what the pass holds at the end of the history that it knows.
+    ///
+    /// # Examples
+    /// ```
+    /// assert!(rt; first.holds() && !second.holds());
+    /// ```
     pub fn holds(&self) -> C::Hold
         ensures { result ≡ holds C.machine self.now.known }
     {

@@ -1,5 +1,7 @@
-//! The steps on the table. Each tells which call it is; what it owes is that the call may be made, that the words become
-//! those of the state after it, and that its answer is the plain one.
+//! The steps on the table. Begin with [`SeatedLock::meet`]; the others are private to the locks.
+//!
+//! Each step tells which call it is. It owes that the call may be made, that the words become those of the state after
+//! it, and that its answer is the plain one.
 ghost use Rattle.std.specs.Prelude.{◌≡◌, ℕ, ◌<◌, ◌+◌, ◌-◌, ◌%◌, ◌^◌, ◌==◌, Option};
 ghost use prog.Atomic.{either};
 ghost use Rattle.spin_seated.specs.Histories.{Owes, Turned, Met, holds, held_then};
@@ -11,7 +13,7 @@ use atomic_table::Play;
 use std::alloc::Allocator;
 use std::marker::PhantomData;
 
-/// Which call a kind of step is, and its answer; none where it is no call.
+/// Which call a kind of step is, and its answer. It is `None` if the step is no call.
 pub(crate) trait Tells<C> {
     ghost use Rattle.spin_seated.specs.declared.lock.Answer.{Answer};
 
@@ -72,7 +74,7 @@ impl<C: Calls, A: Allocator> SeatedLock<C, A> {
         self.table.shared.store::<Told<C, T>>(seat, word, new);
     }
 
-    /// Writes `new` over a word where it is `old`, and returns the word as it was.
+    /// Writes `new` over a word if it is `old`, and returns the word as it was.
     pub(crate) fn exchange<T: Tells<C>>(
         &self,
         place: &mut Place<C>,
@@ -96,7 +98,7 @@ impl<C: Calls, A: Allocator> SeatedLock<C, A> {
             .compare_exchange::<Told<C, T>>(seat, word, old, new)
     }
 
-    /// Adds `by` to a word, modulo 2^64.
+    /// Adds `by` to a word, modulo 2^64, and returns the word as it was.
     pub(crate) fn add<T: Tells<C>>(&self, place: &mut Place<C>, word: usize, by: u64) -> u64
         requires own { IsPassOf self.now place.old }
         requires word { word < 2 }
@@ -112,7 +114,7 @@ impl<C: Calls, A: Allocator> SeatedLock<C, A> {
         self.table.shared.fetch_add::<Told<C, T>>(seat, word, by)
     }
 
-    /// Subtracts `by` from a word, modulo 2^64.
+    /// Subtracts `by` from a word, modulo 2^64, and returns the word as it was.
     pub(crate) fn subtract<T: Tells<C>>(&self, place: &mut Place<C>, word: usize, by: u64) -> u64
         requires own { IsPassOf self.now place.old }
         requires word { word < 2 }
@@ -128,7 +130,18 @@ impl<C: Calls, A: Allocator> SeatedLock<C, A> {
         self.table.shared.fetch_sub::<Told<C, T>>(seat, word, by)
     }
 
-    /// Both passes come to know one history. It makes three loads of the first word, which decide nothing.
+    /// Brings two passes to one history. It makes three loads of the first word, which decide nothing.
+    ///
+    /// # Contract
+    /// Both are passes of this lock. Both know the same history then (`Met`). It goes on from what each knew, and has
+    /// of each one's own calls just those that it knew. What they hold stays as it is.
+    ///
+    /// # Examples
+    /// ```
+    /// lock.meet(&mut a, &mut b);
+    /// assert!(rt; lock.try_lock(&mut a));
+    /// assert_eq!(rt; lock.read(&mut a), 200);
+    /// ```
     pub fn meet(&self, a: &mut Pass<C>, b: &mut Pass<C>)
         requires first { IsPassOf self.now a.old }
         requires second { IsPassOf self.now b.old }

@@ -1,4 +1,4 @@
-//! The calls. Each is one step on the table.
+//! The calls of a `SeatedMutex`. Each is one step on the table.
 ghost use Rattle.std.specs.Prelude.{◌≡◌, ◌||◌, IsTrue, IsFalse};
 ghost use Rattle.spin_step.specs.Steps.{bit};
 ghost use Rattle.spin_seated.specs.Histories.{Made};
@@ -25,7 +25,17 @@ fn word(flag: bool) -> u64
 }
 
 impl<A: Allocator> SeatedLock<Call, A> {
-    /// Takes the lock where nobody holds it. It makes one exchange.
+    /// Tries to acquire the lock, by one exchange. Returns `false` if it is held.
+    ///
+    /// # Contract
+    /// The pass is one of this lock. The call and its answer end the history that the pass knows then (`Made`). The
+    /// pass holds the lock then if it held it before or the answer is `true`.
+    ///
+    /// # Examples
+    /// ```
+    /// assert!(rt; lock.try_lock(&mut first));
+    /// assert!(rt; !lock.try_lock(&mut second));
+    /// ```
     pub fn try_lock(&self, pass: &mut Pass) -> bool
         requires { IsPassOf self.now pass.old }
         ensures own { IsPassOf self.now pass.new }
@@ -42,7 +52,16 @@ impl<A: Allocator> SeatedLock<Call, A> {
         granted
     }
 
-    /// Whether somebody holds the lock. It makes one load.
+    /// Returns `true` if the lock was held at the moment of its one load. By the time the caller reads the answer it
+    /// may be out of date.
+    ///
+    /// # Contract
+    /// The pass is one of this lock. The call and its answer end the history that the pass knows then (`Made`).
+    ///
+    /// # Examples
+    /// ```
+    /// assert!(rt; lock.is_locked(&mut second));
+    /// ```
     pub fn is_locked(&self, pass: &mut Pass) -> bool
         requires { IsPassOf self.now pass.old }
         ensures own { IsPassOf self.now pass.new }
@@ -52,7 +71,17 @@ impl<A: Allocator> SeatedLock<Call, A> {
         self.load::<Looks>(&mut pass.place, FLAG) != 0
     }
 
-    /// The value. It makes one load.
+    /// Returns the value, by one load.
+    ///
+    /// # Contract
+    /// The pass is one of this lock and holds it. The call and its answer end the history that the pass knows then
+    /// (`Made`).
+    ///
+    /// # Examples
+    /// ```
+    /// lock.write(&mut first, 9);
+    /// assert_eq!(rt; lock.read(&mut first), 9);
+    /// ```
     pub fn read(&self, pass: &mut Pass) -> u64
         requires own { IsPassOf self.now pass.old }
         requires holder { IsTrue (holds pass.old.known) }
@@ -63,7 +92,18 @@ impl<A: Allocator> SeatedLock<Call, A> {
         self.load::<Reads>(&mut pass.place, VALUE)
     }
 
-    /// Replaces the value. It makes one store.
+    /// Replaces the value, by one store.
+    ///
+    /// # Contract
+    /// The pass is one of this lock and holds it. The call and its answer end the history that the pass knows then
+    /// (`Made`).
+    ///
+    /// # Examples
+    /// ```
+    /// let value = lock.read(&mut pass);
+    /// lock.write(&mut pass, value.wrapping_add(1));
+    /// lock.unlock(&mut pass);
+    /// ```
     pub fn write(&self, pass: &mut Pass, value: u64)
         requires own { IsPassOf self.now pass.old }
         requires holder { IsTrue (holds pass.old.known) }
@@ -74,7 +114,17 @@ impl<A: Allocator> SeatedLock<Call, A> {
         self.store::<Writes>(&mut pass.place, VALUE, value);
     }
 
-    /// Lets go of the lock. It makes one store.
+    /// Releases the lock, by one store.
+    ///
+    /// # Contract
+    /// The pass is one of this lock and holds it. The call and its answer end the history that the pass knows then
+    /// (`Made`). The pass does not hold the lock then.
+    ///
+    /// # Examples
+    /// ```
+    /// lock.unlock(&mut first);
+    /// assert!(rt; !first.holds());
+    /// ```
     pub fn unlock(&self, pass: &mut Pass)
         requires own { IsPassOf self.now pass.old }
         requires holder { IsTrue (holds pass.old.known) }

@@ -1,4 +1,4 @@
-//! What each step on the table tells.
+//! What each step on the table tells: which call it is, and its answer.
 ghost use Rattle.spin_seated.specs.Mutex.{tries, looks, reads, writes, frees};
 
 use super::Call;

@@ -1,4 +1,4 @@
-//! The calls. Each but `try_read` is one step on the table.
+//! The calls of a `SeatedRwLock`. Each but `try_read` is one step on the table.
 ghost use Rattle.std.specs.Prelude.{◌≡◌, Some, None, true, if◌then◌else◌};
 ghost use Rattle.spin_seated.specs.Histories.{Made};
 ghost use Rattle.spin_seated.specs.declared.rwlock.Call.TheVariants.{TryRead, TryWrite, ReaderCount, WriterCount, Read, Write, UnlockRead, UnlockWrite, Downgrade};
@@ -22,8 +22,19 @@ const WORD: usize = 0;
 const VALUE: usize = 1;
 
 impl<A: Allocator> SeatedLock<Call, A> {
-    /// Comes to read, or is refused by a writer or at the cap of readers. It makes a load, and exchanges until one finds the
-    /// word that it looks for. Nothing is promised about when it returns.
+    /// Tries to acquire the lock as a reader. Returns `false` beside a writer, and at the cap of readers.
+    ///
+    /// It makes a load, and then exchanges until one finds the word that it expects or the lock refuses.
+    ///
+    /// # Contract
+    /// The pass is one of this lock and holds nothing. The call and its answer end the history that the pass knows then
+    /// (`Made`). If the answer is `true` it holds as a reader then. Whether and when the call returns is not promised.
+    ///
+    /// # Examples
+    /// ```
+    /// assert!(rt; lock.try_read(&rt, &mut a));
+    /// assert!(rt; lock.try_read(&rt, &mut b));
+    /// ```
     pub fn try_read<W: Wait>(&self, rt: &W, pass: &mut RwPass) -> bool
         requires own { IsPassOf self.now pass.old }
         requires free { holds pass.old.known ≡ None }
@@ -59,7 +70,18 @@ impl<A: Allocator> SeatedLock<Call, A> {
         unreachable!()
     }
 
-    /// Comes to write, or is refused by any holder. It makes one exchange.
+    /// Tries to acquire the lock as the writer, by one exchange. Returns `false` beside any holder.
+    ///
+    /// # Contract
+    /// The pass is one of this lock and holds nothing. The call and its answer end the history that the pass knows then
+    /// (`Made`). If the answer is `true` it holds as the writer then.
+    ///
+    /// # Examples
+    /// ```
+    /// assert!(rt; lock.try_write(&mut c));
+    /// assert_eq!(rt; lock.writer_count(&mut a), 1);
+    /// assert!(rt; !lock.try_read(&rt, &mut a));
+    /// ```
     pub fn try_write(&self, pass: &mut RwPass) -> bool
         requires own { IsPassOf self.now pass.old }
         requires free { holds pass.old.known ≡ None }
@@ -78,7 +100,15 @@ impl<A: Allocator> SeatedLock<Call, A> {
         granted
     }
 
-    /// How many read. It makes one load.
+    /// Returns how many passes hold as readers, by one load.
+    ///
+    /// # Contract
+    /// The pass is one of this lock. The call and its answer end the history that the pass knows then (`Made`).
+    ///
+    /// # Examples
+    /// ```
+    /// assert_eq!(rt; lock.reader_count(&mut c), 2);
+    /// ```
     pub fn reader_count(&self, pass: &mut RwPass) -> u64
         requires { IsPassOf self.now pass.old }
         ensures own { IsPassOf self.now pass.new }
@@ -88,7 +118,15 @@ impl<A: Allocator> SeatedLock<Call, A> {
         rw::readers(self.load::<CountsReaders>(&mut pass.place, WORD) as usize) as u64
     }
 
-    /// How many write. It makes one load.
+    /// Returns how many passes hold as writers, by one load.
+    ///
+    /// # Contract
+    /// The pass is one of this lock. The call and its answer end the history that the pass knows then (`Made`).
+    ///
+    /// # Examples
+    /// ```
+    /// assert_eq!(rt; lock.writer_count(&mut c), 0);
+    /// ```
     pub fn writer_count(&self, pass: &mut RwPass) -> u64
         requires { IsPassOf self.now pass.old }
         ensures own { IsPassOf self.now pass.new }
@@ -98,7 +136,17 @@ impl<A: Allocator> SeatedLock<Call, A> {
         rw::writers(self.load::<CountsWriters>(&mut pass.place, WORD) as usize) as u64
     }
 
-    /// The value. It makes one load.
+    /// Returns the value, by one load.
+    ///
+    /// # Contract
+    /// The pass is one of this lock and holds it as a reader or as the writer. The call and its answer end the history
+    /// that the pass knows then (`Made`).
+    ///
+    /// # Examples
+    /// ```
+    /// assert!(rt; lock.try_read(&rt, &mut a));
+    /// assert_eq!(rt; lock.read(&mut a), 9);
+    /// ```
     pub fn read(&self, pass: &mut RwPass) -> u64
         requires own { IsPassOf self.now pass.old }
         requires holder { may_with Read (holds pass.old.known) ≡ true }
@@ -109,7 +157,18 @@ impl<A: Allocator> SeatedLock<Call, A> {
         self.load::<Reads>(&mut pass.place, VALUE)
     }
 
-    /// Replaces the value. It makes one store.
+    /// Replaces the value, by one store.
+    ///
+    /// # Contract
+    /// The pass is one of this lock and holds it as the writer. The call and its answer end the history that the pass
+    /// knows then (`Made`).
+    ///
+    /// # Examples
+    /// ```
+    /// let value = lock.read(&mut pass).wrapping_add(1);
+    /// lock.write(&mut pass, value);
+    /// lock.downgrade(&mut pass);
+    /// ```
     pub fn write(&self, pass: &mut RwPass, value: u64)
         requires own { IsPassOf self.now pass.old }
         requires holder { holds pass.old.known ≡ Some hold.Write }
@@ -120,7 +179,18 @@ impl<A: Allocator> SeatedLock<Call, A> {
         self.store::<Writes>(&mut pass.place, VALUE, value);
     }
 
-    /// A reader lets go. It makes one subtraction.
+    /// Releases the lock of a reader, by one subtraction.
+    ///
+    /// # Contract
+    /// The pass is one of this lock and holds it as a reader. The call and its answer end the history that the pass
+    /// knows then (`Made`). It holds nothing then.
+    ///
+    /// # Examples
+    /// ```
+    /// let value = lock.read(pass);
+    /// lock.unlock_read(pass);
+    /// value
+    /// ```
     pub fn unlock_read(&self, pass: &mut RwPass)
         requires own { IsPassOf self.now pass.old }
         requires holder { holds pass.old.known ≡ Some hold.Read }
@@ -132,7 +202,17 @@ impl<A: Allocator> SeatedLock<Call, A> {
         pass.holding = None;
     }
 
-    /// The writer lets go. It makes one subtraction.
+    /// Releases the lock of the writer, by one subtraction.
+    ///
+    /// # Contract
+    /// The pass is one of this lock and holds it as the writer. The call and its answer end the history that the pass
+    /// knows then (`Made`). It holds nothing then.
+    ///
+    /// # Examples
+    /// ```
+    /// lock.write(pass, value);
+    /// lock.unlock_write(pass);
+    /// ```
     pub fn unlock_write(&self, pass: &mut RwPass)
         requires own { IsPassOf self.now pass.old }
         requires holder { holds pass.old.known ≡ Some hold.Write }
@@ -144,7 +224,18 @@ impl<A: Allocator> SeatedLock<Call, A> {
         pass.holding = None;
     }
 
-    /// The writer goes on as a reader, and nobody writes in between. It makes one addition.
+    /// Turns the writer into a reader, by one addition. No other pass writes in between.
+    ///
+    /// # Contract
+    /// The pass is one of this lock and holds it as the writer. The call and its answer end the history that the pass
+    /// knows then (`Made`). It holds as a reader then.
+    ///
+    /// # Examples
+    /// ```
+    /// lock.write(&mut c, 9);
+    /// lock.downgrade(&mut c);
+    /// assert!(rt; reads(&c));
+    /// ```
     pub fn downgrade(&self, pass: &mut RwPass)
         requires own { IsPassOf self.now pass.old }
         requires holder { holds pass.old.known ≡ Some hold.Write }

@@ -1,4 +1,4 @@
-//! What each step on the table tells.
+//! What each step on the table tells: which call it is, and its answer.
 ghost use Rattle.spin_seated.specs.declared.rwlock.Call.TheVariants.{UnlockRead, UnlockWrite, Downgrade};
 ghost use Rattle.spin_seated.specs.Rw.{looks, comes, comes_to_write, counts_readers, counts_writers, reads, writes, is_call};
 
