@@ -8,7 +8,7 @@ use spin::Yield;
 use spin::mutex::{Mutex, MutexGuard};
 use std::sync::Wait;
 
-/// What it holds covers what it owes.
+/// An account. What it holds covers what it owes.
 #[derive(Drop)]
 pub struct Account {
     held: u64,
@@ -17,12 +17,12 @@ pub struct Account {
 }
 
 impl Account {
-    /// Nothing is owed yet.
+    /// Creates an account that owes nothing.
     pub fn of(held: u64) -> Self {
         Account { held, owed: 0 }
     }
 
-    /// Owes so much more, where what it holds covers that too.
+    /// Owes `more`, if what the account holds covers that too. Returns whether it does.
     pub fn owe(&mut self, more: u64) -> bool {
         let Account { held, owed } = self;
         if more > *held - *owed {
@@ -33,18 +33,18 @@ impl Account {
     }
 }
 
-/// Whoever takes the lock finds an account that is covered, and leaves one.
+/// Owes `more` under the lock. Each thread finds an account that is covered, and leaves one.
 pub fn owe<W: Wait>(rt: &W, account: &Mutex<Account, Yield>, more: u64) -> bool {
     account.lock(rt).owe(more)
 }
 
-/// Counts one more. What others wrote may be the largest number, so this says what comes then: it wraps.
+/// Counts one more. Other threads may have written the largest number: there it wraps.
 pub fn count<W: Wait>(rt: &W, counter: &Mutex<u64, Yield>) {
     let mut guard = counter.lock(rt);
     *guard = guard.wrapping_add(1);
 }
 
-/// Under a guard a caller knows the value: `value_of` is what is there before the call and after it.
+/// Counts one more, up to `most`. Under a guard a caller knows the value: `value_of` is what is there before and after.
 pub fn count_up_to(guard: &mut MutexGuard<'_, u64, Yield>, most: u64)
     ensures { value_of guard.old ≤ most → value_of guard.new ≤ most }
 {

@@ -12,7 +12,7 @@ pub fn count<L: Lock<u64>, W: Wait>(rt: &W, lock: &L) -> u64 {
     })
 }
 
-/// Counts one more, or says that the lock is held.
+/// Tries to count one more. Returns `None` if the lock is held.
 pub fn try_count<L: Lock<u64>>(lock: &L) -> Option<u64> {
     lock.try_with(|number| {
         *number = number.wrapping_add(1);
@@ -21,7 +21,7 @@ pub fn try_count<L: Lock<u64>>(lock: &L) -> Option<u64> {
     .ok()
 }
 
-/// Reads a number beside other readers, cut off at `most`.
+/// Reads a number beside other readers. Returns `most` if the number is larger.
 pub fn read_up_to<L: SharedLock<u64>, W: Wait>(rt: &W, lock: &L, most: u64) -> u64
     ensures { result ≤ most }
 {

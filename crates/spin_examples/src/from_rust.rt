@@ -1,4 +1,4 @@
-//! Forms that a program over the Rust crate has, as they are here.
+//! What a program over the Rust crate says, as it is said here.
 ghost use Rattle.std.specs.Prelude.{◌≤◌};
 ghost use Rattle.spin.specs.Lazy.{initialiser};
 
@@ -10,13 +10,13 @@ use std::sync::Wait;
 use std::thread;
 use std::thread::Threads;
 
-/// Adds 1 to a total that lies with the caller.
+/// Adds 1 to a total that the caller owns.
 pub fn add_one<W: Wait>(rt: &W, total: &Mutex<u64>) {
     let mut guard = total.lock(rt);
     *guard = guard.wrapping_add(1);
 }
 
-/// The lock lies where the threads are started, and each of them is lent it.
+/// Adds 1 from each of two threads, which borrow the lock from the function that starts them.
 pub fn add_from_two<R: Threads + Wait + Sync>(rt: &R) -> u64 {
     let total = Mutex::new(0);
     let lent = &total;
@@ -24,24 +24,24 @@ pub fn add_from_two<R: Threads + Wait + Sync>(rt: &R) -> u64 {
     total.into_inner()
 }
 
-/// Takes the lock without a guard: the hold is a value, and frees nothing when it is dropped.
+/// Acquires the lock without a guard. The hold is a value, and dropping it releases nothing.
 pub fn take<'a, W: Wait>(rt: &W, lock: &'a SpinMutex<u64>) -> Held<'a, u64> {
     SpinMutexGuard::hold(lock.lock(rt))
 }
 
-/// Frees the lock. It spends the hold, so nobody frees it twice.
+/// Releases the lock. It consumes the hold, so no thread releases it twice.
 pub fn give_back(held: Held<'_, u64>) {
     SpinMutex::force_unlock(held);
 }
 
-/// The value of a lazy lock, which its first caller makes.
+/// Returns twice the value of a lazy lock, which its first caller makes.
 pub fn doubled<W: Wait, F: FnOnce() -> u64>(rt: &W, lazy: &LazyLock<u64, F>) -> u64
     requires { F.pre (initialiser lazy.now) }
 {
     LazyLock::force(lazy, rt).wrapping_mul(2)
 }
 
-/// Starves for the lock, or waits as a newcomer where no more may starve.
+/// Starves for the lock, or waits as a newcomer if no more threads may starve.
 pub fn add_starving<W: Wait>(rt: &W, total: &FairMutex<u64>) {
     let mut guard = match total.starve(rt) {
         Some(place) => place.lock(rt),
@@ -50,7 +50,7 @@ pub fn add_starving<W: Wait>(rt: &W, total: &FairMutex<u64>) {
     *guard = guard.wrapping_add(1);
 }
 
-/// One thread takes the lock, another writes and lets go.
+/// Acquires the lock, and lets another thread write and release it.
 pub fn set_elsewhere<R: Threads + Wait + Sync>(rt: &R, total: &Mutex<u64>, value: u64) {
     let mut guard = total.lock(rt);
     let write = move || {
@@ -59,7 +59,7 @@ pub fn set_elsewhere<R: Threads + Wait + Sync>(rt: &R, total: &Mutex<u64>, value
     thread::join(rt, write, || ());
 }
 
-/// Raises a limit that is too low. Nobody writes between the look and the change, nor between that and the answer.
+/// Raises a limit that is too low. No thread writes between the look and the change, or between that and the answer.
 pub fn raise<W: Wait>(rt: &W, limit: &RwLock<u64>, least: u64) -> u64
     ensures { least ≤ result }
 {
@@ -72,7 +72,7 @@ pub fn raise<W: Wait>(rt: &W, limit: &RwLock<u64>, least: u64) -> u64
     *guard.downgrade()
 }
 
-/// The port that the text names. A text that names none leaves no value, and another caller may try.
+/// Returns the port that the text names. If it names none there is no value still, and another caller may try.
 pub fn port_of<'a, W: Wait>(
     rt: &W,
     port: &'a Once<u16>,

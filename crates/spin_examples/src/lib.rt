@@ -1,4 +1,6 @@
 //! What the pages print: callers that name `spin` alone.
+//!
+//! Begin with [`counter`].
 #![tactic(auto)]
 
 pub mod account;

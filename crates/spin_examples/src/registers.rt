@@ -10,7 +10,7 @@ use std::marker::Brand;
 use std::sync::Wait;
 use std::thread::{Threads, join};
 
-/// Two guards of readers that are held at the same time show the same value.
+/// Reads under two guards that are held at the same time. Both show the same value.
 pub fn read_under_two<T: Copy, H: History, W: Wait>(
     rt: &W,
     lock: &RwLock<Register<T, H>>,
@@ -24,7 +24,7 @@ pub fn read_under_two<T: Copy, H: History, W: Wait>(
     (first.read(seen), second.read(seen))
 }
 
-/// Reads, upgrades and writes: nothing comes between the read and the write.
+/// Reads, upgrades and writes. No write of another thread comes between.
 pub fn read_and_write<T: Copy + Drop, H: History, W: Wait>(
     rt: &W,
     lock: &RwLock<Register<T, H>>,
@@ -98,8 +98,8 @@ fn two_writers<H: History + Send + Sync, W: Threads + Wait + Sync>(
     )
 }
 
-/// Two threads write and two read, all beside one another. Each reader's observation is in the order of the writes: what one
-/// reader saw is a prefix of what the other saw.
+/// Writes from two threads and reads from two others, all beside one another. Each reader sees the writes in one order:
+/// what one saw is a prefix of what the other saw.
 pub fn two_write_two_read<H: History + Send + Sync, W: Threads + Wait + Sync>(
     rt: &W,
     lock: &RwLock<Register<u64, H>>,
@@ -153,7 +153,7 @@ fn four_threads_by<H: History + Send + Sync, W: Threads + Wait + Sync>(
     ((first, second), last)
 }
 
-/// What two readers of a register that held 0 found while two threads wrote, and the last value.
+/// Returns what two readers of a register that held 0 found while two threads wrote, and the last value.
 pub fn four_threads<W: Threads + Wait + Sync>(rt: &W, values: (u64, u64)) -> ((u64, u64), u64) {
     four_threads_by::<Brand, W>(rt, values, BlankLog::new())
 }

@@ -101,7 +101,7 @@ fn race_by<H: History + Send + Sync, W: Threads + Wait + Sync>(
     (one, two, last)
 }
 
-/// Two threads raise a version from 0, and two read it twice beside them. No reader sees it fall, nor above its end.
+/// Raises a version from 0 in two threads, while two others read it twice. No reader sees it fall, or above its end.
 pub fn race<W: Threads + Wait + Sync>(rt: &W, times: u64) -> ((u64, u64), (u64, u64), u64)
     ensures first { (result.0.0 ≤ result.0.1) × (result.0.1 ≤ result.2) }
     ensures second { (result.1.0 ≤ result.1.1) × (result.1.1 ≤ result.2) }

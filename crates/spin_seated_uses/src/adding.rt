@@ -1,4 +1,5 @@
-//! A proved caller: two threads add under one lock, and what is read in the end is the number of their additions.
+//! A proved caller: two threads add under one lock, and what is read in the end is the number of their additions. Begin
+//! with [`add_in_two`].
 //!
 //! The proof is from the one history that both passes know once they have met. No call says what another thread did.
 ghost use Rattle.std.specs.Prelude.{◌≡◌, ◌+◌, Some, if◌then◌else◌, IfOk, IfSome};
@@ -10,7 +11,15 @@ use spin_seated::mutex::{Pass, SeatedMutex};
 use std::alloc::{AllocError, Global};
 use std::thread::{Threads, join};
 
-/// A lock for two callers, and their passes.
+/// Creates a lock for two callers, and their passes. Fails if there is no memory.
+///
+/// # Contract
+/// The lock was opened with `value` and two passes. The passes are its first and its second, and have made no call.
+///
+/// # Examples
+/// ```
+/// let (lock, a, b) = open_for_two(alloc, 0)?;
+/// ```
 pub fn open_for_two(alloc: Global, value: u64) -> Result<(SeatedMutex, Pass, Pass), AllocError>
     ensures opening { IfOk result (λ r. opening_of r.0 ≡ record { value = value; passes = 2 }) }
     ensures passes { IfOk result (λ r. (r.1 ≡ pass_of r.0 0) × (r.2 ≡ pass_of r.0 1)) }
@@ -25,7 +34,18 @@ pub fn open_for_two(alloc: Global, value: u64) -> Result<(SeatedMutex, Pass, Pas
     Ok((lock, first, second))
 }
 
-/// Adds 1 where the lock is granted and there is room, and says whether it did.
+/// Adds 1 if the lock is granted and there is room. Returns whether it did.
+///
+/// # Contract
+/// The pass is one of this lock and between two turns (`turn_of`), as it is afterwards. Its own calls have one write
+/// more if the answer is `true`, and else as many as before.
+///
+/// # Examples
+/// ```
+/// if add(lock, &mut pass) {
+///     added += 1;
+/// }
+/// ```
 pub fn add(lock: &SeatedMutex, pass: &mut Pass) -> bool
     requires own { IsPassOf lock.now pass.old }
     requires turn { turn_of pass.old.known ≡ Some away }
@@ -47,7 +67,17 @@ pub fn add(lock: &SeatedMutex, pass: &mut Pass) -> bool
     true
 }
 
-/// Adds up to `turns` times, and says how often it did.
+/// Tries to add 1, `turns` times. Returns the pass, and how often it did.
+///
+/// # Contract
+/// The pass is one of this lock, between two turns, and has added nothing. Afterwards it has added as often as the
+/// answer says (`HasAdded`).
+///
+///
+/// # Examples
+/// ```
+/// { add_some(shared, a, turns) },
+/// ```
 pub fn add_some(lock: &SeatedMutex, mut pass: Pass, turns: u64) -> (Pass, u64)
     requires { HasAdded lock.now pass 0 }
     ensures number { result.0.known.pass ≡ pass.known.pass }
@@ -62,10 +92,19 @@ pub fn add_some(lock: &SeatedMutex, mut pass: Pass, turns: u64) -> (Pass, u64)
     (pass, added)
 }
 
-/// What the lock holds once two passes have added: what it was opened with, and their additions.
+/// Reads what the lock holds once two passes have added.
 ///
-/// They meet, so that the first pass's next call comes after all that the second did; and they meet again after it, so that
-/// nobody else's call came between.
+/// They meet, so that the first pass's next call comes after all that the second did. They meet again after it, so that
+/// no other call came between.
+///
+/// # Contract
+/// The lock has two passes, and these are both, each between two turns. The answer is what the lock was opened with,
+/// and the additions of both.
+///
+/// # Examples
+/// ```
+/// Ok((read_sum(shared, &mut a, &mut b), first, second))
+/// ```
 pub fn read_sum(lock: &SeatedMutex, a: &mut Pass, b: &mut Pass) -> u64
     requires own { IsPassOf lock.now a.old × IsPassOf lock.now b.old }
     requires two { (opening_of lock.now).passes ≡ 2 }
@@ -84,7 +123,18 @@ pub fn read_sum(lock: &SeatedMutex, a: &mut Pass, b: &mut Pass) -> u64
     value
 }
 
-/// Two threads add under one lock, each up to `turns` times. What is read in the end is the number of their additions.
+/// Adds from two threads under one lock, from each up to `turns` times. Returns what is read in the end, and how often
+/// each added.
+///
+/// # Contract
+/// What is read is the sum of both numbers. That a thread adds at all is not promised.
+///
+/// # Examples
+/// ```
+/// let (read, first, second) = add_in_two(&rt, rt.alloc(), 1000).expect(&rt, "memory");
+/// assert!(rt; 0 < read && first <= 1000 && second <= 1000);
+/// assert_eq!(rt; read, first + second);
+/// ```
 pub fn add_in_two<R: Threads + Sync>(
     rt: &R,
     alloc: Global,

@@ -1,5 +1,5 @@
-//! A proved caller: one thread publishes values under one lock while two read it, and no reader sees an older value than it
-//! saw before.
+//! A proved caller: one thread publishes values under one lock while two read it, and no reader sees an older value
+//! than it saw before. Begin with [`publish_to_two`].
 //!
 //! The proof is from the one history that all three know once they have met. No call says what another thread did.
 ghost use Rattle.std.specs.Prelude.{◌≡◌, [], ◌∷◌, None, Some, IfOk, length};
@@ -17,7 +17,16 @@ use std::alloc::{AllocError, Global};
 use std::sync::Wait;
 use std::thread::{Threads, join};
 
-/// A lock for three callers, and their passes.
+/// Creates a lock for three callers, and their passes. Fails if there is no memory.
+///
+/// # Contract
+/// The lock was opened with `value` and three passes. The passes are its first, second and third, and have made no
+/// call.
+///
+/// # Examples
+/// ```
+/// let (lock, writer, first, second) = open_for_three(alloc, opening)?;
+/// ```
 pub fn open_for_three(
     alloc: Global,
     value: u64,
@@ -38,7 +47,7 @@ pub fn open_for_three(
     Ok((lock, first, second, third))
 }
 
-/// Tries until it is let in to hold so.
+/// Tries until the lock is granted in this way.
 fn come<W: Wait>(rt: &W, lock: &SeatedRwLock, pass: &mut RwPass, hold: SeatedHold)
     requires own { IsPassOf lock.now pass.old }
     requires free { holds pass.old.known ≡ None }
@@ -59,7 +68,7 @@ fn come<W: Wait>(rt: &W, lock: &SeatedRwLock, pass: &mut RwPass, hold: SeatedHol
     unreachable!()
 }
 
-/// Publishes a value as soon as it is let in.
+/// Publishes a value as soon as the lock is granted.
 fn publish<W: Wait>(rt: &W, lock: &SeatedRwLock, pass: &mut RwPass, value: u64)
     requires own { IsPassOf lock.now pass.old }
     requires free { holds pass.old.known ≡ None }
@@ -72,7 +81,7 @@ fn publish<W: Wait>(rt: &W, lock: &SeatedRwLock, pass: &mut RwPass, value: u64)
     lock.unlock_write(pass);
 }
 
-/// Looks at the value as soon as it is let in.
+/// Reads the value as soon as the lock is granted.
 fn look<W: Wait>(rt: &W, lock: &SeatedRwLock, pass: &mut RwPass) -> u64
     requires own { IsPassOf lock.now pass.old }
     requires free { holds pass.old.known ≡ None }
@@ -145,9 +154,19 @@ fn look_in_two<R: Threads + Wait + Sync>(
     )
 }
 
-/// What two readers saw of what a third pass published, once all have met.
+/// Compares what two readers saw with what a third pass published, once all have met.
 ///
-/// The readers meet first. What they know then goes on to what the writer knows after it has met one of them.
+/// The readers meet first. What they know then goes on to what the writer knows when it has met one of them.
+///
+/// # Contract
+/// The lock has three passes, and these are all. Neither reader has written. Each reader read the opening value and
+/// those that the writer wrote, in their order (`InOrderOf`).
+///
+/// # Examples
+/// ```
+/// compare(shared, &mut writer, &mut first, &mut second);
+/// Ok((seen_first, seen_second))
+/// ```
 pub fn compare(lock: &SeatedRwLock, writer: &mut RwPass, first: &mut RwPass, second: &mut RwPass)
     requires writer { IsPassOf lock.now writer.old × (writer.old.known.pass ≡ 0) }
     requires first { IsPassOf lock.now first.old × (first.old.known.pass ≡ 1) }
@@ -162,10 +181,19 @@ pub fn compare(lock: &SeatedRwLock, writer: &mut RwPass, first: &mut RwPass, sec
     a_pass_reads_in_the_order_of_the_writes();
 }
 
-/// One thread publishes the values in their order, and two look while it does, each so many times. What each sees are the
-/// opening value and those published, in their order: never an older one than it saw before.
+/// Publishes values from one thread in their order, while two others read, each `times` times. Returns what the two
+/// read. Each thread waits until the lock is granted.
 ///
-/// Nothing is promised about when it returns: each thread waits until it is let in.
+/// # Contract
+/// Each reader read `times` values: the opening value and those published, in their order, so never an older one than
+/// before. Whether and when the call returns is not promised.
+///
+/// # Examples
+/// ```
+/// let (first, second) = publish_to_two(&rt, rt.alloc(), 5, &[6, 7, 8], 200).expect(&rt, "memory");
+/// assert!(rt; first.len() == 200 && second.len() == 200);
+/// assert!(rt; first.windows(2).all(|two| two[0] <= two[1]));
+/// ```
 pub fn publish_to_two<R: Threads + Wait + Sync>(
     rt: &R,
     alloc: Global,

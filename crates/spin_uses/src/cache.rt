@@ -1,4 +1,5 @@
-//! A cache that threads share: a table under an `RwLock`, which is filled by the one reader that may become the writer.
+//! A cache that threads share: a table under an `RwLock`, which the one reader that may upgrade fills. Begin with
+//! [`Answers`] and [`Cache::answer`].
 ghost use Rattle.std.specs.Prelude.{Bool, Ok, IsTrue, IfOk};
 ghost use Rattle.std.specs.Fn.{FnOnceTakesAt, FnOnceReturnsAt};
 
@@ -11,12 +12,12 @@ use std::sync::Wait;
 
 mod table;
 
-/// What may be answered for a key.
+/// The answers that may be given for a key.
 pub trait Answers {
-    /// What is asked for. Keys that are equal share one answer.
+    /// The type of keys. Keys that are equal share one answer.
     type Key: Eq + Hash + Drop;
 
-    /// What is answered: a clone of the value that is kept. Where a value is large, an `Arc` of it is cloned at once.
+    /// The type of answers. A caller gets a clone of the value that is kept; an `Arc` makes that cheap.
     type Value: Clone;
 
     ghost may: { Self.Key → Self.Value → Bool };
@@ -30,29 +31,67 @@ pub trait Answers {
 
 /// Answers by key, each made once and kept.
 ///
-/// An answer that is there is found by a reader, beside others. Where there is none, the one reader that may upgrade
-/// makes it; other readers come and go meanwhile, for the answers that are there. It becomes the writer only to add what
-/// it made.
+/// A reader finds an answer that is there, beside other readers. If there is none, the one reader that may upgrade
+/// makes it. Meanwhile other readers come and go, for the answers that are there. It becomes the writer only to add
+/// what it made.
+///
+///
+/// # Examples
+/// ```
+/// let cache: SquareCache = Cache::new(rt.alloc());
+/// let made = Cell::new(0);
+/// equal(&rt, square(&rt, &cache, 3, &made)?, 9);
+/// ```
 #[derive(Drop)]
 pub struct Cache<C: Answers, A: Allocator = Global, R = Spin> {
     table: RwLock<Table<C, A>, R>,
 }
 
 impl<C: Answers, A: Allocator + Clone, R: RelaxStrategy> Cache<C, A, R> {
-    /// A cache without an answer.
+    /// Creates a cache without answers.
+    ///
+    /// # Examples
+    /// ```
+    /// let cache: SquareCache = Cache::new(rt.alloc());
+    /// ```
     pub fn new(alloc: A) -> Self {
         Cache {
             table: RwLock::new(Table::new(alloc)),
         }
     }
 
-    /// The answers that are there, to look at where they lie, beside other readers. None is added while the guard lives.
+    /// Acquires shared access to the answers that are there, spinning until it is granted. The guard shows them where
+    /// they lie, and no answer is added while it lives.
+    ///
+    /// # Contract
+    /// Whether and when the call returns is not promised.
+    ///
+    /// # Examples
+    /// ```
+    /// let reader = cache.read(&rt);
+    /// equal(&rt, square(&rt, &cache, 3, &made)?, 9);
+    /// equal(&rt, reader.answer(&3).copied(), Some(9));
+    /// ```
     pub fn read<W: Wait>(&self, rt: &W) -> RwLockReadGuard<'_, Table<C, A>, R> {
         self.table.read(rt)
     }
 
-    /// The answer for the key, which `make` makes where there is none yet. `Err` where `make` makes none, and where there
-    /// is no memory for it; then none is kept. `make` may read this cache, but not fill it: it would wait for itself.
+    /// Returns the answer for `key`, and makes it first by calling `make` if there is none.
+    ///
+    /// It fails if `make` fails, or if there is no memory. Then no answer is kept. `make` may read this cache, but the
+    /// call never returns if it asks for an answer that is not there.
+    ///
+    /// # Contract
+    /// `make` may be called with `key`, and each answer that it may give is one for this key (`may`). What the call
+    /// returns is an answer for this key, whoever made it. Whether and when the call returns is not promised.
+    ///
+    /// # Examples
+    /// ```
+    /// cache.answer(rt, key, |key| {
+    ///     made.set(made.get().wrapping_add(1));
+    ///     Ok(key.wrapping_mul(*key))
+    /// })
+    /// ```
     pub fn answer<W: Wait, E: From<AllocError>, F: FnOnce(&C::Key) -> Result<C::Value, E>>(
         &self,
         rt: &W,
@@ -87,7 +126,7 @@ impl<C: Answers, A: Allocator + Clone, R: RelaxStrategy> Cache<C, A, R> {
         }
         let value = make(&key)?;
         let answer = value.clone()?;
-        // It has not let go, so the key has no answer still.
+        // It never released the lock, so the key has no answer still.
         let mut guard = guard.upgrade(rt);
         guard.add(key, value)?;
         Ok(answer)

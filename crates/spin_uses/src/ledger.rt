@@ -1,4 +1,4 @@
-//! A ledger: transfers between accounts under one lock, with the journal of all that were made.
+//! A ledger: transfers between accounts under one lock, with a journal of all that were made. Begin with [`Accounts`].
 ghost use Rattle.std.specs.Prelude.{◌≡◌, ◌≢◌, ◌<◌, ◌^◌, ◌++◌, ◌∷◌, [], true, false, List, ℕ, Some, None, IfOk, IfErr, OnOk, OnErr, MatchResult, slice_get, slice_index, sum, ◌+◌};
 ghost use Rattle.spin_uses.specs.Ledger.{after, can_make, paid_in, paid_out, replayed, RefusedFor};
 ghost use Rattle.spin_uses.specs.declared.ledger.Transfer.{Transfer};
@@ -8,7 +8,12 @@ use std::alloc::{Allocator, Global};
 use std::marker::{Brand, PhantomData};
 use std::sync::Wait;
 
-/// An amount that goes from one account to another. Accounts have the numbers from 0 on.
+/// An amount that goes from one account to another. Accounts are numbered from 0.
+///
+/// # Examples
+/// ```
+/// Transfer { from, to, amount }
+/// ```
 #[derive(Clone, Copy, Debug, PartialEq, Eq)]
 pub struct Transfer {
     pub from: usize,
@@ -16,19 +21,19 @@ pub struct Transfer {
     pub amount: u64,
 }
 
-/// Why a transfer or a replay was refused.
+/// Why a transfer or a replay fails.
 #[derive(Clone, Copy, Debug, PartialEq, Eq)]
 pub enum Refused {
     /// One of the two accounts does not exist.
     NoSuchAccount,
     /// The account that pays has less than the amount.
     TooLittle,
-    /// No memory was left for the journal's entry, or for the replay.
+    /// There is no memory for the journal's entry, or for the replay.
     OutOfMemory,
 }
 
-/// The balances that a ledger was opened with. They are known to proofs alone, by a type of the ledger's own, so that what
-/// is found at any look is known to be of this ledger.
+/// The balances that a ledger was opened with. Only proofs know them, by a type of the ledger's own. So what a look
+/// finds is known to be of this ledger.
 pub trait Opening {
     ghost balances: { List ℕ };
 }
@@ -38,6 +43,12 @@ impl Opening for Brand {
 }
 
 /// The accounts, and every transfer that was made, in order.
+///
+/// # Examples
+/// ```
+/// let mut accounts: Accounts<O, &'a Bump> = Accounts::open(arena, balances);
+/// let first = accounts.transfer(transfer(0, 2, 30));
+/// ```
 #[derive(Drop)]
 pub struct Accounts<O: Opening, A: Allocator = Global> {
     balances: Vec<u64, A>,
@@ -48,11 +59,24 @@ pub struct Accounts<O: Opening, A: Allocator = Global> {
     ghost fits: { sum O.balances < 2 ^ 64 },
 }
 
-/// Accounts that threads share. Whoever locks finds all that `Accounts` says of itself.
+/// Accounts that threads share. Whoever locks them finds all that `Accounts` says of itself.
+///
+/// # Examples
+/// ```
+/// let ledger: Ledger<O> = Ledger::new(Accounts::open(alloc, balances));
+/// ```
 pub type Ledger<O, A = Global> = Mutex<Accounts<O, A>>;
 
 impl<O: Opening, A: Allocator> Accounts<O, A> {
-    /// Accounts with these balances, and no transfer yet.
+    /// Creates accounts with these balances, and an empty journal.
+    ///
+    /// # Contract
+    /// The balances are those of `O`, and their sum fits a `u64`.
+    ///
+    /// # Examples
+    /// ```
+    /// let mut accounts: Accounts<O> = Accounts::open(alloc, balances);
+    /// ```
     pub fn open(alloc: A, balances: Vec<u64, A>) -> Self
         requires opening { balances.items ≡ O.balances }
         requires fits { sum O.balances < 2 ^ 64 }
@@ -66,7 +90,18 @@ impl<O: Opening, A: Allocator> Accounts<O, A> {
         }
     }
 
-    /// Makes a transfer, or refuses it. A refused transfer changes nothing.
+    /// Makes a transfer, or fails and changes nothing.
+    ///
+    /// # Contract
+    /// `Ok` exactly if the transfer can be made and there is memory: then the balances are those after it, and the
+    /// journal has it at its end. `Err` says why (`RefusedFor`), and balances and journal are as they were.
+    ///
+    /// # Examples
+    /// ```
+    /// if ledger.lock(rt).transfer(asked).is_ok() {
+    ///     made = made.saturating_add(1);
+    /// }
+    /// ```
     pub fn transfer(&mut self, transfer: Transfer) -> Result<(), Refused>
         ensures why { MatchResult result (λ _. can_make transfer self.old.balances.items ≡ true) (λ e. RefusedFor e transfer self.old.balances.items) }
         ensures balances { OnOk result (self.new.balances.items ≡ after transfer self.old.balances.items) }
@@ -87,21 +122,46 @@ impl<O: Opening, A: Allocator> Accounts<O, A> {
         Ok(())
     }
 
-    /// What one account has; `None` where it does not exist.
+    /// Returns the balance of an account, or `None` if it does not exist.
+    ///
+    /// # Contract
+    /// The answer is exact.
+    ///
+    /// # Examples
+    /// ```
+    /// equal(rt, accounts.balance(2), Some(third));
+    /// equal(rt, accounts.balance(3), None);
+    /// ```
     pub fn balance(&self, account: usize) -> Option<u64>
         ensures { result ≡ slice_get self.now.balances.items account }
     {
         self.balances.get(account).copied()
     }
 
-    /// What all accounts have together: at every look, what they had when the ledger was opened.
+    /// Returns the sum of all balances.
+    ///
+    /// # Contract
+    /// It is the sum of the opening balances, at every look.
+    ///
+    /// # Examples
+    /// ```
+    /// equal(rt, accounts.total(), 120);
+    /// ```
     pub fn total(&self) -> u64
         ensures { result ≡ sum O.balances }
     {
         self.balances.iter().sum()
     }
 
-    /// The transfers that were made. Their replay from the opening balances gives the balances.
+    /// Returns the transfers that were made, in order.
+    ///
+    /// # Contract
+    /// Their replay from the opening balances gives the balances.
+    ///
+    /// # Examples
+    /// ```
+    /// equal(rt, accounts.journal(), made.as_slice());
+    /// ```
     pub fn journal(&self) -> &[Transfer]
         ensures journal { result.now ≡ self.now.journal.items }
         ensures replays { replayed O.balances result.now ≡ Some self.now.balances.items }
@@ -110,7 +170,7 @@ impl<O: Opening, A: Allocator> Accounts<O, A> {
     }
 }
 
-/// Whether a transfer can be made, and else why not.
+/// Checks that a transfer can be made, and else says why not.
 fn may_make(balances: &[u64], transfer: &Transfer) -> Result<(), Refused>
     ensures possible { OnOk result (can_make transfer.now balances.now ≡ true) }
     ensures why { IfErr result (λ e. (can_make transfer.now balances.now ≡ false) × RefusedFor e transfer.now balances.now) }
@@ -135,7 +195,17 @@ fn make(balances: &mut [u64], transfer: &Transfer)
     balances[transfer.to] += transfer.amount;
 }
 
-/// The balances after all transfers of a journal, in its order. It refuses at the first that can't be made.
+/// Returns the balances after all transfers of a journal, in its order. Fails at the first that cannot be made.
+///
+/// # Contract
+/// The opening balances fit a `u64` together. `Ok` has the balances of the replay (`replayed`). `Err`, but for want of
+/// memory, says that the journal has none.
+///
+/// # Examples
+/// ```
+/// let refused = replay(rt.alloc(), &[29, 20, 0], &journal);
+/// equal(&rt, refused.err(), Some(Refused::TooLittle));
+/// ```
 pub fn replay<A: Allocator>(
     alloc: A,
     opening: &[u64],
@@ -155,13 +225,21 @@ pub fn replay<A: Allocator>(
     Ok(balances)
 }
 
-/// A law of every replay: what an account has, and what was paid out of it, is what it had and what was paid into it. The
-/// journal of a ledger is such a replay.
+/// States that in every replay, what an account has and what was paid out of it is what it had and what was paid into
+/// it. A ledger's journal is such a replay.
 pub fn a_balance_is_what_came_less_what_went()
     ensures { (opening balances : List ℕ) (journal : List Transfer) (account : ℕ) → replayed opening journal ≡ Some balances → slice_index balances account + paid_out account journal ≡ slice_index opening account + paid_in account journal }
 {}
 
-/// What all accounts have together, found under the lock.
+/// Acquires the lock, and returns the sum of all balances.
+///
+/// # Contract
+/// It is the sum of the opening balances. Whether and when the call returns is not promised.
+///
+/// # Examples
+/// ```
+/// equal(rt, total(rt, &ledger), 120);
+/// ```
 pub fn total<O: Opening, A: Allocator, W: Wait>(rt: &W, ledger: &Ledger<O, A>) -> u64
     ensures { result ≡ sum O.balances }
 {

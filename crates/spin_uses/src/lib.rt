@@ -1,5 +1,7 @@
 //! Callers of the locks: a ledger, a cache, rounds of workers, settings. Each has a promise of its own, which rests on
 //! the promises of the locks.
+//!
+//! Begin with [`ledger`].
 #![tactic(auto)]
 
 pub mod cache;

@@ -1,8 +1,8 @@
-//! Rounds of workers over a barrier: in each round every worker adds its gain to the round's result, and the leader of the
-//! round folds that result into the total before the next round begins. The total is exact.
+//! Rounds of workers over a barrier. In each round every worker adds its gain to the round's result, and the leader
+//! folds that result into the total before the next round begins. Begin with [`run_phases`].
 //!
-//! What is proved is the total: a book under the lock has what is still to come, and each worker has a share of it. That
-//! a leader folds a round only once all of it is in, and that a round has one leader, is shown by a test.
+//! The total is proved to be exact: a book under the lock has what is still to come, and each worker has a share of it.
+//! That a leader folds a round only when all of it is in, and that a round has one leader, is shown by a test.
 ghost use Rattle.std.specs.Prelude.{◌≡◌, ℕ, ◌+◌, ◌*◌, ◌^◌, ◌<◌, ◌≤◌, true, IfOk, vec_capacity, vec_len};
 ghost use Rattle.spin_uses.specs.Phases.{IsSpent};
 
@@ -17,12 +17,27 @@ use std::thread;
 use std::thread::{JoinHandle, Scope, Threads};
 
 /// What each worker passes before its first round.
+///
+/// # Examples
+/// ```
+/// impl Gate for Open {
+///     fn before<R: Wait>(&self, rt: &R, worker: usize) {
+///         let _ = rt;
+///         let _ = worker;
+///     }
+/// }
+/// ```
 pub trait Gate {
-    /// Called once by each worker, before it adds anything. It may wait.
+    /// Lets a worker pass. Each worker calls it once, before it adds anything. It may wait.
     fn before<R: Wait>(&self, rt: &R, worker: usize);
 }
 
-/// The gate that lets every worker through.
+/// The gate that lets every worker pass.
+///
+/// # Examples
+/// ```
+/// run_phases(&rt, rt.alloc(), &Open, 8, 100, 3),
+/// ```
 #[derive(Clone, Copy)]
 pub struct Open;
 
@@ -39,7 +54,7 @@ pub const MAX_WORKERS: usize = 64;
 /// Why there is no total.
 #[derive(Clone, Copy, Debug, PartialEq, Eq)]
 pub enum PhasesError {
-    /// A thread or its memory was refused.
+    /// A thread, or memory for it, was refused.
     Refused,
 }
 
@@ -50,13 +65,22 @@ impl From<AllocError> for PhasesError {
 }
 
 /// What all rounds came to.
+///
+/// # Examples
+/// ```
+/// let folded = Folded {
+///     total: 2400,
+///     rounds: 100,
+///     smallest: 24,
+/// };
+/// ```
 #[derive(Clone, Copy, Debug, PartialEq, Eq)]
 pub struct Folded {
-    /// All that was added.
+    /// The sum of all that was added.
     pub total: u64,
     /// How many rounds were folded.
     pub rounds: u64,
-    /// The smallest result of a round, or `u64::MAX` where none was folded.
+    /// The smallest result of a round, or `u64::MAX` if none was folded.
     pub smallest: u64,
 }
 
@@ -126,7 +150,7 @@ impl<P: Plan> Results<P> {
 struct Team<'a, P: Plan, G, R> {
     rt: &'a R,
     gate: &'a G,
-    // Held while workers are started: they begin once it says that all of them are there.
+    // Held while workers are started: they begin when it says that all of them are there.
     begins: Mutex<bool, Yield>,
     barrier: Barrier<Yield>,
     results: Mutex<Results<P>, Yield>,
@@ -136,7 +160,7 @@ struct Team<'a, P: Plan, G, R> {
 }
 
 impl<P: Plan + Send + Sync, G: Gate + Sync, R: Threads + Wait + Sync> Team<'_, P, G, R> {
-    /// One worker's whole work.
+    /// Does the whole work of one worker.
     fn work(&self, worker: usize, mut share: Share<P>) -> Done<P>
         requires one_part { share.parts ≡ 1 }
         requires gains { share.amount ≡ self.now.rounds * self.now.gain }
@@ -161,8 +185,8 @@ impl<P: Plan + Send + Sync, G: Gate + Sync, R: Threads + Wait + Sync> Team<'_, P
         }
     }
 
-    /// Joins the workers, and takes their parts of the book back. Answers whether all of them have worked: then nothing of
-    /// theirs is left to add.
+    /// Joins the workers, and takes their parts of the book back. Returns `true` if all of them have worked: then they
+    /// have nothing left to add.
     fn join_all<A: Allocator>(
         &self,
         mut running: Vec<JoinHandle<Done<P>>, A>,
@@ -180,7 +204,7 @@ impl<P: Plan + Send + Sync, G: Gate + Sync, R: Threads + Wait + Sync> Team<'_, P
         all_worked
     }
 
-    /// Starts a thread for one worker.
+    /// Starts the thread of one worker.
     fn start<'s, E>(
         &'s self,
         scope: &Scope<'s, E>,
@@ -196,7 +220,7 @@ impl<P: Plan + Send + Sync, G: Gate + Sync, R: Threads + Wait + Sync> Team<'_, P
         scope.spawn(job).ok()
     }
 
-    /// Starts a thread for each worker, and answers whether none was refused.
+    /// Starts a thread for each worker. Returns `true` if none was refused.
     fn start_each<'s, E, A: Allocator>(
         &'s self,
         scope: &Scope<'s, E>,
@@ -222,7 +246,7 @@ impl<P: Plan + Send + Sync, G: Gate + Sync, R: Threads + Wait + Sync> Team<'_, P
         true
     }
 
-    /// Starts all workers. Where one is refused, those that were started are joined: they have not begun.
+    /// Starts all workers. If one is refused it joins those that were started, which have not begun.
     fn start_all<'s, E, A: Allocator>(
         &'s self,
         scope: &Scope<'s, E>,
@@ -248,7 +272,7 @@ impl<P: Plan + Send + Sync, G: Gate + Sync, R: Threads + Wait + Sync> Team<'_, P
         Ok(running)
     }
 
-    /// Works in a scope of threads, and reads the results once all of them are joined.
+    /// Works in a scope of threads, and reads the results when all of them are joined.
     fn run<A: Allocator>(
         &self,
         alloc: A,
@@ -277,7 +301,7 @@ impl<P: Plan + Send + Sync, G: Gate + Sync, R: Threads + Wait + Sync> Team<'_, P
     }
 }
 
-/// Runs all rounds, over a book that has a part for each worker and one for the caller.
+/// Runs all rounds, over a book with a part for each worker and one for the caller.
 fn run_by<'a, P: Plan + Send + Sync, G: Gate + Sync, R: Threads + Wait + Sync, A: Allocator>(
     rt: &'a R,
     alloc: A,
@@ -318,11 +342,23 @@ fn run_by<'a, P: Plan + Send + Sync, G: Gate + Sync, R: Threads + Wait + Sync, A
     team.run(alloc, workers, mine)
 }
 
-/// Runs `rounds` rounds of `workers` threads, in each of which every worker adds `gain`. Each passes the gate once, before
-/// its first round. All are joined before the call returns.
+/// Runs `rounds` rounds of `workers` threads, in each of which every worker adds `gain`. Each passes the gate once,
+/// before its first round. All threads are joined before the call returns.
 ///
-/// The total is exact. Where a thread or its memory is refused there is none, and no worker adds anything. Not promised:
-/// that workers run at the same time, and that the call returns.
+/// If a thread or its memory is refused there is no total, and no worker adds anything.
+///
+/// # Contract
+/// There are at most [`MAX_WORKERS`], and all that they add fits a `u64`. The total is exact. That workers run at the
+/// same time is not promised. Whether and when the call returns is not promised.
+///
+/// # Examples
+/// ```
+/// equal(
+///     &rt,
+///     run_phases(&rt, rt.alloc(), &Open, 8, 100, 3),
+///     Ok(folded),
+/// );
+/// ```
 pub fn run_phases<G: Gate + Sync, R: Threads + Wait + Sync, A: Allocator>(
     rt: &R,
     alloc: A,

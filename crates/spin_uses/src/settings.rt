@@ -1,4 +1,5 @@
-//! Settings that threads share. They are made once, from a text, when somebody first asks for them.
+//! Settings that threads share. They are made once, from a text, when a thread first asks for them. Begin with
+//! [`SharedSettings`].
 ghost use Rattle.std.specs.Prelude.{◌≡◌, [], IfSome, IfNone, IfOk, IfErr, unwrap_or};
 ghost use Rattle.std.specs.Str.Lines.{lines};
 ghost use Rattle.spin_uses.specs.Settings.{AreAfter, AreSettingsOf, IsAnswerFor, IsFirstBad, Sets, SetsNothing, port_of, workers_of, verbose_of};
@@ -10,6 +11,13 @@ use std::str::FromStr;
 use std::sync::Wait;
 
 /// What one line of a text sets.
+///
+/// # Examples
+/// ```
+/// sets(&rt, "port = 8080", Some(Setting::Port(8080)));
+/// sets(&rt, "port = 65535", Some(Setting::Port(65535)));
+/// sets(&rt, "port = 65536", None);
+/// ```
 #[derive(Clone, Copy, Debug, PartialEq, Eq)]
 pub enum Setting {
     /// `port = 8080`
@@ -21,7 +29,15 @@ pub enum Setting {
 }
 
 impl Setting {
-    /// What the line sets; `None` where it sets nothing.
+    /// Returns what the line sets, or `None` if it sets nothing.
+    ///
+    /// # Contract
+    /// `Some` is what the line sets (`Sets`). `None` says that it sets nothing (`SetsNothing`).
+    ///
+    /// # Examples
+    /// ```
+    /// assert_eq!(rt; Setting::of_line(line), setting, "{line}");
+    /// ```
     pub fn of_line(line: &str) -> Option<Setting>
         ensures some { IfSome result (Sets line.now) }
         ensures none { IfNone result (SetsNothing line.now) }
@@ -40,6 +56,15 @@ impl Setting {
 }
 
 /// The settings of a text. What no line sets has its default.
+///
+/// # Examples
+/// ```
+/// let settings = Settings {
+///     port: 80,
+///     workers: 1,
+///     verbose: true,
+/// };
+/// ```
 #[derive(Clone, Copy, Debug, PartialEq, Eq)]
 pub struct Settings {
     pub port: u16,
@@ -47,13 +72,18 @@ pub struct Settings {
     pub verbose: bool,
 }
 
-/// The number of the first line that sets nothing, from 1 on.
+/// The number of the first line that sets nothing. Lines are numbered from 1.
+///
+/// # Examples
+/// ```
+/// answers(&rt, "verbose = yes\nport = x", Err(BadLine { number: 1 }));
+/// ```
 #[derive(Clone, Copy, Debug, PartialEq, Eq)]
 pub struct BadLine {
     pub number: usize,
 }
 
-/// What is answered for a text.
+/// The settings of a text, or its first bad line.
 pub type Answer = Result<Settings, BadLine>;
 
 impl Settings {
@@ -99,7 +129,7 @@ impl FromStr for Settings {
     }
 }
 
-/// What is promised of an answer: it is one for this text.
+/// The promise that an answer is one for this text.
 #[derive(Clone, Copy)]
 struct AnswerFor<'t>(&'t str);
 
@@ -107,7 +137,7 @@ impl Promise<Answer> for AnswerFor<'_> {
     ghost keeps = { λ it answer. IsAnswerFor it.0.now answer };
 }
 
-/// Reads that text.
+/// The initialiser that reads the text.
 #[derive(Drop)]
 struct Reads;
 
@@ -117,14 +147,29 @@ impl<'t> Makes<Answer, AnswerFor<'t>> for Reads {
     }
 }
 
-/// The settings of one text, for all who ask. The text is read once, when somebody first asks.
+/// The settings of one text, for all threads. The text is read once, when a thread first asks.
+///
+/// # Examples
+/// ```
+/// let shared: SharedSettings<Yield> = SharedSettings::new(text);
+/// let settings = shared.get(rt)?;
+/// Ok(*settings)
+/// ```
 #[derive(Drop)]
 pub struct SharedSettings<'t, R = Spin> {
     answer: LazyLock<Answer, Reads, R, AnswerFor<'t>>,
 }
 
 impl<'t, R: RelaxStrategy> SharedSettings<'t, R> {
-    /// The text is not read yet.
+    /// Creates shared settings. It reads nothing of the text.
+    ///
+    /// # Contract
+    /// They are those of `text` (`text_of`).
+    ///
+    /// # Examples
+    /// ```
+    /// let shared: SharedSettings<Yield> = SharedSettings::new(text);
+    /// ```
     pub fn new(text: &'t str) -> Self
         ensures { text_of result ≡ text.now }
     {
@@ -133,7 +178,18 @@ impl<'t, R: RelaxStrategy> SharedSettings<'t, R> {
         }
     }
 
-    /// The settings of the text, or its first bad line. Whoever asks while the text is read relaxes until that has ended.
+    /// Returns the settings of the text, or its first bad line. A thread that asks while another reads the text spins
+    /// until that has ended.
+    ///
+    /// # Contract
+    /// `Ok` has the settings of the text (`AreSettingsOf`), `Err` its first bad line (`IsFirstBad`). Whether and when
+    /// the call returns is not promised.
+    ///
+    /// # Examples
+    /// ```
+    /// let settings = shared.get(rt)?;
+    /// Ok(*settings)
+    /// ```
     pub fn get<W: Wait>(&self, rt: &W) -> Result<&Settings, BadLine>
         ensures settings { IfOk result (λ settings. AreSettingsOf (lines (text_of self.now)) settings.now) }
         ensures bad { IfErr result (λ bad. IsFirstBad (lines (text_of self.now)) bad.number) }

@@ -1,4 +1,4 @@
-//! A table of answers that only grows: what is in it stays as it is, since nothing here takes an entry out or changes one.
+//! A table of answers that only grows: no entry is taken out or changed. Begin with [`Table::answer`].
 ghost use Rattle.std.specs.Prelude.{◌≡◌, Some, None, IsTrue, IfSome, OnOk, OnErr};
 ghost use Rattle.std.specs.Option.{ForSome, option_copied};
 ghost use Rattle.std.specs.HashMap.{get, IsUnchanged};
@@ -25,7 +25,16 @@ impl<C: Answers, A: Allocator> Table<C, A> {
         }
     }
 
-    /// The answer for the key, if one was made.
+    /// Returns the answer for `key`, or `None` if none was made.
+    ///
+    /// # Contract
+    /// The answer is exact, and one for this key (`may`).
+    ///
+    /// # Examples
+    /// ```
+    /// equal(&rt, reader.answer(&3).copied(), Some(9));
+    /// equal(&rt, reader.answer(&4).copied(), None);
+    /// ```
     pub fn answer(&self, key: &C::Key) -> Option<&C::Value>
         ensures exact { option_copied result ≡ get C.Key.eq self.now.map key.now }
         ensures may { IfSome result (λ value. IsTrue (C.may key.now value.now)) }
@@ -33,7 +42,7 @@ impl<C: Answers, A: Allocator> Table<C, A> {
         self.map.get(key)
     }
 
-    /// Adds an answer for a key that has none. `Err` where there is no memory for it. No answer is lost, or another than it was.
+    /// Adds an answer for a key that has none. Fails if there is no memory for it. The other answers stay as they are.
     pub(super) fn add(&mut self, key: C::Key, value: C::Value) -> Result<(), AllocError>
     where
         A: Clone,
