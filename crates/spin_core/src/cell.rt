@@ -1,8 +1,8 @@
 //! One raw cell under all locks: one word or two and a value, under a rule over plain data. Begin with [`Rule`], and
 //! with [`Cell::enter`] and [`Permit`].
 //!
-//! A lock says what each of its parties is to it (a *view*), and what holds of the words and of all views between any
-//! two steps. For each kind of step it owes one fact about plain data: that the step keeps this rule.
+//! A lock says what each of its parties is to it (a *view*). Its rule says what holds of the words and of all views
+//! between any two steps. For each kind of step it owes one fact about plain data: that the step keeps this rule.
 ghost use Rattle.std.specs.Prelude.{◌≡◌, ◌≢◌, ◌+◌, ◌-◌, ◌%◌, ◌^◌, ◌==◌, ℕ, List, [], Option, bit_or};
 ghost use Rattle.std.specs.Coded.{coded_option};
 ghost use prog.Atomic.{either};
@@ -182,9 +182,10 @@ impl<T, V, P: Rule<T, V>> Cell<T, V, P> {
     }
 }
 
-/// Steps on the first word. Each asks that the party has a next view that keeps the rule, whatever the words and the
-/// other views are, and of which its `Play` holds. Then that `Play` holds, and a value that is shown before and after
-/// is the same.
+/// Steps on the first word.
+///
+/// Each asks that the party has a next view of which its `Play` holds and that keeps the rule, whatever the words and
+/// the other views are. Afterwards that `Play` holds, and a value that is shown before and after is the same.
 impl<'a, T, V, P: Rule<T, V>> Permit<'a, T, V, P> {
     /// Reads the first word.
     pub fn load<M: Play<V>>(self) -> (u64, Permit<'a, T, V, P>)

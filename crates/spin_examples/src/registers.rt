@@ -98,8 +98,8 @@ fn two_writers<H: History + Send + Sync, W: Threads + Wait + Sync>(
     )
 }
 
-/// Writes from two threads and reads from two others, all beside one another. Each reader sees the writes in one order:
-/// what one saw is a prefix of what the other saw.
+/// Writes from two threads while two others read. Each reader sees the writes in one order: what one saw is a prefix of
+/// what the other saw.
 pub fn two_write_two_read<H: History + Send + Sync, W: Threads + Wait + Sync>(
     rt: &W,
     lock: &RwLock<Register<u64, H>>,

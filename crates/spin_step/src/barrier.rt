@@ -49,8 +49,8 @@ impl State {
     /// Counts one more arrival, and returns `true` if that one leads: it is the last of its group.
     ///
     /// # Contract
-    /// The state and the answer are exact. If the state was that of a plain barrier, it is now that of the plain
-    /// barrier with one arrival more (`IsBarrier`), and the answer is the plain one (`is_leading`).
+    /// The state and the answer are exact. From the state of a plain barrier it leads to that of the same barrier with
+    /// one arrival more (`IsBarrier`). The answer is the plain one (`is_leading`).
     ///
     /// # Examples
     /// ```

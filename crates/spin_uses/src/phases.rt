@@ -1,5 +1,5 @@
-//! Rounds of workers over a barrier. In each round every worker adds its gain to the round's result, and the leader
-//! folds that result into the total before the next round begins. Begin with [`run_phases`].
+//! Rounds of workers over a barrier. In each round every worker adds its gain to the round's result. The leader folds
+//! that result into the total before the next round begins. Begin with [`run_phases`].
 //!
 //! The total is proved to be exact: a book under the lock has what is still to come, and each worker has a share of it.
 //! That a leader folds a round only when all of it is in, and that a round has one leader, is shown by a test.

@@ -4,8 +4,7 @@ ghost use Rattle.std.specs.Ptr.{as_ptr};
 
 use std::ptr;
 
-/// Returns the value. That there is one is proved, and the compiler takes it that nobody reads through null: it drops
-/// the test.
+/// Returns the value. That there is one is proved. Nothing may be read through null, so the compiler leaves no test.
 pub(super) fn known<'a, T>(value: Option<&'a T>) -> &'a T
     requires { IsSome value }
     ensures { IfSome value.entry (λ there. result.now ≡ there.now) }

@@ -40,8 +40,8 @@ pub fn a_count_is_the_number_of_holders()
     ensures { (k : Opening) (before after : History) (p n : ℕ) → (IsLegal rw k (before ++ entry p ReaderCount (Value n) ∷ after) → n ≡ reader_count (holders k before)) × (IsLegal rw k (before ++ entry p WriterCount (Value n) ∷ after) → n ≡ count_kind writing (holders k before)) }
 {}
 
-/// States that a pass holds from a try that is granted until it unlocks, reads on after a downgrade, and stands among
-/// the holders as it holds. Each call but a count comes from a pass that holds what the call is for.
+/// States that a pass holds from a try that is granted until it unlocks. It reads on after a downgrade, and stands
+/// among the holders as it holds. Each call but a count comes from a pass that holds what the call is for.
 pub fn a_pass_holds_from_its_try_until_it_unlocks()
     ensures holds { (x : Knows) → IsLegal rw x.opening x.seen → holds x ≡ holds_by (calls_by x.pass x.seen) }
     ensures stands { (k : Opening) (log : History) (p : ℕ) → IsLegal rw k log → filter (λ h. h.party == p) (holders k log) ≡ place_of p (holds_by (calls_by p log)) }
