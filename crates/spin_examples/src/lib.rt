@@ -1,6 +1,6 @@
 //! What the pages print: callers that name `spin` alone.
 //!
-//! Begin with [`counter`].
+//! Begin with [`from_rust`].
 #![tactic(auto)]
 
 pub mod account;

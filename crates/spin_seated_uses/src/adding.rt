@@ -35,17 +35,6 @@ pub fn open_for_two(alloc: Global, value: u64) -> Result<(SeatedMutex, Pass, Pas
 }
 
 /// Adds 1 if the lock is granted and there is room. Returns whether it did.
-///
-/// # Contract
-/// The pass is one of this lock and between two turns (`turn_of`), as it is afterwards. Its own calls have one write
-/// more if the answer is `true`, and else as many as before.
-///
-/// # Examples
-/// ```
-/// if add(lock, &mut pass) {
-///     added += 1;
-/// }
-/// ```
 pub fn add(lock: &SeatedMutex, pass: &mut Pass) -> bool
     requires own { IsPassOf lock.now pass.old }
     requires turn { turn_of pass.old.known ≡ Some away }

@@ -34,10 +34,8 @@ pub struct Seats<const N: usize> {
 ///
 /// # Examples
 /// ```
-/// let guard = seats.enter(rt);
-/// equal(rt, inside.fetch_add(1, Ordering::SeqCst) < 2, true);
-/// inside.fetch_sub(1, Ordering::SeqCst);
-/// drop(guard);
+/// drop(first);
+/// equal(&rt, seats.count(), 1);
 /// ```
 pub struct SeatGuard<'a, const N: usize> {
     permit: Permit<'a, (), View, SeatsRule<N>>,

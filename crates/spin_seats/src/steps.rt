@@ -5,6 +5,15 @@ ghost use Rattle.spin_step.specs.Steps.{Decides, Gives};
 ghost use Rattle.spin_seats.specs.Seats.{AllRead, entered, left, seats, seats_word};
 
 /// The most seats that a lock has, however many it is asked to have.
+///
+/// # Examples
+/// ```
+/// if word < room.min(MAX_SEATS) {
+///     Some(word + 1)
+/// } else {
+///     None
+/// }
+/// ```
 pub const MAX_SEATS: usize = usize::MAX / 8;
 
 /// Returns the word after a thread takes a seat, or `None` if all are taken.
@@ -32,6 +41,8 @@ pub fn enter(word: usize, room: usize) -> Option<usize>
 ///
 /// # Contract
 /// A seat is taken. The answer is exact, and gives the plain lock's next state (`Gives`).
+///
+/// No example: a guard makes this step by a subtraction.
 pub fn leave(word: usize) -> usize
     requires { 1 ≤ word }
     ensures exact { result ≡ left word }

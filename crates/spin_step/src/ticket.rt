@@ -33,6 +33,12 @@ pub fn take(next: u64) -> Option<u64>
 ///
 /// # Contract
 /// The ticket is below the limit of tickets. The answer is exact, and gives the plain lock's next state (`Gives`).
+///
+/// # Examples
+/// ```
+/// let next = ticket::serve(number);
+/// permit.store_second::<LetsGo<Self>>(next).leave();
+/// ```
 pub fn serve(ticket: u64) -> u64
     requires { ticket < ticket_limit }
     ensures exact { result ≡ served ticket }
@@ -45,6 +51,14 @@ pub fn serve(ticket: u64) -> u64
 ///
 /// # Contract
 /// The answer is exact: the plain lock lets the thread enter if it is `true`, and only then (`IsTurn`).
+///
+/// # Examples
+/// ```
+/// if !ticket::is_turn(serving, next) {
+///     permit.leave();
+///     return None;
+/// }
+/// ```
 pub fn is_turn(serving: u64, ticket: u64) -> bool
     ensures exact { result ≡ (serving == ticket) }
     ensures plain { IsTurn serving ticket result }

@@ -38,9 +38,8 @@ pub trait Answers {
 ///
 /// # Examples
 /// ```
-/// let cache: SquareCache = Cache::new(rt.alloc());
-/// let made = Cell::new(0);
-/// equal(&rt, square(&rt, &cache, 3, &made)?, 9);
+/// let key = String::from_str(alloc, name)?;
+/// cache.answer(rt, key, |key| key.to_ascii_uppercase(alloc))
 /// ```
 #[derive(Drop)]
 pub struct Cache<C: Answers, A: Allocator = Global, R = Spin> {
@@ -69,8 +68,6 @@ impl<C: Answers, A: Allocator + Clone, R: RelaxStrategy> Cache<C, A, R> {
     /// # Examples
     /// ```
     /// let reader = cache.read(&rt);
-    /// equal(&rt, square(&rt, &cache, 3, &made)?, 9);
-    /// equal(&rt, reader.answer(&3).copied(), Some(9));
     /// ```
     pub fn read<W: Wait>(&self, rt: &W) -> RwLockReadGuard<'_, Table<C, A>, R> {
         self.table.read(rt)

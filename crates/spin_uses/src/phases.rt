@@ -20,12 +20,7 @@ use std::thread::{JoinHandle, Scope, Threads};
 ///
 /// # Examples
 /// ```
-/// impl Gate for Open {
-///     fn before<R: Wait>(&self, rt: &R, worker: usize) {
-///         let _ = rt;
-///         let _ = worker;
-///     }
-/// }
+/// self.gate.before(self.rt, worker);
 /// ```
 pub trait Gate {
     /// Lets a worker pass. Each worker calls it once, before it adds anything. It may wait.
@@ -36,7 +31,12 @@ pub trait Gate {
 ///
 /// # Examples
 /// ```
-/// run_phases(&rt, rt.alloc(), &Open, 8, 100, 3),
+/// impl Gate for Open {
+///     fn before<R: Wait>(&self, rt: &R, worker: usize) {
+///         let _ = rt;
+///         let _ = worker;
+///     }
+/// }
 /// ```
 #[derive(Clone, Copy)]
 pub struct Open;
@@ -350,15 +350,6 @@ fn run_by<'a, P: Plan + Send + Sync, G: Gate + Sync, R: Threads + Wait + Sync, A
 /// # Contract
 /// There are at most [`MAX_WORKERS`], and all that they add fits a `u64`. The total is exact. That workers run at the
 /// same time is not promised. Whether and when the call returns is not promised.
-///
-/// # Examples
-/// ```
-/// equal(
-///     &rt,
-///     run_phases(&rt, rt.alloc(), &Open, 8, 100, 3),
-///     Ok(folded),
-/// );
-/// ```
 pub fn run_phases<G: Gate + Sync, R: Threads + Wait + Sync, A: Allocator>(
     rt: &R,
     alloc: A,

@@ -14,9 +14,9 @@ use std::sync::Wait;
 ///
 /// # Examples
 /// ```
-/// sets(&rt, "port = 8080", Some(Setting::Port(8080)));
-/// sets(&rt, "port = 65535", Some(Setting::Port(65535)));
-/// sets(&rt, "port = 65536", None);
+/// if let Some(value) = line.strip_prefix("port = ") {
+///     return Some(Setting::Port(value.parse().ok()?));
+/// }
 /// ```
 #[derive(Clone, Copy, Debug, PartialEq, Eq)]
 pub enum Setting {
@@ -36,7 +36,9 @@ impl Setting {
     ///
     /// # Examples
     /// ```
-    /// assert_eq!(rt; Setting::of_line(line), setting, "{line}");
+    /// let Some(setting) = Setting::of_line(line) else {
+    ///     return Err(BadLine { number: at + 1 });
+    /// };
     /// ```
     pub fn of_line(line: &str) -> Option<Setting>
         ensures some { IfSome result (Sets line.now) }
@@ -76,7 +78,9 @@ pub struct Settings {
 ///
 /// # Examples
 /// ```
-/// answers(&rt, "verbose = yes\nport = x", Err(BadLine { number: 1 }));
+/// let Some(setting) = Setting::of_line(line) else {
+///     return Err(BadLine { number: at + 1 });
+/// };
 /// ```
 #[derive(Clone, Copy, Debug, PartialEq, Eq)]
 pub struct BadLine {
