@@ -41,7 +41,6 @@ impl Calls for Call {
 /// let (lock, mut first, mut second) = open_for_two(rt.alloc(), 5).expect(&rt, "memory");
 /// assert!(rt; lock.try_lock(&mut first));
 /// assert!(rt; !lock.try_lock(&mut second));
-/// assert!(rt; lock.is_locked(&mut second));
 /// ```
 pub type SeatedMutex<A = Global> = SeatedLock<Call, A>;
 

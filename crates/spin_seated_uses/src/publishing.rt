@@ -191,7 +191,6 @@ pub fn compare(lock: &SeatedRwLock, writer: &mut RwPass, first: &mut RwPass, sec
 /// # Examples
 /// ```
 /// let (first, second) = publish_to_two(&rt, rt.alloc(), 5, &[6, 7, 8], 200).expect(&rt, "memory");
-/// assert!(rt; first.len() == 200 && second.len() == 200);
 /// ```
 pub fn publish_to_two<R: Threads + Wait + Sync>(
     rt: &R,

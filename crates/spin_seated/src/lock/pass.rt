@@ -51,11 +51,6 @@ impl<C: Calls> Pass<C> {
     ///
     /// # Contract
     /// It is what the pass holds at the end of the history that it knows.
-    ///
-    /// # Examples
-    /// ```
-    /// assert!(rt; first.holds() && !second.holds());
-    /// ```
     pub fn holds(&self) -> C::Hold
         ensures { result ≡ holds C.machine self.now.known }
     {

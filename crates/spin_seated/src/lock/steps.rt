@@ -138,9 +138,8 @@ impl<C: Calls, A: Allocator> SeatedLock<C, A> {
     ///
     /// # Examples
     /// ```
-    /// lock.meet(&mut a, &mut b);
-    /// assert!(rt; lock.try_lock(&mut a));
-    /// assert_eq!(rt; lock.read(&mut a), 200);
+    /// lock.meet(a, b);
+    /// let granted = lock.try_lock(a);
     /// ```
     pub fn meet(&self, a: &mut Pass<C>, b: &mut Pass<C>)
         requires first { IsPassOf self.now a.old }

@@ -57,11 +57,6 @@ impl<A: Allocator> SeatedLock<Call, A> {
     ///
     /// # Contract
     /// The pass is one of this lock. The call and its answer end the history that the pass knows then (`Made`).
-    ///
-    /// # Examples
-    /// ```
-    /// assert!(rt; lock.is_locked(&mut second));
-    /// ```
     pub fn is_locked(&self, pass: &mut Pass) -> bool
         requires { IsPassOf self.now pass.old }
         ensures own { IsPassOf self.now pass.new }
@@ -79,8 +74,11 @@ impl<A: Allocator> SeatedLock<Call, A> {
     ///
     /// # Examples
     /// ```
-    /// lock.write(&mut first, 9);
-    /// assert_eq!(rt; lock.read(&mut first), 9);
+    /// let value = lock.read(pass);
+    /// if value == u64::MAX {
+    ///     lock.unlock(pass);
+    ///     return false;
+    /// }
     /// ```
     pub fn read(&self, pass: &mut Pass) -> u64
         requires own { IsPassOf self.now pass.old }
@@ -122,8 +120,9 @@ impl<A: Allocator> SeatedLock<Call, A> {
     ///
     /// # Examples
     /// ```
-    /// lock.unlock(&mut first);
-    /// assert!(rt; !first.holds());
+    /// lock.write(pass, value + 1);
+    /// lock.unlock(pass);
+    /// true
     /// ```
     pub fn unlock(&self, pass: &mut Pass)
         requires own { IsPassOf self.now pass.old }

@@ -78,9 +78,10 @@ impl<A: Allocator> SeatedLock<Call, A> {
     ///
     /// # Examples
     /// ```
-    /// assert!(rt; lock.try_write(&mut c));
-    /// assert_eq!(rt; lock.writer_count(&mut a), 1);
-    /// assert!(rt; !lock.try_read(&rt, &mut a));
+    /// let granted = match hold {
+    ///     SeatedHold::Read => lock.try_read(rt, pass),
+    ///     SeatedHold::Write => lock.try_write(pass),
+    /// };
     /// ```
     pub fn try_write(&self, pass: &mut RwPass) -> bool
         requires own { IsPassOf self.now pass.old }
@@ -104,11 +105,6 @@ impl<A: Allocator> SeatedLock<Call, A> {
     ///
     /// # Contract
     /// The pass is one of this lock. The call and its answer end the history that the pass knows then (`Made`).
-    ///
-    /// # Examples
-    /// ```
-    /// assert_eq!(rt; lock.reader_count(&mut c), 2);
-    /// ```
     pub fn reader_count(&self, pass: &mut RwPass) -> u64
         requires { IsPassOf self.now pass.old }
         ensures own { IsPassOf self.now pass.new }
@@ -122,11 +118,6 @@ impl<A: Allocator> SeatedLock<Call, A> {
     ///
     /// # Contract
     /// The pass is one of this lock. The call and its answer end the history that the pass knows then (`Made`).
-    ///
-    /// # Examples
-    /// ```
-    /// assert_eq!(rt; lock.writer_count(&mut c), 0);
-    /// ```
     pub fn writer_count(&self, pass: &mut RwPass) -> u64
         requires { IsPassOf self.now pass.old }
         ensures own { IsPassOf self.now pass.new }
@@ -144,8 +135,10 @@ impl<A: Allocator> SeatedLock<Call, A> {
     ///
     /// # Examples
     /// ```
-    /// assert!(rt; lock.try_read(&rt, &mut a));
-    /// assert_eq!(rt; lock.read(&mut a), 9);
+    /// come(rt, lock, pass, SeatedHold::Read);
+    /// let value = lock.read(pass);
+    /// lock.unlock_read(pass);
+    /// value
     /// ```
     pub fn read(&self, pass: &mut RwPass) -> u64
         requires own { IsPassOf self.now pass.old }
@@ -234,7 +227,6 @@ impl<A: Allocator> SeatedLock<Call, A> {
     /// ```
     /// lock.write(&mut c, 9);
     /// lock.downgrade(&mut c);
-    /// assert!(rt; reads(&c));
     /// ```
     pub fn downgrade(&self, pass: &mut RwPass)
         requires own { IsPassOf self.now pass.old }
