@@ -132,8 +132,8 @@ impl<T, V, P: Rule<T, V>> Cell<T, V, P> {
     /// maker has left.
     ///
     /// # Contract
-    /// The rule holds of the words. If parties read the value at the same time, whoever may share the rule's own type
-    /// may share the value (`Known`).
+    /// The rule has to hold of the words (`Opens`). If parties read the value at the same time, whoever may share the
+    /// rule's own type has to be allowed to share the value (`Known`).
     pub fn new(value: T, first: u64, second: P::Second, key: &P::Key) -> Cell<T, V, P>
         requires known { Known (P.ways key.now) P.row P.Second.row T.row }
         requires rule { Opens P.holds (P.ways key.now) first second value }
@@ -163,7 +163,7 @@ impl<T, V, P: Rule<T, V>> Cell<T, V, P> {
     /// Returns a mutable reference to the value. It reads no word: the borrow shows that there is no permit.
     ///
     /// # Contract
-    /// Any value may take the place of one that no party uses (`Frees`).
+    /// It has to be so that any value may take the place of one that no party uses (`Frees`).
     pub fn get_mut(&mut self) -> &mut T
         requires { Frees (P.ways self.old).0 }
     {

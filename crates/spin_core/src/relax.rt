@@ -60,9 +60,9 @@ pub trait RelaxStrategy {
     /// failed.
     ///
     /// # Contract
-    /// The closure is always callable. The first attempt begins in `state`, and each later one in the state of the
-    /// failure before it. The answer is that of the last attempt (`Succeeds`). Whether and when the call returns is not
-    /// promised.
+    /// The closure has to be always callable. The first attempt begins in `state`, and each later one in the state of
+    /// the failure before it. The answer is that of the last attempt (`Succeeds`). Whether and when the call returns is
+    /// not promised.
     ///
     /// # Examples
     /// ```
@@ -86,7 +86,7 @@ pub trait RelaxStrategy {
     /// It is kept apart: inlined, it would lengthen the path of each caller that does not wait.
     ///
     /// # Contract
-    /// As that of `retry`; `pause` is always callable too.
+    /// As that of `retry`; `pause` has to be always callable too.
     ///
     /// # Examples
     /// ```
@@ -124,7 +124,7 @@ pub trait RelaxStrategy {
     /// quickest if few look at it.
     ///
     /// # Contract
-    /// The closure is always callable, and the answer is one that it gave. Whether and when the call returns is not
+    /// The closure has to be always callable. The answer is one that it gave. Whether and when the call returns is not
     /// promised.
     ///
     /// # Examples

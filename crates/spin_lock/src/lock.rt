@@ -24,7 +24,7 @@ pub trait Lock<T> {
     /// It spins as the lock does. The call never returns if its own thread holds the lock.
     ///
     /// # Contract
-    /// The closure is always callable. It is called once, with some value of `T`, and its answer is returned
+    /// The closure has to be always callable. It is called once, with some value of `T`, and its answer is returned
     /// (`AnswersOf`). Whether and when the call returns is not promised.
     ///
     /// # Examples
@@ -41,7 +41,8 @@ pub trait Lock<T> {
     /// Tries to acquire the lock, and then does as [`with`](Lock::with). Hands the closure back if the lock is held.
     ///
     /// # Contract
-    /// The closure is always callable. `Ok` is an answer as that of `with`. `Err` is the closure, which was not called.
+    /// The closure has to be always callable. `Ok` is an answer as that of `with`. `Err` is the closure, which was not
+    /// called.
     ///
     /// # Examples
     /// ```
@@ -77,7 +78,7 @@ pub trait SharedLock<T>: Lock<T> {
     /// It spins as the lock does. The call never returns if its own thread is the writer.
     ///
     /// # Contract
-    /// The closure is always callable. It is called once, with some value of `T`, and its answer is returned
+    /// The closure has to be always callable. It is called once, with some value of `T`, and its answer is returned
     /// (`AnswersOfShared`). Whether and when the call returns is not promised.
     ///
     /// # Examples
@@ -97,8 +98,8 @@ pub trait SharedLock<T>: Lock<T> {
     /// back if access is refused, as beside a writer.
     ///
     /// # Contract
-    /// The closure is always callable. `Ok` is an answer as that of `with_shared`. `Err` is the closure, which was not
-    /// called. Whether and when the call returns is not promised.
+    /// The closure has to be always callable. `Ok` is an answer as that of `with_shared`. `Err` is the closure, which
+    /// was not called. Whether and when the call returns is not promised.
     ///
     /// # Examples
     /// ```

@@ -49,7 +49,7 @@ pub trait Makes<T, M: Promise<T>> {
     /// Makes the value.
     ///
     /// # Contract
-    /// `can` holds of the initialiser and the promise. The value keeps the promise.
+    /// `can` has to hold of the initialiser and the promise. The value keeps the promise.
     ///
     /// # Examples
     /// ```
@@ -151,8 +151,9 @@ impl<T, F: Makes<T, M>, R: RelaxStrategy, M: Promise<T>> LazyLock<T, F, R, M> {
     /// never returns if the initialiser asks for the value of this `LazyLock`.
     ///
     /// # Contract
-    /// The initialiser may make the value (`can`): of a closure, its precondition holds and each of its answers keeps
-    /// the promise. The value keeps the promise. Whether and when the call returns is not promised.
+    /// The initialiser has to be able to make the value (`can`). For a closure that means: its precondition holds, and
+    /// each of its answers keeps the promise. The value keeps the promise. Whether and when the call returns is not
+    /// promised.
     ///
     /// # Examples
     /// ```

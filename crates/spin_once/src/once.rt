@@ -132,8 +132,8 @@ impl<T, R: RelaxStrategy> Once<T, R> {
     /// called only if that closure left no value. The call never returns if `f` waits for the value of this `Once`.
     ///
     /// # Contract
-    /// The precondition of `f` holds. Of the value is known what its type `T` says. Whether and when the call returns
-    /// is not promised.
+    /// The precondition of `f` has to hold. Of the value is known what its type `T` says. Whether and when the call
+    /// returns is not promised.
     ///
     /// # Examples
     /// ```
@@ -166,8 +166,8 @@ impl<T, R: RelaxStrategy> Once<T, R> {
     /// If `f` fails, the call returns its `Err`, and there is no value still: another caller's closure may give one.
     ///
     /// # Contract
-    /// The precondition of `f` holds. An `Err` is an answer of this caller's own `f`, never that of another's. Whether
-    /// and when the call returns is not promised.
+    /// The precondition of `f` has to hold. An `Err` is an answer of this caller's own `f`, never that of another's.
+    /// Whether and when the call returns is not promised.
     ///
     /// # Examples
     /// ```

@@ -43,7 +43,6 @@ pub fn a_read_gives_the_last_write()
 /// States that a pass of either lock reads the opening value and those that were written, in their order. It never
 /// reads an older one than it read before.
 ///
-///
 /// # Examples
 /// ```
 /// lock.meet(first, second);

@@ -99,7 +99,6 @@ impl<C: Calls> TableRule<u64, View<Opening, C, Answer>, Opening> for Law<C> {
 
 /// A lock of one number, whose calls `C` stand in one history. The first word is the lock's, the second the value.
 ///
-///
 /// # Examples
 /// ```
 /// let opened = SeatedLock::<C, &Bump>::new(arena, 5, 2);

@@ -35,7 +35,6 @@ impl Calls for Call {
 ///
 /// Like a `Mutex`, and callers can also prove what happened, not only what holds now.
 ///
-///
 /// # Examples
 /// ```
 /// let (lock, mut first, mut second) = open_for_two(rt.alloc(), 5).expect(&rt, "memory");

@@ -59,9 +59,8 @@ pub fn add(lock: &SeatedMutex, pass: &mut Pass) -> bool
 /// Tries to add 1, `turns` times. Returns the pass, and how often it did.
 ///
 /// # Contract
-/// The pass is one of this lock, between two turns, and has added nothing. Afterwards it has added as often as the
-/// answer says (`HasAdded`).
-///
+/// The pass has to be one of this lock, between two turns, and to have added nothing. Afterwards it has added as often
+/// as the answer says (`HasAdded`).
 ///
 /// # Examples
 /// ```
@@ -87,8 +86,8 @@ pub fn add_some(lock: &SeatedMutex, mut pass: Pass, turns: u64) -> (Pass, u64)
 /// no other call came between.
 ///
 /// # Contract
-/// The lock has two passes, and these are both, each between two turns. The answer is what the lock was opened with,
-/// and the additions of both.
+/// The lock has to have two passes, and these have to be both, each between two turns. The answer is what the lock was
+/// opened with, and the additions of both.
 ///
 /// # Examples
 /// ```

@@ -159,8 +159,8 @@ fn look_in_two<R: Threads + Wait + Sync>(
 /// The readers meet first. What they know then goes on to what the writer knows when it has met one of them.
 ///
 /// # Contract
-/// The lock has three passes, and these are all. Neither reader has written. Each reader read the opening value and
-/// those that the writer wrote, in their order (`InOrderOf`).
+/// The lock has to have three passes, and these have to be all. Neither reader may have written. Each reader read the
+/// opening value and those that the writer wrote, in their order (`InOrderOf`).
 ///
 /// # Examples
 /// ```

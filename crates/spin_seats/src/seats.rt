@@ -16,7 +16,6 @@ mod rule;
 ///
 /// Waiting threads may overtake one another.
 ///
-///
 /// # Examples
 /// ```
 /// let seats: Seats<2> = Seats::new();
@@ -62,7 +61,6 @@ impl<const N: usize> Seats<N> {
     /// # Contract
     /// The answer is at most `N`, and at most [`MAX_SEATS`](steps::MAX_SEATS).
     ///
-    ///
     /// # Examples
     /// ```
     /// equal(&rt, seats.count(), 2);
@@ -85,7 +83,6 @@ impl<const N: usize> Seats<N> {
     /// # Contract
     /// Whether and when the call returns is not promised.
     ///
-    ///
     /// # Examples
     /// ```
     /// let third = seats.try_enter(&rt).expect(&rt, "one is free");
@@ -107,7 +104,6 @@ impl<const N: usize> Seats<N> {
     ///
     /// # Contract
     /// Whether and when the call returns is not promised.
-    ///
     ///
     /// # Examples
     /// ```

@@ -21,7 +21,6 @@ pub const MAX_SEATS: usize = usize::MAX / 8;
 /// # Contract
 /// The answer is exact, and decides as a plain lock of readers does whose cap is the number of seats (`Decides`).
 ///
-///
 /// # Examples
 /// ```
 /// let next = steps::enter(word, N)?;
@@ -40,7 +39,7 @@ pub fn enter(word: usize, room: usize) -> Option<usize>
 /// Returns the word after a thread frees its seat.
 ///
 /// # Contract
-/// A seat is taken. The answer is exact, and gives the plain lock's next state (`Gives`).
+/// A seat has to be taken. The answer is exact, and gives the plain lock's next state (`Gives`).
 ///
 /// No example: a guard makes this step by a subtraction.
 pub fn leave(word: usize) -> usize

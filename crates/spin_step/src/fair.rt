@@ -85,7 +85,7 @@ pub fn lock(word: usize) -> Option<usize>
 /// Returns why [`lock`] refuses this word.
 ///
 /// # Contract
-/// The word is not 0. The answer is exact, and true of the plain lock (`Tells`).
+/// The word must not be 0. The answer is exact, and true of the plain lock (`Tells`).
 ///
 /// # Examples
 /// ```
@@ -129,7 +129,7 @@ pub fn starve(word: usize, cap: usize) -> Option<usize>
 /// Returns the word after a starver ends its registration.
 ///
 /// # Contract
-/// The word counts a starver. The answer is exact, and gives the plain lock's next state (`Gives`).
+/// The word has to count a starver. The answer is exact, and gives the plain lock's next state (`Gives`).
 ///
 /// # Examples
 /// ```
@@ -184,7 +184,7 @@ pub fn lock_starved(word: usize) -> Option<usize>
 /// Returns the word after the holder releases the lock.
 ///
 /// # Contract
-/// The word shows a holder. The answer is exact, and gives the plain lock's next state (`Gives`).
+/// The word has to show a holder. The answer is exact, and gives the plain lock's next state (`Gives`).
 ///
 /// # Examples
 /// ```

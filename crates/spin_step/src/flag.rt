@@ -25,7 +25,7 @@ pub fn lock(flag: bool) -> Option<bool>
 /// Returns the flag after the holder releases the lock.
 ///
 /// # Contract
-/// The flag is set. The answer is exact, and gives the plain lock's next state (`Gives`).
+/// The flag has to be set. The answer is exact, and gives the plain lock's next state (`Gives`).
 ///
 /// # Examples
 /// ```

@@ -26,7 +26,7 @@ pub fn begin(state: u8) -> Option<u8>
 /// Returns the state after the closure that runs gives a value.
 ///
 /// # Contract
-/// A closure runs: the state is 1. The answer is exact, and gives the plain lock's next state (`Gives`).
+/// A closure has to run: the state is 1. The answer is exact, and gives the plain lock's next state (`Gives`).
 ///
 /// # Examples
 /// ```
@@ -43,7 +43,7 @@ pub fn complete(state: u8) -> u8
 /// Returns the state after the closure that runs ends without a value. The next closure may begin.
 ///
 /// # Contract
-/// A closure runs: the state is 1. The answer is exact, and gives the plain lock's next state (`Gives`).
+/// A closure has to run: the state is 1. The answer is exact, and gives the plain lock's next state (`Gives`).
 ///
 /// # Examples
 /// ```

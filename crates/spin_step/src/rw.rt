@@ -149,8 +149,8 @@ pub fn upgrade(word: usize) -> Option<usize>
 /// Returns the word after the upgradable reader asks to upgrade.
 ///
 /// # Contract
-/// The word shows an upgradable reader that has not asked. The answer is exact, and gives the plain lock's next state
-/// (`Gives`).
+/// The word has to show an upgradable reader that has not asked. The answer is exact, and gives the plain lock's next
+/// state (`Gives`).
 ///
 /// # Examples
 /// ```
@@ -188,7 +188,7 @@ pub fn upgrade_asked(word: usize) -> Option<usize>
 /// Returns the word after a reader releases the lock.
 ///
 /// # Contract
-/// The word shows a reader. The answer is exact, and gives the plain lock's next state (`Gives`).
+/// The word has to show a reader. The answer is exact, and gives the plain lock's next state (`Gives`).
 ///
 /// # Examples
 /// ```
@@ -205,8 +205,8 @@ pub fn release_read(word: usize) -> usize
 /// Returns the word after the upgradable reader releases the lock.
 ///
 /// # Contract
-/// The word shows an upgradable reader that has not asked. The answer is exact, and gives the plain lock's next state
-/// (`Gives`).
+/// The word has to show an upgradable reader that has not asked. The answer is exact, and gives the plain lock's next
+/// state (`Gives`).
 ///
 /// # Examples
 /// ```
@@ -223,7 +223,7 @@ pub fn release_upgradable(word: usize) -> usize
 /// Returns the word after the writer releases the lock.
 ///
 /// # Contract
-/// The word shows a writer. The answer is exact, and gives the plain lock's next state (`Gives`).
+/// The word has to show a writer. The answer is exact, and gives the plain lock's next state (`Gives`).
 ///
 /// # Examples
 /// ```
@@ -240,7 +240,7 @@ pub fn release_write(word: usize) -> usize
 /// Returns the word after the writer becomes a reader.
 ///
 /// # Contract
-/// The word shows a writer. The answer is exact, and gives the plain lock's next state (`Gives`).
+/// The word has to show a writer. The answer is exact, and gives the plain lock's next state (`Gives`).
 ///
 /// # Examples
 /// ```
@@ -257,7 +257,7 @@ pub fn write_to_read(word: usize) -> usize
 /// Returns the word after the writer becomes the upgradable reader.
 ///
 /// # Contract
-/// The word shows a writer. The answer is exact, and gives the plain lock's next state (`Gives`).
+/// The word has to show a writer. The answer is exact, and gives the plain lock's next state (`Gives`).
 ///
 /// # Examples
 /// ```
@@ -274,8 +274,8 @@ pub fn write_to_upgradable(word: usize) -> usize
 /// Returns the word after the upgradable reader becomes a reader.
 ///
 /// # Contract
-/// The word shows an upgradable reader that has not asked, and fewer other readers than [`MAX_READERS`]. The answer is
-/// exact, and gives the plain lock's next state (`Gives`).
+/// The word has to show an upgradable reader that has not asked, and fewer other readers than [`MAX_READERS`]. The
+/// answer is exact, and gives the plain lock's next state (`Gives`).
 ///
 /// # Examples
 /// ```

@@ -32,7 +32,8 @@ pub fn take(next: u64) -> Option<u64>
 /// Returns the number that is served after the thread with `ticket` leaves.
 ///
 /// # Contract
-/// The ticket is below the limit of tickets. The answer is exact, and gives the plain lock's next state (`Gives`).
+/// The ticket has to be below the limit of tickets. The answer is exact, and gives the plain lock's next state
+/// (`Gives`).
 ///
 /// # Examples
 /// ```

@@ -35,7 +35,6 @@ pub trait Answers {
 /// makes it. Meanwhile other readers come and go, for the answers that are there. It becomes the writer only to add
 /// what it made.
 ///
-///
 /// # Examples
 /// ```
 /// let key = String::from_str(alloc, name)?;
@@ -79,8 +78,8 @@ impl<C: Answers, A: Allocator + Clone, R: RelaxStrategy> Cache<C, A, R> {
     /// call never returns if it asks for an answer that is not there.
     ///
     /// # Contract
-    /// `make` may be called with `key`, and each answer that it may give is one for this key (`may`). What the call
-    /// returns is an answer for this key, whoever made it. Whether and when the call returns is not promised.
+    /// `make` has to be callable with `key`, and each answer that it may give has to be one for this key (`may`). What
+    /// the call returns is an answer for this key, whoever made it. Whether and when the call returns is not promised.
     ///
     /// # Examples
     /// ```

@@ -71,7 +71,7 @@ impl<O: Opening, A: Allocator> Accounts<O, A> {
     /// Creates accounts with these balances, and an empty journal.
     ///
     /// # Contract
-    /// The balances are those of `O`, and their sum fits a `u64`.
+    /// The balances have to be those of `O`, and their sum has to fit a `u64`.
     ///
     /// # Examples
     /// ```
@@ -198,8 +198,8 @@ fn make(balances: &mut [u64], transfer: &Transfer)
 /// Returns the balances after all transfers of a journal, in its order. Fails at the first that cannot be made.
 ///
 /// # Contract
-/// The opening balances fit a `u64` together. `Ok` has the balances of the replay (`replayed`). `Err`, but for want of
-/// memory, says that the journal has none.
+/// The sum of the opening balances has to fit a `u64`. `Ok` has the balances of the replay (`replayed`). `Err`, but for
+/// want of memory, says that the journal has none.
 ///
 /// # Examples
 /// ```

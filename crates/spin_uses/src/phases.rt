@@ -348,8 +348,8 @@ fn run_by<'a, P: Plan + Send + Sync, G: Gate + Sync, R: Threads + Wait + Sync, A
 /// If a thread or its memory is refused there is no total, and no worker adds anything.
 ///
 /// # Contract
-/// There are at most [`MAX_WORKERS`], and all that they add fits a `u64`. The total is exact. That workers run at the
-/// same time is not promised. Whether and when the call returns is not promised.
+/// There may be at most [`MAX_WORKERS`], and all that they add has to fit a `u64`. The total is exact. That workers run
+/// at the same time is not promised. Whether and when the call returns is not promised.
 pub fn run_phases<G: Gate + Sync, R: Threads + Wait + Sync, A: Allocator>(
     rt: &R,
     alloc: A,

@@ -9,8 +9,7 @@ impl<'a, T, V, P: Rule<T, V>> Permit<'a, T, V, P> {
     /// Reads the first word, and ends the permit.
     ///
     /// # Contract
-    /// After the step the party is at rest. Its `Play` holds of the answer.
-    ///
+    /// After the step the party has to be at rest. Its `Play` holds of the answer.
     ///
     /// # Examples
     /// ```
@@ -30,9 +29,8 @@ impl<'a, T, V, P: Rule<T, V>> Permit<'a, T, V, P> {
     /// word.
     ///
     /// # Contract
-    /// After a step that finds another word the party is at rest. `Ok` is the permit after a step that found `old`.
-    /// `Err` is a word other than `old`.
-    ///
+    /// After a step that finds another word the party has to be at rest. `Ok` is the permit after a step that found
+    /// `old`. `Err` is a word other than `old`.
     ///
     /// # Examples
     /// ```

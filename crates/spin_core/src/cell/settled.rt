@@ -36,8 +36,7 @@ impl<T: Settles, V, P: Rule<Loose<T>, V>> Cell<Loose<T>, V, P> {
     /// Returns a mutable reference to the value if the first word is `first`. The borrow shows that there is no permit.
     ///
     /// # Contract
-    /// Where the rule holds of that word the value is settled (`SettlesAt`), and stays so.
-    ///
+    /// Where the rule holds of that word the value has to be settled (`SettlesAt`). It stays so.
     ///
     /// # Examples
     /// ```

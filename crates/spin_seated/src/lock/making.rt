@@ -11,8 +11,8 @@ impl<C: Calls, A: Allocator> SeatedLock<C, A> {
     /// Creates a lock that no pass holds, and its passes, numbered from 0 on. Fails if there is no memory.
     ///
     /// # Contract
-    /// There is at least one pass. The lock was opened with `value` and so many passes, and these are all its passes,
-    /// none of which has made a call.
+    /// There has to be at least one pass. The lock was opened with `value` and so many passes, and these are all its
+    /// passes, none of which has made a call.
     ///
     /// # Examples
     /// ```

@@ -27,7 +27,6 @@ impl<C> Model for Place<C> {
 /// It cannot be copied, and may go to another thread. A pass that is dropped while it holds the lock leaves the lock
 /// held.
 ///
-///
 /// # Examples
 /// ```
 /// is_send::<Pass>();

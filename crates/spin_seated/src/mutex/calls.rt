@@ -28,8 +28,8 @@ impl<A: Allocator> SeatedLock<Call, A> {
     /// Tries to acquire the lock, by one exchange. Returns `false` if it is held.
     ///
     /// # Contract
-    /// The pass is one of this lock. The call and its answer end the history that the pass knows then (`Made`). The
-    /// pass holds the lock then if it held it before or the answer is `true`.
+    /// The pass has to be one of this lock. The call and its answer end the history that the pass knows then (`Made`).
+    /// The pass holds the lock then if it held it before or the answer is `true`.
     ///
     /// # Examples
     /// ```
@@ -56,7 +56,7 @@ impl<A: Allocator> SeatedLock<Call, A> {
     /// may be out of date.
     ///
     /// # Contract
-    /// The pass is one of this lock. The call and its answer end the history that the pass knows then (`Made`).
+    /// The pass has to be one of this lock. The call and its answer end the history that the pass knows then (`Made`).
     pub fn is_locked(&self, pass: &mut Pass) -> bool
         requires { IsPassOf self.now pass.old }
         ensures own { IsPassOf self.now pass.new }
@@ -69,8 +69,8 @@ impl<A: Allocator> SeatedLock<Call, A> {
     /// Returns the value, by one load.
     ///
     /// # Contract
-    /// The pass is one of this lock and holds it. The call and its answer end the history that the pass knows then
-    /// (`Made`).
+    /// The pass has to be one of this lock, and to hold it. The call and its answer end the history that the pass knows
+    /// then (`Made`).
     ///
     /// # Examples
     /// ```
@@ -93,8 +93,8 @@ impl<A: Allocator> SeatedLock<Call, A> {
     /// Replaces the value, by one store.
     ///
     /// # Contract
-    /// The pass is one of this lock and holds it. The call and its answer end the history that the pass knows then
-    /// (`Made`).
+    /// The pass has to be one of this lock, and to hold it. The call and its answer end the history that the pass knows
+    /// then (`Made`).
     ///
     /// # Examples
     /// ```
@@ -115,8 +115,8 @@ impl<A: Allocator> SeatedLock<Call, A> {
     /// Releases the lock, by one store.
     ///
     /// # Contract
-    /// The pass is one of this lock and holds it. The call and its answer end the history that the pass knows then
-    /// (`Made`). The pass does not hold the lock then.
+    /// The pass has to be one of this lock, and to hold it. The call and its answer end the history that the pass knows
+    /// then (`Made`). The pass does not hold the lock then.
     ///
     /// # Examples
     /// ```

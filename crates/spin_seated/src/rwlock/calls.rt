@@ -27,8 +27,9 @@ impl<A: Allocator> SeatedLock<Call, A> {
     /// It makes a load, and then exchanges until one finds the word that it expects or the lock refuses.
     ///
     /// # Contract
-    /// The pass is one of this lock and holds nothing. The call and its answer end the history that the pass knows then
-    /// (`Made`). If the answer is `true` it holds as a reader then. Whether and when the call returns is not promised.
+    /// The pass has to be one of this lock, and to hold nothing. The call and its answer end the history that the pass
+    /// knows then (`Made`). If the answer is `true` it holds as a reader then. Whether and when the call returns is not
+    /// promised.
     ///
     /// # Examples
     /// ```
@@ -73,8 +74,8 @@ impl<A: Allocator> SeatedLock<Call, A> {
     /// Tries to acquire the lock as the writer, by one exchange. Returns `false` beside any holder.
     ///
     /// # Contract
-    /// The pass is one of this lock and holds nothing. The call and its answer end the history that the pass knows then
-    /// (`Made`). If the answer is `true` it holds as the writer then.
+    /// The pass has to be one of this lock, and to hold nothing. The call and its answer end the history that the pass
+    /// knows then (`Made`). If the answer is `true` it holds as the writer then.
     ///
     /// # Examples
     /// ```
@@ -104,7 +105,7 @@ impl<A: Allocator> SeatedLock<Call, A> {
     /// Returns how many passes hold as readers, by one load.
     ///
     /// # Contract
-    /// The pass is one of this lock. The call and its answer end the history that the pass knows then (`Made`).
+    /// The pass has to be one of this lock. The call and its answer end the history that the pass knows then (`Made`).
     pub fn reader_count(&self, pass: &mut RwPass) -> u64
         requires { IsPassOf self.now pass.old }
         ensures own { IsPassOf self.now pass.new }
@@ -117,7 +118,7 @@ impl<A: Allocator> SeatedLock<Call, A> {
     /// Returns how many passes hold as writers, by one load.
     ///
     /// # Contract
-    /// The pass is one of this lock. The call and its answer end the history that the pass knows then (`Made`).
+    /// The pass has to be one of this lock. The call and its answer end the history that the pass knows then (`Made`).
     pub fn writer_count(&self, pass: &mut RwPass) -> u64
         requires { IsPassOf self.now pass.old }
         ensures own { IsPassOf self.now pass.new }
@@ -130,8 +131,8 @@ impl<A: Allocator> SeatedLock<Call, A> {
     /// Returns the value, by one load.
     ///
     /// # Contract
-    /// The pass is one of this lock and holds it as a reader or as the writer. The call and its answer end the history
-    /// that the pass knows then (`Made`).
+    /// The pass has to be one of this lock, and to hold it as a reader or as the writer. The call and its answer end
+    /// the history that the pass knows then (`Made`).
     ///
     /// # Examples
     /// ```
@@ -153,8 +154,8 @@ impl<A: Allocator> SeatedLock<Call, A> {
     /// Replaces the value, by one store.
     ///
     /// # Contract
-    /// The pass is one of this lock and holds it as the writer. The call and its answer end the history that the pass
-    /// knows then (`Made`).
+    /// The pass has to be one of this lock, and to hold it as the writer. The call and its answer end the history that
+    /// the pass knows then (`Made`).
     ///
     /// # Examples
     /// ```
@@ -175,8 +176,8 @@ impl<A: Allocator> SeatedLock<Call, A> {
     /// Releases the lock of a reader, by one subtraction.
     ///
     /// # Contract
-    /// The pass is one of this lock and holds it as a reader. The call and its answer end the history that the pass
-    /// knows then (`Made`). It holds nothing then.
+    /// The pass has to be one of this lock, and to hold it as a reader. The call and its answer end the history that
+    /// the pass knows then (`Made`). It holds nothing then.
     ///
     /// # Examples
     /// ```
@@ -198,8 +199,8 @@ impl<A: Allocator> SeatedLock<Call, A> {
     /// Releases the lock of the writer, by one subtraction.
     ///
     /// # Contract
-    /// The pass is one of this lock and holds it as the writer. The call and its answer end the history that the pass
-    /// knows then (`Made`). It holds nothing then.
+    /// The pass has to be one of this lock, and to hold it as the writer. The call and its answer end the history that
+    /// the pass knows then (`Made`). It holds nothing then.
     ///
     /// # Examples
     /// ```
@@ -220,8 +221,8 @@ impl<A: Allocator> SeatedLock<Call, A> {
     /// Turns the writer into a reader, by one addition. No other pass writes in between.
     ///
     /// # Contract
-    /// The pass is one of this lock and holds it as the writer. The call and its answer end the history that the pass
-    /// knows then (`Made`). It holds as a reader then.
+    /// The pass has to be one of this lock, and to hold it as the writer. The call and its answer end the history that
+    /// the pass knows then (`Made`). It holds as a reader then.
     ///
     /// # Examples
     /// ```
