@@ -1,4 +1,5 @@
-//! A monotone log and snapshots of it, as ghost state: tokens that have no bytes and take no steps.
+//! A monotone log and snapshots of it, as ghost state: tokens that have no bytes and take no steps. Begin with
+//! [`BlankLog::new`] and [`Snapshot`].
 ghost use Rattle.std.specs.Prelude.{◌≡◌, ◌⊎◌, ℕ, List, [], ◌∷◌, ◌++◌};
 ghost use Rattle.std.specs.Coded.{coded_list};
 ghost use mathlib.Core.List.{IsPrefix};
@@ -7,9 +8,14 @@ ghost use Rattle.spin_history.specs.History.{blank_owns, log_owns, log_shares, s
 
 use std::marker::{Brand, Model, PhantomData};
 
-/// Names a log in the types of its tokens. Tokens of one type belong to one log.
+/// The name of a log in the types of its tokens. Tokens of one type belong to one log.
 ///
 /// A caller takes a type parameter `H: History`, and passes `Brand` for it where the log is opened.
+///
+/// # Examples
+/// ```
+/// four_threads_by::<Brand, W>(rt, values, BlankLog::new())
+/// ```
 pub trait History {
     ghost name: { ℕ };
 }
@@ -18,7 +24,13 @@ impl History for Brand {
     ghost name = { 0 };
 }
 
-/// A new log that has no type yet. `open` gives it one.
+/// A new log that has no type yet. [`open`](BlankLog::open) gives it one.
+///
+/// # Examples
+/// ```
+/// let log = blank.open::<u64, H>();
+/// let start = log.snapshot();
+/// ```
 pub struct BlankLog {
     marker: PhantomData<()>,
     pub ghost name: { ℕ },
@@ -30,8 +42,17 @@ impl Model for BlankLog {
 
 /// A monotone log: a list that only grows, and the right to append to it. There is one for each history.
 ///
-/// A log lies beside the value that it tells of, under the same lock. The struct that holds both states in an invariant of
-/// its own how they belong together, as [`Register`](crate::register::Register) does.
+/// A log lies beside the value that it tells of, under the same lock. The struct that holds both states in an invariant
+/// of its own how they belong together, as [`Register`](crate::register::Register) does.
+///
+/// # Examples
+/// ```
+/// pub struct Register<T, H: History> {
+///     value: T,
+///     log: Log<T, H>,
+///     ghost latest: { last log.entries ≡ Some value },
+/// }
+/// ```
 pub struct Log<T, H: History> {
     marker: PhantomData<(T, H)>,
     pub ghost entries: { List T } by { coded_list T.code },
@@ -46,6 +67,11 @@ impl<T, H: History> Model for Log<T, H> {
 /// A lower bound of a log: its entries are a prefix of the log's, now and ever after.
 ///
 /// Any number of threads may have a snapshot each, whether or not they hold the lock.
+///
+/// # Examples
+/// ```
+/// let (start, other) = (log.snapshot(), log.snapshot());
+/// ```
 pub struct Snapshot<T, H: History> {
     marker: PhantomData<(T, H)>,
     pub ghost entries: { List T } by { coded_list T.code },
@@ -57,7 +83,12 @@ impl<T, H: History> Model for Snapshot<T, H> {
     ghost also_shares = { λ snapshot _ κ. said (snapshot_owns T.row.coded.code H.name snapshot.entries) κ };
 }
 
-/// A log to which nobody appends any more. Every snapshot is a prefix of it.
+/// A log to which no thread appends any more. Every snapshot is a prefix of it.
+///
+/// # Examples
+/// ```
+/// let (last, closed) = lock.into_inner().close();
+/// ```
 pub struct ClosedLog<T, H: History> {
     marker: PhantomData<(T, H)>,
     pub ghost entries: { List T } by { coded_list T.code },
@@ -71,6 +102,11 @@ impl<T, H: History> Model for ClosedLog<T, H> {
 
 impl BlankLog {
     /// Creates a log that has no type yet.
+    ///
+    /// # Examples
+    /// ```
+    /// race_by::<Brand, W>(rt, times, BlankLog::new())
+    /// ```
     pub fn new() -> BlankLog {
         BlankLog {
             marker: PhantomData,
@@ -80,7 +116,12 @@ impl BlankLog {
     /// Opens the log as that of the history `H`.
     ///
     /// # Contract
-    /// `H` names this log, which the caller picks where it passes `Brand` for `H`. The log is empty.
+    /// `H` has to name this log, which the caller picks by passing `Brand` for `H`. The log is empty.
+    ///
+    /// # Examples
+    /// ```
+    /// let log = blank.open::<u64, H>();
+    /// ```
     pub fn open<T, H: History>(self) -> Log<T, H>
         requires { self.name ≡ H.name }
         ensures { result.entries ≡ [] }
@@ -94,11 +135,30 @@ impl BlankLog {
 
 impl<T, H: History> Log<T, H> {
     /// Appends an entry.
+    ///
+    /// # Contract
+    /// The log has the entries that it had, and then this one.
+    ///
+    /// # Examples
+    /// ```
+    /// let mut log = log;
+    /// log.append(&value);
+    /// Register { value, log }
+    /// ```
     pub fn append(&mut self, value: &T)
         ensures { self.new.entries ≡ self.old.entries ++ value.now ∷ [] }
     {}
 
     /// Returns a snapshot of all entries so far.
+    ///
+    /// # Contract
+    /// It has all entries of the log.
+    ///
+    /// # Examples
+    /// ```
+    /// let log = blank.open::<u64, H>();
+    /// let start = log.snapshot();
+    /// ```
     pub fn snapshot(&self) -> Snapshot<T, H>
         ensures { result.entries ≡ self.now.entries }
     {
@@ -110,7 +170,13 @@ impl<T, H: History> Log<T, H> {
     /// Brings a snapshot up to date.
     ///
     /// # Contract
-    /// What the snapshot had is a prefix of the log, and it has all of the log afterwards.
+    /// What the snapshot had is a prefix of the log. Afterwards it has all of the log.
+    ///
+    /// # Examples
+    /// ```
+    /// self.log.observe(seen);
+    /// &self.value
+    /// ```
     pub fn observe(&self, snapshot: &mut Snapshot<T, H>)
         ensures { IsPrefix snapshot.old.entries self.now.entries × (snapshot.new.entries ≡ self.now.entries) }
     {}
@@ -119,11 +185,25 @@ impl<T, H: History> Log<T, H> {
     ///
     /// # Contract
     /// They show the same entries. So two readers that hold a lock at the same time read the same value.
+    ///
+    /// # Examples
+    /// ```
+    /// self.log.same(&other.log);
+    /// ```
     pub fn same(&self, other: &Log<T, H>)
         ensures { self.now.entries ≡ other.now.entries }
     {}
 
-    /// Closes the log: nobody appends to it any more.
+    /// Closes the log: no thread appends to it any more.
+    ///
+    /// # Contract
+    /// The closed log has all entries.
+    ///
+    /// # Examples
+    /// ```
+    /// let Self { value, log } = self;
+    /// (value, log.close())
+    /// ```
     pub fn close(self) -> ClosedLog<T, H>
         ensures { result.entries ≡ self.entries }
     {
@@ -135,7 +215,10 @@ impl<T, H: History> Log<T, H> {
 }
 
 impl<T, H: History> ClosedLog<T, H> {
-    /// Returns a copy.
+    /// Returns a copy. No example: no caller here needs one.
+    ///
+    /// # Contract
+    /// It has the same entries.
     pub fn copy(&self) -> ClosedLog<T, H>
         ensures { result.entries ≡ self.now.entries }
     {
@@ -147,7 +230,13 @@ impl<T, H: History> ClosedLog<T, H> {
     /// Brings a snapshot up to date, for good.
     ///
     /// # Contract
-    /// As [`Log::observe`].
+    /// As that of [`Log::observe`].
+    ///
+    /// # Examples
+    /// ```
+    /// seen.merge(&other);
+    /// closed.observe(&mut seen);
+    /// ```
     pub fn observe(&self, snapshot: &mut Snapshot<T, H>)
         ensures { IsPrefix snapshot.old.entries self.now.entries × (snapshot.new.entries ≡ self.now.entries) }
     {}
@@ -155,6 +244,14 @@ impl<T, H: History> ClosedLog<T, H> {
 
 impl<T, H: History> Snapshot<T, H> {
     /// Returns a copy.
+    ///
+    /// # Contract
+    /// It has the same entries.
+    ///
+    /// # Examples
+    /// ```
+    /// let (one, other) = (start.copy(), start.copy());
+    /// ```
     pub fn copy(&self) -> Snapshot<T, H>
         ensures { result.entries ≡ self.now.entries }
     {
@@ -167,6 +264,12 @@ impl<T, H: History> Snapshot<T, H> {
     ///
     /// # Contract
     /// One is a prefix of the other.
+    ///
+    /// # Examples
+    /// ```
+    /// found.0.1.compare(&found.1.1);
+    /// (wrote, found)
+    /// ```
     pub fn compare(&self, other: &Snapshot<T, H>)
         ensures { IsPrefix self.now.entries other.now.entries ⊎ IsPrefix other.now.entries self.now.entries }
     {}
@@ -175,6 +278,12 @@ impl<T, H: History> Snapshot<T, H> {
     ///
     /// # Contract
     /// Both are prefixes of what this one has afterwards.
+    ///
+    /// # Examples
+    /// ```
+    /// seen.merge(&wrote.0);
+    /// seen.merge(&wrote.1);
+    /// ```
     pub fn merge(&mut self, other: &Snapshot<T, H>)
         ensures { IsPrefix self.old.entries self.new.entries × IsPrefix other.now.entries self.new.entries }
     {}

@@ -1,4 +1,5 @@
-//! A number that threads add to, whose total is exactly what was added.
+//! A number that threads add to, whose total is exactly what was added. Begin with [`Tally::new`]; the functions
+//! [`add`] and [`total`] work on a tally under a lock.
 ghost use Rattle.std.specs.Prelude.{◌≡◌, ℕ, ◌+◌, ◌^◌, ◌<◌, ◌≤◌, MatchBool, ⊤};
 
 use spin_lock::lock::Lock;
@@ -9,6 +10,13 @@ use std::sync::ledger::{Book, Ledger, Share};
 /// A number that threads add to, and the ledger's book of what they added: its total is the number.
 ///
 /// Put it under any lock. Each thread that adds has a `Share` of the ledger, in which its additions are counted.
+///
+/// # Examples
+/// ```
+/// let (book, mut mine) = blank.open::<L>();
+/// let theirs = mine.split_off(1, 0);
+/// let lock: SpinMutex<Tally<L>> = SpinMutex::new(Tally::new(book));
+/// ```
 #[derive(Drop)]
 pub struct Tally<L: Ledger> {
     count: u64,
@@ -18,6 +26,14 @@ pub struct Tally<L: Ledger> {
 
 impl<L: Ledger> Tally<L> {
     /// Creates a tally to which nothing was added yet.
+    ///
+    /// # Contract
+    /// Nothing may have been added to the book either.
+    ///
+    /// # Examples
+    /// ```
+    /// let lock: SpinMutex<Tally<L>> = SpinMutex::new(Tally::new(book));
+    /// ```
     pub fn new(book: Book<L>) -> Self
         requires { book.total ≡ 0 }
     {
@@ -27,7 +43,18 @@ impl<L: Ledger> Tally<L> {
         }
     }
 
-    /// Adds `more`, and counts it in the caller's share. Returns `false`, and adds nothing, where the sum would not fit.
+    /// Adds `more`, and counts it in the caller's share. Returns `false`, and adds nothing, if the sum would not fit.
+    ///
+    /// # Contract
+    /// The share must not be empty. It counts `more` if the answer is `true`, and stays as it is otherwise. `false`
+    /// comes only if the sum would not fit.
+    ///
+    /// # Examples
+    /// ```
+    /// let mut share = held;
+    /// let added = tally.add(&mut share, more);
+    /// (added, share)
+    /// ```
     pub fn add(&mut self, mine: &mut Share<L>, more: u64) -> bool
         requires { 0 < mine.old.parts }
         ensures full { MatchBool result ⊤ ((self.old.count < 2 ^ 64) × (2 ^ 64 ≤ self.old.count + more)) }
@@ -46,6 +73,16 @@ impl<L: Ledger> Tally<L> {
     }
 
     /// Returns the exact total, to a caller that has every share.
+    ///
+    /// # Contract
+    /// The share has to have all parts of the ledger. The answer is its amount.
+    ///
+    /// # Examples
+    /// ```
+    /// let mut share = held;
+    /// let total = tally.total(&mut share);
+    /// (total, share)
+    /// ```
     pub fn total(&mut self, every: &mut Share<L>) -> u64
         requires { every.old.parts ≡ L.parts }
         ensures total { result ≡ every.old.amount }
@@ -57,10 +94,20 @@ impl<L: Ledger> Tally<L> {
     }
 }
 
-/// Adds `more` to a tally under a lock. Returns `false`, and adds nothing, where the sum would not fit.
+/// Adds `more` to a tally under a lock. Returns `false`, and adds nothing, if the sum would not fit.
 ///
 /// # Contract
-/// The caller's share counts what it added. `false` comes only where the sum would not fit.
+/// The share must not be empty. It counts `more` if the answer is `true`, and stays as it is otherwise. `false` comes
+/// only if the sum would not fit. Whether and when the call returns is not promised.
+///
+/// # Examples
+/// ```
+/// let added = if tally::add(rt, lock, &mut share, more) {
+///     more
+/// } else {
+///     0
+/// };
+/// ```
 pub fn add<L: Ledger, K: Lock<Tally<L>>, W: Wait>(
     rt: &W,
     lock: &K,
@@ -92,6 +139,16 @@ pub fn add<L: Ledger, K: Lock<Tally<L>>, W: Wait>(
 }
 
 /// Returns the exact total of a tally under a lock, to a caller that has every share.
+///
+/// # Contract
+/// The share has to have all parts of the ledger. The answer is its amount. Whether and when the call returns is not
+/// promised.
+///
+/// # Examples
+/// ```
+/// all.merge(share);
+/// let total = tally::total(rt, lent, &mut all);
+/// ```
 pub fn total<L: Ledger, K: Lock<Tally<L>>, W: Wait>(rt: &W, lock: &K, every: &mut Share<L>) -> u64
     requires { every.old.parts ≡ L.parts }
     ensures total { result ≡ every.old.amount }
