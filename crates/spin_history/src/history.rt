@@ -42,7 +42,7 @@ impl Model for BlankLog {
 
 /// A monotone log: a list that only grows, and the right to append to it. There is one for each history.
 ///
-/// A log lies beside the value that it tells of, under the same lock. The struct that holds both states in an invariant
+/// A log lies beside the value that it tells of, under the same lock. The struct that holds them says in an invariant
 /// of its own how they belong together, as [`Register`](crate::register::Register) does.
 ///
 /// # Examples
@@ -215,10 +215,12 @@ impl<T, H: History> Log<T, H> {
 }
 
 impl<T, H: History> ClosedLog<T, H> {
-    /// Returns a copy. No example: no caller here needs one.
+    /// Returns a copy.
     ///
     /// # Contract
     /// It has the same entries.
+    ///
+    /// No example: no caller here copies one.
     pub fn copy(&self) -> ClosedLog<T, H>
         ensures { result.entries ≡ self.now.entries }
     {
