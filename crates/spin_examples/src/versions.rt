@@ -1,4 +1,4 @@
-//! A version that threads raise, and that never falls for those who read it.
+//! A version that threads raise, and that never falls for a reader.
 ghost use Rattle.std.specs.Prelude.{◌≡◌, ◌≤◌, Some};
 ghost use Rattle.spin.specs.Entries.{last};
 

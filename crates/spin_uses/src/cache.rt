@@ -25,7 +25,7 @@ pub trait Answers {
     // Keys that are equal share an answer.
     ghost respects_eq: { (k q : Self.Key) (v : Self.Value) → IsTrue (Self.Key.eq k q) → IsTrue (may k v) → IsTrue (may q v) };
 
-    // A clone is what is answered.
+    // A clone of an answer is an answer.
     ghost respects_clone: { (k : Self.Key) (v w : Self.Value) → Self.Value.is_clone v w → IsTrue (may k v) → IsTrue (may k w) };
 }
 

@@ -60,8 +60,8 @@ impl<'a, T, S: Seed<T>> Turn<'a, T, S> {
     }
 }
 
-// Forgets what was there, without a test: who has the turn knows that it is no value. A first `call_once` saves two
-// tests.
+// Forgets what was there, without a test: the thread that has the turn knows that it is no value. A first `call_once`
+// saves two tests.
 fn spend<T, S>(stage: Stage<T, S>) {
     let _gone = unsafe { ManuallyDrop::new_unchecked(stage) };
 }
