@@ -132,8 +132,8 @@ impl<T, R: RelaxStrategy> Once<T, R> {
     /// called only if that closure left no value. The call never returns if `f` waits for the value of this `Once`.
     ///
     /// # Contract
-    /// The precondition of `f` has to hold. Of the value is known what its type `T` says. Whether and when the call
-    /// returns is not promised.
+    /// The precondition of `f` has to hold. The caller knows of the value what its type `T` says. Whether and when the
+    /// call returns is not promised.
     ///
     /// # Examples
     /// ```
