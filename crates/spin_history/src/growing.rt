@@ -1,4 +1,5 @@
-//! A value that changes only in an order of its caller's choice.
+//! A value that changes only in an order of its caller's choice. Begin with [`Growing::new`]; the functions [`read`],
+//! [`advance`] and [`change`] work on such a value under a lock.
 ghost use Rattle.std.specs.Prelude.{◌≡◌, [], Some};
 ghost use Rattle.std.specs.Fn.{FnOnceReturnsAt, FnOnceReturnsAtMut};
 ghost use mathlib.Core.List.{IsPrefix};
@@ -10,7 +11,12 @@ use spin_lock::lock::{Lock, SharedLock};
 use std::marker::PhantomData;
 use std::sync::Wait;
 
-/// What may come after what: a preorder on `T`.
+/// A preorder on `T`: which value may come after which.
+///
+/// # Examples
+/// ```
+/// pub type Version<H> = RwLock<Growing<u64, Ascending, H>>;
+/// ```
 pub trait Order<T> {
     ghost le: { T → T → Type 0 };
 
@@ -21,7 +27,12 @@ pub trait Order<T> {
     ghost transitive: { (x y z : T) → le x y → le y z → le x z };
 }
 
-/// Numbers that never fall.
+/// The order of numbers: they never fall.
+///
+/// # Examples
+/// ```
+/// pub type Version<H> = RwLock<Growing<u64, Ascending, H>>;
+/// ```
 pub struct Ascending;
 
 impl Order<u64> for Ascending {
@@ -38,9 +49,14 @@ impl Order<u64> for Ascending {
     ghost transitive = { λ x y z h k. le_trans h k };
 }
 
-/// A value that changes only as the order `P` allows. Nobody reads a value from before one that they have seen.
+/// A value that changes only as the order `P` allows. No caller reads a value from before one that it has seen.
 ///
 /// Put it under any lock. Each call takes a [`Snapshot`] of the caller's, and brings it up to date.
+///
+/// # Examples
+/// ```
+/// let lock: Version<H> = RwLock::new(Growing::new(0, log));
+/// ```
 #[derive(Drop)]
 pub struct Growing<T, P: Order<T>, H: History> {
     register: Register<T, H>,
@@ -49,7 +65,15 @@ pub struct Growing<T, P: Order<T>, H: History> {
 }
 
 impl<T, P: Order<T>, H: History> Growing<T, P, H> {
-    /// Creates a value that grows from this one. The log is empty before.
+    /// Creates a value that grows from `value`.
+    ///
+    /// # Contract
+    /// The log has to be empty. The value is `value`.
+    ///
+    /// # Examples
+    /// ```
+    /// let lock: Version<H> = RwLock::new(Growing::new(0, log));
+    /// ```
     pub fn new(value: T, log: Log<T, H>) -> Self
         requires { log.entries ≡ [] }
         ensures { result.register.value ≡ value }
@@ -61,16 +85,27 @@ impl<T, P: Order<T>, H: History> Growing<T, P, H> {
     }
 
     /// Returns a snapshot of all values so far.
+    ///
+    /// # Contract
+    /// Its last entry is the value.
+    ///
+    /// No example: the callers here take theirs from the log.
     pub fn snapshot(&self) -> Snapshot<T, H>
         ensures { last result.entries ≡ Some self.now.register.value }
     {
         self.register.snapshot()
     }
 
-    /// Lends the value.
+    /// Returns a reference to the value.
     ///
     /// # Contract
-    /// It is the last write, and it is at or after the last value that the caller saw (`IsAtOrAfter`), whoever wrote.
+    /// It is the last write, and it is at or after the last value that the caller saw (`IsAtOrAfter`), whichever thread
+    /// wrote.
+    ///
+    /// # Examples
+    /// ```
+    /// by(self.get(seen))
+    /// ```
     pub fn get(&self, seen: &mut Snapshot<T, H>) -> &T
         ensures grown { IsAtOrAfter P.le seen.old.entries result.now }
         ensures later { IsPrefix seen.old.entries seen.new.entries }
@@ -83,7 +118,14 @@ impl<T, P: Order<T>, H: History> Growing<T, P, H> {
     /// Calls a closure with the value, and returns its answer.
     ///
     /// # Contract
-    /// As [`get`](Self::get).
+    /// The closure has to be always callable, and is called once. The value is that of [`get`](Self::get).
+    ///
+    /// # Examples
+    /// ```
+    /// let mut seen = known;
+    /// let answer = growing.inspect(by, &mut seen);
+    /// (answer, seen)
+    /// ```
     pub fn inspect<A, F: FnOnce(&T) -> A>(&self, by: F, seen: &mut Snapshot<T, H>) -> A
         requires { F.IsAlwaysCallable by }
         ensures called { FnOnceReturnsAt F.FnOnce by self.now.register.value result }
@@ -97,8 +139,16 @@ impl<T, P: Order<T>, H: History> Growing<T, P, H> {
     /// Calls a closure with the value, which it may change in place, and returns its answer.
     ///
     /// # Contract
-    /// Whatever the value, the closure leaves one there that may come after it. The closure is called with the last write,
-    /// what it leaves is the next one (`Updates`), and that is at or after the last value that the caller saw.
+    /// The closure has to be always callable. Whatever the value, it has to leave one there that may come after it. It
+    /// is called with the last write, and what it leaves is the next one (`Updates`), at or after the last value that
+    /// the caller saw.
+    ///
+    /// # Examples
+    /// ```
+    /// let mut seen = known;
+    /// let answer = growing.change(by, &mut seen);
+    /// (answer, seen)
+    /// ```
     pub fn change<A, F: FnOnce(&mut T) -> A>(&mut self, by: F, seen: &mut Snapshot<T, H>) -> A
         requires callable { F.IsAlwaysCallable by }
         requires grows { (x y : T) (answer : A) → FnOnceReturnsAtMut F.FnOnce by x answer y → P.le x y }
@@ -112,6 +162,14 @@ impl<T, P: Order<T>, H: History> Growing<T, P, H> {
     }
 
     /// Returns the value and its whole history, to which nothing is added any more.
+    ///
+    /// # Contract
+    /// The history is in order, and the value is its last entry.
+    ///
+    /// # Examples
+    /// ```
+    /// register.close()
+    /// ```
     pub fn close(self) -> (T, ClosedLog<T, H>)
         ensures value { result.0 ≡ self.register.value }
         ensures ordered { InOrder P.le result.1.entries }
@@ -126,8 +184,11 @@ impl<T: Drop, P: Order<T>, H: History> Growing<T, P, H> {
     /// Writes what a closure makes of the value.
     ///
     /// # Contract
-    /// Whatever the value, the closure answers one that may come after it. The closure is called with the last write, its
-    /// answer is the next one (`Updates`), and that is at or after the last value that the caller saw.
+    /// The closure has to be always callable. Whatever the value, it has to answer one that may come after it. It is
+    /// called with the last write, and its answer is the next one (`Updates`), at or after the last value that the
+    /// caller saw.
+    ///
+    /// No example: the function [`advance`] has one, under a lock.
     pub fn advance<F: FnOnce(&T) -> T>(&mut self, by: F, seen: &mut Snapshot<T, H>)
         requires callable { F.IsAlwaysCallable by }
         requires grows { (x y : T) → FnOnceReturnsAt F.FnOnce by x y → P.le x y }
@@ -152,7 +213,14 @@ impl<T: Copy, P: Order<T>, H: History> Growing<T, P, H> {
     /// Returns a copy of the value.
     ///
     /// # Contract
-    /// As [`get`](Growing::get).
+    /// As that of [`get`](Growing::get).
+    ///
+    /// # Examples
+    /// ```
+    /// let end = lock.into_inner();
+    /// let last = end.read(&mut first);
+    /// end.read(&mut second);
+    /// ```
     pub fn read(&self, seen: &mut Snapshot<T, H>) -> T
         ensures grown { IsAtOrAfter P.le seen.old.entries result }
         ensures later { IsPrefix seen.old.entries seen.new.entries }
@@ -166,7 +234,20 @@ impl<T: Copy, P: Order<T>, H: History> Growing<T, P, H> {
 /// Calls a closure with the value of a growing value under a lock, and returns its answer.
 ///
 /// # Contract
-/// The closure is called with the last write, which is at or after the last value that the caller saw, whoever wrote.
+/// The closure has to be always callable. It is called with the last write, which is at or after the last value that
+/// the caller saw, whichever thread wrote. Whether and when the call returns is not promised.
+///
+/// # Examples
+/// ```
+/// inspect(
+///     rt,
+///     lock,
+///     |value: &T| -> T
+///         ensures { result ≡ value.now }
+///     { *value },
+///     seen,
+/// )
+/// ```
 pub fn inspect<
     T,
     P: Order<T>,
@@ -198,7 +279,10 @@ pub fn inspect<
 /// Reads a growing value under a lock.
 ///
 /// # Contract
-/// The answer is the last write, and it is at or after the last value that the caller saw, whoever wrote.
+/// The answer is the last write. It is at or after the last value that the caller saw, whichever thread wrote. Whether
+/// and when the call returns is not promised.
+///
+/// No example: it is called as [`read_shared`] is.
 pub fn read<T: Copy, P: Order<T>, H: History, L: Lock<Growing<T, P, H>>, W: Wait>(
     rt: &W,
     lock: &L,
@@ -221,7 +305,19 @@ pub fn read<T: Copy, P: Order<T>, H: History, L: Lock<Growing<T, P, H>>, W: Wait
 /// Calls a closure with the value of a growing value under a lock, beside other readers, and returns its answer.
 ///
 /// # Contract
-/// As [`inspect`].
+/// As that of [`inspect`].
+///
+/// # Examples
+/// ```
+/// inspect_shared(
+///     rt,
+///     lock,
+///     |value: &T| -> T
+///         ensures { result ≡ value.now }
+///     { *value },
+///     seen,
+/// )
+/// ```
 pub fn inspect_shared<
     T,
     P: Order<T>,
@@ -253,7 +349,14 @@ pub fn inspect_shared<
 /// Reads a growing value under a lock, beside other readers.
 ///
 /// # Contract
-/// As [`read`].
+/// As that of [`read`].
+///
+/// # Examples
+/// ```
+/// let first = growing::read_shared(rt, version, &mut seen);
+/// let second = growing::read_shared(rt, version, &mut seen);
+/// ((first, second), seen)
+/// ```
 pub fn read_shared<T: Copy, P: Order<T>, H: History, L: SharedLock<Growing<T, P, H>>, W: Wait>(
     rt: &W,
     lock: &L,
@@ -273,11 +376,28 @@ pub fn read_shared<T: Copy, P: Order<T>, H: History, L: SharedLock<Growing<T, P,
     )
 }
 
-/// Calls a closure with the value of a growing value under a lock, which it may change in place, and returns its answer.
+/// Calls a closure with the value of a growing value under a lock, which it may change in place, and returns its
+/// answer.
 ///
 /// # Contract
-/// Whatever the value, the closure leaves one there that may come after it. The closure is called with the last write, what
-/// it leaves is the next one, and that is at or after the last value that the caller saw.
+/// The closure has to be always callable. Whatever the value, it has to leave one there that may come after it. It is
+/// called with the last write, and what it leaves is the next one, at or after the last value that the caller saw.
+/// Whether and when the call returns is not promised.
+///
+/// # Examples
+/// ```
+/// change(
+///     rt,
+///     lock,
+///     move |value: &mut T|
+///         requires { F.IsAlwaysCallable by }
+///         ensures { FnOnceReturnsAt F.FnOnce by value.old value.new }
+///     {
+///         *value = by(value);
+///     },
+///     seen,
+/// );
+/// ```
 pub fn change<
     T,
     P: Order<T>,
@@ -308,11 +428,24 @@ pub fn change<
     answer
 }
 
-/// Writes what a closure makes of a growing value, under a lock.
+/// Writes what a closure makes of a growing value under a lock.
 ///
 /// # Contract
-/// Whatever the value, the closure answers one that may come after it. The closure is called with the last write, its answer
-/// is the next one, and that is at or after the last value that the caller saw.
+/// The closure has to be always callable. Whatever the value, it has to answer one that may come after it. It is called
+/// with the last write, and its answer is the next one, at or after the last value that the caller saw. Whether and
+/// when the call returns is not promised.
+///
+/// # Examples
+/// ```
+/// growing::advance(
+///     rt,
+///     version,
+///     |old: &u64| -> u64
+///         ensures { old.now ≤ result }
+///     { old.saturating_add(1) },
+///     &mut seen,
+/// );
+/// ```
 pub fn advance<
     T: Drop,
     P: Order<T>,

@@ -1,4 +1,5 @@
-//! A value whose callers know the history of what was written there.
+//! A value whose callers know the history of what was written there. Begin with [`Register::new`]; the functions
+//! [`read`], [`write`], [`update`] and [`change`] work on a register under a lock.
 ghost use Rattle.std.specs.Prelude.{◌≡◌, [], ◌∷◌, ◌++◌, Some};
 ghost use Rattle.std.specs.Fn.{FnOnceReturnsAt, FnOnceReturnsAtMut};
 ghost use mathlib.Core.List.{IsPrefix};
@@ -11,6 +12,13 @@ use std::sync::Wait;
 /// A value, and the log of all that was ever written there: its last entry is the value.
 ///
 /// Put it under any lock. Each call takes a [`Snapshot`] of the caller's, and brings it up to date.
+///
+/// # Examples
+/// ```
+/// let log = blank.open::<u64, H>();
+/// let start = log.snapshot();
+/// let lock: RwLock<Register<u64, H>> = RwLock::new(Register::new(0, log));
+/// ```
 #[derive(Drop)]
 pub struct Register<T, H: History> {
     value: T,
@@ -19,7 +27,15 @@ pub struct Register<T, H: History> {
 }
 
 impl<T, H: History> Register<T, H> {
-    /// Creates a register. The value is the next entry of the log.
+    /// Creates a register that holds `value`.
+    ///
+    /// # Contract
+    /// The value is the next entry of the log.
+    ///
+    /// # Examples
+    /// ```
+    /// let lock: RwLock<Register<u64, H>> = RwLock::new(Register::new(0, log));
+    /// ```
     #[tactic(auto, using(crate::proofs::Entries::last_is))]
     pub fn new(value: T, log: Log<T, H>) -> Self
         ensures value { result.value ≡ value }
@@ -31,6 +47,14 @@ impl<T, H: History> Register<T, H> {
     }
 
     /// Returns a snapshot of all that was written so far.
+    ///
+    /// # Contract
+    /// It has the whole log, whose last entry is the value.
+    ///
+    /// # Examples
+    /// ```
+    /// self.register.snapshot()
+    /// ```
     pub fn snapshot(&self) -> Snapshot<T, H>
         ensures exact { result.entries ≡ self.now.log.entries }
         ensures last { last result.entries ≡ Some self.now.value }
@@ -38,10 +62,15 @@ impl<T, H: History> Register<T, H> {
         self.log.snapshot()
     }
 
-    /// Lends the value.
+    /// Returns a reference to the value.
     ///
     /// # Contract
     /// It is the last write of a history that goes on from what the caller knew (`Reads`).
+    ///
+    /// # Examples
+    /// ```
+    /// by(self.get(seen))
+    /// ```
     pub fn get(&self, seen: &mut Snapshot<T, H>) -> &T
         ensures later { IsPrefix seen.old.entries seen.new.entries }
         ensures last { last seen.new.entries ≡ Some result.now }
@@ -55,7 +84,14 @@ impl<T, H: History> Register<T, H> {
     /// Calls a closure with the value, and returns its answer.
     ///
     /// # Contract
-    /// As [`get`](Self::get).
+    /// The closure has to be always callable, and is called once. The value is that of [`get`](Self::get).
+    ///
+    /// # Examples
+    /// ```
+    /// let mut seen = known;
+    /// let answer = register.inspect(by, &mut seen);
+    /// (answer, seen)
+    /// ```
     pub fn inspect<A, F: FnOnce(&T) -> A>(&self, by: F, seen: &mut Snapshot<T, H>) -> A
         requires { F.IsAlwaysCallable by }
         ensures called { FnOnceReturnsAt F.FnOnce by self.now.value result }
@@ -68,7 +104,15 @@ impl<T, H: History> Register<T, H> {
     /// Calls a closure with the value, which it may change in place, and returns its answer.
     ///
     /// # Contract
-    /// The closure is called with the last write, and what it leaves there is the next one (`Updates`).
+    /// The closure has to be always callable. It is called with the last write, and what it leaves there is the next
+    /// one (`Updates`).
+    ///
+    /// # Examples
+    /// ```
+    /// let mut seen = known;
+    /// let answer = register.change(by, &mut seen);
+    /// (answer, seen)
+    /// ```
     #[tactic(auto, using(crate::proofs::Entries::last_is))]
     pub fn change<A, F: FnOnce(&mut T) -> A>(&mut self, by: F, seen: &mut Snapshot<T, H>) -> A
         requires { F.IsAlwaysCallable by }
@@ -90,6 +134,14 @@ impl<T, H: History> Register<T, H> {
     ///
     /// # Contract
     /// They show the same value.
+    ///
+    /// # Examples
+    /// ```
+    /// let first = lock.read(rt);
+    /// let second = lock.read(rt);
+    /// first.same(&second);
+    /// (first.read(seen), second.read(seen))
+    /// ```
     pub fn same(&self, other: &Register<T, H>)
         ensures value { self.now.value ≡ other.now.value }
         ensures entries { self.now.log.entries ≡ other.now.log.entries }
@@ -101,6 +153,11 @@ impl<T, H: History> Register<T, H> {
     ///
     /// # Contract
     /// The value is the last entry. Every snapshot is a prefix of the history, by [`ClosedLog::observe`].
+    ///
+    /// # Examples
+    /// ```
+    /// let (last, closed) = lock.into_inner().close();
+    /// ```
     pub fn close(self) -> (T, ClosedLog<T, H>)
         ensures value { result.0 ≡ self.value }
         ensures exact { result.1.entries ≡ self.log.entries }
@@ -115,8 +172,14 @@ impl<T: Drop, H: History> Register<T, H> {
     /// Writes a value.
     ///
     /// # Contract
-    /// It is the last entry of a history that goes on from what the caller knew (`Writes`). Nothing comes between what the
-    /// register had and this write.
+    /// It is the last entry of a history that goes on from what the caller knew (`Writes`). Nothing comes between what
+    /// the register had and this write.
+    ///
+    /// # Examples
+    /// ```
+    /// let mut writer = guard.upgrade(rt);
+    /// writer.write(new, seen);
+    /// ```
     pub fn write(&mut self, new: T, seen: &mut Snapshot<T, H>)
         ensures later { Writes seen.old.entries new seen.new.entries }
         ensures value { self.new.value ≡ new }
@@ -136,7 +199,10 @@ impl<T: Drop, H: History> Register<T, H> {
     /// Writes what a closure makes of the value.
     ///
     /// # Contract
-    /// The closure is called with the last write, and its answer is the next one (`Updates`).
+    /// The closure has to be always callable. It is called with the last write, and its answer is the next one
+    /// (`Updates`).
+    ///
+    /// No example: it is called as [`write`](Self::write) is, with a closure.
     pub fn update<F: FnOnce(&T) -> T>(&mut self, by: F, seen: &mut Snapshot<T, H>)
         requires { F.IsAlwaysCallable by }
         ensures called { FnOnceReturnsAt F.FnOnce by self.old.value self.new.value }
@@ -162,6 +228,12 @@ impl<T: Copy, H: History> Register<T, H> {
     ///
     /// # Contract
     /// It is the last write of a history that goes on from what the caller knew (`Reads`).
+    ///
+    /// # Examples
+    /// ```
+    /// let guard = lock.upgradeable_read(rt);
+    /// let before = guard.read(seen);
+    /// ```
     pub fn read(&self, seen: &mut Snapshot<T, H>) -> T
         ensures later { IsPrefix seen.old.entries seen.new.entries }
         ensures last { last seen.new.entries ≡ Some result }
@@ -175,7 +247,20 @@ impl<T: Copy, H: History> Register<T, H> {
 /// Calls a closure with the value of a register under a lock, and returns its answer.
 ///
 /// # Contract
-/// The closure is called with the last write of a history that goes on from what the caller knew.
+/// The closure has to be always callable. It is called with the last write of a history that goes on from what the
+/// caller knew. Whether and when the call returns is not promised.
+///
+/// # Examples
+/// ```
+/// inspect(
+///     rt,
+///     lock,
+///     |value: &T| -> T
+///         ensures { result ≡ value.now }
+///     { *value },
+///     seen,
+/// )
+/// ```
 pub fn inspect<T, H: History, L: Lock<Register<T, H>>, A, F: FnOnce(&T) -> A, W: Wait>(
     rt: &W,
     lock: &L,
@@ -204,7 +289,10 @@ pub fn inspect<T, H: History, L: Lock<Register<T, H>>, A, F: FnOnce(&T) -> A, W:
 /// Reads a register under a lock.
 ///
 /// # Contract
-/// The answer is the last write of a history that goes on from what the caller knew.
+/// The answer is the last write of a history that goes on from what the caller knew. Whether and when the call returns
+/// is not promised.
+///
+/// No example: it is called as [`read_shared`] is.
 pub fn read<T: Copy, H: History, L: Lock<Register<T, H>>, W: Wait>(
     rt: &W,
     lock: &L,
@@ -226,7 +314,19 @@ pub fn read<T: Copy, H: History, L: Lock<Register<T, H>>, W: Wait>(
 /// Calls a closure with the value of a register under a lock, beside other readers, and returns its answer.
 ///
 /// # Contract
-/// As [`inspect`].
+/// As that of [`inspect`].
+///
+/// # Examples
+/// ```
+/// inspect_shared(
+///     rt,
+///     lock,
+///     |value: &T| -> T
+///         ensures { result ≡ value.now }
+///     { *value },
+///     seen,
+/// )
+/// ```
 pub fn inspect_shared<T, H: History, L: SharedLock<Register<T, H>>, A, F: FnOnce(&T) -> A, W: Wait>(
     rt: &W,
     lock: &L,
@@ -255,7 +355,14 @@ pub fn inspect_shared<T, H: History, L: SharedLock<Register<T, H>>, A, F: FnOnce
 /// Reads a register under a lock, beside other readers.
 ///
 /// # Contract
-/// As [`read`].
+/// As that of [`read`].
+///
+/// # Examples
+/// ```
+/// let mut seen = first;
+/// let found = register::read_shared(rt, lock, &mut seen);
+/// (found, seen)
+/// ```
 pub fn read_shared<T: Copy, H: History, L: SharedLock<Register<T, H>>, W: Wait>(
     rt: &W,
     lock: &L,
@@ -277,8 +384,24 @@ pub fn read_shared<T: Copy, H: History, L: SharedLock<Register<T, H>>, W: Wait>(
 /// Calls a closure with the value of a register under a lock, which it may change in place, and returns its answer.
 ///
 /// # Contract
-/// The closure is called with the last write of a history that goes on from what the caller knew, and what it leaves
-/// there is the next one: nothing comes between.
+/// The closure has to be always callable. It is called with the last write of a history that goes on from what the
+/// caller knew. What it leaves there is the next one: nothing comes between. Whether and when the call returns is not
+/// promised.
+///
+/// # Examples
+/// ```
+/// change(
+///     rt,
+///     lock,
+///     move |value: &mut T|
+///         requires { F.IsAlwaysCallable by }
+///         ensures { FnOnceReturnsAt F.FnOnce by value.old value.new }
+///     {
+///         *value = by(value);
+///     },
+///     seen,
+/// );
+/// ```
 pub fn change<T, H: History, L: Lock<Register<T, H>>, A, F: FnOnce(&mut T) -> A, W: Wait>(
     rt: &W,
     lock: &L,
@@ -307,7 +430,15 @@ pub fn change<T, H: History, L: Lock<Register<T, H>>, A, F: FnOnce(&mut T) -> A,
 /// Writes to a register under a lock.
 ///
 /// # Contract
-/// The value is the last entry of a history that goes on from what the caller knew.
+/// The value is the last entry of a history that goes on from what the caller knew. Whether and when the call returns
+/// is not promised.
+///
+/// # Examples
+/// ```
+/// let mut seen = first;
+/// register::write(rt, lock, one, &mut seen);
+/// seen
+/// ```
 pub fn write<T: Drop, H: History, L: Lock<Register<T, H>>, W: Wait>(
     rt: &W,
     lock: &L,
@@ -328,11 +459,13 @@ pub fn write<T: Drop, H: History, L: Lock<Register<T, H>>, W: Wait>(
     );
 }
 
-/// Writes what a closure makes of the value, under a lock.
+/// Writes what a closure makes of the value of a register under a lock.
 ///
 /// # Contract
-/// The closure is called with the last write of a history that goes on from what the caller knew, and its answer is the
-/// next one: nothing comes between.
+/// The closure has to be always callable. It is called with the last write of a history that goes on from what the
+/// caller knew. Its answer is the next one: nothing comes between. Whether and when the call returns is not promised.
+///
+/// No example: it is called as [`write`] is, with a closure.
 pub fn update<T: Drop, H: History, L: Lock<Register<T, H>>, F: FnOnce(&T) -> T, W: Wait>(
     rt: &W,
     lock: &L,
