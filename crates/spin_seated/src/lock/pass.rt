@@ -50,6 +50,8 @@ impl<C: Calls> Pass<C> {
     ///
     /// # Contract
     /// It is what the pass holds at the end of the history that it knows.
+    ///
+    /// No example: only tests call it.
     pub fn holds(&self) -> C::Hold
         ensures { result ≡ holds C.machine self.now.known }
     {

@@ -57,6 +57,8 @@ impl<A: Allocator> SeatedLock<Call, A> {
     ///
     /// # Contract
     /// The pass has to be one of this lock. The call and its answer end the history that the pass knows then (`Made`).
+    ///
+    /// No example: only tests call it.
     pub fn is_locked(&self, pass: &mut Pass) -> bool
         requires { IsPassOf self.now pass.old }
         ensures own { IsPassOf self.now pass.new }

@@ -106,6 +106,8 @@ impl<A: Allocator> SeatedLock<Call, A> {
     ///
     /// # Contract
     /// The pass has to be one of this lock. The call and its answer end the history that the pass knows then (`Made`).
+    ///
+    /// No example: only tests call it.
     pub fn reader_count(&self, pass: &mut RwPass) -> u64
         requires { IsPassOf self.now pass.old }
         ensures own { IsPassOf self.now pass.new }
@@ -119,6 +121,8 @@ impl<A: Allocator> SeatedLock<Call, A> {
     ///
     /// # Contract
     /// The pass has to be one of this lock. The call and its answer end the history that the pass knows then (`Made`).
+    ///
+    /// No example: only tests call it.
     pub fn writer_count(&self, pass: &mut RwPass) -> u64
         requires { IsPassOf self.now pass.old }
         ensures own { IsPassOf self.now pass.new }
