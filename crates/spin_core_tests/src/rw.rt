@@ -2,62 +2,77 @@
 use super::equal::equal;
 use spin_core::step::rw;
 
+/// Words, each with the cap, and with what becomes of it where a reader comes, or one that may upgrade.
+const READS: &[(usize, usize, Option<usize>, Option<usize>)] = &[
+    (0, 2, Some(8), Some(2)),
+    (1, 2, None, None),
+    (2, 2, Some(10), None),
+    (6, 2, None, None),
+    (6, 3, None, None),
+    (8, 2, Some(16), Some(10)),
+    (10, 2, None, None),
+    (10, 3, Some(18), None),
+    (14, 3, None, None),
+    (16, 2, None, None),
+];
+
 #[test]
-fn who_may_come(rt: HostRuntime) {
-    equal(&rt, rw::read(0, 2), Some(8));
-    equal(&rt, rw::read(8, 2), Some(16));
-    equal(&rt, rw::read(16, 2), None);
-    equal(&rt, rw::read(1, 2), None);
-    equal(&rt, rw::read(2, 2), Some(10));
-    equal(&rt, rw::read(10, 2), None);
-    equal(&rt, rw::read(10, 3), Some(18));
-    equal(&rt, rw::read(6, 3), None);
-    equal(&rt, rw::read(14, 3), None);
-    equal(&rt, rw::upgradable(0, 2), Some(2));
-    equal(&rt, rw::upgradable(8, 2), Some(10));
-    equal(&rt, rw::upgradable(16, 2), None);
-    equal(&rt, rw::upgradable(1, 2), None);
-    equal(&rt, rw::upgradable(2, 2), None);
-    equal(&rt, rw::upgradable(6, 2), None);
-    equal(&rt, rw::write(0), Some(1));
-    equal(&rt, rw::write(1), None);
-    equal(&rt, rw::write(2), None);
-    equal(&rt, rw::write(6), None);
-    equal(&rt, rw::write(8), None);
+fn who_may_read(rt: HostRuntime) {
+    for (word, cap, read, upgradable) in READS {
+        equal(&rt, rw::read(*word, *cap), *read);
+        equal(&rt, rw::upgradable(*word, *cap), *upgradable);
+    }
+}
+
+/// Words, each with what becomes of it where a writer comes, where who reads upgrades, and where it has asked before.
+const WRITES: &[(usize, Option<usize>, Option<usize>, Option<usize>)] = &[
+    (0, Some(1), None, None),
+    (1, None, None, None),
+    (2, None, Some(1), None),
+    (6, None, None, Some(1)),
+    (8, None, None, None),
+    (10, None, None, None),
+    (14, None, None, None),
+];
+
+#[test]
+fn who_may_write(rt: HostRuntime) {
+    for (word, write, upgrade, asked) in WRITES {
+        equal(&rt, rw::write(*word), *write);
+        equal(&rt, rw::upgrade(*word), *upgrade);
+        equal(&rt, rw::upgrade_asked(*word), *asked);
+    }
+}
+
+/// Words, each with how many read and how many write.
+const COUNTS: &[(usize, usize, usize)] = &[
+    (0, 0, 0),
+    (1, 0, 1),
+    (6, 1, 0),
+    (10, 2, 0),
+    (14, 2, 0),
+    (18, 3, 0),
+];
+
+#[test]
+fn counts(rt: HostRuntime) {
+    for (word, readers, writers) in COUNTS {
+        equal(&rt, rw::readers(*word), *readers);
+        equal(&rt, rw::writers(*word), *writers);
+    }
 }
 
 #[test]
 fn who_goes_or_becomes_another(rt: HostRuntime) {
-    equal(&rt, rw::upgrade(2), Some(1));
-    equal(&rt, rw::upgrade(10), None);
     equal(&rt, rw::release_read(18), 10);
+    equal(&rt, rw::release_read(14), 6);
     equal(&rt, rw::release_upgradable(10), 8);
     equal(&rt, rw::release_write(1), 0);
     equal(&rt, rw::write_to_read(1), 8);
     equal(&rt, rw::write_to_upgradable(1), 2);
     equal(&rt, rw::upgradable_to_read(10), 16);
-}
-
-#[test]
-fn who_asks_to_upgrade(rt: HostRuntime) {
     equal(&rt, rw::ask(2), 6);
     equal(&rt, rw::ask(10), 14);
-    equal(&rt, rw::release_read(14), 6);
-    equal(&rt, rw::upgrade_asked(14), None);
-    equal(&rt, rw::upgrade_asked(6), Some(1));
-    // Who has not asked upgrades at once or not at all.
-    equal(&rt, rw::upgrade_asked(2), None);
-    equal(&rt, rw::upgrade(6), None);
-}
-
-#[test]
-fn counts(rt: HostRuntime) {
-    equal(&rt, (rw::readers(0), rw::writers(0)), (0, 0));
-    equal(&rt, (rw::readers(1), rw::writers(1)), (0, 1));
-    equal(&rt, (rw::readers(6), rw::writers(6)), (1, 0));
-    equal(&rt, (rw::readers(10), rw::writers(10)), (2, 0));
-    equal(&rt, (rw::readers(14), rw::writers(14)), (2, 0));
-    equal(&rt, (rw::readers(18), rw::writers(18)), (3, 0));
 }
 
 #[test]

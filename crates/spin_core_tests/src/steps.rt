@@ -4,7 +4,6 @@ use super::equal::equal;
 use spin_core::step::barrier::State;
 use spin_core::step::fair::LockRejectReason::{Locked, Starved};
 use spin_core::step::{barrier, fair, flag, once, ticket};
-use std::test::Fail;
 
 #[test]
 fn flag_steps(rt: HostRuntime) {
@@ -49,10 +48,10 @@ fn the_last_ticket_is_below_the_limit(rt: HostRuntime) {
 }
 
 #[test]
-fn reasons_are_told(rt: HostRuntime) -> Result<(), Fail> {
-    let told = format!(in rt.alloc(); "{Locked} {Starved} {Locked:?} {Starved:?}")?;
+fn reasons_are_told(rt: HostRuntime) {
+    let told = format!(in rt.alloc(); "{Locked} {Starved} {Locked:?} {Starved:?}");
+    let told = told.expect(&rt, "memory");
     equal(&rt, told.as_str(), "locked starved Locked Starved");
-    Ok(())
 }
 
 #[test]
