@@ -58,10 +58,8 @@ fn comes_to(
 
 /// Plays a schedule in reads and writes of at most so many bytes, and compares what was written.
 fn tells(rt: &impl Abort, alloc: Global, step: usize, shows: &str, text: &[u8], told: &str) {
-    let mut input = Tape {
-        step,
-        ..Tape::new(text)
-    };
+    let mut input = Tape::new(text);
+    input.step = step;
     let mut output = Paper::new(alloc, step, usize::MAX);
     play(alloc, &mut input, &mut output).expect(rt, shows);
     assert_eq!(rt; output.text(rt), told, "{shows}");
@@ -109,23 +107,6 @@ fn lines_outside_the_grammar(rt: HostRuntime) {
 }
 
 #[test]
-fn tells_a_failed_read(rt: HostRuntime) {
-    for text in ["", "flag 5 1", "x\n", "flag 5 1\n0 jump\n"] {
-        let mut input = Tape {
-            fails: true,
-            ..Tape::new(text.as_bytes())
-        };
-        let mut output = Paper::endless(rt.alloc());
-        let answer = Err(RunError::Read);
-        plays(&rt, rt.alloc(), &mut input, &mut output, answer, b"");
-        assert!(rt; input.failed);
-        // No failed read is tried again.
-        assert_eq!(rt; input.reads, if text.is_empty() { 1 } else { 2 });
-        assert_eq!(rt; output.writes, 0);
-    }
-}
-
-#[test]
 fn tells_a_failed_write(rt: HostRuntime) {
     for step in [1, 4, usize::MAX] {
         for room in 0..16usize {
@@ -142,25 +123,35 @@ fn tells_a_failed_write(rt: HostRuntime) {
     }
 }
 
-/// Texts over a writer that takes nothing, each with whether a read fails behind it, and the fault that is met first.
-const TWO_FAULTS: &[(&str, bool, RunError)] = &[
-    ("x\n", true, RunError::Read),
-    ("flag 5 1\n0 jump\n", true, RunError::Read),
-    ("flag 5 1\n", true, RunError::Read),
-    ("", false, RunError::BadLine(1)),
-    ("x\n0 jump\n", false, RunError::BadLine(1)),
-    ("flag 5 1\n0 jump\n0 step \n", false, RunError::BadLine(2)),
+/// Texts over a writer of so much room, each with whether a read fails behind it, and the fault that is met first.
+const FAULTS: &[(&str, bool, usize, RunError)] = &[
+    ("", true, usize::MAX, RunError::Read),
+    ("flag 5 1", true, usize::MAX, RunError::Read),
+    ("x\n", true, usize::MAX, RunError::Read),
+    ("flag 5 1\n0 jump\n", true, usize::MAX, RunError::Read),
+    ("x\n", true, 0, RunError::Read),
+    ("flag 5 1\n0 jump\n", true, 0, RunError::Read),
+    ("flag 5 1\n", true, 0, RunError::Read),
+    ("", false, 0, RunError::BadLine(1)),
+    ("x\n0 jump\n", false, 0, RunError::BadLine(1)),
+    (
+        "flag 5 1\n0 jump\n0 step \n",
+        false,
+        0,
+        RunError::BadLine(2),
+    ),
 ];
 
 #[test]
 fn tells_the_fault_that_is_met_first(rt: HostRuntime) {
-    for (text, read_fails, fault) in TWO_FAULTS {
-        let mut input = Tape {
-            fails: *read_fails,
-            ..Tape::new(text.as_bytes())
-        };
-        let mut output = Paper::new(rt.alloc(), usize::MAX, 0);
+    for (text, read_fails, room, fault) in FAULTS {
+        let mut input = Tape::new(text.as_bytes());
+        input.fails = *read_fails;
+        let mut output = Paper::new(rt.alloc(), usize::MAX, *room);
         plays(&rt, rt.alloc(), &mut input, &mut output, Err(*fault), b"");
+        assert!(rt; input.failed == *read_fails);
+        // No failed read is tried again.
+        assert_eq!(rt; input.reads, if text.is_empty() { 1 } else { 2 });
         assert_eq!(rt; output.writes, 0);
     }
 }

@@ -2,9 +2,9 @@
 ghost use Rattle.std.specs.Prelude.{◌≤◌, length};
 
 use super::objects::OfHeader;
+use super::stops::{Run, Two, run_of, runs_of};
 use super::worlds::{
-    Opening, Shown, Told, Trial, holds, is_at, is_told, look_at, object, opened, play, run,
-    try_all, world,
+    Opening, Shown, Told, Trial, holds, look_at, opened, play, run, try_all, world,
 };
 use bumpalo::Bump;
 use spin_world::{Move, run_in_two};
@@ -32,42 +32,11 @@ fn filled<'a>(rt: &impl Abort, arena: &'a Bump, left: usize) -> Vec<u8, &'a Bump
 
 /// Whether a world can be made where so many bytes are left.
 fn opens_in<O: OfHeader>(rt: &impl Abort, alloc: Global, opening: Opening, left: usize) -> bool {
-    let object = object::<O>(rt, opening);
     let arena = arena(rt, alloc);
     let filled = filled(rt, &arena, left);
-    let opens = world(&arena, object, opening).is_ok();
+    let opens = world::<O, &Bump>(rt, &arena, opening).is_ok();
     drop(filled);
     opens
-}
-
-/// What a world that is never refused comes to: at first, behind a first schedule, and behind a second one.
-#[derive(Drop)]
-struct Wanted {
-    first: Shown,
-    between: Shown,
-    told: Vec<Told>,
-    stop: Shown,
-}
-
-fn unrefused<O: OfHeader>(
-    rt: &impl Abort,
-    alloc: Global,
-    opening: Opening,
-    past: &[(usize, Move<O::Call, u64>)],
-    schedule: &[(usize, Move<O::Call, u64>)],
-) -> Wanted {
-    let mut world = opened::<O, Global>(rt, alloc, opening);
-    let first = look_at(rt, alloc, opening, &world);
-    let _ = run(&mut world, past).expect(rt, opening.shows);
-    let between = look_at(rt, alloc, opening, &world);
-    let told = play(rt, alloc, &mut world, schedule);
-    let stop = look_at(rt, alloc, opening, &world);
-    Wanted {
-        first,
-        between,
-        told,
-        stop,
-    }
 }
 
 /// What a world comes to whose second schedule was refused: where it is, what that schedule tells once there is room again,
@@ -147,14 +116,16 @@ impl Refusals {
     }
 }
 
-/// Compares what came of a refused run, and of the same run again, with what is wanted.
-fn is_as_wanted(rt: &impl Abort, shows: &str, left: usize, again: &Again, wanted: &Wanted) {
-    is_at(rt, shows, left, &again.refused, &wanted.between);
-    is_at(rt, shows, left, &again.stop, &wanted.stop);
-    holds(rt, shows, left, again.told.len() == wanted.told.len());
-    for (event, wanted) in again.told.iter().zip(&wanted.told) {
-        is_told(rt, shows, left, *event, *wanted);
-    }
+/// Compares what came of a refused run, and of the same run again, with the two runs of a world that is never refused.
+fn is_as_wanted(rt: &impl Abort, shows: &str, left: usize, again: &Again, past: &Run, two: &Two) {
+    holds(rt, shows, left, again.refused == past.stop);
+    holds(
+        rt,
+        shows,
+        left,
+        again.told.as_slice() == two.second.as_slice(),
+    );
+    holds(rt, shows, left, again.stop == two.stop);
 }
 
 /// In each room from none to enough: a world is made, it plays on, and it plays in two runs.
@@ -167,7 +138,8 @@ pub fn in_each_room<O: OfHeader>(
     let shows = opening.shows;
     let at = schedule.len() / 2;
     let (past, rest) = schedule.split_at(at);
-    let wanted = unrefused::<O>(rt, alloc, opening, past, rest);
+    let before = run_of::<O>(rt, alloc, opening, past);
+    let wanted = runs_of::<O>(rt, alloc, opening, schedule, at);
     let mut refusals = Refusals {
         worlds: 0,
         runs: 0,
@@ -183,12 +155,12 @@ pub fn in_each_room<O: OfHeader>(
             break;
         }
         if let Some(again) = &again {
-            is_as_wanted(rt, shows, left, again, &wanted);
+            is_as_wanted(rt, shows, left, again, &before, &wanted);
         }
         let (mut first, mut second) = (false, false);
         if let Some(stop) = &two {
-            first = *stop == wanted.first;
-            second = *stop == wanted.between;
+            first = *stop == before.start;
+            second = *stop == before.stop;
             holds(rt, shows, left, first || second);
         }
         refusals.add(!opens, again.is_some(), first, second);

@@ -3,9 +3,7 @@
 ghost use Rattle.std.specs.Prelude.{◌≤◌, length};
 
 use super::objects::{OfHeader, Standing, are_words_of, parties_of};
-use super::worlds::{
-    Opening, Shown, Told, Trial, holds, is_at, is_told, look_at, opened, play, tell, try_all,
-};
+use super::worlds::{Opening, Shown, Told, Trial, holds, look_at, opened, play, tell, try_all};
 use spin_text::Header;
 use spin_world::{Answer, Fair, FairCall, Move, Outcome, Place, run_in_two};
 use std::alloc::Global;
@@ -13,14 +11,14 @@ use std::process::Abort;
 
 /// What a run comes to: where it starts, its events, and where it stops.
 #[derive(Drop)]
-struct Run {
-    start: Shown,
-    events: Vec<Told>,
-    stop: Shown,
+pub struct Run {
+    pub start: Shown,
+    pub events: Vec<Told>,
+    pub stop: Shown,
 }
 
 /// Plays a schedule in a world of its own.
-fn run_of<O: OfHeader>(
+pub fn run_of<O: OfHeader>(
     rt: &impl Abort,
     alloc: Global,
     opening: Opening,
@@ -39,14 +37,14 @@ fn run_of<O: OfHeader>(
 
 /// What two runs come to: what each tells, and where the second stops.
 #[derive(Drop)]
-struct Two {
-    first: Vec<Told>,
-    second: Vec<Told>,
-    stop: Shown,
+pub struct Two {
+    pub first: Vec<Told>,
+    pub second: Vec<Told>,
+    pub stop: Shown,
 }
 
 /// Plays a schedule in a world of its own, cut in two at this place.
-fn runs_of<O: OfHeader>(
+pub fn runs_of<O: OfHeader>(
     rt: &impl Abort,
     alloc: Global,
     opening: Opening,
@@ -80,8 +78,8 @@ fn is_unsettled(places: &[Place]) -> bool {
 /// How many of these events answer a call.
 fn answers(events: &[Told]) -> u64 {
     let mut answers = 0u64;
-    for (_, outcome, _) in events {
-        if matches!(outcome, Outcome::Answered { .. }) {
+    for event in events {
+        if matches!(event.outcome, Outcome::Answered { .. }) {
             answers = answers.saturating_add(1);
         }
     }
@@ -111,11 +109,11 @@ fn written_by<C: Copy>(
 /// Whether each look of a schedule found the value last written, and the last one lies there.
 fn keeps_value<C: Copy>(schedule: &[(usize, Move<C, u64>)], run: &Run) -> bool {
     let mut written = run.start.value;
-    for ((_, action), (_, outcome, _)) in schedule.iter().zip(&run.events) {
-        if matches!(*outcome, Outcome::Value(found) if found != written) {
+    for ((_, action), event) in schedule.iter().zip(&run.events) {
+        if matches!(event.outcome, Outcome::Value(found) if found != written) {
             return false;
         }
-        written = written_by(*action, *outcome, written);
+        written = written_by(*action, event.outcome, written);
     }
     written == run.stop.value
 }
@@ -140,22 +138,26 @@ fn is_in_order(rt: &impl Abort, opening: Opening, run: &Run) {
 }
 
 /// An event as a run tells it that starts at this place: nothing of where a call began before it.
-fn told_from(start: usize, (party, outcome, numbers): Told) -> Told {
-    let outcome = match outcome {
+fn told_from(start: usize, event: Told) -> Told {
+    let outcome = match event.outcome {
         Outcome::Answered { answer, began } => Outcome::Answered {
             answer,
             began: began.and_then(|place| place.checked_sub(start)),
         },
         outcome => outcome,
     };
-    (party, outcome, numbers)
+    Told {
+        party: event.party,
+        outcome,
+        numbers: event.numbers,
+    }
 }
 
 /// Compares the events of a run that starts at this place with those of the one run from there on.
 fn is_part(rt: &impl Abort, shows: &str, start: usize, part: &[Told], whole: &[Told]) {
     holds(rt, shows, start, part.len() == whole.len());
     for (event, wanted) in part.iter().zip(whole) {
-        is_told(rt, shows, start, *event, told_from(start, *wanted));
+        holds(rt, shows, start, *event == told_from(start, *wanted));
     }
 }
 
@@ -164,7 +166,7 @@ fn are_one(rt: &impl Abort, shows: &str, at: usize, two: &Two, one: &Run) {
     let (front, back) = one.events.split_at(at.min(one.events.len()));
     is_part(rt, shows, 0, &two.first, front);
     is_part(rt, shows, at, &two.second, back);
-    is_at(rt, shows, at, &two.stop, &one.stop);
+    holds(rt, shows, at, two.stop == one.stop);
 }
 
 /// Every stop of a schedule, and every cut.

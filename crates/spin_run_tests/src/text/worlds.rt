@@ -20,18 +20,14 @@ pub struct Opening {
     pub header: Header,
 }
 
-/// The object of that opening.
-pub fn object<O: OfHeader>(rt: &impl Abort, opening: Opening) -> O {
-    O::of_header(opening.header).expect(rt, opening.shows)
-}
-
-/// A world in that opening, of such an object. Who calls this, [`run`], [`numbers`] or [`value`] learns nothing of what they
-/// ensure: the tests look for themselves.
+/// A world in that opening. Who calls this, [`run`], [`numbers`] or [`value`] learns nothing of what they ensure: the tests
+/// look for themselves.
 pub fn world<O: OfHeader, A: Allocator + Copy>(
+    rt: &impl Abort,
     alloc: A,
-    object: O,
     opening: Opening,
 ) -> Result<World<O, A>, AllocError> {
+    let object = O::of_header(opening.header).expect(rt, opening.shows);
     World::new(alloc, object, parties_of(opening.header))
 }
 
@@ -59,11 +55,11 @@ pub fn opened<O: OfHeader, A: Allocator + Copy>(
     alloc: A,
     opening: Opening,
 ) -> World<O, A> {
-    world(alloc, object::<O>(rt, opening), opening).expect(rt, opening.shows)
+    world(rt, alloc, opening).expect(rt, opening.shows)
 }
 
 /// Where a world is: its words as numbers, its value, and the places of its parties.
-#[derive(Debug, PartialEq, Drop)]
+#[derive(PartialEq, Drop)]
 pub struct Shown {
     pub numbers: (u64, Option<u64>),
     pub value: Option<u64>,
@@ -90,12 +86,21 @@ pub fn look_at<O: OfHeader, A: Allocator + Copy>(
     }
 }
 
-/// An event: the party, what came of its move, and the words after it.
-pub type Told = (usize, Outcome<Answer<u64>, u64>, (u64, Option<u64>));
+/// An event: the party, what came of its move, and the words after it as numbers.
+#[derive(Clone, Copy, PartialEq)]
+pub struct Told {
+    pub party: usize,
+    pub outcome: Outcome<Answer<u64>, u64>,
+    pub numbers: (u64, Option<u64>),
+}
 
 /// What an event tells.
 fn told_of<O: OfHeader>(event: &Event<O::Words, u64, Answer<u64>>) -> Told {
-    (event.party, event.outcome, numbers::<O>(event.words))
+    Told {
+        party: event.party,
+        outcome: event.outcome,
+        numbers: numbers::<O>(event.words),
+    }
 }
 
 /// What these events tell.
@@ -125,16 +130,6 @@ pub fn play<O: OfHeader, A: Allocator + Copy>(
 /// Fails, at a place of a schedule, unless it holds.
 pub fn holds(rt: &impl Abort, shows: &str, at: usize, fact: bool) {
     assert!(rt; fact, "{shows}, at {at}");
-}
-
-/// Fails, at a place of a schedule, unless a world is where it is wanted.
-pub fn is_at(rt: &impl Abort, shows: &str, at: usize, world: &Shown, wanted: &Shown) {
-    assert_eq!(rt; world, wanted, "{shows}, at {at}");
-}
-
-/// Fails, at a place of a schedule, unless an event is the one that is wanted.
-pub fn is_told(rt: &impl Abort, shows: &str, at: usize, event: Told, wanted: Told) {
-    assert_eq!(rt; event, wanted, "{shows}, at {at}");
 }
 
 /// What is tried of each worked schedule.
