@@ -1,17 +1,17 @@
 //! Worked schedules that no text tells: those of the seats, runs one after the other, places, and objects that no header
 //! makes.
 
+use crate::text::worlds::run;
 use spin_world::{
     Answer, Event, Fair, FairCall, Flag, FlagCall, Hold, Move, Object, OnceCall, OnceObject,
     Outcome, Place, World,
 };
 use spin_world_seats::{Seats, SeatsCall};
 use std::alloc::Global;
-use std::fmt::Debug;
 use std::process::Abort;
 
 /// The rows of a schedule: the moves, and an event for each.
-#[derive(Clone, Copy)]
+#[derive(Drop)]
 struct Rows<'a, C, T, W> {
     moves: &'a [(usize, Move<C, T>)],
     events: &'a [Event<W, T, Answer<T>>],
@@ -48,6 +48,19 @@ fn world<O: Object>(rt: &impl Abort, alloc: Global, object: O, parties: usize) -
     World::new(alloc, object, parties).expect(rt, "memory")
 }
 
+/// Compares where each party of a world stands, and its value.
+fn stands<O, T>(rt: &impl Abort, world: &World<O>, places: &[Place], value: T)
+where
+    O: Object<Value = T>,
+    T: Copy + PartialEq,
+{
+    for (party, place) in places.iter().enumerate() {
+        assert!(rt; world.place(party) == Some(*place), "{party}");
+    }
+    assert!(rt; world.place(places.len()).is_none());
+    assert!(rt; world.value() == Some(value));
+}
+
 /// Plays rows as one schedule. Compares each event, the words after the last, where each party stands then, and the value.
 fn plays<O, T, W>(
     rt: &impl Abort,
@@ -58,19 +71,15 @@ fn plays<O, T, W>(
 )
 where
     O: Object<Value = T, Words = W, Answer = Answer<T>>,
-    T: Copy + PartialEq + Debug,
-    W: Copy + PartialEq + Debug,
+    T: Copy + PartialEq,
+    W: Copy + PartialEq,
 {
-    let transcript = world.run(rows.moves).expect(rt, "memory");
-    assert_eq!(rt; transcript.events.as_slice(), rows.events);
+    let transcript = run(world, rows.moves).expect(rt, "memory");
+    assert!(rt; transcript.events.as_slice() == rows.events);
     if let Some(event) = rows.events.last() {
-        assert_eq!(rt; world.words(), event.words);
+        assert!(rt; world.words() == event.words);
     }
-    for (party, place) in places.iter().enumerate() {
-        assert_eq!(rt; world.place(party), Some(*place));
-    }
-    assert_eq!(rt; world.place(places.len()), None);
-    assert_eq!(rt; world.value(), Some(value));
+    stands(rt, world, places, value);
 }
 
 const TWO_SIT: Rows<'static, SeatsCall, (), usize> = rows! {

@@ -7,11 +7,11 @@ mod objects;
 mod refused;
 mod stops;
 mod transcripts;
-mod worlds;
+pub mod worlds;
 
 use self::gallery::GALLERY;
 use self::lines::{OUTSIDE, WITHIN};
-use self::transcripts::{WORKED, Worked};
+use self::transcripts::WORKED;
 use crate::ends::{Paper, Tape};
 use spin_run::run::{OfStd, RunError, Sink, Source, world_text};
 use std::alloc::Global;
@@ -65,28 +65,35 @@ fn tells(rt: &impl Abort, alloc: Global, step: usize, shows: &str, text: &[u8], 
     assert_eq!(rt; output.text(rt), told, "{shows}");
 }
 
-/// Plays each schedule so, with its last line feed and without.
-fn each_tells(rt: &impl Abort, alloc: Global, step: usize, worked: &[Worked]) {
-    for (shows, text, told) in worked {
-        let text = text.as_bytes();
-        tells(rt, alloc, step, shows, text, told);
-        let (without_end, _) = text.split_at(text.len().saturating_sub(1));
-        tells(rt, alloc, step, shows, without_end, told);
+/// Plays a schedule so, with its last line feed and without.
+fn tells_ended(rt: &impl Abort, alloc: Global, step: usize, shows: &str, text: &str, told: &str) {
+    let text = text.as_bytes();
+    tells(rt, alloc, step, shows, text, told);
+    let (without_end, _) = text.split_at(text.len().saturating_sub(1));
+    tells(rt, alloc, step, shows, without_end, told);
+}
+
+/// Plays a schedule so, whole and in small steps.
+fn tells_in_steps(rt: &impl Abort, alloc: Global, shows: &str, text: &str, told: &str) {
+    for step in [usize::MAX, 1, 2, 3, 4, 5, 6, 7, 8] {
+        tells_ended(rt, alloc, step, shows, text, told);
     }
 }
 
 #[test]
 fn worked_texts_whole_and_in_small_steps(rt: HostRuntime) {
     for worked in WORKED {
-        for step in [usize::MAX, 1, 2, 3, 4, 5, 6, 7, 8] {
-            each_tells(&rt, rt.alloc(), step, worked);
+        for (shows, text, told) in worked {
+            tells_in_steps(&rt, rt.alloc(), shows, text, told);
         }
     }
 }
 
 #[test]
 fn texts_of_the_gallery(rt: HostRuntime) {
-    each_tells(&rt, rt.alloc(), usize::MAX, GALLERY);
+    for (shows, text, told) in GALLERY {
+        tells_ended(&rt, rt.alloc(), usize::MAX, shows, text, told);
+    }
 }
 
 #[test]

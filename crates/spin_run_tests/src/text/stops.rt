@@ -75,13 +75,16 @@ fn is_unsettled(places: &[Place]) -> bool {
     false
 }
 
+/// Whether an event answers a call.
+fn is_answer(event: &Told) -> bool {
+    matches!(event.outcome, Outcome::Answered { .. })
+}
+
 /// How many of these events answer a call.
 fn answers(events: &[Told]) -> u64 {
     let mut answers = 0u64;
     for event in events {
-        if matches!(event.outcome, Outcome::Answered { .. }) {
-            answers = answers.saturating_add(1);
-        }
+        answers = answers.saturating_add(u64::from(is_answer(event)));
     }
     answers
 }
@@ -142,7 +145,10 @@ fn told_from(start: usize, event: Told) -> Told {
     let outcome = match event.outcome {
         Outcome::Answered { answer, began } => Outcome::Answered {
             answer,
-            began: began.and_then(|place| place.checked_sub(start)),
+            began: match began {
+                Some(place) => place.checked_sub(start),
+                None => None,
+            },
         },
         outcome => outcome,
     };

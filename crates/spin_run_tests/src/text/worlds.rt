@@ -7,7 +7,7 @@ use super::stops::at_each_place;
 use super::transcripts::WORKED;
 use spin_text::{Header, Rest, first_line, header_of, schedule_of};
 use spin_world::{
-    Answer, BarrierObject, Event, Fair, Flag, Move, OnceObject, Outcome, Place, Rw, Ticket,
+    Answer, BarrierObject, Event, Fair, Flag, Move, Object, OnceObject, Outcome, Place, Rw, Ticket,
     Transcript, World,
 };
 use std::alloc::{AllocError, Allocator, Global};
@@ -32,9 +32,9 @@ pub fn world<O: OfHeader, A: Allocator + Copy>(
 }
 
 /// Runs a schedule in a world.
-pub fn run<O: OfHeader, A: Allocator + Copy>(
+pub fn run<O: Object, A: Allocator + Copy>(
     world: &mut World<O, A>,
-    schedule: &[(usize, Move<O::Call, u64>)],
+    schedule: &[(usize, Move<O::Call, O::Value>)],
 ) -> Result<Transcript<O, A>, AllocError> {
     world.run(schedule)
 }
