@@ -123,6 +123,3 @@ pub type LazyLock<T, F = fn() -> T> = lazylock::LazyLock<T, F, Spin>;
 /// ```
 #[deprecated(note = "use `spin::LazyLock`")]
 pub type Lazy<T, F = fn() -> T> = lazylock::LazyLock<T, F, Spin>;
-
-#[cfg(test)]
-mod tests;

@@ -1,16 +1,26 @@
-//! Tests of the barrier, of the seats, and of the callers: what no contract says of them.
+//! Tests of the barrier, of the seats, of the seated locks, of the names of `spin`, and of the callers: what no contract says of them.
 #![tactic(auto)]
 
+#[cfg(test)]
+mod account;
 #[cfg(test)]
 mod barrier;
 #[cfg(test)]
 mod cache;
 #[cfg(test)]
+mod counter;
+#[cfg(test)]
 mod equal;
+#[cfg(test)]
+mod examples;
 #[cfg(test)]
 mod ledger;
 #[cfg(test)]
+mod names;
+#[cfg(test)]
 mod phases;
+#[cfg(test)]
+mod seated;
 #[cfg(test)]
 mod seats;
 #[cfg(test)]

@@ -1,13 +1,13 @@
 //! Tests of what the pages print.
 use super::account::{count, count_up_to};
-use super::from_rust::{
-    add_from_two, add_one, add_starving, doubled, give_back, port_of, raise, set_elsewhere, take,
-};
-use super::registers::four_threads;
-use super::versions::race;
-use super::{any_lock, totals};
 use spin::mutex::{FairMutex, Mutex, SpinMutex, TicketMutex};
 use spin::{LazyLock, Once, RwLock, Yield};
+use spin_examples::from_rust::{
+    add_from_two, add_one, add_starving, doubled, give_back, port_of, raise, set_elsewhere, take,
+};
+use spin_examples::registers::four_threads;
+use spin_examples::versions::race;
+use spin_examples::{any_lock, totals};
 use std::thread;
 
 #[test]

@@ -2,7 +2,7 @@
 use Rattle.std.proofs.Common.{◌≡◌, ◌≤◌, None}
 use Rattle.spin_seated.specs.Passes.{IsPassOf}
 use Rattle.spin_seated.specs.Rw.{holds}
-use Rattle.spin_seated_tests.proofs.readers.read_some.Given as goal
+use Rattle.spin_uses_tests.proofs.seated.readers.add_some.Given as goal
 
 abbrev pub invariant-loop : goal.invariant-loop
-invariant-loop g l = IsPassOf l.lock l.pass × (holds l.pass.known ≡ None) × (l.times ≤ l.counter)
+invariant-loop g l = IsPassOf l.lock l.pass × (holds l.pass.known ≡ None) × (l.added ≤ l.counter)

@@ -1,21 +1,16 @@
-//! Tests of the names that the root has. Begin at [`a_mutex_by_its_short_name`].
-use super::mutex::{
+//! Tests of the names at the root of `spin`, each by its path there. Begin at [`a_mutex_by_its_short_name`].
+use super::equal::equal;
+use spin::mutex::{
     FairMutex, FairMutexGuard, SpinMutex, SpinMutexGuard, TicketMutex, TicketMutexGuard,
 };
-use super::relax::Loop;
-use super::step::flag;
-use super::{
+use spin::relax::Loop;
+use spin::step::flag;
+use spin::{
     Barrier, Lazy, LazyLock, Mutex, MutexGuard, Once, RelaxStrategy, RwLock, RwLockReadGuard, Spin,
     Yield, barrier, mutex,
 };
-use std::fmt::Debug;
 use std::mem::size_of;
-use std::process::Abort;
 use std::sync::Wait;
-
-fn equal<T: Debug + Drop + PartialEq, R: Abort>(rt: &R, found: T, wanted: T) {
-    assert_eq!(rt; found, wanted);
-}
 
 fn pass_the_time<S: RelaxStrategy, R: Wait>(rt: &R) {
     S::relax(rt);
