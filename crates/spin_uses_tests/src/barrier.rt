@@ -1,23 +1,17 @@
 //! What no contract says: that a party stays for its group, that one party of each group leads, and which.
 use super::equal::equal;
 use spin_barrier::barrier::Barrier;
-use spin_core::relax::{Loop, RelaxStrategy, Spin, Yield};
-use std::alloc::{AllocError, Global};
+use spin_core::relax::{RelaxStrategy, Spin, Yield};
 use std::cell::Cell;
 use std::process::Abort;
 use std::sync::Wait;
 use std::sync::atomic::{AtomicBool, AtomicU64, Ordering};
-use std::test::Fail;
-use std::thread;
-use std::thread::Threads;
+use std::thread::map_indices;
 
-fn is_send<T: Send>() {}
-
-fn is_sync<T: Sync>() {}
+fn is_shared<T: Send + Sync>() {}
 
 fn travels<R: 'static>() {
-    is_send::<Barrier<R>>();
-    is_sync::<Barrier<R>>();
+    is_shared::<Barrier<R>>();
 }
 
 #[test]
@@ -81,31 +75,17 @@ impl Rounds {
 
     fn pass_both<R: Wait>(&self, rt: &R, index: usize) {
         if index == 0 {
-            self.look_on(rt);
+            // looks for one that has left before the group is full
+            for _ in 0..LOOKS {
+                if self.first.left.load(Ordering::SeqCst) {
+                    self.left_early.store(true, Ordering::SeqCst);
+                }
+                Yield::relax(rt);
+            }
         }
         self.pass(rt, &self.first);
         self.pass(rt, &self.second);
     }
-
-    // Looks for one that has left before the group is full.
-    fn look_on<R: Wait>(&self, rt: &R) {
-        for _ in 0..LOOKS {
-            if self.first.left.load(Ordering::SeqCst) {
-                self.left_early.store(true, Ordering::SeqCst);
-            }
-            Yield::relax(rt);
-        }
-    }
-}
-
-fn pass_in_ten<R: Threads + Wait + Sync>(
-    rt: &R,
-    alloc: Global,
-    rounds: &Rounds,
-) -> Result<(), AllocError> {
-    let pass = |index: usize| rounds.pass_both(rt, index);
-    thread::map_indices(rt, alloc, 10, &pass)?;
-    Ok(())
 }
 
 fn comes_to<R: Abort>(rt: &R, round: &Round, arrived: u64) {
@@ -114,7 +94,7 @@ fn comes_to<R: Abort>(rt: &R, round: &Round, arrived: u64) {
 }
 
 #[test]
-fn ten_threads_wait_for_one_another_twice_over(rt: HostRuntime) -> Result<(), Fail> {
+fn ten_threads_wait_for_one_another_twice_over(rt: HostRuntime) {
     let rounds = Rounds {
         barrier: Barrier::new(10),
         arrived: AtomicU64::new(0),
@@ -122,9 +102,9 @@ fn ten_threads_wait_for_one_another_twice_over(rt: HostRuntime) -> Result<(), Fa
         first: Round::new(),
         second: Round::new(),
     };
-    pass_in_ten(&rt, rt.alloc(), &rounds)?;
+    let pass = |index: usize| rounds.pass_both(&rt, index);
+    map_indices(&rt, rt.alloc(), 10, &pass).expect(&rt, "memory");
     equal(&rt, rounds.left_early.load(Ordering::SeqCst), false);
     comes_to(&rt, &rounds.first, 10);
     comes_to(&rt, &rounds.second, 20);
-    Ok(())
 }

@@ -11,9 +11,7 @@ use std::alloc::{AllocError, Global};
 use std::cell::Cell;
 use std::process::Abort;
 use std::sync::Wait;
-use std::test::Fail;
-use std::thread;
-use std::thread::Threads;
+use std::thread::join;
 
 const KEYS: u64 = 100;
 
@@ -50,63 +48,48 @@ fn square<W: Wait>(
 }
 
 // The number of squares that one thread made, and whether all answers were right.
-fn ask_all<W: Wait>(rt: &W, cache: &SquareCache) -> Result<(u64, bool), AllocError> {
+fn ask_all<R: Abort + Wait>(rt: &R, cache: &SquareCache) -> (u64, bool) {
     let made = Cell::new(0);
     let mut right = true;
     for key in 0..KEYS {
-        right = right && square(rt, cache, key, &made)? == key * key;
+        right &= square(rt, cache, key, &made).expect(rt, "memory") == key * key;
     }
-    Ok((made.get(), right))
+    (made.get(), right)
 }
 
 #[test]
-fn threads_make_each_answer_once(rt: HostRuntime) -> Result<(), Fail> {
+fn threads_make_each_answer_once(rt: HostRuntime) {
     let cache = Cache::new(rt.alloc());
-    let (first, second) = thread::join(&rt, || ask_all(&rt, &cache), || ask_all(&rt, &cache));
-    let (first, second) = (first?, second?);
+    let (first, second) = join(&rt, || ask_all(&rt, &cache), || ask_all(&rt, &cache));
     equal(&rt, first.1 && second.1, true);
     equal(&rt, first.0.wrapping_add(second.0), KEYS);
-    Ok(())
 }
 
 // A writer would wait for ever beside a reader that stays.
 #[test]
-fn an_answer_that_is_there_takes_no_write(rt: HostRuntime) -> Result<(), Fail> {
+fn an_answer_that_is_there_takes_no_write(rt: HostRuntime) {
     let cache: SquareCache = Cache::new(rt.alloc());
     let made = Cell::new(0);
-    equal(&rt, square(&rt, &cache, 3, &made)?, 9);
+    equal(&rt, square(&rt, &cache, 3, &made), Ok(9));
     let reader = cache.read(&rt);
-    equal(&rt, square(&rt, &cache, 3, &made)?, 9);
+    equal(&rt, square(&rt, &cache, 3, &made), Ok(9));
     equal(&rt, reader.answer(&3).copied(), Some(9));
     equal(&rt, reader.answer(&4).copied(), None);
     equal(&rt, made.get(), 1);
-    Ok(())
-}
-
-// Two threads, each of which looks for a square that is there.
-fn read_in_two<R: Abort + Threads + Wait + Sync>(rt: &R, cache: &SquareCache) {
-    let (first, second) = thread::join(
-        rt,
-        || cache.read(rt).answer(&3).copied(),
-        || cache.read(rt).answer(&3).copied(),
-    );
-    equal(rt, first, Some(9));
-    equal(rt, second, Some(9));
 }
 
 // Readers that waited for who makes an answer would wait for ever, as it waits for them.
 #[test]
-fn readers_come_while_an_answer_is_made(rt: HostRuntime) -> Result<(), Fail> {
+fn readers_come_while_an_answer_is_made(rt: HostRuntime) {
     let cache: SquareCache = Cache::new(rt.alloc());
-    let made = Cell::new(0);
-    square(&rt, &cache, 3, &made)?;
-    let answer: Result<u64, AllocError> = cache.answer(&rt, 4, |key| {
-        read_in_two(&rt, &cache);
-        Ok(key.wrapping_mul(*key))
+    equal(&rt, square(&rt, &cache, 3, &Cell::new(0)), Ok(9));
+    let look = || cache.read(&rt).answer(&3).copied();
+    let answer = cache.answer(&rt, 4, |key| {
+        equal(&rt, join(&rt, &look, &look), (Some(9), Some(9)));
+        Ok::<_, AllocError>(key.wrapping_mul(*key))
     });
-    equal(&rt, answer?, 16);
+    equal(&rt, answer, Ok(16));
     equal(&rt, cache.read(&rt).answer(&4).copied(), Some(16));
-    Ok(())
 }
 
 /// The name in capitals.
@@ -137,13 +120,13 @@ fn shout<W: Wait>(
 }
 
 #[test]
-fn a_cache_of_texts(rt: HostRuntime) -> Result<(), Fail> {
+fn a_cache_of_texts(rt: HostRuntime) {
     let cache = Cache::new(rt.alloc());
     for name in ["ada", "grace", "ada"] {
-        let shouted = shout(&rt, &cache, rt.alloc(), name)?;
-        equal(&rt, shouted == name.to_ascii_uppercase(rt.alloc())?, true);
+        let shouted = shout(&rt, &cache, rt.alloc(), name).expect(&rt, "memory");
+        let wanted = name.to_ascii_uppercase(rt.alloc()).expect(&rt, "memory");
+        equal(&rt, shouted, wanted);
     }
-    Ok(())
 }
 
 /// Why no answer was made.

@@ -4,11 +4,10 @@ ghost use Rattle.std.specs.Prelude.{◌≡◌, ◌<◌, ◌^◌, sum};
 use super::equal::equal;
 use bumpalo::Bump;
 use spin_uses::ledger::{Accounts, Ledger, Opening, Refused, Transfer, replay, total};
-use std::alloc::{AllocError, Allocator, Global};
+use std::alloc::{Allocator, Global};
 use std::marker::Brand;
 use std::process::Abort;
 use std::sync::Wait;
-use std::test::Fail;
 use std::thread::{Threads, join};
 
 fn transfer(from: usize, to: usize, amount: u64) -> Transfer {
@@ -53,24 +52,20 @@ fn makes_and_refuses<O: Opening, R: Abort>(rt: &R, alloc: Global, balances: Vec<
 }
 
 #[test]
-fn a_transfer_is_made_whole_or_not_at_all(rt: HostRuntime) -> Result<(), Fail> {
-    let balances = [100, 20, 0].to_vec(rt.alloc())?;
+fn a_transfer_is_made_whole_or_not_at_all(rt: HostRuntime) {
+    let balances = [100, 20, 0].to_vec(rt.alloc()).expect(&rt, "memory");
     makes_and_refuses::<Brand, _>(&rt, rt.alloc(), balances);
-    Ok(())
 }
 
 #[test]
-fn a_journal_is_replayed(rt: HostRuntime) -> Result<(), Fail> {
+fn a_journal_is_replayed(rt: HostRuntime) {
     let journal = [transfer(0, 2, 30), transfer(2, 1, 10)];
-    let balances = replay(rt.alloc(), &[100, 20, 0], &journal)
-        .ok()
-        .ok_or("no memory")?;
+    let balances = replay(rt.alloc(), &[100, 20, 0], &journal).expect(&rt, "memory");
     equal(&rt, balances.as_slice(), [70, 30, 20].as_slice());
     let refused = replay(rt.alloc(), &[29, 20, 0], &journal);
     equal(&rt, refused.err(), Some(Refused::TooLittle));
     let refused = replay(rt.alloc(), &[100, 20], &journal);
     equal(&rt, refused.err(), Some(Refused::NoSuchAccount));
-    Ok(())
 }
 
 /// Transfers of random amounts between random accounts, as many as the ledger is asked for. It answers how many were made.
@@ -93,28 +88,12 @@ fn trades<O: Opening, W: Wait>(rt: &W, ledger: &Ledger<O>, seed: u64, turns: u64
     made
 }
 
-/// Compares each balance with that of the journal's replay.
-fn replays<O: Opening, R: Abort>(
-    rt: &R,
-    alloc: Global,
-    opening: &[u64],
-    accounts: &Accounts<O>,
-) -> Result<(), Refused>
-    requires { sum opening.now < 2 ^ 64 }
-{
-    let replayed = replay(alloc, opening, accounts.journal())?;
-    for (account, found) in replayed.iter().enumerate() {
-        equal(rt, accounts.balance(account), Some(*found));
-    }
-    Ok(())
-}
-
 fn trades_in_two<O: Opening + Send + Sync, R: Abort + Threads + Wait + Sync>(
     rt: &R,
     alloc: Global,
     opening: &[u64],
     balances: Vec<u64>,
-) -> Result<(), Refused>
+)
     requires opening { balances.items ≡ O.balances }
     requires same { opening.now ≡ O.balances }
     requires fits { sum O.balances < 2 ^ 64 }
@@ -133,15 +112,17 @@ fn trades_in_two<O: Opening + Send + Sync, R: Abort + Threads + Wait + Sync>(
         left.saturating_add(right),
     );
     equal(rt, 0 < left && 0 < right, true);
-    replays(rt, alloc, opening, &accounts)
+    let replayed = replay(alloc, opening, accounts.journal()).expect(rt, "memory");
+    for (account, found) in replayed.iter().enumerate() {
+        equal(rt, accounts.balance(account), Some(*found));
+    }
 }
 
 #[test]
-fn threads_trade_and_leave_the_total(rt: HostRuntime) -> Result<(), Fail> {
+fn threads_trade_and_leave_the_total(rt: HostRuntime) {
     let opening = [100, 20, 0];
-    let balances = opening.to_vec(rt.alloc())?;
-    trades_in_two::<Brand, _>(&rt, rt.alloc(), &opening, balances)?;
-    Ok(())
+    let balances = opening.to_vec(rt.alloc()).expect(&rt, "memory");
+    trades_in_two::<Brand, _>(&rt, rt.alloc(), &opening, balances);
 }
 
 /// Transfers until no memory is left for one. It answers whether memory sufficed for all.
@@ -150,13 +131,13 @@ fn is_refused_whole<'a, O: Opening, R: Abort>(
     arena: &'a Bump,
     left: usize,
     balances: Vec<u64, &'a Bump>,
-) -> Result<bool, AllocError>
+) -> bool
     requires opening { balances.items ≡ O.balances }
     requires fits { sum O.balances < 2 ^ 64 }
 {
     arena.set_allocation_limit(Some(0));
     let filled = arena.chunk_capacity().saturating_sub(left);
-    let filled = Vec::<u8, &'a Bump>::with_capacity(arena, filled)?;
+    let filled = Vec::<u8, &'a Bump>::with_capacity(arena, filled).expect(rt, "memory");
     let mut accounts: Accounts<O, &'a Bump> = Accounts::open(arena, balances);
     let first = accounts.transfer(transfer(0, 2, 30));
     let again = replay(arena, &[100, 20, 0], accounts.journal()).err();
@@ -165,25 +146,24 @@ fn is_refused_whole<'a, O: Opening, R: Abort>(
         equal(rt, first, Err(Refused::OutOfMemory));
         holds(rt, &accounts, [100, 20, 0]);
         equal(rt, accounts.journal().is_empty(), true);
-        return Ok(false);
+        return false;
     }
     holds(rt, &accounts, [70, 20, 30]);
     if again.is_some() {
         equal(rt, again, Some(Refused::OutOfMemory));
     }
-    Ok(again.is_none())
+    again.is_none()
 }
 
 #[test]
-fn each_allocation_is_refused(rt: HostRuntime) -> Result<(), Fail> {
+fn each_allocation_is_refused(rt: HostRuntime) {
     let mut refused = 0u32;
     for left in 0..512usize {
-        let arena = Bump::try_with_capacity(rt.alloc(), 1024)?;
-        let balances = Vec::from_slice(&arena, &[100u64, 20, 0])?;
-        if !is_refused_whole::<Brand, _>(&rt, &arena, left, balances)? {
+        let arena = Bump::try_with_capacity(rt.alloc(), 1024).expect(&rt, "memory");
+        let balances = Vec::from_slice(&arena, &[100u64, 20, 0]).expect(&rt, "memory");
+        if !is_refused_whole::<Brand, _>(&rt, &arena, left, balances) {
             refused = refused.saturating_add(1);
         }
     }
     equal(&rt, 24 <= refused && refused < 512, true);
-    Ok(())
 }

@@ -13,30 +13,17 @@ fn each_round_is_folded_whole(rt: HostRuntime) {
         rounds: 100,
         smallest: 24,
     };
-    equal(
-        &rt,
-        run_phases(&rt, rt.alloc(), &Open, 8, 100, 3),
-        Ok(folded),
-    );
-}
-
-#[test]
-fn a_run_may_be_empty(rt: HostRuntime) {
     let nothing = Folded {
         total: 0,
         rounds: 0,
         smallest: u64::MAX,
     };
-    equal(
-        &rt,
-        run_phases(&rt, rt.alloc(), &Open, 0, 7, 3),
-        Ok(nothing),
-    );
-    equal(
-        &rt,
-        run_phases(&rt, rt.alloc(), &Open, 2, 0, 3),
-        Ok(nothing),
-    );
+    let run = run_phases(&rt, rt.alloc(), &Open, 8, 100, 3);
+    equal(&rt, run, Ok(folded));
+    let without_workers = run_phases(&rt, rt.alloc(), &Open, 0, 7, 3);
+    equal(&rt, without_workers, Ok(nothing));
+    let without_rounds = run_phases(&rt, rt.alloc(), &Open, 2, 0, 3);
+    equal(&rt, without_rounds, Ok(nothing));
 }
 
 const MAX_LOOKS: u32 = 10_000_000;
@@ -72,10 +59,7 @@ fn workers_are_there_at_once(rt: HostRuntime) {
         rounds: 10,
         smallest: 6,
     };
-    equal(
-        &rt,
-        run_phases(&rt, rt.alloc(), &gate, 2, 10, 3),
-        Ok(folded),
-    );
+    let run = run_phases(&rt, rt.alloc(), &gate, 2, 10, 3);
+    equal(&rt, run, Ok(folded));
     equal(&rt, gate.met.load(SeqCst), 2);
 }

@@ -1,12 +1,8 @@
 //! What no contract says: which call is granted, what the count tells, and that threads get on.
 use super::equal::equal;
 use spin_seats::seats::Seats;
-use std::alloc::{AllocError, Global};
-use std::process::Abort;
-use std::sync::Wait;
 use std::sync::atomic::{AtomicU64, Ordering};
-use std::test::Fail;
-use std::thread::{Threads, map_indices};
+use std::thread::map_indices;
 
 #[test]
 fn as_many_sit_as_there_are_seats(rt: HostRuntime) {
@@ -23,38 +19,23 @@ fn as_many_sit_as_there_are_seats(rt: HostRuntime) {
     drop(second);
     drop(third);
     equal(&rt, seats.count(), 0);
+    let none: Seats<0> = Seats::default();
+    equal(&rt, none.try_enter(&rt).is_none(), true);
 }
 
 #[test]
-fn without_seats_nobody_sits(rt: HostRuntime) {
-    let seats: Seats<0> = Seats::default();
-    equal(&rt, seats.try_enter(&rt).is_none(), true);
-}
-
-/// Sits down again and again, and looks how many sit.
-fn visits<R: Abort + Wait>(rt: &R, seats: &Seats<2>, inside: &AtomicU64) {
-    for _turn in 0..2000 {
-        let guard = seats.enter(rt);
-        equal(rt, inside.fetch_add(1, Ordering::SeqCst) < 2, true);
-        inside.fetch_sub(1, Ordering::SeqCst);
-        drop(guard);
-    }
-}
-
-fn visit_in_three<R: Abort + Threads + Wait + Sync>(
-    rt: &R,
-    alloc: Global,
-) -> Result<(), AllocError> {
+fn three_visit_two_seats(rt: HostRuntime) {
     let seats: Seats<2> = Seats::new();
     let inside = AtomicU64::new(0);
-    let visit = |_index: usize| visits(rt, &seats, &inside);
-    map_indices(rt, alloc, 3, &visit)?;
-    equal(rt, seats.count(), 0);
-    Ok(())
-}
-
-#[test]
-fn three_visit_two_seats(rt: HostRuntime) -> Result<(), Fail> {
-    visit_in_three(&rt, rt.alloc())?;
-    Ok(())
+    // sits down again and again, and looks how many sit
+    let visit = |_index: usize| {
+        for _turn in 0..2000 {
+            let guard = seats.enter(&rt);
+            equal(&rt, inside.fetch_add(1, Ordering::SeqCst) < 2, true);
+            inside.fetch_sub(1, Ordering::SeqCst);
+            drop(guard);
+        }
+    };
+    map_indices(&rt, rt.alloc(), 3, &visit).expect(&rt, "memory");
+    equal(&rt, seats.count(), 0);
 }

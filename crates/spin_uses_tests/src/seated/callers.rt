@@ -13,6 +13,5 @@ fn what_two_threads_add_is_read(rt: HostRuntime) {
 fn two_threads_read_what_a_third_publishes(rt: HostRuntime) {
     let (first, second) = publish_to_two(&rt, rt.alloc(), 5, &[6, 7, 8], 200).expect(&rt, "memory");
     assert!(rt; first.len() == 200 && second.len() == 200);
-    assert!(rt; first.windows(2).all(|two| two[0] <= two[1]));
-    assert!(rt; second.windows(2).all(|two| two[0] <= two[1]));
+    assert!(rt; first.is_sorted() && second.is_sorted());
 }

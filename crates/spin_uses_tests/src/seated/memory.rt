@@ -44,11 +44,7 @@ fn gives_all_back<C: Calls>(rt: &impl Abort, alloc: Global) -> bool {
 }
 
 #[test]
-fn a_refused_mutex_gives_all_back(rt: HostRuntime) {
+fn a_refused_lock_gives_all_back(rt: HostRuntime) {
     assert!(rt; gives_all_back::<mutex::Call>(&rt, rt.alloc()));
-}
-
-#[test]
-fn a_refused_rwlock_gives_all_back(rt: HostRuntime) {
     assert!(rt; gives_all_back::<rwlock::Call>(&rt, rt.alloc()));
 }
