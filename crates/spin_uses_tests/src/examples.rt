@@ -1,5 +1,6 @@
 //! Tests of what the pages print.
 use super::account::{count, count_up_to};
+use super::equal::equal;
 use spin::mutex::{FairMutex, Mutex, SpinMutex, TicketMutex};
 use spin::{LazyLock, Once, RwLock, Yield};
 use spin_examples::from_rust::{
@@ -18,52 +19,54 @@ fn two_threads_count(rt: HostRuntime) {
     let mut guard = counter.lock(&rt);
     count_up_to(&mut guard, 2);
     count_up_to(&mut guard, 2);
-    assert_eq!(rt; *guard, 2);
+    equal(&rt, *guard, 2);
 }
 
 #[test]
 fn mutexes_as_in_rust(rt: HostRuntime) {
-    assert_eq!(rt; add_from_two(&rt), 2);
+    equal(&rt, add_from_two(&rt), 2);
     let lock = SpinMutex::new(7);
     let held = take(&rt, &lock);
-    assert!(rt; lock.is_locked());
+    equal(&rt, lock.is_locked(), true);
     give_back(held);
-    assert!(rt; !lock.is_locked());
+    equal(&rt, lock.is_locked(), false);
     let fair = FairMutex::new(7);
     add_starving(&rt, &fair);
-    assert_eq!(rt; fair.into_inner(), 8);
+    equal(&rt, fair.into_inner(), 8);
     let total = spin::Mutex::new(7);
     set_elsewhere(&rt, &total, 1);
     add_one(&rt, &total);
-    assert_eq!(rt; total.into_inner(), 2);
+    equal(&rt, total.into_inner(), 2);
 }
 
 #[test]
 fn shared_values_as_in_rust(rt: HostRuntime) {
     let limit = RwLock::new(3);
-    assert_eq!(rt; (raise(&rt, &limit, 2), raise(&rt, &limit, 4)), (3, 4));
-    assert_eq!(rt; limit.into_inner(), 4);
+    equal(&rt, (raise(&rt, &limit, 2), raise(&rt, &limit, 4)), (3, 4));
+    equal(&rt, limit.into_inner(), 4);
     let lazy: LazyLock<u64, _> = LazyLock::new(|| 4);
-    assert_eq!(rt; (doubled(&rt, &lazy), doubled(&rt, &lazy)), (8, 8));
+    equal(&rt, (doubled(&rt, &lazy), doubled(&rt, &lazy)), (8, 8));
     let port: Once<u16> = Once::new();
-    assert!(rt; port_of(&rt, &port, "no port").is_err());
-    assert_eq!(rt; port_of(&rt, &port, "80").ok().copied(), Some(80));
-    assert_eq!(rt; port_of(&rt, &port, "none").ok().copied(), Some(80));
+    equal(&rt, port_of(&rt, &port, "no port").is_err(), true);
+    equal(&rt, port_of(&rt, &port, "80").ok().copied(), Some(80));
+    equal(&rt, port_of(&rt, &port, "none").ok().copied(), Some(80));
 }
 
 #[test]
 fn threads_know_the_history(rt: HostRuntime) {
     let ((first, second), last) = four_threads(&rt, (3, 5));
-    assert!(rt; first == 0 || first == 3 || first == 5);
-    assert!(rt; second == 0 || second == 3 || second == 5);
-    assert!(rt; last == 3 || last == 5);
+    equal(&rt, [0, 3, 5].contains(&first), true);
+    equal(&rt, [0, 3, 5].contains(&second), true);
+    equal(&rt, [3, 5].contains(&last), true);
     let ((first, second), (third, fourth), last) = race(&rt, 1000);
-    assert!(rt; first <= second && second <= last && third <= fourth && fourth <= last);
-    assert_eq!(rt; last, 2000);
-    assert_eq!(rt; totals::add_from_two(&rt, (3, 5)), (3, 5, 8));
-    assert_eq!(rt;
+    equal(&rt, [first, second, last].is_sorted(), true);
+    equal(&rt, [third, fourth, last].is_sorted(), true);
+    equal(&rt, last, 2000);
+    equal(&rt, totals::add_from_two(&rt, (3, 5)), (3, 5, 8));
+    equal(
+        &rt,
         totals::add_from_two(&rt, (0, u64::MAX)),
-        (0, u64::MAX, u64::MAX)
+        (0, u64::MAX, u64::MAX),
     );
 }
 
@@ -75,14 +78,14 @@ fn one_code_for_every_lock(rt: HostRuntime) {
         FairMutex::new(3),
     );
     let (mutex, shared): (spin::Mutex<u64>, RwLock<u64>) = (spin::Mutex::new(4), RwLock::new(5));
-    assert_eq!(rt; any_lock::count(&rt, &spin), 2);
-    assert_eq!(rt; any_lock::count(&rt, &ticket), 3);
-    assert_eq!(rt; any_lock::count(&rt, &fair), 4);
-    assert_eq!(rt; any_lock::count(&rt, &mutex), 5);
-    assert_eq!(rt; any_lock::count(&rt, &shared), 6);
-    assert_eq!(rt; any_lock::read_up_to(&rt, &shared, 9), 6);
-    assert_eq!(rt; any_lock::try_count(&spin), Some(3));
+    equal(&rt, any_lock::count(&rt, &spin), 2);
+    equal(&rt, any_lock::count(&rt, &ticket), 3);
+    equal(&rt, any_lock::count(&rt, &fair), 4);
+    equal(&rt, any_lock::count(&rt, &mutex), 5);
+    equal(&rt, any_lock::count(&rt, &shared), 6);
+    equal(&rt, any_lock::read_up_to(&rt, &shared, 9), 6);
+    equal(&rt, any_lock::try_count(&spin), Some(3));
     let guard = spin.lock(&rt);
-    assert_eq!(rt; any_lock::try_count(&spin), None);
+    equal(&rt, any_lock::try_count(&spin), None);
     drop(guard);
 }

@@ -39,7 +39,7 @@ fn makes_and_refuses<O: Opening, R: Abort>(rt: &R, alloc: Global, balances: Vec<
         (transfer(1, 1, 50), Ok(()), [70, 50, 0]),
         (transfer(1, 1, 51), Err(Refused::TooLittle), [70, 50, 0]),
     ] {
-        assert_eq!(rt; accounts.transfer(asked), answer, "{asked:?}");
+        equal(rt, (asked, accounts.transfer(asked)), (asked, answer));
         holds(rt, &accounts, told);
     }
     let made = [

@@ -26,7 +26,7 @@ fn a_line_sets_one_thing_or_nothing(rt: HostRuntime) {
         ("colour = 7", None),
         ("", None),
     ] {
-        assert_eq!(rt; Setting::of_line(line), setting, "{line}");
+        equal(&rt, (line, Setting::of_line(line)), (line, setting));
     }
 }
 
@@ -49,7 +49,7 @@ fn a_text_has_settings_or_a_first_bad_line(rt: HostRuntime) {
             Err(BadLine { number: 3 }),
         ),
     ] {
-        assert_eq!(rt; text.parse::<Settings>(), answer, "{text}");
+        equal(&rt, (text, text.parse::<Settings>()), (text, answer));
     }
 }
 

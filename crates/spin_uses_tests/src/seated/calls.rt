@@ -1,6 +1,7 @@
 //! What no contract says of a `SeatedMutex`: that a try is granted at all, and two threads that repeat a try until it is granted.
 ghost use Rattle.spin_seated.specs.Passes.{IsPassOf};
 
+use crate::equal::equal;
 use spin_core::relax::{RelaxStrategy, Yield};
 use spin_seated::mutex::{Pass, SeatedMutex};
 use spin_seated_uses::adding::open_for_two;
@@ -26,14 +27,14 @@ fn a_hold_lets_nobody_in(rt: HostRuntime) {
     let (lock, mut first, mut second) = open_for_two(rt.alloc(), 5).expect(&rt, "memory");
     assert!(rt; lock.try_lock(&mut first));
     assert!(rt; !lock.try_lock(&mut second));
-    assert!(rt; lock.is_locked(&mut second));
-    assert!(rt; first.holds() && !second.holds());
+    equal(&rt, lock.is_locked(&mut second), true);
+    equal(&rt, (first.holds(), second.holds()), (true, false));
     lock.write(&mut first, 9);
-    assert_eq!(rt; lock.read(&mut first), 9);
+    equal(&rt, lock.read(&mut first), 9);
     lock.unlock(&mut first);
-    assert!(rt; !first.holds());
+    equal(&rt, first.holds(), false);
     assert!(rt; lock.try_lock(&mut second));
-    assert_eq!(rt; lock.read(&mut second), 9);
+    equal(&rt, lock.read(&mut second), 9);
 }
 
 // Adds 1 a hundred times, and each time tries until the lock is granted.
@@ -75,5 +76,5 @@ fn two_threads_lose_no_addition(rt: HostRuntime) {
     );
     lock.meet(&mut a, &mut b);
     assert!(rt; lock.try_lock(&mut a));
-    assert_eq!(rt; lock.read(&mut a), 200);
+    equal(&rt, lock.read(&mut a), 200);
 }

@@ -1,4 +1,5 @@
 //! What no contract says of `new`: that memory suffices, and that where it is refused nothing stays allocated.
+use crate::equal::equal;
 use bumpalo::Bump;
 use spin_seated::lock::{Calls, SeatedLock};
 use spin_seated::{mutex, rwlock};
@@ -45,6 +46,6 @@ fn gives_all_back<C: Calls>(rt: &impl Abort, alloc: Global) -> bool {
 
 #[test]
 fn a_refused_lock_gives_all_back(rt: HostRuntime) {
-    assert!(rt; gives_all_back::<mutex::Call>(&rt, rt.alloc()));
-    assert!(rt; gives_all_back::<rwlock::Call>(&rt, rt.alloc()));
+    equal(&rt, gives_all_back::<mutex::Call>(&rt, rt.alloc()), true);
+    equal(&rt, gives_all_back::<rwlock::Call>(&rt, rt.alloc()), true);
 }

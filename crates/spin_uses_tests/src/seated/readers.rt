@@ -3,6 +3,7 @@ ghost use Rattle.std.specs.Prelude.{◌≡◌, None};
 ghost use Rattle.spin_seated.specs.Passes.{IsPassOf};
 ghost use Rattle.spin_seated.specs.Rw.{holds};
 
+use crate::equal::equal;
 use spin_core::relax::{RelaxStrategy, Yield};
 use spin_seated::rwlock::{RwPass, SeatedHold, SeatedRwLock};
 use spin_seated_uses::publishing::open_for_three;
@@ -13,42 +14,39 @@ const TURNS: u32 = 10_000_000;
 
 const TIMES: u32 = 300;
 
-fn reads(pass: &RwPass) -> bool {
-    matches!(pass.holds(), Some(SeatedHold::Read))
-}
-
 #[test]
 fn readers_stand_beside_one_another(rt: HostRuntime) {
     let (lock, mut a, mut b, mut c) = open_for_three(rt.alloc(), 5).expect(&rt, "memory");
     assert!(rt; lock.try_read(&rt, &mut a));
     assert!(rt; lock.try_read(&rt, &mut b));
     assert!(rt; !lock.try_write(&mut c));
-    assert_eq!(rt; lock.reader_count(&mut c), 2);
-    assert_eq!(rt; lock.writer_count(&mut c), 0);
-    assert_eq!(rt; lock.read(&mut b), 5);
+    equal(&rt, lock.reader_count(&mut c), 2);
+    equal(&rt, lock.writer_count(&mut c), 0);
+    equal(&rt, lock.read(&mut b), 5);
     lock.unlock_read(&mut a);
     lock.unlock_read(&mut b);
-    assert!(rt; a.holds().is_none() && b.holds().is_none());
+    equal(&rt, a.holds().is_none() && b.holds().is_none(), true);
 }
 
 #[test]
 fn a_writer_goes_on_as_a_reader(rt: HostRuntime) {
     let (lock, mut a, mut b, mut c) = open_for_three(rt.alloc(), 5).expect(&rt, "memory");
     assert!(rt; lock.try_write(&mut c));
-    assert_eq!(rt; lock.writer_count(&mut a), 1);
+    equal(&rt, lock.writer_count(&mut a), 1);
     assert!(rt; !lock.try_read(&rt, &mut a));
     lock.write(&mut c, 9);
     lock.downgrade(&mut c);
-    assert!(rt; reads(&c));
+    let is_reader = matches!(c.holds(), Some(SeatedHold::Read));
+    equal(&rt, is_reader, true);
     assert!(rt; lock.try_read(&rt, &mut a));
-    assert_eq!(rt; lock.read(&mut a), 9);
+    equal(&rt, lock.read(&mut a), 9);
     assert!(rt; !lock.try_write(&mut b));
-    assert_eq!(rt; lock.reader_count(&mut b), 2);
+    equal(&rt, lock.reader_count(&mut b), 2);
     lock.unlock_read(&mut a);
     lock.unlock_read(&mut c);
     assert!(rt; lock.try_write(&mut b));
     lock.unlock_write(&mut b);
-    assert!(rt; b.holds().is_none());
+    equal(&rt, b.holds().is_none(), true);
 }
 
 // Adds 1 so many times, each time that it is let in, and looks at its own number again as a reader.
@@ -128,9 +126,9 @@ fn two_threads_read_what_a_third_writes(rt: HostRuntime) {
             )
         },
     );
-    assert!(rt; added && first && second);
+    equal(rt, (added, first, second), (true, true, true));
     lock.meet(&mut a, &mut b);
     lock.meet(&mut a, &mut c);
-    assert_eq!(rt; lock.reader_count(&mut a), 0);
-    assert_eq!(rt; lock.writer_count(&mut a), 0);
+    equal(rt, lock.reader_count(&mut a), 0);
+    equal(rt, lock.writer_count(&mut a), 0);
 }
