@@ -68,7 +68,8 @@ fn a_journal_is_replayed(rt: HostRuntime) {
     equal(&rt, refused.err(), Some(Refused::NoSuchAccount));
 }
 
-/// Transfers of random amounts between random accounts, as many as the ledger is asked for. It answers how many were made.
+/// Transfers of random amounts between random accounts, as many as the ledger is asked for. It answers how many were
+/// made.
 fn trades<O: Opening, W: Wait>(rt: &W, ledger: &Ledger<O>, seed: u64, turns: u64) -> u64 {
     let mut random = seed;
     let mut made = 0u64;

@@ -1,4 +1,5 @@
-//! What no clause says: that workers are threads, and that each round is folded once, by its leader, when all of it is in.
+//! What no clause says: that workers are threads, and that each round is folded once, by its leader, when all of it is
+//! in.
 use super::equal::equal;
 use spin_core::relax::{RelaxStrategy, Yield};
 use spin_uses::phases::{Folded, Gate, Open, run_phases};

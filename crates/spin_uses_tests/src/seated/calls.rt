@@ -1,4 +1,5 @@
-//! What no contract says of a `SeatedMutex`: that a try is granted at all, and two threads that repeat a try until it is granted.
+//! What no contract says of a `SeatedMutex`: that a try is granted at all, and two threads that repeat a try until it is
+//! granted.
 ghost use Rattle.spin_seated.specs.Passes.{IsPassOf};
 
 use crate::equal::equal;
