@@ -11,7 +11,7 @@ use std::alloc::{AllocError, Global};
 use std::cell::Cell;
 use std::process::Abort;
 use std::sync::Wait;
-use std::thread::join;
+use std::thread::{Threads, join};
 
 const KEYS: u64 = 100;
 
@@ -78,15 +78,25 @@ fn an_answer_that_is_there_takes_no_write(rt: HostRuntime) {
     equal(&rt, made.get(), 1);
 }
 
+// Two threads, each of which looks for a square that is there.
+fn read_in_two<R: Abort + Threads + Wait + Sync>(rt: &R, cache: &SquareCache) {
+    let (first, second) = join(
+        rt,
+        || cache.read(rt).answer(&3).copied(),
+        || cache.read(rt).answer(&3).copied(),
+    );
+    equal(rt, first, Some(9));
+    equal(rt, second, Some(9));
+}
+
 // Readers that waited for who makes an answer would wait for ever, as it waits for them.
 #[test]
 fn readers_come_while_an_answer_is_made(rt: HostRuntime) {
     let cache: SquareCache = Cache::new(rt.alloc());
     equal(&rt, square(&rt, &cache, 3, &Cell::new(0)), Ok(9));
-    let look = || cache.read(&rt).answer(&3).copied();
-    let answer = cache.answer(&rt, 4, |key| {
-        equal(&rt, join(&rt, &look, &look), (Some(9), Some(9)));
-        Ok::<_, AllocError>(key.wrapping_mul(*key))
+    let answer: Result<u64, AllocError> = cache.answer(&rt, 4, |key| {
+        read_in_two(&rt, &cache);
+        Ok(key.wrapping_mul(*key))
     });
     equal(&rt, answer, Ok(16));
     equal(&rt, cache.read(&rt).answer(&4).copied(), Some(16));
