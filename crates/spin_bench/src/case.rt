@@ -9,8 +9,8 @@ mod rounds;
 mod seated;
 mod world;
 
-pub use locks::{OneWriter, Readers, Starvers, Upgrades};
-pub use onces::{Alone, FirstCalls, Forces, Gets, LateCalls};
+pub use locks::{Adds, OneWriter, Reads, Starvers, Upgrades};
+pub use onces::{Alone, FirstCalls, Forces, Gets, LateCalls, complete};
 pub use rounds::Rounds;
 pub use seated::Seated;
 pub use world::Plays;
@@ -22,12 +22,9 @@ pub trait Case: Drop {
     /// a loop that stands alone, with nothing in it but the calls and their sum.
     fn repeat<W: Wait>(&self, rt: &W, worker: usize, calls: u64) -> u64;
 
-    /// How many calls a thread makes between two looks whether it is to stop, where so many do the case. A thread that is
-    /// alone makes so many that the looks cost nothing. Among others each call is slow enough, and where one that the
-    /// others wait for does not run, the round still ends soon after its time.
-    fn chunk(&self, threads: usize) -> u64 {
-        if threads == 1 { 1000 } else { 25 }
-    }
+    /// How many calls a thread that is alone makes between two looks whether it is to stop: so many that the looks cost
+    /// nothing.
+    const CHUNK: u64 = 1000;
 
     /// Whether the worker is to end, now that somebody may have told it to.
     fn is_to_stop<W: Wait>(&self, _rt: &W, told: &AtomicBool) -> bool {
@@ -50,29 +47,20 @@ pub trait Call: Drop {
 
 /// A call, over and over.
 #[derive(Drop)]
-pub struct Calls<C> {
-    of: C,
-}
-
-impl<C: Call> Calls<C> {
-    pub fn new(of: C) -> Calls<C> {
-        Calls { of }
-    }
-}
+pub struct Calls<C>(pub C);
 
 impl<C: Call> Case for Calls<C> {
     #[inline(never)]
     fn repeat<W: Wait>(&self, rt: &W, worker: usize, calls: u64) -> u64 {
         let mut seen = 0u64;
         for _ in 0..calls {
-            seen = seen.wrapping_add(self.of.call(rt, worker));
+            seen = seen.wrapping_add(self.0.call(rt, worker));
         }
         seen
     }
 
     fn added(self) -> u64 {
-        let Calls { of } = self;
-        of.added()
+        self.0.added()
     }
 }
 
@@ -118,7 +106,6 @@ impl Call for Floor {
     }
 
     fn added(self) -> u64 {
-        let Floor { word } = self;
-        word.into_inner()
+        self.word.into_inner()
     }
 }

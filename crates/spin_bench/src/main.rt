@@ -6,16 +6,29 @@ mod report;
 mod size;
 mod team;
 
+use std::sync::Wait;
+use std::thread::Threads;
+use std::time::Clock;
 use std::{env, io};
+
+/// Does what the words after the program's name ask.
+fn command<R: Threads + Wait + Clock + Print + AllocGlobal + Sync>(
+    rt: &R,
+    name: &str,
+    threads: Option<&str>,
+) -> io::Result<()> {
+    match threads {
+        Some(threads) => report::measure(rt, name, threads),
+        None if name == "sizes" => size::print(rt),
+        None if name == "smoke" => report::try_all(rt),
+        None => Err(report::usage()),
+    }
+}
 
 fn main(rt: HostRuntime) -> io::Result<()> {
     let mut words = env::args(&rt)?;
     let _program = words.next();
-    let (name, threads) = (words.next(), words.next());
-    match (name.as_deref(), threads.as_deref()) {
-        (Some("sizes"), None) => size::print(&rt),
-        (Some("smoke"), None) => report::try_all(&rt),
-        (Some(name), Some(threads)) => report::measure(&rt, name, threads),
-        _ => Err(report::usage()),
-    }
+    let name = words.next();
+    let threads = words.next();
+    command(&rt, name.as_deref().unwrap_or(""), threads.as_deref())
 }

@@ -1,14 +1,15 @@
 //! What the program does and writes.
 use crate::case::{
-    Alone, Call, Calls, Case, FirstCalls, Floor, Forces, Gets, LateCalls, OneWriter, Plays,
-    Readers, Rounds, Seated, Starvers, Upgrades,
+    Adds, Alone, Calls, Case, FirstCalls, Floor, Forces, Gets, LateCalls, OneWriter, Plays, Reads,
+    Rounds, Seated, Starvers, Upgrades, complete,
 };
 use crate::team::Team;
+use spin_barrier::barrier::Barrier;
 use spin_mutex::mutex::{FairMutex, Mutex, SpinMutex, TicketMutex};
 use spin_rwlock::rwlock::RwLock;
 use std::sync::Wait;
 use std::thread::Threads;
-use std::time::{Clock, Duration, Instant};
+use std::time::{Clock, Duration};
 use std::{io, sync};
 
 /// How many rounds a measure has.
@@ -16,6 +17,10 @@ const ROUNDS: usize = 7;
 
 /// How long one round is, in milliseconds.
 const ROUND_MILLIS: u64 = 100;
+
+/// How many calls a thread among others makes between two looks whether it is to stop. Each call is slow enough, and where
+/// a thread that the others wait for does not run, the round still ends soon after its time.
+const CHUNK_AMONG_OTHERS: u64 = 25;
 
 /// How many cases the block has room for in which a case lies. So large a block begins a page but for the 16 bytes that
 /// the allocator keeps there. So no lock lies across two cache lines, as none does in the Rust driver.
@@ -62,6 +67,23 @@ pub fn usage() -> io::Error {
     io::Error::other("usage: spin_bench CASE THREADS | spin_bench sizes | spin_bench smoke")
 }
 
+/// Measures one round of a case, and answers what its calls saw.
+fn round<C: Case + Sync, R: Threads + Wait + Clock + Print + Sync>(
+    rt: &R,
+    case: &C,
+    threads: usize,
+) -> io::Result<u64> {
+    let chunk = if threads == 1 {
+        C::CHUNK
+    } else {
+        CHUNK_AMONG_OTHERS
+    };
+    let team = Team::new(rt, case, chunk, u64::MAX);
+    let nanos = team.time(threads, Duration::from_millis(ROUND_MILLIS))?;
+    println!(rt; "{} {nanos} {}", team.calls(), team.fewest())?;
+    Ok(team.seen())
+}
+
 /// Measures a case, and answers what its calls saw.
 fn rounds<C: Case + Sync, R: Threads + Wait + Clock + Print + Sync>(
     rt: &R,
@@ -70,12 +92,7 @@ fn rounds<C: Case + Sync, R: Threads + Wait + Clock + Print + Sync>(
 ) -> io::Result<u64> {
     let mut seen = 0u64;
     for _ in 0..ROUNDS {
-        let team = Team::new(rt, case, case.chunk(threads), u64::MAX);
-        let start = Instant::now(rt)?;
-        team.run(threads, Duration::from_millis(ROUND_MILLIS))?;
-        let nanos = start.elapsed(rt)?.as_nanos();
-        println!(rt; "{} {nanos} {}", team.calls(), team.fewest())?;
-        seen = seen.wrapping_add(team.seen());
+        seen = seen.wrapping_add(round(rt, case, threads)?);
     }
     Ok(seen)
 }
@@ -111,14 +128,24 @@ fn on_case<C: Case + Sync, R: Threads + Wait + Clock + Print + AllocGlobal + Syn
     Ok(block.remove(0).added().wrapping_add(seen))
 }
 
-/// The same of a call.
-fn on_call<C: Call + Sync, R: Threads + Wait + Clock + Print + AllocGlobal + Sync>(
+/// The same of the case of that name, which one thread does alone.
+fn on_alone<R: Threads + Wait + Clock + Print + AllocGlobal + Sync>(
     rt: &R,
     task: Task,
     threads: usize,
-    call: C,
+    name: &str,
 ) -> io::Result<u64> {
-    on_case(rt, task, threads, Calls::new(call))
+    match name {
+        "fair_starve" => on_case(rt, task, threads, Calls(Starvers(FairMutex::new(0)))),
+        "rw_upgrade" => on_case(rt, task, threads, Calls(Upgrades(RwLock::new(1)))),
+        "once_call" => on_case(rt, task, threads, LateCalls(complete(rt))),
+        "once_first" => on_case(rt, task, threads, Calls(FirstCalls)),
+        "lazy_force" => on_case(rt, task, threads, Forces),
+        "barrier_alone" => on_case(rt, task, threads, Calls(Alone(Barrier::new(1)))),
+        "seated_mutex" => on_case(rt, task, threads, Seated::new(rt.alloc())?),
+        "world" => on_case(rt, task, threads, Plays::new(rt.alloc())?),
+        _ => Err(usage()),
+    }
 }
 
 /// The same of the case of that name.
@@ -129,26 +156,18 @@ fn on_name<R: Threads + Wait + Clock + Print + AllocGlobal + Sync>(
     name: &str,
 ) -> io::Result<u64> {
     match name {
-        "floor" => on_call(rt, task, threads, Floor::new()),
-        "spin_mutex" => on_call(rt, task, threads, SpinMutex::new(0u64)),
-        "mutex" => on_call(rt, task, threads, Mutex::new(0u64)),
-        "ticket_mutex" => on_call(rt, task, threads, TicketMutex::new(0u64)),
-        "fair_mutex" => on_call(rt, task, threads, FairMutex::new(0u64)),
-        "fair_starve" => on_call(rt, task, threads, Starvers::new()),
-        "rw_read" => on_call(rt, task, threads, Readers::new()),
-        "rw_write" => on_call(rt, task, threads, RwLock::new(0u64)),
-        "rw_upgrade" => on_call(rt, task, threads, Upgrades::new()),
-        "rw_one_writer" => on_call(rt, task, threads, OneWriter::new()),
-        "once_get" => on_call(rt, task, threads, Gets::new(rt)),
-        "once_call" => on_case(rt, task, threads, LateCalls::new(rt)),
-        "once_first" => on_call(rt, task, threads, FirstCalls),
-        "lazy_force" => on_case(rt, task, threads, Forces),
-        "barrier_alone" => on_call(rt, task, threads, Alone::new()),
+        "floor" => on_case(rt, task, threads, Calls(Floor::new())),
+        "spin_mutex" => on_case(rt, task, threads, Adds(<SpinMutex<u64>>::new(0))),
+        "mutex" => on_case(rt, task, threads, Adds(<Mutex<u64>>::new(0))),
+        "ticket_mutex" => on_case(rt, task, threads, Adds(<TicketMutex<u64>>::new(0))),
+        "fair_mutex" => on_case(rt, task, threads, Adds(<FairMutex<u64>>::new(0))),
+        "rw_read" => on_case(rt, task, threads, Reads(<RwLock<u64>>::new(1))),
+        "rw_write" => on_case(rt, task, threads, Adds(<RwLock<u64>>::new(0))),
+        "rw_one_writer" => on_case(rt, task, threads, OneWriter(<RwLock<u64>>::new(1))),
+        "once_get" => on_case(rt, task, threads, Calls(Gets(complete(rt)))),
+        "std_mutex" => on_case(rt, task, threads, Calls(sync::Mutex::new(0u64))),
         "barrier_rounds" => on_case(rt, task, threads, Rounds::new(threads)),
-        "std_mutex" => on_call(rt, task, threads, sync::Mutex::new(0u64)),
-        "seated_mutex" => on_case(rt, task, threads, Seated::new(rt.alloc())?),
-        "world" => on_case(rt, task, threads, Plays::new(rt.alloc())?),
-        _ => Err(usage()),
+        _ => on_alone(rt, task, threads, name),
     }
 }
 
@@ -175,17 +194,26 @@ pub fn measure<R: Threads + Wait + Clock + Print + AllocGlobal + Sync>(
     }
 }
 
+/// Does each of these cases for a try.
+fn try_each<R: Threads + Wait + Clock + Print + AllocGlobal + Sync>(
+    rt: &R,
+    calls: u64,
+    threads: usize,
+    names: &[&str],
+) -> io::Result<()> {
+    for name in names {
+        report(rt, Task::Try(calls), threads, name)?;
+    }
+    Ok(())
+}
+
 /// Does each case for a try. Rounds at a barrier are few: on a busy machine each waits until all its threads have had a
 /// processor.
 pub fn try_all<R: Threads + Wait + Clock + Print + AllocGlobal + Sync>(rt: &R) -> io::Result<()> {
-    for name in ALONE {
-        report(rt, Task::Try(1000), 1, name)?;
-    }
+    try_each(rt, 1000, 1, &ALONE)?;
     for threads in [1, 2, 4] {
-        for name in BESIDE {
-            report(rt, Task::Try(1000), threads, name)?;
-        }
-        report(rt, Task::Try(20), threads, "barrier_rounds")?;
+        try_each(rt, 1000, threads, &BESIDE)?;
+        try_each(rt, 20, threads, &["barrier_rounds"])?;
     }
     Ok(())
 }

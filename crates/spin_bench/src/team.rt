@@ -3,7 +3,7 @@ use crate::case::Case;
 use std::sync::Wait;
 use std::sync::atomic::{AtomicBool, AtomicU64, Ordering};
 use std::thread::{Scope, Threads};
-use std::time::{Clock, Duration};
+use std::time::{Clock, Duration, Instant};
 use std::{io, sync, thread};
 
 /// What threads do a case with, and what they did.
@@ -89,5 +89,12 @@ impl<'a, C: Case + Sync, R: Threads + Wait + Clock + Sync> Team<'a, C, R> {
             self.stop.store(true, Ordering::SeqCst);
             Ok(())
         })
+    }
+
+    /// As `run`, and answers how many nanoseconds it took.
+    pub fn time(&self, threads: usize, time: Duration) -> io::Result<u128> {
+        let start = Instant::now(self.rt)?;
+        self.run(threads, time)?;
+        Ok(start.elapsed(self.rt)?.as_nanos())
     }
 }

@@ -1,59 +1,110 @@
 //! The calls of the locks.
-use super::Call;
-use spin_mutex::mutex::{FairMutex, Mutex, SpinMutex, TicketMutex};
+use super::{Call, Case};
+use spin_lock::lock::{Lock, SharedLock};
+use spin_mutex::mutex::FairMutex;
 use spin_rwlock::rwlock::RwLock;
 use std::sync;
 use std::sync::Wait;
 
-impl Call for SpinMutex<u64> {
-    #[inline(always)]
-    fn call<W: Wait>(&self, rt: &W, _worker: usize) -> u64 {
-        let mut sum = self.lock(rt);
-        *sum = sum.wrapping_add(1);
+/// The number under a lock that is free.
+fn value<L: Lock<u64>>(lock: &L) -> u64 {
+    lock.try_with(|number| *number).unwrap_or(0)
+}
+
+/// A lock of a number, to which each call adds 1.
+#[derive(Drop)]
+pub struct Adds<L>(pub L);
+
+impl<L: Lock<u64> + Drop> Case for Adds<L> {
+    #[inline(never)]
+    fn repeat<W: Wait>(&self, rt: &W, _worker: usize, calls: u64) -> u64 {
+        for _ in 0..calls {
+            self.0.with(rt, |sum| *sum = sum.wrapping_add(1));
+        }
         0
     }
 
     fn added(self) -> u64 {
-        self.into_inner()
+        value(&self.0)
     }
 }
 
-impl Call for Mutex<u64> {
-    #[inline(always)]
-    fn call<W: Wait>(&self, rt: &W, _worker: usize) -> u64 {
-        let mut sum = self.lock(rt);
-        *sum = sum.wrapping_add(1);
-        0
+/// A lock of a 1 that each call only reads.
+#[derive(Drop)]
+pub struct Reads<L>(pub L);
+
+impl<L: SharedLock<u64> + Drop> Case for Reads<L> {
+    #[inline(never)]
+    fn repeat<W: Wait>(&self, rt: &W, _worker: usize, calls: u64) -> u64 {
+        let mut seen = 0u64;
+        for _ in 0..calls {
+            seen = seen.wrapping_add(self.0.with_shared(rt, |one| *one));
+        }
+        seen
     }
 
     fn added(self) -> u64 {
-        self.into_inner()
+        value(&self.0).wrapping_sub(1)
     }
 }
 
-impl Call for TicketMutex<u64> {
-    #[inline(always)]
-    fn call<W: Wait>(&self, rt: &W, _worker: usize) -> u64 {
-        let mut sum = self.lock(rt);
-        *sum = sum.wrapping_add(1);
-        0
+/// A lock that the first worker writes and the others read. Its number is odd: the writer adds 2, and who reads it sees
+/// its lowest bit.
+#[derive(Drop)]
+pub struct OneWriter<L>(pub L);
+
+impl<L: SharedLock<u64> + Drop> Case for OneWriter<L> {
+    #[inline(never)]
+    fn repeat<W: Wait>(&self, rt: &W, worker: usize, calls: u64) -> u64 {
+        let mut seen = 0u64;
+        for _ in 0..calls {
+            if worker == 0 {
+                self.0.with(rt, |odd| *odd = odd.wrapping_add(2));
+            } else {
+                seen = seen.wrapping_add(self.0.with_shared(rt, |odd| *odd % 2));
+            }
+        }
+        seen
     }
 
     fn added(self) -> u64 {
-        self.into_inner()
+        value(&self.0) / 2
     }
 }
 
-impl Call for FairMutex<u64> {
+/// A lock that is taken by an upgradable reader, who then becomes a reader, and reads its 1.
+#[derive(Drop)]
+pub struct Upgrades(pub RwLock<u64>);
+
+impl Call for Upgrades {
     #[inline(always)]
     fn call<W: Wait>(&self, rt: &W, _worker: usize) -> u64 {
-        let mut sum = self.lock(rt);
-        *sum = sum.wrapping_add(1);
+        *self.0.upgradeable_read(rt).downgrade()
+    }
+
+    fn added(self) -> u64 {
+        self.0.into_inner().wrapping_sub(1)
+    }
+}
+
+/// A lock that is taken by starving, trying once, and letting go.
+#[derive(Drop)]
+pub struct Starvers(pub FairMutex<u64>);
+
+impl Call for Starvers {
+    #[inline(always)]
+    fn call<W: Wait>(&self, rt: &W, _worker: usize) -> u64 {
+        let Some(starver) = self.0.starve(rt) else {
+            return 0;
+        };
+        if let Ok(mut sum) = starver.try_lock() {
+            *sum = sum.wrapping_add(1);
+        }
         0
     }
 
     fn added(self) -> u64 {
-        self.into_inner()
+        self.0.into_inner()
     }
 }
 
@@ -67,135 +118,5 @@ impl Call for sync::Mutex<u64> {
 
     fn added(self) -> u64 {
         self.into_inner()
-    }
-}
-
-impl Call for RwLock<u64> {
-    #[inline(always)]
-    fn call<W: Wait>(&self, rt: &W, _worker: usize) -> u64 {
-        let mut sum = self.write(rt);
-        *sum = sum.wrapping_add(1);
-        0
-    }
-
-    fn added(self) -> u64 {
-        self.into_inner()
-    }
-}
-
-/// A lock that is taken by starving, trying once, and letting go.
-#[derive(Drop)]
-pub struct Starvers {
-    lock: FairMutex<u64>,
-}
-
-impl Starvers {
-    pub fn new() -> Starvers {
-        Starvers {
-            lock: FairMutex::new(0),
-        }
-    }
-}
-
-impl Call for Starvers {
-    #[inline(always)]
-    fn call<W: Wait>(&self, rt: &W, _worker: usize) -> u64 {
-        let Some(starver) = self.lock.starve(rt) else {
-            return 0;
-        };
-        if let Ok(mut sum) = starver.try_lock() {
-            *sum = sum.wrapping_add(1);
-        }
-        0
-    }
-
-    fn added(self) -> u64 {
-        let Starvers { lock } = self;
-        lock.into_inner()
-    }
-}
-
-/// A lock of a 1 that everybody only reads.
-#[derive(Drop)]
-pub struct Readers {
-    lock: RwLock<u64>,
-}
-
-impl Readers {
-    pub fn new() -> Readers {
-        Readers {
-            lock: RwLock::new(1),
-        }
-    }
-}
-
-impl Call for Readers {
-    #[inline(always)]
-    fn call<W: Wait>(&self, rt: &W, _worker: usize) -> u64 {
-        *self.lock.read(rt)
-    }
-
-    fn added(self) -> u64 {
-        let Readers { lock } = self;
-        lock.into_inner().wrapping_sub(1)
-    }
-}
-
-/// A lock of a 1 that is taken by an upgradable reader, who then becomes a reader, and reads.
-#[derive(Drop)]
-pub struct Upgrades {
-    lock: RwLock<u64>,
-}
-
-impl Upgrades {
-    pub fn new() -> Upgrades {
-        Upgrades {
-            lock: RwLock::new(1),
-        }
-    }
-}
-
-impl Call for Upgrades {
-    #[inline(always)]
-    fn call<W: Wait>(&self, rt: &W, _worker: usize) -> u64 {
-        *self.lock.upgradeable_read(rt).downgrade()
-    }
-
-    fn added(self) -> u64 {
-        let Upgrades { lock } = self;
-        lock.into_inner().wrapping_sub(1)
-    }
-}
-
-/// A lock that the first worker writes and the others read. Its number is odd: the writer adds 2, and who reads it sees
-/// its lowest bit.
-#[derive(Drop)]
-pub struct OneWriter {
-    lock: RwLock<u64>,
-}
-
-impl OneWriter {
-    pub fn new() -> OneWriter {
-        OneWriter {
-            lock: RwLock::new(1),
-        }
-    }
-}
-
-impl Call for OneWriter {
-    #[inline(always)]
-    fn call<W: Wait>(&self, rt: &W, worker: usize) -> u64 {
-        if worker == 0 {
-            let mut odd = self.lock.write(rt);
-            *odd = odd.wrapping_add(2);
-            0
-        } else {
-            *self.lock.read(rt) % 2
-        }
-    }
-
-    fn added(self) -> u64 {
-        let OneWriter { lock } = self;
-        lock.into_inner() / 2
     }
 }

@@ -5,22 +5,21 @@ use spin_once::lazylock::LazyLock;
 use spin_once::once::Once;
 use std::sync::Wait;
 
-/// A `Once` that has its value, a 1, and is looked at.
-#[derive(Drop)]
-pub struct Gets {
-    once: Once<u64>,
+/// A `Once` that has its value, a 1.
+pub fn complete<W: Wait>(rt: &W) -> Once<u64> {
+    let once = Once::new();
+    let _seen = once.call_once(rt, || 1);
+    once
 }
 
-impl Gets {
-    pub fn new<W: Wait>(rt: &W) -> Gets {
-        Gets { once: complete(rt) }
-    }
-}
+/// A `Once` that has its value, a 1, and is looked at.
+#[derive(Drop)]
+pub struct Gets(pub Once<u64>);
 
 impl Call for Gets {
     #[inline(always)]
     fn call<W: Wait>(&self, _rt: &W, _worker: usize) -> u64 {
-        self.once.get().copied().unwrap_or(0)
+        self.0.get().copied().unwrap_or(0)
     }
 
     fn added(self) -> u64 {
@@ -31,22 +30,14 @@ impl Call for Gets {
 /// The same, asked with a closure, which does not run. The loop stands here, since the compiler tests a byte after each
 /// call that may wait, and the `call` of a [`Call`] would be one more.
 #[derive(Drop)]
-pub struct LateCalls {
-    once: Once<u64>,
-}
-
-impl LateCalls {
-    pub fn new<W: Wait>(rt: &W) -> LateCalls {
-        LateCalls { once: complete(rt) }
-    }
-}
+pub struct LateCalls(pub Once<u64>);
 
 impl Case for LateCalls {
     #[inline(never)]
     fn repeat<W: Wait>(&self, rt: &W, _worker: usize, calls: u64) -> u64 {
         let mut seen = 0u64;
         for _ in 0..calls {
-            seen = seen.wrapping_add(*self.once.call_once(rt, || 2));
+            seen = seen.wrapping_add(*self.0.call_once(rt, || 2));
         }
         seen
     }
@@ -54,13 +45,6 @@ impl Case for LateCalls {
     fn added(self) -> u64 {
         0
     }
-}
-
-// A `Once` whose value, 1, is there.
-fn complete<W: Wait>(rt: &W) -> Once<u64> {
-    let once = Once::new();
-    let _seen = once.call_once(rt, || 1);
-    once
 }
 
 /// A `Once` that is made, asked for its value for the first time, and dropped.
@@ -104,22 +88,12 @@ impl Case for Forces {
 
 /// A barrier whose groups are of one party, who leads each.
 #[derive(Drop)]
-pub struct Alone {
-    barrier: Barrier,
-}
-
-impl Alone {
-    pub fn new() -> Alone {
-        Alone {
-            barrier: Barrier::new(1),
-        }
-    }
-}
+pub struct Alone(pub Barrier);
 
 impl Call for Alone {
     #[inline(always)]
     fn call<W: Wait>(&self, rt: &W, _worker: usize) -> u64 {
-        self.barrier.wait(rt).is_leader() as u64
+        self.0.wait(rt).is_leader() as u64
     }
 
     fn added(self) -> u64 {

@@ -47,6 +47,9 @@ impl Plays {
 }
 
 impl Case for Plays {
+    /// Each play has the whole schedule.
+    const CHUNK: u64 = (TURNS * TURN.len()) as u64;
+
     /// Nothing was seen where memory was refused.
     #[inline(never)]
     fn repeat<W: Wait>(&self, _rt: &W, _worker: usize, calls: u64) -> u64 {
@@ -54,11 +57,6 @@ impl Case for Plays {
             Ok(transcript) => transcript.events.len() as u64,
             Err(AllocError) => 0,
         }
-    }
-
-    /// Each play has the whole schedule.
-    fn chunk(&self, _threads: usize) -> u64 {
-        self.schedule.len() as u64
     }
 
     /// None, less the moves that are passed over in one more play.
