@@ -9,11 +9,11 @@ mod rounds;
 mod seated;
 mod world;
 
-pub use locks::{Adds, OneWriter, Reads, Starvers, Upgrades};
+pub use locks::{Adds, OneWriter, Readers, Starvers, Upgrades};
 pub use onces::{Alone, FirstCalls, Forces, Gets, LateCalls, complete};
 pub use rounds::Rounds;
 pub use seated::Seated;
-pub use world::Plays;
+pub use world::{EVENTS, Plays};
 
 /// Calls that can be made over and over, also by threads beside one another. A call either adds 1 to what lies there, or
 /// sees a 1.
@@ -21,10 +21,6 @@ pub trait Case: Drop {
     /// Makes so many calls, in the worker of that number, and answers the sum of what they saw. This is what is measured:
     /// a loop that stands alone, with nothing in it but the calls and their sum.
     fn repeat<W: Wait>(&self, rt: &W, worker: usize, calls: u64) -> u64;
-
-    /// How many calls a thread that is alone makes between two looks whether it is to stop: so many that the looks cost
-    /// nothing.
-    const CHUNK: u64 = 1000;
 
     /// Whether the worker is to end, now that somebody may have told it to.
     fn is_to_stop<W: Wait>(&self, _rt: &W, told: &AtomicBool) -> bool {

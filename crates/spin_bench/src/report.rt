@@ -1,7 +1,7 @@
 //! What the program does and writes.
 use crate::case::{
-    Adds, Alone, Calls, Case, FirstCalls, Floor, Forces, Gets, LateCalls, OneWriter, Plays, Reads,
-    Rounds, Seated, Starvers, Upgrades, complete,
+    Adds, Alone, Calls, Case, EVENTS, FirstCalls, Floor, Forces, Gets, LateCalls, OneWriter, Plays,
+    Readers, Rounds, Seated, Starvers, Upgrades, complete,
 };
 use crate::team::Team;
 use spin_barrier::barrier::Barrier;
@@ -17,10 +17,6 @@ const ROUNDS: usize = 7;
 
 /// How long one round is, in milliseconds.
 const ROUND_MILLIS: u64 = 100;
-
-/// How many calls a thread among others makes between two looks whether it is to stop. Each call is slow enough, and where
-/// a thread that the others wait for does not run, the round still ends soon after its time.
-const CHUNK_AMONG_OTHERS: u64 = 25;
 
 /// How many cases the block has room for in which a case lies. So large a block begins a page but for the 16 bytes that
 /// the allocator keeps there. So no lock lies across two cache lines, as none does in the Rust driver.
@@ -56,8 +52,8 @@ const BESIDE: [&str; 10] = [
 #[derive(Clone, Copy)]
 enum Task {
     /// Rounds, of each of which a line tells how many calls there were, how many nanoseconds they took, and how many of them
-    /// the thread made that made the fewest.
-    Measure,
+    /// the thread made that made the fewest. A thread makes so many between two looks whether it is to stop.
+    Measure(u64),
     /// So many calls in each thread.
     Try(u64),
 }
@@ -72,12 +68,8 @@ fn round<C: Case + Sync, R: Threads + Wait + Clock + Print + Sync>(
     rt: &R,
     case: &C,
     threads: usize,
+    chunk: u64,
 ) -> io::Result<u64> {
-    let chunk = if threads == 1 {
-        C::CHUNK
-    } else {
-        CHUNK_AMONG_OTHERS
-    };
     let team = Team::new(rt, case, chunk, u64::MAX);
     let nanos = team.time(threads, Duration::from_millis(ROUND_MILLIS))?;
     println!(rt; "{} {nanos} {}", team.calls(), team.fewest())?;
@@ -89,10 +81,11 @@ fn rounds<C: Case + Sync, R: Threads + Wait + Clock + Print + Sync>(
     rt: &R,
     case: &C,
     threads: usize,
+    chunk: u64,
 ) -> io::Result<u64> {
     let mut seen = 0u64;
     for _ in 0..ROUNDS {
-        seen = seen.wrapping_add(round(rt, case, threads)?);
+        seen = seen.wrapping_add(round(rt, case, threads, chunk)?);
     }
     Ok(seen)
 }
@@ -105,7 +98,7 @@ fn on_shared<C: Case + Sync, R: Threads + Wait + Clock + Print + Sync>(
     case: &C,
 ) -> io::Result<u64> {
     match task {
-        Task::Measure => rounds(rt, case, threads),
+        Task::Measure(chunk) => rounds(rt, case, threads, chunk),
         Task::Try(calls) => {
             let team = Team::new(rt, case, calls, 1);
             team.run(threads, Duration::ZERO)?;
@@ -161,9 +154,9 @@ fn on_name<R: Threads + Wait + Clock + Print + AllocGlobal + Sync>(
         "mutex" => on_case(rt, task, threads, Adds(<Mutex<u64>>::new(0))),
         "ticket_mutex" => on_case(rt, task, threads, Adds(<TicketMutex<u64>>::new(0))),
         "fair_mutex" => on_case(rt, task, threads, Adds(<FairMutex<u64>>::new(0))),
-        "rw_read" => on_case(rt, task, threads, Reads(<RwLock<u64>>::new(1))),
+        "rw_read" => on_case(rt, task, threads, Calls(Readers(RwLock::new(1)))),
         "rw_write" => on_case(rt, task, threads, Adds(<RwLock<u64>>::new(0))),
-        "rw_one_writer" => on_case(rt, task, threads, OneWriter(<RwLock<u64>>::new(1))),
+        "rw_one_writer" => on_case(rt, task, threads, Calls(OneWriter(RwLock::new(1)))),
         "once_get" => on_case(rt, task, threads, Calls(Gets(complete(rt)))),
         "std_mutex" => on_case(rt, task, threads, Calls(sync::Mutex::new(0u64))),
         "barrier_rounds" => on_case(rt, task, threads, Rounds::new(threads)),
@@ -182,6 +175,19 @@ fn report<R: Threads + Wait + Clock + Print + AllocGlobal + Sync>(
     println!(rt; "{name}.{threads} {sum}")
 }
 
+/// How many calls a thread makes of that case between two looks whether it is to stop. A thread that is alone makes so
+/// many that the looks cost nothing; each play has the whole schedule. Among others each call is slow enough, and where one
+/// that the others wait for does not run, the round still ends soon after its time.
+fn chunk(name: &str, threads: u8) -> u64 {
+    if name == "world" {
+        EVENTS
+    } else if threads == 1 {
+        1000
+    } else {
+        25
+    }
+}
+
 /// Measures the case of that name in so many threads.
 pub fn measure<R: Threads + Wait + Clock + Print + AllocGlobal + Sync>(
     rt: &R,
@@ -189,7 +195,12 @@ pub fn measure<R: Threads + Wait + Clock + Print + AllocGlobal + Sync>(
     threads: &str,
 ) -> io::Result<()> {
     match threads.parse::<u8>() {
-        Ok(threads) => report(rt, Task::Measure, threads as usize, name),
+        Ok(threads) => report(
+            rt,
+            Task::Measure(chunk(name, threads)),
+            threads as usize,
+            name,
+        ),
         Err(_) => Err(usage()),
     }
 }

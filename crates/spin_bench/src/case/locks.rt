@@ -1,15 +1,10 @@
 //! The calls of the locks.
 use super::{Call, Case};
-use spin_lock::lock::{Lock, SharedLock};
+use spin_lock::lock::Lock;
 use spin_mutex::mutex::FairMutex;
 use spin_rwlock::rwlock::RwLock;
 use std::sync;
 use std::sync::Wait;
-
-/// The number under a lock that is free.
-fn value<L: Lock<u64>>(lock: &L) -> u64 {
-    lock.try_with(|number| *number).unwrap_or(0)
-}
 
 /// A lock of a number, to which each call adds 1.
 #[derive(Drop)]
@@ -24,51 +19,46 @@ impl<L: Lock<u64> + Drop> Case for Adds<L> {
         0
     }
 
+    /// The number, or 0 where a call has left the lock held.
     fn added(self) -> u64 {
-        value(&self.0)
+        self.0.try_with(|sum| *sum).unwrap_or(0)
     }
 }
 
-/// A lock of a 1 that each call only reads.
+/// A lock of a 1 that every worker only reads.
 #[derive(Drop)]
-pub struct Reads<L>(pub L);
+pub struct Readers(pub RwLock<u64>);
 
-impl<L: SharedLock<u64> + Drop> Case for Reads<L> {
-    #[inline(never)]
-    fn repeat<W: Wait>(&self, rt: &W, _worker: usize, calls: u64) -> u64 {
-        let mut seen = 0u64;
-        for _ in 0..calls {
-            seen = seen.wrapping_add(self.0.with_shared(rt, |one| *one));
-        }
-        seen
+impl Call for Readers {
+    #[inline(always)]
+    fn call<W: Wait>(&self, rt: &W, _worker: usize) -> u64 {
+        *self.0.read(rt)
     }
 
     fn added(self) -> u64 {
-        value(&self.0).wrapping_sub(1)
+        self.0.into_inner().wrapping_sub(1)
     }
 }
 
 /// A lock that the first worker writes and the others read. Its number is odd: the writer adds 2, and who reads it sees
 /// its lowest bit.
 #[derive(Drop)]
-pub struct OneWriter<L>(pub L);
+pub struct OneWriter(pub RwLock<u64>);
 
-impl<L: SharedLock<u64> + Drop> Case for OneWriter<L> {
-    #[inline(never)]
-    fn repeat<W: Wait>(&self, rt: &W, worker: usize, calls: u64) -> u64 {
-        let mut seen = 0u64;
-        for _ in 0..calls {
-            if worker == 0 {
-                self.0.with(rt, |odd| *odd = odd.wrapping_add(2));
-            } else {
-                seen = seen.wrapping_add(self.0.with_shared(rt, |odd| *odd % 2));
-            }
+impl Call for OneWriter {
+    #[inline(always)]
+    fn call<W: Wait>(&self, rt: &W, worker: usize) -> u64 {
+        if worker == 0 {
+            let mut odd = self.0.write(rt);
+            *odd = odd.wrapping_add(2);
+            0
+        } else {
+            *self.0.read(rt) % 2
         }
-        seen
     }
 
     fn added(self) -> u64 {
-        value(&self.0) / 2
+        self.0.into_inner() / 2
     }
 }
 

@@ -20,6 +20,9 @@ const TURN: [Move<FlagCall, u64>; 6] = [
 /// How many turns a schedule has.
 const TURNS: usize = 10_000;
 
+/// How many events the transcript of a schedule has.
+pub const EVENTS: u64 = (TURNS * TURN.len()) as u64;
+
 /// A schedule of turns at one flag. A call is an event of its transcript.
 #[derive(Drop)]
 pub struct Plays {
@@ -47,9 +50,6 @@ impl Plays {
 }
 
 impl Case for Plays {
-    /// Each play has the whole schedule.
-    const CHUNK: u64 = (TURNS * TURN.len()) as u64;
-
     /// Nothing was seen where memory was refused.
     #[inline(never)]
     fn repeat<W: Wait>(&self, _rt: &W, _worker: usize, calls: u64) -> u64 {
