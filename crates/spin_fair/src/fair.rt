@@ -14,8 +14,6 @@ use std::sync::Wait;
 
 mod rule;
 mod starvation;
-#[cfg(test)]
-mod tests;
 mod texts;
 
 pub use self::rule::{FairRule, View};
@@ -151,7 +149,7 @@ impl<T, R: RelaxStrategy> FairMutex<T, R> {
 
     // A load comes first, so that waiting threads share the cache line and do not write it. `spins` counts the looks
     // that found the lock held, until there are enough to starve. All pauses are equally long, so looks measure time.
-    fn look_and_try<'a, W: Wait>(
+    pub(crate) fn look_and_try<'a, W: Wait>(
         &'a self,
         rt: &W,
         spins: usize,

@@ -5,3 +5,4 @@
 
 pub mod fair;
 pub mod laws;
+pub mod testing;

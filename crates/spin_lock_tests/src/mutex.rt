@@ -2,6 +2,7 @@
 mod calls;
 mod fair;
 mod lock;
+mod patience;
 mod sends;
 mod texts;
 mod threads;

@@ -1,6 +1,6 @@
-//! What no contract says of starvers: which call is granted beside one, and that a plain `lock` comes to starve.
+//! What no contract says of starvers: which call is granted beside one.
 use crate::equal::equal;
-use spin_core::relax::{Loop, RelaxStrategy, Spin, Yield};
+use spin_core::relax::{Loop, RelaxStrategy};
 use spin_mutex::mutex::fair::LockRejectReason;
 use spin_mutex::mutex::{FairMutex, Starvation};
 use std::mem::forget;
@@ -8,32 +8,28 @@ use std::process::Abort;
 use std::sync::Wait;
 use std::thread;
 
-const MAX_LOOKS: u32 = 10_000_000;
-
-const STARVED_LOOKS: u32 = 1_000_000;
-
 // Whether somebody holds the lock, and why a newcomer who may starve is refused.
-type Seen = (bool, Option<LockRejectReason>);
+pub type Seen = (bool, Option<LockRejectReason>);
 
-const OPEN: Seen = (false, None);
+pub const OPEN: Seen = (false, None);
 
-const HELD: Seen = (true, Some(LockRejectReason::Locked));
+pub const HELD: Seen = (true, Some(LockRejectReason::Locked));
 
 const STARVED: Seen = (false, Some(LockRejectReason::Starved));
 
 const HELD_AND_STARVED: Seen = (true, Some(LockRejectReason::Starved));
 
 // Why a newcomer who may starve is refused.
-fn refusal<R>(lock: &FairMutex<u64, R>) -> Option<LockRejectReason> {
+pub fn refusal<R>(lock: &FairMutex<u64, R>) -> Option<LockRejectReason> {
     lock.try_lock_starver().err()
 }
 
-fn seen<R>(lock: &FairMutex<u64, R>) -> Seen {
+pub fn seen<R>(lock: &FairMutex<u64, R>) -> Seen {
     let refused = refusal(lock);
     (lock.is_locked(), refused)
 }
 
-fn shows<R>(rt: &impl Abort, lock: &FairMutex<u64, R>, wanted: Seen) {
+pub fn shows<R>(rt: &impl Abort, lock: &FairMutex<u64, R>, wanted: Seen) {
     equal(rt, seen(lock), wanted);
 }
 
@@ -117,79 +113,6 @@ fn a_forgotten_starver_keeps_newcomers_away(rt: HostRuntime) {
     equal(&rt, starve(&rt, &lock).try_lock().is_ok(), true);
     shows(&rt, &lock, STARVED);
     equal(&rt, lock.into_inner(), 42);
-}
-
-// Whether a newcomer came to be refused for a starver within the looks.
-fn comes_to_starve<R: Wait>(rt: &R, lock: &FairMutex<u64, Yield>) -> bool {
-    for _ in 0..MAX_LOOKS {
-        if refusal(lock) == Some(LockRejectReason::Starved) {
-            return true;
-        }
-        Yield::relax(rt);
-    }
-    false
-}
-
-// Whether newcomers are refused for a starver at each of many looks.
-fn stays_starved<R>(lock: &FairMutex<u64, R>) -> bool {
-    let mut starved = true;
-    for _ in 0..STARVED_LOOKS {
-        starved = starved && refusal(lock) == Some(LockRejectReason::Starved);
-    }
-    starved
-}
-
-#[test]
-fn a_waiting_lock_comes_to_starve(rt: HostRuntime) {
-    let lock: FairMutex<u64, Yield> = FairMutex::new(1);
-    let (shared, host) = (&lock, &rt);
-    let guard = shared.lock(host);
-    let waits = || {
-        let mut own = shared.lock(host);
-        *own = 2;
-    };
-    let release = move || {
-        let starved = comes_to_starve(host, shared) && stays_starved(shared);
-        drop(guard);
-        starved
-    };
-    let (_, starved) = thread::join(host, waits, release);
-    equal(&rt, starved, true);
-    shows(&rt, &lock, OPEN);
-    equal(&rt, lock.into_inner(), 2);
-}
-
-/// A strategy that takes its time.
-struct Slow;
-
-impl RelaxStrategy for Slow {
-    fn relax<W: Wait>(rt: &W) {
-        for _ in 0..400_000 {
-            Spin::relax(rt);
-        }
-    }
-}
-
-// How often the waiting lock may look, about, while the test looks for a starver. Its patience is 25 times that.
-const SLOW_LOOKS: u32 = 40;
-
-#[test]
-fn a_waiting_lock_is_patient(rt: HostRuntime) {
-    let lock: FairMutex<u64, Slow> = FairMutex::new(1);
-    let (shared, host) = (&lock, &rt);
-    let guard = shared.lock(host);
-    let waits = || drop(shared.lock(host));
-    let release = move || {
-        let mut patient = true;
-        for _ in 0..SLOW_LOOKS {
-            Slow::relax(host);
-            patient = patient && seen(shared) == HELD;
-        }
-        drop(guard);
-        patient
-    };
-    let ((), patient) = thread::join(host, waits, release);
-    equal(&rt, patient, true);
 }
 
 const STARVES: u32 = 100_000;
