@@ -1,6 +1,5 @@
-//! A value whose ends are counted, and what each test asks of them.
+//! A value whose ends are counted.
 use std::cell::Cell;
-use std::process::Abort;
 
 /// A value that counts its ends.
 pub struct Counted<'a> {
@@ -12,9 +11,4 @@ impl Drop for Counted<'_> {
         let Self { ends } = self;
         ends.set(ends.get().wrapping_add(1));
     }
-}
-
-/// That so many values have ended, now that `what` has.
-pub fn ended<R: Abort>(rt: &R, ends: &Cell<u32>, wanted: u32, of: &str, what: &str) {
-    assert_eq!(rt; ends.get(), wanted, "{of}, {what}");
 }

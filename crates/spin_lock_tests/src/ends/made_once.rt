@@ -1,5 +1,6 @@
 //! The ends of a value that is made once, and of what makes it.
-use crate::ends::counted::{Counted, ended};
+use crate::ends::counted::Counted;
+use crate::equal::equal;
 use spin_once::lazylock::LazyLock;
 use spin_once::once::Once;
 use std::cell::Cell;
@@ -10,22 +11,24 @@ fn the_value_of_a_once_ends_once(rt: HostRuntime) {
     let once: Once<Counted> = Once::new();
     once.call_once(&rt, || Counted { ends: &ends });
     once.call_once(&rt, || Counted { ends: &ends });
-    ended(&rt, &ends, 0, "Once", "made");
+    let made = ends.get();
     drop(once);
-    ended(&rt, &ends, 1, "Once", "dropped");
+    let dropped = ends.get();
     drop(Once::<Counted>::new());
-    ended(&rt, &ends, 1, "Once", "dropped without a value");
+    let dropped_empty = ends.get();
     let value = Once::<Counted>::initialized(Counted { ends: &ends }).try_into_inner();
-    ended(&rt, &ends, 1, "Once", "opened");
+    let opened = ends.get();
     drop(value);
-    ended(&rt, &ends, 2, "Once", "opened, and its value dropped");
+    let value_dropped = ends.get();
     let mut once = Once::<Counted>::initialized(Counted { ends: &ends });
     if let Some(value) = once.get_mut() {
         *value = Counted { ends: &ends };
     }
-    ended(&rt, &ends, 3, "Once", "written by its owner");
+    let written = ends.get();
     drop(once);
-    ended(&rt, &ends, 4, "Once", "written by its owner, and dropped");
+    equal(&rt, [made, dropped, dropped_empty], [0, 1, 1]);
+    equal(&rt, [opened, value_dropped], [1, 2]);
+    equal(&rt, [written, ends.get()], [3, 4]);
 }
 
 #[test]
@@ -37,19 +40,20 @@ fn an_initialiser_and_its_value_end_once(rt: HostRuntime) {
         1
     });
     drop(lazy);
-    ended(&rt, &ends, 1, "an initialiser", "dropped");
+    let dropped = ends.get();
     let run = Counted { ends: &ends };
     let lazy: LazyLock<u64, _> = LazyLock::new(move || {
         drop(run);
         1
     });
     LazyLock::force(&lazy, &rt);
-    ended(&rt, &ends, 2, "an initialiser", "run");
+    let run = ends.get();
     drop(lazy);
-    ended(&rt, &ends, 2, "an initialiser", "run, and its lock dropped");
+    let run_and_dropped = ends.get();
     let lazy: LazyLock<Counted, _> = LazyLock::new(|| Counted { ends: &ends });
     LazyLock::force(&lazy, &rt);
-    ended(&rt, &ends, 2, "LazyLock", "forced");
+    let forced = ends.get();
     drop(lazy);
-    ended(&rt, &ends, 3, "LazyLock", "forced, and dropped");
+    equal(&rt, [dropped, run, run_and_dropped], [1, 2, 2]);
+    equal(&rt, [forced, ends.get()], [2, 3]);
 }
