@@ -11,3 +11,7 @@ mod mutex;
 mod once;
 #[cfg(test)]
 mod rwlock;
+#[cfg(test)]
+mod sends;
+#[cfg(test)]
+mod texts;

@@ -1,5 +1,4 @@
 //! `RwLock`.
 mod calls;
-mod texts;
 mod threads;
 mod values;

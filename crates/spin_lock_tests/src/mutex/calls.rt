@@ -1,128 +1,123 @@
 //! Which call is granted, and what frees a lock: the mutexes have the same calls, under the same names.
-use crate::mutex::lock::{Lock, read, write};
+use crate::equal::equal;
 use spin_core::relax::Loop;
-use spin_mutex::mutex::{FairMutex, Mutex, SpinMutex, TicketMutex};
-use std::sync::Wait;
+use spin_mutex::mutex::{
+    FairMutex, FairMutexGuard, Mutex, MutexGuard, SpinMutex, SpinMutexGuard, TicketMutex,
+    TicketMutexGuard,
+};
 
-// What is seen while a try has taken the lock: the value, a second try refused, a locked lock.
-type Held = (Option<u64>, bool, bool);
-
-// What is seen of a free lock, while it is taken, and after that.
-fn take_once<'a, L: Lock<'a, u64>>(rt: &impl Wait, lock: &'a L) -> (bool, Held, bool, u64, bool) {
-    let before = lock.is_locked();
-    let taken = lock.try_lock();
-    let held = (read(&taken), lock.try_lock().is_none(), lock.is_locked());
-    drop(taken);
-    let after = lock.is_locked();
-    let value = *lock.lock(rt);
-    (before, held, after, value, lock.try_lock().is_some())
+// What is seen of a free lock, while a try has taken it, and after that: whether it is locked before, whether a second try
+// is refused, and whether it is locked then and after; the value that the try finds, and that which the next call finds.
+macro_rules! taken_once {
+    ($rt:expr, $Lock:ident) => {{
+        let lock: $Lock<u64> = $Lock::new(42);
+        let before = lock.is_locked();
+        let guard = lock.try_lock().expect($rt, "free");
+        let refused = lock.try_lock().is_none();
+        let held = lock.is_locked();
+        let value = *guard;
+        drop(guard);
+        let after = lock.is_locked();
+        let next = *lock.lock($rt);
+        let granted = lock.try_lock().is_some();
+        ([before, refused, held, after, granted], [value, next])
+    }};
 }
 
 #[test]
 fn a_lock_is_taken_once(rt: HostRuntime) {
     let seen = [
-        take_once(&rt, &SpinMutex::<u64>::new(42)),
-        take_once(&rt, &TicketMutex::<u64>::new(42)),
-        take_once(&rt, &FairMutex::<u64>::new(42)),
-        take_once(&rt, &Mutex::<u64>::new(42)),
+        taken_once!(&rt, SpinMutex),
+        taken_once!(&rt, TicketMutex),
+        taken_once!(&rt, FairMutex),
+        taken_once!(&rt, Mutex),
     ];
-    assert_eq!(rt; seen, [(false, (Some(42), true, true), false, 42, true); 4]);
+    equal(&rt, seen, [([false, true, true, false, true], [42; 2]); 4]);
 }
 
-fn open<'a, L: Lock<'a, u64>>(lock: L) -> (bool, u64) {
-    (lock.is_locked(), lock.into_inner())
+macro_rules! opened {
+    ($Lock:ident, $lock:expr) => {{
+        let lock: $Lock<u64> = $lock;
+        (lock.is_locked(), lock.into_inner())
+    }};
 }
 
 #[test]
 fn a_lock_is_made_of_a_value(rt: HostRuntime) {
     let of_none = [
-        open(SpinMutex::<u64>::default()),
-        open(TicketMutex::<u64>::default()),
-        open(FairMutex::<u64>::default()),
-        open(Mutex::<u64>::default()),
+        opened!(SpinMutex, SpinMutex::default()),
+        opened!(TicketMutex, TicketMutex::default()),
+        opened!(FairMutex, FairMutex::default()),
+        opened!(Mutex, Mutex::default()),
     ];
-    assert_eq!(rt; of_none, [(false, 0); 4]);
+    equal(&rt, of_none, [(false, 0); 4]);
     let of_five = [
-        open(SpinMutex::<u64>::from(5)),
-        open(TicketMutex::<u64>::from(5)),
-        open(FairMutex::<u64>::from(5)),
-        open(Mutex::<u64>::from(5)),
+        opened!(SpinMutex, SpinMutex::from(5)),
+        opened!(TicketMutex, TicketMutex::from(5)),
+        opened!(FairMutex, FairMutex::from(5)),
+        opened!(Mutex, Mutex::from(5)),
     ];
-    assert_eq!(rt; of_five, [(false, 5); 4]);
+    equal(&rt, of_five, [(false, 5); 4]);
 }
 
-// What is seen of a lock whose owner has written, before 6 is written.
-fn write_after_the_owner<'a, L: Lock<'a, u64>>(lock: &'a L) -> (bool, Option<u64>) {
-    let before = lock.is_locked();
-    let mut taken = lock.try_lock();
-    let value = read(&taken);
-    write(&mut taken, 6);
-    (before, value)
-}
-
+// Whether a lock is locked whose owner has written, the value that a try finds then, and what it writes.
 macro_rules! owned {
-    ($Lock:ident) => {{
+    ($rt:expr, $Lock:ident) => {{
         let mut lock: $Lock<u64, Loop> = $Lock::new(1);
         *lock.get_mut() = 5;
-        let seen = write_after_the_owner(&lock);
+        let before = lock.is_locked();
+        let mut guard = lock.try_lock().expect($rt, "free");
+        let value = *guard;
+        *guard = 6;
+        drop(guard);
         let last = *lock.get_mut();
-        (seen, last, lock.into_inner())
+        (before, [value, last, lock.into_inner()])
     }};
 }
 
 #[test]
 fn the_owner_has_the_last_value_and_takes_no_lock(rt: HostRuntime) {
     let seen = [
-        owned!(SpinMutex),
-        owned!(TicketMutex),
-        owned!(FairMutex),
-        owned!(Mutex),
+        owned!(&rt, SpinMutex),
+        owned!(&rt, TicketMutex),
+        owned!(&rt, FairMutex),
+        owned!(&rt, Mutex),
     ];
-    assert_eq!(rt; seen, [((false, Some(5)), 6, 6); 4]);
+    equal(&rt, seen, [(false, [5, 6, 6]); 4]);
 }
 
-// What is seen of a lock under a hold, and after it was opened by force.
-fn open_by_force<'a, L: Lock<'a, u64>>(rt: &impl Wait, lock: &'a L) -> (bool, Option<u64>) {
-    let mut guard = lock.lock(rt);
-    *guard = 3;
-    let held = L::hold(guard);
-    let refused = lock.try_lock().is_none();
-    L::force_unlock(held);
-    (refused, read(&lock.try_lock()))
+// Whether a try is refused under a hold, and the value that one finds after the lock was opened by force.
+macro_rules! opened_by_force {
+    ($rt:expr, $Lock:ident, $Guard:ident) => {{
+        let lock: $Lock<u64> = $Lock::new(1);
+        let mut guard = lock.lock($rt);
+        *guard = 3;
+        let held = $Guard::hold(guard);
+        let refused = lock.try_lock().is_none();
+        $Lock::force_unlock(held);
+        (refused, *lock.try_lock().expect($rt, "open"))
+    }};
 }
 
 #[test]
 fn a_held_lock_opens_by_force(rt: HostRuntime) {
     let seen = [
-        open_by_force(&rt, &SpinMutex::<u64>::new(1)),
-        open_by_force(&rt, &TicketMutex::<u64>::new(1)),
-        open_by_force(&rt, &FairMutex::<u64>::new(1)),
-        open_by_force(&rt, &Mutex::<u64>::new(1)),
+        opened_by_force!(&rt, SpinMutex, SpinMutexGuard),
+        opened_by_force!(&rt, TicketMutex, TicketMutexGuard),
+        opened_by_force!(&rt, FairMutex, FairMutexGuard),
+        opened_by_force!(&rt, Mutex, MutexGuard),
     ];
-    assert_eq!(rt; seen, [(true, Some(3)); 4]);
+    equal(&rt, seen, [(true, 3); 4]);
 }
 
-// What is seen of a lock after a hold was dropped.
-fn drop_a_hold<'a, L: Lock<'a, u64>>(rt: &impl Wait, lock: &'a L) -> (bool, bool) {
-    let mut guard = lock.lock(rt);
-    *guard = 3;
-    drop(L::hold(guard));
-    (lock.is_locked(), lock.try_lock().is_none())
-}
-
-// Whether the lock is taken while a leaked value is written.
-fn write_by_a_leak<'a, L: Lock<'a, u64>>(rt: &impl Wait, lock: &'a L) -> bool {
-    let value = L::leak(lock.lock(rt));
-    *value = 7;
-    let refused = lock.try_lock().is_none();
-    *value = 9;
-    refused
-}
-
-macro_rules! left_by {
-    ($rt:expr, $Lock:ident, $use_lock:ident) => {{
+// Whether a lock is locked after a hold was dropped, whether a try is refused then, and the last value.
+macro_rules! left_by_a_hold {
+    ($rt:expr, $Lock:ident, $Guard:ident) => {{
         let lock: $Lock<u64> = $Lock::new(1);
-        let seen = $use_lock($rt, &lock);
+        let mut guard = lock.lock($rt);
+        *guard = 3;
+        drop($Guard::hold(guard));
+        let seen = [lock.is_locked(), lock.try_lock().is_none()];
         (seen, lock.into_inner())
     }};
 }
@@ -130,23 +125,35 @@ macro_rules! left_by {
 #[test]
 fn a_dropped_hold_frees_nothing(rt: HostRuntime) {
     let seen = [
-        left_by!(&rt, SpinMutex, drop_a_hold),
-        left_by!(&rt, TicketMutex, drop_a_hold),
-        left_by!(&rt, FairMutex, drop_a_hold),
-        left_by!(&rt, Mutex, drop_a_hold),
+        left_by_a_hold!(&rt, SpinMutex, SpinMutexGuard),
+        left_by_a_hold!(&rt, TicketMutex, TicketMutexGuard),
+        left_by_a_hold!(&rt, FairMutex, FairMutexGuard),
+        left_by_a_hold!(&rt, Mutex, MutexGuard),
     ];
-    assert_eq!(rt; seen, [((true, true), 3); 4]);
+    equal(&rt, seen, [([true; 2], 3); 4]);
+}
+
+// Whether a try is refused while a leaked value is written, and the last value.
+macro_rules! left_by_a_leak {
+    ($rt:expr, $Lock:ident, $Guard:ident) => {{
+        let lock: $Lock<u64> = $Lock::new(1);
+        let value = $Guard::leak(lock.lock($rt));
+        *value = 7;
+        let refused = lock.try_lock().is_none();
+        *value = 9;
+        (refused, lock.into_inner())
+    }};
 }
 
 #[test]
 fn a_leaked_value_stays_writable(rt: HostRuntime) {
     let seen = [
-        left_by!(&rt, SpinMutex, write_by_a_leak),
-        left_by!(&rt, TicketMutex, write_by_a_leak),
-        left_by!(&rt, FairMutex, write_by_a_leak),
-        left_by!(&rt, Mutex, write_by_a_leak),
+        left_by_a_leak!(&rt, SpinMutex, SpinMutexGuard),
+        left_by_a_leak!(&rt, TicketMutex, TicketMutexGuard),
+        left_by_a_leak!(&rt, FairMutex, FairMutexGuard),
+        left_by_a_leak!(&rt, Mutex, MutexGuard),
     ];
-    assert_eq!(rt; seen, [(true, 9); 4]);
+    equal(&rt, seen, [(true, 9); 4]);
 }
 
 const WEAK_ATTEMPTS: u32 = 10_000_000;
@@ -155,7 +162,7 @@ const WEAK_ATTEMPTS: u32 = 10_000_000;
 fn a_weak_try_refuses_a_held_lock_and_is_granted_in_the_end(rt: HostRuntime) {
     let lock: SpinMutex<u64> = SpinMutex::new(1);
     let guard = lock.lock(&rt);
-    assert!(rt; lock.try_lock_weak().is_none());
+    let refused = lock.try_lock_weak().is_none();
     drop(guard);
     let mut granted = false;
     for _ in 0..WEAK_ATTEMPTS {
@@ -164,5 +171,5 @@ fn a_weak_try_refuses_a_held_lock_and_is_granted_in_the_end(rt: HostRuntime) {
             break;
         }
     }
-    assert!(rt; granted);
+    equal(&rt, [refused, granted], [true; 2]);
 }

@@ -2,6 +2,7 @@
 //! are used up; and that a `Mutex` is over them.
 use crate::equal::equal;
 use spin_core::relax::{RelaxStrategy, Yield};
+use spin_lock::lock::Lock;
 use spin_mutex::mutex::{Mutex, TicketMutex, TicketMutexGuard};
 use spin_mutex::testing::{next as next_of_mutex, starting_at as mutex_starting_at};
 use spin_ticket::testing::{next, starting_at};
@@ -66,7 +67,7 @@ fn looks_and_the_owner_take_no_ticket(rt: HostRuntime) {
 }
 
 /// A lock whose parties queue.
-trait Tickets {
+trait Tickets: Lock<u64> {
     /// The number of the next ticket.
     fn next(&self) -> u64;
 }
@@ -83,28 +84,6 @@ impl Tickets for Mutex<u64, Yield> {
     }
 }
 
-/// A text of digits under such a lock, by which those who enter tell their order.
-trait Text: Tickets {
-    /// Enters, appends the digit, and stays until the next ticket's number is `last`. Answers whether it came to that.
-    fn append<R: Wait>(&self, rt: &R, digit: u64, last: u64) -> bool;
-}
-
-impl Text for TicketMutex<u64, Yield> {
-    fn append<R: Wait>(&self, rt: &R, digit: u64, last: u64) -> bool {
-        let mut text = self.lock(rt);
-        *text = text.wrapping_mul(10).wrapping_add(digit);
-        comes_to(rt, self, last)
-    }
-}
-
-impl Text for Mutex<u64, Yield> {
-    fn append<R: Wait>(&self, rt: &R, digit: u64, last: u64) -> bool {
-        let mut text = self.lock(rt);
-        *text = text.wrapping_mul(10).wrapping_add(digit);
-        comes_to(rt, self, last)
-    }
-}
-
 // Whether the next ticket's number came to be `number` within the looks.
 fn comes_to<Q: Tickets, R: Wait>(rt: &R, queue: &Q, number: u64) -> bool {
     for _ in 0..MAX_LOOKS {
@@ -116,14 +95,19 @@ fn comes_to<Q: Tickets, R: Wait>(rt: &R, queue: &Q, number: u64) -> bool {
     false
 }
 
-// Comes once `before` have come, and stays until all three have.
-fn enter<Q: Text, R: Wait>(rt: &R, queue: &Q, before: u64) -> bool {
+// Comes once `before` have come, appends its digit to the text under the lock, and stays until all three have come. By
+// that text those who enter tell their order.
+fn enter<Q: Tickets, R: Wait>(rt: &R, queue: &Q, before: u64) -> bool {
     let in_order = comes_to(rt, queue, before);
-    queue.append(rt, before.wrapping_add(1), 3) && in_order
+    let append = |text: &mut u64| {
+        *text = text.wrapping_mul(10).wrapping_add(before).wrapping_add(1);
+        comes_to(rt, queue, 3)
+    };
+    queue.with(rt, append) && in_order
 }
 
 // Three come one after the other while the first is in.
-fn enter_in_three<Q: Text + Sync, R: Abort + Threads + Wait + Sync>(
+fn enter_in_three<Q: Tickets + Sync, R: Abort + Threads + Wait + Sync>(
     rt: &R,
     alloc: Global,
     queue: &Q,

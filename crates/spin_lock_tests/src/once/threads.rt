@@ -1,46 +1,13 @@
-//! In several threads, and what may travel to them.
+//! In several threads.
 
 use crate::equal::equal;
-use spin_core::relax::{RelaxStrategy, Spin, Yield};
+use spin_core::relax::{RelaxStrategy, Yield};
 use spin_once::lazylock::LazyLock;
 use spin_once::once::Once;
-use std::cell::Cell;
 use std::sync::Wait;
 use std::sync::atomic::AtomicU64;
 use std::sync::atomic::Ordering::SeqCst;
 use std::thread;
-
-fn is_send<T: Send>() {}
-
-fn is_sync<T: Sync>() {}
-
-fn moves<T: Send, R>() {
-    is_send::<Once<T, R>>();
-}
-
-fn travels<T: Send + Sync, R>() {
-    is_sync::<Once<T, R>>();
-}
-
-// The initialiser need not be shared, since nobody reads it through a `&`.
-fn lazily_travels<T: Send + Sync, F: Send, R>() {
-    is_send::<LazyLock<T, F, R>>();
-    is_sync::<LazyLock<T, F, R>>();
-}
-
-#[test]
-fn travels_with_a_value_that_may(rt: HostRuntime) {
-    let _ = rt;
-    moves::<Cell<u64>, Cell<u64>>();
-    travels::<u64, Cell<u64>>();
-    travels::<u64, Spin>();
-}
-
-#[test]
-fn travels_with_an_initialiser_that_may_be_sent(rt: HostRuntime) {
-    let _ = rt;
-    lazily_travels::<u64, Cell<u64>, Cell<u64>>();
-}
 
 fn ask<R: Wait>(rt: &R, once: &Once<u64, Yield>, runs: &AtomicU64, number: u64) -> u64 {
     let value = once.call_once(rt, || {

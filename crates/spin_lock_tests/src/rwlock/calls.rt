@@ -8,36 +8,25 @@ use std::sync::Wait;
 
 const WEAK_ATTEMPTS: u32 = 10_000_000;
 
-// Compares what is seen of a lock: whether `try_read`, `try_upgradeable_read` and `try_write` are granted, and then how
-// many read and how many write.
-fn shows<R: Abort + Wait>(
-    rt: &R,
-    lock: &RwLock<u64>,
-    granted: (bool, bool, bool),
-    counts: (usize, usize),
-) {
+// Which of `try_read`, `try_upgradeable_read` and `try_write` are granted.
+type Granted = [bool; 3];
+
+const FREE: Granted = [true; 3];
+
+const WRITTEN: Granted = [false; 3];
+
+const READ: Granted = [true, true, false];
+
+// One of the readers may upgrade.
+const READ_UPGRADABLY: Granted = [true, false, false];
+
+// Compares what is seen of a lock: which tries are granted, and then how many read and how many write.
+fn shows<R: Abort + Wait>(rt: &R, lock: &RwLock<u64>, granted: Granted, counts: [usize; 2]) {
     let reads = lock.try_read(rt).is_some();
     let upgrades = lock.try_upgradeable_read(rt).is_some();
     let writes = lock.try_write().is_some();
-    equal(rt, (reads, upgrades, writes), granted);
-    equal(rt, (lock.reader_count(), lock.writer_count()), counts);
-}
-
-fn is_free<R: Abort + Wait>(rt: &R, lock: &RwLock<u64>) {
-    shows(rt, lock, (true, true, true), (0, 0));
-}
-
-fn is_written<R: Abort + Wait>(rt: &R, lock: &RwLock<u64>) {
-    shows(rt, lock, (false, false, false), (0, 1));
-}
-
-fn is_read_by<R: Abort + Wait>(rt: &R, lock: &RwLock<u64>, readers: usize) {
-    shows(rt, lock, (true, true, false), (readers, 0));
-}
-
-// One of the readers may upgrade.
-fn is_read_upgradably_by<R: Abort + Wait>(rt: &R, lock: &RwLock<u64>, readers: usize) {
-    shows(rt, lock, (true, false, false), (readers, 0));
+    let counted = [lock.reader_count(), lock.writer_count()];
+    equal(rt, ([reads, upgrades, writes], counted), (granted, counts));
 }
 
 // A free lock of 1.
@@ -50,14 +39,14 @@ fn the_upgradable_reader_counts_as_a_reader(rt: HostRuntime) {
     let lock = free();
     let reader = lock.read(&rt);
     let upgradable = lock.upgradeable_read(&rt);
-    is_read_upgradably_by(&rt, &lock, 2);
+    shows(&rt, &lock, READ_UPGRADABLY, [2, 0]);
     let other = lock.read(&rt);
-    is_read_upgradably_by(&rt, &lock, 3);
+    shows(&rt, &lock, READ_UPGRADABLY, [3, 0]);
     drop(other);
     drop(reader);
-    is_read_upgradably_by(&rt, &lock, 1);
+    shows(&rt, &lock, READ_UPGRADABLY, [1, 0]);
     drop(upgradable);
-    is_free(&rt, &lock);
+    shows(&rt, &lock, FREE, [0, 0]);
 }
 
 #[test]
@@ -69,23 +58,23 @@ fn an_upgradable_reader_beside_a_reader(rt: HostRuntime) {
         .try_upgrade()
         .err()
         .expect(&rt, "beside a reader");
-    is_read_upgradably_by(&rt, &lock, 2);
+    shows(&rt, &lock, READ_UPGRADABLY, [2, 0]);
     drop(reader);
     let writer = still.try_upgrade().ok().expect(&rt, "alone");
-    is_written(&rt, &lock);
+    shows(&rt, &lock, WRITTEN, [0, 1]);
     drop(writer);
-    is_free(&rt, &lock);
+    shows(&rt, &lock, FREE, [0, 0]);
 }
 
 #[test]
 fn a_writer_goes_on_as_a_reader(rt: HostRuntime) {
     let lock = free();
     let writer = lock.write(&rt);
-    is_written(&rt, &lock);
+    shows(&rt, &lock, WRITTEN, [0, 1]);
     let reader = writer.downgrade();
-    is_read_by(&rt, &lock, 1);
+    shows(&rt, &lock, READ, [1, 0]);
     let other = lock.upgradeable_read(&rt);
-    is_read_upgradably_by(&rt, &lock, 2);
+    shows(&rt, &lock, READ_UPGRADABLY, [2, 0]);
     equal(&rt, (*reader, *other), (1, 1));
 }
 
@@ -95,22 +84,22 @@ fn held_readers_go_one_by_one(rt: HostRuntime) {
     let first = RwLockReadGuard::hold(lock.read(&rt));
     let second = RwLockReadGuard::hold(lock.read(&rt));
     let third = RwLockReadGuard::hold(lock.read(&rt));
-    is_read_by(&rt, &lock, 3);
+    shows(&rt, &lock, READ, [3, 0]);
     RwLock::force_read_decrement(first);
     RwLock::force_read_decrement(second);
-    is_read_by(&rt, &lock, 1);
+    shows(&rt, &lock, READ, [1, 0]);
     RwLock::force_read_decrement(third);
-    is_free(&rt, &lock);
+    shows(&rt, &lock, FREE, [0, 0]);
 }
 
 #[test]
 fn an_upgradable_reader_goes_on_as_a_reader(rt: HostRuntime) {
     let lock = free();
     let upgradable = lock.upgradeable_read(&rt);
-    is_read_upgradably_by(&rt, &lock, 1);
+    shows(&rt, &lock, READ_UPGRADABLY, [1, 0]);
     let other = lock.read(&rt);
     let reader = upgradable.downgrade();
-    is_read_by(&rt, &lock, 2);
+    shows(&rt, &lock, READ, [2, 0]);
     equal(&rt, (*other, *reader), (1, 1));
 }
 
@@ -121,10 +110,10 @@ fn up_and_down_and_up_again(rt: HostRuntime) {
     let mut writer = upgradable.try_upgrade().ok().expect(&rt, "alone");
     *writer = 2;
     let upgradable = writer.downgrade_to_upgradeable();
-    is_read_upgradably_by(&rt, &lock, 1);
+    shows(&rt, &lock, READ_UPGRADABLY, [1, 0]);
     equal(&rt, *upgradable, 2);
     let writer = upgradable.upgrade(&rt);
-    is_written(&rt, &lock);
+    shows(&rt, &lock, WRITTEN, [0, 1]);
     equal(&rt, *writer.downgrade(), 2);
 }
 
@@ -134,9 +123,9 @@ fn a_held_writer_lets_go_by_force(rt: HostRuntime) {
     let mut writer = lock.write(&rt);
     *writer = 58;
     let held = RwLockWriteGuard::hold(writer);
-    is_written(&rt, &lock);
+    shows(&rt, &lock, WRITTEN, [0, 1]);
     RwLock::force_write_unlock(held);
-    is_free(&rt, &lock);
+    shows(&rt, &lock, FREE, [0, 0]);
     equal(&rt, lock.into_inner(), 58);
 }
 
@@ -144,7 +133,7 @@ fn a_held_writer_lets_go_by_force(rt: HostRuntime) {
 fn a_dropped_hold_of_a_reader_frees_nothing(rt: HostRuntime) {
     let lock = free();
     drop(RwLockReadGuard::hold(lock.read(&rt)));
-    is_read_by(&rt, &lock, 1);
+    shows(&rt, &lock, READ, [1, 0]);
     equal(&rt, lock.into_inner(), 1);
 }
 
@@ -152,7 +141,7 @@ fn a_dropped_hold_of_a_reader_frees_nothing(rt: HostRuntime) {
 fn a_dropped_hold_of_the_writer_frees_nothing(rt: HostRuntime) {
     let lock = free();
     drop(RwLockWriteGuard::hold(lock.write(&rt)));
-    is_written(&rt, &lock);
+    shows(&rt, &lock, WRITTEN, [0, 1]);
     equal(&rt, lock.into_inner(), 1);
 }
 
@@ -160,7 +149,7 @@ fn a_dropped_hold_of_the_writer_frees_nothing(rt: HostRuntime) {
 fn a_leaked_reader_stays(rt: HostRuntime) {
     let mut lock = free();
     let value = *RwLockReadGuard::leak(lock.read(&rt));
-    is_read_by(&rt, &lock, 1);
+    shows(&rt, &lock, READ, [1, 0]);
     *lock.get_mut() = 5;
     equal(&rt, (value, lock.into_inner()), (1, 5));
 }
@@ -169,10 +158,10 @@ fn a_leaked_reader_stays(rt: HostRuntime) {
 fn a_leaked_upgradable_reader_and_a_leaked_writer_stay(rt: HostRuntime) {
     let read = free();
     let value = *RwLockUpgradableGuard::leak(read.upgradeable_read(&rt));
-    is_read_upgradably_by(&rt, &read, 1);
+    shows(&rt, &read, READ_UPGRADABLY, [1, 0]);
     let written = free();
     *RwLockWriteGuard::leak(written.write(&rt)) = 7;
-    is_written(&rt, &written);
+    shows(&rt, &written, WRITTEN, [0, 1]);
     equal(&rt, (value, written.into_inner()), (1, 7));
 }
 
@@ -180,7 +169,7 @@ fn a_leaked_upgradable_reader_and_a_leaked_writer_stay(rt: HostRuntime) {
 fn the_owner_takes_no_lock(rt: HostRuntime) {
     let mut lock = free();
     *lock.get_mut() = 5;
-    is_free(&rt, &lock);
+    shows(&rt, &lock, FREE, [0, 0]);
     equal(&rt, lock.into_inner(), 5);
 }
 

@@ -1,57 +1,18 @@
 //! Locks and guards in several threads.
 
 use crate::equal::equal;
-use spin_core::relax::{RelaxStrategy, Spin, Yield};
-use spin_rwlock::rwlock::{
-    ReadHeld, RwLock, RwLockReadGuard, RwLockUpgradableGuard, RwLockWriteGuard, WriteHeld,
-};
-use std::cell::Cell;
+use crate::mutex::threads::write_elsewhere;
+use spin_core::relax::{RelaxStrategy, Yield};
+use spin_rwlock::rwlock::{RwLock, RwLockWriteGuard};
 use std::sync::Wait;
 use std::sync::atomic::AtomicBool;
 use std::sync::atomic::Ordering::SeqCst;
 use std::thread;
 
-fn is_send<T: Send>() {}
-
-fn is_sync<T: Sync>() {}
-
-fn moves<T: Send, R>() {
-    is_send::<RwLock<T, R>>();
-}
-
-fn lends<T: Sync + 'static, R: 'static>() {
-    is_sync::<RwLockReadGuard<'static, T, R>>();
-    is_sync::<RwLockUpgradableGuard<'static, T, R>>();
-    is_sync::<RwLockWriteGuard<'static, T, R>>();
-}
-
-fn travels<T: Send + Sync + 'static, R: 'static>() {
-    is_sync::<RwLock<T, R>>();
-    is_send::<RwLockReadGuard<'static, T, R>>();
-    is_send::<RwLockUpgradableGuard<'static, T, R>>();
-    is_send::<RwLockWriteGuard<'static, T, R>>();
-    is_send::<ReadHeld<'static, T, R>>();
-    is_sync::<ReadHeld<'static, T, R>>();
-    is_send::<WriteHeld<'static, T, R>>();
-    is_sync::<WriteHeld<'static, T, R>>();
-}
-
-#[test]
-fn travel_with_a_value_that_may(rt: HostRuntime) {
-    let _ = rt;
-    moves::<Cell<u64>, Cell<u64>>();
-    lends::<u64, Cell<u64>>();
-    travels::<u64, Spin>();
-}
-
 #[test]
 fn a_guard_may_end_in_another_thread(rt: HostRuntime) {
     let lock: RwLock<u64> = RwLock::new(1);
-    let mut guard = lock.write(&rt);
-    let write = move || {
-        *guard = 3;
-    };
-    thread::join(&rt, write, || ());
+    write_elsewhere(&rt, lock.write(&rt));
     equal(&rt, *lock.try_write().expect(&rt, "free"), 3);
 }
 
