@@ -15,3 +15,5 @@ mod rwlock;
 mod sends;
 #[cfg(test)]
 mod texts;
+#[cfg(test)]
+mod waiting;

@@ -51,6 +51,12 @@ fn a_starver_comes_before_newcomers(rt: HostRuntime) {
     let guard = starvation.try_lock().ok().expect(&rt, "open");
     shows(&rt, &lock, HELD);
     equal(&rt, *guard, 42);
+    let starvation = starve(&rt, &lock);
+    shows(&rt, &lock, HELD_AND_STARVED);
+    drop(guard);
+    shows(&rt, &lock, STARVED);
+    drop(starvation);
+    shows(&rt, &lock, OPEN);
 }
 
 // A starver that waited has entered, and then the lock is open.
@@ -73,19 +79,6 @@ fn each_call_of_a_starver_enters(rt: HostRuntime) {
     shows(&rt, &lock, HELD);
     drop(guard);
     enters_in_the_end(&rt, &lock, starve(&rt, &lock));
-}
-
-#[test]
-fn a_refusal_says_why(rt: HostRuntime) {
-    let lock: FairMutex<u64> = FairMutex::new(42);
-    let guard = lock.lock(&rt);
-    shows(&rt, &lock, HELD);
-    let starvation = starve(&rt, &lock);
-    shows(&rt, &lock, HELD_AND_STARVED);
-    drop(guard);
-    shows(&rt, &lock, STARVED);
-    drop(starvation);
-    shows(&rt, &lock, OPEN);
 }
 
 #[test]

@@ -1,6 +1,7 @@
 //! What no contract says of tickets: that parties enter in their order, which calls take one, and what is left once they
 //! are used up; and that a `Mutex` is over them.
 use crate::equal::equal;
+use crate::waiting::MAX_LOOKS;
 use spin_core::relax::{RelaxStrategy, Yield};
 use spin_lock::lock::Lock;
 use spin_mutex::mutex::{Mutex, TicketMutex, TicketMutexGuard};
@@ -13,8 +14,6 @@ use std::sync::atomic::AtomicBool;
 use std::sync::atomic::Ordering::SeqCst;
 use std::thread;
 use std::thread::Threads;
-
-const MAX_LOOKS: u32 = 10_000_000;
 
 #[test]
 fn used_up_tickets_are_refused(rt: HostRuntime) {

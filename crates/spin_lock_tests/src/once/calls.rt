@@ -95,6 +95,9 @@ fn its_owner_changes_the_value(rt: HostRuntime) {
     }
     equal(&rt, once.is_completed(), true);
     equal(&rt, once.try_into_inner(), Some(6));
+    let mut empty: Once<u64> = Once::new();
+    equal(&rt, lends(&mut empty).is_none(), true);
+    equal(&rt, empty.try_into_inner(), None);
 }
 
 #[test]
@@ -111,13 +114,6 @@ fn its_owner_changes_a_value_that_was_made(rt: HostRuntime) {
     equal(&rt, once.poll(&rt).copied(), Some(8));
     equal(&rt, *once.wait(&rt), 8);
     equal(&rt, once.try_into_inner(), Some(8));
-}
-
-#[test]
-fn its_owner_finds_no_value_and_leaves_none(rt: HostRuntime) {
-    let mut once: Once<u64> = Once::new();
-    equal(&rt, lends(&mut once).is_none(), true);
-    equal(&rt, once.try_into_inner(), None);
 }
 
 #[test]

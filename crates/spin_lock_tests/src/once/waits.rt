@@ -1,31 +1,13 @@
 //! Who finds another's closure running waits for it, goes on with its value, and runs none of its own.
 
 use crate::equal::equal;
-use spin_core::relax::{RelaxStrategy, Yield};
+use crate::waiting::{await_number, pause};
+use spin_core::relax::Yield;
 use spin_once::once::Once;
 use std::sync::Wait;
 use std::sync::atomic::AtomicU64;
 use std::sync::atomic::Ordering::SeqCst;
 use std::thread;
-
-// It looks for the number at most this often, so that the test ends whatever happens.
-const MAX_LOOKS: u32 = 10_000_000;
-
-fn await_number<R: Wait>(rt: &R, number: &AtomicU64, wanted: u64) {
-    for _ in 0..MAX_LOOKS {
-        if number.load(SeqCst) >= wanted {
-            return;
-        }
-        Yield::relax(rt);
-    }
-}
-
-// Long enough for a call that has come meanwhile to find what it waits for.
-fn pause<R: Wait>(rt: &R) {
-    for _ in 0..1000 {
-        Yield::relax(rt);
-    }
-}
 
 /// A value that four threads wait for, while a fifth makes it.
 #[derive(Drop)]
@@ -59,12 +41,6 @@ impl Shared {
         self.came.fetch_add(1, SeqCst);
     }
 
-    // Waits from before a closure runs.
-    fn wait<R: Wait>(&self, rt: &R) -> u64 {
-        self.come();
-        *self.once.wait(rt)
-    }
-
     // Comes while the closure runs, with another.
     fn call<R: Wait>(&self, rt: &R) -> u64 {
         await_number(rt, &self.begun, 1);
@@ -92,7 +68,11 @@ impl Shared {
     fn act<R: Wait>(&self, rt: &R, index: usize) -> Option<u64> {
         match index {
             0 => Some(self.make(rt)),
-            1 => Some(self.wait(rt)),
+            // It waits from before a closure runs.
+            1 => {
+                self.come();
+                Some(*self.once.wait(rt))
+            }
             2 => Some(self.call(rt)),
             3 => self.try_call(rt),
             _ => self.poll(rt),

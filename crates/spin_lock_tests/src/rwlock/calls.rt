@@ -29,14 +29,9 @@ fn shows<R: Abort + Wait>(rt: &R, lock: &RwLock<u64>, granted: Granted, counts: 
     equal(rt, ([reads, upgrades, writes], counted), (granted, counts));
 }
 
-// A free lock of 1.
-fn free() -> RwLock<u64> {
-    RwLock::new(1)
-}
-
 #[test]
 fn the_upgradable_reader_counts_as_a_reader(rt: HostRuntime) {
-    let lock = free();
+    let lock: RwLock<u64> = RwLock::new(1);
     let reader = lock.read(&rt);
     let upgradable = lock.upgradeable_read(&rt);
     shows(&rt, &lock, READ_UPGRADABLY, [2, 0]);
@@ -51,7 +46,7 @@ fn the_upgradable_reader_counts_as_a_reader(rt: HostRuntime) {
 
 #[test]
 fn an_upgradable_reader_beside_a_reader(rt: HostRuntime) {
-    let lock = free();
+    let lock: RwLock<u64> = RwLock::new(1);
     let reader = lock.read(&rt);
     let upgradable = lock.upgradeable_read(&rt);
     let still = upgradable
@@ -68,7 +63,7 @@ fn an_upgradable_reader_beside_a_reader(rt: HostRuntime) {
 
 #[test]
 fn a_writer_goes_on_as_a_reader(rt: HostRuntime) {
-    let lock = free();
+    let lock: RwLock<u64> = RwLock::new(1);
     let writer = lock.write(&rt);
     shows(&rt, &lock, WRITTEN, [0, 1]);
     let reader = writer.downgrade();
@@ -80,7 +75,7 @@ fn a_writer_goes_on_as_a_reader(rt: HostRuntime) {
 
 #[test]
 fn held_readers_go_one_by_one(rt: HostRuntime) {
-    let lock = free();
+    let lock: RwLock<u64> = RwLock::new(1);
     let first = RwLockReadGuard::hold(lock.read(&rt));
     let second = RwLockReadGuard::hold(lock.read(&rt));
     let third = RwLockReadGuard::hold(lock.read(&rt));
@@ -94,7 +89,7 @@ fn held_readers_go_one_by_one(rt: HostRuntime) {
 
 #[test]
 fn an_upgradable_reader_goes_on_as_a_reader(rt: HostRuntime) {
-    let lock = free();
+    let lock: RwLock<u64> = RwLock::new(1);
     let upgradable = lock.upgradeable_read(&rt);
     shows(&rt, &lock, READ_UPGRADABLY, [1, 0]);
     let other = lock.read(&rt);
@@ -105,7 +100,7 @@ fn an_upgradable_reader_goes_on_as_a_reader(rt: HostRuntime) {
 
 #[test]
 fn up_and_down_and_up_again(rt: HostRuntime) {
-    let lock = free();
+    let lock: RwLock<u64> = RwLock::new(1);
     let upgradable = lock.upgradeable_read(&rt);
     let mut writer = upgradable.try_upgrade().ok().expect(&rt, "alone");
     *writer = 2;
@@ -119,7 +114,7 @@ fn up_and_down_and_up_again(rt: HostRuntime) {
 
 #[test]
 fn a_held_writer_lets_go_by_force(rt: HostRuntime) {
-    let lock = free();
+    let lock: RwLock<u64> = RwLock::new(1);
     let mut writer = lock.write(&rt);
     *writer = 58;
     let held = RwLockWriteGuard::hold(writer);
@@ -130,24 +125,19 @@ fn a_held_writer_lets_go_by_force(rt: HostRuntime) {
 }
 
 #[test]
-fn a_dropped_hold_of_a_reader_frees_nothing(rt: HostRuntime) {
-    let lock = free();
-    drop(RwLockReadGuard::hold(lock.read(&rt)));
-    shows(&rt, &lock, READ, [1, 0]);
-    equal(&rt, lock.into_inner(), 1);
-}
-
-#[test]
-fn a_dropped_hold_of_the_writer_frees_nothing(rt: HostRuntime) {
-    let lock = free();
-    drop(RwLockWriteGuard::hold(lock.write(&rt)));
-    shows(&rt, &lock, WRITTEN, [0, 1]);
-    equal(&rt, lock.into_inner(), 1);
+fn a_dropped_hold_frees_nothing(rt: HostRuntime) {
+    let read: RwLock<u64> = RwLock::new(1);
+    drop(RwLockReadGuard::hold(read.read(&rt)));
+    shows(&rt, &read, READ, [1, 0]);
+    let written: RwLock<u64> = RwLock::new(1);
+    drop(RwLockWriteGuard::hold(written.write(&rt)));
+    shows(&rt, &written, WRITTEN, [0, 1]);
+    equal(&rt, (read.into_inner(), written.into_inner()), (1, 1));
 }
 
 #[test]
 fn a_leaked_reader_stays(rt: HostRuntime) {
-    let mut lock = free();
+    let mut lock: RwLock<u64> = RwLock::new(1);
     let value = *RwLockReadGuard::leak(lock.read(&rt));
     shows(&rt, &lock, READ, [1, 0]);
     *lock.get_mut() = 5;
@@ -156,10 +146,10 @@ fn a_leaked_reader_stays(rt: HostRuntime) {
 
 #[test]
 fn a_leaked_upgradable_reader_and_a_leaked_writer_stay(rt: HostRuntime) {
-    let read = free();
+    let read: RwLock<u64> = RwLock::new(1);
     let value = *RwLockUpgradableGuard::leak(read.upgradeable_read(&rt));
     shows(&rt, &read, READ_UPGRADABLY, [1, 0]);
-    let written = free();
+    let written: RwLock<u64> = RwLock::new(1);
     *RwLockWriteGuard::leak(written.write(&rt)) = 7;
     shows(&rt, &written, WRITTEN, [0, 1]);
     equal(&rt, (value, written.into_inner()), (1, 7));
@@ -167,7 +157,7 @@ fn a_leaked_upgradable_reader_and_a_leaked_writer_stay(rt: HostRuntime) {
 
 #[test]
 fn the_owner_takes_no_lock(rt: HostRuntime) {
-    let mut lock = free();
+    let mut lock: RwLock<u64> = RwLock::new(1);
     *lock.get_mut() = 5;
     shows(&rt, &lock, FREE, [0, 0]);
     equal(&rt, lock.into_inner(), 5);

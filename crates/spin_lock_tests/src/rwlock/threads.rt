@@ -2,10 +2,11 @@
 
 use crate::equal::equal;
 use crate::mutex::threads::write_elsewhere;
+use crate::waiting::{MAX_LOOKS, await_number, pause};
 use spin_core::relax::{RelaxStrategy, Yield};
 use spin_rwlock::rwlock::{RwLock, RwLockWriteGuard};
 use std::sync::Wait;
-use std::sync::atomic::AtomicBool;
+use std::sync::atomic::AtomicU64;
 use std::sync::atomic::Ordering::SeqCst;
 use std::thread;
 
@@ -24,9 +25,6 @@ fn guards_of_two_threads_read_one_lock(rt: HostRuntime) {
     equal(&rt, (*first, *second), (1, 1));
     equal(&rt, (lock.reader_count(), refused), (2, true));
 }
-
-// It looks at most this often, so that the test ends whatever happens.
-const MAX_LOOKS: u32 = 10_000_000;
 
 // Tries to read until it is refused.
 fn is_kept_out<R: Wait>(rt: &R, lock: &RwLock<u64, Yield>) -> bool {
@@ -58,24 +56,8 @@ fn no_reader_comes_once_an_upgrade_has_asked(rt: HostRuntime) {
     equal(&rt, (lock.reader_count(), lock.writer_count()), (0, 1));
 }
 
-fn await_flag<R: Wait>(rt: &R, flag: &AtomicBool) {
-    for _ in 0..MAX_LOOKS {
-        if flag.load(SeqCst) {
-            return;
-        }
-        Yield::relax(rt);
-    }
-}
-
-// Long enough for another thread to be refused.
-fn pause<R: Wait>(rt: &R) {
-    for _ in 0..1000 {
-        Yield::relax(rt);
-    }
-}
-
-fn come_to_write<R: Wait>(rt: &R, lock: &RwLock<u64, Yield>, comes: &AtomicBool) {
-    comes.store(true, SeqCst);
+fn come_to_write<R: Wait>(rt: &R, lock: &RwLock<u64, Yield>, comes: &AtomicU64) {
+    comes.store(1, SeqCst);
     let mut guard = lock.write(rt);
     *guard = guard.wrapping_mul(2);
 }
@@ -84,9 +66,9 @@ fn come_to_write<R: Wait>(rt: &R, lock: &RwLock<u64, Yield>, comes: &AtomicBool)
 fn write_and_read<R: Wait>(
     rt: &R,
     mut writer: RwLockWriteGuard<'_, u64, Yield>,
-    comes: &AtomicBool,
+    comes: &AtomicU64,
 ) {
-    await_flag(rt, comes);
+    await_number(rt, comes, 1);
     pause(rt);
     *writer = 3;
     let reader = writer.downgrade();
@@ -97,7 +79,7 @@ fn write_and_read<R: Wait>(
 #[test]
 fn a_writer_waits_for_a_writer_and_for_a_reader(rt: HostRuntime) {
     let lock: RwLock<u64, Yield> = RwLock::new(1);
-    let comes = AtomicBool::new(false);
+    let comes = AtomicU64::new(0);
     let writer = lock.write(&rt);
     thread::join(
         &rt,
@@ -139,30 +121,21 @@ fn a_try_to_read_that_lost_a_race_tries_again(rt: HostRuntime) {
     equal(&rt, granted, (true, true));
 }
 
-// All additions are made under one guard, so a reader sees none of them or all.
-fn add_ten<R: Wait>(rt: &R, lock: &RwLock<u64, Yield>) {
-    let mut sum = lock.write(rt);
-    for _ in 0..10 {
-        *sum = sum.wrapping_add(1);
-    }
-}
-
-fn sees_all_or_nothing<R: Wait>(rt: &R, lock: &RwLock<u64, Yield>) -> bool {
+// The first adds under one guard, and the others read, so each of them sees nothing of it or all. Whether none saw a part.
+fn add_or_read<R: Wait>(rt: &R, lock: &RwLock<u64, Yield>, index: usize) -> bool {
     let mut sound = true;
-    for _ in 0..100 {
-        let sum = *lock.read(rt);
-        sound = sound && (sum == 0 || sum == 10);
+    if index == 0 {
+        let mut sum = lock.write(rt);
+        for _ in 0..10 {
+            *sum = sum.wrapping_add(1);
+        }
+    } else {
+        for _ in 0..100 {
+            let sum = *lock.read(rt);
+            sound = sound && (sum == 0 || sum == 10);
+        }
     }
     sound
-}
-
-// The first adds, and the others read. Whether no reader saw a part.
-fn add_or_read<R: Wait>(rt: &R, lock: &RwLock<u64, Yield>, index: usize) -> bool {
-    if index == 0 {
-        add_ten(rt, lock);
-        return true;
-    }
-    sees_all_or_nothing(rt, lock)
 }
 
 #[test]
