@@ -5,6 +5,10 @@ use spin_mutex::mutex::{
     FairMutex, FairMutexGuard, Mutex, MutexGuard, SpinMutex, SpinMutexGuard, TicketMutex,
     TicketMutexGuard,
 };
+use std::process::Abort;
+use std::sync::Wait;
+
+type Taken = ([bool; 5], [u64; 2]);
 
 // What is seen of a free lock, while a try has taken it, and after that: whether it is locked before, whether a second try
 // is refused, and whether it is locked then and after; the value that the try finds, and that which the next call finds.
@@ -24,13 +28,29 @@ macro_rules! taken_once {
     }};
 }
 
+fn spin_mutex<R: Abort + Wait>(rt: &R) -> Taken {
+    taken_once!(rt, SpinMutex)
+}
+
+fn ticket_mutex<R: Abort + Wait>(rt: &R) -> Taken {
+    taken_once!(rt, TicketMutex)
+}
+
+fn fair_mutex<R: Abort + Wait>(rt: &R) -> Taken {
+    taken_once!(rt, FairMutex)
+}
+
+fn mutex<R: Abort + Wait>(rt: &R) -> Taken {
+    taken_once!(rt, Mutex)
+}
+
 #[test]
 fn a_lock_is_taken_once(rt: HostRuntime) {
     let seen = [
-        taken_once!(&rt, SpinMutex),
-        taken_once!(&rt, TicketMutex),
-        taken_once!(&rt, FairMutex),
-        taken_once!(&rt, Mutex),
+        spin_mutex(&rt),
+        ticket_mutex(&rt),
+        fair_mutex(&rt),
+        mutex(&rt),
     ];
     equal(&rt, seen, [([false, true, true, false, true], [42; 2]); 4]);
 }

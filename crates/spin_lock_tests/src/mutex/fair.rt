@@ -84,7 +84,8 @@ fn each_call_of_a_starver_enters(rt: HostRuntime) {
 #[test]
 fn a_refused_starver_stays_registered(rt: HostRuntime) {
     let lock: FairMutex<u64, Loop> = FairMutex::new(42);
-    let (first, second) = (starve(&rt, &lock), starve(&rt, &lock));
+    let first = starve(&rt, &lock);
+    let second = starve(&rt, &lock);
     shows(&rt, &lock, STARVED);
     let first = first.try_lock_fair().err().expect(&rt, "two starve");
     shows(&rt, &lock, STARVED);
@@ -110,17 +111,15 @@ fn a_forgotten_starver_keeps_newcomers_away(rt: HostRuntime) {
 
 const STARVES: u32 = 100_000;
 
-// Each `starve` is granted, though others change the word.
-fn starve_often<R: Abort + Wait>(rt: &R, lock: &FairMutex<u64>) {
-    for _ in 0..STARVES {
-        drop(starve(rt, lock));
-    }
-}
-
 #[test]
 fn a_starver_that_lost_a_race_tries_again(rt: HostRuntime) {
     let lock: FairMutex<u64> = FairMutex::new(1);
-    let starve_in_one = |_index: usize| starve_often(&rt, &lock);
-    thread::map_indices(&rt, rt.alloc(), 2, &starve_in_one).expect(&rt, "memory");
+    // Each `starve` is granted, though others change the word.
+    let starve_often = |_index: usize| {
+        for _ in 0..STARVES {
+            drop(starve(&rt, &lock));
+        }
+    };
+    thread::map_indices(&rt, rt.alloc(), 2, &starve_often).expect(&rt, "memory");
     shows(&rt, &lock, OPEN);
 }

@@ -11,14 +11,10 @@ fn made_from<T: Copy, R: Wait>(rt: &R, once: &Once<T>, from: &Once<T>) -> T {
     *once.call_once(rt, || *from.wait(rt))
 }
 
-fn count(runs: &Cell<u32>) {
-    runs.set(runs.get().wrapping_add(1));
-}
-
 // By a closure that gives the value.
 fn make<R: Wait>(rt: &R, once: &Once<u64>, runs: &Cell<u32>, value: u64) -> u64 {
     let give = || {
-        count(runs);
+        runs.set(runs.get().wrapping_add(1));
         value
     };
     *once.call_once(rt, give)
@@ -27,7 +23,7 @@ fn make<R: Wait>(rt: &R, once: &Once<u64>, runs: &Cell<u32>, value: u64) -> u64 
 // By a closure that gives none.
 fn fail<R: Wait>(rt: &R, once: &Once<u64>, runs: &Cell<u32>) -> Result<u64, ()> {
     let give = || {
-        count(runs);
+        runs.set(runs.get().wrapping_add(1));
         Err(())
     };
     once.try_call_once(rt, give).copied()

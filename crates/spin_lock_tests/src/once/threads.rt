@@ -4,24 +4,21 @@ use crate::equal::equal;
 use spin_core::relax::{RelaxStrategy, Yield};
 use spin_once::lazylock::LazyLock;
 use spin_once::once::Once;
-use std::sync::Wait;
 use std::sync::atomic::AtomicU64;
 use std::sync::atomic::Ordering::SeqCst;
 use std::thread;
-
-fn ask<R: Wait>(rt: &R, once: &Once<u64, Yield>, runs: &AtomicU64, number: u64) -> u64 {
-    let value = once.call_once(rt, || {
-        runs.fetch_add(1, SeqCst);
-        number
-    });
-    *value
-}
 
 #[test]
 fn ten_that_call_at_once_run_one_closure(rt: HostRuntime) {
     let once: Once<u64, Yield> = Once::new();
     let runs = AtomicU64::new(0);
-    let call = |index: usize| ask(&rt, &once, &runs, index as u64);
+    let call = |index: usize| {
+        let value = once.call_once(&rt, || {
+            runs.fetch_add(1, SeqCst);
+            index as u64
+        });
+        *value
+    };
     let values = thread::map_indices(&rt, rt.alloc(), 10, &call).expect(&rt, "memory");
     let value = *once.get().expect(&rt, "all have called");
     equal(&rt, values.as_slice(), [value; 10].as_slice());

@@ -37,21 +37,17 @@ impl Shared {
         self.begun.fetch_add(1, SeqCst)
     }
 
-    fn come(&self) {
-        self.came.fetch_add(1, SeqCst);
-    }
-
     // Comes while the closure runs, with another.
     fn call<R: Wait>(&self, rt: &R) -> u64 {
         await_number(rt, &self.begun, 1);
-        self.come();
+        self.came.fetch_add(1, SeqCst);
         *self.once.call_once(rt, || self.begin())
     }
 
     // Likewise, with one that fails.
     fn try_call<R: Wait>(&self, rt: &R) -> Option<u64> {
         await_number(rt, &self.begun, 1);
-        self.come();
+        self.came.fetch_add(1, SeqCst);
         let value = self.once.try_call_once(rt, || Err(self.begin()));
         value.ok().copied()
     }
@@ -60,7 +56,7 @@ impl Shared {
     fn poll<R: Wait>(&self, rt: &R) -> Option<u64> {
         await_number(rt, &self.begun, 1);
         let is_early = self.once.get().is_none();
-        self.come();
+        self.came.fetch_add(1, SeqCst);
         let value = self.once.poll(rt).copied();
         if is_early { value } else { None }
     }
@@ -70,7 +66,7 @@ impl Shared {
             0 => Some(self.make(rt)),
             // It waits from before a closure runs.
             1 => {
-                self.come();
+                self.came.fetch_add(1, SeqCst);
                 Some(*self.once.wait(rt))
             }
             2 => Some(self.call(rt)),
