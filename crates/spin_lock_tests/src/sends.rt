@@ -28,37 +28,37 @@ macro_rules! travels {
     }};
 }
 
-fn travel<T: Send + 'static, R: 'static>() {
-    travels!(SpinMutex<T, R>, SpinMutexGuard<'static, T, R>, mutex::spin::Held<'static, T, R>);
-    travels!(TicketMutex<T, R>, TicketMutexGuard<'static, T, R>, mutex::ticket::Held<'static, T, R>);
-    travels!(FairMutex<T, R>, FairMutexGuard<'static, T, R>, mutex::fair::Held<'static, T, R>);
-    is_send::<Starvation<'static, T, R>>();
-    is_sync::<Starvation<'static, T, R>>();
-    travels!(Mutex<T, R>, MutexGuard<'static, T, R>, mutex::Held<'static, T, R>);
+fn travel<'a, T: Send + 'a, R: 'a>() {
+    travels!(SpinMutex<T, R>, SpinMutexGuard<'a, T, R>, mutex::spin::Held<'a, T, R>);
+    travels!(TicketMutex<T, R>, TicketMutexGuard<'a, T, R>, mutex::ticket::Held<'a, T, R>);
+    travels!(FairMutex<T, R>, FairMutexGuard<'a, T, R>, mutex::fair::Held<'a, T, R>);
+    is_send::<Starvation<'a, T, R>>();
+    is_sync::<Starvation<'a, T, R>>();
+    travels!(Mutex<T, R>, MutexGuard<'a, T, R>, mutex::Held<'a, T, R>);
     is_send::<RwLock<T, R>>();
     is_send::<Once<T, R>>();
 }
 
-fn are_shared<T: Sync + 'static, R: 'static>() {
-    is_sync::<SpinMutexGuard<'static, T, R>>();
-    is_sync::<TicketMutexGuard<'static, T, R>>();
-    is_sync::<FairMutexGuard<'static, T, R>>();
-    is_sync::<MutexGuard<'static, T, R>>();
-    is_sync::<RwLockReadGuard<'static, T, R>>();
-    is_sync::<RwLockUpgradableGuard<'static, T, R>>();
-    is_sync::<RwLockWriteGuard<'static, T, R>>();
+fn are_shared<'a, T: Sync + 'a, R: 'a>() {
+    is_sync::<SpinMutexGuard<'a, T, R>>();
+    is_sync::<TicketMutexGuard<'a, T, R>>();
+    is_sync::<FairMutexGuard<'a, T, R>>();
+    is_sync::<MutexGuard<'a, T, R>>();
+    is_sync::<RwLockReadGuard<'a, T, R>>();
+    is_sync::<RwLockUpgradableGuard<'a, T, R>>();
+    is_sync::<RwLockWriteGuard<'a, T, R>>();
 }
 
 // What lends its value to several threads. An initialiser need not be shared, since nobody reads it through a `&`.
-fn travel_and_are_shared<T: Send + Sync + 'static, F: Send, R: 'static>() {
+fn travel_and_are_shared<'a, T: Send + Sync + 'a, F: Send, R: 'a>() {
     is_sync::<RwLock<T, R>>();
-    is_send::<RwLockReadGuard<'static, T, R>>();
-    is_send::<RwLockUpgradableGuard<'static, T, R>>();
-    is_send::<RwLockWriteGuard<'static, T, R>>();
-    is_send::<ReadHeld<'static, T, R>>();
-    is_sync::<ReadHeld<'static, T, R>>();
-    is_send::<WriteHeld<'static, T, R>>();
-    is_sync::<WriteHeld<'static, T, R>>();
+    is_send::<RwLockReadGuard<'a, T, R>>();
+    is_send::<RwLockUpgradableGuard<'a, T, R>>();
+    is_send::<RwLockWriteGuard<'a, T, R>>();
+    is_send::<ReadHeld<'a, T, R>>();
+    is_sync::<ReadHeld<'a, T, R>>();
+    is_send::<WriteHeld<'a, T, R>>();
+    is_sync::<WriteHeld<'a, T, R>>();
     is_sync::<Once<T, R>>();
     is_send::<LazyLock<T, F, R>>();
     is_sync::<LazyLock<T, F, R>>();
