@@ -1,4 +1,4 @@
-//! For tests of when a `lock` that waits comes to starve, of the crates above.
+//! For tests of when a waiting `lock` starves. Begin at [`look_and_try`].
 ghost use Rattle.std.specs.Prelude.{IfOk};
 ghost use Rattle.spin_guard.specs.Guard.{IsHolder};
 ghost use Rattle.spin_fair.specs.Fair.{use_of_view};
@@ -7,10 +7,18 @@ use crate::fair::{FairMutex, FairMutexGuard};
 use spin_core::relax::RelaxStrategy;
 use std::sync::Wait;
 
-/// Made for tests: makes one of the attempts that a `lock` repeats while it waits, after `spins` looks that found the
-/// lock held. Returns the number of these looks where it gets no guard. An attempt that starves waits for its guard.
+/// Makes one of the attempts that a waiting `lock` repeats, after `spins` looks that found the lock held.
 ///
-/// No caller can count the looks of `lock` itself: a strategy has nothing to count in.
+/// It is made for tests, since no caller can count the looks of `lock` itself: a strategy has nothing to count in.
+/// Without a guard it returns the new number of looks. An attempt that starves waits for its guard.
+///
+/// # Contract
+/// The guard belongs to a holder of the lock (`IsHolder`).
+///
+/// # Examples
+/// ```
+/// equal(&rt, look_and_try(&rt, &lock, 5).err(), Some(5));
+/// ```
 pub fn look_and_try<'a, T, R: RelaxStrategy, W: Wait>(
     rt: &W,
     lock: &'a FairMutex<T, R>,
