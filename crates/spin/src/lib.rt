@@ -50,9 +50,11 @@ pub type Mutex<T> = mutex::Mutex<T, Spin>;
 ///
 /// # Examples
 /// ```
-/// let limit = RwLock::new(3);
-/// assert_eq!(rt; (raise(&rt, &limit, 2), raise(&rt, &limit, 4)), (3, 4));
-/// assert_eq!(rt; limit.into_inner(), 4);
+/// let lock: RwLock<u64> = RwLock::new(1);
+/// let (first, second) = thread::join(&rt, || lock.read(&rt), || lock.read(&rt));
+/// let refused = lock.try_write().is_none();
+/// equal(&rt, (*first, *second), (1, 1));
+/// equal(&rt, (lock.reader_count(), refused), (2, true));
 /// ```
 pub type RwLock<T> = rwlock::RwLock<T, Spin>;
 
@@ -92,10 +94,10 @@ pub type RwLockWriteGuard<'a, T> = rwlock::RwLockWriteGuard<'a, T, Spin>;
 ///
 /// # Examples
 /// ```
-/// let port: Once<u16> = Once::new();
-/// assert!(rt; port_of(&rt, &port, "no port").is_err());
-/// assert_eq!(rt; port_of(&rt, &port, "80").ok().copied(), Some(80));
-/// assert_eq!(rt; port_of(&rt, &port, "none").ok().copied(), Some(80));
+/// let once: Once<u64> = Once::new();
+/// equal(&rt, *once.call_once(&rt, || 6), 6);
+/// let unit: Once = Once::initialized(());
+/// equal(&rt, unit.is_completed(), true);
 /// ```
 pub type Once<T = ()> = once::Once<T, Spin>;
 

@@ -25,7 +25,7 @@ pub use spin_step::fair::LockRejectReason;
 /// # Examples
 /// ```
 /// let seen = thread::join(&rt, || looks_until_it_enters(&rt, &lock), let_go);
-/// assert_eq!(rt; seen, (STARVATION_SPINS + 2, true));
+/// equal(&rt, seen, (STARVATION_SPINS + 2, true));
 /// ```
 pub const STARVATION_SPINS: usize = 1024;
 
@@ -74,14 +74,15 @@ pub type FairMutexGuard<'a, T, R = Spin> = Guard<'a, T, View, FairRule, R>;
 /// `held_value` is the value that the guard had.
 ///
 /// # Examples
-/// ```
-/// fn hold(guard: Self::Guard) -> Self::Held {
-///     FairMutexGuard::hold(guard)
-/// }
+/// A test of each mutex, here with `FairMutex` as `$Lock` and `FairMutexGuard` as `$Guard`:
 ///
-/// fn force_unlock(held: Self::Held) {
-///     FairMutex::force_unlock(held);
-/// }
+/// ```
+/// let mut guard = lock.lock($rt);
+/// *guard = 3;
+/// let held = $Guard::hold(guard);
+/// let refused = lock.try_lock().is_none();
+/// $Lock::force_unlock(held);
+/// (refused, *lock.try_lock().expect($rt, "open"))
 /// ```
 pub type Held<'a, T, R = Spin> = guard::Held<'a, T, View, FairRule, R>;
 
@@ -93,9 +94,9 @@ impl<T, R> FairMutex<T, R> {
     ///
     /// # Examples
     /// ```
-    /// let fair = FairMutex::new(7);
-    /// add_starving(&rt, &fair);
-    /// assert_eq!(rt; fair.into_inner(), 8);
+    /// let lock: FairMutex<u64> = FairMutex::new(5);
+    /// debug_is(&rt, &lock, "FairMutex { data: 5 }");
+    /// equal(&rt, lock.is_locked(), false);
     /// ```
     pub fn new(value: T) -> Self {
         let cell = Cell::new(value, 0, (), &());
@@ -116,7 +117,7 @@ impl<T, R> FairMutex<T, R> {
     /// ```
     /// let fair = FairMutex::new(7);
     /// add_starving(&rt, &fair);
-    /// assert_eq!(rt; fair.into_inner(), 8);
+    /// equal(&rt, fair.into_inner(), 8);
     /// ```
     pub fn into_inner(self) -> T {
         self.cell.into_inner()
@@ -199,7 +200,7 @@ impl<T, R> FairMutex<T, R> {
     ///
     /// # Examples
     /// ```
-    /// fn refusal<R>(lock: &FairMutex<u64, R>) -> Option<LockRejectReason> {
+    /// pub fn refusal<R>(lock: &FairMutex<u64, R>) -> Option<LockRejectReason> {
     ///     lock.try_lock_starver().err()
     /// }
     /// ```
@@ -271,10 +272,15 @@ impl<T, R> FairMutex<T, R> {
     /// No clause. The call returns.
     ///
     /// # Examples
+    /// A test of each mutex, here with `FairMutex` as `$Lock` and `FairMutexGuard` as `$Guard`:
+    ///
     /// ```
-    /// fn force_unlock(held: Self::Held) {
-    ///     FairMutex::force_unlock(held);
-    /// }
+    /// let mut guard = lock.lock($rt);
+    /// *guard = 3;
+    /// let held = $Guard::hold(guard);
+    /// let refused = lock.try_lock().is_none();
+    /// $Lock::force_unlock(held);
+    /// (refused, *lock.try_lock().expect($rt, "open"))
     /// ```
     pub fn force_unlock(held: Held<'_, T, R>) {
         held.release();
@@ -289,9 +295,8 @@ impl<T, R> FairMutex<T, R> {
     ///
     /// # Examples
     /// ```
-    /// *lock.get_mut() = 5;
-    /// let seen = write_after_the_owner(&lock);
-    /// let last = *lock.get_mut();
+    /// *lock.get_mut() = 43;
+    /// equal(&rt, lock.is_locked(), false);
     /// ```
     pub fn get_mut(&mut self) -> &mut T {
         self.cell.get_mut()

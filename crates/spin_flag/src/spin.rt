@@ -127,9 +127,9 @@ impl<T, R: RelaxStrategy> SpinMutex<T, R> {
     ///
     /// # Examples
     /// ```
-    /// let guard = spin.lock(&rt);
-    /// assert_eq!(rt; any_lock::try_count(&spin), None);
-    /// drop(guard);
+    /// let lock: SpinMutex<u64> = SpinMutex::new(4);
+    /// let guard: SpinMutexGuard<u64> = lock.lock(&rt);
+    /// equal(&rt, *guard, 4);
     /// ```
     pub fn lock<W: Wait>(&self, rt: &W) -> SpinMutexGuard<'_, T, R>
         ensures { IsHolder use_of_view result }
@@ -185,8 +185,9 @@ impl<T, R> SpinMutex<T, R> {
     ///
     /// # Examples
     /// ```
+    /// let lock: SpinMutex<u64> = SpinMutex::new(1);
     /// let guard = lock.lock(&rt);
-    /// assert!(rt; lock.try_lock_weak().is_none());
+    /// let refused = lock.try_lock_weak().is_none();
     /// drop(guard);
     /// ```
     pub fn try_lock_weak<'a>(&'a self) -> Option<SpinMutexGuard<'a, T, R>>
@@ -204,10 +205,11 @@ impl<T, R> SpinMutex<T, R> {
     ///
     /// # Examples
     /// ```
+    /// let lock = SpinMutex::new(7);
     /// let held = take(&rt, &lock);
-    /// assert!(rt; lock.is_locked());
+    /// equal(&rt, lock.is_locked(), true);
     /// give_back(held);
-    /// assert!(rt; !lock.is_locked());
+    /// equal(&rt, lock.is_locked(), false);
     /// ```
     pub fn is_locked(&self) -> bool {
         is_set(self.cell.enter().look::<Look>())
@@ -239,9 +241,8 @@ impl<T, R> SpinMutex<T, R> {
     ///
     /// # Examples
     /// ```
-    /// *lock.get_mut() = 5;
-    /// let seen = write_after_the_owner(&lock);
-    /// let last = *lock.get_mut();
+    /// *lock.get_mut() = 43;
+    /// equal(&rt, lock.is_locked(), false);
     /// ```
     pub fn get_mut(&mut self) -> &mut T {
         self.cell.get_mut()

@@ -158,8 +158,14 @@ impl<'a, T, V, P: Release<T, V>, R> Guard<'a, T, V, P, R> {
     /// The reference has the value of the guard. The call returns.
     ///
     /// # Examples
+    /// A test of each mutex, here with `SpinMutexGuard` as `$Guard`:
+    ///
     /// ```
-    /// let _ = SpinMutexGuard::leak(self.lock(rt));
+    /// let value = $Guard::leak(lock.lock($rt));
+    /// *value = 7;
+    /// let refused = lock.try_lock().is_none();
+    /// *value = 9;
+    /// (refused, lock.into_inner())
     /// ```
     pub fn leak(this: Self) -> &'a mut T
         ensures { result.now ≡ guard_value this.entry }

@@ -74,14 +74,15 @@ pub struct MutexGuard<'a, T, R = Spin> {
 /// `held_value` is the value that the guard had.
 ///
 /// # Examples
-/// ```
-/// fn hold(guard: Self::Guard) -> Self::Held {
-///     MutexGuard::hold(guard)
-/// }
+/// A test of each mutex, here with `Mutex` as `$Lock` and `MutexGuard` as `$Guard`:
 ///
-/// fn force_unlock(held: Self::Held) {
-///     Mutex::force_unlock(held);
-/// }
+/// ```
+/// let mut guard = lock.lock($rt);
+/// *guard = 3;
+/// let held = $Guard::hold(guard);
+/// let refused = lock.try_lock().is_none();
+/// $Lock::force_unlock(held);
+/// (refused, *lock.try_lock().expect($rt, "open"))
 /// ```
 #[derive(Drop)]
 pub struct Held<'a, T, R = Spin> {
@@ -155,8 +156,10 @@ impl<T, R> Mutex<T, R> {
     ///
     /// # Examples
     /// ```
-    /// let lock: Mutex<u64> = Mutex::new(5);
-    /// let guard = lock.try_lock().expect(&rt, "open");
+    /// match self.try_lock() {
+    ///     Some(mut guard) => Ok(by(&mut *guard)),
+    ///     None => Err(by),
+    /// }
     /// ```
     pub fn try_lock(&self) -> Option<MutexGuard<'_, T, R>>
         ensures { IfSome result (λ guard. holds guard) }
@@ -192,10 +195,15 @@ impl<T, R> Mutex<T, R> {
     /// No clause. The call returns.
     ///
     /// # Examples
+    /// A test of each mutex, here with `Mutex` as `$Lock` and `MutexGuard` as `$Guard`:
+    ///
     /// ```
-    /// fn force_unlock(held: Self::Held) {
-    ///     Mutex::force_unlock(held);
-    /// }
+    /// let mut guard = lock.lock($rt);
+    /// *guard = 3;
+    /// let held = $Guard::hold(guard);
+    /// let refused = lock.try_lock().is_none();
+    /// $Lock::force_unlock(held);
+    /// (refused, *lock.try_lock().expect($rt, "open"))
     /// ```
     pub fn force_unlock(held: Held<'_, T, R>) {
         let Held { inner } = held;
@@ -235,8 +243,14 @@ impl<'a, T, R> MutexGuard<'a, T, R> {
     /// The reference has the value of the guard. The call returns.
     ///
     /// # Examples
+    /// A test of each mutex, here with `MutexGuard` as `$Guard`:
+    ///
     /// ```
-    /// let _ = MutexGuard::leak(self.lock(rt));
+    /// let value = $Guard::leak(lock.lock($rt));
+    /// *value = 7;
+    /// let refused = lock.try_lock().is_none();
+    /// *value = 9;
+    /// (refused, lock.into_inner())
     /// ```
     pub fn leak(this: Self) -> &'a mut T
         ensures { result.now ≡ value_of this.entry }
@@ -251,10 +265,15 @@ impl<'a, T, R> MutexGuard<'a, T, R> {
     /// `held_value` of the hold is the value of the guard. The call returns.
     ///
     /// # Examples
+    /// A test of each mutex, here with `Mutex` as `$Lock` and `MutexGuard` as `$Guard`:
+    ///
     /// ```
-    /// fn hold(guard: Self::Guard) -> Self::Held {
-    ///     MutexGuard::hold(guard)
-    /// }
+    /// let mut guard = lock.lock($rt);
+    /// *guard = 3;
+    /// let held = $Guard::hold(guard);
+    /// let refused = lock.try_lock().is_none();
+    /// $Lock::force_unlock(held);
+    /// (refused, *lock.try_lock().expect($rt, "open"))
     /// ```
     pub fn hold(this: Self) -> Held<'a, T, R>
         ensures { held_value result ≡ Some (value_of this.entry) }

@@ -61,8 +61,8 @@ impl<T, R> RwLock<T, R> {
     /// # Examples
     /// ```
     /// let limit = RwLock::new(3);
-    /// assert_eq!(rt; (raise(&rt, &limit, 2), raise(&rt, &limit, 4)), (3, 4));
-    /// assert_eq!(rt; limit.into_inner(), 4);
+    /// equal(&rt, (raise(&rt, &limit, 2), raise(&rt, &limit, 4)), (3, 4));
+    /// equal(&rt, limit.into_inner(), 4);
     /// ```
     pub fn new(value: T) -> Self {
         RwLock {
@@ -80,8 +80,9 @@ impl<T, R> RwLock<T, R> {
     ///
     /// # Examples
     /// ```
+    /// let mut lock: RwLock<u64> = RwLock::new(1);
     /// *lock.get_mut() = 5;
-    /// is_free(&rt, &lock);
+    /// shows(&rt, &lock, FREE, [0, 0]);
     /// equal(&rt, lock.into_inner(), 5);
     /// ```
     pub fn get_mut(&mut self) -> &mut T {
@@ -219,10 +220,10 @@ impl<T, R> RwLock<T, R> {
     /// let first = RwLockReadGuard::hold(lock.read(&rt));
     /// let second = RwLockReadGuard::hold(lock.read(&rt));
     /// let third = RwLockReadGuard::hold(lock.read(&rt));
-    /// is_read_by(&rt, &lock, 3);
+    /// shows(&rt, &lock, READ, [3, 0]);
     /// RwLock::force_read_decrement(first);
     /// RwLock::force_read_decrement(second);
-    /// is_read_by(&rt, &lock, 1);
+    /// shows(&rt, &lock, READ, [1, 0]);
     /// ```
     pub fn force_read_decrement(held: ReadHeld<'_, T, R>) {
         held.release();
@@ -238,9 +239,10 @@ impl<T, R> RwLock<T, R> {
     /// # Examples
     /// ```
     /// let held = RwLockWriteGuard::hold(writer);
-    /// is_written(&rt, &lock);
+    /// shows(&rt, &lock, WRITTEN, [0, 1]);
     /// RwLock::force_write_unlock(held);
-    /// is_free(&rt, &lock);
+    /// shows(&rt, &lock, FREE, [0, 0]);
+    /// equal(&rt, lock.into_inner(), 58);
     /// ```
     pub fn force_write_unlock(held: WriteHeld<'_, T, R>) {
         held.release();
@@ -292,8 +294,8 @@ impl<T, R, P: Rule<T, View>> RwLock<T, R, P> {
     /// # Examples
     /// ```
     /// let limit = RwLock::new(3);
-    /// assert_eq!(rt; (raise(&rt, &limit, 2), raise(&rt, &limit, 4)), (3, 4));
-    /// assert_eq!(rt; limit.into_inner(), 4);
+    /// equal(&rt, (raise(&rt, &limit, 2), raise(&rt, &limit, 4)), (3, 4));
+    /// equal(&rt, limit.into_inner(), 4);
     /// ```
     pub fn into_inner(self) -> T {
         self.cell.into_inner()

@@ -56,8 +56,10 @@ pub type RwLockReadGuard<'a, T, R = Spin> = SharedGuard<'a, T, Reader, R>;
 /// # Examples
 /// ```
 /// let third = RwLockReadGuard::hold(lock.read(&rt));
-/// is_read_by(&rt, &lock, 3);
+/// shows(&rt, &lock, READ, [3, 0]);
 /// RwLock::force_read_decrement(first);
+/// RwLock::force_read_decrement(second);
+/// shows(&rt, &lock, READ, [1, 0]);
 /// ```
 pub struct ReadHeld<'a, T, R = Spin> {
     permit: Permit<'a, T, View, RwRule<T>>,
@@ -88,8 +90,11 @@ impl<'a, T, K: Kind, R> SharedGuard<'a, T, K, R> {
     ///
     /// # Examples
     /// ```
+    /// let mut lock: RwLock<u64> = RwLock::new(1);
     /// let value = *RwLockReadGuard::leak(lock.read(&rt));
-    /// is_read_by(&rt, &lock, 1);
+    /// shows(&rt, &lock, READ, [1, 0]);
+    /// *lock.get_mut() = 5;
+    /// equal(&rt, (value, lock.into_inner()), (1, 5));
     /// ```
     pub fn leak(this: Self) -> &'a T
         ensures { Some result.now ≡ shared_value this.entry }
@@ -116,8 +121,9 @@ impl<'a, T, R> SharedGuard<'a, T, Reader, R> {
     ///
     /// # Examples
     /// ```
-    /// drop(RwLockReadGuard::hold(lock.read(&rt)));
-    /// is_read_by(&rt, &lock, 1);
+    /// let read: RwLock<u64> = RwLock::new(1);
+    /// drop(RwLockReadGuard::hold(read.read(&rt)));
+    /// shows(&rt, &read, READ, [1, 0]);
     /// ```
     pub fn hold(this: Self) -> ReadHeld<'a, T, R>
         ensures { read_held_value result ≡ shared_value this.entry }

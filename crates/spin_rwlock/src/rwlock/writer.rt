@@ -44,9 +44,9 @@ pub struct RwLockWriteGuard<'a, T, R = Spin> {
 /// # Examples
 /// ```
 /// let held = RwLockWriteGuard::hold(writer);
-/// is_written(&rt, &lock);
+/// shows(&rt, &lock, WRITTEN, [0, 1]);
 /// RwLock::force_write_unlock(held);
-/// is_free(&rt, &lock);
+/// shows(&rt, &lock, FREE, [0, 0]);
 /// ```
 pub struct WriteHeld<'a, T, R = Spin> {
     permit: Permit<'a, T, View, RwRule<T>>,
@@ -113,8 +113,9 @@ impl<'a, T, R> RwLockWriteGuard<'a, T, R> {
     ///
     /// # Examples
     /// ```
+    /// let written: RwLock<u64> = RwLock::new(1);
     /// *RwLockWriteGuard::leak(written.write(&rt)) = 7;
-    /// is_written(&rt, &written);
+    /// shows(&rt, &written, WRITTEN, [0, 1]);
     /// ```
     pub fn leak(this: Self) -> &'a mut T
         ensures { result.now ≡ write_value this.entry }
@@ -129,8 +130,9 @@ impl<'a, T, R> RwLockWriteGuard<'a, T, R> {
     ///
     /// # Examples
     /// ```
-    /// let held = RwLockWriteGuard::hold(writer);
-    /// is_written(&rt, &lock);
+    /// let written: RwLock<u64> = RwLock::new(1);
+    /// drop(RwLockWriteGuard::hold(written.write(&rt)));
+    /// shows(&rt, &written, WRITTEN, [0, 1]);
     /// ```
     pub fn hold(this: Self) -> WriteHeld<'a, T, R>
         ensures { write_held_value result ≡ Some (write_value this.entry) }
