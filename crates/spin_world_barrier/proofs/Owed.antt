@@ -4,7 +4,7 @@ use Rattle.std.specs.Prelude.{max}
 use Rattle.std.proofs.lemmas.Bool.{false≢true, true≢false, ne_eqb}
 use Rattle.std.proofs.Math.Bool.{or-false}
 use Rattle.std.proofs.Math.Nat.{mod-le, div-le_self}
-use Rattle.spin_step.specs.Plain.{Plain, Change, gets, arrives, Ask, to_read, apply, count_word, generation_word}
+use Rattle.spin_step.specs.Plain.{Plain, Change, arrives, apply, count_word, generation_word}
 use Rattle.spin_step.specs.Parties.{apply_some}
 use Rattle.spin_step.specs.Barriers.{IsBarrier, is_leading, generation_at, may_leave}
 use Rattle.spin_step.proofs.Barriers.{barrier_arrive-words, barrier_count-below, barrier_may_leave-tells, barrier_may_leave-full}
@@ -17,7 +17,8 @@ use Rattle.spin_world_barrier.specs.declared.barrier.BarrierCall.{BarrierCall}
 use Rattle.spin_world_barrier.specs.declared.barrier.BarrierPoint.{BarrierPoint}
 use Rattle.spin_world_barrier.specs.declared.barrier.BarrierPoint.TheVariants.{Arrive, Leave}
 use Rattle.spin_world_core.specs.Manners.{Manner, plain}
-use Rattle.spin_world_core.specs.Calls.{barrier, BelongsTo, may_be_got, Mark, meets, follows, AnyOf, Arrives}
+use Rattle.spin_world_core.specs.Calls.{BelongsTo, Mark, meets, follows, AnyOf, Arrives}
+use Rattle.spin_world_barrier.specs.Kind.{barrier}
 use Rattle.spin_world_core.specs.Undisturbed.{arrived}
 use Rattle.spin_world_core.specs.Acts.{either, begin_of}
 use Rattle.spin_world_core.specs.Runs.{mark_of}
@@ -62,13 +63,8 @@ barrier_notes n = record { Shape = λ s. IsOf n s; point = λ c l h. point_of l 
 
 -- only arrivals are made here
 
-got_none : (ask : Ask) → may_be_got barrier ask ≡ false
-got_none to_read = refl
-got_none _ = refl
-
 by_arrival : (P : Option Change → Type 0) → P None → ((p : ℕ) → P (Some (arrives p))) → (step : Option Change) → BelongsTo barrier step → P step
 by_arrival P none one None belongs = none
-by_arrival P none one (Some (gets p ask)) belongs = absurd (false≢true (sym (got_none ask) ∙ belongs))
 by_arrival P none one (Some (arrives p)) belongs = one p
 by_arrival P none one (Some _) belongs = absurd (false≢true belongs)
 

@@ -10,7 +10,8 @@ use Rattle.spin_world_barrier.specs.declared.barrier.BarrierWords.{BarrierWords}
 use Rattle.spin_world_barrier.specs.declared.barrier.BarrierCall.{BarrierCall}
 use Rattle.spin_world_barrier.specs.declared.barrier.BarrierPoint.{BarrierPoint}
 use Rattle.spin_world_barrier.specs.declared.barrier.BarrierPoint.TheVariants.{Arrive, Leave}
-use Rattle.spin_world_core.specs.Calls.{barrier, meets, says_of}
+use Rattle.spin_world_core.specs.Calls.{meets, says_of}
+use Rattle.spin_world_barrier.specs.Kind.{barrier}
 use Rattle.spin_world_core.specs.Machines.{Machine}
 use Rattle.spin_world_core.specs.Acts.{Memory, two_numbers, Act, load_if, section, either, Table, machine_of}
 
@@ -51,7 +52,7 @@ barrier_table n =
       words = record { count = 0; generation = 0 };
       value = None;
       owned = false;
-      coding = barrier;
+      lock_kind = barrier;
       cap = 0;
       group = n;
       first = 0;

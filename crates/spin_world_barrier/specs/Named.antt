@@ -4,12 +4,13 @@ use Rattle.spin_world_core.specs.declared.place.Hold.{Hold}
 use Rattle.spin_world_core.specs.declared.answer.Answer.{Answer}
 use Rattle.spin_world_barrier.specs.declared.barrier.BarrierWords.{BarrierWords}
 use Rattle.spin_world_barrier.specs.declared.barrier.BarrierCall.TheVariants.{Wait}
-use Rattle.spin_world_core.specs.Calls.{barrier, meets, says_of}
+use Rattle.spin_world_core.specs.Calls.{meets, says_of}
+use Rattle.spin_world_barrier.specs.Kind.{barrier}
 use Rattle.spin_world_barrier.specs.Barrier.{BarrierMachine}
 
 -- groups of n
 pub record IsBarrierOf (n : ℕ) (m : BarrierMachine) : Type 0 where
-  pub coding : m.coding ≡ barrier
+  pub lock_kind : m.lock_kind ≡ barrier
   pub group : m.group ≡ n
   -- nobody has arrived, and no group has been filled
   pub opens_empty : m.words ≡ record { count = 0; generation = 0 }

@@ -40,7 +40,7 @@ counts m s p c l h plain (GoesOn l') None r counted = counted
 counts m s p c l h plain _ _ r counted = tt
 
 dues : {W V C L A : Type 0} (m : Machine W V C L A) (s : State W V C L) (p : ℕ) (c : C) (h : Option Hold) (plain : Plain) (span : List Mark) (next : Next L A) (step : Option Change) (r : Manner)
-    → Gets m.coding p (m.asks c h) span plain step r → GetsWhenDue {C = C} {V = V} m.coding p (goes_on s p c h next).outcome Step (Some (m.asks c h)) span plain step r
+    → Gets m.lock_kind p (m.asks c h) span plain step r → GetsWhenDue {C = C} {V = V} m.lock_kind p (goes_on s p c h next).outcome Step (Some (m.asks c h)) span plain step r
 dues m s p c h plain span (GoesOn l') step r due = due
 dues m s p c h plain span (Answers a rest) step r due = due
 
@@ -51,7 +51,7 @@ tries_all m s p c h plain span (GoesOn l') (Some d) may = tt
 tries_all m s p c h plain span (Answers a rest) step may = tt
 
 -- a weak refusal is neither due nor a try's
-weakly_due : {W V C L A : Type 0} (m : Machine W V C L A) (s : State W V C L) (p : ℕ) (c : C) (h : Option Hold) (plain : Plain) (span : List Mark) (next : Next L A) → GetsWhenDue {C = C} {V = V} m.coding p (goes_on s p c h next).outcome Weak (Some (m.asks c h)) span plain None manner.weak
+weakly_due : {W V C L A : Type 0} (m : Machine W V C L A) (s : State W V C L) (p : ℕ) (c : C) (h : Option Hold) (plain : Plain) (span : List Mark) (next : Next L A) → GetsWhenDue {C = C} {V = V} m.lock_kind p (goes_on s p c h next).outcome Weak (Some (m.asks c h)) span plain None manner.weak
 weakly_due m s p c h plain span (GoesOn l') = tt
 weakly_due m s p c h plain span (Answers a rest) = tt
 

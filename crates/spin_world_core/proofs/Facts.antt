@@ -34,25 +34,25 @@ KnowsAt k s p span _ = Unit {0}
 
 -- what holds where a party is about to step
 pub record InCall {W V C L A : Type 0} (m : Machine W V C L A) (k : LocalInvariant V C L) (p : ℕ) (c : C) (l : L) (h : Option Hold) (s : Plain) (v : Option V) (w : W) (span : List Mark) : Type 0 where
-  pub encodes : m.numbers w ≡ encoded m.coding s
+  pub encodes : m.numbers w ≡ encoded m.lock_kind s
   pub shape : k.Shape s v
   pub exclusive : IsExclusive s
   pub stands : entries p s ≡ entries_so_far p span (entries_held p h)
   pub knows : k.Knows c l h p s span
-  pub retries : failures p span ≤ changes m.coding p span
+  pub retries : failures p span ≤ changes m.lock_kind p span
 
 -- a call goes on so, by this step of its span
 pub record Goes {W V C L A : Type 0} (m : Machine W V C L A) (k : LocalInvariant V C L) (p : ℕ) (c : C) (l : L) (h : Option Hold) (s : Plain) (span : List Mark) : Type 0 where
   pub knows : k.Knows c l h p s span
   pub own_so_far : (said : Said) × AnyOf (λ steps. IsBeginning (own p span) steps) (own_steps (m.asks c h) said p)
-  pub in_time : GoesOnWithin (limit m.coding (m.asks c h)) m.coding p span
+  pub in_time : GoesOnWithin (limit m.lock_kind (m.asks c h)) m.lock_kind p span
 
 -- a call ends so
 pub record Ends {W V C L A : Type 0} (m : Machine W V C L A) (move : Move C V) (p : ℕ) (c : C) (h : Option Hold) (s : Plain) (span : List Mark) (a : A) (after : Option Hold) : Type 0 where
   pub stands : entries p s ≡ entries_held p after
   pub own_steps_are : AnyOf (λ steps. own p span ≡ steps) (own_steps (m.asks c h) (m.says a) p)
   pub right : RightAnswer m p span (outcome.Answered a None) (Some (m.asks c h)) move
-  pub in_time : EndsWithin (limit m.coding (m.asks c h)) m.coding p span
+  pub in_time : EndsWithin (limit m.lock_kind (m.asks c h)) m.lock_kind p span
 
 abbrev pub NextIs : {W V C L A : Type 0} → Machine W V C L A → LocalInvariant V C L → Move C V → ℕ → C → Option Hold → Plain → List Mark → Next L A → Type 0
 NextIs m k move p c h s span (GoesOn l) = Goes m k p c l h s span
@@ -61,13 +61,13 @@ NextIs m k move p c h s span (Answers a after) = Ends m move p c h s span a afte
 -- a step that makes this plain step
 pub record StepIs {W V C L A : Type 0} (m : Machine W V C L A) (k : LocalInvariant V C L) (p : ℕ) (c : C) (h : Option Hold) (s : Plain) (v : Option V) (span : List Mark) (st : Stepped W V L A) (step : Option Change) (manner : Manner) : Type 0 where
   pub opens : IsOpenStep s p step
-  pub belongs : BelongsTo m.coding step
-  pub encodes : m.numbers st.words ≡ encoded m.coding (apply_some s step)
+  pub belongs : BelongsTo m.lock_kind step
+  pub encodes : m.numbers st.words ≡ encoded m.lock_kind (apply_some s step)
   pub shape : k.Shape (apply_some s step) (placed st.placed v)
   pub places : placed st.placed v ≡ if_completed v st.placed step
   pub next : NextIs m k Step p c h (apply_some s step) (mark_of p step manner s ∷ span) st.next
   -- an exchange that fails and is made again does so by another party's change
-  pub fails : is_again manner ≡ true → step ≡ None → failures p span < changes m.coding p span
+  pub fails : is_again manner ≡ true → step ≡ None → failures p span < changes m.lock_kind p span
 
 -- from these words, at this point, the call is answered by its k-th step, if no other party steps
 abbrev pub AnswersWithin : {W V C L A : Type 0} → Machine W V C L A → ℕ → W → C → L → Option Hold → Type 0
@@ -77,7 +77,7 @@ AnswersWithin {V = V} {L = L} m (suc k) w c l h = (v : Option V) (l' : L) → (m
 -- what is said of values by how a call goes on, where this one lies there
 abbrev pub NextGives : {W V C L A : Type 0} → Machine W V C L A → Option V → Next L A → Type 0
 NextGives m value (GoesOn l) = Unit {0}
-NextGives m value (Answers a after) = Gives m.coding (m.says a) (m.gives a) value
+NextGives m value (Answers a after) = Gives m.lock_kind.makes_value (m.says a) (m.gives a) value
 
 pub record ValueIs {W V C L A : Type 0} (m : Machine W V C L A) (c : C) (v : Option V) (st : Stepped W V L A) (step : Option Change) : Type 0 where
   pub brings : (q : ℕ) → step ≡ Some (completes q) → placed st.placed v ≡ m.brings c
@@ -95,7 +95,7 @@ GoesOnCounted change s _ _ manner = Unit {0}
 
 pub record Facts {W V C L A : Type 0} (m : Machine W V C L A) (k : LocalInvariant V C L) : Type 0 where
   pub stepwise : Stepwise m
-  pub first : m.numbers m.words ≡ encoded m.coding (opening_plain m)
+  pub first : m.numbers m.words ≡ encoded m.lock_kind (opening_plain m)
   pub shape_first : k.Shape (opening_plain m) m.value
   -- equal numbers are equal words
   pub numbers_tell : (v w : W) → m.numbers v ≡ m.numbers w → v ≡ w
@@ -107,7 +107,7 @@ pub record Facts {W V C L A : Type 0} (m : Machine W V C L A) (k : LocalInvarian
   pub begins : (p : ℕ) (c : C) (l : L) (h : Option Hold) (s : Plain) → m.begin c h ≡ Some l → entries p s ≡ entries_held p h → k.Knows c l h p s []
   -- another party's step, of those that this kind of lock makes, leaves it true
   pub others : (p q : ℕ) (c : C) (l : L) (h : Option Hold) (s : Plain) (v : Option V) (step : Option Change) (manner : Manner) (span : List Mark)
-      → (q ≡ p → ⊥) → k.Shape s v → IsExclusive s → IsOpenStep s q step → BelongsTo m.coding step → k.Knows c l h p s span → k.Knows c l h p (apply_some s step) (mark_of q step manner s ∷ span)
+      → (q ≡ p → ⊥) → k.Shape s v → IsExclusive s → IsOpenStep s q step → BelongsTo m.lock_kind step → k.Knows c l h p s span → k.Knows c l h p (apply_some s step) (mark_of q step manner s ∷ span)
   -- the next step may be taken, and what it comes to
   pub can : (p : ℕ) (c : C) (l : L) (h : Option Hold) (s : Plain) (v : Option V) (w : W) (span : List Mark) → InCall m k p c l h s v w span → m.can w c l h ≡ true
   pub steps : (p : ℕ) (c : C) (l : L) (h : Option Hold) (s : Plain) (v : Option V) (w : W) (span : List Mark) → InCall m k p c l h s v w span
@@ -116,13 +116,13 @@ pub record Facts {W V C L A : Type 0} (m : Machine W V C L A) (k : LocalInvarian
       → GoesOnCounted (λ u. m.change p u c l h) s (m.step w v c l h).next (m.change p w c l h) (by_step (m.manner c l h))
   -- a call whose next step is due gets by it what it goes for, where that is open
   pub due : (p : ℕ) (c : C) (l : L) (h : Option Hold) (s : Plain) (v : Option V) (w : W) (span : List Mark) → InCall m k p c l h s v w span
-      → Gets m.coding p (m.asks c h) span s (m.change p w c l h) (by_step (m.manner c l h))
+      → Gets m.lock_kind p (m.asks c h) span s (m.change p w c l h) (by_step (m.manner c l h))
   -- a try goes on only where it may
   pub tries_on : (p : ℕ) (c : C) (l : L) (h : Option Hold) (s : Plain) (v : Option V) (w : W) (span : List Mark) → InCall m k p c l h s v w span
       → (ask : Ask) → m.asks c h ≡ tries ask → own p span ≡ [] → GoesOnOpen ask p span s (m.step w v c l h).next (m.change p w c l h)
   -- where what a call that may wait asks is open to it, it is answered by so many steps, if no other party steps
   pub undisturbed : (p : ℕ) (c : C) (l : L) (h : Option Hold) (s : Plain) (v : Option V) (w : W) (span : List Mark) → InCall m k p c l h s v w span
-      → is_open_now p (m.asks c h) span s ≡ true → AnswersWithin m (steps_alone m.coding (m.asks c h)) w c l h
+      → is_open_now p (m.asks c h) span s ≡ true → AnswersWithin m (steps_alone m.lock_kind (m.asks c h)) w c l h
   -- a closure completes only where nobody holds the lock
   pub completes_alone : (p : ℕ) (c : C) (l : L) (h : Option Hold) (s : Plain) (v : Option V) (w : W) (span : List Mark) → InCall m k p c l h s v w span
       → (q : ℕ) → m.change p w c l h ≡ Some (completes q) → is_held s ≡ false
@@ -133,7 +133,7 @@ pub record Facts {W V C L A : Type 0} (m : Machine W V C L A) (k : LocalInvarian
   pub weakly : (p : ℕ) (c : C) (l : L) (h : Option Hold) (s : Plain) (v : Option V) (w : W) (span : List Mark) (next : Next L A) → InCall m k p c l h s v w span
       → m.refuse c l h ≡ Some next → (may_be_weak (m.asks c h) ≡ true) × (own p span ≡ before_weakly (m.asks c h) p)
   -- values that closures make
-  pub phase : (s : Plain) (v : Option V) → k.Shape s v → HasPhase m.coding s.phase v
+  pub phase : (s : Plain) (v : Option V) → k.Shape s v → HasPhase m.lock_kind.makes_value s.phase v
   pub values : (p : ℕ) (c : C) (l : L) (h : Option Hold) (s : Plain) (v : Option V) (w : W) (span : List Mark) → InCall m k p c l h s v w span
       → ValueIs m c v (m.step w v c l h) (m.change p w c l h)
   pub refusal_gives : (p : ℕ) (c : C) (l : L) (h : Option Hold) (s : Plain) (v : Option V) (w : W) (span : List Mark) (next : Next L A) → InCall m k p c l h s v w span

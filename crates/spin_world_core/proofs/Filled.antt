@@ -11,13 +11,13 @@ use Rattle.spin_world_core.specs.declared.object.Next.TheVariants.{GoesOn, Answe
 use Rattle.spin_world_core.specs.declared.object.Stepped.{Stepped}
 use Rattle.spin_world_core.specs.declared.schedule.Move.TheVariants.{Step}
 use Rattle.spin_world_core.specs.Manners.{Manner, by_step}
-use Rattle.spin_world_core.specs.Calls.{Coding, once, encoded, own_steps, says_of, AnyOf, HasMoment, Mark, may_be_weak}
+use Rattle.spin_world_core.specs.Calls.{encoded, own_steps, says_of, AnyOf, HasMoment, Mark, may_be_weak}
 use Rattle.spin_world_core.specs.Machines.{Machine, opening_phase}
 use Rattle.spin_world_core.specs.Schedules.{placed}
 use Rattle.spin_world_core.specs.Runs.{mark_of, if_completed, is_writer, own}
 use Rattle.spin_world_core.specs.Acts.{Memory, Act, store, step_by, change_at, change_by, makes_by, is_completion, manner_by, Table, machine_of, completes_by, brought, with_value, filled, gives_of, machine_with}
-use Rattle.spin_world_core.specs.Values.{HasPhase, Gives}
 use Rattle.spin_world_core.specs.Undisturbed.{steps_alone}
+use Rattle.spin_world_core.specs.Values.{HasPhase, Gives}
 use Rattle.spin_world_core.proofs.Facts.{LocalInvariant, AnswersWithin, InCall, NextIs, NextGives, StepIs, Facts}
 use Rattle.spin_world_core.proofs.Operating.{change_is, open_filled, counted_filled, stepwise_with}
 use Rattle.spin_world_core.proofs.Shapes.{Notes, row_of, KnowsRow, keeping_of, goes_by, answers_by, Pays}
@@ -49,18 +49,18 @@ pub record PaysWith {W V C L : Type 0} (t : Table W V C L (Answer (Unit {0}))) (
   pub pays : Pays t n
   pub strong : (c : C) (h : Option Hold) → may_be_weak (t.asks c h) ≡ false
   pub says : (a : Answer (Unit {0})) → t.says a ≡ says_of a
-  pub phase_first : is_complete (opening_phase t.coding t.value) ≡ is_some t.value
+  pub phase_first : is_complete (opening_phase t.lock_kind.makes_value t.value) ≡ is_some t.value
   -- nobody holds it
   pub none_writes : (s : Plain) (p : ℕ) → n.Shape s → is_writer (entries p s) ≡ false
   pub none_holds : (s : Plain) → n.Shape s → is_held s ≡ false
   pub completes_right : (p : ℕ) (c : C) (l : L) (h : Option Hold) → CompletesRight (t.act c l h) p (brings c)
-  pub tells : (p : ℕ) (c : C) (l : L) (h : Option Hold) (s : Plain) (w : W) → t.memory.numbers w ≡ encoded t.coding s → TellsBy V t.memory (t.word l) (t.act c l h) p s w
+  pub tells : (p : ℕ) (c : C) (l : L) (h : Option Hold) (s : Plain) (w : W) → t.memory.numbers w ≡ encoded t.lock_kind s → TellsBy V t.memory (t.word l) (t.act c l h) p s w
 
 -- Phases and values
 
-has_phase : {V : Type 0} (coding : Coding) (phase : Phase) (v : Option V) → is_complete phase ≡ is_some v → HasPhase coding phase v
-has_phase once phase v e = e
-has_phase _ phase v e = tt
+has_phase : {V : Type 0} (made : Bool) (phase : Phase) (v : Option V) → is_complete phase ≡ is_some v → HasPhase made phase v
+has_phase true phase v e = e
+has_phase false phase v e = tt
 
 nothing_incomplete : (phase : Phase) → is_nothing phase ≡ true → is_complete phase ≡ false
 nothing_incomplete nothing e = refl
@@ -114,13 +114,13 @@ says_with : {V : Type 0} (phase : Phase) (a : Answer (Unit {0})) (v : Option V) 
 says_with phase (Value u) None e tells = absurd (true≢false (sym tells ∙ e))
 says_with phase _ _ e tells = refl
 
-gives_once : {V : Type 0} (a : Answer (Unit {0})) (v : Option V) → Gives once (says_of (with_value a v)) (gives_of (with_value a v)) v
-gives_once (Value u) (Some x) = refl
-gives_once _ _ = refl
+gives_made : {V : Type 0} (a : Answer (Unit {0})) (v : Option V) → Gives true (says_of (with_value a v)) (gives_of (with_value a v)) v
+gives_made (Value u) (Some x) = refl
+gives_made _ _ = refl
 
-gives_with : {V : Type 0} (coding : Coding) (a : Answer (Unit {0})) (v : Option V) → Gives coding (says_of (with_value a v)) (gives_of (with_value a v)) v
-gives_with once a v = gives_once a v
-gives_with _ a v = tt
+gives_with : {V : Type 0} (made : Bool) (a : Answer (Unit {0})) (v : Option V) → Gives made (says_of (with_value a v)) (gives_of (with_value a v)) v
+gives_with true a v = gives_made a v
+gives_with false a v = tt
 
 unfilled : {V L : Type 0} (value : Option V) (next : Next L (Answer (Unit {0}))) (l : L) → filled value next ≡ GoesOn l → next ≡ GoesOn l
 unfilled value (GoesOn k) l e = let same : k ≡ l = cc (e) in ap GoesOn same
@@ -183,7 +183,7 @@ module _ {W V C L : Type 0} (t : Table W V C L (Answer (Unit {0}))) (n : Notes t
 
     gives_at : (value : Option V) (next : Next L (Answer (Unit {0}))) → NextGives m value (filled value next)
     gives_at value (GoesOn j) = tt
-    gives_at value (Answers a after) = gives_with t.coding a value
+    gives_at value (Answers a after) = gives_with t.lock_kind.makes_value a value
 
   pub facts_with : Facts m keeping_with
   facts_with =
@@ -203,10 +203,10 @@ module _ {W V C L : Type 0} (t : Table W V C L (Answer (Unit {0}))) (n : Notes t
         due = λ p c l h s v w span here. due_here t n pays.pays p c l h s w span here.encodes here.shape.0 here.exclusive here.retries here.knows;
         tries_on = λ p c l h s v w span here ask is none. open_filled ask p span s _ (step_by {V = V} t.memory (t.word l) (t.act c l h) w).next _ (tries_here t n pays.pays p c l h s w span here.encodes here.shape.0 here.exclusive here.retries here.knows ask is none);
         completes_alone = λ p c l h s v w span here q is. pays.none_holds s here.shape.0;
-        undisturbed = λ p c l h s v w span here may. answers_with (steps_alone t.coding (t.asks c h)) w c l h (soon_here t n pays.pays p c l h s w span here.encodes here.shape.0 here.exclusive here.retries here.knows may);
+        undisturbed = λ p c l h s v w span here may. answers_with (steps_alone t.lock_kind (t.asks c h)) w c l h (soon_here t n pays.pays p c l h s w span here.encodes here.shape.0 here.exclusive here.retries here.knows may);
         refuses = λ p c l h s v w span next here is. absurd (cc (is));
         weakly = λ p c l h s v w span next here is. absurd (cc (is));
-        phase = λ s v shape. has_phase t.coding s.phase v shape.1;
+        phase = λ s v shape. has_phase t.lock_kind.makes_value s.phase v shape.1;
         values = λ p c l h s v w span here. record { brings = (puts p c l h s v w span here).brings; gives = gives_at p c l h s v w span here _ (step_by {V = V} t.memory (t.word l) (t.act c l h) w).next };
         refusal_gives = λ p c l h s v w span next here is. absurd (cc (is));
       }

@@ -30,13 +30,13 @@ use Rattle.spin_world_core.proofs.Undisturbed.{RunsOn, GoesWithin, LeftBy, stepp
 
 -- the inductive invariant: what holds between two events
 pub record Invariant {W V C L A : Type 0} (m : Machine W V C L A) (k : LocalInvariant V C L) (seen : Seen W V C L) : Type 0 where
-  pub encodes : m.numbers seen.state.words ≡ encoded m.coding seen.plain
+  pub encodes : m.numbers seen.state.words ≡ encoded m.lock_kind seen.plain
   pub shape : k.Shape seen.plain seen.state.value
   pub exclusive : IsExclusive seen.plain
   pub written : seen.state.value ≡ seen.written
   pub places : (q : ℕ) → StandsFor seen.plain q (seen.span q) (slice_get seen.state.seats q)
   pub knows : (q : ℕ) → KnowsAt k seen.plain q (seen.span q) (slice_get seen.state.seats q)
-  pub retries : (q : ℕ) → failures q (seen.span q) ≤ changes m.coding q (seen.span q)
+  pub retries : (q : ℕ) → failures q (seen.span q) ≤ changes m.lock_kind q (seen.span q)
   pub undisturbed : (q : ℕ) → RunsOn m seen.state.words q (seen.span q) (slice_get seen.state.seats q)
 
 pub standing : {W V C L A : Type 0} (m : Machine W V C L A) (k : LocalInvariant V C L) (seen : Seen W V C L) (p : ℕ) (y : Seat C L) → Invariant m k seen → slice_get seen.state.seats p ≡ Some y → StandsFor seen.plain p (seen.span p) (Some y)
@@ -84,7 +84,7 @@ placed_right m s (OwnerSet v) (Some seat) e = refl
 
 -- what is promised of an event that isn't passed over, from what holds after it
 pub keeps_from : {W V C L A : Type 0} (m : Machine W V C L A) (k : LocalInvariant V C L) (f : Facts m k) (s : Scene W V C L A) → Invariant m k s.after
-    → IsOpenStep s.before.plain s.party s.change → BelongsTo m.coding s.change → ((r : Option V) → s.outcome ≡ outcome.Value r → r ≡ s.before.written) → MayTouch s.before s.party s.outcome s.move
+    → IsOpenStep s.before.plain s.party s.change → BelongsTo m.lock_kind s.change → ((r : Option V) → s.outcome ≡ outcome.Value r → r ≡ s.before.written) → MayTouch s.before s.party s.outcome s.move
     → (s.outcome ≡ outcome.PassedOver → ⊥) → is_open_move m s.before.state s.move s.seat ≡ true → OwnSteps m s.party (s.after.span s.party) s.outcome (asked m s.seat)
     → ComesTo s.move s.change s.before.state.value s.after.state.value s.outcome → IsWeakCall s.move s.party (s.before.span s.party) (asked m s.seat)
     → InItsCall s.outcome s.move s.seat (slice_get s.after.state.seats s.party) → LeavesCalls s.party s.before s.after → Keeps m s
@@ -167,7 +167,7 @@ knows_resting k s p span None = tt
 knows_resting k s p span (Some h) = tt
 
 knows_beside : {W V C L A : Type 0} (m : Machine W V C L A) (k : LocalInvariant V C L) (f : Facts m k) (p q : ℕ) (s : Plain) (v : Option V) (step : Option Change) (r : Manner) (span : List Mark) (o : Option (Seat C L))
-    → (p ≡ q → ⊥) → k.Shape s v → IsExclusive s → IsOpenStep s p step → BelongsTo m.coding step → KnowsAt k s q span o → KnowsAt k (apply_some s step) q (mark_of p step r s ∷ span) o
+    → (p ≡ q → ⊥) → k.Shape s v → IsExclusive s → IsOpenStep s p step → BelongsTo m.lock_kind step → KnowsAt k s q span o → KnowsAt k (apply_some s step) q (mark_of p step r s ∷ span) o
 knows_beside m k f p q s v step r span (Some (Calling c l h)) ne shape exclusive may belongs knows = f.others q p c l h s v step r span ne shape exclusive may belongs knows
 knows_beside m k f p q s v step r span _ ne shape exclusive may belongs knows = tt
 
@@ -182,11 +182,11 @@ at_seat P seats p x y there here away q =
 
 -- after a step of a call
 good_stepped : {W V C L A : Type 0} (m : Machine W V C L A) (k : LocalInvariant V C L) (f : Facts m k) (seen : Seen W V C L) (p : ℕ) (x y : Seat C L) (step : Option Change) (r : Manner) (w : W) (v wr : Option V)
-    → Invariant m k seen → slice_get seen.state.seats p ≡ Some y → IsOpenStep seen.plain p step → BelongsTo m.coding step
-    → m.numbers w ≡ encoded m.coding (apply_some seen.plain step) → k.Shape (apply_some seen.plain step) v → v ≡ wr
+    → Invariant m k seen → slice_get seen.state.seats p ≡ Some y → IsOpenStep seen.plain p step → BelongsTo m.lock_kind step
+    → m.numbers w ≡ encoded m.lock_kind (apply_some seen.plain step) → k.Shape (apply_some seen.plain step) v → v ≡ wr
     → StandsFor (apply_some seen.plain step) p (mark_of p step r seen.plain ∷ seen.span p) (Some x)
     → KnowsAt k (apply_some seen.plain step) p (mark_of p step r seen.plain ∷ seen.span p) (Some x)
-    → (is_again r ≡ true → step ≡ None → failures p (seen.span p) < changes m.coding p (seen.span p))
+    → (is_again r ≡ true → step ≡ None → failures p (seen.span p) < changes m.lock_kind p (seen.span p))
     → RunsOn m w p (mark_of p step r seen.plain ∷ seen.span p) (Some x)
     → Invariant m k (record { state = record { words = w; value = v; seats = slice_set seen.state.seats p x }; plain = apply_some seen.plain step; span = λ q. mark_of p step r seen.plain ∷ seen.span q; written = wr })
 good_stepped {C = C} {L = L} m k f seen p x y step r w v wr good there may belongs encodes shape written stands knows fails runs =
@@ -203,8 +203,8 @@ good_stepped {C = C} {L = L} m k f seen p x y step r w v wr good there may belon
       places = at_seat Stands seen.state.seats p x y there stands (λ q ne. stands_beside seen.plain p q step r (seen.span q) (slice_get seen.state.seats q) ne may (good.places q));
       knows = at_seat Knows seen.state.seats p x y there knows (λ q ne. knows_beside m k f p q seen.plain seen.state.value step r (seen.span q) (slice_get seen.state.seats q) ne good.shape good.exclusive may belongs (good.knows q));
       retries = λ q. ⊎_elim
-          (λ (e : p ≡ q). subst (λ o. failures o (span o) ≤ changes m.coding o (span o)) e (retries-mine m.coding p step r seen.plain (seen.span p) (good.retries p) fails))
-          (λ (ne : p ≡ q → ⊥). retries-other m.coding q p step r seen.plain (seen.span q) ne (good.retries q))
+          (λ (e : p ≡ q). subst (λ o. failures o (span o) ≤ changes m.lock_kind o (span o)) e (retries-mine m.lock_kind p step r seen.plain (seen.span p) (good.retries p) fails))
+          (λ (ne : p ≡ q → ⊥). retries-other m.lock_kind q p step r seen.plain (seen.span q) ne (good.retries q))
           (cases_eq p q);
       undisturbed = at_seat Runs seen.state.seats p x y there runs (λ q ne.
           beside m seen.state.words w p q seen.plain step r (seen.span q) (slice_get seen.state.seats q) ne (λ e. f.numbers_tell w seen.state.words (encodes ∙ (e ∙ sym good.encodes)))
@@ -216,7 +216,7 @@ good_seated : {W V C L A : Type 0} (m : Machine W V C L A) (k : LocalInvariant V
     → Invariant m k seen → slice_get seen.state.seats p ≡ Some y → ((q : ℕ) → (p ≡ q → ⊥) → span q ≡ seen.span q)
     → StandsFor seen.plain p (span p) (Some x)
     → KnowsAt k seen.plain p (span p) (Some x)
-    → failures p (span p) ≤ changes m.coding p (span p)
+    → failures p (span p) ≤ changes m.lock_kind p (span p)
     → RunsOn m seen.state.words p (span p) (Some x)
     → Invariant m k (record { state = seated seen.state p x; plain = seen.plain; span = span; written = seen.written })
 good_seated {C = C} {L = L} m k seen p x y span good there same stands knows retries runs =
@@ -231,8 +231,8 @@ good_seated {C = C} {L = L} m k seen p x y span good there same stands knows ret
       places = at_seat Stands seen.state.seats p x y there stands (λ q ne. subst (λ ms. StandsFor seen.plain q ms (slice_get seen.state.seats q)) (sym (same q ne)) (good.places q));
       knows = at_seat Knows seen.state.seats p x y there knows (λ q ne. subst (λ ms. KnowsAt k seen.plain q ms (slice_get seen.state.seats q)) (sym (same q ne)) (good.knows q));
       retries = λ q. ⊎_elim
-          (λ (e : p ≡ q). subst (λ o. failures o (span o) ≤ changes m.coding o (span o)) e retries)
-          (λ (ne : p ≡ q → ⊥). subst (λ ms. failures q ms ≤ changes m.coding q ms) (sym (same q ne)) (good.retries q))
+          (λ (e : p ≡ q). subst (λ o. failures o (span o) ≤ changes m.lock_kind o (span o)) e retries)
+          (λ (ne : p ≡ q → ⊥). subst (λ ms. failures q ms ≤ changes m.lock_kind q ms) (sym (same q ne)) (good.retries q))
           (cases_eq p q);
       undisturbed = at_seat Runs seen.state.seats p x y there runs (λ q ne. subst (λ ms. RunsOn m seen.state.words q ms (slice_get seen.state.seats q)) (sym (same q ne)) (good.undisturbed q));
     }
@@ -240,7 +240,7 @@ good_seated {C = C} {L = L} m k seen p x y span good there same stands knows ret
 -- how many steps are left to a call after its own step, where nobody has disturbed it
 left_by : {W V C L A : Type 0} (m : Machine W V C L A) (k : LocalInvariant V C L) (f : Facts m k) (seen : Seen W V C L) (p : ℕ) (c : C) (l : L) (h : Option Hold) (step : Option Change) (r : Manner) (w : W) (next : Next L A)
     → Invariant m k seen → slice_get seen.state.seats p ≡ Some (Calling c l h) → (is_weak r ≡ false → (j : ℕ) → AnswersWithin m (suc j) seen.state.words c l h → GoesWithin m j w c h next)
-    → (recent : List Mark) (first : Mark) (older : List Mark) → mark_of p step r seen.plain ∷ seen.span p ≡ recent ++ first ∷ older → is_open_now p (m.asks c h) older first.before ≡ true → AllOf (Leaves m.coding p) (recent ++ first ∷ [])
+    → (recent : List Mark) (first : Mark) (older : List Mark) → mark_of p step r seen.plain ∷ seen.span p ≡ recent ++ first ∷ older → is_open_now p (m.asks c h) older first.before ≡ true → AllOf (Leaves m.lock_kind p) (recent ++ first ∷ [])
     → LeftBy m w p c h next (own_count p (recent ++ first ∷ []))
 left_by m k f seen p c l h step r w next good there steps =
     stepped m seen.state.words w p c l h seen.plain step r (seen.span p) next (subst (λ o. RunsOn m seen.state.words p (seen.span p) o) there (good.undisturbed p))
@@ -248,14 +248,14 @@ left_by m k f seen p c l h step r w next good there steps =
 
 -- a step of a call, or a weak exchange's refusal
 pub went_on : {W V C L A : Type 0} (m : Machine W V C L A) (k : LocalInvariant V C L) (f : Facts m k) (seen : Seen W V C L) (p : ℕ) (move : Move C V) (c : C) (l : L) (h : Option Hold) (step : Option Change) (r : Manner) (value : Option V) (w : W) (v : Option V) (next : Next L A)
-    → Invariant m k seen → slice_get seen.state.seats p ≡ Some (Calling c l h) → IsOpenStep seen.plain p step → BelongsTo m.coding step
-    → m.numbers w ≡ encoded m.coding (apply_some seen.plain step) → k.Shape (apply_some seen.plain step) v → v ≡ if_completed seen.written value step
+    → Invariant m k seen → slice_get seen.state.seats p ≡ Some (Calling c l h) → IsOpenStep seen.plain p step → BelongsTo m.lock_kind step
+    → m.numbers w ≡ encoded m.lock_kind (apply_some seen.plain step) → k.Shape (apply_some seen.plain step) v → v ≡ if_completed seen.written value step
     → NextIs m k move p c h (apply_some seen.plain step) (mark_of p step r seen.plain ∷ seen.span p) next
-    → (is_again r ≡ true → step ≡ None → failures p (seen.span p) < changes m.coding p (seen.span p))
+    → (is_again r ≡ true → step ≡ None → failures p (seen.span p) < changes m.lock_kind p (seen.span p))
     → (is_weak r ≡ false → (j : ℕ) → AnswersWithin m (suc j) seen.state.words c l h → GoesWithin m j w c h next)
     → is_open_move m seen.state move (Some (Calling c l h)) ≡ true → ComesTo move step seen.state.value v (goes_on (record seen.state { words = w; value = v }) p c h next).outcome → IsWeakCall move p (seen.span p) (Some (m.asks c h))
     → IsCounted m p (goes_on (record seen.state { words = w; value = v }) p c h next).outcome move (Some (Calling c l h)) step r seen.plain
-    → GetsWhenDue m.coding p (goes_on (record seen.state { words = w; value = v }) p c h next).outcome move (Some (m.asks c h)) (seen.span p) seen.plain step r
+    → GetsWhenDue m.lock_kind p (goes_on (record seen.state { words = w; value = v }) p c h next).outcome move (Some (m.asks c h)) (seen.span p) seen.plain step r
     → TriesOn p (goes_on (record seen.state { words = w; value = v }) p c h next).outcome move (Some (m.asks c h)) (seen.span p) seen.plain step
     → Kept m k (scene_of seen p move (Some (Calling c l h)) (goes_on (record seen.state { words = w; value = v }) p c h next) step r value)
 went_on m k f seen p move c l h step r value w v (GoesOn l') good there may belongs encodes shape written next fails steps is_open comes weak counted due tries_on =
@@ -292,7 +292,7 @@ went_on {C = C} {L = L} m k f seen p move c l h step r value w v (Answers a rest
 
 pub begun_kept : {W V C L A : Type 0} (m : Machine W V C L A) (k : LocalInvariant V C L) (f : Facts m k) (seen : Seen W V C L) (p : ℕ) (c : C) (h : Option Hold) (y : Seat C L) (o : Option L)
     → Invariant m k seen → slice_get seen.state.seats p ≡ Some y → entries p seen.plain ≡ entries_held p h → m.begin c h ≡ o → is_open_move m seen.state (Begin c) (Some y) ≡ is_some (m.begin c h)
-    → (fits m.coding (m.asks c h) h ≡ false → MayPass m seen p (Begin c) (Some y)) → held_at (Some y) ≡ h
+    → (fits m.lock_kind (m.asks c h) h ≡ false → MayPass m seen p (Begin c) (Some y)) → held_at (Some y) ≡ h
     → Kept m k (scene_of seen p (Begin c) (Some y) (begun seen.state p c h o) None manner.plain None)
 begun_kept m k f seen p c h y None good there stands is_begin is_open may held = passed_kept m k f seen p (Begin c) (Some y) good (is_open ∙ ap is_some is_begin) (may (sym (f.stepwise.begins c h) ∙ ap is_some is_begin))
 begun_kept m k f seen p c h y (Some l) good there stands is_begin is_open may held =
@@ -302,7 +302,7 @@ begun_kept m k f seen p c h y (Some l) good there stands is_begin is_open may he
     (λ q ne. ap (λ b. if b then [] else seen.span q) (ne_eqb p q ne))
     (subst (λ ms. entries p seen.plain ≡ entries_so_far p ms (entries_held p h)) fresh stands)
     (subst (λ ms. k.Knows c l h p seen.plain ms) fresh (f.begins p c l h seen.plain is_begin stands))
-    (subst (λ ms. failures p ms ≤ changes m.coding p ms) fresh (omega arith))
+    (subst (λ ms. failures p ms ≤ changes m.lock_kind p ms) fresh (omega arith))
     (subst (λ ms. RunsOn m seen.state.words p ms (Some (Calling c l h))) fresh (runs_fresh m seen.state.words p c l h)) in
     record {
       keeps = keeps_from m k f _ after tt tt (λ r e. absurd (cc (e))) tt (λ e. cc (e)) (is_open ∙ ap is_some is_begin) tt (refl, refl) tt

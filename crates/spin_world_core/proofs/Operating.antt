@@ -7,7 +7,7 @@ use Rattle.spin_world_core.specs.declared.answer.Answer.{Answer}
 use Rattle.spin_world_core.specs.declared.object.Next.{Next}
 use Rattle.spin_world_core.specs.declared.object.Next.TheVariants.{GoesOn, Answers}
 use Rattle.spin_world_core.specs.Manners.{Manner, is_again, is_look}
-use Rattle.spin_world_core.specs.Calls.{Coding, barrier, is_step_of, Asked, looks, may_be_weak, is_exchanged, is_got_weakly, Mark}
+use Rattle.spin_world_core.specs.Calls.{LockKind, is_step_of, Asked, looks, may_be_weak, is_exchanged, is_got_weakly, Mark}
 use Rattle.spin_world_core.specs.Begins.{fits}
 use Rattle.spin_world_core.specs.Operations.{Operation, exchanges, sets_lowest_bit, performed, Performs, IsOneOperation, RefusesAsLost, Stepwise}
 use Rattle.spin_world_core.specs.Acts.{Memory, one_number, number_at, Act, load_if, enter, exchange, weak_exchange, attempt, retry, store, section, swap, tried, guessed, becomes, passing, retried, place_of, step_at, made_if, change_at, refusal_by, makes_by, operation_by, is_section, step_by, manner_by, Table, machine_of, completes_by, brought, filled, machine_with}
@@ -16,17 +16,17 @@ use Rattle.spin_world_core.proofs.Facts.{GoesOnOpen, GoesOnCounted}
 
 -- The debts
 
--- the plain step is one that this kind of lock makes, and one that such a call gets by a weak exchange is got by no other; and only a barrier's step is a section
-abbrev pub fits_step : Coding → Asked → Bool → Option Change → Bool
-fits_step coding what weakly None = true
-fits_step coding what weakly (Some c) = is_step_of coding c && (weakly || not (is_got_weakly what c))
+-- the plain step is one that this kind of lock makes, and one that such a call gets by a weak exchange is got by no other; and a step is a section only where this kind of lock has such
+abbrev pub fits_step : LockKind → Asked → Bool → Option Change → Bool
+fits_step kind what weakly None = true
+fits_step kind what weakly (Some c) = is_step_of kind c && (weakly || not (is_got_weakly what c))
 
-abbrev pub may_be_section : Coding → Bool → Bool
-may_be_section barrier is = true
-may_be_section _ is = not is
+abbrev pub may_be_section : Bool → Bool → Bool
+may_be_section true is = true
+may_be_section false is = not is
 
-abbrev pub fits_act : {W L A : Type 0} → Coding → Asked → Act W L A → ℕ → Bool
-fits_act coding what act p = fits_step coding what (is_some (refusal_by act)) (makes_by act p) && may_be_section coding (is_section act)
+abbrev pub fits_act : {W L A : Type 0} → LockKind → Asked → Act W L A → ℕ → Bool
+fits_act kind what act p = fits_step kind what (is_some (refusal_by act)) (makes_by act p) && may_be_section kind.steps_in_sections (is_section act)
 
 -- a step that is no section makes its operation on its word, and leaves the others
 abbrev pub Operates : {W V C L A : Type 0} → Table W V C L A → Type 0
@@ -158,15 +158,15 @@ change_is n (store can operation step next) p w d is = is
 change_is n _ p w d is = absurd (cc (is))
 
 -- so it is one that the lock makes, and what is got weakly is got by a weak exchange
-pub fits_made : (coding : Coding) (what : Asked) (weakly : Bool) (o : Option Change) (d : Change) → fits_step coding what weakly o ≡ true → o ≡ Some d → (is_step_of coding d ≡ true) × (is_got_weakly what d ≡ true → weakly ≡ true)
-fits_made coding what weakly None d fit is = absurd (cc (is))
-fits_made coding what true (Some c) d fit is =
+pub fits_made : (kind : LockKind) (what : Asked) (weakly : Bool) (o : Option Change) (d : Change) → fits_step kind what weakly o ≡ true → o ≡ Some d → (is_step_of kind d ≡ true) × (is_got_weakly what d ≡ true → weakly ≡ true)
+fits_made kind what weakly None d fit is = absurd (cc (is))
+fits_made kind what true (Some c) d fit is =
     let same : c ≡ d = cc (is) in
-    (ap (is_step_of coding) (sym same) ∙ (and_parts (is_step_of coding c) true fit).0, λ got. refl)
-fits_made coding what false (Some c) d fit is =
+    (ap (is_step_of kind) (sym same) ∙ (and_parts (is_step_of kind c) true fit).0, λ got. refl)
+fits_made kind what false (Some c) d fit is =
     let same : c ≡ d = cc (is) in
-    let parts = and_parts (is_step_of coding c) (not (is_got_weakly what c)) fit in
-    (ap (is_step_of coding) (sym same) ∙ parts.0, λ got. absurd (true≢false (sym parts.1 ∙ (ap (λ e. not (is_got_weakly what e)) same ∙ ap not got))))
+    let parts = and_parts (is_step_of kind c) (not (is_got_weakly what c)) fit in
+    (ap (is_step_of kind) (sym same) ∙ parts.0, λ got. absurd (true≢false (sym parts.1 ∙ (ap (λ e. not (is_got_weakly what e)) same ∙ ap not got))))
 
 -- a step that goes on and makes nothing is counted, if it is where what it could make is open
 pub counted_of : {W L A : Type 0} (change : W → Option Change) (s : Plain) (next : Next L A) (o : Option Change) (r : Manner)
@@ -184,13 +184,13 @@ open_filled ask p span s value (GoesOn l) (Some c) may = tt
 open_filled ask p span s value (Answers a after) o may = tt
 
 -- a call that is never weak gets nothing so
-strong_step : (coding : Coding) (what : Asked) (weakly : Bool) (o : Option Change) → may_be_weak what ≡ false → fits_step coding looks weakly o ≡ fits_step coding what weakly o
-strong_step coding what weakly None strong = refl
-strong_step coding what weakly (Some d) strong = ap (λ may. is_step_of coding d && (weakly || not (may && is_exchanged what d))) (sym strong)
+strong_step : (kind : LockKind) (what : Asked) (weakly : Bool) (o : Option Change) → may_be_weak what ≡ false → fits_step kind looks weakly o ≡ fits_step kind what weakly o
+strong_step kind what weakly None strong = refl
+strong_step kind what weakly (Some d) strong = ap (λ may. is_step_of kind d && (weakly || not (may && is_exchanged what d))) (sym strong)
 
 -- so its steps fit if those of a look do
-pub fits_strong : {W L A : Type 0} (coding : Coding) (what : Asked) (act : Act W L A) (p : ℕ) → may_be_weak what ≡ false → fits_act coding looks act p ≡ true → fits_act coding what act p ≡ true
-fits_strong coding what act p strong fit = ap (λ b. b && may_be_section coding (is_section act)) (sym (strong_step coding what (is_some (refusal_by act)) (makes_by act p) strong)) ∙ fit
+pub fits_strong : {W L A : Type 0} (kind : LockKind) (what : Asked) (act : Act W L A) (p : ℕ) → may_be_weak what ≡ false → fits_act kind looks act p ≡ true → fits_act kind what act p ≡ true
+fits_strong kind what act p strong fit = ap (λ b. b && may_be_section kind.steps_in_sections (is_section act)) (sym (strong_step kind what (is_some (refusal_by act)) (makes_by act p) strong)) ∙ fit
 
 -- a step that finds its number makes its plain step
 made_there : (b : Bool) (x : ℕ) (c : Change) → b ≡ true → is_some (made_if (if b then Some x else None) c) ≡ true
@@ -207,12 +207,12 @@ begins_fit : {X : Type 0} (b : Bool) (x : X) → is_some (passing b x) ≡ b
 begins_fit true x = refl
 begins_fit false x = refl
 
-module _ {W V C L A : Type 0} (t : Table W V C L A) (fit : (p : ℕ) (c : C) (l : L) (h : Option Hold) → fits_act t.coding (t.asks c h) (t.act c l h) p ≡ true) (operates : Operates t) where
-  fits_one : (c : C) (l : L) (h : Option Hold) → may_be_section t.coding (is_section (t.act c l h)) ≡ true
+module _ {W V C L A : Type 0} (t : Table W V C L A) (fit : (p : ℕ) (c : C) (l : L) (h : Option Hold) → fits_act t.lock_kind (t.asks c h) (t.act c l h) p ≡ true) (operates : Operates t) where
+  fits_one : (c : C) (l : L) (h : Option Hold) → may_be_section t.lock_kind.steps_in_sections (is_section (t.act c l h)) ≡ true
   fits_one c l h = (and_parts _ _ (fit 0 c l h)).1
 
-  pub fits_change : (p : ℕ) (c : C) (l : L) (h : Option Hold) (n : ℕ) (w : W) (d : Change) → change_at n (t.act c l h) p w ≡ Some d → (is_step_of t.coding d ≡ true) × (is_got_weakly (t.asks c h) d ≡ true → is_some (refusal_by (t.act c l h)) ≡ true)
-  fits_change p c l h n w d is = fits_made t.coding (t.asks c h) _ (makes_by (t.act c l h) p) d (and_parts _ _ (fit p c l h)).0 (change_is n (t.act c l h) p w d is)
+  pub fits_change : (p : ℕ) (c : C) (l : L) (h : Option Hold) (n : ℕ) (w : W) (d : Change) → change_at n (t.act c l h) p w ≡ Some d → (is_step_of t.lock_kind d ≡ true) × (is_got_weakly (t.asks c h) d ≡ true → is_some (refusal_by (t.act c l h)) ≡ true)
+  fits_change p c l h n w d is = fits_made t.lock_kind (t.asks c h) _ (makes_by (t.act c l h) p) d (and_parts _ _ (fit p c l h)).0 (change_is n (t.act c l h) p w d is)
 
   performs_of : (c : C) (l : L) (h : Option Hold) → is_section (t.act c l h) ≡ false → Performs (machine_of t) c l h (place_of (t.word l) (t.act c l h)) (operation_by (t.act c l h))
   performs_of c l h one =
@@ -223,9 +223,9 @@ module _ {W V C L A : Type 0} (t : Table W V C L A) (fit : (p : ℕ) (c : C) (l 
         placed = λ w u v. unplaced V t.memory i (number_at t.memory i w) (t.act c l h) w ∙ sym (unplaced V t.memory i (number_at t.memory i u) (t.act c l h) u);
       }
 
-  operation_of : (coding : Coding) (c : C) (l : L) (h : Option Hold) → may_be_section coding (is_section (t.act c l h)) ≡ true → IsOneOperation coding (machine_of t) c l h
-  operation_of barrier c l h one = tt
-  operation_of _ c l h one = (_, _, performs_of c l h (not-true _ one))
+  operation_of : (sections : Bool) (c : C) (l : L) (h : Option Hold) → may_be_section sections (is_section (t.act c l h)) ≡ true → IsOneOperation sections (machine_of t) c l h
+  operation_of true c l h one = tt
+  operation_of false c l h one = (_, _, performs_of c l h (not-true _ one))
 
   lost_of : (c : C) (l : L) (h : Option Hold) (act : Act W L A) (next : Next L A) → t.act c l h ≡ act → refusal_by act ≡ Some next → RefusesAsLost (machine_of t) c l h next
   lost_of c l h (weak_exchange k f step won lost) next same is =
@@ -242,17 +242,17 @@ module _ {W V C L A : Type 0} (t : Table W V C L A) (fit : (p : ℕ) (c : C) (l 
   pub stepwise_of : Stepwise (machine_of t)
   stepwise_of =
       record {
-        begins = λ c h. begins_fit (fits t.coding (t.asks c h) h) (t.start c h);
+        begins = λ c h. begins_fit (fits t.lock_kind (t.asks c h) h) (t.start c h);
         refuses = λ c l h next is. lost_of c l h (t.act c l h) next refl is;
         weak = λ p c l h w d is. (fits_change p c l h (number_at t.memory (place_of (t.word l) (t.act c l h)) w) w d is).1;
-        operates = λ c l h. operation_of t.coding c l h (fits_one c l h);
+        operates = λ c l h. operation_of t.lock_kind.steps_in_sections c l h (fits_one c l h);
         looks = λ c l h is w v. look_stays V t.memory (t.word l) (t.asks c h) (t.act c l h) w is;
       }
 
-module _ {W V C L : Type 0} (t : Table W V C L (Answer (Unit {0}))) (brings : C → Option V) (fit : (p : ℕ) (c : C) (l : L) (h : Option Hold) → fits_act t.coding (t.asks c h) (t.act c l h) p ≡ true) (operates : Operates t) where
-  operation_with : (coding : Coding) (c : C) (l : L) (h : Option Hold) → IsOneOperation coding (machine_of t) c l h → IsOneOperation coding (machine_with t brings) c l h
-  operation_with barrier c l h o = tt
-  operation_with _ c l h o = (
+module _ {W V C L : Type 0} (t : Table W V C L (Answer (Unit {0}))) (brings : C → Option V) (fit : (p : ℕ) (c : C) (l : L) (h : Option Hold) → fits_act t.lock_kind (t.asks c h) (t.act c l h) p ≡ true) (operates : Operates t) where
+  operation_with : (sections : Bool) (c : C) (l : L) (h : Option Hold) → IsOneOperation sections (machine_of t) c l h → IsOneOperation sections (machine_with t brings) c l h
+  operation_with true c l h o = tt
+  operation_with false c l h o = (
     o.0,
     o.1,
     record {
@@ -269,6 +269,6 @@ module _ {W V C L : Type 0} (t : Table W V C L (Answer (Unit {0}))) (brings : C 
         begins = is.begins;
         refuses = λ c l h next is. absurd (cc (is));
         weak = λ p c l h w d is got. absurd (false≢true (sym (strong c h) ∙ (and_parts (may_be_weak (t.asks c h)) (is_exchanged (t.asks c h) d) got).0));
-        operates = λ c l h. operation_with t.coding c l h (is.operates c l h);
+        operates = λ c l h. operation_with t.lock_kind.steps_in_sections c l h (is.operates c l h);
         looks = is.looks;
       }

@@ -2,7 +2,7 @@
 use Rattle.std.proofs.Common.{◌≡◌, ℕ, zero, ◌+◌, ◌-◌, ◌<◌, ◌⊎◌, ◌==◌, Bool, true, false, List, [], ◌∷◌, ◌++◌, slice_set, get_or, if◌then◌else◌, refl, inl, inr, subst, arith, ⊎_elim}
 use Rattle.std.proofs.lemmas.Bool.{true≢false, eqb-true}
 use Rattle.spin_world_core.specs.Manners.{is_weak}
-use Rattle.spin_world_core.specs.Calls.{Coding, Asked, Mark}
+use Rattle.spin_world_core.specs.Calls.{LockKind, Asked, Mark}
 use Rattle.spin_world_core.specs.Spans.{own_count}
 use Rattle.spin_world_core.specs.Undisturbed.{is_open_now, Leaves, AllOf, UndisturbedTakes}
 use Rattle.spin_world_core.specs.Operations.{Operation, exchanges, adds, subtracts, sets_lowest_bit, stores, performed}
@@ -16,24 +16,24 @@ pub record IsOwn (p : ℕ) (m : Mark) : Type 0 where
   pub party : m.party ≡ p
   pub strong : is_weak m.manner ≡ false
 
-leaves : (coding : Coding) (p : ℕ) (m : Mark) → IsOwn p m → Leaves coding p m
-leaves coding p m is = record { strong = λ e. is.strong; still = λ ne. absurd (ne is.party) }
+leaves : (kind : LockKind) (p : ℕ) (m : Mark) → IsOwn p m → Leaves kind p m
+leaves kind p m is = record { strong = λ e. is.strong; still = λ ne. absurd (ne is.party) }
 
-owns : (coding : Coding) (p : ℕ) (ms : List Mark) → AllOf (IsOwn p) ms → AllOf (Leaves coding p) ms
-owns coding p [] are = tt
-owns coding p (m ∷ ms) are = (leaves coding p m are.0, owns coding p ms are.1)
+owns : (kind : LockKind) (p : ℕ) (ms : List Mark) → AllOf (IsOwn p) ms → AllOf (Leaves kind p) ms
+owns kind p [] are = tt
+owns kind p (m ∷ ms) are = (leaves kind p m are.0, owns kind p ms are.1)
 
 -- after so many such steps a call that goes on breaks the law
-pub too_many : (coding : Coding) (p : ℕ) (what : Asked) (k : ℕ) (recent : List Mark) (first : Mark) (older : List Mark) → UndisturbedTakes (λ n. n < k) coding p what (recent ++ first ∷ older)
+pub too_many : (kind : LockKind) (p : ℕ) (what : Asked) (k : ℕ) (recent : List Mark) (first : Mark) (older : List Mark) → UndisturbedTakes (λ n. n < k) kind p what (recent ++ first ∷ older)
     → is_open_now p what older first.before ≡ true → AllOf (IsOwn p) (recent ++ first ∷ []) → own_count p (recent ++ first ∷ []) ≡ k → ⊥
-too_many coding p what k recent first older law may own count =
-    let few = law recent first older refl may (owns coding p (recent ++ first ∷ []) own) in
+too_many kind p what k recent first older law may own count =
+    let few = law recent first older refl may (owns kind p (recent ++ first ∷ []) own) in
     omega (arith, few, count)
 
 -- so it does after four
-pub four_steps : (coding : Coding) (p : ℕ) (what : Asked) {a b c d : Mark} {older : List Mark} → UndisturbedTakes (λ n. n < 4) coding p what (a ∷ b ∷ c ∷ d ∷ older)
+pub four_steps : (kind : LockKind) (p : ℕ) (what : Asked) {a b c d : Mark} {older : List Mark} → UndisturbedTakes (λ n. n < 4) kind p what (a ∷ b ∷ c ∷ d ∷ older)
     → is_open_now p what older d.before ≡ true → IsOwn p a → IsOwn p b → IsOwn p c → IsOwn p d → own_count p (a ∷ b ∷ c ∷ d ∷ []) ≡ 4 → ⊥
-four_steps coding p what {a} {b} {c} {d} {older} law may own_a own_b own_c own_d count = too_many coding p what 4 (a ∷ b ∷ c ∷ []) d older law may (own_a, (own_b, (own_c, (own_d, tt)))) count
+four_steps kind p what {a} {b} {c} {d} {older} law may own_a own_b own_c own_d count = too_many kind p what 4 (a ∷ b ∷ c ∷ []) d older law may (own_a, (own_b, (own_c, (own_d, tt)))) count
 
 -- a step that adds to a word as long as there is room
 

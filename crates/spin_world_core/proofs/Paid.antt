@@ -12,14 +12,14 @@ use Rattle.spin_world_core.specs.declared.schedule.Outcome.TheVariants as outcom
 use Rattle.spin_world_core.specs.declared.schedule.Move.{Move}
 use Rattle.spin_world_core.specs.declared.schedule.Move.TheVariants.{Step, Weak}
 use Rattle.spin_world_core.specs.Manners.{Manner, plain, again, look, weak, is_again, is_look, by_step}
-use Rattle.spin_world_core.specs.Calls.{Coding, Asked, waits, waits_or_starves, tries, initializes, fails_to_initialize, waits_for_value, polls, meets, encoded, is_step_of, BelongsTo, Said, own_steps, AnyOf, Mark, first_word, Limit, registers_after, limit, may_be_weak, before_weakly, once}
+use Rattle.spin_world_core.specs.Calls.{LockKind, Asked, waits, waits_or_starves, tries, initializes, fails_to_initialize, waits_for_value, polls, meets, encoded, is_step_of, BelongsTo, Said, own_steps, AnyOf, Mark, first_word, Limit, registers_after, limit, may_be_weak, before_weakly}
 use Rattle.spin_world_core.specs.Undisturbed.{arrived, is_open_next, is_open_now, steps_alone}
 use Rattle.spin_world_core.specs.Order.{goes_for, Way, always, by_looks, past_looks, way_of, is_due_by, LooksElse, Gets, MayTryOn}
 use Rattle.spin_world_core.specs.Runs.{mark_of, if_completed, entries_held, own, failures, changes, IsBeginning, RightAnswer, GoesOnWithin}
 use Rattle.spin_world_core.specs.Acts.{number_at, Act, load, load_if, load_for, enter, exchange, weak_exchange, attempt, retry, store, section, swap, tried, guessed, either, stays, passing, becomes, retried, step_by, made_if, change_by, can_by, refusal_by, makes_by, is_waiting, look_manner, manner_by, Table, begin_of, machine_of}
 use Rattle.spin_world_core.specs.Operations.{performed}
 use Rattle.spin_world_core.specs.Schedules.{placed}
-use Rattle.spin_world_core.specs.Values.{makes_value, HasPhase, Gives}
+use Rattle.spin_world_core.specs.Values.{HasPhase, Gives}
 use Rattle.spin_world_core.proofs.Facts.{AnswersWithin, InCall, NextIs, NextGives, GoesOnOpen, GoesOnCounted, StepIs, Facts}
 use Rattle.spin_world_core.proofs.Operating.{fits_change, fits_made, counted_of, stepwise_of}
 use Rattle.spin_world_core.proofs.Spans.{own-mine, retries-mine}
@@ -33,17 +33,16 @@ uncompleted old put (Some (completes p)) none = absurd (none p refl)
 uncompleted old put _ none = refl
 
 -- an object whose closures make no value says nothing of values, and completes no closure
-phase_none : {V : Type 0} (coding : Coding) (phase : Phase) (value : Option V) → makes_value coding ≡ false → HasPhase coding phase value
-phase_none once phase value none = absurd (true≢false none)
-phase_none _ phase value none = tt
+phase_none : {V : Type 0} (made : Bool) (phase : Phase) (value : Option V) → made ≡ false → HasPhase made phase value
+phase_none true phase value none = absurd (true≢false none)
+phase_none false phase value none = tt
 
-gives_none : {V : Type 0} (coding : Coding) (said : Said) (given value : Option V) → makes_value coding ≡ false → Gives coding said given value
-gives_none once said given value none = absurd (true≢false none)
-gives_none _ said given value none = tt
+gives_none : {V : Type 0} (made : Bool) (said : Said) (given value : Option V) → made ≡ false → Gives made said given value
+gives_none true said given value none = absurd (true≢false none)
+gives_none false said given value none = tt
 
-completes_none : (coding : Coding) (q : ℕ) → makes_value coding ≡ false → is_step_of coding (completes q) ≡ true → ⊥
-completes_none once q none own = true≢false none
-completes_none _ q none own = false≢true own
+completes_none : (kind : LockKind) (q : ℕ) → kind.makes_value ≡ false → is_step_of kind (completes q) ≡ true → ⊥
+completes_none kind q none own = true≢false (sym own ∙ none)
 
 abbrev Aimed : {W L A : Type 0} → Asked → Act W L A → List Change → ℕ → Type 0
 Aimed what act made p = aim_by what act p ≡ aimed p (aim_of what made) (aim_by what act p)
@@ -64,12 +63,12 @@ goes_waiting _ made ask is = absurd (cc (is))
 -- what a step of such a shape comes to; it places no value by itself
 pub record Went {W V C L A : Type 0} (t : Table W V C L A) (n : Notes t) (p : ℕ) (c : C) (h : Option Hold) (s : Plain) (span : List Mark) (st : Stepped W V L A) (step : Option Change) (r : Manner) : Type 0 where
   pub opens : IsOpenStep s p step
-  pub belongs : BelongsTo t.coding step
-  pub encodes : t.memory.numbers st.words ≡ encoded t.coding (apply_some s step)
+  pub belongs : BelongsTo t.lock_kind step
+  pub encodes : t.memory.numbers st.words ≡ encoded t.lock_kind (apply_some s step)
   pub shape : n.Shape (apply_some s step)
   pub unplaced : st.placed ≡ None
   pub next : NextIs (machine_of t) (keeping_of t n) Step p c h (apply_some s step) (mark_of p step r s ∷ span) st.next
-  pub fails : is_again r ≡ true → step ≡ None → failures p span < changes t.coding p span
+  pub fails : is_again r ≡ true → step ≡ None → failures p span < changes t.lock_kind p span
 
 -- only a call that waits has what it asks open in its present state
 waits_where : (what : Asked) (first : Bool) (k p : ℕ) (s : Plain) → is_open_next what first k p s ≡ true → is_waiting what ≡ true
@@ -95,8 +94,8 @@ abbrev move_of : {C V : Type 0} → Bool → Move C V
 move_of true = Weak
 move_of false = Step
 
-module _ {W V C L A : Type 0} (t : Table W V C L A) (n : Notes t) (sound_all : (p : ℕ) (c : C) (l : L) (h : Option Hold) → SoundAt t.coding (t.asks c h) p (n.point c l h)) where
-  first_is : (w : W) (s : Plain) → t.memory.numbers w ≡ encoded t.coding s → number_at t.memory 0 w ≡ first_word t.coding s
+module _ {W V C L A : Type 0} (t : Table W V C L A) (n : Notes t) (sound_all : (p : ℕ) (c : C) (l : L) (h : Option Hold) → SoundAt t.lock_kind (t.asks c h) p (n.point c l h)) where
+  first_is : (w : W) (s : Plain) → t.memory.numbers w ≡ encoded t.lock_kind s → number_at t.memory 0 w ≡ first_word t.lock_kind s
   first_is w s encodes = ap (λ numbers. get_or numbers 0 0) encodes
 
   right_by : (weakly : Bool) (p : ℕ) (c : C) (h : Option Hold) (a : A) (span : List Mark) → Opened span → AnyOf (λ steps. own p span ≡ steps) (own_steps (t.asks c h) (t.says a) p) → OwesRight weakly (t.asks c h) (t.says a) p span
@@ -111,41 +110,41 @@ module _ {W V C L A : Type 0} (t : Table W V C L A) (n : Notes t) (sound_all : (
       answers_within k st.words c m h (subst (λ next. goes_by next true (λ l. answers_by t k st.words c l h) ≡ true) is soon)
 
   -- a step of the call, at the row of its point
-  module _ (p : ℕ) (c : C) (l : L) (h : Option Hold) (s : Plain) (w : W) (span : List Mark) (row : Row) (at : At t n p c l h s w span row) (sound : IsSound t.coding (t.asks c h) p (Some row)) where
+  module _ (p : ℕ) (c : C) (l : L) (h : Option Hold) (s : Plain) (w : W) (span : List Mark) (row : Row) (at : At t n p c l h s w span row) (sound : IsSound t.lock_kind (t.asks c h) p (Some row)) where
     made_now : (step : Option Change) (r : Manner) (cs : List Change) → row.made p ++ option_to_list step ≡ cs → own p (mark_of p step r s ∷ span) ≡ cs
     made_now step r cs is = own-mine p step r s span ∙ (ap (λ ds. ds ++ option_to_list step) at.known.made ∙ is)
 
-    goes_to : (step : Option Change) (r : Manner) (turn : Turn) (m : L) (o : Option Row) → IsOpenStep s p step → Turned turn s step r → (is_again r ≡ true → step ≡ None → failures p span < changes t.coding p span)
-        → IsSound t.coding (t.asks c h) p o → FollowsRow t n p (call_of t n c) h s w span row step r turn m o
+    goes_to : (step : Option Change) (r : Manner) (turn : Turn) (m : L) (o : Option Row) → IsOpenStep s p step → Turned turn s step r → (is_again r ≡ true → step ≡ None → failures p span < changes t.lock_kind p span)
+        → IsSound t.lock_kind (t.asks c h) p o → FollowsRow t n p (call_of t n c) h s w span row step r turn m o
         → KnowsRow t n c m h p (apply_some s step) (mark_of p step r s ∷ span) o
         × ((said : Said) × AnyOf (λ steps. IsBeginning (own p (mark_of p step r s ∷ span)) steps) (own_steps (t.asks c h) said p))
-        × GoesOnWithin (limit t.coding (t.asks c h)) t.coding p (mark_of p step r s ∷ span)
+        × GoesOnWithin (limit t.lock_kind (t.asks c h)) t.lock_kind p (mark_of p step r s ∷ span)
     goes_to step r turn m None may turned lost sound follows = absurd follows
     goes_to step r turn m (Some to) may turned lost sound follows =
-        let retries = retries-mine t.coding p step r s span at.retries lost in
+        let retries = retries-mine t.lock_kind p step r s span at.retries lost in
         let spends = may_spend (t.asks c h) turn step p s span _ follows.2 in
-        let found = needs-mine (need_of t.coding (t.asks c h) (to.made p) (t.act c m h)) _ p s step r span follows.3 in
+        let found = needs-mine (need_of t.lock_kind (t.asks c h) (to.made p) (t.act c m h)) _ p s step r span follows.3 in
         let made = made_now step r (to.made p) follows.1 in
-        let spent = spent-mine p s step r span (limit t.coding (t.asks c h)) t.coding turn (to.made p) row.spent to.spent turned made spends at.known.spent in (
+        let spent = spent-mine p s step r span (limit t.lock_kind (t.asks c h)) t.lock_kind turn (to.made p) row.spent to.spent turned made spends at.known.spent in (
           (
             record {
               stand = stand-mine s p step row.stand to.stand may at.known.stand follows.0;
               made = made;
               spent = spent;
-              expects = expects-mine t.coding (t.act c m h) (number_at t.memory 0 w) p s step r span (first_is w s at.encodes) retries found.1;
+              expects = expects-mine t.lock_kind (t.act c m h) (number_at t.memory 0 w) p s step r span (first_is w s at.encodes) retries found.1;
               needs = found.0;
               opened = (may, at.known.opened);
             },
             follows.4,
           ),
           (to.said, any_map (λ steps. to.made p ++ to.rest p ≡ steps) (λ steps. IsBeginning (own p (mark_of p step r s ∷ span)) steps) (own_steps (t.asks c h) to.said p) (λ steps e. (to.rest p, ap (λ cs. cs ++ to.rest p) made ∙ e)) sound.1),
-          goes_within (limit t.coding (t.asks c h)) t.coding turn (to.made p) row.spent to.spent p (mark_of p step r s ∷ span) made sound.0 retries spends spent,
+          goes_within (limit t.lock_kind (t.asks c h)) t.lock_kind turn (to.made p) row.spent to.spent p (mark_of p step r s ∷ span) made sound.0 retries spends spent,
         )
 
-    followed : (weakly : Bool) (step : Option Change) (r : Manner) (turn : Turn) (next : Next L A) → IsOpenStep s p step → Turned turn s step r → (is_again r ≡ true → step ≡ None → failures p span < changes t.coding p span)
+    followed : (weakly : Bool) (step : Option Change) (r : Manner) (turn : Turn) (next : Next L A) → IsOpenStep s p step → Turned turn s step r → (is_again r ≡ true → step ≡ None → failures p span < changes t.lock_kind p span)
         → Follows t n p (call_of t n c) h s w span row weakly step r turn next → NextIs (machine_of t) (keeping_of t n) (move_of weakly) p c h (apply_some s step) (mark_of p step r s ∷ span) next
     followed weakly step r turn (GoesOn m) may turned lost follows =
-        let there = goes_to step r turn m (row_of t n c m h) may turned lost (sound_at t.coding (t.asks c h) h p (n.point c m h) (sound_all p c m h)) follows in
+        let there = goes_to step r turn m (row_of t n c m h) may turned lost (sound_at t.lock_kind (t.asks c h) h p (n.point c m h) (sound_all p c m h)) follows in
         record { knows = there.0; own_so_far = there.1; in_time = there.2 }
     followed weakly step r turn (Answers a after) may turned lost follows =
         let made = any_map (λ steps. row.made p ++ option_to_list step ≡ steps) (λ steps. own p (mark_of p step r s ∷ span) ≡ steps) (own_steps (t.asks c h) (t.says a) p) (λ steps e. made_now step r steps e) follows.1 in
@@ -153,14 +152,14 @@ module _ {W V C L A : Type 0} (t : Table W V C L A) (n : Notes t) (sound_all : (
           stands = stand-mine s p step row.stand (stand_of after) may at.known.stand follows.0 ∙ sym (held_at p after);
           own_steps_are = made;
           right = right_by weakly p c h a (mark_of p step r s ∷ span) (may, at.known.opened) made follows.2;
-          in_time = ends_within (limit t.coding (t.asks c h)) t.coding (row.made p) row.spent p s step r span sound.0 at.retries at.known.spent (ends_owed t.coding weakly (t.asks c h) (t.says a) p (mark_of p step r s ∷ span) made follows.2);
+          in_time = ends_within (limit t.lock_kind (t.asks c h)) t.lock_kind (row.made p) row.spent p s step r span sound.0 at.retries at.known.spent (ends_owed t.lock_kind weakly (t.asks c h) (t.says a) p (mark_of p step r s ∷ span) made follows.2);
         }
 
     abbrev Is : Stepped W V L A → Option Change → Manner → Type 0
     Is st step r = Went t n p c h s span st step r
 
     -- the words stay
-    stay_is : (r : Manner) (turn : Turn) (next : Next L A) → Turned turn s None r → (is_again r ≡ true → failures p span < changes t.coding p span) → Follows t n p (call_of t n c) h s w span row false None r turn next → Is (stays w next) None r
+    stay_is : (r : Manner) (turn : Turn) (next : Next L A) → Turned turn s None r → (is_again r ≡ true → failures p span < changes t.lock_kind p span) → Follows t n p (call_of t n c) h s w span row false None r turn next → Is (stays w next) None r
     stay_is r turn next turned lost follows =
         record {
           opens = tt;
@@ -176,7 +175,7 @@ module _ {W V C L A : Type 0} (t : Table W V C L A) (n : Notes t) (sound_all : (
     unretried single made = absurd (false≢true (sym single ∙ made))
 
     -- new words, and a plain step
-    made_is : {X : Type 0} (put : X → W) (r : Manner) (x : X) (d : Change) (next : Next L A) → is_step_of t.coding d ≡ true → Means t n p s d put (Some x) → Follows t n p (call_of t n c) h s w span row false (Some d) r goes next → Is (stays (put x) next) (Some d) r
+    made_is : {X : Type 0} (put : X → W) (r : Manner) (x : X) (d : Change) (next : Next L A) → is_step_of t.lock_kind d ≡ true → Means t n p s d put (Some x) → Follows t n p (call_of t n c) h s w span row false (Some d) r goes next → Is (stays (put x) next) (Some d) r
     made_is put r x d next own means follows =
         record {
           opens = means.0;
@@ -192,31 +191,31 @@ module _ {W V C L A : Type 0} (t : Table W V C L A) (n : Notes t) (sound_all : (
     tested r true x y single f g = stay_is r goes x tt (unretried single) (f refl)
     tested r false x y single f g = stay_is r goes y tt (unretried single) (g refl)
 
-    looked : {X : Type 0} (put : X → W) (r : Manner) (turn : Turn) (o : Option X) (d : Change) (found missed : Next L A) → Turned turn s None r → (is_again r ≡ true → failures p span < changes t.coding p span) → Means t n p s d put o
+    looked : {X : Type 0} (put : X → W) (r : Manner) (turn : Turn) (o : Option X) (d : Change) (found missed : Next L A) → Turned turn s None r → (is_again r ≡ true → failures p span < changes t.lock_kind p span) → Means t n p s d put o
         → (is_some o ≡ true → Follows t n p (call_of t n c) h s w span row false None r turn found) → (is_open s d ≡ false → Follows t n p (call_of t n c) h s w span row false None r (misses d) missed) → Is (stays w (either (is_some o) found missed)) None r
     looked put r turn None d found missed turned lost means f g = stay_is r (misses d) missed means lost (g means)
     looked put r turn (Some x) d found missed turned lost means f g = stay_is r turn found turned lost (f refl)
 
-    exchanged : {X : Type 0} (put : X → W) (r : Manner) (o : Option X) (d : Change) (won lost : Next L A) → is_again r ≡ false → is_step_of t.coding d ≡ true → Means t n p s d put o
+    exchanged : {X : Type 0} (put : X → W) (r : Manner) (o : Option X) (d : Change) (won lost : Next L A) → is_again r ≡ false → is_step_of t.lock_kind d ≡ true → Means t n p s d put o
         → Follows t n p (call_of t n c) h s w span row false (Some d) r goes won → (is_open s d ≡ false → Follows t n p (call_of t n c) h s w span row false None r (misses d) lost) → Is (becomes put w o won lost) (made_if o d) r
     exchanged put r None d won lost single own means f g = stay_is r (misses d) lost means (unretried single) (g means)
     exchanged put r (Some x) d won lost single own means f g = made_is put r x d won own means f
 
-    attempted : (put : ℕ → W) (o : Option ℕ) (d : Change) (won lost : Next L A) → is_step_of t.coding d ≡ true
+    attempted : (put : ℕ → W) (o : Option ℕ) (d : Change) (won lost : Next L A) → is_step_of t.lock_kind d ≡ true
         → ((to : ℕ) → o ≡ Some to → Means t n p s d put (Some to) × Follows t n p (call_of t n c) h s w span row false (Some d) plain goes won) → (o ≡ None → Follows t n p (call_of t n c) h s w span row false None plain goes lost) → Is (becomes put w o won lost) (made_if o d) plain
     attempted put None d won lost own f g = stay_is plain goes lost tt (unretried refl) (g refl)
     attempted put (Some to) d won lost own f g = let both = f to refl in made_is put plain to d won own both.0 both.1
 
     -- the number is as it was found, or another party has changed it since
-    made_again : (put : ℕ → W) (b : Bool) (o : Option ℕ) (d : Change) (won found missed : Next L A) → is_step_of t.coding d ≡ true → (b ≡ true → is_some o ≡ true) → failures p span + bit (not b) ≤ changes t.coding p span
+    made_again : (put : ℕ → W) (b : Bool) (o : Option ℕ) (d : Change) (won found missed : Next L A) → is_step_of t.lock_kind d ≡ true → (b ≡ true → is_some o ≡ true) → failures p span + bit (not b) ≤ changes t.lock_kind p span
         → Means t n p s d put o → (b ≡ true → Follows t n p (call_of t n c) h s w span row false (Some d) again goes won)
-        → (FindsAnother (limit t.coding (t.asks c h)) b (is_some o) → Follows t n p (call_of t n c) h s w span row false None again loses found) → (is_open s d ≡ false → Follows t n p (call_of t n c) h s w span row false None again (misses d) missed)
+        → (FindsAnother (limit t.lock_kind (t.asks c h)) b (is_some o) → Follows t n p (call_of t n c) h s w span row false None again loses found) → (is_open s d ≡ false → Follows t n p (call_of t n c) h s w span row false None again (misses d) missed)
         → Is (retried put b w o won found missed) (made_if (if b then o else None) d) again
     made_again put true None d won found missed own some le means f g m = absurd (false≢true (some refl))
     made_again put true (Some to) d won found missed own some le means f g m = made_is put again to d won own means (f refl)
-    made_again put false o d won found missed own some le means f g m = looked put again loses o d found missed (refl, refl) (λ e. omega (arith, le)) means (λ some. g (finds_another (limit t.coding (t.asks c h)) (is_some o) some)) m
+    made_again put false o d won found missed own some le means f g m = looked put again loses o d found missed (refl, refl) (λ e. omega (arith, le)) means (λ some. g (finds_another (limit t.lock_kind (t.asks c h)) (is_some o) some)) m
 
-    pub step_is : (i : ℕ) (act : Act W L A) → ((d : Change) → makes_by act p ≡ Some d → is_step_of t.coding d ≡ true) → Expects t.coding act p s span → Owes t n p (call_of t n c) h s w span row i act
+    pub step_is : (i : ℕ) (act : Act W L A) → ((d : Change) → makes_by act p ≡ Some d → is_step_of t.lock_kind d ≡ true) → Expects t.lock_kind act p s span → Owes t n p (call_of t n c) h s w span row i act
         → Is (step_by t.memory i act w) (change_by t.memory i act p w) (by_step (manner_by (t.asks c h) act))
     step_is i (load next) own expects owes = stay_is plain goes (next (number_at t.memory i w)) tt (unretried refl) owes
     step_is i (load_if test a b) own expects owes = tested (by_step (look_manner (t.asks c h))) (test (number_at t.memory i w)) _ _ (no_retry (is_waiting (t.asks c h))) owes.0 owes.1
@@ -229,7 +228,7 @@ module _ {W V C L A : Type 0} (t : Table W V C L A) (n : Notes t) (sound_all : (
     step_is i (retry k f step won found missed) own expects owes =
         let same = eqb-true (number_at t.memory 0 w) k in
         made_again (λ k. t.memory.put 0 k w) (number_at t.memory 0 w == k) (f (number_at t.memory 0 w)) (step p) won _ missed (own (step p) refl) (λ is. ap (λ j. is_some (f j)) (same is) ∙ expects.1)
-        (subst (λ x. failures p span + bit (not (x == k)) ≤ changes t.coding p span) (sym (first_is w s at.encodes)) expects.0) owes.0 (λ is. owes.1 (same is)) owes.2 owes.3
+        (subst (λ x. failures p span + bit (not (x == k)) ≤ changes t.lock_kind p span) (sym (first_is w s at.encodes)) expects.0) owes.0 (λ is. owes.1 (same is)) owes.2 owes.3
     step_is i (store can operation step next) own expects owes = made_is (λ k. t.memory.put i k w) plain (performed operation (number_at t.memory i w)) (step p) next (own (step p) refl) owes.1 owes.2
     step_is i (section can f step won lost) own expects owes = exchanged (λ u. u) plain (f w) (step p) (won w) (lost w) refl (own (step p) refl) owes.1 owes.2 owes.3
 
@@ -368,7 +367,7 @@ module _ {W V C L A : Type 0} (t : Table W V C L A) (n : Notes t) (sound_all : (
 
   -- at a point, which has a row
   module _ (p : ℕ) (c : C) (l : L) (h : Option Hold) (s : Plain) (w : W) (span : List Mark) where
-    pub here_at : (o : Option Row) → t.memory.numbers w ≡ encoded t.coding s → n.Shape s → IsExclusive s → failures p span ≤ changes t.coding p span → KnowsRow t n c l h p s span o → AtRow t n p c l h s w span o
+    pub here_at : (o : Option Row) → t.memory.numbers w ≡ encoded t.lock_kind s → n.Shape s → IsExclusive s → failures p span ≤ changes t.lock_kind p span → KnowsRow t n c l h p s span o → AtRow t n p c l h s w span o
     here_at None encodes shape exclusive retries knows = knows
     here_at (Some row) encodes shape exclusive retries knows = record { encodes = encodes; shape = shape; exclusive = exclusive; known = knows.0; knows = knows.1; retries = retries }
 
@@ -376,22 +375,22 @@ module _ {W V C L A : Type 0} (t : Table W V C L A) (n : Notes t) (sound_all : (
     Aims row = Aimed (t.asks c h) (t.act c l h) (row.made p) p
 
     -- what is so at its row is so there
-    pub at_row : (P : Type 0) → ((row : Row) → At t n p c l h s w span row → IsSound t.coding (t.asks c h) p (Some row) → Owes t n p (call_of t n c) h s w span row (t.word l) (t.act c l h) → Aims row → P)
-        → (o : Option Row) → IsSound t.coding (t.asks c h) p o → AtRow t n p c l h s w span o → OwesRow t n p (call_of t n c) l h s w span o → aim_by (t.asks c h) (t.act c l h) p ≡ aimed_at p (t.asks c h) o (aim_by (t.asks c h) (t.act c l h) p) → P
+    pub at_row : (P : Type 0) → ((row : Row) → At t n p c l h s w span row → IsSound t.lock_kind (t.asks c h) p (Some row) → Owes t n p (call_of t n c) h s w span row (t.word l) (t.act c l h) → Aims row → P)
+        → (o : Option Row) → IsSound t.lock_kind (t.asks c h) p o → AtRow t n p c l h s w span o → OwesRow t n p (call_of t n c) l h s w span o → aim_by (t.asks c h) (t.act c l h) p ≡ aimed_at p (t.asks c h) o (aim_by (t.asks c h) (t.act c l h) p) → P
     at_row P f None sound at owes aims = absurd at
     at_row P f (Some row) sound at owes aims = f row at sound (owes at) aims
 
-    pub soon_at : (o : Option Row) → AtRow t n p c l h s w span o → AnswersRow t n p (call_of t n c) l h s w span (answers_by t (steps_alone t.coding (t.asks c h)) w c l h) (is_waiting (t.asks c h)) o → is_open_now p (t.asks c h) span s ≡ true → answers_by t (steps_alone t.coding (t.asks c h)) w c l h ≡ true
+    pub soon_at : (o : Option Row) → AtRow t n p c l h s w span o → AnswersRow t n p (call_of t n c) l h s w span (answers_by t (steps_alone t.lock_kind (t.asks c h)) w c l h) (is_waiting (t.asks c h)) o → is_open_now p (t.asks c h) span s ≡ true → answers_by t (steps_alone t.lock_kind (t.asks c h)) w c l h ≡ true
     soon_at None at soon may = absurd at
     soon_at (Some row) at soon may =
         let waits = waits_where (t.asks c h) (is_empty (own p span)) (arrived p span) p s may in
-        let owed = subst (λ b. AnswersRow t n p (call_of t n c) l h s w span (answers_by t (steps_alone t.coding (t.asks c h)) w c l h) b (Some row)) waits soon in
+        let owed = subst (λ b. AnswersRow t n p (call_of t n c) l h s w span (answers_by t (steps_alone t.lock_kind (t.asks c h)) w c l h) b (Some row)) waits soon in
         owed at (subst (λ (cs : List Change). is_open_next (t.asks c h) (is_empty cs) (arrived p span) p s ≡ true) at.known.made may)
 
   pub others_at : (p q : ℕ) (c : C) (l : L) (h : Option Hold) (s : Plain) (step : Option Change) (r : Manner) (span : List Mark) (o : Option Row) → (q ≡ p → ⊥) → IsOpenStep s q step
       → (n.Knows c l h p s span → n.Knows c l h p (apply_some s step) (mark_of q step r s ∷ span)) → KnowsRow t n c l h p s span o → KnowsRow t n c l h p (apply_some s step) (mark_of q step r s ∷ span) o
   others_at p q c l h s step r span None ne may stays knows = absurd knows
-  others_at p q c l h s step r span (Some row) ne may stays knows = (known-other t.coding (t.asks c h) (t.act c l h) row p q s step r span ne may knows.0, stays knows.1)
+  others_at p q c l h s step r span (Some row) ne may stays knows = (known-other t.lock_kind (t.asks c h) (t.act c l h) row p q s step r span ne may knows.0, stays knows.1)
 
   pub begins_at : (p : ℕ) (c : C) (l : L) (h : Option Hold) (s : Plain) (o : Option Row) → entries p s ≡ entries_held p h → BeginsRow t n c l h p s o → KnowsRow t n c l h p s [] o
   begins_at p c l h s None mine begins = absurd begins
@@ -399,9 +398,9 @@ module _ {W V C L A : Type 0} (t : Table W V C L A) (n : Notes t) (sound_all : (
     record {
       stand = mine ∙ (held_at p h ∙ ap (entries_at p) (sym begins.0));
       made = sym begins.1;
-      spent = none_spent (limit t.coding (t.asks c h)) row.spent p;
-      expects = none_expected t.coding (t.act c l h) p s (needs_first (need_of t.coding (t.asks c h) (row.made p) (t.act c l h)) _ p begins.2).1;
-      needs = (needs_first (need_of t.coding (t.asks c h) (row.made p) (t.act c l h)) _ p begins.2).0;
+      spent = none_spent (limit t.lock_kind (t.asks c h)) row.spent p;
+      expects = none_expected t.lock_kind (t.act c l h) p s (needs_first (need_of t.lock_kind (t.asks c h) (row.made p) (t.act c l h)) _ p begins.2).1;
+      needs = (needs_first (need_of t.lock_kind (t.asks c h) (row.made p) (t.act c l h)) _ p begins.2).0;
       opened = tt;
     },
     begins.3,
@@ -409,15 +408,15 @@ module _ {W V C L A : Type 0} (t : Table W V C L A) (n : Notes t) (sound_all : (
 
 -- what an object that pays shows at a point of a call, whatever lies there
 module _ {W V C L A : Type 0} (t : Table W V C L A) (n : Notes t) (pays : Pays t n) (p : ℕ) (c : C) (l : L) (h : Option Hold) (s : Plain) (w : W) (span : List Mark) where
-  module _ (encodes : t.memory.numbers w ≡ encoded t.coding s) (shape : n.Shape s) (exclusive : IsExclusive s) (retries : failures p span ≤ changes t.coding p span) (knows : KnowsRow t n c l h p s span (row_of t n c l h)) where
+  module _ (encodes : t.memory.numbers w ≡ encoded t.lock_kind s) (shape : n.Shape s) (exclusive : IsExclusive s) (retries : failures p span ≤ changes t.lock_kind p span) (knows : KnowsRow t n c l h p s span (row_of t n c l h)) where
     here : AtRow t n p c l h s w span (row_of t n c l h)
     here = here_at t n pays.sound p c l h s w span (row_of t n c l h) encodes shape exclusive retries knows
 
-    by_row : (P : Type 0) → ((row : Row) → At t n p c l h s w span row → IsSound t.coding (t.asks c h) p (Some row) → Owes t n p (call_of t n c) h s w span row (t.word l) (t.act c l h) → Aims t n pays.sound p c l h s w span row → P) → P
-    by_row P f = at_row t n pays.sound p c l h s w span P f (row_of t n c l h) (sound_at t.coding (t.asks c h) h p (n.point c l h) (pays.sound p c l h)) here (pays.owes p c l h s w span) (pays.aims p c l h)
+    by_row : (P : Type 0) → ((row : Row) → At t n p c l h s w span row → IsSound t.lock_kind (t.asks c h) p (Some row) → Owes t n p (call_of t n c) h s w span row (t.word l) (t.act c l h) → Aims t n pays.sound p c l h s w span row → P) → P
+    by_row P f = at_row t n pays.sound p c l h s w span P f (row_of t n c l h) (sound_at t.lock_kind (t.asks c h) h p (n.point c l h) (pays.sound p c l h)) here (pays.owes p c l h s w span) (pays.aims p c l h)
 
     pub went_here : Went t n p c h s span (step_by t.memory (t.word l) (t.act c l h) w) (change_by t.memory (t.word l) (t.act c l h) p w) (by_step (manner_by (t.asks c h) (t.act c l h)))
-    went_here = by_row _ (λ row at sound owes aims. step_is t n pays.sound p c l h s w span row at sound (t.word l) (t.act c l h) (λ d is. (fits_made t.coding (t.asks c h) _ _ d (and_parts _ _ (pays.fits p c l h)).0 is).0) at.known.expects owes)
+    went_here = by_row _ (λ row at sound owes aims. step_is t n pays.sound p c l h s w span row at sound (t.word l) (t.act c l h) (λ d is. (fits_made t.lock_kind (t.asks c h) _ _ d (and_parts _ _ (pays.fits p c l h)).0 is).0) at.known.expects owes)
 
     pub can_here : can_by t.memory (t.word l) (t.act c l h) w ≡ true
     can_here = by_row _ (λ row at sound owes aims. can_is t n pays.sound p c l h s w span row at sound (t.word l) (t.act c l h) owes)
@@ -428,12 +427,12 @@ module _ {W V C L A : Type 0} (t : Table W V C L A) (n : Notes t) (pays : Pays t
     pub counted_here : GoesOnCounted (λ u. change_by t.memory (t.word l) (t.act c l h) p u) s (step_by {V = V} t.memory (t.word l) (t.act c l h) w).next (change_by t.memory (t.word l) (t.act c l h) p w) (by_step (manner_by (t.asks c h) (t.act c l h)))
     counted_here = by_row _ (λ row at sound owes aims. counted_is t n pays.sound p c l h s w span row at sound (t.word l) (t.act c l h) owes)
 
-    pub due_here : Gets t.coding p (t.asks c h) span s (change_by t.memory (t.word l) (t.act c l h) p w) (by_step (manner_by (t.asks c h) (t.act c l h)))
+    pub due_here : Gets t.lock_kind p (t.asks c h) span s (change_by t.memory (t.word l) (t.act c l h) p w) (by_step (manner_by (t.asks c h) (t.act c l h)))
     due_here ask aim = by_row _ (λ row at sound owes aims.
         let is = subst (λ cs. goes_for (t.asks c h) cs ≡ Some ask) at.known.made aim in
-        let way = way_of t.coding (t.asks c h) (row.made p) in
+        let way = way_of t.lock_kind (t.asks c h) (row.made p) in
         let act = t.act c l h in
-        subst (λ cs. let way = way_of t.coding (t.asks c h) cs in (is_due_by way p span ≡ true → is_open_to s p ask ≡ true → change_by t.memory (t.word l) act p w ≡ Some (gets p ask)) × LooksElse way p span (by_step (manner_by (t.asks c h) act))) (sym at.known.made)
+        subst (λ cs. let way = way_of t.lock_kind (t.asks c h) cs in (is_due_by way p span ≡ true → is_open_to s p ask ≡ true → change_by t.memory (t.word l) act p w ≡ Some (gets p ask)) × LooksElse way p span (by_step (manner_by (t.asks c h) act))) (sym at.known.made)
         (gets_is t n pays.sound p c l h s w span row at sound (t.word l) act ask way (goes_waiting (t.asks c h) (row.made p) ask is) (subst (λ o. Needs (need o way (rests act) (peeks act)) p span) is at.known.needs) (aims_sure (t.asks c h) act (row.made p) ask p is aims) owes))
 
     pub tries_here : (ask : Ask) → t.asks c h ≡ tries ask → own p span ≡ [] → GoesOnOpen ask p span s (step_by {V = V} t.memory (t.word l) (t.act c l h) w).next (change_by t.memory (t.word l) (t.act c l h) p w)
@@ -441,23 +440,23 @@ module _ {W V C L A : Type 0} (t : Table W V C L A) (n : Notes t) (pays : Pays t
         tries_is t n pays.sound p c l h s w span row at sound ask is (t.word l) (t.act c l h)
         (aims_try (t.asks c h) (t.act c l h) (row.made p) ask p is (sym at.known.made ∙ none) aims) owes)
 
-    pub soon_here : is_open_now p (t.asks c h) span s ≡ true → answers_by t (steps_alone t.coding (t.asks c h)) w c l h ≡ true
+    pub soon_here : is_open_now p (t.asks c h) span s ≡ true → answers_by t (steps_alone t.lock_kind (t.asks c h)) w c l h ≡ true
     soon_here may = soon_at t n pays.sound p c l h s w span (row_of t n c l h) here (pays.soon p c l h s w span) may
 
-  pub others_here : (q : ℕ) (step : Option Change) (r : Manner) → (q ≡ p → ⊥) → n.Shape s → IsOpenStep s q step → BelongsTo t.coding step → KnowsRow t n c l h p s span (row_of t n c l h)
+  pub others_here : (q : ℕ) (step : Option Change) (r : Manner) → (q ≡ p → ⊥) → n.Shape s → IsOpenStep s q step → BelongsTo t.lock_kind step → KnowsRow t n c l h p s span (row_of t n c l h)
       → KnowsRow t n c l h p (apply_some s step) (mark_of q step r s ∷ span) (row_of t n c l h)
   others_here q step r ne shape may belongs knows = others_at t n pays.sound p q c l h s step r span (row_of t n c l h) ne may (pays.others p q c l h s step r span ne shape may belongs) knows
 
   pub begins_here : begin_of t c h ≡ Some l → entries p s ≡ entries_held p h → KnowsRow t n c l h p s [] (row_of t n c l h)
   begins_here e mine = begins_at t n pays.sound p c l h s (row_of t n c l h) mine (subst (BeginsAt t n c h p s) e (pays.begins p c h s))
 
-module _ {W V C L A : Type 0} (t : Table W V C L A) (n : Notes t) (pays : Pays t n) (no_value : makes_value t.coding ≡ false) where
+module _ {W V C L A : Type 0} (t : Table W V C L A) (n : Notes t) (pays : Pays t n) (no_value : t.lock_kind.makes_value ≡ false) where
   no_completion : (p : ℕ) (c : C) (l : L) (h : Option Hold) (w : W) (q : ℕ) → change_by t.memory (t.word l) (t.act c l h) p w ≡ Some (completes q) → ⊥
-  no_completion p c l h w q is = completes_none t.coding q no_value (fits_change t pays.fits pays.operates p c l h _ w (completes q) is).0
+  no_completion p c l h w q is = completes_none t.lock_kind q no_value (fits_change t pays.fits pays.operates p c l h _ w (completes q) is).0
 
   silent : (v : Option V) (next : Next L A) → NextGives (machine_of t) v next
   silent v (GoesOn l) = tt
-  silent v (Answers a after) = gives_none t.coding (t.says a) None v no_value
+  silent v (Answers a after) = gives_none t.lock_kind.makes_value (t.says a) None v no_value
 
   module _ (p : ℕ) (c : C) (l : L) (h : Option Hold) (s : Plain) (v : Option V) (w : W) (span : List Mark) (here : InCall (machine_of t) (keeping_of t n) p c l h s v w span) where
     step_here : StepIs (machine_of t) (keeping_of t n) p c h s v span (step_by t.memory (t.word l) (t.act c l h) w) (change_by t.memory (t.word l) (t.act c l h) p w) (by_step (manner_by (t.asks c h) (t.act c l h)))
@@ -491,10 +490,10 @@ module _ {W V C L A : Type 0} (t : Table W V C L A) (n : Notes t) (pays : Pays t
         due = λ p c l h s v w span here. due_here t n pays p c l h s w span here.encodes here.shape here.exclusive here.retries here.knows;
         tries_on = λ p c l h s v w span here. tries_here t n pays p c l h s w span here.encodes here.shape here.exclusive here.retries here.knows;
         completes_alone = λ p c l h s v w span here q is. absurd (no_completion p c l h w q is);
-        undisturbed = λ p c l h s v w span here may. answers_within t n pays.sound (steps_alone t.coding (t.asks c h)) w c l h (soon_here t n pays p c l h s w span here.encodes here.shape here.exclusive here.retries here.knows may);
+        undisturbed = λ p c l h s v w span here may. answers_within t n pays.sound (steps_alone t.lock_kind (t.asks c h)) w c l h (soon_here t n pays p c l h s w span here.encodes here.shape here.exclusive here.retries here.knows may);
         refuses = λ p c l h s v w span next here is. (refusal_here t n pays p c l h s w span here.encodes here.shape here.exclusive here.retries here.knows next is).0;
         weakly = λ p c l h s v w span next here is. let may = refusal_here t n pays p c l h s w span here.encodes here.shape here.exclusive here.retries here.knows next is in (may.1, may.2);
-        phase = λ s v shape. phase_none t.coding s.phase v no_value;
+        phase = λ s v shape. phase_none t.lock_kind.makes_value s.phase v no_value;
         values = λ p c l h s v w span here. record { brings = λ q is. absurd (no_completion p c l h w q is); gives = silent _ (step_by t.memory (t.word l) (t.act c l h) w).next };
         refusal_gives = λ p c l h s v w span next here is. silent v next;
       }

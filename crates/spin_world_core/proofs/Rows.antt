@@ -1,6 +1,6 @@
 -- What a party in a call knows of itself and of its span, and that its own steps and those of others keep it.
-use Rattle.std.proofs.Common.{◌≡◌, ℕ, suc, ◌+◌, ◌≤◌, ◌⊎◌, ◌==◌, Bool, true, false, not, ◌&&◌, ◌||◌, is_some, Option, Some, None, List, [], ◌∷◌, ◌++◌, option_to_list, nat_lt, if◌then◌else◌, refl, ap, sym, ◌∙◌, subst, arith, inl, inr, ⊎_elim}
-use Rattle.std.proofs.lemmas.Bool.{ne_eqb, eqb-true, ltb-true, cases_eq, eq-eqb, true≢false}
+use Rattle.std.proofs.Common.{◌≡◌, ℕ, suc, ◌+◌, ◌≤◌, ◌⊎◌, ◌==◌, Bool, true, false, not, ◌&&◌, ◌||◌, is_some, Option, Some, None, List, [], ◌∷◌, ◌++◌, length, option_to_list, nat_lt, if◌then◌else◌, refl, ap, sym, ◌∙◌, subst, arith, inl, inr, ⊎_elim}
+use Rattle.std.proofs.lemmas.Bool.{ne_eqb, eqb-true, ltb-true, lt-ltb, cases_eq, eq-eqb, true≢false}
 use Rattle.spin_step.specs.Plain.{Plain, upgradable, writing, Ask, to_read, to_upgrade_asked, to_enter, to_take_and_enter, to_lock_unregistered, to_lock_starving, to_begin, Change, gets, turns, completes, fails, arrives, is_open, is_open_to}
 use Rattle.spin_step.specs.Parties.{apply_some, IsOpenStep, entries, is_held}
 use Rattle.spin_step.specs.Steps.{bit}
@@ -8,7 +8,7 @@ use Rattle.spin_step.proofs.Entries.{entries-other}
 use Rattle.spin_world_core.specs.declared.place.Hold.{Hold}
 use Rattle.spin_world_core.specs.declared.place.Hold.TheVariants.{Upgradable, Write}
 use Rattle.spin_world_core.specs.Manners.{Manner, is_again, is_look}
-use Rattle.spin_world_core.specs.Calls.{Coding, ticket, Asked, waits, waits_or_starves, tries, tries_weakly, tries_to_know, looks, counts_readers, counts_writers, turns_to, gives_back, initializes, fails_to_initialize, waits_for_value, polls, looks_for_value, looks_complete, meets, Said, granted, refused, done, tells, counted, gives_value, failed, leads, grant, let_go_of, own_steps, Mark, AnyOf, Grants, HasMoment, HasWeakMoment, FindsClosed, first_word, Limit, unlimited, within, within_changes, gets_within, changes_within, registers_after, limit}
+use Rattle.spin_world_core.specs.Calls.{LockKind, Asked, waits, waits_or_starves, tries, tries_weakly, tries_to_know, looks, counts_readers, counts_writers, turns_to, gives_back, initializes, fails_to_initialize, waits_for_value, polls, looks_for_value, looks_complete, meets, Said, granted, refused, done, tells, counted, gives_value, failed, leads, grant, let_go_of, own_steps, Mark, AnyOf, Grants, HasMoment, HasWeakMoment, FindsClosed, first_word, Limit, unlimited, within, within_changes, gets_within, changes_within, registers_after, limit}
 use Rattle.spin_world_core.specs.Runs.{mark_of, own, own_count, failures, changes, RegistersInTime, EndsWithin, GoesOnWithin}
 use Rattle.spin_world_core.specs.Order.{goes_for, is_due, Way, always, by_looks, past_looks, way_of, is_due_by, MayTryOn}
 use Rattle.spin_world_core.specs.Acts.{Act, load, load_if, load_for, attempt, retry}
@@ -41,19 +41,19 @@ Spends (changes_within n) k p span = own p span ≡ [] → own_count p span ≤ 
 Spends (registers_after n j) k p span = Unit {0}
 
 -- after j steps and this turn, k are spent; the list is of the plain steps that are made then, and the span has this step. That a call registers in time an object shows by what it knows
-abbrev pub MaySpend : Limit → Turn → List Change → ℕ → ℕ → ℕ → Coding → List Mark → Type 0
-MaySpend unlimited t cs j k p coding span = Unit {0}
-MaySpend (within n) t cs j k p coding span = nat_lt j k ≡ true
-MaySpend (within_changes n) loses cs j k p coding span = nat_lt j (suc k) ≡ true
-MaySpend (within_changes n) t cs j k p coding span = nat_lt j k ≡ true
-MaySpend (gets_within ask n) t (c ∷ cs) j k p coding span = Unit {0}
-MaySpend (gets_within ask n) goes [] j k p coding span = nat_lt j k ≡ true
-MaySpend (gets_within ask n) finds_open [] j k p coding span = nat_lt j k ≡ true
-MaySpend (gets_within ask n) loses [] j k p coding span = nat_lt j (suc k) ≡ true
-MaySpend (gets_within ask n) (misses c) [] j k p coding span = c ≡ gets p ask
-MaySpend (changes_within n) t (c ∷ cs) j k p coding span = Unit {0}
-MaySpend (changes_within n) t [] j k p coding span = nat_lt j k ≡ true
-MaySpend (registers_after n i) t cs j k p coding span = GoesOnWithin (registers_after n i) coding p span
+abbrev pub MaySpend : Limit → Turn → List Change → ℕ → ℕ → ℕ → LockKind → List Mark → Type 0
+MaySpend unlimited t cs j k p kind span = Unit {0}
+MaySpend (within n) t cs j k p kind span = nat_lt j k ≡ true
+MaySpend (within_changes n) loses cs j k p kind span = nat_lt j (suc k) ≡ true
+MaySpend (within_changes n) t cs j k p kind span = nat_lt j k ≡ true
+MaySpend (gets_within ask n) t (c ∷ cs) j k p kind span = Unit {0}
+MaySpend (gets_within ask n) goes [] j k p kind span = nat_lt j k ≡ true
+MaySpend (gets_within ask n) finds_open [] j k p kind span = nat_lt j k ≡ true
+MaySpend (gets_within ask n) loses [] j k p kind span = nat_lt j (suc k) ≡ true
+MaySpend (gets_within ask n) (misses c) [] j k p kind span = c ≡ gets p ask
+MaySpend (changes_within n) t (c ∷ cs) j k p kind span = Unit {0}
+MaySpend (changes_within n) t [] j k p kind span = nat_lt j k ≡ true
+MaySpend (registers_after n i) t cs j k p kind span = GoesOnWithin (registers_after n i) kind p span
 
 -- a try that has found its plain step closed goes on no more, and by a look alone only where it may
 abbrev pub MayGoOn : Asked → Turn → Option Change → ℕ → Plain → List Mark → Type 0 → Type 0
@@ -106,44 +106,44 @@ module _ (p : ℕ) (s : Plain) (step : Option Change) (r : Manner) (span : List 
       let one = failures-mine p step r s span ∙ (ap (λ b. failures p span + bit (b && not (is_some step))) lost.0 ∙ ap (λ (o : Option Change). failures p span + bit (true && not (is_some o))) lost.1) in
       omega (arith, own_count-mine p step r s span, one, ltb-true j (suc k) lt)
 
-  pub spent-mine : (what : Limit) (coding : Coding) (t : Turn) (cs : List Change) (j k : ℕ) → Turned t s step r → own p (mark_of p step r s ∷ span) ≡ cs → MaySpend what t cs j k p coding (mark_of p step r s ∷ span) → Spends what j p span → Spends what k p (mark_of p step r s ∷ span)
-  spent-mine (within n) coding t cs j k how is may spent = omega (arith, own_count-mine p step r s span, ltb-true j k may)
-  spent-mine (within_changes n) coding goes cs j k how is may spent = counts_one j k may spent
-  spent-mine (within_changes n) coding finds_open cs j k how is may spent = counts_one j k may spent
-  spent-mine (within_changes n) coding loses cs j k how is may spent = counts_lost j k may how spent
-  spent-mine (within_changes n) coding (misses c) cs j k how is may spent = counts_one j k may spent
-  spent-mine (gets_within ask n) coding t (c ∷ cs) j k how is may spent = λ none. absurd (cc (is, none))
-  spent-mine (gets_within ask n) coding goes [] j k how is may spent = λ none. on_each (counts_one j k may) (λ found. inr found) (spent (none_before none))
-  spent-mine (gets_within ask n) coding finds_open [] j k how is may spent = λ none. on_each (counts_one j k may) (λ found. inr found) (spent (none_before none))
-  spent-mine (gets_within ask n) coding loses [] j k how is may spent = λ none. on_each (counts_lost j k may how) (λ found. inr found) (spent (none_before none))
-  spent-mine (gets_within ask n) coding (misses c) [] j k how is may spent = λ none. inr (inl (refl, subst (λ d. is_open s d ≡ false) may how))
-  spent-mine (changes_within n) coding t (c ∷ cs) j k how is may spent = λ none. absurd (cc (is, none))
-  spent-mine (changes_within n) coding t [] j k how is may spent = λ none. omega (arith, own_count-mine p step r s span, ltb-true j k may, spent (none_before none))
-  spent-mine _ coding t cs j k how is may spent = tt
+  pub spent-mine : (what : Limit) (kind : LockKind) (t : Turn) (cs : List Change) (j k : ℕ) → Turned t s step r → own p (mark_of p step r s ∷ span) ≡ cs → MaySpend what t cs j k p kind (mark_of p step r s ∷ span) → Spends what j p span → Spends what k p (mark_of p step r s ∷ span)
+  spent-mine (within n) kind t cs j k how is may spent = omega (arith, own_count-mine p step r s span, ltb-true j k may)
+  spent-mine (within_changes n) kind goes cs j k how is may spent = counts_one j k may spent
+  spent-mine (within_changes n) kind finds_open cs j k how is may spent = counts_one j k may spent
+  spent-mine (within_changes n) kind loses cs j k how is may spent = counts_lost j k may how spent
+  spent-mine (within_changes n) kind (misses c) cs j k how is may spent = counts_one j k may spent
+  spent-mine (gets_within ask n) kind t (c ∷ cs) j k how is may spent = λ none. absurd (cc (is, none))
+  spent-mine (gets_within ask n) kind goes [] j k how is may spent = λ none. on_each (counts_one j k may) (λ found. inr found) (spent (none_before none))
+  spent-mine (gets_within ask n) kind finds_open [] j k how is may spent = λ none. on_each (counts_one j k may) (λ found. inr found) (spent (none_before none))
+  spent-mine (gets_within ask n) kind loses [] j k how is may spent = λ none. on_each (counts_lost j k may how) (λ found. inr found) (spent (none_before none))
+  spent-mine (gets_within ask n) kind (misses c) [] j k how is may spent = λ none. inr (inl (refl, subst (λ d. is_open s d ≡ false) may how))
+  spent-mine (changes_within n) kind t (c ∷ cs) j k how is may spent = λ none. absurd (cc (is, none))
+  spent-mine (changes_within n) kind t [] j k how is may spent = λ none. omega (arith, own_count-mine p step r s span, ltb-true j k may, spent (none_before none))
+  spent-mine _ kind t cs j k how is may spent = tt
 
 -- a call may go on so, and be answered by the next step
 
-pub goes_within : (what : Limit) (coding : Coding) (t : Turn) (cs : List Change) (j k p : ℕ) (span : List Mark) → own p span ≡ cs → is_timely what cs k ≡ true → failures p span ≤ changes coding p span → MaySpend what t cs j k p coding span → Spends what k p span → GoesOnWithin what coding p span
-goes_within unlimited coding t cs j k p span is timely retries may spent = tt
-goes_within (within n) coding t cs j k p span is timely retries may spent = omega (arith, ltb-true k n timely, spent)
-goes_within (within_changes n) coding t cs j k p span is timely retries may spent = omega (arith, ltb-true k n timely, spent, retries)
-goes_within (gets_within ask n) coding t [] j k p span is timely retries may spent = λ none. on_each (λ le. omega (arith, ltb-true k n timely, le, retries)) (λ found. found) (spent none)
-goes_within (changes_within n) coding t [] j k p span is timely retries may spent = λ none. omega (arith, ltb-true k n timely, spent none)
-goes_within (registers_after n i) coding t cs j k p span is timely retries may spent = may
-goes_within _ coding t (c ∷ cs) j k p span is timely retries may spent = λ none. absurd (cc (is, none))
+pub goes_within : (what : Limit) (kind : LockKind) (t : Turn) (cs : List Change) (j k p : ℕ) (span : List Mark) → own p span ≡ cs → is_timely what cs k ≡ true → failures p span ≤ changes kind p span → MaySpend what t cs j k p kind span → Spends what k p span → GoesOnWithin what kind p span
+goes_within unlimited kind t cs j k p span is timely retries may spent = tt
+goes_within (within n) kind t cs j k p span is timely retries may spent = omega (arith, ltb-true k n timely, spent)
+goes_within (within_changes n) kind t cs j k p span is timely retries may spent = omega (arith, ltb-true k n timely, spent, retries)
+goes_within (gets_within ask n) kind t [] j k p span is timely retries may spent = λ none. on_each (λ le. omega (arith, ltb-true k n timely, le, retries)) (λ found. found) (spent none)
+goes_within (changes_within n) kind t [] j k p span is timely retries may spent = λ none. omega (arith, ltb-true k n timely, spent none)
+goes_within (registers_after n i) kind t cs j k p span is timely retries may spent = may
+goes_within _ kind t (c ∷ cs) j k p span is timely retries may spent = λ none. absurd (cc (is, none))
 
 -- what an answer owes of its call's time where that is shown by what the party knows
-abbrev pub OwesEnd : Limit → Coding → ℕ → List Mark → Type 0
-OwesEnd (registers_after n i) coding p span = EndsWithin (registers_after n i) coding p span
-OwesEnd _ coding p span = Unit {0}
+abbrev pub OwesEnd : Limit → LockKind → ℕ → List Mark → Type 0
+OwesEnd (registers_after n i) kind p span = EndsWithin (registers_after n i) kind p span
+OwesEnd _ kind p span = Unit {0}
 
-pub ends_within : (what : Limit) (coding : Coding) (cs : List Change) (k p : ℕ) (s : Plain) (step : Option Change) (r : Manner) (span : List Mark) → is_timely what cs k ≡ true → failures p span ≤ changes coding p span → Spends what k p span
-    → OwesEnd what coding p (mark_of p step r s ∷ span) → EndsWithin what coding p (mark_of p step r s ∷ span)
-ends_within (within n) coding cs k p s step r span timely retries spent owed = omega (arith, ltb-true k n timely, spent, own_count-mine p step r s span)
-ends_within (within_changes n) coding cs k p s step r span timely retries spent owed =
-    omega (arith, ltb-true k n timely, spent, retries, own_count-mine p step r s span, changes-mine coding p step r s span)
-ends_within (registers_after n i) coding cs k p s step r span timely retries spent owed = owed
-ends_within _ coding cs k p s step r span timely retries spent owed = tt
+pub ends_within : (what : Limit) (kind : LockKind) (cs : List Change) (k p : ℕ) (s : Plain) (step : Option Change) (r : Manner) (span : List Mark) → is_timely what cs k ≡ true → failures p span ≤ changes kind p span → Spends what k p span
+    → OwesEnd what kind p (mark_of p step r s ∷ span) → EndsWithin what kind p (mark_of p step r s ∷ span)
+ends_within (within n) kind cs k p s step r span timely retries spent owed = omega (arith, ltb-true k n timely, spent, own_count-mine p step r s span)
+ends_within (within_changes n) kind cs k p s step r span timely retries spent owed =
+    omega (arith, ltb-true k n timely, spent, retries, own_count-mine p step r s span, changes-mine kind p step r s span)
+ends_within (registers_after n i) kind cs k p s step r span timely retries spent owed = owed
+ends_within _ kind cs k p s step r span timely retries spent owed = tt
 
 -- Its plain steps, and the moment of a grant
 
@@ -216,15 +216,14 @@ weak_moment_of (tries_weakly ask) refused p span opened is owed = tt
 weak_moment_of (tries_weakly ask) said p span opened is owed = moment_of (tries_weakly ask) said p span opened is owed
 weak_moment_of what said p span opened is owed = moment_of what said p span opened is owed
 
-pub ends_owed : (coding : Coding) (weakly : Bool) (what : Asked) (said : Said) (p : ℕ) (span : List Mark) → AnyOf (λ steps. own p span ≡ steps) (own_steps what said p) → OwesRight weakly what said p span → OwesEnd (limit coding what) coding p span
-ends_owed coding true (waits_or_starves n) granted p span is owed = owed
-ends_owed coding false (waits_or_starves n) granted p span is owed = owed
-ends_owed coding weakly (waits_or_starves n) _ p span is owed = absurd is
-ends_owed coding weakly (waits to_enter) said p span is owed = tt
-ends_owed coding weakly (waits to_upgrade_asked) said p span is owed = tt
-ends_owed coding weakly (tries to_read) said p span is owed = tt
-ends_owed ticket weakly looks said p span is owed = tt
-ends_owed coding weakly _ said p span is owed = tt
+pub ends_owed : (kind : LockKind) (weakly : Bool) (what : Asked) (said : Said) (p : ℕ) (span : List Mark) → AnyOf (λ steps. own p span ≡ steps) (own_steps what said p) → OwesRight weakly what said p span → OwesEnd (limit kind what) kind p span
+ends_owed kind true (waits_or_starves n) granted p span is owed = owed
+ends_owed kind false (waits_or_starves n) granted p span is owed = owed
+ends_owed kind weakly (waits_or_starves n) _ p span is owed = absurd is
+ends_owed kind weakly (waits to_enter) said p span is owed = tt
+ends_owed kind weakly (waits to_upgrade_asked) said p span is owed = tt
+ends_owed kind weakly (tries to_read) said p span is owed = tt
+ends_owed kind weakly _ said p span is owed = tt
 
 -- What a row says of a point
 
@@ -274,54 +273,53 @@ row_at looks_complete h (looked k) = Some (row_looked h k (λ p. []) (tells true
 row_at meets h (looked k) = Some (row_looked h k (λ p. arrives p ∷ []) leads)
 
 -- a row leaves time for a step, and leads to an answer
-abbrev pub IsSound : Coding → Asked → ℕ → Option Row → Type 0
-IsSound coding what p None = Unit {0}
-IsSound coding what p (Some row) = (is_timely (limit coding what) (row.made p) row.spent ≡ true) × AnyOf (λ steps. row.made p ++ row.rest p ≡ steps) (own_steps what row.said p)
+abbrev pub IsSound : LockKind → Asked → ℕ → Option Row → Type 0
+IsSound kind what p None = Unit {0}
+IsSound kind what p (Some row) = (is_timely (limit kind what) (row.made p) row.spent ≡ true) × AnyOf (λ steps. row.made p ++ row.rest p ≡ steps) (own_steps what row.said p)
 
 -- what is left to show of it
-abbrev pub SoundAt : Coding → Asked → ℕ → Point → Type 0
-SoundAt coding what p nowhere = Unit {0}
-SoundAt coding what p (looked k) = is_timely (limit coding what) [] k ≡ true
-SoundAt coding what p (onward row) = IsSound coding what p (Some row)
+abbrev pub SoundAt : LockKind → Asked → ℕ → Point → Type 0
+SoundAt kind what p nowhere = Unit {0}
+SoundAt kind what p (looked k) = is_timely (limit kind what) [] k ≡ true
+SoundAt kind what p (onward row) = IsSound kind what p (Some row)
 
-pub sound_at : (coding : Coding) (what : Asked) (h : Option Hold) (p : ℕ) (point : Point) → SoundAt coding what p point → IsSound coding what p (row_at what h point)
-sound_at coding what h p nowhere sound = tt
-sound_at coding what h p (onward row) sound = sound
-sound_at coding (turns_to (Some Write) kind) h p (looked k) sound = (sound, inl refl)
-sound_at coding (turns_to (Some Upgradable) kind) h p (looked k) sound = (sound, inl refl)
-sound_at coding (turns_to _ kind) h p (looked k) sound = tt
-sound_at coding (gives_back None) h p (looked k) sound = tt
-sound_at coding (gives_back (Some hold)) h p (looked k) sound = (sound, inl refl)
-sound_at coding _ h p (looked k) sound = (sound, inl refl)
+pub sound_at : (kind : LockKind) (what : Asked) (h : Option Hold) (p : ℕ) (point : Point) → SoundAt kind what p point → IsSound kind what p (row_at what h point)
+sound_at kind what h p nowhere sound = tt
+sound_at kind what h p (onward row) sound = sound
+sound_at kind (turns_to (Some Write) to) h p (looked k) sound = (sound, inl refl)
+sound_at kind (turns_to (Some Upgradable) to) h p (looked k) sound = (sound, inl refl)
+sound_at kind (turns_to _ to) h p (looked k) sound = tt
+sound_at kind (gives_back None) h p (looked k) sound = tt
+sound_at kind (gives_back (Some hold)) h p (looked k) sound = (sound, inl refl)
+sound_at kind _ h p (looked k) sound = (sound, inl refl)
 
-timely_try : (coding : Coding) (ask : Ask) → is_timely (limit coding (tries ask)) [] 0 ≡ true
-timely_try coding to_read = refl
-timely_try coding _ = refl
+timely_try : (kind : LockKind) (ask : Ask) → is_timely (limit kind (tries ask)) [] 0 ≡ true
+timely_try kind to_read = refl
+timely_try kind _ = refl
 
-timely_wait : (coding : Coding) (ask : Ask) → is_timely (limit coding (waits ask)) [] 0 ≡ true
-timely_wait coding to_enter = refl
-timely_wait coding to_upgrade_asked = refl
-timely_wait coding _ = refl
+timely_wait : (kind : LockKind) (ask : Ask) → is_timely (limit kind (waits ask)) [] 0 ≡ true
+timely_wait kind to_enter = refl
+timely_wait kind to_upgrade_asked = refl
+timely_wait kind _ = refl
 
-timely_look : (coding : Coding) → is_timely (limit coding looks) [] 0 ≡ true
-timely_look ticket = refl
-timely_look _ = refl
+timely_look : (kind : LockKind) → is_timely (limit kind looks) [] 0 ≡ true
+timely_look kind = lt-ltb 0 (suc (length kind.further_words)) (omega arith)
 
-timely_first : (coding : Coding) (what : Asked) → is_timely (limit coding what) [] 0 ≡ true
-timely_first coding (waits ask) = timely_wait coding ask
-timely_first coding (tries ask) = timely_try coding ask
-timely_first coding looks = timely_look coding
-timely_first coding _ = refl
+timely_first : (kind : LockKind) (what : Asked) → is_timely (limit kind what) [] 0 ≡ true
+timely_first kind (waits ask) = timely_wait kind ask
+timely_first kind (tries ask) = timely_try kind ask
+timely_first kind looks = timely_look kind
+timely_first kind _ = refl
 
 -- so is each call's beginning
-pub starts_sound : {L : Type 0} (coding : Coding) (what : Asked) (p : ℕ) (o : Option L) → SoundAt coding what p (starts o)
-starts_sound coding what p None = tt
-starts_sound coding what p (Some l) = timely_first coding what
+pub starts_sound : {L : Type 0} (kind : LockKind) (what : Asked) (p : ℕ) (o : Option L) → SoundAt kind what p (starts o)
+starts_sound kind what p None = tt
+starts_sound kind what p (Some l) = timely_first kind what
 
 -- where the next step is a retry: no more retries have failed than others have changed the first word, it not counted if it has changed since; and what was found is enough
-abbrev pub Expects : {W L A : Type 0} → Coding → Act W L A → ℕ → Plain → List Mark → Type 0
-Expects coding (retry k f step won found missed) p s span = (failures p span + bit (not (first_word coding s == k)) ≤ changes coding p span) × (is_some (f k) ≡ true)
-Expects coding _ p s span = Unit {0}
+abbrev pub Expects : {W L A : Type 0} → LockKind → Act W L A → ℕ → Plain → List Mark → Type 0
+Expects kind (retry k f step won found missed) p s span = (failures p span + bit (not (first_word kind s == k)) ≤ changes kind p span) × (is_some (f k) ≡ true)
+Expects kind _ p s span = Unit {0}
 
 -- what is owed of it by a step that finds n in the first word
 abbrev pub Found : {W L A : Type 0} → Act W L A → ℕ → Option Change → Type 0
@@ -357,8 +355,8 @@ need (Some ask) past_looks true peeking = undue
 need (Some ask) way false peeking = free
 need (Some ask) way resting peeking = never
 
-abbrev pub need_of : {W L A : Type 0} → Coding → Asked → List Change → Act W L A → Need
-need_of coding what made act = need (goes_for what made) (way_of coding what made) (rests act) (peeks act)
+abbrev pub need_of : {W L A : Type 0} → LockKind → Asked → List Change → Act W L A → Need
+need_of kind what made act = need (goes_for what made) (way_of kind what made) (rests act) (peeks act)
 
 abbrev pub Needs : Need → ℕ → List Mark → Type 0
 Needs free p span = Unit {0}
@@ -386,25 +384,25 @@ BeginsBy undue Begins = ⊥
 BeginsBy never Begins = ⊥
 BeginsBy _ Begins = Begins
 
-pub record Known {W L A : Type 0} (coding : Coding) (what : Asked) (act : Act W L A) (row : Row) (p : ℕ) (s : Plain) (span : List Mark) : Type 0 where
+pub record Known {W L A : Type 0} (kind : LockKind) (what : Asked) (act : Act W L A) (row : Row) (p : ℕ) (s : Plain) (span : List Mark) : Type 0 where
   pub stand : entries p s ≡ entries_at p row.stand
   pub made : own p span ≡ row.made p
-  pub spent : Spends (limit coding what) row.spent p span
-  pub expects : Expects coding act p s span
-  pub needs : Needs (need_of coding what (row.made p) act) p span
+  pub spent : Spends (limit kind what) row.spent p span
+  pub expects : Expects kind act p s span
+  pub needs : Needs (need_of kind what (row.made p) act) p span
   pub opened : Opened span
 
 -- after a step of its own
 
-unmoved : (a b : ℕ) (coding : Coding) (p n : ℕ) (s : Plain) (step : Option Change) → a ≤ b → step ≡ None → first_word coding s ≡ n → a + bit (not (first_word coding (apply_some s step) == n)) ≤ b
-unmoved a b coding p n s step le none is =
-    omega (arith, le, ap (λ (o : Option Change). bit (not (first_word coding (apply_some s o) == n))) none, ap (λ x. bit (not x)) (eq-eqb (first_word coding s) n is))
+unmoved : (a b : ℕ) (kind : LockKind) (p n : ℕ) (s : Plain) (step : Option Change) → a ≤ b → step ≡ None → first_word kind s ≡ n → a + bit (not (first_word kind (apply_some s step) == n)) ≤ b
+unmoved a b kind p n s step le none is =
+    omega (arith, le, ap (λ (o : Option Change). bit (not (first_word kind (apply_some s o) == n))) none, ap (λ x. bit (not x)) (eq-eqb (first_word kind s) n is))
 
-pub expects-mine : {W L A : Type 0} (coding : Coding) (act : Act W L A) (n p : ℕ) (s : Plain) (step : Option Change) (r : Manner) (span : List Mark) → n ≡ first_word coding s
-    → failures p (mark_of p step r s ∷ span) ≤ changes coding p (mark_of p step r s ∷ span) → Found act n step → Expects coding act p (apply_some s step) (mark_of p step r s ∷ span)
-expects-mine coding (retry k f c won found missed) n p s step r span is le finds =
-    (unmoved (failures p (mark_of p step r s ∷ span)) (changes coding p (mark_of p step r s ∷ span)) coding p k s step le finds.0 (sym is ∙ finds.1), finds.2)
-expects-mine coding _ n p s step r span is le finds = tt
+pub expects-mine : {W L A : Type 0} (kind : LockKind) (act : Act W L A) (n p : ℕ) (s : Plain) (step : Option Change) (r : Manner) (span : List Mark) → n ≡ first_word kind s
+    → failures p (mark_of p step r s ∷ span) ≤ changes kind p (mark_of p step r s ∷ span) → Found act n step → Expects kind act p (apply_some s step) (mark_of p step r s ∷ span)
+expects-mine kind (retry k f c won found missed) n p s step r span is le finds =
+    (unmoved (failures p (mark_of p step r s ∷ span)) (changes kind p (mark_of p step r s ∷ span)) kind p k s step le finds.0 (sym is ∙ finds.1), finds.2)
+expects-mine kind _ n p s step r span is le finds = tt
 
 due-mine : (p : ℕ) (s : Plain) (step : Option Change) (r : Manner) (span : List Mark) → is_due p (mark_of p step r s ∷ span) ≡ makes_due step r s
 due-mine p s step r span = ap (λ b. if b then makes_due step r s else is_due p span) (eqb_self p)
@@ -437,9 +435,9 @@ none_spent (gets_within ask n) k p = λ none. inl (omega arith)
 none_spent (changes_within n) k p = λ none. omega arith
 none_spent _ k p = tt
 
-pub none_expected : {W L A : Type 0} (coding : Coding) (act : Act W L A) (p : ℕ) (s : Plain) → NoRetry act → Expects coding act p s []
-none_expected coding (retry k f step won found missed) p s none = absurd none
-none_expected coding _ p s none = tt
+pub none_expected : {W L A : Type 0} (kind : LockKind) (act : Act W L A) (p : ℕ) (s : Plain) → NoRetry act → Expects kind act p s []
+none_expected kind (retry k f step won found missed) p s none = absurd none
+none_expected kind _ p s none = tt
 
 -- after another party's step
 
@@ -464,13 +462,13 @@ moved a b n x y le =
     (λ (d : y ≡ x → ⊥). omega (arith, le, ap (λ c. bit (not c)) (ne_eqb y x d), bit_le (not (y == n))))
     (cases_eq y x)
 
-expects-other : {W L A : Type 0} (coding : Coding) (act : Act W L A) (p q : ℕ) (s : Plain) (step : Option Change) (r : Manner) (span : List Mark) → (q ≡ p → ⊥) → Expects coding act p s span
-    → Expects coding act p (apply_some s step) (mark_of q step r s ∷ span)
-expects-other coding (retry k f c won found missed) p q s step r span ne expects = (
-  omega (arith, failures-other p q step r s span ne, changes-other coding p q step r s span ne, moved (failures p span) (changes coding p span) k (first_word coding s) (first_word coding (apply_some s step)) expects.0),
+expects-other : {W L A : Type 0} (kind : LockKind) (act : Act W L A) (p q : ℕ) (s : Plain) (step : Option Change) (r : Manner) (span : List Mark) → (q ≡ p → ⊥) → Expects kind act p s span
+    → Expects kind act p (apply_some s step) (mark_of q step r s ∷ span)
+expects-other kind (retry k f c won found missed) p q s step r span ne expects = (
+  omega (arith, failures-other p q step r s span ne, changes-other kind p q step r s span ne, moved (failures p span) (changes kind p span) k (first_word kind s) (first_word kind (apply_some s step)) expects.0),
   expects.1,
 )
-expects-other coding _ p q s step r span ne expects = tt
+expects-other kind _ p q s step r span ne expects = tt
 
 due-other : (p q : ℕ) (s : Plain) (step : Option Change) (r : Manner) (span : List Mark) → (q ≡ p → ⊥) → is_due p (mark_of q step r s ∷ span) ≡ is_due p span
 due-other p q s step r span ne = ap (λ b. if b then makes_due step r s else is_due p span) (ne_eqb q p ne)
@@ -481,14 +479,14 @@ needs-other due p q s step r span ne needs = due-other p q s step r span ne ∙ 
 needs-other undue p q s step r span ne needs = due-other p q s step r span ne ∙ needs
 needs-other never p q s step r span ne needs = needs
 
-pub known-other : {W L A : Type 0} (coding : Coding) (what : Asked) (act : Act W L A) (row : Row) (p q : ℕ) (s : Plain) (step : Option Change) (r : Manner) (span : List Mark) → (q ≡ p → ⊥) → IsOpenStep s q step
-    → Known coding what act row p s span → Known coding what act row p (apply_some s step) (mark_of q step r s ∷ span)
-known-other coding what act row p q s step r span ne may known =
+pub known-other : {W L A : Type 0} (kind : LockKind) (what : Asked) (act : Act W L A) (row : Row) (p q : ℕ) (s : Plain) (step : Option Change) (r : Manner) (span : List Mark) → (q ≡ p → ⊥) → IsOpenStep s q step
+    → Known kind what act row p s span → Known kind what act row p (apply_some s step) (mark_of q step r s ∷ span)
+known-other kind what act row p q s step r span ne may known =
     record {
       stand = entries-other s q p step ne may ∙ known.stand;
       made = own-other p q step r s span ne ∙ known.made;
-      spent = spent-other (limit coding what) row.spent p q s step r span ne known.spent;
-      expects = expects-other coding act p q s step r span ne known.expects;
-      needs = needs-other (need_of coding what (row.made p) act) p q s step r span ne known.needs;
+      spent = spent-other (limit kind what) row.spent p q s step r span ne known.spent;
+      expects = expects-other kind act p q s step r span ne known.expects;
+      needs = needs-other (need_of kind what (row.made p) act) p q s step r span ne known.needs;
       opened = (may, known.opened);
     }

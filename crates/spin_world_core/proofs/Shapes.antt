@@ -29,7 +29,7 @@ row_of t n c l h = row_at (t.asks c h) h (n.point c l h)
 
 abbrev pub KnowsRow : {W V C L A : Type 0} (t : Table W V C L A) → Notes t → C → L → Option Hold → ℕ → Plain → List Mark → Option Row → Type 0
 KnowsRow t n c l h p s span None = ⊥
-KnowsRow t n c l h p s span (Some row) = Known t.coding (t.asks c h) (t.act c l h) row p s span × n.Knows c l h p s span
+KnowsRow t n c l h p s span (Some row) = Known t.lock_kind (t.asks c h) (t.act c l h) row p s span × n.Knows c l h p s span
 
 abbrev pub keeping_of : {W V C L A : Type 0} (t : Table W V C L A) → Notes t → LocalInvariant V C L
 keeping_of t n = record { Shape = λ s v. n.Shape s; Knows = λ c l h p s span. KnowsRow t n c l h p s span (row_of t n c l h) }
@@ -46,12 +46,12 @@ call_of t n c = record { asks = λ h. t.asks c h; act = λ l h. t.act c l h; poi
 
 -- what holds where a party is about to step
 pub record AtPoint {W V C L A : Type 0} (t : Table W V C L A) (n : Notes t) (p : ℕ) (k : CallOf W L A) (l : L) (h : Option Hold) (s : Plain) (w : W) (span : List Mark) (row : Row) : Type 0 where
-  pub encodes : t.memory.numbers w ≡ encoded t.coding s
+  pub encodes : t.memory.numbers w ≡ encoded t.lock_kind s
   pub shape : n.Shape s
   pub exclusive : IsExclusive s
-  pub known : Known t.coding (k.asks h) (k.act l h) row p s span
+  pub known : Known t.lock_kind (k.asks h) (k.act l h) row p s span
   pub knows : k.Knows l h p s span
-  pub retries : failures p span ≤ changes t.coding p span
+  pub retries : failures p span ≤ changes t.lock_kind p span
 
 abbrev pub At : {W V C L A : Type 0} (t : Table W V C L A) (n : Notes t) → ℕ → C → L → Option Hold → Plain → W → List Mark → Row → Type 0
 At t n p c l h s w span row = AtPoint t n p (call_of t n c) l h s w span row
@@ -65,7 +65,7 @@ AtRow t n p c l h s w span (Some row) = At t n p c l h s w span row
 -- what the step function gives makes the words after the plain step, which is open and the party's own; its refusal says that the step is closed
 abbrev pub Means : {X W V C L A : Type 0} (t : Table W V C L A) → Notes t → ℕ → Plain → Change → (X → W) → Option X → Type 0
 Means t n p s c put None = is_open s c ≡ false
-Means t n p s c put (Some x) = IsOpenStep s p (Some c) × (t.memory.numbers (put x) ≡ encoded t.coding (apply s c)) × n.Shape (apply s c)
+Means t n p s c put (Some x) = IsOpenStep s p (Some c) × (t.memory.numbers (put x) ≡ encoded t.lock_kind (apply s c)) × n.Shape (apply s c)
 
 -- an exchange that is made again goes on by another number, by which there are new words. That it is another matters only to a call that registers in time
 abbrev pub FindsAnother : Limit → Bool → Bool → Type 0
@@ -83,8 +83,8 @@ module _ {W V C L A : Type 0} (t : Table W V C L A) (notes : Notes t) (p : ℕ) 
   FollowsRow step r turn l None = ⊥
   FollowsRow step r turn l (Some to) =
       (stand_after s.next step row.stand ≡ Some to.stand) × (row.made p ++ option_to_list step ≡ to.made p)
-      × MayGoOn (k.asks h) turn step p s span (MaySpend (limit t.coding (k.asks h)) turn (to.made p) row.spent to.spent p t.coding (mark_of p step r s ∷ span))
-      × FoundBy (need_of t.coding (k.asks h) (to.made p) (k.act l h)) (Found (k.act l h) (number_at t.memory 0 w) step) step r s × k.Knows l h p (apply_some s step) (mark_of p step r s ∷ span)
+      × MayGoOn (k.asks h) turn step p s span (MaySpend (limit t.lock_kind (k.asks h)) turn (to.made p) row.spent to.spent p t.lock_kind (mark_of p step r s ∷ span))
+      × FoundBy (need_of t.lock_kind (k.asks h) (to.made p) (k.act l h)) (Found (k.act l h) (number_at t.memory 0 w) step) step r s × k.Knows l h p (apply_some s step) (mark_of p step r s ∷ span)
 
   -- how a call goes on is right, by this step and this turn
   abbrev pub Follows : Bool → Option Change → Manner → Turn → Next L A → Type 0
@@ -112,7 +112,7 @@ module _ {W V C L A : Type 0} (t : Table W V C L A) (notes : Notes t) (p : ℕ) 
   OwesOn i n (attempt j f step won lost) =
       ((to : ℕ) → guessed j f n ≡ Some to → Means t notes p s (step p) (λ j. t.memory.put i j w) (Some to) × Follows false (Some (step p)) plain goes won) × (guessed j f n ≡ None → Follows false None plain goes lost) × (is_answer lost ≡ true)
   OwesOn i n (retry j f step won found missed) =
-      Means t notes p s (step p) (λ j. t.memory.put i j w) (f n) × (n ≡ j → Follows false (Some (step p)) again goes won) × (FindsAnother (limit t.coding (k.asks h)) (n == j) (is_some (f n)) → Follows false None again loses (found n))
+      Means t notes p s (step p) (λ j. t.memory.put i j w) (f n) × (n ≡ j → Follows false (Some (step p)) again goes won) × (FindsAnother (limit t.lock_kind (k.asks h)) (n == j) (is_some (f n)) → Follows false None again loses (found n))
       × (is_open s (step p) ≡ false → Follows false None again (misses (step p)) missed)
   OwesOn i n (store can operation step next) = (can n ≡ true) × Means t notes p s (step p) (λ j. t.memory.put i j w) (Some (performed operation n)) × Follows false (Some (step p)) plain goes next
   OwesOn i n (section can f step won lost) =
@@ -145,12 +145,12 @@ AnswersRow t n p k l h s w span soon true (Some row) = AtPoint t n p k l h s w s
 AnswersRow t n p k l h s w span soon _ _ = Unit {0}
 
 abbrev pub OwesSoon : {W V C L A : Type 0} (t : Table W V C L A) (n : Notes t) → ℕ → C → L → Option Hold → Plain → W → List Mark → Type 0
-OwesSoon t n p c l h s w span = AnswersRow t n p (call_of t n c) l h s w span (answers_by t (steps_alone t.coding (t.asks c h)) w c l h) (is_waiting (t.asks c h)) (row_of t n c l h)
+OwesSoon t n p c l h s w span = AnswersRow t n p (call_of t n c) l h s w span (answers_by t (steps_alone t.lock_kind (t.asks c h)) w c l h) (is_waiting (t.asks c h)) (row_of t n c l h)
 
 -- a call begins with a row that says so
 abbrev pub BeginsRow : {W V C L A : Type 0} (t : Table W V C L A) → Notes t → C → L → Option Hold → ℕ → Plain → Option Row → Type 0
 BeginsRow t n c l h p s None = ⊥
-BeginsRow t n c l h p s (Some row) = (row.stand ≡ stand_of h) × (row.made p ≡ []) × BeginsBy (need_of t.coding (t.asks c h) (row.made p) (t.act c l h)) (NoRetry (t.act c l h)) × n.Knows c l h p s []
+BeginsRow t n c l h p s (Some row) = (row.stand ≡ stand_of h) × (row.made p ≡ []) × BeginsBy (need_of t.lock_kind (t.asks c h) (row.made p) (t.act c l h)) (NoRetry (t.act c l h)) × n.Knows c l h p s []
 
 abbrev pub BeginsAt : {W V C L A : Type 0} (t : Table W V C L A) → Notes t → C → Option Hold → ℕ → Plain → Option L → Type 0
 BeginsAt t n c h p s None = Unit {0}
@@ -190,16 +190,16 @@ AimsAt t n p c l h = aim_by (t.asks c h) (t.act c l h) p ≡ aimed_at p (t.asks 
 
 -- what an object shows of its table
 pub record Pays {W V C L A : Type 0} (t : Table W V C L A) (n : Notes t) : Type 0 where
-  pub fits : (p : ℕ) (c : C) (l : L) (h : Option Hold) → fits_act t.coding (t.asks c h) (t.act c l h) p ≡ true
+  pub fits : (p : ℕ) (c : C) (l : L) (h : Option Hold) → fits_act t.lock_kind (t.asks c h) (t.act c l h) p ≡ true
   pub operates : Operates t
-  pub first : t.memory.numbers t.words ≡ encoded t.coding (opening_plain (machine_of t))
+  pub first : t.memory.numbers t.words ≡ encoded t.lock_kind (opening_plain (machine_of t))
   pub shape_first : n.Shape (opening_plain (machine_of t))
   pub numbers_tell : (v w : W) → t.memory.numbers v ≡ t.memory.numbers w → v ≡ w
   pub one_list : (s : Plain) → n.Shape s → (is_empty s.holders || is_empty s.tickets) ≡ true
-  pub sound : (p : ℕ) (c : C) (l : L) (h : Option Hold) → SoundAt t.coding (t.asks c h) p (n.point c l h)
+  pub sound : (p : ℕ) (c : C) (l : L) (h : Option Hold) → SoundAt t.lock_kind (t.asks c h) p (n.point c l h)
   pub aims : (p : ℕ) (c : C) (l : L) (h : Option Hold) → AimsAt t n p c l h
   pub begins : (p : ℕ) (c : C) (h : Option Hold) (s : Plain) → BeginsAt t n c h p s (begin_of t c h)
-  pub others : (p q : ℕ) (c : C) (l : L) (h : Option Hold) (s : Plain) (step : Option Change) (r : Manner) (span : List Mark) → (q ≡ p → ⊥) → n.Shape s → IsOpenStep s q step → BelongsTo t.coding step
+  pub others : (p q : ℕ) (c : C) (l : L) (h : Option Hold) (s : Plain) (step : Option Change) (r : Manner) (span : List Mark) → (q ≡ p → ⊥) → n.Shape s → IsOpenStep s q step → BelongsTo t.lock_kind step
       → n.Knows c l h p s span → n.Knows c l h p (apply_some s step) (mark_of q step r s ∷ span)
   pub owes : (p : ℕ) (c : C) (l : L) (h : Option Hold) (s : Plain) (w : W) (span : List Mark) → OwesAt t n p c l h s w span
   pub soon : (p : ℕ) (c : C) (l : L) (h : Option Hold) (s : Plain) (w : W) (span : List Mark) → OwesSoon t n p c l h s w span

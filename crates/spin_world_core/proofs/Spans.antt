@@ -7,7 +7,7 @@ use Rattle.spin_step.specs.Parties.{apply_some}
 use Rattle.spin_step.specs.Steps.{bit}
 use Rattle.spin_world_core.specs.Manners.{Manner, is_again}
 use Rattle.spin_world_core.specs.Manners as manner
-use Rattle.spin_world_core.specs.Calls.{Coding, first_word, Mark}
+use Rattle.spin_world_core.specs.Calls.{LockKind, first_word, Mark}
 use Rattle.spin_world_core.specs.Runs.{mark_of, own, own_count, failures, changes}
 use Rattle.spin_world_core.proofs.Lists.{eqb_self}
 
@@ -35,29 +35,29 @@ failures-other p q step r s span ne = omega (arith, ap (λ b. bit (b && (is_agai
 pub failures-mine : (p : ℕ) (step : Option Change) (r : Manner) (s : Plain) (span : List Mark) → failures p (mark_of p step r s ∷ span) ≡ failures p span + bit (is_again r && not (is_some step))
 failures-mine p step r s span = ap (λ b. failures p span + bit (b && (is_again r && not (is_some step)))) (eqb_self p)
 
-pub changes-mine : (coding : Coding) (p : ℕ) (step : Option Change) (r : Manner) (s : Plain) (span : List Mark) → changes coding p (mark_of p step r s ∷ span) ≡ changes coding p span
-changes-mine coding p step r s span =
-    omega (arith, ap (λ b. bit (not b && not (first_word coding (apply_some s step) == first_word coding s))) (eqb_self p))
+pub changes-mine : (kind : LockKind) (p : ℕ) (step : Option Change) (r : Manner) (s : Plain) (span : List Mark) → changes kind p (mark_of p step r s ∷ span) ≡ changes kind p span
+changes-mine kind p step r s span =
+    omega (arith, ap (λ b. bit (not b && not (first_word kind (apply_some s step) == first_word kind s))) (eqb_self p))
 
-pub changes-other : (coding : Coding) (p q : ℕ) (step : Option Change) (r : Manner) (s : Plain) (span : List Mark) → (q ≡ p → ⊥)
-    → changes coding p (mark_of q step r s ∷ span) ≡ changes coding p span + bit (not (first_word coding (apply_some s step) == first_word coding s))
-changes-other coding p q step r s span ne =
-    ap (λ b. changes coding p span + bit (not b && not (first_word coding (apply_some s step) == first_word coding s))) (ne_eqb q p ne)
+pub changes-other : (kind : LockKind) (p q : ℕ) (step : Option Change) (r : Manner) (s : Plain) (span : List Mark) → (q ≡ p → ⊥)
+    → changes kind p (mark_of q step r s ∷ span) ≡ changes kind p span + bit (not (first_word kind (apply_some s step) == first_word kind s))
+changes-other kind p q step r s span ne =
+    ap (λ b. changes kind p span + bit (not b && not (first_word kind (apply_some s step) == first_word kind s))) (ne_eqb q p ne)
 
 and_false : (b : Bool) → (b && false) ≡ false
 and_false true = refl
 and_false false = refl
 
 -- where a failed exchange is another party's doing, there are no more of them than changes by others
-pub retries-mine : (coding : Coding) (p : ℕ) (step : Option Change) (r : Manner) (s : Plain) (span : List Mark) → failures p span ≤ changes coding p span → (is_again r ≡ true → step ≡ None → failures p span < changes coding p span)
-    → failures p (mark_of p step r s ∷ span) ≤ changes coding p (mark_of p step r s ∷ span)
-retries-mine coding p (Some c) r s span so_far fails =
-    omega (arith, failures-mine p (Some c) r s span, changes-mine coding p (Some c) r s span, ap bit (and_false (is_again r)), so_far)
-retries-mine coding p None manner.again s span so_far fails = omega (arith, failures-mine p None manner.again s span, changes-mine coding p None manner.again s span, fails refl refl)
-retries-mine coding p None manner.plain s span so_far fails = omega (arith, failures-mine p None manner.plain s span, changes-mine coding p None manner.plain s span, so_far)
-retries-mine coding p None manner.look s span so_far fails = omega (arith, failures-mine p None manner.look s span, changes-mine coding p None manner.look s span, so_far)
-retries-mine coding p None manner.weak s span so_far fails = omega (arith, failures-mine p None manner.weak s span, changes-mine coding p None manner.weak s span, so_far)
+pub retries-mine : (kind : LockKind) (p : ℕ) (step : Option Change) (r : Manner) (s : Plain) (span : List Mark) → failures p span ≤ changes kind p span → (is_again r ≡ true → step ≡ None → failures p span < changes kind p span)
+    → failures p (mark_of p step r s ∷ span) ≤ changes kind p (mark_of p step r s ∷ span)
+retries-mine kind p (Some c) r s span so_far fails =
+    omega (arith, failures-mine p (Some c) r s span, changes-mine kind p (Some c) r s span, ap bit (and_false (is_again r)), so_far)
+retries-mine kind p None manner.again s span so_far fails = omega (arith, failures-mine p None manner.again s span, changes-mine kind p None manner.again s span, fails refl refl)
+retries-mine kind p None manner.plain s span so_far fails = omega (arith, failures-mine p None manner.plain s span, changes-mine kind p None manner.plain s span, so_far)
+retries-mine kind p None manner.look s span so_far fails = omega (arith, failures-mine p None manner.look s span, changes-mine kind p None manner.look s span, so_far)
+retries-mine kind p None manner.weak s span so_far fails = omega (arith, failures-mine p None manner.weak s span, changes-mine kind p None manner.weak s span, so_far)
 
-pub retries-other : (coding : Coding) (p q : ℕ) (step : Option Change) (r : Manner) (s : Plain) (span : List Mark) → (q ≡ p → ⊥) → failures p span ≤ changes coding p span
-    → failures p (mark_of q step r s ∷ span) ≤ changes coding p (mark_of q step r s ∷ span)
-retries-other coding p q step r s span ne so_far = omega (arith, failures-other p q step r s span ne, changes-other coding p q step r s span ne, so_far)
+pub retries-other : (kind : LockKind) (p q : ℕ) (step : Option Change) (r : Manner) (s : Plain) (span : List Mark) → (q ≡ p → ⊥) → failures p span ≤ changes kind p span
+    → failures p (mark_of q step r s ∷ span) ≤ changes kind p (mark_of q step r s ∷ span)
+retries-other kind p q step r s span ne so_far = omega (arith, failures-other p q step r s span ne, changes-other kind p q step r s span ne, so_far)

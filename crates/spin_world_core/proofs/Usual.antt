@@ -36,12 +36,12 @@ no_holders s none = ap (λ (hs : List Holder). is_empty hs || is_empty s.tickets
 
 -- where it grants a plain step: what is left to show is the words with the new number, and the shape
 pub means_by : {W V C L A : Type 0} (t : Table W V C L A) (n : Notes t) (p : ℕ) (s : Plain) (c : Change) (word : Plain → ℕ) (put : ℕ → W) (o : Option ℕ) → who c ≡ p → Decides s c word o
-    → ((to : ℕ) → is_open s c ≡ true → to ≡ word (apply s c) → (t.memory.numbers (put to) ≡ encoded t.coding (apply s c)) × n.Shape (apply s c)) → Means t n p s c put o
+    → ((to : ℕ) → is_open s c ≡ true → to ≡ word (apply s c) → (t.memory.numbers (put to) ≡ encoded t.lock_kind (apply s c)) × n.Shape (apply s c)) → Means t n p s c put o
 means_by t n p s c word put None mine grants rest = grants
 means_by t n p s c word put (Some to) mine grants rest = let both = rest to grants.0 grants.1 in ((mine, grants.0), both.0, both.1)
 
 -- the words are one number
-pub means_word : {V C L A : Type 0} (t : Table ℕ V C L A) (n : Notes t) (word : Plain → ℕ) → ((w : ℕ) (s : Plain) → w ≡ word s → t.memory.numbers w ≡ encoded t.coding s) → (p : ℕ) (s : Plain) (c : Change) (o : Option ℕ)
+pub means_word : {V C L A : Type 0} (t : Table ℕ V C L A) (n : Notes t) (word : Plain → ℕ) → ((w : ℕ) (s : Plain) → w ≡ word s → t.memory.numbers w ≡ encoded t.lock_kind s) → (p : ℕ) (s : Plain) (c : Change) (o : Option ℕ)
     → who c ≡ p → Decides s c word o → (is_open s c ≡ true → n.Shape (apply s c)) → Means t n p s c (λ k. k) o
 means_word t n word numbers p s c o mine grants shape = means_by t n p s c word (λ k. k) o mine grants (λ to may is. (numbers to (apply s c) is, shape may))
 

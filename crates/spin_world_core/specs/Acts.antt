@@ -8,7 +8,7 @@ use Rattle.spin_world_core.specs.declared.object.Next.{Next}
 use Rattle.spin_world_core.specs.declared.object.Next.TheVariants.{GoesOn, Answers}
 use Rattle.spin_world_core.specs.declared.object.Stepped.{Stepped}
 use Rattle.spin_world_core.specs.Manners.{Manner, plain, again, look}
-use Rattle.spin_world_core.specs.Calls.{Coding, Asked, waits, waits_or_starves, initializes, fails_to_initialize, waits_for_value, polls, meets, Said, says_of}
+use Rattle.spin_world_core.specs.Calls.{LockKind, Asked, waits, waits_or_starves, initializes, fails_to_initialize, waits_for_value, polls, meets, Said, says_of}
 use Rattle.spin_world_core.specs.Begins.{fits}
 use Rattle.spin_world_core.specs.Machines.{Machine}
 use Rattle.spin_world_core.specs.Operations.{Operation, loads, exchanges, sets_lowest_bit, performed}
@@ -197,7 +197,7 @@ pub record Table (W V C L A : Type 0) : Type 0 where
   pub words : W  -- at first
   pub value : Option V  -- at first
   pub owned : Bool
-  pub coding : Coding
+  pub lock_kind : LockKind
   pub cap : ℕ
   pub group : ℕ
   pub first : ℕ
@@ -209,7 +209,7 @@ pub record Table (W V C L A : Type 0) : Type 0 where
   pub says : A → Said
 
 abbrev pub begin_of : {W V C L A : Type 0} → Table W V C L A → C → Option Hold → Option L
-begin_of t c h = passing (fits t.coding (t.asks c h) h) (t.start c h)
+begin_of t c h = passing (fits t.lock_kind (t.asks c h) h) (t.start c h)
 
 -- The machine of a table: what comes of a weak refusal and of a step, and what its answers say and give, which may be other answers than the table's
 abbrev pub machine_by : {W V C L A B : Type 0} → Table W V C L A → (C → L → Option Hold → Option (Next L B)) → (W → Option V → C → L → Option Hold → Stepped W V L B) → (B → Said) → (C → Option V) → (B → Option V) → Machine W V C L B
@@ -222,7 +222,7 @@ machine_by t refuse step says brings gives =
       refuse = refuse;
       can = λ w c l h. can_by t.memory (t.word l) (t.act c l h) w;
       step = step;
-      coding = t.coding;
+      lock_kind = t.lock_kind;
       cap = t.cap;
       group = t.group;
       first = t.first;

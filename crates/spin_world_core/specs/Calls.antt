@@ -1,6 +1,6 @@
--- What a call asks of the plain lock, and what each of its answers means there. These tables serve every object; an object names rows of them.
-use Rattle.std.specs.Prelude.{◌≡◌, ℕ, ◌≤◌, ◌⊎◌, ◌&&◌, Bool, true, false, not, Option, Some, None, List, [], ◌∷◌, get_or}
-use Rattle.spin_step.specs.Plain.{Plain, Kind, reading, upgradable, asking, writing, Ask, to_read, to_read_upgradable, to_write, to_upgrade, to_upgrade_asked, to_take_ticket, to_enter, to_take_and_enter, to_lock_unregistered, to_lock_starving, to_lock_starving_alone, to_starve, to_begin, Change, gets, releases, serves, stops_starving, turns, completes, fails, arrives, is_open_to, is_empty, is_nothing, is_complete, count_kind, reader_count, flag_word, next_word, serving_word, fair_word, rw_word, once_word, count_word, generation_word}
+-- What a call asks of the plain lock, and what each of its answers means there. These tables serve every object; an object names rows of them, and brings its kind of lock.
+use Rattle.std.specs.Prelude.{◌≡◌, ℕ, suc, ◌≤◌, ◌⊎◌, ◌&&◌, Bool, true, false, not, Option, Some, None, List, [], ◌∷◌, length, map}
+use Rattle.spin_step.specs.Plain.{Plain, Kind, reading, upgradable, asking, writing, Ask, to_read, to_read_upgradable, to_write, to_upgrade_asked, to_take_ticket, to_enter, to_take_and_enter, to_lock_unregistered, to_lock_starving, to_lock_starving_alone, to_starve, to_begin, Change, gets, releases, serves, stops_starving, turns, completes, fails, arrives, is_open_to, is_empty, is_nothing, is_complete, count_kind, reader_count}
 use Rattle.spin_step.specs.Parties.{is_held}
 use Rattle.spin_step.specs.Barriers.{is_leading, filled_by}
 use Rattle.spin_world_core.specs.declared.answer.Answer.{Answer}
@@ -8,64 +8,6 @@ use Rattle.spin_world_core.specs.declared.answer.Answer.TheVariants.{Granted, Re
 use Rattle.spin_world_core.specs.declared.place.Hold.{Hold}
 use Rattle.spin_world_core.specs.declared.place.Hold.TheVariants.{Read, Upgradable, Write, Ticket, Starver}
 use Rattle.spin_world_core.specs.Manners.{Manner}
-
--- which sums a lock's words are
-pub data Coding : Type 0 where
-  flag : Coding
-  ticket : Coding
-  fair : Coding
-  rw : Coding
-  once : Coding
-  barrier : Coding
-  seats : Coding  -- holders who all read, as many as the cap lets in
-
-abbrev pub encoded : Coding → Plain → List ℕ
-encoded flag s = flag_word s ∷ []
-encoded ticket s = next_word s ∷ serving_word s ∷ []
-encoded fair s = fair_word s ∷ []
-encoded rw s = rw_word s ∷ []
-encoded once s = once_word s ∷ []
-encoded barrier s = count_word s ∷ generation_word s ∷ []
-encoded seats s = flag_word s ∷ []
-
--- which plain steps each kind of lock makes
-
-abbrev pub may_be_got : Coding → Ask → Bool
-may_be_got flag to_write = true
-may_be_got ticket to_take_ticket = true
-may_be_got ticket to_enter = true
-may_be_got ticket to_take_and_enter = true
-may_be_got fair to_lock_unregistered = true
-may_be_got fair to_lock_starving = true
-may_be_got fair to_lock_starving_alone = true
-may_be_got fair to_starve = true
-may_be_got rw to_read = true
-may_be_got rw to_read_upgradable = true
-may_be_got rw to_write = true
-may_be_got rw to_upgrade = true
-may_be_got rw to_upgrade_asked = true
-may_be_got once to_begin = true
-may_be_got seats to_read = true
-may_be_got _ _ = false
-
-abbrev pub is_step_of : Coding → Change → Bool
-is_step_of coding (gets p ask) = may_be_got coding ask
-is_step_of flag (releases p writing) = true
-is_step_of ticket (serves p) = true
-is_step_of fair (releases p writing) = true
-is_step_of fair (stops_starving p) = true
-is_step_of rw (releases p k) = true
-is_step_of rw (turns p k l) = true
-is_step_of once (completes p) = true
-is_step_of once (fails p) = true
-is_step_of barrier (arrives p) = true
-is_step_of seats (releases p reading) = true
-is_step_of _ _ = false
-
--- a step, if it is one, is one that this kind of lock makes
-abbrev pub BelongsTo : Coding → Option Change → Type 0
-BelongsTo coding None = Unit {0}
-BelongsTo coding (Some c) = is_step_of coding c ≡ true
 
 -- what a call asks
 pub data Asked : Type 0 where
@@ -86,6 +28,44 @@ pub data Asked : Type 0 where
   looks_for_value : Asked
   looks_complete : Asked  -- whether there is a value
   meets : Asked  -- it arrives, and goes on until its group is full
+
+-- A kind of lock, which its object brings. The laws are of the kind that a machine brings, so each object says by name which it has
+pub record LockKind : Type 0 where
+  pub word : Plain → ℕ  -- its first word, as a sum
+  pub further_words : List (Plain → ℕ)  -- its other words, as sums
+  pub plain_steps : Change → Bool  -- the plain steps that it makes; that a closure completes follows from `makes_value`
+  pub calls : Asked → Bool  -- the calls that it has, by what they ask
+  pub undisturbed_steps : Asked → ℕ  -- the own steps that a call which may wait takes at most, where what it asks is open and nobody disturbs it
+  pub spins_on_exchange : Bool  -- a call that waits without a look first makes its exchange again and again, and never looks between
+  pub makes_value : Bool  -- closures make its value
+  pub steps_in_sections : Bool  -- a step is a whole section under a lock of its own, not one operation
+
+-- the usual kind, of these words, plain steps and calls: undisturbed a call takes four steps at most, it looks between its exchanges, no closure makes the value, and each step is one operation
+abbrev pub usual : (Plain → ℕ) → List (Plain → ℕ) → (Change → Bool) → (Asked → Bool) → LockKind
+usual word further plain_steps calls =
+    record {
+      word = word;
+      further_words = further;
+      plain_steps = plain_steps;
+      calls = calls;
+      undisturbed_steps = λ what. 4;
+      spins_on_exchange = false;
+      makes_value = false;
+      steps_in_sections = false;
+    }
+
+abbrev pub encoded : LockKind → Plain → List ℕ
+encoded kind s = kind.word s ∷ map (λ sum. sum s) kind.further_words
+
+-- the plain steps that it makes: a closure completes just where closures make the value
+abbrev pub is_step_of : LockKind → Change → Bool
+is_step_of kind (completes p) = kind.makes_value
+is_step_of kind c = kind.plain_steps c
+
+-- a step, if it is one, is one that this kind of lock makes
+abbrev pub BelongsTo : LockKind → Option Change → Type 0
+BelongsTo kind None = Unit {0}
+BelongsTo kind (Some c) = is_step_of kind c ≡ true
 
 -- what an answer says
 pub data Said : Type 0 where
@@ -271,8 +251,8 @@ abbrev pub is_got_weakly : Asked → Change → Bool
 is_got_weakly what c = may_be_weak what && is_exchanged what c
 
 -- the word that the exchanges are on which a call makes again
-abbrev pub first_word : Coding → Plain → ℕ
-first_word coding s = get_or (encoded coding s) 0 0
+abbrev pub first_word : LockKind → Plain → ℕ
+first_word kind s = kind.word s
 
 -- the most steps that a call takes
 pub data Limit : Type 0 where
@@ -283,33 +263,32 @@ pub data Limit : Type 0 where
   changes_within : ℕ → Limit  -- a call that waits has made a plain step by then
   registers_after : ℕ → ℕ → Limit  -- from each look on that finds the lock held after so many others, a call that waits registers as a starver by so many steps, others' changes since that look counted too, or finds the cap
 
--- A try, a look, a count, a downgrade or a release on one word takes one step, and on the two words of a queue a look takes two and a try three; a starver's try takes a second step to leave the starvers.
+-- A look takes one step for each word. A try, a count, a downgrade or a release takes one step, and a try on the two words of a queue three; a starver's try takes a second step to leave the starvers.
 -- Each try that looks first and then makes its exchange again and again takes two, and one more for each change by others.
--- A call that waits has no limit, but who queues has a ticket by then, who may starve registers by its second step after each look past its patience, and who upgrades asks, and who meets others at a barrier arrives, by its first step
-abbrev pub limit : Coding → Asked → Limit
-limit coding (waits to_enter) = gets_within to_take_ticket 2
-limit coding (waits to_upgrade_asked) = changes_within 1
-limit coding (waits ask) = unlimited
-limit coding (waits_or_starves n) = registers_after n 2
-limit coding (tries to_read) = within_changes 2
-limit coding (tries to_read_upgradable) = within_changes 2
-limit coding (tries to_starve) = within_changes 2
-limit coding (tries to_take_and_enter) = within 3
-limit coding (tries to_lock_starving) = within 2
-limit coding (tries to_lock_starving_alone) = within 2
-limit coding (tries ask) = within 1
-limit coding (tries_weakly ask) = within 1
-limit coding (tries_to_know ask) = within 1
-limit ticket looks = within 2
-limit coding looks = within 1
-limit coding counts_readers = within 1
-limit coding counts_writers = within 1
-limit coding (turns_to held kind) = within 1
-limit coding (gives_back held) = within 1
-limit coding initializes = unlimited
-limit coding fails_to_initialize = unlimited
-limit coding waits_for_value = unlimited
-limit coding polls = unlimited
-limit coding looks_for_value = within 1
-limit coding looks_complete = within 1
-limit coding meets = changes_within 1
+-- A call that waits has no limit, but who queues has a ticket by then, who may starve registers by its second step after each look past its patience, and who upgrades asks, and who meets others arrives, by its first step
+abbrev pub limit : LockKind → Asked → Limit
+limit kind (waits to_enter) = gets_within to_take_ticket 2
+limit kind (waits to_upgrade_asked) = changes_within 1
+limit kind (waits ask) = unlimited
+limit kind (waits_or_starves n) = registers_after n 2
+limit kind (tries to_read) = within_changes 2
+limit kind (tries to_read_upgradable) = within_changes 2
+limit kind (tries to_starve) = within_changes 2
+limit kind (tries to_take_and_enter) = within 3
+limit kind (tries to_lock_starving) = within 2
+limit kind (tries to_lock_starving_alone) = within 2
+limit kind (tries ask) = within 1
+limit kind (tries_weakly ask) = within 1
+limit kind (tries_to_know ask) = within 1
+limit kind looks = within (suc (length kind.further_words))
+limit kind counts_readers = within 1
+limit kind counts_writers = within 1
+limit kind (turns_to held to) = within 1
+limit kind (gives_back held) = within 1
+limit kind initializes = unlimited
+limit kind fails_to_initialize = unlimited
+limit kind waits_for_value = unlimited
+limit kind polls = unlimited
+limit kind looks_for_value = within 1
+limit kind looks_complete = within 1
+limit kind meets = changes_within 1

@@ -1,11 +1,11 @@
 -- An object as the world sees it: where its calls begin, what their steps do, and how both read on the plain lock.
-use Rattle.std.specs.Prelude.{ℕ, Bool, List, Option, Some}
+use Rattle.std.specs.Prelude.{ℕ, Bool, true, List, Option, Some}
 use Rattle.spin_step.specs.Plain.{Plain, Phase, nothing, complete, Change, fresh}
 use Rattle.spin_world_core.specs.declared.place.Hold.{Hold}
 use Rattle.spin_world_core.specs.declared.object.Next.{Next}
 use Rattle.spin_world_core.specs.declared.object.Stepped.{Stepped}
 use Rattle.spin_world_core.specs.Manners.{Manner}
-use Rattle.spin_world_core.specs.Calls.{Coding, once, Asked, Said}
+use Rattle.spin_world_core.specs.Calls.{LockKind, Asked, Said}
 
 -- over the types of its words, its value, its calls, the points of its calls, and its answers
 pub record Machine (W V C L A : Type 0) : Type 0 where
@@ -18,7 +18,7 @@ pub record Machine (W V C L A : Type 0) : Type 0 where
   pub can : W → C → L → Option Hold → Bool  -- whether the next step may be taken
   pub step : W → Option V → C → L → Option Hold → Stepped W V L A
   -- how they read
-  pub coding : Coding
+  pub lock_kind : LockKind
   pub cap : ℕ
   pub group : ℕ
   pub first : ℕ
@@ -30,11 +30,11 @@ pub record Machine (W V C L A : Type 0) : Type 0 where
   pub brings : C → Option V  -- the value that the call's own closure gives
   pub gives : A → Option V  -- the value that an answer gives
 
--- a `Once` that is made with a value is complete
-abbrev pub opening_phase : {V : Type 0} → Coding → Option V → Phase
-opening_phase once (Some v) = complete
+-- where a closure makes the value, a lock that opens with one is complete
+abbrev pub opening_phase : {V : Type 0} → Bool → Option V → Phase
+opening_phase true (Some v) = complete
 opening_phase _ _ = nothing
 
 -- the plain lock at first
 abbrev pub opening_plain : {W V C L A : Type 0} → Machine W V C L A → Plain
-opening_plain m = record (fresh m.cap m.group m.first) { phase = opening_phase m.coding m.value }
+opening_plain m = record (fresh m.cap m.group m.first) { phase = opening_phase m.lock_kind.makes_value m.value }

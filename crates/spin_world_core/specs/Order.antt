@@ -7,7 +7,7 @@ use Rattle.spin_world_core.specs.declared.schedule.Move.TheVariants.{Step}
 use Rattle.spin_world_core.specs.declared.schedule.Outcome.{Outcome}
 use Rattle.spin_world_core.specs.declared.schedule.Outcome.TheVariants as outcome
 use Rattle.spin_world_core.specs.Manners.{Manner, is_look}
-use Rattle.spin_world_core.specs.Calls.{Coding, rw, Asked, waits, waits_or_starves, tries, Mark, AnyOf}
+use Rattle.spin_world_core.specs.Calls.{LockKind, Asked, waits, waits_or_starves, tries, Mark, AnyOf}
 use Rattle.spin_world_core.specs.Spans.{own, own_count}
 
 -- what a call that waits for its turn without a look goes for, by the plain steps that it has made. Who comes to read or to a queue looks first
@@ -28,12 +28,15 @@ is_due p (m ∷ ms) = if m.party == p then is_some m.change || (is_look m.manner
 pub data Way : Type 0 where
   always : Way  -- by each
   by_looks : Way  -- where it is due, and else it looks
-  past_looks : Way  -- where it is due; a newcomer at a fair lock may also register
+  past_looks : Way  -- where it is due; a newcomer that may starve may also register
 
-abbrev pub way_of : Coding → Asked → List Change → Way
-way_of rw what made = always
-way_of coding (waits_or_starves n) [] = past_looks
-way_of coding what made = by_looks
+abbrev pub way_by : Bool → Asked → List Change → Way
+way_by true what made = always
+way_by false (waits_or_starves n) [] = past_looks
+way_by false what made = by_looks
+
+abbrev pub way_of : LockKind → Asked → List Change → Way
+way_of kind what made = way_by kind.spins_on_exchange what made
 
 abbrev pub is_due_by : Way → ℕ → List Mark → Bool
 is_due_by always p span = true
@@ -44,15 +47,15 @@ LooksElse by_looks p span r = is_due p span ≡ false → is_look r ≡ true
 LooksElse way p span r = Unit {0}
 
 -- by a step that goes for it the call gets it, where it is open
-abbrev pub Gets : Coding → ℕ → Asked → List Mark → Plain → Option Change → Manner → Type 0
-Gets coding p what span s step r =
+abbrev pub Gets : LockKind → ℕ → Asked → List Mark → Plain → Option Change → Manner → Type 0
+Gets kind p what span s step r =
     (ask : Ask) → goes_for what (own p span) ≡ Some ask
-    → let way = way_of coding what (own p span) in (is_due_by way p span ≡ true → is_open_to s p ask ≡ true → step ≡ Some (gets p ask)) × LooksElse way p span r
+    → let way = way_of kind what (own p span) in (is_due_by way p span ≡ true → is_open_to s p ask ≡ true → step ≡ Some (gets p ask)) × LooksElse way p span r
 
-abbrev pub GetsWhenDue : {C V A : Type 0} → Coding → ℕ → Outcome A V → Move C V → Option Asked → List Mark → Plain → Option Change → Manner → Type 0
-GetsWhenDue coding p outcome.GoingOn Step (Some what) span s step r = Gets coding p what span s step r
-GetsWhenDue coding p (outcome.Answered a b) Step (Some what) span s step r = Gets coding p what span s step r
-GetsWhenDue coding p _ _ _ span s step r = Unit {0}
+abbrev pub GetsWhenDue : {C V A : Type 0} → LockKind → ℕ → Outcome A V → Move C V → Option Asked → List Mark → Plain → Option Change → Manner → Type 0
+GetsWhenDue kind p outcome.GoingOn Step (Some what) span s step r = Gets kind p what span s step r
+GetsWhenDue kind p (outcome.Answered a b) Step (Some what) span s step r = Gets kind p what span s step r
+GetsWhenDue kind p _ _ _ span s step r = Unit {0}
 
 -- A try goes on, before its plain step, only by a step at which what it asks is open. Whoever tries to come by a queue's two words goes on by its first load too, and by one that finds served the number that it has found next
 abbrev pub MayTryOn : Ask → ℕ → List Mark → Plain → Type 0

@@ -13,7 +13,7 @@ use Rattle.spin_world_core.specs.declared.schedule.Outcome.{Outcome}
 use Rattle.spin_world_core.specs.declared.schedule.Outcome.TheVariants as outcome
 use Rattle.spin_world_core.specs.Manners.{Manner, is_again, is_look, by_step}
 use Rattle.spin_world_core.specs.Manners as manner
-use Rattle.spin_world_core.specs.Calls.{Coding, encoded, BelongsTo, Asked, Said, own_steps, Mark, AnyOf, HasMoment, HasWeakMoment, Limit, unlimited, within, within_changes, gets_within, changes_within, registers_after, FindsClosed, Registers, TriesToStarve, limit, may_be_weak, before_weakly}
+use Rattle.spin_world_core.specs.Calls.{LockKind, encoded, BelongsTo, Asked, Said, own_steps, Mark, AnyOf, HasMoment, HasWeakMoment, Limit, unlimited, within, within_changes, gets_within, changes_within, registers_after, FindsClosed, Registers, TriesToStarve, limit, may_be_weak, before_weakly}
 use Rattle.spin_world_core.specs.Begins.{fits}
 pub use Rattle.spin_world_core.specs.Spans.{own, own_count, failures, changes, held_looks, keeps_looking, IsBeginning}
 use Rattle.spin_world_core.specs.Undisturbed.{AnsweredSoon}
@@ -185,8 +185,8 @@ MayTouch seen p _ _ = Unit {0}
 -- Which moves are passed over, by the plain lock and by how far the party has come: only a move that nobody could make of a party that has this in the lock
 
 abbrev pub MayPass : {W V C L A : Type 0} → Machine W V C L A → Seen W V C L → ℕ → Move C V → Option (Seat C L) → Type 0
-MayPass m seen p (Begin c) (Some Idle) = fits m.coding (m.asks c None) None ≡ false
-MayPass m seen p (Begin c) (Some (Holding h)) = fits m.coding (m.asks c (Some h)) (Some h) ≡ false
+MayPass m seen p (Begin c) (Some Idle) = fits m.lock_kind (m.asks c None) None ≡ false
+MayPass m seen p (Begin c) (Some (Holding h)) = fits m.lock_kind (m.asks c (Some h)) (Some h) ≡ false
 MayPass m seen p Step (Some (Calling c l h)) = ⊥
 MayPass m seen p Read (Some (Holding h)) = is_reader (entries p seen.plain) ≡ false
 MayPass m seen p Read (Some (Leaked h)) = is_reader (entries p seen.plain) ≡ false
@@ -279,9 +279,9 @@ pub record Keeps {W V C L A : Type 0} (m : Machine W V C L A) (s : Scene W V C L
   -- it is an open plain step of its party, or none
   pub opens : IsOpenStep s.before.plain s.party s.change
   -- and a step that this kind of lock makes
-  pub belongs : BelongsTo m.coding s.change
+  pub belongs : BelongsTo m.lock_kind s.change
   -- the words after it are the encoding
-  pub encodes : m.numbers s.after.state.words ≡ encoded m.coding s.after.plain
+  pub encodes : m.numbers s.after.state.words ≡ encoded m.lock_kind s.after.plain
   -- every party's entries are what its place says
   pub places : (q : ℕ) → StandsFor s.after.plain q (s.after.span q) (slice_get s.after.state.seats q)
   -- no writer stands beside another holder, and no entered ticket beside another
@@ -335,27 +335,27 @@ pub record RegistersInTime (IsFew : List Mark → Type 0) (p n : ℕ) (span : Li
   pub soon : (recent : List Mark) (m : Mark) (older : List Mark) → span ≡ recent ++ m ∷ older → IsLateLook p n m older → AnyOf (TriesToStarve p) recent ⊎ IsFew recent
   pub patient : (recent : List Mark) (m : Mark) (older : List Mark) → span ≡ recent ++ m ∷ older → Registers p m → n < held_looks p older
 
-abbrev pub EndsWithin : Limit → Coding → ℕ → List Mark → Type 0
-EndsWithin unlimited coding p span = Unit {0}
-EndsWithin (within k) coding p span = own_count p span ≤ k
-EndsWithin (within_changes k) coding p span = own_count p span ≤ k + changes coding p span
-EndsWithin (gets_within ask k) coding p span = Unit {0}
-EndsWithin (changes_within k) coding p span = Unit {0}
-EndsWithin (registers_after n k) coding p span = RegistersInTime (λ recent. ⊥) p n span
+abbrev pub EndsWithin : Limit → LockKind → ℕ → List Mark → Type 0
+EndsWithin unlimited kind p span = Unit {0}
+EndsWithin (within k) kind p span = own_count p span ≤ k
+EndsWithin (within_changes k) kind p span = own_count p span ≤ k + changes kind p span
+EndsWithin (gets_within ask k) kind p span = Unit {0}
+EndsWithin (changes_within k) kind p span = Unit {0}
+EndsWithin (registers_after n k) kind p span = RegistersInTime (λ recent. ⊥) p n span
 
-abbrev pub GoesOnWithin : Limit → Coding → ℕ → List Mark → Type 0
-GoesOnWithin unlimited coding p span = Unit {0}
-GoesOnWithin (within k) coding p span = own_count p span < k
-GoesOnWithin (within_changes k) coding p span = own_count p span < k + changes coding p span
-GoesOnWithin (gets_within ask k) coding p span = own p span ≡ [] → (own_count p span < k + changes coding p span) ⊎ AnyOf (FindsClosed p ask) span
-GoesOnWithin (changes_within k) coding p span = own p span ≡ [] → own_count p span < k
-GoesOnWithin (registers_after n k) coding p span = RegistersInTime (λ recent. own_count p recent < k + changes coding p recent) p n span
+abbrev pub GoesOnWithin : Limit → LockKind → ℕ → List Mark → Type 0
+GoesOnWithin unlimited kind p span = Unit {0}
+GoesOnWithin (within k) kind p span = own_count p span < k
+GoesOnWithin (within_changes k) kind p span = own_count p span < k + changes kind p span
+GoesOnWithin (gets_within ask k) kind p span = own p span ≡ [] → (own_count p span < k + changes kind p span) ⊎ AnyOf (FindsClosed p ask) span
+GoesOnWithin (changes_within k) kind p span = own p span ≡ [] → own_count p span < k
+GoesOnWithin (registers_after n k) kind p span = RegistersInTime (λ recent. own_count p recent < k + changes kind p recent) p n span
 
 -- a call with a limit is answered by that step at the latest
-abbrev pub InTime : {V A : Type 0} → Coding → ℕ → List Mark → Outcome A V → Option Asked → Type 0
-InTime coding p span (outcome.Answered a b) (Some what) = EndsWithin (limit coding what) coding p span
-InTime coding p span outcome.GoingOn (Some what) = GoesOnWithin (limit coding what) coding p span
-InTime coding p span _ _ = Unit {0}
+abbrev pub InTime : {V A : Type 0} → LockKind → ℕ → List Mark → Outcome A V → Option Asked → Type 0
+InTime kind p span (outcome.Answered a b) (Some what) = EndsWithin (limit kind what) kind p span
+InTime kind p span outcome.GoingOn (Some what) = GoesOnWithin (limit kind what) kind p span
+InTime kind p span _ _ = Unit {0}
 
 -- a step by which a call goes on makes no plain step though what it is to make is open: then it is an exchange that the call makes again, and counts as one that failed
 abbrev pub IsCounted : {W V C L A : Type 0} → Machine W V C L A → ℕ → Outcome A V → Move C V → Option (Seat C L) → Option Change → Manner → Plain → Type 0
@@ -363,21 +363,21 @@ IsCounted {W} m p outcome.GoingOn Step (Some (Calling c l h)) None manner s = (w
 IsCounted m p _ _ _ _ _ _ = Unit {0}
 
 pub record IsInTime {W V C L A : Type 0} (m : Machine W V C L A) (s : Scene W V C L A) : Type 0 where
-  pub in_time : InTime m.coding s.party (s.after.span s.party) s.outcome (asked m s.seat)
+  pub in_time : InTime m.lock_kind s.party (s.after.span s.party) s.outcome (asked m s.seat)
   pub counted : IsCounted m s.party s.outcome s.move s.seat s.change s.manner s.before.plain
   -- an exchange that is made again fails only where another party has changed its word since the call looked, and once for each change
-  pub retries : (q : ℕ) → failures q (s.after.span q) ≤ changes m.coding q (s.after.span q)
-  -- a call that waits is answered by its fourth own step at the latest from the moment on at which it is open and nobody disturbs it
-  pub undisturbed : AnsweredSoon m.coding s.party (s.after.span s.party) s.outcome (asked m s.seat)
+  pub retries : (q : ℕ) → failures q (s.after.span q) ≤ changes m.lock_kind q (s.after.span q)
+  -- a call that may wait is answered by so many own steps as its kind of lock says, from the moment on at which it is open and nobody disturbs it
+  pub undisturbed : AnsweredSoon m.lock_kind s.party (s.after.span s.party) s.outcome (asked m s.seat)
   -- a call that waits for its turn without a look goes for it by its first step, and after a look that found the lock free, and looks else
-  pub due : GetsWhenDue m.coding s.party s.outcome s.move (asked m s.seat) (s.before.span s.party) s.before.plain s.change s.manner
+  pub due : GetsWhenDue m.lock_kind s.party s.outcome s.move (asked m s.seat) (s.before.span s.party) s.before.plain s.change s.manner
   -- a try goes on only where what it asks is open
   pub tries_on : TriesOn s.party s.outcome s.move (asked m s.seat) (s.before.span s.party) s.before.plain s.change
 
 -- Over a whole schedule, from the opening of a world of n parties
 
 pub record KeepsAll {W V C L A : Type 0} (m : Machine W V C L A) (n : ℕ) (entries : List (ℕ × Move C V)) : Type 0 where
-  pub first : m.numbers m.words ≡ encoded m.coding (opening_plain m)
+  pub first : m.numbers m.words ≡ encoded m.lock_kind (opening_plain m)
   -- the numbers show all of the words
   pub numbers_tell : (v w : W) → m.numbers v ≡ m.numbers w → v ≡ w
   pub each : Every (Keeps m) m (opening m n) entries

@@ -4,7 +4,7 @@ use Rattle.spin_step.specs.Plain.{Change}
 use Rattle.spin_step.specs.Parties.{is_held}
 use Rattle.spin_step.specs.Steps.{bit}
 use Rattle.spin_world_core.specs.Manners.{is_again, is_look}
-use Rattle.spin_world_core.specs.Calls.{Coding, first_word, Mark}
+use Rattle.spin_world_core.specs.Calls.{LockKind, first_word, Mark}
 
 -- the steps that the party made in the span, in their order
 abbrev pub own : ℕ → List Mark → List Change
@@ -21,9 +21,9 @@ failures p [] = 0
 failures p (m ∷ ms) = failures p ms + bit ((m.party == p) && (is_again m.manner && not (is_some m.change)))
 
 -- others' changes of the first word
-abbrev pub changes : Coding → ℕ → List Mark → ℕ
-changes coding p [] = 0
-changes coding p (m ∷ ms) = changes coding p ms + bit (not (m.party == p) && not (first_word coding m.after == first_word coding m.before))
+abbrev pub changes : LockKind → ℕ → List Mark → ℕ
+changes kind p [] = 0
+changes kind p (m ∷ ms) = changes kind p ms + bit (not (m.party == p) && not (first_word kind m.after == first_word kind m.before))
 
 -- the party's looks, in a call that waits, that found the lock held
 abbrev pub held_looks : ℕ → List Mark → ℕ

@@ -1,20 +1,20 @@
--- Calls that nobody disturbs: from a moment on at which what such a call asks is open, it is answered by its fourth own step at the latest.
-use Rattle.std.specs.Prelude.{◌≡◌, ℕ, ◌≤◌, ◌<◌, ◌==◌, ◌&&◌, ◌||◌, Bool, true, false, Option, Some, is_some, List, [], ◌∷◌, ◌++◌, if◌then◌else◌}
-use Rattle.spin_step.specs.Plain.{Plain, writing, to_write, to_upgrade, to_upgrade_asked, to_enter, to_take_and_enter, to_lock_unregistered, to_lock_starving, is_open_to, is_empty, is_first, is_holder, is_nothing, is_complete}
+-- Calls that nobody disturbs: from a moment on at which what such a call asks is open, it is answered by so many own steps as its kind of lock says.
+use Rattle.std.specs.Prelude.{◌≡◌, ℕ, ◌≤◌, ◌<◌, ◌==◌, ◌&&◌, ◌||◌, Bool, true, false, Option, Some, is_some, min, List, [], ◌∷◌, ◌++◌, if◌then◌else◌}
+use Rattle.spin_step.specs.Plain.{Plain, writing, to_upgrade, to_upgrade_asked, to_enter, to_take_and_enter, to_lock_unregistered, to_lock_starving, is_open_to, is_empty, is_first, is_holder, is_nothing, is_complete}
 use Rattle.spin_step.specs.Barriers.{may_leave, is_leading}
 use Rattle.spin_world_core.specs.declared.schedule.Outcome.{Outcome}
 use Rattle.spin_world_core.specs.declared.schedule.Outcome.TheVariants as outcome
 use Rattle.spin_world_core.specs.Manners.{is_weak}
-use Rattle.spin_world_core.specs.Calls.{Coding, flag, rw, seats, encoded, Asked, waits, waits_or_starves, initializes, fails_to_initialize, waits_for_value, polls, meets, Mark}
+use Rattle.spin_world_core.specs.Calls.{LockKind, encoded, Asked, waits, waits_or_starves, initializes, fails_to_initialize, waits_for_value, polls, meets, Mark}
 use Rattle.spin_world_core.specs.Spans.{own, own_count}
 
--- how many had arrived at a barrier with the party's own arrival
+-- how many had arrived with the party's own arrival
 abbrev pub arrived : ℕ → List Mark → ℕ
 arrived p [] = 0
 arrived p (m ∷ ms) = if (m.party == p) && is_some m.change then m.after.arrivals else arrived p ms
 
 -- Whether it is open to the party what its call asks in its present state, where the call may wait: `first` if it has made no plain step yet. Who has got it already has only to be answered.
--- Who queues asks for a ticket that enters at once, and with its ticket to enter; who waits to upgrade has nothing but its own asking before it, and then the upgrade; who may starve asks as everybody does, and once it has registered as a starver; and whoever has arrived at a barrier asks to leave
+-- Who queues asks for a ticket that enters at once, and with its ticket to enter; who waits to upgrade has nothing but its own asking before it, and then the upgrade; who may starve asks as everybody does, and once it has registered as a starver; and whoever has arrived asks to leave
 abbrev pub is_open_next : Asked → Bool → ℕ → ℕ → Plain → Bool
 is_open_next (waits to_enter) true k p s = is_open_to s p to_take_and_enter
 is_open_next (waits to_enter) false k p s = is_open_to s p to_enter || is_first p true s.tickets
@@ -38,30 +38,26 @@ abbrev pub is_open_now : ℕ → Asked → List Mark → Plain → Bool
 is_open_now p what span s = is_open_next what (is_empty (own p span)) (arrived p span) p s
 
 -- the step disturbs nobody but its own party: it changes no word, or is the party's own, and no weak refusal
-pub record Leaves (coding : Coding) (p : ℕ) (m : Mark) : Type 0 where
+pub record Leaves (kind : LockKind) (p : ℕ) (m : Mark) : Type 0 where
   pub strong : m.party ≡ p → is_weak m.manner ≡ false
-  pub still : (m.party ≡ p → ⊥) → encoded coding m.after ≡ encoded coding m.before
+  pub still : (m.party ≡ p → ⊥) → encoded kind m.after ≡ encoded kind m.before
 
 abbrev pub AllOf : {X : Type 0} → (X → Type 0) → List X → Type 0
 AllOf P [] = Unit {0}
 AllOf P (x ∷ xs) = P x × AllOf P xs
 
 -- For each mark of the span at which what the call asks is open: if nothing disturbs the party from there on, it has taken so few steps since
-abbrev pub UndisturbedTakes : (ℕ → Type 0) → Coding → ℕ → Asked → List Mark → Type 0
-UndisturbedTakes IsFew coding p what span =
-    (recent : List Mark) (first : Mark) (older : List Mark) → span ≡ recent ++ first ∷ older → is_open_now p what older first.before ≡ true → AllOf (Leaves coding p) (recent ++ first ∷ [])
+abbrev pub UndisturbedTakes : (ℕ → Type 0) → LockKind → ℕ → Asked → List Mark → Type 0
+UndisturbedTakes IsFew kind p what span =
+    (recent : List Mark) (first : Mark) (older : List Mark) → span ≡ recent ++ first ∷ older → is_open_now p what older first.before ≡ true → AllOf (Leaves kind p) (recent ++ first ∷ [])
     → IsFew (own_count p (recent ++ first ∷ []))
 
--- How many that is at most: one where the exchange needs no look, two where one look goes before it, or where it is asked for first, and four of every other call
-abbrev pub steps_alone : Coding → Asked → ℕ
-steps_alone rw (waits to_write) = 1
-steps_alone rw (waits ask) = 2
-steps_alone seats (waits ask) = 2
-steps_alone flag (waits ask) = 2
-steps_alone coding what = 4
+-- How many that is at most: what the kind of lock says, and four where it says more
+abbrev pub steps_alone : LockKind → Asked → ℕ
+steps_alone kind what = min (kind.undisturbed_steps what) 4
 
 -- so a call that goes on has taken fewer, and one that is answered so many at most
-abbrev pub AnsweredSoon : {V A : Type 0} → Coding → ℕ → List Mark → Outcome A V → Option Asked → Type 0
-AnsweredSoon coding p span (outcome.Answered a b) (Some what) = UndisturbedTakes (λ n. n ≤ steps_alone coding what) coding p what span
-AnsweredSoon coding p span outcome.GoingOn (Some what) = UndisturbedTakes (λ n. n < steps_alone coding what) coding p what span
-AnsweredSoon coding p span _ _ = Unit {0}
+abbrev pub AnsweredSoon : {V A : Type 0} → LockKind → ℕ → List Mark → Outcome A V → Option Asked → Type 0
+AnsweredSoon kind p span (outcome.Answered a b) (Some what) = UndisturbedTakes (λ n. n ≤ steps_alone kind what) kind p what span
+AnsweredSoon kind p span outcome.GoingOn (Some what) = UndisturbedTakes (λ n. n < steps_alone kind what) kind p what span
+AnsweredSoon kind p span _ _ = Unit {0}

@@ -7,19 +7,14 @@ use Rattle.spin_world_core.specs.declared.schedule.Move.{Move}
 use Rattle.spin_world_core.specs.declared.schedule.Move.TheVariants.{Step, Weak}
 use Rattle.spin_world_core.specs.declared.schedule.Outcome.{Outcome}
 use Rattle.spin_world_core.specs.declared.schedule.Outcome.TheVariants as outcome
-use Rattle.spin_world_core.specs.Calls.{Coding, once, Said, gives_value}
+use Rattle.spin_world_core.specs.Calls.{Said, gives_value}
 use Rattle.spin_world_core.specs.Machines.{Machine, opening_plain}
 use Rattle.spin_world_core.specs.Runs.{Scene, Every, opening}
 
--- whether a closure makes the value of such an object
-abbrev pub makes_value : Coding → Bool
-makes_value once = true
-makes_value _ = false
-
--- a `Once` has a value exactly where a closure has completed
-abbrev pub HasPhase : {V : Type 0} → Coding → Phase → Option V → Type 0
-HasPhase once phase value = is_complete phase ≡ is_some value
-HasPhase _ phase value = Unit {0}
+-- where a closure makes the value, there is one exactly where a closure has completed
+abbrev pub HasPhase : {V : Type 0} → Bool → Phase → Option V → Type 0
+HasPhase true phase value = is_complete phase ≡ is_some value
+HasPhase false phase value = Unit {0}
 
 -- what lies there after a closure that completes is the value that its own call brings
 abbrev pub Brings : {W V C L A : Type 0} → Machine W V C L A → Option Change → Option (Seat C L) → Option V → Type 0
@@ -27,24 +22,24 @@ Brings m (Some (completes p)) (Some (Calling c l h)) value = value ≡ m.brings 
 Brings m (Some (completes p)) _ value = ⊥
 Brings m _ _ value = Unit {0}
 
--- an answer that says so gives a value, which is the one that lies there after it; no other answer of a `Once` gives one
-abbrev pub Gives : {V : Type 0} → Coding → Said → Option V → Option V → Type 0
-Gives once gives_value (Some v) value = value ≡ Some v
-Gives once gives_value None value = ⊥
-Gives once _ given value = given ≡ None
-Gives _ _ given value = Unit {0}
+-- an answer that says so gives a value, which is the one that lies there after it; no other answer gives one, where a closure makes the value
+abbrev pub Gives : {V : Type 0} → Bool → Said → Option V → Option V → Type 0
+Gives true gives_value (Some v) value = value ≡ Some v
+Gives true gives_value None value = ⊥
+Gives true _ given value = given ≡ None
+Gives false _ given value = Unit {0}
 
 abbrev pub GivesAt : {W V C L A : Type 0} → Machine W V C L A → Move C V → Outcome A V → Option V → Type 0
-GivesAt m Step (outcome.Answered a b) value = Gives m.coding (m.says a) (m.gives a) value
-GivesAt m Weak (outcome.Answered a b) value = Gives m.coding (m.says a) (m.gives a) value
+GivesAt m Step (outcome.Answered a b) value = Gives m.lock_kind.makes_value (m.says a) (m.gives a) value
+GivesAt m Weak (outcome.Answered a b) value = Gives m.lock_kind.makes_value (m.says a) (m.gives a) value
 GivesAt m _ _ value = Unit {0}
 
 pub record KeepsValue {W V C L A : Type 0} (m : Machine W V C L A) (s : Scene W V C L A) : Type 0 where
-  pub phase : HasPhase m.coding s.after.plain.phase s.after.state.value
+  pub phase : HasPhase m.lock_kind.makes_value s.after.plain.phase s.after.state.value
   pub brings : Brings m s.change s.seat s.after.state.value
   pub gives : GivesAt m s.move s.outcome s.after.state.value
 
 -- over a whole schedule, from the opening of a world of n parties
 pub record ValuesAll {W V C L A : Type 0} (m : Machine W V C L A) (n : ℕ) (entries : List (ℕ × Move C V)) : Type 0 where
-  pub first : HasPhase m.coding (opening_plain m).phase m.value
+  pub first : HasPhase m.lock_kind.makes_value (opening_plain m).phase m.value
   pub each : Every (KeepsValue m) m (opening m n) entries

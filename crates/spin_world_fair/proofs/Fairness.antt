@@ -4,7 +4,8 @@ use Rattle.std.proofs.lemmas.Bool.{and_parts, false≢true}
 use Rattle.spin_step.specs.Plain.{Plain, Kind, writing, Holder, same_kind, to_lock_unregistered, to_lock_starving, to_lock_starving_alone, to_starve, Change, gets, releases, stops_starving, is_empty, is_holder, is_starver, is_only_starver, without_holder, fair_word}
 use Rattle.spin_step.specs.Parties.{apply_some, IsOpenStep}
 use Rattle.spin_step.proofs.Exclusive.{empty_is}
-use Rattle.spin_world_core.specs.Calls.{fair, BelongsTo}
+use Rattle.spin_world_core.specs.Calls.{BelongsTo}
+use Rattle.spin_world_fair.specs.Kind.{fair}
 use Rattle.spin_world_fair.specs.Fairness.{IsFree}
 
 pub free_when_zero : (w : ℕ) (s : Plain) → w ∷ [] ≡ fair_word s ∷ [] → w ≡ 0 → IsFree s

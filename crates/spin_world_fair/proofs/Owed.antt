@@ -18,7 +18,8 @@ use Rattle.spin_world_fair.specs.declared.fair.FairCall.TheVariants.{Lock, TryLo
 use Rattle.spin_world_fair.specs.declared.fair.FairPoint.{FairPoint}
 use Rattle.spin_world_fair.specs.declared.fair.FairPoint.TheVariants.{First, Attempt, Look, Load, Register, SetFlag, Await, Unregister}
 use Rattle.spin_world_core.specs.Manners.{Manner, plain, again, look, weak}
-use Rattle.spin_world_core.specs.Calls.{Mark, fair, looks, grant, granted}
+use Rattle.spin_world_core.specs.Calls.{Mark, looks, grant, granted}
+use Rattle.spin_world_fair.specs.Kind.{fair}
 use Rattle.spin_world_core.specs.Runs.{mark_of, own_count, changes, RegistersInTime}
 use Rattle.spin_world_core.specs.Acts.{either, tried, begin_of}
 use Rattle.spin_world_core.specs.Operations.{sets_lowest_bit}

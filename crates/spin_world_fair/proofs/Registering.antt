@@ -5,7 +5,8 @@ use Rattle.spin_step.specs.Plain.{Plain, Change, gets, to_starve, is_open}
 use Rattle.spin_step.specs.Parties.{apply_some, is_held}
 use Rattle.spin_step.specs.Steps.{bit}
 use Rattle.spin_world_core.specs.Manners.{Manner, plain, again, look, is_look}
-use Rattle.spin_world_core.specs.Calls.{Mark, fair, AnyOf, Registers, TriesToStarve, first_word}
+use Rattle.spin_world_core.specs.Calls.{Mark, AnyOf, Registers, TriesToStarve, first_word}
+use Rattle.spin_world_fair.specs.Kind.{fair}
 use Rattle.spin_world_core.specs.Runs.{mark_of, own, own_count, changes, held_looks, IsLateLook, RegistersInTime}
 use Rattle.spin_world_core.specs.Spans.{is_blind, may_be_blind}
 use Rattle.spin_world_core.proofs.Lists.{eqb_self}

@@ -12,7 +12,8 @@ use Rattle.spin_world_fair.specs.declared.fair.FairCall.{FairCall}
 use Rattle.spin_world_fair.specs.declared.fair.FairCall.TheVariants.{Lock, TryLock, TryLockStarver, IsLocked, Starve, StarverTryLockFair, StarverTryLock, StarverLock, StarverDrop, Release}
 use Rattle.spin_world_fair.specs.declared.fair.FairPoint.{FairPoint}
 use Rattle.spin_world_fair.specs.declared.fair.FairPoint.TheVariants.{First, Attempt, Look, Load, Register, SetFlag, Await, Unregister}
-use Rattle.spin_world_core.specs.Calls.{fair, Asked, waits, waits_or_starves, tries, tries_to_know, looks, gives_back, says_of}
+use Rattle.spin_world_core.specs.Calls.{Asked, waits, waits_or_starves, tries, tries_to_know, looks, gives_back, says_of}
+use Rattle.spin_world_fair.specs.Kind.{fair}
 use Rattle.spin_world_core.specs.Machines.{Machine}
 use Rattle.spin_world_core.specs.Acts.{one_number, Act, either, load, load_if, load_for, exchange, weak_exchange, retry, store, swap, Table, machine_of}
 use Rattle.spin_world_core.specs.Operations.{subtracts, sets_lowest_bit}
@@ -90,7 +91,7 @@ fair_table v cap patience =
       words = 0;
       value = Some v;
       owned = true;
-      coding = fair;
+      lock_kind = fair;
       cap = min cap most_starvers;
       group = 0;
       first = 0;

@@ -1,3 +1,4 @@
+pub mod Kind
 pub mod Fair
 pub mod Named
 pub mod Fairness

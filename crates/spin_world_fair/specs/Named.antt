@@ -8,12 +8,13 @@ use Rattle.spin_world_core.specs.declared.answer.Answer.{Answer}
 use Rattle.spin_world_fair.specs.declared.fair.FairCall.{FairCall}
 use Rattle.spin_world_fair.specs.declared.fair.FairCall.TheVariants.{Lock, TryLock, TryLockStarver, IsLocked, Starve, StarverTryLockFair, StarverTryLock, StarverLock, StarverDrop, Release}
 use Rattle.spin_world_fair.specs.declared.fair.FairPoint.{FairPoint}
-use Rattle.spin_world_core.specs.Calls.{fair, waits, waits_or_starves, tries, tries_to_know, looks, gives_back, says_of}
+use Rattle.spin_world_core.specs.Calls.{waits, waits_or_starves, tries, tries_to_know, looks, gives_back, says_of}
+use Rattle.spin_world_fair.specs.Kind.{fair}
 use Rattle.spin_world_core.specs.Machines.{Machine}
 
 -- with this cap; and its `lock` registers by its next look that finds the flag set after so many
 pub record IsFairLock {V : Type 0} (given : V) (cap patience : ℕ) (m : Machine ℕ V FairCall FairPoint (Answer V)) : Type 0 where
-  pub coding : m.coding ≡ fair
+  pub lock_kind : m.lock_kind ≡ fair
   pub most_starve : m.cap ≡ min cap most_starvers
   pub opens_empty : m.words ≡ 0
   pub number : (w : ℕ) → m.numbers w ≡ w ∷ []

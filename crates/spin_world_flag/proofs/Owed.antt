@@ -15,7 +15,8 @@ use Rattle.spin_world_flag.specs.declared.flag.FlagCall.{FlagCall}
 use Rattle.spin_world_flag.specs.declared.flag.FlagCall.TheVariants.{Lock, TryLock, TryLockWeak, IsLocked, Release}
 use Rattle.spin_world_flag.specs.declared.flag.FlagPoint.{FlagPoint}
 use Rattle.spin_world_flag.specs.declared.flag.FlagPoint.TheVariants.{First, Second}
-use Rattle.spin_world_core.specs.Calls.{Mark, flag}
+use Rattle.spin_world_core.specs.Calls.{Mark}
+use Rattle.spin_world_flag.specs.Kind.{flag}
 use Rattle.spin_world_core.specs.Acts.{swap, tried, begin_of}
 use Rattle.spin_world_flag.specs.Flag.{asks_of, lock, is_set, act_of, flag_table, flag_machine}
 use Rattle.spin_world_core.proofs.Facts.{LocalInvariant, Facts}

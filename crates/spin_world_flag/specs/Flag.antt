@@ -14,7 +14,8 @@ use Rattle.spin_world_flag.specs.declared.flag.FlagPoint.{FlagPoint}
 use Rattle.spin_world_flag.specs.declared.flag.FlagPoint.TheVariants.{First, Second}
 use Rattle.spin_world_core.specs.declared.answer.Answer.{Answer}
 use Rattle.spin_world_core.specs.declared.answer.Answer.TheVariants.{Granted, Refused, Done, Is}
-use Rattle.spin_world_core.specs.Calls.{flag, Asked, waits, tries, tries_weakly, looks, gives_back, says_of}
+use Rattle.spin_world_core.specs.Calls.{Asked, waits, tries, tries_weakly, looks, gives_back, says_of}
+use Rattle.spin_world_flag.specs.Kind.{flag}
 use Rattle.spin_world_core.specs.Machines.{Machine}
 use Rattle.spin_world_core.specs.Acts.{Memory, Act, load, load_if, exchange, weak_exchange, store, swap, Table, machine_of}
 use Rattle.spin_world_core.specs.Operations.{stores}
@@ -54,7 +55,7 @@ flag_table v =
       words = false;
       value = Some v;
       owned = true;
-      coding = flag;
+      lock_kind = flag;
       cap = 0;
       group = 0;
       first = 0;

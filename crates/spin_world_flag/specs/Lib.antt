@@ -1,3 +1,4 @@
+pub mod Kind
 pub mod Flag
 pub mod Wrong
 pub mod Named

@@ -7,11 +7,12 @@ use Rattle.spin_world_core.specs.declared.answer.Answer.{Answer}
 use Rattle.spin_world_flag.specs.declared.flag.FlagCall.{FlagCall}
 use Rattle.spin_world_flag.specs.declared.flag.FlagCall.TheVariants.{Lock, TryLock, TryLockWeak, IsLocked, Release}
 use Rattle.spin_world_flag.specs.declared.flag.FlagPoint.{FlagPoint}
-use Rattle.spin_world_core.specs.Calls.{flag, waits, tries, tries_weakly, looks, gives_back, says_of}
+use Rattle.spin_world_core.specs.Calls.{waits, tries, tries_weakly, looks, gives_back, says_of}
+use Rattle.spin_world_flag.specs.Kind.{flag}
 use Rattle.spin_world_core.specs.Machines.{Machine}
 
 pub record IsFlag {V : Type 0} (given : V) (m : Machine Bool V FlagCall FlagPoint (Answer V)) : Type 0 where
-  pub coding : m.coding ≡ flag
+  pub lock_kind : m.lock_kind ≡ flag
   pub opens_clear : m.words ≡ false
   pub number : (w : Bool) → m.numbers w ≡ bit w ∷ []
   pub value : m.value ≡ Some given

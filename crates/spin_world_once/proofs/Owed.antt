@@ -16,7 +16,8 @@ use Rattle.spin_world_once.specs.declared.once.OnceCall.TheVariants.{CallOnce, T
 use Rattle.spin_world_once.specs.declared.once.OncePoint.{OncePoint}
 use Rattle.spin_world_once.specs.declared.once.OncePoint.TheVariants.{Look, TryBegin, Await, Run}
 use Rattle.spin_world_core.specs.Manners.{Manner, plain, look, is_look}
-use Rattle.spin_world_core.specs.Calls.{once, Asked, looks, initializes, fails_to_initialize, Mark, Said, gives_value, failed, may_be_weak}
+use Rattle.spin_world_core.specs.Calls.{Asked, looks, initializes, fails_to_initialize, Mark, Said, gives_value, failed, may_be_weak}
+use Rattle.spin_world_once.specs.Kind.{once}
 use Rattle.spin_world_core.specs.Acts.{one_number, Act, either, becomes, made_if, begin_of}
 use Rattle.spin_world_core.specs.Machines.{opening_phase, opening_plain}
 use Rattle.spin_world_core.specs.Runs.{is_writer, mark_of}
@@ -266,7 +267,7 @@ module _ {V : Type 0} (value : Option V) where
   first_word None = refl
   first_word (Some x) = refl
 
-  first_phase : (opening : Option V) → is_complete (opening_phase once opening) ≡ is_some opening
+  first_phase : (opening : Option V) → is_complete (opening_phase true opening) ≡ is_some opening
   first_phase None = refl
   first_phase (Some x) = refl
 

@@ -1,3 +1,4 @@
+pub mod Kind
 pub mod Once
 pub mod Wrong
 pub mod Keeping

@@ -4,14 +4,15 @@ use Rattle.spin_step.specs.Plain.{nothing, complete}
 use Rattle.spin_world_core.specs.declared.place.Hold.{Hold}
 use Rattle.spin_world_core.specs.declared.answer.Answer.{Answer}
 use Rattle.spin_world_once.specs.declared.once.OnceCall.TheVariants.{CallOnce, TryCallOnceOk, TryCallOnceErr, InitFromRef, Wait, Poll, Get, IsCompleted}
-use Rattle.spin_world_core.specs.Calls.{once, initializes, fails_to_initialize, waits_for_value, polls, looks_for_value, looks_complete, says_of}
+use Rattle.spin_world_core.specs.Calls.{initializes, fails_to_initialize, waits_for_value, polls, looks_for_value, looks_complete, says_of}
+use Rattle.spin_world_once.specs.Kind.{once}
 use Rattle.spin_world_core.specs.Machines.{opening_plain}
 use Rattle.spin_world_core.specs.Acts.{gives_of}
 use Rattle.spin_world_once.specs.Once.{OnceMachine}
 
 -- it is made with this value, or with none
 pub record IsOnceOf {V : Type 0} (given : Option V) (m : OnceMachine V) : Type 0 where
-  pub coding : m.coding ≡ once
+  pub lock_kind : m.lock_kind ≡ once
   pub value : m.value ≡ given
   pub opens_empty : given ≡ None → (m.words ≡ 0) × ((opening_plain m).phase ≡ nothing)
   pub opens_complete : (v : V) → given ≡ Some v → (m.words ≡ 2) × ((opening_plain m).phase ≡ complete)

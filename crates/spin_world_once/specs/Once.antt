@@ -11,7 +11,8 @@ use Rattle.spin_world_once.specs.declared.once.OnceCall.{OnceCall}
 use Rattle.spin_world_once.specs.declared.once.OnceCall.TheVariants.{CallOnce, TryCallOnceOk, TryCallOnceErr, InitFromRef, Wait, Poll, Get, IsCompleted}
 use Rattle.spin_world_once.specs.declared.once.OncePoint.{OncePoint}
 use Rattle.spin_world_once.specs.declared.once.OncePoint.TheVariants.{Look, TryBegin, Await, Run}
-use Rattle.spin_world_core.specs.Calls.{once, Asked, initializes, fails_to_initialize, waits_for_value, polls, looks_for_value, looks_complete, says_of}
+use Rattle.spin_world_core.specs.Calls.{Asked, initializes, fails_to_initialize, waits_for_value, polls, looks_for_value, looks_complete, says_of}
+use Rattle.spin_world_once.specs.Kind.{once}
 use Rattle.spin_world_core.specs.Machines.{Machine}
 use Rattle.spin_world_core.specs.Acts.{one_number, Act, load, load_if, exchange, store, swap, either, Table, machine_with}
 use Rattle.spin_world_core.specs.Operations.{stores}
@@ -79,7 +80,7 @@ once_table value =
       words = opening_word value;
       value = value;
       owned = true;
-      coding = once;
+      lock_kind = once;
       cap = 0;
       group = 0;
       first = 0;

@@ -21,6 +21,7 @@ use Rattle.spin_world_rw.specs.declared.rw.RwPoint.{RwPoint}
 use Rattle.spin_world_rw.specs.declared.rw.RwPoint.TheVariants.{First, Exchange, Asking}
 use Rattle.spin_world_core.specs.Calls.{Mark}
 use Rattle.spin_world_core.specs.Calls as calls
+use Rattle.spin_world_rw.specs.Kind as kind
 use Rattle.spin_world_core.specs.Acts.{begin_of}
 use Rattle.spin_world_rw.specs.Rw.{granted, act_of, asks_of, rw_table, rw_machine}
 use Rattle.spin_world_core.proofs.Facts.{LocalInvariant, Facts}
@@ -249,15 +250,15 @@ module _ {V : Type 0} (v : V) (cap : ℕ) where
   begins p Release (Some hold.Write) s = (refl, refl, tt, tt)
   begins p _ _ s = tt
 
-  sound : (p : ℕ) (c : RwCall) (l : RwPoint) (h : Option Hold) → SoundAt calls.rw (asks_of c h) p (point_of v cap c l h)
+  sound : (p : ℕ) (c : RwCall) (l : RwPoint) (h : Option Hold) → SoundAt kind.rw (asks_of c h) p (point_of v cap c l h)
   sound p Upgrade Asking (Some hold.Upgradable) = (refl, inl refl)
   sound p TryRead (Exchange n) None = refl
   sound p Read (Exchange n) None = refl
   sound p TryUpgradeableRead (Exchange n) None = refl
   sound p UpgradeableRead (Exchange n) None = refl
-  sound p c l h = starts_sound calls.rw (asks_of c h) p (begin_of (rw_table v cap) c h)
+  sound p c l h = starts_sound kind.rw (asks_of c h) p (begin_of (rw_table v cap) c h)
 
-  fits_all : (p : ℕ) (c : RwCall) (l : RwPoint) (h : Option Hold) → fits_act calls.rw (asks_of c h) (act_of {V = V} cap c l h) p ≡ true
+  fits_all : (p : ℕ) (c : RwCall) (l : RwPoint) (h : Option Hold) → fits_act kind.rw (asks_of c h) (act_of {V = V} cap c l h) p ≡ true
   fits_all p Upgrade Asking h = refl
   fits_all p TryRead First h = refl
   fits_all p Read First h = refl

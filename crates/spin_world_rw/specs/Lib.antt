@@ -1,3 +1,4 @@
+pub mod Kind
 pub mod Rw
 pub mod Standing
 pub mod Wrong

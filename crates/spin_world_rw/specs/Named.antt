@@ -7,11 +7,12 @@ use Rattle.spin_world_core.specs.declared.answer.Answer.{Answer}
 use Rattle.spin_world_rw.specs.declared.rw.RwCall.{RwCall}
 use Rattle.spin_world_rw.specs.declared.rw.RwCall.TheVariants.{TryRead, Read, TryUpgradeableRead, UpgradeableRead, TryWrite, TryWriteWeak, Write, ReaderCount, WriterCount, TryUpgrade, TryUpgradeWeak, Upgrade, Downgrade, DowngradeToUpgradeable, Release}
 use Rattle.spin_world_rw.specs.declared.rw.RwPoint.{RwPoint}
-use Rattle.spin_world_core.specs.Calls.{rw, waits, tries, tries_weakly, counts_readers, counts_writers, turns_to, gives_back, says_of}
+use Rattle.spin_world_core.specs.Calls.{waits, tries, tries_weakly, counts_readers, counts_writers, turns_to, gives_back, says_of}
+use Rattle.spin_world_rw.specs.Kind.{rw}
 use Rattle.spin_world_core.specs.Machines.{Machine, opening_plain}
 
 pub record IsRw {V : Type 0} (given : V) (cap : ℕ) (m : Machine ℕ V RwCall RwPoint (Answer V)) : Type 0 where
-  pub coding : m.coding ≡ rw
+  pub lock_kind : m.lock_kind ≡ rw
   pub opens_free : m.words ≡ 0
   pub number : (w : ℕ) → m.numbers w ≡ w ∷ []
   pub value : m.value ≡ Some given

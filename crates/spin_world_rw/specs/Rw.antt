@@ -13,7 +13,8 @@ use Rattle.spin_world_rw.specs.declared.rw.RwCall.{RwCall}
 use Rattle.spin_world_rw.specs.declared.rw.RwCall.TheVariants.{TryRead, Read, TryUpgradeableRead, UpgradeableRead, TryWrite, TryWriteWeak, Write, ReaderCount, WriterCount, TryUpgrade, TryUpgradeWeak, Upgrade, Downgrade, DowngradeToUpgradeable, Release}
 use Rattle.spin_world_rw.specs.declared.rw.RwPoint.{RwPoint}
 use Rattle.spin_world_rw.specs.declared.rw.RwPoint.TheVariants.{First, Exchange, Asking}
-use Rattle.spin_world_core.specs.Calls.{rw, Asked, waits, tries, tries_weakly, counts_readers, counts_writers, turns_to, gives_back, says_of}
+use Rattle.spin_world_core.specs.Calls.{Asked, waits, tries, tries_weakly, counts_readers, counts_writers, turns_to, gives_back, says_of}
+use Rattle.spin_world_rw.specs.Kind.{rw}
 use Rattle.spin_world_core.specs.Machines.{Machine}
 use Rattle.spin_world_core.specs.Acts.{one_number, Act, load, load_for, exchange, weak_exchange, retry, store, swap, either, stays, retried, Table, machine_of}
 use Rattle.spin_world_core.specs.Operations.{adds, subtracts}
@@ -80,7 +81,7 @@ rw_table v cap =
       words = 0;
       value = Some v;
       owned = true;
-      coding = rw;
+      lock_kind = rw;
       cap = min cap reader_limit;
       group = 0;
       first = 0;

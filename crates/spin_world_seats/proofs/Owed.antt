@@ -17,7 +17,7 @@ use Rattle.spin_world_seats.specs.declared.seats.SeatsCall.TheVariants.{TryEnter
 use Rattle.spin_world_seats.specs.declared.seats.SeatsPoint.{SeatsPoint}
 use Rattle.spin_world_seats.specs.declared.seats.SeatsPoint.TheVariants.{First, Exchange}
 use Rattle.spin_world_core.specs.Calls.{Mark}
-use Rattle.spin_world_core.specs.Calls as calls
+use Rattle.spin_world_seats.specs.Kind as kind
 use Rattle.spin_world_core.specs.Acts.{begin_of}
 use Rattle.spin_world_seats.specs.Seats.{granted, act_of, asks_of, seats_table, seats_machine}
 use Rattle.spin_world_core.proofs.Facts.{LocalInvariant, Facts}
@@ -117,15 +117,15 @@ module _ (n : ℕ) where
   begins p Leave (Some Read) s = (refl, refl, tt, tt)
   begins p _ _ s = tt
 
-  fits_all : (p : ℕ) (c : SeatsCall) (l : SeatsPoint) (h : Option Hold) → fits_act calls.seats (asks_of c h) (act_of n c l h) p ≡ true
+  fits_all : (p : ℕ) (c : SeatsCall) (l : SeatsPoint) (h : Option Hold) → fits_act kind.seats (asks_of c h) (act_of n c l h) p ≡ true
   fits_all p TryEnter First h = refl
   fits_all p Enter First h = refl
   fits_all p _ _ _ = refl
 
-  sound : (p : ℕ) (c : SeatsCall) (l : SeatsPoint) (h : Option Hold) → SoundAt calls.seats (asks_of c h) p (point_of n c l h)
+  sound : (p : ℕ) (c : SeatsCall) (l : SeatsPoint) (h : Option Hold) → SoundAt kind.seats (asks_of c h) p (point_of n c l h)
   sound p TryEnter (Exchange k) None = refl
   sound p Enter (Exchange k) None = refl
-  sound p c l h = starts_sound calls.seats (asks_of c h) p (begin_of (seats_table n) c h)
+  sound p c l h = starts_sound kind.seats (asks_of c h) p (begin_of (seats_table n) c h)
 
   pub seats_pays : Pays (seats_table n) (seats_notes n)
   seats_pays =

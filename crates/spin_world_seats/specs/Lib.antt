@@ -1,3 +1,4 @@
+pub mod Kind
 pub mod Seats
 pub mod Wrong
 pub mod Named

@@ -6,12 +6,12 @@ use Rattle.spin_world_core.specs.declared.place.Hold.{Hold}
 use Rattle.spin_world_core.specs.declared.answer.Answer.{Answer}
 use Rattle.spin_world_seats.specs.declared.seats.SeatsCall.TheVariants as call
 use Rattle.spin_world_core.specs.Calls.{waits, tries, counts_readers, gives_back, says_of}
-use Rattle.spin_world_core.specs.Calls as calls
+use Rattle.spin_world_seats.specs.Kind as kind
 use Rattle.spin_world_core.specs.Machines.{opening_plain}
 use Rattle.spin_world_seats.specs.Seats.{SeatsMachine}
 
 pub record IsSeats (n : ℕ) (m : SeatsMachine) : Type 0 where
-  pub coding : m.coding ≡ calls.seats
+  pub lock_kind : m.lock_kind ≡ kind.seats
   pub opens_free : m.words ≡ 0
   pub number : (w : ℕ) → m.numbers w ≡ w ∷ []
   pub value : m.value ≡ Some tt

@@ -14,7 +14,7 @@ use Rattle.spin_world_seats.specs.declared.seats.SeatsCall.TheVariants as call
 use Rattle.spin_world_seats.specs.declared.seats.SeatsPoint.{SeatsPoint}
 use Rattle.spin_world_seats.specs.declared.seats.SeatsPoint.TheVariants.{First, Exchange}
 use Rattle.spin_world_core.specs.Calls.{Asked, waits, tries, counts_readers, gives_back, says_of}
-use Rattle.spin_world_core.specs.Calls as calls
+use Rattle.spin_world_seats.specs.Kind as kind
 use Rattle.spin_world_core.specs.Machines.{Machine}
 use Rattle.spin_world_core.specs.Acts.{one_number, Act, load, load_for, retry, store, either, stays, retried, Table, machine_of}
 use Rattle.spin_world_core.specs.Operations.{subtracts}
@@ -60,7 +60,7 @@ seats_table n =
       words = 0;
       value = Some tt;
       owned = true;
-      coding = calls.seats;
+      lock_kind = kind.seats;
       cap = seats n;
       group = 0;
       first = 0;

@@ -1,5 +1,5 @@
 -- Locks of seats that are wrong, each in one part of its table, and schedules on which the laws refuse them. Where its steps are wrong, so are the plain steps that they read as.
-use Rattle.std.specs.Prelude.{ℕ, zero, suc, true, Option, Some, None, List, [], ◌∷◌, ◌++◌, nat_lt, ◌-◌}
+use Rattle.std.specs.Prelude.{ℕ, zero, suc, Bool, true, false, Option, Some, None, List, [], ◌∷◌, ◌++◌, nat_lt, ◌-◌}
 use Rattle.spin_step.specs.Plain.{reading, to_read, gets, releases}
 use Rattle.spin_seats.specs.Seats.{entered}
 use Rattle.spin_world_core.specs.declared.place.Hold.{Hold}
@@ -12,7 +12,8 @@ use Rattle.spin_world_seats.specs.declared.seats.SeatsPoint.{SeatsPoint}
 use Rattle.spin_world_seats.specs.declared.seats.SeatsPoint.TheVariants.{First, Exchange}
 use Rattle.spin_world_core.specs.declared.schedule.Move.{Move}
 use Rattle.spin_world_core.specs.declared.schedule.Move.TheVariants.{Begin, Step, Weak}
-use Rattle.spin_world_core.specs.Calls.{Asked, tries}
+use Rattle.spin_world_core.specs.Calls.{LockKind, Asked, tries, gives_back}
+use Rattle.spin_world_seats.specs.Kind as kind
 use Rattle.spin_world_core.specs.Acts.{Act, load, exchange, store, section, machine_of}
 use Rattle.spin_world_core.specs.Operations.{exchanges, subtracts}
 use Rattle.spin_world_seats.specs.Seats.{Answered, granted, goes_for, comes_by, act_of, asks_of, SeatsTable, seats_table, SeatsMachine, seats_machine}
@@ -143,3 +144,25 @@ counts_free = with_steps 2 count_free
 
 abbrev pub count_alone : Entries
 count_alone = (0, Begin call.Count) ∷ (0, Step) ∷ []
+
+-- `enter` looks again and again, and its kind of lock lets it take a thousand steps
+abbrev look_on : SeatsCall → SeatsPoint → Option Hold → SeatsAct
+look_on call.Enter l h = load (λ w. GoesOn First)
+look_on c l h = act_of 2 c l h
+
+abbrev pub slow_seats : LockKind
+slow_seats = record kind.seats { undisturbed_steps = λ what. 1000 }
+
+abbrev pub looks_on : SeatsMachine
+looks_on = let t : SeatsTable = seats_table 2 in machine_of (record t { lock_kind = slow_seats; act = look_on })
+
+abbrev pub enter_in_vain : Entries
+enter_in_vain = (0, Begin call.Enter) ∷ (0, Step) ∷ (0, Step) ∷ (0, Step) ∷ (0, Step) ∷ []
+
+-- its kind of lock has a call less, so that it owes none to who sits
+abbrev without_leave : Asked → Bool
+without_leave (gives_back h) = false
+without_leave what = kind.seats.calls what
+
+abbrev pub keeps_all : SeatsMachine
+keeps_all = let t : SeatsTable = seats_table 2 in machine_of (record t { lock_kind = record kind.seats { calls = without_leave } })

@@ -4,7 +4,7 @@ ghost use Rattle.spin_world_core.specs.Operations.{Stepwise};
 ghost use Rattle.spin_world_core.specs.Runs.{KeepsAll, CountsAll, MomentsAll};
 ghost use Rattle.spin_world_seats.specs.Seats.{seats_machine};
 ghost use Rattle.spin_world_seats.specs.Named.{IsSeats};
-ghost use Rattle.spin_world_seats.specs.Wrong.{seats_one_too_many, two_on_one_seat, leaves_for_two, one_of_two_leaves, tries_for_ever, two_looks, looks_twice, enter_alone, enters_in_one, enters_by_a_guess, guess_beside_one, enters_by_chance, enter_by_chance, nobody_leaves, enters_or_not, opens_taken, seats_one_on_none, one_sits, counts_free, count_alone};
+ghost use Rattle.spin_world_seats.specs.Wrong.{seats_one_too_many, two_on_one_seat, leaves_for_two, one_of_two_leaves, tries_for_ever, two_looks, looks_twice, enter_alone, enters_in_one, enters_by_a_guess, guess_beside_one, enters_by_chance, enter_by_chance, nobody_leaves, enters_or_not, opens_taken, seats_one_on_none, one_sits, counts_free, count_alone, looks_on, enter_in_vain, keeps_all};
 
 /// A lock of one seat on which two sit down: the second one's plain step is not open.
 pub fn nobody_sits_beyond_the_seats()
@@ -69,4 +69,14 @@ pub fn nobody_sits_where_there_are_no_seats()
 /// A `count` that tells how many seats are free: at no moment of it do so many sit.
 pub fn a_count_tells_who_sits()
     ensures { MomentsAll counts_free 1 count_alone → ⊥ }
+{}
+
+/// An `enter` that looks again and again, and a kind of lock with a thousand undisturbed steps: in no kind are there more than four.
+pub fn a_kind_of_lock_has_four_steps()
+    ensures { CountsAll looks_on 1 enter_in_vain → ⊥ }
+{}
+
+/// A lock of another kind, which has no call for who leaves: its clause by names says which kind it is.
+pub fn a_lock_is_of_its_kind()
+    ensures { IsSeats 2 keeps_all → ⊥ }
 {}

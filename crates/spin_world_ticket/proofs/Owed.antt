@@ -16,7 +16,8 @@ use Rattle.spin_world_ticket.specs.declared.ticket.TicketCall.{TicketCall}
 use Rattle.spin_world_ticket.specs.declared.ticket.TicketCall.TheVariants.{Lock, TryLock, IsLocked, Release}
 use Rattle.spin_world_ticket.specs.declared.ticket.TicketPoint.{TicketPoint}
 use Rattle.spin_world_ticket.specs.declared.ticket.TicketPoint.TheVariants.{LoadNext, Take, Await, TryLoadNext, TryLoadServing, TryTake, LookServing, LookNext, Serve}
-use Rattle.spin_world_core.specs.Calls.{Mark, AnyOf, looks, granted, ticket, may_be_weak}
+use Rattle.spin_world_core.specs.Calls.{Mark, AnyOf, looks, granted, may_be_weak}
+use Rattle.spin_world_ticket.specs.Kind.{ticket}
 use Rattle.spin_world_core.specs.Runs.{mark_of, own_count}
 use Rattle.spin_world_core.specs.Manners.{Manner, plain}
 use Rattle.spin_world_core.specs.Acts.{passing, begin_of}

@@ -1,3 +1,4 @@
+pub mod Kind
 pub mod Ticket
 pub mod Named
 pub mod Turns

@@ -7,11 +7,12 @@ use Rattle.spin_world_ticket.specs.declared.ticket.TicketWords.{TicketWords}
 use Rattle.spin_world_ticket.specs.declared.ticket.TicketCall.{TicketCall}
 use Rattle.spin_world_ticket.specs.declared.ticket.TicketCall.TheVariants.{Lock, TryLock, IsLocked, Release}
 use Rattle.spin_world_ticket.specs.declared.ticket.TicketPoint.{TicketPoint}
-use Rattle.spin_world_core.specs.Calls.{ticket, waits, tries, looks, gives_back, says_of}
+use Rattle.spin_world_core.specs.Calls.{waits, tries, looks, gives_back, says_of}
+use Rattle.spin_world_ticket.specs.Kind.{ticket}
 use Rattle.spin_world_core.specs.Machines.{Machine}
 
 pub record IsTicketLock {V : Type 0} (given : V) (first : ℕ) (m : Machine TicketWords V TicketCall TicketPoint (Answer V)) : Type 0 where
-  pub coding : m.coding ≡ ticket
+  pub lock_kind : m.lock_kind ≡ ticket
   pub first_ticket : m.first ≡ first
   pub opens_empty : m.words ≡ record { next = first; serving = first }
   pub numbers : (w : TicketWords) → m.numbers w ≡ w.next ∷ w.serving ∷ []

@@ -13,7 +13,8 @@ use Rattle.spin_world_ticket.specs.declared.ticket.TicketCall.{TicketCall}
 use Rattle.spin_world_ticket.specs.declared.ticket.TicketCall.TheVariants.{Lock, TryLock, IsLocked, Release}
 use Rattle.spin_world_ticket.specs.declared.ticket.TicketPoint.{TicketPoint}
 use Rattle.spin_world_ticket.specs.declared.ticket.TicketPoint.TheVariants.{LoadNext, Take, Await, TryLoadNext, TryLoadServing, TryTake, LookServing, LookNext, Serve}
-use Rattle.spin_world_core.specs.Calls.{ticket, Asked, waits, tries, looks, gives_back, says_of}
+use Rattle.spin_world_core.specs.Calls.{Asked, waits, tries, looks, gives_back, says_of}
+use Rattle.spin_world_ticket.specs.Kind.{ticket}
 use Rattle.spin_world_core.specs.Machines.{Machine}
 use Rattle.spin_world_core.specs.Acts.{Memory, two_numbers, Act, load, load_if, load_for, enter, attempt, retry, store, Table, machine_of}
 use Rattle.spin_world_core.specs.Operations.{stores}
@@ -75,7 +76,7 @@ ticket_table v first =
       words = record { next = first; serving = first };
       value = Some v;
       owned = true;
-      coding = ticket;
+      lock_kind = ticket;
       cap = 0;
       group = 0;
       first = first;

@@ -1,4 +1,5 @@
-use Rattle.spin_world_core.specs.Calls.{flag, waits}
+use Rattle.spin_world_core.specs.Calls.{waits}
+use Rattle.spin_world_flag.specs.Kind.{flag}
 use Rattle.spin_step.specs.Plain.{to_write}
 use Rattle.spin_world_core.proofs.Otherwise.{too_many}
 use Rattle.std.proofs.Common.{[], ◌∷◌, refl}

@@ -1,4 +1,5 @@
-use Rattle.spin_world_core.specs.Calls.{ticket, waits}
+use Rattle.spin_world_core.specs.Calls.{waits}
+use Rattle.spin_world_ticket.specs.Kind.{ticket}
 use Rattle.spin_step.specs.Plain.{to_enter}
 use Rattle.spin_world_core.proofs.Otherwise.{four_steps}
 use Rattle.std.proofs.Common.{refl}
