@@ -97,8 +97,9 @@ impl<L: Ledger> Tally<L> {
 /// Adds `more` to a tally under a lock. Returns `false`, and adds nothing, if the sum would not fit.
 ///
 /// # Contract
-/// The share must not be empty. It counts `more` if the answer is `true`, and stays as it is otherwise. `false` comes
-/// only if the sum would not fit. Whether and when the call returns is not promised.
+/// The share must not be empty. It counts `more` if the answer is `true`, and stays as it is otherwise. After a `false`
+/// there is a number to which `more` cannot be added (`full`). That the tally held such a number is what a test shows.
+/// Whether and when the call returns is not promised.
 ///
 /// # Examples
 /// ```

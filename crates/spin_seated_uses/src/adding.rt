@@ -35,6 +35,10 @@ pub fn open_for_two(alloc: Global, value: u64) -> Result<(SeatedMutex, Pass, Pas
 }
 
 /// Adds 1 if the lock is granted and there is room. Returns whether it did.
+///
+/// # Contract
+/// The pass has to be one of this lock, between two turns, and is so again. Its own calls have one write more if the
+/// answer is `true`, and as many as before otherwise (`added`).
 pub fn add(lock: &SeatedMutex, pass: &mut Pass) -> bool
     requires own { IsPassOf lock.now pass.old }
     requires turn { turn_of pass.old.known ≡ Some away }
@@ -83,7 +87,7 @@ pub fn add_some(lock: &SeatedMutex, mut pass: Pass, turns: u64) -> (Pass, u64)
 /// Reads what the lock holds once two passes have added.
 ///
 /// They meet, so that the first pass's next call comes after all that the second did. They meet again after it, so that
-/// no other call came between.
+/// no other call came between. The first pass holds the lock afterwards.
 ///
 /// # Contract
 /// The lock has to have two passes, and these have to be both, each between two turns. The answer is what the lock was

@@ -156,7 +156,7 @@ fn look_in_two<R: Threads + Wait + Sync>(
 
 /// Compares what two readers saw with what a third pass published, once all have met.
 ///
-/// The readers meet first. What they know then goes on to what the writer knows when it has met one of them.
+/// The readers meet first, and then one of them meets the writer. So the writer knows all that both readers know.
 ///
 /// # Contract
 /// The lock has to have three passes, and these have to be all. Neither reader may have written. Each reader read the

@@ -74,7 +74,7 @@ impl<C: Answers, A: Allocator + Clone, R: RelaxStrategy> Cache<C, A, R> {
 
     /// Returns the answer for `key`, and makes it first by calling `make` if there is none.
     ///
-    /// It fails if `make` fails, or if there is no memory. Then no answer is kept. `make` may read this cache, but the
+    /// It fails if `make` fails, or if there is no memory. Then no answer is added. `make` may read this cache, but the
     /// call never returns if it asks for an answer that is not there.
     ///
     /// # Contract
