@@ -38,8 +38,8 @@ pub trait RelaxStrategy {
     /// ```
     fn relax<W: Wait>(rt: &W);
 
-    /// Passes the time between two attempts of a waiting call: `hints` times as much as `relax` if the strategy spins,
-    /// and else one `relax`.
+    /// Passes the time between two attempts of a waiting call: `hints` times as much as `relax` if the strategy is
+    /// [`Spin`], and else one `relax`.
     ///
     /// # Examples
     /// ```
@@ -152,7 +152,8 @@ pub trait RelaxStrategy {
     }
 }
 
-/// The strategy that gives the processor's hint for spinning. It is the default of every lock.
+/// The strategy that gives the processor's hint for spinning. It is the default of every lock that has a
+/// strategy.
 ///
 /// # Examples
 /// ```

@@ -108,7 +108,7 @@ impl<T, R> FairMutex<T, R> {
 
     /// Consumes the mutex and returns the value.
     ///
-    /// It does not look at the word: no other thread has the mutex. Leaked holds and forgotten starvers do not matter.
+    /// It does not look at the word: no other thread has the mutex. Leaked guards and forgotten starvers do not matter.
     ///
     /// # Contract
     /// No clause. The call returns.
@@ -125,7 +125,7 @@ impl<T, R> FairMutex<T, R> {
 }
 
 impl<T, R: RelaxStrategy> FairMutex<T, R> {
-    /// Acquires the mutex, spinning until it is free.
+    /// Acquires the mutex, spinning until it is free and no starver is registered.
     ///
     /// After a failed attempt the thread pauses with strategy `R`, and looks at the word before it tries again. After
     /// more than [`STARVATION_SPINS`] looks that found the lock held it starves (see [`starve`](Self::starve)), unless
@@ -219,8 +219,9 @@ impl<T, R> FairMutex<T, R> {
 
     /// Registers the caller as a starver. Returns `None` if [`fair::MAX_STARVERS`] are registered.
     ///
-    /// From then on no newcomer acquires the lock, until the starver has the lock or is dropped. The call repeats its
-    /// compare-exchange while other threads change the word.
+    /// From then on no newcomer acquires the lock, until the starver has the lock or is dropped. The first
+    /// compare-exchange takes the word for 0. If it is another, a second one is of the word found, and more follow only
+    /// while other threads change it.
     ///
     /// # Contract
     /// `Some` is registered, as each `Starvation` is. `None` promises nothing. Whether and when the call returns is not

@@ -22,8 +22,8 @@ pub use self::rule::{FlagRule, View};
 
 /// A mutual exclusion lock with one flag as its state, on which a waiting thread spins.
 ///
-/// Waiting threads may overtake each other. Where they have to be served in order of arrival, take `TicketMutex`. A
-/// waiting thread passes the time with the strategy `R`.
+/// Waiting threads may overtake each other. Where they have to be served in the order in which they came, take
+/// `TicketMutex`, which serves them by their tickets. A waiting thread passes the time with the strategy `R`.
 ///
 /// # Contract
 /// While a guard or a hold of the lock lives, no other call acquires it. A guard gives a value of `T`, with all that

@@ -1,4 +1,4 @@
-//! `Mutex`, over the contract of one lock alone; and beside it the three mutexes that it can be over.
+//! `Mutex`, over the contract of a `TicketMutex` alone; and beside it three mutexes by their own names.
 //!
 //! Begin at [`mutex::Mutex`], and there at `lock`.
 #![tactic(auto)]

@@ -1,4 +1,4 @@
-//! `Mutex`, over the contract of an inner lock alone, and the three mutexes that it can be over. Begin at
+//! `Mutex`, over the contract of an inner lock alone, and beside it three mutexes by their own names. Begin at
 //! [`Mutex::lock`].
 ghost use Rattle.std.specs.Prelude.{◌≡◌, Some, IfSome};
 ghost use Rattle.spin_mutex.specs.MutexGuard.{value_of, holds, held_value};
@@ -23,7 +23,7 @@ pub use spin_ticket::ticket::{TicketMutex, TicketMutexGuard};
 
 /// A mutual exclusion lock on which a waiting thread spins.
 ///
-/// Inside it is a [`TicketMutex`], so threads are served in order of arrival. Which lock is inside is not part of the
+/// Inside it is a [`TicketMutex`], so threads are served in the order of their tickets. Which lock is inside is not part of the
 /// contract. A waiting thread passes the time with the strategy `R`.
 ///
 /// # Contract
@@ -149,7 +149,8 @@ impl<T, R> Mutex<T, R> {
 
     /// Tries to acquire the mutex. Returns `None` at once if it is held.
     ///
-    /// Since the lock inside is not part of the contract, `None` is possible for a free mutex too.
+    /// It also returns `None` while another thread waits. Since the lock inside is not part of the contract, `None` is
+    /// possible for a free mutex too.
     ///
     /// # Contract
     /// A guard belongs to a holder of the lock (`holds`). `None` promises nothing. The call returns.
@@ -214,7 +215,8 @@ impl<T, R> Mutex<T, R> {
 impl<T, R: RelaxStrategy> Mutex<T, R> {
     /// Acquires the mutex, spinning until it is free.
     ///
-    /// A waiting thread passes the time with the strategy `R`. The call never returns if its own thread holds the lock.
+    /// A waiting thread passes the time with the strategy `R`. The call never returns if its own thread holds the lock,
+    /// or once all 2^64 - 1 tickets of the lock inside are used up.
     ///
     /// # Contract
     /// The guard belongs to a holder of the lock (`holds`). Whether and when the call returns is not promised.

@@ -166,8 +166,8 @@ impl<T, R: RelaxStrategy> Once<T, R> {
     /// If `f` fails, the call returns its `Err`, and there is no value still: another caller's closure may give one.
     ///
     /// # Contract
-    /// The precondition of `f` has to hold. An `Err` is an answer of this caller's own `f`, never that of another's.
-    /// Whether and when the call returns is not promised.
+    /// The precondition of `f` has to hold. An `Err` is one that this caller's own `f` may return. Whether and when
+    /// the call returns is not promised.
     ///
     /// # Examples
     /// ```

@@ -91,8 +91,8 @@ impl<T, R> RwLock<T, R> {
 
     /// Tries to acquire shared access. Returns `None` if a writer holds the lock or an upgrade is pending.
     ///
-    /// It also returns `None` at the limit of readers, `rw::MAX_READERS`. The call repeats its compare-exchange only
-    /// while other threads change the word.
+    /// It also returns `None` at the limit of readers, `rw::MAX_READERS`. The first compare-exchange takes the lock for
+    /// free. Beside readers a second one is of the word found, and more follow only while other threads change it.
     ///
     /// # Contract
     /// A guard is that of a reader. `None` promises nothing. Whether and when the call returns is not promised.
@@ -113,8 +113,8 @@ impl<T, R> RwLock<T, R> {
 
     /// Tries to acquire upgradable shared access. Returns `None` if a writer or an upgradable reader holds the lock.
     ///
-    /// It also returns `None` at the limit of readers. The call repeats its compare-exchange only while other threads
-    /// change the word.
+    /// It also returns `None` at the limit of readers. Like [`try_read`](Self::try_read) it makes a second
+    /// compare-exchange beside readers, and more only while other threads change the word.
     ///
     /// # Contract
     /// A guard is that of the upgradable reader. `None` promises nothing. Whether and when the call returns is not

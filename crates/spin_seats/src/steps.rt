@@ -16,7 +16,8 @@ ghost use Rattle.spin_seats.specs.Seats.{AllRead, entered, left, seats, seats_wo
 /// ```
 pub const MAX_SEATS: usize = usize::MAX / 8;
 
-/// Returns the word after a thread takes a seat, or `None` if all are taken.
+/// Returns the word after a thread takes one of `room` seats, or `None` if all are taken. No lock has more than
+/// [`MAX_SEATS`].
 ///
 /// # Contract
 /// The answer is exact, and decides as a plain lock of readers does whose cap is the number of seats (`Decides`).

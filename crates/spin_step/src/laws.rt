@@ -4,7 +4,7 @@ ghost use Rattle.spin_step.specs.Plain.{Plain, Kind, Change, reading, to_write, 
 ghost use Rattle.spin_step.specs.Parties.{IsExclusive};
 ghost use Rattle.spin_step.specs.Upgrading.{StaysAsking, apply_all, reader_releases};
 
-/// States that a downgrade is one step. No other thread may write before it or after it, and nothing is in between.
+/// States that a downgrade is one step. Writing is open to no thread before it, nor after it, and nothing is in between.
 pub fn a_downgrade_lets_no_writer_in()
     ensures { (s : Plain) (p q : ℕ) (k l : Kind) → is_open s (turns p k l) ≡ true → (is_open_to s q to_write ≡ false) × (is_open_to (apply s (turns p k l)) q to_write ≡ false) }
 {}

@@ -4,8 +4,8 @@
 //! Begin with [`flag`], the smallest lock. A function that may refuse returns `None` and gives no new word.
 //!
 //! # Contract
-//! The plain lock is a state without words or bits: lists of the threads that hold or wait (`specs/Plain.antt`). Each
-//! function has two clauses:
+//! The plain lock is a state without words or bits: lists of the threads that hold or wait (`specs/Plain.antt`). Most
+//! functions have two clauses, and a few have more:
 //!
 //! - `exact`: the answer is the one of the function's definition in `specs/`.
 //! - `plain`: on the word of a plain state that the lock may be in, the function refuses exactly where the plain lock

@@ -1,4 +1,4 @@
-//! A spinning mutex of tickets, which serves the threads in their order of arrival. Begin at [`TicketMutex::lock`].
+//! A spinning mutex that serves the threads in the order of their tickets. Begin at [`TicketMutex::lock`].
 ghost use Rattle.std.specs.Prelude.{◌≡◌, Option, Some, IfSome, IfOk};
 ghost use Rattle.std.specs.Fmt.{DisplaysOnOk};
 ghost use Rattle.spin_guard.specs.Guard.{IsHolder};
@@ -20,7 +20,7 @@ mod rule;
 
 pub use self::rule::{TicketRule, View};
 
-/// A mutual exclusion lock that serves its threads in order of arrival, and on which a waiting thread spins.
+/// A mutual exclusion lock that serves its threads in the order of their tickets, and on which a waiting thread spins.
 ///
 /// Each call of [`lock`](Self::lock) takes a ticket with the next number, and enters when that number is served. With
 /// more spinning threads than cores it may wait for a thread that is not scheduled: take `SpinMutex` there, or the
@@ -118,7 +118,7 @@ impl<T, R> TicketMutex<T, R> {
         self.cell.into_inner()
     }
 
-    /// Acquires the mutex, spinning until every thread that came before has released it.
+    /// Acquires the mutex, spinning until every thread with an earlier ticket has released it.
     ///
     /// The call takes a ticket and waits with strategy `R` until its number is served. With [`Spin`] it looks less
     /// often the more tickets are before it. The call never returns if its own thread holds the lock, or once all

@@ -1,7 +1,7 @@
 //! The steps on the table. Begin with [`SeatedLock::meet`]; the others are private to the locks.
 //!
-//! Each step tells which call it is. It owes three facts: the call may be made, the words become those of the state
-//! after it, and its answer is the plain one.
+//! Each step tells which call it is, if it is one. Such a step owes three facts: the call may be made, the words become
+//! those of the state after it, and its answer is the plain one.
 ghost use Rattle.std.specs.Prelude.{◌≡◌, ℕ, ◌<◌, ◌+◌, ◌-◌, ◌%◌, ◌^◌, ◌==◌, Option};
 ghost use prog.Atomic.{either};
 ghost use Rattle.spin_seated.specs.Histories.{Owes, Turned, Met, holds, held_then};
