@@ -1,26 +1,37 @@
-//! What a call is answered.
-/// An answer of a call, of any object. `V` is the type of the object's value.
+//! The answers of calls. Begin with [`Answer`], which every object of this project uses.
+/// The answer of a call, of any object. `V` is the type of the object's value.
+///
+/// # Examples
+/// ```
+/// (FlagCall::IsLocked, _) => Stepped::stay(
+///     words,
+///     Next::Answers(Answer::Is(words), holds),
+/// ),
+/// ```
 #[derive(Copy, Debug, PartialEq, Eq)]
 pub enum Answer<V> {
     /// The party holds what it asked for.
     Granted,
+    /// The try failed.
     Refused,
-    /// Refused: somebody holds the lock, and nobody starves.
+    /// The try failed: a party holds the lock, and none starves.
     Locked,
-    /// Refused: somebody starves.
+    /// The try failed: a party starves.
     Starved,
-    /// The party has let go, or holds less.
+    /// The party has released what it held, or holds less.
     Done,
-    /// Whether somebody holds the lock, or waits for it; or whether there is a value.
+    /// Whether a party holds the lock or waits for it, or whether there is a value.
     Is(bool),
-    /// How many hold the lock so.
+    /// The number of parties that hold the lock so.
     Count(usize),
+    /// The call returns this value.
     Value(V),
+    /// There is no value.
     NoValue,
-    /// The party's own closure has failed.
+    /// The party's own closure failed.
     Failed,
     /// The party's arrival filled its group.
     Leader,
-    /// Another party's did.
+    /// Another party's arrival filled the group.
     Follower,
 }

@@ -1,4 +1,4 @@
-//! `Clone` of what is `Copy` over types that are.
+//! `Clone` for each type that is `Copy` if its parameters are. A clone is the same value, and never fails.
 ghost use Rattle.std.specs.Prelude.{◌≡◌, ⊤};
 
 use crate::answer::Answer;

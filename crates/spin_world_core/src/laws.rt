@@ -1,4 +1,5 @@
-//! Laws that users of a lock rely on. Each is the contract of a function that does nothing, over every schedule.
+//! The laws that users of a lock rely on, each over every schedule. A law is the contract of a function with an empty
+//! body; begin with [`looks_find_the_last_write`].
 ghost use Rattle.std.specs.Prelude.{ℕ, List};
 ghost use Rattle.spin_world_core.specs.declared.schedule.Move.{Move};
 ghost use Rattle.spin_world_core.specs.Schedules.{State};
@@ -7,29 +8,33 @@ ghost use Rattle.spin_world_core.specs.Joined.{RunsAreOne};
 
 use crate::object::Object;
 
-/// Who looks at the value finds the one last written: a holder, also one that has leaked, and the owner, also after leaks.
+/// States that a look finds the value that was last written. It is so of a holder that may read, also after a leak,
+/// and of the owner, also after leaks.
 pub fn looks_find_the_last_write<O: Object>()
     ensures { (object : O) (n : ℕ) (past : List (ℕ × Move O.Call O.Value)) → FindsLastWritten (O.machine object) n past }
 {
     O::laws();
 }
 
-/// A schedule that is cut into two runs comes to the events and the state of one run. Only where a call began is told by
-/// its place in its own run.
+/// States that two runs, one after the other, give the events and the end state of one run of both schedules.
+///
+/// The law leaves out where calls began: each run counts places from its own start.
 pub fn two_runs_are_one<O: Object>()
     ensures { (object : O) (state : State O.Words O.Value O.Call O.Local) (first second : List (ℕ × Move O.Call O.Value)) → RunsJoin (O.machine object) state first second }
 {}
 
-/// Runs one after the other, of any schedules, come to the state of one run of them all, and tell together what that one
-/// tells but for the places where calls began. All that is promised of a schedule is so of theirs joined: of a call that
-/// begins in one run and ends in a later one too.
+/// States that runs one after the other, of any schedules, end in the state of one run of them all.
+///
+/// Their transcripts joined tell what happens in the one run; only the places where calls began count from the start
+/// of each run. What is promised of every schedule is promised of theirs joined. So it holds of a call that begins in
+/// one run and ends in a later one.
 pub fn runs_are_one<O: Object>()
     ensures { (object : O) (state : State O.Words O.Value O.Call O.Local) (runs : List (List (ℕ × Move O.Call O.Value))) → RunsAreOne (O.machine object) state runs }
 {
     O::laws();
 }
 
-/// Two looks under one guard, with no write of its own between them, find the same value.
+/// States that two looks of a party under one guard find the same value, if the party writes nothing between them.
 pub fn looks_under_one_guard_agree<O: Object>()
     ensures { (object : O) (n : ℕ) (past : List (ℕ × Move O.Call O.Value)) → ReadsAgree (O.machine object) n past }
 {

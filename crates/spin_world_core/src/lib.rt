@@ -1,5 +1,7 @@
-//! The world: many parties that take the steps of a lock's calls one at a time, in any order that a schedule names. Its
-//! laws, and what a lock has to show to be an [`Object`] of it.
+//! A world in which parties take the steps of a lock's calls one at a time, in any order.
+//!
+//! A schedule gives the order, and [`World::run`] plays it: begin there, with what it promises of every schedule. To
+//! add a lock, read [`Object`], which says what the lock has to show.
 #![tactic(auto)]
 
 mod answer;

@@ -1,4 +1,5 @@
-//! What a lock has to show to be played in a world.
+//! What a lock has to show to be played in a world. Begin with [`Object`]; [`Stepped`] is the answer of its main
+//! method.
 ghost use Rattle.std.specs.Prelude.{◌≡◌, true};
 ghost use Rattle.spin_world_core.specs.Acts.{stays, becomes};
 ghost use Rattle.spin_world_core.specs.Machines.{Machine};
@@ -6,26 +7,57 @@ ghost use Rattle.spin_world_core.specs.Lawful.{Lawful};
 
 use crate::place::Hold;
 
-/// How a call goes on after a step.
+/// How a call continues after a step.
+///
+/// # Examples
+/// ```
+/// (FlagCall::Lock, FlagPoint::First) => Some(Next::GoesOn(FlagPoint::Second)),
+/// (FlagCall::TryLockWeak, _) => Some(Next::Answers(Answer::Refused, holds)),
+/// ```
 #[derive(Copy)]
 pub enum Next<L, A> {
-    /// The point of the call that comes next.
+    /// The call continues at this point.
     GoesOn(L),
-    /// The answer, and what the party holds from then on.
+    /// The call ends with this answer, and the party holds this from then on.
     Answers(A, Option<Hold>),
 }
 
-/// What a step of a call comes to.
+/// The outcome of one step of a call.
+///
+/// # Examples
+/// ```
+/// TicketPoint::Serve(ticket) => Stepped {
+///     words: TicketWords {
+///         serving: ticket::serve(ticket),
+///         ..words
+///     },
+///     placed: None,
+///     next: Next::Answers(Answer::Done, None),
+/// },
+/// ```
 #[derive(Copy)]
 pub struct Stepped<W, V, L, A> {
+    /// The words after the step.
     pub words: W,
-    /// The value that the step puts in its place, if it does.
+    /// The new value, if the step replaces the value.
     pub placed: Option<V>,
+    /// How the call continues.
     pub next: Next<L, A>,
 }
 
 impl<W, V, L, A> Stepped<W, V, L, A> {
-    /// A step that leaves these words, and the value as it is.
+    /// Creates a step after which the words are these, and the value is as before.
+    ///
+    /// # Contract
+    /// The step is `stays` of the words and of how the call continues.
+    ///
+    /// # Examples
+    /// ```
+    /// match flag::lock(words) {
+    ///     Some(taken) => Stepped::stay(taken, Next::Answers(Answer::Granted, Some(Hold::Write))),
+    ///     None => Stepped::stay(words, refusal),
+    /// }
+    /// ```
     pub fn stay(words: W, next: Next<L, A>) -> Self
         ensures { result ≡ stays words next }
     {
@@ -38,7 +70,17 @@ impl<W, V, L, A> Stepped<W, V, L, A> {
 }
 
 impl<W: Copy, V, L: Copy, A: Copy> Stepped<W, V, L, A> {
-    /// A step that puts new words in place of these where there are any, and goes on by whether there are.
+    /// Creates a step that replaces the words by `to`, if there are such. The call then continues as `won`, and else
+    /// as `lost`.
+    ///
+    /// # Contract
+    /// With `Some` the words are the new ones and the call continues as `won`. With `None` the words stay, and the
+    /// call continues as `lost`. The value is as before (`becomes`).
+    ///
+    /// # Examples
+    /// ```
+    /// FairCall::TryLock => Stepped::exchange(word, fair::lock(word), grant(), refused),
+    /// ```
     pub fn exchange(words: W, to: Option<W>, won: Next<L, A>, lost: Next<L, A>) -> Self
         ensures { result ≡ becomes (λ w. w) words to won lost }
     {
@@ -49,40 +91,100 @@ impl<W: Copy, V, L: Copy, A: Copy> Stepped<W, V, L, A> {
     }
 }
 
-/// A lock, seen as its words and the steps of its calls.
+/// A lock in the world, as its words and a table of the steps of its calls.
 ///
-/// Every method is the one of the object's `machine`, whose readings say what it means on the plain lock. The `laws`
-/// hold of every schedule from the opening state on; a world's `run` hands them to its caller.
+/// # Contract
+/// Each method is the one of the object's `machine`, whose readings say what it means on the plain lock. The `laws`
+/// hold of every schedule from the opening state on. [`World::run`](crate::World::run) passes them to its caller.
+///
+/// # Examples
+/// ```
+/// let mut world: World<Flag<u64>> = World::new(self.alloc, Flag::new(0), PARTIES)?;
+/// ```
 pub trait Object: Drop {
     /// The words that all parties share.
     type Words: Copy;
 
+    /// The value behind the lock.
     type Value: Copy;
 
+    /// A call, with its arguments.
     type Call: Copy;
 
-    /// A point of a call: which step comes next, and what the party has found so far.
+    /// A point of a call: which step is next, and what the call has found so far.
     type Local: Copy;
 
+    /// The answer of a call; [`Answer`](crate::Answer) for each object of this project.
     type Answer: Copy;
 
     ghost machine: { Self → Machine Self.Words Self.Value Self.Call Self.Local Self.Answer };
 
+    /// Returns the words from which every schedule starts.
+    ///
+    /// # Contract
+    /// They are the `words` of the machine.
+    ///
+    /// # Examples
+    /// ```
+    /// fn opening_words(&self) -> bool {
+    ///     false
+    /// }
+    /// ```
     fn opening_words(&self) -> Self::Words
         ensures { result ≡ (machine self.now).words };
 
+    /// Returns the value from which every schedule starts, or `None` if there is none at first.
+    ///
+    /// # Contract
+    /// It is the `value` of the machine.
+    ///
+    /// # Examples
+    /// ```
+    /// fn opening_value(&self) -> Option<V> {
+    ///     Some(self.value)
+    /// }
+    /// ```
     fn opening_value(&self) -> Option<Self::Value>
         ensures { result ≡ (machine self.now).value };
 
-    /// Whether an owner may look at the value and replace it.
+    /// Returns `true` if an owner may look at the value and replace it.
+    ///
+    /// # Contract
+    /// It is `owned` of the machine.
+    ///
+    /// # Examples
+    /// ```
+    /// fn is_owned(&self) -> bool {
+    ///     true
+    /// }
+    /// ```
     fn is_owned(&self) -> bool
         ensures { result ≡ (machine self.now).owned };
 
-    /// Where a call begins, of a party that holds this. `None`: it doesn't begin there.
+    /// Returns the first point of the call, or `None` if a party that holds `holds` may not begin it.
+    ///
+    /// # Contract
+    /// It is `begin` of the machine.
+    ///
+    /// # Examples
+    /// ```
+    /// (FlagCall::Release, Some(Hold::Write)) => Some(FlagPoint::First),
+    /// (FlagCall::Release, _) => None,
+    /// ```
     fn begin(&self, call: Self::Call, holds: Option<Hold>) -> Option<Self::Local>
         ensures { result ≡ (machine self.now).begin call holds };
 
-    /// How the call goes on where its next step is a weak exchange, and that refuses. `None`: it is no weak exchange.
+    /// Returns how the call continues if its next step is a weak exchange that fails, or `None` if it is no weak
+    /// exchange.
+    ///
+    /// # Contract
+    /// It is `refuse` of the machine.
+    ///
+    /// # Examples
+    /// ```
+    /// (FlagCall::TryLockWeak, _) => Some(Next::Answers(Answer::Refused, holds)),
+    /// _ => None,
+    /// ```
     fn refuse(
         &self,
         call: Self::Call,
@@ -91,7 +193,16 @@ pub trait Object: Drop {
     ) -> Option<Next<Self::Local, Self::Answer>>
         ensures { result ≡ (machine self.now).refuse call local holds };
 
-    /// The next step of the call.
+    /// Takes the next step of the call, and returns its outcome. It is a pure function of the words, the value and
+    /// the point.
+    ///
+    /// # Contract
+    /// The step has to be possible there (`can` of the machine). Then it is `step` of the machine.
+    ///
+    /// # Examples
+    /// ```
+    /// (FlagCall::Lock, FlagPoint::First) => exchange(words, Next::GoesOn(FlagPoint::Second)),
+    /// ```
     fn step(
         &self,
         words: Self::Words,
@@ -103,7 +214,7 @@ pub trait Object: Drop {
         requires { (machine self.now).can words call local holds ≡ true }
         ensures { result ≡ (machine self.now).step words value call local holds };
 
-    /// The laws. It does nothing: what it ensures holds of every object of the type, over every schedule.
+    /// States that all laws hold of every object of the type, over every schedule (`Lawful`).
     fn laws()
         ensures { (object : Self) → Lawful (machine object) };
 }

@@ -1,36 +1,55 @@
-//! Where a party stands.
+//! Where a party stands, and what it holds. Begin with [`Place`].
 /// What a party holds.
+///
+/// # Examples
+/// ```
+/// let sits = Place::Holding(Hold::Read);
+/// ```
 #[derive(Clone, Copy, Debug, PartialEq, Eq)]
 pub enum Hold {
+    /// Shared access. It may read the value.
     Read,
+    /// Shared access that may become exclusive. It may read the value.
     Upgradable,
+    /// Exclusive access. It may read and write the value.
     Write,
-    /// A ticket that has entered, by its number. It may write.
+    /// A ticket that has entered, by its number. It may read and write the value.
     Ticket(u64),
-    /// A place among the starvers, which may touch no value.
+    /// A place among the starvers. It may neither read nor write the value.
     Starver,
 }
 
-/// Where a party stands.
+/// Where a party stands, as [`World::place`](crate::World::place) returns it.
+///
+/// # Examples
+/// ```
+/// let places: [Place; 2] = [Place::Idle, Place::Holding(Hold::Write)];
+/// plays(&rt, &mut world, ENDED, &places, 5);
+/// ```
 #[derive(Clone, Copy, Debug, PartialEq, Eq)]
 pub enum Place {
+    /// The party holds nothing, and is in no call.
     Idle,
+    /// The party has begun a call that has no answer yet.
     InCall,
+    /// The party holds this, and is in no call.
     Holding(Hold),
-    /// It holds for good, and makes no call any more.
+    /// The party forgot its guard: it holds for good, and makes no further call.
     Leaked(Hold),
-    /// It has leaked, and the owner has looked at the value since: it touches the value no more.
+    /// The party has leaked, and the owner has looked at the value since. It touches the value no more.
     Gone,
 }
 
-/// The same with all that the world keeps of the party.
+/// Where a party stands, with all that the world keeps of it. Contracts name it; a program uses [`Place`].
+///
+/// No example: a world keeps its seats to itself.
 #[derive(Copy)]
 pub enum Seat<C, L> {
     Idle,
-    /// In a call, at a point of it, with what the party held as it began.
+    /// In a call, at this point of it, with what the party held as the call began.
     Calling(C, L, Option<Hold>),
     Holding(Hold),
     Leaked(Hold),
-    /// What a gone party leaked stays in the words.
+    /// Gone. What the party leaked stays in the words.
     Gone(Hold),
 }

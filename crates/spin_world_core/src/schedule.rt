@@ -1,57 +1,100 @@
-//! A schedule's moves, and the transcript of what came of them.
+//! The moves of a schedule, and the transcript of its events. Begin with [`Move`] and [`Outcome`].
 use crate::object::Object;
 use std::alloc::{Allocator, Global};
 
-/// What a party may do next.
+/// One move of a party. A schedule is a list of parties with their moves.
+///
+/// # Examples
+/// ```
+/// const TURN: [Move<FlagCall, u64>; 6] = [
+///     Move::Begin(FlagCall::Lock),
+///     Move::Step,
+///     Move::Read,
+///     Move::Write(1),
+///     Move::Begin(FlagCall::Release),
+///     Move::Step,
+/// ];
+/// ```
 #[derive(Copy, Debug, PartialEq, Eq)]
 pub enum Move<C, V> {
     /// Begins a call.
     Begin(C),
-    /// Takes the next step of its call.
+    /// Takes the next step of the party's call.
     Step,
-    /// Takes the next step of its call where that is a weak exchange, which refuses whatever the word is.
+    /// Takes the next step of the party's call, if that is a weak exchange. It fails, whatever the word is.
     Weak,
-    /// A holder looks at the value.
+    /// Reads the value, as a holder.
     Read,
-    /// A holder that may write replaces the value.
+    /// Replaces the value, as a holder that may write.
     Write(V),
-    /// A holder forgets its guard.
+    /// Forgets the guard, as a holder.
     Leak,
-    /// The owner looks at the value. The party only names who lends a hand.
+    /// Reads the value, as the owner. The party is only the one that acts for the owner.
     OwnerGet,
-    /// The owner replaces the value.
+    /// Replaces the value, as the owner.
     OwnerSet(V),
 }
 
-/// What came of a move.
+/// The outcome of one move.
+///
+/// # Examples
+/// ```
+/// for event in &transcript.events {
+///     if let Outcome::PassedOver = event.outcome {
+///         added = added.wrapping_sub(1);
+///     }
+/// }
+/// ```
 #[derive(Copy, Debug, PartialEq, Eq)]
 pub enum Outcome<A, V> {
-    /// The move wasn't open to the party, or there is no such party. Nothing changed.
+    /// The move was not open to the party, or there is no such party. Nothing changed.
     PassedOver,
+    /// The call has begun. No step of it is taken yet.
     Begun,
-    /// A step that answers nothing yet.
+    /// The step has no answer yet.
     GoingOn,
-    /// The step answers the call.
+    /// The step ends the call with this answer.
     Answered {
         answer: A,
         /// The place of the call's `Begin` in this schedule, from 0. `None`: it began in an earlier run.
         began: Option<usize>,
     },
+    /// The value that a holder or the owner found, or `None` if there is none. `OwnerSet` has this outcome too if
+    /// there is none.
     Value(Option<V>),
+    /// The value is replaced.
     Written,
+    /// The party has forgotten its guard.
     Leaked,
 }
 
-/// One entry of a schedule as it went.
+/// One entry of a transcript.
+///
+/// # Examples
+/// ```
+/// Told {
+///     party: event.party,
+///     outcome: event.outcome,
+///     numbers: numbers::<O>(event.words),
+/// }
+/// ```
 #[derive(Copy, Debug, PartialEq, Eq)]
 pub struct Event<W, V, A> {
+    /// The party that moved.
     pub party: usize,
+    /// The outcome of its move.
     pub outcome: Outcome<A, V>,
-    /// The words after it.
+    /// The words after the move.
     pub words: W,
 }
 
-/// What a schedule came to: an event for each of its entries.
+/// The events of a schedule, one for each of its entries.
+///
+/// # Examples
+/// ```
+/// let transcript = run(world, rows.moves).expect(rt, "memory");
+/// assert!(rt; transcript.events.as_slice() == rows.events);
+/// ```
 #[derive(Drop)]
 pub struct Transcript<O: Object, A: Allocator = Global> {
     pub events: Vec<Event<O::Words, O::Value, O::Answer>, A>,

@@ -1,4 +1,4 @@
-//! The words, the value and the seats of a world, and what one move does to them.
+//! The words, the value and the seats of a world. Begin with [`Table::act`], which makes one move.
 ghost use Rattle.std.specs.Prelude.{◌≡◌, ◌<◌, Some, IfOk, length, map, replicate, slice_get, option_map};
 ghost use Rattle.spin_world_core.specs.declared.place.Seat.TheVariants.{Idle};
 ghost use Rattle.spin_world_core.specs.Schedules.{at_first, seated, let_go, seen_by_owner, resting, may_read, may_write, begun, begins, steps, weakly, reads, writes, leaks, owner_gets, owner_writes, owner_sets, goes_on, is_owners, moves, happens, place_of};
@@ -11,6 +11,7 @@ use crate::schedule::{Move, Outcome};
 use std::alloc::{AllocError, Allocator};
 use std::marker::Model;
 
+/// The state of a world: the words, the value, and the seat of each party.
 #[derive(Drop)]
 pub struct Table<O: Object, A: Allocator> {
     pub words: O::Words,
@@ -109,7 +110,7 @@ fn idle_seats<C: Copy, L: Copy, A: Allocator>(
 }
 
 impl<O: Object, A: Allocator> Table<O, A> {
-    /// What an object begins from, and so many parties, all idle.
+    /// Creates the state that an object opens with, of this many idle parties.
     pub fn new(alloc: A, object: &O, parties: usize) -> Result<Table<O, A>, AllocError>
         ensures { IfOk result (λ t. t ≡ at_first (O.machine object.now) parties) }
     {
@@ -133,7 +134,7 @@ impl<O: Object, A: Allocator> Table<O, A> {
         self.seats[party] = seat;
     }
 
-    /// Where the party stands. `None`: there is no such party.
+    /// Returns where the party stands, or `None` if there is no such party.
     pub fn place(&self, party: usize) -> Option<Place>
         ensures { result ≡ option_map place_of (slice_get self.now.seats party) }
     {
@@ -143,7 +144,7 @@ impl<O: Object, A: Allocator> Table<O, A> {
         Some(place_of(self.seats[party]))
     }
 
-    /// What a move of the party comes to.
+    /// Makes one move of the party, and returns its outcome.
     pub fn act(
         &mut self,
         object: &O,

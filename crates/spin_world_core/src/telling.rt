@@ -1,11 +1,20 @@
-//! At which place of a schedule each party's call began.
+//! Where in a schedule each party's call began. Begin with [`no_begins`] and [`with_begin`], for code that plays
+//! moves by [`World::act`](crate::World::act).
 ghost use Rattle.std.specs.Prelude.{◌≡◌, None, IfOk, map, replicate};
 ghost use Rattle.spin_world_core.specs.Schedules.{begin_of, with_begin, begins_after};
 
 use crate::schedule::Outcome;
 use std::alloc::{AllocError, Allocator};
 
-/// Nobody's call has begun.
+/// Creates the table of where each party's call began, in which no call has begun.
+///
+/// # Contract
+/// On `Ok` the table has `None` for each of the parties.
+///
+/// # Examples
+/// ```
+/// let mut begins = no_begins(alloc, parties)?;
+/// ```
 pub fn no_begins<A: Allocator>(
     alloc: A,
     parties: usize,
@@ -15,7 +24,7 @@ pub fn no_begins<A: Allocator>(
     vec![in alloc; None; parties]
 }
 
-/// Nobody's call has begun any more.
+/// Sets every entry of the table to `None`.
 pub fn forget_begins(begins: &mut [Option<usize>])
     ensures { begins.new ≡ map (λ b. None) begins.old }
 {
@@ -24,7 +33,16 @@ pub fn forget_begins(begins: &mut [Option<usize>])
     }
 }
 
-/// The outcome with the place where the answered call began; a beginning is put down.
+/// Returns the outcome, and adds to an answer the place where its call began. The table records a new call's place.
+///
+/// # Contract
+/// An answer has the place that the table gives for the party, and any other outcome is unchanged (`with_begin`).
+/// After `Begun` the table has this place for a party within it, and else it is unchanged (`begins_after`).
+///
+/// # Examples
+/// ```
+/// let outcome = with_begin(begins, party, place, world.act(party, action));
+/// ```
 pub fn with_begin<A, V>(
     begins: &mut [Option<usize>],
     party: usize,

@@ -1,4 +1,4 @@
-//! A world of one object: it plays a schedule, or one move.
+//! A world of one object, which plays a schedule or one move. Begin with [`World::new`] and [`World::run`].
 ghost use Rattle.std.specs.Prelude.{◌≡◌, ◌≤◌, [], length, IfOk, OnOk, OnErr, vec_capacity, slice_get, option_map};
 ghost use Rattle.spin_world_core.specs.Schedules.{at_first, after, events_of, with_begins, happens, place_of};
 ghost use Rattle.spin_world_core.specs.Runs.{IsReached, AfterAnyPast, CanAlways, KeepsAll, MomentsAll, CountsAll};
@@ -17,7 +17,16 @@ mod two_runs;
 
 pub use two_runs::run_in_two;
 
-/// An object and the parties that share it. Parties are numbered from 0.
+/// An object, and the parties that share it. Parties are numbered from 0.
+///
+/// # Contract
+/// Some schedule leads from the opening state to the state of the world (`IsReached`).
+///
+/// # Examples
+/// ```
+/// let mut world: World<Flag<u64>> = World::new(self.alloc, Flag::new(0), PARTIES)?;
+/// world.run(self.schedule.get(..entries).unwrap_or(&[]))
+/// ```
 #[derive(Drop)]
 pub struct World<O: Object, A: Allocator = Global> {
     alloc: A,
@@ -41,7 +50,15 @@ impl<O: Object, A: Allocator> Model for World<O, A> {
 }
 
 impl<O: Object, A: Allocator + Copy> World<O, A> {
-    /// A world of so many parties, all idle. It keeps the allocator, for the transcripts of its runs.
+    /// Creates a world of this many parties, all idle. It keeps the allocator for the transcripts of its runs.
+    ///
+    /// # Contract
+    /// On `Ok` the world has this object, with its opening words and its opening value (`at_first`).
+    ///
+    /// # Examples
+    /// ```
+    /// World::new(alloc, object, parties).expect(rt, "memory")
+    /// ```
     pub fn new(alloc: A, object: O, parties: usize) -> Result<World<O, A>, AllocError>
         ensures { IfOk result (λ w. w ≡ record { object = object; state = at_first (O.machine object) parties }) }
     {
@@ -54,21 +71,49 @@ impl<O: Object, A: Allocator + Copy> World<O, A> {
         })
     }
 
-    /// The words now.
+    /// Returns the words as they are now.
+    ///
+    /// # Contract
+    /// They are the words of the world's state.
+    ///
+    /// # Examples
+    /// ```
+    /// assert!(rt; world.words() == event.words);
+    /// ```
     pub fn words(&self) -> O::Words
         ensures { result ≡ self.now.state.words }
     {
         self.table.words
     }
 
-    /// The value now. `None`: the object has none.
+    /// Returns the value as it is now, or `None` if the object has none.
+    ///
+    /// # Contract
+    /// It is the value of the world's state.
+    ///
+    /// # Examples
+    /// ```
+    /// assert!(rt; world.value() == Some(value));
+    /// ```
     pub fn value(&self) -> Option<O::Value>
         ensures { result ≡ self.now.state.value }
     {
         self.table.value
     }
 
-    /// Where the party stands. `None`: there is no such party.
+    /// Returns where the party stands, or `None` if there is no such party.
+    ///
+    /// # Contract
+    /// The answer is what the state says of the party's seat (`place_of`). The party's moves led there, and its
+    /// entries in the plain lock are what the place says (`SaysAfterAnyPast`).
+    ///
+    /// # Examples
+    /// ```
+    /// for (party, place) in places.iter().enumerate() {
+    ///     assert!(rt; world.place(party) == Some(*place), "{party}");
+    /// }
+    /// assert!(rt; world.place(places.len()).is_none());
+    /// ```
     pub fn place(&self, party: usize) -> Option<Place>
         ensures place { result ≡ option_map place_of (slice_get self.now.state.seats party) }
 
@@ -79,9 +124,20 @@ impl<O: Object, A: Allocator + Copy> World<O, A> {
         self.table.place(party)
     }
 
-    /// What one move of the party comes to. An answer does not tell where its call began: [`World::run`] does.
+    /// Makes one move of the party, and returns its outcome.
     ///
-    /// What `run` promises of a schedule holds of the moves that led here.
+    /// A move that is not open to the party changes nothing ([`Outcome::PassedOver`]). An answer does not tell where
+    /// its call began; the transcript of [`World::run`] does.
+    ///
+    /// # Contract
+    /// The outcome and the new state are what `happens` says. What `run` promises of a schedule holds of the moves
+    /// that led to the new state, since some schedule leads there (`IsReached`).
+    ///
+    /// # Examples
+    /// ```
+    /// let outcome = with_begin(begins, party, place, world.act(party, action));
+    /// let numbers = O::numbers(world.words());
+    /// ```
     pub fn act(
         &mut self,
         party: usize,
@@ -95,9 +151,23 @@ impl<O: Object, A: Allocator + Copy> World<O, A> {
         self.table.act(&self.object, party, action)
     }
 
-    /// Plays a schedule: each entry is a party and its move.
+    /// Plays a schedule, and returns its transcript. Each entry of the schedule is a party and its move.
     ///
-    /// The transcript's room is made first, and no step takes memory. An `Err` leaves the world as it was.
+    /// The call allocates the transcript's room first, and no step allocates. An `Err` leaves the world as it was.
+    ///
+    /// # Contract
+    /// On `Ok` the new state is the one after the schedule (`after`). The transcript has its events (`events_of`),
+    /// and each answer tells where its call began (`TellsBegins`).
+    ///
+    /// Take any schedule that led to the old state, and this one after it. Of that whole schedule all promises hold:
+    /// `KeepsAll`, `MomentsAll`, `CountsAll`, `ValuesAll`. The transcript tells what happens in the second part
+    /// (`TellsAfterAnyPast`).
+    ///
+    /// # Examples
+    /// ```
+    /// let mut world: World<Flag<u64>> = World::new(self.alloc, Flag::new(0), PARTIES)?;
+    /// world.run(self.schedule.get(..entries).unwrap_or(&[]))
+    /// ```
     pub fn run(
         &mut self,
         schedule: &[(usize, Move<O::Call, O::Value>)],

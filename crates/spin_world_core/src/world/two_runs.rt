@@ -1,4 +1,4 @@
-//! Runs one after the other.
+//! One schedule in two runs, one after the other. Begin with [`run_in_two`].
 ghost use Rattle.std.specs.Prelude.{◌≡◌, ◌≤◌, ◌⊎◌, ◌++◌, [], length, take, drop, IfOk, OnOk, OnErr};
 ghost use Rattle.spin_world_core.specs.Schedules.{after, events_of, with_begins};
 ghost use Rattle.spin_world_core.specs.Runs.{IsReached, AfterAnyPast};
@@ -10,11 +10,21 @@ use crate::schedule::{Move, Transcript};
 use crate::world::World;
 use std::alloc::{AllocError, Allocator};
 
-/// Plays a schedule in two runs: the entries before the place `at`, and then the others.
+/// Plays a schedule in two runs: the entries before the place `at`, then the others.
 ///
-/// The two transcripts together are that of one run. Each tells where a call began by the place in its own part, and the
-/// second tells nothing of where a call began in the first. After an `Err` the world is as it was, or as the first part
-/// leaves it.
+/// Each transcript tells by a place in its own part where a call began. The second tells no place for a call that
+/// began in the first. After an `Err` the world is as it was, or as the first part leaves it.
+///
+/// # Contract
+/// The caller gives a place `at` within the schedule. On `Ok` the state is the one after the whole schedule. The two
+/// transcripts are that of one run, cut at `at` (`IsCut`). All that [`World::run`] promises holds of the whole
+/// schedule (`Promised`), and both transcripts joined tell what happens in it.
+///
+/// # Examples
+/// ```
+/// let mut world = opened::<O, Global>(rt, alloc, opening);
+/// let (first, second) = run_in_two(&mut world, schedule, at).expect(rt, opening.shows);
+/// ```
 pub fn run_in_two<O: Object, A: Allocator + Copy>(
     world: &mut World<O, A>,
     schedule: &[(usize, Move<O::Call, O::Value>)],
