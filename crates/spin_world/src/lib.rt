@@ -1,4 +1,6 @@
-//! What a user of worlds names: the world, its laws, and six objects, each of which has a crate of its own.
+//! The names for a user of worlds: the world, its laws, and six objects.
+//!
+//! Begin with [`World::new`] and [`World::run`]. Each object has its calls, points and laws in a crate of its own.
 #![tactic(auto)]
 
 pub use spin_world_barrier::{
