@@ -1,4 +1,5 @@
-//! Where bytes come from and go to, with ends that say what was read and written and whether they have failed.
+//! Streams of bytes, whose contracts say what was read or written, and whether they failed. Begin with [`Source`],
+//! [`Sink`] and [`OfStd`].
 ghost use Rattle.std.specs.Prelude.{◌≡◌, ℕ, Bool, List, ◌<◌, length, IfOk, OnOk, OnErr, Option, true};
 ghost use Rattle.std.specs.Io.{ReadsAtMost, WritesAtMost};
 ghost use Rattle.std.specs.Io.KnownBytes.{Appends, ReadConsumes, WriteAppends};
@@ -6,45 +7,94 @@ ghost use Rattle.spin_text.specs.Ends.{AppendsBeginning};
 
 use std::io::{Read, Write};
 
-/// A read or a write failed.
+/// The error of a failed read or write.
+///
+/// # Examples
+/// ```
+/// self.failed = true;
+/// return Err(Failed);
+/// ```
 #[derive(Clone, Copy, Debug, PartialEq, Eq)]
 pub struct Failed;
 
-/// Where bytes come from.
+/// A stream to read bytes from.
 ///
-/// A failure is for good: from then on `has_failed` answers true.
+/// # Contract
+/// A failure is for good: from then on [`has_failed`](Source::has_failed) returns `true`.
+///
+/// # Examples
+/// ```
+/// let mut input = OfStd::new(b"flag 5 1\n".as_slice());
+/// let answer = play(rt.alloc(), &mut input, &mut output);
+/// let failed = (output.has_failed(), input.has_failed());
+/// ```
 pub trait Source {
-    /// The bytes that reads will give from here on, where they are known.
+    /// The bytes that further reads will give, if they are known.
     ghost remaining: { Self → Option (List ℕ) };
 
     /// Whether a read has failed.
     ghost failed: { Self → Bool };
 
-    /// Reads into the front of `to`, and answers how many bytes it read. That is 0 only at the end, or where `to` is empty.
-    /// A failed read gives no byte.
+    /// Reads bytes into the front of `to`, and returns their number. It is 0 only at the end, or if `to` is empty.
+    ///
+    /// # Contract
+    /// On `Ok` the bytes read are the next of the known ones. A failed read gives no byte, and the source has failed
+    /// from then on.
+    ///
+    /// # Examples
+    /// ```
+    /// let found = source.read(&mut to[..room]);
+    /// let found = (found, to, source.has_failed());
+    /// ```
     fn read(&mut self, to: &mut [u8]) -> Result<usize, Failed>
         ensures bound { ReadsAtMost result to.new }
         ensures bytes { ReadConsumes (remaining self.old) (remaining self.new) result to.new }
         ensures ok { OnOk result (failed self.new ≡ failed self.old) }
         ensures err { OnErr result (failed self.new ≡ true) };
 
-    /// Whether a read has failed.
+    /// Returns `true` if a read has failed.
+    ///
+    /// # Contract
+    /// It is `failed` of the source.
+    ///
+    /// # Examples
+    /// ```
+    /// let found = source.read(&mut to[..room]);
+    /// let found = (found, to, source.has_failed());
+    /// ```
     fn has_failed(&self) -> bool
         ensures { result ≡ failed self.now };
 }
 
-/// Where bytes go to.
+/// A stream to write bytes to.
 ///
-/// A failure is for good: from then on `has_failed` answers true.
+/// # Contract
+/// A failure is for good: from then on [`has_failed`](Sink::has_failed) returns `true`.
+///
+/// # Examples
+/// ```
+/// let mut input = OfStd::new(b"flag 5 1\n".as_slice());
+/// let answer = play(rt.alloc(), &mut input, &mut output);
+/// let failed = (output.has_failed(), input.has_failed());
+/// ```
 pub trait Sink {
-    /// The bytes that were written, where they are known.
+    /// The bytes that were written, if they are known.
     ghost written: { Self → Option (List ℕ) };
 
     /// Whether a write has failed.
     ghost failed: { Self → Bool };
 
-    /// Writes some bytes from the front of `from`, and answers how many: at least one where there is one.
-    /// A failed write takes no byte.
+    /// Writes bytes from the front of `from`, and returns their number. It writes at least one, unless `from` is
+    /// empty.
+    ///
+    /// # Contract
+    /// On `Ok` the known bytes grow by those written. A failed write writes no byte, and the sink has failed from
+    /// then on.
+    ///
+    /// # Examples
+    /// ```
+    /// let n = sink.write(rest)?;
+    /// ```
     fn write(&mut self, from: &[u8]) -> Result<usize, Failed>
         ensures bound { WritesAtMost result from.now }
         ensures some { IfOk result (λ n. 0 < length from.now → 0 < n) }
@@ -52,13 +102,31 @@ pub trait Sink {
         ensures ok { OnOk result (failed self.new ≡ failed self.old) }
         ensures err { OnErr result (failed self.new ≡ true) };
 
-    /// Whether a write has failed.
+    /// Returns `true` if a write has failed.
+    ///
+    /// # Contract
+    /// It is `failed` of the sink.
+    ///
+    /// # Examples
+    /// ```
+    /// let answer = play(rt.alloc(), &mut input, &mut output);
+    /// let failed = (output.has_failed(), input.has_failed());
+    /// ```
     fn has_failed(&self) -> bool
         ensures { result ≡ failed self.now };
 }
 
-/// An end over one of std's readers or writers. Any of its errors is a failure, and none is tried again.
-/// So is a write that takes nothing of bytes that are there.
+/// A [`Source`] or [`Sink`] over a reader or writer of `std`.
+///
+/// Each error of the reader or writer is a failure. So is a write that takes none of the bytes there. It tries
+/// nothing again.
+///
+/// # Examples
+/// ```
+/// let mut input = OfStd::new(rt.stdin());
+/// let mut output = OfStd::new(rt.stdout());
+/// let mut errors = OfStd::new(rt.stderr());
+/// ```
 #[derive(Drop)]
 pub struct OfStd<X> {
     inner: X,
@@ -69,7 +137,15 @@ impl<X> OfStd<X> {
     ghost use Rattle.spin_text.specs.OfStd.{of_std_inner, of_std_failed};
     ghost use Rattle.std.specs.Prelude.{false, IsErr};
 
-    /// The end over `x`, which has not failed yet.
+    /// Creates a stream over `x`, which has not failed yet.
+    ///
+    /// # Contract
+    /// The stream is over `x` (`of_std_inner`), and has not failed (`of_std_failed`).
+    ///
+    /// # Examples
+    /// ```
+    /// let mut input = OfStd::new(rt.stdin());
+    /// ```
     pub fn new(x: X) -> OfStd<X>
         ensures inner { of_std_inner result ≡ x }
         ensures failed { of_std_failed result ≡ false }
@@ -80,7 +156,7 @@ impl<X> OfStd<X> {
         }
     }
 
-    /// Remembers a failure.
+    /// Records a failure.
     fn fail(&mut self) -> Result<usize, Failed>
         ensures err { IsErr result }
         ensures failed { of_std_failed self.new ≡ true }
@@ -125,7 +201,17 @@ impl<X: Write> Sink for OfStd<X> {
     }
 }
 
-/// Writes a whole text, by as many writes as it takes. After a failed write a beginning of the text is out, and nothing else.
+/// Writes a whole text, by as many writes as that needs.
+///
+/// # Contract
+/// On `Ok` the known bytes grow by the text. After an `Err` the sink has failed, and the known bytes grow by a
+/// beginning of the text (`AppendsBeginning`).
+///
+/// # Examples
+/// ```
+/// let text = format!(in &alloc; "{total}\n")?;
+/// write_whole(output, text.as_bytes())?;
+/// ```
 pub fn write_whole<S: Sink>(sink: &mut S, text: &[u8]) -> Result<(), Failed>
     ensures bytes { OnOk result (Appends (S.written sink.old) (S.written sink.new) text.now) }
     ensures ok { OnOk result (S.failed sink.new ≡ S.failed sink.old) }

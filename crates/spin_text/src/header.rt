@@ -1,4 +1,4 @@
-//! The first line: which object, and how many parties.
+//! The first line of a text: the object, and the number of parties. Begin with [`Header`] and [`header_of`].
 ghost use Rattle.std.specs.Prelude.{◌≡◌, option_map};
 ghost use Rattle.spin_text.specs.Lines.{words_of};
 ghost use Rattle.spin_text.specs.Reading.{words_left, last_parties, number_within, read_flag_header, read_ticket_header, read_rw_header, read_fair_header, read_barrier_header, read_once_header, read_header};
@@ -6,7 +6,12 @@ ghost use Rattle.spin_text.specs.Reading.{words_left, last_parties, number_withi
 use crate::words::{Rest, is_word, number_then, only_number, word};
 use spin_step::{fair, rw};
 
-/// The object with what it begins from, and how many parties share it.
+/// The first line of a text: the object with its opening values, and the number of parties.
+///
+/// # Examples
+/// ```
+/// Header::Flag { value, .. } => Some(Flag::new(value)),
+/// ```
 #[derive(Clone, Copy, Debug, PartialEq, Eq)]
 pub enum Header {
     Flag {
@@ -146,7 +151,16 @@ fn once(line: Rest) -> Option<Header>
     Some(Header::Once { parties })
 }
 
-/// The header that a line spells.
+/// Returns the header that a line spells, or `None` if it spells none.
+///
+/// # Contract
+/// It is what the words of the line read as, with each number within its limits (`read_header`).
+///
+/// # Examples
+/// ```
+/// let (line, lines) = first_line(text.as_bytes());
+/// let header = header_of(line).expect(rt, shows);
+/// ```
 #[tactic(auto, unfolding(crate::specs::Reading::read_header))]
 pub fn header_of(line: &[u8]) -> Option<Header>
     ensures { result ≡ read_header (words_of line.now) }

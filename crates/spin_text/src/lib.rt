@@ -1,6 +1,7 @@
-//! Schedules as text, and what a world comes to under them, as text again.
+//! Reads a schedule as text, plays it in a world, and writes the transcript as text.
 //!
-//! A text has a line that names the object and how many parties there are, and then a line for each move.
+//! Begin with [`world_text`], which says how a text is written: a line for the object and the number of parties, then
+//! a line for each move. To read or write other streams than `std`'s, implement [`Source`] and [`Sink`].
 #![tactic(auto)]
 
 mod ends;

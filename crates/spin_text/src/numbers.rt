@@ -1,4 +1,4 @@
-//! Numbers as words.
+//! Numbers as words. Begin with [`number`]; [`numbers_are_printed_texts`] says which words are numbers.
 ghost use Rattle.std.specs.Prelude.{◌≡◌, ℕ, ◌<◌, ◌≤◌, ◌+◌, ◌*◌, ◌^◌, ◌↔◌, List, IfSome, IfNone, decimal};
 ghost use Rattle.std.specs.Char.{digit_value};
 ghost use Rattle.spin_text.specs.Numbers.{IsNumber};
@@ -15,8 +15,8 @@ fn with_digit(number: u64, digit: u8) -> Option<u64>
     number.checked_mul(10)?.checked_add((digit - b'0') as u64)
 }
 
-/// The number that bytes are, where they are decimal digits without a sign and without leading zeros, `0` itself aside.
-/// A number past `u64::MAX` is none.
+/// Returns the number that bytes are, or `None`. A number is decimal digits without a sign and without leading zeros,
+/// at most `u64::MAX`.
 pub fn number_of(word: &[u8]) -> Option<u64>
     ensures fits { IfSome result (λ n. n < 2 ^ 64) }
     ensures some { IfSome result (λ n. IsNumber word.now n) }
@@ -33,7 +33,18 @@ pub fn number_of(word: &[u8]) -> Option<u64>
     Some(number)
 }
 
-/// The same of text.
+/// Returns the number that a word is, or `None` if it is none.
+///
+/// A number is decimal digits without a sign and without leading zeros, at most `u64::MAX`. `0` is one.
+///
+/// # Contract
+/// The digits stand for the number (`IsNumber`). `None` means that the word is no number below 2^64.
+///
+/// # Examples
+/// ```
+/// let workers = number(words[1])?;
+/// let times = number(words[2])?;
+/// ```
 pub fn number(word: &str) -> Option<u64>
     ensures fits { IfSome result (λ n. n < 2 ^ 64) }
     ensures some { IfSome result (λ n. IsNumber word.now n) }
@@ -42,7 +53,7 @@ pub fn number(word: &str) -> Option<u64>
     number_of(word.as_bytes())
 }
 
-/// A law: the words that are numbers are just the texts that numbers print as.
+/// States that a word is a number exactly if it is what that number prints as.
 pub fn numbers_are_printed_texts()
     ensures { (word : List ℕ) (n : ℕ) → n < 2 ^ 64 → IsNumber word n ↔ (word ≡ decimal n) }
 {}

@@ -1,4 +1,4 @@
-//! How each object's calls are spelled, and how its words print.
+//! How the calls of each object are spelled, and how its words print. Begin with [`Spelled`].
 ghost use Rattle.std.specs.Prelude.{◌≡◌, ◌∷◌, [], List, ℕ, Option};
 ghost use Rattle.spin_text.specs.Spelling.{Calls};
 ghost use Rattle.spin_text.specs.Reading.{words_left, numbers_of, read_try_call_once};
@@ -10,23 +10,44 @@ use spin_world::{
     OnceCall, OnceObject, Rw, RwCall, Ticket, TicketCall, TicketWords,
 };
 
-/// An object whose schedules are texts.
+/// An object whose schedules can be written as text.
+///
+/// # Examples
+/// ```
+/// let schedule = schedule_of::<O>(alloc, lines).expect(rt, opening.shows);
+/// ```
 pub trait Spelled: Object<Value = u64, Answer = Answer<u64>> {
-    /// How its calls are spelled.
+    /// How the calls are spelled.
     ghost calls: { Calls Self.Call };
 
-    /// Which call the rest of a line spells.
+    /// The call that the words of a line spell.
     ghost read: { List (List ℕ) → Option Self.Call };
 
-    /// The call that the rest of a line spells.
+    /// Returns the call that the rest of a line spells, or `None` if it spells none.
+    ///
+    /// # Contract
+    /// It is what `read` says of the words left.
+    ///
+    /// # Examples
+    /// ```
+    /// Some(Move::Begin(O::call(rest)?))
+    /// ```
     fn call(line: Rest) -> Option<Self::Call>
         ensures { result ≡ read (words_left line.entry) };
 
-    /// The words as numbers, one or two.
+    /// Returns the object's words as one number or two.
+    ///
+    /// # Contract
+    /// They are the `numbers` of the object's machine.
+    ///
+    /// # Examples
+    /// ```
+    /// let numbers = O::numbers(world.words());
+    /// ```
     fn numbers(words: Self::Words) -> (u64, Option<u64>)
         ensures { (object : Self) → (Self.machine object).numbers words ≡ numbers_of result };
 
-    /// A law: the calls are read as they are spelled. It does nothing.
+    /// States that the calls are read as they are spelled.
     fn reads_calls()
         ensures { ReadsCalls calls read };
 }

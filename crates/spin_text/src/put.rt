@@ -1,10 +1,10 @@
-//! Text that is made from its end on: each piece is put in front of what stands in a buffer already.
+//! Text that is made from its end: each piece goes in front of what a buffer has already. Begin with [`put`].
 ghost use Rattle.std.specs.Prelude.{◌≡◌, ◌≤◌, ◌+◌, length, decimal};
 ghost use Rattle.spin_text.specs.Pieces.{PutBefore};
 
 use itoa::write_digits;
 
-/// Puts bytes in front of those that stand from `end` on, and answers where they begin.
+/// Writes bytes in front of those that stand from `end` on, and returns the place of the first.
 #[inline]
 pub fn put(bytes: &[u8], buffer: &mut [u8], end: usize) -> usize
     requires room { length bytes.now ≤ end }
@@ -16,7 +16,7 @@ pub fn put(bytes: &[u8], buffer: &mut [u8], end: usize) -> usize
     start
 }
 
-/// The same of a number's digits.
+/// Writes the digits of a number in front of those bytes, and returns the place of the first.
 #[inline]
 pub fn put_number(number: u64, buffer: &mut [u8], end: usize) -> usize
     requires room { 20 ≤ end }

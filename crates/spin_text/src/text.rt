@@ -1,4 +1,4 @@
-//! A whole text: read, checked, played, and the transcript's text written.
+//! A whole text: it is read, checked, played, and its transcript written. Begin with [`world_text`].
 ghost use Rattle.std.specs.Prelude.{◌≡◌, ◌<◌, false, length, OnOk, IfOk, IfErr};
 ghost use Rattle.spin_text.specs.Lines.{words_by_line, header_line, entry_lines};
 ghost use Rattle.spin_text.specs.Reading.{read_header};
@@ -14,16 +14,23 @@ use crate::words::first_line;
 use spin_world::{BarrierObject, Fair, Flag, OnceObject, Rw, Ticket};
 use std::alloc::{AllocError, AllocFailed, Global};
 
-/// Why a text was not played to its end.
+/// The reason why a text was not played to its end.
+///
+/// # Examples
+/// ```
+/// let answer = Err(RunError::BadLine(*line));
+/// comes_to(&rt, rt.alloc(), text.as_bytes(), answer, b"");
+/// ```
 #[derive(Clone, Copy, Debug, PartialEq, Eq, Drop)]
 pub enum RunError {
     /// A read failed.
     Read,
-    /// Memory was refused.
+    /// An allocation failed.
     Memory,
-    /// This line, counted from 1, is the first that is no line of a schedule. Where there are no bytes it is line 1.
+    /// The first line that is no line of a schedule, counted from 1. A text without bytes has one line, which is
+    /// empty.
     BadLine(usize),
-    /// A write failed. A beginning of the text may be out.
+    /// A write failed. A beginning of the text may have been written.
     Write,
 }
 
@@ -151,7 +158,7 @@ fn play(alloc: Global, bytes: Vec<u8>) -> Result<Vec<u8>, RunError>
     }
 }
 
-/// Reads a text to its end, plays its schedule in a world of its own, and writes the text of what that comes to.
+/// Reads a schedule as text, plays it in a world of its own, and writes the transcript as text.
 ///
 /// The first line is one of these, with 1 to 1000 parties:
 ///
@@ -163,15 +170,35 @@ fn play(alloc: Global, bytes: Vec<u8>) -> Result<Vec<u8>, RunError>
 /// - `barrier N PARTIES`
 ///
 /// Each further line is `PARTY MOVE`: `begin CALL`, `step`, `weak`, `read`, `write VALUE`, `leak`, `owner get` or
-/// `owner set VALUE`. A call is spelled as its variant in snake case; what a closure gives is behind that:
+/// `owner set VALUE`. A call is spelled as its variant in snake case. Behind it stands the answer of a closure:
 /// `call_once VALUE`, `init_from_ref VALUE`, `try_call_once ok VALUE`, `try_call_once err`.
 ///
-/// Lines end at a line feed, which the last may lack; one space stands between two words; numbers are decimal digits
-/// without a sign and without leading zeros, up to `u64::MAX`. A party past the parties is no bad line: its moves are
-/// passed over.
+/// A line ends at a line feed, which the last line may lack. One space stands between two words. A number is decimal
+/// digits without a sign and without leading zeros, at most `u64::MAX`. A party of a higher number than the parties
+/// makes no bad line: its moves are passed over.
 ///
-/// All lines are read and checked before the world runs, and the whole text is made before the first write. So only
-/// after a failed write anything is out of a call that answers an `Err`, and then a beginning of the text.
+/// # Contract
+/// Both streams have not failed before. On `Ok` neither has failed, the source is at its end, and the known output
+/// grows by the transcript of what was read (`Plays`).
+///
+/// The call reads and checks all lines before the world runs, and makes the whole text before the first write. So an
+/// `Err` other than `Write` leaves the output as it was, and `Write` leaves a beginning of the text (`Stops`).
+///
+/// # Examples
+/// ```
+/// return match world_text(rt.alloc(), input, output) {
+///     Ok(()) => Ok(()),
+///     Err(error) => Err(Fault::from(error)),
+/// };
+/// ```
+///
+/// A text, and the text that the call writes for it:
+/// ```
+/// (
+///     "flag 5 1\n0 owner set 6\n0 owner get\n",
+///     "1 0 written: 0\n2 0 value 6: 0\nend: 0 value 6\n",
+/// ),
+/// ```
 pub fn world_text<I: Source, O: Sink>(
     alloc: Global,
     input: &mut I,

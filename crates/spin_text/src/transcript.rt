@@ -1,4 +1,4 @@
-//! What a schedule comes to, as text. A line is made from its end on, in a buffer.
+//! The text of a transcript. Begin with [`transcript`]; it makes each line from its end, in a buffer.
 ghost use Rattle.std.specs.Prelude.{◌≡◌, ◌≤◌, ◌<◌, ◌++◌, ◌+◌, ◌^◌, OnOk, IfOk, [], ℕ, None, drop, length};
 ghost use Rattle.spin_world_core.specs.Schedules.{after, events_of, with_begins, begin_of};
 ghost use Rattle.spin_text.specs.Pieces.{PutBefore, HasLine, TellsLine};
@@ -199,9 +199,9 @@ fn push_end(
     text.extend_from_slice(&buffer[start..])
 }
 
-/// Plays a schedule in a world of its own, and makes the whole text of what it comes to, in this room.
+/// Plays a schedule in a world of its own, and returns the text of its transcript in the room of `room`.
 ///
-/// Each line is made as its move is played: no list of events stands in between.
+/// It makes each line as it plays the move, without a list of events.
 pub fn transcript<O: Spelled>(
     alloc: Global,
     object: O,

@@ -1,4 +1,4 @@
-//! Lines of bytes, words of a line.
+//! Lines of bytes, and words of a line. Begin with [`first_line`] and [`word`].
 ghost use Rattle.std.specs.Prelude.{◌≡◌, ◌<◌, ◌∷◌, ◌==◌, [], length, IfSome, option_map, nat_le, ◌&&◌, map};
 ghost use Rattle.std.specs.List.{slice_split};
 ghost use Rattle.std.specs.Str.{bytes_eq};
@@ -8,7 +8,13 @@ ghost use Rattle.spin_text.specs.Reading.{words_left, lines_left, is_end, read_n
 use crate::numbers::number_of;
 use memchr::memchr;
 
-/// What is left of a line, or of all lines. `None`: nothing, not even an empty word or line.
+/// The rest of a line, or of all lines. `None` means that nothing is left, not even an empty word or line.
+///
+/// # Examples
+/// ```
+/// while let Some(bytes) = rest {
+///     let (line, further) = first_line(bytes);
+/// ```
 pub type Rest<'a> = Option<&'a [u8]>;
 
 /// The bytes in front of the first separator, and those behind it.
@@ -22,7 +28,17 @@ fn cut(separator: u8, bytes: &[u8]) -> (&[u8], Rest<'_>)
     }
 }
 
-/// The first line of bytes, and the lines behind it.
+/// Returns the first line of the bytes, and the lines after it. The line has no line feed.
+///
+/// # Contract
+/// The words of the line, and the lines left, are those of the bytes line by line (`words_by_line`). The rest is
+/// shorter than the bytes.
+///
+/// # Examples
+/// ```
+/// let (line, lines) = first_line(text.as_bytes());
+/// let header = header_of(line).expect(rt, shows);
+/// ```
 pub fn first_line(bytes: &[u8]) -> (&[u8], Rest<'_>)
     ensures lines { words_by_line bytes.now ≡ words_of result.0.now ∷ lines_left result.1 }
     ensures shorter { IfSome result.1 (λ rest. length rest.now < length bytes.now) }
@@ -34,21 +50,21 @@ pub fn first_line(bytes: &[u8]) -> (&[u8], Rest<'_>)
     }
 }
 
-/// The first word of a line, and the words behind it.
+/// Returns the first word of a line, and the words after it.
 pub fn word(line: Rest) -> Option<(&[u8], Rest)>
     ensures { option_map (λ x. (x.0.now, words_left x.1)) result ≡ word_at (words_left line.entry) }
 {
     Some(cut(b' ', line?))
 }
 
-/// Whether a word is this one.
+/// Returns `true` if a word is this one.
 pub fn is_word(word: &[u8], name: &[u8]) -> bool
     ensures { result ≡ bytes_eq word.now name.now }
 {
     word == name
 }
 
-/// Whether no word is left of a line.
+/// Returns `true` if no word of the line is left.
 pub fn is_over(line: Rest) -> bool
     ensures { result ≡ is_end (words_left line.entry) }
 {
@@ -65,7 +81,7 @@ fn number_word(word: &[u8]) -> Option<u64>
     number_of(word)
 }
 
-/// A number, and the words behind it.
+/// Returns the number that the first word is, and the words after it.
 #[tactic(auto, unfolding(crate::specs::Reading::number_at))]
 pub fn number_then(line: Rest) -> Option<(u64, Rest)>
     ensures { option_map (λ x. (x.0, words_left x.1)) result ≡ number_at (words_left line.entry) }
@@ -83,7 +99,7 @@ fn only_word(line: Rest) -> Option<&[u8]>
     if is_over(rest) { Some(word) } else { None }
 }
 
-/// The one word of a line, where that is a number.
+/// Returns the number that the only word of a line is.
 #[tactic(auto, unfolding(crate::specs::Reading::last_number))]
 pub fn only_number(line: Rest) -> Option<u64>
     ensures { result ≡ last_number (words_left line.entry) }
@@ -91,7 +107,7 @@ pub fn only_number(line: Rest) -> Option<u64>
     number_word(only_word(line)?)
 }
 
-/// What a table has beside a word.
+/// Returns what a table has beside a word.
 #[tactic(auto, unfolding(crate::specs::Reading::named))]
 pub fn named<C: Copy>(mut table: &[(&[u8], C)], word: &[u8]) -> Option<C>
     ensures { result ≡ named (map (λ row. (row.0.now, row.1)) table.entry.now) word.now }
@@ -105,7 +121,7 @@ pub fn named<C: Copy>(mut table: &[(&[u8], C)], word: &[u8]) -> Option<C>
     None
 }
 
-/// What a table has beside the one word of a line.
+/// Returns what a table has beside the only word of a line.
 #[tactic(auto, unfolding(crate::specs::Reading::only_named))]
 pub fn only_named<C: Copy>(table: &[(&[u8], C)], line: Rest) -> Option<C>
     ensures { result ≡ only_named (map (λ row. (row.0.now, row.1)) table.now) (words_left line.entry) }
