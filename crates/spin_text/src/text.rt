@@ -93,7 +93,7 @@ fn read_all<I: Source>(alloc: Global, input: &mut I) -> Result<Vec<u8>, RunError
     read_by(alloc, input, &mut chunk)
 }
 
-/// The text of what the lines behind the header come to. Once their entries are made, the bytes' room is the text's.
+/// Plays the lines after the header, and returns the text of their transcript. It reuses the room of the bytes for it.
 fn play_lines<O: Spelled>(
     alloc: Global,
     object: O,
@@ -119,7 +119,7 @@ fn header(bytes: &[u8]) -> Option<Header>
     header_of(line)
 }
 
-/// The text of what bytes come to.
+/// Plays the schedule that bytes spell, and returns the text of its transcript.
 fn play(alloc: Global, bytes: Vec<u8>) -> Result<Vec<u8>, RunError>
     ensures ok { IfOk result (λ text. PlaysBytes bytes.items text.items) }
     ensures stops { IfErr result (StopsPlaying bytes.items) }
@@ -178,8 +178,8 @@ fn play(alloc: Global, bytes: Vec<u8>) -> Result<Vec<u8>, RunError>
 /// makes no bad line: its moves are passed over.
 ///
 /// # Contract
-/// Both streams have not failed before. On `Ok` neither has failed, the source is at its end, and the known output
-/// grows by the transcript of what was read (`Plays`).
+/// The caller gives streams that have not failed. On `Ok` neither has failed, the source is at its end, and the known
+/// output grows by the transcript of what was read (`Plays`).
 ///
 /// The call reads and checks all lines before the world runs, and makes the whole text before the first write. So an
 /// `Err` other than `Write` leaves the output as it was, and `Write` leaves a beginning of the text (`Stops`).

@@ -31,8 +31,8 @@ fn cut(separator: u8, bytes: &[u8]) -> (&[u8], Rest<'_>)
 /// Returns the first line of the bytes, and the lines after it. The line has no line feed.
 ///
 /// # Contract
-/// The words of the line, and the lines left, are those of the bytes line by line (`words_by_line`). The rest is
-/// shorter than the bytes.
+/// The words of the line, and the lines left, are those of the bytes line by line (`words_by_line`). A rest that
+/// is left is shorter than the bytes.
 ///
 /// # Examples
 /// ```
