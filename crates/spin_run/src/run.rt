@@ -1,4 +1,5 @@
-//! The program's logic over streams that a caller names: nothing here knows where words and bytes come from.
+//! The program over streams that the caller names. Begin with [`program`] and [`count_with`];
+//! [`program_over_arguments`] takes the words from the process.
 mod command;
 mod counting;
 mod faults;

@@ -1,4 +1,4 @@
-//! The command line: which words ask for what, what is written, and how a run ends.
+//! The command line: what words ask for, what a run writes, and its status. Begin with [`program`].
 ghost use Rattle.std.specs.Prelude.{◌≡◌, ◌≤◌, ◌<◌, ℕ, true, false, OnOk, IfErr, IfSome, IfNone};
 ghost use Rattle.std.specs.Io.KnownBytes.{Appends};
 ghost use Rattle.spin_run.specs.declared.run.faults.Fault.{Fault};
@@ -13,14 +13,14 @@ use std::alloc::Allocator;
 use std::sync::Wait;
 use std::thread::Threads;
 
-/// What the words ask for.
+/// A count that words ask for.
 #[derive(Clone, Copy)]
 struct Count {
     workers: usize,
     times: u64,
 }
 
-/// The count that the words ask for, if they ask for one.
+/// Returns the count that the words ask for, or `None` if they ask for none.
 fn count_of(words: &[&str]) -> Option<Count>
     ensures some { IfSome result (λ c. AsksCount (texts_of words.now) c.workers c.times) }
     ensures none { IfNone result ((workers times : ℕ) → ¬ (AsksCount (texts_of words.now) workers times)) }
@@ -39,7 +39,7 @@ fn count_of(words: &[&str]) -> Option<Count>
     })
 }
 
-/// Whether the words ask for a world.
+/// Returns `true` if the words ask for a world.
 fn asks_world(words: &[&str]) -> bool
     ensures yes { result ≡ true → AsksWorld (texts_of words.now) }
     ensures no { result ≡ false → ¬ (AsksWorld (texts_of words.now)) }
@@ -106,11 +106,33 @@ fn run<I: Source, O: Sink, R: AllocGlobal + Threads + Wait + Sync, A: Allocator>
     }
 }
 
-/// The whole of the program, over ends that the caller names: what it does, what it writes, and the status that it ends with.
+/// Runs the program on these words and streams, and returns the status of the process.
 ///
-/// `spin-run count WORKERS TIMES` writes the total and a line feed. `spin-run world` reads a schedule as text to the end
-/// of `input`, and writes the text of what it comes to: see [`world_text`]. A run that does not end well tells why in one
-/// line on `errors`, and a failure there changes no status. A count takes its memory from `alloc`, a world from `rt`.
+/// The words `count WORKERS TIMES` ask for a total and a line feed on `output`. The word `world` asks for a schedule
+/// to be read from `input` and its transcript to be written: see [`world_text`]. A run that fails writes one line
+/// with the reason on `errors`; a failure of that write changes no status. A count takes its memory from `alloc`, a
+/// world from `rt`.
+///
+/// # Contract
+/// The caller gives streams that have not failed. The status is one of these:
+///
+/// - 0: the run did what the words ask for, no read or write failed, and `errors` is as before (`Does`).
+/// - 1: a thread or memory was refused, or a read or a write failed. Only a failed write leaves a beginning of the
+///   text on `output`.
+/// - 2: the words are those of no command, or a line of the schedule is wrong. Then `output` is as before.
+///
+/// With 1 or 2 the fault has this status (`status_of`), the run stopped as that fault says (`Stops`), and its line is
+/// on `errors`. If that write failed, a beginning of the line is there (`Tells`).
+///
+/// # Examples
+/// ```
+/// program(rt, alloc, words, input, output, errors)
+/// ```
+///
+/// Words, and what the program writes for them:
+/// ```
+/// (&["count", "2", "100"], "200\n"),
+/// ```
 pub fn program<I: Source, O: Sink, E: Sink, R: AllocGlobal + Threads + Wait + Sync, A: Allocator>(
     rt: &R,
     alloc: A,

@@ -1,4 +1,4 @@
-//! Counting by workers that are threads of their own, under one lock.
+//! A count by workers, each a thread of its own, under one lock. Begin with [`count_with`].
 ghost use Rattle.std.specs.Prelude.{◌≡◌, ℕ, ◌+◌, ◌*◌, ◌^◌, ◌<◌, ◌≤◌, IfOk, vec_len};
 
 use super::gate::{Gate, Passed, pass};
@@ -10,16 +10,38 @@ use std::sync::ledger::{Blank, Book, Ledger, Share};
 use std::thread;
 use std::thread::{JoinHandle, Scope, Threads};
 
-/// The most workers that one count may have.
+/// The most workers of one count.
+///
+/// # Examples
+/// ```
+/// if workers > MAX_WORKERS as u64 || times > MAX_TIMES {
+///     return None;
+/// }
+/// ```
 pub const MAX_WORKERS: usize = 64;
 
-/// The most additions that one worker may make.
+/// The most additions of one worker.
+///
+/// # Examples
+/// ```
+/// if workers > MAX_WORKERS as u64 || times > MAX_TIMES {
+///     return None;
+/// }
+/// ```
 pub const MAX_TIMES: u64 = 1_000_000;
 
-/// Why there is no total.
+/// The reason why a count has no total.
+///
+/// # Examples
+/// ```
+/// let Ok(started) = scope.spawn(job) else {
+///     self.join_all(running, mine);
+///     return Err(CountError::Refused);
+/// };
+/// ```
 #[derive(Clone, Copy, Debug, PartialEq, Eq)]
 pub enum CountError {
-    /// A thread or its memory was refused.
+    /// A thread was refused, or its memory.
     Refused,
 }
 
@@ -29,7 +51,7 @@ impl From<AllocError> for CountError {
     }
 }
 
-/// The numbers that all parts of one count agree on.
+/// The numbers that all parts of one count share.
 trait Plan: Ledger {
     /// The additions of all workers.
     ghost all: { ℕ };
@@ -39,7 +61,7 @@ impl Plan for Brand {
     ghost all = { 0 };
 }
 
-/// The number under the lock, beside the book of the additions that are still to come.
+/// The number under the lock, with the book of the additions that remain.
 #[derive(Drop)]
 struct Counter<P: Plan> {
     count: u64,
@@ -48,7 +70,7 @@ struct Counter<P: Plan> {
     ghost fits: { P.all < 2 ^ 64 },
 }
 
-/// What a worker hands back: its part of the book, with nothing left to add.
+/// What a worker returns: its part of the book, with no addition left.
 #[derive(Drop)]
 struct Done<P: Plan> {
     share: Share<P>,
@@ -87,7 +109,7 @@ struct Team<'a, P: Plan, G, R> {
 }
 
 impl<P: Plan + Send + Sync, G: Gate + Sync, R: Threads + Wait + Sync> Team<'_, P, G, R> {
-    /// One worker's whole work: the gate, and then its additions.
+    /// Does the work of one worker: it passes the gate, then makes its additions.
     fn work(&self, worker: usize, share: Share<P>) -> Done<P>
         requires one_part { share.parts ≡ 1 }
         requires additions { share.amount ≡ self.now.times }
@@ -95,7 +117,7 @@ impl<P: Plan + Send + Sync, G: Gate + Sync, R: Threads + Wait + Sync> Team<'_, P
         self.add_all(pass(self.gate, self.rt, worker), share)
     }
 
-    /// The additions of a worker that has passed its gate.
+    /// Makes the additions of a worker that has passed its gate.
     fn add_all(&self, passed: Passed, mut share: Share<P>) -> Done<P>
         requires one_part { share.parts ≡ 1 }
         requires additions { share.amount ≡ self.now.times }
@@ -107,7 +129,7 @@ impl<P: Plan + Send + Sync, G: Gate + Sync, R: Threads + Wait + Sync> Team<'_, P
         Done { share }
     }
 
-    /// Joins the workers, and takes their parts of the book back.
+    /// Joins the workers, and takes back their parts of the book.
     fn join_all<A: Allocator>(&self, mut running: Vec<JoinHandle<Done<P>>, A>, mine: &mut Share<P>)
         ensures parts { mine.new.parts ≡ mine.old.parts + vec_len running }
         ensures amount { mine.new.amount ≡ mine.old.amount }
@@ -118,7 +140,7 @@ impl<P: Plan + Send + Sync, G: Gate + Sync, R: Threads + Wait + Sync> Team<'_, P
         }
     }
 
-    /// Starts a thread for each worker. Where one is refused, those that were started are joined.
+    /// Starts a thread for each worker. If one is refused, it joins those already started.
     fn start_all<'s, E, A: Allocator>(
         &'s self,
         scope: &Scope<'s, E>,
@@ -147,7 +169,7 @@ impl<P: Plan + Send + Sync, G: Gate + Sync, R: Threads + Wait + Sync> Team<'_, P
         Ok(running)
     }
 
-    /// Counts in a scope of threads, and reads the total once all of them are joined.
+    /// Counts in a scope of threads, and reads the total once it has joined all of them.
     fn count<A: Allocator>(
         &self,
         alloc: A,
@@ -174,7 +196,7 @@ impl<P: Plan + Send + Sync, G: Gate + Sync, R: Threads + Wait + Sync> Team<'_, P
     }
 }
 
-/// Counts, over a book that has a part for each worker and one for the caller.
+/// Counts with a book that has a part for each worker and one for the caller.
 fn count_by<'a, P: Plan + Send + Sync, G: Gate + Sync, R: Threads + Wait + Sync, A: Allocator>(
     rt: &'a R,
     alloc: A,
@@ -202,11 +224,22 @@ fn count_by<'a, P: Plan + Send + Sync, G: Gate + Sync, R: Threads + Wait + Sync,
     team.count(alloc, workers, mine)
 }
 
-/// Counts in threads: each of the workers `0` to `workers - 1` is a thread of its own, which passes the gate once, also
-/// where `times` is 0, and then adds 1 to one number under one lock, `times` times. All are joined before the call returns.
+/// Counts in threads, and returns the total.
 ///
-/// The total is exact. Where a thread or its memory is refused there is none, and the workers that were started are joined.
-/// Not promised: when that is, that workers run at the same time, and that the call returns.
+/// Each worker from 0 to `workers - 1` is a thread of its own. It passes the gate once, even if `times` is 0. Then it
+/// adds 1 to one number under one lock, `times` times. The call joins all threads before it returns. If a thread or
+/// its memory is refused, it joins those already started, and returns an error.
+///
+/// # Contract
+/// There are at most `MAX_WORKERS` workers, with at most `MAX_TIMES` additions each. On `Ok` the total is exactly
+/// `workers * times`. Whether and when the call returns is not promised, nor that workers run at the same time.
+///
+/// # Examples
+/// ```
+/// let counted = count_with(&rt, rt.alloc(), &gate, 2, 100);
+/// let found = (counted, gate.seen.load(Ordering::SeqCst));
+/// assert_eq!(rt; found, (Ok(200), 3));
+/// ```
 pub fn count_with<G: Gate + Sync, R: Threads + Wait + Sync, A: Allocator>(
     rt: &R,
     alloc: A,

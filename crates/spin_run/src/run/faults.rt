@@ -1,4 +1,5 @@
-//! Why a run of the program does not end well.
+//! The reasons why a run of the program fails, each with its status and its line. Begin with [`Fault`] and
+//! [`report`].
 ghost use Rattle.std.specs.Prelude.{◌≡◌, ◌++◌, false, true, codes, decimal, OnOk, OnErr};
 ghost use Rattle.std.specs.Io.KnownBytes.{Appends};
 ghost use Rattle.spin_run.specs.declared.run.faults.Fault.TheVariants.{Refused, Memory, Write};
@@ -11,25 +12,25 @@ use itoa::Buffer;
 use spin_text::{Failed, RunError, Sink, write_whole};
 use std::alloc::AllocError;
 
-/// Why a run of the program does not end well.
+/// The reason why a run of the program fails.
 #[derive(Clone, Copy)]
 pub(crate) enum Fault {
-    /// The words are not those of a command.
+    /// The words are those of no command.
     Usage,
-    /// A thread or its memory was refused.
+    /// A thread was refused, or its memory.
     Refused,
-    /// Other memory was refused.
+    /// Another allocation failed.
     Memory,
     /// A read of standard input failed.
     Read,
-    /// This line of standard input, counted from 1, is the first that is no line of a schedule.
+    /// The first line of standard input that is no line of a schedule, counted from 1.
     BadLine(usize),
     /// A write to standard output failed.
     Write,
 }
 
 impl Fault {
-    /// The status that the program ends with.
+    /// Returns the status of the process.
     pub(crate) fn status(self) -> u8
         ensures { result ≡ status_of self }
     {
@@ -39,7 +40,7 @@ impl Fault {
         }
     }
 
-    /// Writes the line on standard error.
+    /// Writes the line of the fault.
     fn tell<E: Sink>(self, errors: &mut E) -> Result<(), Failed>
         ensures bytes { OnOk result (Appends (E.written errors.old) (E.written errors.new) (line_of self)) }
         ensures ok { OnOk result (E.failed errors.new ≡ E.failed errors.old) }
@@ -60,7 +61,7 @@ impl Fault {
     }
 }
 
-/// Writes a number, and ends the line.
+/// Writes a number and a line feed.
 fn tell_end<E: Sink>(number: usize, errors: &mut E) -> Result<(), Failed>
     ensures bytes { OnOk result (Appends (E.written errors.old) (E.written errors.new) (decimal number ++ codes "\n")) }
     ensures ok { OnOk result (E.failed errors.new ≡ E.failed errors.old) }
@@ -72,7 +73,7 @@ fn tell_end<E: Sink>(number: usize, errors: &mut E) -> Result<(), Failed>
     write_whole(errors, b"\n")
 }
 
-/// Writes a number behind some words, and ends the line.
+/// Writes words, a number and a line feed.
 fn tell_number<E: Sink>(words: &[u8], number: usize, errors: &mut E) -> Result<(), Failed>
     ensures bytes { OnOk result (Appends (E.written errors.old) (E.written errors.new) (words.now ++ decimal number ++ codes "\n")) }
     ensures ok { OnOk result (E.failed errors.new ≡ E.failed errors.old) }
@@ -83,7 +84,7 @@ fn tell_number<E: Sink>(words: &[u8], number: usize, errors: &mut E) -> Result<(
     tell_end(number, errors)
 }
 
-/// Writes the fault's line, and answers its status. A line that cannot be written changes no status.
+/// Writes the line of the fault, and returns its status. A failed write changes no status.
 pub(crate) fn report<E: Sink>(fault: Fault, errors: &mut E) -> u8
     requires { E.failed errors.old ≡ false }
     ensures status { result ≡ status_of fault }

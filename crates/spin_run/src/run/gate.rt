@@ -1,13 +1,42 @@
-//! What a worker passes before it begins to add.
+//! What each worker passes before its first addition. Begin with [`Gate`].
 use std::sync::Wait;
 
-/// What each worker passes before it begins to add.
+/// What each worker of a count passes before its first addition.
+///
+/// # Examples
+/// ```
+/// impl Gate for Turnstile {
+///     fn before<R: Wait>(&self, rt: &R, worker: usize) {
+///         let _ = rt;
+///         self.passed
+///             .fetch_add(1 << (16 * worker.min(3)), Ordering::SeqCst);
+///     }
+/// }
+/// ```
 pub trait Gate {
-    /// Called once by each worker, before any addition of its own. It may wait.
+    /// Lets the worker pass. The call may wait.
+    ///
+    /// # Contract
+    /// The call promises nothing. No worker adds before it has passed, since the additions take a value that only
+    /// [`pass`] makes. That each worker passes once is shown by a test.
+    ///
+    /// # Examples
+    /// ```
+    /// fn before<R: Wait>(&self, rt: &R, worker: usize) {
+    ///     let _ = rt;
+    ///     self.passed
+    ///         .fetch_add(1 << (16 * worker.min(3)), Ordering::SeqCst);
+    /// }
+    /// ```
     fn before<R: Wait>(&self, rt: &R, worker: usize);
 }
 
-/// The gate that lets every worker through.
+/// A gate that lets every worker pass at once.
+///
+/// # Examples
+/// ```
+/// let total = count_with(rt, &alloc, &Open, asked.workers, asked.times)?;
+/// ```
 #[derive(Clone, Copy)]
 pub struct Open;
 
@@ -18,14 +47,15 @@ impl Gate for Open {
     }
 }
 
-/// That a worker has passed its gate. Only [`pass`] makes one, and the additions take one: so none comes before its gate.
+/// The proof that a worker has passed its gate. Only [`pass`] makes one and the additions take one, so the gate is
+/// first.
 #[derive(Drop)]
 pub(super) struct Passed {
-    /// Nobody else can write the struct out.
+    /// Other modules cannot name the field, so they cannot make the struct.
     made_here: (),
 }
 
-/// A worker passes its gate.
+/// Lets a worker pass its gate.
 pub(super) fn pass<G: Gate, R: Wait>(gate: &G, rt: &R, worker: usize) -> Passed {
     gate.before(rt, worker);
     Passed { made_here: () }

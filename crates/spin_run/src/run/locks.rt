@@ -1,6 +1,7 @@
-//! The lock of this crate, under one name.
+//! The lock of this crate. A change of this alias changes the lock of every count.
 use spin_core::relax::Yield;
 use spin_mutex::mutex::spin::SpinMutex;
 
-/// Workers may outnumber the processors by far, so a worker that waits lets others run.
+/// A mutex whose waiting threads yield. There may be many more workers than cores, so a worker that waits lets others
+/// run.
 pub(crate) type Lock<T> = SpinMutex<T, Yield>;

@@ -1,4 +1,4 @@
-//! The program over the arguments of a process.
+//! The program over the arguments of the process. Begin with [`program_over_arguments`].
 ghost use Rattle.std.specs.Prelude.{◌≡◌, ◌≤◌, ◌<◌, ◌⊎◌, List, ℕ, false, IfErr};
 ghost use Rattle.spin_run.specs.declared.run.faults.Fault.{Fault};
 ghost use Rattle.spin_run.specs.Command.{Does, Tells};
@@ -13,9 +13,9 @@ use std::sync::Wait;
 use std::thread::Threads;
 use std::{env, io};
 
-/// The arguments behind the program's name. One that is not text is in no command.
+/// Returns the arguments after the program's name. Arguments that are not text are those of no command.
 ///
-/// The room is asked for first: `collect` makes up for a refused request by a smaller one, and tells nothing.
+/// It asks for the room first. `collect` would answer a failed allocation with a smaller request, and tell nothing.
 fn arguments<R: Env + Alloc>(rt: &R) -> Result<Vec<String<R::A>, R::A>, Fault>
     ensures { IfErr result IsWordless }
 {
@@ -31,7 +31,7 @@ fn arguments<R: Env + Alloc>(rt: &R) -> Result<Vec<String<R::A>, R::A>, Fault>
     }
 }
 
-/// The arguments as text.
+/// Returns the arguments as text.
 fn texts<'a, A: Allocator>(
     alloc: A,
     arguments: &'a [String<A>],
@@ -43,9 +43,23 @@ fn texts<'a, A: Allocator>(
     Ok(texts)
 }
 
-/// `program` over the arguments that the process was started with, as the runtime tells them.
+/// Runs [`program`] on the arguments of the process.
 ///
-/// Arguments that are not text are outside every command. Where there is no memory to read them, nothing else is done.
+/// Arguments that are not text are those of no command. If there is no memory for the arguments, the call only writes
+/// a line about it on `errors`.
+///
+/// # Contract
+/// The caller gives streams that have not failed. The status is 0, 1 or 2, and means what it means for `program`, for
+/// some words. Or the fault is wrong usage or no memory, from before the words are known. Then `input` and `output`
+/// are as before (`IsWordless`).
+///
+/// # Examples
+/// ```
+/// let mut input = OfStd::new(rt.stdin());
+/// let mut output = OfStd::new(rt.stdout());
+/// let mut errors = OfStd::new(rt.stderr());
+/// ExitCode::from(program_over_arguments(&rt, &mut input, &mut output, &mut errors))
+/// ```
 pub fn program_over_arguments<
     I: Source,
     O: Sink,
