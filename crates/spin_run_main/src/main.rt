@@ -1,4 +1,6 @@
-//! `spin-run`: the streams and the arguments of the process, and the status that it ends with.
+//! `spin-run`: gives the program the streams and arguments of the process, and returns its status.
+//!
+//! Begin with [`program_over_arguments`], which does the rest.
 #![tactic(auto)]
 
 use spin_run::run::{OfStd, program_over_arguments};
