@@ -70,12 +70,11 @@ impl<W, V, L, A> Stepped<W, V, L, A> {
 }
 
 impl<W: Copy, V, L: Copy, A: Copy> Stepped<W, V, L, A> {
-    /// Creates a step that replaces the words by `to`, if there are such. The call then continues as `won`, and else
-    /// as `lost`.
+    /// Creates a step that tries an exchange of the words. With `Some` the call continues as `won`, with `None` as
+    /// `lost`.
     ///
     /// # Contract
-    /// With `Some` the words are the new ones and the call continues as `won`. With `None` the words stay, and the
-    /// call continues as `lost`. The value is as before (`becomes`).
+    /// With `Some` the words after the step are these. With `None` they stay. The value is as before (`becomes`).
     ///
     /// # Examples
     /// ```
@@ -193,8 +192,8 @@ pub trait Object: Drop {
     ) -> Option<Next<Self::Local, Self::Answer>>
         ensures { result ≡ (machine self.now).refuse call local holds };
 
-    /// Takes the next step of the call, and returns its outcome. It is a pure function of the words, the value and
-    /// the point.
+    /// Takes the next step of the call, and returns its outcome. The outcome depends on the object and the arguments
+    /// alone.
     ///
     /// # Contract
     /// The step has to be possible there (`can` of the machine). Then it is `step` of the machine.

@@ -36,7 +36,8 @@ pub enum Place {
     Holding(Hold),
     /// The party forgot its guard: it holds for good, and makes no further call.
     Leaked(Hold),
-    /// The party has leaked, and the owner has looked at the value since. It touches the value no more.
+    /// The party has leaked, and the owner has since looked at the value or replaced it. It touches the value no
+    /// more.
     Gone,
 }
 

@@ -17,21 +17,22 @@ use std::alloc::{Allocator, Global};
 /// ```
 #[derive(Copy, Debug, PartialEq, Eq)]
 pub enum Move<C, V> {
-    /// Begins a call.
+    /// Begins a call, as an idle party or as a holder. The object says which calls a party may begin.
     Begin(C),
     /// Takes the next step of the party's call.
     Step,
     /// Takes the next step of the party's call, if that is a weak exchange. It fails, whatever the word is.
     Weak,
-    /// Reads the value, as a holder.
+    /// Reads the value, as a holder that may read. It may have leaked.
     Read,
-    /// Replaces the value, as a holder that may write.
+    /// Replaces the value, as a holder that may write. It may have leaked.
     Write(V),
-    /// Forgets the guard, as a holder.
+    /// Forgets the guard, as a holder that is in no call.
     Leak,
-    /// Reads the value, as the owner. The party is only the one that acts for the owner.
+    /// Reads the value, as the owner. The party only acts for the owner. It is open if the object is owned and no
+    /// party holds or is in a call; leaked parties are then gone.
     OwnerGet,
-    /// Replaces the value, as the owner.
+    /// Replaces the value, as the owner. It is open where `OwnerGet` is.
     OwnerSet(V),
 }
 
@@ -97,5 +98,6 @@ pub struct Event<W, V, A> {
 /// ```
 #[derive(Drop)]
 pub struct Transcript<O: Object, A: Allocator = Global> {
+    /// The events, in the order of the schedule.
     pub events: Vec<Event<O::Words, O::Value, O::Answer>, A>,
 }

@@ -57,7 +57,7 @@ fn seat_of<C: Copy, L: Copy>(holds: Option<Hold>) -> Seat<C, L>
     }
 }
 
-/// Whether the party shares the value, so that no owner has it.
+/// Returns `true` if the party shares the value, so that no owner has it.
 fn shares<C: Copy, L: Copy>(seat: Seat<C, L>) -> bool
     ensures { result ≡ shares seat }
 {
@@ -99,7 +99,7 @@ fn let_go_all<C: Copy, L: Copy>(seats: &mut [Seat<C, L>])
     }
 }
 
-/// The seats of so many idle parties.
+/// Creates the seats of this many idle parties.
 fn idle_seats<C: Copy, L: Copy, A: Allocator>(
     alloc: A,
     parties: usize,
@@ -123,7 +123,7 @@ impl<O: Object, A: Allocator> Table<O, A> {
         })
     }
 
-    /// The party stands so from now on.
+    /// Gives the party this seat.
     fn sit(&mut self, party: usize, seat: Seat<O::Call, O::Local>)
         requires { party < length self.old.seats }
         ensures { self.new ≡ seated self.old party seat }
@@ -161,7 +161,7 @@ impl<O: Object, A: Allocator> Table<O, A> {
         self.act_from(object, party, entry, seat)
     }
 
-    /// The same of a party that stands so.
+    /// Makes one move of a party in this seat.
     fn act_from(
         &mut self,
         object: &O,
@@ -331,7 +331,7 @@ impl<O: Object, A: Allocator> Table<O, A> {
         object.is_owned() && self.sharing == 0
     }
 
-    /// Gives back what every leaked party holds.
+    /// Makes every leaked party a gone one.
     fn let_go(&mut self)
         ensures { self.new ≡ let_go self.old }
     {
@@ -360,7 +360,7 @@ impl<O: Object, A: Allocator> Table<O, A> {
         self.owner_writes(to)
     }
 
-    /// Gives back what every party holds, and writes the value, where one is there.
+    /// Makes every leaked party a gone one, and replaces the value if there is one.
     fn owner_writes(&mut self, to: O::Value) -> Outcome<O::Answer, O::Value>
         ensures { record { outcome = result; next = self.new } ≡ owner_writes self.old to self.old.value }
     {

@@ -32,7 +32,7 @@ pub struct World<O: Object, A: Allocator = Global> {
     alloc: A,
     object: O,
     table: Table<O, A>,
-    /// The place at which each party's call began in the latest run. Kept here, so that a run takes no memory for it.
+    /// Where each party's call began in the latest run. It is kept here so that a run allocates nothing for it.
     begins: Vec<Option<usize>, A>,
 }
 
@@ -205,7 +205,7 @@ impl<O: Object, A: Allocator + Copy> World<O, A> {
     }
 }
 
-/// Plays the schedule into a transcript that has the room.
+/// Plays the schedule into a transcript that has room for it.
 fn play<O: Object, A: Allocator>(
     object: &O,
     table: &mut Table<O, A>,
