@@ -52,7 +52,7 @@ const MAX_STARVERS: u64 = fair::MAX_STARVERS as u64;
 /// The most looks that the lock of a `Fair` may make before it registers.
 const MAX_SPINS: u64 = 1024;
 
-/// A number from `least` to `most`, and the words behind it.
+/// Returns a number from `least` to `most`, and the words after it.
 #[tactic(auto, unfolding(crate::specs::Reading::number_within))]
 fn within(line: Rest, least: u64, most: u64) -> Option<(usize, Rest)>
     ensures { option_map (λ x. (x.0, words_left x.1)) result ≡ number_within least most (words_left line.entry) }
@@ -65,7 +65,7 @@ fn within(line: Rest, least: u64, most: u64) -> Option<(usize, Rest)>
     }
 }
 
-/// The number of parties, which stands last.
+/// Returns the number of parties, which is the last word.
 #[tactic(auto, unfolding(crate::specs::Reading::last_parties))]
 fn parties(line: Rest) -> Option<usize>
     ensures { result ≡ last_parties (words_left line.entry) }

@@ -3,7 +3,7 @@ ghost use Rattle.std.specs.Prelude.{◌≡◌, ℕ, ◌<◌, ◌≤◌, ◌+◌,
 ghost use Rattle.std.specs.Char.{digit_value};
 ghost use Rattle.spin_text.specs.Numbers.{IsNumber};
 
-/// The number with this digit behind it. `None`: it is no digit, or the number is past `u64::MAX`.
+/// Returns the number with one more digit, or `None` if that is no digit or the number exceeds `u64::MAX`.
 fn with_digit(number: u64, digit: u8) -> Option<u64>
     ensures fits { IfSome result (λ n. n < 2 ^ 64) }
     ensures some { IfSome result (λ n. (digit_value digit < 10) × (n ≡ number * 10 + digit_value digit)) }

@@ -200,7 +200,7 @@ impl Spelled for BarrierObject {
     }
 }
 
-/// The call with a closure that may fail, by what is behind its name.
+/// Returns the call whose closure may fail, by the words after its name.
 #[tactic(auto, unfolding(crate::specs::Reading::read_try_call_once))]
 fn try_call_once(line: Rest) -> Option<OnceCall<u64>>
     ensures { result ≡ read_try_call_once (words_left line.entry) }

@@ -54,17 +54,17 @@ impl<T: Drop> From<AllocFailed<T>> for RunError {
     }
 }
 
-/// How many bytes one read asks for.
+/// The number of bytes that one read asks for.
 const CHUNK: usize = 65_536;
 
-/// A buffer of so many bytes.
+/// Creates a buffer of this many bytes.
 fn buffer(alloc: Global, size: usize) -> Result<Vec<u8>, AllocError>
     ensures { IfOk result (λ bytes. length bytes.items ≡ size) }
 {
     vec![in alloc; 0u8; size]
 }
 
-/// All that a source has, by reads of a chunk each.
+/// Reads all bytes of a source, one chunk at a time.
 fn read_by<I: Source>(alloc: Global, input: &mut I, chunk: &mut [u8]) -> Result<Vec<u8>, RunError>
     requires { 0 < length chunk.old }
     ensures bytes { IfOk result (λ bytes. ReadsAll (I.remaining input.old) (I.remaining input.new) bytes.items) }
@@ -83,7 +83,7 @@ fn read_by<I: Source>(alloc: Global, input: &mut I, chunk: &mut [u8]) -> Result<
     }
 }
 
-/// All that a source has.
+/// Reads all bytes of a source.
 fn read_all<I: Source>(alloc: Global, input: &mut I) -> Result<Vec<u8>, RunError>
     ensures bytes { IfOk result (λ bytes. ReadsAll (I.remaining input.old) (I.remaining input.new) bytes.items) }
     ensures ok { OnOk result (I.failed input.new ≡ I.failed input.old) }
@@ -110,7 +110,7 @@ fn play_lines<O: Spelled>(
     Ok(transcript(alloc, object, parties, &schedule, room)?)
 }
 
-/// The header of bytes, if their first line spells one.
+/// Returns the header that the first line of the bytes spells, or `None` if it spells none.
 fn header(bytes: &[u8]) -> Option<Header>
     ensures first { result ≡ read_header (header_line (words_by_line bytes.now)) }
     ensures there { 0 < length (words_by_line bytes.now) }

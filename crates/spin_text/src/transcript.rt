@@ -14,7 +14,7 @@ use std::alloc::{AllocError, Global};
 /// The room for the longest line: five numbers of 20 digits, and the words between them.
 const LONGEST_LINE: usize = 160;
 
-/// The room that is asked for each line before the first is made. So long are lines in the middle of a long text.
+/// The room to ask for each line, before the first is made. Lines in the middle of a long text have this length.
 const USUAL_LINE: usize = 32;
 
 fn put_value(value: Option<u64>, buffer: &mut [u8], end: usize) -> usize
@@ -29,7 +29,7 @@ fn put_value(value: Option<u64>, buffer: &mut [u8], end: usize) -> usize
     }
 }
 
-/// The words that an answer's text begins with, and the number behind them.
+/// Returns the words at the beginning of an answer's text, and the number after them.
 fn parts_of(answer: Answer<u64>) -> (&'static [u8], Option<u64>)
     ensures parts { result.0.now ++ number_text result.1 ≡ answer_text answer }
     ensures short { length result.0.now ≤ 8 }
@@ -67,7 +67,7 @@ fn put_answer(answer: Answer<u64>, buffer: &mut [u8], end: usize) -> usize
     }
 }
 
-/// The line of a call's beginning. Places are counted from 0, and lines from 1.
+/// Writes at which line of the transcript a call began. Places are counted from 0, and lines from 1.
 fn put_from(began: Option<usize>, buffer: &mut [u8], end: usize) -> usize
     requires line { HasLine began }
     requires room { 26 ≤ end }
@@ -125,7 +125,7 @@ fn put_numbers(numbers: (u64, Option<u64>), buffer: &mut [u8], end: usize) -> us
     }
 }
 
-/// The line of an event, up to the end of the buffer.
+/// Writes the line of an event, up to the end of the buffer.
 fn put_event(
     line: usize,
     party: usize,
@@ -148,7 +148,7 @@ fn put_event(
     put_number(line as u64, buffer, end)
 }
 
-/// The last line, up to the end of the buffer.
+/// Writes the last line, up to the end of the buffer.
 fn put_end(numbers: (u64, Option<u64>), value: Option<u64>, buffer: &mut [u8]) -> usize
     requires room { length buffer.old ≡ LONGEST_LINE }
     ensures line { drop result buffer.new ≡ end_line (numbers_of numbers) value }
@@ -161,7 +161,7 @@ fn put_end(numbers: (u64, Option<u64>), value: Option<u64>, buffer: &mut [u8]) -
     put(b"end: ", buffer, end)
 }
 
-/// Plays a schedule, and puts the line of each event behind the text.
+/// Plays a schedule, and appends the line of each event to the text.
 fn push_events<O: Spelled>(
     text: &mut Vec<u8>,
     world: &mut World<O>,
@@ -186,7 +186,7 @@ fn push_events<O: Spelled>(
     Ok(())
 }
 
-/// Puts the last line behind the text.
+/// Appends the last line to the text.
 fn push_end(
     text: &mut Vec<u8>,
     numbers: (u64, Option<u64>),

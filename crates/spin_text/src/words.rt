@@ -17,7 +17,7 @@ use memchr::memchr;
 /// ```
 pub type Rest<'a> = Option<&'a [u8]>;
 
-/// The bytes in front of the first separator, and those behind it.
+/// Returns the bytes before the first separator, and those after it.
 fn cut(separator: u8, bytes: &[u8]) -> (&[u8], Rest<'_>)
     ensures parts { slice_split (λ b. b == separator) bytes.now ≡ result.0.now ∷ parts_left separator result.1 }
     ensures shorter { IfSome result.1 (λ rest. length rest.now < length bytes.now) }
@@ -74,7 +74,7 @@ pub fn is_over(line: Rest) -> bool
     }
 }
 
-/// The number that a word is.
+/// Returns the number that a word is, or `None` if it is none.
 fn number_word(word: &[u8]) -> Option<u64>
     ensures { result ≡ read_number word.now }
 {
@@ -90,7 +90,7 @@ pub fn number_then(line: Rest) -> Option<(u64, Rest)>
     Some((number_word(word)?, rest))
 }
 
-/// The one word of a line.
+/// Returns the only word of a line, or `None` if it has another.
 #[tactic(auto, unfolding(crate::specs::Reading::last_word))]
 fn only_word(line: Rest) -> Option<&[u8]>
     ensures { option_map (λ x. x.now) result ≡ last_word (words_left line.entry) }
