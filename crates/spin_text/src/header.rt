@@ -14,42 +14,49 @@ use spin_step::{fair, rw};
 /// ```
 #[derive(Clone, Copy, Debug, PartialEq, Eq)]
 pub enum Header {
+    /// The line `flag VALUE PARTIES`.
     Flag {
         value: u64,
         parties: usize,
     },
+    /// The line `ticket VALUE FIRST PARTIES`. The first ticket has the number `first`.
     Ticket {
         value: u64,
         first: u64,
         parties: usize,
     },
+    /// The line `rw VALUE CAP PARTIES`. At most `cap` parties read at a time, an upgradable reader included.
     Rw {
         value: u64,
         cap: usize,
         parties: usize,
     },
+    /// The line `fair VALUE CAP SPINS PARTIES`. At most `cap` parties starve at a time. A `lock` registers after more
+    /// than `spins` + 1 looks that found the flag set.
     Fair {
         value: u64,
         cap: usize,
         spins: usize,
         parties: usize,
     },
+    /// The line `barrier N PARTIES`. Each group has `n` parties, or one if `n` is 0.
     Barrier {
         n: usize,
         parties: usize,
     },
+    /// The line `once PARTIES`. There is no value at first.
     Once {
         parties: usize,
     },
 }
 
-/// The most parties that a text may name.
+/// The largest number of parties.
 const MAX_PARTIES: u64 = 1000;
 
 /// The largest cap on starvers.
 const MAX_STARVERS: u64 = fair::MAX_STARVERS as u64;
 
-/// The most looks that the lock of a `Fair` may make before it registers.
+/// The largest number of spins of a `Fair`.
 const MAX_SPINS: u64 = 1024;
 
 /// Returns a number from `least` to `most`, and the words after it.
