@@ -1,4 +1,4 @@
-//! The flag, by its step functions.
+//! The lock of one flag, as a table of the steps of its calls. Begin with [`Flag::new`] and [`FlagCall`].
 ghost use Rattle.std.specs.Prelude.{◌≡◌, true};
 ghost use Rattle.spin_step.specs.Steps.{bit};
 ghost use Rattle.spin_world_core.specs.Acts.{becomes, step_by, can_by};
@@ -10,35 +10,66 @@ ghost use Rattle.spin_world_flag.specs.Named.{IsFlag};
 use spin_step::flag;
 use spin_world_core::{Answer, Hold, Next, Object, Stepped};
 
-/// A call of a [`Flag`].
+/// A call of a [`Flag`]. The contract of [`Flag::new`] says what each call asks.
+///
+/// # Examples
+/// ```
+/// Move::Begin(FlagCall::Lock),
+/// Move::Step,
+/// Move::Read,
+/// Move::Write(1),
+/// Move::Begin(FlagCall::Release),
+/// Move::Step,
+/// ```
 #[derive(Clone, Copy, Debug, PartialEq, Eq)]
 pub enum FlagCall {
-    /// Takes the lock, in as many steps as it needs.
+    /// Acquires the lock, in as many steps as it needs.
     Lock,
-    /// Takes the lock, or is refused where somebody holds it.
+    /// Tries to acquire the lock. It fails if a party holds it.
     TryLock,
-    /// The same by a weak exchange, which may also refuse without cause.
+    /// Like `TryLock`, but makes a weak exchange, which may also fail without cause.
     TryLockWeak,
+    /// Answers whether a party holds the lock.
     IsLocked,
-    /// Lets go of the lock.
+    /// Releases the lock.
     Release,
 }
 
-/// Which step of its call comes next. Only `Lock` has a second one.
+/// The point of a call: which step comes next. Only `Lock` has a second one.
+///
+/// No example: a world keeps the points of calls, and a schedule names none.
 #[derive(Clone, Copy, Debug, PartialEq, Eq)]
 pub enum FlagPoint {
+    /// The first step of any call.
     First,
+    /// The look of `Lock` at the flag, after its exchange has failed.
     Second,
 }
 
-/// A lock of one flag, which is set while somebody holds it.
+/// The lock of one flag, which is set while a party holds it.
+///
+/// # Examples
+/// ```
+/// let mut world: World<Flag<u64>> = World::new(self.alloc, Flag::new(0), PARTIES)?;
+/// world.run(self.schedule.get(..entries).unwrap_or(&[]))
+/// ```
 #[derive(Drop)]
 pub struct Flag<V> {
     value: V,
 }
 
 impl<V: Copy> Flag<V> {
-    /// A free lock with this value.
+    /// Creates a lock that no party holds, with this value.
+    ///
+    /// # Contract
+    /// The object has this value. Its machine is that of a flag (`IsFlag`): it opens clear with the value, and each
+    /// call asks what [`FlagCall`] says.
+    ///
+    /// # Examples
+    /// ```
+    /// let mut world = world(&rt, rt.alloc(), Flag::new(5), 2);
+    /// plays(&rt, &mut world, rows! {}, &[Place::Idle, Place::Idle], 5);
+    /// ```
     pub fn new(value: V) -> Flag<V>
         ensures fields { result ≡ record { value = value } }
         ensures named { IsFlag value (⟦<Flag<V> as Object>⟧.machine result) }
@@ -47,7 +78,7 @@ impl<V: Copy> Flag<V> {
     }
 }
 
-/// The exchange that takes the lock where it is free. `refusal`: how the call goes on where it isn't.
+/// Makes the exchange that acquires the lock if it is free. If it is held, the call goes on by `refusal`.
 fn exchange<V: Copy>(
     words: bool,
     refusal: Next<FlagPoint, Answer<V>>,

@@ -1,4 +1,4 @@
-//! Laws of the flag. Each is the contract of a function that does nothing.
+//! Laws of the flag. Each is the contract of a function that does nothing: a caller calls it for what it states.
 ghost use Rattle.std.specs.Prelude.{◌≡◌, ◌↔◌, ℕ, List, [], false};
 ghost use Rattle.spin_world_core.specs.declared.schedule.Move.{Move};
 ghost use Rattle.spin_world_core.specs.Schedules.{after, at_first};
@@ -10,7 +10,7 @@ ghost use Rattle.spin_world_flag.specs.declared.flag.Flag.{Flag};
 use crate::flag::Flag;
 use spin_world_core::Object;
 
-/// The flag is clear exactly when nobody holds the lock.
+/// States that the flag is clear exactly if no party holds the lock.
 pub fn a_flag_is_clear_when_nobody_holds<V: Copy>()
     ensures { (object : Flag V) (n : ℕ) (past : List (ℕ × Move FlagCall V)) → let m = ⟦<Flag<V> as Object>⟧.machine object in ((after m (at_first m n) past).words ≡ false) ↔ ((seen_after m (opening m n) past).plain.holders ≡ []) }
 {}

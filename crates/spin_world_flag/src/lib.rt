@@ -1,4 +1,6 @@
 //! `Flag`: the lock of one flag, as an object of the world.
+//!
+//! Begin with [`Flag::new`] and [`FlagCall`]. The wrong flags in [`refused`] show what the laws keep out.
 #![tactic(auto)]
 
 mod flag;
