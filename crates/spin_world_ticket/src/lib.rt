@@ -1,4 +1,7 @@
-//! `Ticket`: the lock of two numbers, whose parties enter in the order of their tickets, as an object of the world.
+//! `Ticket`: the lock of two numbers, whose parties enter in ticket order, as an object of the world.
+//!
+//! Begin with [`Ticket::new`] and [`TicketCall`]; [`tickets_enter_by_releases`] is the law of its order. The wrong
+//! locks in [`refused`] show what the laws keep out.
 #![tactic(auto)]
 
 mod laws;

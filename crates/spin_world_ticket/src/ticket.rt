@@ -1,4 +1,4 @@
-//! The ticket lock, by its step functions.
+//! The ticket lock, as a table of the steps of its calls. Begin with [`Ticket::new`] and [`TicketCall`].
 ghost use Rattle.std.specs.Prelude.{◌≡◌, ◌==◌, ◌&&◌, true};
 ghost use Rattle.spin_world_core.specs.declared.object.Next.TheVariants.{GoesOn, Answers};
 ghost use Rattle.spin_world_core.specs.declared.answer.Answer.TheVariants.{Refused};
@@ -11,29 +11,49 @@ ghost use Rattle.spin_world_ticket.specs.Named.{IsTicketLock};
 use spin_step::ticket;
 use spin_world_core::{Answer, Hold, Next, Object, Stepped};
 
-/// The words of a [`Ticket`].
+/// The two words of a [`Ticket`].
+///
+/// # Examples
+/// ```
+/// fn numbers(words: TicketWords) -> (u64, Option<u64>) {
+///     (words.next, Some(words.serving))
+/// }
+/// ```
 #[derive(Clone, Copy, Debug, PartialEq, Eq)]
 pub struct TicketWords {
     /// The number of the next ticket.
     pub next: u64,
-    /// The number that is served. Whoever has this ticket may hold the lock.
+    /// The number that is served. The party with this ticket may hold the lock.
     pub serving: u64,
 }
 
-/// A call of a [`Ticket`].
+/// A call of a [`Ticket`]. The contract of [`Ticket::new`] says what each call asks.
+///
+/// # Examples
+/// ```
+/// const TICKET_CALLS: [(&[u8], TicketCall); 4] = [
+///     (b"lock", TicketCall::Lock),
+///     (b"try_lock", TicketCall::TryLock),
+///     (b"is_locked", TicketCall::IsLocked),
+///     (b"release", TicketCall::Release),
+/// ];
+/// ```
 #[derive(Clone, Copy, Debug, PartialEq, Eq)]
 pub enum TicketCall {
     /// Takes a ticket, in as many steps as it needs, and then waits until it is served.
     Lock,
-    /// Takes the lock in one pass, or is refused: where a ticket stood at a moment of the call, or tickets are used up.
+    /// Tries to acquire the lock, without waiting. It fails only if a ticket stood at some moment of the call, or if no
+    /// number is left.
     TryLock,
-    /// Whether a ticket stands.
+    /// Answers whether a ticket stands.
     IsLocked,
-    /// Lets go of the lock: the next ticket is served.
+    /// Releases the lock: the next ticket is served.
     Release,
 }
 
-/// Which step of its call comes next, with what the party has found or taken so far.
+/// The point of a call: which step comes next, with what the party has found or taken so far.
+///
+/// No example: a world keeps the points of calls, and a schedule names none.
 #[derive(Clone, Copy, Debug, PartialEq, Eq)]
 pub enum TicketPoint {
     /// `Lock` loads the next number.
@@ -56,7 +76,12 @@ pub enum TicketPoint {
     Serve(u64),
 }
 
-/// A lock of two numbers: parties take tickets, and enter in their order.
+/// The lock of two numbers: parties take tickets, and enter in their order.
+///
+/// # Examples
+/// ```
+/// Header::Ticket { .. } => try_schedule::<Ticket<u64>>(rt, alloc, trial, opening, lines),
+/// ```
 #[derive(Drop)]
 pub struct Ticket<V> {
     value: V,
@@ -64,7 +89,22 @@ pub struct Ticket<V> {
 }
 
 impl<V: Copy> Ticket<V> {
-    /// A free lock with this value, whose first ticket has this number. Tickets are numbered up to `u64::MAX - 1`.
+    /// Creates a lock that no party holds, with this value. Its first ticket has the number `first`, and the last one
+    /// the number `u64::MAX - 1`.
+    ///
+    /// # Contract
+    /// The object has this value and this first number. Its machine is that of a ticket lock (`IsTicketLock`): it opens
+    /// with an empty queue, and each call asks what [`TicketCall`] says.
+    ///
+    /// # Examples
+    /// ```
+    /// fn of_header(header: Header) -> Option<Ticket<u64>> {
+    ///     match header {
+    ///         Header::Ticket { value, first, .. } => Some(Ticket::new(value, first)),
+    ///         _ => None,
+    ///     }
+    /// }
+    /// ```
     pub fn new(value: V, first: u64) -> Ticket<V>
         ensures fields { result ≡ record { value = value; first = first } }
         ensures named { IsTicketLock value first (⟦<Ticket<V> as Object>⟧.machine result) }
@@ -73,7 +113,7 @@ impl<V: Copy> Ticket<V> {
     }
 }
 
-/// A step that takes the ticket of the expected number, and goes on by whether it did.
+/// Makes a step that takes the ticket of the expected number. The call goes on by `won` if it did, else by `lost`.
 fn exchange<V: Copy>(
     words: TicketWords,
     expected: u64,
@@ -91,7 +131,7 @@ fn exchange<V: Copy>(
     }
 }
 
-/// How `Lock` goes on from the next number.
+/// Returns how `Lock` goes on from the next number.
 fn go_for<V: Copy>(next: u64) -> Next<TicketPoint, Answer<V>>
     ensures { result ≡ either (is_left next) (GoesOn (Take next)) (GoesOn LoadNext) }
 {
@@ -102,7 +142,7 @@ fn go_for<V: Copy>(next: u64) -> Next<TicketPoint, Answer<V>>
     })
 }
 
-/// The look of `Lock` at the number that is served, with this ticket.
+/// Returns how `Lock` goes on with this ticket from its look at the number that is served.
 fn look_for_turn<V: Copy>(serving: u64, ticket: u64) -> Next<TicketPoint, Answer<V>>
     ensures { result ≡ either (serving == ticket) (granted ticket) (GoesOn (Await ticket)) }
 {
@@ -113,7 +153,7 @@ fn look_for_turn<V: Copy>(serving: u64, ticket: u64) -> Next<TicketPoint, Answer
     }
 }
 
-/// The look of `TryLock` at the number that is served, where it found this one to be next.
+/// Returns how `TryLock`, which found `next` to be next, goes on from its look at the number that is served.
 fn look_for_free<V: Copy>(
     serving: u64,
     next: u64,
