@@ -1,4 +1,6 @@
 //! `Seats`: the lock of seats, as an object of the world.
+//!
+//! Begin with [`Seats::new`] and [`SeatsCall`]. The wrong locks in [`refused`] show what the laws keep out.
 #![tactic(auto)]
 
 mod laws;

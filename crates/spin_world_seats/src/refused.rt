@@ -16,7 +16,7 @@ pub fn a_leave_frees_one_seat()
     ensures { KeepsAll leaves_for_two 2 one_of_two_leaves → ⊥ }
 {}
 
-/// A try that looks for ever: it has a limit, whoever disturbs it.
+/// A try that looks for ever: it has a limit, whatever other parties do.
 pub fn a_try_is_answered()
     ensures { CountsAll tries_for_ever 1 two_looks → ⊥ }
 {}
@@ -76,7 +76,7 @@ pub fn a_kind_of_lock_has_four_steps()
     ensures { CountsAll looks_on 1 enter_in_vain → ⊥ }
 {}
 
-/// A lock of another kind, which has no call for who leaves: its clause by names says which kind it is.
+/// A lock of another kind, which has no call to leave: the clause `named` says which kind a lock is.
 pub fn a_lock_is_of_its_kind()
     ensures { IsSeats 2 keeps_all → ⊥ }
 {}

@@ -1,4 +1,4 @@
-//! The lock of seats, by its step functions.
+//! The lock of seats, as a table of the steps of its calls. Begin with [`Seats::new`] and [`SeatsCall`].
 ghost use Rattle.std.specs.Prelude.{◌≡◌, true};
 ghost use Rattle.spin_world_core.specs.Acts.{one_number, becomes, step_by, can_by};
 ghost use Rattle.spin_world_seats.specs.Seats.{granted, comes_at, act_of, seats_machine};
@@ -7,35 +7,62 @@ ghost use Rattle.spin_world_seats.specs.Named.{IsSeats};
 use spin_seats::steps;
 use spin_world_core::{Answer, Hold, Next, Object, Stepped};
 
-/// A call of a [`Seats`].
+/// A call of a [`Seats`]. The contract of [`Seats::new`] says what each call asks.
+///
+/// # Examples
+/// ```
+/// 0 Move::Begin(SeatsCall::Leave) => Outcome::Begun, 2;
+/// 0 Move::Step => answered!(Answer::Done, 11), 1;
+/// 0 Move::Begin(SeatsCall::Count) => Outcome::Begun, 1;
+/// 0 Move::Step => answered!(Answer::Count(1), 13), 1;
+/// ```
 #[derive(Clone, Copy, Debug, PartialEq, Eq)]
 pub enum SeatsCall {
-    /// Takes a seat, or is refused where all are taken at a moment of the call.
+    /// Tries to take a seat. It fails only if all were taken at some moment of the call.
     TryEnter,
     /// Takes a seat, in as many steps as it needs.
     Enter,
-    /// How many seats are taken.
+    /// Counts the seats that are taken.
     Count,
-    /// Gets up.
+    /// Frees the seat of the party.
     Leave,
 }
 
-/// Which step of its call comes next. Only a call that takes a seat has a second one.
+/// The point of a call: which step comes next. Only a call that takes a seat has a second one.
+///
+/// No example: a world keeps the points of calls, and a schedule names none.
 #[derive(Clone, Copy, Debug, PartialEq, Eq)]
 pub enum SeatsPoint {
+    /// The first step of any call.
     First,
     /// The exchange of this word, which the call has found.
     Exchange(usize),
 }
 
-/// A lock of so many seats. Its value is nothing.
+/// The lock of a number of seats. Its value is nothing.
+///
+/// # Examples
+/// ```
+/// let mut world = world(&rt, rt.alloc(), Seats::new(2), 3);
+/// plays(&rt, &mut world, TWO_SIT, &[Place::Idle, sits, sits], ());
+/// ```
 #[derive(Drop)]
 pub struct Seats {
     seats: usize,
 }
 
 impl Seats {
-    /// A lock whose seats are all free.
+    /// Creates a lock with so many seats, but with no more than `spin_seats::steps::MAX_SEATS`. All of them are free.
+    ///
+    /// # Contract
+    /// The object has this number. Its machine is that of a lock of so many seats, up to the limit (`IsSeats`): it
+    /// opens free, and each call asks what [`SeatsCall`] says.
+    ///
+    /// # Examples
+    /// ```
+    /// let mut world = world(&rt, rt.alloc(), Seats::new(1), 2);
+    /// plays(&rt, &mut world, ONE_SITS, &places, ());
+    /// ```
     pub fn new(seats: usize) -> Seats
         ensures fields { result ≡ record { seats = seats } }
         ensures named { IsSeats seats (⟦<Seats as Object>⟧.machine result) }
@@ -44,7 +71,7 @@ impl Seats {
     }
 }
 
-/// A step of a call that takes a seat. `to`: the word with the seat taken, where one is free.
+/// Makes a step of a call that takes a seat. `to` is the word with the seat taken, if one is free.
 fn come(
     point: SeatsPoint,
     words: usize,
