@@ -1,4 +1,6 @@
-//! The fair lock, by its step functions.
+//! The fair lock, as a table of the steps of its calls. Begin with [`Fair::new`] and [`FairCall`].
+//!
+//! A starver is a party that has registered so as to come before all others, which are newcomers.
 ghost use Rattle.std.specs.Prelude.{◌≡◌, ◌≢◌, ◌<◌, ◌+◌, ◌-◌, ◌==◌, ◌%◌, true, is_some};
 ghost use Rattle.spin_world_core.specs.declared.object.Next.TheVariants.{GoesOn, Answers};
 ghost use Rattle.spin_world_core.specs.declared.answer.Answer.TheVariants.{Done};
@@ -12,43 +14,54 @@ use spin_step::fair;
 use spin_step::fair::LockRejectReason;
 use spin_world_core::{Answer, Hold, Next, Object, Stepped};
 
-/// A call of a [`Fair`].
+/// A call of a [`Fair`]. The contract of [`Fair::new`] says what each call asks.
+///
+/// # Examples
+/// ```
+/// 0 Move::Begin(FairCall::Starve) => Outcome::Begun, 0;
+/// 0 Move::Step => Outcome::GoingOn, 0;
+/// 0 Move::Step => answered!(Answer::Granted, 0), 2;
+/// ```
 #[derive(Clone, Copy, Debug, PartialEq, Eq)]
 pub enum FairCall {
-    /// Takes the lock, in as many steps as it needs. Once it has looked at a set flag too often it registers as a starver.
+    /// Acquires the lock, in as many steps as it needs. After too many looks that find the flag set it registers as a
+    /// starver, if the cap allows.
     Lock,
-    /// Takes the lock, or is refused where somebody holds it or starves.
+    /// Tries to acquire the lock. It fails if a party holds it or a starver is registered.
     TryLock,
-    /// The same, and a refusal says which of the two.
+    /// Like `TryLock`, but its answer says which of the two refused it.
     TryLockStarver,
+    /// Answers whether a party holds the lock.
     IsLocked,
-    /// Registers as a starver, or is refused at the cap.
+    /// Tries to register as a starver. It fails only if the cap was reached at some moment of the call.
     Starve,
-    /// A starver takes the lock and is none from then on, or is refused where somebody holds the lock or another party
-    /// starves.
+    /// Tries to acquire the lock as a starver, and ends the registration. It fails if a party holds the lock or another
+    /// starver is registered; the party stays a starver then.
     StarverTryLockFair,
-    /// The same, but it is refused only where somebody holds the lock.
+    /// Like `StarverTryLockFair`, but fails only if a party holds the lock.
     StarverTryLock,
-    /// The same, and it waits.
+    /// Acquires the lock as a starver, in as many steps as it needs, and ends the registration.
     StarverLock,
-    /// A starver is none from then on.
+    /// Ends the registration of a starver.
     StarverDrop,
-    /// Lets go of the lock.
+    /// Releases the lock.
     Release,
 }
 
-/// Which step of its call comes next, with what the party has found so far.
+/// The point of a call: which step comes next, with what the party has found so far.
+///
+/// No example: a world keeps the points of calls, and a schedule names none.
 #[derive(Clone, Copy, Debug, PartialEq, Eq)]
 pub enum FairPoint {
-    /// The only step of a call of one step, and the exchange of the fair try.
+    /// The only step of a one-step call, or the exchange of `StarverTryLockFair`.
     First,
-    /// `Lock` tries to take the lock, after so many looks that found the flag set.
+    /// `Lock` tries to set the flag, after so many looks that found it set.
     Attempt(usize),
     /// `Lock` looks at the flag, after so many looks that found it set. They are not counted past its patience.
     Look(usize),
-    /// It loads the word, to register.
+    /// `Lock` or `Starve` loads the word, to register.
     Load,
-    /// It registers by an exchange of this word, the one that it found.
+    /// `Lock` or `Starve` registers by an exchange of this word, the one that it found.
     Register(usize),
     /// A starver sets the flag.
     SetFlag,
@@ -58,7 +71,13 @@ pub enum FairPoint {
     Unregister,
 }
 
-/// A lock of a flag and a number of starvers, which come before everybody else.
+/// The lock of a flag and a number of starvers, which come before all newcomers.
+///
+/// # Examples
+/// ```
+/// let mut world = world(&rt, rt.alloc(), Fair::new(7, usize::MAX, 0), 1);
+/// plays(&rt, &mut world, LEAKED, &[Place::Gone], 9);
+/// ```
 #[derive(Drop)]
 pub struct Fair<V> {
     value: V,
@@ -67,8 +86,21 @@ pub struct Fair<V> {
 }
 
 impl<V: Copy> Fair<V> {
-    /// A free lock with this value. As many starvers as `cap` may stand at a time, and no more than `fair::MAX_STARVERS`;
-    /// a `Lock` registers once it has made more than `spins` + 1 looks that found the flag set.
+    /// Creates a lock that no party holds, with this value.
+    ///
+    /// At most `cap` starvers may be registered at a time, and at most [`MAX_STARVERS`](fair::MAX_STARVERS). A `Lock`
+    /// registers once more than `spins` + 1 of its looks have found the flag set.
+    ///
+    /// # Contract
+    /// `cap` must not be 0, and `spins` must be below `usize::MAX`. The object has this value, this cap, and a patience
+    /// of `spins` + 1. Its machine is that of such a fair lock (`IsFairLock`): no party holds it or starves at first,
+    /// and each call asks what [`FairCall`] says.
+    ///
+    /// # Examples
+    /// ```
+    /// let mut world = world(&rt, rt.alloc(), Fair::new(0, 1, 1024), 2);
+    /// plays(&rt, &mut world, TAKEN, &places, 0);
+    /// ```
     pub fn new(value: V, cap: usize, spins: usize) -> Fair<V>
         requires somebody { cap ≢ 0 }
         requires counted { spins < 18446744073709551615 }
@@ -83,7 +115,7 @@ impl<V: Copy> Fair<V> {
     }
 }
 
-/// Why `TryLockStarver` is refused.
+/// Returns the refusal of `TryLockStarver`, with its cause.
 fn reject<V: Copy>(word: usize, holds: Option<Hold>) -> Next<FairPoint, Answer<V>>
     requires { word ≢ 0 }
     ensures { result ≡ rejects holds word }
@@ -98,7 +130,7 @@ fn reject<V: Copy>(word: usize, holds: Option<Hold>) -> Next<FairPoint, Answer<V
 }
 
 impl<V: Copy> Fair<V> {
-    /// The look of `Lock`, after so many that found the flag set.
+    /// Returns how `Lock` goes on from a look, after so many that found the flag set.
     fn look(&self, word: usize, looks: usize) -> Next<FairPoint, Answer<V>>
         ensures { result ≡ either (is_set word) (looks_on self.now.patience looks) (GoesOn (Attempt looks)) }
     {
@@ -111,7 +143,7 @@ impl<V: Copy> Fair<V> {
         })
     }
 
-    /// How a call goes on where the starvers are at the cap.
+    /// Returns how a call goes on if the starvers are at the cap.
     fn find_no_room(&self, call: FairCall, holds: Option<Hold>) -> Next<FairPoint, Answer<V>>
         ensures { result ≡ finds_no_room self.now.patience call holds }
     {
@@ -121,7 +153,7 @@ impl<V: Copy> Fair<V> {
         }
     }
 
-    /// How a call goes on where it has found a word to register by.
+    /// Returns how a call goes on from a word that it loaded to register.
     fn go_to_register(
         &self,
         call: FairCall,
@@ -136,7 +168,7 @@ impl<V: Copy> Fair<V> {
         }
     }
 
-    /// The exchange that registers, where the word is still the one that was found.
+    /// Makes the exchange that registers, if the word is still the one that was found.
     fn register(
         &self,
         call: FairCall,
@@ -162,7 +194,7 @@ impl<V: Copy> Fair<V> {
     }
 }
 
-/// How a starver goes on that finds the flag set.
+/// Returns how a starver goes on that finds the flag set.
 fn find_flag_set<V: Copy>(call: FairCall, holds: Option<Hold>) -> Next<FairPoint, Answer<V>>
     ensures { result ≡ finds_flag_set call holds }
 {
@@ -172,7 +204,7 @@ fn find_flag_set<V: Copy>(call: FairCall, holds: Option<Hold>) -> Next<FairPoint
     }
 }
 
-/// The look of a starver at the flag.
+/// Returns how a starver goes on from its look at the flag.
 fn await_clear<V: Copy>(word: usize) -> Next<FairPoint, Answer<V>>
     ensures { result ≡ either (is_set word) (GoesOn Await) (GoesOn SetFlag) }
 {
@@ -183,14 +215,14 @@ fn await_clear<V: Copy>(word: usize) -> Next<FairPoint, Answer<V>>
     })
 }
 
-/// How a call goes on that has got the lock.
+/// Returns the answer of a call that has acquired the lock.
 fn grant<V: Copy>() -> Next<FairPoint, Answer<V>>
     ensures { result ≡ granted }
 {
     Next::Answers(Answer::Granted, Some(Hold::Write))
 }
 
-/// The step of a call of one step, and the first one of the fair try.
+/// Makes the step of a one-step call, or the first one of `StarverTryLockFair`.
 fn step_first<V: Copy>(
     word: usize,
     call: FairCall,

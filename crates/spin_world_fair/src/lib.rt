@@ -1,4 +1,7 @@
 //! `Fair`: the lock of a flag with its starvers, as an object of the world.
+//!
+//! Begin with [`Fair::new`] and [`FairCall`]; [`starvers_come_first`] is the law of its order. The wrong locks in
+//! [`refused`] show what the laws keep out.
 #![tactic(auto)]
 
 mod fair;

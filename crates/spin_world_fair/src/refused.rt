@@ -63,18 +63,19 @@ pub fn a_lock_waits_by_looks<V: Copy>()
     ensures { (value : V) → CountsAll (loads_uncounted value) 2 lock_beside_a_holder → ⊥ }
 {}
 
-/// A `lock` that counts each second look alone, and so registers late: while it finds the lock held each step is a look.
+/// A `lock` that counts each second look alone, and so registers late: while it finds the lock held each step is a
+/// look.
 pub fn a_lock_counts_each_look<V: Copy>()
     ensures { (value : V) → CountsAll (counts_each_second_look value) 2 lock_beside_a_holder → ⊥ }
 {}
 
-/// A `starver_lock` that has set the flag and goes on while another party starves: who has what it asks is answered.
+/// A `starver_lock` that has set the flag and goes on while another party starves: its call has to be answered then.
 pub fn a_starver_that_holds_is_answered<V: Copy>()
     ensures { (value : V) → CountsAll (keeps_the_flag value) 2 lock_beside_a_starver → ⊥ }
 {}
 
 /// A `starver_lock` that has set the flag and leaves the starvers by an exchange, which it makes again for as long as
-/// others come and go in between: it has to be granted by its next step.
+/// others register and leave in between: it has to be granted by its next step.
 pub fn a_starver_leaves_in_one_step<V: Copy>()
     ensures { (value : V) → IsGrantedNext (leaves_by_exchange value) 1 lock_of_a_starver → ⊥ }
 {}
@@ -109,8 +110,8 @@ pub fn a_fair_lock_opens_without_starvers<V: Copy>()
     ensures { (value : V) → KeepsAll (opens_with_a_starver value) 1 [] → ⊥ }
 {}
 
-/// A `lock` that finds the flag clear beside a starver and looks on: by its step after such a look it gets the lock where
-/// it is free.
+/// A `lock` that finds the flag clear beside a starver and looks on: by its step after such a look it gets the lock
+/// where it is free.
 pub fn a_lock_exchanges_where_it_finds_the_flag_clear<V: Copy>()
     ensures { (value : V) → CountsAll (waits_for_starvers value) 3 lock_beside_a_dropped_starver → ⊥ }
 {}
@@ -125,8 +126,8 @@ pub fn a_starver_looks_until_the_flag_is_clear<V: Copy>()
     ensures { (value : V) → CountsAll (spins_by_setting value) 2 two_steps_of_a_starver → ⊥ }
 {}
 
-/// A `lock` that begins its count of looks anew where it has found the flag clear: it registers two steps after a look past
-/// its patience, whatever it found between.
+/// A `lock` that begins its count of looks anew where it has found the flag clear: it registers two steps after a look
+/// past its patience, whatever it found between.
 pub fn a_count_of_looks_survives_a_clear_flag<V: Copy>()
     ensures { (value : V) → CountsAll (counts_anew value) 2 lock_past_a_clear_flag → ⊥ }
 {}
