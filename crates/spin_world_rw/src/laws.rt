@@ -1,4 +1,5 @@
-//! Laws of the read-write lock. Each is the contract of a function that does nothing.
+//! Laws of the read-write lock. Each is the contract of a function that does nothing: a caller calls it for what it
+//! states. Begin with [`readers_stand_beside_no_writer`].
 ghost use Rattle.std.specs.Prelude.{◌≡◌, ◌↔◌, ℕ, List, []};
 ghost use Rattle.spin_world_core.specs.declared.schedule.Move.{Move};
 ghost use Rattle.spin_world_core.specs.Schedules.{after, at_first};
@@ -11,30 +12,31 @@ ghost use Rattle.spin_world_rw.specs.Standing.{StandTogether, Downgrades, Opens,
 use crate::rw::Rw;
 use spin_world_core::Object;
 
-/// Readers stand beside at most one that may upgrade, whether it asks or not, and a writer alone. No more hold than the
-/// cap says.
+/// States that a writer holds the lock alone, and that at most one holder may upgrade, whether it asks to or not. No
+/// more parties hold the lock than its cap allows, and the word is the sum of the holders.
 pub fn readers_stand_beside_no_writer<V: Copy>()
     ensures { (object : Rw V) (n : ℕ) (past : List (ℕ × Move RwCall V)) → let m = ⟦<Rw<V> as Object>⟧.machine object in StandTogether object.cap (after m (at_first m n) past).words (seen_after m (opening m n) past).plain }
 {}
 
-/// The word is zero exactly when nobody holds the lock.
+/// States that the word is zero exactly if no party holds the lock.
 pub fn a_word_is_zero_when_nobody_holds<V: Copy>()
     ensures { (object : Rw V) (n : ℕ) (past : List (ℕ × Move RwCall V)) → let m = ⟦<Rw<V> as Object>⟧.machine object in ((after m (at_first m n) past).words ≡ 0) ↔ ((seen_after m (opening m n) past).plain.holders ≡ []) }
 {}
 
-/// A downgrade is one step. Neither before it nor after it may another party become the writer, and no state is between.
+/// States that a downgrade is one step. Before it and after it no other party may become the writer, and there is no
+/// state between.
 pub fn a_downgrade_keeps_writers_out<V: Copy>()
     ensures { (object : Rw V) (n : ℕ) (past : List (ℕ × Move RwCall V)) → Downgrades (⟦<Rw<V> as Object>⟧.machine object) n past }
 {}
 
-/// While a party asks to upgrade no reader comes, and its upgrade is open exactly when as many readers have gone as
-/// stood beside it when it asked: not before, and then its next step is granted.
+/// States that no reader joins while a party asks to upgrade. Its upgrade is open exactly if all readers that stood
+/// beside it have gone, and its next step is granted exactly then.
 pub fn an_upgrade_opens_by_releases<V: Copy>()
     ensures { (object : Rw V) (n : ℕ) (past further : List (ℕ × Move RwCall V)) → Opens (⟦<Rw<V> as Object>⟧.machine object) n past further }
 {}
 
-/// Two looks of a party find the same value where it neither wrote nor let go between them, whatever it converted its
-/// guard to.
+/// States that two reads of a party find the same value if between them it wrote nothing, and made no call but
+/// conversions of its guard.
 pub fn looks_agree_across_conversions<V: Copy>()
     ensures { (object : Rw V) (n : ℕ) (past : List (ℕ × Move RwCall V)) → ReadsAgreeAcross converts (⟦<Rw<V> as Object>⟧.machine object) n past }
 {}

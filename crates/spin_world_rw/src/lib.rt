@@ -1,4 +1,7 @@
-//! `Rw`: the lock of readers, one of whom may upgrade, and one writer, as an object of the world.
+//! `Rw`: the lock of readers, an upgradable one, and a writer, as an object of the world.
+//!
+//! Begin with [`Rw::new`] and [`RwCall`]; [`readers_stand_beside_no_writer`] says which parties hold it together. The
+//! wrong locks in [`refused`] show what the laws keep out.
 #![tactic(auto)]
 
 mod laws;

@@ -11,21 +11,21 @@ pub fn an_upgrade_is_refused_beside_readers<V: Copy>()
     ensures { (value : V) → KeepsAll (upgrades_at_once value) 2 upgrade_beside_a_reader → ⊥ }
 {}
 
-/// An `upgrade` that asks and is granted in one event while a reader stands, and one that asks twice: the plain step isn't
-/// open to a party that has not asked, or has.
+/// An `upgrade` that asks and is granted in one event while a reader stands, and one that asks twice: the plain step
+/// isn't open to a party that has not asked, or has.
 pub fn an_upgrade_asks_once<V: Copy>()
     ensures unasked { (value : V) → KeepsAll (upgrades_unasked value) 2 ask_beside_a_reader → ⊥ }
     ensures twice { (value : V) → KeepsAll (asks_twice value) 1 two_steps_of_an_upgrade → ⊥ }
 {}
 
-/// An `upgrade` that tries again and again and never asks: its grant has made other steps than an upgrade's, and beside a
-/// reader it has not asked by its first step.
+/// An `upgrade` that tries again and again and never asks: its grant has made other steps than an upgrade's, and beside
+/// a reader it has not asked by its first step.
 pub fn an_upgrade_asks<V: Copy>()
     ensures alone { (value : V) → KeepsAll (upgrades_plainly value) 1 upgrade_alone → ⊥ }
     ensures beside { (value : V) → CountsAll (upgrades_plainly value) 2 ask_beside_a_reader → ⊥ }
 {}
 
-/// A `downgrade` of the writer that leaves the word of a reader that asks: it tells a holder who isn't there.
+/// A `downgrade` of the writer that leaves the word of a reader that asks: it counts a holder that is not there.
 pub fn a_downgrade_asks_nothing<V: Copy>()
     ensures { (value : V) → KeepsAll (downgrades_asking value) 1 downgrade_alone → ⊥ }
 {}
@@ -35,14 +35,14 @@ pub fn a_downgrade_is_one_step<V: Copy>()
     ensures { (value : V) → KeepsAll (downgrades_in_two value) 1 downgrade_alone → ⊥ }
 {}
 
-/// A `try_read` that adds its reader and takes it off again where it had no room. Nobody comes beside a writer, even for
-/// a step; and where its steps read as no plain step, the word tells a reader who isn't there.
+/// A `try_read` that adds its reader and takes it off again where it had no room. No reader joins a writer, even for
+/// a step; and where its steps read as no plain step, the word counts a reader that is not there.
 pub fn a_refused_try_adds_no_reader<V: Copy>()
     ensures seen { (value : V) → KeepsAll (reads_and_regrets value) 2 read_beside_a_writer → ⊥ }
     ensures unseen { (value : V) → KeepsAll (reads_and_regrets_unseen value) 2 read_beside_a_writer → ⊥ }
 {}
 
-/// A `try_read` that looks for the upgradable reader alone, and so comes beside a writer, and beside a reader that asks.
+/// A `try_read` that looks for the upgradable reader alone, and so joins a writer, or a reader that asks.
 pub fn a_reader_stays_out_beside_a_writer<V: Copy>()
     ensures writer { (value : V) → KeepsAll (reads_by_a_mask value) 2 read_beside_a_writer → ⊥ }
     ensures asking { (value : V) → KeepsAll (reads_by_a_mask value) 2 read_beside_an_asking_reader → ⊥ }
@@ -53,12 +53,13 @@ pub fn a_try_write_has_a_cause<V: Copy>()
     ensures { (value : V) → MomentsAll (writes_by_chance value) 1 write_alone → ⊥ }
 {}
 
-/// An `upgrade` that lets go and then comes to write as anybody does: the party never lets go.
+/// An `upgrade` that releases the lock and then acquires it anew: an upgrade never releases it.
 pub fn an_upgrade_never_lets_go<V: Copy>()
     ensures { (value : V) → KeepsAll (upgrades_anew value) 1 upgrade_alone → ⊥ }
 {}
 
-/// A `reader_count` that leaves the upgradable reader out, or only where it asks: so many read at no moment of the call.
+/// A `reader_count` that leaves the upgradable reader out, or only where it asks: so many read at no moment of the
+/// call.
 pub fn a_count_tells_the_upgradable_reader<V: Copy>()
     ensures upgradable { (value : V) → MomentsAll (counts_without_upgradable value) 2 count_beside_an_upgradable → ⊥ }
     ensures asking { (value : V) → MomentsAll (counts_without_asking value) 2 count_beside_an_asking_reader → ⊥ }
@@ -72,12 +73,12 @@ pub fn a_call_that_waits_is_answered<V: Copy>()
     ensures write { (value : V) → CountsAll (looks_first value) 1 one_look → ⊥ }
 {}
 
-/// A `try_read` that looks for ever: it has a limit, whoever disturbs it.
+/// A `try_read` that looks for ever: it has a limit, whatever other parties do.
 pub fn a_try_read_is_answered<V: Copy>()
     ensures { (value : V) → CountsAll (tries_for_ever value) 1 read_alone → ⊥ }
 {}
 
-/// A `try_read` that looks and comes in one event: no processor does so in one step.
+/// A `try_read` that looks and acquires access in one event: no processor does so in one step.
 pub fn a_step_is_one_operation<V: Copy>()
     ensures { (value : V) → Stepwise (reads_in_one value) → ⊥ }
 {}
@@ -113,13 +114,13 @@ pub fn only_the_upgradable_reader_upgrades<V: Copy>()
     ensures { (value : V) → Stepwise (upgrades_any_reader value) → ⊥ }
 {}
 
-/// A `write` that comes to read, and asks so; and one that asks for what nobody is granted in such a lock.
+/// A `write` that acquires shared access, and asks so; and one that asks for what no party is granted in such a lock.
 pub fn a_write_asks_to_write<V: Copy>()
     ensures other { (value : V) → IsRw value 9 (writes_by_reading value) → ⊥ }
     ensures unknown { (value : V) → Stepwise (never_writes value) → ⊥ }
 {}
 
-/// A lock that somebody writes at first.
+/// A lock that has a writer at first.
 pub fn a_lock_opens_free<V: Copy>()
     ensures { (value : V) → KeepsAll (opens_written value) 1 [] → ⊥ }
 {}

@@ -1,4 +1,4 @@
-//! The read-write lock, by its step functions.
+//! The read-write lock, as a table of the steps of its calls. Begin with [`Rw::new`] and [`RwCall`].
 ghost use Rattle.std.specs.Prelude.{◌≡◌, ◌≤◌, ◌==◌, true};
 ghost use Rattle.spin_world_core.specs.Acts.{one_number, becomes, stays, step_by, can_by};
 ghost use Rattle.spin_world_core.specs.declared.object.Next.TheVariants.{Answers};
@@ -9,44 +9,62 @@ ghost use Rattle.spin_world_rw.specs.Named.{IsRw};
 use spin_step::rw;
 use spin_world_core::{Answer, Hold, Next, Object, Stepped};
 
-/// A call of an [`Rw`]. A try that names no cause is refused where what it asks is not open at a moment of the call.
+/// A call of an [`Rw`]. The contract of [`Rw::new`] says what each call asks.
+///
+/// A try fails only if what it asks was not open at some moment of the call; a weak one may also fail without cause.
+///
+/// # Examples
+/// ```
+/// const RW_CALLS: [(&[u8], RwCall); 15] = [
+///     (b"try_read", RwCall::TryRead),
+///     (b"read", RwCall::Read),
+///     (b"try_upgradeable_read", RwCall::TryUpgradeableRead),
+///     (b"upgradeable_read", RwCall::UpgradeableRead),
+///     (b"try_write", RwCall::TryWrite),
+/// ```
 #[derive(Clone, Copy, Debug, PartialEq, Eq)]
 pub enum RwCall {
-    /// Comes to read, or is refused: beside the writer or a reader that asks to upgrade, or where as many hold as may.
+    /// Tries to acquire shared access. It fails beside the writer, beside a reader that asks to upgrade, or at the cap.
     TryRead,
-    /// Comes to read, in as many steps as it needs.
+    /// Acquires shared access, in as many steps as it needs.
     Read,
-    /// Comes to read and may upgrade, or is refused for the same causes, or beside another that may.
+    /// Tries to acquire shared access with the right to upgrade. It also fails beside another party that has this
+    /// right.
     TryUpgradeableRead,
-    /// Comes to read and may upgrade, in as many steps as it needs.
+    /// Acquires shared access with the right to upgrade, in as many steps as it needs.
     UpgradeableRead,
-    /// Comes to write, or is refused beside any holder.
+    /// Tries to acquire exclusive access. It fails beside any holder.
     TryWrite,
-    /// The same by a weak exchange, which may also refuse without cause.
+    /// Like `TryWrite`, but makes a weak exchange, which may also fail without cause.
     TryWriteWeak,
-    /// Comes to write, in as many steps as it needs.
+    /// Acquires exclusive access, in as many steps as it needs.
     Write,
-    /// How many read, the upgradable reader included.
+    /// Counts the readers, the upgradable one included.
     ReaderCount,
-    /// How many write.
+    /// Counts the writers.
     WriterCount,
-    /// The upgradable reader becomes the writer, or is refused beside a reader. Refused, it stays what it is.
+    /// Tries to turn the upgradable reader into the writer. It fails beside a reader, and the party stays upgradable
+    /// then.
     TryUpgrade,
-    /// The same by a weak exchange, which may also refuse without cause.
+    /// Like `TryUpgrade`, but makes a weak exchange, which may also fail without cause.
     TryUpgradeWeak,
-    /// The upgradable reader asks to become the writer, and becomes it in as many steps as it needs.
+    /// Asks to turn the upgradable reader into the writer, and does so in as many steps as it needs.
     Upgrade,
-    /// The writer or the upgradable reader becomes a reader, in one step.
+    /// Turns the writer or the upgradable reader into a reader, in one step.
     Downgrade,
-    /// The writer becomes the upgradable reader, in one step.
+    /// Turns the writer into the upgradable reader, in one step.
     DowngradeToUpgradeable,
-    /// Lets go of the lock, whatever the party holds.
+    /// Releases the lock, whatever the party holds.
     Release,
 }
 
-/// Which step of its call comes next. Only a call that comes to read, or that waits to upgrade, has a second one.
+/// The point of a call: which step comes next. Only a call that acquires shared access, or that waits to upgrade, has a
+/// second one.
+///
+/// No example: a world keeps the points of calls, and a schedule names none.
 #[derive(Clone, Copy, Debug, PartialEq, Eq)]
 pub enum RwPoint {
+    /// The first step of any call.
     First,
     /// The exchange of this word, which the call has found.
     Exchange(usize),
@@ -54,7 +72,12 @@ pub enum RwPoint {
     Asking,
 }
 
-/// A lock of readers, one upgradable reader and one writer, in one word.
+/// The lock of readers, one upgradable reader and one writer, in one word.
+///
+/// # Examples
+/// ```
+/// Header::Rw { .. } => try_schedule::<Rw<u64>>(rt, alloc, trial, opening, lines),
+/// ```
 #[derive(Drop)]
 pub struct Rw<V> {
     value: V,
@@ -62,8 +85,24 @@ pub struct Rw<V> {
 }
 
 impl<V: Copy> Rw<V> {
-    /// A free lock with this value. As many may read at a time as the cap says, and at most
-    /// [`MAX_READERS`](rw::MAX_READERS), the upgradable reader included.
+    /// Creates a lock that no party holds, with this value.
+    ///
+    /// At most `cap` parties may read at a time, and at most [`MAX_READERS`](rw::MAX_READERS), the upgradable reader
+    /// included.
+    ///
+    /// # Contract
+    /// `cap` must be at least 1. The object has this value and this cap. Its machine is that of such a read-write lock
+    /// (`IsRw`): it opens free, and each call asks what [`RwCall`] says.
+    ///
+    /// # Examples
+    /// ```
+    /// fn of_header(header: Header) -> Option<Rw<u64>> {
+    ///     match header {
+    ///         Header::Rw { value, cap, .. } if cap >= 1 => Some(Rw::new(value, cap)),
+    ///         _ => None,
+    ///     }
+    /// }
+    /// ```
     pub fn new(value: V, cap: usize) -> Rw<V>
         requires some { 1 ≤ cap }
         ensures fields { result ≡ record { value = value; cap = cap } }
@@ -73,7 +112,8 @@ impl<V: Copy> Rw<V> {
     }
 }
 
-/// A step that puts the new word in its place where there is one: the party then holds the lock so.
+/// Makes a step that stores the new word if there is one. The party then holds the lock so; else the call goes on by
+/// `lost`.
 fn exchange<V: Copy>(
     words: usize,
     to: Option<usize>,
@@ -85,7 +125,8 @@ fn exchange<V: Copy>(
     Stepped::exchange(words, to, Next::Answers(Answer::Granted, Some(hold)), lost)
 }
 
-/// A step of a call that comes to read. `to`: the word with the party, where the word that it finds lets it in.
+/// Makes a step of a call that acquires shared access. `to` is the word with the party, if the word that it finds lets
+/// it in.
 fn come<V: Copy>(
     point: RwPoint,
     words: usize,
@@ -102,7 +143,7 @@ fn come<V: Copy>(
     }
 }
 
-/// A step that puts this word in its place, after which the party holds the lock so, or no more.
+/// Stores this word, after which the party holds the lock so, or no more.
 fn done<V: Copy>(words: usize, holds: Option<Hold>) -> Stepped<usize, V, RwPoint, Answer<V>>
     ensures { result ≡ stays words (Answers Done holds) }
 {
