@@ -1,4 +1,7 @@
 //! `OnceObject`: the cell that one closure fills, as an object of the world.
+//!
+//! Begin with [`OnceObject::new`] and [`OnceCall`]; [`a_value_stays`] is the first of its laws. The wrong cells in
+//! [`refused`] show what the laws keep out.
 #![tactic(auto)]
 
 mod laws;

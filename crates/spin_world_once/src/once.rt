@@ -1,4 +1,4 @@
-//! The once-only cell, by its step functions.
+//! The once-only cell, as a table of the steps of its calls. Begin with [`OnceObject::new`] and [`OnceCall`].
 ghost use Rattle.std.specs.Prelude.{◌≡◌, Some, None, true};
 ghost use Rattle.spin_world_core.specs.Acts.{one_number, either, step_by, can_by, completes_by, filled, step_with};
 ghost use Rattle.spin_world_once.specs.Once.{is_there, tells, runs, ends, brings_of, act_of, once_machine};
@@ -7,30 +7,40 @@ ghost use Rattle.spin_world_once.specs.Named.{IsOnceOf};
 use spin_step::once;
 use spin_world_core::{Answer, Hold, Next, Object, Stepped};
 
-/// A call of a [`OnceObject`].
+/// A call of a [`OnceObject`]. The contract of [`OnceObject::new`] says what each call asks.
 ///
-/// A call with a closure runs it where no value is there and no other closure runs, and waits while another one runs.
-/// Where a value is there it answers that one.
+/// If there is a value, a call with a closure answers that one. If there is none, the call runs its closure, but waits
+/// while another closure runs.
+///
+/// # Examples
+/// ```
+/// 0 Move::OwnerSet(4) => Outcome::Written, 2;
+/// 0 Move::Begin(OnceCall::Get) => Outcome::Begun, 2;
+/// 0 Move::Step => answered!(Answer::Value(4), 1), 2;
+/// ```
 #[derive(Clone, Copy, Debug, PartialEq, Eq)]
 pub enum OnceCall<V> {
-    /// The closure gives this value.
+    /// Runs a closure that gives this value.
     CallOnce(V),
-    /// The closure may fail, and gives this value.
+    /// Runs a closure that may fail, and gives this value.
     TryCallOnceOk(V),
-    /// The closure fails.
+    /// Runs a closure that fails.
     TryCallOnceErr,
-    /// The closure copies this value.
+    /// Runs a closure that copies this value.
     InitFromRef(V),
     /// Waits for the value.
     Wait,
-    /// The value, or none where no closure runs; waits while one runs.
+    /// Answers the value, or that there is none. While a closure runs it waits.
     Poll,
-    /// The value, or none.
+    /// Answers the value, or that there is none, without waiting.
     Get,
+    /// Answers whether there is a value.
     IsCompleted,
 }
 
-/// Which step of its call comes next.
+/// The point of a call: which step comes next.
+///
+/// No example: a world keeps the points of calls, and a schedule names none.
 #[derive(Clone, Copy, Debug, PartialEq, Eq)]
 pub enum OncePoint {
     /// Every call's first look.
@@ -43,16 +53,35 @@ pub enum OncePoint {
     Run,
 }
 
-/// A cell that is filled once, by the closure of the first call whose closure gives a value.
+/// The cell that is filled once, by the first closure that gives a value.
 ///
 /// Its word is 0 while there is nothing, 1 while a closure runs, and 2 once there is a value.
+///
+/// # Examples
+/// ```
+/// Header::Once { .. } => try_schedule::<OnceObject<u64>>(rt, alloc, trial, opening, lines),
+/// ```
 #[derive(Drop)]
 pub struct OnceObject<V> {
     value: Option<V>,
 }
 
 impl<V: Copy> OnceObject<V> {
-    /// There is nothing yet.
+    /// Creates a cell without a value.
+    ///
+    /// # Contract
+    /// The object has no value. Its machine is that of a `Once` that was made with none (`IsOnceOf`): its word is 0,
+    /// and each call asks what [`OnceCall`] says.
+    ///
+    /// # Examples
+    /// ```
+    /// fn of_header(header: Header) -> Option<OnceObject<u64>> {
+    ///     match header {
+    ///         Header::Once { .. } => Some(OnceObject::new()),
+    ///         _ => None,
+    ///     }
+    /// }
+    /// ```
     pub fn new() -> OnceObject<V>
         ensures fields { result ≡ record { value = None } }
         ensures named { IsOnceOf None (⟦<OnceObject<V> as Object>⟧.machine result) }
@@ -60,7 +89,17 @@ impl<V: Copy> OnceObject<V> {
         OnceObject { value: None }
     }
 
-    /// There is this value from the start.
+    /// Creates a cell that has this value from the start.
+    ///
+    /// # Contract
+    /// The object has this value. Its machine is that of a `Once` that was made with it (`IsOnceOf`): its word is 2,
+    /// and each call asks what [`OnceCall`] says.
+    ///
+    /// # Examples
+    /// ```
+    /// let mut world = world(&rt, rt.alloc(), OnceObject::initialized(9), 1);
+    /// plays(&rt, &mut world, REPLACED, &[Place::Idle], 4);
+    /// ```
     pub fn initialized(value: V) -> OnceObject<V>
         ensures fields { result ≡ record { value = Some value } }
         ensures named { IsOnceOf (Some value) (⟦<OnceObject<V> as Object>⟧.machine result) }
@@ -69,7 +108,7 @@ impl<V: Copy> OnceObject<V> {
     }
 }
 
-/// The answer that is the value.
+/// Returns the answer that is the value.
 fn tell<V: Copy>(value: Option<V>, holds: Option<Hold>) -> Next<OncePoint, Answer<V>>
     ensures { result ≡ filled value (tells holds) }
 {
@@ -79,7 +118,7 @@ fn tell<V: Copy>(value: Option<V>, holds: Option<Hold>) -> Next<OncePoint, Answe
     }
 }
 
-/// A look at the word, and at the value where there is one. `other`: how the call goes on else.
+/// Looks at the word, and at the value if there is one. If there is none, the call goes on by `other`.
 fn look<V: Copy>(
     words: u8,
     value: Option<V>,
@@ -95,7 +134,7 @@ fn look<V: Copy>(
     }
 }
 
-/// A step of a call with a closure, which gives the value `made`, or fails where that is `None`.
+/// Makes a step of a call with a closure, which gives the value `made`, or fails if that is `None`.
 fn run<V: Copy>(
     words: u8,
     value: Option<V>,

@@ -48,7 +48,7 @@ pub fn a_value_is_the_closures_own<V: Copy>()
     ensures { (u v : V) → (u ≡ v → ⊥) → ValuesAll (places_another v) 1 (one_closure u) → ⊥ }
 {}
 
-/// A closure that never ends: who runs it has only to be answered.
+/// A closure that never ends: the party that runs it has only to be answered.
 pub fn a_closure_ends<V: Copy>()
     ensures { (v : V) → CountsAll (runs_on V) 1 (six_steps v) → ⊥ }
 {}
@@ -88,8 +88,8 @@ pub fn a_cell_with_a_value_opens_complete<V: Copy>()
     ensures { (v : V) → KeepsAll (opens_at_nothing v) 1 [] → ⊥ }
 {}
 
-/// A call that waits for a closure which fails, and then looks twice before it runs its own: where there is nothing it does
-/// so by its second step.
+/// A call that waits for a closure which fails, and then looks twice before it runs its own: where there is nothing it
+/// does so by its second step.
 pub fn a_waiting_call_takes_over<V: Copy>()
     ensures { (v : V) → MayRunAgain (hesitates V) 2 (a_failure_beside_a_call v) → ⊥ }
 {}
