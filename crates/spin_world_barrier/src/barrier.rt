@@ -1,4 +1,4 @@
-//! The barrier, by its step functions.
+//! The barrier, as a table of the steps of its call. Begin with [`BarrierObject::new`] and [`BarrierCall`].
 ghost use Rattle.std.specs.Prelude.{◌≡◌, true};
 ghost use Rattle.spin_world_core.specs.Acts.{step_by, can_by};
 ghost use Rattle.spin_world_barrier.specs.Barrier.{barrier_memory, word_of, act_of, barrier_machine};
@@ -8,41 +8,75 @@ use spin_step::barrier;
 use spin_step::barrier::State;
 use spin_world_core::{Answer, Hold, Next, Object, Stepped};
 
-/// The words of a [`BarrierObject`].
+/// The two words of a [`BarrierObject`].
+///
+/// # Examples
+/// ```
+/// fn numbers(words: BarrierWords) -> (u64, Option<u64>) {
+///     (words.count as u64, Some(words.generation as u64))
+/// }
+/// ```
 #[derive(Clone, Copy, Debug, PartialEq, Eq)]
 pub struct BarrierWords {
-    /// How many have arrived of the group that gathers.
+    /// How many parties of the group that gathers have arrived.
     pub count: usize,
-    /// How many groups have been filled. It wraps.
+    /// How many groups were filled. It wraps.
     pub generation: usize,
 }
 
-/// A call of a [`BarrierObject`].
+/// A call of a [`BarrierObject`]. The contract of [`BarrierObject::new`] says what it asks.
+///
+/// # Examples
+/// ```
+/// const BARRIER_CALLS: [(&[u8], BarrierCall); 1] = [(b"wait", BarrierCall::Wait)];
+/// ```
 #[derive(Clone, Copy, Debug, PartialEq, Eq)]
 pub enum BarrierCall {
-    /// Arrives, and goes on until the group of this arrival is full. The last arrival of a group leads, and goes on at
-    /// once.
+    /// Arrives, and waits until the group of this arrival is full. The last arrival of a group leads, and does not
+    /// wait.
     Wait,
 }
 
-/// Which step of its call comes next.
+/// The point of a call: which step comes next.
+///
+/// No example: a world keeps the points of calls, and a schedule names none.
 #[derive(Clone, Copy, Debug, PartialEq, Eq)]
 pub enum BarrierPoint {
-    /// It arrives.
+    /// The call arrives.
     Arrive,
-    /// It looks whether its group is full. It found this generation with its arrival.
+    /// The call looks whether its group is full. It found this generation as it arrived.
     Leave(usize),
 }
 
-/// A barrier: parties arrive, and go on in groups. It has no value and no owner. `u64` is the type of the numbers that a
-/// schedule gives to its writes, none of which is open.
+/// The barrier of groups: parties arrive, and leave when their group is full.
+///
+/// It has no value and no owner. A schedule's writes are of type `u64` here, and none of them is open.
+///
+/// # Examples
+/// ```
+/// Header::Barrier { .. } => try_schedule::<BarrierObject>(rt, alloc, trial, opening, lines),
+/// ```
 #[derive(Drop)]
 pub struct BarrierObject {
     n: usize,
 }
 
 impl BarrierObject {
-    /// A barrier whose groups have `n` arrivals; 0 counts as 1.
+    /// Creates a barrier for groups of `n` parties, at which no party has arrived. 0 counts as 1.
+    ///
+    /// # Contract
+    /// The object has this `n`. Its machine is that of a barrier with groups of `n` (`IsBarrierOf`): no group has been
+    /// filled, and [`BarrierCall`] says what its call asks.
+    ///
+    /// # Examples
+    /// ```
+    /// fn of_header(header: Header) -> Option<BarrierObject> {
+    ///     match header {
+    ///         Header::Barrier { n, .. } => Some(BarrierObject::new(n)),
+    ///         _ => None,
+    ///     }
+    /// }
+    /// ```
     pub fn new(n: usize) -> BarrierObject
         ensures fields { result ≡ record { n = n } }
         ensures named { IsBarrierOf n (⟦<BarrierObject as Object>⟧.machine result) }

@@ -1,4 +1,5 @@
-//! Laws of the barrier. Each is the contract of a function that does nothing.
+//! Laws of the barrier. Each is the contract of a function that does nothing: a caller calls it for what it states.
+//! Begin with [`every_last_of_a_group_leads`].
 ghost use Rattle.std.specs.Prelude.{ℕ, List};
 ghost use Rattle.spin_world_barrier.specs.declared.barrier.BarrierObject.{BarrierObject};
 ghost use Rattle.spin_world_barrier.specs.Groups.{Entries, InGroups, FollowersLeave};
@@ -6,12 +7,16 @@ ghost use Rattle.spin_world_barrier.specs.Groups.{Entries, InGroups, FollowersLe
 use crate::barrier::BarrierObject;
 use spin_world_core::Object;
 
-/// Exactly every `n`-th arrival leads, and is told so as it arrives; the words count the arrivals in groups of `n`.
+/// States that exactly the last arrival of each group leads, and is told so as it arrives. The words count the arrivals
+/// in groups of `n`, and the groups modulo 2^64.
 pub fn every_last_of_a_group_leads()
     ensures { (object : BarrierObject) (parties : ℕ) (past : Entries) → InGroups (⟦<BarrierObject as Object>⟧.machine object) object.n parties past }
 {}
 
-/// Whoever follows goes on by its first step after its group is full, however many have arrived since.
+/// States that a follower leaves by its first step after its group is full, and not before, however many parties have
+/// arrived since.
+///
+/// Groups are counted in 64 bits. A follower that steps only after a multiple of 2^64 groups waits on.
 pub fn a_follower_leaves_a_full_group()
     ensures { (object : BarrierObject) (parties : ℕ) (past : Entries) → FollowersLeave (⟦<BarrierObject as Object>⟧.machine object) parties past }
 {}

@@ -1,4 +1,7 @@
 //! `BarrierObject`: the barrier of groups, as an object of the world.
+//!
+//! Begin with [`BarrierObject::new`] and [`BarrierCall`]; [`every_last_of_a_group_leads`] is the first of its laws. The
+//! wrong barriers in [`refused`] show what the laws keep out.
 #![tactic(auto)]
 
 mod barrier;

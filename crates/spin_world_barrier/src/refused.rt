@@ -20,7 +20,7 @@ pub fn the_last_of_a_group_is_no_follower()
     ensures { MomentsAll nobody_leads 2 one_group → ⊥ }
 {}
 
-/// A leader that waits for the next group: who fills a group has only to be answered.
+/// A leader that waits for the next group: a party that fills a group has only to be answered.
 pub fn a_leader_waits_for_nobody()
     ensures { CountsAll leads_late 1 five_steps → ⊥ }
 {}
@@ -60,7 +60,7 @@ pub fn a_group_has_the_size_asked_for()
     ensures { IsBarrierOf 2 gathers_three → ⊥ }
 {}
 
-/// A follower that leaves only while the next group gathers: one that comes too late for that would wait for good.
+/// A follower that leaves only while the next group gathers: one that is too late for that would wait for good.
 pub fn a_follower_leaves_after_later_groups()
     ensures { FollowersLeave leaves_in_the_next 4 two_groups → ⊥ }
 {}
