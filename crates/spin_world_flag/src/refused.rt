@@ -5,7 +5,8 @@ ghost use Rattle.spin_world_core.specs.Operations.{Stepwise};
 ghost use Rattle.spin_world_core.specs.Runs.{KeepsAll};
 ghost use Rattle.spin_world_flag.specs.Wrong.{never_looks, lock_beside_a_holder, refuses_at_its_look, looks_first, lock_alone, looks_for_ever, two_looks, tries_by_chance, one_try, looks_by_chance, look_beside_a_holder, never_releases, locks_to_read, opens_set, grants_to_read, whole_try};
 
-/// A flag's `lock` that never tries again after its first refusal: undisturbed it has to be answered by its second step.
+/// A flag's `lock` that never tries again after its first refusal: undisturbed it has to be answered by its second
+/// step.
 pub fn a_lock_tries_again<V: Copy>()
     ensures { (value : V) → CountsAll (looks_for_ever value) 2 two_looks → ⊥ }
 {}
@@ -40,8 +41,8 @@ pub fn a_lock_begins_by_its_exchange<V: Copy>()
     ensures { (value : V) → CountsAll (looks_first value) 1 lock_alone → ⊥ }
 {}
 
-/// A `lock` that may be refused without cause at its look: where the number lies there that an exchange expects, it would
-/// make its plain step.
+/// A `lock` that may be refused without cause at its look: where the number lies there that an exchange expects, it
+/// would make its plain step.
 pub fn a_look_refuses_by_no_chance<V: Copy>()
     ensures { (value : V) → Stepwise (refuses_at_its_look value) → ⊥ }
 {}

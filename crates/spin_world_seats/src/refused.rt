@@ -71,7 +71,8 @@ pub fn a_count_tells_who_sits()
     ensures { MomentsAll counts_free 1 count_alone → ⊥ }
 {}
 
-/// An `enter` that looks again and again, and a kind of lock with a thousand undisturbed steps: in no kind are there more than four.
+/// An `enter` that looks again and again, and a kind of lock with a thousand undisturbed steps: in no kind are there
+/// more than four.
 pub fn a_kind_of_lock_has_four_steps()
     ensures { CountsAll looks_on 1 enter_in_vain → ⊥ }
 {}

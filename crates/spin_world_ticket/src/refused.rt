@@ -11,7 +11,8 @@ pub fn a_look_loads_the_served_number_first<V: Copy>()
     ensures { (value : V) → MomentsAll (looks_backwards value) 3 look_beside_a_queue → ⊥ }
 {}
 
-/// A `lock` of a ticket lock that takes its ticket only where none stands: it has to have its ticket by its second step.
+/// A `lock` of a ticket lock that takes its ticket only where none stands: it has to have its ticket by its second
+/// step.
 pub fn a_lock_queues_behind_others<V: Copy>()
     ensures { (value : V) → CountsAll (queues_behind_nobody value) 2 lock_beside_a_holder → ⊥ }
 {}
@@ -71,7 +72,8 @@ pub fn the_last_ticket_is_taken<V: Copy>()
     ensures { (value : V) → MomentsAll (leaves_the_last_ticket value) 1 try_alone → ⊥ }
 {}
 
-/// A `try_lock` that takes the number that it finds served, by two steps; and one that loads that number before the next.
+/// A `try_lock` that takes the number that it finds served, by two steps; and one that loads that number before the
+/// next.
 pub fn a_try_loads_the_next_number_first<V: Copy>()
     ensures hurries { (value : V) → TriesByTwoLoads (tries_by_one_load value) 1 one_load → ⊥ }
     ensures swaps { (value : V) → TriesByTwoLoads (swaps_its_loads value) 2 let_go_between → ⊥ }
