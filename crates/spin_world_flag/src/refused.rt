@@ -1,4 +1,5 @@
-//! Wrong flags, each with a law that it breaks on a schedule that is named. They show what the laws keep out.
+//! Wrong flags, each with a law that it breaks, most on a named schedule. They show what the laws keep out. Begin with
+//! [`a_lock_tries_again`].
 ghost use Rattle.std.specs.Prelude.{◌≡◌, []};
 ghost use Rattle.spin_world_core.specs.Runs.{MomentsAll, CountsAll};
 ghost use Rattle.spin_world_core.specs.Operations.{Stepwise};
