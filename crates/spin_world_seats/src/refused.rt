@@ -1,4 +1,5 @@
-//! Wrong locks of seats, each with a law that it breaks. They show what the laws keep out.
+//! Wrong locks of seats, each with a law that it breaks, most on a named schedule. They show what the laws keep out.
+//! Begin with [`nobody_sits_beyond_the_seats`].
 ghost use Rattle.std.specs.Prelude.{◌≡◌, []};
 ghost use Rattle.spin_world_core.specs.Operations.{Stepwise};
 ghost use Rattle.spin_world_core.specs.Runs.{KeepsAll, CountsAll, MomentsAll};
