@@ -1,4 +1,5 @@
-//! Wrong fair locks, each with a law that it breaks on a schedule that is named. They show what the laws keep out.
+//! Wrong fair locks, each with a law that it breaks, most on a named schedule. They show what the laws keep out. Begin
+//! with [`a_newcomer_yields_to_starvers`].
 ghost use Rattle.std.specs.Prelude.{◌≡◌, []};
 ghost use Rattle.spin_world_core.specs.Operations.{Stepwise};
 ghost use Rattle.spin_world_core.specs.Runs.{KeepsAll, MomentsAll, CountsAll};
@@ -74,8 +75,8 @@ pub fn a_starver_that_holds_is_answered<V: Copy>()
     ensures { (value : V) → CountsAll (keeps_the_flag value) 2 lock_beside_a_starver → ⊥ }
 {}
 
-/// A `starver_lock` that has set the flag and leaves the starvers by an exchange, which it makes again for as long as
-/// others register and leave in between: it has to be granted by its next step.
+/// A `starver_lock` that has set the flag and leaves the starvers by an exchange, again and again while others register
+/// and leave: it has to be granted by its next step.
 pub fn a_starver_leaves_in_one_step<V: Copy>()
     ensures { (value : V) → IsGrantedNext (leaves_by_exchange value) 1 lock_of_a_starver → ⊥ }
 {}
