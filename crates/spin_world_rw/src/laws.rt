@@ -35,8 +35,8 @@ pub fn an_upgrade_opens_by_releases<V: Copy>()
     ensures { (object : Rw V) (n : ℕ) (past further : List (ℕ × Move RwCall V)) → Opens (⟦<Rw<V> as Object>⟧.machine object) n past further }
 {}
 
-/// States that two reads of a party find the same value if between them it wrote nothing, and made no call but
-/// conversions of its guard.
+/// States that two reads of a party agree if between them it wrote nothing, and made no call but conversions of its
+/// guard.
 pub fn looks_agree_across_conversions<V: Copy>()
     ensures { (object : Rw V) (n : ℕ) (past : List (ℕ × Move RwCall V)) → ReadsAgreeAcross converts (⟦<Rw<V> as Object>⟧.machine object) n past }
 {}

@@ -1,4 +1,5 @@
-//! Wrong read-write locks, each with a law that it breaks. They show what the laws keep out.
+//! Wrong read-write locks, each with a law that it breaks, most on a named schedule. They show what the laws keep out.
+//! Begin with [`an_upgrade_is_refused_beside_readers`].
 ghost use Rattle.std.specs.Prelude.{◌≡◌, []};
 ghost use Rattle.spin_world_core.specs.Operations.{Stepwise};
 ghost use Rattle.spin_world_core.specs.Runs.{KeepsAll, MomentsAll, CountsAll};

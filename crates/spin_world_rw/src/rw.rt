@@ -15,12 +15,11 @@ use spin_world_core::{Answer, Hold, Next, Object, Stepped};
 ///
 /// # Examples
 /// ```
-/// const RW_CALLS: [(&[u8], RwCall); 15] = [
-///     (b"try_read", RwCall::TryRead),
-///     (b"read", RwCall::Read),
-///     (b"try_upgradeable_read", RwCall::TryUpgradeableRead),
-///     (b"upgradeable_read", RwCall::UpgradeableRead),
-///     (b"try_write", RwCall::TryWrite),
+/// (b"try_read", RwCall::TryRead),
+/// (b"read", RwCall::Read),
+/// (b"try_upgradeable_read", RwCall::TryUpgradeableRead),
+/// (b"upgradeable_read", RwCall::UpgradeableRead),
+/// (b"try_write", RwCall::TryWrite),
 /// ```
 #[derive(Clone, Copy, Debug, PartialEq, Eq)]
 pub enum RwCall {
