@@ -7,8 +7,8 @@ ghost use Rattle.spin_world_once.specs.Keeping.{Entries, ValueStays, OneRuns, An
 use crate::once::OnceObject;
 use spin_world_core::Object;
 
-/// States that a cell has a value exactly if its phase is complete, and that it keeps this value while its owner does
-/// not replace it.
+/// States that a cell has a value exactly if its phase is complete, and keeps this value while its owner does not
+/// replace it.
 pub fn a_value_stays<V: Copy>()
     ensures { (object : OnceObject V) (n : ℕ) (past further : Entries V) → ValueStays (⟦<OnceObject<V> as Object>⟧.machine object) n past further }
 {}
