@@ -1,4 +1,5 @@
-//! Wrong barriers, each with a law that it breaks, most on a schedule that is named. They show what the laws keep out.
+//! Wrong barriers, each with a law that it breaks, most on a named schedule. They show what the laws keep out. Begin
+//! with [`the_first_of_a_group_follows`].
 ghost use Rattle.spin_world_core.specs.Operations.{Stepwise};
 ghost use Rattle.spin_world_core.specs.Runs.{KeepsAll, MomentsAll, CountsAll};
 ghost use Rattle.spin_world_barrier.specs.Groups.{InGroups, FollowersLeave};
