@@ -40,7 +40,7 @@ pub enum FlagCall {
 /// No example: a world keeps the points of calls, and a schedule names none.
 #[derive(Clone, Copy, Debug, PartialEq, Eq)]
 pub enum FlagPoint {
-    /// The first step of any call.
+    /// The first step of any call, and of each further attempt.
     First,
     /// The look of `Lock` at the flag, after its exchange has failed.
     Second,

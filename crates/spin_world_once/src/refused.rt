@@ -1,4 +1,4 @@
-//! Wrong cells, each with a law that it breaks, many on a named schedule. They show what the laws keep out. Begin with
+//! Wrong cells, each with a law that it breaks, most on a named schedule. They show what the laws keep out. Begin with
 //! [`a_second_closure_does_not_run`].
 ghost use Rattle.std.specs.Prelude.{◌≡◌, Some, None, []};
 ghost use Rattle.spin_world_core.specs.Operations.{Stepwise};

@@ -63,7 +63,7 @@ pub enum RwCall {
 /// No example: a world keeps the points of calls, and a schedule names none.
 #[derive(Clone, Copy, Debug, PartialEq, Eq)]
 pub enum RwPoint {
-    /// The first step of any call.
+    /// The first step of any call, and of each further attempt.
     First,
     /// The exchange of this word, which the call has found.
     Exchange(usize),

@@ -33,7 +33,7 @@ pub enum SeatsCall {
 /// No example: a world keeps the points of calls, and a schedule names none.
 #[derive(Clone, Copy, Debug, PartialEq, Eq)]
 pub enum SeatsPoint {
-    /// The first step of any call.
+    /// The first step of any call, and of each further attempt.
     First,
     /// The exchange of this word, which the call has found.
     Exchange(usize),
