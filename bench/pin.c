@@ -1,0 +1,44 @@
+/* For LD_PRELOAD: gives each thread that a process starts a processor of its own.
+   PIN lists the processors, with a comma behind each. The threads take them in turn, as they are started. A round of a
+   benchmark starts as many threads as the list has processors, and none of them ends before all have begun. */
+#define _GNU_SOURCE
+#include <dlfcn.h>
+#include <pthread.h>
+#include <sched.h>
+#include <stdlib.h>
+
+/* The processor of the thread of this number, counted from 0. A process without processors to pin to ends. */
+static int processor_of(unsigned long thread)
+{
+    const char *all = getenv("PIN"), *rest = all;
+    char *end;
+    int processor = -1;
+
+    for (unsigned long at = 0; rest != NULL && at <= thread; at += 1) {
+        rest = *rest == '\0' ? all : rest;
+        processor = (int)strtol(rest, &end, 10);
+        if (end == rest || *end != ',')
+            abort();
+        rest = end + 1;
+    }
+    if (processor < 0 || processor >= CPU_SETSIZE)
+        abort();
+    return processor;
+}
+
+int pthread_create(pthread_t *thread, const pthread_attr_t *attributes, void *(*run)(void *), void *argument)
+{
+    static unsigned long started;
+    int (*next)(pthread_t *, const pthread_attr_t *, void *(*)(void *), void *) = dlsym(RTLD_NEXT, "pthread_create");
+    int error = next(thread, attributes, run, argument);
+    cpu_set_t own;
+
+    if (error != 0)
+        return error;
+    CPU_ZERO(&own);
+    CPU_SET(processor_of(started), &own);
+    started += 1;
+    if (pthread_setaffinity_np(*thread, sizeof own, &own) != 0)
+        abort();
+    return 0;
+}
