@@ -64,6 +64,8 @@ impl Display for Fault {
 }
 
 /// Runs a program that plays the schedule on standard input, if its word asks for that.
+///
+/// A stream that is closed from the start is to `std` an empty one, or one that takes everything.
 pub fn run<P>(play: P) -> ExitCode
 where
     P: FnOnce(&mut dyn BufRead, &mut dyn Write) -> Result<(), Fault>,
