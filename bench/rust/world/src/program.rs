@@ -6,9 +6,6 @@ use std::fmt::{self, Display, Formatter};
 use std::io::{self, BufRead, ErrorKind, Write};
 use std::process::ExitCode;
 
-/// Room for the longest line of the output: five numbers, and the words between them.
-pub const LONGEST_LINE: usize = 160;
-
 /// Why a run does not end well.
 pub enum Fault {
     /// The words are not those of the command.

@@ -8,7 +8,7 @@ use std::process::ExitCode;
 
 use spin_world_rust::entry::Entry;
 use spin_world_rust::object::{self, Object, Opening, Player};
-use spin_world_rust::program::{self, Fault, LONGEST_LINE};
+use spin_world_rust::program::{self, Fault};
 use spin_world_rust::world::World;
 
 /// How many bytes are read at a time.
@@ -52,10 +52,10 @@ impl<R: BufRead> Player for &mut Lines<R> {
         while let Some(line) = self.next_line()? {
             number += 1;
             let entry = Entry::<O>::read(line).ok_or(Fault::BadLine(number))?;
-            text.try_reserve(LONGEST_LINE)?;
+            text.try_reserve(text::LONGEST_LINE)?;
             text::push_event(&mut text, &world.play(entry));
         }
-        text.try_reserve(LONGEST_LINE)?;
+        text.try_reserve(text::LONGEST_LINE)?;
         text::push_end(&mut text, &world.end());
         Ok(text)
     }

@@ -2,6 +2,9 @@
 
 use spin_world_rust::event::{Answer, End, Event, Numbers, Outcome};
 
+/// Room for the longest line: up to six numbers, and the words between them.
+pub const LONGEST_LINE: usize = 160;
+
 /// Puts the line of an event behind the text.
 pub fn push_event(text: &mut Vec<u8>, event: &Event) {
     push_number(text, event.line);
