@@ -1,2 +1,3 @@
 pub mod Transfers
 pub mod Lines
+pub mod Logged

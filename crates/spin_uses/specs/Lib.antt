@@ -2,3 +2,4 @@ pub mod Phases
 pub mod Ledger
 pub mod Settings
 pub mod SharedSettings
+pub mod Logged

@@ -10,6 +10,7 @@ use std::alloc::{AllocError, Allocator, Global};
 use std::hash::Hash;
 use std::sync::Wait;
 
+pub mod logged;
 mod table;
 
 /// The answers that may be given for a key.

@@ -1,14 +1,17 @@
 //! Callers of one cache, alone and in threads.
-ghost use Rattle.std.specs.Prelude.{◌≡◌, ◌==◌, ◌*◌, ◌%◌, ◌^◌, map, string_bytes, IfOk};
+ghost use Rattle.std.specs.Prelude.{◌≡◌, ◌==◌, ◌*◌, ◌%◌, ◌^◌, true, map, string_bytes, IfOk};
 ghost use Rattle.std.specs.Char.{to_ascii_uppercase};
 ghost use Rattle.std.specs.Str.{bytes_eq};
 ghost use Rattle.std.proofs.Common.{rules};
 
 use super::equal::equal;
 use spin_core::relax::Yield;
+use spin_history::history::{BlankLog, History, Snapshot};
+use spin_uses::cache::logged::LoggedCache;
 use spin_uses::cache::{Answers, Cache};
 use std::alloc::{AllocError, Global};
 use std::cell::Cell;
+use std::marker::Brand;
 use std::process::Abort;
 use std::sync::Wait;
 use std::thread::{Threads, join};
@@ -164,4 +167,71 @@ fn an_answer_that_is_refused_is_not_kept(rt: HostRuntime) {
     let made = cache.answer(&rt, 3, |key| Ok::<_, Unmade>(key.wrapping_mul(*key)));
     equal(&rt, made, Ok(9));
     equal(&rt, cache.answer(&rt, 3, |_| Err(Unmade::Odd)), Ok(9));
+}
+
+/// Any number may be the answer for a key.
+struct Numbers;
+
+impl Answers for Numbers {
+    type Key = u64;
+
+    type Value = u64;
+
+    ghost may = { λ key value. true };
+
+    ghost respects_eq = { Prim.search rules };
+
+    ghost respects_clone = { Prim.search rules };
+}
+
+type NumberCache<H> = LoggedCache<Numbers, H, Global, Yield>;
+
+// Asks twice, with another number to give each time. Both answers are one number, whatever other threads do.
+fn ask_twice<H: History, W: Wait>(
+    rt: &W,
+    cache: &NumberCache<H>,
+    key: u64,
+    numbers: (u64, u64),
+    seen: &mut Snapshot<(u64, u64), H>,
+) -> Result<(u64, u64), AllocError>
+    ensures { IfOk result (λ found. found.0 ≡ found.1) }
+{
+    let first: Result<u64, AllocError> = cache.answer(rt, key, |_| Ok(numbers.0), seen);
+    let second: Result<u64, AllocError> = cache.answer(rt, key, |_| Ok(numbers.1), seen);
+    Ok((first?, second?))
+}
+
+fn ask_twice_in_two<H: History + Send + Sync, W: Abort + Threads + Wait + Sync>(
+    rt: &W,
+    alloc: Global,
+    blank: BlankLog,
+)
+    requires { blank.name ≡ H.name }
+{
+    let log = blank.open::<(u64, u64), H>();
+    let mut seen = log.snapshot();
+    let cache: NumberCache<H> = LoggedCache::new(alloc, log);
+    let lent = &cache;
+    let (one, other) = (seen.copy(), seen.copy());
+    let (first, second) = join(
+        rt,
+        move || {
+            let mut seen = one;
+            ask_twice(rt, lent, 3, (1, 2), &mut seen).expect(rt, "memory")
+        },
+        move || {
+            let mut seen = other;
+            ask_twice(rt, lent, 3, (3, 4), &mut seen).expect(rt, "memory")
+        },
+    );
+    equal(rt, second, first);
+    let reader = cache.read(rt);
+    let found = reader.answer(&3, &mut seen).copied();
+    equal(rt, found, Some(first.0));
+}
+
+// The thread that comes later finds the number of the other twice, though it would give another one each time.
+#[test]
+fn an_answer_that_a_thread_saw_stays(rt: HostRuntime) {
+    ask_twice_in_two::<Brand, HostRuntime>(&rt, rt.alloc(), BlankLog::new());
 }

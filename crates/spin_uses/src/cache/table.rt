@@ -1,7 +1,7 @@
 //! A table of answers that only grows: no entry is taken out or changed. Begin with [`Table::answer`].
-ghost use Rattle.std.specs.Prelude.{◌≡◌, Some, None, IsTrue, IfSome, OnOk, OnErr};
+ghost use Rattle.std.specs.Prelude.{◌≡◌, ◌<◌, Some, None, IsTrue, IfSome, IsOk, OnOk, OnErr};
 ghost use Rattle.std.specs.Option.{ForSome, option_copied};
-ghost use Rattle.std.specs.HashMap.{get, IsUnchanged};
+ghost use Rattle.std.specs.HashMap.{get, spare, IsEmpty, IsUnchanged, Updates};
 
 use super::Answers;
 use std::alloc::{AllocError, Allocator};
@@ -18,7 +18,9 @@ pub struct Table<C: Answers, A: Allocator> {
 }
 
 impl<C: Answers, A: Allocator> Table<C, A> {
-    pub(super) fn new(alloc: A) -> Self {
+    pub(super) fn new(alloc: A) -> Self
+        ensures { IsEmpty result.map }
+    {
         Table {
             map: HashMap::new(alloc),
             answers: PhantomData,
@@ -42,6 +44,16 @@ impl<C: Answers, A: Allocator> Table<C, A> {
         self.map.get(key)
     }
 
+    /// Makes room for one answer more. Fails if there is no memory for it.
+    pub(super) fn reserve(&mut self) -> Result<(), AllocError>
+    where
+        A: Clone,
+        ensures room { OnOk result (0 < spare self.new.map) }
+        ensures kept { (k : C.Key) → get C.Key.eq self.new.map k ≡ get C.Key.eq self.old.map k }
+    {
+        self.map.reserve(1)
+    }
+
     /// Adds an answer for a key that has none. Fails if there is no memory for it. The other answers stay as they are.
     pub(super) fn add(&mut self, key: C::Key, value: C::Value) -> Result<(), AllocError>
     where
@@ -50,6 +62,8 @@ impl<C: Answers, A: Allocator> Table<C, A> {
         requires fresh { get C.Key.eq self.old.map key ≡ None }
         ensures added { OnOk result (get C.Key.eq self.new.map key ≡ Some value) }
         ensures kept { (k : C.Key) (v : C.Value) → get C.Key.eq self.old.map k ≡ Some v → get C.Key.eq self.new.map k ≡ Some v }
+        ensures exact { OnOk result (Updates C.Key.eq self.old.map self.new.map key (Some value)) }
+        ensures succeeds { 0 < spare self.old.map → IsOk result }
         ensures err { OnErr result (IsUnchanged self.old.map self.new.map) }
     {
         self.map.insert(key, value)?;
