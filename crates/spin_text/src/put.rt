@@ -16,7 +16,7 @@ pub fn put(bytes: &[u8], buffer: &mut [u8], end: usize) -> usize
     start
 }
 
-/// Writes the digits of a number in front of those bytes, and returns the place of the first.
+/// Writes the digits of a number in front of the bytes from `end` on, and returns the place of the first.
 #[inline]
 pub fn put_number(number: u64, buffer: &mut [u8], end: usize) -> usize
     requires room { 20 ≤ end }

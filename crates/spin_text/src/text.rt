@@ -14,7 +14,7 @@ use crate::words::first_line;
 use spin_world::{BarrierObject, Fair, Flag, OnceObject, Rw, Ticket};
 use std::alloc::{AllocError, AllocFailed, Global};
 
-/// The reason why a text was not played to its end.
+/// The reason why [`world_text`] fails.
 ///
 /// # Examples
 /// ```
@@ -170,12 +170,15 @@ fn play(alloc: Global, bytes: Vec<u8>) -> Result<Vec<u8>, RunError>
 /// - `barrier N PARTIES`
 ///
 /// Each further line is `PARTY MOVE`: `begin CALL`, `step`, `weak`, `read`, `write VALUE`, `leak`, `owner get` or
-/// `owner set VALUE`. A call is spelled as its variant in snake case. Behind it stands the answer of a closure:
-/// `call_once VALUE`, `init_from_ref VALUE`, `try_call_once ok VALUE`, `try_call_once err`.
+/// `owner set VALUE`. A call without a closure is spelled as its variant in snake case. Those with one are
+/// `call_once VALUE`, `init_from_ref VALUE`, `try_call_once ok VALUE` and `try_call_once err`.
 ///
 /// A line ends at a line feed, which the last line may lack. One space stands between two words. A number is decimal
-/// digits without a sign and without leading zeros, at most `u64::MAX`. A party of a higher number than the parties
-/// makes no bad line: its moves are passed over.
+/// digits without a sign and without leading zeros, at most `u64::MAX`. Parties are numbered from 0. A move of a party
+/// that does not exist makes no bad line: it is passed over.
+///
+/// It writes a line `LINE PARTY OUTCOME: WORDS` for each move, and at last `end: WORDS value VALUE`. An answer ends with
+/// ` from LINE`, the line at which its call began.
 ///
 /// # Contract
 /// The caller gives streams that have not failed. On `Ok` neither has failed, the source is at its end, and the known

@@ -11,10 +11,10 @@ use spin_world::{Answer, Move, Outcome, World};
 use spin_world_core::{no_begins, with_begin};
 use std::alloc::{AllocError, Global};
 
-/// The room for the longest line: five numbers of 20 digits, and the words between them.
+/// The room for the longest line: six numbers of up to 20 digits, and the words between them.
 const LONGEST_LINE: usize = 160;
 
-/// The room to ask for each line, before the first is made. Lines in the middle of a long text have this length.
+/// The room to ask for each line, before the first is made: about the length of a line of a long text.
 const USUAL_LINE: usize = 32;
 
 fn put_value(value: Option<u64>, buffer: &mut [u8], end: usize) -> usize

@@ -13,10 +13,10 @@ pub fn every_last_of_a_group_leads()
     ensures { (object : BarrierObject) (parties : ℕ) (past : Entries) → InGroups (⟦<BarrierObject as Object>⟧.machine object) object.n parties past }
 {}
 
-/// States that a follower leaves by its first step after its group is full, and not before, however many parties have
-/// arrived since.
+/// States that a follower leaves by its next step exactly if the number of groups filled since its arrival is no
+/// multiple of 2^64.
 ///
-/// Groups are counted in 64 bits. A follower that steps only after a multiple of 2^64 groups waits on.
+/// So it leaves by its first step after its group is full, unless it misses 2^64 groups.
 pub fn a_follower_leaves_a_full_group()
     ensures { (object : BarrierObject) (parties : ℕ) (past : Entries) → FollowersLeave (⟦<BarrierObject as Object>⟧.machine object) parties past }
 {}

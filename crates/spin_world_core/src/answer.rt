@@ -22,7 +22,7 @@ pub enum Answer<V> {
     Done,
     /// Whether a party holds the lock or waits for it, or whether there is a value.
     Is(bool),
-    /// The number of parties that hold the lock so.
+    /// The number of readers, of writers, or of seats taken, as the call asks.
     Count(usize),
     /// The call returns this value.
     Value(V),

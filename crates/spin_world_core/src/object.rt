@@ -1,5 +1,4 @@
-//! What a lock has to show to be played in a world. Begin with [`Object`]; [`Stepped`] is the answer of its main
-//! method.
+//! What a lock has to show to be played in a world. Begin with [`Object`]; its main method returns a [`Stepped`].
 ghost use Rattle.std.specs.Prelude.{◌≡◌, true};
 ghost use Rattle.spin_world_core.specs.Acts.{stays, becomes};
 ghost use Rattle.spin_world_core.specs.Machines.{Machine};
@@ -93,8 +92,10 @@ impl<W: Copy, V, L: Copy, A: Copy> Stepped<W, V, L, A> {
 /// A lock in the world, as its words and a table of the steps of its calls.
 ///
 /// # Contract
-/// Each method is the one of the object's `machine`, whose readings say what it means on the plain lock. The `laws`
-/// hold of every schedule from the opening state on. [`World::run`](crate::World::run) passes them to its caller.
+/// Each method is the one of the object's `machine`, whose readings say what it means on the plain lock. Of the `laws`
+/// [`World::run`](crate::World::run) passes `keeps`, `moments`, `counts` and `values` to its caller. They hold of
+/// every schedule from the opening state on. [`looks_under_one_guard_agree`](crate::looks_under_one_guard_agree)
+/// passes `agree`.
 ///
 /// # Examples
 /// ```

@@ -29,8 +29,8 @@ pub enum Move<C, V> {
     Write(V),
     /// Forgets the guard, as a holder that is in no call.
     Leak,
-    /// Reads the value, as the owner. The party only acts for the owner. It is open if the object is owned and no
-    /// party holds or is in a call; leaked parties are then gone.
+    /// Reads the value, as the owner, for whom the party only acts. The move is open to any party of the world if the
+    /// object is owned and no party holds or is in a call. After it every leaked party is gone.
     OwnerGet,
     /// Replaces the value, as the owner. It is open where `OwnerGet` is.
     OwnerSet(V),
@@ -57,7 +57,8 @@ pub enum Outcome<A, V> {
     /// The step ends the call with this answer.
     Answered {
         answer: A,
-        /// The place of the call's `Begin` in this schedule, from 0. `None`: it began in an earlier run.
+        /// The place of the call's `Begin` in this schedule, from 0. `None`: it began before this schedule, or
+        /// [`World::act`](crate::World::act) made the move.
         began: Option<usize>,
     },
     /// The value that a holder or the owner found, or `None` if there is none. `OwnerSet` has this outcome too if

@@ -104,8 +104,8 @@ impl<O: Object, A: Allocator + Copy> World<O, A> {
     /// Returns where the party stands, or `None` if there is no such party.
     ///
     /// # Contract
-    /// The answer is what the state says of the party's seat (`place_of`). The party's moves led there, and its
-    /// entries in the plain lock are what the place says (`SaysAfterAnyPast`).
+    /// The answer is what the state says of the party's seat (`place_of`). The party's own moves and the owner's led
+    /// there (`SaysAfterAnyPast`). Its entries in the plain lock are what the place says.
     ///
     /// # Examples
     /// ```

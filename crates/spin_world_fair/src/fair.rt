@@ -14,7 +14,7 @@ use spin_step::fair;
 use spin_step::fair::LockRejectReason;
 use spin_world_core::{Answer, Hold, Next, Object, Stepped};
 
-/// A call of a [`Fair`]. The contract of [`Fair::new`] says what each call asks.
+/// A call of a [`Fair`]. [`Fair::new`] promises that each call asks what stands here.
 ///
 /// # Examples
 /// ```

@@ -86,7 +86,7 @@ pub fn a_starver_waits_for_the_flag_alone<V: Copy>()
     ensures { (value : V) → GoesForAClearFlag (waits_for_quiet value) 2 let_go_beside_a_starver → ⊥ }
 {}
 
-/// A starver that sets the flag by a weak exchange: its calls are not refused without cause.
+/// A starver that sets the flag by a weak exchange: no call of a starver may be refused without cause.
 pub fn a_starver_sets_the_flag_by_a_strong_exchange<V: Copy>()
     ensures { (value : V) → KeepsAll (sets_by_chance value) 1 starver_in_vain → ⊥ }
 {}

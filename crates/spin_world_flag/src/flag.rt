@@ -10,7 +10,7 @@ ghost use Rattle.spin_world_flag.specs.Named.{IsFlag};
 use spin_step::flag;
 use spin_world_core::{Answer, Hold, Next, Object, Stepped};
 
-/// A call of a [`Flag`]. The contract of [`Flag::new`] says what each call asks.
+/// A call of a [`Flag`]. [`Flag::new`] promises that each call asks what stands here.
 ///
 /// # Examples
 /// ```

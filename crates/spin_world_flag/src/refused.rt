@@ -42,8 +42,8 @@ pub fn a_lock_begins_by_its_exchange<V: Copy>()
     ensures { (value : V) → CountsAll (looks_first value) 1 lock_alone → ⊥ }
 {}
 
-/// A `lock` that may be refused without cause at its look: where the number lies there that an exchange expects, it
-/// would make its plain step.
+/// A `lock` that may be refused without cause at its look. Only an exchange may be: where it finds the number that it
+/// expects, it makes a plain step, and a look makes none.
 pub fn a_look_refuses_by_no_chance<V: Copy>()
     ensures { (value : V) → Stepwise (refuses_at_its_look value) → ⊥ }
 {}

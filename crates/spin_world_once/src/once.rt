@@ -7,7 +7,7 @@ ghost use Rattle.spin_world_once.specs.Named.{IsOnceOf};
 use spin_step::once;
 use spin_world_core::{Answer, Hold, Next, Object, Stepped};
 
-/// A call of a [`OnceObject`]. The contract of [`OnceObject::new`] says what each call asks.
+/// A call of a [`OnceObject`]. [`OnceObject::new`] promises that each call asks what stands here.
 ///
 /// If there is a value, a call with a closure answers that one. If there is none, the call runs its closure, but waits
 /// while another closure runs.
@@ -43,7 +43,7 @@ pub enum OnceCall<V> {
 /// No example: a world keeps the points of calls, and a schedule names none.
 #[derive(Clone, Copy, Debug, PartialEq, Eq)]
 pub enum OncePoint {
-    /// Every call's first look.
+    /// The first look of any call, and each further look of `Wait` and `Poll`.
     Look,
     /// A call with a closure begins to run it by an exchange.
     TryBegin,

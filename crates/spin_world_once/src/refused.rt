@@ -19,7 +19,8 @@ pub fn a_failure_lets_go<V: Copy>()
     ensures { KeepsAll (sticks V) 1 one_failure → ⊥ }
 {}
 
-/// The same with a reading that says it has: then the word is not the encoding.
+/// A closure that fails and leaves the word at running, in a machine that reads this as its failure: the word is not the
+/// encoding.
 pub fn a_failure_clears_the_word<V: Copy>()
     ensures { KeepsAll (sticks_silently V) 1 one_failure → ⊥ }
 {}
@@ -49,7 +50,7 @@ pub fn a_value_is_the_closures_own<V: Copy>()
     ensures { (u v : V) → (u ≡ v → ⊥) → ValuesAll (places_another v) 1 (one_closure u) → ⊥ }
 {}
 
-/// A closure that never ends: the party that runs it has only to be answered.
+/// A closure that never ends: once it runs, its call has to be answered by its fourth step, if nobody disturbs it.
 pub fn a_closure_ends<V: Copy>()
     ensures { (v : V) → CountsAll (runs_on V) 1 (six_steps v) → ⊥ }
 {}

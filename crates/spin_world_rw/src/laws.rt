@@ -13,7 +13,7 @@ use crate::rw::Rw;
 use spin_world_core::Object;
 
 /// States that a writer holds the lock alone, and that at most one holder may upgrade, whether it asks to or not. No
-/// more parties hold the lock than its cap allows, and the word is the sum of the holders.
+/// more parties hold the lock than its cap allows, and the word is the sum of the holders' weights.
 pub fn readers_stand_beside_no_writer<V: Copy>()
     ensures { (object : Rw V) (n : ℕ) (past : List (ℕ × Move RwCall V)) → let m = ⟦<Rw<V> as Object>⟧.machine object in StandTogether object.cap (after m (at_first m n) past).words (seen_after m (opening m n) past).plain }
 {}

@@ -94,7 +94,7 @@ pub fn a_read_fails_by_no_chance<V: Copy>()
     ensures { (value : V) → KeepsAll (reads_weakly value) 1 read_by_chance → ⊥ }
 {}
 
-/// A weak `try_write` whose exchange is strong, and a `write`.
+/// A weak `try_write` whose exchange is strong, and a `write` whose exchange is strong.
 pub fn a_weak_exchange_is_weak<V: Copy>()
     ensures tries { (value : V) → Stepwise (writes_strongly value) → ⊥ }
     ensures waits { (value : V) → Stepwise (waits_strongly value) → ⊥ }

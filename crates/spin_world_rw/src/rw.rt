@@ -9,9 +9,10 @@ ghost use Rattle.spin_world_rw.specs.Named.{IsRw};
 use spin_step::rw;
 use spin_world_core::{Answer, Hold, Next, Object, Stepped};
 
-/// A call of an [`Rw`]. The contract of [`Rw::new`] says what each call asks.
+/// A call of an [`Rw`]. [`Rw::new`] promises that each call asks what stands here.
 ///
-/// A try fails only if what it asks was not open at some moment of the call; a weak one may also fail without cause.
+/// A try fails only if, at some moment of the call, what it asks is closed to the party. A weak try may also fail
+/// without cause.
 ///
 /// # Examples
 /// ```
@@ -111,7 +112,7 @@ impl<V: Copy> Rw<V> {
     }
 }
 
-/// Makes a step that stores the new word if there is one. The party then holds the lock so; else the call goes on by
+/// Makes a step that stores the new word if there is one, and grants `hold`. If there is none, the call goes on by
 /// `lost`.
 fn exchange<V: Copy>(
     words: usize,
@@ -142,7 +143,7 @@ fn come<V: Copy>(
     }
 }
 
-/// Stores this word, after which the party holds the lock so, or no more.
+/// Makes the step that stores this word and ends the call. The party then holds `holds`.
 fn done<V: Copy>(words: usize, holds: Option<Hold>) -> Stepped<usize, V, RwPoint, Answer<V>>
     ensures { result ≡ stays words (Answers Done holds) }
 {

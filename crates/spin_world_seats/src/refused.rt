@@ -47,7 +47,7 @@ pub fn who_sits_may_leave()
     ensures { Stepwise nobody_leaves → ⊥ }
 {}
 
-/// An `enter` that tries, and asks so.
+/// An `enter` that makes the steps of a `try_enter`, and asks what that asks.
 pub fn an_enter_waits()
     ensures { IsSeats 2 enters_or_not → ⊥ }
 {}

@@ -7,7 +7,7 @@ ghost use Rattle.spin_world_seats.specs.Named.{IsSeats};
 use spin_seats::steps;
 use spin_world_core::{Answer, Hold, Next, Object, Stepped};
 
-/// A call of a [`Seats`]. The contract of [`Seats::new`] says what each call asks.
+/// A call of a [`Seats`]. [`Seats::new`] promises that each call asks what stands here.
 ///
 /// # Examples
 /// ```
@@ -39,7 +39,7 @@ pub enum SeatsPoint {
     Exchange(usize),
 }
 
-/// The lock of a number of seats. Its value is nothing.
+/// The lock of a number of seats. Its value is `()`.
 ///
 /// # Examples
 /// ```
@@ -52,7 +52,7 @@ pub struct Seats {
 }
 
 impl Seats {
-    /// Creates a lock with so many seats, but with no more than `spin_seats::steps::MAX_SEATS`. All of them are free.
+    /// Creates a lock of `seats` free seats, at most `spin_seats::steps::MAX_SEATS`.
     ///
     /// # Contract
     /// The object has this number. Its machine is that of a lock of so many seats, up to the limit (`IsSeats`): it

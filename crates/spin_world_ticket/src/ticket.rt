@@ -27,7 +27,7 @@ pub struct TicketWords {
     pub serving: u64,
 }
 
-/// A call of a [`Ticket`]. The contract of [`Ticket::new`] says what each call asks.
+/// A call of a [`Ticket`]. [`Ticket::new`] promises that each call asks what stands here.
 ///
 /// # Examples
 /// ```
@@ -40,7 +40,8 @@ pub struct TicketWords {
 /// ```
 #[derive(Clone, Copy, Debug, PartialEq, Eq)]
 pub enum TicketCall {
-    /// Takes a ticket, in as many steps as it needs, and then waits until it is served.
+    /// Takes a ticket, in as many steps as it needs, and then waits until it is served. If no number is left, it looks
+    /// without end.
     Lock,
     /// Tries to acquire the lock, without waiting. It fails only if a ticket stood at some moment of the call, or if no
     /// number is left.

@@ -41,7 +41,7 @@ pub const MAX_TIMES: u64 = 1_000_000;
 /// ```
 #[derive(Clone, Copy, Debug, PartialEq, Eq)]
 pub enum CountError {
-    /// A thread was refused, or its memory.
+    /// A thread was refused, or memory for the threads.
     Refused,
 }
 
@@ -228,7 +228,7 @@ fn count_by<'a, P: Plan + Send + Sync, G: Gate + Sync, R: Threads + Wait + Sync,
 ///
 /// Each worker from 0 to `workers - 1` is a thread of its own. It passes the gate once, even if `times` is 0. Then it
 /// adds 1 to one number under one lock, `times` times. The call joins all threads before it returns. If a thread or
-/// its memory is refused, it joins those already started, and returns an error.
+/// memory for the threads is refused, it joins those already started, and returns an error.
 ///
 /// # Contract
 /// There are at most `MAX_WORKERS` workers, with at most `MAX_TIMES` additions each. On `Ok` the total is exactly

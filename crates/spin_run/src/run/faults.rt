@@ -17,7 +17,7 @@ use std::alloc::AllocError;
 pub(crate) enum Fault {
     /// The words are those of no command.
     Usage,
-    /// A thread was refused, or its memory.
+    /// A thread was refused, or memory for the threads.
     Refused,
     /// Another allocation failed.
     Memory,
