@@ -1,5 +1,5 @@
-//! A cache with a log of its answers: an answer that a caller saw for a key is the answer ever after, on any thread.
-//! Begin with [`LoggedCache::answer`].
+//! A cache with a log of its answers. Once a caller's snapshot has an answer for a key, each later call with it returns
+//! a clone of that answer, or fails. Begin with [`LoggedCache::answer`].
 ghost use Rattle.std.specs.Prelude.{◌≡◌, [], Some, None, Ok, IsTrue, IfSome, IfOk, OnOk, OnErr};
 ghost use Rattle.std.specs.Fn.{FnOnceTakesAt, FnOnceReturnsAt};
 ghost use Rattle.std.specs.Option.{ForSome, option_copied};
@@ -35,8 +35,8 @@ impl<C: Answers, A: Allocator, H: History> LoggedTable<C, A, H> {
     /// Returns the answer for `key`, or `None` if none was made, and brings `seen` up to date.
     ///
     /// # Contract
-    /// The answer is that of `seen` (`known`), as it was before where it had one (`same`). It is one for this key
-    /// (`may`).
+    /// Afterwards `seen` has the whole log (`exact`), and the answer is the one in it (`known`), one for this key
+    /// (`may`). If `seen` had one before, it is that one (`same`). All that `seen` had stays (`later`).
     ///
     /// # Examples
     /// ```
@@ -135,10 +135,10 @@ impl<C: Answers, H: History, A: Allocator + Clone, R: RelaxStrategy> LoggedCache
     /// [`Cache::answer`](super::Cache::answer) does. Brings `seen` up to date.
     ///
     /// # Contract
-    /// The calls of `make` are as those of [`Cache::answer`](super::Cache::answer), and the answer is one for this key
-    /// (`may`). It is a clone of the one that `seen` had for the key, if it had one (`same`). Afterwards `seen` has one,
-    /// and the answer is a clone of it (`known`). All that `seen` had stays (`later`). Whether and when the call returns
-    /// is not promised.
+    /// The caller owes for `make` what [`Cache::answer`](super::Cache::answer) asks. On `Ok` the answer is one for this
+    /// key (`may`), and a clone of the one that `seen` has afterwards (`known`). If `seen` had one before, it is a clone
+    /// of that one (`same`). All that `seen` had stays, also on `Err` (`later`). Whether and when the call returns is not
+    /// promised.
     ///
     /// # Examples
     /// ```
