@@ -172,21 +172,21 @@ module _ {M : Type 1} {𝓤 : Ura M} (𝓛 : Logic 𝓤) where
     Lends-permit L l le null_ptr view x = Lends-false 𝓛 (permit_shares Y R c S holds ways β null_ptr view x) l
 
     -- ---- a party that reads may see the value for the rest of the cell's borrow: its token is never given back
-    abbrev pub Sees : ℕ → ℕ → Option R.Denot → R.Denot → SProp 𝓤
-    Sees b o v x = guard 𝓤 ((v ≡ Some x) × Seen ways.0 x) ⟦ shown R b o x β ⟧
+    abbrev pub IsShown : ℕ → ℕ → Option R.Denot → R.Denot → SProp 𝓤
+    IsShown b o v x = guard 𝓤 ((v ≡ Some x) × Seen ways.0 x) ⟦ shown R b o x β ⟧
 
     known_seen : (way : Way R.Denot) (x : R.Denot) (e : Share) → Part way x e → Seen way x
     known_seen (fixes fact) x e known = known
     known_seen _ x e known = tt
 
-    pub sees_on : RowLaws R → (b o : ℕ) (view : Option V) (v : Option R.Denot) → use_of ways.1 view ≡ reads → ⟦ permit_owns Y R c S holds ways β (block_ptr b o) view v ⟧ ⊢ H.⇛ (ex 𝓤 (Sees b o v))
-    sees_on L b o view None is = qed 𝓛 (‵ (permit_owns Y R c S holds ways β (block_ptr b o) view None) ∷ []) ∵ fpick ! (λ k. fpick ! (λ t. fsplit3 ! $ move ! (2 ∷ []) $
+    pub shown_on : RowLaws R → (b o : ℕ) (view : Option V) (v : Option R.Denot) → use_of ways.1 view ≡ reads → ⟦ permit_owns Y R c S holds ways β (block_ptr b o) view v ⟧ ⊢ H.⇛ (ex 𝓤 (IsShown b o v))
+    shown_on L b o view None is = qed 𝓛 (‵ (permit_owns Y R c S holds ways β (block_ptr b o) view None) ∷ []) ∵ fpick ! (λ k. fpick ! (λ t. fsplit3 ! $ move ! (2 ∷ []) $
         rewrite ! 0 (λ (u : Use). ‵ (right R b o t ways.0 u None)) is refl $ keep ! (0 ∷ []) $ by ! (never_e 𝓤 _)))
-    sees_on L b o view (Some x) is = qed 𝓛 (‵ (permit_owns Y R c S holds ways β (block_ptr b o) view (Some x)) ∷ []) ∵ updating ! $ fpick ! (λ k. fpick ! (λ t. fsplit3 ! $ fsplit ! $ move ! (3 ∷ []) $
+    shown_on L b o view (Some x) is = qed 𝓛 (‵ (permit_owns Y R c S holds ways β (block_ptr b o) view (Some x)) ∷ []) ∵ updating ! $ fpick ! (λ k. fpick ! (λ t. fsplit3 ! $ fsplit ! $ move ! (3 ∷ []) $
         rewrite ! 0 (λ (u : Use). ‵ (right R b o t ways.0 u (Some x))) is refl $ fpick ! (λ n. fsplit ! $ fpick ! (λ e. fpick ! (λ known. fsplit ! $
         let a : Lft = n ∷ [] in let μ : Lft = a ++ β in let V' : Lft → Fml = shown R b o x in let K = L x b (o + offset R) in
         -- [the token; the tag; what is shown; the end; the invariant; the view]
         bor_new ! tt β $ bor_fracture ! tt (λ r. flft a r) e $ move ! (3 ∷ []) $
         use1 𝓛 (‵ (V' (μ ++ t.life))) (shortens 𝓛 V' K (a ++ t.life) (μ ++ t.life) (⊑_meet (μ ++ t.life) a t.life (Incl-trans (meet_⊑_left μ t.life) (meet_⊑_left a β)) (meet_⊑_right μ t.life))) $ move ! (4 ∷ []) $
         use1 𝓛 (‵ (before μ t.life)) (before_shorten 𝓛 β μ t.life (meet_⊑_right a β)) $ use2 𝓛 (‵ (V' μ)) (moves_before 𝓛 V' K μ t.life) $ move ! (1 ∷ 0 ∷ []) $
-        use2 𝓛 (‵ (V' β)) (moves 𝓛 V' K β a) $ now ! $ show ! (Sees b o (Some x)) x $ check ! (refl, known_seen ways.0 x e known) $ keep ! (0 ∷ []) $ done !)))))
+        use2 𝓛 (‵ (V' β)) (moves 𝓛 V' K β a) $ now ! $ show ! (IsShown b o (Some x)) x $ check ! (refl, known_seen ways.0 x e known) $ keep ! (0 ∷ []) $ done !)))))

@@ -55,8 +55,8 @@ module _ {M : Type 1} {𝓤 : Ura M} (𝓛 : Logic 𝓤) (𝓜 : Model 𝓤 𝓛
     abbrev At : Type 0
     At = Entry 𝓛 𝓜 𝓡 Y R LR.shr_laws W.coded Sr g.holds ways β b o
 
-    abbrev Kept : At → Fml
-    Kept k = kept R b o k.1.0 W.coded.code Sr g.holds ways β
+    abbrev Remains : At → Fml
+    Remains k = kept R b o k.1.0 W.coded.code Sr g.holds ways β
 
     abbrev Mine : At → Fml
     Mine = mine 𝓛 𝓜 𝓡 Y R LR.shr_laws W.coded Sr g.holds ways β b o h.view h.value
@@ -89,16 +89,16 @@ module _ {M : Type 1} {𝓤 : Ura M} (𝓛 : Logic 𝓤) (𝓜 : Model 𝓤 𝓛
       -- a permit is opened for a step on either word: [what the step asks; the way back; the value's token; the cell]
       pub opens_step : K → Soaks G → (τ : Lft) (r : Share) → Incl τ R.lives → (then : ℕ → W.Denot → Type 0) (at : Ptr) (f : ℕ → ℕ)
           → ((k : At) → ent 𝓤 (sep 𝓤 (sem 𝓛 (finv (Inv k))) (sep 𝓤 (sem 𝓛 (flft k.1.0.life k.1.1)) (sem 𝓛 (Mine k)))) (asks 𝓛 at f always (after k then)))
-          → ((k : At) → Seq K 𝓛 (raw (asks 𝓛 at f always (after k then)) ∷ raw (Gives k) ∷ ‵ (flft τ r) ∷ ‵ (Kept k) ∷ Γ) G)
+          → ((k : At) → Seq K 𝓛 (raw (asks 𝓛 at f always (after k then)) ∷ raw (Gives k) ∷ ‵ (flft τ r) ∷ ‵ (Remains k) ∷ Γ) G)
           → Seq K 𝓛 (‵ (permit_owns Y R W.coded.code Sr g.holds ways β (block_ptr b o) h.view h.value) ∷ ‵ (flft β q) ∷ ‵ (flft τ r) ∷ Γ) G
-      opens_step t z τ r le then at f can go = use3 𝓛 (later (some (λ (k : At). ‵ (finv (Inv k)) ⊛ ‵ (flft k.1.0.life k.1.1) ⊛ ‵ (Mine k) ⊛ ‵ (Kept k) ⊛ raw (Gives k) ⊛ ‵ (flft τ r))))
+      opens_step t z τ r le then at f can go = use3 𝓛 (later (some (λ (k : At). ‵ (finv (Inv k)) ⊛ ‵ (flft k.1.0.life k.1.1) ⊛ ‵ (Mine k) ⊛ ‵ (Remains k) ⊛ raw (Gives k) ⊛ ‵ (flft τ r))))
           (enters 𝓛 𝓜 𝓡 Y R LR.shr_laws W.coded Sr g.holds ways β b o R.lives (LR.shares 𝓛) h.view h.value q τ r le) $ await t z $ pick t (λ k. split3 t $ move t (2 ∷ []) $ split3 t $ move t (2 ∷ []) $ split t $
           move t (4 ∷ 5 ∷ 2 ∷ []) $ use3 𝓛 (raw (asks 𝓛 at f always (after k then))) (can k) $ go k)
 
       -- the permit at its new view, and all tokens
       pub closes : K → Soaks G → (k : At) (then : ℕ → W.Denot → Type 0) (n : ℕ) (τ : Lft) (r : Share) (os : Fml)
           → ((s : W.Denot × Option R.Denot) → Seq K 𝓛 ((‵ (flft β q) ⊛ ‵ (flft τ r) ⊛ ‵ os) ∷ ‵ (Hr.own_val (next s) (hand_of (block_ptr b o) ∷ [])) ∷ Says then n s ∷ Γ) G)
-          → Seq K 𝓛 (‵ (after k then n) ∷ raw (Gives k) ∷ ‵ (flft τ r) ∷ ‵ (Kept k) ∷ ‵ os ∷ Γ) G
+          → Seq K 𝓛 (‵ (after k then n) ∷ raw (Gives k) ∷ ‵ (flft τ r) ∷ ‵ (Remains k) ∷ ‵ os ∷ Γ) G
       closes t z k then n τ r os go = let Owned : W.Denot × Option R.Denot → Fml = λ s. permit_owns Y R W.coded.code Sr g.holds ways β (block_ptr b o) (Some s.0) s.1 in
           let So : W.Denot × Option R.Denot → Type 0 = λ s. Keeps ways h.view (Some s.0) h.value s.1 in
           move t (0 ∷ 3 ∷ 1 ∷ []) $ use3 𝓛 (later (some (λ (s : W.Denot × Option R.Denot). given (then n s.0 × So s) (‵ (Owned s))) ⊛ ‵ (flft β q)))
@@ -111,7 +111,7 @@ module _ {M : Type 1} {𝓤 : Ura M} (𝓛 : Logic 𝓤) (𝓜 : Model 𝓤 𝓛
       -- the same, in a pair with the number found
       pub closes_pair : K → Soaks G → (k : At) (then : ℕ → W.Denot → Type 0) (n : ℕ) → n < 2 ^ 64 → (τ : Lft) (r : Share) (os : Fml)
           → ((s : W.Denot × Option R.Denot) → Seq K 𝓛 ((‵ (flft β q) ⊛ ‵ (flft τ r) ⊛ ‵ os) ∷ ‵ (fex (Valss (u64 ∷ Hr ∷ [])) (both n s)) ∷ Says then n s ∷ Γ) G)
-          → Seq K 𝓛 (‵ (after k then n) ∷ raw (Gives k) ∷ ‵ (flft τ r) ∷ ‵ (Kept k) ∷ ‵ os ∷ Γ) G
+          → Seq K 𝓛 (‵ (after k then n) ∷ raw (Gives k) ∷ ‵ (flft τ r) ∷ ‵ (Remains k) ∷ ‵ os ∷ Γ) G
       closes_pair t z k then n fits τ r os go = closes t z k then n τ r os (λ s. move t (1 ∷ []) $ nothing t $ flt_i t n (2 ^ 64) fits $ feq_i t (List Val) (vint w64 n ∷ []) (vint w64 n ∷ []) refl $ fjoin t $
           move t (0 ∷ 2 ∷ 1 ∷ []) $ fjoin3 t $ feq_i t (List Val) (pair_of n ∷ []) (pair_of n ∷ []) refl $ fjoin t $ fpack t (Valss (u64 ∷ Hr ∷ [])) (both n s) (vint w64 n ∷ [], (hand_of (block_ptr b o) ∷ [], tt)) $ move t (1 ∷ []) $ go s)
 

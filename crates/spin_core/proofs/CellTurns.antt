@@ -14,7 +14,7 @@ use denote.Steps.{nothing}
 use base.Fml.{fbor}
 use types.Kit.{check}
 use Rattle.atomic_table.specs.Seated.{fact}
-use Rattle.spin_core.specs.Cell.{Going, Kept, Use, off, reads, writes, Way, alone, lends, fixes, reading, writing, Limits, Fixed}
+use Rattle.spin_core.specs.Cell.{Going, Preserves, Use, off, reads, writes, Way, alone, lends, fixes, reading, writing, Limits, Fixed}
 use Rattle.spin_core.specs.CellMemory.{Id, Round, round_code, tag, share, parts, piece, remains, idle, offset, shown, tracked, shared, resting, state, reader}
 use Rattle.spin_core.proofs.CellWays.{going_rest}
 use Rattle.spin_core.proofs.CellParts.{parts_cut, parts_glue, parts_whole, parts_agree, piece_cut}
@@ -109,38 +109,38 @@ module _ {M : Type 1} {𝓤 : Ura M} (𝓛 : Logic 𝓤) (R : RattleType) (L : R
 
   -- what a party has after it came from the use u to the use u'
   abbrev pub got : Way R.Denot → Use → Use → Option R.Denot → Option R.Denot → Fml
-  got way u u' v v' = fsep (fact (Kept way u u' v v')) (Held u' way v')
+  got way u u' v v' = fsep (fact (Preserves way u u' v v')) (Held u' way v')
 
   abbrev pub Got : Way R.Denot → Use → Use → Option R.Denot → Fml
   Got way u u' v = fex (Option R.Denot) (got way u u' v)
 
-  got_in : (way : Way R.Denot) (u u' : Use) (v v' : Option R.Denot) → Kept way u u' v v' → ⟦ Held u' way v' ⟧ ⊢ ⟦ Got way u u' v ⟧
-  got_in way u u' v v' s = qed 𝓛 (‵ (Held u' way v') ∷ []) ∵ nothing ! $ fpack ! (Kept way u u' v v') (λ _. ftrue) s $ fjoin ! $ fpack ! (Option R.Denot) (got way u u' v) v' $ done !
+  got_in : (way : Way R.Denot) (u u' : Use) (v v' : Option R.Denot) → Preserves way u u' v v' → ⟦ Held u' way v' ⟧ ⊢ ⟦ Got way u u' v ⟧
+  got_in way u u' v v' s = qed 𝓛 (‵ (Held u' way v') ∷ []) ∵ nothing ! $ fpack ! (Preserves way u u' v v') (λ _. ftrue) s $ fjoin ! $ fpack ! (Option R.Denot) (got way u u' v) v' $ done !
 
   nobody : (u : Use) (way : Way R.Denot) → u ≢ off → ⟦ Held u way None ⟧ ⊢ ⟦ base.Fml.ffalse ⟧
   nobody off way on = absurd (on refl)
   nobody writes alone on = id⊢ 𝓤 _
   nobody _ _ on = id⊢ 𝓤 _
 
-  -- who comes takes its part
-  arrives : (u : Use) (way : Way R.Denot) (x : R.Denot) (r w : ℕ) → Returns way → u ≢ off → Limits way (r + reading u) (w + writing u) → Kept way off u None (Some x)
+  -- a party that comes takes its part
+  arrives : (u : Use) (way : Way R.Denot) (x : R.Denot) (r w : ℕ) → Returns way → u ≢ off → Limits way (r + reading u) (w + writing u) → Preserves way off u None (Some x)
       → ⟦ Rest way r x ⟧ ⊢ ⟦ St way (r + reading u) (w + writing u) ⟧ ∗ ⟦ Got way off u None ⟧
   arrives u way x r w is on lim kept = qed 𝓛 (‵ (Rest way r x) ∷ []) ∵ use1 𝓛 (‵ (St way (r + reading u) (w + writing u)) ⊛ ‵ (Held u way (Some x))) (takes u way x r w is on lim) $ split ! $ move ! (1 ∷ []) $
       use1 𝓛 (‵ (Got way off u None)) (got_in way off u None (Some x) kept) $ move ! (1 ∷ 0 ∷ []) $ done !
 
-  first_shown : (way : Way R.Denot) (u : Use) (x : R.Denot) → Returns way → u ≢ off → Kept way off u None (Some x)
+  first_shown : (way : Way R.Denot) (u : Use) (x : R.Denot) → Returns way → u ≢ off → Preserves way off u None (Some x)
   first_shown way off x is on = absurd (on refl)
   first_shown (fixes fact) u x is on = absurd is
   first_shown _ _ x is on = ((x, refl), tt)
 
   -- what is known of a value that a party keeps, leaves, or comes to use
-  goes_on : (way : Way R.Denot) (u u' : Use) (x : R.Denot) → u ≢ off → u' ≢ off → Kept way u u' (Some x) (Some x)
+  goes_on : (way : Way R.Denot) (u u' : Use) (x : R.Denot) → u ≢ off → u' ≢ off → Preserves way u u' (Some x) (Some x)
   goes_on alone off u' x on on' = absurd (on refl)
   goes_on _ off u' x on on' = absurd (on refl)
   goes_on _ u off x on on' = absurd (on' refl)
   goes_on _ _ _ x on on' = (refl, tt)
 
-  ends_at : (way : Way R.Denot) (u : Use) (v : Option R.Denot) → Kept way u off v None
+  ends_at : (way : Way R.Denot) (u : Use) (v : Option R.Denot) → Preserves way u off v None
   ends_at (fixes fact) off v = (refl, tt)
   ends_at _ _ v = (refl, tt)
 
@@ -155,7 +155,7 @@ module _ {M : Type 1} {𝓤 : Ura M} (𝓛 : Logic 𝓤) (R : RattleType) (L : R
     Turns u u' v = Lim u → Going way u u' v (r + reading u) (Lim u') → ⟦ Before u ⟧ ∗ ⟦ Held u way v ⟧ ⊢ upd 𝓤 (⟦ Before u' ⟧ ∗ ⟦ Got way u u' v ⟧)
 
     -- a party that goes on as it is
-    stays : (u : Use) (v v' : Option R.Denot) → ⟦ Held u way v ⟧ ⊢ ⟦ Held u way v' ⟧ → Kept way u u v v' → ⟦ Before u ⟧ ∗ ⟦ Held u way v ⟧ ⊢ upd 𝓤 (⟦ Before u ⟧ ∗ ⟦ Got way u u v ⟧)
+    stays : (u : Use) (v v' : Option R.Denot) → ⟦ Held u way v ⟧ ⊢ ⟦ Held u way v' ⟧ → Preserves way u u v v' → ⟦ Before u ⟧ ∗ ⟦ Held u way v ⟧ ⊢ upd 𝓤 (⟦ Before u ⟧ ∗ ⟦ Got way u u v ⟧)
     stays u v v' same kept = let Z : SProp 𝓤 = ⟦ Before u ⟧ ∗ ⟦ Got way u u v ⟧ in qed 𝓛 (‵ (Before u) ∷ ‵ (Held u way v) ∷ []) ∵ suffices ! Z (upd_i 𝓤 Z) $ move ! (1 ∷ []) $
         use1 𝓛 (‵ (Held u way v')) same $ use1 𝓛 (‵ (Got way u u v)) (got_in way u u v v' kept) $ move ! (1 ∷ 0 ∷ []) $ done !
 
@@ -219,7 +219,7 @@ module _ {M : Type 1} {𝓤 : Ura M} (𝓛 : Logic 𝓤) (R : RattleType) (L : R
         rewrite ! 0 (λ (i : ℕ × ℕ). ‵ (St fixed i.0 i.1)) (λ i. (one i, same i)) refl $ move ! (1 ∷ []) $
         use1 𝓛 (‵ (Got fixed off reads None)) (got_in fixed off reads None (Some x) ((x, refl), known)) $ move ! (1 ∷ 0 ∷ []) $ done !)
 
-    -- who comes to write takes the whole round
+    -- a party that comes to write takes the whole round
     comes_to_write : (r w : ℕ) (x : R.Denot) → r ≡ 0 → w ≡ 0 → ⟦ Rest fixed r x ⟧ ⊢ ⟦ St fixed (r + 0) (w + 1) ⟧ ∗ ⟦ Got fixed off writes None ⟧
     comes_to_write (suc r) w x none none' = absurd (omega (arith, none))
     comes_to_write zero (suc w) x none none' = absurd (omega (arith, none'))
@@ -227,7 +227,7 @@ module _ {M : Type 1} {𝓤 : Ura M} (𝓛 : Logic 𝓤) (R : RattleType) (L : R
         fpack ! ℕ (begun 𝓛 R b o t x) a $ use1 𝓛 (‵ (Got fixed off writes None)) (got_in fixed off writes None (Some x) ((x, refl), known)) $
         move ! (1 ∷ []) $ fpack ! Gv (tag γ full_share) (round_code R (a, x)) $ done !))
 
-    -- who has written leaves a whole round, and may be its first reader
+    -- a party that has written leaves a whole round, and may be its first reader
     leaves_whole : (r w : ℕ) (u : Use) (x : R.Denot) → r ≡ 0 → w ≡ 0 → u ≢ writes → Fixed fixed (reading u) 0 x
         → ⟦ St fixed (r + 0) (w + 1) ⟧ ∗ ⟦ fex ℕ (begun 𝓛 R b o t x) ⟧ ⊢ upd 𝓤 (⟦ St fixed (r + reading u) (w + writing u) ⟧ ∗ ⟦ Got fixed writes u (Some x) ⟧)
     leaves_whole (suc r) w u x none none' on known = absurd (omega (arith, none))

@@ -35,7 +35,7 @@ all_write (h ∷ hs) each =
     omega (arith, sum_by-cons writers h hs, (head_writes h (own h.party hs) first).0, all_write hs (λ p. rest_writes (h.party == p) h (own p hs) (each p)))
 
 module _ {V : Type 0} (part : V → Part) where
-  -- who holds writes
+  -- a party that holds writes
   abbrev pub Writes : Part → Type 0
   Writes x = (p : ℕ) → AllWrite (entries_of p x).holders
 

@@ -10,10 +10,10 @@ use Rattle.spin_step.specs.Parties.{Entries, entries, no_entries, none_entered, 
 use Rattle.spin_step.specs.Tickets.{numbered_from}
 use Rattle.spin_step.proofs.Sums.{sum_kinds, one_of}
 use Rattle.spin_core.specs.Cell.{Use, off, Rests}
-use Rattle.spin_core.specs.Views.{Part, idle, saw_served, entries_of, Knows, HasPart, part_at, Encodes, no_word}
+use Rattle.spin_core.specs.Views.{Part, idle, knows_served, entries_of, Knows, HasPart, part_at, Encodes, no_word}
 use Rattle.spin_step.specs.Orders.{IsInOrder}
 
--- who is behind the place k moves up; and the place where it was
+-- a party that is behind the place k moves up; and the place where it was
 abbrev up : ℕ → ℕ → ℕ
 up zero p = pred p
 up (suc k) zero = zero
@@ -142,7 +142,7 @@ in_order-up k s order = record {
 }
 
 knows-up : (k : ℕ) (s : Plain) (x : Part) → Knows s x → Knows (moved_up k s) x
-knows-up k s (saw_served n) known = omega (arith, known, serving_word-up k s)
+knows-up k s (knows_served n) known = omega (arith, known, serving_word-up k s)
 knows-up k s _ known = tt
 
 module _ {V : Type 0} (part : V → Part) (v : V) where
@@ -156,7 +156,7 @@ module _ {V : Type 0} (part : V → Part) (v : V) where
   others_at (x ∷ xs) behind (suc q) = others_at xs behind q
 
   module _ {S : Type 0} (uses : V → Use) (cap : ℕ) (first : Plain → ℕ) (second : Plain → S) (same_first : NamesNobody first) (same_second : NamesNobody second) where
-    -- who has nothing, and does not use the value, may go
+    -- a party that has nothing, and does not use the value, may go
     pub leaves : uses v ≡ off → ((p : ℕ) → entries_of p (part v) ≡ no_entries) → Rests (Encodes part cap first second) uses (Some v)
     leaves unused nothing = (
       unused,

@@ -6,7 +6,7 @@ use prog.Atomic.{either}
 use Rattle.std.specs.Prelude.{◌≢◌}
 use Rattle.spin_step.specs.Plain.{Plain, Change, Ask, gets, apply, is_open, fresh, ticket_limit}
 use Rattle.spin_step.specs.Steps.{Decides}
-use Rattle.spin_step.specs.Parties.{who, apply_some, IsOpenStep, entries_after, no_entries}
+use Rattle.spin_step.specs.Parties.{party_of, apply_some, IsOpenStep, entries_after, no_entries}
 use Rattle.spin_core.specs.Cell.{Use, Way, Ways, Limits, Going, Meets, Allows, AllowsSecond, Moved, Rests, Stands, after, readers_of, writers_of, use_of, off, words}
 use Rattle.spin_core.specs.Views.{Part, idle as nothing, entries_of, Knows, HasPart, IsLockOf, Encodes}
 use Rattle.spin_step.specs.Orders.{IsInOrder}
@@ -54,30 +54,30 @@ module _ {V S : Type 0} (lock : Lock V S) where
   Each view P = (s : Plain) (p : ℕ) → s.cap ≡ cap → IsInOrder s → HasPart s p (part_before part view) → P s p
 
   -- it comes to the view w
-  abbrev pub Comes : Option V → V → Plain → ℕ → ℕ → S → Type 0
-  Comes view w s p n m = Makes first second (part_before part view) (part w) s p n m
+  abbrev pub Reaches : Option V → V → Plain → ℕ → ℕ → S → Type 0
+  Reaches view w s p n m = Makes first second (part_before part view) (part w) s p n m
 
-  pub by_step : (view : Option V) (w : V) (s : Plain) (c : Change) (n : ℕ) (m : S) → is_open s c ≡ true → entries_after s (Some c) (entries_of (who c) (part_before part view)) ≡ entries_of (who c) (part w)
-      → Knows (apply s c) (part w) → n ≡ first (apply s c) → m ≡ second (apply s c) → Comes view w s (who c) n m
+  pub by_step : (view : Option V) (w : V) (s : Plain) (c : Change) (n : ℕ) (m : S) → is_open s c ≡ true → entries_after s (Some c) (entries_of (party_of c) (part_before part view)) ≡ entries_of (party_of c) (part w)
+      → Knows (apply s c) (part w) → n ≡ first (apply s c) → m ≡ second (apply s c) → Reaches view w s (party_of c) n m
   by_step view w s c n m may becomes known e f = record { step = Some c; is_open = (refl, may); entries = becomes; knows = known; first_is = e; second_is = f }
 
-  pub by_none : (view : Option V) (w : V) (s : Plain) (p : ℕ) → entries_of p (part_before part view) ≡ entries_of p (part w) → Knows s (part w) → Comes view w s p (first s) (second s)
+  pub by_none : (view : Option V) (w : V) (s : Plain) (p : ℕ) → entries_of p (part_before part view) ≡ entries_of p (part w) → Knows s (part w) → Reaches view w s p (first s) (second s)
   by_none view w s p same known = record { step = None; is_open = tt; entries = same; knows = known; first_is = refl; second_is = refl }
 
   -- a party gets what it asks for, where the step function's own lemma says so
   pub by_grant : (view : Option V) (w : V) (s : Plain) (p : ℕ) (ask : Ask) (n : ℕ) (m : S) → Decides s (gets p ask) first (Some n) → entries_after s (Some (gets p ask)) (entries_of p (part_before part view)) ≡ entries_of p (part w)
-      → Knows (apply s (gets p ask)) (part w) → m ≡ second (apply s (gets p ask)) → Comes view w s p n m
+      → Knows (apply s (gets p ask)) (part w) → m ≡ second (apply s (gets p ask)) → Reaches view w s p n m
   by_grant view w s p ask n m granted becomes known same = by_step view w s (gets p ask) n m granted.0 becomes known granted.1 same
 
   -- an exchange is one step where it finds the number that it expected, and else another
-  pub by_exchange : (view : Option V) (won lost : V) (s : Plain) (p n : ℕ) (m : S) (expected new : ℕ) → (n ≡ expected → Comes view won s p new m) → Comes view lost s p n m
-      → (w : V) × Comes view w s p (either (n == expected) new n) m × (w ≡ (if n == expected then won else lost))
+  pub by_exchange : (view : Option V) (won lost : V) (s : Plain) (p n : ℕ) (m : S) (expected new : ℕ) → (n ≡ expected → Reaches view won s p new m) → Reaches view lost s p n m
+      → (w : V) × Reaches view w s p (either (n == expected) new n) m × (w ≡ (if n == expected then won else lost))
   by_exchange view won lost s p n m expected new hit miss =
-      let G : Bool → Type 0 = λ y. (w : V) × Comes view w s p (either y new n) m × (w ≡ (if y then won else lost)) in
+      let G : Bool → Type 0 = λ y. (w : V) × Reaches view w s p (either y new n) m × (w ≡ (if y then won else lost)) in
       dite (ℕ_discrete n expected) (λ e. subst G (sym (eq-eqb n expected e)) (won, hit e, refl)) (λ ne. subst G (sym (ne_eqb n expected ne)) (lost, miss, refl))
 
   after_step : (id : ℕ) (view : Option V) (vs : List V) (w : V) (s : Plain) (n : ℕ) (m : S) → Stands id view vs → s.cap ≡ cap → IsInOrder s → IsLockOf part vs s
-      → Comes view w s (number part id view vs) n m → Meets Holds ways n m (after id view vs w)
+      → Reaches view w s (number part id view vs) n m → Meets Holds ways n m (after id view vs w)
   after_step id view vs w s n m at room order is made =
       let new = lock_after part id view vs w s made.step at order is made.is_open made.entries made.knows in
       let kept = in_order-kept s (number part id view vs) made.step order made.is_open in
@@ -85,19 +85,19 @@ module _ {V S : Type 0} (lock : Lock V S) where
       ((apply_some s made.step, cap_is, kept, new, made.first_is, made.second_is), lock.fits (after id view vs w) (apply_some s made.step) cap_is kept new)
 
   -- what a step asks besides what it says
-  abbrev Goes : ℕ → Option V → List V → V → ℕ → S → Type 0
-  Goes id view vs w n m = Going way (use_of ways.1 view) (ways.1 w) None (readers_of ways.1 vs) (Meets Holds ways n m (after id view vs w))
+  abbrev MayStep : ℕ → Option V → List V → V → ℕ → S → Type 0
+  MayStep id view vs w n m = Going way (use_of ways.1 view) (ways.1 w) None (readers_of ways.1 vs) (Meets Holds ways n m (after id view vs w))
 
   -- the same of a lock whose parties are known, all of them, and of a word that a machine holds
   abbrev pub EachOf : Option V → (Plain → ℕ → Type 0) → Type 0
   EachOf view P = (s : Plain) (p : ℕ) (vs : List V) → s.cap ≡ cap → IsInOrder s → IsLockOf part vs s → HasPart s p (part_before part view) → first s < words → P s p
 
   -- a step on the first word: in each lock the party comes to a view of which this can be said
-  pub allows_among : (view : Option V) (f : ℕ → ℕ) (says : ℕ → V → Type 0) → EachOf view (λ s p. (w : V) × Comes view w s p (f (first s)) (second s) × says (first s) w) → Allows Holds ways view f says
+  pub allows_among : (view : Option V) (f : ℕ → ℕ) (says : ℕ → V → Type 0) → EachOf view (λ s p. (w : V) × Reaches view w s p (f (first s)) (second s) × says (first s) w) → Allows Holds ways view f says
   allows_among view f says makes id n m vs meets at small =
       let s = meets.0.0 in let made = makes s (number part id view vs) vs meets.0.1 meets.0.2 meets.0.3 (own_part part id view vs s at meets.0.3) (subst (λ j. j < words) meets.0.4 small) in let w : V = made.0 in
-      subst (λ j. (w : V) × Goes id view vs w (f j) m × says j w) (sym meets.0.4)
-      (subst (λ j. (w : V) × Goes id view vs w (f (first s)) j × says (first s) w) (sym meets.0.5) (
+      subst (λ j. (w : V) × MayStep id view vs w (f j) m × says j w) (sym meets.0.4)
+      (subst (λ j. (w : V) × MayStep id view vs w (f (first s)) j × says (first s) w) (sym meets.0.5) (
         w,
         lock.goes (use_of ways.1 view) (ways.1 w) (readers_of ways.1 vs) (Meets Holds ways (f (first s)) (second s) (after id view vs w))
             (after_step id view vs w s (f (first s)) (second s) at meets.0.1 meets.0.2 meets.0.3 made.1),
@@ -105,7 +105,7 @@ module _ {V S : Type 0} (lock : Lock V S) where
       ))
 
   -- the same of a step that need not know the other parties
-  pub allows : (view : Option V) (f : ℕ → ℕ) (says : ℕ → V → Type 0) → Each view (λ s p. (w : V) × Comes view w s p (f (first s)) (second s) × says (first s) w) → Allows Holds ways view f says
+  pub allows : (view : Option V) (f : ℕ → ℕ) (says : ℕ → V → Type 0) → Each view (λ s p. (w : V) × Reaches view w s p (f (first s)) (second s) × says (first s) w) → Allows Holds ways view f says
   allows view f says makes = allows_among view f says (λ s p vs room order is has small. makes s p room order has)
 
   -- a lock to which nobody has come
@@ -120,7 +120,7 @@ module _ {V S : Type 0} (lock : Lock V S) where
 
   -- an exchange is a step where it finds the number of which the step function was asked, and else the party has what it had
   pub exchanged : (view : Option V) (won : ℕ → V) (lost : V) (old new : ℕ) → ((s : Plain) (p : ℕ) → (entries_of p (part_before part view) ≡ entries_of p (part lost)) × Knows s (part lost))
-      → EachOf view (λ s p. first s ≡ old → Comes view (won old) s p new (second s)) → Allows Holds ways view (λ n. either (n == old) new n) (exchanges won lost old new view)
+      → EachOf view (λ s p. first s ≡ old → Reaches view (won old) s p new (second s)) → Allows Holds ways view (λ n. either (n == old) new n) (exchanges won lost old new view)
   exchanged view won lost old new still comes =
       allows_among view (λ n. either (n == old) new n) (exchanges won lost old new view) (λ s p vs room order is has small.
       by_exchange view (won old) lost s p (first s) (second s) old new (comes s p vs room order is has small) (by_none view lost s p (still s p).0 (still s p).1))
@@ -147,11 +147,11 @@ module _ {V S : Type 0} (lock : Lock V S) where
 module _ {V : Type 0} (lock : Lock V ℕ) where
   open lock use {part, first, second}
 
-  pub allows_second : (view : Option V) (f : ℕ → ℕ) (says : ℕ → V → Type 0) → Each lock view (λ s p. (w : V) × Comes lock view w s p (first s) (f (second s)) × says (second s) w) → AllowsSecond (Holds lock) (ways lock) view f says
+  pub allows_second : (view : Option V) (f : ℕ → ℕ) (says : ℕ → V → Type 0) → Each lock view (λ s p. (w : V) × Reaches lock view w s p (first s) (f (second s)) × says (second s) w) → AllowsSecond (Holds lock) (ways lock) view f says
   allows_second view f says makes id n m vs meets at small =
       let s = meets.0.0 in let made = makes s (number part id view vs) meets.0.1 meets.0.2 (own_part part id view vs s at meets.0.3) in let w : V = made.0 in
-      subst (λ j. (w : V) × Goes lock id view vs w n (f j) × says j w) (sym meets.0.5)
-      (subst (λ j. (w : V) × Goes lock id view vs w j (f (second s)) × says (second s) w) (sym meets.0.4) (
+      subst (λ j. (w : V) × MayStep lock id view vs w n (f j) × says j w) (sym meets.0.5)
+      (subst (λ j. (w : V) × MayStep lock id view vs w j (f (second s)) × says (second s) w) (sym meets.0.4) (
         w,
         lock.goes (use_of (ways lock).1 view) ((ways lock).1 w) (readers_of (ways lock).1 vs) (Meets (Holds lock) (ways lock) (first s) (f (second s)) (after id view vs w))
             (after_step lock id view vs w s (first s) (f (second s)) at meets.0.1 meets.0.2 meets.0.3 made.1),

@@ -8,7 +8,7 @@ use Rattle.std.specs.Prelude.{slice_get}
 use Rattle.spin_step.specs.Plain.{Plain, Kind, writing, Change, releases, stops_starving, turns}
 use Rattle.spin_step.specs.Parties.{entries_after, apply_some, IsOpenStep}
 use Rattle.spin_core.specs.Cell.{Stands, after}
-use Rattle.spin_core.specs.Views.{Part, idle, holds, saw_served, starves, holds_starving, entries_of, Knows, HasPart, part_at, IsLockOf}
+use Rattle.spin_core.specs.Views.{Part, idle, holds, knows_served, starves, holds_starving, entries_of, Knows, HasPart, part_at, IsLockOf}
 use Rattle.spin_step.specs.Orders.{IsInOrder}
 use Rattle.spin_step.proofs.Entries.{entries-own, entries-other}
 use Rattle.spin_step.proofs.Holders.{same_kind-self}
@@ -16,7 +16,7 @@ use Rattle.spin_step.proofs.Tickets.{serving-moves}
 
 knows-kept : (s : Plain) (p : ℕ) (step : Option Change) (x : Part) → IsInOrder s → IsOpenStep s p step → Knows s x → Knows (apply_some s step) x
 knows-kept s p None x order may known = known
-knows-kept s p (Some c) (saw_served n) order may known = omega (arith, known, serving-moves s c order.numbered may.1)
+knows-kept s p (Some c) (knows_served n) order may known = omega (arith, known, serving-moves s c order.numbered may.1)
 knows-kept s p (Some c) _ order may known = tt
 
 -- What a party's own steps make of what it has

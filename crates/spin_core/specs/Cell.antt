@@ -104,12 +104,12 @@ module _ {X : Type 0} where
   Finds (fixes fact) off writes (Some x) = fact false x
   Finds _ u v after = Unit {0}
 
-  abbrev pub Kept : Way X → Use → Use → Option X → Option X → Type 0
-  Kept way u v before after = Shows v before after × Finds way u v after
+  abbrev pub Preserves : Way X → Use → Use → Option X → Option X → Type 0
+  Preserves way u v before after = Shows v before after × Finds way u v after
 
   -- a step from one view to another keeps the value that is shown
   abbrev pub Keeps : {V : Type 0} → Ways X V → Option V → Option V → Option X → Option X → Type 0
-  Keeps ways view new before after = Kept ways.0 (use_of ways.1 view) (use_of ways.1 new) before after
+  Keeps ways view new before after = Preserves ways.0 (use_of ways.1 view) (use_of ways.1 new) before after
 
 module _ {X V S : Type 0} (holds : ℕ → S → List V → Type 0) (ways : Ways X V) where
   -- the rule holds of the first word, of the second or nothing, and of the views, and the uses agree with one another

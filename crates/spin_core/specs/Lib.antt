@@ -3,5 +3,5 @@ pub mod Plays
 pub mod Cell
 pub mod CellMemory
 pub mod Writer
-pub mod Settled
+pub mod Stable
 pub mod Retries

@@ -10,7 +10,7 @@ pub data Part : Type 0 where
   idle : Part
   holds : Kind → Part
   queues : ℕ → Bool → Part  -- it has the ticket of this number, which has or hasn't entered
-  saw_served : ℕ → Part  -- it has nothing, and found this number served
+  knows_served : ℕ → Part  -- it has nothing, and found this number served
   starves : Part
   holds_starving : Part  -- it writes, and is a starver still
 
@@ -19,13 +19,13 @@ abbrev pub entries_of : ℕ → Part → Entries
 entries_of p idle = no_entries
 entries_of p (holds k) = record { holders = holder p k ∷ []; tickets = []; starvers = [] }
 entries_of p (queues n entered) = record { holders = []; tickets = ticket p n entered ∷ []; starvers = [] }
-entries_of p (saw_served n) = no_entries
+entries_of p (knows_served n) = no_entries
 entries_of p starves = record { holders = []; tickets = []; starvers = p ∷ [] }
 entries_of p holds_starving = record { holders = holder p writing ∷ []; tickets = []; starvers = p ∷ [] }
 
 -- what it knows of the lock: the number that is served never falls
 abbrev pub Knows : Plain → Part → Type 0
-Knows s (saw_served n) = n ≤ serving_word s
+Knows s (knows_served n) = n ≤ serving_word s
 Knows s _ = Unit {0}
 
 -- how it uses the value

@@ -15,8 +15,8 @@ use std::mem::ManuallyDrop;
 use std::sync::atomic::Ordering::SeqCst;
 use std::sync::atomic::raw;
 
-mod goes;
-pub mod settled;
+mod ending;
+pub mod stable;
 
 /// A rule: what holds of a cell's words and of its parties between any two steps.
 ///

@@ -3,9 +3,9 @@ use Rattle.std.proofs.Common.{◌≡◌, ℕ, zero, suc, ◌+◌, ◌==◌, List
 use prog.Atomic.{either}
 use Rattle.spin_core.specs.Cell.{Use, off, reads, writes, reading, writing, use_of, readers_of, writers_of, Meets, Limits, Opens, Stands as At, after, AllowsAt, Keeps, Moved}
 use Rattle.spin_core.proofs.CellCounts.{moves}
-use Rattle.spin_core_tests.specs.Once.{use_of_view, once_ways, Stands, IsOnce, Looks, Begins, PutsBack, Completes}
+use Rattle.spin_core_tests.specs.Once.{use_of_view, once_ways, Stands, IsOnce, Loads, Begins, PutsBack, Completes}
 use Rattle.spin_core_tests.specs.declared.once.View.{View}
-use Rattle.spin_core_tests.specs.declared.once.View.TheVariants.{Away, Running, Seeing}
+use Rattle.spin_core_tests.specs.declared.once.View.TheVariants.{Away, Running, Reading}
 use Rattle.spin_core_tests.specs.declared.once.Stage.{Stage}
 use Rattle.spin_core_tests.specs.declared.once.Stage.TheVariants.{Seed, Done}
 
@@ -31,16 +31,16 @@ meets : (key n : ℕ) (m : Unit {0}) (vs : List View) → IsOnce n m vs → Meet
 meets key n m vs is = (is, limits key n (readers_of f vs) (writers_of f vs) is)
 
 pub is_made : (key value : ℕ) → value ≡ key + 1 → Opens IsOnce (once_ways key) 2 tt (Done value)
-is_made key value e = (Seeing ∷ [], tt, meets key 2 tt (Seeing ∷ []) (omega arith, refl), e)
+is_made key value e = (Reading ∷ [], tt, meets key 2 tt (Reading ∷ []) (omega arith, refl), e)
 
 -- a look: a party that finds 2 comes to see
-pub looks : (key : ℕ) → AllowsAt IsOnce (once_ways key) None None (λ n. n) (Looks 0 0 None)
+pub looks : (key : ℕ) → AllowsAt IsOnce (once_ways key) None None (λ n. n) (Loads 0 0 None)
 looks key id zero m vs has at small = let r = read_after id None vs Away tt in let w = write_after id None vs Away tt in
     (Away, (λ e. e, tt, meets key 0 m (vs ++ Away ∷ []) (omega (arith, has.0), omega (arith, has.0))), (λ e. absurd (omega (arith, e)), λ ne. refl))
 looks key id (suc zero) m vs has at small = let r = read_after id None vs Away tt in let w = write_after id None vs Away tt in
     (Away, (λ e. e, tt, meets key 1 m (vs ++ Away ∷ []) (omega (arith, has.0), omega (arith, has.0))), (λ e. absurd (omega (arith, e)), λ ne. refl))
-looks key id (suc (suc zero)) m vs has at small = let r = read_after id None vs Seeing tt in let w = write_after id None vs Seeing tt in
-    (Seeing, (λ e. refl, has.0.0, meets key 2 m (vs ++ Seeing ∷ []) (omega (arith, has.0), omega (arith, has.0))), (λ e. refl, λ ne. absurd (ne refl)))
+looks key id (suc (suc zero)) m vs has at small = let r = read_after id None vs Reading tt in let w = write_after id None vs Reading tt in
+    (Reading, (λ e. refl, has.0.0, meets key 2 m (vs ++ Reading ∷ []) (omega (arith, has.0), omega (arith, has.0))), (λ e. refl, λ ne. absurd (ne refl)))
 looks key id (suc (suc (suc n))) m vs has at small = absurd has.0
 
 -- an exchange of 0 for 1: a party that finds 0 runs
@@ -49,8 +49,8 @@ begins key id zero m vs has at small = let r = read_after id None vs Running tt 
     (Running, (λ e. absurd (let d : off ≡ reads = e in cc), tt, meets key 1 m (vs ++ Running ∷ []) (omega (arith, has.0), omega (arith, has.0))), (λ e. refl, λ e. absurd (omega (arith, e)), λ ne ne'. absurd (ne refl)))
 begins key id (suc zero) m vs has at small = let r = read_after id None vs Away tt in let w = write_after id None vs Away tt in
     (Away, (λ e. e, tt, meets key 1 m (vs ++ Away ∷ []) (omega (arith, has.0), omega (arith, has.0))), (λ e. absurd (omega (arith, e)), λ e. absurd (omega (arith, e)), λ ne ne'. refl))
-begins key id (suc (suc zero)) m vs has at small = let r = read_after id None vs Seeing tt in let w = write_after id None vs Seeing tt in
-    (Seeing, (λ e. refl, has.0.0, meets key 2 m (vs ++ Seeing ∷ []) (omega (arith, has.0), omega (arith, has.0))), (λ e. absurd (omega (arith, e)), λ e. refl, λ ne ne'. absurd (ne' refl)))
+begins key id (suc (suc zero)) m vs has at small = let r = read_after id None vs Reading tt in let w = write_after id None vs Reading tt in
+    (Reading, (λ e. refl, has.0.0, meets key 2 m (vs ++ Reading ∷ []) (omega (arith, has.0), omega (arith, has.0))), (λ e. absurd (omega (arith, e)), λ e. refl, λ ne ne'. absurd (ne' refl)))
 begins key id (suc (suc (suc n))) m vs has at small = absurd has.0
 
 -- a party that runs finds 1
@@ -65,8 +65,8 @@ puts_back key seed e id n m vs has at small = let one = runs n id vs at has.0 in
     (Away, (λ d. absurd (let c : writes ≡ reads = d in cc), e, meets key 0 m (after id (Some Running) vs Away) (omega (arith, one), omega (arith, one))), refl)
 
 pub completes : (key value : ℕ) → value ≡ key + 1 → AllowsAt IsOnce (once_ways key) (Some Running) (Some (Done value)) (λ _. 2) (λ _. Completes 0 2 (Some Running) 0)
-completes key value e id n m vs has at small = let one = runs n id vs at has.0 in let r = read_after id (Some Running) vs Seeing at in let w = write_after id (Some Running) vs Seeing at in
-    (Seeing, (λ d. refl, e, meets key 2 m (after id (Some Running) vs Seeing) (omega (arith, one), omega (arith, one))), refl)
+completes key value e id n m vs has at small = let one = runs n id vs at has.0 in let r = read_after id (Some Running) vs Reading at in let w = write_after id (Some Running) vs Reading at in
+    (Reading, (λ d. refl, e, meets key 2 m (after id (Some Running) vs Reading) (omega (arith, one), omega (arith, one))), refl)
 
 -- ---- what a party that began knows
 pub ran : (view : Option View) (found : ℕ) → Moved (Begins 0 1 None found) view → found ≡ 0 → view ≡ Some Running

@@ -2,7 +2,7 @@
 use Rattle.std.specs.Prelude.{◌≡◌, ◌≢◌, ◌<◌, ◌+◌, ℕ, zero, suc, Bool, true, false, List, Option}
 use Rattle.spin_core.specs.Cell.{Use, off, reads, writes, fixes, Ways, readers_of, writers_of}
 use Rattle.spin_core_tests.specs.declared.once.View.{View}
-use Rattle.spin_core_tests.specs.declared.once.View.TheVariants.{Away, Running, Seeing}
+use Rattle.spin_core_tests.specs.declared.once.View.TheVariants.{Away, Running, Reading}
 use Rattle.spin_core_tests.specs.declared.once.Stage.{Stage}
 use Rattle.spin_core_tests.specs.declared.once.Stage.TheVariants.{Seed, Done}
 
@@ -16,7 +16,7 @@ IsMade key false (Done value) = ⊥
 abbrev pub use_of_view : View → Use
 use_of_view Away = off
 use_of_view Running = writes
-use_of_view Seeing = reads
+use_of_view Reading = reads
 
 abbrev pub once_ways : ℕ → Ways Stage View
 once_ways key = (fixes (IsMade key), use_of_view)
@@ -32,16 +32,16 @@ abbrev pub IsOnce : ℕ → Unit {0} → List View → Type 0
 IsOnce n m vs = Stands n (readers_of use_of_view vs) (writers_of use_of_view vs)
 
 -- a party that finds the value made sees it
-abbrev pub Looks : ℕ → ℕ → Option View → ℕ → View → Type 0
-Looks old new before found after = (found ≡ 2 → after ≡ Seeing) × (found ≢ 2 → after ≡ Away)
+abbrev pub Loads : ℕ → ℕ → Option View → ℕ → View → Type 0
+Loads old new before found after = (found ≡ 2 → after ≡ Reading) × (found ≢ 2 → after ≡ Away)
 
 -- a party that finds nothing runs
 abbrev pub Begins : ℕ → ℕ → Option View → ℕ → View → Type 0
-Begins old new before found after = (found ≡ 0 → after ≡ Running) × (found ≡ 2 → after ≡ Seeing) × (found ≢ 0 → found ≢ 2 → after ≡ Away)
+Begins old new before found after = (found ≡ 0 → after ≡ Running) × (found ≡ 2 → after ≡ Reading) × (found ≢ 0 → found ≢ 2 → after ≡ Away)
 
 -- a party that ran puts the number back, or sees the value that it made
 abbrev pub PutsBack : ℕ → ℕ → Option View → ℕ → View → Type 0
 PutsBack old new before found after = after ≡ Away
 
 abbrev pub Completes : ℕ → ℕ → Option View → ℕ → View → Type 0
-Completes old new before found after = after ≡ Seeing
+Completes old new before found after = after ≡ Reading

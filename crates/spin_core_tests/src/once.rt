@@ -1,6 +1,6 @@
 //! A value that is made once, from a number: who sees it is a reader of the cell that never gives its part back.
 ghost use Rattle.std.specs.Prelude.{◌≡◌, ◌+◌, ◌<◌, IfSome, Some};
-ghost use Rattle.spin_core_tests.specs.declared.once.View.TheVariants.{Seeing};
+ghost use Rattle.spin_core_tests.specs.declared.once.View.TheVariants.{Reading};
 
 #[cfg(test)]
 use super::equal::equal;
@@ -11,7 +11,7 @@ use spin_core::cell::{Cell, Permit, Play, Rule};
 enum View {
     Away,
     Running,
-    Seeing,
+    Reading,
 }
 
 /// The value, and the number that it is made from.
@@ -33,12 +33,12 @@ impl Rule<Stage, View> for Stage {
     ghost ways = { once_ways };
 }
 
-struct Look;
+struct Load;
 
-impl Play<View> for Look {
-    ghost use Rattle.spin_core_tests.specs.Once.{Looks};
+impl Play<View> for Load {
+    ghost use Rattle.spin_core_tests.specs.Once.{Loads};
 
-    ghost then = { Looks };
+    ghost then = { Loads };
 }
 
 struct Begin;
@@ -93,7 +93,7 @@ impl Next {
     fn get(&self) -> Option<&u64>
         ensures { IfSome result (λ value. value.now ≡ self.now.cell + 1) }
     {
-        let (found, permit) = self.cell.enter().load::<Look>();
+        let (found, permit) = self.cell.enter().load::<Load>();
         if found == 2 {
             return Some(made(permit));
         }
@@ -128,7 +128,7 @@ impl Next {
 }
 
 fn made<'a>(permit: Permit<'a, Stage, View, Stage>) -> &'a u64
-    requires { permit.view ≡ Some Seeing }
+    requires { permit.view ≡ Some Reading }
     ensures { result.now ≡ permit.entry.key + 1 }
 {
     match permit.see() {

@@ -17,7 +17,7 @@ const READS: &[(usize, usize, Option<usize>, Option<usize>)] = &[
 ];
 
 #[test]
-fn who_may_read(rt: HostRuntime) {
+fn reads_at_each_word(rt: HostRuntime) {
     for (word, cap, read, upgradable) in READS {
         equal(&rt, rw::read(*word, *cap), *read);
         equal(&rt, rw::upgradable(*word, *cap), *upgradable);
@@ -36,7 +36,7 @@ const WRITES: &[(usize, Option<usize>, Option<usize>, Option<usize>)] = &[
 ];
 
 #[test]
-fn who_may_write(rt: HostRuntime) {
+fn writes_at_each_word(rt: HostRuntime) {
     for (word, write, upgrade, asked) in WRITES {
         equal(&rt, rw::write(*word), *write);
         equal(&rt, rw::upgrade(*word), *upgrade);
@@ -63,7 +63,7 @@ fn counts(rt: HostRuntime) {
 }
 
 #[test]
-fn who_goes_or_becomes_another(rt: HostRuntime) {
+fn releases_and_turns_at_each_word(rt: HostRuntime) {
     equal(&rt, rw::release_read(18), 10);
     equal(&rt, rw::release_read(14), 6);
     equal(&rt, rw::release_upgradable(10), 8);

@@ -23,7 +23,7 @@ use Rattle.spin_step.proofs.Holders.{is_holder-from_entries, is_empty-none, leng
 use Rattle.spin_core.proofs.Knowing.{Writes, one_holds}
 use Rattle.spin_core.proofs.Leaving.{fair_word-up, no_word-up}
 use Rattle.spin_core.proofs.Owners.{OfHolders, one_holder}
-use Rattle.spin_core.proofs.Plays.{Lock, Holds, ways, EachOf, Comes, allows_among, by_step, by_grant, by_none, exchanged, begins, looks}
+use Rattle.spin_core.proofs.Plays.{Lock, Holds, ways, EachOf, Reaches, allows_among, by_step, by_grant, by_none, exchanged, begins, looks}
 use Rattle.spin_core.proofs.Plays as plays
 use Rattle.spin_step.proofs.Starvers.{is_starver-from_entries, length-without_starver}
 use Rattle.spin_core.proofs.Views.{part_before, release-own, stop-own, stop_holding-own}
@@ -70,9 +70,9 @@ with_order view f says fits step id n m vs meets at small =
     (made.0, ((made.1.0, first_after id view vs made.0 at (fits n m vs made.0 meets.0.0 made.2) meets.0.1), made.1.1), made.2)
 
 allows : (view : Option View) (f : ℕ → ℕ) (says : ℕ → View → Type 0) → ((n : ℕ) (vs : List View) (w : View) → says n w → Fits view w vs)
-    → Each view (λ s p. (w : View) × Comes fair view w s p (f (fair_word s)) tt × says (fair_word s) w) → Allows IsFair (ways fair) view f says
+    → Each view (λ s p. (w : View) × Reaches fair view w s p (f (fair_word s)) tt × says (fair_word s) w) → Allows IsFair (ways fair) view f says
 allows view f says fits makes = with_order view f says (λ n m vs w holds. fits n vs w)
-    (allows_among fair view f says (of_each view (λ s p. (w : View) × Comes fair view w s p (f (fair_word s)) tt × says (fair_word s) w) makes))
+    (allows_among fair view f says (of_each view (λ s p. (w : View) × Reaches fair view w s p (f (fair_word s)) tt × says (fair_word s) w) makes))
 
 -- what a party gets by an exchange where it finds the word of which the step function was asked
 gets_at : (view : Option View) (ask : Ask) (won lost : View) (old new : ℕ) → ((n : ℕ) (m : Unit {0}) (vs : List View) → Holds fair n m vs → (n ≡ old → Fits view won vs) × Fits view lost vs) → ((s : Plain) (p : ℕ) → entries_after s (Some (gets p ask)) (entries_of p (part_before part view)) ≡ entries_of p (part won)) → ((s : Plain) → Knows s (part won))
@@ -82,7 +82,7 @@ gets_at view ask won lost old new fits comes knows still plain = with_order view
     (λ n m vs w holds is. let each = fits n m vs holds in dite (ℕ_discrete n old)
     (λ e. subst (λ v. Fits view v vs) (sym (is ∙ ap (λ b. if b then won else lost) (eq-eqb n old e))) (each.0 e))
     (λ ne. subst (λ v. Fits view v vs) (sym (is ∙ ap (λ b. if b then won else lost) (ne_eqb n old ne))) each.1))
-    (exchanged fair view (λ _. won) lost old new still (of_each view (λ s p. fair_word s ≡ old → Comes fair view won s p new tt)
+    (exchanged fair view (λ _. won) lost old new still (of_each view (λ s p. fair_word s ≡ old → Reaches fair view won s p new tt)
     (λ s p room order one has small e. by_grant fair view won s p ask new tt (plain s p room order one has small e) (comes s p) (knows (apply s (gets p ask))) refl)))
 
 pub starts : Meets IsFair (ways fair) 0 tt []

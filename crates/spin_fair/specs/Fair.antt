@@ -14,7 +14,7 @@ part Holding = holds writing
 part HoldingStarving = holds_starving
 part Served = holds writing
 
--- who has the flag and starves still does not use the value yet
+-- a party that has the flag and starves still does not use the value yet
 abbrev pub use_of_view : View → Use
 use_of_view Holding = writes
 use_of_view Served = writes

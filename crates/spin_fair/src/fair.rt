@@ -4,7 +4,7 @@ ghost use Rattle.spin_guard.specs.Guard.{IsHolder};
 ghost use Rattle.spin_fair.specs.Fair.{use_of_view};
 ghost use Rattle.spin_fair.specs.declared.fair.rule.View.TheVariants.{Holding};
 
-use self::rule::{Attempt, Look, Register};
+use self::rule::{Attempt, Load, Register};
 use spin_core::cell::Cell;
 use spin_core::relax::{MAX_HINTS, RelaxStrategy, Spin, Strategy};
 use spin_guard::guard::{self, Guard};
@@ -304,7 +304,7 @@ impl<T, R> FairMutex<T, R> {
     }
 
     fn word(&self) -> usize {
-        self.cell.enter().look::<Look>() as usize
+        self.cell.enter().look::<Load>() as usize
     }
 }
 

@@ -5,7 +5,7 @@ ghost use Rattle.spin_guard.specs.Guard.{IsHolder};
 ghost use Rattle.spin_guard.specs.Texts.{lock_text};
 ghost use Rattle.spin_flag.specs.Flag.{use_of_view};
 
-use self::rule::{Attempt, Look, is_set, word};
+use self::rule::{Attempt, Load, is_set, word};
 use spin_core::cell::Cell;
 use spin_core::relax::{RelaxStrategy, Spin, Strategy};
 use spin_guard::guard::{self, Guard};
@@ -212,7 +212,7 @@ impl<T, R> SpinMutex<T, R> {
     /// equal(&rt, lock.is_locked(), false);
     /// ```
     pub fn is_locked(&self) -> bool {
-        is_set(self.cell.enter().look::<Look>())
+        is_set(self.cell.enter().look::<Load>())
     }
 
     /// Releases the lock that the hold keeps.

@@ -1,6 +1,6 @@
 pub mod Once
-pub mod Looks
-pub mod Finds
+pub mod Loads
+pub mod Claims
 pub mod Texts
 pub mod Lazy
 pub mod Made

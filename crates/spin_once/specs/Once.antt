@@ -6,29 +6,29 @@ use Rattle.core.specs.declared.snapshot.Snapshot.{Snapshot}
 use Rattle.spin_step.specs.Plain.{Plain, Phase, nothing, running, complete, fresh, once_word}
 use Rattle.spin_core.specs.Cell.{Use, off, reads, writes, fixes, Ways, readers_of, writers_of}
 use Rattle.spin_core.specs.Views.{no_word}
-use Rattle.spin_core.specs.declared.cell.settled.Loose.{Loose}
-use Rattle.spin_once.specs.declared.seeded.rule.View.{View}
-use Rattle.spin_once.specs.declared.seeded.rule.View.TheVariants.{Idle, Running, Seeing}
-use Rattle.spin_once.specs.declared.seeded.rule.Stage.{Stage}
-use Rattle.spin_once.specs.declared.seeded.rule.Stage.TheVariants.{Seed, Done}
+use Rattle.spin_core.specs.declared.cell.stable.MaybeStable.{MaybeStable}
+use Rattle.spin_once.specs.declared.once_core.rule.View.{View}
+use Rattle.spin_once.specs.declared.once_core.rule.View.TheVariants.{Idle, Running, Reading}
+use Rattle.spin_once.specs.declared.once_core.rule.Stage.{Stage}
+use Rattle.spin_once.specs.declared.once_core.rule.Stage.TheVariants.{Seed, Done}
 
 abbrev pub use_of_view : View → Use
 use_of_view Idle = off
 use_of_view Running = writes
-use_of_view Seeing = reads
+use_of_view Reading = reads
 
 -- so many parties see the value, and so many run
-abbrev pub seeing : List View → ℕ
-seeing = readers_of use_of_view
+abbrev pub readers : List View → ℕ
+readers = readers_of use_of_view
 
 abbrev pub runs : List View → ℕ
 runs = writers_of use_of_view
 
 -- the parties are those of a plain lock in this phase
 abbrev pub IsPhaseOf : List View → Phase → Type 0
-IsPhaseOf vs nothing = (seeing vs ≡ 0) × (runs vs ≡ 0)
-IsPhaseOf vs (running p) = (seeing vs ≡ 0) × (runs vs ≡ 1) × (get_elem? vs p ≡ some Running)
-IsPhaseOf vs complete = (0 < seeing vs) × (runs vs ≡ 0)
+IsPhaseOf vs nothing = (readers vs ≡ 0) × (runs vs ≡ 0)
+IsPhaseOf vs (running p) = (readers vs ≡ 0) × (runs vs ≡ 1) × (get_elem? vs p ≡ some Running)
+IsPhaseOf vs complete = (0 < readers vs) × (runs vs ≡ 0)
 
 -- a plain lock of which nothing but the phase is used
 abbrev pub in_phase : Phase → Plain
@@ -49,12 +49,12 @@ module _ {T S : Type 0} (makes : S → T → Type 0) where
   IsMadeFrom key false (Seed seed) = seed ≡ key.value
   IsMadeFrom _ _ _ = ⊥
 
-  abbrev pub once_ways : Snapshot S → Ways (Loose (Stage T S)) View
+  abbrev pub once_ways : Snapshot S → Ways (MaybeStable (Stage T S)) View
   once_ways key = (fixes (λ read x. IsMadeFrom key read x.value), use_of_view)
 
 -- what a party becomes that looks at this word, and one that tries to begin
-abbrev pub looked : ℕ → View
-looked n = if n == 2 then Seeing else Idle
+abbrev pub loaded : ℕ → View
+loaded n = if n == 2 then Reading else Idle
 
 abbrev pub tried : ℕ → View
-tried n = if n == 0 then Running else looked n
+tried n = if n == 0 then Running else loaded n

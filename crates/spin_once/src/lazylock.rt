@@ -3,8 +3,8 @@
 ghost use Rattle.std.specs.Prelude.{◌≡◌};
 ghost use Rattle.spin_once.specs.Lazy.{initialiser, promise};
 
-use crate::kept::Kept;
-use crate::seeded::{Come, Seed, Seeded};
+use crate::exclusive::Exclusive;
+use crate::once_core::{Claim, OnceCore, Seed};
 use spin_core::relax::{RelaxStrategy, Spin};
 use std::marker::PhantomData;
 use std::sync::Wait;
@@ -36,7 +36,7 @@ impl<T> Promise<T> for () {
 ///
 /// # Examples
 /// ```
-/// impl<'t> Makes<Answer, AnswerFor<'t>> for Reads {
+/// impl<'t> Makes<Answer, AnswerFor<'t>> for ReadSettings {
 ///     fn make(self, promise: AnswerFor<'t>) -> Answer {
 ///         promise.0.parse()
 ///     }
@@ -75,7 +75,7 @@ impl<T, F: FnOnce() -> T, M: Promise<T> + Drop> Makes<T, M> for F {
 /// An initialiser that has not run, and what is promised of its value.
 #[derive(Drop)]
 pub(crate) struct Initialiser<F, M> {
-    kept: Kept<F>,
+    f: Exclusive<F>,
     promise: M,
 }
 
@@ -97,7 +97,7 @@ impl<T, F, M: Promise<T>> Seed<T> for Initialiser<F, M> {
 /// ```
 #[derive(Drop)]
 pub struct LazyLock<T, F = fn() -> T, R = Spin, M: Promise<T> = ()> {
-    seeded: Seeded<T, Initialiser<F, M>>,
+    core: OnceCore<T, Initialiser<F, M>>,
     strategy: PhantomData<R>,
 }
 
@@ -135,8 +135,8 @@ impl<T, F, R, M: Promise<T>> LazyLock<T, F, R, M> {
         ensures kept { promise result ≡ promised }
     {
         LazyLock {
-            seeded: Seeded::new(Initialiser {
-                kept: Kept::new(f),
+            core: OnceCore::new(Initialiser {
+                f: Exclusive::new(f),
                 promise: promised,
             }),
             strategy: PhantomData,
@@ -166,24 +166,24 @@ impl<T, F: Makes<T, M>, R: RelaxStrategy, M: Promise<T>> LazyLock<T, F, R, M> {
         requires { F.can (initialiser this.now) (promise this.now) }
         ensures { M.keeps (promise this.now) result.now }
     {
-        match this.seeded.get() {
+        match this.core.get() {
             Some(value) => value,
             None => this.make(rt),
         }
     }
 
-    // Kept apart: inlined, it would lengthen the path of each caller that finds a value.
+    // Exclusive apart: inlined, it would lengthen the path of each caller that finds a value.
     #[cold]
     #[inline(never)]
     fn make<W: Wait>(&self, rt: &W) -> &T
         requires { F.can (initialiser self.now) (promise self.now) }
         ensures { M.keeps (promise self.now) result.now }
     {
-        match self.seeded.come::<R, W>(rt) {
-            Come::Value(value) => value,
-            Come::Turn(turn) => {
-                let (turn, Initialiser { kept, promise }) = turn.take();
-                turn.complete(kept.into_inner().make(promise))
+        match self.core.claim::<R, W>(rt) {
+            Claim::Value(value) => value,
+            Claim::Init(permit) => {
+                let (permit, Initialiser { f, promise }) = permit.take();
+                permit.complete(f.into_inner().make(promise))
             }
         }
     }

@@ -3,8 +3,8 @@
 //! Begin with [`once::Once`]. A [`lazylock::LazyLock`] brings its own initialiser.
 #![tactic(auto)]
 
-mod kept;
+mod exclusive;
 pub mod lazylock;
 pub mod once;
-mod seeded;
+mod once_core;
 mod texts;

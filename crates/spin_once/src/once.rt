@@ -1,7 +1,7 @@
 //! A value that one closure makes. Begin with [`Once::new`] and [`Once::call_once`].
 ghost use Rattle.std.specs.Prelude.{◌≡◌, IfErr, Err};
 
-use crate::seeded::{Come, Seed, Seeded};
+use crate::once_core::{Claim, OnceCore, Seed};
 use spin_core::relax::{RelaxStrategy, Spin};
 use std::marker::PhantomData;
 use std::sync::Wait;
@@ -28,7 +28,7 @@ impl<T> Seed<T> for () {
 /// ```
 #[derive(Drop)]
 pub struct Once<T = (), R = Spin> {
-    seeded: Seeded<T, ()>,
+    core: OnceCore<T, ()>,
     strategy: PhantomData<R>,
 }
 
@@ -44,7 +44,7 @@ impl<T, R> Once<T, R> {
     /// ```
     pub fn new() -> Self {
         Once {
-            seeded: Seeded::new(()),
+            core: OnceCore::new(()),
             strategy: PhantomData,
         }
     }
@@ -60,7 +60,7 @@ impl<T, R> Once<T, R> {
     /// ```
     pub fn initialized(value: T) -> Self {
         Once {
-            seeded: Seeded::initialized(value, &()),
+            core: OnceCore::initialized(value, &()),
             strategy: PhantomData,
         }
     }
@@ -78,7 +78,7 @@ impl<T, R> Once<T, R> {
     /// equal(&rt, once.get().copied(), Some(3));
     /// ```
     pub fn get(&self) -> Option<&T> {
-        self.seeded.get()
+        self.core.get()
     }
 
     /// Returns `true` if [`get`](Once::get) finds a value. It stays `true` while the `Once` is shared, since a value
@@ -106,7 +106,7 @@ impl<T, R> Once<T, R> {
     /// }
     /// ```
     pub fn get_mut(&mut self) -> Option<&mut T> {
-        self.seeded.get_mut()
+        self.core.get_mut()
     }
 
     /// Consumes the `Once`, and returns its value, or `None` if there is none.
@@ -117,11 +117,8 @@ impl<T, R> Once<T, R> {
     /// equal(&rt, once.try_into_inner(), Some(5));
     /// ```
     pub fn try_into_inner(self) -> Option<T> {
-        let Self {
-            seeded,
-            strategy: _,
-        } = self;
-        seeded.into_inner()
+        let Self { core, strategy: _ } = self;
+        core.into_inner()
     }
 }
 
@@ -149,15 +146,15 @@ impl<T, R: RelaxStrategy> Once<T, R> {
         }
     }
 
-    // Kept apart: inlined, it would lengthen the path of each caller that finds a value.
+    // Exclusive apart: inlined, it would lengthen the path of each caller that finds a value.
     #[cold]
     #[inline(never)]
     fn make<F: FnOnce() -> T, W: Wait>(&self, rt: &W, f: F) -> &T
         requires { F.pre f }
     {
-        match self.seeded.come::<R, W>(rt) {
-            Come::Value(value) => value,
-            Come::Turn(turn) => turn.complete(f()),
+        match self.core.claim::<R, W>(rt) {
+            Claim::Value(value) => value,
+            Claim::Init(permit) => permit.complete(f()),
         }
     }
 
@@ -193,14 +190,14 @@ impl<T, R: RelaxStrategy> Once<T, R> {
         requires { F.pre f }
         ensures err { IfErr result (λ e. F.post f (Err e)) }
     {
-        let turn = match self.seeded.come::<R, W>(rt) {
-            Come::Value(value) => return Ok(value),
-            Come::Turn(turn) => turn,
+        let permit = match self.core.claim::<R, W>(rt) {
+            Claim::Value(value) => return Ok(value),
+            Claim::Init(permit) => permit,
         };
         match f() {
-            Ok(value) => Ok(turn.complete(value)),
+            Ok(value) => Ok(permit.complete(value)),
             Err(error) => {
-                turn.fail();
+                permit.fail();
                 Err(error)
             }
         }
@@ -235,7 +232,7 @@ impl<T, R: RelaxStrategy> Once<T, R> {
     /// equal(&rt, *once.wait(&rt), 5);
     /// ```
     pub fn wait<W: Wait>(&self, rt: &W) -> &T {
-        self.seeded.wait::<R, W>(rt)
+        self.core.wait::<R, W>(rt)
     }
 
     /// Returns the value, or `None` if there is none and no closure runs. While one runs, it spins until that one has
@@ -253,7 +250,7 @@ impl<T, R: RelaxStrategy> Once<T, R> {
     /// equal(&rt, once.poll(&rt).copied(), Some(3));
     /// ```
     pub fn poll<W: Wait>(&self, rt: &W) -> Option<&T> {
-        self.seeded.poll::<R, W>(rt)
+        self.core.poll::<R, W>(rt)
     }
 }
 

@@ -110,22 +110,22 @@ fn two_sit_and_a_third_waits(rt: HostRuntime) {
 }
 
 const ONE_SITS: Rows<'static, SeatsCall, (), usize> = rows! {
-    0 Move::Begin(SeatsCall::Leave) => Outcome::PassedOver, 0;
+    0 Move::Begin(SeatsCall::Leave) => Outcome::Skipped, 0;
     0 Move::Begin(SeatsCall::Enter) => Outcome::Begun, 0;
-    0 Move::Weak => Outcome::PassedOver, 0;
+    0 Move::Weak => Outcome::Skipped, 0;
     0 Move::Step => Outcome::GoingOn, 0;
     0 Move::Step => answered!(Answer::Granted, 1), 1;
-    0 Move::Begin(SeatsCall::Enter) => Outcome::PassedOver, 1;
-    0 Move::Begin(SeatsCall::Count) => Outcome::PassedOver, 1;
+    0 Move::Begin(SeatsCall::Enter) => Outcome::Skipped, 1;
+    0 Move::Begin(SeatsCall::Count) => Outcome::Skipped, 1;
     0 Move::Read => Outcome::Value(Some(())), 1;
-    0 Move::Write(()) => Outcome::PassedOver, 1;
+    0 Move::Write(()) => Outcome::Skipped, 1;
     0 Move::Leak => Outcome::Leaked, 1;
     1 Move::Begin(SeatsCall::TryEnter) => Outcome::Begun, 1;
     1 Move::Step => answered!(Answer::Refused, 10), 1;
 };
 
 #[test]
-fn who_sits_may_only_leave(rt: HostRuntime) {
+fn a_seated_party_may_only_leave(rt: HostRuntime) {
     let places: [Place; 2] = [Place::Leaked(Hold::Read), Place::Idle];
     let mut world = world(&rt, rt.alloc(), Seats::new(1), 2);
     plays(&rt, &mut world, ONE_SITS, &places, ());
@@ -200,7 +200,7 @@ const REPLACED: Rows<'static, OnceCall<u64>, u64, u8> = rows! {
     0 Move::OwnerSet(4) => Outcome::Written, 2;
     0 Move::Begin(OnceCall::Get) => Outcome::Begun, 2;
     0 Move::Step => answered!(Answer::Value(4), 1), 2;
-    0 Move::Write(1) => Outcome::PassedOver, 2;
+    0 Move::Write(1) => Outcome::Skipped, 2;
 };
 
 #[test]

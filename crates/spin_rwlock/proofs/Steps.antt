@@ -106,7 +106,7 @@ turns_by v w k l by was now knows down less = allows rw-lock (Some v) (λ n. (n 
       refl,
     ))
 
--- who writes, whether it asked or not
+-- a party that writes, whether it asked or not
 writes_as : (v : View) → use_of_view v ≡ writes → (p : ℕ) → entries_of p (part v) ≡ entries_of p (holds writing)
 writes_as Writing e p = refl
 writes_as WritingAsked e p = refl

@@ -257,7 +257,7 @@ impl<T, R> RwLock<T, R> {
     // Tries once to admit a reader of this kind at this word. `Err` has the word that was found in its place, or `None`
     // if the word admits no such reader.
     fn lend_at<K: Kind>(&self, word: usize) -> Result<SharedGuard<'_, T, K, R>, Option<usize>> {
-        Ok(SharedGuard::new(K::come(&self.cell, word)?))
+        Ok(SharedGuard::new(K::admit(&self.cell, word)?))
     }
 
     // Tries to admit a reader of this kind at this word, and then at the word found in its place. To begin at 0 saves a

@@ -6,7 +6,7 @@ use Rattle.spin_seated.specs.declared.mutex.Call.TheVariants.{TryLock, IsLocked}
 use Rattle.spin_seated.specs.declared.lock.Answer.TheVariants.{Truth}
 use Rattle.spin_seated.specs.Histories.{state, Owed, Owes}
 use Rattle.spin_seated.specs.Locked.{Locked}
-use Rattle.spin_seated.specs.Mutex.{mutex, Knows, holds, tries, looks, reads, writes, frees}
+use Rattle.spin_seated.specs.Mutex.{mutex, Knows, holds, tries, loads, reads, writes, frees}
 use Rattle.spin_seated.proofs.Holders.{held_by, alone_state, alone_is, is_held_by}
 
 -- the step function's theorem: on a clear flag the lock is open, and new is the flag after it
@@ -34,8 +34,8 @@ module _ (x : Knows) where
       subst (λ (o : ℕ). Owes mutex x 0 (λ n. either (n == o) new n) (tries o)) (sym is)
       (λ log legal has small. let s : Locked = state mutex x.opening log in tries_at x.pass new takes s s.lock.holders)
 
-  pub looks_owed : Owes mutex x 0 (λ n. n) (looks 0)
-  looks_owed log legal has small = let s : Locked = state mutex x.opening log in looks_at x.pass s s.lock.holders
+  pub loads_owed : Owes mutex x 0 (λ n. n) (loads 0)
+  loads_owed log legal has small = let s : Locked = state mutex x.opening log in looks_at x.pass s s.lock.holders
 
   pub reads_owed : holds x ≡ true → Owes mutex x 1 (λ n. n) (reads 0)
   reads_owed held log legal has small = (has ∙ held, refl, refl)

@@ -49,7 +49,7 @@ module _ {C H : Type 0} (m : Machine Opening Locked C Answer H) (tracked : IsTra
   pub held_by_own : (k : Opening) (log : List (Entry C Answer)) (p : ℕ) → IsLegal m k log → m.holds p (state m k log) ≡ hold_after turn (m.holds p (m.start k)) (calls_by p log)
   held_by_own k log p legal = held_on k [] log p legal
 
-  -- who makes a call may do so, by what it holds
+  -- a pass that makes a call may do so, by what it holds
   pub may_by_own : (May : H → Type 0) (k : Opening) (before rest : List (Entry C Answer)) (p : ℕ) (c : C) (a : Answer) → IsLegal m k (before ++ entry p c a ∷ rest)
       → (m.may p c (state m k before) ≡ true → May (m.holds p (state m k before))) → May (hold_after turn (m.holds p (m.start k)) (calls_by p before))
   may_by_own May k before rest p c a legal may =

@@ -8,7 +8,7 @@ use Rattle.atomic_table.specs.Table.{State, Step, Me, Act, keeps, Valid, Allows,
 use Rattle.atomic_table.proofs.Lists.{at_set, at_snoc, set_again, set_else}
 use Rattle.spin_seated.specs.declared.history.Entry.{Entry}
 use Rattle.spin_seated.specs.declared.history.Known.{Known}
-use Rattle.spin_seated.specs.Histories.{Machine, entry, calls_by, newcomer, names, total, One, state, IsLegal, Made, Met, Fits, AllFit, Kept, all_passes, IsTracked, Turned, Tells, Shows, Owed, Owes}
+use Rattle.spin_seated.specs.Histories.{Machine, entry, calls_by, newcomer, names, total, One, state, IsLegal, Made, Met, Fits, AllFit, OneHistory, all_passes, IsTracked, Turned, Tells, Shows, Owed, Owes}
 use Rattle.spin_seated.proofs.Totals.{total-append, total-set, two_at_most}
 use Rattle.spin_seated.proofs.Histories.{begins_here, begins_longer, calls_by-append, calls_by-own, calls_by-other, after-append, legal-append, still}
 
@@ -59,7 +59,7 @@ module _ {K S C A H : Type 0} (m : Machine K S C A H) where
     fit-cut (x ∷ xs) fits = (fits.1, (fits.0, tt))
 
   -- a seat of one pass steps, where the rule holds
-  module _ {X : Type 0} (x : Known K C A) (id i : ℕ) (f : ℕ → ℕ) (s : State X (List (Known K C A))) (kept : Kept m x.opening s) (at : get_elem? s.views id ≡ some (x ∷ [])) where
+  module _ {X : Type 0} (x : Known K C A) (id i : ℕ) (f : ℕ → ℕ) (s : State X (List (Known K C A))) (kept : OneHistory m x.opening s) (at : get_elem? s.views id ≡ some (x ∷ [])) where
     abbrev own_fits : Fits m x.opening kept.log x
     own_fits = (kept.fit id (x ∷ []) at).0
 
@@ -72,7 +72,7 @@ module _ {K S C A H : Type 0} (m : Machine K S C A H) where
     abbrev moved : List (Known K C A) → State X (List (Known K C A))
     moved w = record { words = written; homes = s.homes; views = slice_set s.views id w }
 
-    idles : written ≡ m.words now → Kept m x.opening (moved (x ∷ []))
+    idles : written ≡ m.words now → OneHistory m x.opening (moved (x ∷ []))
     idles same =
         record {
           log = kept.log;
@@ -96,7 +96,7 @@ module _ {K S C A H : Type 0} (m : Machine K S C A H) where
           let most : total (names x.pass) s.views ≤ 1 = kept.once x.pass in
           all_stay x.opening kept.log x.pass c a v (omega arith) (kept.fit j v there)
 
-      makes : Kept m x.opening (moved (knowing x longer ∷ []))
+      makes : OneHistory m x.opening (moved (knowing x longer ∷ []))
       makes =
           record {
             log = longer;
@@ -121,7 +121,7 @@ module _ {K S C A H : Type 0} (m : Machine K S C A H) where
     -- what the step comes to, where its word is found as it stands in the history's state
     abbrev Steps : List ℕ → Option (C × A) → Type 0
     Steps words t =
-        (w : List (Known K C A)) × (act : Act X) × Valid s.homes [] act × Kept m x.opening (stepped (record s { words = words }) i (f (slice_index words i)) id [] w act)
+        (w : List (Known K C A)) × (act : Act X) × Valid s.homes [] act × OneHistory m x.opening (stepped (record s { words = words }) i (f (slice_index words i)) id [] w act)
         × (One (λ y. Turned m t x y) w × (carried_after [] act ≡ []))
 
     steps : (t : Option (C × A)) → Owed m x.pass i f now t → Steps (m.words now) t
@@ -136,17 +136,17 @@ module _ {K S C A H : Type 0} (m : Machine K S C A H) where
 
   -- a step of a pass that owes what the lock owes for it
   pub allows : {X : Type 0} → IsTracked m → (k : K) (slots id : ℕ) (me : Me X (List (Known K C A))) (x : Known K C A) (i : ℕ) (f : ℕ → ℕ) (st : Step X) (told : ℕ → ℕ → Option (C × A))
-      → me ≡ (x ∷ [], []) → x.opening ≡ k → Owes m x i f (told st.first) → Allows (Kept m k) slots id me i f (Tells m told st me)
+      → me ≡ (x ∷ [], []) → x.opening ≡ k → Owes m x i f (told st.first) → Allows (OneHistory m k) slots id me i f (Tells m told st me)
   allows {X} tracked k slots id me x i f st told is opening owes =
-      subst (λ (o : K). Allows (Kept m o) slots id me i f (Tells m told st me)) opening
-      (subst (λ (u : Me X (List (Known K C A))). Allows (Kept m x.opening) slots id u i f (Tells m told st u)) (sym is)
+      subst (λ (o : K). Allows (OneHistory m o) slots id me i f (Tells m told st me)) opening
+      (subst (λ (u : Me X (List (Known K C A))). Allows (OneHistory m x.opening) slots id u i f (Tells m told st u)) (sym is)
       (λ s kept size at small. steps_here x id i f s kept at tracked (told st.first) owes small))
 
   -- a load by the seat of two passes, which then know the history of all
   pub shows : {X : Type 0} (k : K) (slots id : ℕ) (me : Me X (List (Known K C A))) (x y : Known K C A) (i : ℕ) (st : Step X)
-      → me ≡ (x ∷ y ∷ [], []) → x.opening ≡ k → y.opening ≡ k → Allows (Kept m k) slots id me i (λ n. n) (Shows m st me)
+      → me ≡ (x ∷ y ∷ [], []) → x.opening ≡ k → y.opening ≡ k → Allows (OneHistory m k) slots id me i (λ n. n) (Shows m st me)
   shows {X} k slots id me x y i st is of_x of_y =
-      subst (λ (u : Me X (List (Known K C A))). Allows (Kept m k) slots id u i (λ n. n) (Shows m st u)) (sym is)
+      subst (λ (u : Me X (List (Known K C A))). Allows (OneHistory m k) slots id u i (λ n. n) (Shows m st u)) (sym is)
       (λ s kept size at small.
       let fits = kept.fit id (x ∷ y ∷ []) at in
       let w : List (Known K C A) = knowing x kept.log ∷ knowing y kept.log ∷ [] in (
@@ -164,7 +164,7 @@ module _ {K S C A H : Type 0} (m : Machine K S C A H) where
       ))
 
   -- the first pass of a seat goes to a seat of its own
-  pub splits : {X : Type 0} (k : K) (id : ℕ) (v : List (Known K C A)) → Splits {S = X} (Kept m k) id v (drop 1 v) (take 1 v)
+  pub splits : {X : Type 0} (k : K) (id : ℕ) (v : List (Known K C A)) → Splits {S = X} (OneHistory m k) id v (drop 1 v) (take 1 v)
   splits k id v s kept at =
       let cut = fit-cut k kept.log v (kept.fit id v at) in
       record {
@@ -178,7 +178,7 @@ module _ {K S C A H : Type 0} (m : Machine K S C A H) where
       }
 
   -- a seat comes to stand for another's passes too
-  pub joins : {X : Type 0} (k : K) (id : ℕ) (v : List (Known K C A)) (other : ℕ) (w : List (Known K C A)) → Joins {S = X} (Kept m k) id v other w (w ++ v) []
+  pub joins : {X : Type 0} (k : K) (id : ℕ) (v : List (Known K C A)) (other : ℕ) (w : List (Known K C A)) → Joins {S = X} (OneHistory m k) id v other w (w ++ v) []
   joins k id v other w s kept at apart there =
       let w_there : get_elem? s.views other ≡ some w = sym (set_else s.views id other (w ++ v) apart) ∙ there in
       record {
@@ -209,7 +209,7 @@ module _ {K S C A H : Type 0} (m : Machine K S C A H) where
   names-newcomers k p a (suc n) = named p a (names p (map (newcomer {C = C} {A = A} k) (range_with_len (a + 1) n))) (a == p) refl (names-newcomers k p (a + 1) n)
 
   -- the table as it begins
-  pub opens : {X : Type 0} (k : K) (words : List ℕ) → words ≡ m.words (m.start k) → Kept m {X = X} k (opening words [] (all_passes m k))
+  pub opens : {X : Type 0} (k : K) (words : List ℕ) → words ≡ m.words (m.start k) → OneHistory m {X = X} k (opening words [] (all_passes m k))
   opens k words is =
       record {
         log = [];

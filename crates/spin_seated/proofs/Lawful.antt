@@ -36,12 +36,12 @@ module _ {K S C A H : Type 0} (m : Machine K S C A H) where
       (second.history, (λ n e is. ap (λ (l : List (Entry C A)). slice_get l n) second.history ∙ still_there met_a.seen a.seen first.begins n e is), still_there met_a.seen b.seen second.begins)
 
 -- what a call reads, beside what it writes: the value that stands there, which it leaves
-abbrev pub Reads : Option ℕ → Option ℕ → ℕ → Type 0
-Reads None w v = Unit {0}
-Reads (Some x) None v = x ≡ v
-Reads (Some x) (Some w) v = ⊥
+abbrev pub ReadsValue : Option ℕ → Option ℕ → ℕ → Type 0
+ReadsValue None w v = Unit {0}
+ReadsValue (Some x) None v = x ≡ v
+ReadsValue (Some x) (Some w) v = ⊥
 
-next : (r w : Option ℕ) (v : ℕ) (more seen : List ℕ) → Reads r w v → InOrderOf (unwrap_or w v ∷ more) seen → InOrderOf (v ∷ (option_to_list w ++ more)) (option_to_list r ++ seen)
+next : (r w : Option ℕ) (v : ℕ) (more seen : List ℕ) → ReadsValue r w v → InOrderOf (unwrap_or w v ∷ more) seen → InOrderOf (v ∷ (option_to_list w ++ more)) (option_to_list r ++ seen)
 next None None v more seen is rest = rest
 next None (Some w) v more seen is rest = goes_on rest
 next (Some x) None v more seen is rest = subst (λ (n : ℕ). InOrderOf (v ∷ more) (n ∷ seen)) (sym is) (looks rest)
@@ -59,8 +59,8 @@ module _ {C H : Type 0} (m : Machine Opening Locked C Answer H) (written : C →
       let same : v ≡ (state m k before).value = cc ((answered m k before rest p c (Value v) legal).1, reads (state m k before)) in
       same ∙ value_is (m.start k) before
 
-  module _ (read : C → Answer → Option ℕ) (reads : (p : ℕ) (c : C) (s : Locked) → Reads (read c (m.answer p c s)) (written c) s.value) where
-    one_call : (e : Entry C Answer) (v : ℕ) (more : List ℕ) (own : List (Entry C Answer)) (b : Bool) → Reads (read e.call e.answer) (written e.call) v
+  module _ (read : C → Answer → Option ℕ) (reads : (p : ℕ) (c : C) (s : Locked) → ReadsValue (read c (m.answer p c s)) (written c) s.value) where
+    one_call : (e : Entry C Answer) (v : ℕ) (more : List ℕ) (own : List (Entry C Answer)) (b : Bool) → ReadsValue (read e.call e.answer) (written e.call) v
         → InOrderOf (unwrap_or (written e.call) v ∷ more) (all_read read own) → InOrderOf (v ∷ (option_to_list (written e.call) ++ more)) (all_read read (if b then e ∷ own else own))
     one_call e v more own true is rest = next (read e.call e.answer) (written e.call) v more (all_read read own) is rest
     one_call e v more own false is rest = next None (written e.call) v more (all_read read own) tt rest
@@ -68,7 +68,7 @@ module _ {C H : Type 0} (m : Machine Opening Locked C Answer H) (written : C →
     pub reads_in_order : (n : ℕ) (s : Locked) (log : List (Entry C Answer)) (p : ℕ) → IsLegalFrom m n s log → InOrderOf (s.value ∷ all_written written log) (all_read read (calls_by p log))
     reads_in_order n s [] p legal = done
     reads_in_order n s (e ∷ es) p legal =
-        one_call e s.value (all_written written es) (calls_by p es) (e.pass == p) (subst (λ (a : Answer). Reads (read e.call a) (written e.call) s.value) (sym legal.2) (reads e.pass e.call s))
+        one_call e s.value (all_written written es) (calls_by p es) (e.pass == p) (subst (λ (a : Answer). ReadsValue (read e.call a) (written e.call) s.value) (sym legal.2) (reads e.pass e.call s))
         (subst (λ (v : ℕ). InOrderOf (v ∷ all_written written es) (all_read read (calls_by p es))) (writes e.pass e.call s) (reads_in_order n (m.next e.pass e.call s) es p legal.3))
 
 -- of the mutex
@@ -111,7 +111,7 @@ written_by p Unlock s = refl
 pub read : (k : Opening) (before rest : History) (p v : ℕ) → IsLegal mutex k (before ++ entry p Read (Value v) ∷ rest) → v ≡ last_written k.value before
 read k before rest p v = read_is mutex written written_by k before rest p v Read (λ s. refl)
 
-pub read_then : (p : ℕ) (c : Call) (s : Locked) → Reads (read_by c (plain_answer p c s)) (written c) s.value
+pub read_then : (p : ℕ) (c : Call) (s : Locked) → ReadsValue (read_by c (plain_answer p c s)) (written c) s.value
 read_then p Read s = refl
 read_then p TryLock s = tt
 read_then p IsLocked s = tt

@@ -6,7 +6,7 @@ use Rattle.atomic_table.specs.Table.{Step, Me, Allows}
 use Rattle.spin_seated.specs.declared.history.Entry.{Entry}
 use Rattle.spin_seated.specs.declared.lock.Opening.{Opening}
 use Rattle.spin_seated.specs.declared.lock.Answer.{Answer}
-use Rattle.spin_seated.specs.Histories.{Machine, newcomer, holds, One, Two, Kept, IsTracked, Met, Turned, held_then, Tells, Shows, Owes}
+use Rattle.spin_seated.specs.Histories.{Machine, newcomer, holds, One, Two, OneHistory, IsTracked, Met, Turned, held_then, Tells, Shows, Owes}
 use Rattle.spin_seated.specs.Passes.{Knows, Seated, seated_of, first_of_view, IsOneSeat}
 use Rattle.spin_seated.proofs.Histories.{after_step}
 use Rattle.spin_seated.proofs.Keeping.{allows}
@@ -28,7 +28,7 @@ module _ {S C H : Type 0} (m : Machine Opening S C Answer H) where
 
     -- a step of the pass that owes what the lock owes for it
     pub allowed : IsTracked m → (k : Opening) (slots i : ℕ) (f : ℕ → ℕ) (st : Step ℕ) (told : ℕ → ℕ → Option (C × Answer)) → v.known.opening ≡ k → Owes m v.known i f (told st.first)
-        → Allows (Kept m k) slots s.id s.me i f (Tells m told st s.me)
+        → Allows (OneHistory m k) slots s.id s.me i f (Tells m told st s.me)
     allowed tracked k slots i f st told opening owes = allows m tracked k slots s.id s.me v.known i f st told its_view opening owes
 
     -- what the step told, of the seat as it is now

@@ -10,7 +10,7 @@ use Rattle.spin_seated.specs.declared.history.Entry.{Entry}
 use Rattle.spin_seated.specs.declared.rwlock.SeatedHold.TheVariants as hold
 use Rattle.spin_seated.specs.Histories.{state, Turned, Owed, Owes}
 use Rattle.spin_seated.specs.Passes.{Seated}
-use Rattle.spin_seated.specs.Rw.{Locked, Answer, Truth, Value, Call, TryRead, TryWrite, Read, Write, UnlockRead, UnlockWrite, Downgrade, SeatedHold, kind_of, hold_in, may_with, rw, Knows, holds, refused_by, looks, comes, comes_to_write, counts_readers, counts_writers, reads, writes, is_call}
+use Rattle.spin_seated.specs.Rw.{Locked, Answer, Truth, Value, Call, TryRead, TryWrite, Read, Write, UnlockRead, UnlockWrite, Downgrade, SeatedHold, kind_of, hold_in, may_with, rw, Knows, holds, refused_by, loads, acquires_read, acquires_write, counts_readers, counts_writers, reads, writes, is_call}
 use Rattle.spin_seated.proofs.Histories.{after_own}
 use Rattle.spin_seated.proofs.RwSteps.{places, there, Standing, standing, tracked}
 
@@ -64,19 +64,19 @@ module _ (p : ℕ) (s : Locked) (st : Standing s) where
 abbrev found : Knows → List (Entry Call Answer) → Locked
 found x log = state rw x.opening log
 
-pub looks_owed : (x : Knows) → holds x ≡ None → Owes rw x 0 (λ n. n) (looks 0)
-looks_owed x free log legal has small = looks_at x.pass (found x log) (standing x.opening log legal) (has ∙ free)
+pub loads_owed : (x : Knows) → holds x ≡ None → Owes rw x 0 (λ n. n) (loads 0)
+loads_owed x free log legal has small = looks_at x.pass (found x log) (standing x.opening log legal) (has ∙ free)
 
-pub comes_owed : (x : Knows) (old new : ℕ) → LetsRead old new → holds x ≡ None → Owes rw x 0 (λ n. either (n == old) new n) (comes old)
-comes_owed x old new lets free log legal has small = comes_at x.pass (found x log) (standing x.opening log legal) old new (rw_word (found x log).lock == old) (has ∙ free) refl lets
+pub acquires_read_owed : (x : Knows) (old new : ℕ) → LetsRead old new → holds x ≡ None → Owes rw x 0 (λ n. either (n == old) new n) (acquires_read old)
+acquires_read_owed x old new lets free log legal has small = comes_at x.pass (found x log) (standing x.opening log legal) old new (rw_word (found x log).lock == old) (has ∙ free) refl lets
 
 -- a pass that a call has open, and as the call found it
 module _ {v w : Seated Call} (same : v ≡ w) where
   held_now : holds v.known ≡ holds w.known
   held_now = ap (λ (u : Seated Call). holds u.known) same
 
-  pub comes_to_write_owed : (new : ℕ) → LetsWrite new → holds w.known ≡ None → Owes rw v.known 0 (λ n. either (n == 0) new n) (comes_to_write 0)
-  comes_to_write_owed new lets free log legal has small =
+  pub acquires_write_owed : (new : ℕ) → LetsWrite new → holds w.known ≡ None → Owes rw v.known 0 (λ n. either (n == 0) new n) (acquires_write 0)
+  acquires_write_owed new lets free log legal has small =
       comes_to_write_at v.known.pass (found v.known log) (standing v.known.opening log legal) new (rw_word (found v.known log).lock == 0) (has ∙ (held_now ∙ free)) refl lets
 
   pub counts_readers_owed : Owes rw v.known 0 (λ n. n) (counts_readers 0)

@@ -3,7 +3,7 @@ use Rattle.std.proofs.Common.{◌≡◌, ℕ, ◌≢◌, ◌==◌, ◌&&◌, Boo
 use mathlib.Core.Logic.{dite}
 use native.Mathlib.Decide.{ℕ_discrete}
 use Rattle.spin_step.specs.Plain.{Plain, reading, writing, Holder, holder, Change, gets, releases, turns, to_read, to_write, is_open, is_holder, without_holder, with_kind}
-use Rattle.spin_step.specs.Parties.{who, IsOpenStep, IsExclusive, Entries, entries, entries_after}
+use Rattle.spin_step.specs.Parties.{party_of, IsOpenStep, IsExclusive, Entries, entries, entries_after}
 use Rattle.spin_step.specs.Readers.{reader_limit}
 use Rattle.spin_step.proofs.Holders.{is_holder-from_entries, same_kind-self}
 use Rattle.spin_step.proofs.Exclusive.{exclusive-kept}
@@ -16,7 +16,7 @@ use Rattle.spin_seated.specs.Rw.{Opening, Locked, Answer, Call, TryRead, TryWrit
 use Rattle.spin_seated.proofs.Histories.{always}
 
 -- where a call makes a step, it is the pass's own, and open
-opens : (c : Change) (s : Plain) (b : Bool) → is_open s c ≡ b → IsOpenStep s (who c) (if b then Some c else None)
+opens : (c : Change) (s : Plain) (b : Bool) → is_open s c ≡ b → IsOpenStep s (party_of c) (if b then Some c else None)
 opens c s true is = (refl, is)
 opens c s false is = tt
 

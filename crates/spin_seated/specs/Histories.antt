@@ -124,7 +124,7 @@ module _ {K S C A H : Type 0} (m : Machine K S C A H) where
 
   -- The rule of the table. There is one legal history, whose state has the words as they are; what each seat knows agrees with it,
   -- and each pass stands in one view at most
-  pub record Kept {X : Type 0} (k : K) (table : State X (List (Known K C A))) : Type 0 where
+  pub record OneHistory {X : Type 0} (k : K) (table : State X (List (Known K C A))) : Type 0 where
     pub log : List (Entry C A)
     pub words : table.words ≡ m.words (state k log)
     pub legal : IsLegal k log

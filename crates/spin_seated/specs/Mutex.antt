@@ -66,8 +66,8 @@ holds x = histories.holds mutex x
 abbrev pub tries : ℕ → ℕ → Option (Call × Answer)
 tries old found = Some (TryLock, Truth (found == 0))
 
-abbrev pub looks : ℕ → ℕ → Option (Call × Answer)
-looks none found = Some (IsLocked, Truth (not (found == 0)))
+abbrev pub loads : ℕ → ℕ → Option (Call × Answer)
+loads none found = Some (IsLocked, Truth (not (found == 0)))
 
 abbrev pub reads : ℕ → ℕ → Option (Call × Answer)
 reads none found = Some (Read, Value found)

@@ -114,14 +114,14 @@ holds x = histories.holds rw x
 abbrev pub refused_by : ℕ → Option (Call × Answer)
 refused_by found = if has_room reading found reader_limit then None else Some (TryRead, Truth false)
 
-abbrev pub looks : ℕ → ℕ → Option (Call × Answer)
-looks none found = refused_by found
+abbrev pub loads : ℕ → ℕ → Option (Call × Answer)
+loads none found = refused_by found
 
-abbrev pub comes : ℕ → ℕ → Option (Call × Answer)
-comes old found = if found == old then Some (TryRead, Truth true) else refused_by found
+abbrev pub acquires_read : ℕ → ℕ → Option (Call × Answer)
+acquires_read old found = if found == old then Some (TryRead, Truth true) else refused_by found
 
-abbrev pub comes_to_write : ℕ → ℕ → Option (Call × Answer)
-comes_to_write old found = Some (TryWrite, Truth (found == 0))
+abbrev pub acquires_write : ℕ → ℕ → Option (Call × Answer)
+acquires_write old found = Some (TryWrite, Truth (found == 0))
 
 abbrev pub counts_readers : ℕ → ℕ → Option (Call × Answer)
 counts_readers none found = Some (ReaderCount, Value (readers_in found))

@@ -31,7 +31,7 @@ pub fn nobody_is_granted_while_another_holds()
 {}
 
 /// States that a pass that is refused found the lock held by a pass.
-pub fn who_is_refused_found_a_holder()
+pub fn a_refused_try_found_a_holder()
     ensures { (k : Opening) (before after : History) (p : ℕ) → IsLegal mutex k (before ++ entry p TryLock (Truth false) ∷ after) → (q : ℕ) × (holders k before ≡ q ∷ []) }
 {}
 
@@ -69,7 +69,7 @@ pub fn a_pass_holds_from_its_try_until_it_unlocks()
 
 /// States that two passes that met agree on every answer so far. What either had seen stands at the same place in what
 /// both know now.
-pub fn who_met_agree()
+pub fn passes_that_met_agree()
     ensures { (a b met_a met_b : Knows) → Met mutex a met_a.seen met_a → Met mutex b met_a.seen met_b → (met_b.seen ≡ met_a.seen) × ((n : ℕ) (e : Entry Call Answer) → slice_get a.seen n ≡ Some e → slice_get met_b.seen n ≡ Some e) × ((n : ℕ) (e : Entry Call Answer) → slice_get b.seen n ≡ Some e → slice_get met_a.seen n ≡ Some e) }
 {}
 

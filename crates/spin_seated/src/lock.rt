@@ -90,9 +90,9 @@ pub struct Law<C> {
 }
 
 impl<C: Calls> TableRule<u64, View<Opening, C, Answer>, Opening> for Law<C> {
-    ghost use Rattle.spin_seated.specs.Histories.{Kept, all_passes};
+    ghost use Rattle.spin_seated.specs.Histories.{OneHistory, all_passes};
 
-    ghost holds = { Kept C.machine };
+    ghost holds = { OneHistory C.machine };
 
     ghost first = { all_passes C.machine };
 }

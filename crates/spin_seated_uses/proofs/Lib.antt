@@ -1,2 +1,2 @@
 pub mod Published
-pub mod Turns
+pub mod Sections

@@ -5,7 +5,7 @@
 ghost use Rattle.std.specs.Prelude.{◌≡◌, ◌+◌, Some, if◌then◌else◌, IfOk, IfSome};
 ghost use Rattle.spin_seated.specs.Histories.{own_calls};
 ghost use Rattle.spin_seated.specs.Passes.{IsPassOf, opening_of, pass_of};
-ghost use Rattle.spin_seated_uses.specs.Turns.{away, turn_of, writes_in, HasAdded};
+ghost use Rattle.spin_seated_uses.specs.Sections.{away, section_of, writes_in, HasAdded};
 
 use spin_seated::mutex::{Pass, SeatedMutex};
 use std::alloc::{AllocError, Global};
@@ -41,10 +41,10 @@ pub fn open_for_two(alloc: Global, value: u64) -> Result<(SeatedMutex, Pass, Pas
 /// answer is `true`, and as many as before otherwise (`added`).
 pub fn add(lock: &SeatedMutex, pass: &mut Pass) -> bool
     requires own { IsPassOf lock.now pass.old }
-    requires turn { turn_of pass.old.known ≡ Some away }
+    requires section { section_of pass.old.known ≡ Some away }
     ensures own { IsPassOf lock.now pass.new }
     ensures number { pass.new.known.pass ≡ pass.old.known.pass }
-    ensures turn { turn_of pass.new.known ≡ Some away }
+    ensures section { section_of pass.new.known ≡ Some away }
     ensures added { writes_in (own_calls pass.new.known) ≡ writes_in (own_calls pass.old.known) + (if result then 1 else 0) }
 {
     if !lock.try_lock(pass) {
@@ -101,7 +101,7 @@ pub fn read_sum(lock: &SeatedMutex, a: &mut Pass, b: &mut Pass) -> u64
     requires own { IsPassOf lock.now a.old × IsPassOf lock.now b.old }
     requires two { (opening_of lock.now).passes ≡ 2 }
     requires numbers { (a.old.known.pass ≡ 0) × (b.old.known.pass ≡ 1) }
-    requires turns { (turn_of a.old.known ≡ Some away) × (turn_of b.old.known ≡ Some away) }
+    requires turns { (section_of a.old.known ≡ Some away) × (section_of b.old.known ≡ Some away) }
     ensures { result ≡ (opening_of lock.now).value + (writes_in (own_calls a.old.known) + writes_in (own_calls b.old.known)) }
 {
     lock.meet(a, b);

@@ -8,7 +8,7 @@ ghost use Rattle.spin_seated.specs.Locked.{InOrderOf};
 ghost use Rattle.spin_seated.specs.Passes.{IsPassOf, opening_of, pass_of};
 ghost use Rattle.spin_seated.specs.Rw.{holds};
 ghost use Rattle.spin_seated.specs.RwLawful.{values_written, values_read};
-ghost use Rattle.spin_seated_uses.specs.Publishing.{GoesOn, HasLooked};
+ghost use Rattle.spin_seated_uses.specs.Publishing.{Extends, HasLooked};
 
 use spin_core::relax::{RelaxStrategy, Yield};
 use spin_seated::laws::a_pass_reads_in_the_order_of_the_writes;
@@ -48,12 +48,12 @@ pub fn open_for_three(
 }
 
 /// Tries until the lock is granted in this way.
-fn come<W: Wait>(rt: &W, lock: &SeatedRwLock, pass: &mut RwPass, hold: SeatedHold)
+fn acquire<W: Wait>(rt: &W, lock: &SeatedRwLock, pass: &mut RwPass, hold: SeatedHold)
     requires own { IsPassOf lock.now pass.old }
     requires free { holds pass.old.known ≡ None }
     ensures own { IsPassOf lock.now pass.new }
     ensures holds { holds pass.new.known ≡ Some hold }
-    ensures goes_on { GoesOn pass.old.known pass.new.known [] [] }
+    ensures goes_on { Extends pass.old.known pass.new.known [] [] }
 {
     for _ in rt.forever() {
         let granted = match hold {
@@ -74,9 +74,9 @@ fn publish<W: Wait>(rt: &W, lock: &SeatedRwLock, pass: &mut RwPass, value: u64)
     requires free { holds pass.old.known ≡ None }
     ensures own { IsPassOf lock.now pass.new }
     ensures free { holds pass.new.known ≡ None }
-    ensures goes_on { GoesOn pass.old.known pass.new.known [] (value ∷ []) }
+    ensures goes_on { Extends pass.old.known pass.new.known [] (value ∷ []) }
 {
-    come(rt, lock, pass, SeatedHold::Write);
+    acquire(rt, lock, pass, SeatedHold::Write);
     lock.write(pass, value);
     lock.unlock_write(pass);
 }
@@ -87,9 +87,9 @@ fn look<W: Wait>(rt: &W, lock: &SeatedRwLock, pass: &mut RwPass) -> u64
     requires free { holds pass.old.known ≡ None }
     ensures own { IsPassOf lock.now pass.new }
     ensures free { holds pass.new.known ≡ None }
-    ensures goes_on { GoesOn pass.old.known pass.new.known (result ∷ []) [] }
+    ensures goes_on { Extends pass.old.known pass.new.known (result ∷ []) [] }
 {
-    come(rt, lock, pass, SeatedHold::Read);
+    acquire(rt, lock, pass, SeatedHold::Read);
     let value = lock.read(pass);
     lock.unlock_read(pass);
     value
@@ -99,7 +99,7 @@ fn publish_all<W: Wait>(rt: &W, lock: &SeatedRwLock, mut pass: RwPass, values: &
     requires own { IsPassOf lock.now pass }
     requires free { holds pass.known ≡ None }
     ensures own { IsPassOf lock.now result }
-    ensures goes_on { GoesOn pass.known result.known [] values.now }
+    ensures goes_on { Extends pass.known result.known [] values.now }
 {
     for value in values {
         publish(rt, lock, &mut pass, *value);
@@ -119,7 +119,7 @@ fn look_often<W: Wait>(
     requires own { IsPassOf lock.now pass }
     requires free { holds pass.known ≡ None }
     ensures own { IfOk result (λ r. IsPassOf lock.now r.0) }
-    ensures goes_on { IfOk result (λ r. GoesOn pass.known r.0.known r.1.items []) }
+    ensures goes_on { IfOk result (λ r. Extends pass.known r.0.known r.1.items []) }
     ensures times { IfOk result (λ r. length r.1.items ≡ times) }
 {
     let mut seen = Vec::new(alloc);
@@ -208,7 +208,7 @@ pub fn publish_to_two<R: Threads + Wait + Sync>(
         rt,
         || -> RwPass
             requires { writer ≡ pass_of shared.now 0 }
-            ensures { IsPassOf shared.entry.now result × GoesOn (pass_of shared.entry.now 0).known result.known [] values.entry.now }
+            ensures { IsPassOf shared.entry.now result × Extends (pass_of shared.entry.now 0).known result.known [] values.entry.now }
         { publish_all(rt, shared, writer, values) },
         || -> (Looked, Looked)
             requires { (first ≡ pass_of shared.now 1) × (second ≡ pass_of shared.now 2) }

@@ -24,6 +24,6 @@ fits-if : (b : Bool) (w next most : ℕ) → (b ≡ true → w < most) → Some 
 fits-if true w next most below is = let e : next ≡ w + 1 = cc in omega (arith, below refl, e)
 fits-if false w next most below is = absurd cc
 
--- who sits down finds a seat
+-- a party that sits down finds a seat
 pub entered-fits : (n w next : ℕ) → Some next ≡ entered n w → next ≤ seats n
 entered-fits n w next is = fits-if (nat_lt w (seats n)) w next (seats n) (λ e. ltb-true w (seats n) e) is

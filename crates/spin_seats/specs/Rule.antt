@@ -21,7 +21,7 @@ looks n old new before found after = (after ≡ Idle) × (found ≤ seats n)
 abbrev pub use_of_view : View → Use
 use_of_view = used_by part
 
--- who sits reads: sitting beside one another is what readers may
+-- a party that sits reads: sitting beside one another is what readers may
 abbrev pub seat_ways : {X : Type 0} → Ways X View
 seat_ways = (lends, use_of_view)
 

@@ -3,7 +3,7 @@ ghost use Rattle.std.specs.Prelude.{◌≡◌, ◌≤◌, Some};
 ghost use Rattle.spin_seats.specs.Seats.{seats};
 ghost use Rattle.spin_seats.specs.declared.seats.rule.View.TheVariants.{Seated};
 
-use self::rule::{GetUp, Look, SeatsRule, SitDown, View};
+use self::rule::{GetUp, Load, SeatsRule, SitDown, View};
 use crate::steps;
 use spin_core::cell::{Cell, Permit};
 use spin_core::relax::{RelaxStrategy, Spin};
@@ -71,7 +71,7 @@ impl<const N: usize> Seats<N> {
     pub fn count(&self) -> usize
         ensures { result ≤ seats N }
     {
-        let (found, permit) = self.cell.enter().load::<Look<N>>();
+        let (found, permit) = self.cell.enter().load::<Load<N>>();
         permit.leave();
         found as usize
     }

@@ -75,7 +75,7 @@ barrier_may_leave-tells s k n count generation own is le at =
     (λ same. ap not (eq-eqb generation own same ∙ sym (eq-eqb ((s.arrivals / g - k / g) % 2 ^ 64) 0 (omega (arith, grown, same, at, is.generations)))))
     (λ other. ap not (ne_eqb generation own other ∙ sym (ne_eqb ((s.arrivals / g - k / g) % 2 ^ 64) 0 (λ none. other (omega (arith, grown, none, at, is.generations))))))
 
--- who finds another generation, and didn't lead, finds its group full
+-- a party that finds another generation, and didn't lead, finds its group full
 pub barrier_may_leave-full : (s : Plain) (k n count generation own : ℕ) → IsBarrier s n count generation → k ≤ s.arrivals → generation_at s k ≡ own → is_leading s k ≡ false → not (generation == own) ≡ true → filled_by s k ≤ s.arrivals
 barrier_may_leave-full s k n count generation own is le at follows leave =
     let g : ℕ = max s.group 1 in

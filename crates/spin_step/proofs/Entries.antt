@@ -4,7 +4,7 @@ use Rattle.std.proofs.lemmas.Bool.{eq-eqb, eqb-true, ne_eqb, and_parts, false≢
 use Rattle.std.proofs.lemmas.List.{append-nil}
 use Rattle.std.proofs.lemmas.List.Elements.{filter-append}
 use Rattle.spin_step.specs.Plain.{Plain, Kind, Holder, Ticket, Effect, comes, becomes, queues, enters, starves, runs, effect, given, Change, gets, releases, serves, stops_starving, turns, apply, is_open, is_first, holder, ticket, same_kind, without_holder, with_kind, without_starver, with_first_entered, without_first}
-use Rattle.spin_step.specs.Parties.{who, apply_some, IsOpenStep, Entries, entries, with_entries, entries_after}
+use Rattle.spin_step.specs.Parties.{party_of, apply_some, IsOpenStep, Entries, entries, with_entries, entries_after}
 use Rattle.spin_step.proofs.Exclusive.{Lets, lets}
 
 -- one more at the end of a list, under a test
@@ -72,7 +72,7 @@ others-given s p starves q ne let_in = ap (in_starvers (entries q s)) (filter-ap
 others-given s p runs q ne let_in = refl
 
 -- another party's open step leaves a party's entries as they were
-pub entries-others : (s : Plain) (c : Change) (q : ℕ) → (who c ≡ q → ⊥) → is_open s c ≡ true → entries q (apply s c) ≡ entries q s
+pub entries-others : (s : Plain) (c : Change) (q : ℕ) → (party_of c ≡ q → ⊥) → is_open s c ≡ true → entries q (apply s c) ≡ entries q s
 entries-others s (gets p ask) q ne may = others-given s p (effect ask) q ne (lets s p ask may)
 entries-others s (releases p k) q ne may = ap (in_holders (entries q s)) (others-without_holder p q k s.holders ne)
 entries-others s (serves p) q ne may = ap (in_tickets (entries q s)) (others-without_first p q true s.tickets ne may)
@@ -138,7 +138,7 @@ own-given s p enters let_in = ap (in_tickets (entries p s)) (own-with_first_ente
 own-given s p starves let_in = ap (in_starvers (entries p s)) (filter-append_true (λ r. r == p) s.starvers p (eq-eqb p p refl))
 own-given s p runs let_in = refl
 
-entries-owns : (s : Plain) (c : Change) → is_open s c ≡ true → entries (who c) (apply s c) ≡ entries_after s (Some c) (entries (who c) s)
+entries-owns : (s : Plain) (c : Change) → is_open s c ≡ true → entries (party_of c) (apply s c) ≡ entries_after s (Some c) (entries (party_of c) s)
 entries-owns s (gets p ask) may = own-given s p (effect ask) (lets s p ask may)
 entries-owns s (releases p k) may = ap (in_holders (entries p s)) (own-without_holder p k s.holders)
 entries-owns s (serves p) may = ap (in_tickets (entries p s)) (own-without_first p true s.tickets may)

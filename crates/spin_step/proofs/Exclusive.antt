@@ -60,7 +60,7 @@ with_tickets s ts n x e = record { writer = x.writer; one_upgradable = x.one_upg
 alone : (hs : List Holder) → length hs ≡ 1 → Apart hs
 alone hs one = record { writer = λ some. one; one_upgradable = omega (arith, by_kinds upgrader hs, all_kinds hs, one) }
 
--- who may come stands beside nobody that does not let it
+-- a party that may come stands beside nobody that does not let it
 come : (k : Kind) (p : ℕ) (hs : List Holder) → Apart hs → count_against k hs ≡ 0 → Apart (hs ++ holder p k ∷ [])
 come reading p hs a none =
     record {
@@ -149,6 +149,6 @@ pub exclusive-kept : (s : Plain) (p : ℕ) (step : Option Change) → IsExclusiv
 exclusive-kept s p None x may = x
 exclusive-kept s p (Some c) x may = exclusive-applied s c x may.1
 
--- who writes is the only holder
+-- a party that writes is the only holder
 pub writes_alone : (s : Plain) (p : ℕ) → IsExclusive s → is_holder p writing s.holders ≡ true → length s.holders ≡ 1
 writes_alone s p x found = x.writer (omega (arith, sum-less (one_of writing) p writing s.holders found))

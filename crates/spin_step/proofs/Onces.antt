@@ -41,7 +41,7 @@ others_got s p q _ may is = is
 its_own : (s : Plain) (p q : ℕ) {X : Type 0} → (q ≡ p → ⊥) → is_running q s.phase ≡ true → s.phase ≡ running p → X
 its_own s p q ne may is = absurd (ne (sym (eqb-true p q (ap (is_running q) (sym is) ∙ may))))
 
--- who runs a closure runs it until its own step
+-- a party that runs a closure runs it until its own step
 pub runs-others : (s : Plain) (p q : ℕ) (step : Option Change) → (q ≡ p → ⊥) → IsOpenStep s q step → s.phase ≡ running p → (apply_some s step).phase ≡ running p
 runs-others s p q None ne may is = is
 runs-others s p q (Some (gets r ask)) ne may is = others_got s p r ask may.1 is

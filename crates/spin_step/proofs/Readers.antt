@@ -84,7 +84,7 @@ only-length p k hs found = dite (ℕ_discrete (length hs) 1)
     lone true never = absurd (never refl)
     lone false never = refl
 
--- who may upgrade is alone exactly at its own weight
+-- a party that may upgrade is alone exactly at its own weight
 only-word : (k : Kind) (s : Plain) (p word : ℕ) → is_holder p k s.holders ≡ true → (length s.holders ≡ 1 → word ≡ weight k) → (word ≡ weight k → length s.holders ≡ 1) → is_only p k s.holders ≡ (word == weight k)
 only-word k s p word found there alone = only-length p k s.holders found ∙ dite (ℕ_discrete word (weight k))
     (λ is. eq-eqb (length s.holders) 1 (alone is) ∙ sym (eq-eqb word (weight k) is))

@@ -71,7 +71,7 @@ length-entered : (ts : List Ticket) → length (with_first_entered ts) ≡ lengt
 length-entered [] = refl
 length-entered (t ∷ ts) = refl
 
--- who has taken the next number stands at the end
+-- a party that has taken the next number stands at the end
 numbered-taken : (s : Plain) (p : ℕ) (b : Bool) → Numbered s → Numbered (record s { tickets = s.tickets ++ ticket p s.next b ∷ []; next = s.next + 1 })
 numbered-taken s p b numbered =
     let more = length-append s.tickets (ticket p s.next b ∷ []) in

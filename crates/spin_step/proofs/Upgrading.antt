@@ -3,7 +3,7 @@ use Rattle.std.proofs.Common.{◌≡◌, ℕ, ◌+◌, ◌↔◌, inl, inr, Bool
 use Rattle.std.proofs.lemmas.List.Sums.{sum_by-cons}
 use Rattle.std.proofs.lemmas.Bool.{and_parts, false≢true}
 use Rattle.spin_step.specs.Plain.{Plain, Kind, reading, upgradable, asking, writing, same_kind, Effect, comes, becomes, effect, given, Change, gets, releases, turns, to_write, to_upgrade_asked, apply, is_open, is_open_to, is_holder, is_only, may_turn, count_kind, with_kind}
-use Rattle.spin_step.specs.Parties.{who, IsExclusive}
+use Rattle.spin_step.specs.Parties.{party_of, IsExclusive}
 use Rattle.spin_step.specs.Steps.{bit}
 use Rattle.spin_step.specs.Readers.{reader_goes}
 use Rattle.spin_step.specs.Upgrading.{StaysAsking, apply_all, reader_releases}
@@ -24,7 +24,7 @@ nobody_comes : (s : Plain) (p q : ℕ) (k : Kind) → IsExclusive s → is_holde
 nobody_comes s p q k alone found (inl none) = omega (arith, (beside_asking s p alone found).0, all_kinds s.holders, ap length (empty_is s.holders none))
 nobody_comes s p q k alone found (inr may) = omega (arith, (beside_asking s p alone found).0, by_kinds (against k) s.holders, (room_to_come k s may).0)
 
--- who gets something leaves the readers as they are, or upgrades
+-- a party that gets something leaves the readers as they are, or upgrades
 readers_stay : (s : Plain) (p q : ℕ) (e : Effect) → IsExclusive s → is_holder p asking s.holders ≡ true → Lets s q e → is_holder p asking (given s q e).holders ≡ true → count_kind reading (given s q e).holders ≡ count_kind reading s.holders
 readers_stay s p q (comes k) alone found let_in stays = absurd (nobody_comes s p q k alone found let_in)
 readers_stay s p q (becomes j k) alone found let_in stays =
@@ -67,7 +67,7 @@ stands_at p s (c ∷ cs) stays = stays.0
 pub readers_go : (s : Plain) (p : ℕ) (cs : List Change) → IsExclusive s → StaysAsking p s cs → count_kind reading (apply_all s cs).holders + reader_releases cs ≡ count_kind reading s.holders
 readers_go s p [] x stays = omega arith
 readers_go s p (c ∷ cs) x stays =
-    omega (arith, readers_go (apply s c) p cs (exclusive-kept s (who c) (Some c) x (refl, stays.1)) stays.2, readers_only_go s p c x stays.0 stays.1 (stands_at p (apply s c) cs stays.2), one_bit (reader_goes c), sum_by-cons (λ d. one_if (reader_goes d)) c cs)
+    omega (arith, readers_go (apply s c) p cs (exclusive-kept s (party_of c) (Some c) x (refl, stays.1)) stays.2, readers_only_go s p c x stays.0 stays.1 (stands_at p (apply s c) cs stays.2), one_bit (reader_goes c), sum_by-cons (λ d. one_if (reader_goes d)) c cs)
 
 pub upgrade_opens : (s : Plain) (p : ℕ) (cs : List Change) → IsExclusive s → StaysAsking p s cs
     → (is_open_to (apply_all s cs) p to_upgrade_asked ≡ true → reader_releases cs ≡ count_kind reading s.holders) × (reader_releases cs ≡ count_kind reading s.holders → is_open_to (apply_all s cs) p to_upgrade_asked ≡ true)
@@ -76,6 +76,6 @@ upgrade_opens s p [] x stays = (
   (λ e. (alone_when_gone s p x stays).1 (omega (arith, e))),
 )
 upgrade_opens s p (c ∷ cs) x stays =
-    let rest = upgrade_opens (apply s c) p cs (exclusive-kept s (who c) (Some c) x (refl, stays.1)) stays.2 in
+    let rest = upgrade_opens (apply s c) p cs (exclusive-kept s (party_of c) (Some c) x (refl, stays.1)) stays.2 in
     let one = readers_only_go s p c x stays.0 stays.1 (stands_at p (apply s c) cs stays.2) in let more = sum_by-cons (λ d. one_if (reader_goes d)) c cs in
     ((λ may. omega (arith, rest.0 may, one, more, one_bit (reader_goes c))), (λ e. rest.1 (omega (arith, e, one, more, one_bit (reader_goes c)))))

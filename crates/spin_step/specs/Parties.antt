@@ -3,15 +3,15 @@ use Rattle.std.specs.Prelude.{◌≡◌, ℕ, ◌<◌, ◌≤◌, Bool, true, no
 use Rattle.spin_step.specs.Plain.{Plain, writing, upgraders, Holder, Ticket, Change, gets, releases, serves, stops_starving, turns, completes, fails, arrives, apply, is_open, is_empty, count_kind}
 
 -- whose step it is
-abbrev pub who : Change → ℕ
-who (gets p ask) = p
-who (releases p k) = p
-who (serves p) = p
-who (stops_starving p) = p
-who (turns p k l) = p
-who (completes p) = p
-who (fails p) = p
-who (arrives p) = p
+abbrev pub party_of : Change → ℕ
+party_of (gets p ask) = p
+party_of (releases p k) = p
+party_of (serves p) = p
+party_of (stops_starving p) = p
+party_of (turns p k l) = p
+party_of (completes p) = p
+party_of (fails p) = p
+party_of (arrives p) = p
 
 -- a step, or none
 abbrev pub apply_some : Plain → Option Change → Plain
@@ -21,7 +21,7 @@ apply_some s (Some c) = apply s c
 -- a step is the party's own, and open
 abbrev pub IsOpenStep : Plain → ℕ → Option Change → Type 0
 IsOpenStep s p None = Unit {0}
-IsOpenStep s p (Some c) = (who c ≡ p) × (is_open s c ≡ true)
+IsOpenStep s p (Some c) = (party_of c ≡ p) × (is_open s c ≡ true)
 
 -- what stands in the lock under one party's name
 pub record Entries : Type 0 where

@@ -115,7 +115,7 @@ is_reader _ = true
 abbrev pub reader_count : List Holder → ℕ
 reader_count hs = count_by (λ h. is_reader h.kind) hs
 
--- who may become the writer
+-- a party that may become the writer
 abbrev pub may_upgrade : Kind → Bool
 may_upgrade upgradable = true
 may_upgrade asking = true

@@ -11,7 +11,7 @@ ghost use Rattle.spin_step.specs.Readers.{reader_limit, OneOfEach, readers_in, w
 ///
 /// # Examples
 /// ```
-/// self.subtract::<ReaderGoes>(&mut pass.place, WORD, rw::READER as u64);
+/// self.subtract::<ReleaseRead>(&mut pass.place, WORD, rw::READER as u64);
 /// ```
 pub const READER: usize = 8;
 
@@ -35,7 +35,7 @@ pub const ASKING: usize = 4;
 ///
 /// # Examples
 /// ```
-/// self.subtract::<WriterGoes>(&mut pass.place, WORD, rw::WRITER as u64);
+/// self.subtract::<ReleaseWrite>(&mut pass.place, WORD, rw::WRITER as u64);
 /// ```
 pub const WRITER: usize = 1;
 

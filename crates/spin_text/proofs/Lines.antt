@@ -52,7 +52,7 @@ has_line place None below fits = tt
 has_line place (Some n) below fits = omega (arith, below, fits)
 
 tells_line : (began : Option ℕ) (o : Outcome (Answer ℕ) ℕ) → HasLine began → TellsLine (with_begin began o)
-tells_line began outcome.PassedOver has = tt
+tells_line began outcome.Skipped has = tt
 tells_line began outcome.Begun has = tt
 tells_line began outcome.GoingOn has = tt
 tells_line began (outcome.Answered a b) has = has

@@ -33,10 +33,10 @@ is_number n fits =
 read_decimal : (n : ℕ) → n < 2 ^ 64 → read_number (decimal n) ≡ Some n
 unfolding read_number
 read_decimal n fits =
-    let Found : ℕ → Type 0 = λ k. cond (bytes_eq (decimal n) (decimal k) && (nat_lt k (2 ^ 64))) (Some k) None ≡ Some n in
+    let ReadsAs : ℕ → Type 0 = λ k. cond (bytes_eq (decimal n) (decimal k) && (nat_lt k (2 ^ 64))) (Some k) None ≡ Some n in
     let both : (bytes_eq (decimal n) (decimal n) && (nat_lt n (2 ^ 64))) ≡ true =
     ap (λ b. b && (nat_lt n (2 ^ 64))) ((bytes_eq-Decides (decimal n) (decimal n)).1 refl) ∙ lt-ltb n (2 ^ 64) fits in
-    subst Found (sym (decimal_is_IsNumeral n fits).1) (ap (λ b. cond b (Some n) None) both)
+    subst ReadsAs (sym (decimal_is_IsNumeral n fits).1) (ap (λ b. cond b (Some n) None) both)
 
 pub read_number_some : (w : List ℕ) (n : ℕ) → n < 2 ^ 64 → w ≡ decimal n → read_number w ≡ Some n
 read_number_some w n fits is = ap read_number is ∙ read_decimal n fits

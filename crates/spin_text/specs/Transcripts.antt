@@ -42,7 +42,7 @@ from_text None = []
 from_text (Some began) = codes " from " ++ decimal (began + 1)
 
 abbrev pub outcome_text : Outcome (Answer ℕ) ℕ → List ℕ
-outcome_text outcome.PassedOver = codes "passed over"
+outcome_text outcome.Skipped = codes "passed over"
 outcome_text outcome.Begun = codes "begun"
 outcome_text outcome.GoingOn = codes "going on"
 outcome_text (outcome.Answered a began) = codes "answer " ++ answer_text a ++ from_text began

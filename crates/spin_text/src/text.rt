@@ -175,7 +175,7 @@ fn play(alloc: Global, bytes: Vec<u8>) -> Result<Vec<u8>, RunError>
 ///
 /// A line ends at a line feed, which the last line may lack. One space stands between two words. A number is decimal
 /// digits without a sign and without leading zeros, at most `u64::MAX`. Parties are numbered from 0. A move of a party
-/// that does not exist makes no bad line: it is passed over.
+/// that does not exist makes no bad line: it is skipped.
 ///
 /// It writes a line `LINE PARTY OUTCOME: WORDS` for each move, and at last `end: WORDS value VALUE`. An answer ends with
 /// ` from LINE`, the line at which its call began.

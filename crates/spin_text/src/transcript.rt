@@ -92,7 +92,7 @@ fn put_outcome(outcome: Outcome<Answer<u64>, u64>, buffer: &mut [u8], end: usize
     ensures near { end ≤ result + 61 }
 {
     match outcome {
-        Outcome::PassedOver => put(b"passed over", buffer, end),
+        Outcome::Skipped => put(b"passed over", buffer, end),
         Outcome::Begun => put(b"begun", buffer, end),
         Outcome::GoingOn => put(b"going on", buffer, end),
         Outcome::Answered { answer, began } => {

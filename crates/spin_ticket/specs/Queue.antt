@@ -3,14 +3,14 @@ use Rattle.std.specs.Prelude.{◌≡◌, ℕ, ◌<◌, ◌≤◌, Bool, true, fa
 use Rattle.spin_step.specs.Plain.{ticket_limit, next_word, serving_word}
 use Rattle.spin_core.specs.Cell.{Use}
 use Rattle.spin_step.specs.Tickets.{IsTurn}
-use Rattle.spin_core.specs.Views.{Part, idle, queues, saw_served, Encodes, used_by}
+use Rattle.spin_core.specs.Views.{Part, idle, queues, knows_served, Encodes, used_by}
 use Rattle.spin_core.specs.Plays.{exchanges}
 use Rattle.spin_ticket.specs.declared.ticket.rule.View.{View}
-use Rattle.spin_ticket.specs.declared.ticket.rule.View.TheVariants.{Idle, Saw, Waiting, Entered}
+use Rattle.spin_ticket.specs.declared.ticket.rule.View.TheVariants.{Idle, LoadedServing, Waiting, Entered}
 
 abbrev pub part : View → Part
 part Idle = idle
-part (Saw n) = saw_served n
+part (LoadedServing n) = knows_served n
 part (Waiting n) = queues n false
 part (Entered n) = queues n true
 
@@ -21,17 +21,17 @@ abbrev pub use_of_view : View → Use
 use_of_view = used_by part
 
 -- what a look at the next number tells: it is not below one that the party saw served
-abbrev pub Looks : ℕ → ℕ → Option View → ℕ → View → Type 0
-Looks old new (Some (Saw n)) found after = (n ≤ found) × (after ≡ Idle)
-Looks old new _ found after = after ≡ Idle
+abbrev pub Loads : ℕ → ℕ → Option View → ℕ → View → Type 0
+Loads old new (Some (LoadedServing n)) found after = (n ≤ found) × (after ≡ Idle)
+Loads old new _ found after = after ≡ Idle
 
 -- what a look at the served number tells who comes, who waits (it has entered if it was its turn), and who has entered (it finds its own)
-abbrev pub Sees : ℕ → ℕ → Option View → ℕ → View → Type 0
-Sees old new (Some (Waiting n)) found after = (turn : Bool) → IsTurn found n turn → after ≡ (if turn then Entered n else Waiting n)
-Sees old new (Some (Entered n)) found after = (found < ticket_limit) × (after ≡ Entered found)
-Sees old new _ found after = after ≡ Saw found
+abbrev pub LoadsServing : ℕ → ℕ → Option View → ℕ → View → Type 0
+LoadsServing old new (Some (Waiting n)) found after = (turn : Bool) → IsTurn found n turn → after ≡ (if turn then Entered n else Waiting n)
+LoadsServing old new (Some (Entered n)) found after = (found < ticket_limit) × (after ≡ Entered found)
+LoadsServing old new _ found after = after ≡ LoadedServing found
 
--- who takes a ticket has entered with it if it saw that number served, and else waits with it
+-- a party that takes a ticket has entered with it if it saw that number served, and else waits with it
 abbrev pub Takes : ℕ → ℕ → Option View → ℕ → View → Type 0
-Takes next taken (Some (Saw n)) = exchanges Entered Idle next taken (Some (Saw n))
+Takes next taken (Some (LoadedServing n)) = exchanges Entered Idle next taken (Some (LoadedServing n))
 Takes next taken before = exchanges Waiting Idle next taken before

@@ -6,7 +6,7 @@ ghost use Rattle.spin_guard.specs.Texts.{lock_text};
 ghost use Rattle.spin_ticket.specs.Queue.{use_of_view};
 ghost use Rattle.spin_ticket.specs.declared.ticket.rule.View.TheVariants.{Waiting, Entered};
 
-use self::rule::{Look, See, Take};
+use self::rule::{Load, LoadServing, Take};
 use spin_core::cell::{Cell, Permit};
 use spin_core::relax::{Loop, MAX_HINTS, RelaxStrategy, Spin, Strategy};
 use spin_guard::guard::{self, Guard};
@@ -168,7 +168,7 @@ impl<T, R> TicketMutex<T, R> {
     {
         let next = self.next();
         let after = ticket::take(next)?;
-        let (serving, permit) = self.cell.enter().load_second::<See>();
+        let (serving, permit) = self.cell.enter().load_second::<LoadServing>();
         if !ticket::is_turn(serving, next) {
             permit.leave();
             return None;
@@ -192,8 +192,8 @@ impl<T, R> TicketMutex<T, R> {
     /// ```
     pub fn is_locked(&self) -> bool {
         // In this order, so that tickets stood between the two numbers.
-        let (serving, permit) = self.cell.enter().load_second::<See>();
-        let next = permit.look::<Look>();
+        let (serving, permit) = self.cell.enter().load_second::<LoadServing>();
+        let next = permit.look::<Load>();
         prove!(serving <= next);
         !ticket::is_turn(serving, next)
     }
@@ -232,7 +232,7 @@ impl<T, R> TicketMutex<T, R> {
 
     // Returns the number of the next ticket.
     pub(crate) fn next(&self) -> u64 {
-        self.cell.enter().look::<Look>()
+        self.cell.enter().look::<Load>()
     }
 
     // Takes the ticket with this number. `Err` has the number that was found in its place, which is the same once the
@@ -263,7 +263,7 @@ impl<'a, T> Place<'a, T> {
             ahead: _,
             permit,
         } = self;
-        let (serving, permit) = permit.load_second::<See>();
+        let (serving, permit) = permit.load_second::<LoadServing>();
         if ticket::is_turn(serving, number) {
             Ok(Guard::new(permit.into_writer()))
         } else {

@@ -143,9 +143,9 @@ impl Promise<Answer> for AnswerFor<'_> {
 
 /// The initialiser that reads the text.
 #[derive(Drop)]
-struct Reads;
+struct ReadSettings;
 
-impl<'t> Makes<Answer, AnswerFor<'t>> for Reads {
+impl<'t> Makes<Answer, AnswerFor<'t>> for ReadSettings {
     fn make(self, promise: AnswerFor<'t>) -> Answer {
         promise.0.parse()
     }
@@ -161,7 +161,7 @@ impl<'t> Makes<Answer, AnswerFor<'t>> for Reads {
 /// ```
 #[derive(Drop)]
 pub struct SharedSettings<'t, R = Spin> {
-    answer: LazyLock<Answer, Reads, R, AnswerFor<'t>>,
+    answer: LazyLock<Answer, ReadSettings, R, AnswerFor<'t>>,
 }
 
 impl<'t, R: RelaxStrategy> SharedSettings<'t, R> {
@@ -178,7 +178,7 @@ impl<'t, R: RelaxStrategy> SharedSettings<'t, R> {
         ensures { text_of result ≡ text.now }
     {
         SharedSettings {
-            answer: LazyLock::promising(AnswerFor(text), Reads),
+            answer: LazyLock::promising(AnswerFor(text), ReadSettings),
         }
     }
 

@@ -10,7 +10,7 @@ use Rattle.spin_world_core.specs.declared.answer.Answer.TheVariants.{Leader, Fol
 use Rattle.spin_world_core.specs.declared.place.Hold.{Hold}
 use Rattle.spin_world_core.specs.declared.place.Seat.{Seat}
 use Rattle.spin_world_core.specs.declared.place.Seat.TheVariants.{Calling}
-use Rattle.spin_world_core.specs.declared.object.Next.TheVariants.{GoesOn, Answers}
+use Rattle.spin_world_core.specs.declared.object.Next.TheVariants.{Continue, Answers}
 use Rattle.spin_world_core.specs.declared.schedule.Move.TheVariants.{Step}
 use Rattle.spin_world_core.specs.declared.schedule.Outcome.TheVariants.{Answered}
 use Rattle.spin_world_barrier.specs.declared.barrier.BarrierWords.{BarrierWords}
@@ -24,7 +24,7 @@ use Rattle.spin_world_core.specs.Undisturbed.{arrived}
 use Rattle.spin_world_core.specs.Users.{seen_after, passes, steps_made}
 use Rattle.spin_world_barrier.specs.Barrier.{BarrierMachine, is_past, arrive, leads, barrier_machine}
 use Rattle.spin_world_barrier.specs.Groups.{is_arrival, Entries, seen_at, arrivals, InGroups, FollowersLeave}
-use Rattle.spin_world_core.proofs.Kept.{Invariant, in_call}
+use Rattle.spin_world_core.proofs.Preserved.{Invariant, in_call}
 use Rattle.spin_world_core.proofs.Every.{kept, good_first, good_after, state-seen_after}
 use Rattle.spin_world_barrier.proofs.Owed.{barrier_keeping, barrier_facts, is_barrier, one_more}
 
@@ -33,17 +33,17 @@ BarrierState = State BarrierWords ℕ BarrierCall BarrierPoint
 
 -- by what a step that arrives, and one that looks, is answered
 arrives_so : (s : BarrierState) (p : ℕ) (w : BarrierWords) (c : BarrierCall) (h : Option Hold) (b : Bool)
-    → ((stepped {A = Answer ℕ} s p c h (stays w (either b (Answers Leader h) (GoesOn (Leave s.words.generation))))).outcome ≡ Answered Leader None) ↔ (b ≡ true)
+    → ((stepped {A = Answer ℕ} s p c h (stays w (either b (Answers Leader h) (Continue (Leave s.words.generation))))).outcome ≡ Answered Leader None) ↔ (b ≡ true)
 arrives_so s p w c h true = (λ e. refl, λ e. refl)
 arrives_so s p w c h false = (λ e. absurd (cc (e)), λ e. absurd (false≢true e))
 
 looks_so : (s : BarrierState) (p g : ℕ) (c : BarrierCall) (h : Option Hold) (b : Bool)
-    → ((stepped {A = Answer ℕ} s p c h (stays s.words (either b (Answers Follower h) (GoesOn (Leave g))))).outcome ≡ Answered Follower None) ↔ (b ≡ true)
+    → ((stepped {A = Answer ℕ} s p c h (stays s.words (either b (Answers Follower h) (Continue (Leave g))))).outcome ≡ Answered Follower None) ↔ (b ≡ true)
 looks_so s p g c h true = (λ e. refl, λ e. refl)
 looks_so s p g c h false = (λ e. absurd (cc (e)), λ e. absurd (false≢true e))
 
 leads_not : (s : BarrierState) (p g : ℕ) (c : BarrierCall) (h : Option Hold) (b : Bool)
-    → (stepped {A = Answer ℕ} s p c h (stays s.words (either b (Answers Follower h) (GoesOn (Leave g))))).outcome ≡ Answered Leader None → ⊥
+    → (stepped {A = Answer ℕ} s p c h (stays s.words (either b (Answers Follower h) (Continue (Leave g))))).outcome ≡ Answered Leader None → ⊥
 leads_not s p g c h true e = cc (e)
 leads_not s p g c h false e = cc (e)
 

@@ -11,12 +11,12 @@ use Rattle.spin_step.proofs.Barriers.{barrier_arrive-words, barrier_count-below,
 use Rattle.spin_world_core.specs.declared.answer.Answer.{Answer}
 use Rattle.spin_world_core.specs.declared.answer.Answer.TheVariants.{Leader, Follower}
 use Rattle.spin_world_core.specs.declared.place.Hold.{Hold}
-use Rattle.spin_world_core.specs.declared.object.Next.TheVariants.{GoesOn, Answers}
+use Rattle.spin_world_core.specs.declared.object.Next.TheVariants.{Continue, Answers}
 use Rattle.spin_world_barrier.specs.declared.barrier.BarrierWords.{BarrierWords}
 use Rattle.spin_world_barrier.specs.declared.barrier.BarrierCall.{BarrierCall}
 use Rattle.spin_world_barrier.specs.declared.barrier.BarrierPoint.{BarrierPoint}
 use Rattle.spin_world_barrier.specs.declared.barrier.BarrierPoint.TheVariants.{Arrive, Leave}
-use Rattle.spin_world_core.specs.Manners.{Manner, plain}
+use Rattle.spin_world_core.specs.StepKinds.{StepKind, plain}
 use Rattle.spin_world_core.specs.Calls.{BelongsTo, Mark, meets, follows, AnyOf, Arrives}
 use Rattle.spin_world_barrier.specs.Kind.{barrier}
 use Rattle.spin_world_core.specs.Undisturbed.{arrived}
@@ -81,7 +81,7 @@ pub one_more : (s : Plain) (step : Option Change) → BelongsTo barrier step →
 one_more s step belongs = by_arrival (λ made. (apply_some s made).arrivals ≡ s.arrivals + bit (passes is_arrival made)) (omega arith) (λ p. refl) step belongs
 
 -- a step that is no arrival of the party's own leaves what it knows
-waits-on : (g p q : ℕ) (s : Plain) (step : Option Change) (r : Manner) (span : List Mark) → ((q == p) && is_some step) ≡ false → BelongsTo barrier step → Waits g p s span → Waits g p (apply_some s step) (mark_of q step r s ∷ span)
+waits-on : (g p q : ℕ) (s : Plain) (step : Option Change) (r : StepKind) (span : List Mark) → ((q == p) && is_some step) ≡ false → BelongsTo barrier step → Waits g p s span → Waits g p (apply_some s step) (mark_of q step r s ∷ span)
 waits-on g p q s step r span none belongs waits =
     let up = rises s step belongs in
     record {
@@ -113,7 +113,7 @@ module _ (n : ℕ) where
       ap (λ k. record { count = k; generation = u.generation }) count ∙ ap (λ k. record { count = w.count; generation = k }) generation
 
   -- the party's own arrival, which leads no group
-  waits_from : (p : ℕ) (s : Plain) (r : Manner) (span : List Mark) (g : ℕ) → generation_word s ≡ g → is_leading s (s.arrivals + 1) ≡ false → generation_at s (s.arrivals + 1) ≡ g → Waits g p (apply s (arrives p)) (mark_of p (Some (arrives p)) r s ∷ span)
+  waits_from : (p : ℕ) (s : Plain) (r : StepKind) (span : List Mark) (g : ℕ) → generation_word s ≡ g → is_leading s (s.arrivals + 1) ≡ false → generation_at s (s.arrivals + 1) ≡ g → Waits g p (apply s (arrives p)) (mark_of p (Some (arrives p)) r s ∷ span)
   waits_from p s r span g is behind same =
       record {
         number = s.arrivals + 1;
@@ -130,7 +130,7 @@ module _ (n : ℕ) where
       let after = barrier_arrive-words s n w.count w.generation is in (
         barrier_count-below s n w.count w.generation is,
         ((refl, refl), two _ _ _ _ (sym after.words.counts) (sym after.words.generations), record { no_holders = at.shape.no_holders; group = at.shape.group }),
-        branches p at (Some (arrives p)) plain goes (leads n w) (Answers Leader None) (GoesOn (Leave w.generation)) (λ full. (refl, inl refl, inl (s.arrivals + 1, (refl, refl, refl), sym after.leads ∙ full)))
+        branches p at (Some (arrives p)) plain goes (leads n w) (Answers Leader None) (Continue (Leave w.generation)) (λ full. (refl, inl refl, inl (s.arrivals + 1, (refl, refl, refl), sym after.leads ∙ full)))
             (λ behind. (refl, refl, tt, tt, waits_from p s _ span w.generation is.generations (sym after.leads ∙ behind) (after.stays behind))),
         (λ closed. absurd (true≢false closed)),
       )
@@ -150,7 +150,7 @@ module _ (n : ℕ) where
       let waits = at.knows in
       let leaves : may_leave s waits.number ≡ true = sym (or-false (may_leave s waits.number)) ∙ (ap (λ b. may_leave s waits.number || b) (sym waits.follows) ∙ subst (λ k. (may_leave s k || is_leading s k) ≡ true) waits.is_number may) in
       let past : is_past g w.generation ≡ true = barrier_may_leave-tells s waits.number n w.count w.generation g is waits.come waits.found ∙ leaves in
-      ap (λ b. goes_by {A = Answer ℕ} (either b (Answers Follower None) (GoesOn (Leave g))) true (λ l. answers_by (barrier_table n) 3 w c l None)) past
+      ap (λ b. goes_by {A = Answer ℕ} (either b (Answers Follower None) (Continue (Leave g))) true (λ l. answers_by (barrier_table n) 3 w c l None)) past
   soon p _ _ (Some h) s w span = tt
 
   begins : (p : ℕ) (c : BarrierCall) (h : Option Hold) (s : Plain) → BeginsAt (barrier_table n) (barrier_notes n) c h p s (begin_of (barrier_table n) c h)
@@ -166,7 +166,7 @@ module _ (n : ℕ) where
   sound p (Leave g) None = (refl, inl refl)
   sound p _ (Some h) = tt
 
-  others : (p q : ℕ) (l : BarrierPoint) (s : Plain) (step : Option Change) (r : Manner) (span : List Mark) → (q ≡ p → ⊥) → BelongsTo barrier step → KnowsAt l p s span → KnowsAt l p (apply_some s step) (mark_of q step r s ∷ span)
+  others : (p q : ℕ) (l : BarrierPoint) (s : Plain) (step : Option Change) (r : StepKind) (span : List Mark) → (q ≡ p → ⊥) → BelongsTo barrier step → KnowsAt l p s span → KnowsAt l p (apply_some s step) (mark_of q step r s ∷ span)
   others p q Arrive s step r span ne belongs knows = tt
   others p q (Leave g) s step r span ne belongs knows = waits-on g p q s step r span (ap (λ b. b && is_some step) (ne_eqb q p ne)) belongs knows
 

@@ -3,7 +3,7 @@ use Rattle.std.specs.Prelude.{ℕ, Bool, false, not, Option, Some, None, ◌==�
 use Rattle.spin_step.specs.Plain.{arrives}
 use Rattle.spin_step.specs.Barriers.{arrived}
 use Rattle.spin_world_core.specs.declared.place.Hold.{Hold}
-use Rattle.spin_world_core.specs.declared.object.Next.TheVariants.{GoesOn, Answers}
+use Rattle.spin_world_core.specs.declared.object.Next.TheVariants.{Continue, Answers}
 use Rattle.spin_world_core.specs.declared.answer.Answer.{Answer}
 use Rattle.spin_world_core.specs.declared.answer.Answer.TheVariants.{Leader, Follower}
 use Rattle.spin_world_barrier.specs.declared.barrier.BarrierWords.{BarrierWords}
@@ -40,8 +40,8 @@ word_of (Leave g) = 1
 
 -- no arrival is refused
 abbrev pub act_of : ℕ → BarrierPoint → Option Hold → Act BarrierWords BarrierPoint (Answer ℕ)
-act_of n Arrive h = section (is_below n) (λ w. Some (arrive n w)) (λ p. arrives p) (λ w. either (leads n w) (Answers Leader h) (GoesOn (Leave w.generation))) (λ w. GoesOn Arrive)
-act_of n (Leave g) h = load_if (is_past g) (λ k. Answers Follower h) (λ k. GoesOn (Leave g))
+act_of n Arrive h = section (is_below n) (λ w. Some (arrive n w)) (λ p. arrives p) (λ w. either (leads n w) (Answers Leader h) (Continue (Leave w.generation))) (λ w. Continue Arrive)
+act_of n (Leave g) h = load_if (is_past g) (λ k. Answers Follower h) (λ k. Continue (Leave g))
 
 abbrev pub BarrierMachine : Type 0
 BarrierMachine = Machine BarrierWords ℕ BarrierCall BarrierPoint (Answer ℕ)

@@ -1,7 +1,7 @@
 -- Barriers that are wrong, each in one part of its machine, and schedules on which the laws refuse them.
 use Rattle.std.specs.Prelude.{ℕ, ◌==◌, ◌&&◌, Option, Some, None, [], ◌∷◌, ◌+◌}
 use Rattle.spin_world_core.specs.declared.place.Hold.{Hold}
-use Rattle.spin_world_core.specs.declared.object.Next.TheVariants.{GoesOn, Answers}
+use Rattle.spin_world_core.specs.declared.object.Next.TheVariants.{Continue, Answers}
 use Rattle.spin_world_core.specs.declared.object.Stepped.{Stepped}
 use Rattle.spin_world_core.specs.declared.answer.Answer.{Answer}
 use Rattle.spin_world_core.specs.declared.answer.Answer.TheVariants.{Leader, Follower}
@@ -28,7 +28,7 @@ ones = barrier_machine 1
 
 -- whoever finds no other of its group leads
 abbrev first_step : Steps
-first_step w value c Arrive h = record { words = arrive 2 w; placed = None; next = either (w.count == 0) (Answers Leader h) (GoesOn (Leave w.generation)) }
+first_step w value c Arrive h = record { words = arrive 2 w; placed = None; next = either (w.count == 0) (Answers Leader h) (Continue (Leave w.generation)) }
 first_step w value c (Leave g) h = pairs.step w value c (Leave g) h
 
 abbrev pub first_leads : BarrierMachine
@@ -44,7 +44,7 @@ leaves_early = record pairs { step = early_step }
 
 -- whoever fills its group is told that it follows
 abbrev follower_step : Steps
-follower_step w value c Arrive h = record { words = arrive 2 w; placed = None; next = either (w.count == 1) (Answers Follower h) (GoesOn (Leave w.generation)) }
+follower_step w value c Arrive h = record { words = arrive 2 w; placed = None; next = either (w.count == 1) (Answers Follower h) (Continue (Leave w.generation)) }
 follower_step w value c (Leave g) h = pairs.step w value c (Leave g) h
 
 abbrev pub nobody_leads : BarrierMachine
@@ -52,15 +52,15 @@ nobody_leads = record pairs { step = follower_step }
 
 -- whoever fills its group goes on once the next one is full
 abbrev late_step : Steps
-late_step w value c Arrive h = record { words = arrive 1 w; placed = None; next = GoesOn (Leave (arrive 1 w).generation) }
-late_step w value c (Leave g) h = record { words = w; placed = None; next = either (is_past g w.generation) (Answers Leader h) (GoesOn (Leave g)) }
+late_step w value c Arrive h = record { words = arrive 1 w; placed = None; next = Continue (Leave (arrive 1 w).generation) }
+late_step w value c (Leave g) h = record { words = w; placed = None; next = either (is_past g w.generation) (Answers Leader h) (Continue (Leave g)) }
 
 abbrev pub leads_late : BarrierMachine
 leads_late = record ones { step = late_step }
 
 -- whoever fills its group is told so by its next step
 abbrev told_step : Steps
-told_step w value c Arrive h = record { words = arrive 1 w; placed = None; next = GoesOn (Leave w.generation) }
+told_step w value c Arrive h = record { words = arrive 1 w; placed = None; next = Continue (Leave w.generation) }
 told_step w value c (Leave g) h = record { words = w; placed = None; next = Answers Leader h }
 
 abbrev pub told_late : BarrierMachine
@@ -69,7 +69,7 @@ told_late = record ones { step = told_step }
 -- whoever follows goes on only where nobody has come for the next group
 abbrev quiet_step : Steps
 quiet_step w value c Arrive h = pairs.step w value c Arrive h
-quiet_step w value c (Leave g) h = record { words = w; placed = None; next = either (is_past g w.generation && (w.count == 0)) (Answers Follower h) (GoesOn (Leave g)) }
+quiet_step w value c (Leave g) h = record { words = w; placed = None; next = either (is_past g w.generation && (w.count == 0)) (Answers Follower h) (Continue (Leave g)) }
 
 abbrev pub leaves_in_quiet : BarrierMachine
 leaves_in_quiet = record pairs { step = quiet_step }
@@ -119,7 +119,7 @@ one_group_and_one = (0, Begin Wait) ∷ (0, Step) ∷ (1, Begin Wait) ∷ (1, St
 -- whoever follows goes on only while the group after its own gathers
 abbrev next_step : Steps
 next_step w value c Arrive h = pairs.step w value c Arrive h
-next_step w value c (Leave g) h = record { words = w; placed = None; next = either (w.generation == g + 1) (Answers Follower h) (GoesOn (Leave g)) }
+next_step w value c (Leave g) h = record { words = w; placed = None; next = either (w.generation == g + 1) (Answers Follower h) (Continue (Leave g)) }
 
 abbrev pub leaves_in_the_next : BarrierMachine
 leaves_in_the_next = record pairs { step = next_step }

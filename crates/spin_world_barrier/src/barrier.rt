@@ -159,7 +159,7 @@ impl Object for BarrierObject {
                 let next = if leads {
                     Next::Answers(Answer::Leader, holds)
                 } else {
-                    Next::GoesOn(BarrierPoint::Leave(generation))
+                    Next::Continue(BarrierPoint::Leave(generation))
                 };
                 Stepped::stay(words, next)
             }
@@ -167,7 +167,7 @@ impl Object for BarrierObject {
                 let next = if generation != found {
                     Next::Answers(Answer::Follower, holds)
                 } else {
-                    Next::GoesOn(BarrierPoint::Leave(found))
+                    Next::Continue(BarrierPoint::Leave(found))
                 };
                 Stepped::stay(words, next)
             }

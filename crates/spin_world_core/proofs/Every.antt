@@ -7,26 +7,26 @@ use Rattle.spin_world_core.specs.declared.place.Hold.{Hold}
 use Rattle.spin_world_core.specs.declared.place.Seat.{Seat}
 use Rattle.spin_world_core.specs.declared.place.Seat.TheVariants.{Idle, Calling, Holding, Leaked, Gone}
 use Rattle.spin_world_core.specs.declared.object.Next.{Next}
-use Rattle.spin_world_core.specs.declared.object.Next.TheVariants.{GoesOn, Answers}
+use Rattle.spin_world_core.specs.declared.object.Next.TheVariants.{Continue, Answers}
 use Rattle.spin_world_core.specs.declared.schedule.Move.{Move}
 use Rattle.spin_world_core.specs.declared.schedule.Move.TheVariants.{Begin, Step, Weak, Read, Write, Leak, OwnerGet, OwnerSet}
-use Rattle.spin_world_core.specs.Manners.{Manner, by_step}
-use Rattle.spin_world_core.specs.Manners as manner
+use Rattle.spin_world_core.specs.StepKinds.{StepKind, by_step}
+use Rattle.spin_world_core.specs.StepKinds as step_kind
 use Rattle.spin_world_core.specs.Machines.{Machine, opening_plain}
 use Rattle.spin_world_core.specs.Schedules.{State, after, at_first, goes_on, placed, refuses, may_read, may_write, is_owners}
 use Rattle.spin_world_core.specs.Calls.{tries, Mark}
 use Rattle.spin_world_core.specs.Order.{Gets, GetsWhenDue, TriesOn}
 use Rattle.spin_world_core.specs.Runs.{own, Seen, Scene, IsStep, StepLeaves, IsCounted, scene_of, scene_at, scene, if_completed, StandsFor, Every, Keeps, IsRight, IsInTime, opening, KeepsAll, MomentsAll, CountsAll, CanStep}
 use Rattle.spin_world_core.specs.Users.{seen_after}
-use Rattle.spin_world_core.proofs.Facts.{LocalInvariant, KnowsAt, GoesOnOpen, GoesOnCounted, Facts}
-pub use Rattle.spin_world_core.proofs.Kept.{standing, in_call}
+use Rattle.spin_world_core.proofs.Facts.{LocalInvariant, KnowsAt, GoesOnOpen, ContinuesCounted, Facts}
+pub use Rattle.spin_world_core.proofs.Preserved.{standing, in_call}
 use Rattle.spin_world_core.proofs.Undisturbed.{RunsOn}
-use Rattle.spin_world_core.proofs.Kept.{Invariant, Kept, passed_over, passed_kept, went_on, begun_kept, read_kept, write_kept, leak_kept}
+use Rattle.spin_world_core.proofs.Preserved.{Invariant, Preserved, skipped_at, skip_kept, went_on, begun_kept, read_kept, write_kept, leak_kept}
 use Rattle.spin_world_core.proofs.Owners.{owner_get_kept, owner_set_kept}
 
 -- a step goes on or answers
 is_step : {W V C L A : Type 0} (s : State W V C L) (p : ℕ) (c : C) (h : Option Hold) (next : Next L A) → IsStep (goes_on s p c h next).outcome
-is_step s p c h (GoesOn l) = tt
+is_step s p c h (Continue l) = tt
 is_step s p c h (Answers a after) = tt
 
 -- and leaves the value, where no closure completes
@@ -34,105 +34,105 @@ leaves : {V : Type 0} (old new put : Option V) (step : Option Change) → new �
 leaves old new put (Some (completes p)) is = tt
 leaves old new put _ is = is
 
-counts : {W V C L A : Type 0} (m : Machine W V C L A) (s : State W V C L) (p : ℕ) (c : C) (l : L) (h : Option Hold) (plain : Plain) (next : Next L A) (step : Option Change) (r : Manner)
-    → GoesOnCounted (λ u. m.change p u c l h) plain next step r → IsCounted m p (goes_on s p c h next).outcome Step (Some (Calling c l h)) step r plain
-counts m s p c l h plain (GoesOn l') None r counted = counted
+counts : {W V C L A : Type 0} (m : Machine W V C L A) (s : State W V C L) (p : ℕ) (c : C) (l : L) (h : Option Hold) (plain : Plain) (next : Next L A) (step : Option Change) (r : StepKind)
+    → ContinuesCounted (λ u. m.change p u c l h) plain next step r → IsCounted m p (goes_on s p c h next).outcome Step (Some (Calling c l h)) step r plain
+counts m s p c l h plain (Continue l') None r counted = counted
 counts m s p c l h plain _ _ r counted = tt
 
-dues : {W V C L A : Type 0} (m : Machine W V C L A) (s : State W V C L) (p : ℕ) (c : C) (h : Option Hold) (plain : Plain) (span : List Mark) (next : Next L A) (step : Option Change) (r : Manner)
+dues : {W V C L A : Type 0} (m : Machine W V C L A) (s : State W V C L) (p : ℕ) (c : C) (h : Option Hold) (plain : Plain) (span : List Mark) (next : Next L A) (step : Option Change) (r : StepKind)
     → Gets m.lock_kind p (m.asks c h) span plain step r → GetsWhenDue {C = C} {V = V} m.lock_kind p (goes_on s p c h next).outcome Step (Some (m.asks c h)) span plain step r
-dues m s p c h plain span (GoesOn l') step r due = due
+dues m s p c h plain span (Continue l') step r due = due
 dues m s p c h plain span (Answers a rest) step r due = due
 
 tries_all : {W V C L A : Type 0} (m : Machine W V C L A) (s : State W V C L) (p : ℕ) (c : C) (h : Option Hold) (plain : Plain) (span : List Mark) (next : Next L A) (step : Option Change)
     → ((ask : Ask) → m.asks c h ≡ tries ask → own p span ≡ [] → GoesOnOpen ask p span plain next step) → TriesOn {C = C} {V = V} p (goes_on s p c h next).outcome Step (Some (m.asks c h)) span plain step
-tries_all m s p c h plain span (GoesOn l') None may = may
-tries_all m s p c h plain span (GoesOn l') (Some d) may = tt
+tries_all m s p c h plain span (Continue l') None may = may
+tries_all m s p c h plain span (Continue l') (Some d) may = tt
 tries_all m s p c h plain span (Answers a rest) step may = tt
 
 -- a weak refusal is neither due nor a try's
-weakly_due : {W V C L A : Type 0} (m : Machine W V C L A) (s : State W V C L) (p : ℕ) (c : C) (h : Option Hold) (plain : Plain) (span : List Mark) (next : Next L A) → GetsWhenDue {C = C} {V = V} m.lock_kind p (goes_on s p c h next).outcome Weak (Some (m.asks c h)) span plain None manner.weak
-weakly_due m s p c h plain span (GoesOn l') = tt
+weakly_due : {W V C L A : Type 0} (m : Machine W V C L A) (s : State W V C L) (p : ℕ) (c : C) (h : Option Hold) (plain : Plain) (span : List Mark) (next : Next L A) → GetsWhenDue {C = C} {V = V} m.lock_kind p (goes_on s p c h next).outcome Weak (Some (m.asks c h)) span plain None step_kind.weak
+weakly_due m s p c h plain span (Continue l') = tt
 weakly_due m s p c h plain span (Answers a rest) = tt
 
 weakly_tried : {W V C L A : Type 0} (m : Machine W V C L A) (s : State W V C L) (p : ℕ) (c : C) (h : Option Hold) (plain : Plain) (span : List Mark) (next : Next L A) → TriesOn {C = C} {V = V} p (goes_on s p c h next).outcome Weak (Some (m.asks c h)) span plain None
-weakly_tried m s p c h plain span (GoesOn l') = tt
+weakly_tried m s p c h plain span (Continue l') = tt
 weakly_tried m s p c h plain span (Answers a rest) = tt
 
 -- a weak refusal is no exchange that fails
-uncounted : {W V C L A : Type 0} (m : Machine W V C L A) (s : State W V C L) (p : ℕ) (c : C) (l : L) (h : Option Hold) (plain : Plain) (next : Next L A) → IsCounted m p (goes_on s p c h next).outcome Weak (Some (Calling c l h)) None manner.weak plain
-uncounted m s p c l h plain (GoesOn l') = tt
+uncounted : {W V C L A : Type 0} (m : Machine W V C L A) (s : State W V C L) (p : ℕ) (c : C) (l : L) (h : Option Hold) (plain : Plain) (next : Next L A) → IsCounted m p (goes_on s p c h next).outcome Weak (Some (Calling c l h)) None step_kind.weak plain
+uncounted m s p c l h plain (Continue l') = tt
 uncounted m s p c l h plain (Answers a after) = tt
 
 step_kept : {W V C L A : Type 0} (m : Machine W V C L A) (k : LocalInvariant V C L) (f : Facts m k) (seen : Seen W V C L) (p : ℕ) (c : C) (l : L) (h : Option Hold) → Invariant m k seen → slice_get seen.state.seats p ≡ Some (Calling c l h)
-    → Kept m k (scene_at m seen p Step (Some (Calling c l h)))
+    → Preserved m k (scene_at m seen p Step (Some (Calling c l h)))
 step_kept m k f seen p c l h good there =
     let st = m.step seen.state.words seen.state.value c l h in
     let step = m.change p seen.state.words c l h in
     let here = in_call m k seen p c l h good there in
     let is = f.steps p c l h seen.plain seen.state.value seen.state.words (seen.span p) here in
-    went_on m k f seen p Step c l h step (by_step (m.manner c l h)) st.placed st.words (placed st.placed seen.state.value) st.next good there is.opens is.belongs is.encodes is.shape (is.places ∙ ap (λ old. if_completed old st.placed step) good.written) is.next is.fails (λ strong j answers. answers seen.state.value) refl
+    went_on m k f seen p Step c l h step (by_step (m.step_kind c l h)) st.placed st.words (placed st.placed seen.state.value) st.next good there is.opens is.belongs is.encodes is.shape (is.places ∙ ap (λ old. if_completed old st.placed step) good.written) is.next is.fails (λ strong j answers. answers seen.state.value) refl
     (is_step (record seen.state { words = st.words; value = placed st.placed seen.state.value }) p c h st.next, leaves seen.state.value (placed st.placed seen.state.value) st.placed step is.places) tt
-    (counts m (record seen.state { words = st.words; value = placed st.placed seen.state.value }) p c l h seen.plain st.next step (by_step (m.manner c l h)) (f.counted p c l h seen.plain seen.state.value seen.state.words (seen.span p) here))
-    (dues m (record seen.state { words = st.words; value = placed st.placed seen.state.value }) p c h seen.plain (seen.span p) st.next step (by_step (m.manner c l h)) (f.due p c l h seen.plain seen.state.value seen.state.words (seen.span p) here))
+    (counts m (record seen.state { words = st.words; value = placed st.placed seen.state.value }) p c l h seen.plain st.next step (by_step (m.step_kind c l h)) (f.counted p c l h seen.plain seen.state.value seen.state.words (seen.span p) here))
+    (dues m (record seen.state { words = st.words; value = placed st.placed seen.state.value }) p c h seen.plain (seen.span p) st.next step (by_step (m.step_kind c l h)) (f.due p c l h seen.plain seen.state.value seen.state.words (seen.span p) here))
     (tries_all m (record seen.state { words = st.words; value = placed st.placed seen.state.value }) p c h seen.plain (seen.span p) st.next step (f.tries_on p c l h seen.plain seen.state.value seen.state.words (seen.span p) here))
 
 weak_kept : {W V C L A : Type 0} (m : Machine W V C L A) (k : LocalInvariant V C L) (f : Facts m k) (seen : Seen W V C L) (p : ℕ) (c : C) (l : L) (h : Option Hold) (o : Option (Next L A)) → Invariant m k seen → slice_get seen.state.seats p ≡ Some (Calling c l h)
-    → m.refuse c l h ≡ o → Kept m k (scene_of seen p Weak (Some (Calling c l h)) (refuses seen.state p c h o) None manner.weak None)
-weak_kept m k f seen p c l h None good there is = passed_over m k f seen p Weak (Some (Calling c l h)) manner.weak good (ap is_some is) tt
+    → m.refuse c l h ≡ o → Preserved m k (scene_of seen p Weak (Some (Calling c l h)) (refuses seen.state p c h o) None step_kind.weak None)
+weak_kept m k f seen p c l h None good there is = skipped_at m k f seen p Weak (Some (Calling c l h)) step_kind.weak good (ap is_some is) tt
 weak_kept m k f seen p c l h (Some next) good there is =
-    went_on m k f seen p Weak c l h None manner.weak None seen.state.words seen.state.value next good there tt tt good.encodes good.shape good.written
+    went_on m k f seen p Weak c l h None step_kind.weak None seen.state.words seen.state.value next good there tt tt good.encodes good.shape good.written
     (f.refuses p c l h seen.plain seen.state.value seen.state.words (seen.span p) next (in_call m k seen p c l h good there) is) (λ e. absurd (false≢true e)) (λ strong. absurd (true≢false strong)) (ap is_some is) (is_step seen.state p c h next, refl)
     (f.weakly p c l h seen.plain seen.state.value seen.state.words (seen.span p) next (in_call m k seen p c l h good there) is) (uncounted m seen.state p c l h seen.plain next)
     (weakly_due m seen.state p c h seen.plain (seen.span p) next) (weakly_tried m seen.state p c h seen.plain (seen.span p) next)
 
-kept_at : {W V C L A : Type 0} (m : Machine W V C L A) (k : LocalInvariant V C L) (f : Facts m k) (seen : Seen W V C L) (p : ℕ) (move : Move C V) (o : Option (Seat C L)) → Invariant m k seen → slice_get seen.state.seats p ≡ o → Kept m k (scene_at m seen p move o)
-kept_at m k f seen p (Begin c) None good there = passed_kept m k f seen p (Begin c) None good refl tt
+kept_at : {W V C L A : Type 0} (m : Machine W V C L A) (k : LocalInvariant V C L) (f : Facts m k) (seen : Seen W V C L) (p : ℕ) (move : Move C V) (o : Option (Seat C L)) → Invariant m k seen → slice_get seen.state.seats p ≡ o → Preserved m k (scene_at m seen p move o)
+kept_at m k f seen p (Begin c) None good there = skip_kept m k f seen p (Begin c) None good refl tt
 kept_at m k f seen p (Begin c) (Some Idle) good there = begun_kept m k f seen p c None Idle (m.begin c None) good there (standing m k seen p Idle good there) refl refl (λ closed. closed) refl
-kept_at m k f seen p (Begin c) (Some (Calling d l h)) good there = passed_kept m k f seen p (Begin c) (Some (Calling d l h)) good refl tt
+kept_at m k f seen p (Begin c) (Some (Calling d l h)) good there = skip_kept m k f seen p (Begin c) (Some (Calling d l h)) good refl tt
 kept_at m k f seen p (Begin c) (Some (Holding h)) good there = begun_kept m k f seen p c (Some h) (Holding h) (m.begin c (Some h)) good there (standing m k seen p (Holding h) good there) refl refl (λ closed. closed) refl
-kept_at m k f seen p (Begin c) (Some (Leaked h)) good there = passed_kept m k f seen p (Begin c) (Some (Leaked h)) good refl tt
-kept_at m k f seen p (Begin c) (Some (Gone h)) good there = passed_kept m k f seen p (Begin c) (Some (Gone h)) good refl tt
-kept_at m k f seen p Step None good there = passed_kept m k f seen p Step None good refl tt
-kept_at m k f seen p Step (Some Idle) good there = passed_kept m k f seen p Step (Some Idle) good refl tt
+kept_at m k f seen p (Begin c) (Some (Leaked h)) good there = skip_kept m k f seen p (Begin c) (Some (Leaked h)) good refl tt
+kept_at m k f seen p (Begin c) (Some (Gone h)) good there = skip_kept m k f seen p (Begin c) (Some (Gone h)) good refl tt
+kept_at m k f seen p Step None good there = skip_kept m k f seen p Step None good refl tt
+kept_at m k f seen p Step (Some Idle) good there = skip_kept m k f seen p Step (Some Idle) good refl tt
 kept_at m k f seen p Step (Some (Calling d l h)) good there = step_kept m k f seen p d l h good there
-kept_at m k f seen p Step (Some (Holding h)) good there = passed_kept m k f seen p Step (Some (Holding h)) good refl tt
-kept_at m k f seen p Step (Some (Leaked h)) good there = passed_kept m k f seen p Step (Some (Leaked h)) good refl tt
-kept_at m k f seen p Step (Some (Gone h)) good there = passed_kept m k f seen p Step (Some (Gone h)) good refl tt
-kept_at m k f seen p Weak None good there = passed_kept m k f seen p Weak None good refl tt
-kept_at m k f seen p Weak (Some Idle) good there = passed_kept m k f seen p Weak (Some Idle) good refl tt
+kept_at m k f seen p Step (Some (Holding h)) good there = skip_kept m k f seen p Step (Some (Holding h)) good refl tt
+kept_at m k f seen p Step (Some (Leaked h)) good there = skip_kept m k f seen p Step (Some (Leaked h)) good refl tt
+kept_at m k f seen p Step (Some (Gone h)) good there = skip_kept m k f seen p Step (Some (Gone h)) good refl tt
+kept_at m k f seen p Weak None good there = skip_kept m k f seen p Weak None good refl tt
+kept_at m k f seen p Weak (Some Idle) good there = skip_kept m k f seen p Weak (Some Idle) good refl tt
 kept_at m k f seen p Weak (Some (Calling d l h)) good there = weak_kept m k f seen p d l h (m.refuse d l h) good there refl
-kept_at m k f seen p Weak (Some (Holding h)) good there = passed_kept m k f seen p Weak (Some (Holding h)) good refl tt
-kept_at m k f seen p Weak (Some (Leaked h)) good there = passed_kept m k f seen p Weak (Some (Leaked h)) good refl tt
-kept_at m k f seen p Weak (Some (Gone h)) good there = passed_kept m k f seen p Weak (Some (Gone h)) good refl tt
-kept_at m k f seen p Read None good there = passed_kept m k f seen p Read None good refl tt
-kept_at m k f seen p Read (Some Idle) good there = passed_kept m k f seen p Read (Some Idle) good refl tt
-kept_at m k f seen p Read (Some (Calling d l h)) good there = passed_kept m k f seen p Read (Some (Calling d l h)) good refl tt
+kept_at m k f seen p Weak (Some (Holding h)) good there = skip_kept m k f seen p Weak (Some (Holding h)) good refl tt
+kept_at m k f seen p Weak (Some (Leaked h)) good there = skip_kept m k f seen p Weak (Some (Leaked h)) good refl tt
+kept_at m k f seen p Weak (Some (Gone h)) good there = skip_kept m k f seen p Weak (Some (Gone h)) good refl tt
+kept_at m k f seen p Read None good there = skip_kept m k f seen p Read None good refl tt
+kept_at m k f seen p Read (Some Idle) good there = skip_kept m k f seen p Read (Some Idle) good refl tt
+kept_at m k f seen p Read (Some (Calling d l h)) good there = skip_kept m k f seen p Read (Some (Calling d l h)) good refl tt
 kept_at m k f seen p Read (Some (Holding h)) good there = read_kept m k f seen p h (Holding h) (may_read h) good (standing m k seen p (Holding h) good there) refl refl (λ none. none)
 kept_at m k f seen p Read (Some (Leaked h)) good there = read_kept m k f seen p h (Leaked h) (may_read h) good (standing m k seen p (Leaked h) good there) refl refl (λ none. none)
-kept_at m k f seen p Read (Some (Gone h)) good there = passed_kept m k f seen p Read (Some (Gone h)) good refl tt
-kept_at m k f seen p (Write v) None good there = passed_kept m k f seen p (Write v) None good refl tt
-kept_at m k f seen p (Write v) (Some Idle) good there = passed_kept m k f seen p (Write v) (Some Idle) good refl tt
-kept_at m k f seen p (Write v) (Some (Calling d l h)) good there = passed_kept m k f seen p (Write v) (Some (Calling d l h)) good refl tt
+kept_at m k f seen p Read (Some (Gone h)) good there = skip_kept m k f seen p Read (Some (Gone h)) good refl tt
+kept_at m k f seen p (Write v) None good there = skip_kept m k f seen p (Write v) None good refl tt
+kept_at m k f seen p (Write v) (Some Idle) good there = skip_kept m k f seen p (Write v) (Some Idle) good refl tt
+kept_at m k f seen p (Write v) (Some (Calling d l h)) good there = skip_kept m k f seen p (Write v) (Some (Calling d l h)) good refl tt
 kept_at m k f seen p (Write v) (Some (Holding h)) good there = write_kept m k f seen p v h (Holding h) (may_write h) good (standing m k seen p (Holding h) good there) refl refl (λ none. none)
 kept_at m k f seen p (Write v) (Some (Leaked h)) good there = write_kept m k f seen p v h (Leaked h) (may_write h) good (standing m k seen p (Leaked h) good there) refl refl (λ none. none)
-kept_at m k f seen p (Write v) (Some (Gone h)) good there = passed_kept m k f seen p (Write v) (Some (Gone h)) good refl tt
-kept_at m k f seen p Leak None good there = passed_kept m k f seen p Leak None good refl tt
-kept_at m k f seen p Leak (Some Idle) good there = passed_kept m k f seen p Leak (Some Idle) good refl tt
-kept_at m k f seen p Leak (Some (Calling d l h)) good there = passed_kept m k f seen p Leak (Some (Calling d l h)) good refl tt
+kept_at m k f seen p (Write v) (Some (Gone h)) good there = skip_kept m k f seen p (Write v) (Some (Gone h)) good refl tt
+kept_at m k f seen p Leak None good there = skip_kept m k f seen p Leak None good refl tt
+kept_at m k f seen p Leak (Some Idle) good there = skip_kept m k f seen p Leak (Some Idle) good refl tt
+kept_at m k f seen p Leak (Some (Calling d l h)) good there = skip_kept m k f seen p Leak (Some (Calling d l h)) good refl tt
 kept_at m k f seen p Leak (Some (Holding h)) good there = leak_kept m k f seen p h good there (standing m k seen p (Holding h) good there)
-kept_at m k f seen p Leak (Some (Leaked h)) good there = passed_kept m k f seen p Leak (Some (Leaked h)) good refl tt
-kept_at m k f seen p Leak (Some (Gone h)) good there = passed_kept m k f seen p Leak (Some (Gone h)) good refl tt
-kept_at m k f seen p OwnerGet None good there = passed_kept m k f seen p OwnerGet None good refl tt
+kept_at m k f seen p Leak (Some (Leaked h)) good there = skip_kept m k f seen p Leak (Some (Leaked h)) good refl tt
+kept_at m k f seen p Leak (Some (Gone h)) good there = skip_kept m k f seen p Leak (Some (Gone h)) good refl tt
+kept_at m k f seen p OwnerGet None good there = skip_kept m k f seen p OwnerGet None good refl tt
 kept_at m k f seen p OwnerGet (Some y) good there = owner_get_kept m k f seen p y (is_owners m seen.state) good refl
-kept_at m k f seen p (OwnerSet v) None good there = passed_kept m k f seen p (OwnerSet v) None good refl tt
+kept_at m k f seen p (OwnerSet v) None good there = skip_kept m k f seen p (OwnerSet v) None good refl tt
 kept_at m k f seen p (OwnerSet v) (Some y) good there = owner_set_kept m k f seen p v y (is_owners m seen.state) good refl
 
 -- one event
-pub kept : {W V C L A : Type 0} (m : Machine W V C L A) (k : LocalInvariant V C L) (f : Facts m k) (seen : Seen W V C L) (p : ℕ) (move : Move C V) → Invariant m k seen → Kept m k (scene m seen p move)
+pub kept : {W V C L A : Type 0} (m : Machine W V C L A) (k : LocalInvariant V C L) (f : Facts m k) (seen : Seen W V C L) (p : ℕ) (move : Move C V) → Invariant m k seen → Preserved m k (scene m seen p move)
 kept m k f seen p move good = kept_at m k f seen p move (slice_get seen.state.seats p) good refl
 
-every_kept : {W V C L A : Type 0} (m : Machine W V C L A) (k : LocalInvariant V C L) (f : Facts m k) (seen : Seen W V C L) (es : List (ℕ × Move C V)) → Invariant m k seen → Every (Kept m k) m seen es
+every_kept : {W V C L A : Type 0} (m : Machine W V C L A) (k : LocalInvariant V C L) (f : Facts m k) (seen : Seen W V C L) (es : List (ℕ × Move C V)) → Invariant m k seen → Every (Preserved m k) m seen es
 every_kept m k f seen [] good = tt
 every_kept m k f seen (e ∷ es) good =
     let here = kept m k f seen e.0 e.1 good in
@@ -187,10 +187,10 @@ pub can_of : {W V C L A : Type 0} (m : Machine W V C L A) (k : LocalInvariant V 
 can_of m k f n es = can_after m k f (opening m n) es (good_first m k f n)
 
 pub keeps_of : {W V C L A : Type 0} (m : Machine W V C L A) (k : LocalInvariant V C L) (f : Facts m k) (n : ℕ) (es : List (ℕ × Move C V)) → KeepsAll m n es
-keeps_of m k f n es = record { first = f.first; numbers_tell = f.numbers_tell; each = every-map (Kept m k) (Keeps m) m (opening m n) es (λ s t. t.keeps) (every_kept m k f (opening m n) es (good_first m k f n)) }
+keeps_of m k f n es = record { first = f.first; numbers_tell = f.numbers_tell; each = every-map (Preserved m k) (Keeps m) m (opening m n) es (λ s t. t.keeps) (every_kept m k f (opening m n) es (good_first m k f n)) }
 
 pub moments_of : {W V C L A : Type 0} (m : Machine W V C L A) (k : LocalInvariant V C L) (f : Facts m k) (n : ℕ) (es : List (ℕ × Move C V)) → MomentsAll m n es
-moments_of m k f n es = every-map (Kept m k) (IsRight m) m (opening m n) es (λ s t. t.right) (every_kept m k f (opening m n) es (good_first m k f n))
+moments_of m k f n es = every-map (Preserved m k) (IsRight m) m (opening m n) es (λ s t. t.right) (every_kept m k f (opening m n) es (good_first m k f n))
 
 pub counts_of : {W V C L A : Type 0} (m : Machine W V C L A) (k : LocalInvariant V C L) (f : Facts m k) (n : ℕ) (es : List (ℕ × Move C V)) → CountsAll m n es
-counts_of m k f n es = every-map (Kept m k) (IsInTime m) m (opening m n) es (λ s t. t.in_time) (every_kept m k f (opening m n) es (good_first m k f n))
+counts_of m k f n es = every-map (Preserved m k) (IsInTime m) m (opening m n) es (λ s t. t.in_time) (every_kept m k f (opening m n) es (good_first m k f n))

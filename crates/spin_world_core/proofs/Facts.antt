@@ -6,13 +6,13 @@ use Rattle.spin_world_core.specs.declared.place.Hold.{Hold}
 use Rattle.spin_world_core.specs.declared.place.Seat.{Seat}
 use Rattle.spin_world_core.specs.declared.place.Seat.TheVariants.{Calling}
 use Rattle.spin_world_core.specs.declared.object.Next.{Next}
-use Rattle.spin_world_core.specs.declared.object.Next.TheVariants.{GoesOn, Answers}
+use Rattle.spin_world_core.specs.declared.object.Next.TheVariants.{Continue, Answers}
 use Rattle.spin_world_core.specs.declared.object.Stepped.{Stepped}
 use Rattle.spin_world_core.specs.declared.schedule.Move.{Move}
 use Rattle.spin_world_core.specs.declared.schedule.Move.TheVariants.{Step, Weak}
 use Rattle.spin_world_core.specs.declared.schedule.Outcome.TheVariants as outcome
-use Rattle.spin_world_core.specs.Manners.{Manner, is_again, by_step}
-use Rattle.spin_world_core.specs.Manners as manner
+use Rattle.spin_world_core.specs.StepKinds.{StepKind, is_again, by_step}
+use Rattle.spin_world_core.specs.StepKinds as step_kind
 use Rattle.spin_world_core.specs.Calls.{tries, encoded, BelongsTo, Said, own_steps, Mark, AnyOf, limit, may_be_weak, before_weakly}
 use Rattle.spin_world_core.specs.Order.{Gets, MayTryOn}
 use Rattle.spin_world_core.specs.Undisturbed.{is_open_now, steps_alone}
@@ -20,7 +20,7 @@ use Rattle.spin_world_core.specs.Machines.{Machine, opening_plain}
 use Rattle.spin_world_core.specs.Operations.{Stepwise}
 use Rattle.spin_world_core.specs.Schedules.{placed}
 use Rattle.spin_world_core.specs.Values.{HasPhase, Gives}
-use Rattle.spin_world_core.specs.Runs.{mark_of, if_completed, entries_held, entries_so_far, is_writer, own, failures, changes, IsBeginning, RightAnswer, EndsWithin, GoesOnWithin}
+use Rattle.spin_world_core.specs.Runs.{mark_of, if_completed, entries_held, entries_so_far, is_writer, own, failures, changes, IsBeginning, RightAnswer, EndsWithin, ContinuesWithin}
 
 -- an object's local invariant: a shape of the plain lock and the value, and what a party in a call knows of its span
 pub record LocalInvariant (V C L : Type 0) : Type 1 where
@@ -42,10 +42,10 @@ pub record InCall {W V C L A : Type 0} (m : Machine W V C L A) (k : LocalInvaria
   pub retries : failures p span ≤ changes m.lock_kind p span
 
 -- a call goes on so, by this step of its span
-pub record Goes {W V C L A : Type 0} (m : Machine W V C L A) (k : LocalInvariant V C L) (p : ℕ) (c : C) (l : L) (h : Option Hold) (s : Plain) (span : List Mark) : Type 0 where
+pub record Continues {W V C L A : Type 0} (m : Machine W V C L A) (k : LocalInvariant V C L) (p : ℕ) (c : C) (l : L) (h : Option Hold) (s : Plain) (span : List Mark) : Type 0 where
   pub knows : k.Knows c l h p s span
   pub own_so_far : (said : Said) × AnyOf (λ steps. IsBeginning (own p span) steps) (own_steps (m.asks c h) said p)
-  pub in_time : GoesOnWithin (limit m.lock_kind (m.asks c h)) m.lock_kind p span
+  pub in_time : ContinuesWithin (limit m.lock_kind (m.asks c h)) m.lock_kind p span
 
 -- a call ends so
 pub record Ends {W V C L A : Type 0} (m : Machine W V C L A) (move : Move C V) (p : ℕ) (c : C) (h : Option Hold) (s : Plain) (span : List Mark) (a : A) (after : Option Hold) : Type 0 where
@@ -55,28 +55,28 @@ pub record Ends {W V C L A : Type 0} (m : Machine W V C L A) (move : Move C V) (
   pub in_time : EndsWithin (limit m.lock_kind (m.asks c h)) m.lock_kind p span
 
 abbrev pub NextIs : {W V C L A : Type 0} → Machine W V C L A → LocalInvariant V C L → Move C V → ℕ → C → Option Hold → Plain → List Mark → Next L A → Type 0
-NextIs m k move p c h s span (GoesOn l) = Goes m k p c l h s span
+NextIs m k move p c h s span (Continue l) = Continues m k p c l h s span
 NextIs m k move p c h s span (Answers a after) = Ends m move p c h s span a after
 
 -- a step that makes this plain step
-pub record StepIs {W V C L A : Type 0} (m : Machine W V C L A) (k : LocalInvariant V C L) (p : ℕ) (c : C) (h : Option Hold) (s : Plain) (v : Option V) (span : List Mark) (st : Stepped W V L A) (step : Option Change) (manner : Manner) : Type 0 where
+pub record StepIs {W V C L A : Type 0} (m : Machine W V C L A) (k : LocalInvariant V C L) (p : ℕ) (c : C) (h : Option Hold) (s : Plain) (v : Option V) (span : List Mark) (st : Stepped W V L A) (step : Option Change) (step_kind : StepKind) : Type 0 where
   pub opens : IsOpenStep s p step
   pub belongs : BelongsTo m.lock_kind step
   pub encodes : m.numbers st.words ≡ encoded m.lock_kind (apply_some s step)
   pub shape : k.Shape (apply_some s step) (placed st.placed v)
   pub places : placed st.placed v ≡ if_completed v st.placed step
-  pub next : NextIs m k Step p c h (apply_some s step) (mark_of p step manner s ∷ span) st.next
+  pub next : NextIs m k Step p c h (apply_some s step) (mark_of p step step_kind s ∷ span) st.next
   -- an exchange that fails and is made again does so by another party's change
-  pub fails : is_again manner ≡ true → step ≡ None → failures p span < changes m.lock_kind p span
+  pub fails : is_again step_kind ≡ true → step ≡ None → failures p span < changes m.lock_kind p span
 
 -- from these words, at this point, the call is answered by its k-th step, if no other party steps
 abbrev pub AnswersWithin : {W V C L A : Type 0} → Machine W V C L A → ℕ → W → C → L → Option Hold → Type 0
 AnswersWithin m zero w c l h = ⊥
-AnswersWithin {V = V} {L = L} m (suc k) w c l h = (v : Option V) (l' : L) → (m.step w v c l h).next ≡ GoesOn l' → AnswersWithin m k (m.step w v c l h).words c l' h
+AnswersWithin {V = V} {L = L} m (suc k) w c l h = (v : Option V) (l' : L) → (m.step w v c l h).next ≡ Continue l' → AnswersWithin m k (m.step w v c l h).words c l' h
 
 -- what is said of values by how a call goes on, where this one lies there
 abbrev pub NextGives : {W V C L A : Type 0} → Machine W V C L A → Option V → Next L A → Type 0
-NextGives m value (GoesOn l) = Unit {0}
+NextGives m value (Continue l) = Unit {0}
 NextGives m value (Answers a after) = Gives m.lock_kind.makes_value (m.says a) (m.gives a) value
 
 pub record ValueIs {W V C L A : Type 0} (m : Machine W V C L A) (c : C) (v : Option V) (st : Stepped W V L A) (step : Option Change) : Type 0 where
@@ -85,13 +85,13 @@ pub record ValueIs {W V C L A : Type 0} (m : Machine W V C L A) (c : C) (v : Opt
 
 -- a try that goes on so makes its plain step, or does so where it may
 abbrev pub GoesOnOpen : {L A : Type 0} → Ask → ℕ → List Mark → Plain → Next L A → Option Change → Type 0
-GoesOnOpen ask p span s (GoesOn l) None = MayTryOn ask p span s
+GoesOnOpen ask p span s (Continue l) None = MayTryOn ask p span s
 GoesOnOpen ask p span s _ _ = Unit {0}
 
 -- a step by which the call goes on and makes no plain step, though it is open: it counts
-abbrev pub GoesOnCounted : {W L A : Type 0} → (W → Option Change) → Plain → Next L A → Option Change → Manner → Type 0
-GoesOnCounted {W} change s (GoesOn l) None manner = (w : W) (d : Change) → change w ≡ Some d → is_open s d ≡ true → is_again manner ≡ true
-GoesOnCounted change s _ _ manner = Unit {0}
+abbrev pub ContinuesCounted : {W L A : Type 0} → (W → Option Change) → Plain → Next L A → Option Change → StepKind → Type 0
+ContinuesCounted {W} change s (Continue l) None step_kind = (w : W) (d : Change) → change w ≡ Some d → is_open s d ≡ true → is_again step_kind ≡ true
+ContinuesCounted change s _ _ step_kind = Unit {0}
 
 pub record Facts {W V C L A : Type 0} (m : Machine W V C L A) (k : LocalInvariant V C L) : Type 0 where
   pub stepwise : Stepwise m
@@ -106,17 +106,17 @@ pub record Facts {W V C L A : Type 0} (m : Machine W V C L A) (k : LocalInvarian
   -- what a party knows as its call begins
   pub begins : (p : ℕ) (c : C) (l : L) (h : Option Hold) (s : Plain) → m.begin c h ≡ Some l → entries p s ≡ entries_held p h → k.Knows c l h p s []
   -- another party's step, of those that this kind of lock makes, leaves it true
-  pub others : (p q : ℕ) (c : C) (l : L) (h : Option Hold) (s : Plain) (v : Option V) (step : Option Change) (manner : Manner) (span : List Mark)
-      → (q ≡ p → ⊥) → k.Shape s v → IsExclusive s → IsOpenStep s q step → BelongsTo m.lock_kind step → k.Knows c l h p s span → k.Knows c l h p (apply_some s step) (mark_of q step manner s ∷ span)
+  pub others : (p q : ℕ) (c : C) (l : L) (h : Option Hold) (s : Plain) (v : Option V) (step : Option Change) (step_kind : StepKind) (span : List Mark)
+      → (q ≡ p → ⊥) → k.Shape s v → IsExclusive s → IsOpenStep s q step → BelongsTo m.lock_kind step → k.Knows c l h p s span → k.Knows c l h p (apply_some s step) (mark_of q step step_kind s ∷ span)
   -- the next step may be taken, and what it comes to
   pub can : (p : ℕ) (c : C) (l : L) (h : Option Hold) (s : Plain) (v : Option V) (w : W) (span : List Mark) → InCall m k p c l h s v w span → m.can w c l h ≡ true
   pub steps : (p : ℕ) (c : C) (l : L) (h : Option Hold) (s : Plain) (v : Option V) (w : W) (span : List Mark) → InCall m k p c l h s v w span
-      → StepIs m k p c h s v span (m.step w v c l h) (m.change p w c l h) (by_step (m.manner c l h))
+      → StepIs m k p c h s v span (m.step w v c l h) (m.change p w c l h) (by_step (m.step_kind c l h))
   pub counted : (p : ℕ) (c : C) (l : L) (h : Option Hold) (s : Plain) (v : Option V) (w : W) (span : List Mark) → InCall m k p c l h s v w span
-      → GoesOnCounted (λ u. m.change p u c l h) s (m.step w v c l h).next (m.change p w c l h) (by_step (m.manner c l h))
+      → ContinuesCounted (λ u. m.change p u c l h) s (m.step w v c l h).next (m.change p w c l h) (by_step (m.step_kind c l h))
   -- a call whose next step is due gets by it what it goes for, where that is open
   pub due : (p : ℕ) (c : C) (l : L) (h : Option Hold) (s : Plain) (v : Option V) (w : W) (span : List Mark) → InCall m k p c l h s v w span
-      → Gets m.lock_kind p (m.asks c h) span s (m.change p w c l h) (by_step (m.manner c l h))
+      → Gets m.lock_kind p (m.asks c h) span s (m.change p w c l h) (by_step (m.step_kind c l h))
   -- a try goes on only where it may
   pub tries_on : (p : ℕ) (c : C) (l : L) (h : Option Hold) (s : Plain) (v : Option V) (w : W) (span : List Mark) → InCall m k p c l h s v w span
       → (ask : Ask) → m.asks c h ≡ tries ask → own p span ≡ [] → GoesOnOpen ask p span s (m.step w v c l h).next (m.change p w c l h)
@@ -128,7 +128,7 @@ pub record Facts {W V C L A : Type 0} (m : Machine W V C L A) (k : LocalInvarian
       → (q : ℕ) → m.change p w c l h ≡ Some (completes q) → is_held s ≡ false
   -- a weak exchange that refuses makes no plain step
   pub refuses : (p : ℕ) (c : C) (l : L) (h : Option Hold) (s : Plain) (v : Option V) (w : W) (span : List Mark) (next : Next L A) → InCall m k p c l h s v w span
-      → m.refuse c l h ≡ Some next → NextIs m k Weak p c h s (mark_of p None manner.weak s ∷ span) next
+      → m.refuse c l h ≡ Some next → NextIs m k Weak p c h s (mark_of p None step_kind.weak s ∷ span) next
   -- and is made by a call that may be weak, before it has made a plain step
   pub weakly : (p : ℕ) (c : C) (l : L) (h : Option Hold) (s : Plain) (v : Option V) (w : W) (span : List Mark) (next : Next L A) → InCall m k p c l h s v w span
       → m.refuse c l h ≡ Some next → (may_be_weak (m.asks c h) ≡ true) × (own p span ≡ before_weakly (m.asks c h) p)

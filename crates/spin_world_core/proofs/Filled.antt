@@ -7,15 +7,15 @@ use Rattle.spin_world_core.specs.declared.answer.Answer.{Answer}
 use Rattle.spin_world_core.specs.declared.answer.Answer.TheVariants.{Value}
 use Rattle.spin_world_core.specs.declared.place.Hold.{Hold}
 use Rattle.spin_world_core.specs.declared.object.Next.{Next}
-use Rattle.spin_world_core.specs.declared.object.Next.TheVariants.{GoesOn, Answers}
+use Rattle.spin_world_core.specs.declared.object.Next.TheVariants.{Continue, Answers}
 use Rattle.spin_world_core.specs.declared.object.Stepped.{Stepped}
 use Rattle.spin_world_core.specs.declared.schedule.Move.TheVariants.{Step}
-use Rattle.spin_world_core.specs.Manners.{Manner, by_step}
+use Rattle.spin_world_core.specs.StepKinds.{StepKind, by_step}
 use Rattle.spin_world_core.specs.Calls.{encoded, own_steps, says_of, AnyOf, HasMoment, Mark, may_be_weak}
 use Rattle.spin_world_core.specs.Machines.{Machine, opening_phase}
 use Rattle.spin_world_core.specs.Schedules.{placed}
 use Rattle.spin_world_core.specs.Runs.{mark_of, if_completed, is_writer, own}
-use Rattle.spin_world_core.specs.Acts.{Memory, Act, store, step_by, change_at, change_by, makes_by, is_completion, manner_by, Table, machine_of, completes_by, brought, with_value, filled, gives_of, machine_with}
+use Rattle.spin_world_core.specs.Acts.{Memory, Act, store, step_by, change_at, change_by, makes_by, is_completion, step_kind_by, Table, machine_of, completes_by, brought, with_value, filled, gives_of, machine_with}
 use Rattle.spin_world_core.specs.Undisturbed.{steps_alone}
 use Rattle.spin_world_core.specs.Values.{HasPhase, Gives}
 use Rattle.spin_world_core.proofs.Facts.{LocalInvariant, AnswersWithin, InCall, NextIs, NextGives, StepIs, Facts}
@@ -38,7 +38,7 @@ TellsSo phase (Value u) = is_complete phase ≡ true
 TellsSo phase _ = Unit {0}
 
 abbrev pub TellsOf : {L : Type 0} → Phase → Next L (Answer (Unit {0})) → Type 0
-TellsOf phase (GoesOn l) = Unit {0}
+TellsOf phase (Continue l) = Unit {0}
 TellsOf phase (Answers a after) = TellsSo phase a
 
 abbrev pub TellsBy : {W L : Type 0} (V : Type 0) → Memory W → ℕ → Act W L (Answer (Unit {0})) → ℕ → Plain → W → Type 0
@@ -122,8 +122,8 @@ gives_with : {V : Type 0} (made : Bool) (a : Answer (Unit {0})) (v : Option V) �
 gives_with true a v = gives_made a v
 gives_with false a v = tt
 
-unfilled : {V L : Type 0} (value : Option V) (next : Next L (Answer (Unit {0}))) (l : L) → filled value next ≡ GoesOn l → next ≡ GoesOn l
-unfilled value (GoesOn k) l e = let same : k ≡ l = cc (e) in ap GoesOn same
+unfilled : {V L : Type 0} (value : Option V) (next : Next L (Answer (Unit {0}))) (l : L) → filled value next ≡ Continue l → next ≡ Continue l
+unfilled value (Continue k) l e = let same : k ≡ l = cc (e) in ap Continue same
 unfilled value (Answers a after) l e = absurd (cc (e))
 
 module _ {W V C L : Type 0} (t : Table W V C L (Answer (Unit {0}))) (n : Notes t) (brings : C → Option V) (pays : PaysWith t n brings) where
@@ -136,7 +136,7 @@ module _ {W V C L : Type 0} (t : Table W V C L (Answer (Unit {0}))) (n : Notes t
 
   next_with : (p : ℕ) (c : C) (h : Option Hold) (s : Plain) (span : List Mark) (v : Option V) (next : Next L (Answer (Unit {0}))) → is_complete s.phase ≡ is_some v → TellsOf s.phase next
       → NextIs (machine_of t) (keeping_of t n) Step p c h s span next → NextIs m keeping_with Step p c h s span (filled v next)
-  next_with p c h s span v (GoesOn l) e tells is = record { knows = is.knows; own_so_far = is.own_so_far; in_time = is.in_time }
+  next_with p c h s span v (Continue l) e tells is = record { knows = is.knows; own_so_far = is.own_so_far; in_time = is.in_time }
   next_with p c h s span v (Answers a after) e tells is =
       let said : t.says a ≡ says_of (with_value a v) = pays.says a ∙ sym (says_with s.phase a v e tells) in
       record {
@@ -160,16 +160,16 @@ module _ {W V C L : Type 0} (t : Table W V C L (Answer (Unit {0}))) (n : Notes t
     abbrev step : Option Change
     step = change_by t.memory (t.word l) (t.act c l h) p w
 
-    abbrev manner : Manner
-    manner = by_step (manner_by (t.asks c h) (t.act c l h))
+    abbrev step_kind : StepKind
+    step_kind = by_step (step_kind_by (t.asks c h) (t.act c l h))
 
-    went : Went t n p c h s span st step manner
+    went : Went t n p c h s span st step step_kind
     went = went_here t n pays.pays p c l h s w span here.encodes here.shape.0 here.exclusive here.retries here.knows
 
     puts : Puts s v (brings c) (brought (completes_by (t.act c l h)) (brings c)) step
     puts = puts_by _ (t.act c l h) s p v (brings c) w (pays.completes_right p c l h) went.opens here.shape.1
 
-    step_here : StepIs m keeping_with p c h s v span (m.step w v c l h) step manner
+    step_here : StepIs m keeping_with p c h s v span (m.step w v c l h) step step_kind
     step_here =
         record {
           opens = went.opens;
@@ -177,12 +177,12 @@ module _ {W V C L : Type 0} (t : Table W V C L (Answer (Unit {0}))) (n : Notes t
           encodes = went.encodes;
           shape = (went.shape, puts.phase);
           places = puts.places;
-          next = next_with p c h (apply_some s step) (mark_of p step manner s ∷ span) _ st.next puts.phase (pays.tells p c l h s w here.encodes) went.next;
+          next = next_with p c h (apply_some s step) (mark_of p step step_kind s ∷ span) _ st.next puts.phase (pays.tells p c l h s w here.encodes) went.next;
           fails = went.fails;
         }
 
     gives_at : (value : Option V) (next : Next L (Answer (Unit {0}))) → NextGives m value (filled value next)
-    gives_at value (GoesOn j) = tt
+    gives_at value (Continue j) = tt
     gives_at value (Answers a after) = gives_with t.lock_kind.makes_value a value
 
   pub facts_with : Facts m keeping_with

@@ -8,7 +8,7 @@ pub mod Shapes
 pub mod Usual
 pub mod Paid
 pub mod Undisturbed
-pub mod Kept
+pub mod Preserved
 pub mod Owners
 pub mod Sharing
 pub mod Every

@@ -5,14 +5,14 @@ use Rattle.spin_step.specs.Plain.{Plain, Ask, Change, is_open}
 use Rattle.spin_world_core.specs.declared.place.Hold.{Hold}
 use Rattle.spin_world_core.specs.declared.answer.Answer.{Answer}
 use Rattle.spin_world_core.specs.declared.object.Next.{Next}
-use Rattle.spin_world_core.specs.declared.object.Next.TheVariants.{GoesOn, Answers}
-use Rattle.spin_world_core.specs.Manners.{Manner, is_again, is_look}
+use Rattle.spin_world_core.specs.declared.object.Next.TheVariants.{Continue, Answers}
+use Rattle.spin_world_core.specs.StepKinds.{StepKind, is_again, is_look}
 use Rattle.spin_world_core.specs.Calls.{LockKind, is_step_of, Asked, looks, may_be_weak, is_exchanged, is_got_weakly, Mark}
 use Rattle.spin_world_core.specs.Begins.{fits}
 use Rattle.spin_world_core.specs.Operations.{Operation, exchanges, sets_lowest_bit, performed, Performs, IsOneOperation, RefusesAsLost, Stepwise}
-use Rattle.spin_world_core.specs.Acts.{Memory, one_number, number_at, Act, load_if, enter, exchange, weak_exchange, attempt, retry, store, section, swap, tried, guessed, becomes, passing, retried, place_of, step_at, made_if, change_at, refusal_by, makes_by, operation_by, is_section, step_by, manner_by, Table, machine_of, completes_by, brought, filled, machine_with}
+use Rattle.spin_world_core.specs.Acts.{Memory, one_number, number_at, Act, load_if, enter, exchange, weak_exchange, attempt, retry, store, section, swap, tried, guessed, becomes, passing, retried, place_of, step_at, made_if, change_at, refusal_by, makes_by, operation_by, is_section, step_by, step_kind_by, Table, machine_of, completes_by, brought, filled, machine_with}
 use Rattle.spin_world_core.specs.Schedules.{placed}
-use Rattle.spin_world_core.proofs.Facts.{GoesOnOpen, GoesOnCounted}
+use Rattle.spin_world_core.proofs.Facts.{GoesOnOpen, ContinuesCounted}
 
 -- The debts
 
@@ -94,7 +94,7 @@ module _ {W L A : Type 0} (V : Type 0) (m : Memory W) where
   passed w n true won lost = refl
   passed w n false won lost = refl
 
-  pub look_stays : (i : ℕ) (what : Asked) (act : Act W L A) (w : W) → is_look (manner_by what act) ≡ true → (step_by {V = V} m i act w).words ≡ w
+  pub look_stays : (i : ℕ) (what : Asked) (act : Act W L A) (w : W) → is_look (step_kind_by what act) ≡ true → (step_by {V = V} m i act w).words ≡ w
   look_stays i what (load_if test a b) w is = refl
   look_stays i what (enter test step won lost) w is = passed w _ (test (number_at m i w)) won lost
   look_stays i what _ w is = absurd (false≢true is)
@@ -169,18 +169,18 @@ fits_made kind what false (Some c) d fit is =
     (ap (is_step_of kind) (sym same) ∙ parts.0, λ got. absurd (true≢false (sym parts.1 ∙ (ap (λ e. not (is_got_weakly what e)) same ∙ ap not got))))
 
 -- a step that goes on and makes nothing is counted, if it is where what it could make is open
-pub counted_of : {W L A : Type 0} (change : W → Option Change) (s : Plain) (next : Next L A) (o : Option Change) (r : Manner)
-    → ((w : W) (d : Change) → change w ≡ Some d → is_open s d ≡ true → o ≡ None → is_again r ≡ true) → GoesOnCounted change s next o r
-counted_of change s (GoesOn l) None r counts = λ w d is may. counts w d is may refl
+pub counted_of : {W L A : Type 0} (change : W → Option Change) (s : Plain) (next : Next L A) (o : Option Change) (r : StepKind)
+    → ((w : W) (d : Change) → change w ≡ Some d → is_open s d ≡ true → o ≡ None → is_again r ≡ true) → ContinuesCounted change s next o r
+counted_of change s (Continue l) None r counts = λ w d is may. counts w d is may refl
 counted_of change s _ _ r counts = tt
 
-pub counted_filled : {W V L : Type 0} (change : W → Option Change) (s : Plain) (value : Option V) (next : Next L (Answer (Unit {0}))) (o : Option Change) (r : Manner) → GoesOnCounted change s next o r → GoesOnCounted change s (filled value next) o r
-counted_filled change s value (GoesOn l) None r counts = counts
+pub counted_filled : {W V L : Type 0} (change : W → Option Change) (s : Plain) (value : Option V) (next : Next L (Answer (Unit {0}))) (o : Option Change) (r : StepKind) → ContinuesCounted change s next o r → ContinuesCounted change s (filled value next) o r
+counted_filled change s value (Continue l) None r counts = counts
 counted_filled change s value _ _ r counts = tt
 
 pub open_filled : {V L : Type 0} (ask : Ask) (p : ℕ) (span : List Mark) (s : Plain) (value : Option V) (next : Next L (Answer (Unit {0}))) (o : Option Change) → GoesOnOpen ask p span s next o → GoesOnOpen ask p span s (filled value next) o
-open_filled ask p span s value (GoesOn l) None may = may
-open_filled ask p span s value (GoesOn l) (Some c) may = tt
+open_filled ask p span s value (Continue l) None may = may
+open_filled ask p span s value (Continue l) (Some c) may = tt
 open_filled ask p span s value (Answers a after) o may = tt
 
 -- a call that is never weak gets nothing so

@@ -1,7 +1,7 @@
 -- What shows that a lock is wrong: the parts of a claim that fail, four steps of a party that nobody disturbs, and a step that no one operation is.
 use Rattle.std.proofs.Common.{◌≡◌, ℕ, zero, ◌+◌, ◌-◌, ◌<◌, ◌⊎◌, ◌==◌, Bool, true, false, List, [], ◌∷◌, ◌++◌, slice_set, get_or, if◌then◌else◌, refl, inl, inr, subst, arith, ⊎_elim}
 use Rattle.std.proofs.lemmas.Bool.{true≢false, eqb-true}
-use Rattle.spin_world_core.specs.Manners.{is_weak}
+use Rattle.spin_world_core.specs.StepKinds.{is_weak}
 use Rattle.spin_world_core.specs.Calls.{LockKind, Asked, Mark}
 use Rattle.spin_world_core.specs.Spans.{own_count}
 use Rattle.spin_world_core.specs.Undisturbed.{is_open_now, Leaves, AllOf, UndisturbedTakes}
@@ -14,7 +14,7 @@ otherwise claim = ⊎_elim (λ (e : true ≡ false). absurd (true≢false e)) (�
 -- a step of the party's own, which is no weak refusal
 pub record IsOwn (p : ℕ) (m : Mark) : Type 0 where
   pub party : m.party ≡ p
-  pub strong : is_weak m.manner ≡ false
+  pub strong : is_weak m.step_kind ≡ false
 
 leaves : (kind : LockKind) (p : ℕ) (m : Mark) → IsOwn p m → Leaves kind p m
 leaves kind p m is = record { strong = λ e. is.strong; still = λ ne. absurd (ne is.party) }

@@ -10,14 +10,14 @@ use Rattle.spin_world_core.specs.declared.place.Seat.{Seat}
 use Rattle.spin_world_core.specs.declared.place.Seat.TheVariants.{Idle, Calling, Holding, Leaked, Gone}
 use Rattle.spin_world_core.specs.declared.schedule.Move.TheVariants.{OwnerGet, OwnerSet}
 use Rattle.spin_world_core.specs.declared.schedule.Outcome.TheVariants as outcome
-use Rattle.spin_world_core.specs.Manners as manner
+use Rattle.spin_world_core.specs.StepKinds as step_kind
 use Rattle.spin_world_core.specs.Calls.{Mark}
 use Rattle.spin_world_core.specs.Machines.{Machine}
 use Rattle.spin_world_core.specs.Schedules.{is_owners, yields_to_owner, let_go, seen_by_owner, owner_gets, owner_sets, owner_writes}
 use Rattle.spin_world_core.specs.Runs.{Seen, scene_of, ComesTo, StandsFor, YieldsToOwner, IsOwners}
 use Rattle.spin_world_core.proofs.Facts.{LocalInvariant, KnowsAt, Facts}
 use Rattle.spin_world_core.proofs.Undisturbed.{runs_let_go}
-use Rattle.spin_world_core.proofs.Kept.{Invariant, Kept, keeps_from, passed_kept}
+use Rattle.spin_world_core.proofs.Preserved.{Invariant, Preserved, keeps_from, skip_kept}
 
 pub all-get : {X : Type 0} (test : X → Bool) (xs : List X) (q : ℕ) (x : X) → list_all test xs ≡ true → slice_get xs q ≡ Some x → test x ≡ true
 all-get test [] q x all e = absurd (cc (e))
@@ -79,8 +79,8 @@ leaves_calls : {C L : Type 0} (seats : List (Seat C L)) {p : ℕ} (q : ℕ) (c :
 leaves_calls seats q c l h ne is = slice_get-map seen_by_owner seats q ∙ ap (option_map seen_by_owner) is
 
 pub owner_get_kept : {W V C L A : Type 0} (m : Machine W V C L A) (k : LocalInvariant V C L) (f : Facts m k) (seen : Seen W V C L) (p : ℕ) (y : Seat C L) (b : Bool)
-    → Invariant m k seen → is_owners m seen.state ≡ b → Kept m k (scene_of seen p OwnerGet (Some y) (owner_gets seen.state b) None manner.plain None)
-owner_get_kept m k f seen p y false good may = passed_kept m k f seen p OwnerGet (Some y) good may (none_owns m seen may)
+    → Invariant m k seen → is_owners m seen.state ≡ b → Preserved m k (scene_of seen p OwnerGet (Some y) (owner_gets seen.state b) None step_kind.plain None)
+owner_get_kept m k f seen p y false good may = skip_kept m k f seen p OwnerGet (Some y) good may (none_owns m seen may)
 owner_get_kept m k f seen p y true good may =
     let after = good_let_go m k seen seen.state.value seen.written good good.shape good.written in
     record {
@@ -91,7 +91,7 @@ owner_get_kept m k f seen p y true good may =
     }
 
 owner_writes_kept : {W V C L A : Type 0} (m : Machine W V C L A) (k : LocalInvariant V C L) (f : Facts m k) (seen : Seen W V C L) (p : ℕ) (v : V) (y : Seat C L) (o : Option V)
-    → Invariant m k seen → is_owners m seen.state ≡ true → seen.state.value ≡ o → Kept m k (scene_of seen p (OwnerSet v) (Some y) (owner_writes seen.state v o) None manner.plain None)
+    → Invariant m k seen → is_owners m seen.state ≡ true → seen.state.value ≡ o → Preserved m k (scene_of seen p (OwnerSet v) (Some y) (owner_writes seen.state v o) None step_kind.plain None)
 owner_writes_kept {C = C} {A = A} m k f seen p v y None good may found =
     let after = good_let_go m k seen seen.state.value seen.written good good.shape good.written in
     record {
@@ -110,6 +110,6 @@ owner_writes_kept {C = C} {A = A} m k f seen p v y (Some old) good may found =
     }
 
 pub owner_set_kept : {W V C L A : Type 0} (m : Machine W V C L A) (k : LocalInvariant V C L) (f : Facts m k) (seen : Seen W V C L) (p : ℕ) (v : V) (y : Seat C L) (b : Bool)
-    → Invariant m k seen → is_owners m seen.state ≡ b → Kept m k (scene_of seen p (OwnerSet v) (Some y) (owner_sets seen.state v b) None manner.plain None)
-owner_set_kept m k f seen p v y false good may = passed_kept m k f seen p (OwnerSet v) (Some y) good may (none_owns m seen may)
+    → Invariant m k seen → is_owners m seen.state ≡ b → Preserved m k (scene_of seen p (OwnerSet v) (Some y) (owner_sets seen.state v b) None step_kind.plain None)
+owner_set_kept m k f seen p v y false good may = skip_kept m k f seen p (OwnerSet v) (Some y) good may (none_owns m seen may)
 owner_set_kept m k f seen p v y true good may = owner_writes_kept m k f seen p v y seen.state.value good may refl

@@ -6,25 +6,25 @@ use Rattle.spin_step.specs.Parties.{apply_some, IsOpenStep, entries, IsExclusive
 use Rattle.spin_step.specs.Steps.{bit}
 use Rattle.spin_world_core.specs.declared.place.Hold.{Hold}
 use Rattle.spin_world_core.specs.declared.object.Next.{Next}
-use Rattle.spin_world_core.specs.declared.object.Next.TheVariants.{GoesOn, Answers}
+use Rattle.spin_world_core.specs.declared.object.Next.TheVariants.{Continue, Answers}
 use Rattle.spin_world_core.specs.declared.object.Stepped.{Stepped}
 use Rattle.spin_world_core.specs.declared.schedule.Outcome.TheVariants as outcome
 use Rattle.spin_world_core.specs.declared.schedule.Move.{Move}
 use Rattle.spin_world_core.specs.declared.schedule.Move.TheVariants.{Step, Weak}
-use Rattle.spin_world_core.specs.Manners.{Manner, plain, again, look, weak, is_again, is_look, by_step}
+use Rattle.spin_world_core.specs.StepKinds.{StepKind, plain, again, look, weak, is_again, is_look, by_step}
 use Rattle.spin_world_core.specs.Calls.{LockKind, Asked, waits, waits_or_starves, tries, initializes, fails_to_initialize, waits_for_value, polls, meets, encoded, is_step_of, BelongsTo, Said, own_steps, AnyOf, Mark, first_word, Limit, registers_after, limit, may_be_weak, before_weakly}
 use Rattle.spin_world_core.specs.Undisturbed.{arrived, is_open_next, is_open_now, steps_alone}
 use Rattle.spin_world_core.specs.Order.{goes_for, Way, always, by_looks, past_looks, way_of, is_due_by, LooksElse, Gets, MayTryOn}
-use Rattle.spin_world_core.specs.Runs.{mark_of, if_completed, entries_held, own, failures, changes, IsBeginning, RightAnswer, GoesOnWithin}
-use Rattle.spin_world_core.specs.Acts.{number_at, Act, load, load_if, load_for, enter, exchange, weak_exchange, attempt, retry, store, section, swap, tried, guessed, either, stays, passing, becomes, retried, step_by, made_if, change_by, can_by, refusal_by, makes_by, is_waiting, look_manner, manner_by, Table, begin_of, machine_of}
+use Rattle.spin_world_core.specs.Runs.{mark_of, if_completed, entries_held, own, failures, changes, IsBeginning, RightAnswer, ContinuesWithin}
+use Rattle.spin_world_core.specs.Acts.{number_at, Act, load, load_if, load_for, enter, exchange, weak_exchange, attempt, retry, store, section, swap, tried, guessed, either, stays, passing, becomes, retried, step_by, made_if, change_by, can_by, refusal_by, makes_by, is_waiting, look_kind, step_kind_by, Table, begin_of, machine_of}
 use Rattle.spin_world_core.specs.Operations.{performed}
 use Rattle.spin_world_core.specs.Schedules.{placed}
 use Rattle.spin_world_core.specs.Values.{HasPhase, Gives}
-use Rattle.spin_world_core.proofs.Facts.{AnswersWithin, InCall, NextIs, NextGives, GoesOnOpen, GoesOnCounted, StepIs, Facts}
+use Rattle.spin_world_core.proofs.Facts.{AnswersWithin, InCall, NextIs, NextGives, GoesOnOpen, ContinuesCounted, StepIs, Facts}
 use Rattle.spin_world_core.proofs.Operating.{fits_change, fits_made, counted_of, stepwise_of}
 use Rattle.spin_world_core.proofs.Spans.{own-mine, retries-mine}
 use Rattle.spin_world_core.proofs.Stands.{entries_at, stand_of, held_at, stand-mine}
-use Rattle.spin_world_core.proofs.Rows.{Opened, OwesRight, Turn, goes, finds_open, loses, misses, Turned, may_spend, may_try, no_try, tries_open, need, need_of, Needs, rests, peeks, needs-mine, needs_first, rests_undue, spent-mine, goes_within, ends_within, ends_owed, any_map, moment_of, weak_moment_of, Row, IsSound, sound_at, Expects, expects-mine, none_spent, none_expected, known-other, SoundAt}
+use Rattle.spin_world_core.proofs.Rows.{Opened, OwesRight, Branch, goes, finds_open, loses, misses, Branched, may_spend, may_try, no_try, tries_open, need, need_of, Needs, rests, peeks, needs-mine, needs_first, rests_undue, spent-mine, goes_within, ends_within, ends_owed, any_map, moment_of, weak_moment_of, Row, IsSound, sound_at, Expects, expects-mine, none_spent, none_expected, known-other, SoundAt}
 use Rattle.spin_world_core.proofs.Shapes.{Notes, is_answer, row_of, KnowsRow, keeping_of, call_of, At, AtRow, Means, FindsAnother, FollowsRow, Follows, Owes, OwesRow, goes_by, answers_by, AnswersRow, BeginsRow, BeginsAt, sure_by, aim_by, aim_of, aimed, aimed_at, Pays}
 
 -- a step that completes no closure leaves the value last written
@@ -61,7 +61,7 @@ goes_waiting (waits_or_starves n) made ask is = refl
 goes_waiting _ made ask is = absurd (cc (is))
 
 -- what a step of such a shape comes to; it places no value by itself
-pub record Went {W V C L A : Type 0} (t : Table W V C L A) (n : Notes t) (p : ℕ) (c : C) (h : Option Hold) (s : Plain) (span : List Mark) (st : Stepped W V L A) (step : Option Change) (r : Manner) : Type 0 where
+pub record Went {W V C L A : Type 0} (t : Table W V C L A) (n : Notes t) (p : ℕ) (c : C) (h : Option Hold) (s : Plain) (span : List Mark) (st : Stepped W V L A) (step : Option Change) (r : StepKind) : Type 0 where
   pub opens : IsOpenStep s p step
   pub belongs : BelongsTo t.lock_kind step
   pub encodes : t.memory.numbers st.words ≡ encoded t.lock_kind (apply_some s step)
@@ -111,21 +111,21 @@ module _ {W V C L A : Type 0} (t : Table W V C L A) (n : Notes t) (sound_all : (
 
   -- a step of the call, at the row of its point
   module _ (p : ℕ) (c : C) (l : L) (h : Option Hold) (s : Plain) (w : W) (span : List Mark) (row : Row) (at : At t n p c l h s w span row) (sound : IsSound t.lock_kind (t.asks c h) p (Some row)) where
-    made_now : (step : Option Change) (r : Manner) (cs : List Change) → row.made p ++ option_to_list step ≡ cs → own p (mark_of p step r s ∷ span) ≡ cs
+    made_now : (step : Option Change) (r : StepKind) (cs : List Change) → row.made p ++ option_to_list step ≡ cs → own p (mark_of p step r s ∷ span) ≡ cs
     made_now step r cs is = own-mine p step r s span ∙ (ap (λ ds. ds ++ option_to_list step) at.known.made ∙ is)
 
-    goes_to : (step : Option Change) (r : Manner) (turn : Turn) (m : L) (o : Option Row) → IsOpenStep s p step → Turned turn s step r → (is_again r ≡ true → step ≡ None → failures p span < changes t.lock_kind p span)
-        → IsSound t.lock_kind (t.asks c h) p o → FollowsRow t n p (call_of t n c) h s w span row step r turn m o
+    goes_to : (step : Option Change) (r : StepKind) (branch : Branch) (m : L) (o : Option Row) → IsOpenStep s p step → Branched branch s step r → (is_again r ≡ true → step ≡ None → failures p span < changes t.lock_kind p span)
+        → IsSound t.lock_kind (t.asks c h) p o → FollowsRow t n p (call_of t n c) h s w span row step r branch m o
         → KnowsRow t n c m h p (apply_some s step) (mark_of p step r s ∷ span) o
         × ((said : Said) × AnyOf (λ steps. IsBeginning (own p (mark_of p step r s ∷ span)) steps) (own_steps (t.asks c h) said p))
-        × GoesOnWithin (limit t.lock_kind (t.asks c h)) t.lock_kind p (mark_of p step r s ∷ span)
-    goes_to step r turn m None may turned lost sound follows = absurd follows
-    goes_to step r turn m (Some to) may turned lost sound follows =
+        × ContinuesWithin (limit t.lock_kind (t.asks c h)) t.lock_kind p (mark_of p step r s ∷ span)
+    goes_to step r branch m None may branched lost sound follows = absurd follows
+    goes_to step r branch m (Some to) may branched lost sound follows =
         let retries = retries-mine t.lock_kind p step r s span at.retries lost in
-        let spends = may_spend (t.asks c h) turn step p s span _ follows.2 in
+        let spends = may_spend (t.asks c h) branch step p s span _ follows.2 in
         let found = needs-mine (need_of t.lock_kind (t.asks c h) (to.made p) (t.act c m h)) _ p s step r span follows.3 in
         let made = made_now step r (to.made p) follows.1 in
-        let spent = spent-mine p s step r span (limit t.lock_kind (t.asks c h)) t.lock_kind turn (to.made p) row.spent to.spent turned made spends at.known.spent in (
+        let spent = spent-mine p s step r span (limit t.lock_kind (t.asks c h)) t.lock_kind branch (to.made p) row.spent to.spent branched made spends at.known.spent in (
           (
             record {
               stand = stand-mine s p step row.stand to.stand may at.known.stand follows.0;
@@ -138,15 +138,15 @@ module _ {W V C L A : Type 0} (t : Table W V C L A) (n : Notes t) (sound_all : (
             follows.4,
           ),
           (to.said, any_map (λ steps. to.made p ++ to.rest p ≡ steps) (λ steps. IsBeginning (own p (mark_of p step r s ∷ span)) steps) (own_steps (t.asks c h) to.said p) (λ steps e. (to.rest p, ap (λ cs. cs ++ to.rest p) made ∙ e)) sound.1),
-          goes_within (limit t.lock_kind (t.asks c h)) t.lock_kind turn (to.made p) row.spent to.spent p (mark_of p step r s ∷ span) made sound.0 retries spends spent,
+          goes_within (limit t.lock_kind (t.asks c h)) t.lock_kind branch (to.made p) row.spent to.spent p (mark_of p step r s ∷ span) made sound.0 retries spends spent,
         )
 
-    followed : (weakly : Bool) (step : Option Change) (r : Manner) (turn : Turn) (next : Next L A) → IsOpenStep s p step → Turned turn s step r → (is_again r ≡ true → step ≡ None → failures p span < changes t.lock_kind p span)
-        → Follows t n p (call_of t n c) h s w span row weakly step r turn next → NextIs (machine_of t) (keeping_of t n) (move_of weakly) p c h (apply_some s step) (mark_of p step r s ∷ span) next
-    followed weakly step r turn (GoesOn m) may turned lost follows =
-        let there = goes_to step r turn m (row_of t n c m h) may turned lost (sound_at t.lock_kind (t.asks c h) h p (n.point c m h) (sound_all p c m h)) follows in
+    followed : (weakly : Bool) (step : Option Change) (r : StepKind) (branch : Branch) (next : Next L A) → IsOpenStep s p step → Branched branch s step r → (is_again r ≡ true → step ≡ None → failures p span < changes t.lock_kind p span)
+        → Follows t n p (call_of t n c) h s w span row weakly step r branch next → NextIs (machine_of t) (keeping_of t n) (move_of weakly) p c h (apply_some s step) (mark_of p step r s ∷ span) next
+    followed weakly step r branch (Continue m) may branched lost follows =
+        let there = goes_to step r branch m (row_of t n c m h) may branched lost (sound_at t.lock_kind (t.asks c h) h p (n.point c m h) (sound_all p c m h)) follows in
         record { knows = there.0; own_so_far = there.1; in_time = there.2 }
-    followed weakly step r turn (Answers a after) may turned lost follows =
+    followed weakly step r branch (Answers a after) may branched lost follows =
         let made = any_map (λ steps. row.made p ++ option_to_list step ≡ steps) (λ steps. own p (mark_of p step r s ∷ span) ≡ steps) (own_steps (t.asks c h) (t.says a) p) (λ steps e. made_now step r steps e) follows.1 in
         record {
           stands = stand-mine s p step row.stand (stand_of after) may at.known.stand follows.0 ∙ sym (held_at p after);
@@ -155,19 +155,19 @@ module _ {W V C L A : Type 0} (t : Table W V C L A) (n : Notes t) (sound_all : (
           in_time = ends_within (limit t.lock_kind (t.asks c h)) t.lock_kind (row.made p) row.spent p s step r span sound.0 at.retries at.known.spent (ends_owed t.lock_kind weakly (t.asks c h) (t.says a) p (mark_of p step r s ∷ span) made follows.2);
         }
 
-    abbrev Is : Stepped W V L A → Option Change → Manner → Type 0
+    abbrev Is : Stepped W V L A → Option Change → StepKind → Type 0
     Is st step r = Went t n p c h s span st step r
 
     -- the words stay
-    stay_is : (r : Manner) (turn : Turn) (next : Next L A) → Turned turn s None r → (is_again r ≡ true → failures p span < changes t.lock_kind p span) → Follows t n p (call_of t n c) h s w span row false None r turn next → Is (stays w next) None r
-    stay_is r turn next turned lost follows =
+    stay_is : (r : StepKind) (branch : Branch) (next : Next L A) → Branched branch s None r → (is_again r ≡ true → failures p span < changes t.lock_kind p span) → Follows t n p (call_of t n c) h s w span row false None r branch next → Is (stays w next) None r
+    stay_is r branch next branched lost follows =
         record {
           opens = tt;
           belongs = tt;
           encodes = at.encodes;
           shape = at.shape;
           unplaced = refl;
-          next = followed false None r turn next tt turned (λ e none. lost e) follows;
+          next = followed false None r branch next tt branched (λ e none. lost e) follows;
           fails = λ e none. lost e;
         }
 
@@ -175,7 +175,7 @@ module _ {W V C L A : Type 0} (t : Table W V C L A) (n : Notes t) (sound_all : (
     unretried single made = absurd (false≢true (sym single ∙ made))
 
     -- new words, and a plain step
-    made_is : {X : Type 0} (put : X → W) (r : Manner) (x : X) (d : Change) (next : Next L A) → is_step_of t.lock_kind d ≡ true → Means t n p s d put (Some x) → Follows t n p (call_of t n c) h s w span row false (Some d) r goes next → Is (stays (put x) next) (Some d) r
+    made_is : {X : Type 0} (put : X → W) (r : StepKind) (x : X) (d : Change) (next : Next L A) → is_step_of t.lock_kind d ≡ true → Means t n p s d put (Some x) → Follows t n p (call_of t n c) h s w span row false (Some d) r goes next → Is (stays (put x) next) (Some d) r
     made_is put r x d next own means follows =
         record {
           opens = means.0;
@@ -187,16 +187,16 @@ module _ {W V C L A : Type 0} (t : Table W V C L A) (n : Notes t) (sound_all : (
           fails = λ e none. absurd (cc (none));
         }
 
-    tested : (r : Manner) (b : Bool) (x y : Next L A) → is_again r ≡ false → (b ≡ true → Follows t n p (call_of t n c) h s w span row false None r goes x) → (b ≡ false → Follows t n p (call_of t n c) h s w span row false None r goes y) → Is (stays w (either b x y)) None r
+    tested : (r : StepKind) (b : Bool) (x y : Next L A) → is_again r ≡ false → (b ≡ true → Follows t n p (call_of t n c) h s w span row false None r goes x) → (b ≡ false → Follows t n p (call_of t n c) h s w span row false None r goes y) → Is (stays w (either b x y)) None r
     tested r true x y single f g = stay_is r goes x tt (unretried single) (f refl)
     tested r false x y single f g = stay_is r goes y tt (unretried single) (g refl)
 
-    looked : {X : Type 0} (put : X → W) (r : Manner) (turn : Turn) (o : Option X) (d : Change) (found missed : Next L A) → Turned turn s None r → (is_again r ≡ true → failures p span < changes t.lock_kind p span) → Means t n p s d put o
-        → (is_some o ≡ true → Follows t n p (call_of t n c) h s w span row false None r turn found) → (is_open s d ≡ false → Follows t n p (call_of t n c) h s w span row false None r (misses d) missed) → Is (stays w (either (is_some o) found missed)) None r
-    looked put r turn None d found missed turned lost means f g = stay_is r (misses d) missed means lost (g means)
-    looked put r turn (Some x) d found missed turned lost means f g = stay_is r turn found turned lost (f refl)
+    looked : {X : Type 0} (put : X → W) (r : StepKind) (branch : Branch) (o : Option X) (d : Change) (found missed : Next L A) → Branched branch s None r → (is_again r ≡ true → failures p span < changes t.lock_kind p span) → Means t n p s d put o
+        → (is_some o ≡ true → Follows t n p (call_of t n c) h s w span row false None r branch found) → (is_open s d ≡ false → Follows t n p (call_of t n c) h s w span row false None r (misses d) missed) → Is (stays w (either (is_some o) found missed)) None r
+    looked put r branch None d found missed branched lost means f g = stay_is r (misses d) missed means lost (g means)
+    looked put r branch (Some x) d found missed branched lost means f g = stay_is r branch found branched lost (f refl)
 
-    exchanged : {X : Type 0} (put : X → W) (r : Manner) (o : Option X) (d : Change) (won lost : Next L A) → is_again r ≡ false → is_step_of t.lock_kind d ≡ true → Means t n p s d put o
+    exchanged : {X : Type 0} (put : X → W) (r : StepKind) (o : Option X) (d : Change) (won lost : Next L A) → is_again r ≡ false → is_step_of t.lock_kind d ≡ true → Means t n p s d put o
         → Follows t n p (call_of t n c) h s w span row false (Some d) r goes won → (is_open s d ≡ false → Follows t n p (call_of t n c) h s w span row false None r (misses d) lost) → Is (becomes put w o won lost) (made_if o d) r
     exchanged put r None d won lost single own means f g = stay_is r (misses d) lost means (unretried single) (g means)
     exchanged put r (Some x) d won lost single own means f g = made_is put r x d won own means f
@@ -216,12 +216,12 @@ module _ {W V C L A : Type 0} (t : Table W V C L A) (n : Notes t) (sound_all : (
     made_again put false o d won found missed own some le means f g m = looked put again loses o d found missed (refl, refl) (λ e. omega (arith, le)) means (λ some. g (finds_another (limit t.lock_kind (t.asks c h)) (is_some o) some)) m
 
     pub step_is : (i : ℕ) (act : Act W L A) → ((d : Change) → makes_by act p ≡ Some d → is_step_of t.lock_kind d ≡ true) → Expects t.lock_kind act p s span → Owes t n p (call_of t n c) h s w span row i act
-        → Is (step_by t.memory i act w) (change_by t.memory i act p w) (by_step (manner_by (t.asks c h) act))
+        → Is (step_by t.memory i act w) (change_by t.memory i act p w) (by_step (step_kind_by (t.asks c h) act))
     step_is i (load next) own expects owes = stay_is plain goes (next (number_at t.memory i w)) tt (unretried refl) owes
-    step_is i (load_if test a b) own expects owes = tested (by_step (look_manner (t.asks c h))) (test (number_at t.memory i w)) _ _ (no_retry (is_waiting (t.asks c h))) owes.0 owes.1
+    step_is i (load_if test a b) own expects owes = tested (by_step (look_kind (t.asks c h))) (test (number_at t.memory i w)) _ _ (no_retry (is_waiting (t.asks c h))) owes.0 owes.1
     step_is i (load_for f step found missed) own expects owes = looked (λ k. t.memory.put i k w) plain finds_open (f (number_at t.memory i w)) (step p) _ missed tt (unretried refl) owes.0 owes.1 owes.2
     step_is i (enter test step won lost) own expects owes =
-        exchanged (λ k. w) (by_step (look_manner (t.asks c h))) (passing (test (number_at t.memory i w)) (number_at t.memory i w)) (step p) won lost (no_retry (is_waiting (t.asks c h))) (own (step p) refl) owes.0 owes.1 owes.2
+        exchanged (λ k. w) (by_step (look_kind (t.asks c h))) (passing (test (number_at t.memory i w)) (number_at t.memory i w)) (step p) won lost (no_retry (is_waiting (t.asks c h))) (own (step p) refl) owes.0 owes.1 owes.2
     step_is i (exchange operation step won lost) own expects owes = exchanged (λ k. t.memory.put i k w) plain (tried operation (number_at t.memory i w)) (step p) won _ refl (own (step p) refl) owes.0 owes.1 owes.2
     step_is i (weak_exchange k f step won lost) own expects owes = exchanged (λ k. t.memory.put i k w) plain (tried (swap k f) (number_at t.memory i w)) (step p) won lost refl (own (step p) refl) owes.0 owes.1 owes.2
     step_is i (attempt k f step won lost) own expects owes = attempted (λ k. t.memory.put i k w) (guessed k f (number_at t.memory i w)) (step p) won lost (own (step p) refl) owes.0 owes.1
@@ -254,13 +254,13 @@ module _ {W V C L A : Type 0} (t : Table W V C L A) (n : Notes t) (sound_all : (
     refuted put None None d e means is may none = absurd (cc (is))
     refuted put (Some x) u d e means is may none = absurd (cc (none))
 
-    counted_attempt : (put : ℕ → W) (o : Option ℕ) (d : Change) (won lost : Next L A) (change : W → Option Change) → is_answer lost ≡ true → GoesOnCounted change s (becomes {V = V} put w o won lost).next (made_if o d) plain
+    counted_attempt : (put : ℕ → W) (o : Option ℕ) (d : Change) (won lost : Next L A) (change : W → Option Change) → is_answer lost ≡ true → ContinuesCounted change s (becomes {V = V} put w o won lost).next (made_if o d) plain
     counted_attempt put (Some to) d won lost change last = counted_of change s won (Some d) plain (λ u e is may none. absurd (cc (none)))
-    counted_attempt put None d won (GoesOn m) change last = absurd (false≢true last)
+    counted_attempt put None d won (Continue m) change last = absurd (false≢true last)
     counted_attempt put None d won (Answers a after) change last = tt
 
     pub counted_is : (i : ℕ) (act : Act W L A) → Owes t n p (call_of t n c) h s w span row i act
-        → GoesOnCounted (λ u. change_by t.memory i act p u) s (step_by {V = V} t.memory i act w).next (change_by t.memory i act p w) (by_step (manner_by (t.asks c h) act))
+        → ContinuesCounted (λ u. change_by t.memory i act p u) s (step_by {V = V} t.memory i act w).next (change_by t.memory i act p w) (by_step (step_kind_by (t.asks c h) act))
     counted_is i (enter test step won lost) owes = counted_of _ s _ _ _ (λ u d is may none. refuted (λ k. w) _ (passing (test (number_at t.memory i u)) (number_at t.memory i u)) (step p) d owes.0 is may none)
     counted_is i (exchange operation step won lost) owes = counted_of _ s _ _ _ (λ u d is may none. refuted (λ k. t.memory.put i k w) _ (tried operation (number_at t.memory i u)) (step p) d owes.0 is may none)
     counted_is i (weak_exchange k f step won lost) owes = counted_of _ s _ _ _ (λ u d is may none. refuted (λ k. t.memory.put i k w) _ (tried (swap k f) (number_at t.memory i u)) (step p) d owes.0 is may none)
@@ -289,7 +289,7 @@ module _ {W V C L A : Type 0} (t : Table W V C L A) (n : Notes t) (sound_all : (
     due_is i (section can f step won lost) ask way needs aim owes is may = gets_it (λ u. u) _ (step p) (gets p ask) owes.1 (cc (aim)) may
 
     -- and else it looks
-    looks_else : (act : Act W L A) (what : Asked) (ask : Ask) (way : Way) → is_waiting what ≡ true → Needs (need (Some ask) way (rests act) (peeks act)) p span → LooksElse way p span (by_step (manner_by what act))
+    looks_else : (act : Act W L A) (what : Asked) (ask : Ask) (way : Way) → is_waiting what ≡ true → Needs (need (Some ask) way (rests act) (peeks act)) p span → LooksElse way p span (by_step (step_kind_by what act))
     looks_else act what ask always waiting needs = tt
     looks_else act what ask past_looks waiting needs = tt
     looks_else (load_if test a b) what ask by_looks waiting needs = λ is. ap (λ x. is_look (by_step (either x look plain))) waiting
@@ -300,52 +300,52 @@ module _ {W V C L A : Type 0} (t : Table W V C L A) (n : Notes t) (sound_all : (
     looks_else _ what ask by_looks waiting needs = λ is. absurd (true≢false (sym needs ∙ is))
 
     pub gets_is : (i : ℕ) (act : Act W L A) (ask : Ask) (way : Way) → is_waiting (t.asks c h) ≡ true → Needs (need (Some ask) way (rests act) (peeks act)) p span → sure_by act p ≡ aimed p (Some ask) (sure_by act p) → Owes t n p (call_of t n c) h s w span row i act
-        → (is_due_by way p span ≡ true → is_open_to s p ask ≡ true → change_by t.memory i act p w ≡ Some (gets p ask)) × LooksElse way p span (by_step (manner_by (t.asks c h) act))
+        → (is_due_by way p span ≡ true → is_open_to s p ask ≡ true → change_by t.memory i act p w ≡ Some (gets p ask)) × LooksElse way p span (by_step (step_kind_by (t.asks c h) act))
     gets_is i act ask way waiting needs aim owes = (due_is i act ask way needs aim owes, looks_else act (t.asks c h) ask way waiting needs)
 
     -- a try goes on only where it may
     module _ (ask : Ask) (is : t.asks c h ≡ tries ask) where
       made_on : (next : Next L A) (d : Change) → GoesOnOpen ask p span s next (Some d)
-      made_on (GoesOn m) d = tt
+      made_on (Continue m) d = tt
       made_on (Answers a after) d = tt
 
       open_on : (next : Next L A) → is_open_to s p ask ≡ true → GoesOnOpen ask p span s next None
-      open_on (GoesOn m) may = tries_open ask p span s may
+      open_on (Continue m) may = tries_open ask p span s may
       open_on (Answers a after) may = tt
 
-      tried_to : (m : L) (r : Manner) (o : Option Row) → FollowsRow t n p (call_of t n c) h s w span row None r goes m o → MayTryOn ask p span s
+      tried_to : (m : L) (r : StepKind) (o : Option Row) → FollowsRow t n p (call_of t n c) h s w span row None r goes m o → MayTryOn ask p span s
       tried_to m r None follows = absurd follows
       tried_to m r (Some to) follows = may_try (t.asks c h) ask p s span _ is follows.2
 
-      tried_on : (r : Manner) (next : Next L A) → Follows t n p (call_of t n c) h s w span row false None r goes next → GoesOnOpen ask p span s next None
-      tried_on r (GoesOn m) follows = tried_to m r (row_of t n c m h) follows
+      tried_on : (r : StepKind) (next : Next L A) → Follows t n p (call_of t n c) h s w span row false None r goes next → GoesOnOpen ask p span s next None
+      tried_on r (Continue m) follows = tried_to m r (row_of t n c m h) follows
       tried_on r (Answers a after) follows = tt
 
-      missed_to : (m : L) (r : Manner) (d : Change) (o : Option Row) → FollowsRow t n p (call_of t n c) h s w span row None r (misses d) m o → MayTryOn ask p span s
+      missed_to : (m : L) (r : StepKind) (d : Change) (o : Option Row) → FollowsRow t n p (call_of t n c) h s w span row None r (misses d) m o → MayTryOn ask p span s
       missed_to m r d None follows = absurd follows
       missed_to m r d (Some to) follows = absurd (no_try (t.asks c h) ask d None p s span _ is follows.2)
 
-      missed_on : (r : Manner) (d : Change) (next : Next L A) → Follows t n p (call_of t n c) h s w span row false None r (misses d) next → GoesOnOpen ask p span s next None
-      missed_on r d (GoesOn m) follows = missed_to m r d (row_of t n c m h) follows
+      missed_on : (r : StepKind) (d : Change) (next : Next L A) → Follows t n p (call_of t n c) h s w span row false None r (misses d) next → GoesOnOpen ask p span s next None
+      missed_on r d (Continue m) follows = missed_to m r d (row_of t n c m h) follows
       missed_on r d (Answers a after) follows = tt
 
-      tested_on : (r : Manner) (b : Bool) (x y : Next L A) → (b ≡ true → Follows t n p (call_of t n c) h s w span row false None r goes x) → (b ≡ false → Follows t n p (call_of t n c) h s w span row false None r goes y) → GoesOnOpen ask p span s (either b x y) None
+      tested_on : (r : StepKind) (b : Bool) (x y : Next L A) → (b ≡ true → Follows t n p (call_of t n c) h s w span row false None r goes x) → (b ≡ false → Follows t n p (call_of t n c) h s w span row false None r goes y) → GoesOnOpen ask p span s (either b x y) None
       tested_on r true x y f g = tried_on r x (f refl)
       tested_on r false x y f g = tried_on r y (g refl)
 
-      looked_on : {X : Type 0} (put : X → W) (r : Manner) (o : Option X) (d : Change) (found missed : Next L A) → d ≡ gets p ask → Means t n p s d put o → (is_open s d ≡ false → Follows t n p (call_of t n c) h s w span row false None r (misses d) missed)
+      looked_on : {X : Type 0} (put : X → W) (r : StepKind) (o : Option X) (d : Change) (found missed : Next L A) → d ≡ gets p ask → Means t n p s d put o → (is_open s d ≡ false → Follows t n p (call_of t n c) h s w span row false None r (misses d) missed)
           → GoesOnOpen ask p span s (either (is_some o) found missed) None
       looked_on put r None d found missed aim means g = missed_on r d missed (g means)
       looked_on put r (Some x) d found missed aim means g = open_on found (subst (λ e. is_open s e ≡ true) aim means.0.1)
 
-      exchanged_on : {X : Type 0} (put : X → W) (r : Manner) (o : Option X) (d : Change) (won lost : Next L A) → Means t n p s d put o → (is_open s d ≡ false → Follows t n p (call_of t n c) h s w span row false None r (misses d) lost)
+      exchanged_on : {X : Type 0} (put : X → W) (r : StepKind) (o : Option X) (d : Change) (won lost : Next L A) → Means t n p s d put o → (is_open s d ≡ false → Follows t n p (call_of t n c) h s w span row false None r (misses d) lost)
           → GoesOnOpen ask p span s (becomes {V = V} put w o won lost).next (made_if o d)
       exchanged_on put r None d won lost means g = missed_on r d lost (g means)
       exchanged_on put r (Some x) d won lost means g = made_on won d
 
       attempted_on : (put : ℕ → W) (o : Option ℕ) (d : Change) (won lost : Next L A) → is_answer lost ≡ true → GoesOnOpen ask p span s (becomes {V = V} put w o won lost).next (made_if o d)
       attempted_on put (Some to) d won lost last = made_on won d
-      attempted_on put None d won (GoesOn m) last = absurd (false≢true last)
+      attempted_on put None d won (Continue m) last = absurd (false≢true last)
       attempted_on put None d won (Answers a after) last = tt
 
       retried_on : (put : ℕ → W) (b : Bool) (o : Option ℕ) (d : Change) (won found missed : Next L A) → d ≡ gets p ask → Means t n p s d put o → (is_open s d ≡ false → Follows t n p (call_of t n c) h s w span row false None again (misses d) missed)
@@ -355,9 +355,9 @@ module _ {W V C L A : Type 0} (t : Table W V C L A) (n : Notes t) (sound_all : (
 
       pub tries_is : (i : ℕ) (act : Act W L A) → aim_by (tries ask) act p ≡ aimed p (Some ask) (aim_by (tries ask) act p) → Owes t n p (call_of t n c) h s w span row i act → GoesOnOpen ask p span s (step_by {V = V} t.memory i act w).next (change_by t.memory i act p w)
       tries_is i (load next) aim owes = tried_on plain _ owes
-      tries_is i (load_if test a b) aim owes = tested_on (by_step (look_manner (t.asks c h))) (test (number_at t.memory i w)) _ _ owes.0 owes.1
+      tries_is i (load_if test a b) aim owes = tested_on (by_step (look_kind (t.asks c h))) (test (number_at t.memory i w)) _ _ owes.0 owes.1
       tries_is i (load_for f step found missed) aim owes = looked_on (λ k. t.memory.put i k w) plain (f (number_at t.memory i w)) (step p) _ missed (cc (aim)) owes.0 owes.2
-      tries_is i (enter test step won lost) aim owes = exchanged_on (λ k. w) (by_step (look_manner (t.asks c h))) (passing (test (number_at t.memory i w)) (number_at t.memory i w)) (step p) won lost owes.0 owes.2
+      tries_is i (enter test step won lost) aim owes = exchanged_on (λ k. w) (by_step (look_kind (t.asks c h))) (passing (test (number_at t.memory i w)) (number_at t.memory i w)) (step p) won lost owes.0 owes.2
       tries_is i (exchange operation step won lost) aim owes = exchanged_on (λ k. t.memory.put i k w) plain (tried operation (number_at t.memory i w)) (step p) won _ owes.0 owes.2
       tries_is i (weak_exchange k f step won lost) aim owes = exchanged_on (λ k. t.memory.put i k w) plain (tried (swap k f) (number_at t.memory i w)) (step p) won lost owes.0 owes.2
       tries_is i (attempt k f step won lost) aim owes = attempted_on (λ k. t.memory.put i k w) _ (step p) won lost owes.2
@@ -387,7 +387,7 @@ module _ {W V C L A : Type 0} (t : Table W V C L A) (n : Notes t) (sound_all : (
         let owed = subst (λ b. AnswersRow t n p (call_of t n c) l h s w span (answers_by t (steps_alone t.lock_kind (t.asks c h)) w c l h) b (Some row)) waits soon in
         owed at (subst (λ (cs : List Change). is_open_next (t.asks c h) (is_empty cs) (arrived p span) p s ≡ true) at.known.made may)
 
-  pub others_at : (p q : ℕ) (c : C) (l : L) (h : Option Hold) (s : Plain) (step : Option Change) (r : Manner) (span : List Mark) (o : Option Row) → (q ≡ p → ⊥) → IsOpenStep s q step
+  pub others_at : (p q : ℕ) (c : C) (l : L) (h : Option Hold) (s : Plain) (step : Option Change) (r : StepKind) (span : List Mark) (o : Option Row) → (q ≡ p → ⊥) → IsOpenStep s q step
       → (n.Knows c l h p s span → n.Knows c l h p (apply_some s step) (mark_of q step r s ∷ span)) → KnowsRow t n c l h p s span o → KnowsRow t n c l h p (apply_some s step) (mark_of q step r s ∷ span) o
   others_at p q c l h s step r span None ne may stays knows = absurd knows
   others_at p q c l h s step r span (Some row) ne may stays knows = (known-other t.lock_kind (t.asks c h) (t.act c l h) row p q s step r span ne may knows.0, stays knows.1)
@@ -415,7 +415,7 @@ module _ {W V C L A : Type 0} (t : Table W V C L A) (n : Notes t) (pays : Pays t
     by_row : (P : Type 0) → ((row : Row) → At t n p c l h s w span row → IsSound t.lock_kind (t.asks c h) p (Some row) → Owes t n p (call_of t n c) h s w span row (t.word l) (t.act c l h) → Aims t n pays.sound p c l h s w span row → P) → P
     by_row P f = at_row t n pays.sound p c l h s w span P f (row_of t n c l h) (sound_at t.lock_kind (t.asks c h) h p (n.point c l h) (pays.sound p c l h)) here (pays.owes p c l h s w span) (pays.aims p c l h)
 
-    pub went_here : Went t n p c h s span (step_by t.memory (t.word l) (t.act c l h) w) (change_by t.memory (t.word l) (t.act c l h) p w) (by_step (manner_by (t.asks c h) (t.act c l h)))
+    pub went_here : Went t n p c h s span (step_by t.memory (t.word l) (t.act c l h) w) (change_by t.memory (t.word l) (t.act c l h) p w) (by_step (step_kind_by (t.asks c h) (t.act c l h)))
     went_here = by_row _ (λ row at sound owes aims. step_is t n pays.sound p c l h s w span row at sound (t.word l) (t.act c l h) (λ d is. (fits_made t.lock_kind (t.asks c h) _ _ d (and_parts _ _ (pays.fits p c l h)).0 is).0) at.known.expects owes)
 
     pub can_here : can_by t.memory (t.word l) (t.act c l h) w ≡ true
@@ -424,15 +424,15 @@ module _ {W V C L A : Type 0} (t : Table W V C L A) (n : Notes t) (pays : Pays t
     pub refusal_here : (next : Next L A) → refusal_by (t.act c l h) ≡ Some next → NextIs (machine_of t) (keeping_of t n) Weak p c h s (mark_of p None weak s ∷ span) next × (may_be_weak (t.asks c h) ≡ true) × (own p span ≡ before_weakly (t.asks c h) p)
     refusal_here next is = by_row _ (λ row at sound owes aims. refusal_is t n pays.sound p c l h s w span row at sound (t.word l) (t.act c l h) next owes is)
 
-    pub counted_here : GoesOnCounted (λ u. change_by t.memory (t.word l) (t.act c l h) p u) s (step_by {V = V} t.memory (t.word l) (t.act c l h) w).next (change_by t.memory (t.word l) (t.act c l h) p w) (by_step (manner_by (t.asks c h) (t.act c l h)))
+    pub counted_here : ContinuesCounted (λ u. change_by t.memory (t.word l) (t.act c l h) p u) s (step_by {V = V} t.memory (t.word l) (t.act c l h) w).next (change_by t.memory (t.word l) (t.act c l h) p w) (by_step (step_kind_by (t.asks c h) (t.act c l h)))
     counted_here = by_row _ (λ row at sound owes aims. counted_is t n pays.sound p c l h s w span row at sound (t.word l) (t.act c l h) owes)
 
-    pub due_here : Gets t.lock_kind p (t.asks c h) span s (change_by t.memory (t.word l) (t.act c l h) p w) (by_step (manner_by (t.asks c h) (t.act c l h)))
+    pub due_here : Gets t.lock_kind p (t.asks c h) span s (change_by t.memory (t.word l) (t.act c l h) p w) (by_step (step_kind_by (t.asks c h) (t.act c l h)))
     due_here ask aim = by_row _ (λ row at sound owes aims.
         let is = subst (λ cs. goes_for (t.asks c h) cs ≡ Some ask) at.known.made aim in
         let way = way_of t.lock_kind (t.asks c h) (row.made p) in
         let act = t.act c l h in
-        subst (λ cs. let way = way_of t.lock_kind (t.asks c h) cs in (is_due_by way p span ≡ true → is_open_to s p ask ≡ true → change_by t.memory (t.word l) act p w ≡ Some (gets p ask)) × LooksElse way p span (by_step (manner_by (t.asks c h) act))) (sym at.known.made)
+        subst (λ cs. let way = way_of t.lock_kind (t.asks c h) cs in (is_due_by way p span ≡ true → is_open_to s p ask ≡ true → change_by t.memory (t.word l) act p w ≡ Some (gets p ask)) × LooksElse way p span (by_step (step_kind_by (t.asks c h) act))) (sym at.known.made)
         (gets_is t n pays.sound p c l h s w span row at sound (t.word l) act ask way (goes_waiting (t.asks c h) (row.made p) ask is) (subst (λ o. Needs (need o way (rests act) (peeks act)) p span) is at.known.needs) (aims_sure (t.asks c h) act (row.made p) ask p is aims) owes))
 
     pub tries_here : (ask : Ask) → t.asks c h ≡ tries ask → own p span ≡ [] → GoesOnOpen ask p span s (step_by {V = V} t.memory (t.word l) (t.act c l h) w).next (change_by t.memory (t.word l) (t.act c l h) p w)
@@ -443,7 +443,7 @@ module _ {W V C L A : Type 0} (t : Table W V C L A) (n : Notes t) (pays : Pays t
     pub soon_here : is_open_now p (t.asks c h) span s ≡ true → answers_by t (steps_alone t.lock_kind (t.asks c h)) w c l h ≡ true
     soon_here may = soon_at t n pays.sound p c l h s w span (row_of t n c l h) here (pays.soon p c l h s w span) may
 
-  pub others_here : (q : ℕ) (step : Option Change) (r : Manner) → (q ≡ p → ⊥) → n.Shape s → IsOpenStep s q step → BelongsTo t.lock_kind step → KnowsRow t n c l h p s span (row_of t n c l h)
+  pub others_here : (q : ℕ) (step : Option Change) (r : StepKind) → (q ≡ p → ⊥) → n.Shape s → IsOpenStep s q step → BelongsTo t.lock_kind step → KnowsRow t n c l h p s span (row_of t n c l h)
       → KnowsRow t n c l h p (apply_some s step) (mark_of q step r s ∷ span) (row_of t n c l h)
   others_here q step r ne shape may belongs knows = others_at t n pays.sound p q c l h s step r span (row_of t n c l h) ne may (pays.others p q c l h s step r span ne shape may belongs) knows
 
@@ -455,11 +455,11 @@ module _ {W V C L A : Type 0} (t : Table W V C L A) (n : Notes t) (pays : Pays t
   no_completion p c l h w q is = completes_none t.lock_kind q no_value (fits_change t pays.fits pays.operates p c l h _ w (completes q) is).0
 
   silent : (v : Option V) (next : Next L A) → NextGives (machine_of t) v next
-  silent v (GoesOn l) = tt
+  silent v (Continue l) = tt
   silent v (Answers a after) = gives_none t.lock_kind.makes_value (t.says a) None v no_value
 
   module _ (p : ℕ) (c : C) (l : L) (h : Option Hold) (s : Plain) (v : Option V) (w : W) (span : List Mark) (here : InCall (machine_of t) (keeping_of t n) p c l h s v w span) where
-    step_here : StepIs (machine_of t) (keeping_of t n) p c h s v span (step_by t.memory (t.word l) (t.act c l h) w) (change_by t.memory (t.word l) (t.act c l h) p w) (by_step (manner_by (t.asks c h) (t.act c l h)))
+    step_here : StepIs (machine_of t) (keeping_of t n) p c h s v span (step_by t.memory (t.word l) (t.act c l h) w) (change_by t.memory (t.word l) (t.act c l h) p w) (by_step (step_kind_by (t.asks c h) (t.act c l h)))
     step_here =
         let went = went_here t n pays p c l h s w span here.encodes here.shape here.exclusive here.retries here.knows in
         record {

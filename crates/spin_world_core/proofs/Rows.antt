@@ -7,9 +7,9 @@ use Rattle.spin_step.specs.Steps.{bit}
 use Rattle.spin_step.proofs.Entries.{entries-other}
 use Rattle.spin_world_core.specs.declared.place.Hold.{Hold}
 use Rattle.spin_world_core.specs.declared.place.Hold.TheVariants.{Upgradable, Write}
-use Rattle.spin_world_core.specs.Manners.{Manner, is_again, is_look}
+use Rattle.spin_world_core.specs.StepKinds.{StepKind, is_again, is_look}
 use Rattle.spin_world_core.specs.Calls.{LockKind, Asked, waits, waits_or_starves, tries, tries_weakly, tries_to_know, looks, counts_readers, counts_writers, turns_to, gives_back, initializes, fails_to_initialize, waits_for_value, polls, looks_for_value, looks_complete, meets, Said, granted, refused, done, tells, counted, gives_value, failed, leads, grant, let_go_of, own_steps, Mark, AnyOf, Grants, HasMoment, HasWeakMoment, FindsClosed, first_word, Limit, unlimited, within, within_changes, gets_within, changes_within, registers_after, limit}
-use Rattle.spin_world_core.specs.Runs.{mark_of, own, own_count, failures, changes, RegistersInTime, EndsWithin, GoesOnWithin}
+use Rattle.spin_world_core.specs.Runs.{mark_of, own, own_count, failures, changes, RegistersInTime, EndsWithin, ContinuesWithin}
 use Rattle.spin_world_core.specs.Order.{goes_for, is_due, Way, always, by_looks, past_looks, way_of, is_due_by, MayTryOn}
 use Rattle.spin_world_core.specs.Acts.{Act, load, load_if, load_for, attempt, retry}
 use Rattle.spin_world_core.proofs.Lists.{eqb_self}
@@ -19,17 +19,17 @@ use Rattle.spin_world_core.proofs.Spans.{nil_left, own-mine, own-other, own_coun
 -- The count of its steps
 
 -- an own step makes its way, finds that a plain step is open, is a retry that failed, or finds that a plain step is closed
-pub data Turn : Type 0 where
-  goes : Turn
-  finds_open : Turn
-  loses : Turn
-  misses : Change → Turn
+pub data Branch : Type 0 where
+  goes : Branch
+  finds_open : Branch
+  loses : Branch
+  misses : Change → Branch
 
-abbrev pub Turned : Turn → Plain → Option Change → Manner → Type 0
-Turned goes s step r = Unit {0}
-Turned finds_open s step r = Unit {0}
-Turned loses s step r = (is_again r ≡ true) × (step ≡ None)
-Turned (misses c) s step r = is_open s c ≡ false
+abbrev pub Branched : Branch → Plain → Option Change → StepKind → Type 0
+Branched goes s step r = Unit {0}
+Branched finds_open s step r = Unit {0}
+Branched loses s step r = (is_again r ≡ true) × (step ≡ None)
+Branched (misses c) s step r = is_open s c ≡ false
 
 -- at most k steps are spent of what the limit counts
 abbrev pub Spends : Limit → ℕ → ℕ → List Mark → Type 0
@@ -40,8 +40,8 @@ Spends (gets_within ask n) k p span = own p span ≡ [] → (own_count p span �
 Spends (changes_within n) k p span = own p span ≡ [] → own_count p span ≤ k
 Spends (registers_after n j) k p span = Unit {0}
 
--- after j steps and this turn, k are spent; the list is of the plain steps that are made then, and the span has this step. That a call registers in time an object shows by what it knows
-abbrev pub MaySpend : Limit → Turn → List Change → ℕ → ℕ → ℕ → LockKind → List Mark → Type 0
+-- after j steps and this branch, k are spent; the list is of the plain steps that are made then, and the span has this step. That a call registers in time an object shows by what it knows
+abbrev pub MaySpend : Limit → Branch → List Change → ℕ → ℕ → ℕ → LockKind → List Mark → Type 0
 MaySpend unlimited t cs j k p kind span = Unit {0}
 MaySpend (within n) t cs j k p kind span = nat_lt j k ≡ true
 MaySpend (within_changes n) loses cs j k p kind span = nat_lt j (suc k) ≡ true
@@ -53,27 +53,27 @@ MaySpend (gets_within ask n) loses [] j k p kind span = nat_lt j (suc k) ≡ tru
 MaySpend (gets_within ask n) (misses c) [] j k p kind span = c ≡ gets p ask
 MaySpend (changes_within n) t (c ∷ cs) j k p kind span = Unit {0}
 MaySpend (changes_within n) t [] j k p kind span = nat_lt j k ≡ true
-MaySpend (registers_after n i) t cs j k p kind span = GoesOnWithin (registers_after n i) kind p span
+MaySpend (registers_after n i) t cs j k p kind span = ContinuesWithin (registers_after n i) kind p span
 
 -- a try that has found its plain step closed goes on no more, and by a look alone only where it may
-abbrev pub MayGoOn : Asked → Turn → Option Change → ℕ → Plain → List Mark → Type 0 → Type 0
-MayGoOn (tries ask) (misses c) step p s span Spend = ⊥
-MayGoOn (tries ask) goes None p s span Spend = Spend × MayTryOn ask p span s
-MayGoOn what turn step p s span Spend = Spend
+abbrev pub MayContinue : Asked → Branch → Option Change → ℕ → Plain → List Mark → Type 0 → Type 0
+MayContinue (tries ask) (misses c) step p s span Spend = ⊥
+MayContinue (tries ask) goes None p s span Spend = Spend × MayTryOn ask p span s
+MayContinue what branch step p s span Spend = Spend
 
-pub may_spend : (what : Asked) (turn : Turn) (step : Option Change) (p : ℕ) (s : Plain) (span : List Mark) (Spend : Type 0) → MayGoOn what turn step p s span Spend → Spend
+pub may_spend : (what : Asked) (branch : Branch) (step : Option Change) (p : ℕ) (s : Plain) (span : List Mark) (Spend : Type 0) → MayContinue what branch step p s span Spend → Spend
 may_spend (tries ask) (misses c) step p s span Spend may = absurd may
 may_spend (tries ask) goes None p s span Spend may = may.0
 may_spend (tries ask) goes (Some c) p s span Spend may = may
 may_spend (tries ask) finds_open step p s span Spend may = may
 may_spend (tries ask) loses step p s span Spend may = may
-may_spend what turn step p s span Spend may = may
+may_spend what branch step p s span Spend may = may
 
-pub may_try : (what : Asked) (ask : Ask) (p : ℕ) (s : Plain) (span : List Mark) (Spend : Type 0) → what ≡ tries ask → MayGoOn what goes None p s span Spend → MayTryOn ask p span s
-may_try what ask p s span Spend is may = (subst (λ k. MayGoOn k goes None p s span Spend) is may).1
+pub may_try : (what : Asked) (ask : Ask) (p : ℕ) (s : Plain) (span : List Mark) (Spend : Type 0) → what ≡ tries ask → MayContinue what goes None p s span Spend → MayTryOn ask p span s
+may_try what ask p s span Spend is may = (subst (λ k. MayContinue k goes None p s span Spend) is may).1
 
-pub no_try : (what : Asked) (ask : Ask) (c : Change) (step : Option Change) (p : ℕ) (s : Plain) (span : List Mark) (Spend : Type 0) → what ≡ tries ask → MayGoOn what (misses c) step p s span Spend → ⊥
-no_try what ask c step p s span Spend is may = subst (λ k. MayGoOn k (misses c) step p s span Spend) is may
+pub no_try : (what : Asked) (ask : Ask) (c : Change) (step : Option Change) (p : ℕ) (s : Plain) (span : List Mark) (Spend : Type 0) → what ≡ tries ask → MayContinue what (misses c) step p s span Spend → ⊥
+no_try what ask c step p s span Spend is may = subst (λ k. MayContinue k (misses c) step p s span Spend) is may
 
 pub tries_open : (ask : Ask) (p : ℕ) (span : List Mark) (s : Plain) → is_open_to s p ask ≡ true → MayTryOn ask p span s
 tries_open to_take_and_enter p span s may = inl may
@@ -94,7 +94,7 @@ on_each : {A B C D : Type 0} → (A → C) → (B → D) → A ⊎ B → C ⊎ D
 on_each f g (inl a) = inl (f a)
 on_each f g (inr b) = inr (g b)
 
-module _ (p : ℕ) (s : Plain) (step : Option Change) (r : Manner) (span : List Mark) where
+module _ (p : ℕ) (s : Plain) (step : Option Change) (r : StepKind) (span : List Mark) where
   none_before : own p (mark_of p step r s ∷ span) ≡ [] → own p span ≡ []
   none_before none = nil_left (own p span) (option_to_list step) (sym (own-mine p step r s span) ∙ none)
 
@@ -106,7 +106,7 @@ module _ (p : ℕ) (s : Plain) (step : Option Change) (r : Manner) (span : List 
       let one = failures-mine p step r s span ∙ (ap (λ b. failures p span + bit (b && not (is_some step))) lost.0 ∙ ap (λ (o : Option Change). failures p span + bit (true && not (is_some o))) lost.1) in
       omega (arith, own_count-mine p step r s span, one, ltb-true j (suc k) lt)
 
-  pub spent-mine : (what : Limit) (kind : LockKind) (t : Turn) (cs : List Change) (j k : ℕ) → Turned t s step r → own p (mark_of p step r s ∷ span) ≡ cs → MaySpend what t cs j k p kind (mark_of p step r s ∷ span) → Spends what j p span → Spends what k p (mark_of p step r s ∷ span)
+  pub spent-mine : (what : Limit) (kind : LockKind) (t : Branch) (cs : List Change) (j k : ℕ) → Branched t s step r → own p (mark_of p step r s ∷ span) ≡ cs → MaySpend what t cs j k p kind (mark_of p step r s ∷ span) → Spends what j p span → Spends what k p (mark_of p step r s ∷ span)
   spent-mine (within n) kind t cs j k how is may spent = omega (arith, own_count-mine p step r s span, ltb-true j k may)
   spent-mine (within_changes n) kind goes cs j k how is may spent = counts_one j k may spent
   spent-mine (within_changes n) kind finds_open cs j k how is may spent = counts_one j k may spent
@@ -123,7 +123,7 @@ module _ (p : ℕ) (s : Plain) (step : Option Change) (r : Manner) (span : List 
 
 -- a call may go on so, and be answered by the next step
 
-pub goes_within : (what : Limit) (kind : LockKind) (t : Turn) (cs : List Change) (j k p : ℕ) (span : List Mark) → own p span ≡ cs → is_timely what cs k ≡ true → failures p span ≤ changes kind p span → MaySpend what t cs j k p kind span → Spends what k p span → GoesOnWithin what kind p span
+pub goes_within : (what : Limit) (kind : LockKind) (t : Branch) (cs : List Change) (j k p : ℕ) (span : List Mark) → own p span ≡ cs → is_timely what cs k ≡ true → failures p span ≤ changes kind p span → MaySpend what t cs j k p kind span → Spends what k p span → ContinuesWithin what kind p span
 goes_within unlimited kind t cs j k p span is timely retries may spent = tt
 goes_within (within n) kind t cs j k p span is timely retries may spent = omega (arith, ltb-true k n timely, spent)
 goes_within (within_changes n) kind t cs j k p span is timely retries may spent = omega (arith, ltb-true k n timely, spent, retries)
@@ -137,7 +137,7 @@ abbrev pub OwesEnd : Limit → LockKind → ℕ → List Mark → Type 0
 OwesEnd (registers_after n i) kind p span = EndsWithin (registers_after n i) kind p span
 OwesEnd _ kind p span = Unit {0}
 
-pub ends_within : (what : Limit) (kind : LockKind) (cs : List Change) (k p : ℕ) (s : Plain) (step : Option Change) (r : Manner) (span : List Mark) → is_timely what cs k ≡ true → failures p span ≤ changes kind p span → Spends what k p span
+pub ends_within : (what : Limit) (kind : LockKind) (cs : List Change) (k p : ℕ) (s : Plain) (step : Option Change) (r : StepKind) (span : List Mark) → is_timely what cs k ≡ true → failures p span ≤ changes kind p span → Spends what k p span
     → OwesEnd what kind p (mark_of p step r s ∷ span) → EndsWithin what kind p (mark_of p step r s ∷ span)
 ends_within (within n) kind cs k p s step r span timely retries spent owed = omega (arith, ltb-true k n timely, spent, own_count-mine p step r s span)
 ends_within (within_changes n) kind cs k p s step r span timely retries spent owed =
@@ -322,9 +322,9 @@ Expects kind (retry k f step won found missed) p s span = (failures p span + bit
 Expects kind _ p s span = Unit {0}
 
 -- what is owed of it by a step that finds n in the first word
-abbrev pub Found : {W L A : Type 0} → Act W L A → ℕ → Option Change → Type 0
-Found (retry k f step won found missed) n made = (made ≡ None) × (n ≡ k) × (is_some (f k) ≡ true)
-Found _ n made = Unit {0}
+abbrev pub RetryOwes : {W L A : Type 0} → Act W L A → ℕ → Option Change → Type 0
+RetryOwes (retry k f step won found missed) n made = (made ≡ None) × (n ≡ k) × (is_some (f k) ≡ true)
+RetryOwes _ n made = Unit {0}
 
 -- what a point needs of what is due there
 pub data Need : Type 0 where
@@ -365,10 +365,10 @@ Needs undue p span = is_due p span ≡ false
 Needs never p span = ⊥
 
 -- what is owed of that by a step before it
-abbrev pub makes_due : Option Change → Manner → Plain → Bool
+abbrev pub makes_due : Option Change → StepKind → Plain → Bool
 makes_due step r s = is_some step || (is_look r && not (is_held s))
 
-abbrev pub FoundBy : Need → Type 0 → Option Change → Manner → Plain → Type 0
+abbrev pub FoundBy : Need → Type 0 → Option Change → StepKind → Plain → Type 0
 FoundBy free Finds step r s = Finds
 FoundBy due Finds step r s = Finds × (makes_due step r s ≡ true)
 FoundBy undue Finds step r s = Finds × (makes_due step r s ≡ false)
@@ -398,16 +398,16 @@ unmoved : (a b : ℕ) (kind : LockKind) (p n : ℕ) (s : Plain) (step : Option C
 unmoved a b kind p n s step le none is =
     omega (arith, le, ap (λ (o : Option Change). bit (not (first_word kind (apply_some s o) == n))) none, ap (λ x. bit (not x)) (eq-eqb (first_word kind s) n is))
 
-pub expects-mine : {W L A : Type 0} (kind : LockKind) (act : Act W L A) (n p : ℕ) (s : Plain) (step : Option Change) (r : Manner) (span : List Mark) → n ≡ first_word kind s
-    → failures p (mark_of p step r s ∷ span) ≤ changes kind p (mark_of p step r s ∷ span) → Found act n step → Expects kind act p (apply_some s step) (mark_of p step r s ∷ span)
+pub expects-mine : {W L A : Type 0} (kind : LockKind) (act : Act W L A) (n p : ℕ) (s : Plain) (step : Option Change) (r : StepKind) (span : List Mark) → n ≡ first_word kind s
+    → failures p (mark_of p step r s ∷ span) ≤ changes kind p (mark_of p step r s ∷ span) → RetryOwes act n step → Expects kind act p (apply_some s step) (mark_of p step r s ∷ span)
 expects-mine kind (retry k f c won found missed) n p s step r span is le finds =
     (unmoved (failures p (mark_of p step r s ∷ span)) (changes kind p (mark_of p step r s ∷ span)) kind p k s step le finds.0 (sym is ∙ finds.1), finds.2)
 expects-mine kind _ n p s step r span is le finds = tt
 
-due-mine : (p : ℕ) (s : Plain) (step : Option Change) (r : Manner) (span : List Mark) → is_due p (mark_of p step r s ∷ span) ≡ makes_due step r s
+due-mine : (p : ℕ) (s : Plain) (step : Option Change) (r : StepKind) (span : List Mark) → is_due p (mark_of p step r s ∷ span) ≡ makes_due step r s
 due-mine p s step r span = ap (λ b. if b then makes_due step r s else is_due p span) (eqb_self p)
 
-pub needs-mine : (needed : Need) (Finds : Type 0) (p : ℕ) (s : Plain) (step : Option Change) (r : Manner) (span : List Mark) → FoundBy needed Finds step r s → Needs needed p (mark_of p step r s ∷ span) × Finds
+pub needs-mine : (needed : Need) (Finds : Type 0) (p : ℕ) (s : Plain) (step : Option Change) (r : StepKind) (span : List Mark) → FoundBy needed Finds step r s → Needs needed p (mark_of p step r s ∷ span) × Finds
 needs-mine free Finds p s step r span found = (tt, found)
 needs-mine due Finds p s step r span found = (due-mine p s step r span ∙ found.1, found.0)
 needs-mine undue Finds p s step r span found = (due-mine p s step r span ∙ found.1, found.0)
@@ -441,7 +441,7 @@ none_expected kind _ p s none = tt
 
 -- after another party's step
 
-spent-other : (what : Limit) (k p q : ℕ) (s : Plain) (step : Option Change) (r : Manner) (span : List Mark) → (q ≡ p → ⊥) → Spends what k p span → Spends what k p (mark_of q step r s ∷ span)
+spent-other : (what : Limit) (k p q : ℕ) (s : Plain) (step : Option Change) (r : StepKind) (span : List Mark) → (q ≡ p → ⊥) → Spends what k p span → Spends what k p (mark_of q step r s ∷ span)
 spent-other (within n) k p q s step r span ne spent = omega (arith, own_count-other p q step r s span ne, spent)
 spent-other (within_changes n) k p q s step r span ne spent = omega (arith, own_count-other p q step r s span ne, failures-other p q step r s span ne, spent)
 spent-other (gets_within ask n) k p q s step r span ne spent = λ none.
@@ -462,7 +462,7 @@ moved a b n x y le =
     (λ (d : y ≡ x → ⊥). omega (arith, le, ap (λ c. bit (not c)) (ne_eqb y x d), bit_le (not (y == n))))
     (cases_eq y x)
 
-expects-other : {W L A : Type 0} (kind : LockKind) (act : Act W L A) (p q : ℕ) (s : Plain) (step : Option Change) (r : Manner) (span : List Mark) → (q ≡ p → ⊥) → Expects kind act p s span
+expects-other : {W L A : Type 0} (kind : LockKind) (act : Act W L A) (p q : ℕ) (s : Plain) (step : Option Change) (r : StepKind) (span : List Mark) → (q ≡ p → ⊥) → Expects kind act p s span
     → Expects kind act p (apply_some s step) (mark_of q step r s ∷ span)
 expects-other kind (retry k f c won found missed) p q s step r span ne expects = (
   omega (arith, failures-other p q step r s span ne, changes-other kind p q step r s span ne, moved (failures p span) (changes kind p span) k (first_word kind s) (first_word kind (apply_some s step)) expects.0),
@@ -470,16 +470,16 @@ expects-other kind (retry k f c won found missed) p q s step r span ne expects =
 )
 expects-other kind _ p q s step r span ne expects = tt
 
-due-other : (p q : ℕ) (s : Plain) (step : Option Change) (r : Manner) (span : List Mark) → (q ≡ p → ⊥) → is_due p (mark_of q step r s ∷ span) ≡ is_due p span
+due-other : (p q : ℕ) (s : Plain) (step : Option Change) (r : StepKind) (span : List Mark) → (q ≡ p → ⊥) → is_due p (mark_of q step r s ∷ span) ≡ is_due p span
 due-other p q s step r span ne = ap (λ b. if b then makes_due step r s else is_due p span) (ne_eqb q p ne)
 
-needs-other : (needed : Need) (p q : ℕ) (s : Plain) (step : Option Change) (r : Manner) (span : List Mark) → (q ≡ p → ⊥) → Needs needed p span → Needs needed p (mark_of q step r s ∷ span)
+needs-other : (needed : Need) (p q : ℕ) (s : Plain) (step : Option Change) (r : StepKind) (span : List Mark) → (q ≡ p → ⊥) → Needs needed p span → Needs needed p (mark_of q step r s ∷ span)
 needs-other free p q s step r span ne needs = tt
 needs-other due p q s step r span ne needs = due-other p q s step r span ne ∙ needs
 needs-other undue p q s step r span ne needs = due-other p q s step r span ne ∙ needs
 needs-other never p q s step r span ne needs = needs
 
-pub known-other : {W L A : Type 0} (kind : LockKind) (what : Asked) (act : Act W L A) (row : Row) (p q : ℕ) (s : Plain) (step : Option Change) (r : Manner) (span : List Mark) → (q ≡ p → ⊥) → IsOpenStep s q step
+pub known-other : {W L A : Type 0} (kind : LockKind) (what : Asked) (act : Act W L A) (row : Row) (p q : ℕ) (s : Plain) (step : Option Change) (r : StepKind) (span : List Mark) → (q ≡ p → ⊥) → IsOpenStep s q step
     → Known kind what act row p s span → Known kind what act row p (apply_some s step) (mark_of q step r s ∷ span)
 known-other kind what act row p q s step r span ne may known =
     record {

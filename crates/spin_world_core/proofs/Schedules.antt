@@ -6,7 +6,7 @@ use Rattle.spin_world_core.specs.declared.place.Hold.{Hold}
 use Rattle.spin_world_core.specs.declared.place.Seat.{Seat}
 use Rattle.spin_world_core.specs.declared.place.Seat.TheVariants.{Idle, Calling, Holding, Leaked, Gone}
 use Rattle.spin_world_core.specs.declared.object.Next.{Next}
-use Rattle.spin_world_core.specs.declared.object.Next.TheVariants.{GoesOn, Answers}
+use Rattle.spin_world_core.specs.declared.object.Next.TheVariants.{Continue, Answers}
 use Rattle.spin_world_core.specs.declared.schedule.Move.{Move}
 use Rattle.spin_world_core.specs.declared.schedule.Move.TheVariants.{Begin, Step, Weak, Read, Write, Leak, OwnerGet, OwnerSet}
 use Rattle.spin_world_core.specs.declared.schedule.Outcome.TheVariants as outcome
@@ -42,13 +42,13 @@ last_begin_more p k found (x ∷ xs) e =
     last_begin_more p (k + 1) (if (x.party == p) && is_begun x.outcome then Some k else found) xs e
     ∙ ap (λ n. if (e.party == p) && is_begun e.outcome then Some n else last_begin p (k + 1) (if (x.party == p) && is_begun x.outcome then Some k else found) xs) (omega arith)
 
--- a party that doesn't exist is passed over
-pub stranger : {W V C L A : Type 0} (m : Machine W V C L A) (s : State W V C L) (p : ℕ) (move : Move C V) → length s.seats ≤ p → (happens m s p move).outcome ≡ outcome.PassedOver
+-- a party that doesn't exist is skipped
+pub stranger : {W V C L A : Type 0} (m : Machine W V C L A) (s : State W V C L) (p : ℕ) (move : Move C V) → length s.seats ≤ p → (happens m s p move).outcome ≡ outcome.Skipped
 stranger m s p move past = ap (λ o. (moves_at m s p move o).outcome) (slice_get_past s.seats p past)
 
 -- no move changes how many parties there are
 length-goes_on : {W V C L A : Type 0} (s : State W V C L) (p : ℕ) (c : C) (h : Option Hold) (n : Next L A) → length (goes_on s p c h n).next.seats ≡ length s.seats
-length-goes_on s p c h (GoesOn l) = length-set s.seats p (Calling c l h)
+length-goes_on s p c h (Continue l) = length-set s.seats p (Calling c l h)
 length-goes_on s p c h (Answers a None) = length-set s.seats p Idle
 length-goes_on s p c h (Answers a (Some k)) = length-set s.seats p (Holding k)
 

@@ -4,19 +4,19 @@ use Rattle.spin_step.specs.Plain.{Plain, Ask, Change, gets, apply, is_open, is_e
 use Rattle.spin_step.specs.Parties.{apply_some, IsOpenStep, IsExclusive}
 use Rattle.spin_world_core.specs.declared.place.Hold.{Hold}
 use Rattle.spin_world_core.specs.declared.object.Next.{Next}
-use Rattle.spin_world_core.specs.declared.object.Next.TheVariants.{GoesOn, Answers}
-use Rattle.spin_world_core.specs.Manners.{Manner, plain, again, weak, by_step}
+use Rattle.spin_world_core.specs.declared.object.Next.TheVariants.{Continue, Answers}
+use Rattle.spin_world_core.specs.StepKinds.{StepKind, plain, again, weak, by_step}
 use Rattle.spin_world_core.specs.Calls.{Asked, tries, encoded, BelongsTo, own_steps, Mark, AnyOf, Limit, registers_after, limit, may_be_weak, before_weakly}
 use Rattle.spin_world_core.specs.Undisturbed.{arrived, is_open_next, steps_alone}
 use Rattle.spin_world_core.specs.Order.{goes_for}
 use Rattle.spin_world_core.specs.Machines.{opening_plain}
 use Rattle.spin_world_core.specs.Runs.{mark_of, failures, changes}
-use Rattle.spin_world_core.specs.Acts.{number_at, Act, load, load_if, load_for, enter, exchange, weak_exchange, attempt, retry, store, section, swap, tried, guessed, passing, place_of, step_by, makes_by, is_waiting, look_manner, Table, begin_of, machine_of}
+use Rattle.spin_world_core.specs.Acts.{number_at, Act, load, load_if, load_for, enter, exchange, weak_exchange, attempt, retry, store, section, swap, tried, guessed, passing, place_of, step_by, makes_by, is_waiting, look_kind, Table, begin_of, machine_of}
 use Rattle.spin_world_core.specs.Operations.{performed}
 use Rattle.spin_world_core.proofs.Facts.{LocalInvariant}
 use Rattle.spin_world_core.proofs.Operating.{fits_act, Operates}
 use Rattle.spin_world_core.proofs.Stands.{stand_of, stand_after}
-use Rattle.spin_world_core.proofs.Rows.{Turn, goes, finds_open, loses, misses, MaySpend, MayGoOn, OwesRight, Row, Point, row_at, SoundAt, Found, need_of, FoundBy, NoRetry, BeginsBy, Known}
+use Rattle.spin_world_core.proofs.Rows.{Branch, goes, finds_open, loses, misses, MaySpend, MayContinue, OwesRight, Row, Point, row_at, SoundAt, RetryOwes, need_of, FoundBy, NoRetry, BeginsBy, Known}
 
 -- what an object notes beside its table: the shape of its plain lock, the row of each point, and what else a party knows there
 pub record Notes {W V C L A : Type 0} (t : Table W V C L A) : Type 1 where
@@ -74,22 +74,22 @@ FindsAnother _ same some = some ≡ true
 
 -- an exchange whose refusal shows nothing is the last step of its call
 abbrev pub is_answer : {L A : Type 0} → Next L A → Bool
-is_answer (GoesOn l) = false
+is_answer (Continue l) = false
 is_answer (Answers a after) = true
 
 module _ {W V C L A : Type 0} (t : Table W V C L A) (notes : Notes t) (p : ℕ) (k : CallOf W L A) (h : Option Hold) (s : Plain) (w : W) (span : List Mark) (row : Row) where
   -- the next point's row is this one after the step
-  abbrev pub FollowsRow : Option Change → Manner → Turn → L → Option Row → Type 0
-  FollowsRow step r turn l None = ⊥
-  FollowsRow step r turn l (Some to) =
+  abbrev pub FollowsRow : Option Change → StepKind → Branch → L → Option Row → Type 0
+  FollowsRow step r branch l None = ⊥
+  FollowsRow step r branch l (Some to) =
       (stand_after s.next step row.stand ≡ Some to.stand) × (row.made p ++ option_to_list step ≡ to.made p)
-      × MayGoOn (k.asks h) turn step p s span (MaySpend (limit t.lock_kind (k.asks h)) turn (to.made p) row.spent to.spent p t.lock_kind (mark_of p step r s ∷ span))
-      × FoundBy (need_of t.lock_kind (k.asks h) (to.made p) (k.act l h)) (Found (k.act l h) (number_at t.memory 0 w) step) step r s × k.Knows l h p (apply_some s step) (mark_of p step r s ∷ span)
+      × MayContinue (k.asks h) branch step p s span (MaySpend (limit t.lock_kind (k.asks h)) branch (to.made p) row.spent to.spent p t.lock_kind (mark_of p step r s ∷ span))
+      × FoundBy (need_of t.lock_kind (k.asks h) (to.made p) (k.act l h)) (RetryOwes (k.act l h) (number_at t.memory 0 w) step) step r s × k.Knows l h p (apply_some s step) (mark_of p step r s ∷ span)
 
-  -- how a call goes on is right, by this step and this turn
-  abbrev pub Follows : Bool → Option Change → Manner → Turn → Next L A → Type 0
-  Follows weakly step r turn (GoesOn l) = FollowsRow step r turn l (row_at (k.asks h) h (k.point l h))
-  Follows weakly step r turn (Answers a after) =
+  -- how a call goes on is right, by this step and this branch
+  abbrev pub Follows : Bool → Option Change → StepKind → Branch → Next L A → Type 0
+  Follows weakly step r branch (Continue l) = FollowsRow step r branch l (row_at (k.asks h) h (k.point l h))
+  Follows weakly step r branch (Answers a after) =
       (stand_after s.next step row.stand ≡ Some (stand_of after)) × AnyOf (λ steps. row.made p ++ option_to_list step ≡ steps) (own_steps (k.asks h) (t.says a) p)
       × OwesRight weakly (k.asks h) (t.says a) p (mark_of p step r s ∷ span)
 
@@ -97,12 +97,12 @@ module _ {W V C L A : Type 0} (t : Table W V C L A) (notes : Notes t) (p : ℕ) 
   abbrev pub OwesOn : ℕ → ℕ → Act W L A → Type 0
   OwesOn i n (load next) = Follows false None plain goes (next n)
   OwesOn i n (load_if test a b) =
-      let looking = by_step (look_manner (k.asks h)) in
+      let looking = by_step (look_kind (k.asks h)) in
       (test n ≡ true → Follows false None looking goes (a n)) × (test n ≡ false → Follows false None looking goes (b n))
   OwesOn i n (load_for f step found missed) =
       Means t notes p s (step p) (λ j. t.memory.put i j w) (f n) × (is_some (f n) ≡ true → Follows false None plain finds_open (found n)) × (is_open s (step p) ≡ false → Follows false None plain (misses (step p)) missed)
   OwesOn i n (enter test step won lost) =
-      let looking = by_step (look_manner (k.asks h)) in
+      let looking = by_step (look_kind (k.asks h)) in
       Means t notes p s (step p) (λ j. w) (passing (test n) n) × Follows false (Some (step p)) looking goes won × (is_open s (step p) ≡ false → Follows false None looking (misses (step p)) lost)
   OwesOn i n (exchange operation step won lost) =
       Means t notes p s (step p) (λ j. t.memory.put i j w) (tried operation n) × Follows false (Some (step p)) plain goes won × (is_open s (step p) ≡ false → Follows false None plain (misses (step p)) (lost n))
@@ -130,7 +130,7 @@ OwesAt t n p c l h s w span = OwesRow t n p (call_of t n c) l h s w span (row_of
 
 -- run on the words alone, the table answers the call by its k-th step from here
 abbrev pub goes_by : {L A X : Type 0} → Next L A → X → (L → X) → X
-goes_by (GoesOn l) x f = f l
+goes_by (Continue l) x f = f l
 goes_by (Answers a after) x f = x
 
 abbrev pub answers_by : {W V C L A : Type 0} → Table W V C L A → ℕ → W → C → L → Option Hold → Bool
@@ -199,7 +199,7 @@ pub record Pays {W V C L A : Type 0} (t : Table W V C L A) (n : Notes t) : Type 
   pub sound : (p : ℕ) (c : C) (l : L) (h : Option Hold) → SoundAt t.lock_kind (t.asks c h) p (n.point c l h)
   pub aims : (p : ℕ) (c : C) (l : L) (h : Option Hold) → AimsAt t n p c l h
   pub begins : (p : ℕ) (c : C) (h : Option Hold) (s : Plain) → BeginsAt t n c h p s (begin_of t c h)
-  pub others : (p q : ℕ) (c : C) (l : L) (h : Option Hold) (s : Plain) (step : Option Change) (r : Manner) (span : List Mark) → (q ≡ p → ⊥) → n.Shape s → IsOpenStep s q step → BelongsTo t.lock_kind step
+  pub others : (p q : ℕ) (c : C) (l : L) (h : Option Hold) (s : Plain) (step : Option Change) (r : StepKind) (span : List Mark) → (q ≡ p → ⊥) → n.Shape s → IsOpenStep s q step → BelongsTo t.lock_kind step
       → n.Knows c l h p s span → n.Knows c l h p (apply_some s step) (mark_of q step r s ∷ span)
   pub owes : (p : ℕ) (c : C) (l : L) (h : Option Hold) (s : Plain) (w : W) (span : List Mark) → OwesAt t n p c l h s w span
   pub soon : (p : ℕ) (c : C) (l : L) (h : Option Hold) (s : Plain) (w : W) (span : List Mark) → OwesSoon t n p c l h s w span

@@ -1,7 +1,7 @@
 -- What a party has in a call, and what its own plain steps make of it.
 use Rattle.std.proofs.Common.{◌≡◌, ℕ, ◌==◌, Bool, true, false, ◌&&◌, Option, Some, None, List, [], ◌∷◌, if◌then◌else◌, refl, ap, ◌∙◌, subst}
 use Rattle.spin_step.specs.Plain.{Plain, Kind, reading, upgradable, writing, Holder, holder, same_kind, ticket as queued, Effect, comes, becomes, enters, runs, effect, given, Change, gets, releases, serves, stops_starving, turns, completes, fails, arrives}
-use Rattle.spin_step.specs.Parties.{who, apply_some, IsOpenStep, Entries, entries, no_entries, with_entries, entries_after}
+use Rattle.spin_step.specs.Parties.{party_of, apply_some, IsOpenStep, Entries, entries, no_entries, with_entries, entries_after}
 use Rattle.spin_step.proofs.Entries.{entries-own}
 use Rattle.spin_world_core.specs.declared.place.Hold.{Hold}
 use Rattle.spin_world_core.specs.declared.place.Hold.TheVariants.{Read, Upgradable, Write, Ticket, Starver}
@@ -83,7 +83,7 @@ got s p Effect.starves absent = refl
 got s p runs stand = refl
 got s p _ _ = tt
 
-changed : (s : Plain) (c : Change) (stand : Stand) → Becomes (who c) (entries_after s (Some c) (entries_at (who c) stand)) (stand_after s.next (Some c) stand)
+changed : (s : Plain) (c : Change) (stand : Stand) → Becomes (party_of c) (entries_after s (Some c) (entries_at (party_of c) stand)) (stand_after s.next (Some c) stand)
 changed s (gets p ask) stand = got s p (effect ask) stand
 changed s (releases p k) (holds i) = one_hold p (same_kind k i) i [] absent refl
 changed s (serves p) (queues n true) = refl

@@ -10,14 +10,14 @@ use Rattle.spin_world_core.specs.declared.place.Place.{Place}
 use Rattle.spin_world_core.specs.declared.place.Seat.{Seat}
 use Rattle.spin_world_core.specs.declared.place.Seat.TheVariants.{Idle, Calling, Holding, Leaked, Gone}
 use Rattle.spin_world_core.specs.declared.object.Next.{Next}
-use Rattle.spin_world_core.specs.declared.object.Next.TheVariants.{GoesOn, Answers}
+use Rattle.spin_world_core.specs.declared.object.Next.TheVariants.{Continue, Answers}
 use Rattle.spin_world_core.specs.declared.schedule.Move.{Move}
 use Rattle.spin_world_core.specs.declared.schedule.Move.TheVariants.{Begin, Step, Weak, Read, Write, Leak, OwnerGet, OwnerSet}
 use Rattle.spin_world_core.specs.declared.schedule.Outcome.{Outcome}
 use Rattle.spin_world_core.specs.declared.schedule.Outcome.TheVariants as outcome
 use Rattle.spin_world_core.specs.declared.schedule.Event.{Event}
-use Rattle.spin_world_core.specs.Manners.{Manner, by_step}
-use Rattle.spin_world_core.specs.Manners as manner
+use Rattle.spin_world_core.specs.StepKinds.{StepKind, by_step}
+use Rattle.spin_world_core.specs.StepKinds as step_kind
 use Rattle.spin_world_core.specs.Calls.{Mark}
 use Rattle.spin_world_core.specs.Machines.{Machine, opening_plain}
 use Rattle.spin_world_core.specs.Schedules.{State, moves_at, happens, begun, goes_on, placed, refuses, read_by, written_by, may_read, may_write, is_owners, seen_by_owner, owner_gets, owner_sets, events_of, with_begins, with_begin, last_begin, place_of}
@@ -31,12 +31,12 @@ use Rattle.spin_world_core.proofs.Schedules.{length-happens}
 -- The transcript
 
 same_but_begin : {V A : Type 0} (began : Option ℕ) (o : Outcome A V) → without_begin (with_begin began o) ≡ without_begin o
-same_but_begin began outcome.PassedOver = refl
+same_but_begin began outcome.Skipped = refl
 same_but_begin began _ = refl
 
 -- a step's outcome doesn't say where its call began
 no_begin_after : {W V C L A : Type 0} (s : State W V C L) (p : ℕ) (c : C) (h : Option Hold) (n : Next L A) → without_begin (goes_on s p c h n).outcome ≡ (goes_on s p c h n).outcome
-no_begin_after s p c h (GoesOn l) = refl
+no_begin_after s p c h (Continue l) = refl
 no_begin_after s p c h (Answers a rest) = refl
 
 no_begin_begun : {W V C L : Type 0} (A : Type 0) (s : State W V C L) (p : ℕ) (c : C) (h : Option Hold) (o : Option L) → without_begin (begun {A = A} s p c h o).outcome ≡ (begun {A = A} s p c h o).outcome
@@ -130,43 +130,43 @@ Brings p sc =
     stage_of (slice_get sc.after.state.seats p) ≡ stage_by_owner sc.outcome sc.move (if sc.party == p then stage_by_own sc.outcome before else before)
 
 brings_begun : {W V C L : Type 0} (A : Type 0) (m : Machine W V C L A) (seen : Seen W V C L) (p q : ℕ) (c : C) (h : Option Hold) (y : Seat C L) (o : Option L) → slice_get seen.state.seats q ≡ Some y
-    → Brings p (scene_of {A = A} seen q (Begin c) (Some y) (begun seen.state q c h o) None manner.plain None)
+    → Brings p (scene_of {A = A} seen q (Begin c) (Some y) (begun seen.state q c h o) None step_kind.plain None)
 brings_begun A m seen p q c h y None there = same_either (q == p) (stage_of (slice_get seen.state.seats p))
 brings_begun {V = V} A m seen p q c h y (Some l) there =
     let o : Outcome A V = outcome.Begun in
     moved p q seen.state.seats (Calling c l h) y o there refl
 
-brings_gone_on : {W V C L A : Type 0} (seen : Seen W V C L) (p q : ℕ) (move : Move C V) (c : C) (l : L) (h : Option Hold) (w : W) (v value : Option V) (step : Option Change) (manner : Manner) (next : Next L A)
+brings_gone_on : {W V C L A : Type 0} (seen : Seen W V C L) (p q : ℕ) (move : Move C V) (c : C) (l : L) (h : Option Hold) (w : W) (v value : Option V) (step : Option Change) (step_kind : StepKind) (next : Next L A)
     → ((o : Outcome A V) (stage : Stage) → stage_by_owner o move stage ≡ stage) → slice_get seen.state.seats q ≡ Some (Calling c l h)
-    → Brings p (scene_of seen q move (Some (Calling c l h)) (goes_on (record seen.state { words = w; value = v }) q c h next) step manner value)
-brings_gone_on {V = V} {A = A} seen p q move c l h w v value step manner (GoesOn k) quiet there =
+    → Brings p (scene_of seen q move (Some (Calling c l h)) (goes_on (record seen.state { words = w; value = v }) q c h next) step step_kind value)
+brings_gone_on {V = V} {A = A} seen p q move c l h w v value step step_kind (Continue k) quiet there =
     let o : Outcome A V = outcome.GoingOn in
     moved p q seen.state.seats (Calling c k h) (Calling c l h) o there refl ∙ sym (quiet o _)
-brings_gone_on {V = V} {A = A} seen p q move c l h w v value step manner (Answers a None) quiet there =
+brings_gone_on {V = V} {A = A} seen p q move c l h w v value step step_kind (Answers a None) quiet there =
     let o : Outcome A V = outcome.Answered a None in
     moved p q seen.state.seats Idle (Calling c l h) o there refl ∙ sym (quiet o _)
-brings_gone_on {V = V} {A = A} seen p q move c l h w v value step manner (Answers a (Some g)) quiet there =
+brings_gone_on {V = V} {A = A} seen p q move c l h w v value step step_kind (Answers a (Some g)) quiet there =
     let o : Outcome A V = outcome.Answered a None in
     moved p q seen.state.seats (Holding g) (Calling c l h) o there refl ∙ sym (quiet o _)
 
 quiet_step : {V A : Type 0} (C : Type 0) (o : Outcome A V) (stage : Stage) → stage_by_owner {C = C} o Step stage ≡ stage
-quiet_step C outcome.PassedOver stage = refl
+quiet_step C outcome.Skipped stage = refl
 quiet_step C _ stage = refl
 
 quiet_weak : {V A : Type 0} (C : Type 0) (o : Outcome A V) (stage : Stage) → stage_by_owner {C = C} o Weak stage ≡ stage
-quiet_weak C outcome.PassedOver stage = refl
+quiet_weak C outcome.Skipped stage = refl
 quiet_weak C _ stage = refl
 
 brings_refused : {W V C L A : Type 0} (seen : Seen W V C L) (p q : ℕ) (c : C) (l : L) (h : Option Hold) (o : Option (Next L A)) → slice_get seen.state.seats q ≡ Some (Calling c l h)
-    → Brings p (scene_of seen q Weak (Some (Calling c l h)) (refuses seen.state q c h o) None manner.weak None)
+    → Brings p (scene_of seen q Weak (Some (Calling c l h)) (refuses seen.state q c h o) None step_kind.weak None)
 brings_refused seen p q c l h None there = same_either (q == p) (stage_of (slice_get seen.state.seats p))
-brings_refused {C = C} seen p q c l h (Some next) there = brings_gone_on seen p q Weak c l h seen.state.words seen.state.value None None manner.weak next (λ o stage. quiet_weak C o stage) there
+brings_refused {C = C} seen p q c l h (Some next) there = brings_gone_on seen p q Weak c l h seen.state.words seen.state.value None None step_kind.weak next (λ o stage. quiet_weak C o stage) there
 
-brings_read : {W V C L : Type 0} (A : Type 0) (seen : Seen W V C L) (p q : ℕ) (y : Seat C L) (b : Bool) → Brings p (scene_of {A = A} seen q Read (Some y) (read_by seen.state b) None manner.plain None)
+brings_read : {W V C L : Type 0} (A : Type 0) (seen : Seen W V C L) (p q : ℕ) (y : Seat C L) (b : Bool) → Brings p (scene_of {A = A} seen q Read (Some y) (read_by seen.state b) None step_kind.plain None)
 brings_read A seen p q y true = same_either (q == p) (stage_of (slice_get seen.state.seats p))
 brings_read A seen p q y false = same_either (q == p) (stage_of (slice_get seen.state.seats p))
 
-brings_written : {W V C L : Type 0} (A : Type 0) (seen : Seen W V C L) (p q : ℕ) (v : V) (y : Seat C L) (b : Bool) → Brings p (scene_of {A = A} seen q (Write v) (Some y) (written_by seen.state v b) None manner.plain None)
+brings_written : {W V C L : Type 0} (A : Type 0) (seen : Seen W V C L) (p q : ℕ) (v : V) (y : Seat C L) (b : Bool) → Brings p (scene_of {A = A} seen q (Write v) (Some y) (written_by seen.state v b) None step_kind.plain None)
 brings_written A seen p q v y true = same_either (q == p) (stage_of (slice_get seen.state.seats p))
 brings_written A seen p q v y false = same_either (q == p) (stage_of (slice_get seen.state.seats p))
 
@@ -179,12 +179,12 @@ let_go_all : {C L : Type 0} (seats : List (Seat C L)) (p : ℕ) (b : Bool)
     → stage_of (slice_get (map seen_by_owner seats) p) ≡ let_go_stage (if b then stage_of (slice_get seats p) else stage_of (slice_get seats p))
 let_go_all seats p b = ap stage_of (slice_get-map seen_by_owner seats p) ∙ (let_go (slice_get seats p) ∙ ap let_go_stage (same_either b (stage_of (slice_get seats p))))
 
-brings_got : {W V C L : Type 0} (A : Type 0) (seen : Seen W V C L) (p q : ℕ) (y : Seat C L) (b : Bool) → Brings p (scene_of {A = A} seen q OwnerGet (Some y) (owner_gets seen.state b) None manner.plain None)
+brings_got : {W V C L : Type 0} (A : Type 0) (seen : Seen W V C L) (p q : ℕ) (y : Seat C L) (b : Bool) → Brings p (scene_of {A = A} seen q OwnerGet (Some y) (owner_gets seen.state b) None step_kind.plain None)
 brings_got A seen p q y true = let_go_all seen.state.seats p (q == p)
 brings_got A seen p q y false = same_either (q == p) (stage_of (slice_get seen.state.seats p))
 
 brings_set : {W V C L : Type 0} (A : Type 0) (seen : Seen W V C L) (p q : ℕ) (v : V) (y : Seat C L) (o : Option V) (b : Bool)
-    → Brings p (scene_of {A = A} seen q (OwnerSet v) (Some y) (owner_sets (record seen.state { value = o }) v b) None manner.plain None)
+    → Brings p (scene_of {A = A} seen q (OwnerSet v) (Some y) (owner_sets (record seen.state { value = o }) v b) None step_kind.plain None)
 brings_set A seen p q v y None true = let_go_all seen.state.seats p (q == p)
 brings_set A seen p q v y (Some old) true = let_go_all seen.state.seats p (q == p)
 brings_set A seen p q v y o false = same_either (q == p) (stage_of (slice_get seen.state.seats p))
@@ -195,7 +195,7 @@ brings_at {A = A} m seen p q (Begin c) (Some Idle) there = brings_begun A m seen
 brings_at {A = A} m seen p q (Begin c) (Some (Holding h)) there = brings_begun A m seen p q c (Some h) (Holding h) (m.begin c (Some h)) there
 brings_at {C = C} m seen p q Step (Some (Calling c l h)) there =
     let st = m.step seen.state.words seen.state.value c l h in
-    brings_gone_on seen p q Step c l h st.words (placed st.placed seen.state.value) st.placed (m.change q seen.state.words c l h) (by_step (m.manner c l h)) st.next (λ o stage. quiet_step C o stage) there
+    brings_gone_on seen p q Step c l h st.words (placed st.placed seen.state.value) st.placed (m.change q seen.state.words c l h) (by_step (m.step_kind c l h)) st.next (λ o stage. quiet_step C o stage) there
 brings_at m seen p q Weak (Some (Calling c l h)) there = brings_refused seen p q c l h (m.refuse c l h) there
 brings_at {A = A} m seen p q Read (Some (Holding h)) there = brings_read A seen p q (Holding h) (may_read h)
 brings_at {A = A} m seen p q Read (Some (Leaked h)) there = brings_read A seen p q (Leaked h) (may_read h)

@@ -7,8 +7,8 @@ use Rattle.spin_world_core.specs.declared.place.Hold.{Hold}
 use Rattle.spin_world_core.specs.declared.place.Seat.{Seat}
 use Rattle.spin_world_core.specs.declared.place.Seat.TheVariants.{Idle, Calling}
 use Rattle.spin_world_core.specs.declared.object.Next.{Next}
-use Rattle.spin_world_core.specs.declared.object.Next.TheVariants.{GoesOn}
-use Rattle.spin_world_core.specs.Manners.{Manner, is_weak}
+use Rattle.spin_world_core.specs.declared.object.Next.TheVariants.{Continue}
+use Rattle.spin_world_core.specs.StepKinds.{StepKind, is_weak}
 use Rattle.spin_world_core.specs.Calls.{encoded, Mark}
 use Rattle.spin_world_core.specs.Machines.{Machine}
 use Rattle.spin_world_core.specs.Schedules.{resting, seen_by_owner}
@@ -32,7 +32,7 @@ RunsOn m w p span _ = Unit {0}
 
 -- wherever a step goes on to
 abbrev pub GoesWithin : {W V C L A : Type 0} → Machine W V C L A → ℕ → W → C → Option Hold → Next L A → Type 0
-GoesWithin {L = L} m k w c h next = (l : L) → next ≡ GoesOn l → AnswersWithin m k w c l h
+GoesWithin {L = L} m k w c h next = (l : L) → next ≡ Continue l → AnswersWithin m k w c l h
 
 -- what is left after a step of its own
 pub record LeftBy {W V C L A : Type 0} (m : Machine W V C L A) (w : W) (p : ℕ) (c : C) (h : Option Hold) (next : Next L A) (taken : ℕ) : Type 0 where
@@ -46,7 +46,7 @@ one_taken : {W V C L A : Type 0} (m : Machine W V C L A) (w w' : W) (p : ℕ) (c
 one_taken m w w' p c l h next taken now zero few is answers steps = absurd answers
 one_taken m w w' p c l h next taken now (suc j) few is answers steps = record { steps = j; few = omega (arith, few, is); goes = steps j answers }
 
-pub stepped : {W V C L A : Type 0} (m : Machine W V C L A) (w w' : W) (p : ℕ) (c : C) (l : L) (h : Option Hold) (s : Plain) (step : Option Change) (r : Manner) (span : List Mark) (next : Next L A)
+pub stepped : {W V C L A : Type 0} (m : Machine W V C L A) (w w' : W) (p : ℕ) (c : C) (l : L) (h : Option Hold) (s : Plain) (step : Option Change) (r : StepKind) (span : List Mark) (next : Next L A)
     → RunsOn m w p span (Some (Calling c l h)) → (is_open_now p (m.asks c h) span s ≡ true → AnswersWithin m (steps_alone m.lock_kind (m.asks c h)) w c l h)
     → (is_weak r ≡ false → (j : ℕ) → AnswersWithin m (suc j) w c l h → GoesWithin m j w' c h next)
     → (recent : List Mark) (first : Mark) (older : List Mark) → mark_of p step r s ∷ span ≡ recent ++ first ∷ older → is_open_now p (m.asks c h) older first.before ≡ true → AllOf (Leaves m.lock_kind p) (recent ++ first ∷ [])
@@ -54,17 +54,17 @@ pub stepped : {W V C L A : Type 0} (m : Machine W V C L A) (w w' : W) (p : ℕ) 
 stepped m w w' p c l h s step r span next runs begins steps [] first older is may leaves =
     let here : mark_of p step r s ≡ first = cc (is) in
     let rest : span ≡ older = cc (is) in
-    let strong : is_weak r ≡ false = subst (λ (f : Mark). (f.party ≡ p → is_weak f.manner ≡ false)) (sym here) leaves.0.strong refl in
+    let strong : is_weak r ≡ false = subst (λ (f : Mark). (f.party ≡ p → is_weak f.step_kind ≡ false)) (sym here) leaves.0.strong refl in
     one_taken m w w' p c l h next 0 _ (steps_alone m.lock_kind (m.asks c h)) (omega arith) (ap (λ (m : Mark). own_count p (m ∷ [])) (sym here) ∙ own_count-mine p step r s [])
     (begins (subst (λ (f : Mark). is_open_now p (m.asks c h) span f.before ≡ true) (sym here) (subst (λ ms. is_open_now p (m.asks c h) ms first.before ≡ true) (sym rest) may))) (steps strong)
 stepped m w w' p c l h s step r span next runs begins steps (mark ∷ recent) first older is may leaves =
     let here : mark_of p step r s ≡ mark = cc (is) in
     let rest : span ≡ recent ++ first ∷ older = cc (is) in
     let left = runs recent first older rest may leaves.1 in
-    let strong : is_weak r ≡ false = subst (λ (f : Mark). (f.party ≡ p → is_weak f.manner ≡ false)) (sym here) leaves.0.strong refl in
+    let strong : is_weak r ≡ false = subst (λ (f : Mark). (f.party ≡ p → is_weak f.step_kind ≡ false)) (sym here) leaves.0.strong refl in
     one_taken m w w' p c l h next _ _ left.steps left.few (ap (λ (m : Mark). own_count p (m ∷ recent ++ first ∷ [])) (sym here) ∙ own_count-mine p step r s (recent ++ first ∷ [])) left.answers (steps strong)
 
-beside_at : {W V C L A : Type 0} (m : Machine W V C L A) (w w' : W) (p q : ℕ) (c : C) (l : L) (h : Option Hold) (s : Plain) (step : Option Change) (r : Manner) (span : List Mark) → (p ≡ q → ⊥)
+beside_at : {W V C L A : Type 0} (m : Machine W V C L A) (w w' : W) (p q : ℕ) (c : C) (l : L) (h : Option Hold) (s : Plain) (step : Option Change) (r : StepKind) (span : List Mark) → (p ≡ q → ⊥)
     → (encoded m.lock_kind (apply_some s step) ≡ encoded m.lock_kind s → w' ≡ w) → (is_open_now q (m.asks c h) span s ≡ true → AnswersWithin m (steps_alone m.lock_kind (m.asks c h)) w c l h)
     → RunsOn m w q span (Some (Calling c l h)) → RunsOn m w' q (mark_of p step r s ∷ span) (Some (Calling c l h))
 beside_at m w w' p q c l h s step r span ne same begins runs [] first older is may leaves =
@@ -85,7 +85,7 @@ beside_at m w w' p q c l h s step r span ne same begins runs (mark ∷ recent) f
     record { steps = left.steps; few = omega (arith, none, left.few); answers = subst (λ v. AnswersWithin m left.steps v c l h) (sym words) left.answers }
 
 -- a step of another party, which leaves the words as they are where it leaves this one undisturbed
-pub beside : {W V C L A : Type 0} (m : Machine W V C L A) (w w' : W) (p q : ℕ) (s : Plain) (step : Option Change) (r : Manner) (span : List Mark) (o : Option (Seat C L)) → (p ≡ q → ⊥)
+pub beside : {W V C L A : Type 0} (m : Machine W V C L A) (w w' : W) (p q : ℕ) (s : Plain) (step : Option Change) (r : StepKind) (span : List Mark) (o : Option (Seat C L)) → (p ≡ q → ⊥)
     → (encoded m.lock_kind (apply_some s step) ≡ encoded m.lock_kind s → w' ≡ w)
     → ((c : C) (l : L) (h : Option Hold) → o ≡ Some (Calling c l h) → is_open_now q (m.asks c h) span s ≡ true → AnswersWithin m (steps_alone m.lock_kind (m.asks c h)) w c l h)
     → RunsOn m w q span o → RunsOn m w' q (mark_of p step r s ∷ span) o

@@ -2,15 +2,15 @@
 use Rattle.std.proofs.Common.{◌≡◌, ℕ, zero, suc, ◌==◌, Bool, true, false, ◌||◌, Option, Some, None, List, [], ◌∷◌, refl, ap, sym, ◌∙◌, subst}
 use Rattle.std.proofs.lemmas.Bool.{eqb-true, eq-eqb, false≢true}
 use Rattle.spin_step.specs.Plain.{Plain, Holder, Ticket, Change, apply, is_open, is_empty}
-use Rattle.spin_step.specs.Parties.{who}
+use Rattle.spin_step.specs.Parties.{party_of}
 use Rattle.spin_step.specs.Steps.{Decides}
 use Rattle.spin_world_core.specs.declared.place.Hold.{Hold}
 use Rattle.spin_world_core.specs.declared.object.Next.{Next}
-use Rattle.spin_world_core.specs.declared.object.Next.TheVariants.{GoesOn, Answers}
+use Rattle.spin_world_core.specs.declared.object.Next.TheVariants.{Continue, Answers}
 use Rattle.spin_world_core.specs.Calls.{Asked, encoded, Mark}
-use Rattle.spin_world_core.specs.Manners.{Manner}
+use Rattle.spin_world_core.specs.StepKinds.{StepKind}
 use Rattle.spin_world_core.specs.Acts.{number_at, Act, retry, either, step_by, Table}
-use Rattle.spin_world_core.proofs.Rows.{Turn, Row}
+use Rattle.spin_world_core.proofs.Rows.{Branch, Row}
 use Rattle.spin_world_core.proofs.Shapes.{aim_of, aimed, aimed_at, Notes, Means, CallOf, AtPoint, Follows, goes_by, answers_by}
 
 -- The words
@@ -35,21 +35,21 @@ no_holders s none = ap (λ (hs : List Holder). is_empty hs || is_empty s.tickets
 -- What a step function means
 
 -- where it grants a plain step: what is left to show is the words with the new number, and the shape
-pub means_by : {W V C L A : Type 0} (t : Table W V C L A) (n : Notes t) (p : ℕ) (s : Plain) (c : Change) (word : Plain → ℕ) (put : ℕ → W) (o : Option ℕ) → who c ≡ p → Decides s c word o
+pub means_by : {W V C L A : Type 0} (t : Table W V C L A) (n : Notes t) (p : ℕ) (s : Plain) (c : Change) (word : Plain → ℕ) (put : ℕ → W) (o : Option ℕ) → party_of c ≡ p → Decides s c word o
     → ((to : ℕ) → is_open s c ≡ true → to ≡ word (apply s c) → (t.memory.numbers (put to) ≡ encoded t.lock_kind (apply s c)) × n.Shape (apply s c)) → Means t n p s c put o
 means_by t n p s c word put None mine grants rest = grants
 means_by t n p s c word put (Some to) mine grants rest = let both = rest to grants.0 grants.1 in ((mine, grants.0), both.0, both.1)
 
 -- the words are one number
 pub means_word : {V C L A : Type 0} (t : Table ℕ V C L A) (n : Notes t) (word : Plain → ℕ) → ((w : ℕ) (s : Plain) → w ≡ word s → t.memory.numbers w ≡ encoded t.lock_kind s) → (p : ℕ) (s : Plain) (c : Change) (o : Option ℕ)
-    → who c ≡ p → Decides s c word o → (is_open s c ≡ true → n.Shape (apply s c)) → Means t n p s c (λ k. k) o
+    → party_of c ≡ p → Decides s c word o → (is_open s c ≡ true → n.Shape (apply s c)) → Means t n p s c (λ k. k) o
 means_word t n word numbers p s c o mine grants shape = means_by t n p s c word (λ k. k) o mine grants (λ to may is. (numbers to (apply s c) is, shape may))
 
 -- how a call goes on, by a test
-pub branches : {W V C L A : Type 0} {t : Table W V C L A} {n : Notes t} {k : CallOf W L A} {l : L} {h : Option Hold} {s : Plain} {w : W} {span : List Mark} {row : Row} (p : ℕ) (at : AtPoint t n p k l h s w span row) (step : Option Change) (r : Manner) (turn : Turn) (b : Bool) (x y : Next L A)
-    → (b ≡ true → Follows t n p k h s w span row false step r turn x) → (b ≡ false → Follows t n p k h s w span row false step r turn y) → Follows t n p k h s w span row false step r turn (either b x y)
-branches p at step r turn true x y f g = f refl
-branches p at step r turn false x y f g = g refl
+pub branches : {W V C L A : Type 0} {t : Table W V C L A} {n : Notes t} {k : CallOf W L A} {l : L} {h : Option Hold} {s : Plain} {w : W} {span : List Mark} {row : Row} (p : ℕ) (at : AtPoint t n p k l h s w span row) (step : Option Change) (r : StepKind) (branch : Branch) (b : Bool) (x y : Next L A)
+    → (b ≡ true → Follows t n p k h s w span row false step r branch x) → (b ≡ false → Follows t n p k h s w span row false step r branch y) → Follows t n p k h s w span row false step r branch (either b x y)
+branches p at step r branch true x y f g = f refl
+branches p at step r branch false x y f g = g refl
 
 -- a call that neither tries nor goes for anything without a look
 pub aimless : (p : ℕ) (what : Asked) (o : Option Row) (step : Option Change) → ((made : List Change) → aim_of what made ≡ None) → step ≡ aimed_at p what o step
@@ -59,7 +59,7 @@ aimless p what (Some row) step none = sym (ap (λ aim. aimed p aim step) (none (
 -- Run alone
 
 went : {L A : Type 0} (next : Next L A) (f g : L → Bool) → ((l : L) → f l ≡ true → g l ≡ true) → goes_by next true f ≡ true → goes_by next true g ≡ true
-went (GoesOn l) f g then is = then l is
+went (Continue l) f g then is = then l is
 went (Answers a after) f g then is = refl
 
 -- what is answered by some step is so by a later one
@@ -71,7 +71,7 @@ later {V = V} t (suc k) w c l h is =
 
 -- an exchange that is made again: whatever is left once it has its new number, k steps at most
 module _ {W V C L A : Type 0} (t : Table W V C L A) (c : C) (h : Option Hold) (at : ℕ → L) (f : ℕ → Option ℕ) (step : ℕ → Change) (won : ℕ → Next L A) (missed : Next L A) (w : W) (to : ℕ) (some : f (number_at t.memory 0 w) ≡ Some to)
-    (again : (n : ℕ) → t.act c (at n) h ≡ retry n f step (won n) (λ n. GoesOn (at n)) missed)
+    (again : (n : ℕ) → t.act c (at n) h ≡ retry n f step (won n) (λ n. Continue (at n)) missed)
     (k : ℕ) (wins : goes_by (won (number_at t.memory 0 w)) true (λ l. answers_by t k (t.memory.put 0 to w) c l h) ≡ true) where
   abbrev found : ℕ
   found = number_at t.memory 0 w

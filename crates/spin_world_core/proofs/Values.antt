@@ -5,7 +5,7 @@ use Rattle.spin_world_core.specs.declared.place.Hold.{Hold}
 use Rattle.spin_world_core.specs.declared.place.Seat.{Seat}
 use Rattle.spin_world_core.specs.declared.place.Seat.TheVariants.{Calling}
 use Rattle.spin_world_core.specs.declared.object.Next.{Next}
-use Rattle.spin_world_core.specs.declared.object.Next.TheVariants.{GoesOn, Answers}
+use Rattle.spin_world_core.specs.declared.object.Next.TheVariants.{Continue, Answers}
 use Rattle.spin_world_core.specs.declared.schedule.Move.{Move}
 use Rattle.spin_world_core.specs.declared.schedule.Move.TheVariants.{Step, Weak}
 use Rattle.spin_world_core.specs.Machines.{Machine, opening_plain}
@@ -13,17 +13,17 @@ use Rattle.spin_world_core.specs.Schedules.{State, goes_on, refuses, placed}
 use Rattle.spin_world_core.specs.Runs.{Seen, Scene, scene_at, scene, Every, opening}
 use Rattle.spin_world_core.specs.Values.{Brings, GivesAt, KeepsValue, ValuesAll}
 use Rattle.spin_world_core.proofs.Facts.{LocalInvariant, NextGives, Facts}
-use Rattle.spin_world_core.proofs.Kept.{Invariant, in_call}
+use Rattle.spin_world_core.proofs.Preserved.{Invariant, in_call}
 use Rattle.spin_world_core.proofs.Every.{kept, good_first}
 
 module _ {W V C L A : Type 0} (m : Machine W V C L A) where
   -- a call that goes on leaves the value as its step left it
   value-goes_on : (s : State W V C L) (p : ℕ) (c : C) (h : Option Hold) (next : Next L A) → (goes_on s p c h next).next.value ≡ s.value
-  value-goes_on s p c h (GoesOn l) = refl
+  value-goes_on s p c h (Continue l) = refl
   value-goes_on s p c h (Answers a after) = refl
 
   gives-step : (s : State W V C L) (p : ℕ) (c : C) (h : Option Hold) (next : Next L A) → NextGives m s.value next → GivesAt m Step (goes_on s p c h next).outcome (goes_on s p c h next).next.value
-  gives-step s p c h (GoesOn l) gives = tt
+  gives-step s p c h (Continue l) gives = tt
   gives-step s p c h (Answers a after) gives = gives
 
   gives-weak : (s : State W V C L) (p : ℕ) (c : C) (h : Option Hold) (o : Option (Next L A)) → ((next : Next L A) → o ≡ Some next → NextGives m s.value next)

@@ -5,9 +5,9 @@ use Rattle.spin_world_core.specs.declared.place.Hold.{Hold}
 use Rattle.spin_world_core.specs.declared.answer.Answer.{Answer}
 use Rattle.spin_world_core.specs.declared.answer.Answer.TheVariants.{Granted, Refused, Locked, Starved, Done, Is, Count, Value, NoValue, Failed, Leader, Follower}
 use Rattle.spin_world_core.specs.declared.object.Next.{Next}
-use Rattle.spin_world_core.specs.declared.object.Next.TheVariants.{GoesOn, Answers}
+use Rattle.spin_world_core.specs.declared.object.Next.TheVariants.{Continue, Answers}
 use Rattle.spin_world_core.specs.declared.object.Stepped.{Stepped}
-use Rattle.spin_world_core.specs.Manners.{Manner, plain, again, look}
+use Rattle.spin_world_core.specs.StepKinds.{StepKind, plain, again, look}
 use Rattle.spin_world_core.specs.Calls.{LockKind, Asked, waits, waits_or_starves, initializes, fails_to_initialize, waits_for_value, polls, meets, Said, says_of}
 use Rattle.spin_world_core.specs.Begins.{fits}
 use Rattle.spin_world_core.specs.Machines.{Machine}
@@ -182,14 +182,14 @@ is_waiting polls = true
 is_waiting meets = true
 is_waiting _ = false
 
-abbrev pub look_manner : Asked → Manner
-look_manner what = either (is_waiting what) look plain
+abbrev pub look_kind : Asked → StepKind
+look_kind what = either (is_waiting what) look plain
 
-abbrev pub manner_by : {W L A : Type 0} → Asked → Act W L A → Manner
-manner_by what (load_if test a b) = look_manner what
-manner_by what (enter test step won lost) = look_manner what
-manner_by what (retry k f step won found missed) = again
-manner_by what _ = plain
+abbrev pub step_kind_by : {W L A : Type 0} → Asked → Act W L A → StepKind
+step_kind_by what (load_if test a b) = look_kind what
+step_kind_by what (enter test step won lost) = look_kind what
+step_kind_by what (retry k f step won found missed) = again
+step_kind_by what _ = plain
 
 -- An object
 
@@ -230,7 +230,7 @@ machine_by t refuse step says brings gives =
       asks = t.asks;
       says = says;
       change = λ p w c l h. change_by t.memory (t.word l) (t.act c l h) p w;
-      manner = λ c l h. manner_by (t.asks c h) (t.act c l h);
+      step_kind = λ c l h. step_kind_by (t.asks c h) (t.act c l h);
       brings = brings;
       gives = gives;
     }
@@ -265,7 +265,7 @@ with_value Leader value = Leader
 with_value Follower value = Follower
 
 abbrev pub filled : {V L : Type 0} → Option V → Next L (Answer (Unit {0})) → Next L (Answer V)
-filled value (GoesOn l) = GoesOn l
+filled value (Continue l) = Continue l
 filled value (Answers a after) = Answers (with_value a value) after
 
 abbrev pub step_with : {W V L : Type 0} → Option V → Option V → Bool → Stepped W V L (Answer (Unit {0})) → Stepped W V L (Answer V)

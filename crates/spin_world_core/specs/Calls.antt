@@ -7,7 +7,7 @@ use Rattle.spin_world_core.specs.declared.answer.Answer.{Answer}
 use Rattle.spin_world_core.specs.declared.answer.Answer.TheVariants.{Granted, Refused, Locked, Starved, Done, Is, Count, Value, NoValue, Failed, Leader, Follower}
 use Rattle.spin_world_core.specs.declared.place.Hold.{Hold}
 use Rattle.spin_world_core.specs.declared.place.Hold.TheVariants.{Read, Upgradable, Write, Ticket, Starver}
-use Rattle.spin_world_core.specs.Manners.{Manner}
+use Rattle.spin_world_core.specs.StepKinds.{StepKind}
 
 -- what a call asks
 pub data Asked : Type 0 where
@@ -142,11 +142,11 @@ own_steps meets leads p = (arrives p ∷ []) ∷ []
 own_steps meets follows p = (arrives p ∷ []) ∷ []
 own_steps _ _ p = []
 
--- a step of a call: whose it is, the plain step that it makes, its manner, and the states before and after it
+-- a step of a call: whose it is, the plain step that it makes, its kind, and the states before and after it
 pub record Mark : Type 0 where
   pub party : ℕ
   pub change : Option Change
-  pub manner : Manner
+  pub step_kind : StepKind
   pub before : Plain
   pub after : Plain
 

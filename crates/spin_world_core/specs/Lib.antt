@@ -1,4 +1,4 @@
-pub mod Manners
+pub mod StepKinds
 pub mod Calls
 pub mod Begins
 pub mod Machines

@@ -4,7 +4,7 @@ use Rattle.spin_step.specs.Plain.{Plain, Phase, nothing, complete, Change, fresh
 use Rattle.spin_world_core.specs.declared.place.Hold.{Hold}
 use Rattle.spin_world_core.specs.declared.object.Next.{Next}
 use Rattle.spin_world_core.specs.declared.object.Stepped.{Stepped}
-use Rattle.spin_world_core.specs.Manners.{Manner}
+use Rattle.spin_world_core.specs.StepKinds.{StepKind}
 use Rattle.spin_world_core.specs.Calls.{LockKind, Asked, Said}
 
 -- over the types of its words, its value, its calls, the points of its calls, and its answers
@@ -26,7 +26,7 @@ pub record Machine (W V C L A : Type 0) : Type 0 where
   pub asks : C → Option Hold → Asked
   pub says : A → Said
   pub change : ℕ → W → C → L → Option Hold → Option Change  -- the plain step that a party's next step makes
-  pub manner : C → L → Option Hold → Manner  -- of its next step
+  pub step_kind : C → L → Option Hold → StepKind  -- of its next step
   pub brings : C → Option V  -- the value that the call's own closure gives
   pub gives : A → Option V  -- the value that an answer gives
 

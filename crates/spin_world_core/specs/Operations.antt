@@ -2,7 +2,7 @@
 use Rattle.std.specs.Prelude.{◌≡◌, ℕ, ◌+◌, ◌-◌, ◌%◌, ◌==◌, Bool, true, false, Option, Some, is_some, if◌then◌else◌, get_or, slice_set}
 use Rattle.spin_world_core.specs.declared.place.Hold.{Hold}
 use Rattle.spin_world_core.specs.declared.object.Next.{Next}
-use Rattle.spin_world_core.specs.Manners.{is_look}
+use Rattle.spin_world_core.specs.StepKinds.{is_look}
 use Rattle.spin_step.specs.Plain.{Change}
 use Rattle.spin_world_core.specs.Calls.{is_got_weakly}
 use Rattle.spin_world_core.specs.Begins.{fits}
@@ -51,4 +51,4 @@ pub record Stepwise {W V C L A : Type 0} (m : Machine W V C L A) : Type 0 where
   pub operates : (c : C) (l : L) (h : Option Hold) → IsOneOperation m.lock_kind.steps_in_sections m c l h
   pub refuses : (c : C) (l : L) (h : Option Hold) (next : Next L A) → m.refuse c l h ≡ Some next → RefusesAsLost m c l h next
   -- a look changes no word
-  pub looks : (c : C) (l : L) (h : Option Hold) → is_look (m.manner c l h) ≡ true → (w : W) (v : Option V) → (m.step w v c l h).words ≡ w
+  pub looks : (c : C) (l : L) (h : Option Hold) → is_look (m.step_kind c l h) ≡ true → (w : W) (v : Option V) → (m.step w v c l h).words ≡ w

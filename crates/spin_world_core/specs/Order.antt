@@ -6,7 +6,7 @@ use Rattle.spin_world_core.specs.declared.schedule.Move.{Move}
 use Rattle.spin_world_core.specs.declared.schedule.Move.TheVariants.{Step}
 use Rattle.spin_world_core.specs.declared.schedule.Outcome.{Outcome}
 use Rattle.spin_world_core.specs.declared.schedule.Outcome.TheVariants as outcome
-use Rattle.spin_world_core.specs.Manners.{Manner, is_look}
+use Rattle.spin_world_core.specs.StepKinds.{StepKind, is_look}
 use Rattle.spin_world_core.specs.Calls.{LockKind, Asked, waits, waits_or_starves, tries, Mark, AnyOf}
 use Rattle.spin_world_core.specs.Spans.{own, own_count}
 
@@ -22,7 +22,7 @@ goes_for _ _ = None
 -- its next step is due: it is its first, or follows a plain step, or a look that found the lock free
 abbrev pub is_due : ℕ → List Mark → Bool
 is_due p [] = true
-is_due p (m ∷ ms) = if m.party == p then is_some m.change || (is_look m.manner && not (is_held m.before)) else is_due p ms
+is_due p (m ∷ ms) = if m.party == p then is_some m.change || (is_look m.step_kind && not (is_held m.before)) else is_due p ms
 
 -- by which of its steps such a call goes for it
 pub data Way : Type 0 where
@@ -42,17 +42,17 @@ abbrev pub is_due_by : Way → ℕ → List Mark → Bool
 is_due_by always p span = true
 is_due_by way p span = is_due p span
 
-abbrev pub LooksElse : Way → ℕ → List Mark → Manner → Type 0
+abbrev pub LooksElse : Way → ℕ → List Mark → StepKind → Type 0
 LooksElse by_looks p span r = is_due p span ≡ false → is_look r ≡ true
 LooksElse way p span r = Unit {0}
 
 -- by a step that goes for it the call gets it, where it is open
-abbrev pub Gets : LockKind → ℕ → Asked → List Mark → Plain → Option Change → Manner → Type 0
+abbrev pub Gets : LockKind → ℕ → Asked → List Mark → Plain → Option Change → StepKind → Type 0
 Gets kind p what span s step r =
     (ask : Ask) → goes_for what (own p span) ≡ Some ask
     → let way = way_of kind what (own p span) in (is_due_by way p span ≡ true → is_open_to s p ask ≡ true → step ≡ Some (gets p ask)) × LooksElse way p span r
 
-abbrev pub GetsWhenDue : {C V A : Type 0} → LockKind → ℕ → Outcome A V → Move C V → Option Asked → List Mark → Plain → Option Change → Manner → Type 0
+abbrev pub GetsWhenDue : {C V A : Type 0} → LockKind → ℕ → Outcome A V → Move C V → Option Asked → List Mark → Plain → Option Change → StepKind → Type 0
 GetsWhenDue kind p outcome.GoingOn Step (Some what) span s step r = Gets kind p what span s step r
 GetsWhenDue kind p (outcome.Answered a b) Step (Some what) span s step r = Gets kind p what span s step r
 GetsWhenDue kind p _ _ _ span s step r = Unit {0}

@@ -11,8 +11,8 @@ use Rattle.spin_world_core.specs.declared.schedule.Move.{Move}
 use Rattle.spin_world_core.specs.declared.schedule.Move.TheVariants.{Begin, Step, Weak, Read, Write, Leak, OwnerGet, OwnerSet}
 use Rattle.spin_world_core.specs.declared.schedule.Outcome.{Outcome}
 use Rattle.spin_world_core.specs.declared.schedule.Outcome.TheVariants as outcome
-use Rattle.spin_world_core.specs.Manners.{Manner, is_again, is_look, by_step}
-use Rattle.spin_world_core.specs.Manners as manner
+use Rattle.spin_world_core.specs.StepKinds.{StepKind, is_again, is_look, by_step}
+use Rattle.spin_world_core.specs.StepKinds as step_kind
 use Rattle.spin_world_core.specs.Calls.{LockKind, encoded, BelongsTo, Asked, Said, own_steps, Mark, AnyOf, HasMoment, HasWeakMoment, Limit, unlimited, within, within_changes, gets_within, changes_within, registers_after, FindsClosed, Registers, TriesToStarve, limit, may_be_weak, before_weakly}
 use Rattle.spin_world_core.specs.Begins.{fits}
 pub use Rattle.spin_world_core.specs.Spans.{own, own_count, failures, changes, held_looks, keeps_looking, IsBeginning}
@@ -37,7 +37,7 @@ pub record Scene (W V C L A : Type 0) : Type 0 where
   pub seat : Option (Seat C L)
   pub outcome : Outcome A V
   pub change : Option Change
-  pub manner : Manner
+  pub step_kind : StepKind
   pub after : Seen W V C L
 
 abbrev pub opening : {W V C L A : Type 0} → Machine W V C L A → ℕ → Seen W V C L
@@ -48,10 +48,10 @@ abbrev pub step_at : {W V C L A : Type 0} → Machine W V C L A → State W V C 
 step_at m s p Step (Some (Calling c l h)) = m.change p s.words c l h
 step_at m s p _ _ = None
 
-abbrev pub manner_at : {W V C L A : Type 0} → Machine W V C L A → Move C V → Option (Seat C L) → Manner
-manner_at m Step (Some (Calling c l h)) = by_step (m.manner c l h)
-manner_at m Weak (Some (Calling c l h)) = manner.weak
-manner_at m _ _ = manner.plain
+abbrev pub step_kind_at : {W V C L A : Type 0} → Machine W V C L A → Move C V → Option (Seat C L) → StepKind
+step_kind_at m Step (Some (Calling c l h)) = by_step (m.step_kind c l h)
+step_kind_at m Weak (Some (Calling c l h)) = step_kind.weak
+step_kind_at m _ _ = step_kind.plain
 
 abbrev pub placed_at : {W V C L A : Type 0} → Machine W V C L A → State W V C L → Move C V → Option (Seat C L) → Option V
 placed_at m s Step (Some (Calling c l h)) = (m.step s.words s.value c l h).placed
@@ -73,11 +73,11 @@ span_after outcome.GoingOn mark span q = mark ∷ span q
 span_after (outcome.Answered a b) mark span q = mark ∷ span q
 span_after _ mark span q = span q
 
-abbrev pub mark_of : ℕ → Option Change → Manner → Plain → Mark
-mark_of p step manner s = record { party = p; change = step; manner = manner; before = s; after = apply_some s step }
+abbrev pub mark_of : ℕ → Option Change → StepKind → Plain → Mark
+mark_of p step step_kind s = record { party = p; change = step; step_kind = step_kind; before = s; after = apply_some s step }
 
-abbrev pub scene_of : {W V C L A : Type 0} → Seen W V C L → ℕ → Move C V → Option (Seat C L) → Happened W V C L A → Option Change → Manner → Option V → Scene W V C L A
-scene_of seen p move seat h step manner value =
+abbrev pub scene_of : {W V C L A : Type 0} → Seen W V C L → ℕ → Move C V → Option (Seat C L) → Happened W V C L A → Option Change → StepKind → Option V → Scene W V C L A
+scene_of seen p move seat h step step_kind value =
     record {
       before = seen;
       party = p;
@@ -85,17 +85,17 @@ scene_of seen p move seat h step manner value =
       seat = seat;
       outcome = h.outcome;
       change = step;
-      manner = manner;
+      step_kind = step_kind;
       after = record {
         state = h.next;
         plain = apply_some seen.plain step;
-        span = span_after h.outcome (mark_of p step manner seen.plain) seen.span;
+        span = span_after h.outcome (mark_of p step step_kind seen.plain) seen.span;
         written = last_written h.outcome move seen.written value step;
       };
     }
 
 abbrev pub scene_at : {W V C L A : Type 0} → Machine W V C L A → Seen W V C L → ℕ → Move C V → Option (Seat C L) → Scene W V C L A
-scene_at m seen p move seat = scene_of seen p move seat (moves_at m seen.state p move seat) (step_at m seen.state p move seat) (manner_at m move seat) (placed_at m seen.state move seat)
+scene_at m seen p move seat = scene_of seen p move seat (moves_at m seen.state p move seat) (step_at m seen.state p move seat) (step_kind_at m move seat) (placed_at m seen.state move seat)
 
 abbrev pub scene : {W V C L A : Type 0} → Machine W V C L A → Seen W V C L → ℕ → Move C V → Scene W V C L A
 scene m seen p move = scene_at m seen p move (slice_get seen.state.seats p)
@@ -182,20 +182,20 @@ MayTouch seen p (outcome.Value r) (OwnerSet v) = IsOwners seen
 MayTouch seen p outcome.Written (OwnerSet v) = IsOwners seen
 MayTouch seen p _ _ = Unit {0}
 
--- Which moves are passed over, by the plain lock and by how far the party has come: only a move that nobody could make of a party that has this in the lock
+-- Which moves are skipped, by the plain lock and by how far the party has come: only a move that nobody could make of a party that has this in the lock
 
-abbrev pub MayPass : {W V C L A : Type 0} → Machine W V C L A → Seen W V C L → ℕ → Move C V → Option (Seat C L) → Type 0
-MayPass m seen p (Begin c) (Some Idle) = fits m.lock_kind (m.asks c None) None ≡ false
-MayPass m seen p (Begin c) (Some (Holding h)) = fits m.lock_kind (m.asks c (Some h)) (Some h) ≡ false
-MayPass m seen p Step (Some (Calling c l h)) = ⊥
-MayPass m seen p Read (Some (Holding h)) = is_reader (entries p seen.plain) ≡ false
-MayPass m seen p Read (Some (Leaked h)) = is_reader (entries p seen.plain) ≡ false
-MayPass m seen p (Write v) (Some (Holding h)) = is_writer (entries p seen.plain) ≡ false
-MayPass m seen p (Write v) (Some (Leaked h)) = is_writer (entries p seen.plain) ≡ false
-MayPass m seen p Leak (Some (Holding h)) = ⊥
-MayPass m seen p OwnerGet (Some seat) = m.owned ≡ true → IsOwners seen → ⊥
-MayPass m seen p (OwnerSet v) (Some seat) = m.owned ≡ true → IsOwners seen → ⊥
-MayPass m seen p _ _ = Unit {0}
+abbrev pub MaySkip : {W V C L A : Type 0} → Machine W V C L A → Seen W V C L → ℕ → Move C V → Option (Seat C L) → Type 0
+MaySkip m seen p (Begin c) (Some Idle) = fits m.lock_kind (m.asks c None) None ≡ false
+MaySkip m seen p (Begin c) (Some (Holding h)) = fits m.lock_kind (m.asks c (Some h)) (Some h) ≡ false
+MaySkip m seen p Step (Some (Calling c l h)) = ⊥
+MaySkip m seen p Read (Some (Holding h)) = is_reader (entries p seen.plain) ≡ false
+MaySkip m seen p Read (Some (Leaked h)) = is_reader (entries p seen.plain) ≡ false
+MaySkip m seen p (Write v) (Some (Holding h)) = is_writer (entries p seen.plain) ≡ false
+MaySkip m seen p (Write v) (Some (Leaked h)) = is_writer (entries p seen.plain) ≡ false
+MaySkip m seen p Leak (Some (Holding h)) = ⊥
+MaySkip m seen p OwnerGet (Some seat) = m.owned ≡ true → IsOwners seen → ⊥
+MaySkip m seen p (OwnerSet v) (Some seat) = m.owned ≡ true → IsOwners seen → ⊥
+MaySkip m seen p _ _ = Unit {0}
 
 -- the place at which a move is for its party
 abbrev pub is_in_place : {V C L : Type 0} → Move C V → Option (Seat C L) → Bool
@@ -212,7 +212,7 @@ is_in_place OwnerGet (Some seat) = true
 is_in_place (OwnerSet v) (Some seat) = true
 is_in_place _ _ = false
 
--- what an event comes to that is not passed over, from the value before it to the one after it
+-- what an event comes to that is not skipped, from the value before it to the one after it
 
 abbrev pub IsStep : {V A : Type 0} → Outcome A V → Type 0
 IsStep outcome.GoingOn = Unit {0}
@@ -294,20 +294,20 @@ pub record Keeps {W V C L A : Type 0} (m : Machine W V C L A) (s : Scene W V C L
   pub reads : (r : Option V) → s.outcome ≡ outcome.Value r → r ≡ s.before.written
   -- only a holder looks at the value, only a writer replaces it, and the owner only where nobody shares it
   pub touches : MayTouch s.before s.party s.outcome s.move
-  -- exactly the moves that aren't open are passed over
-  pub passes : (s.outcome ≡ outcome.PassedOver) ↔ (is_open_move m s.before.state s.move s.seat ≡ false)
+  -- exactly the moves that aren't open are skipped
+  pub skips : (s.outcome ≡ outcome.Skipped) ↔ (is_open_move m s.before.state s.move s.seat ≡ false)
   -- none of them is one that the party could make by what it has in the plain lock
-  pub lets : s.outcome ≡ outcome.PassedOver → MayPass m s.before s.party s.move s.seat
+  pub lets : s.outcome ≡ outcome.Skipped → MaySkip m s.before s.party s.move s.seat
   -- and they change nothing
-  pub unchanged : s.outcome ≡ outcome.PassedOver → s.after ≡ s.before
+  pub unchanged : s.outcome ≡ outcome.Skipped → s.after ≡ s.before
   -- every other move comes to what it is for: a look finds what lies there, a write leaves what it names, and nothing else changes the value but a closure that completes
-  pub comes : (s.outcome ≡ outcome.PassedOver → ⊥) → ComesTo s.move s.change s.before.state.value s.after.state.value s.outcome
+  pub comes : (s.outcome ≡ outcome.Skipped → ⊥) → ComesTo s.move s.change s.before.state.value s.after.state.value s.outcome
   -- a refusal without cause comes to a call that makes a weak exchange
-  pub weak : (s.outcome ≡ outcome.PassedOver → ⊥) → IsWeakCall s.move s.party (s.before.span s.party) (asked m s.seat)
+  pub weak : (s.outcome ≡ outcome.Skipped → ⊥) → IsWeakCall s.move s.party (s.before.span s.party) (asked m s.seat)
   -- a call makes the steps that its answer says, and no others
   pub own : OwnSteps m s.party (s.after.span s.party) s.outcome (asked m s.seat)
   -- a party moves by where it stands: it steps in a call, looks and writes where it holds or has leaked, and no more once it is gone
-  pub in_place : (s.outcome ≡ outcome.PassedOver → ⊥) → is_in_place s.move s.seat ≡ true
+  pub in_place : (s.outcome ≡ outcome.Skipped → ⊥) → is_in_place s.move s.seat ≡ true
   -- it is in the call that it began until that is answered, and no other party's move takes it on in it
   pub in_call : InItsCall s.outcome s.move s.seat (slice_get s.after.state.seats s.party)
   pub calls : LeavesCalls s.party s.before s.after
@@ -324,7 +324,7 @@ IsRight m s = RightAnswer m s.party (s.after.span s.party) s.outcome (asked m s.
 -- a look that finds the lock held after n others, of a party that hasn't registered before
 pub record IsLateLook (p n : ℕ) (m : Mark) (older : List Mark) : Type 0 where
   pub party : m.party ≡ p
-  pub looks : is_look m.manner ≡ true
+  pub looks : is_look m.step_kind ≡ true
   pub held : is_held m.before ≡ true
   pub unregistered : own p older ≡ []
   pub late : n ≤ held_looks p older
@@ -343,34 +343,34 @@ EndsWithin (gets_within ask k) kind p span = Unit {0}
 EndsWithin (changes_within k) kind p span = Unit {0}
 EndsWithin (registers_after n k) kind p span = RegistersInTime (λ recent. ⊥) p n span
 
-abbrev pub GoesOnWithin : Limit → LockKind → ℕ → List Mark → Type 0
-GoesOnWithin unlimited kind p span = Unit {0}
-GoesOnWithin (within k) kind p span = own_count p span < k
-GoesOnWithin (within_changes k) kind p span = own_count p span < k + changes kind p span
-GoesOnWithin (gets_within ask k) kind p span = own p span ≡ [] → (own_count p span < k + changes kind p span) ⊎ AnyOf (FindsClosed p ask) span
-GoesOnWithin (changes_within k) kind p span = own p span ≡ [] → own_count p span < k
-GoesOnWithin (registers_after n k) kind p span = RegistersInTime (λ recent. own_count p recent < k + changes kind p recent) p n span
+abbrev pub ContinuesWithin : Limit → LockKind → ℕ → List Mark → Type 0
+ContinuesWithin unlimited kind p span = Unit {0}
+ContinuesWithin (within k) kind p span = own_count p span < k
+ContinuesWithin (within_changes k) kind p span = own_count p span < k + changes kind p span
+ContinuesWithin (gets_within ask k) kind p span = own p span ≡ [] → (own_count p span < k + changes kind p span) ⊎ AnyOf (FindsClosed p ask) span
+ContinuesWithin (changes_within k) kind p span = own p span ≡ [] → own_count p span < k
+ContinuesWithin (registers_after n k) kind p span = RegistersInTime (λ recent. own_count p recent < k + changes kind p recent) p n span
 
 -- a call with a limit is answered by that step at the latest
 abbrev pub InTime : {V A : Type 0} → LockKind → ℕ → List Mark → Outcome A V → Option Asked → Type 0
 InTime kind p span (outcome.Answered a b) (Some what) = EndsWithin (limit kind what) kind p span
-InTime kind p span outcome.GoingOn (Some what) = GoesOnWithin (limit kind what) kind p span
+InTime kind p span outcome.GoingOn (Some what) = ContinuesWithin (limit kind what) kind p span
 InTime kind p span _ _ = Unit {0}
 
 -- a step by which a call goes on makes no plain step though what it is to make is open: then it is an exchange that the call makes again, and counts as one that failed
-abbrev pub IsCounted : {W V C L A : Type 0} → Machine W V C L A → ℕ → Outcome A V → Move C V → Option (Seat C L) → Option Change → Manner → Plain → Type 0
-IsCounted {W} m p outcome.GoingOn Step (Some (Calling c l h)) None manner s = (w : W) (d : Change) → m.change p w c l h ≡ Some d → is_open s d ≡ true → is_again manner ≡ true
+abbrev pub IsCounted : {W V C L A : Type 0} → Machine W V C L A → ℕ → Outcome A V → Move C V → Option (Seat C L) → Option Change → StepKind → Plain → Type 0
+IsCounted {W} m p outcome.GoingOn Step (Some (Calling c l h)) None step_kind s = (w : W) (d : Change) → m.change p w c l h ≡ Some d → is_open s d ≡ true → is_again step_kind ≡ true
 IsCounted m p _ _ _ _ _ _ = Unit {0}
 
 pub record IsInTime {W V C L A : Type 0} (m : Machine W V C L A) (s : Scene W V C L A) : Type 0 where
   pub in_time : InTime m.lock_kind s.party (s.after.span s.party) s.outcome (asked m s.seat)
-  pub counted : IsCounted m s.party s.outcome s.move s.seat s.change s.manner s.before.plain
+  pub counted : IsCounted m s.party s.outcome s.move s.seat s.change s.step_kind s.before.plain
   -- an exchange that is made again fails only where another party has changed its word since the call looked, and once for each change
   pub retries : (q : ℕ) → failures q (s.after.span q) ≤ changes m.lock_kind q (s.after.span q)
   -- a call that may wait is answered by so many own steps as its kind of lock says, from the moment on at which it is open and nobody disturbs it
   pub undisturbed : AnsweredSoon m.lock_kind s.party (s.after.span s.party) s.outcome (asked m s.seat)
   -- a call that waits for its turn without a look goes for it by its first step, and after a look that found the lock free, and looks else
-  pub due : GetsWhenDue m.lock_kind s.party s.outcome s.move (asked m s.seat) (s.before.span s.party) s.before.plain s.change s.manner
+  pub due : GetsWhenDue m.lock_kind s.party s.outcome s.move (asked m s.seat) (s.before.span s.party) s.before.plain s.change s.step_kind
   -- a try goes on only where what it asks is open
   pub tries_on : TriesOn s.party s.outcome s.move (asked m s.seat) (s.before.span s.party) s.before.plain s.change
 

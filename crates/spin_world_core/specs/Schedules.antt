@@ -8,7 +8,7 @@ use Rattle.spin_world_core.specs.declared.place.Place.TheVariants as place
 use Rattle.spin_world_core.specs.declared.place.Seat.{Seat}
 use Rattle.spin_world_core.specs.declared.place.Seat.TheVariants.{Idle, Calling, Holding, Leaked, Gone}
 use Rattle.spin_world_core.specs.declared.object.Next.{Next}
-use Rattle.spin_world_core.specs.declared.object.Next.TheVariants.{GoesOn, Answers}
+use Rattle.spin_world_core.specs.declared.object.Next.TheVariants.{Continue, Answers}
 use Rattle.spin_world_core.specs.declared.object.Stepped.{Stepped}
 use Rattle.spin_world_core.specs.declared.schedule.Move.{Move}
 use Rattle.spin_world_core.specs.declared.schedule.Move.TheVariants.{Begin, Step, Weak, Read, Write, Leak, OwnerGet, OwnerSet}
@@ -73,25 +73,25 @@ abbrev pub resting : {C L : Type 0} → Option Hold → Seat C L
 resting None = Idle
 resting (Some h) = Holding h
 
-abbrev pub passed : {W V C L A : Type 0} → State W V C L → Happened W V C L A
-passed s = record { outcome = outcome.PassedOver; next = s }
+abbrev pub skipped : {W V C L A : Type 0} → State W V C L → Happened W V C L A
+skipped s = record { outcome = outcome.Skipped; next = s }
 
 abbrev pub seated : {W V C L : Type 0} → State W V C L → ℕ → Seat C L → State W V C L
 seated s p seat = record s { seats = slice_set s.seats p seat }
 
 abbrev pub begun : {W V C L A : Type 0} → State W V C L → ℕ → C → Option Hold → Option L → Happened W V C L A
-begun s p c h None = passed s
+begun s p c h None = skipped s
 begun s p c h (Some l) = record { outcome = outcome.Begun; next = seated s p (Calling c l h) }
 
 abbrev pub begins : {W V C L A : Type 0} → Machine W V C L A → State W V C L → ℕ → C → Seat C L → Happened W V C L A
 begins m s p c Idle = begun s p c None (m.begin c None)
 begins m s p c (Holding h) = begun s p c (Some h) (m.begin c (Some h))
-begins m s p c (Calling d l h) = passed s
-begins m s p c (Leaked h) = passed s
-begins m s p c (Gone h) = passed s
+begins m s p c (Calling d l h) = skipped s
+begins m s p c (Leaked h) = skipped s
+begins m s p c (Gone h) = skipped s
 
 abbrev pub goes_on : {W V C L A : Type 0} → State W V C L → ℕ → C → Option Hold → Next L A → Happened W V C L A
-goes_on s p c h (GoesOn l) = record { outcome = outcome.GoingOn; next = seated s p (Calling c l h) }
+goes_on s p c h (Continue l) = record { outcome = outcome.GoingOn; next = seated s p (Calling c l h) }
 goes_on s p c h (Answers a after) = record { outcome = outcome.Answered a None; next = seated s p (resting after) }
 
 -- a value that a step places stands from then on
@@ -103,51 +103,51 @@ abbrev pub stepped : {W V C L A : Type 0} → State W V C L → ℕ → C → Op
 stepped s p c h st = goes_on (record s { words = st.words; value = placed st.placed s.value }) p c h st.next
 
 abbrev pub steps : {W V C L A : Type 0} → Machine W V C L A → State W V C L → ℕ → Seat C L → Happened W V C L A
-steps m s p Idle = passed s
+steps m s p Idle = skipped s
 steps m s p (Calling c l h) = stepped s p c h (m.step s.words s.value c l h)
-steps m s p (Holding h) = passed s
-steps m s p (Leaked h) = passed s
-steps m s p (Gone h) = passed s
+steps m s p (Holding h) = skipped s
+steps m s p (Leaked h) = skipped s
+steps m s p (Gone h) = skipped s
 
 abbrev pub refuses : {W V C L A : Type 0} → State W V C L → ℕ → C → Option Hold → Option (Next L A) → Happened W V C L A
-refuses s p c h None = passed s
+refuses s p c h None = skipped s
 refuses s p c h (Some next) = goes_on s p c h next
 
 abbrev pub weakly : {W V C L A : Type 0} → Machine W V C L A → State W V C L → ℕ → Seat C L → Happened W V C L A
-weakly m s p Idle = passed s
+weakly m s p Idle = skipped s
 weakly m s p (Calling c l h) = refuses s p c h (m.refuse c l h)
-weakly m s p (Holding h) = passed s
-weakly m s p (Leaked h) = passed s
-weakly m s p (Gone h) = passed s
+weakly m s p (Holding h) = skipped s
+weakly m s p (Leaked h) = skipped s
+weakly m s p (Gone h) = skipped s
 
 abbrev pub read_by : {W V C L A : Type 0} → State W V C L → Bool → Happened W V C L A
 read_by s true = record { outcome = outcome.Value s.value; next = s }
-read_by s false = passed s
+read_by s false = skipped s
 
 abbrev pub reads : {W V C L A : Type 0} → State W V C L → Seat C L → Happened W V C L A
-reads s Idle = passed s
-reads s (Calling c l h) = passed s
+reads s Idle = skipped s
+reads s (Calling c l h) = skipped s
 reads s (Holding h) = read_by s (may_read h)
 reads s (Leaked h) = read_by s (may_read h)
-reads s (Gone h) = passed s
+reads s (Gone h) = skipped s
 
 abbrev pub written_by : {W V C L A : Type 0} → State W V C L → V → Bool → Happened W V C L A
 written_by s v true = record { outcome = outcome.Written; next = record s { value = Some v } }
-written_by s v false = passed s
+written_by s v false = skipped s
 
 abbrev pub writes : {W V C L A : Type 0} → State W V C L → V → Seat C L → Happened W V C L A
-writes s v Idle = passed s
-writes s v (Calling c l h) = passed s
+writes s v Idle = skipped s
+writes s v (Calling c l h) = skipped s
 writes s v (Holding h) = written_by s v (may_write h)
 writes s v (Leaked h) = written_by s v (may_write h)
-writes s v (Gone h) = passed s
+writes s v (Gone h) = skipped s
 
 abbrev pub leaks : {W V C L A : Type 0} → State W V C L → ℕ → Seat C L → Happened W V C L A
-leaks s p Idle = passed s
-leaks s p (Calling c l h) = passed s
+leaks s p Idle = skipped s
+leaks s p (Calling c l h) = skipped s
 leaks s p (Holding h) = record { outcome = outcome.Leaked; next = seated s p (Leaked h) }
-leaks s p (Leaked h) = passed s
-leaks s p (Gone h) = passed s
+leaks s p (Leaked h) = skipped s
+leaks s p (Gone h) = skipped s
 
 -- the owner has the lock to itself
 abbrev pub is_owners : {W V C L A : Type 0} → Machine W V C L A → State W V C L → Bool
@@ -159,7 +159,7 @@ let_go s = record s { seats = map seen_by_owner s.seats }
 
 abbrev pub owner_gets : {W V C L A : Type 0} → State W V C L → Bool → Happened W V C L A
 owner_gets s true = record { outcome = outcome.Value s.value; next = let_go s }
-owner_gets s false = passed s
+owner_gets s false = skipped s
 
 -- where there is no value, nothing is written
 abbrev pub owner_writes : {W V C L A : Type 0} → State W V C L → V → Option V → Happened W V C L A
@@ -168,7 +168,7 @@ owner_writes s v (Some old) = record { outcome = outcome.Written; next = let_go 
 
 abbrev pub owner_sets : {W V C L A : Type 0} → State W V C L → V → Bool → Happened W V C L A
 owner_sets s v true = owner_writes s v s.value
-owner_sets s v false = passed s
+owner_sets s v false = skipped s
 
 -- a move of a party that stands so
 abbrev pub moves : {W V C L A : Type 0} → Machine W V C L A → State W V C L → ℕ → Move C V → Seat C L → Happened W V C L A
@@ -181,9 +181,9 @@ moves m s p Leak seat = leaks s p seat
 moves m s p OwnerGet seat = owner_gets s (is_owners m s)
 moves m s p (OwnerSet v) seat = owner_sets s v (is_owners m s)
 
--- a party that doesn't exist is passed over
+-- a party that doesn't exist is skipped
 abbrev pub moves_at : {W V C L A : Type 0} → Machine W V C L A → State W V C L → ℕ → Move C V → Option (Seat C L) → Happened W V C L A
-moves_at m s p move None = passed s
+moves_at m s p move None = skipped s
 moves_at m s p move (Some seat) = moves m s p move seat
 
 -- what one entry comes to

@@ -3,7 +3,7 @@ use Rattle.std.specs.Prelude.{◌≡◌, ℕ, ◌+◌, Bool, true, not, ◌&&◌
 use Rattle.spin_step.specs.Plain.{Change}
 use Rattle.spin_step.specs.Parties.{is_held}
 use Rattle.spin_step.specs.Steps.{bit}
-use Rattle.spin_world_core.specs.Manners.{is_again, is_look}
+use Rattle.spin_world_core.specs.StepKinds.{is_again, is_look}
 use Rattle.spin_world_core.specs.Calls.{LockKind, first_word, Mark}
 
 -- the steps that the party made in the span, in their order
@@ -18,7 +18,7 @@ own_count p (m ∷ ms) = own_count p ms + (if m.party == p then 1 else 0)
 -- the party's exchanges that failed and are made again
 abbrev pub failures : ℕ → List Mark → ℕ
 failures p [] = 0
-failures p (m ∷ ms) = failures p ms + bit ((m.party == p) && (is_again m.manner && not (is_some m.change)))
+failures p (m ∷ ms) = failures p ms + bit ((m.party == p) && (is_again m.step_kind && not (is_some m.change)))
 
 -- others' changes of the first word
 abbrev pub changes : LockKind → ℕ → List Mark → ℕ
@@ -28,17 +28,17 @@ changes kind p (m ∷ ms) = changes kind p ms + bit (not (m.party == p) && not (
 -- the party's looks, in a call that waits, that found the lock held
 abbrev pub held_looks : ℕ → List Mark → ℕ
 held_looks p [] = 0
-held_looks p (m ∷ ms) = held_looks p ms + bit ((m.party == p) && (is_look m.manner && is_held m.before))
+held_looks p (m ∷ ms) = held_looks p ms + bit ((m.party == p) && (is_look m.step_kind && is_held m.before))
 
 -- a step that makes no plain step and tells the party nothing of others: no look, and no exchange that is made again
 abbrev pub is_blind : Mark → Bool
-is_blind m = not (is_some m.change) && not (is_look m.manner || is_again m.manner)
+is_blind m = not (is_some m.change) && not (is_look m.step_kind || is_again m.step_kind)
 
 -- where the party may make one: at first, after a plain step, and after a look that found the lock free, or that found it held after n others
 abbrev pub may_be_blind : ℕ → ℕ → List Mark → Bool
 may_be_blind p n [] = true
 may_be_blind p n (m ∷ ms) =
-    if m.party == p then is_some m.change || (is_look m.manner && (not (is_held m.before) || not (nat_lt (held_looks p ms) n))) else may_be_blind p n ms
+    if m.party == p then is_some m.change || (is_look m.step_kind && (not (is_held m.before) || not (nat_lt (held_looks p ms) n))) else may_be_blind p n ms
 
 -- it makes none elsewhere: while it finds the lock held, and no n times yet, each of its steps is a look that counts
 abbrev pub keeps_looking : ℕ → ℕ → List Mark → Bool

@@ -65,7 +65,7 @@ let_go_stage has_leaked = is_gone
 let_go_stage stage = stage
 
 abbrev pub stage_by_owner : {V C A : Type 0} → Outcome A V → Move C V → Stage → Stage
-stage_by_owner outcome.PassedOver move stage = stage
+stage_by_owner outcome.Skipped move stage = stage
 stage_by_owner _ OwnerGet stage = let_go_stage stage
 stage_by_owner _ (OwnerSet v) stage = let_go_stage stage
 stage_by_owner _ _ stage = stage

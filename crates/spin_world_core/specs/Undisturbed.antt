@@ -4,7 +4,7 @@ use Rattle.spin_step.specs.Plain.{Plain, writing, to_upgrade, to_upgrade_asked, 
 use Rattle.spin_step.specs.Barriers.{may_leave, is_leading}
 use Rattle.spin_world_core.specs.declared.schedule.Outcome.{Outcome}
 use Rattle.spin_world_core.specs.declared.schedule.Outcome.TheVariants as outcome
-use Rattle.spin_world_core.specs.Manners.{is_weak}
+use Rattle.spin_world_core.specs.StepKinds.{is_weak}
 use Rattle.spin_world_core.specs.Calls.{LockKind, encoded, Asked, waits, waits_or_starves, initializes, fails_to_initialize, waits_for_value, polls, meets, Mark}
 use Rattle.spin_world_core.specs.Spans.{own, own_count}
 
@@ -39,7 +39,7 @@ is_open_now p what span s = is_open_next what (is_empty (own p span)) (arrived p
 
 -- the step disturbs nobody but its own party: it changes no word, or is the party's own, and no weak refusal
 pub record Leaves (kind : LockKind) (p : ℕ) (m : Mark) : Type 0 where
-  pub strong : m.party ≡ p → is_weak m.manner ≡ false
+  pub strong : m.party ≡ p → is_weak m.step_kind ≡ false
   pub still : (m.party ≡ p → ⊥) → encoded kind m.after ≡ encoded kind m.before
 
 abbrev pub AllOf : {X : Type 0} → (X → Type 0) → List X → Type 0

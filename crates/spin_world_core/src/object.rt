@@ -10,13 +10,13 @@ use crate::place::Hold;
 ///
 /// # Examples
 /// ```
-/// (FlagCall::Lock, FlagPoint::First) => Some(Next::GoesOn(FlagPoint::Second)),
+/// (FlagCall::Lock, FlagPoint::First) => Some(Next::Continue(FlagPoint::Second)),
 /// (FlagCall::TryLockWeak, _) => Some(Next::Answers(Answer::Refused, holds)),
 /// ```
 #[derive(Copy)]
 pub enum Next<L, A> {
     /// The call continues at this point.
-    GoesOn(L),
+    Continue(L),
     /// The call ends with this answer, and the party holds this from then on.
     Answers(A, Option<Hold>),
 }
@@ -201,7 +201,10 @@ pub trait Object: Drop {
     ///
     /// # Examples
     /// ```
-    /// (FlagCall::Lock, FlagPoint::First) => exchange(words, Next::GoesOn(FlagPoint::Second)),
+    /// (FlagCall::Lock, FlagPoint::First) => exchange(
+    ///     words,
+    ///     Next::Continue(FlagPoint::Second),
+    /// ),
     /// ```
     fn step(
         &self,

@@ -41,7 +41,7 @@ pub enum Move<C, V> {
 /// # Examples
 /// ```
 /// for event in &transcript.events {
-///     if let Outcome::PassedOver = event.outcome {
+///     if let Outcome::Skipped = event.outcome {
 ///         added = added.wrapping_sub(1);
 ///     }
 /// }
@@ -49,7 +49,7 @@ pub enum Move<C, V> {
 #[derive(Copy, Debug, PartialEq, Eq)]
 pub enum Outcome<A, V> {
     /// The move was not open to the party, or there is no such party. Nothing changed.
-    PassedOver,
+    Skipped,
     /// The call has begun. No step of it is taken yet.
     Begun,
     /// The step has no answer yet.

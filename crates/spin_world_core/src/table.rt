@@ -155,7 +155,7 @@ impl<O: Object, A: Allocator> Table<O, A> {
         ensures { record { outcome = result; next = self.new } ≡ happens (O.machine object.now) self.old party entry }
     {
         if party >= self.seats.len() {
-            return Outcome::PassedOver;
+            return Outcome::Skipped;
         }
         let seat = self.seats[party];
         self.act_from(object, party, entry, seat)
@@ -199,7 +199,7 @@ impl<O: Object, A: Allocator> Table<O, A> {
         match seat {
             Seat::Idle => self.begin_beside(object, party, call, None),
             Seat::Holding(hold) => self.begin_beside(object, party, call, Some(hold)),
-            _ => Outcome::PassedOver,
+            _ => Outcome::Skipped,
         }
     }
 
@@ -215,7 +215,7 @@ impl<O: Object, A: Allocator> Table<O, A> {
         ensures { record { outcome = result; next = self.new } ≡ begun self.old party call holds ((O.machine object.now).begin call holds) }
     {
         match object.begin(call, holds) {
-            None => Outcome::PassedOver,
+            None => Outcome::Skipped,
             Some(local) => {
                 self.sit(party, Seat::Calling(call, local, holds));
                 Outcome::Begun
@@ -234,7 +234,7 @@ impl<O: Object, A: Allocator> Table<O, A> {
         ensures { record { outcome = result; next = self.new } ≡ steps (O.machine object.now) self.old party seat }
     {
         let Seat::Calling(call, local, holds) = seat else {
-            return Outcome::PassedOver;
+            return Outcome::Skipped;
         };
         let stepped = object.step(self.words, self.value, call, local, holds);
         self.words = stepped.words;
@@ -254,10 +254,10 @@ impl<O: Object, A: Allocator> Table<O, A> {
         ensures { record { outcome = result; next = self.new } ≡ weakly (O.machine object.now) self.old party seat }
     {
         let Seat::Calling(call, local, holds) = seat else {
-            return Outcome::PassedOver;
+            return Outcome::Skipped;
         };
         match object.refuse(call, local, holds) {
-            None => Outcome::PassedOver,
+            None => Outcome::Skipped,
             Some(next) => self.go_on(party, call, holds, next),
         }
     }
@@ -273,7 +273,7 @@ impl<O: Object, A: Allocator> Table<O, A> {
         ensures { record { outcome = result; next = self.new } ≡ goes_on self.old party call holds next }
     {
         match next {
-            Next::GoesOn(local) => {
+            Next::Continue(local) => {
                 self.sit(party, Seat::Calling(call, local, holds));
                 Outcome::GoingOn
             }
@@ -294,7 +294,7 @@ impl<O: Object, A: Allocator> Table<O, A> {
             Seat::Holding(hold) | Seat::Leaked(hold) if reads_value(hold) => {
                 Outcome::Value(self.value)
             }
-            _ => Outcome::PassedOver,
+            _ => Outcome::Skipped,
         }
     }
 
@@ -310,7 +310,7 @@ impl<O: Object, A: Allocator> Table<O, A> {
                 self.value = Some(value);
                 Outcome::Written
             }
-            _ => Outcome::PassedOver,
+            _ => Outcome::Skipped,
         }
     }
 
@@ -319,7 +319,7 @@ impl<O: Object, A: Allocator> Table<O, A> {
         ensures { record { outcome = result; next = self.new } ≡ leaks self.old party seat }
     {
         let Seat::Holding(hold) = seat else {
-            return Outcome::PassedOver;
+            return Outcome::Skipped;
         };
         self.sit(party, Seat::Leaked(hold));
         Outcome::Leaked
@@ -345,7 +345,7 @@ impl<O: Object, A: Allocator> Table<O, A> {
         ensures { record { outcome = result; next = self.new } ≡ owner_gets self.old (is_owners (O.machine object.now) self.old) }
     {
         if !self.is_owners(object) {
-            return Outcome::PassedOver;
+            return Outcome::Skipped;
         }
         self.let_go();
         Outcome::Value(self.value)
@@ -355,7 +355,7 @@ impl<O: Object, A: Allocator> Table<O, A> {
         ensures { record { outcome = result; next = self.new } ≡ owner_sets self.old to (is_owners (O.machine object.now) self.old) }
     {
         if !self.is_owners(object) {
-            return Outcome::PassedOver;
+            return Outcome::Skipped;
         }
         self.owner_writes(to)
     }

@@ -126,7 +126,7 @@ impl<O: Object, A: Allocator + Copy> World<O, A> {
 
     /// Makes one move of the party, and returns its outcome.
     ///
-    /// A move that is not open to the party changes nothing ([`Outcome::PassedOver`]). An answer does not tell where
+    /// A move that is not open to the party changes nothing ([`Outcome::Skipped`]). An answer does not tell where
     /// its call began; the transcript of [`World::run`] does.
     ///
     /// # Contract

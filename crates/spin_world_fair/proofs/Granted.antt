@@ -1,4 +1,4 @@
--- Who has set the flag as a starver stands where its next step is granted, and who waits for it where it sets a clear one.
+-- A party that has set the flag as a starver stands where its next step is granted, and who waits for it where it sets a clear one.
 use Rattle.std.proofs.Common.{◌≡◌, ℕ, ◌+◌, ◌%◌, ◌==◌, ◌⊎◌, true, Option, Some, None, List, [], slice_get, refl, ap, sym, ◌∙◌, inl, inr, ⊎_elim}
 use Rattle.spin_step.specs.Plain.{Plain, is_empty, fair_word}
 use Rattle.spin_step.specs.Parties.{Entries, entries}
@@ -18,11 +18,11 @@ use Rattle.spin_world_fair.specs.declared.fair.FairPoint.{FairPoint}
 use Rattle.spin_world_fair.specs.declared.fair.FairPoint.TheVariants.{First, Attempt, Look, Load, Register, SetFlag, Await, Unregister}
 use Rattle.spin_world_fair.specs.Fair.{asks_of, fair_machine}
 use Rattle.spin_world_fair.specs.Fairness.{holds_registered, IsGrantedNext, only_starves, SetsAClearFlag, GoesForAClearFlag}
-use Rattle.spin_world_fair.proofs.Found.{flag_clear}
+use Rattle.spin_world_fair.proofs.Knowledge.{flag_clear}
 use Rattle.spin_world_fair.proofs.Owed.{fair_keeping, fair_facts}
 use Rattle.std.proofs.lemmas.Bool.{eq-eqb, false≢true}
 use Rattle.spin_world_core.specs.Acts.{is_waiting}
-use Rattle.spin_world_core.specs.declared.object.Next.TheVariants.{GoesOn}
+use Rattle.spin_world_core.specs.declared.object.Next.TheVariants.{Continue}
 
 module _ {V : Type 0} (v : V) (cap patience : ℕ) where
   -- elsewhere a party holds nothing, or is no starver
@@ -71,7 +71,7 @@ module _ {V : Type 0} (v : V) (cap patience : ℕ) where
   abbrev GoesFor : ℕ → FairCall → FairPoint → Option Hold → Type 0
   GoesFor w c l h =
       let m = fair_machine v cap patience in
-      ((value : Option V) → (m.step w value c l h).words ≡ w + 1) ⊎ ((to : FairPoint) × ((value : Option V) → (m.step w value c l h).next ≡ GoesOn to) × SetsAClearFlag m c to h)
+      ((value : Option V) → (m.step w value c l h).words ≡ w + 1) ⊎ ((to : FairPoint) × ((value : Option V) → (m.step w value c l h).next ≡ Continue to) × SetsAClearFlag m c to h)
 
   looks : (w : ℕ) (c : FairCall) (h : Option Hold) → w % 2 ≡ 0 → GoesFor w c Await h
   looks w c h clear = inr (SetFlag, (λ value. rw (ap (λ n. n == 1) clear) refl), sets c h)

@@ -10,14 +10,14 @@ use Rattle.spin_step.proofs.FairSteps.{fair_lock-grants, fair_starve-grants, fai
 use Rattle.spin_world_core.specs.declared.place.Hold.{Hold}
 use Rattle.spin_world_core.specs.declared.place.Hold.TheVariants.{Write, Starver}
 use Rattle.spin_world_core.specs.declared.object.Next.{Next}
-use Rattle.spin_world_core.specs.declared.object.Next.TheVariants.{GoesOn, Answers}
+use Rattle.spin_world_core.specs.declared.object.Next.TheVariants.{Continue, Answers}
 use Rattle.spin_world_core.specs.declared.answer.Answer.{Answer}
 use Rattle.spin_world_core.specs.declared.answer.Answer.TheVariants.{Locked, Starved}
 use Rattle.spin_world_fair.specs.declared.fair.FairCall.{FairCall}
 use Rattle.spin_world_fair.specs.declared.fair.FairCall.TheVariants.{Lock, TryLock, TryLockStarver, IsLocked, Starve, StarverTryLockFair, StarverTryLock, StarverLock, StarverDrop, Release}
 use Rattle.spin_world_fair.specs.declared.fair.FairPoint.{FairPoint}
 use Rattle.spin_world_fair.specs.declared.fair.FairPoint.TheVariants.{First, Attempt, Look, Load, Register, SetFlag, Await, Unregister}
-use Rattle.spin_world_core.specs.Manners.{Manner, plain, again, look, weak}
+use Rattle.spin_world_core.specs.StepKinds.{StepKind, plain, again, look, weak}
 use Rattle.spin_world_core.specs.Calls.{Mark, looks, grant, granted}
 use Rattle.spin_world_fair.specs.Kind.{fair}
 use Rattle.spin_world_core.specs.Runs.{mark_of, own_count, changes, RegistersInTime}
@@ -32,7 +32,7 @@ use Rattle.spin_world_core.proofs.Shapes.{AimsAt, Notes, keeping_of, Means, call
 use Rattle.spin_world_core.proofs.Usual.{no_queue, means_word}
 use Rattle.spin_world_core.proofs.Paid.{facts_of}
 use Rattle.spin_world_fair.proofs.Registering.{sooner, MayBeBlind, blind-other, blind_after_step, blind_after_free, blind_after_late, allowed, none_left, few_to_load, few_to_register, Looking, Loading, Registering, none_yet, starving-other, looking-other, loading-other, registering-other, goes_on, missed, looked_free, looked_held, looked_late, loaded, retried, full, registered, looked_starving}
-use Rattle.spin_world_fair.proofs.Found.{IsFair, comes, goes_away, same_holders, is_starving, is_starving_still, starver_counts, is_holding, set_by_holder, word_free, flag_clear, word_locked, word_starved, not_there}
+use Rattle.spin_world_fair.proofs.Knowledge.{IsFair, comes, goes_away, same_holders, is_starving, is_starving_still, starver_counts, is_holding, set_by_holder, word_free, flag_clear, word_locked, word_starved, not_there}
 
 -- a starver goes for the lock with these steps made
 abbrev pub starving_row : (ℕ → List Change) → Row
@@ -125,8 +125,8 @@ module _ {V : Type 0} (v : V) (cap patience : ℕ) where
     clear_word : (is_starver p s.starvers && is_empty s.holders) ≡ true → w % 2 ≡ 0
     clear_word free = flag_clear w s word (and_parts (is_starver p s.starvers) (is_empty s.holders) free).1
 
-  abbrev Goes : Row → FairCall → ℕ → Plain → ℕ → List Mark → Manner → Next FairPoint (Answer V) → Type 0
-  Goes row c p s w span r next = Follows (fair_table v cap patience) (fair_notes v cap patience) p (call_of (fair_table v cap patience) (fair_notes v cap patience) c) None s w span row false None r goes next
+  abbrev FollowsFair : Row → FairCall → ℕ → Plain → ℕ → List Mark → StepKind → Next FairPoint (Answer V) → Type 0
+  FollowsFair row c p s w span r next = Follows (fair_table v cap patience) (fair_notes v cap patience) p (call_of (fair_table v cap patience) (fair_notes v cap patience) c) None s w span row false None r goes next
 
   -- in the time that is left
   abbrev InTime : ℕ → List Mark → Type 0
@@ -143,7 +143,7 @@ module _ {V : Type 0} (v : V) (cap patience : ℕ) where
 
   -- `lock` looks on, or goes to register
   looks_follow : (b : Bool) (n p : ℕ) (s : Plain) (w : ℕ) (span : List Mark) → nat_lt n patience ≡ b → is_held s ≡ true → Looking patience n p span
-      → Goes (row_looked None 0 (λ p. grant p to_lock_unregistered) granted) Lock p s w span look (either b (GoesOn (Look (n + 1))) (GoesOn Load))
+      → FollowsFair (row_looked None 0 (λ p. grant p to_lock_unregistered) granted) Lock p s w span look (either b (Continue (Look (n + 1))) (Continue Load))
   looks_follow true n p s w span is held knows =
       let next = looked_held patience p s span n held (ltb-true n patience is) knows in (refl, refl, nothing_left p _ next.in_time, (tt, ap not held), next)
   looks_follow false n p s w span is held knows =
@@ -151,7 +151,7 @@ module _ {V : Type 0} (v : V) (cap patience : ℕ) where
 
   -- a refused newcomer is told why
   rejected : (b : Bool) (p : ℕ) (s : Plain) (w : ℕ) (span : List Mark) → IsFair cap s → fair_word s ≡ w → (w == 1) ≡ b → (is_empty s.holders && is_empty s.starvers) ≡ false
-      → Goes (row_looked None 0 (λ p. grant p to_lock_unregistered) granted) TryLockStarver p s w span plain (Answers (either b Locked Starved) None)
+      → FollowsFair (row_looked None 0 (λ p. grant p to_lock_unregistered) granted) TryLockStarver p s w span plain (Answers (either b Locked Starved) None)
   rejected true p s w span shape is one closed = (refl, inl refl, inl (word_locked w s shape.one is (eqb-true w 1 one)))
   rejected false p s w span shape is other closed = (refl, inl refl, inl (word_starved w s shape.one is other closed))
 
@@ -319,7 +319,7 @@ module _ {V : Type 0} (v : V) (cap patience : ℕ) where
   sound p Release First (Some Write) = refl
   sound p _ _ _ = tt
 
-  others : (p q : ℕ) (c : FairCall) (l : FairPoint) (s : Plain) (step : Option Change) (r : Manner) (span : List Mark) → (q ≡ p → ⊥) → KnowsAt patience c l p s span → KnowsAt patience c l p (apply_some s step) (mark_of q step r s ∷ span)
+  others : (p q : ℕ) (c : FairCall) (l : FairPoint) (s : Plain) (step : Option Change) (r : StepKind) (span : List Mark) → (q ≡ p → ⊥) → KnowsAt patience c l p s span → KnowsAt patience c l p (apply_some s step) (mark_of q step r s ∷ span)
   others p q Lock (Attempt n) s step r span ne knows = (looking-other patience p q s step r span ne n knows.0, blind-other patience p q s step r span ne knows.1)
   others p q Lock (Look n) s step r span ne knows = looking-other patience p q s step r span ne n knows
   others p q Lock Load s step r span ne knows = (loading-other patience p q s step r span ne knows.0, blind-other patience p q s step r span ne knows.1)

@@ -4,7 +4,7 @@ use Rattle.std.proofs.lemmas.Bool.{ne_eqb, eq-eqb, le-ltb, false≢true}
 use Rattle.spin_step.specs.Plain.{Plain, Change, gets, to_starve, is_open}
 use Rattle.spin_step.specs.Parties.{apply_some, is_held}
 use Rattle.spin_step.specs.Steps.{bit}
-use Rattle.spin_world_core.specs.Manners.{Manner, plain, again, look, is_look}
+use Rattle.spin_world_core.specs.StepKinds.{StepKind, plain, again, look, is_look}
 use Rattle.spin_world_core.specs.Calls.{Mark, AnyOf, Registers, TriesToStarve, first_word}
 use Rattle.spin_world_fair.specs.Kind.{fair}
 use Rattle.spin_world_core.specs.Runs.{mark_of, own, own_count, changes, held_looks, IsLateLook, RegistersInTime}
@@ -84,10 +84,10 @@ none_yet {p} {n} = record { looking = refl; soon = λ recent m older is late. ab
 
 -- another party's step
 
-held_looks-other : (p q : ℕ) (step : Option Change) (r : Manner) (s : Plain) (span : List Mark) → (q ≡ p → ⊥) → held_looks p (mark_of q step r s ∷ span) ≡ held_looks p span
+held_looks-other : (p q : ℕ) (step : Option Change) (r : StepKind) (s : Plain) (span : List Mark) → (q ≡ p → ⊥) → held_looks p (mark_of q step r s ∷ span) ≡ held_looks p span
 held_looks-other p q step r s span ne = omega (arith, ap (λ b. bit (b && (is_look r && is_held s))) (ne_eqb q p ne))
 
-module _ (patience p q : ℕ) (s : Plain) (step : Option Change) (r : Manner) (span : List Mark) (ne : q ≡ p → ⊥) where
+module _ (patience p q : ℕ) (s : Plain) (step : Option Change) (r : StepKind) (span : List Mark) (ne : q ≡ p → ⊥) where
   beside : (Few Fewer : List Mark → Type 0) → ((recent : List Mark) → Few recent → Fewer (mark_of q step r s ∷ recent)) → RegistersInTime Few p patience span → RegistersInTime Fewer p patience (mark_of q step r s ∷ span)
   beside Few Fewer keeps old =
       later Few Fewer p patience (mark_of q step r s) span (λ recent few. inr (keeps recent few)) (λ late. absurd (ne late.party)) (λ register. absurd (ne register.0))
@@ -124,7 +124,7 @@ module _ (patience p q : ℕ) (s : Plain) (step : Option Change) (r : Manner) (s
 -- a step of its own
 
 -- after it the next one may be blind
-blind_by : (n p : ℕ) (step : Option Change) (r : Manner) (s : Plain) (span : List Mark) → (is_some step || (is_look r && (not (is_held s) || not (nat_lt (held_looks p span) n)))) ≡ true → MayBeBlind n p (mark_of p step r s ∷ span)
+blind_by : (n p : ℕ) (step : Option Change) (r : StepKind) (s : Plain) (span : List Mark) → (is_some step || (is_look r && (not (is_held s) || not (nat_lt (held_looks p span) n)))) ≡ true → MayBeBlind n p (mark_of p step r s ∷ span)
 blind_by n p step r s span is =
     ap (λ b. if b then is_some step || (is_look r && (not (is_held s) || not (nat_lt (held_looks p span) n))) else may_be_blind p n span) (eqb_self p) ∙ is
 
@@ -132,7 +132,7 @@ or_true : (b : Bool) → (b || true) ≡ true
 or_true true = refl
 or_true false = refl
 
-pub blind_after_step : (n p : ℕ) (c : Change) (r : Manner) (s : Plain) (span : List Mark) → MayBeBlind n p (mark_of p (Some c) r s ∷ span)
+pub blind_after_step : (n p : ℕ) (c : Change) (r : StepKind) (s : Plain) (span : List Mark) → MayBeBlind n p (mark_of p (Some c) r s ∷ span)
 blind_after_step n p c r s span = blind_by n p (Some c) r s span refl
 
 pub blind_after_free : (n p : ℕ) (s : Plain) (span : List Mark) → is_held s ≡ false → MayBeBlind n p (mark_of p None look s ∷ span)
@@ -141,30 +141,30 @@ blind_after_free n p s span free = blind_by n p None look s span (ap (λ b. not 
 pub blind_after_late : (n p : ℕ) (s : Plain) (span : List Mark) → n ≤ held_looks p span → MayBeBlind n p (mark_of p None look s ∷ span)
 blind_after_late n p s span late = blind_by n p None look s span (ap (λ b. not (is_held s) || not b) (le-ltb (held_looks p span) n late) ∙ or_true (not (is_held s)))
 
-held_looks-mine : (p : ℕ) (step : Option Change) (r : Manner) (s : Plain) (span : List Mark) → held_looks p (mark_of p step r s ∷ span) ≡ held_looks p span + bit (is_look r && is_held s)
+held_looks-mine : (p : ℕ) (step : Option Change) (r : StepKind) (s : Plain) (span : List Mark) → held_looks p (mark_of p step r s ∷ span) ≡ held_looks p span + bit (is_look r && is_held s)
 held_looks-mine p step r s span = ap (λ b. held_looks p span + bit (b && (is_look r && is_held s))) (eqb_self p)
 
 module _ (patience p : ℕ) (s : Plain) (span : List Mark) where
   -- the step is not blind, or may be
-  abbrev pub IsAllowed : Option Change → Manner → Type 0
+  abbrev pub IsAllowed : Option Change → StepKind → Type 0
   IsAllowed step r = (not (is_blind (mark_of p step r s)) || may_be_blind p patience span) ≡ true
 
-  pub allowed : (step : Option Change) (r : Manner) → MayBeBlind patience p span → IsAllowed step r
+  pub allowed : (step : Option Change) (r : StepKind) → MayBeBlind patience p span → IsAllowed step r
   allowed step r may = ap (λ b. not (is_blind (mark_of p step r s)) || b) may ∙ or_true (not (is_blind (mark_of p step r s)))
 
-  mine : (step : Option Change) (r : Manner) → IsAllowed step r → (not ((p == p) && is_blind (mark_of p step r s)) || may_be_blind p patience span) ≡ true
+  mine : (step : Option Change) (r : StepKind) → IsAllowed step r → (not ((p == p) && is_blind (mark_of p step r s)) || may_be_blind p patience span) ≡ true
   mine step r may = ap (λ b. not (b && is_blind (mark_of p step r s)) || may_be_blind p patience span) (eqb_self p) ∙ may
 
   -- a step that is no look, and doesn't register
-  passes : (Few Fewer : List Mark → Type 0) (step : Option Change) (r : Manner) → is_look r ≡ false → (step ≡ Some (gets p to_starve) → ⊥) → IsAllowed step r → ((recent : List Mark) → Few recent → TriesToStarve p (mark_of p step r s) ⊎ Fewer (mark_of p step r s ∷ recent))
+  passes : (Few Fewer : List Mark → Type 0) (step : Option Change) (r : StepKind) → is_look r ≡ false → (step ≡ Some (gets p to_starve) → ⊥) → IsAllowed step r → ((recent : List Mark) → Few recent → TriesToStarve p (mark_of p step r s) ⊎ Fewer (mark_of p step r s ∷ recent))
       → RegistersInTime Few p patience span → RegistersInTime Fewer p patience (mark_of p step r s ∷ span)
   passes Few Fewer step r no_look other may keeps old =
       later Few Fewer p patience (mark_of p step r s) span keeps (λ late. absurd (false≢true (sym no_look ∙ late.looks))) (λ register. absurd (other register.1)) (mine step r may) old
 
-  pub goes_on : (step : Option Change) (r : Manner) → is_look r ≡ false → (step ≡ Some (gets p to_starve) → ⊥) → IsAllowed step r → RegistersInTime none_left p patience span → RegistersInTime none_left p patience (mark_of p step r s ∷ span)
+  pub goes_on : (step : Option Change) (r : StepKind) → is_look r ≡ false → (step ≡ Some (gets p to_starve) → ⊥) → IsAllowed step r → RegistersInTime none_left p patience span → RegistersInTime none_left p patience (mark_of p step r s ∷ span)
   goes_on step r no_look other may old = passes none_left none_left step r no_look other may (λ recent few. inr few) old
 
-  pub missed : (k : ℕ) (r : Manner) → is_look r ≡ false → MayBeBlind patience p span → Looking patience k p span → Looking patience k p (mark_of p None r s ∷ span)
+  pub missed : (k : ℕ) (r : StepKind) → is_look r ≡ false → MayBeBlind patience p span → Looking patience k p span → Looking patience k p (mark_of p None r s ∷ span)
   missed k r no_look may old =
       let same = held_looks-mine p None r s span ∙ ap (λ b. held_looks p span + bit (b && is_held s)) no_look in
       record { counted = λ lt. omega (arith, same, old.counted lt); many = omega (arith, same, old.many); in_time = goes_on None r no_look (λ is. cc (is)) (allowed None r may) old.in_time }
@@ -198,7 +198,7 @@ module _ (patience p : ℕ) (s : Plain) (span : List Mark) where
         in_time = later none_left (few_to_load p) p patience (mark_of p None look s) span (λ recent few. absurd few) (λ late. omega arith) (λ register. absurd (cc (register.1))) (mine None look refl) old.in_time;
       }
 
-  unseen : (Few : List Mark → Type 0) (r : Manner) → is_look r ≡ false → Going Few patience p span → patience < held_looks p (mark_of p None r s ∷ span)
+  unseen : (Few : List Mark → Type 0) (r : StepKind) → is_look r ≡ false → Going Few patience p span → patience < held_looks p (mark_of p None r s ∷ span)
   unseen Few r no_look old = omega (arith, held_looks-mine p None r s span ∙ ap (λ b. held_looks p span + bit (b && is_held s)) no_look, old.past)
 
   pub loaded : (w : ℕ) → w ≡ first_word fair s → MayBeBlind patience p span → Loading patience p span → Registering patience w p s (mark_of p None plain s ∷ span)
@@ -222,7 +222,7 @@ module _ (patience p : ℕ) (s : Plain) (span : List Mark) where
       }
 
   -- it finds the cap
-  pub full : (Few : List Mark → Type 0) (r : Manner) → is_look r ≡ false → IsAllowed None r → is_open s (gets p to_starve) ≡ false → Going Few patience p span → Looking patience patience p (mark_of p None r s ∷ span)
+  pub full : (Few : List Mark → Type 0) (r : StepKind) → is_look r ≡ false → IsAllowed None r → is_open s (gets p to_starve) ≡ false → Going Few patience p span → Looking patience patience p (mark_of p None r s ∷ span)
   full Few r no_look may closed old =
       record {
         counted = λ lt. absurd (omega (arith, lt));

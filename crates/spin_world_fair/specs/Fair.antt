@@ -5,7 +5,7 @@ use Rattle.spin_step.specs.Starvers.{most_starvers, is_set, lock, starve, lock_f
 use Rattle.spin_world_core.specs.declared.place.Hold.{Hold}
 use Rattle.spin_world_core.specs.declared.place.Hold.TheVariants.{Write, Starver}
 use Rattle.spin_world_core.specs.declared.object.Next.{Next}
-use Rattle.spin_world_core.specs.declared.object.Next.TheVariants.{GoesOn, Answers}
+use Rattle.spin_world_core.specs.declared.object.Next.TheVariants.{Continue, Answers}
 use Rattle.spin_world_core.specs.declared.answer.Answer.{Answer}
 use Rattle.spin_world_core.specs.declared.answer.Answer.TheVariants.{Granted, Refused, Locked, Starved, Done, Is}
 use Rattle.spin_world_fair.specs.declared.fair.FairCall.{FairCall}
@@ -37,39 +37,39 @@ rejects h w = Answers (either (w == holder_weight) Locked Starved) h
 
 -- `lock` looks on, or has looked often enough to register
 abbrev pub looks_on : {V : Type 0} → ℕ → ℕ → Next FairPoint (Answer V)
-looks_on patience n = either (nat_lt n patience) (GoesOn (Look (n + 1))) (GoesOn Load)
+looks_on patience n = either (nat_lt n patience) (Continue (Look (n + 1))) (Continue Load)
 
 -- at the cap `lock` looks again, and `starve` is refused
 abbrev pub finds_no_room : {V : Type 0} → ℕ → FairCall → Option Hold → Next FairPoint (Answer V)
-finds_no_room patience Lock h = GoesOn (Look patience)
+finds_no_room patience Lock h = Continue (Look patience)
 finds_no_room patience _ h = Answers Refused h
 
 abbrev pub registered : {V : Type 0} → FairCall → Next FairPoint (Answer V)
-registered Lock = GoesOn SetFlag
+registered Lock = Continue SetFlag
 registered _ = Answers Granted (Some Starver)
 
 -- a starver that finds the flag set waits, or is refused
 abbrev pub finds_flag_set : {V : Type 0} → FairCall → Option Hold → Next FairPoint (Answer V)
 finds_flag_set StarverTryLock h = Answers Refused h
-finds_flag_set _ h = GoesOn Await
+finds_flag_set _ h = Continue Await
 
 -- the calls of one step, and the first step of the fair try
 abbrev pub act_of_first : {V : Type 0} → FairCall → Option Hold → Act ℕ FairPoint (Answer V)
 act_of_first TryLock h = exchange (swap 0 lock) (λ p. gets p to_lock_unregistered) granted (λ w. Answers Refused h)
 act_of_first TryLockStarver h = exchange (swap 0 lock) (λ p. gets p to_lock_unregistered) granted (rejects h)
-act_of_first StarverTryLockFair h = exchange (swap starver_weight lock_fair) (λ p. gets p to_lock_starving_alone) (GoesOn Unregister) (λ w. Answers Refused h)
+act_of_first StarverTryLockFair h = exchange (swap starver_weight lock_fair) (λ p. gets p to_lock_starving_alone) (Continue Unregister) (λ w. Answers Refused h)
 act_of_first StarverDrop h = store (λ w. nat_lt 1 w) (subtracts starver_weight) (λ p. stops_starving p) (Answers Done None)
 act_of_first Release h = store is_set (subtracts holder_weight) (λ p. releases p writing) (Answers Done None)
 act_of_first _ h = load (λ w. Answers (Is (is_set w)) h)
 
 abbrev pub act_of : {V : Type 0} → ℕ → ℕ → FairCall → FairPoint → Option Hold → Act ℕ FairPoint (Answer V)
 act_of cap patience c First h = act_of_first c h
-act_of cap patience c (Attempt n) h = weak_exchange 0 lock (λ p. gets p to_lock_unregistered) granted (GoesOn (Look n))
-act_of cap patience c (Look n) h = load_if is_set (λ w. looks_on patience n) (λ w. GoesOn (Attempt n))
-act_of cap patience c Load h = load_for (starve cap) (λ p. gets p to_starve) (λ w. GoesOn (Register w)) (finds_no_room patience c h)
-act_of cap patience c (Register n) h = retry n (starve cap) (λ p. gets p to_starve) (registered c) (λ w. GoesOn (Register w)) (finds_no_room patience c h)
-act_of cap patience c SetFlag h = exchange sets_lowest_bit (λ p. gets p to_lock_starving) (GoesOn Unregister) (λ w. finds_flag_set c h)
-act_of cap patience c Await h = load_if is_set (λ w. GoesOn Await) (λ w. GoesOn SetFlag)
+act_of cap patience c (Attempt n) h = weak_exchange 0 lock (λ p. gets p to_lock_unregistered) granted (Continue (Look n))
+act_of cap patience c (Look n) h = load_if is_set (λ w. looks_on patience n) (λ w. Continue (Attempt n))
+act_of cap patience c Load h = load_for (starve cap) (λ p. gets p to_starve) (λ w. Continue (Register w)) (finds_no_room patience c h)
+act_of cap patience c (Register n) h = retry n (starve cap) (λ p. gets p to_starve) (registered c) (λ w. Continue (Register w)) (finds_no_room patience c h)
+act_of cap patience c SetFlag h = exchange sets_lowest_bit (λ p. gets p to_lock_starving) (Continue Unregister) (λ w. finds_flag_set c h)
+act_of cap patience c Await h = load_if is_set (λ w. Continue Await) (λ w. Continue SetFlag)
 act_of cap patience c Unregister h = store (λ w. nat_lt 1 w) (subtracts starver_weight) (λ p. stops_starving p) granted
 
 abbrev pub asks_of : ℕ → FairCall → Option Hold → Asked

@@ -9,7 +9,7 @@ use Rattle.spin_world_core.specs.declared.place.Seat.TheVariants.{Calling}
 use Rattle.spin_world_core.specs.declared.schedule.Move.{Move}
 use Rattle.spin_world_core.specs.declared.schedule.Move.TheVariants.{Step}
 use Rattle.spin_world_core.specs.declared.schedule.Outcome.TheVariants.{Answered}
-use Rattle.spin_world_core.specs.declared.object.Next.TheVariants.{GoesOn}
+use Rattle.spin_world_core.specs.declared.object.Next.TheVariants.{Continue}
 use Rattle.spin_world_core.specs.Acts.{is_waiting}
 use Rattle.spin_world_core.specs.Machines.{Machine}
 use Rattle.spin_world_core.specs.Schedules.{after, at_first}
@@ -52,4 +52,4 @@ GoesForAClearFlag m n past =
     (p : ℕ) (c : FairCall) (l : FairPoint) (h : Option Hold) → let s = after m (at_first m n) past in
     let plain = (seen_after m (opening m n) past).plain in
     slice_get s.seats p ≡ Some (Calling c l h) → is_waiting (m.asks c h) ≡ true → entries p plain ≡ only_starves p → plain.holders ≡ []
-    → ((m.step s.words s.value c l h).words ≡ s.words + 1) ⊎ ((to : FairPoint) × ((m.step s.words s.value c l h).next ≡ GoesOn to) × SetsAClearFlag m c to h)
+    → ((m.step s.words s.value c l h).words ≡ s.words + 1) ⊎ ((to : FairPoint) × ((m.step s.words s.value c l h).next ≡ Continue to) × SetsAClearFlag m c to h)

@@ -3,7 +3,7 @@ use Rattle.std.specs.Prelude.{ℕ, ◌+◌, ◌-◌, ◌*◌, ◌/◌, Option, S
 use Rattle.spin_step.specs.Plain.{gets, stops_starving, to_lock_unregistered, to_lock_starving, to_lock_starving_alone, to_starve, starver_weight}
 use Rattle.spin_world_core.specs.declared.place.Hold.{Hold}
 use Rattle.spin_world_core.specs.declared.place.Hold.TheVariants.{Starver}
-use Rattle.spin_world_core.specs.declared.object.Next.TheVariants.{GoesOn, Answers}
+use Rattle.spin_world_core.specs.declared.object.Next.TheVariants.{Continue, Answers}
 use Rattle.spin_world_core.specs.declared.answer.Answer.{Answer}
 use Rattle.spin_world_core.specs.declared.answer.Answer.TheVariants.{Granted, Refused, Locked, Starved, Done}
 use Rattle.spin_world_fair.specs.declared.fair.FairCall.{FairCall}
@@ -53,8 +53,8 @@ try_of_a_starver = (0, Begin Starve) ∷ (0, Step) ∷ (0, Step) ∷ (0, Begin S
 
 -- `starve` knows no cap, which is one here
 abbrev uncapped_acts : {V : Type 0} → Acts V
-uncapped_acts Starve Load h = load (λ w. GoesOn (Register w))
-uncapped_acts Starve (Register n) h = retry n (λ w. Some (w + 2)) (λ p. gets p to_starve) (Answers Granted (Some Starver)) (λ w. GoesOn (Register w)) (Answers Refused h)
+uncapped_acts Starve Load h = load (λ w. Continue (Register w))
+uncapped_acts Starve (Register n) h = retry n (λ w. Some (w + 2)) (λ p. gets p to_starve) (Answers Granted (Some Starver)) (λ w. Continue (Register w)) (Answers Refused h)
 uncapped_acts c l h = act_of 1 1 c l h
 
 abbrev pub starves_without_cap : {V : Type 0} → V → Machine ℕ V FairCall FairPoint (Answer V)
@@ -65,7 +65,7 @@ two_starve = (0, Begin Starve) ∷ (0, Step) ∷ (0, Step) ∷ (1, Begin Starve)
 
 -- `lock` never registers
 abbrev looking_acts : {V : Type 0} → Acts V
-looking_acts Lock (Look n) h = load_if is_set (λ w. GoesOn (Look (n + 1))) (λ w. GoesOn (Attempt n))
+looking_acts Lock (Look n) h = load_if is_set (λ w. Continue (Look (n + 1))) (λ w. Continue (Attempt n))
 looking_acts c l h = act_of 2 1 c l h
 
 abbrev pub never_registers : {V : Type 0} → V → Machine ℕ V FairCall FairPoint (Answer V)
@@ -77,7 +77,7 @@ lock_beside_a_holder = (0, Begin TryLock) ∷ (0, Step) ∷ (1, Begin Lock) ∷ 
 
 -- `lock` goes back to its exchange where it has looked often enough to register
 abbrev returning_acts : {V : Type 0} → Acts V
-returning_acts Lock (Look n) h = load_if is_set (λ w. either (nat_lt n 1) (GoesOn (Look (n + 1))) (GoesOn (Attempt n))) (λ w. GoesOn (Attempt n))
+returning_acts Lock (Look n) h = load_if is_set (λ w. either (nat_lt n 1) (Continue (Look (n + 1))) (Continue (Attempt n))) (λ w. Continue (Attempt n))
 returning_acts c l h = act_of 2 1 c l h
 
 abbrev pub returns_to_its_exchange : {V : Type 0} → V → Machine ℕ V FairCall FairPoint (Answer V)
@@ -90,7 +90,7 @@ lock_as_it_is_let_go =
 
 -- `lock` registers before its looks
 abbrev hasty_acts : {V : Type 0} → Acts V
-hasty_acts Lock (Attempt n) h = weak_exchange 0 lock (λ p. gets p to_lock_unregistered) granted (GoesOn Load)
+hasty_acts Lock (Attempt n) h = weak_exchange 0 lock (λ p. gets p to_lock_unregistered) granted (Continue Load)
 hasty_acts c l h = act_of 2 1 c l h
 
 abbrev pub registers_at_once : {V : Type 0} → V → Machine ℕ V FairCall FairPoint (Answer V)
@@ -124,7 +124,7 @@ try_beside_a_holder = (0, Begin TryLock) ∷ (0, Step) ∷ (1, Begin TryLockStar
 
 -- a starver that waits never sets the flag
 abbrev waiting_acts : {V : Type 0} → Acts V
-waiting_acts StarverLock Await h = load (λ w. GoesOn Await)
+waiting_acts StarverLock Await h = load (λ w. Continue Await)
 waiting_acts c l h = act_of 2 1 c l h
 
 abbrev pub waits_for_ever : {V : Type 0} → V → Machine ℕ V FairCall FairPoint (Answer V)
@@ -142,8 +142,8 @@ four_looks_of_a_starver = let_go_beside_a_starver ++ (1, Step) ∷ (1, Step) ∷
 
 -- a starver that waits sets the flag only where it finds the same clear word twice, so that others who come and go keep it waiting
 abbrev hesitating_acts : {V : Type 0} → Acts V
-hesitating_acts StarverLock Await h = load (λ w. GoesOn (Register w))
-hesitating_acts StarverLock (Register n) h = load_if (λ w. not (is_set w) && (w == n)) (λ w. GoesOn SetFlag) (λ w. GoesOn (Register w))
+hesitating_acts StarverLock Await h = load (λ w. Continue (Register w))
+hesitating_acts StarverLock (Register n) h = load_if (λ w. not (is_set w) && (w == n)) (λ w. Continue SetFlag) (λ w. Continue (Register w))
 hesitating_acts c l h = act_of 2 1 c l h
 
 abbrev pub waits_for_quiet : {V : Type 0} → V → Machine ℕ V FairCall FairPoint (Answer V)
@@ -151,7 +151,7 @@ waits_for_quiet v = by_acts v 2 hesitating_acts
 
 -- `lock` never looks
 abbrev unlooking_acts : {V : Type 0} → Acts V
-unlooking_acts Lock (Attempt n) h = weak_exchange 0 lock (λ p. gets p to_lock_unregistered) granted (GoesOn (Attempt n))
+unlooking_acts Lock (Attempt n) h = weak_exchange 0 lock (λ p. gets p to_lock_unregistered) granted (Continue (Attempt n))
 unlooking_acts c l h = act_of 2 1 c l h
 
 abbrev pub never_looks : {V : Type 0} → V → Machine ℕ V FairCall FairPoint (Answer V)
@@ -159,7 +159,7 @@ never_looks v = by_acts v 2 unlooking_acts
 
 -- `lock` loads the word until it is clear, and counts nothing
 abbrev loading_acts : {V : Type 0} → Acts V
-loading_acts Lock (Look n) h = load (λ w. either (is_set w) (GoesOn (Look n)) (GoesOn (Attempt n)))
+loading_acts Lock (Look n) h = load (λ w. either (is_set w) (Continue (Look n)) (Continue (Attempt n)))
 loading_acts c l h = act_of 2 1 c l h
 
 abbrev pub loads_uncounted : {V : Type 0} → V → Machine ℕ V FairCall FairPoint (Answer V)
@@ -167,8 +167,8 @@ loads_uncounted v = by_acts v 2 loading_acts
 
 -- `lock` counts each second look alone
 abbrev glancing_acts : {V : Type 0} → Acts V
-glancing_acts Lock (Look n) h = load_if is_set (λ w. either (nat_lt n 1) (GoesOn First) (GoesOn Load)) (λ w. GoesOn (Attempt n))
-glancing_acts Lock First h = load (λ w. GoesOn (Look 1))
+glancing_acts Lock (Look n) h = load_if is_set (λ w. either (nat_lt n 1) (Continue First) (Continue Load)) (λ w. Continue (Attempt n))
+glancing_acts Lock First h = load (λ w. Continue (Look 1))
 glancing_acts c l h = act_of 2 1 c l h
 
 abbrev pub counts_each_second_look : {V : Type 0} → V → Machine ℕ V FairCall FairPoint (Answer V)
@@ -176,7 +176,7 @@ counts_each_second_look v = by_acts v 2 glancing_acts
 
 -- a starver that has set the flag leaves the starvers only once it is the last one
 abbrev lingering_acts : {V : Type 0} → Acts V
-lingering_acts StarverLock Unregister h = load_if (λ w. w == 3) (λ w. GoesOn First) (λ w. GoesOn Unregister)
+lingering_acts StarverLock Unregister h = load_if (λ w. w == 3) (λ w. Continue First) (λ w. Continue Unregister)
 lingering_acts StarverLock First h = act_of 2 1 StarverLock Unregister h
 lingering_acts c l h = act_of 2 1 c l h
 
@@ -191,8 +191,8 @@ lock_beside_a_starver =
 
 -- a starver that has set the flag leaves the starvers by an exchange of the word that it has found, again and again
 abbrev exchanging_acts : {V : Type 0} → Acts V
-exchanging_acts StarverLock Unregister h = load (λ w. GoesOn (Register w))
-exchanging_acts StarverLock (Register n) h = retry n (λ w. Some (w - 2)) (λ p. stops_starving p) granted (λ w. GoesOn (Register w)) (GoesOn Unregister)
+exchanging_acts StarverLock Unregister h = load (λ w. Continue (Register w))
+exchanging_acts StarverLock (Register n) h = retry n (λ w. Some (w - 2)) (λ p. stops_starving p) granted (λ w. Continue (Register w)) (Continue Unregister)
 exchanging_acts c l h = act_of 2 1 c l h
 
 abbrev pub leaves_by_exchange : {V : Type 0} → V → Machine ℕ V FairCall FairPoint (Answer V)
@@ -203,7 +203,7 @@ lock_of_a_starver = (0, Begin Starve) ∷ (0, Step) ∷ (0, Step) ∷ (0, Begin 
 
 -- a starver sets the flag by a weak exchange
 abbrev weakly_acts : {V : Type 0} → Acts V
-weakly_acts StarverLock SetFlag h = weak_exchange starver_weight lock_fair (λ p. gets p to_lock_starving) (GoesOn Unregister) (GoesOn Await)
+weakly_acts StarverLock SetFlag h = weak_exchange starver_weight lock_fair (λ p. gets p to_lock_starving) (Continue Unregister) (Continue Await)
 weakly_acts c l h = act_of 2 1 c l h
 
 abbrev pub sets_by_chance : {V : Type 0} → V → Machine ℕ V FairCall FairPoint (Answer V)
@@ -234,7 +234,7 @@ opens_with_a_starver v = let m = fair_machine v 2 1 in record m { words = 2 }
 
 -- `lock` goes to its exchange only where it finds neither the flag nor a starver
 abbrev wary_acts : {V : Type 0} → Acts V
-wary_acts Lock (Look n) h = load_if is_set (λ w. either (nat_lt n 1) (GoesOn (Look (n + 1))) (GoesOn Load)) (λ w. either (w == 0) (GoesOn (Attempt n)) (GoesOn (Look n)))
+wary_acts Lock (Look n) h = load_if is_set (λ w. either (nat_lt n 1) (Continue (Look (n + 1))) (Continue Load)) (λ w. either (w == 0) (Continue (Attempt n)) (Continue (Look n)))
 wary_acts c l h = act_of 2 1 c l h
 
 abbrev pub waits_for_starvers : {V : Type 0} → V → Machine ℕ V FairCall FairPoint (Answer V)
@@ -248,7 +248,7 @@ lock_beside_a_dropped_starver =
 
 -- `starver_try_lock` that finds the flag set looks once more, and is refused whatever it finds
 abbrev late_acts : {V : Type 0} → Acts V
-late_acts StarverTryLock SetFlag h = exchange sets_lowest_bit (λ p. gets p to_lock_starving) (GoesOn Unregister) (λ w. GoesOn First)
+late_acts StarverTryLock SetFlag h = exchange sets_lowest_bit (λ p. gets p to_lock_starving) (Continue Unregister) (λ w. Continue First)
 late_acts StarverTryLock First h = load (λ w. Answers Refused h)
 late_acts c l h = act_of 2 1 c l h
 
@@ -261,7 +261,7 @@ starver_beside_a_holder =
 
 -- a starver that finds the flag set tries to set it again, without a look
 abbrev spinning_acts : {V : Type 0} → Acts V
-spinning_acts StarverLock SetFlag h = exchange sets_lowest_bit (λ p. gets p to_lock_starving) (GoesOn Unregister) (λ w. GoesOn SetFlag)
+spinning_acts StarverLock SetFlag h = exchange sets_lowest_bit (λ p. gets p to_lock_starving) (Continue Unregister) (λ w. Continue SetFlag)
 spinning_acts c l h = act_of 2 1 c l h
 
 abbrev pub spins_by_setting : {V : Type 0} → V → Machine ℕ V FairCall FairPoint (Answer V)
@@ -273,7 +273,7 @@ two_steps_of_a_starver =
 
 -- `lock` begins its count anew where it has found the flag clear
 abbrev forgetting_acts : {V : Type 0} → Acts V
-forgetting_acts Lock (Look n) h = load_if is_set (λ w. either (nat_lt n 1) (GoesOn (Look (n + 1))) (GoesOn Load)) (λ w. GoesOn (Attempt 0))
+forgetting_acts Lock (Look n) h = load_if is_set (λ w. either (nat_lt n 1) (Continue (Look (n + 1))) (Continue Load)) (λ w. Continue (Attempt 0))
 forgetting_acts c l h = act_of 2 1 c l h
 
 abbrev pub counts_anew : {V : Type 0} → V → Machine ℕ V FairCall FairPoint (Answer V)

@@ -2,7 +2,7 @@
 //!
 //! A starver is a party that has registered so as to come before all others, which are newcomers.
 ghost use Rattle.std.specs.Prelude.{◌≡◌, ◌≢◌, ◌<◌, ◌+◌, ◌-◌, ◌==◌, ◌%◌, true, is_some};
-ghost use Rattle.spin_world_core.specs.declared.object.Next.TheVariants.{GoesOn, Answers};
+ghost use Rattle.spin_world_core.specs.declared.object.Next.TheVariants.{Continue, Answers};
 ghost use Rattle.spin_world_core.specs.declared.answer.Answer.TheVariants.{Done};
 ghost use Rattle.spin_world_fair.specs.declared.fair.FairPoint.TheVariants.{Attempt, Register, SetFlag, Await};
 ghost use Rattle.spin_world_core.specs.Acts.{one_number, either, retried, step_by, can_by};
@@ -132,9 +132,9 @@ fn reject<V: Copy>(word: usize, holds: Option<Hold>) -> Next<FairPoint, Answer<V
 impl<V: Copy> Fair<V> {
     /// Returns how `Lock` goes on from a look, after so many that found the flag set.
     fn look(&self, word: usize, looks: usize) -> Next<FairPoint, Answer<V>>
-        ensures { result ≡ either (is_set word) (looks_on self.now.patience looks) (GoesOn (Attempt looks)) }
+        ensures { result ≡ either (is_set word) (looks_on self.now.patience looks) (Continue (Attempt looks)) }
     {
-        Next::GoesOn(if !fair::is_locked(word) {
+        Next::Continue(if !fair::is_locked(word) {
             FairPoint::Attempt(looks)
         } else if looks < self.patience {
             FairPoint::Look(looks + 1)
@@ -148,7 +148,7 @@ impl<V: Copy> Fair<V> {
         ensures { result ≡ finds_no_room self.now.patience call holds }
     {
         match call {
-            FairCall::Lock => Next::GoesOn(FairPoint::Look(self.patience)),
+            FairCall::Lock => Next::Continue(FairPoint::Look(self.patience)),
             _ => Next::Answers(Answer::Refused, holds),
         }
     }
@@ -160,10 +160,10 @@ impl<V: Copy> Fair<V> {
         word: usize,
         holds: Option<Hold>,
     ) -> Next<FairPoint, Answer<V>>
-        ensures { result ≡ either (is_some (starve self.now.cap word)) (GoesOn (Register word)) (finds_no_room self.now.patience call holds) }
+        ensures { result ≡ either (is_some (starve self.now.cap word)) (Continue (Register word)) (finds_no_room self.now.patience call holds) }
     {
         match fair::starve(word, self.cap) {
-            Some(_) => Next::GoesOn(FairPoint::Register(word)),
+            Some(_) => Next::Continue(FairPoint::Register(word)),
             None => self.find_no_room(call, holds),
         }
     }
@@ -176,13 +176,13 @@ impl<V: Copy> Fair<V> {
         found: usize,
         holds: Option<Hold>,
     ) -> Stepped<usize, V, FairPoint, Answer<V>>
-        ensures { result ≡ retried (λ w. w) (word == found) word (starve self.now.cap word) (registered call) (GoesOn (Register word)) (finds_no_room self.now.patience call holds) }
+        ensures { result ≡ retried (λ w. w) (word == found) word (starve self.now.cap word) (registered call) (Continue (Register word)) (finds_no_room self.now.patience call holds) }
     {
         if word != found {
             return Stepped::stay(word, self.go_to_register(call, word, holds));
         }
         let won = match call {
-            FairCall::Lock => Next::GoesOn(FairPoint::SetFlag),
+            FairCall::Lock => Next::Continue(FairPoint::SetFlag),
             _ => Next::Answers(Answer::Granted, Some(Hold::Starver)),
         };
         Stepped::exchange(
@@ -200,15 +200,15 @@ fn find_flag_set<V: Copy>(call: FairCall, holds: Option<Hold>) -> Next<FairPoint
 {
     match call {
         FairCall::StarverTryLock => Next::Answers(Answer::Refused, holds),
-        _ => Next::GoesOn(FairPoint::Await),
+        _ => Next::Continue(FairPoint::Await),
     }
 }
 
 /// Returns how a starver goes on from its look at the flag.
 fn await_clear<V: Copy>(word: usize) -> Next<FairPoint, Answer<V>>
-    ensures { result ≡ either (is_set word) (GoesOn Await) (GoesOn SetFlag) }
+    ensures { result ≡ either (is_set word) (Continue Await) (Continue SetFlag) }
 {
-    Next::GoesOn(if fair::is_locked(word) {
+    Next::Continue(if fair::is_locked(word) {
         FairPoint::Await
     } else {
         FairPoint::SetFlag
@@ -240,7 +240,7 @@ fn step_first<V: Copy>(
             None => Stepped::stay(word, reject(word, holds)),
         },
         FairCall::StarverTryLockFair => {
-            let won = Next::GoesOn(FairPoint::Unregister);
+            let won = Next::Continue(FairPoint::Unregister);
             Stepped::exchange(word, fair::lock_fair(word), won, refused)
         }
         FairCall::StarverDrop => Stepped::stay(fair::unstarve(word), done),
@@ -303,7 +303,7 @@ impl<V: Copy> Object for Fair<V> {
     ) -> Option<Next<FairPoint, Answer<V>>> {
         let _ = (call, holds);
         match local {
-            FairPoint::Attempt(looks) => Some(Next::GoesOn(FairPoint::Look(looks))),
+            FairPoint::Attempt(looks) => Some(Next::Continue(FairPoint::Look(looks))),
             _ => None,
         }
     }
@@ -326,7 +326,7 @@ impl<V: Copy> Object for Fair<V> {
                 words,
                 fair::lock(words),
                 grant(),
-                Next::GoesOn(FairPoint::Look(looks)),
+                Next::Continue(FairPoint::Look(looks)),
             ),
             FairPoint::Look(looks) => Stepped::stay(words, self.look(words, looks)),
             FairPoint::Load => Stepped::stay(words, self.go_to_register(call, words, holds)),
@@ -334,7 +334,7 @@ impl<V: Copy> Object for Fair<V> {
             FairPoint::SetFlag => Stepped::exchange(
                 words,
                 fair::lock_starved(words),
-                Next::GoesOn(FairPoint::Unregister),
+                Next::Continue(FairPoint::Unregister),
                 find_flag_set(call, holds),
             ),
             FairPoint::Await => Stepped::stay(words, await_clear(words)),

@@ -7,7 +7,7 @@ use Rattle.std.specs.Option.{option_map}
 use Rattle.spin_world_core.specs.declared.place.Hold.{Hold}
 use Rattle.spin_world_core.specs.declared.place.Hold.TheVariants.{Write}
 use Rattle.spin_world_core.specs.declared.object.Next.{Next}
-use Rattle.spin_world_core.specs.declared.object.Next.TheVariants.{GoesOn, Answers}
+use Rattle.spin_world_core.specs.declared.object.Next.TheVariants.{Continue, Answers}
 use Rattle.spin_world_flag.specs.declared.flag.FlagCall.{FlagCall}
 use Rattle.spin_world_flag.specs.declared.flag.FlagCall.TheVariants.{Lock, TryLock, TryLockWeak, IsLocked, Release}
 use Rattle.spin_world_flag.specs.declared.flag.FlagPoint.{FlagPoint}
@@ -35,8 +35,8 @@ granted = Answers Granted (Some Write)
 
 -- the exchange of `Lock` is weak, and `Lock` looks until the flag is clear before the next one; only a set flag is cleared
 abbrev pub act_of : {V : Type 0} → FlagCall → FlagPoint → Option Hold → Act Bool FlagPoint (Answer V)
-act_of Lock First h = weak_exchange 0 lock (λ p. gets p to_write) granted (GoesOn Second)
-act_of Lock Second h = load_if is_set (λ n. GoesOn Second) (λ n. GoesOn First)
+act_of Lock First h = weak_exchange 0 lock (λ p. gets p to_write) granted (Continue Second)
+act_of Lock Second h = load_if is_set (λ n. Continue Second) (λ n. Continue First)
 act_of TryLock l h = exchange (swap 0 lock) (λ p. gets p to_write) granted (λ n. Answers Refused h)
 act_of TryLockWeak l h = weak_exchange 0 lock (λ p. gets p to_write) granted (Answers Refused h)
 act_of IsLocked l h = load (λ n. Answers (Is (is_set n)) h)

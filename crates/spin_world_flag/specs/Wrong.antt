@@ -1,7 +1,7 @@
 -- Flags that are wrong, each in one part of its machine, and schedules on which the laws refuse them.
 use Rattle.spin_world_core.specs.declared.place.Hold.TheVariants.{Read}
 use Rattle.std.specs.Prelude.{ℕ, Bool, true, false, Option, Some, None, List, [], ◌∷◌}
-use Rattle.spin_world_core.specs.declared.object.Next.TheVariants.{GoesOn, Answers}
+use Rattle.spin_world_core.specs.declared.object.Next.TheVariants.{Continue, Answers}
 use Rattle.spin_world_core.specs.declared.answer.Answer.{Answer}
 use Rattle.spin_world_core.specs.declared.answer.Answer.TheVariants.{Refused, Is, Granted}
 use Rattle.spin_world_flag.specs.declared.flag.FlagCall.{FlagCall}
@@ -24,7 +24,7 @@ abbrev pub looks_for_ever : {V : Type 0} → V → FlagMachine V
 looks_for_ever {V} v =
     let m : FlagMachine V = flag_machine v in
     record m {
-      step = λ w value c l h. elim l [ First ↦ m.step w value c First h | Second ↦ record { words = w; placed = None; next = GoesOn Second } ];
+      step = λ w value c l h. elim l [ First ↦ m.step w value c First h | Second ↦ record { words = w; placed = None; next = Continue Second } ];
     }
 
 -- one party locks the flag, the other finds it set, and two looks after the release find it clear
@@ -70,13 +70,13 @@ lock_alone = (0, Begin Lock) ∷ (0, Step) ∷ []
 
 -- a `lock` whose look may refuse without cause, as where it finds the flag set
 abbrev pub refuses_at_its_look : {V : Type 0} → V → FlagMachine V
-refuses_at_its_look {V} v = let m : FlagMachine V = flag_machine v in record m { refuse = λ c l h. elim l [ First ↦ m.refuse c First h | Second ↦ Some (GoesOn Second) ] }
+refuses_at_its_look {V} v = let m : FlagMachine V = flag_machine v in record m { refuse = λ c l h. elim l [ First ↦ m.refuse c First h | Second ↦ Some (Continue Second) ] }
 
 -- a `lock` that never looks
 abbrev pub never_looks : {V : Type 0} → V → FlagMachine V
 never_looks {V} v =
     let t : Table Bool V FlagCall FlagPoint (Answer V) = flag_table v in
-    machine_of (record t { act = λ c l h. elim c [ Lock ↦ weak_exchange 0 lock (λ p. gets p to_write) granted (GoesOn First) | TryLock ↦ t.act TryLock l h | TryLockWeak ↦ t.act TryLockWeak l h | IsLocked ↦ t.act IsLocked l h | Release ↦ t.act Release l h ] })
+    machine_of (record t { act = λ c l h. elim c [ Lock ↦ weak_exchange 0 lock (λ p. gets p to_write) granted (Continue First) | TryLock ↦ t.act TryLock l h | TryLockWeak ↦ t.act TryLockWeak l h | IsLocked ↦ t.act IsLocked l h | Release ↦ t.act Release l h ] })
 
 abbrev pub lock_beside_a_holder : {V : Type 0} → List (ℕ × Move FlagCall V)
 lock_beside_a_holder = (0, Begin TryLock) ∷ (0, Step) ∷ (1, Begin Lock) ∷ (1, Step) ∷ (1, Step) ∷ []

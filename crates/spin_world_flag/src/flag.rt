@@ -132,7 +132,7 @@ impl<V: Copy> Object for Flag<V> {
         holds: Option<Hold>,
     ) -> Option<Next<FlagPoint, Answer<V>>> {
         match (call, local) {
-            (FlagCall::Lock, FlagPoint::First) => Some(Next::GoesOn(FlagPoint::Second)),
+            (FlagCall::Lock, FlagPoint::First) => Some(Next::Continue(FlagPoint::Second)),
             (FlagCall::TryLockWeak, _) => Some(Next::Answers(Answer::Refused, holds)),
             _ => None,
         }
@@ -151,10 +151,13 @@ impl<V: Copy> Object for Flag<V> {
     {
         let _ = value;
         match (call, local) {
-            (FlagCall::Lock, FlagPoint::First) => exchange(words, Next::GoesOn(FlagPoint::Second)),
+            (FlagCall::Lock, FlagPoint::First) => exchange(
+                words,
+                Next::Continue(FlagPoint::Second),
+            ),
             (FlagCall::Lock, FlagPoint::Second) => Stepped::stay(
                 words,
-                Next::GoesOn(if words {
+                Next::Continue(if words {
                     FlagPoint::Second
                 } else {
                     FlagPoint::First

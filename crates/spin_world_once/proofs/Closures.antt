@@ -8,7 +8,7 @@ use Rattle.spin_world_core.specs.declared.place.Hold.{Hold}
 use Rattle.spin_world_core.specs.declared.place.Seat.{Seat}
 use Rattle.spin_world_core.specs.declared.place.Seat.TheVariants.{Calling}
 use Rattle.spin_world_core.specs.declared.object.Next.{Next}
-use Rattle.spin_world_core.specs.declared.object.Next.TheVariants.{GoesOn, Answers}
+use Rattle.spin_world_core.specs.declared.object.Next.TheVariants.{Continue, Answers}
 use Rattle.spin_world_core.specs.declared.object.Stepped.{Stepped}
 use Rattle.spin_world_core.specs.declared.schedule.Move.TheVariants.{Step}
 use Rattle.spin_world_core.specs.declared.schedule.Outcome.TheVariants as outcome
@@ -25,7 +25,7 @@ use Rattle.spin_world_once.specs.Once.{is_there, tells, runs, ends, OnceAct, ask
 use Rattle.spin_world_once.specs.Keeping.{Entries, once_after, RunsClosure, seen_at, has_just_looked, has_closure, MayRunAgain, LooksFirst}
 use Rattle.spin_world_core.proofs.Lists.{get-set_same}
 use Rattle.spin_world_core.proofs.Schedules.{after-append}
-use Rattle.spin_world_core.proofs.Kept.{Invariant, in_call}
+use Rattle.spin_world_core.proofs.Preserved.{Invariant, in_call}
 use Rattle.spin_world_once.proofs.Owed.{once_keeping}
 use Rattle.spin_world_once.proofs.Keeping.{OnceState, good, not_at_run, run_here}
 
@@ -34,12 +34,12 @@ module _ {V : Type 0} (value : Option V) where
   m = once_machine value
 
   -- a step that goes on
-  went_to : (s : OnceState V) (p : ℕ) (c : OnceCall V) (h : Option Hold) (st : Stepped ℕ V OncePoint (Answer V)) (l : OncePoint) (y : Seat (OnceCall V) OncePoint) → slice_get s.seats p ≡ Some y → st.next ≡ GoesOn l
+  went_to : (s : OnceState V) (p : ℕ) (c : OnceCall V) (h : Option Hold) (st : Stepped ℕ V OncePoint (Answer V)) (l : OncePoint) (y : Seat (OnceCall V) OncePoint) → slice_get s.seats p ≡ Some y → st.next ≡ Continue l
       → slice_get (stepped s p c h st).next.seats p ≡ Some (Calling c l h)
   went_to s p c h st l y at e = ap (λ next. slice_get (goes_on (record s { words = st.words; value = placed st.placed s.value }) p c h next).next.seats p) e ∙ get-set_same s.seats p (Calling c l h) y at
 
   words-goes_on : (s : OnceState V) (p : ℕ) (c : OnceCall V) (h : Option Hold) (next : Next OncePoint (Answer V)) → (goes_on s p c h next).next.words ≡ s.words
-  words-goes_on s p c h (GoesOn l) = refl
+  words-goes_on s p c h (Continue l) = refl
   words-goes_on s p c h (Answers a after) = refl
 
   -- how a call goes on that doesn't answer that its closure has failed
@@ -63,15 +63,15 @@ module _ {V : Type 0} (value : Option V) where
   unplaced s = record s { words = s.words; value = placed None s.value }
 
   begins_or_not : (s : OnceState V) (p : ℕ) (c : OnceCall V) (h : Option Hold) (made : Option V) (o : Option ℕ)
-      → Clears s p c h (step_with s.value made false (becomes (λ (k : ℕ). k) s.words o (GoesOn Run) (either (is_there s.words) (tells h) (GoesOn Await))))
-  begins_or_not s p c h made None = λ e. absurd (told (unplaced s) p c h s.value (is_there s.words) (GoesOn Await) (λ f. cc (f)) e)
+      → Clears s p c h (step_with s.value made false (becomes (λ (k : ℕ). k) s.words o (Continue Run) (either (is_there s.words) (tells h) (Continue Await))))
+  begins_or_not s p c h made None = λ e. absurd (told (unplaced s) p c h s.value (is_there s.words) (Continue Await) (λ f. cc (f)) e)
   begins_or_not s p c h made (Some to) = λ e. absurd (cc (e))
 
   run_clears : (s : OnceState V) (p : ℕ) (c : OnceCall V) (end : OnceAct) (made : Option V) (l : OncePoint) (h : Option Hold) → Clears s p c h (step_with s.value made (completes_by end) (step_by one_number 0 end s.words))
       → Clears s p c h (step_with s.value made (completes_by (runs end l h)) (step_by one_number 0 (runs end l h) s.words))
-  run_clears s p c end made Look h ended = λ e. absurd (told (unplaced s) p c h s.value (is_there s.words) (GoesOn TryBegin) (λ f. cc (f)) e)
+  run_clears s p c end made Look h ended = λ e. absurd (told (unplaced s) p c h s.value (is_there s.words) (Continue TryBegin) (λ f. cc (f)) e)
   run_clears s p c end made TryBegin h ended = begins_or_not s p c h made (begun s.words)
-  run_clears s p c end made Await h ended = λ e. absurd (told (unplaced s) p c h s.value (is_there s.words) _ (waited (unplaced s) p c h s.value (s.words == 0) (GoesOn TryBegin) (GoesOn Await) (λ f. cc (f)) (λ f. cc (f))) e)
+  run_clears s p c end made Await h ended = λ e. absurd (told (unplaced s) p c h s.value (is_there s.words) _ (waited (unplaced s) p c h s.value (s.words == 0) (Continue TryBegin) (Continue Await) (λ f. cc (f)) (λ f. cc (f))) e)
   run_clears s p c end made Run h ended = ended
 
   clears_at : (s : OnceState V) (p : ℕ) (c : OnceCall V) (l : OncePoint) (h : Option Hold) → Clears s p c h (m.step s.words s.value c l h)
@@ -79,8 +79,8 @@ module _ {V : Type 0} (value : Option V) where
   clears_at s p (TryCallOnceOk x) l h = run_clears s p (TryCallOnceOk x) (ends (Some x) h) (Some x) l h (λ e. absurd (cc (e)))
   clears_at s p TryCallOnceErr l h = run_clears s p TryCallOnceErr (ends {V = V} None h) None l h (λ e. refl)
   clears_at s p (InitFromRef x) l h = run_clears s p (InitFromRef x) (ends (Some x) h) (Some x) l h (λ e. absurd (cc (e)))
-  clears_at s p Wait l h = λ e. absurd (told (unplaced s) p Wait h s.value (is_there s.words) (GoesOn Look) (λ f. cc (f)) e)
-  clears_at s p Poll l h = λ e. absurd (told (unplaced s) p Poll h s.value (is_there s.words) _ (waited (unplaced s) p Poll h s.value (s.words == 0) (Answers NoValue h) (GoesOn Look) (λ f. cc (f)) (λ f. cc (f))) e)
+  clears_at s p Wait l h = λ e. absurd (told (unplaced s) p Wait h s.value (is_there s.words) (Continue Look) (λ f. cc (f)) e)
+  clears_at s p Poll l h = λ e. absurd (told (unplaced s) p Poll h s.value (is_there s.words) _ (waited (unplaced s) p Poll h s.value (s.words == 0) (Answers NoValue h) (Continue Look) (λ f. cc (f)) (λ f. cc (f))) e)
   clears_at s p Get l h = λ e. absurd (told (unplaced s) p Get h s.value (is_there s.words) (Answers NoValue h) (λ f. cc (f)) e)
   clears_at s p IsCompleted l h = λ e. absurd (cc (e))
 
@@ -96,11 +96,11 @@ module _ {V : Type 0} (value : Option V) where
   next_point TryBegin = Run
   next_point Run = Run
 
-  run_on : (end : OnceAct) (made v : Option V) (l : OncePoint) (h : Option Hold) → (l ≡ Run → ⊥) → (step_with v made (completes_by (runs end l h)) (step_by one_number 0 (runs end l h) 0)).next ≡ GoesOn (next_point l)
+  run_on : (end : OnceAct) (made v : Option V) (l : OncePoint) (h : Option Hold) → (l ≡ Run → ⊥) → (step_with v made (completes_by (runs end l h)) (step_by one_number 0 (runs end l h) 0)).next ≡ Continue (next_point l)
   run_on end made v Run h not = absurd (not refl)
   run_on end made v _ h not = refl
 
-  on_at : (c : OnceCall V) (v : Option V) (l : OncePoint) (h : Option Hold) → has_closure (asks_of c) ≡ true → (l ≡ Run → ⊥) → (m.step 0 v c l h).next ≡ GoesOn (next_point l)
+  on_at : (c : OnceCall V) (v : Option V) (l : OncePoint) (h : Option Hold) → has_closure (asks_of c) ≡ true → (l ≡ Run → ⊥) → (m.step 0 v c l h).next ≡ Continue (next_point l)
   on_at (CallOnce x) v l h closure not = run_on (ends (Some x) h) (Some x) v l h not
   on_at (TryCallOnceOk x) v l h closure not = run_on (ends (Some x) h) (Some x) v l h not
   on_at TryCallOnceErr v l h closure not = run_on (ends {V = V} None h) None v l h not

@@ -28,7 +28,7 @@ use Rattle.spin_world_once.specs.Once.{runs, ends, OnceAct, asks_of, brings_of, 
 use Rattle.spin_world_once.specs.Keeping.{Entries, once_after, seen_at, keeps_value, is_shared, ValueStays, RunsClosure, answer_of, OneRuns, wants_value, has_closure, AnswersAtOnce, GetAgrees}
 use Rattle.spin_world_core.proofs.Schedules.{after-append}
 use Rattle.spin_world_core.proofs.Facts.{InCall}
-use Rattle.spin_world_core.proofs.Kept.{Invariant, in_call}
+use Rattle.spin_world_core.proofs.Preserved.{Invariant, in_call}
 use Rattle.spin_world_core.proofs.Every.{kept, good_first, good_after, state-seen_after}
 use Rattle.spin_world_core.proofs.Paid.{uncompleted}
 use Rattle.spin_world_core.proofs.Values as values
@@ -102,7 +102,7 @@ module _ {V : Type 0} (value : Option V) where
   answered_by : (s : OnceState V) (p : ℕ) (c : OnceCall V) (h : Option Hold) (st : Stepped ℕ V OncePoint (Answer V)) (a : Answer V) → st.next ≡ Answers a h → (stepped s p c h st).outcome ≡ outcome.Answered a None
   answered_by s p c h st a e = ap (λ next. (goes_on (record s { words = st.words; value = placed st.placed s.value }) p c h next).outcome) e
 
-  -- who stands at the end of a closure runs it, and nobody else does
+  -- a party that stands at the end of a closure runs it, and nobody else does
 
   runs_at : (c : OnceCall V) (h : Option Hold) (p : ℕ) (s : Plain) (span : List Mark) → (once_keeping value).Knows c Run h p s span → (own p span ≡ gets p to_begin ∷ []) × (s.phase ≡ running p)
   runs_at (CallOnce v) None p s span knows = (knows.0.made, knows.1)

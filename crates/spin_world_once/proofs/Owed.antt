@@ -10,12 +10,12 @@ use Rattle.spin_world_core.specs.declared.answer.Answer.{Answer}
 use Rattle.spin_world_core.specs.declared.answer.Answer.TheVariants.{NoValue}
 use Rattle.spin_world_core.specs.declared.place.Hold.{Hold}
 use Rattle.spin_world_core.specs.declared.object.Next.{Next}
-use Rattle.spin_world_core.specs.declared.object.Next.TheVariants.{GoesOn, Answers}
+use Rattle.spin_world_core.specs.declared.object.Next.TheVariants.{Continue, Answers}
 use Rattle.spin_world_once.specs.declared.once.OnceCall.{OnceCall}
 use Rattle.spin_world_once.specs.declared.once.OnceCall.TheVariants.{CallOnce, TryCallOnceOk, TryCallOnceErr, InitFromRef, Wait, Poll, Get, IsCompleted}
 use Rattle.spin_world_once.specs.declared.once.OncePoint.{OncePoint}
 use Rattle.spin_world_once.specs.declared.once.OncePoint.TheVariants.{Look, TryBegin, Await, Run}
-use Rattle.spin_world_core.specs.Manners.{Manner, plain, look, is_look}
+use Rattle.spin_world_core.specs.StepKinds.{StepKind, plain, look, is_look}
 use Rattle.spin_world_core.specs.Calls.{Asked, looks, initializes, fails_to_initialize, Mark, Said, gives_value, failed, may_be_weak}
 use Rattle.spin_world_once.specs.Kind.{once}
 use Rattle.spin_world_core.specs.Acts.{one_number, Act, either, becomes, made_if, begin_of}
@@ -104,9 +104,9 @@ module _ {V : Type 0} (value : Option V) where
   gives_owes : (p : ℕ) (x : V) (l : OncePoint) (h : Option Hold) (s : Plain) (w : ℕ) (span : List Mark) → OwesAt (once_table value) (once_notes value) p (CallOnce x) l h s w span
   gives_owes p x Look None s w span = λ at. ((λ e. (refl, inr (inl refl), inl (inl (made p at e)))), (λ e. (refl, refl, tt, tt, looks_now p s span)))
   gives_owes p x TryBegin None s w span = λ at.
-      (begin_means p at, (refl, refl, tt, tt, refl), λ closed. branches p at None plain (misses (gets p to_begin)) (is_there w) (tells None) (GoesOn Await) (λ e. (refl, inr (inl refl), inl (inl (made p at e)))) (λ e. (refl, refl, tt, tt, tt)))
+      (begin_means p at, (refl, refl, tt, tt, refl), λ closed. branches p at None plain (misses (gets p to_begin)) (is_there w) (tells None) (Continue Await) (λ e. (refl, inr (inl refl), inl (inl (made p at e)))) (λ e. (refl, refl, tt, tt, tt)))
   gives_owes p x Await None s w span = λ at.
-      ((λ e. (refl, inr (inl refl), inl (inl (made p at e)))), (λ e. branches p at None look goes (w == 0) (GoesOn TryBegin) (GoesOn Await) (λ f. (refl, refl, tt, tt, looks_now p s span)) (λ f. (refl, refl, tt, tt, tt))))
+      ((λ e. (refl, inr (inl refl), inl (inl (made p at e)))), (λ e. branches p at None look goes (w == 0) (Continue TryBegin) (Continue Await) (λ f. (refl, refl, tt, tt, looks_now p s span)) (λ f. (refl, refl, tt, tt, tt))))
   gives_owes p x Run None s w span = λ at. let is = end_means p at 2 (completes p) at.knows (refl, may_end p at at.knows) refl at.shape in (is.0, is.1, (refl, inl refl, inl (inr (refl, refl))))
   gives_owes p x _ (Some h) s w span = tt
 
@@ -116,14 +116,14 @@ module _ {V : Type 0} (value : Option V) where
   owes p (InitFromRef x) l h s w span = gives_owes p x l h s w span
   owes p TryCallOnceErr Look None s w span = λ at. ((λ e. (refl, inl refl, inl (inl (made p at e)))), (λ e. (refl, refl, tt, tt, looks_now p s span)))
   owes p TryCallOnceErr TryBegin None s w span = λ at.
-      (begin_means p at, (refl, refl, tt, tt, refl), λ closed. branches p at None plain (misses (gets p to_begin)) (is_there w) (tells None) (GoesOn Await) (λ e. (refl, inl refl, inl (inl (made p at e)))) (λ e. (refl, refl, tt, tt, tt)))
+      (begin_means p at, (refl, refl, tt, tt, refl), λ closed. branches p at None plain (misses (gets p to_begin)) (is_there w) (tells None) (Continue Await) (λ e. (refl, inl refl, inl (inl (made p at e)))) (λ e. (refl, refl, tt, tt, tt)))
   owes p TryCallOnceErr Await None s w span = λ at.
-      ((λ e. (refl, inl refl, inl (inl (made p at e)))), (λ e. branches p at None look goes (w == 0) (GoesOn TryBegin) (GoesOn Await) (λ f. (refl, refl, tt, tt, looks_now p s span)) (λ f. (refl, refl, tt, tt, tt))))
+      ((λ e. (refl, inl refl, inl (inl (made p at e)))), (λ e. branches p at None look goes (w == 0) (Continue TryBegin) (Continue Await) (λ f. (refl, refl, tt, tt, looks_now p s span)) (λ f. (refl, refl, tt, tt, tt))))
   owes p TryCallOnceErr Run None s w span = λ at. let is = end_means p at 0 (fails p) at.knows (refl, may_end p at at.knows) refl at.shape in (is.0, is.1, (refl, inl refl, inl (refl, refl)))
   owes p Wait Look None s w span = λ at. ((λ e. (refl, inl refl, inl (inl (made p at e)))), (λ e. (refl, refl, tt, tt, tt)))
   owes p Poll Look None s w span = λ at. (
     (λ e. (refl, inl refl, inl (inl (made p at e)))),
-    (λ e. branches p at None look goes (w == 0) (Answers NoValue None) (GoesOn Look) (λ f. (refl, inl refl, inl (nothing-word s.phase w (word p at) ∙ f))) (λ f. (refl, refl, tt, tt, tt))),
+    (λ e. branches p at None look goes (w == 0) (Answers NoValue None) (Continue Look) (λ f. (refl, inl refl, inl (nothing-word s.phase w (word p at) ∙ f))) (λ f. (refl, refl, tt, tt, tt))),
   )
   owes p Get Look None s w span = λ at. ((λ e. (refl, inl refl, inl (inl (made p at e)))), (λ e. (refl, inl refl, inl (complete-word s.phase w (word p at) ∙ e))))
   owes p IsCompleted Look None s w span = λ at. (refl, inl refl, inl (complete-word s.phase w (word p at)))
@@ -136,20 +136,20 @@ module _ {V : Type 0} (value : Option V) where
   tells_if phase false h y there other = other
 
   tells_begin : (s : Plain) (p w : ℕ) (b : Bool) (h : Option Hold) → (is_there w ≡ true → is_complete s.phase ≡ true)
-      → TellsOf (apply_some s (made_if {X = ℕ} (if b then Some 1 else None) (gets p to_begin))).phase (becomes {V = V} (λ (k : ℕ). k) w (if b then Some 1 else None) (GoesOn Run) (either (is_there w) (tells h) (GoesOn Await))).next
+      → TellsOf (apply_some s (made_if {X = ℕ} (if b then Some 1 else None) (gets p to_begin))).phase (becomes {V = V} (λ (k : ℕ). k) w (if b then Some 1 else None) (Continue Run) (either (is_there w) (tells h) (Continue Await))).next
   tells_begin s p w true h there = tt
-  tells_begin s p w false h there = tells_if s.phase (is_there w) h (GoesOn Await) there tt
+  tells_begin s p w false h there = tells_if s.phase (is_there w) h (Continue Await) there tt
 
-  tells_await : (phase : Phase) (b : Bool) → TellsOf phase (either b (GoesOn TryBegin) (GoesOn Await))
+  tells_await : (phase : Phase) (b : Bool) → TellsOf phase (either b (Continue TryBegin) (Continue Await))
   tells_await phase true = tt
   tells_await phase false = tt
 
-  tells_poll : (phase : Phase) (b : Bool) (h : Option Hold) → TellsOf phase (either b (Answers NoValue h) (GoesOn Look))
+  tells_poll : (phase : Phase) (b : Bool) (h : Option Hold) → TellsOf phase (either b (Answers NoValue h) (Continue Look))
   tells_poll phase true h = tt
   tells_poll phase false h = tt
 
   runs_tell : (end : Act ℕ OncePoint (Answer (Unit {0}))) (l : OncePoint) (h : Option Hold) (p : ℕ) (s : Plain) (w : ℕ) → w ∷ [] ≡ once_word s ∷ [] → TellsBy V one_number 0 end p s w → TellsBy V one_number 0 (runs end l h) p s w
-  runs_tell end Look h p s w e ended = tells_if s.phase (is_there w) h (GoesOn TryBegin) (is_made s w e) tt
+  runs_tell end Look h p s w e ended = tells_if s.phase (is_there w) h (Continue TryBegin) (is_made s w e) tt
   runs_tell end TryBegin h p s w e ended = tells_begin s p w (w == 0) h (is_made s w e)
   runs_tell end Await h p s w e ended = tells_if s.phase (is_there w) h _ (is_made s w e) (tells_await s.phase (w == 0))
   runs_tell end Run h p s w e ended = ended
@@ -159,7 +159,7 @@ module _ {V : Type 0} (value : Option V) where
   tells_at p (TryCallOnceOk x) l h s w e = runs_tell (ends (Some x) h) l h p s w e refl
   tells_at p TryCallOnceErr l h s w e = runs_tell (ends {V = V} None h) l h p s w e tt
   tells_at p (InitFromRef x) l h s w e = runs_tell (ends (Some x) h) l h p s w e refl
-  tells_at p Wait l h s w e = tells_if s.phase (is_there w) h (GoesOn Look) (is_made s w e) tt
+  tells_at p Wait l h s w e = tells_if s.phase (is_there w) h (Continue Look) (is_made s w e) tt
   tells_at p Poll l h s w e = tells_if s.phase (is_there w) h _ (is_made s w e) (tells_poll s.phase (w == 0) h)
   tells_at p Get l h s w e = tells_if s.phase (is_there w) h (Answers NoValue h) (is_made s w e) tt
   tells_at p IsCompleted l h s w e = tt
@@ -250,7 +250,7 @@ module _ {V : Type 0} (value : Option V) where
   sound p IsCompleted Look None = refl
   sound p _ _ _ = tt
 
-  module _ (p q : ℕ) (s : Plain) (step : Option Change) (r : Manner) (span : List Mark) (ne : q ≡ p → ⊥) (may : IsOpenStep s q step) where
+  module _ (p q : ℕ) (s : Plain) (step : Option Change) (r : StepKind) (span : List Mark) (ne : q ≡ p → ⊥) (may : IsOpenStep s q step) where
     runs-on : (l : OncePoint) → RunsAt l p s span → RunsAt l p (apply_some s step) (mark_of q step r s ∷ span)
     runs-on TryBegin has = ap (λ b. if b then is_look r else has_just_looked p span) (ne_eqb q p ne) ∙ has
     runs-on Run runs = runs-others s p q step ne may runs

@@ -6,7 +6,7 @@ use Rattle.spin_world_core.specs.declared.answer.Answer.{Answer}
 use Rattle.spin_world_core.specs.declared.answer.Answer.TheVariants.{NoValue}
 use Rattle.spin_world_core.specs.declared.place.Hold.{Hold}
 use Rattle.spin_world_core.specs.declared.object.Next.{Next}
-use Rattle.spin_world_core.specs.declared.object.Next.TheVariants.{GoesOn, Answers}
+use Rattle.spin_world_core.specs.declared.object.Next.TheVariants.{Continue, Answers}
 use Rattle.spin_world_core.specs.declared.object.Stepped.{Stepped}
 use Rattle.spin_world_core.specs.Acts.{one_number, either, becomes, filled, step_by, completes_by, step_with}
 use Rattle.spin_world_once.specs.declared.once.OnceCall.{OnceCall}
@@ -36,16 +36,16 @@ module _ {V : Type 0} (u v : Option V) where
   stayed w same = ap (staying w) same
 
   tried : (made : Option V) (w : ℕ) (o : Option ℕ) (h : Option Hold) → is_there w ≡ false
-      → step_with u made false (becomes (λ (k : ℕ). k) w o (GoesOn Run) (either (is_there w) (tells h) (GoesOn Await))) ≡ step_with v made false (becomes (λ (k : ℕ). k) w o (GoesOn Run) (either (is_there w) (tells h) (GoesOn Await)))
-  tried made w None h closed = stayed w (unread (is_there w) h (GoesOn Await) closed refl)
+      → step_with u made false (becomes (λ (k : ℕ). k) w o (Continue Run) (either (is_there w) (tells h) (Continue Await))) ≡ step_with v made false (becomes (λ (k : ℕ). k) w o (Continue Run) (either (is_there w) (tells h) (Continue Await)))
+  tried made w None h closed = stayed w (unread (is_there w) h (Continue Await) closed refl)
   tried made w (Some to) h closed = refl
 
   run_unread : (end : OnceAct) (made : Option V) (l : OncePoint) (h : Option Hold) (w : ℕ) → is_there w ≡ false
       → step_with u made (completes_by end) (step_by one_number 0 end w) ≡ step_with v made (completes_by end) (step_by one_number 0 end w)
       → step_with u made (completes_by (runs end l h)) (step_by one_number 0 (runs end l h) w) ≡ step_with v made (completes_by (runs end l h)) (step_by one_number 0 (runs end l h) w)
-  run_unread end made Look h w closed ended = stayed w (unread (is_there w) h (GoesOn TryBegin) closed refl)
+  run_unread end made Look h w closed ended = stayed w (unread (is_there w) h (Continue TryBegin) closed refl)
   run_unread end made TryBegin h w closed ended = tried made w (begun w) h closed
-  run_unread end made Await h w closed ended = stayed w (unread (is_there w) h _ closed (branch (w == 0) (GoesOn TryBegin) (GoesOn Await) refl refl))
+  run_unread end made Await h w closed ended = stayed w (unread (is_there w) h _ closed (branch (w == 0) (Continue TryBegin) (Continue Await) refl refl))
   run_unread end made Run h w closed ended = ended
 
 pub looks_where_complete : {V : Type 0} (value : Option V) → LooksWhereComplete (once_machine value)
@@ -56,7 +56,7 @@ looks_where_complete {V} value = λ w u v c l h other. at w u v c l h (ne_eqb w 
     at w u v (TryCallOnceOk x) l h closed = run_unread u v (ends (Some x) h) (Some x) l h w closed refl
     at w u v TryCallOnceErr l h closed = run_unread u v (ends {V = V} None h) None l h w closed refl
     at w u v (InitFromRef x) l h closed = run_unread u v (ends (Some x) h) (Some x) l h w closed refl
-    at w u v Wait l h closed = stayed u v w (unread u v (is_there w) h (GoesOn Look) closed refl)
-    at w u v Poll l h closed = stayed u v w (unread u v (is_there w) h _ closed (branch u v (w == 0) (Answers NoValue h) (GoesOn Look) refl refl))
+    at w u v Wait l h closed = stayed u v w (unread u v (is_there w) h (Continue Look) closed refl)
+    at w u v Poll l h closed = stayed u v w (unread u v (is_there w) h _ closed (branch u v (w == 0) (Answers NoValue h) (Continue Look) refl refl))
     at w u v Get l h closed = stayed u v w (unread u v (is_there w) h (Answers NoValue h) closed refl)
     at w u v IsCompleted l h closed = refl

@@ -12,7 +12,7 @@ use Rattle.spin_world_once.specs.declared.once.OnceCall.{OnceCall}
 use Rattle.spin_world_once.specs.declared.once.OnceCall.TheVariants.{Get}
 use Rattle.spin_world_once.specs.declared.once.OncePoint.{OncePoint}
 use Rattle.spin_world_core.specs.Calls.{Mark, Asked, initializes, fails_to_initialize, waits_for_value, polls, looks_for_value}
-use Rattle.spin_world_core.specs.Manners.{is_look}
+use Rattle.spin_world_core.specs.StepKinds.{is_look}
 use Rattle.spin_world_core.specs.Schedules.{State, after, at_first}
 use Rattle.spin_world_core.specs.Runs.{Seen, scene, opening, own}
 use Rattle.spin_world_core.specs.Users.{seen_after, outcome_after}
@@ -99,7 +99,7 @@ pub record MayRunAgain {V : Type 0} (m : OnceMachine V) (n : ℕ) (past : Entrie
 -- the last step of the party's call, if it has made one, was a look
 abbrev pub has_just_looked : ℕ → List Mark → Bool
 has_just_looked p [] = false
-has_just_looked p (m ∷ ms) = if m.party == p then is_look m.manner else has_just_looked p ms
+has_just_looked p (m ∷ ms) = if m.party == p then is_look m.step_kind else has_just_looked p ms
 
 -- a call begins to run its closure only by the step after a look
 abbrev pub LooksFirst : {V : Type 0} → OnceMachine V → ℕ → Entries V → Type 0

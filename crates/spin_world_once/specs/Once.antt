@@ -4,7 +4,7 @@ use Rattle.spin_step.specs.Plain.{to_begin, gets, completes, fails}
 use Rattle.spin_step.specs.Flags.{begun, completed, failed}
 use Rattle.spin_world_core.specs.declared.place.Hold.{Hold}
 use Rattle.spin_world_core.specs.declared.object.Next.{Next}
-use Rattle.spin_world_core.specs.declared.object.Next.TheVariants.{GoesOn, Answers}
+use Rattle.spin_world_core.specs.declared.object.Next.TheVariants.{Continue, Answers}
 use Rattle.spin_world_core.specs.declared.answer.Answer.{Answer}
 use Rattle.spin_world_core.specs.declared.answer.Answer.TheVariants.{Is, Value, NoValue, Failed}
 use Rattle.spin_world_once.specs.declared.once.OnceCall.{OnceCall}
@@ -30,9 +30,9 @@ OnceAct = Act ℕ OncePoint (Answer (Unit {0}))
 
 -- a call with a closure looks, begins where there is nothing, and waits while another one runs
 abbrev pub runs : OnceAct → OncePoint → Option Hold → OnceAct
-runs end Look h = load_if is_there (λ w. tells h) (λ w. GoesOn TryBegin)
-runs end TryBegin h = exchange (swap 0 begun) (λ p. gets p to_begin) (GoesOn Run) (λ w. either (is_there w) (tells h) (GoesOn Await))
-runs end Await h = load_if is_there (λ w. tells h) (λ w. either (w == 0) (GoesOn TryBegin) (GoesOn Await))
+runs end Look h = load_if is_there (λ w. tells h) (λ w. Continue TryBegin)
+runs end TryBegin h = exchange (swap 0 begun) (λ p. gets p to_begin) (Continue Run) (λ w. either (is_there w) (tells h) (Continue Await))
+runs end Await h = load_if is_there (λ w. tells h) (λ w. either (w == 0) (Continue TryBegin) (Continue Await))
 runs end Run h = end
 
 -- the end of its closure, which gives a value that is placed in the same step, or fails
@@ -52,8 +52,8 @@ act_of (CallOnce v) l h = runs (ends (Some v) h) l h
 act_of (TryCallOnceOk v) l h = runs (ends (Some v) h) l h
 act_of {V = V} TryCallOnceErr l h = runs (ends {V = V} None h) l h
 act_of (InitFromRef v) l h = runs (ends (Some v) h) l h
-act_of Wait l h = load_if is_there (λ w. tells h) (λ w. GoesOn Look)
-act_of Poll l h = load_if is_there (λ w. tells h) (λ w. either (w == 0) (Answers NoValue h) (GoesOn Look))
+act_of Wait l h = load_if is_there (λ w. tells h) (λ w. Continue Look)
+act_of Poll l h = load_if is_there (λ w. tells h) (λ w. either (w == 0) (Answers NoValue h) (Continue Look))
 act_of Get l h = load_if is_there (λ w. tells h) (λ w. Answers NoValue h)
 act_of IsCompleted l h = load (λ w. Answers (Is (is_there w)) h)
 

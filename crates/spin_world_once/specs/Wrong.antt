@@ -1,7 +1,7 @@
 -- Cells that are wrong, each in one part of its machine, and schedules on which the laws refuse them.
 use Rattle.std.specs.Prelude.{ℕ, Option, Some, None, [], ◌∷◌, ◌==◌, if◌then◌else◌}
 use Rattle.spin_world_core.specs.declared.place.Hold.{Hold}
-use Rattle.spin_world_core.specs.declared.object.Next.TheVariants.{GoesOn, Answers}
+use Rattle.spin_world_core.specs.declared.object.Next.TheVariants.{Continue, Answers}
 use Rattle.spin_world_core.specs.declared.object.Stepped.{Stepped}
 use Rattle.spin_world_core.specs.declared.answer.Answer.{Answer}
 use Rattle.spin_world_core.specs.declared.answer.Answer.TheVariants.{Value, NoValue, Failed}
@@ -99,7 +99,7 @@ one_closure u = (0, Begin (CallOnce u)) ∷ (0, Step) ∷ (0, Step) ∷ (0, Step
 
 -- a closure that never ends
 abbrev running_on : {V : Type 0} → OnceMachine V → Steps V
-running_on m w value (CallOnce v) Run h = record { words = w; placed = None; next = GoesOn Run }
+running_on m w value (CallOnce v) Run h = record { words = w; placed = None; next = Continue Run }
 running_on m w value c l h = m.step w value c l h
 
 abbrev unended : {V : Type 0} → OnceMachine V → ℕ → ℕ → OnceCall V → OncePoint → Option Hold → Option Change
@@ -114,7 +114,7 @@ six_steps v = (0, Begin (CallOnce v)) ∷ (0, Step) ∷ (0, Step) ∷ (0, Step) 
 
 -- a `wait` that looks once more before it answers
 abbrev waiting : {V : Type 0} → OnceMachine V → Steps V
-waiting m w value Wait Look h = record { words = w; placed = None; next = GoesOn Await }
+waiting m w value Wait Look h = record { words = w; placed = None; next = Continue Await }
 waiting m w value c l h = m.step w value c l h
 
 abbrev pub waits_idly : {V : Type 0} → V → OnceMachine V
@@ -160,7 +160,7 @@ one_call v = (0, Begin (CallOnce v)) ∷ []
 
 -- an exchange that may lose without cause
 abbrev losing : {V : Type 0} → OnceCall V → OncePoint → Option Hold → Option (Next OncePoint (Answer V))
-losing (CallOnce v) TryBegin h = Some (GoesOn Await)
+losing (CallOnce v) TryBegin h = Some (Continue Await)
 losing c l h = None
 
 abbrev pub loses_by_chance : (V : Type 0) → OnceMachine V
@@ -175,7 +175,7 @@ opens_at_nothing {V} v = let m : OnceMachine V = once_machine (Some v) in record
 
 -- a call that waits for a closure and finds nothing looks once more before it begins
 abbrev hesitating : {V : Type 0} → OnceMachine V → Steps V
-hesitating m w value (CallOnce v) Await h = if w == 0 then record { words = w; placed = None; next = GoesOn Look } else m.step w value (CallOnce v) Await h
+hesitating m w value (CallOnce v) Await h = if w == 0 then record { words = w; placed = None; next = Continue Look } else m.step w value (CallOnce v) Await h
 hesitating m w value c l h = m.step w value c l h
 
 abbrev pub hesitates : (V : Type 0) → OnceMachine V

@@ -147,18 +147,18 @@ fn run<V: Copy>(
 {
     match local {
         OncePoint::Look => {
-            let other = Next::GoesOn(OncePoint::TryBegin);
+            let other = Next::Continue(OncePoint::TryBegin);
             Stepped::stay(words, look(words, value, holds, other))
         }
         OncePoint::TryBegin => match once::begin(words) {
-            Some(running) => Stepped::stay(running, Next::GoesOn(OncePoint::Run)),
+            Some(running) => Stepped::stay(running, Next::Continue(OncePoint::Run)),
             None => {
-                let other = Next::GoesOn(OncePoint::Await);
+                let other = Next::Continue(OncePoint::Await);
                 Stepped::stay(words, look(words, value, holds, other))
             }
         },
         OncePoint::Await => {
-            let other = Next::GoesOn(if words == 0 {
+            let other = Next::Continue(if words == 0 {
                 OncePoint::TryBegin
             } else {
                 OncePoint::Await
@@ -240,13 +240,13 @@ impl<V: Copy> Object for OnceObject<V> {
             OnceCall::TryCallOnceErr => run(words, value, None, local, holds),
             OnceCall::Wait => Stepped::stay(
                 words,
-                look(words, value, holds, Next::GoesOn(OncePoint::Look)),
+                look(words, value, holds, Next::Continue(OncePoint::Look)),
             ),
             OnceCall::Poll => {
                 let other = if words == 0 {
                     Next::Answers(Answer::NoValue, holds)
                 } else {
-                    Next::GoesOn(OncePoint::Look)
+                    Next::Continue(OncePoint::Look)
                 };
                 Stepped::stay(words, look(words, value, holds, other))
             }

@@ -3,7 +3,7 @@ use Rattle.std.proofs.Common.{◌≡◌, ℕ, ◌+◌, ◌/◌, ◌≤◌, ◌==
 use Rattle.std.specs.Prelude.{min, max}
 use Rattle.std.proofs.lemmas.Bool.{lt-ltb, eqb-true, true≢false}
 use Rattle.spin_step.specs.Plain.{Plain, Kind, reading, upgradable, asking, writing, weight, Holder, holder, to_read, to_read_upgradable, to_write, to_upgrade, to_upgrade_asked, Change, gets, releases, turns, apply, is_open, may_come, is_empty, is_holder, is_only, may_turn, without_holder, with_kind, rw_word}
-use Rattle.spin_step.specs.Parties.{Entries, entries, who, IsExclusive}
+use Rattle.spin_step.specs.Parties.{Entries, entries, party_of, IsExclusive}
 use Rattle.spin_step.specs.Steps.{Decides}
 use Rattle.spin_step.specs.Readers.{reader_limit, tells, has_room, read, read_upgradable, write, upgrade, upgrade_asked, released, turned as turned_to}
 use Rattle.spin_step.proofs.Holders.{is_holder-from_entries, is_holder-own, length-without_holder}
@@ -14,7 +14,7 @@ use Rattle.spin_step.proofs.ReaderSteps.{rw_read-grants, rw_upgradable-grants, r
 use Rattle.spin_world_core.specs.declared.answer.Answer.{Answer}
 use Rattle.spin_world_core.specs.declared.place.Hold.{Hold}
 use Rattle.spin_world_core.specs.declared.place.Hold.TheVariants as hold
-use Rattle.spin_world_core.specs.declared.object.Next.TheVariants.{GoesOn}
+use Rattle.spin_world_core.specs.declared.object.Next.TheVariants.{Continue}
 use Rattle.spin_world_rw.specs.declared.rw.RwCall.{RwCall}
 use Rattle.spin_world_rw.specs.declared.rw.RwCall.TheVariants.{TryRead, Read, TryUpgradeableRead, UpgradeableRead, TryWrite, TryWriteWeak, Write, ReaderCount, WriterCount, TryUpgrade, TryUpgradeWeak, Upgrade, Downgrade, DowngradeToUpgradeable, Release}
 use Rattle.spin_world_rw.specs.declared.rw.RwPoint.{RwPoint}
@@ -58,7 +58,7 @@ rw_notes v cap = record { Shape = λ s. Within cap s; point = point_of v cap; Kn
 pub holder_by : (p : ℕ) (k : Kind) (s : Plain) → entries p s ≡ entries_at p (holds k) → is_holder p k s.holders ≡ true
 holder_by p k s mine = is_holder-from_entries p k s.holders (ap (λ (e : Entries). e.holders) mine)
 
--- who asks to upgrade and has nothing else does not write
+-- a party that asks to upgrade and has nothing else does not write
 writes_nothing : (p : ℕ) (s : Plain) → entries p s ≡ entries_at p (holds asking) → is_holder p writing s.holders ≡ false
 writes_nothing p s mine =
     is_holder-own p writing s.holders ∙ (ap (λ (e : Entries). is_holder p writing e.holders) mine ∙ ap (λ b. (b && false) || false) (eq-eqb p p refl))
@@ -93,7 +93,7 @@ module _ {V : Type 0} (v : V) (cap : ℕ) where
 
   -- What the step functions mean
 
-  decides : (p : ℕ) (s : Plain) (c : Change) (o : Option ℕ) → who c ≡ p → Decides s c rw_word o → (is_open s c ≡ true → Within cap (apply s c)) → IsMeant p s c o
+  decides : (p : ℕ) (s : Plain) (c : Change) (o : Option ℕ) → party_of c ≡ p → Decides s c rw_word o → (is_open s c ≡ true → Within cap (apply s c)) → IsMeant p s c o
   decides p s c o = means_word (rw_table v cap) (rw_notes v cap) rw_word (λ to after is. ap (λ n. n ∷ []) is) p s c o
 
   module _ {c : CallOf ℕ RwPoint (Answer V)} {l : RwPoint} {h : Option Hold} {s : Plain} {w : ℕ} {span : List Mark} {row : Row} (p : ℕ) (at : AtPoint (rw_table v cap) (rw_notes v cap) p c l h s w span row) where
@@ -173,19 +173,19 @@ module _ {V : Type 0} (v : V) (cap : ℕ) where
 
   module _ (w : ℕ) (room : has_room reading w cap ≡ true) where
     reads_now : Soon 1 w Read (Exchange w) None
-    reads_now = exchanges_now (rw_table v cap) Read None Exchange (read cap) (λ p. gets p to_read) (λ m. granted hold.Read) (GoesOn First) w (w + weight reading) (rw room refl) (λ m. refl) 0 refl
+    reads_now = exchanges_now (rw_table v cap) Read None Exchange (read cap) (λ p. gets p to_read) (λ m. granted hold.Read) (Continue First) w (w + weight reading) (rw room refl) (λ m. refl) 0 refl
 
     reads_soon : (n : ℕ) → Soon 2 w Read (Exchange n) None
-    reads_soon n = retries_soon (rw_table v cap) Read None Exchange (read cap) (λ p. gets p to_read) (λ m. granted hold.Read) (GoesOn First) w (w + weight reading) (rw room refl) (λ m. refl) 0 refl n
+    reads_soon n = retries_soon (rw_table v cap) Read None Exchange (read cap) (λ p. gets p to_read) (λ m. granted hold.Read) (Continue First) w (w + weight reading) (rw room refl) (λ m. refl) 0 refl n
 
   module _ (w : ℕ) (room : has_room upgradable w cap ≡ true) where
     may_upgrade_now : Soon 1 w UpgradeableRead (Exchange w) None
     may_upgrade_now =
-        exchanges_now (rw_table v cap) UpgradeableRead None Exchange (read_upgradable cap) (λ p. gets p to_read_upgradable) (λ m. granted hold.Upgradable) (GoesOn First) w (w + weight upgradable) (rw room refl) (λ m. refl) 0 refl
+        exchanges_now (rw_table v cap) UpgradeableRead None Exchange (read_upgradable cap) (λ p. gets p to_read_upgradable) (λ m. granted hold.Upgradable) (Continue First) w (w + weight upgradable) (rw room refl) (λ m. refl) 0 refl
 
     may_upgrade_soon : (n : ℕ) → Soon 2 w UpgradeableRead (Exchange n) None
     may_upgrade_soon n =
-        retries_soon (rw_table v cap) UpgradeableRead None Exchange (read_upgradable cap) (λ p. gets p to_read_upgradable) (λ m. granted hold.Upgradable) (GoesOn First) w (w + weight upgradable) (rw room refl) (λ m. refl) 0 refl n
+        retries_soon (rw_table v cap) UpgradeableRead None Exchange (read_upgradable cap) (λ p. gets p to_read_upgradable) (λ m. granted hold.Upgradable) (Continue First) w (w + weight upgradable) (rw room refl) (λ m. refl) 0 refl n
 
   soon : (p : ℕ) (c : RwCall) (l : RwPoint) (h : Option Hold) (s : Plain) (w : ℕ) (span : List Mark)
       → OwesSoon (rw_table v cap) (rw_notes v cap) p c l h s w span

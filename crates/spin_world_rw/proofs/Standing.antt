@@ -15,7 +15,7 @@ use Rattle.spin_world_core.specs.declared.place.Hold.{Hold}
 use Rattle.spin_world_core.specs.declared.place.Hold.TheVariants as hold
 use Rattle.spin_world_core.specs.declared.place.Seat.TheVariants.{Calling, Holding}
 use Rattle.spin_world_core.specs.declared.object.Next.{Next}
-use Rattle.spin_world_core.specs.declared.object.Next.TheVariants.{GoesOn, Answers}
+use Rattle.spin_world_core.specs.declared.object.Next.TheVariants.{Continue, Answers}
 use Rattle.spin_world_core.specs.declared.schedule.Move.{Move}
 use Rattle.spin_world_core.specs.declared.schedule.Move.TheVariants.{Step}
 use Rattle.spin_world_core.specs.declared.schedule.Outcome.TheVariants.{Answered}
@@ -36,7 +36,7 @@ use Rattle.spin_world_core.proofs.Stands.{stand_of, entries_at}
 use Rattle.spin_world_core.proofs.Rows.{row_at, looked, starts}
 use Rattle.spin_world_core.proofs.Shapes.{KnowsRow}
 use Rattle.spin_world_core.proofs.Lists.{get-set_same}
-use Rattle.spin_world_core.proofs.Kept.{Invariant}
+use Rattle.spin_world_core.proofs.Preserved.{Invariant}
 use Rattle.spin_world_core.proofs.Every.{kept, good_first, standing, in_call, state-seen_after, good_after}
 use Rattle.spin_world_core.proofs.Schedules.{after-append}
 use Rattle.spin_world_core.proofs.Guards.{ReadsOn, reads_agree_across, seen_after-append}
@@ -98,12 +98,12 @@ module _ {V : Type 0} (v : V) (cap : ℕ) where
   stood_first c l h None p s span knows = absurd knows
   stood_first c l h (Some first) p s span knows = stood (asks_of c h) c l h 0 p s span knows
 
-  -- who asks is in its upgrade, and goes for the word of a reader that is alone and asks
+  -- a party that asks is in its upgrade, and goes for the word of a reader that is alone and asks
   abbrev Upgrades : State ℕ V RwCall RwPoint → ℕ → RwCall → RwPoint → Option Hold → Type 0
   Upgrades s p c l h = ((moves_at (rw_machine v cap) s p Step (Some (Calling c l h))).outcome ≡ Answered Granted None) ↔ ((s.words == weight asking) ≡ true)
 
   upgraded : (s : State ℕ V RwCall RwPoint) (p : ℕ) (c : RwCall) (l : RwPoint) (h : Option Hold) (plain : Plain) (span : List Mark) → (rw_keeping v cap).Knows c l h p plain span → is_holder p asking plain.holders ≡ true → Upgrades s p c l h
-  upgraded s p Upgrade Asking (Some hold.Upgradable) plain span knows found = came V s p s.words Upgrade (Some hold.Upgradable) (GoesOn Asking) (s.words == weight asking) (λ e. absurd (cc (e)))
+  upgraded s p Upgrade Asking (Some hold.Upgradable) plain span knows found = came V s p s.words Upgrade (Some hold.Upgradable) (Continue Asking) (s.words == weight asking) (λ e. absurd (cc (e)))
   upgraded s p TryRead (Exchange n) None plain span knows found = absurd (does_not_ask None p plain (stood (asks_of TryRead None) TryRead (Exchange n) None 1 p plain span knows) found)
   upgraded s p Read (Exchange n) None plain span knows found = absurd (does_not_ask None p plain (stood (asks_of Read None) Read (Exchange n) None 1 p plain span knows) found)
   upgraded s p TryUpgradeableRead (Exchange n) None plain span knows found = absurd (does_not_ask None p plain (stood (asks_of TryUpgradeableRead None) TryUpgradeableRead (Exchange n) None 1 p plain span knows) found)
@@ -192,7 +192,7 @@ module _ {V : Type 0} (v : V) (cap : ℕ) where
   downgraded s p DowngradeToUpgradeable l h held is there = (refl, seated s p DowngradeToUpgradeable l h hold.Upgradable held (cc (is)) there)
   downgraded s p _ l h held is there = absurd (cc (is))
 
-  -- who is in such a call holds
+  -- a party that is in such a call holds
   holds_there : (p : ℕ) (c : RwCall) (l : RwPoint) (h : Option Hold) (held : Hold) (s : Plain) (span : List Mark) → less c ≡ Some held → (rw_keeping v cap).Knows c l h p s span → KeepsWritersOut p s
   holds_there p Downgrade l (Some hold.Write) held s span is knows = keeps_writers_out p writing s (holder_by p writing s knows.0.stand)
   holds_there p Downgrade l (Some hold.Upgradable) held s span is knows = keeps_writers_out p upgradable s (holder_by p upgradable s knows.0.stand)
@@ -255,7 +255,7 @@ module _ {V : Type 0} (v : V) (cap : ℕ) where
   steps_on : (c : RwCall) (l : RwPoint) (h : Hold) (w : ℕ) (value : Option V) → converts c ≡ true → may_read h ≡ true → ReadsOn ((rw_machine v cap).step w value c l (Some h)).next
   steps_on TryUpgrade l h w value is may = reads_on w (upgrade w) (granted hold.Write) (Answers Refused (Some h)) refl may
   steps_on TryUpgradeWeak l h w value is may = reads_on w (upgrade w) (granted hold.Write) (Answers Refused (Some h)) refl may
-  steps_on Upgrade Asking h w value is may = reads_on w (upgrade_asked w) (granted hold.Write) (GoesOn Asking) refl tt
+  steps_on Upgrade Asking h w value is may = reads_on w (upgrade_asked w) (granted hold.Write) (Continue Asking) refl tt
   steps_on Upgrade l h w value is may = tt
   steps_on Downgrade l hold.Write w value is may = refl
   steps_on Downgrade l _ w value is may = refl
@@ -264,7 +264,7 @@ module _ {V : Type 0} (v : V) (cap : ℕ) where
 
   refuses_on : (c : RwCall) (l : RwPoint) (h : Hold) (next : Next RwPoint (Answer V)) → converts c ≡ true → may_read h ≡ true → (rw_machine v cap).refuse c l (Some h) ≡ Some next → ReadsOn next
   refuses_on TryUpgradeWeak l h next is may weak = let same : Answers Refused (Some h) ≡ next = cc (weak) in subst (λ (x : Next RwPoint (Answer V)). ReadsOn x) same may
-  refuses_on Upgrade Asking h next is may weak = let same : GoesOn Asking ≡ next = cc (weak) in subst (λ (x : Next RwPoint (Answer V)). ReadsOn x) same tt
+  refuses_on Upgrade Asking h next is may weak = let same : Continue Asking ≡ next = cc (weak) in subst (λ (x : Next RwPoint (Answer V)). ReadsOn x) same tt
   refuses_on Upgrade l h next is may weak = absurd (cc (weak))
   refuses_on TryUpgrade l h next is may weak = absurd (cc (weak))
   refuses_on Downgrade l hold.Write next is may weak = absurd (cc (weak))

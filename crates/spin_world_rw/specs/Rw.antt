@@ -5,7 +5,7 @@ use Rattle.spin_step.specs.Readers.{reader_limit, readers_in, writers_in, tells,
 use Rattle.spin_world_core.specs.declared.place.Hold.{Hold}
 use Rattle.spin_world_core.specs.declared.place.Hold.TheVariants as hold
 use Rattle.spin_world_core.specs.declared.object.Next.{Next}
-use Rattle.spin_world_core.specs.declared.object.Next.TheVariants.{GoesOn, Answers}
+use Rattle.spin_world_core.specs.declared.object.Next.TheVariants.{Continue, Answers}
 use Rattle.spin_world_core.specs.declared.object.Stepped.{Stepped}
 use Rattle.spin_world_core.specs.declared.answer.Answer.{Answer}
 use Rattle.spin_world_core.specs.declared.answer.Answer.TheVariants.{Granted, Refused, Done, Count}
@@ -24,7 +24,7 @@ granted held = Answers Granted (Some held)
 
 -- a call that looks first goes for the word that it found
 abbrev pub goes_for : {V : Type 0} → ℕ → Next RwPoint (Answer V)
-goes_for w = GoesOn (Exchange w)
+goes_for w = Continue (Exchange w)
 
 -- a call that looks first, and then makes its exchange for as long as each word that it finds lets it in
 abbrev pub comes_by : {V : Type 0} → (ℕ → Option ℕ) → Ask → Hold → Next RwPoint (Answer V) → RwPoint → Act ℕ RwPoint (Answer V)
@@ -39,18 +39,18 @@ comes_at _ w to held missed = stays w (either (is_some to) (goes_for w) missed)
 -- the waiting exchanges of `Write` and `Upgrade` are weak, and `Upgrade` asks before it; a conversion and a release are an addition or a subtraction, by what is held
 abbrev pub act_of : {V : Type 0} → ℕ → RwCall → RwPoint → Option Hold → Act ℕ RwPoint (Answer V)
 act_of cap TryRead l h = comes_by (read cap) to_read hold.Read (Answers Refused h) l
-act_of cap Read l h = comes_by (read cap) to_read hold.Read (GoesOn First) l
+act_of cap Read l h = comes_by (read cap) to_read hold.Read (Continue First) l
 act_of cap TryUpgradeableRead l h = comes_by (read_upgradable cap) to_read_upgradable hold.Upgradable (Answers Refused h) l
-act_of cap UpgradeableRead l h = comes_by (read_upgradable cap) to_read_upgradable hold.Upgradable (GoesOn First) l
+act_of cap UpgradeableRead l h = comes_by (read_upgradable cap) to_read_upgradable hold.Upgradable (Continue First) l
 act_of cap TryWrite l h = exchange (swap 0 write) (λ p. gets p to_write) (granted hold.Write) (λ w. Answers Refused h)
 act_of cap TryWriteWeak l h = weak_exchange 0 write (λ p. gets p to_write) (granted hold.Write) (Answers Refused h)
-act_of cap Write l h = weak_exchange 0 write (λ p. gets p to_write) (granted hold.Write) (GoesOn First)
+act_of cap Write l h = weak_exchange 0 write (λ p. gets p to_write) (granted hold.Write) (Continue First)
 act_of cap ReaderCount l h = load (λ w. Answers (Count (readers_in w)) h)
 act_of cap WriterCount l h = load (λ w. Answers (Count (writers_in w)) h)
 act_of cap TryUpgrade l h = exchange (swap (weight upgradable) upgrade) (λ p. gets p to_upgrade) (granted hold.Write) (λ w. Answers Refused h)
 act_of cap TryUpgradeWeak l h = weak_exchange (weight upgradable) upgrade (λ p. gets p to_upgrade) (granted hold.Write) (Answers Refused h)
-act_of cap Upgrade Asking h = weak_exchange (weight asking) upgrade_asked (λ p. gets p to_upgrade_asked) (granted hold.Write) (GoesOn Asking)
-act_of cap Upgrade l h = store (tells upgradable) (adds (weight asking - weight upgradable)) (λ p. turns p upgradable asking) (GoesOn Asking)
+act_of cap Upgrade Asking h = weak_exchange (weight asking) upgrade_asked (λ p. gets p to_upgrade_asked) (granted hold.Write) (Continue Asking)
+act_of cap Upgrade l h = store (tells upgradable) (adds (weight asking - weight upgradable)) (λ p. turns p upgradable asking) (Continue Asking)
 act_of cap Downgrade l (Some hold.Write) = store (tells writing) (adds (weight reading - weight writing)) (λ p. turns p writing reading) (Answers Done (Some hold.Read))
 act_of cap Downgrade l h = store (λ w. tells upgradable w && nat_lt (w / weight reading) reader_limit) (adds (weight reading - weight upgradable)) (λ p. turns p upgradable reading) (Answers Done (Some hold.Read))
 act_of cap DowngradeToUpgradeable l h = store (tells writing) (adds (weight upgradable - weight writing)) (λ p. turns p writing upgradable) (Answers Done (Some hold.Upgradable))

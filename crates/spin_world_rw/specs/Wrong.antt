@@ -3,7 +3,7 @@ use Rattle.std.specs.Prelude.{ℕ, zero, suc, ◌+◌, ◌-◌, ◌/◌, true, f
 use Rattle.spin_step.specs.Plain.{reading, upgradable, asking, writing, weight, to_read, to_write, to_upgrade, to_upgrade_asked, to_lock_starving, Change, gets, releases, turns, to_read_upgradable}
 use Rattle.spin_world_core.specs.declared.place.Hold.{Hold}
 use Rattle.spin_world_core.specs.declared.place.Hold.TheVariants as hold
-use Rattle.spin_world_core.specs.declared.object.Next.TheVariants.{GoesOn, Answers}
+use Rattle.spin_world_core.specs.declared.object.Next.TheVariants.{Continue, Answers}
 use Rattle.spin_world_core.specs.declared.answer.Answer.{Answer}
 use Rattle.spin_world_core.specs.declared.answer.Answer.TheVariants.{Refused, Done, Count}
 use Rattle.spin_world_rw.specs.declared.rw.RwCall.{RwCall}
@@ -49,7 +49,7 @@ upgrade_beside_a_reader = read_alone ++ (1, Begin TryUpgradeableRead) ∷ (1, St
 
 -- `upgrade` asks and is granted in one event, while readers stand
 abbrev pub upgrade_unasked : {V : Type 0} → RwCall → RwPoint → Option Hold → RwAct V
-upgrade_unasked Upgrade l h = exchange (stores (weight writing)) (λ p. gets p to_upgrade_asked) (granted hold.Write) (λ w. GoesOn Asking)
+upgrade_unasked Upgrade l h = exchange (stores (weight writing)) (λ p. gets p to_upgrade_asked) (granted hold.Write) (λ w. Continue Asking)
 upgrade_unasked c l h = act_of 9 c l h
 
 abbrev pub upgrades_unasked : {V : Type 0} → V → RwMachine V
@@ -60,7 +60,7 @@ ask_beside_a_reader = read_alone ++ (1, Begin TryUpgradeableRead) ∷ (1, Step) 
 
 -- `upgrade` tries again and again, and never asks
 abbrev pub upgrade_plainly : {V : Type 0} → RwCall → RwPoint → Option Hold → RwAct V
-upgrade_plainly Upgrade l h = weak_exchange (weight upgradable) upgrade (λ p. gets p to_upgrade) (granted hold.Write) (GoesOn First)
+upgrade_plainly Upgrade l h = weak_exchange (weight upgradable) upgrade (λ p. gets p to_upgrade) (granted hold.Write) (Continue First)
 upgrade_plainly c l h = act_of 9 c l h
 
 abbrev pub upgrades_plainly : {V : Type 0} → V → RwMachine V
@@ -68,8 +68,8 @@ upgrades_plainly v = with_steps v upgrade_plainly
 
 -- `upgrade` asks twice
 abbrev pub ask_twice : {V : Type 0} → RwCall → RwPoint → Option Hold → RwAct V
-ask_twice Upgrade First h = store (λ w. true) (adds (weight asking - weight upgradable)) (λ p. turns p upgradable asking) (GoesOn (Exchange 0))
-ask_twice Upgrade (Exchange n) h = store (λ w. true) (adds (weight asking - weight upgradable)) (λ p. turns p upgradable asking) (GoesOn Asking)
+ask_twice Upgrade First h = store (λ w. true) (adds (weight asking - weight upgradable)) (λ p. turns p upgradable asking) (Continue (Exchange 0))
+ask_twice Upgrade (Exchange n) h = store (λ w. true) (adds (weight asking - weight upgradable)) (λ p. turns p upgradable asking) (Continue Asking)
 ask_twice c l h = act_of 9 c l h
 
 abbrev pub asks_twice : {V : Type 0} → V → RwMachine V
@@ -85,7 +85,7 @@ downgrades_asking v = with_steps v downgrade_asking
 
 -- `downgrade` frees the writer, and then takes a reader's place
 abbrev pub downgrade_in_two : {V : Type 0} → RwCall → RwPoint → Option Hold → RwAct V
-downgrade_in_two Downgrade First (Some hold.Write) = store (tells writing) (subtracts (weight writing)) (λ p. releases p writing) (GoesOn (Exchange 0))
+downgrade_in_two Downgrade First (Some hold.Write) = store (tells writing) (subtracts (weight writing)) (λ p. releases p writing) (Continue (Exchange 0))
 downgrade_in_two Downgrade (Exchange n) h = store (λ w. true) (adds (weight reading)) (λ p. gets p to_read) (Answers Done (Some hold.Read))
 downgrade_in_two c l h = act_of 9 c l h
 
@@ -97,7 +97,7 @@ downgrade_alone = (0, Begin TryWrite) ∷ (0, Step) ∷ (0, Begin Downgrade) ∷
 
 -- `try_read` adds its reader, and takes it off where there was no room
 abbrev pub read_and_regret : {V : Type 0} → RwCall → RwPoint → Option Hold → RwAct V
-read_and_regret TryRead First h = store (λ w. true) (adds (weight reading)) (λ p. gets p to_read) (GoesOn (Exchange 0))
+read_and_regret TryRead First h = store (λ w. true) (adds (weight reading)) (λ p. gets p to_read) (Continue (Exchange 0))
 read_and_regret TryRead (Exchange n) h = store (λ w. true) (subtracts (weight reading)) (λ p. releases p reading) (Answers Refused h)
 read_and_regret c l h = act_of 9 c l h
 
@@ -136,8 +136,8 @@ write_alone = (0, Begin TryWrite) ∷ (0, Step) ∷ []
 
 -- `upgrade` lets go, and then comes to write as anybody does
 abbrev pub upgrade_anew : {V : Type 0} → RwCall → RwPoint → Option Hold → RwAct V
-upgrade_anew Upgrade First h = store (tells upgradable) (subtracts (weight upgradable)) (λ p. releases p upgradable) (GoesOn (Exchange 0))
-upgrade_anew Upgrade (Exchange n) h = weak_exchange 0 write (λ p. gets p to_write) (granted hold.Write) (GoesOn (Exchange 0))
+upgrade_anew Upgrade First h = store (tells upgradable) (subtracts (weight upgradable)) (λ p. releases p upgradable) (Continue (Exchange 0))
+upgrade_anew Upgrade (Exchange n) h = weak_exchange 0 write (λ p. gets p to_write) (granted hold.Write) (Continue (Exchange 0))
 upgrade_anew c l h = act_of 9 c l h
 
 abbrev pub upgrades_anew : {V : Type 0} → V → RwMachine V
@@ -176,7 +176,7 @@ count_beside_an_asking_reader = upgrade_alone ++ (1, Begin ReaderCount) ∷ (1, 
 
 -- `read` looks for ever
 abbrev pub look_for_ever : {V : Type 0} → RwCall → RwPoint → Option Hold → RwAct V
-look_for_ever Read l h = load (λ w. GoesOn First)
+look_for_ever Read l h = load (λ w. Continue First)
 look_for_ever c l h = act_of 9 c l h
 
 abbrev pub looks_for_ever : {V : Type 0} → V → RwMachine V
@@ -187,7 +187,7 @@ two_looks = (0, Begin Read) ∷ (0, Step) ∷ (0, Step) ∷ []
 
 -- `read` looks twice before it comes
 abbrev pub look_twice : {V : Type 0} → RwCall → RwPoint → Option Hold → RwAct V
-look_twice Read First h = load (λ w. GoesOn (Exchange 1))
+look_twice Read First h = load (λ w. Continue (Exchange 1))
 look_twice Read (Exchange (suc zero)) h = act_of 9 Read First h
 look_twice c l h = act_of 9 c l h
 
@@ -196,7 +196,7 @@ looks_twice v = with_steps v look_twice
 
 -- `write` looks before it comes
 abbrev pub look_first : {V : Type 0} → RwCall → RwPoint → Option Hold → RwAct V
-look_first Write First h = load (λ w. GoesOn (Exchange w))
+look_first Write First h = load (λ w. Continue (Exchange w))
 look_first c l h = act_of 9 c l h
 
 abbrev pub looks_first : {V : Type 0} → V → RwMachine V
@@ -207,7 +207,7 @@ one_look = (0, Begin Write) ∷ (0, Step) ∷ []
 
 -- `try_read` looks for ever
 abbrev pub try_for_ever : {V : Type 0} → RwCall → RwPoint → Option Hold → RwAct V
-try_for_ever TryRead l h = load (λ w. GoesOn First)
+try_for_ever TryRead l h = load (λ w. Continue First)
 try_for_ever c l h = act_of 9 c l h
 
 abbrev pub tries_for_ever : {V : Type 0} → V → RwMachine V
@@ -234,7 +234,7 @@ guess_beside_a_reader = read_alone ++ (1, Begin Read) ∷ (1, Step) ∷ []
 
 -- the exchange of `read` is weak
 abbrev pub read_weakly : {V : Type 0} → RwCall → RwPoint → Option Hold → RwAct V
-read_weakly Read (Exchange n) h = weak_exchange n (read 9) (λ p. gets p to_read) (granted hold.Read) (GoesOn First)
+read_weakly Read (Exchange n) h = weak_exchange n (read 9) (λ p. gets p to_read) (granted hold.Read) (Continue First)
 read_weakly c l h = act_of 9 c l h
 
 abbrev pub reads_weakly : {V : Type 0} → V → RwMachine V
@@ -253,7 +253,7 @@ writes_strongly v = with_steps v write_strongly
 
 -- so is that of `write`
 abbrev pub wait_strongly : {V : Type 0} → RwCall → RwPoint → Option Hold → RwAct V
-wait_strongly Write l h = exchange (swap 0 write) (λ p. gets p to_write) (granted hold.Write) (λ w. GoesOn First)
+wait_strongly Write l h = exchange (swap 0 write) (λ p. gets p to_write) (granted hold.Write) (λ w. Continue First)
 wait_strongly c l h = act_of 9 c l h
 
 abbrev pub waits_strongly : {V : Type 0} → V → RwMachine V
@@ -304,7 +304,7 @@ asks_as_a_starver Write h = waits to_lock_starving
 asks_as_a_starver c h = asks_of c h
 
 abbrev pub write_never : {V : Type 0} → RwCall → RwPoint → Option Hold → RwAct V
-write_never Write l h = load (λ w. GoesOn First)
+write_never Write l h = load (λ w. Continue First)
 write_never c l h = act_of 9 c l h
 
 abbrev pub never_writes : {V : Type 0} → V → RwMachine V
@@ -323,7 +323,7 @@ has_no_owner {V} v = let t : RwTable V = rw_table v 9 in machine_of (record t { 
 
 -- `try_read` that finds it closed looks once more, and is refused whatever it finds
 abbrev pub read_late : {V : Type 0} → RwCall → RwPoint → Option Hold → RwAct V
-read_late TryRead First h = load_for (read 9) (λ p. gets p to_read) goes_for (GoesOn Asking)
+read_late TryRead First h = load_for (read 9) (λ p. gets p to_read) goes_for (Continue Asking)
 read_late TryRead Asking h = load (λ w. Answers Refused h)
 read_late c l h = act_of 9 c l h
 
@@ -335,8 +335,8 @@ try_beside_a_writer = (0, Begin TryWrite) ∷ (0, Step) ∷ (1, Begin TryRead) �
 
 -- `upgrade` that was refused looks before it tries again
 abbrev pub upgrade_by_looks : {V : Type 0} → RwCall → RwPoint → Option Hold → RwAct V
-upgrade_by_looks Upgrade Asking h = weak_exchange (weight asking) upgrade_asked (λ p. gets p to_upgrade_asked) (granted hold.Write) (GoesOn (Exchange 0))
-upgrade_by_looks Upgrade (Exchange n) h = load (λ w. GoesOn Asking)
+upgrade_by_looks Upgrade Asking h = weak_exchange (weight asking) upgrade_asked (λ p. gets p to_upgrade_asked) (granted hold.Write) (Continue (Exchange 0))
+upgrade_by_looks Upgrade (Exchange n) h = load (λ w. Continue Asking)
 upgrade_by_looks c l h = act_of 9 c l h
 
 abbrev pub upgrades_by_looks : {V : Type 0} → V → RwMachine V

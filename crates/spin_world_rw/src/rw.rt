@@ -138,7 +138,7 @@ fn come<V: Copy>(
 {
     match point {
         RwPoint::Exchange(found) if found == words => exchange(words, to, hold, missed),
-        _ if to.is_some() => Stepped::stay(words, Next::GoesOn(RwPoint::Exchange(words))),
+        _ if to.is_some() => Stepped::stay(words, Next::Continue(RwPoint::Exchange(words))),
         _ => Stepped::stay(words, missed),
     }
 }
@@ -211,9 +211,9 @@ impl<V: Copy> Object for Rw<V> {
             RwCall::TryWriteWeak | RwCall::TryUpgradeWeak => {
                 Some(Next::Answers(Answer::Refused, holds))
             }
-            RwCall::Write => Some(Next::GoesOn(RwPoint::First)),
+            RwCall::Write => Some(Next::Continue(RwPoint::First)),
             RwCall::Upgrade if matches!(local, RwPoint::Asking) => {
-                Some(Next::GoesOn(RwPoint::Asking))
+                Some(Next::Continue(RwPoint::Asking))
             }
             _ => None,
         }
@@ -232,7 +232,7 @@ impl<V: Copy> Object for Rw<V> {
     {
         let _ = value;
         let refused = Next::Answers(Answer::Refused, holds);
-        let again = Next::GoesOn(RwPoint::First);
+        let again = Next::Continue(RwPoint::First);
         match call {
             RwCall::TryRead => come(local, words, rw::read(words, self.cap), Hold::Read, refused),
             RwCall::Read => come(local, words, rw::read(words, self.cap), Hold::Read, again),
@@ -264,7 +264,7 @@ impl<V: Copy> Object for Rw<V> {
                 exchange(words, rw::upgrade(words), Hold::Write, refused)
             }
             RwCall::Upgrade => {
-                let asked = Next::GoesOn(RwPoint::Asking);
+                let asked = Next::Continue(RwPoint::Asking);
                 match local {
                     RwPoint::Asking => exchange(
                         words,

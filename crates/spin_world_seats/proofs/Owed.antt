@@ -11,7 +11,7 @@ use Rattle.spin_seats.proofs.Taken.{open_is, enter-grants, leave-gives}
 use Rattle.spin_world_core.specs.declared.answer.Answer.{Answer}
 use Rattle.spin_world_core.specs.declared.place.Hold.{Hold}
 use Rattle.spin_world_core.specs.declared.place.Hold.TheVariants.{Read}
-use Rattle.spin_world_core.specs.declared.object.Next.TheVariants.{GoesOn}
+use Rattle.spin_world_core.specs.declared.object.Next.TheVariants.{Continue}
 use Rattle.spin_world_seats.specs.declared.seats.SeatsCall.{SeatsCall}
 use Rattle.spin_world_seats.specs.declared.seats.SeatsCall.TheVariants.{TryEnter, Enter, Count, Leave}
 use Rattle.spin_world_seats.specs.declared.seats.SeatsPoint.{SeatsPoint}
@@ -87,10 +87,10 @@ module _ (n : ℕ) where
 
   module _ (w : ℕ) (free : nat_lt w (seats n) ≡ true) where
     sits_now : answers_by (seats_table n) 1 w Enter (Exchange w) None ≡ true
-    sits_now = exchanges_now (seats_table n) Enter None Exchange (entered n) (λ p. gets p to_read) (λ i. granted) (GoesOn First) w (w + 1) (rw free refl) (λ i. refl) 0 refl
+    sits_now = exchanges_now (seats_table n) Enter None Exchange (entered n) (λ p. gets p to_read) (λ i. granted) (Continue First) w (w + 1) (rw free refl) (λ i. refl) 0 refl
 
     sits_soon : (k : ℕ) → answers_by (seats_table n) 2 w Enter (Exchange k) None ≡ true
-    sits_soon k = retries_soon (seats_table n) Enter None Exchange (entered n) (λ p. gets p to_read) (λ i. granted) (GoesOn First) w (w + 1) (rw free refl) (λ i. refl) 0 refl k
+    sits_soon k = retries_soon (seats_table n) Enter None Exchange (entered n) (λ p. gets p to_read) (λ i. granted) (Continue First) w (w + 1) (rw free refl) (λ i. refl) 0 refl k
 
   is_free : (s : Plain) (w : ℕ) → Seating n s → seats_word s ≡ w → may_come reading s ≡ true → nat_lt w (seats n) ≡ true
   is_free s w shape is may = sym (open_is s n w shape.all_read shape.room is) ∙ may

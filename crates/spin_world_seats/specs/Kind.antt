@@ -4,7 +4,7 @@ use Rattle.spin_step.specs.Plain.{reading, to_read, Change, gets, releases, flag
 use Rattle.spin_world_core.specs.declared.place.Hold.TheVariants.{Read}
 use Rattle.spin_world_core.specs.Calls.{Asked, LockKind, usual, waits, tries, counts_readers, gives_back}
 
--- who holds reads, and as many hold as the cap lets in
+-- a party that holds reads, and as many hold as the cap lets in
 abbrev pub seats_plain_steps : Change → Bool
 seats_plain_steps (gets p to_read) = true
 seats_plain_steps (releases p reading) = true

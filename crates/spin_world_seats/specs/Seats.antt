@@ -5,7 +5,7 @@ use Rattle.spin_seats.specs.Seats.{seats, entered}
 use Rattle.spin_world_core.specs.declared.place.Hold.{Hold}
 use Rattle.spin_world_core.specs.declared.place.Hold.TheVariants.{Read}
 use Rattle.spin_world_core.specs.declared.object.Next.{Next}
-use Rattle.spin_world_core.specs.declared.object.Next.TheVariants.{GoesOn, Answers}
+use Rattle.spin_world_core.specs.declared.object.Next.TheVariants.{Continue, Answers}
 use Rattle.spin_world_core.specs.declared.object.Stepped.{Stepped}
 use Rattle.spin_world_core.specs.declared.answer.Answer.{Answer}
 use Rattle.spin_world_core.specs.declared.answer.Answer.TheVariants.{Granted, Refused, Done, Count}
@@ -27,7 +27,7 @@ granted = Answers Granted (Some Read)
 
 -- a call that takes a seat goes for the word that it found
 abbrev pub goes_for : ℕ → Answered
-goes_for w = GoesOn (Exchange w)
+goes_for w = Continue (Exchange w)
 
 -- it looks first, and then makes its exchange for as long as each word that it finds has a free seat
 abbrev pub comes_by : ℕ → Answered → SeatsPoint → Act ℕ SeatsPoint (Answer (Unit {0}))
@@ -41,7 +41,7 @@ comes_at (Exchange k) w to missed = retried (λ n. n) (w == k) w to granted (goe
 
 abbrev pub act_of : ℕ → SeatsCall → SeatsPoint → Option Hold → Act ℕ SeatsPoint (Answer (Unit {0}))
 act_of n call.TryEnter l h = comes_by n (Answers Refused h) l
-act_of n call.Enter l h = comes_by n (GoesOn First) l
+act_of n call.Enter l h = comes_by n (Continue First) l
 act_of n call.Count l h = load (λ w. Answers (Count w) h)
 act_of n call.Leave l h = store (λ w. nat_lt 0 w) (subtracts 1) (λ p. releases p reading) (Answers Done None)
 

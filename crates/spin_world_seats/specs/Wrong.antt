@@ -3,7 +3,7 @@ use Rattle.std.specs.Prelude.{ℕ, zero, suc, Bool, true, false, Option, Some, N
 use Rattle.spin_step.specs.Plain.{reading, to_read, gets, releases}
 use Rattle.spin_seats.specs.Seats.{entered}
 use Rattle.spin_world_core.specs.declared.place.Hold.{Hold}
-use Rattle.spin_world_core.specs.declared.object.Next.TheVariants.{GoesOn, Answers}
+use Rattle.spin_world_core.specs.declared.object.Next.TheVariants.{Continue, Answers}
 use Rattle.spin_world_core.specs.declared.answer.Answer.{Answer}
 use Rattle.spin_world_core.specs.declared.answer.Answer.TheVariants.{Refused, Done, Count}
 use Rattle.spin_world_seats.specs.declared.seats.SeatsCall.{SeatsCall}
@@ -43,7 +43,7 @@ seats_one_too_many = with_steps 1 one_too_many
 abbrev pub two_on_one_seat : Entries
 two_on_one_seat = takes_a_seat 0 ++ takes_a_seat 1
 
--- who leaves frees two seats
+-- a party that leaves frees two seats
 abbrev leave_of_two : SeatsCall → SeatsPoint → Option Hold → SeatsAct
 leave_of_two call.Leave l h = store (λ w. nat_lt 0 w) (subtracts 2) (λ p. releases p reading) (Answers Done None)
 leave_of_two c l h = act_of 2 c l h
@@ -56,7 +56,7 @@ one_of_two_leaves = takes_a_seat 0 ++ (takes_a_seat 1 ++ (0, Begin call.Leave) �
 
 -- a try looks for ever
 abbrev try_for_ever : SeatsCall → SeatsPoint → Option Hold → SeatsAct
-try_for_ever call.TryEnter l h = load (λ w. GoesOn First)
+try_for_ever call.TryEnter l h = load (λ w. Continue First)
 try_for_ever c l h = act_of 2 c l h
 
 abbrev pub tries_for_ever : SeatsMachine
@@ -67,7 +67,7 @@ two_looks = takes_a_seat 0
 
 -- `enter` looks twice before it takes a seat
 abbrev look_twice : SeatsCall → SeatsPoint → Option Hold → SeatsAct
-look_twice call.Enter First h = load (λ w. GoesOn (Exchange 2))
+look_twice call.Enter First h = load (λ w. Continue (Exchange 2))
 look_twice call.Enter (Exchange (suc (suc zero))) h = act_of 2 call.Enter First h
 look_twice c l h = act_of 2 c l h
 
@@ -147,7 +147,7 @@ count_alone = (0, Begin call.Count) ∷ (0, Step) ∷ []
 
 -- `enter` looks again and again, and its kind of lock lets it take a thousand steps
 abbrev look_on : SeatsCall → SeatsPoint → Option Hold → SeatsAct
-look_on call.Enter l h = load (λ w. GoesOn First)
+look_on call.Enter l h = load (λ w. Continue First)
 look_on c l h = act_of 2 c l h
 
 abbrev pub slow_seats : LockKind

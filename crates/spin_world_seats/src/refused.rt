@@ -43,7 +43,7 @@ pub fn a_try_fails_by_no_chance()
 {}
 
 /// A lock that nobody leaves: a call begins wherever its party holds what it is for.
-pub fn who_sits_may_leave()
+pub fn a_seated_party_may_leave()
     ensures { Stepwise nobody_leaves → ⊥ }
 {}
 
@@ -68,7 +68,7 @@ pub fn nobody_sits_where_there_are_no_seats()
 {}
 
 /// A `count` that tells how many seats are free: at no moment of it do so many sit.
-pub fn a_count_tells_who_sits()
+pub fn a_count_tells_the_seated_parties()
     ensures { MomentsAll counts_free 1 count_alone → ⊥ }
 {}
 

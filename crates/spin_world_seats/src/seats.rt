@@ -84,7 +84,7 @@ fn come(
         (SeatsPoint::Exchange(found), Some(taken)) if found == words => {
             Stepped::stay(taken, Next::Answers(Answer::Granted, Some(Hold::Read)))
         }
-        (_, Some(_)) => Stepped::stay(words, Next::GoesOn(SeatsPoint::Exchange(words))),
+        (_, Some(_)) => Stepped::stay(words, Next::Continue(SeatsPoint::Exchange(words))),
         (_, None) => Stepped::stay(words, missed),
     }
 }
@@ -147,7 +147,7 @@ impl Object for Seats {
         let to = steps::enter(words, self.seats);
         match call {
             SeatsCall::TryEnter => come(local, words, to, Next::Answers(Answer::Refused, holds)),
-            SeatsCall::Enter => come(local, words, to, Next::GoesOn(SeatsPoint::First)),
+            SeatsCall::Enter => come(local, words, to, Next::Continue(SeatsPoint::First)),
             SeatsCall::Count => Stepped::stay(words, Next::Answers(Answer::Count(words), holds)),
             SeatsCall::Leave => Stepped::stay(
                 steps::leave(words),

@@ -1,4 +1,4 @@
-pub mod Found
+pub mod Knowledge
 pub mod Operating
 pub mod Owed
 pub mod Queues

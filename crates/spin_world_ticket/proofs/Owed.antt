@@ -8,7 +8,7 @@ use Rattle.spin_step.specs.Tickets.{take}
 use Rattle.spin_step.proofs.Tickets.{enters_in_turn, numbered-given, numbered-serves, serving-taken, serving-entered, entered_is_served, stands}
 use Rattle.spin_step.proofs.TicketSteps.{ticket_take-grants, ticket_take-grants_alone, ticket_serve-gives}
 use Rattle.spin_world_core.specs.declared.answer.Answer.{Answer}
-use Rattle.spin_world_core.specs.declared.object.Next.TheVariants.{GoesOn}
+use Rattle.spin_world_core.specs.declared.object.Next.TheVariants.{Continue}
 use Rattle.spin_world_core.specs.declared.place.Hold.{Hold}
 use Rattle.spin_world_core.specs.declared.place.Hold.TheVariants as hold
 use Rattle.spin_world_ticket.specs.declared.ticket.TicketWords.{TicketWords}
@@ -19,7 +19,7 @@ use Rattle.spin_world_ticket.specs.declared.ticket.TicketPoint.TheVariants.{Load
 use Rattle.spin_world_core.specs.Calls.{Mark, AnyOf, looks, granted, may_be_weak}
 use Rattle.spin_world_ticket.specs.Kind.{ticket}
 use Rattle.spin_world_core.specs.Runs.{mark_of, own_count}
-use Rattle.spin_world_core.specs.Manners.{Manner, plain}
+use Rattle.spin_world_core.specs.StepKinds.{StepKind, plain}
 use Rattle.spin_world_core.specs.Acts.{passing, begin_of}
 use Rattle.spin_world_ticket.specs.Ticket.{is_left, ticket_memory, act_of, asks_of, ticket_table, ticket_machine}
 use Rattle.spin_world_core.proofs.Lists.{eqb_self}
@@ -31,7 +31,7 @@ use Rattle.spin_world_core.proofs.Rows.{any_map, SoundAt, Row, Point, nowhere, l
 use Rattle.spin_world_core.proofs.Shapes.{AimsAt, Notes, keeping_of, Means, OwesAt, answers_by, OwesSoon, BeginsAt, Pays, CallOf, AtPoint}
 use Rattle.spin_world_core.proofs.Usual.{two, no_holders, retries_soon}
 use Rattle.spin_world_core.proofs.Paid.{facts_of}
-use Rattle.spin_world_ticket.proofs.Found.{free_number, Queue, Stays, Rises, stays-other, rises-other, stays_now, try_refused, look_held, look_free, ticket_left, taken_queue}
+use Rattle.spin_world_ticket.proofs.Knowledge.{free_number, Queue, Stays, Rises, stays-other, rises-other, stays_now, try_refused, look_held, look_free, ticket_left, taken_queue}
 
 abbrev pub point_of : TicketCall → TicketPoint → Option Hold → Point
 point_of Lock LoadNext None = looked 0
@@ -76,7 +76,7 @@ taken_at : {X : Type 0} (a : Bool) (o : Option X) (to : X) → (if a then o else
 taken_at true o to is = (refl, is)
 taken_at false o to is = absurd (cc (is))
 
--- who waits with a ticket hasn't entered yet
+-- a party that waits with a ticket hasn't entered yet
 
 not_first : (b : Bool) (p t : ℕ) (k : Queued) (ts : List Queued) → cond b (k ∷ filter (λ t. t.party == p) ts) (filter (λ t. t.party == p) ts) ≡ queued p t false ∷ [] → (b && k.entered) ≡ false
 not_first true p t k ts mine = let same : k ≡ queued p t false = cc (mine) in ap (λ (k : Queued). k.entered) same
@@ -195,7 +195,7 @@ module _ {V : Type 0} (v : V) (first : ℕ) where
   takes_soon : (k n : ℕ) (w : TicketWords) → is_left w.next ≡ true → w.serving ≡ w.next → answers_by (ticket_table v first) (suc (suc (suc k))) w Lock (Take n) None ≡ true
   takes_soon k n w left served =
       let after = record w { next = w.next + 1 } in
-      retries_soon (ticket_table v first) Lock None Take take (λ p. gets p to_take_ticket) (λ t. GoesOn (Await t)) (GoesOn LoadNext) w (w.next + 1) (rw left refl) (λ m. refl) (suc k) (enters_soon k after w.next served) n
+      retries_soon (ticket_table v first) Lock None Take take (λ p. gets p to_take_ticket) (λ t. Continue (Await t)) (Continue LoadNext) w (w.next + 1) (rw left refl) (λ m. refl) (suc k) (enters_soon k after w.next served) n
 
   soon : (p : ℕ) (c : TicketCall) (l : TicketPoint) (h : Option Hold) (s : Plain) (w : TicketWords) (span : List Mark)
       → OwesSoon (ticket_table v first) (ticket_notes v first) p c l h s w span
@@ -243,7 +243,7 @@ module _ {V : Type 0} (v : V) (first : ℕ) where
   sound p Release (Serve t) (Some (hold.Ticket u)) = refl
   sound p _ _ _ = tt
 
-  others : (p q : ℕ) (ne : q ≡ p → ⊥) (l : TicketPoint) (h : Option Hold) (s : Plain) (step : Option Change) (r : Manner) (span : List Mark) → Queue s → IsOpenStep s q step → KnowsAt l h p s span → KnowsAt l h p (apply_some s step) (mark_of q step r s ∷ span)
+  others : (p q : ℕ) (ne : q ≡ p → ⊥) (l : TicketPoint) (h : Option Hold) (s : Plain) (step : Option Change) (r : StepKind) (span : List Mark) → Queue s → IsOpenStep s q step → KnowsAt l h p s span → KnowsAt l h p (apply_some s step) (mark_of q step r s ∷ span)
   others p q ne (TryLoadServing n) h s step r span queue may knows = (stays-other n q s step r span queue.numbered may knows.0, inr knows.1, own_count-other p q step r s span ne ∙ knows.2)
   others p q ne (TryTake n) h s step r span queue may knows = (rises-other n q s step r span queue.numbered may knows.0, own_count-other p q step r s span ne ∙ knows.1)
   others p q ne (LookNext k) h s step r span queue may knows = rises-other k q s step r span queue.numbered may knows

@@ -11,7 +11,7 @@ use Rattle.spin_world_core.specs.declared.answer.Answer.TheVariants.{Granted}
 use Rattle.spin_world_core.specs.declared.place.Hold.{Hold}
 use Rattle.spin_world_core.specs.declared.place.Hold.TheVariants as hold
 use Rattle.spin_world_core.specs.declared.place.Seat.TheVariants.{Calling, Holding}
-use Rattle.spin_world_core.specs.declared.object.Next.TheVariants.{GoesOn}
+use Rattle.spin_world_core.specs.declared.object.Next.TheVariants.{Continue}
 use Rattle.spin_world_core.specs.declared.schedule.Move.{Move}
 use Rattle.spin_world_core.specs.declared.schedule.Move.TheVariants.{Step}
 use Rattle.spin_world_core.specs.declared.schedule.Outcome.{Outcome}
@@ -29,7 +29,7 @@ use Rattle.spin_world_ticket.specs.Ticket.{ticket_machine, granted}
 use Rattle.spin_world_core.specs.Users.{seen_after, passes}
 use Rattle.spin_world_ticket.specs.Turns.{serves_one, tickets_gone, InOrder, waits_with, InTurn}
 use Rattle.spin_world_ticket.proofs.Owed.{ticket_keeping, ticket_facts}
-use Rattle.spin_world_core.proofs.Kept.{Invariant}
+use Rattle.spin_world_core.proofs.Preserved.{Invariant}
 use Rattle.spin_world_core.proofs.Every.{kept, good_first, standing, in_call, state-seen_after, good_after}
 
 one_goes : (c : Change) → gone c ≡ bit (serves_one c)
@@ -47,7 +47,7 @@ first_number (t ∷ ts) = t.number
 same_number : (p t u : ℕ) → queued p t false ∷ [] ≡ queued p u false ∷ [] → t ≡ u
 same_number p t u e = ap first_number e
 
--- who waits with a ticket stands where its lock looks whether it is served
+-- a party that waits with a ticket stands where its lock looks whether it is served
 module _ {V : Type 0} (v : V) (first p t : ℕ) where
   waits_at : (c : TicketCall) (l : TicketPoint) (h : Option Hold) (s : Plain) (span : List Mark) → (ticket_keeping v first).Knows c l h p s span → entries p s ≡ waits_with p t → l ≡ Await t
   waits_at Lock (Await u) None s span knows waits = ap Await (same_number p u t (ap (λ (e : Entries). e.tickets) (sym knows.0.stand ∙ waits)))
@@ -62,7 +62,7 @@ module _ {V : Type 0} (v : V) (first p t : ℕ) where
   waits_at _ _ _ s span knows waits = absurd knows
 
 looked : (V : Type 0) (s : State TicketWords V TicketCall TicketPoint) (p t : ℕ) (w : TicketWords) (c : TicketCall) (h : Option Hold) (b : Bool) → (w.serving == t) ≡ b
-    → ((stepped {A = Answer V} s p c h (becomes (λ (k : ℕ). w) w (passing b w.serving) (granted t) (GoesOn (Await t)))).outcome ≡ Answered Granted None) ↔ (w.serving ≡ t)
+    → ((stepped {A = Answer V} s p c h (becomes (λ (k : ℕ). w) w (passing b w.serving) (granted t) (Continue (Await t)))).outcome ≡ Answered Granted None) ↔ (w.serving ≡ t)
 looked V s p t w c h true is = (λ e. eqb-true w.serving t is, λ e. refl)
 looked V s p t w c h false is = (λ e. absurd (cc (e)), λ e. absurd (true≢false (sym (eq-eqb w.serving t e) ∙ is)))
 
@@ -128,8 +128,8 @@ module _ {V : Type 0} (v : V) (first : ℕ) where
             (in_order n all).serving ∙ served_later n past further in
             let now = after m (at_first m n) all in
             let enters = looked V now p t now.words c h (now.words.serving == t) refl in
-            let Goes : Outcome (Answer V) V → Type 0 = λ o. (o ≡ Answered Granted None) ↔ ((after m (at_first m n) past).words.serving + tickets_gone m (seen_after m (opening m n) past) further ≡ t) in
-            subst Goes (sym (ap (λ o. (moves_at m (after m (at_first m n) all) p Step o).outcome) (there ∙ ap (λ k. Some (Calling c k h)) is)))
+            let GrantsAt : Outcome (Answer V) V → Type 0 = λ o. (o ≡ Answered Granted None) ↔ ((after m (at_first m n) past).words.serving + tickets_gone m (seen_after m (opening m n) past) further ≡ t) in
+            subst GrantsAt (sym (ap (λ o. (moves_at m (after m (at_first m n) all) p Step o).outcome) (there ∙ ap (λ k. Some (Calling c k h)) is)))
             (subst (λ k. ((moves_at m (after m (at_first m n) all) p Step (Some (Calling c (Await t) h))).outcome ≡ Answered Granted None) ↔ (k ≡ t)) served enters);
         holds = λ p t there. omega (arith, served_later n past further, holds_served n p t (past ++ further) there);
       }

@@ -41,15 +41,15 @@ only_one p a b (m ∷ ms) one (inr x) (inr y) = only_one p a b ms (omega (arith,
 
 module _ {V : Type 0} (v : V) (first : ℕ) where
   -- what its next step comes to
-  abbrev Comes : State TicketWords V TicketCall TicketPoint → ℕ → TicketCall → TicketPoint → Option Hold → Type 0
-  Comes s p c l h = (moves_at (ticket_machine v first) s p Step (Some (Calling c l h))).outcome ≡ GoingOn
+  abbrev Continues : State TicketWords V TicketCall TicketPoint → ℕ → TicketCall → TicketPoint → Option Hold → Type 0
+  Continues s p c l h = (moves_at (ticket_machine v first) s p Step (Some (Calling c l h))).outcome ≡ GoingOn
 
-  served : (s : State TicketWords V TicketCall TicketPoint) (p n : ℕ) → is_free n s.words.serving ≡ true → Comes s p TryLock (TryLoadServing n) None
+  served : (s : State TicketWords V TicketCall TicketPoint) (p n : ℕ) → is_free n s.words.serving ≡ true → Continues s p TryLock (TryLoadServing n) None
   served s p n free = rw free refl
 
   comes : (s : State TicketWords V TicketCall TicketPoint) (p : ℕ) (c : TicketCall) (l : TicketPoint) (h : Option Hold) (plain : Plain) (span : List Mark) → (ticket_keeping v first).Knows c l h p plain span
       → s.words.serving ≡ serving_word plain → asks_of c h ≡ tries to_take_and_enter
-      → (own_count p span ≡ 0 → Comes s p c l h) × (own_count p span ≡ 1 → FoundNext p (serving_word plain) span → serving_word plain < ticket_limit → Comes s p c l h)
+      → (own_count p span ≡ 0 → Continues s p c l h) × (own_count p span ≡ 1 → FoundNext p (serving_word plain) span → serving_word plain < ticket_limit → Continues s p c l h)
   comes s p TryLock TryLoadNext None plain span knows is asks = ((λ none. refl), (λ one found left. refl))
   comes s p TryLock (TryLoadServing n) None plain span knows is asks = (
     (λ none. absurd (omega (arith, none, knows.1.2))),

@@ -5,7 +5,7 @@ use Rattle.spin_step.specs.Tickets.{take, served}
 use Rattle.spin_world_core.specs.declared.place.Hold.{Hold}
 use Rattle.spin_world_core.specs.declared.place.Hold.TheVariants as hold
 use Rattle.spin_world_core.specs.declared.object.Next.{Next}
-use Rattle.spin_world_core.specs.declared.object.Next.TheVariants.{GoesOn, Answers}
+use Rattle.spin_world_core.specs.declared.object.Next.TheVariants.{Continue, Answers}
 use Rattle.spin_world_core.specs.declared.answer.Answer.{Answer}
 use Rattle.spin_world_core.specs.declared.answer.Answer.TheVariants.{Granted, Refused, Done, Is}
 use Rattle.spin_world_ticket.specs.declared.ticket.TicketWords.{TicketWords}
@@ -51,16 +51,16 @@ granted t = Answers Granted (Some (hold.Ticket t))
 
 -- `lock` goes for the number that it found next
 abbrev pub goes_for : {V : Type 0} → ℕ → Next TicketPoint (Answer V)
-goes_for n = GoesOn (Take n)
+goes_for n = Continue (Take n)
 
 abbrev pub act_of : {V : Type 0} → TicketPoint → Option Hold → Act TicketWords TicketPoint (Answer V)
-act_of LoadNext h = load_for take (λ p. gets p to_take_ticket) goes_for (GoesOn LoadNext)
-act_of (Take n) h = retry n take (λ p. gets p to_take_ticket) (GoesOn (Await n)) goes_for (GoesOn LoadNext)
-act_of (Await t) h = enter (λ k. k == t) (λ p. gets p to_enter) (granted t) (GoesOn (Await t))
-act_of TryLoadNext h = load (λ n. GoesOn (TryLoadServing n))
-act_of (TryLoadServing n) h = load_if (is_free n) (λ k. GoesOn (TryTake n)) (λ k. Answers Refused h)
+act_of LoadNext h = load_for take (λ p. gets p to_take_ticket) goes_for (Continue LoadNext)
+act_of (Take n) h = retry n take (λ p. gets p to_take_ticket) (Continue (Await n)) goes_for (Continue LoadNext)
+act_of (Await t) h = enter (λ k. k == t) (λ p. gets p to_enter) (granted t) (Continue (Await t))
+act_of TryLoadNext h = load (λ n. Continue (TryLoadServing n))
+act_of (TryLoadServing n) h = load_if (is_free n) (λ k. Continue (TryTake n)) (λ k. Answers Refused h)
 act_of (TryTake n) h = attempt n take (λ p. gets p to_take_and_enter) (granted n) (Answers Refused h)
-act_of LookServing h = load (λ k. GoesOn (LookNext k))
+act_of LookServing h = load (λ k. Continue (LookNext k))
 act_of (LookNext k) h = load (λ n. Answers (Is (not (n == k))) h)
 act_of (Serve t) h = store (λ k. is_left t) (stores (served t)) (λ p. serves p) (Answers Done None)
 

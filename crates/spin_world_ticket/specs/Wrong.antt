@@ -2,7 +2,7 @@
 use Rattle.std.specs.Prelude.{ℕ, Bool, false, not, ◌==◌, Option, Some, None, List, [], ◌∷◌, ◌+◌, ◌-◌, nat_lt, if◌then◌else◌}
 use Rattle.spin_world_core.specs.declared.place.Hold.{Hold}
 use Rattle.spin_world_core.specs.declared.object.Next.{Next}
-use Rattle.spin_world_core.specs.declared.object.Next.TheVariants.{GoesOn, Answers}
+use Rattle.spin_world_core.specs.declared.object.Next.TheVariants.{Continue, Answers}
 use Rattle.spin_world_core.specs.declared.object.Stepped.{Stepped}
 use Rattle.spin_world_core.specs.declared.answer.Answer.{Answer}
 use Rattle.spin_world_core.specs.declared.answer.Answer.TheVariants.{Refused, Is}
@@ -31,7 +31,7 @@ stays_at w next = record { words = w; placed = None; next = next }
 
 -- `is_locked` loads the next number first, and then the one that is served
 abbrev pub backward_look : {V : Type 0} → TicketMachine V → TicketWords → Option V → TicketCall → TicketPoint → Option Hold → Stepped TicketWords V TicketPoint (Answer V)
-backward_look m w value c LookServing h = stays_at w (GoesOn (LookNext w.next))
+backward_look m w value c LookServing h = stays_at w (Continue (LookNext w.next))
 backward_look m w value c (LookNext n) h = stays_at w (Answers (Is (not (w.serving == n))) h)
 backward_look m w value c l h = m.step w value c l h
 
@@ -46,7 +46,7 @@ look_beside_a_queue =
 
 -- `lock` takes its ticket only where none stands
 abbrev pub shy_load : {V : Type 0} → TicketMachine V → TicketWords → Option V → TicketCall → TicketPoint → Option Hold → Bool → Stepped TicketWords V TicketPoint (Answer V)
-shy_load m w value c LoadNext h false = stays_at w (GoesOn LoadNext)
+shy_load m w value c LoadNext h false = stays_at w (Continue LoadNext)
 shy_load m w value c l h free = m.step w value c l h
 
 abbrev pub queues_behind_nobody : {V : Type 0} → V → TicketMachine V
@@ -57,7 +57,7 @@ lock_beside_a_holder = (0, Begin TryLock) ∷ (0, Step) ∷ (0, Step) ∷ (0, St
 
 -- `lock` never enters
 abbrev pub waits_on : {V : Type 0} → TicketMachine V → TicketWords → Option V → TicketCall → TicketPoint → Option Hold → Stepped TicketWords V TicketPoint (Answer V)
-waits_on m w value c (Await t) h = stays_at w (GoesOn (Await t))
+waits_on m w value c (Await t) h = stays_at w (Continue (Await t))
 waits_on m w value c l h = m.step w value c l h
 
 abbrev pub no_change_at : {V : Type 0} → TicketMachine V → ℕ → TicketWords → TicketCall → TicketPoint → Option Hold → Option Change
@@ -127,7 +127,7 @@ tries_by_looking {V} v = let m : TicketMachine V = ticket_machine v 0 in record 
 -- a strong try, and a strong exchange of `lock`, that may refuse without cause
 abbrev by_chance : {V : Type 0} → TicketPoint → Option Hold → Option (Next TicketPoint (Answer V))
 by_chance (TryTake n) h = Some (Answers Refused h)
-by_chance (Take n) h = Some (GoesOn LoadNext)
+by_chance (Take n) h = Some (Continue LoadNext)
 by_chance l h = None
 
 abbrev pub takes_by_chance : {V : Type 0} → V → TicketMachine V
@@ -145,8 +145,8 @@ opens_with_a_ticket {V} v = let m : TicketMachine V = ticket_machine v 0 in reco
 
 -- `is_locked` makes a load in vain between its two
 abbrev pub idle_look : {V : Type 0} → TicketMachine V → TicketWords → Option V → TicketCall → TicketPoint → Option Hold → Stepped TicketWords V TicketPoint (Answer V)
-idle_look m w value IsLocked LookServing h = stays_at w (GoesOn (TryLoadServing w.serving))
-idle_look m w value IsLocked (TryLoadServing k) h = stays_at w (GoesOn (LookNext k))
+idle_look m w value IsLocked LookServing h = stays_at w (Continue (TryLoadServing w.serving))
+idle_look m w value IsLocked (TryLoadServing k) h = stays_at w (Continue (LookNext k))
 idle_look m w value c l h = m.step w value c l h
 
 abbrev pub looks_in_vain : {V : Type 0} → V → TicketMachine V
@@ -165,7 +165,7 @@ leaves_the_last_ticket {V} v = let m : TicketMachine V = ticket_machine v (ticke
 
 -- a `try_lock` that loads the number that is served, and takes that one as its ticket
 abbrev hurries : {V : Type 0} → TicketMachine V → TicketWords → Option V → TicketCall → TicketPoint → Option Hold → Stepped TicketWords V TicketPoint (Answer V)
-hurries m w value c TryLoadNext h = stays_at w (GoesOn (TryTake w.serving))
+hurries m w value c TryLoadNext h = stays_at w (Continue (TryTake w.serving))
 hurries m w value c l h = m.step w value c l h
 
 abbrev pub tries_by_one_load : {V : Type 0} → V → TicketMachine V
@@ -176,8 +176,8 @@ one_load = (0, Begin TryLock) ∷ (0, Step) ∷ []
 
 -- a `try_lock` that loads the number that is served before the next one
 abbrev turns_round : {V : Type 0} → TicketMachine V → TicketWords → Option V → TicketCall → TicketPoint → Option Hold → Stepped TicketWords V TicketPoint (Answer V)
-turns_round m w value c TryLoadNext h = stays_at w (GoesOn (TryLoadServing w.serving))
-turns_round m w value c (TryLoadServing k) h = stays_at w (either (is_free k w.next) (GoesOn (TryTake k)) (Answers Refused h))
+turns_round m w value c TryLoadNext h = stays_at w (Continue (TryLoadServing w.serving))
+turns_round m w value c (TryLoadServing k) h = stays_at w (either (is_free k w.next) (Continue (TryTake k)) (Answers Refused h))
 turns_round m w value c l h = m.step w value c l h
 
 abbrev pub swaps_its_loads : {V : Type 0} → V → TicketMachine V

@@ -1,6 +1,6 @@
 //! The ticket lock, as a table of the steps of its calls. Begin with [`Ticket::new`] and [`TicketCall`].
 ghost use Rattle.std.specs.Prelude.{◌≡◌, ◌==◌, ◌&&◌, true};
-ghost use Rattle.spin_world_core.specs.declared.object.Next.TheVariants.{GoesOn, Answers};
+ghost use Rattle.spin_world_core.specs.declared.object.Next.TheVariants.{Continue, Answers};
 ghost use Rattle.spin_world_core.specs.declared.answer.Answer.TheVariants.{Refused};
 ghost use Rattle.spin_world_ticket.specs.declared.ticket.TicketPoint.TheVariants.{LoadNext, Take, Await, TryTake};
 ghost use Rattle.spin_world_core.specs.Acts.{guessed, either, becomes, step_by, can_by};
@@ -134,9 +134,9 @@ fn exchange<V: Copy>(
 
 /// Returns how `Lock` goes on from the next number.
 fn go_for<V: Copy>(next: u64) -> Next<TicketPoint, Answer<V>>
-    ensures { result ≡ either (is_left next) (GoesOn (Take next)) (GoesOn LoadNext) }
+    ensures { result ≡ either (is_left next) (Continue (Take next)) (Continue LoadNext) }
 {
-    Next::GoesOn(if next < u64::MAX {
+    Next::Continue(if next < u64::MAX {
         TicketPoint::Take(next)
     } else {
         TicketPoint::LoadNext
@@ -145,12 +145,12 @@ fn go_for<V: Copy>(next: u64) -> Next<TicketPoint, Answer<V>>
 
 /// Returns how `Lock` goes on with this ticket from its look at the number that is served.
 fn look_for_turn<V: Copy>(serving: u64, ticket: u64) -> Next<TicketPoint, Answer<V>>
-    ensures { result ≡ either (serving == ticket) (granted ticket) (GoesOn (Await ticket)) }
+    ensures { result ≡ either (serving == ticket) (granted ticket) (Continue (Await ticket)) }
 {
     if ticket::is_turn(serving, ticket) {
         Next::Answers(Answer::Granted, Some(Hold::Ticket(ticket)))
     } else {
-        Next::GoesOn(TicketPoint::Await(ticket))
+        Next::Continue(TicketPoint::Await(ticket))
     }
 }
 
@@ -160,10 +160,10 @@ fn look_for_free<V: Copy>(
     next: u64,
     holds: Option<Hold>,
 ) -> Next<TicketPoint, Answer<V>>
-    ensures { result ≡ either ((serving == next) && is_left next) (GoesOn (TryTake next)) (Answers Refused holds) }
+    ensures { result ≡ either ((serving == next) && is_left next) (Continue (TryTake next)) (Answers Refused holds) }
 {
     if ticket::is_turn(serving, next) && next < u64::MAX {
-        Next::GoesOn(TicketPoint::TryTake(next))
+        Next::Continue(TicketPoint::TryTake(next))
     } else {
         Next::Answers(Answer::Refused, holds)
     }
@@ -234,7 +234,7 @@ impl<V: Copy> Object for Ticket<V> {
             TicketPoint::Take(next) => exchange(
                 words,
                 next,
-                Next::GoesOn(TicketPoint::Await(next)),
+                Next::Continue(TicketPoint::Await(next)),
                 go_for(words.next),
             ),
             TicketPoint::Await(ticket) => Stepped::stay(
@@ -242,7 +242,10 @@ impl<V: Copy> Object for Ticket<V> {
                 look_for_turn(words.serving, ticket),
             ),
             TicketPoint::TryLoadNext => {
-                Stepped::stay(words, Next::GoesOn(TicketPoint::TryLoadServing(words.next)))
+                Stepped::stay(
+                    words,
+                    Next::Continue(TicketPoint::TryLoadServing(words.next)),
+                )
             }
             TicketPoint::TryLoadServing(next) => {
                 Stepped::stay(words, look_for_free(words.serving, next, holds))
@@ -254,7 +257,7 @@ impl<V: Copy> Object for Ticket<V> {
                 Next::Answers(Answer::Refused, holds),
             ),
             TicketPoint::LookServing => {
-                Stepped::stay(words, Next::GoesOn(TicketPoint::LookNext(words.serving)))
+                Stepped::stay(words, Next::Continue(TicketPoint::LookNext(words.serving)))
             }
             TicketPoint::LookNext(serving) => {
                 Stepped::stay(

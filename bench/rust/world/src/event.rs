@@ -25,7 +25,7 @@ pub enum Answer {
 /// What comes of a move.
 #[derive(Clone, Copy)]
 pub enum Outcome {
-    PassedOver,
+    Skipped,
     Begun,
     GoingOn,
     /// The call that began in the line of this number is answered.
@@ -78,7 +78,7 @@ impl Display for Answer {
 impl Display for Outcome {
     fn fmt(&self, f: &mut Formatter<'_>) -> fmt::Result {
         match self {
-            Outcome::PassedOver => f.write_str("passed over"),
+            Outcome::Skipped => f.write_str("passed over"),
             Outcome::Begun => f.write_str("begun"),
             Outcome::GoingOn => f.write_str("going on"),
             Outcome::Answered(answer, began) => write!(f, "answer {answer} from {began}"),

@@ -30,7 +30,7 @@ impl Hold {
 /// How a call goes on after a step.
 pub enum Next<C> {
     /// By this step.
-    GoesOn(C),
+    Continue(C),
     /// It is answered, and its party holds what it held before.
     Answers(Answer),
     /// It is granted this.

@@ -68,7 +68,7 @@ impl<O: Object> World<O> {
     pub fn play(&mut self, entry: Entry<O>) -> Event {
         let Entry { party, action } = entry;
         self.played += 1;
-        let outcome = self.act(party, action).unwrap_or(Outcome::PassedOver);
+        let outcome = self.act(party, action).unwrap_or(Outcome::Skipped);
         Event {
             line: self.played,
             party,
@@ -157,7 +157,7 @@ impl<O: Object> World<O> {
         next: Next<O::Call>,
     ) -> Outcome {
         let (answer, holds) = match next {
-            Next::GoesOn(call) => {
+            Next::Continue(call) => {
                 self.seats[party] = Seat::InCall { call, held, began };
                 return Outcome::GoingOn;
             }

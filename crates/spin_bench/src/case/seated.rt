@@ -1,7 +1,7 @@
 //! A lock whose one caller knows what it did.
 ghost use Rattle.std.specs.Prelude.{◌≡◌, Some};
 ghost use Rattle.spin_seated.specs.Passes.{IsPassOf};
-ghost use Rattle.spin_seated_uses.specs.Turns.{away, turn_of};
+ghost use Rattle.spin_seated_uses.specs.Sections.{away, section_of};
 
 use super::Case;
 use spin_seated::mutex::{Pass, SeatedMutex};
@@ -16,7 +16,7 @@ struct Caller {
     lock: SeatedMutex,
     pass: Pass,
     ghost own: { IsPassOf lock pass },
-    ghost turn: { turn_of pass.known ≡ Some away },
+    ghost section: { section_of pass.known ≡ Some away },
 }
 
 impl Caller {

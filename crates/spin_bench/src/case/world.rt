@@ -59,14 +59,14 @@ impl Case for Plays {
         }
     }
 
-    /// None, less the moves that are passed over in one more play.
+    /// None, less the moves that are skipped in one more play.
     fn added(self) -> u64 {
         let Ok(transcript) = self.play(self.schedule.len()) else {
             return 1;
         };
         let mut added = 0u64;
         for event in &transcript.events {
-            if let Outcome::PassedOver = event.outcome {
+            if let Outcome::Skipped = event.outcome {
                 added = added.wrapping_sub(1);
             }
         }

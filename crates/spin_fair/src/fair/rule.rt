@@ -82,9 +82,9 @@ impl Play<View> for Unregister {
 }
 
 /// A load: the party stays what it is, or comes and holds nothing.
-pub(super) struct Look;
+pub(super) struct Load;
 
-impl Play<View> for Look {
+impl Play<View> for Load {
     ghost then = { Stays };
 }
 

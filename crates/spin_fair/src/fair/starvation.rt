@@ -5,7 +5,7 @@ ghost use Rattle.spin_guard.specs.Guard.{IsHolder};
 ghost use Rattle.spin_fair.specs.Fair.{use_of_view};
 ghost use Rattle.spin_fair.specs.declared.fair.rule.View.TheVariants.{Starving, HoldingStarving};
 
-use super::rule::{AttemptAlone, LOCKED, Look, STARVER, SetFlag, Unregister};
+use super::rule::{AttemptAlone, LOCKED, Load, STARVER, SetFlag, Unregister};
 use super::{FairMutexGuard, FairRule, View};
 use spin_core::cell::Permit;
 use spin_core::relax::{MAX_HINTS, RelaxStrategy, Spin, Strategy};
@@ -93,7 +93,7 @@ impl<'a, T, R> Starvation<'a, T, R> {
 
     // Returns whether the lock is held, by one load.
     fn look(self) -> (bool, Self) {
-        let (found, permit) = self.into_permit().load::<Look>();
+        let (found, permit) = self.into_permit().load::<Load>();
         (fair::is_locked(found as usize), Self::new(permit))
     }
 

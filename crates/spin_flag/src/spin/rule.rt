@@ -36,9 +36,9 @@ impl<T> Rule<T, View> for FlagRule {
 }
 
 /// A load: the party comes and holds nothing.
-pub(super) struct Look;
+pub(super) struct Load;
 
-impl Play<View> for Look {
+impl Play<View> for Load {
     ghost then = { becomes Idle };
 }
 

@@ -138,7 +138,7 @@ impl<'a, T, R> SharedGuard<'a, T, Reader, R> {
 impl<'a, T, R> ReadHeld<'a, T, R> {
     /// Releases the shared access.
     pub(super) fn release(self) {
-        Reader::go(self.into_permit());
+        Reader::release(self.into_permit());
     }
 
     fn into_permit(self) -> Party<'a, T>
@@ -168,7 +168,7 @@ impl<T, K: Kind, R> Deref for SharedGuard<'_, T, K, R> {
 
 impl<T, K: Kind, R> Drop for SharedGuard<'_, T, K, R> {
     fn drop(self) {
-        K::go(self.into_permit());
+        K::release(self.into_permit());
     }
 }
 

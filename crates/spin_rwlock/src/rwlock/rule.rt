@@ -59,63 +59,63 @@ pub(super) type Party<'a, T> = Permit<'a, T, View, RwRule<T>>;
 
 pub(super) type Writer<'a, T> = WritePermit<'a, T, View, RwRule<T>>;
 
-struct Reads;
+struct AcquireRead;
 
-impl Play<View> for Reads {
+impl Play<View> for AcquireRead {
     ghost then = { exchanges (λ _. Reading) Idle };
 }
 
-struct ReadsUpgradable;
+struct AcquireUpgradable;
 
-impl Play<View> for ReadsUpgradable {
+impl Play<View> for AcquireUpgradable {
     ghost then = { exchanges (λ _. Upgradable) Idle };
 }
 
-struct Writes;
+struct AcquireWrite;
 
-impl Play<View> for Writes {
+impl Play<View> for AcquireWrite {
     ghost then = { exchanges (λ _. Writing) Idle };
 }
 
-struct Upgrades;
+struct TryUpgrade;
 
-impl Play<View> for Upgrades {
+impl Play<View> for TryUpgrade {
     ghost then = { exchanges (λ _. Writing) Upgradable };
 }
 
-struct Asks;
+struct AskUpgrade;
 
-impl Play<View> for Asks {
+impl Play<View> for AskUpgrade {
     ghost then = { becomes Asking };
 }
 
-struct UpgradesAsked;
+struct UpgradeAsked;
 
-impl Play<View> for UpgradesAsked {
+impl Play<View> for UpgradeAsked {
     ghost then = { exchanges (λ _. WritingAsked) Asking };
 }
 
-struct ReadsOn;
+struct Downgrade;
 
-impl Play<View> for ReadsOn {
+impl Play<View> for Downgrade {
     ghost then = { becomes Reading };
 }
 
-struct ReadsOnUpgradable;
+struct DowngradeToUpgradable;
 
-impl Play<View> for ReadsOnUpgradable {
+impl Play<View> for DowngradeToUpgradable {
     ghost then = { becomes Upgradable };
 }
 
-struct Looks;
+struct Load;
 
-impl Play<View> for Looks {
+impl Play<View> for Load {
     ghost then = { looks };
 }
 
-struct Goes;
+struct Release;
 
-impl Play<View> for Goes {
+impl Play<View> for Release {
     ghost then = { becomes Idle };
 }
 
@@ -123,7 +123,7 @@ impl Play<View> for Goes {
 pub(super) fn word<T>(cell: &RwCell<T>) -> usize
     ensures { IsRwWord result }
 {
-    let (found, permit) = cell.enter().load::<Looks>();
+    let (found, permit) = cell.enter().load::<Load>();
     permit.leave();
     found as usize
 }
@@ -135,10 +135,10 @@ pub(super) fn word<T>(cell: &RwCell<T>) -> usize
 ///
 /// # Examples
 /// ```
-/// fn go<T>(party: Party<'_, T>)
+/// fn release<T>(party: Party<'_, T>)
 ///     requires { party.view ≡ Some Upgradable }
 /// {
-///     party.subtract::<Goes>(UPGRADABLE).1.leave();
+///     party.subtract::<Release>(UPGRADABLE).1.leave();
 /// }
 /// ```
 pub trait Kind {
@@ -150,14 +150,14 @@ pub trait Kind {
     ///
     /// # Contract
     /// `Ok` has the view of the kind, and shows the value (`IsLent`).
-    fn come<T>(cell: &RwCell<T>, word: usize) -> Result<Party<'_, T>, Option<usize>>
+    fn admit<T>(cell: &RwCell<T>, word: usize) -> Result<Party<'_, T>, Option<usize>>
         ensures { IfOk result (λ party. IsLent party Self.view) };
 
     /// Releases the shared access of such a reader.
     ///
     /// # Contract
     /// The caller hands over a party with the view of the kind.
-    fn go<T>(party: Party<'_, T>)
+    fn release<T>(party: Party<'_, T>)
         requires { party.view ≡ Some Self.view };
 
     ghost lends: { use_of_view Self.view ≡ reads };
@@ -172,13 +172,15 @@ pub struct Upgrader;
 impl Kind for Reader {
     ghost view = { Reading };
 
-    fn come<T>(cell: &RwCell<T>, word: usize) -> Result<Party<'_, T>, Option<usize>>
+    fn admit<T>(cell: &RwCell<T>, word: usize) -> Result<Party<'_, T>, Option<usize>>
         ensures { IfOk result (λ party. IsLent party Reading) }
     {
         let Some(next) = rw::read(word, rw::MAX_READERS) else {
             return Err(None);
         };
-        let (found, permit) = cell.enter().exchange::<Reads>(word as u64, next as u64);
+        let (found, permit) = cell
+            .enter()
+            .exchange::<AcquireRead>(word as u64, next as u64);
         if found == word as u64 {
             return Ok(permit);
         }
@@ -186,10 +188,10 @@ impl Kind for Reader {
         Err(Some(found as usize))
     }
 
-    fn go<T>(party: Party<'_, T>)
+    fn release<T>(party: Party<'_, T>)
         requires { party.view ≡ Some Reading }
     {
-        party.subtract::<Goes>(READER).1.leave();
+        party.subtract::<Release>(READER).1.leave();
     }
 
     ghost lends = { refl };
@@ -198,7 +200,7 @@ impl Kind for Reader {
 impl Kind for Upgrader {
     ghost view = { Upgradable };
 
-    fn come<T>(cell: &RwCell<T>, word: usize) -> Result<Party<'_, T>, Option<usize>>
+    fn admit<T>(cell: &RwCell<T>, word: usize) -> Result<Party<'_, T>, Option<usize>>
         ensures { IfOk result (λ party. IsLent party Upgradable) }
     {
         let Some(next) = rw::upgradable(word, rw::MAX_READERS) else {
@@ -206,7 +208,7 @@ impl Kind for Upgrader {
         };
         let (found, permit) = cell
             .enter()
-            .exchange::<ReadsUpgradable>(word as u64, next as u64);
+            .exchange::<AcquireUpgradable>(word as u64, next as u64);
         if found == word as u64 {
             return Ok(permit);
         }
@@ -214,10 +216,10 @@ impl Kind for Upgrader {
         Err(Some(found as usize))
     }
 
-    fn go<T>(party: Party<'_, T>)
+    fn release<T>(party: Party<'_, T>)
         requires { party.view ≡ Some Upgradable }
     {
-        party.subtract::<Goes>(UPGRADABLE).1.leave();
+        party.subtract::<Release>(UPGRADABLE).1.leave();
     }
 
     ghost lends = { refl };
@@ -228,7 +230,7 @@ pub(super) fn write<T>(cell: &RwCell<T>) -> Option<Writer<'_, T>>
     ensures { IfSome result (λ writer. writer.view ≡ Writing) }
 {
     let next = rw::write(0)?;
-    let (found, permit) = cell.enter().exchange::<Writes>(0, next as u64);
+    let (found, permit) = cell.enter().exchange::<AcquireWrite>(0, next as u64);
     if found == 0 {
         Some(permit.into_writer())
     } else {
@@ -244,7 +246,7 @@ pub(super) fn upgrade<T>(party: Party<'_, T>) -> Result<Writer<'_, T>, Party<'_,
     ensures refused { IfErr result (λ still. (still.view ≡ Some Upgradable) × (still.value ≡ party.entry.value)) }
 {
     let next = rw::upgrade(rw::UPGRADABLE).unwrap();
-    let (found, permit) = party.exchange::<Upgrades>(UPGRADABLE, next as u64);
+    let (found, permit) = party.exchange::<TryUpgrade>(UPGRADABLE, next as u64);
     if found == UPGRADABLE {
         Ok(permit.into_writer())
     } else {
@@ -257,7 +259,7 @@ pub(super) fn ask<T>(party: Party<'_, T>) -> Party<'_, T>
     requires { IsLent party Upgradable }
     ensures { IsLent result Asking × (result.value ≡ party.entry.value) }
 {
-    party.add::<Asks>(ASKING).1
+    party.add::<AskUpgrade>(ASKING).1
 }
 
 /// Tries once to make the reader that has asked the writer. If the lock has another holder, it still asks.
@@ -268,7 +270,7 @@ pub(super) fn upgrade_asked<T>(party: Party<'_, T>) -> Result<Writer<'_, T>, Par
 {
     let expected = UPGRADABLE + ASKING;
     let next = rw::upgrade_asked(rw::UPGRADABLE + rw::ASKING).unwrap();
-    let (found, permit) = party.exchange::<UpgradesAsked>(expected, next as u64);
+    let (found, permit) = party.exchange::<UpgradeAsked>(expected, next as u64);
     if found == expected {
         Ok(permit.into_writer())
     } else {
@@ -280,7 +282,7 @@ pub(super) fn upgrade_asked<T>(party: Party<'_, T>) -> Result<Writer<'_, T>, Par
 pub(super) fn write_to_read<T>(writer: Writer<'_, T>) -> Party<'_, T>
     ensures { (result.view ≡ Some Reading) × (result.value ≡ Some writer.entry.value) }
 {
-    writer.into_permit().add::<ReadsOn>(READER - WRITER).1
+    writer.into_permit().add::<Downgrade>(READER - WRITER).1
 }
 
 /// Makes the writer the upgradable reader, as `rw::write_to_upgradable` says.
@@ -288,7 +290,7 @@ pub(super) fn write_to_upgradable<T>(writer: Writer<'_, T>) -> Party<'_, T>
     ensures { (result.view ≡ Some Upgradable) × (result.value ≡ Some writer.entry.value) }
 {
     let permit = writer.into_permit();
-    permit.add::<ReadsOnUpgradable>(UPGRADABLE - WRITER).1
+    permit.add::<DowngradeToUpgradable>(UPGRADABLE - WRITER).1
 }
 
 /// Makes the upgradable reader a plain reader, as `rw::upgradable_to_read` says.
@@ -296,10 +298,10 @@ pub(super) fn upgradable_to_read<T>(party: Party<'_, T>) -> Party<'_, T>
     requires { IsLent party Upgradable }
     ensures { (result.view ≡ Some Reading) × (result.value ≡ party.entry.value) }
 {
-    party.add::<ReadsOn>(READER - UPGRADABLE).1
+    party.add::<Downgrade>(READER - UPGRADABLE).1
 }
 
 /// Releases the exclusive access of the writer.
 pub(super) fn release_write<T>(writer: Writer<'_, T>) {
-    writer.into_permit().subtract::<Goes>(WRITER).1.leave();
+    writer.into_permit().subtract::<Release>(WRITER).1.leave();
 }

@@ -7,7 +7,7 @@ ghost use Rattle.spin_seated.specs.declared.lock.Answer.TheVariants.{Truth, Valu
 ghost use Rattle.spin_seated.specs.Mutex.{mutex, holds};
 ghost use Rattle.spin_seated.specs.Passes.{IsPassOf};
 
-use super::plays::{Frees, Looks, Reads, Tries, Writes};
+use super::plays::{Acquire, Load, ReadValue, Release, WriteValue};
 use super::{Call, Pass};
 use crate::lock::SeatedLock;
 use spin_step::flag;
@@ -46,7 +46,7 @@ impl<A: Allocator> SeatedLock<Call, A> {
             unreachable!()
         };
         let (free, taken) = (word(false), word(taken));
-        let found = self.exchange::<Tries>(&mut pass.place, FLAG, free, taken);
+        let found = self.exchange::<Acquire>(&mut pass.place, FLAG, free, taken);
         let granted = found == free;
         pass.holding |= granted;
         granted
@@ -65,7 +65,7 @@ impl<A: Allocator> SeatedLock<Call, A> {
         ensures made { Made mutex pass.old.known IsLocked (Truth result) pass.new.known }
         ensures holds { holds pass.new.known ≡ holds pass.old.known }
     {
-        self.load::<Looks>(&mut pass.place, FLAG) != 0
+        self.load::<Load>(&mut pass.place, FLAG) != 0
     }
 
     /// Returns the value, by one load.
@@ -89,7 +89,7 @@ impl<A: Allocator> SeatedLock<Call, A> {
         ensures made { Made mutex pass.old.known Read (Value result) pass.new.known }
         ensures holds { IsTrue (holds pass.new.known) }
     {
-        self.load::<Reads>(&mut pass.place, VALUE)
+        self.load::<ReadValue>(&mut pass.place, VALUE)
     }
 
     /// Replaces the value, by one store.
@@ -111,7 +111,7 @@ impl<A: Allocator> SeatedLock<Call, A> {
         ensures made { Made mutex pass.old.known (Write value) Done pass.new.known }
         ensures holds { IsTrue (holds pass.new.known) }
     {
-        self.store::<Writes>(&mut pass.place, VALUE, value);
+        self.store::<WriteValue>(&mut pass.place, VALUE, value);
     }
 
     /// Releases the lock, by one store.
@@ -134,7 +134,7 @@ impl<A: Allocator> SeatedLock<Call, A> {
         ensures holds { IsFalse (holds pass.new.known) }
     {
         let free = word(flag::unlock(true));
-        self.store::<Frees>(&mut pass.place, FLAG, free);
+        self.store::<Release>(&mut pass.place, FLAG, free);
         pass.holding = false;
     }
 }

@@ -1,35 +1,35 @@
 //! What each step on the table tells: which call it is, and its answer.
-ghost use Rattle.spin_seated.specs.Mutex.{tries, looks, reads, writes, frees};
+ghost use Rattle.spin_seated.specs.Mutex.{tries, loads, reads, writes, frees};
 
 use super::Call;
 use crate::lock::Tells;
 
-pub(super) struct Tries;
+pub(super) struct Acquire;
 
-impl Tells<Call> for Tries {
+impl Tells<Call> for Acquire {
     ghost told = { tries };
 }
 
-pub(super) struct Looks;
+pub(super) struct Load;
 
-impl Tells<Call> for Looks {
-    ghost told = { looks };
+impl Tells<Call> for Load {
+    ghost told = { loads };
 }
 
-pub(super) struct Reads;
+pub(super) struct ReadValue;
 
-impl Tells<Call> for Reads {
+impl Tells<Call> for ReadValue {
     ghost told = { reads };
 }
 
-pub(super) struct Writes;
+pub(super) struct WriteValue;
 
-impl Tells<Call> for Writes {
+impl Tells<Call> for WriteValue {
     ghost told = { writes };
 }
 
-pub(super) struct Frees;
+pub(super) struct Release;
 
-impl Tells<Call> for Frees {
+impl Tells<Call> for Release {
     ghost told = { frees };
 }

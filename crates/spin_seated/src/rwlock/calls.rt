@@ -8,8 +8,8 @@ ghost use Rattle.spin_seated.specs.Rw.{rw, holds, may_with};
 ghost use Rattle.spin_seated.specs.Passes.{IsPassOf};
 
 use super::plays::{
-    Comes, ComesToWrite, CountsReaders, CountsWriters, Looks, ReaderGoes, Reads, ReadsOn,
-    WriterGoes, Writes,
+    AcquireRead, AcquireWrite, CountReaders, CountWriters, DowngradeWrite, Load, ReadValue,
+    ReleaseRead, ReleaseWrite, WriteValue,
 };
 use super::{Call, RwPass, SeatedHold};
 use crate::lock::{Place, SeatedLock};
@@ -43,27 +43,27 @@ impl<A: Allocator> SeatedLock<Call, A> {
         ensures made { Made rw pass.old.known TryRead (Truth result) pass.new.known }
         ensures holds { holds pass.new.known ≡ (if result then Some hold.Read else None) }
     {
-        let granted = self.come(rt, &mut pass.place);
+        let granted = self.acquire_read(rt, &mut pass.place);
         if granted {
             pass.holding = Some(SeatedHold::Read);
         }
         granted
     }
 
-    fn come<W: Wait>(&self, rt: &W, place: &mut Place<Call>) -> bool
+    fn acquire_read<W: Wait>(&self, rt: &W, place: &mut Place<Call>) -> bool
         requires own { IsPassOf self.now place.old }
         requires free { holds place.old.known ≡ None }
         ensures own { IsPassOf self.now place.new }
         ensures made { Made rw place.old.known TryRead (Truth result) place.new.known }
         ensures holds { holds place.new.known ≡ (if result then Some hold.Read else None) }
     {
-        let mut found = self.load::<Looks>(place, WORD);
+        let mut found = self.load::<Load>(place, WORD);
         for _ in rt.forever() {
             let Some(next) = rw::read(found as usize, rw::MAX_READERS) else {
                 return false;
             };
             let old = found;
-            found = self.exchange::<Comes>(place, WORD, old, next as u64);
+            found = self.exchange::<AcquireRead>(place, WORD, old, next as u64);
             if found == old {
                 return true;
             }
@@ -94,7 +94,7 @@ impl<A: Allocator> SeatedLock<Call, A> {
         let Some(taken) = rw::write(0) else {
             unreachable!()
         };
-        let found = self.exchange::<ComesToWrite>(&mut pass.place, WORD, 0, taken as u64);
+        let found = self.exchange::<AcquireWrite>(&mut pass.place, WORD, 0, taken as u64);
         let granted = found == 0;
         if granted {
             pass.holding = Some(SeatedHold::Write);
@@ -114,7 +114,7 @@ impl<A: Allocator> SeatedLock<Call, A> {
         ensures made { Made rw pass.old.known ReaderCount (Value result) pass.new.known }
         ensures holds { holds pass.new.known ≡ holds pass.old.known }
     {
-        rw::readers(self.load::<CountsReaders>(&mut pass.place, WORD) as usize) as u64
+        rw::readers(self.load::<CountReaders>(&mut pass.place, WORD) as usize) as u64
     }
 
     /// Returns how many passes hold as writers, by one load.
@@ -129,7 +129,7 @@ impl<A: Allocator> SeatedLock<Call, A> {
         ensures made { Made rw pass.old.known WriterCount (Value result) pass.new.known }
         ensures holds { holds pass.new.known ≡ holds pass.old.known }
     {
-        rw::writers(self.load::<CountsWriters>(&mut pass.place, WORD) as usize) as u64
+        rw::writers(self.load::<CountWriters>(&mut pass.place, WORD) as usize) as u64
     }
 
     /// Returns the value, by one load.
@@ -140,7 +140,7 @@ impl<A: Allocator> SeatedLock<Call, A> {
     ///
     /// # Examples
     /// ```
-    /// come(rt, lock, pass, SeatedHold::Read);
+    /// acquire(rt, lock, pass, SeatedHold::Read);
     /// let value = lock.read(pass);
     /// lock.unlock_read(pass);
     /// value
@@ -152,7 +152,7 @@ impl<A: Allocator> SeatedLock<Call, A> {
         ensures made { Made rw pass.old.known Read (Value result) pass.new.known }
         ensures holds { holds pass.new.known ≡ holds pass.old.known }
     {
-        self.load::<Reads>(&mut pass.place, VALUE)
+        self.load::<ReadValue>(&mut pass.place, VALUE)
     }
 
     /// Replaces the value, by one store.
@@ -174,7 +174,7 @@ impl<A: Allocator> SeatedLock<Call, A> {
         ensures made { Made rw pass.old.known (Write value) Done pass.new.known }
         ensures holds { holds pass.new.known ≡ Some hold.Write }
     {
-        self.store::<Writes>(&mut pass.place, VALUE, value);
+        self.store::<WriteValue>(&mut pass.place, VALUE, value);
     }
 
     /// Releases the lock of a reader, by one subtraction.
@@ -196,7 +196,7 @@ impl<A: Allocator> SeatedLock<Call, A> {
         ensures made { Made rw pass.old.known UnlockRead Done pass.new.known }
         ensures holds { holds pass.new.known ≡ None }
     {
-        self.subtract::<ReaderGoes>(&mut pass.place, WORD, rw::READER as u64);
+        self.subtract::<ReleaseRead>(&mut pass.place, WORD, rw::READER as u64);
         pass.holding = None;
     }
 
@@ -218,7 +218,7 @@ impl<A: Allocator> SeatedLock<Call, A> {
         ensures made { Made rw pass.old.known UnlockWrite Done pass.new.known }
         ensures holds { holds pass.new.known ≡ None }
     {
-        self.subtract::<WriterGoes>(&mut pass.place, WORD, rw::WRITER as u64);
+        self.subtract::<ReleaseWrite>(&mut pass.place, WORD, rw::WRITER as u64);
         pass.holding = None;
     }
 
@@ -240,7 +240,7 @@ impl<A: Allocator> SeatedLock<Call, A> {
         ensures made { Made rw pass.old.known Downgrade Done pass.new.known }
         ensures holds { holds pass.new.known ≡ Some hold.Read }
     {
-        self.add::<ReadsOn>(&mut pass.place, WORD, (rw::READER - rw::WRITER) as u64);
+        self.add::<DowngradeWrite>(&mut pass.place, WORD, (rw::READER - rw::WRITER) as u64);
         pass.holding = Some(SeatedHold::Read);
     }
 }

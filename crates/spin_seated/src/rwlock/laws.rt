@@ -50,6 +50,6 @@ pub fn a_pass_holds_from_its_try_until_it_unlocks()
 
 /// States that two passes that met agree on every answer so far. What either had seen stands at the same place in what
 /// both know now.
-pub fn who_met_agree()
+pub fn passes_that_met_agree()
     ensures { (a b met_a met_b : Knows) → Met rw a met_a.seen met_a → Met rw b met_a.seen met_b → (met_b.seen ≡ met_a.seen) × ((n : ℕ) (e : Entry Call Answer) → slice_get a.seen n ≡ Some e → slice_get met_b.seen n ≡ Some e) × ((n : ℕ) (e : Entry Call Answer) → slice_get b.seen n ≡ Some e → slice_get met_a.seen n ≡ Some e) }
 {}

@@ -1,66 +1,66 @@
 //! What each step on the table tells: which call it is, and its answer.
 ghost use Rattle.spin_seated.specs.declared.rwlock.Call.TheVariants.{UnlockRead, UnlockWrite, Downgrade};
-ghost use Rattle.spin_seated.specs.Rw.{looks, comes, comes_to_write, counts_readers, counts_writers, reads, writes, is_call};
+ghost use Rattle.spin_seated.specs.Rw.{loads, acquires_read, acquires_write, counts_readers, counts_writers, reads, writes, is_call};
 
 use super::Call;
 use crate::lock::Tells;
 
-pub(super) struct Looks;
+pub(super) struct Load;
 
-impl Tells<Call> for Looks {
-    ghost told = { looks };
+impl Tells<Call> for Load {
+    ghost told = { loads };
 }
 
-pub(super) struct Comes;
+pub(super) struct AcquireRead;
 
-impl Tells<Call> for Comes {
-    ghost told = { comes };
+impl Tells<Call> for AcquireRead {
+    ghost told = { acquires_read };
 }
 
-pub(super) struct ComesToWrite;
+pub(super) struct AcquireWrite;
 
-impl Tells<Call> for ComesToWrite {
-    ghost told = { comes_to_write };
+impl Tells<Call> for AcquireWrite {
+    ghost told = { acquires_write };
 }
 
-pub(super) struct CountsReaders;
+pub(super) struct CountReaders;
 
-impl Tells<Call> for CountsReaders {
+impl Tells<Call> for CountReaders {
     ghost told = { counts_readers };
 }
 
-pub(super) struct CountsWriters;
+pub(super) struct CountWriters;
 
-impl Tells<Call> for CountsWriters {
+impl Tells<Call> for CountWriters {
     ghost told = { counts_writers };
 }
 
-pub(super) struct Reads;
+pub(super) struct ReadValue;
 
-impl Tells<Call> for Reads {
+impl Tells<Call> for ReadValue {
     ghost told = { reads };
 }
 
-pub(super) struct Writes;
+pub(super) struct WriteValue;
 
-impl Tells<Call> for Writes {
+impl Tells<Call> for WriteValue {
     ghost told = { writes };
 }
 
-pub(super) struct ReaderGoes;
+pub(super) struct ReleaseRead;
 
-impl Tells<Call> for ReaderGoes {
+impl Tells<Call> for ReleaseRead {
     ghost told = { is_call UnlockRead };
 }
 
-pub(super) struct WriterGoes;
+pub(super) struct ReleaseWrite;
 
-impl Tells<Call> for WriterGoes {
+impl Tells<Call> for ReleaseWrite {
     ghost told = { is_call UnlockWrite };
 }
 
-pub(super) struct ReadsOn;
+pub(super) struct DowngradeWrite;
 
-impl Tells<Call> for ReadsOn {
+impl Tells<Call> for DowngradeWrite {
     ghost told = { is_call Downgrade };
 }

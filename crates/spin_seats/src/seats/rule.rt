@@ -27,9 +27,9 @@ impl<const N: usize> Rule<(), View> for SeatsRule<N> {
 }
 
 /// A party comes, and takes no seat. It finds that at most `N` sit.
-pub(super) struct Look<const N: usize>;
+pub(super) struct Load<const N: usize>;
 
-impl<const N: usize> Play<View> for Look<N> {
+impl<const N: usize> Play<View> for Load<N> {
     ghost then = { looks N };
 }
 

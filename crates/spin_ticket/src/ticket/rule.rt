@@ -1,7 +1,7 @@
 //! What a party is to a `TicketMutex`, and what the two words of the lock say of its parties. Begin at [`TicketRule`].
 ghost use Rattle.std.specs.Prelude.{refl};
 ghost use Rattle.spin_core.specs.Cell.{alone, use_of};
-ghost use Rattle.spin_ticket.specs.Queue.{IsQueue, use_of_view, Looks, Sees, Takes};
+ghost use Rattle.spin_ticket.specs.Queue.{IsQueue, use_of_view, Loads, LoadsServing, Takes};
 ghost use Rattle.spin_ticket.specs.declared.ticket.rule.View.TheVariants.{Idle};
 
 use spin_core::cell::{Play, Rule, WritePermit};
@@ -13,7 +13,7 @@ use spin_step::ticket;
 pub enum View {
     Idle,
     /// It found this number served.
-    Saw(u64),
+    LoadedServing(u64),
     Waiting(u64),
     Entered(u64),
 }
@@ -37,17 +37,17 @@ impl<T> Rule<T, View> for TicketRule {
 }
 
 /// A load of the next number.
-pub(super) struct Look;
+pub(super) struct Load;
 
-impl Play<View> for Look {
-    ghost then = { Looks };
+impl Play<View> for Load {
+    ghost then = { Loads };
 }
 
 /// A load of the number that is served.
-pub(super) struct See;
+pub(super) struct LoadServing;
 
-impl Play<View> for See {
-    ghost then = { Sees };
+impl Play<View> for LoadServing {
+    ghost then = { LoadsServing };
 }
 
 /// A compare-exchange: the party takes the ticket that it expected to be next. If it saw that number served, it has
@@ -68,7 +68,7 @@ impl<T> guard::Release<T, View> for TicketRule {
     // The number that is served is the writer's own. A guard keeps no number, since what ties it to the view would keep
     // `deref_mut` from lending the guard's permit.
     fn release(writer: WritePermit<'_, T, View, TicketRule>) {
-        let (number, permit) = writer.into_permit().load_second::<See>();
+        let (number, permit) = writer.into_permit().load_second::<LoadServing>();
         let next = ticket::serve(number);
         permit.store_second::<LetsGo<Self>>(next).leave();
     }

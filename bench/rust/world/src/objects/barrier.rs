@@ -52,14 +52,14 @@ impl Object for Barrier {
         match call {
             Call::Wait if self.count + 1 < self.size => {
                 self.count += 1;
-                Next::GoesOn(Call::Leave(self.generation))
+                Next::Continue(Call::Leave(self.generation))
             }
             Call::Wait => {
                 self.count = 0;
                 self.generation = self.generation.wrapping_add(1);
                 Next::Answers(Answer::Leader)
             }
-            Call::Leave(found) if found == self.generation => Next::GoesOn(call),
+            Call::Leave(found) if found == self.generation => Next::Continue(call),
             Call::Leave(_) => Next::Answers(Answer::Follower),
         }
     }

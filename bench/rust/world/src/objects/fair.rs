@@ -68,7 +68,7 @@ impl Fair {
     }
 
     fn look(&self, looks: u64) -> Next<Call> {
-        Next::GoesOn(if !self.is_locked() {
+        Next::Continue(if !self.is_locked() {
             Call::Lock { looks }
         } else if looks < self.patience {
             Call::Look { looks: looks + 1 }
@@ -84,7 +84,7 @@ impl Fair {
         let word = self.word;
         if word / STARVER >= self.cap {
             return if to_lock {
-                Next::GoesOn(Call::Look {
+                Next::Continue(Call::Look {
                     looks: self.patience,
                 })
             } else {
@@ -92,14 +92,14 @@ impl Fair {
             };
         }
         if found != Some(word) {
-            return Next::GoesOn(Call::Starve {
+            return Next::Continue(Call::Starve {
                 found: Some(word),
                 to_lock,
             });
         }
         self.word += STARVER;
         if to_lock {
-            Next::GoesOn(Call::Enter { waits: true })
+            Next::Continue(Call::Enter { waits: true })
         } else {
             Next::Grants(Hold::Starver)
         }
@@ -108,9 +108,9 @@ impl Fair {
     fn enter(&mut self, waits: bool) -> Next<Call> {
         if !self.is_locked() {
             self.word += HOLDER;
-            Next::GoesOn(Call::StopStarving)
+            Next::Continue(Call::StopStarving)
         } else if waits {
-            Next::GoesOn(Call::Await)
+            Next::Continue(Call::Await)
         } else {
             Next::Answers(Answer::Refused)
         }
@@ -174,7 +174,7 @@ impl Object for Fair {
             Call::Lock { .. } | Call::Try | Call::TryOrLearn if self.exchange(0, HOLDER) => {
                 Next::Grants(Hold::Write)
             }
-            Call::Lock { looks } => Next::GoesOn(Call::Look { looks }),
+            Call::Lock { looks } => Next::Continue(Call::Look { looks }),
             Call::Look { looks } => self.look(looks),
             Call::Try => Next::Answers(Answer::Refused),
             Call::TryOrLearn if self.word == HOLDER => Next::Answers(Answer::Locked),
@@ -182,12 +182,12 @@ impl Object for Fair {
             Call::IsLocked => Next::Answers(Answer::Is(self.is_locked())),
             Call::Starve { found, to_lock } => self.starve(found, to_lock),
             Call::TryAsOnlyStarver if self.exchange(STARVER, STARVER + HOLDER) => {
-                Next::GoesOn(Call::StopStarving)
+                Next::Continue(Call::StopStarving)
             }
             Call::TryAsOnlyStarver => Next::Answers(Answer::Refused),
             Call::Enter { waits } => self.enter(waits),
-            Call::Await if self.is_locked() => Next::GoesOn(Call::Await),
-            Call::Await => Next::GoesOn(Call::Enter { waits: true }),
+            Call::Await if self.is_locked() => Next::Continue(Call::Await),
+            Call::Await => Next::Continue(Call::Enter { waits: true }),
             Call::StopStarving => {
                 self.word -= STARVER;
                 Next::Grants(Hold::Write)
@@ -199,7 +199,7 @@ impl Object for Fair {
 
     fn fail(call: Call) -> Option<Next<Call>> {
         match call {
-            Call::Lock { looks } => Some(Next::GoesOn(Call::Look { looks })),
+            Call::Lock { looks } => Some(Next::Continue(Call::Look { looks })),
             _ => None,
         }
     }

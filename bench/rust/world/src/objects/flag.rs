@@ -57,9 +57,9 @@ impl Object for Flag {
     fn step(&mut self, call: Call, _held: Option<Hold>, _value: &mut Option<u64>) -> Next<Call> {
         match call {
             Call::Lock | Call::Try { .. } if self.take() => Next::Grants(Hold::Write),
-            Call::Lock => Next::GoesOn(Call::Await),
-            Call::Await if self.is_set => Next::GoesOn(Call::Await),
-            Call::Await => Next::GoesOn(Call::Lock),
+            Call::Lock => Next::Continue(Call::Await),
+            Call::Await if self.is_set => Next::Continue(Call::Await),
+            Call::Await => Next::Continue(Call::Lock),
             Call::Try { .. } => Next::Answers(Answer::Refused),
             Call::IsLocked => Next::Answers(Answer::Is(self.is_set)),
             Call::Release => {
@@ -71,7 +71,7 @@ impl Object for Flag {
 
     fn fail(call: Call) -> Option<Next<Call>> {
         match call {
-            Call::Lock => Some(Next::GoesOn(Call::Await)),
+            Call::Lock => Some(Next::Continue(Call::Await)),
             Call::Try { is_weak: true } => Some(Next::Answers(Answer::Refused)),
             _ => None,
         }

@@ -85,15 +85,15 @@ impl Object for Once {
             (Call::IsCompleted, stage, _) => Next::Answers(Answer::Is(stage == Once::Complete)),
             (Call::Run(closure), ..) => self.end(closure, value),
             (_, Once::Complete, Some(value)) => Next::Answers(Answer::Value(value)),
-            (Call::Fill(closure), ..) => Next::GoesOn(Call::Begin(closure)),
+            (Call::Fill(closure), ..) => Next::Continue(Call::Begin(closure)),
             (Call::Begin(closure), Once::Empty, _) => {
                 *self = Once::Running;
-                Next::GoesOn(Call::Run(closure))
+                Next::Continue(Call::Run(closure))
             }
-            (Call::Begin(closure), ..) => Next::GoesOn(Call::Await(closure)),
-            (Call::Await(closure), Once::Empty, _) => Next::GoesOn(Call::Begin(closure)),
+            (Call::Begin(closure), ..) => Next::Continue(Call::Await(closure)),
+            (Call::Await(closure), Once::Empty, _) => Next::Continue(Call::Begin(closure)),
             (Call::Get, ..) | (Call::Poll, Once::Empty, _) => Next::Answers(Answer::NoValue),
-            (Call::Await(_) | Call::Wait | Call::Poll, ..) => Next::GoesOn(call),
+            (Call::Await(_) | Call::Wait | Call::Poll, ..) => Next::Continue(call),
         }
     }
 

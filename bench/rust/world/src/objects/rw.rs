@@ -71,7 +71,7 @@ impl Call {
     fn missed(self, otherwise: Otherwise) -> Next<Self> {
         match otherwise {
             Otherwise::Fails => Next::Answers(Answer::Refused),
-            Otherwise::Waits => Next::GoesOn(self),
+            Otherwise::Waits => Next::Continue(self),
         }
     }
 }
@@ -108,7 +108,7 @@ impl Rw {
             .missed(otherwise);
         }
         if found != Some(self.word) {
-            return Next::GoesOn(Call::Read {
+            return Next::Continue(Call::Read {
                 hold,
                 found: Some(self.word),
                 otherwise,
@@ -182,7 +182,7 @@ impl Object for Rw {
             Call::Write { otherwise, .. } => call.missed(otherwise),
             Call::Upgrade => {
                 self.word += ASKING;
-                Next::GoesOn(Call::Write {
+                Next::Continue(Call::Write {
                     from: UPGRADABLE + ASKING,
                     is_weak: true,
                     otherwise: Otherwise::Waits,

@@ -44,7 +44,7 @@ impl Ticket {
 
     /// How a `lock` without a ticket goes on.
     fn seek(&self) -> Next<Call> {
-        Next::GoesOn(match self.next {
+        Next::Continue(match self.next {
             u64::MAX => Call::Lock,
             next => Call::Take(next),
         })
@@ -83,17 +83,17 @@ impl Object for Ticket {
     fn step(&mut self, call: Call, _held: Option<Hold>, _value: &mut Option<u64>) -> Next<Call> {
         match call {
             Call::Lock => self.seek(),
-            Call::Take(number) if self.take(number) => Next::GoesOn(Call::Await(number)),
+            Call::Take(number) if self.take(number) => Next::Continue(Call::Await(number)),
             Call::Take(_) => self.seek(),
             Call::Await(ticket) if ticket == self.serving => Next::Grants(Hold::Write),
-            Call::Await(_) => Next::GoesOn(call),
-            Call::Try => Next::GoesOn(Call::TryLook(self.next)),
+            Call::Await(_) => Next::Continue(call),
+            Call::Try => Next::Continue(Call::TryLook(self.next)),
             Call::TryLook(next) if next == self.serving && next < u64::MAX => {
-                Next::GoesOn(Call::TryTake(next))
+                Next::Continue(Call::TryTake(next))
             }
             Call::TryTake(number) if self.take(number) => Next::Grants(Hold::Write),
             Call::TryLook(_) | Call::TryTake(_) => Next::Answers(Answer::Refused),
-            Call::IsLocked => Next::GoesOn(Call::IsNext(self.serving)),
+            Call::IsLocked => Next::Continue(Call::IsNext(self.serving)),
             Call::IsNext(serving) => Next::Answers(Answer::Is(self.next != serving)),
             // The party that holds the lock has the ticket that is served.
             Call::Release => {

@@ -84,7 +84,7 @@ pub const FLAG: &[Worked] = &[
         ",
     ),
     (
-        "moves that are not open are passed over",
+        "moves that are not open are skipped",
         "flag 5 1\n\
          1 begin lock\n\
          1 owner get\n\

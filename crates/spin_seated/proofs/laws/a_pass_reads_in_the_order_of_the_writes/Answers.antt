@@ -5,10 +5,10 @@ use Rattle.spin_seated.specs.Mutex.{mutex}
 use Rattle.spin_seated.specs.Lawful as lawful
 use Rattle.spin_seated.specs.Rw.{Locked, Call, Read, Write, rw, plain_answer}
 use Rattle.spin_seated.specs.RwLawful.{written, read_by}
-use Rattle.spin_seated.proofs.Lawful.{Reads, reads_in_order, written_by, read_then}
+use Rattle.spin_seated.proofs.Lawful.{ReadsValue, reads_in_order, written_by, read_then}
 use Rattle.spin_seated.proofs.laws.a_pass_reads_in_the_order_of_the_writes.Goals as goal
 
-rw_reads : (p : ℕ) (c : Call) (s : Locked) → Reads (read_by c (plain_answer p c s)) (written c) s.value
+rw_reads : (p : ℕ) (c : Call) (s : Locked) → ReadsValue (read_by c (plain_answer p c s)) (written c) s.value
 rw_reads p Read s = refl
 rw_reads p _ s = tt
 

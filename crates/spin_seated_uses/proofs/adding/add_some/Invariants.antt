@@ -1,5 +1,5 @@
 use Rattle.std.proofs.Common.{◌≡◌, ◌≤◌}
-use Rattle.spin_seated_uses.specs.Turns.{HasAdded}
+use Rattle.spin_seated_uses.specs.Sections.{HasAdded}
 use Rattle.spin_seated_uses.proofs.adding.add_some.Given as goal
 
 abbrev pub invariant-loop : goal.invariant-loop

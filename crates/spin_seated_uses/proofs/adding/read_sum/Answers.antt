@@ -1,6 +1,6 @@
 use Rattle.std.proofs.Common.{sym, ◌∙◌}
 use Rattle.std.proofs.lemmas.Bool.{false≢true}
-use Rattle.spin_seated_uses.proofs.Turns.{is_granted, sums}
+use Rattle.spin_seated_uses.proofs.Sections.{is_granted, sums}
 use Rattle.spin_seated_uses.proofs.adding.read_sum.Goals as goal
 
 pub unreachable-requires : goal.unreachable-requires

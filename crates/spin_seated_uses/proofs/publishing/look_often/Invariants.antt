@@ -1,7 +1,7 @@
 use Rattle.std.proofs.Common.{◌≡◌, [], None, length}
 use Rattle.spin_seated.specs.Passes.{IsPassOf}
 use Rattle.spin_seated.specs.Rw.{holds}
-use Rattle.spin_seated_uses.specs.Publishing.{GoesOn}
+use Rattle.spin_seated_uses.specs.Publishing.{Extends}
 use Rattle.spin_seated_uses.proofs.publishing.look_often.Given as goal
 
 abbrev pub invariant-loop : goal.invariant-loop
@@ -9,6 +9,6 @@ invariant-loop g l =
     record {
       own : IsPassOf l.lock l.pass;
       free : holds l.pass.known ≡ None;
-      looked : GoesOn l.initial.pass.known l.pass.known l.seen.items [];
+      looked : Extends l.initial.pass.known l.pass.known l.seen.items [];
       times : length l.seen.items ≡ l.counter;
     }

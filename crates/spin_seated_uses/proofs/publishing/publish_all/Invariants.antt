@@ -1,7 +1,7 @@
 use Rattle.std.proofs.Common.{◌≡◌, [], None, take}
 use Rattle.spin_seated.specs.Passes.{IsPassOf}
 use Rattle.spin_seated.specs.Rw.{holds}
-use Rattle.spin_seated_uses.specs.Publishing.{GoesOn}
+use Rattle.spin_seated_uses.specs.Publishing.{Extends}
 use Rattle.spin_seated_uses.proofs.publishing.publish_all.Given as goal
 
 abbrev pub invariant-loop-value : goal.invariant-loop-value
@@ -9,5 +9,5 @@ invariant-loop-value g l =
     record {
       own : IsPassOf l.lock l.pass;
       free : holds l.pass.known ≡ None;
-      published : GoesOn l.initial.pass.known l.pass.known [] (take l.value-index l.values);
+      published : Extends l.initial.pass.known l.pass.known [] (take l.value-index l.values);
     }

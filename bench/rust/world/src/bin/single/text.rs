@@ -28,7 +28,7 @@ pub fn push_end(text: &mut Vec<u8>, end: &End) {
 
 fn push_outcome(text: &mut Vec<u8>, outcome: Outcome) {
     match outcome {
-        Outcome::PassedOver => text.extend_from_slice(b"passed over"),
+        Outcome::Skipped => text.extend_from_slice(b"passed over"),
         Outcome::Begun => text.extend_from_slice(b"begun"),
         Outcome::GoingOn => text.extend_from_slice(b"going on"),
         Outcome::Answered(answer, began) => {

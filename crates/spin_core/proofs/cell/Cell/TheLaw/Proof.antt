@@ -85,11 +85,11 @@ module _ {M : Type 1} {𝓤 : Ura M} (𝓛 : Logic 𝓤) (m ms : Member) (V Y K 
   found way' ν r w None = fact (0 < w)
   found way' ν r w (Some x) = fsep (fobs ν (R.coded.code x)) (fact (Fixed way' r w x))
 
-  abbrev Found : Way R.Denot → GName → ℕ → ℕ → Fml
-  Found way' ν r w = fex (Option R.Denot) (found way' ν r w)
+  abbrev IsFound : Way R.Denot → GName → ℕ → ℕ → Fml
+  IsFound way' ν r w = fex (Option R.Denot) (found way' ν r w)
 
   abbrev views_at : GName → ℕ × S.Denot → List V.Denot → Fml
-  views_at ν s vs = fsep (fact (Meets g.holds ways s.0 s.1 vs)) (Found way ν (readers_of ways.1 vs) (writers_of ways.1 vs))
+  views_at ν s vs = fsep (fact (Meets g.holds ways s.0 s.1 vs)) (IsFound way ν (readers_of ways.1 vs) (writers_of ways.1 vs))
 
   abbrev standing_at : GName → ℕ × S.Denot → Fml
   standing_at ν s = fsep (word b (o + 0) s.0) (fsep (part_at S full_share s.1 b (o + second_at S R)) (fex (List V.Denot) (views_at ν s)))
@@ -174,10 +174,10 @@ module _ {M : Type 1} {𝓤 : Ura M} (𝓛 : Logic 𝓤) (m ms : Member) (V Y K 
     begins w r (suc k) x lim known = qed 𝓛 (‵ (idle γ) ∷ ‵ (Ready w x) ∷ []) ∵ keep ! (0 ∷ []) $ use1 𝓛 (‵ (St w r (suc k))) (away w r (suc k) (omega arith)) $ by ! (upd_i 𝓤 ⟦ St w r (suc k) ⟧)
 
     -- ---- what is found of the value in each state
-    kept_found : (w : Way R.Denot) (r k : ℕ) (x : R.Denot) → Fixed w r k x → A.obs ν (R.coded.code x) ⊢ ⟦ Found w ν r k ⟧
+    kept_found : (w : Way R.Denot) (r k : ℕ) (x : R.Denot) → Fixed w r k x → A.obs ν (R.coded.code x) ⊢ ⟦ IsFound w ν r k ⟧
     kept_found w r k x known = qed 𝓛 (‵ (fobs ν (R.coded.code x)) ∷ []) ∵ nothing ! $ fpack ! (Fixed w r k x) (λ _. ftrue) known $ move ! (1 ∷ 0 ∷ []) $ fjoin ! $ fpack ! (Option R.Denot) (found w ν r k) (Some x) $ done !
 
-    finds : (w : Way R.Denot) (r k : ℕ) → ⟦ St w r k ⟧ ⊢ ⟦ Found w ν r k ⟧
+    finds : (w : Way R.Denot) (r k : ℕ) → ⟦ St w r k ⟧ ⊢ ⟦ IsFound w ν r k ⟧
     finds alone r zero = qed 𝓛 (‵ (St alone r 0) ∷ []) ∵ fpick ! (λ x. fsplit ! $ keep ! (0 ∷ []) $ by ! (kept_found alone r 0 x tt))
     finds lends r zero = qed 𝓛 (‵ (St lends r 0) ∷ []) ∵ fpick ! (λ x. fpick ! (λ a. fsplit ! $ move ! (1 ∷ []) $ fsplit3 ! $ keep ! (0 ∷ []) $ by ! (kept_found lends r 0 x tt)))
     finds (fixes fact) zero zero = qed 𝓛 (‵ (St (fixes fact) 0 0) ∷ []) ∵ fpick ! (λ x. fpick ! (λ a. fsplit ! $ fpick ! (λ known. drop ! $ fsplit3 ! $ keep ! (0 ∷ []) $ by ! (kept_found (fixes fact) 0 0 x known))))
@@ -193,7 +193,7 @@ module _ {M : Type 1} {𝓤 : Ura M} (𝓛 : Logic 𝓤) (m ms : Member) (V Y K 
     words_back : emp 𝓤 ⊢ ⟦ fwand (fsep (fdead κ) (fseps (I ∷ []))) (fupd (Words ν)) ⟧
     unfolding fseps
     words_back = qed 𝓛 [] ∵ assume ! (‵ (fsep (fdead κ) (fsep I ftrue))) $ suffices ! ⟦ Words ν ⟧ (upd_i 𝓤 ⟦ Words ν ⟧) $ fsplit3 ! $ keep ! (1 ∷ []) $ fpick ! (λ s. fsplit3 ! $ move ! (2 ∷ []) $
-        fpick ! (λ vs. let r : ℕ = readers_of ways.1 vs in let w : ℕ = writers_of ways.1 vs in fsplit3 ! $ move ! (1 ∷ []) $ fpick ! (λ meets. drop ! $ drop ! $ use1 𝓛 (‵ (Found way ν r w)) (finds way r w) $ nothing ! $
+        fpick ! (λ vs. let r : ℕ = readers_of ways.1 vs in let w : ℕ = writers_of ways.1 vs in fsplit3 ! $ move ! (1 ∷ []) $ fpick ! (λ meets. drop ! $ drop ! $ use1 𝓛 (‵ (IsFound way ν r w)) (finds way r w) $ nothing ! $
         fpack ! (Meets g.holds ways s.0 s.1 vs) (λ _. ftrue) meets $ fjoin ! $ fpack ! (List V.Denot) (views_at ν s) vs $ move ! (1 ∷ 2 ∷ 0 ∷ []) $ fjoin3 ! $ fpack ! (ℕ × S.Denot) (standing_at ν) s $ done !)))
 
     -- ---- the invariant is made: some views that meet the rule take their places

@@ -5,7 +5,7 @@ use Rattle.spin_core.specs.CellMemory.{offset, permit_owns}
 use Rattle.spin_core.specs.Cell.{reads, use_of, Seen}
 use Rattle.spin_core.specs.contracts.cell.Permit as hand
 use Rattle.spin_core.proofs.PermitFields.{hand_of, told, typed, owns_placed}
-use Rattle.spin_core.proofs.CellLends.{sees_on}
+use Rattle.spin_core.proofs.CellLends.{shown_on}
 use Rattle.spin_core.specs.contracts.cell.Permit.see.{ended, clauses}
 use Rattle.spin_core.specs.contracts.cell.Permit.see.Key.{name as #self}
 use Rattle.spin_core.proofs.cell.Permit.see.Statement.{statement}
@@ -26,7 +26,7 @@ see_spec 𝓤 𝓛 𝓜 𝓡 wired T V P K S L _ _ _ LS g d _ =
     use1 𝓛 (given (InBlock p) (‵ (Owned p))) (fact_use 𝓤 _ (owns_placed 𝓛 Y R cw.code Sr g.holds ways β p h.view h.value) (guard_i 𝓤 (InBlock p) (sem 𝓛 (Owned p)))) $ learn ! (λ inb. let at : p ≡ block_ptr b o = at_block p inb in
     rewrite ! 0 (λ (z : Ptr). ‵ (Owned z)) at refl $
     enter ! 𝓣.C 𝓣.Λ fn (hand_of p ∷ []) Post $ alloc_all ! (λ l. pass_all ! refl (typed p inb, tt) $ let Ev = types.ByLocal.env fn.locals l in
-    use1 𝓛 (later (some (λ (x : T.Denot). given ((h.value ≡ Some x) × Seen ways.0 x) (‵ (hidden_shr R β x b e))))) (sees_on 𝓛 Y R cw.code Sr g.holds ways β LR.shr_laws b o h.view h.value asked) $ await ! tt $ pick ! (λ x. learn ! (λ so.
+    use1 𝓛 (later (some (λ (x : T.Denot). given ((h.value ≡ Some x) × Seen ways.0 x) (‵ (hidden_shr R β x b e))))) (shown_on 𝓛 Y R cw.code Sr g.holds ways β LR.shr_laws b o h.view h.value asked) $ await ! tt $ pick ! (λ x. learn ! (λ so.
     sets ! (is ! (of_opd ! (get_in ! (fld ! refl (stop !)) (sub ! 0 refl (whole !)))) (ap ptr_val at)) refl (tt, tt) $ first ! $ blocks ! $
     sets_last ! (addr ! (through ! refl (fld ! refl (stop !)))) refl (tt, tt) $ exec ! 𝓣.C 𝓣.Λ Ev (tail (tail fn.body)) (at_ret Ev Post) $ sets ! (of_opd ! (get ! refl)) refl (tt, tt) $
     feq_i ! (List Val) (vptr b e ∷ []) (vptr b e ∷ []) refl $ fjoin ! $ move ! (1 ∷ 2 ∷ []) $ join ! $

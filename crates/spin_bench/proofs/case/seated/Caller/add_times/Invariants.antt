@@ -1,8 +1,8 @@
 -- each turn of the loop leaves the pass as it found it: of this lock, and away
 use Rattle.std.proofs.Common.{◌≡◌, Some}
 use Rattle.spin_seated.specs.Passes.{IsPassOf}
-use Rattle.spin_seated_uses.specs.Turns.{away, turn_of}
+use Rattle.spin_seated_uses.specs.Sections.{away, section_of}
 use Rattle.spin_bench.proofs.case.seated.Caller.add_times.Given as goal
 
 abbrev pub invariant-loop : goal.invariant-loop
-invariant-loop l = IsPassOf l.lock l.pass × (turn_of l.pass.known ≡ Some away)
+invariant-loop l = IsPassOf l.lock l.pass × (section_of l.pass.known ≡ Some away)

@@ -1,0 +1,55 @@
+//! What a cell lends its owner of a value that has to stay what it has become. Begin with [`Stabilizes`].
+ghost use Rattle.std.specs.Prelude.{◌≡◌, Bool, true};
+
+use super::{Cell, Rule};
+
+/// What a value may become, and then has to stay.
+///
+/// # Examples
+/// ```
+/// impl<T, S> Stabilizes for Stage<T, S> {
+///     ghost use Rattle.spin_once.specs.Once.{is_done};
+///
+///     ghost stable = { is_done };
+/// }
+/// ```
+pub trait Stabilizes {
+    // Whether it has become that.
+    ghost stable: { Self → Bool };
+}
+
+/// A value as it lies in a cell, stable or not.
+#[derive(Drop)]
+pub struct MaybeStable<T> {
+    pub value: T,
+}
+
+/// A value that is stable. Only a stable one can take its place.
+pub struct Stable<T: Stabilizes> {
+    pub value: T,
+    ghost stable: { T.stable value ≡ true },
+}
+
+impl<T: Stabilizes, V, P: Rule<MaybeStable<T>, V>> Cell<MaybeStable<T>, V, P> {
+    ghost use Rattle.spin_core.specs.Stable.{StableAt};
+
+    /// Returns a mutable reference to the value if the first word is `first`. The borrow shows that there is no permit.
+    ///
+    /// # Contract
+    /// Where the rule holds of that word the value has to be stable (`StableAt`). It stays so.
+    ///
+    /// # Examples
+    /// ```
+    /// let stable = self.cell.get_stable(COMPLETE as u64)?;
+    /// Some(Stage::made(stable))
+    /// ```
+    pub fn get_stable(&mut self, first: u64) -> Option<&mut Stable<T>>
+        requires { StableAt P.holds (P.ways self.old) T.stable first }
+    {
+        if self.first == first {
+            Some(unsafe { &mut *(&raw const self.value as *mut Stable<T>) })
+        } else {
+            None
+        }
+    }
+}

@@ -1,7 +1,0 @@
-use denote.RattleType.{RattleType}
-use denote.Param.Send.{IsSend, IsSync, part_keyless}
-use Rattle.spin_once.specs.contracts.kept.Kept.{the_row}
-use Rattle.spin_once.proofs.kept.Kept.TheSendSync.Send.{send}
-
-pub sync : (T : RattleType) → IsSend T → IsSync (the_row T)
-sync T s = record { shared = λ d b o κ q. part_keyless (the_row T) (send T s) q d b o }

@@ -1,8 +1,0 @@
--- What a look at a value that is made from a seed tells.
-use Rattle.spin_once.specs.declared.seeded.rule.Progress.{Progress}
-use Rattle.spin_once.specs.declared.seeded.rule.Progress.TheVariants.{Value}
-
--- a value may be made from the seed
-abbrev pub LooksMade : {T S : Type 0} → (S → T → Type 0) → S → Progress T → Type 0
-LooksMade makes seed (Value value) = makes seed value.now
-LooksMade makes seed _ = Unit {0}

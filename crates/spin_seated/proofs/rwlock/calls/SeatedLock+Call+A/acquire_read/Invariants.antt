@@ -1,0 +1,14 @@
+use Rattle.spin_seated.specs.Histories.{Turned}
+use Rattle.spin_seated.specs.Passes.{IsPassOf}
+use Rattle.spin_seated.specs.Rw.{rw, refused_by}
+use Rattle.spin_seated.proofs.rwlock.calls.SeatedLock+Call+A.acquire_read.Given as goal
+
+-- the word found last has refused, or nothing has been told yet
+abbrev pub invariant-loop : goal.invariant-loop
+invariant-loop g l =
+    record {
+      goes_on : (goal.iterator-loop g).can_next l.iterator';
+      ends : (goal.iterator-loop g).is_finite l.iterator';
+      own : IsPassOf l.self l.place;
+      told : Turned rw (refused_by l.found) l.fn.place.known l.place.known;
+    }

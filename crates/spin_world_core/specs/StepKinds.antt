@@ -1,0 +1,25 @@
+-- Of which kind a step of a call is.
+use Rattle.std.specs.Prelude.{Bool, true, false}
+
+pub data StepKind : Type 0 where
+  plain : StepKind  -- it is made once
+  again : StepKind  -- an exchange, which the call makes again where it fails
+  look : StepKind  -- a look of a call that waits
+  weak : StepKind  -- a weak exchange that refuses, whatever the word is: only the move `Weak` makes such a step
+
+abbrev pub is_again : StepKind → Bool
+is_again again = true
+is_again _ = false
+
+abbrev pub is_look : StepKind → Bool
+is_look look = true
+is_look _ = false
+
+abbrev pub is_weak : StepKind → Bool
+is_weak weak = true
+is_weak _ = false
+
+-- the kind of a step by the move `Step`, which never refuses without cause
+abbrev pub by_step : StepKind → StepKind
+by_step weak = plain
+by_step step_kind = step_kind
