@@ -33,7 +33,7 @@ meets key n m vs is = (is, limits key n (readers_of f vs) (writers_of f vs) is)
 pub is_made : (key value : ℕ) → value ≡ key + 1 → Opens IsOnce (once_ways key) 2 tt (Done value)
 is_made key value e = (Reading ∷ [], tt, meets key 2 tt (Reading ∷ []) (omega arith, refl), e)
 
--- a look: a party that finds 2 comes to see
+-- a load: a party that finds 2 becomes a reader
 pub looks : (key : ℕ) → AllowsAt IsOnce (once_ways key) None None (λ n. n) (Loads 0 0 None)
 looks key id zero m vs has at small = let r = read_after id None vs Away tt in let w = write_after id None vs Away tt in
     (Away, (λ e. e, tt, meets key 0 m (vs ++ Away ∷ []) (omega (arith, has.0), omega (arith, has.0))), (λ e. absurd (omega (arith, e)), λ ne. refl))

@@ -31,7 +31,7 @@ Stands _ r w = ⊥
 abbrev pub IsOnce : ℕ → Unit {0} → List View → Type 0
 IsOnce n m vs = Stands n (readers_of use_of_view vs) (writers_of use_of_view vs)
 
--- a party that finds the value made sees it
+-- a party that finds the value made reads it
 abbrev pub Loads : ℕ → ℕ → Option View → ℕ → View → Type 0
 Loads old new before found after = (found ≡ 2 → after ≡ Reading) × (found ≢ 2 → after ≡ Away)
 
@@ -39,7 +39,7 @@ Loads old new before found after = (found ≡ 2 → after ≡ Reading) × (found
 abbrev pub Begins : ℕ → ℕ → Option View → ℕ → View → Type 0
 Begins old new before found after = (found ≡ 0 → after ≡ Running) × (found ≡ 2 → after ≡ Reading) × (found ≢ 0 → found ≢ 2 → after ≡ Away)
 
--- a party that ran puts the number back, or sees the value that it made
+-- a party that ran puts the number back, or reads the value that it made
 abbrev pub PutsBack : ℕ → ℕ → Option View → ℕ → View → Type 0
 PutsBack old new before found after = after ≡ Away
 

@@ -1,4 +1,4 @@
-//! A value that is made once, from a number: who sees it is a reader of the cell that never gives its part back.
+//! A value that is made once, from a number: a party that reads it never gives its part of the cell back.
 ghost use Rattle.std.specs.Prelude.{◌≡◌, ◌+◌, ◌<◌, IfSome, Some};
 ghost use Rattle.spin_core_tests.specs.declared.once.View.TheVariants.{Reading};
 

@@ -17,7 +17,7 @@ use Rattle.spin_once.specs.declared.once_core.rule.View.TheVariants.{Idle, Runni
 use Rattle.spin_once.specs.declared.once_core.rule.Stage.{Stage}
 use Rattle.spin_once.specs.declared.once_core.rule.Stage.TheVariants.{Seed, Done}
 
--- how many see the value and how many run, after a party has come to another view
+-- how many read the value and how many run, after a party has come to another view
 see_after : (id : ℕ) (view : Option View) (vs : List View) (w : View) → Stands id view vs → readers (after id view vs w) + reading (use_of use_of_view view) ≡ readers vs + reading (use_of_view w)
 see_after id None vs w at = moves (λ v. reading (use_of_view v)) id None vs w at
 see_after id (Some v) vs w at = moves (λ v. reading (use_of_view v)) id (Some v) vs w at
@@ -32,7 +32,7 @@ stands_somewhere [] few = absurd (omega (arith, few))
 stands_somewhere (Running ∷ vs) few = (0, refl)
 stands_somewhere (_ ∷ vs) few = let later = stands_somewhere vs few in (suc later.0, later.1)
 
--- the rule by numbers alone: the word, how many see, how many run
+-- the rule by numbers alone: the word, how many read, how many run
 abbrev Numbers : ℕ → ℕ → ℕ → Type 0
 Numbers zero r w = (r ≡ 0) × (w ≡ 0)
 Numbers (suc zero) r w = (r ≡ 0) × (w ≡ 1)
@@ -81,12 +81,12 @@ module _ {T S : Type 0} (makes : S → T → Type 0) (key : Snapshot S) where
   made_of_any any (Done value) done = any key.value value
   made_of_any any _ done = absurd cc
 
-  -- where one sees the value it was made, and any that was made may take its place
+  -- where one reads the value it was made, and any that was made may take its place
   pub stabilizes : ((seed : S) (value : T) → makes seed value) → StableAt IsOnce (once_ways makes key) is_done 2
   stabilizes any m x lies = let vs = lies.0 in let few = (numbers 2 m vs lies.1.0).0 in let same = fixed (readers vs) (runs vs) few in
       (was_made x (subst (λ A. A) (same x) lies.2), λ y done. (vs, lies.1, subst (λ A. A) (sym (same y)) (made_of_any any y done)))
 
-  -- ---- a newcomer that looks, and one that tries to begin
+  -- ---- a newcomer that loads, and one that tries to begin
   loads_at : (id n : ℕ) (m : Unit {0}) (vs : List View) → Numbers n (readers vs) (runs vs) → m ≡ tt → Meets IsOnce (once_ways makes key) n m (vs ++ loaded n ∷ [])
   loads_at id n m vs has e = let see = see_after id None vs (loaded n) tt in let run = run_after id None vs (loaded n) tt in meets n m (vs ++ loaded n ∷ []) (kept n has see run) e
     where
@@ -95,7 +95,7 @@ module _ {T S : Type 0} (makes : S → T → Type 0) (key : Snapshot S) where
       kept (suc (suc (suc n))) has see run = absurd has
       kept _ has see run = (omega (arith, see, has), omega (arith, run, has))
 
-  -- a party that sees finds one that sees
+  -- a party that reads finds one that reads
   loads_owes : (n : ℕ) (vs : List View) → Numbers n (readers vs) (runs vs) → (A : Type 0) → A → (off ≡ reads → use_of_view (loaded n) ≡ reads) × Owes (λ (read : Bool) (x : MaybeStable (Stage T S)). IsMadeFrom makes key read x.value) off (use_of_view (loaded n)) None (readers vs) × A
   loads_owes (suc (suc zero)) vs has A a = (λ e. refl, has.0, a)
   loads_owes (suc (suc (suc n))) vs has A a = absurd has
@@ -136,7 +136,7 @@ runs_alone Running e = refl
 runs_alone Idle e = absurd (let d : off ≡ writes = e in cc)
 runs_alone Reading e = absurd (let d : reads ≡ writes = e in cc)
 
--- ---- who may go
+-- ---- which parties may leave
 idle_rests : Rests IsOnce use_of_view (Some Idle)
 idle_rests = (
   refl,
@@ -151,7 +151,7 @@ pub left_rests : (view : Option View) → Moved (λ v. v ≡ Idle) view → Rest
 left_rests None moved = absurd moved
 left_rests (Some v) moved = rw moved idle_rests
 
--- a party that came to something else than it looked for
+-- a party that found another word than it tried for
 pub loaded_rests : (view : Option View) (found : ℕ) → Moved (λ v. v ≡ loaded found) view → found ≢ 2 → Rests IsOnce use_of_view view
 loaded_rests None found moved other = absurd moved
 loaded_rests (Some v) found moved other = left_rests (Some v) (moved ∙ idle)

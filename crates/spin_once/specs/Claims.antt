@@ -1,4 +1,4 @@
--- What a party comes to that wants a value.
+-- What a thread that claims a value gets.
 use Rattle.std.specs.Prelude.{◌≡◌}
 use Rattle.spin_core.specs.Stable.{maybe_stable}
 use Rattle.spin_once.specs.declared.once_core.rule.Stage.TheVariants.{Seed}
@@ -11,7 +11,7 @@ module _ {T S : Type 0} (seed : S) where
   abbrev pub HasSeed : InitPermit T S → Type 0
   HasSeed permit = (permit.writer.value ≡ maybe_stable (Seed seed)) × (permit.writer.key.value ≡ seed)
 
-  -- and who took it out has it
+  -- and a party that took it out has it
   abbrev pub HasTaken : InitPermit T S × S → Type 0
   HasTaken taken = (taken.1 ≡ seed) × (taken.0.writer.key.value ≡ seed)
 

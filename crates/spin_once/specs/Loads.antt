@@ -1,4 +1,4 @@
--- What a look at a value that is made from a seed tells.
+-- What a load tells of a value that is made from a seed.
 use Rattle.spin_once.specs.declared.once_core.rule.Progress.{Progress}
 use Rattle.spin_once.specs.declared.once_core.rule.Progress.TheVariants.{Value}
 

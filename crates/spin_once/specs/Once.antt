@@ -17,7 +17,7 @@ use_of_view Idle = off
 use_of_view Running = writes
 use_of_view Reading = reads
 
--- so many parties see the value, and so many run
+-- so many parties read the value, and so many run
 abbrev pub readers : List View → ℕ
 readers = readers_of use_of_view
 
@@ -43,7 +43,7 @@ is_done (Done value) = true
 is_done _ = false
 
 module _ {T S : Type 0} (makes : S → T → Type 0) where
-  -- a value that somebody sees may be made from the key, and what nobody uses is the key itself
+  -- a value that somebody reads may be made from the key, and what nobody uses is the key itself
   abbrev pub IsMadeFrom : Snapshot S → Bool → Stage T S → Type 0
   IsMadeFrom key true (Done value) = makes key.value value
   IsMadeFrom key false (Seed seed) = seed ≡ key.value
@@ -52,7 +52,7 @@ module _ {T S : Type 0} (makes : S → T → Type 0) where
   abbrev pub once_ways : Snapshot S → Ways (MaybeStable (Stage T S)) View
   once_ways key = (fixes (λ read x. IsMadeFrom key read x.value), use_of_view)
 
--- what a party becomes that looks at this word, and one that tries to begin
+-- what a party becomes that loads this word, and one that tries to begin
 abbrev pub loaded : ℕ → View
 loaded n = if n == 2 then Reading else Idle
 

@@ -24,7 +24,7 @@ pub(crate) struct OnceCore<T, S: Seed<T>> {
     cell: SeedCell<T, S>,
 }
 
-/// What a thread gets that asks for the value.
+/// What a thread gets that claims the value.
 pub(crate) enum Claim<'a, T, S: Seed<T>> {
     Value(&'a T),
     /// The right to make the value: no thread had begun, or the last one left the seed.

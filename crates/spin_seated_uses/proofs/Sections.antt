@@ -47,7 +47,7 @@ Matches p entered s = is_held_by p s ≡ true
 Matches p (has_read v) s = (is_held_by p s ≡ true) × (s.value ≡ v)
 Matches p has_written s = is_held_by p s ≡ true
 
--- one call: how the value and each pass's turn go on
+-- one call: what becomes of the value and of each pass's section
 module _ (n : ℕ) (s : Locked) (alone : Alone n s.lock.holders) where
   only_one : (p q : ℕ) → is_held_by p s ≡ true → is_held_by q s ≡ true → q ≡ p
   only_one p q held too =
@@ -55,7 +55,7 @@ module _ (n : ℕ) (s : Locked) (alone : Alone n s.lock.holders) where
       let h : holder q writing ≡ holder p writing = cc one in
       ap (λ (h : Holder). h.party) h
 
-  -- a write comes from the holder, so who has read and isn't the writer doesn't hold
+  -- a write comes from the holder, so a pass that has read and isn't the writer doesn't hold
   value_stays : (p q : ℕ) (c : Call) → may_call p c s ≡ true → q ≢ p → is_held_by q s ≡ true → (after_call p c s).value ≡ s.value
   value_stays p q TryLock may apart held = value_tried p s (is_empty s.lock.holders)
   value_stays p q IsLocked may apart held = refl
@@ -103,7 +103,7 @@ first_goes : (o : Option Section) (es : List (Entry Call Answer)) (t : Section) 
 first_goes None es t is = absurd (cc is)
 first_goes (Some u) es t is = (refl, is)
 
--- the turn of the pass q after a call of the pass p
+-- the section of the pass q after a call of the pass p
 abbrev section_next : ℕ → Call → Answer → ℕ → Section → Section
 section_next p c a q t = if p == q then or_away (next_section t c a) else t
 

@@ -8,7 +8,7 @@ use Rattle.spin_seated.specs.Passes.{Seated, IsPassOf, pass_of}
 use Rattle.spin_seated.specs.Rw.{Knows}
 use Rattle.spin_seated.specs.RwLawful.{values_written, values_read}
 
--- a pass has gone on: it has read and written these values more
+-- what a pass knows extends what it knew: it has read and written these values more
 pub record Extends (x y : Knows) (read written : List ℕ) : Type 0 where
   pub number : y.pass ≡ x.pass
   pub reads : values_read (own_calls y) ≡ values_read (own_calls x) ++ read

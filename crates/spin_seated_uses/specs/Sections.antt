@@ -10,7 +10,7 @@ use Rattle.spin_seated.specs.declared.lock.SeatedLock.{SeatedLock}
 use Rattle.spin_seated.specs.Mutex.{Knows}
 use Rattle.spin_seated.specs.Passes.{Seated, IsPassOf}
 
--- how far it is
+-- how far it is in its critical section
 pub data Section : Type 0 where
   away : Section
   entered : Section

@@ -37,8 +37,8 @@ pub fn open_for_two(alloc: Global, value: u64) -> Result<(SeatedMutex, Pass, Pas
 /// Adds 1 if the lock is granted and there is room. Returns whether it did.
 ///
 /// # Contract
-/// The pass has to be one of this lock, between two turns, and is so again. Its own calls have one write more if the
-/// answer is `true`, and as many as before otherwise (`added`).
+/// The pass has to be one of this lock, outside its critical section, and is so again. Its own calls have one write
+/// more if the answer is `true`, and as many as before otherwise (`added`).
 pub fn add(lock: &SeatedMutex, pass: &mut Pass) -> bool
     requires own { IsPassOf lock.now pass.old }
     requires section { section_of pass.old.known ≡ Some away }
@@ -63,8 +63,8 @@ pub fn add(lock: &SeatedMutex, pass: &mut Pass) -> bool
 /// Tries to add 1, `turns` times. Returns the pass, and how often it did.
 ///
 /// # Contract
-/// The pass has to be one of this lock, between two turns, and to have added nothing. Afterwards it has added as often
-/// as the answer says (`HasAdded`).
+/// The pass has to be one of this lock, outside its critical section, and to have added nothing. Afterwards it has
+/// added as often as the answer says (`HasAdded`).
 ///
 /// # Examples
 /// ```
@@ -90,8 +90,8 @@ pub fn add_some(lock: &SeatedMutex, mut pass: Pass, turns: u64) -> (Pass, u64)
 /// no other call came between. The first pass holds the lock afterwards.
 ///
 /// # Contract
-/// The lock has to have two passes, and these have to be both, each between two turns. The answer is what the lock was
-/// opened with, and the additions of both.
+/// The lock has to have two passes, and these have to be both, each outside its critical section. The answer is what
+/// the lock was opened with, and the additions of both.
 ///
 /// # Examples
 /// ```

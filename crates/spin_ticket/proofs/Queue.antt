@@ -52,7 +52,7 @@ pub takes : (next taken : ℕ) → ((s : Plain) (p : ℕ) → next_word s ≡ ne
 takes next taken plain = exchanged queue None Waiting Idle next taken (λ s p. (refl, tt)) (λ s p vs room order is has small e.
     by_grant queue None (Waiting next) s p to_take_ticket taken (serving_word s) (plain s p e) (ap (λ n. entries_of p (queues n false)) e) tt (sym (serving-taken s p false order.numbered)))
 
--- a party that saw the next number served finds nobody in the queue
+-- a party that found the next number served finds nobody in the queue
 pub attempts : (next taken : ℕ) → ((s : Plain) (p : ℕ) → length s.tickets ≤ next_word s → next_word s ≡ next → serving_word s ≡ next → Decides s (gets p to_take_and_enter) next_word (Some taken))
     → Allows IsQueue (ways queue) (Some (LoadedServing next)) (λ n. either (n == next) taken n) (Takes next taken (Some (LoadedServing next)))
 attempts next taken plain = exchanged queue (Some (LoadedServing next)) Entered Idle next taken (λ s p. (refl, tt)) (λ s p vs room order is has small e.
@@ -92,7 +92,7 @@ serves_next n next plain = allows_second queue (Some (Entered n)) (λ _. next) (
     let served = entered_is_served s p n order.numbered order.exclusive.one_entered (ap (λ e. e.tickets) has.0) in
     (Idle, by_step queue (Some (Entered n)) Idle s (serves p) s.next next served.0 refl tt refl (plain s p order.numbered.0 served.1 served.0), refl))
 
--- what a party that comes has seen
+-- what a newcomer has loaded
 pub loaded : (before view : Option View) (found : ℕ) → before ≡ None → Moved (LoadsServing 0 0 before found) view → view ≡ Some (LoadedServing found)
 loaded before view found comes moved = came_to view (LoadedServing found) (rw comes at moved)
 

@@ -20,18 +20,18 @@ IsQueue = Encodes part 0 next_word serving_word
 abbrev pub use_of_view : View → Use
 use_of_view = used_by part
 
--- what a look at the next number tells: it is not below one that the party saw served
+-- what a load of the next number tells: it is not below one that the party found served
 abbrev pub Loads : ℕ → ℕ → Option View → ℕ → View → Type 0
 Loads old new (Some (LoadedServing n)) found after = (n ≤ found) × (after ≡ Idle)
 Loads old new _ found after = after ≡ Idle
 
--- what a look at the served number tells who comes, who waits (it has entered if it was its turn), and who has entered (it finds its own)
+-- what a load of the served number tells a newcomer, a waiter (it has entered if it was its turn), and a party that has entered (it finds its own)
 abbrev pub LoadsServing : ℕ → ℕ → Option View → ℕ → View → Type 0
 LoadsServing old new (Some (Waiting n)) found after = (turn : Bool) → IsTurn found n turn → after ≡ (if turn then Entered n else Waiting n)
 LoadsServing old new (Some (Entered n)) found after = (found < ticket_limit) × (after ≡ Entered found)
 LoadsServing old new _ found after = after ≡ LoadedServing found
 
--- a party that takes a ticket has entered with it if it saw that number served, and else waits with it
+-- a party that takes a ticket has entered with it if it found that number served, and else waits with it
 abbrev pub Takes : ℕ → ℕ → Option View → ℕ → View → Type 0
 Takes next taken (Some (LoadedServing n)) = exchanges Entered Idle next taken (Some (LoadedServing n))
 Takes next taken before = exchanges Waiting Idle next taken before

@@ -32,7 +32,7 @@ impl<'a, T, S: Seed<T>> InitPermit<'a, T, S> {
         }
     }
 
-    /// Puts the value, which all parties see from then on. A seed that was not taken out is not dropped.
+    /// Puts the value, which all parties may read from then on. A seed that was not taken out is not dropped.
     pub(crate) fn complete(self, value: T) -> &'a T
         requires { S.makes self.writer.key.value value }
         ensures { result.now ≡ value }

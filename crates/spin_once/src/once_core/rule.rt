@@ -86,7 +86,7 @@ pub(super) type Party<'a, T, S> = Permit<'a, Slot<T, S>, View, Slot<T, S>>;
 
 pub(super) type Writer<'a, T, S> = WritePermit<'a, Slot<T, S>, View, Slot<T, S>>;
 
-/// What a look finds.
+/// What a load finds.
 pub(crate) enum Progress<'a, T> {
     Nothing,
     Running,
@@ -128,7 +128,7 @@ pub(super) fn with_seed<T, S: Seed<T>>(seed: S) -> SeedCell<T, S>
     Cell::new(slot, NOTHING as u64, (), &key)
 }
 
-/// Creates a cell with a value, which a party has seen.
+/// Creates a cell with a value, which a party has read.
 pub(super) fn completed<T, S: Seed<T>>(value: T, seed: &S) -> SeedCell<T, S>
     requires { S.makes seed.now value }
     ensures { result.value ≡ seed.now }
@@ -139,7 +139,7 @@ pub(super) fn completed<T, S: Seed<T>>(value: T, seed: &S) -> SeedCell<T, S>
     Cell::new(slot, COMPLETE as u64, (), &Snapshot::of(seed))
 }
 
-/// Looks once. By the time the caller reads the answer it may be out of date, but a value stays.
+/// Loads the word once. By the time the caller reads the answer it may be out of date, but a value stays.
 pub(super) fn look<T, S: Seed<T>>(cell: &SeedCell<T, S>) -> Progress<'_, T>
     ensures { LoadsMade S.makes cell.now.value result }
 {
@@ -155,7 +155,7 @@ pub(super) fn look<T, S: Seed<T>>(cell: &SeedCell<T, S>) -> Progress<'_, T>
     }
 }
 
-/// Returns the value to a party that sees it, for as long as the cell is borrowed.
+/// Returns the value to a party that reads it, for as long as the cell is borrowed.
 pub(super) fn read_value<'a, T, S: Seed<T>>(party: Party<'a, T, S>) -> &'a T
     requires { party.view ≡ Some Reading }
     ensures value { party.entry.value ≡ Some (maybe_stable (Done result.now)) }
@@ -164,7 +164,7 @@ pub(super) fn read_value<'a, T, S: Seed<T>>(party: Party<'a, T, S>) -> &'a T
     known(lying(party))
 }
 
-// What lies in the cell of a party that sees the value: that value.
+// What lies in the cell of a party that reads the value: that value.
 fn lying<'a, T, S: Seed<T>>(party: Party<'a, T, S>) -> Option<&'a T>
     requires { party.view ≡ Some Reading }
     ensures { IsSomeAnd result (λ there. (party.entry.value ≡ Some (maybe_stable (Done there.now))) × S.makes party.entry.key.value there.now) }

@@ -50,7 +50,7 @@ impl Play<View> for LoadServing {
     ghost then = { LoadsServing };
 }
 
-/// A compare-exchange: the party takes the ticket that it expected to be next. If it saw that number served, it has
+/// A compare-exchange: the party takes the ticket that it expected to be next. If it found that number served, it has
 /// entered with it. Else it waits.
 pub(super) struct Take;
 
