@@ -2,7 +2,6 @@ pub mod Sums
 pub mod Holders
 pub mod Exclusive
 pub mod Entries
-pub mod Deciding
 pub mod Flags
 pub mod Starvers
 pub mod FairSteps

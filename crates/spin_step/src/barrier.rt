@@ -124,6 +124,7 @@ pub fn arrive(state: State) -> (State, bool)
 /// equal(&rt, leads, true);
 /// equal(&rt, barrier::may_leave(second, 0), true);
 /// ```
+#[tactic(auto, using(crate::proofs::Barriers::leaving))]
 pub fn may_leave(state: State, generation: usize) -> bool
     ensures exact { result ≡ not (state.generation == generation) }
     ensures plain { (s : Plain) (k : ℕ) → IsBarrier s state.n state.count state.generation → k ≤ s.arrivals → generation_at s k ≡ generation → result ≡ may_leave s k }

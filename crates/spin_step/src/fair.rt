@@ -135,6 +135,7 @@ pub fn starve(word: usize, cap: usize) -> Option<usize>
 /// ```
 /// equal(&rt, fair::unstarve(3), 1);
 /// ```
+#[tactic(auto, using(crate::proofs::FairSteps::gives))]
 pub fn unstarve(word: usize) -> usize
     requires { starver_weight ≤ word }
     ensures exact { result ≡ unstarved word }
@@ -190,6 +191,7 @@ pub fn lock_starved(word: usize) -> Option<usize>
 /// ```
 /// equal(&rt, fair::unlock(3), 2);
 /// ```
+#[tactic(auto, using(crate::proofs::FairSteps::gives))]
 pub fn unlock(word: usize) -> usize
     requires { is_set word ≡ true }
     ensures exact { result ≡ unlocked word }

@@ -31,6 +31,7 @@ pub fn lock(flag: bool) -> Option<bool>
 /// ```
 /// equal(&rt, flag::unlock(true), false);
 /// ```
+#[tactic(auto, using(crate::proofs::Flags::gives))]
 pub fn unlock(flag: bool) -> bool
     requires { IsTrue flag }
     ensures exact { result ≡ false }

@@ -10,12 +10,14 @@ pub fn a_downgrade_lets_no_writer_in()
 {}
 
 /// States that while a reader asks to upgrade no further reader comes, and each one that leaves is one less.
+#[tactic(auto, using(crate::proofs::Upgrading::readers_go))]
 pub fn beside_an_asking_reader_readers_only_go()
     ensures { (s : Plain) (p : ℕ) (cs : List Change) → IsExclusive s → StaysAsking p s cs → count_kind reading (apply_all s cs).holders + reader_releases cs ≡ count_kind reading s.holders }
 {}
 
 /// States when the reader that asks may become the writer: after exactly as many releases of readers as there were
 /// readers beside it.
+#[tactic(auto, using(crate::proofs::Upgrading::upgrade_opens))]
 pub fn an_upgrade_is_open_when_the_readers_are_gone()
     ensures { (s : Plain) (p : ℕ) (cs : List Change) → IsExclusive s → StaysAsking p s cs →
         (is_open_to (apply_all s cs) p to_upgrade_asked ≡ true → reader_releases cs ≡ count_kind reading s.holders) × (reader_releases cs ≡ count_kind reading s.holders → is_open_to (apply_all s cs) p to_upgrade_asked ≡ true) }

@@ -76,6 +76,7 @@ fn may_read_upgradable(word: usize, cap: usize) -> bool
 ///     return Err(None);
 /// };
 /// ```
+#[tactic(auto, using(crate::proofs::ReaderSteps::grants))]
 pub fn read(word: usize, cap: usize) -> Option<usize>
     ensures exact { result ≡ read cap word }
     ensures plain { (s : Plain) (party : ℕ) → OneOfEach s → s.cap ≡ min cap reader_limit → rw_word s ≡ word → Decides s (gets party to_read) rw_word result }
@@ -99,6 +100,7 @@ pub fn read(word: usize, cap: usize) -> Option<usize>
 ///     return Err(None);
 /// };
 /// ```
+#[tactic(auto, using(crate::proofs::ReaderSteps::grants))]
 pub fn upgradable(word: usize, cap: usize) -> Option<usize>
     ensures exact { result ≡ read_upgradable cap word }
     ensures plain { (s : Plain) (party : ℕ) → OneOfEach s → s.cap ≡ min cap reader_limit → rw_word s ≡ word → Decides s (gets party to_read_upgradable) rw_word result }
@@ -135,6 +137,7 @@ pub fn write(word: usize) -> Option<usize>
 /// ```
 /// let next = rw::upgrade(rw::UPGRADABLE).unwrap();
 /// ```
+#[tactic(auto, using(crate::proofs::ReaderSteps::grants))]
 pub fn upgrade(word: usize) -> Option<usize>
     ensures exact { result ≡ upgrade word }
     ensures plain { (s : Plain) (party : ℕ) → OneOfEach s → is_holder party upgradable s.holders ≡ true → rw_word s ≡ word → Decides s (gets party to_upgrade) rw_word result }
@@ -157,6 +160,7 @@ pub fn upgrade(word: usize) -> Option<usize>
 /// equal(&rt, rw::ask(2), 6);
 /// equal(&rt, rw::ask(10), 14);
 /// ```
+#[tactic(auto, using(crate::proofs::ReaderSteps::gives))]
 pub fn ask(word: usize) -> usize
     requires { tells upgradable word ≡ true }
     ensures exact { result ≡ turned upgradable asking word }
@@ -174,6 +178,7 @@ pub fn ask(word: usize) -> usize
 /// ```
 /// let next = rw::upgrade_asked(rw::UPGRADABLE + rw::ASKING).unwrap();
 /// ```
+#[tactic(auto, using(crate::proofs::ReaderSteps::grants))]
 pub fn upgrade_asked(word: usize) -> Option<usize>
     ensures exact { result ≡ upgrade_asked word }
     ensures plain { (s : Plain) (party : ℕ) → OneOfEach s → is_holder party asking s.holders ≡ true → rw_word s ≡ word → Decides s (gets party to_upgrade_asked) rw_word result }
@@ -194,6 +199,7 @@ pub fn upgrade_asked(word: usize) -> Option<usize>
 /// ```
 /// equal(&rt, rw::release_read(18), 10);
 /// ```
+#[tactic(auto, using(crate::proofs::ReaderSteps::gives))]
 pub fn release_read(word: usize) -> usize
     requires { tells reading word ≡ true }
     ensures exact { result ≡ released reading word }
@@ -212,6 +218,7 @@ pub fn release_read(word: usize) -> usize
 /// ```
 /// equal(&rt, rw::release_upgradable(10), 8);
 /// ```
+#[tactic(auto, using(crate::proofs::ReaderSteps::gives))]
 pub fn release_upgradable(word: usize) -> usize
     requires { tells upgradable word ≡ true }
     ensures exact { result ≡ released upgradable word }
@@ -229,6 +236,7 @@ pub fn release_upgradable(word: usize) -> usize
 /// ```
 /// equal(&rt, rw::release_write(1), 0);
 /// ```
+#[tactic(auto, using(crate::proofs::ReaderSteps::gives))]
 pub fn release_write(word: usize) -> usize
     requires { tells writing word ≡ true }
     ensures exact { result ≡ released writing word }
@@ -246,6 +254,7 @@ pub fn release_write(word: usize) -> usize
 /// ```
 /// equal(&rt, rw::write_to_read(1), 8);
 /// ```
+#[tactic(auto, using(crate::proofs::ReaderSteps::gives))]
 pub fn write_to_read(word: usize) -> usize
     requires { tells writing word ≡ true }
     ensures exact { result ≡ turned writing reading word }
@@ -263,6 +272,7 @@ pub fn write_to_read(word: usize) -> usize
 /// ```
 /// equal(&rt, rw::write_to_upgradable(1), 2);
 /// ```
+#[tactic(auto, using(crate::proofs::ReaderSteps::gives))]
 pub fn write_to_upgradable(word: usize) -> usize
     requires { tells writing word ≡ true }
     ensures exact { result ≡ turned writing upgradable word }
@@ -281,6 +291,7 @@ pub fn write_to_upgradable(word: usize) -> usize
 /// ```
 /// equal(&rt, rw::upgradable_to_read(10), 16);
 /// ```
+#[tactic(auto, using(crate::proofs::ReaderSteps::gives))]
 pub fn upgradable_to_read(word: usize) -> usize
     requires kind { tells upgradable word ≡ true }
     requires within { word / weight reading < reader_limit }
@@ -299,6 +310,7 @@ pub fn upgradable_to_read(word: usize) -> usize
 /// ```
 /// rw::readers(self.word())
 /// ```
+#[tactic(auto, using(crate::proofs::ReaderSteps::counts))]
 pub fn readers(word: usize) -> usize
     ensures exact { result ≡ readers_in word }
     ensures plain { (s : Plain) → OneOfEach s → rw_word s ≡ word → result ≡ reader_count s.holders }
@@ -315,6 +327,7 @@ pub fn readers(word: usize) -> usize
 /// ```
 /// rw::writers(self.word())
 /// ```
+#[tactic(auto, using(crate::proofs::ReaderSteps::counts))]
 pub fn writers(word: usize) -> usize
     ensures exact { result ≡ writers_in word }
     ensures plain { (s : Plain) → OneOfEach s → rw_word s ≡ word → result ≡ count_kind writing s.holders }

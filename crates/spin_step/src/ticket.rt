@@ -60,6 +60,7 @@ pub fn serve(ticket: u64) -> u64
 ///     return None;
 /// }
 /// ```
+#[tactic(auto, using(crate::proofs::Tickets::enters_in_turn))]
 pub fn is_turn(serving: u64, ticket: u64) -> bool
     ensures exact { result ≡ (serving == ticket) }
     ensures plain { IsTurn serving ticket result }

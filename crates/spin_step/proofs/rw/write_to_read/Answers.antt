@@ -1,7 +1,0 @@
-use Rattle.std.proofs.Common.{arith}
-use Rattle.spin_step.specs.Plain.{reading, writing}
-use Rattle.spin_step.proofs.ReaderSteps.{rw_turn-gives}
-use Rattle.spin_step.proofs.rw.write_to_read.Goals as goal
-
-pub returns-clause-plain : goal.returns-clause-plain
-returns-clause-plain c s party word may = rw_turn-gives s party writing reading c.args.word (omega arith) word may
