@@ -98,14 +98,7 @@ module _ {M : Type 1} {𝓤 : Ura M} (𝓛 : Logic 𝓤) (R : RattleType) (L : R
 
   -- no writer stands where one may come, or where one has gone
   none_else : (u : Use) (way : Way R.Denot) (r w : ℕ) → u ≢ off → Limits way (r + reading u) (w + writing u) → w ≡ 0
-  none_else off way r w on lim = absurd (on refl)
-  none_else reads alone r w on lim = absurd (omega arith)
-  none_else reads lends r w on lim = omega arith
-  none_else writes alone r w on lim = omega arith
-  none_else writes lends r w on lim = omega arith
-  none_else reads (fixes fact) r zero on lim = refl
-  none_else reads (fixes fact) r (suc w) on lim = absurd (let e : r + 1 ≡ 0 = lim.1 (omega arith) in omega arith)
-  none_else writes (fixes fact) r w on lim = let l : w + 1 ≤ 1 = lim.0 in omega arith
+  none_else u way r w on lim = grind arith
 
   -- what a party has after it came from the use u to the use u'
   abbrev pub got : Way R.Denot → Use → Use → Option R.Denot → Option R.Denot → Fml

@@ -1,19 +1,17 @@
 -- What a caller learns of a permit's view.
-use Rattle.std.proofs.Common.{◌≡◌, ℕ, zero, suc, ◌==◌, if◌then◌else◌, List, [], ◌∷◌, Option, Some, None, refl, sym, ap, ◌∙◌, ne_eqb}
-use mathlib.Core.Option.{some-ne-none}
+use Rattle.std.proofs.Common.{◌≡◌, ℕ, zero, suc, ◌==◌, if◌then◌else◌, List, [], ◌∷◌, Option, Some, refl, arith}
 use Rattle.spin_core.specs.Cell.{Moved, Stands, after}
 
 module _ {V : Type 0} where
   pub came_to : (view : Option V) (w : V) → Moved (λ v. v ≡ w) view → view ≡ Some w
-  came_to None w e = absurd e
-  came_to (Some v) w e = ap Some e
+  came_to view w e = grind arith
 
   -- a party stands where it stood, with the view that it has come to
   pub stands_after : (id : ℕ) (v w : V) (vs : List V) → Stands id (Some v) vs → Stands id (Some w) (after id (Some v) vs w)
-  stands_after id v w [] at = absurd (some-ne-none v (sym at))
+  stands_after id v w [] at = absurd (cc (at))
   stands_after zero v w (x ∷ xs) at = refl
   stands_after (suc i) v w (x ∷ xs) at = stands_after i v w xs at
 
   -- an exchange that found another number than it expected
   pub missed : (view : Option V) (taken away : V) (found expected : ℕ) → Moved (λ v. v ≡ (if found == expected then taken else away)) view → (found ≡ expected → ⊥) → view ≡ Some away
-  missed view taken away found expected moved ne = came_to view (if found == expected then taken else away) moved ∙ ap (λ b. Some (if b then taken else away)) (ne_eqb found expected ne)
+  missed view taken away found expected moved ne = grind arith

@@ -1,16 +1,13 @@
 -- A party that has nothing in the plain lock may go: those behind it move up by one place, and nothing else changes.
-use Rattle.std.proofs.Common.{◌≡◌, ℕ, zero, suc, pred, ◌-◌, ◌==◌, Bool, true, false, not, ◌&&◌, cond, List, [], ◌∷◌, ◌++◌, map, length, filter, Some, refl, sym, ap, ◌∙◌, subst, arith, eq-eqb, ne_eqb}
-use Rattle.std.proofs.lemmas.Bool.{false≢true}
+use Rattle.std.proofs.Common.{◌≡◌, ℕ, zero, suc, pred, ◌-◌, ◌==◌, not, ◌&&◌, cond, List, [], ◌∷◌, ◌++◌, map, length, filter, Some, refl, sym, ap, ◌∙◌, subst, arith}
 use Rattle.std.proofs.lemmas.List.{length-map}
 use Rattle.std.proofs.lemmas.List.Sums.{sum_by-cons}
-use mathlib.Core.Logic.{dite}
-use native.Mathlib.Decide.{ℕ_discrete}
 use Rattle.spin_step.specs.Plain.{Plain, Kind, writing, Holder, holder, Ticket, ticket, may_upgrade, weight, flag_word, rw_word, fair_word, next_word, serving_word}
 use Rattle.spin_step.specs.Parties.{Entries, entries, no_entries, none_entered, first_alone_entered}
 use Rattle.spin_step.specs.Tickets.{numbered_from}
 use Rattle.spin_step.proofs.Sums.{sum_kinds, one_of}
 use Rattle.spin_core.specs.Cell.{Use, off, Rests}
-use Rattle.spin_core.specs.Views.{Part, idle, knows_served, entries_of, Knows, HasPart, part_at, Encodes, no_word}
+use Rattle.spin_core.specs.Views.{Part, entries_of, Knows, HasPart, part_at, Encodes, no_word}
 use Rattle.spin_step.specs.Orders.{IsInOrder}
 
 -- a party that is behind the place k moves up; and the place where it was
@@ -26,40 +23,23 @@ back (suc k) (suc q) = suc (back k q)
 
 up-back : (k q : ℕ) → up k (back k q) ≡ q
 up-back zero q = refl
-up-back (suc k) zero = refl
-up-back (suc k) (suc q) = ap suc (up-back k q)
+up-back (suc k) q = grind (arith, up-back k)
 
 back-up : (k p : ℕ) → (p ≡ k → ⊥) → back k (up k p) ≡ p
-back-up zero zero ne = absurd (ne refl)
-back-up zero (suc p) ne = refl
-back-up (suc k) zero ne = refl
-back-up (suc k) (suc p) ne = ap suc (back-up k p (λ e. ne (ap suc e)))
+back-up zero p ne = grind arith
+back-up (suc k) p ne = grind (arith, back-up k)
 
 same_place : (k p q : ℕ) → (p ≡ k → ⊥) → (up k p == q) ≡ (p == back k q)
-same_place k p q ne = dite (ℕ_discrete (up k p) q)
-    (λ e. eq-eqb (up k p) q e ∙ sym (eq-eqb p (back k q) (sym (back-up k p ne) ∙ ap (back k) e)))
-    (λ other. ne_eqb (up k p) q other ∙ sym (ne_eqb p (back k q) (λ e. other (ap (up k) e ∙ up-back k q))))
-
-map-cond : {X : Type 0} (f : X → X) (b : Bool) (x : X) (xs : List X) → cond b (f x ∷ map f xs) (map f xs) ≡ map f (cond b (x ∷ xs) xs)
-map-cond f true x xs = refl
-map-cond f false x xs = refl
+same_place k p q ne = grind (arith, back-up k p ne, up-back k q)
 
 module _ {X : Type 0} (owner : X → ℕ) (rename : X → X) (k q : ℕ) (same : (x : X) → owner (rename x) ≡ up k (owner x)) where
   abbrev of : ℕ → List X → List X
   of p xs = filter (λ x. owner x == p) xs
 
-  renames_one : (b : Bool) (x : X) (xs : List X) → (owner x == k) ≡ b → cond b (x ∷ of k xs) (of k xs) ≡ [] → (of k xs ≡ [] → of q (map rename xs) ≡ map rename (of (back k q) xs))
-      → cond (owner (rename x) == q) (rename x ∷ of q (map rename xs)) (of q (map rename xs)) ≡ map rename (cond (owner x == back k q) (x ∷ of (back k q) xs) (of (back k q) xs))
-  renames_one true x xs is none rest = absurd (cc (none))
-  renames_one false x xs is none rest =
-      let ne : owner x ≡ k → ⊥ = λ e. false≢true (sym is ∙ eq-eqb (owner x) k e) in
-      ap (λ b. cond b (rename x ∷ of q (map rename xs)) (of q (map rename xs))) (ap (λ j. j == q) (same x) ∙ same_place k (owner x) q ne)
-      ∙ (ap (λ ys. cond (owner x == back k q) (rename x ∷ ys) ys) (rest none) ∙ map-cond rename (owner x == back k q) x (of (back k q) xs))
-
   -- where nobody is at k, who is at q was at the place before
   renames : (xs : List X) → of k xs ≡ [] → of q (map rename xs) ≡ map rename (of (back k q) xs)
   renames [] none = refl
-  renames (x ∷ xs) none = renames_one (owner x == k) x xs refl none (renames xs)
+  renames (x ∷ xs) none = grind (arith, same x, same_place k (owner x) q, renames xs)
 
 abbrev holder_up : ℕ → Holder → Holder
 holder_up k h = holder (up k h.party) h.kind
@@ -82,8 +62,7 @@ entries-up k q s none =
     rw (hs, ts, qs) refl
 
 part-up : (k p : ℕ) (x : Part) → entries_up k (entries_of p x) ≡ entries_of (up k p) x
-part-up k p idle = refl
-part-up k p _ = refl
+part-up k p x = grind arith
 
 -- Nothing but the names changes
 
@@ -96,8 +75,7 @@ none_entered-up k [] = refl
 none_entered-up k (t ∷ ts) = ap (λ b. not t.entered && b) (none_entered-up k ts)
 
 first_alone-up : (k : ℕ) (ts : List Ticket) → first_alone_entered (map (ticket_up k) ts) ≡ first_alone_entered ts
-first_alone-up k [] = refl
-first_alone-up k (t ∷ ts) = none_entered-up k ts
+first_alone-up k ts = grind (arith, none_entered-up)
 
 numbered-up : (k n : ℕ) (ts : List Ticket) → numbered_from n ts → numbered_from n (map (ticket_up k) ts)
 numbered-up k n [] numbers = tt
@@ -142,8 +120,7 @@ in_order-up k s order = record {
 }
 
 knows-up : (k : ℕ) (s : Plain) (x : Part) → Knows s x → Knows (moved_up k s) x
-knows-up k s (knows_served n) known = omega (arith, known, serving_word-up k s)
-knows-up k s _ known = tt
+knows-up k s x known = grind (arith, serving_word-up k s)
 
 module _ {V : Type 0} (part : V → Part) (v : V) where
   gone_at : (before behind : List V) → part_at part (before ++ v ∷ behind) (length before) ≡ part v

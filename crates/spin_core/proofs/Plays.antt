@@ -96,13 +96,12 @@ module _ {V S : Type 0} (lock : Lock V S) where
   pub allows_among : (view : Option V) (f : ℕ → ℕ) (says : ℕ → V → Type 0) → EachOf view (λ s p. (w : V) × Reaches view w s p (f (first s)) (second s) × says (first s) w) → Allows Holds ways view f says
   allows_among view f says makes id n m vs meets at small =
       let s = meets.0.0 in let made = makes s (number part id view vs) vs meets.0.1 meets.0.2 meets.0.3 (own_part part id view vs s at meets.0.3) (subst (λ j. j < words) meets.0.4 small) in let w : V = made.0 in
-      subst (λ j. (w : V) × MayStep id view vs w (f j) m × says j w) (sym meets.0.4)
-      (subst (λ j. (w : V) × MayStep id view vs w (f (first s)) j × says (first s) w) (sym meets.0.5) (
+      rw (meets.0.4, meets.0.5) (
         w,
         lock.goes (use_of ways.1 view) (ways.1 w) (readers_of ways.1 vs) (Meets Holds ways (f (first s)) (second s) (after id view vs w))
             (after_step id view vs w s (f (first s)) (second s) at meets.0.1 meets.0.2 meets.0.3 made.1),
         made.2,
-      ))
+      )
 
   -- the same of a step that need not know the other parties
   pub allows : (view : Option V) (f : ℕ → ℕ) (says : ℕ → V → Type 0) → Each view (λ s p. (w : V) × Reaches view w s p (f (first s)) (second s) × says (first s) w) → Allows Holds ways view f says
@@ -150,10 +149,9 @@ module _ {V : Type 0} (lock : Lock V ℕ) where
   pub allows_second : (view : Option V) (f : ℕ → ℕ) (says : ℕ → V → Type 0) → Each lock view (λ s p. (w : V) × Reaches lock view w s p (first s) (f (second s)) × says (second s) w) → AllowsSecond (Holds lock) (ways lock) view f says
   allows_second view f says makes id n m vs meets at small =
       let s = meets.0.0 in let made = makes s (number part id view vs) meets.0.1 meets.0.2 (own_part part id view vs s at meets.0.3) in let w : V = made.0 in
-      subst (λ j. (w : V) × MayStep lock id view vs w n (f j) × says j w) (sym meets.0.5)
-      (subst (λ j. (w : V) × MayStep lock id view vs w j (f (second s)) × says (second s) w) (sym meets.0.4) (
+      rw (meets.0.4, meets.0.5) (
         w,
         lock.goes (use_of (ways lock).1 view) ((ways lock).1 w) (readers_of (ways lock).1 vs) (Meets (Holds lock) (ways lock) (first s) (f (second s)) (after id view vs w))
             (after_step lock id view vs w s (first s) (f (second s)) at meets.0.1 meets.0.2 meets.0.3 made.1),
         made.2,
-      ))
+      )

@@ -1,5 +1,5 @@
 -- A party's open step in the plain lock is its coming to a view in the list of views.
-use Rattle.std.proofs.Common.{◌≡◌, ℕ, zero, suc, ◌≤◌, List, [], ◌∷◌, ◌++◌, length, set, Option, Some, None, refl, sym, ap, ◌∙◌, subst, arith, eq-eqb}
+use Rattle.std.proofs.Common.{◌≡◌, ℕ, zero, suc, pred, ◌≤◌, List, [], ◌∷◌, ◌++◌, length, set, Option, Some, None, refl, sym, ap, ◌∙◌, subst, arith}
 use mathlib.Core.Option.{some, some-injective, some-ne-none}
 use mathlib.Core.Logic.{dite}
 use native.Mathlib.Decide.{ℕ_discrete}
@@ -8,30 +8,28 @@ use Rattle.std.specs.Prelude.{slice_get}
 use Rattle.spin_step.specs.Plain.{Plain, Kind, writing, Change, releases, stops_starving, turns}
 use Rattle.spin_step.specs.Parties.{entries_after, apply_some, IsOpenStep}
 use Rattle.spin_core.specs.Cell.{Stands, after}
-use Rattle.spin_core.specs.Views.{Part, idle, holds, knows_served, starves, holds_starving, entries_of, Knows, HasPart, part_at, IsLockOf}
+use Rattle.spin_core.specs.Views.{Part, idle, holds, starves, holds_starving, entries_of, Knows, HasPart, part_at, IsLockOf}
 use Rattle.spin_step.specs.Orders.{IsInOrder}
 use Rattle.spin_step.proofs.Entries.{entries-own, entries-other}
 use Rattle.spin_step.proofs.Holders.{same_kind-self}
 use Rattle.spin_step.proofs.Tickets.{serving-moves}
 
 knows-kept : (s : Plain) (p : ℕ) (step : Option Change) (x : Part) → IsInOrder s → IsOpenStep s p step → Knows s x → Knows (apply_some s step) x
-knows-kept s p None x order may known = known
-knows-kept s p (Some c) (knows_served n) order may known = omega (arith, known, serving-moves s c order.numbered may.1)
-knows-kept s p (Some c) _ order may known = tt
+knows-kept s p step x order may known = grind (arith, serving-moves)
 
 -- What a party's own steps make of what it has
 
 pub release-own : (s : Plain) (p : ℕ) (k : Kind) → entries_after s (Some (releases p k)) (entries_of p (holds k)) ≡ entries_of p idle
-release-own s p k = rw (eq-eqb p p refl, same_kind-self k) refl
+release-own s p k = grind (arith, same_kind-self k)
 
 pub turn-own : (s : Plain) (p : ℕ) (k l : Kind) → entries_after s (Some (turns p k l)) (entries_of p (holds k)) ≡ entries_of p (holds l)
-turn-own s p k l = rw (eq-eqb p p refl, same_kind-self k) refl
+turn-own s p k l = grind (arith, same_kind-self k)
 
 pub stop-own : (s : Plain) (p : ℕ) → entries_after s (Some (stops_starving p)) (entries_of p starves) ≡ entries_of p idle
-stop-own s p = rw (eq-eqb p p refl) refl
+stop-own s p = grind arith
 
 pub stop_holding-own : (s : Plain) (p : ℕ) → entries_after s (Some (stops_starving p)) (entries_of p holds_starving) ≡ entries_of p (holds writing)
-stop_holding-own s p = rw (eq-eqb p p refl) refl
+stop_holding-own s p = grind arith
 
 module _ {V : Type 0} (part : V → Part) where
   -- the number of the party whose step it is
@@ -51,8 +49,7 @@ module _ {V : Type 0} (part : V → Part) where
 
   pub part-beyond : (p : ℕ) (vs : List V) → length vs ≤ p → part_at part vs p ≡ idle
   part-beyond p [] far = refl
-  part-beyond zero (v ∷ vs) far = absurd (omega (arith, far))
-  part-beyond (suc p) (v ∷ vs) far = part-beyond p vs (omega (arith, far))
+  part-beyond p (v ∷ vs) far = grind (arith, part-beyond (pred p) vs)
 
   at_place : (id : ℕ) (v : V) (vs : List V) → get_elem? vs id ≡ some v → part_at part vs id ≡ part v
   at_place id v [] at = absurd (some-ne-none v (sym at))
@@ -68,17 +65,13 @@ module _ {V : Type 0} (part : V → Part) where
   Moves p vs new w q = (part_at part new p ≡ part w) × ((p ≡ q → ⊥) → part_at part new q ≡ part_at part vs q)
 
   joins : (vs : List V) (w : V) (q : ℕ) → Moves (length vs) vs (vs ++ w ∷ []) w q
-  joins [] w zero = (refl, λ ne. absurd (ne refl))
-  joins [] w (suc q) = (refl, λ ne. refl)
-  joins (v ∷ vs) w zero = ((joins vs w zero).0, λ ne. refl)
-  joins (v ∷ vs) w (suc q) = let r = joins vs w q in (r.0, λ ne. r.1 (λ e. ne (ap suc e)))
+  joins [] w q = grind arith
+  joins (v ∷ vs) w q = grind (arith, joins vs w (pred q))
 
   changes : (id : ℕ) (v : V) (vs : List V) (w : V) (q : ℕ) → get_elem? vs id ≡ some v → Moves id vs (set vs id w) w q
-  changes id v [] w q at = absurd (some-ne-none v (sym at))
-  changes zero v (x ∷ vs) w zero at = (refl, λ ne. absurd (ne refl))
-  changes zero v (x ∷ vs) w (suc q) at = (refl, λ ne. refl)
-  changes (suc id) v (x ∷ vs) w zero at = ((changes id v vs w zero at).0, λ ne. refl)
-  changes (suc id) v (x ∷ vs) w (suc q) at = let r = changes id v vs w q at in (r.0, λ ne. r.1 (λ e. ne (ap suc e)))
+  changes id v [] w q at = absurd (cc (at))
+  changes zero v (x ∷ vs) w q at = grind arith
+  changes (suc id) v (x ∷ vs) w q at = grind (arith, changes id v vs w (pred q))
 
   moves : (id : ℕ) (view : Option V) (vs : List V) (w : V) (q : ℕ) → Stands id view vs → Moves (number id view vs) vs (after id view vs w) w q
   moves id None vs w q at = joins vs w q
