@@ -1,5 +1,5 @@
 -- The parts of a round: cut, glued and compared. Assumes `Logic`.
-use Rattle.std.proofs.Common.{◌≡◌, Bool, true, ℕ, ◌+◌, ◌-◌, ◌^◌, ◌<◌, ◌≤◌, [], ◌∷◌, refl, arith}
+use Rattle.std.proofs.Common.{◌≡◌, Bool, true, ℕ, zero, suc, ◌+◌, ◌-◌, ◌^◌, ◌<◌, ◌≤◌, [], ◌∷◌, refl, arith}
 use mathlib.Mathlib.Data.Part.{◌∈◌}
 use seplogic.Ra.Ura.{Ura}
 use seplogic.Ra.Constructions.Prod
@@ -9,7 +9,7 @@ use base.Fraction.{full_share}
 use base.FractionLaws.{Counts, counts_some, Counts-op, Counts-all, not-OpDef-full_share}
 use base.Stored.{Gv, coded×, coded_ℕ}
 use base.SetCodes.{coded, SetCoded-set}
-use base.Logic.{SProp, guard, upd, guard_i}
+use base.Logic.{SProp, guard, upd, guard_i, id⊢, via, snd∗}
 use base.Fml.{GName, Share, fex, flft}
 use types.Logic.{Logic}
 use types.Kit.{‵, ◌⊛◌, given, ◌$◌, ◌∵◌, !, qed, by, move, split, fsplit, fjoin, fpick, fpack, learn, check, use1, use2, done}
@@ -45,6 +45,13 @@ module _ {M : Type 1} {𝓤 : Ura M} (𝓛 : Logic 𝓤) (R : RattleType) (γ : 
   pub parts_glue : (s : Round R) (i j : ℕ) → 0 < i + j → i + j ≤ 2 ^ 63 → ⟦ parts R γ s i ⟧ ∗ ⟦ parts R γ s j ⟧ ⊢ ⟦ parts R γ s (i + j) ⟧
   parts_glue s i j some fits = let r = counts_some 63 (i + j) some fits in
       qed 𝓛 (‵ (parts R γ s i) ∷ ‵ (parts R γ s j) ∷ []) ∵ use2 𝓛 (‵ (share R γ s r.0)) (glued s i j r.0 r.1) $ by ! (parts_in s (i + j) r.0 r.1)
+
+  -- all parts but r
+  pub parts_but : (s : Round R) (r : ℕ) → r < 2 ^ 63 → ⟦ parts R γ s (2 ^ 63) ⟧ ⊢ ⟦ parts R γ s (2 ^ 63 - r) ⟧
+  parts_but s zero small = id⊢ 𝓤 _
+  parts_but s (suc r) small =
+      via 𝓤 _ (parts_cut s (2 ^ 63) (suc r) (2 ^ 63 - suc r) (omega arith) (omega arith) (omega arith) (omega arith))
+      (snd∗ 𝓤 ⟦ parts R γ s (suc r) ⟧ ⟦ parts R γ s (2 ^ 63 - suc r) ⟧)
 
   pub parts_whole : (s : Round R) → ⟦ parts R γ s (2 ^ 63) ⟧ ⊢ ⟦ share R γ s full_share ⟧
   parts_whole s = qed 𝓛 (‵ (parts R γ s (2 ^ 63)) ∷ []) ∵

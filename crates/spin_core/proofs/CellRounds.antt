@@ -1,8 +1,8 @@
 -- A round begins and ends: the value is lent for a new lifetime, and comes back when that has ended. Assumes `Logic`.
-use Rattle.std.proofs.Common.{ℕ, zero, suc, ◌+◌, ◌-◌, ◌^◌, Bool, false, [], ◌∷◌, ◌++◌, Option, Some, None}
+use Rattle.std.proofs.Common.{ℕ, zero, suc, ◌+◌, ◌-◌, ◌^◌, ◌<◌, Bool, false, [], ◌∷◌, ◌++◌, Option, Some, None}
 use seplogic.Ra.Ura.{Ura}
 use base.Fraction.{full_share}
-use base.Logic.{upd, upd_i}
+use base.Logic.{SProp, via, upd, upd_i, upd_mono}
 use base.FractionLaws.{Counts-all}
 use base.Fml.{Lft, Share, Incl, Incl-trans, Fml, ffalse, fsep, fex, fbor, flft, fdead, fobs}
 use contract.BorrowLft.{meet_⊑_left, meet_⊑_right, ⊑_meet}
@@ -15,7 +15,7 @@ use denote.Memory.{part_at, mem}
 use denote.Shares.{Shares, settles}
 use Rattle.spin_core.specs.Cell.{Use, writes, Way, lends, fixes, Fixed}
 use Rattle.spin_core.specs.CellMemory.{Id, idle, tag, round_code, share, parts, piece, remains, resting, offset, shown, named, tracked, waits, shared, right}
-use Rattle.spin_core.proofs.CellParts.{parts_in, piece_in, renames}
+use Rattle.spin_core.proofs.CellParts.{parts_in, parts_but, piece_in, renames}
 use Rattle.spin_core.proofs.Signs.{signs}
 
 module _ {M : Type 1} {𝓤 : Ura M} (𝓛 : Logic 𝓤) (R : RattleType) (b o : ℕ) (t : Id) where
@@ -65,16 +65,22 @@ module _ {M : Type 1} {𝓤 : Ura M} (𝓛 : Logic 𝓤) (R : RattleType) (b o :
   abbrev pub whole : R.Denot → Fml
   whole x = fex ℕ (λ a. fsep (share R t.round (a, x) full_share) (shared R b o t (a, x)))
 
-  pub renews : (x : R.Denot) → ⟦ idle t.round ⟧ ∗ ⟦ fex ℕ (begun x) ⟧ ⊢ upd 𝓤 ⟦ whole x ⟧
+  renews : (x : R.Denot) → ⟦ idle t.round ⟧ ∗ ⟦ fex ℕ (begun x) ⟧ ⊢ upd 𝓤 ⟦ whole x ⟧
   renews x = let γ : ℕ = t.round in qed 𝓛 (‵ (idle γ) ∷ ‵ (fex ℕ (begun x)) ∷ []) ∵ fpick ! (λ g. move ! (1 ∷ []) $ fpick ! (λ a. fsplit ! $ move ! (2 ∷ []) $
       use1 𝓛 (raw (upd 𝓤 ⟦ tag γ full_share (round_code R (a, x)) ⟧)) (renames 𝓛 R γ g (round_code R (a, x))) $ settle 𝓛 ⟦ whole x ⟧ (‵ (tag γ full_share (round_code R (a, x)))) $ suffices ! ⟦ whole x ⟧ (upd_i 𝓤 ⟦ whole x ⟧) $
       move ! (1 ∷ 0 ∷ []) $ fjoin ! $ fjoin ! $ fpack ! ℕ (λ c. fsep (share R γ (c, x) full_share) (shared R b o t (c, x))) a $ done !))
 
-  -- a whole round is the state of the value with r readers, of which the first has not read yet
-  pub rests_lent : (x : R.Denot) → ⟦ whole x ⟧ ⊢ ⟦ resting R b o t lends 0 x ⟧
-  rests_lent x = qed 𝓛 (‵ (whole x) ∷ []) ∵ fpick ! (λ a. fsplit ! $ use1 𝓛 (‵ (parts R t.round (a, x) (2 ^ 63 - 0))) (parts_in 𝓛 R t.round (a, x) (2 ^ 63) full_share (Counts-all 63)) $
-      fjoin ! $ fpack ! ℕ (λ c. fsep (parts R t.round (c, x) (2 ^ 63 - 0)) (shared R b o t (c, x))) a $ done !)
+  pub renewed : (x : R.Denot) (Z : SProp 𝓤) → ⟦ whole x ⟧ ⊢ Z → ⟦ idle t.round ⟧ ∗ ⟦ fex ℕ (begun x) ⟧ ⊢ upd 𝓤 Z
+  renewed x Z to = via 𝓤 (upd 𝓤 ⟦ whole x ⟧) (renews x) (upd_mono 𝓤 {P = ⟦ whole x ⟧} {Q = Z} to)
 
+  -- a whole round is the state of the value with r readers that have not read yet
+  pub rests_lent : (r : ℕ) (x : R.Denot) → r < 2 ^ 63 → ⟦ whole x ⟧ ⊢ ⟦ resting R b o t lends r x ⟧
+  rests_lent r x small = qed 𝓛 (‵ (whole x) ∷ []) ∵ fpick ! (λ a. fsplit ! $
+      use1 𝓛 (‵ (parts R t.round (a, x) (2 ^ 63))) (parts_in 𝓛 R t.round (a, x) (2 ^ 63) full_share (Counts-all 63)) $
+      use1 𝓛 (‵ (parts R t.round (a, x) (2 ^ 63 - r))) (parts_but 𝓛 R t.round (a, x) r small) $
+      fjoin ! $ fpack ! ℕ (λ c. fsep (parts R t.round (c, x) (2 ^ 63 - r)) (shared R b o t (c, x))) a $ done !)
+
+  -- or of which the first has come to read for good
   pub rests_fixed : (fact : Bool → R.Denot → Type 0) (r : ℕ) (x : R.Denot) → Fixed (fixes fact) r 0 x → ⟦ whole x ⟧ ⊢ ⟦ resting R b o t (fixes fact) r x ⟧
   rests_fixed fact zero x known = qed 𝓛 (‵ (whole x) ∷ []) ∵ fpick ! (λ a. fsplit ! $ fpack ! (fact false x) (λ _. share R t.round (a, x) full_share) known $
       fjoin ! $ fpack ! ℕ (λ c. fsep (remains R fact t.round (c, x) zero) (shared R b o t (c, x))) a $ done !)

@@ -18,7 +18,7 @@ use Rattle.spin_core.specs.Cell.{Going, Preserves, Use, off, reads, writes, Way,
 use Rattle.spin_core.specs.CellMemory.{Id, Round, round_code, tag, share, parts, piece, remains, idle, offset, shown, tracked, shared, resting, state, reader}
 use Rattle.spin_core.proofs.CellWays.{going_rest}
 use Rattle.spin_core.proofs.CellParts.{parts_cut, parts_glue, parts_whole, parts_agree, piece_cut}
-use Rattle.spin_core.proofs.CellRounds.{begun, held, whole, renews, rests_lent, rests_fixed}
+use Rattle.spin_core.proofs.CellRounds.{begun, held, whole, renewed, rests_lent, rests_fixed}
 use Rattle.spin_core.proofs.Signs.{signs}
 
 module _ {M : Type 1} {𝓤 : Ura M} (𝓛 : Logic 𝓤) (R : RattleType) (L : RowLaws R) (b o : ℕ) (t : Id) where
@@ -48,8 +48,7 @@ module _ {M : Type 1} {𝓤 : Ura M} (𝓛 : Logic 𝓤) (R : RattleType) (L : R
       rewrite ! 0 (λ (s : Round R). ‵ (shared R b o t s)) same refl $ move ! (1 ∷ 0 ∷ []) $ fjoin ! $ fpack ! ℕ (λ e. lent r (e, x)) c $ keep ! (0 ∷ []) $ done !))))
 
   write_back : (x : R.Denot) → ⟦ idle γ ⟧ ∗ ⟦ fex ℕ (begun 𝓛 R b o t x) ⟧ ⊢ upd 𝓤 ⟦ Rest lends 0 x ⟧
-  write_back x = let Z : SProp 𝓤 = ⟦ Rest lends 0 x ⟧ in qed 𝓛 (‵ (idle γ) ∷ ‵ (fex ℕ (begun 𝓛 R b o t x)) ∷ []) ∵ use2 𝓛 (raw (upd 𝓤 ⟦ whole 𝓛 R b o t x ⟧)) (renews 𝓛 R b o t x) $
-      settle 𝓛 Z (‵ (whole 𝓛 R b o t x)) $ suffices ! Z (upd_i 𝓤 Z) $ by ! (rests_lent 𝓛 R b o t x)
+  write_back x = renewed 𝓛 R b o t x ⟦ Rest lends 0 x ⟧ (rests_lent 𝓛 R b o t 0 x (omega arith))
 
   -- ---- a reader or a writer takes its part
   read_on : (r : ℕ) (x : R.Denot) → suc r < 2 ^ 63 → ⟦ Rest lends r x ⟧ ⊢ ⟦ St lends (suc r) 0 ⟧ ∗ ⟦ reader R b o t lends x ⟧
@@ -226,15 +225,13 @@ module _ {M : Type 1} {𝓤 : Ura M} (𝓛 : Logic 𝓤) (R : RattleType) (L : R
     leaves_whole (suc r) w u x none none' on known = absurd (omega (arith, none))
     leaves_whole zero (suc w) u x none none' on known = absurd (omega (arith, none'))
     leaves_whole zero zero writes x none none' on known = absurd (on refl)
-    leaves_whole zero zero off x none none' on known = let Z : SProp 𝓤 = ⟦ St fixed 0 0 ⟧ ∗ ⟦ Got fixed writes off (Some x) ⟧ in
-        qed 𝓛 (‵ (idle γ) ∷ ‵ (fex ℕ (begun 𝓛 R b o t x)) ∷ []) ∵ use2 𝓛 (raw (upd 𝓤 ⟦ whole 𝓛 R b o t x ⟧)) (renews 𝓛 R b o t x) $ settle 𝓛 Z (‵ (whole 𝓛 R b o t x)) $ suffices ! Z (upd_i 𝓤 Z) $
-        use1 𝓛 (‵ (Rest fixed 0 x)) (rests_fixed 𝓛 R b o t fact 0 x known) $ fpack ! R.Denot (Rest fixed 0) x $ nothing ! $
-        use1 𝓛 (‵ (Got fixed writes off (Some x))) (got_in fixed writes off (Some x) None (refl, tt)) $ move ! (1 ∷ 0 ∷ []) $ done !
-    leaves_whole zero zero reads x none none' on known = let Z : SProp 𝓤 = ⟦ St fixed 1 0 ⟧ ∗ ⟦ Got fixed writes reads (Some x) ⟧ in
-        qed 𝓛 (‵ (idle γ) ∷ ‵ (fex ℕ (begun 𝓛 R b o t x)) ∷ []) ∵ use2 𝓛 (raw (upd 𝓤 ⟦ whole 𝓛 R b o t x ⟧)) (renews 𝓛 R b o t x) $ settle 𝓛 Z (‵ (whole 𝓛 R b o t x)) $ suffices ! Z (upd_i 𝓤 Z) $
-        use1 𝓛 (‵ (Rest fixed 1 x)) (rests_fixed 𝓛 R b o t fact 1 x known) $
+    leaves_whole zero zero off x none none' on known = renewed 𝓛 R b o t x (⟦ St fixed 0 0 ⟧ ∗ ⟦ Got fixed writes off (Some x) ⟧) (
+        qed 𝓛 (‵ (whole 𝓛 R b o t x) ∷ []) ∵ use1 𝓛 (‵ (Rest fixed 0 x)) (rests_fixed 𝓛 R b o t fact 0 x known) $ fpack ! R.Denot (Rest fixed 0) x $ nothing ! $
+        use1 𝓛 (‵ (Got fixed writes off (Some x))) (got_in fixed writes off (Some x) None (refl, tt)) $ move ! (1 ∷ 0 ∷ []) $ done !)
+    leaves_whole zero zero reads x none none' on known = renewed 𝓛 R b o t x (⟦ St fixed 1 0 ⟧ ∗ ⟦ Got fixed writes reads (Some x) ⟧) (
+        qed 𝓛 (‵ (whole 𝓛 R b o t x) ∷ []) ∵ use1 𝓛 (‵ (Rest fixed 1 x)) (rests_fixed 𝓛 R b o t fact 1 x known) $
         use1 𝓛 (given (fact true x) (‵ (St fixed 2 0) ⊛ ‵ (reader R b o t fixed x))) (reads_on 0 x) $ learn ! (λ again. split ! $ move ! (1 ∷ []) $
-        use1 𝓛 (‵ (Got fixed writes reads (Some x))) (got_in fixed writes reads (Some x) (Some x) (refl, tt)) $ move ! (1 ∷ 0 ∷ []) $ done !)
+        use1 𝓛 (‵ (Got fixed writes reads (Some x))) (got_in fixed writes reads (Some x) (Some x) (refl, tt)) $ move ! (1 ∷ 0 ∷ []) $ done !))
 
     fixed_comes : (r w : ℕ) (u : Use) → w ≡ 0 → ((x : R.Denot) → ⟦ Rest fixed r x ⟧ ⊢ ⟦ St fixed (r + reading u) (w + writing u) ⟧ ∗ ⟦ Got fixed off u None ⟧)
         → ⟦ St fixed (r + 0) (w + 0) ⟧ ∗ ⟦ ftrue ⟧ ⊢ upd 𝓤 (⟦ St fixed (r + reading u) (w + writing u) ⟧ ∗ ⟦ Got fixed off u None ⟧)

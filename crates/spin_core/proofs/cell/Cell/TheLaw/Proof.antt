@@ -1,12 +1,11 @@
 -- A `&` to a cell is made of a borrow of it, whatever the words hold. Assumes `Logic`.
-use Rattle.std.proofs.Common.{◌≡◌, ℕ, zero, suc, ◌+◌, ◌-◌, ◌^◌, ◌<◌, List, [], ◌∷◌, ◌++◌, Option, Some, None, sym, subst, arith}
+use Rattle.std.proofs.Common.{◌≡◌, ℕ, zero, suc, ◌+◌, ◌<◌, List, [], ◌∷◌, ◌++◌, Option, Some, None, sym, subst, arith}
 use seplogic.Ra.Ura.{Ura}
 use mir.Syntax.{Ty}
 use base.Share
 use base.Fraction.{full_share}
-use base.FractionLaws.{Counts-all}
 use base.Stored.{Gv, gnum}
-use base.Logic.{SProp, ex, emp, all_e, upd, upd_i, via, apply∗, snd∗, id⊢}
+use base.Logic.{SProp, ex, emp, all_e, upd, upd_i, via, apply∗, id⊢}
 use base.Fml.{Lft, GName, Share, Incl, Fml, ftrue, fsep, fseps, fex, fwand, fupd, fdead, fauth, fobs, fbor, flft, finv, Incl-refl, Incl-trans}
 use base.Before.{before}
 use contract.BorrowLft.{meet_⊑_left}
@@ -14,7 +13,7 @@ use ghost.Rules.{Toks, span}
 use types.Logic.{Logic, lfts}
 use types.SemTy.{Body}
 use types.Keyed.{entries_new}
-use types.Kit.{‵, raw, ◌⊛◌, some, later, ◌$◌, ◌∵◌, !, qed, by, move, keep, drop, use0, use1, use2, use3, split, split3, join, fsplit, fsplit3, fjoin, fjoin3, fpick, fpack, pick, assume, suffices, settle, await, group, updating, now, done}
+use types.Kit.{‵, raw, ◌⊛◌, some, later, ◌$◌, ◌∵◌, !, qed, by, move, keep, drop, use0, use1, use2, use3, split, split3, join, fsplit, fsplit3, fjoin, fjoin3, fpick, fpack, pick, assume, suffices, await, group, updating, now, done}
 use types.Tokens.{bor_open, obor_alter, name_new, name_agree, one_token}
 use types.Na.{before-Incl}
 use types.Owned.{basic, own_new}
@@ -33,16 +32,15 @@ use denote.Struct.Lending.{Law}
 use Rattle.core.proofs.cell.Borrows.{by_one}
 use Rattle.atomic_table.specs.Seated.{halved}
 use Rattle.spin_core.specs.Cell.{Way, alone, lends, fixes, Ways, writes, Limits, Fixed, Meets, readers_of, writers_of}
-use Rattle.spin_core.specs.CellMemory.{offset, second_at, Known, Id, unused, roster, tag, parts, idle, tracked, shared, resting, state, core, core_at, standing, inner, kept, cell_shares}
+use Rattle.spin_core.specs.CellMemory.{offset, second_at, Known, Id, unused, roster, tag, idle, tracked, resting, state, core, core_at, standing, inner, kept, cell_shares}
 use Rattle.spin_core.specs.declared.cell.Rule.{Ghosts}
 use Rattle.spin_core.specs.contracts.cell.Cell as C
 use Rattle.spin_core.proofs.CellFields.{All, Rule, Written, written_out, written_in, standing_words, At, Joins, fields_out}
-use Rattle.spin_core.proofs.CellParts.{parts_in, parts_cut}
 use Rattle.spin_core.proofs.CellRoster.{enrols}
 use Rattle.spin_core.proofs.CellWays.{unknown}
 use Rattle.core.specs.Sync.RawAtomic.{word}
 use Rattle.atomic_table.specs.Seated.{fact}
-use Rattle.spin_core.proofs.CellRounds.{begun, held, readies, whole, renews, rests_fixed}
+use Rattle.spin_core.proofs.CellRounds.{begun, held, readies, whole, renewed, rests_lent, rests_fixed}
 use Rattle.spin_core.proofs.cell.Cell.TheLaw.Statement.{statement}
 use Rattle.spin_core.proofs.Signs.{signs}
 
@@ -109,9 +107,10 @@ module _ {M : Type 1} {𝓤 : Ura M} (𝓛 : Logic 𝓤) (m ms : Member) (V Y K 
   -- ---- the borrow of the cell becomes one of the words and one of the value
   starts : (ν : GName) (s : ℕ × S.Denot) (vs : List V.Denot) (x : R.Denot) (v : Option R.Denot) → Meets g.holds ways s.0 s.1 vs
       → ⟦ found way ν (readers_of ways.1 vs) (writers_of ways.1 vs) v ⟧ ∗ A.auth ν (R.coded.code x) ⊢ ⟦ fact (Starting (s.0, s.1, x)) ⟧
-  starts ν s vs x None meets = let w : ℕ = writers_of ways.1 vs in qed 𝓛 (‵ (fact (0 < w)) ∷ ‵ (fauth ν (R.coded.code x)) ∷ []) ∵ fpick ! (λ writes. drop ! $ drop ! $ nothing ! $
+  starts ν s vs x None meets = let w = writers_of ways.1 vs in qed 𝓛 (‵ (fact (0 < w)) ∷ ‵ (fauth ν (R.coded.code x)) ∷ []) ∵ fpick ! (λ writes. drop ! $
+      drop ! $ nothing ! $
       fpack ! (Starting (s.0, s.1, x)) (λ _. ftrue) (vs, meets, unknown way (readers_of ways.1 vs) w x meets.1 writes) $ done !)
-  starts ν s vs x (Some y) meets = let r : ℕ = readers_of ways.1 vs in let w : ℕ = writers_of ways.1 vs in
+  starts ν s vs x (Some y) meets = let r = readers_of ways.1 vs in let w = writers_of ways.1 vs in
       qed 𝓛 (‵ (found way ν r w (Some y)) ∷ ‵ (fauth ν (R.coded.code x)) ∷ []) ∵ fsplit ! $ move ! (1 ∷ []) $ fpick ! (λ known. drop ! $ name_agree ! R.coded (λ same. drop ! $ drop ! $ nothing ! $
       fpack ! (Starting (s.0, s.1, x)) (λ _. ftrue) (vs, meets, subst (λ (z : R.Denot). Fixed way r w z) same known) $ done !))
 
@@ -128,8 +127,8 @@ module _ {M : Type 1} {𝓤 : Ura M} (𝓛 : Logic 𝓤) (m ms : Member) (V Y K 
   unfolding fseps
   cut q = qed 𝓛 (‵ (fbor κ P) ∷ ‵ (flft κ q) ∷ []) ∵ updating ! $ bor_open ! tt $ move ! (1 ∷ []) $
       use1 𝓛 (some (λ (z : Sure × All 𝓛 m ms V Y K g key b o). ‵ (Both (z.1.0, z.1.1)) ⊛ ‵ (At 𝓛 m ms V Y K g key b o z.1.2) ⊛ ‵ (fact (Starting z.1)) ⊛ raw Back)) (fields_out 𝓛 m ms V Y K g key b o L LS P (written_out 𝓛 m ms V Y K g key b o) (written_in 𝓛 m ms V Y K g key b o)) $
-      pick ! (λ z. let x : R.Denot = z.1.2 in let s : ℕ × S.Denot = (z.1.0, z.1.1) in split ! $ move ! (1 ∷ []) $ split3 ! $ move ! (1 ∷ []) $ fpick ! (λ rule. drop ! $
-      let vs : List V.Denot = rule.0 in let r : ℕ = readers_of ways.1 vs in let w : ℕ = writers_of ways.1 vs in
+      pick ! (λ z. let x = z.1.2 in let s : ℕ × S.Denot = (z.1.0, z.1.1) in split ! $ move ! (1 ∷ []) $ split3 ! $ move ! (1 ∷ []) $ fpick ! (λ rule. drop ! $
+      let vs = rule.0 in let r = readers_of ways.1 vs in let w = writers_of ways.1 vs in
       name_new ! tt (R.coded.code x) (λ ν. move ! (2 ∷ 1 ∷ []) $ fjoin ! $ fpack ! R.Denot (λ y. fsep (At 𝓛 m ms V Y K g key b o y) (fauth ν (R.coded.code y))) x $
       nothing ! $ fpack ! (Fixed way r w x) (λ _. ftrue) rule.2 $ move ! (2 ∷ 0 ∷ []) $ fjoin ! $ fpack ! (Option R.Denot) (found way ν r w) (Some x) $
       nothing ! $ fpack ! (Meets g.holds ways s.0 s.1 vs) (λ _. ftrue) rule.1 $ fjoin ! $ fpack ! (List V.Denot) (views_at ν s) vs $
@@ -150,17 +149,10 @@ module _ {M : Type 1} {𝓤 : Ura M} (𝓛 : Logic 𝓤) (m ms : Member) (V Y K 
     abbrev Ready : Way R.Denot → R.Denot → Fml
     Ready w x = held 𝓛 R b o t writes w (Some x)
 
-    lent : (r : ℕ) (x : R.Denot) → r < 2 ^ 63 → ⟦ whole 𝓛 R b o t x ⟧ ⊢ ⟦ resting R b o t lends r x ⟧
-    lent r x small = qed 𝓛 (‵ (whole 𝓛 R b o t x) ∷ []) ∵ fpick ! (λ a. fsplit ! $ use1 𝓛 (‵ (parts R γ (a, x) (2 ^ 63))) (parts_in 𝓛 R γ (a, x) (2 ^ 63) full_share (Counts-all 63)) $
-        use1 𝓛 (‵ (parts R γ (a, x) (2 ^ 63 - r))) (rest r small a) $ fjoin ! $ fpack ! ℕ (λ e. fsep (parts R γ (e, x) (2 ^ 63 - r)) (shared R b o t (e, x))) a $ done !)
-      where
-        rest : (r : ℕ) → r < 2 ^ 63 → (a : ℕ) → ⟦ parts R γ (a, x) (2 ^ 63) ⟧ ⊢ ⟦ parts R γ (a, x) (2 ^ 63 - r) ⟧
-        rest zero small a = id⊢ 𝓤 _
-        rest (suc k) small a = via 𝓤 _ (parts_cut 𝓛 R γ (a, x) (2 ^ 63) (suc k) (2 ^ 63 - suc k) (omega arith) (omega arith) (omega arith) (omega arith)) (snd∗ 𝓤 ⟦ parts R γ (a, x) (suc k) ⟧ ⟦ parts R γ (a, x) (2 ^ 63 - suc k) ⟧)
-
-    rests : (w : Way R.Denot) (r : ℕ) (x : R.Denot) → ⟦ whole 𝓛 R b o t x ⟧ ⊢ ⟦ resting R b o t w r x ⟧ → ⟦ idle γ ⟧ ∗ ⟦ fex ℕ (begun 𝓛 R b o t x) ⟧ ⊢ upd 𝓤 ⟦ St w r 0 ⟧
-    rests w r x to = let Z : SProp 𝓤 = ⟦ St w r 0 ⟧ in qed 𝓛 (‵ (idle γ) ∷ ‵ (fex ℕ (begun 𝓛 R b o t x)) ∷ []) ∵ use2 𝓛 (raw (upd 𝓤 ⟦ whole 𝓛 R b o t x ⟧)) (renews 𝓛 R b o t x) $ settle 𝓛 Z (‵ (whole 𝓛 R b o t x)) $ suffices ! Z (upd_i 𝓤 Z) $
-        use1 𝓛 (‵ (resting R b o t w r x)) to $ fpack ! R.Denot (resting R b o t w r) x $ done !
+    rests : (w : Way R.Denot) (r : ℕ) (x : R.Denot) → ⟦ whole 𝓛 R b o t x ⟧ ⊢ ⟦ resting R b o t w r x ⟧
+        → ⟦ idle γ ⟧ ∗ ⟦ fex ℕ (begun 𝓛 R b o t x) ⟧ ⊢ upd 𝓤 ⟦ St w r 0 ⟧
+    rests w r x to = renewed 𝓛 R b o t x ⟦ St w r 0 ⟧ (qed 𝓛 (‵ (whole 𝓛 R b o t x) ∷ []) ∵
+        use1 𝓛 (‵ (resting R b o t w r x)) to $ fpack ! R.Denot (resting R b o t w r) x $ done !)
 
     away : (w : Way R.Denot) (r k : ℕ) → 0 < k → ⟦ idle γ ⟧ ⊢ ⟦ St w r k ⟧
     away w r zero writer = absurd (omega (arith, writer))
@@ -169,7 +161,7 @@ module _ {M : Type 1} {𝓤 : Ura M} (𝓛 : Logic 𝓤) (m ms : Member) (V Y K 
 
     begins : (w : Way R.Denot) (r k : ℕ) (x : R.Denot) → Limits w r k → Fixed w r k x → ⟦ idle γ ⟧ ∗ ⟦ Ready w x ⟧ ⊢ upd 𝓤 ⟦ St w r k ⟧
     begins alone r zero x lim known = qed 𝓛 (‵ (idle γ) ∷ ‵ (tracked R b o t x) ∷ []) ∵ drop ! $ fpack ! R.Denot (resting R b o t alone r) x $ by ! (upd_i 𝓤 ⟦ St alone r 0 ⟧)
-    begins lends r zero x lim known = rests lends r x (lent r x (omega arith))
+    begins lends r zero x lim known = rests lends r x (rests_lent 𝓛 R b o t r x (omega arith))
     begins (fixes fact) r zero x lim known = rests (fixes fact) r x (rests_fixed 𝓛 R b o t fact r x known)
     begins w r (suc k) x lim known = qed 𝓛 (‵ (idle γ) ∷ ‵ (Ready w x) ∷ []) ∵ keep ! (0 ∷ []) $ use1 𝓛 (‵ (St w r (suc k))) (away w r (suc k) (omega arith)) $ by ! (upd_i 𝓤 ⟦ St w r (suc k) ⟧)
 
@@ -193,16 +185,17 @@ module _ {M : Type 1} {𝓤 : Ura M} (𝓛 : Logic 𝓤) (m ms : Member) (V Y K 
     words_back : emp 𝓤 ⊢ ⟦ fwand (fsep (fdead κ) (fseps (I ∷ []))) (fupd (Words ν)) ⟧
     unfolding fseps
     words_back = qed 𝓛 [] ∵ assume ! (‵ (fsep (fdead κ) (fsep I ftrue))) $ suffices ! ⟦ Words ν ⟧ (upd_i 𝓤 ⟦ Words ν ⟧) $ fsplit3 ! $ keep ! (1 ∷ []) $ fpick ! (λ s. fsplit3 ! $ move ! (2 ∷ []) $
-        fpick ! (λ vs. let r : ℕ = readers_of ways.1 vs in let w : ℕ = writers_of ways.1 vs in fsplit3 ! $ move ! (1 ∷ []) $ fpick ! (λ meets. drop ! $ drop ! $ use1 𝓛 (‵ (IsFound way ν r w)) (finds way r w) $ nothing ! $
+        fpick ! (λ vs. let r = readers_of ways.1 vs in let w = writers_of ways.1 vs in fsplit3 ! $ move ! (1 ∷ []) $ fpick ! (λ meets. drop ! $ drop ! $
+        use1 𝓛 (‵ (IsFound way ν r w)) (finds way r w) $ nothing ! $
         fpack ! (Meets g.holds ways s.0 s.1 vs) (λ _. ftrue) meets $ fjoin ! $ fpack ! (List V.Denot) (views_at ν s) vs $ move ! (1 ∷ 2 ∷ 0 ∷ []) $ fjoin3 ! $ fpack ! (ℕ × S.Denot) (standing_at ν) s $ done !)))
 
     -- ---- the invariant is made: some views that meet the rule take their places
     module _ (l : Lft) (shares : Shares 𝓛 R l) (μ : Lft) (e f : Share) (i : Incl μ κ) (j : Incl μ l) where
       stands : (vs : List V.Denot) (v : Option R.Denot) → Limits way (readers_of ways.1 vs) (writers_of ways.1 vs)
           → ⟦ found way ν (readers_of ways.1 vs) (writers_of ways.1 vs) v ⟧ ∗ A.bor κ (Named ν) ∗ ⟦ idle γ ⟧ ∗ A.lft μ e ∗ A.lft μ f ⊢ H.⇛ (⟦ St way (readers_of ways.1 vs) (writers_of ways.1 vs) ⟧ ∗ A.lft μ e ∗ A.lft μ f)
-      stands vs None lim = let r : ℕ = readers_of ways.1 vs in let w : ℕ = writers_of ways.1 vs in
+      stands vs None lim = let r = readers_of ways.1 vs in let w = writers_of ways.1 vs in
           qed 𝓛 (‵ (found way ν r w None) ∷ ‵ (fbor κ (Named ν)) ∷ ‵ (idle γ) ∷ ‵ (flft μ e) ∷ ‵ (flft μ f) ∷ []) ∵ updating ! $ fpick ! (λ writes. drop ! $ drop ! $ use1 𝓛 (‵ (St way r w)) (away way r w writes) $ now ! $ done !)
-      stands vs (Some x) lim = let r : ℕ = readers_of ways.1 vs in let w : ℕ = writers_of ways.1 vs in
+      stands vs (Some x) lim = let r = readers_of ways.1 vs in let w = writers_of ways.1 vs in
           qed 𝓛 (‵ (found way ν r w (Some x)) ∷ ‵ (fbor κ (Named ν)) ∷ ‵ (idle γ) ∷ ‵ (flft μ e) ∷ ‵ (flft μ f) ∷ []) ∵ updating ! $ fsplit ! $ move ! (1 ∷ []) $ fpick ! (λ known. drop ! $ fjoin ! $ move ! (0 ∷ 2 ∷ 3 ∷ []) $
           use3 𝓛 (later (‵ (Ready way x) ⊛ ‵ (flft μ e) ⊛ ‵ (flft μ f))) (readies 𝓛 R b o t l shares writes way (Some x) μ e μ f i j) $ await ! tt $ split3 ! $ move ! (3 ∷ 0 ∷ []) $
           use2 𝓛 (later (‵ (St way r w))) (via 𝓤 _ (begins way r w x lim known) (basic 𝓛 ⟦ St way r w ⟧)) $ await ! tt $ now ! $ done !)
@@ -215,7 +208,8 @@ module _ {M : Type 1} {𝓤 : Ura M} (𝓛 : Logic 𝓤) (m ms : Member) (V Y K 
       guarded k u q = qed 𝓛 ((‵ (fbor κ (Words ν)) ⊛ ‵ (fbor κ (Named ν)) ⊛ ‵ (unused ρ 0 u) ⊛ ‵ (idle γ) ⊛ ‵ (flft μ e) ⊛ ‵ (flft μ f)) ∷ ‵ (flft κ q) ∷ []) ∵ updating ! $
           split ! $ move ! (1 ∷ []) $ split3 ! $ move ! (2 ∷ []) $ split3 ! $ move ! (5 ∷ 6 ∷ []) $ bor_open ! tt $ move ! (1 ∷ []) $ fpick ! (λ s. fsplit3 ! $ move ! (2 ∷ []) $ fpick ! (λ vs. fsplit ! $ fpick ! (λ meets. drop ! $ fpick ! (λ v.
           -- [what was found; the words; the open borrow; the round's name; two tokens; the value; the keys]
-          let Q : Fml = St way (readers_of ways.1 vs) (writers_of ways.1 vs) in move ! (0 ∷ 7 ∷ 4 ∷ 5 ∷ 6 ∷ []) $ group ! 5 $ use1 𝓛 (later (‵ Q ⊛ ‵ (flft μ e) ⊛ ‵ (flft μ f))) (stands vs v meets.1) $ await ! tt $ split3 ! $
+          let Q = St way (readers_of ways.1 vs) (writers_of ways.1 vs) in move ! (0 ∷ 7 ∷ 4 ∷ 5 ∷ 6 ∷ []) $ group ! 5 $
+          use1 𝓛 (later (‵ Q ⊛ ‵ (flft μ e) ⊛ ‵ (flft μ f))) (stands vs v meets.1) $ await ! tt $ split3 ! $
           move ! (6 ∷ []) $ use1 𝓛 (later (‵ (roster c ρ 0 vs))) (via 𝓤 _ (enrols 𝓛 V.coded ρ vs 0 u) (basic 𝓛 ⟦ roster c ρ 0 vs ⟧)) $ await ! tt $ nothing ! $ fpack ! (Meets g.holds ways s.0 s.1 vs) (λ _. ftrue) meets $
           move ! (1 ∷ 0 ∷ 2 ∷ []) $ fjoin3 ! $ fpack ! (List V.Denot) (core_at R b o t c S g.holds ways s.0 s.1) vs $ move ! (3 ∷ 4 ∷ 0 ∷ []) $ fjoin3 ! $ fpack ! (ℕ × S.Denot) (standing R b o t c S g.holds ways) s $
           nothing ! $ move ! (1 ∷ 0 ∷ []) $ fjoin ! $ use0 𝓛 (‵ (fwand (fsep (fdead κ) (fseps (I ∷ []))) (fupd (Words ν)))) words_back $ move ! (4 ∷ 1 ∷ 0 ∷ []) $ obor_alter ! tt (I ∷ []) $
@@ -224,12 +218,13 @@ module _ {M : Type 1} {𝓤 : Ura M} (𝓛 : Logic 𝓤) (m ms : Member) (V Y K 
           fpack ! Sure (λ _. fex Id (λ y. kept R b o y c S g.holds ways κ)) k $ now ! $ move ! (0 ∷ 3 ∷ 4 ∷ []) $ group ! 3 $ keep ! (0 ∷ 2 ∷ []) $ done !))))
 
   made : (l : Lft) → Shares 𝓛 R l → (ts : Toks) → Incl (span ts) l → Incl (span ts) κ → A.bor κ P ∗ lfts 𝓛 ts ⊢ H.⇛ (⟦ cell_shares Y R c S g.holds ways (block_ptr b o) κ ⟧ ∗ lfts 𝓛 ts)
-  made l shares ts inc sp = let μ : Lft = span ts in let none : Gv = gnum 0 in let Q : Fml = cell_shares Y R c S g.holds ways (block_ptr b o) κ in
+  made l shares ts inc sp = let μ = span ts in let none = gnum 0 in let Q = cell_shares Y R c S g.holds ways (block_ptr b o) κ in
       qed 𝓛 (‵ (fbor κ P) ∷ raw (lfts 𝓛 ts) ∷ []) ∵ updating ! $ use2 𝓛 (later (‵ Two ⊛ raw (lfts 𝓛 ts))) (by_one 𝓛 κ ts sp (A.bor κ P) ⟦ Two ⟧ cut) $ await ! tt $ split ! $ fpick ! (λ k. fpick ! (λ ν. fsplit ! $
       use0 𝓛 (later (some (λ (γ : GName). ‵ (tag γ full_share none)))) (via 𝓤 _ (own_new 𝓛 halved (full_share, none)) (basic 𝓛 (ex 𝓤 (λ (γ : GName). ⟦ tag γ full_share none ⟧)))) $ await ! tt $ pick ! (λ γ. fpack ! Gv (tag γ full_share) none $
       use0 𝓛 (later (some (λ (ρ : GName). ‵ (unused ρ 0 none)))) (via 𝓤 _ (entries_new halved 𝓛 0 (λ _. (full_share, none))) (basic 𝓛 (ex 𝓤 (λ (ρ : GName). ⟦ unused ρ 0 none ⟧)))) $ await ! tt $ pick ! (λ ρ.
       -- [the keys; the name of the round; the words; the value; the tokens]
-      move ! (4 ∷ []) $ use1 𝓛 (some (λ (q : Share). ‵ (flft μ q) ⊛ raw (A.lft μ q -∗ lfts 𝓛 ts))) (one_token 𝓛 ts) $ pick ! (λ q. let a : Share = Share.left q in let d : Share = Share.right q in let e : Share = Share.left d in let f : Share = Share.right d in
+      move ! (4 ∷ []) $ use1 𝓛 (some (λ (q : Share). ‵ (flft μ q) ⊛ raw (A.lft μ q -∗ lfts 𝓛 ts))) (one_token 𝓛 ts) $ pick ! (λ q. let a = Share.left q in
+      let d = Share.right q in let e = Share.left d in let f = Share.right d in
       split ! $ use1 𝓛 (‵ (flft μ a) ⊛ ‵ (flft μ d)) (𝓛.lfts.lft_split μ q) $ split ! $ move ! (1 ∷ []) $ use1 𝓛 (‵ (flft μ e) ⊛ ‵ (flft μ f)) (𝓛.lfts.lft_split μ d) $ split ! $
       -- [two tokens; a third; the way back; the keys; the name of the round; the words; the value]
       move ! (6 ∷ 7 ∷ 4 ∷ 5 ∷ 0 ∷ 1 ∷ []) $ group ! 6 $
@@ -243,10 +238,11 @@ alike T L = λ i. record { Denot = T.Denot; mir = L.one i; written = T.written; 
 
 pub shares : (T V P K S : RattleType) (g : Ghosts P.Denot T.Denot V.Denot K.Denot S.Denot) (L : Laws T) (W : Laws V) (J : Laws P) (I : Laws K) (N : Laws S) → statement T V P K S g L W J I N
 shares T V P K S g L W J I N = let m : Member = record { row = T; ty = layout T } in let ms : Member = record { row = S; ty = layout S } in
-    let same : T ≡ row_of m = alike T L in let same_second : S ≡ row_of ms = alike S N in
+    let same = alike T L in let same_second : S ≡ row_of ms = alike S N in
     subst (λ (z : List Ty × List Ty). Law (C.the_written (record T { mir = z.0 }) V P K (record S { mir = z.1 }) g)) (λ i. (sym L.one i, sym N.one i)) (record {
       shr_laws = λ d b o. some_shr_laws (Known (g.ways d) P (row_of ms) (row_of m)) (λ _. denote.Sharing.some Id (λ t. kept (row_of m) b o t V.coded.code (row_of ms) g.holds (g.ways d))) (λ _.
-          some_shr_laws Id (λ t. kept (row_of m) b o t V.coded.code (row_of ms) g.holds (g.ways d)) (λ t. let I : Fml = inner (row_of m) b o t V.coded.code (row_of ms) g.holds (g.ways d) in
+          some_shr_laws Id (λ t. kept (row_of m) b o t V.coded.code (row_of ms) g.holds (g.ways d))
+          (λ t. let I = inner (row_of m) b o t V.coded.code (row_of ms) g.holds (g.ways d) in
           beside_shr_laws (ends t.life) (always (fbor t.life I)) (ends_shr_laws t.life) (always_shr_laws (fbor t.life I))));
       shares = λ M 𝓤 𝓛 d κ ts b o inc sp. made 𝓛 m ms V P K g d (subst (Lawful 𝓛) same (L.lawful 𝓛)) (subst (Lawful 𝓛) same_second (N.lawful 𝓛)) b o κ T.lives (subst (λ (R : RattleType). Shares 𝓛 R T.lives) same (L.shares 𝓛)) ts
           (Incl-trans inc (Incl-trans (meet_⊑_left (T.lives ++ (V.lives ++ (P.lives ++ (K.lives ++ (S.lives ++ []))))) _) (meet_⊑_left T.lives (V.lives ++ (P.lives ++ (K.lives ++ (S.lives ++ []))))))) sp;
