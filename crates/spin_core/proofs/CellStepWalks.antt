@@ -1,28 +1,29 @@
 -- What the walks of the eight steps share: their entry, the permit opened for a step on either word, and its close at the new view. Assumes `Logic`.
-use Rattle.std.proofs.Common.{◌≡◌, ℕ, zero, suc, ◌<◌, ◌^◌, List, [], ◌∷◌, ◌++◌, Option, Some, refl, w64}
+use Rattle.std.proofs.Common.{◌≡◌, ℕ, ◌+◌, zero, suc, ◌<◌, ◌^◌, List, [], ◌∷◌, ◌++◌, Option, Some, refl, w64}
 use seplogic.Ra.Ura.{Ura}
 use mir.Val.{Val, vint, vstruct, vcons, vnil, of_list}
-use base.Logic.{SProp, ent, sep, emp, guard_i}
+use base.Logic.{SProp, ent, sep, id⊢, via, snd∗}
 use base.Fml.{Lft, Share, Incl, Fml, ftrue, fex, fsep, feq, finv, flft}
 use prog.Model.{Model}
 use contract.Running.{Running}
-use contract.Monad.{fact, fact_i, fact_use}
+use contract.Monad.{fact}
 use contract.BorrowLft.{◌⊑◌}
 use types.Logic.{Logic, sem}
-use types.Kit.{Goal, Soaks, Seq, Item, ‵, raw, ◌⊛◌, some, given, later, ◌$◌, move, keep, split, split3, fsplit, rewrite, join, fjoin, fjoin3, fpack, pick, learn, await, use0, use1, use3, feq_i, flt_i}
+use types.Kit.{Goal, prop, Go, !, qed, ◌∵◌, mean, Soaks, Seq, Item, ‵, raw, ◌⊛◌, some, given, later, ◌$◌, move, keep, split, split3, fsplit, rewrite, join, fjoin, fjoin3, fpack, pick, learn, await, use0, use1, use3, feq_i, flt_i}
 use denote.RattleType.{RattleType, Valss, owns}
 use denote.Ref.{NamedLft}
 use denote.Steps.{nothing, heard}
-use denote.RawPtr.{InBlock, block_ptr, block_of, count_of, at_block, Ptr}
+use denote.RawPtr.{InBlock, block_ptr, block_of, count_of, Ptr}
 use denote.Builtin.{u64}
 use denote.Param.{param}
 use denote.Param.Laws.{Laws, param_laws}
 use Rattle.core.specs.Sync.RawAtomic.{asks, always}
-use Rattle.spin_core.specs.Cell.{Ways, Keeps}
+use Rattle.spin_core.specs.Cell.{Ways, Keeps, AllowsAt}
 use Rattle.spin_core.specs.CellMemory.{kept, permit_owns}
 use Rattle.spin_core.specs.declared.cell.Rule.{Ghosts}
 use Rattle.spin_core.specs.contracts.cell.Permit as hand
-use Rattle.spin_core.proofs.PermitFields.{hand_of, Words, made, owns_placed}
+use Rattle.spin_core.proofs.PermitFields.{hand_of, Words, made}
+use Rattle.spin_core.proofs.WalkSteps.{says, lies_at}
 use Rattle.spin_core.proofs.CellSteps as steps
 use Rattle.spin_core.proofs.CellWalks.{Entry, J, Back, mine, enters, exits}
 
@@ -95,6 +96,14 @@ module _ {M : Type 1} {𝓤 : Ura M} (𝓛 : Logic 𝓤) (𝓜 : Model 𝓤 𝓛
           (enters 𝓛 𝓜 𝓡 Y R LR.shr_laws W.coded Sr g.holds ways β b o R.lives (LR.shares 𝓛) h.view h.value q τ r le) $ await t z $ pick t (λ k. split3 t $ move t (2 ∷ []) $ split3 t $ move t (2 ∷ []) $ split t $
           move t (4 ∷ 5 ∷ 2 ∷ []) $ use3 𝓛 (raw (asks 𝓛 at f always (after k then))) (can k) $ go k)
 
+      -- the same for a step on the first
+      pub opens_first : K → Soaks G → (τ : Lft) (r : Share) → Incl τ R.lives → (then : ℕ → W.Denot → Type 0) (f : ℕ → ℕ)
+          → AllowsAt g.holds ways h.view h.value f then
+          → ((k : At) → Seq K 𝓛 (raw (asks 𝓛 (block_ptr b (o + 0)) f always (after k then)) ∷ raw (Gives k) ∷ ‵ (flft τ r) ∷ ‵ (Remains k) ∷ Γ) G)
+          → Seq K 𝓛 (‵ (permit_owns Y R W.coded.code Sr g.holds ways β (block_ptr b o) h.view h.value) ∷ ‵ (flft β q) ∷ ‵ (flft τ r) ∷ Γ) G
+      opens_first t z τ r le then f asked go = opens_step t z τ r le then (block_ptr b (o + 0)) f
+          (λ k. steps.first_steps 𝓛 R LR.shr_laws b o k.1.0 W.coded Sr g.holds ways k.1.1 h.view h.value f then asked) go
+
       -- the permit at its new view, and all tokens
       pub closes : K → Soaks G → (k : At) (then : ℕ → W.Denot → Type 0) (n : ℕ) (τ : Lft) (r : Share) (os : Fml)
           → ((s : W.Denot × Option R.Denot) → Seq K 𝓛 ((‵ (flft β q) ⊛ ‵ (flft τ r) ⊛ ‵ os) ∷ ‵ (Hr.own_val (next s) (hand_of (block_ptr b o) ∷ [])) ∷ Says then n s ∷ Γ) G)
@@ -104,8 +113,8 @@ module _ {M : Type 1} {𝓤 : Ura M} (𝓛 : Logic 𝓤) (𝓜 : Model 𝓤 𝓛
           move t (0 ∷ 3 ∷ 1 ∷ []) $ use3 𝓛 (later (some (λ (s : W.Denot × Option R.Denot). given (then n s.0 × So s) (‵ (Owned s))) ⊛ ‵ (flft β q)))
           (exits 𝓛 𝓜 𝓡 Y R LR.shr_laws W.coded Sr g.holds ways β b o k h.view then n h.value q) $ await t z $ split t $ pick t (λ s. learn t (λ so.
           use0 𝓛 (‵ ((Words ℓ R W Y Kr Sr g).own_val (block_ptr b o, (tt, tt)) (hand_of (block_ptr b o) ∷ []))) (made ℓ R W Y Kr Sr g 𝓛 (block_ptr b o)) $ fjoin t $
-          use0 𝓛 (raw (fact 𝓤 (h.key ≡ h.key))) (fact_i 𝓤 (h.key ≡ h.key) (emp 𝓤) refl) $ use0 𝓛 (raw (fact 𝓤 (So s))) (fact_i 𝓤 (So s) (emp 𝓤) so.1) $ join t $
-          use0 𝓛 (raw (fact 𝓤 (then n s.0))) (fact_i 𝓤 (then n s.0) (emp 𝓤) so.0) $ join t $ move t (3 ∷ 4 ∷ []) $ join t $ move t (3 ∷ 0 ∷ []) $ join t $ move t (0 ∷ 2 ∷ 1 ∷ []) $ go s))
+          says t (h.key ≡ h.key) refl $ says t (So s) so.1 $ join t $
+          says t (then n s.0) so.0 $ join t $ move t (3 ∷ 4 ∷ []) $ join t $ move t (3 ∷ 0 ∷ []) $ join t $ move t (0 ∷ 2 ∷ 1 ∷ []) $ go s))
 
     module _ {K : Type 0} {Γ : List (Item 𝓤)} {G : Goal 𝓤 𝓛.H} where
       -- the same, in a pair with the number found
@@ -115,12 +124,35 @@ module _ {M : Type 1} {𝓤 : Ura M} (𝓛 : Logic 𝓤) (𝓜 : Model 𝓤 𝓛
       closes_pair t z k then n fits τ r os go = closes t z k then n τ r os (λ s. move t (1 ∷ []) $ nothing t $ flt_i t n (2 ^ 64) fits $ feq_i t (List Val) (vint w64 n ∷ []) (vint w64 n ∷ []) refl $ fjoin t $
           move t (0 ∷ 2 ∷ 1 ∷ []) $ fjoin3 t $ feq_i t (List Val) (pair_of n ∷ []) (pair_of n ∷ []) refl $ fjoin t $ fpack t (Valss (u64 ∷ Hr ∷ [])) (both n s) (vint w64 n ∷ [], (hand_of (block_ptr b o) ∷ [], tt)) $ move t (1 ∷ []) $ go s)
 
-module _ {M : Type 1} {𝓤 : Ura M} (𝓛 : Logic 𝓤) (ℓ : NamedLft) (T W Y Kr Sr : RattleType) (g : Ghosts Y.Denot T.Denot W.Denot Kr.Denot Sr.Denot) {K : Type 0} {G : Goal 𝓤 𝓛.H} where
-  -- what a step asks, where its value lives, the tokens, and the permit with the other arguments
-  pub begins : K → (h : (hand.the_row ℓ (param 0 T) W Y Kr Sr g).Denot) (Asked : Type 0) (q : Share) (τ : Lft) (r : Share) (os rest : Fml)
-      → (Asked → τ ⊑ T.lives → InBlock h.cell → Seq K 𝓛 (‵ (permit_owns Y (param 0 T) W.coded.code Sr g.holds (g.ways h.key) ℓ.lft (block_ptr (block_of h.cell) (count_of h.cell)) h.view h.value) ∷ ‵ (flft ℓ.lft q) ∷ ‵ (flft τ r) ∷ ‵ os ∷ []) G)
-      → Seq K 𝓛 (raw (fact 𝓤 Asked) ∷ raw (fact 𝓤 (τ ⊑ T.lives)) ∷ ((‵ (flft ℓ.lft q) ⊛ ‵ (flft τ r) ⊛ ‵ os) ⊛ ‵ (fsep ((hand.the_row ℓ (param 0 T) W Y Kr Sr g).own_val h (hand_of h.cell ∷ [])) rest)) ∷ []) G
-  begins t h Asked q τ r os rest go = let Owned : Ptr → Fml = λ p. permit_owns Y (param 0 T) W.coded.code Sr g.holds (g.ways h.key) ℓ.lft p h.view h.value in
-      heard t Asked (λ asked. heard t (τ ⊑ T.lives) (λ le. split t $ split3 t $ move t (3 ∷ []) $ fsplit t $ fsplit t $ keep t (1 ∷ 3 ∷ 4 ∷ 5 ∷ []) $
-      use1 𝓛 (given (InBlock h.cell) (‵ (Owned h.cell))) (fact_use 𝓤 _ (owns_placed 𝓛 Y (param 0 T) W.coded.code Sr g.holds (g.ways h.key) ℓ.lft h.cell h.view h.value) (guard_i 𝓤 (InBlock h.cell) (sem 𝓛 (Owned h.cell)))) $ learn t (λ inb.
-      rewrite t 0 (λ (z : Ptr). ‵ (Owned z)) (at_block h.cell inb) refl $ go asked le inb)))
+-- facts that a walk does not look at, and a last one
+abbrev Facts : ℕ → Type 1
+Facts zero = Unit {1}
+Facts (suc n) = Type 0 × Facts n
+
+module _ {M : Type 1} (𝓤 : Ura M) (φ : Type 0) where
+  abbrev after_facts : (n : ℕ) → Facts n → SProp 𝓤
+  after_facts zero φs = fact 𝓤 φ
+  after_facts (suc n) φs = sep 𝓤 (fact 𝓤 φs.0) (after_facts n φs.1)
+
+  last_fact : (n : ℕ) (φs : Facts n) → ent 𝓤 (after_facts n φs) (fact 𝓤 φ)
+  last_fact zero φs = id⊢ 𝓤 (fact 𝓤 φ)
+  last_fact (suc n) φs = via 𝓤 (after_facts n φs.1) (snd∗ 𝓤 (fact 𝓤 φs.0) (after_facts n φs.1)) (last_fact n φs.1)
+
+module _ {M : Type 1} {𝓤 : Ura M} (𝓛 : Logic 𝓤) (ℓ : NamedLft) (T W Y Kr Sr : RattleType) (g : Ghosts Y.Denot T.Denot W.Denot Kr.Denot Sr.Denot) where
+  abbrev Row : RattleType
+  Row = hand.the_row ℓ (param 0 T) W Y Kr Sr g
+
+  -- a walk has the tokens, the permit with the other arguments, where its value lives, and last what the step asks
+  pub begins : (n : ℕ) (φs : Facts n) (h : Row.Denot) (Asked : Type 0) (q : Share) (τ : Lft) (r : Share) (os owned rest : Fml)
+      → owned ≡ fsep (Row.own_val h (hand_of h.cell ∷ [])) rest → {P : SProp 𝓤}
+      → (let Owned : Ptr → Fml = λ p. permit_owns Y (param 0 T) W.coded.code Sr g.holds (g.ways h.key) ℓ.lft p h.view h.value in
+      Asked → τ ⊑ T.lives → InBlock h.cell → Seq (Go {0}) 𝓛
+      (‵ (Owned (block_ptr (block_of h.cell) (count_of h.cell))) ∷ ‵ (flft ℓ.lft q) ∷ ‵ (flft τ r) ∷ ‵ os ∷ []) (prop P))
+      → ent 𝓤 (sep 𝓤 (sep 𝓤 (mean 𝓛 (‵ (flft ℓ.lft q) ⊛ ‵ (flft τ r) ⊛ ‵ os)) (sem 𝓛 owned))
+      (sep 𝓤 (fact 𝓤 (τ ⊑ T.lives)) (after_facts 𝓤 Asked n φs))) P
+  begins n φs h Asked q τ r os owned rest is go =
+      let Owned : Ptr → Fml = λ p. permit_owns Y (param 0 T) W.coded.code Sr g.holds (g.ways h.key) ℓ.lft p h.view h.value in
+      qed 𝓛 (((‵ (flft ℓ.lft q) ⊛ ‵ (flft τ r) ⊛ ‵ os) ⊛ ‵ owned) ∷ raw (fact 𝓤 (τ ⊑ T.lives)) ∷ raw (after_facts 𝓤 Asked n φs) ∷ []) ∵
+      move ! (2 ∷ []) $ use1 𝓛 (raw (fact 𝓤 Asked)) (last_fact 𝓤 Asked n φs) $ heard ! Asked (λ asked. move ! (1 ∷ []) $ heard ! (τ ⊑ T.lives) (λ le.
+      split ! $ split3 ! $ move ! (3 ∷ []) $ rewrite ! 0 (λ (F : Fml). ‵ F) is refl $ fsplit ! $ fsplit ! $ keep ! (1 ∷ 3 ∷ 4 ∷ 5 ∷ []) $
+      lies_at ! Owned refl h.cell (λ inb. go asked le inb)))

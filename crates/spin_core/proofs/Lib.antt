@@ -13,6 +13,7 @@ pub mod CellRounds
 pub mod CellSent
 pub mod CellSteps
 pub mod PermitFields
+pub mod WalkSteps
 pub mod WalkNames
 pub mod CellWalks
 pub mod CellStepWalks

@@ -21,7 +21,7 @@ use denote.Struct.Owning.{shape}
 use Rattle.core.specs.contracts.marker.PhantomData as marker
 use Rattle.spin_core.specs.declared.cell.Rule.{Ghosts}
 use Rattle.spin_core.specs.Cell.{Use, reads, Ways, use_of}
-use Rattle.spin_core.specs.CellMemory.{permit_owns, writer_owns, reader_shares, permit_shares, writer_shares}
+use Rattle.spin_core.specs.CellMemory.{reader_shares, permit_shares}
 use Rattle.spin_core.specs.contracts.cell.Permit as permit
 
 pub both : (a b : Bool) → T a → T b → T (a && b)
@@ -55,14 +55,6 @@ module _ (a : NamedLft) (R V Y K S : RattleType) (g : Ghosts Y.Denot R.Denot V.D
   opened {M} {𝓤 = 𝓤} 𝓛 = (Struct-Copied 𝓛 (shape (permit.the_type a R V Y K S g)) (refl, (refl, tt)) (RawPtr-copy.copied M 𝓤 𝓛, ((field_copy (marker.the_type (ShrRef a.mir a.lft R)) tt).copied M 𝓤 𝓛, tt))).opens
 
 module _ {M : Type 1} {𝓤 : Ura M} (𝓛 : Logic 𝓤) (Y R : RattleType) {V : Type 0} (c : V → Gv) (S : RattleType) (holds : ℕ → S.Denot → List V → Type 0) (ways : Ways R.Denot V) (β : Lft) where
-  pub owns_placed : (p : Ptr) (view : Option V) (x : Option R.Denot) → ent 𝓤 (sem 𝓛 (permit_owns Y R c S holds ways β p view x)) (fact 𝓤 (InBlock p))
-  owns_placed (block_ptr b o) view x = fact_i 𝓤 (Unit {0}) _ tt
-  owns_placed null_ptr view x = never_e 𝓤 _
-
-  pub pen_placed : (p : Ptr) (view : V) (x : R.Denot) → ent 𝓤 (sem 𝓛 (writer_owns Y R c S holds ways β p view x)) (fact 𝓤 (InBlock p))
-  pen_placed (block_ptr b o) view x = fact_i 𝓤 (Unit {0}) _ tt
-  pen_placed null_ptr view x = never_e 𝓤 _
-
   seen_at : (b o : ℕ) (v : Option R.Denot) (κ : Lft) → ent 𝓤 (sem 𝓛 (reader_shares Y R c S holds ways β b o reads v κ)) (fact 𝓤 (Unit {0} × ((x : R.Denot) × (v ≡ Some x))))
   seen_at b o (Some x) κ = fact_i 𝓤 (Unit {0} × ((y : R.Denot) × (Some x ≡ Some y))) _ (tt, (x, refl))
   seen_at b o None κ = never_e 𝓤 _
@@ -71,7 +63,3 @@ module _ {M : Type 1} {𝓤 : Ura M} (𝓛 : Logic 𝓤) (Y R : RattleType) {V :
   sees null_ptr view v κ e = never_e 𝓤 _
   sees (block_ptr b o) view v κ e = let Seen : Option R.Denot → Type 0 = λ z. Unit {0} × ((x : R.Denot) × (z ≡ Some x)) in
       subst (λ (u : Use). ent 𝓤 (sem 𝓛 (reader_shares Y R c S holds ways β b o u v κ)) (fact 𝓤 (Seen v))) (sym e) (seen_at b o v κ)
-
-  pub pen_sees : (p : Ptr) (view : V) (x : R.Denot) (κ : Lft) → ent 𝓤 (sem 𝓛 (writer_shares Y R c S holds ways β p view x κ)) (fact 𝓤 (InBlock p))
-  pen_sees (block_ptr b o) view x κ = fact_i 𝓤 (Unit {0}) _ tt
-  pen_sees null_ptr view x κ = never_e 𝓤 _

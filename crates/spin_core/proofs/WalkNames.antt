@@ -1,10 +1,10 @@
 -- The names of the logic that the walks by hand use, in one place.
-pub use Rattle.std.proofs.Common.{◌≡◌, ℕ, ◌+◌, ◌-◌, ◌%◌, ◌^◌, ◌<◌, ◌&&◌, T, true, List, [], ◌∷◌, ◌++◌, sym, refl, ap, ◌∙◌, subst, lit<, w64, Option, Some, None}
+pub use Rattle.std.proofs.Common.{◌≡◌, ℕ, ◌+◌, ◌-◌, ◌%◌, ◌^◌, ◌&&◌, T, true, List, [], ◌∷◌, ◌++◌, sym, refl, ap, ◌∙◌, subst, lit<, w64, Option, Some, None}
 pub use mir.Syntax.{dcons, dnil, a_type, named}
 pub use mir.Val.{Val, vunit, vint, vptr, vstruct, vcons, vnil, of_list, has_ty, WT}
 pub use mir.MapTy.{inst_fn}
 pub use base.Fraction.{full_share}
-pub use base.Logic.{emp, SProp, ent, sep, wand, id⊢, via, apply∗, guard_i}
+pub use base.Logic.{emp, SProp, ent, sep, wand, id⊢, apply∗, guard_i}
 pub use base.Fml.{fex, Lft, Share, Fml, ftrue, fsep, feq, flft, fhide, fbor, Incl-refl}
 pub use base.Before.{before}
 pub use prog.Wp.{WpFn}
@@ -38,3 +38,4 @@ pub use Rattle.core.proofs.atomic.Steps.{tail}
 pub use Rattle.core.proofs.mem.Param.{El, lawful, Good, one}
 pub use Rattle.atomic_table.proofs.Walks.{proved, proved_at, leaves}
 pub use Rattle.atomic_table.proofs.Calls.{fm, seq_cst, found, finds, stored, has_stored, loads, stores, adds, subs, exchanges}
+pub use Rattle.spin_core.proofs.WalkSteps.{says, lies, lies_at}

@@ -1,5 +1,5 @@
 -- `get_mut` lends the value, under a new name.
-use Rattle.spin_core.proofs.WalkNames.{ℕ, ◌+◌, [], ◌∷◌, refl, dcons, dnil, a_type, named, Val, vptr, inst_fn, SProp, sep, Lft, Share, Fml, flft, tables, sem, ‵, raw, ◌⊛◌, some, later, ◌$◌, ◌∵◌, !, qed, by, move, keep, split, split3, join, fsplit, fsplit3, fjoin, pick, fpick, drop, use1, await, stop, fld, addr, returns, enter, alloc_all, pass_all, free_all, look_at, through, sets, no, RattleType, owns, types_at, plain, RefMutOf, param, layout, bounded, param_laws, Stays, stay_dropped, walk_of, fact, nothing, heard, proved, leaves}
+use Rattle.spin_core.proofs.WalkNames.{◌+◌, [], ◌∷◌, refl, dcons, dnil, named, vptr, inst_fn, sep, Fml, flft, sem, ‵, raw, ◌⊛◌, some, later, ◌$◌, ◌∵◌, !, qed, by, move, keep, split, split3, join, fsplit, fsplit3, fjoin, pick, fpick, drop, use1, await, stop, fld, addr, returns, enter, alloc_all, pass_all, free_all, look_at, through, sets, no, owns, types_at, plain, RefMutOf, param, layout, bounded, param_laws, Stays, stay_dropped, walk_of, fact, nothing, heard, proved, leaves}
 use base.Fml.{GName}
 use types.Kit.{group}
 use denote.Memory.{mem as in_memory}
@@ -22,19 +22,26 @@ use Rattle.spin_core.proofs.cell.Cell.get_mut.Code as code
 
 pub get_mut_spec : {M : Type 1} → statement M
 get_mut_spec 𝓤 𝓛 𝓜 𝓡 wired X U P K S L _ _ _ LS g d _ =
-    let H = 𝓛.H in let 𝓣 = tables 𝓤 H 𝓜 𝓡 𝓡.env in let R : RattleType = param 0 X in let V : RattleType = param 1 U in let Y : RattleType = param 2 P in let Kr : RattleType = param 3 K in let Sr : RattleType = param 4 S in let En = ended X U P K S g d in let c = clauses X U P K S g d 𝓛 𝓜.mem 𝓡.returns in
-    let inst = bounded (a_type ∷ a_type ∷ a_type ∷ a_type ∷ a_type ∷ []) (X, (U, (P, (K, (S, tt))))) (dcons d dnil) in let fn = inst_fn inst code.function in let Ty : RattleType = cell.the_row R V Y Kr Sr g in let m : Member = record { row = R; ty = layout X } in let ms : Member = record { row = Sr; ty = layout S } in let Lw = (param_laws 0 X L).lawful 𝓛 in let Ls = (param_laws 4 S LS).lawful 𝓛 in
+    let R = param 0 X in let V = param 1 U in let Y = param 2 P in let Kr = param 3 K in let Sr = param 4 S in let En = ended X U P K S g d in
+    let c = clauses X U P K S g d 𝓛 𝓜.mem 𝓡.returns in
+    let inst = bounded code.function.ty_params (X, (U, (P, (K, (S, tt))))) (dcons d dnil) in let fn = inst_fn inst code.function in
+    let Ty = cell.the_row R V Y Kr Sr g in let m : Member = record { row = R; ty = layout X } in let ms : Member = record { row = Sr; ty = layout S } in
+    let Lw = (param_laws 0 X L).lawful 𝓛 in let Ls = (param_laws 4 S LS).lawful 𝓛 in
     let hs : Stays En.signature.params En.kept = (stay_dropped (RefMutOf (0 ∷ []) tt (plain (λ _. Ty)) (λ _. tt)) no, tt) in
-    proved 𝓛 En hs c 𝓜 𝓡 (Goes-spent_ref 𝓛 6 (0 ∷ []) tt (plain (λ _. Ty)), tt) (#self inst) fn (code.unfolded 𝓤 H 𝓜 𝓡 wired (X, (U, (P, (K, (S, tt))))) d) (λ κs. (mut_vals, tt)) (λ κs. (mut_Tells (named 0) κs.0 Ty, tt)) (λ κs qs bounds a gh are.
-    let b : ℕ = a.0.ref_ptr.0 in let o : ℕ = a.0.ref_ptr.1 in let κ : Lft = κs.0 in let q : Share = qs.0 in let e : ℕ = o + offset R in
-    let y : (walk_of 𝓛 En hs c).Ghost = ((κs, qs, bounds, a, (vptr b o ∷ [], tt)), gh) in let Post : Val → SProp 𝓤 = (walk_of 𝓛 En hs c).post y in
-    let os : Fml = others 5 κs.1 qs.1 in
-    let key : K.Denot = a.0.now in let γ : GName = a.0.ghost_name in let at : Val = vptr b e in let Free : Type 0 = Frees (g.ways key).0 in let Lent : RattleType = MutRef (named 0) κ R in let Cell : Fml = Row 𝓛 m ms V Y Kr g key b o in
-    let words : ℕ × S.Denot → Fml = standing_words 𝓛 m ms V Y Kr g key b o in let Lies : X.Denot → Fml = At 𝓛 m ms V Y Kr g key b o in let out = row_out 𝓛 m ms V Y Kr g key b o in let back = row_in 𝓛 m ms V Y Kr g key b o in let Joined : SProp 𝓤 = Joins 𝓛 m ms V Y Kr g key b o Lw Ls Cell out back in
+    proved 𝓛 En hs c 𝓜 𝓡 (Goes-spent_ref 𝓛 6 (0 ∷ []) tt (plain (λ _. Ty)), tt)
+    (#self inst) fn (code.unfolded 𝓤 𝓛.H 𝓜 𝓡 wired (X, (U, (P, (K, (S, tt))))) d)
+    (λ κs. (mut_vals, tt)) (λ κs. (mut_Tells (named 0) κs.0 Ty, tt)) (λ κs qs bounds a gh are.
+    let b = a.0.ref_ptr.0 in let o = a.0.ref_ptr.1 in let κ = κs.0 in let q = qs.0 in let e = o + offset R in
+    let y : (walk_of 𝓛 En hs c).Ghost = ((κs, qs, bounds, a, (vptr b o ∷ [], tt)), gh) in
+    let os = others 5 κs.1 qs.1 in
+    let key = a.0.now in let γ = a.0.ghost_name in let at = vptr b e in let Free = Frees (g.ways key).0 in let Lent = MutRef (named 0) κ R in
+    let Cell : Fml = Row 𝓛 m ms V Y Kr g key b o in
+    let words = standing_words 𝓛 m ms V Y Kr g key b o in let Lies = At 𝓛 m ms V Y Kr g key b o in let out = row_out 𝓛 m ms V Y Kr g key b o in
+    let back = row_in 𝓛 m ms V Y Kr g key b o in let Joined = Joins 𝓛 m ms V Y Kr g key b o Lw Ls Cell out back in
     qed 𝓛 (((‵ (flft κ q) ⊛ ‵ os) ⊛ ‵ (owns (types_at En.signature.params κs) a y.0.4)) ∷ raw (fact 𝓤 _) ∷ raw (fact 𝓤 _) ∷ raw (fact 𝓤 _) ∷ raw (fact 𝓤 _) ∷ raw (fact 𝓤 _) ∷ raw (fact 𝓤 Free) ∷ []) ∵ keep ! (6 ∷ 0 ∷ []) $ heard ! Free (λ free. split ! $ split ! $ move ! (2 ∷ []) $ fsplit ! $ fsplit3 ! $ keep ! (1 ∷ 2 ∷ 4 ∷ 5 ∷ []) $
-    enter ! 𝓣.C 𝓣.Λ fn (vptr b o ∷ []) Post $ alloc_all ! (λ l. pass_all ! refl ((tt, tt), tt) $ open_ref ! tt (in_memory Ty) $
+    enter ! _ _ _ _ _ $ alloc_all ! (λ l. pass_all ! refl ((tt, tt), tt) $ open_ref ! tt (in_memory Ty) $
     use1 𝓛 (some (λ (z : Knows 𝓛 m ms V Y Kr g key b o × All 𝓛 m ms V Y Kr g key b o). ‵ (words (z.1.0, z.1.1)) ⊛ ‵ (Lies z.1.2) ⊛ ‵ (said (Rule 𝓛 m ms V Y Kr g key b o z.1)) ⊛ raw Joined)) (fields_out 𝓛 m ms V Y Kr g key b o Lw Ls Cell out back) $
-    pick ! (λ z. let n : ℕ = z.1.0 in let k : S.Denot = z.1.1 in let x : X.Denot = z.1.2 in split ! $ move ! (1 ∷ []) $ split3 ! $ move ! (1 ∷ []) $ fpick ! (λ rule. drop ! $
+    pick ! (λ z. let n = z.1.0 in let k = z.1.1 in let x = z.1.2 in split ! $ move ! (1 ∷ []) $ split3 ! $ move ! (1 ∷ []) $ fpick ! (λ rule. drop ! $
     -- [the value; the way back; the words; the open borrow; its two names; the tokens]
     move ! (2 ∷ 1 ∷ []) $ join ! $ move ! (2 ∷ 3 ∷ 4 ∷ 1 ∷ 0 ∷ []) $ group ! 5 $
     use1 𝓛 (later (some (λ (δ : GName). ‵ (Lent.own_val (record { ref_ptr = (b, e); ghost_name = δ; now = x }) (at ∷ [])) ⊛ ‵ (flft κ q) ⊛ ‵ (follows Ty R γ δ (λ _. key)))))

@@ -1,6 +1,6 @@
 -- `new` lays the words and the value side by side.
 use Rattle.spin_core.proofs.PermitFields.{both}
-use Rattle.spin_core.proofs.WalkNames.{◌≡◌, ℕ, ◌^◌, ◌<◌, ◌&&◌, T, true, List, [], ◌∷◌, ◌++◌, sym, refl, subst, w64, dcons, dnil, a_type, Val, vint, vptr, vstruct, vcons, vnil, has_ty, WT, inst_fn, SProp, emp, ent, id⊢, Fml, ftrue, fsep, fex, fact, fact_i, tables, WpFn, ‵, raw, ◌⊛◌, ◌$◌, ◌∵◌, !, qed, by, move, keep, split, fsplit, fsplit3, fjoin, fpack, use0, rewrite, feq_i, flt_i, suffices, of_opd, no_more, and_then, returns, enter, alloc_all, pass_all, free_all, look_at, get, sets, agg, yes, no, RattleType, Valss, owns, types_at, plain, nothing, heard, Typed, param, layout, bounded, param_laws, RefOf, u64, within, alive, Stays, stay_dropped, walk_of, Goes-dropped, El, lawful, Good, one, proved_at, leaves}
+use Rattle.spin_core.proofs.WalkNames.{◌≡◌, ℕ, ◌^◌, ◌&&◌, T, true, List, [], ◌∷◌, ◌++◌, sym, refl, subst, w64, dcons, dnil, Val, vint, vptr, vstruct, vcons, vnil, has_ty, WT, inst_fn, SProp, ent, id⊢, Fml, ftrue, fsep, fex, fact, tables, WpFn, ‵, raw, ◌⊛◌, ◌$◌, ◌∵◌, !, qed, by, move, keep, split, fsplit, fsplit3, fjoin, fpack, use0, rewrite, feq_i, flt_i, suffices, of_opd, no_more, and_then, returns, enter, alloc_all, pass_all, free_all, look_at, get, sets, agg, yes, no, RattleType, Valss, owns, types_at, plain, nothing, heard, Typed, param, layout, bounded, param_laws, RefOf, u64, within, alive, Stays, stay_dropped, walk_of, Goes-dropped, El, lawful, Good, one, proved_at, leaves, says}
 use denote.Shadow.{makes_shadow}
 use denote.Struct.Tuple.{Tuple}
 use Rattle.core.specs.contracts.marker.PhantomData as marker
@@ -15,19 +15,28 @@ use Rattle.spin_core.proofs.cell.Cell.new.Code as code
 
 pub new_spec : {M : Type 1} → statement M
 new_spec 𝓤 𝓛 𝓜 𝓡 wired X U P K S L _ _ _ LS g d _ =
-    let H = 𝓛.H in let 𝓣 = tables 𝓤 H 𝓜 𝓡 𝓡.env in let R : RattleType = param 0 X in let V : RattleType = param 1 U in let Y : RattleType = param 2 P in let Kr : RattleType = param 3 K in let Sr : RattleType = param 4 S in let En = ended X U P K S g d in let c = clauses X U P K S g d 𝓛 𝓜.mem 𝓡.returns in let E : El = record { row = X; laws = L } in let N : El = record { row = S; laws = LS } in
-    let inst = bounded (a_type ∷ a_type ∷ a_type ∷ a_type ∷ a_type ∷ []) (X, (U, (P, (K, (S, tt))))) (dcons d dnil) in let fn = inst_fn inst code.function in let closed = code.unfolded 𝓤 H 𝓜 𝓡 wired (X, (U, (P, (K, (S, tt))))) d in
+    let H = 𝓛.H in let 𝓣 = tables 𝓤 H 𝓜 𝓡 𝓡.env in let R = param 0 X in let V = param 1 U in let Y = param 2 P in let Kr = param 3 K in
+    let Sr = param 4 S in let En = ended X U P K S g d in let c = clauses X U P K S g d 𝓛 𝓜.mem 𝓡.returns in let E : El = record { row = X; laws = L } in
+    let N : El = record { row = S; laws = LS } in
+    let inst = bounded code.function.ty_params (X, (U, (P, (K, (S, tt))))) (dcons d dnil) in let fn = inst_fn inst code.function in
     let item = plain (λ _. R) in let number = plain (λ _. u64) in let second = plain (λ _. Sr) in let about = RefOf (0 ∷ []) tt (plain (λ _. Kr)) (λ _. tt) in
     let hs : Stays En.signature.params En.kept = (stay_dropped item no, (stay_dropped number yes, (stay_dropped second no, (stay_dropped about yes, tt)))) in
-    let F : RattleType = inside.the_row R V Y Kr Sr g in let D = denote.Struct.Declared.shape (inside.the_type R V Y Kr Sr g) in let Mk : RattleType = (marker.the_field (Tuple (V ∷ Y ∷ []))).row in
+    let F = inside.the_row R V Y Kr Sr g in let D = denote.Struct.Declared.shape (inside.the_type R V Y Kr Sr g) in
+    let Mk : RattleType = (marker.the_field (Tuple (V ∷ Y ∷ []))).row in
     let fine : (v : Val) → Good E v → T (has_ty (layout X) v && true) = λ v h. both (has_ty (layout X) v) true h.0 tt in let fine_second : (v : Val) → Good N v → T (has_ty (layout S) v && true) = λ v h. both (has_ty (layout S) v) true h.0 tt in
-    proved_at 𝓛 En hs c 𝓜 𝓡 (Goes-dropped 𝓛 6 item no (λ κs x f. refl), (Goes-dropped 𝓛 6 number yes (λ κs x f. refl), (Goes-dropped 𝓛 6 second no (λ κs x f. refl), (Goes-dropped 𝓛 6 about yes (λ κs x f. refl), tt)))) (#self inst) fn closed (λ z are.
-    let x : X.Denot = z.0.3.0 in let n : ℕ = z.0.3.1.0 in let k : S.Denot = z.0.3.1.1.0 in let key : K.Denot = z.0.3.1.1.1.0.now in let at : Val = vptr z.0.3.1.1.1.0.ref_ptr.0 z.0.3.1.1.1.0.ref_ptr.1 in let ways = g.ways key in let fits : n < 2 ^ 64 = are.1.0.1 in
-    let got = one E z.0.4.0 ((lawful E 𝓛).typed x z.0.4.0 are.0) in let vy : Val = got.0 in let fy : Good E vy = got.2 in
-    let got_second = one N z.0.4.1.1.0 (((param_laws 4 S LS).lawful 𝓛).typed k z.0.4.1.1.0 are.1.1.0) in let vz : Val = got_second.0 in let fz : Good N vz = got_second.2 in let v : Val = vstruct (vcons (vstruct vnil) (vcons (vint w64 n) (vcons vy (vcons vz vnil)))) in
-    let Post : Val → SProp 𝓤 = (walk_of 𝓛 En hs c).post z in let Run : List Val → SProp 𝓤 = λ ws. WpFn 𝓤 H 𝓣.C 𝓣.Λ fn ws Post in
+    let went = Goes-dropped 𝓛 6 number yes (λ κs x f. refl) in let second_went = Goes-dropped 𝓛 6 second no (λ κs x f. refl) in
+    let about_went = Goes-dropped 𝓛 6 about yes (λ κs x f. refl) in
+    proved_at 𝓛 En hs c 𝓜 𝓡 (Goes-dropped 𝓛 6 item no (λ κs x f. refl), (went, (second_went, (about_went, tt))))
+    (#self inst) fn (code.unfolded 𝓤 H 𝓜 𝓡 wired (X, (U, (P, (K, (S, tt))))) d) (λ z are.
+    let x = z.0.3.0 in let n = z.0.3.1.0 in let k = z.0.3.1.1.0 in let key = z.0.3.1.1.1.0.now in
+    let at = vptr z.0.3.1.1.1.0.ref_ptr.0 z.0.3.1.1.1.0.ref_ptr.1 in let ways = g.ways key in let fits = are.1.0.1 in
+    let got = one E z.0.4.0 ((lawful E 𝓛).typed x z.0.4.0 are.0) in let vy = got.0 in let fy = got.2 in
+    let got_second = one N z.0.4.1.1.0 (((param_laws 4 S LS).lawful 𝓛).typed k z.0.4.1.1.0 are.1.1.0) in let vz = got_second.0 in let fz = got_second.2 in
+    let v = vstruct (vcons (vstruct vnil) (vcons (vint w64 n) (vcons vy (vcons vz vnil)))) in
+    let Post = (walk_of 𝓛 En hs c).post z in let Run : List Val → SProp 𝓤 = λ ws. WpFn 𝓤 H 𝓣.C 𝓣.Λ fn ws Post in
     let typed : T (has_ty (layout X) vy && (has_ty (layout S) vz && true)) × WT v = (both (has_ty (layout X) vy) (has_ty (layout S) vz && true) fy.0 (fine_second vz fz), (tt, (record { fits = fits }, (fy.1, (fz.1, tt))))) in
-    let Rule : ℕ × S.Denot × X.Denot → Type 0 = λ s. Starts g.holds ways s.0 s.1 s.2 in let Opened : Type 0 = Opens g.holds ways n k x in let Knows : Type 0 = Known ways Y Sr R in
+    let Rule : ℕ × S.Denot × X.Denot → Type 0 = λ s. Starts g.holds ways s.0 s.1 s.2 in let Opened = Opens g.holds ways n k x in
+    let Knows : Type 0 = Known ways Y Sr R in
     let owned : (ℕ × S.Denot × X.Denot) → Fml = λ s. fsep (F.own_val (record { marker = record {}; first = s.0; value = s.2; second = s.1 }) (v ∷ [])) (said (Rule s)) in
     qed 𝓛 ((raw (alive 𝓛 En.signature z.0.0 z.0.1) ⊛ ‵ (owns (types_at En.signature.params z.0.0) z.0.3 z.0.4)) ∷ raw (fact 𝓤 _) ∷ raw (fact 𝓤 _) ∷ raw (fact 𝓤 _) ∷ raw (fact 𝓤 _) ∷ raw (fact 𝓤 _) ∷ raw (fact 𝓤 Knows) ∷ raw (fact 𝓤 Opened) ∷ []) ∵
     keep ! (6 ∷ 7 ∷ 0 ∷ []) $ heard ! Knows (λ known. heard ! Opened (λ opened. split ! $ move ! (1 ∷ []) $ fsplit ! $ move ! (1 ∷ []) $ fsplit3 ! $ keep ! (1 ∷ 3 ∷ 4 ∷ []) $
@@ -39,8 +48,8 @@ new_spec 𝓤 𝓛 𝓜 𝓡 wired X U P K S L _ _ _ LS g d _ =
     nothing ! $ fpack ! (Rule (n, k, x)) (λ _. ftrue) (opened.0, opened.2, opened.3) $ move ! (1 ∷ 0 ∷ []) $ fjoin ! $
     fpack ! (ℕ × S.Denot × X.Denot) owned (n, k, x) $ fpack ! Knows (λ _. fex (ℕ × S.Denot × X.Denot) owned) known $ nothing ! $ fpack ! (Typed F.mir (v ∷ [])) (λ _. ftrue) (typed, tt) $ fjoin ! $
     suffices ! (Run (vy ∷ vint w64 n ∷ vz ∷ at ∷ [])) (subst (λ (ws : List Val). ent 𝓤 (Run (vy ∷ vint w64 n ∷ vz ∷ at ∷ [])) (Run ws)) (sym (λ i. got.1 i ++ (are.1.0.0 i ++ (got_second.1 i ++ (are.1.1.1.0.0 i ++ []))))) (id⊢ 𝓤 (Run (vy ∷ vint w64 n ∷ vz ∷ at ∷ [])))) $
-    enter ! 𝓣.C 𝓣.Λ fn (vy ∷ vint w64 n ∷ vz ∷ at ∷ []) Post $ alloc_all ! (λ l. pass_all ! refl (fy, ((tt, record { fits = fits }), (fz, ((tt, tt), tt)))) $
+    enter ! _ _ _ _ _ $ alloc_all ! (λ l. pass_all ! refl (fy, ((tt, record { fits = fits }), (fz, ((tt, tt), tt)))) $
     sets ! (agg ! (no_more !)) refl (tt, tt) $ sets ! (of_opd ! (get ! refl)) refl fy $ sets ! (of_opd ! (get ! refl)) refl fz $
     sets ! (agg ! (and_then ! (get ! refl) (and_then ! (get ! refl) (and_then ! (get ! refl) (and_then ! (get ! refl) (no_more !)))))) refl typed $
-    use0 𝓛 (raw (fact 𝓤 (key ≡ key))) (fact_i 𝓤 (key ≡ key) (emp 𝓤) refl) $ nothing ! $ nothing ! $ fjoin ! $ nothing ! $ fjoin ! $ nothing ! $ fjoin ! $ nothing ! $ fjoin ! $
+    says ! (key ≡ key) refl $ nothing ! $ nothing ! $ fjoin ! $ nothing ! $ fjoin ! $ nothing ! $ fjoin ! $ nothing ! $ fjoin ! $
     returns ! (look_at ! 0 refl) $ free_all ! refl $ keep ! (3 ∷ 0 ∷ 2 ∷ 1 ∷ []) $ by ! (leaves 𝓛 En hs c z v key (tt, (tt, (tt, (tt, tt)))) (tt, (tt, (tt, (tt, tt)))))))))

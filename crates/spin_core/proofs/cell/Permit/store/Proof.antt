@@ -1,10 +1,9 @@
 -- `store` writes the first word.
-use Rattle.spin_core.proofs.WalkNames.{ℕ, ◌+◌, [], ◌∷◌, refl, ap, lit<, w64, dcons, dnil, a_type, Val, vint, vptr, inst_fn, SProp, Lft, Share, Fml, flft, ‵, raw, ◌⊛◌, mean, at_ret, ◌$◌, ◌∵◌, !, qed, by, move, keep, fjoin, use1, stop, fld, addr, lit, of_opd, no_more, and_then, first, blocks, exec, Calls-last, returns, enter, alloc_all, pass_all, free_all, look_at, get, get_in, through, sets, lands_last, is, env, agg, sub, whole, tables, fact, ◌⊑◌, yes, no, RattleType, owns, types_at, plain, named_lft, Ptr, block_ptr, ptr_val, block_of, count_of, at_block, nothing, param, bounded, param_laws, u64, uint_vals, uint_Tells, Stays, stay_dropped, walk_of, Goes-dropped, tail, proved, leaves, fm, seq_cst, stored, has_stored, stores}
+use Rattle.spin_core.proofs.WalkNames.{ℕ, ◌+◌, [], ◌∷◌, refl, ap, lit<, w64, dcons, dnil, vint, vptr, inst_fn, raw, mean, at_ret, ◌$◌, !, by, move, fjoin, use1, stop, fld, addr, lit, of_opd, no_more, and_then, first, blocks, exec, Calls-last, returns, enter, alloc_all, pass_all, free_all, look_at, get, get_in, through, sets, lands_last, is, env, agg, sub, whole, tables, yes, no, owns, types_at, plain, named_lft, block_ptr, ptr_val, block_of, count_of, at_block, nothing, param, bounded, u64, uint_vals, uint_Tells, Stays, stay_dropped, walk_of, Goes-dropped, tail, proved, leaves, fm, seq_cst, stored, has_stored, stores}
 use Rattle.spin_core.specs.Cell.{AllowsAt}
 use Rattle.spin_core.specs.contracts.cell.Permit as hand
 use Rattle.spin_core.proofs.PermitFields.{hand_of, told, typed}
-use Rattle.spin_core.proofs.CellSteps as steps
-use Rattle.spin_core.proofs.CellStepWalks.{others, begins, opens_step, after, closes, next}
+use Rattle.spin_core.proofs.CellStepWalks.{others, begins, opens_first, after, closes, next}
 use Rattle.spin_core.specs.contracts.cell.Permit.store.{ended, clauses}
 use Rattle.spin_core.specs.contracts.cell.Permit.store.Key.{name as #self}
 use Rattle.spin_core.proofs.cell.Permit.store.Statement.{statement}
@@ -12,19 +11,22 @@ use Rattle.spin_core.proofs.cell.Permit.store.Code as code
 
 pub store_spec : {M : Type 1} → statement M
 store_spec 𝓤 𝓛 𝓜 𝓡 wired T V P K S Mv L _ _ _ _ _ g d g' d' _ _ =
-    let H = 𝓛.H in let 𝓣 = tables 𝓤 H 𝓜 𝓡 𝓡.env in let R : RattleType = param 0 T in let W : RattleType = param 1 V in let Y : RattleType = param 2 P in let Kr : RattleType = param 3 K in let Sr : RattleType = param 4 S in
-    let En = ended T V P K S Mv g d g' d' in let c = clauses T V P K S Mv g d g' d' 𝓛 𝓜.mem 𝓡.returns in let inst = bounded (a_type ∷ a_type ∷ a_type ∷ a_type ∷ a_type ∷ a_type ∷ []) (T, (V, (P, (K, (S, (Mv, tt)))))) (dcons d (dcons d' dnil)) in let fn = inst_fn inst code.function in let closed = code.unfolded 𝓤 H 𝓜 𝓡 wired (T, (V, (P, (K, (S, (Mv, tt)))))) d d' in
+    let H = 𝓛.H in let 𝓣 = tables 𝓤 H 𝓜 𝓡 𝓡.env in let R = param 0 T in let W = param 1 V in let Y = param 2 P in let Kr = param 3 K in let Sr = param 4 S in
+    let En = ended T V P K S Mv g d g' d' in let c = clauses T V P K S Mv g d g' d' 𝓛 𝓜.mem 𝓡.returns in
+    let inst = bounded code.function.ty_params (T, (V, (P, (K, (S, (Mv, tt)))))) (dcons d (dcons d' dnil)) in let fn = inst_fn inst code.function in
     let self = plain (λ κs. hand.the_row (named_lft 7 0 tt κs) R W Y Kr Sr g) in let number = plain (λ _. u64) in
     let hs : Stays En.signature.params En.kept = (stay_dropped self no, (stay_dropped number yes, tt)) in
-    proved 𝓛 En hs c 𝓜 𝓡 (Goes-dropped 𝓛 7 self no (λ κs x f. refl), (Goes-dropped 𝓛 7 number yes (λ κs x f. refl), tt)) (#self inst) fn closed
+    proved 𝓛 En hs c 𝓜 𝓡 (Goes-dropped 𝓛 7 self no (λ κs x f. refl), (Goes-dropped 𝓛 7 number yes (λ κs x f. refl), tt))
+    (#self inst) fn (code.unfolded 𝓤 H 𝓜 𝓡 wired (T, (V, (P, (K, (S, (Mv, tt)))))) d d')
     (λ κs. ((λ x. hand_of x.cell ∷ []), (uint_vals w64, tt))) (λ κs. ((λ x vs so. told (named_lft 7 0 tt κs) R W Y Kr Sr g x.cell vs so.0), (uint_Tells w64, tt))) (λ κs qs bounds a gh are.
-    let ℓ = named_lft 7 0 tt κs in let h : (hand.the_row ℓ R W Y Kr Sr g).Denot = a.0 in let p : Ptr = h.cell in let b : ℕ = block_of p in let o : ℕ = count_of p in let q : Share = qs.0 in let τ : Lft = κs.1.0 in let r : Share = qs.1.0 in let os : Fml = others 5 κs.1.1 qs.1.1 in
-    let new : ℕ = a.1.0 in let then : ℕ → V.Denot → Type 0 = λ _. g'.then 0 new h.view 0 in let f : ℕ → ℕ = λ _. new in let Asked : Type 0 = AllowsAt g.holds (g.ways h.key) h.view h.value f then in
-    let y : (walk_of 𝓛 En hs c).Ghost = ((κs, qs, bounds, a, (hand_of p ∷ [], (vint w64 new ∷ [], tt))), gh) in let Post : Val → SProp 𝓤 = (walk_of 𝓛 En hs c).post y in
-    qed 𝓛 (((‵ (flft κs.0 q) ⊛ ‵ (flft τ r) ⊛ ‵ os) ⊛ ‵ (owns (types_at En.signature.params κs) a y.0.4)) ∷ raw (fact 𝓤 (τ ⊑ T.lives)) ∷ raw (fact 𝓤 _) ∷ raw (fact 𝓤 _) ∷ raw (fact 𝓤 _) ∷ raw (fact 𝓤 _) ∷ raw (fact 𝓤 _) ∷ raw (fact 𝓤 Asked) ∷ []) ∵
-    keep ! (7 ∷ 1 ∷ 0 ∷ []) $ begins 𝓛 ℓ T W Y Kr Sr g ! h Asked q τ r os _ (λ asked le inb.
-    enter ! 𝓣.C 𝓣.Λ fn (hand_of p ∷ vint w64 new ∷ []) Post $ alloc_all ! (λ l. pass_all ! refl (typed p inb, ((tt, record { fits = are.1.0.1 }), tt)) $ let Ev = env fn.locals l in
-    opens_step 𝓛 𝓜 𝓡 ℓ T W Y Kr Sr L g b o h q ! tt τ r le then (block_ptr b (o + 0)) f (λ k. steps.first_steps 𝓛 R (param_laws 0 T L).shr_laws b o k.1.0 W.coded Sr g.holds (g.ways h.key) k.1.1 h.view h.value f then asked) (λ k. let left : Fml = after 𝓛 𝓜 𝓡 ℓ T W Y Kr Sr L g b o h q k then 0 in
+    let ℓ = named_lft 7 0 tt κs in let h = a.0 in let p = h.cell in let b = block_of p in let o = count_of p in let q = qs.0 in let τ = κs.1.0 in
+    let r = qs.1.0 in let os = others 5 κs.1.1 qs.1.1 in
+    let new = a.1.0 in let then : ℕ → V.Denot → Type 0 = λ _. g'.then 0 new h.view 0 in let f : ℕ → ℕ = λ _. new in
+    let Asked = AllowsAt g.holds (g.ways h.key) h.view h.value f then in
+    let y : (walk_of 𝓛 En hs c).Ghost = ((κs, qs, bounds, a, (hand_of p ∷ [], (vint w64 new ∷ [], tt))), gh) in let Post = (walk_of 𝓛 En hs c).post y in
+    begins 𝓛 ℓ T W Y Kr Sr g 5 (_, (_, (_, (_, (_, tt))))) h Asked q τ r os (owns (types_at En.signature.params κs) a y.0.4) _ refl (λ asked le inb.
+    enter ! _ _ _ _ _ $ alloc_all ! (λ l. pass_all ! refl (typed p inb, ((tt, record { fits = are.1.0.1 }), tt)) $ let Ev = env fn.locals l in
+    opens_first 𝓛 𝓜 𝓡 ℓ T W Y Kr Sr L g b o h q ! tt τ r le then f asked (λ k. let left = after 𝓛 𝓜 𝓡 ℓ T W Y Kr Sr L g b o h q k then 0 in
     sets ! (is ! (of_opd ! (get_in ! (fld ! refl (stop !)) (sub ! 0 refl (whole !)))) (ap ptr_val (at_block p inb))) refl (tt, tt) $ first ! $ blocks ! $ sets ! (addr ! (through ! refl (fld ! refl (stop !)))) refl (tt, tt) $
     use1 𝓛 (raw (𝓣.C _ (vptr b (o + 0) ∷ vint w64 new ∷ seq_cst ∷ []) (λ u. mean 𝓛 (stored left u)))) (stores 𝓛 𝓜 𝓡 (code.calls-core::raw_atomic::store 𝓡.env wired) (block_ptr b (o + 0)) new are.1.0.1 left) $
     sets ! (agg ! (and_then ! (lit ! tt) (no_more !))) refl (tt, (record { fits = lit< tt }, tt)) $

@@ -1,10 +1,10 @@
 -- `get` shows the value for as long as the permit is borrowed.
-use Rattle.spin_core.proofs.WalkNames.{◌≡◌, ℕ, ◌+◌, List, [], ◌∷◌, ◌++◌, refl, ap, dcons, dnil, a_type, named, Val, vptr, inst_fn, emp, SProp, guard_i, Lft, Fml, flft, Incl-refl, sem, ‵, raw, ◌⊛◌, given, at_ret, ◌$◌, ◌∵◌, !, qed, by, move, keep, split, join, fsplit, fjoin, learn, use0, use1, rewrite, feq_i, stop, fld, addr, of_opd, first, blocks, exec, returns, enter, alloc_all, pass_all, free_all, look_at, get, through, sets, sets_last, env, sub, whole, tables, fact, fact_i, fact_use, yes, RattleType, owns, types_at, plain, named_lft, Ptr, InBlock, block_ptr, block_of, count_of, at_block, nothing, param, bounded, param_laws, Stays, stay_dropped, walk_of, Goes-dropped, tail, proved, leaves, RefOf, shr_vals, shr_Tells, unhide, hop, look_in, lent_out, shortens, ⊑_meet, hidden_shr, cell_at, looks, peeks, shuts, Is, shows, ◌∙◌, sym, fhide}
+use Rattle.spin_core.proofs.WalkNames.{◌≡◌, ◌+◌, List, [], ◌∷◌, ◌++◌, refl, ap, dcons, dnil, named, Val, vptr, inst_fn, Fml, flft, Incl-refl, ‵, raw, ◌⊛◌, at_ret, ◌$◌, ◌∵◌, !, qed, by, move, keep, split, join, fsplit, fjoin, use1, rewrite, feq_i, stop, fld, addr, of_opd, first, blocks, exec, returns, enter, alloc_all, pass_all, free_all, look_at, get, through, sets, sets_last, env, sub, whole, tables, yes, owns, types_at, plain, named_lft, Ptr, block_ptr, block_of, count_of, at_block, nothing, param, bounded, param_laws, Stays, stay_dropped, walk_of, Goes-dropped, tail, proved, leaves, RefOf, shr_vals, shr_Tells, unhide, hop, look_in, lent_out, shortens, ⊑_meet, hidden_shr, cell_at, looks, peeks, shuts, Is, shows, ◌∙◌, sym, fhide, says, lies_at}
 use Rattle.core.specs.contracts.marker.PhantomData as marker
 use Rattle.spin_core.proofs.CellStepWalks.{others}
 use Rattle.spin_core.specs.CellMemory.{offset, writer_shares}
 use Rattle.spin_core.specs.contracts.cell.WritePermit as hand
-use Rattle.spin_core.proofs.PermitFields.{hand_of, Words, told, opened, pen_sees}
+use Rattle.spin_core.proofs.PermitFields.{hand_of, Words, told, opened}
 use Rattle.spin_core.specs.contracts.cell.WritePermit.get.{ended, clauses}
 use Rattle.spin_core.specs.contracts.cell.WritePermit.get.Key.{name as #self}
 use Rattle.spin_core.proofs.cell.WritePermit.get.Statement.{statement}
@@ -12,22 +12,24 @@ use Rattle.spin_core.proofs.cell.WritePermit.get.Code as code
 
 pub get_spec : {M : Type 1} → statement M
 get_spec 𝓤 𝓛 𝓜 𝓡 wired T V P K S L _ _ _ LS g d _ =
-    let H = 𝓛.H in let 𝓣 = tables 𝓤 H 𝓜 𝓡 𝓡.env in let R : RattleType = param 0 T in let W : RattleType = param 1 V in let Y : RattleType = param 2 P in let Kr : RattleType = param 3 K in let Sr : RattleType = param 4 S in let cw = W.coded in let LR = param_laws 0 T L in
-    let En = ended T V P K S g d in let c = clauses T V P K S g d 𝓛 𝓜.mem 𝓡.returns in let inst = bounded (a_type ∷ a_type ∷ a_type ∷ a_type ∷ a_type ∷ []) (T, (V, (P, (K, (S, tt))))) (dcons d dnil) in let fn = inst_fn inst code.function in let closed = code.unfolded 𝓤 H 𝓜 𝓡 wired (T, (V, (P, (K, (S, tt))))) d in
+    let H = 𝓛.H in let 𝓣 = tables 𝓤 H 𝓜 𝓡 𝓡.env in let R = param 0 T in let W = param 1 V in let Y = param 2 P in let Kr = param 3 K in
+    let Sr = param 4 S in let cw = W.coded in let LR = param_laws 0 T L in
+    let En = ended T V P K S g d in let c = clauses T V P K S g d 𝓛 𝓜.mem 𝓡.returns in
+    let inst = bounded code.function.ty_params (T, (V, (P, (K, (S, tt))))) (dcons d dnil) in let fn = inst_fn inst code.function in
     let row = plain (λ κs. hand.the_row (named_lft 7 1 tt κs) R W Y Kr Sr g) in let self = RefOf (0 ∷ []) tt row (λ _. tt) in let hs : Stays En.signature.params En.kept = (stay_dropped self yes, tt) in
-    proved 𝓛 En hs c 𝓜 𝓡 (Goes-dropped 𝓛 7 self yes (λ κs x f. refl), tt) (#self inst) fn closed
+    proved 𝓛 En hs c 𝓜 𝓡 (Goes-dropped 𝓛 7 self yes (λ κs x f. refl), tt) (#self inst) fn (code.unfolded 𝓤 H 𝓜 𝓡 wired (T, (V, (P, (K, (S, tt))))) d)
     (λ κs. (shr_vals, tt)) (λ κs. (shr_Tells (named 0) κs.0 (hand.the_row (named_lft 7 1 tt κs) R W Y Kr Sr g), tt)) (λ κs qs bounds a gh are.
-    let ℓ = named_lft 7 1 tt κs in let Hr : RattleType = hand.the_row ℓ R W Y Kr Sr g in let D : RattleType = Words ℓ R W Y Kr Sr g in let b : ℕ = a.0.ref_ptr.0 in let o : ℕ = a.0.ref_ptr.1 in let κ : Lft = κs.0 in let β : Lft = κs.1.0 in
-    let h : Hr.Denot = a.0.now in let p : Ptr = h.cell in let os : Fml = others 6 κs.1 qs.1 in
-    let pb : ℕ = block_of p in let po : ℕ = count_of p in let e : ℕ = po + offset R in let x : T.Denot = h.value in let Lent : Fml = writer_shares Y R cw.code Sr g.holds (g.ways h.key) β p h.view x κ in
-    let y : (walk_of 𝓛 En hs c).Ghost = ((κs, qs, bounds, a, (vptr b o ∷ [], tt)), gh) in let Post : Val → SProp 𝓤 = (walk_of 𝓛 En hs c).post y in
+    let ℓ = named_lft 7 1 tt κs in let Hr = hand.the_row ℓ R W Y Kr Sr g in let D = Words ℓ R W Y Kr Sr g in let b = a.0.ref_ptr.0 in
+    let o = a.0.ref_ptr.1 in let κ = κs.0 in let β = κs.1.0 in let h = a.0.now in let p = h.cell in let os = others 6 κs.1 qs.1 in
+    let pb = block_of p in let po = count_of p in let e = po + offset R in let x = h.value in
+    let Lent : Ptr → Fml = λ z. writer_shares Y R cw.code Sr g.holds (g.ways h.key) β z h.view x κ in
+    let y : (walk_of 𝓛 En hs c).Ghost = ((κs, qs, bounds, a, (vptr b o ∷ [], tt)), gh) in let Post = (walk_of 𝓛 En hs c).post y in
     qed 𝓛 (((‵ (flft κ qs.0) ⊛ ‵ os) ⊛ ‵ (owns (types_at En.signature.params κs) a y.0.4)) ∷ raw ((c κs a).requires gh) ∷ []) ∵
     split ! $ split ! $ move ! (2 ∷ []) $ fsplit ! $ fsplit ! $ keep ! (1 ∷ 3 ∷ 4 ∷ []) $
-    enter ! 𝓣.C 𝓣.Λ fn (vptr b o ∷ []) Post $ alloc_all ! (λ l. pass_all ! refl ((tt, tt), tt) $ let Ev = types.ByLocal.env fn.locals l in
-    use1 𝓛 (‵ (hidden_shr D κ (p, (tt, tt)) b o) ⊛ ‵ (fhide Lent))
+    enter ! _ _ _ _ _ $ alloc_all ! (λ l. pass_all ! refl ((tt, tt), tt) $ let Ev = types.ByLocal.env fn.locals l in
+    use1 𝓛 (‵ (hidden_shr D κ (p, (tt, tt)) b o) ⊛ ‵ (fhide (Lent p)))
     (lent_out 𝓛 (hand.struct ℓ R W Y Kr Sr g) (hand.the_codes T.Denot V.Denot P.Denot K.Denot S.Denot R.coded W.coded Y.coded Kr.coded Sr.coded (marker.the_row (denote.Ref.ShrRef ℓ.mir ℓ.lft R)).coded) (hand.the_heap β R W Y Kr Sr g) (hand.the_lent β R W Y Kr Sr g) κ h b o) $
-    split ! $ move ! (1 ∷ []) $ unhide ! $ use1 𝓛 (given (InBlock p) (‵ Lent)) (fact_use 𝓤 _ (pen_sees 𝓛 Y R cw.code Sr g.holds (g.ways h.key) β p h.view x κ) (guard_i 𝓤 (InBlock p) (sem 𝓛 Lent))) $ learn ! (λ so.
-    let at : p ≡ block_ptr pb po = at_block p so in rewrite ! 0 (λ (z : Ptr). ‵ (writer_shares Y R cw.code Sr g.holds (g.ways h.key) β z h.view x κ)) at refl $
+    split ! $ move ! (1 ∷ []) $ unhide ! $ lies_at ! Lent refl p (λ so. let at = at_block p so in
     use1 𝓛 (‵ (hidden_shr R κ x pb e)) (shortens 𝓛 (denote.Memory.shared_of R x pb e) (LR.shr_laws x pb e) (κ ++ β) κ (⊑_meet κ κ β (Incl-refl κ) bounds.0)) $ move ! (1 ∷ 2 ∷ []) $
     looks ! tt D (opened ℓ R W Y Kr Sr g 𝓛) (p, (tt, tt)) b o (λ q vs. move ! (1 ∷ []) $ peeks ! D (Is D) (shows 𝓛 D) (p, (tt, tt)) vs (λ is_so.
     let ev : vs ≡ hand_of (block_ptr pb po) ∷ [] = told ℓ R W Y Kr Sr g p vs is_so ∙ ap (λ (r : Ptr). hand_of r ∷ []) at in
@@ -35,5 +37,5 @@ get_spec 𝓤 𝓛 𝓜 𝓡 wired T V P K S L _ _ _ LS g d _ =
     sets_last ! (addr ! (through ! refl (fld ! refl (hop ! (look_in ! 1 (sub ! 0 refl (whole !))) (fld ! refl (stop !)))))) refl (tt, tt) $ exec ! 𝓣.C 𝓣.Λ Ev (tail fn.body) (at_ret Ev Post) $
     sets ! (of_opd ! (get ! refl)) refl (tt, tt) $ rewrite ! 1 (λ (ws : List Val). ‵ (cell_at q D.mir ws b o)) (sym ev) refl $ move ! (1 ∷ 0 ∷ 2 ∷ []) $ shuts ! tt D q (p, (tt, tt)) vs b o $
     move ! (0 ∷ 3 ∷ []) $ join ! $ move ! (2 ∷ []) $ feq_i ! (List Val) (vptr pb e ∷ []) (vptr pb e ∷ []) refl $ fjoin ! $
-    use0 𝓛 (raw (fact 𝓤 (x ≡ h.value))) (fact_i 𝓤 (x ≡ h.value) (emp 𝓤) refl) $ nothing ! $ nothing ! $ fjoin ! $
+    says ! (x ≡ h.value) refl $ nothing ! $ nothing ! $ fjoin ! $
     returns ! (look_at ! 0 refl) $ free_all ! refl $ keep ! (3 ∷ 0 ∷ 2 ∷ 1 ∷ []) $ by ! (leaves 𝓛 En hs c y (vptr pb e) (record { ref_ptr = (pb, e); now = x }) (tt, tt) (tt, tt)))))))

@@ -1,5 +1,5 @@
 -- `get_stable` reads the first word, and lends the value where that is the number asked for. Assumes `Logic`.
-use Rattle.spin_core.proofs.WalkNames.{◌≡◌, ℕ, ◌+◌, [], ◌∷◌, sym, refl, subst, lit<, w64, dcons, dnil, a_type, named, Val, vint, vptr, vcons, vnil, inst_fn, full_share, SProp, ent, sep, Lft, Share, Fml, flft, sem, ‵, raw, ◌⊛◌, some, later, at_ret, ◌$◌, ◌∵◌, !, qed, by, move, keep, drop, use0, use1, use2, split, split3, join, pick, await, rewrite, fsplit, fsplit3, fjoin, fpick, stop, fld, addr, load, lit, of_opd, and_then, no_more, first, blocks, exec, returns, enter, agg, alloc_all, pass_all, free_all, look_at, get, through, sets, sets_last, env, tables, fact, yes, no, RattleType, owns, types_at, plain, RefMutOf, u64, uint_vals, uint_Tells, part_at, param, layout, bounded, param_laws, nothing, heard, Stays, stay_dropped, walk_of, Goes-dropped, proved, leaves}
+use Rattle.spin_core.proofs.WalkNames.{◌≡◌, ℕ, ◌+◌, [], ◌∷◌, sym, refl, subst, lit<, w64, dcons, dnil, named, vint, vptr, vcons, vnil, inst_fn, full_share, SProp, ent, sep, Fml, flft, sem, ‵, raw, ◌⊛◌, some, later, at_ret, ◌$◌, ◌∵◌, !, qed, by, move, keep, drop, use0, use1, use2, split, split3, join, pick, await, rewrite, fsplit, fsplit3, fjoin, fpick, stop, fld, addr, load, lit, of_opd, and_then, no_more, first, blocks, exec, returns, enter, agg, alloc_all, pass_all, free_all, look_at, get, through, sets, sets_last, env, tables, fact, yes, no, RattleType, owns, types_at, plain, RefMutOf, u64, uint_vals, uint_Tells, part_at, param, layout, bounded, param_laws, nothing, heard, Stays, stay_dropped, walk_of, Goes-dropped, proved, leaves}
 use Rattle.std.proofs.Common.{eqb→eq, w8}
 use mir.Syntax.{Body, seq, assign, place, rv_opd, copy, aggregate, int}
 use base.Fml.{GName}
@@ -44,28 +44,36 @@ lies X g w b e = refl
 
 pub get_stable_spec : {M : Type 1} → statement M
 get_stable_spec 𝓤 𝓛 𝓜 𝓡 wired X U P K N L _ _ _ LN s d' g d _ _ =
-    let H = 𝓛.H in let 𝓣 = tables 𝓤 H 𝓜 𝓡 𝓡.env in let X₀ : RattleType = param 0 X in let R : RattleType = maybe_stable.the_row X₀ in let S : RattleType = stable.the_row X₀ s in let V : RattleType = param 1 U in let Y : RattleType = param 2 P in let Kr : RattleType = param 3 K in let Nr : RattleType = param 4 N in
+    let H = 𝓛.H in let 𝓣 = tables 𝓤 H 𝓜 𝓡 𝓡.env in let X₀ = param 0 X in let R = maybe_stable.the_row X₀ in let S = stable.the_row X₀ s in let V = param 1 U in
+    let Y = param 2 P in let Kr = param 3 K in let Nr = param 4 N in
     let En = ended X U P K N s d' g d in let c = clauses X U P K N s d' g d 𝓛 𝓜.mem 𝓡.returns in
-    let inst = bounded (a_type ∷ a_type ∷ a_type ∷ a_type ∷ a_type ∷ []) (X, (U, (P, (K, (N, tt))))) (dcons d' (dcons d dnil)) in let fn = inst_fn inst code.function in
-    let Ty : RattleType = cell.the_row R V Y Kr Nr g in let m : Member = record { row = R; ty = lone R.mir } in let ms : Member = record { row = Nr; ty = layout N } in let Ls = (param_laws 4 N LN).lawful 𝓛 in let Lw = (maybe_stable_laws.the_row_laws X₀ (param_laws 0 X L)).lawful 𝓛 in let number = plain (λ _. u64) in
+    let inst = bounded code.function.ty_params (X, (U, (P, (K, (N, tt))))) (dcons d' (dcons d dnil)) in let fn = inst_fn inst code.function in
+    let Ty = cell.the_row R V Y Kr Nr g in let m : Member = record { row = R; ty = lone R.mir } in let ms : Member = record { row = Nr; ty = layout N } in
+    let Ls = (param_laws 4 N LN).lawful 𝓛 in let Lw = (maybe_stable_laws.the_row_laws X₀ (param_laws 0 X L)).lawful 𝓛 in let number = plain (λ _. u64) in
     let hs : Stays En.signature.params En.kept = (stay_dropped (RefMutOf (0 ∷ []) tt (plain (λ _. Ty)) (λ _. tt)) no, (stay_dropped number yes, tt)) in
-    proved 𝓛 En hs c 𝓜 𝓡 (Goes-spent_ref 𝓛 6 (0 ∷ []) tt (plain (λ _. Ty)), (Goes-dropped 𝓛 6 number yes (λ κs x f. refl), tt)) (#self inst) fn (code.unfolded 𝓤 H 𝓜 𝓡 wired (X, (U, (P, (K, (N, tt))))) d' d) (λ κs. (mut_vals, (uint_vals w64, tt))) (λ κs. (mut_Tells (named 0) κs.0 Ty, (uint_Tells w64, tt))) (λ κs qs bounds a gh are.
-    let b : ℕ = a.0.ref_ptr.0 in let o : ℕ = a.0.ref_ptr.1 in let key : K.Denot = a.0.now in let γ : GName = a.0.ghost_name in let wanted : ℕ = a.1.0 in let κ : Lft = κs.0 in let q : Share = qs.0 in let e : ℕ = o + offset R in let at : Val = vptr b e in
-    let y : (walk_of 𝓛 En hs c).Ghost = ((κs, qs, bounds, a, (vptr b o ∷ [], (vint w64 wanted ∷ [], tt))), gh) in let Post : Val → SProp 𝓤 = (walk_of 𝓛 En hs c).post y in let Lent : RattleType = MutRef (named 0) κ S in let Out : RattleType = option.the_row Lent in
-    let os : Fml = others 5 κs.1 qs.1 in
-    let Ok : Type 0 = StableAt g.holds (g.ways key) s.stable wanted in let Q : SProp 𝓤 = sem 𝓛 (Row 𝓛 m ms V Y Kr g key b o) in let words : ℕ × N.Denot → Fml = standing_words 𝓛 m ms V Y Kr g key b o in let Lies : R.Denot → Fml = At 𝓛 m ms V Y Kr g key b o in
-    let Holds : All 𝓛 m ms V Y Kr g key b o → Type 0 = Rule 𝓛 m ms V Y Kr g key b o in let Joined : SProp 𝓤 = Joins 𝓛 m ms V Y Kr g key b o Lw Ls (Row 𝓛 m ms V Y Kr g key b o) (row_out 𝓛 m ms V Y Kr g key b o) (row_in 𝓛 m ms V Y Kr g key b o) in
+    proved 𝓛 En hs c 𝓜 𝓡 (Goes-spent_ref 𝓛 6 (0 ∷ []) tt (plain (λ _. Ty)), (Goes-dropped 𝓛 6 number yes (λ κs x f. refl), tt))
+    (#self inst) fn (code.unfolded 𝓤 H 𝓜 𝓡 wired (X, (U, (P, (K, (N, tt))))) d' d)
+    (λ κs. (mut_vals, (uint_vals w64, tt))) (λ κs. (mut_Tells (named 0) κs.0 Ty, (uint_Tells w64, tt))) (λ κs qs bounds a gh are.
+    let b = a.0.ref_ptr.0 in let o = a.0.ref_ptr.1 in let key = a.0.now in let γ = a.0.ghost_name in let wanted = a.1.0 in let κ = κs.0 in let q = qs.0 in
+    let e = o + offset R in let at = vptr b e in
+    let y : (walk_of 𝓛 En hs c).Ghost = ((κs, qs, bounds, a, (vptr b o ∷ [], (vint w64 wanted ∷ [], tt))), gh) in let Post = (walk_of 𝓛 En hs c).post y in
+    let Lent = MutRef (named 0) κ S in let Out = option.the_row Lent in let os = others 5 κs.1 qs.1 in
+    let Ok = StableAt g.holds (g.ways key) s.stable wanted in let Q = sem 𝓛 (Row 𝓛 m ms V Y Kr g key b o) in
+    let words = standing_words 𝓛 m ms V Y Kr g key b o in let Lies = At 𝓛 m ms V Y Kr g key b o in
+    let Holds = Rule 𝓛 m ms V Y Kr g key b o in
+    let Joined = Joins 𝓛 m ms V Y Kr g key b o Lw Ls (Row 𝓛 m ms V Y Kr g key b o) (row_out 𝓛 m ms V Y Kr g key b o) (row_in 𝓛 m ms V Y Kr g key b o) in
     let Rest : ℕ × N.Denot → SProp 𝓤 = λ ns. sep 𝓤 (sem 𝓛 (words ns)) Joined in
-    let shuts : (t : All 𝓛 m ms V Y Kr g key b o) → Holds t → ent 𝓤 (sep 𝓤 (sem 𝓛 (Lies t.2)) (Rest (t.0, t.1))) Q = rejoined 𝓛 m ms V Y Kr g key b o Lw Ls (Row 𝓛 m ms V Y Kr g key b o) (row_out 𝓛 m ms V Y Kr g key b o) (row_in 𝓛 m ms V Y Kr g key b o) in
+    let shuts = rejoined 𝓛 m ms V Y Kr g key b o Lw Ls (Row 𝓛 m ms V Y Kr g key b o) (row_out 𝓛 m ms V Y Kr g key b o) (row_in 𝓛 m ms V Y Kr g key b o) in
     qed 𝓛 (((‵ (flft κ q) ⊛ ‵ os) ⊛ ‵ (owns (types_at En.signature.params κs) a y.0.4)) ∷ raw (fact 𝓤 _) ∷ raw (fact 𝓤 _) ∷ raw (fact 𝓤 _) ∷ raw (fact 𝓤 _) ∷ raw (fact 𝓤 _) ∷ raw (fact 𝓤 Ok) ∷ []) ∵ keep ! (6 ∷ 0 ∷ []) $ heard ! Ok (λ ok. split ! $ split ! $ move ! (2 ∷ []) $ fsplit ! $ fsplit3 ! $ keep ! (1 ∷ 2 ∷ 4 ∷ 5 ∷ []) $
-    enter ! 𝓣.C 𝓣.Λ fn (vptr b o ∷ vint w64 wanted ∷ []) Post $ alloc_all ! (λ l. pass_all ! refl ((tt, tt), ((tt, record { fits = are.1.0.1 }), tt)) $ let Ev = env fn.locals l in
+    enter ! _ _ _ _ _ $ alloc_all ! (λ l. pass_all ! refl ((tt, tt), ((tt, record { fits = are.1.0.1 }), tt)) $ let Ev = env fn.locals l in
     open_ref ! tt (in_memory Ty) $ use1 𝓛 (some (λ (z : Knows 𝓛 m ms V Y Kr g key b o × All 𝓛 m ms V Y Kr g key b o). ‵ (words (z.1.0, z.1.1)) ⊛ ‵ (Lies z.1.2) ⊛ ‵ (said (Holds z.1)) ⊛ raw Joined))
-    (fields_out 𝓛 m ms V Y Kr g key b o Lw Ls (Row 𝓛 m ms V Y Kr g key b o) (row_out 𝓛 m ms V Y Kr g key b o) (row_in 𝓛 m ms V Y Kr g key b o)) $ pick ! (λ z. let n : ℕ = z.1.0 in let k : N.Denot = z.1.1 in let x : R.Denot = z.1.2 in
+    (fields_out 𝓛 m ms V Y Kr g key b o Lw Ls (Row 𝓛 m ms V Y Kr g key b o) (row_out 𝓛 m ms V Y Kr g key b o) (row_in 𝓛 m ms V Y Kr g key b o)) $
+    pick ! (λ z. let n = z.1.0 in let k = z.1.1 in let x = z.1.2 in
     split ! $ fsplit ! $ move ! (2 ∷ []) $ split3 ! $ move ! (1 ∷ []) $ fpick ! (λ rule. drop ! $ move ! (2 ∷ []) $
     -- [the first word; the value; the way back; the second word; the open borrow; its two names; the tokens]
     well_typed ! (λ good. sets ! (of_opd ! (load ! (through ! refl (fld ! refl (stop !))) (look ! 0 refl))) refl (tt, record { fits = good.1.fits }) $ sets ! (of_opd ! (get ! refl)) refl (tt, record { fits = are.1.0.1 }) $
     sets ! (bin ! (get ! refl) (get ! refl) tt) refl (tt, tt) $ first ! $ branches ! (get ! refl)
-    (λ same. let is : n ≡ wanted = eqb→eq n wanted same in let may = ok k x.value (subst (λ (j : ℕ). Starts g.holds (g.ways key) j k x) is rule) in
+    (λ same. let is = eqb→eq n wanted same in let may = ok k x.value (subst (λ (j : ℕ). Starts g.holds (g.ways key) j k x) is rule) in
     let Then = any_q (after_seq 𝓤 H (Wp 𝓤 H 𝓣.C 𝓣.Λ Ev (after 4 fn.body) (at_return 𝓤 H Ev Post)) (at_return 𝓤 H Ev Post)) in
     let w : S.Denot = record { value = x.value; stable = may.0 } in
     first ! $ blocks ! $ sets ! (addr ! (through ! refl (fld ! refl (stop !)))) refl (tt, tt) $ sets_last ! (addr ! (through ! refl (stop !))) refl (tt, tt) $ exec ! 𝓣.C 𝓣.Λ Ev wraps Then $ sets ! (of_opd ! (get ! refl)) refl (tt, tt) $
