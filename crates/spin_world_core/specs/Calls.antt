@@ -40,6 +40,11 @@ pub record LockKind : Type 0 where
   pub makes_value : Bool  -- closures make its value
   pub steps_in_sections : Bool  -- a step is a whole section under a lock of its own, not one operation
 
+-- two steps of a call that waits and looks once at most before its exchange, and four of any other
+abbrev pub steps_past_a_look : Asked → ℕ
+steps_past_a_look (waits ask) = 2
+steps_past_a_look _ = 4
+
 -- the usual kind, of these words, plain steps and calls: undisturbed a call takes four steps at most, it looks between its exchanges, no closure makes the value, and each step is one operation
 abbrev pub usual : (Plain → ℕ) → List (Plain → ℕ) → (Change → Bool) → (Asked → Bool) → LockKind
 usual word further plain_steps calls =

@@ -1,8 +1,8 @@
 -- What kind of lock a flag is: its word, the plain steps that it makes, its calls, and how soon a call is answered that nobody disturbs.
-use Rattle.std.specs.Prelude.{ℕ, Bool, true, false, Some, []}
+use Rattle.std.specs.Prelude.{Bool, true, false, Some, []}
 use Rattle.spin_step.specs.Plain.{writing, to_write, Change, gets, releases, flag_word}
 use Rattle.spin_world_core.specs.declared.place.Hold.TheVariants.{Write}
-use Rattle.spin_world_core.specs.Calls.{Asked, LockKind, usual, waits, tries, tries_weakly, looks, gives_back}
+use Rattle.spin_world_core.specs.Calls.{Asked, LockKind, steps_past_a_look, usual, waits, tries, tries_weakly, looks, gives_back}
 
 -- a party that holds writes
 abbrev pub flag_plain_steps : Change → Bool
@@ -18,10 +18,5 @@ flag_calls looks = true
 flag_calls (gives_back (Some Write)) = true
 flag_calls _ = false
 
--- a call that waits looks once at most before its exchange
-abbrev pub flag_undisturbed_steps : Asked → ℕ
-flag_undisturbed_steps (waits ask) = 2
-flag_undisturbed_steps _ = 4
-
 abbrev pub flag : LockKind
-flag = record (usual flag_word [] flag_plain_steps flag_calls) { undisturbed_steps = flag_undisturbed_steps }
+flag = record (usual flag_word [] flag_plain_steps flag_calls) { undisturbed_steps = steps_past_a_look }

@@ -2,7 +2,7 @@
 use Rattle.std.specs.Prelude.{ℕ, Bool, true, false, Some, []}
 use Rattle.spin_step.specs.Plain.{reading, upgradable, to_read, to_read_upgradable, to_write, to_upgrade, to_upgrade_asked, Change, gets, releases, turns, rw_word}
 use Rattle.spin_world_core.specs.declared.place.Hold.TheVariants.{Read, Upgradable, Write}
-use Rattle.spin_world_core.specs.Calls.{Asked, LockKind, usual, waits, tries, tries_weakly, counts_readers, counts_writers, turns_to, gives_back}
+use Rattle.spin_world_core.specs.Calls.{Asked, LockKind, steps_past_a_look, usual, waits, tries, tries_weakly, counts_readers, counts_writers, turns_to, gives_back}
 
 abbrev pub rw_plain_steps : Change → Bool
 rw_plain_steps (gets p to_read) = true
@@ -38,8 +38,7 @@ rw_calls _ = false
 -- a party that waits to write makes its exchange without a look, who comes to read looks first, and who upgrades asks first
 abbrev pub rw_undisturbed_steps : Asked → ℕ
 rw_undisturbed_steps (waits to_write) = 1
-rw_undisturbed_steps (waits ask) = 2
-rw_undisturbed_steps _ = 4
+rw_undisturbed_steps what = steps_past_a_look what
 
 abbrev pub rw : LockKind
 rw = record (usual rw_word [] rw_plain_steps rw_calls) { undisturbed_steps = rw_undisturbed_steps; spins_on_exchange = true }

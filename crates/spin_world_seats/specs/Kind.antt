@@ -1,8 +1,8 @@
 -- What kind of lock the seats are: the word, the plain steps that it makes, its calls, and how soon a call is answered that nobody disturbs.
-use Rattle.std.specs.Prelude.{ℕ, Bool, true, false, Some, []}
+use Rattle.std.specs.Prelude.{Bool, true, false, Some, []}
 use Rattle.spin_step.specs.Plain.{reading, to_read, Change, gets, releases, flag_word}
 use Rattle.spin_world_core.specs.declared.place.Hold.TheVariants.{Read}
-use Rattle.spin_world_core.specs.Calls.{Asked, LockKind, usual, waits, tries, counts_readers, gives_back}
+use Rattle.spin_world_core.specs.Calls.{Asked, LockKind, steps_past_a_look, usual, waits, tries, counts_readers, gives_back}
 
 -- a party that holds reads, and as many hold as the cap lets in
 abbrev pub seats_plain_steps : Change → Bool
@@ -17,10 +17,5 @@ seats_calls counts_readers = true
 seats_calls (gives_back (Some Read)) = true
 seats_calls _ = false
 
--- a call that waits looks once at most before its exchange
-abbrev pub seats_undisturbed_steps : Asked → ℕ
-seats_undisturbed_steps (waits ask) = 2
-seats_undisturbed_steps _ = 4
-
 abbrev pub seats : LockKind
-seats = record (usual flag_word [] seats_plain_steps seats_calls) { undisturbed_steps = seats_undisturbed_steps }
+seats = record (usual flag_word [] seats_plain_steps seats_calls) { undisturbed_steps = steps_past_a_look }
