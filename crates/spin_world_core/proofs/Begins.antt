@@ -7,7 +7,7 @@ use Rattle.spin_world_core.specs.declared.schedule.Outcome.TheVariants as outcom
 use Rattle.spin_world_core.specs.declared.schedule.Event.{Event}
 use Rattle.spin_world_core.specs.Schedules.{with_begins, with_begin, last_begin, is_begun}
 use Rattle.spin_world_core.specs.Transcripts.{begins_of, IsLastOf, IsLastBegin, TellsBegins}
-use Rattle.spin_world_core.proofs.Schedules.{last_begin_more}
+use Rattle.spin_world_core.proofs.Schedules.{last_begin-append}
 
 answered : {V A : Type 0} (r b : Option ℕ) (o : Outcome A V) (a : A) → with_begin r o ≡ outcome.Answered a b → b ≡ r
 answered r b (outcome.Answered x y) a is = cc (is)
@@ -54,12 +54,12 @@ module _ {W V A : Type 0} where
       let party : f.party ≡ y.party = ap (λ (x : Event W V A). x.party) (sym here) in
       let begun : is_begun f.outcome ≡ is_begun y.outcome = ap (λ (x : Event W V A). is_begun x.outcome) (sym here) ∙ begun_still r y.outcome in
       let more : (p : ℕ) → last_begin p 0 None (told ++ f ∷ []) ≡ last_begin p 0 None (before ++ y ∷ []) =
-      λ p. last_begin_more p 0 None told f
+      λ p. last_begin-append p 0 None told (f ∷ [])
       ∙ (ap (λ n. if (n == p) && is_begun f.outcome then Some (0 + length told) else last_begin p 0 None told) party
       ∙ (ap (λ c. if (y.party == p) && c then Some (0 + length told) else last_begin p 0 None told) begun
       ∙ (ap (λ n. if (y.party == p) && is_begun y.outcome then Some (0 + n) else last_begin p 0 None told) long
       ∙ (ap (λ o. if (y.party == p) && is_begun y.outcome then Some (0 + length before) else o) (same p)
-      ∙ sym (last_begin_more p 0 None before y))))) in
+      ∙ sym (last_begin-append p 0 None before (y ∷ [])))))) in
       tells (before ++ y ∷ []) (told ++ f ∷ []) ys fs e back a b more (omega (arith, long, length-append told (f ∷ []), length-append before (y ∷ []))) rest answers
       ∙ ap (last_begin e.party 0 None) (append_assoc told (f ∷ []) fs)
 

@@ -20,7 +20,7 @@ use Rattle.spin_world_core.specs.Machines.{Machine, opening_plain}
 use Rattle.spin_world_core.specs.Operations.{Stepwise}
 use Rattle.spin_world_core.specs.Schedules.{placed}
 use Rattle.spin_world_core.specs.Values.{HasPhase, Gives}
-use Rattle.spin_world_core.specs.Runs.{mark_of, if_completed, entries_held, entries_so_far, is_writer, own, failures, changes, IsBeginning, RightAnswer, EndsWithin, ContinuesWithin}
+use Rattle.spin_world_core.specs.Runs.{mark_of, if_completed, entries_held, is_writer, own, failures, changes, IsBeginning, RightAnswer, EndsWithin, ContinuesWithin}
 
 -- an object's local invariant: a shape of the plain lock and the value, and what a party in a call knows of its span
 pub record LocalInvariant (V C L : Type 0) : Type 1 where
@@ -32,57 +32,6 @@ abbrev pub KnowsAt : {V C L : Type 0} → LocalInvariant V C L → Plain → ℕ
 KnowsAt k s p span (Some (Calling c l h)) = k.Knows c l h p s span
 KnowsAt k s p span _ = Unit {0}
 
--- what holds where a party is about to step
-pub record InCall {W V C L A : Type 0} (m : Machine W V C L A) (k : LocalInvariant V C L) (p : ℕ) (c : C) (l : L) (h : Option Hold) (s : Plain) (v : Option V) (w : W) (span : List Mark) : Type 0 where
-  pub encodes : m.numbers w ≡ encoded m.lock_kind s
-  pub shape : k.Shape s v
-  pub exclusive : IsExclusive s
-  pub stands : entries p s ≡ entries_so_far p span (entries_held p h)
-  pub knows : k.Knows c l h p s span
-  pub retries : failures p span ≤ changes m.lock_kind p span
-
--- a call goes on so, by this step of its span
-pub record Continues {W V C L A : Type 0} (m : Machine W V C L A) (k : LocalInvariant V C L) (p : ℕ) (c : C) (l : L) (h : Option Hold) (s : Plain) (span : List Mark) : Type 0 where
-  pub knows : k.Knows c l h p s span
-  pub own_so_far : (said : Said) × AnyOf (λ steps. IsBeginning (own p span) steps) (own_steps (m.asks c h) said p)
-  pub in_time : ContinuesWithin (limit m.lock_kind (m.asks c h)) m.lock_kind p span
-
--- a call ends so
-pub record Ends {W V C L A : Type 0} (m : Machine W V C L A) (move : Move C V) (p : ℕ) (c : C) (h : Option Hold) (s : Plain) (span : List Mark) (a : A) (after : Option Hold) : Type 0 where
-  pub stands : entries p s ≡ entries_held p after
-  pub own_steps_are : AnyOf (λ steps. own p span ≡ steps) (own_steps (m.asks c h) (m.says a) p)
-  pub right : RightAnswer m p span (outcome.Answered a None) (Some (m.asks c h)) move
-  pub in_time : EndsWithin (limit m.lock_kind (m.asks c h)) m.lock_kind p span
-
-abbrev pub NextIs : {W V C L A : Type 0} → Machine W V C L A → LocalInvariant V C L → Move C V → ℕ → C → Option Hold → Plain → List Mark → Next L A → Type 0
-NextIs m k move p c h s span (Continue l) = Continues m k p c l h s span
-NextIs m k move p c h s span (Answers a after) = Ends m move p c h s span a after
-
--- a step that makes this plain step
-pub record StepIs {W V C L A : Type 0} (m : Machine W V C L A) (k : LocalInvariant V C L) (p : ℕ) (c : C) (h : Option Hold) (s : Plain) (v : Option V) (span : List Mark) (st : Stepped W V L A) (step : Option Change) (step_kind : StepKind) : Type 0 where
-  pub opens : IsOpenStep s p step
-  pub belongs : BelongsTo m.lock_kind step
-  pub encodes : m.numbers st.words ≡ encoded m.lock_kind (apply_some s step)
-  pub shape : k.Shape (apply_some s step) (placed st.placed v)
-  pub places : placed st.placed v ≡ if_completed v st.placed step
-  pub next : NextIs m k Step p c h (apply_some s step) (mark_of p step step_kind s ∷ span) st.next
-  -- an exchange that fails and is made again does so by another party's change
-  pub fails : is_again step_kind ≡ true → step ≡ None → failures p span < changes m.lock_kind p span
-
--- from these words, at this point, the call is answered by its k-th step, if no other party steps
-abbrev pub AnswersWithin : {W V C L A : Type 0} → Machine W V C L A → ℕ → W → C → L → Option Hold → Type 0
-AnswersWithin m zero w c l h = ⊥
-AnswersWithin {V = V} {L = L} m (suc k) w c l h = (v : Option V) (l' : L) → (m.step w v c l h).next ≡ Continue l' → AnswersWithin m k (m.step w v c l h).words c l' h
-
--- what is said of values by how a call goes on, where this one lies there
-abbrev pub NextGives : {W V C L A : Type 0} → Machine W V C L A → Option V → Next L A → Type 0
-NextGives m value (Continue l) = Unit {0}
-NextGives m value (Answers a after) = Gives m.lock_kind.makes_value (m.says a) (m.gives a) value
-
-pub record ValueIs {W V C L A : Type 0} (m : Machine W V C L A) (c : C) (v : Option V) (st : Stepped W V L A) (step : Option Change) : Type 0 where
-  pub brings : (q : ℕ) → step ≡ Some (completes q) → placed st.placed v ≡ m.brings c
-  pub gives : NextGives m (placed st.placed v) st.next
-
 -- a try that goes on so makes its plain step, or does so where it may
 abbrev pub GoesOnOpen : {L A : Type 0} → Ask → ℕ → List Mark → Plain → Next L A → Option Change → Type 0
 GoesOnOpen ask p span s (Continue l) None = MayTryOn ask p span s
@@ -93,48 +42,98 @@ abbrev pub ContinuesCounted : {W L A : Type 0} → (W → Option Change) → Pla
 ContinuesCounted {W} change s (Continue l) None step_kind = (w : W) (d : Change) → change w ≡ Some d → is_open s d ≡ true → is_again step_kind ≡ true
 ContinuesCounted change s _ _ step_kind = Unit {0}
 
-pub record Facts {W V C L A : Type 0} (m : Machine W V C L A) (k : LocalInvariant V C L) : Type 0 where
-  pub stepwise : Stepwise m
-  pub first : m.numbers m.words ≡ encoded m.lock_kind (opening_plain m)
-  pub shape_first : k.Shape (opening_plain m) m.value
-  -- equal numbers are equal words
-  pub numbers_tell : (v w : W) → m.numbers v ≡ m.numbers w → v ≡ w
-  -- holders and tickets don't stand in one lock
-  pub one_list : (s : Plain) (v : Option V) → k.Shape s v → (is_empty s.holders || is_empty s.tickets) ≡ true
-  pub shape_written : (s : Plain) (p : ℕ) (old : Option V) (v : V) → is_writer (entries p s) ≡ true → k.Shape s old → k.Shape s (Some v)
-  pub shape_set : (s : Plain) (old v : V) → k.Shape s (Some old) → k.Shape s (Some v)
-  -- what a party knows as its call begins
-  pub begins : (p : ℕ) (c : C) (l : L) (h : Option Hold) (s : Plain) → m.begin c h ≡ Some l → entries p s ≡ entries_held p h → k.Knows c l h p s []
-  -- another party's step, of those that this kind of lock makes, leaves it true
-  pub others : (p q : ℕ) (c : C) (l : L) (h : Option Hold) (s : Plain) (v : Option V) (step : Option Change) (step_kind : StepKind) (span : List Mark)
-      → (q ≡ p → ⊥) → k.Shape s v → IsExclusive s → IsOpenStep s q step → BelongsTo m.lock_kind step → k.Knows c l h p s span → k.Knows c l h p (apply_some s step) (mark_of q step step_kind s ∷ span)
-  -- the next step may be taken, and what it comes to
-  pub can : (p : ℕ) (c : C) (l : L) (h : Option Hold) (s : Plain) (v : Option V) (w : W) (span : List Mark) → InCall m k p c l h s v w span → m.can w c l h ≡ true
-  pub steps : (p : ℕ) (c : C) (l : L) (h : Option Hold) (s : Plain) (v : Option V) (w : W) (span : List Mark) → InCall m k p c l h s v w span
-      → StepIs m k p c h s v span (m.step w v c l h) (m.change p w c l h) (by_step (m.step_kind c l h))
-  pub counted : (p : ℕ) (c : C) (l : L) (h : Option Hold) (s : Plain) (v : Option V) (w : W) (span : List Mark) → InCall m k p c l h s v w span
-      → ContinuesCounted (λ u. m.change p u c l h) s (m.step w v c l h).next (m.change p w c l h) (by_step (m.step_kind c l h))
-  -- a call whose next step is due gets by it what it goes for, where that is open
-  pub due : (p : ℕ) (c : C) (l : L) (h : Option Hold) (s : Plain) (v : Option V) (w : W) (span : List Mark) → InCall m k p c l h s v w span
-      → Gets m.lock_kind p (m.asks c h) span s (m.change p w c l h) (by_step (m.step_kind c l h))
-  -- a try goes on only where it may
-  pub tries_on : (p : ℕ) (c : C) (l : L) (h : Option Hold) (s : Plain) (v : Option V) (w : W) (span : List Mark) → InCall m k p c l h s v w span
-      → (ask : Ask) → m.asks c h ≡ tries ask → own p span ≡ [] → GoesOnOpen ask p span s (m.step w v c l h).next (m.change p w c l h)
-  -- where what a call that may wait asks is open to it, it is answered by so many steps, if no other party steps
-  pub undisturbed : (p : ℕ) (c : C) (l : L) (h : Option Hold) (s : Plain) (v : Option V) (w : W) (span : List Mark) → InCall m k p c l h s v w span
-      → is_open_now p (m.asks c h) span s ≡ true → AnswersWithin m (steps_alone m.lock_kind (m.asks c h)) w c l h
-  -- a closure completes only where nobody holds the lock
-  pub completes_alone : (p : ℕ) (c : C) (l : L) (h : Option Hold) (s : Plain) (v : Option V) (w : W) (span : List Mark) → InCall m k p c l h s v w span
-      → (q : ℕ) → m.change p w c l h ≡ Some (completes q) → is_held s ≡ false
-  -- a weak exchange that refuses makes no plain step
-  pub refuses : (p : ℕ) (c : C) (l : L) (h : Option Hold) (s : Plain) (v : Option V) (w : W) (span : List Mark) (next : Next L A) → InCall m k p c l h s v w span
-      → m.refuse c l h ≡ Some next → NextIs m k Weak p c h s (mark_of p None step_kind.weak s ∷ span) next
-  -- and is made by a call that may be weak, before it has made a plain step
-  pub weakly : (p : ℕ) (c : C) (l : L) (h : Option Hold) (s : Plain) (v : Option V) (w : W) (span : List Mark) (next : Next L A) → InCall m k p c l h s v w span
-      → m.refuse c l h ≡ Some next → (may_be_weak (m.asks c h) ≡ true) × (own p span ≡ before_weakly (m.asks c h) p)
-  -- values that closures make
-  pub phase : (s : Plain) (v : Option V) → k.Shape s v → HasPhase m.lock_kind.makes_value s.phase v
-  pub values : (p : ℕ) (c : C) (l : L) (h : Option Hold) (s : Plain) (v : Option V) (w : W) (span : List Mark) → InCall m k p c l h s v w span
-      → ValueIs m c v (m.step w v c l h) (m.change p w c l h)
-  pub refusal_gives : (p : ℕ) (c : C) (l : L) (h : Option Hold) (s : Plain) (v : Option V) (w : W) (span : List Mark) (next : Next L A) → InCall m k p c l h s v w span
-      → m.refuse c l h ≡ Some next → NextGives m v next
+module _ {W V C L A : Type 0} (m : Machine W V C L A) where
+  -- a call ends so
+  pub record Ends (move : Move C V) (p : ℕ) (c : C) (h : Option Hold) (s : Plain) (span : List Mark) (a : A) (after : Option Hold) : Type 0 where
+    pub stands : entries p s ≡ entries_held p after
+    pub own_steps_are : AnyOf (λ steps. own p span ≡ steps) (own_steps (m.asks c h) (m.says a) p)
+    pub right : RightAnswer m p span (outcome.Answered a None) (Some (m.asks c h)) move
+    pub in_time : EndsWithin (limit m.lock_kind (m.asks c h)) m.lock_kind p span
+
+  -- from these words, at this point, the call is answered by its k-th step, if no other party steps
+  abbrev pub AnswersWithin : ℕ → W → C → L → Option Hold → Type 0
+  AnswersWithin zero w c l h = ⊥
+  AnswersWithin (suc k) w c l h = (v : Option V) (l' : L) → (m.step w v c l h).next ≡ Continue l' → AnswersWithin k (m.step w v c l h).words c l' h
+
+  -- what is said of values by how a call goes on, where this one lies there
+  abbrev pub NextGives : Option V → Next L A → Type 0
+  NextGives value (Continue l) = Unit {0}
+  NextGives value (Answers a after) = Gives m.lock_kind.makes_value (m.says a) (m.gives a) value
+
+  pub record ValueIs (c : C) (v : Option V) (st : Stepped W V L A) (step : Option Change) : Type 0 where
+    pub brings : (q : ℕ) → step ≡ Some (completes q) → placed st.placed v ≡ m.brings c
+    pub gives : NextGives (placed st.placed v) st.next
+
+  module _ (k : LocalInvariant V C L) where
+    -- a call goes on so, by this step of its span
+    pub record Continues (p : ℕ) (c : C) (l : L) (h : Option Hold) (s : Plain) (span : List Mark) : Type 0 where
+      pub knows : k.Knows c l h p s span
+      pub own_so_far : (said : Said) × AnyOf (λ steps. IsBeginning (own p span) steps) (own_steps (m.asks c h) said p)
+      pub in_time : ContinuesWithin (limit m.lock_kind (m.asks c h)) m.lock_kind p span
+
+    abbrev pub NextIs : Move C V → ℕ → C → Option Hold → Plain → List Mark → Next L A → Type 0
+    NextIs move p c h s span (Continue l) = Continues p c l h s span
+    NextIs move p c h s span (Answers a after) = Ends move p c h s span a after
+
+    -- a step that makes this plain step
+    pub record StepIs (p : ℕ) (c : C) (h : Option Hold) (s : Plain) (v : Option V) (span : List Mark) (st : Stepped W V L A) (step : Option Change) (step_kind : StepKind) : Type 0 where
+      pub opens : IsOpenStep s p step
+      pub belongs : BelongsTo m.lock_kind step
+      pub encodes : m.numbers st.words ≡ encoded m.lock_kind (apply_some s step)
+      pub shape : k.Shape (apply_some s step) (placed st.placed v)
+      pub places : placed st.placed v ≡ if_completed v st.placed step
+      pub next : NextIs Step p c h (apply_some s step) (mark_of p step step_kind s ∷ span) st.next
+      -- an exchange that fails and is made again does so by another party's change
+      pub fails : is_again step_kind ≡ true → step ≡ None → failures p span < changes m.lock_kind p span
+
+    -- Where a party is in a call, about to step
+    module _ (p : ℕ) (c : C) (l : L) (h : Option Hold) (s : Plain) (v : Option V) (w : W) (span : List Mark) where
+      -- what holds there
+      pub record InCall : Type 0 where
+        pub encodes : m.numbers w ≡ encoded m.lock_kind s
+        pub shape : k.Shape s v
+        pub exclusive : IsExclusive s
+        pub knows : k.Knows c l h p s span
+        pub retries : failures p span ≤ changes m.lock_kind p span
+
+      -- and what its object shows there
+      pub record PointFacts : Type 0 where
+        -- the next step may be taken, and what it comes to
+        pub can : m.can w c l h ≡ true
+        pub step : StepIs p c h s v span (m.step w v c l h) (m.change p w c l h) (by_step (m.step_kind c l h))
+        pub counted : ContinuesCounted (λ u. m.change p u c l h) s (m.step w v c l h).next (m.change p w c l h) (by_step (m.step_kind c l h))
+        -- a call whose next step is due gets by it what it goes for, where that is open
+        pub due : Gets m.lock_kind p (m.asks c h) span s (m.change p w c l h) (by_step (m.step_kind c l h))
+        -- a try goes on only where it may
+        pub tries_on : (ask : Ask) → m.asks c h ≡ tries ask → own p span ≡ [] → GoesOnOpen ask p span s (m.step w v c l h).next (m.change p w c l h)
+        -- where what a call that may wait asks is open to it, it is answered by so many steps, if no other party steps
+        pub undisturbed : is_open_now p (m.asks c h) span s ≡ true → AnswersWithin (steps_alone m.lock_kind (m.asks c h)) w c l h
+        -- a closure completes only where nobody holds the lock
+        pub completes_alone : (q : ℕ) → m.change p w c l h ≡ Some (completes q) → is_held s ≡ false
+        -- a weak exchange that refuses makes no plain step
+        pub refuses : (next : Next L A) → m.refuse c l h ≡ Some next → NextIs Weak p c h s (mark_of p None step_kind.weak s ∷ span) next
+        -- and is made by a call that may be weak, before it has made a plain step
+        pub weakly : (next : Next L A) → m.refuse c l h ≡ Some next → (may_be_weak (m.asks c h) ≡ true) × (own p span ≡ before_weakly (m.asks c h) p)
+        -- values that closures make
+        pub values : ValueIs c v (m.step w v c l h) (m.change p w c l h)
+        pub refusal_gives : (next : Next L A) → m.refuse c l h ≡ Some next → NextGives v next
+
+    pub record Facts : Type 0 where
+      pub stepwise : Stepwise m
+      pub first : m.numbers m.words ≡ encoded m.lock_kind (opening_plain m)
+      pub shape_first : k.Shape (opening_plain m) m.value
+      -- equal numbers are equal words
+      pub numbers_tell : (v w : W) → m.numbers v ≡ m.numbers w → v ≡ w
+      -- holders and tickets don't stand in one lock
+      pub one_list : (s : Plain) (v : Option V) → k.Shape s v → (is_empty s.holders || is_empty s.tickets) ≡ true
+      pub shape_written : (s : Plain) (p : ℕ) (old : Option V) (v : V) → is_writer (entries p s) ≡ true → k.Shape s old → k.Shape s (Some v)
+      pub shape_set : (s : Plain) (old v : V) → k.Shape s (Some old) → k.Shape s (Some v)
+      -- a value that closures make
+      pub phase : (s : Plain) (v : Option V) → k.Shape s v → HasPhase m.lock_kind.makes_value s.phase v
+      -- what a party knows as its call begins
+      pub begins : (p : ℕ) (c : C) (l : L) (h : Option Hold) (s : Plain) → m.begin c h ≡ Some l → entries p s ≡ entries_held p h → k.Knows c l h p s []
+      -- another party's step, of those that this kind of lock makes, leaves it true
+      pub others : (p q : ℕ) (c : C) (l : L) (h : Option Hold) (s : Plain) (v : Option V) (step : Option Change) (step_kind : StepKind) (span : List Mark)
+          → (q ≡ p → ⊥) → k.Shape s v → IsExclusive s → IsOpenStep s q step → BelongsTo m.lock_kind step → k.Knows c l h p s span → k.Knows c l h p (apply_some s step) (mark_of q step step_kind s ∷ span)
+      -- what is so at each point of a call
+      pub at : (p : ℕ) (c : C) (l : L) (h : Option Hold) (s : Plain) (v : Option V) (w : W) (span : List Mark) → InCall p c l h s v w span → PointFacts p c l h s v w span

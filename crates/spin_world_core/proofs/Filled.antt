@@ -1,5 +1,5 @@
 -- An object whose closures make its value: what its table owes, and that it then shows all local facts.
-use Rattle.std.proofs.Common.{◌≡◌, ℕ, zero, suc, Bool, true, false, is_some, Option, Some, None, List, [], ◌∷◌, refl, ap, sym, ◌∙◌, subst}
+use Rattle.std.proofs.Common.{◌≡◌, ℕ, zero, suc, Bool, true, false, is_some, Option, Some, None, List, ◌∷◌, refl, ap, sym, ◌∙◌, subst}
 use Rattle.std.proofs.lemmas.Bool.{true≢false, false≢true}
 use Rattle.spin_step.specs.Plain.{Plain, Phase, nothing, running, Ask, to_begin, Change, gets, completes, fails, apply, is_open, is_nothing, is_running, is_complete}
 use Rattle.spin_step.specs.Parties.{apply_some, IsOpenStep, entries, is_held}
@@ -18,10 +18,10 @@ use Rattle.spin_world_core.specs.Runs.{mark_of, if_completed, is_writer, own}
 use Rattle.spin_world_core.specs.Acts.{Memory, Act, store, step_by, change_at, change_by, makes_by, is_completion, step_kind_by, Table, machine_of, completes_by, brought, with_value, filled, gives_of, machine_with}
 use Rattle.spin_world_core.specs.Undisturbed.{steps_alone}
 use Rattle.spin_world_core.specs.Values.{HasPhase, Gives}
-use Rattle.spin_world_core.proofs.Facts.{LocalInvariant, AnswersWithin, InCall, NextIs, NextGives, StepIs, Facts}
+use Rattle.spin_world_core.proofs.Facts.{LocalInvariant, AnswersWithin, InCall, NextIs, NextGives, StepIs, PointFacts, Facts}
 use Rattle.spin_world_core.proofs.Operating.{change_is, open_filled, counted_filled, stepwise_with}
 use Rattle.spin_world_core.proofs.Shapes.{Notes, row_of, KnowsRow, keeping_of, goes_by, answers_by, Pays}
-use Rattle.spin_world_core.proofs.Paid.{uncompleted, Went, went_here, can_here, counted_here, due_here, tries_here, soon_here, others_here, begins_here}
+use Rattle.spin_world_core.proofs.Paid.{uncompleted, Shown, shown_here, others_here, begins_here}
 
 abbrev is_end : Option Change → Bool
 is_end None = false
@@ -163,27 +163,43 @@ module _ {W V C L : Type 0} (t : Table W V C L (Answer (Unit {0}))) (n : Notes t
     abbrev step_kind : StepKind
     step_kind = by_step (step_kind_by (t.asks c h) (t.act c l h))
 
-    went : Went t n p c h s span st step step_kind
-    went = went_here t n pays.pays p c l h s w span here.encodes here.shape.0 here.exclusive here.retries here.knows
+    shown : Shown t n p c l h s w span
+    shown = shown_here t n pays.pays p c l h s w span here.encodes here.shape.0 here.exclusive here.retries here.knows
 
     puts : Puts s v (brings c) (brought (completes_by (t.act c l h)) (brings c)) step
-    puts = puts_by _ (t.act c l h) s p v (brings c) w (pays.completes_right p c l h) went.opens here.shape.1
+    puts = puts_by _ (t.act c l h) s p v (brings c) w (pays.completes_right p c l h) shown.went.opens here.shape.1
 
     step_here : StepIs m keeping_with p c h s v span (m.step w v c l h) step step_kind
     step_here =
         record {
-          opens = went.opens;
-          belongs = went.belongs;
-          encodes = went.encodes;
-          shape = (went.shape, puts.phase);
+          opens = shown.went.opens;
+          belongs = shown.went.belongs;
+          encodes = shown.went.encodes;
+          shape = (shown.went.shape, puts.phase);
           places = puts.places;
-          next = next_with p c h (apply_some s step) (mark_of p step step_kind s ∷ span) _ st.next puts.phase (pays.tells p c l h s w here.encodes) went.next;
-          fails = went.fails;
+          next = next_with p c h (apply_some s step) (mark_of p step step_kind s ∷ span) _ st.next puts.phase (pays.tells p c l h s w here.encodes) shown.went.next;
+          fails = shown.went.fails;
         }
 
     gives_at : (value : Option V) (next : Next L (Answer (Unit {0}))) → NextGives m value (filled value next)
     gives_at value (Continue j) = tt
     gives_at value (Answers a after) = gives_with t.lock_kind.makes_value a value
+
+    at_point : PointFacts m keeping_with p c l h s v w span
+    at_point =
+        record {
+          can = shown.can;
+          step = step_here;
+          counted = counted_filled _ s _ st.next _ _ shown.counted;
+          due = shown.due;
+          tries_on = λ ask is none. open_filled ask p span s _ st.next _ (shown.tries_on ask is none);
+          undisturbed = λ may. answers_with (steps_alone t.lock_kind (t.asks c h)) w c l h (shown.soon may);
+          completes_alone = λ q is. pays.none_holds s here.shape.0;
+          refuses = λ next is. absurd (cc (is));
+          weakly = λ next is. absurd (cc (is));
+          values = record { brings = puts.brings; gives = gives_at _ st.next };
+          refusal_gives = λ next is. absurd (cc (is));
+        }
 
   pub facts_with : Facts m keeping_with
   facts_with =
@@ -195,18 +211,8 @@ module _ {W V C L : Type 0} (t : Table W V C L (Answer (Unit {0}))) (n : Notes t
         one_list = λ s v shape. pays.pays.one_list s shape.0;
         shape_written = λ s p old v writes shape. absurd (false≢true (sym (pays.none_writes s p shape.0) ∙ writes));
         shape_set = λ s old v shape. shape;
-        begins = λ p c l h s e mine. begins_here t n pays.pays p c l h s t.words [] e mine;
-        others = λ p q c l h s v step r span ne shape exclusive may belongs knows. others_here t n pays.pays p c l h s t.words span q step r ne shape.0 may belongs knows;
-        can = λ p c l h s v w span here. can_here t n pays.pays p c l h s w span here.encodes here.shape.0 here.exclusive here.retries here.knows;
-        steps = step_here;
-        counted = λ p c l h s v w span here. counted_filled _ s _ (step_by {V = V} t.memory (t.word l) (t.act c l h) w).next _ _ (counted_here t n pays.pays p c l h s w span here.encodes here.shape.0 here.exclusive here.retries here.knows);
-        due = λ p c l h s v w span here. due_here t n pays.pays p c l h s w span here.encodes here.shape.0 here.exclusive here.retries here.knows;
-        tries_on = λ p c l h s v w span here ask is none. open_filled ask p span s _ (step_by {V = V} t.memory (t.word l) (t.act c l h) w).next _ (tries_here t n pays.pays p c l h s w span here.encodes here.shape.0 here.exclusive here.retries here.knows ask is none);
-        completes_alone = λ p c l h s v w span here q is. pays.none_holds s here.shape.0;
-        undisturbed = λ p c l h s v w span here may. answers_with (steps_alone t.lock_kind (t.asks c h)) w c l h (soon_here t n pays.pays p c l h s w span here.encodes here.shape.0 here.exclusive here.retries here.knows may);
-        refuses = λ p c l h s v w span next here is. absurd (cc (is));
-        weakly = λ p c l h s v w span next here is. absurd (cc (is));
         phase = λ s v shape. has_phase t.lock_kind.makes_value s.phase v shape.1;
-        values = λ p c l h s v w span here. record { brings = (puts p c l h s v w span here).brings; gives = gives_at p c l h s v w span here _ (step_by {V = V} t.memory (t.word l) (t.act c l h) w).next };
-        refusal_gives = λ p c l h s v w span next here is. absurd (cc (is));
+        begins = λ p c l h s e mine. begins_here t n pays.pays p c l h s e mine;
+        others = λ p q c l h s v step r span ne shape exclusive may belongs knows. others_here t n pays.pays p c l h s span q step r ne shape.0 may belongs knows;
+        at = at_point;
       }

@@ -14,23 +14,27 @@ use Rattle.spin_world_core.specs.Users.{seen_after}
 use Rattle.spin_world_core.specs.Lawful.{Lawful}
 use Rattle.spin_world_core.specs.Transcripts.{scenes, EachTells, TellsAfterAnyPast}
 use Rattle.spin_world_core.specs.Joined.{Promised, began_from, outcome_from, event_from, IsCut, joined, after_runs, transcripts_of, RunsAreOne}
-use Rattle.spin_world_core.proofs.Schedules.{after-append, events_of-append, length-events_of}
+use Rattle.spin_world_core.proofs.Schedules.{after-append, events_of-append, seen_after-append, length-events_of, with_begins-append, last_begin-append}
 use Rattle.spin_world_core.proofs.Transcripts.{tells_after}
 
 -- What two runs tell
 
-scenes-append : {W V C L A : Type 0} (m : Machine W V C L A) (seen : Seen W V C L) (xs ys : List (ℕ × Move C V)) → scenes m seen (xs ++ ys) ≡ scenes m seen xs ++ scenes m (seen_after m seen xs) ys
-scenes-append m seen [] ys = refl
-scenes-append m seen (x ∷ xs) ys = ap (λ ss. scene m seen x.0 x.1 ∷ ss) (scenes-append m (scene m seen x.0 x.1).after xs ys)
-
-seen_after-append : {W V C L A : Type 0} (m : Machine W V C L A) (seen : Seen W V C L) (xs ys : List (ℕ × Move C V)) → seen_after m seen (xs ++ ys) ≡ seen_after m (seen_after m seen xs) ys
-seen_after-append m seen [] ys = refl
-seen_after-append m seen (x ∷ xs) ys = seen_after-append m (scene m seen x.0 x.1).after xs ys
-
-tells-append : {W V C L A : Type 0} (ss ts : List (Scene W V C L A)) (es fs : List (Event W V A)) → EachTells ss es → EachTells ts fs → EachTells (ss ++ ts) (es ++ fs)
+tells-append : {W V C L A : Type 0} (ss ts : List (Scene W V C L A)) (es fs : List (Event W V A)) → EachTells ss es → EachTells ts fs
+    → EachTells (ss ++ ts) (es ++ fs)
 tells-append [] ts [] fs front back = back
 tells-append (s ∷ ss) ts (e ∷ es) fs front back = (front.0, tells-append ss ts es fs front.1 back)
 tells-append _ ts _ fs front back = absurd front
+
+scenes-append : {W V C L A : Type 0} (m : Machine W V C L A) (seen : Seen W V C L) (xs ys : List (ℕ × Move C V))
+    → scenes m seen (xs ++ ys) ≡ scenes m seen xs ++ scenes m (seen_after m seen xs) ys
+scenes-append m seen [] ys = refl
+scenes-append m seen (x ∷ xs) ys = ap (λ ss. scene m seen x.0 x.1 ∷ ss) (scenes-append m (scene m seen x.0 x.1).after xs ys)
+
+-- Where calls began
+
+-- all that an object promises
+promised_of : {W V C L A : Type 0} (m : Machine W V C L A) (n : ℕ) (entries : List (ℕ × Move C V)) → Lawful m → Promised m n entries
+promised_of m n entries lawful = record { keeps = lawful.keeps n entries; moments = lawful.moments n entries; counts = lawful.counts n entries; values = lawful.values n entries }
 
 -- the events of two runs together tell the scenes of one
 tells_both : {W V C L A : Type 0} (m : Machine W V C L A) (s : State W V C L) (first second : List (ℕ × Move C V)) (es fs : List (Event W V A))
@@ -41,14 +45,10 @@ tells_both m s first second es fs front back = λ n past reached.
     (tells-append _ _ es fs (front n past reached)
     (subst (λ seen. EachTells (scenes m seen second) fs) (seen_after-append m (opening m n) past first) (back n (past ++ first) there)))
 
--- Where calls began
-
--- the last beginning among events that stand behind others
-last_begin-append : {W V A : Type 0} (p k : ℕ) (found : Option ℕ) (xs ys : List (Event W V A)) → last_begin p k found (xs ++ ys) ≡ last_begin p (k + length xs) (last_begin p k found xs) ys
-last_begin-append p k found [] ys = ap (λ n. last_begin p n found ys) (omega arith)
-last_begin-append p k found (x ∷ xs) ys =
-    let now = if (x.party == p) && is_begun x.outcome then Some k else found in
-    last_begin-append p (k + 1) now xs ys ∙ ap (λ n. last_begin p n (last_begin p (k + 1) now xs) ys) (omega arith)
+after-joined : {W V C L A : Type 0} (m : Machine W V C L A) (s : State W V C L) (runs : List (List (ℕ × Move C V)))
+    → after_runs m s runs ≡ after m s (joined runs)
+after-joined m s [] = refl
+after-joined m s (run ∷ runs) = after-joined m (after m s run) runs ∙ sym (after-append m s run (joined runs))
 
 began_before : (start k : ℕ) → k < start → began_from start (Some k) ≡ None
 began_before start k lt = rw (lt-ltb k start lt) refl
@@ -61,18 +61,21 @@ either_none true start k found lt none = began_before start k lt
 either_none false start k found lt none = none
 
 -- nothing is told of a call that began before the start
-none_from : {W V A : Type 0} (start p k : ℕ) (found : Option ℕ) (xs : List (Event W V A)) → k + length xs ≤ start → began_from start found ≡ None → began_from start (last_begin p k found xs) ≡ None
+none_from : {W V A : Type 0} (start p k : ℕ) (found : Option ℕ) (xs : List (Event W V A)) → k + length xs ≤ start → began_from start found ≡ None
+    → began_from start (last_begin p k found xs) ≡ None
 none_from start p k found [] le none = none
 none_from start p k found (x ∷ xs) le none =
     let b = (x.party == p) && is_begun x.outcome in
     none_from start p (k + 1) (if b then Some k else found) xs (omega arith) (either_none b start k found (omega arith) none)
 
-either_from : (b : Bool) (start k : ℕ) (found here : Option ℕ) → began_from start found ≡ here → began_from start (if b then Some (start + k) else found) ≡ (if b then Some k else here)
+either_from : (b : Bool) (start k : ℕ) (found here : Option ℕ) → began_from start found ≡ here
+    → began_from start (if b then Some (start + k) else found) ≡ (if b then Some k else here)
 either_from true start k found here is = began_behind start k
 either_from false start k found here is = is
 
 -- and of one that began later its place from there
-last_from : {W V A : Type 0} (start p k : ℕ) (found here : Option ℕ) (xs : List (Event W V A)) → began_from start found ≡ here → began_from start (last_begin p (start + k) found xs) ≡ last_begin p k here xs
+last_from : {W V A : Type 0} (start p k : ℕ) (found here : Option ℕ) (xs : List (Event W V A)) → began_from start found ≡ here
+    → began_from start (last_begin p (start + k) found xs) ≡ last_begin p k here xs
 last_from start p k found here [] is = is
 last_from start p k found here (x ∷ xs) is =
     let b = (x.party == p) && is_begun x.outcome in
@@ -86,15 +89,10 @@ begin_from p xs ys =
     ap (began_from n) (last_begin-append p 0 None xs ys ∙ ap (λ k. last_begin p k (last_begin p 0 None xs) ys) (omega arith))
     ∙ last_from n p 0 (last_begin p 0 None xs) None ys (none_from n p 0 None xs (omega arith) refl)
 
-with_begin_from : {V A : Type 0} (start : ℕ) (began here : Option ℕ) (o : Outcome A V) → began_from start began ≡ here → with_begin here o ≡ outcome_from start (with_begin began o)
+with_begin_from : {V A : Type 0} (start : ℕ) (began here : Option ℕ) (o : Outcome A V) → began_from start began ≡ here
+    → with_begin here o ≡ outcome_from start (with_begin began o)
 with_begin_from start began here (outcome.Answered a b) is = ap (λ k. outcome.Answered a k) (sym is)
 with_begin_from start began here _ is = refl
-
-with_begins-append : {W V A : Type 0} (before xs ys : List (Event W V A)) → with_begins before (xs ++ ys) ≡ with_begins before xs ++ with_begins (before ++ xs) ys
-with_begins-append before [] ys = ap (λ b. with_begins b ys) (sym (append-nil before))
-with_begins-append before (x ∷ xs) ys =
-    ap (λ es. record x { outcome = with_begin (last_begin x.party 0 None before) x.outcome } ∷ es)
-    (with_begins-append (before ++ x ∷ []) xs ys ∙ ap (λ b. with_begins (before ++ x ∷ []) xs ++ with_begins b ys) (append_assoc before (x ∷ []) xs))
 
 length-with_begins : {W V A : Type 0} (before xs : List (Event W V A)) → length (with_begins before xs) ≡ length xs
 length-with_begins before [] = refl
@@ -111,8 +109,8 @@ with_begins_from {W = W} {V = V} {A = A} xs before (y ∷ ys) =
     (with_begins_from xs (before ++ y ∷ []) ys ∙ ap (λ b. map (event_from (length xs)) (with_begins b ys)) (sym (append_assoc xs before (y ∷ []))))
 
 -- a run that is cut in two
-cut_in_two : {W V C L A : Type 0} (m : Machine W V C L A) (s : State W V C L) (first second : List (ℕ × Move C V)) (place : ℕ) (es fs : List (Event W V A)) → length first ≡ place
-    → es ≡ with_begins [] (events_of m s first) → fs ≡ with_begins [] (events_of m (after m s first) second)
+cut_in_two : {W V C L A : Type 0} (m : Machine W V C L A) (s : State W V C L) (first second : List (ℕ × Move C V)) (place : ℕ) (es fs : List (Event W V A))
+    → length first ≡ place → es ≡ with_begins [] (events_of m s first) → fs ≡ with_begins [] (events_of m (after m s first) second)
     → IsCut place (with_begins [] (events_of m s (first ++ second))) es fs
 cut_in_two m s first second place es fs at front back =
     let xs = events_of m s first in
@@ -137,25 +135,27 @@ pub record PlaysOn {O W V C L A : Type 0} (machine : O → Machine W V C L A) (o
   pub whole : first ++ second ≡ schedule
   pub between_is : between ≡ after (machine old) s first
 
-pub plays_on : {O W V C L A : Type 0} (machine : O → Machine W V C L A) (old now : O) (s between : State W V C L) (place : ℕ) (first second schedule : List (ℕ × Move C V)) → now ≡ old
-    → first ≡ take place schedule → second ≡ drop place schedule → between ≡ after (machine old) s first → PlaysOn machine old now s between first second schedule
+pub plays_on : {O W V C L A : Type 0} (machine : O → Machine W V C L A) (old now : O) (s between : State W V C L) (place : ℕ) (first second schedule : List (ℕ × Move C V))
+    → now ≡ old → first ≡ take place schedule → second ≡ drop place schedule → between ≡ after (machine old) s first
+    → PlaysOn machine old now s between first second schedule
 plays_on machine old now s between place first second schedule same front back is = record { object = same; whole = rw (front, back) (take-append-drop place schedule); between_is = is }
 
-pub state_on : {O W V C L A : Type 0} (machine : O → Machine W V C L A) (old now : O) (s between end : State W V C L) (first second schedule : List (ℕ × Move C V)) → PlaysOn machine old now s between first second schedule
-    → end ≡ after (machine now) between second → end ≡ after (machine old) s schedule
+pub state_on : {O W V C L A : Type 0} (machine : O → Machine W V C L A) (old now : O) (s between end : State W V C L) (first second schedule : List (ℕ × Move C V))
+    → PlaysOn machine old now s between first second schedule → end ≡ after (machine now) between second → end ≡ after (machine old) s schedule
 state_on machine old now s between end first second schedule on is =
     is ∙ (ap (λ o. after (machine o) between second) on.object
     ∙ (ap (λ t. after (machine old) t second) on.between_is ∙ (sym (after-append (machine old) s first second) ∙ ap (after (machine old) s) on.whole)))
 
-pub events_on : {O W V C L A : Type 0} (machine : O → Machine W V C L A) (old now : O) (s between : State W V C L) (first second schedule : List (ℕ × Move C V)) (place : ℕ) (es fs : List (Event W V A)) → PlaysOn machine old now s between first second schedule
-    → length first ≡ place → es ≡ with_begins [] (events_of (machine old) s first) → fs ≡ with_begins [] (events_of (machine now) between second)
-    → IsCut place (with_begins [] (events_of (machine old) s schedule)) es fs
+pub events_on : {O W V C L A : Type 0} (machine : O → Machine W V C L A) (old now : O) (s between : State W V C L) (first second schedule : List (ℕ × Move C V)) (place : ℕ) (es fs : List (Event W V A))
+    → PlaysOn machine old now s between first second schedule → length first ≡ place → es ≡ with_begins [] (events_of (machine old) s first)
+    → fs ≡ with_begins [] (events_of (machine now) between second) → IsCut place (with_begins [] (events_of (machine old) s schedule)) es fs
 events_on machine old now s between first second schedule place es fs on at front back =
     let there = ap (λ o. with_begins [] (events_of (machine o) between second)) on.object ∙ ap (λ t. with_begins [] (events_of (machine old) t second)) on.between_is in
     subst (λ xs. IsCut place (with_begins [] (events_of (machine old) s xs)) es fs) on.whole (cut_in_two (machine old) s first second place es fs at front (back ∙ there))
 
-pub tells_on : {O W V C L A : Type 0} (machine : O → Machine W V C L A) (old now : O) (s between : State W V C L) (first second schedule : List (ℕ × Move C V)) (es fs : List (Event W V A)) → PlaysOn machine old now s between first second schedule
-    → TellsAfterAnyPast (machine old) s first es → TellsAfterAnyPast (machine now) between second fs → TellsAfterAnyPast (machine old) s schedule (es ++ fs)
+pub tells_on : {O W V C L A : Type 0} (machine : O → Machine W V C L A) (old now : O) (s between : State W V C L) (first second schedule : List (ℕ × Move C V)) (es fs : List (Event W V A))
+    → PlaysOn machine old now s between first second schedule → TellsAfterAnyPast (machine old) s first es → TellsAfterAnyPast (machine now) between second fs
+    → TellsAfterAnyPast (machine old) s schedule (es ++ fs)
 tells_on machine old now s between first second schedule es fs on front back =
     subst (λ xs. TellsAfterAnyPast (machine old) s xs (es ++ fs)) on.whole
     (tells_both (machine old) s first second es fs front
@@ -163,18 +163,12 @@ tells_on machine old now s between first second schedule es fs on front back =
 
 -- Any number of runs
 
--- all that an object promises
-promised_of : {W V C L A : Type 0} (m : Machine W V C L A) (n : ℕ) (entries : List (ℕ × Move C V)) → Lawful m → Promised m n entries
-promised_of m n entries lawful = record { keeps = lawful.keeps n entries; moments = lawful.moments n entries; counts = lawful.counts n entries; values = lawful.values n entries }
-
-pub promised_after : {W V C L A : Type 0} (m : Machine W V C L A) (s : State W V C L) (schedule : List (ℕ × Move C V)) → Lawful m → AfterAnyPast m s schedule (Promised m)
+pub promised_after : {W V C L A : Type 0} (m : Machine W V C L A) (s : State W V C L) (schedule : List (ℕ × Move C V)) → Lawful m
+    → AfterAnyPast m s schedule (Promised m)
 promised_after m s schedule lawful = λ n past reached. promised_of m n (past ++ schedule) lawful
 
-after-joined : {W V C L A : Type 0} (m : Machine W V C L A) (s : State W V C L) (runs : List (List (ℕ × Move C V))) → after_runs m s runs ≡ after m s (joined runs)
-after-joined m s [] = refl
-after-joined m s (run ∷ runs) = after-joined m (after m s run) runs ∙ sym (after-append m s run (joined runs))
-
-tells-joined : {W V C L A : Type 0} (m : Machine W V C L A) (s : State W V C L) (runs : List (List (ℕ × Move C V))) → TellsAfterAnyPast m s (joined runs) (joined (transcripts_of m s runs))
+tells-joined : {W V C L A : Type 0} (m : Machine W V C L A) (s : State W V C L) (runs : List (List (ℕ × Move C V)))
+    → TellsAfterAnyPast m s (joined runs) (joined (transcripts_of m s runs))
 tells-joined m s [] = λ n past reached. tt
 tells-joined m s (run ∷ runs) =
     let t = with_begins [] (events_of m s run) in

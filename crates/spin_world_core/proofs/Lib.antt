@@ -1,4 +1,5 @@
 pub mod Lists
+pub mod Events
 pub mod Facts
 pub mod Spans
 pub mod Stands

@@ -7,7 +7,7 @@ use Rattle.std.proofs.lemmas.Option.{slice_get-map}
 use Rattle.spin_step.specs.Plain.{Plain}
 use Rattle.spin_world_core.specs.declared.place.Hold.{Hold}
 use Rattle.spin_world_core.specs.declared.place.Seat.{Seat}
-use Rattle.spin_world_core.specs.declared.place.Seat.TheVariants.{Idle, Calling, Holding, Leaked, Gone}
+use Rattle.spin_world_core.specs.declared.place.Seat.TheVariants.{Calling, Holding, Leaked, Gone}
 use Rattle.spin_world_core.specs.declared.schedule.Move.TheVariants.{OwnerGet, OwnerSet}
 use Rattle.spin_world_core.specs.declared.schedule.Outcome.TheVariants as outcome
 use Rattle.spin_world_core.specs.StepKinds as step_kind
@@ -15,101 +15,82 @@ use Rattle.spin_world_core.specs.Calls.{Mark}
 use Rattle.spin_world_core.specs.Machines.{Machine}
 use Rattle.spin_world_core.specs.Schedules.{is_owners, yields_to_owner, let_go, seen_by_owner, owner_gets, owner_sets, owner_writes}
 use Rattle.spin_world_core.specs.Runs.{Seen, scene_of, ComesTo, StandsFor, YieldsToOwner, IsOwners}
-use Rattle.spin_world_core.proofs.Facts.{LocalInvariant, KnowsAt, Facts}
-use Rattle.spin_world_core.proofs.Undisturbed.{runs_let_go}
-use Rattle.spin_world_core.proofs.Preserved.{Invariant, Preserved, keeps_from, skip_kept}
+use Rattle.spin_world_core.proofs.Facts.{LocalInvariant, Facts}
+use Rattle.spin_world_core.proofs.Preserved.{OfParty, Invariant, Preserved, kept_aside}
 
 pub all-get : {X : Type 0} (test : X → Bool) (xs : List X) (q : ℕ) (x : X) → list_all test xs ≡ true → slice_get xs q ≡ Some x → test x ≡ true
 all-get test [] q x all e = absurd (cc (e))
 all-get test (y ∷ xs) zero x all e = subst (λ z. test z ≡ true) (cc (e)) (and_parts (test y) (list_all test xs) all).0
 all-get test (y ∷ xs) (suc q) x all e = all-get test xs q x (and_parts (test y) (list_all test xs) all).1 e
 
-yields_at : {C L : Type 0} (s : Plain) (q : ℕ) (span : List Mark) (o : Option (Seat C L)) → StandsFor s q span o → ((x : Seat C L) → o ≡ Some x → yields_to_owner x ≡ true) → YieldsToOwner s q o
+all-from : {X : Type 0} (test : X → Bool) (xs : List X) → ((q : ℕ) (x : X) → slice_get xs q ≡ Some x → test x ≡ true) → list_all test xs ≡ true
+all-from test [] each = refl
+all-from test (x ∷ xs) each = and_from (test x) (list_all test xs) (each zero x refl) (all-from test xs (λ q y e. each (suc q) y e))
+
+yields_at : {C L : Type 0} (s : Plain) (q : ℕ) (span : List Mark) (o : Option (Seat C L)) → StandsFor s q span o
+    → ((x : Seat C L) → o ≡ Some x → yields_to_owner x ≡ true) → YieldsToOwner s q o
 yields_at s q span (Some (Calling c l h)) stands away = absurd (false≢true (away (Calling c l h) refl))
 yields_at s q span (Some (Holding h)) stands away = absurd (false≢true (away (Holding h) refl))
 yields_at s q span (Some (Leaked h)) stands away = tt
 yields_at s q span (Some (Gone h)) stands away = tt
 yields_at s q span _ stands away = stands
 
-stands_let_go : {C L : Type 0} (s : Plain) (q : ℕ) (span : List Mark) (o : Option (Seat C L)) → StandsFor s q span o → StandsFor s q span (option_map seen_by_owner o)
-stands_let_go s q span (Some Idle) stands = stands
-stands_let_go s q span _ stands = stands
-
-knows_let_go : {V C L : Type 0} (k : LocalInvariant V C L) (s : Plain) (q : ℕ) (span : List Mark) (o : Option (Seat C L)) → KnowsAt k s q span o → KnowsAt k s q span (option_map seen_by_owner o)
-knows_let_go k s q span (Some Idle) knows = knows
-knows_let_go k s q span _ knows = knows
-
-good_let_go : {W V C L A : Type 0} (m : Machine W V C L A) (k : LocalInvariant V C L) (seen : Seen W V C L) (v wr : Option V) → Invariant m k seen → k.Shape seen.plain v → v ≡ wr
-    → Invariant m k (record { state = let_go (record seen.state { value = v }); plain = seen.plain; span = seen.span; written = wr })
-good_let_go m k seen v wr good shape written =
-    record {
-      encodes = good.encodes;
-      shape = shape;
-      exclusive = good.exclusive;
-      written = written;
-      places = λ q. rw (slice_get-map seen_by_owner seen.state.seats q) (stands_let_go seen.plain q (seen.span q) (slice_get seen.state.seats q) (good.places q));
-      knows = λ q. rw (slice_get-map seen_by_owner seen.state.seats q) (knows_let_go k seen.plain q (seen.span q) (slice_get seen.state.seats q) (good.knows q));
-      retries = good.retries;
-      undisturbed = λ q. rw (slice_get-map seen_by_owner seen.state.seats q) (runs_let_go m seen.state.words q (seen.span q) (slice_get seen.state.seats q) (good.undisturbed q));
-    }
-
-owners : {W V C L A : Type 0} (m : Machine W V C L A) (k : LocalInvariant V C L) (seen : Seen W V C L) → Invariant m k seen → is_owners m seen.state ≡ true → IsOwners seen
-owners m k seen good may = λ q.
-    yields_at seen.plain q (seen.span q) (slice_get seen.state.seats q) (good.places q)
-    (λ x e. all-get yields_to_owner seen.state.seats q x (and_parts m.owned (list_all yields_to_owner seen.state.seats) may).1 e)
-
--- and where the owner has the lock to itself, its move is open
-
-all-from : {X : Type 0} (test : X → Bool) (xs : List X) → ((q : ℕ) (x : X) → slice_get xs q ≡ Some x → test x ≡ true) → list_all test xs ≡ true
-all-from test [] each = refl
-all-from test (x ∷ xs) each = and_from (test x) (list_all test xs) (each zero x refl) (all-from test xs (λ q y e. each (suc q) y e))
-
 yields : {C L : Type 0} (s : Plain) (q : ℕ) (x : Seat C L) → YieldsToOwner s q (Some x) → yields_to_owner x ≡ true
 yields s q (Calling c l h) may = absurd may
 yields s q (Holding h) may = absurd may
 yields s q _ may = refl
 
-none_owns : {W V C L A : Type 0} (m : Machine W V C L A) (seen : Seen W V C L) → is_owners m seen.state ≡ false → m.owned ≡ true → IsOwners seen → ⊥
-none_owns m seen closed owned all =
-    true≢false (sym (and_from m.owned (list_all yields_to_owner seen.state.seats) owned
-    (all-from yields_to_owner seen.state.seats (λ q x e. yields seen.plain q x (subst (λ o. YieldsToOwner seen.plain q o) e (all q))))) ∙ closed)
-
--- and takes nobody on who is in a call
-leaves_calls : {C L : Type 0} (seats : List (Seat C L)) {p : ℕ} (q : ℕ) (c : C) (l : L) (h : Option Hold) → (p ≡ q → ⊥) → slice_get seats q ≡ Some (Calling c l h) → slice_get (map seen_by_owner seats) q ≡ Some (Calling c l h)
+-- the owner's move takes nobody on who is in a call
+leaves_calls : {C L : Type 0} (seats : List (Seat C L)) {p : ℕ} (q : ℕ) (c : C) (l : L) (h : Option Hold) → (p ≡ q → ⊥)
+    → slice_get seats q ≡ Some (Calling c l h) → slice_get (map seen_by_owner seats) q ≡ Some (Calling c l h)
 leaves_calls seats q c l h ne is = slice_get-map seen_by_owner seats q ∙ ap (option_map seen_by_owner) is
 
-pub owner_get_kept : {W V C L A : Type 0} (m : Machine W V C L A) (k : LocalInvariant V C L) (f : Facts m k) (seen : Seen W V C L) (p : ℕ) (y : Seat C L) (b : Bool)
-    → Invariant m k seen → is_owners m seen.state ≡ b → Preserved m k (scene_of seen p OwnerGet (Some y) (owner_gets seen.state b) None step_kind.plain None)
-owner_get_kept m k f seen p y false good may = skip_kept m k f seen p OwnerGet (Some y) good may (none_owns m seen may)
-owner_get_kept m k f seen p y true good may =
-    let after = good_let_go m k seen seen.state.value seen.written good good.shape good.written in
-    record {
-      keeps = keeps_from m k f _ after tt tt (λ r e. cc (e, good.written)) (owners m k seen good may) (λ e. cc (e)) may tt (refl, refl) tt tt (leaves_calls seen.state.seats);
-      right = tt;
-      in_time = record { in_time = tt; counted = tt; retries = after.retries; undisturbed = tt; due = tt; tries_on = tt };
-      good = after;
-    }
+module _ {W V C L A : Type 0} (m : Machine W V C L A) where
+  -- where the owner has the lock to itself, its move is open
+  pub none_owns : (seen : Seen W V C L) → is_owners m seen.state ≡ false → m.owned ≡ true → IsOwners seen → ⊥
+  none_owns seen closed owned all =
+      true≢false (sym (and_from m.owned (list_all yields_to_owner seen.state.seats) owned
+      (all-from yields_to_owner seen.state.seats (λ q x e. yields seen.plain q x (subst (YieldsToOwner seen.plain q) e (all q))))) ∙ closed)
 
-owner_writes_kept : {W V C L A : Type 0} (m : Machine W V C L A) (k : LocalInvariant V C L) (f : Facts m k) (seen : Seen W V C L) (p : ℕ) (v : V) (y : Seat C L) (o : Option V)
-    → Invariant m k seen → is_owners m seen.state ≡ true → seen.state.value ≡ o → Preserved m k (scene_of seen p (OwnerSet v) (Some y) (owner_writes seen.state v o) None step_kind.plain None)
-owner_writes_kept {C = C} {A = A} m k f seen p v y None good may found =
-    let after = good_let_go m k seen seen.state.value seen.written good good.shape good.written in
-    record {
-      keeps = keeps_from m k f _ after tt tt (λ r e. cc (e, good.written, found)) (owners m k seen good may) (λ e. cc (e)) may tt (subst (λ old. ComesTo {C = C} {A = A} (OwnerSet v) None old seen.state.value (outcome.Value None)) (sym found) (refl, found)) tt tt (leaves_calls seen.state.seats);
-      right = tt;
-      in_time = record { in_time = tt; counted = tt; retries = after.retries; undisturbed = tt; due = tt; tries_on = tt };
-      good = after;
-    }
-owner_writes_kept {C = C} {A = A} m k f seen p v y (Some old) good may found =
-    let after = good_let_go m k seen (Some v) (Some v) good (f.shape_set seen.plain old v (subst (λ o. k.Shape seen.plain o) found good.shape)) refl in
-    record {
-      keeps = keeps_from m k f _ after tt tt (λ r e. absurd (cc (e))) (owners m k seen good may) (λ e. cc (e)) may tt (subst (λ o. ComesTo {C = C} {A = A} (OwnerSet v) None o (Some v) outcome.Written) (sym found) (refl, refl)) tt tt (leaves_calls seen.state.seats);
-      right = tt;
-      in_time = record { in_time = tt; counted = tt; retries = after.retries; undisturbed = tt; due = tt; tries_on = tt };
-      good = after;
-    }
+  module _ (k : LocalInvariant V C L) (f : Facts m k) where
+    let_go_party : (seen : Seen W V C L) (q : ℕ) (o : Option (Seat C L)) → OfParty m k seen.state.words seen.plain q (seen.span q) o
+        → OfParty m k seen.state.words seen.plain q (seen.span q) (option_map seen_by_owner o)
+    let_go_party seen q (Some (Leaked h)) is = record { stands = is.stands; knows = tt; retries = is.retries; undisturbed = tt }
+    let_go_party seen q _ is = is
 
-pub owner_set_kept : {W V C L A : Type 0} (m : Machine W V C L A) (k : LocalInvariant V C L) (f : Facts m k) (seen : Seen W V C L) (p : ℕ) (v : V) (y : Seat C L) (b : Bool)
-    → Invariant m k seen → is_owners m seen.state ≡ b → Preserved m k (scene_of seen p (OwnerSet v) (Some y) (owner_sets seen.state v b) None step_kind.plain None)
-owner_set_kept m k f seen p v y false good may = skip_kept m k f seen p (OwnerSet v) (Some y) good may (none_owns m seen may)
-owner_set_kept m k f seen p v y true good may = owner_writes_kept m k f seen p v y seen.state.value good may refl
+    module _ (seen : Seen W V C L) (p : ℕ) (good : Invariant m k seen) where
+      good_let_go : (v wr : Option V) → k.Shape seen.plain v → v ≡ wr
+          → Invariant m k (record { state = let_go (record seen.state { value = v }); plain = seen.plain; span = seen.span; written = wr })
+      good_let_go v wr shape written =
+          record {
+            encodes = good.encodes;
+            shape = shape;
+            exclusive = good.exclusive;
+            written = written;
+            parties = λ q. rw (slice_get-map seen_by_owner seen.state.seats q) (let_go_party seen q (slice_get seen.state.seats q) (good.parties q));
+          }
+
+      owns : is_owners m seen.state ≡ true → IsOwners seen
+      owns may = λ q.
+          yields_at seen.plain q (seen.span q) (slice_get seen.state.seats q) (good.parties q).stands
+          (λ x e. all-get yields_to_owner seen.state.seats q x (and_parts m.owned (list_all yields_to_owner seen.state.seats) may).1 e)
+
+      pub owner_get_kept : (y : Seat C L) → is_owners m seen.state ≡ true
+          → Preserved m k (scene_of seen p OwnerGet (Some y) (owner_gets seen.state true) None step_kind.plain None)
+      owner_get_kept y may =
+          kept_aside m k f _ (good_let_go seen.state.value seen.written good.shape good.written) (tt, tt, tt, tt, tt, tt, tt, tt, tt, tt) (λ r e. cc (e, good.written)) (owns may)
+          (λ e. cc (e)) may refl (refl, refl) tt (leaves_calls seen.state.seats)
+
+      owner_writes_kept : (v : V) (y : Seat C L) (o : Option V) → is_owners m seen.state ≡ true → seen.state.value ≡ o
+          → Preserved m k (scene_of seen p (OwnerSet v) (Some y) (owner_writes seen.state v o) None step_kind.plain None)
+      owner_writes_kept v y None may found =
+          kept_aside m k f _ (good_let_go seen.state.value seen.written good.shape good.written) (tt, tt, tt, tt, tt, tt, tt, tt, tt, tt) (λ r e. cc (e, good.written, found)) (owns may)
+          (λ e. cc (e)) may refl (subst (λ old. ComesTo {C = C} {A = A} (OwnerSet v) None old seen.state.value (outcome.Value None)) (sym found) (refl, found)) tt (leaves_calls seen.state.seats)
+      owner_writes_kept v y (Some old) may found =
+          kept_aside m k f _ (good_let_go (Some v) (Some v) (f.shape_set seen.plain old v (subst (k.Shape seen.plain) found good.shape)) refl)
+          (tt, tt, tt, tt, tt, tt, tt, tt, tt, tt) (λ r e. absurd (cc (e))) (owns may) (λ e. cc (e)) may refl
+          (subst (λ o. ComesTo {C = C} {A = A} (OwnerSet v) None o (Some v) outcome.Written) (sym found) (refl, refl)) tt (leaves_calls seen.state.seats)
+
+      pub owner_set_kept : (v : V) (y : Seat C L) → is_owners m seen.state ≡ true
+          → Preserved m k (scene_of seen p (OwnerSet v) (Some y) (owner_sets seen.state v true) None step_kind.plain None)
+      owner_set_kept v y may = owner_writes_kept v y seen.state.value may refl

@@ -20,12 +20,12 @@ use Rattle.spin_world_core.specs.Acts.{number_at, Act, load, load_if, load_for, 
 use Rattle.spin_world_core.specs.Operations.{performed}
 use Rattle.spin_world_core.specs.Schedules.{placed}
 use Rattle.spin_world_core.specs.Values.{HasPhase, Gives}
-use Rattle.spin_world_core.proofs.Facts.{AnswersWithin, InCall, NextIs, NextGives, GoesOnOpen, ContinuesCounted, StepIs, Facts}
+use Rattle.spin_world_core.proofs.Facts.{AnswersWithin, InCall, NextIs, NextGives, GoesOnOpen, ContinuesCounted, PointFacts, Facts}
 use Rattle.spin_world_core.proofs.Operating.{fits_change, fits_made, counted_of, stepwise_of}
 use Rattle.spin_world_core.proofs.Spans.{own-mine, retries-mine}
 use Rattle.spin_world_core.proofs.Stands.{entries_at, stand_of, held_at, stand-mine}
 use Rattle.spin_world_core.proofs.Rows.{Opened, OwesRight, Branch, goes, finds_open, loses, misses, Branched, may_spend, may_try, no_try, tries_open, need, need_of, Needs, rests, peeks, needs-mine, needs_first, rests_undue, spent-mine, goes_within, ends_within, ends_owed, any_map, moment_of, weak_moment_of, Row, IsSound, sound_at, Expects, expects-mine, none_spent, none_expected, known-other, SoundAt}
-use Rattle.spin_world_core.proofs.Shapes.{Notes, is_answer, row_of, KnowsRow, keeping_of, call_of, At, AtRow, Means, FindsAnother, FollowsRow, Follows, Owes, OwesRow, goes_by, answers_by, AnswersRow, BeginsRow, BeginsAt, sure_by, aim_by, aim_of, aimed, aimed_at, Pays}
+use Rattle.spin_world_core.proofs.Shapes.{Notes, is_answer, row_of, KnowsRow, keeping_of, call_of, At, Means, FindsAnother, FollowsRow, Follows, Owes, OwesRow, goes_by, answers_by, AnswersRow, BeginsRow, BeginsAt, sure_by, aim_by, aim_of, aimed, aimed_at, Pays}
 
 -- a step that completes no closure leaves the value last written
 pub uncompleted : {V : Type 0} (old put : Option V) (step : Option Change) → ((q : ℕ) → step ≡ Some (completes q) → ⊥) → old ≡ if_completed old put step
@@ -93,6 +93,19 @@ no_retry false = refl
 abbrev move_of : {C V : Type 0} → Bool → Move C V
 move_of true = Weak
 move_of false = Step
+
+-- what an object that pays shows at a point of a call, whatever value lies there
+pub record Shown {W V C L A : Type 0} (t : Table W V C L A) (n : Notes t) (p : ℕ) (c : C) (l : L) (h : Option Hold) (s : Plain) (w : W) (span : List Mark) : Type 0 where
+  pub can : can_by t.memory (t.word l) (t.act c l h) w ≡ true
+  pub went : Went t n p c h s span (step_by t.memory (t.word l) (t.act c l h) w) (change_by t.memory (t.word l) (t.act c l h) p w) (by_step (step_kind_by (t.asks c h) (t.act c l h)))
+  pub refusal : (next : Next L A) → refusal_by (t.act c l h) ≡ Some next
+      → NextIs (machine_of t) (keeping_of t n) Weak p c h s (mark_of p None weak s ∷ span) next × (may_be_weak (t.asks c h) ≡ true) × (own p span ≡ before_weakly (t.asks c h) p)
+  pub counted : ContinuesCounted (λ u. change_by t.memory (t.word l) (t.act c l h) p u) s (step_by {V = V} t.memory (t.word l) (t.act c l h) w).next
+      (change_by t.memory (t.word l) (t.act c l h) p w) (by_step (step_kind_by (t.asks c h) (t.act c l h)))
+  pub due : Gets t.lock_kind p (t.asks c h) span s (change_by t.memory (t.word l) (t.act c l h) p w) (by_step (step_kind_by (t.asks c h) (t.act c l h)))
+  pub tries_on : (ask : Ask) → t.asks c h ≡ tries ask → own p span ≡ []
+      → GoesOnOpen ask p span s (step_by {V = V} t.memory (t.word l) (t.act c l h) w).next (change_by t.memory (t.word l) (t.act c l h) p w)
+  pub soon : is_open_now p (t.asks c h) span s ≡ true → answers_by t (steps_alone t.lock_kind (t.asks c h)) w c l h ≡ true
 
 module _ {W V C L A : Type 0} (t : Table W V C L A) (n : Notes t) (sound_all : (p : ℕ) (c : C) (l : L) (h : Option Hold) → SoundAt t.lock_kind (t.asks c h) p (n.point c l h)) where
   first_is : (w : W) (s : Plain) → t.memory.numbers w ≡ encoded t.lock_kind s → number_at t.memory 0 w ≡ first_word t.lock_kind s
@@ -365,27 +378,36 @@ module _ {W V C L A : Type 0} (t : Table W V C L A) (n : Notes t) (sound_all : (
       tries_is i (store can operation step next) aim owes = made_on next (step p)
       tries_is i (section can f step won lost) aim owes = exchanged_on (λ u. u) plain (f w) (step p) (won w) (lost w) owes.1 owes.3
 
-  -- at a point, which has a row
-  module _ (p : ℕ) (c : C) (l : L) (h : Option Hold) (s : Plain) (w : W) (span : List Mark) where
-    pub here_at : (o : Option Row) → t.memory.numbers w ≡ encoded t.lock_kind s → n.Shape s → IsExclusive s → failures p span ≤ changes t.lock_kind p span → KnowsRow t n c l h p s span o → AtRow t n p c l h s w span o
-    here_at None encodes shape exclusive retries knows = knows
-    here_at (Some row) encodes shape exclusive retries knows = record { encodes = encodes; shape = shape; exclusive = exclusive; known = knows.0; knows = knows.1; retries = retries }
+    abbrev Soon : Option Row → Type 0
+    Soon o = AnswersRow t n p (call_of t n c) l h s w span (answers_by t (steps_alone t.lock_kind (t.asks c h)) w c l h) (is_waiting (t.asks c h)) o
 
-    abbrev Aims : Row → Type 0
-    Aims row = Aimed (t.asks c h) (t.act c l h) (row.made p) p
-
-    -- what is so at its row is so there
-    pub at_row : (P : Type 0) → ((row : Row) → At t n p c l h s w span row → IsSound t.lock_kind (t.asks c h) p (Some row) → Owes t n p (call_of t n c) h s w span row (t.word l) (t.act c l h) → Aims row → P)
-        → (o : Option Row) → IsSound t.lock_kind (t.asks c h) p o → AtRow t n p c l h s w span o → OwesRow t n p (call_of t n c) l h s w span o → aim_by (t.asks c h) (t.act c l h) p ≡ aimed_at p (t.asks c h) o (aim_by (t.asks c h) (t.act c l h) p) → P
-    at_row P f None sound at owes aims = absurd at
-    at_row P f (Some row) sound at owes aims = f row at sound (owes at) aims
-
-    pub soon_at : (o : Option Row) → AtRow t n p c l h s w span o → AnswersRow t n p (call_of t n c) l h s w span (answers_by t (steps_alone t.lock_kind (t.asks c h)) w c l h) (is_waiting (t.asks c h)) o → is_open_now p (t.asks c h) span s ≡ true → answers_by t (steps_alone t.lock_kind (t.asks c h)) w c l h ≡ true
-    soon_at None at soon may = absurd at
-    soon_at (Some row) at soon may =
+    soon_is : Soon (Some row) → is_open_now p (t.asks c h) span s ≡ true → answers_by t (steps_alone t.lock_kind (t.asks c h)) w c l h ≡ true
+    soon_is soon may =
         let waits = waits_where (t.asks c h) (is_empty (own p span)) (arrived p span) p s may in
         let owed = subst (λ b. AnswersRow t n p (call_of t n c) l h s w span (answers_by t (steps_alone t.lock_kind (t.asks c h)) w c l h) b (Some row)) waits soon in
         owed at (subst (λ (cs : List Change). is_open_next (t.asks c h) (is_empty cs) (arrived p span) p s ≡ true) at.known.made may)
+
+    due_at : Aimed (t.asks c h) (t.act c l h) (row.made p) p → Owes t n p (call_of t n c) h s w span row (t.word l) (t.act c l h)
+        → Gets t.lock_kind p (t.asks c h) span s (change_by t.memory (t.word l) (t.act c l h) p w) (by_step (step_kind_by (t.asks c h) (t.act c l h)))
+    due_at aims owes ask aim =
+        let act = t.act c l h in
+        let is = subst (λ cs. goes_for (t.asks c h) cs ≡ Some ask) at.known.made aim in
+        let way = way_of t.lock_kind (t.asks c h) (row.made p) in
+        subst (λ cs. let way = way_of t.lock_kind (t.asks c h) cs in (is_due_by way p span ≡ true → is_open_to s p ask ≡ true → change_by t.memory (t.word l) act p w ≡ Some (gets p ask)) × LooksElse way p span (by_step (step_kind_by (t.asks c h) act))) (sym at.known.made)
+        (gets_is (t.word l) act ask way (goes_waiting (t.asks c h) (row.made p) ask is) (subst (λ o. Needs (need o way (rests act) (peeks act)) p span) is at.known.needs) (aims_sure (t.asks c h) act (row.made p) ask p is aims) owes)
+
+    shown : ((d : Change) → makes_by (t.act c l h) p ≡ Some d → is_step_of t.lock_kind d ≡ true) → Owes t n p (call_of t n c) h s w span row (t.word l) (t.act c l h)
+        → Aimed (t.asks c h) (t.act c l h) (row.made p) p → Soon (Some row) → Shown t n p c l h s w span
+    shown fits owes aims soon =
+        record {
+          can = can_is (t.word l) (t.act c l h) owes;
+          went = step_is (t.word l) (t.act c l h) fits at.known.expects owes;
+          refusal = λ next is. refusal_is (t.word l) (t.act c l h) next owes is;
+          counted = counted_is (t.word l) (t.act c l h) owes;
+          due = due_at aims owes;
+          tries_on = λ ask is none. tries_is ask is (t.word l) (t.act c l h) (aims_try (t.asks c h) (t.act c l h) (row.made p) ask p is (sym at.known.made ∙ none) aims) owes;
+          soon = soon_is soon;
+        }
 
   pub others_at : (p q : ℕ) (c : C) (l : L) (h : Option Hold) (s : Plain) (step : Option Change) (r : StepKind) (span : List Mark) (o : Option Row) → (q ≡ p → ⊥) → IsOpenStep s q step
       → (n.Knows c l h p s span → n.Knows c l h p (apply_some s step) (mark_of q step r s ∷ span)) → KnowsRow t n c l h p s span o → KnowsRow t n c l h p (apply_some s step) (mark_of q step r s ∷ span) o
@@ -406,46 +428,22 @@ module _ {W V C L A : Type 0} (t : Table W V C L A) (n : Notes t) (sound_all : (
     begins.3,
   )
 
--- what an object that pays shows at a point of a call, whatever lies there
-module _ {W V C L A : Type 0} (t : Table W V C L A) (n : Notes t) (pays : Pays t n) (p : ℕ) (c : C) (l : L) (h : Option Hold) (s : Plain) (w : W) (span : List Mark) where
-  module _ (encodes : t.memory.numbers w ≡ encoded t.lock_kind s) (shape : n.Shape s) (exclusive : IsExclusive s) (retries : failures p span ≤ changes t.lock_kind p span) (knows : KnowsRow t n c l h p s span (row_of t n c l h)) where
-    here : AtRow t n p c l h s w span (row_of t n c l h)
-    here = here_at t n pays.sound p c l h s w span (row_of t n c l h) encodes shape exclusive retries knows
+module _ {W V C L A : Type 0} (t : Table W V C L A) (n : Notes t) (pays : Pays t n) (p : ℕ) (c : C) (l : L) (h : Option Hold) (s : Plain) where
+  module _ (w : W) (span : List Mark) (encodes : t.memory.numbers w ≡ encoded t.lock_kind s) (shape : n.Shape s) (exclusive : IsExclusive s) (retries : failures p span ≤ changes t.lock_kind p span) where
+    shown_at : (o : Option Row) → KnowsRow t n c l h p s span o → IsSound t.lock_kind (t.asks c h) p o → OwesRow t n p (call_of t n c) l h s w span o
+        → aim_by (t.asks c h) (t.act c l h) p ≡ aimed_at p (t.asks c h) o (aim_by (t.asks c h) (t.act c l h) p)
+        → AnswersRow t n p (call_of t n c) l h s w span (answers_by t (steps_alone t.lock_kind (t.asks c h)) w c l h) (is_waiting (t.asks c h)) o → Shown t n p c l h s w span
+    shown_at None knows sound owes aims soon = absurd knows
+    shown_at (Some row) knows sound owes aims soon =
+        let at : At t n p c l h s w span row = record { encodes = encodes; shape = shape; exclusive = exclusive; known = knows.0; knows = knows.1; retries = retries } in
+        shown t n pays.sound p c l h s w span row at sound (λ d is. (fits_made t.lock_kind (t.asks c h) _ _ d (and_parts _ _ (pays.fits p c l h)).0 is).0) (owes at) aims soon
 
-    by_row : (P : Type 0) → ((row : Row) → At t n p c l h s w span row → IsSound t.lock_kind (t.asks c h) p (Some row) → Owes t n p (call_of t n c) h s w span row (t.word l) (t.act c l h) → Aims t n pays.sound p c l h s w span row → P) → P
-    by_row P f = at_row t n pays.sound p c l h s w span P f (row_of t n c l h) (sound_at t.lock_kind (t.asks c h) h p (n.point c l h) (pays.sound p c l h)) here (pays.owes p c l h s w span) (pays.aims p c l h)
+    pub shown_here : KnowsRow t n c l h p s span (row_of t n c l h) → Shown t n p c l h s w span
+    shown_here knows = shown_at (row_of t n c l h) knows (sound_at t.lock_kind (t.asks c h) h p (n.point c l h) (pays.sound p c l h)) (pays.owes p c l h s w span) (pays.aims p c l h) (pays.soon p c l h s w span)
 
-    pub went_here : Went t n p c h s span (step_by t.memory (t.word l) (t.act c l h) w) (change_by t.memory (t.word l) (t.act c l h) p w) (by_step (step_kind_by (t.asks c h) (t.act c l h)))
-    went_here = by_row _ (λ row at sound owes aims. step_is t n pays.sound p c l h s w span row at sound (t.word l) (t.act c l h) (λ d is. (fits_made t.lock_kind (t.asks c h) _ _ d (and_parts _ _ (pays.fits p c l h)).0 is).0) at.known.expects owes)
-
-    pub can_here : can_by t.memory (t.word l) (t.act c l h) w ≡ true
-    can_here = by_row _ (λ row at sound owes aims. can_is t n pays.sound p c l h s w span row at sound (t.word l) (t.act c l h) owes)
-
-    pub refusal_here : (next : Next L A) → refusal_by (t.act c l h) ≡ Some next → NextIs (machine_of t) (keeping_of t n) Weak p c h s (mark_of p None weak s ∷ span) next × (may_be_weak (t.asks c h) ≡ true) × (own p span ≡ before_weakly (t.asks c h) p)
-    refusal_here next is = by_row _ (λ row at sound owes aims. refusal_is t n pays.sound p c l h s w span row at sound (t.word l) (t.act c l h) next owes is)
-
-    pub counted_here : ContinuesCounted (λ u. change_by t.memory (t.word l) (t.act c l h) p u) s (step_by {V = V} t.memory (t.word l) (t.act c l h) w).next (change_by t.memory (t.word l) (t.act c l h) p w) (by_step (step_kind_by (t.asks c h) (t.act c l h)))
-    counted_here = by_row _ (λ row at sound owes aims. counted_is t n pays.sound p c l h s w span row at sound (t.word l) (t.act c l h) owes)
-
-    pub due_here : Gets t.lock_kind p (t.asks c h) span s (change_by t.memory (t.word l) (t.act c l h) p w) (by_step (step_kind_by (t.asks c h) (t.act c l h)))
-    due_here ask aim = by_row _ (λ row at sound owes aims.
-        let is = subst (λ cs. goes_for (t.asks c h) cs ≡ Some ask) at.known.made aim in
-        let way = way_of t.lock_kind (t.asks c h) (row.made p) in
-        let act = t.act c l h in
-        subst (λ cs. let way = way_of t.lock_kind (t.asks c h) cs in (is_due_by way p span ≡ true → is_open_to s p ask ≡ true → change_by t.memory (t.word l) act p w ≡ Some (gets p ask)) × LooksElse way p span (by_step (step_kind_by (t.asks c h) act))) (sym at.known.made)
-        (gets_is t n pays.sound p c l h s w span row at sound (t.word l) act ask way (goes_waiting (t.asks c h) (row.made p) ask is) (subst (λ o. Needs (need o way (rests act) (peeks act)) p span) is at.known.needs) (aims_sure (t.asks c h) act (row.made p) ask p is aims) owes))
-
-    pub tries_here : (ask : Ask) → t.asks c h ≡ tries ask → own p span ≡ [] → GoesOnOpen ask p span s (step_by {V = V} t.memory (t.word l) (t.act c l h) w).next (change_by t.memory (t.word l) (t.act c l h) p w)
-    tries_here ask is none = by_row _ (λ row at sound owes aims.
-        tries_is t n pays.sound p c l h s w span row at sound ask is (t.word l) (t.act c l h)
-        (aims_try (t.asks c h) (t.act c l h) (row.made p) ask p is (sym at.known.made ∙ none) aims) owes)
-
-    pub soon_here : is_open_now p (t.asks c h) span s ≡ true → answers_by t (steps_alone t.lock_kind (t.asks c h)) w c l h ≡ true
-    soon_here may = soon_at t n pays.sound p c l h s w span (row_of t n c l h) here (pays.soon p c l h s w span) may
-
-  pub others_here : (q : ℕ) (step : Option Change) (r : StepKind) → (q ≡ p → ⊥) → n.Shape s → IsOpenStep s q step → BelongsTo t.lock_kind step → KnowsRow t n c l h p s span (row_of t n c l h)
+  pub others_here : (span : List Mark) (q : ℕ) (step : Option Change) (r : StepKind) → (q ≡ p → ⊥) → n.Shape s → IsOpenStep s q step → BelongsTo t.lock_kind step → KnowsRow t n c l h p s span (row_of t n c l h)
       → KnowsRow t n c l h p (apply_some s step) (mark_of q step r s ∷ span) (row_of t n c l h)
-  others_here q step r ne shape may belongs knows = others_at t n pays.sound p q c l h s step r span (row_of t n c l h) ne may (pays.others p q c l h s step r span ne shape may belongs) knows
+  others_here span q step r ne shape may belongs knows = others_at t n pays.sound p q c l h s step r span (row_of t n c l h) ne may (pays.others p q c l h s step r span ne shape may belongs) knows
 
   pub begins_here : begin_of t c h ≡ Some l → entries p s ≡ entries_held p h → KnowsRow t n c l h p s [] (row_of t n c l h)
   begins_here e mine = begins_at t n pays.sound p c l h s (row_of t n c l h) mine (subst (BeginsAt t n c h p s) e (pays.begins p c h s))
@@ -458,19 +456,31 @@ module _ {W V C L A : Type 0} (t : Table W V C L A) (n : Notes t) (pays : Pays t
   silent v (Continue l) = tt
   silent v (Answers a after) = gives_none t.lock_kind.makes_value (t.says a) None v no_value
 
-  module _ (p : ℕ) (c : C) (l : L) (h : Option Hold) (s : Plain) (v : Option V) (w : W) (span : List Mark) (here : InCall (machine_of t) (keeping_of t n) p c l h s v w span) where
-    step_here : StepIs (machine_of t) (keeping_of t n) p c h s v span (step_by t.memory (t.word l) (t.act c l h) w) (change_by t.memory (t.word l) (t.act c l h) p w) (by_step (step_kind_by (t.asks c h) (t.act c l h)))
-    step_here =
-        let went = went_here t n pays p c l h s w span here.encodes here.shape here.exclusive here.retries here.knows in
-        record {
-          opens = went.opens;
-          belongs = went.belongs;
-          encodes = went.encodes;
-          shape = went.shape;
-          places = ap (λ o. placed o v) went.unplaced ∙ uncompleted v _ _ (λ q is. no_completion p c l h w q is);
-          next = went.next;
-          fails = went.fails;
-        }
+  at_point : (p : ℕ) (c : C) (l : L) (h : Option Hold) (s : Plain) (v : Option V) (w : W) (span : List Mark) → InCall (machine_of t) (keeping_of t n) p c l h s v w span
+      → PointFacts (machine_of t) (keeping_of t n) p c l h s v w span
+  at_point p c l h s v w span here =
+      let is = shown_here t n pays p c l h s w span here.encodes here.shape here.exclusive here.retries here.knows in
+      record {
+        can = is.can;
+        step = record {
+          opens = is.went.opens;
+          belongs = is.went.belongs;
+          encodes = is.went.encodes;
+          shape = is.went.shape;
+          places = ap (λ o. placed o v) is.went.unplaced ∙ uncompleted v _ _ (λ q is. no_completion p c l h w q is);
+          next = is.went.next;
+          fails = is.went.fails;
+        };
+        counted = is.counted;
+        due = is.due;
+        tries_on = is.tries_on;
+        undisturbed = λ may. answers_within t n pays.sound (steps_alone t.lock_kind (t.asks c h)) w c l h (is.soon may);
+        completes_alone = λ q is. absurd (no_completion p c l h w q is);
+        refuses = λ next e. (is.refusal next e).0;
+        weakly = λ next e. let may = is.refusal next e in (may.1, may.2);
+        values = record { brings = λ q is. absurd (no_completion p c l h w q is); gives = silent _ (step_by t.memory (t.word l) (t.act c l h) w).next };
+        refusal_gives = λ next e. silent v next;
+      }
 
   pub facts_of : Facts (machine_of t) (keeping_of t n)
   facts_of =
@@ -482,18 +492,8 @@ module _ {W V C L A : Type 0} (t : Table W V C L A) (n : Notes t) (pays : Pays t
         one_list = λ s v shape. pays.one_list s shape;
         shape_written = λ s p old v writes shape. shape;
         shape_set = λ s old v shape. shape;
-        begins = λ p c l h s e mine. begins_here t n pays p c l h s t.words [] e mine;
-        others = λ p q c l h s v step r span ne shape exclusive may belongs knows. others_here t n pays p c l h s t.words span q step r ne shape may belongs knows;
-        can = λ p c l h s v w span here. can_here t n pays p c l h s w span here.encodes here.shape here.exclusive here.retries here.knows;
-        steps = step_here;
-        counted = λ p c l h s v w span here. counted_here t n pays p c l h s w span here.encodes here.shape here.exclusive here.retries here.knows;
-        due = λ p c l h s v w span here. due_here t n pays p c l h s w span here.encodes here.shape here.exclusive here.retries here.knows;
-        tries_on = λ p c l h s v w span here. tries_here t n pays p c l h s w span here.encodes here.shape here.exclusive here.retries here.knows;
-        completes_alone = λ p c l h s v w span here q is. absurd (no_completion p c l h w q is);
-        undisturbed = λ p c l h s v w span here may. answers_within t n pays.sound (steps_alone t.lock_kind (t.asks c h)) w c l h (soon_here t n pays p c l h s w span here.encodes here.shape here.exclusive here.retries here.knows may);
-        refuses = λ p c l h s v w span next here is. (refusal_here t n pays p c l h s w span here.encodes here.shape here.exclusive here.retries here.knows next is).0;
-        weakly = λ p c l h s v w span next here is. let may = refusal_here t n pays p c l h s w span here.encodes here.shape here.exclusive here.retries here.knows next is in (may.1, may.2);
         phase = λ s v shape. phase_none t.lock_kind.makes_value s.phase v no_value;
-        values = λ p c l h s v w span here. record { brings = λ q is. absurd (no_completion p c l h w q is); gives = silent _ (step_by t.memory (t.word l) (t.act c l h) w).next };
-        refusal_gives = λ p c l h s v w span next here is. silent v next;
+        begins = λ p c l h s e mine. begins_here t n pays p c l h s e mine;
+        others = λ p q c l h s v step r span ne shape exclusive may belongs knows. others_here t n pays p c l h s span q step r ne shape may belongs knows;
+        at = at_point;
       }

@@ -12,13 +12,12 @@ use Rattle.spin_world_core.specs.Machines.{Machine}
 use Rattle.spin_world_core.specs.Schedules.{State, Happened, happens, after, events_of, with_begins, last_begin, begin_of, begins_after, with_begin, is_begun, at_first}
 use Rattle.spin_world_core.specs.Runs.{CanStep, CanAlways, IsReached}
 use Rattle.spin_world_core.proofs.Lists.{get-set_within, get-set_other, take_next}
-use Rattle.spin_world_core.proofs.Schedules.{after-append, events_of-append, length-events_of, with_begins_more, last_begin_more, stranger, length-happens}
+use Rattle.spin_world_core.proofs.Schedules.{after-append, events_of-append, length-events_of, with_begins-append, last_begin-append, stranger, length-happens}
 
-pub record Played {W V C L A : Type 0} (m : Machine W V C L A) (from now : State W V C L) (begins : List (Option ℕ)) (events : List (Event W V A)) (front : List (ℕ × Move C V)) : Type 0 where
-  pub table : now ≡ after m from front
-  pub with_begins_so : events ≡ with_begins [] (events_of m from front)
-  pub begun_so : (p : ℕ) → begin_of begins p ≡ last_begin p 0 None (events_of m from front)
-  pub parties : length begins ≡ length now.seats
+-- nobody's call has begun
+none_begun : (begins : List (Option ℕ)) (p : ℕ) → begin_of (map (λ b. None) begins) p ≡ None
+none_begun (b ∷ bs) (suc p) = none_begun bs p
+none_begun _ _ = refl
 
 begun_at : (begins : List (Option ℕ)) (p q k : ℕ) (old : Option ℕ) → p < length begins → begin_of begins q ≡ old
     → begin_of (slice_set begins p (Some k)) q ≡ (if (p == q) && true then Some k else old)
@@ -32,9 +31,8 @@ never : (b : Bool) (n old : Option ℕ) → old ≡ (if b && false then n else o
 never true n old = refl
 never false n old = refl
 
-begun_more : {V A : Type 0} (begins : List (Option ℕ)) (p q k : ℕ) (old : Option ℕ) (o : Outcome A V)
-    → (is_begun o ≡ true → p < length begins) → begin_of begins q ≡ old
-    → begin_of (begins_after begins p k o) q ≡ (if (p == q) && is_begun o then Some k else old)
+begun_more : {V A : Type 0} (begins : List (Option ℕ)) (p q k : ℕ) (old : Option ℕ) (o : Outcome A V) → (is_begun o ≡ true → p < length begins)
+    → begin_of begins q ≡ old → begin_of (begins_after begins p k o) q ≡ (if (p == q) && is_begun o then Some k else old)
 begun_more begins p q k old outcome.Begun lt e = begun_at begins p q k old (lt refl) e
 begun_more begins p q k old _ lt e = e ∙ never (p == q) (Some k) old
 
@@ -42,77 +40,73 @@ length-begins_after : {V A : Type 0} (begins : List (Option ℕ)) (p k : ℕ) (o
 length-begins_after begins p k outcome.Begun = length-set begins p (Some k)
 length-begins_after begins p k _ = refl
 
--- only a party that exists begins a call
-begins_within : {W V C L A : Type 0} (m : Machine W V C L A) (s : State W V C L) (p : ℕ) (move : Move C V) → is_begun (happens m s p move).outcome ≡ true → p < length s.seats
-begins_within m s p move e =
-    ⊎_elim (λ (lt : p < length s.seats). lt) (λ (ge : length s.seats ≤ p). absurd (true≢false (sym e ∙ ap is_begun (stranger m s p move ge)))) (cases_lt p (length s.seats))
+module _ {W V C L A : Type 0} (m : Machine W V C L A) where
+  pub record Played (from now : State W V C L) (begins : List (Option ℕ)) (events : List (Event W V A)) (front : List (ℕ × Move C V)) : Type 0 where
+    pub table : now ≡ after m from front
+    pub with_begins_so : events ≡ with_begins [] (events_of m from front)
+    pub begun_so : (p : ℕ) → begin_of begins p ≡ last_begin p 0 None (events_of m from front)
+    pub parties : length begins ≡ length now.seats
 
--- nobody's call has begun
-none_begun : (begins : List (Option ℕ)) (p : ℕ) → begin_of (map (λ b. None) begins) p ≡ None
-none_begun (b ∷ bs) (suc p) = none_begun bs p
-none_begun _ _ = refl
+  -- only a party that exists begins a call
+  begins_within : (s : State W V C L) (p : ℕ) (move : Move C V) → is_begun (happens m s p move).outcome ≡ true → p < length s.seats
+  begins_within s p move e =
+      ⊎_elim (λ (lt : p < length s.seats). lt) (λ (ge : length s.seats ≤ p). absurd (true≢false (sym e ∙ ap is_begun (stranger m s p move ge)))) (cases_lt p (length s.seats))
 
-pub forgotten : {W V C L A : Type 0} (m : Machine W V C L A) (s : State W V C L) (begins now : List (Option ℕ)) → now ≡ map (λ b. None) begins → length begins ≡ length s.seats → Played {A = A} m s s now [] []
-forgotten m s begins now is parties =
-    record { table = refl; with_begins_so = refl; begun_so = λ p. ap (λ bs. begin_of bs p) is ∙ none_begun begins p; parties = ap length is ∙ (length-map begins (λ b. None) ∙ parties) }
+  pub forgotten : (s : State W V C L) (begins now : List (Option ℕ)) → now ≡ map (λ b. None) begins → length begins ≡ length s.seats → Played s s now [] []
+  forgotten s begins now is parties =
+      record { table = refl; with_begins_so = refl; begun_so = λ p. ap (λ bs. begin_of bs p) is ∙ none_begun begins p; parties = ap length is ∙ (length-map begins (λ b. None) ∙ parties) }
 
-played_at : {W V C L A : Type 0} (m : Machine W V C L A) (from : State W V C L) (begins : List (Option ℕ)) (events : List (Event W V A)) (front : List (ℕ × Move C V)) (p : ℕ) (move : Move C V)
-    → Played m from (after m from front) begins events front
-    → (h : Happened W V C L A) → h ≡ happens m (after m from front) p move
-    → Played m from h.next (begins_after begins p (length front) h.outcome) (events ++ record { party = p; outcome = with_begin (begin_of begins p) h.outcome; words = h.next.words } ∷ []) (front ++ (p, move) ∷ [])
-played_at {W = W} {V = V} {C = C} {L = L} {A = A} m from begins events front p move played h is =
-    let all = events_of-append m from front ((p, move) ∷ []) in
-    let event : Event W V A = record { party = p; outcome = (happens m (after m from front) p move).outcome; words = (happens m (after m from front) p move).next.words } in
-    record {
-      table = ap (λ h. h.next) is ∙ sym (after-append m from front ((p, move) ∷ []));
-      with_begins_so =
-          rw (all, is, played.with_begins_so, played.begun_so p) (sym (with_begins_more [] (events_of m from front) event));
-      begun_so = λ q.
-          rw (all, last_begin_more q 0 None (events_of m from front) event, length-events_of m from front, is, zero-add)
-          (begun_more begins p q (length front) (last_begin q 0 None (events_of m from front)) (happens m (after m from front) p move).outcome
-          (λ e. omega (arith, begins_within m (after m from front) p move e, played.parties)) (played.begun_so q));
-      parties = length-begins_after begins p (length front) h.outcome ∙ (played.parties ∙ (sym (length-happens m (after m from front) p move) ∙ ap (λ (g : Happened W V C L A). length g.next.seats) (sym is)));
-    }
+  played_at : (from : State W V C L) (begins : List (Option ℕ)) (events : List (Event W V A)) (front : List (ℕ × Move C V)) (p : ℕ) (move : Move C V)
+      → Played from (after m from front) begins events front → (h : Happened W V C L A) → h ≡ happens m (after m from front) p move
+      → Played from h.next (begins_after begins p (length front) h.outcome) (events ++ record { party = p; outcome = with_begin (begin_of begins p) h.outcome; words = h.next.words } ∷ []) (front ++ (p, move) ∷ [])
+  played_at from begins events front p move played h is =
+      let all = events_of-append m from front ((p, move) ∷ []) in
+      let event : Event W V A = record { party = p; outcome = (happens m (after m from front) p move).outcome; words = (happens m (after m from front) p move).next.words } in
+      record {
+        table = ap (λ h. h.next) is ∙ sym (after-append m from front ((p, move) ∷ []));
+        with_begins_so =
+            rw (all, is, played.with_begins_so, played.begun_so p) (sym (with_begins-append [] (events_of m from front) (event ∷ [])));
+        begun_so = λ q.
+            rw (all, last_begin-append q 0 None (events_of m from front) (event ∷ []), length-events_of m from front, is, zero-add)
+            (begun_more begins p q (length front) (last_begin q 0 None (events_of m from front)) (happens m (after m from front) p move).outcome
+            (λ e. omega (arith, begins_within (after m from front) p move e, played.parties)) (played.begun_so q));
+        parties = length-begins_after begins p (length front) h.outcome ∙ (played.parties ∙ (sym (length-happens m (after m from front) p move) ∙ ap (λ (g : Happened W V C L A). length g.next.seats) (sym is)));
+      }
 
-pub played_more : {W V C L A : Type 0} (m : Machine W V C L A) (from now : State W V C L) (begins : List (Option ℕ)) (events : List (Event W V A)) (front : List (ℕ × Move C V)) (p : ℕ) (move : Move C V)
-    → Played m from now begins events front
-    → (h : Happened W V C L A) → h ≡ happens m now p move
-    → Played m from h.next (begins_after begins p (length front) h.outcome) (events ++ record { party = p; outcome = with_begin (begin_of begins p) h.outcome; words = h.next.words } ∷ []) (front ++ (p, move) ∷ [])
-played_more m from now begins events front p move played h is =
-    played_at m from begins events front p move (subst (λ s. Played m from s begins events front) played.table played) h (is ∙ ap (λ s. happens m s p move) played.table)
+  pub played_more : (from now : State W V C L) (begins : List (Option ℕ)) (events : List (Event W V A)) (front : List (ℕ × Move C V)) (p : ℕ) (move : Move C V)
+      → Played from now begins events front → (h : Happened W V C L A) → h ≡ happens m now p move
+      → Played from h.next (begins_after begins p (length front) h.outcome) (events ++ record { party = p; outcome = with_begin (begin_of begins p) h.outcome; words = h.next.words } ∷ []) (front ++ (p, move) ∷ [])
+  played_more from now begins events front p move played h is =
+      played_at from begins events front p move (subst (λ s. Played from s begins events front) played.table played) h (is ∙ ap (λ s. happens m s p move) played.table)
 
-pub played_next : {W V C L A : Type 0} (m : Machine W V C L A) (from now next : State W V C L) (begins begins' : List (Option ℕ)) (events events' : List (Event W V A))
-    (schedule : List (ℕ × Move C V)) (k : ℕ) (entry : ℕ × Move C V) (o o' : Outcome A V) (words : W)
-    → Played m from now begins events (take k schedule)
-    → k < length schedule
-    → entry ≡ get_or schedule k entry
-    → (let h : Happened W V C L A = record { outcome = o; next = next } in h ≡ happens m now entry.0 entry.1)
-    → words ≡ next.words
-    → o' ≡ with_begin (begin_of begins entry.0) o
-    → begins' ≡ begins_after begins entry.0 k o
-    → events' ≡ events ++ record { party = entry.0; outcome = o'; words = words } ∷ []
-    → Played m from next begins' events' (take (k + 1) schedule)
-played_next {V = V} {A = A} m from now next begins begins' events events' schedule k entry o o' words played lt read acted same_words told_o put added =
-    let more = played_more m from now begins events (take k schedule) entry.0 entry.1 played (record { outcome = o; next = next }) acted in
-    let front : length (take k schedule) ≡ k = length-take-le k schedule (omega arith) in
-    rw (take_next schedule k entry lt read, added, put, told_o, same_words) (rw front at more)
+  pub played_next : (from now next : State W V C L) (begins begins' : List (Option ℕ)) (events events' : List (Event W V A)) (schedule : List (ℕ × Move C V)) (k : ℕ) (entry : ℕ × Move C V) (o o' : Outcome A V) (words : W)
+      → Played from now begins events (take k schedule) → k < length schedule → entry ≡ get_or schedule k entry
+      → (let h : Happened W V C L A = record { outcome = o; next = next } in h ≡ happens m now entry.0 entry.1) → words ≡ next.words
+      → o' ≡ with_begin (begin_of begins entry.0) o → begins' ≡ begins_after begins entry.0 k o
+      → events' ≡ events ++ record { party = entry.0; outcome = o'; words = words } ∷ [] → Played from next begins' events' (take (k + 1) schedule)
+  played_next from now next begins begins' events events' schedule k entry o o' words played lt read acted same_words told_o put added =
+      let more = played_more from now begins events (take k schedule) entry.0 entry.1 played (record { outcome = o; next = next }) acted in
+      let front : length (take k schedule) ≡ k = length-take-le k schedule (omega arith) in
+      rw (take_next schedule k entry lt read, added, put, told_o, same_words) (rw front at more)
 
--- all of it has been played
-pub played_all : {W V C L A : Type 0} (m : Machine W V C L A) (from now : State W V C L) (begins : List (Option ℕ)) (events : List (Event W V A)) (schedule : List (ℕ × Move C V)) (k : ℕ)
-    → Played m from now begins events (take k schedule) → length schedule ≤ k → Played m from now begins events schedule
-played_all m from now begins events schedule k played all = subst (Played m from now begins events) (take_all k schedule all) played
+  -- all of it has been played
+  pub played_all : (from now : State W V C L) (begins : List (Option ℕ)) (events : List (Event W V A)) (schedule : List (ℕ × Move C V)) (k : ℕ)
+      → Played from now begins events (take k schedule) → length schedule ≤ k → Played from now begins events schedule
+  played_all from now begins events schedule k played all = subst (Played from now begins events) (take_all k schedule all) played
 
--- where the schedule has led so far, the next step can be taken
-pub can_next : {W V C L A : Type 0} (m : Machine W V C L A) (from now : State W V C L) (begins : List (Option ℕ)) (events : List (Event W V A)) (schedule : List (ℕ × Move C V)) (k : ℕ)
-    → Played m from now begins events (take k schedule) → CanAlways m from schedule → CanStep m now
-can_next m from now begins events schedule k played can = subst (CanStep m) (sym played.table) (can k)
+  -- where the schedule has led so far, the next step can be taken
+  pub can_next : (from now : State W V C L) (begins : List (Option ℕ)) (events : List (Event W V A)) (schedule : List (ℕ × Move C V)) (k : ℕ)
+      → Played from now begins events (take k schedule) → CanAlways m from schedule → CanStep m now
+  can_next from now begins events schedule k played can = subst (CanStep m) (sym played.table) (can k)
 
--- what a move leads to from a state that is reached is reached
-pub reached_next : {W V C L A : Type 0} (m : Machine W V C L A) (s t : State W V C L) (p : ℕ) (move : Move C V) (o : Outcome A V) → (let h : Happened W V C L A = record { outcome = o; next = t } in h ≡ happens m s p move) → IsReached m s → IsReached m t
-reached_next m s t p move o is reached =
-    ∥∥₁_map reached (λ led.
-    (led.0, led.1 ++ (p, move) ∷ [], after-append m (at_first m led.0) led.1 ((p, move) ∷ []) ∙ (ap (λ u. (happens m u p move).next) led.2 ∙ sym (ap (λ h. h.next) is))))
+  -- what a move leads to from a state that is reached is reached
+  pub reached_next : (s t : State W V C L) (p : ℕ) (move : Move C V) (o : Outcome A V)
+      → (let h : Happened W V C L A = record { outcome = o; next = t } in h ≡ happens m s p move) → IsReached m s → IsReached m t
+  reached_next s t p move o is reached =
+      ∥∥₁_map reached (λ led.
+      (led.0, led.1 ++ (p, move) ∷ [], after-append m (at_first m led.0) led.1 ((p, move) ∷ []) ∙ (ap (λ u. (happens m u p move).next) led.2 ∙ sym (ap (λ h. h.next) is))))
 
--- and has as many parties
-pub parties_next : {W V C L A : Type 0} (m : Machine W V C L A) (s t : State W V C L) (p : ℕ) (move : Move C V) (o : Outcome A V) → (let h : Happened W V C L A = record { outcome = o; next = t } in h ≡ happens m s p move) → length t.seats ≡ length s.seats
-parties_next m s t p move o is = ap (λ h. length h.next.seats) is ∙ length-happens m s p move
+  -- and has as many parties
+  pub parties_next : (s t : State W V C L) (p : ℕ) (move : Move C V) (o : Outcome A V)
+      → (let h : Happened W V C L A = record { outcome = o; next = t } in h ≡ happens m s p move) → length t.seats ≡ length s.seats
+  parties_next s t p move o is = ap (λ h. length h.next.seats) is ∙ length-happens m s p move

@@ -11,20 +11,22 @@ use Rattle.spin_world_core.specs.Users.{seen_after, FindsLastWritten, RunsJoin}
 use Rattle.spin_world_core.proofs.Every.{state-seen_after}
 use Rattle.spin_world_core.proofs.Schedules.{after-append, events_of-append}
 
-value-seen_after : {W V C L A : Type 0} (m : Machine W V C L A) (seen : Seen W V C L) (es : List (ℕ × Move C V)) → Every (Keeps m) m seen es → seen.state.value ≡ seen.written → (seen_after m seen es).state.value ≡ (seen_after m seen es).written
-value-seen_after m seen [] all is = is
-value-seen_after m seen (e ∷ es) all is = value-seen_after m (scene m seen e.0 e.1).after es all.1 all.0.value_is
+module _ {W V C L A : Type 0} (m : Machine W V C L A) where
+  value-seen_after : (seen : Seen W V C L) (es : List (ℕ × Move C V)) → Every (Keeps m) m seen es → seen.state.value ≡ seen.written
+      → (seen_after m seen es).state.value ≡ (seen_after m seen es).written
+  value-seen_after seen [] all is = is
+  value-seen_after seen (e ∷ es) all is = value-seen_after (scene m seen e.0 e.1).after es all.1 all.0.value_is
 
-pub finds_last_written : {W V C L A : Type 0} (m : Machine W V C L A) (n : ℕ) (past : List (ℕ × Move C V)) → KeepsAll m n past → FindsLastWritten m n past
-finds_last_written {W = W} {V = V} {C = C} {L = L} {A = A} m n past keeps =
-    let s = after m (at_first m n) past in
-    let value : s.value ≡ (seen_after m (opening m n) past).written = ap (λ (t : State W V C L). t.value) (sym (state-seen_after m (opening m n) past)) ∙ value-seen_after m (opening m n) past keeps.each refl in
-    let told : Option V → Outcome A V = λ v. Value v in
-    record {
-      holder = λ p h there may. ap (λ o. (moves_at m s p Read o).outcome) there ∙ (ap (λ b. (read_by {A = A} s b).outcome) may ∙ ap told value);
-      leaked = λ p h there may. ap (λ o. (moves_at m s p Read o).outcome) there ∙ (ap (λ b. (read_by {A = A} s b).outcome) may ∙ ap told value);
-      owner = λ p seat there may. ap (λ o. (moves_at m s p OwnerGet o).outcome) there ∙ (ap (λ b. (owner_gets {A = A} s b).outcome) may ∙ ap told value);
-    }
+  pub finds_last_written : (n : ℕ) (past : List (ℕ × Move C V)) → KeepsAll m n past → FindsLastWritten m n past
+  finds_last_written n past keeps =
+      let s = after m (at_first m n) past in
+      let value : s.value ≡ (seen_after m (opening m n) past).written = ap (λ (t : State W V C L). t.value) (sym (state-seen_after m (opening m n) past)) ∙ value-seen_after (opening m n) past keeps.each refl in
+      let told : Option V → Outcome A V = λ v. Value v in
+      record {
+        holder = λ p h there may. ap (λ o. (moves_at m s p Read o).outcome) there ∙ (ap (λ b. (read_by {A = A} s b).outcome) may ∙ ap told value);
+        leaked = λ p h there may. ap (λ o. (moves_at m s p Read o).outcome) there ∙ (ap (λ b. (read_by {A = A} s b).outcome) may ∙ ap told value);
+        owner = λ p seat there may. ap (λ o. (moves_at m s p OwnerGet o).outcome) there ∙ (ap (λ b. (owner_gets {A = A} s b).outcome) may ∙ ap told value);
+      }
 
-pub runs_join : {W V C L A : Type 0} (m : Machine W V C L A) (s : State W V C L) (first second : List (ℕ × Move C V)) → RunsJoin m s first second
-runs_join m s first second = record { state = sym (after-append m s first second); events = sym (events_of-append m s first second) }
+  pub runs_join : (s : State W V C L) (first second : List (ℕ × Move C V)) → RunsJoin m s first second
+  runs_join s first second = record { state = sym (after-append m s first second); events = sym (events_of-append m s first second) }

@@ -1,5 +1,5 @@
 -- Every event keeps what is promised of values that closures make.
-use Rattle.std.proofs.Common.{◌≡◌, ℕ, Option, Some, List, [], ◌∷◌, slice_get, refl, ◌∙◌}
+use Rattle.std.proofs.Common.{◌≡◌, ℕ, Option, Some, List, slice_get, refl, ◌∙◌}
 use Rattle.spin_step.specs.Plain.{Change, completes}
 use Rattle.spin_world_core.specs.declared.place.Hold.{Hold}
 use Rattle.spin_world_core.specs.declared.place.Seat.{Seat}
@@ -10,11 +10,11 @@ use Rattle.spin_world_core.specs.declared.schedule.Move.{Move}
 use Rattle.spin_world_core.specs.declared.schedule.Move.TheVariants.{Step, Weak}
 use Rattle.spin_world_core.specs.Machines.{Machine, opening_plain}
 use Rattle.spin_world_core.specs.Schedules.{State, goes_on, refuses, placed}
-use Rattle.spin_world_core.specs.Runs.{Seen, Scene, scene_at, scene, Every, opening}
+use Rattle.spin_world_core.specs.Runs.{Seen, Scene, scene_at, scene, opening}
 use Rattle.spin_world_core.specs.Values.{Brings, GivesAt, KeepsValue, ValuesAll}
 use Rattle.spin_world_core.proofs.Facts.{LocalInvariant, NextGives, Facts}
 use Rattle.spin_world_core.proofs.Preserved.{Invariant, in_call}
-use Rattle.spin_world_core.proofs.Every.{kept, good_first}
+use Rattle.spin_world_core.proofs.Every.{kept, every, good_first}
 
 module _ {W V C L A : Type 0} (m : Machine W V C L A) where
   -- a call that goes on leaves the value as its step left it
@@ -44,21 +44,16 @@ module _ {W V C L A : Type 0} (m : Machine W V C L A) where
     keeps_at seen p Step (Some (Calling c l h)) good there after =
         let st = m.step seen.state.words seen.state.value c l h in
         let now : State W V C L = record seen.state { words = st.words; value = placed st.placed seen.state.value } in
-        let is = f.values p c l h seen.plain seen.state.value seen.state.words (seen.span p) (in_call m k seen p c l h good there) in
+        let is = (f.at p c l h _ _ _ _ (in_call m k seen p c l h good there)).values in
         still seen _ after (brings-by c l h (m.change p seen.state.words c l h) _ (λ q e. value-goes_on now p c h st.next ∙ is.brings q e)) (gives-step now p c h st.next is.gives)
     keeps_at seen p Weak (Some (Calling c l h)) good there after =
         still seen _ after tt
-        (gives-weak seen.state p c h (m.refuse c l h) (λ next is. f.refusal_gives p c l h seen.plain seen.state.value seen.state.words (seen.span p) next (in_call m k seen p c l h good there) is))
+        (gives-weak seen.state p c h (m.refuse c l h) (f.at p c l h _ _ _ _ (in_call m k seen p c l h good there)).refusal_gives)
     keeps_at seen p _ _ good there after = still seen _ after tt tt
 
     -- one event
     pub keeps_value : (seen : Seen W V C L) (p : ℕ) (move : Move C V) → Invariant m k seen → KeepsValue m (scene m seen p move)
     keeps_value seen p move good = keeps_at seen p move (slice_get seen.state.seats p) good refl (kept m k f seen p move good).good
 
-    values_every : (seen : Seen W V C L) (es : List (ℕ × Move C V)) → Invariant m k seen → Every (KeepsValue m) m seen es
-    values_every seen [] good = tt
-    values_every seen (e ∷ es) good =
-        (keeps_value seen e.0 e.1 good, values_every (scene m seen e.0 e.1).after es (kept m k f seen e.0 e.1 good).good)
-
     pub values_of : (n : ℕ) (es : List (ℕ × Move C V)) → ValuesAll m n es
-    values_of n es = record { first = f.phase (opening_plain m) m.value f.shape_first; each = values_every (opening m n) es (good_first m k f n) }
+    values_of n es = record { first = f.phase (opening_plain m) m.value f.shape_first; each = every m k f (KeepsValue m) keeps_value (opening m n) es (good_first m k f n) }

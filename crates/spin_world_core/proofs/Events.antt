@@ -1,0 +1,91 @@
+-- What an event comes to: its move is skipped, or is open and does what it is for. What is so of each of these is so of every event.
+use Rattle.std.proofs.Common.{◌≡◌, ℕ, Bool, true, false, Option, Some, None, is_some, slice_get, refl, ap}
+use Rattle.spin_world_core.specs.declared.place.Hold.{Hold}
+use Rattle.spin_world_core.specs.declared.place.Seat.{Seat}
+use Rattle.spin_world_core.specs.declared.place.Seat.TheVariants.{Idle, Calling, Holding, Leaked}
+use Rattle.spin_world_core.specs.declared.object.Next.{Next}
+use Rattle.spin_world_core.specs.declared.schedule.Move.{Move}
+use Rattle.spin_world_core.specs.declared.schedule.Move.TheVariants.{Begin, Step, Weak, Read, Write, Leak, OwnerGet, OwnerSet}
+use Rattle.spin_world_core.specs.StepKinds.{StepKind, plain, weak}
+use Rattle.spin_world_core.specs.Machines.{Machine}
+use Rattle.spin_world_core.specs.Schedules.{skipped, begun, goes_on, refuses, resting, read_by, written_by, may_read, may_write, is_owners, owner_gets, owner_sets}
+use Rattle.spin_world_core.specs.Runs.{Seen, Scene, scene, scene_at, scene_of, is_open_move}
+
+-- the seat of a party with this hold, which it holds still or has leaked
+abbrev pub seat_with : {C L : Type 0} → Bool → Hold → Seat C L
+seat_with true h = Holding h
+seat_with false h = Leaked h
+
+module _ {W V C L A : Type 0} (m : Machine W V C L A) (seen : Seen W V C L) (p : ℕ) where
+  abbrev pub SitsAt : Option (Seat C L) → Type 0
+  SitsAt o = slice_get seen.state.seats p ≡ o
+
+  -- what is to be shown of an event of this party
+  pub record OfEach (P : Scene W V C L A → Type 0) : Type 0 where
+    pub passes : (move : Move C V) (o : Option (Seat C L)) (r : StepKind) → SitsAt o → is_open_move m seen.state move o ≡ false
+        → P (scene_of seen p move o (skipped seen.state) None r None)
+    pub begins : (c : C) (l : L) (h : Option Hold) → SitsAt (Some (resting h)) → m.begin c h ≡ Some l
+        → P (scene_of seen p (Begin c) (Some (resting h)) (begun seen.state p c h (Some l)) None plain None)
+    pub steps : (c : C) (l : L) (h : Option Hold) → SitsAt (Some (Calling c l h)) → P (scene_at m seen p Step (Some (Calling c l h)))
+    pub refuses : (c : C) (l : L) (h : Option Hold) (next : Next L A) → SitsAt (Some (Calling c l h)) → m.refuse c l h ≡ Some next
+        → P (scene_of seen p Weak (Some (Calling c l h)) (goes_on seen.state p c h next) None weak None)
+    pub reads : (b : Bool) (h : Hold) → SitsAt (Some (seat_with b h)) → may_read h ≡ true
+        → P (scene_of seen p Read (Some (seat_with b h)) (read_by seen.state true) None plain None)
+    pub writes : (v : V) (b : Bool) (h : Hold) → SitsAt (Some (seat_with b h)) → may_write h ≡ true
+        → P (scene_of seen p (Write v) (Some (seat_with b h)) (written_by seen.state v true) None plain None)
+    pub leaks : (h : Hold) → SitsAt (Some (Holding h)) → P (scene_at m seen p Leak (Some (Holding h)))
+    pub gets : (y : Seat C L) → SitsAt (Some y) → is_owners m seen.state ≡ true
+        → P (scene_of seen p OwnerGet (Some y) (owner_gets seen.state true) None plain None)
+    pub sets : (v : V) (y : Seat C L) → SitsAt (Some y) → is_owners m seen.state ≡ true
+        → P (scene_of seen p (OwnerSet v) (Some y) (owner_sets seen.state v true) None plain None)
+
+  module _ (P : Scene W V C L A → Type 0) (each : OfEach P) where
+    begun_so : (c : C) (h : Option Hold) (o : Option L) → SitsAt (Some (resting h)) → m.begin c h ≡ o
+        → is_open_move m seen.state (Begin c) (Some (resting h)) ≡ is_some o
+        → P (scene_of seen p (Begin c) (Some (resting h)) (begun seen.state p c h o) None plain None)
+    begun_so c h None there is closed = each.passes (Begin c) (Some (resting h)) plain there closed
+    begun_so c h (Some l) there is may = each.begins c l h there is
+
+    refused_so : (c : C) (l : L) (h : Option Hold) (o : Option (Next L A)) → SitsAt (Some (Calling c l h)) → m.refuse c l h ≡ o
+        → P (scene_of seen p Weak (Some (Calling c l h)) (refuses seen.state p c h o) None weak None)
+    refused_so c l h None there is = each.passes Weak (Some (Calling c l h)) weak there (ap is_some is)
+    refused_so c l h (Some next) there is = each.refuses c l h next there is
+
+    read_so : (b : Bool) (h : Hold) (x : Bool) → SitsAt (Some (seat_with b h)) → may_read h ≡ x
+        → is_open_move m seen.state Read (Some (seat_with b h)) ≡ x → P (scene_of seen p Read (Some (seat_with b h)) (read_by seen.state x) None plain None)
+    read_so b h true there may is_open = each.reads b h there may
+    read_so b h false there may closed = each.passes Read (Some (seat_with b h)) plain there closed
+
+    written_so : (v : V) (b : Bool) (h : Hold) (x : Bool) → SitsAt (Some (seat_with b h)) → may_write h ≡ x
+        → is_open_move m seen.state (Write v) (Some (seat_with b h)) ≡ x
+        → P (scene_of seen p (Write v) (Some (seat_with b h)) (written_by seen.state v x) None plain None)
+    written_so v b h true there may is_open = each.writes v b h there may
+    written_so v b h false there may closed = each.passes (Write v) (Some (seat_with b h)) plain there closed
+
+    got_so : (y : Seat C L) (x : Bool) → SitsAt (Some y) → is_owners m seen.state ≡ x
+        → P (scene_of seen p OwnerGet (Some y) (owner_gets seen.state x) None plain None)
+    got_so y true there may = each.gets y there may
+    got_so y false there closed = each.passes OwnerGet (Some y) plain there closed
+
+    set_so : (v : V) (y : Seat C L) (x : Bool) → SitsAt (Some y) → is_owners m seen.state ≡ x
+        → P (scene_of seen p (OwnerSet v) (Some y) (owner_sets seen.state v x) None plain None)
+    set_so v y true there may = each.sets v y there may
+    set_so v y false there closed = each.passes (OwnerSet v) (Some y) plain there closed
+
+    at_seat : (move : Move C V) (o : Option (Seat C L)) → SitsAt o → P (scene_at m seen p move o)
+    at_seat (Begin c) (Some Idle) there = begun_so c None (m.begin c None) there refl refl
+    at_seat (Begin c) (Some (Holding h)) there = begun_so c (Some h) (m.begin c (Some h)) there refl refl
+    at_seat Step (Some (Calling c l h)) there = each.steps c l h there
+    at_seat Weak (Some (Calling c l h)) there = refused_so c l h (m.refuse c l h) there refl
+    at_seat Read (Some (Holding h)) there = read_so true h (may_read h) there refl refl
+    at_seat Read (Some (Leaked h)) there = read_so false h (may_read h) there refl refl
+    at_seat (Write v) (Some (Holding h)) there = written_so v true h (may_write h) there refl refl
+    at_seat (Write v) (Some (Leaked h)) there = written_so v false h (may_write h) there refl refl
+    at_seat Leak (Some (Holding h)) there = each.leaks h there
+    at_seat OwnerGet (Some y) there = got_so y (is_owners m seen.state) there refl
+    at_seat (OwnerSet v) (Some y) there = set_so v y (is_owners m seen.state) there refl
+    at_seat move o there = each.passes move o plain there refl
+
+    -- so it is of every event
+    pub of_event : (move : Move C V) → P (scene m seen p move)
+    of_event move = at_seat move (slice_get seen.state.seats p) refl
