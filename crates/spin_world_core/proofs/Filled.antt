@@ -114,12 +114,9 @@ says_with : {V : Type 0} (phase : Phase) (a : Answer (Unit {0})) (v : Option V) 
 says_with phase (Value u) None e tells = absurd (true≢false (sym tells ∙ e))
 says_with phase _ _ e tells = refl
 
-gives_made : {V : Type 0} (a : Answer (Unit {0})) (v : Option V) → Gives true (says_of (with_value a v)) (gives_of (with_value a v)) v
-gives_made (Value u) (Some x) = refl
-gives_made _ _ = refl
-
 gives_with : {V : Type 0} (made : Bool) (a : Answer (Unit {0})) (v : Option V) → Gives made (says_of (with_value a v)) (gives_of (with_value a v)) v
-gives_with true a v = gives_made a v
+gives_with true (Value u) (Some x) = refl
+gives_with true _ _ = refl
 gives_with false a v = tt
 
 unfilled : {V L : Type 0} (value : Option V) (next : Next L (Answer (Unit {0}))) (l : L) → filled value next ≡ Continue l → next ≡ Continue l

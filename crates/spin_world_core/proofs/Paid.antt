@@ -136,7 +136,7 @@ module _ {W V C L A : Type 0} (t : Table W V C L A) (n : Notes t) (sound_all : (
     goes_to step r branch m (Some to) may branched lost sound follows =
         let retries = retries-mine t.lock_kind p step r s span at.retries lost in
         let spends = may_spend (t.asks c h) branch step p s span _ follows.2 in
-        let found = needs-mine (need_of t.lock_kind (t.asks c h) (to.made p) (t.act c m h)) _ p s step r span follows.3 in
+        let found = needs-mine p s step r span (need_of t.lock_kind (t.asks c h) (to.made p) (t.act c m h)) _ follows.3 in
         let made = made_now step r (to.made p) follows.1 in
         let spent = spent-mine p s step r span (limit t.lock_kind (t.asks c h)) t.lock_kind branch (to.made p) row.spent to.spent branched made spends at.known.spent in (
           (
@@ -144,7 +144,7 @@ module _ {W V C L A : Type 0} (t : Table W V C L A) (n : Notes t) (sound_all : (
               stand = stand-mine s p step row.stand to.stand may at.known.stand follows.0;
               made = made;
               spent = spent;
-              expects = expects-mine t.lock_kind (t.act c m h) (number_at t.memory 0 w) p s step r span (first_is w s at.encodes) retries found.1;
+              expects = expects-mine p s step r span t.lock_kind (t.act c m h) (number_at t.memory 0 w) (first_is w s at.encodes) retries found.1;
               needs = found.0;
               opened = (may, at.known.opened);
             },
@@ -412,7 +412,7 @@ module _ {W V C L A : Type 0} (t : Table W V C L A) (n : Notes t) (sound_all : (
   pub others_at : (p q : ℕ) (c : C) (l : L) (h : Option Hold) (s : Plain) (step : Option Change) (r : StepKind) (span : List Mark) (o : Option Row) → (q ≡ p → ⊥) → IsOpenStep s q step
       → (n.Knows c l h p s span → n.Knows c l h p (apply_some s step) (mark_of q step r s ∷ span)) → KnowsRow t n c l h p s span o → KnowsRow t n c l h p (apply_some s step) (mark_of q step r s ∷ span) o
   others_at p q c l h s step r span None ne may stays knows = absurd knows
-  others_at p q c l h s step r span (Some row) ne may stays knows = (known-other t.lock_kind (t.asks c h) (t.act c l h) row p q s step r span ne may knows.0, stays knows.1)
+  others_at p q c l h s step r span (Some row) ne may stays knows = (known-other p q s step r span ne t.lock_kind (t.asks c h) (t.act c l h) row may knows.0, stays knows.1)
 
   pub begins_at : (p : ℕ) (c : C) (l : L) (h : Option Hold) (s : Plain) (o : Option Row) → entries p s ≡ entries_held p h → BeginsRow t n c l h p s o → KnowsRow t n c l h p s [] o
   begins_at p c l h s None mine begins = absurd begins

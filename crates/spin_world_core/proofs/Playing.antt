@@ -73,19 +73,14 @@ module _ {W V C L A : Type 0} (m : Machine W V C L A) where
         parties = length-begins_after begins p (length front) h.outcome ∙ (played.parties ∙ (sym (length-happens m (after m from front) p move) ∙ ap (λ (g : Happened W V C L A). length g.next.seats) (sym is)));
       }
 
-  pub played_more : (from now : State W V C L) (begins : List (Option ℕ)) (events : List (Event W V A)) (front : List (ℕ × Move C V)) (p : ℕ) (move : Move C V)
-      → Played from now begins events front → (h : Happened W V C L A) → h ≡ happens m now p move
-      → Played from h.next (begins_after begins p (length front) h.outcome) (events ++ record { party = p; outcome = with_begin (begin_of begins p) h.outcome; words = h.next.words } ∷ []) (front ++ (p, move) ∷ [])
-  played_more from now begins events front p move played h is =
-      played_at from begins events front p move (subst (λ s. Played from s begins events front) played.table played) h (is ∙ ap (λ s. happens m s p move) played.table)
-
   pub played_next : (from now next : State W V C L) (begins begins' : List (Option ℕ)) (events events' : List (Event W V A)) (schedule : List (ℕ × Move C V)) (k : ℕ) (entry : ℕ × Move C V) (o o' : Outcome A V) (words : W)
       → Played from now begins events (take k schedule) → k < length schedule → entry ≡ get_or schedule k entry
       → (let h : Happened W V C L A = record { outcome = o; next = next } in h ≡ happens m now entry.0 entry.1) → words ≡ next.words
       → o' ≡ with_begin (begin_of begins entry.0) o → begins' ≡ begins_after begins entry.0 k o
       → events' ≡ events ++ record { party = entry.0; outcome = o'; words = words } ∷ [] → Played from next begins' events' (take (k + 1) schedule)
   played_next from now next begins begins' events events' schedule k entry o o' words played lt read acted same_words told_o put added =
-      let more = played_more from now begins events (take k schedule) entry.0 entry.1 played (record { outcome = o; next = next }) acted in
+      let here = subst (λ s. Played from s begins events (take k schedule)) played.table played in
+      let more = played_at from begins events (take k schedule) entry.0 entry.1 here (record { outcome = o; next = next }) (acted ∙ ap (λ s. happens m s entry.0 entry.1) played.table) in
       let front : length (take k schedule) ≡ k = length-take-le k schedule (omega arith) in
       rw (take_next schedule k entry lt read, added, put, told_o, same_words) (rw front at more)
 

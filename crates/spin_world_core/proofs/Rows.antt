@@ -47,10 +47,9 @@ MaySpend (within n) t cs j k p kind span = nat_lt j k ≡ true
 MaySpend (within_changes n) loses cs j k p kind span = nat_lt j (suc k) ≡ true
 MaySpend (within_changes n) t cs j k p kind span = nat_lt j k ≡ true
 MaySpend (gets_within ask n) t (c ∷ cs) j k p kind span = Unit {0}
-MaySpend (gets_within ask n) goes [] j k p kind span = nat_lt j k ≡ true
-MaySpend (gets_within ask n) finds_open [] j k p kind span = nat_lt j k ≡ true
 MaySpend (gets_within ask n) loses [] j k p kind span = nat_lt j (suc k) ≡ true
 MaySpend (gets_within ask n) (misses c) [] j k p kind span = c ≡ gets p ask
+MaySpend (gets_within ask n) t [] j k p kind span = nat_lt j k ≡ true
 MaySpend (changes_within n) t (c ∷ cs) j k p kind span = Unit {0}
 MaySpend (changes_within n) t [] j k p kind span = nat_lt j k ≡ true
 MaySpend (registers_after n i) t cs j k p kind span = ContinuesWithin (registers_after n i) kind p span
@@ -61,13 +60,11 @@ MayContinue (tries ask) (misses c) step p s span Spend = ⊥
 MayContinue (tries ask) goes None p s span Spend = Spend × MayTryOn ask p span s
 MayContinue what branch step p s span Spend = Spend
 
-pub may_spend : (what : Asked) (branch : Branch) (step : Option Change) (p : ℕ) (s : Plain) (span : List Mark) (Spend : Type 0) → MayContinue what branch step p s span Spend → Spend
+pub may_spend : (what : Asked) (branch : Branch) (step : Option Change) (p : ℕ) (s : Plain) (span : List Mark) (Spend : Type 0) → MayContinue what branch step p s span Spend
+    → Spend
 may_spend (tries ask) (misses c) step p s span Spend may = absurd may
 may_spend (tries ask) goes None p s span Spend may = may.0
-may_spend (tries ask) goes (Some c) p s span Spend may = may
-may_spend (tries ask) finds_open step p s span Spend may = may
-may_spend (tries ask) loses step p s span Spend may = may
-may_spend what branch step p s span Spend may = may
+may_spend _ _ _ p s span Spend may = may
 
 pub may_try : (what : Asked) (ask : Ask) (p : ℕ) (s : Plain) (span : List Mark) (Spend : Type 0) → what ≡ tries ask → MayContinue what goes None p s span Spend → MayTryOn ask p span s
 may_try what ask p s span Spend is may = (subst (λ k. MayContinue k goes None p s span Spend) is may).1
@@ -108,15 +105,12 @@ module _ (p : ℕ) (s : Plain) (step : Option Change) (r : StepKind) (span : Lis
 
   pub spent-mine : (what : Limit) (kind : LockKind) (t : Branch) (cs : List Change) (j k : ℕ) → Branched t s step r → own p (mark_of p step r s ∷ span) ≡ cs → MaySpend what t cs j k p kind (mark_of p step r s ∷ span) → Spends what j p span → Spends what k p (mark_of p step r s ∷ span)
   spent-mine (within n) kind t cs j k how is may spent = omega (arith, own_count-mine p step r s span, ltb-true j k may)
-  spent-mine (within_changes n) kind goes cs j k how is may spent = counts_one j k may spent
-  spent-mine (within_changes n) kind finds_open cs j k how is may spent = counts_one j k may spent
   spent-mine (within_changes n) kind loses cs j k how is may spent = counts_lost j k may how spent
-  spent-mine (within_changes n) kind (misses c) cs j k how is may spent = counts_one j k may spent
+  spent-mine (within_changes n) kind t cs j k how is may spent = counts_one j k may spent
   spent-mine (gets_within ask n) kind t (c ∷ cs) j k how is may spent = λ none. absurd (cc (is, none))
-  spent-mine (gets_within ask n) kind goes [] j k how is may spent = λ none. on_each (counts_one j k may) (λ found. inr found) (spent (none_before none))
-  spent-mine (gets_within ask n) kind finds_open [] j k how is may spent = λ none. on_each (counts_one j k may) (λ found. inr found) (spent (none_before none))
   spent-mine (gets_within ask n) kind loses [] j k how is may spent = λ none. on_each (counts_lost j k may how) (λ found. inr found) (spent (none_before none))
   spent-mine (gets_within ask n) kind (misses c) [] j k how is may spent = λ none. inr (inl (refl, subst (λ d. is_open s d ≡ false) may how))
+  spent-mine (gets_within ask n) kind t [] j k how is may spent = λ none. on_each (counts_one j k may) (λ found. inr found) (spent (none_before none))
   spent-mine (changes_within n) kind t (c ∷ cs) j k how is may spent = λ none. absurd (cc (is, none))
   spent-mine (changes_within n) kind t [] j k how is may spent = λ none. omega (arith, own_count-mine p step r s span, ltb-true j k may, spent (none_before none))
   spent-mine _ kind t cs j k how is may spent = tt
@@ -221,7 +215,6 @@ ends_owed kind true (waits_or_starves n) granted p span is owed = owed
 ends_owed kind false (waits_or_starves n) granted p span is owed = owed
 ends_owed kind weakly (waits_or_starves n) _ p span is owed = absurd is
 ends_owed kind weakly (waits to_enter) said p span is owed = tt
-ends_owed kind weakly (waits to_upgrade_asked) said p span is owed = tt
 ends_owed kind weakly (tries to_read) said p span is owed = tt
 ends_owed kind weakly _ said p span is owed = tt
 
@@ -293,22 +286,10 @@ sound_at kind (gives_back None) h p (looked k) sound = tt
 sound_at kind (gives_back (Some hold)) h p (looked k) sound = (sound, inl refl)
 sound_at kind _ h p (looked k) sound = (sound, inl refl)
 
-timely_try : (kind : LockKind) (ask : Ask) → is_timely (limit kind (tries ask)) [] 0 ≡ true
-timely_try kind to_read = refl
-timely_try kind _ = refl
-
-timely_wait : (kind : LockKind) (ask : Ask) → is_timely (limit kind (waits ask)) [] 0 ≡ true
-timely_wait kind to_enter = refl
-timely_wait kind to_upgrade_asked = refl
-timely_wait kind _ = refl
-
-timely_look : (kind : LockKind) → is_timely (limit kind looks) [] 0 ≡ true
-timely_look kind = lt-ltb 0 (suc (length kind.further_words)) (omega arith)
-
 timely_first : (kind : LockKind) (what : Asked) → is_timely (limit kind what) [] 0 ≡ true
-timely_first kind (waits ask) = timely_wait kind ask
-timely_first kind (tries ask) = timely_try kind ask
-timely_first kind looks = timely_look kind
+timely_first kind (waits to_enter) = refl
+timely_first kind (tries to_read) = refl
+timely_first kind looks = lt-ltb 0 (suc (length kind.further_words)) (omega arith)
 timely_first kind _ = refl
 
 -- so is each call's beginning
@@ -394,24 +375,26 @@ pub record Known {W L A : Type 0} (kind : LockKind) (what : Asked) (act : Act W 
 
 -- after a step of its own
 
-unmoved : (a b : ℕ) (kind : LockKind) (p n : ℕ) (s : Plain) (step : Option Change) → a ≤ b → step ≡ None → first_word kind s ≡ n → a + bit (not (first_word kind (apply_some s step) == n)) ≤ b
+unmoved : (a b : ℕ) (kind : LockKind) (p n : ℕ) (s : Plain) (step : Option Change) → a ≤ b → step ≡ None → first_word kind s ≡ n
+    → a + bit (not (first_word kind (apply_some s step) == n)) ≤ b
 unmoved a b kind p n s step le none is =
     omega (arith, le, ap (λ (o : Option Change). bit (not (first_word kind (apply_some s o) == n))) none, ap (λ x. bit (not x)) (eq-eqb (first_word kind s) n is))
 
-pub expects-mine : {W L A : Type 0} (kind : LockKind) (act : Act W L A) (n p : ℕ) (s : Plain) (step : Option Change) (r : StepKind) (span : List Mark) → n ≡ first_word kind s
-    → failures p (mark_of p step r s ∷ span) ≤ changes kind p (mark_of p step r s ∷ span) → RetryOwes act n step → Expects kind act p (apply_some s step) (mark_of p step r s ∷ span)
-expects-mine kind (retry k f c won found missed) n p s step r span is le finds =
-    (unmoved (failures p (mark_of p step r s ∷ span)) (changes kind p (mark_of p step r s ∷ span)) kind p k s step le finds.0 (sym is ∙ finds.1), finds.2)
-expects-mine kind _ n p s step r span is le finds = tt
+module _ (p : ℕ) (s : Plain) (step : Option Change) (r : StepKind) (span : List Mark) where
+  pub expects-mine : {W L A : Type 0} (kind : LockKind) (act : Act W L A) (n : ℕ) → n ≡ first_word kind s
+      → failures p (mark_of p step r s ∷ span) ≤ changes kind p (mark_of p step r s ∷ span) → RetryOwes act n step
+      → Expects kind act p (apply_some s step) (mark_of p step r s ∷ span)
+  expects-mine kind (retry k f c won found missed) n is le finds = (unmoved _ _ kind p k s step le finds.0 (sym is ∙ finds.1), finds.2)
+  expects-mine kind _ n is le finds = tt
 
-due-mine : (p : ℕ) (s : Plain) (step : Option Change) (r : StepKind) (span : List Mark) → is_due p (mark_of p step r s ∷ span) ≡ makes_due step r s
-due-mine p s step r span = ap (λ b. if b then makes_due step r s else is_due p span) (eqb_self p)
+  due-mine : is_due p (mark_of p step r s ∷ span) ≡ makes_due step r s
+  due-mine = ap (λ b. if b then makes_due step r s else is_due p span) (eqb_self p)
 
-pub needs-mine : (needed : Need) (Finds : Type 0) (p : ℕ) (s : Plain) (step : Option Change) (r : StepKind) (span : List Mark) → FoundBy needed Finds step r s → Needs needed p (mark_of p step r s ∷ span) × Finds
-needs-mine free Finds p s step r span found = (tt, found)
-needs-mine due Finds p s step r span found = (due-mine p s step r span ∙ found.1, found.0)
-needs-mine undue Finds p s step r span found = (due-mine p s step r span ∙ found.1, found.0)
-needs-mine never Finds p s step r span found = absurd found
+  pub needs-mine : (needed : Need) (Finds : Type 0) → FoundBy needed Finds step r s → Needs needed p (mark_of p step r s ∷ span) × Finds
+  needs-mine free Finds found = (tt, found)
+  needs-mine due Finds found = (due-mine ∙ found.1, found.0)
+  needs-mine undue Finds found = (due-mine ∙ found.1, found.0)
+  needs-mine never Finds found = absurd found
 
 pub needs_first : (needed : Need) (Begins : Type 0) (p : ℕ) → BeginsBy needed Begins → Needs needed p [] × Begins
 needs_first free Begins p begins = (tt, begins)
@@ -441,15 +424,6 @@ none_expected kind _ p s none = tt
 
 -- after another party's step
 
-spent-other : (what : Limit) (k p q : ℕ) (s : Plain) (step : Option Change) (r : StepKind) (span : List Mark) → (q ≡ p → ⊥) → Spends what k p span → Spends what k p (mark_of q step r s ∷ span)
-spent-other (within n) k p q s step r span ne spent = omega (arith, own_count-other p q step r s span ne, spent)
-spent-other (within_changes n) k p q s step r span ne spent = omega (arith, own_count-other p q step r s span ne, failures-other p q step r s span ne, spent)
-spent-other (gets_within ask n) k p q s step r span ne spent = λ none.
-    on_each (λ le. omega (arith, own_count-other p q step r s span ne, failures-other p q step r s span ne, le)) (λ found. inr found)
-    (spent (sym (own-other p q step r s span ne) ∙ none))
-spent-other (changes_within n) k p q s step r span ne spent = λ none. omega (arith, own_count-other p q step r s span ne, spent (sym (own-other p q step r s span ne) ∙ none))
-spent-other _ k p q s step r span ne spent = tt
-
 bit_le : (b : Bool) → bit b ≤ 1
 bit_le true = omega arith
 bit_le false = omega arith
@@ -462,31 +436,39 @@ moved a b n x y le =
     (λ (d : y ≡ x → ⊥). omega (arith, le, ap (λ c. bit (not c)) (ne_eqb y x d), bit_le (not (y == n))))
     (cases_eq y x)
 
-expects-other : {W L A : Type 0} (kind : LockKind) (act : Act W L A) (p q : ℕ) (s : Plain) (step : Option Change) (r : StepKind) (span : List Mark) → (q ≡ p → ⊥) → Expects kind act p s span
-    → Expects kind act p (apply_some s step) (mark_of q step r s ∷ span)
-expects-other kind (retry k f c won found missed) p q s step r span ne expects = (
-  omega (arith, failures-other p q step r s span ne, changes-other kind p q step r s span ne, moved (failures p span) (changes kind p span) k (first_word kind s) (first_word kind (apply_some s step)) expects.0),
-  expects.1,
-)
-expects-other kind _ p q s step r span ne expects = tt
+module _ (p q : ℕ) (s : Plain) (step : Option Change) (r : StepKind) (span : List Mark) (ne : q ≡ p → ⊥) where
+  spent-other : (what : Limit) (k : ℕ) → Spends what k p span → Spends what k p (mark_of q step r s ∷ span)
+  spent-other (within n) k spent = omega (arith, own_count-other p q step r s span ne, spent)
+  spent-other (within_changes n) k spent = omega (arith, own_count-other p q step r s span ne, failures-other p q step r s span ne, spent)
+  spent-other (gets_within ask n) k spent = λ none.
+      on_each (λ le. omega (arith, own_count-other p q step r s span ne, failures-other p q step r s span ne, le)) (λ found. inr found)
+      (spent (sym (own-other p q step r s span ne) ∙ none))
+  spent-other (changes_within n) k spent = λ none. omega (arith, own_count-other p q step r s span ne, spent (sym (own-other p q step r s span ne) ∙ none))
+  spent-other _ k spent = tt
 
-due-other : (p q : ℕ) (s : Plain) (step : Option Change) (r : StepKind) (span : List Mark) → (q ≡ p → ⊥) → is_due p (mark_of q step r s ∷ span) ≡ is_due p span
-due-other p q s step r span ne = ap (λ b. if b then makes_due step r s else is_due p span) (ne_eqb q p ne)
+  expects-other : {W L A : Type 0} (kind : LockKind) (act : Act W L A) → Expects kind act p s span → Expects kind act p (apply_some s step) (mark_of q step r s ∷ span)
+  expects-other kind (retry k f c won found missed) expects = (
+    omega (arith, failures-other p q step r s span ne, changes-other kind p q step r s span ne, moved (failures p span) (changes kind p span) k (first_word kind s) (first_word kind (apply_some s step)) expects.0),
+    expects.1,
+  )
+  expects-other kind _ expects = tt
 
-needs-other : (needed : Need) (p q : ℕ) (s : Plain) (step : Option Change) (r : StepKind) (span : List Mark) → (q ≡ p → ⊥) → Needs needed p span → Needs needed p (mark_of q step r s ∷ span)
-needs-other free p q s step r span ne needs = tt
-needs-other due p q s step r span ne needs = due-other p q s step r span ne ∙ needs
-needs-other undue p q s step r span ne needs = due-other p q s step r span ne ∙ needs
-needs-other never p q s step r span ne needs = needs
+  due-other : is_due p (mark_of q step r s ∷ span) ≡ is_due p span
+  due-other = ap (λ b. if b then makes_due step r s else is_due p span) (ne_eqb q p ne)
 
-pub known-other : {W L A : Type 0} (kind : LockKind) (what : Asked) (act : Act W L A) (row : Row) (p q : ℕ) (s : Plain) (step : Option Change) (r : StepKind) (span : List Mark) → (q ≡ p → ⊥) → IsOpenStep s q step
-    → Known kind what act row p s span → Known kind what act row p (apply_some s step) (mark_of q step r s ∷ span)
-known-other kind what act row p q s step r span ne may known =
-    record {
-      stand = entries-other s q p step ne may ∙ known.stand;
-      made = own-other p q step r s span ne ∙ known.made;
-      spent = spent-other (limit kind what) row.spent p q s step r span ne known.spent;
-      expects = expects-other kind act p q s step r span ne known.expects;
-      needs = needs-other (need_of kind what (row.made p) act) p q s step r span ne known.needs;
-      opened = (may, known.opened);
-    }
+  needs-other : (needed : Need) → Needs needed p span → Needs needed p (mark_of q step r s ∷ span)
+  needs-other due needs = due-other ∙ needs
+  needs-other undue needs = due-other ∙ needs
+  needs-other _ needs = needs
+
+  pub known-other : {W L A : Type 0} (kind : LockKind) (what : Asked) (act : Act W L A) (row : Row) → IsOpenStep s q step → Known kind what act row p s span
+      → Known kind what act row p (apply_some s step) (mark_of q step r s ∷ span)
+  known-other kind what act row may known =
+      record {
+        stand = entries-other s q p step ne may ∙ known.stand;
+        made = own-other p q step r s span ne ∙ known.made;
+        spent = spent-other (limit kind what) row.spent known.spent;
+        expects = expects-other kind act known.expects;
+        needs = needs-other (need_of kind what (row.made p) act) known.needs;
+        opened = (may, known.opened);
+      }

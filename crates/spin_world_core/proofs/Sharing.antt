@@ -16,11 +16,8 @@ count_by-cons f x xs = sum_by-cons (λ y. cond (f y) 1 0) x xs
 -- the owner's look changes nothing where none is counted
 pub none_leaked : {C L : Type 0} (seats : List (Seat C L)) → count_by has_leaked seats ≡ 0 → map seen_by_owner seats ≡ seats
 none_leaked [] none = refl
-none_leaked (Idle ∷ seats) none = ap (λ ss. Idle ∷ ss) (none_leaked seats (omega (arith, none, count_by-cons has_leaked Idle seats)))
-none_leaked (Calling c l h ∷ seats) none = ap (λ ss. Calling c l h ∷ ss) (none_leaked seats (omega (arith, none, count_by-cons has_leaked (Calling c l h) seats)))
-none_leaked (Holding h ∷ seats) none = ap (λ ss. Holding h ∷ ss) (none_leaked seats (omega (arith, none, count_by-cons has_leaked (Holding h) seats)))
 none_leaked (Leaked h ∷ seats) none = absurd (omega (arith, none, count_by-cons has_leaked (Leaked h) seats))
-none_leaked (Gone h ∷ seats) none = ap (λ ss. Gone h ∷ ss) (none_leaked seats (omega (arith, none, count_by-cons has_leaked (Gone h) seats)))
+none_leaked (s ∷ seats) none = ap (λ ss. s ∷ ss) (none_leaked seats (omega (arith, none, count_by-cons has_leaked s seats)))
 
 shares_as_before : {C L : Type 0} (s : Seat C L) → shares (seen_by_owner s) ≡ shares s
 shares_as_before Idle = refl

@@ -5,58 +5,57 @@ use Rattle.std.proofs.lemmas.List.{append-nil}
 use Rattle.spin_step.specs.Plain.{Plain, Change}
 use Rattle.spin_step.specs.Parties.{apply_some}
 use Rattle.spin_step.specs.Steps.{bit}
-use Rattle.spin_world_core.specs.StepKinds.{StepKind, is_again}
-use Rattle.spin_world_core.specs.StepKinds as step_kind
+use Rattle.spin_world_core.specs.StepKinds.{StepKind, again, is_again}
 use Rattle.spin_world_core.specs.Calls.{LockKind, first_word, Mark}
 use Rattle.spin_world_core.specs.Runs.{mark_of, own, own_count, failures, changes}
 use Rattle.spin_world_core.proofs.Lists.{eqb_self}
 
-pub own-mine : (p : ℕ) (step : Option Change) (r : StepKind) (s : Plain) (span : List Mark) → own p (mark_of p step r s ∷ span) ≡ own p span ++ option_to_list step
-own-mine p step r s span = ap (λ b. own p span ++ (if b then option_to_list step else [])) (eqb_self p)
+-- after a step of its own
+module _ (p : ℕ) (step : Option Change) (r : StepKind) (s : Plain) (span : List Mark) where
+  pub own-mine : own p (mark_of p step r s ∷ span) ≡ own p span ++ option_to_list step
+  own-mine = ap (λ b. own p span ++ (if b then option_to_list step else [])) (eqb_self p)
 
-pub own-other : (p q : ℕ) (step : Option Change) (r : StepKind) (s : Plain) (span : List Mark) → (q ≡ p → ⊥) → own p (mark_of q step r s ∷ span) ≡ own p span
-own-other p q step r s span ne = ap (λ b. own p span ++ (if b then option_to_list step else [])) (ne_eqb q p ne) ∙ append-nil (own p span)
+  pub own_count-mine : own_count p (mark_of p step r s ∷ span) ≡ own_count p span + 1
+  own_count-mine = ap (λ b. own_count p span + (if b then 1 else 0)) (eqb_self p)
 
-pub own_count-mine : (p : ℕ) (step : Option Change) (r : StepKind) (s : Plain) (span : List Mark) → own_count p (mark_of p step r s ∷ span) ≡ own_count p span + 1
-own_count-mine p step r s span = ap (λ b. own_count p span + (if b then 1 else 0)) (eqb_self p)
+  pub failures-mine : failures p (mark_of p step r s ∷ span) ≡ failures p span + bit (is_again r && not (is_some step))
+  failures-mine = ap (λ b. failures p span + bit (b && (is_again r && not (is_some step)))) (eqb_self p)
 
-pub own_count-other : (p q : ℕ) (step : Option Change) (r : StepKind) (s : Plain) (span : List Mark) → (q ≡ p → ⊥) → own_count p (mark_of q step r s ∷ span) ≡ own_count p span
-own_count-other p q step r s span ne = omega (arith, ap (λ b. own_count p span + (if b then 1 else 0)) (ne_eqb q p ne))
-
-pub nil_left : {X : Type 0} (xs ys : List X) → xs ++ ys ≡ [] → xs ≡ []
-nil_left [] ys e = refl
-nil_left (x ∷ xs) ys e = absurd (cc (e))
-
--- a party's exchanges that failed, and the changes by others
-
-pub failures-other : (p q : ℕ) (step : Option Change) (r : StepKind) (s : Plain) (span : List Mark) → (q ≡ p → ⊥) → failures p (mark_of q step r s ∷ span) ≡ failures p span
-failures-other p q step r s span ne = omega (arith, ap (λ b. bit (b && (is_again r && not (is_some step)))) (ne_eqb q p ne))
-
-pub failures-mine : (p : ℕ) (step : Option Change) (r : StepKind) (s : Plain) (span : List Mark) → failures p (mark_of p step r s ∷ span) ≡ failures p span + bit (is_again r && not (is_some step))
-failures-mine p step r s span = ap (λ b. failures p span + bit (b && (is_again r && not (is_some step)))) (eqb_self p)
-
-pub changes-mine : (kind : LockKind) (p : ℕ) (step : Option Change) (r : StepKind) (s : Plain) (span : List Mark) → changes kind p (mark_of p step r s ∷ span) ≡ changes kind p span
+pub changes-mine : (kind : LockKind) (p : ℕ) (step : Option Change) (r : StepKind) (s : Plain) (span : List Mark)
+    → changes kind p (mark_of p step r s ∷ span) ≡ changes kind p span
 changes-mine kind p step r s span =
     omega (arith, ap (λ b. bit (not b && not (first_word kind (apply_some s step) == first_word kind s))) (eqb_self p))
+
+-- after another party's
+module _ (p q : ℕ) (step : Option Change) (r : StepKind) (s : Plain) (span : List Mark) (ne : q ≡ p → ⊥) where
+  pub own-other : own p (mark_of q step r s ∷ span) ≡ own p span
+  own-other = ap (λ b. own p span ++ (if b then option_to_list step else [])) (ne_eqb q p ne) ∙ append-nil (own p span)
+
+  pub own_count-other : own_count p (mark_of q step r s ∷ span) ≡ own_count p span
+  own_count-other = omega (arith, ap (λ b. own_count p span + (if b then 1 else 0)) (ne_eqb q p ne))
+
+  pub failures-other : failures p (mark_of q step r s ∷ span) ≡ failures p span
+  failures-other = omega (arith, ap (λ b. bit (b && (is_again r && not (is_some step)))) (ne_eqb q p ne))
 
 pub changes-other : (kind : LockKind) (p q : ℕ) (step : Option Change) (r : StepKind) (s : Plain) (span : List Mark) → (q ≡ p → ⊥)
     → changes kind p (mark_of q step r s ∷ span) ≡ changes kind p span + bit (not (first_word kind (apply_some s step) == first_word kind s))
 changes-other kind p q step r s span ne =
     ap (λ b. changes kind p span + bit (not b && not (first_word kind (apply_some s step) == first_word kind s))) (ne_eqb q p ne)
 
-and_false : (b : Bool) → (b && false) ≡ false
-and_false true = refl
-and_false false = refl
+pub nil_left : {X : Type 0} (xs ys : List X) → xs ++ ys ≡ [] → xs ≡ []
+nil_left [] ys e = refl
+nil_left (x ∷ xs) ys e = absurd (cc (e))
 
 -- where a failed exchange is another party's doing, there are no more of them than changes by others
-pub retries-mine : (kind : LockKind) (p : ℕ) (step : Option Change) (r : StepKind) (s : Plain) (span : List Mark) → failures p span ≤ changes kind p span → (is_again r ≡ true → step ≡ None → failures p span < changes kind p span)
+pub retries-mine : (kind : LockKind) (p : ℕ) (step : Option Change) (r : StepKind) (s : Plain) (span : List Mark) → failures p span ≤ changes kind p span
+    → (is_again r ≡ true → step ≡ None → failures p span < changes kind p span)
     → failures p (mark_of p step r s ∷ span) ≤ changes kind p (mark_of p step r s ∷ span)
-retries-mine kind p (Some c) r s span so_far fails =
-    omega (arith, failures-mine p (Some c) r s span, changes-mine kind p (Some c) r s span, ap bit (and_false (is_again r)), so_far)
-retries-mine kind p None step_kind.again s span so_far fails = omega (arith, failures-mine p None step_kind.again s span, changes-mine kind p None step_kind.again s span, fails refl refl)
-retries-mine kind p None step_kind.plain s span so_far fails = omega (arith, failures-mine p None step_kind.plain s span, changes-mine kind p None step_kind.plain s span, so_far)
-retries-mine kind p None step_kind.look s span so_far fails = omega (arith, failures-mine p None step_kind.look s span, changes-mine kind p None step_kind.look s span, so_far)
-retries-mine kind p None step_kind.weak s span so_far fails = omega (arith, failures-mine p None step_kind.weak s span, changes-mine kind p None step_kind.weak s span, so_far)
+retries-mine kind p step r s span so_far fails = omega (arith, failures-mine p step r s span, changes-mine kind p step r s span, lost r step fails)
+  where
+    lost : (r : StepKind) (step : Option Change) → (is_again r ≡ true → step ≡ None → failures p span < changes kind p span)
+        → failures p span + bit (is_again r && not (is_some step)) ≤ changes kind p span
+    lost again None fails = omega (arith, fails refl refl)
+    lost _ _ fails = omega (arith, so_far)
 
 pub retries-other : (kind : LockKind) (p q : ℕ) (step : Option Change) (r : StepKind) (s : Plain) (span : List Mark) → (q ≡ p → ⊥) → failures p span ≤ changes kind p span
     → failures p (mark_of q step r s ∷ span) ≤ changes kind p (mark_of q step r s ∷ span)

@@ -94,10 +94,6 @@ module _ {W V C L A : Type 0} (m : Machine W V C L A) where
   beside w w' p q s step r span (Some (Calling c l h)) ne same begins runs = λ recent first older is may leaves. beside_at w w' p q c l h s step r span ne same (begins c l h refl) runs recent first older is may leaves
   beside w w' p q s step r span _ ne same begins runs = tt
 
-  pub runs_resting : (w : W) (p : ℕ) (span : List Mark) (after : Option Hold) → RunsOn w p span (Some (resting after))
-  runs_resting w p span None = tt
-  runs_resting w p span (Some h) = tt
-
   no_split : (recent older : List Mark) (first : Mark) → [] ≡ recent ++ first ∷ older → ⊥
   no_split [] older first e = cc (e)
   no_split (m ∷ ms) older first e = cc (e)
@@ -105,10 +101,6 @@ module _ {W V C L A : Type 0} (m : Machine W V C L A) where
   -- as a call begins nothing has been taken
   pub runs_fresh : (w : W) (p : ℕ) (c : C) (l : L) (h : Option Hold) → RunsOn w p [] (Some (Calling c l h))
   runs_fresh w p c l h = λ recent first older is may leaves. absurd (no_split recent older first is)
-
-  pub runs_let_go : (w : W) (p : ℕ) (span : List Mark) (o : Option (Seat C L)) → RunsOn w p span o → RunsOn w p span (option_map seen_by_owner o)
-  runs_let_go w p span (Some Idle) runs = runs
-  runs_let_go w p span _ runs = runs
 
   -- a call that goes on has a step left
   pub more_left : (w : W) (c : C) (l : L) (h : Option Hold) (taken k : ℕ) → taken + k ≤ steps_alone m.lock_kind (m.asks c h) → AnswersWithin m k w c l h

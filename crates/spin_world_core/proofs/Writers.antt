@@ -53,50 +53,35 @@ entered_party p q (t ∷ ts) alone here there =
     let at_q = first_entered (t.party == q) t (filter (λ u. u.party == q) ts) (none_any q ts alone) there in
     sym (eqb-true t.party q at_q) ∙ eqb-true t.party p at_p
 
-nonempty : {X : Type 0} (test : X → Bool) (xs : List X) → not (is_empty (filter test xs)) ≡ true → is_empty xs ≡ false
-nonempty test [] e = absurd cc
-nonempty test (x ∷ xs) e = refl
-
-apart : {X : Type 0} (a b : Bool) → (a || b) ≡ true → a ≡ false → b ≡ false → X
-apart true b e f g = absurd (true≢false f)
-apart false true e f g = absurd (true≢false g)
-apart false false e f g = absurd (false≢true e)
-
-or_true : (a : Bool) → (a || true) ≡ true
-or_true true = refl
-or_true false = refl
-
-held_by : (a b : Bool) → (not a || not b) ≡ true → not (a && b) ≡ true
-held_by true b e = e
-held_by false b e = refl
-
-some_or : (a b c d : Bool) → (a ≡ true → not c ≡ true) → (b ≡ true → not d ≡ true) → (a || b) ≡ true → (not c || not d) ≡ true
-some_or true b c d f g e = ap (λ x. x || not d) (f refl)
-some_or false true c d f g e = rw (g refl) (or_true (not c))
-some_or false false c d f g e = absurd (false≢true e)
-
 -- whoever may look at the value holds the lock
 pub touched : (s : Plain) (p : ℕ) → is_reader (entries p s) ≡ true → is_held s ≡ true
-touched s p reads =
-    held_by (is_empty s.holders) (is_empty s.tickets)
-    (some_or (not (is_empty (filter (λ h. h.party == p) s.holders))) (list_any (λ t. t.entered) (filter (λ t. t.party == p) s.tickets)) (is_empty s.holders) (is_empty s.tickets)
-    (λ some. ap not (nonempty (λ h. h.party == p) s.holders some))
-    (λ some. ap not (nonempty (λ t. t.party == p) s.tickets (is_some_list (λ t. t.entered) (filter (λ t. t.party == p) s.tickets) some)))
-    reads)
+touched s p reads = somebody s.holders s.tickets reads
+  where
+    somebody : (hs : List Holder) (ts : List Ticket)
+        → (not (is_empty (filter (λ h. h.party == p) hs)) || list_any (λ t. t.entered) (filter (λ t. t.party == p) ts)) ≡ true → not (is_empty hs && is_empty ts) ≡ true
+    somebody [] [] reads = absurd (false≢true reads)
+    somebody [] (t ∷ ts) reads = refl
+    somebody (h ∷ hs) ts reads = refl
 
-pub one_toucher : (s : Plain) (p q : ℕ) → IsExclusive s → (is_empty s.holders || is_empty s.tickets) ≡ true → is_reader (entries p s) ≡ true → is_writer (entries q s) ≡ true → q ≡ p
-one_toucher s p q alone lists reads writes =
-    let hp = filter (λ h. h.party == p) s.holders in
-    let hq = filter (λ h. h.party == q) s.holders in
-    let tp = filter (λ t. t.party == p) s.tickets in
-    let tq = filter (λ t. t.party == q) s.tickets in
-    ⊎_elim
-    (λ (w : list_any (λ h. same_kind writing h.kind) hq ≡ true). ⊎_elim
-    (λ (r : not (is_empty hp) ≡ true). one_party p q s.holders (alone.writer (writer_counts q s.holders w)) r (is_some_list (λ h. same_kind writing h.kind) hq w))
-    (λ (r : list_any (λ t. t.entered) tp ≡ true). apart (is_empty s.holders) (is_empty s.tickets) lists (nonempty (λ h. h.party == q) s.holders (is_some_list (λ h. same_kind writing h.kind) hq w)) (nonempty (λ t. t.party == p) s.tickets (is_some_list (λ t. t.entered) tp r)))
-    (or_cases (not (is_empty hp)) (list_any (λ t. t.entered) tp) reads))
-    (λ (w : list_any (λ t. t.entered) tq ≡ true). ⊎_elim
-    (λ (r : not (is_empty hp) ≡ true). apart (is_empty s.holders) (is_empty s.tickets) lists (nonempty (λ h. h.party == p) s.holders r) (nonempty (λ t. t.party == q) s.tickets (is_some_list (λ t. t.entered) tq w)))
-    (λ (r : list_any (λ t. t.entered) tp ≡ true). entered_party p q s.tickets alone.one_entered r w)
-    (or_cases (not (is_empty hp)) (list_any (λ t. t.entered) tp) reads))
-    (or_cases (list_any (λ h. same_kind writing h.kind) hq) (list_any (λ t. t.entered) tq) writes)
+or_false : (b : Bool) → (b || false) ≡ true → b ≡ true
+or_false true e = refl
+or_false false e = e
+
+pub one_toucher : (s : Plain) (p q : ℕ) → IsExclusive s → (is_empty s.holders || is_empty s.tickets) ≡ true → is_reader (entries p s) ≡ true → is_writer (entries q s) ≡ true
+    → q ≡ p
+one_toucher s p q alone lists reads writes = one_list s.holders s.tickets alone.writer alone.one_entered lists reads writes
+  where
+    writing_in : ℕ → List Holder → Bool
+    writing_in i hs = list_any (λ h. same_kind writing h.kind) (filter (λ h. h.party == i) hs)
+
+    entered_in : ℕ → List Ticket → Bool
+    entered_in i ts = list_any (λ t. t.entered) (filter (λ t. t.party == i) ts)
+
+    one_list : (hs : List Holder) (ts : List Ticket) → (0 < count_kind writing hs → length hs ≡ 1) → first_alone_entered ts ≡ true → (is_empty hs || is_empty ts) ≡ true
+        → (not (is_empty (filter (λ h. h.party == p) hs)) || entered_in p ts) ≡ true → (writing_in q hs || entered_in q ts) ≡ true → q ≡ p
+    one_list hs [] alone entered lists reads writes =
+        let wrote = or_false (writing_in q hs) writes in
+        one_party p q hs (alone (writer_counts q hs wrote)) (or_false (not (is_empty (filter (λ h. h.party == p) hs))) reads)
+        (is_some_list (λ h. same_kind writing h.kind) (filter (λ h. h.party == q) hs) wrote)
+    one_list [] (t ∷ ts) alone entered lists reads writes = entered_party p q (t ∷ ts) entered reads writes
+    one_list (h ∷ hs) (t ∷ ts) alone entered lists reads writes = absurd (false≢true lists)

@@ -86,9 +86,7 @@ begun s p c h (Some l) = record { outcome = outcome.Begun; next = seated s p (Ca
 abbrev pub begins : {W V C L A : Type 0} → Machine W V C L A → State W V C L → ℕ → C → Seat C L → Happened W V C L A
 begins m s p c Idle = begun s p c None (m.begin c None)
 begins m s p c (Holding h) = begun s p c (Some h) (m.begin c (Some h))
-begins m s p c (Calling d l h) = skipped s
-begins m s p c (Leaked h) = skipped s
-begins m s p c (Gone h) = skipped s
+begins m s p c _ = skipped s
 
 abbrev pub goes_on : {W V C L A : Type 0} → State W V C L → ℕ → C → Option Hold → Next L A → Happened W V C L A
 goes_on s p c h (Continue l) = record { outcome = outcome.GoingOn; next = seated s p (Calling c l h) }
@@ -103,51 +101,38 @@ abbrev pub stepped : {W V C L A : Type 0} → State W V C L → ℕ → C → Op
 stepped s p c h st = goes_on (record s { words = st.words; value = placed st.placed s.value }) p c h st.next
 
 abbrev pub steps : {W V C L A : Type 0} → Machine W V C L A → State W V C L → ℕ → Seat C L → Happened W V C L A
-steps m s p Idle = skipped s
 steps m s p (Calling c l h) = stepped s p c h (m.step s.words s.value c l h)
-steps m s p (Holding h) = skipped s
-steps m s p (Leaked h) = skipped s
-steps m s p (Gone h) = skipped s
+steps m s p _ = skipped s
 
 abbrev pub refuses : {W V C L A : Type 0} → State W V C L → ℕ → C → Option Hold → Option (Next L A) → Happened W V C L A
 refuses s p c h None = skipped s
 refuses s p c h (Some next) = goes_on s p c h next
 
 abbrev pub weakly : {W V C L A : Type 0} → Machine W V C L A → State W V C L → ℕ → Seat C L → Happened W V C L A
-weakly m s p Idle = skipped s
 weakly m s p (Calling c l h) = refuses s p c h (m.refuse c l h)
-weakly m s p (Holding h) = skipped s
-weakly m s p (Leaked h) = skipped s
-weakly m s p (Gone h) = skipped s
+weakly m s p _ = skipped s
 
 abbrev pub read_by : {W V C L A : Type 0} → State W V C L → Bool → Happened W V C L A
 read_by s true = record { outcome = outcome.Value s.value; next = s }
 read_by s false = skipped s
 
 abbrev pub reads : {W V C L A : Type 0} → State W V C L → Seat C L → Happened W V C L A
-reads s Idle = skipped s
-reads s (Calling c l h) = skipped s
 reads s (Holding h) = read_by s (may_read h)
 reads s (Leaked h) = read_by s (may_read h)
-reads s (Gone h) = skipped s
+reads s _ = skipped s
 
 abbrev pub written_by : {W V C L A : Type 0} → State W V C L → V → Bool → Happened W V C L A
 written_by s v true = record { outcome = outcome.Written; next = record s { value = Some v } }
 written_by s v false = skipped s
 
 abbrev pub writes : {W V C L A : Type 0} → State W V C L → V → Seat C L → Happened W V C L A
-writes s v Idle = skipped s
-writes s v (Calling c l h) = skipped s
 writes s v (Holding h) = written_by s v (may_write h)
 writes s v (Leaked h) = written_by s v (may_write h)
-writes s v (Gone h) = skipped s
+writes s v _ = skipped s
 
 abbrev pub leaks : {W V C L A : Type 0} → State W V C L → ℕ → Seat C L → Happened W V C L A
-leaks s p Idle = skipped s
-leaks s p (Calling c l h) = skipped s
 leaks s p (Holding h) = record { outcome = outcome.Leaked; next = seated s p (Leaked h) }
-leaks s p (Leaked h) = skipped s
-leaks s p (Gone h) = skipped s
+leaks s p _ = skipped s
 
 -- the owner has the lock to itself
 abbrev pub is_owners : {W V C L A : Type 0} → Machine W V C L A → State W V C L → Bool

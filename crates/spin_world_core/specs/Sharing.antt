@@ -9,8 +9,5 @@ abbrev pub shares : {C L : Type 0} → Seat C L → Bool
 shares seat = not (yields_to_owner seat)
 
 abbrev pub has_leaked : {C L : Type 0} → Seat C L → Bool
-has_leaked Idle = false
-has_leaked (Calling c l h) = false
-has_leaked (Holding h) = false
 has_leaked (Leaked h) = true
-has_leaked (Gone h) = false
+has_leaked _ = false
