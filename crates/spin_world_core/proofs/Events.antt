@@ -1,15 +1,5 @@
 -- What an event comes to: its move is skipped, or is open and does what it is for. What is so of each of these is so of every event.
-use Rattle.std.proofs.Common.{◌≡◌, ℕ, Bool, true, false, Option, Some, None, is_some, slice_get, refl, ap}
-use Rattle.spin_world_core.specs.declared.place.Hold.{Hold}
-use Rattle.spin_world_core.specs.declared.place.Seat.{Seat}
-use Rattle.spin_world_core.specs.declared.place.Seat.TheVariants.{Idle, Calling, Holding, Leaked}
-use Rattle.spin_world_core.specs.declared.object.Next.{Next}
-use Rattle.spin_world_core.specs.declared.schedule.Move.{Move}
-use Rattle.spin_world_core.specs.declared.schedule.Move.TheVariants.{Begin, Step, Weak, Read, Write, Leak, OwnerGet, OwnerSet}
-use Rattle.spin_world_core.specs.StepKinds.{StepKind, plain, weak}
-use Rattle.spin_world_core.specs.Machines.{Machine}
-use Rattle.spin_world_core.specs.Schedules.{skipped, begun, goes_on, refuses, resting, read_by, written_by, may_read, may_write, is_owners, owner_gets, owner_sets}
-use Rattle.spin_world_core.specs.Runs.{Seen, Scene, scene, scene_at, scene_of, is_open_move}
+use Rattle.spin_world_core.proofs.Names.{◌≡◌, ℕ, Bool, true, false, Option, Some, None, is_some, slice_get, refl, ap, Hold, Seat, Idle, Calling, Holding, Leaked, Next, Move, Begin, Step, Weak, Read, Write, Leak, OwnerGet, OwnerSet, StepKind, plain, weak, Machine, skipped, begun, goes_on, refuses, resting, read_by, written_by, may_read, may_write, is_owners, owner_gets, owner_sets, Seen, Scene, scene, scene_at, scene_of, is_open_move}
 
 -- the seat of a party with this hold, which it holds still or has leaked
 abbrev pub seat_with : {C L : Type 0} → Bool → Hold → Seat C L

@@ -1,14 +1,5 @@
 -- Every event of every schedule keeps all that is promised, of any object that shows its local facts.
-use Rattle.std.proofs.Common.{◌≡◌, ℕ, Option, Some, None, List, [], ◌∷◌, refl, ap, sym, ◌∙◌, subst, false, arith}
-use Rattle.std.proofs.lemmas.Bool.{true≢false}
-use Rattle.spin_world_core.specs.declared.place.Seat.{Seat}
-use Rattle.spin_world_core.specs.declared.place.Seat.TheVariants.{Idle, Calling, Holding, Leaked}
-use Rattle.spin_world_core.specs.declared.schedule.Move.{Move}
-use Rattle.spin_world_core.specs.declared.schedule.Move.TheVariants.{Begin, Step, Read, Write, Leak, OwnerGet, OwnerSet}
-use Rattle.spin_world_core.specs.Machines.{Machine, opening_plain}
-use Rattle.spin_world_core.specs.Schedules.{after, at_first}
-use Rattle.spin_world_core.specs.Runs.{Seen, Scene, scene, is_open_move, is_reader, is_writer, StandsFor, MaySkip, Every, Keeps, IsRight, IsInTime, opening, KeepsAll, MomentsAll, CountsAll, CanStep}
-use Rattle.spin_world_core.specs.Users.{seen_after}
+use Rattle.spin_world_core.proofs.Names.{◌≡◌, ℕ, Option, Some, None, List, [], ◌∷◌, refl, ap, sym, ◌∙◌, subst, false, arith, true≢false, Seat, Idle, Calling, Holding, Leaked, Move, Begin, Step, Read, Write, Leak, OwnerGet, OwnerSet, Machine, opening_plain, after, at_first, Seen, Scene, scene, is_open_move, is_reader, is_writer, StandsFor, MaySkip, Every, Keeps, IsRight, IsInTime, opening, KeepsAll, MomentsAll, CountsAll, CanStep, seen_after}
 use Rattle.spin_world_core.proofs.Lists.{get-replicate}
 use Rattle.spin_world_core.proofs.Facts.{LocalInvariant, Facts}
 pub use Rattle.spin_world_core.proofs.Preserved.{standing, in_call}

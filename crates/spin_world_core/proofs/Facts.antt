@@ -1,26 +1,7 @@
 -- What an object shows of itself: local facts, without a word of schedules.
-use Rattle.std.proofs.Common.{◌≡◌, ℕ, zero, suc, ◌<◌, ◌≤◌, true, false, ◌||◌, Option, Some, None, List, [], ◌∷◌}
-use Rattle.spin_step.specs.Plain.{Plain, Ask, Change, completes, is_open, is_empty}
-use Rattle.spin_step.specs.Parties.{apply_some, IsOpenStep, entries, is_held, IsExclusive}
-use Rattle.spin_world_core.specs.declared.place.Hold.{Hold}
-use Rattle.spin_world_core.specs.declared.place.Seat.{Seat}
-use Rattle.spin_world_core.specs.declared.place.Seat.TheVariants.{Calling}
-use Rattle.spin_world_core.specs.declared.object.Next.{Next}
-use Rattle.spin_world_core.specs.declared.object.Next.TheVariants.{Continue, Answers}
-use Rattle.spin_world_core.specs.declared.object.Stepped.{Stepped}
-use Rattle.spin_world_core.specs.declared.schedule.Move.{Move}
-use Rattle.spin_world_core.specs.declared.schedule.Move.TheVariants.{Step, Weak}
+use Rattle.spin_world_core.proofs.Names.{◌≡◌, ℕ, zero, suc, ◌<◌, ◌≤◌, true, false, ◌||◌, Option, Some, None, List, [], ◌∷◌, Plain, Ask, Change, completes, is_open, is_empty, apply_some, IsOpenStep, entries, is_held, IsExclusive, Hold, Seat, Calling, Next, Continue, Answers, Stepped, Move, Step, Weak, StepKind, is_again, by_step, tries, encoded, BelongsTo, Said, own_steps, Mark, AnyOf, limit, may_be_weak, before_weakly, Gets, MayTryOn, is_open_now, steps_alone, Machine, opening_plain, Stepwise, placed, HasPhase, Gives, mark_of, if_completed, entries_held, is_writer, own, failures, changes, IsBeginning, RightAnswer, EndsWithin, ContinuesWithin}
 use Rattle.spin_world_core.specs.declared.schedule.Outcome.TheVariants as outcome
-use Rattle.spin_world_core.specs.StepKinds.{StepKind, is_again, by_step}
 use Rattle.spin_world_core.specs.StepKinds as step_kind
-use Rattle.spin_world_core.specs.Calls.{tries, encoded, BelongsTo, Said, own_steps, Mark, AnyOf, limit, may_be_weak, before_weakly}
-use Rattle.spin_world_core.specs.Order.{Gets, MayTryOn}
-use Rattle.spin_world_core.specs.Undisturbed.{is_open_now, steps_alone}
-use Rattle.spin_world_core.specs.Machines.{Machine, opening_plain}
-use Rattle.spin_world_core.specs.Operations.{Stepwise}
-use Rattle.spin_world_core.specs.Schedules.{placed}
-use Rattle.spin_world_core.specs.Values.{HasPhase, Gives}
-use Rattle.spin_world_core.specs.Runs.{mark_of, if_completed, entries_held, is_writer, own, failures, changes, IsBeginning, RightAnswer, EndsWithin, ContinuesWithin}
 
 -- an object's local invariant: a shape of the plain lock and the value, and what a party in a call knows of its span
 pub record LocalInvariant (V C L : Type 0) : Type 1 where

@@ -1,23 +1,6 @@
 -- An object whose closures make its value: what its table owes, and that it then shows all local facts.
-use Rattle.std.proofs.Common.{◌≡◌, ℕ, zero, suc, Bool, true, false, is_some, Option, Some, None, List, ◌∷◌, refl, ap, sym, ◌∙◌, subst}
-use Rattle.std.proofs.lemmas.Bool.{true≢false, false≢true}
-use Rattle.spin_step.specs.Plain.{Plain, Phase, nothing, running, Ask, to_begin, Change, gets, completes, fails, apply, is_open, is_nothing, is_running, is_complete}
-use Rattle.spin_step.specs.Parties.{apply_some, IsOpenStep, entries, is_held}
-use Rattle.spin_world_core.specs.declared.answer.Answer.{Answer}
+use Rattle.spin_world_core.proofs.Names.{◌≡◌, ℕ, zero, suc, Bool, true, false, is_some, Option, Some, None, List, ◌∷◌, refl, ap, sym, ◌∙◌, subst, true≢false, false≢true, Plain, Phase, nothing, running, Ask, to_begin, Change, gets, completes, fails, apply, is_open, is_nothing, is_running, is_complete, apply_some, IsOpenStep, entries, is_held, Answer, Hold, Next, Continue, Answers, Stepped, Step, StepKind, by_step, encoded, own_steps, says_of, AnyOf, HasMoment, Mark, may_be_weak, Machine, opening_phase, placed, mark_of, if_completed, is_writer, own, Memory, Act, store, step_by, change_at, change_by, makes_by, is_completion, step_kind_by, Table, machine_of, completes_by, brought, with_value, filled, gives_of, machine_with, steps_alone, HasPhase, Gives}
 use Rattle.spin_world_core.specs.declared.answer.Answer.TheVariants.{Value}
-use Rattle.spin_world_core.specs.declared.place.Hold.{Hold}
-use Rattle.spin_world_core.specs.declared.object.Next.{Next}
-use Rattle.spin_world_core.specs.declared.object.Next.TheVariants.{Continue, Answers}
-use Rattle.spin_world_core.specs.declared.object.Stepped.{Stepped}
-use Rattle.spin_world_core.specs.declared.schedule.Move.TheVariants.{Step}
-use Rattle.spin_world_core.specs.StepKinds.{StepKind, by_step}
-use Rattle.spin_world_core.specs.Calls.{encoded, own_steps, says_of, AnyOf, HasMoment, Mark, may_be_weak}
-use Rattle.spin_world_core.specs.Machines.{Machine, opening_phase}
-use Rattle.spin_world_core.specs.Schedules.{placed}
-use Rattle.spin_world_core.specs.Runs.{mark_of, if_completed, is_writer, own}
-use Rattle.spin_world_core.specs.Acts.{Memory, Act, store, step_by, change_at, change_by, makes_by, is_completion, step_kind_by, Table, machine_of, completes_by, brought, with_value, filled, gives_of, machine_with}
-use Rattle.spin_world_core.specs.Undisturbed.{steps_alone}
-use Rattle.spin_world_core.specs.Values.{HasPhase, Gives}
 use Rattle.spin_world_core.proofs.Facts.{LocalInvariant, AnswersWithin, InCall, NextIs, NextGives, StepIs, PointFacts, Facts}
 use Rattle.spin_world_core.proofs.Operating.{change_is, open_filled, counted_filled, stepwise_with}
 use Rattle.spin_world_core.proofs.Shapes.{Notes, row_of, KnowsRow, keeping_of, goes_by, answers_by, Pays}

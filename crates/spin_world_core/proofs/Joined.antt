@@ -1,19 +1,6 @@
 -- Runs one after the other are one run.
-use Rattle.std.proofs.Common.{◌≡◌, ℕ, suc, ◌+◌, ◌<◌, ◌≤◌, ◌==◌, ◌&&◌, Bool, true, false, Option, Some, None, List, [], ◌∷◌, ◌++◌, length, map, take, drop, if◌then◌else◌, refl, ap, sym, ◌∙◌, subst, arith, append_assoc}
-use Rattle.std.proofs.lemmas.Bool.{lt-ltb, le-ltb}
-use Rattle.std.proofs.lemmas.List.{append-nil, take-append-drop}
-use Rattle.std.proofs.Math.Seq.{take-append_seam, drop-append_seam}
-use Rattle.spin_world_core.specs.declared.schedule.Move.{Move}
-use Rattle.spin_world_core.specs.declared.schedule.Outcome.{Outcome}
+use Rattle.spin_world_core.proofs.Names.{◌≡◌, ℕ, suc, ◌+◌, ◌<◌, ◌≤◌, ◌==◌, ◌&&◌, Bool, true, false, Option, Some, None, List, [], ◌∷◌, ◌++◌, length, map, take, drop, if◌then◌else◌, refl, ap, sym, ◌∙◌, subst, arith, append_assoc, lt-ltb, le-ltb, append-nil, take-append-drop, take-append_seam, drop-append_seam, Move, Outcome, Event, Machine, State, after, at_first, events_of, with_begins, with_begin, last_begin, is_begun, Seen, Scene, scene, opening, AfterAnyPast, seen_after, Lawful, scenes, EachTells, TellsAfterAnyPast, Promised, began_from, outcome_from, event_from, IsCut, joined, after_runs, transcripts_of, RunsAreOne}
 use Rattle.spin_world_core.specs.declared.schedule.Outcome.TheVariants as outcome
-use Rattle.spin_world_core.specs.declared.schedule.Event.{Event}
-use Rattle.spin_world_core.specs.Machines.{Machine}
-use Rattle.spin_world_core.specs.Schedules.{State, after, at_first, events_of, with_begins, with_begin, last_begin, is_begun}
-use Rattle.spin_world_core.specs.Runs.{Seen, Scene, scene, opening, AfterAnyPast}
-use Rattle.spin_world_core.specs.Users.{seen_after}
-use Rattle.spin_world_core.specs.Lawful.{Lawful}
-use Rattle.spin_world_core.specs.Transcripts.{scenes, EachTells, TellsAfterAnyPast}
-use Rattle.spin_world_core.specs.Joined.{Promised, began_from, outcome_from, event_from, IsCut, joined, after_runs, transcripts_of, RunsAreOne}
 use Rattle.spin_world_core.proofs.Schedules.{after-append, events_of-append, seen_after-append, length-events_of, with_begins-append, last_begin-append}
 use Rattle.spin_world_core.proofs.Transcripts.{tells_after}
 

@@ -1,17 +1,5 @@
 -- The steps of a table as operations: what its shapes show of themselves.
-use Rattle.std.proofs.Common.{◌≡◌, ℕ, zero, suc, Bool, true, false, not, ◌&&◌, ◌||◌, ◌==◌, ◌%◌, ◌+◌, Option, Some, None, is_some, slice_set, unwrap_or, if◌then◌else◌, refl, ap, sym, ◌∙◌, subst, List}
-use Rattle.std.proofs.lemmas.Bool.{eqb-true, and_parts, false≢true, true≢false}
-use Rattle.spin_step.specs.Plain.{Plain, Ask, Change, is_open}
-use Rattle.spin_world_core.specs.declared.place.Hold.{Hold}
-use Rattle.spin_world_core.specs.declared.answer.Answer.{Answer}
-use Rattle.spin_world_core.specs.declared.object.Next.{Next}
-use Rattle.spin_world_core.specs.declared.object.Next.TheVariants.{Continue, Answers}
-use Rattle.spin_world_core.specs.StepKinds.{StepKind, is_again, is_look}
-use Rattle.spin_world_core.specs.Calls.{LockKind, is_step_of, Asked, looks, may_be_weak, is_exchanged, is_got_weakly, Mark}
-use Rattle.spin_world_core.specs.Begins.{fits}
-use Rattle.spin_world_core.specs.Operations.{Operation, exchanges, sets_lowest_bit, performed, Performs, IsOneOperation, RefusesAsLost, Stepwise}
-use Rattle.spin_world_core.specs.Acts.{Memory, one_number, number_at, Act, load_if, enter, exchange, weak_exchange, attempt, retry, store, section, swap, tried, guessed, becomes, passing, retried, place_of, step_at, made_if, change_at, refusal_by, makes_by, operation_by, is_section, step_by, step_kind_by, Table, machine_of, completes_by, brought, filled, machine_with}
-use Rattle.spin_world_core.specs.Schedules.{placed}
+use Rattle.spin_world_core.proofs.Names.{◌≡◌, ℕ, zero, suc, Bool, true, false, not, ◌&&◌, ◌||◌, ◌==◌, ◌%◌, ◌+◌, Option, Some, None, is_some, slice_set, unwrap_or, if◌then◌else◌, refl, ap, sym, ◌∙◌, subst, List, eqb-true, and_parts, false≢true, true≢false, Plain, Ask, Change, is_open, Hold, Answer, Next, Continue, Answers, StepKind, is_again, is_look, LockKind, is_step_of, Asked, looks, may_be_weak, is_exchanged, is_got_weakly, Mark, fits, Operation, exchanges, sets_lowest_bit, performed, Performs, IsOneOperation, RefusesAsLost, Stepwise, Memory, one_number, number_at, Act, load_if, enter, exchange, weak_exchange, attempt, retry, store, section, swap, tried, guessed, becomes, passing, retried, place_of, step_at, made_if, change_at, refusal_by, makes_by, operation_by, is_section, step_by, step_kind_by, Table, machine_of, completes_by, brought, filled, machine_with, placed}
 use Rattle.spin_world_core.proofs.Facts.{GoesOnOpen, ContinuesCounted}
 
 -- The debts

@@ -1,20 +1,7 @@
 -- What an owner's move keeps.
-use Rattle.std.proofs.Common.{◌≡◌, ℕ, Bool, true, false, Option, Some, None, List, [], ◌∷◌, zero, suc, map, slice_get, refl, sym, ap, ◌∙◌, subst}
-use Rattle.std.specs.List.{list_all}
-use Rattle.std.specs.Option.{option_map}
-use Rattle.std.proofs.lemmas.Bool.{and_from, and_parts, false≢true, true≢false}
-use Rattle.std.proofs.lemmas.Option.{slice_get-map}
-use Rattle.spin_step.specs.Plain.{Plain}
-use Rattle.spin_world_core.specs.declared.place.Hold.{Hold}
-use Rattle.spin_world_core.specs.declared.place.Seat.{Seat}
-use Rattle.spin_world_core.specs.declared.place.Seat.TheVariants.{Calling, Holding, Leaked, Gone}
-use Rattle.spin_world_core.specs.declared.schedule.Move.TheVariants.{OwnerGet, OwnerSet}
+use Rattle.spin_world_core.proofs.Names.{◌≡◌, ℕ, Bool, true, false, Option, Some, None, List, [], ◌∷◌, zero, suc, map, slice_get, refl, sym, ap, ◌∙◌, subst, list_all, option_map, and_from, and_parts, false≢true, true≢false, slice_get-map, Plain, Hold, Seat, Calling, Holding, Leaked, Gone, OwnerGet, OwnerSet, Mark, Machine, is_owners, yields_to_owner, let_go, seen_by_owner, owner_gets, owner_sets, owner_writes, Seen, scene_of, ComesTo, StandsFor, YieldsToOwner, IsOwners}
 use Rattle.spin_world_core.specs.declared.schedule.Outcome.TheVariants as outcome
 use Rattle.spin_world_core.specs.StepKinds as step_kind
-use Rattle.spin_world_core.specs.Calls.{Mark}
-use Rattle.spin_world_core.specs.Machines.{Machine}
-use Rattle.spin_world_core.specs.Schedules.{is_owners, yields_to_owner, let_go, seen_by_owner, owner_gets, owner_sets, owner_writes}
-use Rattle.spin_world_core.specs.Runs.{Seen, scene_of, ComesTo, StandsFor, YieldsToOwner, IsOwners}
 use Rattle.spin_world_core.proofs.Facts.{LocalInvariant, Facts}
 use Rattle.spin_world_core.proofs.Preserved.{OfParty, Invariant, Preserved, kept_aside}
 

@@ -1,25 +1,6 @@
 -- An object that pays what its table owes shows all local facts.
-use Rattle.std.proofs.Common.{◌≡◌, ℕ, zero, suc, ◌+◌, ◌<◌, ◌≤◌, ◌==◌, Bool, true, false, not, is_some, Option, Some, None, List, [], ◌∷◌, ◌++◌, option_to_list, get_or, if◌then◌else◌, refl, ap, sym, ◌∙◌, subst, arith}
-use Rattle.std.proofs.lemmas.Bool.{and_parts, false≢true, true≢false, eqb-true}
-use Rattle.spin_step.specs.Plain.{Plain, Phase, is_empty, Ask, Change, gets, completes, is_open, is_open_to}
-use Rattle.spin_step.specs.Parties.{apply_some, IsOpenStep, entries, IsExclusive}
-use Rattle.spin_step.specs.Steps.{bit}
-use Rattle.spin_world_core.specs.declared.place.Hold.{Hold}
-use Rattle.spin_world_core.specs.declared.object.Next.{Next}
-use Rattle.spin_world_core.specs.declared.object.Next.TheVariants.{Continue, Answers}
-use Rattle.spin_world_core.specs.declared.object.Stepped.{Stepped}
+use Rattle.spin_world_core.proofs.Names.{◌≡◌, ℕ, zero, suc, ◌+◌, ◌<◌, ◌≤◌, ◌==◌, Bool, true, false, not, is_some, Option, Some, None, List, [], ◌∷◌, ◌++◌, option_to_list, get_or, if◌then◌else◌, refl, ap, sym, ◌∙◌, subst, arith, and_parts, false≢true, true≢false, eqb-true, Plain, Phase, is_empty, Ask, Change, gets, completes, is_open, is_open_to, apply_some, IsOpenStep, entries, IsExclusive, bit, Hold, Next, Continue, Answers, Stepped, Move, Step, Weak, StepKind, plain, again, look, weak, is_again, is_look, by_step, LockKind, Asked, waits, waits_or_starves, tries, initializes, fails_to_initialize, waits_for_value, polls, meets, encoded, is_step_of, BelongsTo, Said, own_steps, AnyOf, Mark, first_word, Limit, registers_after, limit, may_be_weak, before_weakly, arrived, is_open_next, is_open_now, steps_alone, goes_for, Way, always, by_looks, past_looks, way_of, is_due_by, LooksElse, Gets, MayTryOn, mark_of, if_completed, entries_held, own, failures, changes, IsBeginning, RightAnswer, ContinuesWithin, number_at, Act, load, load_if, load_for, enter, exchange, weak_exchange, attempt, retry, store, section, swap, tried, guessed, either, stays, passing, becomes, retried, step_by, made_if, change_by, can_by, refusal_by, makes_by, is_waiting, look_kind, step_kind_by, Table, begin_of, machine_of, performed, placed, HasPhase, Gives}
 use Rattle.spin_world_core.specs.declared.schedule.Outcome.TheVariants as outcome
-use Rattle.spin_world_core.specs.declared.schedule.Move.{Move}
-use Rattle.spin_world_core.specs.declared.schedule.Move.TheVariants.{Step, Weak}
-use Rattle.spin_world_core.specs.StepKinds.{StepKind, plain, again, look, weak, is_again, is_look, by_step}
-use Rattle.spin_world_core.specs.Calls.{LockKind, Asked, waits, waits_or_starves, tries, initializes, fails_to_initialize, waits_for_value, polls, meets, encoded, is_step_of, BelongsTo, Said, own_steps, AnyOf, Mark, first_word, Limit, registers_after, limit, may_be_weak, before_weakly}
-use Rattle.spin_world_core.specs.Undisturbed.{arrived, is_open_next, is_open_now, steps_alone}
-use Rattle.spin_world_core.specs.Order.{goes_for, Way, always, by_looks, past_looks, way_of, is_due_by, LooksElse, Gets, MayTryOn}
-use Rattle.spin_world_core.specs.Runs.{mark_of, if_completed, entries_held, own, failures, changes, IsBeginning, RightAnswer, ContinuesWithin}
-use Rattle.spin_world_core.specs.Acts.{number_at, Act, load, load_if, load_for, enter, exchange, weak_exchange, attempt, retry, store, section, swap, tried, guessed, either, stays, passing, becomes, retried, step_by, made_if, change_by, can_by, refusal_by, makes_by, is_waiting, look_kind, step_kind_by, Table, begin_of, machine_of}
-use Rattle.spin_world_core.specs.Operations.{performed}
-use Rattle.spin_world_core.specs.Schedules.{placed}
-use Rattle.spin_world_core.specs.Values.{HasPhase, Gives}
 use Rattle.spin_world_core.proofs.Facts.{AnswersWithin, InCall, NextIs, NextGives, GoesOnOpen, ContinuesCounted, PointFacts, Facts}
 use Rattle.spin_world_core.proofs.Operating.{fits_change, fits_made, counted_of, stepwise_of}
 use Rattle.spin_world_core.proofs.Spans.{own-mine, retries-mine}

@@ -1,16 +1,7 @@
 -- What has been played of a schedule, at a turn of the loop.
-use Rattle.std.proofs.Common.{◌≡◌, ℕ, suc, map, ◌+◌, ◌<◌, ◌≤◌, ◌==◌, ◌&&◌, Bool, true, false, Option, Some, None, List, [], ◌∷◌, ◌++◌, length, slice_get, slice_set, if◌then◌else◌, unwrap_or, refl, ap, sym, ◌∙◌, arith, subst, ⊎_elim, length-set, take, get_or, length-take-le, zero-add}
-use Rattle.std.proofs.Math.Logic.{∥∥₁_map}
-use Rattle.std.proofs.lemmas.Bool.{cases_lt, true≢false}
-use Rattle.std.proofs.lemmas.Bool.Decides.{eqb_tells}
-use Rattle.std.proofs.lemmas.List.{length-map, take_all}
-use Rattle.spin_world_core.specs.declared.schedule.Move.{Move}
-use Rattle.spin_world_core.specs.declared.schedule.Outcome.{Outcome}
+use Rattle.spin_world_core.proofs.Names.{◌≡◌, ℕ, suc, map, ◌+◌, ◌<◌, ◌≤◌, ◌==◌, ◌&&◌, Bool, true, false, Option, Some, None, List, [], ◌∷◌, ◌++◌, length, slice_get, slice_set, if◌then◌else◌, unwrap_or, refl, ap, sym, ◌∙◌, arith, subst, ⊎_elim, length-set, take, get_or, length-take-le, zero-add, ∥∥₁_map, cases_lt, true≢false, eqb_tells, length-map, take_all, Move, Outcome, Event, Machine, State, Happened, happens, after, events_of, with_begins, last_begin, begins_after, with_begin, is_begun, at_first, CanStep, CanAlways, IsReached}
 use Rattle.spin_world_core.specs.declared.schedule.Outcome.TheVariants as outcome
-use Rattle.spin_world_core.specs.declared.schedule.Event.{Event}
-use Rattle.spin_world_core.specs.Machines.{Machine}
-use Rattle.spin_world_core.specs.Schedules.{State, Happened, happens, after, events_of, with_begins, last_begin, begin_of, begins_after, with_begin, is_begun, at_first}
-use Rattle.spin_world_core.specs.Runs.{CanStep, CanAlways, IsReached}
+use Rattle.spin_world_core.specs.Schedules.{begin_of}
 use Rattle.spin_world_core.proofs.Lists.{get-set_within, get-set_other, take_next}
 use Rattle.spin_world_core.proofs.Schedules.{after-append, events_of-append, length-events_of, with_begins-append, last_begin-append, stranger, length-happens}
 

@@ -1,28 +1,8 @@
 -- One event keeps all that is promised, of any object that shows its local facts.
-use Rattle.std.proofs.Common.{◌≡◌, ℕ, ◌<◌, ◌≤◌, ◌==◌, Bool, true, false, Option, Some, None, List, [], ◌∷◌, ◌++◌, suc, if◌then◌else◌, is_some, slice_get, slice_set, refl, ap, sym, ◌∙◌, subst, ⊎_elim, arith}
-use Rattle.std.proofs.lemmas.Bool.{ne_eqb, cases_eq, true≢false, false≢true}
-use Rattle.spin_step.specs.Plain.{Plain, Ask, Change, completes}
-use Rattle.spin_step.specs.Parties.{apply_some, IsOpenStep, Entries, entries, entries_after, IsExclusive}
-use Rattle.spin_step.proofs.Entries.{entries-other, entries-own}
-use Rattle.spin_step.proofs.Exclusive.{exclusive-kept}
-use Rattle.spin_world_core.specs.declared.place.Hold.{Hold}
+use Rattle.spin_world_core.proofs.Names.{◌≡◌, ℕ, ◌<◌, ◌≤◌, ◌==◌, Bool, true, false, Option, Some, None, List, [], ◌∷◌, ◌++◌, suc, if◌then◌else◌, is_some, slice_get, slice_set, refl, ap, sym, ◌∙◌, subst, ⊎_elim, arith, ne_eqb, cases_eq, true≢false, false≢true, Plain, Ask, Change, completes, apply_some, IsOpenStep, Entries, entries, entries_after, IsExclusive, entries-other, entries-own, exclusive-kept, Hold, Seat, Idle, Calling, Holding, Leaked, Next, Continue, Answers, Move, Begin, Step, Weak, Read, Write, Leak, Outcome, StepKind, is_again, is_weak, by_step, encoded, BelongsTo, tries, Mark, Machine, State, skipped, seated, begun, goes_on, placed, resting, read_by, written_by, may_read, may_write, InItsCall, LeavesCalls, held_at, Seen, Scene, scene_at, scene_of, mark_of, own, own_count, failures, changes, if_completed, is_open_move, entries_of, entries_held, entries_so_far, StandsFor, is_reader, is_writer, MayTouch, MaySkip, is_in_place, ComesTo, IsWeakCall, StepLeaves, OwnSteps, asked, Keeps, IsRight, InTime, IsCounted, IsInTime, is_open_now, Leaves, AllOf, AnsweredSoon, Gets, GetsWhenDue, TriesOn}
 use Rattle.spin_world_core.specs.declared.place.Hold.TheVariants as hold
-use Rattle.spin_world_core.specs.declared.place.Seat.{Seat}
-use Rattle.spin_world_core.specs.declared.place.Seat.TheVariants.{Idle, Calling, Holding, Leaked}
-use Rattle.spin_world_core.specs.declared.object.Next.{Next}
-use Rattle.spin_world_core.specs.declared.object.Next.TheVariants.{Continue, Answers}
-use Rattle.spin_world_core.specs.declared.schedule.Move.{Move}
-use Rattle.spin_world_core.specs.declared.schedule.Move.TheVariants.{Begin, Step, Weak, Read, Write, Leak}
-use Rattle.spin_world_core.specs.declared.schedule.Outcome.{Outcome}
 use Rattle.spin_world_core.specs.declared.schedule.Outcome.TheVariants as outcome
-use Rattle.spin_world_core.specs.StepKinds.{StepKind, is_again, is_weak, by_step}
 use Rattle.spin_world_core.specs.StepKinds as step_kind
-use Rattle.spin_world_core.specs.Calls.{encoded, BelongsTo, tries, Mark}
-use Rattle.spin_world_core.specs.Machines.{Machine}
-use Rattle.spin_world_core.specs.Schedules.{State, skipped, seated, begun, goes_on, placed, resting, read_by, written_by, may_read, may_write}
-use Rattle.spin_world_core.specs.Runs.{InItsCall, LeavesCalls, held_at, Seen, Scene, scene_at, scene_of, mark_of, own, own_count, failures, changes, if_completed, is_open_move, entries_of, entries_held, entries_so_far, StandsFor, is_reader, is_writer, MayTouch, MaySkip, is_in_place, ComesTo, IsWeakCall, StepLeaves, OwnSteps, asked, Keeps, IsRight, InTime, IsCounted, IsInTime}
-use Rattle.spin_world_core.specs.Undisturbed.{is_open_now, Leaves, AllOf, AnsweredSoon}
-use Rattle.spin_world_core.specs.Order.{Gets, GetsWhenDue, TriesOn}
 use Rattle.spin_world_core.proofs.Lists.{get-set_same, get-set_other, eqb_self}
 use Rattle.spin_world_core.proofs.Spans.{retries-mine, retries-other}
 use Rattle.spin_world_core.proofs.Facts.{LocalInvariant, KnowsAt, InCall, NextIs, AnswersWithin, GoesOnOpen, ContinuesCounted, PointFacts, Facts}

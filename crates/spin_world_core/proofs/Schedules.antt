@@ -1,18 +1,6 @@
 -- Schedules one entry longer.
-use Rattle.std.proofs.Common.{◌≡◌, ℕ, suc, ◌+◌, ◌≤◌, ◌==◌, ◌&&◌, Option, Some, None, List, [], ◌∷◌, ◌++◌, length, if◌then◌else◌, refl, ap, sym, ◌∙◌, arith, append_assoc, length-set}
-use Rattle.std.proofs.lemmas.Option.{slice_get_past}
-use Rattle.std.proofs.lemmas.List.{append-nil, length-map}
-use Rattle.spin_world_core.specs.declared.place.Hold.{Hold}
-use Rattle.spin_world_core.specs.declared.place.Seat.TheVariants.{Calling, Leaked}
-use Rattle.spin_world_core.specs.declared.object.Next.{Next}
-use Rattle.spin_world_core.specs.declared.object.Next.TheVariants.{Continue, Answers}
-use Rattle.spin_world_core.specs.declared.schedule.Move.{Move}
+use Rattle.spin_world_core.proofs.Names.{◌≡◌, ℕ, suc, ◌+◌, ◌≤◌, ◌==◌, ◌&&◌, Option, Some, None, List, [], ◌∷◌, ◌++◌, length, if◌then◌else◌, refl, ap, sym, ◌∙◌, arith, append_assoc, length-set, slice_get_past, append-nil, length-map, Hold, Calling, Leaked, Next, Continue, Answers, Move, Event, Machine, opening_plain, State, happens, moves_at, goes_on, placed, resting, owner_writes, after, events_of, with_begins, with_begin, last_begin, is_begun, seen_by_owner, Seen, scene, seen_after}
 use Rattle.spin_world_core.specs.declared.schedule.Outcome.TheVariants as outcome
-use Rattle.spin_world_core.specs.declared.schedule.Event.{Event}
-use Rattle.spin_world_core.specs.Machines.{Machine, opening_plain}
-use Rattle.spin_world_core.specs.Schedules.{State, happens, moves_at, goes_on, placed, resting, owner_writes, after, events_of, with_begins, with_begin, last_begin, is_begun, seen_by_owner}
-use Rattle.spin_world_core.specs.Runs.{Seen, scene}
-use Rattle.spin_world_core.specs.Users.{seen_after}
 use Rattle.spin_world_core.proofs.Events.{of_event}
 
 pub with_begins-append : {W V A : Type 0} (before xs ys : List (Event W V A))

@@ -1,18 +1,5 @@
 -- What the table of an object owes, point by point, and that its machine then shows all local facts.
-use Rattle.std.proofs.Common.{◌≡◌, ℕ, zero, suc, ◌≤◌, Bool, true, false, ◌||◌, ◌==◌, is_some, Option, Some, None, List, [], ◌∷◌, ◌++◌, option_to_list}
-use Rattle.spin_step.specs.Plain.{Plain, Ask, Change, gets, apply, is_open, is_empty}
-use Rattle.spin_step.specs.Parties.{apply_some, IsOpenStep, IsExclusive}
-use Rattle.spin_world_core.specs.declared.place.Hold.{Hold}
-use Rattle.spin_world_core.specs.declared.object.Next.{Next}
-use Rattle.spin_world_core.specs.declared.object.Next.TheVariants.{Continue, Answers}
-use Rattle.spin_world_core.specs.StepKinds.{StepKind, plain, again, weak, by_step}
-use Rattle.spin_world_core.specs.Calls.{Asked, tries, encoded, BelongsTo, own_steps, Mark, AnyOf, Limit, registers_after, limit, may_be_weak, before_weakly}
-use Rattle.spin_world_core.specs.Undisturbed.{arrived, is_open_next, steps_alone}
-use Rattle.spin_world_core.specs.Order.{goes_for}
-use Rattle.spin_world_core.specs.Machines.{opening_plain}
-use Rattle.spin_world_core.specs.Runs.{mark_of, failures, changes}
-use Rattle.spin_world_core.specs.Acts.{number_at, Act, load, load_if, load_for, enter, exchange, weak_exchange, attempt, retry, store, section, swap, tried, guessed, passing, place_of, step_by, makes_by, is_waiting, look_kind, Table, begin_of, machine_of}
-use Rattle.spin_world_core.specs.Operations.{performed}
+use Rattle.spin_world_core.proofs.Names.{◌≡◌, ℕ, zero, suc, ◌≤◌, Bool, true, false, ◌||◌, ◌==◌, is_some, Option, Some, None, List, [], ◌∷◌, ◌++◌, option_to_list, Plain, Ask, Change, gets, apply, is_open, is_empty, apply_some, IsOpenStep, IsExclusive, Hold, Next, Continue, Answers, StepKind, plain, again, weak, by_step, Asked, tries, encoded, BelongsTo, own_steps, Mark, AnyOf, Limit, registers_after, limit, may_be_weak, before_weakly, arrived, is_open_next, steps_alone, goes_for, opening_plain, mark_of, failures, changes, number_at, Act, load, load_if, load_for, enter, exchange, weak_exchange, attempt, retry, store, section, swap, tried, guessed, passing, place_of, step_by, makes_by, is_waiting, look_kind, Table, begin_of, machine_of, performed}
 use Rattle.spin_world_core.proofs.Facts.{LocalInvariant}
 use Rattle.spin_world_core.proofs.Operating.{fits_act, Operates}
 use Rattle.spin_world_core.proofs.Stands.{stand_of, stand_after}

@@ -1,14 +1,5 @@
 -- How many parties share the value, and how many have leaked, as seats change.
-use Rattle.std.proofs.Common.{◌≡◌, ◌+◌, Bool, false, List, [], ◌∷◌, length, map, Vec, refl, ap, sym, ◌∙◌, subst, arith, zero-add}
-use mathlib.Core.Bool.{cond}
-use Rattle.std.specs.List.{count_by}
-use Rattle.std.proofs.lemmas.List.{length-map, with_items_is}
-use Rattle.std.proofs.lemmas.List.Sums.{sum_by-cons}
-use Rattle.std.specs.Vec.{with_items}
-use Rattle.spin_world_core.specs.declared.place.Seat.{Seat}
-use Rattle.spin_world_core.specs.declared.place.Seat.TheVariants.{Idle, Calling, Holding, Leaked, Gone}
-use Rattle.spin_world_core.specs.Schedules.{State, seen_by_owner, let_go}
-use Rattle.spin_world_core.specs.Sharing.{shares, has_leaked}
+use Rattle.spin_world_core.proofs.Names.{◌≡◌, ◌+◌, Bool, false, List, [], ◌∷◌, length, map, Vec, refl, ap, sym, ◌∙◌, subst, arith, zero-add, cond, count_by, length-map, with_items_is, sum_by-cons, with_items, Seat, Idle, Calling, Holding, Leaked, Gone, State, seen_by_owner, let_go, shares, has_leaked}
 
 count_by-cons : {X : Type 0} (f : X → Bool) (x : X) (xs : List X) → count_by f (x ∷ xs) ≡ cond (f x) 1 0 + count_by f xs
 count_by-cons f x xs = sum_by-cons (λ y. cond (f y) 1 0) x xs

@@ -1,13 +1,5 @@
 -- A party's own steps in a span, one step longer.
-use Rattle.std.proofs.Common.{◌≡◌, ℕ, ◌+◌, ◌<◌, ◌≤◌, ◌==◌, Bool, true, false, not, ◌&&◌, is_some, Option, Some, None, List, [], ◌∷◌, ◌++◌, option_to_list, if◌then◌else◌, refl, ap, ◌∙◌, arith}
-use Rattle.std.proofs.lemmas.Bool.{ne_eqb}
-use Rattle.std.proofs.lemmas.List.{append-nil}
-use Rattle.spin_step.specs.Plain.{Plain, Change}
-use Rattle.spin_step.specs.Parties.{apply_some}
-use Rattle.spin_step.specs.Steps.{bit}
-use Rattle.spin_world_core.specs.StepKinds.{StepKind, again, is_again}
-use Rattle.spin_world_core.specs.Calls.{LockKind, first_word, Mark}
-use Rattle.spin_world_core.specs.Runs.{mark_of, own, own_count, failures, changes}
+use Rattle.spin_world_core.proofs.Names.{◌≡◌, ℕ, ◌+◌, ◌<◌, ◌≤◌, ◌==◌, Bool, true, false, not, ◌&&◌, is_some, Option, Some, None, List, [], ◌∷◌, ◌++◌, option_to_list, if◌then◌else◌, refl, ap, ◌∙◌, arith, ne_eqb, append-nil, Plain, Change, apply_some, bit, StepKind, again, is_again, LockKind, first_word, Mark, mark_of, own, own_count, failures, changes}
 use Rattle.spin_world_core.proofs.Lists.{eqb_self}
 
 -- after a step of its own

@@ -1,29 +1,9 @@
 -- A transcript tells the scenes, and a place what its party's moves and entries say.
-use Rattle.std.proofs.Common.{◌≡◌, ℕ, ◌<◌, ◌≤◌, ◌==◌, Bool, true, false, Option, Some, None, List, [], ◌∷◌, ◌++◌, length, map, slice_get, slice_set, if◌then◌else◌, refl, ap, sym, ◌∙◌, subst, arith, ⊎_elim}
-use Rattle.std.specs.Option.{option_map}
-use Rattle.std.proofs.lemmas.Bool.Decides.{eqb_tells}
-use Rattle.std.proofs.lemmas.List.{length-replicate}
-use Rattle.std.proofs.lemmas.Option.{slice_get-map, slice_get_within, slice_get_cases}
-use Rattle.spin_step.specs.Plain.{Plain, Change}
-use Rattle.spin_world_core.specs.declared.place.Hold.{Hold}
-use Rattle.spin_world_core.specs.declared.place.Place.{Place}
-use Rattle.spin_world_core.specs.declared.place.Seat.{Seat}
-use Rattle.spin_world_core.specs.declared.place.Seat.TheVariants.{Idle, Calling, Holding, Leaked, Gone}
-use Rattle.spin_world_core.specs.declared.object.Next.{Next}
-use Rattle.spin_world_core.specs.declared.object.Next.TheVariants.{Continue, Answers}
-use Rattle.spin_world_core.specs.declared.schedule.Move.{Move}
-use Rattle.spin_world_core.specs.declared.schedule.Move.TheVariants.{Begin, Step, Weak, OwnerSet}
-use Rattle.spin_world_core.specs.declared.schedule.Outcome.{Outcome}
+use Rattle.spin_world_core.proofs.Names.{◌≡◌, ℕ, ◌<◌, ◌≤◌, ◌==◌, Bool, true, false, Option, Some, None, List, [], ◌∷◌, ◌++◌, length, map, slice_get, slice_set, if◌then◌else◌, refl, ap, sym, ◌∙◌, subst, arith, ⊎_elim, option_map, eqb_tells, length-replicate, slice_get-map, slice_get_within, slice_get_cases, Plain, Change, Hold, Place, Seat, Idle, Calling, Holding, Leaked, Gone, Next, Continue, Answers, Move, Begin, Step, Weak, OwnerSet, Outcome, Event, StepKind, by_step, Mark, Machine, opening_plain, State, happens, begun, goes_on, placed, resting, seen_by_owner, owner_writes, events_of, with_begins, with_begin, last_begin, Seen, Scene, scene, scene_of, Every, Keeps, KeepsAll, StandsFor, opening, seen_after, scenes, without_begin, EachTells, TellsAfterAnyPast, Stage, at_rest, in_call, is_gone, stage_by_own, stage_by_owner, let_go_stage, stage_after, StandsAt, PlaceSays, SaysAfterAnyPast}
 use Rattle.spin_world_core.specs.declared.schedule.Outcome.TheVariants as outcome
-use Rattle.spin_world_core.specs.declared.schedule.Event.{Event}
-use Rattle.spin_world_core.specs.StepKinds.{StepKind, by_step}
 use Rattle.spin_world_core.specs.StepKinds as step_kind
-use Rattle.spin_world_core.specs.Calls.{Mark}
-use Rattle.spin_world_core.specs.Machines.{Machine, opening_plain}
-use Rattle.spin_world_core.specs.Schedules.{State, happens, begun, goes_on, placed, resting, seen_by_owner, owner_writes, events_of, with_begins, with_begin, last_begin, place_of}
-use Rattle.spin_world_core.specs.Runs.{Seen, Scene, scene, scene_of, Every, Keeps, KeepsAll, StandsFor, opening}
-use Rattle.spin_world_core.specs.Users.{seen_after}
-use Rattle.spin_world_core.specs.Transcripts.{scenes, without_begin, EachTells, TellsAfterAnyPast, Stage, at_rest, in_call, has_leaked, is_gone, stage_by_own, stage_by_owner, let_go_stage, stage_after, StandsAt, PlaceSays, SaysAfterAnyPast}
+use Rattle.spin_world_core.specs.Schedules.{place_of}
+use Rattle.spin_world_core.specs.Transcripts.{has_leaked}
 use Rattle.spin_world_core.proofs.Lists.{get-set_same, get-set_other, get-replicate}
 use Rattle.spin_world_core.proofs.Events.{of_event}
 use Rattle.spin_world_core.proofs.Every.{state-seen_after}

@@ -1,20 +1,6 @@
 -- An undisturbed call is answered by so many own steps as its kind of lock says.
-use Rattle.std.proofs.Common.{◌≡◌, ℕ, zero, suc, ◌+◌, ◌<◌, ◌≤◌, true, false, Option, Some, None, List, [], ◌∷◌, ◌++◌, refl, ap, sym, ◌∙◌, subst, arith}
-use Rattle.std.specs.Option.{option_map}
-use Rattle.spin_step.specs.Plain.{Plain, Change}
-use Rattle.spin_step.specs.Parties.{apply_some}
-use Rattle.spin_world_core.specs.declared.place.Hold.{Hold}
-use Rattle.spin_world_core.specs.declared.place.Seat.{Seat}
-use Rattle.spin_world_core.specs.declared.place.Seat.TheVariants.{Idle, Calling}
-use Rattle.spin_world_core.specs.declared.object.Next.{Next}
-use Rattle.spin_world_core.specs.declared.object.Next.TheVariants.{Continue}
-use Rattle.spin_world_core.specs.StepKinds.{StepKind, is_weak}
-use Rattle.spin_world_core.specs.Calls.{encoded, Mark}
-use Rattle.spin_world_core.specs.Machines.{Machine}
-use Rattle.spin_world_core.specs.Schedules.{resting, seen_by_owner}
+use Rattle.spin_world_core.proofs.Names.{◌≡◌, ℕ, zero, suc, ◌+◌, ◌<◌, ◌≤◌, true, false, Option, Some, None, List, [], ◌∷◌, ◌++◌, refl, ap, sym, ◌∙◌, subst, arith, option_map, Plain, Change, apply_some, Hold, Seat, Idle, Calling, Next, Continue, StepKind, is_weak, encoded, Mark, Machine, resting, seen_by_owner, mark_of, is_open_now, Leaves, AllOf, steps_alone}
 use Rattle.spin_world_core.specs.Spans.{own_count}
-use Rattle.spin_world_core.specs.Runs.{mark_of}
-use Rattle.spin_world_core.specs.Undisturbed.{is_open_now, Leaves, AllOf, steps_alone}
 use Rattle.spin_world_core.proofs.Facts.{AnswersWithin}
 use Rattle.spin_world_core.proofs.Spans.{own_count-mine, own_count-other}
 

@@ -1,13 +1,5 @@
 -- The laws that users rely on.
-use Rattle.std.proofs.Common.{◌≡◌, ℕ, Option, List, [], ◌∷◌, refl, ap, sym, ◌∙◌}
-use Rattle.spin_world_core.specs.declared.schedule.Move.{Move}
-use Rattle.spin_world_core.specs.declared.schedule.Move.TheVariants.{Read, OwnerGet}
-use Rattle.spin_world_core.specs.declared.schedule.Outcome.{Outcome}
-use Rattle.spin_world_core.specs.declared.schedule.Outcome.TheVariants.{Value}
-use Rattle.spin_world_core.specs.Machines.{Machine}
-use Rattle.spin_world_core.specs.Schedules.{State, after, at_first, moves_at, read_by, owner_gets}
-use Rattle.spin_world_core.specs.Runs.{Seen, Every, Keeps, KeepsAll, opening, scene}
-use Rattle.spin_world_core.specs.Users.{seen_after, FindsLastWritten, RunsJoin}
+use Rattle.spin_world_core.proofs.Names.{◌≡◌, ℕ, Option, List, [], ◌∷◌, refl, ap, sym, ◌∙◌, Move, Read, OwnerGet, Outcome, Value, Machine, State, after, at_first, moves_at, read_by, owner_gets, Seen, Every, Keeps, KeepsAll, opening, scene, seen_after, FindsLastWritten, RunsJoin}
 use Rattle.spin_world_core.proofs.Every.{state-seen_after}
 use Rattle.spin_world_core.proofs.Schedules.{after-append, events_of-append}
 

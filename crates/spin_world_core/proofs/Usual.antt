@@ -1,15 +1,5 @@
 -- What the tables of several objects owe in the same way.
-use Rattle.std.proofs.Common.{◌≡◌, ℕ, zero, suc, ◌==◌, Bool, true, false, ◌||◌, Option, Some, None, List, [], ◌∷◌, refl, ap, sym, ◌∙◌, subst}
-use Rattle.std.proofs.lemmas.Bool.{eqb-true, eq-eqb, false≢true}
-use Rattle.spin_step.specs.Plain.{Plain, Holder, Ticket, Change, apply, is_open, is_empty}
-use Rattle.spin_step.specs.Parties.{party_of}
-use Rattle.spin_step.specs.Steps.{Decides}
-use Rattle.spin_world_core.specs.declared.place.Hold.{Hold}
-use Rattle.spin_world_core.specs.declared.object.Next.{Next}
-use Rattle.spin_world_core.specs.declared.object.Next.TheVariants.{Continue, Answers}
-use Rattle.spin_world_core.specs.Calls.{Asked, encoded, Mark}
-use Rattle.spin_world_core.specs.StepKinds.{StepKind}
-use Rattle.spin_world_core.specs.Acts.{number_at, Act, retry, either, step_by, Table}
+use Rattle.spin_world_core.proofs.Names.{◌≡◌, ℕ, zero, suc, ◌==◌, Bool, true, false, ◌||◌, Option, Some, None, List, [], ◌∷◌, refl, ap, sym, ◌∙◌, subst, eqb-true, eq-eqb, false≢true, Plain, Holder, Ticket, Change, apply, is_open, is_empty, party_of, Decides, Hold, Next, Continue, Answers, Asked, encoded, Mark, StepKind, number_at, Act, retry, either, step_by, Table}
 use Rattle.spin_world_core.proofs.Rows.{Branch, Row}
 use Rattle.spin_world_core.proofs.Shapes.{aim_of, aimed, aimed_at, Notes, Means, CallOf, AtPoint, Follows, goes_by, answers_by}
 

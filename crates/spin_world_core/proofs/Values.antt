@@ -1,17 +1,5 @@
 -- Every event keeps what is promised of values that closures make.
-use Rattle.std.proofs.Common.{◌≡◌, ℕ, Option, Some, List, slice_get, refl, ◌∙◌}
-use Rattle.spin_step.specs.Plain.{Change, completes}
-use Rattle.spin_world_core.specs.declared.place.Hold.{Hold}
-use Rattle.spin_world_core.specs.declared.place.Seat.{Seat}
-use Rattle.spin_world_core.specs.declared.place.Seat.TheVariants.{Calling}
-use Rattle.spin_world_core.specs.declared.object.Next.{Next}
-use Rattle.spin_world_core.specs.declared.object.Next.TheVariants.{Continue, Answers}
-use Rattle.spin_world_core.specs.declared.schedule.Move.{Move}
-use Rattle.spin_world_core.specs.declared.schedule.Move.TheVariants.{Step, Weak}
-use Rattle.spin_world_core.specs.Machines.{Machine, opening_plain}
-use Rattle.spin_world_core.specs.Schedules.{State, goes_on, refuses, placed}
-use Rattle.spin_world_core.specs.Runs.{Seen, Scene, scene_at, scene, opening}
-use Rattle.spin_world_core.specs.Values.{Brings, GivesAt, KeepsValue, ValuesAll}
+use Rattle.spin_world_core.proofs.Names.{◌≡◌, ℕ, Option, Some, List, slice_get, refl, ◌∙◌, Change, completes, Hold, Seat, Calling, Next, Continue, Answers, Move, Step, Weak, Machine, opening_plain, State, goes_on, refuses, placed, Seen, Scene, scene_at, scene, opening, Brings, GivesAt, KeepsValue, ValuesAll}
 use Rattle.spin_world_core.proofs.Facts.{LocalInvariant, NextGives, Facts}
 use Rattle.spin_world_core.proofs.Preserved.{Invariant, in_call}
 use Rattle.spin_world_core.proofs.Every.{kept, every, good_first}

@@ -1,12 +1,4 @@
-use Rattle.std.proofs.Common.{◌≡◌, ℕ, List, ◌++◌, length, take, sym, ap, ◌∙◌, subst, arith, length-take-le}
-use Rattle.std.proofs.lemmas.List.{length-append}
-use Rattle.std.proofs.Math.Logic.{∥∥₁_map, ∥∥₁_elim}
-use Rattle.std.proofs.Math.Bool.{Bool-set}
-use Rattle.spin_world_core.specs.declared.schedule.Move.{Move}
-use Rattle.spin_world_core.specs.Machines.{Machine}
-use Rattle.spin_world_core.specs.Schedules.{State, after, at_first}
-use Rattle.spin_world_core.specs.Runs.{CanStep, IsReached}
-use Rattle.spin_world_core.specs.Transcripts.{TellsAfterAnyPast}
+use Rattle.spin_world_core.proofs.Names.{◌≡◌, ℕ, List, ◌++◌, length, take, sym, ap, ◌∙◌, subst, arith, length-take-le, length-append, ∥∥₁_map, ∥∥₁_elim, Bool-set, Move, Machine, State, after, at_first, CanStep, IsReached, TellsAfterAnyPast}
 use Rattle.spin_world_core.proofs.Schedules.{after-append}
 use Rattle.spin_world_core.proofs.Transcripts.{tells_after}
 use Rattle.spin_world_core.proofs.Begins.{begins_told}
