@@ -15,7 +15,8 @@ module _ {W V C L A : Type 0} (m : Machine W V C L A) where
 
   module _ (k : LocalInvariant V C L) (f : Facts m k) where
     -- only what is not open to its party is skipped
-    may_pass : (seen : Seen W V C L) (p : ℕ) (move : Move C V) (o : Option (Seat C L)) → StandsFor seen.plain p (seen.span p) o → is_open_move m seen.state move o ≡ false → MaySkip m seen p move o
+    may_pass : (seen : Seen W V C L) (p : ℕ) (move : Move C V) (o : Option (Seat C L)) → StandsFor seen.plain p (seen.span p) o
+        → is_open_move m seen.state move o ≡ false → MaySkip m seen p move o
     may_pass seen p (Begin c) (Some Idle) stands closed = sym (f.stepwise.begins c None) ∙ closed
     may_pass seen p (Begin c) (Some (Holding h)) stands closed = sym (f.stepwise.begins c (Some h)) ∙ closed
     may_pass seen p Step (Some (Calling c l h)) stands closed = absurd (true≢false closed)
@@ -33,7 +34,9 @@ module _ {W V C L A : Type 0} (m : Machine W V C L A) where
     kept seen p move good =
         of_event m seen p (Preserved m k)
         (record {
-          passes = λ move o r there closed. skip_kept m k f seen p move o r good closed (may_pass seen p move o (subst (StandsFor seen.plain p (seen.span p)) there (good.parties p).stands) closed);
+          passes =
+              λ move o r there closed. skip_kept m k f seen p move o r good closed
+              (may_pass seen p move o (subst (StandsFor seen.plain p (seen.span p)) there (good.parties p).stands) closed);
           begins = begun_kept m k f seen p good;
           steps = step_kept m k f seen p good;
           refuses = λ c l h next there. refusal_kept m k f seen p good c l h there next;
@@ -58,7 +61,9 @@ module _ {W V C L A : Type 0} (m : Machine W V C L A) where
           shape = f.shape_first;
           exclusive = record { writer = λ e. absurd (omega arith); one_upgradable = omega arith; one_entered = refl };
           written = refl;
-          parties = λ q. get-replicate (OfParty m k m.words (opening_plain m) q []) Idle n q (record { stands = refl; knows = tt; retries = omega arith; undisturbed = tt })
+          parties =
+              λ q. get-replicate (OfParty m k m.words (opening_plain m) q []) Idle n q
+              (record { stands = refl; knows = tt; retries = omega arith; undisturbed = tt })
               (record { stands = refl; knows = tt; retries = omega arith; undisturbed = tt });
         }
 
@@ -76,7 +81,11 @@ module _ {W V C L A : Type 0} (m : Machine W V C L A) where
 
       pub keeps_of : KeepsAll m n es
       keeps_of =
-          record { first = f.first; numbers_tell = f.numbers_tell; each = every (Keeps m) (λ seen p move good. (kept seen p move good).keeps) (opening m n) es (good_first n) }
+          record {
+            first = f.first;
+            numbers_tell = f.numbers_tell;
+            each = every (Keeps m) (λ seen p move good. (kept seen p move good).keeps) (opening m n) es (good_first n);
+          }
 
       pub moments_of : MomentsAll m n es
       moments_of = every (IsRight m) (λ seen p move good. (kept seen p move good).right) (opening m n) es (good_first n)

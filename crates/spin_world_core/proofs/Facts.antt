@@ -57,7 +57,8 @@ module _ {W V C L A : Type 0} (m : Machine W V C L A) where
     NextIs move p c h s span (Answers a after) = Ends move p c h s span a after
 
     -- a step that makes this plain step
-    pub record StepIs (p : ℕ) (c : C) (h : Option Hold) (s : Plain) (v : Option V) (span : List Mark) (st : Stepped W V L A) (step : Option Change) (step_kind : StepKind) : Type 0 where
+    pub record StepIs (p : ℕ) (c : C) (h : Option Hold) (s : Plain) (v : Option V) (span : List Mark) (st : Stepped W V L A) (step : Option Change)
+        (step_kind : StepKind) : Type 0 where
       pub opens : IsOpenStep s p step
       pub belongs : BelongsTo m.lock_kind step
       pub encodes : m.numbers st.words ≡ encoded m.lock_kind (apply_some s step)
@@ -115,6 +116,8 @@ module _ {W V C L A : Type 0} (m : Machine W V C L A) where
       pub begins : (p : ℕ) (c : C) (l : L) (h : Option Hold) (s : Plain) → m.begin c h ≡ Some l → entries p s ≡ entries_held p h → k.Knows c l h p s []
       -- another party's step, of those that this kind of lock makes, leaves it true
       pub others : (p q : ℕ) (c : C) (l : L) (h : Option Hold) (s : Plain) (v : Option V) (step : Option Change) (step_kind : StepKind) (span : List Mark)
-          → (q ≡ p → ⊥) → k.Shape s v → IsExclusive s → IsOpenStep s q step → BelongsTo m.lock_kind step → k.Knows c l h p s span → k.Knows c l h p (apply_some s step) (mark_of q step step_kind s ∷ span)
+          → (q ≡ p → ⊥) → k.Shape s v → IsExclusive s → IsOpenStep s q step → BelongsTo m.lock_kind step → k.Knows c l h p s span
+          → k.Knows c l h p (apply_some s step) (mark_of q step step_kind s ∷ span)
       -- what is so at each point of a call
-      pub at : (p : ℕ) (c : C) (l : L) (h : Option Hold) (s : Plain) (v : Option V) (w : W) (span : List Mark) → InCall p c l h s v w span → PointFacts p c l h s v w span
+      pub at : (p : ℕ) (c : C) (l : L) (h : Option Hold) (s : Plain) (v : Option V) (w : W) (span : List Mark) → InCall p c l h s v w span
+          → PointFacts p c l h s v w span

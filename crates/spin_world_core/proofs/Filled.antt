@@ -157,7 +157,8 @@ module _ {W V C L : Type 0} (t : Table W V C L (Answer (Unit {0}))) (n : Notes t
           encodes = shown.went.encodes;
           shape = (shown.went.shape, puts.phase);
           places = puts.places;
-          next = next_with p c h (apply_some s step) (mark_of p step step_kind s ∷ span) _ st.next puts.phase (pays.tells p c l h s w here.encodes) shown.went.next;
+          next =
+              next_with p c h (apply_some s step) (mark_of p step step_kind s ∷ span) _ st.next puts.phase (pays.tells p c l h s w here.encodes) shown.went.next;
           fails = shown.went.fails;
         }
 
@@ -193,6 +194,7 @@ module _ {W V C L : Type 0} (t : Table W V C L (Answer (Unit {0}))) (n : Notes t
         shape_set = λ s old v shape. shape;
         phase = λ s v shape. has_phase t.lock_kind.makes_value s.phase v shape.1;
         begins = λ p c l h s e mine. begins_here t n pays.pays p c l h s e mine;
-        others = λ p q c l h s v step r span ne shape exclusive may belongs knows. others_here t n pays.pays p c l h s span q step r ne shape.0 may belongs knows;
+        others =
+            λ p q c l h s v step r span ne shape exclusive may belongs knows. others_here t n pays.pays p c l h s span q step r ne shape.0 may belongs knows;
         at = at_point;
       }

@@ -1,7 +1,7 @@
 -- What a party finds under one guard stays as it is.
 use Rattle.spin_world_core.proofs.Names.{◌≡◌, ℕ, ◌==◌, ◌&&◌, ◌||◌, Bool, true, false, not, Option, Some, None, List, [], ◌∷◌, ◌++◌, map, slice_get, slice_set, refl, ap, sym, ◌∙◌, subst, ⊎_elim, list_all, option_map, cases_eq, eq-eqb, and_parts, true≢false, false≢true, slice_get-map, Plain, Change, completes, entries, is_held, Hold, Seat, Idle, Calling, Holding, Leaked, Gone, Next, Continue, Answers, Move, Step, Weak, Read, OwnerSet, StepKind, plain, weak, by_step, Mark, Machine, State, moves_at, goes_on, placed, resting, read_by, may_read, may_write, yields_to_owner, seen_by_owner, owner_writes, Seen, Scene, scene, scene_at, scene_of, if_completed, StandsFor, is_reader, is_writer, opening, seen_after, is_quiet_move, is_quiet, ReadsAgreeAcross, ReadsAgree}
 use Rattle.spin_world_core.specs.declared.schedule.Outcome.TheVariants as outcome
-use Rattle.spin_world_core.proofs.Lists.{get-set_same, get-set_other}
+use Rattle.spin_world_core.proofs.Lists.{eqb_self, get-set_same, get-set_other}
 use Rattle.spin_world_core.proofs.Facts.{LocalInvariant, KnowsAt, Facts}
 use Rattle.spin_world_core.proofs.Events.{seat_with, of_event}
 use Rattle.spin_world_core.proofs.Preserved.{Invariant, in_call, with_hold, reader_of, writer_of}
@@ -70,7 +70,8 @@ module _ {V C L : Type 0} (r : GuardedRead C V) (w v : Option V) where
 
 module _ {W V C L A : Type 0} (m : Machine W V C L A) where
   module _ (k : LocalInvariant V C L) (f : Facts m k) (r : GuardedRead C V) (g : KeepsGuard m k r.keeps) where
-    reads_at : (w : Option V) (s : Plain) (p : ℕ) (span : List Mark) (o : Option (Seat C L)) → StandsFor s p span o → KnowsAt k s p span o → Guard r w o → ReaderOrGone s p o
+    reads_at : (w : Option V) (s : Plain) (p : ℕ) (span : List Mark) (o : Option (Seat C L)) → StandsFor s p span o → KnowsAt k s p span o → Guard r w o
+        → ReaderOrGone s p o
     reads_at w s p span (Some (Calling c l (Some h))) stands knows guard = g.reads p c l h s span guard.0 guard.1 knows
     reads_at w s p span (Some (Holding h)) stands knows guard = ap is_reader stands ∙ (reader_of p h ∙ guard.0)
     reads_at w s p span (Some (Leaked h)) stands knows guard = ap is_reader stands ∙ (reader_of p h ∙ guard.0)
@@ -92,7 +93,8 @@ module _ {W V C L A : Type 0} (m : Machine W V C L A) where
           (λ (ne : q ≡ p → ⊥). rw (get-set_other seen.state.seats q p x ne) held)
           (cases_eq q p)
 
-      begun : (c : C) (l : L) (h : Option Hold) → r.keeps c ≡ true → Guard {L = L} r seen.written (Some (resting h)) → Guard r seen.written (Some (Calling c l h))
+      begun : (c : C) (l : L) (h : Option Hold) → r.keeps c ≡ true → Guard {L = L} r seen.written (Some (resting h))
+          → Guard r seen.written (Some (Calling c l h))
       begun c l None keeps guard = guard
       begun c l (Some h) keeps guard = (keeps, guard.0, guard.1)
 
@@ -111,9 +113,11 @@ module _ {W V C L A : Type 0} (m : Machine W V C L A) where
           → slice_get seen.state.seats q ≡ Some (Calling c l h) → ((j : Hold) → h ≡ Some j → r.keeps c ≡ true → may_read j ≡ true → ReadsOn next)
           → Guard r (if_completed seen.written value step) (slice_get seen.state.seats p)
           → After (scene_of seen q move (Some (Calling c l h)) (goes_on (record seen.state { words = u; value = v }) q c h next) step step_kind value)
-      went move step step_kind value v u c l h (Continue i) there on held = sits (if_completed seen.written value step) (Calling c i h) (Calling c l h) there (λ e is. is) held
+      went move step step_kind value v u c l h (Continue i) there on held =
+          sits (if_completed seen.written value step) (Calling c i h) (Calling c l h) there (λ e is. is) held
       went move step step_kind value v u c l h (Answers a rest) there on held =
-          sits (if_completed seen.written value step) (resting rest) (Calling c l h) there (λ e. answered (if_completed seen.written value step) c l a h rest on) held
+          sits (if_completed seen.written value step) (resting rest) (Calling c l h) there
+          (λ e. answered (if_completed seen.written value step) c l a h rest on) held
 
       let_go_all : Guard r seen.written (slice_get (map seen_by_owner seen.state.seats) p)
       let_go_all = rw (slice_get-map seen_by_owner seen.state.seats p) (let_go r seen.written seen.written (slice_get seen.state.seats p) guard)
@@ -130,8 +134,10 @@ module _ {W V C L A : Type 0} (m : Machine W V C L A) where
           let st = m.step seen.state.words seen.state.value c l h in
           let step = m.change q seen.state.words c l h in
           went Step step (by_step (m.step_kind c l h)) st.placed (placed st.placed seen.state.value) st.words c l h st.next there
-          (λ j e keeps may. subst (λ o. ReadsOn (m.step seen.state.words seen.state.value c l o).next) (sym e) (g.steps c l j seen.state.words seen.state.value keeps may))
-          (completed r seen.written st.placed seen.plain p (slice_get seen.state.seats p) step reads (f.at q c l h _ _ _ _ (in_call m k seen q c l h good there)).completes_alone guard)
+          (λ j e keeps may. subst (λ o. ReadsOn (m.step seen.state.words seen.state.value c l o).next) (sym e)
+          (g.steps c l j seen.state.words seen.state.value keeps may))
+          (completed r seen.written st.placed seen.plain p (slice_get seen.state.seats p) step reads
+          (f.at q c l h _ _ _ _ (in_call m k seen q c l h good there)).completes_alone guard)
 
       -- nobody else writes beside the guard
       written : (v : V) (b : Bool) (h : Hold) → slice_get seen.state.seats q ≡ Some (seat_with b h) → may_write h ≡ true → (q ≡ p → ⊥)
@@ -148,7 +154,9 @@ module _ {W V C L A : Type 0} (m : Machine W V C L A) where
             passes = λ move o r there closed quiet. guard;
             begins = λ c l h there is quiet. sits seen.written (Calling c l h) (resting h) there (λ e. begun c l h (quiet e)) guard;
             steps = λ c l h there quiet. stepped c l h there;
-            refuses = λ c l h next there is quiet. went Weak None weak None seen.state.value seen.state.words c l h next there (λ j e keeps may. g.refuses c l j next keeps may (ap (m.refuse c l) (sym e) ∙ is)) guard;
+            refuses =
+                λ c l h next there is quiet. went Weak None weak None seen.state.value seen.state.words c l h next there
+                (λ j e keeps may. g.refuses c l j next keeps may (ap (m.refuse c l) (sym e) ∙ is)) guard;
             reads = λ b h there may quiet. guard;
             writes = λ v b h there may quiet. written v b h there may (λ e. true≢false (sym (quiet e)));
             leaks = λ h there quiet. sits seen.written (Leaked h) (Holding h) there (λ e is. is) guard;
@@ -160,11 +168,13 @@ module _ {W V C L A : Type 0} (m : Machine W V C L A) where
     quiet_here : (p q : ℕ) (b rest : Bool) → ((not (q == p) || b) && rest) ≡ true → q ≡ p → b ≡ true
     quiet_here p q b rest e is = ap (λ x. not x || b) (sym (eq-eqb q p is)) ∙ (and_parts (not (q == p) || b) rest e).0
 
-    guard_through : (seen : Seen W V C L) (p : ℕ) (es : List (ℕ × Move C V)) → Invariant m k seen → is_quiet r.keeps p es ≡ true → Guard r seen.written (slice_get seen.state.seats p)
+    guard_through : (seen : Seen W V C L) (p : ℕ) (es : List (ℕ × Move C V)) → Invariant m k seen → is_quiet r.keeps p es ≡ true
+        → Guard r seen.written (slice_get seen.state.seats p)
         → Guard r (seen_after m seen es).written (slice_get (seen_after m seen es).state.seats p)
     guard_through seen p [] good quiet guard = guard
     guard_through seen p (e ∷ es) good quiet guard =
-        guard_through (scene m seen e.0 e.1).after p es (kept m k f seen e.0 e.1 good).good (and_parts (not (e.0 == p) || is_quiet_move r.keeps e.1) (is_quiet r.keeps p es) quiet).1
+        guard_through (scene m seen e.0 e.1).after p es (kept m k f seen e.0 e.1 good).good
+        (and_parts (not (e.0 == p) || is_quiet_move r.keeps e.1) (is_quiet r.keeps p es) quiet).1
         (guard_kept seen p e.0 good guard e.1 (quiet_here p e.0 (is_quiet_move r.keeps e.1) (is_quiet r.keeps p es) quiet))
 
   -- a party that finds a value has a guard
@@ -178,14 +188,11 @@ module _ {W V C L A : Type 0} (m : Machine W V C L A) where
     guarded r w (Some (Leaked h)) same e = let found = found_by h (may_read h) r.value refl e in (found.0, sym same ∙ found.1)
     guarded r w _ same e = absurd (cc (e))
 
-    found_again : (r : GuardedRead C V) (w t : Option V) (o : Option (Seat C L)) → s.value ≡ w → Guard r w o → (moves_at m s p Read o).outcome ≡ outcome.Value t → t ≡ r.value
+    found_again : (r : GuardedRead C V) (w t : Option V) (o : Option (Seat C L)) → s.value ≡ w → Guard r w o → (moves_at m s p Read o).outcome ≡ outcome.Value t
+        → t ≡ r.value
     found_again r w t (Some (Holding h)) same guard e = sym (found_by h (may_read h) t refl e).1 ∙ (same ∙ guard.1)
     found_again r w t (Some (Leaked h)) same guard e = sym (found_by h (may_read h) t refl e).1 ∙ (same ∙ guard.1)
     found_again r w t _ same guard e = absurd (cc (e))
-
-  quiet_read : (b c : Bool) → c ≡ true → ((not b || true) && c) ≡ true
-  quiet_read true c e = e
-  quiet_read false c e = e
 
   module _ (k : LocalInvariant V C L) (f : Facts m k) where
     pub reads_agree_across : (keeps : C → Bool) → KeepsGuard m k keeps → (n : ℕ) (past : List (ℕ × Move C V)) → ReadsAgreeAcross keeps m n past
@@ -200,12 +207,17 @@ module _ {W V C L A : Type 0} (m : Machine W V C L A) where
         let first_there = subst (ReaderOrGone found) (sym (state-seen_after m (opening m n) past)) first in
         let second_there = subst (ReaderOrGone t) (sym (state-seen_after m (opening m n) (past ++ es))) second in
         let guard = guarded before.state p r before.written (slice_get before.state.seats p) good.written first_there in
-        let guard_later = guard_through k f r g before p es good (quiet_read (p == p) (is_quiet keeps p between) quiet) guard in
-        let guard_there = subst (λ (seen : Seen W V C L). Guard r seen.written (slice_get seen.state.seats p)) (sym (seen_after-append m (opening m n) past es)) guard_later in
+        let guard_later = guard_through k f r g before p es good (rw (eqb_self p) quiet) guard in
+        let guard_there = subst (λ (seen : Seen W V C L). Guard r seen.written (slice_get seen.state.seats p))
+        (sym (seen_after-append m (opening m n) past es)) guard_later in
         found_again later.state p r later.written t (slice_get later.state.seats p) good_later.written guard_there second_there
 
     -- no call keeps its guard
     pub reads_agree : (n : ℕ) (past : List (ℕ × Move C V)) → ReadsAgree m n past
     reads_agree n past =
         reads_agree_across (λ c. false)
-        (record { reads = λ p c l h s span no. absurd (false≢true no); steps = λ c l h w v no. absurd (false≢true no); refuses = λ c l h next no. absurd (false≢true no) }) n past
+        (record {
+          reads = λ p c l h s span no. absurd (false≢true no);
+          steps = λ c l h w v no. absurd (false≢true no);
+          refuses = λ c l h next no. absurd (false≢true no);
+        }) n past

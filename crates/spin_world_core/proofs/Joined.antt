@@ -12,30 +12,21 @@ tells-append [] ts [] fs front back = back
 tells-append (s ∷ ss) ts (e ∷ es) fs front back = (front.0, tells-append ss ts es fs front.1 back)
 tells-append _ ts _ fs front back = absurd front
 
-scenes-append : {W V C L A : Type 0} (m : Machine W V C L A) (seen : Seen W V C L) (xs ys : List (ℕ × Move C V))
-    → scenes m seen (xs ++ ys) ≡ scenes m seen xs ++ scenes m (seen_after m seen xs) ys
-scenes-append m seen [] ys = refl
-scenes-append m seen (x ∷ xs) ys = ap (λ ss. scene m seen x.0 x.1 ∷ ss) (scenes-append m (scene m seen x.0 x.1).after xs ys)
+module _ {W V C L A : Type 0} (m : Machine W V C L A) where
+  scenes-append : (seen : Seen W V C L) (xs ys : List (ℕ × Move C V)) → scenes m seen (xs ++ ys) ≡ scenes m seen xs ++ scenes m (seen_after m seen xs) ys
+  scenes-append seen [] ys = refl
+  scenes-append seen (x ∷ xs) ys = ap (λ ss. scene m seen x.0 x.1 ∷ ss) (scenes-append (scene m seen x.0 x.1).after xs ys)
+
+  -- the events of two runs together tell the scenes of one
+  tells_both : (s : State W V C L) (first second : List (ℕ × Move C V)) (es fs : List (Event W V A)) → TellsAfterAnyPast m s first es
+      → TellsAfterAnyPast m (after m s first) second fs → TellsAfterAnyPast m s (first ++ second) (es ++ fs)
+  tells_both s first second es fs front back = λ n past reached.
+      let there = after-append m (at_first m n) past first ∙ ap (λ t. after m t first) reached in
+      rw (scenes-append (seen_after m (opening m n) past) first second)
+      (tells-append _ _ es fs (front n past reached)
+      (subst (λ seen. EachTells (scenes m seen second) fs) (seen_after-append m (opening m n) past first) (back n (past ++ first) there)))
 
 -- Where calls began
-
--- all that an object promises
-promised_of : {W V C L A : Type 0} (m : Machine W V C L A) (n : ℕ) (entries : List (ℕ × Move C V)) → Lawful m → Promised m n entries
-promised_of m n entries lawful = record { keeps = lawful.keeps n entries; moments = lawful.moments n entries; counts = lawful.counts n entries; values = lawful.values n entries }
-
--- the events of two runs together tell the scenes of one
-tells_both : {W V C L A : Type 0} (m : Machine W V C L A) (s : State W V C L) (first second : List (ℕ × Move C V)) (es fs : List (Event W V A))
-    → TellsAfterAnyPast m s first es → TellsAfterAnyPast m (after m s first) second fs → TellsAfterAnyPast m s (first ++ second) (es ++ fs)
-tells_both m s first second es fs front back = λ n past reached.
-    let there = after-append m (at_first m n) past first ∙ ap (λ t. after m t first) reached in
-    rw (scenes-append m (seen_after m (opening m n) past) first second)
-    (tells-append _ _ es fs (front n past reached)
-    (subst (λ seen. EachTells (scenes m seen second) fs) (seen_after-append m (opening m n) past first) (back n (past ++ first) there)))
-
-after-joined : {W V C L A : Type 0} (m : Machine W V C L A) (s : State W V C L) (runs : List (List (ℕ × Move C V)))
-    → after_runs m s runs ≡ after m s (joined runs)
-after-joined m s [] = refl
-after-joined m s (run ∷ runs) = after-joined m (after m s run) runs ∙ sym (after-append m s run (joined runs))
 
 began_before : (start k : ℕ) → k < start → began_from start (Some k) ≡ None
 began_before start k lt = rw (lt-ltb k start lt) refl
@@ -117,49 +108,51 @@ cut_in_two m s first second place es fs at front back =
     }
 
 -- Two runs by a world: the second plays on where the first has stopped, on the same object
-pub record PlaysOn {O W V C L A : Type 0} (machine : O → Machine W V C L A) (old now : O) (s between : State W V C L) (first second schedule : List (ℕ × Move C V)) : Type 0 where
-  pub object : now ≡ old
-  pub whole : first ++ second ≡ schedule
-  pub between_is : between ≡ after (machine old) s first
+module _ {O W V C L A : Type 0} (machine : O → Machine W V C L A) (old now : O) (s between : State W V C L) (first second schedule : List (ℕ × Move C V)) where
+  pub record PlaysOn : Type 0 where
+    pub object : now ≡ old
+    pub whole : first ++ second ≡ schedule
+    pub between_is : between ≡ after (machine old) s first
 
-pub plays_on : {O W V C L A : Type 0} (machine : O → Machine W V C L A) (old now : O) (s between : State W V C L) (place : ℕ) (first second schedule : List (ℕ × Move C V))
-    → now ≡ old → first ≡ take place schedule → second ≡ drop place schedule → between ≡ after (machine old) s first
-    → PlaysOn machine old now s between first second schedule
-plays_on machine old now s between place first second schedule same front back is = record { object = same; whole = rw (front, back) (take-append-drop place schedule); between_is = is }
+  pub plays_on : (place : ℕ) → now ≡ old → first ≡ take place schedule → second ≡ drop place schedule → between ≡ after (machine old) s first → PlaysOn
+  plays_on place same front back is = record { object = same; whole = rw (front, back) (take-append-drop place schedule); between_is = is }
 
-pub state_on : {O W V C L A : Type 0} (machine : O → Machine W V C L A) (old now : O) (s between end : State W V C L) (first second schedule : List (ℕ × Move C V))
-    → PlaysOn machine old now s between first second schedule → end ≡ after (machine now) between second → end ≡ after (machine old) s schedule
-state_on machine old now s between end first second schedule on is =
-    is ∙ (ap (λ o. after (machine o) between second) on.object
-    ∙ (ap (λ t. after (machine old) t second) on.between_is ∙ (sym (after-append (machine old) s first second) ∙ ap (after (machine old) s) on.whole)))
+  pub state_on : (end : State W V C L) → PlaysOn → end ≡ after (machine now) between second → end ≡ after (machine old) s schedule
+  state_on end on is =
+      is ∙ (ap (λ o. after (machine o) between second) on.object
+      ∙ (ap (λ t. after (machine old) t second) on.between_is ∙ (sym (after-append (machine old) s first second) ∙ ap (after (machine old) s) on.whole)))
 
-pub events_on : {O W V C L A : Type 0} (machine : O → Machine W V C L A) (old now : O) (s between : State W V C L) (first second schedule : List (ℕ × Move C V)) (place : ℕ) (es fs : List (Event W V A))
-    → PlaysOn machine old now s between first second schedule → length first ≡ place → es ≡ with_begins [] (events_of (machine old) s first)
-    → fs ≡ with_begins [] (events_of (machine now) between second) → IsCut place (with_begins [] (events_of (machine old) s schedule)) es fs
-events_on machine old now s between first second schedule place es fs on at front back =
-    let there = ap (λ o. with_begins [] (events_of (machine o) between second)) on.object ∙ ap (λ t. with_begins [] (events_of (machine old) t second)) on.between_is in
-    subst (λ xs. IsCut place (with_begins [] (events_of (machine old) s xs)) es fs) on.whole (cut_in_two (machine old) s first second place es fs at front (back ∙ there))
+  pub events_on : (place : ℕ) (es fs : List (Event W V A)) → PlaysOn → length first ≡ place → es ≡ with_begins [] (events_of (machine old) s first)
+      → fs ≡ with_begins [] (events_of (machine now) between second) → IsCut place (with_begins [] (events_of (machine old) s schedule)) es fs
+  events_on place es fs on at front back =
+      let there = ap (λ o. with_begins [] (events_of (machine o) between second)) on.object ∙ ap
+      (λ t. with_begins [] (events_of (machine old) t second)) on.between_is in
+      subst (λ xs. IsCut place (with_begins [] (events_of (machine old) s xs)) es fs) on.whole
+      (cut_in_two (machine old) s first second place es fs at front (back ∙ there))
 
-pub tells_on : {O W V C L A : Type 0} (machine : O → Machine W V C L A) (old now : O) (s between : State W V C L) (first second schedule : List (ℕ × Move C V)) (es fs : List (Event W V A))
-    → PlaysOn machine old now s between first second schedule → TellsAfterAnyPast (machine old) s first es → TellsAfterAnyPast (machine now) between second fs
-    → TellsAfterAnyPast (machine old) s schedule (es ++ fs)
-tells_on machine old now s between first second schedule es fs on front back =
-    subst (λ xs. TellsAfterAnyPast (machine old) s xs (es ++ fs)) on.whole
-    (tells_both (machine old) s first second es fs front
-    (subst (λ t. TellsAfterAnyPast (machine old) t second fs) on.between_is (subst (λ o. TellsAfterAnyPast (machine o) between second fs) on.object back)))
+  pub tells_on : (es fs : List (Event W V A)) → PlaysOn → TellsAfterAnyPast (machine old) s first es → TellsAfterAnyPast (machine now) between second fs
+      → TellsAfterAnyPast (machine old) s schedule (es ++ fs)
+  tells_on es fs on front back =
+      subst (λ xs. TellsAfterAnyPast (machine old) s xs (es ++ fs)) on.whole
+      (tells_both (machine old) s first second es fs front
+      (subst (λ t. TellsAfterAnyPast (machine old) t second fs) on.between_is (subst (λ o. TellsAfterAnyPast (machine o) between second fs) on.object back)))
 
 -- Any number of runs
+module _ {W V C L A : Type 0} (m : Machine W V C L A) where
+  pub promised_after : (s : State W V C L) (schedule : List (ℕ × Move C V)) → Lawful m → AfterAnyPast m s schedule (Promised m)
+  promised_after s schedule lawful = λ n past reached.
+      let all = past ++ schedule in
+      record { keeps = lawful.keeps n all; moments = lawful.moments n all; counts = lawful.counts n all; values = lawful.values n all }
 
-pub promised_after : {W V C L A : Type 0} (m : Machine W V C L A) (s : State W V C L) (schedule : List (ℕ × Move C V)) → Lawful m
-    → AfterAnyPast m s schedule (Promised m)
-promised_after m s schedule lawful = λ n past reached. promised_of m n (past ++ schedule) lawful
+  after-joined : (s : State W V C L) (runs : List (List (ℕ × Move C V))) → after_runs m s runs ≡ after m s (joined runs)
+  after-joined s [] = refl
+  after-joined s (run ∷ runs) = after-joined (after m s run) runs ∙ sym (after-append m s run (joined runs))
 
-tells-joined : {W V C L A : Type 0} (m : Machine W V C L A) (s : State W V C L) (runs : List (List (ℕ × Move C V)))
-    → TellsAfterAnyPast m s (joined runs) (joined (transcripts_of m s runs))
-tells-joined m s [] = λ n past reached. tt
-tells-joined m s (run ∷ runs) =
-    let t = with_begins [] (events_of m s run) in
-    tells_both m s run (joined runs) t (joined (transcripts_of m (after m s run) runs)) (tells_after m s run t refl) (tells-joined m (after m s run) runs)
+  tells-joined : (s : State W V C L) (runs : List (List (ℕ × Move C V))) → TellsAfterAnyPast m s (joined runs) (joined (transcripts_of m s runs))
+  tells-joined s [] = λ n past reached. tt
+  tells-joined s (run ∷ runs) =
+      let t = with_begins [] (events_of m s run) in
+      tells_both m s run (joined runs) t (joined (transcripts_of m (after m s run) runs)) (tells_after m s run t refl) (tells-joined (after m s run) runs)
 
-pub runs_are_one : {W V C L A : Type 0} (m : Machine W V C L A) (s : State W V C L) (runs : List (List (ℕ × Move C V))) → Lawful m → RunsAreOne m s runs
-runs_are_one m s runs lawful = record { state = after-joined m s runs; tells = tells-joined m s runs; promised = promised_after m s (joined runs) lawful }
+  pub runs_are_one : (s : State W V C L) (runs : List (List (ℕ × Move C V))) → Lawful m → RunsAreOne m s runs
+  runs_are_one s runs lawful = record { state = after-joined s runs; tells = tells-joined s runs; promised = promised_after s (joined runs) lawful }

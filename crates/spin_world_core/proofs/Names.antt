@@ -30,7 +30,7 @@ pub use Rattle.spin_world_core.specs.Runs.{AfterAnyPast, CanAlways, CanStep, Com
 pub use Rattle.spin_world_core.specs.Schedules.{Happened, State, after, at_first, begins_after, begun, events_of, goes_on, happens, is_begun, is_owners, last_begin, let_go, may_read, may_write, moves_at, owner_gets, owner_sets, owner_writes, skipped, placed, read_by, refuses, resting, seated, seen_by_owner, with_begin, with_begins, written_by, yields_to_owner}
 pub use Rattle.spin_world_core.specs.Sharing.{has_leaked, shares}
 pub use Rattle.spin_world_core.specs.Transcripts.{EachTells, PlaceSays, SaysAfterAnyPast, Stage, StandsAt, TellsAfterAnyPast, at_rest, in_call, is_gone, let_go_stage, scenes, stage_after, stage_by_own, stage_by_owner, without_begin}
-pub use Rattle.spin_world_core.specs.Undisturbed.{AllOf, AnsweredSoon, Leaves, arrived, is_open_next, is_open_now, steps_alone}
+pub use Rattle.spin_world_core.specs.Undisturbed.{AllOf, AnsweredSoon, Leaves, arrived, is_open_next, is_open_now, steps_alone, UndisturbedTakes}
 pub use Rattle.spin_world_core.specs.Users.{FindsLastWritten, ReadsAgree, ReadsAgreeAcross, RunsJoin, is_quiet, is_quiet_move, seen_after}
 pub use Rattle.spin_world_core.specs.Values.{Brings, Gives, GivesAt, HasPhase, KeepsValue, ValuesAll}
 pub use Rattle.spin_world_core.specs.declared.answer.Answer.{Answer}

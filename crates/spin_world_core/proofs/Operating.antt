@@ -131,17 +131,17 @@ module _ {W L A : Type 0} (V : Type 0) (m : Memory W) where
 
 -- The plain step that a shape makes is the one that it names
 
-made_is : {X : Type 0} (o : Option X) (c d : Change) → made_if o c ≡ Some d → Some c ≡ Some d
-made_is None c d is = absurd (cc (is))
-made_is (Some to) c d is = is
+pub made_named : {X : Type 0} (o : Option X) (c d : Change) → made_if o c ≡ Some d → Some c ≡ Some d
+made_named None c d is = absurd (cc (is))
+made_named (Some to) c d is = is
 
 pub change_is : {W L A : Type 0} (n : ℕ) (act : Act W L A) (p : ℕ) (w : W) (d : Change) → change_at n act p w ≡ Some d → makes_by act p ≡ Some d
-change_is n (enter test step won lost) p w d is = made_is (passing (test n) n) (step p) d is
-change_is n (exchange operation step won lost) p w d is = made_is (tried operation n) (step p) d is
-change_is n (weak_exchange k f step won lost) p w d is = made_is (tried (swap k f) n) (step p) d is
-change_is n (attempt k f step won lost) p w d is = made_is (guessed k f n) (step p) d is
-change_is n (retry k f step won found missed) p w d is = made_is (guessed k f n) (step p) d is
-change_is n (section can f step won lost) p w d is = made_is (f w) (step p) d is
+change_is n (enter test step won lost) p w d is = made_named (passing (test n) n) (step p) d is
+change_is n (exchange operation step won lost) p w d is = made_named (tried operation n) (step p) d is
+change_is n (weak_exchange k f step won lost) p w d is = made_named (tried (swap k f) n) (step p) d is
+change_is n (attempt k f step won lost) p w d is = made_named (guessed k f n) (step p) d is
+change_is n (retry k f step won found missed) p w d is = made_named (guessed k f n) (step p) d is
+change_is n (section can f step won lost) p w d is = made_named (f w) (step p) d is
 change_is n (store can operation step next) p w d is = is
 change_is n _ p w d is = absurd (cc (is))
 

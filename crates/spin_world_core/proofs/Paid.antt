@@ -1,8 +1,8 @@
 -- An object that pays what its table owes shows all local facts.
-use Rattle.spin_world_core.proofs.Names.{◌≡◌, ℕ, zero, suc, ◌+◌, ◌<◌, ◌≤◌, ◌==◌, Bool, true, false, not, is_some, Option, Some, None, List, [], ◌∷◌, ◌++◌, option_to_list, get_or, if◌then◌else◌, refl, ap, sym, ◌∙◌, subst, arith, and_parts, false≢true, true≢false, eqb-true, Plain, Phase, is_empty, Ask, Change, gets, completes, is_open, is_open_to, apply_some, IsOpenStep, entries, IsExclusive, bit, Hold, Next, Continue, Answers, Stepped, Move, Step, Weak, StepKind, plain, again, look, weak, is_again, is_look, by_step, LockKind, Asked, waits, waits_or_starves, tries, initializes, fails_to_initialize, waits_for_value, polls, meets, encoded, is_step_of, BelongsTo, Said, own_steps, AnyOf, Mark, first_word, Limit, registers_after, limit, may_be_weak, before_weakly, arrived, is_open_next, is_open_now, steps_alone, goes_for, Way, always, by_looks, past_looks, way_of, is_due_by, LooksElse, Gets, MayTryOn, mark_of, if_completed, entries_held, own, failures, changes, IsBeginning, RightAnswer, ContinuesWithin, number_at, Act, load, load_if, load_for, enter, exchange, weak_exchange, attempt, retry, store, section, swap, tried, guessed, either, stays, passing, becomes, retried, step_by, made_if, change_by, can_by, refusal_by, makes_by, is_waiting, look_kind, step_kind_by, Table, begin_of, machine_of, performed, placed, HasPhase, Gives}
+use Rattle.spin_world_core.proofs.Names.{◌≡◌, ℕ, zero, suc, ◌+◌, ◌<◌, ◌≤◌, ◌==◌, Bool, true, false, not, is_some, Option, Some, None, List, [], ◌∷◌, ◌++◌, option_to_list, get_or, if◌then◌else◌, refl, ap, sym, ◌∙◌, subst, arith, and_parts, false≢true, true≢false, eqb-true, Plain, is_empty, Ask, Change, gets, completes, is_open, is_open_to, apply_some, IsOpenStep, entries, IsExclusive, bit, Hold, Next, Continue, Answers, Stepped, Move, Step, Weak, StepKind, plain, again, look, weak, is_again, is_look, by_step, Asked, waits, waits_or_starves, tries, initializes, fails_to_initialize, waits_for_value, polls, meets, encoded, is_step_of, BelongsTo, Said, own_steps, AnyOf, Mark, first_word, Limit, registers_after, limit, may_be_weak, before_weakly, arrived, is_open_next, is_open_now, steps_alone, goes_for, Way, always, by_looks, past_looks, way_of, is_due_by, LooksElse, Gets, MayTryOn, mark_of, if_completed, entries_held, own, failures, changes, IsBeginning, RightAnswer, ContinuesWithin, number_at, Act, load, load_if, load_for, enter, exchange, weak_exchange, attempt, retry, store, section, swap, tried, guessed, either, stays, passing, becomes, retried, step_by, made_if, change_by, can_by, refusal_by, makes_by, is_waiting, look_kind, step_kind_by, Table, begin_of, machine_of, performed, placed, HasPhase, Gives}
 use Rattle.spin_world_core.specs.declared.schedule.Outcome.TheVariants as outcome
 use Rattle.spin_world_core.proofs.Facts.{AnswersWithin, InCall, NextIs, NextGives, GoesOnOpen, ContinuesCounted, PointFacts, Facts}
-use Rattle.spin_world_core.proofs.Operating.{fits_change, fits_made, counted_of, stepwise_of}
+use Rattle.spin_world_core.proofs.Operating.{made_named, fits_change, fits_made, counted_of, stepwise_of}
 use Rattle.spin_world_core.proofs.Spans.{own-mine, retries-mine}
 use Rattle.spin_world_core.proofs.Stands.{entries_at, stand_of, held_at, stand-mine}
 use Rattle.spin_world_core.proofs.Rows.{Opened, OwesRight, Branch, goes, finds_open, loses, misses, Branched, may_spend, may_try, no_try, tries_open, need, need_of, Needs, rests, peeks, needs-mine, needs_first, rests_undue, spent-mine, goes_within, ends_within, ends_owed, any_map, moment_of, weak_moment_of, Row, IsSound, sound_at, Expects, expects-mine, none_spent, none_expected, known-other, SoundAt}
@@ -12,18 +12,6 @@ use Rattle.spin_world_core.proofs.Shapes.{Notes, is_answer, row_of, KnowsRow, ke
 pub uncompleted : {V : Type 0} (old put : Option V) (step : Option Change) → ((q : ℕ) → step ≡ Some (completes q) → ⊥) → old ≡ if_completed old put step
 uncompleted old put (Some (completes p)) none = absurd (none p refl)
 uncompleted old put _ none = refl
-
--- an object whose closures make no value says nothing of values, and completes no closure
-phase_none : {V : Type 0} (made : Bool) (phase : Phase) (value : Option V) → made ≡ false → HasPhase made phase value
-phase_none true phase value none = absurd (true≢false none)
-phase_none false phase value none = tt
-
-gives_none : {V : Type 0} (made : Bool) (said : Said) (given value : Option V) → made ≡ false → Gives made said given value
-gives_none true said given value none = absurd (true≢false none)
-gives_none false said given value none = tt
-
-completes_none : (kind : LockKind) (q : ℕ) → kind.makes_value ≡ false → is_step_of kind (completes q) ≡ true → ⊥
-completes_none kind q none own = true≢false (sym own ∙ none)
 
 abbrev Aimed : {W L A : Type 0} → Asked → Act W L A → List Change → ℕ → Type 0
 Aimed what act made p = aim_by what act p ≡ aimed p (aim_of what made) (aim_by what act p)
@@ -76,11 +64,14 @@ move_of true = Weak
 move_of false = Step
 
 -- what an object that pays shows at a point of a call, whatever value lies there
-pub record Shown {W V C L A : Type 0} (t : Table W V C L A) (n : Notes t) (p : ℕ) (c : C) (l : L) (h : Option Hold) (s : Plain) (w : W) (span : List Mark) : Type 0 where
+pub record Shown {W V C L A : Type 0} (t : Table W V C L A) (n : Notes t) (p : ℕ) (c : C) (l : L) (h : Option Hold) (s : Plain) (w : W)
+    (span : List Mark) : Type 0 where
   pub can : can_by t.memory (t.word l) (t.act c l h) w ≡ true
-  pub went : Went t n p c h s span (step_by t.memory (t.word l) (t.act c l h) w) (change_by t.memory (t.word l) (t.act c l h) p w) (by_step (step_kind_by (t.asks c h) (t.act c l h)))
+  pub went : Went t n p c h s span (step_by t.memory (t.word l) (t.act c l h) w) (change_by t.memory (t.word l) (t.act c l h) p w)
+      (by_step (step_kind_by (t.asks c h) (t.act c l h)))
   pub refusal : (next : Next L A) → refusal_by (t.act c l h) ≡ Some next
-      → NextIs (machine_of t) (keeping_of t n) Weak p c h s (mark_of p None weak s ∷ span) next × (may_be_weak (t.asks c h) ≡ true) × (own p span ≡ before_weakly (t.asks c h) p)
+      → NextIs (machine_of t) (keeping_of t n) Weak p c h s (mark_of p None weak s ∷ span) next × (may_be_weak (t.asks c h) ≡ true)
+      × (own p span ≡ before_weakly (t.asks c h) p)
   pub counted : ContinuesCounted (λ u. change_by t.memory (t.word l) (t.act c l h) p u) s (step_by {V = V} t.memory (t.word l) (t.act c l h) w).next
       (change_by t.memory (t.word l) (t.act c l h) p w) (by_step (step_kind_by (t.asks c h) (t.act c l h)))
   pub due : Gets t.lock_kind p (t.asks c h) span s (change_by t.memory (t.word l) (t.act c l h) p w) (by_step (step_kind_by (t.asks c h) (t.act c l h)))
@@ -105,55 +96,90 @@ module _ {W V C L A : Type 0} (t : Table W V C L A) (n : Notes t) (sound_all : (
 
   -- a step of the call, at the row of its point
   module _ (p : ℕ) (c : C) (l : L) (h : Option Hold) (s : Plain) (w : W) (span : List Mark) (row : Row) (at : At t n p c l h s w span row) (sound : IsSound t.lock_kind (t.asks c h) p (Some row)) where
-    made_now : (step : Option Change) (r : StepKind) (cs : List Change) → row.made p ++ option_to_list step ≡ cs → own p (mark_of p step r s ∷ span) ≡ cs
+    abbrev Comes : Bool → Option Change → StepKind → Branch → Next L A → Type 0
+    Comes = Follows t n p (call_of t n c) h s w span row
+
+    abbrev ComesRow : Option Change → StepKind → Branch → L → Option Row → Type 0
+    ComesRow = FollowsRow t n p (call_of t n c) h s w span row
+
+    abbrev OwesHere : ℕ → Act W L A → Type 0
+    OwesHere = Owes t n p (call_of t n c) h s w span row
+
+    abbrev MeansHere : {X : Type 0} → Change → (X → W) → Option X → Type 0
+    MeansHere = Means t n p s
+
+    abbrev spanned : Option Change → StepKind → List Mark
+    spanned step r = mark_of p step r s ∷ span
+
+    abbrev limited : Limit
+    limited = limit t.lock_kind (t.asks c h)
+
+    abbrev looking : StepKind
+    looking = by_step (look_kind (t.asks c h))
+
+    abbrev put_at : ℕ → ℕ → W
+    put_at i k = t.memory.put i k w
+
+    abbrev number : ℕ → ℕ
+    number i = number_at t.memory i w
+
+    made_now : (step : Option Change) (r : StepKind) (cs : List Change) → row.made p ++ option_to_list step ≡ cs → own p (spanned step r) ≡ cs
     made_now step r cs is = own-mine p step r s span ∙ (ap (λ ds. ds ++ option_to_list step) at.known.made ∙ is)
 
     goes_to : (step : Option Change) (r : StepKind) (branch : Branch) (m : L) (o : Option Row) → IsOpenStep s p step → Branched branch s step r → (is_again r ≡ true → step ≡ None → failures p span < changes t.lock_kind p span)
-        → IsSound t.lock_kind (t.asks c h) p o → FollowsRow t n p (call_of t n c) h s w span row step r branch m o
-        → KnowsRow t n c m h p (apply_some s step) (mark_of p step r s ∷ span) o
-        × ((said : Said) × AnyOf (λ steps. IsBeginning (own p (mark_of p step r s ∷ span)) steps) (own_steps (t.asks c h) said p))
-        × ContinuesWithin (limit t.lock_kind (t.asks c h)) t.lock_kind p (mark_of p step r s ∷ span)
+        → IsSound t.lock_kind (t.asks c h) p o → ComesRow step r branch m o
+        → KnowsRow t n c m h p (apply_some s step) (spanned step r) o
+        × ((said : Said) × AnyOf (λ steps. IsBeginning (own p (spanned step r)) steps) (own_steps (t.asks c h) said p))
+        × ContinuesWithin limited t.lock_kind p (spanned step r)
     goes_to step r branch m None may branched lost sound follows = absurd follows
     goes_to step r branch m (Some to) may branched lost sound follows =
         let retries = retries-mine t.lock_kind p step r s span at.retries lost in
         let spends = may_spend (t.asks c h) branch step p s span _ follows.2 in
         let found = needs-mine p s step r span (need_of t.lock_kind (t.asks c h) (to.made p) (t.act c m h)) _ follows.3 in
         let made = made_now step r (to.made p) follows.1 in
-        let spent = spent-mine p s step r span (limit t.lock_kind (t.asks c h)) t.lock_kind branch (to.made p) row.spent to.spent branched made spends at.known.spent in (
+        let spent = spent-mine p s step r span limited t.lock_kind branch (to.made p) row.spent to.spent branched made spends at.known.spent in (
           (
             record {
               stand = stand-mine s p step row.stand to.stand may at.known.stand follows.0;
               made = made;
               spent = spent;
-              expects = expects-mine p s step r span t.lock_kind (t.act c m h) (number_at t.memory 0 w) (first_is w s at.encodes) retries found.1;
+              expects = expects-mine p s step r span t.lock_kind (t.act c m h) (number 0) (first_is w s at.encodes) retries found.1;
               needs = found.0;
               opened = (may, at.known.opened);
             },
             follows.4,
           ),
-          (to.said, any_map (λ steps. to.made p ++ to.rest p ≡ steps) (λ steps. IsBeginning (own p (mark_of p step r s ∷ span)) steps) (own_steps (t.asks c h) to.said p) (λ steps e. (to.rest p, ap (λ cs. cs ++ to.rest p) made ∙ e)) sound.1),
-          goes_within (limit t.lock_kind (t.asks c h)) t.lock_kind branch (to.made p) row.spent to.spent p (mark_of p step r s ∷ span) made sound.0 retries spends spent,
+          (
+            to.said,
+            any_map (λ steps. to.made p ++ to.rest p ≡ steps) (λ steps. IsBeginning (own p (spanned step r)) steps) (own_steps (t.asks c h) to.said p)
+                (λ steps e. (to.rest p, ap (λ cs. cs ++ to.rest p) made ∙ e)) sound.1,
+          ),
+          goes_within limited t.lock_kind branch (to.made p) row.spent to.spent p (spanned step r) made sound.0 retries spends spent,
         )
 
     followed : (weakly : Bool) (step : Option Change) (r : StepKind) (branch : Branch) (next : Next L A) → IsOpenStep s p step → Branched branch s step r → (is_again r ≡ true → step ≡ None → failures p span < changes t.lock_kind p span)
-        → Follows t n p (call_of t n c) h s w span row weakly step r branch next → NextIs (machine_of t) (keeping_of t n) (move_of weakly) p c h (apply_some s step) (mark_of p step r s ∷ span) next
+        → Comes weakly step r branch next → NextIs (machine_of t) (keeping_of t n) (move_of weakly) p c h (apply_some s step) (spanned step r) next
     followed weakly step r branch (Continue m) may branched lost follows =
         let there = goes_to step r branch m (row_of t n c m h) may branched lost (sound_at t.lock_kind (t.asks c h) h p (n.point c m h) (sound_all p c m h)) follows in
         record { knows = there.0; own_so_far = there.1; in_time = there.2 }
     followed weakly step r branch (Answers a after) may branched lost follows =
-        let made = any_map (λ steps. row.made p ++ option_to_list step ≡ steps) (λ steps. own p (mark_of p step r s ∷ span) ≡ steps) (own_steps (t.asks c h) (t.says a) p) (λ steps e. made_now step r steps e) follows.1 in
+        let made = any_map (λ steps. row.made p ++ option_to_list step ≡ steps) (λ steps. own p (spanned step r) ≡ steps)
+        (own_steps (t.asks c h) (t.says a) p) (λ steps e. made_now step r steps e) follows.1 in
         record {
           stands = stand-mine s p step row.stand (stand_of after) may at.known.stand follows.0 ∙ sym (held_at p after);
           own_steps_are = made;
-          right = right_by weakly p c h a (mark_of p step r s ∷ span) (may, at.known.opened) made follows.2;
-          in_time = ends_within (limit t.lock_kind (t.asks c h)) t.lock_kind (row.made p) row.spent p s step r span sound.0 at.retries at.known.spent (ends_owed t.lock_kind weakly (t.asks c h) (t.says a) p (mark_of p step r s ∷ span) made follows.2);
+          right = right_by weakly p c h a (spanned step r) (may, at.known.opened) made follows.2;
+          in_time =
+              ends_within limited t.lock_kind (row.made p) row.spent p s step r span sound.0 at.retries at.known.spent
+              (ends_owed t.lock_kind weakly (t.asks c h) (t.says a) p (spanned step r) made follows.2);
         }
 
     abbrev Is : Stepped W V L A → Option Change → StepKind → Type 0
     Is st step r = Went t n p c h s span st step r
 
     -- the words stay
-    stay_is : (r : StepKind) (branch : Branch) (next : Next L A) → Branched branch s None r → (is_again r ≡ true → failures p span < changes t.lock_kind p span) → Follows t n p (call_of t n c) h s w span row false None r branch next → Is (stays w next) None r
+    stay_is : (r : StepKind) (branch : Branch) (next : Next L A) → Branched branch s None r → (is_again r ≡ true → failures p span < changes t.lock_kind p span)
+        → Comes false None r branch next → Is (stays w next) None r
     stay_is r branch next branched lost follows =
         record {
           opens = tt;
@@ -169,7 +195,8 @@ module _ {W V C L A : Type 0} (t : Table W V C L A) (n : Notes t) (sound_all : (
     unretried single made = absurd (false≢true (sym single ∙ made))
 
     -- new words, and a plain step
-    made_is : {X : Type 0} (put : X → W) (r : StepKind) (x : X) (d : Change) (next : Next L A) → is_step_of t.lock_kind d ≡ true → Means t n p s d put (Some x) → Follows t n p (call_of t n c) h s w span row false (Some d) r goes next → Is (stays (put x) next) (Some d) r
+    made_is : {X : Type 0} (put : X → W) (r : StepKind) (x : X) (d : Change) (next : Next L A) → is_step_of t.lock_kind d ≡ true → MeansHere d put (Some x)
+        → Comes false (Some d) r goes next → Is (stays (put x) next) (Some d) r
     made_is put r x d next own means follows =
         record {
           opens = means.0;
@@ -181,58 +208,175 @@ module _ {W V C L A : Type 0} (t : Table W V C L A) (n : Notes t) (sound_all : (
           fails = λ e none. absurd (cc (none));
         }
 
-    tested : (r : StepKind) (b : Bool) (x y : Next L A) → is_again r ≡ false → (b ≡ true → Follows t n p (call_of t n c) h s w span row false None r goes x) → (b ≡ false → Follows t n p (call_of t n c) h s w span row false None r goes y) → Is (stays w (either b x y)) None r
-    tested r true x y single f g = stay_is r goes x tt (unretried single) (f refl)
-    tested r false x y single f g = stay_is r goes y tt (unretried single) (g refl)
+    -- a try goes on only where it may
+    made_on : (ask : Ask) (next : Next L A) (d : Change) → GoesOnOpen ask p span s next (Some d)
+    made_on ask (Continue m) d = tt
+    made_on ask (Answers a after) d = tt
 
-    looked : {X : Type 0} (put : X → W) (r : StepKind) (branch : Branch) (o : Option X) (d : Change) (found missed : Next L A) → Branched branch s None r → (is_again r ≡ true → failures p span < changes t.lock_kind p span) → Means t n p s d put o
-        → (is_some o ≡ true → Follows t n p (call_of t n c) h s w span row false None r branch found) → (is_open s d ≡ false → Follows t n p (call_of t n c) h s w span row false None r (misses d) missed) → Is (stays w (either (is_some o) found missed)) None r
-    looked put r branch None d found missed branched lost means f g = stay_is r (misses d) missed means lost (g means)
-    looked put r branch (Some x) d found missed branched lost means f g = stay_is r branch found branched lost (f refl)
+    module _ (ask : Ask) (is : t.asks c h ≡ tries ask) where
+      open_on : (next : Next L A) → is_open_to s p ask ≡ true → GoesOnOpen ask p span s next None
+      open_on (Continue m) may = tries_open ask p span s may
+      open_on (Answers a after) may = tt
 
-    exchanged : {X : Type 0} (put : X → W) (r : StepKind) (o : Option X) (d : Change) (won lost : Next L A) → is_again r ≡ false → is_step_of t.lock_kind d ≡ true → Means t n p s d put o
-        → Follows t n p (call_of t n c) h s w span row false (Some d) r goes won → (is_open s d ≡ false → Follows t n p (call_of t n c) h s w span row false None r (misses d) lost) → Is (becomes put w o won lost) (made_if o d) r
-    exchanged put r None d won lost single own means f g = stay_is r (misses d) lost means (unretried single) (g means)
-    exchanged put r (Some x) d won lost single own means f g = made_is put r x d won own means f
+      tried_to : (m : L) (r : StepKind) (o : Option Row) → ComesRow None r goes m o → MayTryOn ask p span s
+      tried_to m r None follows = absurd follows
+      tried_to m r (Some to) follows = may_try (t.asks c h) ask p s span _ is follows.2
 
-    attempted : (put : ℕ → W) (o : Option ℕ) (d : Change) (won lost : Next L A) → is_step_of t.lock_kind d ≡ true
-        → ((to : ℕ) → o ≡ Some to → Means t n p s d put (Some to) × Follows t n p (call_of t n c) h s w span row false (Some d) plain goes won) → (o ≡ None → Follows t n p (call_of t n c) h s w span row false None plain goes lost) → Is (becomes put w o won lost) (made_if o d) plain
-    attempted put None d won lost own f g = stay_is plain goes lost tt (unretried refl) (g refl)
-    attempted put (Some to) d won lost own f g = let both = f to refl in made_is put plain to d won own both.0 both.1
+      tried_on : (r : StepKind) (next : Next L A) → Comes false None r goes next → GoesOnOpen ask p span s next None
+      tried_on r (Continue m) follows = tried_to m r (row_of t n c m h) follows
+      tried_on r (Answers a after) follows = tt
+
+      missed_to : (m : L) (r : StepKind) (d : Change) (o : Option Row) → ComesRow None r (misses d) m o → MayTryOn ask p span s
+      missed_to m r d None follows = absurd follows
+      missed_to m r d (Some to) follows = absurd (no_try (t.asks c h) ask d None p s span _ is follows.2)
+
+      missed_on : (r : StepKind) (d : Change) (next : Next L A) → Comes false None r (misses d) next → GoesOnOpen ask p span s next None
+      missed_on r d (Continue m) follows = missed_to m r d (row_of t n c m h) follows
+      missed_on r d (Answers a after) follows = tt
+
+    -- what is shown of a step: its plain step by the words is `change`, `sure` the one that it makes wherever that is open, and `aim` the one of a try
+    record Done (st : Stepped W V L A) (step : Option Change) (r : StepKind) (change : W → Option Change) (sure : Option Change)
+        (aim : Ask → Option Change) : Type 0 where
+      went : Is st step r
+      counted : ContinuesCounted change s st.next step r
+      got : (e : Change) → sure ≡ Some e → is_open s e ≡ true → step ≡ Some e
+      tried : (ask : Ask) → t.asks c h ≡ tries ask → aim ask ≡ aimed p (Some ask) (aim ask) → GoesOnOpen ask p span s st.next step
+
+    stayed : (r : StepKind) (next : Next L A) → is_again r ≡ false → Comes false None r goes next → Done (stays w next) None r (λ u. None) None (λ ask. None)
+    stayed r next single follows =
+        record {
+          went = stay_is r goes next tt (unretried single) follows;
+          counted = counted_of _ s next None r (λ u d is may none. absurd (cc (is)));
+          got = λ e is may. absurd (cc (is));
+          tried = λ ask is aim. tried_on ask is r next follows;
+        }
+
+    tested : (r : StepKind) (b : Bool) (x y : Next L A) → is_again r ≡ false → (b ≡ true → Comes false None r goes x) → (b ≡ false → Comes false None r goes y)
+        → Done (stays w (either b x y)) None r (λ u. None) None (λ ask. None)
+    tested r true x y single f g = stayed r x single (f refl)
+    tested r false x y single f g = stayed r y single (g refl)
+
+    looked : {X : Type 0} (put : X → W) (r : StepKind) (branch : Branch) (o : Option X) (d : Change) (found missed : Next L A) (change : W → Option Change)
+        → Branched branch s None r
+        → (is_again r ≡ true → failures p span < changes t.lock_kind p span) → MeansHere d put o → (is_some o ≡ true → Comes false None r branch found)
+        → (is_open s d ≡ false → Comes false None r (misses d) missed) → ((next : Next L A) → ContinuesCounted change s next None r)
+        → Done (stays w (either (is_some o) found missed)) None r change None (λ ask. Some d)
+    looked put r branch None d found missed change branched lost means f g counts =
+        record {
+          went = stay_is r (misses d) missed means lost (g means);
+          counted = counts missed;
+          got = λ e is may. absurd (cc (is));
+          tried = λ ask is aim. missed_on ask is r d missed (g means);
+        }
+    looked put r branch (Some x) d found missed change branched lost means f g counts =
+        record {
+          went = stay_is r branch found branched lost (f refl);
+          counted = counts found;
+          got = λ e is may. absurd (cc (is));
+          tried = λ ask is aim. let same : d ≡ gets p ask = cc (aim) in open_on ask is found (subst (λ e. is_open s e ≡ true) same means.0.1);
+        }
+
+    exchanged : {X : Type 0} (put : X → W) (r : StepKind) (o : Option X) (d : Change) (won lost : Next L A) (change : W → Option Change)
+        → ((u : W) (e : Change) → change u ≡ Some e → Some d ≡ Some e) → is_again r ≡ false → is_step_of t.lock_kind d ≡ true → MeansHere d put o
+        → Comes false (Some d) r goes won
+        → (is_open s d ≡ false → Comes false None r (misses d) lost) → Done (becomes put w o won lost) (made_if o d) r change (Some d) (λ ask. Some d)
+    exchanged put r None d won lost change names single own means f g =
+        let closed : (e : Change) → Some d ≡ Some e → is_open s e ≡ true → ⊥ = λ e is may. let same : d ≡ e = cc (is) in true≢false
+        (sym may ∙ (sym (ap (is_open s) same) ∙ means)) in
+        record {
+          went = stay_is r (misses d) lost means (unretried single) (g means);
+          counted = counted_of change s lost None r (λ u e is may none. absurd (closed e (names u e is) may));
+          got = λ e is may. absurd (closed e is may);
+          tried = λ ask is aim. missed_on ask is r d lost (g means);
+        }
+    exchanged put r (Some x) d won lost change names single own means f g =
+        record {
+          went = made_is put r x d won own means f;
+          counted = counted_of change s won (Some d) r (λ u e is may none. absurd (cc (none)));
+          got = λ e is may. is;
+          tried = λ ask is aim. made_on ask won d;
+        }
+
+    attempted : (put : ℕ → W) (o : Option ℕ) (d : Change) (won lost : Next L A) (change : W → Option Change) → is_step_of t.lock_kind d ≡ true
+        → ((to : ℕ) → o ≡ Some to → MeansHere d put (Some to) × Comes false (Some d) plain goes won) → (o ≡ None → Comes false None plain goes lost)
+        → is_answer lost ≡ true
+        → Done (becomes put w o won lost) (made_if o d) plain change None (λ ask. Some d)
+    attempted put None d won (Continue m) change own f g last = absurd (false≢true last)
+    attempted put None d won (Answers a after) change own f g last =
+        record {
+          went = stay_is plain goes (Answers a after) tt (unretried refl) (g refl);
+          counted = tt;
+          got = λ e is may. absurd (cc (is));
+          tried = λ ask is aim. tt;
+        }
+    attempted put (Some to) d won lost change own f g last =
+        let both = f to refl in
+        record {
+          went = made_is put plain to d won own both.0 both.1;
+          counted = counted_of change s won (Some d) plain (λ u e is may none. absurd (cc (none)));
+          got = λ e is may. absurd (cc (is));
+          tried = λ ask is aim. made_on ask won d;
+        }
 
     -- the number is as it was found, or another party has changed it since
-    made_again : (put : ℕ → W) (b : Bool) (o : Option ℕ) (d : Change) (won found missed : Next L A) → is_step_of t.lock_kind d ≡ true → (b ≡ true → is_some o ≡ true) → failures p span + bit (not b) ≤ changes t.lock_kind p span
-        → Means t n p s d put o → (b ≡ true → Follows t n p (call_of t n c) h s w span row false (Some d) again goes won)
-        → (FindsAnother (limit t.lock_kind (t.asks c h)) b (is_some o) → Follows t n p (call_of t n c) h s w span row false None again loses found) → (is_open s d ≡ false → Follows t n p (call_of t n c) h s w span row false None again (misses d) missed)
-        → Is (retried put b w o won found missed) (made_if (if b then o else None) d) again
-    made_again put true None d won found missed own some le means f g m = absurd (false≢true (some refl))
-    made_again put true (Some to) d won found missed own some le means f g m = made_is put again to d won own means (f refl)
-    made_again put false o d won found missed own some le means f g m = looked put again loses o d found missed (refl, refl) (λ e. omega (arith, le)) means (λ some. g (finds_another (limit t.lock_kind (t.asks c h)) (is_some o) some)) m
+    made_again : (put : ℕ → W) (b : Bool) (o : Option ℕ) (d : Change) (won found missed : Next L A) (change : W → Option Change)
+        → is_step_of t.lock_kind d ≡ true
+        → (b ≡ true → is_some o ≡ true) → failures p span + bit (not b) ≤ changes t.lock_kind p span → MeansHere d put o
+        → (b ≡ true → Comes false (Some d) again goes won)
+        → (FindsAnother limited b (is_some o) → Comes false None again loses found) → (is_open s d ≡ false → Comes false None again (misses d) missed)
+        → Done (retried put b w o won found missed) (made_if (if b then o else None) d) again change None (λ ask. Some d)
+    made_again put true None d won found missed change own some le means f g m = absurd (false≢true (some refl))
+    made_again put true (Some to) d won found missed change own some le means f g m =
+        record {
+          went = made_is put again to d won own means (f refl);
+          counted = counted_of change s won (Some d) again (λ u e is may none. refl);
+          got = λ e is may. absurd (cc (is));
+          tried = λ ask is aim. made_on ask won d;
+        }
+    made_again put false o d won found missed change own some le means f g m =
+        looked put again loses o d found missed change (refl, refl) (λ e. omega (arith, le)) means (λ some. g (finds_another limited (is_some o) some)) m
+        (λ next. counted_of change s next None again (λ u e is may none. refl))
 
-    pub step_is : (i : ℕ) (act : Act W L A) → ((d : Change) → makes_by act p ≡ Some d → is_step_of t.lock_kind d ≡ true) → Expects t.lock_kind act p s span → Owes t n p (call_of t n c) h s w span row i act
-        → Is (step_by t.memory i act w) (change_by t.memory i act p w) (by_step (step_kind_by (t.asks c h) act))
-    step_is i (load next) own expects owes = stay_is plain goes (next (number_at t.memory i w)) tt (unretried refl) owes
-    step_is i (load_if test a b) own expects owes = tested (by_step (look_kind (t.asks c h))) (test (number_at t.memory i w)) _ _ (no_retry (is_waiting (t.asks c h))) owes.0 owes.1
-    step_is i (load_for f step found missed) own expects owes = looked (λ k. t.memory.put i k w) plain finds_open (f (number_at t.memory i w)) (step p) _ missed tt (unretried refl) owes.0 owes.1 owes.2
-    step_is i (enter test step won lost) own expects owes =
-        exchanged (λ k. w) (by_step (look_kind (t.asks c h))) (passing (test (number_at t.memory i w)) (number_at t.memory i w)) (step p) won lost (no_retry (is_waiting (t.asks c h))) (own (step p) refl) owes.0 owes.1 owes.2
-    step_is i (exchange operation step won lost) own expects owes = exchanged (λ k. t.memory.put i k w) plain (tried operation (number_at t.memory i w)) (step p) won _ refl (own (step p) refl) owes.0 owes.1 owes.2
-    step_is i (weak_exchange k f step won lost) own expects owes = exchanged (λ k. t.memory.put i k w) plain (tried (swap k f) (number_at t.memory i w)) (step p) won lost refl (own (step p) refl) owes.0 owes.1 owes.2
-    step_is i (attempt k f step won lost) own expects owes = attempted (λ k. t.memory.put i k w) (guessed k f (number_at t.memory i w)) (step p) won lost (own (step p) refl) owes.0 owes.1
-    step_is i (retry k f step won found missed) own expects owes =
-        let same = eqb-true (number_at t.memory 0 w) k in
-        made_again (λ k. t.memory.put 0 k w) (number_at t.memory 0 w == k) (f (number_at t.memory 0 w)) (step p) won _ missed (own (step p) refl) (λ is. ap (λ j. is_some (f j)) (same is) ∙ expects.1)
+    done : (i : ℕ) (act : Act W L A) → ((d : Change) → makes_by act p ≡ Some d → is_step_of t.lock_kind d ≡ true) → Expects t.lock_kind act p s span
+        → OwesHere i act
+        → Done (step_by t.memory i act w) (change_by t.memory i act p w) (by_step (step_kind_by (t.asks c h) act)) (λ u. change_by t.memory i act p u)
+        (sure_by act p)
+        (λ ask. aim_by (tries ask) act p)
+    done i (load next) own expects owes = stayed plain (next (number i)) refl owes
+    done i (load_if test a b) own expects owes = tested looking (test (number i)) _ _ (no_retry (is_waiting (t.asks c h))) owes.0 owes.1
+    done i (load_for f step found missed) own expects owes =
+        looked (put_at i) plain finds_open (f (number i)) (step p) _ missed (λ u. None) tt (unretried refl) owes.0 owes.1 owes.2
+        (λ next. counted_of _ s next None plain (λ u e is may none. absurd (cc (is))))
+    done i (enter test step won lost) own expects owes =
+        exchanged (λ k. w) looking (passing (test (number i)) (number i)) (step p) won lost _ (λ u e is. made_named _ (step p) e is)
+        (no_retry (is_waiting (t.asks c h)))
+        (own (step p) refl) owes.0 owes.1 owes.2
+    done i (exchange operation step won lost) own expects owes =
+        exchanged (put_at i) plain (tried operation (number i)) (step p) won _ _ (λ u e is. made_named _ (step p) e is) refl
+        (own (step p) refl) owes.0 owes.1 owes.2
+    done i (weak_exchange k f step won lost) own expects owes =
+        exchanged (put_at i) plain (tried (swap k f) (number i)) (step p) won lost _ (λ u e is. made_named _ (step p) e is) refl
+        (own (step p) refl) owes.0 owes.1 owes.2
+    done i (attempt k f step won lost) own expects owes =
+        attempted (put_at i) (guessed k f (number i)) (step p) won lost _ (own (step p) refl) owes.0 owes.1 owes.2
+    done i (retry k f step won found missed) own expects owes =
+        let same = eqb-true (number 0) k in
+        made_again (put_at 0) (number 0 == k) (f (number 0)) (step p) won _ missed _ (own (step p) refl) (λ is. ap (λ j. is_some (f j)) (same is) ∙ expects.1)
         (subst (λ x. failures p span + bit (not (x == k)) ≤ changes t.lock_kind p span) (sym (first_is w s at.encodes)) expects.0) owes.0 (λ is. owes.1 (same is)) owes.2 owes.3
-    step_is i (store can operation step next) own expects owes = made_is (λ k. t.memory.put i k w) plain (performed operation (number_at t.memory i w)) (step p) next (own (step p) refl) owes.1 owes.2
-    step_is i (section can f step won lost) own expects owes = exchanged (λ u. u) plain (f w) (step p) (won w) (lost w) refl (own (step p) refl) owes.1 owes.2 owes.3
+    done i (store can operation step next) own expects owes =
+        exchanged (put_at i) plain (Some (performed operation (number i))) (step p) next next (λ u. Some (step p)) (λ u e is. is) refl
+        (own (step p) refl) owes.1 owes.2
+        (λ closed. absurd (true≢false (sym owes.1.0.1 ∙ closed)))
+    done i (section can f step won lost) own expects owes =
+        exchanged (λ u. u) plain (f w) (step p) (won w) (lost w) _ (λ u e is. made_named _ (step p) e is) refl (own (step p) refl) owes.1 owes.2 owes.3
 
-    pub can_is : (i : ℕ) (act : Act W L A) → Owes t n p (call_of t n c) h s w span row i act → can_by t.memory i act w ≡ true
+    can_is : (i : ℕ) (act : Act W L A) → OwesHere i act → can_by t.memory i act w ≡ true
     can_is i (store can operation step next) owes = owes.0
     can_is i (section can f step won lost) owes = owes.0
     can_is i _ owes = refl
 
     -- a weak exchange is its call's first plain step
-    pub refusal_is : (i : ℕ) (act : Act W L A) (next : Next L A) → Owes t n p (call_of t n c) h s w span row i act → refusal_by act ≡ Some next
+    refusal_is : (i : ℕ) (act : Act W L A) (next : Next L A) → OwesHere i act → refusal_by act ≡ Some next
         → NextIs (machine_of t) (keeping_of t n) Weak p c h s (mark_of p None weak s ∷ span) next × (may_be_weak (t.asks c h) ≡ true) × (own p span ≡ before_weakly (t.asks c h) p)
     refusal_is i (weak_exchange k f step won lost) next owes is =
         let same : lost ≡ next = cc (is) in (
@@ -242,45 +386,16 @@ module _ {W V C L A : Type 0} (t : Table W V C L A) (n : Notes t) (sound_all : (
         )
     refusal_is i _ next owes is = absurd (cc (is))
 
-    -- no step fails uncounted by which the call goes on
-    refuted : {X : Type 0} (put : X → W) (o u : Option X) (d e : Change) → Means t n p s d put o → made_if u d ≡ Some e → is_open s e ≡ true → made_if o d ≡ None → {Y : Type 0} → Y
-    refuted put None (Some x) d e means is may none = let same : d ≡ e = cc (is) in absurd (true≢false (sym may ∙ (sym (ap (is_open s) same) ∙ means)))
-    refuted put None None d e means is may none = absurd (cc (is))
-    refuted put (Some x) u d e means is may none = absurd (cc (none))
-
-    counted_attempt : (put : ℕ → W) (o : Option ℕ) (d : Change) (won lost : Next L A) (change : W → Option Change) → is_answer lost ≡ true → ContinuesCounted change s (becomes {V = V} put w o won lost).next (made_if o d) plain
-    counted_attempt put (Some to) d won lost change last = counted_of change s won (Some d) plain (λ u e is may none. absurd (cc (none)))
-    counted_attempt put None d won (Continue m) change last = absurd (false≢true last)
-    counted_attempt put None d won (Answers a after) change last = tt
-
-    pub counted_is : (i : ℕ) (act : Act W L A) → Owes t n p (call_of t n c) h s w span row i act
-        → ContinuesCounted (λ u. change_by t.memory i act p u) s (step_by {V = V} t.memory i act w).next (change_by t.memory i act p w) (by_step (step_kind_by (t.asks c h) act))
-    counted_is i (enter test step won lost) owes = counted_of _ s _ _ _ (λ u d is may none. refuted (λ k. w) _ (passing (test (number_at t.memory i u)) (number_at t.memory i u)) (step p) d owes.0 is may none)
-    counted_is i (exchange operation step won lost) owes = counted_of _ s _ _ _ (λ u d is may none. refuted (λ k. t.memory.put i k w) _ (tried operation (number_at t.memory i u)) (step p) d owes.0 is may none)
-    counted_is i (weak_exchange k f step won lost) owes = counted_of _ s _ _ _ (λ u d is may none. refuted (λ k. t.memory.put i k w) _ (tried (swap k f) (number_at t.memory i u)) (step p) d owes.0 is may none)
-    counted_is i (attempt k f step won lost) owes = counted_attempt (λ k. t.memory.put i k w) _ (step p) won lost _ owes.2
-    counted_is i (retry k f step won found missed) owes = counted_of _ s _ _ _ (λ u d is may none. refl)
-    counted_is i (store can operation step next) owes = counted_of _ s _ (Some (step p)) _ (λ u d is may none. absurd (cc (none)))
-    counted_is i (section can f step won lost) owes = counted_of _ s _ _ _ (λ u d is may none. refuted (λ u. u) (f w) (f u) (step p) d owes.1 is may none)
-    counted_is i _ owes = counted_of _ s _ None _ (λ u d is may none. absurd (cc (is)))
-
     -- what is due, and open, is got
-    gets_it : {X : Type 0} (put : X → W) (o : Option X) (d e : Change) → Means t n p s d put o → d ≡ e → is_open s e ≡ true → made_if o d ≡ Some e
-    gets_it put None d e means is may = absurd (true≢false (sym may ∙ (sym (ap (is_open s) is) ∙ means)))
-    gets_it put (Some x) d e means is may = ap Some is
-
-    due_is : (i : ℕ) (act : Act W L A) (ask : Ask) (way : Way) → Needs (need (Some ask) way (rests act) (peeks act)) p span → sure_by act p ≡ aimed p (Some ask) (sure_by act p) → Owes t n p (call_of t n c) h s w span row i act
-        → is_due_by way p span ≡ true → is_open_to s p ask ≡ true → change_by t.memory i act p w ≡ Some (gets p ask)
-    due_is i (load next) ask way needs aim owes is may = absurd (rests_undue ask way false p span needs is)
-    due_is i (load_if test a b) ask way needs aim owes is may = absurd (rests_undue ask way true p span needs is)
-    due_is i (load_for f step found missed) ask way needs aim owes is may = absurd (rests_undue ask way false p span needs is)
-    due_is i (attempt k f step won lost) ask way needs aim owes is may = absurd (rests_undue ask way false p span needs is)
-    due_is i (retry k f step won found missed) ask way needs aim owes is may = absurd (rests_undue ask way false p span needs is)
-    due_is i (enter test step won lost) ask way needs aim owes is may = gets_it (λ k. w) _ (step p) (gets p ask) owes.0 (cc (aim)) may
-    due_is i (exchange operation step won lost) ask way needs aim owes is may = gets_it (λ k. t.memory.put i k w) _ (step p) (gets p ask) owes.0 (cc (aim)) may
-    due_is i (weak_exchange k f step won lost) ask way needs aim owes is may = gets_it (λ k. t.memory.put i k w) _ (step p) (gets p ask) owes.0 (cc (aim)) may
-    due_is i (store can operation step next) ask way needs aim owes is may = aim
-    due_is i (section can f step won lost) ask way needs aim owes is may = gets_it (λ u. u) _ (step p) (gets p ask) owes.1 (cc (aim)) may
+    due_is : (act : Act W L A) (ask : Ask) (way : Way) (step : Option Change) → Needs (need (Some ask) way (rests act) (peeks act)) p span
+        → sure_by act p ≡ aimed p (Some ask) (sure_by act p) → ((e : Change) → sure_by act p ≡ Some e → is_open s e ≡ true → step ≡ Some e)
+        → is_due_by way p span ≡ true → is_open_to s p ask ≡ true → step ≡ Some (gets p ask)
+    due_is (enter test to won lost) ask way step needs aim got is may = got (gets p ask) aim may
+    due_is (exchange operation to won lost) ask way step needs aim got is may = got (gets p ask) aim may
+    due_is (weak_exchange k f to won lost) ask way step needs aim got is may = got (gets p ask) aim may
+    due_is (store can operation to next) ask way step needs aim got is may = got (gets p ask) aim may
+    due_is (section can f to won lost) ask way step needs aim got is may = got (gets p ask) aim may
+    due_is act ask way step needs aim got is may = absurd (rests_undue ask way (peeks act) p span needs is)
 
     -- and else it looks
     looks_else : (act : Act W L A) (what : Asked) (ask : Ask) (way : Way) → is_waiting what ≡ true → Needs (need (Some ask) way (rests act) (peeks act)) p span → LooksElse way p span (by_step (step_kind_by what act))
@@ -293,72 +408,6 @@ module _ {W V C L A : Type 0} (t : Table W V C L A) (n : Notes t) (sound_all : (
     looks_else (retry k f step won found missed) what ask by_looks waiting needs = absurd needs
     looks_else _ what ask by_looks waiting needs = λ is. absurd (true≢false (sym needs ∙ is))
 
-    pub gets_is : (i : ℕ) (act : Act W L A) (ask : Ask) (way : Way) → is_waiting (t.asks c h) ≡ true → Needs (need (Some ask) way (rests act) (peeks act)) p span → sure_by act p ≡ aimed p (Some ask) (sure_by act p) → Owes t n p (call_of t n c) h s w span row i act
-        → (is_due_by way p span ≡ true → is_open_to s p ask ≡ true → change_by t.memory i act p w ≡ Some (gets p ask)) × LooksElse way p span (by_step (step_kind_by (t.asks c h) act))
-    gets_is i act ask way waiting needs aim owes = (due_is i act ask way needs aim owes, looks_else act (t.asks c h) ask way waiting needs)
-
-    -- a try goes on only where it may
-    module _ (ask : Ask) (is : t.asks c h ≡ tries ask) where
-      made_on : (next : Next L A) (d : Change) → GoesOnOpen ask p span s next (Some d)
-      made_on (Continue m) d = tt
-      made_on (Answers a after) d = tt
-
-      open_on : (next : Next L A) → is_open_to s p ask ≡ true → GoesOnOpen ask p span s next None
-      open_on (Continue m) may = tries_open ask p span s may
-      open_on (Answers a after) may = tt
-
-      tried_to : (m : L) (r : StepKind) (o : Option Row) → FollowsRow t n p (call_of t n c) h s w span row None r goes m o → MayTryOn ask p span s
-      tried_to m r None follows = absurd follows
-      tried_to m r (Some to) follows = may_try (t.asks c h) ask p s span _ is follows.2
-
-      tried_on : (r : StepKind) (next : Next L A) → Follows t n p (call_of t n c) h s w span row false None r goes next → GoesOnOpen ask p span s next None
-      tried_on r (Continue m) follows = tried_to m r (row_of t n c m h) follows
-      tried_on r (Answers a after) follows = tt
-
-      missed_to : (m : L) (r : StepKind) (d : Change) (o : Option Row) → FollowsRow t n p (call_of t n c) h s w span row None r (misses d) m o → MayTryOn ask p span s
-      missed_to m r d None follows = absurd follows
-      missed_to m r d (Some to) follows = absurd (no_try (t.asks c h) ask d None p s span _ is follows.2)
-
-      missed_on : (r : StepKind) (d : Change) (next : Next L A) → Follows t n p (call_of t n c) h s w span row false None r (misses d) next → GoesOnOpen ask p span s next None
-      missed_on r d (Continue m) follows = missed_to m r d (row_of t n c m h) follows
-      missed_on r d (Answers a after) follows = tt
-
-      tested_on : (r : StepKind) (b : Bool) (x y : Next L A) → (b ≡ true → Follows t n p (call_of t n c) h s w span row false None r goes x) → (b ≡ false → Follows t n p (call_of t n c) h s w span row false None r goes y) → GoesOnOpen ask p span s (either b x y) None
-      tested_on r true x y f g = tried_on r x (f refl)
-      tested_on r false x y f g = tried_on r y (g refl)
-
-      looked_on : {X : Type 0} (put : X → W) (r : StepKind) (o : Option X) (d : Change) (found missed : Next L A) → d ≡ gets p ask → Means t n p s d put o → (is_open s d ≡ false → Follows t n p (call_of t n c) h s w span row false None r (misses d) missed)
-          → GoesOnOpen ask p span s (either (is_some o) found missed) None
-      looked_on put r None d found missed aim means g = missed_on r d missed (g means)
-      looked_on put r (Some x) d found missed aim means g = open_on found (subst (λ e. is_open s e ≡ true) aim means.0.1)
-
-      exchanged_on : {X : Type 0} (put : X → W) (r : StepKind) (o : Option X) (d : Change) (won lost : Next L A) → Means t n p s d put o → (is_open s d ≡ false → Follows t n p (call_of t n c) h s w span row false None r (misses d) lost)
-          → GoesOnOpen ask p span s (becomes {V = V} put w o won lost).next (made_if o d)
-      exchanged_on put r None d won lost means g = missed_on r d lost (g means)
-      exchanged_on put r (Some x) d won lost means g = made_on won d
-
-      attempted_on : (put : ℕ → W) (o : Option ℕ) (d : Change) (won lost : Next L A) → is_answer lost ≡ true → GoesOnOpen ask p span s (becomes {V = V} put w o won lost).next (made_if o d)
-      attempted_on put (Some to) d won lost last = made_on won d
-      attempted_on put None d won (Continue m) last = absurd (false≢true last)
-      attempted_on put None d won (Answers a after) last = tt
-
-      retried_on : (put : ℕ → W) (b : Bool) (o : Option ℕ) (d : Change) (won found missed : Next L A) → d ≡ gets p ask → Means t n p s d put o → (is_open s d ≡ false → Follows t n p (call_of t n c) h s w span row false None again (misses d) missed)
-          → GoesOnOpen ask p span s (retried {V = V} put b w o won found missed).next (made_if (if b then o else None) d)
-      retried_on put true o d won found missed aim means g = exchanged_on put again o d won missed means g
-      retried_on put false o d won found missed aim means g = looked_on put again o d found missed aim means g
-
-      pub tries_is : (i : ℕ) (act : Act W L A) → aim_by (tries ask) act p ≡ aimed p (Some ask) (aim_by (tries ask) act p) → Owes t n p (call_of t n c) h s w span row i act → GoesOnOpen ask p span s (step_by {V = V} t.memory i act w).next (change_by t.memory i act p w)
-      tries_is i (load next) aim owes = tried_on plain _ owes
-      tries_is i (load_if test a b) aim owes = tested_on (by_step (look_kind (t.asks c h))) (test (number_at t.memory i w)) _ _ owes.0 owes.1
-      tries_is i (load_for f step found missed) aim owes = looked_on (λ k. t.memory.put i k w) plain (f (number_at t.memory i w)) (step p) _ missed (cc (aim)) owes.0 owes.2
-      tries_is i (enter test step won lost) aim owes = exchanged_on (λ k. w) (by_step (look_kind (t.asks c h))) (passing (test (number_at t.memory i w)) (number_at t.memory i w)) (step p) won lost owes.0 owes.2
-      tries_is i (exchange operation step won lost) aim owes = exchanged_on (λ k. t.memory.put i k w) plain (tried operation (number_at t.memory i w)) (step p) won _ owes.0 owes.2
-      tries_is i (weak_exchange k f step won lost) aim owes = exchanged_on (λ k. t.memory.put i k w) plain (tried (swap k f) (number_at t.memory i w)) (step p) won lost owes.0 owes.2
-      tries_is i (attempt k f step won lost) aim owes = attempted_on (λ k. t.memory.put i k w) _ (step p) won lost owes.2
-      tries_is i (retry k f step won found missed) aim owes = retried_on (λ k. t.memory.put 0 k w) (number_at t.memory 0 w == k) (f (number_at t.memory 0 w)) (step p) won _ missed (cc (aim)) owes.0 owes.3
-      tries_is i (store can operation step next) aim owes = made_on next (step p)
-      tries_is i (section can f step won lost) aim owes = exchanged_on (λ u. u) plain (f w) (step p) (won w) (lost w) owes.1 owes.3
-
     abbrev Soon : Option Row → Type 0
     Soon o = AnswersRow t n p (call_of t n c) l h s w span (answers_by t (steps_alone t.lock_kind (t.asks c h)) w c l h) (is_waiting (t.asks c h)) o
 
@@ -368,32 +417,40 @@ module _ {W V C L A : Type 0} (t : Table W V C L A) (n : Notes t) (sound_all : (
         let owed = subst (λ b. AnswersRow t n p (call_of t n c) l h s w span (answers_by t (steps_alone t.lock_kind (t.asks c h)) w c l h) b (Some row)) waits soon in
         owed at (subst (λ (cs : List Change). is_open_next (t.asks c h) (is_empty cs) (arrived p span) p s ≡ true) at.known.made may)
 
-    due_at : Aimed (t.asks c h) (t.act c l h) (row.made p) p → Owes t n p (call_of t n c) h s w span row (t.word l) (t.act c l h)
-        → Gets t.lock_kind p (t.asks c h) span s (change_by t.memory (t.word l) (t.act c l h) p w) (by_step (step_kind_by (t.asks c h) (t.act c l h)))
-    due_at aims owes ask aim =
+    due_at : Aimed (t.asks c h) (t.act c l h) (row.made p) p → (step : Option Change)
+        → ((e : Change) → sure_by (t.act c l h) p ≡ Some e → is_open s e ≡ true → step ≡ Some e)
+        → Gets t.lock_kind p (t.asks c h) span s step (by_step (step_kind_by (t.asks c h) (t.act c l h)))
+    due_at aims step got ask aim =
         let act = t.act c l h in
         let is = subst (λ cs. goes_for (t.asks c h) cs ≡ Some ask) at.known.made aim in
         let way = way_of t.lock_kind (t.asks c h) (row.made p) in
-        subst (λ cs. let way = way_of t.lock_kind (t.asks c h) cs in (is_due_by way p span ≡ true → is_open_to s p ask ≡ true → change_by t.memory (t.word l) act p w ≡ Some (gets p ask)) × LooksElse way p span (by_step (step_kind_by (t.asks c h) act))) (sym at.known.made)
-        (gets_is (t.word l) act ask way (goes_waiting (t.asks c h) (row.made p) ask is) (subst (λ o. Needs (need o way (rests act) (peeks act)) p span) is at.known.needs) (aims_sure (t.asks c h) act (row.made p) ask p is aims) owes)
+        let needs = subst (λ o. Needs (need o way (rests act) (peeks act)) p span) is at.known.needs in
+        subst (λ cs. let way = way_of t.lock_kind (t.asks c h) cs in (is_due_by way p span ≡ true → is_open_to s p ask ≡ true → step ≡ Some (gets p ask))
+        × LooksElse way p span (by_step (step_kind_by (t.asks c h) act))) (sym at.known.made) (
+          due_is act ask way step needs (aims_sure (t.asks c h) act (row.made p) ask p is aims) got,
+          looks_else act (t.asks c h) ask way
+              (goes_waiting (t.asks c h) (row.made p) ask is) needs,
+        )
 
-    shown : ((d : Change) → makes_by (t.act c l h) p ≡ Some d → is_step_of t.lock_kind d ≡ true) → Owes t n p (call_of t n c) h s w span row (t.word l) (t.act c l h)
+    shown : ((d : Change) → makes_by (t.act c l h) p ≡ Some d → is_step_of t.lock_kind d ≡ true) → OwesHere (t.word l) (t.act c l h)
         → Aimed (t.asks c h) (t.act c l h) (row.made p) p → Soon (Some row) → Shown t n p c l h s w span
     shown fits owes aims soon =
+        let is = done (t.word l) (t.act c l h) fits at.known.expects owes in
         record {
           can = can_is (t.word l) (t.act c l h) owes;
-          went = step_is (t.word l) (t.act c l h) fits at.known.expects owes;
-          refusal = λ next is. refusal_is (t.word l) (t.act c l h) next owes is;
-          counted = counted_is (t.word l) (t.act c l h) owes;
-          due = due_at aims owes;
-          tries_on = λ ask is none. tries_is ask is (t.word l) (t.act c l h) (aims_try (t.asks c h) (t.act c l h) (row.made p) ask p is (sym at.known.made ∙ none) aims) owes;
+          went = is.went;
+          refusal = λ next same. refusal_is (t.word l) (t.act c l h) next owes same;
+          counted = is.counted;
+          due = due_at aims _ is.got;
+          tries_on = λ ask asks none. is.tried ask asks (aims_try (t.asks c h) (t.act c l h) (row.made p) ask p asks (sym at.known.made ∙ none) aims);
           soon = soon_is soon;
         }
 
   pub others_at : (p q : ℕ) (c : C) (l : L) (h : Option Hold) (s : Plain) (step : Option Change) (r : StepKind) (span : List Mark) (o : Option Row) → (q ≡ p → ⊥) → IsOpenStep s q step
       → (n.Knows c l h p s span → n.Knows c l h p (apply_some s step) (mark_of q step r s ∷ span)) → KnowsRow t n c l h p s span o → KnowsRow t n c l h p (apply_some s step) (mark_of q step r s ∷ span) o
   others_at p q c l h s step r span None ne may stays knows = absurd knows
-  others_at p q c l h s step r span (Some row) ne may stays knows = (known-other p q s step r span ne t.lock_kind (t.asks c h) (t.act c l h) row may knows.0, stays knows.1)
+  others_at p q c l h s step r span (Some row) ne may stays knows =
+      (known-other p q s step r span ne t.lock_kind (t.asks c h) (t.act c l h) row may knows.0, stays knows.1)
 
   pub begins_at : (p : ℕ) (c : C) (l : L) (h : Option Hold) (s : Plain) (o : Option Row) → entries p s ≡ entries_held p h → BeginsRow t n c l h p s o → KnowsRow t n c l h p s [] o
   begins_at p c l h s None mine begins = absurd begins
@@ -410,34 +467,49 @@ module _ {W V C L A : Type 0} (t : Table W V C L A) (n : Notes t) (sound_all : (
   )
 
 module _ {W V C L A : Type 0} (t : Table W V C L A) (n : Notes t) (pays : Pays t n) (p : ℕ) (c : C) (l : L) (h : Option Hold) (s : Plain) where
-  module _ (w : W) (span : List Mark) (encodes : t.memory.numbers w ≡ encoded t.lock_kind s) (shape : n.Shape s) (exclusive : IsExclusive s) (retries : failures p span ≤ changes t.lock_kind p span) where
+  module _ (w : W) (span : List Mark) (encodes : t.memory.numbers w ≡ encoded t.lock_kind s) (shape : n.Shape s) (exclusive : IsExclusive s)
+      (retries : failures p span ≤ changes t.lock_kind p span) where
     shown_at : (o : Option Row) → KnowsRow t n c l h p s span o → IsSound t.lock_kind (t.asks c h) p o → OwesRow t n p (call_of t n c) l h s w span o
         → aim_by (t.asks c h) (t.act c l h) p ≡ aimed_at p (t.asks c h) o (aim_by (t.asks c h) (t.act c l h) p)
-        → AnswersRow t n p (call_of t n c) l h s w span (answers_by t (steps_alone t.lock_kind (t.asks c h)) w c l h) (is_waiting (t.asks c h)) o → Shown t n p c l h s w span
+        → AnswersRow t n p (call_of t n c) l h s w span (answers_by t (steps_alone t.lock_kind (t.asks c h)) w c l h) (is_waiting (t.asks c h)) o
+        → Shown t n p c l h s w span
     shown_at None knows sound owes aims soon = absurd knows
     shown_at (Some row) knows sound owes aims soon =
-        let at : At t n p c l h s w span row = record { encodes = encodes; shape = shape; exclusive = exclusive; known = knows.0; knows = knows.1; retries = retries } in
-        shown t n pays.sound p c l h s w span row at sound (λ d is. (fits_made t.lock_kind (t.asks c h) _ _ d (and_parts _ _ (pays.fits p c l h)).0 is).0) (owes at) aims soon
+        let at : At t n p c l h s w span row = record {
+          encodes = encodes;
+          shape = shape;
+          exclusive = exclusive;
+          known = knows.0;
+          knows = knows.1;
+          retries = retries;
+        } in
+        shown t n pays.sound p c l h s w span row at sound (λ d is. (fits_made t.lock_kind (t.asks c h) _ _ d (and_parts _ _ (pays.fits p c l h)).0 is).0)
+        (owes at) aims soon
 
     pub shown_here : KnowsRow t n c l h p s span (row_of t n c l h) → Shown t n p c l h s w span
-    shown_here knows = shown_at (row_of t n c l h) knows (sound_at t.lock_kind (t.asks c h) h p (n.point c l h) (pays.sound p c l h)) (pays.owes p c l h s w span) (pays.aims p c l h) (pays.soon p c l h s w span)
+    shown_here knows =
+        shown_at (row_of t n c l h) knows (sound_at t.lock_kind (t.asks c h) h p (n.point c l h) (pays.sound p c l h)) (pays.owes p c l h s w span)
+        (pays.aims p c l h) (pays.soon p c l h s w span)
 
-  pub others_here : (span : List Mark) (q : ℕ) (step : Option Change) (r : StepKind) → (q ≡ p → ⊥) → n.Shape s → IsOpenStep s q step → BelongsTo t.lock_kind step → KnowsRow t n c l h p s span (row_of t n c l h)
+  pub others_here : (span : List Mark) (q : ℕ) (step : Option Change) (r : StepKind) → (q ≡ p → ⊥) → n.Shape s → IsOpenStep s q step
+      → BelongsTo t.lock_kind step → KnowsRow t n c l h p s span (row_of t n c l h)
       → KnowsRow t n c l h p (apply_some s step) (mark_of q step r s ∷ span) (row_of t n c l h)
-  others_here span q step r ne shape may belongs knows = others_at t n pays.sound p q c l h s step r span (row_of t n c l h) ne may (pays.others p q c l h s step r span ne shape may belongs) knows
+  others_here span q step r ne shape may belongs knows =
+      others_at t n pays.sound p q c l h s step r span (row_of t n c l h) ne may (pays.others p q c l h s step r span ne shape may belongs) knows
 
   pub begins_here : begin_of t c h ≡ Some l → entries p s ≡ entries_held p h → KnowsRow t n c l h p s [] (row_of t n c l h)
   begins_here e mine = begins_at t n pays.sound p c l h s (row_of t n c l h) mine (subst (BeginsAt t n c h p s) e (pays.begins p c h s))
 
 module _ {W V C L A : Type 0} (t : Table W V C L A) (n : Notes t) (pays : Pays t n) (no_value : t.lock_kind.makes_value ≡ false) where
   no_completion : (p : ℕ) (c : C) (l : L) (h : Option Hold) (w : W) (q : ℕ) → change_by t.memory (t.word l) (t.act c l h) p w ≡ Some (completes q) → ⊥
-  no_completion p c l h w q is = completes_none t.lock_kind q no_value (fits_change t pays.fits pays.operates p c l h _ w (completes q) is).0
+  no_completion p c l h w q is = true≢false (sym (fits_change t pays.fits pays.operates p c l h _ w (completes q) is).0 ∙ no_value)
 
   silent : (v : Option V) (next : Next L A) → NextGives (machine_of t) v next
   silent v (Continue l) = tt
-  silent v (Answers a after) = gives_none t.lock_kind.makes_value (t.says a) None v no_value
+  silent v (Answers a after) = subst (λ made. Gives made (t.says a) None v) (sym no_value) tt
 
-  at_point : (p : ℕ) (c : C) (l : L) (h : Option Hold) (s : Plain) (v : Option V) (w : W) (span : List Mark) → InCall (machine_of t) (keeping_of t n) p c l h s v w span
+  at_point : (p : ℕ) (c : C) (l : L) (h : Option Hold) (s : Plain) (v : Option V) (w : W) (span : List Mark)
+      → InCall (machine_of t) (keeping_of t n) p c l h s v w span
       → PointFacts (machine_of t) (keeping_of t n) p c l h s v w span
   at_point p c l h s v w span here =
       let is = shown_here t n pays p c l h s w span here.encodes here.shape here.exclusive here.retries here.knows in
@@ -473,7 +545,7 @@ module _ {W V C L A : Type 0} (t : Table W V C L A) (n : Notes t) (pays : Pays t
         one_list = λ s v shape. pays.one_list s shape;
         shape_written = λ s p old v writes shape. shape;
         shape_set = λ s old v shape. shape;
-        phase = λ s v shape. phase_none t.lock_kind.makes_value s.phase v no_value;
+        phase = λ s v shape. subst (λ made. HasPhase made s.phase v) (sym no_value) tt;
         begins = λ p c l h s e mine. begins_here t n pays p c l h s e mine;
         others = λ p q c l h s v step r span ne shape exclusive may belongs knows. others_here t n pays p c l h s span q step r ne shape may belongs knows;
         at = at_point;

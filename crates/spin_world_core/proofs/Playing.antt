@@ -41,18 +41,29 @@ module _ {W V C L A : Type 0} (m : Machine W V C L A) where
   -- only a party that exists begins a call
   begins_within : (s : State W V C L) (p : ℕ) (move : Move C V) → is_begun (happens m s p move).outcome ≡ true → p < length s.seats
   begins_within s p move e =
-      ⊎_elim (λ (lt : p < length s.seats). lt) (λ (ge : length s.seats ≤ p). absurd (true≢false (sym e ∙ ap is_begun (stranger m s p move ge)))) (cases_lt p (length s.seats))
+      ⊎_elim (λ (lt : p < length s.seats). lt) (λ (ge : length s.seats ≤ p). absurd (true≢false (sym e ∙ ap is_begun (stranger m s p move ge))))
+      (cases_lt p (length s.seats))
 
   pub forgotten : (s : State W V C L) (begins now : List (Option ℕ)) → now ≡ map (λ b. None) begins → length begins ≡ length s.seats → Played s s now [] []
   forgotten s begins now is parties =
-      record { table = refl; with_begins_so = refl; begun_so = λ p. ap (λ bs. begin_of bs p) is ∙ none_begun begins p; parties = ap length is ∙ (length-map begins (λ b. None) ∙ parties) }
+      record {
+        table = refl;
+        with_begins_so = refl;
+        begun_so = λ p. ap (λ bs. begin_of bs p) is ∙ none_begun begins p;
+        parties = ap length is ∙ (length-map begins (λ b. None) ∙ parties);
+      }
 
   played_at : (from : State W V C L) (begins : List (Option ℕ)) (events : List (Event W V A)) (front : List (ℕ × Move C V)) (p : ℕ) (move : Move C V)
       → Played from (after m from front) begins events front → (h : Happened W V C L A) → h ≡ happens m (after m from front) p move
-      → Played from h.next (begins_after begins p (length front) h.outcome) (events ++ record { party = p; outcome = with_begin (begin_of begins p) h.outcome; words = h.next.words } ∷ []) (front ++ (p, move) ∷ [])
+      → Played from h.next (begins_after begins p (length front) h.outcome)
+      (events ++ record { party = p; outcome = with_begin (begin_of begins p) h.outcome; words = h.next.words } ∷ []) (front ++ (p, move) ∷ [])
   played_at from begins events front p move played h is =
       let all = events_of-append m from front ((p, move) ∷ []) in
-      let event : Event W V A = record { party = p; outcome = (happens m (after m from front) p move).outcome; words = (happens m (after m from front) p move).next.words } in
+      let event : Event W V A = record {
+        party = p;
+        outcome = (happens m (after m from front) p move).outcome;
+        words = (happens m (after m from front) p move).next.words;
+      } in
       record {
         table = ap (λ h. h.next) is ∙ sym (after-append m from front ((p, move) ∷ []));
         with_begins_so =
@@ -61,17 +72,21 @@ module _ {W V C L A : Type 0} (m : Machine W V C L A) where
             rw (all, last_begin-append q 0 None (events_of m from front) (event ∷ []), length-events_of m from front, is, zero-add)
             (begun_more begins p q (length front) (last_begin q 0 None (events_of m from front)) (happens m (after m from front) p move).outcome
             (λ e. omega (arith, begins_within (after m from front) p move e, played.parties)) (played.begun_so q));
-        parties = length-begins_after begins p (length front) h.outcome ∙ (played.parties ∙ (sym (length-happens m (after m from front) p move) ∙ ap (λ (g : Happened W V C L A). length g.next.seats) (sym is)));
+        parties =
+            length-begins_after begins p (length front) h.outcome ∙ (played.parties
+            ∙ (sym (length-happens m (after m from front) p move) ∙ ap (λ (g : Happened W V C L A). length g.next.seats) (sym is)));
       }
 
-  pub played_next : (from now next : State W V C L) (begins begins' : List (Option ℕ)) (events events' : List (Event W V A)) (schedule : List (ℕ × Move C V)) (k : ℕ) (entry : ℕ × Move C V) (o o' : Outcome A V) (words : W)
+  pub played_next : (from now next : State W V C L) (begins begins' : List (Option ℕ)) (events events' : List (Event W V A)) (schedule : List (ℕ × Move C V))
+      (k : ℕ) (entry : ℕ × Move C V) (o o' : Outcome A V) (words : W)
       → Played from now begins events (take k schedule) → k < length schedule → entry ≡ get_or schedule k entry
       → (let h : Happened W V C L A = record { outcome = o; next = next } in h ≡ happens m now entry.0 entry.1) → words ≡ next.words
       → o' ≡ with_begin (begin_of begins entry.0) o → begins' ≡ begins_after begins entry.0 k o
       → events' ≡ events ++ record { party = entry.0; outcome = o'; words = words } ∷ [] → Played from next begins' events' (take (k + 1) schedule)
   played_next from now next begins begins' events events' schedule k entry o o' words played lt read acted same_words told_o put added =
       let here = subst (λ s. Played from s begins events (take k schedule)) played.table played in
-      let more = played_at from begins events (take k schedule) entry.0 entry.1 here (record { outcome = o; next = next }) (acted ∙ ap (λ s. happens m s entry.0 entry.1) played.table) in
+      let more = played_at from begins events (take k schedule) entry.0 entry.1 here (record { outcome = o; next = next })
+      (acted ∙ ap (λ s. happens m s entry.0 entry.1) played.table) in
       let front : length (take k schedule) ≡ k = length-take-le k schedule (omega arith) in
       rw (take_next schedule k entry lt read, added, put, told_o, same_words) (rw front at more)
 
@@ -89,8 +104,12 @@ module _ {W V C L A : Type 0} (m : Machine W V C L A) where
   pub reached_next : (s t : State W V C L) (p : ℕ) (move : Move C V) (o : Outcome A V)
       → (let h : Happened W V C L A = record { outcome = o; next = t } in h ≡ happens m s p move) → IsReached m s → IsReached m t
   reached_next s t p move o is reached =
-      ∥∥₁_map reached (λ led.
-      (led.0, led.1 ++ (p, move) ∷ [], after-append m (at_first m led.0) led.1 ((p, move) ∷ []) ∙ (ap (λ u. (happens m u p move).next) led.2 ∙ sym (ap (λ h. h.next) is))))
+      ∥∥₁_map reached (λ led. (
+        led.0,
+        led.1 ++ (p, move) ∷ [],
+        after-append m (at_first m led.0) led.1 ((p, move) ∷ [])
+            ∙ (ap (λ u. (happens m u p move).next) led.2 ∙ sym (ap (λ h. h.next) is)),
+      ))
 
   -- and has as many parties
   pub parties_next : (s t : State W V C L) (p : ℕ) (move : Move C V) (o : Outcome A V)

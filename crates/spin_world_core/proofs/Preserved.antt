@@ -1,5 +1,5 @@
 -- One event keeps all that is promised, of any object that shows its local facts.
-use Rattle.spin_world_core.proofs.Names.{◌≡◌, ℕ, ◌<◌, ◌≤◌, ◌==◌, Bool, true, false, Option, Some, None, List, [], ◌∷◌, ◌++◌, suc, if◌then◌else◌, is_some, slice_get, slice_set, refl, ap, sym, ◌∙◌, subst, ⊎_elim, arith, ne_eqb, cases_eq, true≢false, false≢true, Plain, Ask, Change, completes, apply_some, IsOpenStep, Entries, entries, entries_after, IsExclusive, entries-other, entries-own, exclusive-kept, Hold, Seat, Idle, Calling, Holding, Leaked, Next, Continue, Answers, Move, Begin, Step, Weak, Read, Write, Leak, Outcome, StepKind, is_again, is_weak, by_step, encoded, BelongsTo, tries, Mark, Machine, State, skipped, seated, begun, goes_on, placed, resting, read_by, written_by, may_read, may_write, InItsCall, LeavesCalls, held_at, Seen, Scene, scene_at, scene_of, mark_of, own, own_count, failures, changes, if_completed, is_open_move, entries_of, entries_held, entries_so_far, StandsFor, is_reader, is_writer, MayTouch, MaySkip, is_in_place, ComesTo, IsWeakCall, StepLeaves, OwnSteps, asked, Keeps, IsRight, InTime, IsCounted, IsInTime, is_open_now, Leaves, AllOf, AnsweredSoon, Gets, GetsWhenDue, TriesOn}
+use Rattle.spin_world_core.proofs.Names.{◌≡◌, ℕ, ◌<◌, ◌≤◌, ◌==◌, Bool, true, false, Option, Some, None, List, [], ◌∷◌, ◌++◌, suc, if◌then◌else◌, is_some, slice_get, slice_set, refl, ap, sym, ◌∙◌, subst, ⊎_elim, arith, ne_eqb, cases_eq, true≢false, false≢true, Plain, Ask, Change, completes, apply_some, IsOpenStep, Entries, entries, entries_after, IsExclusive, entries-other, entries-own, exclusive-kept, Hold, Seat, Idle, Calling, Holding, Leaked, Next, Continue, Answers, Move, Begin, Step, Weak, Read, Write, Leak, Outcome, StepKind, is_again, is_weak, by_step, encoded, BelongsTo, tries, Mark, Machine, State, skipped, seated, begun, goes_on, placed, resting, read_by, written_by, may_read, may_write, InItsCall, LeavesCalls, held_at, Seen, Scene, scene_at, scene_of, mark_of, own, own_count, failures, changes, if_completed, is_open_move, entries_of, entries_held, entries_so_far, StandsFor, is_reader, is_writer, MayTouch, MaySkip, is_in_place, ComesTo, IsWeakCall, StepLeaves, OwnSteps, asked, Keeps, IsRight, InTime, IsCounted, IsInTime, UndisturbedTakes, AnsweredSoon, Gets, GetsWhenDue, TriesOn}
 use Rattle.spin_world_core.specs.declared.place.Hold.TheVariants as hold
 use Rattle.spin_world_core.specs.declared.schedule.Outcome.TheVariants as outcome
 use Rattle.spin_world_core.specs.StepKinds as step_kind
@@ -166,7 +166,14 @@ module _ {W V C L A : Type 0} (m : Machine W V C L A) (k : LocalInvariant V C L)
         record {
           keeps = keeps_from s good aside.0 aside.1 reads touches happened is_open placed aside.2 comes aside.3 in_call calls;
           right = aside.4;
-          in_time = record { in_time = aside.5; counted = aside.6; retries = λ q. (good.parties q).retries; undisturbed = aside.7; due = aside.8; tries_on = aside.9 };
+          in_time = record {
+            in_time = aside.5;
+            counted = aside.6;
+            retries = λ q. (good.parties q).retries;
+            undisturbed = aside.7;
+            due = aside.8;
+            tries_on = aside.9;
+          };
           good = good;
         }
 
@@ -202,25 +209,35 @@ module _ {W V C L A : Type 0} (m : Machine W V C L A) (k : LocalInvariant V C L)
     module _ (seen : Seen W V C L) (p : ℕ) (good : Invariant seen) where
       -- what holds of a party beside a step
       of_others : (q : ℕ) (w : W) (step : Option Change) (r : StepKind) (o : Option (Seat C L)) → slice_get seen.state.seats q ≡ o → (p ≡ q → ⊥)
-          → IsOpenStep seen.plain p step → BelongsTo m.lock_kind step → (encoded m.lock_kind (apply_some seen.plain step) ≡ encoded m.lock_kind seen.plain → w ≡ seen.state.words)
+          → IsOpenStep seen.plain p step → BelongsTo m.lock_kind step
+          → (encoded m.lock_kind (apply_some seen.plain step) ≡ encoded m.lock_kind seen.plain → w ≡ seen.state.words)
           → OfParty seen.state.words seen.plain q (seen.span q) o → OfParty w (apply_some seen.plain step) q (mark_of p step r seen.plain ∷ seen.span q) o
       of_others q w step r o there ne may belongs same is =
           record {
             stands = stands_beside seen.plain p q step r (seen.span q) o ne may is.stands;
             knows = knows_beside o is.knows;
             retries = retries-other m.lock_kind q p step r seen.plain (seen.span q) ne is.retries;
-            undisturbed = beside m seen.state.words w p q seen.plain step r (seen.span q) o ne same (λ c l h at. (f.at q c l h _ _ _ _ (in_call seen q c l h good (there ∙ at))).undisturbed) is.undisturbed;
+            undisturbed =
+                beside m seen.state.words w p q seen.plain step r (seen.span q) o ne same
+                (λ c l h at. (f.at q c l h _ _ _ _ (in_call seen q c l h good (there ∙ at))).undisturbed) is.undisturbed;
           }
         where
-          knows_beside : (o : Option (Seat C L)) → KnowsAt k seen.plain q (seen.span q) o → KnowsAt k (apply_some seen.plain step) q (mark_of p step r seen.plain ∷ seen.span q) o
-          knows_beside (Some (Calling c l h)) knows = f.others q p c l h seen.plain seen.state.value step r (seen.span q) ne good.shape good.exclusive may belongs knows
+          knows_beside : (o : Option (Seat C L)) → KnowsAt k seen.plain q (seen.span q) o
+              → KnowsAt k (apply_some seen.plain step) q (mark_of p step r seen.plain ∷ seen.span q) o
+          knows_beside (Some (Calling c l h)) knows =
+              f.others q p c l h seen.plain seen.state.value step r (seen.span q) ne good.shape good.exclusive may belongs knows
           knows_beside _ knows = tt
 
       -- after a step of a call
       good_stepped : (x y : Seat C L) (step : Option Change) (r : StepKind) (w : W) (v wr : Option V) → slice_get seen.state.seats p ≡ Some y
           → IsOpenStep seen.plain p step → BelongsTo m.lock_kind step → m.numbers w ≡ encoded m.lock_kind (apply_some seen.plain step)
           → k.Shape (apply_some seen.plain step) v → v ≡ wr → OfParty w (apply_some seen.plain step) p (mark_of p step r seen.plain ∷ seen.span p) (Some x)
-          → Invariant (record { state = record { words = w; value = v; seats = slice_set seen.state.seats p x }; plain = apply_some seen.plain step; span = λ q. mark_of p step r seen.plain ∷ seen.span q; written = wr })
+          → Invariant (record {
+            state = record { words = w; value = v; seats = slice_set seen.state.seats p x };
+            plain = apply_some seen.plain step;
+            span = λ q. mark_of p step r seen.plain ∷ seen.span q;
+            written = wr;
+          })
       good_stepped x y step r w v wr there may belongs encodes shape written here =
           let plain = apply_some seen.plain step in
           record {
@@ -229,7 +246,8 @@ module _ {W V C L A : Type 0} (m : Machine W V C L A) (k : LocalInvariant V C L)
             exclusive = exclusive-kept seen.plain p step good.exclusive may;
             written = written;
             parties = at_seat (λ q o. OfParty w plain q (mark_of p step r seen.plain ∷ seen.span q) o) seen.state.seats p x y there here (λ q ne.
-                of_others q w step r (slice_get seen.state.seats q) refl ne may belongs (λ e. f.numbers_tell w seen.state.words (encodes ∙ (e ∙ sym good.encodes))) (good.parties q));
+                of_others q w step r (slice_get seen.state.seats q) refl ne may belongs
+                (λ e. f.numbers_tell w seen.state.words (encodes ∙ (e ∙ sym good.encodes))) (good.parties q));
           }
 
       -- by its own call
@@ -242,36 +260,44 @@ module _ {W V C L A : Type 0} (m : Machine W V C L A) (k : LocalInvariant V C L)
 
         -- how many steps are left to it after its own step, where nobody has disturbed it
         left_by : (step : Option Change) (r : StepKind) (w : W) (next : Next L A)
-            → (is_weak r ≡ false → (j : ℕ) → AnswersWithin m (suc j) seen.state.words c l h → GoesWithin m j w c h next) → (recent : List Mark) (first : Mark) (older : List Mark)
-            → spanned step r ≡ recent ++ first ∷ older → is_open_now p (m.asks c h) older first.before ≡ true
-            → AllOf (Leaves m.lock_kind p) (recent ++ first ∷ []) → LeftBy m w p c h next (own_count p (recent ++ first ∷ []))
+            → (is_weak r ≡ false → (j : ℕ) → AnswersWithin m (suc j) seen.state.words c l h → GoesWithin m j w c h next)
+            → UndisturbedTakes (LeftBy m w p c h next) m.lock_kind p (m.asks c h) (spanned step r)
         left_by step r w next steps =
-            stepped m seen.state.words w p c l h seen.plain step r (seen.span p) next (subst (RunsOn m seen.state.words p (seen.span p)) there (good.parties p).undisturbed) is.undisturbed steps
+            stepped m seen.state.words w p c l h seen.plain step r (seen.span p) next
+            (subst (RunsOn m seen.state.words p (seen.span p)) there (good.parties p).undisturbed) is.undisturbed steps
 
         -- what comes of its step, in time
         abbrev Timed : Move C V → Option Change → StepKind → Option V → Outcome A V → Type 0
         Timed move step r v o =
             ComesTo move step seen.state.value v o × IsCounted m p o move (Some (Calling c l h)) step r seen.plain
-            × GetsWhenDue m.lock_kind p o move (Some (m.asks c h)) (seen.span p) seen.plain step r × TriesOn p o move (Some (m.asks c h)) (seen.span p) seen.plain step
+            × GetsWhenDue m.lock_kind p o move (Some (m.asks c h)) (seen.span p) seen.plain step r
+            × TriesOn p o move (Some (m.asks c h)) (seen.span p) seen.plain step
 
         went_on : (move : Move C V) (step : Option Change) (r : StepKind) (value : Option V) (w : W) (v : Option V) (next : Next L A)
             → IsOpenStep seen.plain p step → BelongsTo m.lock_kind step → m.numbers w ≡ encoded m.lock_kind (apply_some seen.plain step)
-            → k.Shape (apply_some seen.plain step) v → v ≡ if_completed seen.written value step → NextIs m k move p c h (apply_some seen.plain step) (spanned step r) next
+            → k.Shape (apply_some seen.plain step) v → v ≡ if_completed seen.written value step
+            → NextIs m k move p c h (apply_some seen.plain step) (spanned step r) next
             → (is_again r ≡ true → step ≡ None → failures p (seen.span p) < changes m.lock_kind p (seen.span p))
             → (is_weak r ≡ false → (j : ℕ) → AnswersWithin m (suc j) seen.state.words c l h → GoesWithin m j w c h next)
             → is_open_move m seen.state move (Some (Calling c l h)) ≡ true → is_in_place {V = V} {L = L} move (Some (Calling c l h)) ≡ true
-            → IsWeakCall move p (seen.span p) (Some (m.asks c h)) → Timed move step r v (goes_on (record seen.state { words = w; value = v }) p c h next).outcome
+            → IsWeakCall move p (seen.span p) (Some (m.asks c h))
+            → Timed move step r v (goes_on (record seen.state { words = w; value = v }) p c h next).outcome
             → Preserved (scene_of seen p move (Some (Calling c l h)) (goes_on (record seen.state { words = w; value = v }) p c h next) step r value)
         went_on move step r value w v (Continue l') may belongs encodes shape written next fails steps is_open placed weak timed =
             let runs = left_by step r w (Continue l') steps in
-            let after = good_stepped (Calling c l' h) (Calling c l h) step r w v (if_completed seen.written value step) there may belongs encodes shape written (record {
+            let after = good_stepped (Calling c l' h) (Calling c l h) step r w v
+            (if_completed seen.written value step) there may belongs encodes shape written (record {
               stands = stands_stepped seen.plain p step r (seen.span p) (entries_held p h) may (standing seen p (Calling c l h) good there);
               knows = next.knows;
               retries = retries-mine m.lock_kind p step r seen.plain (seen.span p) (good.parties p).retries fails;
-              undisturbed = λ recent first older is may leaves. let t = runs recent first older is may leaves in record { steps = t.steps; few = t.few; answers = t.goes l' refl };
+              undisturbed =
+                  λ recent first older is may leaves. let t =
+                  runs recent first older is may leaves in record { steps = t.steps; few = t.few; answers = t.goes l' refl };
             }) in
             record {
-              keeps = keeps_from _ after may belongs (λ r e. absurd (cc (e))) tt (λ e. cc (e)) is_open placed next.own_so_far timed.0 weak (l', get-set_same seen.state.seats p (Calling c l' h) (Calling c l h) there) (still_calling seen.state.seats p (Calling c l' h));
+              keeps =
+                  keeps_from _ after may belongs (λ r e. absurd (cc (e))) tt (λ e. cc (e)) is_open placed next.own_so_far timed.0 weak
+                  (l', get-set_same seen.state.seats p (Calling c l' h) (Calling c l h) there) (still_calling seen.state.seats p (Calling c l' h));
               right = tt;
               in_time = record {
                 in_time = next.in_time;
@@ -289,7 +315,9 @@ module _ {W V C L A : Type 0} (m : Machine W V C L A) (k : LocalInvariant V C L)
             let after = good_stepped (resting rest) (Calling c l h) step r w v (if_completed seen.written value step) there may belongs encodes shape written
             (rests w (apply_some seen.plain step) p (spanned step r) rest next.stands retries) in
             record {
-              keeps = keeps_from _ after may belongs (λ r e. absurd (cc (e))) tt (λ e. cc (e)) is_open placed next.own_steps_are timed.0 weak tt (still_calling seen.state.seats p (resting rest));
+              keeps =
+                  keeps_from _ after may belongs (λ r e. absurd (cc (e))) tt (λ e. cc (e)) is_open placed next.own_steps_are timed.0 weak tt
+                  (still_calling seen.state.seats p (resting rest));
               right = next.right;
               in_time = record {
                 in_time = next.in_time;
@@ -303,7 +331,8 @@ module _ {W V C L A : Type 0} (m : Machine W V C L A) (k : LocalInvariant V C L)
             }
 
         -- a step goes on or answers, and leaves the value, where no closure completes
-        step_timed : (s : State W V C L) (step : Option Change) (r : StepKind) (v value : Option V) (next : Next L A) → v ≡ if_completed seen.state.value value step
+        step_timed : (s : State W V C L) (step : Option Change) (r : StepKind) (v value : Option V) (next : Next L A)
+            → v ≡ if_completed seen.state.value value step
             → ContinuesCounted (λ u. m.change p u c l h) seen.plain next step r → Gets m.lock_kind p (m.asks c h) (seen.span p) seen.plain step r
             → ((ask : Ask) → m.asks c h ≡ tries ask → own p (seen.span p) ≡ [] → GoesOnOpen ask p (seen.span p) seen.plain next step)
             → Timed Step step r v (goes_on s p c h next).outcome
@@ -321,8 +350,10 @@ module _ {W V C L A : Type 0} (m : Machine W V C L A) (k : LocalInvariant V C L)
             let step = m.change p seen.state.words c l h in
             let r = by_step (m.step_kind c l h) in
             went_on Step step r st.placed st.words (placed st.placed seen.state.value) st.next is.step.opens is.step.belongs is.step.encodes is.step.shape
-            (is.step.places ∙ ap (λ old. if_completed old st.placed step) good.written) is.step.next is.step.fails (λ strong j answers. answers seen.state.value) refl refl tt
-            (step_timed (record seen.state { words = st.words; value = placed st.placed seen.state.value }) step r _ st.placed st.next is.step.places is.counted is.due is.tries_on)
+            (is.step.places ∙ ap (λ old. if_completed old st.placed step) good.written) is.step.next is.step.fails
+            (λ strong j answers. answers seen.state.value) refl refl tt
+            (step_timed (record seen.state { words = st.words; value = placed st.placed seen.state.value }) step r _ st.placed st.next is.step.places
+            is.counted is.due is.tries_on)
 
         pub refusal_kept : (next : Next L A) → m.refuse c l h ≡ Some next
             → Preserved (scene_of seen p Weak (Some (Calling c l h)) (goes_on seen.state p c h next) None step_kind.weak None)
@@ -330,7 +361,8 @@ module _ {W V C L A : Type 0} (m : Machine W V C L A) (k : LocalInvariant V C L)
             went_on Weak None step_kind.weak None seen.state.words seen.state.value next tt tt good.encodes good.shape good.written (is.refuses next refused)
             (λ e. absurd (false≢true e)) (λ strong. absurd (true≢false strong)) (ap is_some refused) refl (is.weakly next refused) (refusal_timed next)
 
-      begun_at : (c : C) (l : L) (h : Option Hold) (y : Seat C L) → slice_get seen.state.seats p ≡ Some y → m.begin c h ≡ Some l → entries p seen.plain ≡ entries_held p h
+      begun_at : (c : C) (l : L) (h : Option Hold) (y : Seat C L) → slice_get seen.state.seats p ≡ Some y → m.begin c h ≡ Some l
+          → entries p seen.plain ≡ entries_held p h
           → is_open_move m seen.state (Begin c) (Some y) ≡ is_some (m.begin c h) → is_in_place {V = V} (Begin c) (Some y) ≡ true → held_at (Some y) ≡ h
           → Preserved (scene_of seen p (Begin c) (Some y) (begun seen.state p c h (Some l)) None step_kind.plain None)
       begun_at c l h y there is_begin stands is_open placed held =
@@ -338,9 +370,16 @@ module _ {W V C L A : Type 0} (m : Machine W V C L A) (k : LocalInvariant V C L)
           let fresh : [] ≡ span p = sym (ap (λ b. if b then [] else seen.span p) (eqb_self p)) in
           let after = good_seated seen p (Calling c l h) y span good there (λ q ne. ap (λ b. if b then [] else seen.span q) (ne_eqb p q ne))
           (subst (λ ms. OfParty seen.state.words seen.plain p ms (Some (Calling c l h))) fresh
-          (record { stands = stands; knows = f.begins p c l h seen.plain is_begin stands; retries = omega arith; undisturbed = runs_fresh m seen.state.words p c l h })) in
-          kept_aside _ after (tt, tt, tt, tt, tt, tt, tt, tt, tt, tt) (λ r e. absurd (cc (e))) tt (λ e. cc (e)) (is_open ∙ ap is_some is_begin) placed (refl, refl)
-          (l, get-set_same seen.state.seats p (Calling c l h) y there ∙ ap (λ j. Some (Calling c l j)) (sym held)) (still_calling seen.state.seats p (Calling c l h))
+          (record {
+            stands = stands;
+            knows = f.begins p c l h seen.plain is_begin stands;
+            retries = omega arith;
+            undisturbed = runs_fresh m seen.state.words p c l h;
+          })) in
+          kept_aside _ after (tt, tt, tt, tt, tt, tt, tt, tt, tt, tt) (λ r e. absurd (cc (e))) tt (λ e. cc (e)) (is_open ∙ ap is_some is_begin) placed
+          (refl, refl)
+          (l, get-set_same seen.state.seats p (Calling c l h) y there ∙ ap (λ j. Some (Calling c l j)) (sym held))
+          (still_calling seen.state.seats p (Calling c l h))
 
       pub begun_kept : (c : C) (l : L) (h : Option Hold) → slice_get seen.state.seats p ≡ Some (resting h) → m.begin c h ≡ Some l
           → Preserved (scene_of seen p (Begin c) (Some (resting h)) (begun seen.state p c h (Some l)) None step_kind.plain None)
@@ -350,7 +389,8 @@ module _ {W V C L A : Type 0} (m : Machine W V C L A) (k : LocalInvariant V C L)
       read_at : (h : Hold) (y : Seat C L) → entries p seen.plain ≡ entries_of p h → may_read h ≡ true → is_open_move m seen.state Read (Some y) ≡ true
           → is_in_place {V = V} {C = C} Read (Some y) ≡ true → Preserved (scene_of seen p Read (Some y) (read_by seen.state true) None step_kind.plain None)
       read_at h y stands may is_open placed =
-          kept_aside _ good (tt, tt, tt, tt, tt, tt, tt, tt, tt, tt) (λ r e. cc (e, good.written)) (ap is_reader stands ∙ (reader_of p h ∙ may)) (λ e. cc (e)) is_open placed
+          kept_aside _ good (tt, tt, tt, tt, tt, tt, tt, tt, tt, tt) (λ r e. cc (e, good.written)) (ap is_reader stands ∙ (reader_of p h ∙ may))
+          (λ e. cc (e)) is_open placed
           (refl, refl) tt (λ q c l h ne is. is)
 
       pub read_kept : (b : Bool) (h : Hold) → slice_get seen.state.seats p ≡ Some (seat_with b h) → may_read h ≡ true
@@ -358,7 +398,8 @@ module _ {W V C L A : Type 0} (m : Machine W V C L A) (k : LocalInvariant V C L)
       read_kept true h there may = read_at h (Holding h) (with_hold seen p true h good there) may may refl
       read_kept false h there may = read_at h (Leaked h) (with_hold seen p false h good there) may may refl
 
-      write_at : (v : V) (h : Hold) (y : Seat C L) → entries p seen.plain ≡ entries_of p h → may_write h ≡ true → is_open_move m seen.state (Write v) (Some y) ≡ true
+      write_at : (v : V) (h : Hold) (y : Seat C L) → entries p seen.plain ≡ entries_of p h → may_write h ≡ true
+          → is_open_move m seen.state (Write v) (Some y) ≡ true
           → is_in_place {C = C} (Write v) (Some y) ≡ true → Preserved (scene_of seen p (Write v) (Some y) (written_by seen.state v true) None step_kind.plain None)
       write_at v h y stands may is_open placed =
           let writes = ap is_writer stands ∙ (writer_of p h ∙ may) in
@@ -375,4 +416,5 @@ module _ {W V C L A : Type 0} (m : Machine W V C L A) (k : LocalInvariant V C L)
       leak_kept h there =
           let after = good_seated seen p (Leaked h) (Holding h) seen.span good there (λ q ne. refl)
           (record { stands = standing seen p (Holding h) good there; knows = tt; retries = (good.parties p).retries; undisturbed = tt }) in
-          kept_aside _ after (tt, tt, tt, tt, tt, tt, tt, tt, tt, tt) (λ r e. absurd (cc (e))) tt (λ e. cc (e)) refl refl (refl, refl) tt (still_calling seen.state.seats p (Leaked h))
+          kept_aside _ after (tt, tt, tt, tt, tt, tt, tt, tt, tt, tt) (λ r e. absurd (cc (e))) tt (λ e. cc (e)) refl refl (refl, refl) tt
+          (still_calling seen.state.seats p (Leaked h))

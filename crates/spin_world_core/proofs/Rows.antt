@@ -22,16 +22,14 @@ Branched (misses c) s step r = is_open s c ≡ false
 
 -- at most k steps are spent of what the limit counts
 abbrev pub Spends : Limit → ℕ → ℕ → List Mark → Type 0
-Spends unlimited k p span = Unit {0}
 Spends (within n) k p span = own_count p span ≤ k
 Spends (within_changes n) k p span = own_count p span ≤ failures p span + k
 Spends (gets_within ask n) k p span = own p span ≡ [] → (own_count p span ≤ failures p span + k) ⊎ AnyOf (FindsClosed p ask) span
 Spends (changes_within n) k p span = own p span ≡ [] → own_count p span ≤ k
-Spends (registers_after n j) k p span = Unit {0}
+Spends _ k p span = Unit {0}
 
 -- after j steps and this branch, k are spent; the list is of the plain steps that are made then, and the span has this step. That a call registers in time an object shows by what it knows
 abbrev pub MaySpend : Limit → Branch → List Change → ℕ → ℕ → ℕ → LockKind → List Mark → Type 0
-MaySpend unlimited t cs j k p kind span = Unit {0}
 MaySpend (within n) t cs j k p kind span = nat_lt j k ≡ true
 MaySpend (within_changes n) loses cs j k p kind span = nat_lt j (suc k) ≡ true
 MaySpend (within_changes n) t cs j k p kind span = nat_lt j k ≡ true
@@ -39,9 +37,9 @@ MaySpend (gets_within ask n) t (c ∷ cs) j k p kind span = Unit {0}
 MaySpend (gets_within ask n) loses [] j k p kind span = nat_lt j (suc k) ≡ true
 MaySpend (gets_within ask n) (misses c) [] j k p kind span = c ≡ gets p ask
 MaySpend (gets_within ask n) t [] j k p kind span = nat_lt j k ≡ true
-MaySpend (changes_within n) t (c ∷ cs) j k p kind span = Unit {0}
 MaySpend (changes_within n) t [] j k p kind span = nat_lt j k ≡ true
 MaySpend (registers_after n i) t cs j k p kind span = ContinuesWithin (registers_after n i) kind p span
+MaySpend _ t cs j k p kind span = Unit {0}
 
 -- a try that has found its plain step closed goes on no more, and by a look alone only where it may
 abbrev pub MayContinue : Asked → Branch → Option Change → ℕ → Plain → List Mark → Type 0 → Type 0
@@ -49,7 +47,8 @@ MayContinue (tries ask) (misses c) step p s span Spend = ⊥
 MayContinue (tries ask) goes None p s span Spend = Spend × MayTryOn ask p span s
 MayContinue what branch step p s span Spend = Spend
 
-pub may_spend : (what : Asked) (branch : Branch) (step : Option Change) (p : ℕ) (s : Plain) (span : List Mark) (Spend : Type 0) → MayContinue what branch step p s span Spend
+pub may_spend : (what : Asked) (branch : Branch) (step : Option Change) (p : ℕ) (s : Plain) (span : List Mark) (Spend : Type 0)
+    → MayContinue what branch step p s span Spend
     → Spend
 may_spend (tries ask) (misses c) step p s span Spend may = absurd may
 may_spend (tries ask) goes None p s span Spend may = may.0
@@ -67,14 +66,11 @@ tries_open _ p span s may = may
 
 -- with so many spent a call may go on
 abbrev pub is_timely : Limit → List Change → ℕ → Bool
-is_timely unlimited cs k = true
 is_timely (within n) cs k = nat_lt k n
 is_timely (within_changes n) cs k = nat_lt k n
 is_timely (gets_within ask n) [] k = nat_lt k n
-is_timely (gets_within ask n) (c ∷ cs) k = true
 is_timely (changes_within n) [] k = nat_lt k n
-is_timely (changes_within n) (c ∷ cs) k = true
-is_timely (registers_after n j) cs k = true
+is_timely _ cs k = true
 
 on_each : {A B C D : Type 0} → (A → C) → (B → D) → A ⊎ B → C ⊎ D
 on_each f g (inl a) = inl (f a)
@@ -435,9 +431,16 @@ module _ (p q : ℕ) (s : Plain) (step : Option Change) (r : StepKind) (span : L
   spent-other (changes_within n) k spent = λ none. omega (arith, own_count-other p q step r s span ne, spent (sym (own-other p q step r s span ne) ∙ none))
   spent-other _ k spent = tt
 
-  expects-other : {W L A : Type 0} (kind : LockKind) (act : Act W L A) → Expects kind act p s span → Expects kind act p (apply_some s step) (mark_of q step r s ∷ span)
+  expects-other : {W L A : Type 0} (kind : LockKind) (act : Act W L A) → Expects kind act p s span
+      → Expects kind act p (apply_some s step) (mark_of q step r s ∷ span)
   expects-other kind (retry k f c won found missed) expects = (
-    omega (arith, failures-other p q step r s span ne, changes-other kind p q step r s span ne, moved (failures p span) (changes kind p span) k (first_word kind s) (first_word kind (apply_some s step)) expects.0),
+    omega (
+      arith,
+      failures-other p q step r s span ne,
+      changes-other kind p q step r s span ne,
+      moved (failures p span) (changes kind p span) k
+          (first_word kind s) (first_word kind (apply_some s step)) expects.0,
+    ),
     expects.1,
   )
   expects-other kind _ expects = tt

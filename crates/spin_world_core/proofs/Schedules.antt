@@ -26,7 +26,8 @@ module _ {W V C L A : Type 0} (m : Machine W V C L A) where
   pub events_of-append : (s : State W V C L) (xs ys : List (ℕ × Move C V)) → events_of m s (xs ++ ys) ≡ events_of m s xs ++ events_of m (after m s xs) ys
   events_of-append s [] ys = refl
   events_of-append s (x ∷ xs) ys =
-      ap (λ es. record { party = x.0; outcome = (happens m s x.0 x.1).outcome; words = (happens m s x.0 x.1).next.words } ∷ es) (events_of-append (happens m s x.0 x.1).next xs ys)
+      ap (λ es. record { party = x.0; outcome = (happens m s x.0 x.1).outcome; words = (happens m s x.0 x.1).next.words } ∷ es)
+      (events_of-append (happens m s x.0 x.1).next xs ys)
 
   pub length-events_of : (s : State W V C L) (xs : List (ℕ × Move C V)) → length (events_of m s xs) ≡ length xs
   length-events_of s [] = refl
@@ -55,7 +56,9 @@ module _ {W V C L A : Type 0} (m : Machine W V C L A) where
       (record {
         passes = λ move o r there closed. refl;
         begins = λ c l h there is. length-set s.seats p (Calling c l h);
-        steps = λ c l h there. let st = m.step s.words s.value c l h in length-goes_on (record s { words = st.words; value = placed st.placed s.value }) p c h st.next;
+        steps =
+            λ c l h there. let st =
+            m.step s.words s.value c l h in length-goes_on (record s { words = st.words; value = placed st.placed s.value }) p c h st.next;
         refuses = λ c l h next there is. length-goes_on s p c h next;
         reads = λ b h there may. refl;
         writes = λ v b h there may. refl;

@@ -1,5 +1,5 @@
 -- How many parties share the value, and how many have leaked, as seats change.
-use Rattle.spin_world_core.proofs.Names.{◌≡◌, ◌+◌, Bool, false, List, [], ◌∷◌, length, map, Vec, refl, ap, sym, ◌∙◌, subst, arith, zero-add, cond, count_by, length-map, with_items_is, sum_by-cons, with_items, Seat, Idle, Calling, Holding, Leaked, Gone, State, seen_by_owner, let_go, shares, has_leaked}
+use Rattle.spin_world_core.proofs.Names.{◌≡◌, ◌+◌, Bool, false, List, [], ◌∷◌, length, map, Vec, refl, ap, sym, ◌∙◌, subst, arith, zero-add, cond, count_by, length-map, with_items_is, sum_by-cons, with_items, Seat, Idle, Leaked, State, seen_by_owner, let_go, shares, has_leaked}
 
 count_by-cons : {X : Type 0} (f : X → Bool) (x : X) (xs : List X) → count_by f (x ∷ xs) ≡ cond (f x) 1 0 + count_by f xs
 count_by-cons f x xs = sum_by-cons (λ y. cond (f y) 1 0) x xs

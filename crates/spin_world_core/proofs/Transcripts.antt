@@ -17,7 +17,8 @@ same_but_begin began _ = refl
 
 module _ {W V C L A : Type 0} (m : Machine W V C L A) where
   -- an event of the machine doesn't say where its call began
-  no_begin_after : (s : State W V C L) (p : ℕ) (c : C) (h : Option Hold) (next : Next L A) → without_begin (goes_on s p c h next).outcome ≡ (goes_on s p c h next).outcome
+  no_begin_after : (s : State W V C L) (p : ℕ) (c : C) (h : Option Hold) (next : Next L A)
+      → without_begin (goes_on s p c h next).outcome ≡ (goes_on s p c h next).outcome
   no_begin_after s p c h (Continue l) = refl
   no_begin_after s p c h (Answers a rest) = refl
 
@@ -41,7 +42,8 @@ module _ {W V C L A : Type 0} (m : Machine W V C L A) where
       })
       move
 
-  tells_from : (seen : Seen W V C L) (es : List (ℕ × Move C V)) (before : List (Event W V A)) → EachTells (scenes m seen es) (with_begins before (events_of m seen.state es))
+  tells_from : (seen : Seen W V C L) (es : List (ℕ × Move C V)) (before : List (Event W V A))
+      → EachTells (scenes m seen es) (with_begins before (events_of m seen.state es))
   tells_from seen [] before = tt
   tells_from seen (e ∷ es) before =
       let h = happens m seen.state e.0 e.1 in
@@ -50,7 +52,8 @@ module _ {W V C L A : Type 0} (m : Machine W V C L A) where
         tells_from (scene m seen e.0 e.1).after es (before ++ event ∷ []),
       )
 
-  pub tells_after : (s : State W V C L) (schedule : List (ℕ × Move C V)) (events : List (Event W V A)) → events ≡ with_begins [] (events_of m s schedule) → TellsAfterAnyPast m s schedule events
+  pub tells_after : (s : State W V C L) (schedule : List (ℕ × Move C V)) (events : List (Event W V A)) → events ≡ with_begins [] (events_of m s schedule)
+      → TellsAfterAnyPast m s schedule events
   tells_after s schedule events is = λ n past reached.
       rw is
       (subst (λ (t : State W V C L). EachTells (scenes m (seen_after m (opening m n) past) schedule) (with_begins [] (events_of m t schedule)))
@@ -106,20 +109,26 @@ module _ {W V C L A : Type 0} (m : Machine W V C L A) where
 
     -- the party q takes the seat x
     moved : (x y : Seat C L) (o : Outcome A V) → slice_get seen.state.seats q ≡ Some y → stage_of (Some x) ≡ stage_by_own o (stage_of (Some y))
-        → stage_of (slice_get (slice_set seen.state.seats q x) p) ≡ (if q == p then stage_by_own o (stage_of (slice_get seen.state.seats p)) else stage_of (slice_get seen.state.seats p))
+        → stage_of (slice_get (slice_set seen.state.seats q x) p) ≡ (if q == p then stage_by_own o (stage_of (slice_get seen.state.seats p)) else stage_of
+        (slice_get seen.state.seats p))
     moved x y o there is =
         ⊎_elim
-        (λ (t : ((q == p) ≡ true) × (q ≡ p)). rw t.0 (ap stage_of (ap (slice_get (slice_set seen.state.seats q x)) (sym t.1) ∙ get-set_same seen.state.seats q x y there)
+        (λ (t : ((q == p) ≡ true) × (q ≡ p)). rw t.0 (ap stage_of (ap (slice_get (slice_set seen.state.seats q x)) (sym t.1)
+        ∙ get-set_same seen.state.seats q x y there)
         ∙ (is ∙ ap (λ z. stage_by_own o (stage_of z)) (sym there ∙ ap (slice_get seen.state.seats) t.1))))
         (λ (t : ((q == p) ≡ false) × (q ≡ p → ⊥)). rw t.0 (ap stage_of (get-set_other seen.state.seats q p x t.1)))
         (eqb_tells q p)
 
     went_on : (move : Move C V) (c : C) (l : L) (h : Option Hold) (w : W) (v value : Option V) (step : Option Change) (step_kind : StepKind) (next : Next L A)
-        → ((stage : Stage) → stage_by_owner {A = A} outcome.GoingOn move stage ≡ stage) → ((a : A) (stage : Stage) → stage_by_owner (outcome.Answered a None) move stage ≡ stage)
-        → slice_get seen.state.seats q ≡ Some (Calling c l h) → Brings p (scene_of seen q move (Some (Calling c l h)) (goes_on (record seen.state { words = w; value = v }) q c h next) step step_kind value)
+        → ((stage : Stage) → stage_by_owner {A = A} outcome.GoingOn move stage ≡ stage)
+        → ((a : A) (stage : Stage) → stage_by_owner (outcome.Answered a None) move stage ≡ stage)
+        → slice_get seen.state.seats q ≡ Some (Calling c l h)
+        → Brings p (scene_of seen q move (Some (Calling c l h)) (goes_on (record seen.state { words = w; value = v }) q c h next) step step_kind value)
     went_on move c l h w v value step step_kind (Continue k) goes answers there = moved (Calling c k h) (Calling c l h) outcome.GoingOn there refl ∙ sym (goes _)
-    went_on move c l h w v value step step_kind (Answers a None) goes answers there = moved Idle (Calling c l h) (outcome.Answered a None) there refl ∙ sym (answers a _)
-    went_on move c l h w v value step step_kind (Answers a (Some g)) goes answers there = moved (Holding g) (Calling c l h) (outcome.Answered a None) there refl ∙ sym (answers a _)
+    went_on move c l h w v value step step_kind (Answers a None) goes answers there =
+        moved Idle (Calling c l h) (outcome.Answered a None) there refl ∙ sym (answers a _)
+    went_on move c l h w v value step step_kind (Answers a (Some g)) goes answers there =
+        moved (Holding g) (Calling c l h) (outcome.Answered a None) there refl ∙ sym (answers a _)
 
     begun_at : (c : C) (l : L) (h : Option Hold) → slice_get seen.state.seats q ≡ Some (resting h)
         → Brings p (scene_of seen q (Begin c) (Some (resting h)) (begun seen.state q c h (Some l)) None step_kind.plain None)
@@ -135,8 +144,12 @@ module _ {W V C L A : Type 0} (m : Machine W V C L A) where
         (record {
           passes = λ move o r there closed. stays;
           begins = λ c l h there is. begun_at c l h there;
-          steps = λ c l h there. let st = m.step seen.state.words seen.state.value c l h in went_on Step c l h st.words (placed st.placed seen.state.value) st.placed (m.change q seen.state.words c l h) (by_step (m.step_kind c l h)) st.next (λ stage. refl) (λ a stage. refl) there;
-          refuses = λ c l h next there is. went_on Weak c l h seen.state.words seen.state.value None None step_kind.weak next (λ stage. refl) (λ a stage. refl) there;
+          steps =
+              λ c l h there. let st =
+              m.step seen.state.words seen.state.value c l h in went_on Step c l h st.words (placed st.placed seen.state.value) st.placed
+              (m.change q seen.state.words c l h) (by_step (m.step_kind c l h)) st.next (λ stage. refl) (λ a stage. refl) there;
+          refuses =
+              λ c l h next there is. went_on Weak c l h seen.state.words seen.state.value None None step_kind.weak next (λ stage. refl) (λ a stage. refl) there;
           reads = λ b h there may. stays;
           writes = λ v b h there may. stays;
           leaks = λ h there. moved (Leaked h) (Holding h) outcome.Leaked there refl;
@@ -145,7 +158,8 @@ module _ {W V C L A : Type 0} (m : Machine W V C L A) where
         })
         move
 
-  stage-seen_after : (seen : Seen W V C L) (p : ℕ) (es : List (ℕ × Move C V)) → stage_of (slice_get (seen_after m seen es).state.seats p) ≡ stage_after p (stage_of (slice_get seen.state.seats p)) (scenes m seen es)
+  stage-seen_after : (seen : Seen W V C L) (p : ℕ) (es : List (ℕ × Move C V))
+      → stage_of (slice_get (seen_after m seen es).state.seats p) ≡ stage_after p (stage_of (slice_get seen.state.seats p)) (scenes m seen es)
   stage-seen_after seen p [] = refl
   stage-seen_after seen p (e ∷ es) =
       stage-seen_after (scene m seen e.0 e.1).after p es ∙ ap (λ stage. stage_after p stage (scenes m (scene m seen e.0 e.1).after es)) (brought seen p e.0 e.1)
@@ -155,24 +169,30 @@ module _ {W V C L A : Type 0} (m : Machine W V C L A) where
   length-seen_after seen (e ∷ es) = length-seen_after (scene m seen e.0 e.1).after es ∙ length-happens m seen.state e.0 e.1
 
   -- what every place stands for, wherever a schedule leads
-  stand_after : (seen : Seen W V C L) (es : List (ℕ × Move C V)) → Every (Keeps m) m seen es → ((q : ℕ) → StandsFor seen.plain q (seen.span q) (slice_get seen.state.seats q))
+  stand_after : (seen : Seen W V C L) (es : List (ℕ × Move C V)) → Every (Keeps m) m seen es
+      → ((q : ℕ) → StandsFor seen.plain q (seen.span q) (slice_get seen.state.seats q))
       → (q : ℕ) → StandsFor (seen_after m seen es).plain q ((seen_after m seen es).span q) (slice_get (seen_after m seen es).state.seats q)
   stand_after seen [] all stand = stand
   stand_after seen (e ∷ es) all stand = stand_after (scene m seen e.0 e.1).after es all.1 all.0.places
 
   says_seen : (p n : ℕ) (past : List (ℕ × Move C V)) → KeepsAll m n past
-      → let seen = seen_after m (opening m n) past in PlaceSays (stage_after p at_rest (scenes m (opening m n) past)) n seen.plain p (seen.span p) (option_map place_of (slice_get seen.state.seats p))
+      → let seen = seen_after m (opening m n) past in PlaceSays (stage_after p at_rest (scenes m (opening m n) past)) n seen.plain p (seen.span p)
+      (option_map place_of (slice_get seen.state.seats p))
   says_seen p n past keeps =
       let seen = seen_after m (opening m n) past in
-      let stage = stage-seen_after (opening m n) p past ∙ ap (λ st. stage_after p st (scenes m (opening m n) past)) (get-replicate (λ (o : Option (Seat C L)). stage_of o ≡ at_rest) Idle n p refl refl) in
+      let stage = stage-seen_after (opening m n) p past ∙ ap (λ st. stage_after p st (scenes m (opening m n) past))
+      (get-replicate (λ (o : Option (Seat C L)). stage_of o ≡ at_rest) Idle n p refl refl) in
       let count = length-seen_after (opening m n) past ∙ length-replicate n Idle in
       let stands = stand_after (opening m n) past keeps.each (λ q. get-replicate (StandsFor {C = C} {L = L} (opening_plain m) q []) Idle n q refl refl) p in
       subst (λ st. PlaceSays st n seen.plain p (seen.span p) (option_map place_of (slice_get seen.state.seats p))) stage
-      (says_at n p seen.plain (seen.span p) (slice_get seen.state.seats p) (λ e. omega (arith, count, none_there seen.state.seats p e)) (λ x e. omega (arith, count, slice_get_within seen.state.seats p x e)) stands)
+      (says_at n p seen.plain (seen.span p) (slice_get seen.state.seats p) (λ e. omega (arith, count, none_there seen.state.seats p e))
+      (λ x e. omega (arith, count, slice_get_within seen.state.seats p x e)) stands)
 
-  pub says_after : (s : State W V C L) (p : ℕ) → ((n : ℕ) (past : List (ℕ × Move C V)) → KeepsAll m n past) → (told : Option Place) → told ≡ option_map place_of (slice_get s.seats p) → SaysAfterAnyPast m s p told
+  pub says_after : (s : State W V C L) (p : ℕ) → ((n : ℕ) (past : List (ℕ × Move C V)) → KeepsAll m n past) → (told : Option Place)
+      → told ≡ option_map place_of (slice_get s.seats p) → SaysAfterAnyPast m s p told
   says_after s p keeps told is = λ n past reached.
       let seen = seen_after m (opening m n) past in
       rw is
-      (subst (λ (t : State W V C L). PlaceSays (stage_after p at_rest (scenes m (opening m n) past)) n seen.plain p (seen.span p) (option_map place_of (slice_get t.seats p)))
+      (subst (λ (t : State W V C L). PlaceSays (stage_after p at_rest (scenes m (opening m n) past)) n seen.plain p (seen.span p)
+      (option_map place_of (slice_get t.seats p)))
       (state-seen_after m (opening m n) past ∙ reached) (says_seen p n past (keeps n past)))

@@ -12,7 +12,8 @@ module _ {W V C L A : Type 0} (m : Machine W V C L A) where
   pub finds_last_written : (n : ℕ) (past : List (ℕ × Move C V)) → KeepsAll m n past → FindsLastWritten m n past
   finds_last_written n past keeps =
       let s = after m (at_first m n) past in
-      let value : s.value ≡ (seen_after m (opening m n) past).written = ap (λ (t : State W V C L). t.value) (sym (state-seen_after m (opening m n) past)) ∙ value-seen_after (opening m n) past keeps.each refl in
+      let value : s.value ≡ (seen_after m (opening m n) past).written = ap (λ (t : State W V C L). t.value) (sym (state-seen_after m (opening m n) past))
+      ∙ value-seen_after (opening m n) past keeps.each refl in
       let told : Option V → Outcome A V = λ v. Value v in
       record {
         holder = λ p h there may. ap (λ o. (moves_at m s p Read o).outcome) there ∙ (ap (λ b. (read_by {A = A} s b).outcome) may ∙ ap told value);

@@ -44,4 +44,5 @@ module _ {W V C L A : Type 0} (m : Machine W V C L A) where
     keeps_value seen p move good = keeps_at seen p move (slice_get seen.state.seats p) good refl (kept m k f seen p move good).good
 
     pub values_of : (n : ℕ) (es : List (ℕ × Move C V)) → ValuesAll m n es
-    values_of n es = record { first = f.phase (opening_plain m) m.value f.shape_first; each = every m k f (KeepsValue m) keeps_value (opening m n) es (good_first m k f n) }
+    values_of n es =
+        record { first = f.phase (opening_plain m) m.value f.shape_first; each = every m k f (KeepsValue m) keeps_value (opening m n) es (good_first m k f n) }

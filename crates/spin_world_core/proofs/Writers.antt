@@ -1,7 +1,7 @@
 -- A party that may write and one that may look at the value are one.
-use Rattle.std.proofs.Common.{◌≡◌, ℕ, ◌+◌, ◌<◌, ◌==◌, Bool, true, false, not, ◌&&◌, ◌||◌, cond, List, [], ◌∷◌, length, filter, refl, ap, sym, ◌∙◌, arith, ⊎_elim}
+use Rattle.std.proofs.Common.{◌≡◌, ℕ, ◌+◌, ◌<◌, ◌==◌, Bool, true, false, not, ◌&&◌, ◌||◌, cond, List, [], ◌∷◌, length, filter, refl, ap, sym, ◌∙◌, arith}
 use Rattle.std.specs.List.{list_any}
-use Rattle.std.proofs.lemmas.Bool.{eqb-true, and_parts, or_cases, true≢false, false≢true}
+use Rattle.std.proofs.lemmas.Bool.{eqb-true, and_parts, false≢true}
 use Rattle.spin_step.specs.Plain.{Plain, writing, Holder, Ticket, same_kind, count_kind, is_empty}
 use Rattle.spin_step.specs.Parties.{entries, is_held, IsExclusive, none_entered, first_alone_entered}
 use Rattle.std.proofs.lemmas.List.Sums.{sum_by-cons}
@@ -58,7 +58,8 @@ pub touched : (s : Plain) (p : ℕ) → is_reader (entries p s) ≡ true → is_
 touched s p reads = somebody s.holders s.tickets reads
   where
     somebody : (hs : List Holder) (ts : List Ticket)
-        → (not (is_empty (filter (λ h. h.party == p) hs)) || list_any (λ t. t.entered) (filter (λ t. t.party == p) ts)) ≡ true → not (is_empty hs && is_empty ts) ≡ true
+        → (not (is_empty (filter (λ h. h.party == p) hs)) || list_any (λ t. t.entered) (filter (λ t. t.party == p) ts)) ≡ true
+        → not (is_empty hs && is_empty ts) ≡ true
     somebody [] [] reads = absurd (false≢true reads)
     somebody [] (t ∷ ts) reads = refl
     somebody (h ∷ hs) ts reads = refl
@@ -67,7 +68,8 @@ or_false : (b : Bool) → (b || false) ≡ true → b ≡ true
 or_false true e = refl
 or_false false e = e
 
-pub one_toucher : (s : Plain) (p q : ℕ) → IsExclusive s → (is_empty s.holders || is_empty s.tickets) ≡ true → is_reader (entries p s) ≡ true → is_writer (entries q s) ≡ true
+pub one_toucher : (s : Plain) (p q : ℕ) → IsExclusive s → (is_empty s.holders || is_empty s.tickets) ≡ true → is_reader (entries p s) ≡ true
+    → is_writer (entries q s) ≡ true
     → q ≡ p
 one_toucher s p q alone lists reads writes = one_list s.holders s.tickets alone.writer alone.one_entered lists reads writes
   where
@@ -77,7 +79,8 @@ one_toucher s p q alone lists reads writes = one_list s.holders s.tickets alone.
     entered_in : ℕ → List Ticket → Bool
     entered_in i ts = list_any (λ t. t.entered) (filter (λ t. t.party == i) ts)
 
-    one_list : (hs : List Holder) (ts : List Ticket) → (0 < count_kind writing hs → length hs ≡ 1) → first_alone_entered ts ≡ true → (is_empty hs || is_empty ts) ≡ true
+    one_list : (hs : List Holder) (ts : List Ticket) → (0 < count_kind writing hs → length hs ≡ 1) → first_alone_entered ts ≡ true
+        → (is_empty hs || is_empty ts) ≡ true
         → (not (is_empty (filter (λ h. h.party == p) hs)) || entered_in p ts) ≡ true → (writing_in q hs || entered_in q ts) ≡ true → q ≡ p
     one_list hs [] alone entered lists reads writes =
         let wrote = or_false (writing_in q hs) writes in

@@ -1,7 +1,7 @@
 -- Who shares the value, so that the owner does not have it, and who is gone once the owner has looked.
 use Rattle.std.specs.Prelude.{Bool, true, false, not}
 use Rattle.spin_world_core.specs.declared.place.Seat.{Seat}
-use Rattle.spin_world_core.specs.declared.place.Seat.TheVariants.{Idle, Calling, Holding, Leaked, Gone}
+use Rattle.spin_world_core.specs.declared.place.Seat.TheVariants.{Leaked}
 use Rattle.spin_world_core.specs.Schedules.{yields_to_owner}
 
 -- the party is in a call, or holds
