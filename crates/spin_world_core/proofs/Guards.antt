@@ -1,7 +1,7 @@
 -- What a party finds under one guard stays as it is.
-use Rattle.spin_world_core.proofs.Names.{◌≡◌, ℕ, ◌==◌, ◌&&◌, ◌||◌, Bool, true, false, not, Option, Some, None, List, [], ◌∷◌, ◌++◌, map, slice_get, slice_set, refl, ap, sym, ◌∙◌, subst, ⊎_elim, list_all, option_map, cases_eq, eq-eqb, and_parts, true≢false, false≢true, slice_get-map, Plain, Change, completes, entries, is_held, Hold, Seat, Idle, Calling, Holding, Leaked, Gone, Next, Continue, Answers, Move, Step, Weak, Read, OwnerSet, StepKind, plain, weak, by_step, Mark, Machine, State, moves_at, goes_on, placed, resting, read_by, may_read, may_write, yields_to_owner, seen_by_owner, owner_writes, Seen, Scene, scene, scene_at, scene_of, if_completed, StandsFor, is_reader, is_writer, opening, seen_after, is_quiet_move, is_quiet, ReadsAgreeAcross, ReadsAgree}
+use Rattle.spin_world_core.proofs.Names.{slice_get_within, ◌≡◌, ℕ, ◌==◌, ◌&&◌, ◌||◌, Bool, true, false, not, Option, Some, None, List, [], ◌∷◌, ◌++◌, map, slice_get, slice_set, refl, ap, sym, ◌∙◌, subst, list_all, option_map, eq-eqb, and_parts, true≢false, false≢true, slice_get-map, Plain, Change, completes, entries, is_held, Hold, Seat, Idle, Calling, Holding, Leaked, Gone, Next, Continue, Answers, Move, Step, Weak, Read, OwnerSet, StepKind, plain, weak, by_step, Mark, Machine, State, moves_at, goes_on, placed, resting, read_by, may_read, may_write, yields_to_owner, seen_by_owner, owner_writes, Seen, Scene, scene, scene_at, scene_of, if_completed, StandsFor, is_reader, is_writer, opening, seen_after, is_quiet_move, is_quiet, ReadsAgreeAcross, ReadsAgree}
 use Rattle.spin_world_core.specs.declared.schedule.Outcome.TheVariants as outcome
-use Rattle.spin_world_core.proofs.Lists.{eqb_self, get-set_same, get-set_other}
+use Rattle.spin_world_core.proofs.Lists.{eqb_self, get-set}
 use Rattle.spin_world_core.proofs.Facts.{LocalInvariant, KnowsAt, Facts}
 use Rattle.spin_world_core.proofs.Events.{seat_with, of_event}
 use Rattle.spin_world_core.proofs.Preserved.{Invariant, in_call, with_hold, reader_of, writer_of}
@@ -87,11 +87,8 @@ module _ {W V C L A : Type 0} (m : Machine W V C L A) where
       sits : (w : Option V) (x y : Seat C L) → slice_get seen.state.seats q ≡ Some y → (q ≡ p → Guard r w (Some y) → Guard r w (Some x))
           → Guard r w (slice_get seen.state.seats p) → Guard r w (slice_get (slice_set seen.state.seats q x) p)
       sits w x y there own held =
-          ⊎_elim
-          (λ (e : q ≡ p). subst (λ i. Guard r w (slice_get (slice_set seen.state.seats q x) i)) e
-          (rw (get-set_same seen.state.seats q x y there) (own e (subst (Guard r w) (ap (slice_get seen.state.seats) (sym e) ∙ there) held))))
-          (λ (ne : q ≡ p → ⊥). rw (get-set_other seen.state.seats q p x ne) held)
-          (cases_eq q p)
+          get-set (Guard r w) seen.state.seats q p x (slice_get_within seen.state.seats q y there)
+          (λ e. own e (subst (Guard r w) (ap (slice_get seen.state.seats) (sym e) ∙ there) held)) (λ ne. held)
 
       begun : (c : C) (l : L) (h : Option Hold) → r.keeps c ≡ true → Guard {L = L} r seen.written (Some (resting h))
           → Guard r seen.written (Some (Calling c l h))

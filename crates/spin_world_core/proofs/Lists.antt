@@ -1,6 +1,6 @@
 -- Lists that are read and written by place.
-use Rattle.std.proofs.Common.{◌≡◌, ℕ, zero, suc, ◌+◌, ◌<◌, ◌==◌, true, Option, Some, None, List, [], ◌∷◌, ◌++◌, length, get_or, take, replicate, slice_get, slice_set, refl, ap, sym, ◌∙◌, arith, add-one}
-use Rattle.std.proofs.lemmas.Bool.{eq-eqb}
+use Rattle.std.proofs.Common.{◌≡◌, ℕ, zero, suc, ◌+◌, ◌<◌, ◌==◌, true, Option, Some, None, List, [], ◌∷◌, ◌++◌, length, get_or, take, replicate, slice_get, slice_set, refl, ap, sym, ◌∙◌, subst, arith, add-one, ⊎_elim}
+use Rattle.std.proofs.lemmas.Bool.{eq-eqb, cases_eq}
 use Rattle.std.proofs.lemmas.Option.{slice_get_within}
 use Rattle.std.proofs.Math.Seq.{take-suc}
 
@@ -19,6 +19,15 @@ pub get-set_other : {X : Type 0} (xs : List X) (p q : ℕ) (x : X) → (p ≡ q 
 get-set_other (z ∷ xs) zero zero x ne = absurd (ne refl)
 get-set_other (z ∷ xs) (suc p) (suc q) x ne = get-set_other xs p q x (λ e. ne (ap suc e))
 get-set_other _ _ _ x ne = refl
+
+-- where one element is written, all are as they were but that one
+pub get-set : {X : Type 0} (P : Option X → Type 0) (xs : List X) (p q : ℕ) (x : X) → p < length xs → (p ≡ q → P (Some x)) → ((p ≡ q → ⊥) → P (slice_get xs q))
+    → P (slice_get (slice_set xs p x) q)
+get-set P xs p q x lt here away =
+    ⊎_elim
+    (λ (e : p ≡ q). subst (λ i. P (slice_get (slice_set xs p x) i)) e (rw (get-set_within xs p x lt) (here e)))
+    (λ (ne : p ≡ q → ⊥). rw (get-set_other xs p q x ne) (away ne))
+    (cases_eq p q)
 
 pub get-replicate : {X : Type 0} (P : Option X → Type 0) (x : X) (n i : ℕ) → P None → P (Some x) → P (slice_get (replicate n x) i)
 get-replicate P x (suc n) (suc i) none some = get-replicate P x n i none some

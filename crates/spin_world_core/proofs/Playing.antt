@@ -1,8 +1,8 @@
 -- What has been played of a schedule, at a turn of the loop.
-use Rattle.spin_world_core.proofs.Names.{◌≡◌, ℕ, suc, map, ◌+◌, ◌<◌, ◌≤◌, ◌==◌, ◌&&◌, Bool, true, false, Option, Some, None, List, [], ◌∷◌, ◌++◌, length, slice_get, slice_set, if◌then◌else◌, unwrap_or, refl, ap, sym, ◌∙◌, arith, subst, ⊎_elim, length-set, take, get_or, length-take-le, zero-add, ∥∥₁_map, cases_lt, true≢false, eqb_tells, length-map, take_all, Move, Outcome, Event, Machine, State, Happened, happens, after, events_of, with_begins, last_begin, begins_after, with_begin, is_begun, at_first, CanStep, CanAlways, IsReached}
+use Rattle.spin_world_core.proofs.Names.{eq-eqb, ne_eqb, ◌≡◌, ℕ, suc, map, ◌+◌, ◌<◌, ◌≤◌, ◌==◌, ◌&&◌, Bool, true, false, Option, Some, None, List, [], ◌∷◌, ◌++◌, length, slice_set, if◌then◌else◌, unwrap_or, refl, ap, sym, ◌∙◌, arith, subst, ⊎_elim, length-set, take, get_or, length-take-le, zero-add, ∥∥₁_map, cases_lt, true≢false, length-map, take_all, Move, Outcome, Event, Machine, State, Happened, happens, after, events_of, with_begins, last_begin, begins_after, with_begin, is_begun, at_first, CanStep, CanAlways, IsReached}
 use Rattle.spin_world_core.specs.declared.schedule.Outcome.TheVariants as outcome
 use Rattle.spin_world_core.specs.Schedules.{begin_of}
-use Rattle.spin_world_core.proofs.Lists.{get-set_within, get-set_other, take_next}
+use Rattle.spin_world_core.proofs.Lists.{get-set, take_next}
 use Rattle.spin_world_core.proofs.Schedules.{after-append, events_of-append, length-events_of, with_begins-append, last_begin-append, stranger, length-happens}
 
 -- nobody's call has begun
@@ -13,10 +13,8 @@ none_begun _ _ = refl
 begun_at : (begins : List (Option ℕ)) (p q k : ℕ) (old : Option ℕ) → p < length begins → begin_of begins q ≡ old
     → begin_of (slice_set begins p (Some k)) q ≡ (if (p == q) && true then Some k else old)
 begun_at begins p q k old lt e =
-    ⊎_elim
-    (λ (t : ((p == q) ≡ true) × (p ≡ q)). rw t.0 (ap (λ o. unwrap_or o None) (ap (λ r. slice_get (slice_set begins p (Some k)) r) (sym t.1) ∙ get-set_within begins p (Some k) lt)))
-    (λ (t : ((p == q) ≡ false) × (p ≡ q → ⊥)). rw t.0 (ap (λ o. unwrap_or o None) (get-set_other begins p q (Some k) t.1) ∙ e))
-    (eqb_tells p q)
+    get-set (λ o. unwrap_or o None ≡ (if (p == q) && true then Some k else old)) begins p q (Some k) lt (λ e. rw (eq-eqb p q e) refl)
+    (λ ne. rw (ne_eqb p q ne) e)
 
 never : (b : Bool) (n old : Option ℕ) → old ≡ (if b && false then n else old)
 never true n old = refl

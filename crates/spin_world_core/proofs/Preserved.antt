@@ -1,9 +1,9 @@
 -- One event keeps all that is promised, of any object that shows its local facts.
-use Rattle.spin_world_core.proofs.Names.{◌≡◌, ℕ, ◌<◌, ◌≤◌, ◌==◌, Bool, true, false, Option, Some, None, List, [], ◌∷◌, ◌++◌, suc, if◌then◌else◌, is_some, slice_get, slice_set, refl, ap, sym, ◌∙◌, subst, ⊎_elim, arith, ne_eqb, cases_eq, true≢false, false≢true, Plain, Ask, Change, completes, apply_some, IsOpenStep, Entries, entries, entries_after, IsExclusive, entries-other, entries-own, exclusive-kept, Hold, Seat, Idle, Calling, Holding, Leaked, Next, Continue, Answers, Move, Begin, Step, Weak, Read, Write, Leak, Outcome, StepKind, is_again, is_weak, by_step, encoded, BelongsTo, tries, Mark, Machine, State, skipped, seated, begun, goes_on, placed, resting, read_by, written_by, may_read, may_write, InItsCall, LeavesCalls, held_at, Seen, Scene, scene_at, scene_of, mark_of, own, own_count, failures, changes, if_completed, is_open_move, entries_of, entries_held, entries_so_far, StandsFor, is_reader, is_writer, MayTouch, MaySkip, is_in_place, ComesTo, IsWeakCall, StepLeaves, OwnSteps, asked, Keeps, IsRight, InTime, IsCounted, IsInTime, UndisturbedTakes, AnsweredSoon, Gets, GetsWhenDue, TriesOn}
+use Rattle.spin_world_core.proofs.Names.{slice_get_within, ◌≡◌, ℕ, ◌<◌, ◌≤◌, ◌==◌, Bool, true, false, Option, Some, None, List, [], ◌∷◌, ◌++◌, suc, if◌then◌else◌, is_some, slice_get, slice_set, refl, ap, sym, ◌∙◌, subst, arith, ne_eqb, true≢false, false≢true, Plain, Ask, Change, completes, apply_some, IsOpenStep, Entries, entries, entries_after, IsExclusive, entries-other, entries-own, exclusive-kept, Hold, Seat, Idle, Calling, Holding, Leaked, Next, Continue, Answers, Move, Begin, Step, Weak, Read, Write, Leak, Outcome, StepKind, is_again, is_weak, by_step, encoded, BelongsTo, tries, Mark, Machine, State, skipped, seated, begun, goes_on, placed, resting, read_by, written_by, may_read, may_write, InItsCall, LeavesCalls, held_at, Seen, Scene, scene_at, scene_of, mark_of, own, own_count, failures, changes, if_completed, is_open_move, entries_of, entries_held, entries_so_far, StandsFor, is_reader, is_writer, MayTouch, MaySkip, is_in_place, ComesTo, IsWeakCall, StepLeaves, OwnSteps, asked, Keeps, IsRight, InTime, IsCounted, IsInTime, UndisturbedTakes, AnsweredSoon, Gets, GetsWhenDue, TriesOn}
 use Rattle.spin_world_core.specs.declared.place.Hold.TheVariants as hold
 use Rattle.spin_world_core.specs.declared.schedule.Outcome.TheVariants as outcome
 use Rattle.spin_world_core.specs.StepKinds as step_kind
-use Rattle.spin_world_core.proofs.Lists.{get-set_same, get-set_other, eqb_self}
+use Rattle.spin_world_core.proofs.Lists.{get-set, get-set_same, get-set_other, eqb_self}
 use Rattle.spin_world_core.proofs.Spans.{retries-mine, retries-other}
 use Rattle.spin_world_core.proofs.Facts.{LocalInvariant, KnowsAt, InCall, NextIs, AnswersWithin, GoesOnOpen, ContinuesCounted, PointFacts, Facts}
 use Rattle.spin_world_core.proofs.Undisturbed.{RunsOn, GoesWithin, LeftBy, stepped, beside, runs_fresh, more_left}
@@ -23,10 +23,7 @@ writer_of p _ = refl
 at_seat : {C L : Type 0} (P : ℕ → Option (Seat C L) → Type 0) (seats : List (Seat C L)) (p : ℕ) (x y : Seat C L) → slice_get seats p ≡ Some y
     → P p (Some x) → ((q : ℕ) → (p ≡ q → ⊥) → P q (slice_get seats q)) → (q : ℕ) → P q (slice_get (slice_set seats p x) q)
 at_seat P seats p x y there here away q =
-    ⊎_elim
-    (λ (e : p ≡ q). subst (λ r. P r (slice_get (slice_set seats p x) r)) e (rw (get-set_same seats p x y there) here))
-    (λ (ne : p ≡ q → ⊥). rw (get-set_other seats p q x ne) (away q ne))
-    (cases_eq p q)
+    get-set (P q) seats p q x (slice_get_within seats p y there) (λ e. subst (λ i. P i (Some x)) e here) (away q)
 
 -- so who is in a call stays there
 still_calling : {C L : Type 0} (seats : List (Seat C L)) (p : ℕ) (x : Seat C L) (q : ℕ) (c : C) (l : L) (h : Option Hold) → (p ≡ q → ⊥)
@@ -285,14 +282,13 @@ module _ {W V C L A : Type 0} (m : Machine W V C L A) (k : LocalInvariant V C L)
             → Preserved (scene_of seen p move (Some (Calling c l h)) (goes_on (record seen.state { words = w; value = v }) p c h next) step r value)
         went_on move step r value w v (Continue l') may belongs encodes shape written next fails steps is_open placed weak timed =
             let runs = left_by step r w (Continue l') steps in
-            let after = good_stepped (Calling c l' h) (Calling c l h) step r w v
-            (if_completed seen.written value step) there may belongs encodes shape written (record {
+            let after = good_stepped (Calling c l' h) (Calling c l h) step r w v (if_completed seen.written value step) there may belongs encodes shape written
+            (record {
               stands = stands_stepped seen.plain p step r (seen.span p) (entries_held p h) may (standing seen p (Calling c l h) good there);
               knows = next.knows;
               retries = retries-mine m.lock_kind p step r seen.plain (seen.span p) (good.parties p).retries fails;
-              undisturbed =
-                  λ recent first older is may leaves. let t =
-                  runs recent first older is may leaves in record { steps = t.steps; few = t.few; answers = t.goes l' refl };
+              undisturbed = λ recent first older is may leaves.
+                  let t = runs recent first older is may leaves in record { steps = t.steps; few = t.few; answers = t.goes l' refl };
             }) in
             record {
               keeps =

@@ -1,10 +1,10 @@
 -- A transcript tells the scenes, and a place what its party's moves and entries say.
-use Rattle.spin_world_core.proofs.Names.{◌≡◌, ℕ, ◌<◌, ◌≤◌, ◌==◌, Bool, true, false, Option, Some, None, List, [], ◌∷◌, ◌++◌, length, map, slice_get, slice_set, if◌then◌else◌, refl, ap, sym, ◌∙◌, subst, arith, ⊎_elim, option_map, eqb_tells, length-replicate, slice_get-map, slice_get_within, slice_get_cases, Plain, Change, Hold, Place, Seat, Idle, Calling, Holding, Leaked, Gone, Next, Continue, Answers, Move, Begin, Step, Weak, OwnerSet, Outcome, Event, StepKind, by_step, Mark, Machine, opening_plain, State, happens, begun, goes_on, placed, resting, seen_by_owner, owner_writes, events_of, with_begins, with_begin, last_begin, Seen, Scene, scene, scene_of, Every, Keeps, KeepsAll, StandsFor, opening, seen_after, scenes, without_begin, EachTells, TellsAfterAnyPast, Stage, at_rest, in_call, is_gone, stage_by_own, stage_by_owner, let_go_stage, stage_after, StandsAt, PlaceSays, SaysAfterAnyPast}
+use Rattle.spin_world_core.proofs.Names.{eq-eqb, ne_eqb, ◌≡◌, ℕ, ◌<◌, ◌≤◌, ◌==◌, Bool, true, false, Option, Some, None, List, [], ◌∷◌, ◌++◌, length, map, slice_get, slice_set, if◌then◌else◌, refl, ap, sym, ◌∙◌, subst, arith, option_map, length-replicate, slice_get-map, slice_get_within, slice_get_cases, Plain, Change, Hold, Place, Seat, Idle, Calling, Holding, Leaked, Gone, Next, Continue, Answers, Move, Begin, Step, Weak, OwnerSet, Outcome, Event, StepKind, by_step, Mark, Machine, opening_plain, State, happens, begun, goes_on, placed, resting, seen_by_owner, owner_writes, events_of, with_begins, with_begin, last_begin, Seen, Scene, scene, scene_of, Every, Keeps, KeepsAll, StandsFor, opening, seen_after, scenes, without_begin, EachTells, TellsAfterAnyPast, Stage, at_rest, in_call, is_gone, stage_by_own, stage_by_owner, let_go_stage, stage_after, StandsAt, PlaceSays, SaysAfterAnyPast}
 use Rattle.spin_world_core.specs.declared.schedule.Outcome.TheVariants as outcome
 use Rattle.spin_world_core.specs.StepKinds as step_kind
 use Rattle.spin_world_core.specs.Schedules.{place_of}
 use Rattle.spin_world_core.specs.Transcripts.{has_leaked}
-use Rattle.spin_world_core.proofs.Lists.{get-set_same, get-set_other, get-replicate}
+use Rattle.spin_world_core.proofs.Lists.{get-set, get-replicate}
 use Rattle.spin_world_core.proofs.Events.{of_event}
 use Rattle.spin_world_core.proofs.Every.{state-seen_after}
 use Rattle.spin_world_core.proofs.Schedules.{length-happens}
@@ -104,20 +104,18 @@ module _ {W V C L A : Type 0} (m : Machine W V C L A) where
       stage_of (slice_get sc.after.state.seats p) ≡ stage_by_owner sc.outcome sc.move (if sc.party == p then stage_by_own sc.outcome before else before)
 
   module _ (seen : Seen W V C L) (p q : ℕ) where
-    stays : stage_of (slice_get seen.state.seats p) ≡ (if q == p then stage_of (slice_get seen.state.seats p) else stage_of (slice_get seen.state.seats p))
-    stays = same_either (q == p) (stage_of (slice_get seen.state.seats p))
+    abbrev stage_now : Stage
+    stage_now = stage_of (slice_get seen.state.seats p)
+
+    stays : stage_now ≡ (if q == p then stage_now else stage_now)
+    stays = same_either (q == p) stage_now
 
     -- the party q takes the seat x
     moved : (x y : Seat C L) (o : Outcome A V) → slice_get seen.state.seats q ≡ Some y → stage_of (Some x) ≡ stage_by_own o (stage_of (Some y))
-        → stage_of (slice_get (slice_set seen.state.seats q x) p) ≡ (if q == p then stage_by_own o (stage_of (slice_get seen.state.seats p)) else stage_of
-        (slice_get seen.state.seats p))
+        → stage_of (slice_get (slice_set seen.state.seats q x) p) ≡ (if q == p then stage_by_own o stage_now else stage_now)
     moved x y o there is =
-        ⊎_elim
-        (λ (t : ((q == p) ≡ true) × (q ≡ p)). rw t.0 (ap stage_of (ap (slice_get (slice_set seen.state.seats q x)) (sym t.1)
-        ∙ get-set_same seen.state.seats q x y there)
-        ∙ (is ∙ ap (λ z. stage_by_own o (stage_of z)) (sym there ∙ ap (slice_get seen.state.seats) t.1))))
-        (λ (t : ((q == p) ≡ false) × (q ≡ p → ⊥)). rw t.0 (ap stage_of (get-set_other seen.state.seats q p x t.1)))
-        (eqb_tells q p)
+        get-set (λ z. stage_of z ≡ (if q == p then stage_by_own o stage_now else stage_now)) seen.state.seats q p x (slice_get_within seen.state.seats q y there)
+        (λ e. rw (eq-eqb q p e) (is ∙ ap (λ z. stage_by_own o (stage_of z)) (sym there ∙ ap (slice_get seen.state.seats) e))) (λ ne. rw (ne_eqb q p ne) refl)
 
     went_on : (move : Move C V) (c : C) (l : L) (h : Option Hold) (w : W) (v value : Option V) (step : Option Change) (step_kind : StepKind) (next : Next L A)
         → ((stage : Stage) → stage_by_owner {A = A} outcome.GoingOn move stage ≡ stage)
