@@ -1,6 +1,8 @@
-//! Tests of worlds, of texts, and of the program over streams in memory: what no contract says of them.
+//! Tests of worlds, of texts, and of the program over streams in memory: what no contract says of them; and a small
+//! object of one's own.
 #![tactic(auto)]
 
+pub mod dispenser;
 #[cfg(test)]
 mod ends;
 #[cfg(test)]

@@ -1,6 +1,7 @@
-//! Worked schedules that no text tells: those of the seats, runs one after the other, places, and objects that no header
-//! makes.
+//! Worked schedules that no text tells: those of the seats and of the dispenser, runs one after the other, places, and
+//! objects that no header makes.
 
+use crate::dispenser::{Dispenser, DispenserAnswer, DispenserCall};
 use crate::text::worlds::run;
 use spin_world::{
     Answer, Event, Fair, FairCall, Flag, FlagCall, Hold, Move, Object, OnceCall, OnceObject,
@@ -12,9 +13,9 @@ use std::process::Abort;
 
 /// The rows of a schedule: the moves, and an event for each.
 #[derive(Drop)]
-struct Rows<'a, C, T, W> {
+struct Rows<'a, C, T, W, A = Answer<T>> {
     moves: &'a [(usize, Move<C, T>)],
-    events: &'a [Event<W, T, Answer<T>>],
+    events: &'a [Event<W, T, A>],
 }
 
 /// Rows, each of a party, its move, what came of it, and the words after it.
@@ -61,18 +62,20 @@ where
     assert!(rt; world.value() == Some(value));
 }
 
-/// Plays rows as one schedule. Compares each event, the words after the last, where each party stands then, and the value.
-fn plays<O, T, W>(
+/// Plays rows as one schedule. Compares each event, the words after the last, where each party stands then, and the
+/// value.
+fn plays<O, T, W, A>(
     rt: &impl Abort,
     world: &mut World<O>,
-    rows: Rows<'_, O::Call, T, W>,
+    rows: Rows<'_, O::Call, T, W, A>,
     places: &[Place],
     value: T,
 )
 where
-    O: Object<Value = T, Words = W, Answer = Answer<T>>,
+    O: Object<Value = T, Words = W, Answer = A>,
     T: Copy + PartialEq,
     W: Copy + PartialEq,
+    A: Copy + PartialEq,
 {
     let transcript = run(world, rows.moves).expect(rt, "memory");
     assert!(rt; transcript.events.as_slice() == rows.events);
@@ -129,6 +132,28 @@ fn a_seated_party_may_only_leave(rt: HostRuntime) {
     let places: [Place; 2] = [Place::Leaked(Hold::Read), Place::Idle];
     let mut world = world(&rt, rt.alloc(), Seats::new(1), 2);
     plays(&rt, &mut world, ONE_SITS, &places, ());
+}
+
+const TWO_DRAW: Rows<'static, DispenserCall, (), u64, DispenserAnswer> = rows! {
+    0 Move::Begin(DispenserCall::Draw) => Outcome::Begun, 0;
+    1 Move::Begin(DispenserCall::Draw) => Outcome::Begun, 0;
+    0 Move::Step => Outcome::GoingOn, 0;
+    1 Move::Step => Outcome::GoingOn, 0;
+    0 Move::Step => answered!(DispenserAnswer::Drawn(0), 0), 1;
+    1 Move::Step => Outcome::GoingOn, 1;
+    1 Move::Step => answered!(DispenserAnswer::Drawn(1), 1), 2;
+    1 Move::Begin(DispenserCall::Draw) => Outcome::Skipped, 2;
+    2 Move::Begin(DispenserCall::Draw) => Outcome::Begun, 2;
+    2 Move::Step => answered!(DispenserAnswer::SoldOut, 8), 2;
+    2 Move::Begin(DispenserCall::Count) => Outcome::Begun, 2;
+    2 Move::Step => answered!(DispenserAnswer::Count(2), 10), 2;
+};
+
+#[test]
+fn two_draw_and_a_third_finds_it_sold_out(rt: HostRuntime) {
+    let drew = Place::Holding(Hold::Read);
+    let mut world = world(&rt, rt.alloc(), Dispenser::new(2), 3);
+    plays(&rt, &mut world, TWO_DRAW, &[drew, drew, Place::Idle], ());
 }
 
 const BEGUN: Rows<'static, FlagCall, u64, bool> = rows! {

@@ -1,0 +1,2 @@
+pub mod Dispensing
+pub mod Drawn

@@ -1,0 +1,2 @@
+pub mod Dispenser
+pub mod WrongDispensers
