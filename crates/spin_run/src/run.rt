@@ -9,8 +9,8 @@ mod process;
 
 pub use command::program;
 pub use counting::{CountError, MAX_TIMES, MAX_WORKERS, count_with};
-pub use gate::{Gate, Open};
 pub use process::program_over_arguments;
+pub use spin_barrier::gate::{Gate, Open};
 pub use spin_text::{
     Failed, OfStd, RunError, Sink, Source, a_text_has_one_reading, numbers_are_printed_texts,
     world_text,

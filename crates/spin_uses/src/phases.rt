@@ -7,6 +7,7 @@ ghost use Rattle.std.specs.Prelude.{◌≡◌, ℕ, ◌+◌, ◌*◌, ◌^◌, �
 ghost use Rattle.spin_uses.specs.Phases.{IsSpent};
 
 use spin_barrier::barrier::Barrier;
+pub use spin_barrier::gate::{Gate, Open};
 use spin_core::relax::Yield;
 use spin_mutex::mutex::Mutex;
 use std::alloc::{AllocError, Allocator};
@@ -15,38 +16,6 @@ use std::sync::Wait;
 use std::sync::ledger::{Blank, Book, Ledger, Share};
 use std::thread;
 use std::thread::{JoinHandle, Scope, Threads};
-
-/// What each worker passes before its first round.
-///
-/// # Examples
-/// ```
-/// self.gate.before(self.rt, worker);
-/// ```
-pub trait Gate {
-    /// Lets a worker pass. Each worker calls it once, before it adds anything. It may wait.
-    fn before<R: Wait>(&self, rt: &R, worker: usize);
-}
-
-/// The gate that lets every worker pass.
-///
-/// # Examples
-/// ```
-/// impl Gate for Open {
-///     fn before<R: Wait>(&self, rt: &R, worker: usize) {
-///         let _ = rt;
-///         let _ = worker;
-///     }
-/// }
-/// ```
-#[derive(Clone, Copy)]
-pub struct Open;
-
-impl Gate for Open {
-    fn before<R: Wait>(&self, rt: &R, worker: usize) {
-        let _ = rt;
-        let _ = worker;
-    }
-}
 
 /// The most workers of one run.
 pub const MAX_WORKERS: usize = 64;

@@ -7,7 +7,7 @@ ghost use Rattle.spin_run.specs.Faults.{Stops, StopsCount, line_of, status_of};
 
 use super::counting::{MAX_TIMES, MAX_WORKERS, count_with};
 use super::faults::{Fault, report};
-use super::gate::Open;
+use spin_barrier::gate::Open;
 use spin_text::{Sink, Source, number, world_text, write_whole};
 use std::alloc::Allocator;
 use std::sync::Wait;

@@ -1,8 +1,9 @@
 //! A count by workers, each a thread of its own, under one lock. Begin with [`count_with`].
 ghost use Rattle.std.specs.Prelude.{◌≡◌, ℕ, ◌+◌, ◌*◌, ◌^◌, ◌<◌, ◌≤◌, IfOk, vec_len};
 
-use super::gate::{Gate, Passed, pass};
+use super::gate::{Passed, pass};
 use super::locks::Lock;
+use spin_barrier::gate::Gate;
 use std::alloc::{AllocError, Allocator};
 use std::marker::Brand;
 use std::sync::Wait;
