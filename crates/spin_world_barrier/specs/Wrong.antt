@@ -1,78 +1,61 @@
 -- Barriers that are wrong, each in one part of its machine, and schedules on which the laws refuse them.
 use Rattle.std.specs.Prelude.{ℕ, ◌==◌, ◌&&◌, Option, Some, None, [], ◌∷◌, ◌+◌}
-use Rattle.spin_world_core.specs.declared.place.Hold.{Hold}
 use Rattle.spin_world_core.specs.declared.object.Next.TheVariants.{Continue, Answers}
-use Rattle.spin_world_core.specs.declared.object.Stepped.{Stepped}
+use Rattle.spin_world_core.specs.declared.object.Next.{Next}
 use Rattle.spin_world_core.specs.declared.answer.Answer.{Answer}
 use Rattle.spin_world_core.specs.declared.answer.Answer.TheVariants.{Leader, Follower}
 use Rattle.spin_world_barrier.specs.declared.barrier.BarrierWords.{BarrierWords}
-use Rattle.spin_world_barrier.specs.declared.barrier.BarrierCall.{BarrierCall}
 use Rattle.spin_world_barrier.specs.declared.barrier.BarrierCall.TheVariants.{Wait}
 use Rattle.spin_world_barrier.specs.declared.barrier.BarrierPoint.{BarrierPoint}
 use Rattle.spin_world_barrier.specs.declared.barrier.BarrierPoint.TheVariants.{Arrive, Leave}
 use Rattle.spin_world_core.specs.declared.schedule.Move.TheVariants.{Begin, Step, Weak}
 use Rattle.spin_world_core.specs.Calls.{waits_for_value}
-use Rattle.spin_world_core.specs.Acts.{either}
-use Rattle.spin_world_barrier.specs.Barrier.{BarrierMachine, arrive, is_past, barrier_machine}
+use Rattle.spin_world_core.specs.Acts.{either, stays}
+use Rattle.spin_world_barrier.specs.Barrier.{BarrierMachine, arrive, leads, is_past, barrier_machine}
 use Rattle.spin_world_barrier.specs.Groups.{Entries}
 
-abbrev Steps : Type 0
-Steps = BarrierWords → Option ℕ → BarrierCall → BarrierPoint → Option Hold → Stepped BarrierWords ℕ BarrierPoint (Answer ℕ)
+-- how an arrival goes on, and a look of a follower, by the words that they find
+abbrev Goes : Type 0
+Goes = BarrierWords → Next BarrierPoint (Answer ℕ)
 
--- groups of two, and of one
+-- groups of two that arrive and look as they should
 abbrev pairs : BarrierMachine
 pairs = barrier_machine 2
 
-abbrev ones : BarrierMachine
-ones = barrier_machine 1
+abbrev arrived : Goes
+arrived w = either (leads 2 w) (Answers Leader None) (Continue (Leave w.generation))
+
+abbrev looked : ℕ → Goes
+looked g w = either (is_past g w.generation) (Answers Follower None) (Continue (Leave g))
+
+-- groups of n that go on so
+abbrev going : ℕ → Goes → (ℕ → Goes) → BarrierMachine
+going n arrives looks =
+    record (barrier_machine n) { step = λ w value c l h. elim l [ Arrive ↦ stays (arrive n w) (arrives w) | Leave g ↦ stays w (looks g w) ] }
 
 -- whoever finds no other of its group leads
-abbrev first_step : Steps
-first_step w value c Arrive h = record { words = arrive 2 w; placed = None; next = either (w.count == 0) (Answers Leader h) (Continue (Leave w.generation)) }
-first_step w value c (Leave g) h = pairs.step w value c (Leave g) h
-
 abbrev pub first_leads : BarrierMachine
-first_leads = record pairs { step = first_step }
+first_leads = going 2 (λ w. either (w.count == 0) (Answers Leader None) (Continue (Leave w.generation))) looked
 
 -- whoever arrives and doesn't lead goes on by its next step
-abbrev early_step : Steps
-early_step w value c Arrive h = pairs.step w value c Arrive h
-early_step w value c (Leave g) h = record { words = w; placed = None; next = Answers Follower h }
-
 abbrev pub leaves_early : BarrierMachine
-leaves_early = record pairs { step = early_step }
+leaves_early = going 2 arrived (λ g w. Answers Follower None)
 
 -- whoever fills its group is told that it follows
-abbrev follower_step : Steps
-follower_step w value c Arrive h = record { words = arrive 2 w; placed = None; next = either (w.count == 1) (Answers Follower h) (Continue (Leave w.generation)) }
-follower_step w value c (Leave g) h = pairs.step w value c (Leave g) h
-
 abbrev pub nobody_leads : BarrierMachine
-nobody_leads = record pairs { step = follower_step }
+nobody_leads = going 2 (λ w. either (w.count == 1) (Answers Follower None) (Continue (Leave w.generation))) looked
 
 -- whoever fills its group goes on once the next one is full
-abbrev late_step : Steps
-late_step w value c Arrive h = record { words = arrive 1 w; placed = None; next = Continue (Leave (arrive 1 w).generation) }
-late_step w value c (Leave g) h = record { words = w; placed = None; next = either (is_past g w.generation) (Answers Leader h) (Continue (Leave g)) }
-
 abbrev pub leads_late : BarrierMachine
-leads_late = record ones { step = late_step }
+leads_late = going 1 (λ w. Continue (Leave (arrive 1 w).generation)) (λ g w. either (is_past g w.generation) (Answers Leader None) (Continue (Leave g)))
 
 -- whoever fills its group is told so by its next step
-abbrev told_step : Steps
-told_step w value c Arrive h = record { words = arrive 1 w; placed = None; next = Continue (Leave w.generation) }
-told_step w value c (Leave g) h = record { words = w; placed = None; next = Answers Leader h }
-
 abbrev pub told_late : BarrierMachine
-told_late = record ones { step = told_step }
+told_late = going 1 (λ w. Continue (Leave w.generation)) (λ g w. Answers Leader None)
 
 -- whoever follows goes on only where nobody has come for the next group
-abbrev quiet_step : Steps
-quiet_step w value c Arrive h = pairs.step w value c Arrive h
-quiet_step w value c (Leave g) h = record { words = w; placed = None; next = either (is_past g w.generation && (w.count == 0)) (Answers Follower h) (Continue (Leave g)) }
-
 abbrev pub leaves_in_quiet : BarrierMachine
-leaves_in_quiet = record pairs { step = quiet_step }
+leaves_in_quiet = going 2 arrived (λ g w. either (is_past g w.generation && (w.count == 0)) (Answers Follower None) (Continue (Leave g)))
 
 abbrev pub never_begins : BarrierMachine
 never_begins = record pairs { begin = λ c h. None }
@@ -117,12 +100,8 @@ abbrev pub one_group_and_one : Entries
 one_group_and_one = (0, Begin Wait) ∷ (0, Step) ∷ (1, Begin Wait) ∷ (1, Step) ∷ (2, Begin Wait) ∷ (2, Step) ∷ []
 
 -- whoever follows goes on only while the group after its own gathers
-abbrev next_step : Steps
-next_step w value c Arrive h = pairs.step w value c Arrive h
-next_step w value c (Leave g) h = record { words = w; placed = None; next = either (w.generation == g + 1) (Answers Follower h) (Continue (Leave g)) }
-
 abbrev pub leaves_in_the_next : BarrierMachine
-leaves_in_the_next = record pairs { step = next_step }
+leaves_in_the_next = going 2 arrived (λ g w. either (w.generation == g + 1) (Answers Follower None) (Continue (Leave g)))
 
 abbrev pub two_groups : Entries
 two_groups = (0, Begin Wait) ∷ (0, Step) ∷ (1, Begin Wait) ∷ (1, Step) ∷ (2, Begin Wait) ∷ (2, Step) ∷ (3, Begin Wait) ∷ (3, Step) ∷ []

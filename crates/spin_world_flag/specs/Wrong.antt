@@ -13,79 +13,83 @@ use Rattle.spin_world_core.specs.declared.schedule.Move.TheVariants.{Begin, Step
 use Rattle.spin_world_core.specs.Machines.{Machine}
 use Rattle.spin_world_core.specs.Calls.{waits}
 use Rattle.spin_step.specs.Plain.{gets, to_read, to_write}
-use Rattle.spin_world_core.specs.Acts.{weak_exchange, Table, machine_of, exchange, swap}
-use Rattle.spin_world_flag.specs.Flag.{lock, granted, flag_table, flag_machine}
+use Rattle.std.specs.Option.{option_map}
+use Rattle.spin_world_core.specs.Acts.{Act, weak_exchange, machine_of, exchange, swap, stays}
+use Rattle.spin_world_flag.specs.Flag.{lock, granted, act_of, flag_table, flag_machine}
 
 abbrev FlagMachine : Type 0 → Type 0
 FlagMachine V = Machine Bool V FlagCall FlagPoint (Answer V)
 
+abbrev FlagAct : Type 0 → Type 0
+FlagAct V = Act Bool FlagPoint (Answer V)
+
+abbrev Entries : Type 0 → Type 0
+Entries V = List (ℕ × Move FlagCall V)
+
+-- the flag with these steps in the place of its own
+abbrev with_steps : {V : Type 0} → V → (FlagCall → FlagAct V → FlagAct V) → FlagMachine V
+with_steps v steps = machine_of (record (flag_table v) { act = λ c l h. steps c (act_of c l h) })
+
 -- a `lock` that looks for ever, once its first exchange was refused
 abbrev pub looks_for_ever : {V : Type 0} → V → FlagMachine V
 looks_for_ever {V} v =
-    let m : FlagMachine V = flag_machine v in
-    record m {
-      step = λ w value c l h. elim l [ First ↦ m.step w value c First h | Second ↦ record { words = w; placed = None; next = Continue Second } ];
-    }
+    let m : FlagMachine V = flag_machine v in record m { step = λ w value c l h. elim l [ Second ↦ stays w (Continue Second) | other ↦ m.step w value c other h ] }
 
 -- one party locks the flag, the other finds it set, and two looks after the release find it clear
-abbrev pub two_looks : {V : Type 0} → List (ℕ × Move FlagCall V)
+abbrev pub two_looks : {V : Type 0} → Entries V
 two_looks = (0, Begin TryLock) ∷ (0, Step) ∷ (1, Begin Lock) ∷ (1, Step) ∷ (0, Begin Release) ∷ (0, Step) ∷ (1, Step) ∷ (1, Step) ∷ []
 
 -- a strong try that may refuse without cause
 abbrev pub tries_by_chance : {V : Type 0} → V → FlagMachine V
 tries_by_chance {V} v = let m : FlagMachine V = flag_machine v in record m { refuse = λ c l h. Some (Answers Refused h) }
 
-abbrev pub one_try : {V : Type 0} → List (ℕ × Move FlagCall V)
+abbrev pub one_try : {V : Type 0} → Entries V
 one_try = (0, Begin TryLock) ∷ (0, Weak) ∷ []
 
 -- a look whose load may fail, and then tells that nobody holds
 abbrev pub looks_by_chance : {V : Type 0} → V → FlagMachine V
 looks_by_chance {V} v = let m : FlagMachine V = flag_machine v in record m { refuse = λ c l h. Some (Answers (Is false) h) }
 
-abbrev pub look_beside_a_holder : {V : Type 0} → List (ℕ × Move FlagCall V)
+abbrev pub look_beside_a_holder : {V : Type 0} → Entries V
 look_beside_a_holder = (0, Begin TryLock) ∷ (0, Step) ∷ (1, Begin IsLocked) ∷ (1, Weak) ∷ []
 
 -- a `release` that begins nowhere
 abbrev pub never_releases : {V : Type 0} → V → FlagMachine V
-never_releases {V} v = let m : FlagMachine V = flag_machine v in record m { begin = λ c h. elim c [ Release ↦ None | Lock ↦ m.begin Lock h | TryLock ↦ m.begin TryLock h | TryLockWeak ↦ m.begin TryLockWeak h | IsLocked ↦ m.begin IsLocked h ] }
+never_releases {V} v = let m : FlagMachine V = flag_machine v in record m { begin = λ c h. elim c [ Release ↦ None | other ↦ m.begin other h ] }
 
 -- a `lock` that asks to read, which no flag knows, so that it is never answered
 abbrev pub locks_to_read : {V : Type 0} → V → FlagMachine V
-locks_to_read {V} v = let m : FlagMachine V = flag_machine v in record m { asks = λ c h. elim c [ Lock ↦ waits to_read | Release ↦ m.asks Release h | TryLock ↦ m.asks TryLock h | TryLockWeak ↦ m.asks TryLockWeak h | IsLocked ↦ m.asks IsLocked h ] }
+locks_to_read {V} v = let m : FlagMachine V = flag_machine v in record m { asks = λ c h. elim c [ Lock ↦ waits to_read | other ↦ m.asks other h ] }
 
 -- a lock that is held by nobody at first, and for good
 abbrev pub opens_set : {V : Type 0} → V → FlagMachine V
 opens_set {V} v = let m : FlagMachine V = flag_machine v in record m { words = true }
 
 -- a `lock` that begins by its look
-abbrev pub begins_late : FlagCall → Option FlagPoint → Option FlagPoint
-begins_late Lock (Some First) = Some Second
-begins_late c o = o
-
 abbrev pub looks_first : {V : Type 0} → V → FlagMachine V
-looks_first {V} v = let m : FlagMachine V = flag_machine v in record m { begin = λ c h. begins_late c (m.begin c h) }
+looks_first {V} v =
+    let m : FlagMachine V = flag_machine v in record m { begin = λ c h. elim c [ Lock ↦ option_map (λ l. Second) (m.begin Lock h) | other ↦ m.begin other h ] }
 
-abbrev pub lock_alone : {V : Type 0} → List (ℕ × Move FlagCall V)
+abbrev pub lock_alone : {V : Type 0} → Entries V
 lock_alone = (0, Begin Lock) ∷ (0, Step) ∷ []
 
 -- a `lock` whose look may refuse without cause, as where it finds the flag set
 abbrev pub refuses_at_its_look : {V : Type 0} → V → FlagMachine V
-refuses_at_its_look {V} v = let m : FlagMachine V = flag_machine v in record m { refuse = λ c l h. elim l [ First ↦ m.refuse c First h | Second ↦ Some (Continue Second) ] }
+refuses_at_its_look {V} v =
+    let m : FlagMachine V = flag_machine v in record m { refuse = λ c l h. elim l [ Second ↦ Some (Continue Second) | other ↦ m.refuse c other h ] }
 
 -- a `lock` that never looks
 abbrev pub never_looks : {V : Type 0} → V → FlagMachine V
-never_looks {V} v =
-    let t : Table Bool V FlagCall FlagPoint (Answer V) = flag_table v in
-    machine_of (record t { act = λ c l h. elim c [ Lock ↦ weak_exchange 0 lock (λ p. gets p to_write) granted (Continue First) | TryLock ↦ t.act TryLock l h | TryLockWeak ↦ t.act TryLockWeak l h | IsLocked ↦ t.act IsLocked l h | Release ↦ t.act Release l h ] })
+never_looks v = with_steps v (λ c act. elim c [ Lock ↦ weak_exchange 0 lock (λ p. gets p to_write) granted (Continue First) | _ ↦ act ])
 
-abbrev pub lock_beside_a_holder : {V : Type 0} → List (ℕ × Move FlagCall V)
+abbrev pub lock_beside_a_holder : {V : Type 0} → Entries V
 lock_beside_a_holder = (0, Begin TryLock) ∷ (0, Step) ∷ (1, Begin Lock) ∷ (1, Step) ∷ (1, Step) ∷ []
 
 -- a `try_lock` whose party is told that it reads
 abbrev pub grants_to_read : {V : Type 0} → V → FlagMachine V
 grants_to_read {V} v =
-    let t : Table Bool V FlagCall FlagPoint (Answer V) = flag_table v in
-    machine_of (record t { act = λ c l h. elim c [ TryLock ↦ exchange (swap 0 lock) (λ p. gets p to_write) (Answers Granted (Some Read)) (λ n. Answers Refused h) | Lock ↦ t.act Lock l h | TryLockWeak ↦ t.act TryLockWeak l h | IsLocked ↦ t.act IsLocked l h | Release ↦ t.act Release l h ] })
+    let to_reader : FlagAct V = exchange (swap 0 lock) (λ p. gets p to_write) (Answers Granted (Some Read)) (λ n. Answers Refused None) in
+    with_steps v (λ c act. elim c [ TryLock ↦ to_reader | _ ↦ act ])
 
-abbrev pub whole_try : {V : Type 0} → List (ℕ × Move FlagCall V)
+abbrev pub whole_try : {V : Type 0} → Entries V
 whole_try = (0, Begin TryLock) ∷ (0, Step) ∷ []

@@ -1,5 +1,6 @@
 -- Cells that are wrong, each in one part of its machine, and schedules on which the laws refuse them.
-use Rattle.std.specs.Prelude.{ℕ, Option, Some, None, [], ◌∷◌, ◌==◌, if◌then◌else◌}
+use Rattle.std.specs.Prelude.{ℕ, Option, Some, None, [], ◌∷◌, ◌==◌}
+use Rattle.spin_step.specs.Plain.{Change}
 use Rattle.spin_world_core.specs.declared.place.Hold.{Hold}
 use Rattle.spin_world_core.specs.declared.object.Next.TheVariants.{Continue, Answers}
 use Rattle.spin_world_core.specs.declared.object.Stepped.{Stepped}
@@ -10,115 +11,91 @@ use Rattle.spin_world_once.specs.declared.once.OnceCall.TheVariants.{CallOnce, T
 use Rattle.spin_world_once.specs.declared.once.OncePoint.{OncePoint}
 use Rattle.spin_world_once.specs.declared.once.OncePoint.TheVariants.{Look, TryBegin, Await, Run}
 use Rattle.spin_world_core.specs.declared.schedule.Move.TheVariants.{Begin, Step, Weak}
-use Rattle.spin_step.specs.Plain.{Change}
-use Rattle.spin_world_core.specs.declared.object.Next.{Next}
+use Rattle.spin_world_core.specs.Acts.{either, stays}
 use Rattle.spin_world_once.specs.Once.{OnceMachine, once_machine}
 use Rattle.spin_world_once.specs.Keeping.{Entries}
 
-abbrev Steps : Type 0 → Type 0
-Steps V = ℕ → Option V → OnceCall V → OncePoint → Option Hold → Stepped ℕ V OncePoint (Answer V)
+abbrev OnceStep : Type 0 → Type 0
+OnceStep V = Stepped ℕ V OncePoint (Answer V)
 
--- the machine with other steps
-abbrev stepping : {V : Type 0} → (OnceMachine V → Steps V) → OnceMachine V
-stepping {V} steps = let m : OnceMachine V = once_machine None in record m { step = steps m }
+-- the cell with these steps in the place of its own
+abbrev with_steps : {V : Type 0} → Option V → (ℕ → Option V → OnceCall V → OncePoint → Option Hold → OnceStep V → OnceStep V) → OnceMachine V
+with_steps {V} opening steps =
+    let m : OnceMachine V = once_machine opening in record m { step = λ w value c l h. steps w value c l h (m.step w value c l h) }
+
+-- the same with these plain steps
+abbrev with_changes : {V : Type 0} → OnceMachine V → (OnceCall V → OncePoint → Option Change → Option Change) → OnceMachine V
+with_changes m changes = record m { change = λ p w c l h. changes c l (m.change p w c l h) }
+
+-- a step that places this value, and answers that one
+abbrev gives : {V : Type 0} → ℕ → V → V → Option Hold → OnceStep V
+gives w put told h = record { words = w; placed = Some put; next = Answers (Value told) h }
 
 -- a closure that runs although there is a value, and replaces it
-abbrev replacing : {V : Type 0} → OnceMachine V → Steps V
-replacing m w (Some old) (CallOnce v) Look h = record { words = w; placed = Some v; next = Answers (Value v) h }
-replacing m w value c l h = m.step w value c l h
+abbrev replacing : {V : Type 0} → OncePoint → Option V → OnceStep V → OnceStep V → OnceStep V
+replacing Look (Some old) replaced step = replaced
+replacing l value replaced step = step
 
 abbrev pub replaces : (V : Type 0) → OnceMachine V
-replaces V = stepping replacing
+replaces V = with_steps None (λ w value c l h step. elim c [ CallOnce v ↦ replacing l value (gives w v v h) step | _ ↦ step ])
 
 abbrev pub two_closures : {V : Type 0} → V → V → Entries V
 two_closures u v = (0, Begin (CallOnce u)) ∷ (0, Step) ∷ (0, Step) ∷ (0, Step) ∷ (0, Begin (CallOnce v)) ∷ (0, Step) ∷ []
 
 -- a closure that fails and leaves the word at running
-abbrev sticking : {V : Type 0} → OnceMachine V → Steps V
-sticking m w value TryCallOnceErr Run h = record { words = w; placed = None; next = Answers Failed h }
-sticking m w value c l h = m.step w value c l h
-
-abbrev no_failure : {V : Type 0} → OnceMachine V → ℕ → ℕ → OnceCall V → OncePoint → Option Hold → Option Change
-no_failure m p w TryCallOnceErr Run h = None
-no_failure m p w c l h = m.change p w c l h
-
-abbrev pub sticks : (V : Type 0) → OnceMachine V
-sticks V = let m : OnceMachine V = stepping sticking in record m { change = no_failure m }
-
--- the same, and it is said to have failed
 abbrev pub sticks_silently : (V : Type 0) → OnceMachine V
-sticks_silently V = stepping sticking
+sticks_silently V = with_steps None (λ w value c l h step. elim c [ TryCallOnceErr ↦ elim l [ Run ↦ stays w (Answers Failed h) | _ ↦ step ] | _ ↦ step ])
+
+-- the same, where its step reads as no plain step
+abbrev pub sticks : (V : Type 0) → OnceMachine V
+sticks V = with_changes (sticks_silently V) (λ c l made. elim c [ TryCallOnceErr ↦ elim l [ Run ↦ None | _ ↦ made ] | _ ↦ made ])
 
 abbrev pub one_failure : {V : Type 0} → Entries V
 one_failure = (0, Begin TryCallOnceErr) ∷ (0, Step) ∷ (0, Step) ∷ (0, Step) ∷ []
 
 -- a `get` that answers this value, whether there is one or not
-abbrev getting : {V : Type 0} → V → OnceMachine V → Steps V
-getting v m w value Get Look h = record { words = w; placed = None; next = Answers (Value v) h }
-getting v m w value c l h = m.step w value c l h
-
 abbrev pub gets_early : {V : Type 0} → V → OnceMachine V
-gets_early v = stepping (getting v)
+gets_early v = with_steps None (λ w value c l h step. elim c [ Get ↦ stays w (Answers (Value v) h) | _ ↦ step ])
 
 abbrev pub get_beside_a_closure : {V : Type 0} → V → Entries V
 get_beside_a_closure v = (0, Begin (CallOnce v)) ∷ (0, Step) ∷ (0, Step) ∷ (1, Begin Get) ∷ (1, Step) ∷ []
 
 -- a `get` that looks at the value without the word
-abbrev peeking : {V : Type 0} → OnceMachine V → Steps V
-peeking m w (Some v) Get l h = record { words = w; placed = None; next = Answers (Value v) h }
-peeking m w None Get l h = record { words = w; placed = None; next = Answers NoValue h }
-peeking m w value c l h = m.step w value c l h
-
 abbrev pub peeks : (V : Type 0) → OnceMachine V
-peeks V = stepping peeking
+peeks V = with_steps None (λ w value c l h step. elim c [ Get ↦ stays w (Answers (elim value [ Some v ↦ Value v | None ↦ NoValue ]) h) | _ ↦ step ])
 
 -- a `poll` that never waits
-abbrev polling : {V : Type 0} → OnceMachine V → Steps V
-polling m w None Poll Look h = record { words = w; placed = None; next = Answers NoValue h }
-polling m w value c l h = m.step w value c l h
-
 abbrev pub polls_early : (V : Type 0) → OnceMachine V
-polls_early V = stepping polling
+polls_early V = with_steps None (λ w value c l h step. elim c [ Poll ↦ elim value [ None ↦ stays w (Answers NoValue h) | _ ↦ step ] | _ ↦ step ])
 
 abbrev pub poll_beside_a_closure : {V : Type 0} → V → Entries V
 poll_beside_a_closure v = (0, Begin (CallOnce v)) ∷ (0, Step) ∷ (0, Step) ∷ (1, Begin Poll) ∷ (1, Step) ∷ []
 
 -- a call whose closure gives u, and that places this and answers that
-abbrev placing : {V : Type 0} → V → V → OnceMachine V → Steps V
-placing put told m w value (CallOnce u) Run h = record { words = 2; placed = Some put; next = Answers (Value told) h }
-placing put told m w value c l h = m.step w value c l h
+abbrev placing : {V : Type 0} → V → V → OnceMachine V
+placing put told = with_steps None (λ w value c l h step. elim c [ CallOnce u ↦ elim l [ Run ↦ gives 2 put told h | _ ↦ step ] | _ ↦ step ])
 
 abbrev pub tells_another : {V : Type 0} → V → V → OnceMachine V
-tells_another u v = stepping (placing u v)
+tells_another u v = placing u v
 
 abbrev pub places_another : {V : Type 0} → V → OnceMachine V
-places_another v = stepping (placing v v)
+places_another v = placing v v
 
 abbrev pub one_closure : {V : Type 0} → V → Entries V
 one_closure u = (0, Begin (CallOnce u)) ∷ (0, Step) ∷ (0, Step) ∷ (0, Step) ∷ []
 
 -- a closure that never ends
-abbrev running_on : {V : Type 0} → OnceMachine V → Steps V
-running_on m w value (CallOnce v) Run h = record { words = w; placed = None; next = Continue Run }
-running_on m w value c l h = m.step w value c l h
-
-abbrev unended : {V : Type 0} → OnceMachine V → ℕ → ℕ → OnceCall V → OncePoint → Option Hold → Option Change
-unended m p w (CallOnce v) Run h = None
-unended m p w c l h = m.change p w c l h
-
 abbrev pub runs_on : (V : Type 0) → OnceMachine V
-runs_on V = let m : OnceMachine V = stepping running_on in record m { change = unended m }
+runs_on V =
+    let m : OnceMachine V = with_steps None (λ w value c l h step. elim c [ CallOnce v ↦ elim l [ Run ↦ stays w (Continue Run) | _ ↦ step ] | _ ↦ step ]) in
+    with_changes m (λ c l made. elim c [ CallOnce v ↦ elim l [ Run ↦ None | _ ↦ made ] | _ ↦ made ])
 
 abbrev pub six_steps : {V : Type 0} → V → Entries V
 six_steps v = (0, Begin (CallOnce v)) ∷ (0, Step) ∷ (0, Step) ∷ (0, Step) ∷ (0, Step) ∷ (0, Step) ∷ (0, Step) ∷ []
 
 -- a `wait` that looks once more before it answers
-abbrev waiting : {V : Type 0} → OnceMachine V → Steps V
-waiting m w value Wait Look h = record { words = w; placed = None; next = Continue Await }
-waiting m w value c l h = m.step w value c l h
-
 abbrev pub waits_idly : {V : Type 0} → V → OnceMachine V
-waits_idly {V} v = let m : OnceMachine V = once_machine (Some v) in record m { step = waiting m }
+waits_idly v = with_steps (Some v) (λ w value c l h step. elim c [ Wait ↦ elim l [ Look ↦ stays w (Continue Await) | _ ↦ step ] | _ ↦ step ])
 
 abbrev pub one_wait : {V : Type 0} → Entries V
 one_wait = (0, Begin Wait) ∷ []
@@ -140,31 +117,23 @@ always_fails V =
     }
 
 -- a `get` that begins nowhere
-abbrev beginning : {V : Type 0} → OnceMachine V → OnceCall V → Option Hold → Option OncePoint
-beginning m Get h = None
-beginning m c h = m.begin c h
-
 abbrev pub never_gets : (V : Type 0) → OnceMachine V
-never_gets V = let m : OnceMachine V = once_machine None in record m { begin = beginning m }
+never_gets V = let m : OnceMachine V = once_machine None in record m { begin = λ c h. elim c [ Get ↦ None | other ↦ m.begin other h ] }
 
 -- a `call_once` that begins by its exchange
-abbrev trying : {V : Type 0} → OnceMachine V → OnceCall V → Option Hold → Option OncePoint
-trying m (CallOnce v) None = Some TryBegin
-trying m c h = m.begin c h
-
 abbrev pub never_looks : (V : Type 0) → OnceMachine V
-never_looks V = let m : OnceMachine V = once_machine None in record m { begin = trying m }
+never_looks V =
+    let m : OnceMachine V = once_machine None in
+    record m { begin = λ c h. elim c [ CallOnce v ↦ elim h [ None ↦ Some TryBegin | held ↦ m.begin (CallOnce v) held ] | other ↦ m.begin other h ] }
 
 abbrev pub one_call : {V : Type 0} → V → Entries V
 one_call v = (0, Begin (CallOnce v)) ∷ []
 
 -- an exchange that may lose without cause
-abbrev losing : {V : Type 0} → OnceCall V → OncePoint → Option Hold → Option (Next OncePoint (Answer V))
-losing (CallOnce v) TryBegin h = Some (Continue Await)
-losing c l h = None
-
 abbrev pub loses_by_chance : (V : Type 0) → OnceMachine V
-loses_by_chance V = let m : OnceMachine V = once_machine None in record m { refuse = losing }
+loses_by_chance V =
+    let m : OnceMachine V = once_machine None in
+    record m { refuse = λ c l h. elim c [ CallOnce v ↦ elim l [ TryBegin ↦ Some (Continue Await) | _ ↦ None ] | _ ↦ None ] }
 
 abbrev pub a_look_and_chance : {V : Type 0} → V → Entries V
 a_look_and_chance v = (0, Begin (CallOnce v)) ∷ (0, Step) ∷ (0, Weak) ∷ []
@@ -174,12 +143,9 @@ abbrev pub opens_at_nothing : {V : Type 0} → V → OnceMachine V
 opens_at_nothing {V} v = let m : OnceMachine V = once_machine (Some v) in record m { words = 0 }
 
 -- a call that waits for a closure and finds nothing looks once more before it begins
-abbrev hesitating : {V : Type 0} → OnceMachine V → Steps V
-hesitating m w value (CallOnce v) Await h = if w == 0 then record { words = w; placed = None; next = Continue Look } else m.step w value (CallOnce v) Await h
-hesitating m w value c l h = m.step w value c l h
-
 abbrev pub hesitates : (V : Type 0) → OnceMachine V
-hesitates V = stepping hesitating
+hesitates V =
+    with_steps None (λ w value c l h step. elim c [ CallOnce v ↦ elim l [ Await ↦ either (w == 0) (stays w (Continue Look)) step | _ ↦ step ] | _ ↦ step ])
 
 -- a closure runs, another call waits for it, and it fails
 abbrev pub a_failure_beside_a_call : {V : Type 0} → V → Entries V
