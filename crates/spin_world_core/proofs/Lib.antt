@@ -14,6 +14,7 @@ pub mod Preserved
 pub mod Owners
 pub mod Sharing
 pub mod Every
+pub mod Reached
 pub mod Writers
 pub mod Guards
 pub mod Values

@@ -1,5 +1,8 @@
 -- What the tables of several objects owe in the same way.
 use Rattle.spin_world_core.proofs.Names.{◌≡◌, ℕ, zero, suc, ◌==◌, Bool, true, false, ◌||◌, Option, Some, None, List, [], ◌∷◌, refl, ap, sym, ◌∙◌, subst, eqb-true, eq-eqb, false≢true, Plain, Holder, Ticket, Change, apply, is_open, is_empty, party_of, Decides, Hold, Next, Continue, Answers, Asked, encoded, Mark, StepKind, number_at, Act, retry, either, step_by, Table}
+use Rattle.std.proofs.Math.Bool.{or-false}
+use Rattle.spin_world_core.specs.Acts.{two_numbers}
+use Rattle.spin_world_core.proofs.Operating.{IsPlace}
 use Rattle.spin_world_core.proofs.Rows.{Branch, Row}
 use Rattle.spin_world_core.proofs.Shapes.{aim_of, aimed, aimed_at, Notes, Means, CallOf, AtPoint, Follows, goes_by, answers_by}
 
@@ -81,3 +84,20 @@ module _ {W V C L A : Type 0} (t : Table W V C L A) (c : C) (h : Option Hold) (a
       at_number : (b : Bool) → (found == n) ≡ b → answers_by t (suc (suc k)) w c (at n) h ≡ true
       at_number true is = subst (λ m. answers_by t (suc (suc k)) w c (at m) h ≡ true) (eqb-true found n is) (later t (suc k) w c (at found) h exchanges_now)
       at_number false is = subst (Soon (suc k) (at n)) (sym (again n)) (rw (is, some) exchanges_now)
+
+-- Tests
+
+-- what fails does not pass
+pub never : {X : Type 0} → false ≡ true → X
+never passes = absurd (false≢true passes)
+
+-- where the second fails it is the first
+pub only_left : (a b : Bool) → b ≡ false → (a || b) ≡ true → a ≡ true
+only_left a b none is = sym (or-false a) ∙ (ap (λ c. a || c) (sym none) ∙ is)
+
+-- The words: each of two numbers has its place
+
+pub two_places : {W : Type 0} (a b : W → ℕ) (f g : ℕ → W → W) → ((k : ℕ) (w : W) → a (f k w) ∷ b (f k w) ∷ [] ≡ k ∷ b w ∷ []) → ((k : ℕ) (w : W) → a (g k w) ∷ b (g k w) ∷ [] ≡ a w ∷ k ∷ []) → (i : ℕ) → IsPlace (two_numbers a b f g) i
+two_places a b f g first second zero = record { stays = λ w. refl; put = first }
+two_places a b f g first second (suc zero) = record { stays = λ w. refl; put = second }
+two_places a b f g first second _ = record { stays = λ w. refl; put = λ k w. refl }

@@ -1,0 +1,73 @@
+-- What holds of the state that a schedule leads to, and what a call's row says of its party there.
+use Rattle.std.proofs.Common.{◌≡◌, ℕ, Bool, true, false, Option, Some, None, List, slice_get, refl, ap, sym, ◌∙◌}
+use Rattle.spin_step.specs.Plain.{Plain}
+use Rattle.spin_step.specs.Parties.{Entries, entries}
+use Rattle.spin_world_core.specs.declared.place.Hold.{Hold}
+use Rattle.spin_world_core.specs.declared.place.Seat.{Seat}
+use Rattle.spin_world_core.specs.declared.place.Seat.TheVariants.{Calling}
+use Rattle.spin_world_core.specs.declared.schedule.Move.{Move}
+use Rattle.spin_world_core.specs.Calls.{Mark, encoded}
+use Rattle.spin_world_core.specs.Machines.{Machine}
+use Rattle.spin_world_core.specs.Schedules.{State, after, at_first}
+use Rattle.spin_world_core.specs.Runs.{Seen, StandsFor, opening, own}
+use Rattle.spin_world_core.specs.Acts.{Table}
+use Rattle.spin_world_core.specs.Users.{seen_after}
+use Rattle.spin_world_core.proofs.Facts.{LocalInvariant, InCall, Facts}
+use Rattle.spin_world_core.proofs.Stands.{entries_at}
+use Rattle.spin_world_core.proofs.Rows.{Row}
+use Rattle.spin_world_core.proofs.Shapes.{Notes, KnowsRow}
+use Rattle.spin_world_core.proofs.Preserved.{Invariant, standing, in_call}
+use Rattle.spin_world_core.proofs.Every.{good_first, good_after, state-seen_after}
+
+-- The state after these entries
+
+module _ {W V C L A : Type 0} (m : Machine W V C L A) (k : LocalInvariant V C L) (f : Facts m k) (n : ℕ) (past : List (ℕ × Move C V)) where
+  abbrev now : State W V C L
+  now = after m (at_first m n) past
+
+  abbrev seen : Seen W V C L
+  seen = seen_after m (opening m n) past
+
+  pub good : Invariant m k seen
+  good = good_after m k f (opening m n) past (good_first m k f n)
+
+  pub state_is : seen.state ≡ now
+  state_is = state-seen_after m (opening m n) past
+
+  pub words_are : seen.state.words ≡ now.words
+  words_are = ap (λ (s : State W V C L). s.words) state_is
+
+  pub numbers_are : m.numbers now.words ≡ encoded m.lock_kind seen.plain
+  numbers_are = ap m.numbers (sym words_are) ∙ good.encodes
+
+  pub seat_is : (p : ℕ) (y : Option (Seat C L)) → slice_get now.seats p ≡ y → slice_get seen.state.seats p ≡ y
+  seat_is p y there = ap (λ (s : State W V C L). slice_get s.seats p) state_is ∙ there
+
+  pub stands : (p : ℕ) (y : Seat C L) → slice_get now.seats p ≡ Some y → StandsFor seen.plain p (seen.span p) (Some y)
+  stands p y there = standing m k seen p y good (seat_is p (Some y) there)
+
+  pub calls : (p : ℕ) (c : C) (l : L) (h : Option Hold) → slice_get now.seats p ≡ Some (Calling c l h) → InCall m k p c l h seen.plain seen.state.value seen.state.words (seen.span p)
+  calls p c l h there = in_call m k seen p c l h good (seat_is p (Some (Calling c l h)) there)
+
+-- A call's row says what its party has there, and which plain steps the call has made
+
+-- there is a row, and it passes a test; or it passes wherever there is one
+abbrev pub passes_some : (Row → Bool) → Option Row → Bool
+passes_some test None = false
+passes_some test (Some row) = test row
+
+abbrev pub passes_all : (Row → Bool) → Option Row → Bool
+passes_all test None = true
+passes_all test (Some row) = test row
+
+module _ {W V C L A : Type 0} (t : Table W V C L A) (n : Notes t) (c : C) (l : L) (h : Option Hold) (p : ℕ) (s : Plain) (span : List Mark) where
+  pub row_passes : (test : Row → Bool) → ((row : Row) → entries p s ≡ entries_at p row.stand → own p span ≡ row.made p → test row ≡ true) → (o : Option Row) → KnowsRow t n c l h p s span o → passes_some test o ≡ true
+  row_passes test is (Some row) knows = is row knows.0.stand knows.0.made
+  row_passes test is None knows = absurd knows
+
+  pub stands_so : (test : Entries → Bool) → test (entries p s) ≡ true → (o : Option Row) → KnowsRow t n c l h p s span o → passes_some (λ row. test (entries_at p row.stand)) o ≡ true
+  stands_so test is o knows = row_passes (λ row. test (entries_at p row.stand)) (λ row stand made. ap test (sym stand) ∙ is) o knows
+
+  pub row_tells : (test : Entries → Bool) (o : Option Row) → KnowsRow t n c l h p s span o → passes_all (λ row. test (entries_at p row.stand)) o ≡ true → test (entries p s) ≡ true
+  row_tells test (Some row) knows is = ap test knows.0.stand ∙ is
+  row_tells test None knows is = absurd knows
