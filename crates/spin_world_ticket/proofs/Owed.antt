@@ -23,13 +23,13 @@ use Rattle.spin_world_core.specs.StepKinds.{StepKind, plain}
 use Rattle.spin_world_core.specs.Acts.{passing, begin_of}
 use Rattle.spin_world_ticket.specs.Ticket.{is_left, ticket_memory, act_of, asks_of, ticket_table, ticket_machine}
 use Rattle.spin_world_core.proofs.Lists.{eqb_self}
-use Rattle.spin_world_core.proofs.Operating.{fits_act, fits_strong, IsPlace, operates_by}
+use Rattle.spin_world_core.proofs.Operating.{fits_act, fits_strong, operates_by}
 use Rattle.spin_world_core.proofs.Facts.{LocalInvariant, Facts}
 use Rattle.spin_world_core.proofs.Spans.{own_count-mine, own_count-other}
 use Rattle.spin_world_core.proofs.Stands.{queues, entries_at}
 use Rattle.spin_world_core.proofs.Rows.{any_map, SoundAt, Row, Point, nowhere, looked, onward}
 use Rattle.spin_world_core.proofs.Shapes.{AimsAt, Notes, keeping_of, Means, OwesAt, answers_by, OwesSoon, BeginsAt, Pays, CallOf, AtPoint}
-use Rattle.spin_world_core.proofs.Usual.{two, no_holders, retries_soon}
+use Rattle.spin_world_core.proofs.Usual.{two, no_holders, retries_soon, only_left, two_places}
 use Rattle.spin_world_core.proofs.Paid.{facts_of}
 use Rattle.spin_world_ticket.proofs.Knowledge.{free_number, Queue, Stays, Rises, stays-other, rises-other, stays_now, try_refused, look_held, look_free, ticket_left, taken_queue}
 
@@ -56,11 +56,6 @@ KnowsAt _ h p s span = Unit {0}
 abbrev pub ticket_notes : {V : Type 0} (v : V) (first : ℕ) → Notes (ticket_table v first)
 ticket_notes v first = record { Shape = λ s. Queue s; point = point_of; Knows = λ c l h p s span. KnowsAt l h p s span }
 
-places : (i : ℕ) → IsPlace ticket_memory i
-places zero = record { stays = λ w. refl; put = λ k w. refl }
-places (suc zero) = record { stays = λ w. refl; put = λ k w. refl }
-places (suc (suc i)) = record { stays = λ w. refl; put = λ k w. refl }
-
 two_words : (u w : TicketWords) → u.next ∷ u.serving ∷ [] ≡ w.next ∷ w.serving ∷ [] → u ≡ w
 two_words u w e =
     let next : u.next ≡ w.next = cc (e) in
@@ -86,12 +81,8 @@ not_entered : (p t : ℕ) (ts : List Queued) → filter (λ t. t.party == p) ts 
 not_entered p t [] mine = refl
 not_entered p t (k ∷ ts) mine = not_first (k.party == p) p t k ts mine
 
-or_left : (a b : Bool) → b ≡ false → (a || b) ≡ true → a ≡ true
-or_left true b none e = refl
-or_left false b none e = absurd (true≢false (sym e ∙ none))
-
 enters_first : (p t : ℕ) (s : Plain) → entries p s ≡ entries_at p (queues t false) → (is_open s (gets p to_enter) || is_first p true s.tickets) ≡ true → is_open s (gets p to_enter) ≡ true
-enters_first p t s mine free = or_left (is_open s (gets p to_enter)) (is_first p true s.tickets) (not_entered p t s.tickets (ap (λ (e : Entries). e.tickets) mine)) free
+enters_first p t s mine free = only_left (is_open s (gets p to_enter)) (is_first p true s.tickets) (not_entered p t s.tickets (ap (λ (e : Entries). e.tickets) mine)) free
 
 module _ {V : Type 0} (v : V) (first : ℕ) where
   abbrev IsMeant : ℕ → Plain → Change → (ℕ → TicketWords) → Option ℕ → Type 0
@@ -205,16 +196,9 @@ module _ {V : Type 0} (v : V) (first : ℕ) where
   soon p _ _ _ s w span = tt
 
   aims : (p : ℕ) (c : TicketCall) (l : TicketPoint) (h : Option Hold) → AimsAt (ticket_table v first) (ticket_notes v first) p c l h
-  aims p Lock LoadNext None = refl
-  aims p Lock (Take n) None = refl
-  aims p Lock (Await t) None = refl
-  aims p TryLock TryLoadNext None = refl
-  aims p TryLock (TryLoadServing n) None = refl
-  aims p TryLock (TryTake n) None = refl
-  aims p IsLocked LookServing None = refl
-  aims p IsLocked (LookNext k) None = refl
-  aims p Release (Serve t) (Some (hold.Ticket u)) = refl
-  aims p _ _ _ = refl
+  aims p Lock LoadNext = elim [ None ↦ refl | Some (hold.Ticket u) ↦ refl | _ ↦ refl ]
+  aims p _ LoadNext = elim [ None ↦ refl | Some (hold.Ticket u) ↦ refl | _ ↦ refl ]
+  aims p _ _ = elim [ None ↦ refl | Some (hold.Ticket u) ↦ refl | _ ↦ refl ]
 
   begins : (p : ℕ) (c : TicketCall) (h : Option Hold) (s : Plain) → BeginsAt (ticket_table v first) (ticket_notes v first) c h p s (begin_of (ticket_table v first) c h)
   begins p Release (Some (hold.Ticket t)) s = rw (eqb_self t) (refl, refl, tt, refl)
@@ -232,16 +216,9 @@ module _ {V : Type 0} (v : V) (first : ℕ) where
   never_weak _ h = refl
 
   sound : (p : ℕ) (c : TicketCall) (l : TicketPoint) (h : Option Hold) → SoundAt ticket (asks_of c h) p (point_of c l h)
-  sound p Lock (Await t) None = (refl, inl refl)
-  sound p Lock LoadNext None = refl
-  sound p Lock (Take n) None = refl
-  sound p TryLock TryLoadNext None = refl
-  sound p TryLock (TryLoadServing n) None = refl
-  sound p TryLock (TryTake n) None = refl
-  sound p IsLocked LookServing None = refl
-  sound p IsLocked (LookNext k) None = refl
-  sound p Release (Serve t) (Some (hold.Ticket u)) = refl
-  sound p _ _ _ = tt
+  sound p Lock LoadNext = elim [ None ↦ search (inl) | Some (hold.Ticket u) ↦ search (inl) | _ ↦ search (inl) ]
+  sound p _ LoadNext = elim [ None ↦ search (inl) | Some (hold.Ticket u) ↦ search (inl) | _ ↦ search (inl) ]
+  sound p _ _ = elim [ None ↦ search (inl) | Some (hold.Ticket u) ↦ search (inl) | _ ↦ search (inl) ]
 
   others : (p q : ℕ) (ne : q ≡ p → ⊥) (l : TicketPoint) (h : Option Hold) (s : Plain) (step : Option Change) (r : StepKind) (span : List Mark) → Queue s → IsOpenStep s q step → KnowsAt l h p s span → KnowsAt l h p (apply_some s step) (mark_of q step r s ∷ span)
   others p q ne (TryLoadServing n) h s step r span queue may knows = (stays-other n q s step r span queue.numbered may knows.0, inr knows.1, own_count-other p q step r s span ne ∙ knows.2)
@@ -254,7 +231,7 @@ module _ {V : Type 0} (v : V) (first : ℕ) where
   ticket_pays =
       record {
         fits = λ p c l h. fits_strong ticket (asks_of c h) (act_of {V = V} l h) p (never_weak c h) (fits_looks p l h);
-        operates = operates_by (ticket_table v first) places;
+        operates = operates_by (ticket_table v first) (two_places _ _ _ _ (λ k w. refl) (λ k w. refl));
         first = two first first first (first - 0) refl (omega arith);
         shape_first = record { no_holders = refl; numbered = (omega arith, tt); in_range = λ some. absurd (cc (some)) };
         numbers_tell = λ u w e. two_words u w e;

@@ -1,8 +1,8 @@
 -- What users of a ticket lock rely on.
-use Rattle.std.proofs.Common.{◌≡◌, ℕ, ◌+◌, ◌==◌, ◌↔◌, Bool, true, false, Option, Some, None, List, [], ◌∷◌, ◌++◌, slice_get, refl, ap, sym, ◌∙◌, subst, arith}
-use Rattle.std.proofs.lemmas.Bool.{eqb-true, eq-eqb, true≢false, false≢true}
+use Rattle.std.proofs.Common.{◌≡◌, ℕ, ◌+◌, ◌==◌, ◌↔◌, Bool, true, false, Option, Some, None, List, [], ◌∷◌, ◌++◌, slice_get, not, ◌&&◌, refl, ap, sym, ◌∙◌, subst, arith}
+use Rattle.std.proofs.lemmas.Bool.{eqb-true, eq-eqb, true≢false}
 use Rattle.spin_step.specs.Plain.{Plain, ticket as queued, Ticket as Queued, Change, gets, serving_word}
-use Rattle.spin_step.specs.Parties.{apply_some, IsOpenStep, Entries, entries, none_entered}
+use Rattle.spin_step.specs.Parties.{apply_some, IsOpenStep, Entries}
 use Rattle.spin_step.specs.Steps.{bit}
 use Rattle.spin_step.specs.Tickets.{Numbered, gone}
 use Rattle.spin_step.proofs.Tickets.{serving-moves, entered_is_served}
@@ -14,23 +14,28 @@ use Rattle.spin_world_core.specs.declared.place.Seat.TheVariants.{Calling, Holdi
 use Rattle.spin_world_core.specs.declared.object.Next.TheVariants.{Continue}
 use Rattle.spin_world_core.specs.declared.schedule.Move.{Move}
 use Rattle.spin_world_core.specs.declared.schedule.Move.TheVariants.{Step}
-use Rattle.spin_world_core.specs.declared.schedule.Outcome.{Outcome}
 use Rattle.spin_world_core.specs.declared.schedule.Outcome.TheVariants.{Answered}
 use Rattle.spin_world_ticket.specs.declared.ticket.TicketCall.{TicketCall}
-use Rattle.spin_world_ticket.specs.declared.ticket.TicketCall.TheVariants.{Lock, TryLock, IsLocked, Release}
+use Rattle.spin_world_ticket.specs.declared.ticket.TicketCall.TheVariants.{Lock}
 use Rattle.spin_world_ticket.specs.declared.ticket.TicketPoint.{TicketPoint}
-use Rattle.spin_world_ticket.specs.declared.ticket.TicketPoint.TheVariants.{LoadNext, Take, Await, TryLoadNext, TryLoadServing, TryTake, LookServing, LookNext, Serve}
+use Rattle.spin_world_ticket.specs.declared.ticket.TicketPoint.TheVariants.{Await}
 use Rattle.spin_world_ticket.specs.declared.ticket.TicketWords.{TicketWords}
-use Rattle.spin_world_core.specs.Calls.{Mark}
+use Rattle.spin_world_core.specs.Machines.{Machine}
 use Rattle.spin_world_core.specs.Schedules.{State, moves_at, stepped, after, at_first}
 use Rattle.spin_world_core.specs.Runs.{Seen, scene, opening}
 use Rattle.spin_world_core.specs.Acts.{becomes, passing}
-use Rattle.spin_world_ticket.specs.Ticket.{ticket_machine, granted}
+use Rattle.spin_world_ticket.specs.Ticket.{ticket_table, ticket_machine, granted}
 use Rattle.spin_world_core.specs.Users.{seen_after, passes}
 use Rattle.spin_world_ticket.specs.Turns.{serves_one, tickets_gone, InOrder, waits_with, InTurn}
-use Rattle.spin_world_ticket.proofs.Owed.{ticket_keeping, ticket_facts}
+use Rattle.spin_world_ticket.proofs.Owed.{ticket_notes, ticket_keeping, ticket_facts}
 use Rattle.spin_world_core.proofs.Preserved.{Invariant}
-use Rattle.spin_world_core.proofs.Every.{kept, good_first, standing, in_call, state-seen_after, good_after}
+use Rattle.spin_world_core.proofs.Facts.{LocalInvariant}
+use Rattle.spin_world_core.proofs.Stands.{entries_at}
+use Rattle.spin_world_core.proofs.Shapes.{row_of}
+use Rattle.spin_world_core.proofs.Every.{kept}
+use Rattle.spin_world_core.proofs.Guards.{seen_after-append}
+use Rattle.spin_world_core.proofs.Usual.{never}
+use Rattle.spin_world_core.proofs.Reached.{good, numbers_are, stands, calls, passes_some, stands_so}
 
 one_goes : (c : Change) → gone c ≡ bit (serves_one c)
 one_goes (gets p ask) = refl
@@ -40,26 +45,18 @@ moves_some : (s : Plain) (p : ℕ) (step : Option Change) → Numbered s → IsO
 moves_some s p None numbered may = omega arith
 moves_some s p (Some c) numbered may = omega (arith, serving-moves s c numbered may.1, one_goes c)
 
-abbrev first_number : List Queued → ℕ
-first_number [] = 0
-first_number (t ∷ ts) = t.number
-
-same_number : (p t u : ℕ) → queued p t false ∷ [] ≡ queued p u false ∷ [] → t ≡ u
-same_number p t u e = ap first_number e
+-- the first of these tickets has this number, and has not entered
+abbrev is_waiting_with : ℕ → List Queued → Bool
+is_waiting_with t [] = false
+is_waiting_with t (k ∷ ks) = not k.entered && (k.number == t)
 
 -- a party that waits with a ticket stands where its lock looks whether it is served
 module _ {V : Type 0} (v : V) (first p t : ℕ) where
-  waits_at : (c : TicketCall) (l : TicketPoint) (h : Option Hold) (s : Plain) (span : List Mark) → (ticket_keeping v first).Knows c l h p s span → entries p s ≡ waits_with p t → l ≡ Await t
-  waits_at Lock (Await u) None s span knows waits = ap Await (same_number p u t (ap (λ (e : Entries). e.tickets) (sym knows.0.stand ∙ waits)))
-  waits_at Lock LoadNext None s span knows waits = absurd (cc (ap (λ (e : Entries). e.tickets) (sym knows.0.stand ∙ waits)))
-  waits_at Lock (Take n) None s span knows waits = absurd (cc (ap (λ (e : Entries). e.tickets) (sym knows.0.stand ∙ waits)))
-  waits_at TryLock TryLoadNext None s span knows waits = absurd (cc (ap (λ (e : Entries). e.tickets) (sym knows.0.stand ∙ waits)))
-  waits_at TryLock (TryLoadServing n) None s span knows waits = absurd (cc (ap (λ (e : Entries). e.tickets) (sym knows.0.stand ∙ waits)))
-  waits_at TryLock (TryTake n) None s span knows waits = absurd (cc (ap (λ (e : Entries). e.tickets) (sym knows.0.stand ∙ waits)))
-  waits_at IsLocked LookServing None s span knows waits = absurd (cc (ap (λ (e : Entries). e.tickets) (sym knows.0.stand ∙ waits)))
-  waits_at IsLocked (LookNext k) None s span knows waits = absurd (cc (ap (λ (e : Entries). e.tickets) (sym knows.0.stand ∙ waits)))
-  waits_at Release (Serve k) (Some (hold.Ticket u)) s span knows waits = absurd (false≢true (ap (λ (e : Entries). none_entered e.tickets) (sym knows.0.stand ∙ waits)))
-  waits_at _ _ _ s span knows waits = absurd knows
+  waits_at : (c : TicketCall) (l : TicketPoint) (h : Option Hold)
+      → passes_some (λ row. is_waiting_with t (entries_at p row.stand).tickets) (row_of (ticket_table v first) (ticket_notes v first) c l h) ≡ true → l ≡ Await t
+  waits_at Lock (Await u) = elim [ None ↦ λ waits. ap Await (eqb-true u t waits) | Some (hold.Ticket u) ↦ never | _ ↦ never ]
+  waits_at _ (Await u) = elim [ None ↦ never | Some (hold.Ticket u) ↦ never | _ ↦ never ]
+  waits_at _ _ = elim [ None ↦ never | Some (hold.Ticket u) ↦ never | _ ↦ never ]
 
 looked : (V : Type 0) (s : State TicketWords V TicketCall TicketPoint) (p t : ℕ) (w : TicketWords) (c : TicketCall) (h : Option Hold) (b : Bool) → (w.serving == t) ≡ b
     → ((stepped {A = Answer V} s p c h (becomes (λ (k : ℕ). w) w (passing b w.serving) (granted t) (Continue (Await t)))).outcome ≡ Answered Granted None) ↔ (w.serving ≡ t)
@@ -67,69 +64,49 @@ looked V s p t w c h true is = (λ e. eqb-true w.serving t is, λ e. refl)
 looked V s p t w c h false is = (λ e. absurd (cc (e)), λ e. absurd (true≢false (sym (eq-eqb w.serving t e) ∙ is)))
 
 module _ {V : Type 0} (v : V) (first : ℕ) where
-  good : (n : ℕ) (past : List (ℕ × Move TicketCall V)) → Invariant (ticket_machine v first) (ticket_keeping v first) (seen_after (ticket_machine v first) (opening (ticket_machine v first) n) past)
-  good n past =
-      let m = ticket_machine v first in
-      good_after m (ticket_keeping v first) (ticket_facts v first) (opening m n) past (good_first m (ticket_keeping v first) (ticket_facts v first) n)
+  abbrev m : Machine TicketWords V TicketCall TicketPoint (Answer V)
+  m = ticket_machine v first
 
-  served : (seen : Seen TicketWords V TicketCall TicketPoint) (es : List (ℕ × Move TicketCall V)) → Invariant (ticket_machine v first) (ticket_keeping v first) seen
-      → serving_word (seen_after (ticket_machine v first) seen es).plain ≡ serving_word seen.plain + tickets_gone (ticket_machine v first) seen es
+  abbrev k : LocalInvariant V TicketCall TicketPoint
+  k = ticket_keeping v first
+
+  served : (seen : Seen TicketWords V TicketCall TicketPoint) (es : List (ℕ × Move TicketCall V)) → Invariant m k seen → serving_word (seen_after m seen es).plain ≡ serving_word seen.plain + tickets_gone m seen es
   served seen [] good = omega arith
   served seen (e ∷ es) good =
-      let m = ticket_machine v first in
-      let here = kept m (ticket_keeping v first) (ticket_facts v first) seen e.0 e.1 good in
+      let here = kept m k (ticket_facts v first) seen e.0 e.1 good in
       omega (arith, moves_some seen.plain e.0 (scene m seen e.0 e.1).change good.shape.numbered here.keeps.opens, served (scene m seen e.0 e.1).after es here.good)
 
-  words_are : (n : ℕ) (past : List (ℕ × Move TicketCall V)) → (after (ticket_machine v first) (at_first (ticket_machine v first) n) past).words ≡ (seen_after (ticket_machine v first) (opening (ticket_machine v first) n) past).state.words
-  words_are n past = ap (λ (s : State TicketWords V TicketCall TicketPoint). s.words) (sym (state-seen_after (ticket_machine v first) (opening (ticket_machine v first) n) past))
-
-  pub in_order : (n : ℕ) (past : List (ℕ × Move TicketCall V)) → InOrder (after (ticket_machine v first) (at_first (ticket_machine v first) n) past).words (seen_after (ticket_machine v first) (opening (ticket_machine v first) n) past).plain
+  pub in_order : (n : ℕ) (past : List (ℕ × Move TicketCall V)) → InOrder (after m (at_first m n) past).words (seen_after m (opening m n) past).plain
   in_order n past =
-      let seen = seen_after (ticket_machine v first) (opening (ticket_machine v first) n) past in
-      let g = good n past in
-      subst (λ w. InOrder w seen.plain) (sym (words_are n past))
-      (record { next = cc (g.encodes); serving = cc (g.encodes); numbered = g.shape.numbered; one_entered = g.exclusive.one_entered })
-
-  seen-append : (seen : Seen TicketWords V TicketCall TicketPoint) (past further : List (ℕ × Move TicketCall V)) → seen_after (ticket_machine v first) seen (past ++ further) ≡ seen_after (ticket_machine v first) (seen_after (ticket_machine v first) seen past) further
-  seen-append seen [] further = refl
-  seen-append seen (e ∷ es) further = seen-append (scene (ticket_machine v first) seen e.0 e.1).after es further
+      let numbers = numbers_are m k (ticket_facts v first) n past in
+      let g = good m k (ticket_facts v first) n past in
+      record { next = cc (numbers); serving = cc (numbers); numbered = g.shape.numbered; one_entered = g.exclusive.one_entered }
 
   -- whoever holds has the ticket that is served
-  holds_served : (n p t : ℕ) (past : List (ℕ × Move TicketCall V)) → slice_get (after (ticket_machine v first) (at_first (ticket_machine v first) n) past).seats p ≡ Some (Holding (hold.Ticket t))
-      → serving_word (seen_after (ticket_machine v first) (opening (ticket_machine v first) n) past).plain ≡ t
+  holds_served : (n p t : ℕ) (past : List (ℕ × Move TicketCall V)) → slice_get (after m (at_first m n) past).seats p ≡ Some (Holding (hold.Ticket t)) → serving_word (seen_after m (opening m n) past).plain ≡ t
   holds_served n p t past there =
-      let m = ticket_machine v first in
-      let seen = seen_after m (opening m n) past in
-      let g = good n past in
-      let here = ap (λ (s : State TicketWords V TicketCall TicketPoint). slice_get s.seats p) (state-seen_after m (opening m n) past) ∙ there in
-      (entered_is_served seen.plain p t g.shape.numbered g.exclusive.one_entered (ap (λ (e : Entries). e.tickets) (standing m (ticket_keeping v first) seen p (Holding (hold.Ticket t)) g here))).1
+      let order = in_order n past in
+      (entered_is_served (seen_after m (opening m n) past).plain p t order.numbered order.one_entered (ap (λ (e : Entries). e.tickets) (stands m k (ticket_facts v first) n past p (Holding (hold.Ticket t)) there))).1
 
   -- what is served after further entries
-  served_later : (n : ℕ) (past further : List (ℕ × Move TicketCall V)) → let m = ticket_machine v first in
-      serving_word (seen_after m (opening m n) (past ++ further)).plain ≡ (after m (at_first m n) past).words.serving + tickets_gone m (seen_after m (opening m n) past) further
+  served_later : (n : ℕ) (past further : List (ℕ × Move TicketCall V))
+      → serving_word (seen_after m (opening m n) (past ++ further)).plain ≡ (after m (at_first m n) past).words.serving + tickets_gone m (seen_after m (opening m n) past) further
   served_later n past further =
-      let m = ticket_machine v first in
-      let seen = seen_after m (opening m n) past in
-      let at_end = ap (λ (s : Seen TicketWords V TicketCall TicketPoint). serving_word s.plain) (seen-append (opening m n) past further) in
-      omega (arith, (in_order n past).serving, served seen further (good n past), at_end)
+      let at_end = ap (λ (s : Seen TicketWords V TicketCall TicketPoint). serving_word s.plain) (seen_after-append m (opening m n) past further) in
+      omega (arith, (in_order n past).serving, served (seen_after m (opening m n) past) further (good m k (ticket_facts v first) n past), at_end)
 
-  pub in_turn : (n : ℕ) (past further : List (ℕ × Move TicketCall V)) → InTurn (ticket_machine v first) n past further
+  pub in_turn : (n : ℕ) (past further : List (ℕ × Move TicketCall V)) → InTurn m n past further
   in_turn n past further =
+      let all = past ++ further in
       record {
         enters = λ p t c l h there waits.
-            let m = ticket_machine v first in
-            let all = past ++ further in
-            let seen = seen_after m (opening m n) all in
-            let state = state-seen_after m (opening m n) all in
-            let here = ap (λ (s : State TicketWords V TicketCall TicketPoint). slice_get s.seats p) state ∙ there in
-            let at = in_call m (ticket_keeping v first) seen p c l h (good n all) here in
-            let is = waits_at v first p t c l h seen.plain (seen.span p) at.knows waits in
-            let served : (after m (at_first m n) all).words.serving ≡ (after m (at_first m n) past).words.serving + tickets_gone m (seen_after m (opening m n) past) further =
-            (in_order n all).serving ∙ served_later n past further in
+            let knows = (calls m k (ticket_facts v first) n all p c l h there).knows in
+            let waiting = ap (λ (e : Entries). is_waiting_with t e.tickets) waits ∙ eq-eqb t t refl in
+            let is = waits_at v first p t c l h (stands_so (ticket_table v first) (ticket_notes v first) c l h p _ _ (λ e. is_waiting_with t e.tickets) waiting _ knows) in
             let now = after m (at_first m n) all in
+            let at = ap (λ o. (moves_at m now p Step o).outcome) (there ∙ ap (λ l. Some (Calling c l h)) is) in
             let enters = looked V now p t now.words c h (now.words.serving == t) refl in
-            let GrantsAt : Outcome (Answer V) V → Type 0 = λ o. (o ≡ Answered Granted None) ↔ ((after m (at_first m n) past).words.serving + tickets_gone m (seen_after m (opening m n) past) further ≡ t) in
-            subst GrantsAt (sym (ap (λ o. (moves_at m (after m (at_first m n) all) p Step o).outcome) (there ∙ ap (λ k. Some (Calling c k h)) is)))
-            (subst (λ k. ((moves_at m (after m (at_first m n) all) p Step (Some (Calling c (Await t) h))).outcome ≡ Answered Granted None) ↔ (k ≡ t)) served enters);
-        holds = λ p t there. omega (arith, served_later n past further, holds_served n p t (past ++ further) there);
+            let served = (in_order n all).serving ∙ served_later n past further in
+            (λ e. sym served ∙ enters.0 (sym at ∙ e), λ e. at ∙ enters.1 (served ∙ e));
+        holds = λ p t there. omega (arith, served_later n past further, holds_served n p t all there);
       }

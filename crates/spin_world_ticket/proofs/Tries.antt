@@ -18,7 +18,7 @@ use Rattle.spin_world_core.specs.Runs.{opening, own_count}
 use Rattle.spin_world_core.specs.Users.{seen_after}
 use Rattle.spin_world_ticket.specs.Ticket.{asks_of, is_left, is_free, ticket_machine}
 use Rattle.spin_world_ticket.specs.Turns.{FoundNext, TriesByTwoLoads}
-use Rattle.spin_world_core.proofs.Every.{good_first, in_call, state-seen_after, good_after}
+use Rattle.spin_world_core.proofs.Reached.{numbers_are, calls}
 use Rattle.spin_world_ticket.proofs.Owed.{ticket_keeping, ticket_facts}
 
 one_if : (b : Bool) → b ≡ true → ◌≡◌ {A = ℕ} (if b then 1 else 0) 1
@@ -65,16 +65,9 @@ module _ {V : Type 0} (v : V) (first : ℕ) where
   pub by_two_loads : (n : ℕ) (past : List (ℕ × Move TicketCall V)) → TriesByTwoLoads (ticket_machine v first) n past
   by_two_loads n past p c l h there asks =
       let m = ticket_machine v first in
-      let k = ticket_keeping v first in
-      let f = ticket_facts v first in
       let now = after m (at_first m n) past in
       let seen = seen_after m (opening m n) past in
-      let state = state-seen_after m (opening m n) past in
-      let here = ap (λ (s : State TicketWords V TicketCall TicketPoint). slice_get s.seats p) state ∙ there in
-      let good = good_after m k f (opening m n) past (good_first m k f n) in
-      let at = in_call m k seen p c l h good here in
-      let serving : seen.state.words.serving ≡ serving_word seen.plain = cc (good.encodes) in
-      let is = ap (λ (s : State TicketWords V TicketCall TicketPoint). s.words.serving) (sym state) ∙ serving in
-      let ends = comes now p c l h seen.plain (seen.span p) at.knows is asks in
-      let at_seat = ap (λ o. (moves_at m now p Step o).outcome) there in
-      ((λ none. at_seat ∙ ends.0 none), (λ one found left. at_seat ∙ ends.1 one found left))
+      let knows = (calls m (ticket_keeping v first) (ticket_facts v first) n past p c l h there).knows in
+      let ends = comes now p c l h seen.plain (seen.span p) knows (cc (numbers_are m (ticket_keeping v first) (ticket_facts v first) n past)) asks in
+      let at = ap (λ o. (moves_at m now p Step o).outcome) there in
+      (λ none. at ∙ ends.0 none, λ one found left. at ∙ ends.1 one found left)
