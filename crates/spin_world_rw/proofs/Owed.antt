@@ -2,7 +2,7 @@
 use Rattle.std.proofs.Common.{◌≡◌, ℕ, ◌+◌, ◌/◌, ◌≤◌, ◌==◌, Bool, true, false, ◌&&◌, ◌||◌, Option, Some, None, List, [], ◌∷◌, ◌++◌, length, nat_lt, refl, ap, sym, ◌∙◌, arith, inl, eq-eqb, length-append}
 use Rattle.std.specs.Prelude.{min, max}
 use Rattle.std.proofs.lemmas.Bool.{lt-ltb, eqb-true, true≢false}
-use Rattle.spin_step.specs.Plain.{Plain, Kind, reading, upgradable, asking, writing, weight, Holder, holder, to_read, to_read_upgradable, to_write, to_upgrade, to_upgrade_asked, Change, gets, releases, turns, apply, is_open, may_come, is_empty, is_holder, is_only, may_turn, without_holder, with_kind, rw_word}
+use Rattle.spin_step.specs.Plain.{Plain, Kind, reading, upgradable, asking, writing, weight, Holder, holder, Ask, to_read, to_read_upgradable, to_write, to_upgrade, to_upgrade_asked, Change, gets, releases, turns, apply, is_open, may_come, is_empty, is_holder, is_only, may_turn, without_holder, with_kind, rw_word}
 use Rattle.spin_step.specs.Parties.{Entries, entries, party_of, IsExclusive}
 use Rattle.spin_step.specs.Steps.{Decides}
 use Rattle.spin_step.specs.Readers.{reader_limit, tells, has_room, read, read_upgradable, write, upgrade, upgrade_asked, released, turned as turned_to}
@@ -23,13 +23,13 @@ use Rattle.spin_world_core.specs.Calls.{Mark}
 use Rattle.spin_world_core.specs.Calls as calls
 use Rattle.spin_world_rw.specs.Kind as kind
 use Rattle.spin_world_core.specs.Acts.{begin_of}
-use Rattle.spin_world_rw.specs.Rw.{granted, act_of, asks_of, rw_table, rw_machine}
+use Rattle.spin_world_rw.specs.Rw.{granted, comes_by, act_of, asks_of, rw_table, rw_machine}
 use Rattle.spin_world_core.proofs.Facts.{LocalInvariant, Facts}
 use Rattle.spin_world_core.proofs.Stands.{holds, entries_at}
 use Rattle.spin_world_core.proofs.Rows.{starts_sound, SoundAt, Row, Point, starts, looked, onward}
 use Rattle.spin_world_core.proofs.Shapes.{AimsAt, Notes, keeping_of, Means, OwesAt, answers_by, OwesSoon, BeginsAt, Pays, CallOf, AtPoint}
 use Rattle.spin_world_core.proofs.Operating.{fits_act, one_place, operates_by}
-use Rattle.spin_world_core.proofs.Usual.{no_queue, means_word, exchanges_now, retries_soon}
+use Rattle.spin_world_core.proofs.Usual.{no_queue, means_word, exchanges_now, retries_soon, only_left}
 use Rattle.spin_world_core.proofs.Paid.{facts_of}
 
 -- a reader that asked to upgrade gets to write
@@ -63,16 +63,9 @@ writes_nothing : (p : ℕ) (s : Plain) → entries p s ≡ entries_at p (holds a
 writes_nothing p s mine =
     is_holder-own p writing s.holders ∙ (ap (λ (e : Entries). is_holder p writing e.holders) mine ∙ ap (λ b. (b && false) || false) (eq-eqb p p refl))
 
-or_left : (a b : Bool) → b ≡ false → (a || b) ≡ true → a ≡ true
-or_left true b none e = refl
-or_left false b none e = absurd (true≢false (sym e ∙ none))
-
 module _ {V : Type 0} (v : V) (cap : ℕ) where
   abbrev IsMeant : ℕ → Plain → Change → Option ℕ → Type 0
   IsMeant p s c o = Means (rw_table v cap) (rw_notes v cap) p s c (λ k. k) o
-
-  word_is : (s : Plain) (w : ℕ) → w ∷ [] ≡ rw_word s ∷ [] → rw_word s ≡ w
-  word_is s w e = cc (e)
 
   -- The shape after a step
 
@@ -88,9 +81,6 @@ module _ {V : Type 0} (v : V) (cap : ℕ) where
   turned : (s : Plain) (p : ℕ) (k l : Kind) → Within cap s → Within cap (record s { holders = with_kind p k l s.holders })
   turned s p k l shape = with_holders s (with_kind p k l s.holders) shape (omega (arith, length-with_kind p k l s.holders, shape.few))
 
-  fewer : (s : Plain) (p : ℕ) (k : Kind) → Within cap s → is_holder p k s.holders ≡ true → Within cap (record s { holders = without_holder p k s.holders })
-  fewer s p k shape found = with_holders s (without_holder p k s.holders) shape (omega (arith, length-without_holder p k s.holders found, shape.few))
-
   -- What the step functions mean
 
   decides : (p : ℕ) (s : Plain) (c : Change) (o : Option ℕ) → party_of c ≡ p → Decides s c rw_word o → (is_open s c ≡ true → Within cap (apply s c)) → IsMeant p s c o
@@ -98,7 +88,7 @@ module _ {V : Type 0} (v : V) (cap : ℕ) where
 
   module _ {c : CallOf ℕ RwPoint (Answer V)} {l : RwPoint} {h : Option Hold} {s : Plain} {w : ℕ} {span : List Mark} {row : Row} (p : ℕ) (at : AtPoint (rw_table v cap) (rw_notes v cap) p c l h s w span row) where
     word : rw_word s ≡ w
-    word = word_is s w at.encodes
+    word = cc (at.encodes)
 
     read_means : IsMeant p s (gets p to_read) (read cap w)
     read_means = decides p s (gets p to_read) (read cap w) refl (rw_read-grants s p w cap (one_of_each s at.exclusive) at.shape.room word) (λ may. one_more s p reading at.shape may)
@@ -122,7 +112,7 @@ module _ {V : Type 0} (v : V) (cap : ℕ) where
         ((refl, may), ap (λ n. n ∷ []) (rw_turn-gives s p j k w more word may), turned s p j k at.shape)
 
     release_means : (k : Kind) → is_holder p k s.holders ≡ true → IsMeant p s (releases p k) (Some (released k w))
-    release_means k found = ((refl, found), ap (λ n. n ∷ []) (rw_release-gives s p k w word found), fewer s p k at.shape found)
+    release_means k found = ((refl, found), ap (λ n. n ∷ []) (rw_release-gives s p k w word found), with_holders s (without_holder p k s.holders) at.shape (omega (arith, length-without_holder p k s.holders found, at.shape.few)))
 
     -- What holders find
 
@@ -165,90 +155,48 @@ module _ {V : Type 0} (v : V) (cap : ℕ) where
   abbrev Soon : ℕ → ℕ → RwCall → RwPoint → Option Hold → Type 0
   Soon k w c l h = answers_by (rw_table v cap) k w c l h ≡ true
 
-  lets_in : (s : Plain) (w : ℕ) → IsExclusive s → Within cap s → rw_word s ≡ w → may_come reading s ≡ true → has_room reading w cap ≡ true
-  lets_in s w order shape is may = sym (read-word s w cap (one_of_each s order) shape.room is) ∙ may
+  -- of a call that comes so
+  module _ (c : RwCall) (f : ℕ → Option ℕ) (ask : Ask) (held : Hold) (comes : (n : ℕ) → act_of {V = V} cap c (Exchange n) None ≡ comes_by f ask held (Continue First) (Exchange n))
+      (w to : ℕ) (room : f w ≡ Some to) where
+    comes_now : Soon 1 w c (Exchange w) None
+    comes_now = exchanges_now (rw_table v cap) c None Exchange f (λ p. gets p ask) (λ n. granted held) (Continue First) w to room comes 0 refl
 
-  lets_in_upgradable : (s : Plain) (w : ℕ) → IsExclusive s → Within cap s → rw_word s ≡ w → may_come upgradable s ≡ true → has_room upgradable w cap ≡ true
-  lets_in_upgradable s w order shape is may = sym (upgradable_read-word s w cap (one_of_each s order) shape.room is) ∙ may
+    comes_soon : (n : ℕ) → Soon 2 w c (Exchange n) None
+    comes_soon n = retries_soon (rw_table v cap) c None Exchange f (λ p. gets p ask) (λ n. granted held) (Continue First) w to room comes 0 refl n
 
-  module _ (w : ℕ) (room : has_room reading w cap ≡ true) where
-    reads_now : Soon 1 w Read (Exchange w) None
-    reads_now = exchanges_now (rw_table v cap) Read None Exchange (read cap) (λ p. gets p to_read) (λ m. granted hold.Read) (Continue First) w (w + weight reading) (rw room refl) (λ m. refl) 0 refl
+  module _ {c : CallOf ℕ RwPoint (Answer V)} {l : RwPoint} {h : Option Hold} {s : Plain} {w : ℕ} {span : List Mark} {row : Row} (p : ℕ) (at : AtPoint (rw_table v cap) (rw_notes v cap) p c l h s w span row) where
+    reads : may_come reading s ≡ true → read cap w ≡ Some (w + weight reading)
+    reads may = rw (sym (read-word s w cap (one_of_each s at.exclusive) at.shape.room (word p at)) ∙ may) refl
 
-    reads_soon : (n : ℕ) → Soon 2 w Read (Exchange n) None
-    reads_soon n = retries_soon (rw_table v cap) Read None Exchange (read cap) (λ p. gets p to_read) (λ m. granted hold.Read) (Continue First) w (w + weight reading) (rw room refl) (λ m. refl) 0 refl n
-
-  module _ (w : ℕ) (room : has_room upgradable w cap ≡ true) where
-    may_upgrade_now : Soon 1 w UpgradeableRead (Exchange w) None
-    may_upgrade_now =
-        exchanges_now (rw_table v cap) UpgradeableRead None Exchange (read_upgradable cap) (λ p. gets p to_read_upgradable) (λ m. granted hold.Upgradable) (Continue First) w (w + weight upgradable) (rw room refl) (λ m. refl) 0 refl
-
-    may_upgrade_soon : (n : ℕ) → Soon 2 w UpgradeableRead (Exchange n) None
-    may_upgrade_soon n =
-        retries_soon (rw_table v cap) UpgradeableRead None Exchange (read_upgradable cap) (λ p. gets p to_read_upgradable) (λ m. granted hold.Upgradable) (Continue First) w (w + weight upgradable) (rw room refl) (λ m. refl) 0 refl n
+    reads_upgradable : may_come upgradable s ≡ true → read_upgradable cap w ≡ Some (w + weight upgradable)
+    reads_upgradable may = rw (sym (upgradable_read-word s w cap (one_of_each s at.exclusive) at.shape.room (word p at)) ∙ may) refl
 
   soon : (p : ℕ) (c : RwCall) (l : RwPoint) (h : Option Hold) (s : Plain) (w : ℕ) (span : List Mark)
       → OwesSoon (rw_table v cap) (rw_notes v cap) p c l h s w span
-  soon p Read (Exchange n) None s w span = λ at free. reads_soon w (lets_in s w at.exclusive at.shape (word p at) free) n
-  soon p Read l None s w span = λ at free. let room = lets_in s w at.exclusive at.shape (word p at) free in rw room (reads_now w room)
-  soon p UpgradeableRead (Exchange n) None s w span = λ at free. may_upgrade_soon w (lets_in_upgradable s w at.exclusive at.shape (word p at) free) n
-  soon p UpgradeableRead l None s w span = λ at free. let room = lets_in_upgradable s w at.exclusive at.shape (word p at) free in rw room (may_upgrade_now w room)
-  soon p Write l None s w span = λ at free. let zero : (w == 0) ≡ true = sym (empty-word s.holders w (word_is s w at.encodes)) ∙ free in rw zero refl
+  soon p Read (Exchange n) None s w span = λ at free. comes_soon Read (read cap) to_read hold.Read (λ n. refl) w _ (reads p at free) n
+  soon p Read l None s w span = λ at free. rw (reads p at free) (comes_now Read (read cap) to_read hold.Read (λ n. refl) w _ (reads p at free))
+  soon p UpgradeableRead (Exchange n) None s w span = λ at free.
+      comes_soon UpgradeableRead (read_upgradable cap) to_read_upgradable hold.Upgradable (λ n. refl) w _ (reads_upgradable p at free) n
+  soon p UpgradeableRead l None s w span = λ at free.
+      let room = reads_upgradable p at free in rw room (comes_now UpgradeableRead (read_upgradable cap) to_read_upgradable hold.Upgradable (λ n. refl) w _ room)
+  soon p Write l None s w span = λ at free. let zero : (w == 0) ≡ true = sym (empty-word s.holders w (word p at)) ∙ free in rw zero refl
   soon p Upgrade Asking (Some hold.Upgradable) s w span = λ at free.
-      let open_now = or_left (is_only p asking s.holders) (is_holder p writing s.holders) (writes_nothing p s at.known.stand) free in
-      let six : w ≡ weight asking = eqb-true w (weight asking) (sym (only_asking-word s p w (one_of_each s at.exclusive) (holder_by p asking s at.known.stand) (word_is s w at.encodes)) ∙ open_now) in
+      let open_now = only_left (is_only p asking s.holders) (is_holder p writing s.holders) (writes_nothing p s at.known.stand) free in
+      let six : w ≡ weight asking = eqb-true w (weight asking) (sym (only_asking-word s p w (one_of_each s at.exclusive) (holder_by p asking s at.known.stand) (word p at)) ∙ open_now) in
       ap (λ k. answers_by (rw_table v cap) 2 k Upgrade Asking (Some hold.Upgradable)) six
   soon p Upgrade l (Some hold.Upgradable) s w span = λ at free.
-      let two : w ≡ weight upgradable = eqb-true w (weight upgradable) (sym (only_upgradable-word s p w (one_of_each s at.exclusive) (holder_by p upgradable s at.known.stand) (word_is s w at.encodes)) ∙ free) in
+      let two : w ≡ weight upgradable = eqb-true w (weight upgradable) (sym (only_upgradable-word s p w (one_of_each s at.exclusive) (holder_by p upgradable s at.known.stand) (word p at)) ∙ free) in
       ap (λ k. answers_by (rw_table v cap) 2 k Upgrade l (Some hold.Upgradable)) two
   soon p _ _ _ s w span = tt
 
   aims : (p : ℕ) (c : RwCall) (l : RwPoint) (h : Option Hold) → AimsAt (rw_table v cap) (rw_notes v cap) p c l h
-  aims p TryRead (Exchange n) None = refl
-  aims p TryRead l None = refl
-  aims p Read (Exchange n) None = refl
-  aims p Read l None = refl
-  aims p TryUpgradeableRead (Exchange n) None = refl
-  aims p TryUpgradeableRead l None = refl
-  aims p UpgradeableRead (Exchange n) None = refl
-  aims p UpgradeableRead l None = refl
-  aims p TryWrite l None = refl
-  aims p TryWriteWeak l None = refl
-  aims p Write l None = refl
-  aims p ReaderCount l None = refl
-  aims p WriterCount l None = refl
-  aims p TryUpgrade l (Some hold.Upgradable) = refl
-  aims p TryUpgradeWeak l (Some hold.Upgradable) = refl
-  aims p Upgrade Asking (Some hold.Upgradable) = refl
-  aims p Upgrade l (Some hold.Upgradable) = refl
-  aims p Downgrade l (Some hold.Write) = refl
-  aims p Downgrade l (Some hold.Upgradable) = refl
-  aims p DowngradeToUpgradeable l (Some hold.Write) = refl
-  aims p Release l (Some hold.Read) = refl
-  aims p Release l (Some hold.Upgradable) = refl
-  aims p Release l (Some hold.Write) = refl
-  aims p _ _ _ = refl
+  aims p TryRead First = elim [ None ↦ refl | Some hold.Read ↦ refl | _ ↦ refl ]
+  aims p _ First = elim [ None ↦ refl | Some hold.Read ↦ refl | _ ↦ refl ]
+  aims p _ _ = elim [ None ↦ refl | Some hold.Read ↦ refl | _ ↦ refl ]
 
   begins : (p : ℕ) (c : RwCall) (h : Option Hold) (s : Plain) → BeginsAt (rw_table v cap) (rw_notes v cap) c h p s (begin_of (rw_table v cap) c h)
-  begins p TryRead None s = (refl, refl, tt, tt)
-  begins p Read None s = (refl, refl, tt, tt)
-  begins p TryUpgradeableRead None s = (refl, refl, tt, tt)
-  begins p UpgradeableRead None s = (refl, refl, tt, tt)
-  begins p TryWrite None s = (refl, refl, tt, tt)
-  begins p TryWriteWeak None s = (refl, refl, tt, tt)
-  begins p Write None s = (refl, refl, tt, tt)
-  begins p ReaderCount None s = (refl, refl, tt, tt)
-  begins p WriterCount None s = (refl, refl, tt, tt)
-  begins p TryUpgrade (Some hold.Upgradable) s = (refl, refl, tt, tt)
-  begins p TryUpgradeWeak (Some hold.Upgradable) s = (refl, refl, tt, tt)
-  begins p Upgrade (Some hold.Upgradable) s = (refl, refl, tt, tt)
-  begins p Downgrade (Some hold.Upgradable) s = (refl, refl, tt, tt)
-  begins p Downgrade (Some hold.Write) s = (refl, refl, tt, tt)
-  begins p DowngradeToUpgradeable (Some hold.Write) s = (refl, refl, tt, tt)
-  begins p Release (Some hold.Read) s = (refl, refl, tt, tt)
-  begins p Release (Some hold.Upgradable) s = (refl, refl, tt, tt)
-  begins p Release (Some hold.Write) s = (refl, refl, tt, tt)
-  begins p _ _ s = tt
+  begins p TryRead = elim [ None ↦ λ s. search | Some hold.Read ↦ λ s. search | _ ↦ λ s. search ]
+  begins p _ = elim [ None ↦ λ s. search | Some hold.Read ↦ λ s. search | _ ↦ λ s. search ]
 
   sound : (p : ℕ) (c : RwCall) (l : RwPoint) (h : Option Hold) → SoundAt kind.rw (asks_of c h) p (point_of v cap c l h)
   sound p Upgrade Asking (Some hold.Upgradable) = (refl, inl refl)

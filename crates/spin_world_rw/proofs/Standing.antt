@@ -1,5 +1,5 @@
 -- What users of a read-write lock rely on.
-use Rattle.std.proofs.Common.{◌≡◌, ℕ, ◌+◌, ◌==◌, ◌↔◌, Bool, true, false, ◌&&◌, ◌||◌, if◌then◌else◌, Option, Some, None, List, [], ◌∷◌, ◌++◌, slice_get, slice_set, refl, ap, sym, ◌∙◌, subst, arith}
+use Rattle.std.proofs.Common.{◌≡◌, ℕ, ◌+◌, ◌==◌, ◌↔◌, Bool, true, false, not, ◌&&◌, ◌||◌, if◌then◌else◌, Option, Some, None, List, [], ◌∷◌, ◌++◌, slice_get, slice_set, refl, ap, sym, ◌∙◌, subst, arith}
 use Rattle.std.proofs.lemmas.Bool.{eqb-true, ne_eqb, true≢false, false≢true}
 use Rattle.spin_step.specs.Plain.{Plain, Kind, reading, upgradable, asking, writing, Holder, Change, is_empty, is_holder, is_only, same_kind, count_kind, rw_word, weight}
 use Rattle.spin_step.specs.Parties.{apply_some, IsOpenStep, Entries, entries, IsExclusive}
@@ -23,21 +23,24 @@ use Rattle.spin_world_rw.specs.declared.rw.RwCall.{RwCall}
 use Rattle.spin_world_rw.specs.declared.rw.RwCall.TheVariants.{TryRead, Read, TryUpgradeableRead, UpgradeableRead, TryUpgrade, TryUpgradeWeak, Upgrade, Downgrade, DowngradeToUpgradeable}
 use Rattle.spin_world_rw.specs.declared.rw.RwPoint.{RwPoint}
 use Rattle.spin_world_rw.specs.declared.rw.RwPoint.TheVariants.{Exchange, Asking}
-use Rattle.spin_world_core.specs.Calls.{Asked, Mark, turns_to, gives_back}
+use Rattle.spin_world_core.specs.Calls.{Mark}
 use Rattle.spin_world_core.specs.Schedules.{State, moves_at, stepped, after, at_first, may_read}
 use Rattle.spin_world_core.specs.Runs.{Seen, scene, opening, entries_of, is_reader}
-use Rattle.spin_world_core.specs.Acts.{becomes, begin_of}
+use Rattle.spin_world_core.specs.Acts.{becomes}
 use Rattle.spin_world_core.specs.Users.{seen_after, passes, ReadsAgreeAcross}
 use Rattle.spin_step.specs.Readers.{upgrade, upgrade_asked}
-use Rattle.spin_world_rw.specs.Rw.{granted, asks_of, rw_table, rw_machine}
+use Rattle.spin_world_rw.specs.Rw.{granted, rw_table, rw_machine}
 use Rattle.spin_world_rw.specs.Standing.{StandTogether, KeepsWritersOut, less, Downgrades, readers_gone, StaysAsking, Opens, converts}
 use Rattle.spin_world_rw.proofs.Owed.{holder_by, rw_notes, rw_keeping, rw_facts}
-use Rattle.spin_world_core.proofs.Stands.{stand_of, entries_at}
-use Rattle.spin_world_core.proofs.Rows.{row_at, looked, starts}
-use Rattle.spin_world_core.proofs.Shapes.{KnowsRow}
+use Rattle.spin_world_core.specs.Machines.{Machine}
+use Rattle.spin_world_core.proofs.Stands.{Stand, holds, holds_and_starves, entries_at}
+use Rattle.spin_world_core.proofs.Rows.{Row}
+use Rattle.spin_world_core.proofs.Shapes.{row_of}
+use Rattle.spin_world_core.proofs.Usual.{never}
+use Rattle.spin_world_core.proofs.Reached.{good, numbers_are, stands, calls, passes_some, passes_all, row_passes, row_tells}
 use Rattle.spin_world_core.proofs.Lists.{get-set_same}
 use Rattle.spin_world_core.proofs.Preserved.{Invariant}
-use Rattle.spin_world_core.proofs.Every.{kept, good_first, standing, in_call, state-seen_after, good_after}
+use Rattle.spin_world_core.proofs.Every.{kept}
 use Rattle.spin_world_core.proofs.Schedules.{after-append}
 use Rattle.spin_world_core.proofs.Guards.{ReadsOn, reads_agree_across, seen_after-append}
 
@@ -70,112 +73,98 @@ came : (V : Type 0) (s : State ℕ V RwCall RwPoint) (p w : ℕ) (c : RwCall) (h
 came V s p w c h lost true never = (λ e. refl, λ e. refl)
 came V s p w c h lost false never = (λ e. absurd (never e), λ e. absurd (true≢false (sym e)))
 
--- a party that has just what its hold says does not ask
+-- a party that asks stands as one that does
+abbrev may_ask : Stand → Bool
+may_ask (holds asking) = true
+may_ask (holds_and_starves k) = true
+may_ask _ = false
+
 another_kind : (b : Bool) → ((b && false) || false) ≡ true → ⊥
 another_kind true e = false≢true e
 another_kind false e = false≢true e
 
-asks_not : (h : Option Hold) (p : ℕ) → is_holder p asking (entries_at p (stand_of h)).holders ≡ true → ⊥
-asks_not (Some hold.Read) p e = another_kind (p == p) e
-asks_not (Some hold.Upgradable) p e = another_kind (p == p) e
-asks_not (Some hold.Write) p e = another_kind (p == p) e
-asks_not _ p e = false≢true e
-
-does_not_ask : (h : Option Hold) (p : ℕ) (s : Plain) → entries p s ≡ entries_at p (stand_of h) → is_holder p asking s.holders ≡ true → ⊥
-does_not_ask h p s mine found = asks_not h p (ap (λ (e : Entries). is_holder p asking e.holders) (sym mine) ∙ (sym (is_holder-own p asking s.holders) ∙ found))
+asking_stand : (p : ℕ) (stand : Stand) → is_holder p asking (entries_at p stand).holders ≡ true → may_ask stand ≡ true
+asking_stand p (holds asking) asks = refl
+asking_stand p (holds_and_starves k) asks = refl
+asking_stand p (holds k) asks = absurd (another_kind (p == p) asks)
+asking_stand p _ asks = absurd (false≢true asks)
 
 module _ {V : Type 0} (v : V) (cap : ℕ) where
-  -- where a call has taken no step, or looks alone, its party has what it held as it began
-  stood : (what : Asked) (c : RwCall) (l : RwPoint) (h : Option Hold) (k : ℕ) (p : ℕ) (s : Plain) (span : List Mark) → KnowsRow (rw_table v cap) (rw_notes v cap) c l h p s span (row_at what h (looked k)) → entries p s ≡ entries_at p (stand_of h)
-  stood (turns_to (Some hold.Write) kind) c l h k p s span knows = knows.0.stand
-  stood (turns_to (Some hold.Upgradable) kind) c l h k p s span knows = knows.0.stand
-  stood (turns_to _ kind) c l h k p s span knows = absurd knows
-  stood (gives_back (Some held)) c l h k p s span knows = knows.0.stand
-  stood (gives_back None) c l h k p s span knows = absurd knows
-  stood _ c l h k p s span knows = knows.0.stand
-
-  stood_first : (c : RwCall) (l : RwPoint) (h : Option Hold) (first : Option RwPoint) (p : ℕ) (s : Plain) (span : List Mark) → KnowsRow (rw_table v cap) (rw_notes v cap) c l h p s span (row_at (asks_of c h) h (starts first)) → entries p s ≡ entries_at p (stand_of h)
-  stood_first c l h None p s span knows = absurd knows
-  stood_first c l h (Some first) p s span knows = stood (asks_of c h) c l h 0 p s span knows
-
   -- a party that asks is in its upgrade, and goes for the word of a reader that is alone and asks
   abbrev Upgrades : State ℕ V RwCall RwPoint → ℕ → RwCall → RwPoint → Option Hold → Type 0
   Upgrades s p c l h = ((moves_at (rw_machine v cap) s p Step (Some (Calling c l h))).outcome ≡ Answered Granted None) ↔ ((s.words == weight asking) ≡ true)
 
-  upgraded : (s : State ℕ V RwCall RwPoint) (p : ℕ) (c : RwCall) (l : RwPoint) (h : Option Hold) (plain : Plain) (span : List Mark) → (rw_keeping v cap).Knows c l h p plain span → is_holder p asking plain.holders ≡ true → Upgrades s p c l h
-  upgraded s p Upgrade Asking (Some hold.Upgradable) plain span knows found = came V s p s.words Upgrade (Some hold.Upgradable) (Continue Asking) (s.words == weight asking) (λ e. absurd (cc (e)))
-  upgraded s p TryRead (Exchange n) None plain span knows found = absurd (does_not_ask None p plain (stood (asks_of TryRead None) TryRead (Exchange n) None 1 p plain span knows) found)
-  upgraded s p Read (Exchange n) None plain span knows found = absurd (does_not_ask None p plain (stood (asks_of Read None) Read (Exchange n) None 1 p plain span knows) found)
-  upgraded s p TryUpgradeableRead (Exchange n) None plain span knows found = absurd (does_not_ask None p plain (stood (asks_of TryUpgradeableRead None) TryUpgradeableRead (Exchange n) None 1 p plain span knows) found)
-  upgraded s p UpgradeableRead (Exchange n) None plain span knows found = absurd (does_not_ask None p plain (stood (asks_of UpgradeableRead None) UpgradeableRead (Exchange n) None 1 p plain span knows) found)
-  upgraded s p c l h plain span knows found = absurd (does_not_ask h p plain (stood_first c l h (begin_of (rw_table v cap) c h) p plain span knows) found)
+  abbrev AsksAt : RwCall → RwPoint → Option Hold → Type 0
+  AsksAt c l h = passes_some (λ row. may_ask row.stand) (row_of (rw_table v cap) (rw_notes v cap) c l h) ≡ true
+
+  asks_at : (p : ℕ) (c : RwCall) (l : RwPoint) (h : Option Hold) (s : Plain) (span : List Mark) → (rw_keeping v cap).Knows c l h p s span → is_holder p asking s.holders ≡ true → AsksAt c l h
+  asks_at p c l h s span knows found =
+      let asks = sym (is_holder-own p asking s.holders) ∙ found in
+      row_passes (rw_table v cap) (rw_notes v cap) c l h p s span (λ row. may_ask row.stand) (λ row stand made. asking_stand p row.stand (ap (λ (e : Entries). is_holder p asking e.holders) (sym stand) ∙ asks)) _ knows
+
+  upgraded : (s : State ℕ V RwCall RwPoint) (p : ℕ) (c : RwCall) (l : RwPoint) (h : Option Hold) → AsksAt c l h → Upgrades s p c l h
+  upgraded s p Upgrade Asking = elim [
+    | Some hold.Upgradable ↦ λ asks. came V s p s.words Upgrade (Some hold.Upgradable) (Continue Asking) (s.words == weight asking) (λ e. absurd (cc (e)))
+    | None ↦ never
+    | _ ↦ never
+  ]
+  upgraded s p _ Asking = elim [ None ↦ never | Some hold.Read ↦ never | _ ↦ never ]
+  upgraded s p _ _ = elim [ None ↦ never | Some hold.Read ↦ never | _ ↦ never ]
 
   -- Over a whole schedule
 
-  good : (n : ℕ) (past : List (ℕ × Move RwCall V)) → Invariant (rw_machine v cap) (rw_keeping v cap) (seen_after (rw_machine v cap) (opening (rw_machine v cap) n) past)
-  good n past =
-      let m = rw_machine v cap in
-      good_after m (rw_keeping v cap) (rw_facts v cap) (opening m n) past (good_first m (rw_keeping v cap) (rw_facts v cap) n)
+  abbrev m : Machine ℕ V RwCall RwPoint (Answer V)
+  m = rw_machine v cap
 
-  words_are : (n : ℕ) (past : List (ℕ × Move RwCall V)) → (after (rw_machine v cap) (at_first (rw_machine v cap) n) past).words ≡ rw_word (seen_after (rw_machine v cap) (opening (rw_machine v cap) n) past).plain
-  words_are n past =
-      let m = rw_machine v cap in
-      let told : (seen_after m (opening m n) past).state.words ≡ rw_word (seen_after m (opening m n) past).plain = cc ((good n past).encodes) in
-      ap (λ (s : State ℕ V RwCall RwPoint). s.words) (sym (state-seen_after m (opening m n) past)) ∙ told
+  words_are : (n : ℕ) (past : List (ℕ × Move RwCall V)) → (after m (at_first m n) past).words ≡ rw_word (seen_after m (opening m n) past).plain
+  words_are n past = cc (numbers_are m (rw_keeping v cap) (rw_facts v cap) n past)
 
-  pub stand_together : (n : ℕ) (past : List (ℕ × Move RwCall V)) → StandTogether cap (after (rw_machine v cap) (at_first (rw_machine v cap) n) past).words (seen_after (rw_machine v cap) (opening (rw_machine v cap) n) past).plain
+  pub stand_together : (n : ℕ) (past : List (ℕ × Move RwCall V)) → StandTogether cap (after m (at_first m n) past).words (seen_after m (opening m n) past).plain
   stand_together n past =
-      let here = good n past in
+      let here = good m (rw_keeping v cap) (rw_facts v cap) n past in
       record { word = words_are n past; writer = here.exclusive.writer; one_upgradable = here.exclusive.one_upgradable; within = omega (arith, here.shape.few, here.shape.room) }
 
-  pub zero_when_free : (n : ℕ) (past : List (ℕ × Move RwCall V)) → ((after (rw_machine v cap) (at_first (rw_machine v cap) n) past).words ≡ 0) ↔ ((seen_after (rw_machine v cap) (opening (rw_machine v cap) n) past).plain.holders ≡ [])
-  zero_when_free n past =
-      let seen = seen_after (rw_machine v cap) (opening (rw_machine v cap) n) past in (
-        λ zero. empty_is seen.plain.holders (empty-word seen.plain.holders 0 (sym (words_are n past) ∙ zero)),
-        λ none. words_are n past ∙ ap word_of none,
-      )
+  pub zero_when_free : (n : ℕ) (past : List (ℕ × Move RwCall V)) → ((after m (at_first m n) past).words ≡ 0) ↔ ((seen_after m (opening m n) past).plain.holders ≡ [])
+  zero_when_free n past = (λ zero. empty_is _ (empty-word _ 0 (sym (words_are n past) ∙ zero)), λ none. words_are n past ∙ ap word_of none)
 
   -- An upgrade opens by releases
 
-  stays_now : (p : ℕ) (seen : Seen ℕ V RwCall RwPoint) (es : List (ℕ × Move RwCall V)) → StaysAsking p (rw_machine v cap) seen es → is_holder p asking seen.plain.holders ≡ true
+  stays_now : (p : ℕ) (seen : Seen ℕ V RwCall RwPoint) (es : List (ℕ × Move RwCall V)) → StaysAsking p m seen es → is_holder p asking seen.plain.holders ≡ true
   stays_now p seen [] stays = stays
   stays_now p seen (e ∷ es) stays = stays.0
 
-  gone_through : (p : ℕ) (seen : Seen ℕ V RwCall RwPoint) (es : List (ℕ × Move RwCall V)) → Invariant (rw_machine v cap) (rw_keeping v cap) seen → StaysAsking p (rw_machine v cap) seen es
-      → (count_kind reading (seen_after (rw_machine v cap) seen es).plain.holders + readers_gone (rw_machine v cap) seen es ≡ count_kind reading seen.plain.holders) × (is_holder p asking (seen_after (rw_machine v cap) seen es).plain.holders ≡ true)
+  gone_through : (p : ℕ) (seen : Seen ℕ V RwCall RwPoint) (es : List (ℕ × Move RwCall V)) → Invariant m (rw_keeping v cap) seen → StaysAsking p m seen es
+      → (count_kind reading (seen_after m seen es).plain.holders + readers_gone m seen es ≡ count_kind reading seen.plain.holders) × (is_holder p asking (seen_after m seen es).plain.holders ≡ true)
   gone_through p seen [] here stays = (omega arith, stays)
   gone_through p seen (e ∷ es) here stays =
-      let m = rw_machine v cap in
       let sc = scene m seen e.0 e.1 in
       let is = kept m (rw_keeping v cap) (rw_facts v cap) seen e.0 e.1 here in
       let rest = gone_through p sc.after es is.good stays.1 in
       let one = goes_some seen.plain p e.0 sc.change here.exclusive stays.0 is.keeps.opens (stays_now p sc.after es stays.1) in
       (omega (arith, rest.0, one), rest.1)
 
-  pub opens_by_releases : (n : ℕ) (past further : List (ℕ × Move RwCall V)) → Opens (rw_machine v cap) n past further
+  pub opens_by_releases : (n : ℕ) (past further : List (ℕ × Move RwCall V)) → Opens m n past further
   opens_by_releases n past further p stays =
-      let m = rw_machine v cap in
       let all = past ++ further in
       let before = seen_after m (opening m n) past in
       let later = seen_after m (opening m n) all in
-      let gone = gone_through p before further (good n past) stays in
+      let gone = gone_through p before further (good m (rw_keeping v cap) (rw_facts v cap) n past) stays in
       let joined = seen_after-append m (opening m n) past further in
       let readers : count_kind reading later.plain.holders + readers_gone m before further ≡ count_kind reading before.plain.holders =
       ap (λ (s : Seen ℕ V RwCall RwPoint). count_kind reading s.plain.holders + readers_gone m before further) joined ∙ gone.0 in
       let found : is_holder p asking later.plain.holders ≡ true = ap (λ (s : Seen ℕ V RwCall RwPoint). is_holder p asking s.plain.holders) joined ∙ gone.1 in
-      let here = good n all in
+      let here = good m (rw_keeping v cap) (rw_facts v cap) n all in
       let alone = alone_when_gone later.plain p here.exclusive found in
       let left : (is_only p asking later.plain.holders ≡ true) ↔ (readers_gone m before further ≡ count_kind reading before.plain.holders) =
       (λ only. let none = alone.0 only in omega (arith, readers, none), λ all_gone. alone.1 (omega (arith, readers, all_gone))) in
       let now = after m (at_first m n) all in
       let told : is_only p asking later.plain.holders ≡ (now.words == weight asking) = only_asking-word later.plain p now.words (one_of_each later.plain here.exclusive) found (sym (words_are n all)) in
-      let state = state-seen_after m (opening m n) all in
       record {
         readers = readers;
         opens = left;
         granted = λ c l h there.
-            let sitting = in_call m (rw_keeping v cap) later p c l h here (ap (λ (s : State ℕ V RwCall RwPoint). slice_get s.seats p) state ∙ there) in
-            let step = upgraded now p c l h later.plain (later.span p) sitting.knows found in
+            let knows = (calls m (rw_keeping v cap) (rw_facts v cap) n all p c l h there).knows in
+            let step = upgraded now p c l h (asks_at p c l h later.plain (later.span p) knows found) in
             let at = ap (λ o. (moves_at m now p Step o).outcome) there in
             (λ e. left.0 (told ∙ step.0 (sym at ∙ e)), λ e. at ∙ step.1 (sym told ∙ left.1 e));
       }
@@ -186,7 +175,7 @@ module _ {V : Type 0} (v : V) (cap : ℕ) where
   seated s p c l h now held same there = get-set_same s.seats p (Holding now) (Calling c l h) there ∙ ap (λ x. Some (Holding x)) same
 
   downgraded : (s : State ℕ V RwCall RwPoint) (p : ℕ) (c : RwCall) (l : RwPoint) (h : Option Hold) (held : Hold) → less c ≡ Some held → slice_get s.seats p ≡ Some (Calling c l h)
-      → ((moves_at (rw_machine v cap) s p Step (Some (Calling c l h))).outcome ≡ Answered Done None) × (slice_get (moves_at (rw_machine v cap) s p Step (Some (Calling c l h))).next.seats p ≡ Some (Holding held))
+      → ((moves_at m s p Step (Some (Calling c l h))).outcome ≡ Answered Done None) × (slice_get (moves_at m s p Step (Some (Calling c l h))).next.seats p ≡ Some (Holding held))
   downgraded s p Downgrade l (Some hold.Write) held is there = (refl, seated s p Downgrade l (Some hold.Write) hold.Read held (cc (is)) there)
   downgraded s p Downgrade l h held is there = (refl, seated s p Downgrade l h hold.Read held (cc (is)) there)
   downgraded s p DowngradeToUpgradeable l h held is there = (refl, seated s p DowngradeToUpgradeable l h hold.Upgradable held (cc (is)) there)
@@ -206,53 +195,37 @@ module _ {V : Type 0} (v : V) (cap : ℕ) where
   holds_after p hold.Read c s is mine = keeps_writers_out p reading s (holder_by p reading s mine)
   holds_after p hold.Upgradable c s is mine = keeps_writers_out p upgradable s (holder_by p upgradable s mine)
   holds_after p held Downgrade s is mine = absurd (cc (is))
-  holds_after p held DowngradeToUpgradeable s is mine = absurd (cc (is))
   holds_after p held _ s is mine = absurd (cc (is))
 
-  pub downgrades : (n : ℕ) (past : List (ℕ × Move RwCall V)) → Downgrades (rw_machine v cap) n past
+  pub downgrades : (n : ℕ) (past : List (ℕ × Move RwCall V)) → Downgrades m n past
   downgrades n past p c l h held is there =
-      let m = rw_machine v cap in
       let all = past ++ (p, Step) ∷ [] in
       let before = seen_after m (opening m n) past in
       let later = seen_after m (opening m n) all in
-      let state = state-seen_after m (opening m n) past in
-      let state_later = state-seen_after m (opening m n) all in
-      let here = ap (λ (s : State ℕ V RwCall RwPoint). slice_get s.seats p) state ∙ there in
       let now = after m (at_first m n) past in
       let step = downgraded now p c l h held is there in
       let at = ap (λ o. (moves_at m now p Step o).outcome) there in
       let seat : slice_get (after m (at_first m n) all).seats p ≡ Some (Holding held) =
       ap (λ (s : State ℕ V RwCall RwPoint). slice_get s.seats p) (after-append m (at_first m n) past ((p, Step) ∷ [])) ∙ (ap (λ o. slice_get (moves_at m now p Step o).next.seats p) there ∙ step.1) in
-      let seat_later = ap (λ (s : State ℕ V RwCall RwPoint). slice_get s.seats p) state_later ∙ seat in
       record {
-        before = holds_there p c l h held before.plain (before.span p) is (in_call m (rw_keeping v cap) before p c l h (good n past) here).knows;
+        before = holds_there p c l h held before.plain (before.span p) is (calls m (rw_keeping v cap) (rw_facts v cap) n past p c l h there).knows;
         done = at ∙ step.0;
         holds = seat;
-        later = holds_after p held c later.plain is (standing m (rw_keeping v cap) later p (Holding held) (good n all) seat_later);
+        later = holds_after p held c later.plain is (stands m (rw_keeping v cap) (rw_facts v cap) n all p (Holding held) seat);
       }
 
   -- Looks across conversions
 
-  reads_there : (p : ℕ) (c : RwCall) (l : RwPoint) (h : Hold) (s : Plain) (span : List Mark) → converts c ≡ true → (rw_keeping v cap).Knows c l (Some h) p s span → is_reader (entries p s) ≡ true
-  reads_there p TryUpgrade l hold.Upgradable s span is knows = ap is_reader knows.0.stand
-  reads_there p TryUpgradeWeak l hold.Upgradable s span is knows = ap is_reader knows.0.stand
-  reads_there p Upgrade Asking hold.Upgradable s span is knows = ap is_reader knows.0.stand
-  reads_there p Upgrade l hold.Upgradable s span is knows = ap is_reader knows.0.stand
-  reads_there p Downgrade l hold.Upgradable s span is knows = ap is_reader knows.0.stand
-  reads_there p Downgrade l hold.Write s span is knows = ap is_reader knows.0.stand
-  reads_there p DowngradeToUpgradeable l hold.Write s span is knows = ap is_reader knows.0.stand
-  reads_there p TryUpgrade l _ s span is knows = absurd knows
-  reads_there p TryUpgradeWeak l _ s span is knows = absurd knows
-  reads_there p Upgrade l _ s span is knows = absurd knows
-  reads_there p Downgrade l _ s span is knows = absurd knows
-  reads_there p DowngradeToUpgradeable l _ s span is knows = absurd knows
-  reads_there p _ l h s span is knows = absurd (false≢true is)
+  reads_there : (p : ℕ) (c : RwCall) (l : RwPoint) (h : Hold) → (not (converts c) || passes_all (λ row. is_reader (entries_at p row.stand)) (row_of (rw_table v cap) (rw_notes v cap) c l (Some h))) ≡ true
+  reads_there p Upgrade Asking = elim [ hold.Read ↦ refl | _ ↦ refl ]
+  reads_there p _ Asking = elim [ hold.Read ↦ refl | _ ↦ refl ]
+  reads_there p _ _ = elim [ hold.Read ↦ refl | _ ↦ refl ]
 
   reads_on : (w : ℕ) (o : Option ℕ) (won lost : Next RwPoint (Answer V)) → ReadsOn won → ReadsOn lost → ReadsOn (becomes {V = V} (λ (k : ℕ). k) w o won lost).next
   reads_on w None won lost on on_lost = on_lost
   reads_on w (Some to) won lost on on_lost = on
 
-  steps_on : (c : RwCall) (l : RwPoint) (h : Hold) (w : ℕ) (value : Option V) → converts c ≡ true → may_read h ≡ true → ReadsOn ((rw_machine v cap).step w value c l (Some h)).next
+  steps_on : (c : RwCall) (l : RwPoint) (h : Hold) (w : ℕ) (value : Option V) → converts c ≡ true → may_read h ≡ true → ReadsOn (m.step w value c l (Some h)).next
   steps_on TryUpgrade l h w value is may = reads_on w (upgrade w) (granted hold.Write) (Answers Refused (Some h)) refl may
   steps_on TryUpgradeWeak l h w value is may = reads_on w (upgrade w) (granted hold.Write) (Answers Refused (Some h)) refl may
   steps_on Upgrade Asking h w value is may = reads_on w (upgrade_asked w) (granted hold.Write) (Continue Asking) refl tt
@@ -262,17 +235,24 @@ module _ {V : Type 0} (v : V) (cap : ℕ) where
   steps_on DowngradeToUpgradeable l h w value is may = refl
   steps_on _ l h w value is may = absurd (false≢true is)
 
-  refuses_on : (c : RwCall) (l : RwPoint) (h : Hold) (next : Next RwPoint (Answer V)) → converts c ≡ true → may_read h ≡ true → (rw_machine v cap).refuse c l (Some h) ≡ Some next → ReadsOn next
+  refuses_on : (c : RwCall) (l : RwPoint) (h : Hold) (next : Next RwPoint (Answer V)) → converts c ≡ true → may_read h ≡ true → m.refuse c l (Some h) ≡ Some next → ReadsOn next
   refuses_on TryUpgradeWeak l h next is may weak = let same : Answers Refused (Some h) ≡ next = cc (weak) in subst (λ (x : Next RwPoint (Answer V)). ReadsOn x) same may
   refuses_on Upgrade Asking h next is may weak = let same : Continue Asking ≡ next = cc (weak) in subst (λ (x : Next RwPoint (Answer V)). ReadsOn x) same tt
   refuses_on Upgrade l h next is may weak = absurd (cc (weak))
-  refuses_on TryUpgrade l h next is may weak = absurd (cc (weak))
   refuses_on Downgrade l hold.Write next is may weak = absurd (cc (weak))
   refuses_on Downgrade l _ next is may weak = absurd (cc (weak))
+  refuses_on TryUpgrade l h next is may weak = absurd (cc (weak))
   refuses_on DowngradeToUpgradeable l h next is may weak = absurd (cc (weak))
   refuses_on _ l h next is may weak = absurd (false≢true is)
 
-  pub looks_agree : (n : ℕ) (past : List (ℕ × Move RwCall V)) → ReadsAgreeAcross converts (rw_machine v cap) n past
+  pub looks_agree : (n : ℕ) (past : List (ℕ × Move RwCall V)) → ReadsAgreeAcross converts m n past
   looks_agree n past =
-      reads_agree_across (rw_machine v cap) (rw_keeping v cap) (rw_facts v cap) converts
-      (record { reads = λ p c l h s span is may knows. reads_there p c l h s span is knows; steps = steps_on; refuses = refuses_on }) n past
+      reads_agree_across m (rw_keeping v cap) (rw_facts v cap) converts
+      (record {
+        reads = λ p c l h s span is may knows.
+            let there = ap (λ b. not b || passes_all (λ row. is_reader (entries_at p row.stand)) (row_of (rw_table v cap) (rw_notes v cap) c l (Some h))) (sym is) ∙ reads_there p c l h in
+            row_tells (rw_table v cap) (rw_notes v cap) c l (Some h) p s span is_reader _ knows there;
+        steps = steps_on;
+        refuses = refuses_on;
+      })
+      n past
