@@ -21,7 +21,7 @@ use Rattle.spin_world_once.specs.declared.once.OnceCall.{OnceCall}
 use Rattle.spin_world_once.specs.declared.once.OnceCall.TheVariants.{CallOnce, TryCallOnceOk, TryCallOnceErr, InitFromRef, Wait, Poll, Get, IsCompleted}
 use Rattle.spin_world_once.specs.declared.once.OncePoint.{OncePoint}
 use Rattle.spin_world_once.specs.declared.once.OncePoint.TheVariants.{Look, TryBegin, Await, Run}
-use Rattle.spin_world_once.specs.Once.{is_there, tells, runs, ends, OnceAct, asks_of, OnceMachine, once_machine}
+use Rattle.spin_world_once.specs.Once.{is_there, tells, runs, ends, OnceAct, asks_of, brings_of, OnceMachine, once_machine}
 use Rattle.spin_world_once.specs.Keeping.{Entries, once_after, RunsClosure, seen_at, has_just_looked, has_closure, MayRunAgain, LooksFirst}
 use Rattle.spin_world_core.proofs.Lists.{get-set_same}
 use Rattle.spin_world_core.proofs.Schedules.{after-append}
@@ -75,14 +75,12 @@ module _ {V : Type 0} (value : Option V) where
   run_clears s p c end made Run h ended = ended
 
   clears_at : (s : OnceState V) (p : ℕ) (c : OnceCall V) (l : OncePoint) (h : Option Hold) → Clears s p c h (m.step s.words s.value c l h)
-  clears_at s p (CallOnce x) l h = run_clears s p (CallOnce x) (ends (Some x) h) (Some x) l h (λ e. absurd (cc (e)))
-  clears_at s p (TryCallOnceOk x) l h = run_clears s p (TryCallOnceOk x) (ends (Some x) h) (Some x) l h (λ e. absurd (cc (e)))
-  clears_at s p TryCallOnceErr l h = run_clears s p TryCallOnceErr (ends {V = V} None h) None l h (λ e. refl)
-  clears_at s p (InitFromRef x) l h = run_clears s p (InitFromRef x) (ends (Some x) h) (Some x) l h (λ e. absurd (cc (e)))
   clears_at s p Wait l h = λ e. absurd (told (unplaced s) p Wait h s.value (is_there s.words) (Continue Look) (λ f. cc (f)) e)
   clears_at s p Poll l h = λ e. absurd (told (unplaced s) p Poll h s.value (is_there s.words) _ (waited (unplaced s) p Poll h s.value (s.words == 0) (Answers NoValue h) (Continue Look) (λ f. cc (f)) (λ f. cc (f))) e)
   clears_at s p Get l h = λ e. absurd (told (unplaced s) p Get h s.value (is_there s.words) (Answers NoValue h) (λ f. cc (f)) e)
   clears_at s p IsCompleted l h = λ e. absurd (cc (e))
+  clears_at s p TryCallOnceErr l h = run_clears s p TryCallOnceErr (ends {V = V} None h) None l h (λ e. refl)
+  clears_at s p c l h = run_clears s p c (ends (brings_of c) h) (brings_of c) l h (λ e. absurd (cc (e)))
 
   clears_seat : (s : OnceState V) (p : ℕ) (o : Option (Seat (OnceCall V) OncePoint)) → (moves_at m s p Step o).outcome ≡ outcome.Answered Failed None → (moves_at m s p Step o).next.words ≡ 0
   clears_seat s p (Some (Calling c l h)) e = words-goes_on _ p c h (m.step s.words s.value c l h).next ∙ clears_at s p c l h e
@@ -173,11 +171,9 @@ module _ {V : Type 0} (value : Option V) where
   begins_at _ l h p w e = absurd (cc (e))
 
   looked_at : (c : OnceCall V) (h : Option Hold) (p : ℕ) (s : Plain) (span : List Mark) → (once_keeping value).Knows c TryBegin h p s span → has_just_looked p span ≡ true
-  looked_at (CallOnce x) None p s span knows = knows.1
-  looked_at (TryCallOnceOk x) None p s span knows = knows.1
-  looked_at TryCallOnceErr None p s span knows = knows.1
-  looked_at (InitFromRef x) None p s span knows = knows.1
-  looked_at _ _ p s span knows = absurd knows
+  looked_at (CallOnce x) None p s span knows = search
+  looked_at _ None p s span knows = search
+  looked_at _ _ p s span knows = search
 
   looks_at : (seen : Seen ℕ V (OnceCall V) OncePoint) (p : ℕ) (o : Option (Seat (OnceCall V) OncePoint)) → Invariant m (once_keeping value) seen → slice_get seen.state.seats p ≡ o → step_at m seen.state p Step o ≡ Some (gets p to_begin)
       → has_just_looked p (seen.span p) ≡ true

@@ -1,7 +1,7 @@
 -- What users of a `Once` rely on: one closure at a time, and one value.
-use Rattle.std.proofs.Common.{◌≡◌, ℕ, ◌==◌, true, false, is_some, Option, Some, None, List, [], ◌∷◌, ◌++◌, slice_get, refl, ap, sym, ◌∙◌, subst}
+use Rattle.std.proofs.Common.{◌≡◌, ℕ, ◌==◌, true, false, not, is_some, Option, Some, None, List, [], ◌∷◌, ◌++◌, slice_get, refl, ap, sym, ◌∙◌, subst}
 use Rattle.std.proofs.lemmas.Bool.{and_parts, false≢true}
-use Rattle.spin_step.specs.Plain.{Plain, Phase, running, complete, to_begin, Change, gets, completes, is_running, is_complete, once_word}
+use Rattle.spin_step.specs.Plain.{Plain, Phase, running, complete, to_begin, Change, gets, completes, is_running, is_complete, is_empty, once_word}
 use Rattle.spin_step.specs.Parties.{IsOpenStep}
 use Rattle.spin_step.proofs.Onces.{phase_word}
 use Rattle.spin_world_core.specs.declared.answer.Answer.{Answer}
@@ -24,15 +24,20 @@ use Rattle.spin_world_once.specs.declared.once.OnceCall.{OnceCall}
 use Rattle.spin_world_once.specs.declared.once.OnceCall.TheVariants.{CallOnce, TryCallOnceOk, TryCallOnceErr, InitFromRef, Wait, Poll, Get, IsCompleted}
 use Rattle.spin_world_once.specs.declared.once.OncePoint.{OncePoint}
 use Rattle.spin_world_once.specs.declared.once.OncePoint.TheVariants.{Look, Run}
-use Rattle.spin_world_once.specs.Once.{runs, ends, OnceAct, asks_of, brings_of, OnceMachine, once_machine}
+use Rattle.spin_world_once.specs.Once.{runs, ends, OnceAct, asks_of, brings_of, once_table, OnceMachine, once_machine}
 use Rattle.spin_world_once.specs.Keeping.{Entries, once_after, seen_at, keeps_value, is_shared, ValueStays, RunsClosure, answer_of, OneRuns, wants_value, has_closure, AnswersAtOnce, GetAgrees}
 use Rattle.spin_world_core.proofs.Schedules.{after-append}
 use Rattle.spin_world_core.proofs.Facts.{InCall}
-use Rattle.spin_world_core.proofs.Preserved.{Invariant, in_call}
-use Rattle.spin_world_core.proofs.Every.{kept, good_first, good_after, state-seen_after}
+use Rattle.spin_world_core.proofs.Rows.{Row}
+use Rattle.spin_world_core.proofs.Shapes.{row_of}
+use Rattle.spin_world_core.proofs.Preserved.{Invariant}
+use Rattle.spin_world_core.proofs.Every.{kept, state-seen_after}
+use Rattle.spin_world_core.proofs.Reached as reached
+use Rattle.spin_world_core.proofs.Usual.{never}
+use Rattle.spin_world_core.proofs.Reached.{numbers_are, calls, passes_some, row_passes}
 use Rattle.spin_world_core.proofs.Paid.{uncompleted}
 use Rattle.spin_world_core.proofs.Values as values
-use Rattle.spin_world_once.proofs.Owed.{IsFree, none_writes, once_keeping, once_facts}
+use Rattle.spin_world_once.proofs.Owed.{IsFree, none_writes, once_notes, once_keeping, once_facts}
 
 not_running : (phase : Phase) (q : ℕ) → is_complete phase ≡ true → is_running q phase ≡ true → ⊥
 not_running complete q there runs = false≢true runs
@@ -60,7 +65,7 @@ module _ {V : Type 0} (value : Option V) where
   Good seen = Invariant m (once_keeping value) seen
 
   pub good : (n : ℕ) (past : Entries V) → Good (seen_at m n past)
-  good n past = good_after m (once_keeping value) (once_facts value) (opening m n) past (good_first m (once_keeping value) (once_facts value) n)
+  good n past = reached.good m (once_keeping value) (once_facts value) n past
 
   -- what an event leaves as the value last written, where there is one
   written_stays : (seen : OnceSeen V) (p : ℕ) (o : Outcome (Answer V) V) (move : Move (OnceCall V) V) (put : Option V) (step : Option Change) → IsFree seen.plain → keeps_value move ≡ true
@@ -105,39 +110,25 @@ module _ {V : Type 0} (value : Option V) where
   -- a party that stands at the end of a closure runs it, and nobody else does
 
   runs_at : (c : OnceCall V) (h : Option Hold) (p : ℕ) (s : Plain) (span : List Mark) → (once_keeping value).Knows c Run h p s span → (own p span ≡ gets p to_begin ∷ []) × (s.phase ≡ running p)
-  runs_at (CallOnce v) None p s span knows = (knows.0.made, knows.1)
-  runs_at (TryCallOnceOk v) None p s span knows = (knows.0.made, knows.1)
-  runs_at TryCallOnceErr None p s span knows = (knows.0.made, knows.1)
-  runs_at (InitFromRef v) None p s span knows = (knows.0.made, knows.1)
-  runs_at _ _ p s span knows = absurd knows
+  runs_at (CallOnce v) None p s span knows = search
+  runs_at _ None p s span knows = search
+  runs_at _ _ p s span knows = search
 
-  begun_not : (p : ℕ) (span : List Mark) (l : OncePoint) → own p span ≡ [] → own p span ≡ gets p to_begin ∷ [] → l ≡ Run
-  begun_not p span l none has = absurd (cc (none, has))
-
-  at_run : (c : OnceCall V) (l : OncePoint) (h : Option Hold) (p : ℕ) (s : Plain) (span : List Mark) → (once_keeping value).Knows c l h p s span → own p span ≡ gets p to_begin ∷ [] → l ≡ Run
-  at_run (CallOnce v) Run None p s span knows has = refl
-  at_run (CallOnce v) l None p s span knows has = begun_not p span l knows.0.made has
-  at_run (TryCallOnceOk v) Run None p s span knows has = refl
-  at_run (TryCallOnceOk v) l None p s span knows has = begun_not p span l knows.0.made has
-  at_run TryCallOnceErr Run None p s span knows has = refl
-  at_run TryCallOnceErr l None p s span knows has = begun_not p span l knows.0.made has
-  at_run (InitFromRef v) Run None p s span knows has = refl
-  at_run (InitFromRef v) l None p s span knows has = begun_not p span l knows.0.made has
-  at_run Wait Look None p s span knows has = begun_not p span Look knows.0.made has
-  at_run Poll Look None p s span knows has = begun_not p span Look knows.0.made has
-  at_run Get Look None p s span knows has = begun_not p span Look knows.0.made has
-  at_run IsCompleted Look None p s span knows has = begun_not p span Look knows.0.made has
-  at_run _ _ _ p s span knows has = absurd knows
+  at_run : (p : ℕ) (c : OnceCall V) (l : OncePoint) (h : Option Hold) → passes_some (λ row. not (is_empty (row.made p))) (row_of (once_table value) (once_notes value) c l h) ≡ true → l ≡ Run
+  at_run p (CallOnce v) Look = elim [ None ↦ never | _ ↦ never ]
+  at_run p c Run = λ h made. refl
+  at_run p _ Look = elim [ None ↦ never | _ ↦ never ]
+  at_run p _ _ = elim [ None ↦ never | _ ↦ never ]
 
   module _ (n : ℕ) (past : Entries V) (p : ℕ) (c : OnceCall V) (l : OncePoint) (h : Option Hold) (there : slice_get (once_after m n past).seats p ≡ Some (Calling c l h)) where
     in_call_at : InCall m (once_keeping value) p c l h (seen_at m n past).plain (seen_at m n past).state.value (seen_at m n past).state.words ((seen_at m n past).span p)
-    in_call_at = in_call m (once_keeping value) (seen_at m n past) p c l h (good n past) (ap (λ (s : OnceState V). slice_get s.seats p) (state-seen_after m (opening m n) past) ∙ there)
+    in_call_at = calls m (once_keeping value) (once_facts value) n past p c l h there
 
     phase_at : l ≡ Run → (seen_at m n past).plain.phase ≡ running p
     phase_at e = (runs_at c h p (seen_at m n past).plain ((seen_at m n past).span p) (subst (λ l. (once_keeping value).Knows c l h p (seen_at m n past).plain ((seen_at m n past).span p)) e in_call_at.knows)).1
 
     word_at : (once_after m n past).words ≡ once_word (seen_at m n past).plain
-    word_at = let word : (seen_at m n past).state.words ≡ once_word (seen_at m n past).plain = cc (in_call_at.encodes) in ap (λ (s : OnceState V). s.words) (sym (state-seen_after m (opening m n) past)) ∙ word
+    word_at = cc (numbers_are m (once_keeping value) (once_facts value) n past)
 
     -- where the word is another than 1 no closure runs
     pub not_at_run : (w : ℕ) → (w == 1) ≡ false → (once_after m n past).words ≡ w → l ≡ Run → ⊥
@@ -154,7 +145,10 @@ module _ {V : Type 0} (value : Option V) where
         }
 
   runs_there : (n : ℕ) (past : Entries V) (p : ℕ) (runs : RunsClosure m n past p) → runs.point ≡ Run
-  runs_there n past p runs = at_run runs.call runs.point runs.held p (seen_at m n past).plain ((seen_at m n past).span p) (in_call_at n past p runs.call runs.point runs.held runs.calls).knows runs.begun
+  runs_there n past p runs =
+      let knows = (in_call_at n past p runs.call runs.point runs.held runs.calls).knows in
+      at_run p runs.call runs.point runs.held
+      (row_passes (once_table value) (once_notes value) runs.call runs.point runs.held p _ _ (λ row. not (is_empty (row.made p))) (λ row stand made. ap (λ (cs : List Change). not (is_empty cs)) (sym made ∙ runs.begun)) _ knows)
 
   phase_of : (n : ℕ) (past : Entries V) (p : ℕ) → RunsClosure m n past p → (seen_at m n past).plain.phase ≡ running p
   phase_of n past p runs = phase_at n past p runs.call runs.point runs.held runs.calls (runs_there n past p runs)
@@ -171,11 +165,9 @@ module _ {V : Type 0} (value : Option V) where
   ended s p _ h closure = refl
 
   closure_at : (c : OnceCall V) (h : Option Hold) (p : ℕ) (s : Plain) (span : List Mark) → (once_keeping value).Knows c Run h p s span → has_closure (asks_of c) ≡ true
-  closure_at (CallOnce v) None p s span knows = refl
-  closure_at (TryCallOnceOk v) None p s span knows = refl
-  closure_at TryCallOnceErr None p s span knows = refl
-  closure_at (InitFromRef v) None p s span knows = refl
-  closure_at _ _ p s span knows = absurd knows
+  closure_at (CallOnce v) None p s span knows = search
+  closure_at _ None p s span knows = search
+  closure_at _ _ p s span knows = search
 
   ends_here : (n : ℕ) (past : Entries V) (p : ℕ) (c : OnceCall V) (h : Option Hold) → slice_get (once_after m n past).seats p ≡ Some (Calling c Run h) → outcome_after m n past p Step ≡ outcome.Answered (answer_of (brings_of c)) None
   ends_here n past p c h there =
@@ -196,21 +188,19 @@ module _ {V : Type 0} (value : Option V) where
   -- then the word is 2
   made_at : (n : ℕ) (past : Entries V) (v : V) → (once_after m n past).value ≡ Some v → (once_after m n past).words ≡ 2
   made_at n past v is =
-      let seen = seen_at m n past in
-      let word : seen.state.words ≡ once_word seen.plain = cc ((good n past).encodes) in
-      ap (λ (s : OnceState V). s.words) (sym (state-seen_after m (opening m n) past)) ∙ (word ∙ made_word seen.plain.phase ((a_value_stays n past []).complete ∙ ap is_some is))
+      let word : (once_after m n past).words ≡ once_word (seen_at m n past).plain = cc (numbers_are m (once_keeping value) (once_facts value) n past) in
+      word ∙ made_word (seen_at m n past).plain.phase ((a_value_stays n past []).complete ∙ ap is_some is)
 
   run_told : (end : OnceAct) (made : Option V) (l : OncePoint) (h : Option Hold) (v : V) → (l ≡ Run → ⊥) → (step_with (Some v) made (completes_by (runs end l h)) (step_by one_number 0 (runs end l h) 2)).next ≡ Answers (Value v) h
   run_told end made Run h v not = absurd (not refl)
   run_told end made _ h v not = refl
 
   told_at : (c : OnceCall V) (l : OncePoint) (h : Option Hold) (v : V) → wants_value (asks_of c) ≡ true → (l ≡ Run → ⊥) → (m.step 2 (Some v) c l h).next ≡ Answers (Value v) h
-  told_at (CallOnce x) l h v wants not = run_told (ends (Some x) h) (Some x) l h v not
-  told_at (TryCallOnceOk x) l h v wants not = run_told (ends (Some x) h) (Some x) l h v not
-  told_at TryCallOnceErr l h v wants not = run_told (ends {V = V} None h) None l h v not
-  told_at (InitFromRef x) l h v wants not = run_told (ends (Some x) h) (Some x) l h v not
   told_at IsCompleted l h v wants not = absurd (false≢true wants)
-  told_at _ l h v wants not = refl
+  told_at Wait l h v wants not = refl
+  told_at Poll l h v wants not = refl
+  told_at Get l h v wants not = refl
+  told_at c l h v wants not = run_told (ends (brings_of c) h) (brings_of c) l h v not
 
   value_told : (n : ℕ) (past : Entries V) (p : ℕ) (v : V) (c : OnceCall V) (l : OncePoint) (h : Option Hold) → (once_after m n past).value ≡ Some v → slice_get (once_after m n past).seats p ≡ Some (Calling c l h)
       → wants_value (asks_of c) ≡ true → outcome_after m n past p Step ≡ outcome.Answered (Value v) None

@@ -54,19 +54,12 @@ RunsAt TryBegin p s span = has_just_looked p span ≡ true
 RunsAt Run p s span = s.phase ≡ running p
 RunsAt l p s span = Unit {0}
 
-abbrev pub KnowsAt : {V : Type 0} → OnceCall V → OncePoint → ℕ → Plain → List Mark → Type 0
-KnowsAt (CallOnce v) l p s span = RunsAt l p s span
-KnowsAt (TryCallOnceOk v) l p s span = RunsAt l p s span
-KnowsAt TryCallOnceErr l p s span = RunsAt l p s span
-KnowsAt (InitFromRef v) l p s span = RunsAt l p s span
-KnowsAt c l p s span = Unit {0}
-
 -- nobody ever holds it or queues
 abbrev pub IsFree : Plain → Type 0
 IsFree s = (s.holders ≡ []) × (s.tickets ≡ [])
 
 abbrev pub once_notes : {V : Type 0} (value : Option V) → Notes (once_table value)
-once_notes value = record { Shape = λ s. IsFree s; point = point_of; Knows = λ c l h p s span. KnowsAt c l p s span }
+once_notes value = record { Shape = λ s. IsFree s; point = point_of; Knows = λ c l h p s span. RunsAt l p s span }
 
 word_is : (s : Plain) (w : ℕ) → w ∷ [] ≡ once_word s ∷ [] → phase_word s.phase ≡ w
 word_is s w e = cc (e)
@@ -100,26 +93,7 @@ module _ {V : Type 0} (value : Option V) where
     may_end : s.phase ≡ running p → is_running p s.phase ≡ true
     may_end mine = ap (is_running p) mine ∙ eq-eqb p p refl
 
-  -- a call whose closure gives a value
-  gives_owes : (p : ℕ) (x : V) (l : OncePoint) (h : Option Hold) (s : Plain) (w : ℕ) (span : List Mark) → OwesAt (once_table value) (once_notes value) p (CallOnce x) l h s w span
-  gives_owes p x Look None s w span = λ at. ((λ e. (refl, inr (inl refl), inl (inl (made p at e)))), (λ e. (refl, refl, tt, tt, looks_now p s span)))
-  gives_owes p x TryBegin None s w span = λ at.
-      (begin_means p at, (refl, refl, tt, tt, refl), λ closed. branches p at None plain (misses (gets p to_begin)) (is_there w) (tells None) (Continue Await) (λ e. (refl, inr (inl refl), inl (inl (made p at e)))) (λ e. (refl, refl, tt, tt, tt)))
-  gives_owes p x Await None s w span = λ at.
-      ((λ e. (refl, inr (inl refl), inl (inl (made p at e)))), (λ e. branches p at None look goes (w == 0) (Continue TryBegin) (Continue Await) (λ f. (refl, refl, tt, tt, looks_now p s span)) (λ f. (refl, refl, tt, tt, tt))))
-  gives_owes p x Run None s w span = λ at. let is = end_means p at 2 (completes p) at.knows (refl, may_end p at at.knows) refl at.shape in (is.0, is.1, (refl, inl refl, inl (inr (refl, refl))))
-  gives_owes p x _ (Some h) s w span = tt
-
   owes : (p : ℕ) (c : OnceCall V) (l : OncePoint) (h : Option Hold) (s : Plain) (w : ℕ) (span : List Mark) → OwesAt (once_table value) (once_notes value) p c l h s w span
-  owes p (CallOnce x) l h s w span = gives_owes p x l h s w span
-  owes p (TryCallOnceOk x) l h s w span = gives_owes p x l h s w span
-  owes p (InitFromRef x) l h s w span = gives_owes p x l h s w span
-  owes p TryCallOnceErr Look None s w span = λ at. ((λ e. (refl, inl refl, inl (inl (made p at e)))), (λ e. (refl, refl, tt, tt, looks_now p s span)))
-  owes p TryCallOnceErr TryBegin None s w span = λ at.
-      (begin_means p at, (refl, refl, tt, tt, refl), λ closed. branches p at None plain (misses (gets p to_begin)) (is_there w) (tells None) (Continue Await) (λ e. (refl, inl refl, inl (inl (made p at e)))) (λ e. (refl, refl, tt, tt, tt)))
-  owes p TryCallOnceErr Await None s w span = λ at.
-      ((λ e. (refl, inl refl, inl (inl (made p at e)))), (λ e. branches p at None look goes (w == 0) (Continue TryBegin) (Continue Await) (λ f. (refl, refl, tt, tt, looks_now p s span)) (λ f. (refl, refl, tt, tt, tt))))
-  owes p TryCallOnceErr Run None s w span = λ at. let is = end_means p at 0 (fails p) at.knows (refl, may_end p at at.knows) refl at.shape in (is.0, is.1, (refl, inl refl, inl (refl, refl)))
   owes p Wait Look None s w span = λ at. ((λ e. (refl, inl refl, inl (inl (made p at e)))), (λ e. (refl, refl, tt, tt, tt)))
   owes p Poll Look None s w span = λ at. (
     (λ e. (refl, inl refl, inl (inl (made p at e)))),
@@ -127,7 +101,23 @@ module _ {V : Type 0} (value : Option V) where
   )
   owes p Get Look None s w span = λ at. ((λ e. (refl, inl refl, inl (inl (made p at e)))), (λ e. (refl, inl refl, inl (complete-word s.phase w (word p at) ∙ e))))
   owes p IsCompleted Look None s w span = λ at. (refl, inl refl, inl (complete-word s.phase w (word p at)))
-  owes p _ _ _ s w span = tt
+  owes p Wait _ _ s w span = tt
+  owes p Poll _ _ s w span = tt
+  owes p Get _ _ s w span = tt
+  owes p IsCompleted _ _ s w span = tt
+  owes p _ l (Some h) s w span = tt
+  owes p TryCallOnceErr Run None s w span = λ at. let is = end_means p at 0 (fails p) at.knows (refl, may_end p at at.knows) refl at.shape in (is.0, is.1, (refl, inl refl, inl (refl, refl)))
+  owes p _ Run None s w span = λ at. let is = end_means p at 2 (completes p) at.knows (refl, may_end p at at.knows) refl at.shape in (is.0, is.1, (refl, inl refl, inl (inr (refl, refl))))
+  owes p _ Look None s w span = λ at. ((λ e. (refl, search (inl, inr), inl (inl (made p at e)))), (λ e. (refl, refl, tt, tt, looks_now p s span)))
+  owes p _ TryBegin None s w span = λ at. (
+    begin_means p at,
+    (refl, refl, tt, tt, refl),
+    λ closed. branches p at None plain (misses (gets p to_begin)) (is_there w) (tells None) (Continue Await) (λ e. (refl, search (inl, inr), inl (inl (made p at e)))) (λ e. (refl, refl, tt, tt, tt)),
+  )
+  owes p _ Await None s w span = λ at. (
+    (λ e. (refl, search (inl, inr), inl (inl (made p at e)))),
+    (λ e. branches p at None look goes (w == 0) (Continue TryBegin) (Continue Await) (λ f. (refl, refl, tt, tt, looks_now p s span)) (λ f. (refl, refl, tt, tt, tt))),
+  )
 
   -- an answer that is the value comes where there is one
 
@@ -155,14 +145,11 @@ module _ {V : Type 0} (value : Option V) where
   runs_tell end Run h p s w e ended = ended
 
   tells_at : (p : ℕ) (c : OnceCall V) (l : OncePoint) (h : Option Hold) (s : Plain) (w : ℕ) → w ∷ [] ≡ once_word s ∷ [] → TellsBy V one_number 0 (act_of c l h) p s w
-  tells_at p (CallOnce x) l h s w e = runs_tell (ends (Some x) h) l h p s w e refl
-  tells_at p (TryCallOnceOk x) l h s w e = runs_tell (ends (Some x) h) l h p s w e refl
-  tells_at p TryCallOnceErr l h s w e = runs_tell (ends {V = V} None h) l h p s w e tt
-  tells_at p (InitFromRef x) l h s w e = runs_tell (ends (Some x) h) l h p s w e refl
   tells_at p Wait l h s w e = tells_if s.phase (is_there w) h (Continue Look) (is_made s w e) tt
   tells_at p Poll l h s w e = tells_if s.phase (is_there w) h _ (is_made s w e) (tells_poll s.phase (w == 0) h)
   tells_at p Get l h s w e = tells_if s.phase (is_there w) h (Answers NoValue h) (is_made s w e) tt
   tells_at p IsCompleted l h s w e = tt
+  tells_at p c l h s w e = runs_tell (ends (brings_of c) h) l h p s w e search
 
   -- where there is nothing or a value, the word is 0 or 2
   by_word : (P : ℕ → Type 0) (phase : Phase) (w : ℕ) → phase_word phase ≡ w → (is_nothing phase || is_complete phase) ≡ true → P 0 → P 2 → P w
@@ -177,30 +164,20 @@ module _ {V : Type 0} (value : Option V) where
   abbrev Soon : OnceCall V → OncePoint → ℕ → Type 0
   Soon c l w = answers_by (once_table value) 4 w c l None ≡ true
 
-  gives_soon : (p : ℕ) (x : V) (l : OncePoint) (h : Option Hold) (s : Plain) (w : ℕ) (span : List Mark) → OwesSoon (once_table value) (once_notes value) p (CallOnce x) l h s w span
-  gives_soon p x Look None s w span = λ at may. by_word (Soon (CallOnce x) Look) s.phase w (word p at) may refl refl
-  gives_soon p x TryBegin None s w span = λ at may. by_word (Soon (CallOnce x) TryBegin) s.phase w (word p at) may refl refl
-  gives_soon p x Await None s w span = λ at may. by_word (Soon (CallOnce x) Await) s.phase w (word p at) may refl refl
-  gives_soon p x Run None s w span = λ at may. refl
-  gives_soon p x _ (Some h) s w span = tt
-
   soon : (p : ℕ) (c : OnceCall V) (l : OncePoint) (h : Option Hold) (s : Plain) (w : ℕ) (span : List Mark) → OwesSoon (once_table value) (once_notes value) p c l h s w span
-  soon p (CallOnce x) l h s w span = gives_soon p x l h s w span
-  soon p (TryCallOnceOk x) l h s w span = gives_soon p x l h s w span
-  soon p (InitFromRef x) l h s w span = gives_soon p x l h s w span
-  soon p TryCallOnceErr Look None s w span = λ at may. by_word (Soon TryCallOnceErr Look) s.phase w (word p at) may refl refl
-  soon p TryCallOnceErr TryBegin None s w span = λ at may. by_word (Soon TryCallOnceErr TryBegin) s.phase w (word p at) may refl refl
-  soon p TryCallOnceErr Await None s w span = λ at may. by_word (Soon TryCallOnceErr Await) s.phase w (word p at) may refl refl
-  soon p TryCallOnceErr Run None s w span = λ at may. refl
   soon p Wait Look None s w span = λ at may. made_word (Soon Wait Look) s.phase w (word p at) may refl
+  soon p Wait _ _ s w span = tt
   soon p Poll Look None s w span = λ at may. by_word (Soon Poll Look) s.phase w (word p at) may refl refl
-  soon p _ _ _ s w span = tt
+  soon p Poll _ _ s w span = tt
+  soon p Get l h s w span = tt
+  soon p IsCompleted l h s w span = tt
+  soon p c l (Some h) s w span = tt
+  soon p c Run None s w span = λ at may. refl
+  soon p c l None s w span = λ at may. by_word (Soon c l) s.phase w (word p at) may refl refl
 
   begins : (p : ℕ) (c : OnceCall V) (h : Option Hold) (s : Plain) → BeginsAt (once_table value) (once_notes value) c h p s (begin_of (once_table value) c h)
-  begins p (CallOnce x) None s = (refl, refl, tt, tt)
-  begins p _ None s = (refl, refl, tt, tt)
-  begins p (CallOnce x) (Some h) s = tt
-  begins p _ (Some h) s = tt
+  begins p (CallOnce x) = elim [ None ↦ λ s. search | _ ↦ λ s. search ]
+  begins p _ = elim [ None ↦ λ s. search | _ ↦ λ s. search ]
 
   no_aim : (c : OnceCall V) (made : List Change) → aim_of (asks_of c) made ≡ None
   no_aim (CallOnce x) made = refl
@@ -210,58 +187,26 @@ module _ {V : Type 0} (value : Option V) where
   strong (CallOnce x) = refl
   strong _ = refl
 
-  runs_fit : (end : OnceAct) (p : ℕ) (l : OncePoint) (h : Option Hold) → fits_act once looks end p ≡ true → fits_act once looks (runs end l h) p ≡ true
-  runs_fit end p TryBegin h ended = refl
-  runs_fit end p Run h ended = ended
-  runs_fit end p _ h ended = refl
-
   fits_looks : (p : ℕ) (c : OnceCall V) (l : OncePoint) (h : Option Hold) → fits_act once looks (act_of c l h) p ≡ true
-  fits_looks p (CallOnce x) l h = runs_fit (ends (Some x) h) p l h refl
-  fits_looks p (TryCallOnceOk x) l h = runs_fit (ends (Some x) h) p l h refl
-  fits_looks p TryCallOnceErr l h = runs_fit (ends {V = V} None h) p l h refl
-  fits_looks p (InitFromRef x) l h = runs_fit (ends (Some x) h) p l h refl
-  fits_looks p _ l h = refl
-
-  runs_complete : (end : OnceAct) (p : ℕ) (l : OncePoint) (h : Option Hold) (x : Option V) → CompletesRight end p x → CompletesRight (runs end l h) p x
-  runs_complete end p TryBegin h x ended = refl
-  runs_complete end p Run h x ended = ended
-  runs_complete end p _ h x ended = refl
+  fits_looks p (CallOnce x) Run h = refl
+  fits_looks p _ Run h = refl
+  fits_looks p _ _ h = refl
 
   completes_right : (p : ℕ) (c : OnceCall V) (l : OncePoint) (h : Option Hold) → CompletesRight (act_of c l h) p (brings_of c)
-  completes_right p (CallOnce x) l h = runs_complete (ends (Some x) h) p l h (Some x) (refl, λ e. refl)
-  completes_right p (TryCallOnceOk x) l h = runs_complete (ends (Some x) h) p l h (Some x) (refl, λ e. refl)
-  completes_right p TryCallOnceErr l h = runs_complete (ends {V = V} None h) p l h None (refl, λ e. absurd (false≢true e))
-  completes_right p (InitFromRef x) l h = runs_complete (ends (Some x) h) p l h (Some x) (refl, λ e. refl)
-  completes_right p _ l h = refl
-
-  run_sound : (what : Asked) (end : ℕ → Change) (said : Said) (p : ℕ) (l : OncePoint) (h : Option Hold) → SoundAt once what p (looked 0) → SoundAt once what p (run_point end said Run None) → SoundAt once what p (run_point end said l h)
-  run_sound what end said p l (Some h) searches ended = tt
-  run_sound what end said p Run None searches ended = ended
-  run_sound what end said p _ None searches ended = searches
+  completes_right p (CallOnce x) Run h = search
+  completes_right p _ Run h = search
+  completes_right p _ _ h = search
 
   sound : (p : ℕ) (c : OnceCall V) (l : OncePoint) (h : Option Hold) → SoundAt once (asks_of c) p (point_of c l h)
-  sound p (CallOnce x) l h = run_sound initializes completes gives_value p l h refl (refl, inl refl)
-  sound p (TryCallOnceOk x) l h = run_sound initializes completes gives_value p l h refl (refl, inl refl)
-  sound p TryCallOnceErr l h = run_sound fails_to_initialize fails failed p l h refl (refl, inl refl)
-  sound p (InitFromRef x) l h = run_sound initializes completes gives_value p l h refl (refl, inl refl)
-  sound p Wait Look None = refl
-  sound p Poll Look None = refl
-  sound p Get Look None = refl
-  sound p IsCompleted Look None = refl
-  sound p _ _ _ = tt
+  sound p (CallOnce x) Run = elim [ None ↦ search (inl) | _ ↦ search (inl) ]
+  sound p _ Run = elim [ None ↦ search (inl) | _ ↦ search (inl) ]
+  sound p _ _ = elim [ None ↦ search (inl) | _ ↦ search (inl) ]
 
   module _ (p q : ℕ) (s : Plain) (step : Option Change) (r : StepKind) (span : List Mark) (ne : q ≡ p → ⊥) (may : IsOpenStep s q step) where
     runs-on : (l : OncePoint) → RunsAt l p s span → RunsAt l p (apply_some s step) (mark_of q step r s ∷ span)
     runs-on TryBegin has = ap (λ b. if b then is_look r else has_just_looked p span) (ne_eqb q p ne) ∙ has
     runs-on Run runs = runs-others s p q step ne may runs
     runs-on _ knows = tt
-
-    others : (c : OnceCall V) (l : OncePoint) → KnowsAt c l p s span → KnowsAt c l p (apply_some s step) (mark_of q step r s ∷ span)
-    others (CallOnce x) l knows = runs-on l knows
-    others (TryCallOnceOk x) l knows = runs-on l knows
-    others TryCallOnceErr l knows = runs-on l knows
-    others (InitFromRef x) l knows = runs-on l knows
-    others _ l knows = tt
 
   first_word : (opening : Option V) → opening_word opening ∷ [] ≡ once_word (opening_plain (once_machine opening)) ∷ []
   first_word None = refl
@@ -292,7 +237,7 @@ module _ {V : Type 0} (value : Option V) where
           sound = sound;
           aims = λ p c l h. aimless p (asks_of c) _ _ (no_aim c);
           begins = begins;
-          others = λ p q c l h s step r span ne free may belongs knows. others p q s step r span ne may c l knows;
+          others = λ p q c l h s step r span ne free may belongs knows. runs-on p q s step r span ne may l knows;
           owes = owes;
           soon = soon;
         };

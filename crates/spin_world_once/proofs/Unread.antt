@@ -13,7 +13,7 @@ use Rattle.spin_world_once.specs.declared.once.OnceCall.{OnceCall}
 use Rattle.spin_world_once.specs.declared.once.OnceCall.TheVariants.{CallOnce, TryCallOnceOk, TryCallOnceErr, InitFromRef, Wait, Poll, Get, IsCompleted}
 use Rattle.spin_world_once.specs.declared.once.OncePoint.{OncePoint}
 use Rattle.spin_world_once.specs.declared.once.OncePoint.TheVariants.{Look, TryBegin, Await, Run}
-use Rattle.spin_world_once.specs.Once.{is_there, tells, runs, ends, OnceAct, once_machine}
+use Rattle.spin_world_once.specs.Once.{is_there, tells, runs, ends, OnceAct, brings_of, once_machine}
 use Rattle.spin_world_once.specs.Keeping.{LooksWhereComplete}
 
 module _ {V : Type 0} (u v : Option V) where
@@ -52,11 +52,8 @@ pub looks_where_complete : {V : Type 0} (value : Option V) → LooksWhereComplet
 looks_where_complete {V} value = λ w u v c l h other. at w u v c l h (ne_eqb w 2 other)
   where
     at : (w : ℕ) (u v : Option V) (c : OnceCall V) (l : OncePoint) (h : Option Hold) → is_there w ≡ false → (once_machine value).step w u c l h ≡ (once_machine value).step w v c l h
-    at w u v (CallOnce x) l h closed = run_unread u v (ends (Some x) h) (Some x) l h w closed refl
-    at w u v (TryCallOnceOk x) l h closed = run_unread u v (ends (Some x) h) (Some x) l h w closed refl
-    at w u v TryCallOnceErr l h closed = run_unread u v (ends {V = V} None h) None l h w closed refl
-    at w u v (InitFromRef x) l h closed = run_unread u v (ends (Some x) h) (Some x) l h w closed refl
     at w u v Wait l h closed = stayed u v w (unread u v (is_there w) h (Continue Look) closed refl)
     at w u v Poll l h closed = stayed u v w (unread u v (is_there w) h _ closed (branch u v (w == 0) (Answers NoValue h) (Continue Look) refl refl))
     at w u v Get l h closed = stayed u v w (unread u v (is_there w) h (Answers NoValue h) closed refl)
     at w u v IsCompleted l h closed = refl
+    at w u v c l h closed = run_unread u v (ends (brings_of c) h) (brings_of c) l h w closed refl
