@@ -31,8 +31,8 @@ use Rattle.spin_world_core.proofs.Facts.{LocalInvariant, Facts}
 use Rattle.spin_world_core.proofs.Stands.{absent}
 use Rattle.spin_world_core.proofs.Rows.{goes, Point, nowhere, looked, onward, SoundAt}
 use Rattle.spin_world_core.proofs.Shapes.{Notes, keeping_of, OwesAt, goes_by, answers_by, OwesSoon, BeginsAt, Pays}
-use Rattle.spin_world_core.proofs.Usual.{aimless, two, no_holders, branches}
-use Rattle.spin_world_core.proofs.Operating.{fits_act, IsPlace, operates_by}
+use Rattle.spin_world_core.proofs.Usual.{aimless, two, no_holders, branches, only_left, two_places}
+use Rattle.spin_world_core.proofs.Operating.{fits_act, operates_by}
 use Rattle.spin_world_core.proofs.Paid.{facts_of}
 
 abbrev pub point_of : BarrierPoint → Option Hold → Point
@@ -97,11 +97,6 @@ no_arrival : (b : Bool) → (b && false) ≡ false
 no_arrival true = refl
 no_arrival false = refl
 
-places : (i : ℕ) → IsPlace barrier_memory i
-places zero = record { stays = λ w. refl; put = λ k w. refl }
-places (suc zero) = record { stays = λ w. refl; put = λ k w. refl }
-places (suc (suc i)) = record { stays = λ w. refl; put = λ k w. refl }
-
 module _ (n : ℕ) where
   pub is_barrier : (s : Plain) (w : BarrierWords) → w.count ∷ w.generation ∷ [] ≡ count_word s ∷ generation_word s ∷ [] → IsOf n s → IsBarrier s n w.count w.generation
   is_barrier s w encodes of = record { group = of.group; counts = cc (encodes); generations = cc (encodes) }
@@ -148,7 +143,7 @@ module _ (n : ℕ) where
   soon p c (Leave g) None s w span = λ at may.
       let is = is_barrier s w at.encodes at.shape in
       let waits = at.knows in
-      let leaves : may_leave s waits.number ≡ true = sym (or-false (may_leave s waits.number)) ∙ (ap (λ b. may_leave s waits.number || b) (sym waits.follows) ∙ subst (λ k. (may_leave s k || is_leading s k) ≡ true) waits.is_number may) in
+      let leaves = only_left (may_leave s waits.number) (is_leading s waits.number) waits.follows (subst (λ k. (may_leave s k || is_leading s k) ≡ true) waits.is_number may) in
       let past : is_past g w.generation ≡ true = barrier_may_leave-tells s waits.number n w.count w.generation g is waits.come waits.found ∙ leaves in
       ap (λ b. goes_by {A = Answer ℕ} (either b (Answers Follower None) (Continue (Leave g))) true (λ l. answers_by (barrier_table n) 3 w c l None)) past
   soon p _ _ (Some h) s w span = tt
@@ -174,7 +169,7 @@ module _ (n : ℕ) where
   barrier_pays =
       record {
         fits = λ p c l h. fits_all p l h;
-        operates = operates_by (barrier_table n) places;
+        operates = operates_by (barrier_table n) (two_places _ _ _ _ (λ k w. refl) (λ k w. refl));
         first = two 0 0 (0 % max n 1) ((0 / max n 1) % 2 ^ 64) (omega (arith, mod-le 0 (max n 1))) (omega (arith, div-le_self 0 (max n 1)));
         shape_first = record { no_holders = refl; group = refl };
         numbers_tell = two_words;

@@ -78,20 +78,13 @@ module _ {V : Type 0} (v : V) where
   soon p _ _ _ s w span = tt
 
   aims : (p : ℕ) (c : FlagCall) (l : FlagPoint) (h : Option Hold) → AimsAt (flag_table v) (flag_notes v) p c l h
-  aims p Lock First None = refl
-  aims p Lock Second None = refl
-  aims p TryLock l None = refl
-  aims p TryLockWeak l None = refl
-  aims p IsLocked l None = refl
-  aims p Release l (Some Write) = refl
-  aims p _ _ _ = refl
+  aims p Lock First = elim [ None ↦ refl | Some Write ↦ refl | _ ↦ refl ]
+  aims p _ First = elim [ None ↦ refl | Some Write ↦ refl | _ ↦ refl ]
+  aims p _ _ = elim [ None ↦ refl | Some Write ↦ refl | _ ↦ refl ]
 
   begins : (p : ℕ) (c : FlagCall) (h : Option Hold) (s : Plain) → BeginsAt (flag_table v) (flag_notes v) c h p s (begin_of (flag_table v) c h)
-  begins p Release (Some Write) s = (refl, refl, tt, tt)
-  begins p Release _ s = tt
-  begins p Lock None s = (refl, refl, tt, tt)
-  begins p _ None s = (refl, refl, tt, tt)
-  begins p _ (Some h) s = tt
+  begins p Lock = elim [ None ↦ λ s. search | Some Write ↦ λ s. search | _ ↦ λ s. search ]
+  begins p _ = elim [ None ↦ λ s. search | Some Write ↦ λ s. search | _ ↦ λ s. search ]
 
   fits_all : (p : ℕ) (c : FlagCall) (l : FlagPoint) (h : Option Hold) → fits_act flag (asks_of c h) (act_of {V = V} c l h) p ≡ true
   fits_all p Lock First h = refl
@@ -106,12 +99,9 @@ module _ {V : Type 0} (v : V) where
   operates : Operates (flag_table v)
   operates Lock First h true one = refl
   operates Lock First h false one = refl
-  operates TryLock l h true one = refl
-  operates TryLock l h false one = refl
-  operates TryLockWeak l h true one = refl
-  operates TryLockWeak l h false one = refl
   operates Lock Second h w one = refl
-  operates _ l h w one = refl
+  operates _ l h true one = refl
+  operates _ l h _ one = refl
 
   pub flag_pays : Pays (flag_table v) (flag_notes v)
   flag_pays =
