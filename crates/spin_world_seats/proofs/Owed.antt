@@ -102,20 +102,13 @@ module _ (n : ℕ) where
   soon p _ _ _ s w span = tt
 
   aims : (p : ℕ) (c : SeatsCall) (l : SeatsPoint) (h : Option Hold) → AimsAt (seats_table n) (seats_notes n) p c l h
-  aims p TryEnter First None = refl
-  aims p TryEnter (Exchange k) None = refl
-  aims p Enter First None = refl
-  aims p Enter (Exchange k) None = refl
-  aims p Count l None = refl
-  aims p Leave l (Some Read) = refl
-  aims p _ _ _ = refl
+  aims p TryEnter First = elim [ None ↦ refl | Some Read ↦ refl | _ ↦ refl ]
+  aims p _ First = elim [ None ↦ refl | Some Read ↦ refl | _ ↦ refl ]
+  aims p _ _ = elim [ None ↦ refl | Some Read ↦ refl | _ ↦ refl ]
 
   begins : (p : ℕ) (c : SeatsCall) (h : Option Hold) (s : Plain) → BeginsAt (seats_table n) (seats_notes n) c h p s (begin_of (seats_table n) c h)
-  begins p TryEnter None s = (refl, refl, tt, tt)
-  begins p Enter None s = (refl, refl, tt, tt)
-  begins p Count None s = (refl, refl, tt, tt)
-  begins p Leave (Some Read) s = (refl, refl, tt, tt)
-  begins p _ _ s = tt
+  begins p TryEnter = elim [ None ↦ λ s. search | Some Read ↦ λ s. search | _ ↦ λ s. search ]
+  begins p _ = elim [ None ↦ λ s. search | Some Read ↦ λ s. search | _ ↦ λ s. search ]
 
   fits_all : (p : ℕ) (c : SeatsCall) (l : SeatsPoint) (h : Option Hold) → fits_act kind.seats (asks_of c h) (act_of n c l h) p ≡ true
   fits_all p TryEnter First h = refl
