@@ -97,7 +97,8 @@ only_left a b none is = sym (or-false a) ∙ (ap (λ c. a || c) (sym none) ∙ i
 
 -- The words: each of two numbers has its place
 
-pub two_places : {W : Type 0} (a b : W → ℕ) (f g : ℕ → W → W) → ((k : ℕ) (w : W) → a (f k w) ∷ b (f k w) ∷ [] ≡ k ∷ b w ∷ []) → ((k : ℕ) (w : W) → a (g k w) ∷ b (g k w) ∷ [] ≡ a w ∷ k ∷ []) → (i : ℕ) → IsPlace (two_numbers a b f g) i
+pub two_places : {W : Type 0} (a b : W → ℕ) (f g : ℕ → W → W) → ((k : ℕ) (w : W) → a (f k w) ∷ b (f k w) ∷ [] ≡ k ∷ b w ∷ [])
+    → ((k : ℕ) (w : W) → a (g k w) ∷ b (g k w) ∷ [] ≡ a w ∷ k ∷ []) → (i : ℕ) → IsPlace (two_numbers a b f g) i
 two_places a b f g first second zero = record { stays = λ w. refl; put = first }
 two_places a b f g first second (suc zero) = record { stays = λ w. refl; put = second }
 two_places a b f g first second _ = record { stays = λ w. refl; put = λ k w. refl }

@@ -82,7 +82,7 @@ not_entered p t [] mine = refl
 not_entered p t (k ∷ ts) mine = not_first (k.party == p) p t k ts mine
 
 enters_first : (p t : ℕ) (s : Plain) → entries p s ≡ entries_at p (queues t false) → (is_open s (gets p to_enter) || is_first p true s.tickets) ≡ true → is_open s (gets p to_enter) ≡ true
-enters_first p t s mine free = only_left (is_open s (gets p to_enter)) (is_first p true s.tickets) (not_entered p t s.tickets (ap (λ (e : Entries). e.tickets) mine)) free
+enters_first p t s mine free = only_left _ _ (not_entered p t s.tickets (ap (λ (e : Entries). e.tickets) mine)) free
 
 module _ {V : Type 0} (v : V) (first : ℕ) where
   abbrev IsMeant : ℕ → Plain → Change → (ℕ → TicketWords) → Option ℕ → Type 0
@@ -207,18 +207,15 @@ module _ {V : Type 0} (v : V) (first : ℕ) where
   begins p IsLocked None s = (refl, refl, tt, tt)
   begins p _ _ s = tt
 
-  fits_looks : (p : ℕ) (l : TicketPoint) (h : Option Hold) → fits_act ticket looks (act_of {V = V} l h) p ≡ true
-  fits_looks p LoadNext h = refl
-  fits_looks p _ h = refl
-
-  never_weak : (c : TicketCall) (h : Option Hold) → may_be_weak (asks_of c h) ≡ false
-  never_weak Lock h = refl
-  never_weak _ h = refl
+  fits_all : (p : ℕ) (c : TicketCall) (l : TicketPoint) (h : Option Hold) → fits_act ticket (asks_of c h) (act_of {V = V} l h) p ≡ true
+  fits_all p Lock LoadNext h = refl
+  fits_all p _ LoadNext h = refl
+  fits_all p _ _ h = refl
 
   sound : (p : ℕ) (c : TicketCall) (l : TicketPoint) (h : Option Hold) → SoundAt ticket (asks_of c h) p (point_of c l h)
-  sound p Lock LoadNext = elim [ None ↦ search (inl) | Some (hold.Ticket u) ↦ search (inl) | _ ↦ search (inl) ]
-  sound p _ LoadNext = elim [ None ↦ search (inl) | Some (hold.Ticket u) ↦ search (inl) | _ ↦ search (inl) ]
-  sound p _ _ = elim [ None ↦ search (inl) | Some (hold.Ticket u) ↦ search (inl) | _ ↦ search (inl) ]
+  sound p Lock (Await t) = elim [ None ↦ (refl, inl refl) | Some (hold.Ticket u) ↦ tt | _ ↦ tt ]
+  sound p _ LoadNext = elim [ None ↦ search | Some (hold.Ticket u) ↦ search | _ ↦ search ]
+  sound p _ _ = elim [ None ↦ search | Some (hold.Ticket u) ↦ search | _ ↦ search ]
 
   others : (p q : ℕ) (ne : q ≡ p → ⊥) (l : TicketPoint) (h : Option Hold) (s : Plain) (step : Option Change) (r : StepKind) (span : List Mark) → Queue s → IsOpenStep s q step → KnowsAt l h p s span → KnowsAt l h p (apply_some s step) (mark_of q step r s ∷ span)
   others p q ne (TryLoadServing n) h s step r span queue may knows = (stays-other n q s step r span queue.numbered may knows.0, inr knows.1, own_count-other p q step r s span ne ∙ knows.2)
@@ -230,7 +227,7 @@ module _ {V : Type 0} (v : V) (first : ℕ) where
   pub ticket_pays : Pays (ticket_table v first) (ticket_notes v first)
   ticket_pays =
       record {
-        fits = λ p c l h. fits_strong ticket (asks_of c h) (act_of {V = V} l h) p (never_weak c h) (fits_looks p l h);
+        fits = fits_all;
         operates = operates_by (ticket_table v first) (two_places _ _ _ _ (λ k w. refl) (λ k w. refl));
         first = two first first first (first - 0) refl (omega arith);
         shape_first = record { no_holders = refl; numbered = (omega arith, tt); in_range = λ some. absurd (cc (some)) };

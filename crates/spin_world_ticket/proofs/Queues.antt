@@ -35,7 +35,7 @@ use Rattle.spin_world_core.proofs.Shapes.{row_of}
 use Rattle.spin_world_core.proofs.Every.{kept}
 use Rattle.spin_world_core.proofs.Guards.{seen_after-append}
 use Rattle.spin_world_core.proofs.Usual.{never}
-use Rattle.spin_world_core.proofs.Reached.{good, numbers_are, stands, calls, passes_some, stands_so}
+use Rattle.spin_world_core.proofs.Reached.{good, numbers_are, stands, StandsSo, calls_so}
 
 one_goes : (c : Change) → gone c ≡ bit (serves_one c)
 one_goes (gets p ask) = refl
@@ -45,15 +45,18 @@ moves_some : (s : Plain) (p : ℕ) (step : Option Change) → Numbered s → IsO
 moves_some s p None numbered may = omega arith
 moves_some s p (Some c) numbered may = omega (arith, serving-moves s c numbered may.1, one_goes c)
 
--- the first of these tickets has this number, and has not entered
-abbrev is_waiting_with : ℕ → List Queued → Bool
-is_waiting_with t [] = false
-is_waiting_with t (k ∷ ks) = not k.entered && (k.number == t)
+-- the first of a party's tickets has this number, and has not entered
+abbrev has_not_entered : ℕ → List Queued → Bool
+has_not_entered t [] = false
+has_not_entered t (k ∷ ks) = not k.entered && (k.number == t)
+
+abbrev is_waiting_with : ℕ → Entries → Bool
+is_waiting_with t e = has_not_entered t e.tickets
 
 -- a party that waits with a ticket stands where its lock looks whether it is served
 module _ {V : Type 0} (v : V) (first p t : ℕ) where
   waits_at : (c : TicketCall) (l : TicketPoint) (h : Option Hold)
-      → passes_some (λ row. is_waiting_with t (entries_at p row.stand).tickets) (row_of (ticket_table v first) (ticket_notes v first) c l h) ≡ true → l ≡ Await t
+      → StandsSo (ticket_table v first) (ticket_notes v first) (is_waiting_with t) p c l h → l ≡ Await t
   waits_at Lock (Await u) = elim [ None ↦ λ waits. ap Await (eqb-true u t waits) | Some (hold.Ticket u) ↦ never | _ ↦ never ]
   waits_at _ (Await u) = elim [ None ↦ never | Some (hold.Ticket u) ↦ never | _ ↦ never ]
   waits_at _ _ = elim [ None ↦ never | Some (hold.Ticket u) ↦ never | _ ↦ never ]
@@ -70,7 +73,8 @@ module _ {V : Type 0} (v : V) (first : ℕ) where
   abbrev k : LocalInvariant V TicketCall TicketPoint
   k = ticket_keeping v first
 
-  served : (seen : Seen TicketWords V TicketCall TicketPoint) (es : List (ℕ × Move TicketCall V)) → Invariant m k seen → serving_word (seen_after m seen es).plain ≡ serving_word seen.plain + tickets_gone m seen es
+  served : (seen : Seen TicketWords V TicketCall TicketPoint) (es : List (ℕ × Move TicketCall V)) → Invariant m k seen
+      → serving_word (seen_after m seen es).plain ≡ serving_word seen.plain + tickets_gone m seen es
   served seen [] good = omega arith
   served seen (e ∷ es) good =
       let here = kept m k (ticket_facts v first) seen e.0 e.1 good in
@@ -83,14 +87,17 @@ module _ {V : Type 0} (v : V) (first : ℕ) where
       record { next = cc (numbers); serving = cc (numbers); numbered = g.shape.numbered; one_entered = g.exclusive.one_entered }
 
   -- whoever holds has the ticket that is served
-  holds_served : (n p t : ℕ) (past : List (ℕ × Move TicketCall V)) → slice_get (after m (at_first m n) past).seats p ≡ Some (Holding (hold.Ticket t)) → serving_word (seen_after m (opening m n) past).plain ≡ t
+  holds_served : (n p t : ℕ) (past : List (ℕ × Move TicketCall V)) → slice_get (after m (at_first m n) past).seats p ≡ Some (Holding (hold.Ticket t))
+      → serving_word (seen_after m (opening m n) past).plain ≡ t
   holds_served n p t past there =
       let order = in_order n past in
-      (entered_is_served (seen_after m (opening m n) past).plain p t order.numbered order.one_entered (ap (λ (e : Entries). e.tickets) (stands m k (ticket_facts v first) n past p (Holding (hold.Ticket t)) there))).1
+      let has = ap (λ (e : Entries). e.tickets) (stands m k (ticket_facts v first) n past p (Holding (hold.Ticket t)) there) in
+      (entered_is_served (seen_after m (opening m n) past).plain p t order.numbered order.one_entered has).1
 
   -- what is served after further entries
   served_later : (n : ℕ) (past further : List (ℕ × Move TicketCall V))
-      → serving_word (seen_after m (opening m n) (past ++ further)).plain ≡ (after m (at_first m n) past).words.serving + tickets_gone m (seen_after m (opening m n) past) further
+      → serving_word (seen_after m (opening m n) (past ++ further)).plain
+      ≡ (after m (at_first m n) past).words.serving + tickets_gone m (seen_after m (opening m n) past) further
   served_later n past further =
       let at_end = ap (λ (s : Seen TicketWords V TicketCall TicketPoint). serving_word s.plain) (seen_after-append m (opening m n) past further) in
       omega (arith, (in_order n past).serving, served (seen_after m (opening m n) past) further (good m k (ticket_facts v first) n past), at_end)
@@ -100,9 +107,9 @@ module _ {V : Type 0} (v : V) (first : ℕ) where
       let all = past ++ further in
       record {
         enters = λ p t c l h there waits.
-            let knows = (calls m k (ticket_facts v first) n all p c l h there).knows in
-            let waiting = ap (λ (e : Entries). is_waiting_with t e.tickets) waits ∙ eq-eqb t t refl in
-            let is = waits_at v first p t c l h (stands_so (ticket_table v first) (ticket_notes v first) c l h p _ _ (λ e. is_waiting_with t e.tickets) waiting _ knows) in
+            let waiting = ap (is_waiting_with t) waits ∙ eq-eqb t t refl in
+            let so = calls_so (ticket_table v first) (ticket_notes v first) (ticket_facts v first) n all (is_waiting_with t) p c l h there waiting in
+            let is = waits_at v first p t c l h so in
             let now = after m (at_first m n) all in
             let at = ap (λ o. (moves_at m now p Step o).outcome) (there ∙ ap (λ l. Some (Calling c l h)) is) in
             let enters = looked V now p t now.words c h (now.words.serving == t) refl in

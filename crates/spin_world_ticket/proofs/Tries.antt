@@ -58,9 +58,7 @@ module _ {V : Type 0} (v : V) (first : ℕ) where
   )
   comes s p TryLock (TryTake n) None plain span knows is asks = ((λ none. absurd (omega (arith, none, knows.1.1))), (λ one found left. absurd (omega (arith, one, knows.1.1))))
   comes s p TryLock _ _ plain span knows is asks = absurd knows
-  comes s p Lock l h plain span knows is asks = absurd (cc (asks))
-  comes s p IsLocked l h plain span knows is asks = absurd (cc (asks))
-  comes s p Release l h plain span knows is asks = absurd (cc (asks))
+  comes s p _ l h plain span knows is asks = absurd (cc (asks))
 
   pub by_two_loads : (n : ℕ) (past : List (ℕ × Move TicketCall V)) → TriesByTwoLoads (ticket_machine v first) n past
   by_two_loads n past p c l h there asks =

@@ -6,5 +6,4 @@ use Rattle.std.proofs.Common.{refl}
 use Rattle.spin_world_ticket.proofs.refused.a_lock_enters.Goals as goal
 
 pub returns : goal.returns
-returns g c = λ value all.
-    four_steps ticket 0 (waits to_enter) all.1.1.1.1.0.undisturbed refl (record { party = refl; strong = refl }) (record { party = refl; strong = refl }) (record { party = refl; strong = refl }) (record { party = refl; strong = refl }) refl
+returns g c = λ value all. four_steps ticket 0 (waits to_enter) all.1.1.1.1.0.undisturbed refl (search) (search) (search) (search) refl
