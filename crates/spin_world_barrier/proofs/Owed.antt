@@ -2,7 +2,7 @@
 use Rattle.std.proofs.Common.{◌≡◌, ℕ, zero, suc, ◌+◌, ◌/◌, ◌%◌, ◌^◌, ◌≤◌, ◌==◌, Bool, true, false, ◌&&◌, ◌||◌, is_some, Option, Some, None, List, [], ◌∷◌, if◌then◌else◌, refl, ap, sym, ◌∙◌, subst, arith, inl, inr}
 use Rattle.std.specs.Prelude.{max}
 use Rattle.std.proofs.lemmas.Bool.{false≢true, true≢false, ne_eqb}
-use Rattle.std.proofs.Math.Bool.{or-false}
+use Rattle.std.proofs.Math.Bool.{and-false}
 use Rattle.std.proofs.Math.Nat.{mod-le, div-le_self}
 use Rattle.spin_step.specs.Plain.{Plain, Change, arrives, apply, count_word, generation_word}
 use Rattle.spin_step.specs.Parties.{apply_some}
@@ -93,10 +93,6 @@ waits-on g p q s step r span none belongs waits =
       made = inr waits.made;
     }
 
-no_arrival : (b : Bool) → (b && false) ≡ false
-no_arrival true = refl
-no_arrival false = refl
-
 module _ (n : ℕ) where
   pub is_barrier : (s : Plain) (w : BarrierWords) → w.count ∷ w.generation ∷ [] ≡ count_word s ∷ generation_word s ∷ [] → IsOf n s → IsBarrier s n w.count w.generation
   is_barrier s w encodes of = record { group = of.group; counts = cc (encodes); generations = cc (encodes) }
@@ -133,7 +129,7 @@ module _ (n : ℕ) where
       let is = is_barrier s w at.encodes at.shape in
       let waits = at.knows in (
         (λ past. (refl, inl refl, (waits.number, inr waits.made, inl (barrier_may_leave-full s waits.number n w.count w.generation g is waits.come waits.found waits.follows past)))),
-        (λ same. (refl, refl, tt, tt, waits-on g p p s None _ span (no_arrival (p == p)) tt waits)),
+        (λ same. (refl, refl, tt, tt, waits-on g p p s None _ span (and-false (p == p)) tt waits)),
       )
   owes p _ _ (Some h) s w span = tt
 
@@ -143,7 +139,7 @@ module _ (n : ℕ) where
   soon p c (Leave g) None s w span = λ at may.
       let is = is_barrier s w at.encodes at.shape in
       let waits = at.knows in
-      let leaves = only_left (may_leave s waits.number) (is_leading s waits.number) waits.follows (subst (λ k. (may_leave s k || is_leading s k) ≡ true) waits.is_number may) in
+      let leaves = only_left _ _ waits.follows (subst (λ k. (may_leave s k || is_leading s k) ≡ true) waits.is_number may) in
       let past : is_past g w.generation ≡ true = barrier_may_leave-tells s waits.number n w.count w.generation g is waits.come waits.found ∙ leaves in
       ap (λ b. goes_by {A = Answer ℕ} (either b (Answers Follower None) (Continue (Leave g))) true (λ l. answers_by (barrier_table n) 3 w c l None)) past
   soon p _ _ (Some h) s w span = tt

@@ -114,7 +114,8 @@ module _ {V : Type 0} (value : Option V) where
   runs_at _ None p s span knows = search
   runs_at _ _ p s span knows = search
 
-  at_run : (p : ℕ) (c : OnceCall V) (l : OncePoint) (h : Option Hold) → passes_some (λ row. not (is_empty (row.made p))) (row_of (once_table value) (once_notes value) c l h) ≡ true → l ≡ Run
+  at_run : (p : ℕ) (c : OnceCall V) (l : OncePoint) (h : Option Hold)
+      → passes_some (λ row. not (is_empty (row.made p))) (row_of (once_table value) (once_notes value) c l h) ≡ true → l ≡ Run
   at_run p (CallOnce v) Look = elim [ None ↦ never | _ ↦ never ]
   at_run p c Run = λ h made. refl
   at_run p _ Look = elim [ None ↦ never | _ ↦ never ]
@@ -146,9 +147,11 @@ module _ {V : Type 0} (value : Option V) where
 
   runs_there : (n : ℕ) (past : Entries V) (p : ℕ) (runs : RunsClosure m n past p) → runs.point ≡ Run
   runs_there n past p runs =
+      let begun : (row : Row) → own p ((seen_at m n past).span p) ≡ row.made p → not (is_empty (row.made p)) ≡ true =
+      λ row made. ap (λ (cs : List Change). not (is_empty cs)) (sym made ∙ runs.begun) in
       let knows = (in_call_at n past p runs.call runs.point runs.held runs.calls).knows in
       at_run p runs.call runs.point runs.held
-      (row_passes (once_table value) (once_notes value) runs.call runs.point runs.held p _ _ (λ row. not (is_empty (row.made p))) (λ row stand made. ap (λ (cs : List Change). not (is_empty cs)) (sym made ∙ runs.begun)) _ knows)
+      (row_passes (once_table value) (once_notes value) runs.call runs.point runs.held p _ _ _ (λ row is made. begun row made) _ knows)
 
   phase_of : (n : ℕ) (past : Entries V) (p : ℕ) → RunsClosure m n past p → (seen_at m n past).plain.phase ≡ running p
   phase_of n past p runs = phase_at n past p runs.call runs.point runs.held runs.calls (runs_there n past p runs)

@@ -106,17 +106,22 @@ module _ {V : Type 0} (value : Option V) where
   owes p Get _ _ s w span = tt
   owes p IsCompleted _ _ s w span = tt
   owes p _ l (Some h) s w span = tt
-  owes p TryCallOnceErr Run None s w span = λ at. let is = end_means p at 0 (fails p) at.knows (refl, may_end p at at.knows) refl at.shape in (is.0, is.1, (refl, inl refl, inl (refl, refl)))
-  owes p _ Run None s w span = λ at. let is = end_means p at 2 (completes p) at.knows (refl, may_end p at at.knows) refl at.shape in (is.0, is.1, (refl, inl refl, inl (inr (refl, refl))))
-  owes p _ Look None s w span = λ at. ((λ e. (refl, search (inl, inr), inl (inl (made p at e)))), (λ e. (refl, refl, tt, tt, looks_now p s span)))
+  owes p TryCallOnceErr Run None s w span = λ at.
+      let is = end_means p at 0 (fails p) at.knows (refl, may_end p at at.knows) refl at.shape in (is.0, is.1, (refl, inl refl, inl (refl, refl)))
+  owes p _ Run None s w span = λ at.
+      let is = end_means p at 2 (completes p) at.knows (refl, may_end p at at.knows) refl at.shape in (is.0, is.1, (refl, inl refl, inl (inr (refl, refl))))
+  owes p _ Look None s w span = λ at.
+      ((λ e. (refl, first_of (search inl, search (inl, inr)), inl (inl (made p at e)))), (λ e. (refl, refl, tt, tt, looks_now p s span)))
   owes p _ TryBegin None s w span = λ at. (
     begin_means p at,
     (refl, refl, tt, tt, refl),
-    λ closed. branches p at None plain (misses (gets p to_begin)) (is_there w) (tells None) (Continue Await) (λ e. (refl, search (inl, inr), inl (inl (made p at e)))) (λ e. (refl, refl, tt, tt, tt)),
+    λ closed. branches p at None plain (misses (gets p to_begin)) (is_there w) (tells None) (Continue Await)
+        (λ e. (refl, first_of (search inl, search (inl, inr)), inl (inl (made p at e)))) (λ e. (refl, refl, tt, tt, tt)),
   )
   owes p _ Await None s w span = λ at. (
-    (λ e. (refl, search (inl, inr), inl (inl (made p at e)))),
-    (λ e. branches p at None look goes (w == 0) (Continue TryBegin) (Continue Await) (λ f. (refl, refl, tt, tt, looks_now p s span)) (λ f. (refl, refl, tt, tt, tt))),
+    (λ e. (refl, first_of (search inl, search (inl, inr)), inl (inl (made p at e)))),
+    (λ e. branches p at None look goes (w == 0) (Continue TryBegin) (Continue Await) (λ f. (refl, refl, tt, tt, looks_now p s span))
+        (λ f. (refl, refl, tt, tt, tt))),
   )
 
   -- an answer that is the value comes where there is one
@@ -198,9 +203,12 @@ module _ {V : Type 0} (value : Option V) where
   completes_right p _ _ h = search
 
   sound : (p : ℕ) (c : OnceCall V) (l : OncePoint) (h : Option Hold) → SoundAt once (asks_of c) p (point_of c l h)
-  sound p (CallOnce x) Run = elim [ None ↦ search (inl) | _ ↦ search (inl) ]
-  sound p _ Run = elim [ None ↦ search (inl) | _ ↦ search (inl) ]
-  sound p _ _ = elim [ None ↦ search (inl) | _ ↦ search (inl) ]
+  sound p (CallOnce x) Run = elim [ None ↦ (refl, inl refl) | _ ↦ tt ]
+  sound p (TryCallOnceOk x) Run = elim [ None ↦ (refl, inl refl) | _ ↦ tt ]
+  sound p TryCallOnceErr Run = elim [ None ↦ (refl, inl refl) | _ ↦ tt ]
+  sound p (InitFromRef x) Run = elim [ None ↦ (refl, inl refl) | _ ↦ tt ]
+  sound p _ Run = elim [ None ↦ tt | _ ↦ tt ]
+  sound p _ _ = elim [ None ↦ search | _ ↦ search ]
 
   module _ (p q : ℕ) (s : Plain) (step : Option Change) (r : StepKind) (span : List Mark) (ne : q ≡ p → ⊥) (may : IsOpenStep s q step) where
     runs-on : (l : OncePoint) → RunsAt l p s span → RunsAt l p (apply_some s step) (mark_of q step r s ∷ span)
