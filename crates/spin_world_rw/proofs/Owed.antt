@@ -112,7 +112,9 @@ module _ {V : Type 0} (v : V) (cap : ℕ) where
         ((refl, may), ap (λ n. n ∷ []) (rw_turn-gives s p j k w more word may), turned s p j k at.shape)
 
     release_means : (k : Kind) → is_holder p k s.holders ≡ true → IsMeant p s (releases p k) (Some (released k w))
-    release_means k found = ((refl, found), ap (λ n. n ∷ []) (rw_release-gives s p k w word found), with_holders s (without_holder p k s.holders) at.shape (omega (arith, length-without_holder p k s.holders found, at.shape.few)))
+    release_means k found =
+        let few : length (without_holder p k s.holders) ≤ max s.cap 1 = omega (arith, length-without_holder p k s.holders found, at.shape.few) in
+        ((refl, found), ap (λ n. n ∷ []) (rw_release-gives s p k w word found), with_holders s (without_holder p k s.holders) at.shape few)
 
     -- What holders find
 
@@ -121,6 +123,14 @@ module _ {V : Type 0} (v : V) (cap : ℕ) where
 
     finds_room : is_holder p upgradable s.holders ≡ true → nat_lt (w / weight reading) reader_limit ≡ true
     finds_room found = lt-ltb (w / weight reading) reader_limit (omega (arith, (upgradable-word s p at.exclusive (omega (arith, at.shape.few, at.shape.room)) found).1, word))
+
+    -- and whoever may come
+
+    reads : may_come reading s ≡ true → read cap w ≡ Some (w + weight reading)
+    reads may = rw (sym (read-word s w cap (one_of_each s at.exclusive) at.shape.room word) ∙ may) refl
+
+    reads_upgradable : may_come upgradable s ≡ true → read_upgradable cap w ≡ Some (w + weight upgradable)
+    reads_upgradable may = rw (sym (upgradable_read-word s w cap (one_of_each s at.exclusive) at.shape.room word) ∙ may) refl
 
   owes : (p : ℕ) (c : RwCall) (l : RwPoint) (h : Option Hold) (s : Plain) (w : ℕ) (span : List Mark) → OwesAt (rw_table v cap) (rw_notes v cap) p c l h s w span
   owes p TryRead (Exchange n) None s w span = λ at. (read_means p at, (λ is. (refl, inl refl, tt)), (λ found. (refl, refl, refl, (refl, refl, found), tt)), (λ closed. (refl, inl refl, inl closed)))
@@ -156,20 +166,13 @@ module _ {V : Type 0} (v : V) (cap : ℕ) where
   Soon k w c l h = answers_by (rw_table v cap) k w c l h ≡ true
 
   -- of a call that comes so
-  module _ (c : RwCall) (f : ℕ → Option ℕ) (ask : Ask) (held : Hold) (comes : (n : ℕ) → act_of {V = V} cap c (Exchange n) None ≡ comes_by f ask held (Continue First) (Exchange n))
-      (w to : ℕ) (room : f w ≡ Some to) where
+  module _ (c : RwCall) (f : ℕ → Option ℕ) (ask : Ask) (held : Hold)
+      (comes : (n : ℕ) → act_of {V = V} cap c (Exchange n) None ≡ comes_by f ask held (Continue First) (Exchange n)) (w to : ℕ) (room : f w ≡ Some to) where
     comes_now : Soon 1 w c (Exchange w) None
     comes_now = exchanges_now (rw_table v cap) c None Exchange f (λ p. gets p ask) (λ n. granted held) (Continue First) w to room comes 0 refl
 
     comes_soon : (n : ℕ) → Soon 2 w c (Exchange n) None
     comes_soon n = retries_soon (rw_table v cap) c None Exchange f (λ p. gets p ask) (λ n. granted held) (Continue First) w to room comes 0 refl n
-
-  module _ {c : CallOf ℕ RwPoint (Answer V)} {l : RwPoint} {h : Option Hold} {s : Plain} {w : ℕ} {span : List Mark} {row : Row} (p : ℕ) (at : AtPoint (rw_table v cap) (rw_notes v cap) p c l h s w span row) where
-    reads : may_come reading s ≡ true → read cap w ≡ Some (w + weight reading)
-    reads may = rw (sym (read-word s w cap (one_of_each s at.exclusive) at.shape.room (word p at)) ∙ may) refl
-
-    reads_upgradable : may_come upgradable s ≡ true → read_upgradable cap w ≡ Some (w + weight upgradable)
-    reads_upgradable may = rw (sym (upgradable_read-word s w cap (one_of_each s at.exclusive) at.shape.room (word p at)) ∙ may) refl
 
   soon : (p : ℕ) (c : RwCall) (l : RwPoint) (h : Option Hold) (s : Plain) (w : ℕ) (span : List Mark)
       → OwesSoon (rw_table v cap) (rw_notes v cap) p c l h s w span
@@ -178,14 +181,17 @@ module _ {V : Type 0} (v : V) (cap : ℕ) where
   soon p UpgradeableRead (Exchange n) None s w span = λ at free.
       comes_soon UpgradeableRead (read_upgradable cap) to_read_upgradable hold.Upgradable (λ n. refl) w _ (reads_upgradable p at free) n
   soon p UpgradeableRead l None s w span = λ at free.
-      let room = reads_upgradable p at free in rw room (comes_now UpgradeableRead (read_upgradable cap) to_read_upgradable hold.Upgradable (λ n. refl) w _ room)
+      let room = reads_upgradable p at free in
+      rw room (comes_now UpgradeableRead (read_upgradable cap) to_read_upgradable hold.Upgradable (λ n. refl) w _ room)
   soon p Write l None s w span = λ at free. let zero : (w == 0) ≡ true = sym (empty-word s.holders w (word p at)) ∙ free in rw zero refl
   soon p Upgrade Asking (Some hold.Upgradable) s w span = λ at free.
       let open_now = only_left (is_only p asking s.holders) (is_holder p writing s.holders) (writes_nothing p s at.known.stand) free in
-      let six : w ≡ weight asking = eqb-true w (weight asking) (sym (only_asking-word s p w (one_of_each s at.exclusive) (holder_by p asking s at.known.stand) (word p at)) ∙ open_now) in
+      let is = only_asking-word s p w (one_of_each s at.exclusive) (holder_by p asking s at.known.stand) (word p at) in
+      let six : w ≡ weight asking = eqb-true w (weight asking) (sym is ∙ open_now) in
       ap (λ k. answers_by (rw_table v cap) 2 k Upgrade Asking (Some hold.Upgradable)) six
   soon p Upgrade l (Some hold.Upgradable) s w span = λ at free.
-      let two : w ≡ weight upgradable = eqb-true w (weight upgradable) (sym (only_upgradable-word s p w (one_of_each s at.exclusive) (holder_by p upgradable s at.known.stand) (word p at)) ∙ free) in
+      let is = only_upgradable-word s p w (one_of_each s at.exclusive) (holder_by p upgradable s at.known.stand) (word p at) in
+      let two : w ≡ weight upgradable = eqb-true w (weight upgradable) (sym is ∙ free) in
       ap (λ k. answers_by (rw_table v cap) 2 k Upgrade l (Some hold.Upgradable)) two
   soon p _ _ _ s w span = tt
 
@@ -207,15 +213,9 @@ module _ {V : Type 0} (v : V) (cap : ℕ) where
   sound p c l h = starts_sound kind.rw (asks_of c h) p (begin_of (rw_table v cap) c h)
 
   fits_all : (p : ℕ) (c : RwCall) (l : RwPoint) (h : Option Hold) → fits_act kind.rw (asks_of c h) (act_of {V = V} cap c l h) p ≡ true
-  fits_all p Upgrade Asking h = refl
-  fits_all p TryRead First h = refl
-  fits_all p Read First h = refl
-  fits_all p TryUpgradeableRead First h = refl
-  fits_all p UpgradeableRead First h = refl
-  fits_all p Downgrade l (Some hold.Write) = refl
-  fits_all p Release l (Some hold.Read) = refl
-  fits_all p Release l (Some hold.Upgradable) = refl
-  fits_all p _ _ _ = refl
+  fits_all p TryRead First = elim [ None ↦ refl | Some hold.Read ↦ refl | _ ↦ refl ]
+  fits_all p _ First = elim [ None ↦ refl | Some hold.Read ↦ refl | _ ↦ refl ]
+  fits_all p _ _ = elim [ None ↦ refl | Some hold.Read ↦ refl | _ ↦ refl ]
 
   pub rw_pays : Pays (rw_table v cap) (rw_notes v cap)
   rw_pays =

@@ -1,6 +1,7 @@
 -- What users of a read-write lock rely on.
 use Rattle.std.proofs.Common.{◌≡◌, ℕ, ◌+◌, ◌==◌, ◌↔◌, Bool, true, false, not, ◌&&◌, ◌||◌, if◌then◌else◌, Option, Some, None, List, [], ◌∷◌, ◌++◌, slice_get, slice_set, refl, ap, sym, ◌∙◌, subst, arith}
 use Rattle.std.proofs.lemmas.Bool.{eqb-true, ne_eqb, true≢false, false≢true}
+use Rattle.std.proofs.Math.Bool.{and-false, or-false}
 use Rattle.spin_step.specs.Plain.{Plain, Kind, reading, upgradable, asking, writing, Holder, Change, is_empty, is_holder, is_only, same_kind, count_kind, rw_word, weight}
 use Rattle.spin_step.specs.Parties.{apply_some, IsOpenStep, Entries, entries, IsExclusive}
 use Rattle.spin_step.specs.Steps.{bit}
@@ -79,15 +80,15 @@ may_ask (holds asking) = true
 may_ask (holds_and_starves k) = true
 may_ask _ = false
 
-another_kind : (b : Bool) → ((b && false) || false) ≡ true → ⊥
-another_kind true e = false≢true e
-another_kind false e = false≢true e
-
 asking_stand : (p : ℕ) (stand : Stand) → is_holder p asking (entries_at p stand).holders ≡ true → may_ask stand ≡ true
 asking_stand p (holds asking) asks = refl
 asking_stand p (holds_and_starves k) asks = refl
-asking_stand p (holds k) asks = absurd (another_kind (p == p) asks)
+asking_stand p (holds k) asks = absurd (false≢true (sym (or-false ((p == p) && false) ∙ and-false (p == p)) ∙ asks))
 asking_stand p _ asks = absurd (false≢true asks)
+
+asks_by : (p : ℕ) (s : Plain) (stand : Stand) → is_holder p asking s.holders ≡ true → entries p s ≡ entries_at p stand → may_ask stand ≡ true
+asks_by p s stand asks is =
+    asking_stand p stand (ap (λ (e : Entries). is_holder p asking e.holders) (sym is) ∙ (sym (is_holder-own p asking s.holders) ∙ asks))
 
 module _ {V : Type 0} (v : V) (cap : ℕ) where
   -- a party that asks is in its upgrade, and goes for the word of a reader that is alone and asks
@@ -96,11 +97,6 @@ module _ {V : Type 0} (v : V) (cap : ℕ) where
 
   abbrev AsksAt : RwCall → RwPoint → Option Hold → Type 0
   AsksAt c l h = passes_some (λ row. may_ask row.stand) (row_of (rw_table v cap) (rw_notes v cap) c l h) ≡ true
-
-  asks_at : (p : ℕ) (c : RwCall) (l : RwPoint) (h : Option Hold) (s : Plain) (span : List Mark) → (rw_keeping v cap).Knows c l h p s span → is_holder p asking s.holders ≡ true → AsksAt c l h
-  asks_at p c l h s span knows found =
-      let asks = sym (is_holder-own p asking s.holders) ∙ found in
-      row_passes (rw_table v cap) (rw_notes v cap) c l h p s span (λ row. may_ask row.stand) (λ row stand made. asking_stand p row.stand (ap (λ (e : Entries). is_holder p asking e.holders) (sym stand) ∙ asks)) _ knows
 
   upgraded : (s : State ℕ V RwCall RwPoint) (p : ℕ) (c : RwCall) (l : RwPoint) (h : Option Hold) → AsksAt c l h → Upgrades s p c l h
   upgraded s p Upgrade Asking = elim [
@@ -119,12 +115,14 @@ module _ {V : Type 0} (v : V) (cap : ℕ) where
   words_are : (n : ℕ) (past : List (ℕ × Move RwCall V)) → (after m (at_first m n) past).words ≡ rw_word (seen_after m (opening m n) past).plain
   words_are n past = cc (numbers_are m (rw_keeping v cap) (rw_facts v cap) n past)
 
-  pub stand_together : (n : ℕ) (past : List (ℕ × Move RwCall V)) → StandTogether cap (after m (at_first m n) past).words (seen_after m (opening m n) past).plain
+  pub stand_together : (n : ℕ) (past : List (ℕ × Move RwCall V))
+      → StandTogether cap (after m (at_first m n) past).words (seen_after m (opening m n) past).plain
   stand_together n past =
       let here = good m (rw_keeping v cap) (rw_facts v cap) n past in
       record { word = words_are n past; writer = here.exclusive.writer; one_upgradable = here.exclusive.one_upgradable; within = omega (arith, here.shape.few, here.shape.room) }
 
-  pub zero_when_free : (n : ℕ) (past : List (ℕ × Move RwCall V)) → ((after m (at_first m n) past).words ≡ 0) ↔ ((seen_after m (opening m n) past).plain.holders ≡ [])
+  pub zero_when_free : (n : ℕ) (past : List (ℕ × Move RwCall V))
+      → ((after m (at_first m n) past).words ≡ 0) ↔ ((seen_after m (opening m n) past).plain.holders ≡ [])
   zero_when_free n past = (λ zero. empty_is _ (empty-word _ 0 (sym (words_are n past) ∙ zero)), λ none. words_are n past ∙ ap word_of none)
 
   -- An upgrade opens by releases
@@ -134,7 +132,8 @@ module _ {V : Type 0} (v : V) (cap : ℕ) where
   stays_now p seen (e ∷ es) stays = stays.0
 
   gone_through : (p : ℕ) (seen : Seen ℕ V RwCall RwPoint) (es : List (ℕ × Move RwCall V)) → Invariant m (rw_keeping v cap) seen → StaysAsking p m seen es
-      → (count_kind reading (seen_after m seen es).plain.holders + readers_gone m seen es ≡ count_kind reading seen.plain.holders) × (is_holder p asking (seen_after m seen es).plain.holders ≡ true)
+      → (count_kind reading (seen_after m seen es).plain.holders + readers_gone m seen es ≡ count_kind reading seen.plain.holders)
+      × (is_holder p asking (seen_after m seen es).plain.holders ≡ true)
   gone_through p seen [] here stays = (omega arith, stays)
   gone_through p seen (e ∷ es) here stays =
       let sc = scene m seen e.0 e.1 in
@@ -164,7 +163,9 @@ module _ {V : Type 0} (v : V) (cap : ℕ) where
         opens = left;
         granted = λ c l h there.
             let knows = (calls m (rw_keeping v cap) (rw_facts v cap) n all p c l h there).knows in
-            let step = upgraded now p c l h (asks_at p c l h later.plain (later.span p) knows found) in
+            let asks = row_passes (rw_table v cap) (rw_notes v cap) c l h p _ _ (λ row. may_ask row.stand)
+            (λ row is made. asks_by p later.plain row.stand found is) _ knows in
+            let step = upgraded now p c l h asks in
             let at = ap (λ o. (moves_at m now p Step o).outcome) there in
             (λ e. left.0 (told ∙ step.0 (sym at ∙ e)), λ e. at ∙ step.1 (sym told ∙ left.1 e));
       }
@@ -175,7 +176,8 @@ module _ {V : Type 0} (v : V) (cap : ℕ) where
   seated s p c l h now held same there = get-set_same s.seats p (Holding now) (Calling c l h) there ∙ ap (λ x. Some (Holding x)) same
 
   downgraded : (s : State ℕ V RwCall RwPoint) (p : ℕ) (c : RwCall) (l : RwPoint) (h : Option Hold) (held : Hold) → less c ≡ Some held → slice_get s.seats p ≡ Some (Calling c l h)
-      → ((moves_at m s p Step (Some (Calling c l h))).outcome ≡ Answered Done None) × (slice_get (moves_at m s p Step (Some (Calling c l h))).next.seats p ≡ Some (Holding held))
+      → ((moves_at m s p Step (Some (Calling c l h))).outcome ≡ Answered Done None)
+      × (slice_get (moves_at m s p Step (Some (Calling c l h))).next.seats p ≡ Some (Holding held))
   downgraded s p Downgrade l (Some hold.Write) held is there = (refl, seated s p Downgrade l (Some hold.Write) hold.Read held (cc (is)) there)
   downgraded s p Downgrade l h held is there = (refl, seated s p Downgrade l h hold.Read held (cc (is)) there)
   downgraded s p DowngradeToUpgradeable l h held is there = (refl, seated s p DowngradeToUpgradeable l h hold.Upgradable held (cc (is)) there)
@@ -216,7 +218,10 @@ module _ {V : Type 0} (v : V) (cap : ℕ) where
 
   -- Looks across conversions
 
-  reads_there : (p : ℕ) (c : RwCall) (l : RwPoint) (h : Hold) → (not (converts c) || passes_all (λ row. is_reader (entries_at p row.stand)) (row_of (rw_table v cap) (rw_notes v cap) c l (Some h))) ≡ true
+  abbrev reads_at : ℕ → RwCall → RwPoint → Hold → Bool
+  reads_at p c l h = passes_all (λ row. is_reader (entries_at p row.stand)) (row_of (rw_table v cap) (rw_notes v cap) c l (Some h))
+
+  reads_there : (p : ℕ) (c : RwCall) (l : RwPoint) (h : Hold) → (not (converts c) || reads_at p c l h) ≡ true
   reads_there p Upgrade Asking = elim [ hold.Read ↦ refl | _ ↦ refl ]
   reads_there p _ Asking = elim [ hold.Read ↦ refl | _ ↦ refl ]
   reads_there p _ _ = elim [ hold.Read ↦ refl | _ ↦ refl ]
@@ -225,7 +230,8 @@ module _ {V : Type 0} (v : V) (cap : ℕ) where
   reads_on w None won lost on on_lost = on_lost
   reads_on w (Some to) won lost on on_lost = on
 
-  steps_on : (c : RwCall) (l : RwPoint) (h : Hold) (w : ℕ) (value : Option V) → converts c ≡ true → may_read h ≡ true → ReadsOn (m.step w value c l (Some h)).next
+  steps_on : (c : RwCall) (l : RwPoint) (h : Hold) (w : ℕ) (value : Option V) → converts c ≡ true → may_read h ≡ true
+      → ReadsOn (m.step w value c l (Some h)).next
   steps_on TryUpgrade l h w value is may = reads_on w (upgrade w) (granted hold.Write) (Answers Refused (Some h)) refl may
   steps_on TryUpgradeWeak l h w value is may = reads_on w (upgrade w) (granted hold.Write) (Answers Refused (Some h)) refl may
   steps_on Upgrade Asking h w value is may = reads_on w (upgrade_asked w) (granted hold.Write) (Continue Asking) refl tt
@@ -235,7 +241,8 @@ module _ {V : Type 0} (v : V) (cap : ℕ) where
   steps_on DowngradeToUpgradeable l h w value is may = refl
   steps_on _ l h w value is may = absurd (false≢true is)
 
-  refuses_on : (c : RwCall) (l : RwPoint) (h : Hold) (next : Next RwPoint (Answer V)) → converts c ≡ true → may_read h ≡ true → m.refuse c l (Some h) ≡ Some next → ReadsOn next
+  refuses_on : (c : RwCall) (l : RwPoint) (h : Hold) (next : Next RwPoint (Answer V)) → converts c ≡ true → may_read h ≡ true
+      → m.refuse c l (Some h) ≡ Some next → ReadsOn next
   refuses_on TryUpgradeWeak l h next is may weak = let same : Answers Refused (Some h) ≡ next = cc (weak) in subst (λ (x : Next RwPoint (Answer V)). ReadsOn x) same may
   refuses_on Upgrade Asking h next is may weak = let same : Continue Asking ≡ next = cc (weak) in subst (λ (x : Next RwPoint (Answer V)). ReadsOn x) same tt
   refuses_on Upgrade l h next is may weak = absurd (cc (weak))
@@ -250,7 +257,7 @@ module _ {V : Type 0} (v : V) (cap : ℕ) where
       reads_agree_across m (rw_keeping v cap) (rw_facts v cap) converts
       (record {
         reads = λ p c l h s span is may knows.
-            let there = ap (λ b. not b || passes_all (λ row. is_reader (entries_at p row.stand)) (row_of (rw_table v cap) (rw_notes v cap) c l (Some h))) (sym is) ∙ reads_there p c l h in
+            let there = ap (λ b. not b || reads_at p c l h) (sym is) ∙ reads_there p c l h in
             row_tells (rw_table v cap) (rw_notes v cap) c l (Some h) p s span is_reader _ knows there;
         steps = steps_on;
         refuses = refuses_on;

@@ -77,7 +77,7 @@ upgrades_plainly v = upgrade_by v (λ l act. weak_exchange (weight upgradable) u
 -- `upgrade` asks twice
 abbrev pub asks_twice : {V : Type 0} → V → RwMachine V
 asks_twice {V} v =
-    let asks : Next RwPoint (Answer V) → RwAct V = λ next. store (λ w. true) (adds (weight asking - weight upgradable)) (λ p. turns p upgradable asking) next in
+    let asks : Next RwPoint (Answer V) → RwAct V = store (λ w. true) (adds (weight asking - weight upgradable)) (λ p. turns p upgradable asking) in
     upgrade_by v (λ l act. elim l [ First ↦ asks (Continue (Exchange 0)) | Exchange n ↦ asks (Continue Asking) | _ ↦ act ])
 
 -- `downgrade` leaves a reader that asks in the word
@@ -215,8 +215,9 @@ read_by_chance = (0, Begin Read) ∷ (0, Step) ∷ (0, Weak) ∷ []
 
 -- the exchange of the weak try is strong
 abbrev pub writes_strongly : {V : Type 0} → V → RwMachine V
-writes_strongly v =
-    with_steps v (λ c l h act. elim c [ TryWriteWeak ↦ exchange (swap 0 write) (λ p. gets p to_write) (granted hold.Write) (λ w. Answers Refused h) | _ ↦ act ])
+writes_strongly {V} v =
+    let strong : RwAct V = exchange (swap 0 write) (λ p. gets p to_write) (granted hold.Write) (λ w. Answers Refused None) in
+    with_steps v (λ c l h act. elim c [ TryWriteWeak ↦ strong | _ ↦ act ])
 
 -- so is that of `write`
 abbrev pub waits_strongly : {V : Type 0} → V → RwMachine V

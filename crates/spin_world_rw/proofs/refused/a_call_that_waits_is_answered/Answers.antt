@@ -6,10 +6,10 @@ use Rattle.std.proofs.Common.{[], ◌∷◌, refl}
 use Rattle.spin_world_rw.proofs.refused.a_call_that_waits_is_answered.Goals as goal
 
 pub returns-clause-never : goal.returns-clause-never
-returns-clause-never g c = λ value all. too_many rw 0 (waits to_read) 2 (_ ∷ []) _ _ all.1.1.0.undisturbed refl (record { party = refl; strong = refl }, (record { party = refl; strong = refl }, tt)) refl
+returns-clause-never g c = λ value all. too_many rw 0 (waits to_read) 2 (_ ∷ []) _ _ all.1.1.0.undisturbed refl (search) refl
 
 pub returns-clause-late : goal.returns-clause-late
-returns-clause-late g c = λ value all. too_many rw 0 (waits to_read) 2 (_ ∷ []) _ _ all.1.1.0.undisturbed refl (record { party = refl; strong = refl }, (record { party = refl; strong = refl }, tt)) refl
+returns-clause-late g c = λ value all. too_many rw 0 (waits to_read) 2 (_ ∷ []) _ _ all.1.1.0.undisturbed refl (search) refl
 
 pub returns-clause-write : goal.returns-clause-write
-returns-clause-write g c = λ value all. too_many rw 0 (waits to_write) 1 [] _ _ all.1.0.undisturbed refl (record { party = refl; strong = refl }, tt) refl
+returns-clause-write g c = λ value all. too_many rw 0 (waits to_write) 1 [] _ _ all.1.0.undisturbed refl (search) refl
