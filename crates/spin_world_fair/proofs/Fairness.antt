@@ -1,12 +1,5 @@
 -- What users of a fair lock rely on, from what is kept at each event.
-use Rattle.std.proofs.Common.{◌≡◌, ℕ, ◌==◌, Bool, true, false, ◌&&◌, ◌||◌, Option, Some, None, List, [], ◌∷◌, length, if◌then◌else◌, refl, ap, sym, ◌∙◌, subst, arith}
-use Rattle.std.proofs.lemmas.Bool.{and_parts, false≢true}
-use Rattle.spin_step.specs.Plain.{Plain, Kind, writing, Holder, same_kind, to_lock_unregistered, to_lock_starving, to_lock_starving_alone, to_starve, Change, gets, releases, stops_starving, is_empty, is_holder, is_starver, is_only_starver, without_holder, fair_word}
-use Rattle.spin_step.specs.Parties.{apply_some, IsOpenStep}
-use Rattle.spin_step.proofs.Exclusive.{empty_is}
-use Rattle.spin_world_core.specs.Calls.{BelongsTo}
-use Rattle.spin_world_fair.specs.Kind.{fair}
-use Rattle.spin_world_fair.specs.Fairness.{IsFree}
+use Rattle.spin_world_fair.proofs.Names.{◌≡◌, ℕ, ◌==◌, Bool, true, false, ◌&&◌, ◌||◌, Option, Some, None, List, [], ◌∷◌, length, if◌then◌else◌, refl, ap, sym, ◌∙◌, subst, arith, and_parts, false≢true, or-true, Plain, Kind, writing, Holder, same_kind, to_lock_unregistered, to_lock_starving, to_lock_starving_alone, to_starve, Change, gets, releases, stops_starving, is_empty, is_holder, is_starver, is_only_starver, without_holder, fair_word, apply_some, IsOpenStep, empty_is, BelongsTo, fair, IsFree}
 
 pub free_when_zero : (w : ℕ) (s : Plain) → w ∷ [] ≡ fair_word s ∷ [] → w ≡ 0 → IsFree s
 free_when_zero w s encodes zero =
@@ -31,12 +24,8 @@ later : (a b c : Bool) → (b ≡ true → c ≡ true) → (a || b) ≡ true →
 later true b c f e = refl
 later false b c f e = f e
 
-or_true : (b : Bool) → (b || true) ≡ true
-or_true true = refl
-or_true false = refl
-
 held_either : (b : Bool) (p : ℕ) (h : Holder) (hs ws : List Holder) → (is_holder p writing ws ≡ true → is_holder p writing hs ≡ true) → is_holder p writing (if b then hs else h ∷ ws) ≡ true → is_holder p writing (h ∷ hs) ≡ true
-held_either true p h hs ws before held = ap (λ b. ((h.party == p) && same_kind writing h.kind) || b) held ∙ or_true ((h.party == p) && same_kind writing h.kind)
+held_either true p h hs ws before held = ap (λ b. ((h.party == p) && same_kind writing h.kind) || b) held ∙ or-true _
 held_either false p h hs ws before held = later ((h.party == p) && same_kind writing h.kind) (is_holder p writing ws) (is_holder p writing hs) before held
 
 -- whoever holds after another has let go held before

@@ -1,38 +1,13 @@
 -- What the fair lock's table owes.
-use Rattle.std.proofs.Common.{◌≡◌, ℕ, suc, ◌<◌, ◌+◌, ◌-◌, ◌%◌, ◌==◌, Bool, true, false, not, ◌&&◌, nat_lt, Option, Some, None, List, [], ◌∷◌, refl, ap, sym, ◌∙◌, arith, inl, inr}
-use Rattle.std.specs.Prelude.{min}
-use Rattle.std.proofs.lemmas.Bool.{and_parts, eqb-true, eq-eqb, ltb-true, ltb-false}
-use Rattle.spin_step.specs.Plain.{Plain, writing, Ask, to_lock_unregistered, to_lock_starving, to_lock_starving_alone, to_starve, Change, gets, releases, stops_starving, apply, is_open, is_empty, is_starver, is_only_starver, fair_word}
-use Rattle.spin_step.specs.Parties.{apply_some, entries, is_held}
-use Rattle.spin_step.specs.Steps.{Decides}
-use Rattle.spin_step.specs.Starvers.{most_starvers, is_set, lock, starve, lock_fair}
-use Rattle.spin_step.proofs.FairSteps.{fair_lock-grants, fair_starve-grants, fair_lock_fair-grants, fair_lock_starved-grants, fair_unstarve-gives, fair_unlock-gives, fair_is_locked-tells}
-use Rattle.spin_world_core.specs.declared.place.Hold.{Hold}
-use Rattle.spin_world_core.specs.declared.place.Hold.TheVariants.{Write, Starver}
+use Rattle.spin_world_fair.proofs.Names.{◌≡◌, ℕ, suc, ◌<◌, ◌+◌, ◌-◌, ◌%◌, ◌==◌, Bool, true, false, not, ◌&&◌, nat_lt, Option, Some, None, List, [], ◌∷◌, length, refl, ap, sym, ◌∙◌, arith, inl, inr, min, and_parts, eqb-true, eq-eqb, lt-ltb, ltb-true, ltb-false, Plain, writing, Ask, to_lock_unregistered, to_lock_starving, to_lock_starving_alone, to_starve, Change, gets, releases, stops_starving, apply, is_open, is_empty, is_starver, is_only_starver, fair_word, apply_some, Entries, entries, is_held, empty_is, is_holder-from_entries, length-without_starver, Decides, most_starvers, is_set, lock, starve, lock_fair, fair_lock-grants, fair_starve-grants, fair_lock_fair-grants, fair_lock_starved-grants, fair_unstarve-gives, fair_unlock-gives, fair_is_locked-tells, Hold, Write, Starver, Continue, Answers, Answer, FairCall, Lock, TryLock, TryLockStarver, IsLocked, Starve, StarverTryLockFair, StarverTryLock, StarverLock, StarverDrop, Release, FairPoint, First, Attempt, Look, Load, Register, SetFlag, Await, Unregister, StepKind, plain, again, look, weak, Mark, grant, granted, fair, mark_of, own_count, changes, RegistersInTime, either, tried, begin_of, asks_of, act_of, fair_table, fair_machine, holds, starves, holds_and_starves, entries_at, SoundAt, Row, row_looked, Point, nowhere, looked, onward, goes, AimsAt, Notes, keeping_of, Means, call_of, Follows, OwesAt, answers_by, OwesSoon, BeginsAt, Pays, CallOf, AtPoint, no_queue, means_word}
 use Rattle.spin_world_core.specs.declared.object.Next.{Next}
-use Rattle.spin_world_core.specs.declared.object.Next.TheVariants.{Continue, Answers}
-use Rattle.spin_world_core.specs.declared.answer.Answer.{Answer}
 use Rattle.spin_world_core.specs.declared.answer.Answer.TheVariants.{Locked, Starved}
-use Rattle.spin_world_fair.specs.declared.fair.FairCall.{FairCall}
-use Rattle.spin_world_fair.specs.declared.fair.FairCall.TheVariants.{Lock, TryLock, TryLockStarver, IsLocked, Starve, StarverTryLockFair, StarverTryLock, StarverLock, StarverDrop, Release}
-use Rattle.spin_world_fair.specs.declared.fair.FairPoint.{FairPoint}
-use Rattle.spin_world_fair.specs.declared.fair.FairPoint.TheVariants.{First, Attempt, Look, Load, Register, SetFlag, Await, Unregister}
-use Rattle.spin_world_core.specs.StepKinds.{StepKind, plain, again, look, weak}
-use Rattle.spin_world_core.specs.Calls.{Mark, looks, grant, granted}
-use Rattle.spin_world_fair.specs.Kind.{fair}
-use Rattle.spin_world_core.specs.Runs.{mark_of, own_count, changes, RegistersInTime}
-use Rattle.spin_world_core.specs.Acts.{either, tried, begin_of}
 use Rattle.spin_world_core.specs.Operations.{sets_lowest_bit}
-use Rattle.spin_world_fair.specs.Fair.{asks_of, act_of, fair_table, fair_machine}
-use Rattle.spin_world_core.proofs.Operating.{fits_act, fits_strong, one_place, operates_by}
+use Rattle.spin_world_core.proofs.Operating.{fits_act, one_place, operates_by}
 use Rattle.spin_world_core.proofs.Facts.{LocalInvariant, Facts}
-use Rattle.spin_world_core.proofs.Stands.{holds, starves, holds_and_starves, entries_at}
-use Rattle.spin_world_core.proofs.Rows.{SoundAt, Row, row_looked, Point, nowhere, looked, onward, goes}
-use Rattle.spin_world_core.proofs.Shapes.{AimsAt, Notes, keeping_of, Means, call_of, Follows, OwesAt, answers_by, OwesSoon, BeginsAt, Pays, CallOf, AtPoint}
-use Rattle.spin_world_core.proofs.Usual.{no_queue, means_word}
 use Rattle.spin_world_core.proofs.Paid.{facts_of}
 use Rattle.spin_world_fair.proofs.Registering.{sooner, MayBeBlind, blind-other, blind_after_step, blind_after_free, blind_after_late, allowed, none_left, few_to_load, few_to_register, Looking, Loading, Registering, none_yet, starving-other, looking-other, loading-other, registering-other, goes_on, missed, looked_free, looked_held, looked_late, loaded, retried, full, registered, looked_starving}
-use Rattle.spin_world_fair.proofs.Knowledge.{IsFair, comes, goes_away, same_holders, is_starving, is_starving_still, starver_counts, is_holding, set_by_holder, word_free, flag_clear, word_locked, word_starved, not_there}
+use Rattle.spin_world_fair.proofs.Knowledge.{IsFair, comes, goes_away, same_holders, is_starving, is_starving_still, set_by_holder, flag_clear, word_locked, word_starved, not_there}
 
 -- a starver goes for the lock with these steps made
 abbrev pub starving_row : (ℕ → List Change) → Row
@@ -111,16 +86,20 @@ module _ {V : Type 0} (v : V) (cap patience : ℕ) where
 
     -- a starver leaves the starvers, with the lock or without
     unstarve_means : is_starver p s.starvers ≡ true → (nat_lt 1 w ≡ true) × IsMeant p s (stops_starving p) (Some (w - 2))
-    unstarve_means found = (starver_counts p w s word found, ((refl, found), ap (λ n. n ∷ []) (fair_unstarve-gives s p w word found), same_holders cap s _ at.shape))
+    unstarve_means found =
+        let counts = lt-ltb 1 w (omega (arith, word, length-without_starver p s.starvers found)) in
+        (counts, ((refl, found), ap (λ n. n ∷ []) (fair_unstarve-gives s p w word found), same_holders cap s _ at.shape))
 
     unlock_means : entries p s ≡ entries_at p (holds writing) → (is_set w ≡ true) × IsMeant p s (releases p writing) (Some (w - 1))
     unlock_means mine =
-        let found = is_holding p s mine in
+        let found = is_holder-from_entries p writing s.holders (ap (λ (e : Entries). e.holders) mine) in
         (set_by_holder cap p w s at.shape word found, ((refl, found), ap (λ n. n ∷ []) (fair_unlock-gives s p writing w word found), goes_away cap p s at.shape found))
 
     -- what it finds where the lock is open to it
     free_word : (is_empty s.holders && is_empty s.starvers) ≡ true → w ≡ 0
-    free_word free = word_free w s word free
+    free_word free =
+        let parts = and_parts (is_empty s.holders) (is_empty s.starvers) free in
+        omega (arith, sym word, ap length (empty_is s.holders parts.0), ap length (empty_is s.starvers parts.1))
 
     clear_word : (is_starver p s.starvers && is_empty s.holders) ≡ true → w % 2 ≡ 0
     clear_word free = flag_clear w s word (and_parts (is_starver p s.starvers) (is_empty s.holders) free).1
@@ -222,10 +201,9 @@ module _ {V : Type 0} (v : V) (cap patience : ℕ) where
   loads_soon false room = rw room refl
 
   retries_soon : (n : ℕ) (same b : Bool) → (0 == n) ≡ same → nat_lt 0 (min cap most_starvers) ≡ b → Soon 4 0 Lock (Register n) None
-  retries_soon n true true same room = rw (same, room) refl
-  retries_soon n true false same room = rw (same, room) refl
   retries_soon n false true same room = rw (same, room) (registers_soon 0 true room)
-  retries_soon n false false same room = rw (same, room) refl
+  retries_soon n true true same room = rw (same, room) refl
+  retries_soon n _ _ same room = rw (same, room) refl
 
   -- a starver that finds the flag clear
   starver_soon : (k w : ℕ) (c : FairCall) (h : Option Hold) → w % 2 ≡ 0 → Soon (suc (suc k)) w c SetFlag h
@@ -250,74 +228,29 @@ module _ {V : Type 0} (v : V) (cap patience : ℕ) where
   soon p _ _ _ s w span = tt
 
   aims : (p : ℕ) (c : FairCall) (l : FairPoint) (h : Option Hold) → AimsAt (fair_table v cap patience) (fair_notes v cap patience) p c l h
-  aims p Lock (Attempt n) None = refl
-  aims p Lock (Look n) None = refl
-  aims p Lock Load None = refl
-  aims p Lock (Register n) None = refl
-  aims p Lock SetFlag None = refl
-  aims p Lock Await None = refl
-  aims p Lock Unregister None = refl
-  aims p TryLock First None = refl
-  aims p TryLockStarver First None = refl
-  aims p IsLocked First None = refl
-  aims p Starve Load None = refl
-  aims p Starve (Register n) None = refl
-  aims p StarverTryLockFair First (Some Starver) = refl
-  aims p StarverTryLockFair Unregister (Some Starver) = refl
-  aims p StarverTryLock SetFlag (Some Starver) = refl
-  aims p StarverTryLock Unregister (Some Starver) = refl
-  aims p StarverLock SetFlag (Some Starver) = refl
-  aims p StarverLock Await (Some Starver) = refl
-  aims p StarverLock Unregister (Some Starver) = refl
-  aims p StarverDrop First (Some Starver) = refl
-  aims p Release First (Some Write) = refl
-  aims p _ _ _ = refl
+  aims p Lock First = elim [ None ↦ refl | Some Starver ↦ refl | _ ↦ refl ]
+  aims p _ First = elim [ None ↦ refl | Some Starver ↦ refl | _ ↦ refl ]
+  aims p _ _ = elim [ None ↦ refl | Some Starver ↦ refl | _ ↦ refl ]
 
   begins : (p : ℕ) (c : FairCall) (h : Option Hold) (s : Plain) → BeginsAt (fair_table v cap patience) (fair_notes v cap patience) c h p s (begin_of (fair_table v cap patience) c h)
-  begins p Lock None s = (refl, refl, tt, (record { counted = λ lt. omega arith; many = omega arith; in_time = none_yet }, refl))
-  begins p TryLock None s = (refl, refl, tt, tt)
-  begins p TryLockStarver None s = (refl, refl, tt, tt)
-  begins p IsLocked None s = (refl, refl, tt, tt)
-  begins p Starve None s = (refl, refl, tt, tt)
-  begins p StarverTryLockFair (Some Starver) s = (refl, refl, tt, tt)
-  begins p StarverTryLock (Some Starver) s = (refl, refl, tt, tt)
-  begins p StarverLock (Some Starver) s = (refl, refl, tt, tt)
-  begins p StarverDrop (Some Starver) s = (refl, refl, tt, tt)
-  begins p Release (Some Write) s = (refl, refl, tt, tt)
-  begins p _ _ s = tt
-
-  fits_looks : (p : ℕ) (l : FairPoint) (c : FairCall) (h : Option Hold) → fits_act fair looks (act_of {V = V} cap patience c l h) p ≡ true
-  fits_looks p First TryLock h = refl
-  fits_looks p _ c h = refl
+  begins p Lock = elim [ None ↦ λ s. (refl, refl, tt, (record { counted = λ lt. omega arith; many = omega arith; in_time = none_yet }, refl)) | _ ↦ λ s. tt ]
+  begins p _ = elim [ None ↦ λ s. search | Some Starver ↦ λ s. search | _ ↦ λ s. search ]
 
   fits_all : (p : ℕ) (c : FairCall) (l : FairPoint) (h : Option Hold) → fits_act fair (asks_of patience c h) (act_of {V = V} cap patience c l h) p ≡ true
   fits_all p Lock First h = refl
-  fits_all p Lock _ h = refl
-  fits_all p c l h = fits_strong fair (asks_of patience c h) (act_of {V = V} cap patience c l h) p refl (fits_looks p l c h)
+  fits_all p _ First h = refl
+  fits_all p _ _ h = refl
 
   sound : (p : ℕ) (c : FairCall) (l : FairPoint) (h : Option Hold) → SoundAt fair (asks_of patience c h) p (point_of c l h)
-  sound p Lock (Attempt n) None = refl
-  sound p Lock (Look n) None = refl
-  sound p Lock Load None = refl
-  sound p Lock (Register n) None = refl
-  sound p Lock SetFlag None = (refl, inr (inl refl))
-  sound p Lock Await None = (refl, inr (inl refl))
-  sound p Lock Unregister None = (refl, inr (inl refl))
-  sound p TryLock First None = refl
-  sound p TryLockStarver First None = refl
-  sound p IsLocked First None = refl
-  sound p Starve Load None = refl
-  sound p Starve (Register n) None = refl
-  sound p StarverTryLockFair First (Some Starver) = refl
-  sound p StarverTryLockFair Unregister (Some Starver) = (refl, inl refl)
-  sound p StarverTryLock SetFlag (Some Starver) = refl
-  sound p StarverTryLock Unregister (Some Starver) = (refl, inl refl)
-  sound p StarverLock SetFlag (Some Starver) = refl
-  sound p StarverLock Await (Some Starver) = refl
-  sound p StarverLock Unregister (Some Starver) = (refl, inl refl)
-  sound p StarverDrop First (Some Starver) = refl
-  sound p Release First (Some Write) = refl
-  sound p _ _ _ = tt
+  sound p Lock First = elim [ None ↦ search | Some Starver ↦ search | _ ↦ search ]
+  sound p Lock SetFlag = elim [ None ↦ (refl, inr (inl refl)) | _ ↦ tt ]
+  sound p Lock Await = elim [ None ↦ (refl, inr (inl refl)) | _ ↦ tt ]
+  sound p Lock Unregister = elim [ None ↦ (refl, inr (inl refl)) | _ ↦ tt ]
+  sound p StarverTryLockFair Unregister = elim [ Some Starver ↦ (refl, inl refl) | _ ↦ tt ]
+  sound p StarverTryLock Unregister = elim [ Some Starver ↦ (refl, inl refl) | _ ↦ tt ]
+  sound p StarverLock Unregister = elim [ Some Starver ↦ (refl, inl refl) | _ ↦ tt ]
+  sound p _ First = elim [ None ↦ search | Some Starver ↦ search | _ ↦ search ]
+  sound p _ _ = elim [ None ↦ search | Some Starver ↦ search | _ ↦ search ]
 
   others : (p q : ℕ) (c : FairCall) (l : FairPoint) (s : Plain) (step : Option Change) (r : StepKind) (span : List Mark) → (q ≡ p → ⊥) → KnowsAt patience c l p s span → KnowsAt patience c l p (apply_some s step) (mark_of q step r s ∷ span)
   others p q Lock (Attempt n) s step r span ne knows = (looking-other patience p q s step r span ne n knows.0, blind-other patience p q s step r span ne knows.1)

@@ -1,17 +1,8 @@
 -- Registering in time: what `lock` knows of the looks in its span, that others leave it true, and what each step makes of it.
-use Rattle.std.proofs.Common.{◌≡◌, ℕ, ◌+◌, ◌<◌, ◌≤◌, ◌⊎◌, ◌==◌, Bool, true, false, not, ◌&&◌, ◌||◌, is_some, nat_lt, if◌then◌else◌, Option, Some, None, List, [], ◌∷◌, ◌++◌, refl, ap, sym, ◌∙◌, subst, arith, inl, inr, ⊎_elim}
-use Rattle.std.proofs.lemmas.Bool.{ne_eqb, eq-eqb, le-ltb, false≢true}
-use Rattle.spin_step.specs.Plain.{Plain, Change, gets, to_starve, is_open}
-use Rattle.spin_step.specs.Parties.{apply_some, is_held}
-use Rattle.spin_step.specs.Steps.{bit}
-use Rattle.spin_world_core.specs.StepKinds.{StepKind, plain, again, look, is_look}
-use Rattle.spin_world_core.specs.Calls.{Mark, AnyOf, Registers, TriesToStarve, first_word}
-use Rattle.spin_world_fair.specs.Kind.{fair}
-use Rattle.spin_world_core.specs.Runs.{mark_of, own, own_count, changes, held_looks, IsLateLook, RegistersInTime}
+use Rattle.spin_world_fair.proofs.Names.{◌≡◌, ℕ, ◌+◌, ◌<◌, ◌≤◌, ◌⊎◌, ◌==◌, true, false, not, ◌&&◌, ◌||◌, is_some, nat_lt, if◌then◌else◌, Option, Some, None, List, [], ◌∷◌, ◌++◌, refl, ap, sym, ◌∙◌, subst, arith, inl, inr, ⊎_elim, ne_eqb, eq-eqb, le-ltb, false≢true, or-true, Plain, Change, gets, to_starve, is_open, apply_some, is_held, bit, StepKind, plain, again, look, is_look, Mark, AnyOf, Registers, TriesToStarve, first_word, fair, mark_of, own, own_count, changes, held_looks, IsLateLook, RegistersInTime, moved, is_open_to}
 use Rattle.spin_world_core.specs.Spans.{is_blind, may_be_blind}
 use Rattle.spin_world_core.proofs.Lists.{eqb_self}
 use Rattle.spin_world_core.proofs.Spans.{own_count-mine, own_count-other, changes-mine, changes-other}
-use Rattle.spin_world_core.proofs.Rows.{moved}
 
 -- a span that is one step longer
 module _ (Few Fewer : List Mark → Type 0) (p n : ℕ) (now : Mark) (span : List Mark) (keeps : (recent : List Mark) → Few recent → TriesToStarve p now ⊎ Fewer (now ∷ recent)) (first : IsLateLook p n now span → Fewer [])
@@ -128,10 +119,6 @@ blind_by : (n p : ℕ) (step : Option Change) (r : StepKind) (s : Plain) (span :
 blind_by n p step r s span is =
     ap (λ b. if b then is_some step || (is_look r && (not (is_held s) || not (nat_lt (held_looks p span) n))) else may_be_blind p n span) (eqb_self p) ∙ is
 
-or_true : (b : Bool) → (b || true) ≡ true
-or_true true = refl
-or_true false = refl
-
 pub blind_after_step : (n p : ℕ) (c : Change) (r : StepKind) (s : Plain) (span : List Mark) → MayBeBlind n p (mark_of p (Some c) r s ∷ span)
 blind_after_step n p c r s span = blind_by n p (Some c) r s span refl
 
@@ -139,7 +126,7 @@ pub blind_after_free : (n p : ℕ) (s : Plain) (span : List Mark) → is_held s 
 blind_after_free n p s span free = blind_by n p None look s span (ap (λ b. not b || not (nat_lt (held_looks p span) n)) free)
 
 pub blind_after_late : (n p : ℕ) (s : Plain) (span : List Mark) → n ≤ held_looks p span → MayBeBlind n p (mark_of p None look s ∷ span)
-blind_after_late n p s span late = blind_by n p None look s span (ap (λ b. not (is_held s) || not b) (le-ltb (held_looks p span) n late) ∙ or_true (not (is_held s)))
+blind_after_late n p s span late = blind_by n p None look s span (ap (λ b. not (is_held s) || not b) (le-ltb (held_looks p span) n late) ∙ or-true _)
 
 held_looks-mine : (p : ℕ) (step : Option Change) (r : StepKind) (s : Plain) (span : List Mark) → held_looks p (mark_of p step r s ∷ span) ≡ held_looks p span + bit (is_look r && is_held s)
 held_looks-mine p step r s span = ap (λ b. held_looks p span + bit (b && (is_look r && is_held s))) (eqb_self p)
@@ -150,7 +137,7 @@ module _ (patience p : ℕ) (s : Plain) (span : List Mark) where
   IsAllowed step r = (not (is_blind (mark_of p step r s)) || may_be_blind p patience span) ≡ true
 
   pub allowed : (step : Option Change) (r : StepKind) → MayBeBlind patience p span → IsAllowed step r
-  allowed step r may = ap (λ b. not (is_blind (mark_of p step r s)) || b) may ∙ or_true (not (is_blind (mark_of p step r s)))
+  allowed step r may = ap (λ b. not (is_blind (mark_of p step r s)) || b) may ∙ or-true (not (is_blind (mark_of p step r s)))
 
   mine : (step : Option Change) (r : StepKind) → IsAllowed step r → (not ((p == p) && is_blind (mark_of p step r s)) || may_be_blind p patience span) ≡ true
   mine step r may = ap (λ b. not (b && is_blind (mark_of p step r s)) || may_be_blind p patience span) (eqb_self p) ∙ may
@@ -238,10 +225,13 @@ module _ (patience p : ℕ) (s : Plain) (span : List Mark) where
   pub looked_starving : own p span ≡ gets p to_starve ∷ [] → RegistersInTime none_left p patience span → RegistersInTime none_left p patience (mark_of p None look s ∷ span)
   looked_starving made old = later none_left none_left p patience (mark_of p None look s) span (λ recent few. inr few) (λ late. cc (made, late.unregistered)) (λ register. absurd (cc (register.1))) (mine None look refl) old
 
--- what shows that a lock is wrong: two steps after a late look, and the looks before it registers
+-- what shows that a lock is wrong: two steps after a late look that try for no place
 
-pub two_steps_after : (p n : ℕ) {Few : List Mark → Type 0} {a b m : Mark} {older : List Mark} → RegistersInTime Few p n (a ∷ b ∷ m ∷ older) → IsLateLook p n m older → AnyOf (TriesToStarve p) (a ∷ b ∷ []) ⊎ Few (a ∷ b ∷ [])
-two_steps_after p n {a = a} {b = b} {m = m} {older = older} law late = law.soon (a ∷ b ∷ []) m older refl late
+in_vain : {p : ℕ} (m : Mark) → (Registers p m → ⊥) × (is_open_to m.before p to_starve ≡ true) → TriesToStarve p m → ⊥
+in_vain m none tries = ⊎_elim none.0 (λ closed. false≢true (sym closed.1 ∙ none.1)) tries
 
-pub looked_before : (p n : ℕ) {Few : List Mark → Type 0} {m : Mark} {older : List Mark} → RegistersInTime Few p n (m ∷ older) → Registers p m → n < held_looks p older
-looked_before p n {m = m} {older = older} law registers = law.patient [] m older refl registers
+pub two_in_vain : (p n : ℕ) {Few : List Mark → Type 0} {a b m : Mark} {older : List Mark} → RegistersInTime Few p n (a ∷ b ∷ m ∷ older)
+    → IsLateLook p n m older → (Registers p a → ⊥) × (is_open_to a.before p to_starve ≡ true) → (Registers p b → ⊥) × (is_open_to b.before p to_starve ≡ true)
+    → (Few (a ∷ b ∷ []) → ⊥) → ⊥
+two_in_vain p n {a = a} {b = b} {m = m} {older = older} law late last first few =
+    ⊎_elim (λ tried. ⊎_elim (in_vain a last) (λ more. ⊎_elim (in_vain b first) (λ none. none) more) tried) few (law.soon (a ∷ b ∷ []) m older refl late)

@@ -206,7 +206,8 @@ opens_with_a_starver v = let m = fair_machine v 2 1 in record m { words = 2 }
 
 -- `lock` goes to its exchange only where it finds neither the flag nor a starver
 abbrev pub waits_for_starvers : {V : Type 0} → V → FairMachine V
-waits_for_starvers v = lock_by v (λ l act. elim l [ Look n ↦ looks_by n (Continue Load) (λ w. either (w == 0) (Continue (Attempt n)) (Continue (Look n))) | _ ↦ act ])
+waits_for_starvers v =
+    lock_by v (λ l act. elim l [ Look n ↦ looks_by n (Continue Load) (λ w. either (w == 0) (Continue (Attempt n)) (Continue (Look n))) | _ ↦ act ])
 
 -- it looks at a clear flag beside a starver, which drops its place then
 abbrev pub lock_beside_a_dropped_starver : {V : Type 0} → Entries V

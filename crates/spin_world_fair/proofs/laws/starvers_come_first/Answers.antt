@@ -1,9 +1,10 @@
 use Rattle.spin_world_core.specs.Runs.{opening, scene}
 use Rattle.spin_world_core.specs.Users.{seen_after}
-use Rattle.spin_world_core.proofs.Every.{kept, good_first, good_after}
+use Rattle.spin_world_core.proofs.Every.{kept}
+use Rattle.spin_world_core.proofs.Reached.{good}
 use Rattle.spin_world_fair.specs.Fair.{fair_machine}
-use Rattle.spin_world_fair.proofs.Owed.{fair_keeping, fair_facts}
 use Rattle.spin_world_fair.proofs.Fairness.{comes_after_starvers}
+use Rattle.spin_world_fair.proofs.Owed.{fair_keeping, fair_facts}
 use Rattle.spin_world_fair.proofs.laws.starvers_come_first.Goals as goal
 
 pub returns : goal.returns
@@ -12,5 +13,5 @@ returns g c = λ fair n past p move.
     let k = fair_keeping fair.value fair.cap fair.patience in
     let f = fair_facts fair.value fair.cap fair.patience in
     let before = seen_after m (opening m n) past in
-    let keeps = (kept m k f before p move (good_after m k f (opening m n) past (good_first m k f n))).keeps in
+    let keeps = (kept m k f before p move (good m k f n past)).keeps in
     λ idle newcomer holds. comes_after_starvers before.plain p (scene m before p move).change keeps.opens keeps.belongs idle newcomer holds

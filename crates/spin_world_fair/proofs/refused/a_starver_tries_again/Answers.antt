@@ -6,5 +6,4 @@ use Rattle.spin_world_core.proofs.Otherwise.{four_steps}
 use Rattle.spin_world_fair.proofs.refused.a_starver_tries_again.Goals as goal
 
 pub returns : goal.returns
-returns g c = λ value all.
-    four_steps fair 1 (waits to_lock_starving) all.1.1.1.1.1.1.1.1.1.1.1.1.0.undisturbed refl (record { party = refl; strong = refl }) (record { party = refl; strong = refl }) (record { party = refl; strong = refl }) (record { party = refl; strong = refl }) refl
+returns g c = λ value all. four_steps fair 1 (waits to_lock_starving) all.1.1.1.1.1.1.1.1.1.1.1.1.0.undisturbed refl (search) (search) (search) (search) refl
