@@ -1,29 +1,10 @@
 -- What users of a barrier rely on.
-use Rattle.std.proofs.Common.{◌≡◌, ℕ, ◌+◌, ◌/◌, ◌%◌, ◌^◌, ◌==◌, ◌↔◌, Bool, true, false, Option, Some, None, [], ◌∷◌, slice_get, refl, ap, sym, ◌∙◌, arith, eq-eqb, eqb-true}
-use Rattle.std.specs.Prelude.{max}
-use Rattle.std.proofs.lemmas.Bool.{false≢true}
-use Rattle.spin_step.specs.Plain.{arrives}
-use Rattle.spin_step.specs.Barriers.{may_leave}
-use Rattle.spin_step.proofs.Barriers.{barrier_arrive-words, barrier_may_leave-tells}
-use Rattle.spin_world_core.specs.declared.answer.Answer.{Answer}
-use Rattle.spin_world_core.specs.declared.answer.Answer.TheVariants.{Leader, Follower}
-use Rattle.spin_world_core.specs.declared.place.Hold.{Hold}
+use Rattle.spin_world_barrier.proofs.Names.{◌≡◌, ℕ, ◌+◌, ◌/◌, ◌%◌, ◌^◌, ◌==◌, ◌↔◌, Bool, true, false, Option, Some, None, [], ◌∷◌, slice_get, refl, ap, sym, ◌∙◌, arith, eq-eqb, eqb-true, max, false≢true, arrives, may_leave, barrier_arrive-words, barrier_may_leave-tells, Answer, Leader, Follower, Hold, Continue, Answers, BarrierWords, BarrierCall, BarrierPoint, Arrive, Leave, either, stays, Seen, scene, step_at, opening, own, arrived, seen_after, passes, steps_made, BarrierMachine, is_past, arrive, leads, barrier_machine, is_arrival, Entries, seen_at, arrivals, InGroups, FollowersLeave}
 use Rattle.spin_world_core.specs.declared.place.Seat.{Seat}
 use Rattle.spin_world_core.specs.declared.place.Seat.TheVariants.{Calling}
-use Rattle.spin_world_core.specs.declared.object.Next.TheVariants.{Continue, Answers}
 use Rattle.spin_world_core.specs.declared.schedule.Move.TheVariants.{Step}
 use Rattle.spin_world_core.specs.declared.schedule.Outcome.TheVariants.{Answered}
-use Rattle.spin_world_barrier.specs.declared.barrier.BarrierWords.{BarrierWords}
-use Rattle.spin_world_barrier.specs.declared.barrier.BarrierCall.{BarrierCall}
-use Rattle.spin_world_barrier.specs.declared.barrier.BarrierPoint.{BarrierPoint}
-use Rattle.spin_world_barrier.specs.declared.barrier.BarrierPoint.TheVariants.{Arrive, Leave}
-use Rattle.spin_world_core.specs.Acts.{either, stays}
 use Rattle.spin_world_core.specs.Schedules.{State, happens, moves_at, stepped, after, at_first}
-use Rattle.spin_world_core.specs.Runs.{Seen, scene, step_at, opening, own}
-use Rattle.spin_world_core.specs.Undisturbed.{arrived}
-use Rattle.spin_world_core.specs.Users.{seen_after, passes, steps_made}
-use Rattle.spin_world_barrier.specs.Barrier.{BarrierMachine, is_past, arrive, leads, barrier_machine}
-use Rattle.spin_world_barrier.specs.Groups.{is_arrival, Entries, seen_at, arrivals, InGroups, FollowersLeave}
 use Rattle.spin_world_core.proofs.Preserved.{Invariant, in_call}
 use Rattle.spin_world_core.proofs.Every.{kept, good_first, good_after, state-seen_after}
 use Rattle.spin_world_barrier.proofs.Owed.{barrier_keeping, barrier_facts, is_barrier, one_more}

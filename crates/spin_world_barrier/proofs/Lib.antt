@@ -1,2 +1,3 @@
+pub mod Names
 pub mod Owed
 pub mod Groups

@@ -1,31 +1,12 @@
 -- What the barrier's table owes.
-use Rattle.std.proofs.Common.{◌≡◌, ℕ, zero, suc, ◌+◌, ◌/◌, ◌%◌, ◌^◌, ◌≤◌, ◌==◌, Bool, true, false, ◌&&◌, ◌||◌, is_some, Option, Some, None, List, [], ◌∷◌, if◌then◌else◌, refl, ap, sym, ◌∙◌, subst, arith, inl, inr}
-use Rattle.std.specs.Prelude.{max}
-use Rattle.std.proofs.lemmas.Bool.{false≢true, true≢false, ne_eqb}
+use Rattle.spin_world_barrier.proofs.Names.{◌≡◌, ℕ, ◌+◌, ◌/◌, ◌%◌, ◌^◌, ◌≤◌, ◌==◌, true, false, ◌&&◌, ◌||◌, is_some, Option, Some, None, List, [], ◌∷◌, if◌then◌else◌, refl, ap, sym, ◌∙◌, subst, arith, inl, inr, max, false≢true, true≢false, ne_eqb, Plain, Change, arrives, apply, count_word, generation_word, IsBarrier, is_leading, generation_at, may_leave, barrier_arrive-words, barrier_count-below, barrier_may_leave-tells, barrier_may_leave-full, Answer, Leader, Follower, Hold, Continue, Answers, BarrierWords, BarrierCall, BarrierPoint, Arrive, Leave, arrived, either, begin_of, mark_of, passes, is_arrival, is_past, leads, act_of, barrier_table, barrier_machine}
 use Rattle.std.proofs.Math.Bool.{and-false}
 use Rattle.std.proofs.Math.Nat.{mod-le, div-le_self}
-use Rattle.spin_step.specs.Plain.{Plain, Change, arrives, apply, count_word, generation_word}
 use Rattle.spin_step.specs.Parties.{apply_some}
-use Rattle.spin_step.specs.Barriers.{IsBarrier, is_leading, generation_at, may_leave}
-use Rattle.spin_step.proofs.Barriers.{barrier_arrive-words, barrier_count-below, barrier_may_leave-tells, barrier_may_leave-full}
-use Rattle.spin_world_core.specs.declared.answer.Answer.{Answer}
-use Rattle.spin_world_core.specs.declared.answer.Answer.TheVariants.{Leader, Follower}
-use Rattle.spin_world_core.specs.declared.place.Hold.{Hold}
-use Rattle.spin_world_core.specs.declared.object.Next.TheVariants.{Continue, Answers}
-use Rattle.spin_world_barrier.specs.declared.barrier.BarrierWords.{BarrierWords}
-use Rattle.spin_world_barrier.specs.declared.barrier.BarrierCall.{BarrierCall}
-use Rattle.spin_world_barrier.specs.declared.barrier.BarrierPoint.{BarrierPoint}
-use Rattle.spin_world_barrier.specs.declared.barrier.BarrierPoint.TheVariants.{Arrive, Leave}
 use Rattle.spin_world_core.specs.StepKinds.{StepKind, plain}
 use Rattle.spin_world_core.specs.Calls.{BelongsTo, Mark, meets, follows, AnyOf, Arrives}
 use Rattle.spin_world_barrier.specs.Kind.{barrier}
-use Rattle.spin_world_core.specs.Undisturbed.{arrived}
-use Rattle.spin_world_core.specs.Acts.{either, begin_of}
-use Rattle.spin_world_core.specs.Runs.{mark_of}
-use Rattle.spin_world_core.specs.Users.{passes}
 use Rattle.spin_step.specs.Steps.{bit}
-use Rattle.spin_world_barrier.specs.Groups.{is_arrival}
-use Rattle.spin_world_barrier.specs.Barrier.{is_past, leads, barrier_memory, act_of, barrier_table, barrier_machine}
 use Rattle.spin_world_core.proofs.Lists.{eqb_self}
 use Rattle.spin_world_core.proofs.Facts.{LocalInvariant, Facts}
 use Rattle.spin_world_core.proofs.Stands.{absent}

@@ -1,5 +1,5 @@
 -- Barriers that are wrong, each in one part of its machine, and schedules on which the laws refuse them.
-use Rattle.std.specs.Prelude.{ℕ, ◌==◌, ◌&&◌, Option, Some, None, [], ◌∷◌, ◌+◌}
+use Rattle.std.specs.Prelude.{ℕ, ◌==◌, ◌&&◌, Some, None, [], ◌∷◌, ◌+◌}
 use Rattle.spin_world_core.specs.declared.object.Next.TheVariants.{Continue, Answers}
 use Rattle.spin_world_core.specs.declared.object.Next.{Next}
 use Rattle.spin_world_core.specs.declared.answer.Answer.{Answer}

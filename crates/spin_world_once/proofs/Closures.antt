@@ -1,31 +1,8 @@
 -- What users of a `Once` rely on where closures begin, also after one that failed.
-use Rattle.std.proofs.Common.{◌≡◌, ℕ, ◌==◌, Bool, true, false, Option, Some, None, List, [], ◌∷◌, ◌++◌, slice_get, refl, ap, ◌∙◌, subst, ◌⊎◌, inl, inr}
-use Rattle.std.proofs.lemmas.Bool.{false≢true}
-use Rattle.spin_step.specs.Flags.{begun}
-use Rattle.spin_world_core.specs.declared.answer.Answer.{Answer}
-use Rattle.spin_world_core.specs.declared.answer.Answer.TheVariants.{NoValue, Failed}
-use Rattle.spin_world_core.specs.declared.place.Hold.{Hold}
+use Rattle.spin_world_once.proofs.Names.{◌≡◌, ℕ, ◌==◌, Bool, true, false, Option, Some, None, List, [], ◌∷◌, ◌++◌, slice_get, refl, ap, ◌∙◌, subst, ◌⊎◌, inl, inr, false≢true, begun, Answer, NoValue, Failed, Hold, Calling, Next, Continue, Answers, Stepped, Step, Plain, to_begin, gets, Seen, step_at, Mark, one_number, change_by, either, becomes, filled, step_by, completes_by, step_with, happens, moves_at, goes_on, placed, stepped, after, at_first, OnceCall, CallOnce, TryCallOnceOk, TryCallOnceErr, InitFromRef, Wait, Poll, Get, IsCompleted, OncePoint, Look, TryBegin, Await, Run, is_there, tells, runs, ends, OnceAct, asks_of, brings_of, OnceMachine, once_machine, Entries, once_after, RunsClosure, seen_at, has_just_looked, has_closure, MayRunAgain, LooksFirst, after-append, Invariant, in_call}
 use Rattle.spin_world_core.specs.declared.place.Seat.{Seat}
-use Rattle.spin_world_core.specs.declared.place.Seat.TheVariants.{Calling}
-use Rattle.spin_world_core.specs.declared.object.Next.{Next}
-use Rattle.spin_world_core.specs.declared.object.Next.TheVariants.{Continue, Answers}
-use Rattle.spin_world_core.specs.declared.object.Stepped.{Stepped}
-use Rattle.spin_world_core.specs.declared.schedule.Move.TheVariants.{Step}
 use Rattle.spin_world_core.specs.declared.schedule.Outcome.TheVariants as outcome
-use Rattle.spin_step.specs.Plain.{Plain, to_begin, gets}
-use Rattle.spin_world_core.specs.Runs.{Seen, step_at}
-use Rattle.spin_world_core.specs.Calls.{Mark}
-use Rattle.spin_world_core.specs.Acts.{one_number, change_by, either, becomes, filled, step_by, completes_by, step_with}
-use Rattle.spin_world_core.specs.Schedules.{happens, moves_at, goes_on, placed, stepped, after, at_first}
-use Rattle.spin_world_once.specs.declared.once.OnceCall.{OnceCall}
-use Rattle.spin_world_once.specs.declared.once.OnceCall.TheVariants.{CallOnce, TryCallOnceOk, TryCallOnceErr, InitFromRef, Wait, Poll, Get, IsCompleted}
-use Rattle.spin_world_once.specs.declared.once.OncePoint.{OncePoint}
-use Rattle.spin_world_once.specs.declared.once.OncePoint.TheVariants.{Look, TryBegin, Await, Run}
-use Rattle.spin_world_once.specs.Once.{is_there, tells, runs, ends, OnceAct, asks_of, brings_of, OnceMachine, once_machine}
-use Rattle.spin_world_once.specs.Keeping.{Entries, once_after, RunsClosure, seen_at, has_just_looked, has_closure, MayRunAgain, LooksFirst}
 use Rattle.spin_world_core.proofs.Lists.{get-set_same}
-use Rattle.spin_world_core.proofs.Schedules.{after-append}
-use Rattle.spin_world_core.proofs.Preserved.{Invariant, in_call}
 use Rattle.spin_world_once.proofs.Owed.{once_keeping}
 use Rattle.spin_world_once.proofs.Keeping.{OnceState, good, not_at_run, run_here}
 

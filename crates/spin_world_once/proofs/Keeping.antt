@@ -1,39 +1,12 @@
 -- What users of a `Once` rely on: one closure at a time, and one value.
-use Rattle.std.proofs.Common.{◌≡◌, ℕ, ◌==◌, true, false, not, is_some, Option, Some, None, List, [], ◌∷◌, ◌++◌, slice_get, refl, ap, sym, ◌∙◌, subst}
-use Rattle.std.proofs.lemmas.Bool.{and_parts, false≢true}
-use Rattle.spin_step.specs.Plain.{Plain, Phase, running, complete, to_begin, Change, gets, completes, is_running, is_complete, is_empty, once_word}
-use Rattle.spin_step.specs.Parties.{IsOpenStep}
-use Rattle.spin_step.proofs.Onces.{phase_word}
-use Rattle.spin_world_core.specs.declared.answer.Answer.{Answer}
-use Rattle.spin_world_core.specs.declared.answer.Answer.TheVariants.{Value, NoValue}
-use Rattle.spin_world_core.specs.declared.place.Hold.{Hold}
-use Rattle.spin_world_core.specs.declared.place.Seat.TheVariants.{Calling}
-use Rattle.spin_world_core.specs.declared.object.Next.TheVariants.{Answers}
-use Rattle.spin_world_core.specs.declared.object.Stepped.{Stepped}
+use Rattle.spin_world_once.proofs.Names.{◌≡◌, ℕ, ◌==◌, true, false, not, is_some, Option, Some, None, List, [], ◌∷◌, ◌++◌, slice_get, refl, ap, sym, ◌∙◌, subst, and_parts, false≢true, Plain, Phase, running, complete, to_begin, Change, gets, completes, is_running, is_complete, is_empty, once_word, IsOpenStep, phase_word, Answer, Value, NoValue, Hold, Calling, Answers, Stepped, Step, Write, OwnerSet, one_number, step_by, completes_by, step_with, State, happens, moves_at, goes_on, placed, stepped, after, at_first, Seen, scene, opening, own, last_written, placed_at, MayTouch, Mark, polls, OnceCall, CallOnce, Wait, Poll, Get, IsCompleted, OncePoint, Look, Run, runs, ends, OnceAct, asks_of, brings_of, once_table, OnceMachine, once_machine, Entries, once_after, seen_at, keeps_value, is_shared, ValueStays, RunsClosure, answer_of, OneRuns, wants_value, has_closure, AnswersAtOnce, GetAgrees, after-append, InCall, Row, row_of, Invariant, never}
 use Rattle.spin_world_core.specs.declared.schedule.Move.{Move}
-use Rattle.spin_world_core.specs.declared.schedule.Move.TheVariants.{Step, Write, OwnerSet}
 use Rattle.spin_world_core.specs.declared.schedule.Outcome.{Outcome}
 use Rattle.spin_world_core.specs.declared.schedule.Outcome.TheVariants as outcome
-use Rattle.spin_world_core.specs.Acts.{one_number, step_by, completes_by, step_with}
-use Rattle.spin_world_core.specs.Schedules.{State, happens, moves_at, goes_on, placed, stepped, after, at_first}
-use Rattle.spin_world_core.specs.Runs.{Seen, scene, opening, own, last_written, placed_at, MayTouch}
 use Rattle.spin_world_core.specs.Users.{outcome_after}
 use Rattle.spin_world_core.specs.Values.{GivesAt}
-use Rattle.spin_world_core.specs.Calls.{Mark, polls}
-use Rattle.spin_world_once.specs.declared.once.OnceCall.{OnceCall}
-use Rattle.spin_world_once.specs.declared.once.OnceCall.TheVariants.{CallOnce, TryCallOnceOk, TryCallOnceErr, InitFromRef, Wait, Poll, Get, IsCompleted}
-use Rattle.spin_world_once.specs.declared.once.OncePoint.{OncePoint}
-use Rattle.spin_world_once.specs.declared.once.OncePoint.TheVariants.{Look, Run}
-use Rattle.spin_world_once.specs.Once.{runs, ends, OnceAct, asks_of, brings_of, once_table, OnceMachine, once_machine}
-use Rattle.spin_world_once.specs.Keeping.{Entries, once_after, seen_at, keeps_value, is_shared, ValueStays, RunsClosure, answer_of, OneRuns, wants_value, has_closure, AnswersAtOnce, GetAgrees}
-use Rattle.spin_world_core.proofs.Schedules.{after-append}
-use Rattle.spin_world_core.proofs.Facts.{InCall}
-use Rattle.spin_world_core.proofs.Rows.{Row}
-use Rattle.spin_world_core.proofs.Shapes.{row_of}
-use Rattle.spin_world_core.proofs.Preserved.{Invariant}
 use Rattle.spin_world_core.proofs.Every.{kept, state-seen_after}
 use Rattle.spin_world_core.proofs.Reached as reached
-use Rattle.spin_world_core.proofs.Usual.{never}
 use Rattle.spin_world_core.proofs.Reached.{numbers_are, calls, passes_some, row_passes}
 use Rattle.spin_world_core.proofs.Paid.{uncompleted}
 use Rattle.spin_world_core.proofs.Values as values

@@ -1,3 +1,4 @@
+pub mod Names
 pub mod Owed
 pub mod Keeping
 pub mod Closures

@@ -1,33 +1,10 @@
 -- What the table of a `Once` owes.
-use Rattle.std.proofs.Common.{◌≡◌, ℕ, ◌==◌, Bool, true, false, not, ◌&&◌, ◌||◌, is_some, Option, Some, None, List, [], ◌∷◌, if◌then◌else◌, filter, refl, ap, ◌∙◌, subst, inl, inr}
-use Rattle.std.proofs.lemmas.Bool.{false≢true, eq-eqb, ne_eqb}
-use Rattle.spin_step.specs.Plain.{Plain, writing, same_kind, Phase, nothing, running, complete, Holder, Ticket as Queued, to_begin, Change, gets, completes, fails, apply, is_running, is_nothing, is_complete, is_empty, once_word}
+use Rattle.spin_world_once.proofs.Names.{◌≡◌, ℕ, ◌==◌, Bool, true, false, not, ◌&&◌, ◌||◌, is_some, Option, Some, None, List, [], ◌∷◌, if◌then◌else◌, filter, refl, ap, ◌∙◌, subst, inl, inr, false≢true, eq-eqb, ne_eqb, Plain, writing, same_kind, Phase, nothing, running, complete, Holder, Queued, to_begin, Change, gets, completes, fails, apply, is_running, is_nothing, is_complete, is_empty, once_word, apply_some, IsOpenStep, entries, is_held, phase_word, complete-word, nothing-word, running-word, once_begin-grants, runs-others, begun, Answer, NoValue, Hold, Next, Continue, Answers, OnceCall, CallOnce, TryCallOnceOk, TryCallOnceErr, InitFromRef, Wait, Poll, Get, IsCompleted, OncePoint, Look, TryBegin, Await, Run, looks, Mark, Said, gives_value, failed, may_be_weak, one_number, Act, either, becomes, made_if, begin_of, is_writer, mark_of, opening_word, is_there, tells, runs, ends, act_of, asks_of, brings_of, once_table, once_machine, has_just_looked, LocalInvariant, Facts, goes, misses, Row, Point, nowhere, looked, onward, SoundAt, aim_of, Notes, Means, OwesAt, answers_by, OwesSoon, BeginsAt, CallOf, AtPoint, aimless, no_holders, means_word, branches}
 use Rattle.std.specs.List.{list_any}
-use Rattle.spin_step.specs.Parties.{apply_some, IsOpenStep, entries, is_held}
-use Rattle.spin_step.proofs.Onces.{phase_word, complete-word, nothing-word, running-word, once_begin-grants, runs-others}
-use Rattle.spin_step.specs.Flags.{begun}
-use Rattle.spin_world_core.specs.declared.answer.Answer.{Answer}
-use Rattle.spin_world_core.specs.declared.answer.Answer.TheVariants.{NoValue}
-use Rattle.spin_world_core.specs.declared.place.Hold.{Hold}
-use Rattle.spin_world_core.specs.declared.object.Next.{Next}
-use Rattle.spin_world_core.specs.declared.object.Next.TheVariants.{Continue, Answers}
-use Rattle.spin_world_once.specs.declared.once.OnceCall.{OnceCall}
-use Rattle.spin_world_once.specs.declared.once.OnceCall.TheVariants.{CallOnce, TryCallOnceOk, TryCallOnceErr, InitFromRef, Wait, Poll, Get, IsCompleted}
-use Rattle.spin_world_once.specs.declared.once.OncePoint.{OncePoint}
-use Rattle.spin_world_once.specs.declared.once.OncePoint.TheVariants.{Look, TryBegin, Await, Run}
 use Rattle.spin_world_core.specs.StepKinds.{StepKind, plain, look, is_look}
-use Rattle.spin_world_core.specs.Calls.{Asked, looks, initializes, fails_to_initialize, Mark, Said, gives_value, failed, may_be_weak}
 use Rattle.spin_world_once.specs.Kind.{once}
-use Rattle.spin_world_core.specs.Acts.{one_number, Act, either, becomes, made_if, begin_of}
 use Rattle.spin_world_core.specs.Machines.{opening_phase, opening_plain}
-use Rattle.spin_world_core.specs.Runs.{is_writer, mark_of}
-use Rattle.spin_world_once.specs.Once.{opening_word, is_there, tells, runs, ends, OnceAct, act_of, asks_of, brings_of, once_table, once_machine}
-use Rattle.spin_world_once.specs.Keeping.{has_just_looked}
-use Rattle.spin_world_core.proofs.Facts.{LocalInvariant, Facts}
 use Rattle.spin_world_core.proofs.Stands.{absent}
-use Rattle.spin_world_core.proofs.Rows.{goes, misses, Row, Point, nowhere, looked, onward, SoundAt}
-use Rattle.spin_world_core.proofs.Shapes.{aim_of, Notes, Means, OwesAt, answers_by, OwesSoon, BeginsAt, CallOf, AtPoint}
-use Rattle.spin_world_core.proofs.Usual.{aimless, no_holders, means_word, branches}
 use Rattle.spin_world_core.proofs.Operating.{fits_act, fits_strong, one_place, operates_by}
 use Rattle.spin_world_core.proofs.Filled.{CompletesRight, TellsOf, TellsBy, PaysWith, keeping_with, facts_with}
 

@@ -1,20 +1,5 @@
 -- No step of a `Once` looks at the value where the word does not say that there is one.
-use Rattle.std.proofs.Common.{◌≡◌, ℕ, ◌==◌, Bool, true, false, Option, Some, None, refl, ap}
-use Rattle.std.proofs.lemmas.Bool.{true≢false, ne_eqb}
-use Rattle.spin_step.specs.Flags.{begun}
-use Rattle.spin_world_core.specs.declared.answer.Answer.{Answer}
-use Rattle.spin_world_core.specs.declared.answer.Answer.TheVariants.{NoValue}
-use Rattle.spin_world_core.specs.declared.place.Hold.{Hold}
-use Rattle.spin_world_core.specs.declared.object.Next.{Next}
-use Rattle.spin_world_core.specs.declared.object.Next.TheVariants.{Continue, Answers}
-use Rattle.spin_world_core.specs.declared.object.Stepped.{Stepped}
-use Rattle.spin_world_core.specs.Acts.{one_number, either, becomes, filled, step_by, completes_by, step_with}
-use Rattle.spin_world_once.specs.declared.once.OnceCall.{OnceCall}
-use Rattle.spin_world_once.specs.declared.once.OnceCall.TheVariants.{CallOnce, TryCallOnceOk, TryCallOnceErr, InitFromRef, Wait, Poll, Get, IsCompleted}
-use Rattle.spin_world_once.specs.declared.once.OncePoint.{OncePoint}
-use Rattle.spin_world_once.specs.declared.once.OncePoint.TheVariants.{Look, TryBegin, Await, Run}
-use Rattle.spin_world_once.specs.Once.{is_there, tells, runs, ends, OnceAct, brings_of, once_machine}
-use Rattle.spin_world_once.specs.Keeping.{LooksWhereComplete}
+use Rattle.spin_world_once.proofs.Names.{◌≡◌, ℕ, ◌==◌, Bool, true, false, Option, Some, None, refl, ap, true≢false, ne_eqb, begun, Answer, NoValue, Hold, Next, Continue, Answers, Stepped, one_number, either, becomes, filled, step_by, completes_by, step_with, OnceCall, Wait, Poll, Get, IsCompleted, OncePoint, Look, TryBegin, Await, Run, is_there, tells, runs, ends, OnceAct, brings_of, once_machine, LooksWhereComplete}
 
 module _ {V : Type 0} (u v : Option V) where
   abbrev AsNext : Type 0

@@ -1,15 +1,7 @@
 -- What a party finds of a queue of tickets, that another party's step leaves it true, and what it comes to.
-use Rattle.std.proofs.Common.{◌≡◌, ℕ, ◌+◌, ◌<◌, ◌-◌, ◌≤◌, ◌⊎◌, Bool, true, false, not, ◌&&◌, Option, Some, None, List, [], ◌∷◌, ◌++◌, length, refl, ap, sym, ◌∙◌, arith, inl, inr}
+use Rattle.spin_world_ticket.proofs.Names.{◌≡◌, ℕ, ◌+◌, ◌<◌, ◌-◌, ◌≤◌, ◌⊎◌, Bool, true, false, not, ◌&&◌, Option, Some, None, List, [], ◌∷◌, ◌++◌, length, refl, ap, sym, ◌∙◌, arith, inl, inr, Plain, queued, Queued, ticket_limit, to_take_and_enter, Change, apply, is_empty, is_open_to, serving_word, apply_some, IsOpenStep, is_held, Numbered, Advances, serving-advances, nobody_stands, somebody_stands, StepKind, plain, mark_of, is_left, any_map}
 use Rattle.std.proofs.lemmas.Bool.{lt-ltb, ltb-true}
-use Rattle.spin_step.specs.Plain.{Plain, ticket as queued, Ticket as Queued, ticket_limit, to_take_and_enter, Change, apply, is_empty, is_open_to, serving_word}
-use Rattle.spin_step.specs.Parties.{apply_some, IsOpenStep, is_held}
-use Rattle.spin_step.specs.Tickets.{Numbered}
-use Rattle.spin_step.proofs.Tickets.{Advances, serving-advances, nobody_stands, somebody_stands}
-use Rattle.spin_world_core.specs.StepKinds.{StepKind, plain}
 use Rattle.spin_world_core.specs.Calls.{Mark, AnyOf}
-use Rattle.spin_world_core.specs.Runs.{mark_of}
-use Rattle.spin_world_ticket.specs.Ticket.{is_left}
-use Rattle.spin_world_core.proofs.Rows.{any_map}
 
 -- the shape of the lock: a queue without other holders
 pub record Queue (s : Plain) : Type 0 where

@@ -1,3 +1,4 @@
+pub mod Names
 pub mod Knowledge
 pub mod Operating
 pub mod Owed

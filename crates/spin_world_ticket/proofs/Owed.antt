@@ -1,35 +1,13 @@
 -- What the ticket lock's table owes.
-use Rattle.std.proofs.Common.{◌≡◌, ℕ, zero, suc, ◌+◌, ◌-◌, ◌≤◌, ◌==◌, Bool, true, false, not, ◌&&◌, ◌||◌, cond, filter, if◌then◌else◌, Option, Some, None, List, [], ◌∷◌, refl, ap, sym, ◌∙◌, subst, arith, inl, inr, eq-eqb}
+use Rattle.spin_world_ticket.proofs.Names.{◌≡◌, ℕ, suc, ◌+◌, ◌-◌, ◌≤◌, ◌==◌, Bool, true, false, not, ◌&&◌, ◌||◌, cond, filter, if◌then◌else◌, Option, Some, None, List, [], ◌∷◌, refl, ap, sym, ◌∙◌, subst, arith, inl, inr, eq-eqb, Plain, Queued, queued, is_first, Ask, effect, to_take_ticket, to_enter, to_take_and_enter, Change, gets, serves, apply, is_open, is_empty, next_word, serving_word, apply_some, IsOpenStep, Entries, entries, is_held, Decides, take, enters_in_turn, numbered-given, numbered-serves, serving-taken, serving-entered, entered_is_served, stands, Answer, Continue, Hold, TicketWords, TicketCall, Lock, TryLock, IsLocked, Release, TicketPoint, LoadNext, Take, Await, TryLoadNext, TryLoadServing, TryTake, LookServing, LookNext, Serve, mark_of, own_count, StepKind, plain, passing, begin_of, is_left, act_of, asks_of, ticket_table, ticket_machine, LocalInvariant, Facts, queues, entries_at, any_map, SoundAt, Row, Point, nowhere, looked, onward, AimsAt, Notes, keeping_of, Means, OwesAt, answers_by, OwesSoon, BeginsAt, Pays, CallOf, AtPoint, two, no_holders, retries_soon, only_left, two_places}
 use Rattle.std.proofs.lemmas.Bool.{and_parts, eqb-true, true≢false}
-use Rattle.spin_step.specs.Plain.{Plain, Ticket as Queued, ticket as queued, is_first, Ask, effect, to_take_ticket, to_enter, to_take_and_enter, Change, gets, serves, apply, is_open, is_empty, next_word, serving_word}
-use Rattle.spin_step.specs.Parties.{apply_some, IsOpenStep, Entries, entries, is_held}
-use Rattle.spin_step.specs.Steps.{Decides}
-use Rattle.spin_step.specs.Tickets.{take}
-use Rattle.spin_step.proofs.Tickets.{enters_in_turn, numbered-given, numbered-serves, serving-taken, serving-entered, entered_is_served, stands}
 use Rattle.spin_step.proofs.TicketSteps.{ticket_take-grants, ticket_take-grants_alone, ticket_serve-gives}
-use Rattle.spin_world_core.specs.declared.answer.Answer.{Answer}
-use Rattle.spin_world_core.specs.declared.object.Next.TheVariants.{Continue}
-use Rattle.spin_world_core.specs.declared.place.Hold.{Hold}
 use Rattle.spin_world_core.specs.declared.place.Hold.TheVariants as hold
-use Rattle.spin_world_ticket.specs.declared.ticket.TicketWords.{TicketWords}
-use Rattle.spin_world_ticket.specs.declared.ticket.TicketCall.{TicketCall}
-use Rattle.spin_world_ticket.specs.declared.ticket.TicketCall.TheVariants.{Lock, TryLock, IsLocked, Release}
-use Rattle.spin_world_ticket.specs.declared.ticket.TicketPoint.{TicketPoint}
-use Rattle.spin_world_ticket.specs.declared.ticket.TicketPoint.TheVariants.{LoadNext, Take, Await, TryLoadNext, TryLoadServing, TryTake, LookServing, LookNext, Serve}
-use Rattle.spin_world_core.specs.Calls.{Mark, AnyOf, looks, granted, may_be_weak}
+use Rattle.spin_world_core.specs.Calls.{Mark, AnyOf, granted}
 use Rattle.spin_world_ticket.specs.Kind.{ticket}
-use Rattle.spin_world_core.specs.Runs.{mark_of, own_count}
-use Rattle.spin_world_core.specs.StepKinds.{StepKind, plain}
-use Rattle.spin_world_core.specs.Acts.{passing, begin_of}
-use Rattle.spin_world_ticket.specs.Ticket.{is_left, ticket_memory, act_of, asks_of, ticket_table, ticket_machine}
 use Rattle.spin_world_core.proofs.Lists.{eqb_self}
-use Rattle.spin_world_core.proofs.Operating.{fits_act, fits_strong, operates_by}
-use Rattle.spin_world_core.proofs.Facts.{LocalInvariant, Facts}
+use Rattle.spin_world_core.proofs.Operating.{fits_act, operates_by}
 use Rattle.spin_world_core.proofs.Spans.{own_count-mine, own_count-other}
-use Rattle.spin_world_core.proofs.Stands.{queues, entries_at}
-use Rattle.spin_world_core.proofs.Rows.{any_map, SoundAt, Row, Point, nowhere, looked, onward}
-use Rattle.spin_world_core.proofs.Shapes.{AimsAt, Notes, keeping_of, Means, OwesAt, answers_by, OwesSoon, BeginsAt, Pays, CallOf, AtPoint}
-use Rattle.spin_world_core.proofs.Usual.{two, no_holders, retries_soon, only_left, two_places}
 use Rattle.spin_world_core.proofs.Paid.{facts_of}
 use Rattle.spin_world_ticket.proofs.Knowledge.{free_number, Queue, Stays, Rises, stays-other, rises-other, stays_now, try_refused, look_held, look_free, ticket_left, taken_queue}
 

@@ -1,40 +1,13 @@
 -- What users of a ticket lock rely on.
-use Rattle.std.proofs.Common.{◌≡◌, ℕ, ◌+◌, ◌==◌, ◌↔◌, Bool, true, false, Option, Some, None, List, [], ◌∷◌, ◌++◌, slice_get, not, ◌&&◌, refl, ap, sym, ◌∙◌, subst, arith}
+use Rattle.spin_world_ticket.proofs.Names.{◌≡◌, ℕ, ◌+◌, ◌==◌, ◌↔◌, Bool, true, false, Option, Some, None, List, [], ◌∷◌, ◌++◌, slice_get, not, ◌&&◌, refl, ap, sym, ◌∙◌, arith, Plain, Queued, Change, gets, serving_word, apply_some, IsOpenStep, Entries, bit, Numbered, gone, serving-moves, entered_is_served, Answer, Hold, Calling, Holding, Continue, Move, Step, Answered, TicketCall, Lock, TicketPoint, Await, TicketWords, State, moves_at, stepped, after, at_first, Seen, scene, opening, becomes, passing, ticket_table, ticket_machine, granted, seen_after, passes, serves_one, tickets_gone, InOrder, InTurn, LocalInvariant, never}
 use Rattle.std.proofs.lemmas.Bool.{eqb-true, eq-eqb, true≢false}
-use Rattle.spin_step.specs.Plain.{Plain, ticket as queued, Ticket as Queued, Change, gets, serving_word}
-use Rattle.spin_step.specs.Parties.{apply_some, IsOpenStep, Entries}
-use Rattle.spin_step.specs.Steps.{bit}
-use Rattle.spin_step.specs.Tickets.{Numbered, gone}
-use Rattle.spin_step.proofs.Tickets.{serving-moves, entered_is_served}
-use Rattle.spin_world_core.specs.declared.answer.Answer.{Answer}
 use Rattle.spin_world_core.specs.declared.answer.Answer.TheVariants.{Granted}
-use Rattle.spin_world_core.specs.declared.place.Hold.{Hold}
 use Rattle.spin_world_core.specs.declared.place.Hold.TheVariants as hold
-use Rattle.spin_world_core.specs.declared.place.Seat.TheVariants.{Calling, Holding}
-use Rattle.spin_world_core.specs.declared.object.Next.TheVariants.{Continue}
-use Rattle.spin_world_core.specs.declared.schedule.Move.{Move}
-use Rattle.spin_world_core.specs.declared.schedule.Move.TheVariants.{Step}
-use Rattle.spin_world_core.specs.declared.schedule.Outcome.TheVariants.{Answered}
-use Rattle.spin_world_ticket.specs.declared.ticket.TicketCall.{TicketCall}
-use Rattle.spin_world_ticket.specs.declared.ticket.TicketCall.TheVariants.{Lock}
-use Rattle.spin_world_ticket.specs.declared.ticket.TicketPoint.{TicketPoint}
-use Rattle.spin_world_ticket.specs.declared.ticket.TicketPoint.TheVariants.{Await}
-use Rattle.spin_world_ticket.specs.declared.ticket.TicketWords.{TicketWords}
 use Rattle.spin_world_core.specs.Machines.{Machine}
-use Rattle.spin_world_core.specs.Schedules.{State, moves_at, stepped, after, at_first}
-use Rattle.spin_world_core.specs.Runs.{Seen, scene, opening}
-use Rattle.spin_world_core.specs.Acts.{becomes, passing}
-use Rattle.spin_world_ticket.specs.Ticket.{ticket_table, ticket_machine, granted}
-use Rattle.spin_world_core.specs.Users.{seen_after, passes}
-use Rattle.spin_world_ticket.specs.Turns.{serves_one, tickets_gone, InOrder, waits_with, InTurn}
 use Rattle.spin_world_ticket.proofs.Owed.{ticket_notes, ticket_keeping, ticket_facts}
 use Rattle.spin_world_core.proofs.Preserved.{Invariant}
-use Rattle.spin_world_core.proofs.Facts.{LocalInvariant}
-use Rattle.spin_world_core.proofs.Stands.{entries_at}
-use Rattle.spin_world_core.proofs.Shapes.{row_of}
 use Rattle.spin_world_core.proofs.Every.{kept}
 use Rattle.spin_world_core.proofs.Guards.{seen_after-append}
-use Rattle.spin_world_core.proofs.Usual.{never}
 use Rattle.spin_world_core.proofs.Reached.{good, numbers_are, stands, StandsSo, calls_so}
 
 one_goes : (c : Change) → gone c ≡ bit (serves_one c)

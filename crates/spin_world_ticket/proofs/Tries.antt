@@ -1,23 +1,7 @@
 -- Whoever tries finds its number by two loads.
-use Rattle.std.proofs.Common.{◌≡◌, ℕ, ◌<◌, ◌≤◌, ◌==◌, ◌&&◌, Bool, true, false, Option, Some, None, List, [], ◌∷◌, slice_get, if◌then◌else◌, refl, ap, sym, ◌∙◌, arith, eq-eqb, inl, inr}
+use Rattle.spin_world_ticket.proofs.Names.{◌≡◌, ℕ, ◌<◌, ◌≤◌, ◌==◌, ◌&&◌, Bool, true, false, Option, Some, None, List, [], ◌∷◌, if◌then◌else◌, refl, ap, sym, ◌∙◌, arith, eq-eqb, inl, inr, Plain, ticket_limit, to_take_and_enter, serving_word, Hold, Calling, Move, Step, GoingOn, TicketCall, TryLock, TicketPoint, TryLoadNext, TryLoadServing, TryTake, TicketWords, State, moves_at, after, at_first, opening, own_count, seen_after, asks_of, is_left, is_free, ticket_machine, FoundNext, TriesByTwoLoads}
 use Rattle.std.proofs.lemmas.Bool.{lt-ltb}
-use Rattle.spin_step.specs.Plain.{Plain, ticket_limit, to_take_and_enter, serving_word}
-use Rattle.spin_world_core.specs.declared.place.Hold.{Hold}
-use Rattle.spin_world_core.specs.declared.place.Seat.TheVariants.{Calling}
-use Rattle.spin_world_core.specs.declared.schedule.Move.{Move}
-use Rattle.spin_world_core.specs.declared.schedule.Move.TheVariants.{Step}
-use Rattle.spin_world_core.specs.declared.schedule.Outcome.TheVariants.{GoingOn}
-use Rattle.spin_world_ticket.specs.declared.ticket.TicketCall.{TicketCall}
-use Rattle.spin_world_ticket.specs.declared.ticket.TicketCall.TheVariants.{Lock, TryLock, IsLocked, Release}
-use Rattle.spin_world_ticket.specs.declared.ticket.TicketPoint.{TicketPoint}
-use Rattle.spin_world_ticket.specs.declared.ticket.TicketPoint.TheVariants.{TryLoadNext, TryLoadServing, TryTake}
-use Rattle.spin_world_ticket.specs.declared.ticket.TicketWords.{TicketWords}
 use Rattle.spin_world_core.specs.Calls.{Mark, tries}
-use Rattle.spin_world_core.specs.Schedules.{State, moves_at, after, at_first}
-use Rattle.spin_world_core.specs.Runs.{opening, own_count}
-use Rattle.spin_world_core.specs.Users.{seen_after}
-use Rattle.spin_world_ticket.specs.Ticket.{asks_of, is_left, is_free, ticket_machine}
-use Rattle.spin_world_ticket.specs.Turns.{FoundNext, TriesByTwoLoads}
 use Rattle.spin_world_core.proofs.Reached.{numbers_are, calls}
 use Rattle.spin_world_ticket.proofs.Owed.{ticket_keeping, ticket_facts}
 
