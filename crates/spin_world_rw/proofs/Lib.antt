@@ -1,3 +1,4 @@
+pub mod Names
 pub mod Owed
 pub mod Standing
 pub mod Otherwise

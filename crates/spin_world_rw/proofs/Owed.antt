@@ -1,35 +1,15 @@
 -- What the table of the read-write lock owes.
-use Rattle.std.proofs.Common.{◌≡◌, ℕ, ◌+◌, ◌/◌, ◌≤◌, ◌==◌, Bool, true, false, ◌&&◌, ◌||◌, Option, Some, None, List, [], ◌∷◌, ◌++◌, length, nat_lt, refl, ap, sym, ◌∙◌, arith, inl, eq-eqb, length-append}
+use Rattle.spin_world_rw.proofs.Names.{◌≡◌, ℕ, ◌+◌, ◌/◌, ◌≤◌, ◌==◌, true, false, ◌&&◌, ◌||◌, Option, Some, None, List, [], ◌∷◌, ◌++◌, length, nat_lt, refl, ap, sym, ◌∙◌, arith, inl, eq-eqb, length-append, lt-ltb, eqb-true, Plain, Kind, reading, upgradable, asking, writing, weight, Holder, holder, Ask, to_read, to_read_upgradable, to_write, to_upgrade, to_upgrade_asked, Change, gets, releases, turns, apply, is_open, may_come, is_empty, is_holder, is_only, may_turn, without_holder, with_kind, rw_word, Entries, entries, party_of, Decides, reader_limit, tells, read, read_upgradable, write, upgrade, upgrade_asked, released, turned_to, is_holder-from_entries, is_holder-own, length-without_holder, empty_is, room_to_come, one_of_each, read-word, upgradable_read-word, upgradable-word, tells-holder, readers-word, writers-word, only_upgradable-word, only_asking-word, empty-word, Answer, Hold, Continue, RwCall, TryRead, Read, TryUpgradeableRead, UpgradeableRead, TryWrite, TryWriteWeak, Write, ReaderCount, WriterCount, TryUpgrade, TryUpgradeWeak, Upgrade, Downgrade, DowngradeToUpgradeable, Release, RwPoint, First, Exchange, Asking, Mark, begin_of, holds, entries_at, AimsAt, Notes, keeping_of, Means, OwesAt, answers_by, OwesSoon, BeginsAt, Pays, CallOf, AtPoint, no_queue, means_word, exchanges_now, retries_soon, only_left}
 use Rattle.std.specs.Prelude.{min, max}
-use Rattle.std.proofs.lemmas.Bool.{lt-ltb, eqb-true, true≢false}
-use Rattle.spin_step.specs.Plain.{Plain, Kind, reading, upgradable, asking, writing, weight, Holder, holder, Ask, to_read, to_read_upgradable, to_write, to_upgrade, to_upgrade_asked, Change, gets, releases, turns, apply, is_open, may_come, is_empty, is_holder, is_only, may_turn, without_holder, with_kind, rw_word}
-use Rattle.spin_step.specs.Parties.{Entries, entries, party_of, IsExclusive}
-use Rattle.spin_step.specs.Steps.{Decides}
-use Rattle.spin_step.specs.Readers.{reader_limit, tells, has_room, read, read_upgradable, write, upgrade, upgrade_asked, released, turned as turned_to}
-use Rattle.spin_step.proofs.Holders.{is_holder-from_entries, is_holder-own, length-without_holder}
-use Rattle.spin_step.proofs.Exclusive.{empty_is, room_to_come}
 use Rattle.spin_step.proofs.Sums.{length-with_kind}
-use Rattle.spin_step.proofs.Readers.{one_of_each, read-word, upgradable_read-word, upgradable-word, tells-holder, readers-word, writers-word, only_upgradable-word, only_asking-word, empty-word}
 use Rattle.spin_step.proofs.ReaderSteps.{rw_read-grants, rw_upgradable-grants, rw_write-grants, rw_upgrade-grants, rw_upgrade_asked-grants, rw_release-gives, rw_turn-gives}
-use Rattle.spin_world_core.specs.declared.answer.Answer.{Answer}
-use Rattle.spin_world_core.specs.declared.place.Hold.{Hold}
 use Rattle.spin_world_core.specs.declared.place.Hold.TheVariants as hold
-use Rattle.spin_world_core.specs.declared.object.Next.TheVariants.{Continue}
-use Rattle.spin_world_rw.specs.declared.rw.RwCall.{RwCall}
-use Rattle.spin_world_rw.specs.declared.rw.RwCall.TheVariants.{TryRead, Read, TryUpgradeableRead, UpgradeableRead, TryWrite, TryWriteWeak, Write, ReaderCount, WriterCount, TryUpgrade, TryUpgradeWeak, Upgrade, Downgrade, DowngradeToUpgradeable, Release}
-use Rattle.spin_world_rw.specs.declared.rw.RwPoint.{RwPoint}
-use Rattle.spin_world_rw.specs.declared.rw.RwPoint.TheVariants.{First, Exchange, Asking}
-use Rattle.spin_world_core.specs.Calls.{Mark}
 use Rattle.spin_world_core.specs.Calls as calls
 use Rattle.spin_world_rw.specs.Kind as kind
-use Rattle.spin_world_core.specs.Acts.{begin_of}
 use Rattle.spin_world_rw.specs.Rw.{granted, comes_by, act_of, asks_of, rw_table, rw_machine}
 use Rattle.spin_world_core.proofs.Facts.{LocalInvariant, Facts}
-use Rattle.spin_world_core.proofs.Stands.{holds, entries_at}
 use Rattle.spin_world_core.proofs.Rows.{starts_sound, SoundAt, Row, Point, starts, looked, onward}
-use Rattle.spin_world_core.proofs.Shapes.{AimsAt, Notes, keeping_of, Means, OwesAt, answers_by, OwesSoon, BeginsAt, Pays, CallOf, AtPoint}
 use Rattle.spin_world_core.proofs.Operating.{fits_act, one_place, operates_by}
-use Rattle.spin_world_core.proofs.Usual.{no_queue, means_word, exchanges_now, retries_soon, only_left}
 use Rattle.spin_world_core.proofs.Paid.{facts_of}
 
 -- a reader that asked to upgrade gets to write

@@ -1,43 +1,21 @@
 -- What users of a read-write lock rely on.
-use Rattle.std.proofs.Common.{◌≡◌, ℕ, ◌+◌, ◌==◌, ◌↔◌, Bool, true, false, not, ◌&&◌, ◌||◌, if◌then◌else◌, Option, Some, None, List, [], ◌∷◌, ◌++◌, slice_get, slice_set, refl, ap, sym, ◌∙◌, subst, arith}
-use Rattle.std.proofs.lemmas.Bool.{eqb-true, ne_eqb, true≢false, false≢true}
+use Rattle.spin_world_rw.proofs.Names.{◌≡◌, ℕ, ◌+◌, ◌==◌, ◌↔◌, Bool, true, false, not, ◌&&◌, ◌||◌, if◌then◌else◌, Option, Some, None, List, [], ◌∷◌, ◌++◌, slice_get, slice_set, refl, ap, sym, ◌∙◌, subst, arith, eqb-true, ne_eqb, true≢false, false≢true, Plain, Kind, reading, upgradable, asking, writing, Holder, Change, is_empty, is_holder, is_only, same_kind, count_kind, rw_word, weight, apply_some, IsOpenStep, Entries, entries, IsExclusive, bit, empty_is, is_holder-own, reader_goes, one_of_each, only_asking-word, empty-word, word_of, Answer, Hold, Continue, Answers, RwCall, Read, TryUpgrade, TryUpgradeWeak, Upgrade, Downgrade, DowngradeToUpgradeable, RwPoint, Asking, Mark, becomes, upgrade, upgrade_asked, Stand, holds, holds_and_starves, entries_at, row_of, never}
 use Rattle.std.proofs.Math.Bool.{and-false, or-false}
-use Rattle.spin_step.specs.Plain.{Plain, Kind, reading, upgradable, asking, writing, Holder, Change, is_empty, is_holder, is_only, same_kind, count_kind, rw_word, weight}
-use Rattle.spin_step.specs.Parties.{apply_some, IsOpenStep, Entries, entries, IsExclusive}
-use Rattle.spin_step.specs.Steps.{bit}
-use Rattle.spin_step.proofs.Exclusive.{empty_is}
-use Rattle.spin_step.proofs.Holders.{is_holder-own}
-use Rattle.spin_step.specs.Readers.{reader_goes}
 use Rattle.spin_step.proofs.Upgrading.{readers_only_go, alone_when_gone}
-use Rattle.spin_step.proofs.Readers.{one_of_each, only_asking-word, empty-word, word_of}
-use Rattle.spin_world_core.specs.declared.answer.Answer.{Answer}
 use Rattle.spin_world_core.specs.declared.answer.Answer.TheVariants.{Granted, Refused, Done}
-use Rattle.spin_world_core.specs.declared.place.Hold.{Hold}
 use Rattle.spin_world_core.specs.declared.place.Hold.TheVariants as hold
 use Rattle.spin_world_core.specs.declared.place.Seat.TheVariants.{Calling, Holding}
 use Rattle.spin_world_core.specs.declared.object.Next.{Next}
-use Rattle.spin_world_core.specs.declared.object.Next.TheVariants.{Continue, Answers}
 use Rattle.spin_world_core.specs.declared.schedule.Move.{Move}
 use Rattle.spin_world_core.specs.declared.schedule.Move.TheVariants.{Step}
 use Rattle.spin_world_core.specs.declared.schedule.Outcome.TheVariants.{Answered}
-use Rattle.spin_world_rw.specs.declared.rw.RwCall.{RwCall}
-use Rattle.spin_world_rw.specs.declared.rw.RwCall.TheVariants.{TryRead, Read, TryUpgradeableRead, UpgradeableRead, TryUpgrade, TryUpgradeWeak, Upgrade, Downgrade, DowngradeToUpgradeable}
-use Rattle.spin_world_rw.specs.declared.rw.RwPoint.{RwPoint}
-use Rattle.spin_world_rw.specs.declared.rw.RwPoint.TheVariants.{Exchange, Asking}
-use Rattle.spin_world_core.specs.Calls.{Mark}
 use Rattle.spin_world_core.specs.Schedules.{State, moves_at, stepped, after, at_first, may_read}
 use Rattle.spin_world_core.specs.Runs.{Seen, scene, opening, entries_of, is_reader}
-use Rattle.spin_world_core.specs.Acts.{becomes}
 use Rattle.spin_world_core.specs.Users.{seen_after, passes, ReadsAgreeAcross}
-use Rattle.spin_step.specs.Readers.{upgrade, upgrade_asked}
 use Rattle.spin_world_rw.specs.Rw.{granted, rw_table, rw_machine}
 use Rattle.spin_world_rw.specs.Standing.{StandTogether, KeepsWritersOut, less, Downgrades, readers_gone, StaysAsking, Opens, converts}
 use Rattle.spin_world_rw.proofs.Owed.{holder_by, rw_notes, rw_keeping, rw_facts}
 use Rattle.spin_world_core.specs.Machines.{Machine}
-use Rattle.spin_world_core.proofs.Stands.{Stand, holds, holds_and_starves, entries_at}
-use Rattle.spin_world_core.proofs.Rows.{Row}
-use Rattle.spin_world_core.proofs.Shapes.{row_of}
-use Rattle.spin_world_core.proofs.Usual.{never}
 use Rattle.spin_world_core.proofs.Reached.{good, numbers_are, stands, calls, passes_some, passes_all, row_passes, row_tells}
 use Rattle.spin_world_core.proofs.Lists.{get-set_same}
 use Rattle.spin_world_core.proofs.Preserved.{Invariant}

@@ -1,7 +1,7 @@
 -- Read-write locks that are wrong, each in one part of its table, and schedules on which the laws refuse them.
 -- Where its steps are wrong, so are the plain steps that they read as.
 use Rattle.std.specs.Prelude.{ℕ, zero, suc, ◌+◌, ◌-◌, ◌/◌, true, false, Option, Some, None, List, [], ◌∷◌, ◌++◌, if◌then◌else◌}
-use Rattle.spin_step.specs.Plain.{reading, upgradable, asking, writing, weight, Ask, to_read, to_write, to_upgrade, to_upgrade_asked, to_lock_starving, Change, gets, releases, turns, to_read_upgradable}
+use Rattle.spin_step.specs.Plain.{reading, upgradable, asking, writing, weight, Ask, to_read, to_write, to_upgrade, to_upgrade_asked, to_lock_starving, gets, releases, turns, to_read_upgradable}
 use Rattle.spin_world_core.specs.declared.place.Hold.{Hold}
 use Rattle.spin_world_core.specs.declared.place.Hold.TheVariants as hold
 use Rattle.spin_world_core.specs.declared.object.Next.TheVariants.{Continue, Answers}
@@ -15,7 +15,7 @@ use Rattle.spin_world_core.specs.declared.schedule.Move.{Move}
 use Rattle.spin_world_core.specs.declared.schedule.Move.TheVariants.{Begin, Step, Weak}
 use Rattle.spin_world_core.specs.Machines.{Machine}
 use Rattle.spin_world_core.specs.declared.object.Next.{Next}
-use Rattle.spin_world_core.specs.Calls.{Asked, waits}
+use Rattle.spin_world_core.specs.Calls.{waits}
 use Rattle.spin_world_core.specs.Acts.{Act, load, load_for, exchange, weak_exchange, store, section, swap, Table, machine_of}
 use Rattle.spin_world_core.specs.Operations.{exchanges, adds, subtracts, stores}
 use Rattle.spin_step.specs.Readers.{tells, read, write, upgrade, upgrade_asked, read_upgradable}
