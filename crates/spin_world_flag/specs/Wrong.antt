@@ -1,11 +1,11 @@
 -- Flags that are wrong, each in one part of its machine, and schedules on which the laws refuse them.
 use Rattle.spin_world_core.specs.declared.place.Hold.TheVariants.{Read}
-use Rattle.std.specs.Prelude.{ℕ, Bool, true, false, Option, Some, None, List, [], ◌∷◌}
+use Rattle.std.specs.Prelude.{ℕ, Bool, true, false, Some, None, List, [], ◌∷◌}
 use Rattle.spin_world_core.specs.declared.object.Next.TheVariants.{Continue, Answers}
 use Rattle.spin_world_core.specs.declared.answer.Answer.{Answer}
 use Rattle.spin_world_core.specs.declared.answer.Answer.TheVariants.{Refused, Is, Granted}
 use Rattle.spin_world_flag.specs.declared.flag.FlagCall.{FlagCall}
-use Rattle.spin_world_flag.specs.declared.flag.FlagCall.TheVariants.{Lock, TryLock, TryLockWeak, IsLocked, Release}
+use Rattle.spin_world_flag.specs.declared.flag.FlagCall.TheVariants.{Lock, TryLock, IsLocked, Release}
 use Rattle.spin_world_flag.specs.declared.flag.FlagPoint.{FlagPoint}
 use Rattle.spin_world_flag.specs.declared.flag.FlagPoint.TheVariants.{First, Second}
 use Rattle.spin_world_core.specs.declared.schedule.Move.{Move}
@@ -33,7 +33,8 @@ with_steps v steps = machine_of (record (flag_table v) { act = λ c l h. steps c
 -- a `lock` that looks for ever, once its first exchange was refused
 abbrev pub looks_for_ever : {V : Type 0} → V → FlagMachine V
 looks_for_ever {V} v =
-    let m : FlagMachine V = flag_machine v in record m { step = λ w value c l h. elim l [ Second ↦ stays w (Continue Second) | other ↦ m.step w value c other h ] }
+    let m : FlagMachine V = flag_machine v in
+    record m { step = λ w value c l h. elim l [ Second ↦ stays w (Continue Second) | other ↦ m.step w value c other h ] }
 
 -- one party locks the flag, the other finds it set, and two looks after the release find it clear
 abbrev pub two_looks : {V : Type 0} → Entries V

@@ -13,11 +13,11 @@ use Rattle.spin_world_seats.specs.declared.seats.SeatsPoint.{SeatsPoint}
 use Rattle.spin_world_seats.specs.declared.seats.SeatsPoint.TheVariants.{First, Exchange}
 use Rattle.spin_world_core.specs.declared.schedule.Move.{Move}
 use Rattle.spin_world_core.specs.declared.schedule.Move.TheVariants.{Begin, Step, Weak}
-use Rattle.spin_world_core.specs.Calls.{LockKind, Asked, tries, gives_back}
+use Rattle.spin_world_core.specs.Calls.{LockKind, Asked, gives_back}
 use Rattle.spin_world_seats.specs.Kind as kind
 use Rattle.spin_world_core.specs.Acts.{Act, load, exchange, store, section, machine_of}
 use Rattle.spin_world_core.specs.Operations.{exchanges, subtracts}
-use Rattle.spin_world_seats.specs.Seats.{Answered, granted, goes_for, comes_by, act_of, asks_of, SeatsTable, seats_table, SeatsMachine, seats_machine}
+use Rattle.spin_world_seats.specs.Seats.{granted, goes_for, comes_by, act_of, asks_of, SeatsTable, seats_table, SeatsMachine, seats_machine}
 
 abbrev SeatsAct : Type 0
 SeatsAct = Act ℕ SeatsPoint (Answer (Unit {0}))

@@ -6,4 +6,4 @@ use Rattle.std.proofs.Common.{[], ◌∷◌, refl}
 use Rattle.spin_world_flag.proofs.refused.a_lock_tries_again.Goals as goal
 
 pub returns : goal.returns
-returns g c = λ value all. too_many flag 1 (waits to_write) 2 (_ ∷ []) _ _ all.1.1.1.1.1.1.1.0.undisturbed refl (record { party = refl; strong = refl }, (record { party = refl; strong = refl }, tt)) refl
+returns g c = λ value all. too_many flag 1 (waits to_write) 2 (_ ∷ []) _ _ all.1.1.1.1.1.1.1.0.undisturbed refl (search) refl

@@ -6,5 +6,4 @@ use Rattle.spin_world_core.proofs.Otherwise.{four_steps}
 use Rattle.spin_world_seats.proofs.refused.a_kind_of_lock_has_four_steps.Goals as goal
 
 pub returns : goal.returns
-returns g all =
-    four_steps slow_seats 0 (waits to_read) all.1.1.1.1.0.undisturbed refl (record { party = refl; strong = refl }) (record { party = refl; strong = refl }) (record { party = refl; strong = refl }) (record { party = refl; strong = refl }) refl
+returns g all = four_steps slow_seats 0 (waits to_read) all.1.1.1.1.0.undisturbed refl (search) (search) (search) (search) refl

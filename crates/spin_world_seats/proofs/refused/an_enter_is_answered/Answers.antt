@@ -6,4 +6,4 @@ use Rattle.spin_world_core.proofs.Otherwise.{too_many}
 use Rattle.spin_world_seats.proofs.refused.an_enter_is_answered.Goals as goal
 
 pub returns : goal.returns
-returns g all = too_many seats 0 (waits to_read) 2 (_ ∷ []) _ _ all.1.1.0.undisturbed refl (record { party = refl; strong = refl }, (record { party = refl; strong = refl }, tt)) refl
+returns g all = too_many seats 0 (waits to_read) 2 (_ ∷ []) _ _ all.1.1.0.undisturbed refl (search) refl
