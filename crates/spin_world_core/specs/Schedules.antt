@@ -39,18 +39,13 @@ pub record Happened (W V C L A : Type 0) : Type 0 where
 
 -- whose hold reads the value, and whose may replace it
 abbrev pub may_read : Hold → Bool
-may_read hold.Read = true
-may_read hold.Upgradable = true
-may_read hold.Write = true
-may_read (hold.Ticket t) = true
 may_read hold.Starver = false
+may_read _ = true
 
 abbrev pub may_write : Hold → Bool
-may_write hold.Read = false
-may_write hold.Upgradable = false
 may_write hold.Write = true
 may_write (hold.Ticket t) = true
-may_write hold.Starver = false
+may_write _ = false
 
 -- the party shares the value no more
 abbrev pub yields_to_owner : {C L : Type 0} → Seat C L → Bool
