@@ -6,31 +6,27 @@ use Rattle.spin_step.specs.Readers.{tells, released, turned}
 use Rattle.spin_step.proofs.Holders.{is_holder-from_entries}
 use Rattle.spin_step.proofs.Readers.{tells-holder}
 use Rattle.spin_step.proofs.Sums.{upgrader, one_of, by_kinds, all_kinds, sum-less, sum-turned, length-with_kind}
-use Rattle.spin_core.specs.Views.{entries_of}
+use Rattle.spin_core.specs.Views.{Part, holds, holds_starving, entries_of}
 use Rattle.spin_core.proofs.Owners.{exactly}
 use Rattle.spin_core.proofs.Views.{part-beyond}
 use Rattle.spin_rwlock.specs.declared.rwlock.rule.View.{View}
-use Rattle.spin_rwlock.specs.declared.rwlock.rule.View.TheVariants.{Idle, Reading, Upgradable, Asking, Writing, WritingAsked}
 use Rattle.spin_rwlock.specs.Rw.{part, IsRw}
-use Rattle.spin_rwlock.specs.Standing.{has_kind, held, readers, upgradables, askers, writers, holders, ReadersOrWriter, HoldsAt}
+use Rattle.spin_rwlock.specs.Standing.{is_of_kind, has_kind, held, readers, upgradables, askers, writers, holders, ReadersOrWriter, HoldsAt}
 use Rattle.spin_rwlock.proofs.Steps.{fits_cap, bounded}
 
 abbrev one_if : Bool → ℕ
 one_if b = cond b 1 0
 
--- what a party's view is to the plain lock
-one_holder : (k : Kind) (p : ℕ) (v : View) → one_if (has_kind k v) ≡ count_kind k (entries_of p (part v)).holders
-one_holder k p Idle = refl
-one_holder k p Reading = omega (arith, sum_by-cons (λ (h : Holder). one_of k h.kind) (holder p reading) [])
-one_holder k p Upgradable = omega (arith, sum_by-cons (λ (h : Holder). one_of k h.kind) (holder p upgradable) [])
-one_holder k p Asking = omega (arith, sum_by-cons (λ (h : Holder). one_of k h.kind) (holder p asking) [])
-one_holder k p Writing = omega (arith, sum_by-cons (λ (h : Holder). one_of k h.kind) (holder p writing) [])
-one_holder k p WritingAsked = omega (arith, sum_by-cons (λ (h : Holder). one_of k h.kind) (holder p writing) [])
+-- a party that holds so is one holder of this kind
+one_holder : (k : Kind) (p : ℕ) (x : Part) → one_if (is_of_kind k x) ≡ count_kind k (entries_of p x).holders
+one_holder k p (holds j) = omega (arith, sum_by-cons (λ (h : Holder). one_of k h.kind) (holder p j) [])
+one_holder k p holds_starving = omega (arith, sum_by-cons (λ (h : Holder). one_of k h.kind) (holder p writing) [])
+one_holder k p _ = refl
 
 -- as many parties hold so as holders of the plain lock are of this kind
 as_many : (k : Kind) (word : ℕ) (vs : List View) (rule : IsRw word tt vs) → held k vs ≡ count_kind k rule.0.holders
 as_many k word vs rule =
-    exactly (λ h. h.party) (λ h. one_if (same_kind k h.kind)) part (λ v. one_if (has_kind k v)) (λ p x. count_kind k (entries_of p x).holders) (one_holder k) vs rule.0.holders
+    exactly (λ h. h.party) (λ h. one_if (same_kind k h.kind)) part (λ v. one_if (has_kind k v)) (λ p x. count_kind k (entries_of p x).holders) (λ p v. one_holder k p (part v)) vs rule.0.holders
     (λ p. ap (λ e. count_kind k e.holders) (rule.3 p).0) (λ p far. ap (λ e. e.holders) (rule.3 p).0 ∙ ap (λ x. (entries_of p x).holders) (part-beyond part p vs far))
 
 pub counts_parties : (word : ℕ) (vs : List View) → IsRw word tt vs → word ≡ ((weight reading * readers vs + weight upgradable * upgradables vs) + weight asking * askers vs) + weight writing * writers vs

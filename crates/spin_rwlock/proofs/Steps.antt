@@ -23,11 +23,7 @@ use Rattle.spin_rwlock.specs.Rw.{part, IsRw, IsRwWord, looks, use_of_view}
 
 pub kind : (v : View) → OfReaders part v
 kind Idle = (λ p. refl, λ p. refl)
-kind Reading = (λ p. refl, λ p. refl)
-kind Upgradable = (λ p. refl, λ p. refl)
-kind Asking = (λ p. refl, λ p. refl)
-kind Writing = (λ p. refl, λ p. refl)
-kind WritingAsked = (λ p. refl, λ p. refl)
+kind _ = (λ p. refl, λ p. refl)
 
 abbrev pub rw-lock : Lock View (Unit {0})
 rw-lock = record {

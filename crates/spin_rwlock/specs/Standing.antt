@@ -2,18 +2,18 @@
 use Rattle.std.specs.Prelude.{◌≡◌, ℕ, ◌+◌, ◌<◌, ◌≤◌, Bool, false, List, count_by}
 use Rattle.spin_step.specs.Plain.{Kind, reading, upgradable, asking, writing, same_kind}
 use Rattle.spin_step.specs.Readers.{reader_limit}
-use Rattle.spin_core.specs.Views.{holds, part_at}
+use Rattle.spin_core.specs.Views.{Part, holds, holds_starving, part_at}
 use Rattle.spin_rwlock.specs.Rw.{part}
 use Rattle.spin_rwlock.specs.declared.rwlock.rule.View.{View}
-use Rattle.spin_rwlock.specs.declared.rwlock.rule.View.TheVariants.{Idle, Reading, Upgradable, Asking, Writing, WritingAsked}
+
+-- a party that is this to the plain lock holds it so
+abbrev pub is_of_kind : Kind → Part → Bool
+is_of_kind k (holds j) = same_kind k j
+is_of_kind k holds_starving = same_kind k writing
+is_of_kind k _ = false
 
 abbrev pub has_kind : Kind → View → Bool
-has_kind k Idle = false
-has_kind k Reading = same_kind k reading
-has_kind k Upgradable = same_kind k upgradable
-has_kind k Asking = same_kind k asking
-has_kind k Writing = same_kind k writing
-has_kind k WritingAsked = same_kind k writing
+has_kind k v = is_of_kind k (part v)
 
 -- how many hold so
 abbrev pub held : Kind → List View → ℕ
