@@ -64,4 +64,5 @@ barrier_may_leave-full s k n count generation own is le at follows leave =
 pub barrier_count-below : (s : Plain) (n count generation : ℕ) → IsBarrier s n count generation → nat_lt count (max n 1) ≡ true
 barrier_count-below s n count generation is = lt-ltb count (max n 1) (omega (arith, mod-lt s.arrivals (some-group s), is.counts, ap (λ k. max k 1) is.group))
 
+-- what `may_leave` cites
 pub ruleset leaving = (barrier_may_leave-tells, barrier_may_leave-full)

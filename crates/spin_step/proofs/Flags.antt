@@ -12,4 +12,5 @@ flag_lock-grants s p w e = grind (arith, length-append)
 pub flag_unlock-gives : (s : Plain) (p : ℕ) (k : Kind) (w : Bool) → flag_word s ≡ bit w → Gives s (releases p k) flag_word (bit false)
 flag_unlock-gives s p k w e found = grind (arith, length-without_holder p k s.holders found)
 
+-- what `unlock` cites
 pub ruleset gives = (length-without_holder)

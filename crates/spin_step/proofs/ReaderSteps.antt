@@ -35,6 +35,8 @@ rw_release-gives s p k word is = λ found. omega (arith, sum-less weight p k s.h
 pub rw_turn-gives : (s : Plain) (p : ℕ) (j k : Kind) (word : ℕ) → weight j ≤ weight k → rw_word s ≡ word → Gives s (turns p j k) rw_word (turned j k word)
 rw_turn-gives s p j k word more is = λ may. grind (arith, word-turned p j k s.holders)
 
+-- What the functions of `rw` cite: one that may refuse, one that never does, and a count
+
 pub ruleset grants = (read-word, upgradable_read-word, only_upgradable-word, only_asking-word, word-more, word-turned)
 
 pub ruleset gives = (rw_release-gives, rw_turn-gives)
