@@ -10,10 +10,11 @@ use Rattle.spin_world_barrier.specs.declared.barrier.BarrierWords.{BarrierWords}
 use Rattle.spin_world_barrier.specs.declared.barrier.BarrierCall.{BarrierCall}
 use Rattle.spin_world_barrier.specs.declared.barrier.BarrierPoint.{BarrierPoint}
 use Rattle.spin_world_barrier.specs.declared.barrier.BarrierPoint.TheVariants.{Arrive, Leave}
-use Rattle.spin_world_core.specs.Calls.{meets, says_of}
+use Rattle.spin_world_core.specs.Calls.{meets}
 use Rattle.spin_world_barrier.specs.Kind.{barrier}
 use Rattle.spin_world_core.specs.Machines.{Machine}
 use Rattle.spin_world_core.specs.Acts.{Memory, two_numbers, Act, load_if, section, either, Table, machine_of}
+use Rattle.spin_world_core.specs.Tables.{usual_table}
 
 -- the words after one more arrival at a barrier whose groups have n, and whether that one leads
 abbrev pub arrive : ℕ → BarrierWords → BarrierWords
@@ -48,20 +49,11 @@ BarrierMachine = Machine BarrierWords ℕ BarrierCall BarrierPoint (Answer ℕ)
 
 abbrev pub barrier_table : ℕ → Table BarrierWords ℕ BarrierCall BarrierPoint (Answer ℕ)
 barrier_table n =
-    record {
-      words = record { count = 0; generation = 0 };
-      value = None;
+    let opening : BarrierWords = record { count = 0; generation = 0 } in
+    record (usual_table None barrier opening barrier_memory (λ c h. Arrive) (λ c l h. act_of n l h) (λ c h. meets)) {
       owned = false;
-      lock_kind = barrier;
-      cap = 0;
       group = n;
-      first = 0;
-      memory = barrier_memory;
-      start = λ c h. Arrive;
       word = word_of;
-      act = λ c l h. act_of n l h;
-      asks = λ c h. meets;
-      says = says_of;
     }
 
 abbrev pub barrier_machine : ℕ → BarrierMachine

@@ -4,6 +4,7 @@ pub mod Begins
 pub mod Machines
 pub mod Operations
 pub mod Acts
+pub mod Tables
 pub mod Schedules
 pub mod Sharing
 pub mod Spans

@@ -1,5 +1,5 @@
 -- The fair lock's calls, step by step, and how they read on the plain lock.
-use Rattle.std.specs.Prelude.{ℕ, ◌+◌, true, Option, Some, None, ◌==◌, nat_lt, min}
+use Rattle.std.specs.Prelude.{ℕ, ◌+◌, Option, Some, None, ◌==◌, nat_lt, min}
 use Rattle.spin_step.specs.Plain.{writing, to_lock_unregistered, to_lock_starving, to_lock_starving_alone, to_starve, gets, releases, stops_starving, holder_weight, starver_weight}
 use Rattle.spin_step.specs.Starvers.{most_starvers, is_set, lock, starve, lock_fair}
 use Rattle.spin_world_core.specs.declared.place.Hold.{Hold}
@@ -12,10 +12,11 @@ use Rattle.spin_world_fair.specs.declared.fair.FairCall.{FairCall}
 use Rattle.spin_world_fair.specs.declared.fair.FairCall.TheVariants.{Lock, TryLock, TryLockStarver, IsLocked, Starve, StarverTryLockFair, StarverTryLock, StarverLock, StarverDrop, Release}
 use Rattle.spin_world_fair.specs.declared.fair.FairPoint.{FairPoint}
 use Rattle.spin_world_fair.specs.declared.fair.FairPoint.TheVariants.{First, Attempt, Look, Load, Register, SetFlag, Await, Unregister}
-use Rattle.spin_world_core.specs.Calls.{Asked, waits, waits_or_starves, tries, tries_to_know, looks, gives_back, says_of}
+use Rattle.spin_world_core.specs.Calls.{Asked, waits, waits_or_starves, tries, tries_to_know, looks, gives_back}
 use Rattle.spin_world_fair.specs.Kind.{fair}
 use Rattle.spin_world_core.specs.Machines.{Machine}
 use Rattle.spin_world_core.specs.Acts.{one_number, Act, either, load, load_if, load_for, exchange, weak_exchange, retry, store, swap, Table, machine_of}
+use Rattle.spin_world_core.specs.Tables.{usual_table}
 use Rattle.spin_world_core.specs.Operations.{subtracts, sets_lowest_bit}
 
 -- where calls begin
@@ -87,21 +88,7 @@ asks_of patience Release h = gives_back (Some Write)
 -- the cap, and after so many looks at a set flag the next one makes `lock` register
 abbrev pub fair_table : {V : Type 0} → V → ℕ → ℕ → Table ℕ V FairCall FairPoint (Answer V)
 fair_table v cap patience =
-    record {
-      words = 0;
-      value = Some v;
-      owned = true;
-      lock_kind = fair;
-      cap = min cap most_starvers;
-      group = 0;
-      first = 0;
-      memory = one_number;
-      start = λ c h. starts_at c;
-      word = λ l. 0;
-      act = act_of cap patience;
-      asks = asks_of patience;
-      says = says_of;
-    }
+    record (usual_table (Some v) fair 0 one_number (λ c h. starts_at c) (act_of cap patience) (asks_of patience)) { cap = min cap most_starvers }
 
 abbrev pub fair_machine : {V : Type 0} → V → ℕ → ℕ → Machine ℕ V FairCall FairPoint (Answer V)
 fair_machine v cap patience = machine_of (fair_table v cap patience)

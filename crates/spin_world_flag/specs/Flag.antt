@@ -1,5 +1,5 @@
 -- The flag's calls, step by step, and how they read on the plain lock.
-use Rattle.std.specs.Prelude.{ℕ, ◌==◌, Bool, true, false, Option, Some, None, [], ◌∷◌}
+use Rattle.std.specs.Prelude.{ℕ, ◌==◌, Bool, false, Option, Some, None, [], ◌∷◌}
 use Rattle.spin_step.specs.Plain.{writing, to_write, gets, releases}
 use Rattle.spin_step.specs.Steps.{bit}
 use Rattle.spin_step.specs.Flags as flags
@@ -14,10 +14,11 @@ use Rattle.spin_world_flag.specs.declared.flag.FlagPoint.{FlagPoint}
 use Rattle.spin_world_flag.specs.declared.flag.FlagPoint.TheVariants.{First, Second}
 use Rattle.spin_world_core.specs.declared.answer.Answer.{Answer}
 use Rattle.spin_world_core.specs.declared.answer.Answer.TheVariants.{Granted, Refused, Done, Is}
-use Rattle.spin_world_core.specs.Calls.{Asked, waits, tries, tries_weakly, looks, gives_back, says_of}
+use Rattle.spin_world_core.specs.Calls.{Asked, waits, tries, tries_weakly, looks, gives_back}
 use Rattle.spin_world_flag.specs.Kind.{flag}
 use Rattle.spin_world_core.specs.Machines.{Machine}
 use Rattle.spin_world_core.specs.Acts.{Memory, Act, load, load_if, exchange, weak_exchange, store, swap, Table, machine_of}
+use Rattle.spin_world_core.specs.Tables.{usual_table}
 use Rattle.spin_world_core.specs.Operations.{stores}
 
 abbrev pub is_set : ℕ → Bool
@@ -50,22 +51,7 @@ asks_of IsLocked h = looks
 asks_of Release h = gives_back h
 
 abbrev pub flag_table : {V : Type 0} → V → Table Bool V FlagCall FlagPoint (Answer V)
-flag_table v =
-    record {
-      words = false;
-      value = Some v;
-      owned = true;
-      lock_kind = flag;
-      cap = 0;
-      group = 0;
-      first = 0;
-      memory = flag_memory;
-      start = λ c h. First;
-      word = λ l. 0;
-      act = act_of;
-      asks = asks_of;
-      says = says_of;
-    }
+flag_table v = usual_table (Some v) flag false flag_memory (λ c h. First) act_of asks_of
 
 abbrev pub flag_machine : {V : Type 0} → V → Machine Bool V FlagCall FlagPoint (Answer V)
 flag_machine v = machine_of (flag_table v)

@@ -1,5 +1,5 @@
 -- The calls of a `Once`, step by step, and how they read on the plain lock.
-use Rattle.std.specs.Prelude.{ℕ, Bool, true, Option, Some, None, ◌==◌}
+use Rattle.std.specs.Prelude.{ℕ, Bool, Option, Some, None, ◌==◌}
 use Rattle.spin_step.specs.Plain.{to_begin, gets, completes, fails}
 use Rattle.spin_step.specs.Flags.{begun, completed, failed}
 use Rattle.spin_world_core.specs.declared.place.Hold.{Hold}
@@ -11,10 +11,11 @@ use Rattle.spin_world_once.specs.declared.once.OnceCall.{OnceCall}
 use Rattle.spin_world_once.specs.declared.once.OnceCall.TheVariants.{CallOnce, TryCallOnceOk, TryCallOnceErr, InitFromRef, Wait, Poll, Get, IsCompleted}
 use Rattle.spin_world_once.specs.declared.once.OncePoint.{OncePoint}
 use Rattle.spin_world_once.specs.declared.once.OncePoint.TheVariants.{Look, TryBegin, Await, Run}
-use Rattle.spin_world_core.specs.Calls.{Asked, initializes, fails_to_initialize, waits_for_value, polls, looks_for_value, looks_complete, says_of}
+use Rattle.spin_world_core.specs.Calls.{Asked, initializes, fails_to_initialize, waits_for_value, polls, looks_for_value, looks_complete}
 use Rattle.spin_world_once.specs.Kind.{once}
 use Rattle.spin_world_core.specs.Machines.{Machine}
 use Rattle.spin_world_core.specs.Acts.{one_number, Act, load, load_if, exchange, store, swap, either, Table, machine_with}
+use Rattle.spin_world_core.specs.Tables.{usual_table}
 use Rattle.spin_world_core.specs.Operations.{stores}
 
 -- there is a value
@@ -75,22 +76,7 @@ abbrev pub OnceMachine : Type 0 → Type 0
 OnceMachine V = Machine ℕ V (OnceCall V) OncePoint (Answer V)
 
 abbrev pub once_table : {V : Type 0} → Option V → Table ℕ V (OnceCall V) OncePoint (Answer (Unit {0}))
-once_table value =
-    record {
-      words = opening_word value;
-      value = value;
-      owned = true;
-      lock_kind = once;
-      cap = 0;
-      group = 0;
-      first = 0;
-      memory = one_number;
-      start = λ c h. Look;
-      word = λ l. 0;
-      act = act_of;
-      asks = λ c h. asks_of c;
-      says = says_of;
-    }
+once_table value = usual_table value once (opening_word value) one_number (λ c h. Look) act_of (λ c h. asks_of c)
 
 abbrev pub once_machine : {V : Type 0} → Option V → OnceMachine V
 once_machine value = machine_with (once_table value) brings_of

@@ -1,5 +1,5 @@
 -- The calls of the read-write lock, step by step, and how they read on the plain lock.
-use Rattle.std.specs.Prelude.{ℕ, ◌-◌, ◌/◌, ◌==◌, ◌&&◌, true, Option, Some, None, is_some, nat_lt, min}
+use Rattle.std.specs.Prelude.{ℕ, ◌-◌, ◌/◌, ◌==◌, ◌&&◌, Option, Some, None, is_some, nat_lt, min}
 use Rattle.spin_step.specs.Plain.{reading, upgradable, asking, writing, weight, Ask, to_read, to_read_upgradable, to_write, to_upgrade, to_upgrade_asked, gets, releases, turns}
 use Rattle.spin_step.specs.Readers.{reader_limit, readers_in, writers_in, tells, read, read_upgradable, write, upgrade, upgrade_asked}
 use Rattle.spin_world_core.specs.declared.place.Hold.{Hold}
@@ -13,10 +13,11 @@ use Rattle.spin_world_rw.specs.declared.rw.RwCall.{RwCall}
 use Rattle.spin_world_rw.specs.declared.rw.RwCall.TheVariants.{TryRead, Read, TryUpgradeableRead, UpgradeableRead, TryWrite, TryWriteWeak, Write, ReaderCount, WriterCount, TryUpgrade, TryUpgradeWeak, Upgrade, Downgrade, DowngradeToUpgradeable, Release}
 use Rattle.spin_world_rw.specs.declared.rw.RwPoint.{RwPoint}
 use Rattle.spin_world_rw.specs.declared.rw.RwPoint.TheVariants.{First, Exchange, Asking}
-use Rattle.spin_world_core.specs.Calls.{Asked, waits, tries, tries_weakly, counts_readers, counts_writers, turns_to, gives_back, says_of}
+use Rattle.spin_world_core.specs.Calls.{Asked, waits, tries, tries_weakly, counts_readers, counts_writers, turns_to, gives_back}
 use Rattle.spin_world_rw.specs.Kind.{rw}
 use Rattle.spin_world_core.specs.Machines.{Machine}
 use Rattle.spin_world_core.specs.Acts.{one_number, Act, load, load_for, exchange, weak_exchange, retry, store, swap, either, stays, retried, Table, machine_of}
+use Rattle.spin_world_core.specs.Tables.{usual_table}
 use Rattle.spin_world_core.specs.Operations.{adds, subtracts}
 
 abbrev pub granted : {V : Type 0} → Hold → Next RwPoint (Answer V)
@@ -76,22 +77,7 @@ asks_of DowngradeToUpgradeable h = turns_to h upgradable
 asks_of Release h = gives_back h
 
 abbrev pub rw_table : {V : Type 0} → V → ℕ → Table ℕ V RwCall RwPoint (Answer V)
-rw_table v cap =
-    record {
-      words = 0;
-      value = Some v;
-      owned = true;
-      lock_kind = rw;
-      cap = min cap reader_limit;
-      group = 0;
-      first = 0;
-      memory = one_number;
-      start = λ c h. First;
-      word = λ l. 0;
-      act = act_of cap;
-      asks = asks_of;
-      says = says_of;
-    }
+rw_table v cap = record (usual_table (Some v) rw 0 one_number (λ c h. First) (act_of cap) asks_of) { cap = min cap reader_limit }
 
 abbrev pub rw_machine : {V : Type 0} → V → ℕ → Machine ℕ V RwCall RwPoint (Answer V)
 rw_machine v cap = machine_of (rw_table v cap)

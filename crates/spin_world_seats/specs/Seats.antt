@@ -1,5 +1,5 @@
 -- The calls of a lock of seats, step by step, and how they read on the plain lock.
-use Rattle.std.specs.Prelude.{ℕ, ◌==◌, Option, Some, None, is_some, nat_lt, true}
+use Rattle.std.specs.Prelude.{ℕ, ◌==◌, Option, Some, None, is_some, nat_lt}
 use Rattle.spin_step.specs.Plain.{reading, to_read, gets, releases}
 use Rattle.spin_seats.specs.Seats.{seats, entered}
 use Rattle.spin_world_core.specs.declared.place.Hold.{Hold}
@@ -13,10 +13,11 @@ use Rattle.spin_world_seats.specs.declared.seats.SeatsCall.{SeatsCall}
 use Rattle.spin_world_seats.specs.declared.seats.SeatsCall.TheVariants as call
 use Rattle.spin_world_seats.specs.declared.seats.SeatsPoint.{SeatsPoint}
 use Rattle.spin_world_seats.specs.declared.seats.SeatsPoint.TheVariants.{First, Exchange}
-use Rattle.spin_world_core.specs.Calls.{Asked, waits, tries, counts_readers, gives_back, says_of}
+use Rattle.spin_world_core.specs.Calls.{Asked, waits, tries, counts_readers, gives_back}
 use Rattle.spin_world_seats.specs.Kind as kind
 use Rattle.spin_world_core.specs.Machines.{Machine}
 use Rattle.spin_world_core.specs.Acts.{one_number, Act, load, load_for, retry, store, either, stays, retried, Table, machine_of}
+use Rattle.spin_world_core.specs.Tables.{usual_table}
 use Rattle.spin_world_core.specs.Operations.{subtracts}
 
 abbrev pub Answered : Type 0
@@ -55,22 +56,7 @@ abbrev pub SeatsTable : Type 0
 SeatsTable = Table ℕ (Unit {0}) SeatsCall SeatsPoint (Answer (Unit {0}))
 
 abbrev pub seats_table : ℕ → SeatsTable
-seats_table n =
-    record {
-      words = 0;
-      value = Some tt;
-      owned = true;
-      lock_kind = kind.seats;
-      cap = seats n;
-      group = 0;
-      first = 0;
-      memory = one_number;
-      start = λ c h. First;
-      word = λ l. 0;
-      act = act_of n;
-      asks = asks_of;
-      says = says_of;
-    }
+seats_table n = record (usual_table (Some tt) kind.seats 0 one_number (λ c h. First) (act_of n) asks_of) { cap = seats n }
 
 abbrev pub SeatsMachine : Type 0
 SeatsMachine = Machine ℕ (Unit {0}) SeatsCall SeatsPoint (Answer (Unit {0}))

@@ -1,5 +1,5 @@
 -- The ticket lock's calls, step by step, and how they read on the plain lock.
-use Rattle.std.specs.Prelude.{ℕ, Bool, true, not, ◌&&◌, Option, Some, None, ◌==◌, nat_lt}
+use Rattle.std.specs.Prelude.{ℕ, Bool, not, ◌&&◌, Option, Some, None, ◌==◌, nat_lt}
 use Rattle.spin_step.specs.Plain.{ticket_limit, to_take_ticket, to_enter, to_take_and_enter, gets, serves}
 use Rattle.spin_step.specs.Tickets.{take, served}
 use Rattle.spin_world_core.specs.declared.place.Hold.{Hold}
@@ -13,10 +13,11 @@ use Rattle.spin_world_ticket.specs.declared.ticket.TicketCall.{TicketCall}
 use Rattle.spin_world_ticket.specs.declared.ticket.TicketCall.TheVariants.{Lock, TryLock, IsLocked, Release}
 use Rattle.spin_world_ticket.specs.declared.ticket.TicketPoint.{TicketPoint}
 use Rattle.spin_world_ticket.specs.declared.ticket.TicketPoint.TheVariants.{LoadNext, Take, Await, TryLoadNext, TryLoadServing, TryTake, LookServing, LookNext, Serve}
-use Rattle.spin_world_core.specs.Calls.{Asked, waits, tries, looks, gives_back, says_of}
+use Rattle.spin_world_core.specs.Calls.{Asked, waits, tries, looks, gives_back}
 use Rattle.spin_world_ticket.specs.Kind.{ticket}
 use Rattle.spin_world_core.specs.Machines.{Machine}
 use Rattle.spin_world_core.specs.Acts.{Memory, two_numbers, Act, load, load_if, load_for, enter, attempt, retry, store, Table, machine_of}
+use Rattle.spin_world_core.specs.Tables.{usual_table}
 use Rattle.spin_world_core.specs.Operations.{stores}
 
 -- where calls begin; a release with the ticket that it holds
@@ -72,21 +73,8 @@ asks_of Release h = gives_back h
 
 abbrev pub ticket_table : {V : Type 0} → V → ℕ → Table TicketWords V TicketCall TicketPoint (Answer V)
 ticket_table v first =
-    record {
-      words = record { next = first; serving = first };
-      value = Some v;
-      owned = true;
-      lock_kind = ticket;
-      cap = 0;
-      group = 0;
-      first = first;
-      memory = ticket_memory;
-      start = starts_at;
-      word = word_of;
-      act = λ c l h. act_of l h;
-      asks = asks_of;
-      says = says_of;
-    }
+    let opening : TicketWords = record { next = first; serving = first } in
+    record (usual_table (Some v) ticket opening ticket_memory starts_at (λ c l h. act_of l h) asks_of) { first = first; word = word_of }
 
 abbrev pub ticket_machine : {V : Type 0} → V → ℕ → Machine TicketWords V TicketCall TicketPoint (Answer V)
 ticket_machine v first = machine_of (ticket_table v first)
