@@ -75,6 +75,9 @@ pub type TicketMutexGuard<'a, T, R = Spin> = Guard<'a, T, View, TicketRule, R>;
 /// ```
 pub type Held<'a, T, R = Spin> = guard::Held<'a, T, View, TicketRule, R>;
 
+// How many hints a place waits for each ticket before it, where it is not the next in turn.
+const HINTS_EACH: u64 = 8;
+
 // A place in the queue, and how many tickets were before it when it last looked.
 struct Place<'a, T> {
     number: u64,
@@ -249,9 +252,13 @@ impl<T, R> TicketMutex<T, R> {
 }
 
 impl<'a, T> Place<'a, T> {
-    // The next thread in turn looks often. One with many before it looks seldom, so that it does not disturb them.
+    // The next thread in turn looks again after one hint. One with others before it looks seldom, so that it does not
+    // disturb them.
     fn pause(&self) -> u32 {
-        self.ahead.min(MAX_HINTS as u64) as u32
+        if self.ahead <= 1 {
+            return 1;
+        }
+        self.ahead.saturating_mul(HINTS_EACH).min(MAX_HINTS as u64) as u32
     }
 
     // Enters if the number of the place is served.
