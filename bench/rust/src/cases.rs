@@ -4,7 +4,7 @@ use std::sync::atomic::{AtomicBool, AtomicU64, Ordering::SeqCst};
 
 use spin::mutex::{FairMutex, Mutex, SpinMutex, TicketMutex};
 use spin::rwlock::RwLock;
-use spin::{Barrier, LazyLock, Once};
+use spin::{Barrier, LazyLock, Once, Yield};
 
 use crate::measure;
 
@@ -83,6 +83,7 @@ macro_rules! spinning {
 
 spinning!(SpinMutex<u64>);
 spinning!(Mutex<u64>);
+spinning!(Mutex<u64, Yield>);
 spinning!(TicketMutex<u64>);
 spinning!(FairMutex<u64>);
 
@@ -369,6 +370,7 @@ pub enum Name {
     Floor,
     SpinMutex,
     Mutex,
+    MutexYield,
     TicketMutex,
     FairMutex,
     FairStarve,
@@ -386,10 +388,11 @@ pub enum Name {
 }
 
 impl Name {
-    pub const ALL: [Name; 17] = [
+    pub const ALL: [Name; 18] = [
         Name::Floor,
         Name::SpinMutex,
         Name::Mutex,
+        Name::MutexYield,
         Name::TicketMutex,
         Name::FairMutex,
         Name::FairStarve,
@@ -415,6 +418,7 @@ impl Name {
             Name::Floor => "floor",
             Name::SpinMutex => "spin_mutex",
             Name::Mutex => "mutex",
+            Name::MutexYield => "mutex_yield",
             Name::TicketMutex => "ticket_mutex",
             Name::FairMutex => "fair_mutex",
             Name::FairStarve => "fair_starve",
@@ -460,6 +464,7 @@ impl Name {
             Name::Floor => measure::measure::<Floor>(threads),
             Name::SpinMutex => measure::measure::<SpinMutex<u64>>(threads),
             Name::Mutex => measure::measure::<Mutex<u64>>(threads),
+            Name::MutexYield => measure::measure::<Mutex<u64, Yield>>(threads),
             Name::TicketMutex => measure::measure::<TicketMutex<u64>>(threads),
             Name::FairMutex => measure::measure::<FairMutex<u64>>(threads),
             Name::FairStarve => measure::measure::<Starvers>(threads),
@@ -483,6 +488,7 @@ impl Name {
             Name::Floor => measure::count::<Floor>(threads, calls),
             Name::SpinMutex => measure::count::<SpinMutex<u64>>(threads, calls),
             Name::Mutex => measure::count::<Mutex<u64>>(threads, calls),
+            Name::MutexYield => measure::count::<Mutex<u64, Yield>>(threads, calls),
             Name::TicketMutex => measure::count::<TicketMutex<u64>>(threads, calls),
             Name::FairMutex => measure::count::<FairMutex<u64>>(threads, calls),
             Name::FairStarve => measure::count::<Starvers>(threads, calls),

@@ -8,7 +8,7 @@ use std::process::ExitCode;
 use cases::Name;
 
 const USAGE: &str = "usage: spin_bench_rust CASE THREADS | sizes | smoke
-CASE: floor, spin_mutex, mutex, ticket_mutex, fair_mutex, fair_starve, rw_read,
+CASE: floor, spin_mutex, mutex, mutex_yield, ticket_mutex, fair_mutex, fair_starve, rw_read,
 rw_write, rw_upgrade, rw_one_writer, once_get, once_call, once_first, lazy_force, barrier_alone,
 barrier_rounds or std_mutex; THREADS: 1 to 64";
 

@@ -5,6 +5,7 @@ use crate::case::{
 };
 use crate::team::Team;
 use spin_barrier::barrier::Barrier;
+use spin_core::relax::Yield;
 use spin_mutex::mutex::{FairMutex, Mutex, SpinMutex, TicketMutex};
 use spin_rwlock::rwlock::RwLock;
 use std::sync::Wait;
@@ -35,10 +36,11 @@ const ALONE: [&str; 8] = [
 ];
 
 /// The cases that threads do beside one another, but for `barrier_rounds`.
-const BESIDE: [&str; 10] = [
+const BESIDE: [&str; 11] = [
     "floor",
     "spin_mutex",
     "mutex",
+    "mutex_yield",
     "ticket_mutex",
     "fair_mutex",
     "rw_read",
@@ -152,6 +154,7 @@ fn on_name<R: Threads + Wait + Clock + Print + AllocGlobal + Sync>(
         "floor" => on_case(rt, task, threads, Calls(Floor::new())),
         "spin_mutex" => on_case(rt, task, threads, Adds(<SpinMutex<u64>>::new(0))),
         "mutex" => on_case(rt, task, threads, Adds(<Mutex<u64>>::new(0))),
+        "mutex_yield" => on_case(rt, task, threads, Adds(<Mutex<u64, Yield>>::new(0))),
         "ticket_mutex" => on_case(rt, task, threads, Adds(<TicketMutex<u64>>::new(0))),
         "fair_mutex" => on_case(rt, task, threads, Adds(<FairMutex<u64>>::new(0))),
         "rw_read" => on_case(rt, task, threads, Calls(Readers(RwLock::new(1)))),
