@@ -2,11 +2,11 @@
 ghost use Rattle.std.specs.Prelude.{◌≡◌, ◌<◌, ◌∷◌, ◌==◌, [], length, IfSome, option_map, nat_le, ◌&&◌, map};
 ghost use Rattle.std.specs.List.{slice_split};
 ghost use Rattle.std.specs.Str.{bytes_eq};
+ghost use Rattle.memchr.specs.Find.{IsFirstByte, is_byte};
 ghost use Rattle.spin_text.specs.Lines.{words_by_line, words_of};
 ghost use Rattle.spin_text.specs.Reading.{words_left, lines_left, is_end, read_number, word_at, number_at, last_word, last_number, parts_left, named, only_named};
 
 use crate::numbers::number_of;
-use memchr::memchr;
 
 /// The rest of a line, or of all lines. `None` means that nothing is left, not even an empty word or line.
 ///
@@ -17,12 +17,26 @@ use memchr::memchr;
 /// ```
 pub type Rest<'a> = Option<&'a [u8]>;
 
+/// Returns the place of the first such byte. Words and lines are short, so it looks at one byte after the other.
+#[inline(always)]
+fn first_place(separator: u8, bytes: &[u8]) -> Option<usize>
+    ensures { IsFirstByte (is_byte separator) bytes.now result }
+{
+    for i in 0..bytes.len() {
+        if bytes[i] == separator {
+            return Some(i);
+        }
+    }
+    None
+}
+
 /// Returns the bytes before the first separator, and those after it.
+#[inline(always)]
 fn cut(separator: u8, bytes: &[u8]) -> (&[u8], Rest<'_>)
     ensures parts { slice_split (λ b. b == separator) bytes.now ≡ result.0.now ∷ parts_left separator result.1 }
     ensures shorter { IfSome result.1 (λ rest. length rest.now < length bytes.now) }
 {
-    match memchr(separator, bytes) {
+    match first_place(separator, bytes) {
         None => (bytes, None),
         Some(at) => (&bytes[..at], Some(&bytes[at + 1..])),
     }
