@@ -1,8 +1,11 @@
 -- Known bytes that grow twice.
-use Rattle.std.proofs.Common.{◌≡◌, ℕ, ◌+◌, ◌-◌, subst, List, ◌++◌, length, take, drop, Option, Some, None, sym, ◌∙◌, ap, arith, append_assoc, length-drop}
-use Rattle.std.proofs.lemmas.List.{drop-drop, drop-take, take-append-drop}
+use Rattle.std.proofs.Common.{◌≡◌, ℕ, ◌+◌, ◌-◌, subst, append-nil, length-append, [], List, ◌++◌, length, take, drop, Option}
+use Rattle.std.proofs.Common.{Some, None, sym, ◌∙◌, ap, arith, append_assoc, length-drop}
+use Rattle.std.proofs.Math.Seq.{take-append-add}
+use Rattle.std.proofs.lemmas.List.{drop-drop, drop-take, take-append-drop, take-append-le}
 use Rattle.std.proofs.lemmas.Grind.{common_steps}
 use Rattle.std.specs.Io.KnownBytes.{Appends}
+use Rattle.spin_text.specs.Ends.{AppendsBeginning, AppendsBut}
 
 -- what grows by one text and then by another grows by both
 pub Appends-append : (a b c : Option (List ℕ)) (xs ys : List ℕ) → Appends a b xs → Appends b c ys → Appends a c (xs ++ ys)
@@ -29,3 +32,53 @@ Appends-take a b c text rest n k is p q =
 -- what is left of the rest of a text is its rest from further on
 pub drop_more : (text rest : List ℕ) (n k : ℕ) → rest ≡ drop n text → take (length rest - k) (drop k rest) ≡ drop (n + k) text
 drop_more text rest n k is = grind (arith, common_steps, is, drop-drop, length-drop)
+
+-- where nothing was written, all is still to be
+Appends-none : (a : Option (List ℕ)) → Appends a a []
+Appends-none None = tt
+Appends-none (Some s) = sym (append-nil s)
+
+pub but_all : (a : Option (List ℕ)) (text piece : List ℕ) → text ≡ piece → AppendsBut a a text piece
+but_all a text piece is = ([], Appends-none a, is)
+
+-- where a piece was written, nothing is still to be
+pub but_none : (a b : Option (List ℕ)) (text : List ℕ) → Appends a b text → AppendsBut a b text []
+but_none a b text all = (text, all, sym (append-nil text))
+
+-- the text and the piece take a line
+pub but_line : (a b : Option (List ℕ)) (text piece line : List ℕ) → AppendsBut a b text piece → AppendsBut a b (text ++ line) (piece ++ line)
+but_line a b text piece line so_far = (so_far.0, so_far.1, ap (λ t. t ++ line) so_far.2 ∙ append_assoc so_far.0 piece line)
+
+-- what comes of the piece, comes of the text
+module _ (a b c : Option (List ℕ)) (text piece : List ℕ) (so_far : AppendsBut a b text piece) where
+  pub but_then : (rest : List ℕ) → AppendsBut b c piece rest → AppendsBut a c text rest
+  but_then rest next = (
+    so_far.0 ++ next.0,
+    Appends-append a b c so_far.0 next.0 so_far.1 next.1,
+    so_far.2 ∙ ap (λ t. so_far.0 ++ t) next.2 ∙ sym (append_assoc so_far.0 next.0 rest),
+  )
+
+  pub but_last : Appends b c piece → Appends a c text
+  but_last last =
+      let P : List ℕ → Type 0 = λ t. Appends a c t in subst P (sym so_far.2) (Appends-append a b c so_far.0 piece so_far.1 last)
+
+  pub but_beginning : AppendsBeginning b c piece → AppendsBeginning a c text
+  but_beginning part =
+      let P : List ℕ → Type 0 = λ t. AppendsBeginning a c t in
+      let Q : List ℕ → Type 0 = λ t. Appends a c t in
+      subst P (sym so_far.2) (
+        length so_far.0 + part.0,
+        omega (arith, part.1, length-append so_far.0 piece),
+        subst Q (sym (take-append-add so_far.0 piece part.0)) (Appends-append a b c so_far.0 (take part.0 piece) so_far.1 part.2),
+      )
+
+-- a beginning of a text is one of a longer text
+pub beginning_longer : (a b : Option (List ℕ)) (text more all : List ℕ) → all ≡ text ++ more → AppendsBeginning a b text → AppendsBeginning a b all
+beginning_longer a b text more all is part =
+    let P : List ℕ → Type 0 = λ t. AppendsBeginning a b t in
+    let Q : List ℕ → Type 0 = λ t. Appends a b t in
+    subst P (sym is) (part.0, omega (arith, part.1, length-append text more), subst Q (sym (take-append-le part.0 text more part.1)) part.2)
+
+-- what stands from a place on
+pub rest_is : (xs line : List ℕ) (n i : ℕ) → length xs ≡ n → drop i xs ≡ line → take (n - i) (drop i xs) ≡ line
+rest_is xs line n i count is = grind (arith, common_steps, length-drop)

@@ -1,16 +1,17 @@
 -- The lines of a transcript, one after the other, as the moves are played.
-use Rattle.std.proofs.Common.{◌≡◌, ℕ, suc, ◌+◌, ◌<◌, ◌^◌, ◌==◌, ◌&&◌, Bool, true, false, if◌then◌else◌, Option, Some, None, List, [], ◌∷◌, ◌++◌, length, take, get_or, sym, ◌∙◌, ap, refl, subst, arith, append_assoc, append-nil, zero-add, length-take-le}
+use Rattle.std.proofs.Common.{◌≡◌, ℕ, suc, ◌+◌, ◌<◌, ◌^◌, ◌==◌, ◌&&◌, Bool, true, false, if◌then◌else◌, Option, Some, None, List, [], ◌∷◌, ◌++◌, length, take, drop, get_or, sym, ◌∙◌, ap, refl, subst, arith, append_assoc, append-nil, zero-add, length-take-le}
+use Rattle.std.proofs.lemmas.List.{take-append-drop}
 use Rattle.spin_world_core.specs.declared.answer.Answer.{Answer}
 use Rattle.spin_world_core.specs.declared.schedule.Event.{Event}
 use Rattle.spin_world_core.specs.declared.schedule.Move.{Move}
 use Rattle.spin_world_core.specs.declared.schedule.Outcome.{Outcome}
 use Rattle.spin_world_core.specs.declared.schedule.Outcome.TheVariants as outcome
 use Rattle.spin_world_core.specs.Machines.{Machine}
-use Rattle.spin_world_core.specs.Schedules.{State, Happened, happens, events_of, with_begins, with_begin, begin_of, begins_after, last_begin, is_begun}
-use Rattle.spin_world_core.proofs.Schedules.{length-events_of}
+use Rattle.spin_world_core.specs.Schedules.{State, Happened, happens, after, events_of, with_begins, with_begin, begin_of, begins_after, last_begin, is_begun}
+use Rattle.spin_world_core.proofs.Schedules.{events_of-append, length-events_of}
 use Rattle.spin_world_core.proofs.Playing.{Played, played_next}
 use Rattle.spin_text.specs.Pieces.{HasLine, TellsLine}
-use Rattle.spin_text.specs.Transcripts.{event_line, event_lines}
+use Rattle.spin_text.specs.Transcripts.{event_line, event_lines, end_line, schedule_lines, transcript_from}
 
 -- one more event's line
 event_lines_more : {W : Type 0} (numbers : W → List ℕ) (line : ℕ) (es : List (Event W ℕ (Answer ℕ))) (e : Event W ℕ (Answer ℕ))
@@ -42,10 +43,9 @@ begin_below p k found (e ∷ es) below =
     let next = if (e.party == p) && is_begun e.outcome then Some k else found in
     subst (λ n. IsBelow n (last_begin p (k + 1) next es)) place (begin_below p (k + 1) next es (next_below ((e.party == p) && is_begun e.outcome) k found below))
 
--- the text so far, of the first k moves of a schedule
-pub record Told {W C L : Type 0} (m : Machine W ℕ C L (Answer ℕ)) (from now : State W ℕ C L) (begins : List (Option ℕ)) (schedule : List (ℕ × Move C ℕ)) (k : ℕ) (start text : List ℕ) : Type 0 where
-  pub played : Played m from now begins (with_begins [] (events_of m from (take k schedule))) (take k schedule)
-  pub lines : text ≡ start ++ event_lines m.numbers 1 (with_begins [] (events_of m from (take k schedule)))
+-- the first k moves of a schedule were played
+abbrev pub Told : {W C L : Type 0} → Machine W ℕ C L (Answer ℕ) → State W ℕ C L → State W ℕ C L → List (Option ℕ) → List (ℕ × Move C ℕ) → ℕ → Type 0
+Told m from now begins schedule k = Played m from now begins (with_begins [] (events_of m from (take k schedule))) (take k schedule)
 
 has_line : (place : ℕ) (began : Option ℕ) → IsBelow place began → place < 2 ^ 64 → HasLine began
 has_line place None below fits = tt
@@ -61,39 +61,81 @@ tells_line began outcome.Written has = tt
 tells_line began outcome.Leaked has = tt
 
 -- whoever is answered has a line to be told from
-pub told_line : {W C L : Type 0} (m : Machine W ℕ C L (Answer ℕ)) (from now : State W ℕ C L) (begins : List (Option ℕ)) (schedule : List (ℕ × Move C ℕ)) (k : ℕ) (start text : List ℕ) (p : ℕ) (o o' : Outcome (Answer ℕ) ℕ)
-    → Told m from now begins schedule k start text → k < length schedule → k < 2 ^ 64 → o' ≡ with_begin (begin_of begins p) o → TellsLine o'
-told_line m from now begins schedule k start text p o o' told lt fits is =
+pub told_line : {W C L : Type 0} (m : Machine W ℕ C L (Answer ℕ)) (from now : State W ℕ C L) (begins : List (Option ℕ))
+    (schedule : List (ℕ × Move C ℕ)) (k : ℕ) (p : ℕ) (o o' : Outcome (Answer ℕ) ℕ)
+    → Told m from now begins schedule k → k < length schedule → k < 2 ^ 64 → o' ≡ with_begin (begin_of begins p) o → TellsLine o'
+told_line m from now begins schedule k p o o' told lt fits is =
     let events = events_of m from (take k schedule) in
     let count : length events ≡ k = length-events_of m from (take k schedule) ∙ length-take-le k schedule (omega (arith, lt)) in
-    let below : IsBelow k (begin_of begins p) = subst (λ n. IsBelow n (begin_of begins p)) count (subst (IsBelow (length events)) (sym (told.played.begun_so p)) (subst (λ n. IsBelow n (last_begin p 0 None events)) (zero-add (length events)) (begin_below p 0 None events tt))) in
+    let below : IsBelow k (begin_of begins p) =
+    subst (λ n. IsBelow n (begin_of begins p)) count
+    (subst (IsBelow (length events)) (sym (told.begun_so p)) (subst (λ n. IsBelow n (last_begin p 0 None events)) (zero-add (length events)) (begin_below p 0 None events tt))) in
     subst TellsLine (sym is) (tells_line (begin_of begins p) o (has_line k (begin_of begins p) below fits))
 
 length-with_begins : {W V A : Type 0} (before es : List (Event W V A)) → length (with_begins before es) ≡ length es
 length-with_begins before [] = refl
 length-with_begins before (e ∷ es) = ap suc (length-with_begins (before ++ e ∷ []) es)
 
-pub told_next : {O W C L : Type 0} (machine : O → Machine W ℕ C L (Answer ℕ)) (object held : O) (from now next : State W ℕ C L) (begins begins' : List (Option ℕ)) (schedule : List (ℕ × Move C ℕ)) (k : ℕ) (start text text' : List ℕ)
+pub told_next : {O W C L : Type 0} (machine : O → Machine W ℕ C L (Answer ℕ)) (object held : O) (from now next : State W ℕ C L)
+    (begins begins' : List (Option ℕ)) (schedule : List (ℕ × Move C ℕ)) (k : ℕ)
     (entry : ℕ × Move C ℕ) (o o' : Outcome (Answer ℕ) ℕ) (words : W) (numbers : List ℕ)
-    → held ≡ object → Told (machine object) from now begins schedule k start text → k < length schedule → entry ≡ get_or schedule k entry
+    → held ≡ object → Told (machine object) from now begins schedule k → k < length schedule → entry ≡ get_or schedule k entry
     → (let h : Happened W ℕ C L (Answer ℕ) = record { outcome = o; next = next } in h ≡ happens (machine held) now entry.0 entry.1) → words ≡ next.words → (machine object).numbers words ≡ numbers
-    → o' ≡ with_begin (begin_of begins entry.0) o → begins' ≡ begins_after begins entry.0 k o → text' ≡ text ++ event_line (k + 1) entry.0 o' numbers
-    → Told (machine object) from next begins' schedule (k + 1) start text'
-told_next {W = W} machine object held from now next begins begins' schedule k start text text' entry o o' words numbers same told lt read acted is_words is_numbers told_o put added =
+    → o' ≡ with_begin (begin_of begins entry.0) o → begins' ≡ begins_after begins entry.0 k o
+    → Told (machine object) from next begins' schedule (k + 1)
+    × (schedule_lines (machine object) from (take (k + 1) schedule)
+    ≡ schedule_lines (machine object) from (take k schedule) ++ event_line (k + 1) entry.0 o' numbers)
+told_next {W = W} machine object held from now next begins begins' schedule k entry o o' words numbers same told lt read acted is_words is_numbers told_o put =
     let m = machine object in
     let front = take k schedule in
     let events = with_begins [] (events_of m from front) in
     let e : Event W ℕ (Answer ℕ) = record { party = entry.0; outcome = o'; words = words } in
-    let more = played_next m from now next begins begins' events (events ++ e ∷ []) schedule k entry o o' words told.played lt read (acted ∙ ap (λ x. happens (machine x) now entry.0 entry.1) same) is_words told_o put refl in
-    let line = event_line (k + 1) entry.0 o' numbers in
+    let more =
+    played_next m from now next begins begins' events (events ++ e ∷ []) schedule k entry o o' words told lt read
+    (acted ∙ ap (λ x. happens (machine x) now entry.0 entry.1) same) is_words told_o put refl in
     let count : length events ≡ k = length-with_begins [] (events_of m from front) ∙ length-events_of m from front ∙ length-take-le k schedule (omega (arith, lt)) in
-    let place : 1 + length events ≡ k + 1 = omega (arith, count) in
-    let all : event_lines m.numbers 1 (events ++ e ∷ []) ≡ event_lines m.numbers 1 events ++ line =
-    event_lines_more m.numbers 1 events e ∙ ap (λ n. event_lines m.numbers 1 events ++ event_line n entry.0 o' (m.numbers words)) place
-    ∙ ap (λ ns. event_lines m.numbers 1 events ++ event_line (k + 1) entry.0 o' ns) is_numbers in
-    record {
-      played = subst (λ es. Played m from next begins' es (take (k + 1) schedule)) more.with_begins_so more;
-      lines =
-          added ∙ ap (λ t. t ++ line) told.lines ∙ append_assoc start (event_lines m.numbers 1 events) line
-          ∙ ap (λ l. start ++ l) (sym all) ∙ ap (λ es. start ++ event_lines m.numbers 1 es) more.with_begins_so;
-    }
+    let place : 1 + length events ≡ k + 1 = omega (arith, count) in (
+      subst (λ es. Played m from next begins' es (take (k + 1) schedule)) more.with_begins_so more,
+      ap (λ es. event_lines m.numbers 1 es) (sym more.with_begins_so) ∙ event_lines_more m.numbers 1 events e
+          ∙ ap (λ n. event_lines m.numbers 1 events ++ event_line n entry.0 o' (m.numbers words)) place
+          ∙ ap (λ ns. event_lines m.numbers 1 events ++ event_line (k + 1) entry.0 o' ns) is_numbers,
+    )
+
+with_begins_append : {W V A : Type 0} (before xs ys : List (Event W V A))
+    → with_begins before (xs ++ ys) ≡ with_begins before xs ++ with_begins (before ++ xs) ys
+with_begins_append before [] ys = ap (λ b. with_begins b ys) (sym (append-nil before))
+with_begins_append before (x ∷ xs) ys =
+    ap (λ es. (record x { outcome = with_begin (last_begin x.party 0 None before) x.outcome }) ∷ es)
+    (with_begins_append (before ++ x ∷ []) xs ys ∙ ap (λ b. with_begins (before ++ x ∷ []) xs ++ with_begins b ys) (append_assoc before (x ∷ []) xs))
+
+lines_begin : {W : Type 0} (numbers : W → List ℕ) (line : ℕ) (xs ys : List (Event W ℕ (Answer ℕ)))
+    → (more : List ℕ) × (event_lines numbers line (xs ++ ys) ≡ event_lines numbers line xs ++ more)
+lines_begin numbers line [] ys = (event_lines numbers line ys, refl)
+lines_begin numbers line (x ∷ xs) ys =
+    let rest = lines_begin numbers (line + 1) xs ys in
+    let first = event_line line x.party x.outcome (numbers x.words) in
+    (rest.0, ap (λ l. first ++ l) rest.1 ∙ sym (append_assoc first (event_lines numbers (line + 1) xs) rest.0))
+
+-- the lines of the first moves are the first lines
+pub first_lines : {W C L : Type 0} (m : Machine W ℕ C L (Answer ℕ)) (from : State W ℕ C L) (schedule : List (ℕ × Move C ℕ)) (k : ℕ)
+    → (more : List ℕ) × (schedule_lines m from schedule ≡ schedule_lines m from (take k schedule) ++ more)
+first_lines m from schedule k =
+    let front = take k schedule in
+    let rest = drop k schedule in
+    let events = events_of m from front in
+    let further = events_of m (after m from front) rest in
+    let lines = lines_begin m.numbers 1 (with_begins [] events) (with_begins events further) in (
+      lines.0,
+      ap (λ s. schedule_lines m from s) (sym (take-append-drop k schedule))
+          ∙ ap (λ es. event_lines m.numbers 1 (with_begins [] es)) (events_of-append m from front rest)
+          ∙ ap (λ es. event_lines m.numbers 1 es) (with_begins_append [] events further) ∙ lines.1,
+    )
+
+-- the last line tells what is left
+pub last_line : {W C L : Type 0} (m : Machine W ℕ C L (Answer ℕ)) (from now : State W ℕ C L) (schedule : List (ℕ × Move C ℕ)) (words : W)
+    (numbers : List ℕ) (value : Option ℕ) → now ≡ after m from schedule → words ≡ now.words → m.numbers words ≡ numbers → value ≡ now.value
+    → transcript_from m from schedule ≡ schedule_lines m from schedule ++ end_line numbers value
+last_line m from now schedule words numbers value is is_words is_numbers is_value =
+    let lines = schedule_lines m from schedule in
+    ap (λ s. lines ++ end_line (m.numbers s.words) s.value) (sym is) ∙ ap (λ w. lines ++ end_line (m.numbers w) now.value) (sym is_words)
+    ∙ ap (λ ns. lines ++ end_line ns now.value) is_numbers ∙ ap (λ v. lines ++ end_line numbers v) (sym is_value)

@@ -1,5 +1,5 @@
--- Steps of reading: a test, or one result after another.
-use Rattle.std.proofs.Common.{◌≡◌, Bool, true, false, ◌&&◌, Option, Some, None, cond, refl}
+-- Steps of reading: a test, or one result after another. And what a result says.
+use Rattle.std.proofs.Common.{◌≡◌, Bool, true, false, ◌&&◌, Option, Some, None, Result, Ok, Err, OnOk, OnErr, IfErr, cond, refl}
 use Rattle.spin_text.specs.Reading.{◌>>=◌}
 
 pub some_is : {A : Type 0} {x y : A} → Some x ≡ Some y → x ≡ y
@@ -18,3 +18,21 @@ bound (Some x) f y P then is = then x refl is
 pub and_true : (a b : Bool) → (a && b) ≡ true → (a ≡ true) × (b ≡ true)
 and_true true b is = (refl, is)
 and_true false b is = absurd (cc)
+
+-- what holds of a result, as far as one thing gives the other
+
+pub on_ok : {X E : Type 0} (r : Result X E) (P Q : Type 0) → (P → Q) → OnOk r P → OnOk r Q
+on_ok (Ok x) P Q then p = then p
+on_ok (Err e) P Q then p = tt
+
+pub at_err : {X E : Type 0} (r : Result X E) (P : Type 0) → P → OnErr r P
+at_err (Ok x) P p = tt
+at_err (Err e) P p = p
+
+pub on_err : {X E : Type 0} (r : Result X E) (P Q : Type 0) → (P → Q) → OnErr r P → OnErr r Q
+on_err (Ok x) P Q then p = tt
+on_err (Err e) P Q then p = then p
+
+pub if_err : {X E : Type 0} (r : Result X E) (P Q : E → Type 0) → ((e : E) → P e → Q e) → IfErr r P → IfErr r Q
+if_err (Ok x) P Q then p = tt
+if_err (Err e) P Q then p = then e p

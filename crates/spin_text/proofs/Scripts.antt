@@ -1,5 +1,5 @@
 -- A whole text is read as it is spelled: so it has one reading, and its first bad line is where reading stops.
-use Rattle.std.proofs.Common.{◌≡◌, ℕ, suc, ◌<◌, Result, Ok, Err, IfOk, IfErr, ◌+◌, ◌-◌, Option, Some, None, List, [], ◌∷◌, ◌++◌, length, map, take, arith, refl, sym, ◌∙◌, ap, subst, length-append, append_assoc}
+use Rattle.std.proofs.Common.{◌≡◌, ℕ, suc, Bool, true, false, ◌<◌, Result, OnOk, IfErr, ◌+◌, ◌-◌, Option, Some, None, List, [], ◌∷◌, ◌++◌, length, map, take, arith, refl, sym, ◌∙◌, ap, subst, length-append, append_assoc}
 use Rattle.std.proofs.lemmas.List.{length-map, map-append}
 use Rattle.spin_world_core.specs.declared.answer.Answer.{Answer}
 use Rattle.spin_world_core.specs.declared.schedule.Move.{Move}
@@ -7,14 +7,16 @@ use Rattle.spin_world_core.specs.Machines.{Machine}
 use Rattle.spin_text.specs.declared.header.Header.{Header}
 use Rattle.spin_text.specs.declared.text.RunError.{RunError}
 use Rattle.spin_text.specs.declared.text.RunError.TheVariants as errors
+use Rattle.std.specs.Io.KnownBytes.{Appends}
+use Rattle.spin_text.specs.Ends.{AppendsBeginning, AppendsSome, AppendsSomeBeginning}
 use Rattle.spin_text.specs.Lines.{words_by_line, header_line, entry_lines}
 use Rattle.spin_text.specs.Spelling.{Calls, entry_words, EntryFits, EntriesFit}
 use Rattle.spin_text.specs.Objects.{CallOf, calls_of, header_words, HeaderFits}
 use Rattle.spin_text.specs.Reading.{◌>>=◌, read_entry, read_header}
 use Rattle.spin_text.specs.Readable.{ReadsCalls, StopsEntries}
 use Rattle.spin_text.specs.Transcripts.{transcript_text}
-use Rattle.spin_text.specs.Texts.{Script, script_words, ScriptFits, Spells, AreOfScript, IsFirstBad, played, PlaysBytes, PlaysLines, StopsPlaying}
-use Rattle.spin_text.proofs.Options.{some_is}
+use Rattle.spin_text.specs.Texts.{Script, script_words, ScriptFits, Spells, AreOfScript, IsFirstBad, played, PlaysBytes, PlaysLines, StopsPlaying, StopsWriting, ReadsAll, Streams, Plays, Stops}
+use Rattle.spin_text.proofs.Options.{some_is, on_ok, if_err}
 use Rattle.spin_text.proofs.Moves.{entry_takes, entry_again}
 use Rattle.spin_text.proofs.Headers.{header_takes, header_again, read_of, reads_of}
 
@@ -151,14 +153,77 @@ pub whole_text : {W L : Type 0} → (bytes : List ℕ) (h : Header) (rest : List
 whole_text bytes h rest m parties text fits is same plays =
     (record { header = h; entries = plays.0 }, record { fits = (fits, plays.1); words = is ∙ ap (λ r. header_words h ∷ r) plays.2 }, plays.3 ∙ same plays.0)
 
--- the same, of what a call answers
+-- the same, of what a call answers that writes
 
-pub whole_text_if : {X W L : Type 0} → (view : X → List ℕ) (r : Result X RunError) (bytes : List ℕ) (h : Header) (rest : List (List (List ℕ))) (m : Machine W ℕ (CallOf h) L (Answer ℕ)) (parties : ℕ) → HeaderFits h
-    → words_by_line bytes ≡ header_words h ∷ rest → ((es : List (ℕ × Move (CallOf h) ℕ)) → transcript_text m parties es ≡ played h es) → IfOk r (λ x. PlaysLines (calls_of h) m parties rest (view x)) → IfOk r (λ x. PlaysBytes bytes (view x))
-whole_text_if view (Ok x) bytes h rest m parties fits is same plays = whole_text bytes h rest m parties (view x) fits is same plays
-whole_text_if view (Err e) bytes h rest m parties fits is same plays = tt
+stops_so : (B C : RunError → Type 0) (U P Q : Type 0) → ((e : RunError) → B e → C e) → (P → Q) → (e : RunError) → StopsWriting B U P e → StopsWriting C U Q e
+stops_so B C U P Q before at_write errors.Read stops = (before errors.Read stops.0, stops.1)
+stops_so B C U P Q before at_write errors.Memory stops = (before errors.Memory stops.0, stops.1)
+stops_so B C U P Q before at_write (errors.BadLine n) stops = (before (errors.BadLine n) stops.0, stops.1)
+stops_so B C U P Q before at_write errors.Write stops = at_write stops
 
-pub bad_entry_if : {X : Type 0} → (r : Result X RunError) (bytes : List ℕ) (h : Header) (rest : List (List (List ℕ))) → HeaderFits h → words_by_line bytes ≡ header_words h ∷ rest
-    → IfErr r (StopsEntries (calls_of h) (read_of h) rest) → IfErr r (StopsPlaying bytes)
-bad_entry_if (Ok x) bytes h rest fits is stops = tt
-bad_entry_if (Err e) bytes h rest fits is stops = bad_entry bytes h rest e fits is stops
+module _ {X : Type 0} (r : Result X RunError) (P Q : List ℕ → Type 0) (each : (text : List ℕ) → P text → Q text) (a b : Option (List ℕ)) where
+  -- a text of which one thing holds is one of which another holds
+  pub some_so : OnOk r (AppendsSome P a b) → OnOk r (AppendsSome Q a b)
+  some_so = on_ok r _ _ (λ t. (t.0, each t.0 t.1, t.2))
+
+  pub beginning_so : (B C : RunError → Type 0) (U F : Type 0) → ((e : RunError) → B e → C e)
+      → IfErr r (StopsWriting B U (F × AppendsSomeBeginning P a b)) → IfErr r (StopsWriting C U (F × AppendsSomeBeginning Q a b))
+  beginning_so B C U F before = if_err r _ _ (stops_so B C U _ _ before (λ t. (t.0, (t.1.0, each t.1.0 t.1.1, t.1.2))))
+
+-- one text is some text
+module _ {X : Type 0} (r : Result X RunError) (P : List ℕ → Type 0) (text : List ℕ) (is : P text) (a b : Option (List ℕ)) where
+  pub some_text : OnOk r (Appends a b text) → OnOk r (AppendsSome P a b)
+  some_text = on_ok r _ _ (λ t. (text, is, t))
+
+  pub some_beginning : (B C : RunError → Type 0) (U F : Type 0) → ((e : RunError) → B e → C e)
+      → IfErr r (StopsWriting B U (F × AppendsBeginning a b text)) → IfErr r (StopsWriting C U (F × AppendsSomeBeginning P a b))
+  some_beginning B C U F before = if_err r _ _ (stops_so B C U _ _ before (λ t. (t.0, (text, is, t.1))))
+
+-- what the lines behind the header come to, the bytes come to
+module _ {X W L : Type 0} (r : Result X RunError) (bytes : List ℕ) (h : Header) (m : Machine W ℕ (CallOf h) L (Answer ℕ)) (parties : ℕ)
+    (headed_so : HeaderFits h × (words_by_line bytes ≡ header_words h ∷ entry_lines (words_by_line bytes)))
+    (same : (es : List (ℕ × Move (CallOf h) ℕ)) → transcript_text m parties es ≡ played h es) (a b : Option (List ℕ)) where
+  each_text : (text : List ℕ) → PlaysLines (calls_of h) m parties (entry_lines (words_by_line bytes)) text → PlaysBytes bytes text
+  each_text text = whole_text bytes h _ m parties text headed_so.0 headed_so.1 same
+
+  pub plays_so : OnOk r (AppendsSome (PlaysLines (calls_of h) m parties (entry_lines (words_by_line bytes))) a b) → OnOk r (AppendsSome (PlaysBytes bytes) a b)
+  plays_so = some_so r _ _ each_text a b
+
+  pub stops_so_far : (U F : Type 0)
+      → IfErr r (StopsWriting (StopsEntries (calls_of h) (read_of h) (entry_lines (words_by_line bytes))) U
+      (F × AppendsSomeBeginning (PlaysLines (calls_of h) m parties (entry_lines (words_by_line bytes))) a b))
+      → IfErr r (StopsWriting (StopsPlaying bytes) U (F × AppendsSomeBeginning (PlaysBytes bytes) a b))
+  stops_so_far U F = beginning_so r _ _ each_text a b _ _ U F (λ e. bad_entry bytes h _ e headed_so.0 headed_so.1)
+
+-- memory may be refused at each line
+pub refused_so : {C : Type 0} (calls : Calls C) (read : List (List ℕ) → Option C) (lines : List (List (List ℕ))) (e : RunError)
+    → e ≡ errors.Memory → StopsEntries calls read lines e
+refused_so calls read lines e is = let P : RunError → Type 0 = StopsEntries calls read lines in subst P (sym is) tt
+
+-- what playing comes to, the whole call comes to
+module _ {X : Type 0} (r : Result X RunError) (bytes : List ℕ) (left left_after written written_after : Option (List ℕ))
+    (source_failed sink_failed : Bool) (reads : ReadsAll left left_after bytes) where
+  abbrev streams : Streams
+  streams = record {
+    left = left;
+    left_after = left_after;
+    source_failed = source_failed;
+    written = written;
+    written_after = written_after;
+    sink_failed = sink_failed;
+  }
+
+  pub world_plays : OnOk r (AppendsSome (PlaysBytes bytes) written written_after) → OnOk r (Plays streams)
+  world_plays = on_ok r _ _ (λ t. (bytes, t.0, reads, t.1, t.2))
+
+  stops_whole : (U : Type 0) → source_failed ≡ false → (e : RunError)
+      → StopsWriting (StopsPlaying bytes) U ((sink_failed ≡ true) × AppendsSomeBeginning (PlaysBytes bytes) written written_after) e → Stops streams U e
+  stops_whole U ok errors.Read stops = absurd stops.0
+  stops_whole U ok errors.Memory stops = (ok, stops.1)
+  stops_whole U ok (errors.BadLine n) stops = (ok, (bytes, reads, stops.0), stops.1)
+  stops_whole U ok errors.Write stops = (ok, stops.0, (bytes, stops.1.0, reads, stops.1.1, stops.1.2))
+
+  pub world_stops : (U : Type 0) → source_failed ≡ false
+      → IfErr r (StopsWriting (StopsPlaying bytes) U ((sink_failed ≡ true) × AppendsSomeBeginning (PlaysBytes bytes) written written_after))
+      → IfErr r (Stops streams U)
+  world_stops U ok = if_err r _ _ (stops_whole U ok)

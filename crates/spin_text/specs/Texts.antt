@@ -103,6 +103,13 @@ StopsPlaying bytes (errors.BadLine n) = IsFirstBad (words_by_line bytes) n
 StopsPlaying bytes errors.Memory = Unit {0}
 StopsPlaying bytes _ = ⊥
 
+-- a call that writes stops before the first write, or at a failed one
+abbrev pub StopsWriting : (RunError → Type 0) → Type 0 → Type 0 → RunError → Type 0
+StopsWriting Before Unwritten AtWrite errors.Read = Before errors.Read × Unwritten
+StopsWriting Before Unwritten AtWrite errors.Memory = Before errors.Memory × Unwritten
+StopsWriting Before Unwritten AtWrite (errors.BadLine n) = Before (errors.BadLine n) × Unwritten
+StopsWriting Before Unwritten AtWrite errors.Write = AtWrite
+
 -- the text is what the entries that the lines spell come to
 abbrev pub PlaysLines : {W C L : Type 0} → Calls C → Machine W ℕ C L (Answer ℕ) → ℕ → List (List (List ℕ)) → List ℕ → Type 0
 PlaysLines {C = C} calls m parties lines text =

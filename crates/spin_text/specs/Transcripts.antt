@@ -7,7 +7,7 @@ use Rattle.spin_world_core.specs.declared.schedule.Event.{Event}
 use Rattle.spin_world_core.specs.declared.schedule.Outcome.{Outcome}
 use Rattle.spin_world_core.specs.declared.schedule.Outcome.TheVariants as outcome
 use Rattle.spin_world_core.specs.Machines.{Machine}
-use Rattle.spin_world_core.specs.Schedules.{at_first, after, events_of, with_begins}
+use Rattle.spin_world_core.specs.Schedules.{State, at_first, after, events_of, with_begins}
 
 abbrev pub value_text : Option ℕ → List ℕ
 value_text None = codes "none"
@@ -69,9 +69,16 @@ event_lines numbers line (e ∷ es) = event_line line e.party e.outcome (numbers
 abbrev pub end_line : List ℕ → Option ℕ → List ℕ
 end_line numbers value = codes "end: " ++ numbers_text numbers ++ codes " value " ++ value_text value ++ codes "\n"
 
--- a line for each event, numbered from 1, and the words and the value in the end
-abbrev pub transcript_text : {W C L : Type 0} → Machine W ℕ C L (Answer ℕ) → ℕ → List (ℕ × Move C ℕ) → List ℕ
-transcript_text m parties schedule =
-    let first = at_first m parties in
+-- a line for each move of a schedule, numbered from 1
+abbrev pub schedule_lines : {W C L : Type 0} → Machine W ℕ C L (Answer ℕ) → State W ℕ C L → List (ℕ × Move C ℕ) → List ℕ
+schedule_lines m first schedule = event_lines m.numbers 1 (with_begins [] (events_of m first schedule))
+
+-- and the words and the value in the end
+abbrev pub transcript_from : {W C L : Type 0} → Machine W ℕ C L (Answer ℕ) → State W ℕ C L → List (ℕ × Move C ℕ) → List ℕ
+transcript_from m first schedule =
     let last = after m first schedule in
-    event_lines m.numbers 1 (with_begins [] (events_of m first schedule)) ++ end_line (m.numbers last.words) last.value
+    schedule_lines m first schedule ++ end_line (m.numbers last.words) last.value
+
+-- in a world of so many parties
+abbrev pub transcript_text : {W C L : Type 0} → Machine W ℕ C L (Answer ℕ) → ℕ → List (ℕ × Move C ℕ) → List ℕ
+transcript_text m parties schedule = transcript_from m (at_first m parties) schedule

@@ -10,6 +10,7 @@ mod header;
 mod laws;
 mod numbers;
 mod objects;
+mod piece;
 mod put;
 mod text;
 mod transcript;

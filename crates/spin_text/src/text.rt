@@ -1,15 +1,17 @@
 //! A whole text: it is read, checked, played, and its transcript written. Begin with [`world_text`].
-ghost use Rattle.std.specs.Prelude.{◌≡◌, ◌<◌, false, length, OnOk, IfOk, IfErr};
+ghost use Rattle.std.specs.Prelude.{◌≡◌, ◌<◌, false, true, length, OnOk, IfOk, IfErr};
+ghost use Rattle.spin_text.specs.Ends.{AppendsSome, AppendsSomeBeginning};
 ghost use Rattle.spin_text.specs.Lines.{words_by_line, header_line, entry_lines};
 ghost use Rattle.spin_text.specs.Reading.{read_header};
 ghost use Rattle.spin_text.specs.Readable.{StopsEntries};
-ghost use Rattle.spin_text.specs.Texts.{ReadsAll, Plays, Stops, StopsReading, StopsPlaying, PlaysBytes, PlaysLines};
+ghost use Rattle.spin_text.specs.Texts.{ReadsAll, Plays, Stops, StopsReading, StopsPlaying, StopsWriting, PlaysBytes, PlaysLines};
 
-use crate::ends::{Sink, Source, write_whole};
+use crate::ends::{Sink, Source};
 use crate::entries::entries;
 use crate::header::{Header, header_of};
 use crate::objects::Spelled;
-use crate::transcript::transcript;
+use crate::piece::buffer;
+use crate::transcript::write_transcript;
 use crate::words::first_line;
 use spin_world::{BarrierObject, Fair, Flag, OnceObject, Rw, Ticket};
 use std::alloc::{AllocError, AllocFailed, Global};
@@ -57,13 +59,6 @@ impl<T: Drop> From<AllocFailed<T>> for RunError {
 /// The number of bytes that one read asks for.
 const CHUNK: usize = 65_536;
 
-/// Creates a buffer of this many bytes.
-fn buffer(alloc: Global, size: usize) -> Result<Vec<u8>, AllocError>
-    ensures { IfOk result (λ bytes. length bytes.items ≡ size) }
-{
-    vec![in alloc; 0u8; size]
-}
-
 /// Reads all bytes of a source, one chunk at a time.
 fn read_by<I: Source>(alloc: Global, input: &mut I, chunk: &mut [u8]) -> Result<Vec<u8>, RunError>
     requires { 0 < length chunk.old }
@@ -93,21 +88,27 @@ fn read_all<I: Source>(alloc: Global, input: &mut I) -> Result<Vec<u8>, RunError
     read_by(alloc, input, &mut chunk)
 }
 
-/// Plays the lines after the header, and returns the text of their transcript. It reuses the room of the bytes for it.
-fn play_lines<O: Spelled>(
+/// Plays the lines after the header, and writes their transcript.
+fn play_lines<O: Spelled, K: Sink>(
     alloc: Global,
     object: O,
     parties: usize,
-    bytes: Vec<u8>,
-) -> Result<Vec<u8>, RunError>
-    ensures ok { IfOk result (λ text. PlaysLines O.calls (O.machine object) parties (entry_lines (words_by_line bytes.items)) text.items) }
-    ensures stops { IfErr result (StopsEntries O.calls O.read (entry_lines (words_by_line bytes.items))) }
+    bytes: &[u8],
+    output: &mut K,
+) -> Result<(), RunError>
+    ensures bytes { OnOk result (AppendsSome
+        (PlaysLines O.calls (O.machine object) parties (entry_lines (words_by_line bytes.now)))
+        (K.written output.old) (K.written output.new)) }
+    ensures ok { OnOk result (K.failed output.new ≡ K.failed output.old) }
+    ensures stops { IfErr result (StopsWriting
+        (StopsEntries O.calls O.read (entry_lines (words_by_line bytes.now))) (output.new ≡ output.old)
+        ((K.failed output.new ≡ true) × AppendsSomeBeginning
+        (PlaysLines O.calls (O.machine object) parties (entry_lines (words_by_line bytes.now)))
+        (K.written output.old) (K.written output.new))) }
 {
-    let (_header, lines) = first_line(&bytes);
+    let (_header, lines) = first_line(bytes);
     let schedule = entries::<O>(alloc, lines)?;
-    let mut room = bytes;
-    room.clear();
-    Ok(transcript(alloc, object, parties, &schedule, room)?)
+    write_transcript(alloc, object, parties, &schedule, output)
 }
 
 /// Returns the header that the first line of the bytes spells, or `None` if it spells none.
@@ -119,15 +120,18 @@ fn header(bytes: &[u8]) -> Option<Header>
     header_of(line)
 }
 
-/// Plays the schedule that bytes spell, and returns the text of its transcript.
-fn play(alloc: Global, bytes: Vec<u8>) -> Result<Vec<u8>, RunError>
-    ensures ok { IfOk result (λ text. PlaysBytes bytes.items text.items) }
-    ensures stops { IfErr result (StopsPlaying bytes.items) }
+/// Plays the schedule that bytes spell, and writes its transcript.
+fn play<K: Sink>(alloc: Global, bytes: &[u8], output: &mut K) -> Result<(), RunError>
+    ensures bytes { OnOk result (AppendsSome (PlaysBytes bytes.now) (K.written output.old) (K.written output.new)) }
+    ensures ok { OnOk result (K.failed output.new ≡ K.failed output.old) }
+    ensures stops { IfErr result (StopsWriting (StopsPlaying bytes.now) (output.new ≡ output.old)
+        ((K.failed output.new ≡ true) × AppendsSomeBeginning (PlaysBytes bytes.now)
+        (K.written output.old) (K.written output.new))) }
 {
-    match header(&bytes) {
+    match header(bytes) {
         None => Err(RunError::BadLine(1)),
         Some(Header::Flag { value, parties }) => {
-            play_lines(alloc, Flag::new(value), parties, bytes)
+            play_lines(alloc, Flag::new(value), parties, bytes, output)
         }
         Some(
             Header::Ticket {
@@ -135,14 +139,14 @@ fn play(alloc: Global, bytes: Vec<u8>) -> Result<Vec<u8>, RunError>
                 first,
                 parties,
             },
-        ) => play_lines(alloc, Ticket::new(value, first), parties, bytes),
+        ) => play_lines(alloc, Ticket::new(value, first), parties, bytes, output),
         Some(
             Header::Rw {
                 value,
                 cap,
                 parties,
             },
-        ) => play_lines(alloc, Rw::new(value, cap), parties, bytes),
+        ) => play_lines(alloc, Rw::new(value, cap), parties, bytes, output),
         Some(
             Header::Fair {
                 value,
@@ -150,11 +154,17 @@ fn play(alloc: Global, bytes: Vec<u8>) -> Result<Vec<u8>, RunError>
                 spins,
                 parties,
             },
-        ) => play_lines(alloc, Fair::new(value, cap, spins), parties, bytes),
+        ) => play_lines(alloc, Fair::new(value, cap, spins), parties, bytes, output),
         Some(Header::Barrier { n, parties }) => {
-            play_lines(alloc, BarrierObject::new(n), parties, bytes)
+            play_lines(alloc, BarrierObject::new(n), parties, bytes, output)
         }
-        Some(Header::Once { parties }) => play_lines(alloc, OnceObject::new(), parties, bytes),
+        Some(Header::Once { parties }) => play_lines(
+            alloc,
+            OnceObject::new(),
+            parties,
+            bytes,
+            output,
+        ),
     }
 }
 
@@ -184,7 +194,7 @@ fn play(alloc: Global, bytes: Vec<u8>) -> Result<Vec<u8>, RunError>
 /// The caller gives streams that have not failed. On `Ok` neither has failed, the source is at its end, and the known
 /// output grows by the transcript of what was read (`Plays`).
 ///
-/// The call reads and checks all lines before the world runs, and makes the whole text before the first write. So an
+/// The call reads and checks all lines before the world runs, and takes all memory before the first write. So an
 /// `Err` other than `Write` leaves the output as it was, and `Write` leaves a beginning of the text (`Stops`).
 ///
 /// # Examples
@@ -230,6 +240,5 @@ pub fn world_text<I: Source, O: Sink>(
         (output.new ≡ output.old)) }
 {
     let bytes = read_all(alloc, input)?;
-    let text = play(alloc, bytes)?;
-    write_whole(output, &text).map_err(|_| RunError::Write)
+    play(alloc, &bytes, output)
 }

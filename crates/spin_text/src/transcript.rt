@@ -1,21 +1,22 @@
-//! The text of a transcript. Begin with [`transcript`]; it makes each line from its end, in a buffer.
-ghost use Rattle.std.specs.Prelude.{◌≡◌, ◌≤◌, ◌<◌, ◌++◌, ◌+◌, ◌^◌, OnOk, IfOk, [], ℕ, None, drop, length};
-ghost use Rattle.spin_world_core.specs.Schedules.{after, events_of, with_begins, begin_of};
+//! The text of a transcript. Begin with [`write_transcript`]; it makes each line from its end, in a buffer.
+ghost use Rattle.std.specs.Prelude.{◌≡◌, ◌≤◌, ◌<◌, ◌++◌, ◌+◌, ◌^◌, OnOk, OnErr, IfOk, IfErr, ℕ, None, true, take, drop, length};
+ghost use Rattle.std.specs.Io.KnownBytes.{Appends};
+ghost use Rattle.spin_world_core.specs.Schedules.{after, begin_of};
+ghost use Rattle.spin_text.specs.declared.text.RunError.TheVariants.{Memory};
+ghost use Rattle.spin_text.specs.Ends.{AppendsBeginning, AppendsBut};
+ghost use Rattle.spin_text.specs.Texts.{StopsWriting};
 ghost use Rattle.spin_text.specs.Pieces.{PutBefore, HasLine, TellsLine};
 ghost use Rattle.spin_text.specs.Reading.{numbers_of};
-ghost use Rattle.spin_text.specs.Transcripts.{value_text, number_text, answer_text, from_text, outcome_text, numbers_text, event_line, event_lines, end_line, transcript_text};
+ghost use Rattle.spin_text.specs.Transcripts.{value_text, number_text, answer_text, from_text, outcome_text, numbers_text, event_line, end_line, schedule_lines, transcript_from, transcript_text};
 
+use crate::ends::{Failed, Sink, write_whole};
 use crate::objects::Spelled;
+use crate::piece::{LONGEST_LINE, PIECE, buffer, write_line};
 use crate::put::{put, put_number};
+use crate::text::RunError;
 use spin_world::{Answer, Move, Outcome, World};
 use spin_world_core::{no_begins, with_begin};
-use std::alloc::{AllocError, Global};
-
-/// The room for the longest line: six numbers of up to 20 digits, and the words between them.
-const LONGEST_LINE: usize = 160;
-
-/// The room to ask for each line, before the first is made: about the length of a line of a long text.
-const USUAL_LINE: usize = 32;
+use std::alloc::Global;
 
 fn put_value(value: Option<u64>, buffer: &mut [u8], end: usize) -> usize
     requires room { 20 ≤ end }
@@ -161,62 +162,112 @@ fn put_end(numbers: (u64, Option<u64>), value: Option<u64>, buffer: &mut [u8]) -
     put(b"end: ", buffer, end)
 }
 
-/// Plays a schedule, and appends the line of each event to the text.
-fn push_events<O: Spelled>(
-    text: &mut Vec<u8>,
+/// Plays a schedule, and writes the line of each event. Returns how many bytes the piece then has.
+fn write_events<O: Spelled, K: Sink>(
     world: &mut World<O>,
     begins: &mut [Option<usize>],
     schedule: &[(usize, Move<O::Call, u64>)],
-) -> Result<(), AllocError>
+    piece: &mut [u8],
+    output: &mut K,
+) -> Result<usize, Failed>
     requires parties { length begins.old ≡ length world.old.state.seats }
     requires none_begun { (p : ℕ) → begin_of begins.old p ≡ None }
+    requires room { length piece.old ≡ PIECE }
     ensures object { OnOk result (world.new.object ≡ world.old.object) }
     ensures state { OnOk result (world.new.state ≡ after (O.machine world.old.object) world.old.state schedule.now) }
-    ensures text { let m = O.machine world.old.object in
-        OnOk result (text.new.items ≡ text.old.items ++ event_lines m.numbers 1 (with_begins [] (events_of m world.old.state schedule.now))) }
+    ensures used { IfOk result (λ n. n + LONGEST_LINE ≤ PIECE) }
+    ensures bytes { IfOk result (λ n. AppendsBut (K.written output.old) (K.written output.new)
+        (schedule_lines (O.machine world.old.object) world.old.state schedule.now) (take n piece.new)) }
+    ensures ok { OnOk result (K.failed output.new ≡ K.failed output.old) }
+    ensures beginning { OnErr result (AppendsBeginning (K.written output.old) (K.written output.new)
+        (schedule_lines (O.machine world.old.object) world.old.state schedule.now)) }
+    ensures err { OnErr result (K.failed output.new ≡ true) }
 {
     let mut buffer = [0u8; LONGEST_LINE];
+    let mut used = 0;
     for (place, entry) in schedule.iter().enumerate() {
         let (party, action) = *entry;
         let outcome = with_begin(begins, party, place, world.act(party, action));
         let numbers = O::numbers(world.words());
         let start = put_event(place + 1, party, outcome, numbers, &mut buffer);
-        text.extend_from_slice(&buffer[start..])?;
+        used = write_line(&buffer[start..], piece, used, output)?;
     }
-    Ok(())
+    Ok(used)
 }
 
-/// Appends the last line to the text.
-fn push_end(
-    text: &mut Vec<u8>,
+/// Writes the last line behind a piece of `used` bytes.
+fn write_end<K: Sink>(
     numbers: (u64, Option<u64>),
     value: Option<u64>,
-) -> Result<(), AllocError>
-    ensures { OnOk result (text.new.items ≡ text.old.items ++ end_line (numbers_of numbers) value) }
+    piece: &mut [u8],
+    used: usize,
+    output: &mut K,
+) -> Result<(), Failed>
+    requires room { length piece.old ≡ PIECE }
+    requires used { used + LONGEST_LINE ≤ PIECE }
+    ensures bytes { OnOk result (Appends (K.written output.old) (K.written output.new)
+        (take used piece.old ++ end_line (numbers_of numbers) value)) }
+    ensures ok { OnOk result (K.failed output.new ≡ K.failed output.old) }
+    ensures beginning { OnErr result (AppendsBeginning (K.written output.old) (K.written output.new)
+        (take used piece.old ++ end_line (numbers_of numbers) value)) }
+    ensures err { OnErr result (K.failed output.new ≡ true) }
 {
     let mut buffer = [0u8; LONGEST_LINE];
     let start = put_end(numbers, value, &mut buffer);
-    text.extend_from_slice(&buffer[start..])
+    let used = write_line(&buffer[start..], piece, used, output)?;
+    write_whole(output, &piece[..used])
 }
 
-/// Plays a schedule in a world of its own, and returns the text of its transcript in the room of `room`.
+/// Plays a schedule in a world, and writes its transcript.
+fn play<O: Spelled, K: Sink>(
+    world: &mut World<O>,
+    begins: &mut [Option<usize>],
+    schedule: &[(usize, Move<O::Call, u64>)],
+    piece: &mut [u8],
+    output: &mut K,
+) -> Result<(), Failed>
+    requires parties { length begins.old ≡ length world.old.state.seats }
+    requires none_begun { (p : ℕ) → begin_of begins.old p ≡ None }
+    requires room { length piece.old ≡ PIECE }
+    ensures bytes { OnOk result (Appends (K.written output.old) (K.written output.new)
+        (transcript_from (O.machine world.old.object) world.old.state schedule.now)) }
+    ensures ok { OnOk result (K.failed output.new ≡ K.failed output.old) }
+    ensures beginning { OnErr result (AppendsBeginning (K.written output.old) (K.written output.new)
+        (transcript_from (O.machine world.old.object) world.old.state schedule.now)) }
+    ensures err { OnErr result (K.failed output.new ≡ true) }
+{
+    let used = write_events(world, begins, schedule, piece, output)?;
+    write_end(
+        O::numbers(world.words()),
+        world.value(),
+        piece,
+        used,
+        output,
+    )
+}
+
+/// Plays a schedule in a world of its own, and writes the text of its transcript.
 ///
-/// It makes each line as it plays the move, without a list of events.
-pub fn transcript<O: Spelled>(
+/// It makes and writes each line as it plays the move, without a list of events. All memory is there before that.
+pub fn write_transcript<O: Spelled, K: Sink>(
     alloc: Global,
     object: O,
     parties: usize,
     schedule: &[(usize, Move<O::Call, u64>)],
-    room: Vec<u8>,
-) -> Result<Vec<u8>, AllocError>
-    requires { room.items ≡ [] }
-    ensures { IfOk result (λ text. text.items ≡ transcript_text (O.machine object) parties schedule.now) }
+    output: &mut K,
+) -> Result<(), RunError>
+    ensures bytes { OnOk result (Appends (K.written output.old) (K.written output.new)
+        (transcript_text (O.machine object) parties schedule.now)) }
+    ensures ok { OnOk result (K.failed output.new ≡ K.failed output.old) }
+    ensures stops { IfErr result (StopsWriting (λ e. e ≡ Memory) (output.new ≡ output.old)
+        ((K.failed output.new ≡ true) × AppendsBeginning (K.written output.old) (K.written output.new)
+        (transcript_text (O.machine object) parties schedule.now))) }
 {
     let mut world = World::new(alloc, object, parties)?;
     let mut begins = no_begins(alloc, parties)?;
-    let mut text = room;
-    text.reserve(schedule.len().saturating_mul(USUAL_LINE))?;
-    push_events(&mut text, &mut world, &mut begins, schedule)?;
-    push_end(&mut text, O::numbers(world.words()), world.value())?;
-    Ok(text)
+    let mut piece = buffer(alloc, PIECE)?;
+    match play(&mut world, &mut begins, schedule, &mut piece, output) {
+        Ok(()) => Ok(()),
+        Err(Failed) => Err(RunError::Write),
+    }
 }
