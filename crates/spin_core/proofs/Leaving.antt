@@ -1,11 +1,12 @@
 -- A party that has nothing in the plain lock may go: those behind it move up by one place, and nothing else changes.
-use Rattle.std.proofs.Common.{◌≡◌, ℕ, zero, suc, pred, ◌-◌, ◌==◌, not, ◌&&◌, cond, List, [], ◌∷◌, ◌++◌, map, length, filter, Some, refl, sym, ap, ◌∙◌, subst, arith}
+use Rattle.std.proofs.Common.{◌≡◌, ℕ, zero, suc, pred, ◌-◌, ◌==◌, not, ◌&&◌, List, [], ◌∷◌, ◌++◌, map, length, filter, Some, refl, sym, ap, ◌∙◌, subst, arith}
 use Rattle.std.proofs.lemmas.List.{length-map}
 use Rattle.std.proofs.lemmas.List.Sums.{sum_by-cons}
-use Rattle.spin_step.specs.Plain.{Plain, Kind, writing, Holder, holder, Ticket, ticket, may_upgrade, weight, flag_word, rw_word, fair_word, next_word, serving_word}
+use Rattle.spin_step.specs.Plain.{Plain, Kind, Holder, holder, Ticket, ticket, weight, flag_word, rw_word, fair_word, next_word, serving_word}
 use Rattle.spin_step.specs.Parties.{Entries, entries, no_entries, none_entered, first_alone_entered}
 use Rattle.spin_step.specs.Tickets.{numbered_from}
-use Rattle.spin_step.proofs.Sums.{sum_kinds, one_of}
+use Rattle.spin_step.proofs.Exclusive.{exclusive-like}
+use Rattle.spin_step.proofs.Sums.{sum_kinds}
 use Rattle.spin_core.specs.Cell.{Use, off, Rests}
 use Rattle.spin_core.specs.Views.{Part, entries_of, Knows, HasPart, part_at, Encodes, no_word}
 use Rattle.spin_step.specs.Orders.{IsInOrder}
@@ -105,11 +106,7 @@ no_word-up k s = refl
 
 in_order-up : (k : ℕ) (s : Plain) → IsInOrder s → IsInOrder (moved_up k s)
 in_order-up k s order = record {
-  exclusive = record {
-    writer = λ some. length-map s.holders (holder_up k) ∙ order.exclusive.writer (omega (arith, sum-up k (one_of writing) s.holders, some));
-    one_upgradable = omega (arith, sum-up k (λ j. cond (may_upgrade j) 1 0) s.holders, order.exclusive.one_upgradable);
-    one_entered = first_alone-up k s.tickets ∙ order.exclusive.one_entered;
-  };
+  exclusive = exclusive-like s (moved_up k s) (λ f. sum-up k f s.holders) (first_alone-up k s.tickets ∙ order.exclusive.one_entered) order.exclusive;
   numbered = (
     omega (arith, length-map s.tickets (ticket_up k), order.numbered.0),
     subst (λ n. numbered_from n (map (ticket_up k) s.tickets)) (sym (serving_word-up k s)) (numbered-up k (serving_word s) s.tickets order.numbered.1),

@@ -1,12 +1,12 @@
 -- What a call makes of the plain read-write lock, and what is so of it after a legal history.
-use Rattle.std.proofs.Common.{◌≡◌, ℕ, ◌≢◌, ◌==◌, ◌&&◌, Bool, true, false, if◌then◌else◌, List, [], ◌∷◌, ◌++◌, Option, Some, None, filter, refl, sym, ap, subst, ◌∙◌, eq-eqb, arith}
+use Rattle.std.proofs.Common.{◌≡◌, ℕ, ◌≢◌, ◌==◌, ◌&&◌, Bool, true, false, if◌then◌else◌, List, [], ◌∷◌, ◌++◌, Option, Some, None, filter, refl, sym, ap, subst, ◌∙◌, eq-eqb}
 use mathlib.Core.Logic.{dite}
 use native.Mathlib.Decide.{ℕ_discrete}
 use Rattle.spin_step.specs.Plain.{Plain, reading, writing, Holder, holder, Change, gets, releases, turns, to_read, to_write, is_open, is_holder, without_holder, with_kind}
 use Rattle.spin_step.specs.Parties.{party_of, IsOpenStep, IsExclusive, Entries, entries, entries_after}
 use Rattle.spin_step.specs.Readers.{reader_limit}
 use Rattle.spin_step.proofs.Holders.{is_holder-from_entries, same_kind-self}
-use Rattle.spin_step.proofs.Exclusive.{exclusive-kept}
+use Rattle.spin_step.proofs.Exclusive.{exclusive-free, exclusive-kept}
 use Rattle.spin_step.proofs.InOrder.{cap-kept}
 use Rattle.spin_step.proofs.Entries.{entries-other, entries-own}
 use Rattle.spin_seated.specs.declared.history.Entry.{Entry}
@@ -105,7 +105,7 @@ module _ (p : ℕ) (s : Locked) where
 pub standing : (k : Opening) (log : List (Entry Call Answer)) → IsLegal rw k log → Standing (state rw k log)
 standing k log =
     always rw Standing k.passes (λ p c s given may. standing_after p s c may) (rw.start k) log
-    (record { exclusive = record { writer = λ some. absurd (omega arith); one_upgradable = omega arith; one_entered = refl }; cap = refl; one_place = λ p. refl })
+    (record { exclusive = exclusive-free (rw.start k).lock refl refl; cap = refl; one_place = λ p. refl })
 
 pub tracked : IsTracked rw
 tracked = record {

@@ -1,10 +1,10 @@
 -- No open step brings a second holder beside a writer, a second one that may upgrade, or a second entered ticket.
-use Rattle.std.proofs.Common.{◌≡◌, ℕ, ◌+◌, ◌<◌, ◌⊎◌, inl, inr, Bool, true, false, Option, Some, None, List, [], ◌∷◌, ◌++◌, length, refl, arith, length-append}
+use Rattle.std.proofs.Common.{◌≡◌, ℕ, ◌+◌, ◌<◌, ◌⊎◌, inl, inr, Bool, true, false, Option, Some, None, List, [], ◌∷◌, ◌++◌, length, refl, ap, arith, length-append}
 use Rattle.std.proofs.lemmas.Bool.{and_parts}
-use Rattle.spin_step.specs.Plain.{Plain, Kind, writing, Holder, Ticket, Ask, Effect, comes, becomes, queues, enters, starves, runs, effect, given, Change, gets, releases, serves, turns, apply, is_open, is_open_to, is_holder, is_only, is_first, is_empty, is_nothing, may_turn, may_come, count_against, holder, ticket, ticket_limit, without_holder, with_kind, with_first_entered, without_first}
+use Rattle.spin_step.specs.Plain.{Plain, Kind, writing, Holder, Ticket, Ask, Effect, comes, becomes, queues, enters, starves, runs, effect, given, Change, gets, releases, serves, turns, apply, is_open, is_open_to, is_holder, is_only, is_first, is_empty, is_nothing, may_turn, may_come, upgraders, count_against, count_kind, holder, ticket, ticket_limit, without_holder, with_kind, with_first_entered, without_first}
 use Rattle.spin_step.specs.Parties.{apply_some, IsOpenStep, IsExclusive, none_entered, first_alone_entered}
 use Rattle.spin_step.proofs.Holders.{length-without_holder}
-use Rattle.spin_step.proofs.Sums.{upgrader, against, one_of, by_kinds, all_kinds, sum-more, sum-less, sum-turned, length-with_kind}
+use Rattle.spin_step.proofs.Sums.{sum_kinds, upgrader, against, one_of, by_kinds, all_kinds, sum-more, sum-less, sum-turned, length-with_kind}
 
 pub empty_is : {X : Type 0} (xs : List X) → is_empty xs ≡ true → xs ≡ []
 empty_is [] e = refl
@@ -27,6 +27,28 @@ lets s p ask may = grind arith
 -- as many as may be beside those who stand
 pub room_to_come : (k : Kind) (s : Plain) → may_come k s ≡ true → (count_against k s.holders ≡ 0) × (length s.holders < s.cap)
 room_to_come k s may = grind arith
+
+-- a lock with as many holders of each kind is as exclusive
+pub exclusive-like : (s t : Plain) → ((f : Kind → ℕ) → sum_kinds f t.holders ≡ sum_kinds f s.holders) → first_alone_entered t.tickets ≡ true
+    → IsExclusive s → IsExclusive t
+exclusive-like s t same e x =
+    record {
+      writer = λ some. omega (arith, same (λ k. 1), length_by s.holders, length_by t.holders, x.writer (omega (arith, same (one_of writing), some)));
+      one_upgradable = omega (arith, same upgrader, x.one_upgradable);
+      one_entered = e;
+    }
+  where
+    length_by : (hs : List Holder) → length hs ≡ sum_kinds (λ k. 1) hs
+    length_by hs = omega (arith, all_kinds hs, by_kinds (λ k. 1) hs)
+
+-- so is one that nobody holds, and in whose queue nobody stands
+pub exclusive-free : (s : Plain) → s.holders ≡ [] → s.tickets ≡ [] → IsExclusive s
+exclusive-free s none empty =
+    record {
+      writer = λ some. absurd (omega (arith, some, ap (λ hs. count_kind writing hs) none));
+      one_upgradable = omega (arith, ap upgraders none);
+      one_entered = ap first_alone_entered empty;
+    }
 
 -- of one holder there is nothing to say
 alone : (s : Plain) (hs : List Holder) → IsExclusive s → length hs ≡ 1 → IsExclusive (record s { holders = hs })
@@ -61,7 +83,7 @@ turned s p j k x found may =
     }
 
 queued : (s : Plain) (ts : List Ticket) (n : ℕ) → IsExclusive s → first_alone_entered ts ≡ true → IsExclusive (record s { tickets = ts; next = n })
-queued s ts n x e = record { writer = x.writer; one_upgradable = x.one_upgradable; one_entered = e }
+queued s ts n x e = exclusive-like s (record s { tickets = ts; next = n }) (λ f. refl) e x
 
 none_entered-more : (ts : List Ticket) (p n : ℕ) → none_entered ts ≡ true → none_entered (ts ++ ticket p n false ∷ []) ≡ true
 none_entered-more [] p n e = refl
@@ -83,14 +105,14 @@ exclusive-given s p (comes k) x (inr may) = come s k p x (room_to_come k s may).
 exclusive-given s p (becomes j k) x only = alone s (with_kind p j k s.holders) x (grind (arith, length-with_kind))
 exclusive-given s p (queues b) x let_in = queued s (s.tickets ++ ticket p s.next b ∷ []) (s.next + 1) x (taken s.tickets p s.next b x.one_entered let_in.1)
 exclusive-given s p enters x let_in = queued s (with_first_entered s.tickets) s.next x (entered s.tickets x.one_entered)
-exclusive-given s p _ x let_in = record { writer = x.writer; one_upgradable = x.one_upgradable; one_entered = x.one_entered }
+exclusive-given s p e x let_in = exclusive-like s (given s p e) (λ f. refl) x.one_entered x
 
 exclusive-applied : (s : Plain) (c : Change) → IsExclusive s → is_open s c ≡ true → IsExclusive (apply s c)
 exclusive-applied s (gets p ask) x may = exclusive-given s p (effect ask) x (lets s p ask may)
 exclusive-applied s (releases p k) x may = released s p k x may
 exclusive-applied s (serves p) x may = queued s (without_first s.tickets) s.next x (served s.tickets x.one_entered)
 exclusive-applied s (turns p j k) x may = let parts = and_parts (is_holder p j s.holders) (may_turn j k) may in turned s p j k x parts.0 parts.1
-exclusive-applied s _ x may = record { writer = x.writer; one_upgradable = x.one_upgradable; one_entered = x.one_entered }
+exclusive-applied s c x may = exclusive-like s (apply s c) (λ f. refl) x.one_entered x
 
 -- an open step, or none, keeps the lock exclusive
 pub exclusive-kept : (s : Plain) (p : ℕ) (step : Option Change) → IsExclusive s → IsOpenStep s p step → IsExclusive (apply_some s step)

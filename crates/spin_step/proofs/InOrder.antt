@@ -4,7 +4,7 @@ use Rattle.spin_step.specs.Plain.{Plain, Effect, effect, given, Change, gets, ap
 use Rattle.spin_step.specs.Parties.{apply_some, IsOpenStep}
 use Rattle.spin_step.specs.Tickets.{Numbered}
 use Rattle.spin_step.specs.Orders.{IsInOrder}
-use Rattle.spin_step.proofs.Exclusive.{Lets, lets, exclusive-kept, room_to_come}
+use Rattle.spin_step.proofs.Exclusive.{Lets, lets, exclusive-free, exclusive-kept, room_to_come}
 use Rattle.spin_step.proofs.Sums.{length-with_kind}
 use Rattle.spin_step.proofs.Holders.{length-without_holder}
 use Rattle.spin_step.proofs.Starvers.{length-without_starver}
@@ -45,7 +45,7 @@ in_order-kept s p (Some c) x may = record {
 
 pub in_order-fresh : (cap group first : ℕ) → first ≤ ticket_limit → IsInOrder (fresh cap group first)
 in_order-fresh cap group first within = record {
-  exclusive = record { writer = λ some. absurd (omega (arith, some)); one_upgradable = omega arith; one_entered = refl };
+  exclusive = exclusive-free (fresh cap group first) refl refl;
   numbered = (omega arith, tt);
   within_limit = within;
   holders_fit = omega arith;

@@ -1,5 +1,6 @@
 -- Every event of every schedule keeps all that is promised, of any object that shows its local facts.
 use Rattle.spin_world_core.proofs.Names.{◌≡◌, ℕ, Option, Some, None, List, [], ◌∷◌, refl, ap, sym, ◌∙◌, subst, false, arith, true≢false, Seat, Idle, Calling, Holding, Leaked, Move, Begin, Step, Read, Write, Leak, OwnerGet, OwnerSet, Machine, opening_plain, after, at_first, Seen, Scene, scene, is_open_move, is_reader, is_writer, StandsFor, MaySkip, Every, Keeps, IsRight, IsInTime, opening, KeepsAll, MomentsAll, CountsAll, CanStep, seen_after}
+use Rattle.spin_step.proofs.Exclusive.{exclusive-free}
 use Rattle.spin_world_core.proofs.Lists.{get-replicate}
 use Rattle.spin_world_core.proofs.Facts.{LocalInvariant, Facts}
 pub use Rattle.spin_world_core.proofs.Preserved.{standing, in_call}
@@ -59,7 +60,7 @@ module _ {W V C L A : Type 0} (m : Machine W V C L A) where
         record {
           encodes = f.first;
           shape = f.shape_first;
-          exclusive = record { writer = λ e. absurd (omega arith); one_upgradable = omega arith; one_entered = refl };
+          exclusive = exclusive-free (opening_plain m) refl refl;
           written = refl;
           parties =
               λ q. get-replicate (OfParty m k m.words (opening_plain m) q []) Idle n q
