@@ -22,7 +22,7 @@ pub use self::upgradable::RwLockUpgradableGuard;
 pub use self::writer::{RwLockWriteGuard, WriteHeld};
 
 // How often a reader that was too late twice spins. Readers that try again at once keep each other from succeeding.
-const STAND_BACK: u32 = 256;
+const STAND_BACK: u32 = 512;
 
 /// A reader-writer lock: many readers share the value, or one writer has it alone. A waiting thread spins.
 ///
