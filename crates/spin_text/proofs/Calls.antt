@@ -1,6 +1,5 @@
 -- The calls of each object are read as they are spelled.
-use Rattle.std.proofs.Common.{◌≡◌, ℕ, ◌<◌, ◌^◌, true, ◌&&◌, Some, List, [], ◌∷◌, codes, decimal, map, refl, ap, subst, ◌∙◌}
-use Rattle.std.specs.List.{AllByRecursion}
+use Rattle.std.proofs.Common.{◌≡◌, ℕ, ◌<◌, ◌^◌, Bool, true, false, ◌&&◌, Some, List, [], ◌∷◌, codes, decimal, map, refl, ap, subst, ◌∙◌}
 use Rattle.std.specs.Str.{bytes_eq}
 use Rattle.std.proofs.lemmas.Bool.{ltb-true, lt-ltb}
 use Rattle.spin_world_flag.specs.declared.flag.FlagCall.{FlagCall}
@@ -27,17 +26,32 @@ module _ {C : Type 0} (calls : Calls C) where
   abbrev IsCall : List (List ℕ) → C → Type 0
   IsCall ws c = (calls.fits c ≡ true) × (ws ≡ calls.words c)
 
-  -- a word that a table names is that call, where each row names its call
-  pub named_takes : (rows : List (List ℕ × C)) → AllByRecursion (λ row. IsCall (row.0 ∷ []) row.1) rows → (w : List ℕ) (c : C) → named rows w ≡ Some c → IsCall (w ∷ []) c
+  abbrev is_word : List (List ℕ) → List ℕ → Bool
+  is_word (v ∷ []) w = bytes_eq w v
+  is_word _ w = false
+
+  word_is : (ws : List (List ℕ)) (w : List ℕ) → is_word ws w ≡ true → w ∷ [] ≡ ws
+  word_is (v ∷ []) w is = ap (λ x. x ∷ []) (is_text w v is)
+  word_is _ w is = absurd (cc)
+
+  -- each row names its call
+  abbrev pub are_calls : List (List ℕ × C) → Bool
+  are_calls [] = true
+  are_calls (row ∷ rows) = (calls.fits row.1 && is_word (calls.words row.1) row.0) && are_calls rows
+
+  -- a word that such a table names is that call
+  pub named_takes : (rows : List (List ℕ × C)) → are_calls rows ≡ true → (w : List ℕ) (c : C) → named rows w ≡ Some c → IsCall (w ∷ []) c
   unfolding named
   named_takes [] each w c = λ is. absurd (cc)
   named_takes (row ∷ rows) each w c =
+      let all = and_true _ _ each in
       chosen (bytes_eq w row.0) (Some row.1) (named rows w) c (IsCall (w ∷ []) c) (λ same is.
       let P : C → Type 0 = IsCall (w ∷ []) in
-      subst P (some_is is) (each.0.0, ap (λ x. x ∷ []) (is_text w row.0 same) ∙ each.0.1)) (λ _. named_takes rows each.1 w c)
+      let this = and_true _ _ all.0 in
+      subst P (some_is is) (this.0, ap (λ x. x ∷ []) (is_text w row.0 same) ∙ word_is (calls.words row.1) row.0 this.1)) (λ _. named_takes rows all.1 w c)
 
   -- where all calls are of one word
-  pub word_takes : (rows : List (List ℕ × C)) → AllByRecursion (λ row. IsCall (row.0 ∷ []) row.1) rows → (ws : List (List ℕ)) (c : C) → (last_word ws >>= named rows) ≡ Some c → IsCall ws c
+  pub word_takes : (rows : List (List ℕ × C)) → are_calls rows ≡ true → (ws : List (List ℕ)) (c : C) → (last_word ws >>= named rows) ≡ Some c → IsCall ws c
   word_takes rows each ws c =
       bound (last_word ws) (named rows) c (IsCall ws c) (λ w one is.
       let call = named_takes rows each w c is in (call.0, last_word_takes ws w one ∙ call.1))
@@ -55,81 +69,55 @@ module _ {C : Type 0} (calls : Calls C) where
 
 flag_takes : (ws : List (List ℕ)) (c : FlagCall) → read_flag_call ws ≡ Some c → IsCall flag_calls ws c
 unfolding read_flag_call only_named
-flag_takes = word_takes flag_calls _ ((refl, refl), ((refl, refl), ((refl, refl), ((refl, refl), ((refl, refl), tt)))))
+flag_takes = word_takes flag_calls _ refl
 
 flag_again : (c : FlagCall) → flag_calls.fits c ≡ true → read_flag_call (flag_calls.words c) ≡ Some c
 unfolding read_flag_call only_named last_word named
 flag_again flag.Lock fits = refl
-flag_again flag.TryLock fits = refl
-flag_again flag.TryLockWeak fits = refl
-flag_again flag.IsLocked fits = refl
-flag_again flag.Release fits = refl
+flag_again _ fits = refl
 
 pub flag_reads : ReadsCalls flag_calls read_flag_call
 flag_reads = record { takes = flag_takes; again = flag_again }
 
 ticket_takes : (ws : List (List ℕ)) (c : TicketCall) → read_ticket_call ws ≡ Some c → IsCall ticket_calls ws c
 unfolding read_ticket_call only_named
-ticket_takes = word_takes ticket_calls _ ((refl, refl), ((refl, refl), ((refl, refl), ((refl, refl), tt))))
+ticket_takes = word_takes ticket_calls _ refl
 
 ticket_again : (c : TicketCall) → ticket_calls.fits c ≡ true → read_ticket_call (ticket_calls.words c) ≡ Some c
 unfolding read_ticket_call only_named last_word named
 ticket_again ticket.Lock fits = refl
-ticket_again ticket.TryLock fits = refl
-ticket_again ticket.IsLocked fits = refl
-ticket_again ticket.Release fits = refl
+ticket_again _ fits = refl
 
 pub ticket_reads : ReadsCalls ticket_calls read_ticket_call
 ticket_reads = record { takes = ticket_takes; again = ticket_again }
 
 rw_takes : (ws : List (List ℕ)) (c : RwCall) → read_rw_call ws ≡ Some c → IsCall rw_calls ws c
 unfolding read_rw_call only_named
-rw_takes = word_takes rw_calls _ ((refl, refl), ((refl, refl), ((refl, refl), ((refl, refl), ((refl, refl), ((refl, refl), ((refl, refl), ((refl, refl), ((refl, refl), ((refl, refl), ((refl, refl), ((refl, refl), ((refl, refl), ((refl, refl), ((refl, refl), tt)))))))))))))))
+rw_takes = word_takes rw_calls _ refl
 
 rw_again : (c : RwCall) → rw_calls.fits c ≡ true → read_rw_call (rw_calls.words c) ≡ Some c
 unfolding read_rw_call only_named last_word named
 rw_again rw.TryRead fits = refl
-rw_again rw.Read fits = refl
-rw_again rw.TryUpgradeableRead fits = refl
-rw_again rw.UpgradeableRead fits = refl
-rw_again rw.TryWrite fits = refl
-rw_again rw.TryWriteWeak fits = refl
-rw_again rw.Write fits = refl
-rw_again rw.ReaderCount fits = refl
-rw_again rw.WriterCount fits = refl
-rw_again rw.TryUpgrade fits = refl
-rw_again rw.TryUpgradeWeak fits = refl
-rw_again rw.Upgrade fits = refl
-rw_again rw.Downgrade fits = refl
-rw_again rw.DowngradeToUpgradeable fits = refl
-rw_again rw.Release fits = refl
+rw_again _ fits = refl
 
 pub rw_reads : ReadsCalls rw_calls read_rw_call
 rw_reads = record { takes = rw_takes; again = rw_again }
 
 fair_takes : (ws : List (List ℕ)) (c : FairCall) → read_fair_call ws ≡ Some c → IsCall fair_calls ws c
 unfolding read_fair_call only_named
-fair_takes = word_takes fair_calls _ ((refl, refl), ((refl, refl), ((refl, refl), ((refl, refl), ((refl, refl), ((refl, refl), ((refl, refl), ((refl, refl), ((refl, refl), ((refl, refl), tt))))))))))
+fair_takes = word_takes fair_calls _ refl
 
 fair_again : (c : FairCall) → fair_calls.fits c ≡ true → read_fair_call (fair_calls.words c) ≡ Some c
 unfolding read_fair_call only_named last_word named
 fair_again fair.Lock fits = refl
-fair_again fair.TryLock fits = refl
-fair_again fair.TryLockStarver fits = refl
-fair_again fair.IsLocked fits = refl
-fair_again fair.Starve fits = refl
-fair_again fair.StarverTryLockFair fits = refl
-fair_again fair.StarverTryLock fits = refl
-fair_again fair.StarverLock fits = refl
-fair_again fair.StarverDrop fits = refl
-fair_again fair.Release fits = refl
+fair_again _ fits = refl
 
 pub fair_reads : ReadsCalls fair_calls read_fair_call
 fair_reads = record { takes = fair_takes; again = fair_again }
 
 barrier_takes : (ws : List (List ℕ)) (c : BarrierCall) → read_barrier_call ws ≡ Some c → IsCall barrier_calls ws c
 unfolding read_barrier_call only_named
-barrier_takes = word_takes barrier_calls _ ((refl, refl), tt)
+barrier_takes = word_takes barrier_calls _ refl
 
 barrier_again : (c : BarrierCall) → barrier_calls.fits c ≡ true → read_barrier_call (barrier_calls.words c) ≡ Some c
 unfolding read_barrier_call only_named last_word named
@@ -150,7 +138,7 @@ try_call_once_takes w (v ∷ ws) c name one =
     told once_calls all once.TryCallOnceErr c (refl, front w (v ∷ ws) _ _ name (ends v ws _ (is_text v _ both.0) both.1))) (λ _ is. absurd (cc))) one
 
 plain_once_takes : (w : List ℕ) (ws : List (List ℕ)) (c : OnceCall ℕ) → is_end ws ≡ true → named (map (λ row. (row.0.now, row.1)) PLAIN_ONCE_CALLS) w ≡ Some c → IsCall once_calls (w ∷ ws) c
-plain_once_takes w [] c end = named_takes once_calls _ ((refl, refl), ((refl, refl), ((refl, refl), ((refl, refl), tt)))) w c
+plain_once_takes w [] c end = named_takes once_calls _ refl w c
 plain_once_takes w (v ∷ ws) c end = absurd (cc)
 
 once_takes : (ws : List (List ℕ)) (c : OnceCall ℕ) → read_once_call ws ≡ Some c → IsCall once_calls ws c
@@ -170,10 +158,7 @@ once_again (once.CallOnce v) fits = ap (λ o. o >>= λ n. Some (once.CallOnce n)
 once_again (once.TryCallOnceOk v) fits = ap (λ o. o >>= λ n. Some (once.TryCallOnceOk n)) (last_number_again v (ltb-true v (2 ^ 64) fits))
 once_again once.TryCallOnceErr fits = refl
 once_again (once.InitFromRef v) fits = ap (λ o. o >>= λ n. Some (once.InitFromRef n)) (last_number_again v (ltb-true v (2 ^ 64) fits))
-once_again once.Wait fits = refl
-once_again once.Poll fits = refl
-once_again once.Get fits = refl
-once_again once.IsCompleted fits = refl
+once_again _ fits = refl
 
 pub once_reads : ReadsCalls once_calls read_once_call
 once_reads = record { takes = once_takes; again = once_again }
