@@ -82,7 +82,7 @@ Plays t =
     (bytes : List ℕ) × (text : List ℕ) × ReadsAll t.left t.left_after bytes × PlaysBytes bytes text × Appends t.written t.written_after text
 
 -- why nothing was written, or at a failed write no more than a beginning of the text. A failed read is always told as one, whatever else is wrong;
--- a bad line, before anything is written; and a failed write, only of the whole text of lines that are all good
+-- a bad line, before anything is written; and a failed write, only where all lines are good
 abbrev pub Stops : Streams → Type 0 → RunError → Type 0
 Stops t Unwritten errors.Read = (t.source_failed ≡ true) × Unwritten
 Stops t Unwritten errors.Memory = (t.source_failed ≡ false) × Unwritten
