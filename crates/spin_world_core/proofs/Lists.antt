@@ -1,6 +1,6 @@
 -- Lists that are read and written by place.
-use Rattle.std.proofs.Common.{◌≡◌, ℕ, zero, suc, ◌+◌, ◌<◌, ◌==◌, true, Option, Some, None, List, [], ◌∷◌, ◌++◌, length, get_or, take, replicate, slice_get, slice_set, refl, ap, sym, ◌∙◌, subst, arith, add-one, ⊎_elim}
-use Rattle.std.proofs.lemmas.Bool.{eq-eqb, cases_eq}
+use Rattle.std.proofs.Common.{◌≡◌, ℕ, zero, suc, pred, ◌+◌, ◌<◌, ◌==◌, true, Option, Some, None, List, [], ◌∷◌, ◌++◌, length, get_or, take, replicate, slice_get, slice_set, refl, ap, sym, ◌∙◌, arith, add-one}
+use Rattle.std.proofs.lemmas.Bool.{eq-eqb}
 use Rattle.std.proofs.lemmas.Option.{slice_get_within}
 use Rattle.std.proofs.Math.Seq.{take-suc}
 
@@ -9,25 +9,19 @@ eqb_self p = eq-eqb p p refl
 
 pub get-set_within : {X : Type 0} (xs : List X) (p : ℕ) (x : X) → p < length xs → slice_get (slice_set xs p x) p ≡ Some x
 get-set_within [] p x lt = absurd (omega arith)
-get-set_within (z ∷ xs) zero x lt = refl
-get-set_within (z ∷ xs) (suc p) x lt = get-set_within xs p x (omega arith)
+get-set_within (z ∷ xs) p x lt = grind (arith, get-set_within xs (pred p) x)
 
 pub get-set_same : {X : Type 0} (xs : List X) (p : ℕ) (x y : X) → slice_get xs p ≡ Some y → slice_get (slice_set xs p x) p ≡ Some x
 get-set_same xs p x y e = get-set_within xs p x (slice_get_within xs p y e)
 
 pub get-set_other : {X : Type 0} (xs : List X) (p q : ℕ) (x : X) → (p ≡ q → ⊥) → slice_get (slice_set xs p x) q ≡ slice_get xs q
-get-set_other (z ∷ xs) zero zero x ne = absurd (ne refl)
-get-set_other (z ∷ xs) (suc p) (suc q) x ne = get-set_other xs p q x (λ e. ne (ap suc e))
-get-set_other _ _ _ x ne = refl
+get-set_other [] p q x ne = refl
+get-set_other (z ∷ xs) p q x ne = grind (arith, get-set_other xs (pred p) (pred q) x)
 
 -- where one element is written, all are as they were but that one
 pub get-set : {X : Type 0} (P : Option X → Type 0) (xs : List X) (p q : ℕ) (x : X) → p < length xs → (p ≡ q → P (Some x)) → ((p ≡ q → ⊥) → P (slice_get xs q))
     → P (slice_get (slice_set xs p x) q)
-get-set P xs p q x lt here away =
-    ⊎_elim
-    (λ (e : p ≡ q). subst (λ i. P (slice_get (slice_set xs p x) i)) e (rw (get-set_within xs p x lt) (here e)))
-    (λ (ne : p ≡ q → ⊥). rw (get-set_other xs p q x ne) (away ne))
-    (cases_eq p q)
+get-set P xs p q x lt here away = grind (arith, get-set_within xs p x lt, get-set_other xs p q x, here, away)
 
 pub get-replicate : {X : Type 0} (P : Option X → Type 0) (x : X) (n i : ℕ) → P None → P (Some x) → P (slice_get (replicate n x) i)
 get-replicate P x (suc n) (suc i) none some = get-replicate P x n i none some

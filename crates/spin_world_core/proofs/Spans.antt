@@ -1,5 +1,5 @@
 -- A party's own steps in a span, one step longer.
-use Rattle.spin_world_core.proofs.Names.{◌≡◌, ℕ, ◌+◌, ◌<◌, ◌≤◌, ◌==◌, true, not, ◌&&◌, is_some, Option, None, List, [], ◌∷◌, ◌++◌, option_to_list, if◌then◌else◌, refl, ap, ◌∙◌, arith, ne_eqb, append-nil, Plain, Change, apply_some, bit, StepKind, again, is_again, LockKind, first_word, Mark, mark_of, own, own_count, failures, changes}
+use Rattle.spin_world_core.proofs.Names.{◌≡◌, ℕ, ◌+◌, ◌<◌, ◌≤◌, ◌==◌, true, not, ◌&&◌, is_some, Option, None, List, [], ◌∷◌, ◌++◌, option_to_list, if◌then◌else◌, refl, ap, ◌∙◌, arith, ne_eqb, append-nil, Plain, Change, apply_some, bit, StepKind, is_again, LockKind, first_word, Mark, mark_of, own, own_count, failures, changes}
 use Rattle.spin_world_core.proofs.Lists.{eqb_self}
 
 -- after a step of its own
@@ -42,12 +42,7 @@ nil_left (x ∷ xs) ys e = absurd (cc (e))
 pub retries-mine : (kind : LockKind) (p : ℕ) (step : Option Change) (r : StepKind) (s : Plain) (span : List Mark) → failures p span ≤ changes kind p span
     → (is_again r ≡ true → step ≡ None → failures p span < changes kind p span)
     → failures p (mark_of p step r s ∷ span) ≤ changes kind p (mark_of p step r s ∷ span)
-retries-mine kind p step r s span so_far fails = omega (arith, failures-mine p step r s span, changes-mine kind p step r s span, lost r step fails)
-  where
-    lost : (r : StepKind) (step : Option Change) → (is_again r ≡ true → step ≡ None → failures p span < changes kind p span)
-        → failures p span + bit (is_again r && not (is_some step)) ≤ changes kind p span
-    lost again None fails = omega (arith, fails refl refl)
-    lost _ _ fails = omega (arith, so_far)
+retries-mine kind p step r s span so_far fails = grind (arith, failures-mine p step r s span, changes-mine kind p step r s span, fails)
 
 pub retries-other : (kind : LockKind) (p q : ℕ) (step : Option Change) (r : StepKind) (s : Plain) (span : List Mark) → (q ≡ p → ⊥) → failures p span ≤ changes kind p span
     → failures p (mark_of q step r s ∷ span) ≤ changes kind p (mark_of q step r s ∷ span)
