@@ -1,9 +1,9 @@
 -- An object whose closures make its value: what its table owes, and that it then shows all local facts.
-use Rattle.spin_world_core.proofs.Names.{◌≡◌, ℕ, zero, suc, Bool, true, false, is_some, Option, Some, None, List, ◌∷◌, refl, ap, sym, ◌∙◌, subst, true≢false, false≢true, Plain, Phase, nothing, running, Ask, to_begin, Change, gets, completes, fails, apply, is_open, is_nothing, is_running, is_complete, apply_some, IsOpenStep, entries, is_held, Answer, Hold, Next, Continue, Answers, Stepped, Step, StepKind, by_step, encoded, own_steps, says_of, AnyOf, HasMoment, Mark, may_be_weak, Machine, opening_phase, placed, mark_of, if_completed, is_writer, own, Memory, Act, store, step_by, change_at, change_by, makes_by, is_completion, step_kind_by, Table, machine_of, completes_by, brought, with_value, filled, gives_of, machine_with, steps_alone, HasPhase, Gives}
+use Rattle.spin_world_core.proofs.Names.{◌≡◌, ℕ, zero, suc, Bool, true, false, is_some, Option, Some, None, List, ◌∷◌, sym, ◌∙◌, arith, false≢true, Plain, Phase, Change, completes, is_complete, apply_some, IsOpenStep, entries, is_held, Answer, Hold, Next, Continue, Answers, Stepped, Step, StepKind, by_step, encoded, says_of, Mark, may_be_weak, Machine, opening_phase, placed, mark_of, if_completed, is_writer, Memory, Act, store, step_by, change_at, change_by, makes_by, is_completion, step_kind_by, Table, machine_of, completes_by, brought, filled, machine_with, steps_alone}
 use Rattle.spin_world_core.specs.declared.answer.Answer.TheVariants.{Value}
 use Rattle.spin_world_core.proofs.Facts.{LocalInvariant, AnswersWithin, InCall, NextIs, NextGives, StepIs, PointFacts, Facts}
 use Rattle.spin_world_core.proofs.Operating.{change_is, open_filled, counted_filled, stepwise_with}
-use Rattle.spin_world_core.proofs.Shapes.{Notes, row_of, KnowsRow, keeping_of, goes_by, answers_by, Pays}
+use Rattle.spin_world_core.proofs.Shapes.{Notes, row_of, KnowsRow, keeping_of, answers_by, Pays}
 use Rattle.spin_world_core.proofs.Paid.{uncompleted, Shown, shown_here, others_here, begins_here}
 
 abbrev is_end : Option Change → Bool
@@ -41,28 +41,9 @@ pub record PaysWith {W V C L : Type 0} (t : Table W V C L (Answer (Unit {0}))) (
 
 -- Phases and values
 
-has_phase : {V : Type 0} (made : Bool) (phase : Phase) (v : Option V) → is_complete phase ≡ is_some v → HasPhase made phase v
-has_phase true phase v e = e
-has_phase false phase v e = tt
-
-nothing_incomplete : (phase : Phase) → is_nothing phase ≡ true → is_complete phase ≡ false
-nothing_incomplete nothing e = refl
-nothing_incomplete _ e = absurd (false≢true e)
-
-running_incomplete : (p : ℕ) (phase : Phase) → is_running p phase ≡ true → is_complete phase ≡ false
-running_incomplete p (running q) e = refl
-running_incomplete p _ e = absurd (false≢true e)
-
-phase-got : (s : Plain) (p : ℕ) (ask : Ask) (b : Bool) → is_open s (gets p ask) ≡ true → is_complete s.phase ≡ b → is_complete (apply s (gets p ask)).phase ≡ b
-phase-got s p to_begin b may e = sym (nothing_incomplete s.phase may) ∙ e
-phase-got s p _ b may e = e
-
 -- no other step than a closure's end changes whether there is a value
 phase-kept : (s : Plain) (p : ℕ) (step : Option Change) (b : Bool) → ((q : ℕ) → step ≡ Some (completes q) → ⊥) → IsOpenStep s p step → is_complete s.phase ≡ b → is_complete (apply_some s step).phase ≡ b
-phase-kept s p (Some (gets q ask)) b not may e = phase-got s q ask b may.1 e
-phase-kept s p (Some (completes q)) b not may e = absurd (not q refl)
-phase-kept s p (Some (fails q)) b not may e = sym (running_incomplete q s.phase may.1) ∙ e
-phase-kept s p _ b not may e = e
+phase-kept s p step b not may e = grind (arith, not)
 
 -- what a step puts in the value's place agrees with its plain step
 record Puts {V : Type 0} (s : Plain) (v value put : Option V) (step : Option Change) : Type 0 where
@@ -70,41 +51,11 @@ record Puts {V : Type 0} (s : Plain) (v value put : Option V) (step : Option Cha
   places : placed put v ≡ if_completed v put step
   brings : (q : ℕ) → step ≡ Some (completes q) → placed put v ≡ value
 
-puts_none : {V : Type 0} (s : Plain) (p : ℕ) (v value : Option V) (step : Option Change) → ((q : ℕ) → step ≡ Some (completes q) → ⊥) → IsOpenStep s p step → is_complete s.phase ≡ is_some v → Puts s v value None step
-puts_none s p v value step not may e = record { phase = phase-kept s p step (is_some v) not may e; places = uncompleted v None step not; brings = λ q is. absurd (not q is) }
-
-is_no_end : (o : Option Change) (q : ℕ) → is_end o ≡ false → o ≡ Some (completes q) → ⊥
-is_no_end o q none is = true≢false (ap is_end (sym is) ∙ none)
-
-puts_some : {V : Type 0} (s : Plain) (p q : ℕ) (v value : Option V) → is_some value ≡ true → Puts s v value value (Some (completes q))
-puts_some s p q v None some = absurd (false≢true some)
-puts_some s p q v (Some x) some = record { phase = refl; places = refl; brings = λ q is. refl }
-
-puts_stored : {V : Type 0} (s : Plain) (p : ℕ) (v value : Option V) (b : Bool) (d : Change) → is_completion d ≡ b → (is_completion d ≡ true → is_some value ≡ true) → IsOpenStep s p (Some d) → is_complete s.phase ≡ is_some v
-    → Puts s v value (brought b value) (Some d)
-puts_stored s p v value true (completes q) is some may e = puts_some s p q v value (some refl)
-puts_stored s p v value true _ is some may e = absurd (false≢true is)
-puts_stored s p v value false d is some may e = puts_none s p v value (Some d) (λ q same. is_no_end (Some d) q is same) may e
-
 puts_by : {W V L A : Type 0} (n : ℕ) (act : Act W L A) (s : Plain) (p : ℕ) (v value : Option V) (w : W) → CompletesRight act p value → IsOpenStep s p (change_at n act p w) → is_complete s.phase ≡ is_some v
     → Puts s v value (brought (completes_by act) value) (change_at n act p w)
-puts_by n (store can operation step next) s p v value w right may e = puts_stored s p v value (is_completion (step 0)) (step p) right.0 right.1 may e
-puts_by n act s p v value w right may e = puts_none s p v value (change_at n act p w) (λ q is. is_no_end (makes_by act p) q right (change_is n act p w (completes q) is)) may e
+puts_by n act s p v value w right may e = grind (arith, change_is n act p w, phase-kept s p, uncompleted v)
 
 -- Answers
-
-says_with : {V : Type 0} (phase : Phase) (a : Answer (Unit {0})) (v : Option V) → is_complete phase ≡ is_some v → TellsSo phase a → says_of (with_value a v) ≡ says_of a
-says_with phase (Value u) None e tells = absurd (true≢false (sym tells ∙ e))
-says_with phase _ _ e tells = refl
-
-gives_with : {V : Type 0} (made : Bool) (a : Answer (Unit {0})) (v : Option V) → Gives made (says_of (with_value a v)) (gives_of (with_value a v)) v
-gives_with true (Value u) (Some x) = refl
-gives_with true _ _ = refl
-gives_with false a v = tt
-
-unfilled : {V L : Type 0} (value : Option V) (next : Next L (Answer (Unit {0}))) (l : L) → filled value next ≡ Continue l → next ≡ Continue l
-unfilled value (Continue k) l e = let same : k ≡ l = cc (e) in ap Continue same
-unfilled value (Answers a after) l e = absurd (cc (e))
 
 module _ {W V C L : Type 0} (t : Table W V C L (Answer (Unit {0}))) (n : Notes t) (brings : C → Option V) (pays : PaysWith t n brings) where
   abbrev m : Machine W V C L (Answer V)
@@ -116,21 +67,11 @@ module _ {W V C L : Type 0} (t : Table W V C L (Answer (Unit {0}))) (n : Notes t
 
   next_with : (p : ℕ) (c : C) (h : Option Hold) (s : Plain) (span : List Mark) (v : Option V) (next : Next L (Answer (Unit {0}))) → is_complete s.phase ≡ is_some v → TellsOf s.phase next
       → NextIs (machine_of t) (keeping_of t n) Step p c h s span next → NextIs m keeping_with Step p c h s span (filled v next)
-  next_with p c h s span v (Continue l) e tells is = record { knows = is.knows; own_so_far = is.own_so_far; in_time = is.in_time }
-  next_with p c h s span v (Answers a after) e tells is =
-      let said : t.says a ≡ says_of (with_value a v) = pays.says a ∙ sym (says_with s.phase a v e tells) in
-      record {
-        stands = is.stands;
-        own_steps_are = subst (λ x. AnyOf (λ steps. own p span ≡ steps) (own_steps (t.asks c h) x p)) said is.own_steps_are;
-        right = subst (λ x. HasMoment (t.asks c h) x p span) said is.right;
-        in_time = is.in_time;
-      }
+  next_with p c h s span v next e tells is = grind (arith, pays.says, is)
 
   answers_with : (k : ℕ) (w : W) (c : C) (l : L) (h : Option Hold) → answers_by t k w c l h ≡ true → AnswersWithin m k w c l h
   answers_with zero w c l h soon = absurd (false≢true soon)
-  answers_with (suc k) w c l h soon = λ v j is.
-      let st = step_by {V = V} t.memory (t.word l) (t.act c l h) w in
-      answers_with k st.words c j h (subst (λ next. goes_by next true (λ i. answers_by t k st.words c i h) ≡ true) (unfilled _ st.next j is) soon)
+  answers_with (suc k) w c l h soon = grind (arith, soon, answers_with k)
 
   -- at a point of a call
   module _ (p : ℕ) (c : C) (l : L) (h : Option Hold) (s : Plain) (v : Option V) (w : W) (span : List Mark) (here : InCall m keeping_with p c l h s v w span) where
@@ -163,8 +104,7 @@ module _ {W V C L : Type 0} (t : Table W V C L (Answer (Unit {0}))) (n : Notes t
         }
 
     gives_at : (value : Option V) (next : Next L (Answer (Unit {0}))) → NextGives m value (filled value next)
-    gives_at value (Continue j) = tt
-    gives_at value (Answers a after) = gives_with t.lock_kind.makes_value a value
+    gives_at value next = grind arith
 
     at_point : PointFacts m keeping_with p c l h s v w span
     at_point =
@@ -192,7 +132,7 @@ module _ {W V C L : Type 0} (t : Table W V C L (Answer (Unit {0}))) (n : Notes t
         one_list = λ s v shape. pays.pays.one_list s shape.0;
         shape_written = λ s p old v writes shape. absurd (false≢true (sym (pays.none_writes s p shape.0) ∙ writes));
         shape_set = λ s old v shape. shape;
-        phase = λ s v shape. has_phase t.lock_kind.makes_value s.phase v shape.1;
+        phase = λ s v shape. grind (arith, shape.1);
         begins = λ p c l h s e mine. begins_here t n pays.pays p c l h s e mine;
         others =
             λ p q c l h s v step r span ne shape exclusive may belongs knows. others_here t n pays.pays p c l h s span q step r ne shape.0 may belongs knows;
