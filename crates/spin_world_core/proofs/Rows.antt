@@ -1,5 +1,5 @@
 -- What a party in a call knows of itself and of its span, and that its own steps and those of others keep it.
-use Rattle.spin_world_core.proofs.Names.{◌≡◌, ℕ, suc, ◌+◌, ◌≤◌, ◌⊎◌, ◌==◌, Bool, true, false, not, ◌&&◌, ◌||◌, is_some, Option, Some, None, List, [], ◌∷◌, ◌++◌, length, option_to_list, nat_lt, if◌then◌else◌, refl, ap, sym, ◌∙◌, subst, arith, inl, inr, ⊎_elim, ne_eqb, eqb-true, ltb-true, lt-ltb, cases_eq, eq-eqb, true≢false, Plain, upgradable, writing, Ask, to_read, to_upgrade_asked, to_enter, to_take_and_enter, to_lock_unregistered, to_lock_starving, to_begin, Change, gets, turns, completes, fails, arrives, is_open, is_open_to, apply_some, IsOpenStep, entries, is_held, bit, entries-other, Hold, Upgradable, StepKind, is_again, is_look, LockKind, Asked, waits, waits_or_starves, tries, tries_weakly, tries_to_know, looks, counts_readers, counts_writers, turns_to, gives_back, initializes, fails_to_initialize, waits_for_value, polls, looks_for_value, looks_complete, meets, Said, granted, refused, done, tells, counted, gives_value, failed, leads, grant, let_go_of, own_steps, Mark, AnyOf, Grants, HasMoment, HasWeakMoment, FindsClosed, first_word, Limit, unlimited, within, within_changes, gets_within, changes_within, registers_after, limit, mark_of, own, own_count, failures, changes, RegistersInTime, EndsWithin, ContinuesWithin, goes_for, is_due, Way, always, by_looks, past_looks, way_of, is_due_by, MayTryOn, Act, load, load_if, load_for, attempt, retry}
+use Rattle.spin_world_core.proofs.Names.{◌≡◌, ℕ, suc, ◌+◌, ◌≤◌, ◌⊎◌, ◌==◌, Bool, true, false, not, ◌&&◌, ◌||◌, is_some, Option, Some, None, List, [], ◌∷◌, ◌++◌, option_to_list, nat_lt, if◌then◌else◌, refl, ◌∙◌, subst, arith, inl, inr, ⊎_elim, Plain, upgradable, writing, Ask, to_lock_unregistered, to_lock_starving, to_begin, Change, gets, turns, completes, fails, arrives, is_open, is_open_to, apply_some, IsOpenStep, entries, is_held, bit, entries-other, Hold, Upgradable, StepKind, is_again, is_look, LockKind, Asked, waits, waits_or_starves, tries, tries_weakly, tries_to_know, looks, counts_readers, counts_writers, turns_to, gives_back, initializes, fails_to_initialize, waits_for_value, polls, looks_for_value, looks_complete, meets, Said, granted, refused, done, tells, counted, gives_value, failed, leads, grant, let_go_of, own_steps, Mark, AnyOf, Grants, HasMoment, HasWeakMoment, FindsClosed, first_word, Limit, within, within_changes, gets_within, changes_within, registers_after, limit, mark_of, own, own_count, failures, changes, RegistersInTime, EndsWithin, ContinuesWithin, goes_for, is_due, Way, by_looks, past_looks, way_of, is_due_by, MayTryOn, Act, load, load_if, load_for, attempt, retry}
 use Rattle.spin_world_core.specs.declared.place.Hold.TheVariants.{Write}
 use Rattle.spin_world_core.proofs.Lists.{eqb_self}
 use Rattle.spin_world_core.proofs.Stands.{Stand, entries_at, stand_of}
@@ -50,9 +50,7 @@ MayContinue what branch step p s span Spend = Spend
 pub may_spend : (what : Asked) (branch : Branch) (step : Option Change) (p : ℕ) (s : Plain) (span : List Mark) (Spend : Type 0)
     → MayContinue what branch step p s span Spend
     → Spend
-may_spend (tries ask) (misses c) step p s span Spend may = absurd may
-may_spend (tries ask) goes None p s span Spend may = may.0
-may_spend _ _ _ p s span Spend may = may
+may_spend what branch step p s span Spend may = grind arith
 
 pub may_try : (what : Asked) (ask : Ask) (p : ℕ) (s : Plain) (span : List Mark) (Spend : Type 0) → what ≡ tries ask → MayContinue what goes None p s span Spend → MayTryOn ask p span s
 may_try what ask p s span Spend is may = (subst (λ k. MayContinue k goes None p s span Spend) is may).1
@@ -61,8 +59,7 @@ pub no_try : (what : Asked) (ask : Ask) (c : Change) (step : Option Change) (p :
 no_try what ask c step p s span Spend is may = subst (λ k. MayContinue k (misses c) step p s span Spend) is may
 
 pub tries_open : (ask : Ask) (p : ℕ) (span : List Mark) (s : Plain) → is_open_to s p ask ≡ true → MayTryOn ask p span s
-tries_open to_take_and_enter p span s may = inl may
-tries_open _ p span s may = may
+tries_open ask p span s may = grind arith
 
 -- with so many spent a call may go on
 abbrev pub is_timely : Limit → List Change → ℕ → Bool
@@ -72,44 +69,15 @@ is_timely (gets_within ask n) [] k = nat_lt k n
 is_timely (changes_within n) [] k = nat_lt k n
 is_timely _ cs k = true
 
-on_each : {A B C D : Type 0} → (A → C) → (B → D) → A ⊎ B → C ⊎ D
-on_each f g (inl a) = inl (f a)
-on_each f g (inr b) = inr (g b)
-
 module _ (p : ℕ) (s : Plain) (step : Option Change) (r : StepKind) (span : List Mark) where
-  none_before : own p (mark_of p step r s ∷ span) ≡ [] → own p span ≡ []
-  none_before none = nil_left (own p span) (option_to_list step) (sym (own-mine p step r s span) ∙ none)
-
-  counts_one : (j k : ℕ) → nat_lt j k ≡ true → own_count p span ≤ failures p span + j → own_count p (mark_of p step r s ∷ span) ≤ failures p (mark_of p step r s ∷ span) + k
-  counts_one j k lt le = omega (arith, own_count-mine p step r s span, failures-mine p step r s span, ltb-true j k lt)
-
-  counts_lost : (j k : ℕ) → nat_lt j (suc k) ≡ true → (is_again r ≡ true) × (step ≡ None) → own_count p span ≤ failures p span + j → own_count p (mark_of p step r s ∷ span) ≤ failures p (mark_of p step r s ∷ span) + k
-  counts_lost j k lt lost le =
-      let one = failures-mine p step r s span ∙ (ap (λ b. failures p span + bit (b && not (is_some step))) lost.0 ∙ ap (λ (o : Option Change). failures p span + bit (true && not (is_some o))) lost.1) in
-      omega (arith, own_count-mine p step r s span, one, ltb-true j (suc k) lt)
-
   pub spent-mine : (what : Limit) (kind : LockKind) (t : Branch) (cs : List Change) (j k : ℕ) → Branched t s step r → own p (mark_of p step r s ∷ span) ≡ cs → MaySpend what t cs j k p kind (mark_of p step r s ∷ span) → Spends what j p span → Spends what k p (mark_of p step r s ∷ span)
-  spent-mine (within n) kind t cs j k how is may spent = omega (arith, own_count-mine p step r s span, ltb-true j k may)
-  spent-mine (within_changes n) kind loses cs j k how is may spent = counts_lost j k may how spent
-  spent-mine (within_changes n) kind t cs j k how is may spent = counts_one j k may spent
-  spent-mine (gets_within ask n) kind t (c ∷ cs) j k how is may spent = λ none. absurd (cc (is, none))
-  spent-mine (gets_within ask n) kind loses [] j k how is may spent = λ none. on_each (counts_lost j k may how) (λ found. inr found) (spent (none_before none))
-  spent-mine (gets_within ask n) kind (misses c) [] j k how is may spent = λ none. inr (inl (refl, subst (λ d. is_open s d ≡ false) may how))
-  spent-mine (gets_within ask n) kind t [] j k how is may spent = λ none. on_each (counts_one j k may) (λ found. inr found) (spent (none_before none))
-  spent-mine (changes_within n) kind t (c ∷ cs) j k how is may spent = λ none. absurd (cc (is, none))
-  spent-mine (changes_within n) kind t [] j k how is may spent = λ none. omega (arith, own_count-mine p step r s span, ltb-true j k may, spent (none_before none))
-  spent-mine _ kind t cs j k how is may spent = tt
+  spent-mine what kind t cs j k how is may spent =
+      grind (arith, nil_left (own p span), own-mine p step r s span, own_count-mine p step r s span, failures-mine p step r s span, spent)
 
 -- a call may go on so, and be answered by the next step
 
 pub goes_within : (what : Limit) (kind : LockKind) (t : Branch) (cs : List Change) (j k p : ℕ) (span : List Mark) → own p span ≡ cs → is_timely what cs k ≡ true → failures p span ≤ changes kind p span → MaySpend what t cs j k p kind span → Spends what k p span → ContinuesWithin what kind p span
-goes_within unlimited kind t cs j k p span is timely retries may spent = tt
-goes_within (within n) kind t cs j k p span is timely retries may spent = omega (arith, ltb-true k n timely, spent)
-goes_within (within_changes n) kind t cs j k p span is timely retries may spent = omega (arith, ltb-true k n timely, spent, retries)
-goes_within (gets_within ask n) kind t [] j k p span is timely retries may spent = λ none. on_each (λ le. omega (arith, ltb-true k n timely, le, retries)) (λ found. found) (spent none)
-goes_within (changes_within n) kind t [] j k p span is timely retries may spent = λ none. omega (arith, ltb-true k n timely, spent none)
-goes_within (registers_after n i) kind t cs j k p span is timely retries may spent = may
-goes_within _ kind t (c ∷ cs) j k p span is timely retries may spent = λ none. absurd (cc (is, none))
+goes_within what kind t cs j k p span is timely retries may spent = grind (arith, spent)
 
 -- what an answer owes of its call's time where that is shown by what the party knows
 abbrev pub OwesEnd : Limit → LockKind → ℕ → List Mark → Type 0
@@ -118,11 +86,7 @@ OwesEnd _ kind p span = Unit {0}
 
 pub ends_within : (what : Limit) (kind : LockKind) (cs : List Change) (k p : ℕ) (s : Plain) (step : Option Change) (r : StepKind) (span : List Mark) → is_timely what cs k ≡ true → failures p span ≤ changes kind p span → Spends what k p span
     → OwesEnd what kind p (mark_of p step r s ∷ span) → EndsWithin what kind p (mark_of p step r s ∷ span)
-ends_within (within n) kind cs k p s step r span timely retries spent owed = omega (arith, ltb-true k n timely, spent, own_count-mine p step r s span)
-ends_within (within_changes n) kind cs k p s step r span timely retries spent owed =
-    omega (arith, ltb-true k n timely, spent, retries, own_count-mine p step r s span, changes-mine kind p step r s span)
-ends_within (registers_after n i) kind cs k p s step r span timely retries spent owed = owed
-ends_within _ kind cs k p s step r span timely retries spent owed = tt
+ends_within what kind cs k p s step r span timely retries spent owed = grind (arith, own_count-mine p step r s span, changes-mine kind p step r s span)
 
 -- Its plain steps, and the moment of a grant
 
@@ -133,18 +97,14 @@ Opened (m ∷ ms) = IsOpenStep m.before m.party m.change × Opened ms
 
 any_split : {X : Type 0} (P : X → Type 0) (xs ys : List X) → AnyOf P (xs ++ ys) → AnyOf P xs ⊎ AnyOf P ys
 any_split P [] ys any = inr any
-any_split P (x ∷ xs) ys (inl here) = inl (inl here)
-any_split P (x ∷ xs) ys (inr there) = on_each (λ (a : AnyOf P xs). inr a) (λ b. b) (any_split P xs ys there)
+any_split P (x ∷ xs) ys any = grind (arith, any_split P xs ys)
 
 pub any_map : {X : Type 0} (P Q : X → Type 0) (xs : List X) → ((x : X) → P x → Q x) → AnyOf P xs → AnyOf Q xs
 any_map P Q [] f any = any
-any_map P Q (x ∷ xs) f (inl here) = inl (f x here)
-any_map P Q (x ∷ xs) f (inr there) = inr (any_map P Q xs f there)
+any_map P Q (x ∷ xs) f any = grind (arith, f, any_map P Q xs f)
 
 granted_here : (p : ℕ) (ask : Ask) (m : Mark) (b : Bool) (step : Option Change) → (m.party == p) ≡ b → m.change ≡ step → IsOpenStep m.before m.party step → AnyOf (λ c. c ≡ gets p ask) (if b then option_to_list step else []) → Grants p ask m
-granted_here p ask m true (Some c) mine is may (inl same) = (eqb-true m.party p mine, subst (λ d. is_open m.before d ≡ true) same may.1, is ∙ ap (λ (d : Change). Some d) same)
-granted_here p ask m true (Some c) mine is may (inr none) = absurd none
-granted_here p ask m _ _ mine is may any = absurd any
+granted_here p ask m b step mine is may any = grind arith
 
 granted_at : (p : ℕ) (ask : Ask) (span : List Mark) → Opened span → AnyOf (λ c. c ≡ gets p ask) (own p span) → AnyOf (Grants p ask) span
 granted_at p ask [] opened any = any
@@ -154,14 +114,8 @@ granted_at p ask (m ∷ ms) opened any =
     (λ (here : AnyOf (λ c. c ≡ gets p ask) (if m.party == p then option_to_list m.change else [])). inl (granted_here p ask m (m.party == p) m.change refl refl opened.0 here))
     (any_split (λ c. c ≡ gets p ask) (own p ms) (if m.party == p then option_to_list m.change else []) any)
 
-gets_in_grant : (p : ℕ) (ask : Ask) → AnyOf (λ c. c ≡ gets p ask) (grant p ask)
-gets_in_grant p to_enter = inr (inl refl)
-gets_in_grant p to_upgrade_asked = inr (inl refl)
-gets_in_grant p _ = inl refl
-
 granted_moment : (p : ℕ) (ask : Ask) (span : List Mark) → Opened span → AnyOf (λ steps. own p span ≡ steps) (grant p ask ∷ []) → AnyOf (Grants p ask) span
-granted_moment p ask span opened (inl is) = granted_at p ask span opened (subst (AnyOf (λ c. c ≡ gets p ask)) (sym is) (gets_in_grant p ask))
-granted_moment p ask span opened (inr none) = absurd none
+granted_moment p ask span opened is = grind (arith, granted_at p ask span opened)
 
 -- what an answer owes of its moment: a grant has it by the steps that the call has made. That of a call that may starve owes that it has registered in time
 abbrev pub OwesMoment : Asked → Said → ℕ → List Mark → Type 0
@@ -169,21 +123,9 @@ OwesMoment (waits_or_starves n) granted p span = RegistersInTime (λ recent. ⊥
 OwesMoment what granted p span = Unit {0}
 OwesMoment what said p span = HasMoment what said p span
 
-granted_waiting : (n p : ℕ) (span : List Mark) → Opened span → AnyOf (λ steps. own p span ≡ steps) (own_steps (waits_or_starves n) granted p) → HasMoment (waits_or_starves n) granted p span
-granted_waiting n p span opened (inl is) = inl (granted_at p to_lock_unregistered span opened (subst (AnyOf (λ c. c ≡ gets p to_lock_unregistered)) (sym is) (inl refl)))
-granted_waiting n p span opened (inr (inl is)) = inr (granted_at p to_lock_starving span opened (subst (AnyOf (λ c. c ≡ gets p to_lock_starving)) (sym is) (inr (inl refl))))
-granted_waiting n p span opened (inr (inr none)) = absurd none
-
 pub moment_of : (what : Asked) (said : Said) (p : ℕ) (span : List Mark) → Opened span → AnyOf (λ steps. own p span ≡ steps) (own_steps what said p) → OwesMoment what said p span → HasMoment what said p span
-moment_of (waits ask) granted p span opened is owed = granted_moment p ask span opened is
-moment_of (waits_or_starves n) granted p span opened is owed = granted_waiting n p span opened is
-moment_of (tries ask) granted p span opened is owed = granted_moment p ask span opened is
-moment_of (tries_weakly ask) granted p span opened is owed = granted_moment p ask span opened is
-moment_of (tries_to_know ask) granted p span opened is owed = granted_moment p ask span opened is
-moment_of (turns_to (Some Write) kind) granted p span opened is owed = absurd is
-moment_of (gives_back (Some Write)) granted p span opened is owed = absurd is
-moment_of what granted p span opened is owed = absurd is
-moment_of what _ p span opened is owed = owed
+moment_of what said p span opened is owed =
+    grind (arith, granted_moment p, granted_at p to_lock_unregistered span opened, granted_at p to_lock_starving span opened)
 
 -- only a weak try may be refused without cause
 abbrev pub OwesRight : Bool → Asked → Said → ℕ → List Mark → Type 0
@@ -191,17 +133,10 @@ OwesRight true (tries_weakly ask) refused p span = Unit {0}
 OwesRight weakly what said p span = OwesMoment what said p span
 
 pub weak_moment_of : (what : Asked) (said : Said) (p : ℕ) (span : List Mark) → Opened span → AnyOf (λ steps. own p span ≡ steps) (own_steps what said p) → OwesRight true what said p span → HasWeakMoment what said p span
-weak_moment_of (tries_weakly ask) refused p span opened is owed = tt
-weak_moment_of (tries_weakly ask) said p span opened is owed = moment_of (tries_weakly ask) said p span opened is owed
-weak_moment_of what said p span opened is owed = moment_of what said p span opened is owed
+weak_moment_of what said p span opened is owed = grind (arith, moment_of what said p span opened is)
 
 pub ends_owed : (kind : LockKind) (weakly : Bool) (what : Asked) (said : Said) (p : ℕ) (span : List Mark) → AnyOf (λ steps. own p span ≡ steps) (own_steps what said p) → OwesRight weakly what said p span → OwesEnd (limit kind what) kind p span
-ends_owed kind true (waits_or_starves n) granted p span is owed = owed
-ends_owed kind false (waits_or_starves n) granted p span is owed = owed
-ends_owed kind weakly (waits_or_starves n) _ p span is owed = absurd is
-ends_owed kind weakly (waits to_enter) said p span is owed = tt
-ends_owed kind weakly (tries to_read) said p span is owed = tt
-ends_owed kind weakly _ said p span is owed = tt
+ends_owed kind weakly what said p span is owed = grind arith
 
 -- What a row says of a point
 
@@ -262,25 +197,11 @@ SoundAt kind what p (looked k) = is_timely (limit kind what) [] k ≡ true
 SoundAt kind what p (onward row) = IsSound kind what p (Some row)
 
 pub sound_at : (kind : LockKind) (what : Asked) (h : Option Hold) (p : ℕ) (point : Point) → SoundAt kind what p point → IsSound kind what p (row_at what h point)
-sound_at kind what h p nowhere sound = tt
-sound_at kind what h p (onward row) sound = sound
-sound_at kind (turns_to (Some Write) to) h p (looked k) sound = (sound, inl refl)
-sound_at kind (turns_to (Some Upgradable) to) h p (looked k) sound = (sound, inl refl)
-sound_at kind (turns_to _ to) h p (looked k) sound = tt
-sound_at kind (gives_back None) h p (looked k) sound = tt
-sound_at kind (gives_back (Some hold)) h p (looked k) sound = (sound, inl refl)
-sound_at kind _ h p (looked k) sound = (sound, inl refl)
-
-timely_first : (kind : LockKind) (what : Asked) → is_timely (limit kind what) [] 0 ≡ true
-timely_first kind (waits to_enter) = refl
-timely_first kind (tries to_read) = refl
-timely_first kind looks = lt-ltb 0 (suc (length kind.further_words)) (omega arith)
-timely_first kind _ = refl
+sound_at kind what h p point sound = grind arith
 
 -- so is each call's beginning
 pub starts_sound : {L : Type 0} (kind : LockKind) (what : Asked) (p : ℕ) (o : Option L) → SoundAt kind what p (starts o)
-starts_sound kind what p None = tt
-starts_sound kind what p (Some l) = timely_first kind what
+starts_sound kind what p o = grind arith
 
 -- where the next step is a retry: no more retries have failed than others have changed the first word, it not counted if it has changed since; and what was found is enough
 abbrev pub Expects : {W L A : Type 0} → LockKind → Act W L A → ℕ → Plain → List Mark → Type 0
@@ -360,98 +281,48 @@ pub record Known {W L A : Type 0} (kind : LockKind) (what : Asked) (act : Act W 
 
 -- after a step of its own
 
-unmoved : (a b : ℕ) (kind : LockKind) (p n : ℕ) (s : Plain) (step : Option Change) → a ≤ b → step ≡ None → first_word kind s ≡ n
-    → a + bit (not (first_word kind (apply_some s step) == n)) ≤ b
-unmoved a b kind p n s step le none is =
-    omega (arith, le, ap (λ (o : Option Change). bit (not (first_word kind (apply_some s o) == n))) none, ap (λ x. bit (not x)) (eq-eqb (first_word kind s) n is))
-
 module _ (p : ℕ) (s : Plain) (step : Option Change) (r : StepKind) (span : List Mark) where
   pub expects-mine : {W L A : Type 0} (kind : LockKind) (act : Act W L A) (n : ℕ) → n ≡ first_word kind s
       → failures p (mark_of p step r s ∷ span) ≤ changes kind p (mark_of p step r s ∷ span) → RetryOwes act n step
       → Expects kind act p (apply_some s step) (mark_of p step r s ∷ span)
-  expects-mine kind (retry k f c won found missed) n is le finds = (unmoved _ _ kind p k s step le finds.0 (sym is ∙ finds.1), finds.2)
-  expects-mine kind _ n is le finds = tt
-
-  due-mine : is_due p (mark_of p step r s ∷ span) ≡ makes_due step r s
-  due-mine = ap (λ b. if b then makes_due step r s else is_due p span) (eqb_self p)
+  expects-mine kind act n is le finds = grind arith
 
   pub needs-mine : (needed : Need) (Finds : Type 0) → FoundBy needed Finds step r s → Needs needed p (mark_of p step r s ∷ span) × Finds
-  needs-mine free Finds found = (tt, found)
-  needs-mine due Finds found = (due-mine ∙ found.1, found.0)
-  needs-mine undue Finds found = (due-mine ∙ found.1, found.0)
-  needs-mine never Finds found = absurd found
+  needs-mine needed Finds found = grind (arith, eqb_self p, found)
 
 pub needs_first : (needed : Need) (Begins : Type 0) (p : ℕ) → BeginsBy needed Begins → Needs needed p [] × Begins
-needs_first free Begins p begins = (tt, begins)
-needs_first due Begins p begins = (refl, begins)
-needs_first undue Begins p begins = absurd begins
-needs_first never Begins p begins = absurd begins
+needs_first needed Begins p begins = grind (arith, begins)
 
 -- a step that rests goes for nothing
 pub rests_undue : (ask : Ask) (way : Way) (peeking : Bool) (p : ℕ) (span : List Mark) → Needs (need (Some ask) way true peeking) p span → is_due_by way p span ≡ true → ⊥
-rests_undue ask always peeking p span needs is = needs
-rests_undue ask by_looks true p span needs is = true≢false (sym is ∙ needs)
-rests_undue ask by_looks false p span needs is = needs
-rests_undue ask past_looks peeking p span needs is = true≢false (sym is ∙ needs)
+rests_undue ask way peeking p span needs is = grind arith
 
 -- as a call begins
 
 pub none_spent : (what : Limit) (k p : ℕ) → Spends what k p []
-none_spent (within n) k p = omega arith
-none_spent (within_changes n) k p = omega arith
-none_spent (gets_within ask n) k p = λ none. inl (omega arith)
-none_spent (changes_within n) k p = λ none. omega arith
-none_spent _ k p = tt
+none_spent what k p = grind arith
 
 pub none_expected : {W L A : Type 0} (kind : LockKind) (act : Act W L A) (p : ℕ) (s : Plain) → NoRetry act → Expects kind act p s []
-none_expected kind (retry k f step won found missed) p s none = absurd none
-none_expected kind _ p s none = tt
+none_expected kind act p s none = grind arith
 
 -- after another party's step
 
-bit_le : (b : Bool) → bit b ≤ 1
-bit_le true = omega arith
-bit_le false = omega arith
-
 -- a change of the first word makes one more change by others
 pub moved : (a b n x y : ℕ) → a + bit (not (x == n)) ≤ b → a + bit (not (y == n)) ≤ b + bit (not (y == x))
-moved a b n x y le =
-    ⊎_elim
-    (λ (e : y ≡ x). omega (arith, le, ap (λ k. bit (not (k == n))) e))
-    (λ (d : y ≡ x → ⊥). omega (arith, le, ap (λ c. bit (not c)) (ne_eqb y x d), bit_le (not (y == n))))
-    (cases_eq y x)
+moved a b n x y le = grind arith
 
 module _ (p q : ℕ) (s : Plain) (step : Option Change) (r : StepKind) (span : List Mark) (ne : q ≡ p → ⊥) where
   spent-other : (what : Limit) (k : ℕ) → Spends what k p span → Spends what k p (mark_of q step r s ∷ span)
-  spent-other (within n) k spent = omega (arith, own_count-other p q step r s span ne, spent)
-  spent-other (within_changes n) k spent = omega (arith, own_count-other p q step r s span ne, failures-other p q step r s span ne, spent)
-  spent-other (gets_within ask n) k spent = λ none.
-      on_each (λ le. omega (arith, own_count-other p q step r s span ne, failures-other p q step r s span ne, le)) (λ found. inr found)
-      (spent (sym (own-other p q step r s span ne) ∙ none))
-  spent-other (changes_within n) k spent = λ none. omega (arith, own_count-other p q step r s span ne, spent (sym (own-other p q step r s span ne) ∙ none))
-  spent-other _ k spent = tt
+  spent-other what k spent =
+      grind (arith, own_count-other p q step r s span ne, failures-other p q step r s span ne, own-other p q step r s span ne, spent)
 
   expects-other : {W L A : Type 0} (kind : LockKind) (act : Act W L A) → Expects kind act p s span
       → Expects kind act p (apply_some s step) (mark_of q step r s ∷ span)
-  expects-other kind (retry k f c won found missed) expects = (
-    omega (
-      arith,
-      failures-other p q step r s span ne,
-      changes-other kind p q step r s span ne,
-      moved (failures p span) (changes kind p span) k
-          (first_word kind s) (first_word kind (apply_some s step)) expects.0,
-    ),
-    expects.1,
-  )
-  expects-other kind _ expects = tt
-
-  due-other : is_due p (mark_of q step r s ∷ span) ≡ is_due p span
-  due-other = ap (λ b. if b then makes_due step r s else is_due p span) (ne_eqb q p ne)
+  expects-other kind act expects =
+      grind (arith, failures-other p q step r s span ne, changes-other kind p q step r s span ne, moved, expects)
 
   needs-other : (needed : Need) → Needs needed p span → Needs needed p (mark_of q step r s ∷ span)
-  needs-other due needs = due-other ∙ needs
-  needs-other undue needs = due-other ∙ needs
-  needs-other _ needs = needs
+  needs-other needed needs = grind arith
 
   pub known-other : {W L A : Type 0} (kind : LockKind) (what : Asked) (act : Act W L A) (row : Row) → IsOpenStep s q step → Known kind what act row p s span
       → Known kind what act row p (apply_some s step) (mark_of q step r s ∷ span)

@@ -96,10 +96,6 @@ module _ {W V C L A : Type 0} (t : Table W V C L A) where
     abbrev pub At : ℕ → C → L → Option Hold → Plain → W → List Mark → Row → Type 0
     At p c l h s w span row = AtPoint p (call_of c) l h s w span row
 
-    abbrev pub AtRow : ℕ → C → L → Option Hold → Plain → W → List Mark → Option Row → Type 0
-    AtRow p c l h s w span None = ⊥
-    AtRow p c l h s w span (Some row) = At p c l h s w span row
-
     -- The debts
 
     -- what the step function gives makes the words after the plain step, which is open and the party's own; its refusal says that the step is closed
