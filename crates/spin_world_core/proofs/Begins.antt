@@ -1,5 +1,5 @@
 -- Each answer tells where its call began.
-use Rattle.std.proofs.Common.{◌≡◌, ℕ, suc, ◌+◌, ◌==◌, ◌&&◌, ◌||◌, ◌⊎◌, Bool, true, false, Option, Some, None, List, [], ◌∷◌, ◌++◌, length, if◌then◌else◌, refl, ap, sym, ◌∙◌, subst, arith, append_assoc, inl, inr}
+use Rattle.std.proofs.Common.{◌≡◌, ℕ, suc, ◌+◌, ◌||◌, ◌⊎◌, Bool, true, false, Option, Some, None, List, [], ◌∷◌, ◌++◌, length, if◌then◌else◌, refl, ap, sym, ◌∙◌, subst, arith, append_assoc, inl, inr}
 use Rattle.std.specs.List.{list_any}
 use Rattle.std.proofs.lemmas.List.{append-nil, length-append}
 use Rattle.spin_world_core.specs.declared.schedule.Outcome.{Outcome}
@@ -10,12 +10,10 @@ use Rattle.spin_world_core.specs.Transcripts.{begins_of, IsLastOf, IsLastBegin, 
 use Rattle.spin_world_core.proofs.Schedules.{last_begin-append}
 
 answered : {V A : Type 0} (r b : Option ℕ) (o : Outcome A V) (a : A) → with_begin r o ≡ outcome.Answered a b → b ≡ r
-answered r b (outcome.Answered x y) a is = cc (is)
-answered r b _ a is = absurd (cc (is))
+answered r b o a is = grind arith
 
 begun_still : {V A : Type 0} (r : Option ℕ) (o : Outcome A V) → is_begun (with_begin r o) ≡ is_begun o
-begun_still r (outcome.Answered x y) = refl
-begun_still r _ = refl
+begun_still r o = grind arith
 
 module _ {W V A : Type 0} where
   -- what `last_begin` finds: what was found before, or the last that begins
@@ -54,12 +52,7 @@ module _ {W V A : Type 0} where
       let party : f.party ≡ y.party = ap (λ (x : Event W V A). x.party) (sym here) in
       let begun : is_begun f.outcome ≡ is_begun y.outcome = ap (λ (x : Event W V A). is_begun x.outcome) (sym here) ∙ begun_still r y.outcome in
       let more : (p : ℕ) → last_begin p 0 None (told ++ f ∷ []) ≡ last_begin p 0 None (before ++ y ∷ []) =
-      λ p. last_begin-append p 0 None told (f ∷ [])
-      ∙ (ap (λ n. if (n == p) && is_begun f.outcome then Some (0 + length told) else last_begin p 0 None told) party
-      ∙ (ap (λ c. if (y.party == p) && c then Some (0 + length told) else last_begin p 0 None told) begun
-      ∙ (ap (λ n. if (y.party == p) && is_begun y.outcome then Some (0 + n) else last_begin p 0 None told) long
-      ∙ (ap (λ o. if (y.party == p) && is_begun y.outcome then Some (0 + length before) else o) (same p)
-      ∙ sym (last_begin-append p 0 None before (y ∷ [])))))) in
+      λ p. grind (arith, last_begin-append p 0 None told (f ∷ []), last_begin-append p 0 None before (y ∷ []), same p) in
       tells (before ++ y ∷ []) (told ++ f ∷ []) ys fs e back a b more (omega (arith, long, length-append told (f ∷ []), length-append before (y ∷ []))) rest answers
       ∙ ap (last_begin e.party 0 None) (append_assoc told (f ∷ []) fs)
 

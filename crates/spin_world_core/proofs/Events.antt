@@ -1,5 +1,5 @@
 -- What an event comes to: its move is skipped, or is open and does what it is for. What is so of each of these is so of every event.
-use Rattle.spin_world_core.proofs.Names.{◌≡◌, ℕ, Bool, true, false, Option, Some, None, is_some, slice_get, refl, ap, Hold, Seat, Idle, Calling, Holding, Leaked, Next, Move, Begin, Step, Weak, Read, Write, Leak, OwnerGet, OwnerSet, StepKind, plain, weak, Machine, skipped, begun, goes_on, refuses, resting, read_by, written_by, may_read, may_write, is_owners, owner_gets, owner_sets, Seen, Scene, scene, scene_at, scene_of, is_open_move}
+use Rattle.spin_world_core.proofs.Names.{◌≡◌, ℕ, Bool, true, false, Option, Some, None, is_some, slice_get, refl, ap, Hold, Seat, Idle, Calling, Holding, Leaked, Next, Move, Begin, Step, Weak, Read, Write, Leak, OwnerGet, OwnerSet, StepKind, plain, weak, Machine, Happened, skipped, begun, goes_on, refuses, resting, read_by, written_by, may_read, may_write, is_owners, owner_gets, owner_sets, Seen, Scene, scene, scene_at, scene_of, is_open_move}
 
 -- the seat of a party with this hold, which it holds still or has leaked
 abbrev pub seat_with : {C L : Type 0} → Bool → Hold → Seat C L
@@ -41,39 +41,26 @@ module _ {W V C L A : Type 0} (m : Machine W V C L A) (seen : Seen W V C L) (p :
     refused_so c l h None there is = each.passes Weak (Some (Calling c l h)) weak there (ap is_some is)
     refused_so c l h (Some next) there is = each.refuses c l h next there is
 
-    read_so : (b : Bool) (h : Hold) (x : Bool) → SitsAt (Some (seat_with b h)) → may_read h ≡ x
-        → is_open_move m seen.state Read (Some (seat_with b h)) ≡ x → P (scene_of seen p Read (Some (seat_with b h)) (read_by seen.state x) None plain None)
-    read_so b h true there may is_open = each.reads b h there may
-    read_so b h false there may closed = each.passes Read (Some (seat_with b h)) plain there closed
-
-    written_so : (v : V) (b : Bool) (h : Hold) (x : Bool) → SitsAt (Some (seat_with b h)) → may_write h ≡ x
-        → is_open_move m seen.state (Write v) (Some (seat_with b h)) ≡ x
-        → P (scene_of seen p (Write v) (Some (seat_with b h)) (written_by seen.state v x) None plain None)
-    written_so v b h true there may is_open = each.writes v b h there may
-    written_so v b h false there may closed = each.passes (Write v) (Some (seat_with b h)) plain there closed
-
-    got_so : (y : Seat C L) (x : Bool) → SitsAt (Some y) → is_owners m seen.state ≡ x
-        → P (scene_of seen p OwnerGet (Some y) (owner_gets seen.state x) None plain None)
-    got_so y true there may = each.gets y there may
-    got_so y false there closed = each.passes OwnerGet (Some y) plain there closed
-
-    set_so : (v : V) (y : Seat C L) (x : Bool) → SitsAt (Some y) → is_owners m seen.state ≡ x
-        → P (scene_of seen p (OwnerSet v) (Some y) (owner_sets seen.state v x) None plain None)
-    set_so v y true there may = each.sets v y there may
-    set_so v y false there closed = each.passes (OwnerSet v) (Some y) plain there closed
+    tested : (move : Move C V) (o : Option (Seat C L)) (by : Bool → Happened W V C L A) (x : Bool) → SitsAt o → is_open_move m seen.state move o ≡ x
+        → by false ≡ skipped seen.state → (x ≡ true → P (scene_of seen p move o (by true) None plain None)) → P (scene_of seen p move o (by x) None plain None)
+    tested move o by true there is closed opens = opens refl
+    tested move o by false there is closed opens = rw closed (each.passes move o plain there is)
 
     at_seat : (move : Move C V) (o : Option (Seat C L)) → SitsAt o → P (scene_at m seen p move o)
     at_seat (Begin c) (Some Idle) there = begun_so c None (m.begin c None) there refl refl
     at_seat (Begin c) (Some (Holding h)) there = begun_so c (Some h) (m.begin c (Some h)) there refl refl
     at_seat Step (Some (Calling c l h)) there = each.steps c l h there
     at_seat Weak (Some (Calling c l h)) there = refused_so c l h (m.refuse c l h) there refl
-    at_seat Read (Some (Holding h)) there = read_so true h (may_read h) there refl refl
-    at_seat Read (Some (Leaked h)) there = read_so false h (may_read h) there refl refl
-    at_seat (Write v) (Some (Holding h)) there = written_so v true h (may_write h) there refl refl
-    at_seat (Write v) (Some (Leaked h)) there = written_so v false h (may_write h) there refl refl
+    at_seat Read (Some (Holding h)) there = tested Read (Some (Holding h)) (read_by seen.state) (may_read h) there refl refl (each.reads true h there)
+    at_seat Read (Some (Leaked h)) there = tested Read (Some (Leaked h)) (read_by seen.state) (may_read h) there refl refl (each.reads false h there)
+    at_seat (Write v) (Some (Holding h)) there =
+        tested (Write v) (Some (Holding h)) (written_by seen.state v) (may_write h) there refl refl (each.writes v true h there)
+    at_seat (Write v) (Some (Leaked h)) there =
+        tested (Write v) (Some (Leaked h)) (written_by seen.state v) (may_write h) there refl refl (each.writes v false h there)
     at_seat Leak (Some (Holding h)) there = each.leaks h there
-    at_seat OwnerGet (Some y) there = got_so y (is_owners m seen.state) there refl
-    at_seat (OwnerSet v) (Some y) there = set_so v y (is_owners m seen.state) there refl
+    at_seat OwnerGet (Some y) there = tested OwnerGet (Some y) (owner_gets seen.state) (is_owners m seen.state) there refl refl (each.gets y there)
+    at_seat (OwnerSet v) (Some y) there =
+        tested (OwnerSet v) (Some y) (owner_sets seen.state v) (is_owners m seen.state) there refl refl (each.sets v y there)
     at_seat move o there = each.passes move o plain there refl
 
     -- so it is of every event

@@ -1,5 +1,5 @@
 -- What a party finds under one guard stays as it is.
-use Rattle.spin_world_core.proofs.Names.{slice_get_within, ◌≡◌, ℕ, ◌==◌, ◌&&◌, ◌||◌, Bool, true, false, not, Option, Some, None, List, [], ◌∷◌, ◌++◌, map, slice_get, slice_set, refl, ap, sym, ◌∙◌, subst, list_all, option_map, eq-eqb, and_parts, true≢false, false≢true, slice_get-map, Plain, Change, completes, entries, is_held, Hold, Seat, Idle, Calling, Holding, Leaked, Gone, Next, Continue, Answers, Move, Step, Weak, Read, OwnerSet, StepKind, plain, weak, by_step, Mark, Machine, State, moves_at, goes_on, placed, resting, read_by, may_read, may_write, yields_to_owner, seen_by_owner, owner_writes, Seen, Scene, scene, scene_at, scene_of, if_completed, StandsFor, is_reader, is_writer, opening, seen_after, is_quiet_move, is_quiet, ReadsAgreeAcross, ReadsAgree}
+use Rattle.spin_world_core.proofs.Names.{slice_get_within, ◌≡◌, ℕ, ◌==◌, ◌&&◌, ◌||◌, Bool, true, false, not, Option, Some, None, List, [], ◌∷◌, ◌++◌, map, slice_get, slice_set, refl, arith, ap, sym, ◌∙◌, subst, list_all, option_map, eq-eqb, and_parts, true≢false, false≢true, slice_get-map, Plain, Change, completes, entries, is_held, Hold, Seat, Calling, Holding, Leaked, Gone, Next, Continue, Answers, Move, Step, Weak, Read, OwnerSet, StepKind, plain, weak, by_step, Mark, Machine, State, moves_at, goes_on, placed, resting, may_read, may_write, yields_to_owner, seen_by_owner, owner_writes, Seen, Scene, scene, scene_at, scene_of, if_completed, StandsFor, is_reader, is_writer, opening, seen_after, is_quiet_move, is_quiet, ReadsAgreeAcross, ReadsAgree}
 use Rattle.spin_world_core.specs.declared.schedule.Outcome.TheVariants as outcome
 use Rattle.spin_world_core.proofs.Lists.{eqb_self, get-set}
 use Rattle.spin_world_core.proofs.Facts.{LocalInvariant, KnowsAt, Facts}
@@ -30,13 +30,11 @@ pub record KeepsGuard {W V C L A : Type 0} (m : Machine W V C L A) (k : LocalInv
 
 -- a party with a guard, or gone since: the value last written is still the one that it found
 abbrev Guard : {V C L : Type 0} → GuardedRead C V → Option V → Option (Seat C L) → Type 0
-Guard r w None = ⊥
-Guard r w (Some Idle) = ⊥
-Guard r w (Some (Calling c l None)) = ⊥
 Guard r w (Some (Calling c l (Some h))) = (r.keeps c ≡ true) × (may_read h ≡ true) × (w ≡ r.value)
 Guard r w (Some (Holding h)) = (may_read h ≡ true) × (w ≡ r.value)
 Guard r w (Some (Leaked h)) = (may_read h ≡ true) × (w ≡ r.value)
 Guard r w (Some (Gone h)) = Unit {0}
+Guard r w _ = ⊥
 
 -- so it is a reader, or gone
 abbrev ReaderOrGone : {C L : Type 0} → Plain → ℕ → Option (Seat C L) → Type 0
@@ -46,37 +44,26 @@ ReaderOrGone s p _ = is_reader (entries p s) ≡ true
 module _ {V C L : Type 0} (r : GuardedRead C V) (w v : Option V) where
   -- where it is no reader, it is gone
   no_reader : (s : Plain) (p : ℕ) (o : Option (Seat C L)) → ReaderOrGone s p o → (is_reader (entries p s) ≡ true → ⊥) → Guard r w o → Guard r v o
-  no_reader s p (Some (Calling c l h)) reads none guard = absurd (none reads)
-  no_reader s p (Some (Holding h)) reads none guard = absurd (none reads)
-  no_reader s p (Some (Leaked h)) reads none guard = absurd (none reads)
-  no_reader s p _ reads none guard = guard
+  no_reader s p o reads none guard = grind (arith, none)
 
   -- where a closure completes, nobody has a guard
   completed : (s : Plain) (p : ℕ) (o : Option (Seat C L)) (step : Option Change) → ReaderOrGone s p o → ((q : ℕ) → step ≡ Some (completes q) → is_held s ≡ false)
       → Guard r w o → Guard r (if_completed w v step) o
-  completed s p o (Some (completes q)) reads alone guard = no_reader s p o reads (λ reads. true≢false (sym (touched s p reads) ∙ alone q refl)) guard
-  completed s p o _ reads alone guard = guard
+  completed s p o step reads alone guard = grind (arith, no_reader s p o reads, touched s p, alone)
 
   -- the owner's look makes the party gone that has leaked, and it writes only where nobody has a guard
   let_go : (o : Option (Seat C L)) → Guard r w o → Guard r w (option_map seen_by_owner o)
-  let_go (Some (Leaked h)) guard = tt
-  let_go _ guard = guard
+  let_go o guard = grind arith
 
   gone_for : (o : Option (Seat C L)) → ((x : Seat C L) → o ≡ Some x → yields_to_owner x ≡ true) → Guard r w o → Guard r v (option_map seen_by_owner o)
-  gone_for (Some (Calling c l h)) away guard = absurd (false≢true (away (Calling c l h) refl))
-  gone_for (Some (Holding h)) away guard = absurd (false≢true (away (Holding h) refl))
-  gone_for (Some (Leaked h)) away guard = tt
-  gone_for _ away guard = guard
+  gone_for None away guard = guard
+  gone_for (Some x) away guard = grind (arith, away x refl)
 
 module _ {W V C L A : Type 0} (m : Machine W V C L A) where
   module _ (k : LocalInvariant V C L) (f : Facts m k) (r : GuardedRead C V) (g : KeepsGuard m k r.keeps) where
     reads_at : (w : Option V) (s : Plain) (p : ℕ) (span : List Mark) (o : Option (Seat C L)) → StandsFor s p span o → KnowsAt k s p span o → Guard r w o
         → ReaderOrGone s p o
-    reads_at w s p span (Some (Calling c l (Some h))) stands knows guard = g.reads p c l h s span guard.0 guard.1 knows
-    reads_at w s p span (Some (Holding h)) stands knows guard = ap is_reader stands ∙ (reader_of p h ∙ guard.0)
-    reads_at w s p span (Some (Leaked h)) stands knows guard = ap is_reader stands ∙ (reader_of p h ∙ guard.0)
-    reads_at w s p span (Some (Gone h)) stands knows guard = tt
-    reads_at w s p span _ stands knows guard = absurd guard
+    reads_at w s p span o stands knows guard = grind (arith, g.reads p, reader_of p)
 
     -- where the party p has a guard, and q moves
     module _ (seen : Seen W V C L) (p q : ℕ) (good : Invariant m k seen) (guard : Guard r seen.written (slice_get seen.state.seats p)) where
@@ -92,15 +79,13 @@ module _ {W V C L A : Type 0} (m : Machine W V C L A) where
 
       begun : (c : C) (l : L) (h : Option Hold) → r.keeps c ≡ true → Guard {L = L} r seen.written (Some (resting h))
           → Guard r seen.written (Some (Calling c l h))
-      begun c l None keeps guard = guard
-      begun c l (Some h) keeps guard = (keeps, guard.0, guard.1)
+      begun c l h keeps guard = grind arith
 
       answered : (w : Option V) (c : C) (l : L) (a : A) (h rest : Option Hold)
           → ((j : Hold) → h ≡ Some j → r.keeps c ≡ true → may_read j ≡ true → ReadsOn {L = L} (Answers a rest))
           → Guard r w (Some (Calling c l h)) → Guard r w (Some (resting {C = C} {L = L} rest))
       answered w c l a None rest on guard = absurd guard
-      answered w c l a (Some j) None on guard = absurd (on j refl guard.0 guard.1)
-      answered w c l a (Some j) (Some i) on guard = (on j refl guard.0 guard.1, guard.2)
+      answered w c l a (Some j) rest on guard = grind (arith, on j refl)
 
       -- after an event
       abbrev After : Scene W V C L A → Type 0
@@ -176,20 +161,12 @@ module _ {W V C L A : Type 0} (m : Machine W V C L A) where
 
   -- a party that finds a value has a guard
   module _ (s : State W V C L) (p : ℕ) where
-    found_by : (h : Hold) (b : Bool) (t : Option V) → may_read h ≡ b → (read_by {A = A} s b).outcome ≡ outcome.Value t → (may_read h ≡ true) × (s.value ≡ t)
-    found_by h true t may e = (may, cc (e))
-    found_by h false t may e = absurd (cc (e))
-
     guarded : (r : GuardedRead C V) (w : Option V) (o : Option (Seat C L)) → s.value ≡ w → (moves_at m s p Read o).outcome ≡ outcome.Value r.value → Guard r w o
-    guarded r w (Some (Holding h)) same e = let found = found_by h (may_read h) r.value refl e in (found.0, sym same ∙ found.1)
-    guarded r w (Some (Leaked h)) same e = let found = found_by h (may_read h) r.value refl e in (found.0, sym same ∙ found.1)
-    guarded r w _ same e = absurd (cc (e))
+    guarded r w o same e = grind arith
 
     found_again : (r : GuardedRead C V) (w t : Option V) (o : Option (Seat C L)) → s.value ≡ w → Guard r w o → (moves_at m s p Read o).outcome ≡ outcome.Value t
         → t ≡ r.value
-    found_again r w t (Some (Holding h)) same guard e = sym (found_by h (may_read h) t refl e).1 ∙ (same ∙ guard.1)
-    found_again r w t (Some (Leaked h)) same guard e = sym (found_by h (may_read h) t refl e).1 ∙ (same ∙ guard.1)
-    found_again r w t _ same guard e = absurd (cc (e))
+    found_again r w t o same guard e = grind arith
 
   module _ (k : LocalInvariant V C L) (f : Facts m k) where
     pub reads_agree_across : (keeps : C → Bool) → KeepsGuard m k keeps → (n : ℕ) (past : List (ℕ × Move C V)) → ReadsAgreeAcross keeps m n past

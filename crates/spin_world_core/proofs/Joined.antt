@@ -1,6 +1,5 @@
 -- Runs one after the other are one run.
-use Rattle.spin_world_core.proofs.Names.{◌≡◌, ℕ, suc, ◌+◌, ◌<◌, ◌≤◌, ◌==◌, ◌&&◌, Bool, true, false, Option, Some, None, List, [], ◌∷◌, ◌++◌, length, map, take, drop, if◌then◌else◌, refl, ap, sym, ◌∙◌, subst, arith, append_assoc, lt-ltb, le-ltb, append-nil, take-append-drop, take-append_seam, drop-append_seam, Move, Outcome, Event, Machine, State, after, at_first, events_of, with_begins, with_begin, last_begin, is_begun, Seen, Scene, scene, opening, AfterAnyPast, seen_after, Lawful, scenes, EachTells, TellsAfterAnyPast, Promised, began_from, outcome_from, event_from, IsCut, joined, after_runs, transcripts_of, RunsAreOne}
-use Rattle.spin_world_core.specs.declared.schedule.Outcome.TheVariants as outcome
+use Rattle.spin_world_core.proofs.Names.{◌≡◌, ℕ, suc, ◌+◌, ◌<◌, ◌≤◌, ◌==◌, ◌&&◌, Bool, Option, Some, None, List, [], ◌∷◌, ◌++◌, length, map, take, drop, if◌then◌else◌, refl, ap, sym, ◌∙◌, subst, arith, append_assoc, append-nil, take-append-drop, take-append_seam, drop-append_seam, Move, Outcome, Event, Machine, State, after, at_first, events_of, with_begins, with_begin, last_begin, is_begun, Seen, Scene, scene, opening, AfterAnyPast, seen_after, Lawful, scenes, EachTells, TellsAfterAnyPast, Promised, began_from, outcome_from, event_from, IsCut, joined, after_runs, transcripts_of, RunsAreOne}
 use Rattle.spin_world_core.proofs.Schedules.{after-append, events_of-append, seen_after-append, length-events_of, with_begins-append, last_begin-append}
 use Rattle.spin_world_core.proofs.Transcripts.{tells_after}
 
@@ -28,15 +27,8 @@ module _ {W V C L A : Type 0} (m : Machine W V C L A) where
 
 -- Where calls began
 
-began_before : (start k : ℕ) → k < start → began_from start (Some k) ≡ None
-began_before start k lt = rw (lt-ltb k start lt) refl
-
-began_behind : (start k : ℕ) → began_from start (Some (start + k)) ≡ Some k
-began_behind start k = rw (le-ltb (start + k) start (omega arith)) (ap Some (omega arith))
-
 either_none : (b : Bool) (start k : ℕ) (found : Option ℕ) → k < start → began_from start found ≡ None → began_from start (if b then Some k else found) ≡ None
-either_none true start k found lt none = began_before start k lt
-either_none false start k found lt none = none
+either_none b start k found lt none = grind arith
 
 -- nothing is told of a call that began before the start
 none_from : {W V A : Type 0} (start p k : ℕ) (found : Option ℕ) (xs : List (Event W V A)) → k + length xs ≤ start → began_from start found ≡ None
@@ -48,8 +40,7 @@ none_from start p k found (x ∷ xs) le none =
 
 either_from : (b : Bool) (start k : ℕ) (found here : Option ℕ) → began_from start found ≡ here
     → began_from start (if b then Some (start + k) else found) ≡ (if b then Some k else here)
-either_from true start k found here is = began_behind start k
-either_from false start k found here is = is
+either_from b start k found here is = grind arith
 
 -- and of one that began later its place from there
 last_from : {W V A : Type 0} (start p k : ℕ) (found here : Option ℕ) (xs : List (Event W V A)) → began_from start found ≡ here
@@ -57,9 +48,7 @@ last_from : {W V A : Type 0} (start p k : ℕ) (found here : Option ℕ) (xs : L
 last_from start p k found here [] is = is
 last_from start p k found here (x ∷ xs) is =
     let b = (x.party == p) && is_begun x.outcome in
-    let now = if b then Some (start + k) else found in
-    ap (λ n. began_from start (last_begin p n now xs)) (omega arith)
-    ∙ last_from start p (k + 1) now (if b then Some k else here) xs (either_from b start k found here is)
+    grind (arith, last_from start p (k + 1) (if b then Some (start + k) else found) (if b then Some k else here) xs (either_from b start k found here is))
 
 begin_from : {W V A : Type 0} (p : ℕ) (xs ys : List (Event W V A)) → began_from (length xs) (last_begin p 0 None (xs ++ ys)) ≡ last_begin p 0 None ys
 begin_from p xs ys =
@@ -69,8 +58,7 @@ begin_from p xs ys =
 
 with_begin_from : {V A : Type 0} (start : ℕ) (began here : Option ℕ) (o : Outcome A V) → began_from start began ≡ here
     → with_begin here o ≡ outcome_from start (with_begin began o)
-with_begin_from start began here (outcome.Answered a b) is = ap (λ k. outcome.Answered a k) (sym is)
-with_begin_from start began here _ is = refl
+with_begin_from start began here o is = grind arith
 
 length-with_begins : {W V A : Type 0} (before xs : List (Event W V A)) → length (with_begins before xs) ≡ length xs
 length-with_begins before [] = refl
@@ -79,12 +67,10 @@ length-with_begins before (x ∷ xs) = ap suc (length-with_begins (before ++ x �
 -- the events of a run that starts behind others
 with_begins_from : {W V A : Type 0} (xs before ys : List (Event W V A)) → with_begins before ys ≡ map (event_from (length xs)) (with_begins (xs ++ before) ys)
 with_begins_from xs before [] = refl
-with_begins_from {W = W} {V = V} {A = A} xs before (y ∷ ys) =
-    let told : Outcome A V → List (Event W V A) → List (Event W V A) = λ o es. record y { outcome = o } ∷ es in
+with_begins_from xs before (y ∷ ys) =
     let began = last_begin y.party 0 None (xs ++ before) in
-    ap (λ o. told o (with_begins (before ++ y ∷ []) ys)) (with_begin_from (length xs) began (last_begin y.party 0 None before) y.outcome (begin_from y.party xs before))
-    ∙ ap (told (outcome_from (length xs) (with_begin began y.outcome)))
-    (with_begins_from xs (before ++ y ∷ []) ys ∙ ap (λ b. map (event_from (length xs)) (with_begins b ys)) (sym (append_assoc xs before (y ∷ []))))
+    let here = with_begin_from (length xs) began (last_begin y.party 0 None before) y.outcome (begin_from y.party xs before) in
+    grind (arith, here, with_begins_from xs (before ++ y ∷ []) ys, append_assoc xs before (y ∷ []))
 
 -- a run that is cut in two
 cut_in_two : {W V C L A : Type 0} (m : Machine W V C L A) (s : State W V C L) (first second : List (ℕ × Move C V)) (place : ℕ) (es fs : List (Event W V A))
@@ -98,13 +84,8 @@ cut_in_two m s first second place es fs at front back =
     let so_long : length heads ≡ place = length-with_begins [] xs ∙ here in
     let whole = ap (with_begins []) (events_of-append m s first second) ∙ with_begins-append [] xs ys in
     record {
-      front = front ∙ (sym (take-append_seam heads (with_begins xs ys)) ∙ ap (λ n. take n (heads ++ with_begins xs ys)) so_long ∙ ap (take place) (sym whole));
-      back =
-          back ∙ (with_begins_from xs [] ys
-          ∙ (ap (λ n. map (event_from n) (with_begins (xs ++ []) ys)) here
-          ∙ ap (λ es. map (event_from place) es)
-          (ap (λ b. with_begins b ys) (append-nil xs)
-          ∙ (sym (drop-append_seam heads (with_begins xs ys)) ∙ (ap (λ n. drop n (heads ++ with_begins xs ys)) so_long ∙ ap (drop place) (sym whole))))));
+      front = grind (arith, front, take-append_seam heads (with_begins xs ys), so_long, whole);
+      back = grind (arith, back, with_begins_from xs [] ys, here, append-nil xs, drop-append_seam heads (with_begins xs ys), so_long, whole);
     }
 
 -- Two runs by a world: the second plays on where the first has stopped, on the same object

@@ -1,5 +1,6 @@
 -- What an owner's move keeps.
-use Rattle.spin_world_core.proofs.Names.{◌≡◌, ℕ, Bool, true, false, Option, Some, None, List, [], ◌∷◌, zero, suc, map, slice_get, refl, sym, ap, ◌∙◌, subst, list_all, option_map, and_from, and_parts, false≢true, true≢false, slice_get-map, Plain, Hold, Seat, Calling, Holding, Leaked, Gone, OwnerGet, OwnerSet, Mark, Machine, is_owners, yields_to_owner, let_go, seen_by_owner, owner_gets, owner_sets, owner_writes, Seen, scene_of, ComesTo, StandsFor, YieldsToOwner, IsOwners}
+use Rattle.std.proofs.Common.{pred, arith}
+use Rattle.spin_world_core.proofs.Names.{◌≡◌, ℕ, Bool, true, false, Option, Some, None, List, [], ◌∷◌, zero, suc, map, slice_get, refl, sym, ap, ◌∙◌, subst, list_all, option_map, and_from, and_parts, true≢false, slice_get-map, Plain, Hold, Seat, Calling, Leaked, OwnerGet, OwnerSet, Mark, Machine, is_owners, yields_to_owner, let_go, seen_by_owner, owner_gets, owner_sets, owner_writes, Seen, scene_of, ComesTo, StandsFor, YieldsToOwner, IsOwners}
 use Rattle.spin_world_core.specs.declared.schedule.Outcome.TheVariants as outcome
 use Rattle.spin_world_core.specs.StepKinds as step_kind
 use Rattle.spin_world_core.proofs.Facts.{LocalInvariant, Facts}
@@ -7,8 +8,7 @@ use Rattle.spin_world_core.proofs.Preserved.{OfParty, Invariant, Preserved, kept
 
 pub all-get : {X : Type 0} (test : X → Bool) (xs : List X) (q : ℕ) (x : X) → list_all test xs ≡ true → slice_get xs q ≡ Some x → test x ≡ true
 all-get test [] q x all e = absurd (cc (e))
-all-get test (y ∷ xs) zero x all e = subst (λ z. test z ≡ true) (cc (e)) (and_parts (test y) (list_all test xs) all).0
-all-get test (y ∷ xs) (suc q) x all e = all-get test xs q x (and_parts (test y) (list_all test xs) all).1 e
+all-get test (y ∷ xs) q x all e = grind (arith, all-get test xs (pred q) x)
 
 all-from : {X : Type 0} (test : X → Bool) (xs : List X) → ((q : ℕ) (x : X) → slice_get xs q ≡ Some x → test x ≡ true) → list_all test xs ≡ true
 all-from test [] each = refl
@@ -16,16 +16,11 @@ all-from test (x ∷ xs) each = and_from (test x) (list_all test xs) (each zero 
 
 yields_at : {C L : Type 0} (s : Plain) (q : ℕ) (span : List Mark) (o : Option (Seat C L)) → StandsFor s q span o
     → ((x : Seat C L) → o ≡ Some x → yields_to_owner x ≡ true) → YieldsToOwner s q o
-yields_at s q span (Some (Calling c l h)) stands away = absurd (false≢true (away (Calling c l h) refl))
-yields_at s q span (Some (Holding h)) stands away = absurd (false≢true (away (Holding h) refl))
-yields_at s q span (Some (Leaked h)) stands away = tt
-yields_at s q span (Some (Gone h)) stands away = tt
-yields_at s q span _ stands away = stands
+yields_at s q span None stands away = stands
+yields_at s q span (Some x) stands away = grind (arith, away x refl)
 
 yields : {C L : Type 0} (s : Plain) (q : ℕ) (x : Seat C L) → YieldsToOwner s q (Some x) → yields_to_owner x ≡ true
-yields s q (Calling c l h) may = absurd may
-yields s q (Holding h) may = absurd may
-yields s q _ may = refl
+yields s q x may = grind arith
 
 -- the owner's move takes nobody on who is in a call
 leaves_calls : {C L : Type 0} (seats : List (Seat C L)) {p : ℕ} (q : ℕ) (c : C) (l : L) (h : Option Hold) → (p ≡ q → ⊥)

@@ -1,17 +1,16 @@
 -- An object that pays what its table owes shows all local facts.
-use Rattle.spin_world_core.proofs.Names.{◌≡◌, ℕ, zero, suc, ◌+◌, ◌<◌, ◌≤◌, ◌==◌, Bool, true, false, not, is_some, Option, Some, None, List, [], ◌∷◌, ◌++◌, option_to_list, get_or, if◌then◌else◌, refl, ap, sym, ◌∙◌, subst, arith, and_parts, false≢true, true≢false, eqb-true, Plain, is_empty, Ask, Change, gets, completes, is_open, is_open_to, apply_some, IsOpenStep, entries, IsExclusive, bit, Hold, Next, Continue, Answers, Stepped, Move, Step, Weak, StepKind, plain, again, look, weak, is_again, is_look, by_step, Asked, waits, waits_or_starves, tries, initializes, fails_to_initialize, waits_for_value, polls, meets, encoded, is_step_of, BelongsTo, Said, own_steps, AnyOf, Mark, first_word, Limit, registers_after, limit, may_be_weak, before_weakly, arrived, is_open_next, is_open_now, steps_alone, goes_for, Way, always, by_looks, past_looks, way_of, is_due_by, LooksElse, Gets, MayTryOn, mark_of, if_completed, entries_held, own, failures, changes, IsBeginning, RightAnswer, ContinuesWithin, number_at, Act, load, load_if, load_for, enter, exchange, weak_exchange, attempt, retry, store, section, swap, tried, guessed, either, stays, passing, becomes, retried, step_by, made_if, change_by, can_by, refusal_by, makes_by, is_waiting, look_kind, step_kind_by, Table, begin_of, machine_of, performed, placed, HasPhase, Gives}
+use Rattle.spin_world_core.proofs.Names.{◌≡◌, ℕ, zero, suc, ◌+◌, ◌<◌, ◌≤◌, ◌==◌, Bool, true, false, not, is_some, Option, Some, None, List, [], ◌∷◌, ◌++◌, option_to_list, get_or, if◌then◌else◌, refl, ap, sym, ◌∙◌, subst, arith, and_parts, false≢true, true≢false, eqb-true, Plain, is_empty, Ask, Change, gets, completes, is_open, is_open_to, apply_some, IsOpenStep, entries, IsExclusive, bit, Hold, Next, Continue, Answers, Stepped, Move, Step, Weak, StepKind, plain, again, look, weak, is_again, by_step, Asked, tries, encoded, is_step_of, BelongsTo, Said, own_steps, AnyOf, Mark, first_word, Limit, limit, may_be_weak, before_weakly, arrived, is_open_next, is_open_now, steps_alone, goes_for, Way, way_of, is_due_by, LooksElse, Gets, MayTryOn, mark_of, if_completed, entries_held, own, failures, changes, IsBeginning, RightAnswer, ContinuesWithin, number_at, Act, load, load_if, load_for, enter, exchange, weak_exchange, attempt, retry, store, section, swap, tried, guessed, either, stays, passing, becomes, retried, step_by, made_if, change_by, can_by, refusal_by, makes_by, is_waiting, look_kind, step_kind_by, Table, begin_of, machine_of, performed, placed, HasPhase, Gives}
 use Rattle.spin_world_core.specs.declared.schedule.Outcome.TheVariants as outcome
 use Rattle.spin_world_core.proofs.Facts.{AnswersWithin, InCall, NextIs, NextGives, GoesOnOpen, ContinuesCounted, PointFacts, Facts}
 use Rattle.spin_world_core.proofs.Operating.{made_named, fits_change, fits_made, counted_of, stepwise_of}
 use Rattle.spin_world_core.proofs.Spans.{own-mine, retries-mine}
 use Rattle.spin_world_core.proofs.Stands.{entries_at, stand_of, held_at, stand-mine}
-use Rattle.spin_world_core.proofs.Rows.{Opened, OwesRight, Branch, goes, finds_open, loses, misses, Branched, may_spend, may_try, no_try, tries_open, need, need_of, Needs, rests, peeks, needs-mine, needs_first, rests_undue, spent-mine, goes_within, ends_within, ends_owed, any_map, moment_of, weak_moment_of, Row, IsSound, sound_at, Expects, expects-mine, none_spent, none_expected, known-other, SoundAt}
+use Rattle.spin_world_core.proofs.Rows.{Opened, OwesRight, Branch, goes, finds_open, loses, misses, Branched, may_spend, may_try, no_try, tries_open, need, need_of, Needs, rests, peeks, needs-mine, needs_first, spent-mine, goes_within, ends_within, ends_owed, any_map, moment_of, weak_moment_of, Row, IsSound, sound_at, Expects, expects-mine, none_spent, none_expected, known-other, SoundAt}
 use Rattle.spin_world_core.proofs.Shapes.{Notes, is_answer, row_of, KnowsRow, keeping_of, call_of, At, Means, FindsAnother, FollowsRow, Follows, Owes, OwesRow, goes_by, answers_by, AnswersRow, BeginsRow, BeginsAt, sure_by, aim_by, aim_of, aimed, aimed_at, Pays}
 
 -- a step that completes no closure leaves the value last written
 pub uncompleted : {V : Type 0} (old put : Option V) (step : Option Change) → ((q : ℕ) → step ≡ Some (completes q) → ⊥) → old ≡ if_completed old put step
-uncompleted old put (Some (completes p)) none = absurd (none p refl)
-uncompleted old put _ none = refl
+uncompleted old put step none = grind (arith, none)
 
 abbrev Aimed : {W L A : Type 0} → Asked → Act W L A → List Change → ℕ → Type 0
 Aimed what act made p = aim_by what act p ≡ aimed p (aim_of what made) (aim_by what act p)
@@ -25,9 +24,7 @@ aims_try what act made ask p is none aims = subst (λ cs. Aimed (tries ask) act 
 
 -- only a call that waits goes for anything so
 goes_waiting : (what : Asked) (made : List Change) (ask : Ask) → goes_for what made ≡ Some ask → is_waiting what ≡ true
-goes_waiting (waits a) made ask is = refl
-goes_waiting (waits_or_starves n) made ask is = refl
-goes_waiting _ made ask is = absurd (cc (is))
+goes_waiting what made ask is = grind arith
 
 -- what a step of such a shape comes to; it places no value by itself
 pub record Went {W V C L A : Type 0} (t : Table W V C L A) (n : Notes t) (p : ℕ) (c : C) (h : Option Hold) (s : Plain) (span : List Mark) (st : Stepped W V L A) (step : Option Change) (r : StepKind) : Type 0 where
@@ -41,23 +38,14 @@ pub record Went {W V C L A : Type 0} (t : Table W V C L A) (n : Notes t) (p : �
 
 -- only a call that waits has what it asks open in its present state
 waits_where : (what : Asked) (first : Bool) (k p : ℕ) (s : Plain) → is_open_next what first k p s ≡ true → is_waiting what ≡ true
-waits_where (waits ask) first k p s may = refl
-waits_where (waits_or_starves n) first k p s may = refl
-waits_where initializes first k p s may = refl
-waits_where fails_to_initialize first k p s may = refl
-waits_where waits_for_value first k p s may = refl
-waits_where polls first k p s may = refl
-waits_where meets first k p s may = refl
-waits_where _ first k p s may = absurd (false≢true may)
+waits_where what first k p s may = grind arith
 
 finds_another : (what : Limit) (some : Bool) → some ≡ true → FindsAnother what false some
-finds_another (registers_after n i) some is = (refl, is)
-finds_another _ some is = is
+finds_another what some is = grind arith
 
 -- a look is no exchange that is made again
 no_retry : (b : Bool) → is_again (by_step (either b look plain)) ≡ false
-no_retry true = refl
-no_retry false = refl
+no_retry b = grind arith
 
 abbrev move_of : {C V : Type 0} → Bool → Move C V
 move_of true = Weak
@@ -210,13 +198,11 @@ module _ {W V C L A : Type 0} (t : Table W V C L A) (n : Notes t) (sound_all : (
 
     -- a try goes on only where it may
     made_on : (ask : Ask) (next : Next L A) (d : Change) → GoesOnOpen ask p span s next (Some d)
-    made_on ask (Continue m) d = tt
-    made_on ask (Answers a after) d = tt
+    made_on ask next d = grind arith
 
     module _ (ask : Ask) (is : t.asks c h ≡ tries ask) where
       open_on : (next : Next L A) → is_open_to s p ask ≡ true → GoesOnOpen ask p span s next None
-      open_on (Continue m) may = tries_open ask p span s may
-      open_on (Answers a after) may = tt
+      open_on next may = grind (arith, tries_open ask p span s)
 
       tried_to : (m : L) (r : StepKind) (o : Option Row) → ComesRow None r goes m o → MayTryOn ask p span s
       tried_to m r None follows = absurd follows
@@ -371,9 +357,7 @@ module _ {W V C L A : Type 0} (t : Table W V C L A) (n : Notes t) (sound_all : (
         exchanged (λ u. u) plain (f w) (step p) (won w) (lost w) _ (λ u e is. made_named _ (step p) e is) refl (own (step p) refl) owes.1 owes.2 owes.3
 
     can_is : (i : ℕ) (act : Act W L A) → OwesHere i act → can_by t.memory i act w ≡ true
-    can_is i (store can operation step next) owes = owes.0
-    can_is i (section can f step won lost) owes = owes.0
-    can_is i _ owes = refl
+    can_is i act owes = grind arith
 
     -- a weak exchange is its call's first plain step
     refusal_is : (i : ℕ) (act : Act W L A) (next : Next L A) → OwesHere i act → refusal_by act ≡ Some next
@@ -390,23 +374,11 @@ module _ {W V C L A : Type 0} (t : Table W V C L A) (n : Notes t) (sound_all : (
     due_is : (act : Act W L A) (ask : Ask) (way : Way) (step : Option Change) → Needs (need (Some ask) way (rests act) (peeks act)) p span
         → sure_by act p ≡ aimed p (Some ask) (sure_by act p) → ((e : Change) → sure_by act p ≡ Some e → is_open s e ≡ true → step ≡ Some e)
         → is_due_by way p span ≡ true → is_open_to s p ask ≡ true → step ≡ Some (gets p ask)
-    due_is (enter test to won lost) ask way step needs aim got is may = got (gets p ask) aim may
-    due_is (exchange operation to won lost) ask way step needs aim got is may = got (gets p ask) aim may
-    due_is (weak_exchange k f to won lost) ask way step needs aim got is may = got (gets p ask) aim may
-    due_is (store can operation to next) ask way step needs aim got is may = got (gets p ask) aim may
-    due_is (section can f to won lost) ask way step needs aim got is may = got (gets p ask) aim may
-    due_is act ask way step needs aim got is may = absurd (rests_undue ask way (peeks act) p span needs is)
+    due_is act ask way step needs aim got is may = grind (arith, got (gets p ask))
 
     -- and else it looks
     looks_else : (act : Act W L A) (what : Asked) (ask : Ask) (way : Way) → is_waiting what ≡ true → Needs (need (Some ask) way (rests act) (peeks act)) p span → LooksElse way p span (by_step (step_kind_by what act))
-    looks_else act what ask always waiting needs = tt
-    looks_else act what ask past_looks waiting needs = tt
-    looks_else (load_if test a b) what ask by_looks waiting needs = λ is. ap (λ x. is_look (by_step (either x look plain))) waiting
-    looks_else (load next) what ask by_looks waiting needs = absurd needs
-    looks_else (load_for f step found missed) what ask by_looks waiting needs = absurd needs
-    looks_else (attempt k f step won lost) what ask by_looks waiting needs = absurd needs
-    looks_else (retry k f step won found missed) what ask by_looks waiting needs = absurd needs
-    looks_else _ what ask by_looks waiting needs = λ is. absurd (true≢false (sym needs ∙ is))
+    looks_else act what ask way waiting needs = grind arith
 
     abbrev Soon : Option Row → Type 0
     Soon o = AnswersRow t n p (call_of t n c) l h s w span (answers_by t (steps_alone t.lock_kind (t.asks c h)) w c l h) (is_waiting (t.asks c h)) o

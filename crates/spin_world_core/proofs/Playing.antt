@@ -1,8 +1,7 @@
 -- What has been played of a schedule, at a turn of the loop.
-use Rattle.spin_world_core.proofs.Names.{eq-eqb, ne_eqb, ◌≡◌, ℕ, suc, map, ◌+◌, ◌<◌, ◌≤◌, ◌==◌, ◌&&◌, Bool, true, false, Option, Some, None, List, [], ◌∷◌, ◌++◌, length, slice_set, if◌then◌else◌, unwrap_or, refl, ap, sym, ◌∙◌, arith, subst, ⊎_elim, length-set, take, get_or, length-take-le, zero-add, ∥∥₁_map, cases_lt, true≢false, length-map, take_all, Move, Outcome, Event, Machine, State, Happened, happens, after, events_of, with_begins, last_begin, begins_after, with_begin, is_begun, at_first, CanStep, CanAlways, IsReached}
-use Rattle.spin_world_core.specs.declared.schedule.Outcome.TheVariants as outcome
+use Rattle.spin_world_core.proofs.Names.{◌≡◌, ℕ, suc, map, ◌+◌, ◌<◌, ◌≤◌, ◌==◌, ◌&&◌, true, Option, Some, None, List, [], ◌∷◌, ◌++◌, length, if◌then◌else◌, refl, ap, sym, ◌∙◌, arith, subst, length-set, take, get_or, length-take-le, zero-add, ∥∥₁_map, length-map, take_all, Move, Outcome, Event, Machine, State, Happened, happens, after, events_of, with_begins, last_begin, begins_after, with_begin, is_begun, at_first, CanStep, CanAlways, IsReached}
 use Rattle.spin_world_core.specs.Schedules.{begin_of}
-use Rattle.spin_world_core.proofs.Lists.{get-set, take_next}
+use Rattle.spin_world_core.proofs.Lists.{get-set_within, get-set_other, take_next}
 use Rattle.spin_world_core.proofs.Schedules.{after-append, events_of-append, length-events_of, with_begins-append, last_begin-append, stranger, length-happens}
 
 -- nobody's call has begun
@@ -10,24 +9,12 @@ none_begun : (begins : List (Option ℕ)) (p : ℕ) → begin_of (map (λ b. Non
 none_begun (b ∷ bs) (suc p) = none_begun bs p
 none_begun _ _ = refl
 
-begun_at : (begins : List (Option ℕ)) (p q k : ℕ) (old : Option ℕ) → p < length begins → begin_of begins q ≡ old
-    → begin_of (slice_set begins p (Some k)) q ≡ (if (p == q) && true then Some k else old)
-begun_at begins p q k old lt e =
-    get-set (λ o. unwrap_or o None ≡ (if (p == q) && true then Some k else old)) begins p q (Some k) lt (λ e. rw (eq-eqb p q e) refl)
-    (λ ne. rw (ne_eqb p q ne) e)
-
-never : (b : Bool) (n old : Option ℕ) → old ≡ (if b && false then n else old)
-never true n old = refl
-never false n old = refl
-
 begun_more : {V A : Type 0} (begins : List (Option ℕ)) (p q k : ℕ) (old : Option ℕ) (o : Outcome A V) → (is_begun o ≡ true → p < length begins)
     → begin_of begins q ≡ old → begin_of (begins_after begins p k o) q ≡ (if (p == q) && is_begun o then Some k else old)
-begun_more begins p q k old outcome.Begun lt e = begun_at begins p q k old (lt refl) e
-begun_more begins p q k old _ lt e = e ∙ never (p == q) (Some k) old
+begun_more begins p q k old o lt e = grind (arith, lt, get-set_within begins p (Some k), get-set_other begins p q (Some k))
 
 length-begins_after : {V A : Type 0} (begins : List (Option ℕ)) (p k : ℕ) (o : Outcome A V) → length (begins_after begins p k o) ≡ length begins
-length-begins_after begins p k outcome.Begun = length-set begins p (Some k)
-length-begins_after begins p k _ = refl
+length-begins_after begins p k o = grind (arith, length-set begins p (Some k))
 
 module _ {W V C L A : Type 0} (m : Machine W V C L A) where
   pub record Played (from now : State W V C L) (begins : List (Option ℕ)) (events : List (Event W V A)) (front : List (ℕ × Move C V)) : Type 0 where
@@ -38,9 +25,7 @@ module _ {W V C L A : Type 0} (m : Machine W V C L A) where
 
   -- only a party that exists begins a call
   begins_within : (s : State W V C L) (p : ℕ) (move : Move C V) → is_begun (happens m s p move).outcome ≡ true → p < length s.seats
-  begins_within s p move e =
-      ⊎_elim (λ (lt : p < length s.seats). lt) (λ (ge : length s.seats ≤ p). absurd (true≢false (sym e ∙ ap is_begun (stranger m s p move ge))))
-      (cases_lt p (length s.seats))
+  begins_within s p move e = grind (arith, stranger m s p move)
 
   pub forgotten : (s : State W V C L) (begins now : List (Option ℕ)) → now ≡ map (λ b. None) begins → length begins ≡ length s.seats → Played s s now [] []
   forgotten s begins now is parties =

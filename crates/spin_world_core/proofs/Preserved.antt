@@ -1,6 +1,5 @@
 -- One event keeps all that is promised, of any object that shows its local facts.
-use Rattle.spin_world_core.proofs.Names.{slice_get_within, ◌≡◌, ℕ, ◌<◌, ◌≤◌, ◌==◌, Bool, true, false, Option, Some, None, List, [], ◌∷◌, ◌++◌, suc, if◌then◌else◌, is_some, slice_get, slice_set, refl, ap, sym, ◌∙◌, subst, arith, ne_eqb, true≢false, false≢true, Plain, Ask, Change, completes, apply_some, IsOpenStep, Entries, entries, entries_after, IsExclusive, entries-other, entries-own, exclusive-kept, Hold, Seat, Idle, Calling, Holding, Leaked, Next, Continue, Answers, Move, Begin, Step, Weak, Read, Write, Leak, Outcome, StepKind, is_again, is_weak, by_step, encoded, BelongsTo, tries, Mark, Machine, State, skipped, seated, begun, goes_on, placed, resting, read_by, written_by, may_read, may_write, InItsCall, LeavesCalls, held_at, Seen, Scene, scene_at, scene_of, mark_of, own, own_count, failures, changes, if_completed, is_open_move, entries_of, entries_held, entries_so_far, StandsFor, is_reader, is_writer, MayTouch, MaySkip, is_in_place, ComesTo, IsWeakCall, StepLeaves, OwnSteps, asked, Keeps, IsRight, InTime, IsCounted, IsInTime, UndisturbedTakes, AnsweredSoon, Gets, GetsWhenDue, TriesOn}
-use Rattle.spin_world_core.specs.declared.place.Hold.TheVariants as hold
+use Rattle.spin_world_core.proofs.Names.{slice_get_within, ◌≡◌, ℕ, ◌<◌, ◌≤◌, ◌==◌, Bool, true, false, Option, Some, None, List, [], ◌∷◌, ◌++◌, suc, if◌then◌else◌, is_some, slice_get, slice_set, refl, ap, sym, ◌∙◌, subst, arith, ne_eqb, true≢false, false≢true, Plain, Ask, Change, apply_some, IsOpenStep, Entries, entries, IsExclusive, entries-other, entries-own, exclusive-kept, Hold, Seat, Idle, Calling, Holding, Leaked, Next, Continue, Answers, Move, Begin, Step, Weak, Read, Write, Leak, Outcome, StepKind, is_again, is_weak, by_step, encoded, BelongsTo, tries, Mark, Machine, State, skipped, seated, begun, goes_on, placed, resting, read_by, written_by, may_read, may_write, InItsCall, LeavesCalls, held_at, Seen, Scene, scene_at, scene_of, mark_of, own, own_count, failures, changes, if_completed, is_open_move, entries_of, entries_held, entries_so_far, StandsFor, is_reader, is_writer, MayTouch, MaySkip, is_in_place, ComesTo, IsWeakCall, StepLeaves, OwnSteps, asked, Keeps, IsRight, InTime, IsCounted, IsInTime, UndisturbedTakes, AnsweredSoon, Gets, GetsWhenDue, TriesOn}
 use Rattle.spin_world_core.specs.declared.schedule.Outcome.TheVariants as outcome
 use Rattle.spin_world_core.specs.StepKinds as step_kind
 use Rattle.spin_world_core.proofs.Lists.{get-set, get-set_same, get-set_other, eqb_self}
@@ -12,12 +11,10 @@ use Rattle.spin_world_core.proofs.Events.{seat_with}
 -- whose hold reads the value is a reader in the plain lock, and whose may replace it a writer
 
 pub reader_of : (p : ℕ) (h : Hold) → is_reader (entries_of p h) ≡ may_read h
-reader_of p hold.Read = refl
-reader_of p _ = refl
+reader_of p h = grind arith
 
 pub writer_of : (p : ℕ) (h : Hold) → is_writer (entries_of p h) ≡ may_write h
-writer_of p hold.Read = refl
-writer_of p _ = refl
+writer_of p h = grind arith
 
 -- the party's own seat is x now, and the others' are as they were
 at_seat : {C L : Type 0} (P : ℕ → Option (Seat C L) → Type 0) (seats : List (Seat C L)) (p : ℕ) (x y : Seat C L) → slice_get seats p ≡ Some y
@@ -33,22 +30,16 @@ still_calling seats p x q c l h ne is = get-set_other seats p q x ne ∙ is
 -- a party that doesn't step keeps its entries
 stands_beside : {C L : Type 0} (s : Plain) (p q : ℕ) (step : Option Change) (r : StepKind) (span : List Mark) (o : Option (Seat C L)) → (p ≡ q → ⊥)
     → IsOpenStep s p step → StandsFor s q span o → StandsFor (apply_some s step) q (mark_of p step r s ∷ span) o
-stands_beside s p q step r span (Some (Calling c l h)) ne may stands =
-    let e = entries_so_far q span (entries_held q h) in
-    entries-other s p q step ne may ∙ (stands ∙ sym (ap (λ b. if b then entries_after s step e else e) (ne_eqb p q ne)))
-stands_beside s p q step r span _ ne may stands = entries-other s p q step ne may ∙ stands
+stands_beside s p q step r span o ne may stands = grind (arith, entries-other s p q step ne may)
 
 -- one that steps has made the step alone
 stands_stepped : (s : Plain) (p : ℕ) (step : Option Change) (r : StepKind) (span : List Mark) (e : Entries) → IsOpenStep s p step
     → entries p s ≡ entries_so_far p span e → entries p (apply_some s step) ≡ entries_so_far p (mark_of p step r s ∷ span) e
-stands_stepped s p step r span e may stands =
-    let f = entries_so_far p span e in
-    entries-own s p step may ∙ (ap (entries_after s step) stands ∙ sym (ap (λ b. if b then entries_after s step f else f) (eqb_self p)))
+stands_stepped s p step r span e may stands = grind (arith, entries-own s p step may)
 
 -- only a closure that completes changes the value
 leaves : {V : Type 0} (old new put : Option V) (step : Option Change) → new ≡ if_completed old put step → StepLeaves step old new
-leaves old new put (Some (completes p)) is = tt
-leaves old new put _ is = is
+leaves old new put step is = grind arith
 
 module _ {W V C L A : Type 0} (m : Machine W V C L A) (k : LocalInvariant V C L) where
   -- what holds of a party between two events
@@ -337,8 +328,7 @@ module _ {W V C L A : Type 0} (m : Machine W V C L A) (k : LocalInvariant V C L)
         step_timed s step r v value (Answers a rest) is counted due may = ((tt, leaves seen.state.value v value step is), tt, due, tt)
 
         refusal_timed : (next : Next L A) → Timed Weak None step_kind.weak seen.state.value (goes_on seen.state p c h next).outcome
-        refusal_timed (Continue l') = ((tt, refl), tt, tt, tt)
-        refusal_timed (Answers a rest) = ((tt, refl), tt, tt, tt)
+        refusal_timed next = grind arith
 
         pub step_kept : Preserved (scene_at m seen p Step (Some (Calling c l h)))
         step_kept =
@@ -382,31 +372,21 @@ module _ {W V C L A : Type 0} (m : Machine W V C L A) (k : LocalInvariant V C L)
       begun_kept c l None there is = begun_at c l None Idle there is (standing seen p Idle good there) refl refl refl
       begun_kept c l (Some h) there is = begun_at c l (Some h) (Holding h) there is (standing seen p (Holding h) good there) refl refl refl
 
-      read_at : (h : Hold) (y : Seat C L) → entries p seen.plain ≡ entries_of p h → may_read h ≡ true → is_open_move m seen.state Read (Some y) ≡ true
-          → is_in_place {V = V} {C = C} Read (Some y) ≡ true → Preserved (scene_of seen p Read (Some y) (read_by seen.state true) None step_kind.plain None)
-      read_at h y stands may is_open placed =
-          kept_aside _ good (tt, tt, tt, tt, tt, tt, tt, tt, tt, tt) (λ r e. cc (e, good.written)) (ap is_reader stands ∙ (reader_of p h ∙ may))
-          (λ e. cc (e)) is_open placed
-          (refl, refl) tt (λ q c l h ne is. is)
-
       pub read_kept : (b : Bool) (h : Hold) → slice_get seen.state.seats p ≡ Some (seat_with b h) → may_read h ≡ true
           → Preserved (scene_of seen p Read (Some (seat_with b h)) (read_by seen.state true) None step_kind.plain None)
-      read_kept true h there may = read_at h (Holding h) (with_hold seen p true h good there) may may refl
-      read_kept false h there may = read_at h (Leaked h) (with_hold seen p false h good there) may may refl
-
-      write_at : (v : V) (h : Hold) (y : Seat C L) → entries p seen.plain ≡ entries_of p h → may_write h ≡ true
-          → is_open_move m seen.state (Write v) (Some y) ≡ true
-          → is_in_place {C = C} (Write v) (Some y) ≡ true → Preserved (scene_of seen p (Write v) (Some y) (written_by seen.state v true) None step_kind.plain None)
-      write_at v h y stands may is_open placed =
-          let writes = ap is_writer stands ∙ (writer_of p h ∙ may) in
-          let shape = f.shape_written seen.plain p seen.state.value v writes good.shape in
-          kept_aside _ (record { encodes = good.encodes; shape = shape; exclusive = good.exclusive; written = refl; parties = good.parties })
-          (tt, tt, tt, tt, tt, tt, tt, tt, tt, tt) (λ r e. absurd (cc (e))) writes (λ e. cc (e)) is_open placed (refl, refl) tt (λ q c l h ne is. is)
+      read_kept b h there may =
+          let reads = ap is_reader (with_hold seen p b h good there) ∙ (reader_of p h ∙ may) in
+          kept_aside _ good (tt, tt, tt, tt, tt, tt, tt, tt, tt, tt) (λ r e. cc (e, good.written)) reads (λ e. cc (e)) (grind arith) (grind arith)
+          (refl, refl) tt (λ q c l h ne is. is)
 
       pub write_kept : (v : V) (b : Bool) (h : Hold) → slice_get seen.state.seats p ≡ Some (seat_with b h) → may_write h ≡ true
           → Preserved (scene_of seen p (Write v) (Some (seat_with b h)) (written_by seen.state v true) None step_kind.plain None)
-      write_kept v true h there may = write_at v h (Holding h) (with_hold seen p true h good there) may may refl
-      write_kept v false h there may = write_at v h (Leaked h) (with_hold seen p false h good there) may may refl
+      write_kept v b h there may =
+          let writes = ap is_writer (with_hold seen p b h good there) ∙ (writer_of p h ∙ may) in
+          let shape = f.shape_written seen.plain p seen.state.value v writes good.shape in
+          kept_aside _ (record { encodes = good.encodes; shape = shape; exclusive = good.exclusive; written = refl; parties = good.parties })
+          (tt, tt, tt, tt, tt, tt, tt, tt, tt, tt) (λ r e. absurd (cc (e))) writes (λ e. cc (e)) (grind arith) (grind arith) (refl, refl) tt
+          (λ q c l h ne is. is)
 
       pub leak_kept : (h : Hold) → slice_get seen.state.seats p ≡ Some (Holding h) → Preserved (scene_at m seen p Leak (Some (Holding h)))
       leak_kept h there =

@@ -1,5 +1,5 @@
 -- A transcript tells the scenes, and a place what its party's moves and entries say.
-use Rattle.spin_world_core.proofs.Names.{eq-eqb, ne_eqb, ◌≡◌, ℕ, ◌<◌, ◌≤◌, ◌==◌, Bool, true, false, Option, Some, None, List, [], ◌∷◌, ◌++◌, length, map, slice_get, slice_set, if◌then◌else◌, refl, ap, sym, ◌∙◌, subst, arith, option_map, length-replicate, slice_get-map, slice_get_within, slice_get_cases, Plain, Change, Hold, Place, Seat, Idle, Calling, Holding, Leaked, Gone, Next, Continue, Answers, Move, Begin, Step, Weak, OwnerSet, Outcome, Event, StepKind, by_step, Mark, Machine, opening_plain, State, happens, begun, goes_on, placed, resting, seen_by_owner, owner_writes, events_of, with_begins, with_begin, last_begin, Seen, Scene, scene, scene_of, Every, Keeps, KeepsAll, StandsFor, opening, seen_after, scenes, without_begin, EachTells, TellsAfterAnyPast, Stage, at_rest, in_call, is_gone, stage_by_own, stage_by_owner, let_go_stage, stage_after, StandsAt, PlaceSays, SaysAfterAnyPast}
+use Rattle.spin_world_core.proofs.Names.{eq-eqb, ne_eqb, ◌≡◌, ℕ, ◌<◌, ◌≤◌, ◌==◌, Bool, Option, Some, None, List, [], ◌∷◌, ◌++◌, length, map, slice_get, slice_set, if◌then◌else◌, refl, ap, sym, ◌∙◌, subst, arith, option_map, length-replicate, slice_get-map, slice_get_within, slice_get_cases, Plain, Change, Hold, Place, Seat, Idle, Calling, Holding, Leaked, Gone, Next, Continue, Answers, Move, Step, Weak, OwnerSet, Outcome, Event, StepKind, by_step, Mark, Machine, opening_plain, State, happens, goes_on, placed, resting, seen_by_owner, owner_writes, events_of, with_begins, with_begin, last_begin, Seen, Scene, scene, scene_of, Every, Keeps, KeepsAll, StandsFor, opening, seen_after, scenes, without_begin, EachTells, TellsAfterAnyPast, Stage, at_rest, in_call, is_gone, stage_by_own, stage_by_owner, let_go_stage, stage_after, StandsAt, PlaceSays, SaysAfterAnyPast}
 use Rattle.spin_world_core.specs.declared.schedule.Outcome.TheVariants as outcome
 use Rattle.spin_world_core.specs.StepKinds as step_kind
 use Rattle.spin_world_core.specs.Schedules.{place_of}
@@ -12,19 +12,16 @@ use Rattle.spin_world_core.proofs.Schedules.{length-happens}
 -- The transcript
 
 same_but_begin : {V A : Type 0} (began : Option ℕ) (o : Outcome A V) → without_begin (with_begin began o) ≡ without_begin o
-same_but_begin began outcome.Skipped = refl
-same_but_begin began _ = refl
+same_but_begin began o = grind arith
 
 module _ {W V C L A : Type 0} (m : Machine W V C L A) where
   -- an event of the machine doesn't say where its call began
   no_begin_after : (s : State W V C L) (p : ℕ) (c : C) (h : Option Hold) (next : Next L A)
       → without_begin (goes_on s p c h next).outcome ≡ (goes_on s p c h next).outcome
-  no_begin_after s p c h (Continue l) = refl
-  no_begin_after s p c h (Answers a rest) = refl
+  no_begin_after s p c h next = grind arith
 
   no_begin_set : (s : State W V C L) (v : V) (o : Option V) → without_begin (owner_writes {A = A} s v o).outcome ≡ (owner_writes s v o).outcome
-  no_begin_set s v None = refl
-  no_begin_set s v (Some w) = refl
+  no_begin_set s v o = grind arith
 
   no_begin : (seen : Seen W V C L) (p : ℕ) (move : Move C V) → without_begin (scene m seen p move).outcome ≡ (scene m seen p move).outcome
   no_begin seen p move =
@@ -63,25 +60,18 @@ module _ {W V C L A : Type 0} (m : Machine W V C L A) where
 -- The place
 
 abbrev stage_of : {C L : Type 0} → Option (Seat C L) → Stage
-stage_of None = at_rest
-stage_of (Some Idle) = at_rest
 stage_of (Some (Calling c l h)) = in_call
-stage_of (Some (Holding h)) = at_rest
 stage_of (Some (Leaked h)) = has_leaked
 stage_of (Some (Gone h)) = is_gone
-
-same_either : (b : Bool) (x : Stage) → x ≡ (if b then x else x)
-same_either true x = refl
-same_either false x = refl
+stage_of _ = at_rest
 
 let_go : {C L : Type 0} (o : Option (Seat C L)) → stage_of (option_map seen_by_owner o) ≡ let_go_stage (stage_of o)
-let_go (Some Idle) = refl
-let_go _ = refl
+let_go o = grind arith
 
 -- the owner's look makes every leaked party gone
 let_go_all : {C L : Type 0} (seats : List (Seat C L)) (p : ℕ) (b : Bool)
     → stage_of (slice_get (map seen_by_owner seats) p) ≡ let_go_stage (if b then stage_of (slice_get seats p) else stage_of (slice_get seats p))
-let_go_all seats p b = ap stage_of (slice_get-map seen_by_owner seats p) ∙ (let_go (slice_get seats p) ∙ ap let_go_stage (same_either b (stage_of (slice_get seats p))))
+let_go_all seats p b = grind (arith, slice_get-map seen_by_owner seats p, let_go (slice_get seats p))
 
 none_there : {X : Type 0} (xs : List X) (p : ℕ) → slice_get xs p ≡ None → length xs ≤ p
 none_there xs p e = grind (arith, slice_get_cases)
@@ -108,7 +98,7 @@ module _ {W V C L A : Type 0} (m : Machine W V C L A) where
     stage_now = stage_of (slice_get seen.state.seats p)
 
     stays : stage_now ≡ (if q == p then stage_now else stage_now)
-    stays = same_either (q == p) stage_now
+    stays = grind arith
 
     -- the party q takes the seat x
     moved : (x y : Seat C L) (o : Outcome A V) → slice_get seen.state.seats q ≡ Some y → stage_of (Some x) ≡ stage_by_own o (stage_of (Some y))
@@ -123,25 +113,18 @@ module _ {W V C L A : Type 0} (m : Machine W V C L A) where
         → slice_get seen.state.seats q ≡ Some (Calling c l h)
         → Brings p (scene_of seen q move (Some (Calling c l h)) (goes_on (record seen.state { words = w; value = v }) q c h next) step step_kind value)
     went_on move c l h w v value step step_kind (Continue k) goes answers there = moved (Calling c k h) (Calling c l h) outcome.GoingOn there refl ∙ sym (goes _)
-    went_on move c l h w v value step step_kind (Answers a None) goes answers there =
-        moved Idle (Calling c l h) (outcome.Answered a None) there refl ∙ sym (answers a _)
-    went_on move c l h w v value step step_kind (Answers a (Some g)) goes answers there =
-        moved (Holding g) (Calling c l h) (outcome.Answered a None) there refl ∙ sym (answers a _)
-
-    begun_at : (c : C) (l : L) (h : Option Hold) → slice_get seen.state.seats q ≡ Some (resting h)
-        → Brings p (scene_of seen q (Begin c) (Some (resting h)) (begun seen.state q c h (Some l)) None step_kind.plain None)
-    begun_at c l h there = moved (Calling c l h) (resting h) outcome.Begun there refl
+    went_on move c l h w v value step step_kind (Answers a rest) goes answers there =
+        moved (resting rest) (Calling c l h) (outcome.Answered a None) there (grind arith) ∙ sym (answers a _)
 
     owner_wrote : (v : V) (y : Seat C L) (o : Option V) → Brings p (scene_of seen q (OwnerSet v) (Some y) (owner_writes seen.state v o) None step_kind.plain None)
-    owner_wrote v y None = let_go_all seen.state.seats p (q == p)
-    owner_wrote v y (Some old) = let_go_all seen.state.seats p (q == p)
+    owner_wrote v y o = grind (arith, let_go_all seen.state.seats p (q == p))
 
     brought : (move : Move C V) → Brings p (scene m seen q move)
     brought move =
         of_event m seen q (Brings p)
         (record {
           passes = λ move o r there closed. stays;
-          begins = λ c l h there is. begun_at c l h there;
+          begins = λ c l h there is. moved (Calling c l h) (resting h) outcome.Begun there refl;
           steps =
               λ c l h there. let st =
               m.step seen.state.words seen.state.value c l h in went_on Step c l h st.words (placed st.placed seen.state.value) st.placed

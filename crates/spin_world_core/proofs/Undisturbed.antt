@@ -85,5 +85,4 @@ module _ {W V C L A : Type 0} (m : Machine W V C L A) where
   -- a call that goes on has a step left
   pub more_left : (w : W) (c : C) (l : L) (h : Option Hold) (taken k : ℕ) → taken + k ≤ steps_alone m.lock_kind (m.asks c h) → AnswersWithin m k w c l h
       → taken < steps_alone m.lock_kind (m.asks c h)
-  more_left w c l h taken zero few answers = absurd answers
-  more_left w c l h taken (suc k) few answers = omega (arith, few)
+  more_left w c l h taken k few answers = grind arith
