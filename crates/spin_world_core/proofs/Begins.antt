@@ -2,18 +2,11 @@
 use Rattle.std.proofs.Common.{◌≡◌, ℕ, suc, ◌+◌, ◌||◌, ◌⊎◌, Bool, true, false, Option, Some, None, List, [], ◌∷◌, ◌++◌, length, if◌then◌else◌, refl, ap, sym, ◌∙◌, subst, arith, append_assoc, inl, inr}
 use Rattle.std.specs.List.{list_any}
 use Rattle.std.proofs.lemmas.List.{append-nil, length-append}
-use Rattle.spin_world_core.specs.declared.schedule.Outcome.{Outcome}
 use Rattle.spin_world_core.specs.declared.schedule.Outcome.TheVariants as outcome
 use Rattle.spin_world_core.specs.declared.schedule.Event.{Event}
-use Rattle.spin_world_core.specs.Schedules.{with_begins, with_begin, last_begin, is_begun}
+use Rattle.spin_world_core.specs.Schedules.{with_begins, with_begin, last_begin}
 use Rattle.spin_world_core.specs.Transcripts.{begins_of, IsLastOf, IsLastBegin, TellsBegins}
 use Rattle.spin_world_core.proofs.Schedules.{last_begin-append}
-
-answered : {V A : Type 0} (r b : Option ℕ) (o : Outcome A V) (a : A) → with_begin r o ≡ outcome.Answered a b → b ≡ r
-answered r b o a is = grind arith
-
-begun_still : {V A : Type 0} (r : Option ℕ) (o : Outcome A V) → is_begun (with_begin r o) ≡ is_begun o
-begun_still r o = grind arith
 
 module _ {W V A : Type 0} where
   -- what `last_begin` finds: what was found before, or the last that begins
@@ -42,15 +35,11 @@ module _ {W V A : Type 0} where
   tells before told [] [] e back a b same long is answers = absurd (cc (is))
   tells before told [] (f ∷ fs) e back a b same long is answers = absurd (cc (is))
   tells before told (y ∷ ys) [] e back a b same long is answers =
-      let r = last_begin y.party 0 None before in
-      let here : record y { outcome = with_begin r y.outcome } ≡ e = cc (is) in
-      answered r b y.outcome a (ap (λ (x : Event W V A). x.outcome) here ∙ answers) ∙ (sym (same y.party) ∙ (ap (λ (x : Event W V A). last_begin x.party 0 None told) here ∙ ap (last_begin e.party 0 None) (sym (append-nil told))))
+      grind (arith, same y.party, append-nil told)
   tells before told (y ∷ ys) (f ∷ fs) e back a b same long is answers =
       let r = last_begin y.party 0 None before in
       let here : record y { outcome = with_begin r y.outcome } ≡ f = cc (is) in
       let rest : with_begins (before ++ y ∷ []) ys ≡ fs ++ e ∷ back = cc (is) in
-      let party : f.party ≡ y.party = ap (λ (x : Event W V A). x.party) (sym here) in
-      let begun : is_begun f.outcome ≡ is_begun y.outcome = ap (λ (x : Event W V A). is_begun x.outcome) (sym here) ∙ begun_still r y.outcome in
       let more : (p : ℕ) → last_begin p 0 None (told ++ f ∷ []) ≡ last_begin p 0 None (before ++ y ∷ []) =
       λ p. grind (arith, last_begin-append p 0 None told (f ∷ []), last_begin-append p 0 None before (y ∷ []), same p) in
       tells (before ++ y ∷ []) (told ++ f ∷ []) ys fs e back a b more (omega (arith, long, length-append told (f ∷ []), length-append before (y ∷ []))) rest answers

@@ -1,5 +1,5 @@
 -- Every event of every schedule keeps all that is promised, of any object that shows its local facts.
-use Rattle.spin_world_core.proofs.Names.{◌≡◌, ℕ, Option, Some, None, List, [], ◌∷◌, refl, ap, sym, ◌∙◌, subst, false, arith, true≢false, Seat, Idle, Calling, Holding, Leaked, Move, Begin, Step, Read, Write, Leak, OwnerGet, OwnerSet, Machine, opening_plain, after, at_first, Seen, Scene, scene, is_open_move, is_reader, is_writer, StandsFor, MaySkip, Every, Keeps, IsRight, IsInTime, opening, KeepsAll, MomentsAll, CountsAll, CanStep, seen_after}
+use Rattle.spin_world_core.proofs.Names.{◌≡◌, ℕ, Option, List, [], ◌∷◌, refl, subst, false, arith, Seat, Idle, Move, Machine, opening_plain, after, at_first, Seen, Scene, scene, is_open_move, StandsFor, MaySkip, Every, Keeps, IsRight, IsInTime, opening, KeepsAll, MomentsAll, CountsAll, CanStep, seen_after}
 use Rattle.spin_step.proofs.Exclusive.{exclusive-free}
 use Rattle.spin_world_core.proofs.Lists.{get-replicate}
 use Rattle.spin_world_core.proofs.Facts.{LocalInvariant, Facts}
@@ -18,17 +18,7 @@ module _ {W V C L A : Type 0} (m : Machine W V C L A) where
     -- only what is not open to its party is skipped
     may_pass : (seen : Seen W V C L) (p : ℕ) (move : Move C V) (o : Option (Seat C L)) → StandsFor seen.plain p (seen.span p) o
         → is_open_move m seen.state move o ≡ false → MaySkip m seen p move o
-    may_pass seen p (Begin c) (Some Idle) stands closed = sym (f.stepwise.begins c None) ∙ closed
-    may_pass seen p (Begin c) (Some (Holding h)) stands closed = sym (f.stepwise.begins c (Some h)) ∙ closed
-    may_pass seen p Step (Some (Calling c l h)) stands closed = absurd (true≢false closed)
-    may_pass seen p Read (Some (Holding h)) stands closed = ap is_reader stands ∙ (reader_of p h ∙ closed)
-    may_pass seen p Read (Some (Leaked h)) stands closed = ap is_reader stands ∙ (reader_of p h ∙ closed)
-    may_pass seen p (Write v) (Some (Holding h)) stands closed = ap is_writer stands ∙ (writer_of p h ∙ closed)
-    may_pass seen p (Write v) (Some (Leaked h)) stands closed = ap is_writer stands ∙ (writer_of p h ∙ closed)
-    may_pass seen p Leak (Some (Holding h)) stands closed = absurd (true≢false closed)
-    may_pass seen p OwnerGet (Some y) stands closed = none_owns m seen closed
-    may_pass seen p (OwnerSet v) (Some y) stands closed = none_owns m seen closed
-    may_pass seen p _ _ stands closed = tt
+    may_pass seen p move o stands closed = grind (arith, f.stepwise.begins, reader_of p, writer_of p, none_owns m seen)
 
     -- one event
     pub kept : (seen : Seen W V C L) (p : ℕ) (move : Move C V) → Invariant m k seen → Preserved m k (scene m seen p move)

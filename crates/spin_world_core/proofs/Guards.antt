@@ -1,5 +1,5 @@
 -- What a party finds under one guard stays as it is.
-use Rattle.spin_world_core.proofs.Names.{slice_get_within, ◌≡◌, ℕ, ◌==◌, ◌&&◌, ◌||◌, Bool, true, false, not, Option, Some, None, List, [], ◌∷◌, ◌++◌, map, slice_get, slice_set, refl, arith, ap, sym, ◌∙◌, subst, list_all, option_map, eq-eqb, and_parts, true≢false, false≢true, slice_get-map, Plain, Change, completes, entries, is_held, Hold, Seat, Calling, Holding, Leaked, Gone, Next, Continue, Answers, Move, Step, Weak, Read, OwnerSet, StepKind, plain, weak, by_step, Mark, Machine, State, moves_at, goes_on, placed, resting, may_read, may_write, yields_to_owner, seen_by_owner, owner_writes, Seen, Scene, scene, scene_at, scene_of, if_completed, StandsFor, is_reader, is_writer, opening, seen_after, is_quiet_move, is_quiet, ReadsAgreeAcross, ReadsAgree}
+use Rattle.spin_world_core.proofs.Names.{slice_get_within, ◌≡◌, ℕ, ◌==◌, ◌||◌, Bool, true, false, not, Option, Some, None, List, [], ◌∷◌, ◌++◌, map, slice_get, slice_set, refl, arith, ap, sym, ◌∙◌, subst, list_all, option_map, and_parts, true≢false, false≢true, slice_get-map, Plain, Change, completes, entries, is_held, Hold, Seat, Calling, Holding, Leaked, Gone, Next, Continue, Answers, Move, Step, Weak, Read, OwnerSet, StepKind, plain, weak, by_step, Mark, Machine, State, moves_at, goes_on, placed, resting, may_read, may_write, yields_to_owner, seen_by_owner, owner_writes, Seen, Scene, scene, scene_at, scene_of, if_completed, StandsFor, is_reader, is_writer, opening, seen_after, is_quiet_move, is_quiet, ReadsAgreeAcross, ReadsAgree}
 use Rattle.spin_world_core.specs.declared.schedule.Outcome.TheVariants as outcome
 use Rattle.spin_world_core.proofs.Lists.{eqb_self, get-set}
 use Rattle.spin_world_core.proofs.Facts.{LocalInvariant, KnowsAt, Facts}
@@ -147,9 +147,6 @@ module _ {W V C L A : Type 0} (m : Machine W V C L A) where
           })
           move quiet
 
-    quiet_here : (p q : ℕ) (b rest : Bool) → ((not (q == p) || b) && rest) ≡ true → q ≡ p → b ≡ true
-    quiet_here p q b rest e is = ap (λ x. not x || b) (sym (eq-eqb q p is)) ∙ (and_parts (not (q == p) || b) rest e).0
-
     guard_through : (seen : Seen W V C L) (p : ℕ) (es : List (ℕ × Move C V)) → Invariant m k seen → is_quiet r.keeps p es ≡ true
         → Guard r seen.written (slice_get seen.state.seats p)
         → Guard r (seen_after m seen es).written (slice_get (seen_after m seen es).state.seats p)
@@ -157,7 +154,7 @@ module _ {W V C L A : Type 0} (m : Machine W V C L A) where
     guard_through seen p (e ∷ es) good quiet guard =
         guard_through (scene m seen e.0 e.1).after p es (kept m k f seen e.0 e.1 good).good
         (and_parts (not (e.0 == p) || is_quiet_move r.keeps e.1) (is_quiet r.keeps p es) quiet).1
-        (guard_kept seen p e.0 good guard e.1 (quiet_here p e.0 (is_quiet_move r.keeps e.1) (is_quiet r.keeps p es) quiet))
+        (guard_kept seen p e.0 good guard e.1 (λ is. grind arith))
 
   -- a party that finds a value has a guard
   module _ (s : State W V C L) (p : ℕ) where

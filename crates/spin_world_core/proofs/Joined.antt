@@ -1,5 +1,5 @@
 -- Runs one after the other are one run.
-use Rattle.spin_world_core.proofs.Names.{◌≡◌, ℕ, suc, ◌+◌, ◌<◌, ◌≤◌, ◌==◌, ◌&&◌, Bool, Option, Some, None, List, [], ◌∷◌, ◌++◌, length, map, take, drop, if◌then◌else◌, refl, ap, sym, ◌∙◌, subst, arith, append_assoc, append-nil, take-append-drop, take-append_seam, drop-append_seam, Move, Outcome, Event, Machine, State, after, at_first, events_of, with_begins, with_begin, last_begin, is_begun, Seen, Scene, scene, opening, AfterAnyPast, seen_after, Lawful, scenes, EachTells, TellsAfterAnyPast, Promised, began_from, outcome_from, event_from, IsCut, joined, after_runs, transcripts_of, RunsAreOne}
+use Rattle.spin_world_core.proofs.Names.{◌≡◌, ℕ, suc, ◌+◌, ◌≤◌, ◌==◌, ◌&&◌, Option, Some, None, List, [], ◌∷◌, ◌++◌, length, map, take, drop, if◌then◌else◌, refl, ap, sym, ◌∙◌, subst, arith, append_assoc, append-nil, take-append-drop, take-append_seam, drop-append_seam, Move, Event, Machine, State, after, at_first, events_of, with_begins, last_begin, is_begun, Seen, Scene, scene, opening, AfterAnyPast, seen_after, Lawful, scenes, EachTells, TellsAfterAnyPast, Promised, began_from, event_from, IsCut, joined, after_runs, transcripts_of, RunsAreOne}
 use Rattle.spin_world_core.proofs.Schedules.{after-append, events_of-append, seen_after-append, length-events_of, with_begins-append, last_begin-append}
 use Rattle.spin_world_core.proofs.Transcripts.{tells_after}
 
@@ -27,20 +27,13 @@ module _ {W V C L A : Type 0} (m : Machine W V C L A) where
 
 -- Where calls began
 
-either_none : (b : Bool) (start k : ℕ) (found : Option ℕ) → k < start → began_from start found ≡ None → began_from start (if b then Some k else found) ≡ None
-either_none b start k found lt none = grind arith
-
 -- nothing is told of a call that began before the start
 none_from : {W V A : Type 0} (start p k : ℕ) (found : Option ℕ) (xs : List (Event W V A)) → k + length xs ≤ start → began_from start found ≡ None
     → began_from start (last_begin p k found xs) ≡ None
 none_from start p k found [] le none = none
 none_from start p k found (x ∷ xs) le none =
     let b = (x.party == p) && is_begun x.outcome in
-    none_from start p (k + 1) (if b then Some k else found) xs (omega arith) (either_none b start k found (omega arith) none)
-
-either_from : (b : Bool) (start k : ℕ) (found here : Option ℕ) → began_from start found ≡ here
-    → began_from start (if b then Some (start + k) else found) ≡ (if b then Some k else here)
-either_from b start k found here is = grind arith
+    grind (arith, none_from start p (k + 1) (if b then Some k else found) xs)
 
 -- and of one that began later its place from there
 last_from : {W V A : Type 0} (start p k : ℕ) (found here : Option ℕ) (xs : List (Event W V A)) → began_from start found ≡ here
@@ -48,17 +41,12 @@ last_from : {W V A : Type 0} (start p k : ℕ) (found here : Option ℕ) (xs : L
 last_from start p k found here [] is = is
 last_from start p k found here (x ∷ xs) is =
     let b = (x.party == p) && is_begun x.outcome in
-    grind (arith, last_from start p (k + 1) (if b then Some (start + k) else found) (if b then Some k else here) xs (either_from b start k found here is))
+    grind (arith, last_from start p (k + 1) (if b then Some (start + k) else found) (if b then Some k else here) xs)
 
 begin_from : {W V A : Type 0} (p : ℕ) (xs ys : List (Event W V A)) → began_from (length xs) (last_begin p 0 None (xs ++ ys)) ≡ last_begin p 0 None ys
 begin_from p xs ys =
     let n = length xs in
-    ap (began_from n) (last_begin-append p 0 None xs ys ∙ ap (λ k. last_begin p k (last_begin p 0 None xs) ys) (omega arith))
-    ∙ last_from n p 0 (last_begin p 0 None xs) None ys (none_from n p 0 None xs (omega arith) refl)
-
-with_begin_from : {V A : Type 0} (start : ℕ) (began here : Option ℕ) (o : Outcome A V) → began_from start began ≡ here
-    → with_begin here o ≡ outcome_from start (with_begin began o)
-with_begin_from start began here o is = grind arith
+    grind (arith, last_begin-append p 0 None xs ys, last_from n p 0 (last_begin p 0 None xs) None ys, none_from n p 0 None xs)
 
 length-with_begins : {W V A : Type 0} (before xs : List (Event W V A)) → length (with_begins before xs) ≡ length xs
 length-with_begins before [] = refl
@@ -68,9 +56,7 @@ length-with_begins before (x ∷ xs) = ap suc (length-with_begins (before ++ x �
 with_begins_from : {W V A : Type 0} (xs before ys : List (Event W V A)) → with_begins before ys ≡ map (event_from (length xs)) (with_begins (xs ++ before) ys)
 with_begins_from xs before [] = refl
 with_begins_from xs before (y ∷ ys) =
-    let began = last_begin y.party 0 None (xs ++ before) in
-    let here = with_begin_from (length xs) began (last_begin y.party 0 None before) y.outcome (begin_from y.party xs before) in
-    grind (arith, here, with_begins_from xs (before ++ y ∷ []) ys, append_assoc xs before (y ∷ []))
+    grind (arith, begin_from y.party xs before, with_begins_from xs (before ++ y ∷ []) ys, append_assoc xs before (y ∷ []))
 
 -- a run that is cut in two
 cut_in_two : {W V C L A : Type 0} (m : Machine W V C L A) (s : State W V C L) (first second : List (ℕ × Move C V)) (place : ℕ) (es fs : List (Event W V A))
@@ -100,8 +86,7 @@ module _ {O W V C L A : Type 0} (machine : O → Machine W V C L A) (old now : O
 
   pub state_on : (end : State W V C L) → PlaysOn → end ≡ after (machine now) between second → end ≡ after (machine old) s schedule
   state_on end on is =
-      is ∙ (ap (λ o. after (machine o) between second) on.object
-      ∙ (ap (λ t. after (machine old) t second) on.between_is ∙ (sym (after-append (machine old) s first second) ∙ ap (after (machine old) s) on.whole)))
+      grind (arith, is, on.object, on.between_is, on.whole, after-append (machine old) s first second)
 
   pub events_on : (place : ℕ) (es fs : List (Event W V A)) → PlaysOn → length first ≡ place → es ≡ with_begins [] (events_of (machine old) s first)
       → fs ≡ with_begins [] (events_of (machine now) between second) → IsCut place (with_begins [] (events_of (machine old) s schedule)) es fs

@@ -1,6 +1,6 @@
 -- What shows that a lock is wrong: the parts of a claim that fail, four steps of a party that nobody disturbs, and a step that no one operation is.
-use Rattle.std.proofs.Common.{◌≡◌, ℕ, zero, ◌+◌, ◌-◌, ◌<◌, ◌⊎◌, ◌==◌, Bool, true, false, List, [], ◌∷◌, ◌++◌, slice_set, get_or, if◌then◌else◌, refl, inl, inr, subst, arith, ⊎_elim}
-use Rattle.std.proofs.lemmas.Bool.{true≢false, eqb-true}
+use Rattle.std.proofs.Common.{◌≡◌, ℕ, zero, ◌+◌, ◌-◌, ◌<◌, ◌⊎◌, true, false, List, [], ◌∷◌, ◌++◌, slice_set, get_or, refl, subst, arith, ⊎_elim}
+use Rattle.std.proofs.lemmas.Bool.{true≢false}
 use Rattle.spin_world_core.specs.StepKinds.{is_weak}
 use Rattle.spin_world_core.specs.Calls.{LockKind, Asked, Mark}
 use Rattle.spin_world_core.specs.Spans.{own_count}
@@ -42,11 +42,7 @@ Becomes i operation w to = to ∷ [] ≡ slice_set (w ∷ []) i (performed opera
 
 -- an exchange that changes a word found the number that it is for
 exchanged : (from to w x : ℕ) → x ≡ performed (exchanges from to) w → (w ≡ from) ⊎ (x ≡ w)
-exchanged from to w x is = at_number (w == from) refl is
-  where
-    at_number : (b : Bool) → (w == from) ≡ b → x ≡ (if b then to else w) → (w ≡ from) ⊎ (x ≡ w)
-    at_number true same gives = inl (eqb-true w from same)
-    at_number false other gives = inr gives
+exchanged from to w x is = grind arith
 
 -- no one operation adds d twice and then leaves a full word
 pub no_operation : (i : ℕ) (operation : Operation) (d full : ℕ) → 0 < d → Becomes i operation 0 d → Becomes i operation d (d + d) → Becomes i operation full full → ⊥

@@ -1,11 +1,11 @@
 -- An object that pays what its table owes shows all local facts.
-use Rattle.spin_world_core.proofs.Names.{◌≡◌, ℕ, zero, suc, ◌+◌, ◌<◌, ◌≤◌, ◌==◌, Bool, true, false, not, is_some, Option, Some, None, List, [], ◌∷◌, ◌++◌, option_to_list, get_or, if◌then◌else◌, refl, ap, sym, ◌∙◌, subst, arith, and_parts, false≢true, true≢false, eqb-true, Plain, is_empty, Ask, Change, gets, completes, is_open, is_open_to, apply_some, IsOpenStep, entries, IsExclusive, bit, Hold, Next, Continue, Answers, Stepped, Move, Step, Weak, StepKind, plain, again, look, weak, is_again, by_step, Asked, tries, encoded, is_step_of, BelongsTo, Said, own_steps, AnyOf, Mark, first_word, Limit, limit, may_be_weak, before_weakly, arrived, is_open_next, is_open_now, steps_alone, goes_for, Way, way_of, is_due_by, LooksElse, Gets, MayTryOn, mark_of, if_completed, entries_held, own, failures, changes, IsBeginning, RightAnswer, ContinuesWithin, number_at, Act, load, load_if, load_for, enter, exchange, weak_exchange, attempt, retry, store, section, swap, tried, guessed, either, stays, passing, becomes, retried, step_by, made_if, change_by, can_by, refusal_by, makes_by, is_waiting, look_kind, step_kind_by, Table, begin_of, machine_of, performed, placed, HasPhase, Gives}
+use Rattle.spin_world_core.proofs.Names.{◌≡◌, ℕ, zero, suc, ◌+◌, ◌<◌, ◌≤◌, ◌==◌, Bool, true, false, not, is_some, Option, Some, None, List, [], ◌∷◌, ◌++◌, option_to_list, get_or, if◌then◌else◌, refl, ap, sym, ◌∙◌, subst, arith, and_parts, false≢true, true≢false, eqb-true, Plain, is_empty, Ask, Change, gets, completes, is_open, is_open_to, apply_some, IsOpenStep, entries, IsExclusive, bit, Hold, Next, Continue, Answers, Stepped, Move, Step, Weak, StepKind, plain, again, look, weak, is_again, by_step, Asked, tries, encoded, is_step_of, BelongsTo, Said, own_steps, AnyOf, Mark, first_word, Limit, limit, may_be_weak, before_weakly, arrived, is_open_next, is_open_now, steps_alone, goes_for, Way, way_of, is_due_by, LooksElse, Gets, mark_of, if_completed, entries_held, own, failures, changes, IsBeginning, RightAnswer, ContinuesWithin, number_at, Act, load, load_if, load_for, enter, exchange, weak_exchange, attempt, retry, store, section, swap, tried, guessed, either, stays, passing, becomes, retried, step_by, made_if, change_by, can_by, refusal_by, makes_by, is_waiting, look_kind, step_kind_by, Table, begin_of, machine_of, performed, placed, HasPhase}
 use Rattle.spin_world_core.specs.declared.schedule.Outcome.TheVariants as outcome
 use Rattle.spin_world_core.proofs.Facts.{AnswersWithin, InCall, NextIs, NextGives, GoesOnOpen, ContinuesCounted, PointFacts, Facts}
 use Rattle.spin_world_core.proofs.Operating.{made_named, fits_change, fits_made, counted_of, stepwise_of}
 use Rattle.spin_world_core.proofs.Spans.{own-mine, retries-mine}
 use Rattle.spin_world_core.proofs.Stands.{entries_at, stand_of, held_at, stand-mine}
-use Rattle.spin_world_core.proofs.Rows.{Opened, OwesRight, Branch, goes, finds_open, loses, misses, Branched, may_spend, may_try, no_try, tries_open, need, need_of, Needs, rests, peeks, needs-mine, needs_first, spent-mine, goes_within, ends_within, ends_owed, any_map, moment_of, weak_moment_of, Row, IsSound, sound_at, Expects, expects-mine, none_spent, none_expected, known-other, SoundAt}
+use Rattle.spin_world_core.proofs.Rows.{Opened, OwesRight, Branch, goes, finds_open, loses, misses, Branched, may_spend, tries_open, need, need_of, Needs, rests, peeks, needs-mine, needs_first, spent-mine, goes_within, ends_within, ends_owed, any_map, moment_of, weak_moment_of, Row, IsSound, sound_at, Expects, expects-mine, none_spent, none_expected, known-other, SoundAt}
 use Rattle.spin_world_core.proofs.Shapes.{Notes, is_answer, row_of, KnowsRow, keeping_of, call_of, At, Means, FindsAnother, FollowsRow, Follows, Owes, OwesRow, goes_by, answers_by, AnswersRow, BeginsRow, BeginsAt, sure_by, aim_by, aim_of, aimed, aimed_at, Pays}
 
 -- a step that completes no closure leaves the value last written
@@ -16,8 +16,7 @@ abbrev Aimed : {W L A : Type 0} → Asked → Act W L A → List Change → ℕ 
 Aimed what act made p = aim_by what act p ≡ aimed p (aim_of what made) (aim_by what act p)
 
 aims_sure : {W L A : Type 0} (what : Asked) (act : Act W L A) (made : List Change) (ask : Ask) (p : ℕ) → goes_for what made ≡ Some ask → Aimed what act made p → sure_by act p ≡ aimed p (Some ask) (sure_by act p)
-aims_sure (tries a) act made ask p is aims = absurd (cc (is))
-aims_sure _ act made ask p is aims = aims ∙ ap (λ o. aimed p o (sure_by act p)) is
+aims_sure what act made ask p is aims = grind arith
 
 aims_try : {W L A : Type 0} (what : Asked) (act : Act W L A) (made : List Change) (ask : Ask) (p : ℕ) → what ≡ tries ask → made ≡ [] → Aimed what act made p → aim_by (tries ask) act p ≡ aimed p (Some ask) (aim_by (tries ask) act p)
 aims_try what act made ask p is none aims = subst (λ cs. Aimed (tries ask) act cs p) none (subst (λ k. Aimed k act made p) is aims)
@@ -204,21 +203,11 @@ module _ {W V C L A : Type 0} (t : Table W V C L A) (n : Notes t) (sound_all : (
       open_on : (next : Next L A) → is_open_to s p ask ≡ true → GoesOnOpen ask p span s next None
       open_on next may = grind (arith, tries_open ask p span s)
 
-      tried_to : (m : L) (r : StepKind) (o : Option Row) → ComesRow None r goes m o → MayTryOn ask p span s
-      tried_to m r None follows = absurd follows
-      tried_to m r (Some to) follows = may_try (t.asks c h) ask p s span _ is follows.2
-
       tried_on : (r : StepKind) (next : Next L A) → Comes false None r goes next → GoesOnOpen ask p span s next None
-      tried_on r (Continue m) follows = tried_to m r (row_of t n c m h) follows
-      tried_on r (Answers a after) follows = tt
-
-      missed_to : (m : L) (r : StepKind) (d : Change) (o : Option Row) → ComesRow None r (misses d) m o → MayTryOn ask p span s
-      missed_to m r d None follows = absurd follows
-      missed_to m r d (Some to) follows = absurd (no_try (t.asks c h) ask d None p s span _ is follows.2)
+      tried_on r next follows = grind (arith, is)
 
       missed_on : (r : StepKind) (d : Change) (next : Next L A) → Comes false None r (misses d) next → GoesOnOpen ask p span s next None
-      missed_on r d (Continue m) follows = missed_to m r d (row_of t n c m h) follows
-      missed_on r d (Answers a after) follows = tt
+      missed_on r d next follows = grind (arith, is)
 
     -- what is shown of a step: its plain step by the words is `change`, `sure` the one that it makes wherever that is open, and `aim` the one of a try
     record Done (st : Stepped W V L A) (step : Option Change) (r : StepKind) (change : W → Option Change) (sure : Option Change)
@@ -267,8 +256,7 @@ module _ {W V C L A : Type 0} (t : Table W V C L A) (n : Notes t) (sound_all : (
         → Comes false (Some d) r goes won
         → (is_open s d ≡ false → Comes false None r (misses d) lost) → Done (becomes put w o won lost) (made_if o d) r change (Some d) (λ ask. Some d)
     exchanged put r None d won lost change names single own means f g =
-        let closed : (e : Change) → Some d ≡ Some e → is_open s e ≡ true → ⊥ = λ e is may. let same : d ≡ e = cc (is) in true≢false
-        (sym may ∙ (sym (ap (is_open s) same) ∙ means)) in
+        let closed : (e : Change) → Some d ≡ Some e → is_open s e ≡ true → ⊥ = λ e is may. grind arith in
         record {
           went = stay_is r (misses d) lost means (unretried single) (g means);
           counted = counted_of change s lost None r (λ u e is may none. absurd (closed e (names u e is) may));
@@ -477,8 +465,7 @@ module _ {W V C L A : Type 0} (t : Table W V C L A) (n : Notes t) (pays : Pays t
   no_completion p c l h w q is = true≢false (sym (fits_change t pays.fits pays.operates p c l h _ w (completes q) is).0 ∙ no_value)
 
   silent : (v : Option V) (next : Next L A) → NextGives (machine_of t) v next
-  silent v (Continue l) = tt
-  silent v (Answers a after) = subst (λ made. Gives made (t.says a) None v) (sym no_value) tt
+  silent v next = grind (arith, no_value)
 
   at_point : (p : ℕ) (c : C) (l : L) (h : Option Hold) (s : Plain) (v : Option V) (w : W) (span : List Mark)
       → InCall (machine_of t) (keeping_of t n) p c l h s v w span

@@ -1,13 +1,12 @@
 -- What has been played of a schedule, at a turn of the loop.
-use Rattle.spin_world_core.proofs.Names.{◌≡◌, ℕ, suc, map, ◌+◌, ◌<◌, ◌≤◌, ◌==◌, ◌&&◌, true, Option, Some, None, List, [], ◌∷◌, ◌++◌, length, if◌then◌else◌, refl, ap, sym, ◌∙◌, arith, subst, length-set, take, get_or, length-take-le, zero-add, ∥∥₁_map, length-map, take_all, Move, Outcome, Event, Machine, State, Happened, happens, after, events_of, with_begins, last_begin, begins_after, with_begin, is_begun, at_first, CanStep, CanAlways, IsReached}
+use Rattle.spin_world_core.proofs.Names.{slice_get-map, ◌≡◌, ℕ, map, ◌+◌, ◌<◌, ◌≤◌, ◌==◌, ◌&&◌, true, Option, Some, None, List, [], ◌∷◌, ◌++◌, length, if◌then◌else◌, refl, ap, sym, ◌∙◌, arith, subst, length-set, take, get_or, length-take-le, zero-add, ∥∥₁_map, length-map, take_all, Move, Outcome, Event, Machine, State, Happened, happens, after, events_of, with_begins, last_begin, begins_after, with_begin, is_begun, at_first, CanStep, CanAlways, IsReached}
 use Rattle.spin_world_core.specs.Schedules.{begin_of}
 use Rattle.spin_world_core.proofs.Lists.{get-set_within, get-set_other, take_next}
 use Rattle.spin_world_core.proofs.Schedules.{after-append, events_of-append, length-events_of, with_begins-append, last_begin-append, stranger, length-happens}
 
 -- nobody's call has begun
 none_begun : (begins : List (Option ℕ)) (p : ℕ) → begin_of (map (λ b. None) begins) p ≡ None
-none_begun (b ∷ bs) (suc p) = none_begun bs p
-none_begun _ _ = refl
+none_begun begins p = grind (arith, slice_get-map {B = Option ℕ} (λ b. None) begins p)
 
 begun_more : {V A : Type 0} (begins : List (Option ℕ)) (p q k : ℕ) (old : Option ℕ) (o : Outcome A V) → (is_begun o ≡ true → p < length begins)
     → begin_of begins q ≡ old → begin_of (begins_after begins p k o) q ≡ (if (p == q) && is_begun o then Some k else old)
@@ -50,14 +49,12 @@ module _ {W V C L A : Type 0} (m : Machine W V C L A) where
       record {
         table = ap (λ h. h.next) is ∙ sym (after-append m from front ((p, move) ∷ []));
         with_begins_so =
-            rw (all, is, played.with_begins_so, played.begun_so p) (sym (with_begins-append [] (events_of m from front) (event ∷ [])));
+            grind (arith, all, is, played.with_begins_so, played.begun_so p, with_begins-append [] (events_of m from front) (event ∷ []));
         begun_so = λ q.
             rw (all, last_begin-append q 0 None (events_of m from front) (event ∷ []), length-events_of m from front, is, zero-add)
             (begun_more begins p q (length front) (last_begin q 0 None (events_of m from front)) (happens m (after m from front) p move).outcome
             (λ e. omega (arith, begins_within (after m from front) p move e, played.parties)) (played.begun_so q));
-        parties =
-            length-begins_after begins p (length front) h.outcome ∙ (played.parties
-            ∙ (sym (length-happens m (after m from front) p move) ∙ ap (λ (g : Happened W V C L A). length g.next.seats) (sym is)));
+        parties = grind (arith, length-begins_after begins p (length front) h.outcome, played.parties, length-happens m (after m from front) p move, is);
       }
 
   pub played_next : (from now next : State W V C L) (begins begins' : List (Option ℕ)) (events events' : List (Event W V A)) (schedule : List (ℕ × Move C V))

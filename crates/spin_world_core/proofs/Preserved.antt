@@ -1,5 +1,5 @@
 -- One event keeps all that is promised, of any object that shows its local facts.
-use Rattle.spin_world_core.proofs.Names.{slice_get_within, ◌≡◌, ℕ, ◌<◌, ◌≤◌, ◌==◌, Bool, true, false, Option, Some, None, List, [], ◌∷◌, ◌++◌, suc, if◌then◌else◌, is_some, slice_get, slice_set, refl, ap, sym, ◌∙◌, subst, arith, ne_eqb, true≢false, false≢true, Plain, Ask, Change, apply_some, IsOpenStep, Entries, entries, IsExclusive, entries-other, entries-own, exclusive-kept, Hold, Seat, Idle, Calling, Holding, Leaked, Next, Continue, Answers, Move, Begin, Step, Weak, Read, Write, Leak, Outcome, StepKind, is_again, is_weak, by_step, encoded, BelongsTo, tries, Mark, Machine, State, skipped, seated, begun, goes_on, placed, resting, read_by, written_by, may_read, may_write, InItsCall, LeavesCalls, held_at, Seen, Scene, scene_at, scene_of, mark_of, own, own_count, failures, changes, if_completed, is_open_move, entries_of, entries_held, entries_so_far, StandsFor, is_reader, is_writer, MayTouch, MaySkip, is_in_place, ComesTo, IsWeakCall, StepLeaves, OwnSteps, asked, Keeps, IsRight, InTime, IsCounted, IsInTime, UndisturbedTakes, AnsweredSoon, Gets, GetsWhenDue, TriesOn}
+use Rattle.spin_world_core.proofs.Names.{slice_get_within, ◌≡◌, ℕ, ◌<◌, ◌≤◌, ◌==◌, Bool, true, false, Option, Some, None, List, [], ◌∷◌, ◌++◌, suc, if◌then◌else◌, is_some, slice_get, slice_set, refl, ap, sym, ◌∙◌, subst, arith, ne_eqb, true≢false, false≢true, Plain, Ask, Change, apply_some, IsOpenStep, Entries, entries, IsExclusive, entries-other, entries-own, exclusive-kept, Hold, Seat, Calling, Holding, Leaked, Next, Continue, Answers, Move, Begin, Step, Weak, Read, Write, Leak, Outcome, StepKind, is_again, is_weak, by_step, encoded, BelongsTo, tries, Mark, Machine, State, skipped, seated, begun, goes_on, placed, resting, read_by, written_by, may_read, may_write, InItsCall, LeavesCalls, Seen, Scene, scene_at, scene_of, mark_of, own, own_count, failures, changes, if_completed, is_open_move, entries_of, entries_held, entries_so_far, StandsFor, is_reader, is_writer, MayTouch, MaySkip, is_in_place, ComesTo, IsWeakCall, StepLeaves, OwnSteps, asked, Keeps, IsRight, InTime, IsCounted, IsInTime, UndisturbedTakes, AnsweredSoon, Gets, GetsWhenDue, TriesOn}
 use Rattle.spin_world_core.specs.declared.schedule.Outcome.TheVariants as outcome
 use Rattle.spin_world_core.specs.StepKinds as step_kind
 use Rattle.spin_world_core.proofs.Lists.{get-set, get-set_same, get-set_other, eqb_self}
@@ -63,8 +63,7 @@ module _ {W V C L A : Type 0} (m : Machine W V C L A) (k : LocalInvariant V C L)
 
   pub with_hold : (seen : Seen W V C L) (p : ℕ) (b : Bool) (h : Hold) → Invariant seen → slice_get seen.state.seats p ≡ Some (seat_with b h)
       → entries p seen.plain ≡ entries_of p h
-  with_hold seen p true h good there = standing seen p (Holding h) good there
-  with_hold seen p false h good there = standing seen p (Leaked h) good there
+  with_hold seen p b h good there = grind (arith, standing seen p (seat_with b h) good there)
 
   pub in_call : (seen : Seen W V C L) (p : ℕ) (c : C) (l : L) (h : Option Hold) → Invariant seen → slice_get seen.state.seats p ≡ Some (Calling c l h)
       → InCall m k p c l h seen.plain seen.state.value seen.state.words (seen.span p)
@@ -87,8 +86,7 @@ module _ {W V C L A : Type 0} (m : Machine W V C L A) (k : LocalInvariant V C L)
   -- of a party in no call
   rests : (w : W) (s : Plain) (p : ℕ) (span : List Mark) (after : Option Hold) → entries p s ≡ entries_held p after
       → failures p span ≤ changes m.lock_kind p span → OfParty w s p span (Some (resting after))
-  rests w s p span None stands retries = record { stands = stands; knows = tt; retries = retries; undisturbed = tt }
-  rests w s p span (Some h) stands retries = record { stands = stands; knows = tt; retries = retries; undisturbed = tt }
+  rests w s p span after stands retries = record { stands = grind arith; knows = grind arith; retries = retries; undisturbed = grind arith }
 
   -- after a party has taken another seat, without a step
   good_seated : (seen : Seen W V C L) (p : ℕ) (x y : Seat C L) (span : ℕ → List Mark) → Invariant seen → slice_get seen.state.seats p ≡ Some y
@@ -347,30 +345,24 @@ module _ {W V C L A : Type 0} (m : Machine W V C L A) (k : LocalInvariant V C L)
             went_on Weak None step_kind.weak None seen.state.words seen.state.value next tt tt good.encodes good.shape good.written (is.refuses next refused)
             (λ e. absurd (false≢true e)) (λ strong. absurd (true≢false strong)) (ap is_some refused) refl (is.weakly next refused) (refusal_timed next)
 
-      begun_at : (c : C) (l : L) (h : Option Hold) (y : Seat C L) → slice_get seen.state.seats p ≡ Some y → m.begin c h ≡ Some l
-          → entries p seen.plain ≡ entries_held p h
-          → is_open_move m seen.state (Begin c) (Some y) ≡ is_some (m.begin c h) → is_in_place {V = V} (Begin c) (Some y) ≡ true → held_at (Some y) ≡ h
-          → Preserved (scene_of seen p (Begin c) (Some y) (begun seen.state p c h (Some l)) None step_kind.plain None)
-      begun_at c l h y there is_begin stands is_open placed held =
+      pub begun_kept : (c : C) (l : L) (h : Option Hold) → slice_get seen.state.seats p ≡ Some (resting h) → m.begin c h ≡ Some l
+          → Preserved (scene_of seen p (Begin c) (Some (resting h)) (begun seen.state p c h (Some l)) None step_kind.plain None)
+      begun_kept c l h there is =
           let span : ℕ → List Mark = λ q. if p == q then [] else seen.span q in
           let fresh : [] ≡ span p = sym (ap (λ b. if b then [] else seen.span p) (eqb_self p)) in
-          let after = good_seated seen p (Calling c l h) y span good there (λ q ne. ap (λ b. if b then [] else seen.span q) (ne_eqb p q ne))
+          let stands : entries p seen.plain ≡ entries_held p h = grind (arith, standing seen p (resting h) good there) in
+          let after = good_seated seen p (Calling c l h) (resting h) span good there (λ q ne. ap (λ b. if b then [] else seen.span q) (ne_eqb p q ne))
           (subst (λ ms. OfParty seen.state.words seen.plain p ms (Some (Calling c l h))) fresh
           (record {
             stands = stands;
-            knows = f.begins p c l h seen.plain is_begin stands;
+            knows = f.begins p c l h seen.plain is stands;
             retries = omega arith;
             undisturbed = runs_fresh m seen.state.words p c l h;
           })) in
-          kept_aside _ after (tt, tt, tt, tt, tt, tt, tt, tt, tt, tt) (λ r e. absurd (cc (e))) tt (λ e. cc (e)) (is_open ∙ ap is_some is_begin) placed
+          kept_aside _ after (tt, tt, tt, tt, tt, tt, tt, tt, tt, tt) (λ r e. absurd (cc (e))) tt (λ e. cc (e)) (grind (arith, is)) (grind arith)
           (refl, refl)
-          (l, get-set_same seen.state.seats p (Calling c l h) y there ∙ ap (λ j. Some (Calling c l j)) (sym held))
+          (l, get-set_same seen.state.seats p (Calling c l h) (resting h) there ∙ grind arith)
           (still_calling seen.state.seats p (Calling c l h))
-
-      pub begun_kept : (c : C) (l : L) (h : Option Hold) → slice_get seen.state.seats p ≡ Some (resting h) → m.begin c h ≡ Some l
-          → Preserved (scene_of seen p (Begin c) (Some (resting h)) (begun seen.state p c h (Some l)) None step_kind.plain None)
-      begun_kept c l None there is = begun_at c l None Idle there is (standing seen p Idle good there) refl refl refl
-      begun_kept c l (Some h) there is = begun_at c l (Some h) (Holding h) there is (standing seen p (Holding h) good there) refl refl refl
 
       pub read_kept : (b : Bool) (h : Hold) → slice_get seen.state.seats p ≡ Some (seat_with b h) → may_read h ≡ true
           → Preserved (scene_of seen p Read (Some (seat_with b h)) (read_by seen.state true) None step_kind.plain None)

@@ -1,5 +1,5 @@
 -- Schedules one entry longer.
-use Rattle.spin_world_core.proofs.Names.{◌≡◌, ℕ, suc, ◌+◌, ◌≤◌, ◌==◌, ◌&&◌, Option, Some, None, List, [], ◌∷◌, ◌++◌, length, if◌then◌else◌, refl, ap, sym, ◌∙◌, arith, append_assoc, length-set, slice_get_past, append-nil, length-map, Hold, Calling, Leaked, Next, Continue, Answers, Move, Event, Machine, opening_plain, State, happens, moves_at, goes_on, placed, resting, owner_writes, after, events_of, with_begins, with_begin, last_begin, is_begun, seen_by_owner, Seen, scene, seen_after}
+use Rattle.spin_world_core.proofs.Names.{◌≡◌, ℕ, suc, ◌+◌, ◌≤◌, ◌==◌, ◌&&◌, Option, Some, None, List, [], ◌∷◌, ◌++◌, length, if◌then◌else◌, refl, ap, sym, arith, append_assoc, length-set, slice_get_past, append-nil, length-map, Hold, Calling, Leaked, Next, Move, Event, Machine, opening_plain, State, happens, moves_at, goes_on, placed, owner_writes, after, events_of, with_begins, last_begin, is_begun, seen_by_owner, Seen, scene, seen_after}
 use Rattle.spin_world_core.specs.declared.schedule.Outcome.TheVariants as outcome
 use Rattle.spin_world_core.proofs.Events.{of_event}
 
@@ -7,8 +7,7 @@ pub with_begins-append : {W V A : Type 0} (before xs ys : List (Event W V A))
     → with_begins before (xs ++ ys) ≡ with_begins before xs ++ with_begins (before ++ xs) ys
 with_begins-append before [] ys = ap (λ b. with_begins b ys) (sym (append-nil before))
 with_begins-append before (x ∷ xs) ys =
-    ap (λ es. record x { outcome = with_begin (last_begin x.party 0 None before) x.outcome } ∷ es)
-    (with_begins-append (before ++ x ∷ []) xs ys ∙ ap (λ b. with_begins (before ++ x ∷ []) xs ++ with_begins b ys) (append_assoc before (x ∷ []) xs))
+    grind (arith, with_begins-append (before ++ x ∷ []) xs ys, append_assoc before (x ∷ []) xs)
 
 -- the last beginning among events that stand behind others
 pub last_begin-append : {W V A : Type 0} (p k : ℕ) (found : Option ℕ) (xs ys : List (Event W V A))
@@ -16,7 +15,7 @@ pub last_begin-append : {W V A : Type 0} (p k : ℕ) (found : Option ℕ) (xs ys
 last_begin-append p k found [] ys = ap (λ n. last_begin p n found ys) (omega arith)
 last_begin-append p k found (x ∷ xs) ys =
     let now = if (x.party == p) && is_begun x.outcome then Some k else found in
-    last_begin-append p (k + 1) now xs ys ∙ ap (λ n. last_begin p n (last_begin p (k + 1) now xs) ys) (omega arith)
+    grind (arith, last_begin-append p (k + 1) now xs ys)
 
 module _ {W V C L A : Type 0} (m : Machine W V C L A) where
   pub after-append : (s : State W V C L) (xs ys : List (ℕ × Move C V)) → after m s (xs ++ ys) ≡ after m (after m s xs) ys
@@ -25,9 +24,7 @@ module _ {W V C L A : Type 0} (m : Machine W V C L A) where
 
   pub events_of-append : (s : State W V C L) (xs ys : List (ℕ × Move C V)) → events_of m s (xs ++ ys) ≡ events_of m s xs ++ events_of m (after m s xs) ys
   events_of-append s [] ys = refl
-  events_of-append s (x ∷ xs) ys =
-      ap (λ es. record { party = x.0; outcome = (happens m s x.0 x.1).outcome; words = (happens m s x.0 x.1).next.words } ∷ es)
-      (events_of-append (happens m s x.0 x.1).next xs ys)
+  events_of-append s (x ∷ xs) ys = grind (arith, events_of-append (happens m s x.0 x.1).next xs ys)
 
   pub length-events_of : (s : State W V C L) (xs : List (ℕ × Move C V)) → length (events_of m s xs) ≡ length xs
   length-events_of s [] = refl
@@ -43,12 +40,10 @@ module _ {W V C L A : Type 0} (m : Machine W V C L A) where
 
   -- no move changes how many parties there are
   length-goes_on : (s : State W V C L) (p : ℕ) (c : C) (h : Option Hold) (next : Next L A) → length (goes_on s p c h next).next.seats ≡ length s.seats
-  length-goes_on s p c h (Continue l) = length-set s.seats p (Calling c l h)
-  length-goes_on s p c h (Answers a rest) = length-set s.seats p (resting rest)
+  length-goes_on s p c h next = grind (arith, length-set s.seats p)
 
   length-owner_writes : (s : State W V C L) (v : V) (o : Option V) → length (owner_writes {A = A} s v o).next.seats ≡ length s.seats
-  length-owner_writes s v None = length-map s.seats seen_by_owner
-  length-owner_writes s v (Some w) = length-map s.seats seen_by_owner
+  length-owner_writes s v o = grind (arith, length-map s.seats (seen_by_owner {C = C} {L = L}))
 
   pub length-happens : (s : State W V C L) (p : ℕ) (move : Move C V) → length (happens m s p move).next.seats ≡ length s.seats
   length-happens s p move =

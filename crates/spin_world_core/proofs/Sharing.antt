@@ -1,5 +1,5 @@
 -- How many parties share the value, and how many have leaked, as seats change.
-use Rattle.spin_world_core.proofs.Names.{◌≡◌, ◌+◌, Bool, false, List, [], ◌∷◌, length, map, Vec, refl, ap, sym, ◌∙◌, subst, arith, zero-add, cond, count_by, length-map, with_items_is, sum_by-cons, with_items, Seat, Idle, Leaked, State, seen_by_owner, let_go, shares, has_leaked}
+use Rattle.spin_world_core.proofs.Names.{◌≡◌, ◌+◌, Bool, List, [], ◌∷◌, length, map, Vec, refl, ap, sym, ◌∙◌, subst, arith, cond, count_by, length-map, with_items_is, sum_by-cons, with_items, Seat, State, seen_by_owner, let_go, shares, has_leaked}
 
 count_by-cons : {X : Type 0} (f : X → Bool) (x : X) (xs : List X) → count_by f (x ∷ xs) ≡ cond (f x) 1 0 + count_by f xs
 count_by-cons f x xs = sum_by-cons (λ y. cond (f y) 1 0) x xs
@@ -7,29 +7,17 @@ count_by-cons f x xs = sum_by-cons (λ y. cond (f y) 1 0) x xs
 -- the owner's look changes nothing where none is counted
 pub none_leaked : {C L : Type 0} (seats : List (Seat C L)) → count_by has_leaked seats ≡ 0 → map seen_by_owner seats ≡ seats
 none_leaked [] none = refl
-none_leaked (Leaked h ∷ seats) none = absurd (omega (arith, none, count_by-cons has_leaked (Leaked h) seats))
-none_leaked (s ∷ seats) none = ap (λ ss. s ∷ ss) (none_leaked seats (omega (arith, none, count_by-cons has_leaked s seats)))
-
-shares_as_before : {C L : Type 0} (s : Seat C L) → shares (seen_by_owner s) ≡ shares s
-shares_as_before Idle = refl
-shares_as_before _ = refl
-
-gone_or_not : {C L : Type 0} (s : Seat C L) → has_leaked (seen_by_owner s) ≡ false
-gone_or_not Idle = refl
-gone_or_not _ = refl
+none_leaked (s ∷ seats) none = grind (arith, none_leaked seats, count_by-cons has_leaked s seats)
 
 -- and afterwards as many share it, and nobody has leaked who is not gone
 pub shares_seen : {C L : Type 0} (seats : List (Seat C L)) → count_by shares (map seen_by_owner seats) ≡ count_by shares seats
 shares_seen [] = refl
 shares_seen (s ∷ seats) =
-    count_by-cons shares (seen_by_owner s) (map seen_by_owner seats) ∙ ap (λ b. cond b 1 0 + count_by shares (map seen_by_owner seats)) (shares_as_before s)
-    ∙ ap (λ n. cond (shares s) 1 0 + n) (shares_seen seats) ∙ sym (count_by-cons shares s seats)
+    grind (arith, count_by-cons shares (seen_by_owner s) (map seen_by_owner seats), shares_seen seats, count_by-cons shares s seats)
 
 pub leaked_seen : {C L : Type 0} (seats : List (Seat C L)) → count_by has_leaked (map seen_by_owner seats) ≡ 0
 leaked_seen [] = refl
-leaked_seen (s ∷ seats) =
-    count_by-cons has_leaked (seen_by_owner s) (map seen_by_owner seats) ∙ ap (λ b. cond b 1 0 + count_by has_leaked (map seen_by_owner seats)) (gone_or_not s)
-    ∙ zero-add (count_by has_leaked (map seen_by_owner seats)) ∙ leaked_seen seats
+leaked_seen (s ∷ seats) = grind (arith, count_by-cons has_leaked (seen_by_owner s) (map seen_by_owner seats), leaked_seen seats)
 
 pub let_go_none : {W V C L : Type 0} (s t : State W V C L) → s ≡ t → count_by has_leaked s.seats ≡ 0 → t ≡ let_go t
 let_go_none s t is none = subst (λ u. u ≡ let_go u) is (ap (λ seats. record s { seats = seats }) (sym (none_leaked s.seats none)))

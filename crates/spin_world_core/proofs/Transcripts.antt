@@ -1,5 +1,5 @@
 -- A transcript tells the scenes, and a place what its party's moves and entries say.
-use Rattle.spin_world_core.proofs.Names.{eq-eqb, ne_eqb, ◌≡◌, ℕ, ◌<◌, ◌≤◌, ◌==◌, Bool, Option, Some, None, List, [], ◌∷◌, ◌++◌, length, map, slice_get, slice_set, if◌then◌else◌, refl, ap, sym, ◌∙◌, subst, arith, option_map, length-replicate, slice_get-map, slice_get_within, slice_get_cases, Plain, Change, Hold, Place, Seat, Idle, Calling, Holding, Leaked, Gone, Next, Continue, Answers, Move, Step, Weak, OwnerSet, Outcome, Event, StepKind, by_step, Mark, Machine, opening_plain, State, happens, goes_on, placed, resting, seen_by_owner, owner_writes, events_of, with_begins, with_begin, last_begin, Seen, Scene, scene, scene_of, Every, Keeps, KeepsAll, StandsFor, opening, seen_after, scenes, without_begin, EachTells, TellsAfterAnyPast, Stage, at_rest, in_call, is_gone, stage_by_own, stage_by_owner, let_go_stage, stage_after, StandsAt, PlaceSays, SaysAfterAnyPast}
+use Rattle.spin_world_core.proofs.Names.{eq-eqb, ne_eqb, ◌≡◌, ℕ, ◌<◌, ◌≤◌, ◌==◌, Bool, Option, Some, None, List, [], ◌∷◌, ◌++◌, length, map, slice_get, slice_set, if◌then◌else◌, refl, ap, sym, ◌∙◌, subst, arith, option_map, length-replicate, slice_get-map, slice_get_within, slice_get_cases, Plain, Hold, Place, Seat, Idle, Calling, Holding, Leaked, Gone, Next, Continue, Answers, Move, Step, Weak, Outcome, Event, Mark, Machine, opening_plain, State, happens, goes_on, resting, seen_by_owner, events_of, with_begins, Seen, Scene, scene, scene_of, Every, Keeps, KeepsAll, StandsFor, opening, seen_after, scenes, without_begin, EachTells, TellsAfterAnyPast, Stage, at_rest, in_call, is_gone, stage_by_own, stage_by_owner, let_go_stage, stage_after, StandsAt, PlaceSays, SaysAfterAnyPast}
 use Rattle.spin_world_core.specs.declared.schedule.Outcome.TheVariants as outcome
 use Rattle.spin_world_core.specs.StepKinds as step_kind
 use Rattle.spin_world_core.specs.Schedules.{place_of}
@@ -11,31 +11,21 @@ use Rattle.spin_world_core.proofs.Schedules.{length-happens}
 
 -- The transcript
 
-same_but_begin : {V A : Type 0} (began : Option ℕ) (o : Outcome A V) → without_begin (with_begin began o) ≡ without_begin o
-same_but_begin began o = grind arith
-
 module _ {W V C L A : Type 0} (m : Machine W V C L A) where
   -- an event of the machine doesn't say where its call began
-  no_begin_after : (s : State W V C L) (p : ℕ) (c : C) (h : Option Hold) (next : Next L A)
-      → without_begin (goes_on s p c h next).outcome ≡ (goes_on s p c h next).outcome
-  no_begin_after s p c h next = grind arith
-
-  no_begin_set : (s : State W V C L) (v : V) (o : Option V) → without_begin (owner_writes {A = A} s v o).outcome ≡ (owner_writes s v o).outcome
-  no_begin_set s v o = grind arith
-
   no_begin : (seen : Seen W V C L) (p : ℕ) (move : Move C V) → without_begin (scene m seen p move).outcome ≡ (scene m seen p move).outcome
   no_begin seen p move =
       of_event m seen p (λ sc. without_begin sc.outcome ≡ sc.outcome)
       (record {
         passes = λ move o r there closed. refl;
         begins = λ c l h there is. refl;
-        steps = λ c l h there. no_begin_after _ p c h (m.step seen.state.words seen.state.value c l h).next;
-        refuses = λ c l h next there is. no_begin_after seen.state p c h next;
+        steps = λ c l h there. grind arith;
+        refuses = λ c l h next there is. grind arith;
         reads = λ b h there may. refl;
         writes = λ v b h there may. refl;
         leaks = λ h there. refl;
         gets = λ y there may. refl;
-        sets = λ v y there may. no_begin_set seen.state v seen.state.value;
+        sets = λ v y there may. grind arith;
       })
       move
 
@@ -45,7 +35,7 @@ module _ {W V C L A : Type 0} (m : Machine W V C L A) where
   tells_from seen (e ∷ es) before =
       let h = happens m seen.state e.0 e.1 in
       let event : Event W V A = record { party = e.0; outcome = h.outcome; words = h.next.words } in (
-        record { party = refl; outcome = same_but_begin (last_begin e.0 0 None before) h.outcome ∙ no_begin seen e.0 e.1; words = refl },
+        record { party = refl; outcome = grind (arith, no_begin seen e.0 e.1); words = refl },
         tells_from (scene m seen e.0 e.1).after es (before ++ event ∷ []),
       )
 
@@ -65,16 +55,10 @@ stage_of (Some (Leaked h)) = has_leaked
 stage_of (Some (Gone h)) = is_gone
 stage_of _ = at_rest
 
-let_go : {C L : Type 0} (o : Option (Seat C L)) → stage_of (option_map seen_by_owner o) ≡ let_go_stage (stage_of o)
-let_go o = grind arith
-
 -- the owner's look makes every leaked party gone
 let_go_all : {C L : Type 0} (seats : List (Seat C L)) (p : ℕ) (b : Bool)
     → stage_of (slice_get (map seen_by_owner seats) p) ≡ let_go_stage (if b then stage_of (slice_get seats p) else stage_of (slice_get seats p))
-let_go_all seats p b = grind (arith, slice_get-map seen_by_owner seats p, let_go (slice_get seats p))
-
-none_there : {X : Type 0} (xs : List X) (p : ℕ) → slice_get xs p ≡ None → length xs ≤ p
-none_there xs p e = grind (arith, slice_get_cases)
+let_go_all seats p b = grind (arith, slice_get-map seen_by_owner seats p)
 
 stands_at : {C L : Type 0} (s : Plain) (p : ℕ) (span : List Mark) (seat : Seat C L) → StandsFor s p span (Some seat) → StandsAt (stage_of (Some seat)) s p span (place_of seat)
 stands_at s p span (Calling c l h) stands = (h, stands)
@@ -107,17 +91,14 @@ module _ {W V C L A : Type 0} (m : Machine W V C L A) where
         get-set (λ z. stage_of z ≡ (if q == p then stage_by_own o stage_now else stage_now)) seen.state.seats q p x (slice_get_within seen.state.seats q y there)
         (λ e. rw (eq-eqb q p e) (is ∙ ap (λ z. stage_by_own o (stage_of z)) (sym there ∙ ap (slice_get seen.state.seats) e))) (λ ne. rw (ne_eqb q p ne) refl)
 
-    went_on : (move : Move C V) (c : C) (l : L) (h : Option Hold) (w : W) (v value : Option V) (step : Option Change) (step_kind : StepKind) (next : Next L A)
+    went_on : (move : Move C V) (c : C) (l : L) (h : Option Hold) (w : W) (v : Option V) (next : Next L A)
         → ((stage : Stage) → stage_by_owner {A = A} outcome.GoingOn move stage ≡ stage)
         → ((a : A) (stage : Stage) → stage_by_owner (outcome.Answered a None) move stage ≡ stage)
         → slice_get seen.state.seats q ≡ Some (Calling c l h)
-        → Brings p (scene_of seen q move (Some (Calling c l h)) (goes_on (record seen.state { words = w; value = v }) q c h next) step step_kind value)
-    went_on move c l h w v value step step_kind (Continue k) goes answers there = moved (Calling c k h) (Calling c l h) outcome.GoingOn there refl ∙ sym (goes _)
-    went_on move c l h w v value step step_kind (Answers a rest) goes answers there =
+        → Brings p (scene_of seen q move (Some (Calling c l h)) (goes_on (record seen.state { words = w; value = v }) q c h next) None step_kind.plain None)
+    went_on move c l h w v (Continue k) goes answers there = moved (Calling c k h) (Calling c l h) outcome.GoingOn there refl ∙ sym (goes _)
+    went_on move c l h w v (Answers a rest) goes answers there =
         moved (resting rest) (Calling c l h) (outcome.Answered a None) there (grind arith) ∙ sym (answers a _)
-
-    owner_wrote : (v : V) (y : Seat C L) (o : Option V) → Brings p (scene_of seen q (OwnerSet v) (Some y) (owner_writes seen.state v o) None step_kind.plain None)
-    owner_wrote v y o = grind (arith, let_go_all seen.state.seats p (q == p))
 
     brought : (move : Move C V) → Brings p (scene m seen q move)
     brought move =
@@ -125,17 +106,13 @@ module _ {W V C L A : Type 0} (m : Machine W V C L A) where
         (record {
           passes = λ move o r there closed. stays;
           begins = λ c l h there is. moved (Calling c l h) (resting h) outcome.Begun there refl;
-          steps =
-              λ c l h there. let st =
-              m.step seen.state.words seen.state.value c l h in went_on Step c l h st.words (placed st.placed seen.state.value) st.placed
-              (m.change q seen.state.words c l h) (by_step (m.step_kind c l h)) st.next (λ stage. refl) (λ a stage. refl) there;
-          refuses =
-              λ c l h next there is. went_on Weak c l h seen.state.words seen.state.value None None step_kind.weak next (λ stage. refl) (λ a stage. refl) there;
+          steps = λ c l h there. went_on Step c l h _ _ _ (λ stage. refl) (λ a stage. refl) there;
+          refuses = λ c l h next there is. went_on Weak c l h _ _ next (λ stage. refl) (λ a stage. refl) there;
           reads = λ b h there may. stays;
           writes = λ v b h there may. stays;
           leaks = λ h there. moved (Leaked h) (Holding h) outcome.Leaked there refl;
           gets = λ y there may. let_go_all seen.state.seats p (q == p);
-          sets = λ v y there may. owner_wrote v y seen.state.value;
+          sets = λ v y there may. grind (arith, let_go_all seen.state.seats p (q == p));
         })
         move
 
@@ -166,7 +143,7 @@ module _ {W V C L A : Type 0} (m : Machine W V C L A) where
       let count = length-seen_after (opening m n) past ∙ length-replicate n Idle in
       let stands = stand_after (opening m n) past keeps.each (λ q. get-replicate (StandsFor {C = C} {L = L} (opening_plain m) q []) Idle n q refl refl) p in
       subst (λ st. PlaceSays st n seen.plain p (seen.span p) (option_map place_of (slice_get seen.state.seats p))) stage
-      (says_at n p seen.plain (seen.span p) (slice_get seen.state.seats p) (λ e. omega (arith, count, none_there seen.state.seats p e))
+      (says_at n p seen.plain (seen.span p) (slice_get seen.state.seats p) (λ e. grind (arith, count, slice_get_cases))
       (λ x e. omega (arith, count, slice_get_within seen.state.seats p x e)) stands)
 
   pub says_after : (s : State W V C L) (p : ℕ) → ((n : ℕ) (past : List (ℕ × Move C V)) → KeepsAll m n past) → (told : Option Place)

@@ -10,9 +10,7 @@ module _ (kind : LockKind) (p : ℕ) (what : Asked) (m : Mark) (span : List Mark
   takes_on : UndisturbedTakes P kind p what span → UndisturbedTakes Q kind p what (m ∷ span)
   takes_on runs [] first older is may leaves =
       let here : m ≡ first = cc (is) in
-      let rest : span ≡ older = cc (is) in
-      let may_here = subst (λ (f : Mark). is_open_now p what span f.before ≡ true) (sym here) (subst (λ ms. is_open_now p what ms first.before ≡ true) (sym rest) may) in
-      subst (λ f. Q (own_count p (f ∷ []))) here (step 0 (subst (Leaves kind p) (sym here) leaves.0) (begins may_here))
+      subst (λ f. Q (own_count p (f ∷ []))) here (step 0 (subst (Leaves kind p) (sym here) leaves.0) (begins (grind arith)))
   takes_on runs (mark ∷ recent) first older is may leaves =
       let here : m ≡ mark = cc (is) in
       let rest : span ≡ recent ++ first ∷ older = cc (is) in

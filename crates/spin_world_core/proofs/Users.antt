@@ -1,5 +1,5 @@
 -- The laws that users rely on.
-use Rattle.spin_world_core.proofs.Names.{◌≡◌, ℕ, Option, List, [], ◌∷◌, refl, ap, sym, ◌∙◌, Move, Read, OwnerGet, Outcome, Value, Machine, State, after, at_first, moves_at, read_by, owner_gets, Seen, Every, Keeps, KeepsAll, opening, scene, seen_after, FindsLastWritten, RunsJoin}
+use Rattle.spin_world_core.proofs.Names.{arith, ◌≡◌, ℕ, List, [], ◌∷◌, refl, ap, sym, ◌∙◌, Move, Machine, State, after, at_first, Seen, Every, Keeps, KeepsAll, opening, scene, seen_after, FindsLastWritten, RunsJoin}
 use Rattle.spin_world_core.proofs.Every.{state-seen_after}
 use Rattle.spin_world_core.proofs.Schedules.{after-append, events_of-append}
 
@@ -14,11 +14,10 @@ module _ {W V C L A : Type 0} (m : Machine W V C L A) where
       let s = after m (at_first m n) past in
       let value : s.value ≡ (seen_after m (opening m n) past).written = ap (λ (t : State W V C L). t.value) (sym (state-seen_after m (opening m n) past))
       ∙ value-seen_after (opening m n) past keeps.each refl in
-      let told : Option V → Outcome A V = λ v. Value v in
       record {
-        holder = λ p h there may. ap (λ o. (moves_at m s p Read o).outcome) there ∙ (ap (λ b. (read_by {A = A} s b).outcome) may ∙ ap told value);
-        leaked = λ p h there may. ap (λ o. (moves_at m s p Read o).outcome) there ∙ (ap (λ b. (read_by {A = A} s b).outcome) may ∙ ap told value);
-        owner = λ p seat there may. ap (λ o. (moves_at m s p OwnerGet o).outcome) there ∙ (ap (λ b. (owner_gets {A = A} s b).outcome) may ∙ ap told value);
+        holder = λ p h there may. grind (arith, there, may, value);
+        leaked = λ p h there may. grind (arith, there, may, value);
+        owner = λ p seat there may. grind (arith, there, may, value);
       }
 
   pub runs_join : (s : State W V C L) (first second : List (ℕ × Move C V)) → RunsJoin m s first second

@@ -1,29 +1,24 @@
 -- What the tables of several objects owe in the same way.
-use Rattle.spin_world_core.proofs.Names.{◌≡◌, ℕ, zero, suc, ◌==◌, Bool, true, false, ◌||◌, Option, Some, None, List, [], ◌∷◌, refl, ap, sym, ◌∙◌, subst, eqb-true, eq-eqb, false≢true, Plain, Holder, Ticket, Change, apply, is_open, is_empty, party_of, Decides, Hold, Next, Continue, Answers, Asked, encoded, Mark, StepKind, number_at, Act, retry, either, step_by, Table}
-use Rattle.std.proofs.Math.Bool.{or-false}
+use Rattle.spin_world_core.proofs.Names.{arith, ◌≡◌, ℕ, zero, suc, ◌==◌, Bool, true, false, ◌||◌, Option, Some, None, List, [], ◌∷◌, refl, sym, subst, eqb-true, eq-eqb, false≢true, Plain, Change, apply, is_open, is_empty, party_of, Decides, Hold, Next, Continue, Asked, encoded, Mark, StepKind, number_at, Act, retry, either, step_by, Table}
 use Rattle.spin_world_core.specs.Acts.{two_numbers}
 use Rattle.spin_world_core.proofs.Operating.{IsPlace}
 use Rattle.spin_world_core.proofs.Rows.{Branch, Row}
-use Rattle.spin_world_core.proofs.Shapes.{aim_of, aimed, aimed_at, Notes, Means, CallOf, AtPoint, Follows, goes_by, answers_by}
+use Rattle.spin_world_core.proofs.Shapes.{aim_of, aimed_at, Notes, Means, CallOf, AtPoint, Follows, goes_by, answers_by}
 
 -- The words
 
 -- a lock of two numbers
 pub two : (a b c d : ℕ) → a ≡ c → b ≡ d → a ∷ b ∷ [] ≡ c ∷ d ∷ []
-two a b c d e f = ap (λ n. n ∷ b ∷ []) e ∙ ap (λ n. c ∷ n ∷ []) f
+two a b c d e f = grind arith
 
 -- The shape
 
 -- nobody queues, or nobody holds
 pub no_queue : (s : Plain) → s.tickets ≡ [] → (is_empty s.holders || is_empty s.tickets) ≡ true
-no_queue s none = either_empty s.holders s.tickets none
-  where
-    either_empty : (hs : List Holder) (ts : List Ticket) → ts ≡ [] → (is_empty hs || is_empty ts) ≡ true
-    either_empty [] ts none = refl
-    either_empty (h ∷ hs) ts none = ap (λ (us : List Ticket). is_empty us) none
+no_queue s none = grind arith
 
 pub no_holders : (s : Plain) → s.holders ≡ [] → (is_empty s.holders || is_empty s.tickets) ≡ true
-no_holders s none = ap (λ (hs : List Holder). is_empty hs || is_empty s.tickets) none
+no_holders s none = grind arith
 
 -- What a step function means
 
@@ -46,14 +41,12 @@ branches p at step r branch false x y f g = g refl
 
 -- a call that neither tries nor goes for anything without a look
 pub aimless : (p : ℕ) (what : Asked) (o : Option Row) (step : Option Change) → ((made : List Change) → aim_of what made ≡ None) → step ≡ aimed_at p what o step
-aimless p what None step none = refl
-aimless p what (Some row) step none = sym (ap (λ aim. aimed p aim step) (none (row.made p)))
+aimless p what o step none = grind (arith, none)
 
 -- Run alone
 
 went : {L A : Type 0} (next : Next L A) (f g : L → Bool) → ((l : L) → f l ≡ true → g l ≡ true) → goes_by next true f ≡ true → goes_by next true g ≡ true
-went (Continue l) f g then is = then l is
-went (Answers a after) f g then is = refl
+went next f g then is = grind (arith, then)
 
 -- what is answered by some step is so by a later one
 later : {W V C L A : Type 0} (t : Table W V C L A) (k : ℕ) (w : W) (c : C) (l : L) (h : Option Hold) → answers_by t k w c l h ≡ true → answers_by t (suc k) w c l h ≡ true
@@ -93,7 +86,7 @@ never passes = absurd (false≢true passes)
 
 -- where the second fails it is the first
 pub only_left : (a b : Bool) → b ≡ false → (a || b) ≡ true → a ≡ true
-only_left a b none is = sym (or-false a) ∙ (ap (λ c. a || c) (sym none) ∙ is)
+only_left a b none is = grind arith
 
 -- The words: each of two numbers has its place
 

@@ -1,5 +1,5 @@
 -- Every event keeps what is promised of values that closures make.
-use Rattle.spin_world_core.proofs.Names.{◌≡◌, ℕ, Option, Some, List, slice_get, refl, ◌∙◌, Change, completes, Hold, Seat, Calling, Next, Continue, Answers, Move, Step, Weak, Machine, opening_plain, State, goes_on, refuses, placed, Seen, Scene, scene_at, scene, opening, Brings, GivesAt, KeepsValue, ValuesAll}
+use Rattle.spin_world_core.proofs.Names.{arith, ◌≡◌, ℕ, Option, Some, List, slice_get, refl, ◌∙◌, Change, completes, Hold, Seat, Calling, Next, Answers, Move, Step, Weak, Machine, opening_plain, State, goes_on, refuses, placed, Seen, Scene, scene_at, scene, opening, Brings, GivesAt, KeepsValue, ValuesAll}
 use Rattle.spin_world_core.proofs.Facts.{LocalInvariant, NextGives, Facts}
 use Rattle.spin_world_core.proofs.Preserved.{Invariant, in_call}
 use Rattle.spin_world_core.proofs.Every.{kept, every, good_first}
@@ -7,12 +7,10 @@ use Rattle.spin_world_core.proofs.Every.{kept, every, good_first}
 module _ {W V C L A : Type 0} (m : Machine W V C L A) where
   -- a call that goes on leaves the value as its step left it
   value-goes_on : (s : State W V C L) (p : ℕ) (c : C) (h : Option Hold) (next : Next L A) → (goes_on s p c h next).next.value ≡ s.value
-  value-goes_on s p c h (Continue l) = refl
-  value-goes_on s p c h (Answers a after) = refl
+  value-goes_on s p c h next = grind arith
 
   gives-step : (s : State W V C L) (p : ℕ) (c : C) (h : Option Hold) (next : Next L A) → NextGives m s.value next → GivesAt m Step (goes_on s p c h next).outcome (goes_on s p c h next).next.value
-  gives-step s p c h (Continue l) gives = tt
-  gives-step s p c h (Answers a after) gives = gives
+  gives-step s p c h next gives = grind arith
 
   gives-weak : (s : State W V C L) (p : ℕ) (c : C) (h : Option Hold) (o : Option (Next L A)) → ((next : Next L A) → o ≡ Some next → NextGives m s.value next)
       → GivesAt m Weak (refuses s p c h o).outcome (refuses s p c h o).next.value
@@ -20,8 +18,7 @@ module _ {W V C L A : Type 0} (m : Machine W V C L A) where
   gives-weak s p c h _ gives = tt
 
   brings-by : (c : C) (l : L) (h : Option Hold) (step : Option Change) (value : Option V) → ((q : ℕ) → step ≡ Some (completes q) → value ≡ m.brings c) → Brings m step (Some (Calling c l h)) value
-  brings-by c l h (Some (completes q)) value brings = brings q refl
-  brings-by c l h _ value brings = tt
+  brings-by c l h step value brings = grind (arith, brings)
 
   module _ (k : LocalInvariant V C L) (f : Facts m k) where
     -- an event that is no step of a call

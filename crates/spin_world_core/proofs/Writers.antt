@@ -1,7 +1,6 @@
 -- A party that may write and one that may look at the value are one.
-use Rattle.std.proofs.Common.{◌≡◌, ℕ, ◌<◌, ◌==◌, Bool, true, false, not, ◌&&◌, ◌||◌, List, [], ◌∷◌, length, filter, refl, arith}
+use Rattle.std.proofs.Common.{◌≡◌, ℕ, ◌<◌, ◌==◌, Bool, true, false, not, ◌||◌, List, [], ◌∷◌, length, filter, refl, arith}
 use Rattle.std.specs.List.{list_any}
-use Rattle.std.proofs.lemmas.Bool.{false≢true}
 use Rattle.spin_step.specs.Plain.{Plain, writing, Holder, Ticket, same_kind, count_kind, is_empty}
 use Rattle.spin_step.specs.Parties.{entries, is_held, IsExclusive, none_entered, first_alone_entered}
 use Rattle.std.proofs.lemmas.List.Sums.{sum_by-cons}
@@ -9,8 +8,7 @@ use Rattle.spin_step.proofs.Sums.{one_of}
 use Rattle.spin_world_core.specs.Runs.{is_reader, is_writer}
 
 is_some_list : {X : Type 0} (test : X → Bool) (xs : List X) → list_any test xs ≡ true → not (is_empty xs) ≡ true
-is_some_list test [] e = absurd cc
-is_some_list test (x ∷ xs) e = refl
+is_some_list test xs e = grind arith
 
 writer_counts : (q : ℕ) (hs : List Holder) → list_any (λ h. same_kind writing h.kind) (filter (λ h. h.party == q) hs) ≡ true → 0 < count_kind writing hs
 writer_counts q [] any = absurd cc
@@ -30,27 +28,11 @@ entered_party p q (t ∷ ts) alone here there = grind (arith, none_any p ts, non
 
 -- whoever may look at the value holds the lock
 pub touched : (s : Plain) (p : ℕ) → is_reader (entries p s) ≡ true → is_held s ≡ true
-touched s p reads = somebody s.holders s.tickets reads
-  where
-    somebody : (hs : List Holder) (ts : List Ticket)
-        → (not (is_empty (filter (λ h. h.party == p) hs)) || list_any (λ t. t.entered) (filter (λ t. t.party == p) ts)) ≡ true
-        → not (is_empty hs && is_empty ts) ≡ true
-    somebody [] [] reads = absurd (false≢true reads)
-    somebody [] (t ∷ ts) reads = refl
-    somebody (h ∷ hs) ts reads = refl
+touched s p reads = grind arith
 
 pub one_toucher : (s : Plain) (p q : ℕ) → IsExclusive s → (is_empty s.holders || is_empty s.tickets) ≡ true → is_reader (entries p s) ≡ true
     → is_writer (entries q s) ≡ true
     → q ≡ p
-one_toucher s p q alone lists reads writes = one_list s.holders s.tickets alone.writer alone.one_entered lists reads writes
-  where
-    one_list : (hs : List Holder) (ts : List Ticket) → (0 < count_kind writing hs → length hs ≡ 1) → first_alone_entered ts ≡ true
-        → (is_empty hs || is_empty ts) ≡ true
-        → (not (is_empty (filter (λ h. h.party == p) hs)) || list_any (λ t. t.entered) (filter (λ t. t.party == p) ts)) ≡ true
-        → (list_any (λ h. same_kind writing h.kind) (filter (λ h. h.party == q) hs) || list_any (λ t. t.entered) (filter (λ t. t.party == q) ts)) ≡ true
-        → q ≡ p
-    one_list hs [] alone entered lists reads writes =
-        let wrote = is_some_list (λ h. same_kind writing h.kind) (filter (λ h. h.party == q) hs) in
-        grind (arith, alone, writer_counts q hs, one_party p q hs, wrote)
-    one_list [] (t ∷ ts) alone entered lists reads writes = entered_party p q (t ∷ ts) entered reads writes
-    one_list (h ∷ hs) (t ∷ ts) alone entered lists reads writes = absurd (false≢true lists)
+one_toucher s p q alone lists reads writes =
+    let wrote = is_some_list (λ h. same_kind writing h.kind) (filter (λ h. h.party == q) s.holders) in
+    grind (arith, alone.writer, alone.one_entered, writer_counts q s.holders, one_party p q s.holders, wrote, entered_party p q s.tickets)

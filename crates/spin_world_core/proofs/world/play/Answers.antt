@@ -1,13 +1,7 @@
-use Rattle.std.proofs.Common.{◌≡◌, ℕ, ◌+◌, ◌<◌, ◌≤◌, rules, ap, ◌∙◌, arith, le_of_lt}
+use Rattle.std.proofs.Common.{◌+◌, rules, ap, ◌∙◌, arith}
 use borrow.Author.Count.{falls}
 use Rattle.spin_world_core.proofs.Playing.{forgotten, played_next, played_all, can_next}
 use Rattle.spin_world_core.proofs.world.play.Goals as goal
-
-room_left : (len i n capacity : ℕ) → len ≡ i → n ≤ capacity → i < n → len < capacity
-room_left len i n capacity is room lt = omega arith
-
-kept_room : (n before now : ℕ) → now ≡ before → n ≤ before → n ≤ now
-kept_room n before now is room = omega arith
 
 pub loop-place-preserved : goal.loop-place-preserved
 loop-place-preserved g c = (
@@ -15,7 +9,7 @@ loop-place-preserved g c = (
       c.args.schedule.now c.loop-place.place c.index-schedule-place.result c.act.result c.with_begin-outcome.result c.table.inside.words
       c.loop-place.invariant.0 c.loop-place-test.true c.index-schedule-place.is c.act.ensures (ap (λ s. s.words) c.table.view_is) c.with_begin-outcome.ensures.outcome c.with_begin-outcome.ensures.begins c.push_reserved.ensures.items,
   c.push_reserved.ensures.len ∙ ap (λ n. n + 1) c.loop-place.invariant.1,
-  kept_room _ _ _ c.push_reserved.ensures.capacity c.loop-place.invariant.2,
+  omega (arith, c.push_reserved.ensures.capacity, c.loop-place.invariant.2),
 )
 
 pub loop-place-init : goal.loop-place-init
@@ -25,26 +19,17 @@ loop-place-init g c = (
   c.requires.room,
 )
 
-pub returns-clause-parties : goal.returns-clause-parties
-returns-clause-parties g c = c.loop-place.invariant.0.parties
-
 pub act-requires : goal.act-requires
 act-requires g c = can_next (g.O.Object.machine c.args.object.now) c.args.table.now c.loop-place.table c.loop-place.begins c.loop-place.events.items c.args.schedule.now c.loop-place.place c.loop-place.invariant.0 c.requires.can
 
 pub push_reserved-requires : goal.push_reserved-requires
-push_reserved-requires g c = room_left _ _ _ _ c.loop-place.invariant.1 c.loop-place.invariant.2 c.loop-place-test.true
+push_reserved-requires g c = omega (arith, c.loop-place.invariant.1, c.loop-place.invariant.2, c.loop-place-test.true)
 
 pub returns-clause-table : goal.returns-clause-table
 returns-clause-table g c = (played_all (g.O.Object.machine c.args.object.now) c.args.table.now c.loop-place.table c.loop-place.begins c.loop-place.events.items c.args.schedule.now c.loop-place.place c.loop-place.invariant.0 c.loop-place-test.false).table
 
 pub returns-clause-events : goal.returns-clause-events
 returns-clause-events g c = (played_all (g.O.Object.machine c.args.object.now) c.args.table.now c.loop-place.table c.loop-place.begins c.loop-place.events.items c.args.schedule.now c.loop-place.place c.loop-place.invariant.0 c.loop-place-test.false).with_begins_so
-
-pub offset_bounds-schedule-place : goal.offset_bounds-schedule-place
-offset_bounds-schedule-place g c = le_of_lt c.loop-place-test.true
-
-pub bounds-schedule-place : goal.bounds-schedule-place
-bounds-schedule-place g c = c.loop-place-test.true
 
 pub loop-place-smaller : goal.loop-place-smaller
 loop-place-smaller g c = falls _ _ c.loop-place-test.true
