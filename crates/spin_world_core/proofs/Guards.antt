@@ -52,9 +52,6 @@ module _ {V C L : Type 0} (r : GuardedRead C V) (w v : Option V) where
   completed s p o step reads alone guard = grind (arith, no_reader s p o reads, touched s p, alone)
 
   -- the owner's look makes the party gone that has leaked, and it writes only where nobody has a guard
-  let_go : (o : Option (Seat C L)) → Guard r w o → Guard r w (option_map seen_by_owner o)
-  let_go o guard = grind arith
-
   gone_for : (o : Option (Seat C L)) → ((x : Seat C L) → o ≡ Some x → yields_to_owner x ≡ true) → Guard r w o → Guard r v (option_map seen_by_owner o)
   gone_for None away guard = guard
   gone_for (Some x) away guard = grind (arith, away x refl)
@@ -102,7 +99,7 @@ module _ {W V C L A : Type 0} (m : Machine W V C L A) where
           (λ e. answered (if_completed seen.written value step) c l a h rest on) held
 
       let_go_all : Guard r seen.written (slice_get (map seen_by_owner seen.state.seats) p)
-      let_go_all = rw (slice_get-map seen_by_owner seen.state.seats p) (let_go r seen.written seen.written (slice_get seen.state.seats p) guard)
+      let_go_all = grind (arith, slice_get-map seen_by_owner seen.state.seats p, guard)
 
       owner_wrote : (v : V) (y : Seat C L) (o : Option V) → list_all yields_to_owner seen.state.seats ≡ true
           → After (scene_of seen q (OwnerSet v) (Some y) (owner_writes seen.state v o) None plain None)

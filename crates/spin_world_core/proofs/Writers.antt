@@ -1,14 +1,11 @@
 -- A party that may write and one that may look at the value are one.
-use Rattle.std.proofs.Common.{◌≡◌, ℕ, ◌<◌, ◌==◌, Bool, true, false, not, ◌||◌, List, [], ◌∷◌, length, filter, refl, arith}
+use Rattle.std.proofs.Common.{◌≡◌, ℕ, ◌<◌, ◌==◌, true, false, not, ◌||◌, List, [], ◌∷◌, length, filter, refl, arith}
 use Rattle.std.specs.List.{list_any}
 use Rattle.spin_step.specs.Plain.{Plain, writing, Holder, Ticket, same_kind, count_kind, is_empty}
 use Rattle.spin_step.specs.Parties.{entries, is_held, IsExclusive, none_entered, first_alone_entered}
 use Rattle.std.proofs.lemmas.List.Sums.{sum_by-cons}
 use Rattle.spin_step.proofs.Sums.{one_of}
 use Rattle.spin_world_core.specs.Runs.{is_reader, is_writer}
-
-is_some_list : {X : Type 0} (test : X → Bool) (xs : List X) → list_any test xs ≡ true → not (is_empty xs) ≡ true
-is_some_list test xs e = grind arith
 
 writer_counts : (q : ℕ) (hs : List Holder) → list_any (λ h. same_kind writing h.kind) (filter (λ h. h.party == q) hs) ≡ true → 0 < count_kind writing hs
 writer_counts q [] any = absurd cc
@@ -34,5 +31,4 @@ pub one_toucher : (s : Plain) (p q : ℕ) → IsExclusive s → (is_empty s.hold
     → is_writer (entries q s) ≡ true
     → q ≡ p
 one_toucher s p q alone lists reads writes =
-    let wrote = is_some_list (λ h. same_kind writing h.kind) (filter (λ h. h.party == q) s.holders) in
-    grind (arith, alone.writer, alone.one_entered, writer_counts q s.holders, one_party p q s.holders, wrote, entered_party p q s.tickets)
+    grind (arith, alone.writer, alone.one_entered, writer_counts q s.holders, one_party p q s.holders, entered_party p q s.tickets)

@@ -1,5 +1,4 @@
 use Rattle.std.proofs.Common.{◌+◌, rules, ap, ◌∙◌, arith}
-use borrow.Author.Count.{falls}
 use Rattle.spin_world_core.proofs.Playing.{forgotten, played_next, played_all, can_next}
 use Rattle.spin_world_core.proofs.world.play.Goals as goal
 
@@ -30,6 +29,3 @@ returns-clause-table g c = (played_all (g.O.Object.machine c.args.object.now) c.
 
 pub returns-clause-events : goal.returns-clause-events
 returns-clause-events g c = (played_all (g.O.Object.machine c.args.object.now) c.args.table.now c.loop-place.table c.loop-place.begins c.loop-place.events.items c.args.schedule.now c.loop-place.place c.loop-place.invariant.0 c.loop-place-test.false).with_begins_so
-
-pub loop-place-smaller : goal.loop-place-smaller
-loop-place-smaller g c = falls _ _ c.loop-place-test.true
