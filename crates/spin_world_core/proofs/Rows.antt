@@ -1,5 +1,5 @@
 -- What a party in a call knows of itself and of its span, and that its own steps and those of others keep it.
-use Rattle.spin_world_core.proofs.Names.{◌≡◌, ℕ, suc, ◌+◌, ◌≤◌, ◌⊎◌, ◌==◌, Bool, true, false, not, ◌&&◌, ◌||◌, is_some, Option, Some, None, List, [], ◌∷◌, ◌++◌, option_to_list, nat_lt, if◌then◌else◌, refl, ◌∙◌, subst, arith, inl, inr, ⊎_elim, Plain, upgradable, writing, Ask, to_lock_unregistered, to_lock_starving, to_begin, Change, gets, turns, completes, fails, arrives, is_open, is_open_to, apply_some, IsOpenStep, entries, is_held, bit, entries-other, Hold, Upgradable, StepKind, is_again, is_look, LockKind, Asked, waits, waits_or_starves, tries, tries_weakly, tries_to_know, looks, counts_readers, counts_writers, turns_to, gives_back, initializes, fails_to_initialize, waits_for_value, polls, looks_for_value, looks_complete, meets, Said, granted, refused, done, tells, counted, gives_value, failed, leads, grant, let_go_of, own_steps, Mark, AnyOf, Grants, HasMoment, HasWeakMoment, FindsClosed, first_word, Limit, within, within_changes, gets_within, changes_within, registers_after, limit, mark_of, own, own_count, failures, changes, RegistersInTime, EndsWithin, ContinuesWithin, goes_for, is_due, Way, by_looks, past_looks, way_of, is_due_by, MayTryOn, Act, load, load_if, load_for, attempt, retry}
+use Rattle.spin_world_core.proofs.Names.{◌≡◌, ℕ, suc, ◌+◌, ◌≤◌, ◌⊎◌, ◌==◌, Bool, true, false, not, ◌&&◌, ◌||◌, is_some, Option, Some, None, List, [], ◌∷◌, ◌++◌, option_to_list, nat_lt, if◌then◌else◌, refl, ◌∙◌, arith, inl, inr, ⊎_elim, Plain, upgradable, writing, Ask, to_lock_unregistered, to_lock_starving, to_begin, Change, gets, turns, completes, fails, arrives, is_open, is_open_to, apply_some, IsOpenStep, entries, is_held, bit, entries-other, Hold, Upgradable, StepKind, is_again, is_look, LockKind, Asked, waits, waits_or_starves, tries, tries_weakly, tries_to_know, looks, counts_readers, counts_writers, turns_to, gives_back, initializes, fails_to_initialize, waits_for_value, polls, looks_for_value, looks_complete, meets, Said, granted, refused, done, tells, counted, gives_value, failed, leads, grant, let_go_of, own_steps, Mark, AnyOf, Grants, HasMoment, HasWeakMoment, FindsClosed, first_word, Limit, within, within_changes, gets_within, changes_within, registers_after, limit, mark_of, own, own_count, failures, changes, RegistersInTime, EndsWithin, ContinuesWithin, goes_for, is_due, Way, by_looks, past_looks, way_of, MayTryOn, Act, load, load_if, load_for, attempt, retry}
 use Rattle.spin_world_core.specs.declared.place.Hold.TheVariants.{Write}
 use Rattle.spin_world_core.proofs.Lists.{eqb_self}
 use Rattle.spin_world_core.proofs.Stands.{Stand, entries_at, stand_of}
@@ -51,12 +51,6 @@ pub may_spend : (what : Asked) (branch : Branch) (step : Option Change) (p : ℕ
     → MayContinue what branch step p s span Spend
     → Spend
 may_spend what branch step p s span Spend may = grind arith
-
-pub may_try : (what : Asked) (ask : Ask) (p : ℕ) (s : Plain) (span : List Mark) (Spend : Type 0) → what ≡ tries ask → MayContinue what goes None p s span Spend → MayTryOn ask p span s
-may_try what ask p s span Spend is may = (subst (λ k. MayContinue k goes None p s span Spend) is may).1
-
-pub no_try : (what : Asked) (ask : Ask) (c : Change) (step : Option Change) (p : ℕ) (s : Plain) (span : List Mark) (Spend : Type 0) → what ≡ tries ask → MayContinue what (misses c) step p s span Spend → ⊥
-no_try what ask c step p s span Spend is may = subst (λ k. MayContinue k (misses c) step p s span Spend) is may
 
 pub tries_open : (ask : Ask) (p : ℕ) (span : List Mark) (s : Plain) → is_open_to s p ask ≡ true → MayTryOn ask p span s
 tries_open ask p span s may = grind arith
@@ -292,10 +286,6 @@ module _ (p : ℕ) (s : Plain) (step : Option Change) (r : StepKind) (span : Lis
 
 pub needs_first : (needed : Need) (Begins : Type 0) (p : ℕ) → BeginsBy needed Begins → Needs needed p [] × Begins
 needs_first needed Begins p begins = grind (arith, begins)
-
--- a step that rests goes for nothing
-pub rests_undue : (ask : Ask) (way : Way) (peeking : Bool) (p : ℕ) (span : List Mark) → Needs (need (Some ask) way true peeking) p span → is_due_by way p span ≡ true → ⊥
-rests_undue ask way peeking p span needs is = grind arith
 
 -- as a call begins
 

@@ -1,5 +1,5 @@
 -- The usual table of an object.
-use Rattle.std.specs.Prelude.{ℕ, true, Option}
+use Rattle.std.specs.Prelude.{true, Option}
 use Rattle.spin_world_core.specs.declared.place.Hold.{Hold}
 use Rattle.spin_world_core.specs.declared.answer.Answer.{Answer}
 use Rattle.spin_world_core.specs.Calls.{LockKind, Asked, says_of}
