@@ -1,15 +1,15 @@
 -- What the table of the read-write lock owes.
-use Rattle.spin_world_rw.proofs.Names.{◌≡◌, ℕ, ◌+◌, ◌/◌, ◌≤◌, ◌==◌, true, false, ◌&&◌, ◌||◌, Option, Some, None, List, [], ◌∷◌, ◌++◌, length, nat_lt, refl, ap, sym, ◌∙◌, arith, inl, eq-eqb, length-append, lt-ltb, eqb-true, Plain, Kind, reading, upgradable, asking, writing, weight, Holder, holder, Ask, to_read, to_read_upgradable, to_write, to_upgrade, to_upgrade_asked, Change, gets, releases, turns, apply, is_open, may_come, is_empty, is_holder, is_only, may_turn, without_holder, with_kind, rw_word, Entries, entries, party_of, Decides, reader_limit, tells, read, read_upgradable, write, upgrade, upgrade_asked, released, turned_to, is_holder-from_entries, is_holder-own, length-without_holder, empty_is, room_to_come, one_of_each, read-word, upgradable_read-word, upgradable-word, tells-holder, readers-word, writers-word, only_upgradable-word, only_asking-word, empty-word, Answer, Hold, Continue, RwCall, TryRead, Read, TryUpgradeableRead, UpgradeableRead, TryWrite, TryWriteWeak, Write, ReaderCount, WriterCount, TryUpgrade, TryUpgradeWeak, Upgrade, Downgrade, DowngradeToUpgradeable, Release, RwPoint, First, Exchange, Asking, Mark, begin_of, holds, entries_at, AimsAt, Notes, keeping_of, Means, OwesAt, answers_by, OwesSoon, BeginsAt, Pays, CallOf, AtPoint, no_queue, means_word, exchanges_now, retries_soon, only_left}
+use Rattle.spin_world_rw.proofs.Names.{◌≡◌, ℕ, ◌+◌, ◌/◌, ◌≤◌, true, false, Option, Some, None, List, [], ◌∷◌, ◌++◌, length, nat_lt, refl, ap, sym, ◌∙◌, arith, inl, eq-eqb, length-append, lt-ltb, Plain, Kind, reading, upgradable, asking, writing, weight, Holder, holder, to_read, to_read_upgradable, to_write, to_upgrade, to_upgrade_asked, Change, gets, releases, turns, apply, is_open, may_come, is_empty, is_holder, is_only, may_turn, with_kind, rw_word, Entries, entries, party_of, Decides, reader_limit, tells, read, read_upgradable, write, upgrade, upgrade_asked, released, turned_to, is_holder-from_entries, is_holder-own, length-without_holder, empty_is, room_to_come, one_of_each, read-word, upgradable_read-word, upgradable-word, tells-holder, readers-word, writers-word, only_upgradable-word, only_asking-word, empty-word, Answer, Hold, RwCall, TryRead, Read, TryUpgradeableRead, UpgradeableRead, TryWrite, TryWriteWeak, Write, ReaderCount, WriterCount, TryUpgrade, TryUpgradeWeak, Upgrade, Downgrade, DowngradeToUpgradeable, Release, RwPoint, Exchange, Asking, Mark, begin_of, holds, entries_at, Notes, keeping_of, Means, OwesAt, OwesSoon, Pays, CallOf, AtPoint, no_queue, means_word, only_left}
 use Rattle.std.specs.Prelude.{min, max}
 use Rattle.spin_step.proofs.Sums.{length-with_kind}
 use Rattle.spin_step.proofs.ReaderSteps.{rw_read-grants, rw_upgradable-grants, rw_write-grants, rw_upgrade-grants, rw_upgrade_asked-grants, rw_release-gives, rw_turn-gives}
 use Rattle.spin_world_core.specs.declared.place.Hold.TheVariants as hold
 use Rattle.spin_world_core.specs.Calls as calls
 use Rattle.spin_world_rw.specs.Kind as kind
-use Rattle.spin_world_rw.specs.Rw.{granted, comes_by, act_of, asks_of, rw_table, rw_machine}
+use Rattle.spin_world_rw.specs.Rw.{asks_of, rw_table, rw_machine}
 use Rattle.spin_world_core.proofs.Facts.{LocalInvariant, Facts}
-use Rattle.spin_world_core.proofs.Rows.{starts_sound, SoundAt, Row, Point, starts, looked, onward}
-use Rattle.spin_world_core.proofs.Operating.{fits_act, one_place, operates_by}
+use Rattle.spin_world_core.proofs.Rows.{starts_sound, Row, Point, starts, looked, onward}
+use Rattle.spin_world_core.proofs.Operating.{one_place, operates_by}
 use Rattle.spin_world_core.proofs.Paid.{facts_of}
 
 -- a reader that asked to upgrade gets to write
@@ -40,8 +40,7 @@ holder_by p k s mine = is_holder-from_entries p k s.holders (ap (λ (e : Entries
 
 -- a party that asks to upgrade and has nothing else does not write
 writes_nothing : (p : ℕ) (s : Plain) → entries p s ≡ entries_at p (holds asking) → is_holder p writing s.holders ≡ false
-writes_nothing p s mine =
-    is_holder-own p writing s.holders ∙ (ap (λ (e : Entries). is_holder p writing e.holders) mine ∙ ap (λ b. (b && false) || false) (eq-eqb p p refl))
+writes_nothing p s mine = grind (arith, is_holder-own p writing s.holders)
 
 module _ {V : Type 0} (v : V) (cap : ℕ) where
   abbrev IsMeant : ℕ → Plain → Change → Option ℕ → Type 0
@@ -49,17 +48,14 @@ module _ {V : Type 0} (v : V) (cap : ℕ) where
 
   -- The shape after a step
 
-  with_holders : (s : Plain) (hs : List Holder) → Within cap s → length hs ≤ max s.cap 1 → Within cap (record s { holders = hs })
-  with_holders s hs shape few = record { no_queue = shape.no_queue; room = shape.room; few = few }
-
   one_more : (s : Plain) (p : ℕ) (k : Kind) → Within cap s → may_come k s ≡ true → Within cap (record s { holders = s.holders ++ holder p k ∷ [] })
-  one_more s p k shape may = with_holders s (s.holders ++ holder p k ∷ []) shape (omega (arith, (room_to_come k s may).1, shape.room, length-append s.holders (holder p k ∷ [])))
+  one_more s p k shape may = grind (arith, shape, room_to_come k s may, length-append s.holders (holder p k ∷ []))
 
   alone : (s : Plain) (h : Holder) → Within cap s → is_empty s.holders ≡ true → Within cap (record s { holders = s.holders ++ h ∷ [] })
-  alone s h shape may = with_holders s (s.holders ++ h ∷ []) shape (omega (arith, ap length (empty_is s.holders may), length-append s.holders (h ∷ [])))
+  alone s h shape may = grind (arith, shape, empty_is s.holders may, length-append s.holders (h ∷ []))
 
   turned : (s : Plain) (p : ℕ) (k l : Kind) → Within cap s → Within cap (record s { holders = with_kind p k l s.holders })
-  turned s p k l shape = with_holders s (with_kind p k l s.holders) shape (omega (arith, length-with_kind p k l s.holders, shape.few))
+  turned s p k l shape = grind (arith, shape, length-with_kind p k l s.holders)
 
   -- What the step functions mean
 
@@ -86,20 +82,20 @@ module _ {V : Type 0} (v : V) (cap : ℕ) where
     upgrade_asked_means : entries p s ≡ entries_at p (holds asking) → IsMeant p s (gets p to_upgrade_asked) (upgrade_asked w)
     upgrade_asked_means mine = decides p s (gets p to_upgrade_asked) (upgrade_asked w) refl (rw_upgrade_asked-grants s p w (one_of_each s at.exclusive) (holder_by p asking s mine) word) (λ may. turned s p asking writing at.shape)
 
-    turn_means : (j k : Kind) → is_holder p j s.holders ≡ true → may_turn j k ≡ true → weight j ≤ weight k → IsMeant p s (turns p j k) (Some (turned_to j k w))
-    turn_means j k found down more =
-        let may : is_open s (turns p j k) ≡ true = ap (λ b. b && may_turn j k) found ∙ down in
-        ((refl, may), ap (λ n. n ∷ []) (rw_turn-gives s p j k w more word may), turned s p j k at.shape)
-
-    release_means : (k : Kind) → is_holder p k s.holders ≡ true → IsMeant p s (releases p k) (Some (released k w))
-    release_means k found =
-        let few : length (without_holder p k s.holders) ≤ max s.cap 1 = omega (arith, length-without_holder p k s.holders found, at.shape.few) in
-        ((refl, found), ap (λ n. n ∷ []) (rw_release-gives s p k w word found), with_holders s (without_holder p k s.holders) at.shape few)
-
-    -- What holders find
+    -- What holders find, and what a turn and a release mean
 
     finds : (k : Kind) → is_holder p k s.holders ≡ true → tells k w ≡ true
     finds k found = ap (tells k) (sym word) ∙ tells-holder s p k at.exclusive (omega (arith, at.shape.few, at.shape.room)) found
+
+    turn_means : (j k : Kind) → entries p s ≡ entries_at p (holds j) → may_turn j k ≡ true → weight j ≤ weight k
+        → (tells j w ≡ true) × IsMeant p s (turns p j k) (Some (turned_to j k w))
+    turn_means j k mine down more =
+        let found = holder_by p j s mine in grind (arith, finds j found, rw_turn-gives s p j k w more word, turned s p j k at.shape)
+
+    release_means : (k : Kind) → entries p s ≡ entries_at p (holds k) → (tells k w ≡ true) × IsMeant p s (releases p k) (Some (released k w))
+    release_means k mine =
+        let found = holder_by p k s mine in
+        grind (arith, finds k found, rw_release-gives s p k w word found, at.shape, length-without_holder p k s.holders found)
 
     finds_room : is_holder p upgradable s.holders ≡ true → nat_lt (w / weight reading) reader_limit ≡ true
     finds_room found = lt-ltb (w / weight reading) reader_limit (omega (arith, (upgradable-word s p at.exclusive (omega (arith, at.shape.few, at.shape.room)) found).1, word))
@@ -113,102 +109,61 @@ module _ {V : Type 0} (v : V) (cap : ℕ) where
     reads_upgradable may = rw (sym (upgradable_read-word s w cap (one_of_each s at.exclusive) at.shape.room word) ∙ may) refl
 
   owes : (p : ℕ) (c : RwCall) (l : RwPoint) (h : Option Hold) (s : Plain) (w : ℕ) (span : List Mark) → OwesAt (rw_table v cap) (rw_notes v cap) p c l h s w span
-  owes p TryRead (Exchange n) None s w span = λ at. (read_means p at, (λ is. (refl, inl refl, tt)), (λ found. (refl, refl, refl, (refl, refl, found), tt)), (λ closed. (refl, inl refl, inl closed)))
-  owes p TryRead l None s w span = λ at. (read_means p at, (λ found. (refl, refl, refl, (refl, refl, found), tt)), (λ closed. (refl, inl refl, inl closed)))
-  owes p Read (Exchange n) None s w span = λ at. (read_means p at, (λ is. (refl, inl refl, tt)), (λ found. (refl, refl, tt, (refl, refl, found), tt)), (λ closed. (refl, refl, tt, tt, tt)))
-  owes p Read l None s w span = λ at. (read_means p at, (λ found. (refl, refl, tt, (refl, refl, found), tt)), (λ closed. (refl, refl, tt, tt, tt)))
-  owes p TryUpgradeableRead (Exchange n) None s w span = λ at. (upgradable_means p at, (λ is. (refl, inl refl, tt)), (λ found. (refl, refl, refl, (refl, refl, found), tt)), (λ closed. (refl, inl refl, inl closed)))
-  owes p TryUpgradeableRead l None s w span = λ at. (upgradable_means p at, (λ found. (refl, refl, refl, (refl, refl, found), tt)), (λ closed. (refl, inl refl, inl closed)))
-  owes p UpgradeableRead (Exchange n) None s w span = λ at. (upgradable_means p at, (λ is. (refl, inl refl, tt)), (λ found. (refl, refl, tt, (refl, refl, found), tt)), (λ closed. (refl, refl, tt, tt, tt)))
-  owes p UpgradeableRead l None s w span = λ at. (upgradable_means p at, (λ found. (refl, refl, tt, (refl, refl, found), tt)), (λ closed. (refl, refl, tt, tt, tt)))
-  owes p TryWrite l None s w span = λ at. (write_means p at, (refl, inl refl, tt), (λ closed. (refl, inl refl, inl closed)))
-  owes p TryWriteWeak l None s w span = λ at. (write_means p at, (refl, inl refl, tt), (λ closed. (refl, inl refl, inl closed)), (refl, inl refl, tt), refl, refl)
-  owes p Write l None s w span = λ at. (write_means p at, (refl, inl refl, tt), (λ closed. (refl, refl, tt, tt, tt)), (refl, refl, tt, tt, tt), refl, refl)
+  owes p TryRead (Exchange n) None s w span = λ at. grind (arith, read_means p at)
+  owes p TryRead l None s w span = λ at. grind (arith, read_means p at)
+  owes p Read (Exchange n) None s w span = λ at. grind (arith, read_means p at)
+  owes p Read l None s w span = λ at. grind (arith, read_means p at)
+  owes p TryUpgradeableRead (Exchange n) None s w span = λ at. grind (arith, upgradable_means p at)
+  owes p TryUpgradeableRead l None s w span = λ at. grind (arith, upgradable_means p at)
+  owes p UpgradeableRead (Exchange n) None s w span = λ at. grind (arith, upgradable_means p at)
+  owes p UpgradeableRead l None s w span = λ at. grind (arith, upgradable_means p at)
+  owes p TryWrite l None s w span = λ at. grind (arith, write_means p at)
+  owes p TryWriteWeak l None s w span = λ at. grind (arith, write_means p at)
+  owes p Write l None s w span = λ at. grind (arith, write_means p at)
   owes p ReaderCount l None s w span = λ at. (refl, inl refl, inl (readers-word s w (one_of_each s at.exclusive) (word p at)))
   owes p WriterCount l None s w span = λ at. (refl, inl refl, inl (writers-word s w (one_of_each s at.exclusive) (word p at)))
-  owes p TryUpgrade l (Some hold.Upgradable) s w span = λ at. (upgrade_means p at at.known.stand, (refl, inl refl, tt), (λ closed. (refl, inl refl, inl closed)))
-  owes p TryUpgradeWeak l (Some hold.Upgradable) s w span = λ at. (upgrade_means p at at.known.stand, (refl, inl refl, tt), (λ closed. (refl, inl refl, inl closed)), (refl, inl refl, tt), refl, refl)
-  owes p Upgrade Asking (Some hold.Upgradable) s w span = λ at. (upgrade_asked_means p at at.known.stand, (refl, inl refl, tt), (λ closed. (refl, refl, tt, tt, tt)), (refl, refl, tt, tt, tt), refl, refl)
-  owes p Upgrade l (Some hold.Upgradable) s w span = λ at. let found = holder_by p upgradable s at.known.stand in (finds p at upgradable found, turn_means p at upgradable asking found refl (omega arith), (refl, refl, tt, tt, tt))
-  owes p Downgrade l (Some hold.Write) s w span = λ at. let found = holder_by p writing s at.known.stand in (finds p at writing found, turn_means p at writing reading found refl (omega arith), (refl, inl refl, tt))
+  owes p TryUpgrade l (Some hold.Upgradable) s w span = λ at. grind (arith, upgrade_means p at at.known.stand)
+  owes p TryUpgradeWeak l (Some hold.Upgradable) s w span = λ at. grind (arith, upgrade_means p at at.known.stand)
+  owes p Upgrade Asking (Some hold.Upgradable) s w span = λ at. grind (arith, upgrade_asked_means p at at.known.stand)
+  owes p Upgrade l (Some hold.Upgradable) s w span = λ at. grind (arith, turn_means p at upgradable asking at.known.stand refl)
+  owes p Downgrade l (Some hold.Write) s w span = λ at. grind (arith, turn_means p at writing reading at.known.stand refl)
   owes p Downgrade l (Some hold.Upgradable) s w span = λ at.
-      let found = holder_by p upgradable s at.known.stand in
-      (ap (λ b. b && nat_lt (w / weight reading) reader_limit) (finds p at upgradable found) ∙ finds_room p at found, turn_means p at upgradable reading found refl (omega arith), (refl, inl refl, tt))
-  owes p DowngradeToUpgradeable l (Some hold.Write) s w span = λ at. let found = holder_by p writing s at.known.stand in (finds p at writing found, turn_means p at writing upgradable found refl (omega arith), (refl, inl refl, tt))
-  owes p Release l (Some hold.Read) s w span = λ at. let found = holder_by p reading s at.known.stand in (finds p at reading found, release_means p at reading found, (refl, inl refl, tt))
-  owes p Release l (Some hold.Upgradable) s w span = λ at. let found = holder_by p upgradable s at.known.stand in (finds p at upgradable found, release_means p at upgradable found, (refl, inl refl, tt))
-  owes p Release l (Some hold.Write) s w span = λ at. let found = holder_by p writing s at.known.stand in (finds p at writing found, release_means p at writing found, (refl, inl refl, tt))
+      grind (arith, turn_means p at upgradable reading at.known.stand refl, finds_room p at (holder_by p upgradable s at.known.stand))
+  owes p DowngradeToUpgradeable l (Some hold.Write) s w span = λ at. grind (arith, turn_means p at writing upgradable at.known.stand refl)
+  owes p Release l (Some hold.Read) s w span = λ at. grind (arith, release_means p at reading at.known.stand)
+  owes p Release l (Some hold.Upgradable) s w span = λ at. grind (arith, release_means p at upgradable at.known.stand)
+  owes p Release l (Some hold.Write) s w span = λ at. grind (arith, release_means p at writing at.known.stand)
   owes p _ _ _ s w span = tt
 
   -- Run alone: the word that lets a party in is exchanged, at once or after a look
 
-  abbrev Soon : ℕ → ℕ → RwCall → RwPoint → Option Hold → Type 0
-  Soon k w c l h = answers_by (rw_table v cap) k w c l h ≡ true
-
-  -- of a call that comes so
-  module _ (c : RwCall) (f : ℕ → Option ℕ) (ask : Ask) (held : Hold)
-      (comes : (n : ℕ) → act_of {V = V} cap c (Exchange n) None ≡ comes_by f ask held (Continue First) (Exchange n)) (w to : ℕ) (room : f w ≡ Some to) where
-    comes_now : Soon 1 w c (Exchange w) None
-    comes_now = exchanges_now (rw_table v cap) c None Exchange f (λ p. gets p ask) (λ n. granted held) (Continue First) w to room comes 0 refl
-
-    comes_soon : (n : ℕ) → Soon 2 w c (Exchange n) None
-    comes_soon n = retries_soon (rw_table v cap) c None Exchange f (λ p. gets p ask) (λ n. granted held) (Continue First) w to room comes 0 refl n
-
   soon : (p : ℕ) (c : RwCall) (l : RwPoint) (h : Option Hold) (s : Plain) (w : ℕ) (span : List Mark)
       → OwesSoon (rw_table v cap) (rw_notes v cap) p c l h s w span
-  soon p Read (Exchange n) None s w span = λ at free. comes_soon Read (read cap) to_read hold.Read (λ n. refl) w _ (reads p at free) n
-  soon p Read l None s w span = λ at free. rw (reads p at free) (comes_now Read (read cap) to_read hold.Read (λ n. refl) w _ (reads p at free))
-  soon p UpgradeableRead (Exchange n) None s w span = λ at free.
-      comes_soon UpgradeableRead (read_upgradable cap) to_read_upgradable hold.Upgradable (λ n. refl) w _ (reads_upgradable p at free) n
-  soon p UpgradeableRead l None s w span = λ at free.
-      let room = reads_upgradable p at free in
-      rw room (comes_now UpgradeableRead (read_upgradable cap) to_read_upgradable hold.Upgradable (λ n. refl) w _ room)
-  soon p Write l None s w span = λ at free. let zero : (w == 0) ≡ true = sym (empty-word s.holders w (word p at)) ∙ free in rw zero refl
+  soon p Read (Exchange n) None s w span = λ at free. grind (arith, reads p at free, eq-eqb w w refl)
+  soon p Read l None s w span = λ at free. grind (arith, reads p at free, eq-eqb w w refl)
+  soon p UpgradeableRead (Exchange n) None s w span = λ at free. grind (arith, reads_upgradable p at free, eq-eqb w w refl)
+  soon p UpgradeableRead l None s w span = λ at free. grind (arith, reads_upgradable p at free, eq-eqb w w refl)
+  soon p Write l None s w span = λ at free. grind (arith, empty-word s.holders w (word p at))
   soon p Upgrade Asking (Some hold.Upgradable) s w span = λ at free.
-      let open_now = only_left (is_only p asking s.holders) (is_holder p writing s.holders) (writes_nothing p s at.known.stand) free in
-      let is = only_asking-word s p w (one_of_each s at.exclusive) (holder_by p asking s at.known.stand) (word p at) in
-      let six : w ≡ weight asking = eqb-true w (weight asking) (sym is ∙ open_now) in
-      ap (λ k. answers_by (rw_table v cap) 2 k Upgrade Asking (Some hold.Upgradable)) six
+      let mine = at.known.stand in
+      let only = only_left (is_only p asking s.holders) (is_holder p writing s.holders) (writes_nothing p s mine) free in
+      grind (arith, only, only_asking-word s p w (one_of_each s at.exclusive) (holder_by p asking s mine) (word p at))
   soon p Upgrade l (Some hold.Upgradable) s w span = λ at free.
-      let is = only_upgradable-word s p w (one_of_each s at.exclusive) (holder_by p upgradable s at.known.stand) (word p at) in
-      let two : w ≡ weight upgradable = eqb-true w (weight upgradable) (sym is ∙ free) in
-      ap (λ k. answers_by (rw_table v cap) 2 k Upgrade l (Some hold.Upgradable)) two
+      grind (arith, only_upgradable-word s p w (one_of_each s at.exclusive) (holder_by p upgradable s at.known.stand) (word p at))
   soon p _ _ _ s w span = tt
-
-  aims : (p : ℕ) (c : RwCall) (l : RwPoint) (h : Option Hold) → AimsAt (rw_table v cap) (rw_notes v cap) p c l h
-  aims p TryRead First = elim [ None ↦ refl | Some hold.Read ↦ refl | _ ↦ refl ]
-  aims p _ First = elim [ None ↦ refl | Some hold.Read ↦ refl | _ ↦ refl ]
-  aims p _ _ = elim [ None ↦ refl | Some hold.Read ↦ refl | _ ↦ refl ]
-
-  begins : (p : ℕ) (c : RwCall) (h : Option Hold) (s : Plain) → BeginsAt (rw_table v cap) (rw_notes v cap) c h p s (begin_of (rw_table v cap) c h)
-  begins p TryRead = elim [ None ↦ λ s. search | Some hold.Read ↦ λ s. search | _ ↦ λ s. search ]
-  begins p _ = elim [ None ↦ λ s. search | Some hold.Read ↦ λ s. search | _ ↦ λ s. search ]
-
-  sound : (p : ℕ) (c : RwCall) (l : RwPoint) (h : Option Hold) → SoundAt kind.rw (asks_of c h) p (point_of v cap c l h)
-  sound p Upgrade Asking (Some hold.Upgradable) = (refl, inl refl)
-  sound p TryRead (Exchange n) None = refl
-  sound p Read (Exchange n) None = refl
-  sound p TryUpgradeableRead (Exchange n) None = refl
-  sound p UpgradeableRead (Exchange n) None = refl
-  sound p c l h = starts_sound kind.rw (asks_of c h) p (begin_of (rw_table v cap) c h)
-
-  fits_all : (p : ℕ) (c : RwCall) (l : RwPoint) (h : Option Hold) → fits_act kind.rw (asks_of c h) (act_of {V = V} cap c l h) p ≡ true
-  fits_all p TryRead First = elim [ None ↦ refl | Some hold.Read ↦ refl | _ ↦ refl ]
-  fits_all p _ First = elim [ None ↦ refl | Some hold.Read ↦ refl | _ ↦ refl ]
-  fits_all p _ _ = elim [ None ↦ refl | Some hold.Read ↦ refl | _ ↦ refl ]
 
   pub rw_pays : Pays (rw_table v cap) (rw_notes v cap)
   rw_pays =
       record {
-        fits = fits_all;
+        fits = λ p c l h. grind arith;
         operates = operates_by (rw_table v cap) one_place;
         first = refl;
         shape_first = record { no_queue = refl; room = refl; few = omega arith };
         numbers_tell = λ v w e. cc (e);
         one_list = λ s shape. no_queue s shape.no_queue;
-        sound = sound;
-        aims = aims;
-        begins = begins;
+        sound = λ p c l h. grind (arith, starts_sound kind.rw (asks_of c h) p (begin_of (rw_table v cap) c h));
+        aims = λ p c l h. grind arith;
+        begins = λ p c h s. grind arith;
         others = λ p q c l h s step r span ne shape may belongs knows. tt;
         owes = owes;
         soon = soon;

@@ -1,18 +1,15 @@
 -- What users of a read-write lock rely on.
-use Rattle.spin_world_rw.proofs.Names.{◌≡◌, ℕ, ◌+◌, ◌==◌, ◌↔◌, Bool, true, false, not, ◌&&◌, ◌||◌, if◌then◌else◌, Option, Some, None, List, [], ◌∷◌, ◌++◌, slice_get, slice_set, refl, ap, sym, ◌∙◌, subst, arith, eqb-true, ne_eqb, true≢false, false≢true, Plain, Kind, reading, upgradable, asking, writing, Holder, Change, is_empty, is_holder, is_only, same_kind, count_kind, rw_word, weight, apply_some, IsOpenStep, Entries, entries, IsExclusive, bit, empty_is, is_holder-own, reader_goes, one_of_each, only_asking-word, empty-word, word_of, Answer, Hold, Continue, Answers, RwCall, Read, TryUpgrade, TryUpgradeWeak, Upgrade, Downgrade, DowngradeToUpgradeable, RwPoint, Asking, Mark, becomes, upgrade, upgrade_asked, Stand, holds, holds_and_starves, entries_at, row_of, never}
-use Rattle.std.proofs.Math.Bool.{and-false, or-false}
+use Rattle.spin_world_rw.proofs.Names.{◌≡◌, ℕ, ◌+◌, ◌==◌, ◌↔◌, Bool, true, false, Option, Some, None, List, [], ◌∷◌, ◌++◌, slice_get, ap, sym, ◌∙◌, arith, Plain, Kind, reading, upgradable, asking, writing, Change, is_holder, is_only, count_kind, rw_word, weight, apply_some, IsOpenStep, entries, IsExclusive, bit, empty_is, is_holder-own, reader_goes, one_of_each, only_asking-word, empty-word, word_of, Answer, Hold, RwCall, RwPoint, Mark, Stand, holds, holds_and_starves, entries_at, row_of}
 use Rattle.spin_step.proofs.Upgrading.{readers_only_go, alone_when_gone}
-use Rattle.spin_world_core.specs.declared.answer.Answer.TheVariants.{Granted, Refused, Done}
-use Rattle.spin_world_core.specs.declared.place.Hold.TheVariants as hold
+use Rattle.spin_world_core.specs.declared.answer.Answer.TheVariants.{Granted, Done}
 use Rattle.spin_world_core.specs.declared.place.Seat.TheVariants.{Calling, Holding}
-use Rattle.spin_world_core.specs.declared.object.Next.{Next}
 use Rattle.spin_world_core.specs.declared.schedule.Move.{Move}
 use Rattle.spin_world_core.specs.declared.schedule.Move.TheVariants.{Step}
 use Rattle.spin_world_core.specs.declared.schedule.Outcome.TheVariants.{Answered}
-use Rattle.spin_world_core.specs.Schedules.{State, moves_at, stepped, after, at_first, may_read}
+use Rattle.spin_world_core.specs.Schedules.{State, moves_at, after, at_first}
 use Rattle.spin_world_core.specs.Runs.{Seen, scene, opening, entries_of, is_reader}
 use Rattle.spin_world_core.specs.Users.{seen_after, passes, ReadsAgreeAcross}
-use Rattle.spin_world_rw.specs.Rw.{granted, rw_table, rw_machine}
+use Rattle.spin_world_rw.specs.Rw.{rw_table, rw_machine}
 use Rattle.spin_world_rw.specs.Standing.{StandTogether, KeepsWritersOut, less, Downgrades, readers_gone, StaysAsking, Opens, converts}
 use Rattle.spin_world_rw.proofs.Owed.{holder_by, rw_notes, rw_keeping, rw_facts}
 use Rattle.spin_world_core.specs.Machines.{Machine}
@@ -21,36 +18,17 @@ use Rattle.spin_world_core.proofs.Lists.{get-set_same}
 use Rattle.spin_world_core.proofs.Preserved.{Invariant}
 use Rattle.spin_world_core.proofs.Every.{kept}
 use Rattle.spin_world_core.proofs.Schedules.{after-append}
-use Rattle.spin_world_core.proofs.Guards.{ReadsOn, reads_agree_across, seen_after-append}
+use Rattle.spin_world_core.proofs.Guards.{reads_agree_across, seen_after-append}
 
 -- Who stands beside a reader that asks to upgrade
 
 goes_some : (s : Plain) (p q : ℕ) (step : Option Change) → IsExclusive s → is_holder p asking s.holders ≡ true → IsOpenStep s q step → is_holder p asking (apply_some s step).holders ≡ true
     → count_kind reading (apply_some s step).holders + bit (passes reader_goes step) ≡ count_kind reading s.holders
-goes_some s p q None alone found may stays = omega arith
-goes_some s p q (Some c) alone found may stays = readers_only_go s p c alone found may.1 stays
-
-one_party : (a b : Bool) → ((a && b) || false) ≡ true → a ≡ true
-one_party true b e = refl
-one_party false b e = absurd cc
+goes_some s p q step alone found may stays = grind (arith, readers_only_go s p, alone)
 
 -- whoever holds keeps other parties from writing
 keeps_writers_out : (p : ℕ) (k : Kind) (s : Plain) → is_holder p k s.holders ≡ true → KeepsWritersOut p s
-keeps_writers_out p k s found = λ q ne. out q ne s.holders found
-  where
-    out : (q : ℕ) → (q ≡ p → ⊥) → (hs : List Holder) → is_holder p k hs ≡ true → (is_empty hs ≡ false) × (is_only q upgradable hs ≡ false) × (is_only q asking hs ≡ false)
-    out q ne [] found = absurd cc
-    out q ne (h ∷ []) found =
-        let another = ne_eqb h.party q (λ e. ne (sym e ∙ eqb-true h.party p (one_party (h.party == p) (same_kind k h.kind) found))) in
-        (refl, ap (λ b. b && same_kind upgradable h.kind) another, ap (λ b. b && same_kind asking h.kind) another)
-    out q ne (h ∷ i ∷ hs) found = (refl, refl, refl)
-
--- What an upgrade comes to
-
-came : (V : Type 0) (s : State ℕ V RwCall RwPoint) (p w : ℕ) (c : RwCall) (h : Option Hold) (lost : Next RwPoint (Answer V)) (b : Bool) → ((stepped {A = Answer V} s p c h (becomes (λ (k : ℕ). k) w None (granted hold.Write) lost)).outcome ≡ Answered Granted None → ⊥)
-    → ((stepped {A = Answer V} s p c h (becomes (λ (k : ℕ). k) w (if b then Some 1 else None) (granted hold.Write) lost)).outcome ≡ Answered Granted None) ↔ (b ≡ true)
-came V s p w c h lost true never = (λ e. refl, λ e. refl)
-came V s p w c h lost false never = (λ e. absurd (never e), λ e. absurd (true≢false (sym e)))
+keeps_writers_out p k s found = λ q ne. grind (arith, found, ne)
 
 -- a party that asks stands as one that does
 abbrev may_ask : Stand → Bool
@@ -58,15 +36,8 @@ may_ask (holds asking) = true
 may_ask (holds_and_starves k) = true
 may_ask _ = false
 
-asking_stand : (p : ℕ) (stand : Stand) → is_holder p asking (entries_at p stand).holders ≡ true → may_ask stand ≡ true
-asking_stand p (holds asking) asks = refl
-asking_stand p (holds_and_starves k) asks = refl
-asking_stand p (holds k) asks = absurd (false≢true (sym (or-false ((p == p) && false) ∙ and-false (p == p)) ∙ asks))
-asking_stand p _ asks = absurd (false≢true asks)
-
 asks_by : (p : ℕ) (s : Plain) (stand : Stand) → is_holder p asking s.holders ≡ true → entries p s ≡ entries_at p stand → may_ask stand ≡ true
-asks_by p s stand asks is =
-    asking_stand p stand (ap (λ (e : Entries). is_holder p asking e.holders) (sym is) ∙ (sym (is_holder-own p asking s.holders) ∙ asks))
+asks_by p s stand asks is = grind (arith, is_holder-own p asking s.holders)
 
 module _ {V : Type 0} (v : V) (cap : ℕ) where
   -- a party that asks is in its upgrade, and goes for the word of a reader that is alone and asks
@@ -77,13 +48,7 @@ module _ {V : Type 0} (v : V) (cap : ℕ) where
   AsksAt c l h = passes_some (λ row. may_ask row.stand) (row_of (rw_table v cap) (rw_notes v cap) c l h) ≡ true
 
   upgraded : (s : State ℕ V RwCall RwPoint) (p : ℕ) (c : RwCall) (l : RwPoint) (h : Option Hold) → AsksAt c l h → Upgrades s p c l h
-  upgraded s p Upgrade Asking = elim [
-    | Some hold.Upgradable ↦ λ asks. came V s p s.words Upgrade (Some hold.Upgradable) (Continue Asking) (s.words == weight asking) (λ e. absurd (cc (e)))
-    | None ↦ never
-    | _ ↦ never
-  ]
-  upgraded s p _ Asking = elim [ None ↦ never | Some hold.Read ↦ never | _ ↦ never ]
-  upgraded s p _ _ = elim [ None ↦ never | Some hold.Read ↦ never | _ ↦ never ]
+  upgraded s p c l h asks = grind (arith, asks)
 
   -- Over a whole schedule
 
@@ -150,32 +115,20 @@ module _ {V : Type 0} (v : V) (cap : ℕ) where
 
   -- A downgrade is one step
 
-  seated : (s : State ℕ V RwCall RwPoint) (p : ℕ) (c : RwCall) (l : RwPoint) (h : Option Hold) (now held : Hold) → now ≡ held → slice_get s.seats p ≡ Some (Calling c l h) → slice_get (slice_set s.seats p (Holding now)) p ≡ Some (Holding held)
-  seated s p c l h now held same there = get-set_same s.seats p (Holding now) (Calling c l h) there ∙ ap (λ x. Some (Holding x)) same
-
   downgraded : (s : State ℕ V RwCall RwPoint) (p : ℕ) (c : RwCall) (l : RwPoint) (h : Option Hold) (held : Hold) → less c ≡ Some held → slice_get s.seats p ≡ Some (Calling c l h)
       → ((moves_at m s p Step (Some (Calling c l h))).outcome ≡ Answered Done None)
       × (slice_get (moves_at m s p Step (Some (Calling c l h))).next.seats p ≡ Some (Holding held))
-  downgraded s p Downgrade l (Some hold.Write) held is there = (refl, seated s p Downgrade l (Some hold.Write) hold.Read held (cc (is)) there)
-  downgraded s p Downgrade l h held is there = (refl, seated s p Downgrade l h hold.Read held (cc (is)) there)
-  downgraded s p DowngradeToUpgradeable l h held is there = (refl, seated s p DowngradeToUpgradeable l h hold.Upgradable held (cc (is)) there)
-  downgraded s p _ l h held is there = absurd (cc (is))
+  downgraded s p c l h held is there = grind (arith, λ (now : Hold). get-set_same s.seats p (Holding now) (Calling c l h) there)
 
   -- a party that is in such a call holds
   holds_there : (p : ℕ) (c : RwCall) (l : RwPoint) (h : Option Hold) (held : Hold) (s : Plain) (span : List Mark) → less c ≡ Some held → (rw_keeping v cap).Knows c l h p s span → KeepsWritersOut p s
-  holds_there p Downgrade l (Some hold.Write) held s span is knows = keeps_writers_out p writing s (holder_by p writing s knows.0.stand)
-  holds_there p Downgrade l (Some hold.Upgradable) held s span is knows = keeps_writers_out p upgradable s (holder_by p upgradable s knows.0.stand)
-  holds_there p Downgrade l _ held s span is knows = absurd knows
-  holds_there p DowngradeToUpgradeable l (Some hold.Write) held s span is knows = keeps_writers_out p writing s (holder_by p writing s knows.0.stand)
-  holds_there p DowngradeToUpgradeable l _ held s span is knows = absurd knows
-  holds_there p _ l h held s span is knows = absurd (cc (is))
+  holds_there p c l h held s span is knows =
+      grind (arith, knows, holder_by p writing s, holder_by p upgradable s, keeps_writers_out p writing s, keeps_writers_out p upgradable s)
 
   -- and so it does after it
   holds_after : (p : ℕ) (held : Hold) (c : RwCall) (s : Plain) → less c ≡ Some held → entries p s ≡ entries_of p held → KeepsWritersOut p s
-  holds_after p hold.Read c s is mine = keeps_writers_out p reading s (holder_by p reading s mine)
-  holds_after p hold.Upgradable c s is mine = keeps_writers_out p upgradable s (holder_by p upgradable s mine)
-  holds_after p held Downgrade s is mine = absurd (cc (is))
-  holds_after p held _ s is mine = absurd (cc (is))
+  holds_after p held c s is mine =
+      grind (arith, holder_by p reading s, holder_by p upgradable s, keeps_writers_out p reading s, keeps_writers_out p upgradable s)
 
   pub downgrades : (n : ℕ) (past : List (ℕ × Move RwCall V)) → Downgrades m n past
   downgrades n past p c l h held is there =
@@ -199,45 +152,12 @@ module _ {V : Type 0} (v : V) (cap : ℕ) where
   abbrev reads_at : ℕ → RwCall → RwPoint → Hold → Bool
   reads_at p c l h = passes_all (λ row. is_reader (entries_at p row.stand)) (row_of (rw_table v cap) (rw_notes v cap) c l (Some h))
 
-  reads_there : (p : ℕ) (c : RwCall) (l : RwPoint) (h : Hold) → (not (converts c) || reads_at p c l h) ≡ true
-  reads_there p Upgrade Asking = elim [ hold.Read ↦ refl | _ ↦ refl ]
-  reads_there p _ Asking = elim [ hold.Read ↦ refl | _ ↦ refl ]
-  reads_there p _ _ = elim [ hold.Read ↦ refl | _ ↦ refl ]
-
-  reads_on : (w : ℕ) (o : Option ℕ) (won lost : Next RwPoint (Answer V)) → ReadsOn won → ReadsOn lost → ReadsOn (becomes {V = V} (λ (k : ℕ). k) w o won lost).next
-  reads_on w None won lost on on_lost = on_lost
-  reads_on w (Some to) won lost on on_lost = on
-
-  steps_on : (c : RwCall) (l : RwPoint) (h : Hold) (w : ℕ) (value : Option V) → converts c ≡ true → may_read h ≡ true
-      → ReadsOn (m.step w value c l (Some h)).next
-  steps_on TryUpgrade l h w value is may = reads_on w (upgrade w) (granted hold.Write) (Answers Refused (Some h)) refl may
-  steps_on TryUpgradeWeak l h w value is may = reads_on w (upgrade w) (granted hold.Write) (Answers Refused (Some h)) refl may
-  steps_on Upgrade Asking h w value is may = reads_on w (upgrade_asked w) (granted hold.Write) (Continue Asking) refl tt
-  steps_on Upgrade l h w value is may = tt
-  steps_on Downgrade l hold.Write w value is may = refl
-  steps_on Downgrade l _ w value is may = refl
-  steps_on DowngradeToUpgradeable l h w value is may = refl
-  steps_on _ l h w value is may = absurd (false≢true is)
-
-  refuses_on : (c : RwCall) (l : RwPoint) (h : Hold) (next : Next RwPoint (Answer V)) → converts c ≡ true → may_read h ≡ true
-      → m.refuse c l (Some h) ≡ Some next → ReadsOn next
-  refuses_on TryUpgradeWeak l h next is may weak = let same : Answers Refused (Some h) ≡ next = cc (weak) in subst (λ (x : Next RwPoint (Answer V)). ReadsOn x) same may
-  refuses_on Upgrade Asking h next is may weak = let same : Continue Asking ≡ next = cc (weak) in subst (λ (x : Next RwPoint (Answer V)). ReadsOn x) same tt
-  refuses_on Upgrade l h next is may weak = absurd (cc (weak))
-  refuses_on Downgrade l hold.Write next is may weak = absurd (cc (weak))
-  refuses_on Downgrade l _ next is may weak = absurd (cc (weak))
-  refuses_on TryUpgrade l h next is may weak = absurd (cc (weak))
-  refuses_on DowngradeToUpgradeable l h next is may weak = absurd (cc (weak))
-  refuses_on _ l h next is may weak = absurd (false≢true is)
-
   pub looks_agree : (n : ℕ) (past : List (ℕ × Move RwCall V)) → ReadsAgreeAcross converts m n past
   looks_agree n past =
       reads_agree_across m (rw_keeping v cap) (rw_facts v cap) converts
       (record {
-        reads = λ p c l h s span is may knows.
-            let there = ap (λ b. not b || reads_at p c l h) (sym is) ∙ reads_there p c l h in
-            row_tells (rw_table v cap) (rw_notes v cap) c l (Some h) p s span is_reader _ knows there;
-        steps = steps_on;
-        refuses = refuses_on;
+        reads = λ p c l h s span is may knows. row_tells (rw_table v cap) (rw_notes v cap) c l (Some h) p s span is_reader _ knows (grind (arith, is));
+        steps = λ c l h w value is may. grind (arith, is, may);
+        refuses = λ c l h next is may weak. grind (arith, is, may, weak);
       })
       n past
