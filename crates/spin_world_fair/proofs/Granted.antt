@@ -1,5 +1,5 @@
 -- A party that has set the flag as a starver stands where its next step is granted, and who waits for it where it sets a clear one.
-use Rattle.spin_world_fair.proofs.Names.{◌≡◌, ℕ, ◌+◌, ◌%◌, ◌==◌, ◌⊎◌, Bool, true, not, ◌&&◌, Option, Some, None, List, refl, ap, sym, ◌∙◌, inl, inr, ⊎_elim, eq-eqb, and_from, is_empty, fair_word, Entries, Hold, Starver, Continue, Answer, opening, is_waiting, entries_at, row_of, never, FairCall, Lock, FairPoint, First, SetFlag, Await, Unregister, asks_of, fair_table, fair_machine, IsGrantedNext, SetsAClearFlag, GoesForAClearFlag}
+use Rattle.spin_world_fair.proofs.Names.{◌≡◌, ℕ, ◌+◌, ◌%◌, ◌==◌, ◌⊎◌, Bool, true, not, ◌&&◌, Option, Some, List, refl, ap, sym, ◌∙◌, arith, inl, inr, ⊎_elim, eq-eqb, and_from, is_empty, fair_word, Entries, Hold, Continue, Answer, opening, is_waiting, entries_at, row_of, FairCall, FairPoint, SetFlag, Await, Unregister, asks_of, fair_table, fair_machine, IsGrantedNext, SetsAClearFlag, GoesForAClearFlag}
 use Rattle.spin_world_core.specs.declared.place.Seat.TheVariants.{Calling}
 use Rattle.spin_world_core.specs.declared.schedule.Move.{Move}
 use Rattle.spin_world_core.specs.declared.schedule.Move.TheVariants.{Step}
@@ -23,10 +23,7 @@ module _ {V : Type 0} (v : V) (cap patience : ℕ) where
   -- elsewhere a party holds nothing, or is no starver
   leaves_at : (p : ℕ) (c : FairCall) (l : FairPoint) (h : Option Hold)
       → StandsSo (fair_table v cap patience) (fair_notes v cap patience) holds_starving p c l h → l ≡ Unregister
-  leaves_at p Lock First = elim [ None ↦ never | Some Starver ↦ never | _ ↦ never ]
-  leaves_at p c Unregister = λ h both. refl
-  leaves_at p _ First = elim [ None ↦ never | Some Starver ↦ never | _ ↦ never ]
-  leaves_at p _ _ = elim [ None ↦ never | Some Starver ↦ never | _ ↦ never ]
+  leaves_at p c l h both = grind (arith, both)
 
   pub granted_next : (n : ℕ) (past : List (ℕ × Move FairCall V)) → IsGrantedNext m n past
   granted_next n past p c l h there is =
@@ -49,11 +46,9 @@ module _ {V : Type 0} (v : V) (cap patience : ℕ) where
       (passes_some (λ row. starves_alone (entries_at p row.stand)) row && is_waiting (asks_of patience c h)) ≡ true
 
   goes_for : (p w : ℕ) → w % 2 ≡ 0 → (c : FairCall) (l : FairPoint) (h : Option Hold) → WaitsAt p c l h → GoesFor w c l h
-  goes_for p w clear Lock First = elim [ None ↦ never | Some Starver ↦ never | _ ↦ never ]
   goes_for p w clear c SetFlag = λ h both. inl (λ value. sets c h w value clear)
   goes_for p w clear c Await = λ h both. inr (SetFlag, (λ value. rw (ap (λ n. n == 1) clear) refl), sets c h)
-  goes_for p w clear _ First = elim [ None ↦ never | Some Starver ↦ never | _ ↦ never ]
-  goes_for p w clear _ _ = elim [ None ↦ never | Some Starver ↦ never | _ ↦ never ]
+  goes_for p w clear c l = λ h both. grind (arith, both)
 
   pub goes_for_flag : (n : ℕ) (past : List (ℕ × Move FairCall V)) → GoesForAClearFlag m n past
   goes_for_flag n past p c l h there waits is free =

@@ -1,5 +1,5 @@
 -- Registering in time: what `lock` knows of the looks in its span, that others leave it true, and what each step makes of it.
-use Rattle.spin_world_fair.proofs.Names.{◌≡◌, ℕ, ◌+◌, ◌<◌, ◌≤◌, ◌⊎◌, ◌==◌, true, false, not, ◌&&◌, ◌||◌, is_some, nat_lt, if◌then◌else◌, Option, Some, None, List, [], ◌∷◌, ◌++◌, refl, ap, sym, ◌∙◌, subst, arith, inl, inr, ⊎_elim, ne_eqb, eq-eqb, le-ltb, false≢true, or-true, Plain, Change, gets, to_starve, is_open, apply_some, is_held, bit, StepKind, plain, again, look, is_look, Mark, AnyOf, Registers, TriesToStarve, first_word, fair, mark_of, own, own_count, changes, held_looks, IsLateLook, RegistersInTime, moved, is_open_to}
+use Rattle.spin_world_fair.proofs.Names.{◌≡◌, ℕ, ◌+◌, ◌<◌, ◌≤◌, ◌⊎◌, ◌==◌, true, false, not, ◌&&◌, ◌||◌, is_some, nat_lt, if◌then◌else◌, Option, Some, None, List, [], ◌∷◌, ◌++◌, refl, ap, sym, ◌∙◌, arith, inl, inr, ⊎_elim, ne_eqb, false≢true, or-true, Plain, Change, gets, to_starve, is_open, apply_some, is_held, bit, StepKind, plain, again, look, is_look, Mark, AnyOf, Registers, TriesToStarve, first_word, fair, mark_of, own, own_count, changes, held_looks, IsLateLook, RegistersInTime, moved, is_open_to}
 use Rattle.spin_world_core.specs.Spans.{is_blind, may_be_blind}
 use Rattle.spin_world_core.proofs.Lists.{eqb_self}
 use Rattle.spin_world_core.proofs.Spans.{own_count-mine, own_count-other, changes-mine, changes-other}
@@ -8,24 +8,12 @@ use Rattle.spin_world_core.proofs.Spans.{own_count-mine, own_count-other, change
 module _ (Few Fewer : List Mark → Type 0) (p n : ℕ) (now : Mark) (span : List Mark) (keeps : (recent : List Mark) → Few recent → TriesToStarve p now ⊎ Fewer (now ∷ recent)) (first : IsLateLook p n now span → Fewer [])
     (registers : Registers p now → n < held_looks p span) (sees : (not ((now.party == p) && is_blind now) || may_be_blind p n span) ≡ true) (old : RegistersInTime Few p n span) where
   soon_later : (recent : List Mark) (m : Mark) (older : List Mark) → now ∷ span ≡ recent ++ m ∷ older → IsLateLook p n m older → AnyOf (TriesToStarve p) recent ⊎ Fewer recent
-  soon_later [] m older is late =
-      let here : now ≡ m = cc (is) in
-      let rest : span ≡ older = cc (is) in
-      inr (first (subst (λ k. IsLateLook p n k span) (sym here) (subst (λ ms. IsLateLook p n m ms) (sym rest) late)))
-  soon_later (x ∷ recent) m older is late =
-      let here : now ≡ x = cc (is) in
-      let rest : span ≡ recent ++ m ∷ older = cc (is) in
-      ⊎_elim
-      (λ tried. inl (inr tried))
-      (λ few. ⊎_elim (λ tries. inl (inl (subst (TriesToStarve p) here tries))) (λ fewer. inr (subst (λ k. Fewer (k ∷ recent)) here fewer)) (keeps recent few))
-      (old.soon recent m older rest late)
+  soon_later [] m older is late = grind (arith, is, late, first)
+  soon_later (x ∷ recent) m older is late = grind (arith, is, late, keeps recent, old.soon recent m older)
 
   patient_later : (recent : List Mark) (m : Mark) (older : List Mark) → now ∷ span ≡ recent ++ m ∷ older → Registers p m → n < held_looks p older
-  patient_later [] m older is register =
-      let here : now ≡ m = cc (is) in
-      let rest : span ≡ older = cc (is) in
-      subst (λ ms. n < held_looks p ms) rest (registers (subst (Registers p) (sym here) register))
-  patient_later (x ∷ recent) m older is register = let rest : span ≡ recent ++ m ∷ older = cc (is) in old.patient recent m older rest register
+  patient_later [] m older is register = grind (arith, is, register, registers)
+  patient_later (x ∷ recent) m older is register = grind (arith, is, register, old.patient recent m older)
 
   later : RegistersInTime Fewer p n (now ∷ span)
   later = record { looking = ap (λ b. b && (not ((now.party == p) && is_blind now) || may_be_blind p n span)) old.looking ∙ sees; soon = soon_later; patient = patient_later }
@@ -92,41 +80,31 @@ module _ (patience p q : ℕ) (s : Plain) (step : Option Change) (r : StepKind) 
   starving-other old = beside none_left none_left (λ recent few. few) old
 
   pub looking-other : (k : ℕ) → Looking patience k p span → Looking patience k p (mark_of q step r s ∷ span)
-  looking-other k old =
-      let same = held_looks-other p q step r s span ne in
-      record { counted = λ lt. omega (arith, same, old.counted lt); many = omega (arith, same, old.many); in_time = starving-other old.in_time }
+  looking-other k old = grind (arith, held_looks-other p q step r s span ne, old.counted, old.many, starving-other old.in_time)
 
   pub loading-other : Loading patience p span → Loading patience p (mark_of q step r s ∷ span)
   loading-other old =
-      record {
-        past = omega (arith, held_looks-other p q step r s span ne, old.past);
-        in_time = beside (few_to_load p) (few_to_load p) (λ recent few. omega (arith, own_count-other p q step r s recent ne, changes-other fair p q step r s recent ne, few)) old.in_time;
-      }
+      let few = beside (few_to_load p) (few_to_load p)
+      (λ recent few. omega (arith, own_count-other p q step r s recent ne, changes-other fair p q step r s recent ne, few)) old.in_time in
+      grind (arith, held_looks-other p q step r s span ne, old.past, few)
 
   pub registering-other : (w : ℕ) → Registering patience w p s span → Registering patience w p (apply_some s step) (mark_of q step r s ∷ span)
   registering-other w old =
-      record {
-        past = omega (arith, held_looks-other p q step r s span ne, old.past);
-        in_time = beside (few_to_register p s w) (few_to_register p (apply_some s step) w)
-            (λ recent few. omega (arith, own_count-other p q step r s recent ne, changes-other fair p q step r s recent ne, moved (own_count p recent) (1 + changes fair p recent) w (first_word fair s) (first_word fair (apply_some s step)) few))
-            old.in_time;
-      }
+      let few = beside (few_to_register p s w) (few_to_register p (apply_some s step) w)
+      (λ recent few. grind (arith, own_count-other p q step r s recent ne, changes-other fair p q step r s recent ne, moved, few)) old.in_time in
+      grind (arith, held_looks-other p q step r s span ne, old.past, few)
 
 -- a step of its own
 
 -- after it the next one may be blind
-blind_by : (n p : ℕ) (step : Option Change) (r : StepKind) (s : Plain) (span : List Mark) → (is_some step || (is_look r && (not (is_held s) || not (nat_lt (held_looks p span) n)))) ≡ true → MayBeBlind n p (mark_of p step r s ∷ span)
-blind_by n p step r s span is =
-    ap (λ b. if b then is_some step || (is_look r && (not (is_held s) || not (nat_lt (held_looks p span) n))) else may_be_blind p n span) (eqb_self p) ∙ is
-
 pub blind_after_step : (n p : ℕ) (c : Change) (r : StepKind) (s : Plain) (span : List Mark) → MayBeBlind n p (mark_of p (Some c) r s ∷ span)
-blind_after_step n p c r s span = blind_by n p (Some c) r s span refl
+blind_after_step n p c r s span = grind (arith, eqb_self p)
 
 pub blind_after_free : (n p : ℕ) (s : Plain) (span : List Mark) → is_held s ≡ false → MayBeBlind n p (mark_of p None look s ∷ span)
-blind_after_free n p s span free = blind_by n p None look s span (ap (λ b. not b || not (nat_lt (held_looks p span) n)) free)
+blind_after_free n p s span free = grind (arith, eqb_self p)
 
 pub blind_after_late : (n p : ℕ) (s : Plain) (span : List Mark) → n ≤ held_looks p span → MayBeBlind n p (mark_of p None look s ∷ span)
-blind_after_late n p s span late = blind_by n p None look s span (ap (λ b. not (is_held s) || not b) (le-ltb (held_looks p span) n late) ∙ or-true _)
+blind_after_late n p s span late = grind (arith, eqb_self p)
 
 held_looks-mine : (p : ℕ) (step : Option Change) (r : StepKind) (s : Plain) (span : List Mark) → held_looks p (mark_of p step r s ∷ span) ≡ held_looks p span + bit (is_look r && is_held s)
 held_looks-mine p step r s span = ap (λ b. held_looks p span + bit (b && (is_look r && is_held s))) (eqb_self p)
@@ -153,69 +131,48 @@ module _ (patience p : ℕ) (s : Plain) (span : List Mark) where
 
   pub missed : (k : ℕ) (r : StepKind) → is_look r ≡ false → MayBeBlind patience p span → Looking patience k p span → Looking patience k p (mark_of p None r s ∷ span)
   missed k r no_look may old =
-      let same = held_looks-mine p None r s span ∙ ap (λ b. held_looks p span + bit (b && is_held s)) no_look in
-      record { counted = λ lt. omega (arith, same, old.counted lt); many = omega (arith, same, old.many); in_time = goes_on None r no_look (λ is. cc (is)) (allowed None r may) old.in_time }
+      let in_time = goes_on None r no_look (λ is. cc (is)) (allowed None r may) old.in_time in
+      grind (arith, held_looks-mine p None r s span, old.counted, old.many, in_time)
 
   -- it finds the lock free
   pub looked_free : (k : ℕ) → is_held s ≡ false → Looking patience k p span → Looking patience k p (mark_of p None look s ∷ span)
   looked_free k free old =
-      let same = held_looks-mine p None look s span ∙ ap (λ b. held_looks p span + bit b) free in
-      record {
-        counted = λ lt. omega (arith, same, old.counted lt);
-        many = omega (arith, same, old.many);
-        in_time = later none_left none_left p patience (mark_of p None look s) span (λ recent few. inr few) (λ late. false≢true (sym free ∙ late.held)) (λ register. absurd (cc (register.1))) (mine None look refl) old.in_time;
-      }
+      let keeps = later none_left none_left p patience (mark_of p None look s) span (λ recent few. inr few) in
+      let in_time = keeps (λ late. false≢true (sym free ∙ late.held)) (λ register. absurd (cc (register.1))) (mine None look refl) old.in_time in
+      grind (arith, held_looks-mine p None look s span, old.counted, old.many, in_time)
 
   -- it finds the lock held
   pub looked_held : (k : ℕ) → is_held s ≡ true → k < patience → Looking patience k p span → Looking patience (k + 1) p (mark_of p None look s ∷ span)
   looked_held k held lt old =
-      let more = held_looks-mine p None look s span ∙ ap (λ b. held_looks p span + bit b) held in
-      record {
-        counted = λ still. omega (arith, more, old.counted lt);
-        many = omega (arith, more, old.many);
-        in_time = later none_left none_left p patience (mark_of p None look s) span (λ recent few. inr few) (λ late. absurd (omega (arith, late.late, old.counted lt, lt))) (λ register. absurd (cc (register.1))) (mine None look refl) old.in_time;
-      }
+      let keeps = later none_left none_left p patience (mark_of p None look s) span (λ recent few. inr few) in
+      let in_time = keeps (λ late. omega (arith, late.late, old.counted lt, lt)) (λ register. absurd (cc (register.1))) (mine None look refl) old.in_time in
+      grind (arith, held_looks-mine p None look s span, old.counted, old.many, in_time)
 
   -- past its patience
   pub looked_late : (k : ℕ) → is_held s ≡ true → patience ≤ k → Looking patience k p span → Loading patience p (mark_of p None look s ∷ span)
   looked_late k held le old =
-      let more = held_looks-mine p None look s span ∙ ap (λ b. held_looks p span + bit b) held in
-      record {
-        past = omega (arith, more, old.many, le);
-        in_time = later none_left (few_to_load p) p patience (mark_of p None look s) span (λ recent few. absurd few) (λ late. omega arith) (λ register. absurd (cc (register.1))) (mine None look refl) old.in_time;
-      }
-
-  unseen : (Few : List Mark → Type 0) (r : StepKind) → is_look r ≡ false → Going Few patience p span → patience < held_looks p (mark_of p None r s ∷ span)
-  unseen Few r no_look old = omega (arith, held_looks-mine p None r s span ∙ ap (λ b. held_looks p span + bit (b && is_held s)) no_look, old.past)
+      let keeps = later none_left (few_to_load p) p patience (mark_of p None look s) span (λ recent few. absurd few) in
+      let in_time = keeps (λ late. omega arith) (λ register. absurd (cc (register.1))) (mine None look refl) old.in_time in
+      grind (arith, held_looks-mine p None look s span, old.many, in_time)
 
   pub loaded : (w : ℕ) → w ≡ first_word fair s → MayBeBlind patience p span → Loading patience p span → Registering patience w p s (mark_of p None plain s ∷ span)
   loaded w is may old =
-      record {
-        past = unseen (few_to_load p) plain refl old;
-        in_time = passes (few_to_load p) (few_to_register p s w) None plain refl (λ is. cc (is)) (allowed None plain may)
-            (λ recent few. inr (omega (arith, own_count-mine p None plain s recent, changes-mine fair p None plain s recent, ap (λ b. bit (not b)) (eq-eqb (first_word fair s) w (sym is)), few)))
-            old.in_time;
-      }
+      let few = passes (few_to_load p) (few_to_register p s w) None plain refl (λ is. cc (is)) (allowed None plain may)
+      (λ recent few. grind (arith, is, few, own_count-mine p None plain s recent, changes-mine fair p None plain s recent)) old.in_time in
+      grind (arith, held_looks-mine p None plain s span, old.past, few)
 
   -- its exchange fails, since the word is another
   pub retried : (n w : ℕ) → w ≡ first_word fair s → (w == n) ≡ false → Registering patience n p s span → Registering patience w p s (mark_of p None again s ∷ span)
   retried n w is other old =
-      let differs : bit (not (first_word fair s == n)) ≡ 1 = ap (λ k. bit (not (k == n))) (sym is) ∙ ap (λ b. bit (not b)) other in
-      record {
-        past = unseen (few_to_register p s n) again refl old;
-        in_time = passes (few_to_register p s n) (few_to_register p s w) None again refl (λ is. cc (is)) refl
-            (λ recent few. inr (omega (arith, own_count-mine p None again s recent, changes-mine fair p None again s recent, ap (λ b. bit (not b)) (eq-eqb (first_word fair s) w (sym is)), differs, few)))
-            old.in_time;
-      }
+      let few = passes (few_to_register p s n) (few_to_register p s w) None again refl (λ is. cc (is)) refl
+      (λ recent few. grind (arith, is, other, few, own_count-mine p None again s recent, changes-mine fair p None again s recent)) old.in_time in
+      grind (arith, held_looks-mine p None again s span, old.past, few)
 
   -- it finds the cap
   pub full : (Few : List Mark → Type 0) (r : StepKind) → is_look r ≡ false → IsAllowed None r → is_open s (gets p to_starve) ≡ false → Going Few patience p span → Looking patience patience p (mark_of p None r s ∷ span)
   full Few r no_look may closed old =
-      record {
-        counted = λ lt. absurd (omega (arith, lt));
-        many = omega (arith, unseen Few r no_look old);
-        in_time = passes Few none_left None r no_look (λ is. cc (is)) may (λ recent few. inl (inr (refl, closed))) old.in_time;
-      }
+      let in_time = passes Few none_left None r no_look (λ is. cc (is)) may (λ recent few. inl (inr (refl, closed))) old.in_time in
+      grind (arith, held_looks-mine p None r s span, old.past, in_time)
 
   pub registered : (n : ℕ) → Registering patience n p s span → RegistersInTime none_left p patience (mark_of p (Some (gets p to_starve)) again s ∷ span)
   registered n old =
@@ -227,11 +184,8 @@ module _ (patience p : ℕ) (s : Plain) (span : List Mark) where
 
 -- what shows that a lock is wrong: two steps after a late look that try for no place
 
-in_vain : {p : ℕ} (m : Mark) → (Registers p m → ⊥) × (is_open_to m.before p to_starve ≡ true) → TriesToStarve p m → ⊥
-in_vain m none tries = ⊎_elim none.0 (λ closed. false≢true (sym closed.1 ∙ none.1)) tries
-
 pub two_in_vain : (p n : ℕ) {Few : List Mark → Type 0} {a b m : Mark} {older : List Mark} → RegistersInTime Few p n (a ∷ b ∷ m ∷ older)
     → IsLateLook p n m older → (Registers p a → ⊥) × (is_open_to a.before p to_starve ≡ true) → (Registers p b → ⊥) × (is_open_to b.before p to_starve ≡ true)
     → (Few (a ∷ b ∷ []) → ⊥) → ⊥
 two_in_vain p n {a = a} {b = b} {m = m} {older = older} law late last first few =
-    ⊎_elim (λ tried. ⊎_elim (in_vain a last) (λ more. ⊎_elim (in_vain b first) (λ none. none) more) tried) few (law.soon (a ∷ b ∷ []) m older refl late)
+    grind (arith, law.soon (a ∷ b ∷ []) m older refl late, last, first, few)
