@@ -1,18 +1,18 @@
-use Rattle.std.proofs.Common.{◌≡◌, Bool, true, false, List, [], ◌∷◌, length, refl, ap, arith}
+use Rattle.std.proofs.Common.{◌≡◌, Bool, false, List, [], ◌∷◌, length, arith}
 use Rattle.spin_step.specs.Plain.{Holder}
 use Rattle.spin_step.specs.Steps.{bit}
+use Rattle.spin_step.proofs.Exclusive.{empty_is}
+use Rattle.spin_step.proofs.Holders.{is_empty-none}
 use Rattle.spin_world_core.proofs.Reached.{numbers_are}
 use Rattle.spin_world_flag.specs.Flag.{flag_machine}
 use Rattle.spin_world_flag.proofs.Owed.{flag_keeping, flag_facts}
 use Rattle.spin_world_flag.proofs.laws.a_flag_is_clear_when_nobody_holds.Goals as goal
 
 clear_when_empty : (w : Bool) (hs : List Holder) → bit w ∷ [] ≡ length hs ∷ [] → w ≡ false → hs ≡ []
-clear_when_empty w [] e clear = refl
-clear_when_empty w (h ∷ hs) e clear = let n : bit w ≡ length (h ∷ hs) = cc (e) in absurd (omega (arith, n, ap bit clear))
+clear_when_empty w hs e clear = empty_is hs (is_empty-none hs (grind (arith, e)))
 
 empty_when_clear : (w : Bool) (hs : List Holder) → bit w ∷ [] ≡ length hs ∷ [] → hs ≡ [] → w ≡ false
-empty_when_clear false hs e none = refl
-empty_when_clear true hs e none = let n : bit true ≡ length hs = cc (e) in absurd (omega (arith, n, ap length none))
+empty_when_clear w hs e none = grind (arith, e)
 
 pub returns : goal.returns
 returns g c = λ f n past.
