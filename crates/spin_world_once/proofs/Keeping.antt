@@ -1,5 +1,5 @@
 -- What users of a `Once` rely on: one closure at a time, and one value.
-use Rattle.spin_world_once.proofs.Names.{◌≡◌, ℕ, ◌==◌, true, false, not, is_some, Option, Some, None, List, [], ◌∷◌, ◌++◌, slice_get, refl, ap, sym, ◌∙◌, subst, and_parts, false≢true, Plain, Phase, running, complete, to_begin, Change, gets, completes, is_running, is_complete, is_empty, once_word, IsOpenStep, phase_word, Answer, Value, NoValue, Hold, Calling, Answers, Stepped, Step, Write, OwnerSet, one_number, step_by, completes_by, step_with, State, happens, moves_at, goes_on, placed, stepped, after, at_first, Seen, scene, opening, own, last_written, placed_at, MayTouch, Mark, polls, OnceCall, CallOnce, Wait, Poll, Get, IsCompleted, OncePoint, Look, Run, runs, ends, OnceAct, asks_of, brings_of, once_table, OnceMachine, once_machine, Entries, once_after, seen_at, keeps_value, is_shared, ValueStays, RunsClosure, answer_of, OneRuns, wants_value, has_closure, AnswersAtOnce, GetAgrees, after-append, InCall, Row, row_of, Invariant, never}
+use Rattle.spin_world_once.proofs.Names.{◌≡◌, ℕ, ◌==◌, true, false, not, is_some, Option, Some, None, List, [], ◌∷◌, ◌++◌, slice_get, refl, arith, ap, sym, ◌∙◌, subst, and_parts, Plain, running, to_begin, Change, gets, completes, is_complete, is_empty, once_word, IsOpenStep, Answer, Value, NoValue, Hold, Calling, Answers, Stepped, Step, State, happens, moves_at, stepped, after, at_first, Seen, scene, opening, own, last_written, placed_at, MayTouch, Mark, polls, OnceCall, Get, OncePoint, Run, runs, asks_of, brings_of, once_table, OnceMachine, once_machine, Entries, once_after, seen_at, keeps_value, is_shared, ValueStays, RunsClosure, answer_of, OneRuns, wants_value, has_closure, AnswersAtOnce, GetAgrees, after-append, InCall, Row, row_of, Invariant}
 use Rattle.spin_world_core.specs.declared.schedule.Move.{Move}
 use Rattle.spin_world_core.specs.declared.schedule.Outcome.{Outcome}
 use Rattle.spin_world_core.specs.declared.schedule.Outcome.TheVariants as outcome
@@ -10,19 +10,7 @@ use Rattle.spin_world_core.proofs.Reached as reached
 use Rattle.spin_world_core.proofs.Reached.{numbers_are, calls, passes_some, row_passes}
 use Rattle.spin_world_core.proofs.Paid.{uncompleted}
 use Rattle.spin_world_core.proofs.Values as values
-use Rattle.spin_world_once.proofs.Owed.{IsFree, none_writes, once_notes, once_keeping, once_facts}
-
-not_running : (phase : Phase) (q : ℕ) → is_complete phase ≡ true → is_running q phase ≡ true → ⊥
-not_running complete q there runs = false≢true runs
-not_running _ q there runs = false≢true there
-
-made_word : (phase : Phase) → is_complete phase ≡ true → phase_word phase ≡ 2
-made_word complete e = refl
-made_word _ e = absurd (false≢true e)
-
-is_none : {X : Type 0} (o : Option X) → false ≡ is_some o → o ≡ None
-is_none None e = refl
-is_none (Some x) e = absurd (false≢true e)
+use Rattle.spin_world_once.proofs.Owed.{IsFree, once_notes, once_keeping, once_facts}
 
 abbrev pub OnceState : Type 0 → Type 0
 OnceState V = State ℕ V (OnceCall V) OncePoint
@@ -43,12 +31,10 @@ module _ {V : Type 0} (value : Option V) where
   -- what an event leaves as the value last written, where there is one
   written_stays : (seen : OnceSeen V) (p : ℕ) (o : Outcome (Answer V) V) (move : Move (OnceCall V) V) (put : Option V) (step : Option Change) → IsFree seen.plain → keeps_value move ≡ true
       → MayTouch seen p o move → ((q : ℕ) → step ≡ Some (completes q) → ⊥) → last_written o move seen.written put step ≡ seen.written
-  written_stays seen p outcome.Written (Write v) put step free keeps touches not = absurd (false≢true (sym (none_writes value seen.plain p free) ∙ touches))
-  written_stays seen p outcome.Written (OwnerSet v) put step free keeps touches not = absurd (false≢true keeps)
-  written_stays seen p _ _ put step free keeps touches not = sym (uncompleted seen.written put step not)
+  written_stays seen p o move put step free keeps touches not = grind (arith, uncompleted seen.written put step not)
 
   opens_none : (s : Plain) (p : ℕ) (step : Option Change) → is_complete s.phase ≡ true → IsOpenStep s p step → (q : ℕ) → step ≡ Some (completes q) → ⊥
-  opens_none s p step there may q is = not_running s.phase q there (subst (λ o. IsOpenStep s p o) is may).1
+  opens_none s p step there may q is = grind arith
 
   stays_one : (seen : OnceSeen V) (p : ℕ) (move : Move (OnceCall V) V) (v : V) → Good seen → keeps_value move ≡ true → seen.state.value ≡ Some v → (scene m seen p move).after.state.value ≡ Some v
   stays_one seen p move v good keeps is =
@@ -78,21 +64,16 @@ module _ {V : Type 0} (value : Option V) where
 
   -- a step that answers
   answered_by : (s : OnceState V) (p : ℕ) (c : OnceCall V) (h : Option Hold) (st : Stepped ℕ V OncePoint (Answer V)) (a : Answer V) → st.next ≡ Answers a h → (stepped s p c h st).outcome ≡ outcome.Answered a None
-  answered_by s p c h st a e = ap (λ next. (goes_on (record s { words = st.words; value = placed st.placed s.value }) p c h next).outcome) e
+  answered_by s p c h st a e = grind arith
 
   -- a party that stands at the end of a closure runs it, and nobody else does
 
   runs_at : (c : OnceCall V) (h : Option Hold) (p : ℕ) (s : Plain) (span : List Mark) → (once_keeping value).Knows c Run h p s span → (own p span ≡ gets p to_begin ∷ []) × (s.phase ≡ running p)
-  runs_at (CallOnce v) None p s span knows = search
-  runs_at _ None p s span knows = search
-  runs_at _ _ p s span knows = search
+  runs_at c h p s span knows = grind arith
 
   at_run : (p : ℕ) (c : OnceCall V) (l : OncePoint) (h : Option Hold)
       → passes_some (λ row. not (is_empty (row.made p))) (row_of (once_table value) (once_notes value) c l h) ≡ true → l ≡ Run
-  at_run p (CallOnce v) Look = elim [ None ↦ never | _ ↦ never ]
-  at_run p c Run = λ h made. refl
-  at_run p _ Look = elim [ None ↦ never | _ ↦ never ]
-  at_run p _ _ = elim [ None ↦ never | _ ↦ never ]
+  at_run p c l h made = grind arith
 
   module _ (n : ℕ) (past : Entries V) (p : ℕ) (c : OnceCall V) (l : OncePoint) (h : Option Hold) (there : slice_get (once_after m n past).seats p ≡ Some (Calling c l h)) where
     in_call_at : InCall m (once_keeping value) p c l h (seen_at m n past).plain (seen_at m n past).state.value (seen_at m n past).state.words ((seen_at m n past).span p)
@@ -106,7 +87,7 @@ module _ {V : Type 0} (value : Option V) where
 
     -- where the word is another than 1 no closure runs
     pub not_at_run : (w : ℕ) → (w == 1) ≡ false → (once_after m n past).words ≡ w → l ≡ Run → ⊥
-    not_at_run w other is e = false≢true (sym other ∙ ap (λ k. k == 1) (sym is ∙ (word_at ∙ ap phase_word (phase_at e))))
+    not_at_run w other is e = let phase = phase_at e in grind (arith, word_at)
 
     pub run_here : l ≡ Run → RunsClosure m n past p
     run_here e =
@@ -129,21 +110,12 @@ module _ {V : Type 0} (value : Option V) where
   phase_of : (n : ℕ) (past : Entries V) (p : ℕ) → RunsClosure m n past p → (seen_at m n past).plain.phase ≡ running p
   phase_of n past p runs = phase_at n past p runs.call runs.point runs.held runs.calls (runs_there n past p runs)
 
-  same_runner : (phase : Phase) (p q : ℕ) → phase ≡ running p → phase ≡ running q → p ≡ q
-  same_runner phase p q is js = cc (is, js)
-
   -- the end of a closure
   ended : (s : OnceState V) (p : ℕ) (c : OnceCall V) (h : Option Hold) → has_closure (asks_of c) ≡ true → (stepped s p c h (m.step s.words s.value c Run h)).outcome ≡ outcome.Answered (answer_of (brings_of c)) None
-  ended s p Wait h closure = absurd (false≢true closure)
-  ended s p Poll h closure = absurd (false≢true closure)
-  ended s p Get h closure = absurd (false≢true closure)
-  ended s p IsCompleted h closure = absurd (false≢true closure)
-  ended s p _ h closure = refl
+  ended s p c h closure = grind arith
 
   closure_at : (c : OnceCall V) (h : Option Hold) (p : ℕ) (s : Plain) (span : List Mark) → (once_keeping value).Knows c Run h p s span → has_closure (asks_of c) ≡ true
-  closure_at (CallOnce v) None p s span knows = search
-  closure_at _ None p s span knows = search
-  closure_at _ _ p s span knows = search
+  closure_at c h p s span knows = grind arith
 
   ends_here : (n : ℕ) (past : Entries V) (p : ℕ) (c : OnceCall V) (h : Option Hold) → slice_get (once_after m n past).seats p ≡ Some (Calling c Run h) → outcome_after m n past p Step ≡ outcome.Answered (answer_of (brings_of c)) None
   ends_here n past p c h there =
@@ -154,8 +126,8 @@ module _ {V : Type 0} (value : Option V) where
   pub one_closure_runs_at_a_time : (n : ℕ) (past : Entries V) → OneRuns m n past
   one_closure_runs_at_a_time n past =
       record {
-        alone = λ p q by_p by_q. same_runner _ p q (phase_of n past p by_p) (phase_of n past q by_q);
-        before = λ p runs. is_none (once_after m n past).value (sym (ap is_complete (phase_of n past p runs)) ∙ (a_value_stays n past []).complete);
+        alone = λ p q by_p by_q. cc (phase_of n past p by_p, phase_of n past q by_q);
+        before = λ p runs. let phase = phase_of n past p runs in grind (arith, (a_value_stays n past []).complete);
         ends = λ p runs. ends_here n past p runs.call runs.held (subst (λ l. slice_get (once_after m n past).seats p ≡ Some (Calling runs.call l runs.held)) (runs_there n past p runs) runs.calls);
       }
 
@@ -165,18 +137,10 @@ module _ {V : Type 0} (value : Option V) where
   made_at : (n : ℕ) (past : Entries V) (v : V) → (once_after m n past).value ≡ Some v → (once_after m n past).words ≡ 2
   made_at n past v is =
       let word : (once_after m n past).words ≡ once_word (seen_at m n past).plain = cc (numbers_are m (once_keeping value) (once_facts value) n past) in
-      word ∙ made_word (seen_at m n past).plain.phase ((a_value_stays n past []).complete ∙ ap is_some is)
-
-  run_told : (end : OnceAct) (made : Option V) (l : OncePoint) (h : Option Hold) (v : V) → (l ≡ Run → ⊥) → (step_with (Some v) made (completes_by (runs end l h)) (step_by one_number 0 (runs end l h) 2)).next ≡ Answers (Value v) h
-  run_told end made Run h v not = absurd (not refl)
-  run_told end made _ h v not = refl
+      grind (arith, word, (a_value_stays n past []).complete)
 
   told_at : (c : OnceCall V) (l : OncePoint) (h : Option Hold) (v : V) → wants_value (asks_of c) ≡ true → (l ≡ Run → ⊥) → (m.step 2 (Some v) c l h).next ≡ Answers (Value v) h
-  told_at IsCompleted l h v wants not = absurd (false≢true wants)
-  told_at Wait l h v wants not = refl
-  told_at Poll l h v wants not = refl
-  told_at Get l h v wants not = refl
-  told_at c l h v wants not = run_told (ends (brings_of c) h) (brings_of c) l h v not
+  told_at c l h v wants not = grind (arith, not)
 
   value_told : (n : ℕ) (past : Entries V) (p : ℕ) (v : V) (c : OnceCall V) (l : OncePoint) (h : Option Hold) → (once_after m n past).value ≡ Some v → slice_get (once_after m n past).seats p ≡ Some (Calling c l h)
       → wants_value (asks_of c) ≡ true → outcome_after m n past p Step ≡ outcome.Answered (Value v) None
@@ -188,8 +152,7 @@ module _ {V : Type 0} (value : Option V) where
       (ap (λ w. (m.step w s.value c l h).next) word ∙ (ap (λ o. (m.step 2 o c l h).next) is ∙ told_at c l h v wants (not_at_run n past p c l h there 2 refl word)))
 
   none_at : (c : OnceCall V) (l : OncePoint) (h : Option Hold) (v : Option V) → asks_of c ≡ polls → (m.step 0 v c l h).next ≡ Answers NoValue h
-  none_at Poll l h v e = refl
-  none_at _ l h v e = absurd (cc (e))
+  none_at c l h v e = grind arith
 
   pub a_value_is_answered_at_once : (n : ℕ) (past : Entries V) → AnswersAtOnce m n past
   a_value_is_answered_at_once n past =

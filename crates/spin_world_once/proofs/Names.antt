@@ -1,5 +1,5 @@
 -- The names that these proofs share, in one place.
-pub use Rattle.std.proofs.Common.{◌≡◌, ℕ, ◌==◌, Bool, true, false, Option, Some, None, List, [], ◌∷◌, ◌++◌, slice_get, refl, ap, ◌∙◌, subst, ◌⊎◌, inl, inr, not, is_some, sym, ◌&&◌, ◌||◌, if◌then◌else◌, filter}
+pub use Rattle.std.proofs.Common.{◌≡◌, ℕ, ◌==◌, Bool, true, false, Option, Some, None, List, [], ◌∷◌, ◌++◌, slice_get, refl, ap, ◌∙◌, subst, ◌⊎◌, inl, inr, not, is_some, sym, ◌&&◌, ◌||◌, if◌then◌else◌, filter, arith}
 pub use Rattle.std.proofs.lemmas.Bool.{false≢true, and_parts, eq-eqb, ne_eqb, true≢false}
 pub use Rattle.spin_step.specs.Flags.{begun}
 pub use Rattle.spin_world_core.specs.declared.answer.Answer.{Answer}
