@@ -1,6 +1,6 @@
 -- What users of a ticket lock rely on.
-use Rattle.spin_world_ticket.proofs.Names.{◌≡◌, ℕ, ◌+◌, ◌==◌, ◌↔◌, Bool, true, false, Option, Some, None, List, [], ◌∷◌, ◌++◌, slice_get, not, ◌&&◌, refl, ap, sym, ◌∙◌, arith, Plain, Queued, Change, gets, serving_word, apply_some, IsOpenStep, Entries, bit, Numbered, gone, serving-moves, entered_is_served, Answer, Hold, Calling, Holding, Continue, Move, Step, Answered, TicketCall, Lock, TicketPoint, Await, TicketWords, State, moves_at, stepped, after, at_first, Seen, scene, opening, becomes, passing, ticket_table, ticket_machine, granted, seen_after, passes, serves_one, tickets_gone, InOrder, InTurn, LocalInvariant, never}
-use Rattle.std.proofs.lemmas.Bool.{eqb-true, eq-eqb, true≢false}
+use Rattle.spin_world_ticket.proofs.Names.{◌≡◌, ℕ, ◌+◌, ◌==◌, ◌↔◌, Bool, false, Option, Some, None, List, [], ◌∷◌, ◌++◌, slice_get, not, ◌&&◌, refl, ap, sym, ◌∙◌, arith, Plain, Queued, Change, serving_word, apply_some, IsOpenStep, Entries, bit, Numbered, serving-moves, entered_is_served, Answer, Hold, Calling, Holding, Continue, Move, Step, Answered, TicketCall, TicketPoint, Await, TicketWords, State, moves_at, stepped, after, at_first, Seen, scene, opening, becomes, passing, ticket_table, ticket_machine, granted, seen_after, passes, serves_one, tickets_gone, InOrder, InTurn, LocalInvariant}
+use Rattle.std.proofs.lemmas.Bool.{eq-eqb}
 use Rattle.spin_world_core.specs.declared.answer.Answer.TheVariants.{Granted}
 use Rattle.spin_world_core.specs.declared.place.Hold.TheVariants as hold
 use Rattle.spin_world_core.specs.Machines.{Machine}
@@ -10,13 +10,8 @@ use Rattle.spin_world_core.proofs.Every.{kept}
 use Rattle.spin_world_core.proofs.Guards.{seen_after-append}
 use Rattle.spin_world_core.proofs.Reached.{good, numbers_are, stands, StandsSo, calls_so}
 
-one_goes : (c : Change) → gone c ≡ bit (serves_one c)
-one_goes (gets p ask) = refl
-one_goes _ = refl
-
 moves_some : (s : Plain) (p : ℕ) (step : Option Change) → Numbered s → IsOpenStep s p step → serving_word (apply_some s step) ≡ serving_word s + bit (passes serves_one step)
-moves_some s p None numbered may = omega arith
-moves_some s p (Some c) numbered may = omega (arith, serving-moves s c numbered may.1, one_goes c)
+moves_some s p step numbered may = grind (arith, λ (c : Change). serving-moves s c numbered)
 
 -- the first of a party's tickets has this number, and has not entered
 abbrev has_not_entered : ℕ → List Queued → Bool
@@ -30,14 +25,11 @@ is_waiting_with t e = has_not_entered t e.tickets
 module _ {V : Type 0} (v : V) (first p t : ℕ) where
   waits_at : (c : TicketCall) (l : TicketPoint) (h : Option Hold)
       → StandsSo (ticket_table v first) (ticket_notes v first) (is_waiting_with t) p c l h → l ≡ Await t
-  waits_at Lock (Await u) = elim [ None ↦ λ waits. ap Await (eqb-true u t waits) | Some (hold.Ticket u) ↦ never | _ ↦ never ]
-  waits_at _ (Await u) = elim [ None ↦ never | Some (hold.Ticket u) ↦ never | _ ↦ never ]
-  waits_at _ _ = elim [ None ↦ never | Some (hold.Ticket u) ↦ never | _ ↦ never ]
+  waits_at c l h so = grind arith
 
 looked : (V : Type 0) (s : State TicketWords V TicketCall TicketPoint) (p t : ℕ) (w : TicketWords) (c : TicketCall) (h : Option Hold) (b : Bool) → (w.serving == t) ≡ b
     → ((stepped {A = Answer V} s p c h (becomes (λ (k : ℕ). w) w (passing b w.serving) (granted t) (Continue (Await t)))).outcome ≡ Answered Granted None) ↔ (w.serving ≡ t)
-looked V s p t w c h true is = (λ e. eqb-true w.serving t is, λ e. refl)
-looked V s p t w c h false is = (λ e. absurd (cc (e)), λ e. absurd (true≢false (sym (eq-eqb w.serving t e) ∙ is)))
+looked V s p t w c h b is = grind arith
 
 module _ {V : Type 0} (v : V) (first : ℕ) where
   abbrev m : Machine TicketWords V TicketCall TicketPoint (Answer V)
