@@ -1,5 +1,5 @@
 -- What users of a barrier rely on.
-use Rattle.spin_world_barrier.proofs.Names.{◌≡◌, ℕ, ◌+◌, ◌/◌, ◌%◌, ◌^◌, ◌==◌, ◌↔◌, Bool, true, false, Option, Some, None, [], ◌∷◌, slice_get, refl, ap, sym, ◌∙◌, arith, eq-eqb, eqb-true, max, false≢true, arrives, may_leave, barrier_arrive-words, barrier_may_leave-tells, Answer, Leader, Follower, Hold, Continue, Answers, BarrierWords, BarrierCall, BarrierPoint, Arrive, Leave, either, stays, Seen, scene, step_at, opening, own, arrived, seen_after, passes, steps_made, BarrierMachine, is_past, arrive, leads, barrier_machine, is_arrival, Entries, seen_at, arrivals, InGroups, FollowersLeave}
+use Rattle.spin_world_barrier.proofs.Names.{◌≡◌, ℕ, ◌+◌, ◌/◌, ◌%◌, ◌^◌, ◌==◌, ◌↔◌, Bool, true, Option, Some, None, [], ◌∷◌, slice_get, ap, sym, ◌∙◌, arith, max, arrives, may_leave, barrier_arrive-words, barrier_may_leave-tells, Answer, Leader, Follower, Hold, Continue, Answers, BarrierWords, BarrierCall, BarrierPoint, Leave, either, stays, Seen, scene, step_at, opening, own, arrived, seen_after, passes, steps_made, BarrierMachine, leads, barrier_machine, is_arrival, Entries, seen_at, arrivals, InGroups, FollowersLeave}
 use Rattle.spin_world_core.specs.declared.place.Seat.{Seat}
 use Rattle.spin_world_core.specs.declared.place.Seat.TheVariants.{Calling}
 use Rattle.spin_world_core.specs.declared.schedule.Move.TheVariants.{Step}
@@ -15,18 +15,11 @@ BarrierState = State BarrierWords ℕ BarrierCall BarrierPoint
 -- by what a step that arrives, and one that looks, is answered
 arrives_so : (s : BarrierState) (p : ℕ) (w : BarrierWords) (c : BarrierCall) (h : Option Hold) (b : Bool)
     → ((stepped {A = Answer ℕ} s p c h (stays w (either b (Answers Leader h) (Continue (Leave s.words.generation))))).outcome ≡ Answered Leader None) ↔ (b ≡ true)
-arrives_so s p w c h true = (λ e. refl, λ e. refl)
-arrives_so s p w c h false = (λ e. absurd (cc (e)), λ e. absurd (false≢true e))
+arrives_so s p w c h b = grind arith
 
 looks_so : (s : BarrierState) (p g : ℕ) (c : BarrierCall) (h : Option Hold) (b : Bool)
     → ((stepped {A = Answer ℕ} s p c h (stays s.words (either b (Answers Follower h) (Continue (Leave g))))).outcome ≡ Answered Follower None) ↔ (b ≡ true)
-looks_so s p g c h true = (λ e. refl, λ e. refl)
-looks_so s p g c h false = (λ e. absurd (cc (e)), λ e. absurd (false≢true e))
-
-leads_not : (s : BarrierState) (p g : ℕ) (c : BarrierCall) (h : Option Hold) (b : Bool)
-    → (stepped {A = Answer ℕ} s p c h (stays s.words (either b (Answers Follower h) (Continue (Leave g))))).outcome ≡ Answered Leader None → ⊥
-leads_not s p g c h true e = cc (e)
-leads_not s p g c h false e = cc (e)
+looks_so s p g c h b = grind arith
 
 module _ (n : ℕ) where
   abbrev m : BarrierMachine
@@ -47,11 +40,7 @@ module _ (n : ℕ) where
   -- by where the party stands: the number is that of the next arrival in its group, or 0
   leads_at : (s : BarrierState) (p last : ℕ) (o : Option (Seat BarrierCall BarrierPoint)) → leads n s.words ≡ (last == 0)
       → ((moves_at m s p Step o).outcome ≡ Answered Leader None) ↔ ((passes is_arrival (step_at m s p Step o) ≡ true) × (last ≡ 0))
-  leads_at s p last (Some (Calling c Arrive h)) leading =
-      let so = arrives_so s p (arrive n s.words) c h (leads n s.words) in
-      (λ e. (refl, eqb-true last 0 (sym leading ∙ so.0 e)), λ both. so.1 (leading ∙ eq-eqb last 0 both.1))
-  leads_at s p last (Some (Calling c (Leave g) h)) leading = (λ e. absurd (leads_not s p g c h (is_past g s.words.generation) e), λ both. absurd (false≢true both.0))
-  leads_at s p last _ leading = (λ e. absurd (cc (e)), λ both. absurd (false≢true both.0))
+  leads_at s p last o leading = grind arith
 
   pub in_groups : (parties : ℕ) (past : Entries) → InGroups m n parties past
   in_groups parties past =
@@ -77,19 +66,11 @@ module _ (n : ℕ) where
   -- a party that has arrived tells by the generation whether its group has been filled
   leaves_at : (seen : Seen BarrierWords ℕ BarrierCall BarrierPoint) (p : ℕ) (c : BarrierCall) (l : BarrierPoint) (h : Option Hold) → Good seen → slice_get seen.state.seats p ≡ Some (Calling c l h) → own p (seen.span p) ≡ arrives p ∷ []
       → ((happens m seen.state p Step).outcome ≡ Answered Follower None) ↔ (may_leave seen.plain (arrived p (seen.span p)) ≡ true)
-  leaves_at seen p c Arrive None good there has =
-      let made : own p (seen.span p) ≡ [] = (in_call m (barrier_keeping n) seen p c Arrive None good there).knows.0.made in
-      absurd (cc (made, has))
-  leaves_at seen p c (Leave g) None good there has =
-      let w = seen.state.words in
-      let is = is_barrier n seen.plain w good.encodes good.shape in
-      let waits = (in_call m (barrier_keeping n) seen p c (Leave g) None good there).knows.1 in
-      let past = barrier_may_leave-tells seen.plain waits.number n w.count w.generation g is waits.come waits.found ∙ ap (may_leave seen.plain) (sym waits.is_number) in
-      let step = ap (λ o. (moves_at m seen.state p Step o).outcome) there in
-      let so = looks_so seen.state p g c None (is_past g w.generation) in
-      (λ e. sym past ∙ so.0 (sym step ∙ e), λ full. step ∙ so.1 (past ∙ full))
-  leaves_at seen p c Arrive (Some h) good there has = absurd ((in_call m (barrier_keeping n) seen p c Arrive (Some h) good there).knows)
-  leaves_at seen p c (Leave g) (Some h) good there has = absurd ((in_call m (barrier_keeping n) seen p c (Leave g) (Some h) good there).knows)
+  leaves_at seen p c l h good there has =
+      let is = is_barrier n seen.plain seen.state.words good.encodes good.shape in
+      let knows = (in_call m (barrier_keeping n) seen p c l h good there).knows in
+      let tells = λ (k : ℕ). λ (g : ℕ). barrier_may_leave-tells seen.plain k n seen.state.words.count seen.state.words.generation g is in
+      grind (arith, there, knows, tells)
 
   pub followers_leave : (parties : ℕ) (past : Entries) → FollowersLeave m parties past
   followers_leave parties past = λ p c l h there has.
