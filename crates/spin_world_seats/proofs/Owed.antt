@@ -1,6 +1,6 @@
 -- What the table of the seats owes.
-use Rattle.std.proofs.Common.{◌≡◌, ℕ, ◌+◌, ◌-◌, ◌≤◌, true, Option, Some, None, List, [], ◌∷◌, length, nat_lt, refl, ap, sym, ◌∙◌, arith, inl, length-append}
-use Rattle.std.proofs.lemmas.Bool.{lt-ltb, ltb-true}
+use Rattle.std.proofs.Common.{◌≡◌, ℕ, ◌-◌, ◌≤◌, true, Option, Some, None, List, [], ◌∷◌, length, nat_lt, refl, ap, sym, ◌∙◌, arith, length-append}
+use Rattle.std.proofs.lemmas.Bool.{ltb-true}
 use Rattle.spin_step.specs.Plain.{Plain, reading, holder, to_read, gets, releases, apply, may_come, is_holder}
 use Rattle.spin_step.specs.Parties.{Entries, entries}
 use Rattle.spin_step.proofs.Sums.{one_of, sum-more, sum-less}
@@ -11,21 +11,19 @@ use Rattle.spin_seats.proofs.Taken.{open_is, enter-grants, leave-gives}
 use Rattle.spin_world_core.specs.declared.answer.Answer.{Answer}
 use Rattle.spin_world_core.specs.declared.place.Hold.{Hold}
 use Rattle.spin_world_core.specs.declared.place.Hold.TheVariants.{Read}
-use Rattle.spin_world_core.specs.declared.object.Next.TheVariants.{Continue}
 use Rattle.spin_world_seats.specs.declared.seats.SeatsCall.{SeatsCall}
 use Rattle.spin_world_seats.specs.declared.seats.SeatsCall.TheVariants.{TryEnter, Enter, Count, Leave}
 use Rattle.spin_world_seats.specs.declared.seats.SeatsPoint.{SeatsPoint}
 use Rattle.spin_world_seats.specs.declared.seats.SeatsPoint.TheVariants.{First, Exchange}
 use Rattle.spin_world_core.specs.Calls.{Mark}
-use Rattle.spin_world_seats.specs.Kind as kind
 use Rattle.spin_world_core.specs.Acts.{begin_of}
-use Rattle.spin_world_seats.specs.Seats.{granted, act_of, asks_of, seats_table, seats_machine}
+use Rattle.spin_world_seats.specs.Seats.{seats_table, seats_machine}
 use Rattle.spin_world_core.proofs.Facts.{LocalInvariant, Facts}
 use Rattle.spin_world_core.proofs.Stands.{holds, entries_at}
-use Rattle.spin_world_core.proofs.Rows.{starts_sound, SoundAt, Row, Point, starts, looked}
-use Rattle.spin_world_core.proofs.Shapes.{AimsAt, Notes, keeping_of, Means, OwesAt, answers_by, OwesSoon, BeginsAt, Pays, CallOf, AtPoint}
-use Rattle.spin_world_core.proofs.Operating.{fits_act, one_place, operates_by}
-use Rattle.spin_world_core.proofs.Usual.{no_queue, means_word, exchanges_now, retries_soon}
+use Rattle.spin_world_core.proofs.Rows.{Row, Point, starts, looked}
+use Rattle.spin_world_core.proofs.Shapes.{Notes, keeping_of, Means, OwesAt, OwesSoon, Pays, CallOf, AtPoint}
+use Rattle.spin_world_core.proofs.Operating.{one_place, operates_by}
+use Rattle.spin_world_core.proofs.Usual.{no_queue, means_word}
 use Rattle.spin_world_core.proofs.Paid.{facts_of}
 
 -- a call that looked has made one step; each other point is as its call's beginning
@@ -71,67 +69,39 @@ module _ (n : ℕ) where
     leave_means found = ((refl, found), ap (λ k. k ∷ []) (leave-gives s p w (word_is s w at.encodes) found), one_less s p at.shape found)
 
   owes : (p : ℕ) (c : SeatsCall) (l : SeatsPoint) (h : Option Hold) (s : Plain) (w : ℕ) (span : List Mark) → OwesAt (seats_table n) (seats_notes n) p c l h s w span
-  owes p TryEnter First None s w span = λ at. (enter_means p at, (λ found. (refl, refl, refl, (refl, refl, found), tt)), (λ closed. (refl, inl refl, inl closed)))
-  owes p TryEnter (Exchange k) None s w span = λ at.
-      (enter_means p at, (λ is. (refl, inl refl, tt)), (λ found. (refl, refl, refl, (refl, refl, found), tt)), (λ closed. (refl, inl refl, inl closed)))
-  owes p Enter First None s w span = λ at. (enter_means p at, (λ found. (refl, refl, tt, (refl, refl, found), tt)), (λ closed. (refl, refl, tt, tt, tt)))
-  owes p Enter (Exchange k) None s w span = λ at.
-      (enter_means p at, (λ is. (refl, inl refl, tt)), (λ found. (refl, refl, tt, (refl, refl, found), tt)), (λ closed. (refl, refl, tt, tt, tt)))
-  owes p Count l None s w span = λ at. (refl, inl refl, inl (omega (arith, each_reads s.holders at.shape.all_read, word_is s w at.encodes)))
+  owes p TryEnter First None s w span = λ at. grind (arith, enter_means p at)
+  owes p TryEnter (Exchange k) None s w span = λ at. grind (arith, enter_means p at)
+  owes p Enter First None s w span = λ at. grind (arith, enter_means p at)
+  owes p Enter (Exchange k) None s w span = λ at. grind (arith, enter_means p at)
+  owes p Count l None s w span = λ at. grind (arith, each_reads s.holders at.shape.all_read, word_is s w at.encodes)
   owes p Leave l (Some Read) s w span = λ at.
       let found = sits p s at.known.stand in
-      (lt-ltb 0 w (omega (arith, length-without_holder p reading s.holders found, word_is s w at.encodes)), leave_means p at found, (refl, inl refl, tt))
+      grind (arith, length-without_holder p reading s.holders found, word_is s w at.encodes, leave_means p at found)
   owes p _ _ _ s w span = tt
 
   -- Run alone: the word with a free seat is exchanged, at once or after a look
-
-  module _ (w : ℕ) (free : nat_lt w (seats n) ≡ true) where
-    sits_now : answers_by (seats_table n) 1 w Enter (Exchange w) None ≡ true
-    sits_now = exchanges_now (seats_table n) Enter None Exchange (entered n) (λ p. gets p to_read) (λ i. granted) (Continue First) w (w + 1) (rw free refl) (λ i. refl) 0 refl
-
-    sits_soon : (k : ℕ) → answers_by (seats_table n) 2 w Enter (Exchange k) None ≡ true
-    sits_soon k = retries_soon (seats_table n) Enter None Exchange (entered n) (λ p. gets p to_read) (λ i. granted) (Continue First) w (w + 1) (rw free refl) (λ i. refl) 0 refl k
 
   is_free : (s : Plain) (w : ℕ) → Seating n s → seats_word s ≡ w → may_come reading s ≡ true → nat_lt w (seats n) ≡ true
   is_free s w shape is may = sym (open_is s n w shape.all_read shape.room is) ∙ may
 
   soon : (p : ℕ) (c : SeatsCall) (l : SeatsPoint) (h : Option Hold) (s : Plain) (w : ℕ) (span : List Mark)
       → OwesSoon (seats_table n) (seats_notes n) p c l h s w span
-  soon p Enter First None s w span = λ at may. let free = is_free s w at.shape (word_is s w at.encodes) may in rw free (sits_now w free)
-  soon p Enter (Exchange k) None s w span = λ at may. sits_soon w (is_free s w at.shape (word_is s w at.encodes) may) k
+  soon p Enter First None s w span = λ at may. let free = is_free s w at.shape (word_is s w at.encodes) may in grind arith
+  soon p Enter (Exchange k) None s w span = λ at may. let free = is_free s w at.shape (word_is s w at.encodes) may in grind arith
   soon p _ _ _ s w span = tt
-
-  aims : (p : ℕ) (c : SeatsCall) (l : SeatsPoint) (h : Option Hold) → AimsAt (seats_table n) (seats_notes n) p c l h
-  aims p TryEnter First = elim [ None ↦ refl | Some Read ↦ refl | _ ↦ refl ]
-  aims p _ First = elim [ None ↦ refl | Some Read ↦ refl | _ ↦ refl ]
-  aims p _ _ = elim [ None ↦ refl | Some Read ↦ refl | _ ↦ refl ]
-
-  begins : (p : ℕ) (c : SeatsCall) (h : Option Hold) (s : Plain) → BeginsAt (seats_table n) (seats_notes n) c h p s (begin_of (seats_table n) c h)
-  begins p TryEnter = elim [ None ↦ λ s. search | Some Read ↦ λ s. search | _ ↦ λ s. search ]
-  begins p _ = elim [ None ↦ λ s. search | Some Read ↦ λ s. search | _ ↦ λ s. search ]
-
-  fits_all : (p : ℕ) (c : SeatsCall) (l : SeatsPoint) (h : Option Hold) → fits_act kind.seats (asks_of c h) (act_of n c l h) p ≡ true
-  fits_all p TryEnter First h = refl
-  fits_all p Enter First h = refl
-  fits_all p _ _ _ = refl
-
-  sound : (p : ℕ) (c : SeatsCall) (l : SeatsPoint) (h : Option Hold) → SoundAt kind.seats (asks_of c h) p (point_of n c l h)
-  sound p TryEnter (Exchange k) None = refl
-  sound p Enter (Exchange k) None = refl
-  sound p c l h = starts_sound kind.seats (asks_of c h) p (begin_of (seats_table n) c h)
 
   pub seats_pays : Pays (seats_table n) (seats_notes n)
   seats_pays =
       record {
-        fits = fits_all;
+        fits = λ p c l h. grind arith;
         operates = operates_by (seats_table n) one_place;
         first = refl;
         shape_first = record { no_queue = refl; room = refl; all_read = refl; few = omega arith };
         numbers_tell = λ v w e. cc (e);
         one_list = λ s shape. no_queue s shape.no_queue;
-        sound = sound;
-        aims = aims;
-        begins = begins;
+        sound = λ p c l h. grind arith;
+        aims = λ p c l h. grind arith;
+        begins = λ p c h s. grind arith;
         others = λ p q c l h s step r span ne shape may belongs knows. tt;
         owes = owes;
         soon = soon;
