@@ -1,5 +1,5 @@
 -- What users of a `Once` rely on: one closure at a time, and one value.
-use Rattle.spin_world_once.proofs.Names.{◌≡◌, ℕ, ◌==◌, true, false, not, is_some, Option, Some, None, List, [], ◌∷◌, ◌++◌, slice_get, refl, arith, ap, sym, ◌∙◌, subst, and_parts, Plain, running, to_begin, Change, gets, completes, is_complete, is_empty, once_word, IsOpenStep, Answer, Value, NoValue, Hold, Calling, Answers, Stepped, Step, State, happens, moves_at, stepped, after, at_first, Seen, scene, opening, own, last_written, placed_at, MayTouch, Mark, polls, OnceCall, Get, OncePoint, Run, runs, asks_of, brings_of, once_table, OnceMachine, once_machine, Entries, once_after, seen_at, keeps_value, is_shared, ValueStays, RunsClosure, answer_of, OneRuns, wants_value, has_closure, AnswersAtOnce, GetAgrees, after-append, InCall, Row, row_of, Invariant}
+use Rattle.spin_world_once.proofs.Names.{◌≡◌, ℕ, ◌==◌, true, false, is_some, Option, Some, None, List, [], ◌∷◌, ◌++◌, slice_get, refl, arith, ap, sym, ◌∙◌, subst, and_parts, Plain, running, to_begin, Change, gets, once_word, IsOpenStep, Answer, Value, Hold, Calling, Step, State, happens, after, at_first, Seen, scene, opening, own, last_written, placed_at, MayTouch, Mark, OnceCall, Get, OncePoint, Run, runs, asks_of, brings_of, OnceMachine, once_machine, Entries, once_after, seen_at, keeps_value, is_shared, ValueStays, RunsClosure, answer_of, OneRuns, wants_value, AnswersAtOnce, GetAgrees, after-append, InCall, Invariant}
 use Rattle.spin_world_core.specs.declared.schedule.Move.{Move}
 use Rattle.spin_world_core.specs.declared.schedule.Outcome.{Outcome}
 use Rattle.spin_world_core.specs.declared.schedule.Outcome.TheVariants as outcome
@@ -10,7 +10,7 @@ use Rattle.spin_world_core.proofs.Reached as reached
 use Rattle.spin_world_core.proofs.Reached.{numbers_are, calls, passes_some, row_passes}
 use Rattle.spin_world_core.proofs.Paid.{uncompleted}
 use Rattle.spin_world_core.proofs.Values as values
-use Rattle.spin_world_once.proofs.Owed.{IsFree, once_notes, once_keeping, once_facts}
+use Rattle.spin_world_once.proofs.Owed.{once_keeping, once_facts}
 
 abbrev pub OnceState : Type 0 → Type 0
 OnceState V = State ℕ V (OnceCall V) OncePoint
@@ -28,22 +28,18 @@ module _ {V : Type 0} (value : Option V) where
   pub good : (n : ℕ) (past : Entries V) → Good (seen_at m n past)
   good n past = reached.good m (once_keeping value) (once_facts value) n past
 
-  -- what an event leaves as the value last written, where there is one
-  written_stays : (seen : OnceSeen V) (p : ℕ) (o : Outcome (Answer V) V) (move : Move (OnceCall V) V) (put : Option V) (step : Option Change) → IsFree seen.plain → keeps_value move ≡ true
-      → MayTouch seen p o move → ((q : ℕ) → step ≡ Some (completes q) → ⊥) → last_written o move seen.written put step ≡ seen.written
-  written_stays seen p o move put step free keeps touches not = grind (arith, uncompleted seen.written put step not)
-
-  opens_none : (s : Plain) (p : ℕ) (step : Option Change) → is_complete s.phase ≡ true → IsOpenStep s p step → (q : ℕ) → step ≡ Some (completes q) → ⊥
-  opens_none s p step there may q is = grind arith
+  -- an event leaves the value last written, where there is one
+  written_stays : (seen : OnceSeen V) (p : ℕ) (v : V) (o : Outcome (Answer V) V) (move : Move (OnceCall V) V) (put : Option V) (step : Option Change)
+      → Good seen → MayTouch seen p o move → IsOpenStep seen.plain p step → keeps_value move ≡ true → seen.state.value ≡ Some v
+      → last_written o move seen.written put step ≡ Some v
+  written_stays seen p v o move put step good touches may keeps is = grind (arith, good.shape, good.written, uncompleted seen.written put step)
 
   stays_one : (seen : OnceSeen V) (p : ℕ) (move : Move (OnceCall V) V) (v : V) → Good seen → keeps_value move ≡ true → seen.state.value ≡ Some v → (scene m seen p move).after.state.value ≡ Some v
   stays_one seen p move v good keeps is =
       let s = scene m seen p move in
       let here = kept m (once_keeping value) (once_facts value) seen p move good in
-      let there : is_complete seen.plain.phase ≡ true = good.shape.1 ∙ ap is_some is in
-      here.keeps.value_is
-      ∙ (written_stays seen p s.outcome move (placed_at m seen.state move (slice_get seen.state.seats p)) s.change good.shape.0 keeps here.keeps.touches (opens_none seen.plain p s.change there here.keeps.opens)
-      ∙ (sym good.written ∙ is))
+      let put = placed_at m seen.state move (slice_get seen.state.seats p) in
+      here.keeps.value_is ∙ written_stays seen p v s.outcome move put s.change good here.keeps.touches here.keeps.opens keeps is
 
   stays_on : (seen : OnceSeen V) (es : Entries V) (v : V) → Good seen → is_shared es ≡ true → seen.state.value ≡ Some v → (after m seen.state es).value ≡ Some v
   stays_on seen [] v good shared is = is
@@ -62,25 +58,17 @@ module _ {V : Type 0} (value : Option V) where
             ∙ subst (λ (s : OnceState V). (after m s further).value ≡ Some v) state (stays_on seen further v (good n past) shared (ap (λ (s : OnceState V). s.value) state ∙ is));
       }
 
-  -- a step that answers
-  answered_by : (s : OnceState V) (p : ℕ) (c : OnceCall V) (h : Option Hold) (st : Stepped ℕ V OncePoint (Answer V)) (a : Answer V) → st.next ≡ Answers a h → (stepped s p c h st).outcome ≡ outcome.Answered a None
-  answered_by s p c h st a e = grind arith
-
   -- a party that stands at the end of a closure runs it, and nobody else does
-
-  runs_at : (c : OnceCall V) (h : Option Hold) (p : ℕ) (s : Plain) (span : List Mark) → (once_keeping value).Knows c Run h p s span → (own p span ≡ gets p to_begin ∷ []) × (s.phase ≡ running p)
-  runs_at c h p s span knows = grind arith
-
-  at_run : (p : ℕ) (c : OnceCall V) (l : OncePoint) (h : Option Hold)
-      → passes_some (λ row. not (is_empty (row.made p))) (row_of (once_table value) (once_notes value) c l h) ≡ true → l ≡ Run
-  at_run p c l h made = grind arith
+  at_run : (p : ℕ) (c : OnceCall V) (l : OncePoint) (h : Option Hold) (s : Plain) (span : List Mark) → (once_keeping value).Knows c l h p s span
+      → own p span ≡ gets p to_begin ∷ [] → l ≡ Run
+  at_run p c l h s span knows begun = grind arith
 
   module _ (n : ℕ) (past : Entries V) (p : ℕ) (c : OnceCall V) (l : OncePoint) (h : Option Hold) (there : slice_get (once_after m n past).seats p ≡ Some (Calling c l h)) where
     in_call_at : InCall m (once_keeping value) p c l h (seen_at m n past).plain (seen_at m n past).state.value (seen_at m n past).state.words ((seen_at m n past).span p)
     in_call_at = calls m (once_keeping value) (once_facts value) n past p c l h there
 
     phase_at : l ≡ Run → (seen_at m n past).plain.phase ≡ running p
-    phase_at e = (runs_at c h p (seen_at m n past).plain ((seen_at m n past).span p) (subst (λ l. (once_keeping value).Knows c l h p (seen_at m n past).plain ((seen_at m n past).span p)) e in_call_at.knows)).1
+    phase_at e = grind (arith, in_call_at.knows)
 
     word_at : (once_after m n past).words ≡ once_word (seen_at m n past).plain
     word_at = cc (numbers_are m (once_keeping value) (once_facts value) n past)
@@ -96,32 +84,18 @@ module _ {V : Type 0} (value : Option V) where
           point = l;
           held = h;
           calls = there;
-          begun = (runs_at c h p (seen_at m n past).plain ((seen_at m n past).span p) (subst (λ l. (once_keeping value).Knows c l h p (seen_at m n past).plain ((seen_at m n past).span p)) e in_call_at.knows)).0;
+          begun = grind (arith, in_call_at.knows);
         }
 
   runs_there : (n : ℕ) (past : Entries V) (p : ℕ) (runs : RunsClosure m n past p) → runs.point ≡ Run
   runs_there n past p runs =
-      let begun : (row : Row) → own p ((seen_at m n past).span p) ≡ row.made p → not (is_empty (row.made p)) ≡ true =
-      λ row made. ap (λ (cs : List Change). not (is_empty cs)) (sym made ∙ runs.begun) in
-      let knows = (in_call_at n past p runs.call runs.point runs.held runs.calls).knows in
-      at_run p runs.call runs.point runs.held
-      (row_passes (once_table value) (once_notes value) runs.call runs.point runs.held p _ _ _ (λ row is made. begun row made) _ knows)
+      let knows = (in_call_at n past p runs.call runs.point runs.held runs.calls).knows in at_run p runs.call runs.point runs.held _ _ knows runs.begun
 
   phase_of : (n : ℕ) (past : Entries V) (p : ℕ) → RunsClosure m n past p → (seen_at m n past).plain.phase ≡ running p
   phase_of n past p runs = phase_at n past p runs.call runs.point runs.held runs.calls (runs_there n past p runs)
 
-  -- the end of a closure
-  ended : (s : OnceState V) (p : ℕ) (c : OnceCall V) (h : Option Hold) → has_closure (asks_of c) ≡ true → (stepped s p c h (m.step s.words s.value c Run h)).outcome ≡ outcome.Answered (answer_of (brings_of c)) None
-  ended s p c h closure = grind arith
-
-  closure_at : (c : OnceCall V) (h : Option Hold) (p : ℕ) (s : Plain) (span : List Mark) → (once_keeping value).Knows c Run h p s span → has_closure (asks_of c) ≡ true
-  closure_at c h p s span knows = grind arith
-
   ends_here : (n : ℕ) (past : Entries V) (p : ℕ) (c : OnceCall V) (h : Option Hold) → slice_get (once_after m n past).seats p ≡ Some (Calling c Run h) → outcome_after m n past p Step ≡ outcome.Answered (answer_of (brings_of c)) None
-  ends_here n past p c h there =
-      let seen = seen_at m n past in
-      ap (λ o. (moves_at m (once_after m n past) p Step o).outcome) there
-      ∙ ended (once_after m n past) p c h (closure_at c h p seen.plain (seen.span p) (in_call_at n past p c Run h there).knows)
+  ends_here n past p c h there = grind (arith, there, (in_call_at n past p c Run h there).knows)
 
   pub one_closure_runs_at_a_time : (n : ℕ) (past : Entries V) → OneRuns m n past
   one_closure_runs_at_a_time n past =
@@ -139,28 +113,16 @@ module _ {V : Type 0} (value : Option V) where
       let word : (once_after m n past).words ≡ once_word (seen_at m n past).plain = cc (numbers_are m (once_keeping value) (once_facts value) n past) in
       grind (arith, word, (a_value_stays n past []).complete)
 
-  told_at : (c : OnceCall V) (l : OncePoint) (h : Option Hold) (v : V) → wants_value (asks_of c) ≡ true → (l ≡ Run → ⊥) → (m.step 2 (Some v) c l h).next ≡ Answers (Value v) h
-  told_at c l h v wants not = grind (arith, not)
-
   value_told : (n : ℕ) (past : Entries V) (p : ℕ) (v : V) (c : OnceCall V) (l : OncePoint) (h : Option Hold) → (once_after m n past).value ≡ Some v → slice_get (once_after m n past).seats p ≡ Some (Calling c l h)
       → wants_value (asks_of c) ≡ true → outcome_after m n past p Step ≡ outcome.Answered (Value v) None
   value_told n past p v c l h is there wants =
-      let s = once_after m n past in
-      let word = made_at n past v is in
-      ap (λ o. (moves_at m s p Step o).outcome) there
-      ∙ answered_by s p c h (m.step s.words s.value c l h) (Value v)
-      (ap (λ w. (m.step w s.value c l h).next) word ∙ (ap (λ o. (m.step 2 o c l h).next) is ∙ told_at c l h v wants (not_at_run n past p c l h there 2 refl word)))
-
-  none_at : (c : OnceCall V) (l : OncePoint) (h : Option Hold) (v : Option V) → asks_of c ≡ polls → (m.step 0 v c l h).next ≡ Answers NoValue h
-  none_at c l h v e = grind arith
+      grind (arith, there, is, made_at n past v is, not_at_run n past p c l h there 2 refl)
 
   pub a_value_is_answered_at_once : (n : ℕ) (past : Entries V) → AnswersAtOnce m n past
   a_value_is_answered_at_once n past =
-      let s = once_after m n past in
       record {
         value = λ p v c l h is there wants. value_told n past p v c l h is there wants;
-        none = λ p c l h zero there is.
-            ap (λ o. (moves_at m s p Step o).outcome) there ∙ answered_by s p c h (m.step s.words s.value c l h) NoValue (ap (λ w. (m.step w s.value c l h).next) zero ∙ none_at c l h s.value is);
+        none = λ p c l h zero there is. grind (arith, zero, there, is);
       }
 
   answered_value : (seen : OnceSeen V) (p : ℕ) (v : V) → Good seen → (happens m seen.state p Step).outcome ≡ outcome.Answered (Value v) None → (scene m seen p Step).after.state.value ≡ Some v
