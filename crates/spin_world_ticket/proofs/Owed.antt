@@ -1,7 +1,7 @@
 -- What the ticket lock's table owes.
-use Rattle.spin_world_ticket.proofs.Names.{◌≡◌, ℕ, suc, ◌+◌, ◌-◌, ◌≤◌, ◌==◌, Bool, true, false, ◌&&◌, ◌||◌, filter, if◌then◌else◌, Option, Some, None, List, [], ◌∷◌, refl, ap, sym, ◌∙◌, arith, inl, Plain, Queued, queued, is_first, Ask, effect, to_take_ticket, to_enter, to_take_and_enter, Change, gets, serves, apply, is_open, is_empty, next_word, serving_word, Entries, entries, Decides, take, enters_in_turn, numbered-given, numbered-serves, serving-taken, serving-entered, entered_is_served, stands, Answer, Hold, TicketWords, TicketCall, Lock, TryLock, IsLocked, Release, TicketPoint, LoadNext, Take, Await, TryLoadNext, TryLoadServing, TryTake, LookServing, LookNext, Serve, own_count, plain, passing, is_left, ticket_table, ticket_machine, LocalInvariant, Facts, queues, entries_at, any_map, Row, Point, nowhere, looked, onward, Notes, keeping_of, Means, OwesAt, answers_by, OwesSoon, Pays, CallOf, AtPoint, two, no_holders, two_places}
-use Rattle.std.proofs.lemmas.Bool.{and_parts, eqb-true}
-use Rattle.spin_step.proofs.TicketSteps.{ticket_take-grants, ticket_take-grants_alone, ticket_serve-gives}
+use Rattle.spin_world_ticket.proofs.Names.{◌≡◌, ℕ, ◌+◌, ◌-◌, ◌≤◌, ◌==◌, true, false, filter, Option, Some, None, List, [], ◌∷◌, refl, ap, sym, ◌∙◌, arith, Plain, Queued, queued, is_first, effect, to_take_ticket, to_enter, to_take_and_enter, Change, gets, serves, next_word, serving_word, Entries, entries, take, enters_in_turn, numbered-given, numbered-serves, serving-taken, serving-entered, entered_is_served, stands, Hold, TicketWords, TicketCall, Lock, TryLock, IsLocked, Release, TicketPoint, LoadNext, Take, Await, TryLoadNext, TryLoadServing, TryTake, LookServing, LookNext, Serve, own_count, plain, passing, is_left, ticket_table, ticket_machine, LocalInvariant, Facts, queues, entries_at, any_map, Point, nowhere, looked, onward, Notes, keeping_of, Means, OwesAt, OwesSoon, Pays, two, no_holders, two_places}
+use Rattle.spin_step.specs.Parties.{first_alone_entered}
+use Rattle.spin_step.proofs.TicketSteps.{ticket_take-grants_alone, ticket_serve-gives}
 use Rattle.spin_world_core.specs.declared.place.Hold.TheVariants as hold
 use Rattle.spin_world_core.specs.Calls.{Mark, AnyOf, granted}
 use Rattle.spin_world_core.proofs.Lists.{eqb_self}
@@ -34,98 +34,56 @@ abbrev pub ticket_notes : {V : Type 0} (v : V) (first : ℕ) → Notes (ticket_t
 ticket_notes v first = record { Shape = λ s. Queue s; point = point_of; Knows = λ c l h p s span. KnowsAt l h p s span }
 
 -- a party that waits with a ticket hasn't entered yet
-
 not_entered : (p t : ℕ) (ts : List Queued) → filter (λ t. t.party == p) ts ≡ queued p t false ∷ [] → is_first p true ts ≡ false
 not_entered p t [] mine = refl
 not_entered p t (k ∷ ts) mine = grind arith
-
-enters_first : (p t : ℕ) (s : Plain) → entries p s ≡ entries_at p (queues t false) → (is_open s (gets p to_enter) || is_first p true s.tickets) ≡ true → is_open s (gets p to_enter) ≡ true
-enters_first p t s mine free = grind (arith, not_entered p t s.tickets)
 
 module _ {V : Type 0} (v : V) (first : ℕ) where
   abbrev IsMeant : ℕ → Plain → Change → (ℕ → TicketWords) → Option ℕ → Type 0
   IsMeant p s c put o = Means (ticket_table v first) (ticket_notes v first) p s c put o
 
   -- what the step functions mean there
-  module _ {k : CallOf TicketWords TicketPoint (Answer V)} {l : TicketPoint} {h : Option Hold} {s : Plain} {w : TicketWords} {span : List Mark} {row : Row} (p : ℕ) (at : AtPoint (ticket_table v first) (ticket_notes v first) p k l h s w span row) where
-    next_is : s.next ≡ w.next
-    next_is = cc (at.encodes)
-
-    serving_is : serving_word s ≡ w.serving
-    serving_is = cc (at.encodes)
-
-    -- nobody queues, and a ticket is left
-    free_to_take : (is_empty s.tickets && is_left s.next) ≡ true → (is_left w.next ≡ true) × (w.serving ≡ w.next)
-    free_to_take free = grind (arith, next_is, serving_is, free_number s)
-
-    grants_means : (ask : Ask) (b : Bool) → serving_word (apply s (gets p ask)) ≡ serving_word s → (is_open s (gets p ask) ≡ true → Queue (apply s (gets p ask))) → Decides s (gets p ask) next_word (if b then Some (w.next + 1) else None)
-        → IsMeant p s (gets p ask) (λ n. record w { next = n }) (if b then Some (w.next + 1) else None)
-    grants_means ask b same shape grants = grind (arith, shape, next_is, serving_is)
-
+  module _ (p : ℕ) (s : Plain) (w : TicketWords) (queue : Queue s) (next_is : s.next ≡ w.next) (serving_is : serving_word s ≡ w.serving) where
     take_means : IsMeant p s (gets p to_take_ticket) (λ n. record w { next = n }) (take w.next)
     take_means =
-        grants_means to_take_ticket (is_left w.next) (serving-taken s p false at.shape.numbered) (λ left. taken_queue s p false at.shape left (numbered-given s p (effect to_take_ticket) at.shape.numbered)) (ticket_take-grants s p w.next next_is)
+        let numbered = numbered-given s p (effect to_take_ticket) queue.numbered in
+        grind (arith, serving-taken s p false queue.numbered, numbered, taken_queue s p false queue)
 
     -- where the number is served
     take_alone_means : w.next ≤ serving_word s → IsMeant p s (gets p to_take_and_enter) (λ n. record w { next = n }) (take w.next)
     take_alone_means le =
-        grants_means to_take_and_enter (is_left w.next) (serving-taken s p true at.shape.numbered) (λ free. taken_queue s p true at.shape (and_parts (is_empty s.tickets) (is_left s.next) free).1 (numbered-given s p (effect to_take_and_enter) at.shape.numbered))
-        (ticket_take-grants_alone s p w.next at.shape.numbered.0 next_is (omega (arith, next_is, le)))
+        let numbered = numbered-given s p (effect to_take_and_enter) queue.numbered in
+        let grants = ticket_take-grants_alone s p w.next queue.numbered.0 next_is (omega (arith, le)) in
+        grind (arith, serving-taken s p true queue.numbered, numbered, taken_queue s p true queue, grants)
 
-    in_turn : (t : ℕ) → entries p s ≡ entries_at p (queues t false) → is_open s (gets p to_enter) ≡ (w.serving == t)
-    in_turn t mine = enters_in_turn s p w.serving t at.shape.numbered serving_is (ap (λ (e : Entries). e.tickets) mine)
+    enter_means : (t : ℕ) → entries p s ≡ entries_at p (queues t false) → IsMeant p s (gets p to_enter) (λ k. w) (passing (w.serving == t) w.serving)
+    enter_means t mine =
+        let numbered = numbered-given s p (effect to_enter) queue.numbered in
+        let turn = enters_in_turn s p w.serving t queue.numbered serving_is in
+        grind (arith, turn, serving-entered s, numbered, queue, stands p t false s.tickets)
 
-    enter_if : (t : ℕ) (b : Bool) → entries p s ≡ entries_at p (queues t false) → is_open s (gets p to_enter) ≡ b → IsMeant p s (gets p to_enter) (λ k. w) (passing b w.serving)
-    enter_if t true mine may = (
-      (refl, may),
-      two _ _ _ _ (sym next_is) (sym serving_is ∙ sym (serving-entered s)),
-      record { no_holders = at.shape.no_holders; numbered = numbered-given s p (effect to_enter) at.shape.numbered; in_range = λ some. at.shape.in_range (stands p t false s.tickets (ap (λ (e : Entries). e.tickets) mine)) },
-    )
-    enter_if t false mine may = may
-
-    serve_means : (t u : ℕ) → t ≡ u → entries p s ≡ entries_at p (queues u true) → (is_left t ≡ true) × IsMeant p s (serves p) (λ k. record w { serving = k }) (Some (t + 1))
-    serve_means t u same mine =
+    serve_means : (t u : ℕ) → t ≡ u → first_alone_entered s.tickets ≡ true → entries p s ≡ entries_at p (queues u true)
+        → (is_left t ≡ true) × IsMeant p s (serves p) (λ k. record w { serving = k }) (Some (t + 1))
+    serve_means t u same one mine =
         let tickets = ap (λ (e : Entries). e.tickets) mine in
-        let some = stands p u true s.tickets tickets in
-        let here = entered_is_served s p u at.shape.numbered at.exclusive.one_entered tickets in
-        let served = here.1 ∙ sym same in (
-          ticket_left s t at.shape some served,
-          (
-            (refl, here.0),
-            two _ _ _ _ (sym next_is) (ticket_serve-gives s p t at.shape.numbered.0 served here.0),
-            record { no_holders = at.shape.no_holders; numbered = numbered-serves s p at.shape.numbered; in_range = λ more. at.shape.in_range some },
-          ),
-        )
+        let here = entered_is_served s p u queue.numbered one tickets in
+        let gives = ticket_serve-gives s p t queue.numbered.0 (here.1 ∙ sym same) here.0 in
+        let left = ticket_left s t queue (stands p u true s.tickets tickets) in
+        grind (arith, here, gives, queue, numbered-serves s p queue.numbered, left)
 
   owes : (p : ℕ) (c : TicketCall) (l : TicketPoint) (h : Option Hold) (s : Plain) (w : TicketWords) (span : List Mark) → OwesAt (ticket_table v first) (ticket_notes v first) p c l h s w span
-  owes p Lock LoadNext None s w span = λ at. grind (arith, take_means p at)
-  owes p Lock (Take n) None s w span = λ at. grind (arith, take_means p at, next_is p at)
-  owes p Lock (Await t) None s w span = λ at. let mine = at.known.stand in grind (arith, enter_if p at t (w.serving == t) mine (in_turn p at t mine))
-  owes p TryLock TryLoadNext None s w span = λ at.
-      grind (arith, next_is p at, stays_now s p span (is_empty s.tickets) refl, own_count-mine p None plain s span, at.known.spent)
-  owes p TryLock (TryLoadServing n) None s w span = λ at.
+  owes p TryLock (TryLoadServing n) None s w span =
       let found = any_map (λ m. (m.party ≡ p) × (next_word m.before ≡ n)) (λ m. (m.party ≡ p) × (next_word m.before ≡ serving_word s)) span in
-      grind (arith, serving_is p at, at.knows, found, try_refused p n s span, own_count-mine p None plain s span)
-  owes p TryLock (TryTake n) None s w span = λ at. grind (arith, next_is p at, at.knows, take_alone_means p at, try_refused p n s span)
-  owes p IsLocked LookServing None s w span = λ at. grind (arith, serving_is p at)
-  owes p IsLocked (LookNext k) None s w span = λ at. (refl, inl refl, look_right (w.next == k) p k s span at.shape at.knows (ap (λ n. n == k) (next_is p at)))
-  owes p Release (Serve t) (Some (hold.Ticket u)) s w span = λ at. grind (arith, serve_means p at t u at.knows at.known.stand)
-  owes p _ _ _ s w span = tt
+      grind (arith, found, try_refused p n s span, own_count-mine p None plain s span)
+  owes p TryLock (TryTake n) None s w span = grind (arith, take_alone_means p s w, try_refused p n s span)
+  owes p IsLocked (LookNext k) None s w span = grind (arith, look_right (w.next == k) p k s span)
+  owes p c l h s w span = grind (arith, take_means p s w, enter_means p s w, serve_means p s w, stays_now s p span, own_count-mine p None plain s span)
 
   -- run alone: the next ticket is taken, at once or after a look, and enters where it is served
 
-  enters_soon : (k : ℕ) (w : TicketWords) (t : ℕ) → w.serving ≡ t → answers_by (ticket_table v first) (suc k) w Lock (Await t) None ≡ true
-  enters_soon k w t is = grind arith
-
-  takes_soon : (k n : ℕ) (w : TicketWords) → is_left w.next ≡ true → w.serving ≡ w.next → answers_by (ticket_table v first) (suc (suc (suc k))) w Lock (Take n) None ≡ true
-  takes_soon k n w left served = grind arith
-
   soon : (p : ℕ) (c : TicketCall) (l : TicketPoint) (h : Option Hold) (s : Plain) (w : TicketWords) (span : List Mark)
       → OwesSoon (ticket_table v first) (ticket_notes v first) p c l h s w span
-  soon p Lock LoadNext None s w span = λ at free. let is = free_to_take p at free in rw is.0 (takes_soon 0 w.next w is.0 is.1)
-  soon p Lock (Take n) None s w span = λ at free. let is = free_to_take p at free in takes_soon 1 n w is.0 is.1
-  soon p Lock (Await t) None s w span = λ at free. enters_soon 3 w t (eqb-true w.serving t (sym (in_turn p at t at.known.stand) ∙ enters_first p t s at.known.stand free))
-  soon p _ _ _ s w span = tt
+  soon p c l h s w span = grind (arith, free_number s, enters_in_turn s p w.serving, λ (t : ℕ). not_entered p t s.tickets)
 
   pub ticket_pays : Pays (ticket_table v first) (ticket_notes v first)
   ticket_pays =

@@ -27,9 +27,10 @@ module _ {V : Type 0} (v : V) (first p t : ℕ) where
       → StandsSo (ticket_table v first) (ticket_notes v first) (is_waiting_with t) p c l h → l ≡ Await t
   waits_at c l h so = grind arith
 
-looked : (V : Type 0) (s : State TicketWords V TicketCall TicketPoint) (p t : ℕ) (w : TicketWords) (c : TicketCall) (h : Option Hold) (b : Bool) → (w.serving == t) ≡ b
-    → ((stepped {A = Answer V} s p c h (becomes (λ (k : ℕ). w) w (passing b w.serving) (granted t) (Continue (Await t)))).outcome ≡ Answered Granted None) ↔ (w.serving ≡ t)
-looked V s p t w c h b is = grind arith
+looked : (V : Type 0) (s : State TicketWords V TicketCall TicketPoint) (p t : ℕ) (w : TicketWords) (c : TicketCall) (h : Option Hold)
+    → let st = becomes (λ (k : ℕ). w) w (passing (w.serving == t) w.serving) (granted t) (Continue (Await t)) in
+    ((stepped {A = Answer V} s p c h st).outcome ≡ Answered Granted None) ↔ (w.serving ≡ t)
+looked V s p t w c h = grind arith
 
 module _ {V : Type 0} (v : V) (first : ℕ) where
   abbrev m : Machine TicketWords V TicketCall TicketPoint (Answer V)
@@ -77,7 +78,7 @@ module _ {V : Type 0} (v : V) (first : ℕ) where
             let is = waits_at v first p t c l h so in
             let now = after m (at_first m n) all in
             let at = ap (λ o. (moves_at m now p Step o).outcome) (there ∙ ap (λ l. Some (Calling c l h)) is) in
-            let enters = looked V now p t now.words c h (now.words.serving == t) refl in
+            let enters = looked V now p t now.words c h in
             let served = (in_order n all).serving ∙ served_later n past further in
             (λ e. sym served ∙ enters.0 (sym at ∙ e), λ e. at ∙ enters.1 (served ∙ e));
         holds = λ p t there. omega (arith, served_later n past further, holds_served n p t all there);
