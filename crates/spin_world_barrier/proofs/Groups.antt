@@ -1,25 +1,16 @@
 -- What users of a barrier rely on.
-use Rattle.spin_world_barrier.proofs.Names.{◌≡◌, ℕ, ◌+◌, ◌/◌, ◌%◌, ◌^◌, ◌==◌, ◌↔◌, Bool, true, Option, Some, None, [], ◌∷◌, slice_get, ap, sym, ◌∙◌, arith, max, arrives, may_leave, barrier_arrive-words, barrier_may_leave-tells, Answer, Leader, Follower, Hold, Continue, Answers, BarrierWords, BarrierCall, BarrierPoint, Leave, either, stays, Seen, scene, step_at, opening, own, arrived, seen_after, passes, steps_made, BarrierMachine, leads, barrier_machine, is_arrival, Entries, seen_at, arrivals, InGroups, FollowersLeave}
+use Rattle.spin_world_barrier.proofs.Names.{◌≡◌, ℕ, ◌+◌, ◌%◌, ◌==◌, ◌↔◌, true, Option, Some, None, [], ◌∷◌, slice_get, ap, sym, ◌∙◌, arith, max, arrives, may_leave, barrier_arrive-words, barrier_may_leave-tells, Leader, Follower, Hold, BarrierWords, BarrierCall, BarrierPoint, Seen, scene, step_at, opening, own, arrived, seen_after, passes, steps_made, BarrierMachine, leads, barrier_machine, is_arrival, Entries, seen_at, arrivals, InGroups, FollowersLeave}
 use Rattle.spin_world_core.specs.declared.place.Seat.{Seat}
 use Rattle.spin_world_core.specs.declared.place.Seat.TheVariants.{Calling}
 use Rattle.spin_world_core.specs.declared.schedule.Move.TheVariants.{Step}
 use Rattle.spin_world_core.specs.declared.schedule.Outcome.TheVariants.{Answered}
-use Rattle.spin_world_core.specs.Schedules.{State, happens, moves_at, stepped, after, at_first}
+use Rattle.spin_world_core.specs.Schedules.{State, happens, moves_at, after, at_first}
 use Rattle.spin_world_core.proofs.Preserved.{Invariant, in_call}
 use Rattle.spin_world_core.proofs.Every.{kept, good_first, good_after, state-seen_after}
 use Rattle.spin_world_barrier.proofs.Owed.{barrier_keeping, barrier_facts, is_barrier, one_more}
 
 abbrev BarrierState : Type 0
 BarrierState = State BarrierWords ℕ BarrierCall BarrierPoint
-
--- by what a step that arrives, and one that looks, is answered
-arrives_so : (s : BarrierState) (p : ℕ) (w : BarrierWords) (c : BarrierCall) (h : Option Hold) (b : Bool)
-    → ((stepped {A = Answer ℕ} s p c h (stays w (either b (Answers Leader h) (Continue (Leave s.words.generation))))).outcome ≡ Answered Leader None) ↔ (b ≡ true)
-arrives_so s p w c h b = grind arith
-
-looks_so : (s : BarrierState) (p g : ℕ) (c : BarrierCall) (h : Option Hold) (b : Bool)
-    → ((stepped {A = Answer ℕ} s p c h (stays s.words (either b (Answers Follower h) (Continue (Leave g))))).outcome ≡ Answered Follower None) ↔ (b ≡ true)
-looks_so s p g c h b = grind arith
 
 module _ (n : ℕ) where
   abbrev m : BarrierMachine
@@ -52,15 +43,13 @@ module _ (n : ℕ) where
       let group : max seen.plain.group 1 ≡ max n 1 = ap (λ k. max k 1) is.group in
       let words : (after m (at_first m parties) past).words ≡ seen.state.words = ap (λ (s : BarrierState). s.words) (sym state) in
       let leading : leads n seen.state.words ≡ (((arrivals m parties past + 1) % max n 1) == 0) =
-      (barrier_arrive-words seen.plain n seen.state.words.count seen.state.words.generation is).leads
-      ∙ (ap (λ g. ((seen.plain.arrivals + 1) % g) == 0) group ∙ ap (λ k. ((k + 1) % max n 1) == 0) many) in
+      grind (arith, (barrier_arrive-words seen.plain n seen.state.words.count seen.state.words.generation is).leads, group, many) in
       record {
-        count = ap (λ (w : BarrierWords). w.count) words ∙ (sym is.counts ∙ (ap (λ g. seen.plain.arrivals % g) group ∙ ap (λ k. k % max n 1) many));
-        generation = ap (λ (w : BarrierWords). w.generation) words ∙ (sym is.generations ∙ (ap (λ g. (seen.plain.arrivals / g) % 2 ^ 64) group ∙ ap (λ k. (k / max n 1) % 2 ^ 64) many));
+        count = grind (arith, words, is.counts, group, many);
+        generation = grind (arith, words, is.generations, group, many);
         leads = λ p.
             let so = leads_at seen.state p ((arrivals m parties past + 1) % max n 1) (slice_get seen.state.seats p) leading in
-            let same = ap (λ s. (happens m s p Step).outcome) state in
-            (λ e. so.0 (same ∙ e), λ both. sym same ∙ so.1 both);
+            let same = ap (λ s. (happens m s p Step).outcome) state in (λ e. so.0 (same ∙ e), λ both. sym same ∙ so.1 both);
       }
 
   -- a party that has arrived tells by the generation whether its group has been filled

@@ -1,5 +1,5 @@
 -- What the barrier's table owes.
-use Rattle.spin_world_barrier.proofs.Names.{◌≡◌, ℕ, ◌+◌, ◌/◌, ◌%◌, ◌^◌, ◌≤◌, ◌==◌, true, false, ◌&&◌, is_some, Option, Some, None, List, [], ◌∷◌, if◌then◌else◌, refl, ap, ◌∙◌, arith, inl, inr, max, false≢true, ne_eqb, Plain, Change, arrives, apply, count_word, generation_word, IsBarrier, is_leading, generation_at, barrier_arrive-words, barrier_count-below, barrier_may_leave-tells, barrier_may_leave-full, Hold, BarrierWords, BarrierCall, BarrierPoint, Arrive, Leave, arrived, mark_of, passes, is_arrival, barrier_table, barrier_machine}
+use Rattle.spin_world_barrier.proofs.Names.{◌≡◌, ℕ, ◌+◌, ◌/◌, ◌%◌, ◌^◌, ◌≤◌, ◌==◌, false, ◌&&◌, is_some, Option, Some, None, List, [], ◌∷◌, refl, arith, inl, inr, max, Plain, Change, arrives, apply, count_word, generation_word, IsBarrier, is_leading, generation_at, barrier_arrive-words, barrier_count-below, barrier_may_leave-tells, barrier_may_leave-full, Hold, BarrierWords, BarrierCall, BarrierPoint, Arrive, Leave, arrived, mark_of, passes, is_arrival, barrier_table, barrier_machine}
 use Rattle.std.proofs.Math.Bool.{and-false}
 use Rattle.std.proofs.Math.Nat.{mod-le, div-le_self}
 use Rattle.spin_step.specs.Parties.{apply_some}
@@ -7,7 +7,6 @@ use Rattle.spin_world_core.specs.StepKinds.{StepKind, plain, look}
 use Rattle.spin_world_core.specs.Calls.{BelongsTo, Mark, follows, AnyOf, Arrives}
 use Rattle.spin_world_barrier.specs.Kind.{barrier}
 use Rattle.spin_step.specs.Steps.{bit}
-use Rattle.spin_world_core.proofs.Lists.{eqb_self}
 use Rattle.spin_world_core.proofs.Facts.{LocalInvariant, Facts}
 use Rattle.spin_world_core.proofs.Stands.{absent}
 use Rattle.spin_world_core.proofs.Rows.{Point, nowhere, looked, onward}
@@ -42,14 +41,6 @@ pub record IsOf (n : ℕ) (s : Plain) : Type 0 where
 abbrev pub barrier_notes : (n : ℕ) → Notes (barrier_table n)
 barrier_notes n = record { Shape = λ s. IsOf n s; point = λ c l h. point_of l h; Knows = λ c l h p s span. KnowsAt l p s span }
 
--- another step leaves the group's size, and does not lower the arrivals
-record Rises (s t : Plain) : Type 0 where
-  group : t.group ≡ s.group
-  arrivals : s.arrivals ≤ t.arrivals
-
-rises : (s : Plain) (step : Option Change) → BelongsTo barrier step → Rises s (apply_some s step)
-rises s step belongs = grind arith
-
 -- the arrivals grow by the step, where it is one
 pub one_more : (s : Plain) (step : Option Change) → BelongsTo barrier step → (apply_some s step).arrivals ≡ s.arrivals + bit (passes is_arrival step)
 one_more s step belongs = grind arith
@@ -57,13 +48,12 @@ one_more s step belongs = grind arith
 -- a step that is no arrival of the party's own leaves what it knows
 waits-on : (g p q : ℕ) (s : Plain) (step : Option Change) (r : StepKind) (span : List Mark) → ((q == p) && is_some step) ≡ false → BelongsTo barrier step → Waits g p s span → Waits g p (apply_some s step) (mark_of q step r s ∷ span)
 waits-on g p q s step r span none belongs waits =
-    let up = rises s step belongs in
     record {
       number = waits.number;
-      is_number = ap (λ b. if b then (apply_some s step).arrivals else arrived p span) none ∙ waits.is_number;
-      come = omega (arith, waits.come, up.arrivals);
-      found = ap (λ n. (waits.number / max n 1) % 2 ^ 64) up.group ∙ waits.found;
-      follows = ap (λ n. (waits.number % max n 1) == 0) up.group ∙ waits.follows;
+      is_number = grind (arith, waits.is_number);
+      come = grind (arith, waits.come);
+      found = grind (arith, waits.found);
+      follows = grind (arith, waits.follows);
       made = inr waits.made;
     }
 
@@ -76,7 +66,7 @@ module _ (n : ℕ) where
   waits_from p s r span g is behind same =
       record {
         number = s.arrivals + 1;
-        is_number = ap (λ b. if b && true then s.arrivals + 1 else arrived p span) (eqb_self p);
+        is_number = grind arith;
         come = omega arith;
         found = same;
         follows = behind;
@@ -97,12 +87,9 @@ module _ (n : ℕ) where
 
   soon : (p : ℕ) (c : BarrierCall) (l : BarrierPoint) (h : Option Hold) (s : Plain) (w : BarrierWords) (span : List Mark)
       → OwesSoon (barrier_table n) (barrier_notes n) p c l h s w span
-  soon p c Arrive None s w span = λ at may. absurd (false≢true may)
-  soon p c (Leave g) None s w span = λ at may.
-      let is = is_barrier s w at.encodes at.shape in
-      let waits = at.knows in
-      grind (arith, may, waits, barrier_may_leave-tells s waits.number n w.count w.generation g is waits.come waits.found)
-  soon p _ _ (Some h) s w span = tt
+  soon p c l h s w span =
+      let tells = λ (is : IsBarrier s n w.count w.generation). λ (k : ℕ). λ (g : ℕ). barrier_may_leave-tells s k n w.count w.generation g is in
+      grind (arith, is_barrier s w, tells)
 
   pub barrier_pays : Pays (barrier_table n) (barrier_notes n)
   barrier_pays =
@@ -117,8 +104,7 @@ module _ (n : ℕ) where
         aims = λ p c l h. grind arith;
         begins = λ p c h s. grind arith;
         others = λ p q c l h s step r span ne of may belongs knows.
-            let none : ((q == p) && is_some step) ≡ false = ap (λ b. b && is_some step) (ne_eqb q p ne) in
-            let on = λ (g : ℕ). waits-on g p q s step r span none belongs in grind (arith, on);
+            let on = λ (g : ℕ). waits-on g p q s step r span (grind arith) belongs in grind (arith, on);
         owes = owes;
         soon = soon;
       }
