@@ -1,6 +1,5 @@
 -- What the table of the seats owes.
-use Rattle.std.proofs.Common.{◌≡◌, ℕ, ◌-◌, ◌≤◌, true, Option, Some, None, List, [], ◌∷◌, length, nat_lt, refl, ap, sym, ◌∙◌, arith, length-append}
-use Rattle.std.proofs.lemmas.Bool.{ltb-true}
+use Rattle.std.proofs.Common.{◌≡◌, ℕ, ◌-◌, ◌≤◌, true, Option, Some, None, List, [], ◌∷◌, length, nat_lt, refl, ap, arith, length-append}
 use Rattle.spin_step.specs.Plain.{Plain, reading, holder, to_read, gets, releases, apply, may_come, is_holder}
 use Rattle.spin_step.specs.Parties.{Entries, entries}
 use Rattle.spin_step.proofs.Sums.{one_of, sum-more, sum-less}
@@ -8,22 +7,20 @@ use Rattle.spin_step.proofs.Holders.{is_holder-from_entries, length-without_hold
 use Rattle.spin_step.proofs.Readers.{each_reads}
 use Rattle.spin_seats.specs.Seats.{AllRead, seats, seats_word, entered}
 use Rattle.spin_seats.proofs.Taken.{open_is, enter-grants, leave-gives}
-use Rattle.spin_world_core.specs.declared.answer.Answer.{Answer}
 use Rattle.spin_world_core.specs.declared.place.Hold.{Hold}
-use Rattle.spin_world_core.specs.declared.place.Hold.TheVariants.{Read}
 use Rattle.spin_world_seats.specs.declared.seats.SeatsCall.{SeatsCall}
-use Rattle.spin_world_seats.specs.declared.seats.SeatsCall.TheVariants.{TryEnter, Enter, Count, Leave}
+use Rattle.spin_world_seats.specs.declared.seats.SeatsCall.TheVariants.{TryEnter, Enter}
 use Rattle.spin_world_seats.specs.declared.seats.SeatsPoint.{SeatsPoint}
-use Rattle.spin_world_seats.specs.declared.seats.SeatsPoint.TheVariants.{First, Exchange}
+use Rattle.spin_world_seats.specs.declared.seats.SeatsPoint.TheVariants.{Exchange}
 use Rattle.spin_world_core.specs.Calls.{Mark}
 use Rattle.spin_world_core.specs.Acts.{begin_of}
 use Rattle.spin_world_seats.specs.Seats.{seats_table, seats_machine}
 use Rattle.spin_world_core.proofs.Facts.{LocalInvariant, Facts}
 use Rattle.spin_world_core.proofs.Stands.{holds, entries_at}
-use Rattle.spin_world_core.proofs.Rows.{Row, Point, starts, looked}
-use Rattle.spin_world_core.proofs.Shapes.{Notes, keeping_of, Means, OwesAt, OwesSoon, Pays, CallOf, AtPoint}
+use Rattle.spin_world_core.proofs.Rows.{Point, starts, looked}
+use Rattle.spin_world_core.proofs.Shapes.{Notes, keeping_of, Means, OwesAt, OwesSoon, Pays}
 use Rattle.spin_world_core.proofs.Operating.{one_place, operates_by}
-use Rattle.spin_world_core.proofs.Usual.{no_queue, means_word}
+use Rattle.spin_world_core.proofs.Usual.{no_queue}
 use Rattle.spin_world_core.proofs.Paid.{facts_of}
 
 -- a call that looked has made one step; each other point is as its call's beginning
@@ -43,52 +40,35 @@ abbrev pub seats_notes : (n : ℕ) → Notes (seats_table n)
 seats_notes n = record { Shape = λ s. Seating n s; point = point_of n; Knows = λ c l h p s span. Unit {0} }
 
 module _ (n : ℕ) where
-  word_is : (s : Plain) (w : ℕ) → w ∷ [] ≡ seats_word s ∷ [] → seats_word s ≡ w
-  word_is s w e = cc (e)
-
   sits : (p : ℕ) (s : Plain) → entries p s ≡ entries_at p (holds reading) → is_holder p reading s.holders ≡ true
   sits p s mine = is_holder-from_entries p reading s.holders (ap (λ (e : Entries). e.holders) mine)
 
   one_more : (s : Plain) (p w : ℕ) → Seating n s → seats_word s ≡ w → may_come reading s ≡ true → Seating n (apply s (gets p to_read))
   one_more s p w shape is may =
-      let free = ltb-true w (seats n) (sym (open_is s n w shape.all_read shape.room is) ∙ may) in let more = length-append s.holders (holder p reading ∷ []) in
-      record { no_queue = shape.no_queue; room = shape.room; all_read = omega (arith, sum-more (one_of reading) s.holders p reading, more, shape.all_read); few = omega (arith, more, free, is) }
+      let more = length-append s.holders (holder p reading ∷ []) in
+      grind (arith, shape, open_is s n w shape.all_read shape.room is, more, sum-more (one_of reading) s.holders p reading)
 
   one_less : (s : Plain) (p : ℕ) → Seating n s → is_holder p reading s.holders ≡ true → Seating n (apply s (releases p reading))
   one_less s p shape found =
-      let less = length-without_holder p reading s.holders found in
-      record { no_queue = shape.no_queue; room = shape.room; all_read = omega (arith, sum-less (one_of reading) p reading s.holders found, less, shape.all_read); few = omega (arith, less, shape.few) }
+      grind (arith, shape, length-without_holder p reading s.holders found, sum-less (one_of reading) p reading s.holders found)
 
   -- what the step functions mean there
-  module _ {k : CallOf ℕ SeatsPoint (Answer (Unit {0}))} {l : SeatsPoint} {h : Option Hold} {s : Plain} {w : ℕ} {span : List Mark} {row : Row} (p : ℕ) (at : AtPoint (seats_table n) (seats_notes n) p k l h s w span row) where
+  module _ (p : ℕ) (s : Plain) (w : ℕ) (shape : Seating n s) (is : seats_word s ≡ w) where
     enter_means : Means (seats_table n) (seats_notes n) p s (gets p to_read) (λ k. k) (entered n w)
-    enter_means = let is = word_is s w at.encodes in
-        means_word (seats_table n) (seats_notes n) seats_word (λ to after same. ap (λ k. k ∷ []) same) p s (gets p to_read) (entered n w) refl (enter-grants s p n w at.shape.all_read at.shape.room is) (λ may. one_more s p w at.shape is may)
+    enter_means = grind (arith, enter-grants s p n w shape.all_read shape.room is, one_more s p w shape is)
 
-    leave_means : is_holder p reading s.holders ≡ true → Means (seats_table n) (seats_notes n) p s (releases p reading) (λ k. k) (Some (w - 1))
-    leave_means found = ((refl, found), ap (λ k. k ∷ []) (leave-gives s p w (word_is s w at.encodes) found), one_less s p at.shape found)
+    leave_means : is_holder p reading s.holders ≡ true
+        → (nat_lt 0 w ≡ true) × Means (seats_table n) (seats_notes n) p s (releases p reading) (λ k. k) (Some (w - 1))
+    leave_means found = grind (arith, length-without_holder p reading s.holders found, leave-gives s p w is found, one_less s p shape found)
 
   owes : (p : ℕ) (c : SeatsCall) (l : SeatsPoint) (h : Option Hold) (s : Plain) (w : ℕ) (span : List Mark) → OwesAt (seats_table n) (seats_notes n) p c l h s w span
-  owes p TryEnter First None s w span = λ at. grind (arith, enter_means p at)
-  owes p TryEnter (Exchange k) None s w span = λ at. grind (arith, enter_means p at)
-  owes p Enter First None s w span = λ at. grind (arith, enter_means p at)
-  owes p Enter (Exchange k) None s w span = λ at. grind (arith, enter_means p at)
-  owes p Count l None s w span = λ at. grind (arith, each_reads s.holders at.shape.all_read, word_is s w at.encodes)
-  owes p Leave l (Some Read) s w span = λ at.
-      let found = sits p s at.known.stand in
-      grind (arith, length-without_holder p reading s.holders found, word_is s w at.encodes, leave_means p at found)
-  owes p _ _ _ s w span = tt
+  owes p c l h s w span = grind (arith, enter_means p s w, leave_means p s w, sits p s, each_reads s.holders)
 
   -- Run alone: the word with a free seat is exchanged, at once or after a look
 
-  is_free : (s : Plain) (w : ℕ) → Seating n s → seats_word s ≡ w → may_come reading s ≡ true → nat_lt w (seats n) ≡ true
-  is_free s w shape is may = sym (open_is s n w shape.all_read shape.room is) ∙ may
-
   soon : (p : ℕ) (c : SeatsCall) (l : SeatsPoint) (h : Option Hold) (s : Plain) (w : ℕ) (span : List Mark)
       → OwesSoon (seats_table n) (seats_notes n) p c l h s w span
-  soon p Enter First None s w span = λ at may. let free = is_free s w at.shape (word_is s w at.encodes) may in grind arith
-  soon p Enter (Exchange k) None s w span = λ at may. let free = is_free s w at.shape (word_is s w at.encodes) may in grind arith
-  soon p _ _ _ s w span = tt
+  soon p c l h s w span = grind (arith, open_is s n w)
 
   pub seats_pays : Pays (seats_table n) (seats_notes n)
   seats_pays =
