@@ -58,7 +58,7 @@ module _ (n : ℕ) where
   leaves_at seen p c l h good there has =
       let is = is_barrier n seen.plain seen.state.words good.encodes good.shape in
       let knows = (in_call m (barrier_keeping n) seen p c l h good there).knows in
-      let tells = λ (k : ℕ). λ (g : ℕ). barrier_may_leave-tells seen.plain k n seen.state.words.count seen.state.words.generation g is in
+      let tells = λ (g : ℕ). barrier_may_leave-tells seen.plain (arrived p (seen.span p)) n seen.state.words.count seen.state.words.generation g is in
       grind (arith, there, knows, tells)
 
   pub followers_leave : (parties : ℕ) (past : Entries) → FollowersLeave m parties past

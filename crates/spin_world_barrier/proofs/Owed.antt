@@ -1,5 +1,5 @@
 -- What the barrier's table owes.
-use Rattle.spin_world_barrier.proofs.Names.{◌≡◌, ℕ, ◌+◌, ◌/◌, ◌%◌, ◌^◌, ◌≤◌, ◌==◌, false, ◌&&◌, is_some, Option, Some, None, List, [], ◌∷◌, refl, arith, inl, inr, max, Plain, Change, arrives, apply, count_word, generation_word, IsBarrier, is_leading, generation_at, barrier_arrive-words, barrier_count-below, barrier_may_leave-tells, barrier_may_leave-full, Hold, BarrierWords, BarrierCall, BarrierPoint, Arrive, Leave, arrived, mark_of, passes, is_arrival, barrier_table, barrier_machine}
+use Rattle.spin_world_barrier.proofs.Names.{◌≡◌, ℕ, ◌+◌, ◌/◌, ◌%◌, ◌^◌, ◌≤◌, ◌==◌, false, ◌&&◌, is_some, Option, Some, None, List, [], ◌∷◌, refl, sym, subst, arith, inr, max, Plain, Change, arrives, apply, count_word, generation_word, IsBarrier, is_leading, generation_at, barrier_arrive-words, barrier_count-below, barrier_may_leave-tells, barrier_may_leave-full, Hold, BarrierWords, BarrierCall, BarrierPoint, Arrive, Leave, arrived, mark_of, passes, is_arrival, barrier_table, barrier_machine}
 use Rattle.std.proofs.Math.Bool.{and-false}
 use Rattle.std.proofs.Math.Nat.{mod-le, div-le_self}
 use Rattle.spin_step.specs.Parties.{apply_some}
@@ -20,14 +20,12 @@ point_of Arrive None = looked 0
 point_of (Leave g) None = onward (record { stand = absent; made = λ p. arrives p ∷ []; rest = λ p. []; said = follows; spent = 0 })
 point_of l (Some h) = nowhere
 
--- a party that has arrived knows the number of its arrival, which leads no group, and the generation that it found with it
+-- a party that has arrived knows by the number of its arrival, which leads no group, what generation it found with it
 pub record Waits (g p : ℕ) (s : Plain) (span : List Mark) : Type 0 where
-  pub number : ℕ
-  pub is_number : arrived p span ≡ number
-  pub come : number ≤ s.arrivals
-  pub found : generation_at s number ≡ g
-  pub follows : is_leading s number ≡ false
-  pub made : AnyOf (λ m. Arrives p number m × (is_leading m.before number ≡ false)) span
+  pub come : arrived p span ≤ s.arrivals
+  pub found : generation_at s (arrived p span) ≡ g
+  pub follows : is_leading s (arrived p span) ≡ false
+  pub made : AnyOf (λ m. Arrives p (arrived p span) m × (is_leading m.before (arrived p span) ≡ false)) span
 
 abbrev pub KnowsAt : BarrierPoint → ℕ → Plain → List Mark → Type 0
 KnowsAt Arrive p s span = Unit {0}
@@ -48,13 +46,12 @@ one_more s step belongs = grind arith
 -- a step that is no arrival of the party's own leaves what it knows
 waits-on : (g p q : ℕ) (s : Plain) (step : Option Change) (r : StepKind) (span : List Mark) → ((q == p) && is_some step) ≡ false → BelongsTo barrier step → Waits g p s span → Waits g p (apply_some s step) (mark_of q step r s ∷ span)
 waits-on g p q s step r span none belongs waits =
+    let same : arrived p (mark_of q step r s ∷ span) ≡ arrived p span = grind arith in
     record {
-      number = waits.number;
-      is_number = grind (arith, waits.is_number);
-      come = grind (arith, waits.come);
-      found = grind (arith, waits.found);
-      follows = grind (arith, waits.follows);
-      made = inr waits.made;
+      come = grind (arith, waits);
+      found = grind (arith, waits);
+      follows = grind (arith, waits);
+      made = inr (subst (λ k. AnyOf (λ m. Arrives p k m × (is_leading m.before k ≡ false)) span) (sym same) waits.made);
     }
 
 module _ (n : ℕ) where
@@ -63,32 +60,23 @@ module _ (n : ℕ) where
 
   -- the party's own arrival, which leads no group
   waits_from : (p : ℕ) (s : Plain) (r : StepKind) (span : List Mark) (g : ℕ) → generation_word s ≡ g → is_leading s (s.arrivals + 1) ≡ false → generation_at s (s.arrivals + 1) ≡ g → Waits g p (apply s (arrives p)) (mark_of p (Some (arrives p)) r s ∷ span)
-  waits_from p s r span g is behind same =
-      record {
-        number = s.arrivals + 1;
-        is_number = grind arith;
-        come = omega arith;
-        found = same;
-        follows = behind;
-        made = inl ((refl, refl, refl), behind);
-      }
+  waits_from p s r span g is behind same = grind arith
 
   owes : (p : ℕ) (c : BarrierCall) (l : BarrierPoint) (h : Option Hold) (s : Plain) (w : BarrierWords) (span : List Mark) → OwesAt (barrier_table n) (barrier_notes n) p c l h s w span
-  owes p c Arrive None s w span = λ at.
-      let is = is_barrier s w at.encodes at.shape in
-      let waits = waits_from p s plain span w.generation is.generations in
-      grind (arith, barrier_count-below s n w.count w.generation is, barrier_arrive-words s n w.count w.generation is, waits)
+  owes p c Arrive h s w span =
+      let below = barrier_count-below s n w.count w.generation in
+      let after = barrier_arrive-words s n w.count w.generation in
+      grind (arith, is_barrier s w, below, after, waits_from p s plain span)
   owes p c (Leave g) None s w span = λ at.
-      let is = is_barrier s w at.encodes at.shape in
-      let waits = at.knows in
-      let full = barrier_may_leave-full s waits.number n w.count w.generation g is waits.come waits.found waits.follows in
-      grind (arith, full, waits, waits-on g p p s None look span (and-false (p == p)) tt waits)
-  owes p _ _ (Some h) s w span = tt
+      let full = barrier_may_leave-full s (arrived p span) n w.count w.generation g (is_barrier s w at.encodes at.shape) in
+      let waits = waits-on g p p s None look span (and-false (p == p)) tt at.knows in
+      grind (arith, full, at.knows, waits)
+  owes p c (Leave g) (Some h) s w span = tt
 
   soon : (p : ℕ) (c : BarrierCall) (l : BarrierPoint) (h : Option Hold) (s : Plain) (w : BarrierWords) (span : List Mark)
       → OwesSoon (barrier_table n) (barrier_notes n) p c l h s w span
   soon p c l h s w span =
-      let tells = λ (is : IsBarrier s n w.count w.generation). λ (k : ℕ). λ (g : ℕ). barrier_may_leave-tells s k n w.count w.generation g is in
+      let tells = λ (g : ℕ). barrier_may_leave-tells s (arrived p span) n w.count w.generation g in
       grind (arith, is_barrier s w, tells)
 
   pub barrier_pays : Pays (barrier_table n) (barrier_notes n)
