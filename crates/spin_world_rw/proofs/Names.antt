@@ -1,10 +1,9 @@
 -- The names that these proofs share, in one place.
-pub use Rattle.std.proofs.Common.{Some, [], ◌∷◌, inl, ◌≡◌, ℕ, ◌+◌, ◌/◌, ◌≤◌, ◌==◌, true, false, Option, None, List, ◌++◌, length, nat_lt, refl, ap, sym, ◌∙◌, arith, eq-eqb, length-append, ◌↔◌, Bool, slice_get}
-pub use Rattle.spin_step.specs.Plain.{reading, upgradable, writing, to_upgrade_asked, releases, Plain, Kind, asking, weight, Holder, holder, to_read, to_read_upgradable, to_write, to_upgrade, Change, gets, turns, apply, is_open, may_come, is_empty, is_holder, is_only, may_turn, with_kind, rw_word, count_kind}
+pub use Rattle.std.proofs.Common.{Some, [], ◌∷◌, ◌≡◌, ℕ, ◌+◌, ◌/◌, ◌≤◌, ◌==◌, true, false, Option, None, List, ◌++◌, length, nat_lt, refl, ap, sym, ◌∙◌, arith, eq-eqb, length-append, ◌↔◌, Bool, slice_get}
+pub use Rattle.spin_step.specs.Plain.{reading, upgradable, writing, to_upgrade_asked, releases, Plain, Kind, asking, weight, Holder, holder, to_read, to_read_upgradable, to_write, to_upgrade, Change, gets, turns, may_come, is_empty, is_holder, is_only, may_turn, with_kind, rw_word, count_kind}
 pub use Rattle.spin_world_core.specs.Calls.{waits, turns_to, Said, own_steps, AnyOf, Mark}
-pub use Rattle.std.proofs.lemmas.Bool.{lt-ltb}
-pub use Rattle.spin_step.specs.Parties.{Entries, entries, party_of, apply_some, IsOpenStep, IsExclusive}
-pub use Rattle.spin_step.specs.Steps.{Decides, bit}
+pub use Rattle.spin_step.specs.Parties.{Entries, entries, apply_some, IsOpenStep, IsExclusive}
+pub use Rattle.spin_step.specs.Steps.{bit}
 pub use Rattle.spin_step.specs.Readers.{reader_limit, tells, read, read_upgradable, write, upgrade, upgrade_asked, released, turned as turned_to, reader_goes}
 pub use Rattle.spin_step.proofs.Holders.{is_holder-from_entries, is_holder-own, length-without_holder}
 pub use Rattle.spin_step.proofs.Exclusive.{empty_is, room_to_come}
@@ -17,5 +16,5 @@ pub use Rattle.spin_world_rw.specs.declared.rw.RwPoint.{RwPoint}
 pub use Rattle.spin_world_rw.specs.declared.rw.RwPoint.TheVariants.{Exchange, Asking}
 pub use Rattle.spin_world_core.specs.Acts.{begin_of}
 pub use Rattle.spin_world_core.proofs.Stands.{holds, entries_at, Stand, holds_and_starves}
-pub use Rattle.spin_world_core.proofs.Shapes.{Notes, keeping_of, Means, OwesAt, OwesSoon, Pays, CallOf, AtPoint, row_of}
-pub use Rattle.spin_world_core.proofs.Usual.{no_queue, means_word, only_left}
+pub use Rattle.spin_world_core.proofs.Shapes.{Notes, keeping_of, Means, OwesAt, OwesSoon, Pays, row_of}
+pub use Rattle.spin_world_core.proofs.Usual.{no_queue}

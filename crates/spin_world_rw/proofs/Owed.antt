@@ -1,5 +1,5 @@
 -- What the table of the read-write lock owes.
-use Rattle.spin_world_rw.proofs.Names.{◌≡◌, ℕ, ◌+◌, ◌/◌, ◌≤◌, true, false, Option, Some, None, List, [], ◌∷◌, ◌++◌, length, nat_lt, refl, ap, sym, ◌∙◌, arith, inl, eq-eqb, length-append, lt-ltb, Plain, Kind, reading, upgradable, asking, writing, weight, Holder, holder, to_read, to_read_upgradable, to_write, to_upgrade, to_upgrade_asked, Change, gets, releases, turns, apply, is_open, may_come, is_empty, is_holder, is_only, may_turn, with_kind, rw_word, Entries, entries, party_of, Decides, reader_limit, tells, read, read_upgradable, write, upgrade, upgrade_asked, released, turned_to, is_holder-from_entries, is_holder-own, length-without_holder, empty_is, room_to_come, one_of_each, read-word, upgradable_read-word, upgradable-word, tells-holder, readers-word, writers-word, only_upgradable-word, only_asking-word, empty-word, Answer, Hold, RwCall, TryRead, Read, TryUpgradeableRead, UpgradeableRead, TryWrite, TryWriteWeak, Write, ReaderCount, WriterCount, TryUpgrade, TryUpgradeWeak, Upgrade, Downgrade, DowngradeToUpgradeable, Release, RwPoint, Exchange, Asking, Mark, begin_of, holds, entries_at, Notes, keeping_of, Means, OwesAt, OwesSoon, Pays, CallOf, AtPoint, no_queue, means_word, only_left}
+use Rattle.spin_world_rw.proofs.Names.{◌≡◌, ℕ, ◌+◌, ◌/◌, ◌≤◌, true, false, Option, Some, None, List, [], ◌∷◌, ◌++◌, length, nat_lt, refl, ap, sym, ◌∙◌, arith, eq-eqb, length-append, Plain, Kind, reading, upgradable, asking, writing, weight, Holder, holder, to_read, to_read_upgradable, to_write, to_upgrade, to_upgrade_asked, Change, gets, releases, turns, may_come, is_empty, is_holder, may_turn, with_kind, rw_word, Entries, entries, IsExclusive, reader_limit, tells, read, read_upgradable, write, upgrade, upgrade_asked, released, turned_to, is_holder-from_entries, is_holder-own, length-without_holder, empty_is, room_to_come, one_of_each, read-word, upgradable_read-word, upgradable-word, tells-holder, readers-word, writers-word, only_upgradable-word, only_asking-word, empty-word, Hold, RwCall, TryRead, Read, TryUpgradeableRead, UpgradeableRead, TryWrite, TryWriteWeak, Write, ReaderCount, WriterCount, TryUpgrade, TryUpgradeWeak, Upgrade, Downgrade, DowngradeToUpgradeable, Release, RwPoint, Exchange, Asking, Mark, begin_of, holds, entries_at, Notes, keeping_of, Means, OwesAt, OwesSoon, Pays, no_queue}
 use Rattle.std.specs.Prelude.{min, max}
 use Rattle.spin_step.proofs.Sums.{length-with_kind}
 use Rattle.spin_step.proofs.ReaderSteps.{rw_read-grants, rw_upgradable-grants, rw_write-grants, rw_upgrade-grants, rw_upgrade_asked-grants, rw_release-gives, rw_turn-gives}
@@ -59,97 +59,80 @@ module _ {V : Type 0} (v : V) (cap : ℕ) where
 
   -- What the step functions mean
 
-  decides : (p : ℕ) (s : Plain) (c : Change) (o : Option ℕ) → party_of c ≡ p → Decides s c rw_word o → (is_open s c ≡ true → Within cap (apply s c)) → IsMeant p s c o
-  decides p s c o = means_word (rw_table v cap) (rw_notes v cap) rw_word (λ to after is. ap (λ n. n ∷ []) is) p s c o
-
-  module _ {c : CallOf ℕ RwPoint (Answer V)} {l : RwPoint} {h : Option Hold} {s : Plain} {w : ℕ} {span : List Mark} {row : Row} (p : ℕ) (at : AtPoint (rw_table v cap) (rw_notes v cap) p c l h s w span row) where
-    word : rw_word s ≡ w
-    word = cc (at.encodes)
-
+  module _ (p : ℕ) (s : Plain) (w : ℕ) (word : rw_word s ≡ w) (exclusive : IsExclusive s) (shape : Within cap s) where
     read_means : IsMeant p s (gets p to_read) (read cap w)
-    read_means = decides p s (gets p to_read) (read cap w) refl (rw_read-grants s p w cap (one_of_each s at.exclusive) at.shape.room word) (λ may. one_more s p reading at.shape may)
+    read_means = grind (arith, rw_read-grants s p w cap (one_of_each s exclusive) shape.room word, one_more s p reading shape)
 
     upgradable_means : IsMeant p s (gets p to_read_upgradable) (read_upgradable cap w)
     upgradable_means =
-        decides p s (gets p to_read_upgradable) (read_upgradable cap w) refl (rw_upgradable-grants s p w cap (one_of_each s at.exclusive) at.shape.room word) (λ may. one_more s p upgradable at.shape may)
+        grind (arith, rw_upgradable-grants s p w cap (one_of_each s exclusive) shape.room word, one_more s p upgradable shape)
 
     write_means : IsMeant p s (gets p to_write) (write w)
-    write_means = decides p s (gets p to_write) (write w) refl (rw_write-grants s p w word) (λ may. alone s (holder p writing) at.shape may)
+    write_means = grind (arith, rw_write-grants s p w word, alone s (holder p writing) shape)
 
     upgrade_means : entries p s ≡ entries_at p (holds upgradable) → IsMeant p s (gets p to_upgrade) (upgrade w)
-    upgrade_means mine = decides p s (gets p to_upgrade) (upgrade w) refl (rw_upgrade-grants s p w (one_of_each s at.exclusive) (holder_by p upgradable s mine) word) (λ may. turned s p upgradable writing at.shape)
+    upgrade_means mine =
+        let found = holder_by p upgradable s mine in
+        grind (arith, rw_upgrade-grants s p w (one_of_each s exclusive) found word, turned s p upgradable writing shape)
 
     upgrade_asked_means : entries p s ≡ entries_at p (holds asking) → IsMeant p s (gets p to_upgrade_asked) (upgrade_asked w)
-    upgrade_asked_means mine = decides p s (gets p to_upgrade_asked) (upgrade_asked w) refl (rw_upgrade_asked-grants s p w (one_of_each s at.exclusive) (holder_by p asking s mine) word) (λ may. turned s p asking writing at.shape)
+    upgrade_asked_means mine =
+        let found = holder_by p asking s mine in
+        grind (arith, rw_upgrade_asked-grants s p w (one_of_each s exclusive) found word, turned s p asking writing shape)
 
     -- What holders find, and what a turn and a release mean
 
     finds : (k : Kind) → is_holder p k s.holders ≡ true → tells k w ≡ true
-    finds k found = ap (tells k) (sym word) ∙ tells-holder s p k at.exclusive (omega (arith, at.shape.few, at.shape.room)) found
+    finds k found = ap (tells k) (sym word) ∙ tells-holder s p k exclusive (omega (arith, shape.few, shape.room)) found
 
     turn_means : (j k : Kind) → entries p s ≡ entries_at p (holds j) → may_turn j k ≡ true → weight j ≤ weight k
         → (tells j w ≡ true) × IsMeant p s (turns p j k) (Some (turned_to j k w))
     turn_means j k mine down more =
-        let found = holder_by p j s mine in grind (arith, finds j found, rw_turn-gives s p j k w more word, turned s p j k at.shape)
+        let found = holder_by p j s mine in grind (arith, finds j found, rw_turn-gives s p j k w more word, turned s p j k shape)
 
     release_means : (k : Kind) → entries p s ≡ entries_at p (holds k) → (tells k w ≡ true) × IsMeant p s (releases p k) (Some (released k w))
     release_means k mine =
         let found = holder_by p k s mine in
-        grind (arith, finds k found, rw_release-gives s p k w word found, at.shape, length-without_holder p k s.holders found)
+        grind (arith, finds k found, rw_release-gives s p k w word found, shape, length-without_holder p k s.holders found)
 
     finds_room : is_holder p upgradable s.holders ≡ true → nat_lt (w / weight reading) reader_limit ≡ true
-    finds_room found = lt-ltb (w / weight reading) reader_limit (omega (arith, (upgradable-word s p at.exclusive (omega (arith, at.shape.few, at.shape.room)) found).1, word))
+    finds_room found = grind (arith, word, upgradable-word s p exclusive (omega (arith, shape.few, shape.room)) found)
 
     -- and whoever may come
 
     reads : may_come reading s ≡ true → read cap w ≡ Some (w + weight reading)
-    reads may = rw (sym (read-word s w cap (one_of_each s at.exclusive) at.shape.room word) ∙ may) refl
+    reads may = rw (sym (read-word s w cap (one_of_each s exclusive) shape.room word) ∙ may) refl
 
     reads_upgradable : may_come upgradable s ≡ true → read_upgradable cap w ≡ Some (w + weight upgradable)
-    reads_upgradable may = rw (sym (upgradable_read-word s w cap (one_of_each s at.exclusive) at.shape.room word) ∙ may) refl
+    reads_upgradable may = rw (sym (upgradable_read-word s w cap (one_of_each s exclusive) shape.room word) ∙ may) refl
 
   owes : (p : ℕ) (c : RwCall) (l : RwPoint) (h : Option Hold) (s : Plain) (w : ℕ) (span : List Mark) → OwesAt (rw_table v cap) (rw_notes v cap) p c l h s w span
-  owes p TryRead (Exchange n) None s w span = λ at. grind (arith, read_means p at)
-  owes p TryRead l None s w span = λ at. grind (arith, read_means p at)
-  owes p Read (Exchange n) None s w span = λ at. grind (arith, read_means p at)
-  owes p Read l None s w span = λ at. grind (arith, read_means p at)
-  owes p TryUpgradeableRead (Exchange n) None s w span = λ at. grind (arith, upgradable_means p at)
-  owes p TryUpgradeableRead l None s w span = λ at. grind (arith, upgradable_means p at)
-  owes p UpgradeableRead (Exchange n) None s w span = λ at. grind (arith, upgradable_means p at)
-  owes p UpgradeableRead l None s w span = λ at. grind (arith, upgradable_means p at)
-  owes p TryWrite l None s w span = λ at. grind (arith, write_means p at)
-  owes p TryWriteWeak l None s w span = λ at. grind (arith, write_means p at)
-  owes p Write l None s w span = λ at. grind (arith, write_means p at)
-  owes p ReaderCount l None s w span = λ at. (refl, inl refl, inl (readers-word s w (one_of_each s at.exclusive) (word p at)))
-  owes p WriterCount l None s w span = λ at. (refl, inl refl, inl (writers-word s w (one_of_each s at.exclusive) (word p at)))
-  owes p TryUpgrade l (Some hold.Upgradable) s w span = λ at. grind (arith, upgrade_means p at at.known.stand)
-  owes p TryUpgradeWeak l (Some hold.Upgradable) s w span = λ at. grind (arith, upgrade_means p at at.known.stand)
-  owes p Upgrade Asking (Some hold.Upgradable) s w span = λ at. grind (arith, upgrade_asked_means p at at.known.stand)
-  owes p Upgrade l (Some hold.Upgradable) s w span = λ at. grind (arith, turn_means p at upgradable asking at.known.stand refl)
-  owes p Downgrade l (Some hold.Write) s w span = λ at. grind (arith, turn_means p at writing reading at.known.stand refl)
-  owes p Downgrade l (Some hold.Upgradable) s w span = λ at.
-      grind (arith, turn_means p at upgradable reading at.known.stand refl, finds_room p at (holder_by p upgradable s at.known.stand))
-  owes p DowngradeToUpgradeable l (Some hold.Write) s w span = λ at. grind (arith, turn_means p at writing upgradable at.known.stand refl)
-  owes p Release l (Some hold.Read) s w span = λ at. grind (arith, release_means p at reading at.known.stand)
-  owes p Release l (Some hold.Upgradable) s w span = λ at. grind (arith, release_means p at upgradable at.known.stand)
-  owes p Release l (Some hold.Write) s w span = λ at. grind (arith, release_means p at writing at.known.stand)
-  owes p _ _ _ s w span = tt
+  owes p TryRead l h s w span = grind (arith, read_means p s w)
+  owes p Read l h s w span = grind (arith, read_means p s w)
+  owes p TryUpgradeableRead l h s w span = grind (arith, upgradable_means p s w)
+  owes p UpgradeableRead l h s w span = grind (arith, upgradable_means p s w)
+  owes p TryWrite l h s w span = grind (arith, write_means p s w)
+  owes p TryWriteWeak l h s w span = grind (arith, write_means p s w)
+  owes p Write l h s w span = grind (arith, write_means p s w)
+  owes p ReaderCount l h s w span = grind (arith, readers-word s w, one_of_each s)
+  owes p WriterCount l h s w span = grind (arith, writers-word s w, one_of_each s)
+  owes p TryUpgrade l h s w span = grind (arith, upgrade_means p s w)
+  owes p TryUpgradeWeak l h s w span = grind (arith, upgrade_means p s w)
+  owes p Upgrade l h s w span = grind (arith, upgrade_asked_means p s w, turn_means p s w)
+  owes p Downgrade l h s w span = grind (arith, turn_means p s w, finds_room p s w, holder_by p upgradable s)
+  owes p DowngradeToUpgradeable l h s w span = grind (arith, turn_means p s w)
+  owes p Release l h s w span = grind (arith, release_means p s w)
 
   -- Run alone: the word that lets a party in is exchanged, at once or after a look
 
   soon : (p : ℕ) (c : RwCall) (l : RwPoint) (h : Option Hold) (s : Plain) (w : ℕ) (span : List Mark)
       → OwesSoon (rw_table v cap) (rw_notes v cap) p c l h s w span
-  soon p Read (Exchange n) None s w span = λ at free. grind (arith, reads p at free, eq-eqb w w refl)
-  soon p Read l None s w span = λ at free. grind (arith, reads p at free, eq-eqb w w refl)
-  soon p UpgradeableRead (Exchange n) None s w span = λ at free. grind (arith, reads_upgradable p at free, eq-eqb w w refl)
-  soon p UpgradeableRead l None s w span = λ at free. grind (arith, reads_upgradable p at free, eq-eqb w w refl)
-  soon p Write l None s w span = λ at free. grind (arith, empty-word s.holders w (word p at))
-  soon p Upgrade Asking (Some hold.Upgradable) s w span = λ at free.
-      let mine = at.known.stand in
-      let only = only_left (is_only p asking s.holders) (is_holder p writing s.holders) (writes_nothing p s mine) free in
-      grind (arith, only, only_asking-word s p w (one_of_each s at.exclusive) (holder_by p asking s mine) (word p at))
-  soon p Upgrade l (Some hold.Upgradable) s w span = λ at free.
-      grind (arith, only_upgradable-word s p w (one_of_each s at.exclusive) (holder_by p upgradable s at.known.stand) (word p at))
+  soon p Read l h s w span = grind (arith, reads p s w, eq-eqb w w)
+  soon p UpgradeableRead l h s w span = grind (arith, reads_upgradable p s w, eq-eqb w w)
+  soon p Write l h s w span = grind (arith, empty-word s.holders w)
+  soon p Upgrade l h s w span =
+      let only_one = only_upgradable-word s p w in
+      grind (arith, writes_nothing p s, only_asking-word s p w, only_one, one_of_each s, holder_by p asking s, holder_by p upgradable s)
   soon p _ _ _ s w span = tt
 
   pub rw_pays : Pays (rw_table v cap) (rw_notes v cap)
