@@ -1,5 +1,5 @@
 -- The shape of a fair lock, that its steps keep it, and what a party finds there.
-use Rattle.spin_world_fair.proofs.Names.{◌≡◌, ℕ, ◌%◌, ◌≤◌, ◌==◌, true, false, not, ◌&&◌, ◌||◌, List, [], ◌∷◌, ◌++◌, length, refl, ap, sym, ◌∙◌, arith, length-append, min, eq-eqb, Plain, Holder, holder, writing, is_empty, is_starver, is_holder, fair_word, releases, apply, Entries, entries, is_held, most_starvers, OneHolds, empty_is, is_empty-none, is_empty-some, length-without_holder, is_starver-from_entries, flag_is, is_starved, starves, holds_and_starves, entries_at, only_left, ◌+◌, ◌*◌, holder_weight, starver_weight, is_holder-own}
+use Rattle.spin_world_fair.proofs.Names.{◌≡◌, ℕ, ◌%◌, ◌==◌, true, false, not, ◌&&◌, ◌||◌, List, [], ◌∷◌, ◌++◌, length, refl, ap, sym, ◌∙◌, arith, length-append, min, eq-eqb, Plain, holder, writing, is_empty, is_starver, is_holder, fair_word, releases, apply, Entries, entries, is_held, most_starvers, OneHolds, empty_is, is_empty-none, is_empty-some, length-without_holder, is_starver-from_entries, flag_is, is_starved, starves, holds_and_starves, entries_at, only_left, is_holder-own}
 
 -- the shape of the lock: one holder at most, no queue, and the cap
 pub record IsFair (cap : ℕ) (s : Plain) : Type 0 where
@@ -44,8 +44,4 @@ pub word_locked : (w : ℕ) (s : Plain) → OneHolds s → fair_word s ≡ w →
 word_locked w s one is e = rw (is_empty-some s.holders (omega (arith, (flag_is s w one is).0, e)), is_empty-none s.starvers (omega (arith, (flag_is s w one is).1, e))) refl
 
 pub word_starved : (w : ℕ) (s : Plain) → OneHolds s → fair_word s ≡ w → (w == 1) ≡ false → (is_empty s.holders && is_empty s.starvers) ≡ false → is_starved s ≡ true
-word_starved w s one is other closed = starved_by s.holders s.starvers one is other closed
-  where
-    starved_by : (hs : List Holder) (qs : List ℕ) → length hs ≤ 1 → holder_weight * length hs + starver_weight * length qs ≡ w → (w == 1) ≡ false
-        → (is_empty hs && is_empty qs) ≡ false → not (is_empty qs) ≡ true
-    starved_by hs qs one is other closed = grind (arith, eq-eqb w 1)
+word_starved w s one is other closed = grind (arith, eq-eqb w 1, is_empty-none s.holders, empty_is s.starvers)

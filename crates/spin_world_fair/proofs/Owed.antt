@@ -1,13 +1,11 @@
 -- What the fair lock's table owes.
-use Rattle.spin_world_fair.proofs.Names.{◌≡◌, ℕ, ◌<◌, ◌+◌, ◌-◌, ◌%◌, ◌==◌, Bool, true, false, ◌&&◌, nat_lt, Option, Some, None, List, [], ◌∷◌, refl, ap, sym, arith, inl, and_parts, eqb-true, Plain, writing, Ask, to_lock_unregistered, to_lock_starving, to_lock_starving_alone, to_starve, Change, gets, releases, stops_starving, apply, is_open, is_empty, is_starver, is_only_starver, fair_word, apply_some, Entries, entries, is_held, empty_is, is_holder-from_entries, length-without_starver, Decides, is_set, lock, starve, lock_fair, fair_lock-grants, fair_starve-grants, fair_lock_fair-grants, fair_lock_starved-grants, fair_unstarve-gives, fair_unlock-gives, fair_is_locked-tells, Hold, Write, Starver, Continue, Answers, Answer, FairCall, Lock, TryLock, TryLockStarver, IsLocked, Starve, StarverTryLockFair, StarverTryLock, StarverLock, StarverDrop, Release, FairPoint, First, Attempt, Look, Load, Register, SetFlag, Await, Unregister, StepKind, plain, again, look, weak, Mark, grant, granted, fair, mark_of, own_count, changes, RegistersInTime, either, tried, fair_table, fair_machine, holds, starves, holds_and_starves, entries_at, Row, row_looked, Point, nowhere, looked, onward, goes, Notes, keeping_of, Means, call_of, Follows, OwesAt, OwesSoon, Pays, CallOf, AtPoint, no_queue, means_word}
-use Rattle.spin_world_core.specs.declared.object.Next.{Next}
-use Rattle.spin_world_core.specs.declared.answer.Answer.TheVariants.{Locked, Starved}
+use Rattle.spin_world_fair.proofs.Names.{◌≡◌, ℕ, ◌<◌, ◌+◌, ◌-◌, ◌%◌, ◌==◌, true, false, ◌&&◌, nat_lt, Option, Some, None, List, [], ◌∷◌, refl, ap, arith, and_parts, eqb-true, Plain, writing, to_lock_unregistered, to_lock_starving, to_lock_starving_alone, to_starve, Change, gets, releases, stops_starving, is_empty, is_starver, fair_word, apply_some, Entries, entries, is_held, empty_is, is_holder-from_entries, length-without_starver, is_set, lock, starve, lock_fair, fair_lock-grants, fair_starve-grants, fair_lock_fair-grants, fair_lock_starved-grants, fair_unstarve-gives, fair_unlock-gives, fair_is_locked-tells, Hold, Write, Starver, FairCall, Lock, TryLock, TryLockStarver, IsLocked, Starve, StarverTryLockFair, StarverTryLock, StarverLock, StarverDrop, Release, FairPoint, First, Attempt, Look, Load, Register, SetFlag, Await, Unregister, StepKind, plain, again, weak, Mark, granted, fair, mark_of, own_count, changes, RegistersInTime, tried, fair_table, fair_machine, holds, starves, holds_and_starves, entries_at, Row, Point, nowhere, looked, onward, Notes, keeping_of, Means, OwesAt, OwesSoon, Pays, no_queue}
 use Rattle.spin_world_core.specs.Operations.{sets_lowest_bit}
 use Rattle.spin_world_core.proofs.Operating.{one_place, operates_by}
 use Rattle.spin_world_core.proofs.Facts.{LocalInvariant, Facts}
 use Rattle.spin_world_core.proofs.Paid.{facts_of}
 use Rattle.spin_world_fair.proofs.Registering.{sooner, MayBeBlind, blind-other, blind_after_step, blind_after_free, blind_after_late, allowed, none_left, few_to_load, few_to_register, Looking, Loading, Registering, none_yet, starving-other, looking-other, loading-other, registering-other, goes_on, missed, looked_free, looked_held, looked_late, loaded, retried, full, registered, looked_starving}
-use Rattle.spin_world_fair.proofs.Knowledge.{IsFair, comes, goes_away, same_holders, is_starving, is_starving_still, set_by_holder, flag_clear, word_locked, word_starved, not_there}
+use Rattle.spin_world_fair.proofs.Knowledge.{IsFair, comes, goes_away, is_starving, is_starving_still, set_by_holder, flag_clear, word_locked, word_starved, not_there}
 
 -- a starver goes for the lock with these steps made
 abbrev pub starving_row : (ℕ → List Change) → Row
@@ -59,40 +57,32 @@ module _ {V : Type 0} (v : V) (cap patience : ℕ) where
   abbrev IsMeant : ℕ → Plain → Change → Option ℕ → Type 0
   IsMeant p s c o = Means (fair_table v cap patience) (fair_notes v cap patience) p s c (λ k. k) o
 
-  gets_means : (p : ℕ) (ask : Ask) (s : Plain) (o : Option ℕ) → Decides s (gets p ask) fair_word o → (is_open s (gets p ask) ≡ true → IsFair cap (apply s (gets p ask))) → IsMeant p s (gets p ask) o
-  gets_means p ask s o = means_word (fair_table v cap patience) (fair_notes v cap patience) fair_word (λ to after is. ap (λ n. n ∷ []) is) p s (gets p ask) o refl
-
   -- what the step functions mean there
-  module _ {k : CallOf ℕ FairPoint (Answer V)} {l : FairPoint} {h : Option Hold} {s : Plain} {w : ℕ} {span : List Mark} {row : Row} (p : ℕ) (at : AtPoint (fair_table v cap patience) (fair_notes v cap patience) p k l h s w span row) where
-    word : fair_word s ≡ w
-    word = cc (at.encodes)
-
+  module _ (p : ℕ) (s : Plain) (w : ℕ) (word : fair_word s ≡ w) (shape : IsFair cap s) where
     held : is_held s ≡ is_set w
-    held = fair_is_locked-tells s w at.shape.one at.shape.queue word
+    held = fair_is_locked-tells s w shape.one shape.queue word
 
     lock_means : IsMeant p s (gets p to_lock_unregistered) (lock w)
-    lock_means = gets_means p to_lock_unregistered s (lock w) (fair_lock-grants s p w word) (λ free. comes cap p s at.shape (and_parts (is_empty s.holders) (is_empty s.starvers) free).0)
+    lock_means = grind (arith, fair_lock-grants s p w word, comes cap p s shape)
 
     starve_means : IsMeant p s (gets p to_starve) (starve cap w)
-    starve_means = gets_means p to_starve s (starve cap w) (fair_starve-grants s p w cap at.shape.one at.shape.room word) (λ room. same_holders cap s _ at.shape)
+    starve_means = grind (arith, fair_starve-grants s p w cap shape.one shape.room word, shape)
 
     lock_fair_means : entries p s ≡ entries_at p starves → IsMeant p s (gets p to_lock_starving_alone) (lock_fair w)
-    lock_fair_means mine =
-        gets_means p to_lock_starving_alone s (lock_fair w) (fair_lock_fair-grants s p w at.shape.one (is_starving p s mine) word) (λ free. comes cap p s at.shape (and_parts (is_only_starver p s.starvers) (is_empty s.holders) free).1)
+    lock_fair_means mine = grind (arith, fair_lock_fair-grants s p w shape.one (is_starving p s mine) word, comes cap p s shape)
 
     lock_starved_means : entries p s ≡ entries_at p starves → IsMeant p s (gets p to_lock_starving) (tried sets_lowest_bit w)
-    lock_starved_means mine =
-        gets_means p to_lock_starving s (tried sets_lowest_bit w) (fair_lock_starved-grants s p w at.shape.one (is_starving p s mine) word) (λ free. comes cap p s at.shape (and_parts (is_starver p s.starvers) (is_empty s.holders) free).1)
+    lock_starved_means mine = grind (arith, fair_lock_starved-grants s p w shape.one (is_starving p s mine) word, comes cap p s shape)
 
     -- a starver leaves the starvers, with the lock or without
     unstarve_means : is_starver p s.starvers ≡ true → (nat_lt 1 w ≡ true) × IsMeant p s (stops_starving p) (Some (w - 2))
     unstarve_means found =
-        grind (arith, word, at.shape, length-without_starver p s.starvers found, fair_unstarve-gives s p w word found)
+        grind (arith, word, shape, length-without_starver p s.starvers found, fair_unstarve-gives s p w word found)
 
     unlock_means : entries p s ≡ entries_at p (holds writing) → (is_set w ≡ true) × IsMeant p s (releases p writing) (Some (w - 1))
     unlock_means mine =
         let found = is_holder-from_entries p writing s.holders (ap (λ (e : Entries). e.holders) mine) in
-        (set_by_holder cap p w s at.shape word found, ((refl, found), ap (λ n. n ∷ []) (fair_unlock-gives s p writing w word found), goes_away cap p s at.shape found))
+        grind (arith, set_by_holder cap p w s shape word found, fair_unlock-gives s p writing w word found, goes_away cap p s shape found)
 
     -- what it finds where the lock is open to it
     free_word : (is_empty s.holders && is_empty s.starvers) ≡ true → w ≡ 0
@@ -100,9 +90,6 @@ module _ {V : Type 0} (v : V) (cap patience : ℕ) where
 
     clear_word : (is_starver p s.starvers && is_empty s.holders) ≡ true → w % 2 ≡ 0
     clear_word free = flag_clear w s word (and_parts (is_starver p s.starvers) (is_empty s.holders) free).1
-
-  abbrev FollowsFair : Row → FairCall → ℕ → Plain → ℕ → List Mark → StepKind → Next FairPoint (Answer V) → Type 0
-  FollowsFair row c p s w span r next = Follows (fair_table v cap patience) (fair_notes v cap patience) p (call_of (fair_table v cap patience) (fair_notes v cap patience) c) None s w span row false None r goes next
 
   -- in the time that is left
   abbrev InTime : ℕ → List Mark → Type 0
@@ -117,40 +104,29 @@ module _ {V : Type 0} (v : V) (cap patience : ℕ) where
   registers_in_time : (w p : ℕ) (s : Plain) (span : List Mark) → Registering patience w p s span → InTime p span
   registers_in_time w p s span old = sooner (few_to_register p s w) (λ recent. own_count p recent < 2 + changes fair p recent) p patience span (λ recent few. omega (arith, few)) old.in_time
 
-  -- `lock` looks on, or goes to register
-  looks_follow : (b : Bool) (n p : ℕ) (s : Plain) (w : ℕ) (span : List Mark) → nat_lt n patience ≡ b → is_held s ≡ true → Looking patience n p span
-      → FollowsFair (row_looked None 0 (λ p. grant p to_lock_unregistered) granted) Lock p s w span look (either b (Continue (Look (n + 1))) (Continue Load))
-  looks_follow b n p s w span is held knows =
-      let waits = looked_held patience p s span n held in
-      let goes = looked_late patience p s span n held in
-      grind (arith, is, held, knows, waits, goes, nothing_left p, loads_in_time p, blind_after_late patience p s span)
-
-  -- a refused newcomer is told why
-  rejected : (b : Bool) (p : ℕ) (s : Plain) (w : ℕ) (span : List Mark) → IsFair cap s → fair_word s ≡ w → (w == 1) ≡ b → (is_empty s.holders && is_empty s.starvers) ≡ false
-      → FollowsFair (row_looked None 0 (λ p. grant p to_lock_unregistered) granted) TryLockStarver p s w span plain (Answers (either b Locked Starved) None)
-  rejected b p s w span shape is one closed =
-      grind (arith, one, eqb-true w 1, word_locked w s shape.one is, word_starved w s shape.one is)
-
   owes : (p : ℕ) (c : FairCall) (l : FairPoint) (h : Option Hold) (s : Plain) (w : ℕ) (span : List Mark)
       → OwesAt (fair_table v cap patience) (fair_notes v cap patience) p c l h s w span
   owes p Lock (Attempt n) None s w span = λ at.
       let won = goes_on patience p s span (Some (gets p to_lock_unregistered)) plain refl (λ is. cc (is)) refl at.knows.0.in_time in
       let lost = missed patience p s span n plain refl at.knows.1 at.knows.0 in
       let refused = missed patience p s span n weak refl at.knows.1 at.knows.0 in
-      grind (arith, lock_means p at, won, lost, nothing_left p _ lost.in_time, refused, nothing_left p _ refused.in_time)
+      grind (arith, lock_means p s w, won, lost, nothing_left p _ lost.in_time, refused, nothing_left p _ refused.in_time)
   owes p Lock (Look n) None s w span = λ at.
-      let next = λ (clear : is_held s ≡ false). looked_free patience p s span n clear at.knows in
-      let follows = looks_follow (nat_lt n patience) n p s w span refl in
-      grind (arith, held p at, at.knows, follows, next, nothing_left p, blind_after_free patience p s span)
+      let held_on = looked_held patience p s span n in
+      let late = looked_late patience p s span n in
+      let free = looked_free patience p s span n in (
+        (λ set. grind (arith, held p s w, set, at.knows, held_on, late, nothing_left p, loads_in_time p, blind_after_late patience p s span)),
+        (λ clear. grind (arith, held p s w, clear, at.knows, free, nothing_left p, blind_after_free patience p s span)),
+      )
   owes p Lock Load None s w span = λ at.
-      let next = loaded patience p s span w (sym (word p at)) at.knows.1 at.knows.0 in
+      let next = loaded patience p s span w (cc (at.encodes)) at.knows.1 at.knows.0 in
       let looks = full patience p s span (few_to_load p) plain refl (allowed patience p s span None plain at.knows.1) in
-      grind (arith, starve_means p at, at.knows, next, registers_in_time w p s _ next, looks, nothing_left p)
+      grind (arith, starve_means p s w, at.knows, next, registers_in_time w p s _ next, looks, nothing_left p)
   owes p Lock (Register n) None s w span = λ at.
       let won = registered patience p s span n at.knows in
-      let next = λ (other : (w == n) ≡ false). retried patience p s span n w (sym (word p at)) other at.knows in
+      let next = λ (other : (w == n) ≡ false). retried patience p s span n w (cc (at.encodes)) other at.knows in
       let looks = full patience p s span (few_to_register p s n) again refl refl in (
-        starve_means p at,
+        starve_means p s w (cc (at.encodes)) at.shape,
         (λ is. grind (arith, won, nothing_left p, blind_after_step patience p (gets p to_starve) again s span)),
         (λ found. grind (arith, found, next, registers_in_time w p s)),
         (λ closed. grind (arith, closed, at.knows, looks, nothing_left p)),
@@ -158,42 +134,29 @@ module _ {V : Type 0} (v : V) (cap patience : ℕ) where
   owes p Lock SetFlag None s w span = λ at.
       let won = goes_on patience p s span (Some (gets p to_lock_starving)) plain refl (λ is. cc (is)) refl at.knows.0 in
       let lost = goes_on patience p s span None plain refl (λ is. cc (is)) (allowed patience p s span None plain at.knows.1) at.knows.0 in
-      grind (arith, lock_starved_means p at at.known.stand, won, nothing_left p _ won, lost, nothing_left p _ lost)
+      grind (arith, lock_starved_means p s w, won, nothing_left p _ won, lost, nothing_left p _ lost)
   owes p Lock Await None s w span = λ at.
       let next = looked_starving patience p s span at.known.made at.knows in
-      grind (arith, held p at, next, nothing_left p _ next, blind_after_free patience p s span)
+      grind (arith, held p s w, next, nothing_left p _ next, blind_after_free patience p s span)
   owes p Lock Unregister None s w span = λ at.
       let next = goes_on patience p s span (Some (stops_starving p)) plain refl (λ is. cc (is)) refl at.knows in
-      grind (arith, unstarve_means p at (is_starving_still p s at.known.stand), next)
-  owes p TryLock First None s w span = λ at. grind (arith, lock_means p at)
-  owes p TryLockStarver First None s w span = λ at. (lock_means p at, (refl, inl refl, tt), rejected (w == 1) p s w span at.shape (word p at) refl)
-  owes p IsLocked First None s w span = λ at. (refl, inl refl, inl (held p at))
-  owes p Starve Load None s w span = λ at. grind (arith, starve_means p at)
-  owes p Starve (Register n) None s w span = λ at. grind (arith, starve_means p at)
-  owes p StarverTryLockFair First (Some Starver) s w span = λ at. grind (arith, lock_fair_means p at at.known.stand)
-  owes p StarverTryLockFair Unregister (Some Starver) s w span = λ at. grind (arith, unstarve_means p at (is_starving_still p s at.known.stand))
-  owes p StarverTryLock SetFlag (Some Starver) s w span = λ at. grind (arith, lock_starved_means p at at.known.stand)
-  owes p StarverTryLock Unregister (Some Starver) s w span = λ at. grind (arith, unstarve_means p at (is_starving_still p s at.known.stand))
-  owes p StarverLock SetFlag (Some Starver) s w span = λ at. grind (arith, lock_starved_means p at at.known.stand)
-  owes p StarverLock Await (Some Starver) s w span = λ at. grind (arith, held p at)
-  owes p StarverLock Unregister (Some Starver) s w span = λ at. grind (arith, unstarve_means p at (is_starving_still p s at.known.stand))
-  owes p StarverDrop First (Some Starver) s w span = λ at. grind (arith, unstarve_means p at (is_starving p s at.known.stand))
-  owes p Release First (Some Write) s w span = λ at. grind (arith, unlock_means p at at.known.stand)
+      grind (arith, unstarve_means p s w, is_starving_still p s, next)
+  owes p TryLock l h s w span = grind (arith, lock_means p s w)
+  owes p TryLockStarver l h s w span = grind (arith, lock_means p s w, eqb-true w 1, word_locked w s, word_starved w s)
+  owes p IsLocked l h s w span = grind (arith, held p s w)
+  owes p Starve l h s w span = grind (arith, starve_means p s w)
+  owes p StarverTryLockFair l h s w span = grind (arith, lock_fair_means p s w, unstarve_means p s w, is_starving_still p s)
+  owes p StarverTryLock l h s w span = grind (arith, lock_starved_means p s w, unstarve_means p s w, is_starving_still p s)
+  owes p StarverLock l h s w span = grind (arith, held p s w, lock_starved_means p s w, unstarve_means p s w, is_starving_still p s)
+  owes p StarverDrop l h s w span = grind (arith, unstarve_means p s w, is_starving p s)
+  owes p Release l h s w span = grind (arith, unlock_means p s w)
   owes p _ _ _ s w span = tt
 
   -- run alone: a free lock is taken by the exchange, at once or after a look; and who has gone to register does so, gets the lock, and leaves the starvers
   soon : (p : ℕ) (c : FairCall) (l : FairPoint) (h : Option Hold) (s : Plain) (w : ℕ) (span : List Mark)
       → OwesSoon (fair_table v cap patience) (fair_notes v cap patience) p c l h s w span
-  soon p Lock (Attempt n) None s w span = λ at free. grind (arith, free_word p at free)
-  soon p Lock (Look n) None s w span = λ at free. grind (arith, free_word p at free)
-  soon p Lock Load None s w span = λ at free. grind (arith, free_word p at free)
-  soon p Lock (Register n) None s w span = λ at free. grind (arith, free_word p at free)
-  soon p Lock SetFlag None s w span = λ at free. grind (arith, clear_word p at (not_there p s at.known.stand free))
-  soon p Lock Await None s w span = λ at free. grind (arith, clear_word p at (not_there p s at.known.stand free))
-  soon p Lock Unregister None s w span = λ at free. refl
-  soon p StarverLock SetFlag (Some Starver) s w span = λ at free. grind (arith, clear_word p at free)
-  soon p StarverLock Await (Some Starver) s w span = λ at free. grind (arith, clear_word p at free)
-  soon p StarverLock Unregister (Some Starver) s w span = λ at free. refl
+  soon p Lock l h s w span = grind (arith, free_word p s w, clear_word p s w, not_there p s)
+  soon p StarverLock l h s w span = grind (arith, clear_word p s w)
   soon p _ _ _ s w span = tt
 
   others : (p q : ℕ) (c : FairCall) (l : FairPoint) (s : Plain) (step : Option Change) (r : StepKind) (span : List Mark) → (q ≡ p → ⊥) → KnowsAt patience c l p s span → KnowsAt patience c l p (apply_some s step) (mark_of q step r s ∷ span)

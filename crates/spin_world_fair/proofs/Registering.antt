@@ -1,5 +1,5 @@
 -- Registering in time: what `lock` knows of the looks in its span, that others leave it true, and what each step makes of it.
-use Rattle.spin_world_fair.proofs.Names.{◌≡◌, ℕ, ◌+◌, ◌<◌, ◌≤◌, ◌⊎◌, ◌==◌, true, false, not, ◌&&◌, ◌||◌, is_some, nat_lt, if◌then◌else◌, Option, Some, None, List, [], ◌∷◌, ◌++◌, refl, ap, sym, ◌∙◌, arith, inl, inr, ⊎_elim, ne_eqb, false≢true, or-true, Plain, Change, gets, to_starve, is_open, apply_some, is_held, bit, StepKind, plain, again, look, is_look, Mark, AnyOf, Registers, TriesToStarve, first_word, fair, mark_of, own, own_count, changes, held_looks, IsLateLook, RegistersInTime, moved, is_open_to}
+use Rattle.spin_world_fair.proofs.Names.{◌≡◌, ℕ, ◌+◌, ◌<◌, ◌≤◌, ◌⊎◌, ◌==◌, true, false, not, ◌&&◌, ◌||◌, is_some, nat_lt, if◌then◌else◌, Option, Some, None, List, [], ◌∷◌, ◌++◌, length, length-append, refl, ap, sym, ◌∙◌, arith, inl, inr, ⊎_elim, ne_eqb, false≢true, or-true, Plain, Change, gets, to_starve, is_open, apply_some, is_held, bit, StepKind, plain, again, look, is_look, Mark, AnyOf, Registers, TriesToStarve, first_word, fair, mark_of, own, own_count, changes, held_looks, IsLateLook, RegistersInTime, moved, is_open_to}
 use Rattle.spin_world_core.specs.Spans.{is_blind, may_be_blind}
 use Rattle.spin_world_core.proofs.Lists.{eqb_self}
 use Rattle.spin_world_core.proofs.Spans.{own_count-mine, own_count-other, changes-mine, changes-other}
@@ -58,8 +58,7 @@ pub none_yet : {p n : ℕ} → RegistersInTime none_left p n []
 none_yet {p} {n} = record { looking = refl; soon = λ recent m older is late. absurd (no_split recent older m is); patient = λ recent m older is register. absurd (no_split recent older m is) }
   where
     no_split : (recent older : List Mark) (m : Mark) → [] ≡ recent ++ m ∷ older → ⊥
-    no_split [] older m e = cc (e)
-    no_split (x ∷ xs) older m e = cc (e)
+    no_split recent older m e = omega (arith, ap length e, length-append recent (m ∷ older))
 
 -- another party's step
 
@@ -183,7 +182,6 @@ module _ (patience p : ℕ) (s : Plain) (span : List Mark) where
   looked_starving made old = later none_left none_left p patience (mark_of p None look s) span (λ recent few. inr few) (λ late. cc (made, late.unregistered)) (λ register. absurd (cc (register.1))) (mine None look refl) old
 
 -- what shows that a lock is wrong: two steps after a late look that try for no place
-
 pub two_in_vain : (p n : ℕ) {Few : List Mark → Type 0} {a b m : Mark} {older : List Mark} → RegistersInTime Few p n (a ∷ b ∷ m ∷ older)
     → IsLateLook p n m older → (Registers p a → ⊥) × (is_open_to a.before p to_starve ≡ true) → (Registers p b → ⊥) × (is_open_to b.before p to_starve ≡ true)
     → (Few (a ∷ b ∷ []) → ⊥) → ⊥
