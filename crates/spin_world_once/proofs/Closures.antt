@@ -1,5 +1,5 @@
 -- What users of a `Once` rely on where closures begin, also after one that failed.
-use Rattle.spin_world_once.proofs.Names.{◌≡◌, ℕ, true, Option, Some, None, [], ◌∷◌, ◌++◌, slice_get, refl, arith, ap, ◌∙◌, ◌⊎◌, inl, inr, Failed, Hold, Calling, Step, to_begin, gets, Seen, step_at, happens, moves_at, at_first, OnceCall, OncePoint, Look, TryBegin, Await, Run, asks_of, OnceMachine, once_machine, Entries, once_after, RunsClosure, seen_at, has_just_looked, has_closure, MayRunAgain, LooksFirst, after-append, Invariant, in_call}
+use Rattle.spin_world_once.proofs.Names.{◌≡◌, ℕ, true, Option, Some, None, [], ◌∷◌, ◌++◌, slice_get, refl, arith, ap, ◌∙◌, ◌⊎◌, Failed, Hold, Calling, Step, to_begin, gets, Seen, step_at, happens, moves_at, at_first, OnceCall, OncePoint, Look, TryBegin, Await, Run, asks_of, OnceMachine, once_machine, Entries, once_after, RunsClosure, seen_at, has_just_looked, has_closure, MayRunAgain, LooksFirst, after-append, Invariant, in_call}
 use Rattle.spin_world_core.specs.declared.place.Seat.{Seat}
 use Rattle.spin_world_core.specs.declared.schedule.Outcome.TheVariants as outcome
 use Rattle.spin_world_core.proofs.Lists.{get-set_same}
@@ -47,10 +47,7 @@ module _ {V : Type 0} (value : Option V) where
         (ap (λ (s : OnceState V). slice_get s.seats p) (after-append m (at_first m n) past ((p, Step) ∷ (p, Step) ∷ [])) ∙ seat_next one p c TryBegin h still there closure (λ e. cc (e))) refl
 
     runs_soon : (l : OncePoint) → slice_get (once_after m n past).seats p ≡ Some (Calling c l h) → RunsClosure m n (past ++ (p, Step) ∷ []) p ⊎ RunsClosure m n (past ++ (p, Step) ∷ (p, Step) ∷ []) p
-    runs_soon TryBegin at = inl (by_exchange at)
-    runs_soon Run at = absurd (not_at_run value n past p c Run h at 0 refl zero refl)
-    runs_soon Look at = inr (by_look Look at refl (λ e. cc (e)))
-    runs_soon Await at = inr (by_look Await at refl (λ e. cc (e)))
+    runs_soon l at = grind (arith, by_exchange, by_look l at, not_at_run value n past p c l h at 0 refl)
 
   pub a_later_closure_may_run : (n : ℕ) (past : Entries V) → MayRunAgain m n past
   a_later_closure_may_run n past =

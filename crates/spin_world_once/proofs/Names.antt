@@ -1,5 +1,5 @@
 -- The names that these proofs share, in one place.
-pub use Rattle.std.proofs.Common.{◌≡◌, ℕ, ◌==◌, true, false, Option, Some, None, List, [], ◌∷◌, ◌++◌, slice_get, refl, ap, ◌∙◌, subst, ◌⊎◌, inl, inr, is_some, sym, arith}
+pub use Rattle.std.proofs.Common.{◌≡◌, ℕ, ◌==◌, true, false, Option, Some, None, List, [], ◌∷◌, ◌++◌, slice_get, refl, ap, ◌∙◌, subst, ◌⊎◌, is_some, sym, arith}
 pub use Rattle.std.proofs.lemmas.Bool.{and_parts}
 pub use Rattle.spin_world_core.specs.declared.answer.Answer.{Answer}
 pub use Rattle.spin_world_core.specs.declared.answer.Answer.TheVariants.{Failed, Value}
