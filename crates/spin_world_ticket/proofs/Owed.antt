@@ -1,5 +1,5 @@
 -- What the ticket lock's table owes.
-use Rattle.spin_world_ticket.proofs.Names.{◌≡◌, ℕ, ◌+◌, ◌-◌, ◌≤◌, ◌==◌, true, false, filter, Option, Some, None, List, [], ◌∷◌, refl, ap, sym, ◌∙◌, arith, Plain, Queued, queued, is_first, effect, to_take_ticket, to_enter, to_take_and_enter, Change, gets, serves, next_word, serving_word, Entries, entries, take, enters_in_turn, numbered-given, numbered-serves, serving-taken, serving-entered, entered_is_served, stands, Hold, TicketWords, TicketCall, Lock, TryLock, IsLocked, Release, TicketPoint, LoadNext, Take, Await, TryLoadNext, TryLoadServing, TryTake, LookServing, LookNext, Serve, own_count, plain, passing, is_left, ticket_table, ticket_machine, LocalInvariant, Facts, queues, entries_at, any_map, Point, nowhere, looked, onward, Notes, keeping_of, Means, OwesAt, OwesSoon, Pays, two, no_holders, two_places}
+use Rattle.spin_world_ticket.proofs.Names.{serving-advances, ◌≡◌, ℕ, ◌+◌, ◌-◌, ◌≤◌, ◌==◌, true, false, filter, Option, Some, None, List, [], ◌∷◌, refl, ap, sym, ◌∙◌, arith, Plain, Queued, queued, is_first, effect, to_take_ticket, to_enter, to_take_and_enter, Change, gets, serves, next_word, serving_word, Entries, entries, take, enters_in_turn, numbered-given, numbered-serves, serving-taken, serving-entered, entered_is_served, stands, Hold, TicketWords, TicketCall, Lock, TryLock, IsLocked, Release, TicketPoint, LoadNext, Take, Await, TryLoadNext, TryLoadServing, TryTake, LookServing, LookNext, Serve, own_count, plain, passing, is_left, ticket_table, ticket_machine, LocalInvariant, Facts, queues, entries_at, any_map, Point, nowhere, looked, onward, Notes, keeping_of, Means, OwesAt, OwesSoon, Pays, two, no_holders, two_places}
 use Rattle.spin_step.specs.Parties.{first_alone_entered}
 use Rattle.spin_step.proofs.TicketSteps.{ticket_take-grants_alone, ticket_serve-gives}
 use Rattle.spin_world_core.specs.declared.place.Hold.TheVariants as hold
@@ -8,7 +8,7 @@ use Rattle.spin_world_core.proofs.Lists.{eqb_self}
 use Rattle.spin_world_core.proofs.Operating.{operates_by}
 use Rattle.spin_world_core.proofs.Spans.{own_count-mine, own_count-other}
 use Rattle.spin_world_core.proofs.Paid.{facts_of}
-use Rattle.spin_world_ticket.proofs.Knowledge.{free_number, Queue, Stays, Rises, stays-other, rises-other, stays_now, try_refused, look_right, ticket_left, taken_queue}
+use Rattle.spin_world_ticket.proofs.Knowledge.{Queue, Stays, Rises, try_refused, look_right}
 
 abbrev pub point_of : TicketCall → TicketPoint → Option Hold → Point
 point_of Lock LoadNext None = looked 0
@@ -47,14 +47,14 @@ module _ {V : Type 0} (v : V) (first : ℕ) where
     take_means : IsMeant p s (gets p to_take_ticket) (λ n. record w { next = n }) (take w.next)
     take_means =
         let numbered = numbered-given s p (effect to_take_ticket) queue.numbered in
-        grind (arith, serving-taken s p false queue.numbered, numbered, taken_queue s p false queue)
+        grind (arith, queue, serving-taken s p false queue.numbered, numbered)
 
     -- where the number is served
     take_alone_means : w.next ≤ serving_word s → IsMeant p s (gets p to_take_and_enter) (λ n. record w { next = n }) (take w.next)
     take_alone_means le =
         let numbered = numbered-given s p (effect to_take_and_enter) queue.numbered in
         let grants = ticket_take-grants_alone s p w.next queue.numbered.0 next_is (omega (arith, le)) in
-        grind (arith, serving-taken s p true queue.numbered, numbered, taken_queue s p true queue, grants)
+        grind (arith, queue, serving-taken s p true queue.numbered, numbered, grants)
 
     enter_means : (t : ℕ) → entries p s ≡ entries_at p (queues t false) → IsMeant p s (gets p to_enter) (λ k. w) (passing (w.serving == t) w.serving)
     enter_means t mine =
@@ -68,8 +68,7 @@ module _ {V : Type 0} (v : V) (first : ℕ) where
         let tickets = ap (λ (e : Entries). e.tickets) mine in
         let here = entered_is_served s p u queue.numbered one tickets in
         let gives = ticket_serve-gives s p t queue.numbered.0 (here.1 ∙ sym same) here.0 in
-        let left = ticket_left s t queue (stands p u true s.tickets tickets) in
-        grind (arith, here, gives, queue, numbered-serves s p queue.numbered, left)
+        grind (arith, here, gives, queue, numbered-serves s p queue.numbered, stands p u true s.tickets tickets)
 
   owes : (p : ℕ) (c : TicketCall) (l : TicketPoint) (h : Option Hold) (s : Plain) (w : TicketWords) (span : List Mark) → OwesAt (ticket_table v first) (ticket_notes v first) p c l h s w span
   owes p TryLock (TryLoadServing n) None s w span =
@@ -77,13 +76,13 @@ module _ {V : Type 0} (v : V) (first : ℕ) where
       grind (arith, found, try_refused p n s span, own_count-mine p None plain s span)
   owes p TryLock (TryTake n) None s w span = grind (arith, take_alone_means p s w, try_refused p n s span)
   owes p IsLocked (LookNext k) None s w span = grind (arith, look_right (w.next == k) p k s span)
-  owes p c l h s w span = grind (arith, take_means p s w, enter_means p s w, serve_means p s w, stays_now s p span, own_count-mine p None plain s span)
+  owes p c l h s w span = grind (arith, take_means p s w, enter_means p s w, serve_means p s w, own_count-mine p None plain s span)
 
   -- run alone: the next ticket is taken, at once or after a look, and enters where it is served
 
   soon : (p : ℕ) (c : TicketCall) (l : TicketPoint) (h : Option Hold) (s : Plain) (w : TicketWords) (span : List Mark)
       → OwesSoon (ticket_table v first) (ticket_notes v first) p c l h s w span
-  soon p c l h s w span = grind (arith, free_number s, enters_in_turn s p w.serving, λ (t : ℕ). not_entered p t s.tickets)
+  soon p c l h s w span = grind (arith, enters_in_turn s p w.serving, λ (t : ℕ). not_entered p t s.tickets)
 
   pub ticket_pays : Pays (ticket_table v first) (ticket_notes v first)
   ticket_pays =
@@ -98,9 +97,7 @@ module _ {V : Type 0} (v : V) (first : ℕ) where
         aims = λ p c l h. grind arith;
         begins = λ p c h s. grind (arith, eqb_self);
         others = λ p q c l h s step r span ne queue may belongs knows.
-            let stays = λ (k : ℕ). stays-other k q s step r span queue.numbered may in
-            let rises = λ (k : ℕ). rises-other k q s step r span queue.numbered may in
-            grind (arith, stays, rises, own_count-other p q step r s span ne);
+            grind (arith, λ (c : Change). serving-advances s c queue.numbered, own_count-other p q step r s span ne);
         owes = owes;
         soon = soon;
       }

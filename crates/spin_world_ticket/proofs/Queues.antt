@@ -1,36 +1,15 @@
 -- What users of a ticket lock rely on.
-use Rattle.spin_world_ticket.proofs.Names.{◌≡◌, ℕ, ◌+◌, ◌==◌, ◌↔◌, Bool, false, Option, Some, None, List, [], ◌∷◌, ◌++◌, slice_get, not, ◌&&◌, refl, ap, sym, ◌∙◌, arith, Plain, Queued, Change, serving_word, apply_some, IsOpenStep, Entries, bit, Numbered, serving-moves, entered_is_served, Answer, Hold, Calling, Holding, Continue, Move, Step, Answered, TicketCall, TicketPoint, Await, TicketWords, State, moves_at, stepped, after, at_first, Seen, scene, opening, becomes, passing, ticket_table, ticket_machine, granted, seen_after, passes, serves_one, tickets_gone, InOrder, InTurn, LocalInvariant}
-use Rattle.std.proofs.lemmas.Bool.{eq-eqb}
-use Rattle.spin_world_core.specs.declared.answer.Answer.TheVariants.{Granted}
+use Rattle.spin_world_ticket.proofs.Names.{◌≡◌, ℕ, ◌+◌, Option, Some, List, [], ◌∷◌, ◌++◌, slice_get, ap, arith, Plain, Change, serving_word, apply_some, IsOpenStep, Entries, bit, Numbered, serving-moves, entered_is_served, Answer, Holding, Move, TicketCall, TicketPoint, TicketWords, after, at_first, Seen, scene, opening, ticket_machine, seen_after, passes, serves_one, tickets_gone, InOrder, InTurn, LocalInvariant}
 use Rattle.spin_world_core.specs.declared.place.Hold.TheVariants as hold
 use Rattle.spin_world_core.specs.Machines.{Machine}
-use Rattle.spin_world_ticket.proofs.Owed.{ticket_notes, ticket_keeping, ticket_facts}
+use Rattle.spin_world_ticket.proofs.Owed.{ticket_keeping, ticket_facts}
 use Rattle.spin_world_core.proofs.Preserved.{Invariant}
 use Rattle.spin_world_core.proofs.Every.{kept}
 use Rattle.spin_world_core.proofs.Guards.{seen_after-append}
-use Rattle.spin_world_core.proofs.Reached.{good, numbers_are, stands, StandsSo, calls_so}
+use Rattle.spin_world_core.proofs.Reached.{good, numbers_are, stands, calls}
 
 moves_some : (s : Plain) (p : ℕ) (step : Option Change) → Numbered s → IsOpenStep s p step → serving_word (apply_some s step) ≡ serving_word s + bit (passes serves_one step)
 moves_some s p step numbered may = grind (arith, λ (c : Change). serving-moves s c numbered)
-
--- the first of a party's tickets has this number, and has not entered
-abbrev has_not_entered : ℕ → List Queued → Bool
-has_not_entered t [] = false
-has_not_entered t (k ∷ ks) = not k.entered && (k.number == t)
-
-abbrev is_waiting_with : ℕ → Entries → Bool
-is_waiting_with t e = has_not_entered t e.tickets
-
--- a party that waits with a ticket stands where its lock looks whether it is served
-module _ {V : Type 0} (v : V) (first p t : ℕ) where
-  waits_at : (c : TicketCall) (l : TicketPoint) (h : Option Hold)
-      → StandsSo (ticket_table v first) (ticket_notes v first) (is_waiting_with t) p c l h → l ≡ Await t
-  waits_at c l h so = grind arith
-
-looked : (V : Type 0) (s : State TicketWords V TicketCall TicketPoint) (p t : ℕ) (w : TicketWords) (c : TicketCall) (h : Option Hold)
-    → let st = becomes (λ (k : ℕ). w) w (passing (w.serving == t) w.serving) (granted t) (Continue (Await t)) in
-    ((stepped {A = Answer V} s p c h st).outcome ≡ Answered Granted None) ↔ (w.serving ≡ t)
-looked V s p t w c h = grind arith
 
 module _ {V : Type 0} (v : V) (first : ℕ) where
   abbrev m : Machine TicketWords V TicketCall TicketPoint (Answer V)
@@ -73,13 +52,7 @@ module _ {V : Type 0} (v : V) (first : ℕ) where
       let all = past ++ further in
       record {
         enters = λ p t c l h there waits.
-            let waiting = ap (is_waiting_with t) waits ∙ eq-eqb t t refl in
-            let so = calls_so (ticket_table v first) (ticket_notes v first) (ticket_facts v first) n all (is_waiting_with t) p c l h there waiting in
-            let is = waits_at v first p t c l h so in
-            let now = after m (at_first m n) all in
-            let at = ap (λ o. (moves_at m now p Step o).outcome) (there ∙ ap (λ l. Some (Calling c l h)) is) in
-            let enters = looked V now p t now.words c h in
-            let served = (in_order n all).serving ∙ served_later n past further in
-            (λ e. sym served ∙ enters.0 (sym at ∙ e), λ e. at ∙ enters.1 (served ∙ e));
+            let knows = (calls m k (ticket_facts v first) n all p c l h there).knows in
+            grind (arith, there, waits, knows, (in_order n all).serving, served_later n past further);
         holds = λ p t there. omega (arith, served_later n past further, holds_served n p t all there);
       }

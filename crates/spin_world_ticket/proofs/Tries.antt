@@ -1,5 +1,5 @@
 -- Whoever tries finds its number by two loads.
-use Rattle.spin_world_ticket.proofs.Names.{◌≡◌, ℕ, ◌<◌, ◌≤◌, Option, Some, List, [], ◌∷◌, ap, ◌∙◌, arith, Plain, ticket_limit, to_take_and_enter, serving_word, Hold, Calling, Move, Step, GoingOn, TicketCall, TicketPoint, TicketWords, State, moves_at, after, at_first, opening, own_count, seen_after, asks_of, ticket_machine, FoundNext, TriesByTwoLoads}
+use Rattle.spin_world_ticket.proofs.Names.{◌≡◌, ℕ, ◌<◌, ◌≤◌, Option, Some, List, [], ◌∷◌, arith, Plain, ticket_limit, to_take_and_enter, serving_word, Hold, Calling, Move, Step, GoingOn, TicketCall, TicketPoint, TicketWords, State, moves_at, after, at_first, opening, own_count, seen_after, asks_of, ticket_machine, FoundNext, TriesByTwoLoads}
 use Rattle.spin_world_core.specs.Calls.{Mark, tries}
 use Rattle.spin_world_core.proofs.Reached.{numbers_are, calls}
 use Rattle.spin_world_ticket.proofs.Owed.{ticket_keeping, ticket_facts}
@@ -27,9 +27,7 @@ module _ {V : Type 0} (v : V) (first : ℕ) where
   pub by_two_loads : (n : ℕ) (past : List (ℕ × Move TicketCall V)) → TriesByTwoLoads (ticket_machine v first) n past
   by_two_loads n past p c l h there asks =
       let m = ticket_machine v first in
-      let now = after m (at_first m n) past in
       let seen = seen_after m (opening m n) past in
       let knows = (calls m (ticket_keeping v first) (ticket_facts v first) n past p c l h there).knows in
-      let ends = comes now p c l h seen.plain (seen.span p) knows (cc (numbers_are m (ticket_keeping v first) (ticket_facts v first) n past)) asks in
-      let at = ap (λ o. (moves_at m now p Step o).outcome) there in
-      (λ none. at ∙ ends.0 none, λ one found left. at ∙ ends.1 one found left)
+      let numbers = numbers_are m (ticket_keeping v first) (ticket_facts v first) n past in
+      let goes = comes (after m (at_first m n) past) p c l h seen.plain (seen.span p) knows (cc (numbers)) asks in grind (arith, there, goes)
