@@ -1,7 +1,6 @@
 -- What users of a `Once` rely on where closures begin, also after one that failed.
-use Rattle.spin_world_once.proofs.Names.{◌≡◌, ℕ, true, Option, Some, None, [], ◌∷◌, ◌++◌, slice_get, refl, arith, ap, ◌∙◌, ◌⊎◌, Failed, Hold, Calling, Step, to_begin, gets, Seen, step_at, happens, moves_at, at_first, OnceCall, OncePoint, Look, TryBegin, Await, Run, asks_of, OnceMachine, once_machine, Entries, once_after, RunsClosure, seen_at, has_just_looked, has_closure, MayRunAgain, LooksFirst, after-append, Invariant, in_call}
+use Rattle.spin_world_once.proofs.Names.{◌≡◌, ℕ, true, Option, Some, [], ◌∷◌, ◌++◌, slice_get, refl, arith, ap, ◌∙◌, ◌⊎◌, Hold, Calling, Step, to_begin, gets, Seen, step_at, happens, at_first, OnceCall, OncePoint, Look, TryBegin, Await, Run, asks_of, OnceMachine, once_machine, Entries, once_after, RunsClosure, seen_at, has_just_looked, has_closure, MayRunAgain, LooksFirst, after-append, Invariant, in_call}
 use Rattle.spin_world_core.specs.declared.place.Seat.{Seat}
-use Rattle.spin_world_core.specs.declared.schedule.Outcome.TheVariants as outcome
 use Rattle.spin_world_core.proofs.Lists.{get-set_same}
 use Rattle.spin_world_once.proofs.Owed.{once_keeping}
 use Rattle.spin_world_once.proofs.Keeping.{OnceState, good, not_at_run, run_here}
@@ -10,10 +9,7 @@ module _ {V : Type 0} (value : Option V) where
   abbrev m : OnceMachine V
   m = once_machine value
 
-  clears_seat : (s : OnceState V) (p : ℕ) (o : Option (Seat (OnceCall V) OncePoint)) → (moves_at m s p Step o).outcome ≡ outcome.Answered Failed None → (moves_at m s p Step o).next.words ≡ 0
-  clears_seat s p o e = grind arith
-
-  -- where the word is 0, a look leads to the exchange, and the exchange to the closure
+  -- where the word is 0, a look leads to the exchange and leaves the word, and the exchange leads to the closure
 
   abbrev next_point : OncePoint → OncePoint
   next_point Look = TryBegin
@@ -21,39 +17,35 @@ module _ {V : Type 0} (value : Option V) where
   next_point TryBegin = Run
   next_point Run = Run
 
-  seat_next : (s : OnceState V) (p : ℕ) (c : OnceCall V) (l : OncePoint) (h : Option Hold) → s.words ≡ 0 → slice_get s.seats p ≡ Some (Calling c l h) → has_closure (asks_of c) ≡ true → (l ≡ Run → ⊥)
-      → slice_get (happens m s p Step).next.seats p ≡ Some (Calling c (next_point l) h)
-  seat_next s p c l h zero at closure not =
+  goes_next : (s : OnceState V) (p : ℕ) (c : OnceCall V) (l : OncePoint) (h : Option Hold) → s.words ≡ 0 → slice_get s.seats p ≡ Some (Calling c l h)
+      → has_closure (asks_of c) ≡ true → (l ≡ Run → ⊥) → let next = (happens m s p Step).next in
+      (slice_get next.seats p ≡ Some (Calling c (next_point l) h)) × (next_point l ≡ TryBegin → next.words ≡ 0)
+  goes_next s p c l h zero at closure not =
       grind (arith, zero, at, not, get-set_same s.seats p (Calling c (next_point l) h) (Calling c l h) at)
-
-  -- a look leaves the word
-  word_next : (s : OnceState V) (p : ℕ) (c : OnceCall V) (l : OncePoint) (h : Option Hold) → slice_get s.seats p ≡ Some (Calling c l h)
-      → has_closure (asks_of c) ≡ true → next_point l ≡ TryBegin → (happens m s p Step).next.words ≡ s.words
-  word_next s p c l h at closure leads = grind (arith, at)
 
   module _ (n : ℕ) (past : Entries V) (p : ℕ) (c : OnceCall V) (h : Option Hold) (zero : (once_after m n past).words ≡ 0) (closure : has_closure (asks_of c) ≡ true) where
     by_exchange : slice_get (once_after m n past).seats p ≡ Some (Calling c TryBegin h) → RunsClosure m n (past ++ (p, Step) ∷ []) p
     by_exchange at =
+        let goes = goes_next (once_after m n past) p c TryBegin h zero at closure (λ e. cc (e)) in
         run_here value n (past ++ (p, Step) ∷ []) p c Run h
-        (ap (λ (s : OnceState V). slice_get s.seats p) (after-append m (at_first m n) past ((p, Step) ∷ [])) ∙ seat_next (once_after m n past) p c TryBegin h zero at closure (λ e. cc (e))) refl
+        (ap (λ (s : OnceState V). slice_get s.seats p) (after-append m (at_first m n) past ((p, Step) ∷ [])) ∙ goes.0) refl
 
     by_look : (l : OncePoint) → slice_get (once_after m n past).seats p ≡ Some (Calling c l h) → next_point l ≡ TryBegin → (l ≡ Run → ⊥) → RunsClosure m n (past ++ (p, Step) ∷ (p, Step) ∷ []) p
     by_look l at leads not =
         let now = once_after m n past in
-        let one = (happens m now p Step).next in
-        let there = seat_next now p c l h zero at closure not ∙ ap (λ l. Some (Calling c l h)) leads in
-        let still = word_next now p c l h at closure leads ∙ zero in
+        let one = goes_next now p c l h zero at closure not in
+        let there = one.0 ∙ ap (λ l. Some (Calling c l h)) leads in
+        let two = goes_next (happens m now p Step).next p c TryBegin h (one.1 leads) there closure (λ e. cc (e)) in
         run_here value n (past ++ (p, Step) ∷ (p, Step) ∷ []) p c Run h
-        (ap (λ (s : OnceState V). slice_get s.seats p) (after-append m (at_first m n) past ((p, Step) ∷ (p, Step) ∷ [])) ∙ seat_next one p c TryBegin h still there closure (λ e. cc (e))) refl
+        (ap (λ (s : OnceState V). slice_get s.seats p) (after-append m (at_first m n) past ((p, Step) ∷ (p, Step) ∷ [])) ∙ two.0) refl
 
     runs_soon : (l : OncePoint) → slice_get (once_after m n past).seats p ≡ Some (Calling c l h) → RunsClosure m n (past ++ (p, Step) ∷ []) p ⊎ RunsClosure m n (past ++ (p, Step) ∷ (p, Step) ∷ []) p
     runs_soon l at = grind (arith, by_exchange, by_look l at, not_at_run value n past p c l h at 0 refl)
 
   pub a_later_closure_may_run : (n : ℕ) (past : Entries V) → MayRunAgain m n past
   a_later_closure_may_run n past =
-      let now = once_after m n past in
       record {
-        clears = λ p is. ap (λ (s : OnceState V). s.words) (after-append m (at_first m n) past ((p, Step) ∷ [])) ∙ clears_seat now p (slice_get now.seats p) is;
+        clears = λ p is. grind (arith, after-append m (at_first m n) past ((p, Step) ∷ []));
         begins = λ p c l h zero at closure. runs_soon n past p c h zero closure l at;
       }
 

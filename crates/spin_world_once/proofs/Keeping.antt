@@ -1,5 +1,5 @@
 -- What users of a `Once` rely on: one closure at a time, and one value.
-use Rattle.spin_world_once.proofs.Names.{◌≡◌, ℕ, ◌==◌, true, false, is_some, Option, Some, None, List, [], ◌∷◌, ◌++◌, slice_get, refl, arith, ap, sym, ◌∙◌, subst, and_parts, Plain, running, to_begin, Change, gets, once_word, IsOpenStep, Answer, Value, Hold, Calling, Step, State, happens, after, at_first, Seen, scene, opening, own, last_written, placed_at, MayTouch, Mark, OnceCall, Get, OncePoint, Run, runs, asks_of, brings_of, OnceMachine, once_machine, Entries, once_after, seen_at, keeps_value, is_shared, ValueStays, RunsClosure, answer_of, OneRuns, wants_value, AnswersAtOnce, GetAgrees, after-append, InCall, Invariant}
+use Rattle.spin_world_once.proofs.Names.{◌≡◌, ℕ, ◌==◌, true, false, is_some, Option, Some, None, [], ◌∷◌, ◌++◌, slice_get, refl, arith, ap, sym, ◌∙◌, subst, and_parts, running, Change, once_word, IsOpenStep, Answer, Value, Hold, Calling, Step, State, happens, after, at_first, Seen, scene, opening, last_written, placed_at, MayTouch, OnceCall, Get, OncePoint, Run, runs, asks_of, OnceMachine, once_machine, Entries, once_after, seen_at, keeps_value, is_shared, ValueStays, RunsClosure, OneRuns, wants_value, AnswersAtOnce, GetAgrees, after-append, InCall, Invariant}
 use Rattle.spin_world_core.specs.declared.schedule.Move.{Move}
 use Rattle.spin_world_core.specs.declared.schedule.Outcome.{Outcome}
 use Rattle.spin_world_core.specs.declared.schedule.Outcome.TheVariants as outcome
@@ -58,24 +58,18 @@ module _ {V : Type 0} (value : Option V) where
             ∙ subst (λ (s : OnceState V). (after m s further).value ≡ Some v) state (stays_on seen further v (good n past) shared (ap (λ (s : OnceState V). s.value) state ∙ is));
       }
 
+  word_at : (n : ℕ) (past : Entries V) → (once_after m n past).words ≡ once_word (seen_at m n past).plain
+  word_at n past = cc (numbers_are m (once_keeping value) (once_facts value) n past)
+
   -- a party that stands at the end of a closure runs it, and nobody else does
-  at_run : (p : ℕ) (c : OnceCall V) (l : OncePoint) (h : Option Hold) (s : Plain) (span : List Mark) → (once_keeping value).Knows c l h p s span
-      → own p span ≡ gets p to_begin ∷ [] → l ≡ Run
-  at_run p c l h s span knows begun = grind arith
 
   module _ (n : ℕ) (past : Entries V) (p : ℕ) (c : OnceCall V) (l : OncePoint) (h : Option Hold) (there : slice_get (once_after m n past).seats p ≡ Some (Calling c l h)) where
     in_call_at : InCall m (once_keeping value) p c l h (seen_at m n past).plain (seen_at m n past).state.value (seen_at m n past).state.words ((seen_at m n past).span p)
     in_call_at = calls m (once_keeping value) (once_facts value) n past p c l h there
 
-    phase_at : l ≡ Run → (seen_at m n past).plain.phase ≡ running p
-    phase_at e = grind (arith, in_call_at.knows)
-
-    word_at : (once_after m n past).words ≡ once_word (seen_at m n past).plain
-    word_at = cc (numbers_are m (once_keeping value) (once_facts value) n past)
-
     -- where the word is another than 1 no closure runs
     pub not_at_run : (w : ℕ) → (w == 1) ≡ false → (once_after m n past).words ≡ w → l ≡ Run → ⊥
-    not_at_run w other is e = let phase = phase_at e in grind (arith, word_at)
+    not_at_run w other is e = grind (arith, in_call_at.knows, word_at n past)
 
     pub run_here : l ≡ Run → RunsClosure m n past p
     run_here e =
@@ -87,31 +81,22 @@ module _ {V : Type 0} (value : Option V) where
           begun = grind (arith, in_call_at.knows);
         }
 
-  runs_there : (n : ℕ) (past : Entries V) (p : ℕ) (runs : RunsClosure m n past p) → runs.point ≡ Run
-  runs_there n past p runs =
-      let knows = (in_call_at n past p runs.call runs.point runs.held runs.calls).knows in at_run p runs.call runs.point runs.held _ _ knows runs.begun
-
   phase_of : (n : ℕ) (past : Entries V) (p : ℕ) → RunsClosure m n past p → (seen_at m n past).plain.phase ≡ running p
-  phase_of n past p runs = phase_at n past p runs.call runs.point runs.held runs.calls (runs_there n past p runs)
-
-  ends_here : (n : ℕ) (past : Entries V) (p : ℕ) (c : OnceCall V) (h : Option Hold) → slice_get (once_after m n past).seats p ≡ Some (Calling c Run h) → outcome_after m n past p Step ≡ outcome.Answered (answer_of (brings_of c)) None
-  ends_here n past p c h there = grind (arith, there, (in_call_at n past p c Run h there).knows)
+  phase_of n past p runs = grind (arith, runs.begun, (in_call_at n past p runs.call runs.point runs.held runs.calls).knows)
 
   pub one_closure_runs_at_a_time : (n : ℕ) (past : Entries V) → OneRuns m n past
   one_closure_runs_at_a_time n past =
       record {
         alone = λ p q by_p by_q. cc (phase_of n past p by_p, phase_of n past q by_q);
         before = λ p runs. let phase = phase_of n past p runs in grind (arith, (a_value_stays n past []).complete);
-        ends = λ p runs. ends_here n past p runs.call runs.held (subst (λ l. slice_get (once_after m n past).seats p ≡ Some (Calling runs.call l runs.held)) (runs_there n past p runs) runs.calls);
+        ends = λ p runs. grind (arith, runs.calls, runs.begun, (in_call_at n past p runs.call runs.point runs.held runs.calls).knows);
       }
 
   -- where there is a value
 
   -- then the word is 2
   made_at : (n : ℕ) (past : Entries V) (v : V) → (once_after m n past).value ≡ Some v → (once_after m n past).words ≡ 2
-  made_at n past v is =
-      let word : (once_after m n past).words ≡ once_word (seen_at m n past).plain = cc (numbers_are m (once_keeping value) (once_facts value) n past) in
-      grind (arith, word, (a_value_stays n past []).complete)
+  made_at n past v is = grind (arith, word_at n past, (a_value_stays n past []).complete)
 
   value_told : (n : ℕ) (past : Entries V) (p : ℕ) (v : V) (c : OnceCall V) (l : OncePoint) (h : Option Hold) → (once_after m n past).value ≡ Some v → slice_get (once_after m n past).seats p ≡ Some (Calling c l h)
       → wants_value (asks_of c) ≡ true → outcome_after m n past p Step ≡ outcome.Answered (Value v) None
