@@ -7,7 +7,7 @@ use Rattle.spin_world_core.specs.Users.{outcome_after}
 use Rattle.spin_world_core.specs.Values.{GivesAt}
 use Rattle.spin_world_core.proofs.Every.{kept, state-seen_after}
 use Rattle.spin_world_core.proofs.Reached as reached
-use Rattle.spin_world_core.proofs.Reached.{numbers_are, calls, passes_some, row_passes}
+use Rattle.spin_world_core.proofs.Reached.{numbers_are, calls}
 use Rattle.spin_world_core.proofs.Paid.{uncompleted}
 use Rattle.spin_world_core.proofs.Values as values
 use Rattle.spin_world_once.proofs.Owed.{once_keeping, once_facts}
