@@ -1,6 +1,6 @@
 -- The steps of a table as operations: what its shapes show of themselves.
 use Rattle.std.proofs.lemmas.Bool.{not-true}
-use Rattle.spin_world_core.proofs.Names.{◌≡◌, ℕ, Bool, true, false, not, ◌&&◌, ◌||◌, Option, Some, None, is_some, slice_set, unwrap_or, refl, ap, subst, arith, List, and_parts, Plain, Ask, Change, is_open, Hold, Answer, Next, StepKind, is_again, LockKind, is_step_of, Asked, looks, may_be_weak, is_got_weakly, Mark, performed, Performs, IsOneOperation, RefusesAsLost, Stepwise, Memory, one_number, number_at, Act, weak_exchange, place_of, made_if, change_at, refusal_by, makes_by, operation_by, is_section, step_by, Table, machine_of, filled, machine_with}
+use Rattle.spin_world_core.proofs.Names.{◌≡◌, ℕ, Bool, true, false, not, ◌&&◌, ◌||◌, Option, Some, None, is_some, slice_set, unwrap_or, refl, ap, subst, arith, List, and_parts, Plain, Ask, Change, is_open, Hold, Answer, Next, StepKind, is_again, LockKind, is_step_of, Asked, may_be_weak, is_got_weakly, Mark, performed, Performs, IsOneOperation, RefusesAsLost, Stepwise, Memory, one_number, number_at, Act, weak_exchange, place_of, made_if, change_at, refusal_by, makes_by, operation_by, is_section, step_by, Table, machine_of, filled, machine_with}
 use Rattle.spin_world_core.proofs.Facts.{GoesOnOpen, ContinuesCounted}
 
 -- The debts
@@ -53,10 +53,6 @@ counted_filled change s value next o r counts = grind (arith, counts)
 
 pub open_filled : {V L : Type 0} (ask : Ask) (p : ℕ) (span : List Mark) (s : Plain) (value : Option V) (next : Next L (Answer (Unit {0}))) (o : Option Change) → GoesOnOpen ask p span s next o → GoesOnOpen ask p span s (filled value next) o
 open_filled ask p span s value next o may = grind arith
-
--- a call that is never weak gets nothing so: its steps fit if those of a look do
-pub fits_strong : {W L A : Type 0} (kind : LockKind) (what : Asked) (act : Act W L A) (p : ℕ) → may_be_weak what ≡ false → fits_act kind looks act p ≡ true → fits_act kind what act p ≡ true
-fits_strong kind what act p strong fit = grind arith
 
 -- The machines
 

@@ -1,5 +1,5 @@
 -- The shape of a fair lock, that its steps keep it, and what a party finds there.
-use Rattle.spin_world_fair.proofs.Names.{◌≡◌, ℕ, ◌%◌, ◌==◌, true, false, not, ◌&&◌, ◌||◌, List, [], ◌∷◌, ◌++◌, length, refl, ap, sym, ◌∙◌, arith, length-append, min, eq-eqb, Plain, holder, writing, is_empty, is_starver, is_holder, fair_word, releases, apply, Entries, entries, is_held, most_starvers, OneHolds, empty_is, is_empty-none, is_empty-some, length-without_holder, is_starver-from_entries, flag_is, is_starved, starves, holds_and_starves, entries_at, only_left, is_holder-own}
+use Rattle.spin_world_fair.proofs.Names.{◌≡◌, ℕ, ◌%◌, ◌==◌, true, false, not, ◌&&◌, ◌||◌, [], ◌∷◌, ◌++◌, length, refl, ap, sym, ◌∙◌, arith, length-append, min, eq-eqb, Plain, holder, writing, is_empty, is_starver, is_holder, fair_word, releases, apply, Entries, entries, is_held, most_starvers, OneHolds, empty_is, is_empty-none, is_empty-some, length-without_holder, is_starver-from_entries, flag_is, is_starved, starves, holds_and_starves, entries_at, only_left, is_holder-own}
 
 -- the shape of the lock: one holder at most, no queue, and the cap
 pub record IsFair (cap : ℕ) (s : Plain) : Type 0 where
@@ -13,9 +13,6 @@ comes cap p s shape free = record { one = omega (arith, length-append s.holders 
 
 pub goes_away : (cap p : ℕ) (s : Plain) → IsFair cap s → is_holder p writing s.holders ≡ true → IsFair cap (apply s (releases p writing))
 goes_away cap p s shape found = record { one = omega (arith, shape.one, length-without_holder p writing s.holders found); queue = shape.queue; room = shape.room }
-
-pub same_holders : (cap : ℕ) (s : Plain) (qs : List ℕ) → IsFair cap s → IsFair cap (record s { starvers = qs })
-same_holders cap s qs shape = record { one = shape.one; queue = shape.queue; room = shape.room }
 
 -- a party among the starvers
 
