@@ -28,8 +28,7 @@ pub record Lock (V S : Type 0) : Type 1 where
   pub first : Plain → ℕ
   pub second : Plain → S
   pub fits : (vs : List V) (s : Plain) → s.cap ≡ cap → IsInOrder s → IsLockOf part vs s → Limits way (readers_of uses vs) (writers_of uses vs)
-  pub first_names_nobody : NamesNobody first
-  pub second_names_nobody : NamesNobody second
+  pub names_nobody : NamesNobody first × NamesNobody second
 
 -- in the plain lock s the party p makes a step, or none, by which it becomes the new part, and after which the words are n and m
 pub record Makes {S : Type 0} (first : Plain → ℕ) (second : Plain → S) (old new : Part) (s : Plain) (p n : ℕ) (m : S) : Type 0 where
@@ -84,10 +83,6 @@ module _ {V S : Type 0} (lock : Lock V S) where
       let cap_is = cap-kept s made.step ∙ room in
       ((apply_some s made.step, cap_is, kept, new, made.first_is, made.second_is), lock.fits (after id view vs w) (apply_some s made.step) cap_is kept new)
 
-  -- what a step asks besides what it says
-  abbrev MayStep : ℕ → Option V → List V → V → ℕ → S → Type 0
-  MayStep id view vs w n m = Going way (use_of ways.1 view) (ways.1 w) None (readers_of ways.1 vs) (Meets Holds ways n m (after id view vs w))
-
   -- the same of a lock whose parties are known, all of them, and of a word that a machine holds
   abbrev pub EachOf : Option V → (Plain → ℕ → Type 0) → Type 0
   EachOf view P = (s : Plain) (p : ℕ) (vs : List V) → s.cap ≡ cap → IsInOrder s → IsLockOf part vs s → HasPart s p (part_before part view) → first s < words → P s p
@@ -126,7 +121,7 @@ module _ {V S : Type 0} (lock : Lock V S) where
 
   -- a party that has nothing may go
   pub rests : (v : V) → uses v ≡ off → ((p : ℕ) → entries_of p (part v) ≡ no_entries) → Rests Holds uses (Some v)
-  rests v unused has_none = leaves part v uses cap first second lock.first_names_nobody lock.second_names_nobody unused has_none
+  rests v unused has_none = leaves part v uses cap first second lock.names_nobody.0 lock.names_nobody.1 unused has_none
 
   pub idle_rests : (v : V) → v ≡ idle → Rests Holds uses (Some v)
   idle_rests v is = rw is (rests idle lock.is_idle.1 (λ p. ap (entries_of p) lock.is_idle.0))

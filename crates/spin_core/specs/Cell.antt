@@ -9,7 +9,7 @@ pub data Use : Type 0 where
   reads : Use
   writes : Use
 
--- How the parties use a value of type X beside one another: each has it alone; or some lend it to one another, to read; or who reads it reads it for good.
+-- How the parties use a value of type X beside one another: each has it alone; or some lend it to one another, to read; or a party that reads it reads it for good.
 -- In the third way `fact true` is known of a value that somebody reads, and `fact false` of one that nobody uses.
 pub data Way (X : Type 0) : Type 1 where
   alone : Way X
@@ -76,15 +76,15 @@ module _ {X : Type 0} where
   Frees (fixes fact) = (read : Bool) (x : X) → fact read x
   Frees _ = Unit {0}
 
-  -- what a party that is shown the value owes where it comes from one use to another and r parties read: who comes to read finds a reader,
-  -- and who has written leaves the fact
+  -- what a party that is shown the value owes where it comes from one use to another and r parties read: a party that comes to
+  -- read finds a reader, and one that has written leaves the fact
   abbrev pub Owes : (Bool → X → Type 0) → Use → Use → Option X → ℕ → Type 0
   Owes fact off reads shown r = 0 < r
   Owes fact writes reads (Some x) r = fact true x
   Owes fact writes off (Some x) r = fact false x
   Owes fact _ _ shown r = Unit {0}
 
-  -- the rest of what a step asks is A: in the third way who reads also reads on
+  -- the rest of what a step asks is A: in the third way a reader also reads on
   abbrev pub Going : Way X → Use → Use → Option X → ℕ → Type 0 → Type 0
   Going (fixes fact) u v shown r A = (u ≡ reads → v ≡ reads) × Owes fact u v shown r × A
   Going _ u v shown r A = A
@@ -120,7 +120,7 @@ module _ {X V S : Type 0} (holds : ℕ → S → List V → Type 0) (ways : Ways
   abbrev pub Starts : ℕ → S → X → Type 0
   Starts n m x = (vs : List V) × Meets n m vs × Fixed ways.0 (readers_of ways.1 vs) (writers_of ways.1 vs) x
 
-  -- nobody has come to a new cell; or, where a value is read for good, who made it has gone
+  -- nobody has come to a new cell; or, where a value is read for good, the party that made it has gone
   abbrev pub Opens : ℕ → S → X → Type 0
   Opens n m x = (vs : List V) × IsNew ways.0 vs × Meets n m vs × Fixed ways.0 (readers_of ways.1 vs) (writers_of ways.1 vs) x
 

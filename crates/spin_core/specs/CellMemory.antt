@@ -45,7 +45,7 @@ abbrev pub IsShared : {X : Type 0} → Way X → Type 0
 IsShared alone = ⊥
 IsShared _ = Unit {0}
 
--- where parties share the value, or some view reads it, the rule's own type stands for the value's: who may share the one may share the other
+-- where parties share the value, or some view reads it, the rule's own type stands for the value's: a thread that may share the one may share the other
 -- and any thread may have what stands for the second word
 abbrev pub Known : {X V : Type 0} → Ways X V → RattleType → RattleType → RattleType → Type 0
 Known {V = V} ways Y S R = (IsShared ways.0 → Common Y → Common R) × ((v : V) → ways.1 v ≡ reads → Common Y → Common R) × Sends S

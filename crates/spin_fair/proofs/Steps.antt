@@ -52,8 +52,7 @@ fair = record {
   first = fair_word;
   second = no_word;
   fits = fits;
-  first_names_nobody = fair_word-up;
-  second_names_nobody = no_word-up;
+  names_nobody = (fair_word-up, no_word-up);
 }
 
 abbrev Each : Option View → (Plain → ℕ → Type 0) → Type 0

@@ -8,7 +8,7 @@ use self::rule::{Attempt, Load, Register};
 use spin_core::cell::Cell;
 use spin_core::relax::{MAX_HINTS, RelaxStrategy, Spin, Strategy};
 use spin_guard::guard::{self, Guard};
-use spin_lock::lock::Lock;
+use spin_lock::lock::{Lock, with_guard};
 use spin_step::fair;
 use std::sync::Wait;
 
@@ -181,10 +181,9 @@ impl<T, R> FairMutex<T, R> {
     ///
     /// # Examples
     /// ```
-    /// match self.try_lock() {
-    ///     Some(mut guard) => Ok(by(&mut *guard)),
-    ///     None => Err(by),
-    /// }
+    /// drop(guard);
+    /// shows(&rt, &lock, STARVED);
+    /// equal(&rt, lock.try_lock().is_none(), true);
     /// ```
     pub fn try_lock<'a>(&'a self) -> Option<FairMutexGuard<'a, T, R>>
         ensures holder { IfSome result (IsHolder use_of_view) }
@@ -328,9 +327,6 @@ impl<T, R: RelaxStrategy> Lock<T> for FairMutex<T, R> {
     }
 
     fn try_with<A, F: FnOnce(&mut T) -> A>(&self, by: F) -> Result<A, F> {
-        match self.try_lock() {
-            Some(mut guard) => Ok(by(&mut *guard)),
-            None => Err(by),
-        }
+        with_guard(self.try_lock(), by)
     }
 }

@@ -32,8 +32,7 @@ flag = record {
   first = flag_word;
   second = no_word;
   fits = one_holder part kind 0;
-  first_names_nobody = flag_word-up;
-  second_names_nobody = no_word-up;
+  names_nobody = (flag_word-up, no_word-up);
 }
 
 pub starts : Meets IsFlag (ways flag) 0 tt []

@@ -10,7 +10,7 @@ use spin_core::cell::Cell;
 use spin_core::relax::{RelaxStrategy, Spin, Strategy};
 use spin_guard::guard::{self, Guard};
 use spin_guard::texts::write_lock;
-use spin_lock::lock::Lock;
+use spin_lock::lock::{Lock, with_guard};
 use spin_step::flag;
 use std::fmt;
 use std::fmt::{Debug, Formatter};
@@ -162,10 +162,7 @@ impl<T, R> SpinMutex<T, R> {
     ///
     /// # Examples
     /// ```
-    /// match self.try_lock() {
-    ///     Some(mut guard) => Ok(by(&mut *guard)),
-    ///     None => Err(by),
-    /// }
+    /// with_guard(self.try_lock(), by)
     /// ```
     pub fn try_lock<'a>(&'a self) -> Option<SpinMutexGuard<'a, T, R>>
         ensures { IfSome result (IsHolder use_of_view) }
@@ -278,9 +275,6 @@ impl<T, R: RelaxStrategy> Lock<T> for SpinMutex<T, R> {
     }
 
     fn try_with<A, F: FnOnce(&mut T) -> A>(&self, by: F) -> Result<A, F> {
-        match self.try_lock() {
-            Some(mut guard) => Ok(by(&mut *guard)),
-            None => Err(by),
-        }
+        with_guard(self.try_lock(), by)
     }
 }

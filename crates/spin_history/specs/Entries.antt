@@ -1,4 +1,4 @@
--- The entries of a log: what who reads and who writes learns of them, and entries in an order.
+-- The entries of a log: what a reader and a writer learn of them, and entries in an order.
 use Rattle.std.specs.Prelude.{◌≡◌, List, [], ◌∷◌, ◌++◌, Option, None, Some, IfSome, ⊤}
 use mathlib.Core.List.{IsPrefix}
 use mathlib.Core.HLevel.{×_prop, Unit-prop}

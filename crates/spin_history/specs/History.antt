@@ -16,7 +16,7 @@ logs = prefixes itself
 abbrev pub log_part : {T : Type 0} → (T → Gv) → ℕ → List T → Share → Fml
 log_part c γ l q = latest logs q γ (map c l)
 
--- what a `&` to a log has: some share, for each who reads
+-- what a `&` to a log has: some share, for each reader
 abbrev pub log_shares : {T : Type 0} → (T → Gv) → ℕ → List T → Lft → Fml
 log_shares c γ l = one (log_part c γ l)
 

@@ -1,8 +1,9 @@
 //! Traits for code that takes any lock. Begin with [`Lock`]: each mutex of this library and its `RwLock` have an `impl`
 //! of it.
-ghost use Rattle.std.specs.Prelude.{◌≡◌, MatchResult};
+ghost use Rattle.std.specs.Prelude.{◌≡◌, is_some, is_ok, MatchResult};
 ghost use Rattle.spin_lock.specs.Calls.{AnswersOf, AnswersOfShared};
 
+use std::ops::DerefMut;
 use std::sync::Wait;
 
 /// A lock that gives one thread at a time access to a value of type `T`.
@@ -113,4 +114,32 @@ pub trait SharedLock<T>: Lock<T> {
     fn try_with_shared<A, F: FnOnce(&T) -> A, W: Wait>(&self, rt: &W, by: F) -> Result<A, F>
         requires { F.IsAlwaysCallable by }
         ensures { MatchResult result (AnswersOfShared F.FnOnce by) (λ back. back ≡ by) };
+}
+
+/// Calls the closure with the value of a guard that a try returned, or hands the closure back. It is the `try_with` of
+/// a lock with guards.
+///
+/// # Contract
+/// The closure has to be always callable. Beside a guard the result is `Ok` of an answer as that of [`Lock::with`].
+/// Without one it is `Err` of the closure, which was not called.
+///
+/// # Examples
+/// ```
+/// fn try_with<A, F: FnOnce(&mut T) -> A>(&self, by: F) -> Result<A, F> {
+///     with_guard(self.try_lock(), by)
+/// }
+/// ```
+#[inline(always)]
+pub fn with_guard<T, G: DerefMut<Target = T> + Drop, A, F: FnOnce(&mut T) -> A>(
+    guard: Option<G>,
+    by: F,
+) -> Result<A, F>
+    requires { F.IsAlwaysCallable by }
+    ensures answers { MatchResult result (AnswersOf F.FnOnce by) (λ back. back ≡ by) }
+    ensures called { is_ok result ≡ is_some guard }
+{
+    match guard {
+        Some(mut guard) => Ok(by(&mut *guard)),
+        None => Err(by),
+    }
 }

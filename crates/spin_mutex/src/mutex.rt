@@ -4,7 +4,7 @@ ghost use Rattle.std.specs.Prelude.{◌≡◌, Some, IfSome};
 ghost use Rattle.spin_mutex.specs.MutexGuard.{value_of, holds, held_value};
 
 use spin_core::relax::{RelaxStrategy, Spin};
-use spin_lock::lock::Lock;
+use spin_lock::lock::{Lock, with_guard};
 use std::marker::PhantomData;
 use std::ops::{Deref, DerefMut};
 use std::sync::Wait;
@@ -157,10 +157,9 @@ impl<T, R> Mutex<T, R> {
     ///
     /// # Examples
     /// ```
-    /// match self.try_lock() {
-    ///     Some(mut guard) => Ok(by(&mut *guard)),
-    ///     None => Err(by),
-    /// }
+    /// let guard = lock.try_lock().expect(&rt, "open");
+    /// let text = format!(in rt.alloc(); "{guard:<3?}|{guard:>3}|{lock:30?}").expect(&rt, "memory");
+    /// equal(&rt, text.as_str(), "5  |  5|Mutex { <locked> }");
     /// ```
     pub fn try_lock(&self) -> Option<MutexGuard<'_, T, R>>
         ensures { IfSome result (λ guard. holds guard) }
@@ -337,10 +336,7 @@ impl<T, R: RelaxStrategy> Lock<T> for Mutex<T, R> {
     }
 
     fn try_with<A, F: FnOnce(&mut T) -> A>(&self, by: F) -> Result<A, F> {
-        match self.try_lock() {
-            Some(mut guard) => Ok(by(&mut *guard)),
-            None => Err(by),
-        }
+        with_guard(self.try_lock(), by)
     }
 }
 

@@ -37,8 +37,7 @@ rw-lock = record {
   first = rw_word;
   second = no_word;
   fits = readers_or_writer part kind reader_limit (omega arith) (omega arith);
-  first_names_nobody = rw_word-up;
-  second_names_nobody = no_word-up;
+  names_nobody = (rw_word-up, no_word-up);
 }
 
 pub starts : Meets IsRw (ways rw-lock) 0 tt []

@@ -6,7 +6,7 @@ ghost use Rattle.spin_rwlock.specs.Rw.{IsRwWord};
 use self::rule::{Kind, RwRule, View};
 use spin_core::cell::{Cell, Rule};
 use spin_core::relax::{Loop, RelaxStrategy, Spin};
-use spin_lock::lock::{Lock, SharedLock};
+use spin_lock::lock::{Lock, SharedLock, with_guard};
 use spin_step::rw;
 use std::marker::PhantomData;
 use std::sync::Wait;
@@ -142,10 +142,10 @@ impl<T, R> RwLock<T, R> {
     ///
     /// # Examples
     /// ```
-    /// match self.try_write() {
-    ///     Some(mut guard) => Ok(by(&mut *guard)),
-    ///     None => Err(by),
-    /// }
+    /// let (first, second) = thread::join(&rt, || lock.read(&rt), || lock.read(&rt));
+    /// let refused = lock.try_write().is_none();
+    /// equal(&rt, (*first, *second), (1, 1));
+    /// equal(&rt, (lock.reader_count(), refused), (2, true));
     /// ```
     pub fn try_write<'a>(&'a self) -> Option<RwLockWriteGuard<'a, T, R>> {
         Some(RwLockWriteGuard::new(rule::write(&self.cell)?))
@@ -420,10 +420,7 @@ impl<T, R: RelaxStrategy> Lock<T> for RwLock<T, R> {
     }
 
     fn try_with<A, F: FnOnce(&mut T) -> A>(&self, by: F) -> Result<A, F> {
-        match self.try_write() {
-            Some(mut guard) => Ok(by(&mut *guard)),
-            None => Err(by),
-        }
+        with_guard(self.try_write(), by)
     }
 }
 

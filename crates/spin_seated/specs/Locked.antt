@@ -29,7 +29,7 @@ all_written written log = flat_map (λ e. option_to_list (written e.call)) log
 abbrev pub all_read : {C A : Type 0} → (C → A → Option ℕ) → List (Entry C A) → List ℕ
 all_read read log = flat_map (λ e. option_to_list (read e.call e.answer)) log
 
--- who looks now and then at a value that becomes each of these in turn sees those, in their order: none is older than one seen before
+-- a party that looks now and then at a value that becomes each of these in turn sees those, in their order: none is older than one seen before
 pub data InOrderOf : List ℕ → List ℕ → Type 0 where
   done : {values : List ℕ} → InOrderOf values []
   looks : {value : ℕ} {values seen : List ℕ} → InOrderOf (value ∷ values) seen → InOrderOf (value ∷ values) (value ∷ seen)

@@ -16,7 +16,7 @@ use Rattle.spin_seated.specs.Rw.{rw}
 abbrev pub History : Type 0
 History = List (Entry Call Answer)
 
--- those who hold the lock after these calls
+-- the holders of the lock after these calls
 abbrev pub holders : Opening → History → List Holder
 holders k log = (state rw k log).lock.holders
 

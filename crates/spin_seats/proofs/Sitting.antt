@@ -70,8 +70,7 @@ lock n = record {
   first = seats_word;
   second = no_word;
   fits = fits n;
-  first_names_nobody = flag_word-up;
-  second_names_nobody = no_word-up;
+  names_nobody = (flag_word-up, no_word-up);
 }
 
 -- The steps

@@ -20,6 +20,6 @@ AllRead s = count_kind reading s.holders ≡ length s.holders
 abbrev pub entered : ℕ → ℕ → Option ℕ
 entered n w = if nat_lt w (seats n) then Some (w + 1) else None
 
--- the word after one who sat has gone
+-- the word after a party has left its seat
 abbrev pub left : ℕ → ℕ
 left w = w - 1

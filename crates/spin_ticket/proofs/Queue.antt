@@ -33,8 +33,7 @@ queue = record {
   first = next_word;
   second = serving_word;
   fits = one_ticket part kind 0;
-  first_names_nobody = next_word-up;
-  second_names_nobody = serving_word-up;
+  names_nobody = (next_word-up, serving_word-up);
 }
 
 pub starts : (first : ℕ) → first ≤ ticket_limit → Meets IsQueue (ways queue) first first []

@@ -11,7 +11,7 @@ use spin_core::cell::{Cell, Permit};
 use spin_core::relax::{Loop, MAX_HINTS, RelaxStrategy, Spin, Strategy};
 use spin_guard::guard::{self, Guard};
 use spin_guard::texts::write_lock;
-use spin_lock::lock::Lock;
+use spin_lock::lock::{Lock, with_guard};
 use spin_step::ticket;
 use std::fmt::{self, Debug, Formatter};
 use std::sync::Wait;
@@ -312,9 +312,6 @@ impl<T, R: RelaxStrategy> Lock<T> for TicketMutex<T, R> {
     }
 
     fn try_with<A, F: FnOnce(&mut T) -> A>(&self, by: F) -> Result<A, F> {
-        match self.try_lock() {
-            Some(mut guard) => Ok(by(&mut *guard)),
-            None => Err(by),
-        }
+        with_guard(self.try_lock(), by)
     }
 }

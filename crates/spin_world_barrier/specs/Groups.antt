@@ -1,4 +1,4 @@
--- What users of a barrier rely on: exactly the last arrival of each group leads, and who follows goes on once its group is full.
+-- What users of a barrier rely on: exactly the last arrival of each group leads, and a follower goes on once its group is full.
 use Rattle.std.specs.Prelude.{◌≡◌, ℕ, ◌+◌, ◌/◌, ◌%◌, ◌^◌, ◌↔◌, Bool, true, false, Option, Some, None, List, [], ◌∷◌, max, slice_get}
 use Rattle.spin_step.specs.Plain.{Change, arrives}
 use Rattle.spin_step.specs.Barriers.{may_leave}

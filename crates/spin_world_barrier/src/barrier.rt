@@ -45,7 +45,7 @@ pub enum BarrierPoint {
     /// The call arrives.
     Arrive,
     /// The call looks whether its group is full. It found this generation as it arrived.
-    Leave(usize),
+    Leave { generation: usize },
 }
 
 /// The barrier of groups: parties arrive, and leave when their group is full.
@@ -121,16 +121,6 @@ impl Object for BarrierObject {
         }
     }
 
-    fn refuse(
-        &self,
-        call: BarrierCall,
-        local: BarrierPoint,
-        holds: Option<Hold>,
-    ) -> Option<Next<BarrierPoint, Answer<u64>>> {
-        let _ = (call, local, holds);
-        None
-    }
-
     fn step(
         &self,
         words: BarrierWords,
@@ -159,19 +149,29 @@ impl Object for BarrierObject {
                 let next = if leads {
                     Next::Answers(Answer::Leader, holds)
                 } else {
-                    Next::Continue(BarrierPoint::Leave(generation))
+                    Next::Continue(BarrierPoint::Leave { generation })
                 };
                 Stepped::stay(words, next)
             }
-            BarrierPoint::Leave(found) => {
+            BarrierPoint::Leave { generation: found } => {
                 let next = if generation != found {
                     Next::Answers(Answer::Follower, holds)
                 } else {
-                    Next::Continue(BarrierPoint::Leave(found))
+                    Next::Continue(local)
                 };
                 Stepped::stay(words, next)
             }
         }
+    }
+
+    fn refuse(
+        &self,
+        call: BarrierCall,
+        local: BarrierPoint,
+        holds: Option<Hold>,
+    ) -> Option<Next<BarrierPoint, Answer<u64>>> {
+        let _ = (call, local, holds);
+        None
     }
 
     fn laws() {}
