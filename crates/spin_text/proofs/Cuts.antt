@@ -1,10 +1,11 @@
 -- Bytes cut at a separator, and at line feeds.
-use Rattle.std.proofs.Common.{◌≡◌, ℕ, ◌+◌, ◌-◌, ◌<◌, ◌==◌, cond, Bool, true, false, Option, Some, None, List, [], ◌∷◌, ◌++◌, length, take, drop, map, get_or, refl, sym, ◌∙◌, ap, arith, length-take, length-drop}
+use Rattle.std.proofs.Common.{◌≡◌, ℕ, ◌+◌, ◌-◌, ◌<◌, ◌≤◌, ◌==◌, cond, Bool, true, false, Option, Some, None, List, [], ◌∷◌, ◌++◌, length, take, drop, map, get_or, refl, sym, ◌∙◌, ap, arith, length-take, length-drop}
 use Rattle.std.specs.Borrow.{Bor}
 use Rattle.std.specs.List.{slice_split, join_with_byte}
 use Rattle.std.proofs.lemmas.Bool.{eqb-true}
 use Rattle.std.proofs.lemmas.Grind.{common_steps}
-use Rattle.std.proofs.lemmas.List.{get_or_default, get_or-take}
+use Rattle.std.proofs.lemmas.List.{length-map, get_or_default, get_or-take}
+use Rattle.std.proofs.lemmas.List.Sums.{count_by-le-length}
 use Rattle.std.proofs.lemmas.List.Splits.{slice_split_none, slice_split_at, length-slice_split, join_with_byte-slice_split}
 use Rattle.memchr.specs.Find.{Nowhere, NoneBefore, Passes, is_byte}
 use Rattle.spin_text.specs.Reading.{is_end, parts_left, lines_left}
@@ -83,3 +84,18 @@ pub lines_after : (bs line : List ℕ) (rest : Option (Bor (List ℕ))) (further
     → (left : Option (Bor (List ℕ))) (over : Bool) → over ≡ (length further.now == 0) → left ≡ cond over None (Some further) → words_by_line bs ≡ words_of line ∷ lines_left left
 lines_after bs line rest further parts is left over test made =
     split_after bs line further (parts ∙ ap (λ r. line ∷ parts_left 10 r) is) over test ∙ ap (λ l. words_of line ∷ lines_left l) (sym made)
+
+further_within : (parts : List (List ℕ)) → length (further_lines parts) ≤ length parts
+further_within [] = omega arith
+further_within ([] ∷ []) = omega arith
+further_within ((b ∷ bs) ∷ []) = omega arith
+further_within (x ∷ y ∷ more) = omega (arith, further_within (y ∷ more))
+
+first_within : (parts : List (List ℕ)) → length (first_and_further parts) ≤ length parts
+first_within [] = omega arith
+first_within (x ∷ more) = omega (arith, further_within more)
+
+-- there are no more lines than bytes and one
+pub lines_within : (bs : List ℕ) → length (words_by_line bs) ≤ length bs + 1
+lines_within bs =
+    omega (arith, length-map (lines_of bs) words_of, first_within (slice_split (is_byte 10) bs), length-slice_split (is_byte 10) bs, count_by-le-length (is_byte 10) bs)

@@ -1,5 +1,5 @@
 -- The lines of a transcript, one after the other, as the moves are played.
-use Rattle.std.proofs.Common.{◌≡◌, ℕ, suc, ◌+◌, ◌<◌, ◌^◌, ◌==◌, ◌&&◌, Bool, true, false, if◌then◌else◌, Option, Some, None, List, [], ◌∷◌, ◌++◌, length, take, drop, get_or, sym, ◌∙◌, ap, refl, subst, arith, append_assoc, append-nil, zero-add, length-take-le}
+use Rattle.std.proofs.Common.{◌≡◌, ℕ, zero, suc, ◌+◌, ◌<◌, ◌^◌, ◌==◌, ◌&&◌, Bool, true, false, if◌then◌else◌, Option, Some, None, List, [], ◌∷◌, ◌++◌, length, take, drop, get_or, sym, ◌∙◌, ap, refl, subst, arith, append_assoc, append-nil, zero-add, length-take-le}
 use Rattle.std.proofs.lemmas.List.{take-append-drop}
 use Rattle.spin_world_core.specs.declared.answer.Answer.{Answer}
 use Rattle.spin_world_core.specs.declared.schedule.Event.{Event}
@@ -43,6 +43,18 @@ begin_below p k found (e ∷ es) below =
     let next = if (e.party == p) && is_begun e.outcome then Some k else found in
     subst (λ n. IsBelow n (last_begin p (k + 1) next es)) place (begin_below p (k + 1) next es (next_below ((e.party == p) && is_begun e.outcome) k found below))
 
+-- the first of what is left of a list behind its first k
+pub first_left : {X : Type 0} → (xs : List X) (k : ℕ) (x : X) (rest : List X) → drop k xs ≡ x ∷ rest
+    → (k < length xs) × ((d : X) → x ≡ get_or xs k d) × (drop (suc k) xs ≡ rest)
+first_left [] zero x rest is = absurd (cc)
+first_left [] (suc k) x rest is = absurd (cc)
+first_left (y ∷ ys) zero x rest is = (omega arith, λ d. sym (ap (λ l. get_or l 0 y) is), ap (drop 1) is)
+first_left (y ∷ ys) (suc k) x rest is = let next = first_left ys k x rest is in (omega (arith, next.0), next.1, next.2)
+
+-- nothing is left, so all is in front
+pub all_in_front : {X : Type 0} → (xs : List X) (k : ℕ) → drop k xs ≡ [] → take k xs ≡ xs
+all_in_front xs k none = sym (append-nil (take k xs)) ∙ ap (λ l. take k xs ++ l) (sym none) ∙ take-append-drop k xs
+
 -- the first k moves of a schedule were played
 abbrev pub Told : {W C L : Type 0} → Machine W ℕ C L (Answer ℕ) → State W ℕ C L → State W ℕ C L → List (Option ℕ) → List (ℕ × Move C ℕ) → ℕ → Type 0
 Told m from now begins schedule k = Played m from now begins (with_begins [] (events_of m from (take k schedule))) (take k schedule)
@@ -62,9 +74,11 @@ tells_line began outcome.Leaked has = tt
 
 -- whoever is answered has a line to be told from
 pub told_line : {W C L : Type 0} (m : Machine W ℕ C L (Answer ℕ)) (from now : State W ℕ C L) (begins : List (Option ℕ))
-    (schedule : List (ℕ × Move C ℕ)) (k : ℕ) (p : ℕ) (o o' : Outcome (Answer ℕ) ℕ)
-    → Told m from now begins schedule k → k < length schedule → k < 2 ^ 64 → o' ≡ with_begin (begin_of begins p) o → TellsLine o'
-told_line m from now begins schedule k p o o' told lt fits is =
+    (schedule rest : List (ℕ × Move C ℕ)) (k : ℕ) (entry : ℕ × Move C ℕ) (o o' : Outcome (Answer ℕ) ℕ)
+    → Told m from now begins schedule k → drop k schedule ≡ entry ∷ rest → k < 2 ^ 64 → o' ≡ with_begin (begin_of begins entry.0) o → TellsLine o'
+told_line m from now begins schedule rest k entry o o' told left fits is =
+    let p = entry.0 in
+    let lt = (first_left schedule k entry rest left).0 in
     let events = events_of m from (take k schedule) in
     let count : length events ≡ k = length-events_of m from (take k schedule) ∙ length-take-le k schedule (omega (arith, lt)) in
     let below : IsBelow k (begin_of begins p) =
@@ -77,25 +91,28 @@ length-with_begins before [] = refl
 length-with_begins before (e ∷ es) = ap suc (length-with_begins (before ++ e ∷ []) es)
 
 pub told_next : {O W C L : Type 0} (machine : O → Machine W ℕ C L (Answer ℕ)) (object held : O) (from now next : State W ℕ C L)
-    (begins begins' : List (Option ℕ)) (schedule : List (ℕ × Move C ℕ)) (k : ℕ)
+    (begins begins' : List (Option ℕ)) (schedule rest : List (ℕ × Move C ℕ)) (k : ℕ)
     (entry : ℕ × Move C ℕ) (o o' : Outcome (Answer ℕ) ℕ) (words : W) (numbers : List ℕ)
-    → held ≡ object → Told (machine object) from now begins schedule k → k < length schedule → entry ≡ get_or schedule k entry
+    → held ≡ object → Told (machine object) from now begins schedule k → drop k schedule ≡ entry ∷ rest
     → (let h : Happened W ℕ C L (Answer ℕ) = record { outcome = o; next = next } in h ≡ happens (machine held) now entry.0 entry.1) → words ≡ next.words → (machine object).numbers words ≡ numbers
     → o' ≡ with_begin (begin_of begins entry.0) o → begins' ≡ begins_after begins entry.0 k o
-    → Told (machine object) from next begins' schedule (k + 1)
+    → Told (machine object) from next begins' schedule (k + 1) × (drop (k + 1) schedule ≡ rest)
     × (schedule_lines (machine object) from (take (k + 1) schedule)
     ≡ schedule_lines (machine object) from (take k schedule) ++ event_line (k + 1) entry.0 o' numbers)
-told_next {W = W} machine object held from now next begins begins' schedule k entry o o' words numbers same told lt read acted is_words is_numbers told_o put =
+told_next {W = W} machine object held from now next begins begins' schedule rest k entry o o' words numbers same told left acted is_words is_numbers told_o put =
     let m = machine object in
+    let here = first_left schedule k entry rest left in
+    let lt = here.0 in
     let front = take k schedule in
     let events = with_begins [] (events_of m from front) in
     let e : Event W ℕ (Answer ℕ) = record { party = entry.0; outcome = o'; words = words } in
     let more =
-    played_next m from now next begins begins' events (events ++ e ∷ []) schedule k entry o o' words told lt read
+    played_next m from now next begins begins' events (events ++ e ∷ []) schedule k entry o o' words told lt (here.1 entry)
     (acted ∙ ap (λ x. happens (machine x) now entry.0 entry.1) same) is_words told_o put refl in
     let count : length events ≡ k = length-with_begins [] (events_of m from front) ∙ length-events_of m from front ∙ length-take-le k schedule (omega (arith, lt)) in
     let place : 1 + length events ≡ k + 1 = omega (arith, count) in (
       subst (λ es. Played m from next begins' es (take (k + 1) schedule)) more.with_begins_so more,
+      ap (λ j. drop j schedule) (let one_more : k + 1 ≡ suc k = omega arith in one_more) ∙ here.2,
       ap (λ es. event_lines m.numbers 1 es) (sym more.with_begins_so) ∙ event_lines_more m.numbers 1 events e
           ∙ ap (λ n. event_lines m.numbers 1 events ++ event_line n entry.0 o' (m.numbers words)) place
           ∙ ap (λ ns. event_lines m.numbers 1 events ++ event_line (k + 1) entry.0 o' ns) is_numbers,

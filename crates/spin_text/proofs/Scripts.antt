@@ -1,5 +1,6 @@
 -- A whole text is read as it is spelled: so it has one reading, and its first bad line is where reading stops.
-use Rattle.std.proofs.Common.{◌≡◌, ℕ, suc, Bool, true, false, ◌<◌, Result, OnOk, IfErr, ◌+◌, ◌-◌, Option, Some, None, List, [], ◌∷◌, ◌++◌, length, map, take, arith, refl, sym, ◌∙◌, ap, subst, length-append, append_assoc}
+use Rattle.std.proofs.Common.{◌≡◌, ℕ, suc, Bool, true, false, ◌<◌, Result, OnOk, IfErr, ◌+◌, ◌-◌, Option, Some, None, List, [], ◌∷◌, ◌++◌, length, map, take, arith, refl, sym, ◌∙◌, ap, subst, length-append, append_assoc, append-nil}
+use Rattle.std.specs.List.{cons_option}
 use Rattle.std.proofs.lemmas.List.{length-map, map-append}
 use Rattle.spin_world_core.specs.declared.answer.Answer.{Answer}
 use Rattle.spin_world_core.specs.declared.schedule.Move.{Move}
@@ -7,13 +8,12 @@ use Rattle.spin_world_core.specs.Machines.{Machine}
 use Rattle.spin_text.specs.declared.header.Header.{Header}
 use Rattle.spin_text.specs.declared.text.RunError.{RunError}
 use Rattle.spin_text.specs.declared.text.RunError.TheVariants as errors
-use Rattle.std.specs.Io.KnownBytes.{Appends}
-use Rattle.spin_text.specs.Ends.{AppendsBeginning, AppendsSome, AppendsSomeBeginning}
+use Rattle.spin_text.specs.Ends.{AppendsSome, AppendsSomeBeginning}
 use Rattle.spin_text.specs.Lines.{words_by_line, header_line, entry_lines}
 use Rattle.spin_text.specs.Spelling.{Calls, entry_words, EntryFits, EntriesFit}
 use Rattle.spin_text.specs.Objects.{CallOf, calls_of, header_words, HeaderFits}
-use Rattle.spin_text.specs.Reading.{◌>>=◌, read_entry, read_header}
-use Rattle.spin_text.specs.Readable.{ReadsCalls, StopsEntries}
+use Rattle.spin_text.specs.Reading.{◌>>=◌, read_entry, entries_in, read_header}
+use Rattle.spin_text.specs.Readable.{ReadsCalls, AllSpell, StopsEntries}
 use Rattle.spin_text.specs.Transcripts.{transcript_text}
 use Rattle.spin_text.specs.Texts.{Script, script_words, ScriptFits, Spells, AreOfScript, IsFirstBad, played, PlaysBytes, PlaysLines, StopsPlaying, StopsWriting, ReadsAll, Streams, Plays, Stops}
 use Rattle.spin_text.proofs.Options.{some_is, on_ok, if_err}
@@ -56,6 +56,38 @@ module _ {C : Type 0} (calls : Calls C) (read : List (List ℕ) → Option C) (r
         ap (λ l. l ++ further) (map-append words es (e ∷ [])) ∙ append_assoc (map words es) (words e ∷ []) further
             ∙ ap (λ l. map words es ++ l) (ap (λ w. w ∷ further) (sym entry.1) ∙ sym next) ∙ spelled,
       )
+
+-- the first line's entry is the first in the lines
+pub first_entry : {C : Type 0} (read : List (List ℕ) → Option C) (left further : List (List (List ℕ))) (line : List (List ℕ)) (e : ℕ × Move C ℕ) → left ≡ line ∷ further
+    → read_entry read line ≡ Some e → entries_in read left ≡ e ∷ entries_in read further
+first_entry read left further line e next found = ap (entries_in read) next ∙ ap (λ o. cons_option o (entries_in read further)) found
+
+-- the lines before those that are left spell entries, so many of them
+abbrev pub Checked : {C : Type 0} → Calls C → List (List (List ℕ)) → List (List (List ℕ)) → ℕ → Type 0
+Checked {C} calls left all n = (es : List (ℕ × Move C ℕ)) × EntriesFit calls es × (map (entry_words calls) es ++ left ≡ all) × (n ≡ length es)
+
+module _ {C : Type 0} (calls : Calls C) (read : List (List ℕ) → Option C) (reads : ReadsCalls calls read) where
+  -- what is spelled is found
+  entries_found : (es : List (ℕ × Move C ℕ)) → EntriesFit calls es → entries_in read (map (entry_words calls) es) ≡ es
+  entries_found [] fits = refl
+  entries_found (e ∷ es) fits =
+      ap (λ o. cons_option o (entries_in read (map (entry_words calls) es))) (entry_again calls read reads e fits.0)
+      ∙ ap (λ l. e ∷ l) (entries_found es fits.1)
+
+  pub checked_next : (n : ℕ) (e : ℕ × Move C ℕ) (line : List (List ℕ)) (left further all : List (List (List ℕ))) → Checked calls left all n
+      → left ≡ line ∷ further → read_entry read line ≡ Some e → Checked calls further all (n + 1)
+  checked_next n e line left further all so_far next found =
+      let es = so_far.0 in
+      let more = entries_step calls read reads es (es ++ (e ∷ [])) e line left further all so_far.1 so_far.2 next found refl in
+      (es ++ (e ∷ []), more.0, more.1, omega (arith, so_far.3, length-append es (e ∷ [])))
+
+  pub checked_all : (n : ℕ) (left all : List (List (List ℕ))) → Checked calls left all n → left ≡ [] → AllSpell calls read all
+  checked_all n left all so_far over =
+      let es = so_far.0 in
+      let words = map (entry_words calls) es in
+      let P : List (List (List ℕ)) → Type 0 = AllSpell calls read in
+      let Q : List (ℕ × Move C ℕ) → Type 0 = λ xs. EntriesFit calls xs × (words ≡ map (entry_words calls) xs) in
+      subst P (sym (append-nil words) ∙ ap (λ l. words ++ l) (sym over) ∙ so_far.2) (subst Q (sym (entries_found es so_far.1)) (so_far.1, refl))
 
 pub read_script : List (List (List ℕ)) → Option Script
 read_script [] = None
@@ -170,15 +202,6 @@ module _ {X : Type 0} (r : Result X RunError) (P Q : List ℕ → Type 0) (each 
       → IfErr r (StopsWriting B U (F × AppendsSomeBeginning P a b)) → IfErr r (StopsWriting C U (F × AppendsSomeBeginning Q a b))
   beginning_so B C U F before = if_err r _ _ (stops_so B C U _ _ before (λ t. (t.0, (t.1.0, each t.1.0 t.1.1, t.1.2))))
 
--- one text is some text
-module _ {X : Type 0} (r : Result X RunError) (P : List ℕ → Type 0) (text : List ℕ) (is : P text) (a b : Option (List ℕ)) where
-  pub some_text : OnOk r (Appends a b text) → OnOk r (AppendsSome P a b)
-  some_text = on_ok r _ _ (λ t. (text, is, t))
-
-  pub some_beginning : (B C : RunError → Type 0) (U F : Type 0) → ((e : RunError) → B e → C e)
-      → IfErr r (StopsWriting B U (F × AppendsBeginning a b text)) → IfErr r (StopsWriting C U (F × AppendsSomeBeginning P a b))
-  some_beginning B C U F before = if_err r _ _ (stops_so B C U _ _ before (λ t. (t.0, (text, is, t.1))))
-
 -- what the lines behind the header come to, the bytes come to
 module _ {X W L : Type 0} (r : Result X RunError) (bytes : List ℕ) (h : Header) (m : Machine W ℕ (CallOf h) L (Answer ℕ)) (parties : ℕ)
     (headed_so : HeaderFits h × (words_by_line bytes ≡ header_words h ∷ entry_lines (words_by_line bytes)))
@@ -194,11 +217,6 @@ module _ {X W L : Type 0} (r : Result X RunError) (bytes : List ℕ) (h : Header
       (F × AppendsSomeBeginning (PlaysLines (calls_of h) m parties (entry_lines (words_by_line bytes))) a b))
       → IfErr r (StopsWriting (StopsPlaying bytes) U (F × AppendsSomeBeginning (PlaysBytes bytes) a b))
   stops_so_far U F = beginning_so r _ _ each_text a b _ _ U F (λ e. bad_entry bytes h _ e headed_so.0 headed_so.1)
-
--- memory may be refused at each line
-pub refused_so : {C : Type 0} (calls : Calls C) (read : List (List ℕ) → Option C) (lines : List (List (List ℕ))) (e : RunError)
-    → e ≡ errors.Memory → StopsEntries calls read lines e
-refused_so calls read lines e is = let P : RunError → Type 0 = StopsEntries calls read lines in subst P (sym is) tt
 
 -- what playing comes to, the whole call comes to
 module _ {X : Type 0} (r : Result X RunError) (bytes : List ℕ) (left left_after written written_after : Option (List ℕ))

@@ -1,7 +1,7 @@
 -- A line read from left to right. What this finds is what is spelled, which laws say.
 use Rattle.std.specs.Prelude.{ℕ, ◌^◌, Bool, true, false, ◌&&◌, nat_lt, nat_le, ◌==◌, List, [], ◌∷◌, Option, Some, None, codes, decimal, map, if◌then◌else◌}
 use Rattle.std.specs.Borrow.{Bor}
-use Rattle.std.specs.List.{slice_split}
+use Rattle.std.specs.List.{slice_split, filter_map}
 use Rattle.std.specs.Str.{bytes_eq}
 use Rattle.std.specs.Str.Parse.{digits_value}
 use Rattle.spin_world_core.specs.declared.schedule.Move.{Move}
@@ -105,6 +105,10 @@ read_entry call ws = do
   party ← number_at ws
   move ← read_move call party.1
   Some (party.0, move)
+
+-- the entries that lines spell, without the lines that spell none
+abbrev pub entries_in : {C : Type 0} → (List (List ℕ) → Option C) → List (List (List ℕ)) → List (ℕ × Move C ℕ)
+entries_in call lines = filter_map (read_entry call) lines
 
 -- what a table has beside a word
 unfoldable pub named : {C : Type 0} → List (List ℕ × C) → List ℕ → Option C

@@ -1,5 +1,5 @@
 //! A whole text: it is read, checked, played, and its transcript written. Begin with [`world_text`].
-ghost use Rattle.std.specs.Prelude.{◌≡◌, ◌<◌, false, true, length, OnOk, IfOk, IfErr};
+ghost use Rattle.std.specs.Prelude.{◌≡◌, ◌<◌, ◌^◌, false, true, length, OnOk, IfOk, IfErr};
 ghost use Rattle.spin_text.specs.Ends.{AppendsSome, AppendsSomeBeginning};
 ghost use Rattle.spin_text.specs.Lines.{words_by_line, header_line, entry_lines};
 ghost use Rattle.spin_text.specs.Reading.{read_header};
@@ -7,7 +7,7 @@ ghost use Rattle.spin_text.specs.Readable.{StopsEntries};
 ghost use Rattle.spin_text.specs.Texts.{ReadsAll, Plays, Stops, StopsReading, StopsPlaying, StopsWriting, PlaysBytes, PlaysLines};
 
 use crate::ends::{Sink, Source};
-use crate::entries::entries;
+use crate::entries::check_entries;
 use crate::header::{Header, header_of};
 use crate::objects::Spelled;
 use crate::piece::buffer;
@@ -96,6 +96,7 @@ fn play_lines<O: Spelled, K: Sink>(
     bytes: &[u8],
     output: &mut K,
 ) -> Result<(), RunError>
+    requires counted { length (words_by_line bytes.now) < 2 ^ 64 }
     ensures bytes { OnOk result (AppendsSome
         (PlaysLines O.calls (O.machine object) parties (entry_lines (words_by_line bytes.now)))
         (K.written output.old) (K.written output.new)) }
@@ -107,8 +108,8 @@ fn play_lines<O: Spelled, K: Sink>(
         (K.written output.old) (K.written output.new))) }
 {
     let (_header, lines) = first_line(bytes);
-    let schedule = entries::<O>(alloc, lines)?;
-    write_transcript(alloc, object, parties, &schedule, output)
+    check_entries::<O>(lines)?;
+    write_transcript(alloc, object, parties, lines, output)
 }
 
 /// Returns the header that the first line of the bytes spells, or `None` if it spells none.
@@ -122,6 +123,7 @@ fn header(bytes: &[u8]) -> Option<Header>
 
 /// Plays the schedule that bytes spell, and writes its transcript.
 fn play<K: Sink>(alloc: Global, bytes: &[u8], output: &mut K) -> Result<(), RunError>
+    requires counted { length (words_by_line bytes.now) < 2 ^ 64 }
     ensures bytes { OnOk result (AppendsSome (PlaysBytes bytes.now) (K.written output.old) (K.written output.new)) }
     ensures ok { OnOk result (K.failed output.new ≡ K.failed output.old) }
     ensures stops { IfErr result (StopsWriting (StopsPlaying bytes.now) (output.new ≡ output.old)

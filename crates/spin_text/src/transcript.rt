@@ -6,15 +6,17 @@ ghost use Rattle.spin_text.specs.declared.text.RunError.TheVariants.{Memory};
 ghost use Rattle.spin_text.specs.Ends.{AppendsBeginning, AppendsBut};
 ghost use Rattle.spin_text.specs.Texts.{StopsWriting};
 ghost use Rattle.spin_text.specs.Pieces.{PutBefore, HasLine, TellsLine};
-ghost use Rattle.spin_text.specs.Reading.{numbers_of};
+ghost use Rattle.spin_text.specs.Reading.{entries_in, lines_left, numbers_of};
 ghost use Rattle.spin_text.specs.Transcripts.{value_text, number_text, answer_text, from_text, outcome_text, numbers_text, event_line, end_line, schedule_lines, transcript_from, transcript_text};
 
 use crate::ends::{Failed, Sink, write_whole};
+use crate::entries::entry;
 use crate::objects::Spelled;
 use crate::piece::{LONGEST_LINE, PIECE, buffer, write_line};
 use crate::put::{put, put_number};
 use crate::text::RunError;
-use spin_world::{Answer, Move, Outcome, World};
+use crate::words::{Rest, first_line};
+use spin_world::{Answer, Outcome, World};
 use spin_world_core::{no_begins, with_begin};
 use std::alloc::Global;
 
@@ -162,35 +164,44 @@ fn put_end(numbers: (u64, Option<u64>), value: Option<u64>, buffer: &mut [u8]) -
     put(b"end: ", buffer, end)
 }
 
-/// Plays a schedule, and writes the line of each event. Returns how many bytes the piece then has.
+/// Plays the entries in lines, and writes the line of each event. Returns how many bytes the piece then has.
 fn write_events<O: Spelled, K: Sink>(
     world: &mut World<O>,
     begins: &mut [Option<usize>],
-    schedule: &[(usize, Move<O::Call, u64>)],
+    lines: Rest,
     piece: &mut [u8],
     output: &mut K,
 ) -> Result<usize, Failed>
     requires parties { length begins.old ≡ length world.old.state.seats }
     requires none_begun { (p : ℕ) → begin_of begins.old p ≡ None }
     requires room { length piece.old ≡ PIECE }
+    requires counted { length (lines_left lines) < 2 ^ 64 }
     ensures object { OnOk result (world.new.object ≡ world.old.object) }
-    ensures state { OnOk result (world.new.state ≡ after (O.machine world.old.object) world.old.state schedule.now) }
+    ensures state { OnOk result (world.new.state ≡ after (O.machine world.old.object) world.old.state
+        (entries_in O.read (lines_left lines.entry))) }
     ensures used { IfOk result (λ n. n + LONGEST_LINE ≤ PIECE) }
     ensures bytes { IfOk result (λ n. AppendsBut (K.written output.old) (K.written output.new)
-        (schedule_lines (O.machine world.old.object) world.old.state schedule.now) (take n piece.new)) }
+        (schedule_lines (O.machine world.old.object) world.old.state (entries_in O.read (lines_left lines.entry)))
+        (take n piece.new)) }
     ensures ok { OnOk result (K.failed output.new ≡ K.failed output.old) }
     ensures beginning { OnErr result (AppendsBeginning (K.written output.old) (K.written output.new)
-        (schedule_lines (O.machine world.old.object) world.old.state schedule.now)) }
+        (schedule_lines (O.machine world.old.object) world.old.state (entries_in O.read (lines_left lines.entry)))) }
     ensures err { OnErr result (K.failed output.new ≡ true) }
 {
     let mut buffer = [0u8; LONGEST_LINE];
     let mut used = 0;
-    for (place, entry) in schedule.iter().enumerate() {
-        let (party, action) = *entry;
-        let outcome = with_begin(begins, party, place, world.act(party, action));
-        let numbers = O::numbers(world.words());
-        let start = put_event(place + 1, party, outcome, numbers, &mut buffer);
-        used = write_line(&buffer[start..], piece, used, output)?;
+    let mut place = 0;
+    let mut rest = lines;
+    while let Some(bytes) = rest {
+        let (line, further) = first_line(bytes);
+        if let Some((party, action)) = entry::<O>(line) {
+            let outcome = with_begin(begins, party, place, world.act(party, action));
+            let numbers = O::numbers(world.words());
+            let start = put_event(place + 1, party, outcome, numbers, &mut buffer);
+            used = write_line(&buffer[start..], piece, used, output)?;
+            place += 1;
+        }
+        rest = further;
     }
     Ok(used)
 }
@@ -218,25 +229,26 @@ fn write_end<K: Sink>(
     write_whole(output, &piece[..used])
 }
 
-/// Plays a schedule in a world, and writes its transcript.
+/// Plays the entries in lines, and writes the transcript.
 fn play<O: Spelled, K: Sink>(
     world: &mut World<O>,
     begins: &mut [Option<usize>],
-    schedule: &[(usize, Move<O::Call, u64>)],
+    lines: Rest,
     piece: &mut [u8],
     output: &mut K,
 ) -> Result<(), Failed>
     requires parties { length begins.old ≡ length world.old.state.seats }
     requires none_begun { (p : ℕ) → begin_of begins.old p ≡ None }
     requires room { length piece.old ≡ PIECE }
+    requires counted { length (lines_left lines) < 2 ^ 64 }
     ensures bytes { OnOk result (Appends (K.written output.old) (K.written output.new)
-        (transcript_from (O.machine world.old.object) world.old.state schedule.now)) }
+        (transcript_from (O.machine world.old.object) world.old.state (entries_in O.read (lines_left lines.entry)))) }
     ensures ok { OnOk result (K.failed output.new ≡ K.failed output.old) }
     ensures beginning { OnErr result (AppendsBeginning (K.written output.old) (K.written output.new)
-        (transcript_from (O.machine world.old.object) world.old.state schedule.now)) }
+        (transcript_from (O.machine world.old.object) world.old.state (entries_in O.read (lines_left lines.entry)))) }
     ensures err { OnErr result (K.failed output.new ≡ true) }
 {
-    let used = write_events(world, begins, schedule, piece, output)?;
+    let used = write_events(world, begins, lines, piece, output)?;
     write_end(
         O::numbers(world.words()),
         world.value(),
@@ -246,27 +258,29 @@ fn play<O: Spelled, K: Sink>(
     )
 }
 
-/// Plays a schedule in a world of its own, and writes the text of its transcript.
+/// Plays the entries in lines in a world of their own, and writes the text of the transcript.
 ///
-/// It makes and writes each line as it plays the move, without a list of events. All memory is there before that.
+/// It reads each entry, plays it and writes its line, without a list of entries or events. All memory is there before
+/// that. A line that spells no entry is left out, so the caller checks the lines first.
 pub fn write_transcript<O: Spelled, K: Sink>(
     alloc: Global,
     object: O,
     parties: usize,
-    schedule: &[(usize, Move<O::Call, u64>)],
+    lines: Rest,
     output: &mut K,
 ) -> Result<(), RunError>
+    requires counted { length (lines_left lines) < 2 ^ 64 }
     ensures bytes { OnOk result (Appends (K.written output.old) (K.written output.new)
-        (transcript_text (O.machine object) parties schedule.now)) }
+        (transcript_text (O.machine object) parties (entries_in O.read (lines_left lines.entry)))) }
     ensures ok { OnOk result (K.failed output.new ≡ K.failed output.old) }
     ensures stops { IfErr result (StopsWriting (λ e. e ≡ Memory) (output.new ≡ output.old)
         ((K.failed output.new ≡ true) × AppendsBeginning (K.written output.old) (K.written output.new)
-        (transcript_text (O.machine object) parties schedule.now))) }
+        (transcript_text (O.machine object) parties (entries_in O.read (lines_left lines.entry))))) }
 {
     let mut world = World::new(alloc, object, parties)?;
     let mut begins = no_begins(alloc, parties)?;
     let mut piece = buffer(alloc, PIECE)?;
-    match play(&mut world, &mut begins, schedule, &mut piece, output) {
+    match play(&mut world, &mut begins, lines, &mut piece, output) {
         Ok(()) => Ok(()),
         Err(Failed) => Err(RunError::Write),
     }

@@ -7,6 +7,7 @@ ghost use Rattle.spin_text.specs.Lines.{words_by_line, words_of};
 ghost use Rattle.spin_text.specs.Reading.{words_left, lines_left, is_end, read_number, word_at, number_at, last_word, last_number, parts_left, named, only_named};
 
 use crate::numbers::number_of;
+use memchr::memchr;
 
 /// The rest of a line, or of all lines. `None` means that nothing is left, not even an empty word or line.
 ///
@@ -17,11 +18,17 @@ use crate::numbers::number_of;
 /// ```
 pub type Rest<'a> = Option<&'a [u8]>;
 
-/// Returns the place of the first such byte. Words and lines are short, so it looks at one byte after the other.
+/// The number of bytes from which on [`memchr`] is quicker than a loop, since it compares as many at once.
+const WIDE: usize = 32;
+
+/// Returns the place of the first such byte. Most lines are short, and what is left of all lines is not.
 #[inline(always)]
 fn first_place(separator: u8, bytes: &[u8]) -> Option<usize>
     ensures { IsFirstByte (is_byte separator) bytes.now result }
 {
+    if bytes.len() >= WIDE {
+        return memchr(separator, bytes);
+    }
     for i in 0..bytes.len() {
         if bytes[i] == separator {
             return Some(i);

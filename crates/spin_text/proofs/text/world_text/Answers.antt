@@ -1,5 +1,6 @@
-use Rattle.std.proofs.Common.{List, ℕ, ◌∙◌, sym, subst}
+use Rattle.std.proofs.Common.{List, ℕ, ◌∙◌, sym, subst, arith}
 use Rattle.spin_text.specs.Texts.{ReadsAll}
+use Rattle.spin_text.proofs.Cuts.{lines_within}
 use Rattle.spin_text.proofs.Options.{on_ok}
 use Rattle.spin_text.proofs.Scripts.{world_plays, world_stops}
 use Rattle.spin_text.proofs.text.world_text.Goals as goal
@@ -18,3 +19,7 @@ returns-clause-stops g c =
     let P : List ℕ → Type 0 = ReadsAll (g.I.Source.remaining c.args.input.now) (g.I.Source.remaining c.read_all.new.input) in
     let reads = subst P (sym c.deref.ensures.value) c.in_ok-bytes.ensures.bytes in
     world_stops c.play.result _ _ _ _ _ _ _ reads _ (c.in_ok-bytes.ensures.ok ∙ c.requires.input) c.play.ensures.stops
+
+pub play-requires : goal.play-requires
+play-requires g c =
+    record { counted = omega (arith, lines_within c.deref.result.now, c.deref.ensures.len, c.in_ok-bytes.bytes.small, c.in_ok-bytes.bytes.ok) }

@@ -1,6 +1,6 @@
 use Rattle.std.proofs.Common.{List, ℕ, ◌++◌, take, sym, subst}
 use Rattle.spin_text.specs.Ends.{AppendsBut}
-use Rattle.spin_text.specs.Reading.{numbers_of}
+use Rattle.spin_text.specs.Reading.{entries_in, lines_left, numbers_of}
 use Rattle.spin_text.specs.Transcripts.{end_line}
 use Rattle.spin_text.proofs.Appended.{but_line, but_last, but_beginning}
 use Rattle.spin_text.proofs.Lines.{last_line}
@@ -14,7 +14,7 @@ returns-clause-bytes g c =
     AppendsBut (g.K.Sink.written c.args.output.now) (g.K.Sink.written c.write_events.new.output) t
     (take c.in_ok-used.used c.write_events.new.piece ++ end) in
     let whole =
-    last_line (g.O.Object.machine c.args.world.now.object) c.args.world.now.state c.write_events.new.world.state c.args.schedule.now
+    last_line (g.O.Object.machine c.args.world.now.object) c.args.world.now.state c.write_events.new.world.state (entries_in g.O.Spelled.read (lines_left c.args.lines))
     c.words.result _ c.value.result c.in_ok-used.ensures.state c.words.ensures (c.numbers.ensures c.args.world.now.object) c.value.ensures
     in
     on_ok c.write_end.result _ _ (but_last _ _ _ _ _ (subst P (sym whole) (but_line _ _ _ _ end c.in_ok-used.ensures.bytes))) c.write_end.ensures.bytes
@@ -26,7 +26,7 @@ returns-clause-beginning g c =
     AppendsBut (g.K.Sink.written c.args.output.now) (g.K.Sink.written c.write_events.new.output) t
     (take c.in_ok-used.used c.write_events.new.piece ++ end) in
     let whole =
-    last_line (g.O.Object.machine c.args.world.now.object) c.args.world.now.state c.write_events.new.world.state c.args.schedule.now
+    last_line (g.O.Object.machine c.args.world.now.object) c.args.world.now.state c.write_events.new.world.state (entries_in g.O.Spelled.read (lines_left c.args.lines))
     c.words.result _ c.value.result c.in_ok-used.ensures.state c.words.ensures (c.numbers.ensures c.args.world.now.object) c.value.ensures
     in
     on_err c.write_end.result _ _ (but_beginning _ _ _ _ _ (subst P (sym whole) (but_line _ _ _ _ end c.in_ok-used.ensures.bytes)))

@@ -1,20 +1,28 @@
 -- the first moves were played, and their lines were written but for a piece
-use Rattle.std.proofs.Common.{◌≡◌, ◌≤◌, ◌+◌, length, take}
+use Rattle.std.proofs.Common.{◌≡◌, ◌≤◌, ◌+◌, length, take, drop}
 use Rattle.spin_text.specs.declared.piece.TheConstants.{LONGEST_LINE, PIECE}
 use Rattle.spin_text.specs.Ends.{AppendsBut}
+use Rattle.spin_text.specs.Reading.{entries_in, lines_left}
 use Rattle.spin_text.specs.Transcripts.{schedule_lines}
+use Rattle.spin_text.proofs.Cuts.{bytes_left}
 use Rattle.spin_text.proofs.Lines.{Told}
 use Rattle.spin_text.proofs.transcript.write_events.Given as goal
 
-abbrev pub invariant-loop-place : goal.invariant-loop-place
-invariant-loop-place g l =
+abbrev pub invariant-loop-rest : goal.invariant-loop-rest
+invariant-loop-rest g l =
+    let schedule = entries_in g.O.Spelled.read (lines_left l.fn.lines) in
     record {
-      told : Told (g.O.Object.machine l.initial.world.object) l.initial.world.state l.world.state l.begins l.schedule l.place;
+      left : drop l.place schedule ≡ entries_in g.O.Spelled.read (lines_left l.rest);
+      counted : l.place + length (lines_left l.rest) ≤ length (lines_left l.fn.lines);
+      told : Told (g.O.Object.machine l.initial.world.object) l.initial.world.state l.world.state l.begins schedule l.place;
       object : l.world.object ≡ l.initial.world.object;
       line : length l.buffer ≡ LONGEST_LINE;
       piece : length l.piece ≡ PIECE;
       room : l.used + LONGEST_LINE ≤ PIECE;
       written : AppendsBut (g.K.Sink.written l.initial.output) (g.K.Sink.written l.output)
-          (schedule_lines (g.O.Object.machine l.initial.world.object) l.initial.world.state (take l.place l.schedule)) (take l.used l.piece);
+          (schedule_lines (g.O.Object.machine l.initial.world.object) l.initial.world.state (take l.place schedule)) (take l.used l.piece);
       failed : g.K.Sink.failed l.output ≡ g.K.Sink.failed l.initial.output;
     }
+
+abbrev pub decreases-loop-rest : goal.decreases-loop-rest
+decreases-loop-rest g l = bytes_left l.rest
