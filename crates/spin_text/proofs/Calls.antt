@@ -20,7 +20,8 @@ use Rattle.spin_text.specs.Spelling.{Calls}
 use Rattle.spin_text.specs.Reading.{◌>>=◌, is_end, last_word, last_number, read_flag_call, read_ticket_call, read_rw_call, read_fair_call, read_barrier_call, named, only_named, read_try_call_once, read_once_call}
 use Rattle.spin_text.specs.Readable.{ReadsCalls}
 use Rattle.spin_text.proofs.Options.{chosen, bound, some_is, and_true}
-use Rattle.spin_text.proofs.Moves.{is_text, front, ends, last_word_takes, last_number_takes, last_number_again}
+use Rattle.spin_text.proofs.Moves.{is_text, front, ends, last_word_takes}
+use Rattle.spin_text.proofs.Numerals.{last_number_takes, last_number_again}
 
 module _ {C : Type 0} (calls : Calls C) where
   abbrev IsCall : List (List ℕ) → C → Type 0

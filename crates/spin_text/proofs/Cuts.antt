@@ -1,12 +1,12 @@
 -- Bytes cut at a separator, and at line feeds.
-use Rattle.std.proofs.Common.{◌≡◌, ℕ, ◌+◌, ◌-◌, ◌<◌, ◌≤◌, ◌==◌, cond, Bool, true, false, Option, Some, None, List, [], ◌∷◌, ◌++◌, length, take, drop, map, get_or, refl, sym, ◌∙◌, ap, arith, length-take, length-drop}
+use Rattle.std.proofs.Common.{◌≡◌, ℕ, zero, suc, ◌+◌, ◌-◌, ◌<◌, ◌≤◌, ◌==◌, cond, Bool, true, false, Option, Some, None, List, [], ◌∷◌, ◌++◌, length, take, drop, map, get_or, refl, sym, ◌∙◌, ap, arith, length-take, length-drop}
 use Rattle.std.specs.Borrow.{Bor}
-use Rattle.std.specs.List.{slice_split, join_with_byte}
+use Rattle.std.specs.List.{slice_split, onto_first, join_with_byte}
 use Rattle.std.proofs.lemmas.Bool.{eqb-true}
 use Rattle.std.proofs.lemmas.Grind.{common_steps}
 use Rattle.std.proofs.lemmas.List.{length-map, get_or_default, get_or-take}
 use Rattle.std.proofs.lemmas.List.Sums.{count_by-le-length}
-use Rattle.std.proofs.lemmas.List.Splits.{slice_split_none, slice_split_at, length-slice_split, join_with_byte-slice_split}
+use Rattle.std.proofs.lemmas.List.Splits.{slice_split_none, slice_split_at, slice_split-cons_no, length-slice_split, join_with_byte-slice_split}
 use Rattle.memchr.specs.Find.{Nowhere, NoneBefore, Passes, is_byte}
 use Rattle.spin_text.specs.Reading.{is_end, parts_left, lines_left}
 use Rattle.spin_text.specs.Lines.{lines_of, words_of, words_by_line, first_and_further, further_lines}
@@ -24,6 +24,29 @@ not_passing false never = refl
 pub cut_none : (a : ℕ) (bs : List ℕ) → Nowhere (Passes (is_byte a) bs) 0 (length bs) → slice_split (is_byte a) bs ≡ bs ∷ []
 cut_none a bs nowhere =
     slice_split_none (is_byte a) bs (λ k d l. ap (is_byte a) (get_or_default bs k d 0 l) ∙ not_passing _ (nowhere k (omega arith) l))
+
+-- the first word of a line, and the words behind it. No space is before place i, so the word begins as the line does
+pub record FirstWord (line : List ℕ) (i : ℕ) : Type 0 where
+  pub word : List ℕ
+  pub more : List (List ℕ)
+  pub is : words_of line ≡ word ∷ more
+  pub begins : take i word ≡ take i line
+
+some_first : (line : List ℕ) (parts : List (List ℕ)) → words_of line ≡ parts → 0 < length parts → FirstWord line 0
+some_first line [] is some = absurd (omega (arith, some))
+some_first line (word ∷ more) is some = record { word = word; more = more; is = is; begins = refl }
+
+pub first_word : (line : List ℕ) (i : ℕ) → i ≤ length line → Nowhere (Passes (is_byte 32) line) 0 i → FirstWord line i
+first_word line zero there none = some_first line (words_of line) refl (omega (arith, length-slice_split (is_byte 32) line))
+first_word [] (suc i) there none = absurd (omega (arith, there))
+first_word (b ∷ line) (suc i) there none =
+    let after = first_word line i (omega (arith, there)) (λ k low high. none (suc k) (omega arith) (omega (arith, high))) in
+    record {
+      word = b ∷ after.word;
+      more = after.more;
+      is = slice_split-cons_no (is_byte 32) b line (not_passing _ (none 0 (omega arith) (omega arith))) ∙ ap (onto_first b) after.is;
+      begins = ap (λ bs. b ∷ bs) after.begins;
+    }
 
 around : (bs : List ℕ) (at : ℕ) → at < length bs → bs ≡ take at bs ++ (get_or bs at 0 ∷ drop (at + 1) bs)
 around bs at l = grind (arith, common_steps)

@@ -10,7 +10,8 @@ use Rattle.spin_text.specs.Objects.{CallOf, calls_of, header_words, HeaderFits, 
 use Rattle.spin_text.specs.Reading.{◌>>=◌, number_at, number_within, last_number, last_parties, read_flag_header, read_ticket_header, read_rw_header, read_fair_header, read_barrier_header, read_once_header, read_header, read_flag_call, read_ticket_call, read_rw_call, read_fair_call, read_barrier_call, read_once_call}
 use Rattle.spin_text.specs.Readable.{ReadsCalls}
 use Rattle.spin_text.proofs.Options.{chosen, bound, some_is, and_true}
-use Rattle.spin_text.proofs.Moves.{front, last_number_takes, last_number_again, number_at_takes, number_at_again}
+use Rattle.spin_text.proofs.Moves.{front}
+use Rattle.spin_text.proofs.Numerals.{last_number_takes, last_number_again, number_at_takes, number_at_again}
 use Rattle.spin_text.proofs.Calls.{flag_reads, ticket_reads, rw_reads, fair_reads, barrier_reads, once_reads}
 
 parties_take : (ws : List (List ℕ)) (n : ℕ) → last_parties ws ≡ Some n → PartiesFit n × (ws ≡ decimal n ∷ [])

@@ -1,14 +1,14 @@
 -- An entry is read as it is spelled.
-use Rattle.std.proofs.Common.{◌≡◌, ℕ, ◌^◌, ◌<◌, true, ◌&&◌, Option, Some, List, [], ◌∷◌, codes, decimal, refl, ◌∙◌, ap, subst}
+use Rattle.std.proofs.Common.{◌≡◌, ℕ, true, ◌&&◌, Option, Some, List, [], ◌∷◌, codes, decimal, refl, ◌∙◌, ap, subst}
 use Rattle.std.specs.Str.{bytes_eq}
 use Rattle.std.proofs.lemmas.Slice.Eq.{bytes_eq-Decides}
 use Rattle.spin_world_core.specs.declared.schedule.Move.{Move}
 use Rattle.spin_world_core.specs.declared.schedule.Move.TheVariants.{Begin, Step, Weak, Read, Write, Leak, OwnerGet, OwnerSet}
 use Rattle.spin_text.specs.Spelling.{Calls, move_words, MoveFits, entry_words, EntryFits}
-use Rattle.spin_text.specs.Reading.{◌>>=◌, read_number, number_at, last_word, last_number, owner_move, plain_move, read_move, read_entry, is_end}
+use Rattle.spin_text.specs.Reading.{◌>>=◌, number_at, last_word, last_number, owner_move, plain_move, read_move, read_entry, is_end}
 use Rattle.spin_text.specs.Readable.{ReadsCalls}
 use Rattle.spin_text.proofs.Options.{chosen, bound, some_is, and_true}
-use Rattle.spin_text.proofs.Numerals.{read_number_some, read_number_takes}
+use Rattle.spin_text.proofs.Numerals.{number_at_takes, number_at_again, last_number_takes, last_number_again}
 
 pub is_text : (w v : List ℕ) → bytes_eq w v ≡ true → w ≡ v
 is_text w v same = (bytes_eq-Decides w v).0 same
@@ -28,31 +28,6 @@ unfolding last_word
 last_word_takes [] w is = absurd (cc)
 last_word_takes (v ∷ []) w is = ap (λ x. x ∷ []) (some_is is)
 last_word_takes (v ∷ x ∷ ws) w is = absurd (cc)
-
--- one number
-pub last_number_takes : (ws : List (List ℕ)) (n : ℕ) → last_number ws ≡ Some n → (n < 2 ^ 64) × (ws ≡ decimal n ∷ [])
-unfolding last_number
-last_number_takes ws n =
-    bound (last_word ws) read_number n ((n < 2 ^ 64) × (ws ≡ decimal n ∷ [])) (λ w one is.
-    let number = read_number_takes w n is in (number.0, last_word_takes ws w one ∙ ap (λ x. x ∷ []) number.1))
-
-pub last_number_again : (n : ℕ) → n < 2 ^ 64 → last_number (decimal n ∷ []) ≡ Some n
-unfolding last_number last_word
-last_number_again n fits = read_number_some (decimal n) n fits refl
-
--- a number and what is behind it
-pub number_at_takes : (ws : List (List ℕ)) (x : ℕ × List (List ℕ)) → number_at ws ≡ Some x → (x.0 < 2 ^ 64) × (ws ≡ decimal x.0 ∷ x.1)
-unfolding number_at
-number_at_takes [] x is = absurd (cc)
-number_at_takes (w ∷ ws) x one =
-    bound (read_number w) (λ n. Some (n, ws)) x ((x.0 < 2 ^ 64) × (w ∷ ws ≡ decimal x.0 ∷ x.1)) (λ n found is.
-    let number = read_number_takes w n found in
-    let P : ℕ × List (List ℕ) → Type 0 = λ y. (y.0 < 2 ^ 64) × (w ∷ ws ≡ decimal y.0 ∷ y.1) in
-    subst P (some_is is) (number.0, ap (λ v. v ∷ ws) number.1)) one
-
-pub number_at_again : (n : ℕ) (ws : List (List ℕ)) → n < 2 ^ 64 → number_at (decimal n ∷ ws) ≡ Some (n, ws)
-unfolding number_at
-number_at_again n ws fits = ap (λ o. o >>= λ k. Some (k, ws)) (read_number_some (decimal n) n fits refl)
 
 module _ {C : Type 0} (calls : Calls C) (read : List (List ℕ) → Option C) (reads : ReadsCalls calls read) where
   abbrev IsMove : List (List ℕ) → Move C ℕ → Type 0

@@ -1,16 +1,21 @@
 -- Numbers as words: what is printed is read, and what is read was printed so.
-use Rattle.std.proofs.Common.{◌≡◌, ℕ, suc, zero, ◌+◌, ◌*◌, ◌<◌, ◌≤◌, ◌^◌, true, ◌&&◌, Option, Some, None, IfSome, IfNone, nat_lt, List, [], ◌∷◌, decimal, length, take, get_or, arith, sym, ◌∙◌, ap, slice_index, subst, refl, cond}
+use Rattle.std.proofs.Common.{◌≡◌, ℕ, suc, zero, ◌+◌, ◌*◌, ◌<◌, ◌≤◌, ◌^◌, true, ◌&&◌, Option, Some, None, IfSome, IfNone, nat_lt, List, [], ◌∷◌, decimal, length, take, get_or, arith, sym, ◌∙◌, ap, slice_index, subst, refl, cond, length-take, get_or-take, take_all, eqb-true}
 use Rattle.std.specs.Char.{digit_value}
+use Rattle.std.specs.List.{join_with_byte}
 use Rattle.std.specs.Str.{bytes_eq}
 use Rattle.std.specs.Str.Parse.{AllDigits, digits_value}
-use Rattle.std.proofs.lemmas.Str.Parse.{numerals_by_value, tells_digits, digits_value-take-le}
+use Rattle.std.proofs.lemmas.Str.Parse.{numerals_by_value, tells_digits, not_in_digits, digits_value-take-le}
 use Rattle.std.proofs.lemmas.Int.Digits.{digits_value_more}
+use Rattle.std.proofs.lemmas.List.Splits.{join_with_byte-slice_split}
 use Rattle.std.proofs.lemmas.Slice.Eq.{bytes_eq-Decides}
 use Rattle.std.proofs.lemmas.Bool.{lt-ltb, ltb-true}
 use Rattle.std.proofs.lemmas.Fmt.{decimal_is_IsNumeral, decimal-digits_value, decimal_digit, first_decimal}
+use Rattle.memchr.specs.Find.{Nowhere, Passes, is_byte}
 use Rattle.spin_text.specs.Numbers.{IsNumber}
-use Rattle.spin_text.specs.Reading.{read_number}
-use Rattle.spin_text.proofs.Options.{chosen, some_is, and_true}
+use Rattle.spin_text.specs.Lines.{words_of}
+use Rattle.spin_text.specs.Reading.{◌>>=◌, is_end, read_number, number_at, last_number}
+use Rattle.spin_text.proofs.Options.{chosen, bound, some_is, and_true}
+use Rattle.spin_text.proofs.Cuts.{cut_none, first_word}
 
 -- a number is printed as the word that it was read from
 pub prints_back : (word : List ℕ) (n : ℕ) → n < 2 ^ 64 → IsNumber word n → word ≡ decimal n
@@ -53,29 +58,116 @@ pub read_number_none : (w : List ℕ) (r : Option ℕ) → r ≡ read_number w �
 read_number_none w None is none = refl
 read_number_none w (Some n) is none = let found = read_number_takes w n (sym is) in absurd (none n found.0 found.1)
 
--- what `number` says of a word is what is read
-pub number_is_read : (w : List ℕ) (r : Option ℕ) → IfSome r (λ n. (n < 2 ^ 64) × IsNumber w n) → IfNone r ((n : ℕ) → n < 2 ^ 64 → ¬ (IsNumber w n)) → r ≡ read_number w
-number_is_read w None some none =
-    read_number_none w (read_number w) refl (λ n fits is.
-    none n fits (let P : List ℕ → Type 0 = λ v. IsNumber v n in subst P (sym is) (is_number n fits)))
-number_is_read w (Some n) some none = sym (read_number_some w n some.0 (prints_back w n some.0 some.1))
+-- a line whose first word is no number begins with none
+pub no_number_first : (line word : List ℕ) (more : List (List ℕ)) → words_of line ≡ word ∷ more
+    → ((n : ℕ) → n < 2 ^ 64 → ¬ (IsNumber word n)) → number_at (words_of line) ≡ None
+unfolding number_at
+no_number_first line word more is none =
+    let unread = read_number_none word (read_number word) refl (λ n fits prints.
+    none n fits (subst (λ w. IsNumber w n) (sym prints) (is_number n fits))) in
+    ap number_at is ∙ sym (ap (λ r. r >>= λ n. Some (n, more)) unread)
 
--- the digits that were read so far, and that the next byte is none, or takes their number past 64 bits
+-- digits are a number, unless there are none, or more than one of which the first is 0
+pub number_first : (line word : List ℕ) (more : List (List ℕ)) (n : ℕ) → words_of line ≡ word ∷ more
+    → n < 2 ^ 64 → AllDigits 10 word → digits_value 10 word ≡ n → 0 < length word → (slice_index word 0 ≡ 48 → length word ≡ 1)
+    → number_at (words_of line) ≡ Some (n, more)
+unfolding number_at
+number_first line word more n is fits digits value some no_zero =
+    let number : IsNumber word n = record { digits = (some, digits); no_leading_zero = no_zero; value = value } in
+    ap number_at is ∙ ap (λ r. r >>= λ n. Some (n, more)) (read_number_some word n fits (prints_back word n fits number))
+
+-- each digit of a number
 digit_value_at : (word : List ℕ) (i : ℕ) → AllDigits 10 word → i < length word → digit_value (get_or word i 0) < 10
 digit_value_at [] i digits lt = absurd (omega (arith, lt))
 digit_value_at (c ∷ word) zero digits lt = digits.0
 digit_value_at (c ∷ word) (suc i) digits lt = digit_value_at word i digits.1 (omega (arith, lt))
 
-pub stuck : (word : List ℕ) (i number digit : ℕ) → number ≡ digits_value 10 (take i word) → i < length word → digit ≡ get_or word i 0 → (digit_value digit < 10 → 2 ^ 64 ≤ number * 10 + digit_value digit) → (n : ℕ) → n < 2 ^ 64 → ¬ (IsNumber word n)
-stuck word i number digit so_far lt read past n fits is =
-    let same : digit_value digit ≡ digit_value (get_or word i 0) = ap digit_value read in
-    let small : digit_value digit < 10 = omega (arith, same, digit_value_at word i is.digits.1 lt) in
-    let more : digits_value 10 (take (i + 1) word) ≡ digits_value 10 (take i word) * 10 + digit_value (get_or word i 0) = digits_value_more 10 word i lt in
-    let part : digits_value 10 (take (i + 1) word) ≤ digits_value 10 word = digits_value-take-le 10 word (i + 1) (omega arith) in
-    let big = past small in
-    omega (arith, same, more, part, big, so_far, is.value, fits)
+-- behind digits, which stand for this number, comes a byte that is no digit, or takes the number past 64 bits
+module _ (line : List ℕ) (i number : ℕ) (lt : i < length line) (so_far : digits_value 10 (take i line) ≡ number)
+    (past : digit_value (get_or line i 0) < 10 → 2 ^ 64 ≤ number * 10 + digit_value (get_or line i 0)) where
+  -- a word with these bytes in front is no number
+  stuck : (word : List ℕ) → take (i + 1) word ≡ take (i + 1) line → (n : ℕ) → n < 2 ^ 64 → ¬ (IsNumber word n)
+  stuck word begins n fits is =
+      let there : i < length word = omega (arith, length-take (i + 1) word, ap length begins, length-take (i + 1) line, lt) in
+      let same : get_or word i 0 ≡ get_or line i 0 =
+      sym (get_or-take (i + 1) word i 0 (omega arith)) ∙ ap (λ bs. get_or bs i 0) begins ∙ get_or-take (i + 1) line i 0 (omega arith) in
+      let big = past (subst (λ c. digit_value c < 10) same (digit_value_at word i is.digits.1 there)) in
+      omega (
+        arith,
+        ap (digits_value 10) begins,
+        digits_value_more 10 line i lt,
+        digits_value-take-le 10 word (i + 1) (omega arith),
+        big,
+        so_far,
+        is.value,
+        fits,
+      )
 
--- what is said of the number that bytes are is that it is read
-pub number_read : (w : List ℕ) (r : Option ℕ) → IfSome r (λ n. n < 2 ^ 64) → IfSome r (λ n. IsNumber w n) → IfNone r ((n : ℕ) → n < 2 ^ 64 → ¬ (IsNumber w n)) → r ≡ read_number w
-number_read w None fits some none = number_is_read w None tt none
-number_read w (Some n) fits some none = number_is_read w (Some n) (fits, some) tt
+  -- so the line begins with no number
+  pub no_number_at : Nowhere (Passes (is_byte 32) line) 0 (i + 1) → number_at (words_of line) ≡ None
+  no_number_at none =
+      let first = first_word line (i + 1) (omega (arith, lt)) none in
+      no_number_first line first.word first.more first.is (stuck first.word first.begins)
+
+-- no space is among digits
+pub no_space : (line : List ℕ) (i : ℕ) → i ≤ length line → AllDigits 10 (take i line) → Nowhere (Passes (is_byte 32) line) 0 i
+no_space line i there digits k low high here =
+    let numerals = numerals_by_value (AllDigits 10) tells_digits in
+    not_in_digits numerals (take i line) 32 digits (λ range. absurd (omega (arith, range))) k (omega (arith, high, there, length-take i line))
+    (get_or-take i line k 0 high ∙ eqb-true _ _ here)
+
+-- so a number is a line of one word
+alone : (word : List ℕ) (n : ℕ) → IsNumber word n → words_of word ≡ word ∷ []
+alone word n is =
+    let digits = subst (AllDigits 10) (sym (take_all (length word) word (omega arith))) is.digits.1 in
+    cut_none 32 word (no_space word (length word) (omega arith) digits)
+
+-- the only word of a line has the bytes of the line
+same_bytes : (line word : List ℕ) → words_of line ≡ word ∷ [] → line ≡ word
+same_bytes line word is = sym (join_with_byte-slice_split 32 line) ∙ ap (join_with_byte 32) is
+
+-- a number and what is behind it
+pub number_at_takes : (ws : List (List ℕ)) (x : ℕ × List (List ℕ)) → number_at ws ≡ Some x → (x.0 < 2 ^ 64) × (ws ≡ decimal x.0 ∷ x.1)
+unfolding number_at
+number_at_takes [] x is = absurd (cc)
+number_at_takes (w ∷ ws) x one =
+    bound (read_number w) (λ n. Some (n, ws)) x ((x.0 < 2 ^ 64) × (w ∷ ws ≡ decimal x.0 ∷ x.1)) (λ n found is.
+    let number = read_number_takes w n found in
+    let P : ℕ × List (List ℕ) → Type 0 = λ y. (y.0 < 2 ^ 64) × (w ∷ ws ≡ decimal y.0 ∷ y.1) in
+    subst P (some_is is) (number.0, ap (λ v. v ∷ ws) number.1)) one
+
+pub number_at_again : (n : ℕ) (ws : List (List ℕ)) → n < 2 ^ 64 → number_at (decimal n ∷ ws) ≡ Some (n, ws)
+unfolding number_at
+number_at_again n ws fits = ap (λ o. o >>= λ k. Some (k, ws)) (read_number_some (decimal n) n fits refl)
+
+-- one number
+no_more : (ws : List (List ℕ)) → is_end ws ≡ true → ws ≡ []
+no_more [] end = refl
+no_more (w ∷ ws) end = absurd (cc)
+
+pub last_number_takes : (ws : List (List ℕ)) (n : ℕ) → last_number ws ≡ Some n → (n < 2 ^ 64) × (ws ≡ decimal n ∷ [])
+unfolding last_number
+last_number_takes ws n =
+    bound (number_at ws) _ n ((n < 2 ^ 64) × (ws ≡ decimal n ∷ [])) (λ x found.
+    chosen (is_end x.1) (Some x.0) None n ((n < 2 ^ 64) × (ws ≡ decimal n ∷ [])) (λ end is.
+    let number = number_at_takes ws x found in
+    let P : ℕ → Type 0 = λ k. (k < 2 ^ 64) × (ws ≡ decimal k ∷ []) in
+    subst P (some_is is) (number.0, number.1 ∙ ap (λ more. decimal x.0 ∷ more) (no_more x.1 end))) (λ _ is. absurd (cc)))
+
+pub last_number_again : (n : ℕ) → n < 2 ^ 64 → last_number (decimal n ∷ []) ≡ Some n
+unfolding last_number
+last_number_again n fits = ap (λ o. o >>= λ x. cond (is_end x.1) (Some x.0) None) (number_at_again n [] fits)
+
+-- what is read of a word as a line is the number that it is
+pub number_alone : (word : List ℕ) (r : Option ℕ) → r ≡ last_number (words_of word) → IfSome r (λ n. IsNumber word n)
+number_alone word None read = tt
+number_alone word (Some n) read =
+    let one = last_number_takes (words_of word) n (sym read) in
+    subst (λ w. IsNumber w n) (sym (same_bytes word (decimal n) one.1)) (is_number n one.0)
+
+pub no_number_alone : (word : List ℕ) (r : Option ℕ) → r ≡ last_number (words_of word)
+    → IfNone r ((n : ℕ) → n < 2 ^ 64 → ¬ (IsNumber word n))
+no_number_alone word (Some n) read = tt
+no_number_alone word None read = λ n fits is.
+    let prints = ap (λ w. last_number (w ∷ [])) (prints_back word n fits is) in
+    absurd (cc (read, ap last_number (alone word n is), prints, last_number_again n fits))

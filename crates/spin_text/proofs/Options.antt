@@ -1,5 +1,5 @@
 -- Steps of reading: a test, or one result after another. And what a result says.
-use Rattle.std.proofs.Common.{◌≡◌, Bool, true, false, ◌&&◌, Option, Some, None, Result, Ok, Err, OnOk, OnErr, IfErr, cond, refl}
+use Rattle.std.proofs.Common.{◌≡◌, Bool, true, false, ◌&&◌, Option, Some, None, Result, Ok, Err, OnOk, OnErr, IfErr, IfNone, cond, refl}
 use Rattle.spin_text.specs.Reading.{◌>>=◌}
 
 pub some_is : {A : Type 0} {x y : A} → Some x ≡ Some y → x ≡ y
@@ -36,3 +36,7 @@ on_err (Err e) P Q then p = then p
 pub if_err : {X E : Type 0} (r : Result X E) (P Q : E → Type 0) → ((e : E) → P e → Q e) → IfErr r P → IfErr r Q
 if_err (Ok x) P Q then p = tt
 if_err (Err e) P Q then p = then e p
+
+pub none_said : {A : Type 0} (r : Option A) (P : Type 0) → P → IfNone r P
+none_said None P p = p
+none_said (Some x) P p = tt

@@ -65,8 +65,8 @@ last_word ws = do
 
 unfoldable pub last_number : List (List ℕ) → Option ℕ
 last_number ws = do
-  w ← last_word ws
-  read_number w
+  n ← number_at ws
+  if is_end n.1 then Some n.0 else None
 
 unfoldable pub last_parties : List (List ℕ) → Option ℕ
 last_parties ws = do

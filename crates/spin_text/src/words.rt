@@ -1,12 +1,13 @@
 //! Lines of bytes, and words of a line. Begin with [`first_line`] and [`word`].
-ghost use Rattle.std.specs.Prelude.{◌≡◌, ◌<◌, ◌∷◌, ◌==◌, [], length, IfSome, option_map, nat_le, ◌&&◌, map};
+ghost use Rattle.std.specs.Prelude.{◌≡◌, ◌<◌, ◌≤◌, ◌+◌, ◌*◌, ◌^◌, ◌∷◌, ◌==◌, [], length, IfSome, IfNone, None, option_map, map};
+ghost use Rattle.std.specs.Char.{digit_value};
 ghost use Rattle.std.specs.List.{slice_split};
 ghost use Rattle.std.specs.Str.{bytes_eq};
+ghost use Rattle.std.specs.Str.Parse.{AllDigits, digits_value};
 ghost use Rattle.memchr.specs.Find.{IsFirstByte, is_byte};
 ghost use Rattle.spin_text.specs.Lines.{words_by_line, words_of};
 ghost use Rattle.spin_text.specs.Reading.{words_left, lines_left, is_end, read_number, word_at, number_at, last_word, last_number, parts_left, named, only_named};
 
-use crate::numbers::number_of;
 use memchr::memchr;
 
 /// The rest of a line, or of all lines. `None` means that nothing is left, not even an empty word or line.
@@ -79,10 +80,12 @@ pub fn word(line: Rest) -> Option<(&[u8], Rest)>
 }
 
 /// Returns `true` if a word is this one.
+#[inline(always)]
 pub fn is_word(word: &[u8], name: &[u8]) -> bool
     ensures { result ≡ bytes_eq word.now name.now }
 {
-    word == name
+    // Where the name is known, `starts_with` compares in place. `==` calls a function from the fifth byte on.
+    word.len() == name.len() && name.starts_with(word)
 }
 
 /// Returns `true` if no word of the line is left.
@@ -95,20 +98,49 @@ pub fn is_over(line: Rest) -> bool
     }
 }
 
-/// Returns the number that a word is, or `None` if it is none.
-fn number_word(word: &[u8]) -> Option<u64>
-    ensures { result ≡ read_number word.now }
+/// Returns the number with one more digit, or `None` if it exceeds `u64::MAX`.
+fn with_digit(number: u64, digit: u8) -> Option<u64>
+    requires digit { digit_value digit < 10 }
+    ensures fits { IfSome result (λ n. n < 2 ^ 64) }
+    ensures some { IfSome result (λ n. n ≡ number * 10 + digit_value digit) }
+    ensures none { IfNone result (2 ^ 64 ≤ number * 10 + digit_value digit) }
 {
-    number_of(word)
+    number.checked_mul(10)?.checked_add((digit - b'0') as u64)
+}
+
+/// Returns the number that the digits before the first space stand for, these digits, and the words after them. `None`
+/// means that the line begins with no number.
+fn digits(line: &[u8]) -> Option<(u64, &[u8], Rest<'_>)>
+    ensures fits { IfSome result (λ x. x.0 < 2 ^ 64) }
+    ensures digits { IfSome result (λ x. AllDigits 10 x.1.now) }
+    ensures value { IfSome result (λ x. digits_value 10 x.1.now ≡ x.0) }
+    ensures parts { IfSome result (λ x. words_of line.now ≡ x.1.now ∷ words_left x.2) }
+    ensures none { IfNone result (number_at (words_of line.now) ≡ None) }
+{
+    let mut number = 0u64;
+    for at in 0..line.len() {
+        let byte = line[at];
+        if !byte.is_ascii_digit() {
+            if byte == b' ' {
+                return Some((number, &line[..at], Some(&line[at + 1..])));
+            }
+            return None;
+        }
+        number = with_digit(number, byte)?;
+    }
+    Some((number, line, None))
 }
 
 /// Returns the number that the first word is, and the words after it.
-#[tactic(auto, unfolding(crate::specs::Reading::number_at))]
 pub fn number_then(line: Rest) -> Option<(u64, Rest)>
     ensures { option_map (λ x. (x.0, words_left x.1)) result ≡ number_at (words_left line.entry) }
 {
-    let (word, rest) = word(line)?;
-    Some((number_word(word)?, rest))
+    let (number, word, rest) = digits(line?)?;
+    let has_leading_zero = word.len() > 1 && word[0] == b'0';
+    if word.is_empty() || has_leading_zero {
+        return None;
+    }
+    Some((number, rest))
 }
 
 /// Returns the only word of a line, or `None` if it has another.
@@ -125,7 +157,8 @@ fn only_word(line: Rest) -> Option<&[u8]>
 pub fn only_number(line: Rest) -> Option<u64>
     ensures { result ≡ last_number (words_left line.entry) }
 {
-    number_word(only_word(line)?)
+    let (number, rest) = number_then(line)?;
+    if is_over(rest) { Some(number) } else { None }
 }
 
 /// Returns what a table has beside a word.
@@ -134,7 +167,7 @@ pub fn named<C: Copy>(mut table: &[(&[u8], C)], word: &[u8]) -> Option<C>
     ensures { result ≡ named (map (λ row. (row.0.now, row.1)) table.entry.now) word.now }
 {
     while let [row, further @ ..] = table {
-        if word == row.0 {
+        if is_word(word, row.0) {
             return Some(row.1);
         }
         table = further;
