@@ -14,7 +14,7 @@ pub struct Team<'a, C, R> {
     /// How many calls a thread makes before it looks whether it is to stop.
     chunk: u64,
     most_chunks: u64,
-    /// Whether all threads were started. Who starts them has the lock until then, so that none begins without the others.
+    /// Whether all threads were started. Their starter has the lock until then, so that none begins without the others.
     complete: sync::Mutex<bool>,
     stop: AtomicBool,
     calls: AtomicU64,

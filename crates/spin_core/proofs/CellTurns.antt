@@ -191,7 +191,7 @@ module _ {M : Type 1} {𝓤 : Ura M} (𝓛 : Logic 𝓤) (R : RattleType) (L : R
     lent_turns is writes reads v = passes writes reads is (λ e. absurd cc) (λ e. absurd cc) v
     lent_turns is writes writes v = keeps writes (λ e. absurd cc) v
 
-  -- ---- where who reads reads for good
+  -- ---- where a reader reads for good
   module _ (fact : Bool → R.Denot → Type 0) where
     abbrev fixed : Way R.Denot
     fixed = fixes fact

@@ -37,7 +37,7 @@ module _ {X : Type 0} (owner : X → ℕ) (rename : X → X) (k q : ℕ) (same :
   abbrev of : ℕ → List X → List X
   of p xs = filter (λ x. owner x == p) xs
 
-  -- where nobody is at k, who is at q was at the place before
+  -- where nobody is at k, a party at q was at the place before
   renames : (xs : List X) → of k xs ≡ [] → of q (map rename xs) ≡ map rename (of (back k q) xs)
   renames [] none = refl
   renames (x ∷ xs) none = grind (arith, same x, same_place k (owner x) q, renames xs)

@@ -79,7 +79,7 @@ one_writer : (s : Plain) → IsExclusive s → count_kind writer s.holders ≤ 1
 one_writer s x = grind (arith, x.writer, count_by-le-length (λ (h : Holder). same_kind writer h.kind) s.holders)
 
 module _ {V : Type 0} (part : V → Part) where
-  -- nobody reads, and who writes is a holder
+  -- nobody reads, and each writer is a holder
   abbrev pub OfHolders : V → Type 0
   OfHolders v = (reading (used_by part v) ≡ 0) × ((p : ℕ) → writing (used_by part v) ≡ count_kind writer (entries_of p (part v)).holders)
 

@@ -16,7 +16,8 @@ use Rattle.spin_step.proofs.InOrder.{in_order-kept, in_order-fresh, cap-kept}
 use Rattle.spin_core.proofs.Views.{number, part_before, own_part, lock_after}
 use Rattle.spin_core.proofs.CellViews.{came_to}
 
--- a lock over the cell: what each view is to the plain lock and how it uses the value, the view of who has nothing, the first word, the second or nothing, and that no two parties use the value who may not
+-- a lock over the cell: what each view is to the plain lock and how it uses the value, the view of a party that has nothing,
+-- the first word, the second or nothing, and that parties use the value together only where they may
 pub record Lock (V S : Type 0) : Type 1 where
   pub part : V → Part
   pub uses : V → Use

@@ -24,7 +24,7 @@ fn reads_at_each_word(rt: HostRuntime) {
     }
 }
 
-/// Words, each with what becomes of it where a writer comes, where who reads upgrades, and where it has asked before.
+/// Words, each with what becomes of it where a writer comes, where a reader upgrades, and where it has asked before.
 const WRITES: &[(usize, Option<usize>, Option<usize>, Option<usize>)] = &[
     (0, Some(1), None, None),
     (1, None, None, None),

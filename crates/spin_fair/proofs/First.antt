@@ -15,7 +15,7 @@ use Rattle.spin_fair.specs.declared.fair.rule.View.{View}
 use Rattle.spin_fair.specs.declared.fair.rule.View.TheVariants.{Idle, Holding}
 use Rattle.spin_fair.specs.Fair.{part, newcomer, starver, StarversFirst}
 
--- a party that comes and holds finds no starver; else who is a newcomer, or a starver, was one
+-- a party that comes and holds finds no starver; else a newcomer, or a starver, was one before
 abbrev pub Fits : Option View → View → List View → Type 0
 Fits None w vs = 0 < newcomer w → sum_by starver vs ≡ 0
 Fits (Some v) w vs = (starver w ≤ starver v) × (newcomer w ≤ newcomer v)

@@ -32,7 +32,7 @@ use Rattle.spin_fair.specs.declared.fair.rule.View.TheVariants.{Idle, Starving, 
 use Rattle.spin_fair.specs.Fair.{part, use_of_view, newcomer, IsFair, won_if_clear, Stops, Stays, HoldsAt, StarvesAt}
 use Rattle.spin_fair.proofs.First.{Fits, first_after, first_without, nobody_starves}
 
--- it is one holder or none, who holds writes, nobody reads, and who uses the value holds
+-- there is one holder or none, a holder writes, nobody reads, and each that uses the value holds
 facts : (v : View) → OfHolders part v × Writes part (part v) × (reading (use_of_view v) ≡ 0) × (writer (use_of_view v) ≤ writer (used_by part v))
 facts Idle = ((refl, λ p. refl), λ p. refl, refl, omega arith)
 facts _ = ((refl, λ p. refl), λ p. refl, refl, omega arith)
@@ -171,7 +171,7 @@ attempts_alone word taken plain least small id n m vs meets at below =
 
 -- What the holder does
 
--- a newcomer, or who was served
+-- a newcomer, or the party that was served
 lets_go : (v : View) → part v ≡ holds writing → Allows IsFair (ways fair) (Some v) (λ n. (n + (2 ^ 64 - 1)) % 2 ^ 64) (becomes Idle 1 0 (Some v))
 lets_go v writer = allows (Some v) (λ n. (n + (2 ^ 64 - 1)) % 2 ^ 64) (becomes Idle 1 0 (Some v)) (λ n vs w is. rw is (omega arith, omega arith)) (λ s p room order one has small.
     let own : entries p s ≡ entries_of p (holds writing) = has.0 ∙ ap (entries_of p) writer in

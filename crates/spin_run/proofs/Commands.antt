@@ -39,7 +39,7 @@ count_stops words workers times Unread Unwritten t (Err Read) asks unread stops 
 count_stops words workers times Unread Unwritten t (Err (BadLine n)) asks unread stops = absurd stops
 count_stops words workers times Unread Unwritten t (Err Write) asks unread stops = inl (unread, stops.0, (workers, times, asks, stops.1))
 
--- who asks for nothing is told how to ask
+-- a command line that asks for nothing is answered with the usage
 pub told_usage : (words : List (List ℕ)) (Unread Unwritten : Type 0) (t : Streams) (failed : Bool) (old new : Option (List ℕ)) (f : Fault) (status : ℕ) → Stops words Unread Unwritten t f → status ≡ status_of f → Tells failed old new (line_of f)
     → AsksNothing words → (status ≡ 2) × Tells failed old new usage_line
 told_usage words Unread Unwritten t failed old new Usage status stops is told none = (is, told)

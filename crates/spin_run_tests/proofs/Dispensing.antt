@@ -23,7 +23,7 @@ abbrev pub point_of : ℕ → DispenserCall → DispenserPoint → Option Hold �
 point_of cap call.Draw (Exchange k) None = looked 1
 point_of cap c l h = starts (begin_of (dispenser_table cap) c h)
 
--- the shape of the lock: nobody queues, and who has drawn reads
+-- the shape of the lock: nobody queues, and a party that has drawn reads
 pub record Drawing (cap : ℕ) (s : Plain) : Type 0 where
   pub no_queue : s.tickets ≡ []
   pub room : s.cap ≡ cap

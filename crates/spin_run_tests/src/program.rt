@@ -67,7 +67,7 @@ impl Ended {
     }
 }
 
-/// Runs the program. Who calls this learns nothing of what [`program`] ensures: the tests look for themselves.
+/// Runs the program. A caller learns nothing of what [`program`] ensures: the tests look for themselves.
 fn program_of<R: AllocGlobal + Threads + Wait + Sync, A: Allocator>(
     rt: &R,
     alloc: A,

@@ -19,7 +19,7 @@ use std::cell::Cell;
 use std::io;
 use std::process::Abort;
 
-/// Plays a text. Who calls this learns nothing of what [`world_text`] ensures: the tests look for themselves.
+/// Plays a text. A caller learns nothing of what [`world_text`] ensures: the tests look for themselves.
 fn play<I: Source, O: Sink>(alloc: Global, input: &mut I, output: &mut O) -> Result<(), RunError>
     requires input { I.failed input.old ≡ false }
     requires output { O.failed output.old ≡ false }

@@ -1,4 +1,4 @@
--- Who may share the rule's own type may share the value that its parties read.
+-- Threads that may share the rule's own type may share the value that its parties read.
 use Rattle.std.proofs.Common.{◌≡◌, ℕ, ◌+◌, ◌-◌, ◌%◌, ap, ◌∙◌, arith, subst}
 use Rattle.std.proofs.Math.Nat.{mod_self, zero-mod}
 use base.Shift.{Keyless}

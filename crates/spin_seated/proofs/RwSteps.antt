@@ -38,7 +38,7 @@ others p q c s apart = ap (λ (e : Entries). e.holders) (entries-other s.lock q 
 pub steady : (p q : ℕ) (c : Call) (s : Locked) → q ≢ p → hold_in p (after_call q c s) ≡ hold_in p s
 steady p q c s apart = ap held (others p q c s apart)
 
--- the places that a pass has who holds so
+-- the places of a pass that holds so
 abbrev pub places : ℕ → Option SeatedHold → List Holder
 places p None = []
 places p (Some k) = holder p (kind_of k) ∷ []

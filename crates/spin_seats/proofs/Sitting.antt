@@ -25,7 +25,7 @@ use Rattle.spin_seats.specs.Rule.{part, IsSeats, looks, use_of_view, seat_ways, 
 abbrev ways : Ways (Unit {0}) View
 ways = seat_ways
 
--- Who holds are the parties that sit, and they read
+-- The holders are the parties that sit, and they read
 
 ones : {X : Type 0} (xs : List X) → sum_by (λ x. 1) xs ≡ length xs
 ones [] = refl

@@ -12,7 +12,7 @@ OneOfEach s = (upgraders s.holders ≤ 1) × (count_kind writing s.holders ≤ 1
 
 -- What a word tells
 
--- how many read, who may upgrade included
+-- how many read, the one that may upgrade included
 abbrev pub readers_in : ℕ → ℕ
 readers_in word = word / weight reading + (word % (weight asking - weight upgradable)) / weight upgradable
 
@@ -26,7 +26,7 @@ tells upgradable word = (word % weight reading) == weight upgradable
 tells asking word = (word % weight reading) == weight asking
 tells writing word = word == weight writing
 
--- nobody stands who keeps out one that comes to read, or to read and upgrade
+-- no holder keeps out one that comes to read, or to read and upgrade
 abbrev pub lets_in : Kind → ℕ → Bool
 lets_in reading word = (word % weight reading == 0) || (word % weight reading == weight upgradable)
 lets_in _ word = word % weight reading == 0

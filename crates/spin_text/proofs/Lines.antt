@@ -72,7 +72,7 @@ tells_line began (outcome.Value v) has = tt
 tells_line began outcome.Written has = tt
 tells_line began outcome.Leaked has = tt
 
--- whoever is answered has a line to be told from
+-- an answer has a line to be told from
 pub told_line : {W C L : Type 0} (m : Machine W ℕ C L (Answer ℕ)) (from now : State W ℕ C L) (begins : List (Option ℕ))
     (schedule rest : List (ℕ × Move C ℕ)) (k : ℕ) (entry : ℕ × Move C ℕ) (o o' : Outcome (Answer ℕ) ℕ)
     → Told m from now begins schedule k → drop k schedule ≡ entry ∷ rest → k < 2 ^ 64 → o' ≡ with_begin (begin_of begins entry.0) o → TellsLine o'

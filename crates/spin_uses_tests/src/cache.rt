@@ -92,7 +92,7 @@ fn read_in_two<R: Abort + Threads + Wait + Sync>(rt: &R, cache: &SquareCache) {
     equal(rt, second, Some(9));
 }
 
-// Readers that waited for who makes an answer would wait for ever, as it waits for them.
+// Readers that waited for the maker of an answer would wait for ever, as it waits for them.
 #[test]
 fn readers_come_while_an_answer_is_made(rt: HostRuntime) {
     let cache: SquareCache = Cache::new(rt.alloc());

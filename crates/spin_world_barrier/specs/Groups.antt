@@ -42,7 +42,7 @@ pub record InGroups (m : BarrierMachine) (n parties : ℕ) (past : Entries) : Ty
   pub generation : (after m (at_first m parties) past).words.generation ≡ (arrivals m parties past / max n 1) % 2 ^ 64
   pub leads : (p : ℕ) → (outcome_after m parties past p Step ≡ Answered Leader None) ↔ ((arrives_next m parties past p ≡ true) × ((arrivals m parties past + 1) % max n 1 ≡ 0))
 
--- Whoever has arrived in its call and waits is answered by its next step just where its group has been filled since, whatever others do meanwhile
+-- A party that has arrived and waits is answered by its next step exactly where its group has been filled since, whatever others do meanwhile
 abbrev pub FollowersLeave : BarrierMachine → ℕ → Entries → Type 0
 FollowersLeave m parties past =
     let seen = seen_at m parties past in

@@ -22,7 +22,7 @@ yields_at s q span (Some x) stands away = grind (arith, away x refl)
 yields : {C L : Type 0} (s : Plain) (q : ℕ) (x : Seat C L) → YieldsToOwner s q (Some x) → yields_to_owner x ≡ true
 yields s q x may = grind arith
 
--- the owner's move takes nobody on who is in a call
+-- the owner's move leaves each call where it is
 leaves_calls : {C L : Type 0} (seats : List (Seat C L)) {p : ℕ} (q : ℕ) (c : C) (l : L) (h : Option Hold) → (p ≡ q → ⊥)
     → slice_get seats q ≡ Some (Calling c l h) → slice_get (map seen_by_owner seats) q ≡ Some (Calling c l h)
 leaves_calls seats q c l h ne is = slice_get-map seen_by_owner seats q ∙ ap (option_map seen_by_owner) is

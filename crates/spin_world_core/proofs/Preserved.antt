@@ -22,7 +22,7 @@ at_seat : {C L : Type 0} (P : ℕ → Option (Seat C L) → Type 0) (seats : Lis
 at_seat P seats p x y there here away q =
     get-set (P q) seats p q x (slice_get_within seats p y there) (λ e. subst (λ i. P i (Some x)) e here) (away q)
 
--- so who is in a call stays there
+-- so a party in a call stays there
 still_calling : {C L : Type 0} (seats : List (Seat C L)) (p : ℕ) (x : Seat C L) (q : ℕ) (c : C) (l : L) (h : Option Hold) → (p ≡ q → ⊥)
     → slice_get seats q ≡ Some (Calling c l h) → slice_get (slice_set seats p x) q ≡ Some (Calling c l h)
 still_calling seats p x q c l h ne is = get-set_other seats p q x ne ∙ is

@@ -9,7 +9,7 @@ pub none_leaked : {C L : Type 0} (seats : List (Seat C L)) → count_by has_leak
 none_leaked [] none = refl
 none_leaked (s ∷ seats) none = grind (arith, none_leaked seats, count_by-cons has_leaked s seats)
 
--- and afterwards as many share it, and nobody has leaked who is not gone
+-- and afterwards as many share it, and each party that has leaked is gone
 pub shares_seen : {C L : Type 0} (seats : List (Seat C L)) → count_by shares (map seen_by_owner seats) ≡ count_by shares seats
 shares_seen [] = refl
 shares_seen (s ∷ seats) =

@@ -23,7 +23,7 @@ entered_party : (p q : ℕ) (ts : List Ticket) → first_alone_entered ts ≡ tr
 entered_party p q [] alone here there = absurd cc
 entered_party p q (t ∷ ts) alone here there = grind (arith, none_any p ts, none_any q ts)
 
--- whoever may look at the value holds the lock
+-- a party that may look at the value holds the lock
 pub touched : (s : Plain) (p : ℕ) → is_reader (entries p s) ≡ true → is_held s ≡ true
 touched s p reads = grind arith
 

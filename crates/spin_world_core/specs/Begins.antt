@@ -5,7 +5,7 @@ use Rattle.spin_world_core.specs.declared.place.Hold.{Hold}
 use Rattle.spin_world_core.specs.declared.place.Hold.TheVariants.{Read, Upgradable, Write, Ticket, Starver}
 use Rattle.spin_world_core.specs.Calls.{LockKind, Asked, waits, tries, tries_weakly, tries_to_know, turns_to, gives_back}
 
--- an upgrade is an upgradable reader's, and a starver's lock or try is a starver's; whoever asks for anything else holds nothing
+-- an upgrade is an upgradable reader's, and a starver's lock or try is a starver's; a party that asks for anything else holds nothing
 abbrev pub held_for : Ask → Option Hold
 held_for to_upgrade = Some Upgradable
 held_for to_upgrade_asked = Some Upgradable

@@ -239,12 +239,12 @@ may_be_weak (waits to_upgrade_asked) = true
 may_be_weak (waits_or_starves n) = true
 may_be_weak _ = false
 
--- the plain steps that such a call makes before its weak exchange: who waits to upgrade asks first
+-- the plain steps that such a call makes before its weak exchange: one that waits to upgrade asks first
 abbrev pub before_weakly : Asked → ℕ → List Change
 before_weakly (waits to_upgrade_asked) p = turns p upgradable asking ∷ []
 before_weakly _ p = []
 
--- what such a call gets by its weak exchange: who has registered as a starver makes none any more
+-- what such a call gets by its weak exchange: a party that has registered as a starver makes none any more
 abbrev pub is_exchanged : Asked → Change → Bool
 is_exchanged (waits_or_starves n) (gets p to_lock_unregistered) = true
 is_exchanged (waits_or_starves n) c = false
@@ -270,7 +270,9 @@ pub data Limit : Type 0 where
 
 -- A look takes one step for each word. A try, a count, a downgrade or a release takes one step, and a try on the two words of a queue three; a starver's try takes a second step to leave the starvers.
 -- Each try that looks first and then makes its exchange again and again takes two, and one more for each change by others.
--- A call that waits has no limit, but who queues has a ticket by then, who may starve registers by its second step after each look past its patience, and who upgrades asks, and who meets others arrives, by its first step
+-- A call that waits has no limit. But one that queues has a ticket by then,
+-- and one that may starve registers by its second step after each look past its patience.
+-- One that upgrades asks by its first step, and one that meets others arrives by it.
 abbrev pub limit : LockKind → Asked → Limit
 limit kind (waits to_enter) = gets_within to_take_ticket 2
 limit kind (waits to_upgrade_asked) = changes_within 1

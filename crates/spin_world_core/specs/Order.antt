@@ -10,7 +10,7 @@ use Rattle.spin_world_core.specs.StepKinds.{StepKind, is_look}
 use Rattle.spin_world_core.specs.Calls.{LockKind, Asked, waits, waits_or_starves, tries, Mark, AnyOf}
 use Rattle.spin_world_core.specs.Spans.{own, own_count}
 
--- what a call that waits for its turn without a look goes for, by the plain steps that it has made. Who comes to read or to a queue looks first
+-- what a call that waits for its turn without a look goes for, by the plain steps that it has made. A call that comes to read or to a queue looks first
 abbrev pub goes_for : Asked → List Change → Option Ask
 goes_for (waits to_write) [] = Some to_write
 goes_for (waits to_lock_starving) [] = Some to_lock_starving
@@ -57,7 +57,8 @@ GetsWhenDue kind p outcome.GoingOn Step (Some what) span s step r = Gets kind p 
 GetsWhenDue kind p (outcome.Answered a b) Step (Some what) span s step r = Gets kind p what span s step r
 GetsWhenDue kind p _ _ _ span s step r = Unit {0}
 
--- A try goes on, before its plain step, only by a step at which what it asks is open. Whoever tries to come by a queue's two words goes on by its first load too, and by one that finds served the number that it has found next
+-- A try goes on, before its plain step, only by a step at which what it asks is open.
+-- A try of a queue's two words goes on by its first load too, and by one that finds served the number that it has found next
 abbrev pub MayTryOn : Ask → ℕ → List Mark → Plain → Type 0
 MayTryOn to_take_and_enter p span s = (is_open_to s p to_take_and_enter ≡ true) ⊎ (own_count p span ≡ 0) ⊎ AnyOf (λ m. (m.party ≡ p) × (next_word m.before ≡ serving_word s)) span
 MayTryOn ask p span s = is_open_to s p ask ≡ true

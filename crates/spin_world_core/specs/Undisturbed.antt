@@ -13,8 +13,11 @@ abbrev pub arrived : ℕ → List Mark → ℕ
 arrived p [] = 0
 arrived p (m ∷ ms) = if (m.party == p) && is_some m.change then m.after.arrivals else arrived p ms
 
--- Whether it is open to the party what its call asks in its present state, where the call may wait: `first` if it has made no plain step yet. Who has got it already has only to be answered.
--- Who queues asks for a ticket that enters at once, and with its ticket to enter; who waits to upgrade has nothing but its own asking before it, and then the upgrade; who may starve asks as everybody does, and once it has registered as a starver; and whoever has arrived asks to leave
+-- Whether it is open to the party what its call asks in its present state, where the call may wait:
+-- `first` if it has made no plain step yet. A party that has got it already has only to be answered.
+-- A party that queues asks for a ticket that enters at once, and with its ticket to enter.
+-- One that waits to upgrade has nothing but its own asking before it, and then the upgrade.
+-- One that may starve asks as others do, and once it has registered as a starver. One that has arrived asks to leave.
 abbrev pub is_open_next : Asked → Bool → ℕ → ℕ → Plain → Bool
 is_open_next (waits to_enter) true k p s = is_open_to s p to_take_and_enter
 is_open_next (waits to_enter) false k p s = is_open_to s p to_enter || is_first p true s.tickets

@@ -22,7 +22,8 @@ seen_after m seen (e ∷ es) = seen_after m (scene m seen e.0 e.1).after es
 abbrev pub outcome_after : {W V C L A : Type 0} → Machine W V C L A → ℕ → List (ℕ × Move C V) → ℕ → Move C V → Outcome A V
 outcome_after m n past p move = (happens m (after m (at_first m n) past) p move).outcome
 
--- whoever holds the lock and may look at the value finds the one last written, also once it has leaked; so does the owner once every party is idle, has leaked or is gone
+-- a party that holds the lock and may look at the value finds the one last written,
+-- also once it has leaked; so does the owner once every party is idle, has leaked or is gone
 pub record FindsLastWritten {W V C L A : Type 0} (m : Machine W V C L A) (n : ℕ) (past : List (ℕ × Move C V)) : Type 0 where
   pub holder : (p : ℕ) (h : Hold) → slice_get (after m (at_first m n) past).seats p ≡ Some (Holding h) → may_read h ≡ true → outcome_after m n past p Read ≡ Value (seen_after m (opening m n) past).written
   pub leaked : (p : ℕ) (h : Hold) → slice_get (after m (at_first m n) past).seats p ≡ Some (Leaked h) → may_read h ≡ true → outcome_after m n past p Read ≡ Value (seen_after m (opening m n) past).written

@@ -1,4 +1,4 @@
--- A party that has set the flag as a starver stands where its next step is granted, and who waits for it where it sets a clear one.
+-- A party that has set the flag as a starver stands where its next step is granted, and a party that waits for it stands where it sets a clear one.
 use Rattle.spin_world_fair.proofs.Names.{◌≡◌, ℕ, ◌+◌, ◌%◌, ◌==◌, ◌⊎◌, Bool, true, not, ◌&&◌, Option, Some, List, refl, ap, sym, ◌∙◌, arith, inl, inr, ⊎_elim, eq-eqb, and_from, is_empty, fair_word, Entries, Hold, Continue, Answer, opening, is_waiting, entries_at, row_of, FairCall, FairPoint, SetFlag, Await, Unregister, asks_of, fair_table, fair_machine, IsGrantedNext, SetsAClearFlag, GoesForAClearFlag}
 use Rattle.spin_world_core.specs.declared.place.Seat.TheVariants.{Calling}
 use Rattle.spin_world_core.specs.declared.schedule.Move.{Move}

@@ -152,7 +152,8 @@ module _ {V : Type 0} (v : V) (cap patience : ℕ) where
   owes p Release l h s w span = grind (arith, unlock_means p s w)
   owes p _ _ _ s w span = tt
 
-  -- run alone: a free lock is taken by the exchange, at once or after a look; and who has gone to register does so, gets the lock, and leaves the starvers
+  -- run alone: a free lock is taken by the exchange, at once or after a look;
+  -- and a party that has gone to register does so, gets the lock, and leaves the starvers
   soon : (p : ℕ) (c : FairCall) (l : FairPoint) (h : Option Hold) (s : Plain) (w : ℕ) (span : List Mark)
       → OwesSoon (fair_table v cap patience) (fair_notes v cap patience) p c l h s w span
   soon p Lock l h s w span = grind (arith, free_word p s w, clear_word p s w, not_there p s)

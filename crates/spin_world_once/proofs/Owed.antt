@@ -21,7 +21,7 @@ point_of Get Look None = looked 0
 point_of IsCompleted Look None = looked 0
 point_of _ _ _ = nowhere
 
--- whoever tries to run its closure has just looked, and whoever runs it knows that it does
+-- a party that tries to run its closure has just looked, and one that runs it knows that it does
 abbrev pub RunsAt : OncePoint → ℕ → Plain → List Mark → Type 0
 RunsAt TryBegin p s span = has_just_looked p span ≡ true
 RunsAt Run p s span = s.phase ≡ running p

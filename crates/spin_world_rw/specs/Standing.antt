@@ -18,7 +18,7 @@ use Rattle.spin_world_core.specs.Schedules.{after, at_first}
 use Rattle.spin_world_core.specs.Runs.{Seen, scene, opening}
 use Rattle.spin_world_core.specs.Users.{seen_after, outcome_after, steps_made}
 
--- a lock of this cap, with this word and these holders: who writes holds alone, at most one of them may upgrade, and they are never more than may hold
+-- a lock of this cap, with this word and these holders: a writer holds alone, at most one of them may upgrade, and they are never more than may hold
 pub record StandTogether (cap w : ℕ) (s : Plain) : Type 0 where
   pub word : w ≡ rw_word s
   pub writer : 0 < count_kind writing s.holders → length s.holders ≡ 1

@@ -128,7 +128,7 @@ looks_on =
 abbrev pub enter_in_vain : Entries
 enter_in_vain = (0, Begin call.Enter) ∷ (0, Step) ∷ (0, Step) ∷ (0, Step) ∷ (0, Step) ∷ []
 
--- its kind of lock has a call less, so that it owes none to who sits
+-- its kind of lock has a call less, so that it owes none to a party that sits
 abbrev without_leave : Asked → Bool
 without_leave (gives_back h) = false
 without_leave what = kind.seats.calls what

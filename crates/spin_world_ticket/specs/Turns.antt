@@ -42,7 +42,7 @@ waits_with p t = record no_entries { tickets = ticket p t false ∷ [] }
 
 -- After further entries, where the number s was served before them, exactly those tickets have entered or may enter of which t - s have gone since
 pub record InTurn {V : Type 0} (m : Machine TicketWords V TicketCall TicketPoint (Answer V)) (n : ℕ) (past further : List (ℕ × Move TicketCall V)) : Type 0 where
-  -- the next step of whoever waits with the ticket t is granted the lock exactly when t - s tickets have gone
+  -- the next step of a party that waits with the ticket t is granted the lock exactly when t - s tickets have gone
   pub enters : (p t : ℕ) (c : TicketCall) (l : TicketPoint) (h : Option Hold) → slice_get (after m (at_first m n) (past ++ further)).seats p ≡ Some (Calling c l h)
       → entries p (seen_after m (opening m n) (past ++ further)).plain ≡ waits_with p t
       → (outcome_after m n (past ++ further) p Step ≡ Answered Granted None)
@@ -55,7 +55,7 @@ pub record InTurn {V : Type 0} (m : Machine TicketWords V TicketCall TicketPoint
 abbrev pub FoundNext : ℕ → ℕ → List Mark → Type 0
 FoundNext p k span = AnyOf (λ m. (m.party ≡ p) × (next_word m.before ≡ k)) span
 
--- Whoever tries goes on by its first step, and by its second where the number that was next at its first is served then, and is no used up one
+-- A try goes on by its first step, and by its second where the number that was next at its first is served then, and is no used up one
 abbrev pub TriesByTwoLoads : {V : Type 0} → Machine TicketWords V TicketCall TicketPoint (Answer V) → ℕ → List (ℕ × Move TicketCall V) → Type 0
 TriesByTwoLoads m n past =
     let seen = seen_after m (opening m n) past in

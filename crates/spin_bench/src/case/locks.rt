@@ -40,8 +40,8 @@ impl Call for Readers {
     }
 }
 
-/// A lock that the first worker writes and the others read. Its number is odd: the writer adds 2, and who reads it sees
-/// its lowest bit.
+/// A lock that the first worker writes and the others read. Its number is odd: the writer adds 2, and a reader sees its
+/// lowest bit.
 #[derive(Drop)]
 pub struct OneWriter(pub RwLock<u64>);
 

@@ -64,8 +64,8 @@ impl Call for FirstCalls {
     }
 }
 
-/// A `LazyLock` that has its value, a 1, and is asked for it. Each loop of calls has one of its own, since who asks has to
-/// know its initialiser.
+/// A `LazyLock` that has its value, a 1, and is asked for it. Each loop of calls has one of its own, since a caller
+/// has to know its initialiser.
 #[derive(Drop)]
 pub struct Forces;
 

@@ -23,7 +23,7 @@ impl Rounds {
 }
 
 impl Case for Rounds {
-    /// Who leads a group has seen as many waits as there are threads.
+    /// The leader of a group has seen as many waits as there are threads.
     #[inline(never)]
     fn repeat<W: Wait>(&self, rt: &W, _worker: usize, calls: u64) -> u64 {
         let mut seen = 0u64;

@@ -1,4 +1,4 @@
-//! Who finds another's closure running waits for it, goes on with its value, and runs none of its own.
+//! A thread that finds another's closure running waits for it, goes on with its value, and runs none of its own.
 
 use crate::equal::equal;
 use crate::waiting::{await_number, pause};

@@ -20,8 +20,8 @@ pub struct Opening {
     pub header: Header,
 }
 
-/// A world in that opening. Who calls this, [`run`], [`numbers`] or [`value`] learns nothing of what they ensure: the tests
-/// look for themselves.
+/// A world in that opening. A caller of this, [`run`], [`numbers`] or [`value`] learns nothing of what they ensure: the
+/// tests look for themselves.
 pub fn world<O: OfHeader, A: Allocator + Copy>(
     rt: &impl Abort,
     alloc: A,

@@ -208,7 +208,7 @@ pub const RW: &[Worked] = &[
          end: 18 value 1\n\
         ",
     ),
-    // Line 19: who holds the lock doesn't come anew.
+    // Line 19: a party that holds the lock doesn't come anew.
     (
         "a writer goes down to a reader",
         "rw 1 9 2\n\
