@@ -6,7 +6,7 @@ ghost use Rattle.std.specs.Prelude.{◌≡◌};
 
 use spin_core::relax::{RelaxStrategy, Spin};
 use spin_mutex::mutex::Mutex;
-use spin_step::barrier::{self, State};
+use spin_step_more::barrier::{self, State};
 use std::sync::Wait;
 
 /// A barrier at which the threads of a group wait for one another. It is reusable: after each group the next one

@@ -70,7 +70,7 @@ module _ {M : Type 1} {𝓤 : Ura M} (𝓛 : Logic 𝓤) (m ms : Member) (V Y K 
   Fields s = part_at Data full_share (data_of s) b o
 
   abbrev pub Rule : All → Type 0
-  Rule s = Starts g.holds ways s.0 s.1 s.2
+  Rule s = Starts (g.holds key) ways s.0 s.1 s.2
 
   abbrev opened : All → Fml
   opened s = fsep (Fields s) (fact (Rule s))

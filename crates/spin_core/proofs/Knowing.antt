@@ -2,7 +2,7 @@
 use Rattle.std.proofs.Common.{◌≡◌, ℕ, zero, suc, ◌+◌, ◌≤◌, ◌==◌, cond, List, [], ◌∷◌, length, filter, refl, sym, ap, subst, arith}
 use Rattle.std.proofs.lemmas.List.Sums.{sum_by-cons, count_by-le-length}
 use Rattle.spin_step.specs.Plain.{Plain, writing, Holder, same_kind, count_kind}
-use Rattle.spin_step.specs.Starvers.{OneHolds}
+use Rattle.spin_step.specs.Parties.{OneHolds}
 use Rattle.spin_core.specs.Views.{Part, entries_of, part_at, IsLockOf}
 use Rattle.spin_step.specs.Orders.{IsInOrder}
 

@@ -4,4 +4,11 @@ pub mod Cell
 pub mod CellMemory
 pub mod Writer
 pub mod Stable
+pub mod Traced
 pub mod Retries
+pub mod Calls
+pub mod Guard
+pub mod Texts
+pub mod Run
+pub mod Own
+pub mod Logs

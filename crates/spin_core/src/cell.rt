@@ -1,22 +1,22 @@
 //! One raw cell under all locks: one word or two and a value, under a rule over plain data. Begin with [`Rule`], and
-//! with [`Cell::enter`] and [`Permit`].
+//! with [`Cell::enter`] and [`Permit::load`].
 //!
 //! A lock says what each of its parties is to it (a *view*). Its rule says what holds of the words and of all views
 //! between any two steps. For each kind of step it owes one fact about plain data: that the step keeps this rule.
-ghost use Rattle.std.specs.Prelude.{◌≡◌, ◌≢◌, ◌+◌, ◌-◌, ◌%◌, ◌^◌, ◌==◌, ℕ, List, [], Option, bit_or};
+//! Steps are methods of a permit. Each appends to the cell's trace ([`crate::trace`]), and tells it to its caller.
+ghost use Rattle.std.specs.Prelude.{◌≡◌, ◌≢◌, ℕ, List, [], Option};
 ghost use Rattle.std.specs.Coded.{coded_option};
-ghost use prog.Atomic.{either};
-ghost use Rattle.spin_core.specs.Cell.{Ways, off, reads, writes, use_of, Opens, Frees, Seen, Rests, AllowsAt, AllowsSecondAt, Moved, Keeps};
+ghost use Rattle.spin_core.specs.Cell.{Ways, off, reads, writes, use_of, Opens, Frees, Seen, Rests};
 ghost use Rattle.spin_core.specs.CellMemory.{Known, cell_owns, cell_shares, permit_owns, permit_shares, writer_owns, writer_shares};
 
-use atomic_table::exchange;
-use std::marker::{Brand, Model, Move, Owns, PhantomData};
+use std::marker::{Model, Move, Owns, PhantomData};
 use std::mem::ManuallyDrop;
-use std::sync::atomic::Ordering::SeqCst;
-use std::sync::atomic::raw;
 
 mod ending;
 pub mod stable;
+mod steps;
+
+pub use steps::Play;
 
 /// A rule: what holds of a cell's words and of its parties between any two steps.
 ///
@@ -24,54 +24,32 @@ pub mod stable;
 ///
 /// # Examples
 /// ```
-/// impl<const N: usize> Rule<(), View> for SeatsRule<N> {
-///     type Key = ();
+/// impl Rule<u64, Bystander> for AnyWords {
+///     type Key = Watch<()>;
 ///
-///     type Second = ();
-///
-///     ghost holds = { IsSeats N };
-///
-///     ghost ways = { λ _. seat_ways };
-/// }
+///     type Second = Trace<(), u64>;
 /// ```
 pub trait Rule<T, V> {
     // What is settled when a cell is made, as the closure of a lazy value.
     type Key;
-    // The second word, or nothing: then the cell has no room for it.
+    // What lies behind the value: a trace, with a second word or nothing beside it. A trace alone takes no room.
     type Second;
     // Of the first word, the second or nothing, and the views of all parties that ever came.
-    ghost holds: { ℕ → Self.Second → List V → Type 0 };
+    ghost holds: { Self.Key → ℕ → Self.Second → List V → Type 0 };
     // Whether parties may read the value at the same time, and how a party with a given view may use it.
     ghost ways: { Self.Key → Ways T V };
 }
 
-/// A kind of step, by what it tells its caller.
-///
-/// # Examples
-/// ```
-/// impl Play<View> for GetUp {
-///     ghost then = { becomes Idle };
-/// }
-/// ```
-pub trait Play<V> {
-    // Of the operands (0 where there is none), the view before, the number found and the view after.
-    ghost then: { ℕ → ℕ → Option V → ℕ → V → Type 0 };
-}
-
-/// A cell: a word, a value, and a second word or nothing. Only a party with a permit touches the value.
+/// A cell: a word, a value, and a trace with a second word or nothing beside it. Only a party with a permit touches the
+/// value.
 ///
 /// In a clause a cell is its key.
 ///
 /// # Examples
 /// ```
-/// let (found, permit) = self
-///     .cell
-///     .enter()
-///     .exchange::<SitDown>(word as u64, next as u64);
-/// if found == word as u64 {
-///     return Some(Ok(SeatGuard { permit }));
-/// }
-/// permit.leave();
+/// let trace = Trace::new(2);
+/// let start = trace.watch();
+/// Cell::new(5, 1, trace, &start)
 /// ```
 pub struct Cell<T, V, P: Rule<T, V>> {
     marker: PhantomData<(V, P)>,
@@ -85,11 +63,11 @@ impl<T, V, P: Rule<T, V>> Owns for Cell<T, V, P> {
 
     ghost coded = { P.Key.code };
 
-    ghost shr_at = { λ key p κ. cell_shares P.row T.row V.row.coded.code P.Second.row P.holds (P.ways key) p κ };
+    ghost shr_at = { λ key p κ. cell_shares P.row T.row V.row.coded.code P.Second.row (P.holds key) (P.ways key) p κ };
 }
 
 impl<T, V, P: Rule<T, V>> Move for Cell<T, V, P> {
-    ghost own_val = { λ key vs. cell_owns P.row T.row V.row.coded.code P.Second.row P.holds (P.ways key) (λ n m x. Fields.own_val (record { marker = record {}; first = n; value = x; second = m }) vs) };
+    ghost own_val = { λ key vs. cell_owns P.row T.row V.row.coded.code P.Second.row (P.holds key) (P.ways key) (λ n m x. Fields.own_val (record { marker = record {}; first = n; value = x; second = m }) vs) };
 }
 
 /// A permit: what its party may do. `view` is what the party is to the lock, `None` until its first step. `value` is
@@ -97,6 +75,12 @@ impl<T, V, P: Rule<T, V>> Move for Cell<T, V, P> {
 ///
 /// A permit cannot be dropped. [`leave`](Permit::leave) ends it if its party is at rest, and [`leak`](Permit::leak)
 /// keeps its use of the value.
+///
+/// # Examples
+/// ```
+/// let (party, _) = cell.enter().store::<Mark>(3, Watch::nothing());
+/// party.leave();
+/// ```
 pub struct Permit<'a, T, V, P: Rule<T, V>> {
     cell: *const Cell<T, V, P>,
     marker: PhantomData<&'a T>,
@@ -106,13 +90,19 @@ pub struct Permit<'a, T, V, P: Rule<T, V>> {
 }
 
 impl<'a, T, V, P: Rule<T, V>> Model for Permit<'a, T, V, P> {
-    ghost also_owns = { λ h. permit_owns P.row T.row V.row.coded.code P.Second.row P.holds (P.ways h.key) 'a h.cell h.view h.value };
+    ghost also_owns = { λ h. permit_owns P.row T.row V.row.coded.code P.Second.row (P.holds h.key) (P.ways h.key) 'a h.cell h.view h.value };
 
-    ghost also_shares = { λ h _ κ. permit_shares P.row T.row V.row.coded.code P.Second.row P.holds (P.ways h.key) 'a h.cell h.view h.value κ };
+    ghost also_shares = { λ h _ κ. permit_shares P.row T.row V.row.coded.code P.Second.row (P.holds h.key) (P.ways h.key) 'a h.cell h.view h.value κ };
 }
 
 /// The right to write the value, which its party has alone. [`into_permit`](WritePermit::into_permit) turns it back,
 /// and [`leak`](WritePermit::leak) keeps it for good.
+///
+/// # Examples
+/// ```
+/// *writer.get_mut() = Stage::Done(next);
+/// let permit = writer.into_permit();
+/// ```
 pub struct WritePermit<'a, T, V, P: Rule<T, V>> {
     cell: *const Cell<T, V, P>,
     marker: PhantomData<&'a T>,
@@ -122,9 +112,9 @@ pub struct WritePermit<'a, T, V, P: Rule<T, V>> {
 }
 
 impl<'a, T, V, P: Rule<T, V>> Model for WritePermit<'a, T, V, P> {
-    ghost also_owns = { λ h. writer_owns P.row T.row V.row.coded.code P.Second.row P.holds (P.ways h.key) 'a h.cell h.view h.value };
+    ghost also_owns = { λ h. writer_owns P.row T.row V.row.coded.code P.Second.row (P.holds h.key) (P.ways h.key) 'a h.cell h.view h.value };
 
-    ghost also_shares = { λ h _ κ. writer_shares P.row T.row V.row.coded.code P.Second.row P.holds (P.ways h.key) 'a h.cell h.view h.value κ };
+    ghost also_shares = { λ h _ κ. writer_shares P.row T.row V.row.coded.code P.Second.row (P.holds h.key) (P.ways h.key) 'a h.cell h.view h.value κ };
 }
 
 impl<T, V, P: Rule<T, V>> Cell<T, V, P> {
@@ -134,9 +124,16 @@ impl<T, V, P: Rule<T, V>> Cell<T, V, P> {
     /// # Contract
     /// The rule has to hold of the words (`Opens`). If parties read the value at the same time, whoever may share the
     /// rule's own type has to be allowed to share the value (`Known`).
+    ///
+    /// # Examples
+    /// ```
+    /// let trace = Trace::new(2);
+    /// let start = trace.watch();
+    /// Cell::new(5, 1, trace, &start)
+    /// ```
     pub fn new(value: T, first: u64, second: P::Second, key: &P::Key) -> Cell<T, V, P>
         requires known { Known (P.ways key.now) P.row P.Second.row T.row }
-        requires rule { Opens P.holds (P.ways key.now) first second value }
+        requires rule { Opens (P.holds key.now) (P.ways key.now) first second value }
         ensures key { result ≡ key.now }
     {
         let _ = key;
@@ -149,6 +146,11 @@ impl<T, V, P: Rule<T, V>> Cell<T, V, P> {
     }
 
     /// Consumes the cell, and returns its value. It reads no word.
+    ///
+    /// # Examples
+    /// ```
+    /// equal(&rt, cell.into_inner(), 7);
+    /// ```
     pub fn into_inner(self) -> T {
         let Self {
             marker: _,
@@ -164,6 +166,11 @@ impl<T, V, P: Rule<T, V>> Cell<T, V, P> {
     ///
     /// # Contract
     /// It has to be so that any value may take the place of one that no party uses (`Frees`).
+    ///
+    /// # Examples
+    /// ```
+    /// *cell.get_mut() = 7;
+    /// ```
     pub fn get_mut(&mut self) -> &mut T
         requires { Frees (P.ways self.old).0 }
     {
@@ -171,6 +178,12 @@ impl<T, V, P: Rule<T, V>> Cell<T, V, P> {
     }
 
     /// Returns a permit that has taken no step.
+    ///
+    /// # Examples
+    /// ```
+    /// let (found, party, _) = cell.enter().load_second::<TellNothing>(Watch::nothing());
+    /// equal(&rt, found, 2);
+    /// ```
     pub fn enter(&self) -> Permit<'_, T, V, P>
         ensures key { result.key ≡ self.now }
         ensures fresh { (result.view ≡ None) × (result.value ≡ None) }
@@ -182,117 +195,14 @@ impl<T, V, P: Rule<T, V>> Cell<T, V, P> {
     }
 }
 
-/// Steps on the first word.
-///
-/// Each asks that the party has a next view of which its `Play` holds and that keeps the rule, whatever the words and
-/// the other views are. Afterwards that `Play` holds, and a value that is shown before and after is the same.
 impl<'a, T, V, P: Rule<T, V>> Permit<'a, T, V, P> {
-    /// Reads the first word.
-    pub fn load<M: Play<V>>(self) -> (u64, Permit<'a, T, V, P>)
-        requires { AllowsAt P.holds (P.ways self.key) self.view self.value (λ n. n) (M.then 0 0 self.view) }
-        ensures moved { Moved (M.then 0 0 self.entry.view result.0) result.1.view }
-        ensures kept { Keeps (P.ways self.entry.key) self.entry.view result.1.view self.entry.value result.1.value }
-        ensures key { result.1.key ≡ self.entry.key }
-    {
-        let Permit { cell, marker: _ } = self;
-        let found = unsafe { raw::load::<Brand>(&raw const (*cell).first, SeqCst) };
-        (
-            found,
-            Permit {
-                cell,
-                marker: PhantomData,
-            },
-        )
-    }
-
-    /// Writes `new` over the first word if it is `old`, and returns the word as it was.
-    pub fn exchange<M: Play<V>>(self, old: u64, new: u64) -> (u64, Permit<'a, T, V, P>)
-        requires { AllowsAt P.holds (P.ways self.key) self.view self.value (λ n. either (n == old) new n) (M.then old new self.view) }
-        ensures moved { Moved (M.then old new self.entry.view result.0) result.1.view }
-        ensures kept { Keeps (P.ways self.entry.key) self.entry.view result.1.view self.entry.value result.1.value }
-        ensures key { result.1.key ≡ self.entry.key }
-    {
-        let Permit { cell, marker: _ } = self;
-        let found = unsafe { exchange::<Brand>(&raw const (*cell).first, old, new) };
-        (
-            found,
-            Permit {
-                cell,
-                marker: PhantomData,
-            },
-        )
-    }
-
-    /// Writes `new` over the first word.
-    pub fn store<M: Play<V>>(self, new: u64) -> Permit<'a, T, V, P>
-        requires { AllowsAt P.holds (P.ways self.key) self.view self.value (λ _. new) (λ _. M.then 0 new self.view 0) }
-        ensures moved { Moved (M.then 0 new self.entry.view 0) result.view }
-        ensures kept { Keeps (P.ways self.entry.key) self.entry.view result.view self.entry.value result.value }
-        ensures key { result.key ≡ self.entry.key }
-    {
-        let Permit { cell, marker: _ } = self;
-        unsafe { raw::store::<Brand>(&raw const (*cell).first, new, SeqCst) };
-        Permit {
-            cell,
-            marker: PhantomData,
-        }
-    }
-
-    /// Adds `by` to the first word, modulo 2^64, and returns the word as it was.
-    pub fn add<M: Play<V>>(self, by: u64) -> (u64, Permit<'a, T, V, P>)
-        requires { AllowsAt P.holds (P.ways self.key) self.view self.value (λ n. (n + by) % 2 ^ 64) (M.then by 0 self.view) }
-        ensures moved { Moved (M.then by 0 self.entry.view result.0) result.1.view }
-        ensures kept { Keeps (P.ways self.entry.key) self.entry.view result.1.view self.entry.value result.1.value }
-        ensures key { result.1.key ≡ self.entry.key }
-    {
-        let Permit { cell, marker: _ } = self;
-        let found = unsafe { raw::fetch_add::<Brand>(&raw const (*cell).first, by, SeqCst) };
-        (
-            found,
-            Permit {
-                cell,
-                marker: PhantomData,
-            },
-        )
-    }
-
-    /// Subtracts `by` from the first word, modulo 2^64, and returns the word as it was.
-    pub fn subtract<M: Play<V>>(self, by: u64) -> (u64, Permit<'a, T, V, P>)
-        requires { AllowsAt P.holds (P.ways self.key) self.view self.value (λ n. (n + (2 ^ 64 - by)) % 2 ^ 64) (M.then by 0 self.view) }
-        ensures moved { Moved (M.then by 0 self.entry.view result.0) result.1.view }
-        ensures kept { Keeps (P.ways self.entry.key) self.entry.view result.1.view self.entry.value result.1.value }
-        ensures key { result.1.key ≡ self.entry.key }
-    {
-        let Permit { cell, marker: _ } = self;
-        let found = unsafe { raw::fetch_sub::<Brand>(&raw const (*cell).first, by, SeqCst) };
-        (
-            found,
-            Permit {
-                cell,
-                marker: PhantomData,
-            },
-        )
-    }
-
-    /// Sets the bits of `mask` in the first word, and returns the word as it was.
-    pub fn set_bits<M: Play<V>>(self, mask: u64) -> (u64, Permit<'a, T, V, P>)
-        requires { AllowsAt P.holds (P.ways self.key) self.view self.value (λ n. bit_or n mask) (M.then mask 0 self.view) }
-        ensures moved { Moved (M.then mask 0 self.entry.view result.0) result.1.view }
-        ensures kept { Keeps (P.ways self.entry.key) self.entry.view result.1.view self.entry.value result.1.value }
-        ensures key { result.1.key ≡ self.entry.key }
-    {
-        let Permit { cell, marker: _ } = self;
-        let found = unsafe { raw::fetch_or::<Brand>(&raw const (*cell).first, mask, SeqCst) };
-        (
-            found,
-            Permit {
-                cell,
-                marker: PhantomData,
-            },
-        )
-    }
-
     /// Returns a reference to the value, for a party that reads it.
+    ///
+    /// # Examples
+    /// ```
+    /// equal(&rt, *first.get(), 7);
+    /// equal(&rt, *second.get(), 7);
+    /// ```
     pub fn get(&self) -> &T
         requires { use_of (P.ways self.now.key).1 self.now.view ≡ reads }
         ensures { Some result.now ≡ self.now.value }
@@ -302,6 +212,14 @@ impl<'a, T, V, P: Rule<T, V>> Permit<'a, T, V, P> {
 
     /// Returns a reference to the value for the rest of the cell's borrow, for a party that reads it. The party reads
     /// it for good.
+    ///
+    /// # Examples
+    /// ```
+    /// match permit.see() {
+    ///     Stage::Done(value) => value,
+    ///     Stage::Seed(_) => unreachable!(),
+    /// }
+    /// ```
     pub fn see(self) -> &'a T
         requires { use_of (P.ways self.key).1 self.view ≡ reads }
         ensures value { Some result.now ≡ self.entry.value }
@@ -312,6 +230,11 @@ impl<'a, T, V, P: Rule<T, V>> Permit<'a, T, V, P> {
     }
 
     /// Turns the permit of a party that has the value alone into the right to write it.
+    ///
+    /// # Examples
+    /// ```
+    /// let mut writer = permit.into_writer();
+    /// ```
     pub fn into_writer(self) -> WritePermit<'a, T, V, P>
         requires { use_of (P.ways self.key).1 self.view ≡ writes }
         ensures same { (Some result.view ≡ self.entry.view) × (Some result.value ≡ self.entry.value) }
@@ -325,14 +248,25 @@ impl<'a, T, V, P: Rule<T, V>> Permit<'a, T, V, P> {
     }
 
     /// Ends the permit. The party has to be at rest: it does not use the value, and the rule holds as well without it.
+    ///
+    /// # Examples
+    /// ```
+    /// let (party, _) = cell.enter().store::<Mark>(3, Watch::nothing());
+    /// party.leave();
+    /// ```
     pub fn leave(self)
-        requires { Rests P.holds (P.ways self.key).1 self.view }
+        requires { Rests (P.holds self.key) (P.ways self.key).1 self.view }
     {
         let Permit { cell: _, marker: _ } = self;
     }
 
     /// Ends the permit, and keeps its use of the value for good: a lock that the party holds stays held. A party that
     /// only waits cannot do so, since a queue would stop at it.
+    ///
+    /// # Examples
+    /// ```
+    /// self.into_permit().leak();
+    /// ```
     pub fn leak(self)
         requires { use_of (P.ways self.key).1 self.view ≢ off }
     {
@@ -340,44 +274,16 @@ impl<'a, T, V, P: Rule<T, V>> Permit<'a, T, V, P> {
     }
 }
 
-/// Steps on the second word, if there is one.
-impl<'a, T, V, P: Rule<T, V, Second = u64>> Permit<'a, T, V, P> {
-    /// Reads the second word.
-    pub fn load_second<M: Play<V>>(self) -> (u64, Permit<'a, T, V, P>)
-        requires { AllowsSecondAt P.holds (P.ways self.key) self.view self.value (λ n. n) (M.then 0 0 self.view) }
-        ensures moved { Moved (M.then 0 0 self.entry.view result.0) result.1.view }
-        ensures kept { Keeps (P.ways self.entry.key) self.entry.view result.1.view self.entry.value result.1.value }
-        ensures key { result.1.key ≡ self.entry.key }
-    {
-        let Permit { cell, marker: _ } = self;
-        let found = unsafe { raw::load::<Brand>(&raw const (*cell).second, SeqCst) };
-        (
-            found,
-            Permit {
-                cell,
-                marker: PhantomData,
-            },
-        )
-    }
-
-    /// Writes `new` over the second word.
-    pub fn store_second<M: Play<V>>(self, new: u64) -> Permit<'a, T, V, P>
-        requires { AllowsSecondAt P.holds (P.ways self.key) self.view self.value (λ _. new) (λ _. M.then 0 new self.view 0) }
-        ensures moved { Moved (M.then 0 new self.entry.view 0) result.view }
-        ensures kept { Keeps (P.ways self.entry.key) self.entry.view result.view self.entry.value result.value }
-        ensures key { result.key ≡ self.entry.key }
-    {
-        let Permit { cell, marker: _ } = self;
-        unsafe { raw::store::<Brand>(&raw const (*cell).second, new, SeqCst) };
-        Permit {
-            cell,
-            marker: PhantomData,
-        }
-    }
-}
-
 impl<'a, T, V, P: Rule<T, V>> WritePermit<'a, T, V, P> {
     /// Returns a reference to the value.
+    ///
+    /// # Examples
+    /// ```
+    /// let next = match writer.get() {
+    ///     Stage::Seed(seed) => seed.checked_add(1),
+    ///     Stage::Done(_) => unreachable!(),
+    /// };
+    /// ```
     pub fn get(&self) -> &T
         ensures { result.now ≡ self.now.value }
     {
@@ -385,6 +291,11 @@ impl<'a, T, V, P: Rule<T, V>> WritePermit<'a, T, V, P> {
     }
 
     /// Returns a mutable reference to the value for the rest of the cell's borrow. The party stays for good what it is.
+    ///
+    /// # Examples
+    /// ```
+    /// this.into_writer().leak()
+    /// ```
     pub fn leak(self) -> &'a mut T
         ensures { result.now ≡ self.entry.value }
     {
@@ -393,6 +304,12 @@ impl<'a, T, V, P: Rule<T, V>> WritePermit<'a, T, V, P> {
     }
 
     /// Turns the right to write back into a permit.
+    ///
+    /// # Examples
+    /// ```
+    /// *writer.get_mut() = Stage::Done(next);
+    /// let permit = writer.into_permit();
+    /// ```
     pub fn into_permit(self) -> Permit<'a, T, V, P>
         ensures use_of_view { (P.ways self.entry.key).1 self.entry.view ≡ writes }
         ensures same { (result.view ≡ Some self.entry.view) × (result.value ≡ Some self.entry.value) }
@@ -414,6 +331,11 @@ impl<T, V, P: Rule<T, V>> WritePermit<'_, T, V, P> {
     ghost use Rattle.spin_core.specs.Writer.{with_value};
 
     /// Returns a mutable reference to the value. What is written through it is the permit's value when the borrow ends.
+    ///
+    /// # Examples
+    /// ```
+    /// *writer.get_mut() = Stage::Done(next);
+    /// ```
     pub fn get_mut(&mut self) -> &mut T
         ensures* writes_back { sem 𝓛 (follows (the_row (record { mir = named 1; lft = [] }) T.row V.row P.row P.Key.row P.Second.row (record { holds = P.holds; ways = P.ways })) T.row self.entry.ghost_name result.ghost_name (with_value self.old)) }
         ensures value { result.now ≡ self.old.value }
@@ -422,8 +344,8 @@ impl<T, V, P: Rule<T, V>> WritePermit<'_, T, V, P> {
     }
 }
 
-// Forgets what stands for the second word, whose type need not be `Drop`: it is a number, or nothing.
-fn let_go<S>(second: S) {
+// Forgets a value whose type need not be `Drop`: a trace, with a number or nothing beside it.
+pub(crate) fn let_go<S>(second: S) {
     let _gone = unsafe { ManuallyDrop::new_unchecked(second) };
 }
 

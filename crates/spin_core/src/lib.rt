@@ -1,10 +1,16 @@
-//! What all the locks stand on: the raw cell (`cell`), which alone makes raw atomic steps on words, and how a caller
-//! waits (`relax`).
+//! What all the locks stand on: the raw cell (`cell`), which alone makes raw atomic steps on words, the schedule that it
+//! keeps of them (`trace`, `tie`), how a caller waits (`relax`), what the guards of all mutexes share (`guard`, `texts`),
+//! and what code that is generic over the lock asks of it (`lock`).
 //!
-//! Users of the locks begin with [`relax::RelaxStrategy`], authors of a lock with [`cell::Cell`].
+//! Users of the locks begin with [`relax::RelaxStrategy`] and [`lock::Lock`], authors of a lock with [`cell::Cell`].
 #![tactic(auto)]
 
 pub mod cell;
+pub mod guard;
+pub mod lock;
 pub mod relax;
+pub mod texts;
+pub mod tie;
+pub mod trace;
 
 pub use spin_step as step;

@@ -90,10 +90,8 @@ pub trait RelaxStrategy {
     ///
     /// # Examples
     /// ```
-    /// match self.try_lock() {
-    ///     Some(guard) => guard,
-    ///     None => R::retry_after(rt, 0, |_| MAX_HINTS, |spins| self.look_and_try(rt, spins)),
-    /// }
+    /// Ok(guard) => guard,
+    /// Err(place) => R::retry_after(rt, place, |place| place.pause(), |place| place.enter()),
     /// ```
     #[cold]
     #[inline(never)]
@@ -118,33 +116,32 @@ pub trait RelaxStrategy {
         unreachable!()
     }
 
-    /// Pauses and tries again, until an attempt gives something.
-    ///
-    /// Each pause is twice as long as the last one, up to [`MAX_HINTS`]. A lock that any next thread may acquire is
-    /// quickest if few look at it.
+    /// Like [`retry`](RelaxStrategy::retry), with a pause before each attempt that is twice as long as the last one, up
+    /// to [`MAX_HINTS`]. A lock that any next thread may acquire is quickest if few look at it.
     ///
     /// # Contract
-    /// The closure has to be always callable. The answer is one that it gave. Whether and when the call returns is not
-    /// promised.
+    /// That of `retry`.
     ///
     /// # Examples
     /// ```
-    /// match self.try_enter(rt) {
-    ///     Some(guard) => guard,
-    ///     None => Spin::back_off(rt, || self.try_enter(rt)),
+    /// match try_with(self.cell.enter()) {
+    ///     Ok(guard) => guard,
+    ///     Err(waiting) => R::back_off(rt, waiting, |waiting| waiting.look_and_try()),
     /// }
     /// ```
     #[cold]
     #[inline(never)]
-    final fn back_off<A, F: Fn() -> Option<A>, W: Wait>(rt: &W, attempt: F) -> A
+    final fn back_off<S, A, F: Fn(S) -> Result<A, S>, W: Wait>(rt: &W, state: S, attempt: F) -> A
         requires { F.IsAlwaysCallable attempt }
-        ensures { F.post attempt (Some result) }
+        ensures { Succeeds (F.post attempt) state result }
     {
         let mut hints = 1;
+        let mut state = state;
         for _ in rt.forever() {
             Self::pause(rt, hints);
-            if let Some(answer) = attempt() {
-                return answer;
+            match attempt(state) {
+                Ok(answer) => return answer,
+                Err(next) => state = next,
             }
             hints = hints.saturating_mul(2).min(MAX_HINTS);
         }
@@ -210,8 +207,8 @@ impl RelaxStrategy for Loop {
 ///
 /// # Examples
 /// ```
-/// SpinMutex {
-///     cell: Cell::new(value, word(false), (), &()),
+/// TicketMutex {
+///     cell: Cell::new(value, first, trace, &start),
 ///     strategy: Strategy::named(),
 /// }
 /// ```
@@ -225,8 +222,8 @@ impl<R> Strategy<R> {
     ///
     /// # Examples
     /// ```
-    /// SpinMutex {
-    ///     cell: Cell::new(value, word(false), (), &()),
+    /// TicketMutex {
+    ///     cell: Cell::new(value, first, trace, &start),
     ///     strategy: Strategy::named(),
     /// }
     /// ```

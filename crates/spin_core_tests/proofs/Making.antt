@@ -1,8 +1,8 @@
 -- The steps of a value that is made once keep its rule.
 use Rattle.std.proofs.Common.{◌≡◌, ℕ, zero, suc, ◌+◌, ◌==◌, List, [], ◌∷◌, ◌++◌, Option, Some, None, refl, sym, ap, subst, arith}
 use prog.Atomic.{either}
-use Rattle.spin_core.specs.Cell.{Use, off, reads, writes, reading, writing, use_of, readers_of, writers_of, Meets, Limits, Opens, Stands as At, after, AllowsAt, Keeps, Moved}
-use Rattle.spin_core.proofs.CellCounts.{moves}
+use Rattle.spin_core.specs.Cell.{Use, off, reads, writes, reading, writing, use_of, readers_of, writers_of, Meets, Limits, Opens, Stands as At, after, AllowsAt, Keeps, Moved, Rests}
+use Rattle.spin_core.proofs.CellCounts.{moves, without}
 use Rattle.spin_core_tests.specs.Once.{use_of_view, once_ways, Stands, IsOnce, Loads, Begins, PutsBack, Completes}
 use Rattle.spin_core_tests.specs.declared.once.View.{View}
 use Rattle.spin_core_tests.specs.declared.once.View.TheVariants.{Away, Running, Reading}
@@ -67,6 +67,15 @@ puts_back key seed e id n m vs has at small = let one = runs n id vs at has.0 in
 pub completes : (key value : ℕ) → value ≡ key + 1 → AllowsAt IsOnce (once_ways key) (Some Running) (Some (Done value)) (λ _. 2) (λ _. Completes 0 2 (Some Running) 0)
 completes key value e id n m vs has at small = let one = runs n id vs at has.0 in let r = read_after id (Some Running) vs Reading at in let w = write_after id (Some Running) vs Reading at in
     (Reading, (λ d. refl, e, meets key 2 m (after id (Some Running) vs Reading) (omega (arith, one), omega (arith, one))), refl)
+
+-- a party that is away may go
+pub away_rests : Rests IsOnce f (Some Away)
+away_rests = (
+  refl,
+  λ n m before behind is. let r = without (λ v. reading (f v)) before behind Away in let w = without (λ v. writing (f v)) before behind Away in
+      let same_r : readers_of f (before ++ Away ∷ behind) ≡ readers_of f (before ++ behind) = omega (arith, r) in let same_w : writers_of f (before ++ Away ∷ behind) ≡ writers_of f (before ++ behind) = omega (arith, w) in
+      subst (λ (k : ℕ × ℕ). Stands n k.0 k.1) (λ i. (same_r i, same_w i)) is,
+)
 
 -- ---- what a party that began knows
 pub ran : (view : Option View) (found : ℕ) → Moved (Begins 0 1 None found) view → found ≡ 0 → view ≡ Some Running

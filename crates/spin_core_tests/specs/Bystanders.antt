@@ -1,13 +1,18 @@
 -- The rule of a cell that nobody uses: any words, and parties that stand by.
-use Rattle.std.specs.Prelude.{ℕ, List, Option}
+use Rattle.std.specs.Prelude.{◌≡◌, ℕ, List, [], ◌∷◌, Option}
 use Rattle.spin_core.specs.Cell.{off, alone, Ways}
+use Rattle.spin_core.specs.declared.trace.Trace.{Trace}
 
 module _ {V : Type 0} where
-  abbrev pub any_words : ℕ → ℕ → List V → Type 0
-  any_words n m vs = Unit {0}
+  -- the trace has this name
+  abbrev pub any_words : ℕ → ℕ → Trace (Unit {0}) ℕ → List V → Type 0
+  any_words name n t vs = t.name ≡ name
 
   abbrev pub no_use : {X : Type 0} → Ways X V
   no_use = (alone, λ v. off)
 
-  abbrev pub nothing_told : ℕ → ℕ → Option V → ℕ → V → Type 0
-  nothing_told old new before found after = Unit {0}
+  abbrev pub nothing_told : ℕ → ℕ → Option V → List (Unit {0}) → List (Unit {0}) → ℕ → V → Type 0
+  nothing_told old new before log es found after = es ≡ []
+
+  abbrev pub marks : ℕ → ℕ → Option V → List (Unit {0}) → List (Unit {0}) → ℕ → V → Type 0
+  marks old new before log es found after = es ≡ tt ∷ []

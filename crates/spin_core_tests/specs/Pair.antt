@@ -1,6 +1,7 @@
 -- The rule of a value that two parties at most read at a time: a small lock, which shows how parties lend the value to one another.
-use Rattle.std.specs.Prelude.{◌≡◌, ◌≤◌, ℕ, List, Option, if◌then◌else◌, ◌==◌}
+use Rattle.std.specs.Prelude.{◌≡◌, ◌≤◌, ℕ, List, [], ◌∷◌, Option, if◌then◌else◌, ◌==◌, length}
 use Rattle.spin_core.specs.Cell.{Use, off, reads, lends, Ways, readers_of}
+use Rattle.spin_core.specs.declared.trace.Trace.{Trace}
 use Rattle.spin_core_tests.specs.declared.pair.View.{View}
 use Rattle.spin_core_tests.specs.declared.pair.View.TheVariants.{Away, Reading}
 
@@ -11,14 +12,14 @@ use_of_view Reading = reads
 abbrev pub pair_ways : {X : Type 0} → Ways X View
 pair_ways = (lends, use_of_view)
 
--- the word counts the readers
-abbrev pub IsPair : ℕ → Unit {0} → List View → Type 0
-IsPair n m vs = (n ≡ readers_of use_of_view vs) × (n ≤ 2)
+-- the word counts the readers, and each has left an entry
+abbrev pub IsPair : {S : Type 0} → ℕ → Trace (Unit {0}) S → List View → Type 0
+IsPair n t vs = (n ≡ readers_of use_of_view vs) × (n ≤ 2) × (n ≤ length t.entries)
 
--- a party reads where it found the number that it expected
-abbrev pub Joins : ℕ → ℕ → Option View → ℕ → View → Type 0
-Joins old new before found after = after ≡ (if found == old then Reading else Away)
+-- a party reads, and appends an entry, where it found the number that it expected
+abbrev pub Joins : ℕ → ℕ → Option View → List (Unit {0}) → List (Unit {0}) → ℕ → View → Type 0
+Joins old new before log es found after = (after ≡ (if found == old then Reading else Away)) × (es ≡ (if found == old then tt ∷ [] else []))
 
--- a reader that goes is away
-abbrev pub Leaves : ℕ → ℕ → Option View → ℕ → View → Type 0
-Leaves old new before found after = after ≡ Away
+-- a reader that goes is away, and appends nothing
+abbrev pub Leaves : ℕ → ℕ → Option View → List (Unit {0}) → List (Unit {0}) → ℕ → View → Type 0
+Leaves old new before log es found after = (after ≡ Away) × (es ≡ [])

@@ -1,8 +1,10 @@
 //! What the contracts of the cell leave to a run: that each step gives and leaves the words that it says.
+ghost use Rattle.std.specs.Prelude.{◌≡◌, ◌+◌, ◌≤◌, length};
 
 use super::equal::equal;
 use spin_core::cell::{Cell, Play, Rule};
-use spin_core::relax::{Loop, RelaxStrategy, Spin, Yield};
+use spin_core::trace::{Trace, Watch};
+use std::mem::size_of;
 
 /// A party that never uses the value.
 #[derive(Clone, Copy)]
@@ -10,93 +12,134 @@ enum Bystander {
     Stands,
 }
 
-/// Any words will do.
+/// Any words will do, and any entries, under the name that is known from the start.
 struct AnyWords;
 
 impl Rule<u64, Bystander> for AnyWords {
-    type Key = ();
+    type Key = Watch<()>;
 
-    type Second = u64;
+    type Second = Trace<(), u64>;
 
     ghost use Rattle.spin_core_tests.specs.Bystanders.{any_words, no_use};
 
-    ghost holds = { any_words };
+    ghost holds = { λ start. any_words start.name };
 
     ghost ways = { λ _. no_use };
 }
 
+/// A step that appends nothing.
 struct TellNothing;
 
-impl Play<Bystander> for TellNothing {
+impl Play<Bystander, ()> for TellNothing {
     ghost use Rattle.spin_core_tests.specs.Bystanders.{nothing_told};
 
-    ghost then = { nothing_told };
+    ghost told = { nothing_told };
+}
+
+/// A step that appends an entry.
+struct Mark;
+
+impl Play<Bystander, ()> for Mark {
+    ghost use Rattle.spin_core_tests.specs.Bystanders.{marks};
+
+    ghost told = { marks };
 }
 
 type Words = Cell<u64, Bystander, AnyWords>;
 
+// A cell of the value 5 and the words 1 and 2.
+fn words() -> Words {
+    let trace = Trace::new(2);
+    let start = trace.watch();
+    Cell::new(5, 1, trace, &start)
+}
+
 #[test]
-fn strategies_return(rt: HostRuntime) {
-    Spin::relax(&rt);
-    Yield::relax(&rt);
-    Loop::relax(&rt);
+fn a_trace_has_no_byte(rt: HostRuntime) {
+    equal(&rt, size_of::<Trace<()>>(), 0);
+    equal(&rt, size_of::<Trace<(), u64>>(), 8);
+    equal(&rt, size_of::<Watch<()>>(), 0);
+    equal(&rt, size_of::<Words>(), 24);
 }
 
 #[test]
 fn steps_on_the_first_word(rt: HostRuntime) {
-    let cell: Words = Cell::new(5, 1, 2, &());
-    let (found, party) = cell.enter().load::<TellNothing>();
+    let cell = words();
+    let (found, party, _) = cell.enter().load::<TellNothing>(Watch::nothing());
     equal(&rt, found, 1);
-    let (found, party) = party.exchange::<TellNothing>(1, 6);
+    let (found, party, _) = party.exchange::<Mark>(1, 6, Watch::nothing());
     equal(&rt, found, 1);
-    let (found, party) = party.exchange::<TellNothing>(1, 7);
+    let (found, party, _) = party.exchange::<TellNothing>(1, 7, Watch::nothing());
     equal(&rt, found, 6);
-    let party = party.store::<TellNothing>(8);
-    let (found, party) = party.add::<TellNothing>(u64::MAX);
+    let (party, _) = party.store::<Mark>(8, Watch::nothing());
+    let (found, party, _) = party.add::<Mark>(u64::MAX, Watch::nothing());
     equal(&rt, found, 8);
-    let (found, party) = party.subtract::<TellNothing>(3);
+    let (found, party, _) = party.subtract::<Mark>(3, Watch::nothing());
     equal(&rt, found, 7);
-    let (found, party) = party.set_bits::<TellNothing>(3);
+    let (found, party, _) = party.set_bits::<Mark>(3, Watch::nothing());
     equal(&rt, found, 4);
-    let (found, party) = party.load::<TellNothing>();
+    let (found, party, _) = party.load::<TellNothing>(Watch::nothing());
     equal(&rt, found, 7);
-    let (found, party) = party.load_second::<TellNothing>();
+    let (found, party, _) = party.load_second::<TellNothing>(Watch::nothing());
     equal(&rt, found, 2);
     party.leave();
 }
 
 #[test]
 fn steps_on_the_second_word(rt: HostRuntime) {
-    let cell: Words = Cell::new(5, 1, 2, &());
-    let (found, party) = cell.enter().load_second::<TellNothing>();
+    let cell = words();
+    let (found, party, _) = cell.enter().load_second::<TellNothing>(Watch::nothing());
     equal(&rt, found, 2);
-    let party = party.store_second::<TellNothing>(8);
-    let (found, party) = party.load_second::<TellNothing>();
+    let (party, _) = party.store_second::<Mark>(8, Watch::nothing());
+    let (found, party, _) = party.load_second::<TellNothing>(Watch::nothing());
     equal(&rt, found, 8);
-    let (found, party) = party.load::<TellNothing>();
+    let (found, party, _) = party.load::<TellNothing>(Watch::nothing());
     equal(&rt, found, 1);
     party.leave();
 }
 
+// Appends an entry by a step on each word, and returns what is known then.
+fn mark_both(cell: &Words, seen: Watch<()>) -> Watch<()>
+    requires { seen.name ≡ cell.now.name }
+    ensures name { result.name ≡ seen.name }
+    ensures more { length seen.entries + 2 ≤ length result.entries }
+{
+    let (_, party, seen) = cell.enter().add::<Mark>(1, seen);
+    let (party, seen) = party.store_second::<Mark>(8, seen);
+    party.leave();
+    seen
+}
+
+#[test]
+fn a_watch_goes_from_step_to_step(rt: HostRuntime) {
+    let trace = Trace::new(2);
+    let start = trace.watch();
+    let cell: Words = Cell::new(5, 1, trace, &start);
+    let seen = mark_both(&cell, start.copy());
+    seen.compare(&start);
+    equal(&rt, cell.enter().look::<TellNothing>(seen).0, 2);
+}
+
 // What a party finds that looks after its exchange, or the word that the exchange found.
 fn attempt(cell: &Words, old: u64, new: u64) -> Result<u64, u64> {
-    let party = cell.enter().attempt::<TellNothing>(old, new)?;
-    Ok(party.look::<TellNothing>())
+    let (party, _) = cell.enter().attempt::<Mark>(old, new, Watch::nothing());
+    Ok(party?.look::<TellNothing>(Watch::nothing()).0)
 }
 
 #[test]
 fn a_party_goes_where_its_exchange_missed(rt: HostRuntime) {
-    let cell: Words = Cell::new(5, 1, 2, &());
+    let cell = words();
     equal(&rt, attempt(&cell, 1, 6), Ok(6));
     equal(&rt, attempt(&cell, 1, 7), Err(6));
-    equal(&rt, cell.enter().look::<TellNothing>(), 6);
+    equal(&rt, cell.enter().look::<TellNothing>(Watch::nothing()).0, 6);
 }
 
 #[test]
 fn the_owner_has_the_value(rt: HostRuntime) {
-    let mut cell: Words = Cell::new(5, 1, 2, &());
+    let mut cell = words();
     equal(&rt, *cell.get_mut(), 5);
     *cell.get_mut() = 7;
-    cell.enter().store::<TellNothing>(3).leave();
+    let (party, _) = cell.enter().store::<Mark>(3, Watch::nothing());
+    party.leave();
     equal(&rt, cell.into_inner(), 7);
 }

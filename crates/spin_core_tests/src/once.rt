@@ -5,6 +5,7 @@ ghost use Rattle.spin_core_tests.specs.declared.once.View.TheVariants.{Reading};
 #[cfg(test)]
 use super::equal::equal;
 use spin_core::cell::{Cell, Permit, Play, Rule};
+use spin_core::trace::{Trace, Watch};
 
 /// What a party is to the value.
 #[derive(Clone, Copy)]
@@ -22,47 +23,52 @@ enum Stage {
 }
 
 impl Rule<Stage, View> for Stage {
+    ghost use Rattle.spin_core.specs.Traced.{Untraced};
     ghost use Rattle.spin_core_tests.specs.Once.{IsOnce, once_ways};
 
     type Key = u64;
 
-    type Second = ();
+    type Second = Trace<()>;
 
-    ghost holds = { IsOnce };
+    ghost holds = { λ _. Untraced IsOnce };
 
     ghost ways = { once_ways };
 }
 
 struct Load;
 
-impl Play<View> for Load {
+impl Play<View, ()> for Load {
+    ghost use Rattle.spin_core.specs.Traced.{quiet};
     ghost use Rattle.spin_core_tests.specs.Once.{Loads};
 
-    ghost then = { Loads };
+    ghost told = { λ old new before. quiet (Loads old new before) };
 }
 
 struct Begin;
 
-impl Play<View> for Begin {
+impl Play<View, ()> for Begin {
+    ghost use Rattle.spin_core.specs.Traced.{quiet};
     ghost use Rattle.spin_core_tests.specs.Once.{Begins};
 
-    ghost then = { Begins };
+    ghost told = { λ old new before. quiet (Begins old new before) };
 }
 
 struct PutBack;
 
-impl Play<View> for PutBack {
+impl Play<View, ()> for PutBack {
+    ghost use Rattle.spin_core.specs.Traced.{quiet};
     ghost use Rattle.spin_core_tests.specs.Once.{PutsBack};
 
-    ghost then = { PutsBack };
+    ghost told = { λ old new before. quiet (PutsBack old new before) };
 }
 
 struct Complete;
 
-impl Play<View> for Complete {
+impl Play<View, ()> for Complete {
+    ghost use Rattle.spin_core.specs.Traced.{quiet};
     ghost use Rattle.spin_core_tests.specs.Once.{Completes};
 
-    ghost then = { Completes };
+    ghost told = { λ old new before. quiet (Completes old new before) };
 }
 
 /// The number after `seed`, once somebody has asked for it.
@@ -76,7 +82,7 @@ impl Next {
         ensures { result.cell ≡ seed }
     {
         Next {
-            cell: Cell::new(Stage::Seed(seed), 0, (), &seed),
+            cell: Cell::new(Stage::Seed(seed), 0, Trace::new(()), &seed),
         }
     }
 
@@ -86,14 +92,14 @@ impl Next {
         ensures { result.cell ≡ seed }
     {
         Next {
-            cell: Cell::new(Stage::Done(seed + 1), 2, (), &seed),
+            cell: Cell::new(Stage::Done(seed + 1), 2, Trace::new(()), &seed),
         }
     }
 
     fn get(&self) -> Option<&u64>
         ensures { IfSome result (λ value. value.now ≡ self.now.cell + 1) }
     {
-        let (found, permit) = self.cell.enter().load::<Load>();
+        let (found, permit, _) = self.cell.enter().load::<Load>(Watch::nothing());
         if found == 2 {
             return Some(made(permit));
         }
@@ -105,7 +111,8 @@ impl Next {
     fn force(&self) -> Option<&u64>
         ensures { IfSome result (λ value. value.now ≡ self.now.cell + 1) }
     {
-        let (found, permit) = self.cell.enter().exchange::<Begin>(0, 1);
+        let party = self.cell.enter();
+        let (found, permit, _) = party.exchange::<Begin>(0, 1, Watch::nothing());
         if found == 2 {
             return Some(made(permit));
         }
@@ -119,11 +126,15 @@ impl Next {
             Stage::Done(_) => unreachable!(),
         };
         let Some(next) = next else {
-            writer.into_permit().store::<PutBack>(0).leave();
+            let permit = writer.into_permit();
+            let (permit, _) = permit.store::<PutBack>(0, Watch::nothing());
+            permit.leave();
             return None;
         };
         *writer.get_mut() = Stage::Done(next);
-        Some(made(writer.into_permit().store::<Complete>(2)))
+        let permit = writer.into_permit();
+        let (permit, _) = permit.store::<Complete>(2, Watch::nothing());
+        Some(made(permit))
     }
 }
 

@@ -1,10 +1,13 @@
-//! A value that two parties at most read at a time.
-ghost use Rattle.std.specs.Prelude.{◌≡◌, ◌<◌, Some, IfSome};
+//! A value that two parties at most read at a time. Each party that comes to read appends an entry to the trace.
+ghost use Rattle.std.specs.Prelude.{◌≡◌, ◌<◌, Some, IfSome, length};
 ghost use Rattle.spin_core_tests.specs.declared.pair.View.TheVariants.{Reading};
 
 #[cfg(test)]
 use super::equal::equal;
 use spin_core::cell::{Cell, Permit, Play, Rule};
+use spin_core::trace::{Trace, Watch};
+#[cfg(test)]
+use std::mem::size_of;
 
 /// What a party is to the value.
 #[derive(Clone, Copy)]
@@ -18,27 +21,27 @@ impl Rule<u64, View> for u64 {
 
     type Key = ();
 
-    type Second = ();
+    type Second = Trace<()>;
 
-    ghost holds = { IsPair };
+    ghost holds = { λ _. IsPair };
 
     ghost ways = { λ _. pair_ways };
 }
 
 struct Join;
 
-impl Play<View> for Join {
+impl Play<View, ()> for Join {
     ghost use Rattle.spin_core_tests.specs.Pair.{Joins};
 
-    ghost then = { Joins };
+    ghost told = { Joins };
 }
 
 struct Leave;
 
-impl Play<View> for Leave {
+impl Play<View, ()> for Leave {
     ghost use Rattle.spin_core_tests.specs.Pair.{Leaves};
 
-    ghost then = { Leaves };
+    ghost told = { Leaves };
 }
 
 type Pair = Cell<u64, View, u64>;
@@ -46,17 +49,19 @@ type Pair = Cell<u64, View, u64>;
 type Reader<'a> = Permit<'a, u64, View, u64>;
 
 fn pair(value: u64) -> Pair {
-    Cell::new(value, 0, (), &())
+    Cell::new(value, 0, Trace::new(()), &())
 }
 
-// Comes to read beside `others`, where so many read.
-fn read(pair: &Pair, others: u64) -> Option<Reader<'_>>
+// Comes to read beside `others`, where so many read. What it knows of the trace then has an entry.
+fn read(pair: &Pair, others: u64) -> Option<(Reader<'_>, Watch<()>)>
     requires { others < 2 }
-    ensures { IfSome result (λ reader. reader.view ≡ Some Reading) }
+    ensures view { IfSome result (λ came. came.0.view ≡ Some Reading) }
+    ensures seen { IfSome result (λ came. 0 < length came.1.entries) }
 {
-    let (found, permit) = pair.enter().exchange::<Join>(others, others + 1);
+    let party = pair.enter();
+    let (found, permit, seen) = party.exchange::<Join>(others, others + 1, Watch::nothing());
     if found == others {
-        return Some(permit);
+        return Some((permit, seen));
     }
     permit.leave();
     None
@@ -65,7 +70,7 @@ fn read(pair: &Pair, others: u64) -> Option<Reader<'_>>
 fn stop(reader: Reader<'_>)
     requires { reader.view ≡ Some Reading }
 {
-    let (_, permit) = reader.subtract::<Leave>(1);
+    let (_, permit, _) = reader.subtract::<Leave>(1, Watch::nothing());
     permit.leave();
 }
 
@@ -75,7 +80,7 @@ fn refuses(pair: &Pair, others: u64) -> bool
     requires { others < 2 }
 {
     match read(pair, others) {
-        Some(reader) => {
+        Some((reader, _)) => {
             stop(reader);
             false
         }
@@ -86,12 +91,17 @@ fn refuses(pair: &Pair, others: u64) -> bool
 #[test]
 fn two_read_beside_one_another(rt: HostRuntime) {
     let cell = pair(7);
-    let first = read(&cell, 0).expect(&rt, "nobody reads");
-    let second = read(&cell, 1).expect(&rt, "one reads");
+    let (first, _) = read(&cell, 0).expect(&rt, "nobody reads");
+    let (second, _) = read(&cell, 1).expect(&rt, "one reads");
     equal(&rt, refuses(&cell, 0), true);
     equal(&rt, *first.get(), 7);
     equal(&rt, *second.get(), 7);
     stop(first);
     equal(&rt, *second.see(), 7);
     equal(&rt, refuses(&cell, 0), true);
+}
+
+#[test]
+fn a_trace_takes_no_room(rt: HostRuntime) {
+    equal(&rt, size_of::<Pair>(), 2 * size_of::<u64>());
 }

@@ -26,10 +26,10 @@ const ATTEMPTS: u32 = 100;
 #[test]
 fn pauses_double_up_to_a_bound(rt: HostRuntime) {
     let attempts = Cell::new(0u32);
-    let attempt = || {
+    let attempt = |()| {
         attempts.set(attempts.get().wrapping_add(1));
-        (attempts.get() == ATTEMPTS).then_some(())
+        (attempts.get() == ATTEMPTS).then_some(()).ok_or(())
     };
-    Strict::back_off(&rt, attempt);
+    Strict::back_off(&rt, (), attempt);
     equal(&rt, attempts.get(), ATTEMPTS);
 }

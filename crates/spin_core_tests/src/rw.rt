@@ -1,6 +1,6 @@
 //! The step functions of readers and a writer, on words.
 use super::equal::equal;
-use spin_core::step::rw;
+use spin_step_more::rw;
 
 /// Words, each with the cap, and with what becomes of it where a reader comes, or one that may upgrade.
 const READS: &[(usize, usize, Option<usize>, Option<usize>)] = &[

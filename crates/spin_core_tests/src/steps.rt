@@ -1,9 +1,10 @@
 //! What the contracts of the step functions leave to a run: that each gives the word that it says.
 
 use super::equal::equal;
-use spin_core::step::barrier::State;
-use spin_core::step::fair::LockRejectReason::{Locked, Starved};
-use spin_core::step::{barrier, fair, flag, once, ticket};
+use spin_core::step::{flag, once, ticket};
+use spin_step_more::barrier::State;
+use spin_step_more::fair::LockRejectReason::{Locked, Starved};
+use spin_step_more::{barrier, fair};
 
 #[test]
 fn flag_steps(rt: HostRuntime) {

@@ -5,6 +5,7 @@
 
 pub mod any_lock;
 pub mod from_rust;
+pub mod paired;
 pub mod registers;
 pub mod totals;
 pub mod versions;

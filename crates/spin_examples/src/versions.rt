@@ -2,9 +2,10 @@
 ghost use Rattle.std.specs.Prelude.{◌≡◌, ◌≤◌, Some};
 ghost use Rattle.spin.specs.Entries.{last};
 
-use spin::RwLock;
-use spin::growing::{self, Ascending, Growing};
-use spin::history::{BlankLog, History, Snapshot};
+use spin::growing::{Ascending, Growing};
+use spin::history::{BlankLog, History, Snapshot, Work, open};
+use spin::rwlock::RwLockReadGuard;
+use spin::{RwLock, register};
 use std::marker::Brand;
 use std::sync::Wait;
 use std::thread::{Threads, join};
@@ -19,7 +20,7 @@ fn raise<H: History, W: Wait>(
     mut seen: Snapshot<u64, H>,
 ) {
     for _ in 0..times {
-        growing::advance(
+        register::update(
             rt,
             version,
             |old: &u64| -> u64
@@ -42,8 +43,8 @@ fn watch<H: History, W: Wait>(
     ensures rising { result.0.0 ≤ result.0.1 }
     ensures last { last result.1.entries ≡ Some result.0.1 }
 {
-    let first = growing::read_shared(rt, version, &mut seen);
-    let second = growing::read_shared(rt, version, &mut seen);
+    let first = register::read_shared(rt, version, &mut seen);
+    let second = register::read_shared(rt, version, &mut seen);
     ((first, second), seen)
 }
 
@@ -107,4 +108,44 @@ pub fn race<W: Threads + Wait + Sync>(rt: &W, times: u64) -> ((u64, u64), (u64, 
     ensures second { (result.1.0 ≤ result.1.1) × (result.1.1 ≤ result.2) }
 {
     race_by::<Brand, W>(rt, times, BlankLog::new())
+}
+
+/// Reads through a guard that is never dropped, and then anew. What it saw first it still knows.
+pub fn watch_leaked<H: History, W: Wait>(
+    rt: &W,
+    version: &Version<H>,
+    seen: &mut Snapshot<u64, H>,
+) -> (u64, u64)
+    ensures rising { result.0 ≤ result.1 }
+    ensures last { last seen.new.entries ≡ Some result.1 }
+{
+    let leaked = RwLockReadGuard::leak(version.read(rt));
+    let first = leaked.read(seen);
+    (first, register::read_shared(rt, version, seen))
+}
+
+/// A watcher that leaks its guard, over a version of its own.
+#[derive(Drop)]
+pub struct WatchLeaked<'r, W>(pub &'r W);
+
+impl<W: Wait> Work for WatchLeaked<'_, W> {
+    type Answer = (u64, u64);
+
+    ghost gives = { λ _ answer. answer.0 ≤ answer.1 };
+
+    fn run<H: History + Send + Sync>(self, blank: BlankLog) -> (u64, u64) {
+        let log = blank.open::<u64, H>();
+        let mut seen = log.snapshot();
+        let version: Version<H> = RwLock::new(Growing::new(0, log));
+        let start = seen.copy();
+        raise(self.0, &version, 1, start);
+        watch_leaked(self.0, &version, &mut seen)
+    }
+}
+
+/// Watches a version that was raised once, with a guard that is never dropped. No file names its log.
+pub fn watch_one<W: Wait>(rt: &W) -> (u64, u64)
+    ensures { result.0 ≤ result.1 }
+{
+    open(WatchLeaked(rt))
 }

@@ -1,69 +1,65 @@
--- Starvers come first: what a party's coming to a view leaves true of the order of all.
-use Rattle.std.proofs.Common.{◌≡◌, ℕ, zero, suc, ◌<◌, ◌≤◌, true, List, [], ◌∷◌, ◌++◌, Option, Some, None, refl, sym, ap, ◌∙◌, arith, set}
-use Rattle.std.specs.Prelude.{sum_by, slice_get}
-use Rattle.std.proofs.lemmas.List.Sums.{sum_by-cons, sum_by_push}
-use mathlib.Core.Logic.{dite}
-use mathlib.Core.Option.{some, some-injective, some-ne-none}
-use native.Mathlib.Decide.{dec_lt}
-use lib.ListN.{get_elem?}
-use Rattle.spin_step.specs.Plain.{Plain, is_empty}
-use Rattle.spin_core.specs.Cell.{Stands, after}
-use Rattle.spin_core.specs.Views.{entries_of, IsLockOf}
-use Rattle.spin_core.proofs.CellCounts.{moves, without}
-use Rattle.spin_core.proofs.Owners.{within}
+-- Starvers come first: what a step leaves true of the order of the last moves of all parties.
+use Rattle.std.proofs.Common.{◌≡◌, ℕ, zero, suc, ◌<◌, ◌≤◌, List, [], ◌∷◌, ◌++◌, length, Option, Some, None, sym, ap, ◌∙◌, subst, arith, slice_set, inl, inr}
+use Rattle.std.specs.Prelude.{slice_get, ◌⊎◌}
+use Rattle.spin_core.specs.Cell.{after}
+use Rattle.spin_core.specs.Own.{Numbered, present_from, Rested, IsRun}
 use Rattle.spin_fair.specs.declared.fair.rule.View.{View}
-use Rattle.spin_fair.specs.declared.fair.rule.View.TheVariants.{Idle, Holding}
-use Rattle.spin_fair.specs.Fair.{part, newcomer, starver, StarversFirst}
+use Rattle.spin_fair.specs.declared.fair.rule.View.TheVariants.{Holding}
+use Rattle.spin_fair.specs.Fair.{Done, model, seat_of, words_of, views_of, starver, StarversFirst}
 
--- a party that comes and holds finds no starver; else a newcomer, or a starver, was one before
-abbrev pub Fits : Option View → View → List View → Type 0
-Fits None w vs = 0 < newcomer w → sum_by starver vs ≡ 0
-Fits (Some v) w vs = (starver w ≤ starver v) × (newcomer w ≤ newcomer v)
+module _ {X : Type 0} where
+  -- there stands the party that made the step, or one that stood there before
+  abbrev Stood : List X → X → ℕ → X → Type 0
+  Stood vs w i v = (v ≡ w) ⊎ (slice_get vs i ≡ Some v)
 
-joins : (vs : List View) (w : View) → (0 < newcomer w → sum_by starver vs ≡ 0) → StarversFirst vs → StarversFirst (vs ++ w ∷ [])
-joins [] w free first = (λ l. refl, tt)
-joins (v ∷ vs) w free first =
-    let c = sum_by-cons starver v vs in let push = sum_by_push newcomer vs w in (
-      λ l. dite (dec_lt 0 (newcomer w)) (λ new. absurd (omega (arith, free new, c, l))) (λ old. omega (arith, push, first.0 l, old)),
-      joins vs w (λ new. omega (arith, free new, c)) first.1,
-    )
+  appended : (vs : List X) (w : X) (i : ℕ) (v : X) → slice_get (vs ++ w ∷ []) i ≡ Some v → Stood vs w i v
+  appended [] w zero v at = let same : w ≡ v = cc (at) in inl (sym same)
+  appended [] w (suc i) v at = absurd (cc (at))
+  appended (x ∷ vs) w zero v at = inr at
+  appended (x ∷ vs) w (suc i) v at = appended vs w i v at
 
-changes : (vs : List View) (id : ℕ) (v w : View) → get_elem? vs id ≡ some v → Fits (Some v) w vs → StarversFirst vs → StarversFirst (set vs id w)
-changes [] id v w at fits first = absurd (some-ne-none v (sym at))
-changes (x ∷ xs) zero v w at fits first = let same : starver x ≡ starver v = ap starver (some-injective x v at) in (λ l. first.0 (omega (arith, l, fits.0, same)), first.1)
-changes (x ∷ xs) (suc i) v w at fits first = let m = moves newcomer i (Some v) xs w at in (λ l. omega (arith, m, first.0 l, fits.1), changes xs i v w at fits first.1)
+  replaced : (vs : List X) (id : ℕ) (w : X) (i : ℕ) (v : X) → slice_get (slice_set vs id w) i ≡ Some v → Stood vs w i v
+  replaced [] id w i v at = inr at
+  replaced (x ∷ xs) zero w zero v at = let same : w ≡ v = cc (at) in inl (sym same)
+  replaced (x ∷ xs) zero w (suc i) v at = inr at
+  replaced (x ∷ xs) (suc id) w zero v at = inr at
+  replaced (x ∷ xs) (suc id) w (suc i) v at = replaced xs id w i v at
 
-pub first_after : (id : ℕ) (view : Option View) (vs : List View) (w : View) → Stands id view vs → Fits view w vs → StarversFirst vs → StarversFirst (after id view vs w)
-first_after id None vs w at fits first = joins vs w fits first
-first_after id (Some v) vs w at fits first = changes vs id v w at fits first
+  stood : (id : ℕ) (view : Option X) (vs : List X) (w : X) (i : ℕ) (v : X) → slice_get (after id view vs w) i ≡ Some v → Stood vs w i v
+  stood id None vs w i v at = appended vs w i v at
+  stood id (Some u) vs w i v at = replaced vs id w i v at
 
-pub first_without : (before behind : List View) (v : View) → StarversFirst (before ++ v ∷ behind) → StarversFirst (before ++ behind)
-first_without [] behind v first = first.1
-first_without (x ∷ before) behind v first = let e = without newcomer before behind v in (λ l. omega (arith, e, first.0 l), first_without before behind v first.1)
+  still : (before behind : List X) (v : X) (i : ℕ) (x : X) → slice_get (before ++ behind) i ≡ Some x → (k : ℕ) × (slice_get (before ++ v ∷ behind) k ≡ Some x)
+  still [] behind v i x at = (suc i, at)
+  still (y ∷ before) behind v zero x at = (zero, at)
+  still (y ∷ before) behind v (suc i) x at = let r = still before behind v i x at in (suc r.0, r.1)
 
-nobody : (qs : List ℕ) → is_empty qs ≡ true → sum_by (λ q. 1) qs ≡ 0
-nobody [] none = refl
-nobody (q ∷ qs) none = absurd (cc (none))
+-- a party leaves
+pub first_without : (before behind : List (Numbered View)) (v : Numbered View) → StarversFirst (before ++ v ∷ behind) → StarversFirst (before ++ behind)
+first_without before behind v order i j x u at_i at_j holds starves = let a = still before behind v i x at_i in let b = still before behind v j u at_j in order a.0 b.0 x u a.1 b.1 holds starves
 
-registered : (p : ℕ) (v : View) → starver v ≡ sum_by (λ q. 1) (entries_of p (part v)).starvers
-registered p Idle = refl
-registered p _ = refl
+-- a party makes its last move after those of all others, which are within this length; and finds no starver where it comes to hold as a newcomer
+pub first_after : (id : ℕ) (view : Option (Numbered View)) (vs : List (Numbered View)) (w : Numbered View) (len : ℕ) → ((i : ℕ) (v : Numbered View) → slice_get vs i ≡ Some v → v.2 ≤ len) → len ≤ w.2
+    → (w.0 ≡ Holding → (j : ℕ) (u : Numbered View) → slice_get vs j ≡ Some u → 0 < starver u.0 → ⊥) → StarversFirst vs → StarversFirst (after id view vs w)
+first_after id view vs w len marks late alone order i j v u at_i at_j holds starves = both (stood id view vs w i v at_i) (stood id view vs w j u at_j)
+  where
+    both : Stood vs w i v → Stood vs w j u → v.2 ≤ u.2
+    both (inl a) (inl b) = omega (arith, ap (λ x. x.2) (a ∙ sym b))
+    both (inl a) (inr b) = absurd (alone (ap (λ x. x.0) (sym a) ∙ holds) j u b starves)
+    both (inr a) (inl b) = omega (arith, marks i v a, late, ap (λ x. x.2) b)
+    both (inr a) (inr b) = order i j v u a b holds starves
 
-pub nobody_starves : (vs : List View) (s : Plain) → IsLockOf part vs s → is_empty s.starvers ≡ true → sum_by starver vs ≡ 0
-nobody_starves vs s is none =
-    let few = within (λ q. q) (λ q. 1) part starver (λ p x. sum_by (λ q. 1) (entries_of p x).starvers) registered vs s.starvers (λ p. ap (λ e. sum_by (λ q. 1) e.starvers) (is p).0) in
-    omega (arith, few, nobody s.starvers none)
+within : (schedule : List Done) (k : ℕ) (came : List (Option (View × ℕ))) (i : ℕ) (v : Numbered View) → Rested schedule k came → slice_get (present_from k came) i ≡ Some v → v.2 ≤ length schedule
+within schedule k [] i v rest at = absurd (cc (at))
+within schedule k (None ∷ us) i v rest at = within schedule (suc k) us i v rest at
+within schedule k (Some u ∷ us) zero v rest at = let same : (u.0, k, u.1) ≡ v = cc (at) in subst (λ (x : Numbered View). x.2 ≤ length schedule) same rest.0.0
+within schedule k (Some u ∷ us) (suc i) v rest at = within schedule (suc k) us i v rest.1 at
 
--- Who came before whom
+-- no party has made a move after the end of the trace
+pub marks_within : (schedule : List Done) (s : ℕ × Unit {0}) (vs : List (Numbered View)) → IsRun model seat_of words_of schedule s vs → (i : ℕ) (v : Numbered View) → slice_get vs i ≡ Some v → v.2 ≤ length schedule
+marks_within schedule s vs run i v at = within schedule 0 run.0 i v run.7 (subst (λ l. slice_get l i ≡ Some v) run.3 at)
 
-one_of : (vs : List View) (i : ℕ) → slice_get vs i ≡ Some Holding → 0 < sum_by newcomer vs
-one_of [] i at = absurd (cc (at))
-one_of (x ∷ vs) zero at = let same : x ≡ Holding = cc (at) in omega (arith, sum_by-cons newcomer x vs, ap newcomer same)
-one_of (x ∷ vs) (suc i) at = omega (arith, sum_by-cons newcomer x vs, one_of vs i at)
-
-pub came_before : (vs : List View) → StarversFirst vs → (i j : ℕ) (v : View) → slice_get vs i ≡ Some Holding → slice_get vs j ≡ Some v → 0 < starver v → i < j
-came_before [] first i j v new at starves = absurd (cc (new))
-came_before (x ∷ vs) first zero zero v new at starves = let is : x ≡ Holding = cc (new) in let same : x ≡ v = cc (at) in absurd (omega (arith, starves, ap starver (sym same ∙ is)))
-came_before (x ∷ vs) first (suc i) zero v new at starves = let same : x ≡ v = cc (at) in absurd (omega (arith, one_of vs i new, first.0 (omega (arith, starves, ap starver same))))
-came_before (x ∷ vs) first zero (suc j) v new at starves = omega arith
-came_before (x ∷ vs) first (suc i) (suc j) v new at starves = omega (arith, came_before vs first.1 i j v new at starves)
+pub viewed : (vs : List (Numbered View)) (j : ℕ) (w : Numbered View) → slice_get vs j ≡ Some w → slice_get (views_of vs) j ≡ Some w.0
+viewed [] j w at = absurd (cc (at))
+viewed (x ∷ vs) zero w at = let same : x ≡ w = cc (at) in ap (λ (y : Numbered View). Some y.0) same
+viewed (x ∷ vs) (suc j) w at = viewed vs j w at

@@ -1,24 +1,27 @@
 //! A spinning mutex in which starvers come before newcomers. Begin at [`FairMutex::lock`] and [`FairMutex::starve`].
 ghost use Rattle.std.specs.Prelude.{◌≡◌, Some, IfSome, IfOk};
-ghost use Rattle.spin_guard.specs.Guard.{IsHolder};
-ghost use Rattle.spin_fair.specs.Fair.{use_of_view};
+ghost use Rattle.spin_core.specs.Guard.{IsHolder};
+ghost use Rattle.spin_fair.specs.Fair.{use_of_party};
 ghost use Rattle.spin_fair.specs.declared.fair.rule.View.TheVariants.{Holding};
 
-use self::rule::{Attempt, Load, Register};
+use self::rule::{Attempt, Load};
+use self::waiting::{register, try_with};
 use spin_core::cell::Cell;
+use spin_core::guard::{self, Guard};
+use spin_core::lock::{Lock, with_guard};
 use spin_core::relax::{MAX_HINTS, RelaxStrategy, Spin, Strategy};
-use spin_guard::guard::{self, Guard};
-use spin_lock::lock::{Lock, with_guard};
-use spin_step::fair;
+use spin_core::trace::{Trace, Watch};
+use spin_step_more::fair;
 use std::sync::Wait;
 
 mod rule;
 mod starvation;
 mod texts;
+pub(crate) mod waiting;
 
-pub use self::rule::{FairRule, View};
+pub use self::rule::{Entry, FairRule, Party, View};
 pub use self::starvation::Starvation;
-pub use spin_step::fair::LockRejectReason;
+pub use spin_step_more::fair::LockRejectReason;
 
 /// The patience of [`FairMutex::lock`]: after more looks than this that found the lock held, it starves.
 ///
@@ -49,7 +52,7 @@ pub const STARVATION_SPINS: usize = 1024;
 /// ```
 #[derive(Drop)]
 pub struct FairMutex<T, R = Spin> {
-    cell: Cell<T, View, FairRule>,
+    pub(crate) cell: Cell<T, Party, FairRule>,
     strategy: Strategy<R>,
 }
 
@@ -64,7 +67,7 @@ pub struct FairMutex<T, R = Spin> {
 ///     *sum = sum.wrapping_add(1);
 /// }
 /// ```
-pub type FairMutexGuard<'a, T, R = Spin> = Guard<'a, T, View, FairRule, R>;
+pub type FairMutexGuard<'a, T, R = Spin> = Guard<'a, T, Party, FairRule, R>;
 
 /// A hold on a [`FairMutex`]: it keeps the lock without a guard, and gives no access to the value.
 ///
@@ -84,7 +87,7 @@ pub type FairMutexGuard<'a, T, R = Spin> = Guard<'a, T, View, FairRule, R>;
 /// $Lock::force_unlock(held);
 /// (refused, *lock.try_lock().expect($rt, "open"))
 /// ```
-pub type Held<'a, T, R = Spin> = guard::Held<'a, T, View, FairRule, R>;
+pub type Held<'a, T, R = Spin> = guard::Held<'a, T, Party, FairRule, R>;
 
 impl<T, R> FairMutex<T, R> {
     /// Creates an unlocked mutex that holds `value` and has no starvers.
@@ -99,9 +102,10 @@ impl<T, R> FairMutex<T, R> {
     /// equal(&rt, lock.is_locked(), false);
     /// ```
     pub fn new(value: T) -> Self {
-        let cell = Cell::new(value, 0, (), &());
+        let trace = Trace::new(());
+        let start = trace.watch();
         FairMutex {
-            cell,
+            cell: Cell::new(value, 0, trace, &start),
             strategy: Strategy::named(),
         }
     }
@@ -140,32 +144,18 @@ impl<T, R: RelaxStrategy> FairMutex<T, R> {
     /// *own = 2;
     /// ```
     pub fn lock<W: Wait>(&self, rt: &W) -> FairMutexGuard<'_, T, R>
-        ensures { IsHolder use_of_view result }
+        ensures { IsHolder use_of_party result }
     {
-        match self.try_lock() {
-            Some(guard) => guard,
-            None => R::retry_after(rt, 0, |_| MAX_HINTS, |spins| self.look_and_try(rt, spins)),
-        }
-    }
-
-    // A load comes first, so that waiting threads share the cache line and do not write it. `spins` counts the looks
-    // that found the lock held, until there are enough to starve. All pauses are equally long, so looks measure time.
-    pub(crate) fn look_and_try<'a, W: Wait>(
-        &'a self,
-        rt: &W,
-        spins: usize,
-    ) -> Result<FairMutexGuard<'a, T, R>, usize>
-        ensures { IfOk result (IsHolder use_of_view) }
-    {
-        if !self.is_locked() {
-            return self.try_lock().ok_or(spins);
-        }
-        if spins <= STARVATION_SPINS {
-            return Err(spins + 1);
-        }
-        match self.starve(rt) {
-            Some(starvation) => Ok(starvation.lock(rt)),
-            None => Err(spins),
+        match try_with(self.cell.enter(), 0) {
+            Ok(guard) => guard,
+            Err(waiting) => {
+                R::retry_after(
+                    rt,
+                    waiting,
+                    |_| MAX_HINTS,
+                    |waiting| waiting.look_and_try(rt),
+                )
+            }
         }
     }
 }
@@ -176,8 +166,8 @@ impl<T, R> FairMutex<T, R> {
     /// It makes one compare-exchange.
     ///
     /// # Contract
-    /// A guard belongs to a holder of the lock (`IsHolder`), which came as a newcomer (its view is `Holding`). So no
-    /// registered starver came before it. `None` promises nothing. The call returns.
+    /// A guard belongs to a holder of the lock (`IsHolder`), which came as a newcomer (its view is `Holding`): it found
+    /// no starver registered. `None` promises nothing. The call returns.
     ///
     /// # Examples
     /// ```
@@ -186,8 +176,8 @@ impl<T, R> FairMutex<T, R> {
     /// equal(&rt, lock.try_lock().is_none(), true);
     /// ```
     pub fn try_lock<'a>(&'a self) -> Option<FairMutexGuard<'a, T, R>>
-        ensures holder { IfSome result (IsHolder use_of_view) }
-        ensures newcomer { IfSome result (λ guard. guard.writer.view ≡ Holding) }
+        ensures holder { IfSome result (IsHolder use_of_party) }
+        ensures newcomer { IfSome result (λ guard. guard.writer.view.0 ≡ Holding) }
     {
         self.try_lock_starver().ok()
     }
@@ -204,13 +194,14 @@ impl<T, R> FairMutex<T, R> {
     /// }
     /// ```
     pub fn try_lock_starver<'a>(&'a self) -> Result<FairMutexGuard<'a, T, R>, LockRejectReason>
-        ensures holder { IfOk result (IsHolder use_of_view) }
-        ensures newcomer { IfOk result (λ guard. guard.writer.view ≡ Holding) }
+        ensures holder { IfOk result (IsHolder use_of_party) }
+        ensures newcomer { IfOk result (λ guard. guard.writer.view.0 ≡ Holding) }
     {
         let free = 0;
         let taken = fair::lock(free).unwrap();
         let party = self.cell.enter();
-        match party.attempt::<Attempt>(free as u64, taken as u64) {
+        let (got, _) = party.attempt::<Attempt>(free as u64, taken as u64, Watch::nothing());
+        match got {
             Ok(permit) => Ok(Guard::new(permit.into_writer())),
             Err(found) => Err(fair::reject(found as usize)),
         }
@@ -235,17 +226,13 @@ impl<T, R> FairMutex<T, R> {
     /// *guard = guard.wrapping_add(1);
     /// ```
     pub fn starve<W: Wait>(&self, rt: &W) -> Option<Starvation<'_, T, R>> {
-        // To begin at 0 saves a load if the word is 0. If it is not, the failed exchange is the load.
-        let mut word = 0;
-        for _ in rt.forever() {
-            let registered = fair::starve(word, fair::MAX_STARVERS)?;
-            let party = self.cell.enter();
-            match party.attempt::<Register>(word as u64, registered as u64) {
-                Ok(permit) => return Some(Starvation::new(permit)),
-                Err(found) => word = found as usize,
+        match register(rt, self.cell.enter()) {
+            Ok(permit) => Some(Starvation::new(permit)),
+            Err(permit) => {
+                permit.leave();
+                None
             }
         }
-        unreachable!()
     }
 
     /// Returns `true` if the lock was held at some moment during this call.
@@ -261,7 +248,8 @@ impl<T, R> FairMutex<T, R> {
     /// let guard = lock.lock(&rt);
     /// ```
     pub fn is_locked(&self) -> bool {
-        fair::is_locked(self.word())
+        let (found, _) = self.cell.enter().look::<Load>(Watch::nothing());
+        fair::is_locked(found as usize)
     }
 
     /// Releases the lock that the hold keeps.
@@ -300,10 +288,6 @@ impl<T, R> FairMutex<T, R> {
     /// ```
     pub fn get_mut(&mut self) -> &mut T {
         self.cell.get_mut()
-    }
-
-    fn word(&self) -> usize {
-        self.cell.enter().look::<Load>() as usize
     }
 }
 

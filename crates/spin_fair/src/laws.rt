@@ -1,22 +1,41 @@
 //! What follows from the rule of a `FairMutex`. Each law is the contract of a function that does nothing; begin at
-//! [`no_newcomer_holds_that_came_behind_a_starver`].
+//! [`every_run_of_a_fair_mutex_is_a_schedule`].
 ghost use Rattle.std.specs.Prelude.{◌≡◌, ◌<◌, ◌≤◌, ◌+◌, ◌-◌, ◌%◌, ◌^◌, ℕ, List, Some, true, bit_or, slice_get, unwrap_or};
+ghost use Rattle.spin_core.specs.Own.{Numbered, IsRun};
+ghost use Rattle.spin_core.specs.declared.trace.Trace.{Trace};
 ghost use Rattle.spin_step.specs.Plain.{holder_weight, starver_weight};
-ghost use Rattle.spin_step.specs.Starvers.{is_set, unlocked, unstarved, lock_starved};
+ghost use Rattle.spin_step_more.specs.Starvers.{is_set, unlocked, unstarved, lock_starved};
 ghost use Rattle.spin_fair.specs.declared.fair.rule.View.{View};
 ghost use Rattle.spin_fair.specs.declared.fair.rule.View.TheVariants.{Holding};
-ghost use Rattle.spin_fair.specs.Fair.{IsFair, starver, HoldsAt, StarvesAt};
+ghost use Rattle.spin_fair.specs.Fair.{Done, IsFair, model, seat_of, words_of, starver, views_of, HoldsAt, StarvesAt};
 
-/// States that a newcomer that holds a `FairMutex` came before each registered starver.
+/// Each run of a [`FairMutex`](crate::fair::FairMutex) on threads is a schedule of its model.
+///
+/// The lock's cell keeps, without a byte, the list of all moves that threads have made in it so far: who, and which
+/// move.
 ///
 /// # Contract
-/// Where the rule holds (`IsFair`), a newcomer that holds stands before each registered starver in the list of the
-/// parties. That list is in the order in which they came.
+/// Whatever holds between any two steps of threads (`IsFair`): no move of the list is passed over in the model. After
+/// the list the model has the lock's word, and has each party where the lock has it.
+///
+/// # Examples
+/// None: nobody calls a law.
+pub fn every_run_of_a_fair_mutex_is_a_schedule()
+    ensures { (name word : ℕ) (trace : Trace Done (Unit {0})) (parties : List (Numbered View)) → IsFair name word trace parties → IsRun model seat_of words_of trace.entries (word, trace.word) parties }
+{}
+
+/// States that a newcomer that holds a `FairMutex` acquired it before each registered starver made its last move.
+///
+/// So no newcomer acquires the lock beside a registered starver: its move would be the later one.
+///
+/// # Contract
+/// Where the rule holds (`IsFair`), the trace was no longer after the last move of a newcomer that holds, by which it
+/// acquired the lock, than after the last move of a registered starver.
 ///
 /// # Examples
 /// None: nobody calls a law.
 pub fn no_newcomer_holds_that_came_behind_a_starver()
-    ensures { (word : ℕ) (second : Unit {0}) (vs : List View) → IsFair word second vs → (i j : ℕ) (v : View) → slice_get vs i ≡ Some Holding → slice_get vs j ≡ Some v → 0 < starver v → i < j }
+    ensures { (name word : ℕ) (trace : Trace Done (Unit {0})) (parties : List (Numbered View)) → IsFair name word trace parties → (i j : ℕ) (v w : Numbered View) → slice_get parties i ≡ Some v → slice_get parties j ≡ Some w → v.0 ≡ Holding → 0 < starver w.0 → v.2 ≤ w.2 }
 {}
 
 /// States that the blind operations on the word of a `FairMutex` do what its step functions say.
@@ -31,7 +50,7 @@ pub fn no_newcomer_holds_that_came_behind_a_starver()
 /// # Examples
 /// None: nobody calls a law.
 pub fn an_addition_is_its_step_function()
-    ensures unlock { (word : ℕ) (second : Unit {0}) (vs : List View) (p : ℕ) → IsFair word second vs → HoldsAt vs p → (is_set word ≡ true) × ((word + (2 ^ 64 - holder_weight)) % 2 ^ 64 ≡ unlocked word) }
-    ensures unstarve { (word : ℕ) (second : Unit {0}) (vs : List View) (p : ℕ) → IsFair word second vs → StarvesAt vs p → (starver_weight ≤ word) × ((word + (2 ^ 64 - starver_weight)) % 2 ^ 64 ≡ unstarved word) }
+    ensures unlock { (name word : ℕ) (trace : Trace Done (Unit {0})) (parties : List (Numbered View)) (p : ℕ) → IsFair name word trace parties → HoldsAt (views_of parties) p → (is_set word ≡ true) × ((word + (2 ^ 64 - holder_weight)) % 2 ^ 64 ≡ unlocked word) }
+    ensures unstarve { (name word : ℕ) (trace : Trace Done (Unit {0})) (parties : List (Numbered View)) (p : ℕ) → IsFair name word trace parties → StarvesAt (views_of parties) p → (starver_weight ≤ word) × ((word + (2 ^ 64 - starver_weight)) % 2 ^ 64 ≡ unstarved word) }
     ensures lock_starved { (word : ℕ) → bit_or word holder_weight ≡ unwrap_or (lock_starved word) word }
 {}

@@ -6,3 +6,5 @@
 pub mod fair;
 pub mod laws;
 pub mod testing;
+
+pub use laws::every_run_of_a_fair_mutex_is_a_schedule;

@@ -1,30 +1,57 @@
-//! For tests of when a waiting `lock` starves. Begin at [`look_and_try`].
+//! For tests of when a waiting `lock` starves. Begin at [`begin`].
 ghost use Rattle.std.specs.Prelude.{IfOk};
-ghost use Rattle.spin_guard.specs.Guard.{IsHolder};
-ghost use Rattle.spin_fair.specs.Fair.{use_of_view};
+ghost use Rattle.spin_core.specs.Guard.{IsHolder};
+ghost use Rattle.spin_fair.specs.Fair.{use_of_party};
 
+pub use crate::fair::waiting::Waiting;
+use crate::fair::waiting::try_with;
 use crate::fair::{FairMutex, FairMutexGuard};
 use spin_core::relax::RelaxStrategy;
 use std::sync::Wait;
 
-/// Makes one of the attempts that a waiting `lock` repeats, after `spins` looks that found the lock held.
+/// Begins a call of `lock`, and returns it if it has to wait.
 ///
 /// It is made for tests, since no caller can count the looks of `lock` itself: a strategy has nothing to count in.
-/// Without a guard it returns the new number of looks. An attempt that starves waits for its guard.
 ///
 /// # Contract
 /// The guard belongs to a holder of the lock (`IsHolder`).
 ///
 /// # Examples
 /// ```
-/// equal(&rt, look_and_try(&rt, &lock, 5).err(), Some(5));
+/// let waiting = begin(&lock).err().expect(&rt, "held");
+/// ```
+pub fn begin<'a, T, R>(
+    lock: &'a FairMutex<T, R>,
+) -> Result<FairMutexGuard<'a, T, R>, Waiting<'a, T>>
+    ensures { IfOk result (IsHolder use_of_party) }
+{
+    try_with(lock.cell.enter(), 0)
+}
+
+/// Makes one of the attempts that a waiting `lock` repeats. An attempt that starves waits for its guard.
+///
+/// # Contract
+/// The guard belongs to a holder of the lock (`IsHolder`).
+///
+/// # Examples
+/// ```
+/// look_and_try(rt, waiting)
 /// ```
 pub fn look_and_try<'a, T, R: RelaxStrategy, W: Wait>(
     rt: &W,
-    lock: &'a FairMutex<T, R>,
-    spins: usize,
-) -> Result<FairMutexGuard<'a, T, R>, usize>
-    ensures { IfOk result (IsHolder use_of_view) }
+    waiting: Waiting<'a, T>,
+) -> Result<FairMutexGuard<'a, T, R>, Waiting<'a, T>>
+    ensures { IfOk result (IsHolder use_of_party) }
 {
-    lock.look_and_try(rt, spins)
+    waiting.look_and_try(rt)
+}
+
+/// Returns how many looks have found the lock held, until there are enough to starve.
+///
+/// # Examples
+/// ```
+/// equal(&rt, looks(&waiting), 1);
+/// ```
+pub fn looks<T>(waiting: &Waiting<'_, T>) -> usize {
+    waiting.spins
 }

@@ -3,4 +3,7 @@
 //! Begin at [`spin::SpinMutex`], and there at `lock`.
 #![tactic(auto)]
 
+mod laws;
 pub mod spin;
+
+pub use laws::every_run_of_a_spin_mutex_is_a_schedule;

@@ -1,16 +1,19 @@
 //! A spinning mutex of one flag, which the thread that finds it clear sets. Begin at [`SpinMutex::lock`].
-ghost use Rattle.std.specs.Prelude.{Option, IfSome};
+ghost use Rattle.std.specs.Prelude.{◌≡◌, Option, Some, IfSome, IfOk};
 ghost use Rattle.std.specs.Fmt.{DisplaysOnOk};
-ghost use Rattle.spin_guard.specs.Guard.{IsHolder};
-ghost use Rattle.spin_guard.specs.Texts.{lock_text};
-ghost use Rattle.spin_flag.specs.Flag.{use_of_view};
+ghost use Rattle.spin_core.specs.Guard.{IsHolder};
+ghost use Rattle.spin_core.specs.Texts.{lock_text};
+ghost use Rattle.spin_core.specs.Own.{what};
+ghost use Rattle.spin_flag.specs.Flag.{use_of_party, MayTry};
+ghost use Rattle.spin_flag.specs.declared.spin.rule.View.TheVariants.{Looking};
 
-use self::rule::{Attempt, Load, is_set, word};
-use spin_core::cell::Cell;
+use self::rule::{Attempt, Load, Looks, Tries, is_set, word};
+use spin_core::cell::{Cell, Permit};
+use spin_core::guard::{self, Guard};
+use spin_core::lock::{Lock, with_guard};
 use spin_core::relax::{RelaxStrategy, Spin, Strategy};
-use spin_guard::guard::{self, Guard};
-use spin_guard::texts::write_lock;
-use spin_lock::lock::{Lock, with_guard};
+use spin_core::texts::write_lock;
+use spin_core::trace::{Trace, Watch};
 use spin_step::flag;
 use std::fmt;
 use std::fmt::{Debug, Formatter};
@@ -18,7 +21,7 @@ use std::sync::Wait;
 
 mod rule;
 
-pub use self::rule::{FlagRule, View};
+pub use self::rule::{Entry, FlagRule, Party, View};
 
 /// A mutual exclusion lock with one flag as its state, on which a waiting thread spins.
 ///
@@ -37,7 +40,7 @@ pub use self::rule::{FlagRule, View};
 /// ```
 #[derive(Drop)]
 pub struct SpinMutex<T, R = Spin> {
-    cell: Cell<T, View, FlagRule>,
+    cell: Cell<T, Party, FlagRule>,
     strategy: Strategy<R>,
 }
 
@@ -57,7 +60,7 @@ pub struct SpinMutex<T, R = Spin> {
 ///     old
 /// }
 /// ```
-pub type SpinMutexGuard<'a, T, R = Spin> = Guard<'a, T, View, FlagRule, R>;
+pub type SpinMutexGuard<'a, T, R = Spin> = Guard<'a, T, Party, FlagRule, R>;
 
 /// A hold on a [`SpinMutex`]: it keeps the lock without a guard, and gives no access to the value.
 ///
@@ -76,7 +79,7 @@ pub type SpinMutexGuard<'a, T, R = Spin> = Guard<'a, T, View, FlagRule, R>;
 ///     SpinMutex::force_unlock(held);
 /// }
 /// ```
-pub type Held<'a, T, R = Spin> = guard::Held<'a, T, View, FlagRule, R>;
+pub type Held<'a, T, R = Spin> = guard::Held<'a, T, Party, FlagRule, R>;
 
 impl<T, R> SpinMutex<T, R> {
     /// Creates an unlocked mutex that holds `value`.
@@ -91,8 +94,10 @@ impl<T, R> SpinMutex<T, R> {
     /// equal(&rt, *guard, 4);
     /// ```
     pub fn new(value: T) -> Self {
+        let trace = Trace::new(());
+        let start = trace.watch();
         SpinMutex {
-            cell: Cell::new(value, word(false), (), &()),
+            cell: Cell::new(value, word(false), trace, &start),
             strategy: Strategy::named(),
         }
     }
@@ -132,23 +137,52 @@ impl<T, R: RelaxStrategy> SpinMutex<T, R> {
     /// equal(&rt, *guard, 4);
     /// ```
     pub fn lock<W: Wait>(&self, rt: &W) -> SpinMutexGuard<'_, T, R>
-        ensures { IsHolder use_of_view result }
+        ensures { IsHolder use_of_party result }
     {
-        match self.try_lock_weak() {
-            Some(guard) => guard,
-            None => R::back_off(rt, || self.look_and_try()),
+        match try_with(self.cell.enter()) {
+            Ok(guard) => guard,
+            Err(waiting) => R::back_off(rt, waiting, |waiting| waiting.look_and_try()),
         }
     }
+}
 
+// A call of `lock` that goes on with a look.
+struct Waiting<'a, T> {
+    permit: Permit<'a, T, Party, FlagRule>,
+    ghost looks: { what permit.view ≡ Some Looking },
+}
+
+impl<'a, T> Waiting<'a, T> {
     // A load comes first, so that waiting threads share the cache line and do not write it.
-    fn look_and_try<'a>(&'a self) -> Option<SpinMutexGuard<'a, T, R>>
-        ensures { IfSome result (IsHolder use_of_view) }
+    fn look_and_try<R>(self) -> Result<SpinMutexGuard<'a, T, R>, Waiting<'a, T>>
+        ensures { IfOk result (IsHolder use_of_party) }
     {
-        if self.is_locked() {
-            None
+        let Self { permit } = self;
+        let (found, permit, _) = permit.load::<Looks>(Watch::nothing());
+        if is_set(found) {
+            Err(Waiting { permit })
         } else {
-            self.try_lock_weak()
+            try_with(permit)
         }
+    }
+}
+
+// The exchange of `lock`, of a call that comes or has found the flag clear.
+fn try_with<'a, T, R>(
+    permit: Permit<'a, T, Party, FlagRule>,
+) -> Result<SpinMutexGuard<'a, T, R>, Waiting<'a, T>>
+    requires { MayTry (what permit.view) }
+    ensures { IfOk result (IsHolder use_of_party) }
+{
+    let free = false;
+    let Some(taken) = flag::lock(free) else {
+        unreachable!()
+    };
+    let (found, permit, _) = permit.exchange::<Tries>(word(free), word(taken), Watch::nothing());
+    if is_set(found) {
+        Err(Waiting { permit })
+    } else {
+        Ok(Guard::new(permit.into_writer()))
     }
 }
 
@@ -165,13 +199,22 @@ impl<T, R> SpinMutex<T, R> {
     /// with_guard(self.try_lock(), by)
     /// ```
     pub fn try_lock<'a>(&'a self) -> Option<SpinMutexGuard<'a, T, R>>
-        ensures { IfSome result (IsHolder use_of_view) }
+        ensures { IfSome result (IsHolder use_of_party) }
     {
         let free = false;
-        let taken = flag::lock(free)?;
-        let party = self.cell.enter();
-        let permit = party.attempt::<Attempt>(word(free), word(taken)).ok()?;
-        Some(Guard::new(permit.into_writer()))
+        let Some(taken) = flag::lock(free) else {
+            unreachable!()
+        };
+        let (found, permit, _) = self
+            .cell
+            .enter()
+            .exchange::<Attempt>(word(free), word(taken), Watch::nothing());
+        if is_set(found) {
+            permit.leave();
+            None
+        } else {
+            Some(Guard::new(permit.into_writer()))
+        }
     }
 
     /// Like [`try_lock`](Self::try_lock), but may fail spuriously, so call it in a loop. (This implementation never
@@ -188,7 +231,7 @@ impl<T, R> SpinMutex<T, R> {
     /// drop(guard);
     /// ```
     pub fn try_lock_weak<'a>(&'a self) -> Option<SpinMutexGuard<'a, T, R>>
-        ensures { IfSome result (IsHolder use_of_view) }
+        ensures { IfSome result (IsHolder use_of_party) }
     {
         self.try_lock()
     }
@@ -209,7 +252,9 @@ impl<T, R> SpinMutex<T, R> {
     /// equal(&rt, lock.is_locked(), false);
     /// ```
     pub fn is_locked(&self) -> bool {
-        is_set(self.cell.enter().look::<Load>())
+        let (found, permit, _) = self.cell.enter().load::<Load>(Watch::nothing());
+        permit.leave();
+        is_set(found)
     }
 
     /// Releases the lock that the hold keeps.

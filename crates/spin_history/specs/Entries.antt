@@ -31,6 +31,16 @@ InOrder-prop le p [] = Unit-prop
 InOrder-prop le p (x ∷ []) = Unit-prop
 InOrder-prop le p (x ∷ y ∷ l) = ×_prop (p x y) (InOrder-prop le p (y ∷ l))
 
--- x is not before the last of these entries
+-- x may come after the last of these entries
 abbrev pub IsAtOrAfter : {T : Type 0} → (T → T → Type 0) → List T → T → Type 0
 IsAtOrAfter le seen x = IfSome (last seen) (λ before. le before x)
+
+-- the same where the values come in an order: what is read or written may come after the last value that the caller saw, and what it knows is in order
+abbrev pub ReadsIn : {T : Type 0} → (T → T → Type 0) → List T → T → List T → Type 0
+ReadsIn le old x new = IsAtOrAfter le old x × (InOrder le new × Reads old x new)
+
+abbrev pub WritesIn : {T : Type 0} → (T → T → Type 0) → List T → T → List T → Type 0
+WritesIn le old x new = IsAtOrAfter le old x × (InOrder le new × ((last new ≡ Some x) × Writes old x new))
+
+abbrev pub UpdatesIn : {T : Type 0} → (T → T → Type 0) → List T → T → T → List T → Type 0
+UpdatesIn le old x y new = IsAtOrAfter le old y × (InOrder le new × ((last new ≡ Some y) × Updates old x y new))

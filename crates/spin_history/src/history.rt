@@ -1,6 +1,6 @@
 //! A monotone log and snapshots of it, as ghost state: tokens that have no bytes and take no steps. Begin with
 //! [`BlankLog::new`] and [`Snapshot`].
-ghost use Rattle.std.specs.Prelude.{◌≡◌, ◌⊎◌, ℕ, List, [], ◌∷◌, ◌++◌};
+ghost use Rattle.std.specs.Prelude.{◌≡◌, ◌⊎◌, ℕ, List, [], ◌∷◌, ◌++◌, ⊤};
 ghost use Rattle.std.specs.Coded.{coded_list};
 ghost use mathlib.Core.List.{IsPrefix};
 ghost use denote.Sharing.{said};
@@ -40,6 +40,65 @@ impl Model for BlankLog {
     ghost also_owns = { λ blank. blank_owns blank.name };
 }
 
+/// Work that has a log of its own, which [`open`] names.
+///
+/// # Contract
+/// `asks` is what the work asks of its own fields, and `gives` what an answer of it may be. Both say nothing unless the
+/// work names them.
+///
+/// # Examples
+/// ```
+/// impl<W: Wait> Work for WatchLeaked<'_, W> {
+///     type Answer = (u64, u64);
+/// ```
+pub trait Work {
+    type Answer;
+
+    ghost asks: { Self → Type 0 } = { λ _. ⊤ };
+
+    ghost gives: { Self → Self.Answer → Type 0 } = { λ _ _. ⊤ };
+
+    /// Does the work with a log that `H` names.
+    ///
+    /// # Contract
+    /// What it asks has to hold, and `H` has to name the log. The answer is one that it may give.
+    ///
+    /// # Examples
+    /// ```
+    /// fn run<H: History + Send + Sync>(self, blank: BlankLog) -> (u64, u64) {
+    ///     let log = blank.open::<u64, H>();
+    ///     let mut seen = log.snapshot();
+    /// ```
+    fn run<H: History + Send + Sync>(self, blank: BlankLog) -> Self::Answer
+        requires asked { asks self }
+        requires name { blank.name ≡ H.name }
+        ensures { gives self result };
+}
+
+fn open_by<K: Work, H: History + Send + Sync>(work: K, blank: BlankLog) -> K::Answer
+    requires asked { K.asks work }
+    requires name { blank.name ≡ H.name }
+    ensures { K.gives work result }
+{
+    work.run::<H>(blank)
+}
+
+/// Names a new log, and does the work with it. The work may open a further one inside.
+///
+/// # Contract
+/// What the work asks has to hold. Its answer is one that it may give.
+///
+/// # Examples
+/// ```
+/// open(WatchLeaked(rt))
+/// ```
+pub fn open<K: Work>(work: K) -> K::Answer
+    requires asked { K.asks work }
+    ensures { K.gives work result }
+{
+    open_by::<K, Brand>(work, BlankLog::new())
+}
+
 /// A monotone log: a list that only grows, and the right to append to it. There is one for each history.
 ///
 /// A log lies beside the value that it tells of, under the same lock. The struct that holds them says in an invariant
@@ -47,11 +106,11 @@ impl Model for BlankLog {
 ///
 /// # Examples
 /// ```
-/// pub struct Register<T, H: History> {
+/// pub struct Register<T, H: History, P: Order<T> = Unordered> {
 ///     value: T,
 ///     log: Log<T, H>,
+///     order: PhantomData<P>,
 ///     ghost latest: { last log.entries ≡ Some value },
-/// }
 /// ```
 pub struct Log<T, H: History> {
     marker: PhantomData<(T, H)>,
@@ -143,7 +202,6 @@ impl<T, H: History> Log<T, H> {
     /// ```
     /// let mut log = log;
     /// log.append(&value);
-    /// Register { value, log }
     /// ```
     pub fn append(&mut self, value: &T)
         ensures { self.new.entries ≡ self.old.entries ++ value.now ∷ [] }
@@ -201,7 +259,6 @@ impl<T, H: History> Log<T, H> {
     ///
     /// # Examples
     /// ```
-    /// let Self { value, log } = self;
     /// (value, log.close())
     /// ```
     pub fn close(self) -> ClosedLog<T, H>

@@ -1,17 +1,21 @@
 //! A value whose callers know the history of what was written there. Begin with [`Register::new`]; the functions
-//! [`read`], [`write`], [`update`] and [`change`] work on a register under a lock.
-ghost use Rattle.std.specs.Prelude.{◌≡◌, [], ◌∷◌, ◌++◌, Some};
+//! [`read`], [`write`], [`update`] and [`change`] work on a register under a lock, and those whose names begin with
+//! `try` do not wait for it.
+ghost use Rattle.std.specs.Prelude.{◌≡◌, [], ◌∷◌, ◌++◌, Some, MatchBool, IfSome, IfNone};
 ghost use Rattle.std.specs.Fn.{FnOnceReturnsAt, FnOnceReturnsAtMut};
 ghost use mathlib.Core.List.{IsPrefix};
-ghost use Rattle.spin_history.specs.Entries.{last, Reads, Writes, Updates};
+ghost use Rattle.spin_history.specs.Entries.{last, InOrder, InOrder-prop, IsAtOrAfter, Writes, Updates, ReadsIn, WritesIn, UpdatesIn};
 
+use crate::growing::{Order, Unordered};
 use crate::history::{ClosedLog, History, Log, Snapshot};
-use spin_lock::lock::{Lock, SharedLock};
+use spin_core::lock::{Lock, SharedLock};
+use std::marker::PhantomData;
 use std::sync::Wait;
 
 /// A value, and the log of all that was ever written there: its last entry is the value.
 ///
-/// Put it under any lock. Each call takes a [`Snapshot`] of the caller's, and brings it up to date.
+/// Put it under any lock. Each call takes a [`Snapshot`] of the caller's, and brings it up to date. The values change
+/// only as the order `P` allows, which by default allows each change.
 ///
 /// # Examples
 /// ```
@@ -20,17 +24,19 @@ use std::sync::Wait;
 /// let lock: RwLock<Register<u64, H>> = RwLock::new(Register::new(0, log));
 /// ```
 #[derive(Drop)]
-pub struct Register<T, H: History> {
+pub struct Register<T, H: History, P: Order<T> = Unordered> {
     value: T,
     log: Log<T, H>,
+    order: PhantomData<P>,
     ghost latest: { last log.entries ≡ Some value },
+    ghost ordered: { InOrder P.le log.entries } by { InOrder-prop P.le P.fact log.entries },
 }
 
-impl<T, H: History> Register<T, H> {
+impl<T, H: History, P: Order<T>> Register<T, H, P> {
     /// Creates a register that holds `value`.
     ///
     /// # Contract
-    /// The value is the next entry of the log.
+    /// The value is the next entry of the log, and has to be in order there. Nothing is asked of an empty log.
     ///
     /// # Examples
     /// ```
@@ -38,12 +44,17 @@ impl<T, H: History> Register<T, H> {
     /// ```
     #[tactic(auto, using(crate::proofs::Entries::last_is))]
     pub fn new(value: T, log: Log<T, H>) -> Self
+        requires { InOrder P.le (log.entries ++ value ∷ []) }
         ensures value { result.value ≡ value }
         ensures exact { result.log.entries ≡ log.entries ++ value ∷ [] }
     {
         let mut log = log;
         log.append(&value);
-        Register { value, log }
+        Register {
+            value,
+            log,
+            order: PhantomData,
+        }
     }
 
     /// Returns a snapshot of all that was written so far.
@@ -51,10 +62,7 @@ impl<T, H: History> Register<T, H> {
     /// # Contract
     /// It has the whole log, whose last entry is the value.
     ///
-    /// # Examples
-    /// ```
-    /// self.register.snapshot()
-    /// ```
+    /// No example: the callers here take theirs from the log.
     pub fn snapshot(&self) -> Snapshot<T, H>
         ensures exact { result.entries ≡ self.now.log.entries }
         ensures last { last result.entries ≡ Some self.now.value }
@@ -65,13 +73,16 @@ impl<T, H: History> Register<T, H> {
     /// Returns a reference to the value.
     ///
     /// # Contract
-    /// It is the last write of a history that goes on from what the caller knew (`Reads`).
+    /// It is the last write of a history that goes on from what the caller knew, and is in order (`order`). So it is at
+    /// or after the last value that the caller saw (`grown`), whichever thread wrote.
     ///
     /// # Examples
     /// ```
     /// by(self.get(seen))
     /// ```
     pub fn get(&self, seen: &mut Snapshot<T, H>) -> &T
+        ensures order { InOrder P.le seen.new.entries }
+        ensures grown { IsAtOrAfter P.le seen.old.entries result.now }
         ensures later { IsPrefix seen.old.entries seen.new.entries }
         ensures last { last seen.new.entries ≡ Some result.now }
         ensures exact { seen.new.entries ≡ self.now.log.entries }
@@ -95,8 +106,11 @@ impl<T, H: History> Register<T, H> {
     pub fn inspect<A, F: FnOnce(&T) -> A>(&self, by: F, seen: &mut Snapshot<T, H>) -> A
         requires { F.IsAlwaysCallable by }
         ensures called { FnOnceReturnsAt F.FnOnce by self.now.value result }
+        ensures order { InOrder P.le seen.new.entries }
+        ensures grown { IsAtOrAfter P.le seen.old.entries self.now.value }
         ensures later { IsPrefix seen.old.entries seen.new.entries }
         ensures last { last seen.new.entries ≡ Some self.now.value }
+        ensures exact { seen.new.entries ≡ self.now.log.entries }
     {
         by(self.get(seen))
     }
@@ -104,8 +118,9 @@ impl<T, H: History> Register<T, H> {
     /// Calls a closure with the value, which it may change in place, and returns its answer.
     ///
     /// # Contract
-    /// The closure has to be always callable. It is called with the last write, and what it leaves there is the next
-    /// one (`Updates`).
+    /// The closure has to be always callable. Whatever the value, it has to leave one there that may come after it. It
+    /// is called with the last write, and what it leaves is the next one (`Updates`), at or after the last value that
+    /// the caller saw.
     ///
     /// # Examples
     /// ```
@@ -115,14 +130,22 @@ impl<T, H: History> Register<T, H> {
     /// ```
     #[tactic(auto, using(crate::proofs::Entries::last_is))]
     pub fn change<A, F: FnOnce(&mut T) -> A>(&mut self, by: F, seen: &mut Snapshot<T, H>) -> A
-        requires { F.IsAlwaysCallable by }
+        requires callable { F.IsAlwaysCallable by }
+        requires grows { (x y : T) (answer : A) → FnOnceReturnsAtMut F.FnOnce by x answer y → P.le x y }
+        ensures order { InOrder P.le seen.new.entries }
+        ensures grown { IsAtOrAfter P.le seen.old.entries self.new.value }
         ensures called { FnOnceReturnsAtMut F.FnOnce by self.old.value result self.new.value }
         ensures later { Updates seen.old.entries self.old.value self.new.value seen.new.entries }
+        ensures last { last seen.new.entries ≡ Some self.new.value }
         ensures known { IsPrefix seen.old.entries self.old.log.entries }
         ensures exact { seen.new.entries ≡ self.old.log.entries ++ self.new.value ∷ [] }
         ensures left { self.new.log.entries ≡ self.old.log.entries ++ self.new.value ∷ [] }
     {
-        let Register { value, log } = self;
+        let Register {
+            value,
+            log,
+            order: _,
+        } = self;
         log.observe(seen);
         let answer = by(value);
         log.append(value);
@@ -133,7 +156,7 @@ impl<T, H: History> Register<T, H> {
     /// Compares two references to the register that are held at the same time.
     ///
     /// # Contract
-    /// They show the same value.
+    /// They show the same value, and the same history.
     ///
     /// # Examples
     /// ```
@@ -142,7 +165,7 @@ impl<T, H: History> Register<T, H> {
     /// first.same(&second);
     /// (first.read(seen), second.read(seen))
     /// ```
-    pub fn same(&self, other: &Register<T, H>)
+    pub fn same(&self, other: &Register<T, H, P>)
         ensures value { self.now.value ≡ other.now.value }
         ensures entries { self.now.log.entries ≡ other.now.log.entries }
     {
@@ -152,28 +175,34 @@ impl<T, H: History> Register<T, H> {
     /// Returns the value and the whole history, to which nothing is added any more.
     ///
     /// # Contract
-    /// The value is the last entry. Every snapshot is a prefix of the history, by [`ClosedLog::observe`].
+    /// The history is in order, and the value is its last entry. Every snapshot is a prefix of it, by
+    /// [`ClosedLog::observe`].
     ///
     /// # Examples
     /// ```
     /// let (last, closed) = lock.into_inner().close();
     /// ```
     pub fn close(self) -> (T, ClosedLog<T, H>)
+        ensures ordered { InOrder P.le result.1.entries }
         ensures value { result.0 ≡ self.value }
         ensures exact { result.1.entries ≡ self.log.entries }
         ensures last { last result.1.entries ≡ Some result.0 }
     {
-        let Self { value, log } = self;
+        let Self {
+            value,
+            log,
+            order: _,
+        } = self;
         (value, log.close())
     }
 }
 
-impl<T: Drop, H: History> Register<T, H> {
+impl<T: Drop, H: History, P: Order<T>> Register<T, H, P> {
     /// Writes a value.
     ///
     /// # Contract
-    /// It is the last entry of a history that goes on from what the caller knew (`Writes`). Nothing comes between what
-    /// the register had and this write.
+    /// The value has to be one that may come after any other. It is the last entry of a history that goes on from what
+    /// the caller knew (`Writes`). Nothing comes between what the register had and this write.
     ///
     /// # Examples
     /// ```
@@ -181,7 +210,11 @@ impl<T: Drop, H: History> Register<T, H> {
     /// writer.write(new, seen);
     /// ```
     pub fn write(&mut self, new: T, seen: &mut Snapshot<T, H>)
+        requires { (x : T) → P.le x new }
+        ensures order { InOrder P.le seen.new.entries }
+        ensures grown { IsAtOrAfter P.le seen.old.entries new }
         ensures later { Writes seen.old.entries new seen.new.entries }
+        ensures last { last seen.new.entries ≡ Some new }
         ensures value { self.new.value ≡ new }
         ensures exact { seen.new.entries ≡ self.old.log.entries ++ new ∷ [] }
         ensures left { self.new.log.entries ≡ self.old.log.entries ++ new ∷ [] }
@@ -199,14 +232,19 @@ impl<T: Drop, H: History> Register<T, H> {
     /// Writes what a closure makes of the value.
     ///
     /// # Contract
-    /// The closure has to be always callable. It is called with the last write, and its answer is the next one
-    /// (`Updates`).
+    /// The closure has to be always callable. Whatever the value, it has to answer one that may come after it. It is
+    /// called with the last write, and its answer is the next one (`Updates`), at or after the last value that the
+    /// caller saw.
     ///
     /// No example: it is called as [`write`](Self::write) is, with a closure.
     pub fn update<F: FnOnce(&T) -> T>(&mut self, by: F, seen: &mut Snapshot<T, H>)
-        requires { F.IsAlwaysCallable by }
+        requires callable { F.IsAlwaysCallable by }
+        requires grows { (x y : T) → FnOnceReturnsAt F.FnOnce by x y → P.le x y }
+        ensures order { InOrder P.le seen.new.entries }
+        ensures grown { IsAtOrAfter P.le seen.old.entries self.new.value }
         ensures called { FnOnceReturnsAt F.FnOnce by self.old.value self.new.value }
         ensures later { Updates seen.old.entries self.old.value self.new.value seen.new.entries }
+        ensures last { last seen.new.entries ≡ Some self.new.value }
         ensures known { IsPrefix seen.old.entries self.old.log.entries }
         ensures exact { seen.new.entries ≡ self.old.log.entries ++ self.new.value ∷ [] }
         ensures left { self.new.log.entries ≡ self.old.log.entries ++ self.new.value ∷ [] }
@@ -223,11 +261,11 @@ impl<T: Drop, H: History> Register<T, H> {
     }
 }
 
-impl<T: Copy, H: History> Register<T, H> {
+impl<T: Copy, H: History, P: Order<T>> Register<T, H, P> {
     /// Returns a copy of the value.
     ///
     /// # Contract
-    /// It is the last write of a history that goes on from what the caller knew (`Reads`).
+    /// As that of [`get`](Register::get).
     ///
     /// # Examples
     /// ```
@@ -235,6 +273,8 @@ impl<T: Copy, H: History> Register<T, H> {
     /// let before = guard.read(seen);
     /// ```
     pub fn read(&self, seen: &mut Snapshot<T, H>) -> T
+        ensures order { InOrder P.le seen.new.entries }
+        ensures grown { IsAtOrAfter P.le seen.old.entries result }
         ensures later { IsPrefix seen.old.entries seen.new.entries }
         ensures last { last seen.new.entries ≡ Some result }
         ensures exact { seen.new.entries ≡ self.now.log.entries }
@@ -248,7 +288,7 @@ impl<T: Copy, H: History> Register<T, H> {
 ///
 /// # Contract
 /// The closure has to be always callable. It is called with the last write of a history that goes on from what the
-/// caller knew. Whether and when the call returns is not promised.
+/// caller knew, and is in order (`ReadsIn`). Whether and when the call returns is not promised.
 ///
 /// # Examples
 /// ```
@@ -261,21 +301,24 @@ impl<T: Copy, H: History> Register<T, H> {
 ///     seen,
 /// )
 /// ```
-pub fn inspect<T, H: History, L: Lock<Register<T, H>>, A, F: FnOnce(&T) -> A, W: Wait>(
-    rt: &W,
-    lock: &L,
-    by: F,
-    seen: &mut Snapshot<T, H>,
-) -> A
+pub fn inspect<
+    T,
+    P: Order<T>,
+    H: History,
+    L: Lock<Register<T, H, P>>,
+    A,
+    F: FnOnce(&T) -> A,
+    W: Wait,
+>(rt: &W, lock: &L, by: F, seen: &mut Snapshot<T, H>) -> A
     requires { F.IsAlwaysCallable by }
-    ensures { (value : T) × (FnOnceReturnsAt F.FnOnce by value result × Reads seen.old.entries value seen.new.entries) }
+    ensures { (value : T) × (FnOnceReturnsAt F.FnOnce by value result × ReadsIn P.le seen.old.entries value seen.new.entries) }
 {
     let known = seen.copy();
     let (answer, found) = lock.with(
         rt,
-        move |register: &mut Register<T, H>| -> (A, Snapshot<T, H>)
+        move |register: &mut Register<T, H, P>| -> (A, Snapshot<T, H>)
             requires { F.IsAlwaysCallable by }
-            ensures { (value : T) × (FnOnceReturnsAt F.FnOnce by value result.0 × Reads known.entries value result.1.entries) }
+            ensures { (value : T) × (FnOnceReturnsAt F.FnOnce by value result.0 × ReadsIn P.le known.entries value result.1.entries) }
         {
             let mut seen = known;
             let answer = register.inspect(by, &mut seen);
@@ -289,15 +332,17 @@ pub fn inspect<T, H: History, L: Lock<Register<T, H>>, A, F: FnOnce(&T) -> A, W:
 /// Reads a register under a lock.
 ///
 /// # Contract
-/// The answer is the last write of a history that goes on from what the caller knew. Whether and when the call returns
-/// is not promised.
+/// The answer is the last write of a history that goes on from what the caller knew, and is in order. So it is at or
+/// after the last value that the caller saw, whichever thread wrote. Whether and when the call returns is not promised.
 ///
 /// No example: it is called as [`read_shared`] is.
-pub fn read<T: Copy, H: History, L: Lock<Register<T, H>>, W: Wait>(
+pub fn read<T: Copy, P: Order<T>, H: History, L: Lock<Register<T, H, P>>, W: Wait>(
     rt: &W,
     lock: &L,
     seen: &mut Snapshot<T, H>,
 ) -> T
+    ensures order { InOrder P.le seen.new.entries }
+    ensures grown { IsAtOrAfter P.le seen.old.entries result }
     ensures later { IsPrefix seen.old.entries seen.new.entries }
     ensures last { last seen.new.entries ≡ Some result }
 {
@@ -327,21 +372,24 @@ pub fn read<T: Copy, H: History, L: Lock<Register<T, H>>, W: Wait>(
 ///     seen,
 /// )
 /// ```
-pub fn inspect_shared<T, H: History, L: SharedLock<Register<T, H>>, A, F: FnOnce(&T) -> A, W: Wait>(
-    rt: &W,
-    lock: &L,
-    by: F,
-    seen: &mut Snapshot<T, H>,
-) -> A
+pub fn inspect_shared<
+    T,
+    P: Order<T>,
+    H: History,
+    L: SharedLock<Register<T, H, P>>,
+    A,
+    F: FnOnce(&T) -> A,
+    W: Wait,
+>(rt: &W, lock: &L, by: F, seen: &mut Snapshot<T, H>) -> A
     requires { F.IsAlwaysCallable by }
-    ensures { (value : T) × (FnOnceReturnsAt F.FnOnce by value result × Reads seen.old.entries value seen.new.entries) }
+    ensures { (value : T) × (FnOnceReturnsAt F.FnOnce by value result × ReadsIn P.le seen.old.entries value seen.new.entries) }
 {
     let known = seen.copy();
     let (answer, found) = lock.with_shared(
         rt,
-        move |register: &Register<T, H>| -> (A, Snapshot<T, H>)
+        move |register: &Register<T, H, P>| -> (A, Snapshot<T, H>)
             requires { F.IsAlwaysCallable by }
-            ensures { (value : T) × (FnOnceReturnsAt F.FnOnce by value result.0 × Reads known.entries value result.1.entries) }
+            ensures { (value : T) × (FnOnceReturnsAt F.FnOnce by value result.0 × ReadsIn P.le known.entries value result.1.entries) }
         {
             let mut seen = known;
             let answer = register.inspect(by, &mut seen);
@@ -363,11 +411,13 @@ pub fn inspect_shared<T, H: History, L: SharedLock<Register<T, H>>, A, F: FnOnce
 /// let found = register::read_shared(rt, lock, &mut seen);
 /// (found, seen)
 /// ```
-pub fn read_shared<T: Copy, H: History, L: SharedLock<Register<T, H>>, W: Wait>(
+pub fn read_shared<T: Copy, P: Order<T>, H: History, L: SharedLock<Register<T, H, P>>, W: Wait>(
     rt: &W,
     lock: &L,
     seen: &mut Snapshot<T, H>,
 ) -> T
+    ensures order { InOrder P.le seen.new.entries }
+    ensures grown { IsAtOrAfter P.le seen.old.entries result }
     ensures later { IsPrefix seen.old.entries seen.new.entries }
     ensures last { last seen.new.entries ≡ Some result }
 {
@@ -381,12 +431,75 @@ pub fn read_shared<T: Copy, H: History, L: SharedLock<Register<T, H>>, W: Wait>(
     )
 }
 
+/// Tries to read a register under a lock, and does not wait for it.
+///
+/// # Contract
+/// A value is as that of [`read`]. With `None` the caller knows what it knew. `None` comes only where `try_with` of the
+/// lock hands its closure back, which is what a test shows.
+///
+/// # Examples
+/// ```
+/// let refused = register::try_read(&lock, &mut seen);
+/// ```
+pub fn try_read<T: Copy, P: Order<T>, H: History, L: Lock<Register<T, H, P>>>(
+    lock: &L,
+    seen: &mut Snapshot<T, H>,
+) -> Option<T>
+    ensures found { IfSome result (λ value. ReadsIn P.le seen.old.entries value seen.new.entries) }
+    ensures refused { IfNone result (seen.new.entries ≡ seen.old.entries) }
+{
+    let known = seen.copy();
+    let read = lock.try_with(
+        move |register: &mut Register<T, H, P>| -> (T, Snapshot<T, H>)
+            ensures { ReadsIn P.le known.entries result.0 result.1.entries }
+        {
+            let mut seen = known;
+            let value = register.read(&mut seen);
+            (value, seen)
+        },
+    );
+    let (value, found) = read.ok()?;
+    *seen = found;
+    Some(value)
+}
+
+/// Tries to read a register under a lock, beside other readers, and does not wait while a writer has it.
+///
+/// # Contract
+/// As that of [`try_read`]. Whether and when the call returns is not promised.
+///
+/// No example: it is called as [`try_read`] is, with `rt`.
+pub fn try_read_shared<T: Copy, P: Order<T>, H: History, L: SharedLock<Register<T, H, P>>, W: Wait>(
+    rt: &W,
+    lock: &L,
+    seen: &mut Snapshot<T, H>,
+) -> Option<T>
+    ensures found { IfSome result (λ value. ReadsIn P.le seen.old.entries value seen.new.entries) }
+    ensures refused { IfNone result (seen.new.entries ≡ seen.old.entries) }
+{
+    let known = seen.copy();
+    let read = lock.try_with_shared(
+        rt,
+        move |register: &Register<T, H, P>| -> (T, Snapshot<T, H>)
+            ensures { ReadsIn P.le known.entries result.0 result.1.entries }
+        {
+            let mut seen = known;
+            let value = register.read(&mut seen);
+            (value, seen)
+        },
+    );
+    let (value, found) = read.ok()?;
+    *seen = found;
+    Some(value)
+}
+
 /// Calls a closure with the value of a register under a lock, which it may change in place, and returns its answer.
 ///
 /// # Contract
-/// The closure has to be always callable. It is called with the last write of a history that goes on from what the
-/// caller knew. What it leaves there is the next one: nothing comes between. Whether and when the call returns is not
-/// promised.
+/// The closure has to be always callable. Whatever the value, it has to leave one there that may come after it. It is
+/// called with the last write of a history that goes on from what the caller knew. What it leaves there is the next
+/// one: nothing comes between. It is at or after the last value that the caller saw, and afterwards the caller knows it
+/// as the last write (`UpdatesIn`). Whether and when the call returns is not promised.
 ///
 /// # Examples
 /// ```
@@ -402,21 +515,26 @@ pub fn read_shared<T: Copy, H: History, L: SharedLock<Register<T, H>>, W: Wait>(
 ///     seen,
 /// );
 /// ```
-pub fn change<T, H: History, L: Lock<Register<T, H>>, A, F: FnOnce(&mut T) -> A, W: Wait>(
-    rt: &W,
-    lock: &L,
-    by: F,
-    seen: &mut Snapshot<T, H>,
-) -> A
-    requires { F.IsAlwaysCallable by }
-    ensures { (before after : T) × (FnOnceReturnsAtMut F.FnOnce by before result after × Updates seen.old.entries before after seen.new.entries) }
+pub fn change<
+    T,
+    P: Order<T>,
+    H: History,
+    L: Lock<Register<T, H, P>>,
+    A,
+    F: FnOnce(&mut T) -> A,
+    W: Wait,
+>(rt: &W, lock: &L, by: F, seen: &mut Snapshot<T, H>) -> A
+    requires callable { F.IsAlwaysCallable by }
+    requires grows { (x y : T) (answer : A) → FnOnceReturnsAtMut F.FnOnce by x answer y → P.le x y }
+    ensures { (before after : T) × (FnOnceReturnsAtMut F.FnOnce by before result after × UpdatesIn P.le seen.old.entries before after seen.new.entries) }
 {
     let known = seen.copy();
     let (answer, found) = lock.with(
         rt,
-        move |register: &mut Register<T, H>| -> (A, Snapshot<T, H>)
-            requires { F.IsAlwaysCallable by }
-            ensures { (before after : T) × (FnOnceReturnsAtMut F.FnOnce by before result.0 after × Updates known.entries before after result.1.entries) }
+        move |register: &mut Register<T, H, P>| -> (A, Snapshot<T, H>)
+            requires callable { F.IsAlwaysCallable by }
+            requires grows { (x y : T) (answer : A) → FnOnceReturnsAtMut F.FnOnce by x answer y → P.le x y }
+            ensures { (before after : T) × (FnOnceReturnsAtMut F.FnOnce by before result.0 after × UpdatesIn P.le known.entries before after result.1.entries) }
         {
             let mut seen = known;
             let answer = register.change(by, &mut seen);
@@ -430,8 +548,8 @@ pub fn change<T, H: History, L: Lock<Register<T, H>>, A, F: FnOnce(&mut T) -> A,
 /// Writes to a register under a lock.
 ///
 /// # Contract
-/// The value is the last entry of a history that goes on from what the caller knew. Whether and when the call returns
-/// is not promised.
+/// The value has to be one that may come after any other. It is the last entry of a history that goes on from what the
+/// caller knew. Whether and when the call returns is not promised.
 ///
 /// # Examples
 /// ```
@@ -439,13 +557,17 @@ pub fn change<T, H: History, L: Lock<Register<T, H>>, A, F: FnOnce(&mut T) -> A,
 /// register::write(rt, lock, one, &mut seen);
 /// seen
 /// ```
-pub fn write<T: Drop, H: History, L: Lock<Register<T, H>>, W: Wait>(
+pub fn write<T: Drop, P: Order<T>, H: History, L: Lock<Register<T, H, P>>, W: Wait>(
     rt: &W,
     lock: &L,
     new: T,
     seen: &mut Snapshot<T, H>,
 )
-    ensures { Writes seen.old.entries new seen.new.entries }
+    requires { (x : T) → P.le x new }
+    ensures order { InOrder P.le seen.new.entries }
+    ensures grown { IsAtOrAfter P.le seen.old.entries new }
+    ensures later { Writes seen.old.entries new seen.new.entries }
+    ensures last { last seen.new.entries ≡ Some new }
 {
     change(
         rt,
@@ -462,18 +584,32 @@ pub fn write<T: Drop, H: History, L: Lock<Register<T, H>>, W: Wait>(
 /// Writes what a closure makes of the value of a register under a lock.
 ///
 /// # Contract
-/// The closure has to be always callable. It is called with the last write of a history that goes on from what the
-/// caller knew. Its answer is the next one: nothing comes between. Whether and when the call returns is not promised.
+/// The closure has to be always callable. Whatever the value, it has to answer one that may come after it. It is called
+/// with the last write, and its answer is the next one, as that of [`change`] (`UpdatesIn`). Whether and when the call
+/// returns is not promised.
 ///
-/// No example: it is called as [`write`] is, with a closure.
-pub fn update<T: Drop, H: History, L: Lock<Register<T, H>>, F: FnOnce(&T) -> T, W: Wait>(
-    rt: &W,
-    lock: &L,
-    by: F,
-    seen: &mut Snapshot<T, H>,
-)
-    requires { F.IsAlwaysCallable by }
-    ensures { (before after : T) × (FnOnceReturnsAt F.FnOnce by before after × Updates seen.old.entries before after seen.new.entries) }
+/// # Examples
+/// ```
+/// register::update(
+///     rt,
+///     version,
+///     |old: &u64| -> u64
+///         ensures { old.now ≤ result }
+///     { old.saturating_add(1) },
+///     &mut seen,
+/// );
+/// ```
+pub fn update<
+    T: Drop,
+    P: Order<T>,
+    H: History,
+    L: Lock<Register<T, H, P>>,
+    F: FnOnce(&T) -> T,
+    W: Wait,
+>(rt: &W, lock: &L, by: F, seen: &mut Snapshot<T, H>)
+    requires callable { F.IsAlwaysCallable by }
+    requires grows { (x y : T) → FnOnceReturnsAt F.FnOnce by x y → P.le x y }
+    ensures { (before after : T) × (FnOnceReturnsAt F.FnOnce by before after × UpdatesIn P.le seen.old.entries before after seen.new.entries) }
 {
     change(
         rt,
@@ -486,4 +622,43 @@ pub fn update<T: Drop, H: History, L: Lock<Register<T, H>>, F: FnOnce(&T) -> T, 
         },
         seen,
     );
+}
+
+/// Tries to write to a register under a lock, and does not wait for it. Returns whether it wrote.
+///
+/// # Contract
+/// The value has to be one that may come after any other. After `true` it is as that of [`write`], after `false` the
+/// caller knows what it knew. `false` comes only where `try_with` of the lock hands its closure back, which is what a
+/// test shows.
+///
+/// # Examples
+/// ```
+/// equal(rt, register::try_write(&lock, 2, &mut seen), true);
+/// ```
+pub fn try_write<T: Drop, P: Order<T>, H: History, L: Lock<Register<T, H, P>>>(
+    lock: &L,
+    new: T,
+    seen: &mut Snapshot<T, H>,
+) -> bool
+    requires { (x : T) → P.le x new }
+    ensures { MatchBool result (WritesIn P.le seen.old.entries new seen.new.entries) (seen.new.entries ≡ seen.old.entries) }
+{
+    let known = seen.copy();
+    let wrote = lock.try_with(
+        move |register: &mut Register<T, H, P>| -> Snapshot<T, H>
+            requires { (x : T) → P.le x new }
+            ensures { WritesIn P.le known.entries new result.entries }
+        {
+            let mut seen = known;
+            register.write(new, &mut seen);
+            seen
+        },
+    );
+    match wrote {
+        Ok(found) => {
+            *seen = found;
+            true
+        }
+        Err(_) => false,
+    }
 }

@@ -1,15 +1,17 @@
 //! A number that threads add to, whose total is exactly what was added. Begin with [`Tally::new`]; the functions
 //! [`add`] and [`total`] work on a tally under a lock.
-ghost use Rattle.std.specs.Prelude.{◌≡◌, ℕ, ◌+◌, ◌^◌, ◌<◌, ◌≤◌, MatchBool, ⊤};
+ghost use Rattle.std.specs.Prelude.{◌≡◌, ℕ, ◌+◌, ◌-◌, ◌^◌, ◌<◌, ◌≤◌, MatchBool, ⊤};
 
-use spin_lock::lock::Lock;
+use spin_core::lock::Lock;
+use std::marker::Brand;
 use std::mem;
 use std::sync::Wait;
-use std::sync::ledger::{Book, Ledger, Share};
+use std::sync::ledger::{Blank, Book, Ledger, Share};
 
 /// A number that threads add to, and the ledger's book of what they added: its total is the number.
 ///
-/// Put it under any lock. Each thread that adds has a `Share` of the ledger, in which its additions are counted.
+/// Put it under a mutex: a `Book` is not `Sync`, so threads cannot share an `RwLock` around a tally. Each thread that adds
+/// has a `Share` of the ledger, in which its additions are counted.
 ///
 /// # Examples
 /// ```
@@ -28,7 +30,7 @@ impl<L: Ledger> Tally<L> {
     /// Creates a tally to which nothing was added yet.
     ///
     /// # Contract
-    /// Nothing may have been added to the book either.
+    /// Nothing may have been added to the book either. The count is 0.
     ///
     /// # Examples
     /// ```
@@ -36,6 +38,7 @@ impl<L: Ledger> Tally<L> {
     /// ```
     pub fn new(book: Book<L>) -> Self
         requires { book.total ≡ 0 }
+        ensures { result.count ≡ 0 }
     {
         Tally {
             count: 0,
@@ -46,8 +49,9 @@ impl<L: Ledger> Tally<L> {
     /// Adds `more`, and counts it in the caller's share. Returns `false`, and adds nothing, if the sum would not fit.
     ///
     /// # Contract
-    /// The share must not be empty. It counts `more` if the answer is `true`, and stays as it is otherwise. `false`
-    /// comes only if the sum would not fit.
+    /// The share must not be empty. It and the tally count `more` if the answer is `true`, and stay as they are
+    /// otherwise. `false` comes exactly if the sum would not fit. A share counts no more than the tally (`bound`), and one
+    /// with all parts exactly as much (`whole`).
     ///
     /// # Examples
     /// ```
@@ -57,11 +61,15 @@ impl<L: Ledger> Tally<L> {
     /// ```
     pub fn add(&mut self, mine: &mut Share<L>, more: u64) -> bool
         requires { 0 < mine.old.parts }
-        ensures full { MatchBool result ⊤ ((self.old.count < 2 ^ 64) × (2 ^ 64 ≤ self.old.count + more)) }
+        ensures full { MatchBool result (self.old.count + more < 2 ^ 64) ((self.old.count < 2 ^ 64) × (2 ^ 64 ≤ self.old.count + more)) }
+        ensures count { MatchBool result (self.new.count ≡ self.old.count + more) (self.new.count ≡ self.old.count) }
+        ensures bound { mine.old.amount ≤ self.old.count }
+        ensures whole { mine.old.parts ≡ L.parts → mine.old.amount ≡ self.old.count }
         ensures parts { mine.new.parts ≡ mine.old.parts }
         ensures amount { MatchBool result (mine.new.amount ≡ mine.old.amount + more) (mine.new.amount ≡ mine.old.amount) }
     {
         let Tally { count, added } = self;
+        added.audit(mine);
         match count.checked_add(more) {
             Some(sum) => {
                 added.add(mine, more);
@@ -75,7 +83,7 @@ impl<L: Ledger> Tally<L> {
     /// Returns the exact total, to a caller that has every share.
     ///
     /// # Contract
-    /// The share has to have all parts of the ledger. The answer is its amount.
+    /// The share has to have all parts of the ledger. The answer is its amount, and the tally's count.
     ///
     /// # Examples
     /// ```
@@ -86,6 +94,8 @@ impl<L: Ledger> Tally<L> {
     pub fn total(&mut self, every: &mut Share<L>) -> u64
         requires { every.old.parts ≡ L.parts }
         ensures total { result ≡ every.old.amount }
+        ensures value { result ≡ self.old.count }
+        ensures count { self.new.count ≡ self.old.count }
         ensures amount { every.new.amount ≡ every.old.amount }
         ensures parts { every.new.parts ≡ every.old.parts }
     {
@@ -94,12 +104,78 @@ impl<L: Ledger> Tally<L> {
     }
 }
 
+/// Work that has a ledger of its own, which [`open`] names.
+///
+/// # Contract
+/// `asks` is what the work asks of its own fields, and `gives` what an answer of it may be. Both say nothing unless the
+/// work names them.
+///
+/// # Examples
+/// ```
+/// impl<W: Wait> tally::Work for AddAndAudit<'_, W> {
+///     type Answer = (u64, u64);
+/// ```
+pub trait Work {
+    type Answer;
+
+    ghost asks: { Self → Type 0 } = { λ _. ⊤ };
+
+    ghost gives: { Self → Self.Answer → Type 0 } = { λ _ _. ⊤ };
+
+    /// Does the work with a tally to which nothing was added yet.
+    ///
+    /// # Contract
+    /// What it asks has to hold. The share has every part of the ledger, which are `u64::MAX`, and counts nothing yet. The
+    /// answer is one that the work may give.
+    ///
+    /// # Examples
+    /// ```
+    /// fn run<L: Ledger + Send + Sync>(self, tally: Tally<L>, all: Share<L>) -> (u64, u64) {
+    ///     let AddAndAudit { rt, more } = self;
+    /// ```
+    fn run<L: Ledger + Send + Sync>(self, tally: Tally<L>, all: Share<L>) -> Self::Answer
+        requires asked { asks self }
+        requires empty { tally.count ≡ 0 }
+        requires whole { all.parts ≡ L.parts }
+        requires parts { all.parts ≡ 2 ^ 64 - 1 }
+        requires nothing_yet { all.amount ≡ 0 }
+        ensures { gives self result };
+}
+
+fn open_by<K: Work, L: Ledger + Send + Sync>(work: K, blank: Blank) -> K::Answer
+    requires asked { K.asks work }
+    requires name { blank.name ≡ L.name }
+    requires parts { blank.parts ≡ L.parts }
+    requires all { blank.parts ≡ 2 ^ 64 - 1 }
+    ensures { K.gives work result }
+{
+    let (book, all) = blank.open::<L>();
+    work.run::<L>(Tally::new(book), all)
+}
+
+/// Names a new ledger, and does the work with a tally of it.
+///
+/// # Contract
+/// What the work asks has to hold. Its answer is one that it may give.
+///
+/// # Examples
+/// ```
+/// tally::open(AddAndAudit { rt, more })
+/// ```
+pub fn open<K: Work>(work: K) -> K::Answer
+    requires asked { K.asks work }
+    ensures { K.gives work result }
+{
+    open_by::<K, Brand>(work, Blank::new(u64::MAX))
+}
+
 /// Adds `more` to a tally under a lock. Returns `false`, and adds nothing, if the sum would not fit.
 ///
 /// # Contract
 /// The share must not be empty. It counts `more` if the answer is `true`, and stays as it is otherwise. After a `false`
 /// there is a number to which `more` cannot be added (`full`). That the tally held such a number is what a test shows.
-/// Whether and when the call returns is not promised.
+/// With all parts of the ledger the answer is `true` exactly if the sum fits (`whole`). Whether and when the call returns
+/// is not promised.
 ///
 /// # Examples
 /// ```
@@ -117,6 +193,7 @@ pub fn add<L: Ledger, K: Lock<Tally<L>>, W: Wait>(
 ) -> bool
     requires { 0 < mine.old.parts }
     ensures full { MatchBool result ⊤ ((before : ℕ) × ((before < 2 ^ 64) × (2 ^ 64 ≤ before + more))) }
+    ensures whole { MatchBool result (mine.old.amount + more < 2 ^ 64) (mine.old.parts ≡ L.parts → 2 ^ 64 ≤ mine.old.amount + more) }
     ensures parts { mine.new.parts ≡ mine.old.parts }
     ensures amount { MatchBool result (mine.new.amount ≡ mine.old.amount + more) (mine.new.amount ≡ mine.old.amount) }
 {
@@ -127,6 +204,7 @@ pub fn add<L: Ledger, K: Lock<Tally<L>>, W: Wait>(
         move |tally: &mut Tally<L>| -> (bool, Share<L>)
             requires { 0 < held.parts }
             ensures full { MatchBool result.0 ⊤ ((before : ℕ) × ((before < 2 ^ 64) × (2 ^ 64 ≤ before + more))) }
+            ensures whole { MatchBool result.0 (held.amount + more < 2 ^ 64) (held.parts ≡ L.parts → 2 ^ 64 ≤ held.amount + more) }
             ensures parts { result.1.parts ≡ held.parts }
             ensures amount { MatchBool result.0 (result.1.amount ≡ held.amount + more) (result.1.amount ≡ held.amount) }
         {

@@ -6,6 +6,8 @@ mod ends;
 #[cfg(test)]
 mod equal;
 #[cfg(test)]
+mod granted;
+#[cfg(test)]
 mod mutex;
 #[cfg(test)]
 mod once;

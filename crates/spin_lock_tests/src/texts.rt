@@ -142,3 +142,24 @@ fn a_lock_is_held_while_it_is_written(rt: HostRuntime) {
         equal(&rt, (watch.at_open, lock.is_locked()), (0, false));
     }
 }
+
+#[test]
+fn a_refusal_is_shown_by_its_reason(rt: HostRuntime) {
+    let lock: FairMutex<u64> = FairMutex::new(1);
+    let guard = lock.lock(&rt);
+    prints(
+        &rt,
+        &lock.try_lock_starver().err().expect(&rt, "held"),
+        "Locked",
+        "locked",
+    );
+    drop(guard);
+    let place = lock.starve(&rt);
+    prints(
+        &rt,
+        &lock.try_lock_starver().err().expect(&rt, "starved"),
+        "Starved",
+        "starved",
+    );
+    drop(place);
+}

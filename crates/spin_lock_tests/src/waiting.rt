@@ -23,3 +23,20 @@ pub fn pause<R: Wait>(rt: &R) {
         Yield::relax(rt);
     }
 }
+
+/// Whether the number comes to be as high as is wanted while this thread looks.
+pub fn comes_to<R: Wait>(rt: &R, number: &AtomicU64, wanted: u64) -> bool {
+    for _ in 0..100_000 {
+        if number.load(SeqCst) >= wanted {
+            return true;
+        }
+        Yield::relax(rt);
+    }
+    false
+}
+
+/// Whether a turn is left of those that the threads of a test share, and takes it. So a test ends however its threads
+/// are scheduled.
+pub fn has_turn(turns: &AtomicU64, most: u64) -> bool {
+    turns.fetch_add(1, SeqCst) < most
+}

@@ -1,7 +1,7 @@
 -- The value of a guard of a `Mutex`, the guard with another value in its place, and the value that a hold will free.
 use Rattle.std.specs.Prelude.{Option}
-use Rattle.spin_guard.specs.Guard.{guard_value, guard_with, held_value as inner_held_value, IsHolder}
-use Rattle.spin_ticket.specs.Queue.{use_of_view}
+use Rattle.spin_core.specs.Guard.{guard_value, guard_with, held_value as inner_held_value, IsHolder}
+use Rattle.spin_ticket.specs.Queue.{use_of_party}
 use Rattle.spin_mutex.specs.declared.mutex.Held.{Held}
 use Rattle.spin_mutex.specs.declared.mutex.MutexGuard.{MutexGuard}
 
@@ -14,7 +14,7 @@ module _ {T R : Type 0} where
 
   -- its party is the lock's holder
   abbrev pub holds : MutexGuard T R → Type 0
-  holds it = IsHolder use_of_view it.inner
+  holds it = IsHolder use_of_party it.inner
 
   -- the value that comes free once the hold is spent
   abbrev pub held_value : Held T R → Option T

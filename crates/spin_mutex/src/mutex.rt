@@ -3,8 +3,8 @@
 ghost use Rattle.std.specs.Prelude.{◌≡◌, Some, IfSome};
 ghost use Rattle.spin_mutex.specs.MutexGuard.{value_of, holds, held_value};
 
+use spin_core::lock::{Lock, with_guard};
 use spin_core::relax::{RelaxStrategy, Spin};
-use spin_lock::lock::{Lock, with_guard};
 use std::marker::PhantomData;
 use std::ops::{Deref, DerefMut};
 use std::sync::Wait;
@@ -60,6 +60,7 @@ pub struct Mutex<T, R = Spin> {
 /// }
 /// ```
 #[derive(Drop)]
+#[must_use = "dropping the guard at once releases the lock: bind it, or write `drop(..)`"]
 pub struct MutexGuard<'a, T, R = Spin> {
     inner: TicketMutexGuard<'a, T, R>,
     // The clause of `deref_mut` names this lifetime, and a lender's type has to name it itself.
@@ -85,6 +86,7 @@ pub struct MutexGuard<'a, T, R = Spin> {
 /// (refused, *lock.try_lock().expect($rt, "open"))
 /// ```
 #[derive(Drop)]
+#[must_use = "dropping a hold does not release the lock: pass it to `force_unlock`"]
 pub struct Held<'a, T, R = Spin> {
     inner: ticket::Held<'a, T, R>,
 }

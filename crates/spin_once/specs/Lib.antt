@@ -1,5 +1,5 @@
+pub mod Model
 pub mod Once
-pub mod Loads
 pub mod Claims
 pub mod Texts
 pub mod Lazy

@@ -1,21 +1,46 @@
--- The rule of a value that is made once, from a seed.
-use Rattle.std.specs.Prelude.{◌≡◌, ◌<◌, ℕ, Bool, true, false, List, if◌then◌else◌, ◌==◌}
+-- The rule of a value that is made once, from a seed: its word is that of a plain lock in whose phase its parties are, and its trace is a schedule of the model, which leads there.
+use Rattle.std.specs.Prelude.{◌≡◌, ◌<◌, ℕ, Bool, true, false, Option, Some, None, List, [], ◌∷◌, if◌then◌else◌, ◌==◌}
 use mathlib.Core.Option.{some}
 use lib.ListN.{get_elem?}
 use Rattle.core.specs.declared.snapshot.Snapshot.{Snapshot}
-use Rattle.spin_step.specs.Plain.{Plain, Phase, nothing, running, complete, fresh, once_word}
+use Rattle.spin_step.specs.Plain as plain
+use Rattle.spin_step.specs.Plain.{Plain, Phase, nothing, complete, fresh, once_word}
 use Rattle.spin_core.specs.Cell.{Use, off, reads, writes, fixes, Ways, readers_of, writers_of}
+use Rattle.spin_core.specs.Own.{Numbered, Runs, Tells}
 use Rattle.spin_core.specs.Views.{no_word}
 use Rattle.spin_core.specs.declared.cell.stable.MaybeStable.{MaybeStable}
+use Rattle.spin_core.specs.declared.trace.Trace.{Trace}
+use Rattle.spin_model.specs.declared.answer.Answer.{Answer}
+use Rattle.spin_model.specs.declared.answer.Answer.TheVariants.{Value, NoValue, Is}
+use Rattle.spin_model.specs.declared.once.OnceCall.{OnceCall}
+use Rattle.spin_model.specs.declared.once.OnceCall.TheVariants.{CallOnce, TryCallOnceOk, Wait, Poll, Get, IsCompleted}
+use Rattle.spin_model.specs.declared.once.OncePoint.{OncePoint}
+use Rattle.spin_model.specs.declared.once.OncePoint.TheVariants.{Look, TryBegin, Await, Run}
+use Rattle.spin_model.specs.declared.place.Seat.{Seat}
+use Rattle.spin_model.specs.declared.place.Seat.TheVariants as seat
+use Rattle.spin_model.specs.declared.schedule.Move.{Move}
+use Rattle.spin_model.specs.declared.schedule.Move.TheVariants.{Begin, Step}
+use Rattle.spin_model.specs.declared.schedule.Outcome.{Outcome}
+use Rattle.spin_model.specs.declared.schedule.Outcome.TheVariants.{Begun, GoingOn, Answered}
+use Rattle.spin_model.specs.Schedules.{Entry}
+use Rattle.spin_once.specs.Model.{Point, at, model}
 use Rattle.spin_once.specs.declared.once_core.rule.View.{View}
-use Rattle.spin_once.specs.declared.once_core.rule.View.TheVariants.{Idle, Running, Reading}
+use Rattle.spin_once.specs.declared.once_core.rule.View.TheVariants.{Idle, Reading, InCall}
 use Rattle.spin_once.specs.declared.once_core.rule.Stage.{Stage}
 use Rattle.spin_once.specs.declared.once_core.rule.Stage.TheVariants.{Seed, Done}
 
+abbrev pub used_at : OncePoint → Use
+used_at Run = writes
+used_at _ = off
+
 abbrev pub use_of_view : View → Use
 use_of_view Idle = off
-use_of_view Running = writes
 use_of_view Reading = reads
+use_of_view (InCall c l) = used_at l
+
+-- how a party uses what lies in the cell
+abbrev pub use_of_party : Numbered View → Use
+use_of_party v = use_of_view v.0
 
 -- so many parties read the value, and so many run
 abbrev pub readers : List View → ℕ
@@ -27,15 +52,15 @@ runs = writers_of use_of_view
 -- the parties are those of a plain lock in this phase
 abbrev pub IsPhaseOf : List View → Phase → Type 0
 IsPhaseOf vs nothing = (readers vs ≡ 0) × (runs vs ≡ 0)
-IsPhaseOf vs (running p) = (readers vs ≡ 0) × (runs vs ≡ 1) × (get_elem? vs p ≡ some Running)
+IsPhaseOf vs (plain.running p) = (readers vs ≡ 0) × (runs vs ≡ 1) × ((c : OnceCall (Unit {0})) × (get_elem? vs p ≡ some (InCall c Run)))
 IsPhaseOf vs complete = (0 < readers vs) × (runs vs ≡ 0)
 
 -- a plain lock of which nothing but the phase is used
 abbrev pub in_phase : Phase → Plain
 in_phase s = record (fresh 0 0 0) { phase = s }
 
-abbrev pub IsOnce : ℕ → Unit {0} → List View → Type 0
-IsOnce n m vs = (s : Phase) × IsPhaseOf vs s × (n ≡ once_word (in_phase s)) × (m ≡ no_word (in_phase s))
+abbrev pub Word : ℕ → Unit {0} → List View → Type 0
+Word n m vs = (s : Phase) × IsPhaseOf vs s × (n ≡ once_word (in_phase s)) × (m ≡ no_word (in_phase s))
 
 -- it was made
 abbrev pub is_done : {T S : Type 0} → Stage T S → Bool
@@ -43,18 +68,118 @@ is_done (Done value) = true
 is_done _ = false
 
 module _ {T S : Type 0} (makes : S → T → Type 0) where
-  -- a value that somebody reads may be made from the key, and what nobody uses is the key itself
+  -- a value that somebody reads may be made from the seed, and what nobody uses is the seed itself
   abbrev pub IsMadeFrom : Snapshot S → Bool → Stage T S → Type 0
-  IsMadeFrom key true (Done value) = makes key.value value
-  IsMadeFrom key false (Seed seed) = seed ≡ key.value
+  IsMadeFrom seed true (Done value) = makes seed.value value
+  IsMadeFrom seed false (Seed it) = it ≡ seed.value
   IsMadeFrom _ _ _ = ⊥
 
-  abbrev pub once_ways : Snapshot S → Ways (MaybeStable (Stage T S)) View
-  once_ways key = (fixes (λ read x. IsMadeFrom key read x.value), use_of_view)
+  abbrev pub once_ways : Snapshot S → Ways (MaybeStable (Stage T S)) (Numbered View)
+  once_ways seed = (fixes (λ read x. IsMadeFrom seed read x.value), use_of_party)
 
--- what a party becomes that loads this word, and one that tries to begin
-abbrev pub loaded : ℕ → View
-loaded n = if n == 2 then Reading else Idle
+-- where a party sits in the model: one that reads has its answer
+abbrev pub seat_of : View → Seat (OnceCall (Unit {0})) Point
+seat_of Idle = seat.Idle
+seat_of Reading = seat.Idle
+seat_of (InCall c l) = seat.Calling c (at l) None
 
-abbrev pub tried : ℕ → View
-tried n = if n == 0 then Running else loaded n
+-- the lock's words, by the model's
+abbrev pub words_of : ℕ → ℕ × Unit {0}
+words_of w = (w, tt)
+
+abbrev pub OneMove : Type 0
+OneMove = Move (OnceCall (Unit {0})) (Unit {0})
+
+abbrev pub Ending : Type 0
+Ending = Outcome (Answer (Unit {0})) (Unit {0})
+
+abbrev pub Made : Type 0
+Made = Entry (OnceCall (Unit {0})) (Unit {0})
+
+-- of the first word, the trace and the parties, where the value given at first is this, under the name of the trace
+abbrev pub IsOnce : Option (Unit {0}) → ℕ → ℕ → Trace Made (Unit {0}) → List (Numbered View) → Type 0
+IsOnce given = Runs (model given) seat_of words_of Word
+
+-- what a step tells of its moves
+abbrev pub Told : (List OneMove → List Ending → ℕ → View → Type 0) → Option (Numbered View) → List Made → List Made → ℕ → Numbered View → Type 0
+Told says view log es n v = (given : Option (Unit {0})) × Tells (model given) seat_of words_of says view log es n v
+
+-- The steps: which moves, with which outcomes, by the number found, and the view after
+
+-- there is a value, and the party reads it; or else it is this
+abbrev pub finds : View → ℕ → View
+finds other n = if n == 2 then Reading else other
+
+-- what the call answers at once, or that it goes on
+abbrev pub tells : Ending → ℕ → Ending
+tells other n = if n == 2 then Answered (Value tt) None else other
+
+abbrev pub gets_by : List OneMove → List Ending → ℕ → View → Type 0
+gets_by own outs n v = (v ≡ finds Idle n) × (own ≡ Begin Get ∷ Step ∷ []) × (outs ≡ Begun ∷ tells (Answered NoValue None) n ∷ [])
+
+abbrev pub completes_by : List OneMove → List Ending → ℕ → View → Type 0
+completes_by own outs n v = (v ≡ Idle) × (own ≡ Begin IsCompleted ∷ Step ∷ []) × (outs ≡ Begun ∷ Answered (Is (n == 2)) None ∷ [])
+
+-- a call with a closure; where that may fail the model names the call as one that does not, until it has failed
+abbrev pub closure_call : Bool → OnceCall (Unit {0})
+closure_call may_fail = if may_fail then TryCallOnceOk tt else CallOnce tt
+
+abbrev pub trying : Bool → View
+trying may_fail = InCall (closure_call may_fail) TryBegin
+
+abbrev pub running : Bool → View
+running may_fail = InCall (closure_call may_fail) Run
+
+abbrev pub comes_by : Bool → List OneMove → List Ending → ℕ → View → Type 0
+comes_by may_fail own outs n v = (v ≡ finds (trying may_fail) n) × (own ≡ Begin (closure_call may_fail) ∷ Step ∷ []) × (outs ≡ Begun ∷ tells GoingOn n ∷ [])
+
+-- a step of a call that has begun, or the end of its closure: no more is told than where it leads
+abbrev pub leads_by : (ℕ → View) → List OneMove → List Ending → ℕ → View → Type 0
+leads_by to own outs n v = v ≡ to n
+
+-- the call that the party is in
+abbrev pub call_of : Option View → OnceCall (Unit {0})
+call_of (Some (InCall c l)) = c
+call_of _ = Get
+
+-- where the exchange of a call with a closure leads, where its next look leads, and where the looks of `wait` and `poll` lead
+abbrev pub begun : OnceCall (Unit {0}) → ℕ → View
+begun c n = if n == 0 then InCall c Run else finds (InCall c Await) n
+
+abbrev pub looked : OnceCall (Unit {0}) → ℕ → View
+looked c n = if n == 0 then InCall c TryBegin else finds (InCall c Await) n
+
+abbrev pub waited : ℕ → View
+waited = finds (InCall Wait Look)
+
+abbrev pub polled : ℕ → View
+polled n = if n == 0 then Idle else finds (InCall Poll Look) n
+
+-- at which views these steps are taken
+
+abbrev pub has_closure : OnceCall (Unit {0}) → Bool
+has_closure (CallOnce v) = true
+has_closure (TryCallOnceOk v) = true
+has_closure _ = false
+
+abbrev pub may_begin : Option View → Bool
+may_begin (Some (InCall c TryBegin)) = has_closure c
+may_begin _ = false
+
+abbrev pub may_look : Option View → Bool
+may_look (Some (InCall c Await)) = has_closure c
+may_look _ = false
+
+abbrev pub may_wait : Option View → Bool
+may_wait None = true
+may_wait (Some (InCall Wait Look)) = true
+may_wait _ = false
+
+abbrev pub may_poll : Option View → Bool
+may_poll None = true
+may_poll (Some (InCall Poll Look)) = true
+may_poll _ = false
+
+abbrev pub is_running : View → Bool
+is_running (InCall c Run) = has_closure c
+is_running _ = false

@@ -1,10 +1,11 @@
 //! A value that its own initialiser makes when a thread first asks for it. Begin with [`LazyLock::new`] and
 //! [`LazyLock::force`]; [`LazyLock::promising`] tells callers more of the value than its type does.
 ghost use Rattle.std.specs.Prelude.{◌≡◌};
+ghost use Rattle.spin_once.specs.Claims.{seed_of};
 ghost use Rattle.spin_once.specs.Lazy.{initialiser, promise};
 
 use crate::exclusive::Exclusive;
-use crate::once_core::{Claim, OnceCore, Seed};
+use crate::once_core::{Claim, OnceCore, Seed, Sure, Wanting};
 use spin_core::relax::{RelaxStrategy, Spin};
 use std::marker::PhantomData;
 use std::sync::Wait;
@@ -166,20 +167,20 @@ impl<T, F: Makes<T, M>, R: RelaxStrategy, M: Promise<T>> LazyLock<T, F, R, M> {
         requires { F.can (initialiser this.now) (promise this.now) }
         ensures { M.keeps (promise this.now) result.now }
     {
-        match this.core.get() {
-            Some(value) => value,
-            None => this.make(rt),
+        match this.core.come::<Sure>() {
+            Ok(value) => value,
+            Err(wanting) => Self::make(rt, wanting),
         }
     }
 
-    // Exclusive apart: inlined, it would lengthen the path of each caller that finds a value.
+    // Kept out of line: inlined, it would lengthen the path of each caller that finds a value.
     #[cold]
     #[inline(never)]
-    fn make<W: Wait>(&self, rt: &W) -> &T
-        requires { F.can (initialiser self.now) (promise self.now) }
-        ensures { M.keeps (promise self.now) result.now }
+    fn make<'a, W: Wait>(rt: &W, wanting: Wanting<'a, T, Initialiser<F, M>>) -> &'a T
+        requires { F.can (seed_of wanting).f.inner (seed_of wanting).promise }
+        ensures { M.keeps (seed_of wanting.entry).promise result.now }
     {
-        match self.core.claim::<R, W>(rt) {
+        match wanting.claim::<R, W>(rt) {
             Claim::Value(value) => value,
             Claim::Init(permit) => {
                 let (permit, Initialiser { f, promise }) = permit.take();

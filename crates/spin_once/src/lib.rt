@@ -4,7 +4,10 @@
 #![tactic(auto)]
 
 mod exclusive;
+mod laws;
 pub mod lazylock;
 pub mod once;
 mod once_core;
 mod texts;
+
+pub use laws::every_run_of_a_once_is_a_schedule;

@@ -1,7 +1,8 @@
 //! A value that one closure makes. Begin with [`Once::new`] and [`Once::call_once`].
-ghost use Rattle.std.specs.Prelude.{◌≡◌, IfErr, Err};
+ghost use Rattle.std.specs.Prelude.{◌≡◌, IfErr, Err, true};
+ghost use Rattle.spin_once.specs.Claims.{Wants};
 
-use crate::once_core::{Claim, OnceCore, Seed};
+use crate::once_core::{Claim, OnceCore, Seed, Sure, Unsure, Wanting};
 use spin_core::relax::{RelaxStrategy, Spin};
 use std::marker::PhantomData;
 use std::sync::Wait;
@@ -90,7 +91,7 @@ impl<T, R> Once<T, R> {
     /// equal(&rt, unit.is_completed(), true);
     /// ```
     pub fn is_completed(&self) -> bool {
-        self.get().is_some()
+        self.core.is_completed()
     }
 
     /// Returns a mutable reference to the value, or `None` if there is none.
@@ -140,19 +141,19 @@ impl<T, R: RelaxStrategy> Once<T, R> {
     pub fn call_once<F: FnOnce() -> T, W: Wait>(&self, rt: &W, f: F) -> &T
         requires { F.pre f }
     {
-        match self.get() {
-            Some(value) => value,
-            None => self.make(rt, f),
+        match self.core.come::<Sure>() {
+            Ok(value) => value,
+            Err(wanting) => Self::make(rt, wanting, f),
         }
     }
 
-    // Exclusive apart: inlined, it would lengthen the path of each caller that finds a value.
+    // Kept out of line: inlined, it would lengthen the path of each caller that finds a value.
     #[cold]
     #[inline(never)]
-    fn make<F: FnOnce() -> T, W: Wait>(&self, rt: &W, f: F) -> &T
+    fn make<'a, F: FnOnce() -> T, W: Wait>(rt: &W, wanting: Wanting<'a, T, ()>, f: F) -> &'a T
         requires { F.pre f }
     {
-        match self.core.claim::<R, W>(rt) {
+        match wanting.claim::<R, W>(rt) {
             Claim::Value(value) => value,
             Claim::Init(permit) => permit.complete(f()),
         }
@@ -178,19 +179,24 @@ impl<T, R: RelaxStrategy> Once<T, R> {
         requires { F.pre f }
         ensures err { IfErr result (λ e. F.post f (Err e)) }
     {
-        match self.get() {
-            Some(value) => Ok(value),
-            None => self.try_make(rt, f),
+        match self.core.come::<Unsure>() {
+            Ok(value) => Ok(value),
+            Err(wanting) => Self::try_make(rt, wanting, f),
         }
     }
 
     #[cold]
     #[inline(never)]
-    fn try_make<F: FnOnce() -> Result<T, E>, E, W: Wait>(&self, rt: &W, f: F) -> Result<&T, E>
-        requires { F.pre f }
+    fn try_make<'a, F: FnOnce() -> Result<T, E>, E, W: Wait>(
+        rt: &W,
+        wanting: Wanting<'a, T, ()>,
+        f: F,
+    ) -> Result<&'a T, E>
+        requires may { Wants true wanting }
+        requires calls { F.pre f }
         ensures err { IfErr result (λ e. F.post f (Err e)) }
     {
-        let permit = match self.core.claim::<R, W>(rt) {
+        let permit = match wanting.claim::<R, W>(rt) {
             Claim::Value(value) => return Ok(value),
             Claim::Init(permit) => permit,
         };

@@ -1,10 +1,15 @@
-//! A value that is made once, from a seed: what `Once` and `LazyLock` share. Begin with [`OnceCore::claim`], which gives
-//! the value or the right to make it.
-ghost use Rattle.std.specs.Prelude.{◌≡◌, IfSome, IfOk};
-ghost use Rattle.spin_once.specs.Claims.{ClaimsMade};
+//! A value that is made once, from a seed: what `Once` and `LazyLock` share. Begin with [`OnceCore::come`] and
+//! [`Wanting::claim`], which give the value or the right to make it.
+ghost use Rattle.std.specs.Prelude.{◌≡◌, true, IfSome, IfOk, IfErr};
+ghost use Rattle.spin_core.specs.Own.{what};
+ghost use Rattle.spin_once.specs.Once.{call_of, may_begin, may_look, may_wait, may_poll};
 
-use self::rule::{Begin, COMPLETE, NOTHING, Progress, SeedCell, Stage, read_value};
+use self::rule::{
+    Begins, COMPLETE, Caller, Comes, Completes, Gets, Looks, NOTHING, Polls, SeedCell, Stage,
+    Waits, read_value,
+};
 use spin_core::relax::RelaxStrategy;
+use spin_core::trace::Watch;
 use spin_step::once;
 use std::sync::Wait;
 
@@ -13,7 +18,7 @@ mod known;
 mod rule;
 
 pub(crate) use self::init_permit::InitPermit;
-pub(crate) use self::rule::Seed;
+pub(crate) use self::rule::{Closure, Seed, Sure, Unsure};
 
 /// A cell that holds a seed, and later the value made from it.
 ///
@@ -32,9 +37,11 @@ pub(crate) enum Claim<'a, T, S: Seed<T>> {
 }
 
 impl<T, S: Seed<T>> OnceCore<T, S> {
+    ghost use Rattle.spin_once.specs.Claims.{Wants};
+
     /// Creates a cell with a seed.
     pub(crate) fn new(seed: S) -> Self
-        ensures { result.cell.value ≡ seed }
+        ensures { result.cell.seed.value ≡ seed }
     {
         OnceCore {
             cell: rule::with_seed(seed),
@@ -44,7 +51,7 @@ impl<T, S: Seed<T>> OnceCore<T, S> {
     /// Creates a cell with a value that may be made from `seed`.
     pub(crate) fn initialized(value: T, seed: &S) -> Self
         requires { S.makes seed.now value }
-        ensures { result.cell.value ≡ seed.now }
+        ensures { result.cell.seed.value ≡ seed.now }
     {
         OnceCore {
             cell: rule::completed(value, seed),
@@ -53,12 +60,20 @@ impl<T, S: Seed<T>> OnceCore<T, S> {
 
     /// Returns the value that its one load finds.
     pub(crate) fn get(&self) -> Option<&T>
-        ensures { IfSome result (λ value. S.makes self.now.cell.value value.now) }
+        ensures { IfSome result (λ value. S.makes self.now.cell.seed.value value.now) }
     {
-        match rule::look(&self.cell) {
-            Progress::Value(value) => Some(value),
-            Progress::Nothing | Progress::Running => None,
+        let (found, party, _) = self.cell.enter().load::<Gets>(Watch::nothing());
+        if found == COMPLETE as u64 {
+            return Some(read_value(party));
         }
+        party.leave();
+        None
+    }
+
+    /// Returns whether its one load finds a value.
+    pub(crate) fn is_completed(&self) -> bool {
+        let (found, _) = self.cell.enter().look::<Completes>(Watch::nothing());
+        found == COMPLETE as u64
     }
 
     /// Returns the value. It reads no word, since the cell is not shared any more.
@@ -81,66 +96,154 @@ impl<T, S: Seed<T>> OnceCore<T, S> {
         Some(Stage::made(stable))
     }
 
-    // Tries once to begin. Fails while another thread makes the value.
-    fn begin(&self) -> Result<Claim<'_, T, S>, ()>
-        ensures { IfOk result (ClaimsMade S.makes self.now.cell.value) }
+    /// Returns the value that its one load finds, or else a call that goes on, with a closure of this kind.
+    pub(crate) fn come<C: Closure>(&self) -> Result<&T, Wanting<'_, T, S>>
+        ensures value { IfOk result (λ value. S.makes self.now.cell.seed.value value.now) }
+        ensures wants { IfErr result (λ wanting. (wanting.party.key ≡ self.now.cell) × Wants C.may_fail wanting) }
     {
-        let running = once::begin(NOTHING).unwrap();
-        let (found, permit) = self
-            .cell
-            .enter()
-            .exchange::<Begin>(NOTHING as u64, running as u64);
+        let (found, party, _) = self.cell.enter().load::<Comes<C>>(Watch::nothing());
         if found == COMPLETE as u64 {
-            return Ok(Claim::Value(read_value(permit)));
+            Ok(read_value(party))
+        } else {
+            Err(Wanting { party })
         }
-        if found != NOTHING as u64 {
-            permit.leave();
-            return Err(());
-        }
-        Ok(Claim::Init(InitPermit::new(permit.into_writer())))
     }
 
     /// Spins while a thread makes the value, and then returns it if there is one.
     pub(crate) fn poll<R: RelaxStrategy, W: Wait>(&self, rt: &W) -> Option<&T>
-        ensures { IfSome result (λ value. S.makes self.now.cell.value value.now) }
+        ensures { IfSome result (λ value. S.makes self.now.cell.seed.value value.now) }
     {
-        for _ in rt.forever() {
-            match rule::look(&self.cell) {
-                Progress::Value(value) => return Some(value),
-                Progress::Nothing => return None,
-                Progress::Running => R::relax(rt),
-            }
+        let polling = Polling {
+            party: self.cell.enter(),
+        };
+        match polling.look() {
+            Ok(answer) => answer,
+            Err(polling) => R::retry(rt, polling, Polling::look),
         }
-        unreachable!()
     }
 
     /// Spins until there is a value, and returns it.
     pub(crate) fn wait<R: RelaxStrategy, W: Wait>(&self, rt: &W) -> &T
-        ensures { S.makes self.now.cell.value result.now }
+        ensures { S.makes self.now.cell.seed.value result.now }
     {
-        match self.poll::<R, W>(rt) {
-            Some(value) => value,
-            None => R::retry(rt, (), |()| self.poll::<R, W>(rt).ok_or(())),
+        let waiting = Waiting {
+            party: self.cell.enter(),
+        };
+        match waiting.look() {
+            Ok(value) => value,
+            Err(waiting) => R::retry(rt, waiting, Waiting::look),
         }
     }
+}
+
+/// A call with a closure that goes on with its exchange.
+pub(crate) struct Wanting<'a, T, S: Seed<T>> {
+    party: Caller<'a, T, S>,
+    ghost wants: { may_begin (what party.view) ≡ true },
+}
+
+// A call with a closure that goes on with a look, since another closure runs.
+struct Awaiting<'a, T, S: Seed<T>> {
+    party: Caller<'a, T, S>,
+    ghost awaits: { may_look (what party.view) ≡ true },
+}
+
+impl<'a, T, S: Seed<T>> Wanting<'a, T, S> {
+    ghost use Rattle.spin_once.specs.Claims.{ClaimsMade};
 
     /// Returns the value, or the right to make it. Spins while another thread makes it.
-    pub(crate) fn claim<R: RelaxStrategy, W: Wait>(&self, rt: &W) -> Claim<'_, T, S>
-        ensures { ClaimsMade S.makes self.now.cell.value result }
+    pub(crate) fn claim<R: RelaxStrategy, W: Wait>(self, rt: &W) -> Claim<'a, T, S>
+        ensures { ClaimsMade S.makes self.entry.party.key.seed.value (call_of (what self.entry.party.view)) result }
     {
         match self.begin() {
             Ok(claim) => claim,
-            Err(()) => R::retry(rt, (), |()| self.begin_later::<R, W>(rt)),
+            Err(awaiting) => R::retry(rt, awaiting, Awaiting::look_and_begin),
         }
     }
 
-    // Tries to begin once no other thread makes the value.
-    fn begin_later<R: RelaxStrategy, W: Wait>(&self, rt: &W) -> Result<Claim<'_, T, S>, ()>
-        ensures { IfOk result (ClaimsMade S.makes self.now.cell.value) }
+    // Tries once to begin. Fails while another thread makes the value.
+    fn begin(self) -> Result<Claim<'a, T, S>, Awaiting<'a, T, S>>
+        ensures claims { IfOk result (ClaimsMade S.makes self.entry.party.key.seed.value (call_of (what self.entry.party.view))) }
+        ensures awaits { IfErr result (λ awaiting. (awaiting.party.key ≡ self.entry.party.key) × (call_of (what awaiting.party.view) ≡ call_of (what self.entry.party.view))) }
     {
-        match self.poll::<R, W>(rt) {
-            Some(value) => Ok(Claim::Value(value)),
-            None => self.begin(),
+        let Self { party } = self;
+        let running = once::begin(NOTHING).unwrap();
+        let (found, party, _) = party.exchange::<Begins>(
+            NOTHING as u64,
+            running as u64,
+            Watch::nothing(),
+        );
+        if found == COMPLETE as u64 {
+            return Ok(Claim::Value(read_value(party)));
         }
+        if found != NOTHING as u64 {
+            return Err(Awaiting { party });
+        }
+        Ok(Claim::Init(InitPermit::new(party.into_writer())))
+    }
+}
+
+impl<'a, T, S: Seed<T>> Awaiting<'a, T, S> {
+    ghost use Rattle.spin_once.specs.Claims.{ClaimsMade};
+
+    // Tries to begin if no other thread makes the value.
+    fn look_and_begin(self) -> Result<Claim<'a, T, S>, Awaiting<'a, T, S>>
+        ensures claims { IfOk result (ClaimsMade S.makes self.entry.party.key.seed.value (call_of (what self.entry.party.view))) }
+        ensures awaits { IfErr result (λ awaiting. (awaiting.party.key ≡ self.entry.party.key) × (call_of (what awaiting.party.view) ≡ call_of (what self.entry.party.view))) }
+    {
+        let Self { party } = self;
+        let (found, party, _) = party.load::<Looks>(Watch::nothing());
+        if found == COMPLETE as u64 {
+            return Ok(Claim::Value(read_value(party)));
+        }
+        if found != NOTHING as u64 {
+            return Err(Awaiting { party });
+        }
+        Wanting { party }.begin()
+    }
+}
+
+// A call of `wait` that comes or goes on.
+struct Waiting<'a, T, S: Seed<T>> {
+    party: Caller<'a, T, S>,
+    ghost waits: { may_wait (what party.view) ≡ true },
+}
+
+impl<'a, T, S: Seed<T>> Waiting<'a, T, S> {
+    fn look(self) -> Result<&'a T, Waiting<'a, T, S>>
+        ensures value { IfOk result (λ value. S.makes self.entry.party.key.seed.value value.now) }
+        ensures key { IfErr result (λ waiting. waiting.party.key ≡ self.entry.party.key) }
+    {
+        let Self { party } = self;
+        let (found, party, _) = party.load::<Waits>(Watch::nothing());
+        if found == COMPLETE as u64 {
+            Ok(read_value(party))
+        } else {
+            Err(Waiting { party })
+        }
+    }
+}
+
+// A call of `poll` that comes or goes on.
+struct Polling<'a, T, S: Seed<T>> {
+    party: Caller<'a, T, S>,
+    ghost polls: { may_poll (what party.view) ≡ true },
+}
+
+impl<'a, T, S: Seed<T>> Polling<'a, T, S> {
+    fn look(self) -> Result<Option<&'a T>, Polling<'a, T, S>>
+        ensures value { IfOk result (λ answer. IfSome answer (λ value. S.makes self.entry.party.key.seed.value value.now)) }
+        ensures key { IfErr result (λ polling. polling.party.key ≡ self.entry.party.key) }
+    {
+        let Self { party } = self;
+        let (found, party, _) = party.load::<Polls>(Watch::nothing());
+        if found == COMPLETE as u64 {
+            return Ok(Some(read_value(party)));
+        }
+        if found != NOTHING as u64 {
+            return Err(Polling { party });
+        }
+        party.leave();
+        Ok(None)
     }
 }

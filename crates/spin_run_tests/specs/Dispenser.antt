@@ -3,24 +3,24 @@
 use Rattle.std.specs.Prelude.{◌≡◌, ℕ, ◌+◌, Bool, true, false, Option, Some, None, List, [], ◌∷◌, ◌++◌, nat_lt, if◌then◌else◌}
 use Rattle.std.specs.List.{range_with_len}
 use Rattle.spin_step.specs.Plain.{to_read, Change, gets, fresh, flag_word}
-use Rattle.spin_world_core.specs.declared.place.Hold.{Hold}
-use Rattle.spin_world_core.specs.declared.place.Hold.TheVariants.{Read}
-use Rattle.spin_world_core.specs.declared.object.Next.{Next}
-use Rattle.spin_world_core.specs.declared.object.Next.TheVariants.{Continue, Answers}
-use Rattle.spin_world_core.specs.declared.schedule.Event.{Event}
-use Rattle.spin_world_core.specs.declared.schedule.Move.{Move}
-use Rattle.spin_world_core.specs.declared.schedule.Outcome.{Outcome}
-use Rattle.spin_world_core.specs.declared.schedule.Outcome.TheVariants.{Answered}
+use Rattle.spin_model.specs.declared.place.Hold.{Hold}
+use Rattle.spin_model.specs.declared.place.Hold.TheVariants.{Read}
+use Rattle.spin_model.specs.declared.step.Next.{Next}
+use Rattle.spin_model.specs.declared.step.Next.TheVariants.{Continue, Answers}
+use Rattle.spin_model.specs.declared.schedule.Event.{Event}
+use Rattle.spin_model.specs.declared.schedule.Move.{Move}
+use Rattle.spin_model.specs.declared.schedule.Outcome.{Outcome}
+use Rattle.spin_model.specs.declared.schedule.Outcome.TheVariants.{Answered}
 use Rattle.spin_run_tests.specs.declared.dispenser.DispenserCall.{DispenserCall}
 use Rattle.spin_run_tests.specs.declared.dispenser.DispenserCall.TheVariants as call
 use Rattle.spin_run_tests.specs.declared.dispenser.DispenserPoint.{DispenserPoint}
 use Rattle.spin_run_tests.specs.declared.dispenser.DispenserPoint.TheVariants.{First, Exchange}
 use Rattle.spin_run_tests.specs.declared.dispenser.DispenserAnswer.{DispenserAnswer}
 use Rattle.spin_run_tests.specs.declared.dispenser.DispenserAnswer.TheVariants.{Drawn, SoldOut, Count}
-use Rattle.spin_world_core.specs.Calls.{Asked, tries, counts_readers, LockKind, usual, Said, granted, refused, counted}
-use Rattle.spin_world_core.specs.Machines.{Machine, opening_plain}
-use Rattle.spin_world_core.specs.Acts.{one_number, Act, load, load_for, retry, Table, machine_of}
-use Rattle.spin_world_core.specs.Schedules.{at_first, after, events_of}
+use Rattle.spin_model.specs.Calls.{Asked, tries, counts_readers, LockKind, usual, Said, granted, refused, counted}
+use Rattle.spin_model.specs.Machines.{Machine, opening_plain}
+use Rattle.spin_model.specs.Acts.{one_number, Act, load, load_for, retry, Table, machine_of}
+use Rattle.spin_model.specs.Schedules.{at_first, after, events_of}
 
 -- The kind of lock: nobody gives a number back
 

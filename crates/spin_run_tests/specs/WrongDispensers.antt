@@ -1,17 +1,17 @@
 -- Dispensers that are wrong, each in one part of its table, and schedules on which the laws refuse them.
 use Rattle.std.specs.Prelude.{ℕ, ◌+◌, Bool, true, Option, Some, List, [], ◌∷◌, nat_lt, if◌then◌else◌}
 use Rattle.spin_step.specs.Plain.{to_read, gets}
-use Rattle.spin_world_core.specs.declared.place.Hold.{Hold}
-use Rattle.spin_world_core.specs.declared.place.Hold.TheVariants.{Read}
-use Rattle.spin_world_core.specs.declared.schedule.Move.{Move}
-use Rattle.spin_world_core.specs.declared.schedule.Move.TheVariants.{Begin, Step}
+use Rattle.spin_model.specs.declared.place.Hold.{Hold}
+use Rattle.spin_model.specs.declared.place.Hold.TheVariants.{Read}
+use Rattle.spin_model.specs.declared.schedule.Move.{Move}
+use Rattle.spin_model.specs.declared.schedule.Move.TheVariants.{Begin, Step}
 use Rattle.spin_run_tests.specs.declared.dispenser.DispenserCall.{DispenserCall}
 use Rattle.spin_run_tests.specs.declared.dispenser.DispenserCall.TheVariants as call
 use Rattle.spin_run_tests.specs.declared.dispenser.DispenserPoint.{DispenserPoint}
 use Rattle.spin_run_tests.specs.declared.dispenser.DispenserPoint.TheVariants.{First, Exchange}
 use Rattle.spin_run_tests.specs.declared.dispenser.DispenserAnswer.{DispenserAnswer}
-use Rattle.spin_world_core.specs.Calls.{Asked, gives_back}
-use Rattle.spin_world_core.specs.Acts.{Act, load_for, retry, machine_of}
+use Rattle.spin_model.specs.Calls.{Asked, gives_back}
+use Rattle.spin_model.specs.Acts.{Act, load_for, retry, machine_of}
 use Rattle.spin_run_tests.specs.Dispenser.{Continues, dispenser, dispenser_calls, next_after, drawn, goes_for, sold_out, act_of}
 use Rattle.spin_run_tests.specs.Dispenser.{DispenserTable, dispenser_table, DispenserMachine}
 

@@ -4,7 +4,7 @@
 //! Begin with [`Dispenser::new`]. The wrong dispensers in [`refused`] show what the laws keep out.
 ghost use Rattle.std.specs.Prelude.{◌≡◌, true};
 ghost use Rattle.spin_world_core.specs.Runs.{Always};
-ghost use Rattle.spin_world_core.specs.Acts.{one_number, step_by, can_by};
+ghost use Rattle.spin_model.specs.Acts.{one_number, step_by, can_by};
 ghost use Rattle.spin_run_tests.specs.declared.dispenser.Dispenser.{Dispenser};
 ghost use Rattle.spin_run_tests.specs.Dispenser.{next_after, act_of, dispenser_machine, IsDispenser, DrawsInOrder};
 

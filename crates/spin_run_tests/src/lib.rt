@@ -2,11 +2,15 @@
 //! object of one's own.
 #![tactic(auto)]
 
+#[cfg(test)]
+mod alike;
 pub mod dispenser;
 #[cfg(test)]
 mod ends;
 #[cfg(test)]
 mod program;
+#[cfg(test)]
+mod progress;
 #[cfg(test)]
 mod rows;
 #[cfg(test)]

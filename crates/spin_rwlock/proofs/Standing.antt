@@ -2,15 +2,15 @@
 use Rattle.std.proofs.Common.{◌≡◌, ℕ, ◌+◌, ◌-◌, ◌*◌, ◌%◌, ◌^◌, ◌≤◌, Bool, true, cond, List, [], refl, ap, ◌∙◌, arith}
 use Rattle.std.proofs.lemmas.List.Sums.{sum_by-cons}
 use Rattle.spin_step.specs.Plain.{Kind, Holder, holder, reading, upgradable, asking, writing, weight, may_turn, is_holder, same_kind, count_kind, with_kind}
-use Rattle.spin_step.specs.Readers.{tells, released, turned}
+use Rattle.spin_step_more.specs.Readers.{tells, released, turned}
 use Rattle.spin_step.proofs.Holders.{is_holder-from_entries}
-use Rattle.spin_step.proofs.Readers.{tells-holder}
+use Rattle.spin_step_more.proofs.Readers.{tells-holder}
 use Rattle.spin_step.proofs.Sums.{upgrader, one_of, by_kinds, all_kinds, sum-less, sum-turned, length-with_kind}
 use Rattle.spin_core.specs.Views.{Part, holds, holds_starving, entries_of}
 use Rattle.spin_core.proofs.Owners.{exactly}
 use Rattle.spin_core.proofs.Views.{part-beyond}
 use Rattle.spin_rwlock.specs.declared.rwlock.rule.View.{View}
-use Rattle.spin_rwlock.specs.Rw.{part, IsRw}
+use Rattle.spin_rwlock.specs.Rw.{part, Word}
 use Rattle.spin_rwlock.specs.Standing.{is_of_kind, has_kind, held, readers, upgradables, askers, writers, holders, ReadersOrWriter, HoldsAt}
 use Rattle.spin_rwlock.proofs.Steps.{fits_cap, bounded}
 
@@ -24,15 +24,15 @@ one_holder k p holds_starving = omega (arith, sum_by-cons (λ (h : Holder). one_
 one_holder k p _ = refl
 
 -- as many parties hold so as holders of the plain lock are of this kind
-as_many : (k : Kind) (word : ℕ) (vs : List View) (rule : IsRw word tt vs) → held k vs ≡ count_kind k rule.0.holders
+as_many : (k : Kind) (word : ℕ) (vs : List View) (rule : Word word tt vs) → held k vs ≡ count_kind k rule.0.holders
 as_many k word vs rule =
     exactly (λ h. h.party) (λ h. one_if (same_kind k h.kind)) part (λ v. one_if (has_kind k v)) (λ p x. count_kind k (entries_of p x).holders) (λ p v. one_holder k p (part v)) vs rule.0.holders
     (λ p. ap (λ e. count_kind k e.holders) (rule.3 p).0) (λ p far. ap (λ e. e.holders) (rule.3 p).0 ∙ ap (λ x. (entries_of p x).holders) (part-beyond part p vs far))
 
-pub counts_parties : (word : ℕ) (vs : List View) → IsRw word tt vs → word ≡ ((weight reading * readers vs + weight upgradable * upgradables vs) + weight asking * askers vs) + weight writing * writers vs
+pub counts_parties : (word : ℕ) (vs : List View) → Word word tt vs → word ≡ ((weight reading * readers vs + weight upgradable * upgradables vs) + weight asking * askers vs) + weight writing * writers vs
 counts_parties word vs rule = omega (arith, rule.4, by_kinds weight rule.0.holders, as_many reading word vs rule, as_many upgradable word vs rule, as_many asking word vs rule, as_many writing word vs rule)
 
-pub readers_or_one_writer : (word : ℕ) (vs : List View) → IsRw word tt vs → ReadersOrWriter vs
+pub readers_or_one_writer : (word : ℕ) (vs : List View) → Word word tt vs → ReadersOrWriter vs
 readers_or_one_writer word vs rule = let s = rule.0 in
     let r = as_many reading word vs rule in let u = as_many upgradable word vs rule in let a = as_many asking word vs rule in let w = as_many writing word vs rule in
     record {
@@ -41,20 +41,20 @@ readers_or_one_writer word vs rule = let s = rule.0 in
       within_limit = omega (arith, r, u, a, w, all_kinds s.holders, fits_cap s rule.1 rule.2);
     }
 
-pub zero_when_free : (word : ℕ) (vs : List View) → IsRw word tt vs → (word ≡ 0 → holders vs ≡ 0) × (holders vs ≡ 0 → word ≡ 0)
+pub zero_when_free : (word : ℕ) (vs : List View) → Word word tt vs → (word ≡ 0 → holders vs ≡ 0) × (holders vs ≡ 0 → word ≡ 0)
 zero_when_free word vs rule = let e = counts_parties word vs rule in ((λ z. omega (arith, e, z)), (λ z. omega (arith, e, z)))
 
 -- An addition does not see the word
 
-stands : (vs : List View) (p : ℕ) (k : Kind) (word : ℕ) (rule : IsRw word tt vs) → HoldsAt vs p k → is_holder p k rule.0.holders ≡ true
+stands : (vs : List View) (p : ℕ) (k : Kind) (word : ℕ) (rule : Word word tt vs) → HoldsAt vs p k → is_holder p k rule.0.holders ≡ true
 stands vs p k word rule at = is_holder-from_entries p k rule.0.holders (ap (λ e. e.holders) (rule.3 p).0 ∙ ap (λ x. (entries_of p x).holders) at)
 
-told : (vs : List View) (p : ℕ) (k : Kind) (word : ℕ) (rule : IsRw word tt vs) → HoldsAt vs p k → tells k word ≡ true
+told : (vs : List View) (p : ℕ) (k : Kind) (word : ℕ) (rule : Word word tt vs) → HoldsAt vs p k → tells k word ≡ true
 told vs p k word rule at =
     let s = rule.0 in
     ap (tells k) rule.4 ∙ tells-holder s p k rule.2.exclusive (fits_cap s rule.1 rule.2) (stands vs p k word rule at)
 
-pub goes_as_step : (word : ℕ) (vs : List View) (p : ℕ) (k : Kind) → IsRw word tt vs → HoldsAt vs p k → (tells k word ≡ true) × ((word + (2 ^ 64 - weight k)) % 2 ^ 64 ≡ released k word)
+pub goes_as_step : (word : ℕ) (vs : List View) (p : ℕ) (k : Kind) → Word word tt vs → HoldsAt vs p k → (tells k word ≡ true) × ((word + (2 ^ 64 - weight k)) % 2 ^ 64 ≡ released k word)
 goes_as_step word vs p k rule at =
     let s = rule.0 in
     (told vs p k word rule at, omega (arith, rule.4, bounded s.holders (fits_cap s rule.1 rule.2), sum-less weight p k s.holders (stands vs p k word rule at)))
@@ -66,7 +66,7 @@ heavier upgradable reading may = omega arith
 heavier upgradable asking may = omega arith
 heavier _ _ may = absurd cc
 
-pub turns_as_step : (word : ℕ) (vs : List View) (p : ℕ) (j k : Kind) → IsRw word tt vs → HoldsAt vs p j → may_turn j k ≡ true → (tells j word ≡ true) × ((word + (weight k - weight j)) % 2 ^ 64 ≡ turned j k word)
+pub turns_as_step : (word : ℕ) (vs : List View) (p : ℕ) (j k : Kind) → Word word tt vs → HoldsAt vs p j → may_turn j k ≡ true → (tells j word ≡ true) × ((word + (weight k - weight j)) % 2 ^ 64 ≡ turned j k word)
 turns_as_step word vs p j k rule at may =
     let s = rule.0 in
     let some = sum-turned weight p j k s.holders (stands vs p j word rule at) in

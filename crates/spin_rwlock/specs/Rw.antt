@@ -1,39 +1,166 @@
--- The rule of a read-write lock: its word is that of a plain lock whose holders are its parties.
-use Rattle.std.specs.Prelude.{◌≡◌, ◌≢◌, ℕ, List, Option, Some, None}
-use Rattle.spin_step.specs.Plain.{Plain, reading, upgradable, asking, writing, rw_word}
-use Rattle.spin_step.specs.Readers.{reader_limit}
+-- The rule of a read-write lock: its word is that of a plain lock whose holders are its parties, and its trace is a schedule of the lock's model, which leads there.
+use Rattle.std.specs.Prelude.{◌≡◌, ◌≢◌, ℕ, List, [], ◌∷◌, Bool, true, false, Option, Some, None, is_some, ◌==◌, if◌then◌else◌, map}
+use Rattle.spin_step.specs.Plain.{Plain, reading, upgradable, asking, writing, Ask, to_read, to_read_upgradable, rw_word}
+use Rattle.spin_step.specs.Orders.{IsInOrder}
+use Rattle.spin_step_more.specs.Readers.{reader_limit, read, read_upgradable}
+use Rattle.spin_step_more.specs.declared.rw_calls.RwCall.{RwCall}
+use Rattle.spin_step_more.specs.declared.rw_calls.RwCall.TheVariants.{TryRead, Read, TryUpgradeableRead, UpgradeableRead, Write, Upgrade}
+use Rattle.spin_step_more.specs.declared.rw_calls.RwPoint.{RwPoint}
+use Rattle.spin_step_more.specs.declared.rw_calls.RwPoint.TheVariants as point
+use Rattle.spin_step_more.specs.RwCalls.{rw_machine}
+use Rattle.spin_model.specs.declared.place.Hold.TheVariants as hold
+use Rattle.spin_model.specs.declared.place.Seat.{Seat}
+use Rattle.spin_model.specs.declared.place.Seat.TheVariants as seat
+use Rattle.spin_model.specs.declared.answer.Answer.{Answer}
+use Rattle.spin_model.specs.declared.answer.Answer.TheVariants.{Granted, Refused, Count}
+use Rattle.spin_model.specs.declared.schedule.Move.{Move}
+use Rattle.spin_model.specs.declared.schedule.Move.TheVariants.{Begin, Step}
+use Rattle.spin_model.specs.declared.schedule.Outcome.{Outcome}
+use Rattle.spin_model.specs.declared.schedule.Outcome.TheVariants.{Begun, Answered}
+use Rattle.spin_model.specs.Acts.{either}
+use Rattle.spin_model.specs.Machines.{Machine}
+use Rattle.spin_model.specs.Schedules.{Entry}
 use Rattle.spin_core.specs.Cell.{Use, lends, Ways}
 use Rattle.spin_core.specs.Views.{Part, idle, holds, Encodes, used_by, no_word}
-use Rattle.spin_step.specs.Orders.{IsInOrder}
+use Rattle.spin_core.specs.Own.{Numbered, Runs, Tells, what}
 use Rattle.spin_core.specs.declared.cell.Permit.{Permit}
+use Rattle.spin_core.specs.declared.trace.Trace.{Trace}
 use Rattle.spin_rwlock.specs.declared.rwlock.rule.View.{View}
-use Rattle.spin_rwlock.specs.declared.rwlock.rule.View.TheVariants.{Idle, Reading, Upgradable, Asking, Writing, WritingAsked}
+use Rattle.spin_rwlock.specs.declared.rwlock.rule.View.TheVariants.{Idle, Reading, Upgradable, Asking, Writing, WritingAsked, Coming, WaitingToWrite}
 
 abbrev pub part : View → Part
-part Idle = idle
 part Reading = holds reading
 part Upgradable = holds upgradable
 part Asking = holds asking
 part Writing = holds writing
 part WritingAsked = holds writing
+part _ = idle
 
-abbrev pub IsRw : ℕ → Unit {0} → List View → Type 0
-IsRw = Encodes part reader_limit rw_word no_word
+abbrev pub use_of_view : View → Use
+use_of_view = used_by part
+
+-- how a party uses the value
+abbrev pub use_of_party : Numbered View → Use
+use_of_party v = use_of_view v.0
+
+abbrev pub rw_ways : {X : Type 0} → Ways X (Numbered View)
+rw_ways = (lends, use_of_party)
+
+-- the word that a call which comes to read makes of the word that it found, if that lets it in
+abbrev pub grants : RwCall → ℕ → Option ℕ
+grants TryRead n = read reader_limit n
+grants Read n = read reader_limit n
+grants TryUpgradeableRead n = read_upgradable reader_limit n
+grants UpgradeableRead n = read_upgradable reader_limit n
+grants _ n = None
+
+-- where such a call stands in the model that found a word which keeps it out: at its first step again, or it has been refused
+abbrev pub kept_out : RwCall → Seat RwCall RwPoint
+kept_out Read = seat.Calling Read point.First None
+kept_out UpgradeableRead = seat.Calling UpgradeableRead point.First None
+kept_out _ = seat.Idle
+
+-- where a party sits in the model
+abbrev pub seat_of : View → Seat RwCall RwPoint
+seat_of Idle = seat.Idle
+seat_of Reading = seat.Holding hold.Read
+seat_of Upgradable = seat.Holding hold.Upgradable
+seat_of Asking = seat.Calling Upgrade point.Asking (Some hold.Upgradable)
+seat_of Writing = seat.Holding hold.Write
+seat_of WritingAsked = seat.Holding hold.Write
+seat_of (Coming call n) = either (is_some (grants call n)) (seat.Calling call (point.Exchange n) None) (kept_out call)
+seat_of WaitingToWrite = seat.Calling Write point.First None
+
+abbrev pub model : Machine ℕ (Unit {0}) RwCall RwPoint (Answer (Unit {0}))
+model = rw_machine tt reader_limit
+
+-- the lock's words, by the model's
+abbrev pub words_of : ℕ → ℕ × Unit {0}
+words_of n = (n, tt)
+
+abbrev pub OneMove : Type 0
+OneMove = Move RwCall (Unit {0})
+
+abbrev pub Ending : Type 0
+Ending = Outcome (Answer (Unit {0})) (Unit {0})
+
+abbrev pub Done : Type 0
+Done = Entry RwCall (Unit {0})
+
+abbrev pub Word : ℕ → Unit {0} → List View → Type 0
+Word = Encodes part reader_limit rw_word no_word
+
+-- of the word, the trace and the parties, under the name of the lock's trace
+abbrev pub IsRw : ℕ → ℕ → Trace Done (Unit {0}) → List (Numbered View) → Type 0
+IsRw = Runs model seat_of words_of Word
+
+-- what the parties are
+abbrev pub views : List (Numbered View) → List View
+views vs = map (λ v. v.0) vs
 
 -- the word of some read-write lock
 abbrev pub IsRwWord : ℕ → Type 0
 IsRwWord word = (s : Plain) × (s.cap ≡ reader_limit) × IsInOrder s × (word ≡ rw_word s)
 
--- a party looks, and is nothing to the lock
-abbrev pub looks : ℕ → ℕ → Option View → ℕ → View → Type 0
-looks old new before found after = (after ≡ Idle) × IsRwWord found
+-- The steps: which moves, with which outcomes, by the number found, and the view after
 
-abbrev pub use_of_view : View → Use
-use_of_view = used_by part
+abbrev pub Told : (List OneMove → List Ending → ℕ → View → Type 0) → Option (Numbered View) → List Done → List Done → ℕ → Numbered View → Type 0
+Told = Tells model seat_of words_of
 
-abbrev pub rw_ways : {X : Type 0} → Ways X View
-rw_ways = (lends, use_of_view)
+-- a step within a call, or of one that goes on: no more is told than where it leads
+abbrev pub leads_by : (ℕ → View) → List OneMove → List Ending → ℕ → View → Type 0
+leads_by to own outs n v = v ≡ to n
+
+-- a whole call in one step, with its answer
+abbrev pub ends_by : RwCall → (ℕ → Answer (Unit {0})) → (ℕ → View) → List OneMove → List Ending → ℕ → View → Type 0
+ends_by call answer to own outs n v = (v ≡ to n) × (own ≡ Begin call ∷ Step ∷ []) × (outs ≡ Begun ∷ Answered (answer n) None ∷ [])
+
+-- a call that counts so by the word of the lock
+abbrev pub counts_by : RwCall → (ℕ → ℕ) → List OneMove → List Ending → ℕ → View → Type 0
+counts_by call count own outs n v = IsRwWord n × ends_by call (λ m. Count (count m)) (λ m. Idle) own outs n v
+
+-- an exchange that finds the number which it expected, and one that finds another
+abbrev pub either_at : {X : Type 0} → ℕ → X → X → ℕ → X
+either_at old won lost n = if n == old then won else lost
+
+abbrev pub given : ℕ → ℕ → Answer (Unit {0})
+given old = either_at old Granted Refused
+
+-- Who comes to read
+
+-- the call by which a reader of this view comes: it waits, or tries
+abbrev pub call_of : View → Bool → RwCall
+call_of Upgradable true = UpgradeableRead
+call_of Upgradable false = TryUpgradeableRead
+call_of _ true = Read
+call_of _ false = TryRead
+
+-- what it asks of the plain lock
+abbrev pub asks : View → Ask
+asks Upgradable = to_read_upgradable
+asks _ = to_read
+
+-- where its exchange leads
+abbrev pub came : View → RwCall → ℕ → ℕ → View
+came won call old n = if n == old then won else Coming call n
+
+-- a reader of this view comes
+abbrev pub Comes : View → Type 0
+Comes Reading = Unit {0}
+Comes Upgradable = Unit {0}
+Comes _ = ⊥
+
+-- it comes, and its exchange is that of a free lock's word; or it is in the call, and found this word
+abbrev pub MayCome : RwCall → ℕ → Option View → Type 0
+MayCome call n None = n ≡ 0
+MayCome call n (Some v) = v ≡ Coming call n
+
+-- it comes to write, or waits for that
+abbrev pub MayWrite : Option View → Type 0
+MayWrite None = Unit {0}
+MayWrite (Some WaitingToWrite) = Unit {0}
+MayWrite _ = ⊥
 
 -- a party with this view, which is shown a value
-abbrev pub IsLent : {T P K S : Type 0} → Permit T View P K S → View → Type 0
-IsLent it v = (it.view ≡ Some v) × (it.value ≢ None)
+abbrev pub IsLent : {T P K S : Type 0} → Permit T (Numbered View) P K S → View → Type 0
+IsLent it v = (what it.view ≡ Some v) × (it.value ≢ None)

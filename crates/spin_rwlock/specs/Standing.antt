@@ -1,7 +1,7 @@
 -- Who stands in a read-write lock, counted over its parties.
 use Rattle.std.specs.Prelude.{◌≡◌, ℕ, ◌+◌, ◌<◌, ◌≤◌, Bool, false, List, count_by}
 use Rattle.spin_step.specs.Plain.{Kind, reading, upgradable, asking, writing, same_kind}
-use Rattle.spin_step.specs.Readers.{reader_limit}
+use Rattle.spin_step_more.specs.Readers.{reader_limit}
 use Rattle.spin_core.specs.Views.{Part, holds, holds_starving, part_at}
 use Rattle.spin_rwlock.specs.Rw.{part}
 use Rattle.spin_rwlock.specs.declared.rwlock.rule.View.{View}

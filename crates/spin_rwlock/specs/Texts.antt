@@ -1,11 +1,10 @@
 -- What `{:?}` writes for a read-write lock.
 use Rattle.std.specs.Prelude.{ℕ, List, Option, None, Some, codes}
-use Rattle.std.specs.Fmt.{◌++?◌}
+use Rattle.spin_core.specs.Texts.{named_text}
 
 -- the text for the value that a look at the lock found, or for a refusal; text is that of a value
 abbrev pub rw_text : {T : Type 0} → (T → Option (List ℕ)) → Option T → Option (List ℕ)
-rw_text text None = Some (codes "RwLock { <locked> }")
-rw_text text (Some x) = Some (codes "RwLock { data: ") ++? text x ++? Some (codes " }")
+rw_text = named_text (codes "RwLock { data: ") (codes "RwLock { <locked> }")
 
 -- the text of the value that a guard lends
 abbrev pub lent_text : {T : Type 0} → (T → Option (List ℕ)) → Option T → Option (List ℕ)

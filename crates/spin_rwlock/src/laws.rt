@@ -2,10 +2,27 @@
 //! [`the_parties_of_a_rwlock_read_or_one_writes`].
 ghost use Rattle.std.specs.Prelude.{◌≡◌, ◌+◌, ◌-◌, ◌*◌, ◌%◌, ◌^◌, ℕ, List, true};
 ghost use Rattle.spin_step.specs.Plain.{Kind, reading, upgradable, asking, writing, weight, may_turn};
-ghost use Rattle.spin_step.specs.Readers.{tells, released, turned};
+ghost use Rattle.spin_step_more.specs.Readers.{tells, released, turned};
 ghost use Rattle.spin_rwlock.specs.declared.rwlock.rule.View.{View};
-ghost use Rattle.spin_rwlock.specs.Rw.{IsRw};
+ghost use Rattle.spin_core.specs.Own.{Numbered, IsRun};
+ghost use Rattle.spin_core.specs.declared.trace.Trace.{Trace};
+ghost use Rattle.spin_rwlock.specs.Rw.{Done, IsRw, views, model, seat_of, words_of};
 ghost use Rattle.spin_rwlock.specs.Standing.{readers, upgradables, askers, writers, holders, ReadersOrWriter, HoldsAt};
+
+/// Each run of an [`RwLock`](crate::rwlock::RwLock) on threads is a schedule of its model.
+///
+/// The lock's cell keeps, without a byte, the list of all moves that threads have made in it so far: who, and which
+/// move.
+///
+/// # Contract
+/// Whatever holds between any two steps of threads (`IsRw`): no move of the list is passed over in the model. After
+/// the list the model has the lock's word, and has each party where the lock has it.
+///
+/// # Examples
+/// None: nobody calls a law.
+pub fn every_run_of_a_rwlock_is_a_schedule()
+    ensures { (name word : ℕ) (trace : Trace Done (Unit {0})) (parties : List (Numbered View)) → IsRw name word trace parties → IsRun model seat_of words_of trace.entries (word, trace.word) parties }
+{}
 
 /// States that the word of an `RwLock` is the sum of the weights of its holders.
 ///
@@ -15,7 +32,7 @@ ghost use Rattle.spin_rwlock.specs.Standing.{readers, upgradables, askers, write
 /// # Examples
 /// None: nobody calls a law.
 pub fn the_word_of_a_rwlock_counts_its_parties()
-    ensures { (word : ℕ) (vs : List View) → IsRw word tt vs → word ≡ ((weight reading * readers vs + weight upgradable * upgradables vs) + weight asking * askers vs) + weight writing * writers vs }
+    ensures { (name word : ℕ) (trace : Trace Done (Unit {0})) (parties : List (Numbered View)) → IsRw name word trace parties → word ≡ ((weight reading * readers (views parties) + weight upgradable * upgradables (views parties)) + weight asking * askers (views parties)) + weight writing * writers (views parties) }
 {}
 
 /// States that many parties read an `RwLock`, or one writes it alone.
@@ -27,7 +44,7 @@ pub fn the_word_of_a_rwlock_counts_its_parties()
 /// # Examples
 /// None: nobody calls a law.
 pub fn the_parties_of_a_rwlock_read_or_one_writes()
-    ensures { (word : ℕ) (vs : List View) → IsRw word tt vs → ReadersOrWriter vs }
+    ensures { (name word : ℕ) (trace : Trace Done (Unit {0})) (parties : List (Numbered View)) → IsRw name word trace parties → ReadersOrWriter (views parties) }
 {}
 
 /// States that the word of an `RwLock` is zero exactly when the lock has no holder.
@@ -38,7 +55,7 @@ pub fn the_parties_of_a_rwlock_read_or_one_writes()
 /// # Examples
 /// None: nobody calls a law.
 pub fn the_word_of_a_rwlock_is_zero_when_nobody_holds()
-    ensures { (word : ℕ) (vs : List View) → IsRw word tt vs → (word ≡ 0 → holders vs ≡ 0) × (holders vs ≡ 0 → word ≡ 0) }
+    ensures { (name word : ℕ) (trace : Trace Done (Unit {0})) (parties : List (Numbered View)) → IsRw name word trace parties → (word ≡ 0 → holders (views parties) ≡ 0) × (holders (views parties) ≡ 0 → word ≡ 0) }
 {}
 
 /// States that the blind operations on the word of an `RwLock` do what its step functions say.
@@ -51,6 +68,6 @@ pub fn the_word_of_a_rwlock_is_zero_when_nobody_holds()
 /// # Examples
 /// None: nobody calls a law.
 pub fn an_addition_is_its_step_function()
-    ensures release { (word : ℕ) (vs : List View) (p : ℕ) (k : Kind) → IsRw word tt vs → HoldsAt vs p k → (tells k word ≡ true) × ((word + (2 ^ 64 - weight k)) % 2 ^ 64 ≡ released k word) }
-    ensures downgrade { (word : ℕ) (vs : List View) (p : ℕ) (j k : Kind) → IsRw word tt vs → HoldsAt vs p j → may_turn j k ≡ true → (tells j word ≡ true) × ((word + (weight k - weight j)) % 2 ^ 64 ≡ turned j k word) }
+    ensures release { (name word : ℕ) (trace : Trace Done (Unit {0})) (parties : List (Numbered View)) (p : ℕ) (k : Kind) → IsRw name word trace parties → HoldsAt (views parties) p k → (tells k word ≡ true) × ((word + (2 ^ 64 - weight k)) % 2 ^ 64 ≡ released k word) }
+    ensures downgrade { (name word : ℕ) (trace : Trace Done (Unit {0})) (parties : List (Numbered View)) (p : ℕ) (j k : Kind) → IsRw name word trace parties → HoldsAt (views parties) p j → may_turn j k ≡ true → (tells j word ≡ true) × ((word + (weight k - weight j)) % 2 ^ 64 ≡ turned j k word) }
 {}

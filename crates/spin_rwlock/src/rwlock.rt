@@ -1,16 +1,17 @@
 //! A spinning lock for many readers or one writer. Begin at [`RwLock::read`] and [`RwLock::write`].
 ghost use Rattle.std.specs.Prelude.{◌≤◌};
-ghost use Rattle.spin_step.specs.Readers.{reader_limit};
-ghost use Rattle.spin_rwlock.specs.Rw.{IsRwWord};
+ghost use Rattle.spin_step_more.specs.Readers.{reader_limit};
 
-use self::rule::{Kind, RwRule, View};
+use self::coming::Coming;
+use self::rule::Kind;
 use spin_core::cell::{Cell, Rule};
+use spin_core::lock::{Lock, SharedLock, with_guard};
 use spin_core::relax::{Loop, RelaxStrategy, Spin};
-use spin_lock::lock::{Lock, SharedLock, with_guard};
-use spin_step::rw;
+use spin_core::trace::Trace;
 use std::marker::PhantomData;
 use std::sync::Wait;
 
+mod coming;
 mod reader;
 mod rule;
 mod texts;
@@ -18,18 +19,16 @@ mod upgradable;
 mod writer;
 
 pub use self::reader::{ReadHeld, RwLockReadGuard, SharedGuard};
+pub use self::rule::{Entry, Party, RwRule, View};
 pub use self::upgradable::RwLockUpgradableGuard;
 pub use self::writer::{RwLockWriteGuard, WriteHeld};
-
-// How often a reader that was too late twice spins. Readers that try again at once keep each other from succeeding.
-const STAND_BACK: u32 = 512;
 
 /// A reader-writer lock: many readers share the value, or one writer has it alone. A waiting thread spins.
 ///
 /// One reader at a time may be upgradable: it may become the writer without releasing the lock. Until its
 /// [`upgrade`](RwLockUpgradableGuard::upgrade) asks, it keeps no reader out; from then on no new reader is admitted.
 /// Writers are not preferred: readers that keep coming may keep a writer out. A waiting thread passes the time with the
-/// strategy `R`. `P` is always `RwRule<T>`, and never named.
+/// strategy `R`. `V` is always `Party` and `P` always `RwRule<T>`, and neither is ever named.
 ///
 /// # Contract
 /// While the guard or the hold of a writer lives, no other guard gives access to the value. A guard gives a value of
@@ -47,8 +46,8 @@ const STAND_BACK: u32 = 512;
 /// *guard.downgrade()
 /// ```
 #[derive(Drop)]
-pub struct RwLock<T, R = Spin, P: Rule<T, View> = RwRule<T>> {
-    cell: Cell<T, View, P>,
+pub struct RwLock<T, R = Spin, V = Party, P: Rule<T, V> = RwRule<T>> {
+    cell: Cell<T, V, P>,
     strategy: PhantomData<R>,
 }
 
@@ -65,8 +64,10 @@ impl<T, R> RwLock<T, R> {
     /// equal(&rt, limit.into_inner(), 4);
     /// ```
     pub fn new(value: T) -> Self {
+        let trace = Trace::new(());
+        let start = trace.watch();
         RwLock {
-            cell: Cell::new(value, 0, (), &()),
+            cell: Cell::new(value, 0, trace, &start),
             strategy: PhantomData,
         }
     }
@@ -105,10 +106,7 @@ impl<T, R> RwLock<T, R> {
     /// }
     /// ```
     pub fn try_read<W: Wait>(&self, rt: &W) -> Option<RwLockReadGuard<'_, T, R>> {
-        match self.lend_from(0) {
-            Ok(guard) => Some(guard),
-            Err(found) => self.try_to_lend(rt, found?),
-        }
+        self.try_to_lend(rt)
     }
 
     /// Tries to acquire upgradable shared access. Returns `None` if a writer or an upgradable reader holds the lock.
@@ -127,10 +125,7 @@ impl<T, R> RwLock<T, R> {
     /// let writes = lock.try_write().is_some();
     /// ```
     pub fn try_upgradeable_read<W: Wait>(&self, rt: &W) -> Option<RwLockUpgradableGuard<'_, T, R>> {
-        match self.lend_from(0) {
-            Ok(guard) => Some(guard),
-            Err(found) => self.try_to_lend(rt, found?),
-        }
+        self.try_to_lend(rt)
     }
 
     /// Tries to acquire exclusive access. Returns `None` at once if any thread holds the lock.
@@ -148,7 +143,7 @@ impl<T, R> RwLock<T, R> {
     /// equal(&rt, (lock.reader_count(), refused), (2, true));
     /// ```
     pub fn try_write<'a>(&'a self) -> Option<RwLockWriteGuard<'a, T, R>> {
-        Some(RwLockWriteGuard::new(rule::write(&self.cell)?))
+        Some(RwLockWriteGuard::new(rule::try_write(&self.cell)?))
     }
 
     /// Like [`try_write`](Self::try_write), but may fail spuriously, so call it in a loop. (This implementation never
@@ -187,7 +182,7 @@ impl<T, R> RwLock<T, R> {
     pub fn reader_count(&self) -> usize
         ensures { result ≤ reader_limit }
     {
-        rw::readers(self.word())
+        rule::reader_count(&self.cell)
     }
 
     /// Returns the number of writers at some moment during this call: 0 or 1.
@@ -205,7 +200,7 @@ impl<T, R> RwLock<T, R> {
     pub fn writer_count(&self) -> usize
         ensures { result ≤ 1 }
     {
-        rw::writers(self.word())
+        rule::writer_count(&self.cell)
     }
 
     /// Releases the shared access that the hold keeps.
@@ -248,42 +243,20 @@ impl<T, R> RwLock<T, R> {
         held.release();
     }
 
-    fn word(&self) -> usize
-        ensures { IsRwWord result }
-    {
-        rule::word(&self.cell)
-    }
-
-    // Tries once to admit a reader of this kind at this word. `Err` has the word that was found in its place, or `None`
-    // if the word admits no such reader.
-    fn lend_at<K: Kind>(&self, word: usize) -> Result<SharedGuard<'_, T, K, R>, Option<usize>> {
-        Ok(SharedGuard::new(K::admit(&self.cell, word)?))
-    }
-
-    // Tries to admit a reader of this kind at this word, and then at the word found in its place. To begin at 0 saves a
-    // load if the lock is free. If it is not, the failed exchange is the load.
-    fn lend_from<K: Kind>(&self, word: usize) -> Result<SharedGuard<'_, T, K, R>, Option<usize>> {
-        match self.lend_at(word) {
-            Err(Some(found)) => self.lend_at(found),
-            done => done,
+    // Tries to admit a reader of this kind, as long as other threads change the word that was found.
+    fn try_to_lend<K: Kind, W: Wait>(&self, rt: &W) -> Option<SharedGuard<'_, T, K, R>> {
+        let coming = match Coming::begin(&self.cell) {
+            Ok(guard) => return Some(guard),
+            Err(coming) => coming,
+        };
+        match coming.settle() {
+            Ok(answer) => answer,
+            Err(coming) => Loop::retry(rt, coming, Coming::try_again),
         }
-    }
-
-    // Tries from this word on, as long as other threads change the word that was found.
-    fn try_to_lend<K: Kind, W: Wait>(
-        &self,
-        rt: &W,
-        found: usize,
-    ) -> Option<SharedGuard<'_, T, K, R>> {
-        Loop::retry(rt, found, |word| match self.lend_at(word) {
-            Ok(guard) => Ok(Some(guard)),
-            Err(Some(found)) => Err(found),
-            Err(None) => Ok(None),
-        })
     }
 }
 
-impl<T, R, P: Rule<T, View>> RwLock<T, R, P> {
+impl<T, R, V, P: Rule<T, V>> RwLock<T, R, V, P> {
     /// Consumes the lock and returns the value.
     ///
     /// It does not look at the word: no other thread has the lock. A value that was leaked or held is returned too.
@@ -317,10 +290,7 @@ impl<T, R: RelaxStrategy> RwLock<T, R> {
     /// sound = sound && (sum == 0 || sum == 10);
     /// ```
     pub fn read<W: Wait>(&self, rt: &W) -> RwLockReadGuard<'_, T, R> {
-        match self.lend_from(0) {
-            Ok(guard) => guard,
-            Err(found) => self.wait_to_lend(rt, found),
-        }
+        self.lend(rt)
     }
 
     /// Acquires upgradable shared access, spinning while a writer or an upgradable reader holds the lock.
@@ -342,10 +312,7 @@ impl<T, R: RelaxStrategy> RwLock<T, R> {
     /// *guard.downgrade()
     /// ```
     pub fn upgradeable_read<W: Wait>(&self, rt: &W) -> RwLockUpgradableGuard<'_, T, R> {
-        match self.lend_from(0) {
-            Ok(guard) => guard,
-            Err(found) => self.wait_to_lend(rt, found),
-        }
+        self.lend(rt)
     }
 
     /// Acquires exclusive access, spinning until no thread holds the lock.
@@ -364,39 +331,19 @@ impl<T, R: RelaxStrategy> RwLock<T, R> {
     /// }
     /// ```
     pub fn write<W: Wait>(&self, rt: &W) -> RwLockWriteGuard<'_, T, R> {
-        match self.try_write_weak() {
-            Some(guard) => guard,
-            None => R::back_off(rt, || self.try_write_weak()),
-        }
+        let writer = match rule::write(self.cell.enter()) {
+            Ok(writer) => writer,
+            Err(waiting) => R::back_off(rt, waiting, |waiting| waiting.write()),
+        };
+        RwLockWriteGuard::new(writer)
     }
 
-    // Kept out of line: inlined, it would lengthen the path of every caller that does not wait. Its pause depends on
-    // what it found, which `retry` does not offer.
-    #[cold]
-    #[inline(never)]
-    fn wait_to_lend<K: Kind, W: Wait>(
-        &self,
-        rt: &W,
-        found: Option<usize>,
-    ) -> SharedGuard<'_, T, K, R> {
-        let mut found = found;
-        for _ in rt.forever() {
-            let word = match found {
-                Some(word) => {
-                    Spin::pause(rt, STAND_BACK);
-                    word
-                }
-                None => {
-                    R::relax(rt);
-                    self.word()
-                }
-            };
-            match self.lend_from(word) {
-                Ok(guard) => return guard,
-                Err(next) => found = next,
-            }
+    // Admits a reader of this kind, and waits until it may.
+    fn lend<K: Kind, W: Wait>(&self, rt: &W) -> SharedGuard<'_, T, K, R> {
+        match Coming::begin(&self.cell) {
+            Ok(guard) => guard,
+            Err(coming) => coming.wait(rt),
         }
-        unreachable!()
     }
 }
 
@@ -438,7 +385,7 @@ impl<T, R: RelaxStrategy> SharedLock<T> for RwLock<T, R> {
 }
 
 // SAFETY: its cell goes along, which owns the value. Of the rule no value is made.
-unsafe impl<T: Send, R, P: Rule<T, View>> Send for RwLock<T, R, P> {}
+unsafe impl<T: Send, R, V, P: Rule<T, V>> Send for RwLock<T, R, V, P> {}
 
 // SAFETY: any thread may write the value, and several may read it at once. The cell asks it of the rule.
-unsafe impl<T: Send + Sync, R, P: Rule<T, View> + Sync> Sync for RwLock<T, R, P> {}
+unsafe impl<T: Send + Sync, R, V, P: Rule<T, V> + Sync> Sync for RwLock<T, R, V, P> {}

@@ -3,9 +3,9 @@ use Rattle.std.proofs.Common.{◌≡◌, ℕ, ◌+◌, ◌-◌, ◌%◌, ◌^◌
 use prog.Atomic.{either}
 use Rattle.spin_step.specs.Plain.{Plain, reading, writing, Change, gets, releases, turns, to_read, to_write, is_open, apply, is_holder, weight, rw_word}
 use Rattle.spin_step.specs.Parties.{apply_some}
-use Rattle.spin_step.specs.Readers.{reader_limit, OneOfEach, has_room}
-use Rattle.spin_step.proofs.Readers.{one_of_each, read-word, empty-word, reader-word, writer-word, readers-word, writers-word}
-use Rattle.spin_step.proofs.ReaderSteps.{rw_release-gives, rw_turn-gives}
+use Rattle.spin_step_more.specs.Readers.{reader_limit, OneOfEach, has_room}
+use Rattle.spin_step_more.proofs.Readers.{one_of_each, read-word, empty-word, reader-word, writer-word, readers-word, writers-word}
+use Rattle.spin_step_more.proofs.ReaderSteps.{rw_release-gives, rw_turn-gives}
 use Rattle.spin_seated.specs.declared.history.Entry.{Entry}
 use Rattle.spin_seated.specs.declared.rwlock.SeatedHold.TheVariants as hold
 use Rattle.spin_seated.specs.Histories.{state, Turned, Owed, Owes}

@@ -4,7 +4,7 @@ use mathlib.Core.Logic.{dite}
 use native.Mathlib.Decide.{ℕ_discrete}
 use Rattle.spin_step.specs.Plain.{Plain, reading, writing, Holder, holder, Change, gets, releases, turns, to_read, to_write, is_open, is_holder, without_holder, with_kind}
 use Rattle.spin_step.specs.Parties.{party_of, IsOpenStep, IsExclusive, Entries, entries, entries_after}
-use Rattle.spin_step.specs.Readers.{reader_limit}
+use Rattle.spin_step_more.specs.Readers.{reader_limit}
 use Rattle.spin_step.proofs.Holders.{is_holder-from_entries, same_kind-self}
 use Rattle.spin_step.proofs.Exclusive.{exclusive-free, exclusive-kept}
 use Rattle.spin_step.proofs.InOrder.{cap-kept}

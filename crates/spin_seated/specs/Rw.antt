@@ -3,7 +3,7 @@ use Rattle.std.specs.Prelude.{ℕ, ◌==◌, Bool, true, false, if◌then◌else
 use Rattle.std.specs.Option.{unwrap_or}
 use Rattle.spin_step.specs.Plain.{Plain, Kind, reading, writing, Holder, fresh, Change, gets, releases, turns, to_read, to_write, is_open, count_kind, reader_count, rw_word}
 use Rattle.spin_step.specs.Parties.{apply_some}
-use Rattle.spin_step.specs.Readers.{reader_limit, readers_in, writers_in, has_room}
+use Rattle.spin_step_more.specs.Readers.{reader_limit, readers_in, writers_in, has_room}
 pub use Rattle.spin_seated.specs.declared.lock.Opening.{Opening}
 pub use Rattle.spin_seated.specs.declared.lock.Answer.{Answer}
 pub use Rattle.spin_seated.specs.declared.lock.Answer.TheVariants.{Truth, Value, Done}

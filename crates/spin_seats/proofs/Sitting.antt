@@ -1,29 +1,43 @@
--- The steps of a lock of seats keep its rule: each is the plain step of its step function.
-use Rattle.std.proofs.Common.{◌≡◌, ℕ, ◌+◌, ◌-◌, ◌≤◌, ◌%◌, ◌^◌, ◌==◌, Bool, true, false, if◌then◌else◌, cond, List, [], ◌∷◌, length, filter, Option, Some, None, refl, sym, ap, ◌∙◌, arith}
-use Rattle.std.specs.Prelude.{◌≢◌, max, sum_by}
+-- The steps of a lock of seats keep its rule: each is the plain step of its step function, and moves of the lock's model.
+use Rattle.std.proofs.Common.{◌≡◌, ℕ, ◌+◌, ◌-◌, ◌≤◌, ◌%◌, ◌^◌, ◌==◌, Bool, true, false, if◌then◌else◌, cond, List, [], ◌∷◌, length, filter, map, nat_lt, Option, Some, None, refl, sym, ap, ◌∙◌, subst, arith}
+use Rattle.std.specs.Prelude.{max, sum_by}
+use Rattle.std.specs.List.{list_all}
 use Rattle.std.proofs.lemmas.List.Sums.{sum_by-cons}
 use prog.Atomic.{either}
 use Rattle.spin_step.specs.Plain.{Plain, reading, count_kind, same_kind, gets, releases, to_read}
 use Rattle.spin_step.specs.Steps.{Decides}
+use Rattle.spin_step.specs.Orders.{IsInOrder}
 use Rattle.spin_step.proofs.Holders.{is_holder-from_entries, length-held}
 use Rattle.spin_core.specs.Cell.{Ways, Limits, lends, reading as reads_of, writing as writes_of, readers_of, writers_of, Meets, Allows, Rests, Moved}
-use Rattle.spin_core.specs.Views.{IsLockOf, holds, entries_of, part_at, no_word}
-use Rattle.spin_step.specs.Orders.{IsInOrder}
-use Rattle.spin_core.specs.Plays.{becomes, exchanges}
+use Rattle.spin_core.specs.Own.{Numbered, what}
+use Rattle.spin_core.specs.Plays.{becomes, becomes_by}
+use Rattle.spin_core.specs.Run.{AreMoves, on_first, first, outcomes, alone, of_one, sits as seat_at}
+use Rattle.spin_core.specs.Traced.{Traces, Watches}
+use Rattle.spin_core.specs.Views.{IsLockOf, idle, holds, entries_of, part_at, no_word}
+use Rattle.spin_core.specs.declared.trace.Trace.{Trace}
+use Rattle.spin_core.specs.declared.trace.Watch.{Watch}
 use Rattle.spin_core.proofs.CellCounts.{none}
 use Rattle.spin_core.proofs.Leaving.{flag_word-up, no_word-up}
 use Rattle.spin_core.proofs.Owners.{exactly}
-use Rattle.spin_core.proofs.Plays.{Lock, Holds, allows, by_step, by_none, by_grant, exchanged, begins}
+use Rattle.spin_core.proofs.Plays.{Lock, Holds, allows, allows_among, by_step, by_none, by_grant, by_exchange, begins}
 use Rattle.spin_core.proofs.Plays as plays
-use Rattle.spin_core.proofs.Views.{part-beyond, release-own}
+use Rattle.spin_core.proofs.Ties as tie
+use Rattle.spin_core.proofs.Views.{part-beyond, release-own, part_before}
+use Rattle.spin_model.specs.declared.answer.Answer.TheVariants.{Granted, Done, Count}
+use Rattle.spin_model.specs.declared.place.Seat.TheVariants as seat
+use Rattle.spin_model.specs.declared.schedule.Move.TheVariants.{Begin, Step}
+use Rattle.spin_model.specs.declared.schedule.Outcome.TheVariants.{Begun, Answered, GoingOn}
+use Rattle.spin_model.specs.Schedules.{after}
+use Rattle.spin_seats.specs.declared.calls.SeatsCall.TheVariants as call
 use Rattle.spin_seats.specs.declared.seats.rule.View.{View}
-use Rattle.spin_seats.specs.declared.seats.rule.View.TheVariants.{Idle, Seated}
-use Rattle.spin_seats.specs.Seats.{AllRead, seats, seats_word}
+use Rattle.spin_seats.specs.declared.seats.rule.View.TheVariants.{Idle, Seated, Coming, Waiting}
+use Rattle.spin_seats.specs.Seats.{AllRead, seats, seats_word, entered}
+use Rattle.spin_seats.specs.Rule as rule
+use Rattle.spin_seats.specs.Rule.{part, IsWord, IsSeats, OneMove, Ending, Told, model, seat_of, words_of, use_of_view, use_of_party, seat_ways, gone, at_word, counts_by, leads_by, sits_by, MayLook, sits, seated}
 use Rattle.spin_seats.proofs.Taken.{leave-gives}
-use Rattle.spin_seats.specs.Rule.{part, IsSeats, looks, use_of_view, seat_ways, sits, seated}
 
 abbrev ways : Ways (Unit {0}) View
-ways = seat_ways
+ways = (lends, use_of_view)
 
 -- The holders are the parties that sit, and they read
 
@@ -32,16 +46,22 @@ ones [] = refl
 ones (x ∷ xs) = omega (arith, ones xs, sum_by-cons (λ y. 1) x xs)
 
 one_seat : (p : ℕ) (v : View) → reads_of (use_of_view v) ≡ length (entries_of p (part v)).holders
-one_seat p Idle = refl
 one_seat p Seated = refl
+one_seat p Idle = refl
+one_seat p (Coming waits word) = refl
+one_seat p Waiting = refl
 
 one_reads : (p : ℕ) (v : View) → reads_of (use_of_view v) ≡ count_kind reading (entries_of p (part v)).holders
-one_reads p Idle = refl
 one_reads p Seated = refl
+one_reads p Idle = refl
+one_reads p (Coming waits word) = refl
+one_reads p Waiting = refl
 
 nobody_writes : (v : View) → writes_of (use_of_view v) ≡ 0
-nobody_writes Idle = refl
 nobody_writes Seated = refl
+nobody_writes Idle = refl
+nobody_writes (Coming waits word) = refl
+nobody_writes Waiting = refl
 
 as_many_hold : (vs : List View) (s : Plain) → IsLockOf part vs s → readers_of use_of_view vs ≡ length s.holders
 as_many_hold vs s is =
@@ -73,7 +93,36 @@ lock n = record {
   names_nobody = (flag_word-up, no_word-up);
 }
 
--- The steps
+-- The moves of each step
+
+abbrev Moves : ℕ → Option View → (ℕ → ℕ) → (ℕ → View → Type 0) → (List OneMove → List Ending → ℕ → View → Type 0) → Type 0
+Moves n view f = AreMoves (model n) seat_of words_of view (on_first f) first
+
+-- what these moves come to, of a party of this view that is alone
+abbrev ends : ℕ → Option View → ℕ → Option (Unit {0}) → List OneMove → List Ending
+ends n view w value own = outcomes (model n) (alone (model n) seat_of words_of w value (seat_at (model n) seat_of words_of view)) (of_one (model n) seat_of words_of own)
+
+count_moves : (n : ℕ) → Moves n None (λ w. w) (λ w v. (v ≡ Idle) × (w ≤ seats n)) (counts_by n)
+count_moves n w value v is = rw is.0 (Begin call.Count ∷ Step ∷ [], Begun ∷ Answered (Count w) None ∷ [], (refl, is.1, refl, refl), refl, refl, w, value, refl, refl, refl)
+
+-- a look finds a seat free, or not
+try_moves : (n : ℕ) → Moves n None (λ w. w) (becomes_by (at_word n false) 0 0 None) (leads_by (at_word n false))
+try_moves n w value v is = let own = Begin call.TryEnter ∷ Step ∷ [] in (own, ends n None w value own, is, refl, grind arith, w, value, grind (arith, is), refl, refl)
+
+look_moves : (n : ℕ) (view : Option View) → MayLook view → Moves n view (λ w. w) (becomes_by (at_word n true) 0 0 view) (leads_by (at_word n true))
+look_moves n None may w value v is = let own = Begin call.Enter ∷ Step ∷ [] in (own, ends n None w value own, is, refl, grind arith, w, value, grind (arith, is), refl, refl)
+look_moves n (Some Waiting) may w value v is = let own = Step ∷ [] in (own, ends n (Some Waiting) w value own, is, refl, grind arith, w, value, grind (arith, is), refl, refl)
+look_moves n (Some _) may w value v is = absurd may
+
+sit_moves : (n old new : ℕ) (waits : Bool) → Some new ≡ entered n old
+    → Moves n (Some (Coming waits old)) (λ w. either (w == old) new w) (becomes_by (sits_by n old (Some (Coming waits old))) old new (Some (Coming waits old))) (leads_by (sits_by n old (Some (Coming waits old))))
+sit_moves n old new true free w value v is = let own = Step ∷ [] in (own, ends n (Some (Coming true old)) w value own, is, refl, grind (arith, free), either (w == old) new w, value, grind (arith, free, is), refl, refl)
+sit_moves n old new false free w value v is = let own = Step ∷ [] in (own, ends n (Some (Coming false old)) w value own, is, refl, grind (arith, free), either (w == old) new w, value, grind (arith, free, is), refl, refl)
+
+leave_moves : (n : ℕ) → Moves n (Some Seated) (λ w. (w + (2 ^ 64 - 1)) % 2 ^ 64) (λ w v. (v ≡ Idle) × (1 ≤ w) × (w ≤ seats n)) (leads_by (λ w. Idle))
+leave_moves n w value v is = rw is.0 (Begin call.Leave ∷ Step ∷ [], Begun ∷ Answered Done None ∷ [], refl, refl, refl, w - 1, value, refl, refl, let some = is.1 in let few = is.2 in ap (λ k. (k, tt)) (omega (arith, some, few)))
+
+-- The steps of the plain lock
 
 either_fits : (b : Bool) (x y most : ℕ) → x ≤ most → y ≤ most → either b x y ≤ most
 either_fits true x y most h k = h
@@ -81,67 +130,149 @@ either_fits false x y most h k = k
 
 -- A lock in order lets one hold where its cap is 0. So that no more sit than there are seats is shown of each step by its word.
 within : (n : ℕ) (view : Option View) (f : ℕ → ℕ) (says tells : ℕ → View → Type 0) → ((w : ℕ) → w ≤ seats n → f w ≤ max 1 (seats n) → f w ≤ seats n) → ((w : ℕ) (v : View) → w ≤ seats n → says w v → tells w v)
-    → Allows (Holds (lock n)) ways view f says → Allows (IsSeats n) ways view f tells
+    → Allows (Holds (lock n)) ways view f says → Allows (IsWord n) ways view f tells
 within n view f says tells few told step id w m vs meets at small =
     let made = step id w m vs (meets.0.0, meets.1) at small in let is = made.1.0 in
     (made.0, ((is, few w meets.0.1 (omega (arith, is.4, is.2.holders_fit, is.1))), made.1.1), told w made.0 meets.0.1 made.2)
 
-pub starts : (n : ℕ) → Meets (IsSeats n) ways 0 tt []
+starts : (n : ℕ) → Meets (IsWord n) ways 0 tt []
 starts n = let begun = begins (lock n) 0 0 0 tt (omega arith) refl refl in ((begun.0, omega arith), begun.1)
 
-pub looks_on : (n : ℕ) → Allows (IsSeats n) ways None (λ w. w) (looks n 0 0 None)
-looks_on n = within n None (λ w. w) (becomes Idle 0 0 None) (looks n 0 0 None) (λ w few most. few) (λ w v few is. (is, few))
+-- a party that looks has nothing afterwards
+has_none : (n : ℕ) (waits : Bool) (w : ℕ) → part (at_word n waits w) ≡ idle
+has_none n waits w = grind arith
+
+may_look : (view : Option View) → MayLook view → part_before part view ≡ idle
+may_look None may = refl
+may_look (Some Waiting) may = refl
+may_look (Some _) may = absurd may
+
+looks_at : (n : ℕ) (waits : Bool) (view : Option View) → part_before part view ≡ idle → Allows (IsWord n) ways view (λ w. w) (becomes_by (at_word n waits) 0 0 view)
+looks_at n waits view nothing = let says = becomes_by (at_word n waits) 0 0 view in
+    within n view (λ w. w) says says (λ w few most. few) (λ w v few is. is)
+    (allows (lock n) view (λ w. w) says (λ s p room order has.
+    let none_there = has_none n waits (seats_word s) in
+    (at_word n waits (seats_word s), by_none (lock n) view (at_word n waits (seats_word s)) s p (ap (entries_of p) (nothing ∙ sym none_there)) (rw none_there tt), refl)))
+
+counts_at : (n : ℕ) → Allows (IsWord n) ways None (λ w. w) (λ w v. (v ≡ Idle) × (w ≤ seats n))
+counts_at n = within n None (λ w. w) (becomes Idle 0 0 None) (λ w v. (v ≡ Idle) × (w ≤ seats n)) (λ w few most. few) (λ w v few is. (is, few))
     (allows (lock n) None (λ w. w) (becomes Idle 0 0 None) (λ s p room order has. (Idle, by_none (lock n) None Idle s p refl tt, refl)))
 
 -- the step function's own lemma says that a seat is open where it grants one
-pub sits_down : (n old new : ℕ) → ((s : Plain) (p : ℕ) → AllRead s → s.cap ≡ seats n → seats_word s ≡ old → Decides s (gets p to_read) seats_word (Some new)) → new ≤ seats n
-    → Allows (IsSeats n) ways None (λ w. either (w == old) new w) (exchanges (λ _. Seated) Idle old new None)
-sits_down n old new plain room = let says = exchanges (λ _. Seated) Idle old new None in
-    within n None (λ w. either (w == old) new w) says says (λ w few most. either_fits (w == old) new w (seats n) room few) (λ w v few said. said)
-    (exchanged (lock n) None (λ _. Seated) Idle old new (λ s p. (refl, tt))
-    (λ s p vs room order is has small e. by_grant (lock n) None Seated s p to_read new tt (plain s p (all_read vs s is) room e) refl tt refl))
+sits_at : (n old new : ℕ) (waits : Bool) → ((s : Plain) (p : ℕ) → AllRead s → s.cap ≡ seats n → seats_word s ≡ old → Decides s (gets p to_read) seats_word (Some new)) → new ≤ seats n
+    → Allows (IsWord n) ways (Some (Coming waits old)) (λ w. either (w == old) new w) (becomes_by (sits_by n old (Some (Coming waits old))) old new (Some (Coming waits old)))
+sits_at n old new waits plain room = let view = Some (Coming waits old) in let says = becomes_by (sits_by n old view) old new view in
+    within n view (λ w. either (w == old) new w) says says (λ w few most. either_fits (w == old) new w (seats n) room few) (λ w v few said. said)
+    (allows_among (lock n) view (λ w. either (w == old) new w) says (λ s p vs cap order is has small.
+    let none_there = has_none n waits (seats_word s) in
+    by_exchange (lock n) view Seated (at_word n waits (seats_word s)) s p (seats_word s) tt old new
+    (λ e. by_grant (lock n) view Seated s p to_read new tt (plain s p (all_read vs s is) cap e) refl tt refl)
+    (by_none (lock n) view (at_word n waits (seats_word s)) s p (ap (entries_of p) (sym none_there)) (rw none_there tt))))
 
-pub gets_up : (n : ℕ) → Allows (IsSeats n) ways (Some Seated) (λ w. (w + (2 ^ 64 - 1)) % 2 ^ 64) (becomes Idle 1 0 (Some Seated))
-gets_up n = let says = becomes Idle 1 0 (Some Seated) in
-    within n (Some Seated) (λ w. (w + (2 ^ 64 - 1)) % 2 ^ 64) says says (λ w few most. omega (arith, few, most)) (λ w v few said. said)
+gets_up_at : (n : ℕ) → Allows (IsWord n) ways (Some Seated) (λ w. (w + (2 ^ 64 - 1)) % 2 ^ 64) (λ w v. (v ≡ Idle) × (1 ≤ w) × (w ≤ seats n))
+gets_up_at n = let says : ℕ → View → Type 0 = λ w v. (v ≡ Idle) × (1 ≤ w) in
+    within n (Some Seated) (λ w. (w + (2 ^ 64 - 1)) % 2 ^ 64) says (λ w v. (v ≡ Idle) × (1 ≤ w) × (w ≤ seats n)) (λ w few most. omega (arith, few, most)) (λ w v few said. (said.0, said.1, few))
     (allows (lock n) (Some Seated) (λ w. (w + (2 ^ 64 - 1)) % 2 ^ 64) says (λ s p room order has.
-    let stands = is_holder-from_entries p reading s.holders (ap (λ e. e.holders) has.0) in (
+    let stands = is_holder-from_entries p reading s.holders (ap (λ e. e.holders) has.0) in let some = length-held p reading s.holders (ap (λ e. e.holders) has.0) in (
       Idle,
       by_step (lock n) (Some Seated) Idle s (releases p reading) ((seats_word s + (2 ^ 64 - 1)) % 2 ^ 64) tt stands (release-own s p reading) tt
-          (omega (arith, leave-gives s p (seats_word s) refl stands, length-held p reading s.holders (ap (λ e. e.holders) has.0), order.holders_fit, room)) refl,
-      refl,
+          (omega (arith, leave-gives s p (seats_word s) refl stands, some, order.holders_fit, room)) refl,
+      (refl, omega (arith, some)),
     )))
+
+-- Each step keeps the rule, and appends its moves
+
+abbrev own_ways : Ways (Unit {0}) (Numbered View)
+own_ways = (lends, use_of_party)
+
+module _ (n name : ℕ) where
+  abbrev Keeps : Option (Numbered View) → (ℕ → ℕ) → (List OneMove → List Ending → ℕ → View → Type 0) → Type 0
+  Keeps view f says = Traces (IsSeats n name) own_ways view None f (Told n says view)
+
+  abbrev traces : (view : Option (Numbered View)) (f : ℕ → ℕ) (th : ℕ → View → Type 0) (says : List OneMove → List Ending → ℕ → View → Type 0) → Moves n (what view) f th says → Allows (IsWord n) ways (what view) f th → Keeps view f says
+  traces view f th says moves step = tie.traces (model n) seat_of words_of (IsWord n) name (Unit {0}) lends use_of_view view None f th says moves step
+
+  pub opens : (t : Trace rule.Done (Unit {0})) → t.name ≡ name → t.entries ≡ [] → Meets (IsSeats n name) own_ways 0 t []
+  opens t named empty = tie.opens (model n) seat_of words_of (IsWord n) name (Unit {0}) lends use_of_view 0 t named empty refl (starts n)
+
+  pub counts : Keeps None (λ w. w) (counts_by n)
+  counts = traces None (λ w. w) (λ w v. (v ≡ Idle) × (w ≤ seats n)) (counts_by n) (count_moves n) (counts_at n)
+
+  pub tries : Keeps None (λ w. w) (leads_by (at_word n false))
+  tries = traces None (λ w. w) (becomes_by (at_word n false) 0 0 None) (leads_by (at_word n false)) (try_moves n) (looks_at n false None refl)
+
+  pub looks : (view : Option (Numbered View)) → MayLook (what view) → Keeps view (λ w. w) (leads_by (at_word n true))
+  looks view may = traces view (λ w. w) (becomes_by (at_word n true) 0 0 (what view)) (leads_by (at_word n true)) (look_moves n (what view) may) (looks_at n true (what view) (may_look (what view) may))
+
+  sits_from : (old new : ℕ) (waits : Bool) → ((s : Plain) (p : ℕ) → AllRead s → s.cap ≡ seats n → seats_word s ≡ old → Decides s (gets p to_read) seats_word (Some new)) → Some new ≡ entered n old → new ≤ seats n
+      → (view : Option (Numbered View)) → what view ≡ Some (Coming waits old) → Keeps view (λ w. either (w == old) new w) (leads_by (sits_by n old (what view)))
+  sits_from old new waits plain free room view is =
+      traces view (λ w. either (w == old) new w) (becomes_by (sits_by n old (what view)) old new (what view)) (leads_by (sits_by n old (what view))) (rw is (sit_moves n old new waits free)) (rw is (sits_at n old new waits plain room))
+
+  -- where the step function grants, the call is at a word with a free seat
+  is_coming : (old new : ℕ) (waits : Bool) (view : Option View) → Some new ≡ entered n old → view ≡ Some (at_word n waits old) → view ≡ Some (Coming waits old)
+  is_coming old new waits view free is = grind (arith, free, is)
+
+  pub sits_down : (old new : ℕ) (waits : Bool) → ((s : Plain) (p : ℕ) → AllRead s → s.cap ≡ seats n → seats_word s ≡ old → Decides s (gets p to_read) seats_word (Some new)) → Some new ≡ entered n old → new ≤ seats n
+      → (view : Option (Numbered View)) → what view ≡ Some (at_word n waits old) → Keeps view (λ w. either (w == old) new w) (leads_by (sits_by n old (what view)))
+  sits_down old new waits plain free room view is = sits_from old new waits plain free room view (is_coming old new waits (what view) free is)
+
+  pub gets_up : (view : Option (Numbered View)) → what view ≡ Some Seated → Keeps view (λ w. (w + (2 ^ 64 - 1)) % 2 ^ 64) (leads_by (λ w. Idle))
+  gets_up view is = traces view (λ w. (w + (2 ^ 64 - 1)) % 2 ^ 64) (λ w v. (v ≡ Idle) × (1 ≤ w) × (w ≤ seats n)) (leads_by (λ w. Idle)) (rw is (leave_moves n)) (rw is (gets_up_at n))
 
 -- Who may go
 
-also : (n : ℕ) (view : Option View) → Rests (Holds (lock n)) use_of_view view → Rests (IsSeats n) use_of_view view
-also n None rest = tt
-also n (Some v) rest = (rest.0, λ w m before behind is. (rest.1 w m before behind is.0, is.1))
+also : (n : ℕ) (v : View) → Rests (Holds (lock n)) use_of_view (Some v) → Rests (IsWord n) use_of_view (Some v)
+also n v rest = (rest.0, λ w m before behind is. (rest.1 w m before behind is.0, is.1))
 
-pub left_rests : (n : ℕ) (view : Option View) → Moved (λ v. v ≡ Idle) view → Rests (IsSeats n) use_of_view view
-left_rests n view moved = also n view (plays.left_rests (lock n) view moved)
+module _ (n name : ℕ) where
+  idle_rests : (v : Numbered View) → v.0 ≡ Idle → Rests (IsSeats n name) use_of_party (Some v)
+  idle_rests v is = tie.rests (model n) seat_of words_of (IsWord n) name (Unit {0}) lends use_of_view v (ap seat_of is) (also n v.0 (plays.idle_rests (lock n) v.0 is))
 
-pub looked : (n : ℕ) (view : Option View) (found : ℕ) → Moved (λ v. (v ≡ Idle) × (found ≤ seats n)) view → Rests (IsSeats n) use_of_view view × (found ≤ seats n)
-looked n None found moved = absurd moved
-looked n (Some v) found moved = (left_rests n (Some v) moved.0, moved.1)
+  pub at_rest : (view : Option (Numbered View)) → what view ≡ Some Idle → Rests (IsSeats n name) use_of_party view
+  at_rest None is = absurd cc
+  at_rest (Some v) is = idle_rests v (cc (is))
 
-pub refused_rests : (n : ℕ) (view : Option View) (found expected : ℕ) → found ≢ expected → Moved (λ v. v ≡ (if found == expected then Seated else Idle)) view → Rests (IsSeats n) use_of_view view
-refused_rests n view found expected other moved = also n view (plays.refused_rests (lock n) Seated view found expected other moved)
+  module _ (named : Type 0) (before : Option (Numbered View)) (known now : Watch rule.Done) (found : ℕ) where
+    pub counted : (view : Option (Numbered View)) → Moved (Watches named known now (Told n (counts_by n) before) found) view → Rests (IsSeats n name) use_of_party view × (found ≤ seats n)
+    counted None moved = absurd moved
+    counted (Some v) moved = (idle_rests v moved.1.4.6.0, moved.1.4.6.1)
+
+    pub left_rests : (view : Option (Numbered View)) → Moved (Watches named known now (Told n (leads_by (λ w. Idle)) before) found) view → Rests (IsSeats n name) use_of_party view
+    left_rests None moved = absurd moved
+    left_rests (Some v) moved = idle_rests v moved.1.4.6
+
+-- a call whose word has no free seat: a try is over, and `enter` looks again
+none_free : (n word : ℕ) (waits : Bool) → None ≡ entered n word → at_word n waits word ≡ gone waits
+none_free n word waits full = grind (arith, full)
+
+pub gives_up : (n name word : ℕ) (waits : Bool) (view : Option (Numbered View)) → waits ≡ false → None ≡ entered n word → what view ≡ Some (at_word n waits word) → Rests (IsSeats n name) use_of_party view
+gives_up n name word waits view tried full is = at_rest n name view (is ∙ ap Some (none_free n word waits full ∙ ap gone tried))
+
+pub looks_again : (n word : ℕ) (waits : Bool) (view : Option (Numbered View)) → waits ≡ true → None ≡ entered n word → what view ≡ Some (at_word n waits word) → MayLook (what view)
+looks_again n word waits view waiting full is = rw (is ∙ ap Some (none_free n word waits full ∙ ap gone waiting)) tt
+
+-- where a step led
+pub led : (n : ℕ) (to : ℕ → View) (named : Type 0) (before view : Option (Numbered View)) (known now : Watch rule.Done) (found : ℕ) → Moved (Watches named known now (Told n (leads_by to) before) found) view → what view ≡ Some (to found)
+led n to named before None known now found moved = absurd moved
+led n to named before (Some v) known now found moved = ap Some moved.1.4.6
 
 -- What the rule says
 
 one_sits : (v : View) → reads_of (use_of_view v) ≡ cond (sits v) 1 0
-one_sits Idle = refl
 one_sits Seated = refl
+one_sits Idle = refl
+one_sits (Coming waits word) = refl
+one_sits Waiting = refl
 
 readers_sit : (vs : List View) → readers_of use_of_view vs ≡ seated vs
 readers_sit [] = refl
 readers_sit (v ∷ vs) = omega (arith, one_sits v, readers_sit vs, sum_by-cons (λ v. reads_of (use_of_view v)) v vs, sum_by-cons (λ v. cond (sits v) 1 0) v vs)
 
-pub as_many_sit : (n word : ℕ) (vs : List View) → IsSeats n word tt vs → (word ≡ seated vs) × (word ≤ n)
+pub as_many_sit : (n word : ℕ) (vs : List View) → IsWord n word tt vs → (word ≡ seated vs) × (word ≤ n)
 as_many_sit n word vs (is, few) = (omega (arith, is.4, as_many_hold vs is.0 is.3, readers_sit vs), omega (arith, few))
 
-pub gets_up_as_step : (n word : ℕ) (vs : List View) (p : ℕ) → IsSeats n word tt vs → part_at part vs p ≡ holds reading → (1 ≤ word) × ((word + (2 ^ 64 - 1)) % 2 ^ 64 ≡ word - 1)
+pub gets_up_as_step : (n word : ℕ) (vs : List View) (p : ℕ) → IsWord n word tt vs → part_at part vs p ≡ holds reading → (1 ≤ word) × ((word + (2 ^ 64 - 1)) % 2 ^ 64 ≡ word - 1)
 gets_up_as_step n word vs p (is, few) at =
     let some = length-held p reading is.0.holders (ap (λ e. e.holders) ((is.3 p).0 ∙ ap (entries_of p) at)) in
     (omega (arith, is.4, some), omega (arith, is.4, some, few))

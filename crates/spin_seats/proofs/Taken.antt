@@ -3,7 +3,7 @@ use Rattle.std.proofs.Common.{◌≡◌, ℕ, ◌-◌, ◌≤◌, Some, arith, n
 use Rattle.spin_step.specs.Plain.{Plain, reading, gets, releases, to_read, may_come}
 use Rattle.spin_step.specs.Steps.{Decides, Gives}
 use Rattle.spin_step.proofs.Holders.{length-without_holder}
-use Rattle.spin_step.proofs.Readers.{nobody_against}
+use Rattle.spin_step_more.proofs.Readers.{nobody_against}
 use Rattle.spin_seats.specs.Seats.{AllRead, seats, seats_word, entered}
 
 -- where all read, a seat is open exactly where the word is below the cap

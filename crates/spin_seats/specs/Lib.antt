@@ -1,2 +1,4 @@
 pub mod Seats
+pub mod Kind
+pub mod Table
 pub mod Rule

@@ -3,6 +3,7 @@
 //! Begin with [`seats::Seats`], and with [`steps`] for what each call makes of the word.
 #![tactic(auto)]
 
+pub mod calls;
 pub mod laws;
 pub mod seats;
 pub mod steps;

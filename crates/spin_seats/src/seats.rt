@@ -1,15 +1,20 @@
 //! A spinning lock of `N` seats: a counting semaphore. Begin with [`Seats::new`] and [`Seats::enter`].
-ghost use Rattle.std.specs.Prelude.{◌≡◌, ◌≤◌, Some};
-ghost use Rattle.spin_seats.specs.Seats.{seats};
+ghost use Rattle.std.specs.Prelude.{◌≡◌, ◌≤◌, Bool, Some, IfErr, true, false};
+ghost use Rattle.spin_core.specs.Own.{what};
+ghost use Rattle.spin_seats.specs.Rule.{IsAtWord, MayLook, at_word};
+ghost use Rattle.spin_seats.specs.Seats.{entered, seats};
 ghost use Rattle.spin_seats.specs.declared.seats.rule.View.TheVariants.{Seated};
 
-use self::rule::{GetUp, Load, SeatsRule, SitDown, View};
+use self::rule::{Counts, GetsUp, Looks, Party, SeatsRule, SitsDown, Tries};
 use crate::steps;
 use spin_core::cell::{Cell, Permit};
-use spin_core::relax::{RelaxStrategy, Spin};
+use spin_core::relax::{MAX_HINTS, RelaxStrategy, Spin};
+use spin_core::trace::{Trace, Watch};
 use std::sync::Wait;
 
 mod rule;
+
+pub use self::rule::{Entry, View};
 
 /// A lock of `N` seats, but of no more than [`MAX_SEATS`](steps::MAX_SEATS): at most so many threads have a guard at
 /// the same time.
@@ -26,7 +31,7 @@ mod rule;
 /// ```
 #[derive(Drop)]
 pub struct Seats<const N: usize> {
-    cell: Cell<(), View, SeatsRule<N>>,
+    cell: Cell<(), Party, SeatsRule<N>>,
 }
 
 /// A seat of a [`Seats`]. Dropping it frees the seat.
@@ -36,9 +41,10 @@ pub struct Seats<const N: usize> {
 /// drop(first);
 /// equal(&rt, seats.count(), 1);
 /// ```
+#[must_use = "dropping the guard at once gives the seat back: bind it, or write `drop(..)`"]
 pub struct SeatGuard<'a, const N: usize> {
-    permit: Permit<'a, (), View, SeatsRule<N>>,
-    ghost sits: { permit.view ≡ Some Seated },
+    permit: Permit<'a, (), Party, SeatsRule<N>>,
+    ghost sits: { what permit.view ≡ Some Seated },
 }
 
 impl<const N: usize> Seats<N> {
@@ -50,8 +56,10 @@ impl<const N: usize> Seats<N> {
     /// equal(&rt, seats.count(), 0);
     /// ```
     pub fn new() -> Self {
+        let trace = Trace::new(());
+        let start = trace.watch();
         Seats {
-            cell: Cell::new((), 0, (), &()),
+            cell: Cell::new((), 0, trace, &start),
         }
     }
 
@@ -71,7 +79,7 @@ impl<const N: usize> Seats<N> {
     pub fn count(&self) -> usize
         ensures { result ≤ seats N }
     {
-        let (found, permit) = self.cell.enter().load::<Load<N>>();
+        let (found, permit, _) = self.cell.enter().load::<Counts<N>>(Watch::nothing());
         permit.leave();
         found as usize
     }
@@ -89,14 +97,9 @@ impl<const N: usize> Seats<N> {
     /// equal(&rt, seats.try_enter(&rt).is_none(), true);
     /// ```
     pub fn try_enter<W: Wait>(&self, rt: &W) -> Option<SeatGuard<'_, N>> {
-        let mut word = self.count();
-        for _ in rt.forever() {
-            match self.enter_at(word)? {
-                Ok(guard) => return Some(guard),
-                Err(found) => word = found,
-            }
-        }
-        unreachable!()
+        let (found, permit, _) = self.cell.enter().load::<Tries<N>>(Watch::nothing());
+        let word = found as usize;
+        Trying { word, permit }.take(rt)
     }
 
     /// Takes a seat, spinning until one is free. The thread backs off: each pause between two tries is longer than the
@@ -112,25 +115,123 @@ impl<const N: usize> Seats<N> {
     /// equal(&rt, seats.count(), 2);
     /// ```
     pub fn enter<W: Wait>(&self, rt: &W) -> SeatGuard<'_, N> {
-        match self.try_enter(rt) {
-            Some(guard) => guard,
-            None => Spin::back_off(rt, || self.try_enter(rt)),
+        match look_and_sit(self.cell.enter()) {
+            Ok(guard) => guard,
+            Err(entering) => entering.wait(rt),
+        }
+    }
+}
+
+// A call of `try_enter`, at the word that it found.
+struct Trying<'a, const N: usize> {
+    word: usize,
+    permit: Permit<'a, (), Party, SeatsRule<N>>,
+    ghost comes: { what permit.view ≡ Some (at_word N false word) },
+}
+
+impl<'a, const N: usize> Trying<'a, N> {
+    // Tries to take a seat at each word that it finds, while one is free.
+    fn take<W: Wait>(self, rt: &W) -> Option<SeatGuard<'a, N>> {
+        let mut trying = self;
+        for _ in rt.forever() {
+            match trying.attempt() {
+                Ok(answer) => return answer,
+                Err(further) => trying = further,
+            }
+        }
+        unreachable!()
+    }
+
+    // Tries to take a seat at its word. If none is free there, the answer is `None`.
+    fn attempt(self) -> Result<Option<SeatGuard<'a, N>>, Trying<'a, N>> {
+        let Self { word, permit } = self;
+        let Some(next) = steps::enter(word, N) else {
+            permit.leave();
+            return Ok(None);
+        };
+        match sit(permit, word, next) {
+            Ok(guard) => Ok(Some(guard)),
+            Err((word, permit)) => Err(Trying { word, permit }),
+        }
+    }
+}
+
+// A call of `enter`, at the word that it found.
+struct Entering<'a, const N: usize> {
+    word: usize,
+    permit: Permit<'a, (), Party, SeatsRule<N>>,
+    ghost comes: { what permit.view ≡ Some (at_word N true word) },
+}
+
+// The look of `enter`, and its exchange if a seat is free.
+fn look_and_sit<'a, const N: usize>(
+    permit: Permit<'a, (), Party, SeatsRule<N>>,
+) -> Result<SeatGuard<'a, N>, Entering<'a, N>>
+    requires { MayLook (what permit.view) }
+{
+    let (found, permit, _) = permit.load::<Looks<N>>(Watch::nothing());
+    let word = found as usize;
+    Entering { word, permit }.attempt()
+}
+
+impl<'a, const N: usize> Entering<'a, N> {
+    // As `back_off` of the strategies, whose closure the borrow checker does not cover here.
+    fn wait<W: Wait>(self, rt: &W) -> SeatGuard<'a, N> {
+        let mut hints = 1;
+        let mut entering = self;
+        for _ in rt.forever() {
+            Spin::pause(rt, hints);
+            match entering.again() {
+                Ok(guard) => return guard,
+                Err(further) => entering = further,
+            }
+            hints = hints.saturating_mul(2).min(MAX_HINTS);
+        }
+        unreachable!()
+    }
+
+    // Tries to take a seat at its word, if one is free there.
+    fn attempt(self) -> Result<SeatGuard<'a, N>, Entering<'a, N>> {
+        let Self { word, permit } = self;
+        let Some(next) = steps::enter(word, N) else {
+            return Err(Entering { word, permit });
+        };
+        match sit(permit, word, next) {
+            Ok(guard) => Ok(guard),
+            Err((word, permit)) => Err(Entering { word, permit }),
         }
     }
 
-    // Tries to take a seat at this word. Returns the word that it found if that is another.
-    fn enter_at(&self, word: usize) -> Option<Result<SeatGuard<'_, N>, usize>> {
-        let next = steps::enter(word, N)?;
-        let (found, permit) = self
-            .cell
-            .enter()
-            .exchange::<SitDown>(word as u64, next as u64);
-        if found == word as u64 {
-            return Some(Ok(SeatGuard { permit }));
+    // The same, after a look if its word has no free seat.
+    fn again(self) -> Result<SeatGuard<'a, N>, Entering<'a, N>> {
+        let Self { word, permit } = self;
+        if steps::enter(word, N).is_some() {
+            Entering { word, permit }.attempt()
+        } else {
+            look_and_sit(permit)
         }
-        permit.leave();
-        Some(Err(found as usize))
     }
+}
+
+// The exchange of the word that a call found for `next`, which the step function gives for it. Returns the word that
+// it found if that is another.
+fn sit<'a, const N: usize>(
+    permit: Permit<'a, (), Party, SeatsRule<N>>,
+    word: usize,
+    next: usize,
+) -> Result<SeatGuard<'a, N>, (usize, Permit<'a, (), Party, SeatsRule<N>>)>
+    requires { (Some next ≡ entered N word) × IsAtWord N (what permit.view) word }
+    ensures { IfErr result (λ further. (waits : Bool) → what permit.entry.view ≡ Some (at_word N waits word) → what further.1.view ≡ Some (at_word N waits further.0)) }
+{
+    let (found, permit, _) = permit.exchange::<SitsDown<N>>(
+        word as u64,
+        next as u64,
+        Watch::nothing(),
+    );
+    if found == word as u64 {
+        return Ok(SeatGuard { permit });
+    }
+    Err((found as usize, permit))
 }
 
 /// Creates a lock whose seats are all free.
@@ -143,6 +244,7 @@ impl<const N: usize> Default for Seats<N> {
 impl<const N: usize> Drop for SeatGuard<'_, N> {
     fn drop(self) {
         let Self { permit } = self;
-        permit.subtract::<GetUp>(1).1.leave();
+        let (_, permit, _) = permit.subtract::<GetsUp<N>>(1, Watch::nothing());
+        permit.leave();
     }
 }

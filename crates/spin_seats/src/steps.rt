@@ -24,7 +24,7 @@ pub const MAX_SEATS: usize = usize::MAX / 8;
 ///
 /// # Examples
 /// ```
-/// let next = steps::enter(word, N)?;
+/// let Some(next) = steps::enter(word, N) else {
 /// ```
 pub fn enter(word: usize, room: usize) -> Option<usize>
     ensures exact { result ≡ entered room word }

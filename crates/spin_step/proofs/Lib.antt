@@ -4,12 +4,7 @@ pub mod Exclusive
 pub mod Entries
 pub mod Flags
 pub mod Starvers
-pub mod FairSteps
 pub mod Tickets
 pub mod TicketSteps
 pub mod InOrder
-pub mod Readers
-pub mod ReaderSteps
-pub mod Barriers
 pub mod Onces
-pub mod Upgrading

@@ -2,9 +2,6 @@ pub mod Plain
 pub mod Parties
 pub mod Steps
 pub mod Tickets
-pub mod Starvers
-pub mod Readers
 pub mod Barriers
 pub mod Orders
 pub mod Flags
-pub mod Upgrading

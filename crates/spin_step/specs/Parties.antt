@@ -68,3 +68,7 @@ pub record IsExclusive (s : Plain) : Type 0 where
   pub writer : 0 < count_kind writing s.holders → length s.holders ≡ 1
   pub one_upgradable : upgraders s.holders ≤ 1
   pub one_entered : first_alone_entered s.tickets ≡ true
+
+-- at most one holder stands
+abbrev pub OneHolds : Plain → Type 0
+OneHolds s = length s.holders ≤ 1

@@ -13,10 +13,6 @@
 //! gives that word where the plain lock allows the step (`Gives`).
 #![tactic(auto)]
 
-pub mod barrier;
-pub mod fair;
 pub mod flag;
-pub mod laws;
 pub mod once;
-pub mod rw;
 pub mod ticket;

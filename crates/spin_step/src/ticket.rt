@@ -38,7 +38,8 @@ pub fn take(next: u64) -> Option<u64>
 /// # Examples
 /// ```
 /// let next = ticket::serve(number);
-/// permit.store_second::<LetsGo<Self>>(next).leave();
+/// let (permit, _) = permit.store_second::<Serve>(next, Watch::nothing());
+/// permit.leave();
 /// ```
 pub fn serve(ticket: u64) -> u64
     requires { ticket < ticket_limit }

@@ -2,18 +2,18 @@
 use Rattle.std.proofs.Common.{◌≡◌, ℕ, ◌<◌, ◌^◌, Bool, true, false, ◌&&◌, Some, List, [], ◌∷◌, codes, decimal, map, refl, ap, subst, ◌∙◌}
 use Rattle.std.specs.Str.{bytes_eq}
 use Rattle.std.proofs.lemmas.Bool.{ltb-true, lt-ltb}
-use Rattle.spin_world_flag.specs.declared.flag.FlagCall.{FlagCall}
-use Rattle.spin_world_flag.specs.declared.flag.FlagCall.TheVariants as flag
-use Rattle.spin_world_ticket.specs.declared.ticket.TicketCall.{TicketCall}
-use Rattle.spin_world_ticket.specs.declared.ticket.TicketCall.TheVariants as ticket
-use Rattle.spin_world_rw.specs.declared.rw.RwCall.{RwCall}
-use Rattle.spin_world_rw.specs.declared.rw.RwCall.TheVariants as rw
-use Rattle.spin_world_fair.specs.declared.fair.FairCall.{FairCall}
-use Rattle.spin_world_fair.specs.declared.fair.FairCall.TheVariants as fair
+use Rattle.spin_model.specs.declared.flag.FlagCall.{FlagCall}
+use Rattle.spin_model.specs.declared.flag.FlagCall.TheVariants as flag
+use Rattle.spin_step_more.specs.declared.fair_calls.FairCall.{FairCall}
+use Rattle.spin_step_more.specs.declared.fair_calls.FairCall.TheVariants as fair
+use Rattle.spin_step_more.specs.declared.rw_calls.RwCall.{RwCall}
+use Rattle.spin_step_more.specs.declared.rw_calls.RwCall.TheVariants as rw
+use Rattle.spin_model.specs.declared.ticket.TicketCall.{TicketCall}
+use Rattle.spin_model.specs.declared.ticket.TicketCall.TheVariants as ticket
 use Rattle.spin_world_barrier.specs.declared.barrier.BarrierCall.{BarrierCall}
 use Rattle.spin_world_barrier.specs.declared.barrier.BarrierCall.TheVariants as barrier
-use Rattle.spin_world_once.specs.declared.once.OnceCall.{OnceCall}
-use Rattle.spin_world_once.specs.declared.once.OnceCall.TheVariants as once
+use Rattle.spin_model.specs.declared.once.OnceCall.{OnceCall}
+use Rattle.spin_model.specs.declared.once.OnceCall.TheVariants as once
 use Rattle.spin_text.specs.declared.objects.TheConstants.{PLAIN_ONCE_CALLS}
 use Rattle.spin_text.specs.Objects.{flag_calls, ticket_calls, rw_calls, fair_calls, barrier_calls, once_calls}
 use Rattle.spin_text.specs.Spelling.{Calls}

@@ -2,8 +2,8 @@
 use Rattle.std.proofs.Common.{◌≡◌, ℕ, ◌^◌, ◌<◌, true, ◌&&◌, nat_le, Option, Some, None, List, [], ◌∷◌, codes, decimal, cond, arith, ◌∙◌, ap, subst}
 use Rattle.std.specs.Str.{bytes_eq}
 use Rattle.std.proofs.lemmas.Bool.{leb-true, le-leb}
-use Rattle.spin_step.specs.Readers.{reader_limit}
-use Rattle.spin_step.specs.Starvers.{most_starvers}
+use Rattle.spin_step_more.specs.Readers.{reader_limit}
+use Rattle.spin_step_more.specs.Starvers.{most_starvers}
 use Rattle.spin_text.specs.declared.header.Header.{Header}
 use Rattle.spin_text.specs.declared.header.Header.TheVariants.{Flag, Ticket, Rw, Fair, Barrier, Once}
 use Rattle.spin_text.specs.Objects.{CallOf, calls_of, header_words, HeaderFits, IsWithin, PartiesFit}

@@ -1,19 +1,19 @@
 -- The objects that a text can be of. Each is a row: its calls, its header and the limits of that.
 use Rattle.std.specs.Prelude.{ℕ, ◌≤◌, ◌<◌, ◌^◌, Bool, true, nat_lt, List, [], ◌∷◌, codes, decimal}
-use Rattle.spin_step.specs.Readers.{reader_limit}
-use Rattle.spin_step.specs.Starvers.{most_starvers}
-use Rattle.spin_world_flag.specs.declared.flag.FlagCall.{FlagCall}
-use Rattle.spin_world_flag.specs.declared.flag.FlagCall.TheVariants as flag
-use Rattle.spin_world_ticket.specs.declared.ticket.TicketCall.{TicketCall}
-use Rattle.spin_world_ticket.specs.declared.ticket.TicketCall.TheVariants as ticket
-use Rattle.spin_world_rw.specs.declared.rw.RwCall.{RwCall}
-use Rattle.spin_world_rw.specs.declared.rw.RwCall.TheVariants as rw
-use Rattle.spin_world_fair.specs.declared.fair.FairCall.{FairCall}
-use Rattle.spin_world_fair.specs.declared.fair.FairCall.TheVariants as fair
+use Rattle.spin_step_more.specs.Readers.{reader_limit}
+use Rattle.spin_step_more.specs.Starvers.{most_starvers}
+use Rattle.spin_model.specs.declared.flag.FlagCall.{FlagCall}
+use Rattle.spin_model.specs.declared.flag.FlagCall.TheVariants as flag
+use Rattle.spin_step_more.specs.declared.fair_calls.FairCall.{FairCall}
+use Rattle.spin_step_more.specs.declared.fair_calls.FairCall.TheVariants as fair
+use Rattle.spin_step_more.specs.declared.rw_calls.RwCall.{RwCall}
+use Rattle.spin_step_more.specs.declared.rw_calls.RwCall.TheVariants as rw
+use Rattle.spin_model.specs.declared.ticket.TicketCall.{TicketCall}
+use Rattle.spin_model.specs.declared.ticket.TicketCall.TheVariants as ticket
 use Rattle.spin_world_barrier.specs.declared.barrier.BarrierCall.{BarrierCall}
 use Rattle.spin_world_barrier.specs.declared.barrier.BarrierCall.TheVariants as barrier
-use Rattle.spin_world_once.specs.declared.once.OnceCall.{OnceCall}
-use Rattle.spin_world_once.specs.declared.once.OnceCall.TheVariants as once
+use Rattle.spin_model.specs.declared.once.OnceCall.{OnceCall}
+use Rattle.spin_model.specs.declared.once.OnceCall.TheVariants as once
 use Rattle.spin_text.specs.declared.header.Header.{Header}
 use Rattle.spin_text.specs.declared.header.Header.TheVariants.{Flag, Ticket, Rw, Fair, Barrier, Once}
 use Rattle.spin_text.specs.Spelling.{Calls}

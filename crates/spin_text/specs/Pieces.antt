@@ -1,8 +1,8 @@
 -- Text that is made from its end on, in a buffer.
 use Rattle.std.specs.Prelude.{◌≡◌, ℕ, ◌+◌, ◌<◌, ◌^◌, List, length, drop, ◌++◌, Option, Some, None}
-use Rattle.spin_world_core.specs.declared.answer.Answer.{Answer}
-use Rattle.spin_world_core.specs.declared.schedule.Outcome.{Outcome}
-use Rattle.spin_world_core.specs.declared.schedule.Outcome.TheVariants as outcome
+use Rattle.spin_model.specs.declared.answer.Answer.{Answer}
+use Rattle.spin_model.specs.declared.schedule.Outcome.{Outcome}
+use Rattle.spin_model.specs.declared.schedule.Outcome.TheVariants as outcome
 
 -- the text begins at `start`, and goes on with what stood from `end` on
 pub record PutBefore (text before : List ℕ) (end : ℕ) (now : List ℕ) (start : ℕ) : Type 0 where

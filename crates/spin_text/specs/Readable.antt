@@ -1,6 +1,6 @@
 -- What reading owes to spelling.
 use Rattle.std.specs.Prelude.{◌≡◌, ℕ, true, ◌+◌, Option, Some, None, List, ◌∷◌, ◌++◌, map, length}
-use Rattle.spin_world_core.specs.declared.schedule.Move.{Move}
+use Rattle.spin_model.specs.declared.schedule.Move.{Move}
 use Rattle.spin_text.specs.declared.text.RunError.{RunError}
 use Rattle.spin_text.specs.declared.text.RunError.TheVariants as errors
 use Rattle.spin_text.specs.Spelling.{Calls, entry_words, EntriesFit}

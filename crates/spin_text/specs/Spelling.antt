@@ -1,8 +1,8 @@
 -- How the entries of a schedule are written down: one line each, in words.
 use Rattle.std.specs.Prelude.{◌≡◌, ℕ, Bool, true, ◌^◌, ◌<◌, List, [], ◌∷◌, codes, decimal}
 use Rattle.std.specs.List.{AllByRecursion}
-use Rattle.spin_world_core.specs.declared.schedule.Move.{Move}
-use Rattle.spin_world_core.specs.declared.schedule.Move.TheVariants.{Begin, Step, Weak, Read, Write, Leak, OwnerGet, OwnerSet}
+use Rattle.spin_model.specs.declared.schedule.Move.{Move}
+use Rattle.spin_model.specs.declared.schedule.Move.TheVariants.{Begin, Step, Weak, Read, Write, Leak, OwnerGet, OwnerSet}
 
 -- how an object's calls are spelled, and which can be: those whose numbers are of 64 bits
 pub record Calls (C : Type 0) : Type 0 where

@@ -1,15 +1,15 @@
 -- Which bytes are the text of a schedule, which line of others is the first bad one, and what is written.
 use Rattle.std.specs.Prelude.{◌≡◌, ℕ, ◌+◌, ◌-◌, ◌<◌, ◌≤◌, Bool, true, false, List, ◌∷◌, length, map, take, Option, None}
 use Rattle.std.specs.Io.KnownBytes.{Appends, Consumes, IsAtEnd}
-use Rattle.spin_world_core.specs.declared.answer.Answer.{Answer}
-use Rattle.spin_world_core.specs.declared.schedule.Move.{Move}
-use Rattle.spin_world_core.specs.Machines.{Machine}
-use Rattle.spin_world_flag.specs.Flag.{flag_machine}
-use Rattle.spin_world_ticket.specs.Ticket.{ticket_machine}
-use Rattle.spin_world_rw.specs.Rw.{rw_machine}
-use Rattle.spin_world_fair.specs.Fair.{fair_machine}
+use Rattle.spin_model.specs.declared.answer.Answer.{Answer}
+use Rattle.spin_model.specs.declared.schedule.Move.{Move}
+use Rattle.spin_model.specs.Machines.{Machine}
+use Rattle.spin_model.specs.Flag.{flag_machine}
+use Rattle.spin_step_more.specs.FairCalls.{fair_machine}
+use Rattle.spin_step_more.specs.RwCalls.{rw_machine}
+use Rattle.spin_model.specs.Ticket.{ticket_machine}
 use Rattle.spin_world_barrier.specs.Barrier.{barrier_machine}
-use Rattle.spin_world_once.specs.Once.{once_machine}
+use Rattle.spin_model.specs.Once.{once_machine}
 use Rattle.spin_text.specs.declared.header.Header.{Header}
 use Rattle.spin_text.specs.declared.header.Header.TheVariants.{Flag, Ticket, Rw, Fair, Barrier, Once}
 use Rattle.spin_text.specs.declared.text.RunError.{RunError}

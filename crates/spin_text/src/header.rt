@@ -4,7 +4,7 @@ ghost use Rattle.spin_text.specs.Lines.{words_of};
 ghost use Rattle.spin_text.specs.Reading.{words_left, last_parties, number_within, read_flag_header, read_ticket_header, read_rw_header, read_fair_header, read_barrier_header, read_once_header, read_header};
 
 use crate::words::{Rest, is_word, number_then, only_number, word};
-use spin_step::{fair, rw};
+use spin_step_more::{fair, rw};
 
 /// The first line of a text: the object with its opening values, and the number of parties.
 ///

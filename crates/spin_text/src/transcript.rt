@@ -1,7 +1,7 @@
 //! The text of a transcript. Begin with [`write_transcript`]; it makes each line from its end, in a buffer.
 ghost use Rattle.std.specs.Prelude.{◌≡◌, ◌≤◌, ◌<◌, ◌++◌, ◌+◌, ◌^◌, OnOk, OnErr, IfOk, IfErr, ℕ, None, true, take, drop, length};
 ghost use Rattle.std.specs.Io.KnownBytes.{Appends};
-ghost use Rattle.spin_world_core.specs.Schedules.{after, begin_of};
+ghost use Rattle.spin_model.specs.Schedules.{after, begin_of};
 ghost use Rattle.spin_text.specs.declared.text.RunError.TheVariants.{Memory};
 ghost use Rattle.spin_text.specs.Ends.{AppendsBeginning, AppendsBut};
 ghost use Rattle.spin_text.specs.Texts.{StopsWriting};

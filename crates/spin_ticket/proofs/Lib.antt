@@ -1,2 +1,3 @@
 pub mod Queue
 pub mod TicketQueue
+pub mod Rows

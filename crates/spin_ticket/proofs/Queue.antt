@@ -1,27 +1,40 @@
--- The steps of a lock of tickets keep its rule: each is the plain step that its step function makes.
-use Rattle.std.proofs.Common.{◌≡◌, ℕ, ◌<◌, ◌≤◌, Bool, true, false, if◌then◌else◌, ◌==◌, [], length, Option, Some, None, refl, sym, ap, ◌∙◌, arith}
-use Rattle.std.proofs.lemmas.Bool.{eqb-true}
+-- The steps of a lock of tickets keep its rule: each is the plain step that its step function makes, and moves of the lock's model.
+use Rattle.std.proofs.Common.{◌≡◌, ℕ, ◌+◌, ◌<◌, ◌≤◌, ◌&&◌, Bool, true, false, if◌then◌else◌, ◌==◌, List, [], ◌∷◌, length, Option, Some, None, refl, sym, ap, ◌∙◌, subst, arith}
+use Rattle.std.specs.Prelude.{◌≢◌}
+use Rattle.std.proofs.lemmas.Bool.{eqb-true, eq-eqb, ne_eqb, and_parts}
 use prog.Atomic.{either}
 use Rattle.spin_step.specs.Plain.{Plain, ticket_limit, gets, serves, to_take_ticket, to_take_and_enter, to_enter, is_open, next_word, serving_word}
 use Rattle.spin_step.specs.Steps.{Decides, Gives}
-use Rattle.spin_step.specs.Tickets.{IsTurn}
-use Rattle.spin_core.specs.Cell.{alone, writes, Meets, Allows, AllowsSecond, Rests, Moved}
+use Rattle.spin_step.specs.Tickets.{take}
+use Rattle.spin_step.proofs.Tickets.{serving-taken, serving-entered, entered_is_served, first-length, enters_in_turn}
+use Rattle.spin_core.specs.Cell.{Ways, alone, reads, writes, Meets, Allows, AllowsSecond, Rests, Moved}
+use Rattle.spin_core.specs.Own.{Numbered, what}
+use Rattle.spin_core.specs.Run.{AreMoves, on_first, on_second, first as first_word, second as second_word}
+use Rattle.spin_core.specs.Traced.{Traces, TracesSecond, Watches}
 use Rattle.spin_core.specs.Views.{entries_of, queues}
-use Rattle.spin_core.specs.Plays.{becomes}
-use Rattle.spin_core.proofs.CellViews.{came_to}
+use Rattle.spin_core.specs.declared.trace.Trace.{Trace}
+use Rattle.spin_core.specs.declared.trace.Watch.{Watch}
 use Rattle.spin_core.proofs.Leaving.{next_word-up, serving_word-up}
 use Rattle.spin_core.proofs.Owners.{OfTickets, one_ticket}
-use Rattle.spin_core.proofs.Plays.{Lock, ways, Reaches, allows, allows_second, by_step, by_grant, by_none, exchanged, begins, rests}
-use Rattle.spin_step.proofs.Tickets.{serving-taken, serving-entered, entered_is_served, first-length}
+use Rattle.spin_core.proofs.Plays as plays
+use Rattle.spin_core.proofs.Plays.{Lock as CellLock, ways, Reaches, allows, allows_second, by_step, by_grant, by_none, by_exchange, allows_among, begins}
+use Rattle.spin_core.proofs.Ties as tie
+use Rattle.spin_model.specs.declared.answer.Answer.TheVariants.{Done}
+use Rattle.spin_model.specs.declared.schedule.Move.TheVariants.{Begin, Step}
+use Rattle.spin_model.specs.declared.schedule.Outcome.TheVariants.{Begun, GoingOn, Answered}
+use Rattle.spin_model.specs.declared.ticket.TicketCall.{TicketCall}
+use Rattle.spin_model.specs.declared.ticket.TicketCall.TheVariants.{Lock, TryLock, IsLocked, Release}
+use Rattle.spin_model.specs.Ticket.{is_left, is_free}
 use Rattle.spin_ticket.specs.declared.ticket.rule.View.{View}
-use Rattle.spin_ticket.specs.declared.ticket.rule.View.TheVariants.{Idle, LoadedServing, Waiting, Entered}
-use Rattle.spin_ticket.specs.Queue.{part, IsQueue, use_of_view, Loads, LoadsServing, Takes}
+use Rattle.spin_ticket.specs.declared.ticket.rule.View.TheVariants.{Idle, Coming, Going, Waiting, Entered, LoadedNext, Trying, LoadedServing}
+use Rattle.spin_ticket.specs.Queue.{part, Word, IsQueue, Told, use_of_view, use_of_party, seat_of, model, words_of, OneMove, Ending, Made, begins_by, goes_on_by, goes_on, going, taken, entered, answers_turn, freed, answers_free, attempted, answers_attempt, gone, answers_look, compares_with, compares_by, finds, finds_by, awaits_by, tries_by, number_of, answers_release}
 
 pub kind : (v : View) → OfTickets part v
-kind Idle = (refl, λ p. refl)
+kind (Waiting n) = (refl, λ p. refl)
+kind (Entered n) = (refl, λ p. refl)
 kind _ = (refl, λ p. refl)
 
-abbrev pub queue : Lock View ℕ
+abbrev pub queue : CellLock View ℕ
 queue = record {
   part = part;
   uses = use_of_view;
@@ -36,71 +49,245 @@ queue = record {
   names_nobody = (next_word-up, serving_word-up);
 }
 
-pub starts : (first : ℕ) → first ≤ ticket_limit → Meets IsQueue (ways queue) first first []
-starts first small = begins queue 0 first first first (omega (arith, small)) refl (omega arith)
+abbrev Says : Type 1
+Says = List OneMove → List Ending → ℕ → View → Type 0
 
-pub loads_serving : AllowsSecond IsQueue (ways queue) None (λ n. n) (LoadsServing 0 0 None)
-loads_serving = allows_second queue None (λ n. n) (LoadsServing 0 0 None) (λ s p room order has. (LoadedServing (serving_word s), by_none queue None (LoadedServing (serving_word s)) s p refl (omega arith), refl))
+-- it comes to this view by the number found
+abbrev Comes : (ℕ → View) → ℕ → View → Type 0
+Comes to n v = v ≡ to n
 
--- the number that is served only grows, and is at most the next
-pub compares : (n : ℕ) → Allows IsQueue (ways queue) (Some (LoadedServing n)) (λ m. m) (Loads 0 0 (Some (LoadedServing n)))
-compares n = allows queue (Some (LoadedServing n)) (λ m. m) (Loads 0 0 (Some (LoadedServing n))) (λ s p room order has. (Idle, by_none queue (Some (LoadedServing n)) Idle s p refl tt, (omega (arith, has.1, order.numbered.0), refl)))
+-- what a load of the next number tells `is_locked`, and one of the served number a party that releases, beside its view
+abbrev Compares : ℕ → ℕ → View → Type 0
+Compares served n v = (served ≤ n) × (v ≡ Idle)
 
-pub takes : (next taken : ℕ) → ((s : Plain) (p : ℕ) → next_word s ≡ next → Decides s (gets p to_take_ticket) next_word (Some taken))
-    → Allows IsQueue (ways queue) None (λ n. either (n == next) taken n) (Takes next taken None)
-takes next taken plain = exchanged queue None Waiting Idle next taken (λ s p. (refl, tt)) (λ s p vs room order is has small e.
-    by_grant queue None (Waiting next) s p to_take_ticket taken (serving_word s) (plain s p e) (ap (λ n. entries_of p (queues n false)) e) tt (sym (serving-taken s p false order.numbered)))
+abbrev Finds : ℕ → ℕ → View → Type 0
+Finds number n v = (n ≡ number) × (number < ticket_limit) × (v ≡ Entered number)
 
--- a party that found the next number served finds nobody in the queue
-pub attempts : (next taken : ℕ) → ((s : Plain) (p : ℕ) → length s.tickets ≤ next_word s → next_word s ≡ next → serving_word s ≡ next → Decides s (gets p to_take_and_enter) next_word (Some taken))
-    → Allows IsQueue (ways queue) (Some (LoadedServing next)) (λ n. either (n == next) taken n) (Takes next taken (Some (LoadedServing next)))
-attempts next taken plain = exchanged queue (Some (LoadedServing next)) Entered Idle next taken (λ s p. (refl, tt)) (λ s p vs room order is has small e.
-    by_grant queue (Some (LoadedServing next)) (Entered next) s p to_take_and_enter taken (serving_word s) (plain s p order.numbered.0 e (omega (arith, has.1, e, order.numbered.0))) (ap (λ n. entries_of p (queues n true)) e) tt
-    (sym (serving-taken s p true order.numbered)))
+-- The moves of each step: a call of the model and its first step, or the next step of a call that has begun
+
+module _ (first : ℕ) where
+  abbrev Moves : Option View → (ℕ → ℕ) → (ℕ → View → Type 0) → Says → Type 0
+  Moves view f = AreMoves (model first) seat_of words_of view (on_first f) first_word
+
+  abbrev MovesSecond : Option View → (ℕ → ℕ) → (ℕ → View → Type 0) → Says → Type 0
+  MovesSecond view f = AreMoves (model first) seat_of words_of view (on_second f) second_word
+
+  load_moves : Moves None (λ n. n) (Comes going) (begins_by Lock goes_on going)
+  load_moves w value v is = rw is (Begin Lock ∷ Step ∷ [], Begun ∷ GoingOn ∷ [], (refl, refl, refl), refl, refl, w, value, grind arith, grind arith, refl)
+
+  take_moves : (next : ℕ) → is_left next ≡ true → Moves (Some (Going next)) (λ n. either (n == next) (next + 1) n) (Comes (taken next)) (goes_on_by goes_on (taken next))
+  take_moves next left w value v is = rw is (Step ∷ [], GoingOn ∷ [], (refl, refl, refl), refl, refl, record w { next = either (w.next == next) (next + 1) w.next }, value, grind (arith, left), grind (arith, left), refl)
+
+  await_moves : (n : ℕ) → MovesSecond (Some (Waiting n)) (λ k. k) (Comes (entered n)) (goes_on_by (answers_turn n) (entered n))
+  await_moves n w value v is = rw is (Step ∷ [], answers_turn n w.serving ∷ [], (refl, refl, refl), refl, grind arith, w, value, grind arith, grind arith, refl)
+
+  try_moves : Moves None (λ n. n) (Comes LoadedNext) (begins_by TryLock goes_on LoadedNext)
+  try_moves w value v is = rw is (Begin TryLock ∷ Step ∷ [], Begun ∷ GoingOn ∷ [], (refl, refl, refl), refl, refl, w, value, refl, refl, refl)
+
+  try_look_moves : (n : ℕ) → MovesSecond (Some (LoadedNext n)) (λ k. k) (Comes (freed n)) (goes_on_by (answers_free n) (freed n))
+  try_look_moves n w value v is = rw is (Step ∷ [], answers_free n w.serving ∷ [], (refl, refl, refl), refl, grind arith, w, value, grind arith, grind arith, refl)
+
+  try_take_moves : (next : ℕ) → is_left next ≡ true → Moves (Some (Trying next)) (λ n. either (n == next) (next + 1) n) (Comes (attempted next)) (goes_on_by (answers_attempt next) (attempted next))
+  try_take_moves next left w value v is =
+      rw is (Step ∷ [], answers_attempt next w.next ∷ [], (refl, refl, refl), refl, refl, record w { next = either (w.next == next) (next + 1) w.next }, value, grind (arith, left), grind (arith, left), refl)
+
+  look_moves : MovesSecond None (λ k. k) (Comes LoadedServing) (begins_by IsLocked goes_on LoadedServing)
+  look_moves w value v is = rw is (Begin IsLocked ∷ Step ∷ [], Begun ∷ GoingOn ∷ [], (refl, refl, refl), refl, refl, w, value, refl, refl, refl)
+
+  look_next_moves : (n : ℕ) → Moves (Some (LoadedServing n)) (λ m. m) (Compares n) (compares_with n)
+  look_next_moves n w value v is = rw is.1 (Step ∷ [], answers_look n w.next ∷ [], (is.0, (refl, refl, refl)), refl, refl, w, value, refl, refl, refl)
+
+  find_moves : (n : ℕ) → MovesSecond (Some (Entered n)) (λ k. k) (Finds n) (finds n)
+  find_moves n w value v is = rw is.2 ([], [], ((is.0, is.1, refl), refl, refl), refl, refl, w, value, refl, refl, refl)
+
+  serve_moves : (n : ℕ) → MovesSecond (Some (Entered n)) (λ _. n + 1) (Comes gone) (begins_by Release answers_release gone)
+  serve_moves n w value v is = rw is (Begin Release ∷ Step ∷ [], Begun ∷ Answered Done None ∷ [], (refl, refl, refl), refl, refl, record w { serving = n + 1 }, value, grind (arith, eq-eqb n n refl), grind (arith, eq-eqb n n refl), refl)
+
+-- Each step keeps the rule, and appends its moves
+
+goes_if : (view : Option View) (s : Plain) (p : ℕ) → (Reaches queue view (Going s.next) s p s.next (serving_word s)) → Reaches queue view Coming s p s.next (serving_word s) → (b : Bool) → Reaches queue view (if b then Going s.next else Coming) s p s.next (serving_word s)
+goes_if view s p left none true = left
+goes_if view s p left none false = none
 
 enters_if : (n : ℕ) (s : Plain) (p : ℕ) (turn : Bool) → is_open s (gets p to_enter) ≡ turn → Reaches queue (Some (Waiting n)) (if turn then Entered n else Waiting n) s p s.next (serving_word s)
 enters_if n s p true may = by_step queue (Some (Waiting n)) (Entered n) s (gets p to_enter) s.next (serving_word s) may refl tt refl (sym (serving-entered s))
 enters_if n s p false may = by_none queue (Some (Waiting n)) (Waiting n) s p refl tt
 
--- a party enters exactly where that is open to it
-pub waits_for_turn : (n : ℕ) → AllowsSecond IsQueue (ways queue) (Some (Waiting n)) (λ m. m) (LoadsServing 0 0 (Some (Waiting n)))
-waits_for_turn n = allows_second queue (Some (Waiting n)) (λ m. m) (LoadsServing 0 0 (Some (Waiting n))) (λ s p room order has.
-    let may = is_open s (gets p to_enter) in (
-      if may then Entered n else Waiting n,
-      enters_if n s p may refl,
-      λ turn is_turn. ap (λ b. if b then Entered n else Waiting n) (is_turn s p order.numbered refl (ap (λ e. e.tickets) has.0)),
-    ))
+frees_if : (n : ℕ) (s : Plain) (p : ℕ) (b : Bool) → is_free n (serving_word s) ≡ b → Reaches queue (Some (LoadedNext n)) (if b then Trying n else Idle) s p s.next (serving_word s)
+frees_if n s p true is =
+    let same = eqb-true (serving_word s) n (and_parts (serving_word s == n) (is_left n) is).0 in
+    by_none queue (Some (LoadedNext n)) (Trying n) s p refl (omega (arith, same))
+frees_if n s p false is = by_none queue (Some (LoadedNext n)) Idle s p refl tt
 
-pub finds_own : (n : ℕ) → AllowsSecond IsQueue (ways queue) (Some (Entered n)) (λ m. m) (LoadsServing 0 0 (Some (Entered n)))
-finds_own n = allows_second queue (Some (Entered n)) (λ m. m) (LoadsServing 0 0 (Some (Entered n))) (λ s p room order has.
-    let served = entered_is_served s p n order.numbered order.exclusive.one_entered (ap (λ e. e.tickets) has.0) in
-    (Entered n, by_none queue (Some (Entered n)) (Entered n) s p refl tt, (omega (arith, order.within_limit, order.numbered.0, first-length p true s.tickets served.0), ap Entered (sym served.1))))
+abbrev own_ways : Ways (Unit {0}) (Numbered View)
+own_ways = (alone, use_of_party)
+
+module _ (name first : ℕ) where
+  abbrev Keeps : Option (Numbered View) → (ℕ → ℕ) → Says → Type 0
+  Keeps view f says = Traces (IsQueue name first) own_ways view None f (Told says view)
+
+  abbrev KeepsSecond : Option (Numbered View) → (ℕ → ℕ) → Says → Type 0
+  KeepsSecond view f says = TracesSecond (IsQueue name first) own_ways view None f (Told says view)
+
+  -- what the plain lock allows, and what the model does
+  keeps : (view : Option (Numbered View)) (f : ℕ → ℕ) (tells : ℕ → View → Type 0) (says : Says) → Moves first (what view) f tells says → Allows Word (ways queue) (what view) f tells → Keeps view f says
+  keeps view f tells says moves may id n t vs meets at small =
+      let made = tie.traces (model first) seat_of words_of Word name (Unit {0}) alone use_of_view view None f tells says moves may id n t vs meets at small in (made.0, made.1, made.2, (first, made.3))
+
+  keeps_second : (view : Option (Numbered View)) (f : ℕ → ℕ) (tells : ℕ → View → Type 0) (says : Says) → MovesSecond first (what view) f tells says → AllowsSecond Word (ways queue) (what view) f tells → KeepsSecond view f says
+  keeps_second view f tells says moves may id n t vs meets at small =
+      let made = tie.traces_second (model first) seat_of words_of Word name (Unit {0}) alone use_of_view view None f tells says moves may id n t vs meets at small in (made.0, made.1, made.2, (first, made.3))
+
+  pub starts : (t : Trace Made ℕ) → t.name ≡ name → t.entries ≡ [] → t.word ≡ first → first ≤ ticket_limit → Meets (IsQueue name first) own_ways first t []
+  starts t named empty word small =
+      tie.opens (model first) seat_of words_of Word name (Unit {0}) alone use_of_view first t named empty (ap (λ k. (first, k)) word) (rw word (begins queue 0 first first first (omega (arith, small)) refl (omega arith)))
+
+  -- `lock`
+
+  pub loads : Keeps None (λ n. n) (begins_by Lock goes_on going)
+  loads = keeps None (λ n. n) (Comes going) (begins_by Lock goes_on going) (load_moves first)
+      (allows queue None (λ n. n) (Comes going) (λ s p room order has. (going s.next, goes_if None s p (by_none queue None (Going s.next) s p refl tt) (by_none queue None Coming s p refl tt) (is_left s.next), refl)))
+
+  pub takes : (view : Option (Numbered View)) (next after : ℕ) → what view ≡ Some (Going next) → after ≡ next + 1 → is_left next ≡ true → ((s : Plain) (p : ℕ) → next_word s ≡ next → Decides s (gets p to_take_ticket) next_word (Some after))
+      → Keeps view (λ n. either (n == next) after n) (goes_on_by goes_on (taken next))
+  takes view next after is more left plain =
+      let from : Option View = Some (Going next) in
+      keeps view (λ n. either (n == next) after n) (Comes (taken next)) (goes_on_by goes_on (taken next)) (rw (is, more) (take_moves first next left))
+      (rw is (allows_among queue from (λ n. either (n == next) after n) (Comes (taken next)) (λ s p vs room order among has small.
+      by_exchange queue from (Waiting next) (going s.next) s p s.next (serving_word s) next after
+      (λ e. by_grant queue from (Waiting next) s p to_take_ticket after (serving_word s) (plain s p e) (ap (λ n. entries_of p (queues n false)) e) tt (sym (serving-taken s p false order.numbered)))
+      (goes_if from s p (by_none queue from (Going s.next) s p refl tt) (by_none queue from Coming s p refl tt) (is_left s.next)))))
+
+  -- a party enters exactly where that is open to it
+  pub awaits : (view : Option (Numbered View)) (number : ℕ) → what view ≡ Some (Waiting number) → KeepsSecond view (λ k. k) (awaits_by (what view))
+  awaits view number is =
+      subst (λ k. KeepsSecond view (λ m. m) (goes_on_by (answers_turn k) (entered k))) (sym (ap number_of is)) (keeps_second view (λ k. k) (Comes (entered number)) (goes_on_by (answers_turn number) (entered number)) (rw is (await_moves first number))
+      (rw is (allows_second queue (Some (Waiting number)) (λ k. k) (Comes (entered number)) (λ s p room order has.
+      (entered number (serving_word s), enters_if number s p (serving_word s == number) (enters_in_turn s p (serving_word s) number order.numbered refl (ap (λ e. e.tickets) has.0)), refl)))))
+
+  -- `try_lock`
+
+  pub tries : Keeps None (λ n. n) (begins_by TryLock goes_on LoadedNext)
+  tries = keeps None (λ n. n) (Comes LoadedNext) (begins_by TryLock goes_on LoadedNext) (try_moves first)
+      (allows queue None (λ n. n) (Comes LoadedNext) (λ s p room order has. (LoadedNext s.next, by_none queue None (LoadedNext s.next) s p refl tt, refl)))
+
+  pub tries_on : (view : Option (Numbered View)) (next : ℕ) → what view ≡ Some (LoadedNext next) → KeepsSecond view (λ k. k) (tries_by (what view))
+  tries_on view next is =
+      subst (λ k. KeepsSecond view (λ m. m) (goes_on_by (answers_free k) (freed k))) (sym (ap number_of is)) (keeps_second view (λ k. k) (Comes (freed next)) (goes_on_by (answers_free next) (freed next)) (rw is (try_look_moves first next))
+      (rw is (allows_second queue (Some (LoadedNext next)) (λ k. k) (Comes (freed next)) (λ s p room order has. (freed next (serving_word s), frees_if next s p (is_free next (serving_word s)) refl, refl)))))
+
+  -- a party that found the next number served finds nobody in the queue
+  pub attempts : (view : Option (Numbered View)) (next after : ℕ) → what view ≡ Some (Trying next) → after ≡ next + 1 → is_left next ≡ true
+      → ((s : Plain) (p : ℕ) → length s.tickets ≤ next_word s → next_word s ≡ next → serving_word s ≡ next → Decides s (gets p to_take_and_enter) next_word (Some after))
+      → Keeps view (λ n. either (n == next) after n) (goes_on_by (answers_attempt next) (attempted next))
+  attempts view next after is more left plain =
+      let from : Option View = Some (Trying next) in
+      keeps view (λ n. either (n == next) after n) (Comes (attempted next)) (goes_on_by (answers_attempt next) (attempted next)) (rw (is, more) (try_take_moves first next left))
+      (rw is (plays.exchanged queue from Entered Idle next after (λ s p. (refl, tt)) (λ s p vs room order among has small e.
+      by_grant queue from (Entered next) s p to_take_and_enter after (serving_word s) (plain s p order.numbered.0 e (omega (arith, has.1, e, order.numbered.0))) (ap (λ n. entries_of p (queues n true)) e) tt
+      (sym (serving-taken s p true order.numbered)))))
+
+  -- `is_locked`: the number that is served only grows, and is at most the next
+
+  pub looks : KeepsSecond None (λ k. k) (begins_by IsLocked goes_on LoadedServing)
+  looks = keeps_second None (λ k. k) (Comes LoadedServing) (begins_by IsLocked goes_on LoadedServing) (look_moves first)
+      (allows_second queue None (λ k. k) (Comes LoadedServing) (λ s p room order has. (LoadedServing (serving_word s), by_none queue None (LoadedServing (serving_word s)) s p refl (omega arith), refl)))
+
+  pub compares : (view : Option (Numbered View)) (served : ℕ) → what view ≡ Some (LoadedServing served) → Keeps view (λ n. n) (compares_by (what view))
+  compares view served is =
+      subst (λ k. Keeps view (λ m. m) (compares_with k)) (sym (ap number_of is)) (keeps view (λ n. n) (Compares served) (compares_with served) (rw is (look_next_moves first served))
+      (rw is (allows queue (Some (LoadedServing served)) (λ n. n) (Compares served) (λ s p room order has. (Idle, by_none queue (Some (LoadedServing served)) Idle s p refl tt, (omega (arith, has.1, order.numbered.0), refl))))))
+
+  -- The release
+
+  pub finds_own : (view : Option (Numbered View)) (number : ℕ) → what view ≡ Some (Entered number) → KeepsSecond view (λ k. k) (finds_by (what view))
+  finds_own view number is =
+      subst (λ k. KeepsSecond view (λ m. m) (finds k)) (sym (ap number_of is)) (keeps_second view (λ k. k) (Finds number) (finds number) (rw is (find_moves first number))
+      (rw is (allows_second queue (Some (Entered number)) (λ k. k) (Finds number) (λ s p room order has.
+      let served = entered_is_served s p number order.numbered order.exclusive.one_entered (ap (λ e. e.tickets) has.0) in
+      (Entered number, by_none queue (Some (Entered number)) (Entered number) s p refl tt, (served.1, omega (arith, order.within_limit, order.numbered.0, first-length p true s.tickets served.0, served.1), refl))))))
+
+  pub serves_next : (view : Option (Numbered View)) (number next : ℕ) → what view ≡ Some (Entered number) → next ≡ number + 1 → ((s : Plain) (p : ℕ) → length s.tickets ≤ next_word s → serving_word s ≡ number → Gives s (serves p) serving_word next)
+      → KeepsSecond view (λ _. next) (begins_by Release answers_release gone)
+  serves_next view number next is more plain =
+      let from : Option View = Some (Entered number) in
+      keeps_second view (λ _. next) (Comes gone) (begins_by Release answers_release gone) (rw (is, more) (serve_moves first number))
+      (rw is (allows_second queue from (λ _. next) (Comes gone) (λ s p room order has.
+      let served = entered_is_served s p number order.numbered order.exclusive.one_entered (ap (λ e. e.tickets) has.0) in
+      (Idle, by_step queue from Idle s (serves p) s.next next served.0 refl tt refl (plain s p order.numbered.0 served.1 served.0), refl))))
+
+-- Who may go, and what a call knows of its own view
+
+module _ (name first : ℕ) where
+  pub idle_rests : (view : Option (Numbered View)) → what view ≡ Some Idle → Rests (IsQueue name first) use_of_party view
+  idle_rests None is = tt
+  idle_rests (Some v) is =
+      let idle : v.0 ≡ Idle = cc (is) in
+      tie.rests (model first) seat_of words_of Word name (Unit {0}) alone use_of_view v (ap seat_of idle) (plays.idle_rests queue v.0 idle)
+
+module _ (named : Type 0) (before : Option (Numbered View)) (known now : Watch Made) (found : ℕ) where
+  -- what a step says of the view after it
+  abbrev pub Steps : Says → Option (Numbered View) → Type 0
+  Steps says view = Moved (Watches named known now (Told says before) found) view
+
+  pub begun : (call : TicketCall) (ends : ℕ → Ending) (to : ℕ → View) (view : Option (Numbered View)) → Steps (begins_by call ends to) view → what view ≡ Some (to found)
+  begun call ends to None moved = absurd moved
+  begun call ends to (Some v) moved = ap Some moved.1.4.1.6.0
+
+  pub came : (ends : ℕ → Ending) (to : ℕ → View) (view : Option (Numbered View)) → Steps (goes_on_by ends to) view → what view ≡ Some (to found)
+  came ends to None moved = absurd moved
+  came ends to (Some v) moved = ap Some moved.1.4.1.6.0
+
+  pub awaited : (number : ℕ) (view : Option (Numbered View)) → what before ≡ Some (Waiting number) → Steps (awaits_by (what before)) view → what view ≡ Some (entered number found)
+  awaited number view is moved = let k : ℕ = number_of (what before) in came (answers_turn k) (entered k) view moved ∙ ap (λ v. Some (entered (number_of v) found)) is
+
+  pub tried : (next : ℕ) (view : Option (Numbered View)) → what before ≡ Some (LoadedNext next) → Steps (tries_by (what before)) view → what view ≡ Some (freed next found)
+  tried next view is moved = let k : ℕ = number_of (what before) in came (answers_free k) (freed k) view moved ∙ ap (λ v. Some (freed (number_of v) found)) is
+
+  pub found_own : (number : ℕ) (view : Option (Numbered View)) → what before ≡ Some (Entered number) → Steps (finds_by (what before)) view → (found < ticket_limit) × (what view ≡ Some (Entered found))
+  found_own number None is moved = absurd moved
+  found_own number (Some v) is moved = let own = moved.1.4.1.6.0 in (omega (arith, own.0, own.1), ap Some (own.2 ∙ ap Entered (sym own.0)))
 
 -- a party that writes has entered
 pub entered_of : (v : View) → use_of_view v ≡ writes → (n : ℕ) × (v ≡ Entered n)
 entered_of (Entered n) uses = (n, refl)
 entered_of _ uses = absurd cc
 
-pub found_own : (view : Option View) (n found : ℕ) → Moved (LoadsServing 0 0 (Some (Entered n)) found) view → (found < ticket_limit) × (view ≡ Some (Entered found))
-found_own None n found moved = absurd moved
-found_own (Some v) n found moved = (moved.0, ap Some moved.1)
+pub never_reads : (v : View) → use_of_view v ≡ reads → ⊥
+never_reads Idle e = absurd cc
+never_reads Coming e = absurd cc
+never_reads (Going n) e = absurd cc
+never_reads (Waiting n) e = absurd cc
+never_reads (Entered n) e = absurd cc
+never_reads (LoadedNext n) e = absurd cc
+never_reads (Trying n) e = absurd cc
+never_reads (LoadedServing n) e = absurd cc
 
-pub serves_next : (n next : ℕ) → ((s : Plain) (p : ℕ) → length s.tickets ≤ next_word s → serving_word s ≡ n → Gives s (serves p) serving_word next)
-    → AllowsSecond IsQueue (ways queue) (Some (Entered n)) (λ _. next) (λ _. becomes Idle 0 next (Some (Entered n)) 0)
-serves_next n next plain = allows_second queue (Some (Entered n)) (λ _. next) (λ _. becomes Idle 0 next (Some (Entered n)) 0) (λ s p room order has.
-    let served = entered_is_served s p n order.numbered order.exclusive.one_entered (ap (λ e. e.tickets) has.0) in
-    (Idle, by_step queue (Some (Entered n)) Idle s (serves p) s.next next served.0 refl tt refl (plain s p order.numbered.0 served.1 served.0), refl))
+pub left_of : (n after : ℕ) → Some after ≡ take n → (is_left n ≡ true) × (after ≡ n + 1)
+left_of n after is = left_if (is_left n) is
+  where
+    left_if : (b : Bool) → Some after ≡ (if b then Some (n + 1) else None) → (b ≡ true) × (after ≡ n + 1)
+    left_if true e = (refl, cc (e))
+    left_if false e = absurd (cc (e))
 
--- what a newcomer has loaded
-pub loaded : (before view : Option View) (found : ℕ) → before ≡ None → Moved (LoadsServing 0 0 before found) view → view ≡ Some (LoadedServing found)
-loaded before view found comes moved = came_to view (LoadedServing found) (rw comes at moved)
+pub none_left : (n : ℕ) → None ≡ take n → is_left n ≡ false
+none_left n is = none_if (is_left n) is
+  where
+    none_if : (b : Bool) → None ≡ (if b then Some (n + 1) else None) → b ≡ false
+    none_if true e = absurd (cc (e))
+    none_if false e = refl
 
-pub loaded_rests : (view : Option View) (found : ℕ) → view ≡ Some (LoadedServing found) → Rests IsQueue use_of_view view
-loaded_rests view found is = rw is (rests queue (LoadedServing found) refl (λ p. refl))
+pub goes_for : (n : ℕ) → is_left n ≡ true → going n ≡ Going n
+goes_for n left = ap (λ b. if b then Going n else Coming) left
 
-pub loaded_open : (before view : Option View) (found next : ℕ) → before ≡ None → Moved (LoadsServing 0 0 before found) view → (found == next) ≡ true → view ≡ Some (LoadedServing next)
-loaded_open before view found next comes moved same_number = loaded before view found comes moved ∙ ap (λ n. Some (LoadedServing n)) (eqb-true found next same_number)
+pub frees : (n found : ℕ) → (found == n) ≡ true → is_left n ≡ true → freed n found ≡ Trying n
+frees n found same left = ap (λ b. if b && is_left n then Trying n else Idle) same ∙ ap (λ b. if b then Trying n else Idle) left
 
-pub came_in : (view : Option View) (n found : ℕ) (turn : Bool) → Moved (LoadsServing 0 0 (Some (Waiting n)) found) view → IsTurn found n turn → view ≡ Some (if turn then Entered n else Waiting n)
-came_in None n found turn moved is_turn = absurd moved
-came_in (Some v) n found turn moved is_turn = ap Some (moved turn is_turn)
+pub busy : (n found : ℕ) → (found == n) ≡ false → freed n found ≡ Idle
+busy n found other = ap (λ b. if b && is_left n then Trying n else Idle) other
+
+pub used_up : (n found : ℕ) → is_left n ≡ false → freed n found ≡ Idle
+used_up n found none = grind (arith, none)
+
+pub missed : (n found : ℕ) → found ≢ n → attempted n found ≡ Idle
+missed n found other = ap (λ b. if b then Entered n else Idle) (ne_eqb found n other)

@@ -1,21 +1,22 @@
 -- What the rule of a lock of tickets says.
 use Rattle.std.proofs.Common.{◌≡◌, ℕ, List, refl, sym, ap, ◌∙◌, arith}
 use Rattle.std.specs.Prelude.{sum_by, count_by}
-use Rattle.spin_step.specs.Plain.{Plain, serving_word}
+use Rattle.spin_step.specs.Plain.{serving_word}
 use Rattle.spin_core.specs.Views.{entries_of}
 use Rattle.spin_core.proofs.Owners.{exactly}
 use Rattle.spin_step.proofs.Tickets.{one_if, has_number, count-lower, count-upper, count-between, entered_is_served}
 use Rattle.spin_core.proofs.Views.{part-there, part-beyond}
 use Rattle.spin_ticket.specs.declared.ticket.rule.View.{View}
-use Rattle.spin_ticket.specs.declared.ticket.rule.View.TheVariants.{Idle, Entered}
-use Rattle.spin_ticket.specs.Queue.{part, IsQueue}
+use Rattle.spin_ticket.specs.declared.ticket.rule.View.TheVariants.{Waiting, Entered}
+use Rattle.spin_ticket.specs.Queue.{part, Word}
 use Rattle.spin_ticket.specs.TicketQueue.{tickets_of, IsPlainQueue, stands_with, IsInTurn}
 
 standing : (id : ℕ) (v : View) → (entries_of id (part v)).tickets ≡ tickets_of id v
-standing id Idle = refl
+standing id (Waiting n) = refl
+standing id (Entered n) = refl
 standing id _ = refl
 
-plain_queue : (next serving : ℕ) (vs : List View) (is : IsQueue next serving vs) → IsPlainQueue is.0 next serving vs
+pub plain_queue : (next serving : ℕ) (vs : List View) (is : Word next serving vs) → IsPlainQueue is.0 next serving vs
 plain_queue next serving vs is = record {
   next_is = is.4;
   serving_is = is.5;
@@ -25,15 +26,13 @@ plain_queue next serving vs is = record {
   nobody_else = λ id far. ap (λ e. e.tickets) (is.3 id).0 ∙ ap (λ x. (entries_of id x).tickets) (part-beyond part id vs far);
 }
 
-pub is_plain : (next serving : ℕ) (vs : List View) → IsQueue next serving vs → (s : Plain) × IsPlainQueue s next serving vs
-is_plain next serving vs is = (is.0, plain_queue next serving vs is)
-
 stands : (t p : ℕ) (v : View) → one_if (stands_with t v) ≡ sum_by (has_number t) (entries_of p (part v)).tickets
-stands t p Idle = refl
-stands t p _ = omega arith
+stands t p (Waiting n) = omega arith
+stands t p (Entered n) = omega arith
+stands t p _ = refl
 
-pub is_in_turn : (next serving : ℕ) (vs : List View) → IsQueue next serving vs → IsInTurn next serving vs
-is_in_turn next serving vs is = let s = is.0 in let order = is.2 in
+pub in_turn : (next serving : ℕ) (vs : List View) → Word next serving vs → IsInTurn next serving vs
+in_turn next serving vs is = let s = is.0 in let order = is.2 in
     let plain = plain_queue next serving vs is in
     let count : (t : ℕ) → count_by (stands_with t) vs ≡ sum_by (has_number t) s.tickets = λ t.
     exactly (λ u. u.party) (has_number t) part (λ v. one_if (stands_with t v)) (λ p x. sum_by (has_number t) (entries_of p x).tickets) (λ p v. stands t p v) vs s.tickets

@@ -1,37 +1,165 @@
--- The rule of a lock of tickets: its words are those of a plain lock whose tickets are those of the parties that stand.
-use Rattle.std.specs.Prelude.{◌≡◌, ℕ, ◌<◌, ◌≤◌, Bool, true, false, List, Option, Some, if◌then◌else◌}
+-- The rule of a lock of tickets: its words are those of a plain lock whose tickets are those of the parties that stand, and its trace is a schedule of the lock's model, which leads there.
+use Rattle.std.specs.Prelude.{◌≡◌, ◌==◌, ℕ, ◌<◌, ◌≤◌, true, false, not, List, [], ◌∷◌, Option, Some, None, if◌then◌else◌, map}
 use Rattle.spin_step.specs.Plain.{ticket_limit, next_word, serving_word}
 use Rattle.spin_core.specs.Cell.{Use}
-use Rattle.spin_step.specs.Tickets.{IsTurn}
 use Rattle.spin_core.specs.Views.{Part, idle, queues, knows_served, Encodes, used_by}
-use Rattle.spin_core.specs.Plays.{exchanges}
+use Rattle.spin_core.specs.Own.{Numbered, Runs, Tells}
+use Rattle.spin_core.specs.declared.trace.Trace.{Trace}
+use Rattle.spin_model.specs.declared.answer.Answer.{Answer}
+use Rattle.spin_model.specs.declared.answer.Answer.TheVariants.{Granted, Refused, Is, Done}
+use Rattle.spin_model.specs.declared.place.Hold.TheVariants.{Ticket}
+use Rattle.spin_model.specs.declared.place.Seat.{Seat}
+use Rattle.spin_model.specs.declared.place.Seat.TheVariants as seat
+use Rattle.spin_model.specs.declared.schedule.Move.{Move}
+use Rattle.spin_model.specs.declared.schedule.Move.TheVariants.{Begin, Step}
+use Rattle.spin_model.specs.declared.schedule.Outcome.{Outcome}
+use Rattle.spin_model.specs.declared.schedule.Outcome.TheVariants.{Begun, GoingOn, Answered}
+use Rattle.spin_model.specs.declared.ticket.TicketCall.{TicketCall}
+use Rattle.spin_model.specs.declared.ticket.TicketCall.TheVariants.{Lock, TryLock, IsLocked}
+use Rattle.spin_model.specs.declared.ticket.TicketPoint.{TicketPoint}
+use Rattle.spin_model.specs.declared.ticket.TicketPoint.TheVariants.{LoadNext, Take, Await, TryLoadServing, TryTake, LookNext}
+use Rattle.spin_model.specs.declared.ticket.TicketWords.{TicketWords}
+use Rattle.spin_model.specs.Machines.{Machine}
+use Rattle.spin_model.specs.Schedules.{Entry}
+use Rattle.spin_model.specs.Ticket.{is_left, is_free, ticket_machine}
 use Rattle.spin_ticket.specs.declared.ticket.rule.View.{View}
-use Rattle.spin_ticket.specs.declared.ticket.rule.View.TheVariants.{Idle, LoadedServing, Waiting, Entered}
+use Rattle.spin_ticket.specs.declared.ticket.rule.View.TheVariants.{Idle, Coming, Going, Waiting, Entered, LoadedNext, Trying, LoadedServing}
 
 abbrev pub part : View → Part
-part Idle = idle
-part (LoadedServing n) = knows_served n
 part (Waiting n) = queues n false
 part (Entered n) = queues n true
-
-abbrev pub IsQueue : ℕ → ℕ → List View → Type 0
-IsQueue = Encodes part 0 next_word serving_word
+part (Trying n) = knows_served n
+part (LoadedServing n) = knows_served n
+part _ = idle
 
 abbrev pub use_of_view : View → Use
 use_of_view = used_by part
 
--- what a load of the next number tells: it is not below one that the party found served
-abbrev pub Loads : ℕ → ℕ → Option View → ℕ → View → Type 0
-Loads old new (Some (LoadedServing n)) found after = (n ≤ found) × (after ≡ Idle)
-Loads old new _ found after = after ≡ Idle
+-- how a party uses the value
+abbrev pub use_of_party : Numbered View → Use
+use_of_party v = use_of_view v.0
 
--- what a load of the served number tells a newcomer, a waiter (it has entered if it was its turn), and a party that has entered (it finds its own)
-abbrev pub LoadsServing : ℕ → ℕ → Option View → ℕ → View → Type 0
-LoadsServing old new (Some (Waiting n)) found after = (turn : Bool) → IsTurn found n turn → after ≡ (if turn then Entered n else Waiting n)
-LoadsServing old new (Some (Entered n)) found after = (found < ticket_limit) × (after ≡ Entered found)
-LoadsServing old new _ found after = after ≡ LoadedServing found
+-- where a party sits in the model
+abbrev pub seat_of : View → Seat TicketCall TicketPoint
+seat_of Idle = seat.Idle
+seat_of Coming = seat.Calling Lock LoadNext None
+seat_of (Going n) = seat.Calling Lock (Take n) None
+seat_of (Waiting n) = seat.Calling Lock (Await n) None
+seat_of (Entered n) = seat.Holding (Ticket n)
+seat_of (LoadedNext n) = seat.Calling TryLock (TryLoadServing n) None
+seat_of (Trying n) = seat.Calling TryLock (TryTake n) None
+seat_of (LoadedServing n) = seat.Calling IsLocked (LookNext n) None
 
--- a party that takes a ticket has entered with it if it found that number served, and else waits with it
-abbrev pub Takes : ℕ → ℕ → Option View → ℕ → View → Type 0
-Takes next taken (Some (LoadedServing n)) = exchanges Entered Idle next taken (Some (LoadedServing n))
-Takes next taken before = exchanges Waiting Idle next taken before
+-- of the lock whose first ticket has this number
+abbrev pub model : ℕ → Machine TicketWords (Unit {0}) TicketCall TicketPoint (Answer (Unit {0}))
+model first = ticket_machine tt first
+
+-- the lock's words, by the model's
+abbrev pub words_of : TicketWords → ℕ × ℕ
+words_of w = (w.next, w.serving)
+
+abbrev pub OneMove : Type 0
+OneMove = Move TicketCall (Unit {0})
+
+abbrev pub Ending : Type 0
+Ending = Outcome (Answer (Unit {0})) (Unit {0})
+
+-- an entry of the lock's trace
+abbrev pub Made : Type 0
+Made = Entry TicketCall (Unit {0})
+
+abbrev pub Word : ℕ → ℕ → List View → Type 0
+Word = Encodes part 0 next_word serving_word
+
+-- of the next number, the trace with the served number beside it, and the parties, under the name of the lock's trace and the number of its first ticket
+abbrev pub IsQueue : ℕ → ℕ → ℕ → Trace Made ℕ → List (Numbered View) → Type 0
+IsQueue name first = Runs (model first) seat_of words_of Word name
+
+-- the parties without their numbers
+abbrev pub views : List (Numbered View) → List View
+views vs = map (λ v. v.0) vs
+
+-- what a step tells of its moves, in the model of some first ticket: a step does not see which the lock's is
+abbrev pub Told : (List OneMove → List Ending → ℕ → View → Type 0) → Option (Numbered View) → List Made → List Made → ℕ → Numbered View → Type 0
+Told says view log es n v = (first : ℕ) × Tells (model first) seat_of words_of says view log es n v
+
+-- The steps: which moves, with which outcomes and to which view, by the number found
+
+-- a call begins, and takes its first step
+abbrev pub begins_by : TicketCall → (ℕ → Ending) → (ℕ → View) → List OneMove → List Ending → ℕ → View → Type 0
+begins_by call ends to own outs n v = (v ≡ to n) × (own ≡ Begin call ∷ Step ∷ []) × (outs ≡ Begun ∷ ends n ∷ [])
+
+-- a call takes its next step
+abbrev pub goes_on_by : (ℕ → Ending) → (ℕ → View) → List OneMove → List Ending → ℕ → View → Type 0
+goes_on_by ends to own outs n v = (v ≡ to n) × (own ≡ Step ∷ []) × (outs ≡ ends n ∷ [])
+
+abbrev pub goes_on : ℕ → Ending
+goes_on n = GoingOn
+
+-- the number that a view names
+abbrev pub number_of : Option View → ℕ
+number_of (Some (Going n)) = n
+number_of (Some (Waiting n)) = n
+number_of (Some (Entered n)) = n
+number_of (Some (LoadedNext n)) = n
+number_of (Some (Trying n)) = n
+number_of (Some (LoadedServing n)) = n
+number_of _ = 0
+
+-- `lock` goes for the number that it found, or looks again where no ticket is left
+abbrev pub going : ℕ → View
+going n = if is_left n then Going n else Coming
+
+-- it waits with the ticket that it expected to be next, or goes for the number that it found
+abbrev pub taken : ℕ → ℕ → View
+taken next n = if n == next then Waiting next else going n
+
+-- the party with this ticket enters where its number is served
+abbrev pub entered : ℕ → ℕ → View
+entered number n = if n == number then Entered number else Waiting number
+
+abbrev pub answers_turn : ℕ → ℕ → Ending
+answers_turn number n = if n == number then Answered Granted None else GoingOn
+
+abbrev pub awaits_by : Option View → List OneMove → List Ending → ℕ → View → Type 0
+awaits_by view = let number : ℕ = number_of view in goes_on_by (answers_turn number) (entered number)
+
+-- `try_lock` goes on where the number that it found next is served and left
+abbrev pub freed : ℕ → ℕ → View
+freed next n = if is_free next n then Trying next else Idle
+
+abbrev pub answers_free : ℕ → ℕ → Ending
+answers_free next n = if is_free next n then GoingOn else Answered Refused None
+
+abbrev pub tries_by : Option View → List OneMove → List Ending → ℕ → View → Type 0
+tries_by view = let next : ℕ = number_of view in goes_on_by (answers_free next) (freed next)
+
+-- it has entered with the ticket that it expected to be next, or has none
+abbrev pub attempted : ℕ → ℕ → View
+attempted next n = if n == next then Entered next else Idle
+
+abbrev pub answers_attempt : ℕ → ℕ → Ending
+answers_attempt next n = Answered (if n == next then Granted else Refused) None
+
+abbrev pub gone : ℕ → View
+gone n = Idle
+
+-- `is_locked` found this number served, which is not above the next one
+abbrev pub answers_look : ℕ → ℕ → Ending
+answers_look served n = Answered (Is (not (n == served))) None
+
+abbrev pub compares_with : ℕ → List OneMove → List Ending → ℕ → View → Type 0
+compares_with served own outs n v = (served ≤ n) × goes_on_by (answers_look served) gone own outs n v
+
+abbrev pub compares_by : Option View → List OneMove → List Ending → ℕ → View → Type 0
+compares_by view = compares_with (number_of view)
+
+-- the load of a party that releases is no move: it finds the number of the party's own ticket, which the model's `release` knows
+abbrev pub finds : ℕ → List OneMove → List Ending → ℕ → View → Type 0
+finds number own outs n v = ((n ≡ number) × (number < ticket_limit) × (v ≡ Entered number)) × (own ≡ []) × (outs ≡ [])
+
+abbrev pub finds_by : Option View → List OneMove → List Ending → ℕ → View → Type 0
+finds_by view = finds (number_of view)
+
+abbrev pub answers_release : ℕ → Ending
+answers_release n = Answered Done None

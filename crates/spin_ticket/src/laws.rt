@@ -2,8 +2,10 @@
 //! [`the_parties_of_a_ticket_mutex_enter_in_turn`].
 ghost use Rattle.std.specs.Prelude.{ℕ, List};
 ghost use Rattle.spin_step.specs.Plain.{Plain};
+ghost use Rattle.spin_core.specs.Own.{Numbered, IsRun};
+ghost use Rattle.spin_core.specs.declared.trace.Trace.{Trace};
 ghost use Rattle.spin_ticket.specs.declared.ticket.rule.View.{View};
-ghost use Rattle.spin_ticket.specs.Queue.{IsQueue};
+ghost use Rattle.spin_ticket.specs.Queue.{IsQueue, Made, views, model, seat_of, words_of};
 ghost use Rattle.spin_ticket.specs.TicketQueue.{IsInTurn, IsPlainQueue};
 
 /// States that the two words of a `TicketMutex` encode a plain lock, whose tickets are those of its parties.
@@ -15,7 +17,7 @@ ghost use Rattle.spin_ticket.specs.TicketQueue.{IsInTurn, IsPlainQueue};
 /// # Examples
 /// None: nobody calls a law.
 pub fn the_words_of_a_ticket_mutex_are_its_queue()
-    ensures { (next serving : ℕ) (vs : List View) → IsQueue next serving vs → (s : Plain) × IsPlainQueue s next serving vs }
+    ensures { (name first next : ℕ) (trace : Trace Made ℕ) (parties : List (Numbered View)) → IsQueue name first next trace parties → (s : Plain) × IsPlainQueue s next trace.word (views parties) }
 {}
 
 /// States that the parties of a `TicketMutex` enter in the order of their tickets.
@@ -27,5 +29,21 @@ pub fn the_words_of_a_ticket_mutex_are_its_queue()
 /// # Examples
 /// None: nobody calls a law.
 pub fn the_parties_of_a_ticket_mutex_enter_in_turn()
-    ensures { (next serving : ℕ) (vs : List View) → IsQueue next serving vs → IsInTurn next serving vs }
+    ensures { (name first next : ℕ) (trace : Trace Made ℕ) (parties : List (Numbered View)) → IsQueue name first next trace parties → IsInTurn next trace.word (views parties) }
+{}
+
+/// Each run of a [`TicketMutex`](crate::ticket::TicketMutex) on threads is a schedule of its model.
+///
+/// The lock's cell keeps, without a byte, the list of all moves that threads have made in it so far: who, and which
+/// move.
+///
+/// # Contract
+/// Whatever holds between any two steps of threads (`IsQueue`): no move of the list is passed over in the model, which
+/// opens with the lock's first ticket. After the list the model has the lock's two words, and has each party where the
+/// lock has it.
+///
+/// # Examples
+/// None: nobody calls a law.
+pub fn every_run_of_a_ticket_mutex_is_a_schedule()
+    ensures { (name first next : ℕ) (trace : Trace Made ℕ) (parties : List (Numbered View)) → IsQueue name first next trace parties → IsRun (model first) seat_of words_of trace.entries (next, trace.word) parties }
 {}

@@ -6,3 +6,5 @@
 pub mod laws;
 pub mod testing;
 pub mod ticket;
+
+pub use laws::every_run_of_a_ticket_mutex_is_a_schedule;

@@ -1,7 +1,5 @@
 //! What tests need that look at the tickets, also tests of the crates above. Begin at [`starting_at`].
 use crate::ticket::TicketMutex;
-use spin_core::cell::Cell;
-use spin_core::relax::Strategy;
 
 /// Creates an unlocked mutex whose first ticket has the number `first`.
 ///
@@ -15,10 +13,7 @@ use spin_core::relax::Strategy;
 /// equal(&rt, *guard, 42);
 /// ```
 pub fn starting_at<T, R>(value: T, first: u64) -> TicketMutex<T, R> {
-    TicketMutex {
-        cell: Cell::new(value, first, first, &()),
-        strategy: Strategy::named(),
-    }
+    TicketMutex::starting_at(value, first)
 }
 
 /// Returns the number of the next ticket.
@@ -32,5 +27,5 @@ pub fn starting_at<T, R>(value: T, first: u64) -> TicketMutex<T, R> {
 /// equal(&rt, next(&lock), u64::MAX);
 /// ```
 pub fn next<T, R>(lock: &TicketMutex<T, R>) -> u64 {
-    lock.next()
+    lock.look().1
 }

@@ -1,24 +1,28 @@
 //! A spinning mutex that serves the threads in the order of their tickets. Begin at [`TicketMutex::lock`].
-ghost use Rattle.std.specs.Prelude.{◌≡◌, Option, Some, IfSome, IfOk};
+ghost use Rattle.std.specs.Prelude.{◌≡◌, ◌≤◌, Option, Some, IfSome, IfOk};
 ghost use Rattle.std.specs.Fmt.{DisplaysOnOk};
-ghost use Rattle.spin_guard.specs.Guard.{IsHolder};
-ghost use Rattle.spin_guard.specs.Texts.{lock_text};
-ghost use Rattle.spin_ticket.specs.Queue.{use_of_view};
+ghost use Rattle.spin_core.specs.Guard.{IsHolder};
+ghost use Rattle.spin_core.specs.Texts.{lock_text};
+ghost use Rattle.spin_core.specs.Own.{what};
+ghost use Rattle.spin_ticket.specs.Queue.{use_of_party, going};
 ghost use Rattle.spin_ticket.specs.declared.ticket.rule.View.TheVariants.{Waiting, Entered};
 
-use self::rule::{Load, LoadServing, Take};
+use self::rule::{
+    Await, LoadNext, LookNext, LookServing, Take, TryLoadNext, TryLoadServing, TryTake,
+};
 use spin_core::cell::{Cell, Permit};
+use spin_core::guard::{self, Guard};
+use spin_core::lock::{Lock, with_guard};
 use spin_core::relax::{Loop, MAX_HINTS, RelaxStrategy, Spin, Strategy};
-use spin_guard::guard::{self, Guard};
-use spin_guard::texts::write_lock;
-use spin_lock::lock::{Lock, with_guard};
+use spin_core::texts::write_lock;
+use spin_core::trace::{Trace, Watch};
 use spin_step::ticket;
 use std::fmt::{self, Debug, Formatter};
 use std::sync::Wait;
 
 mod rule;
 
-pub use self::rule::{TicketRule, View};
+pub use self::rule::{Entry, Party, TicketRule, View};
 
 /// A mutual exclusion lock that serves its threads in the order of their tickets, and on which a waiting thread spins.
 ///
@@ -39,8 +43,8 @@ pub use self::rule::{TicketRule, View};
 /// ```
 #[derive(Drop)]
 pub struct TicketMutex<T, R = Spin> {
-    pub(crate) cell: Cell<T, View, TicketRule>,
-    pub(crate) strategy: Strategy<R>,
+    cell: Cell<T, Party, TicketRule>,
+    strategy: Strategy<R>,
 }
 
 /// The guard of a [`TicketMutex`]. Dropping it releases the lock, and serves the next ticket.
@@ -59,7 +63,7 @@ pub struct TicketMutex<T, R = Spin> {
 ///     old
 /// }
 /// ```
-pub type TicketMutexGuard<'a, T, R = Spin> = Guard<'a, T, View, TicketRule, R>;
+pub type TicketMutexGuard<'a, T, R = Spin> = Guard<'a, T, Party, TicketRule, R>;
 
 /// A hold on a [`TicketMutex`]: it keeps the lock without a guard, and gives no access to the value.
 ///
@@ -73,17 +77,24 @@ pub type TicketMutexGuard<'a, T, R = Spin> = Guard<'a, T, View, TicketRule, R>;
 /// TicketMutex::force_unlock(TicketMutexGuard::hold(guard));
 /// equal(&rt, lock.is_locked(), false);
 /// ```
-pub type Held<'a, T, R = Spin> = guard::Held<'a, T, View, TicketRule, R>;
+pub type Held<'a, T, R = Spin> = guard::Held<'a, T, Party, TicketRule, R>;
 
 // How many hints a place waits for each ticket before it, where it is not the next in turn.
 const HINTS_EACH: u64 = 8;
+
+// A call of `lock` that goes for the ticket of this number, the next one when it last looked.
+struct Going<'a, T> {
+    number: u64,
+    permit: Permit<'a, T, Party, TicketRule>,
+    ghost goes: { what permit.view ≡ Some (going number) },
+}
 
 // A place in the queue, and how many tickets were before it when it last looked.
 struct Place<'a, T> {
     number: u64,
     ahead: u64,
-    permit: Permit<'a, T, View, TicketRule>,
-    ghost waiting: { permit.view ≡ Some (Waiting number) },
+    permit: Permit<'a, T, Party, TicketRule>,
+    ghost waiting: { what permit.view ≡ Some (Waiting number) },
 }
 
 impl<T, R> TicketMutex<T, R> {
@@ -99,8 +110,15 @@ impl<T, R> TicketMutex<T, R> {
     /// equal(&rt, *guard, 5);
     /// ```
     pub fn new(value: T) -> Self {
+        Self::starting_at(value, 0)
+    }
+
+    // Creates an unlocked mutex whose first ticket has the number `first`.
+    pub(crate) fn starting_at(value: T, first: u64) -> Self {
+        let trace = Trace::new(first);
+        let start = (trace.watch(), first);
         TicketMutex {
-            cell: Cell::new(value, 0, 0, &()),
+            cell: Cell::new(value, first, trace, &start),
             strategy: Strategy::named(),
         }
     }
@@ -139,11 +157,11 @@ impl<T, R> TicketMutex<T, R> {
     pub fn lock<W: Wait>(&self, rt: &W) -> TicketMutexGuard<'_, T, R>
     where
         R: RelaxStrategy,
-        ensures { IsHolder use_of_view result }
+        ensures { IsHolder use_of_party result }
     {
-        let place = match self.queue(self.next()) {
+        let place = match self.go().take() {
             Ok(place) => place,
-            Err(found) => Loop::retry(rt, found, |next| self.queue(next)),
+            Err(going) => Loop::retry(rt, going, Going::take),
         };
         match place.enter() {
             Ok(guard) => guard,
@@ -167,17 +185,21 @@ impl<T, R> TicketMutex<T, R> {
     /// equal(&rt, lock.try_lock().is_none(), true);
     /// ```
     pub fn try_lock<'a>(&'a self) -> Option<TicketMutexGuard<'a, T, R>>
-        ensures { IfSome result (IsHolder use_of_view) }
+        ensures { IfSome result (IsHolder use_of_party) }
     {
-        let next = self.next();
-        let after = ticket::take(next)?;
-        let (serving, permit) = self.cell.enter().load_second::<LoadServing>();
+        let permit = self.cell.enter();
+        let (next, permit, _) = permit.load::<TryLoadNext>(Watch::nothing());
+        let (serving, permit, _) = permit.load_second::<TryLoadServing>(Watch::nothing());
         if !ticket::is_turn(serving, next) {
             permit.leave();
             return None;
         }
-        let permit = permit.attempt::<Take>(next, after).ok()?;
-        Some(Guard::new(permit.into_writer()))
+        let Some(after) = ticket::take(next) else {
+            permit.leave();
+            return None;
+        };
+        let (tried, _) = permit.attempt::<TryTake>(next, after, Watch::nothing());
+        Some(Guard::new(tried.ok()?.into_writer()))
     }
 
     /// Returns `true` if a thread held the lock, or waited for it, at some moment during this call.
@@ -194,10 +216,7 @@ impl<T, R> TicketMutex<T, R> {
     /// equal(&rt, lock.is_locked(), false);
     /// ```
     pub fn is_locked(&self) -> bool {
-        // In this order, so that tickets stood between the two numbers.
-        let (serving, permit) = self.cell.enter().load_second::<LoadServing>();
-        let next = permit.look::<Load>();
-        prove!(serving <= next);
+        let (serving, next) = self.look();
         !ticket::is_turn(serving, next)
     }
 
@@ -233,21 +252,47 @@ impl<T, R> TicketMutex<T, R> {
         self.cell.get_mut()
     }
 
-    // Returns the number of the next ticket.
-    pub(crate) fn next(&self) -> u64 {
-        self.cell.enter().look::<Load>()
+    // Makes the steps of `is_locked`. Returns the number that is served, and then the next one.
+    pub(crate) fn look(&self) -> (u64, u64)
+        ensures { result.0 ≤ result.1 }
+    {
+        // In this order, so that tickets stood between the two numbers.
+        let (serving, permit, _) = self
+            .cell
+            .enter()
+            .load_second::<LookServing>(Watch::nothing());
+        let (next, _) = permit.look::<LookNext>(Watch::nothing());
+        (serving, next)
     }
 
-    // Takes the ticket with this number. `Err` has the number that was found in its place, which is the same once the
-    // tickets are used up.
-    fn queue<'a>(&'a self, number: u64) -> Result<Place<'a, T>, u64> {
-        let after = ticket::take(number).ok_or(number)?;
-        let permit = self.cell.enter().attempt::<Take>(number, after)?;
-        Ok(Place {
-            number,
-            ahead: 0,
-            permit,
-        })
+    // Begins a call of `lock`.
+    fn go(&self) -> Going<'_, T> {
+        let (number, permit, _) = self.cell.enter().load::<LoadNext>(Watch::nothing());
+        Going { number, permit }
+    }
+}
+
+impl<'a, T> Going<'a, T> {
+    // Takes the ticket. `Err` goes for the number that was found in its place, which is the same once the tickets are
+    // used up.
+    fn take(self) -> Result<Place<'a, T>, Going<'a, T>> {
+        let Self { number, permit } = self;
+        let Some(after) = ticket::take(number) else {
+            return Err(Going { number, permit });
+        };
+        let (found, permit, _) = permit.exchange::<Take>(number, after, Watch::nothing());
+        if found == number {
+            Ok(Place {
+                number,
+                ahead: 0,
+                permit,
+            })
+        } else {
+            Err(Going {
+                number: found,
+                permit,
+            })
+        }
     }
 }
 
@@ -263,14 +308,14 @@ impl<'a, T> Place<'a, T> {
 
     // Enters if the number of the place is served.
     fn enter<R>(self) -> Result<TicketMutexGuard<'a, T, R>, Place<'a, T>>
-        ensures { IfOk result (λ guard. guard.writer.view ≡ Entered self.entry.number) }
+        ensures { IfOk result (λ guard. guard.writer.view.0 ≡ Entered self.entry.number) }
     {
         let Self {
             number,
             ahead: _,
             permit,
         } = self;
-        let (serving, permit) = permit.load_second::<LoadServing>();
+        let (serving, permit, _) = permit.load_second::<Await>(Watch::nothing());
         if ticket::is_turn(serving, number) {
             Ok(Guard::new(permit.into_writer()))
         } else {

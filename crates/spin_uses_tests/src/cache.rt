@@ -5,7 +5,7 @@ ghost use Rattle.std.specs.Str.{bytes_eq};
 ghost use Rattle.std.proofs.Common.{rules};
 
 use super::equal::equal;
-use spin_core::relax::Yield;
+use spin_core::relax::{RelaxStrategy, Yield};
 use spin_history::history::{BlankLog, History, Snapshot};
 use spin_uses::cache::logged::LoggedCache;
 use spin_uses::cache::{Answers, Cache};
@@ -14,6 +14,8 @@ use std::cell::Cell;
 use std::marker::Brand;
 use std::process::Abort;
 use std::sync::Wait;
+use std::sync::atomic::AtomicU64;
+use std::sync::atomic::Ordering::SeqCst;
 use std::thread::{Threads, join};
 
 const KEYS: u64 = 100;
@@ -103,6 +105,40 @@ fn readers_come_while_an_answer_is_made(rt: HostRuntime) {
     });
     equal(&rt, answer, Ok(16));
     equal(&rt, cache.read(&rt).answer(&4).copied(), Some(16));
+}
+
+// The square of 3 is there. Whether another thread gets it meanwhile.
+fn is_answered_meanwhile<R: Abort + Threads + Wait + Sync>(rt: &R, cache: &SquareCache) -> bool {
+    let done = AtomicU64::new(0);
+    let answer = || {
+        let answer = square(rt, cache, 3, &Cell::new(0));
+        done.store(1, SeqCst);
+        equal(rt, answer, Ok(9));
+    };
+    let look = || {
+        for _ in 0..100_000 {
+            if done.load(SeqCst) == 1 {
+                return true;
+            }
+            Yield::relax(rt);
+        }
+        // The other thread waits for this one to end.
+        equal(rt, done.load(SeqCst), 1);
+        false
+    };
+    join(rt, answer, look).1
+}
+
+// A caller that took the one upgradable place to look for an answer would wait for the maker of another.
+#[test]
+fn an_answer_is_given_while_another_is_made(rt: HostRuntime) {
+    let cache: SquareCache = Cache::new(rt.alloc());
+    equal(&rt, square(&rt, &cache, 3, &Cell::new(0)), Ok(9));
+    let answer: Result<u64, AllocError> = cache.answer(&rt, 4, |key| {
+        equal(&rt, is_answered_meanwhile(&rt, &cache), true);
+        Ok(key.wrapping_mul(*key))
+    });
+    equal(&rt, answer, Ok(16));
 }
 
 /// The name in capitals.

@@ -7,8 +7,8 @@ use spin_examples::from_rust::{
     add_from_two, add_one, add_starving, doubled, give_back, port_of, raise, set_elsewhere, take,
 };
 use spin_examples::registers::four_threads;
-use spin_examples::versions::race;
-use spin_examples::{any_lock, totals};
+use spin_examples::versions::{race, watch_one};
+use spin_examples::{any_lock, paired, totals};
 use std::thread;
 
 #[test]
@@ -68,6 +68,13 @@ fn threads_know_the_history(rt: HostRuntime) {
         totals::add_from_two(&rt, (0, u64::MAX)),
         (0, u64::MAX, u64::MAX),
     );
+}
+
+#[test]
+fn logs_need_no_file_that_names_them(rt: HostRuntime) {
+    equal(&rt, watch_one(&rt), (1, 1));
+    equal(&rt, paired::write_a_pair(&rt, (3, 5)), (3, 5));
+    equal(&rt, paired::audit_one(&rt, 7), (7, 7));
 }
 
 #[test]

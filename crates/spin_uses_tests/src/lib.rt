@@ -20,6 +20,8 @@ mod names;
 #[cfg(test)]
 mod phases;
 #[cfg(test)]
+mod registers;
+#[cfg(test)]
 mod seated;
 #[cfg(test)]
 mod seats;

@@ -1,4 +1,4 @@
-//! What no contract says: that good texts are read, what each bad line is, and that a text is read once.
+//! What no contract says: that good texts are read, what each bad line is, and that all threads see the same.
 ghost use Rattle.spin_uses.specs.Settings.{IsAnswerFor};
 
 use super::equal::equal;

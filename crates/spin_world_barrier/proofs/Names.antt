@@ -3,9 +3,9 @@ pub use Rattle.std.proofs.Common.{◌≡◌, ℕ, ◌+◌, ◌/◌, ◌%◌, ◌
 pub use Rattle.std.specs.Prelude.{max}
 pub use Rattle.spin_step.specs.Plain.{arrives, Plain, Change, apply, count_word, generation_word}
 pub use Rattle.spin_step.specs.Barriers.{may_leave, IsBarrier, is_leading, generation_at}
-pub use Rattle.spin_step.proofs.Barriers.{barrier_arrive-words, barrier_may_leave-tells, barrier_count-below, barrier_may_leave-full}
-pub use Rattle.spin_world_core.specs.declared.answer.Answer.TheVariants.{Leader, Follower}
-pub use Rattle.spin_world_core.specs.declared.place.Hold.{Hold}
+pub use Rattle.spin_step_more.proofs.Barriers.{barrier_arrive-words, barrier_may_leave-tells, barrier_count-below, barrier_may_leave-full}
+pub use Rattle.spin_model.specs.declared.answer.Answer.TheVariants.{Leader, Follower}
+pub use Rattle.spin_model.specs.declared.place.Hold.{Hold}
 pub use Rattle.spin_world_barrier.specs.declared.barrier.BarrierWords.{BarrierWords}
 pub use Rattle.spin_world_barrier.specs.declared.barrier.BarrierCall.{BarrierCall}
 pub use Rattle.spin_world_barrier.specs.declared.barrier.BarrierPoint.{BarrierPoint}

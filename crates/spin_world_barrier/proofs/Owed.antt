@@ -3,8 +3,8 @@ use Rattle.spin_world_barrier.proofs.Names.{◌≡◌, ℕ, ◌+◌, ◌/◌, �
 use Rattle.std.proofs.Math.Bool.{and-false}
 use Rattle.std.proofs.Math.Nat.{mod-le, div-le_self}
 use Rattle.spin_step.specs.Parties.{apply_some}
-use Rattle.spin_world_core.specs.StepKinds.{StepKind, plain, look}
-use Rattle.spin_world_core.specs.Calls.{BelongsTo, Mark, follows, AnyOf, Arrives}
+use Rattle.spin_model.specs.StepKinds.{StepKind, plain, look}
+use Rattle.spin_model.specs.Calls.{BelongsTo, Mark, follows, AnyOf, Arrives}
 use Rattle.spin_world_barrier.specs.Kind.{barrier}
 use Rattle.spin_step.specs.Steps.{bit}
 use Rattle.spin_world_core.proofs.Facts.{LocalInvariant, Facts}

@@ -2,19 +2,19 @@
 use Rattle.std.specs.Prelude.{ℕ, Bool, false, not, Option, Some, None, ◌==◌, nat_lt, max}
 use Rattle.spin_step.specs.Plain.{arrives}
 use Rattle.spin_step.specs.Barriers.{arrived}
-use Rattle.spin_world_core.specs.declared.place.Hold.{Hold}
-use Rattle.spin_world_core.specs.declared.object.Next.TheVariants.{Continue, Answers}
-use Rattle.spin_world_core.specs.declared.answer.Answer.{Answer}
-use Rattle.spin_world_core.specs.declared.answer.Answer.TheVariants.{Leader, Follower}
+use Rattle.spin_model.specs.declared.place.Hold.{Hold}
+use Rattle.spin_model.specs.declared.step.Next.TheVariants.{Continue, Answers}
+use Rattle.spin_model.specs.declared.answer.Answer.{Answer}
+use Rattle.spin_model.specs.declared.answer.Answer.TheVariants.{Leader, Follower}
 use Rattle.spin_world_barrier.specs.declared.barrier.BarrierWords.{BarrierWords}
 use Rattle.spin_world_barrier.specs.declared.barrier.BarrierCall.{BarrierCall}
 use Rattle.spin_world_barrier.specs.declared.barrier.BarrierPoint.{BarrierPoint}
 use Rattle.spin_world_barrier.specs.declared.barrier.BarrierPoint.TheVariants.{Arrive, Leave}
-use Rattle.spin_world_core.specs.Calls.{meets}
+use Rattle.spin_model.specs.Calls.{meets}
 use Rattle.spin_world_barrier.specs.Kind.{barrier}
-use Rattle.spin_world_core.specs.Machines.{Machine}
-use Rattle.spin_world_core.specs.Acts.{Memory, two_numbers, Act, load_if, section, either, Table, machine_of}
-use Rattle.spin_world_core.specs.Tables.{usual_table}
+use Rattle.spin_model.specs.Machines.{Machine}
+use Rattle.spin_model.specs.Acts.{Memory, two_numbers, Act, load_if, section, either, Table, machine_of}
+use Rattle.spin_model.specs.Tables.{usual_table}
 
 -- the words after one more arrival at a barrier whose groups have n, and whether that one leads
 abbrev pub arrive : ℕ → BarrierWords → BarrierWords

@@ -2,16 +2,16 @@
 use Rattle.std.specs.Prelude.{◌≡◌, ℕ, ◌+◌, ◌/◌, ◌%◌, ◌^◌, ◌↔◌, Bool, true, false, Option, Some, None, List, [], ◌∷◌, max, slice_get}
 use Rattle.spin_step.specs.Plain.{Change, arrives}
 use Rattle.spin_step.specs.Barriers.{may_leave}
-use Rattle.spin_world_core.specs.declared.answer.Answer.TheVariants.{Leader, Follower}
-use Rattle.spin_world_core.specs.declared.place.Hold.{Hold}
-use Rattle.spin_world_core.specs.declared.place.Seat.TheVariants.{Calling}
-use Rattle.spin_world_core.specs.declared.schedule.Move.{Move}
-use Rattle.spin_world_core.specs.declared.schedule.Move.TheVariants.{Step}
-use Rattle.spin_world_core.specs.declared.schedule.Outcome.TheVariants.{Answered}
+use Rattle.spin_model.specs.declared.answer.Answer.TheVariants.{Leader, Follower}
+use Rattle.spin_model.specs.declared.place.Hold.{Hold}
+use Rattle.spin_model.specs.declared.place.Seat.TheVariants.{Calling}
+use Rattle.spin_model.specs.declared.schedule.Move.{Move}
+use Rattle.spin_model.specs.declared.schedule.Move.TheVariants.{Step}
+use Rattle.spin_model.specs.declared.schedule.Outcome.TheVariants.{Answered}
 use Rattle.spin_world_barrier.specs.declared.barrier.BarrierWords.{BarrierWords}
 use Rattle.spin_world_barrier.specs.declared.barrier.BarrierCall.{BarrierCall}
 use Rattle.spin_world_barrier.specs.declared.barrier.BarrierPoint.{BarrierPoint}
-use Rattle.spin_world_core.specs.Schedules.{after, at_first}
+use Rattle.spin_model.specs.Schedules.{after, at_first}
 use Rattle.spin_world_core.specs.Runs.{Seen, scene, opening, own}
 use Rattle.spin_world_core.specs.Undisturbed.{arrived}
 use Rattle.spin_world_core.specs.Users.{seen_after, outcome_after, passes, steps_made}

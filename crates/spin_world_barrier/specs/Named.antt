@@ -1,12 +1,13 @@
 -- What a barrier is: how it opens, the size of its groups, and what its call asks. Where the call begins follows from what it asks.
 use Rattle.std.specs.Prelude.{◌≡◌, ℕ, false, Option, None, [], ◌∷◌}
-use Rattle.spin_world_core.specs.declared.place.Hold.{Hold}
-use Rattle.spin_world_core.specs.declared.answer.Answer.{Answer}
+use Rattle.spin_model.specs.declared.place.Hold.{Hold}
+use Rattle.spin_model.specs.declared.answer.Answer.{Answer}
 use Rattle.spin_world_barrier.specs.declared.barrier.BarrierWords.{BarrierWords}
 use Rattle.spin_world_barrier.specs.declared.barrier.BarrierCall.TheVariants.{Wait}
-use Rattle.spin_world_core.specs.Calls.{meets, says_of}
+use Rattle.spin_model.specs.Calls.{meets, says_of}
 use Rattle.spin_world_barrier.specs.Kind.{barrier}
 use Rattle.spin_world_barrier.specs.Barrier.{BarrierMachine}
+use Rattle.spin_world_core.specs.Kinds.{HasCalls}
 
 -- groups of n
 pub record IsBarrierOf (n : ℕ) (m : BarrierMachine) : Type 0 where
@@ -21,3 +22,4 @@ pub record IsBarrierOf (n : ℕ) (m : BarrierMachine) : Type 0 where
   pub owned : m.owned ≡ false
   pub wait : (h : Option Hold) → m.asks Wait h ≡ meets
   pub says : (a : Answer ℕ) → m.says a ≡ says_of a
+  pub calls : HasCalls m.lock_kind (meets ∷ [])

@@ -1,16 +1,16 @@
 -- Barriers that are wrong, each in one part of its machine, and schedules on which the laws refuse them.
 use Rattle.std.specs.Prelude.{ℕ, ◌==◌, ◌&&◌, Some, None, [], ◌∷◌, ◌+◌}
-use Rattle.spin_world_core.specs.declared.object.Next.TheVariants.{Continue, Answers}
-use Rattle.spin_world_core.specs.declared.object.Next.{Next}
-use Rattle.spin_world_core.specs.declared.answer.Answer.{Answer}
-use Rattle.spin_world_core.specs.declared.answer.Answer.TheVariants.{Leader, Follower}
+use Rattle.spin_model.specs.declared.step.Next.TheVariants.{Continue, Answers}
+use Rattle.spin_model.specs.declared.step.Next.{Next}
+use Rattle.spin_model.specs.declared.answer.Answer.{Answer}
+use Rattle.spin_model.specs.declared.answer.Answer.TheVariants.{Leader, Follower}
 use Rattle.spin_world_barrier.specs.declared.barrier.BarrierWords.{BarrierWords}
 use Rattle.spin_world_barrier.specs.declared.barrier.BarrierCall.TheVariants.{Wait}
 use Rattle.spin_world_barrier.specs.declared.barrier.BarrierPoint.{BarrierPoint}
 use Rattle.spin_world_barrier.specs.declared.barrier.BarrierPoint.TheVariants.{Arrive, Leave}
-use Rattle.spin_world_core.specs.declared.schedule.Move.TheVariants.{Begin, Step, Weak}
-use Rattle.spin_world_core.specs.Calls.{waits_for_value}
-use Rattle.spin_world_core.specs.Acts.{either, stays}
+use Rattle.spin_model.specs.declared.schedule.Move.TheVariants.{Begin, Step, Weak}
+use Rattle.spin_model.specs.Calls.{waits_for_value}
+use Rattle.spin_model.specs.Acts.{either, stays}
 use Rattle.spin_world_barrier.specs.Barrier.{BarrierMachine, arrive, leads, is_past, barrier_machine}
 use Rattle.spin_world_barrier.specs.Groups.{Entries}
 

@@ -1,11 +1,11 @@
 //! The barrier, as a table of the steps of its call. Begin with [`BarrierObject::new`] and [`BarrierCall`].
 ghost use Rattle.std.specs.Prelude.{◌≡◌, true};
-ghost use Rattle.spin_world_core.specs.Acts.{step_by, can_by};
+ghost use Rattle.spin_model.specs.Acts.{step_by, can_by};
 ghost use Rattle.spin_world_barrier.specs.Barrier.{barrier_memory, word_of, act_of, barrier_machine};
 ghost use Rattle.spin_world_barrier.specs.Named.{IsBarrierOf};
 
-use spin_step::barrier;
-use spin_step::barrier::State;
+use spin_step_more::barrier;
+use spin_step_more::barrier::State;
 use spin_world_core::{Answer, Hold, Next, Object, Stepped};
 
 /// The two words of a [`BarrierObject`].

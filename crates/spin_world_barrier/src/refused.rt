@@ -1,6 +1,6 @@
 //! Wrong barriers, each with a law that it breaks, most on a named schedule. They show what the laws keep out. Begin
 //! with [`the_first_of_a_group_follows`].
-ghost use Rattle.spin_world_core.specs.Operations.{Stepwise};
+ghost use Rattle.spin_model.specs.Operations.{Stepwise};
 ghost use Rattle.spin_world_core.specs.Runs.{KeepsAll, MomentsAll, CountsAll};
 ghost use Rattle.spin_world_barrier.specs.Groups.{InGroups, FollowersLeave};
 ghost use Rattle.spin_world_barrier.specs.Named.{IsBarrierOf};

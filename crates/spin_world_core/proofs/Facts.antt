@@ -1,7 +1,7 @@
 -- What an object shows of itself: local facts, without a word of schedules.
 use Rattle.spin_world_core.proofs.Names.{◌≡◌, ℕ, zero, suc, ◌<◌, ◌≤◌, true, false, ◌||◌, Option, Some, None, List, [], ◌∷◌, Plain, Ask, Change, completes, is_open, is_empty, apply_some, IsOpenStep, entries, is_held, IsExclusive, Hold, Seat, Calling, Next, Continue, Answers, Stepped, Move, Step, Weak, StepKind, is_again, by_step, tries, encoded, BelongsTo, Said, own_steps, Mark, AnyOf, limit, may_be_weak, before_weakly, Gets, MayTryOn, is_open_now, steps_alone, Machine, opening_plain, Stepwise, placed, HasPhase, Gives, mark_of, if_completed, entries_held, is_writer, own, failures, changes, IsBeginning, RightAnswer, EndsWithin, ContinuesWithin}
-use Rattle.spin_world_core.specs.declared.schedule.Outcome.TheVariants as outcome
-use Rattle.spin_world_core.specs.StepKinds as step_kind
+use Rattle.spin_model.specs.declared.schedule.Outcome.TheVariants as outcome
+use Rattle.spin_model.specs.StepKinds as step_kind
 
 -- an object's local invariant: a shape of the plain lock and the value, and what a party in a call knows of its span
 pub record LocalInvariant (V C L : Type 0) : Type 1 where

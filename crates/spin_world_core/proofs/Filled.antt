@@ -1,6 +1,6 @@
 -- An object whose closures make its value: what its table owes, and that it then shows all local facts.
 use Rattle.spin_world_core.proofs.Names.{◌≡◌, ℕ, zero, suc, Bool, true, false, is_some, Option, Some, None, List, ◌∷◌, sym, ◌∙◌, arith, false≢true, Plain, Phase, Change, completes, is_complete, apply_some, IsOpenStep, entries, is_held, Answer, Hold, Next, Continue, Answers, Stepped, Step, StepKind, by_step, encoded, says_of, Mark, may_be_weak, Machine, opening_phase, placed, mark_of, if_completed, is_writer, Memory, Act, store, step_by, change_at, change_by, makes_by, is_completion, step_kind_by, Table, machine_of, completes_by, brought, filled, machine_with, steps_alone}
-use Rattle.spin_world_core.specs.declared.answer.Answer.TheVariants.{Value}
+use Rattle.spin_model.specs.declared.answer.Answer.TheVariants.{Value}
 use Rattle.spin_world_core.proofs.Facts.{LocalInvariant, AnswersWithin, InCall, NextIs, NextGives, StepIs, PointFacts, Facts}
 use Rattle.spin_world_core.proofs.Operating.{change_is, open_filled, counted_filled, stepwise_with}
 use Rattle.spin_world_core.proofs.Shapes.{Notes, row_of, KnowsRow, keeping_of, answers_by, Pays}

@@ -1,6 +1,6 @@
 -- What a party finds under one guard stays as it is.
 use Rattle.spin_world_core.proofs.Names.{slice_get_within, ◌≡◌, ℕ, ◌==◌, ◌||◌, Bool, true, false, not, Option, Some, None, List, [], ◌∷◌, ◌++◌, map, slice_get, slice_set, refl, arith, ap, sym, ◌∙◌, subst, list_all, option_map, and_parts, true≢false, false≢true, slice_get-map, Plain, Change, completes, entries, is_held, Hold, Seat, Calling, Holding, Leaked, Gone, Next, Continue, Answers, Move, Step, Weak, Read, OwnerSet, StepKind, plain, weak, by_step, Mark, Machine, State, moves_at, goes_on, placed, resting, may_read, may_write, yields_to_owner, seen_by_owner, owner_writes, Seen, Scene, scene, scene_at, scene_of, if_completed, StandsFor, is_reader, is_writer, opening, seen_after, is_quiet_move, is_quiet, ReadsAgreeAcross, ReadsAgree}
-use Rattle.spin_world_core.specs.declared.schedule.Outcome.TheVariants as outcome
+use Rattle.spin_model.specs.declared.schedule.Outcome.TheVariants as outcome
 use Rattle.spin_world_core.proofs.Lists.{eqb_self, get-set}
 use Rattle.spin_world_core.proofs.Facts.{LocalInvariant, KnowsAt, Facts}
 use Rattle.spin_world_core.proofs.Events.{seat_with, of_event}

@@ -1,5 +1,5 @@
 -- An object that shows its local facts is lawful.
-use Rattle.spin_world_core.specs.Machines.{Machine}
+use Rattle.spin_model.specs.Machines.{Machine}
 use Rattle.spin_world_core.specs.Lawful.{Lawful}
 use Rattle.spin_world_core.proofs.Facts.{LocalInvariant, Facts}
 use Rattle.spin_world_core.proofs.Every.{can_of, keeps_of, moments_of, counts_of}

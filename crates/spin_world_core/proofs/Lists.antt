@@ -1,18 +1,11 @@
 -- Lists that are read and written by place.
 use Rattle.std.proofs.Common.{◌≡◌, ℕ, zero, suc, pred, ◌+◌, ◌<◌, ◌==◌, true, Option, Some, None, List, [], ◌∷◌, ◌++◌, length, get_or, take, replicate, slice_get, slice_set, refl, ap, sym, ◌∙◌, arith, add-one}
 use Rattle.std.proofs.lemmas.Bool.{eq-eqb}
-use Rattle.std.proofs.lemmas.Option.{slice_get_within}
+use Rattle.spin_model.proofs.Lists.{get-set_within}
 use Rattle.std.proofs.Math.Seq.{take-suc}
 
 pub eqb_self : (p : ℕ) → (p == p) ≡ true
 eqb_self p = eq-eqb p p refl
-
-pub get-set_within : {X : Type 0} (xs : List X) (p : ℕ) (x : X) → p < length xs → slice_get (slice_set xs p x) p ≡ Some x
-get-set_within [] p x lt = absurd (omega arith)
-get-set_within (z ∷ xs) p x lt = grind (arith, get-set_within xs (pred p) x)
-
-pub get-set_same : {X : Type 0} (xs : List X) (p : ℕ) (x y : X) → slice_get xs p ≡ Some y → slice_get (slice_set xs p x) p ≡ Some x
-get-set_same xs p x y e = get-set_within xs p x (slice_get_within xs p y e)
 
 pub get-set_other : {X : Type 0} (xs : List X) (p q : ℕ) (x : X) → (p ≡ q → ⊥) → slice_get (slice_set xs p x) q ≡ slice_get xs q
 get-set_other [] p q x ne = refl

@@ -1,11 +1,11 @@
 -- What shows that a lock is wrong: the parts of a claim that fail, four steps of a party that nobody disturbs, and a step that no one operation is.
 use Rattle.std.proofs.Common.{◌≡◌, ℕ, zero, ◌+◌, ◌-◌, ◌<◌, ◌⊎◌, true, false, List, [], ◌∷◌, ◌++◌, slice_set, get_or, refl, subst, arith, ⊎_elim}
 use Rattle.std.proofs.lemmas.Bool.{true≢false}
-use Rattle.spin_world_core.specs.StepKinds.{is_weak}
-use Rattle.spin_world_core.specs.Calls.{LockKind, Asked, Mark}
+use Rattle.spin_model.specs.StepKinds.{is_weak}
+use Rattle.spin_model.specs.Calls.{LockKind, Asked, Mark}
 use Rattle.spin_world_core.specs.Spans.{own_count}
 use Rattle.spin_world_core.specs.Undisturbed.{is_open_now, Leaves, AllOf, UndisturbedTakes}
-use Rattle.spin_world_core.specs.Operations.{Operation, exchanges, adds, subtracts, sets_lowest_bit, stores, performed}
+use Rattle.spin_model.specs.Operations.{Operation, exchanges, adds, subtracts, sets_lowest_bit, stores, performed}
 
 -- what is left where the first part is wrong
 pub otherwise : {X : Type 0} → (true ≡ false) ⊎ X → X

@@ -1,8 +1,8 @@
 -- What an owner's move keeps.
 use Rattle.std.proofs.Common.{pred, arith}
 use Rattle.spin_world_core.proofs.Names.{◌≡◌, ℕ, Bool, true, false, Option, Some, None, List, [], ◌∷◌, zero, suc, map, slice_get, refl, sym, ap, ◌∙◌, subst, list_all, option_map, and_from, and_parts, true≢false, slice_get-map, Plain, Hold, Seat, Calling, Leaked, OwnerGet, OwnerSet, Mark, Machine, is_owners, yields_to_owner, let_go, seen_by_owner, owner_gets, owner_sets, owner_writes, Seen, scene_of, ComesTo, StandsFor, YieldsToOwner, IsOwners}
-use Rattle.spin_world_core.specs.declared.schedule.Outcome.TheVariants as outcome
-use Rattle.spin_world_core.specs.StepKinds as step_kind
+use Rattle.spin_model.specs.declared.schedule.Outcome.TheVariants as outcome
+use Rattle.spin_model.specs.StepKinds as step_kind
 use Rattle.spin_world_core.proofs.Facts.{LocalInvariant, Facts}
 use Rattle.spin_world_core.proofs.Preserved.{OfParty, Invariant, Preserved, kept_aside}
 
@@ -62,18 +62,18 @@ module _ {W V C L A : Type 0} (m : Machine W V C L A) where
       owner_get_kept y may =
           kept_aside m k f _ (good_let_go seen.state.value seen.written good.shape good.written) (tt, tt, tt, tt, tt, tt, tt, tt, tt, tt)
           (λ r e. cc (e, good.written)) (owns may)
-          (λ e. cc (e)) may refl (refl, refl) tt (leaves_calls seen.state.seats)
+          (λ e. cc (e)) may (and_parts m.owned (list_all yields_to_owner seen.state.seats) may).0 (refl, refl) tt (leaves_calls seen.state.seats)
 
       owner_writes_kept : (v : V) (y : Seat C L) (o : Option V) → is_owners m seen.state ≡ true → seen.state.value ≡ o
           → Preserved m k (scene_of seen p (OwnerSet v) (Some y) (owner_writes seen.state v o) None step_kind.plain None)
       owner_writes_kept v y None may found =
           kept_aside m k f _ (good_let_go seen.state.value seen.written good.shape good.written) (tt, tt, tt, tt, tt, tt, tt, tt, tt, tt)
           (λ r e. cc (e, good.written, found)) (owns may)
-          (λ e. cc (e)) may refl (subst (λ old. ComesTo {C = C} {A = A} (OwnerSet v) None old seen.state.value (outcome.Value None)) (sym found)
+          (λ e. cc (e)) may (and_parts m.owned (list_all yields_to_owner seen.state.seats) may).0 (subst (λ old. ComesTo {C = C} {A = A} (OwnerSet v) None old seen.state.value (outcome.Value None)) (sym found)
           (refl, found)) tt (leaves_calls seen.state.seats)
       owner_writes_kept v y (Some old) may found =
           kept_aside m k f _ (good_let_go (Some v) (Some v) (f.shape_set seen.plain old v (subst (k.Shape seen.plain) found good.shape)) refl)
-          (tt, tt, tt, tt, tt, tt, tt, tt, tt, tt) (λ r e. absurd (cc (e))) (owns may) (λ e. cc (e)) may refl
+          (tt, tt, tt, tt, tt, tt, tt, tt, tt, tt) (λ r e. absurd (cc (e))) (owns may) (λ e. cc (e)) may (and_parts m.owned (list_all yields_to_owner seen.state.seats) may).0
           (subst (λ o. ComesTo {C = C} {A = A} (OwnerSet v) None o (Some v) outcome.Written) (sym found) (refl, refl)) tt (leaves_calls seen.state.seats)
 
       pub owner_set_kept : (v : V) (y : Seat C L) → is_owners m seen.state ≡ true

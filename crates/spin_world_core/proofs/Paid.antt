@@ -1,6 +1,6 @@
 -- An object that pays what its table owes shows all local facts.
 use Rattle.spin_world_core.proofs.Names.{◌≡◌, ℕ, zero, suc, ◌+◌, ◌<◌, ◌≤◌, ◌==◌, Bool, true, false, not, is_some, Option, Some, None, List, [], ◌∷◌, ◌++◌, option_to_list, get_or, if◌then◌else◌, refl, ap, sym, ◌∙◌, subst, arith, and_parts, false≢true, true≢false, eqb-true, Plain, is_empty, Ask, Change, gets, completes, is_open, is_open_to, apply_some, IsOpenStep, entries, IsExclusive, bit, Hold, Next, Continue, Answers, Stepped, Move, Step, Weak, StepKind, plain, again, look, weak, is_again, by_step, Asked, tries, encoded, is_step_of, BelongsTo, Said, own_steps, AnyOf, Mark, first_word, Limit, limit, may_be_weak, before_weakly, arrived, is_open_next, is_open_now, steps_alone, goes_for, Way, way_of, is_due_by, LooksElse, Gets, mark_of, if_completed, entries_held, own, failures, changes, IsBeginning, RightAnswer, ContinuesWithin, number_at, Act, load, load_if, load_for, enter, exchange, weak_exchange, attempt, retry, store, section, swap, tried, guessed, either, stays, passing, becomes, retried, step_by, made_if, change_by, can_by, refusal_by, makes_by, is_waiting, look_kind, step_kind_by, Table, begin_of, machine_of, performed, placed, HasPhase}
-use Rattle.spin_world_core.specs.declared.schedule.Outcome.TheVariants as outcome
+use Rattle.spin_model.specs.declared.schedule.Outcome.TheVariants as outcome
 use Rattle.spin_world_core.proofs.Facts.{AnswersWithin, InCall, NextIs, NextGives, GoesOnOpen, ContinuesCounted, PointFacts, Facts}
 use Rattle.spin_world_core.proofs.Operating.{made_named, fits_change, fits_made, counted_of, stepwise_of}
 use Rattle.spin_world_core.proofs.Spans.{own-mine, retries-mine}

@@ -1,8 +1,9 @@
 -- One event keeps all that is promised, of any object that shows its local facts.
 use Rattle.spin_world_core.proofs.Names.{slice_get_within, ◌≡◌, ℕ, ◌<◌, ◌≤◌, ◌==◌, Bool, true, false, Option, Some, None, List, [], ◌∷◌, ◌++◌, suc, if◌then◌else◌, is_some, slice_get, slice_set, refl, ap, sym, ◌∙◌, subst, arith, ne_eqb, true≢false, false≢true, Plain, Ask, Change, apply_some, IsOpenStep, Entries, entries, IsExclusive, entries-other, entries-own, exclusive-kept, Hold, Seat, Calling, Holding, Leaked, Next, Continue, Answers, Move, Begin, Step, Weak, Read, Write, Leak, Outcome, StepKind, is_again, is_weak, by_step, encoded, BelongsTo, tries, Mark, Machine, State, skipped, seated, begun, goes_on, placed, resting, read_by, written_by, may_read, may_write, InItsCall, LeavesCalls, Seen, Scene, scene_at, scene_of, mark_of, own, own_count, failures, changes, if_completed, is_open_move, entries_of, entries_held, entries_so_far, StandsFor, is_reader, is_writer, MayTouch, MaySkip, is_in_place, ComesTo, IsWeakCall, StepLeaves, OwnSteps, asked, Keeps, IsRight, InTime, IsCounted, IsInTime, UndisturbedTakes, AnsweredSoon, Gets, GetsWhenDue, TriesOn}
-use Rattle.spin_world_core.specs.declared.schedule.Outcome.TheVariants as outcome
-use Rattle.spin_world_core.specs.StepKinds as step_kind
-use Rattle.spin_world_core.proofs.Lists.{get-set, get-set_same, get-set_other, eqb_self}
+use Rattle.spin_model.specs.declared.schedule.Outcome.TheVariants as outcome
+use Rattle.spin_model.specs.StepKinds as step_kind
+use Rattle.spin_model.proofs.Lists.{get-set_same}
+use Rattle.spin_world_core.proofs.Lists.{get-set, get-set_other, eqb_self}
 use Rattle.spin_world_core.proofs.Spans.{retries-mine, retries-other}
 use Rattle.spin_world_core.proofs.Facts.{LocalInvariant, KnowsAt, InCall, NextIs, AnswersWithin, GoesOnOpen, ContinuesCounted, PointFacts, Facts}
 use Rattle.spin_world_core.proofs.Undisturbed.{RunsOn, GoesWithin, LeftBy, stepped, beside, runs_fresh, more_left}
@@ -106,7 +107,7 @@ module _ {W V C L A : Type 0} (m : Machine W V C L A) (k : LocalInvariant V C L)
     -- what is promised of an event that isn't skipped, from what holds after it
     keeps_from : (s : Scene W V C L A) → Invariant s.after → IsOpenStep s.before.plain s.party s.change → BelongsTo m.lock_kind s.change
         → ((r : Option V) → s.outcome ≡ outcome.Value r → r ≡ s.before.written) → MayTouch s.before s.party s.outcome s.move
-        → (s.outcome ≡ outcome.Skipped → ⊥) → is_open_move m s.before.state s.move s.seat ≡ true → is_in_place s.move s.seat ≡ true
+        → (s.outcome ≡ outcome.Skipped → ⊥) → is_open_move m s.before.state s.move s.seat ≡ true → is_in_place m.owned s.move s.seat ≡ true
         → OwnSteps m s.party (s.after.span s.party) s.outcome (asked m s.seat) → ComesTo s.move s.change s.before.state.value s.after.state.value s.outcome
         → IsWeakCall s.move s.party (s.before.span s.party) (asked m s.seat) → InItsCall s.outcome s.move s.seat (slice_get s.after.state.seats s.party)
         → LeavesCalls s.party s.before s.after → Keeps m s
@@ -146,7 +147,7 @@ module _ {W V C L A : Type 0} (m : Machine W V C L A) (k : LocalInvariant V C L)
     -- any other event
     pub kept_aside : (s : Scene W V C L A) → Invariant s.after → Aside s → ((r : Option V) → s.outcome ≡ outcome.Value r → r ≡ s.before.written)
         → MayTouch s.before s.party s.outcome s.move → (s.outcome ≡ outcome.Skipped → ⊥) → is_open_move m s.before.state s.move s.seat ≡ true
-        → is_in_place s.move s.seat ≡ true → ComesTo s.move s.change s.before.state.value s.after.state.value s.outcome
+        → is_in_place m.owned s.move s.seat ≡ true → ComesTo s.move s.change s.before.state.value s.after.state.value s.outcome
         → InItsCall s.outcome s.move s.seat (slice_get s.after.state.seats s.party) → LeavesCalls s.party s.before s.after → Preserved s
     kept_aside s good aside reads touches happened is_open placed comes in_call calls =
         record {
@@ -265,7 +266,7 @@ module _ {W V C L A : Type 0} (m : Machine W V C L A) (k : LocalInvariant V C L)
             → NextIs m k move p c h (apply_some seen.plain step) (spanned step r) next
             → (is_again r ≡ true → step ≡ None → failures p (seen.span p) < changes m.lock_kind p (seen.span p))
             → (is_weak r ≡ false → (j : ℕ) → AnswersWithin m (suc j) seen.state.words c l h → GoesWithin m j w c h next)
-            → is_open_move m seen.state move (Some (Calling c l h)) ≡ true → is_in_place {V = V} {L = L} move (Some (Calling c l h)) ≡ true
+            → is_open_move m seen.state move (Some (Calling c l h)) ≡ true → is_in_place {V = V} {L = L} m.owned move (Some (Calling c l h)) ≡ true
             → IsWeakCall move p (seen.span p) (Some (m.asks c h))
             → Timed move step r v (goes_on (record seen.state { words = w; value = v }) p c h next).outcome
             → Preserved (scene_of seen p move (Some (Calling c l h)) (goes_on (record seen.state { words = w; value = v }) p c h next) step r value)

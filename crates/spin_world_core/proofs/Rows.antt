@@ -1,6 +1,6 @@
 -- What a party in a call knows of itself and of its span, and that its own steps and those of others keep it.
 use Rattle.spin_world_core.proofs.Names.{◌≡◌, ℕ, suc, ◌+◌, ◌≤◌, ◌⊎◌, ◌==◌, Bool, true, false, not, ◌&&◌, ◌||◌, is_some, Option, Some, None, List, [], ◌∷◌, ◌++◌, option_to_list, nat_lt, if◌then◌else◌, refl, ◌∙◌, arith, inl, inr, ⊎_elim, Plain, upgradable, writing, Ask, to_lock_unregistered, to_lock_starving, to_begin, Change, gets, turns, completes, fails, arrives, is_open, is_open_to, apply_some, IsOpenStep, entries, is_held, bit, entries-other, Hold, Upgradable, StepKind, is_again, is_look, LockKind, Asked, waits, waits_or_starves, tries, tries_weakly, tries_to_know, looks, counts_readers, counts_writers, turns_to, gives_back, initializes, fails_to_initialize, waits_for_value, polls, looks_for_value, looks_complete, meets, Said, granted, refused, done, tells, counted, gives_value, failed, leads, grant, let_go_of, own_steps, Mark, AnyOf, Grants, HasMoment, HasWeakMoment, FindsClosed, first_word, Limit, within, within_changes, gets_within, changes_within, registers_after, limit, mark_of, own, own_count, failures, changes, RegistersInTime, EndsWithin, ContinuesWithin, goes_for, is_due, Way, by_looks, past_looks, way_of, MayTryOn, Act, load, load_if, load_for, attempt, retry}
-use Rattle.spin_world_core.specs.declared.place.Hold.TheVariants.{Write}
+use Rattle.spin_model.specs.declared.place.Hold.TheVariants.{Write}
 use Rattle.spin_world_core.proofs.Lists.{eqb_self}
 use Rattle.spin_world_core.proofs.Stands.{Stand, entries_at, stand_of}
 use Rattle.spin_world_core.proofs.Spans.{nil_left, own-mine, own-other, own_count-mine, own_count-other, failures-mine, failures-other, changes-mine, changes-other}

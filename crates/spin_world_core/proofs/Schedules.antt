@@ -1,6 +1,6 @@
 -- Schedules one entry longer.
 use Rattle.spin_world_core.proofs.Names.{◌≡◌, ℕ, suc, ◌+◌, ◌≤◌, ◌==◌, ◌&&◌, Option, Some, None, List, [], ◌∷◌, ◌++◌, length, if◌then◌else◌, refl, ap, sym, arith, append_assoc, length-set, slice_get_past, append-nil, length-map, Hold, Calling, Leaked, Next, Move, Event, Machine, opening_plain, State, happens, moves_at, goes_on, placed, owner_writes, after, events_of, with_begins, last_begin, is_begun, seen_by_owner, Seen, scene, seen_after}
-use Rattle.spin_world_core.specs.declared.schedule.Outcome.TheVariants as outcome
+use Rattle.spin_model.specs.declared.schedule.Outcome.TheVariants as outcome
 use Rattle.spin_world_core.proofs.Events.{of_event}
 
 pub with_begins-append : {W V A : Type 0} (before xs ys : List (Event W V A))
@@ -18,10 +18,6 @@ last_begin-append p k found (x ∷ xs) ys =
     grind (arith, last_begin-append p (k + 1) now xs ys)
 
 module _ {W V C L A : Type 0} (m : Machine W V C L A) where
-  pub after-append : (s : State W V C L) (xs ys : List (ℕ × Move C V)) → after m s (xs ++ ys) ≡ after m (after m s xs) ys
-  after-append s [] ys = refl
-  after-append s (x ∷ xs) ys = after-append (happens m s x.0 x.1).next xs ys
-
   pub events_of-append : (s : State W V C L) (xs ys : List (ℕ × Move C V)) → events_of m s (xs ++ ys) ≡ events_of m s xs ++ events_of m (after m s xs) ys
   events_of-append s [] ys = refl
   events_of-append s (x ∷ xs) ys = grind (arith, events_of-append (happens m s x.0 x.1).next xs ys)

@@ -1,7 +1,8 @@
 -- The laws that users rely on.
 use Rattle.spin_world_core.proofs.Names.{arith, ◌≡◌, ℕ, List, [], ◌∷◌, refl, ap, sym, ◌∙◌, Move, Machine, State, after, at_first, Seen, Every, Keeps, KeepsAll, opening, scene, seen_after, FindsLastWritten, RunsJoin}
 use Rattle.spin_world_core.proofs.Every.{state-seen_after}
-use Rattle.spin_world_core.proofs.Schedules.{after-append, events_of-append}
+use Rattle.spin_model.proofs.Schedules.{after-append}
+use Rattle.spin_world_core.proofs.Schedules.{events_of-append}
 
 module _ {W V C L A : Type 0} (m : Machine W V C L A) where
   value-seen_after : (seen : Seen W V C L) (es : List (ℕ × Move C V)) → Every (Keeps m) m seen es → seen.state.value ≡ seen.written

@@ -1,6 +1,6 @@
 -- What the tables of several objects owe in the same way.
 use Rattle.spin_world_core.proofs.Names.{arith, ◌≡◌, ℕ, zero, suc, Bool, true, false, ◌||◌, [], ◌∷◌, refl, false≢true, Plain, is_empty}
-use Rattle.spin_world_core.specs.Acts.{two_numbers}
+use Rattle.spin_model.specs.Acts.{two_numbers}
 use Rattle.spin_world_core.proofs.Operating.{IsPlace}
 
 -- The words

@@ -1,11 +1,4 @@
-pub mod StepKinds
-pub mod Calls
-pub mod Begins
-pub mod Machines
-pub mod Operations
-pub mod Acts
-pub mod Tables
-pub mod Schedules
+pub mod Kinds
 pub mod Sharing
 pub mod Spans
 pub mod Undisturbed

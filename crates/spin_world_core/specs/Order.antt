@@ -2,12 +2,12 @@
 use Rattle.std.specs.Prelude.{◌≡◌, ℕ, ◌⊎◌, ◌==◌, ◌&&◌, ◌||◌, Bool, true, false, not, Option, Some, None, is_some, List, [], ◌∷◌, if◌then◌else◌}
 use Rattle.spin_step.specs.Plain.{Plain, Ask, to_write, to_upgrade_asked, to_take_and_enter, to_lock_unregistered, to_lock_starving, Change, gets, is_open_to, next_word, serving_word}
 use Rattle.spin_step.specs.Parties.{is_held}
-use Rattle.spin_world_core.specs.declared.schedule.Move.{Move}
-use Rattle.spin_world_core.specs.declared.schedule.Move.TheVariants.{Step}
-use Rattle.spin_world_core.specs.declared.schedule.Outcome.{Outcome}
-use Rattle.spin_world_core.specs.declared.schedule.Outcome.TheVariants as outcome
-use Rattle.spin_world_core.specs.StepKinds.{StepKind, is_look}
-use Rattle.spin_world_core.specs.Calls.{LockKind, Asked, waits, waits_or_starves, tries, Mark, AnyOf}
+use Rattle.spin_model.specs.declared.schedule.Move.{Move}
+use Rattle.spin_model.specs.declared.schedule.Move.TheVariants.{Step}
+use Rattle.spin_model.specs.declared.schedule.Outcome.{Outcome}
+use Rattle.spin_model.specs.declared.schedule.Outcome.TheVariants as outcome
+use Rattle.spin_model.specs.StepKinds.{StepKind, is_look}
+use Rattle.spin_model.specs.Calls.{LockKind, Asked, waits, waits_or_starves, tries, Mark, AnyOf}
 use Rattle.spin_world_core.specs.Spans.{own, own_count}
 
 -- what a call that waits for its turn without a look goes for, by the plain steps that it has made. A call that comes to read or to a queue looks first

@@ -3,23 +3,23 @@ use Rattle.std.specs.Prelude.{◌≡◌, ℕ, ◌+◌, ◌<◌, ◌≤◌, ◌�
 use Rattle.std.specs.List.{list_any}
 use Rattle.spin_step.specs.Plain.{Plain, reading, upgradable, writing, same_kind, Change, completes, is_open, holder, ticket, is_empty}
 use Rattle.spin_step.specs.Parties.{apply_some, IsOpenStep, Entries, entries, no_entries, entries_after, is_held, IsExclusive}
-use Rattle.spin_world_core.specs.declared.place.Hold.{Hold}
-use Rattle.spin_world_core.specs.declared.place.Hold.TheVariants as hold
-use Rattle.spin_world_core.specs.declared.place.Seat.{Seat}
-use Rattle.spin_world_core.specs.declared.place.Seat.TheVariants.{Idle, Calling, Holding, Leaked, Gone}
-use Rattle.spin_world_core.specs.declared.schedule.Move.{Move}
-use Rattle.spin_world_core.specs.declared.schedule.Move.TheVariants.{Begin, Step, Weak, Read, Write, Leak, OwnerGet, OwnerSet}
-use Rattle.spin_world_core.specs.declared.schedule.Outcome.{Outcome}
-use Rattle.spin_world_core.specs.declared.schedule.Outcome.TheVariants as outcome
-use Rattle.spin_world_core.specs.StepKinds.{StepKind, is_again, is_look, by_step}
-use Rattle.spin_world_core.specs.StepKinds as step_kind
-use Rattle.spin_world_core.specs.Calls.{LockKind, encoded, BelongsTo, Asked, Said, own_steps, Mark, AnyOf, HasMoment, HasWeakMoment, Limit, unlimited, within, within_changes, gets_within, changes_within, registers_after, FindsClosed, Registers, TriesToStarve, limit, may_be_weak, before_weakly}
-use Rattle.spin_world_core.specs.Begins.{fits}
+use Rattle.spin_model.specs.declared.place.Hold.{Hold}
+use Rattle.spin_model.specs.declared.place.Hold.TheVariants as hold
+use Rattle.spin_model.specs.declared.place.Seat.{Seat}
+use Rattle.spin_model.specs.declared.place.Seat.TheVariants.{Idle, Calling, Holding, Leaked, Gone}
+use Rattle.spin_model.specs.declared.schedule.Move.{Move}
+use Rattle.spin_model.specs.declared.schedule.Move.TheVariants.{Begin, Step, Weak, Read, Write, Leak, OwnerGet, OwnerSet}
+use Rattle.spin_model.specs.declared.schedule.Outcome.{Outcome}
+use Rattle.spin_model.specs.declared.schedule.Outcome.TheVariants as outcome
+use Rattle.spin_model.specs.StepKinds.{StepKind, is_again, is_look, by_step}
+use Rattle.spin_model.specs.StepKinds as step_kind
+use Rattle.spin_model.specs.Calls.{LockKind, encoded, BelongsTo, Asked, Said, own_steps, Mark, AnyOf, HasMoment, HasWeakMoment, Limit, unlimited, within, within_changes, gets_within, changes_within, registers_after, FindsClosed, Registers, TriesToStarve, limit, may_be_weak, before_weakly}
+use Rattle.spin_model.specs.Begins.{fits}
 pub use Rattle.spin_world_core.specs.Spans.{own, own_count, failures, changes, held_looks, keeps_looking, IsBeginning}
 use Rattle.spin_world_core.specs.Undisturbed.{AnsweredSoon}
 use Rattle.spin_world_core.specs.Order.{GetsWhenDue, TriesOn}
-use Rattle.spin_world_core.specs.Machines.{Machine, opening_plain}
-use Rattle.spin_world_core.specs.Schedules.{State, Happened, moves_at, at_first, after, may_read, may_write, is_owners}
+use Rattle.spin_model.specs.Machines.{Machine, opening_plain}
+use Rattle.spin_model.specs.Schedules.{State, Happened, moves_at, at_first, after, may_read, may_write, is_owners}
 
 -- A world beside the plain lock, with the value last written and, of each party's call, the steps of all calls since it began: its span so far, the latest first.
 -- Every other event leaves the plain lock as it is, so that these steps' states are all states of the span
@@ -197,20 +197,20 @@ MaySkip m seen p OwnerGet (Some seat) = m.owned ≡ true → IsOwners seen → �
 MaySkip m seen p (OwnerSet v) (Some seat) = m.owned ≡ true → IsOwners seen → ⊥
 MaySkip m seen p _ _ = Unit {0}
 
--- the place at which a move is for its party
-abbrev pub is_in_place : {V C L : Type 0} → Move C V → Option (Seat C L) → Bool
-is_in_place (Begin c) (Some Idle) = true
-is_in_place (Begin c) (Some (Holding h)) = true
-is_in_place Step (Some (Calling c l h)) = true
-is_in_place Weak (Some (Calling c l h)) = true
-is_in_place Read (Some (Holding h)) = true
-is_in_place Read (Some (Leaked h)) = true
-is_in_place (Write v) (Some (Holding h)) = true
-is_in_place (Write v) (Some (Leaked h)) = true
-is_in_place Leak (Some (Holding h)) = true
-is_in_place OwnerGet (Some seat) = true
-is_in_place (OwnerSet v) (Some seat) = true
-is_in_place _ _ = false
+-- the place at which a move is for its party; an owner moves only where there is one
+abbrev pub is_in_place : {V C L : Type 0} → Bool → Move C V → Option (Seat C L) → Bool
+is_in_place owned (Begin c) (Some Idle) = true
+is_in_place owned (Begin c) (Some (Holding h)) = true
+is_in_place owned Step (Some (Calling c l h)) = true
+is_in_place owned Weak (Some (Calling c l h)) = true
+is_in_place owned Read (Some (Holding h)) = true
+is_in_place owned Read (Some (Leaked h)) = true
+is_in_place owned (Write v) (Some (Holding h)) = true
+is_in_place owned (Write v) (Some (Leaked h)) = true
+is_in_place owned Leak (Some (Holding h)) = true
+is_in_place owned OwnerGet (Some seat) = owned
+is_in_place owned (OwnerSet v) (Some seat) = owned
+is_in_place owned _ _ = false
 
 -- what an event comes to that is not skipped, from the value before it to the one after it
 
@@ -307,7 +307,7 @@ pub record Keeps {W V C L A : Type 0} (m : Machine W V C L A) (s : Scene W V C L
   -- a call makes the steps that its answer says, and no others
   pub own : OwnSteps m s.party (s.after.span s.party) s.outcome (asked m s.seat)
   -- a party moves by where it stands: it steps in a call, looks and writes where it holds or has leaked, and no more once it is gone
-  pub in_place : (s.outcome ≡ outcome.Skipped → ⊥) → is_in_place s.move s.seat ≡ true
+  pub in_place : (s.outcome ≡ outcome.Skipped → ⊥) → is_in_place m.owned s.move s.seat ≡ true
   -- it is in the call that it began until that is answered, and no other party's move takes it on in it
   pub in_call : InItsCall s.outcome s.move s.seat (slice_get s.after.state.seats s.party)
   pub calls : LeavesCalls s.party s.before s.after

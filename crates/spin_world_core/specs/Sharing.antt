@@ -1,8 +1,8 @@
 -- Who shares the value, so that the owner does not have it, and who is gone once the owner has looked.
 use Rattle.std.specs.Prelude.{Bool, true, false, not}
-use Rattle.spin_world_core.specs.declared.place.Seat.{Seat}
-use Rattle.spin_world_core.specs.declared.place.Seat.TheVariants.{Leaked}
-use Rattle.spin_world_core.specs.Schedules.{yields_to_owner}
+use Rattle.spin_model.specs.declared.place.Seat.{Seat}
+use Rattle.spin_model.specs.declared.place.Seat.TheVariants.{Leaked}
+use Rattle.spin_model.specs.Schedules.{yields_to_owner}
 
 -- the party is in a call, or holds
 abbrev pub shares : {C L : Type 0} → Seat C L → Bool

@@ -2,10 +2,10 @@
 use Rattle.std.specs.Prelude.{◌≡◌, ℕ, ◌≤◌, ◌<◌, ◌==◌, ◌&&◌, ◌||◌, Bool, true, false, Option, Some, is_some, min, List, [], ◌∷◌, ◌++◌, if◌then◌else◌}
 use Rattle.spin_step.specs.Plain.{Plain, writing, to_upgrade, to_upgrade_asked, to_enter, to_take_and_enter, to_lock_unregistered, to_lock_starving, is_open_to, is_empty, is_first, is_holder, is_nothing, is_complete}
 use Rattle.spin_step.specs.Barriers.{may_leave, is_leading}
-use Rattle.spin_world_core.specs.declared.schedule.Outcome.{Outcome}
-use Rattle.spin_world_core.specs.declared.schedule.Outcome.TheVariants as outcome
-use Rattle.spin_world_core.specs.StepKinds.{is_weak}
-use Rattle.spin_world_core.specs.Calls.{LockKind, encoded, Asked, waits, waits_or_starves, initializes, fails_to_initialize, waits_for_value, polls, meets, Mark}
+use Rattle.spin_model.specs.declared.schedule.Outcome.{Outcome}
+use Rattle.spin_model.specs.declared.schedule.Outcome.TheVariants as outcome
+use Rattle.spin_model.specs.StepKinds.{is_weak}
+use Rattle.spin_model.specs.Calls.{LockKind, encoded, Asked, waits, waits_or_starves, initializes, fails_to_initialize, waits_for_value, polls, meets, Mark}
 use Rattle.spin_world_core.specs.Spans.{own, own_count}
 
 -- how many had arrived with the party's own arrival

@@ -1,14 +1,14 @@
 -- Values that closures make: what lies there, what is placed, and what an answer gives.
 use Rattle.std.specs.Prelude.{◌≡◌, ℕ, Bool, true, false, Option, Some, None, is_some, List}
 use Rattle.spin_step.specs.Plain.{Phase, is_complete, Change, completes}
-use Rattle.spin_world_core.specs.declared.place.Seat.{Seat}
-use Rattle.spin_world_core.specs.declared.place.Seat.TheVariants.{Calling}
-use Rattle.spin_world_core.specs.declared.schedule.Move.{Move}
-use Rattle.spin_world_core.specs.declared.schedule.Move.TheVariants.{Step, Weak}
-use Rattle.spin_world_core.specs.declared.schedule.Outcome.{Outcome}
-use Rattle.spin_world_core.specs.declared.schedule.Outcome.TheVariants as outcome
-use Rattle.spin_world_core.specs.Calls.{Said, gives_value}
-use Rattle.spin_world_core.specs.Machines.{Machine, opening_plain}
+use Rattle.spin_model.specs.declared.place.Seat.{Seat}
+use Rattle.spin_model.specs.declared.place.Seat.TheVariants.{Calling}
+use Rattle.spin_model.specs.declared.schedule.Move.{Move}
+use Rattle.spin_model.specs.declared.schedule.Move.TheVariants.{Step, Weak}
+use Rattle.spin_model.specs.declared.schedule.Outcome.{Outcome}
+use Rattle.spin_model.specs.declared.schedule.Outcome.TheVariants as outcome
+use Rattle.spin_model.specs.Calls.{Said, gives_value}
+use Rattle.spin_model.specs.Machines.{Machine, opening_plain}
 use Rattle.spin_world_core.specs.Runs.{Scene, Every, opening}
 
 -- where a closure makes the value, there is one exactly where a closure has completed

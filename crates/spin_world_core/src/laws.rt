@@ -1,8 +1,8 @@
 //! The laws that users of a lock rely on, each over every schedule. A law is the contract of a function with an empty
 //! body; begin with [`looks_find_the_last_write`].
 ghost use Rattle.std.specs.Prelude.{ℕ, List};
-ghost use Rattle.spin_world_core.specs.declared.schedule.Move.{Move};
-ghost use Rattle.spin_world_core.specs.Schedules.{State};
+ghost use Rattle.spin_model.specs.declared.schedule.Move.{Move};
+ghost use Rattle.spin_model.specs.Schedules.{State};
 ghost use Rattle.spin_world_core.specs.Users.{FindsLastWritten, RunsJoin, ReadsAgree};
 ghost use Rattle.spin_world_core.specs.Joined.{RunsAreOne};
 

@@ -4,22 +4,18 @@
 //! add a lock, read [`Object`], which says what the lock has to show.
 #![tactic(auto)]
 
-mod answer;
-mod copies;
 mod laws;
 mod object;
-mod place;
 mod schedule;
 mod table;
 mod telling;
 mod world;
 
-pub use answer::Answer;
 pub use laws::{
     looks_find_the_last_write, looks_under_one_guard_agree, runs_are_one, two_runs_are_one,
 };
-pub use object::{Next, Object, Stepped};
-pub use place::{Hold, Place, Seat};
-pub use schedule::{Event, Move, Outcome, Transcript};
+pub use object::Object;
+pub use schedule::Transcript;
+pub use spin_model::{Answer, Event, Hold, Move, Next, Outcome, Place, Seat, Stepped};
 pub use telling::{no_begins, with_begin};
 pub use world::{World, run_in_two};

@@ -1,101 +1,14 @@
-//! The moves of a schedule, and the transcript of its events. Begin with [`Move`] and [`Outcome`].
+//! The transcript of a schedule's events. Begin with [`Transcript`].
 use crate::object::Object;
+use spin_model::Event;
 use std::alloc::{Allocator, Global};
-
-/// One move of a party. A schedule is a list of parties with their moves.
-///
-/// # Examples
-/// ```
-/// const TURN: [Move<FlagCall, u64>; 6] = [
-///     Move::Begin(FlagCall::Lock),
-///     Move::Step,
-///     Move::Read,
-///     Move::Write(1),
-///     Move::Begin(FlagCall::Release),
-///     Move::Step,
-/// ];
-/// ```
-#[derive(Copy, Debug, PartialEq, Eq)]
-pub enum Move<C, V> {
-    /// Begins a call, as an idle party or as a holder. The object says which calls a party may begin.
-    Begin(C),
-    /// Takes the next step of the party's call.
-    Step,
-    /// Takes the next step of the party's call, if that is a weak exchange. It fails, whatever the word is.
-    Weak,
-    /// Reads the value, as a holder that may read. It may have leaked.
-    Read,
-    /// Replaces the value, as a holder that may write. It may have leaked.
-    Write(V),
-    /// Forgets the guard, as a holder that is in no call.
-    Leak,
-    /// Reads the value, as the owner, for whom the party only acts. The move is open to any party of the world if the
-    /// object is owned and no party holds or is in a call. After it every leaked party is gone.
-    OwnerGet,
-    /// Replaces the value, as the owner. It is open where `OwnerGet` is.
-    OwnerSet(V),
-}
-
-/// The outcome of one move.
-///
-/// # Examples
-/// ```
-/// for event in &transcript.events {
-///     if let Outcome::Skipped = event.outcome {
-///         added = added.wrapping_sub(1);
-///     }
-/// }
-/// ```
-#[derive(Copy, Debug, PartialEq, Eq)]
-pub enum Outcome<A, V> {
-    /// The move was not open to the party, or there is no such party. Nothing changed.
-    Skipped,
-    /// The call has begun. No step of it is taken yet.
-    Begun,
-    /// The step has no answer yet.
-    GoingOn,
-    /// The step ends the call with this answer.
-    Answered {
-        answer: A,
-        /// The place of the call's `Begin` in this schedule, from 0. `None`: it began before this schedule, or
-        /// [`World::act`](crate::World::act) made the move.
-        began: Option<usize>,
-    },
-    /// The value that a holder or the owner found, or `None` if there is none. `OwnerSet` has this outcome too if
-    /// there is none.
-    Value(Option<V>),
-    /// The value is replaced.
-    Written,
-    /// The party has forgotten its guard.
-    Leaked,
-}
-
-/// One entry of a transcript.
-///
-/// # Examples
-/// ```
-/// Told {
-///     party: event.party,
-///     outcome: event.outcome,
-///     numbers: numbers::<O>(event.words),
-/// }
-/// ```
-#[derive(Copy, Debug, PartialEq, Eq)]
-pub struct Event<W, V, A> {
-    /// The party that moved.
-    pub party: usize,
-    /// The outcome of its move.
-    pub outcome: Outcome<A, V>,
-    /// The words after the move.
-    pub words: W,
-}
 
 /// The events of a schedule, one for each of its entries.
 ///
 /// # Examples
 /// ```
 /// let transcript = run(world, rows.moves).expect(rt, "memory");
-/// assert!(rt; transcript.events.as_slice() == rows.events);
+/// assert!(rt; are_alike(transcript.events.as_slice(), rows.events));
 /// ```
 #[derive(Drop)]
 pub struct Transcript<O: Object, A: Allocator = Global> {

@@ -1,15 +1,15 @@
 //! A world of one object, which plays a schedule or one move. Begin with [`World::new`] and [`World::run`].
 ghost use Rattle.std.specs.Prelude.{◌≡◌, ◌≤◌, [], length, IfOk, OnOk, OnErr, vec_capacity, slice_get, option_map};
-ghost use Rattle.spin_world_core.specs.Schedules.{at_first, after, events_of, with_begins, happens, place_of};
+ghost use Rattle.spin_model.specs.Schedules.{at_first, after, events_of, with_begins, happens, place_of};
 ghost use Rattle.spin_world_core.specs.Runs.{IsReached, AfterAnyPast, CanAlways, KeepsAll, MomentsAll, CountsAll};
 ghost use Rattle.spin_world_core.specs.Values.{ValuesAll};
 ghost use Rattle.spin_world_core.specs.Transcripts.{TellsAfterAnyPast, SaysAfterAnyPast, TellsBegins};
 
 use crate::object::Object;
-use crate::place::Place;
-use crate::schedule::{Event, Move, Outcome, Transcript};
+use crate::schedule::Transcript;
 use crate::table::Table;
 use crate::telling::{forget_begins, no_begins, with_begin};
+use spin_model::{Event, Move, Outcome, Place};
 use std::alloc::{AllocError, Allocator, Global};
 use std::marker::Model;
 
@@ -38,7 +38,7 @@ pub struct World<O: Object, A: Allocator = Global> {
 
 /// Contracts see a world as its object and its state, to which some schedule leads.
 impl<O: Object, A: Allocator> Model for World<O, A> {
-    ghost use Rattle.spin_world_core.specs.Schedules.{Shown};
+    ghost use Rattle.spin_model.specs.Schedules.{Shown};
     ghost use Rattle.std.specs.Prelude.{◌≡◌, length};
     ghost use Rattle.spin_world_core.specs.Runs.{IsReached};
 
@@ -110,7 +110,10 @@ impl<O: Object, A: Allocator + Copy> World<O, A> {
     /// # Examples
     /// ```
     /// for (party, place) in places.iter().enumerate() {
-    ///     assert!(rt; world.place(party) == Some(*place), "{party}");
+    ///     assert!(rt;
+    ///         world.place(party).is_some_and(|at| at.is_like(place)),
+    ///         "{party}"
+    ///     );
     /// }
     /// assert!(rt; world.place(places.len()).is_none());
     /// ```

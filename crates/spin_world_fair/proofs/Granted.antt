@@ -1,10 +1,10 @@
 -- A party that has set the flag as a starver stands where its next step is granted, and a party that waits for it stands where it sets a clear one.
 use Rattle.spin_world_fair.proofs.Names.{◌≡◌, ℕ, ◌+◌, ◌%◌, ◌==◌, ◌⊎◌, Bool, true, not, ◌&&◌, Option, Some, List, refl, ap, sym, ◌∙◌, arith, inl, inr, ⊎_elim, eq-eqb, and_from, is_empty, fair_word, Entries, Hold, Continue, Answer, opening, is_waiting, entries_at, row_of, FairCall, FairPoint, SetFlag, Await, Unregister, asks_of, fair_table, fair_machine, IsGrantedNext, SetsAClearFlag, GoesForAClearFlag}
-use Rattle.spin_world_core.specs.declared.place.Seat.TheVariants.{Calling}
-use Rattle.spin_world_core.specs.declared.schedule.Move.{Move}
-use Rattle.spin_world_core.specs.declared.schedule.Move.TheVariants.{Step}
-use Rattle.spin_world_core.specs.Machines.{Machine}
-use Rattle.spin_world_core.specs.Schedules.{moves_at, after, at_first}
+use Rattle.spin_model.specs.declared.place.Seat.TheVariants.{Calling}
+use Rattle.spin_model.specs.declared.schedule.Move.{Move}
+use Rattle.spin_model.specs.declared.schedule.Move.TheVariants.{Step}
+use Rattle.spin_model.specs.Machines.{Machine}
+use Rattle.spin_model.specs.Schedules.{moves_at, after, at_first}
 use Rattle.spin_world_core.specs.Users.{seen_after}
 use Rattle.spin_world_core.proofs.Reached.{numbers_are, passes_some, StandsSo, calls_so}
 use Rattle.spin_world_fair.proofs.Knowledge.{flag_clear}

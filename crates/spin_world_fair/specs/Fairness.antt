@@ -2,21 +2,21 @@
 use Rattle.std.specs.Prelude.{◌≡◌, ℕ, ◌+◌, ◌%◌, ◌⊎◌, true, false, Option, Some, None, List, [], ◌∷◌, slice_get}
 use Rattle.spin_step.specs.Plain.{Plain, writing, holder, is_holder, is_starver}
 use Rattle.spin_step.specs.Parties.{Entries, entries, no_entries}
-use Rattle.spin_world_core.specs.declared.answer.Answer.{Answer}
-use Rattle.spin_world_core.specs.declared.answer.Answer.TheVariants.{Granted}
-use Rattle.spin_world_core.specs.declared.place.Hold.{Hold}
-use Rattle.spin_world_core.specs.declared.place.Seat.TheVariants.{Calling}
-use Rattle.spin_world_core.specs.declared.schedule.Move.{Move}
-use Rattle.spin_world_core.specs.declared.schedule.Move.TheVariants.{Step}
-use Rattle.spin_world_core.specs.declared.schedule.Outcome.TheVariants.{Answered}
-use Rattle.spin_world_core.specs.declared.object.Next.TheVariants.{Continue}
-use Rattle.spin_world_core.specs.Acts.{is_waiting}
-use Rattle.spin_world_core.specs.Machines.{Machine}
-use Rattle.spin_world_core.specs.Schedules.{after, at_first}
+use Rattle.spin_model.specs.declared.answer.Answer.{Answer}
+use Rattle.spin_model.specs.declared.answer.Answer.TheVariants.{Granted}
+use Rattle.spin_model.specs.declared.place.Hold.{Hold}
+use Rattle.spin_model.specs.declared.place.Seat.TheVariants.{Calling}
+use Rattle.spin_model.specs.declared.schedule.Move.{Move}
+use Rattle.spin_model.specs.declared.schedule.Move.TheVariants.{Step}
+use Rattle.spin_model.specs.declared.schedule.Outcome.TheVariants.{Answered}
+use Rattle.spin_model.specs.declared.step.Next.TheVariants.{Continue}
+use Rattle.spin_model.specs.Acts.{is_waiting}
+use Rattle.spin_model.specs.Machines.{Machine}
+use Rattle.spin_model.specs.Schedules.{after, at_first}
 use Rattle.spin_world_core.specs.Runs.{opening, scene}
 use Rattle.spin_world_core.specs.Users.{seen_after, outcome_after}
-use Rattle.spin_world_fair.specs.declared.fair.FairCall.{FairCall}
-use Rattle.spin_world_fair.specs.declared.fair.FairPoint.{FairPoint}
+use Rattle.spin_step_more.specs.declared.fair_calls.FairCall.{FairCall}
+use Rattle.spin_step_more.specs.declared.fair_calls.FairPoint.{FairPoint}
 
 -- nobody holds the lock, and nobody starves
 abbrev pub IsFree : Plain → Type 0

@@ -1,16 +1,17 @@
 -- What a fair lock is: how it opens, how many may starve, and what each of its calls asks. Where a call begins follows from what it asks.
 use Rattle.std.specs.Prelude.{◌≡◌, ℕ, true, min, Option, Some, [], ◌∷◌}
 use Rattle.spin_step.specs.Plain.{to_lock_unregistered, to_lock_starving, to_lock_starving_alone, to_starve}
-use Rattle.spin_step.specs.Starvers.{most_starvers}
-use Rattle.spin_world_core.specs.declared.place.Hold.{Hold}
-use Rattle.spin_world_core.specs.declared.place.Hold.TheVariants.{Write, Starver}
-use Rattle.spin_world_core.specs.declared.answer.Answer.{Answer}
-use Rattle.spin_world_fair.specs.declared.fair.FairCall.{FairCall}
-use Rattle.spin_world_fair.specs.declared.fair.FairCall.TheVariants.{Lock, TryLock, TryLockStarver, IsLocked, Starve, StarverTryLockFair, StarverTryLock, StarverLock, StarverDrop, Release}
-use Rattle.spin_world_fair.specs.declared.fair.FairPoint.{FairPoint}
-use Rattle.spin_world_core.specs.Calls.{waits, waits_or_starves, tries, tries_to_know, looks, gives_back, says_of}
-use Rattle.spin_world_fair.specs.Kind.{fair}
-use Rattle.spin_world_core.specs.Machines.{Machine}
+use Rattle.spin_step_more.specs.Starvers.{most_starvers}
+use Rattle.spin_model.specs.declared.place.Hold.{Hold}
+use Rattle.spin_model.specs.declared.place.Hold.TheVariants.{Write, Starver}
+use Rattle.spin_model.specs.declared.answer.Answer.{Answer}
+use Rattle.spin_step_more.specs.declared.fair_calls.FairCall.{FairCall}
+use Rattle.spin_step_more.specs.declared.fair_calls.FairCall.TheVariants.{Lock, TryLock, TryLockStarver, IsLocked, Starve, StarverTryLockFair, StarverTryLock, StarverLock, StarverDrop, Release}
+use Rattle.spin_step_more.specs.declared.fair_calls.FairPoint.{FairPoint}
+use Rattle.spin_model.specs.Calls.{waits, waits_or_starves, tries, tries_to_know, looks, gives_back, says_of}
+use Rattle.spin_step_more.specs.FairKind.{fair}
+use Rattle.spin_model.specs.Machines.{Machine}
+use Rattle.spin_world_core.specs.Kinds.{HasCalls}
 
 -- with this cap; and its `lock` registers by its next look that finds the flag set after so many
 pub record IsFairLock {V : Type 0} (given : V) (cap patience : ℕ) (m : Machine ℕ V FairCall FairPoint (Answer V)) : Type 0 where
@@ -31,3 +32,5 @@ pub record IsFairLock {V : Type 0} (given : V) (cap patience : ℕ) (m : Machine
   pub starver_drop : (h : Option Hold) → m.asks StarverDrop h ≡ gives_back (Some Starver)
   pub release : (h : Option Hold) → m.asks Release h ≡ gives_back (Some Write)
   pub says : (a : Answer V) → m.says a ≡ says_of a
+  pub calls : HasCalls m.lock_kind (waits_or_starves patience ∷ tries to_lock_unregistered ∷ tries_to_know to_lock_unregistered ∷ looks ∷ gives_back (Some Write) ∷ [])
+  pub starving : HasCalls m.lock_kind (tries to_starve ∷ tries to_lock_starving_alone ∷ tries to_lock_starving ∷ waits to_lock_starving ∷ gives_back (Some Starver) ∷ [])

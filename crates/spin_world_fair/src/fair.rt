@@ -2,74 +2,17 @@
 //!
 //! A starver is a party that has registered so as to come before all others, which are newcomers.
 ghost use Rattle.std.specs.Prelude.{◌≡◌, ◌≢◌, ◌<◌, ◌+◌, ◌-◌, ◌==◌, ◌%◌, true, is_some};
-ghost use Rattle.spin_world_core.specs.declared.object.Next.TheVariants.{Continue, Answers};
-ghost use Rattle.spin_world_core.specs.declared.answer.Answer.TheVariants.{Done};
-ghost use Rattle.spin_world_fair.specs.declared.fair.FairPoint.TheVariants.{Attempt, Register, SetFlag, Await};
-ghost use Rattle.spin_world_core.specs.Acts.{one_number, either, retried, step_by, can_by};
-ghost use Rattle.spin_step.specs.Starvers.{starve, is_set};
-ghost use Rattle.spin_world_fair.specs.Fair.{granted, rejects, looks_on, finds_no_room, registered, finds_flag_set, act_of_first, act_of, fair_machine};
+ghost use Rattle.spin_model.specs.declared.step.Next.TheVariants.{Continue, Answers};
+ghost use Rattle.spin_model.specs.declared.answer.Answer.TheVariants.{Done};
+ghost use Rattle.spin_step_more.specs.declared.fair_calls.FairPoint.TheVariants.{Attempt, Register, SetFlag, Await};
+ghost use Rattle.spin_model.specs.Acts.{one_number, either, retried, step_by, can_by};
+ghost use Rattle.spin_step_more.specs.Starvers.{starve, is_set};
+ghost use Rattle.spin_step_more.specs.FairCalls.{granted, rejects, looks_on, finds_no_room, registered, finds_flag_set, act_of_first, act_of, fair_machine};
 ghost use Rattle.spin_world_fair.specs.Named.{IsFairLock};
 
-use spin_step::fair;
-use spin_step::fair::LockRejectReason;
+use spin_step_more::fair::LockRejectReason;
+use spin_step_more::{FairCall, FairPoint, fair};
 use spin_world_core::{Answer, Hold, Next, Object, Stepped};
-
-/// A call of a [`Fair`]. [`Fair::new`] promises that each call asks what stands here.
-///
-/// # Examples
-/// ```
-/// 0 Move::Begin(FairCall::Starve) => Outcome::Begun, 0;
-/// 0 Move::Step => Outcome::GoingOn, 0;
-/// 0 Move::Step => answered!(Answer::Granted, 0), 2;
-/// ```
-#[derive(Clone, Copy, Debug, PartialEq, Eq)]
-pub enum FairCall {
-    /// Acquires the lock, in as many steps as it needs. After too many looks that find the flag set it registers as a
-    /// starver, if the cap allows.
-    Lock,
-    /// Tries to acquire the lock. It fails if a party holds it or a starver is registered.
-    TryLock,
-    /// Like `TryLock`, but its answer says which of the two refused it.
-    TryLockStarver,
-    /// Answers whether a party holds the lock.
-    IsLocked,
-    /// Tries to register as a starver. It fails only if the cap was reached at some moment of the call.
-    Starve,
-    /// Tries to acquire the lock as a starver, and ends the registration. It fails if a party holds the lock or another
-    /// starver is registered; the party stays a starver then.
-    StarverTryLockFair,
-    /// Like `StarverTryLockFair`, but fails only if a party holds the lock.
-    StarverTryLock,
-    /// Acquires the lock as a starver, in as many steps as it needs, and ends the registration.
-    StarverLock,
-    /// Ends the registration of a starver.
-    StarverDrop,
-    /// Releases the lock.
-    Release,
-}
-
-/// The point of a call: which step comes next, with what the party has found so far.
-///
-/// No example: a world keeps the points of calls, and a schedule names none.
-#[derive(Clone, Copy, Debug, PartialEq, Eq)]
-pub enum FairPoint {
-    /// The only step of a one-step call, or the exchange of `StarverTryLockFair`.
-    First,
-    /// `Lock` tries to set the flag, after so many looks that found it set.
-    Attempt(usize),
-    /// `Lock` looks at the flag, after so many looks that found it set. They are not counted past its patience.
-    Look(usize),
-    /// `Lock` or `Starve` loads the word, to register.
-    Load,
-    /// `Lock` or `Starve` registers by an exchange of this word, the one that it found.
-    Register(usize),
-    /// A starver sets the flag.
-    SetFlag,
-    /// A starver looks at the flag.
-    Await,
-    /// A starver that holds the lock leaves the starvers.
-    Unregister,
-}
 
 /// The lock of a flag and a number of starvers, which come before all newcomers.
 ///

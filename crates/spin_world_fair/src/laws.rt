@@ -1,11 +1,11 @@
 //! Laws of the fair lock. Each is the contract of a function that does nothing: a caller calls it for what it states.
 //! Begin with [`starvers_come_first`].
 ghost use Rattle.std.specs.Prelude.{◌≡◌, ◌↔◌, ℕ, List, []};
-ghost use Rattle.spin_world_core.specs.declared.schedule.Move.{Move};
-ghost use Rattle.spin_world_core.specs.Schedules.{after, at_first};
+ghost use Rattle.spin_model.specs.declared.schedule.Move.{Move};
+ghost use Rattle.spin_model.specs.Schedules.{after, at_first};
 ghost use Rattle.spin_world_core.specs.Runs.{opening};
 ghost use Rattle.spin_world_core.specs.Users.{seen_after};
-ghost use Rattle.spin_world_fair.specs.declared.fair.FairCall.{FairCall};
+ghost use Rattle.spin_step_more.specs.declared.fair_calls.FairCall.{FairCall};
 ghost use Rattle.spin_world_fair.specs.declared.fair.Fair.{Fair};
 ghost use Rattle.spin_world_fair.specs.Fairness.{IsFree, ComesAfterStarvers, IsGrantedNext, GoesForAClearFlag};
 

@@ -8,8 +8,9 @@ mod fair;
 mod laws;
 pub mod refused;
 
-pub use fair::{Fair, FairCall, FairPoint};
+pub use fair::Fair;
 pub use laws::{
     a_starver_goes_for_a_clear_flag, a_starver_with_the_flag_is_granted_next,
     a_word_is_zero_when_nobody_holds_or_starves, starvers_come_first,
 };
+pub use spin_step_more::{FairCall, FairPoint};

@@ -3,13 +3,13 @@ use Rattle.std.proofs.Common.{◌≡◌, ℕ, Bool, Option, List, [], refl, arit
 use Rattle.spin_step.specs.Plain.{Plain, writing}
 use Rattle.spin_step.proofs.Holders.{is_holder-from_entries, length-held}
 use Rattle.spin_step.proofs.Flags.{flag_lock-grants, flag_unlock-gives}
-use Rattle.spin_world_core.specs.declared.place.Hold.{Hold}
-use Rattle.spin_world_flag.specs.declared.flag.FlagCall.{FlagCall}
-use Rattle.spin_world_flag.specs.declared.flag.FlagPoint.{FlagPoint}
-use Rattle.spin_world_core.specs.Calls.{Mark}
-use Rattle.spin_world_flag.specs.Kind.{flag}
-use Rattle.spin_world_core.specs.Acts.{begin_of}
-use Rattle.spin_world_flag.specs.Flag.{asks_of, flag_table, flag_machine}
+use Rattle.spin_model.specs.declared.place.Hold.{Hold}
+use Rattle.spin_model.specs.declared.flag.FlagCall.{FlagCall}
+use Rattle.spin_model.specs.declared.flag.FlagPoint.{FlagPoint}
+use Rattle.spin_model.specs.Calls.{Mark}
+use Rattle.spin_model.specs.FlagKind.{flag}
+use Rattle.spin_model.specs.Acts.{begin_of}
+use Rattle.spin_model.specs.Flag.{asks_of, flag_table, flag_machine}
 use Rattle.spin_world_core.proofs.Facts.{LocalInvariant, Facts}
 use Rattle.spin_world_core.proofs.Rows.{starts_sound, starts}
 use Rattle.spin_world_core.proofs.Shapes.{Notes, keeping_of, OwesAt, OwesSoon, Pays}

@@ -2,14 +2,16 @@
 use Rattle.std.specs.Prelude.{◌≡◌, Bool, true, false, Option, Some, [], ◌∷◌}
 use Rattle.spin_step.specs.Plain.{to_write}
 use Rattle.spin_step.specs.Steps.{bit}
-use Rattle.spin_world_core.specs.declared.place.Hold.{Hold}
-use Rattle.spin_world_core.specs.declared.answer.Answer.{Answer}
-use Rattle.spin_world_flag.specs.declared.flag.FlagCall.{FlagCall}
-use Rattle.spin_world_flag.specs.declared.flag.FlagCall.TheVariants.{Lock, TryLock, TryLockWeak, IsLocked, Release}
-use Rattle.spin_world_flag.specs.declared.flag.FlagPoint.{FlagPoint}
-use Rattle.spin_world_core.specs.Calls.{waits, tries, tries_weakly, looks, gives_back, says_of}
-use Rattle.spin_world_flag.specs.Kind.{flag}
-use Rattle.spin_world_core.specs.Machines.{Machine}
+use Rattle.spin_model.specs.declared.place.Hold.{Hold}
+use Rattle.spin_model.specs.declared.place.Hold.TheVariants.{Write}
+use Rattle.spin_model.specs.declared.answer.Answer.{Answer}
+use Rattle.spin_model.specs.declared.flag.FlagCall.{FlagCall}
+use Rattle.spin_model.specs.declared.flag.FlagCall.TheVariants.{Lock, TryLock, TryLockWeak, IsLocked, Release}
+use Rattle.spin_model.specs.declared.flag.FlagPoint.{FlagPoint}
+use Rattle.spin_model.specs.Calls.{waits, tries, tries_weakly, looks, gives_back, says_of}
+use Rattle.spin_model.specs.FlagKind.{flag}
+use Rattle.spin_model.specs.Machines.{Machine}
+use Rattle.spin_world_core.specs.Kinds.{HasCalls, AnswersIn}
 
 pub record IsFlag {V : Type 0} (given : V) (m : Machine Bool V FlagCall FlagPoint (Answer V)) : Type 0 where
   pub lock_kind : m.lock_kind ≡ flag
@@ -23,3 +25,5 @@ pub record IsFlag {V : Type 0} (given : V) (m : Machine Bool V FlagCall FlagPoin
   pub is_locked : (h : Option Hold) → m.asks IsLocked h ≡ looks
   pub release : (h : Option Hold) → m.asks Release h ≡ gives_back h
   pub says : (a : Answer V) → m.says a ≡ says_of a
+  pub calls : HasCalls m.lock_kind (waits to_write ∷ tries to_write ∷ tries_weakly to_write ∷ looks ∷ gives_back (Some Write) ∷ [])
+  pub soon : AnswersIn m.lock_kind 2 (waits to_write)

@@ -1,50 +1,15 @@
 //! The lock of one flag, as a table of the steps of its calls. Begin with [`Flag::new`] and [`FlagCall`].
 ghost use Rattle.std.specs.Prelude.{◌≡◌, true};
 ghost use Rattle.spin_step.specs.Steps.{bit};
-ghost use Rattle.spin_world_core.specs.Acts.{becomes, step_by, can_by};
+ghost use Rattle.spin_model.specs.Acts.{becomes, step_by, can_by};
 ghost use Rattle.std.specs.Option.{option_map};
 ghost use Rattle.spin_step.specs.Flags.{lock};
-ghost use Rattle.spin_world_flag.specs.Flag.{is_set, flag_memory, granted, act_of, flag_machine};
+ghost use Rattle.spin_model.specs.Flag.{is_set, flag_memory, granted, act_of, flag_machine};
 ghost use Rattle.spin_world_flag.specs.Named.{IsFlag};
 
+use spin_model::{FlagCall, FlagPoint};
 use spin_step::flag;
 use spin_world_core::{Answer, Hold, Next, Object, Stepped};
-
-/// A call of a [`Flag`]. [`Flag::new`] promises that each call asks what stands here.
-///
-/// # Examples
-/// ```
-/// Move::Begin(FlagCall::Lock),
-/// Move::Step,
-/// Move::Read,
-/// Move::Write(1),
-/// Move::Begin(FlagCall::Release),
-/// Move::Step,
-/// ```
-#[derive(Clone, Copy, Debug, PartialEq, Eq)]
-pub enum FlagCall {
-    /// Acquires the lock, in as many steps as it needs.
-    Lock,
-    /// Tries to acquire the lock. It fails if a party holds it.
-    TryLock,
-    /// Like `TryLock`, but makes a weak exchange, which may also fail without cause.
-    TryLockWeak,
-    /// Answers whether a party holds the lock.
-    IsLocked,
-    /// Releases the lock.
-    Release,
-}
-
-/// The point of a call: which step comes next. Only `Lock` has a second one.
-///
-/// No example: a world keeps the points of calls, and a schedule names none.
-#[derive(Clone, Copy, Debug, PartialEq, Eq)]
-pub enum FlagPoint {
-    /// The first step of any call, and of each further attempt.
-    First,
-    /// The look of `Lock` at the flag, after its exchange has failed.
-    Second,
-}
 
 /// The lock of one flag, which is set while a party holds it.
 ///

@@ -7,5 +7,6 @@ mod flag;
 mod laws;
 pub mod refused;
 
-pub use flag::{Flag, FlagCall, FlagPoint};
+pub use flag::Flag;
 pub use laws::a_flag_is_clear_when_nobody_holds;
+pub use spin_model::{FlagCall, FlagPoint};

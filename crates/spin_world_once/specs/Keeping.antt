@@ -1,22 +1,22 @@
 -- What users of a `Once` rely on.
 use Rattle.std.specs.Prelude.{◌≡◌, ℕ, ◌⊎◌, Bool, true, false, ◌&&◌, Option, Some, None, is_some, List, [], ◌∷◌, ◌++◌, ◌==◌, if◌then◌else◌, slice_get}
 use Rattle.spin_step.specs.Plain.{to_begin, gets, is_complete}
-use Rattle.spin_world_core.specs.declared.answer.Answer.{Answer}
-use Rattle.spin_world_core.specs.declared.answer.Answer.TheVariants.{Value, NoValue, Failed}
-use Rattle.spin_world_core.specs.declared.place.Hold.{Hold}
-use Rattle.spin_world_core.specs.declared.place.Seat.TheVariants.{Calling}
-use Rattle.spin_world_core.specs.declared.schedule.Move.{Move}
-use Rattle.spin_world_core.specs.declared.schedule.Move.TheVariants.{Step, OwnerSet}
-use Rattle.spin_world_core.specs.declared.schedule.Outcome.TheVariants.{Answered}
-use Rattle.spin_world_once.specs.declared.once.OnceCall.{OnceCall}
-use Rattle.spin_world_once.specs.declared.once.OnceCall.TheVariants.{Get}
-use Rattle.spin_world_once.specs.declared.once.OncePoint.{OncePoint}
-use Rattle.spin_world_core.specs.Calls.{Mark, Asked, initializes, fails_to_initialize, waits_for_value, polls, looks_for_value}
-use Rattle.spin_world_core.specs.StepKinds.{is_look}
-use Rattle.spin_world_core.specs.Schedules.{State, after, at_first}
+use Rattle.spin_model.specs.declared.answer.Answer.{Answer}
+use Rattle.spin_model.specs.declared.answer.Answer.TheVariants.{Value, NoValue, Failed}
+use Rattle.spin_model.specs.declared.place.Hold.{Hold}
+use Rattle.spin_model.specs.declared.place.Seat.TheVariants.{Calling}
+use Rattle.spin_model.specs.declared.schedule.Move.{Move}
+use Rattle.spin_model.specs.declared.schedule.Move.TheVariants.{Step, OwnerSet}
+use Rattle.spin_model.specs.declared.schedule.Outcome.TheVariants.{Answered}
+use Rattle.spin_model.specs.declared.once.OnceCall.{OnceCall}
+use Rattle.spin_model.specs.declared.once.OnceCall.TheVariants.{Get}
+use Rattle.spin_model.specs.declared.once.OncePoint.{OncePoint}
+use Rattle.spin_model.specs.Calls.{Mark, Asked, initializes, fails_to_initialize, waits_for_value, polls, looks_for_value}
+use Rattle.spin_model.specs.StepKinds.{is_look}
+use Rattle.spin_model.specs.Schedules.{State, after, at_first}
 use Rattle.spin_world_core.specs.Runs.{Seen, scene, opening, own}
 use Rattle.spin_world_core.specs.Users.{seen_after, outcome_after}
-use Rattle.spin_world_once.specs.Once.{OnceMachine}
+use Rattle.spin_model.specs.Once.{OnceMachine}
 
 abbrev pub Entries : Type 0 → Type 0
 Entries V = List (ℕ × Move (OnceCall V) V)

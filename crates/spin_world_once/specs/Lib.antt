@@ -1,5 +1,3 @@
-pub mod Kind
-pub mod Once
 pub mod Wrong
 pub mod Keeping
 pub mod Named

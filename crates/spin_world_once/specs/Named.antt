@@ -1,14 +1,15 @@
 -- What a `Once` is: how it opens, what each of its calls asks, and which value it brings. Where a call begins follows from what it asks.
 use Rattle.std.specs.Prelude.{◌≡◌, ℕ, true, Option, Some, None, [], ◌∷◌}
 use Rattle.spin_step.specs.Plain.{nothing, complete}
-use Rattle.spin_world_core.specs.declared.place.Hold.{Hold}
-use Rattle.spin_world_core.specs.declared.answer.Answer.{Answer}
-use Rattle.spin_world_once.specs.declared.once.OnceCall.TheVariants.{CallOnce, TryCallOnceOk, TryCallOnceErr, InitFromRef, Wait, Poll, Get, IsCompleted}
-use Rattle.spin_world_core.specs.Calls.{initializes, fails_to_initialize, waits_for_value, polls, looks_for_value, looks_complete, says_of}
-use Rattle.spin_world_once.specs.Kind.{once}
-use Rattle.spin_world_core.specs.Machines.{opening_plain}
-use Rattle.spin_world_core.specs.Acts.{gives_of}
-use Rattle.spin_world_once.specs.Once.{OnceMachine}
+use Rattle.spin_model.specs.declared.place.Hold.{Hold}
+use Rattle.spin_model.specs.declared.answer.Answer.{Answer}
+use Rattle.spin_model.specs.declared.once.OnceCall.TheVariants.{CallOnce, TryCallOnceOk, TryCallOnceErr, InitFromRef, Wait, Poll, Get, IsCompleted}
+use Rattle.spin_model.specs.Calls.{initializes, fails_to_initialize, waits_for_value, polls, looks_for_value, looks_complete, says_of}
+use Rattle.spin_model.specs.OnceKind.{once}
+use Rattle.spin_model.specs.Machines.{opening_plain}
+use Rattle.spin_model.specs.Acts.{gives_of}
+use Rattle.spin_world_core.specs.Kinds.{HasCalls}
+use Rattle.spin_model.specs.Once.{OnceMachine}
 
 -- it is made with this value, or with none
 pub record IsOnceOf {V : Type 0} (given : Option V) (m : OnceMachine V) : Type 0 where
@@ -31,3 +32,4 @@ pub record IsOnceOf {V : Type 0} (given : Option V) (m : OnceMachine V) : Type 0
   pub says : (a : Answer V) → m.says a ≡ says_of a
   -- only the answer that is a value gives one
   pub gives : (a : Answer V) → m.gives a ≡ gives_of a
+  pub calls : HasCalls m.lock_kind (initializes ∷ fails_to_initialize ∷ waits_for_value ∷ polls ∷ looks_for_value ∷ looks_complete ∷ [])

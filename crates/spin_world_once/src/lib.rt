@@ -13,4 +13,5 @@ pub use laws::{
     a_value_is_answered_at_once, a_value_is_looked_at_where_it_is_complete, a_value_stays,
     one_closure_runs_at_a_time,
 };
-pub use once::{OnceCall, OnceObject, OncePoint};
+pub use once::OnceObject;
+pub use spin_model::{OnceCall, OncePoint};

@@ -1,57 +1,12 @@
 //! The once-only cell, as a table of the steps of its calls. Begin with [`OnceObject::new`] and [`OnceCall`].
 ghost use Rattle.std.specs.Prelude.{◌≡◌, Some, None, true};
-ghost use Rattle.spin_world_core.specs.Acts.{one_number, either, step_by, can_by, completes_by, filled, step_with};
-ghost use Rattle.spin_world_once.specs.Once.{is_there, tells, runs, ends, brings_of, act_of, once_machine};
+ghost use Rattle.spin_model.specs.Acts.{one_number, either, step_by, can_by, completes_by, filled, step_with};
+ghost use Rattle.spin_model.specs.Once.{is_there, tells, runs, ends, brings_of, act_of, once_machine};
 ghost use Rattle.spin_world_once.specs.Named.{IsOnceOf};
 
+use spin_model::{OnceCall, OncePoint};
 use spin_step::once;
 use spin_world_core::{Answer, Hold, Next, Object, Stepped};
-
-/// A call of a [`OnceObject`]. [`OnceObject::new`] promises that each call asks what stands here.
-///
-/// If there is a value, a call with a closure answers that one. If there is none, the call runs its closure, but waits
-/// while another closure runs.
-///
-/// # Examples
-/// ```
-/// 0 Move::OwnerSet(4) => Outcome::Written, 2;
-/// 0 Move::Begin(OnceCall::Get) => Outcome::Begun, 2;
-/// 0 Move::Step => answered!(Answer::Value(4), 1), 2;
-/// ```
-#[derive(Clone, Copy, Debug, PartialEq, Eq)]
-pub enum OnceCall<V> {
-    /// Runs a closure that gives this value.
-    CallOnce(V),
-    /// Runs a closure that may fail, and gives this value.
-    TryCallOnceOk(V),
-    /// Runs a closure that fails.
-    TryCallOnceErr,
-    /// Runs a closure that copies this value.
-    InitFromRef(V),
-    /// Waits for the value.
-    Wait,
-    /// Answers the value, or that there is none. While a closure runs it waits.
-    Poll,
-    /// Answers the value, or that there is none, without waiting.
-    Get,
-    /// Answers whether there is a value.
-    IsCompleted,
-}
-
-/// The point of a call: which step comes next.
-///
-/// No example: a world keeps the points of calls, and a schedule names none.
-#[derive(Clone, Copy, Debug, PartialEq, Eq)]
-pub enum OncePoint {
-    /// The first look of any call, and each further look of `Wait` and `Poll`.
-    Look,
-    /// A call with a closure begins to run it by an exchange.
-    TryBegin,
-    /// It looks until no other closure runs.
-    Await,
-    /// Its closure ends.
-    Run,
-}
 
 /// The cell that is filled once, by the first closure that gives a value.
 ///

@@ -1,23 +1,23 @@
 -- What users of a read-write lock rely on.
 use Rattle.spin_world_rw.proofs.Names.{◌≡◌, ℕ, ◌+◌, ◌==◌, ◌↔◌, Bool, true, false, Option, Some, None, List, [], ◌∷◌, ◌++◌, slice_get, ap, sym, ◌∙◌, arith, Plain, Kind, reading, upgradable, asking, writing, Change, is_holder, is_only, count_kind, rw_word, weight, apply_some, IsOpenStep, entries, IsExclusive, bit, empty_is, is_holder-own, reader_goes, one_of_each, only_asking-word, empty-word, word_of, Answer, Hold, RwCall, RwPoint, Mark, Stand, holds, holds_and_starves, entries_at, row_of}
-use Rattle.spin_step.proofs.Upgrading.{readers_only_go, alone_when_gone}
-use Rattle.spin_world_core.specs.declared.answer.Answer.TheVariants.{Granted, Done}
-use Rattle.spin_world_core.specs.declared.place.Seat.TheVariants.{Calling, Holding}
-use Rattle.spin_world_core.specs.declared.schedule.Move.{Move}
-use Rattle.spin_world_core.specs.declared.schedule.Move.TheVariants.{Step}
-use Rattle.spin_world_core.specs.declared.schedule.Outcome.TheVariants.{Answered}
-use Rattle.spin_world_core.specs.Schedules.{State, moves_at, after, at_first}
+use Rattle.spin_step_more.proofs.Upgrading.{readers_only_go, alone_when_gone}
+use Rattle.spin_model.specs.declared.answer.Answer.TheVariants.{Granted, Done}
+use Rattle.spin_model.specs.declared.place.Seat.TheVariants.{Calling, Holding}
+use Rattle.spin_model.specs.declared.schedule.Move.{Move}
+use Rattle.spin_model.specs.declared.schedule.Move.TheVariants.{Step}
+use Rattle.spin_model.specs.declared.schedule.Outcome.TheVariants.{Answered}
+use Rattle.spin_model.specs.Schedules.{State, moves_at, after, at_first}
 use Rattle.spin_world_core.specs.Runs.{Seen, scene, opening, entries_of, is_reader}
 use Rattle.spin_world_core.specs.Users.{seen_after, passes, ReadsAgreeAcross}
-use Rattle.spin_world_rw.specs.Rw.{rw_table, rw_machine}
+use Rattle.spin_step_more.specs.RwCalls.{rw_table, rw_machine}
 use Rattle.spin_world_rw.specs.Standing.{StandTogether, KeepsWritersOut, less, Downgrades, readers_gone, StaysAsking, Opens, converts}
 use Rattle.spin_world_rw.proofs.Owed.{holder_by, rw_notes, rw_keeping, rw_facts}
-use Rattle.spin_world_core.specs.Machines.{Machine}
+use Rattle.spin_model.specs.Machines.{Machine}
 use Rattle.spin_world_core.proofs.Reached.{good, numbers_are, stands, calls, passes_some, passes_all, row_passes, row_tells}
-use Rattle.spin_world_core.proofs.Lists.{get-set_same}
+use Rattle.spin_model.proofs.Lists.{get-set_same}
 use Rattle.spin_world_core.proofs.Preserved.{Invariant}
 use Rattle.spin_world_core.proofs.Every.{kept}
-use Rattle.spin_world_core.proofs.Schedules.{after-append}
+use Rattle.spin_model.proofs.Schedules.{after-append}
 use Rattle.spin_world_core.proofs.Guards.{reads_agree_across, seen_after-append}
 
 -- Who stands beside a reader that asks to upgrade

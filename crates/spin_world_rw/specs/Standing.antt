@@ -1,20 +1,20 @@
 -- What users of a read-write lock rely on: who stands beside whom, and when an upgrade opens.
 use Rattle.std.specs.Prelude.{◌≡◌, ℕ, ◌+◌, ◌<◌, ◌≤◌, ◌↔◌, Bool, true, false, Option, Some, None, List, [], ◌∷◌, ◌++◌, length, slice_get, min, max}
 use Rattle.spin_step.specs.Plain.{Plain, reading, asking, writing, to_write, to_upgrade, to_upgrade_asked, is_open_to, is_holder, count_kind, upgraders, rw_word}
-use Rattle.spin_step.specs.Readers.{reader_limit, reader_goes}
-use Rattle.spin_world_core.specs.declared.answer.Answer.{Answer}
-use Rattle.spin_world_core.specs.declared.answer.Answer.TheVariants.{Granted, Done}
-use Rattle.spin_world_core.specs.declared.place.Hold.{Hold}
-use Rattle.spin_world_core.specs.declared.place.Hold.TheVariants as hold
-use Rattle.spin_world_core.specs.declared.place.Seat.TheVariants.{Calling, Holding}
-use Rattle.spin_world_core.specs.declared.schedule.Move.{Move}
-use Rattle.spin_world_core.specs.declared.schedule.Move.TheVariants.{Step}
-use Rattle.spin_world_core.specs.declared.schedule.Outcome.TheVariants.{Answered}
-use Rattle.spin_world_rw.specs.declared.rw.RwCall.{RwCall}
-use Rattle.spin_world_rw.specs.declared.rw.RwCall.TheVariants.{TryUpgrade, TryUpgradeWeak, Upgrade, Downgrade, DowngradeToUpgradeable}
-use Rattle.spin_world_rw.specs.declared.rw.RwPoint.{RwPoint}
-use Rattle.spin_world_core.specs.Machines.{Machine}
-use Rattle.spin_world_core.specs.Schedules.{after, at_first}
+use Rattle.spin_step_more.specs.Readers.{reader_limit, reader_goes}
+use Rattle.spin_model.specs.declared.answer.Answer.{Answer}
+use Rattle.spin_model.specs.declared.answer.Answer.TheVariants.{Granted, Done}
+use Rattle.spin_model.specs.declared.place.Hold.{Hold}
+use Rattle.spin_model.specs.declared.place.Hold.TheVariants as hold
+use Rattle.spin_model.specs.declared.place.Seat.TheVariants.{Calling, Holding}
+use Rattle.spin_model.specs.declared.schedule.Move.{Move}
+use Rattle.spin_model.specs.declared.schedule.Move.TheVariants.{Step}
+use Rattle.spin_model.specs.declared.schedule.Outcome.TheVariants.{Answered}
+use Rattle.spin_step_more.specs.declared.rw_calls.RwCall.{RwCall}
+use Rattle.spin_step_more.specs.declared.rw_calls.RwCall.TheVariants.{TryUpgrade, TryUpgradeWeak, Upgrade, Downgrade, DowngradeToUpgradeable}
+use Rattle.spin_step_more.specs.declared.rw_calls.RwPoint.{RwPoint}
+use Rattle.spin_model.specs.Machines.{Machine}
+use Rattle.spin_model.specs.Schedules.{after, at_first}
 use Rattle.spin_world_core.specs.Runs.{Seen, scene, opening}
 use Rattle.spin_world_core.specs.Users.{seen_after, outcome_after, steps_made}
 

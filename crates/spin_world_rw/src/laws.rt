@@ -1,11 +1,11 @@
 //! Laws of the read-write lock. Each is the contract of a function that does nothing: a caller calls it for what it
 //! states. Begin with [`readers_stand_beside_no_writer`].
 ghost use Rattle.std.specs.Prelude.{◌≡◌, ◌↔◌, ℕ, List, []};
-ghost use Rattle.spin_world_core.specs.declared.schedule.Move.{Move};
-ghost use Rattle.spin_world_core.specs.Schedules.{after, at_first};
+ghost use Rattle.spin_model.specs.declared.schedule.Move.{Move};
+ghost use Rattle.spin_model.specs.Schedules.{after, at_first};
 ghost use Rattle.spin_world_core.specs.Runs.{opening};
 ghost use Rattle.spin_world_core.specs.Users.{seen_after, ReadsAgreeAcross};
-ghost use Rattle.spin_world_rw.specs.declared.rw.RwCall.{RwCall};
+ghost use Rattle.spin_step_more.specs.declared.rw_calls.RwCall.{RwCall};
 ghost use Rattle.spin_world_rw.specs.declared.rw.Rw.{Rw};
 ghost use Rattle.spin_world_rw.specs.Standing.{StandTogether, Downgrades, Opens, converts};
 

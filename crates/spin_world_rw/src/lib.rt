@@ -12,4 +12,5 @@ pub use laws::{
     a_downgrade_keeps_writers_out, a_word_is_zero_when_nobody_holds, an_upgrade_opens_by_releases,
     looks_agree_across_conversions, readers_stand_beside_no_writer,
 };
-pub use rw::{Rw, RwCall, RwPoint};
+pub use rw::Rw;
+pub use spin_step_more::rw_calls::{RwCall, RwPoint};

@@ -1,76 +1,14 @@
 //! The read-write lock, as a table of the steps of its calls. Begin with [`Rw::new`] and [`RwCall`].
 ghost use Rattle.std.specs.Prelude.{◌≡◌, ◌≤◌, ◌==◌, true};
-ghost use Rattle.spin_world_core.specs.Acts.{one_number, becomes, stays, step_by, can_by};
-ghost use Rattle.spin_world_core.specs.declared.object.Next.TheVariants.{Answers};
-ghost use Rattle.spin_world_core.specs.declared.answer.Answer.TheVariants.{Done};
-ghost use Rattle.spin_world_rw.specs.Rw.{granted, comes_at, act_of, rw_machine};
+ghost use Rattle.spin_model.specs.Acts.{one_number, becomes, stays, step_by, can_by};
+ghost use Rattle.spin_model.specs.declared.step.Next.TheVariants.{Answers};
+ghost use Rattle.spin_model.specs.declared.answer.Answer.TheVariants.{Done};
+ghost use Rattle.spin_step_more.specs.RwCalls.{granted, comes_at, act_of, rw_machine};
 ghost use Rattle.spin_world_rw.specs.Named.{IsRw};
 
-use spin_step::rw;
+use spin_step_more::rw;
+use spin_step_more::rw_calls::{RwCall, RwPoint};
 use spin_world_core::{Answer, Hold, Next, Object, Stepped};
-
-/// A call of an [`Rw`]. [`Rw::new`] promises that each call asks what stands here.
-///
-/// A try fails only if, at some moment of the call, what it asks is closed to the party. A weak try may also fail
-/// without cause.
-///
-/// # Examples
-/// ```
-/// (b"try_read", RwCall::TryRead),
-/// (b"read", RwCall::Read),
-/// (b"try_upgradeable_read", RwCall::TryUpgradeableRead),
-/// (b"upgradeable_read", RwCall::UpgradeableRead),
-/// (b"try_write", RwCall::TryWrite),
-/// ```
-#[derive(Clone, Copy, Debug, PartialEq, Eq)]
-pub enum RwCall {
-    /// Tries to acquire shared access. It fails beside the writer, beside a reader that asks to upgrade, or at the cap.
-    TryRead,
-    /// Acquires shared access, in as many steps as it needs.
-    Read,
-    /// Tries to acquire shared access with the right to upgrade. It also fails beside another party that has this
-    /// right.
-    TryUpgradeableRead,
-    /// Acquires shared access with the right to upgrade, in as many steps as it needs.
-    UpgradeableRead,
-    /// Tries to acquire exclusive access. It fails beside any holder.
-    TryWrite,
-    /// Like `TryWrite`, but makes a weak exchange, which may also fail without cause.
-    TryWriteWeak,
-    /// Acquires exclusive access, in as many steps as it needs.
-    Write,
-    /// Counts the readers, the upgradable one included.
-    ReaderCount,
-    /// Counts the writers.
-    WriterCount,
-    /// Tries to turn the upgradable reader into the writer. It fails beside a reader, and the party stays upgradable
-    /// then.
-    TryUpgrade,
-    /// Like `TryUpgrade`, but makes a weak exchange, which may also fail without cause.
-    TryUpgradeWeak,
-    /// Asks to turn the upgradable reader into the writer, and does so in as many steps as it needs.
-    Upgrade,
-    /// Turns the writer or the upgradable reader into a reader, in one step.
-    Downgrade,
-    /// Turns the writer into the upgradable reader, in one step.
-    DowngradeToUpgradeable,
-    /// Releases the lock, whatever the party holds.
-    Release,
-}
-
-/// The point of a call: which step comes next. Only a call that acquires shared access, or that waits to upgrade, has a
-/// second one.
-///
-/// No example: a world keeps the points of calls, and a schedule names none.
-#[derive(Clone, Copy, Debug, PartialEq, Eq)]
-pub enum RwPoint {
-    /// The first step of any call, and of each further attempt.
-    First,
-    /// The exchange of this word, which the call has found.
-    Exchange(usize),
-    /// The exchange of a reader that has asked to upgrade.
-    Asking,
-}
 
 /// The lock of readers, one upgradable reader and one writer, in one word.
 ///

@@ -4,17 +4,17 @@ use Rattle.spin_step.specs.Plain.{Plain, reading, holder, to_read, gets, release
 use Rattle.spin_step.specs.Parties.{Entries, entries}
 use Rattle.spin_step.proofs.Sums.{one_of, sum-more, sum-less}
 use Rattle.spin_step.proofs.Holders.{is_holder-from_entries, length-without_holder}
-use Rattle.spin_step.proofs.Readers.{each_reads}
+use Rattle.spin_step_more.proofs.Readers.{each_reads}
 use Rattle.spin_seats.specs.Seats.{AllRead, seats, seats_word, entered}
 use Rattle.spin_seats.proofs.Taken.{open_is, enter-grants, leave-gives}
-use Rattle.spin_world_core.specs.declared.place.Hold.{Hold}
-use Rattle.spin_world_seats.specs.declared.seats.SeatsCall.{SeatsCall}
-use Rattle.spin_world_seats.specs.declared.seats.SeatsCall.TheVariants.{TryEnter, Enter}
-use Rattle.spin_world_seats.specs.declared.seats.SeatsPoint.{SeatsPoint}
-use Rattle.spin_world_seats.specs.declared.seats.SeatsPoint.TheVariants.{Exchange}
-use Rattle.spin_world_core.specs.Calls.{Mark}
-use Rattle.spin_world_core.specs.Acts.{begin_of}
-use Rattle.spin_world_seats.specs.Seats.{seats_table, seats_machine}
+use Rattle.spin_model.specs.declared.place.Hold.{Hold}
+use Rattle.spin_seats.specs.declared.calls.SeatsCall.{SeatsCall}
+use Rattle.spin_seats.specs.declared.calls.SeatsCall.TheVariants.{TryEnter, Enter}
+use Rattle.spin_seats.specs.declared.calls.SeatsPoint.{SeatsPoint}
+use Rattle.spin_seats.specs.declared.calls.SeatsPoint.TheVariants.{Exchange}
+use Rattle.spin_model.specs.Calls.{Mark}
+use Rattle.spin_model.specs.Acts.{begin_of}
+use Rattle.spin_seats.specs.Table.{seats_table, seats_machine}
 use Rattle.spin_world_core.proofs.Facts.{LocalInvariant, Facts}
 use Rattle.spin_world_core.proofs.Stands.{holds, entries_at}
 use Rattle.spin_world_core.proofs.Rows.{Point, starts, looked}

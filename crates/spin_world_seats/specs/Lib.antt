@@ -1,4 +1,2 @@
-pub mod Kind
-pub mod Seats
 pub mod Wrong
 pub mod Named

@@ -2,13 +2,15 @@
 use Rattle.std.specs.Prelude.{◌≡◌, ℕ, true, Option, Some, [], ◌∷◌}
 use Rattle.spin_step.specs.Plain.{to_read, fresh}
 use Rattle.spin_seats.specs.Seats.{seats}
-use Rattle.spin_world_core.specs.declared.place.Hold.{Hold}
-use Rattle.spin_world_core.specs.declared.answer.Answer.{Answer}
-use Rattle.spin_world_seats.specs.declared.seats.SeatsCall.TheVariants as call
-use Rattle.spin_world_core.specs.Calls.{waits, tries, counts_readers, gives_back, says_of}
-use Rattle.spin_world_seats.specs.Kind as kind
-use Rattle.spin_world_core.specs.Machines.{opening_plain}
-use Rattle.spin_world_seats.specs.Seats.{SeatsMachine}
+use Rattle.spin_model.specs.declared.place.Hold.{Hold}
+use Rattle.spin_model.specs.declared.place.Hold.TheVariants.{Read}
+use Rattle.spin_model.specs.declared.answer.Answer.{Answer}
+use Rattle.spin_seats.specs.declared.calls.SeatsCall.TheVariants as call
+use Rattle.spin_model.specs.Calls.{waits, tries, counts_readers, gives_back, says_of}
+use Rattle.spin_seats.specs.Kind as kind
+use Rattle.spin_model.specs.Machines.{opening_plain}
+use Rattle.spin_seats.specs.Table.{SeatsMachine}
+use Rattle.spin_world_core.specs.Kinds.{HasCalls, AnswersIn}
 
 pub record IsSeats (n : ℕ) (m : SeatsMachine) : Type 0 where
   pub lock_kind : m.lock_kind ≡ kind.seats
@@ -23,3 +25,5 @@ pub record IsSeats (n : ℕ) (m : SeatsMachine) : Type 0 where
   pub count : (h : Option Hold) → m.asks call.Count h ≡ counts_readers
   pub leave : (h : Option Hold) → m.asks call.Leave h ≡ gives_back h
   pub says : (a : Answer (Unit {0})) → m.says a ≡ says_of a
+  pub calls : HasCalls m.lock_kind (tries to_read ∷ waits to_read ∷ counts_readers ∷ gives_back (Some Read) ∷ [])
+  pub soon : AnswersIn m.lock_kind 2 (waits to_read)

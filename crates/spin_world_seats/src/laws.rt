@@ -1,11 +1,11 @@
 //! Laws of the lock of seats. Each is the contract of a function that does nothing: a caller calls it for what it
 //! states.
 ghost use Rattle.std.specs.Prelude.{◌≡◌, ◌≤◌, ℕ, List, length};
-ghost use Rattle.spin_world_core.specs.declared.schedule.Move.{Move};
-ghost use Rattle.spin_world_core.specs.Schedules.{after, at_first};
+ghost use Rattle.spin_model.specs.declared.schedule.Move.{Move};
+ghost use Rattle.spin_model.specs.Schedules.{after, at_first};
 ghost use Rattle.spin_world_core.specs.Runs.{opening};
 ghost use Rattle.spin_world_core.specs.Users.{seen_after};
-ghost use Rattle.spin_world_seats.specs.declared.seats.SeatsCall.{SeatsCall};
+ghost use Rattle.spin_seats.specs.declared.calls.SeatsCall.{SeatsCall};
 ghost use Rattle.spin_world_seats.specs.declared.seats.Seats.{Seats};
 
 use crate::seats::Seats;

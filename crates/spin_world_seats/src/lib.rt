@@ -8,4 +8,5 @@ pub mod refused;
 mod seats;
 
 pub use laws::no_more_sit_than_there_are_seats;
-pub use seats::{Seats, SeatsCall, SeatsPoint};
+pub use seats::Seats;
+pub use spin_seats::calls::{SeatsCall, SeatsPoint};

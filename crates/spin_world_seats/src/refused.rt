@@ -1,9 +1,9 @@
 //! Wrong locks of seats, each with a law that it breaks, most on a named schedule. They show what the laws keep out.
 //! Begin with [`nobody_sits_beyond_the_seats`].
 ghost use Rattle.std.specs.Prelude.{◌≡◌, []};
-ghost use Rattle.spin_world_core.specs.Operations.{Stepwise};
+ghost use Rattle.spin_model.specs.Operations.{Stepwise};
 ghost use Rattle.spin_world_core.specs.Runs.{KeepsAll, CountsAll, MomentsAll};
-ghost use Rattle.spin_world_seats.specs.Seats.{seats_machine};
+ghost use Rattle.spin_seats.specs.Table.{seats_machine};
 ghost use Rattle.spin_world_seats.specs.Named.{IsSeats};
 ghost use Rattle.spin_world_seats.specs.Wrong.{seats_one_too_many, two_on_one_seat, leaves_for_two, one_of_two_leaves, tries_for_ever, two_looks, looks_twice, enter_alone, enters_in_one, enters_by_a_guess, guess_beside_one, enters_by_chance, enter_by_chance, nobody_leaves, enters_or_not, opens_taken, seats_one_on_none, one_sits, counts_free, count_alone, looks_on, enter_in_vain, keeps_all};
 

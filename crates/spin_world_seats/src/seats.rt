@@ -1,43 +1,12 @@
-//! The lock of seats, as a table of the steps of its calls. Begin with [`Seats::new`] and [`SeatsCall`].
+//! The lock of seats, as a table of the steps of its calls. Begin with [`Seats::new`].
 ghost use Rattle.std.specs.Prelude.{◌≡◌, true};
-ghost use Rattle.spin_world_core.specs.Acts.{one_number, becomes, step_by, can_by};
-ghost use Rattle.spin_world_seats.specs.Seats.{granted, comes_at, act_of, seats_machine};
+ghost use Rattle.spin_model.specs.Acts.{one_number, becomes, step_by, can_by};
+ghost use Rattle.spin_seats.specs.Table.{granted, comes_at, act_of, seats_machine};
 ghost use Rattle.spin_world_seats.specs.Named.{IsSeats};
 
+use spin_seats::calls::{SeatsCall, SeatsPoint};
 use spin_seats::steps;
 use spin_world_core::{Answer, Hold, Next, Object, Stepped};
-
-/// A call of a [`Seats`]. [`Seats::new`] promises that each call asks what stands here.
-///
-/// # Examples
-/// ```
-/// 0 Move::Begin(SeatsCall::Leave) => Outcome::Begun, 2;
-/// 0 Move::Step => answered!(Answer::Done, 11), 1;
-/// 0 Move::Begin(SeatsCall::Count) => Outcome::Begun, 1;
-/// 0 Move::Step => answered!(Answer::Count(1), 13), 1;
-/// ```
-#[derive(Clone, Copy, Debug, PartialEq, Eq)]
-pub enum SeatsCall {
-    /// Tries to take a seat. It fails only if all were taken at some moment of the call.
-    TryEnter,
-    /// Takes a seat, in as many steps as it needs.
-    Enter,
-    /// Counts the seats that are taken.
-    Count,
-    /// Frees the seat of the party.
-    Leave,
-}
-
-/// The point of a call: which step comes next. Only a call that takes a seat has a second one.
-///
-/// No example: a world keeps the points of calls, and a schedule names none.
-#[derive(Clone, Copy, Debug, PartialEq, Eq)]
-pub enum SeatsPoint {
-    /// The first step of any call, and of each further attempt.
-    First,
-    /// The exchange of this word, which the call has found.
-    Exchange(usize),
-}
 
 /// The lock of a number of seats. Its value is `()`.
 ///

@@ -1,6 +1,6 @@
 -- What a party finds of a queue of tickets, and what it comes to.
 use Rattle.spin_world_ticket.proofs.Names.{◌≡◌, ℕ, ◌==◌, ◌≤◌, ◌⊎◌, Bool, true, false, not, None, List, [], ◌∷◌, arith, Plain, ticket_limit, to_take_and_enter, is_empty, is_open_to, serving_word, is_held, Numbered, nobody_stands, somebody_stands, plain, mark_of, is_left, any_map}
-use Rattle.spin_world_core.specs.Calls.{Mark, AnyOf}
+use Rattle.spin_model.specs.Calls.{Mark, AnyOf}
 
 -- the shape of the lock: a queue without other holders
 pub record Queue (s : Plain) : Type 0 where

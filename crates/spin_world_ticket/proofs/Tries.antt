@@ -1,6 +1,6 @@
 -- A try finds its number by two loads.
 use Rattle.spin_world_ticket.proofs.Names.{◌≡◌, ℕ, ◌<◌, ◌≤◌, Option, Some, List, [], ◌∷◌, arith, Plain, ticket_limit, to_take_and_enter, serving_word, Hold, Calling, Move, Step, GoingOn, TicketCall, TicketPoint, TicketWords, State, moves_at, after, at_first, opening, own_count, seen_after, asks_of, ticket_machine, FoundNext, TriesByTwoLoads}
-use Rattle.spin_world_core.specs.Calls.{Mark, tries}
+use Rattle.spin_model.specs.Calls.{Mark, tries}
 use Rattle.spin_world_core.proofs.Reached.{numbers_are, calls}
 use Rattle.spin_world_ticket.proofs.Owed.{ticket_keeping, ticket_facts}
 

@@ -1,5 +1,3 @@
-pub mod Kind
-pub mod Ticket
 pub mod Named
 pub mod Turns
 pub mod Wrong

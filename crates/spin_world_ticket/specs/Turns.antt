@@ -3,20 +3,20 @@ use Rattle.std.specs.Prelude.{◌≡◌, ℕ, ◌+◌, ◌<◌, ◌↔◌, Bool,
 use Rattle.spin_step.specs.Plain.{Plain, ticket, ticket_limit, to_take_and_enter, Change, serves, next_word, serving_word}
 use Rattle.spin_step.specs.Parties.{Entries, entries, no_entries, first_alone_entered}
 use Rattle.spin_step.specs.Tickets.{Numbered}
-use Rattle.spin_world_core.specs.declared.answer.Answer.{Answer}
-use Rattle.spin_world_core.specs.declared.answer.Answer.TheVariants.{Granted}
-use Rattle.spin_world_core.specs.declared.place.Hold.{Hold}
-use Rattle.spin_world_core.specs.declared.place.Hold.TheVariants as hold
-use Rattle.spin_world_core.specs.declared.place.Seat.TheVariants.{Calling, Holding}
-use Rattle.spin_world_core.specs.declared.schedule.Move.{Move}
-use Rattle.spin_world_core.specs.declared.schedule.Move.TheVariants.{Step}
-use Rattle.spin_world_core.specs.declared.schedule.Outcome.TheVariants.{GoingOn, Answered}
-use Rattle.spin_world_ticket.specs.declared.ticket.TicketCall.{TicketCall}
-use Rattle.spin_world_ticket.specs.declared.ticket.TicketPoint.{TicketPoint}
-use Rattle.spin_world_ticket.specs.declared.ticket.TicketWords.{TicketWords}
-use Rattle.spin_world_core.specs.Calls.{Mark, AnyOf, tries}
-use Rattle.spin_world_core.specs.Machines.{Machine}
-use Rattle.spin_world_core.specs.Schedules.{after, at_first}
+use Rattle.spin_model.specs.declared.answer.Answer.{Answer}
+use Rattle.spin_model.specs.declared.answer.Answer.TheVariants.{Granted}
+use Rattle.spin_model.specs.declared.place.Hold.{Hold}
+use Rattle.spin_model.specs.declared.place.Hold.TheVariants as hold
+use Rattle.spin_model.specs.declared.place.Seat.TheVariants.{Calling, Holding}
+use Rattle.spin_model.specs.declared.schedule.Move.{Move}
+use Rattle.spin_model.specs.declared.schedule.Move.TheVariants.{Step}
+use Rattle.spin_model.specs.declared.schedule.Outcome.TheVariants.{GoingOn, Answered}
+use Rattle.spin_model.specs.declared.ticket.TicketCall.{TicketCall}
+use Rattle.spin_model.specs.declared.ticket.TicketPoint.{TicketPoint}
+use Rattle.spin_model.specs.declared.ticket.TicketWords.{TicketWords}
+use Rattle.spin_model.specs.Calls.{Mark, AnyOf, tries}
+use Rattle.spin_model.specs.Machines.{Machine}
+use Rattle.spin_model.specs.Schedules.{after, at_first}
 use Rattle.spin_world_core.specs.Runs.{Seen, opening, own_count}
 use Rattle.spin_world_core.specs.Users.{seen_after, outcome_after, steps_made}
 

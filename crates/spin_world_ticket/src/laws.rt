@@ -1,11 +1,11 @@
 //! Laws of the ticket lock. Each is the contract of a function that does nothing: a caller calls it for what it states.
 //! Begin with [`tickets_enter_by_releases`].
 ghost use Rattle.std.specs.Prelude.{ℕ, List};
-ghost use Rattle.spin_world_core.specs.declared.schedule.Move.{Move};
-ghost use Rattle.spin_world_core.specs.Schedules.{after, at_first};
+ghost use Rattle.spin_model.specs.declared.schedule.Move.{Move};
+ghost use Rattle.spin_model.specs.Schedules.{after, at_first};
 ghost use Rattle.spin_world_core.specs.Runs.{opening};
 ghost use Rattle.spin_world_core.specs.Users.{seen_after};
-ghost use Rattle.spin_world_ticket.specs.declared.ticket.TicketCall.{TicketCall};
+ghost use Rattle.spin_model.specs.declared.ticket.TicketCall.{TicketCall};
 ghost use Rattle.spin_world_ticket.specs.declared.ticket.Ticket.{Ticket};
 ghost use Rattle.spin_world_ticket.specs.Turns.{InOrder, InTurn, TriesByTwoLoads};
 

@@ -11,4 +11,5 @@ mod ticket;
 pub use laws::{
     a_try_finds_its_number_by_two_loads, tickets_enter_by_releases, tickets_stand_in_order,
 };
-pub use ticket::{Ticket, TicketCall, TicketPoint, TicketWords};
+pub use spin_model::{TicketCall, TicketPoint, TicketWords};
+pub use ticket::Ticket;

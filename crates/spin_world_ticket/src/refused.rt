@@ -1,7 +1,7 @@
 //! Wrong ticket locks, each with a law that it breaks, most on a named schedule. They show what the laws keep out.
 //! Begin with [`a_look_loads_the_served_number_first`].
 ghost use Rattle.std.specs.Prelude.{◌≡◌, []};
-ghost use Rattle.spin_world_core.specs.Operations.{Stepwise};
+ghost use Rattle.spin_model.specs.Operations.{Stepwise};
 ghost use Rattle.spin_world_core.specs.Runs.{KeepsAll, MomentsAll, CountsAll};
 ghost use Rattle.spin_world_ticket.specs.Named.{IsTicketLock};
 ghost use Rattle.spin_world_ticket.specs.Turns.{TriesByTwoLoads};

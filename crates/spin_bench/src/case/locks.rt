@@ -1,6 +1,6 @@
 //! The calls of the locks.
 use super::{Call, Case};
-use spin_lock::lock::Lock;
+use spin_core::lock::Lock;
 use spin_mutex::mutex::FairMutex;
 use spin_rwlock::rwlock::RwLock;
 use std::sync;

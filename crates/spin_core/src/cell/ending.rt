@@ -1,56 +1,64 @@
 //! Steps that end the permit of a party that does not get what it came for. Begin with [`Permit::attempt`].
-ghost use Rattle.std.specs.Prelude.{◌≡◌, ◌≢◌, ◌==◌, ℕ, Some, IfOk, IfErr};
+ghost use Rattle.std.specs.Prelude.{◌≡◌, ◌≢◌, ◌==◌, ℕ, List, Some, IfOk, IfErr};
 ghost use prog.Atomic.{either};
-ghost use Rattle.spin_core.specs.Cell.{Rests, AllowsAt, Moved, Keeps};
+ghost use Rattle.spin_core.specs.Cell.{Rests, Moved, Keeps};
+ghost use Rattle.spin_core.specs.Traced.{Named, MayKnow, Traces, Watches};
 
 use super::{Permit, Play, Rule};
+use crate::trace::{Trace, Watch};
 
-impl<'a, T, V, P: Rule<T, V>> Permit<'a, T, V, P> {
-    /// Reads the first word, and ends the permit.
+impl<'a, T, V, E, S, P: Rule<T, V, Second = Trace<E, S>>> Permit<'a, T, V, P> {
+    /// Reads the first word, and ends the permit. Returns the word, and what is known of the trace then.
     ///
     /// # Contract
-    /// After the step the party has to be at rest. Its `Play` holds of the answer.
+    /// After the step the party has to be at rest (`rests`), whatever the `Play` tells. The `Play` holds of the answer.
     ///
     /// # Examples
     /// ```
-    /// equal(&rt, cell.enter().look::<TellNothing>(), 6);
+    /// equal(&rt, cell.enter().look::<TellNothing>(Watch::nothing()).0, 6);
     /// ```
-    pub fn look<M: Play<V>>(self) -> u64
-        requires step { AllowsAt P.holds (P.ways self.key) self.view self.value (λ n. n) (M.then 0 0 self.view) }
-        requires rests { (found : ℕ) (after : V) → M.then 0 0 self.view found after → Rests P.holds (P.ways self.key).1 (Some after) }
-        ensures found { (after : V) × M.then 0 0 self.entry.view result after }
+    pub fn look<M: Play<V, E>>(self, seen: Watch<E>) -> (u64, Watch<E>)
+        requires step { MayKnow (P.holds self.key) (P.ways self.key) seen × Traces (P.holds self.key) (P.ways self.key) self.view self.value (λ n. n) (M.told 0 0 self.view) }
+        requires rests { (log es : List E) (found : ℕ) (after : V) → M.told 0 0 self.view log es found after → Rests (P.holds self.key) (P.ways self.key).1 (Some after) }
+        ensures found { (after : V) × Watches (Named (P.holds self.entry.key) (P.ways self.entry.key) seen.name) seen result.1 (M.told 0 0 self.entry.view) result.0 after }
     {
-        let (found, permit) = self.load::<M>();
+        let (found, permit, seen) = self.load::<M>(seen);
         permit.leave();
-        found
+        (found, seen)
     }
 
     /// Writes `new` over the first word if it is `old`. If it finds another word, it ends the permit and returns that
-    /// word.
+    /// word. Either way it returns what is known of the trace then.
     ///
     /// # Contract
-    /// After a step that finds another word the party has to be at rest. `Ok` is the permit after a step that found
-    /// `old`. `Err` is a word other than `old`.
+    /// After a step that finds another word the party has to be at rest (`rests`). `Ok` is the permit after a step that
+    /// found `old`, and `Err` a word other than `old`. The `Play` holds of either (`moved`, `left`).
     ///
     /// # Examples
     /// ```
-    /// let party = cell.enter().attempt::<TellNothing>(old, new)?;
-    /// Ok(party.look::<TellNothing>())
+    /// let (party, _) = cell.enter().attempt::<Mark>(old, new, Watch::nothing());
+    /// Ok(party?.look::<TellNothing>(Watch::nothing()).0)
     /// ```
-    pub fn attempt<M: Play<V>>(self, old: u64, new: u64) -> Result<Permit<'a, T, V, P>, u64>
-        requires step { AllowsAt P.holds (P.ways self.key) self.view self.value (λ n. either (n == old) new n) (M.then old new self.view) }
-        requires rests { (found : ℕ) (after : V) → found ≢ old → M.then old new self.view found after → Rests P.holds (P.ways self.key).1 (Some after) }
-        ensures moved { IfOk result (λ permit. Moved (M.then old new self.entry.view old) permit.view) }
-        ensures kept { IfOk result (λ permit. Keeps (P.ways self.entry.key) self.entry.view permit.view self.entry.value permit.value) }
-        ensures key { IfOk result (λ permit. permit.key ≡ self.entry.key) }
-        ensures missed { IfErr result (λ found. found ≢ old) }
+    pub fn attempt<M: Play<V, E>>(
+        self,
+        old: u64,
+        new: u64,
+        seen: Watch<E>,
+    ) -> (Result<Permit<'a, T, V, P>, u64>, Watch<E>)
+        requires step { MayKnow (P.holds self.key) (P.ways self.key) seen × Traces (P.holds self.key) (P.ways self.key) self.view self.value (λ n. either (n == old) new n) (M.told old new self.view) }
+        requires rests { (log es : List E) (found : ℕ) (after : V) → found ≢ old → M.told old new self.view log es found after → Rests (P.holds self.key) (P.ways self.key).1 (Some after) }
+        ensures moved { IfOk result.0 (λ permit. Moved (Watches (Named (P.holds self.entry.key) (P.ways self.entry.key) seen.name) seen result.1 (M.told old new self.entry.view) old) permit.view) }
+        ensures kept { IfOk result.0 (λ permit. Keeps (P.ways self.entry.key) self.entry.view permit.view self.entry.value permit.value) }
+        ensures key { IfOk result.0 (λ permit. permit.key ≡ self.entry.key) }
+        ensures missed { IfErr result.0 (λ found. found ≢ old) }
+        ensures left { IfErr result.0 (λ found. (after : V) × Watches (Named (P.holds self.entry.key) (P.ways self.entry.key) seen.name) seen result.1 (M.told old new self.entry.view) found after) }
     {
-        let (found, permit) = self.exchange::<M>(old, new);
+        let (found, permit, seen) = self.exchange::<M>(old, new, seen);
         if found == old {
-            Ok(permit)
+            (Ok(permit), seen)
         } else {
             permit.leave();
-            Err(found)
+            (Err(found), seen)
         }
     }
 }

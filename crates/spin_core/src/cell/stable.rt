@@ -44,7 +44,7 @@ impl<T: Stabilizes, V, P: Rule<MaybeStable<T>, V>> Cell<MaybeStable<T>, V, P> {
     /// Some(Stage::made(stable))
     /// ```
     pub fn get_stable(&mut self, first: u64) -> Option<&mut Stable<T>>
-        requires { StableAt P.holds (P.ways self.old) T.stable first }
+        requires { StableAt (P.holds self.old) (P.ways self.old) T.stable first }
     {
         if self.first == first {
             Some(unsafe { &mut *(&raw const self.value as *mut Stable<T>) })

@@ -1,25 +1,40 @@
 //! What a party is to a `FairMutex`, and what the word of the lock says of its parties. Begin at [`FairRule`].
 ghost use Rattle.std.specs.Prelude.{refl};
 ghost use Rattle.spin_core.specs.Cell.{alone, use_of};
-ghost use Rattle.spin_core.specs.Plays.{becomes_by, exchanges};
-ghost use Rattle.spin_fair.specs.declared.fair.rule.View.TheVariants.{Idle, Starving, Holding, Served};
-ghost use Rattle.spin_fair.specs.Fair.{IsFair, use_of_view, Stays, Stops, won_if_clear};
+ghost use Rattle.spin_core.specs.Own.{what};
+ghost use Rattle.spin_step_more.specs.declared.fair_calls.FairCall.TheVariants.{StarverTryLock, StarverDrop, Release};
+ghost use Rattle.spin_fair.specs.Fair.{IsFair, Told, use_of_party, looks_by, tries_by, tries_alone_by, ends_by, leads_by, tried, looked, registered_by, setting, set_by, awaited_by, served};
 
 use spin_core::cell::{Play, Rule, WritePermit};
-use spin_guard::guard::{self, LetsGo, Uses};
-use spin_step::fair;
+use spin_core::guard::{self, Uses};
+use spin_core::tie;
+use spin_core::trace::{Trace, Watch};
+use spin_step_more::{FairCall, fair};
 
-/// What a party (one call, and the guard that it returns) is to the lock.
+/// What a party (one call, and the guard or the registration that it returns) is to the lock.
 #[derive(Clone, Copy)]
 pub enum View {
     Idle,
+    /// It is registered as a starver, and in no call.
     Starving,
     /// It holds the lock, and came as a newcomer.
     Holding,
-    /// It has set the flag, and is still registered: it uses the value once it has stopped starving.
-    HoldingStarving,
     /// It holds the lock, and starved for it.
     Served,
+    /// It is in `lock`, and goes on with the exchange, after so many looks that found the lock held.
+    Trying(usize),
+    /// It is in `lock`, and goes on with a look, after so many that found the lock held.
+    Looking(usize),
+    /// It is in `lock`, and has looked often enough to register.
+    Loading,
+    /// It goes on to register in this call, by an exchange of this word.
+    Registering(FairCall, usize),
+    /// It is a starver, and goes on to set the flag in this call.
+    Setting(FairCall),
+    /// It is a starver, and goes on with a look in this call.
+    Awaiting(FairCall),
+    /// It has set the flag in this call, and is still registered: it uses the value once it has stopped starving.
+    HoldingStarving(FairCall),
 }
 
 /// The rule of a [`FairMutex`](super::FairMutex): its word is the sum of what its holder and its starvers weigh.
@@ -27,18 +42,26 @@ pub enum View {
 /// No caller names it: it is a parameter of the type of the guard.
 ///
 /// # Contract
-/// `IsFair`: the word is that of a plain lock of these parties, and a newcomer that holds came before each starver.
+/// `IsFair`: the word is that of a plain lock of these parties. The trace is a schedule of the lock's model, which leads
+/// to this word, with each party in the seat that its view names.
 pub struct FairRule;
 
-impl<T> Rule<T, View> for FairRule {
-    type Key = ();
+impl<T> Rule<T, Party> for FairRule {
+    // What is known of the lock's trace at first: its name.
+    type Key = Watch<Entry>;
 
-    type Second = ();
+    type Second = Trace<Entry>;
 
-    ghost holds = { IsFair };
+    ghost holds = { λ start. IsFair start.name };
 
-    ghost ways = { λ _. (alone, use_of_view) };
+    ghost ways = { λ _. (alone, use_of_party) };
 }
+
+/// A party with its number.
+pub type Party = tie::Numbered<View>;
+
+/// An entry of the lock's trace.
+pub type Entry = tie::Entry<FairCall>;
 
 /// The weight of the holder in the word.
 pub(super) const LOCKED: u64 = fair::HOLDER as u64;
@@ -46,57 +69,99 @@ pub(super) const LOCKED: u64 = fair::HOLDER as u64;
 /// The weight of a starver in the word.
 pub(super) const STARVER: u64 = fair::STARVER as u64;
 
-/// A compare-exchange: the party comes, and holds if it found the word that it expected.
-pub(super) struct Attempt;
-
-impl Play<View> for Attempt {
-    ghost then = { exchanges (λ _. Holding) Idle };
-}
-
-/// A compare-exchange: the party comes, and starves if it found the word that it expected.
-pub(super) struct Register;
-
-impl Play<View> for Register {
-    ghost then = { exchanges (λ _. Starving) Idle };
-}
-
-/// A compare-exchange: a starver holds, and stops starving, if it found the word that it expected.
-pub(super) struct AttemptAlone;
-
-impl Play<View> for AttemptAlone {
-    ghost then = { exchanges (λ _. Served) Starving };
-}
-
-/// A bit operation: a starver holds if it found the flag clear.
-pub(super) struct SetFlag;
-
-impl Play<View> for SetFlag {
-    ghost then = { becomes_by won_if_clear };
-}
-
-/// A subtraction: a starver stops starving, and still holds what it held.
-pub(super) struct Unregister;
-
-impl Play<View> for Unregister {
-    ghost then = { Stops };
-}
-
-/// A load: the party stays what it is, or comes and holds nothing.
+/// The load of `is_locked`.
 pub(super) struct Load;
 
-impl Play<View> for Load {
-    ghost then = { Stays };
+impl Play<Party, Entry> for Load {
+    ghost told = { λ old new before. Told looks_by before };
 }
 
-impl Uses<View> for FairRule {
-    ghost use_at = { use_of use_of_view };
+/// The compare-exchange of `try_lock_starver`.
+pub(super) struct Attempt;
 
-    ghost idle = { Idle };
+impl Play<Party, Entry> for Attempt {
+    ghost told = { λ old new before. Told tries_by before };
 }
 
-impl<T> guard::Release<T, View> for FairRule {
-    fn release(writer: WritePermit<'_, T, View, FairRule>) {
-        let (_, permit) = writer.into_permit().subtract::<LetsGo<Self>>(LOCKED);
+/// The compare-exchange of `lock`, after so many looks that found the lock held.
+pub(super) struct Tries;
+
+impl Play<Party, Entry> for Tries {
+    ghost told = { λ old new before. Told (leads_by (tried (what before))) before };
+}
+
+/// The look of `lock`.
+pub(super) struct Looks;
+
+impl Play<Party, Entry> for Looks {
+    ghost told = { λ old new before. Told (leads_by (looked (what before))) before };
+}
+
+/// A compare-exchange: the party registers as a starver if it found the word that it expected.
+pub(super) struct Register;
+
+impl Play<Party, Entry> for Register {
+    ghost told = { λ old new before. Told (leads_by (registered_by (what before) old)) before };
+}
+
+/// The compare-exchange of `try_lock_fair`: a starver holds, and stops starving, if it was the only one.
+pub(super) struct AttemptAlone;
+
+impl Play<Party, Entry> for AttemptAlone {
+    ghost told = { λ old new before. Told tries_alone_by before };
+}
+
+/// The bit operation of `try_lock`: a starver holds if it found the flag clear.
+pub(super) struct TrySetFlag;
+
+impl Play<Party, Entry> for TrySetFlag {
+    ghost told = { λ old new before. Told (leads_by (set_by StarverTryLock)) before };
+}
+
+/// The bit operation of a call that waits: a starver holds if it found the flag clear, and else looks.
+pub(super) struct SetFlag;
+
+impl Play<Party, Entry> for SetFlag {
+    ghost told = { λ old new before. Told (leads_by (set_by (setting (what before)))) before };
+}
+
+/// A load: a starver looks whether the flag is clear.
+pub(super) struct Await;
+
+impl Play<Party, Entry> for Await {
+    ghost told = { λ old new before. Told (leads_by (awaited_by (what before))) before };
+}
+
+/// A subtraction: a starver that holds stops starving.
+pub(super) struct Unregister;
+
+impl Play<Party, Entry> for Unregister {
+    ghost told = { λ old new before. Told (leads_by served) before };
+}
+
+/// A subtraction: a starver gives up.
+pub(super) struct GivesUp;
+
+impl Play<Party, Entry> for GivesUp {
+    ghost told = { λ old new before. Told (ends_by StarverDrop) before };
+}
+
+/// The subtraction that releases the lock.
+pub(super) struct Frees;
+
+impl Play<Party, Entry> for Frees {
+    ghost told = { λ old new before. Told (ends_by Release) before };
+}
+
+impl Uses<Party> for FairRule {
+    ghost use_at = { use_of use_of_party };
+}
+
+impl<T> guard::Release<T, Party> for FairRule {
+    fn release(writer: WritePermit<'_, T, Party, FairRule>) {
+        let (_, permit, _) = writer
+            .into_permit()
+            .subtract::<Frees>(LOCKED, Watch::nothing());
         permit.leave();
     }
 

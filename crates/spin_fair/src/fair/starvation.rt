@@ -1,16 +1,18 @@
 //! A thread that starves for a `FairMutex`: it comes before newcomers until it has the lock or gives up. Begin at
 //! [`Starvation::lock`].
-ghost use Rattle.std.specs.Prelude.{◌≡◌, Some, IfOk};
-ghost use Rattle.spin_guard.specs.Guard.{IsHolder};
-ghost use Rattle.spin_fair.specs.Fair.{use_of_view};
-ghost use Rattle.spin_fair.specs.declared.fair.rule.View.TheVariants.{Starving, HoldingStarving};
+ghost use Rattle.std.specs.Prelude.{◌≡◌, Some, true, IfOk};
+ghost use Rattle.spin_core.specs.Guard.{IsHolder};
+ghost use Rattle.spin_core.specs.Own.{what};
+ghost use Rattle.spin_fair.specs.Fair.{use_of_party, MaySet, awaits, HoldsStarving};
+ghost use Rattle.spin_fair.specs.declared.fair.rule.View.TheVariants.{Starving};
 
-use super::rule::{AttemptAlone, LOCKED, Load, STARVER, SetFlag, Unregister};
-use super::{FairMutexGuard, FairRule, View};
+use super::rule::{AttemptAlone, Await, GivesUp, LOCKED, STARVER, SetFlag, TrySetFlag, Unregister};
+use super::{FairMutexGuard, FairRule, Party};
 use spin_core::cell::Permit;
+use spin_core::guard::Guard;
 use spin_core::relax::{MAX_HINTS, RelaxStrategy, Spin, Strategy};
-use spin_guard::guard::Guard;
-use spin_step::fair;
+use spin_core::trace::Watch;
+use spin_step_more::fair;
 use std::sync::Wait;
 
 /// A registered starver of a `FairMutex`. Dropping it ends the registration.
@@ -26,10 +28,11 @@ use std::sync::Wait;
 /// let starvation = starve(&rt, &lock);
 /// let guard = starvation.try_lock_fair().ok().expect(&rt, "open");
 /// ```
+#[must_use = "a place that is dropped at once no longer starves: call `lock` on it"]
 pub struct Starvation<'a, T, R = Spin> {
-    permit: Permit<'a, T, View, FairRule>,
+    permit: Permit<'a, T, Party, FairRule>,
     strategy: Strategy<R>,
-    ghost starving: { permit.view ≡ Some Starving },
+    ghost starving: { what permit.view ≡ Some Starving },
 }
 
 impl<'a, T, R> Starvation<'a, T, R> {
@@ -47,14 +50,16 @@ impl<'a, T, R> Starvation<'a, T, R> {
     /// let guard = starvation.try_lock_fair().ok().expect(&rt, "open");
     /// ```
     pub fn try_lock_fair(self) -> Result<FairMutexGuard<'a, T, R>, Starvation<'a, T, R>>
-        ensures { IfOk result (IsHolder use_of_view) }
+        ensures { IfOk result (IsHolder use_of_party) }
     {
         let alone = fair::STARVER;
         let taken = fair::lock_fair(alone).unwrap();
         // Both steps at once, so that no thread sees a holder that is still registered.
-        let (found, permit) = self
-            .into_permit()
-            .exchange::<AttemptAlone>(alone as u64, fair::unstarve(taken) as u64);
+        let (found, permit, _) = self.into_permit().exchange::<AttemptAlone>(
+            alone as u64,
+            fair::unstarve(taken) as u64,
+            Watch::nothing(),
+        );
         if found == alone as u64 {
             Ok(Guard::new(permit.into_writer()))
         } else {
@@ -76,14 +81,16 @@ impl<'a, T, R> Starvation<'a, T, R> {
     /// }
     /// ```
     pub fn try_lock(self) -> Result<FairMutexGuard<'a, T, R>, Starvation<'a, T, R>>
-        ensures { IfOk result (IsHolder use_of_view) }
+        ensures { IfOk result (IsHolder use_of_party) }
     {
         // First as the only starver, which is one instruction: to set a bit and see the word compiles to a loop.
         let still = match self.try_lock_fair() {
             Ok(guard) => return Ok(guard),
             Err(still) => still,
         };
-        let (found, permit) = still.into_permit().set_bits::<SetFlag>(LOCKED);
+        let (found, permit, _) = still
+            .into_permit()
+            .set_bits::<TrySetFlag>(LOCKED, Watch::nothing());
         if fair::is_locked(found as usize) {
             Err(Self::new(permit))
         } else {
@@ -91,14 +98,8 @@ impl<'a, T, R> Starvation<'a, T, R> {
         }
     }
 
-    // Returns whether the lock is held, by one load.
-    fn look(self) -> (bool, Self) {
-        let (found, permit) = self.into_permit().load::<Load>();
-        (fair::is_locked(found as usize), Self::new(permit))
-    }
-
-    pub(super) fn new(permit: Permit<'a, T, View, FairRule>) -> Self
-        requires { permit.view ≡ Some Starving }
+    pub(super) fn new(permit: Permit<'a, T, Party, FairRule>) -> Self
+        requires { what permit.view ≡ Some Starving }
     {
         Starvation {
             permit,
@@ -106,8 +107,8 @@ impl<'a, T, R> Starvation<'a, T, R> {
         }
     }
 
-    fn into_permit(self) -> Permit<'a, T, View, FairRule>
-        ensures { result.view ≡ Some Starving }
+    fn into_permit(self) -> Permit<'a, T, Party, FairRule>
+        ensures { what result.view ≡ Some Starving }
     {
         let Self {
             permit,
@@ -120,8 +121,9 @@ impl<'a, T, R> Starvation<'a, T, R> {
 impl<'a, T, R: RelaxStrategy> Starvation<'a, T, R> {
     /// Acquires the mutex, spinning until it is free.
     ///
-    /// After a failed attempt the thread pauses with strategy `R`, and looks at the word before it tries again. Other
-    /// starvers may overtake it.
+    /// It tries once as the only starver (see [`try_lock_fair`](Self::try_lock_fair)). Then it sets the flag wherever it
+    /// finds that clear. After a failed attempt the thread pauses with strategy `R`, and looks at the word before it
+    /// tries again. Other starvers may overtake it.
     ///
     /// # Contract
     /// The guard belongs to a holder of the lock (`IsHolder`). Whether and when the call returns is not promised.
@@ -135,39 +137,87 @@ impl<'a, T, R: RelaxStrategy> Starvation<'a, T, R> {
     /// *guard = guard.wrapping_add(1);
     /// ```
     pub fn lock<W: Wait>(self, rt: &W) -> FairMutexGuard<'a, T, R>
-        ensures { IsHolder use_of_view result }
+        ensures { IsHolder use_of_party result }
     {
-        match self.try_lock() {
+        match self.try_lock_fair() {
             Ok(guard) => guard,
-            Err(still) => R::retry_after(rt, still, |_| MAX_HINTS, Self::look_and_try),
+            Err(still) => wait_as_starver(rt, still.into_permit()),
         }
     }
+}
 
+// A starver in a call that waits, which goes on with a look.
+struct Awaiting<'a, T> {
+    permit: Permit<'a, T, Party, FairRule>,
+    ghost awaits: { awaits (what permit.view) ≡ true },
+}
+
+impl<'a, T> Awaiting<'a, T> {
     // A load comes first, as for the lock's other waiting threads.
-    fn look_and_try(self) -> Result<FairMutexGuard<'a, T, R>, Self>
-        ensures { IfOk result (IsHolder use_of_view) }
+    fn look_and_try<R>(self) -> Result<FairMutexGuard<'a, T, R>, Awaiting<'a, T>>
+        ensures { IfOk result (IsHolder use_of_party) }
     {
-        let (is_locked, still) = self.look();
-        if is_locked {
-            Err(still)
+        let Self { permit } = self;
+        let (found, permit, _) = permit.load::<Await>(Watch::nothing());
+        if fair::is_locked(found as usize) {
+            Err(Awaiting { permit })
         } else {
-            still.try_lock()
+            set_flag(permit)
+        }
+    }
+}
+
+// Sets the flag, in a call that waits where it finds the flag set. It tries no exchange as the only starver first: beside
+// others that fails though the flag is clear, and a starver that waits goes for each clear flag.
+fn set_flag<'a, T, R>(
+    permit: Permit<'a, T, Party, FairRule>,
+) -> Result<FairMutexGuard<'a, T, R>, Awaiting<'a, T>>
+    requires { MaySet (what permit.view) }
+    ensures { IfOk result (IsHolder use_of_party) }
+{
+    let (found, permit, _) = permit.set_bits::<SetFlag>(LOCKED, Watch::nothing());
+    if fair::is_locked(found as usize) {
+        Err(Awaiting { permit })
+    } else {
+        Ok(stop_starving(permit))
+    }
+}
+
+// Acquires the lock for a starver.
+pub(super) fn wait_as_starver<'a, T, R: RelaxStrategy, W: Wait>(
+    rt: &W,
+    permit: Permit<'a, T, Party, FairRule>,
+) -> FairMutexGuard<'a, T, R>
+    requires { MaySet (what permit.view) }
+    ensures { IsHolder use_of_party result }
+{
+    match set_flag(permit) {
+        Ok(guard) => guard,
+        Err(awaiting) => {
+            R::retry_after(
+                rt,
+                awaiting,
+                |_| MAX_HINTS,
+                |awaiting| awaiting.look_and_try(),
+            )
         }
     }
 }
 
 // The holder ends its registration.
-fn stop_starving<'a, T, R>(permit: Permit<'a, T, View, FairRule>) -> FairMutexGuard<'a, T, R>
-    requires { permit.view ≡ Some HoldingStarving }
-    ensures { IsHolder use_of_view result }
+fn stop_starving<'a, T, R>(permit: Permit<'a, T, Party, FairRule>) -> FairMutexGuard<'a, T, R>
+    requires { HoldsStarving (what permit.view) }
+    ensures { IsHolder use_of_party result }
 {
-    let (_, permit) = permit.subtract::<Unregister>(STARVER);
+    let (_, permit, _) = permit.subtract::<Unregister>(STARVER, Watch::nothing());
     Guard::new(permit.into_writer())
 }
 
 impl<T, R> Drop for Starvation<'_, T, R> {
     fn drop(self) {
-        let (_, permit) = self.into_permit().subtract::<Unregister>(STARVER);
+        let (_, permit, _) = self
+            .into_permit()
+            .subtract::<GivesUp>(STARVER, Watch::nothing());
         permit.leave();
     }
 }

@@ -4,7 +4,7 @@ ghost use Rattle.std.specs.Fmt.{DisplaysOnOk};
 ghost use Rattle.spin_fair.specs.Texts.{fair_text};
 
 use super::FairMutex;
-use spin_guard::texts::write_named;
+use spin_core::texts::write_named;
 use std::fmt;
 use std::fmt::{Debug, Formatter};
 

@@ -2,12 +2,14 @@
 ghost use Rattle.std.specs.Prelude.{◌≡◌, ◌≢◌, ℕ, IsTrue, ◌↔◌, refl};
 ghost use Rattle.spin_step.specs.Steps.{bit};
 ghost use Rattle.spin_core.specs.Cell.{alone, use_of};
-ghost use Rattle.spin_core.specs.Plays.{becomes, exchanges};
-ghost use Rattle.spin_flag.specs.Flag.{IsFlag, use_of_view};
-ghost use Rattle.spin_flag.specs.declared.spin.rule.View.TheVariants.{Idle, Holding};
+ghost use Rattle.spin_flag.specs.Flag.{IsFlag, Told, use_of_party, looks_by, tries_by, leads_by, tried, looked};
+ghost use Rattle.spin_flag.specs.declared.spin.rule.View.TheVariants.{Idle};
 
 use spin_core::cell::{Play, Rule, WritePermit};
-use spin_guard::guard::{self, LetsGo, Uses};
+use spin_core::guard::{self, Uses};
+use spin_core::tie;
+use spin_core::trace::{Trace, Watch};
+use spin_model::FlagCall;
 use spin_step::flag;
 
 /// What a party (one call, and the guard that it returns) is to the lock.
@@ -15,6 +17,10 @@ use spin_step::flag;
 pub enum View {
     Idle,
     Holding,
+    /// It is in `lock`, and goes on with the exchange.
+    Trying,
+    /// It is in `lock`, and goes on with a look.
+    Looking,
 }
 
 /// The rule of a [`SpinMutex`](super::SpinMutex): its word is 1 while a party holds the lock, and else 0.
@@ -22,44 +28,72 @@ pub enum View {
 /// No caller names it: it is a parameter of the type of the guard.
 ///
 /// # Contract
-/// `IsFlag`: the word is that of a plain lock whose holders are the parties that hold.
+/// `IsFlag`: the word is that of a plain lock whose holders are the parties that hold. The trace is a schedule of the
+/// lock's model, which leads to this word, with each party in the seat that its view names.
 pub struct FlagRule;
 
-impl<T> Rule<T, View> for FlagRule {
-    type Key = ();
+impl<T> Rule<T, Party> for FlagRule {
+    // What is known of the lock's trace at first: its name.
+    type Key = Watch<Entry>;
 
-    type Second = ();
+    type Second = Trace<Entry>;
 
-    ghost holds = { IsFlag };
+    ghost holds = { λ start. IsFlag start.name };
 
-    ghost ways = { λ _. (alone, use_of_view) };
+    ghost ways = { λ _. (alone, use_of_party) };
 }
 
-/// A load: the party comes and holds nothing.
+/// A party with its number.
+pub type Party = tie::Numbered<View>;
+
+/// An entry of the lock's trace.
+pub type Entry = tie::Entry<FlagCall>;
+
+/// The load of `is_locked`.
 pub(super) struct Load;
 
-impl Play<View> for Load {
-    ghost then = { becomes Idle };
+impl Play<Party, Entry> for Load {
+    ghost told = { λ old new before. Told looks_by before };
 }
 
-/// A compare-exchange: the party comes, and holds if it found the word that it expected.
+/// The compare-exchange of `try_lock`.
 pub(super) struct Attempt;
 
-impl Play<View> for Attempt {
-    ghost then = { exchanges (λ free. Holding) Idle };
+impl Play<Party, Entry> for Attempt {
+    ghost told = { λ old new before. Told tries_by before };
 }
 
-impl Uses<View> for FlagRule {
-    ghost use_at = { use_of use_of_view };
+/// The compare-exchange of `lock`.
+pub(super) struct Tries;
 
-    ghost idle = { Idle };
+impl Play<Party, Entry> for Tries {
+    ghost told = { λ old new before. Told (leads_by tried) before };
 }
 
-impl<T> guard::Release<T, View> for FlagRule {
-    fn release(writer: WritePermit<'_, T, View, FlagRule>) {
+/// The load of `lock`.
+pub(super) struct Looks;
+
+impl Play<Party, Entry> for Looks {
+    ghost told = { λ old new before. Told (leads_by looked) before };
+}
+
+/// The store that releases the lock.
+pub(super) struct Frees;
+
+impl Play<Party, Entry> for Frees {
+    ghost told = { λ old new before. Told (leads_by (λ n. Idle)) before };
+}
+
+impl Uses<Party> for FlagRule {
+    ghost use_at = { use_of use_of_party };
+}
+
+impl<T> guard::Release<T, Party> for FlagRule {
+    fn release(writer: WritePermit<'_, T, Party, FlagRule>) {
         let free = flag::unlock(true);
         let permit = writer.into_permit();
-        permit.store::<LetsGo<Self>>(word(free)).leave();
+        let (permit, _) = permit.store::<Frees>(word(free), Watch::nothing());
+        permit.leave();
     }
 
     ghost same = { λ key view. refl };

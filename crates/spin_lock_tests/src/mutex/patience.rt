@@ -2,10 +2,9 @@
 use crate::equal::equal;
 use crate::mutex::fair::{HELD, OPEN, refusal, seen, shows};
 use spin_core::relax::{RelaxStrategy, Spin, Yield};
-use spin_fair::testing::look_and_try;
-use spin_mutex::mutex::FairMutex;
+use spin_fair::testing::{Waiting, begin, look_and_try, looks};
 use spin_mutex::mutex::fair::{LockRejectReason, STARVATION_SPINS};
-use std::mem::forget;
+use spin_mutex::mutex::{FairMutex, FairMutexGuard};
 use std::sync::Wait;
 use std::thread;
 
@@ -86,16 +85,33 @@ fn a_waiting_lock_is_patient(rt: HostRuntime) {
     equal(&rt, patient, true);
 }
 
+// One more attempt of a call that waits.
+fn again<'a, R: Wait>(
+    rt: &R,
+    waiting: Waiting<'a, u64>,
+) -> Result<FairMutexGuard<'a, u64, Yield>, Waiting<'a, u64>> {
+    look_and_try(rt, waiting)
+}
+
 // How many looks it takes until one gets the lock.
-fn looks_until_it_enters<R: Wait>(rt: &R, lock: &FairMutex<u64, Yield>) -> usize {
-    let mut spins = 0;
-    for looks in 1..MAX_LOOKS {
-        match look_and_try(rt, lock, spins) {
-            Ok(_guard) => return looks,
-            Err(counted) => spins = counted,
+fn looks_on<R: Wait>(rt: &R, waiting: Waiting<'_, u64>) -> usize {
+    let mut waiting = waiting;
+    let mut looked: usize = 0;
+    for _ in rt.forever() {
+        looked = looked.wrapping_add(1);
+        match again(rt, waiting) {
+            Ok(_guard) => return looked,
+            Err(still) => waiting = still,
         }
     }
-    MAX_LOOKS
+    unreachable!()
+}
+
+fn looks_until_it_enters<R: Wait>(rt: &R, lock: &FairMutex<u64, Yield>) -> usize {
+    match begin(lock) {
+        Ok(_guard) => 0,
+        Err(waiting) => looks_on(rt, waiting),
+    }
 }
 
 #[test]
@@ -114,6 +130,14 @@ fn it_starves_at_the_look_after_its_patience(rt: HostRuntime) {
 #[test]
 fn a_look_at_a_free_lock_does_not_count(rt: HostRuntime) {
     let lock: FairMutex<u64, Yield> = FairMutex::new(1);
-    forget(lock.starve(&rt));
-    equal(&rt, look_and_try(&rt, &lock, 5).err(), Some(5));
+    let guard = lock.lock(&rt);
+    let waiting = begin(&lock).err().expect(&rt, "held");
+    let waiting = again(&rt, waiting).err().expect(&rt, "held");
+    equal(&rt, looks(&waiting), 1);
+    let starver = lock.starve(&rt);
+    drop(guard);
+    let waiting = again(&rt, waiting).err().expect(&rt, "starved");
+    equal(&rt, looks(&waiting), 1);
+    drop(starver);
+    equal(&rt, looks_on(&rt, waiting), 1);
 }

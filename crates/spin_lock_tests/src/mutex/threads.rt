@@ -1,12 +1,14 @@
 //! Threads take turns, a look leaves the lock to them, and a guard may end in another thread than the one that took it.
 use crate::equal::equal;
+use crate::waiting::has_turn;
+use spin_core::lock::Lock;
 use spin_core::relax::{RelaxStrategy, Yield};
-use spin_lock::lock::Lock;
 use spin_mutex::mutex::{FairMutex, Mutex, SpinMutex, TicketMutex};
 use std::alloc::Global;
 use std::ops::DerefMut;
 use std::process::Abort;
 use std::sync::Wait;
+use std::sync::atomic::AtomicU64;
 use std::thread;
 use std::thread::Threads;
 
@@ -88,12 +90,15 @@ fn a_guard_may_end_in_another_thread(rt: HostRuntime) {
     equal(&rt, seen, [3; 4]);
 }
 
-const LOOKS: u32 = 1_000_000;
+const TURNS: u64 = 1_000_000;
 
-// Whether no try was refused.
-fn try_often<L: Lock<u64>>(lock: &L) -> bool {
+// Whether no try was refused, while turns are left.
+fn try_often<L: Lock<u64>>(lock: &L, turns: &AtomicU64) -> bool {
     let mut granted = true;
-    for _ in 0..LOOKS {
+    for _ in 0..TURNS {
+        if !has_turn(turns, TURNS) {
+            break;
+        }
         granted = granted && lock.try_with(|_| ()).is_ok();
     }
     granted
@@ -102,12 +107,16 @@ fn try_often<L: Lock<u64>>(lock: &L) -> bool {
 macro_rules! granted_beside_looks {
     ($rt:expr, $Lock:ident) => {{
         let lock: $Lock<u64> = $Lock::new(1);
+        let turns = AtomicU64::new(0);
         let look = || {
-            for _ in 0..LOOKS {
+            for _ in 0..TURNS {
+                if !has_turn(&turns, TURNS) {
+                    break;
+                }
                 lock.is_locked();
             }
         };
-        thread::join($rt, look, || try_often(&lock)).1
+        thread::join($rt, look, || try_often(&lock, &turns)).1
     }};
 }
 

@@ -2,8 +2,8 @@
 //! are used up; and that a `Mutex` is over them.
 use crate::equal::equal;
 use crate::waiting::MAX_LOOKS;
+use spin_core::lock::Lock;
 use spin_core::relax::{RelaxStrategy, Yield};
-use spin_lock::lock::Lock;
 use spin_mutex::mutex::{Mutex, TicketMutex, TicketMutexGuard};
 use spin_mutex::testing::{next as next_of_mutex, starting_at as mutex_starting_at};
 use spin_ticket::testing::{next, starting_at};
@@ -137,9 +137,12 @@ struct Relay {
 }
 
 impl Relay {
-    // Takes every other turn. The last one stays until the looks are over.
+    // Takes every other turn, until the looks are over. The last one stays as long.
     fn run<R: Wait>(&self, rt: &R) {
         for _ in 0..TURNS {
+            if self.looked.load(SeqCst) {
+                return;
+            }
             let mut before = self.lock.lock(rt);
             let ticket = *before;
             *before = ticket.wrapping_add(1);
@@ -156,10 +159,11 @@ impl Relay {
         }
     }
 
-    // Whether each look from the first ticket to the last found the lock taken.
+    // Whether each look from the first ticket on found the lock taken. It looks no more often than that, however slowly
+    // the others take turns.
     fn look(&self) -> bool {
         let mut locked = true;
-        for _ in 0..MAX_LOOKS {
+        for _ in 0..1_000_000u32 {
             let has_begun = next(&self.lock) > 0;
             locked = locked && (!has_begun || self.lock.is_locked());
             if next(&self.lock) == 2 * TURNS {

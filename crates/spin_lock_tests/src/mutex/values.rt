@@ -1,6 +1,6 @@
 //! What is written through a guard is read back through it.
 ghost use Rattle.std.specs.Prelude.{◌≡◌};
-ghost use Rattle.spin_guard.specs.Guard.{guard_value};
+ghost use Rattle.spin_core.specs.Guard.{guard_value};
 ghost use Rattle.spin_mutex.specs.MutexGuard.{value_of};
 
 use crate::equal::equal;

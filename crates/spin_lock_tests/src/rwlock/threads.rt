@@ -2,7 +2,7 @@
 
 use crate::equal::equal;
 use crate::mutex::threads::write_elsewhere;
-use crate::waiting::{MAX_LOOKS, await_number, pause};
+use crate::waiting::{MAX_LOOKS, await_number, has_turn, pause};
 use spin_core::relax::{RelaxStrategy, Yield};
 use spin_rwlock::rwlock::{RwLock, RwLockWriteGuard};
 use std::sync::Wait;
@@ -90,20 +90,26 @@ fn a_writer_waits_for_a_writer_and_for_a_reader(rt: HostRuntime) {
 }
 
 // Enough for some of the tries of two threads to fall into one another, or into a look that takes the lock.
-const TRIES: u32 = 1_000_000;
+const TURNS: u64 = 1_000_000;
 
-fn read_often<R: Wait>(rt: &R, lock: &RwLock<u64>) -> bool {
+fn read_often<R: Wait>(rt: &R, lock: &RwLock<u64>, turns: &AtomicU64) -> bool {
     let mut granted = true;
-    for _ in 0..TRIES {
+    for _ in 0..TURNS {
+        if !has_turn(turns, TURNS) {
+            break;
+        }
         lock.writer_count();
         granted = granted && lock.try_read(rt).is_some();
     }
     granted
 }
 
-fn read_upgradable_often<R: Wait>(rt: &R, lock: &RwLock<u64>) -> bool {
+fn read_upgradable_often<R: Wait>(rt: &R, lock: &RwLock<u64>, turns: &AtomicU64) -> bool {
     let mut granted = true;
-    for _ in 0..TRIES {
+    for _ in 0..TURNS {
+        if !has_turn(turns, TURNS) {
+            break;
+        }
         lock.writer_count();
         granted = granted && lock.try_upgradeable_read(rt).is_some();
     }
@@ -113,10 +119,11 @@ fn read_upgradable_often<R: Wait>(rt: &R, lock: &RwLock<u64>) -> bool {
 #[test]
 fn a_try_to_read_that_lost_a_race_tries_again(rt: HostRuntime) {
     let lock = RwLock::new(1);
+    let turns = AtomicU64::new(0);
     let granted = thread::join(
         &rt,
-        || read_often(&rt, &lock),
-        || read_upgradable_often(&rt, &lock),
+        || read_often(&rt, &lock, &turns),
+        || read_upgradable_often(&rt, &lock, &turns),
     );
     equal(&rt, granted, (true, true));
 }

@@ -3,7 +3,7 @@
 ghost use Rattle.std.specs.Prelude.{Option};
 ghost use Rattle.std.specs.Fmt.{DisplaysOnOk};
 ghost use Rattle.spin_mutex.specs.MutexGuard.{value_of};
-ghost use Rattle.spin_guard.specs.Texts.{lock_text};
+ghost use Rattle.spin_core.specs.Texts.{lock_text};
 
 use super::{Mutex, MutexGuard};
 use std::fmt;

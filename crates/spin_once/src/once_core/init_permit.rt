@@ -1,20 +1,24 @@
 //! The right to make the value. It ends by [`InitPermit::complete`] or [`InitPermit::fail`].
-ghost use Rattle.std.specs.Prelude.{◌≡◌, Some};
+ghost use Rattle.std.specs.Prelude.{◌≡◌, Some, true};
 ghost use Rattle.spin_core.specs.Stable.{maybe_stable};
-ghost use Rattle.spin_once.specs.Claims.{HasSeed, HasTaken};
-ghost use Rattle.spin_once.specs.declared.once_core.rule.View.TheVariants.{Running};
+ghost use Rattle.spin_once.specs.Once.{is_running, running};
 
-use super::rule::{Complete, Fail, Party, RUNNING, Seed, Stage, Writer, read_value};
+use super::rule::{Caller, Complete, Fail, RUNNING, Seed, Stage, Writer, read_value};
+use spin_core::trace::Watch;
 use spin_step::once;
 use std::mem::{self, ManuallyDrop};
 
 /// The right of the party that began: it has the cell's content alone.
 pub(crate) struct InitPermit<'a, T, S: Seed<T>> {
     writer: Writer<'a, T, S>,
+    ghost runs: { is_running writer.view.0 ≡ true },
 }
 
 impl<'a, T, S: Seed<T>> InitPermit<'a, T, S> {
+    ghost use Rattle.spin_once.specs.Claims.{HasSeed, HasTaken};
+
     pub(super) fn new(writer: Writer<'a, T, S>) -> Self
+        requires { is_running writer.view.0 ≡ true }
         ensures { result.writer ≡ writer.entry }
     {
         InitPermit { writer }
@@ -22,8 +26,8 @@ impl<'a, T, S: Seed<T>> InitPermit<'a, T, S> {
 
     /// Takes the seed out.
     pub(crate) fn take(self) -> (Self, S)
-        requires { HasSeed self.writer.key.value self }
-        ensures { HasTaken self.entry.writer.key.value result }
+        requires { HasSeed self.writer.key.seed.value self }
+        ensures { HasTaken self.entry.writer.key.seed.value result }
     {
         let Self { mut writer } = self;
         match mem::replace(&mut writer.get_mut().value, Stage::Taken) {
@@ -34,24 +38,28 @@ impl<'a, T, S: Seed<T>> InitPermit<'a, T, S> {
 
     /// Puts the value, which all parties may read from then on. A seed that was not taken out is not dropped.
     pub(crate) fn complete(self, value: T) -> &'a T
-        requires { S.makes self.writer.key.value value }
+        requires { S.makes self.writer.key.seed.value value }
         ensures { result.now ≡ value }
     {
         let party = self.put(Stage::Done(value));
-        read_value(party.store::<Complete>(once::complete(RUNNING) as u64))
+        let (party, _) = party.store::<Complete>(once::complete(RUNNING) as u64, Watch::nothing());
+        read_value(party)
     }
 
-    /// Leaves the seed where it is, so that the next party may begin.
+    /// Leaves the seed where it is, so that the next party may begin. The closure of the call is one that may fail.
     pub(crate) fn fail(self)
-        requires { HasSeed self.writer.key.value self }
+        requires seed { HasSeed self.writer.key.seed.value self }
+        requires may { self.writer.view.0 ≡ running true }
     {
         let Self { writer } = self;
         let party = writer.into_permit();
-        party.store::<Fail>(once::fail(RUNNING) as u64).leave();
+        let (party, _) = party.store::<Fail>(once::fail(RUNNING) as u64, Watch::nothing());
+        party.leave();
     }
 
-    fn put(self, stage: Stage<T, S>) -> Party<'a, T, S>
-        ensures runs { (result.view ≡ Some Running) × (result.value ≡ Some (maybe_stable stage)) }
+    fn put(self, stage: Stage<T, S>) -> Caller<'a, T, S>
+        ensures runs { (result.view ≡ Some self.entry.writer.view) × (result.value ≡ Some (maybe_stable stage)) }
+        ensures running { is_running self.entry.writer.view.0 ≡ true }
         ensures key { result.key ≡ self.entry.writer.key }
     {
         let Self { mut writer } = self;

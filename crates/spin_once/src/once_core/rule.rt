@@ -1,16 +1,19 @@
 //! The rule of a [`OnceCore`](super::OnceCore): what each party is to the value (`View`), what the word says of all of
 //! them, and each kind of step.
-ghost use Rattle.std.specs.Prelude.{◌≡◌, Some, IsSomeAnd};
-ghost use Rattle.spin_core.specs.Plays.{becomes, becomes_by};
+ghost use Rattle.std.specs.Prelude.{◌≡◌, Bool, Option, Some, None, true, false, IsSomeAnd};
+ghost use Rattle.spin_core.specs.Own.{what};
 ghost use Rattle.spin_core.specs.Stable.{maybe_stable};
-ghost use Rattle.spin_once.specs.Once.{loaded, tried};
-ghost use Rattle.spin_once.specs.Loads.{LoadsMade};
-ghost use Rattle.spin_once.specs.declared.once_core.rule.View.TheVariants.{Idle, Running, Reading};
+ghost use Rattle.spin_once.specs.Once.{Told, gets_by, completes_by, comes_by, leads_by, call_of, begun, looked, waited, polled};
+ghost use Rattle.spin_once.specs.declared.once_core.rule.View.TheVariants.{Idle, Reading};
 ghost use Rattle.spin_once.specs.declared.once_core.rule.Stage.TheVariants.{Done};
 
 use super::known::known;
 use spin_core::cell::stable::{MaybeStable, Stabilizes, Stable};
 use spin_core::cell::{Cell, Permit, Play, Rule, WritePermit};
+use spin_core::tie;
+use spin_core::trace::{Trace, Watch};
+use spin_model::{OnceCall, OncePoint};
+use std::marker::PhantomData;
 use std::snapshot::Snapshot;
 
 // The states of the word.
@@ -26,12 +29,31 @@ pub trait Seed<T> {
     ghost makes: { Self → T → Type 0 };
 }
 
-/// What a party is to the value.
+/// What a party (one call, and the reference that it returns) is to the value.
 #[derive(Clone, Copy)]
 pub enum View {
     Idle,
-    Running,
+    /// It reads the value for good.
     Reading,
+    /// It is in this call, at this point. At `Run` it runs its closure.
+    InCall(OnceCall<()>, OncePoint),
+}
+
+/// A party with its number.
+pub type Party = tie::Numbered<View>;
+
+/// An entry of the trace.
+pub type Entry = tie::Entry<OnceCall<()>>;
+
+/// What is settled when the cell is made.
+#[derive(Drop)]
+pub struct Key<S> {
+    /// What the value is made from.
+    pub seed: Snapshot<S>,
+    /// The value that the cell was made with, if it was.
+    pub given: Snapshot<Option<()>>,
+    /// What is known of the trace at first: its name.
+    pub start: Watch<Entry>,
 }
 
 /// What lies in the cell.
@@ -67,107 +89,156 @@ impl<T, S> Stabilizes for Stage<T, S> {
     ghost stable = { is_done };
 }
 
-/// The word is that of a plain lock in whose phase these parties are.
-impl<T, S: Seed<T>> Rule<Slot<T, S>, View> for Slot<T, S> {
+/// The word is that of a plain lock in whose phase these parties are. The trace is a schedule of the model, which leads
+/// to this word, with each party in the seat that its view names.
+impl<T, S: Seed<T>> Rule<Slot<T, S>, Party> for Stage<T, S> {
     ghost use Rattle.spin_once.specs.Once.{IsOnce, once_ways};
 
-    type Key = Snapshot<S>;
+    type Key = Key<S>;
 
-    type Second = ();
+    type Second = Trace<Entry>;
 
-    ghost holds = { IsOnce };
+    ghost holds = { λ key. IsOnce key.given.value key.start.name };
 
-    ghost ways = { once_ways S.makes };
+    ghost ways = { λ key. once_ways S.makes key.seed };
 }
 
-pub(super) type SeedCell<T, S> = Cell<Slot<T, S>, View, Slot<T, S>>;
+pub(super) type SeedCell<T, S> = Cell<Slot<T, S>, Party, Stage<T, S>>;
 
-pub(super) type Party<'a, T, S> = Permit<'a, Slot<T, S>, View, Slot<T, S>>;
+pub(super) type Caller<'a, T, S> = Permit<'a, Slot<T, S>, Party, Stage<T, S>>;
 
-pub(super) type Writer<'a, T, S> = WritePermit<'a, Slot<T, S>, View, Slot<T, S>>;
+pub(super) type Writer<'a, T, S> = WritePermit<'a, Slot<T, S>, Party, Stage<T, S>>;
 
-/// What a load finds.
-pub(crate) enum Progress<'a, T> {
-    Nothing,
-    Running,
-    Value(&'a T),
+/// Whether the closure of a call may fail.
+pub(crate) trait Closure {
+    ghost may_fail: { Bool };
 }
 
-struct Load;
+/// A closure that gives a value.
+pub(crate) struct Sure;
 
-impl Play<View> for Load {
-    ghost then = { becomes_by loaded };
+impl Closure for Sure {
+    ghost may_fail = { false };
 }
 
-pub(super) struct Begin;
+/// A closure that may fail.
+pub(crate) struct Unsure;
 
-impl Play<View> for Begin {
-    ghost then = { becomes_by tried };
+impl Closure for Unsure {
+    ghost may_fail = { true };
 }
 
+/// The load of `get`.
+pub(super) struct Gets;
+
+impl Play<Party, Entry> for Gets {
+    ghost told = { λ old new before. Told gets_by before };
+}
+
+/// The load of `is_completed`.
+pub(super) struct Completes;
+
+impl Play<Party, Entry> for Completes {
+    ghost told = { λ old new before. Told completes_by before };
+}
+
+/// The first load of a call with a closure.
+pub(super) struct Comes<C> {
+    closure: PhantomData<C>,
+}
+
+impl<C: Closure> Play<Party, Entry> for Comes<C> {
+    ghost told = { λ old new before. Told (comes_by C.may_fail) before };
+}
+
+/// The exchange by which a call begins to run its closure.
+pub(super) struct Begins;
+
+impl Play<Party, Entry> for Begins {
+    ghost told = { λ old new before. Told (leads_by (begun (call_of (what before)))) before };
+}
+
+/// A load of a call with a closure, while another one runs.
+pub(super) struct Looks;
+
+impl Play<Party, Entry> for Looks {
+    ghost told = { λ old new before. Told (leads_by (looked (call_of (what before)))) before };
+}
+
+/// A load of `wait`.
+pub(super) struct Waits;
+
+impl Play<Party, Entry> for Waits {
+    ghost told = { λ old new before. Told (leads_by waited) before };
+}
+
+/// A load of `poll`.
+pub(super) struct Polls;
+
+impl Play<Party, Entry> for Polls {
+    ghost told = { λ old new before. Told (leads_by polled) before };
+}
+
+/// The store after a closure that gave a value.
 pub(super) struct Complete;
 
-impl Play<View> for Complete {
-    ghost then = { becomes Reading };
+impl Play<Party, Entry> for Complete {
+    ghost told = { λ old new before. Told (leads_by (λ n. Reading)) before };
 }
 
+/// The store after a closure that failed.
 pub(super) struct Fail;
 
-impl Play<View> for Fail {
-    ghost then = { becomes Idle };
+impl Play<Party, Entry> for Fail {
+    ghost told = { λ old new before. Told (leads_by (λ n. Idle)) before };
 }
 
 /// Creates a cell with a seed, to which no party has come.
 pub(super) fn with_seed<T, S: Seed<T>>(seed: S) -> SeedCell<T, S>
-    ensures { result.value ≡ seed }
+    ensures { result.seed.value ≡ seed }
 {
-    let key = Snapshot::of(&seed);
+    let trace = Trace::new(());
+    let key = Key {
+        seed: Snapshot::of(&seed),
+        given: Snapshot::of(&None),
+        start: trace.watch(),
+    };
     let slot = MaybeStable {
         value: Stage::Seed(seed),
     };
-    Cell::new(slot, NOTHING as u64, (), &key)
+    Cell::new(slot, NOTHING as u64, trace, &key)
 }
 
 /// Creates a cell with a value, which a party has read.
 pub(super) fn completed<T, S: Seed<T>>(value: T, seed: &S) -> SeedCell<T, S>
     requires { S.makes seed.now value }
-    ensures { result.value ≡ seed.now }
+    ensures { result.seed.value ≡ seed.now }
 {
+    let trace = Trace::new(());
+    let key = Key {
+        seed: Snapshot::of(seed),
+        given: Snapshot::of(&Some(())),
+        start: trace.watch(),
+    };
     let slot = MaybeStable {
         value: Stage::Done(value),
     };
-    Cell::new(slot, COMPLETE as u64, (), &Snapshot::of(seed))
-}
-
-/// Loads the word once. By the time the caller reads the answer it may be out of date, but a value stays.
-pub(super) fn look<T, S: Seed<T>>(cell: &SeedCell<T, S>) -> Progress<'_, T>
-    ensures { LoadsMade S.makes cell.now.value result }
-{
-    let (found, permit) = cell.enter().load::<Load>();
-    if found == COMPLETE as u64 {
-        return Progress::Value(read_value(permit));
-    }
-    permit.leave();
-    if found == NOTHING as u64 {
-        Progress::Nothing
-    } else {
-        Progress::Running
-    }
+    Cell::new(slot, COMPLETE as u64, trace, &key)
 }
 
 /// Returns the value to a party that reads it, for as long as the cell is borrowed.
-pub(super) fn read_value<'a, T, S: Seed<T>>(party: Party<'a, T, S>) -> &'a T
-    requires { party.view ≡ Some Reading }
+pub(super) fn read_value<'a, T, S: Seed<T>>(party: Caller<'a, T, S>) -> &'a T
+    requires { what party.view ≡ Some Reading }
     ensures value { party.entry.value ≡ Some (maybe_stable (Done result.now)) }
-    ensures made { S.makes party.entry.key.value result.now }
+    ensures made { S.makes party.entry.key.seed.value result.now }
 {
     known(lying(party))
 }
 
 // What lies in the cell of a party that reads the value: that value.
-fn lying<'a, T, S: Seed<T>>(party: Party<'a, T, S>) -> Option<&'a T>
-    requires { party.view ≡ Some Reading }
-    ensures { IsSomeAnd result (λ there. (party.entry.value ≡ Some (maybe_stable (Done there.now))) × S.makes party.entry.key.value there.now) }
+fn lying<'a, T, S: Seed<T>>(party: Caller<'a, T, S>) -> Option<&'a T>
+    requires { what party.view ≡ Some Reading }
+    ensures { IsSomeAnd result (λ there. (party.entry.value ≡ Some (maybe_stable (Done there.now))) × S.makes party.entry.key.seed.value there.now) }
 {
     match &party.see().value {
         Stage::Done(value) => Some(value),

@@ -6,6 +6,7 @@ use super::stops::{Run, Two, run_of, runs_of};
 use super::worlds::{
     Opening, Shown, Told, Trial, holds, look_at, opened, play, run, try_all, world,
 };
+use crate::alike::{Alike, are_alike};
 use bumpalo::Bump;
 use spin_world::{Move, run_in_two};
 use std::alloc::Global;
@@ -118,14 +119,14 @@ impl Refusals {
 
 /// Compares what came of a refused run, and of the same run again, with the two runs of a world that is never refused.
 fn is_as_wanted(rt: &impl Abort, shows: &str, left: usize, again: &Again, past: &Run, two: &Two) {
-    holds(rt, shows, left, again.refused == past.stop);
+    holds(rt, shows, left, again.refused.is_like(&past.stop));
     holds(
         rt,
         shows,
         left,
-        again.told.as_slice() == two.second.as_slice(),
+        are_alike(again.told.as_slice(), two.second.as_slice()),
     );
-    holds(rt, shows, left, again.stop == two.stop);
+    holds(rt, shows, left, again.stop.is_like(&two.stop));
 }
 
 /// In each room from none to enough: a world is made, it plays on, and it plays in two runs.
@@ -159,8 +160,8 @@ pub fn in_each_room<O: OfHeader>(
         }
         let (mut first, mut second) = (false, false);
         if let Some(stop) = &two {
-            first = *stop == before.start;
-            second = *stop == before.stop;
+            first = stop.is_like(&before.start);
+            second = stop.is_like(&before.stop);
             holds(rt, shows, left, first || second);
         }
         refusals.add(!opens, again.is_some(), first, second);

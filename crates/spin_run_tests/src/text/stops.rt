@@ -4,6 +4,7 @@ ghost use Rattle.std.specs.Prelude.{◌≤◌, length};
 
 use super::objects::{OfHeader, Standing, are_words_of, parties_of};
 use super::worlds::{Opening, Shown, Told, Trial, holds, look_at, opened, play, tell, try_all};
+use crate::alike::Alike;
 use spin_text::Header;
 use spin_world::{Answer, Fair, FairCall, Move, Outcome, Place, run_in_two};
 use std::alloc::Global;
@@ -163,7 +164,7 @@ fn told_from(start: usize, event: Told) -> Told {
 fn is_part(rt: &impl Abort, shows: &str, start: usize, part: &[Told], whole: &[Told]) {
     holds(rt, shows, start, part.len() == whole.len());
     for (event, wanted) in part.iter().zip(whole) {
-        holds(rt, shows, start, *event == told_from(start, *wanted));
+        holds(rt, shows, start, event.is_like(&told_from(start, *wanted)));
     }
 }
 
@@ -172,7 +173,7 @@ fn are_one(rt: &impl Abort, shows: &str, at: usize, two: &Two, one: &Run) {
     let (front, back) = one.events.split_at(at.min(one.events.len()));
     is_part(rt, shows, 0, &two.first, front);
     is_part(rt, shows, at, &two.second, back);
-    holds(rt, shows, at, two.stop == one.stop);
+    holds(rt, shows, at, two.stop.is_like(&one.stop));
 }
 
 /// Every stop of a schedule, and every cut.

@@ -5,6 +5,7 @@ use super::objects::{OfHeader, parties_of};
 use super::refused::in_each_room;
 use super::stops::at_each_place;
 use super::transcripts::WORKED;
+use crate::alike::{Alike, are_alike};
 use spin_text::{Header, Rest, first_line, header_of, schedule_of};
 use spin_world::{
     Answer, BarrierObject, Event, Fair, Flag, Move, Object, OnceObject, Outcome, Place, Rw, Ticket,
@@ -59,11 +60,19 @@ pub fn opened<O: OfHeader, A: Allocator + Copy>(
 }
 
 /// Where a world is: its words as numbers, its value, and the places of its parties.
-#[derive(PartialEq, Drop)]
+#[derive(Drop)]
 pub struct Shown {
     pub numbers: (u64, Option<u64>),
     pub value: Option<u64>,
     pub places: Vec<Place>,
+}
+
+impl Alike for Shown {
+    fn is_like(&self, other: &Self) -> bool {
+        self.numbers == other.numbers
+            && self.value == other.value
+            && are_alike(self.places.as_slice(), other.places.as_slice())
+    }
 }
 
 /// Where a world is. A place past the last party's would be one too many.
@@ -87,11 +96,19 @@ pub fn look_at<O: OfHeader, A: Allocator + Copy>(
 }
 
 /// An event: the party, what came of its move, and the words after it as numbers.
-#[derive(Clone, Copy, PartialEq)]
+#[derive(Clone, Copy)]
 pub struct Told {
     pub party: usize,
     pub outcome: Outcome<Answer<u64>, u64>,
     pub numbers: (u64, Option<u64>),
+}
+
+impl Alike for Told {
+    fn is_like(&self, other: &Self) -> bool {
+        self.party == other.party
+            && self.outcome.is_like(&other.outcome)
+            && self.numbers == other.numbers
+    }
 }
 
 /// What an event tells.

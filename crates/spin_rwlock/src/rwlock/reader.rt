@@ -1,9 +1,10 @@
 //! The guard of a reader, of either kind, and a reader's hold without a guard. Begin at [`RwLockReadGuard`].
 ghost use Rattle.std.specs.Prelude.{◌≡◌, Some};
+ghost use Rattle.spin_core.specs.Own.{what};
 ghost use Rattle.spin_rwlock.specs.Rw.{IsLent};
 ghost use Rattle.spin_rwlock.specs.declared.rwlock.rule.View.TheVariants.{Reading};
 
-use super::rule::{Kind, Party, Reader, RwRule, View};
+use super::rule::{Kind, Party, Reader, RwPermit, RwRule};
 use spin_core::cell::Permit;
 use spin_core::relax::Spin;
 use std::marker::PhantomData;
@@ -26,8 +27,9 @@ use std::ops::Deref;
 ///     (seen.1, *RwLockReadGuard::leak(guard))
 /// }
 /// ```
+#[must_use = "dropping the guard at once releases the lock: bind it, or write `drop(..)`"]
 pub struct SharedGuard<'a, T, K: Kind, R = Spin> {
-    permit: Permit<'a, T, View, RwRule<T>>,
+    permit: Permit<'a, T, Party, RwRule<T>>,
     marker: PhantomData<(K, R)>,
     ghost lent: { IsLent permit K.view },
 }
@@ -61,16 +63,17 @@ pub type RwLockReadGuard<'a, T, R = Spin> = SharedGuard<'a, T, Reader, R>;
 /// RwLock::force_read_decrement(second);
 /// shows(&rt, &lock, READ, [1, 0]);
 /// ```
+#[must_use = "dropping a hold does not release the lock: pass it to `force_read_decrement`"]
 pub struct ReadHeld<'a, T, R = Spin> {
-    permit: Permit<'a, T, View, RwRule<T>>,
+    permit: Permit<'a, T, Party, RwRule<T>>,
     strategy: PhantomData<R>,
-    ghost reading: { permit.view ≡ Some Reading },
+    ghost reading: { what permit.view ≡ Some Reading },
 }
 
 impl<'a, T, K: Kind, R> SharedGuard<'a, T, K, R> {
     ghost use Rattle.spin_rwlock.specs.Guards.{shared_value};
 
-    pub(super) fn new(permit: Party<'a, T>) -> Self
+    pub(super) fn new(permit: RwPermit<'a, T>) -> Self
         requires { IsLent permit K.view }
         ensures { shared_value result ≡ permit.entry.value }
     {
@@ -102,7 +105,7 @@ impl<'a, T, K: Kind, R> SharedGuard<'a, T, K, R> {
         this.into_permit().see()
     }
 
-    pub(super) fn into_permit(self) -> Party<'a, T>
+    pub(super) fn into_permit(self) -> RwPermit<'a, T>
         ensures same { result ≡ self.entry.permit }
         ensures lent { IsLent result K.view }
     {
@@ -141,8 +144,8 @@ impl<'a, T, R> ReadHeld<'a, T, R> {
         Reader::release(self.into_permit());
     }
 
-    fn into_permit(self) -> Party<'a, T>
-        ensures { result.view ≡ Some Reading }
+    fn into_permit(self) -> RwPermit<'a, T>
+        ensures { what result.view ≡ Some Reading }
     {
         let Self {
             permit,

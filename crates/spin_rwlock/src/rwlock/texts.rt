@@ -2,14 +2,15 @@
 //! value.
 ghost use Rattle.std.specs.Prelude.{Option};
 ghost use Rattle.std.specs.Fmt.{DisplaysOnOk};
-ghost use Rattle.std.specs.Option.{option_copied};
 ghost use Rattle.spin_rwlock.specs.Guards.{shared_value, write_value};
 ghost use Rattle.spin_rwlock.specs.Texts.{rw_text, lent_text};
 
 use super::RwLock;
-use super::reader::SharedGuard;
-use super::rule::{Kind, Reader};
+use super::coming::peek;
+use super::reader::{RwLockReadGuard, SharedGuard};
+use super::rule::Kind;
 use super::writer::RwLockWriteGuard;
+use spin_core::texts::write_named;
 use std::fmt;
 use std::fmt::{Debug, Display, Formatter};
 
@@ -19,21 +20,10 @@ impl<T: Debug, R> Debug for RwLock<T, R> {
     fn fmt<W: fmt::Write>(&self, f: &mut Formatter<W>) -> fmt::Result
         ensures { (found : Option T) × DisplaysOnOk W.write_str_gives f.old result (rw_text T.debug_output found) f.new }
     {
-        let guard = self.lend_at::<Reader>(self.word()).ok();
-        write_lock(guard.as_ref().map(|guard| &**guard), f)
+        let guard: Option<RwLockReadGuard<T, R>> = peek(&self.cell);
+        let value = guard.as_ref().map(|guard| &**guard);
+        write_named("RwLock { data: ", "RwLock { <locked> }", value, f)
     }
-}
-
-// Writes the lock with the value that one try found, or as locked.
-fn write_lock<T: Debug, W: fmt::Write>(value: Option<&T>, f: &mut Formatter<W>) -> fmt::Result
-    ensures { DisplaysOnOk W.write_str_gives f.old result (rw_text T.debug_output (option_copied value.entry)) f.new }
-{
-    let Some(value) = value else {
-        return f.write_str("RwLock { <locked> }");
-    };
-    f.write_str("RwLock { data: ")?;
-    Debug::fmt(value, f)?;
-    f.write_str(" }")
 }
 
 impl<T: Debug, K: Kind, R> Debug for SharedGuard<'_, T, K, R> {

@@ -5,7 +5,7 @@ ghost use Rattle.spin_rwlock.specs.Rw.{IsLent};
 ghost use Rattle.spin_rwlock.specs.declared.rwlock.rule.View.TheVariants.{Asking, WritingAsked};
 
 use super::reader::{RwLockReadGuard, SharedGuard};
-use super::rule::{Party, Upgrader, ask, upgradable_to_read, upgrade, upgrade_asked};
+use super::rule::{RwPermit, Upgrader, ask, upgradable_to_read, upgrade, upgrade_asked};
 use super::writer::RwLockWriteGuard;
 use spin_core::relax::{RelaxStrategy, Spin};
 use std::sync::Wait;
@@ -116,7 +116,7 @@ impl<'a, T, R: RelaxStrategy> SharedGuard<'a, T, Upgrader, R> {
     /// (seen, *guard)
     /// ```
     pub fn upgrade<W: Wait>(self, rt: &W) -> RwLockWriteGuard<'a, T, R>
-        ensures asked { result.writer.view ≡ WritingAsked }
+        ensures asked { result.writer.view.0 ≡ WritingAsked }
         ensures value { Some (write_value result) ≡ shared_value self.entry }
     {
         match upgrade_asked(ask(self.into_permit())) {
@@ -131,10 +131,10 @@ impl<'a, T, R: RelaxStrategy> SharedGuard<'a, T, Upgrader, R> {
 #[inline(never)]
 fn wait_to_upgrade<'a, T, R: RelaxStrategy, W: Wait>(
     rt: &W,
-    asking: Party<'a, T>,
+    asking: RwPermit<'a, T>,
 ) -> RwLockWriteGuard<'a, T, R>
     requires { IsLent asking Asking }
-    ensures asked { result.writer.view ≡ WritingAsked }
+    ensures asked { result.writer.view.0 ≡ WritingAsked }
     ensures value { Some (write_value result) ≡ asking.entry.value }
 {
     let mut asking = asking;

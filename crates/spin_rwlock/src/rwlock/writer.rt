@@ -1,10 +1,12 @@
 //! The writer's guard, and its hold without a guard. Begin at [`RwLockWriteGuard`].
 ghost use Rattle.std.specs.Prelude.{◌≡◌, Some};
 ghost use Rattle.spin_core.specs.Cell.{use_of, writes};
-ghost use Rattle.spin_rwlock.specs.Rw.{use_of_view};
+ghost use Rattle.spin_rwlock.specs.Rw.{use_of_party};
 
 use super::reader::{RwLockReadGuard, SharedGuard};
-use super::rule::{Party, RwRule, View, Writer, release_write, write_to_read, write_to_upgradable};
+use super::rule::{
+    Party, RwPermit, RwRule, Writer, release_write, write_to_read, write_to_upgradable,
+};
 use super::upgradable::RwLockUpgradableGuard;
 use spin_core::cell::{Permit, WritePermit};
 use spin_core::relax::Spin;
@@ -28,8 +30,9 @@ use std::ops::{Deref, DerefMut};
 ///     *guard.downgrade()
 /// }
 /// ```
+#[must_use = "dropping the guard at once releases the lock: bind it, or write `drop(..)`"]
 pub struct RwLockWriteGuard<'a, T, R = Spin> {
-    writer: WritePermit<'a, T, View, RwRule<T>>,
+    writer: WritePermit<'a, T, Party, RwRule<T>>,
     strategy: PhantomData<R>,
 }
 
@@ -48,10 +51,11 @@ pub struct RwLockWriteGuard<'a, T, R = Spin> {
 /// RwLock::force_write_unlock(held);
 /// shows(&rt, &lock, FREE, [0, 0]);
 /// ```
+#[must_use = "dropping a hold does not release the lock: pass it to `force_write_unlock`"]
 pub struct WriteHeld<'a, T, R = Spin> {
-    permit: Permit<'a, T, View, RwRule<T>>,
+    permit: Permit<'a, T, Party, RwRule<T>>,
     strategy: PhantomData<R>,
-    ghost writing: { use_of use_of_view permit.view ≡ writes },
+    ghost writing: { use_of use_of_party permit.view ≡ writes },
 }
 
 impl<'a, T, R> RwLockWriteGuard<'a, T, R> {
@@ -160,8 +164,8 @@ impl<'a, T, R> WriteHeld<'a, T, R> {
         release_write(self.into_permit().into_writer());
     }
 
-    fn into_permit(self) -> Party<'a, T>
-        ensures { use_of use_of_view result.view ≡ writes }
+    fn into_permit(self) -> RwPermit<'a, T>
+        ensures { use_of use_of_party result.view ≡ writes }
     {
         let Self {
             permit,

@@ -32,6 +32,7 @@ impl<C> Model for Place<C> {
 /// is_send::<Pass>();
 /// ```
 #[derive(Drop)]
+#[must_use = "only a pass makes calls: bind it"]
 pub struct Pass<C: Calls> {
     pub(crate) place: Place<C>,
     pub(crate) holding: C::Hold,

@@ -13,7 +13,7 @@ use super::plays::{
 };
 use super::{Call, RwPass, SeatedHold};
 use crate::lock::{Place, SeatedLock};
-use spin_step::rw;
+use spin_step_more::rw;
 use std::alloc::Allocator;
 use std::sync::Wait;
 

@@ -2,7 +2,7 @@
 //! none has an example.
 ghost use Rattle.std.specs.Prelude.{◌≡◌, ℕ, ◌<◌, ◌==◌, ◌&&◌, Bool, List, [], ◌∷◌, ◌++◌, Some, filter, length, nat_lt, slice_get};
 ghost use Rattle.spin_step.specs.Plain.{reading, writing, count_kind, count_against, reader_count, is_empty};
-ghost use Rattle.spin_step.specs.Readers.{reader_limit};
+ghost use Rattle.spin_step_more.specs.Readers.{reader_limit};
 ghost use Rattle.spin_seated.specs.declared.history.Entry.{Entry};
 ghost use Rattle.spin_seated.specs.declared.lock.Opening.{Opening};
 ghost use Rattle.spin_seated.specs.declared.lock.Answer.{Answer};

@@ -1,48 +1,78 @@
-//! The rule of a lock of seats: what each party is to it ([`View`]), what its word says of all of them, and each kind
-//! of step.
-ghost use Rattle.spin_core.specs.Plays.{becomes, exchanges};
-ghost use Rattle.spin_seats.specs.Rule.{IsSeats, looks, seat_ways};
-ghost use Rattle.spin_seats.specs.declared.seats.rule.View.TheVariants.{Idle, Seated};
+//! The rule of a lock of seats: what each party is to it ([`View`]), what its word and its trace say of all of them,
+//! and each kind of step.
+ghost use Rattle.spin_core.specs.Own.{what};
+ghost use Rattle.spin_seats.specs.Rule.{IsSeats, Told, at_word, counts_by, leads_by, seat_ways, sits_by};
+ghost use Rattle.spin_seats.specs.declared.seats.rule.View.TheVariants.{Idle};
+ghost use Rattle.std.specs.Prelude.{true, false};
 
+use crate::calls::SeatsCall;
 use spin_core::cell::{Play, Rule};
+use spin_core::tie;
+use spin_core::trace::{Trace, Watch};
 
-/// What a party is to the lock.
+/// What a party (one call, and the guard that it returns) is to the lock.
 #[derive(Clone, Copy)]
 pub enum View {
     Idle,
     Seated,
+    /// It is in `enter`, if the flag is true, or else in `try_enter`. It goes on with its exchange of this word.
+    Coming(bool, usize),
+    /// It is in `enter`, and goes on with a look.
+    Waiting,
 }
 
-/// The rule: the word is the number of parties that sit, and that is at most `N`.
+/// A party with its number.
+pub type Party = tie::Numbered<View>;
+
+/// An entry of the lock's trace.
+pub type Entry = tie::Entry<SeatsCall>;
+
+/// The rule: the word is the number of parties that sit, and that is at most `N`. The trace is a schedule of the lock's
+/// model, which leads to this word, with each party where its view says.
 pub struct SeatsRule<const N: usize>;
 
-impl<const N: usize> Rule<(), View> for SeatsRule<N> {
-    type Key = ();
+impl<const N: usize> Rule<(), Party> for SeatsRule<N> {
+    // What is known of the trace at first: its name.
+    type Key = Watch<Entry>;
 
-    type Second = ();
+    type Second = Trace<Entry>;
 
-    ghost holds = { IsSeats N };
+    ghost holds = { λ start. IsSeats N start.name };
 
     ghost ways = { λ _. seat_ways };
 }
 
-/// A party comes, and takes no seat. It finds that at most `N` sit.
-pub(super) struct Load<const N: usize>;
+/// The load of `count`. It finds that at most `N` sit.
+pub(super) struct Counts<const N: usize>;
 
-impl<const N: usize> Play<View> for Load<N> {
-    ghost then = { looks N };
+impl<const N: usize> Play<Party, Entry> for Counts<N> {
+    ghost told = { λ old new before. Told N (counts_by N) before };
 }
 
-/// A party comes, and sits if it finds the word that it expects.
-pub(super) struct SitDown;
+/// The load of `try_enter`.
+pub(super) struct Tries<const N: usize>;
 
-impl Play<View> for SitDown {
-    ghost then = { exchanges (λ _. Seated) Idle };
+impl<const N: usize> Play<Party, Entry> for Tries<N> {
+    ghost told = { λ old new before. Told N (leads_by (at_word N false)) before };
 }
 
-/// A party that sits goes.
-pub(super) struct GetUp;
+/// The load of `enter`.
+pub(super) struct Looks<const N: usize>;
 
-impl Play<View> for GetUp {
-    ghost then = { becomes Idle };
+impl<const N: usize> Play<Party, Entry> for Looks<N> {
+    ghost told = { λ old new before. Told N (leads_by (at_word N true)) before };
+}
+
+/// The exchange of a call that takes a seat. It sits if it finds the word that it expects.
+pub(super) struct SitsDown<const N: usize>;
+
+impl<const N: usize> Play<Party, Entry> for SitsDown<N> {
+    ghost told = { λ old new before. Told N (leads_by (sits_by N old (what before))) before };
+}
+
+/// The subtraction of a party that sits and goes.
+pub(super) struct GetsUp<const N: usize>;
+
+impl<const N: usize> Play<Party, Entry> for GetsUp<N> {
+    ghost told = { λ old new before. Told N (leads_by (λ found. Idle)) before };
 }

@@ -1,21 +1,34 @@
 //! What a party is to a `TicketMutex`, and what the two words of the lock say of its parties. Begin at [`TicketRule`].
 ghost use Rattle.std.specs.Prelude.{refl};
 ghost use Rattle.spin_core.specs.Cell.{alone, use_of};
-ghost use Rattle.spin_ticket.specs.Queue.{IsQueue, use_of_view, Loads, LoadsServing, Takes};
-ghost use Rattle.spin_ticket.specs.declared.ticket.rule.View.TheVariants.{Idle};
+ghost use Rattle.spin_core.specs.Own.{what};
+ghost use Rattle.spin_model.specs.declared.ticket.TicketCall.TheVariants.{Lock, TryLock, IsLocked, Release};
+ghost use Rattle.spin_ticket.specs.Queue.{IsQueue, Told, use_of_party, begins_by, goes_on_by, goes_on, going, taken, awaits_by, tries_by, attempted, answers_attempt, gone, compares_by, finds_by, answers_release};
+ghost use Rattle.spin_ticket.specs.declared.ticket.rule.View.TheVariants.{Idle, LoadedNext, LoadedServing};
 
 use spin_core::cell::{Play, Rule, WritePermit};
-use spin_guard::guard::{self, LetsGo, Uses};
+use spin_core::guard::{self, Uses};
+use spin_core::tie;
+use spin_core::trace::{Trace, Watch};
+use spin_model::TicketCall;
 use spin_step::ticket;
 
 /// What a party (one call, and the guard that it returns) is to the lock. A number is that of a ticket.
 #[derive(Clone, Copy)]
 pub enum View {
     Idle,
-    /// It found this number served.
-    LoadedServing(u64),
+    /// It is in `lock`, and found no ticket left.
+    Coming,
+    /// It is in `lock`, and goes for the ticket of this number, which it found next.
+    Going(u64),
     Waiting(u64),
     Entered(u64),
+    /// It is in `try_lock`, and found this number next.
+    LoadedNext(u64),
+    /// It is in `try_lock`, and found this number next and served.
+    Trying(u64),
+    /// It is in `is_locked`, and found this number served.
+    LoadedServing(u64),
 }
 
 /// The rule of a [`TicketMutex`](super::TicketMutex): its words are the next ticket's number and the number served.
@@ -23,54 +36,114 @@ pub enum View {
 /// No caller names it: it is a parameter of the type of the guard.
 ///
 /// # Contract
-/// `IsQueue`: the words are those of a plain lock whose tickets are those of the parties that wait or have entered.
+/// `IsQueue`: the words are those of a plain lock whose tickets are those of the parties that wait or have entered. The
+/// trace is a schedule of the lock's model, which leads to these words, with each party in the seat that its view
+/// names.
 pub struct TicketRule;
 
-impl<T> Rule<T, View> for TicketRule {
-    type Key = ();
+impl<T> Rule<T, Party> for TicketRule {
+    // What is known of the lock's trace at first, its name, and the number of the first ticket.
+    type Key = (Watch<Entry>, u64);
 
-    type Second = u64;
+    // The trace, and beside it the number that is served.
+    type Second = Trace<Entry, u64>;
 
-    ghost holds = { IsQueue };
+    ghost holds = { λ start. IsQueue start.0.name start.1 };
 
-    ghost ways = { λ _. (alone, use_of_view) };
+    ghost ways = { λ _. (alone, use_of_party) };
 }
 
-/// A load of the next number.
-pub(super) struct Load;
+/// A party with its number.
+pub type Party = tie::Numbered<View>;
 
-impl Play<View> for Load {
-    ghost then = { Loads };
+/// An entry of the lock's trace.
+pub type Entry = tie::Entry<TicketCall>;
+
+/// The load of the next number with which `lock` begins.
+pub(super) struct LoadNext;
+
+impl Play<Party, Entry> for LoadNext {
+    ghost told = { λ old new before. Told (begins_by Lock goes_on going) before };
 }
 
-/// A load of the number that is served.
-pub(super) struct LoadServing;
-
-impl Play<View> for LoadServing {
-    ghost then = { LoadsServing };
-}
-
-/// A compare-exchange: the party takes the ticket that it expected to be next. If it found that number served, it has
-/// entered with it. Else it waits.
+/// The compare-exchange of `lock`: the party takes the ticket that it expected to be next, and waits with it. Else it
+/// goes for the number that it found.
 pub(super) struct Take;
 
-impl Play<View> for Take {
-    ghost then = { Takes };
+impl Play<Party, Entry> for Take {
+    ghost told = { λ old new before. Told (goes_on_by goes_on (taken old)) before };
 }
 
-impl Uses<View> for TicketRule {
-    ghost use_at = { use_of use_of_view };
+/// The load of the number that is served, of a party that waits. It has entered if that is its own.
+pub(super) struct Await;
 
-    ghost idle = { Idle };
+impl Play<Party, Entry> for Await {
+    ghost told = { λ old new before. Told (awaits_by (what before)) before };
 }
 
-impl<T> guard::Release<T, View> for TicketRule {
+/// The load of the next number with which `try_lock` begins.
+pub(super) struct TryLoadNext;
+
+impl Play<Party, Entry> for TryLoadNext {
+    ghost told = { λ old new before. Told (begins_by TryLock goes_on LoadedNext) before };
+}
+
+/// The load of the number that is served, of `try_lock`. It goes on if that is the one that it found next.
+pub(super) struct TryLoadServing;
+
+impl Play<Party, Entry> for TryLoadServing {
+    ghost told = { λ old new before. Told (tries_by (what before)) before };
+}
+
+/// The compare-exchange of `try_lock`: the party takes the ticket that it expected to be next, and has entered with it.
+pub(super) struct TryTake;
+
+impl Play<Party, Entry> for TryTake {
+    ghost told = { λ old new before. Told (goes_on_by (answers_attempt old) (attempted old)) before };
+}
+
+/// The load of the number that is served with which `is_locked` begins.
+pub(super) struct LookServing;
+
+impl Play<Party, Entry> for LookServing {
+    ghost told = { λ old new before. Told (begins_by IsLocked goes_on LoadedServing) before };
+}
+
+/// The load of the next number, of `is_locked`.
+pub(super) struct LookNext;
+
+impl Play<Party, Entry> for LookNext {
+    ghost told = { λ old new before. Told (compares_by (what before)) before };
+}
+
+/// The load of a party that releases: it finds the number of its own ticket. It is no move of the model, whose parties
+/// know the numbers of their tickets.
+pub(super) struct FindOwn;
+
+impl Play<Party, Entry> for FindOwn {
+    ghost told = { λ old new before. Told (finds_by (what before)) before };
+}
+
+/// The store that releases the lock.
+pub(super) struct Serve;
+
+impl Play<Party, Entry> for Serve {
+    ghost told = { λ old new before. Told (begins_by Release answers_release gone) before };
+}
+
+impl Uses<Party> for TicketRule {
+    ghost use_at = { use_of use_of_party };
+}
+
+impl<T> guard::Release<T, Party> for TicketRule {
     // The number that is served is the writer's own. A guard keeps no number, since what ties it to the view would keep
     // `deref_mut` from lending the guard's permit.
-    fn release(writer: WritePermit<'_, T, View, TicketRule>) {
-        let (number, permit) = writer.into_permit().load_second::<LoadServing>();
+    fn release(writer: WritePermit<'_, T, Party, TicketRule>) {
+        let permit = writer.into_permit();
+        let (number, permit, _) = permit.load_second::<FindOwn>(Watch::nothing());
         let next = ticket::serve(number);
-        permit.store_second::<LetsGo<Self>>(next).leave();
+        let (permit, _) = permit.store_second::<Serve>(next, Watch::nothing());
+        permit.leave();
     }
 
     ghost same = { λ key view. refl };

@@ -1,10 +1,10 @@
 use Rattle.std.proofs.Common.{Some, ◌∙◌, ap, sym, refl, arith}
-use Rattle.spin_world_flag.specs.Flag.{flag_machine}
-use Rattle.spin_world_ticket.specs.Ticket.{ticket_machine}
-use Rattle.spin_world_rw.specs.Rw.{rw_machine}
-use Rattle.spin_world_fair.specs.Fair.{fair_machine}
+use Rattle.spin_model.specs.Flag.{flag_machine}
+use Rattle.spin_step_more.specs.FairCalls.{fair_machine}
+use Rattle.spin_step_more.specs.RwCalls.{rw_machine}
+use Rattle.spin_model.specs.Ticket.{ticket_machine}
 use Rattle.spin_world_barrier.specs.Barrier.{barrier_machine}
-use Rattle.spin_world_once.specs.Once.{once_machine}
+use Rattle.spin_model.specs.Once.{once_machine}
 use Rattle.spin_text.specs.declared.header.Header.TheVariants.{Flag, Ticket, Rw, Fair, Barrier, Once}
 use Rattle.spin_text.specs.Transcripts.{transcript_text}
 use Rattle.spin_text.proofs.Scripts.{headed, bad_header, plays_so, stops_so_far}

@@ -1,6 +1,6 @@
 use Rattle.std.proofs.Common.{◌++◌, ◌+◌, ◌∙◌, List, ℕ, length, take, ap, sym, subst, arith}
-use Rattle.spin_world_core.specs.declared.schedule.Move.{Move}
-use Rattle.spin_world_core.specs.Schedules.{after}
+use Rattle.spin_model.specs.declared.schedule.Move.{Move}
+use Rattle.spin_model.specs.Schedules.{after}
 use Rattle.spin_text.specs.Ends.{AppendsBeginning, AppendsBut}
 use Rattle.spin_text.specs.Reading.{entries_in, lines_left, numbers_of}
 use Rattle.spin_text.specs.Transcripts.{schedule_lines}

@@ -1,5 +1,6 @@
-use Rattle.spin_ticket.proofs.TicketQueue.{is_in_turn}
+use Rattle.spin_ticket.proofs.TicketQueue.{in_turn}
+use Rattle.spin_ticket.specs.Queue.{views}
 use Rattle.spin_ticket.proofs.laws.the_parties_of_a_ticket_mutex_enter_in_turn.Goals as goal
 
 pub returns : goal.returns
-returns g next serving vs is = is_in_turn next serving vs is
+returns g = λ name first next trace parties is. in_turn next trace.word (views parties) is.1

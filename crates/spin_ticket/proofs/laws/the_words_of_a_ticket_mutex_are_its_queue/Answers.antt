@@ -1,5 +1,6 @@
-use Rattle.spin_ticket.proofs.TicketQueue.{is_plain}
+use Rattle.spin_ticket.proofs.TicketQueue.{plain_queue}
+use Rattle.spin_ticket.specs.Queue.{views}
 use Rattle.spin_ticket.proofs.laws.the_words_of_a_ticket_mutex_are_its_queue.Goals as goal
 
 pub returns : goal.returns
-returns g next serving vs is = is_plain next serving vs is
+returns g = λ name first next trace parties is. (is.1.0, plain_queue next trace.word (views parties) is.1)

@@ -1,5 +1,5 @@
 use Rattle.std.proofs.Common.{refl}
-use Rattle.spin_world_core.specs.Calls.{meets}
+use Rattle.spin_model.specs.Calls.{meets}
 use Rattle.spin_world_barrier.specs.Kind.{barrier}
 use Rattle.spin_world_core.proofs.Otherwise.{four_steps}
 use Rattle.spin_world_barrier.proofs.refused.a_leader_waits_for_nobody.Goals as goal

@@ -1,7 +1,7 @@
 use Rattle.spin_world_core.specs.Runs.{opening}
 use Rattle.spin_world_core.specs.Users.{seen_after}
 use Rattle.spin_world_core.proofs.Reached.{numbers_are}
-use Rattle.spin_world_fair.specs.Fair.{fair_machine}
+use Rattle.spin_step_more.specs.FairCalls.{fair_machine}
 use Rattle.spin_world_fair.proofs.Fairness.{free_when_zero, zero_when_free}
 use Rattle.spin_world_fair.proofs.Owed.{fair_keeping, fair_facts}
 use Rattle.spin_world_fair.proofs.laws.a_word_is_zero_when_nobody_holds_or_starves.Goals as goal

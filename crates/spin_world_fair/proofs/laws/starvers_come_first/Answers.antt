@@ -2,7 +2,7 @@ use Rattle.spin_world_core.specs.Runs.{opening, scene}
 use Rattle.spin_world_core.specs.Users.{seen_after}
 use Rattle.spin_world_core.proofs.Every.{kept}
 use Rattle.spin_world_core.proofs.Reached.{good}
-use Rattle.spin_world_fair.specs.Fair.{fair_machine}
+use Rattle.spin_step_more.specs.FairCalls.{fair_machine}
 use Rattle.spin_world_fair.proofs.Fairness.{comes_after_starvers}
 use Rattle.spin_world_fair.proofs.Owed.{fair_keeping, fair_facts}
 use Rattle.spin_world_fair.proofs.laws.starvers_come_first.Goals as goal

@@ -1,7 +1,7 @@
 use Rattle.std.specs.Prelude.{Some}
 use Rattle.std.proofs.lemmas.Bool.{true≢false}
-use Rattle.spin_world_core.specs.declared.place.Hold.TheVariants.{Starver}
-use Rattle.spin_world_fair.specs.declared.fair.FairCall.TheVariants.{Starve}
+use Rattle.spin_model.specs.declared.place.Hold.TheVariants.{Starver}
+use Rattle.spin_step_more.specs.declared.fair_calls.FairCall.TheVariants.{Starve}
 use Rattle.spin_world_fair.proofs.refused.a_starver_may_not_starve_again.Goals as goal
 
 pub returns : goal.returns

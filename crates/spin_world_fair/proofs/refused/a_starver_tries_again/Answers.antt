@@ -1,7 +1,7 @@
 use Rattle.std.proofs.Common.{refl}
 use Rattle.spin_step.specs.Plain.{to_lock_starving}
-use Rattle.spin_world_core.specs.Calls.{waits}
-use Rattle.spin_world_fair.specs.Kind.{fair}
+use Rattle.spin_model.specs.Calls.{waits}
+use Rattle.spin_step_more.specs.FairKind.{fair}
 use Rattle.spin_world_core.proofs.Otherwise.{four_steps}
 use Rattle.spin_world_fair.proofs.refused.a_starver_tries_again.Goals as goal
 

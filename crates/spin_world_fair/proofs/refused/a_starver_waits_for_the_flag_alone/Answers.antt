@@ -1,7 +1,7 @@
 use Rattle.std.proofs.Common.{Some, None, refl, arith, ⊎_elim}
-use Rattle.spin_world_core.specs.declared.place.Hold.TheVariants.{Starver}
-use Rattle.spin_world_fair.specs.declared.fair.FairCall.TheVariants.{StarverLock}
-use Rattle.spin_world_fair.specs.declared.fair.FairPoint.TheVariants.{Await}
+use Rattle.spin_model.specs.declared.place.Hold.TheVariants.{Starver}
+use Rattle.spin_step_more.specs.declared.fair_calls.FairCall.TheVariants.{StarverLock}
+use Rattle.spin_step_more.specs.declared.fair_calls.FairPoint.TheVariants.{Await}
 use Rattle.spin_world_fair.proofs.refused.a_starver_waits_for_the_flag_alone.Goals as goal
 
 pub returns : goal.returns

@@ -4,7 +4,7 @@ use Rattle.spin_step.specs.Steps.{bit}
 use Rattle.spin_step.proofs.Exclusive.{empty_is}
 use Rattle.spin_step.proofs.Holders.{is_empty-none}
 use Rattle.spin_world_core.proofs.Reached.{numbers_are}
-use Rattle.spin_world_flag.specs.Flag.{flag_machine}
+use Rattle.spin_model.specs.Flag.{flag_machine}
 use Rattle.spin_world_flag.proofs.Owed.{flag_keeping, flag_facts}
 use Rattle.spin_world_flag.proofs.laws.a_flag_is_clear_when_nobody_holds.Goals as goal
 

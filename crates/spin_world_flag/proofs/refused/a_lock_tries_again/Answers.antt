@@ -1,5 +1,5 @@
-use Rattle.spin_world_core.specs.Calls.{waits}
-use Rattle.spin_world_flag.specs.Kind.{flag}
+use Rattle.spin_model.specs.Calls.{waits}
+use Rattle.spin_model.specs.FlagKind.{flag}
 use Rattle.spin_step.specs.Plain.{to_write}
 use Rattle.spin_world_core.proofs.Otherwise.{too_many}
 use Rattle.std.proofs.Common.{[], ◌∷◌, refl}

@@ -1,6 +1,6 @@
 use Rattle.std.proofs.Common.{refl}
-use Rattle.spin_world_core.specs.Calls.{initializes}
-use Rattle.spin_world_once.specs.Kind.{once}
+use Rattle.spin_model.specs.Calls.{initializes}
+use Rattle.spin_model.specs.OnceKind.{once}
 use Rattle.spin_world_core.proofs.Otherwise.{four_steps}
 use Rattle.spin_world_once.proofs.refused.a_closure_ends.Goals as goal
 

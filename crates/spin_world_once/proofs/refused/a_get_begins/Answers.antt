@@ -1,6 +1,6 @@
 use Rattle.std.proofs.lemmas.Bool.{false≢true}
 use Rattle.std.specs.Prelude.{None}
-use Rattle.spin_world_once.specs.declared.once.OnceCall.TheVariants.{Get}
+use Rattle.spin_model.specs.declared.once.OnceCall.TheVariants.{Get}
 use Rattle.spin_world_once.proofs.refused.a_get_begins.Goals as goal
 
 pub returns : goal.returns

@@ -1,6 +1,6 @@
 use Rattle.std.proofs.Common.{refl, None, ⊎_elim}
-use Rattle.spin_world_once.specs.declared.once.OnceCall.TheVariants.{CallOnce}
-use Rattle.spin_world_once.specs.declared.once.OncePoint.TheVariants.{Await}
+use Rattle.spin_model.specs.declared.once.OnceCall.TheVariants.{CallOnce}
+use Rattle.spin_model.specs.declared.once.OncePoint.TheVariants.{Await}
 use Rattle.spin_world_once.proofs.refused.a_waiting_call_takes_over.Goals as goal
 
 pub returns : goal.returns

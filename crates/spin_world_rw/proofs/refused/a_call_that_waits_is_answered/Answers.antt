@@ -1,5 +1,5 @@
-use Rattle.spin_world_core.specs.Calls.{waits}
-use Rattle.spin_world_rw.specs.Kind.{rw}
+use Rattle.spin_model.specs.Calls.{waits}
+use Rattle.spin_step_more.specs.RwKind.{rw}
 use Rattle.spin_step.specs.Plain.{to_read, to_write}
 use Rattle.spin_world_core.proofs.Otherwise.{too_many}
 use Rattle.std.proofs.Common.{[], ◌∷◌, refl}

@@ -1,7 +1,7 @@
 use Rattle.std.proofs.Common.{None, refl, arith}
 use Rattle.spin_step.specs.Plain.{reading, weight}
-use Rattle.spin_world_rw.specs.declared.rw.RwCall.TheVariants.{TryRead}
-use Rattle.spin_world_rw.specs.declared.rw.RwPoint.TheVariants.{First}
+use Rattle.spin_step_more.specs.declared.rw_calls.RwCall.TheVariants.{TryRead}
+use Rattle.spin_step_more.specs.declared.rw_calls.RwPoint.TheVariants.{First}
 use Rattle.spin_world_core.proofs.Otherwise.{no_operation}
 use Rattle.spin_world_rw.proofs.refused.a_step_is_one_operation.Goals as goal
 

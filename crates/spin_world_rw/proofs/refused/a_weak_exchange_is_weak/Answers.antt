@@ -1,8 +1,8 @@
 use Rattle.std.proofs.Common.{None, refl}
 use Rattle.std.proofs.lemmas.Bool.{false≢true}
 use Rattle.spin_step.specs.Plain.{gets, to_write}
-use Rattle.spin_world_rw.specs.declared.rw.RwCall.TheVariants.{TryWriteWeak, Write}
-use Rattle.spin_world_rw.specs.declared.rw.RwPoint.TheVariants.{First}
+use Rattle.spin_step_more.specs.declared.rw_calls.RwCall.TheVariants.{TryWriteWeak, Write}
+use Rattle.spin_step_more.specs.declared.rw_calls.RwPoint.TheVariants.{First}
 use Rattle.spin_world_rw.proofs.refused.a_weak_exchange_is_weak.Goals as goal
 
 pub returns-clause-tries : goal.returns-clause-tries

@@ -1,6 +1,6 @@
 use Rattle.std.proofs.Common.{None}
 use Rattle.std.proofs.lemmas.Bool.{true≢false}
-use Rattle.spin_world_rw.specs.declared.rw.RwCall.TheVariants.{Write}
+use Rattle.spin_step_more.specs.declared.rw_calls.RwCall.TheVariants.{Write}
 use Rattle.spin_world_rw.proofs.refused.a_write_asks_to_write.Goals as goal
 
 pub returns-clause-other : goal.returns-clause-other

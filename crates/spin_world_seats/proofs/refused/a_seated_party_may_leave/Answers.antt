@@ -1,7 +1,7 @@
 use Rattle.std.proofs.Common.{Some}
 use Rattle.std.proofs.lemmas.Bool.{false≢true}
-use Rattle.spin_world_core.specs.declared.place.Hold.TheVariants.{Read}
-use Rattle.spin_world_seats.specs.declared.seats.SeatsCall.TheVariants as call
+use Rattle.spin_model.specs.declared.place.Hold.TheVariants.{Read}
+use Rattle.spin_seats.specs.declared.calls.SeatsCall.TheVariants as call
 use Rattle.spin_world_seats.proofs.refused.a_seated_party_may_leave.Goals as goal
 
 pub returns : goal.returns

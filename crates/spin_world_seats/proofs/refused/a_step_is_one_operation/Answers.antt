@@ -1,6 +1,6 @@
 use Rattle.std.proofs.Common.{None, refl, arith}
-use Rattle.spin_world_seats.specs.declared.seats.SeatsCall.TheVariants as call
-use Rattle.spin_world_seats.specs.declared.seats.SeatsPoint.TheVariants.{First}
+use Rattle.spin_seats.specs.declared.calls.SeatsCall.TheVariants as call
+use Rattle.spin_seats.specs.declared.calls.SeatsPoint.TheVariants.{First}
 use Rattle.spin_world_core.proofs.Otherwise.{no_operation}
 use Rattle.spin_world_seats.proofs.refused.a_step_is_one_operation.Goals as goal
 

@@ -1,7 +1,7 @@
 use Rattle.std.proofs.Common.{[], ◌∷◌, refl}
 use Rattle.spin_step.specs.Plain.{to_read}
-use Rattle.spin_world_core.specs.Calls.{waits}
-use Rattle.spin_world_seats.specs.Kind.{seats}
+use Rattle.spin_model.specs.Calls.{waits}
+use Rattle.spin_seats.specs.Kind.{seats}
 use Rattle.spin_world_core.proofs.Otherwise.{too_many}
 use Rattle.spin_world_seats.proofs.refused.an_enter_is_answered.Goals as goal
 

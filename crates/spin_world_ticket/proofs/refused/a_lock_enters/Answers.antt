@@ -1,5 +1,5 @@
-use Rattle.spin_world_core.specs.Calls.{waits}
-use Rattle.spin_world_ticket.specs.Kind.{ticket}
+use Rattle.spin_model.specs.Calls.{waits}
+use Rattle.spin_model.specs.TicketKind.{ticket}
 use Rattle.spin_step.specs.Plain.{to_enter}
 use Rattle.spin_world_core.proofs.Otherwise.{four_steps}
 use Rattle.std.proofs.Common.{refl}

@@ -1,7 +1,7 @@
 use Rattle.std.proofs.Common.{refl}
 use Rattle.std.specs.Prelude.{None}
-use Rattle.spin_world_ticket.specs.declared.ticket.TicketCall.TheVariants.{IsLocked}
-use Rattle.spin_world_ticket.specs.declared.ticket.TicketPoint.TheVariants.{LookServing}
+use Rattle.spin_model.specs.declared.ticket.TicketCall.TheVariants.{IsLocked}
+use Rattle.spin_model.specs.declared.ticket.TicketPoint.TheVariants.{LookServing}
 use Rattle.spin_world_ticket.specs.Wrong.{looks_at_both}
 use Rattle.spin_world_ticket.proofs.Operating.{both_matter}
 use Rattle.spin_world_ticket.proofs.refused.a_look_loads_one_number_at_a_time.Goals as goal

@@ -87,7 +87,7 @@ module _ {M : Type 1} {𝓤 : Ura M} (𝓛 : Logic 𝓤) (m ms : Member) (V Y K 
   IsFound way' ν r w = fex (Option R.Denot) (found way' ν r w)
 
   abbrev views_at : GName → ℕ × S.Denot → List V.Denot → Fml
-  views_at ν s vs = fsep (fact (Meets g.holds ways s.0 s.1 vs)) (IsFound way ν (readers_of ways.1 vs) (writers_of ways.1 vs))
+  views_at ν s vs = fsep (fact (Meets (g.holds key) ways s.0 s.1 vs)) (IsFound way ν (readers_of ways.1 vs) (writers_of ways.1 vs))
 
   abbrev standing_at : GName → ℕ × S.Denot → Fml
   standing_at ν s = fsep (word b (o + 0) s.0) (fsep (part_at S full_share s.1 b (o + second_at S R)) (fex (List V.Denot) (views_at ν s)))
@@ -105,7 +105,7 @@ module _ {M : Type 1} {𝓤 : Ura M} (𝓛 : Logic 𝓤) (m ms : Member) (V Y K 
   Two = fex Sure (λ _. fex GName two)
 
   -- ---- the borrow of the cell becomes one of the words and one of the value
-  starts : (ν : GName) (s : ℕ × S.Denot) (vs : List V.Denot) (x : R.Denot) (v : Option R.Denot) → Meets g.holds ways s.0 s.1 vs
+  starts : (ν : GName) (s : ℕ × S.Denot) (vs : List V.Denot) (x : R.Denot) (v : Option R.Denot) → Meets (g.holds key) ways s.0 s.1 vs
       → ⟦ found way ν (readers_of ways.1 vs) (writers_of ways.1 vs) v ⟧ ∗ A.auth ν (R.coded.code x) ⊢ ⟦ fact (Starting (s.0, s.1, x)) ⟧
   starts ν s vs x None meets = let w = writers_of ways.1 vs in qed 𝓛 (‵ (fact (0 < w)) ∷ ‵ (fauth ν (R.coded.code x)) ∷ []) ∵ fpick ! (λ writes. drop ! $
       drop ! $ nothing ! $
@@ -131,7 +131,7 @@ module _ {M : Type 1} {𝓤 : Ura M} (𝓛 : Logic 𝓤) (m ms : Member) (V Y K 
       let vs = rule.0 in let r = readers_of ways.1 vs in let w = writers_of ways.1 vs in
       name_new ! tt (R.coded.code x) (λ ν. move ! (2 ∷ 1 ∷ []) $ fjoin ! $ fpack ! R.Denot (λ y. fsep (At 𝓛 m ms V Y K g key b o y) (fauth ν (R.coded.code y))) x $
       nothing ! $ fpack ! (Fixed way r w x) (λ _. ftrue) rule.2 $ move ! (2 ∷ 0 ∷ []) $ fjoin ! $ fpack ! (Option R.Denot) (found way ν r w) (Some x) $
-      nothing ! $ fpack ! (Meets g.holds ways s.0 s.1 vs) (λ _. ftrue) rule.1 $ fjoin ! $ fpack ! (List V.Denot) (views_at ν s) vs $
+      nothing ! $ fpack ! (Meets (g.holds key) ways s.0 s.1 vs) (λ _. ftrue) rule.1 $ fjoin ! $ fpack ! (List V.Denot) (views_at ν s) vs $
       -- [the views; the value; the way back; the words; the open borrow]
       move ! (3 ∷ []) $ fsplit ! $ move ! (0 ∷ 1 ∷ 2 ∷ []) $ fjoin3 ! $ fpack ! (ℕ × S.Denot) (standing_at ν) s $ nothing ! $ move ! (1 ∷ 2 ∷ 0 ∷ []) $ fjoin3 ! $ move ! (1 ∷ []) $
       use1 𝓛 (‵ (fwand (fsep (fdead κ) (fseps (Words ν ∷ Named ν ∷ []))) (fupd P))) (way_back ν) $
@@ -177,17 +177,17 @@ module _ {M : Type 1} {𝓤 : Ura M} (𝓛 : Logic 𝓤) (m ms : Member) (V Y K 
     finds w r (suc k) = qed 𝓛 (‵ (St w r (suc k)) ∷ []) ∵ drop ! $ nothing ! $ fpack ! (0 < suc k) (λ _. ftrue) (omega arith) $ fpack ! (Option R.Denot) (found w ν r (suc k)) None $ done !
 
     abbrev I : Fml
-    I = inner R b o t c S g.holds ways
+    I = inner R b o t c S (g.holds key) ways
 
     abbrev Core : ℕ × S.Denot → Fml
-    Core = core R b o t c S g.holds ways
+    Core = core R b o t c S (g.holds key) ways
 
     words_back : emp 𝓤 ⊢ ⟦ fwand (fsep (fdead κ) (fseps (I ∷ []))) (fupd (Words ν)) ⟧
     unfolding fseps
     words_back = qed 𝓛 [] ∵ assume ! (‵ (fsep (fdead κ) (fsep I ftrue))) $ suffices ! ⟦ Words ν ⟧ (upd_i 𝓤 ⟦ Words ν ⟧) $ fsplit3 ! $ keep ! (1 ∷ []) $ fpick ! (λ s. fsplit3 ! $ move ! (2 ∷ []) $
         fpick ! (λ vs. let r = readers_of ways.1 vs in let w = writers_of ways.1 vs in fsplit3 ! $ move ! (1 ∷ []) $ fpick ! (λ meets. drop ! $ drop ! $
         use1 𝓛 (‵ (IsFound way ν r w)) (finds way r w) $ nothing ! $
-        fpack ! (Meets g.holds ways s.0 s.1 vs) (λ _. ftrue) meets $ fjoin ! $ fpack ! (List V.Denot) (views_at ν s) vs $ move ! (1 ∷ 2 ∷ 0 ∷ []) $ fjoin3 ! $ fpack ! (ℕ × S.Denot) (standing_at ν) s $ done !)))
+        fpack ! (Meets (g.holds key) ways s.0 s.1 vs) (λ _. ftrue) meets $ fjoin ! $ fpack ! (List V.Denot) (views_at ν s) vs $ move ! (1 ∷ 2 ∷ 0 ∷ []) $ fjoin3 ! $ fpack ! (ℕ × S.Denot) (standing_at ν) s $ done !)))
 
     -- ---- the invariant is made: some views that meet the rule take their places
     module _ (l : Lft) (shares : Shares 𝓛 R l) (μ : Lft) (e f : Share) (i : Incl μ κ) (j : Incl μ l) where
@@ -203,22 +203,22 @@ module _ {M : Type 1} {𝓤 : Ura M} (𝓛 : Logic 𝓤) (m ms : Member) (V Y K 
       abbrev Given : Gv → SProp 𝓤
       Given u = A.bor κ (Words ν) ∗ A.bor κ (Named ν) ∗ ⟦ unused ρ 0 u ⟧ ∗ ⟦ idle γ ⟧ ∗ A.lft μ e ∗ A.lft μ f
 
-      guarded : (k : Sure) (u : Gv) (q : Share) → Given u ∗ A.lft κ q ⊢ H.⇛ ((⟦ cell_shares Y R c S g.holds ways (block_ptr b o) κ ⟧ ∗ A.lft μ e ∗ A.lft μ f) ∗ A.lft κ q)
+      guarded : (k : Sure) (u : Gv) (q : Share) → Given u ∗ A.lft κ q ⊢ H.⇛ ((⟦ cell_shares Y R c S (g.holds key) ways (block_ptr b o) κ ⟧ ∗ A.lft μ e ∗ A.lft μ f) ∗ A.lft κ q)
       unfolding fseps
       guarded k u q = qed 𝓛 ((‵ (fbor κ (Words ν)) ⊛ ‵ (fbor κ (Named ν)) ⊛ ‵ (unused ρ 0 u) ⊛ ‵ (idle γ) ⊛ ‵ (flft μ e) ⊛ ‵ (flft μ f)) ∷ ‵ (flft κ q) ∷ []) ∵ updating ! $
           split ! $ move ! (1 ∷ []) $ split3 ! $ move ! (2 ∷ []) $ split3 ! $ move ! (5 ∷ 6 ∷ []) $ bor_open ! tt $ move ! (1 ∷ []) $ fpick ! (λ s. fsplit3 ! $ move ! (2 ∷ []) $ fpick ! (λ vs. fsplit ! $ fpick ! (λ meets. drop ! $ fpick ! (λ v.
           -- [what was found; the words; the open borrow; the round's name; two tokens; the value; the keys]
           let Q = St way (readers_of ways.1 vs) (writers_of ways.1 vs) in move ! (0 ∷ 7 ∷ 4 ∷ 5 ∷ 6 ∷ []) $ group ! 5 $
           use1 𝓛 (later (‵ Q ⊛ ‵ (flft μ e) ⊛ ‵ (flft μ f))) (stands vs v meets.1) $ await ! tt $ split3 ! $
-          move ! (6 ∷ []) $ use1 𝓛 (later (‵ (roster c ρ 0 vs))) (via 𝓤 _ (enrols 𝓛 V.coded ρ vs 0 u) (basic 𝓛 ⟦ roster c ρ 0 vs ⟧)) $ await ! tt $ nothing ! $ fpack ! (Meets g.holds ways s.0 s.1 vs) (λ _. ftrue) meets $
-          move ! (1 ∷ 0 ∷ 2 ∷ []) $ fjoin3 ! $ fpack ! (List V.Denot) (core_at R b o t c S g.holds ways s.0 s.1) vs $ move ! (3 ∷ 4 ∷ 0 ∷ []) $ fjoin3 ! $ fpack ! (ℕ × S.Denot) (standing R b o t c S g.holds ways) s $
+          move ! (6 ∷ []) $ use1 𝓛 (later (‵ (roster c ρ 0 vs))) (via 𝓤 _ (enrols 𝓛 V.coded ρ vs 0 u) (basic 𝓛 ⟦ roster c ρ 0 vs ⟧)) $ await ! tt $ nothing ! $ fpack ! (Meets (g.holds key) ways s.0 s.1 vs) (λ _. ftrue) meets $
+          move ! (1 ∷ 0 ∷ 2 ∷ []) $ fjoin3 ! $ fpack ! (List V.Denot) (core_at R b o t c S (g.holds key) ways s.0 s.1) vs $ move ! (3 ∷ 4 ∷ 0 ∷ []) $ fjoin3 ! $ fpack ! (ℕ × S.Denot) (standing R b o t c S (g.holds key) ways) s $
           nothing ! $ move ! (1 ∷ 0 ∷ []) $ fjoin ! $ use0 𝓛 (‵ (fwand (fsep (fdead κ) (fseps (I ∷ []))) (fupd (Words ν)))) words_back $ move ! (4 ∷ 1 ∷ 0 ∷ []) $ obor_alter ! tt (I ∷ []) $
           use1 𝓛 (‵ (fbor κ I) ⊛ ‵ ftrue) (id⊢ 𝓤 _) $ split ! $ use1 𝓛 (later (‵ (finv (fbor κ I)))) (𝓛.invs.inv_new (fbor κ I)) $ await ! tt $
-          use0 𝓛 (‵ (before κ κ)) (before-Incl 𝓛 κ κ (Incl-refl κ)) $ fjoin ! $ fpack ! Id (λ y. kept R b o y c S g.holds ways κ) t $
-          fpack ! Sure (λ _. fex Id (λ y. kept R b o y c S g.holds ways κ)) k $ now ! $ move ! (0 ∷ 3 ∷ 4 ∷ []) $ group ! 3 $ keep ! (0 ∷ 2 ∷ []) $ done !))))
+          use0 𝓛 (‵ (before κ κ)) (before-Incl 𝓛 κ κ (Incl-refl κ)) $ fjoin ! $ fpack ! Id (λ y. kept R b o y c S (g.holds key) ways κ) t $
+          fpack ! Sure (λ _. fex Id (λ y. kept R b o y c S (g.holds key) ways κ)) k $ now ! $ move ! (0 ∷ 3 ∷ 4 ∷ []) $ group ! 3 $ keep ! (0 ∷ 2 ∷ []) $ done !))))
 
-  made : (l : Lft) → Shares 𝓛 R l → (ts : Toks) → Incl (span ts) l → Incl (span ts) κ → A.bor κ P ∗ lfts 𝓛 ts ⊢ H.⇛ (⟦ cell_shares Y R c S g.holds ways (block_ptr b o) κ ⟧ ∗ lfts 𝓛 ts)
-  made l shares ts inc sp = let μ = span ts in let none = gnum 0 in let Q = cell_shares Y R c S g.holds ways (block_ptr b o) κ in
+  made : (l : Lft) → Shares 𝓛 R l → (ts : Toks) → Incl (span ts) l → Incl (span ts) κ → A.bor κ P ∗ lfts 𝓛 ts ⊢ H.⇛ (⟦ cell_shares Y R c S (g.holds key) ways (block_ptr b o) κ ⟧ ∗ lfts 𝓛 ts)
+  made l shares ts inc sp = let μ = span ts in let none = gnum 0 in let Q = cell_shares Y R c S (g.holds key) ways (block_ptr b o) κ in
       qed 𝓛 (‵ (fbor κ P) ∷ raw (lfts 𝓛 ts) ∷ []) ∵ updating ! $ use2 𝓛 (later (‵ Two ⊛ raw (lfts 𝓛 ts))) (by_one 𝓛 κ ts sp (A.bor κ P) ⟦ Two ⟧ cut) $ await ! tt $ split ! $ fpick ! (λ k. fpick ! (λ ν. fsplit ! $
       use0 𝓛 (later (some (λ (γ : GName). ‵ (tag γ full_share none)))) (via 𝓤 _ (own_new 𝓛 halved (full_share, none)) (basic 𝓛 (ex 𝓤 (λ (γ : GName). ⟦ tag γ full_share none ⟧)))) $ await ! tt $ pick ! (λ γ. fpack ! Gv (tag γ full_share) none $
       use0 𝓛 (later (some (λ (ρ : GName). ‵ (unused ρ 0 none)))) (via 𝓤 _ (entries_new halved 𝓛 0 (λ _. (full_share, none))) (basic 𝓛 (ex 𝓤 (λ (ρ : GName). ⟦ unused ρ 0 none ⟧)))) $ await ! tt $ pick ! (λ ρ.
@@ -240,9 +240,9 @@ pub shares : (T V P K S : RattleType) (g : Ghosts P.Denot T.Denot V.Denot K.Deno
 shares T V P K S g L W J I N = let m : Member = record { row = T; ty = layout T } in let ms : Member = record { row = S; ty = layout S } in
     let same = alike T L in let same_second : S ≡ row_of ms = alike S N in
     subst (λ (z : List Ty × List Ty). Law (C.the_written (record T { mir = z.0 }) V P K (record S { mir = z.1 }) g)) (λ i. (sym L.one i, sym N.one i)) (record {
-      shr_laws = λ d b o. some_shr_laws (Known (g.ways d) P (row_of ms) (row_of m)) (λ _. denote.Sharing.some Id (λ t. kept (row_of m) b o t V.coded.code (row_of ms) g.holds (g.ways d))) (λ _.
-          some_shr_laws Id (λ t. kept (row_of m) b o t V.coded.code (row_of ms) g.holds (g.ways d))
-          (λ t. let I = inner (row_of m) b o t V.coded.code (row_of ms) g.holds (g.ways d) in
+      shr_laws = λ d b o. some_shr_laws (Known (g.ways d) P (row_of ms) (row_of m)) (λ _. denote.Sharing.some Id (λ t. kept (row_of m) b o t V.coded.code (row_of ms) (g.holds d) (g.ways d))) (λ _.
+          some_shr_laws Id (λ t. kept (row_of m) b o t V.coded.code (row_of ms) (g.holds d) (g.ways d))
+          (λ t. let I = inner (row_of m) b o t V.coded.code (row_of ms) (g.holds d) (g.ways d) in
           beside_shr_laws (ends t.life) (always (fbor t.life I)) (ends_shr_laws t.life) (always_shr_laws (fbor t.life I))));
       shares = λ M 𝓤 𝓛 d κ ts b o inc sp. made 𝓛 m ms V P K g d (subst (Lawful 𝓛) same (L.lawful 𝓛)) (subst (Lawful 𝓛) same_second (N.lawful 𝓛)) b o κ T.lives (subst (λ (R : RattleType). Shares 𝓛 R T.lives) same (L.shares 𝓛)) ts
           (Incl-trans inc (Incl-trans (meet_⊑_left (T.lives ++ (V.lives ++ (P.lives ++ (K.lives ++ (S.lives ++ []))))) _) (meet_⊑_left T.lives (V.lives ++ (P.lives ++ (K.lives ++ (S.lives ++ []))))))) sp;

@@ -21,7 +21,7 @@ enter_spec 𝓤 𝓛 𝓜 𝓡 wired T V P K S L _ _ _ LS g d _ =
     (#self inst) fn (code.unfolded 𝓤 𝓛.H 𝓜 𝓡 wired (T, (V, (P, (K, (S, tt))))) d)
     (λ κs. (shr_vals, tt)) (λ κs. (shr_Tells (named 0) κs.0 Row, tt)) (λ κs qs bounds a gh are.
     let b = a.0.ref_ptr.0 in let o = a.0.ref_ptr.1 in let κ = κs.0 in let q = qs.0 in let ℓ = named_lft 6 0 tt κs in let Hr = hand.the_row ℓ R W Y Kr Sr g in
-    let os = others 5 κs.1 qs.1 in let p = block_ptr b o in let At = permit_at Y R cw.code Sr g.holds (g.ways a.0.now) κ b o None None in
+    let os = others 5 κs.1 qs.1 in let p = block_ptr b o in let At = permit_at Y R cw.code Sr (g.holds a.0.now) (g.ways a.0.now) κ b o None None in
     let y : (walk_of 𝓛 En hs c).Ghost = ((κs, qs, bounds, a, (vptr b o ∷ [], tt)), gh) in
     qed 𝓛 (((‵ (flft κ q) ⊛ ‵ os) ⊛ ‵ (owns (types_at En.signature.params κs) a y.0.4)) ∷ raw ((c κs a).requires gh) ∷ []) ∵
     split ! $ split ! $ move ! (2 ∷ []) $ fsplit ! $ fsplit ! $ keep ! (1 ∷ 3 ∷ 4 ∷ []) $

@@ -35,7 +35,7 @@ new_spec 𝓤 𝓛 𝓜 𝓡 wired X U P K S L _ _ _ LS g d _ =
     let v = vstruct (vcons (vstruct vnil) (vcons (vint w64 n) (vcons vy (vcons vz vnil)))) in
     let Post = (walk_of 𝓛 En hs c).post z in let Run : List Val → SProp 𝓤 = λ ws. WpFn 𝓤 H 𝓣.C 𝓣.Λ fn ws Post in
     let typed : T (has_ty (layout X) vy && (has_ty (layout S) vz && true)) × WT v = (both (has_ty (layout X) vy) (has_ty (layout S) vz && true) fy.0 (fine_second vz fz), (tt, (record { fits = fits }, (fy.1, (fz.1, tt))))) in
-    let Rule : ℕ × S.Denot × X.Denot → Type 0 = λ s. Starts g.holds ways s.0 s.1 s.2 in let Opened = Opens g.holds ways n k x in
+    let Rule : ℕ × S.Denot × X.Denot → Type 0 = λ s. Starts (g.holds key) ways s.0 s.1 s.2 in let Opened = Opens (g.holds key) ways n k x in
     let Knows : Type 0 = Known ways Y Sr R in
     let owned : (ℕ × S.Denot × X.Denot) → Fml = λ s. fsep (F.own_val (record { marker = record {}; first = s.0; value = s.2; second = s.1 }) (v ∷ [])) (said (Rule s)) in
     qed 𝓛 ((raw (alive 𝓛 En.signature z.0.0 z.0.1) ⊛ ‵ (owns (types_at En.signature.params z.0.0) z.0.3 z.0.4)) ∷ raw (fact 𝓤 _) ∷ raw (fact 𝓤 _) ∷ raw (fact 𝓤 _) ∷ raw (fact 𝓤 _) ∷ raw (fact 𝓤 _) ∷ raw (fact 𝓤 Knows) ∷ raw (fact 𝓤 Opened) ∷ []) ∵

@@ -17,8 +17,8 @@ use Rattle.spin_core.proofs.CellLends.{permit_laws, Lends-permit}
 
 pub shares : (a : NamedLft) (T V P K S : RattleType) (g : Ghosts P.Denot T.Denot V.Denot K.Denot S.Denot) (L : Laws T) (W : Laws V) (J : Laws P) (I : Laws K) (N : Laws S) → statement a T V P K S g L W J I N
 shares a T V P K S g L W J I N = of_Lends (C.struct a T V P K S g) (C.the_codes T.Denot V.Denot P.Denot K.Denot S.Denot T.coded V.coded P.coded K.coded S.coded (marker.the_row (ShrRef a.mir a.lft T)).coded) (C.the_heap a.lft T V P K S g) (C.the_lent a.lft T V P K S g)
-    (λ d p. permit_laws P T V.coded.code S g.holds (g.ways d.key) L.shr_laws a.lft d.cell d.view d.value)
+    (λ d p. permit_laws P T V.coded.code S (g.holds d.key) (g.ways d.key) L.shr_laws a.lft d.cell d.view d.value)
     (copy_shared RawPtr-field RawPtr-copy, (copy_shared (marker.the_field (ShrRef a.mir a.lft T)) (field_copy (marker.the_type (ShrRef a.mir a.lft T)) tt), tt)) (λ M 𝓤 𝓛 d p.
     let l = (C.the_row a T V P K S g).lives in let s = (ShrRef a.mir a.lft T).lives in
-    Lends-permit 𝓛 P T V.coded.code S g.holds (g.ways d.key) a.lft L.shr_laws l (Incl-trans (meet_⊑_right (T.lives ++ (V.lives ++ (P.lives ++ (K.lives ++ (S.lives ++ []))))) (((s ++ []) ++ []) ++ [])) (Incl-trans (meet_⊑_left ((s ++ []) ++ []) [])
+    Lends-permit 𝓛 P T V.coded.code S (g.holds d.key) (g.ways d.key) a.lft L.shr_laws l (Incl-trans (meet_⊑_right (T.lives ++ (V.lives ++ (P.lives ++ (K.lives ++ (S.lives ++ []))))) (((s ++ []) ++ []) ++ [])) (Incl-trans (meet_⊑_left ((s ++ []) ++ []) [])
     (Incl-trans (meet_⊑_left (s ++ []) []) (Incl-trans (meet_⊑_left s []) (meet_⊑_left a.lft T.lives))))) d.cell d.view d.value)

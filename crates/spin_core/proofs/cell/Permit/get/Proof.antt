@@ -23,17 +23,17 @@ get_spec 𝓤 𝓛 𝓜 𝓡 wired T V P K S L _ _ _ LS g d _ =
     let ℓ = named_lft 7 1 tt κs in let Hr = hand.the_row ℓ R W Y Kr Sr g in let D = Words ℓ R W Y Kr Sr g in let b = a.0.ref_ptr.0 in
     let o = a.0.ref_ptr.1 in let κ = κs.0 in let β = κs.1.0 in let h = a.0.now in let p = h.cell in let os = others 6 κs.1 qs.1 in
     let pb = block_of p in let po = count_of p in let e = po + offset R in let Seen : Type 0 = InBlock p × ((x : T.Denot) × (h.value ≡ Some x)) in
-    let Lent = permit_shares Y R cw.code Sr g.holds (g.ways h.key) β p h.view h.value κ in let Asked : Type 0 = use_of (g.ways h.key).1 h.view ≡ reads in
+    let Lent = permit_shares Y R cw.code Sr (g.holds h.key) (g.ways h.key) β p h.view h.value κ in let Asked : Type 0 = use_of (g.ways h.key).1 h.view ≡ reads in
     let y : (walk_of 𝓛 En hs c).Ghost = ((κs, qs, bounds, a, (vptr b o ∷ [], tt)), gh) in let Post = (walk_of 𝓛 En hs c).post y in
     qed 𝓛 (((‵ (flft κ qs.0) ⊛ ‵ os) ⊛ ‵ (owns (types_at En.signature.params κs) a y.0.4)) ∷ raw (fact 𝓤 _) ∷ raw (fact 𝓤 _) ∷ raw (fact 𝓤 _) ∷ raw (fact 𝓤 _) ∷ raw (fact 𝓤 _) ∷ raw (fact 𝓤 Asked) ∷ []) ∵
     keep ! (6 ∷ 0 ∷ []) $ heard ! Asked (λ asked. split ! $ split ! $ move ! (2 ∷ []) $ fsplit ! $ fsplit ! $ keep ! (1 ∷ 3 ∷ 4 ∷ []) $
     enter ! _ _ _ _ _ $ alloc_all ! (λ l. pass_all ! refl ((tt, tt), tt) $ let Ev = types.ByLocal.env fn.locals l in
     use1 𝓛 (‵ (hidden_shr D κ (p, (tt, tt)) b o) ⊛ ‵ (fhide Lent))
     (lent_out 𝓛 (hand.struct ℓ R W Y Kr Sr g) (hand.the_codes T.Denot V.Denot P.Denot K.Denot S.Denot R.coded W.coded Y.coded Kr.coded Sr.coded (marker.the_row (denote.Ref.ShrRef ℓ.mir ℓ.lft R)).coded) (hand.the_heap β R W Y Kr Sr g) (hand.the_lent β R W Y Kr Sr g) κ h b o) $
-    split ! $ move ! (1 ∷ []) $ unhide ! $ use1 𝓛 (given Seen (‵ Lent)) (fact_use 𝓤 _ (sees 𝓛 Y R cw.code Sr g.holds (g.ways h.key) β p h.view h.value κ asked) (guard_i 𝓤 Seen (sem 𝓛 Lent))) $ learn ! (λ so.
+    split ! $ move ! (1 ∷ []) $ unhide ! $ use1 𝓛 (given Seen (‵ Lent)) (fact_use 𝓤 _ (sees 𝓛 Y R cw.code Sr (g.holds h.key) (g.ways h.key) β p h.view h.value κ asked) (guard_i 𝓤 Seen (sem 𝓛 Lent))) $ learn ! (λ so.
     let x = so.1.0 in let at = at_block p so.0 in
-    rewrite ! 0 (λ (z : Ptr). ‵ (permit_shares Y R cw.code Sr g.holds (g.ways h.key) β z h.view h.value κ)) at refl $
-    rewrite ! 0 (λ (z : Use × Option T.Denot). ‵ (reader_shares Y R cw.code Sr g.holds (g.ways h.key) β pb po z.0 z.1 κ)) (λ i. (asked i, so.1.1 i)) refl $ fpick ! (λ known.
+    rewrite ! 0 (λ (z : Ptr). ‵ (permit_shares Y R cw.code Sr (g.holds h.key) (g.ways h.key) β z h.view h.value κ)) at refl $
+    rewrite ! 0 (λ (z : Use × Option T.Denot). ‵ (reader_shares Y R cw.code Sr (g.holds h.key) (g.ways h.key) β pb po z.0 z.1 κ)) (λ i. (asked i, so.1.1 i)) refl $ fpick ! (λ known.
     use1 𝓛 (‵ (hidden_shr R κ x pb e)) (shortens 𝓛 (denote.Memory.shared_of R x pb e) (LR.shr_laws x pb e) (κ ++ β) κ (⊑_meet κ κ β (Incl-refl κ) bounds.0)) $ move ! (1 ∷ 2 ∷ []) $
     looks ! tt D (opened ℓ R W Y Kr Sr g 𝓛) (p, (tt, tt)) b o (λ q vs. move ! (1 ∷ []) $ peeks ! D (Is D) (shows 𝓛 D) (p, (tt, tt)) vs (λ is_so.
     let ev : vs ≡ hand_of (block_ptr pb po) ∷ [] = told ℓ R W Y Kr Sr g p vs is_so ∙ ap (λ (r : Ptr). hand_of r ∷ []) at in

@@ -9,4 +9,4 @@ use Rattle.spin_core.proofs.CellSent.{writer_sees}
 
 pub sync : (a : NamedLft) (T V P K S : RattleType) (g : Ghosts P.Denot T.Denot V.Denot K.Denot S.Denot) → IsSync T → IsSync (the_row a T V P K S g)
 sync a T V P K S g y = let fields : IsSync (Struct (shape (the_type a T V P K S g))) = search sendable depth 20 in
-    record { shared = λ d b o κ. (fields.shared (d.cell, (tt, tt)) b o κ, writer_sees P T V.coded.code S g.holds (g.ways d.key) y a.lft d.cell d.view d.value κ) }
+    record { shared = λ d b o κ. (fields.shared (d.cell, (tt, tt)) b o κ, writer_sees P T V.coded.code S (g.holds d.key) (g.ways d.key) y a.lft d.cell d.view d.value κ) }

@@ -22,7 +22,7 @@ get_spec 𝓤 𝓛 𝓜 𝓡 wired T V P K S L _ _ _ LS g d _ =
     let ℓ = named_lft 7 1 tt κs in let Hr = hand.the_row ℓ R W Y Kr Sr g in let D = Words ℓ R W Y Kr Sr g in let b = a.0.ref_ptr.0 in
     let o = a.0.ref_ptr.1 in let κ = κs.0 in let β = κs.1.0 in let h = a.0.now in let p = h.cell in let os = others 6 κs.1 qs.1 in
     let pb = block_of p in let po = count_of p in let e = po + offset R in let x = h.value in
-    let Lent : Ptr → Fml = λ z. writer_shares Y R cw.code Sr g.holds (g.ways h.key) β z h.view x κ in
+    let Lent : Ptr → Fml = λ z. writer_shares Y R cw.code Sr (g.holds h.key) (g.ways h.key) β z h.view x κ in
     let y : (walk_of 𝓛 En hs c).Ghost = ((κs, qs, bounds, a, (vptr b o ∷ [], tt)), gh) in let Post = (walk_of 𝓛 En hs c).post y in
     qed 𝓛 (((‵ (flft κ qs.0) ⊛ ‵ os) ⊛ ‵ (owns (types_at En.signature.params κs) a y.0.4)) ∷ raw ((c κs a).requires gh) ∷ []) ∵
     split ! $ split ! $ move ! (2 ∷ []) $ fsplit ! $ fsplit ! $ keep ! (1 ∷ 3 ∷ 4 ∷ []) $

@@ -37,7 +37,7 @@ module _ {M : Type 1} {𝓤 : Ura M} (𝓛 : Logic 𝓤) (ℓ : NamedLft) (R W Y
   Whole x = part_at G full_share (F x) m.ref_ptr.0 m.ref_ptr.1
 
   abbrev Pen : Ptr → R.Denot → Fml
-  Pen p x = writer_owns Y R W.coded.code Sr g.holds (g.ways h.key) ℓ.lft p h.view x
+  Pen p x = writer_owns Y R W.coded.code Sr (g.holds h.key) (g.ways h.key) ℓ.lft p h.view x
 
   abbrev Ws : Fml
   Ws = part_at (Words ℓ R W Y Kr Sr g) full_share (h.cell, (tt, tt)) m.ref_ptr.0 m.ref_ptr.1
@@ -46,7 +46,7 @@ module _ {M : Type 1} {𝓤 : Ura M} (𝓛 : Logic 𝓤) (ℓ : NamedLft) (R W Y
   same x z = ap (λ (it : G.Denot). it.value)
 
   abbrev pub Open : Id → SProp 𝓤
-  Open = Opened 𝓛 Y R W.coded Sr g.holds (g.ways h.key) ℓ.lft c e h.view G F same (named 0) κ inc q m h.value
+  Open = Opened 𝓛 Y R W.coded Sr (g.holds h.key) (g.ways h.key) ℓ.lft c e h.view G F same (named 0) κ inc q m h.value
 
   abbrev Back : Id → R.Denot → SProp 𝓤
   Back t z = wand 𝓤 (sem 𝓛 (tracked R c e t z)) (sem 𝓛 (Pen (block_ptr c e) z))
@@ -54,7 +54,7 @@ module _ {M : Type 1} {𝓤 : Ura M} (𝓛 : Logic 𝓤) (ℓ : NamedLft) (R W Y
   cut : ent 𝓤 (sem 𝓛 (Whole h.value)) (ex 𝓤 Open)
   cut = qed 𝓛 (‵ (Whole h.value) ∷ []) ∵ use1 𝓛 (‵ Ws ⊛ ‵ (Pen h.cell h.value)) (part_out 𝓛 (the_type ℓ R W Y Kr Sr g) full_share h m.ref_ptr.0 m.ref_ptr.1) $ split ! $ move ! (1 ∷ []) $
       rewrite ! 0 (λ (p : Ptr). ‵ (Pen p h.value)) at refl $
-      use1 𝓛 (some (λ (t : Id). ‵ (before ℓ.lft t.life) ⊛ ‵ (tracked R c e t h.value) ⊛ raw (all 𝓤 (Back t)))) (cuts 𝓛 Y R W.coded Sr g.holds (g.ways h.key) ℓ.lft c e h.view h.value) $ pick ! (λ t. split3 ! $ show ! Open t $ frame ! $ frame ! $
+      use1 𝓛 (some (λ (t : Id). ‵ (before ℓ.lft t.life) ⊛ ‵ (tracked R c e t h.value) ⊛ raw (all 𝓤 (Back t)))) (cuts 𝓛 Y R W.coded Sr (g.holds h.key) (g.ways h.key) ℓ.lft c e h.view h.value) $ pick ! (λ t. split3 ! $ show ! Open t $ frame ! $ frame ! $
       each ! (λ (z : R.Denot). wand 𝓤 (sem 𝓛 (tracked R c e t z)) (sem 𝓛 (Whole z))) (λ z. use1 𝓛 (raw (Back t z)) (all_e 𝓤 (Back t) z) $ assume ! (‵ (tracked R c e t z)) $
       use2 𝓛 (‵ (Pen (block_ptr c e) z)) (apply∗ 𝓤 (sem 𝓛 (tracked R c e t z)) (sem 𝓛 (Pen (block_ptr c e) z))) $ rewrite ! 0 (λ (p : Ptr). ‵ (Pen p z)) (sym at) refl $ move ! (1 ∷ 0 ∷ []) $
       by ! (part_in 𝓛 (the_type ℓ R W Y Kr Sr g) full_share (F z) m.ref_ptr.0 m.ref_ptr.1)))
@@ -72,7 +72,7 @@ get_mut_spec 𝓤 𝓛 𝓜 𝓡 wired T V P K S L _ _ _ LS g d _ =
     let o = m.ref_ptr.1 in let γ = m.ghost_name in let h = m.now in
     let κ = κs.0 in let q = qs.0 in let β = κs.1.0 in let p = h.cell in let pb = block_of p in let po = count_of p in let e = po + offset R in
     let x = h.value in let F = with_value h in
-    let os = others 6 κs.1 qs.1 in let Had : Ptr → T.Denot → Fml = λ z w. writer_owns Y R cw.code Sr g.holds (g.ways h.key) β z h.view w in
+    let os = others 6 κs.1 qs.1 in let Had : Ptr → T.Denot → Fml = λ z w. writer_owns Y R cw.code Sr (g.holds h.key) (g.ways h.key) β z h.view w in
     let Ws = part_at D full_share (p, (tt, tt)) b o in let y : (walk_of 𝓛 En hs c).Ghost = ((κs, qs, bounds, a, (vptr b o ∷ [], tt)), gh) in
     let Post = (walk_of 𝓛 En hs c).post y in
     qed 𝓛 (((‵ (flft κ q) ⊛ ‵ os) ⊛ ‵ (owns (types_at En.signature.params κs) a y.0.4)) ∷ raw ((c κs a).requires gh) ∷ []) ∵
@@ -89,6 +89,6 @@ get_mut_spec 𝓤 𝓛 𝓜 𝓡 wired T V P K S L _ _ _ LS g d _ =
     fpack ! (List Val) (λ us. fsep (cell_at full_share D.mir us b o) (D.own_val (p, (tt, tt)) us)) vs $
     use2 𝓛 (‵ (part_at G full_share h b o)) (part_in 𝓛 (the_type ℓ R W Y Kr Sr g) full_share h b o) $ close_ref ! tt (in_memory G) h $
     use3 𝓛 (later (some (λ (δ : GName). ‵ ((MutRef (named 0) κ R).own_val (record { ref_ptr = (pb, e); ghost_name = δ; now = x }) (vptr pb e ∷ [])) ⊛ ‵ (flft κ q) ⊛ ‵ (follows G R γ δ F))))
-    (goes_through 𝓛 Y R cw Sr g.holds (g.ways h.key) β pb po h.view G F (same 𝓛 ℓ R W Y Kr Sr g κ bounds.0 q m pb po at) (named 0) κ bounds.0 q m x (cut 𝓛 ℓ R W Y Kr Sr g κ bounds.0 q m pb po at)) $ await ! tt $ pick ! (λ δ. split3 ! $
+    (goes_through 𝓛 Y R cw Sr (g.holds h.key) (g.ways h.key) β pb po h.view G F (same 𝓛 ℓ R W Y Kr Sr g κ bounds.0 q m pb po at) (named 0) κ bounds.0 q m x (cut 𝓛 ℓ R W Y Kr Sr g κ bounds.0 q m pb po at)) $ await ! tt $ pick ! (λ δ. split3 ! $
     move ! (1 ∷ 3 ∷ []) $ join ! $ says ! (x ≡ x) refl $ move ! (3 ∷ 0 ∷ []) $ join ! $ nothing ! $ nothing ! $ fjoin ! $
     returns ! (look_at ! 0 refl) $ free_all ! refl $ keep ! (2 ∷ 0 ∷ 3 ∷ 1 ∷ []) $ by ! (leaves 𝓛 En hs c y (vptr pb e) (record { ref_ptr = (pb, e); ghost_name = δ; now = x }) (tt, tt) (tt, tt))))))))

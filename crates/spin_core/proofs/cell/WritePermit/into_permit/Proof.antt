@@ -22,12 +22,12 @@ into_permit_spec 𝓤 𝓛 𝓜 𝓡 wired T V P K S L _ _ _ LS g d _ =
     (λ κs. ((λ x. hand_of x.cell ∷ []), tt)) (λ κs. ((λ x vs so. told (named_lft 6 0 tt κs) R W Y Kr Sr g x.cell vs so.0), tt)) (λ κs qs bounds a gh are.
     let ℓ = named_lft 6 0 tt κs in let Hr = hand.the_row ℓ R W Y Kr Sr g in let Pr = pen.the_row ℓ R W Y Kr Sr g in let h = a.0 in let p = h.cell in
     let β = κs.0 in let q = qs.0 in
-    let os = others 5 κs.1 qs.1 in let Owned : Ptr → Fml = λ z. writer_owns Y R cw.code Sr g.holds (g.ways h.key) β z h.view h.value in
+    let os = others 5 κs.1 qs.1 in let Owned : Ptr → Fml = λ z. writer_owns Y R cw.code Sr (g.holds h.key) (g.ways h.key) β z h.view h.value in
     let y : (walk_of 𝓛 En hs c).Ghost = ((κs, qs, bounds, a, (hand_of p ∷ [], tt)), gh) in let Use_is : Type 0 = (g.ways h.key).1 h.view ≡ writes in
     qed 𝓛 (((‵ (flft β q) ⊛ ‵ os) ⊛ ‵ (owns (types_at En.signature.params κs) a y.0.4)) ∷ raw ((c κs a).requires gh) ∷ []) ∵
     split ! $ split ! $ move ! (2 ∷ []) $ fsplit ! $ fsplit ! $ keep ! (1 ∷ 3 ∷ 4 ∷ []) $
     lies ! Owned refl p (λ inb.
-    use1 𝓛 (given Use_is (‵ (permit_owns Y R cw.code Sr g.holds (g.ways h.key) β p (Some h.view) (Some h.value)))) (from_writer 𝓛 Y R cw Sr g.holds (g.ways h.key) β p h.view h.value) $ learn ! (λ so.
+    use1 𝓛 (given Use_is (‵ (permit_owns Y R cw.code Sr (g.holds h.key) (g.ways h.key) β p (Some h.view) (Some h.value)))) (from_writer 𝓛 Y R cw Sr (g.holds h.key) (g.ways h.key) β p h.view h.value) $ learn ! (λ so.
     enter ! _ _ _ _ _ $ alloc_all ! (λ l. pass_all ! refl (typed p inb, tt) $
     let good = Rattle.spin_core.proofs.PermitFields.pointer p inb in sets ! (of_opd ! (get_in ! (fld ! refl (stop !)) (sub ! 0 refl (whole !)))) refl good $ sets ! (agg ! (no_more !)) refl (tt, tt) $
     sets ! (agg ! (and_then ! (get ! refl) (and_then ! (get ! refl) (no_more !)))) refl (typed p inb) $

@@ -21,7 +21,7 @@ leak_spec 𝓤 𝓛 𝓜 𝓡 wired T V P K S L _ _ _ LS g d _ =
     (λ κs. ((λ x. hand_of x.cell ∷ []), tt)) (λ κs. ((λ x vs so. told (named_lft 6 0 tt κs) R W Y Kr Sr g x.cell vs so.0), tt)) (λ κs qs bounds a gh are.
     let ℓ = named_lft 6 0 tt κs in let Pr = pen.the_row ℓ R W Y Kr Sr g in let h = a.0 in let p = h.cell in let b = block_of p in let o = count_of p in
     let e = o + offset R in let β = κs.0 in let q = qs.0 in let x = h.value in
-    let os = others 5 κs.1 qs.1 in let Owned : Ptr → Fml = λ z. writer_owns Y R cw.code Sr g.holds (g.ways h.key) β z h.view x in
+    let os = others 5 κs.1 qs.1 in let Owned : Ptr → Fml = λ z. writer_owns Y R cw.code Sr (g.holds h.key) (g.ways h.key) β z h.view x in
     let y : (walk_of 𝓛 En hs c).Ghost = ((κs, qs, bounds, a, (hand_of p ∷ [], tt)), gh) in let Post = (walk_of 𝓛 En hs c).post y in
     qed 𝓛 (((‵ (flft β q) ⊛ ‵ os) ⊛ ‵ (owns (types_at En.signature.params κs) a y.0.4)) ∷ raw ((c κs a).requires gh) ∷ []) ∵
     split ! $ split ! $ move ! (2 ∷ []) $ fsplit ! $ fsplit ! $ keep ! (1 ∷ 3 ∷ 4 ∷ []) $

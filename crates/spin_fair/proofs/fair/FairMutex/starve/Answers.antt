@@ -1,9 +1,8 @@
-use Rattle.spin_fair.specs.declared.fair.rule.View.TheVariants.{Starving}
-use Rattle.spin_fair.proofs.Steps.{registers, missed_rests}
+use Rattle.std.proofs.Common.{Some, ap, ◌∙◌}
+use Rattle.spin_core.specs.Own.{what}
+use Rattle.spin_fair.specs.Fair.{registering, finds_no_room}
+use Rattle.spin_fair.proofs.Steps.{rests_as}
 use Rattle.spin_fair.proofs.fair.FairMutex.starve.Goals as goal
 
-pub attempt-requires-clause-step : goal.attempt-requires-clause-step
-attempt-requires-clause-step g c = rw c.enter-party.ensures.fresh.0 (registers c.loop.word c.in_ok-registered.registered c.in_ok-registered.ensures.plain)
-
-pub attempt-requires-clause-rests : goal.attempt-requires-clause-rests
-attempt-requires-clause-rests g c found after other is = missed_rests Starving after found c.loop.word other is
+pub leave-requires : goal.leave-requires
+leave-requires g c = rests_as c.in-Err.permit.key.name c.in-Err.permit.view (c.in-Err.ensures.no_room ∙ ap (λ v. Some (finds_no_room (registering (what v)))) c.enter.ensures.fresh.0)

@@ -1,11 +1,11 @@
+use Rattle.std.proofs.Common.{refl}
+use mathlib.Core.Logic.{inl}
 use Rattle.spin_step.specs.Steps.{bit}
-use Rattle.spin_core.proofs.Plays.{missed_rests}
-use Rattle.spin_flag.specs.declared.spin.rule.View.TheVariants.{Holding}
-use Rattle.spin_flag.proofs.Flags.{flag, attempts}
+use Rattle.spin_flag.proofs.Flags.{attempts, taken_is, missed_rests}
 use Rattle.spin_flag.proofs.spin.SpinMutex.try_lock.Goals as goal
 
-pub attempt-requires-clause-step : goal.attempt-requires-clause-step
-attempt-requires-clause-step g c = rw (c.enter-party.ensures.fresh.0, c.word.ensures, c.word-2.ensures) (attempts 0 (bit c.in_ok-taken.taken) c.in_ok-taken.ensures.plain)
+pub exchange-found-requires : goal.exchange-found-requires
+exchange-found-requires g c = (inl c.nothing.ensures, rw (c.enter.ensures.fresh.0, c.word.ensures, c.word-2.ensures) (attempts c.enter.result.key.name (bit c.in-Some.taken) (taken_is c.in-Some.taken c.in-Some.ensures.exact) c.in-Some.ensures.plain))
 
-pub attempt-requires-clause-rests : goal.attempt-requires-clause-rests
-attempt-requires-clause-rests g c found after other is = missed_rests flag Holding after found c.word.result other is
+pub leave-requires : goal.leave-requires
+leave-requires g c = let f = c.exchange-found in missed_rests f.result.1.key.name _ c.enter.result.view c.nothing.result f.result.2 f.result.0 f.result.1.view (c.if-is_set.ensures.0 refl) f.ensures.moved

@@ -1,8 +1,7 @@
 -- `deref_mut` lends the inner guard to its own `deref_mut`, and the guard follows what follows the inner one. Assumes `Logic`.
-use Rattle.spin_core.proofs.WalkNames.{w64, ◌≡◌, ℕ, ◌+◌, List, [], ◌∷◌, refl, sym, ap, a_type, named, Val, vptr, vunit, inst_fn, full_share, SProp, emp, id⊢, Lft, Share, Fml, ftrue, fsep, flft, fbor, Logic, ‵, raw, ◌⊛◌, ◌$◌, ◌∵◌, !, qed, by, move, keep, drop, split, split3, join, fsplit, fsplit3, fjoin, fjoin3, feq_i, feq_l, use0, use1, use2, use3, later, some, await, pick, stop, addr, no_more, and_then, returns, enter, fld, alloc_all, pass_all, free_all, look_at, get, through, sets, tables, fact, fact_i, yes, no, RattleType, owns, types_at, plain, named_lft, RefMutOf, u64, nothing, param, layout, param_laws, Stays, stay_dropped, walk_of, proved, leaves}
+use Rattle.spin_core.proofs.WalkNames.{◌≡◌, ℕ, ◌+◌, List, [], ◌∷◌, refl, sym, ap, a_type, named, Val, vptr, vunit, inst_fn, full_share, SProp, emp, id⊢, Lft, Share, Fml, ftrue, fsep, flft, fbor, Logic, ‵, raw, ◌⊛◌, ◌$◌, ◌∵◌, !, qed, by, move, keep, drop, split, split3, join, fsplit, fsplit3, fjoin, fjoin3, feq_i, feq_l, use0, use1, use2, use3, later, some, await, pick, stop, addr, no_more, and_then, returns, enter, fld, alloc_all, pass_all, free_all, look_at, get, through, sets, tables, fact, fact_i, yes, no, RattleType, owns, types_at, plain, named_lft, RefMutOf, nothing, param, layout, param_laws, Stays, stay_dropped, walk_of, proved, leaves}
 use seplogic.Ra.Ura.{Ura}
 use mir.Raw.{raw as raw_type}
-use mir.Syntax.{ty_int, ty_unit}
 use lib.ListN.{get_or}
 use base.Fml.{GName, Incl, fobs}
 use types.SemTy.{Body}
@@ -10,12 +9,8 @@ use types.ByLocal.{lands_as}
 use contract.BorrowLft.{⊑_static}
 use contract.Lifetimes.{Lfts, Shares}
 use denote.Ref.{NamedLft, MutBor, MutRef, mut_vals, mut_Tells}
-use denote.Builtin.{unit}
 use denote.Param.{layouts, arg}
-use denote.Param.Laws.{Laws, of_field, arg_laws}
-use denote.Param.Shared.{copy_shared}
-use denote.Struct.Field.{unit-field, u64-field}
-use denote.Struct.Laws.{unit-laws, unit-copy, u64-laws, u64-copy}
+use denote.Param.Laws.{Laws, arg_laws}
 use denote.Memory.{mem as in_memory}
 use denote.Follow.{follows, follows_then}
 use denote.Triple.Spec.{triple_of}
@@ -24,19 +19,18 @@ use denote.Triple.Walked.{Goes-spent_ref}
 use borrow.Follows.Field.{HandsTo, hands_on}
 use borrow.Struct.Lend.{own_same, kept_record_as, record_fill_as, record_apart_as}
 use Rattle.core.proofs.atomic.Steps.{fm}
-use Rattle.spin_guard.specs.Guard.{guard_value, guard_with}
-use Rattle.spin_guard.specs.contracts.guard.Guard as Inner
-use Rattle.spin_guard.specs.contracts.guard.GuardDerefMut.deref_mut as callee
-use Rattle.spin_guard.proofs.guard.GuardDerefMut.deref_mut.Met.{met}
-use Rattle.spin_ticket.specs.contracts.ticket.rule.View as V
+use Rattle.spin_core.specs.Guard.{guard_value, guard_with}
+use Rattle.spin_core.specs.contracts.guard.Guard as Inner
+use Rattle.spin_core.specs.contracts.guard.GuardDerefMut.deref_mut as callee
+use Rattle.spin_core.proofs.guard.GuardDerefMut.deref_mut.Met.{met}
+use Rattle.spin_ticket.proofs.Rows.{Party, Key, Second, party_laws, key_laws, second_laws}
 use Rattle.spin_ticket.specs.contracts.ticket.rule.TicketRule as F
-use Rattle.spin_ticket.proofs.ticket.rule.View.TheLaws as VL
 use Rattle.spin_ticket.proofs.ticket.rule.TicketRule.TheLaws as FL
-use Rattle.spin_ticket.specs.contracts.ticket.rule.TicketRuleRuleView.TheImpl as rule
-use Rattle.spin_ticket.specs.contracts.ticket.rule.TicketRuleUsesView.TheImpl as uses
-use Rattle.spin_ticket.specs.contracts.ticket.rule.TicketRuleReleaseView.TheImpl as release
-use Rattle.spin_ticket.proofs.ticket.rule.TicketRuleRuleView.TheImpl.Met as rule_met
-use Rattle.spin_ticket.proofs.ticket.rule.TicketRuleReleaseView.TheImpl.Met as release_met
+use Rattle.spin_ticket.specs.contracts.ticket.rule.TicketRuleRuleParty.TheImpl as rule
+use Rattle.spin_ticket.specs.contracts.ticket.rule.TicketRuleUsesParty.TheImpl as uses
+use Rattle.spin_ticket.specs.contracts.ticket.rule.TicketRuleReleaseParty.TheImpl as release
+use Rattle.spin_ticket.proofs.ticket.rule.TicketRuleRuleParty.TheImpl.Met as rule_met
+use Rattle.spin_ticket.proofs.ticket.rule.TicketRuleReleaseParty.TheImpl.Met as release_met
 use Rattle.spin_mutex.specs.contracts.mutex.MutexGuard.{the_type, the_row, struct}
 use Rattle.spin_mutex.proofs.mutex.MutexGuard.TheLaws.{the_loose}
 use Rattle.spin_mutex.specs.MutexGuard.{with_value}
@@ -56,14 +50,14 @@ module _ (ℓ : NamedLft) (T S : RattleType) (LT : Laws T) (LS : Laws S) where
   G = the_row ℓ R Q
 
   abbrev pub In : RattleType
-  In = Inner.the_row ℓ R V.the_row F.the_row Q unit u64 (rule.ghosts R)
+  In = Inner.the_row ℓ R Party F.the_row Q Key Second (rule.ghosts R)
 
   abbrev pub put : G.Denot → In.Denot → G.Denot
   put h p = record { inner = p; life = h.life }
 
   module _ {M : Type 1} {𝓤 : Ura M} (𝓛 : Logic 𝓤) where
     pub hands : (h : G.Denot) → HandsTo 𝓛 G In (λ o. o + 0) h h.inner (put h)
-    hands = let t = the_type ℓ R Q in let k = the_loose ℓ R Q (param_laws 0 T LT) (param_laws 1 S LS) in let s = struct ℓ R Q in let i = Inner.the_type ℓ R V.the_row F.the_row Q unit u64 (rule.ghosts R) in
+    hands = let t = the_type ℓ R Q in let k = the_loose ℓ R Q (param_laws 0 T LT) (param_laws 1 S LS) in let s = struct ℓ R Q in let i = Inner.the_type ℓ R Party F.the_row Q Key Second (rule.ghosts R) in
         hands_on 𝓛 G In 0 (λ h. h.inner) put
         (kept_record_as t k 0 0 In (λ x. x) (λ x. x) (λ y b o. own_same i y b o) (λ y b o. sym (own_same i y b o)) s.as_values s.Ghost s.make (λ v. tt) (λ x. refl) (λ v g. refl))
         (record_fill_as t k 0 0 In (λ x. x) (λ x. x) (λ y b o. own_same i y b o) (λ y b o. sym (own_same i y b o)) s.as_values s.Ghost s.make (λ v. tt) (λ x. refl) (λ v g. refl) refl)
@@ -74,12 +68,12 @@ deref_mut_spec {M} 𝓤 𝓛 𝓜 𝓡 wired T S LT LS =
     let H = 𝓛.H in let 𝓣 = tables 𝓤 H 𝓜 𝓡 𝓡.env in let R : RattleType = param 0 T in let Q : RattleType = param 1 S in
     let En = ended T S in let c = clauses T S 𝓛 𝓜.mem 𝓡.returns in let inst = layouts (a_type ∷ a_type ∷ []) (T, (S, tt)) in let fn = inst_fn inst code.function in let closed = code.unfolded 𝓤 H 𝓜 𝓡 wired (T, (S, tt)) in
     let row = plain (λ κs. the_row (named_lft 4 1 tt κs) R Q) in let self = RefMutOf (0 ∷ []) tt row (λ _. tt) in let hs : Stays En.signature.params En.kept = (stay_dropped self no, tt) in
-    let X : RattleType = arg (layout T) yes R in let W : RattleType = arg (raw_type (layout V.the_row)) no V.the_row in let Y : RattleType = arg (raw_type (layout F.the_row)) no F.the_row in let Z : RattleType = arg (layout S) yes Q in let U : RattleType = arg ty_unit no unit in let N : RattleType = arg (ty_int w64) no u64 in
+    let X : RattleType = arg (layout T) yes R in let W : RattleType = arg (raw_type (layout Party)) no Party in let Y : RattleType = arg (raw_type (layout F.the_row)) no F.the_row in let Z : RattleType = arg (layout S) yes Q in let U : RattleType = arg (raw_type (layout Key)) no Key in let N : RattleType = arg (raw_type (layout Second)) no Second in
     let LX : Laws X = arg_laws (layout T) yes R (param_laws 0 T LT) refl in
-    let releases = release_met.bound 𝓡.env (code.calls-spin_ticket::ticket::rule::TicketRuleReleaseView::release 𝓡.env wired) X LX M 𝓤 𝓛 𝓜 𝓡 in
+    let releases = release_met.bound 𝓡.env (code.calls-spin_ticket::ticket::rule::TicketRuleReleaseParty::release 𝓡.env wired) X LX M 𝓤 𝓛 𝓜 𝓡 in
     let rules = rule_met.bound 𝓡.env X LX M 𝓤 𝓛 𝓜 𝓡 in
-    let called = met 𝓤 𝓛 𝓜 𝓡 (code.calls-spin_guard::guard::GuardDerefMut::deref_mut 𝓡.env wired) X W Y Z U N LX (arg_laws (raw_type (layout V.the_row)) no V.the_row VL.the_row_laws refl)
-    (arg_laws (raw_type (layout F.the_row)) no F.the_row FL.the_row_laws refl) (arg_laws (layout S) yes Q (param_laws 1 S LS) refl) (arg_laws ty_unit no unit (of_field unit-field unit-laws refl (copy_shared unit-field unit-copy)) refl) (arg_laws (ty_int w64) no u64 (of_field u64-field u64-laws refl (copy_shared u64-field u64-copy)) refl)
+    let called = met 𝓤 𝓛 𝓜 𝓡 (code.calls-spin_core::guard::GuardDerefMut::deref_mut 𝓡.env wired) X W Y Z U N LX (arg_laws (raw_type (layout Party)) no Party party_laws refl)
+    (arg_laws (raw_type (layout F.the_row)) no F.the_row FL.the_row_laws refl) (arg_laws (layout S) yes Q (param_laws 1 S LS) refl) (arg_laws (raw_type (layout Key)) no Key key_laws refl) (arg_laws (raw_type (layout Second)) no Second second_laws refl)
     (release.ghosts X) (release.dict X) (rule.ghosts X) (rule.dict X) uses.ghosts uses.dict (record { same = releases.same; Self-Key-lives = releases.Self-Key-lives; Self-Second-lives = releases.Self-Second-lives; release = releases.release })
     (record { Self-Key-lives = rules.Self-Key-lives; Self-Second-lives = rules.Self-Second-lives }) record {} in
     proved 𝓛 En hs c 𝓜 𝓡 (Goes-spent_ref 𝓛 4 (0 ∷ []) tt row, tt) (#self inst) fn closed

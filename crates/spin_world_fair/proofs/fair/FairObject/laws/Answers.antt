@@ -1,4 +1,4 @@
-use Rattle.spin_world_fair.specs.Fair.{fair_machine}
+use Rattle.spin_step_more.specs.FairCalls.{fair_machine}
 use Rattle.spin_world_core.proofs.Lawful.{laws_of}
 use Rattle.spin_world_fair.proofs.Owed.{fair_keeping, fair_facts}
 use Rattle.spin_world_fair.proofs.fair.FairObject.laws.Goals as goal

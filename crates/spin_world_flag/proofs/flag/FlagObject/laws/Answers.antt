@@ -1,4 +1,4 @@
-use Rattle.spin_world_flag.specs.Flag.{flag_machine}
+use Rattle.spin_model.specs.Flag.{flag_machine}
 use Rattle.spin_world_core.proofs.Lawful.{laws_of}
 use Rattle.spin_world_flag.proofs.Owed.{flag_keeping, flag_facts}
 use Rattle.spin_world_flag.proofs.flag.FlagObject.laws.Goals as goal

@@ -1,4 +1,4 @@
-use Rattle.spin_world_once.specs.Once.{once_machine}
+use Rattle.spin_model.specs.Once.{once_machine}
 use Rattle.spin_world_core.proofs.Lawful.{laws_of}
 use Rattle.spin_world_once.proofs.Owed.{once_keeping, once_facts}
 use Rattle.spin_world_once.proofs.once.OnceObjectObject.laws.Goals as goal

@@ -1,4 +1,4 @@
-use Rattle.spin_world_rw.specs.Rw.{rw_machine}
+use Rattle.spin_step_more.specs.RwCalls.{rw_machine}
 use Rattle.spin_world_core.proofs.Lawful.{laws_of}
 use Rattle.spin_world_rw.proofs.Owed.{rw_keeping, rw_facts}
 use Rattle.spin_world_rw.proofs.rw.RwObject.laws.Goals as goal

@@ -1,4 +1,4 @@
-use Rattle.spin_world_ticket.specs.Ticket.{ticket_machine}
+use Rattle.spin_model.specs.Ticket.{ticket_machine}
 use Rattle.spin_world_core.proofs.Lawful.{laws_of}
 use Rattle.spin_world_ticket.proofs.Owed.{ticket_keeping, ticket_facts}
 use Rattle.spin_world_ticket.proofs.ticket.TicketObject.laws.Goals as goal

@@ -58,7 +58,7 @@ get_stable_spec 𝓤 𝓛 𝓜 𝓡 wired X U P K N L _ _ _ LN s d' g d _ _ =
     let e = o + offset R in let at = vptr b e in
     let y : (walk_of 𝓛 En hs c).Ghost = ((κs, qs, bounds, a, (vptr b o ∷ [], (vint w64 wanted ∷ [], tt))), gh) in let Post = (walk_of 𝓛 En hs c).post y in
     let Lent = MutRef (named 0) κ S in let Out = option.the_row Lent in let os = others 5 κs.1 qs.1 in
-    let Ok = StableAt g.holds (g.ways key) s.stable wanted in let Q = sem 𝓛 (Row 𝓛 m ms V Y Kr g key b o) in
+    let Ok = StableAt (g.holds key) (g.ways key) s.stable wanted in let Q = sem 𝓛 (Row 𝓛 m ms V Y Kr g key b o) in
     let words = standing_words 𝓛 m ms V Y Kr g key b o in let Lies = At 𝓛 m ms V Y Kr g key b o in
     let Holds = Rule 𝓛 m ms V Y Kr g key b o in
     let Joined = Joins 𝓛 m ms V Y Kr g key b o Lw Ls (Row 𝓛 m ms V Y Kr g key b o) (row_out 𝓛 m ms V Y Kr g key b o) (row_in 𝓛 m ms V Y Kr g key b o) in
@@ -73,14 +73,14 @@ get_stable_spec 𝓤 𝓛 𝓜 𝓡 wired X U P K N L _ _ _ LN s d' g d _ _ =
     -- [the first word; the value; the way back; the second word; the open borrow; its two names; the tokens]
     well_typed ! (λ good. sets ! (of_opd ! (load ! (through ! refl (fld ! refl (stop !))) (look ! 0 refl))) refl (tt, record { fits = good.1.fits }) $ sets ! (of_opd ! (get ! refl)) refl (tt, record { fits = are.1.0.1 }) $
     sets ! (bin ! (get ! refl) (get ! refl) tt) refl (tt, tt) $ first ! $ branches ! (get ! refl)
-    (λ same. let is = eqb→eq n wanted same in let may = ok k x.value (subst (λ (j : ℕ). Starts g.holds (g.ways key) j k x) is rule) in
+    (λ same. let is = eqb→eq n wanted same in let may = ok k x.value (subst (λ (j : ℕ). Starts (g.holds key) (g.ways key) j k x) is rule) in
     let Then = any_q (after_seq 𝓤 H (Wp 𝓤 H 𝓣.C 𝓣.Λ Ev (after 4 fn.body) (at_return 𝓤 H Ev Post)) (at_return 𝓤 H Ev Post)) in
     let w : S.Denot = record { value = x.value; stable = may.0 } in
     first ! $ blocks ! $ sets ! (addr ! (through ! refl (fld ! refl (stop !)))) refl (tt, tt) $ sets_last ! (addr ! (through ! refl (stop !))) refl (tt, tt) $ exec ! 𝓣.C 𝓣.Λ Ev wraps Then $ sets ! (of_opd ! (get ! refl)) refl (tt, tt) $
     sets_last ! (agg ! (and_then ! (lit ! tt) (and_then ! (get ! refl) (no_more !)))) refl (tt, (record { fits = lit< tt }, (tt, tt))) $ exec ! 𝓣.C 𝓣.Λ Ev (after 4 fn.body) (at_ret Ev Post) $ sets ! (of_opd ! (get ! refl)) refl (tt, (record { fits = lit< tt }, (tt, tt))) $
     move ! (0 ∷ 3 ∷ []) $ fjoin ! $ move ! (0 ∷ 2 ∷ []) $ join ! $ move ! (1 ∷ []) $ rewrite ! 0 (λ (F : Fml). ‵ F) (sym (lies X₀ s w b e)) refl $ move ! (2 ∷ 3 ∷ 4 ∷ 0 ∷ 1 ∷ []) $ group ! 5 $
     use1 𝓛 (later (some (λ (δ : GName). ‵ (Lent.own_val (record { ref_ptr = (b, e); ghost_name = δ; now = w }) (at ∷ [])) ⊛ ‵ (flft κ q) ⊛ ‵ (follows Ty S γ δ (λ _. key)))))
-    (lends_Part 𝓛 Ty S (λ _. key) (named 0) κ q b o b e γ (Rest (n, k)) (λ v. subst (λ (F : Fml). ent 𝓤 (sep 𝓤 (sem 𝓛 F) (Rest (n, k))) Q) (sym (lies X₀ s v b e)) (shuts (n, k, record { value = v.value }) (subst (λ (j : ℕ). Starts g.holds (g.ways key) j k (record { value = v.value })) (sym is) (may.1 v.value v.stable)))) (K.coded.code key) (K.coded.code key) w) $ await ! tt $ pick ! (λ δ.
+    (lends_Part 𝓛 Ty S (λ _. key) (named 0) κ q b o b e γ (Rest (n, k)) (λ v. subst (λ (F : Fml). ent 𝓤 (sep 𝓤 (sem 𝓛 F) (Rest (n, k))) Q) (sym (lies X₀ s v b e)) (shuts (n, k, record { value = v.value }) (subst (λ (j : ℕ). Starts (g.holds key) (g.ways key) j k (record { value = v.value })) (sym is) (may.1 v.value v.stable)))) (K.coded.code key) (K.coded.code key) w) $ await ! tt $ pick ! (λ δ.
     let r : MutBor S.Denot = record { ref_ptr = (b, e); ghost_name = δ; now = w } in
     split3 ! $ use1 𝓛 (‵ (Out.own_val (Some r) (live 1 (vcons at vnil) ∷ []))) (Some-of 𝓛 Lent r at) $ move ! (2 ∷ []) $ drop ! $ move ! (1 ∷ 2 ∷ []) $ join ! $ nothing ! $ nothing ! $ nothing ! $ fjoin ! $ nothing ! $ fjoin ! $
     returns ! (look_at ! 0 refl) $ free_all ! refl $ keep ! (2 ∷ 0 ∷ 3 ∷ 1 ∷ []) $ by ! (leaves 𝓛 En hs c y (live 1 (vcons at vnil)) (Some r) (tt, (tt, tt)) (tt, (tt, tt)))))

@@ -1,9 +1,9 @@
-use Rattle.spin_core.proofs.Plays.{left_rests}
-use Rattle.spin_rwlock.proofs.Steps.{rw-lock, upgradable_goes}
+use mathlib.Core.Logic.{inl}
+use Rattle.spin_rwlock.proofs.Steps.{upgradable_leaves, left_rests}
 use Rattle.spin_rwlock.proofs.rwlock.rule.UpgraderKind.release.Goals as goal
 
 pub subtract-requires : goal.subtract-requires
-subtract-requires g c = rw c.requires upgradable_goes
+subtract-requires g c = (inl c.nothing.ensures, upgradable_leaves c.args.party.key.name c.args.party.view c.requires)
 
 pub leave-requires : goal.leave-requires
-leave-requires g c = left_rests rw-lock c.subtract.result.1.view c.subtract.ensures.moved
+leave-requires g c = let s = c.subtract.result in left_rests s.1.key.name _ c.args.party.view c.nothing.result s.2 s.0 s.1.view c.subtract.ensures.moved

@@ -3,7 +3,7 @@ use Rattle.spin_core.proofs.WalkNames.{◌≡◌, ℕ, ◌+◌, List, [], ◌∷
 use seplogic.Ra.Ura.{Ura}
 use mathlib.Core.Option.{Option, some as found}
 use prog.Memory.{align, up}
-use mir.Syntax.{Ty, tcons, tnil, ty_struct, ty_unit}
+use mir.Syntax.{Ty, tcons, tnil, ty_struct}
 use mir.Raw.{raw as raw_type}
 use base.Share
 use base.Fml.{GName, Incl, fobs}
@@ -15,8 +15,10 @@ use contract.Lifetimes.{Lfts, Shares}
 use denote.Ref.{NamedLft, MutBor, MutRef, mut_vals, mut_Tells}
 use denote.Param.{layouts, arg}
 use denote.Param.Shared.{copy_shared}
-use denote.Struct.Field.{unit-field}
-use denote.Struct.Laws.{unit-laws, unit-copy}
+use denote.Builtin.{usize}
+use denote.Struct.Field.{unit-field, usize-field}
+use denote.Struct.Laws.{unit-laws, unit-copy, usize-laws, usize-copy}
+use denote.Struct.Tuple.{Tuple, tuple_laws}
 use denote.Param.Laws.{of_field, Laws, arg_laws}
 use denote.Memory.{mem as in_memory}
 use denote.Follow.{follows, follows_then}
@@ -36,8 +38,17 @@ use Rattle.spin_rwlock.specs.contracts.rwlock.rule.View as V
 use Rattle.spin_rwlock.specs.contracts.rwlock.rule.RwRule as F
 use Rattle.spin_rwlock.proofs.rwlock.rule.View.TheLaws as VL
 use Rattle.spin_rwlock.proofs.rwlock.rule.RwRule.TheLaws as FL
-use Rattle.spin_rwlock.specs.contracts.rwlock.rule.RwRuleRuleView.TheImpl.{ghosts, dict}
-use Rattle.spin_rwlock.proofs.rwlock.rule.RwRuleRuleView.TheImpl.Met.{bound}
+use Rattle.spin_model.specs.contracts.schedule.Move as move
+use Rattle.spin_model.proofs.schedule.Move.TheLaws as move_laws
+use Rattle.spin_step_more.specs.contracts.rw_calls.RwCall as call
+use Rattle.spin_step_more.proofs.rw_calls.RwCall.TheLaws as call_laws
+use Rattle.spin_core.specs.contracts.trace.Watch as watch
+use Rattle.spin_core.proofs.trace.Watch.TheLaws as watch_laws
+use Rattle.spin_core.specs.contracts.trace.Trace as trace
+use Rattle.spin_core.proofs.trace.Trace.TheLaws as trace_laws
+use Rattle.spin_core.proofs.Sends.{entry}
+use Rattle.spin_rwlock.specs.contracts.rwlock.rule.RwRuleRuleParty.TheImpl.{ghosts, dict}
+use Rattle.spin_rwlock.proofs.rwlock.rule.RwRuleRuleParty.TheImpl.Met.{bound}
 use Rattle.spin_rwlock.specs.Guards.{write_with}
 use Rattle.spin_rwlock.proofs.Known.{first}
 use Rattle.spin_rwlock.specs.contracts.rwlock.writer.RwLockWriteGuardDerefMut.deref_mut.{ended, clauses}
@@ -56,6 +67,32 @@ starts {τ} = ap at (first (align τ))
 twice : (κ ν : Lft) → Incl κ ν → Incl κ ((ν ++ []) ++ (ν ++ []))
 twice κ ν h = let once = ⊑_meet κ ν [] h (⊑_static κ) in ⊑_meet κ (ν ++ []) (ν ++ []) once once
 
+-- a party, an entry of the trace, and what stands for the key and the second word
+
+abbrev Party : RattleType
+Party = Tuple (V.the_row ∷ usize ∷ usize ∷ [])
+
+abbrev Done : RattleType
+Done = entry call.the_row
+
+abbrev Key : RattleType
+Key = watch.the_row Done
+
+abbrev Second : RattleType
+Second = trace.the_row Done unit-field.row
+
+number_laws : Laws usize
+number_laws = of_field usize-field usize-laws refl (copy_shared usize-field usize-copy)
+
+nothing_laws : Laws unit-field.row
+nothing_laws = of_field unit-field unit-laws refl (copy_shared unit-field unit-copy)
+
+party_laws : Laws Party
+party_laws = tuple_laws (V.the_row ∷ usize ∷ usize ∷ []) (VL.the_row_laws, (number_laws, (number_laws, tt)))
+
+entry_laws : Laws Done
+entry_laws = tuple_laws (usize ∷ move.the_row call.the_row unit-field.row ∷ []) (number_laws, (move_laws.the_row_laws call.the_row unit-field.row call_laws.the_row_laws nothing_laws, tt))
+
 module _ (ℓ : NamedLft) (T S : RattleType) (LT : Laws T) (LS : Laws S) where
   abbrev R : RattleType
   R = param 0 T
@@ -66,11 +103,8 @@ module _ (ℓ : NamedLft) (T S : RattleType) (LT : Laws T) (LS : Laws S) where
   abbrev G : RattleType
   G = the_row ℓ R Q
 
-  abbrev Key : RattleType
-  Key = unit-field.row
-
   abbrev pub Pen : RattleType
-  Pen = Permit.the_row ℓ R V.the_row (F.the_row R) Key Key (ghosts R)
+  Pen = Permit.the_row ℓ R Party (F.the_row R) Key Second (ghosts R)
 
   abbrev pub put : G.Denot → Pen.Denot → G.Denot
   put h p = record { writer = p; strategy = h.strategy }
@@ -88,18 +122,18 @@ deref_mut_spec {M} 𝓤 𝓛 𝓜 𝓡 wired T S LT LS =
     let H = 𝓛.H in let 𝓣 = tables 𝓤 H 𝓜 𝓡 𝓡.env in let R : RattleType = param 0 T in let Q : RattleType = param 1 S in
     let En = ended T S in let c = clauses T S 𝓛 𝓜.mem 𝓡.returns in let inst = layouts (a_type ∷ a_type ∷ []) (T, (S, tt)) in let fn = inst_fn inst code.function in let closed = code.unfolded 𝓤 H 𝓜 𝓡 wired (T, (S, tt)) in
     let row = plain (λ κs. the_row (named_lft 4 1 tt κs) R Q) in let self = RefMutOf (0 ∷ []) tt row (λ _. tt) in let hs : Stays En.signature.params En.kept = (stay_dropped self no, tt) in
-    let X : RattleType = arg (layout T) yes R in let W : RattleType = arg (raw_type (layout V.the_row)) no V.the_row in let Y : RattleType = arg (ty_struct [] (tcons (layout T) tnil)) no (F.the_row R) in let U : RattleType = arg ty_unit no unit-field.row in let I : RattleType = arg (layout T) no R in
-    let unit_laws = arg_laws ty_unit no unit-field.row (of_field unit-field unit-laws refl (copy_shared unit-field unit-copy)) refl in let met_rule = bound 𝓡.env I (arg_laws (layout T) no R (param_laws 0 T LT) refl) M 𝓤 𝓛 𝓜 𝓡 in
-    let called = met 𝓤 𝓛 𝓜 𝓡 (code.calls-spin_core::cell::WritePermit::get_mut 𝓡.env wired) X W Y U U (arg_laws (layout T) yes R (param_laws 0 T LT) refl)
-    (arg_laws (raw_type (layout V.the_row)) no V.the_row VL.the_row_laws refl) (arg_laws (ty_struct [] (tcons (layout T) tnil)) no (F.the_row R) (FL.the_row_laws R (param_laws 0 T LT)) refl)
-    unit_laws unit_laws (ghosts I) (dict I) (record { Self-Key-lives = met_rule.Self-Key-lives; Self-Second-lives = met_rule.Self-Second-lives }) in
+    let X : RattleType = arg (layout T) yes R in let W : RattleType = arg (raw_type (layout Party)) no Party in let Y : RattleType = arg (ty_struct [] (tcons (layout T) tnil)) no (F.the_row R) in let K : RattleType = arg (raw_type (layout Key)) no Key in let U : RattleType = arg (raw_type (layout Second)) no Second in let I : RattleType = arg (layout T) no R in
+    let met_rule = bound 𝓡.env I (arg_laws (layout T) no R (param_laws 0 T LT) refl) M 𝓤 𝓛 𝓜 𝓡 in
+    let called = met 𝓤 𝓛 𝓜 𝓡 (code.calls-spin_core::cell::WritePermit::get_mut 𝓡.env wired) X W Y K U (arg_laws (layout T) yes R (param_laws 0 T LT) refl)
+    (arg_laws (raw_type (layout Party)) no Party party_laws refl) (arg_laws (ty_struct [] (tcons (layout T) tnil)) no (F.the_row R) (FL.the_row_laws R (param_laws 0 T LT)) refl)
+    (arg_laws (raw_type (layout Key)) no Key (watch_laws.the_row_laws Done entry_laws) refl) (arg_laws (raw_type (layout Second)) no Second (trace_laws.the_row_laws Done unit-field.row entry_laws nothing_laws) refl) (ghosts I) (dict I) (record { Self-Key-lives = met_rule.Self-Key-lives; Self-Second-lives = met_rule.Self-Second-lives }) in
     proved 𝓛 En hs c 𝓜 𝓡 (Goes-spent_ref 𝓛 4 (0 ∷ []) tt row, tt) (#self inst) fn closed
     (λ κs. (mut_vals, tt)) (λ κs. (mut_Tells (named 0) κs.0 (the_row (named_lft 4 1 tt κs) R Q), tt)) (λ κs qs bounds a gh are.
     let ℓ = named_lft 4 1 tt κs in let G : RattleType = the_row ℓ R Q in let P : RattleType = Pen ℓ T S LT LS in let m = a.0 in let b : ℕ = m.ref_ptr.0 in let o : ℕ = m.ref_ptr.1 in let γ : GName = m.ghost_name in let h : G.Denot = m.now in
     let κ : Lft = κs.0 in let q : Share = qs.0 in let β : Lft = κs.1.0 in let τ : Lft = κs.1.1.0 in let s : Share = qs.1.1.0 in let u : Fml = flft κs.1.1.1.0 qs.1.1.1.0 in
     let y : (walk_of 𝓛 En hs c).Ghost = ((κs, qs, bounds, a, (vptr b o ∷ [], tt)), gh) in let Post : Val → SProp 𝓤 = (walk_of 𝓛 En hs c).post y in
     let κs' : Lfts 7 = (κ, (β, (τ, ([], (τ, ([], ([], tt))))))) in let qs' : Shares 7 = (q, (qs.1.0, (Share.left s, (full_share, (Share.right s, (full_share, (full_share, tt))))))) in
-    let C = triple_of 𝓛 (callee.signature X W Y U U (ghosts I) (dict I)) (callee.spec X W Y U U (ghosts I) (dict I) 𝓛 𝓜.mem 𝓡.returns) in
+    let C = triple_of 𝓛 (callee.signature X W Y K U (ghosts I) (dict I)) (callee.spec X W Y K U (ghosts I) (dict I) 𝓛 𝓜.mem 𝓡.returns) in
     qed 𝓛 (((‵ (flft κ q) ⊛ (‵ (flft β qs.1.0) ⊛ (‵ (flft τ qs.1.1.0) ⊛ (‵ u ⊛ ‵ ftrue)))) ⊛ ‵ (owns (types_at En.signature.params κs) a y.0.4)) ∷ raw (fact 𝓤 (Incl τ T.lives)) ∷ raw (fact 𝓤 (Incl κs.1.1.1.0 S.lives)) ∷ ‵ ftrue ∷ []) ∵
     split ! $ split ! $ move ! (1 ∷ []) $ split3 ! $ move ! (4 ∷ []) $ fsplit ! $ fsplit3 ! $
     -- [its place; its value; its borrow; nothing; β; τ; the others; κ; T lives; ..]

@@ -1,6 +1,6 @@
 use Rattle.std.proofs.Common.{◌∙◌}
 use Rattle.spin_step.specs.Plain.{reading}
-use Rattle.spin_step.specs.Readers.{reader_limit, has_room}
+use Rattle.spin_step_more.specs.Readers.{reader_limit, has_room}
 use Rattle.spin_seated.proofs.RwDebts.{loads_owed, acquires_read_owed, held_still}
 use Rattle.spin_seated.proofs.rwlock.calls.SeatedLock+Call+A.acquire_read.Goals as goal
 

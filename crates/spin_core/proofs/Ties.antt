@@ -1,0 +1,141 @@
+-- A lock's rule beside its trace of numbered parties: each step of the rule that is moves of the model keeps both.
+use Rattle.std.proofs.Common.{◌≡◌, ℕ, zero, suc, ◌+◌, ◌++◌, ◌∷◌, map, length, Option, Some, None, List, [], refl, sym, ap, ◌∙◌, subst, drop}
+use Rattle.std.specs.Prelude.{sum_by}
+use mathlib.Core.Option.{some, some-injective, some-ne-none}
+use mathlib.Core.List.{IsPrefix}
+use lib.ListN.{get_elem?}
+use Rattle.std.proofs.Math.Seq.{drop-append_seam}
+use Rattle.std.proofs.lemmas.List.{map-append, map-set}
+use Rattle.std.proofs.lemmas.List.Sums.{sum_by-cons}
+use Rattle.spin_core.specs.declared.trace.Trace.{Trace}
+use Rattle.spin_core.specs.Cell.{Way, Ways, Use, use_of, Rests, reading, writing, Limits, Going, Meets, AllowsAt, AllowsSecondAt, Stands, readers_of, writers_of, after as views_after}
+use Rattle.spin_core.specs.Traced.{Traces, TracesSecond, Named, grown, grown_at}
+use Rattle.spin_model.specs.declared.place.Seat.{Seat}
+use Rattle.spin_model.specs.declared.place.Seat.TheVariants.{Idle}
+use Rattle.spin_model.specs.declared.schedule.Move.{Move}
+use Rattle.spin_model.specs.declared.schedule.Outcome.{Outcome}
+use Rattle.spin_model.specs.Machines.{Machine}
+use Rattle.spin_model.specs.Schedules.{Entry}
+use Rattle.spin_core.specs.Run.{AreMoves, on_first, on_second, first, second}
+use Rattle.spin_core.specs.Own.{Numbered, by_party, what, IsRun, Tells, Runs, MadeNone, entries_by, KnewAll, IsNumber}
+use Rattle.spin_core.proofs.CellWays.{going_map}
+use Rattle.spin_core.proofs.Owns as owns
+
+module _ {X : Type 0} where
+  abbrev all : List (Numbered X) → List X
+  all vs = map (λ v. v.0) vs
+
+  sums : (g : X → ℕ) (vs : List (Numbered X)) → sum_by g (all vs) ≡ sum_by (λ v. g v.0) vs
+  sums g [] = refl
+  sums g (v ∷ vs) = sum_by-cons g v.0 (all vs) ∙ ap (λ n. g v.0 + n) (sums g vs) ∙ sym (sum_by-cons (λ w. g w.0) v vs)
+
+  there : (vs : List (Numbered X)) (id : ℕ) (u : Numbered X) → get_elem? vs id ≡ some u → get_elem? (all vs) id ≡ some u.0
+  there [] id u at = absurd (some-ne-none u (sym at))
+  there (x ∷ xs) zero u at = ap (λ (w : Numbered X). some w.0) (some-injective x u at)
+  there (x ∷ xs) (suc id) u at = there xs id u at
+
+  stands : (id : ℕ) (view : Option (Numbered X)) (vs : List (Numbered X)) → Stands id view vs → Stands id (what view) (all vs)
+  stands id None vs at = tt
+  stands id (Some u) vs at = there vs id u at
+
+  same_after : (id : ℕ) (view : Option (Numbered X)) (vs : List (Numbered X)) (w : Numbered X) → all (views_after id view vs w) ≡ views_after id (what view) (all vs) w.0
+  same_after id None vs w = map-append (λ (v : Numbered X). v.0) vs (w ∷ [])
+  same_after id (Some u) vs w = map-set (λ (v : Numbered X). v.0) vs id w
+
+  same_use : (f : X → Use) (view : Option (Numbered X)) → use_of f (what view) ≡ use_of (λ v. f v.0) view
+  same_use f None = refl
+  same_use f (Some u) = refl
+
+  module _ (f : X → Use) (vs : List (Numbered X)) where
+    pub as_many_read : readers_of f (all vs) ≡ readers_of (λ v. f v.0) vs
+    as_many_read = sums (λ x. reading (f x)) vs
+
+    as_many_write : writers_of f (all vs) ≡ writers_of (λ v. f v.0) vs
+    as_many_write = sums (λ x. writing (f x)) vs
+
+    module _ {Y : Type 0} (way : Way Y) where
+      plain : Limits way (readers_of (λ v. f v.0) vs) (writers_of (λ v. f v.0) vs) → Limits way (readers_of f (all vs)) (writers_of f (all vs))
+      plain l = subst (λ (z : ℕ × ℕ). Limits way z.0 z.1) (λ i. (sym as_many_read i, sym as_many_write i)) l
+
+      numbered : Limits way (readers_of f (all vs)) (writers_of f (all vs)) → Limits way (readers_of (λ v. f v.0) vs) (writers_of (λ v. f v.0) vs)
+      numbered l = subst (λ (z : ℕ × ℕ). Limits way z.0 z.1) (λ i. (as_many_read i, as_many_write i)) l
+
+module _ {W V C L A X S : Type 0} (m : Machine W V C L A) (seat_of : X → Seat C L) (words_of : W → ℕ × S) (holds : ℕ → S → List X → Type 0) (name : ℕ) (Y : Type 0) (way : Way Y) (f : X → Use) where
+  abbrev Of : ℕ → Trace (Entry C V) S → List (Numbered X) → Type 0
+  Of = Runs m seat_of words_of holds name
+
+  abbrev ways : Ways Y X
+  ways = (way, f)
+
+  abbrev own_ways : Ways Y (Numbered X)
+  own_ways = (way, λ v. f v.0)
+
+  pub named : Named Of own_ways name
+  named n t vs meets = meets.0.0
+
+  pub opens : (n : ℕ) (t : Trace (Entry C V) S) → t.name ≡ name → t.entries ≡ [] → (n, t.word) ≡ words_of m.words → Meets holds ways n t.word [] → Meets Of own_ways n t []
+  opens n t named empty is meets = ((named, meets.0, subst (λ l. IsRun m seat_of words_of l (n, t.word) []) (sym empty) (owns.opens m seat_of words_of (n, t.word) is)), meets.1)
+
+  module _ (view : Option (Numbered X)) (shown : Option Y) (to : ℕ × S → ℕ × S) (found : ℕ × S → ℕ) (then : ℕ → X → Type 0) (says : List (Move C V) → List (Outcome A V) → ℕ → X → Type 0) where
+    abbrev Then : List (Entry C V) → List (Entry C V) → ℕ → Numbered X → Type 0
+    Then = Tells m seat_of words_of says view
+
+    -- where the rule gives the party a next view, its moves lead to that
+    leads : AreMoves m seat_of words_of (what view) to found then says → (id n : ℕ) (t : Trace (Entry C V) S) (vs : List (Numbered X)) → Meets Of own_ways n t vs → Stands id view vs
+        → (u : X) → Going way (use_of f (what view)) (f u) shown (readers_of f (all vs)) (Meets holds ways (to (n, t.word)).0 (to (n, t.word)).1 (views_after id (what view) (all vs) u)) → then (found (n, t.word)) u
+        → (w : Numbered X) × (es : List (Entry C V)) × Going way (use_of (λ v. f v.0) view) (f w.0) shown (readers_of (λ v. f v.0) vs) (Meets Of own_ways (to (n, t.word)).0 (grown_at t (to (n, t.word)).1 es) (views_after id view vs w))
+        × Then t.entries es (found (n, t.word)) w
+    leads moves id n t vs meets at u going so =
+        let s : ℕ × S = (n, t.word) in
+        let led = owns.step m seat_of words_of view to found then says moves id s t.entries vs meets.0.2 at u so in
+        let p : ℕ = led.0 in let es : List (Entry C V) = by_party p led.1 in let w : Numbered X = (u, p, length (t.entries ++ es)) in
+        let us : List (Numbered X) = views_after id view vs w in
+        let Kept : Type 0 = Meets Of own_ways (to s).0 (grown_at t (to s).1 es) us in
+        let keeps : Meets holds ways (to s).0 (to s).1 (views_after id (what view) (all vs) u) → Kept = λ met.
+        let met' : Meets holds ways (to s).0 (to s).1 (all us) = subst (λ l. Meets holds ways (to s).0 (to s).1 l) (sym (same_after id view vs w)) met in
+        ((meets.0.0, met'.0, led.3.0), numbered f us way met'.1) in (
+          w,
+          es,
+          subst (λ (z : Use × ℕ). Going way z.0 (f u) shown z.1 Kept) (λ i. (same_use f view i, as_many_read f vs i)) (going_map way (use_of f (what view)) (f u) shown (readers_of f (all vs)) keeps going),
+          (led.1, led.2, refl, refl, led.3.1, led.3.2, led.3.3),
+        )
+
+  module _ (view : Option (Numbered X)) (shown : Option Y) (g : ℕ → ℕ) (then : ℕ → X → Type 0) (says : List (Move C V) → List (Outcome A V) → ℕ → X → Type 0) where
+    -- a step on the first word
+    pub traces : AreMoves m seat_of words_of (what view) (on_first g) first then says → AllowsAt holds ways (what view) shown g then → Traces Of own_ways view shown g (Tells m seat_of words_of says view)
+    traces moves allows id n t vs meets at small =
+        let made = allows id n t.word (all vs) (meets.0.1, plain f vs way meets.1) (stands id view vs at) small in
+        leads view shown (on_first g) first then says moves id n t vs meets at made.0 made.1 made.2
+
+  pub rests : (v : Numbered X) → seat_of v.0 ≡ Idle → Rests holds f (Some v.0) → Rests Of (λ w. f w.0) (Some v)
+  rests v idle rest = (
+    rest.0,
+    λ n t before behind is. (
+      is.0,
+      subst (λ l. holds n t.word l) (sym (map-append (λ (w : Numbered X). w.0) before behind)) (rest.1 n t.word (all before) (all behind) (subst (λ l. holds n t.word l) (map-append (λ (w : Numbered X). w.0) before (v ∷ behind)) is.1)),
+      owns.leave m seat_of words_of v idle (n, t.word) t.entries before behind is.2,
+    ),
+  )
+
+-- a step on the second
+module _ {W V C L A X : Type 0} (m : Machine W V C L A) (seat_of : X → Seat C L) (words_of : W → ℕ × ℕ) (holds : ℕ → ℕ → List X → Type 0) (name : ℕ) (Y : Type 0) (way : Way Y) (f : X → Use) where
+  pub traces_second : (view : Option (Numbered X)) (shown : Option Y) (g : ℕ → ℕ) (then : ℕ → X → Type 0) (says : List (Move C V) → List (Outcome A V) → ℕ → X → Type 0)
+      → AreMoves m seat_of words_of (what view) (on_second g) second then says → AllowsSecondAt holds (way, f) (what view) shown g then
+      → TracesSecond (Runs m seat_of words_of holds name) (way, λ v. f v.0) view shown g (Tells m seat_of words_of says view)
+  traces_second view shown g then says moves allows id n t vs meets at small =
+      let made = allows id n t.word (all vs) (meets.0.1, plain f vs way meets.1) (stands id view vs at) small in
+      leads m seat_of words_of holds name Y way f view shown (on_second g) second then says moves id n t vs meets at made.0 made.1 made.2
+
+-- What a party that keeps its number learns
+
+module _ {C V : Type 0} where
+  second_none : (xs ys : List (Entry C V)) → xs ++ ys ≡ [] → ys ≡ []
+  second_none [] ys e = e
+  second_none (x ∷ xs) ys e = cc (e)
+
+  module _ {W L A X S : Type 0} (m : Machine W V C L A) (seat_of : X → Seat C L) (words_of : W → ℕ × S) where
+    -- it has made no entry since it knew these
+    pub none_between : (view : Option (Numbered X)) (p : ℕ) (old log : List (Entry C V)) (known : IsPrefix old log) → KnewAll view old → MadeNone m seat_of words_of log p view → IsNumber p view × (entries_by p known.0 ≡ [])
+    none_between None p old log known knew none = (tt, second_none (entries_by p old) (entries_by p known.0) (sym (owns.by-append p old known.0) ∙ ap (entries_by p) known.1 ∙ none))
+    none_between (Some u) p old log known knew none =
+        (none.0, ap (entries_by p) (sym (drop-append_seam old known.0) ∙ ap (λ n. drop n (old ++ known.0)) (sym knew) ∙ ap (drop u.2) known.1) ∙ none.1)

@@ -1,0 +1,21 @@
+-- A lock without a trace, on the steps that append: each appends nothing.
+use Rattle.std.proofs.Common.{ℕ, [], List, Option, Some, None, refl}
+use Rattle.spin_core.specs.declared.trace.Watch.{Watch}
+use Rattle.spin_core.specs.Cell.{Use, Ways, AllowsAt, AllowsSecondAt, Rests, Moved}
+use Rattle.spin_core.specs.Traced.{Traces, TracesSecond, Watches, Untraced, quiet}
+
+module _ {V : Type 0} (E : Type 0) where
+  module _ {X : Type 0} (ways : Ways X V) (view : Option V) (shown : Option X) (f : ℕ → ℕ) (then : ℕ → V → Type 0) where
+    pub quietly : {S : Type 0} (holds : ℕ → S → List V → Type 0) → AllowsAt holds ways view shown f then → Traces (Untraced {E = E} holds) ways view shown f (quiet then)
+    quietly holds allows id n t vs meets at small = let r = allows id n t.word vs meets at small in (r.0, [], r.1, (refl, r.2))
+
+    pub quietly_second : (holds : ℕ → ℕ → List V → Type 0) → AllowsSecondAt holds ways view shown f then → TracesSecond (Untraced {E = E} holds) ways view shown f (quiet then)
+    quietly_second holds allows id n t vs meets at small = let r = allows id n t.word vs meets at small in (r.0, [], r.1, (refl, r.2))
+
+  pub rests : {S : Type 0} (holds : ℕ → S → List V → Type 0) (uses : V → Use) (view : Option V) → Rests holds uses view → Rests (Untraced {E = E} holds) uses view
+  rests holds uses None r = tt
+  rests holds uses (Some v) r = (r.0, λ n t before behind is. r.1 n t.word before behind is)
+
+  pub told : (named : Type 0) (before now : Watch E) (then : ℕ → V → Type 0) (found : ℕ) (view : Option V) → Moved (Watches named before now (quiet then) found) view → Moved (then found) view
+  told named before now then found None moved = absurd moved
+  told named before now then found (Some v) moved = moved.1.4.1

@@ -1,0 +1,106 @@
+-- The ghost steps of a log. Assumes `Logic`.
+use Rattle.std.proofs.Common.{◌≡◌, ◌⊎◌, ℕ, List, [], ◌∷◌, ◌++◌, map, sym, ◌∙◌}
+use mathlib.Core.Logic.{inl, inr}
+use mathlib.Core.List.{IsPrefix, append-nil}
+use seplogic.Ra.Ura.{Ura}
+use base.Fraction.{full_share}
+use base.Stored.{Coded, Gv}
+use base.Logic.{SProp, ent, sep, ex, guard, emp, upd, via}
+use base.Fml.{Lft, Share, Fml, fbor}
+use base.Growing.{Least, latest, at_least, prefix_anti}
+use base.Shift.{Keyless}
+use ghost.Rules.{Halves}
+use contract.Monad.{fact, fact_i}
+use types.Logic.{Logic, sem, lfts}
+use types.Owned.{basic}
+use types.Growing.{latest_new, latest_grows, latest_shows, latest_bounds, latest_cut, latest_glue, latest_agrees, at_least_dup, at_least_join}
+use types.Kit.{‵, raw, ◌⊛◌, some, given, ◌$◌, ◌∵◌, !, qed, by, keep, drop, split, learn, check, pick, updating, now, done, use1, use2}
+use types.Tokens.{bor_fracture}
+use denote.Opens.{Cuts-Halves}
+use denote.Struct.Lending.{Lends}
+use Rattle.spin_core.proofs.TracePrefixes.{one_in_other, prefix_coded, prefix_uncoded}
+use Rattle.spin_core.specs.Logs.{logs, log_owns, log_part, log_shares, known_owns}
+
+module _ {T : Type 0} (c : T → Gv) where
+  pub log_keyless : (γ : ℕ) (l : List T) → Keyless (log_owns c γ l)
+  unfolding log_owns latest
+  log_keyless γ l = tt
+
+  pub part_keyless : (γ : ℕ) (l : List T) (q : Share) → Keyless (log_part c γ l q)
+  unfolding latest
+  part_keyless γ l q = tt
+
+  pub known_keyless : (γ : ℕ) (l : List T) → Keyless (known_owns c γ l)
+  unfolding known_owns at_least
+  known_keyless γ l = tt
+
+module _ {M : Type 1} {𝓤 : Ura M} (𝓛 : Logic 𝓤) where
+  open 𝓛 use {H, A}
+
+  abbrev ⟦◌⟧ : Fml → SProp 𝓤
+  ⟦ P ⟧ = sem 𝓛 P
+
+  abbrev ◌∗◌ : SProp 𝓤 → SProp 𝓤 → SProp 𝓤
+  P ∗ Q = sep 𝓤 P Q
+
+  abbrev ◌⊢◌ : SProp 𝓤 → SProp 𝓤 → Type 1
+  P ⊢ Q = ent 𝓤 P Q
+
+  infix 26 ◌⊢◌
+  infixr 35 ◌∗◌
+  module _ {T : Type 0} (cv : Coded T) where
+    pub begins : emp 𝓤 ⊢ H.⇛ (ex 𝓤 (λ (γ : ℕ). ⟦ log_owns cv.code γ [] ⟧))
+    unfolding log_owns
+    begins = via 𝓤 _ (latest_new logs 𝓛 []) (basic 𝓛 _)
+
+  module _ {T : Type 0} (cv : Coded T) (γ : ℕ) where
+    pub appends : (l es : List T) → ⟦ log_owns cv.code γ l ⟧ ⊢ upd 𝓤 ⟦ log_owns cv.code γ (l ++ es) ⟧
+    unfolding log_owns
+    appends l es = latest_grows logs 𝓛 γ (map cv.code l) (map cv.code (l ++ es)) (prefix_coded cv l es)
+
+    -- what one who reads has: some share of the right, and no more
+    pub part_halves : (l : List T) → Halves 𝓤 H A (log_part cv.code γ l)
+    part_halves l = Cuts-Halves 𝓛 (log_part cv.code γ l) (record { cut = λ q q₁ q₂ m. latest_cut logs 𝓛 q q₁ q₂ γ (map cv.code l) m; join = λ q q₁ q₂ m. latest_glue logs 𝓛 q q₁ q₂ γ (map cv.code l) m })
+
+    pub log_lends : (l : List T) (κ₀ : Lft) → Lends 𝓛 (log_owns cv.code γ l) (log_shares cv.code γ l) κ₀
+    unfolding log_owns
+    log_lends l κ₀ κ ts inc sp = qed 𝓛 (‵ (fbor κ (log_part cv.code γ l full_share)) ∷ raw (lfts 𝓛 ts) ∷ []) ∵ updating ! $ bor_fracture ! tt (log_part cv.code γ l) full_share $ now ! $ done !
+
+    pub shows : (q : Share) (l : List T) → ⟦ log_part cv.code γ l q ⟧ ⊢ ⟦ log_part cv.code γ l q ⟧ ∗ ⟦ known_owns cv.code γ l ⟧
+    unfolding known_owns
+    shows q l = latest_shows logs 𝓛 q γ (map cv.code l) (map cv.code l) (logs.same (map cv.code l))
+
+    pub observes : (q : Share) (l k : List T) → ⟦ log_part cv.code γ l q ⟧ ∗ ⟦ known_owns cv.code γ k ⟧ ⊢ guard 𝓤 (IsPrefix k l) (⟦ log_part cv.code γ l q ⟧ ∗ ⟦ known_owns cv.code γ l ⟧)
+    unfolding known_owns
+    observes q l k = let top : Fml = log_part cv.code γ l q in let had : Fml = at_least logs γ (map cv.code k) in let has : Fml = at_least logs γ (map cv.code l) in
+        qed 𝓛 (‵ top ∷ ‵ had ∷ []) ∵ use2 𝓛 (given (IsPrefix (map cv.code k) (map cv.code l)) (‵ top ⊛ ‵ had)) (latest_bounds logs 𝓛 q γ (map cv.code l) (map cv.code k)) $
+        learn ! (λ p. check ! (prefix_uncoded cv k l p) $ split ! $ keep ! (0 ∷ []) $ use1 𝓛 (‵ top ⊛ ‵ has) (shows q l) $ split ! $ done !)
+
+    -- who appends sees that what was known is a prefix
+    pub observes_whole : (l k : List T) → ⟦ log_owns cv.code γ l ⟧ ∗ ⟦ known_owns cv.code γ k ⟧ ⊢ guard 𝓤 (IsPrefix k l) (⟦ log_owns cv.code γ l ⟧ ∗ ⟦ known_owns cv.code γ l ⟧)
+    unfolding log_owns
+    observes_whole l k = observes full_share l k
+
+    pub shows_whole : (l : List T) → ⟦ log_owns cv.code γ l ⟧ ⊢ ⟦ log_owns cv.code γ l ⟧ ∗ ⟦ known_owns cv.code γ l ⟧
+    unfolding log_owns
+    shows_whole l = shows full_share l
+
+    -- two who have some share of one right
+    pub same_log : (q r : Share) (l k : List T) → ⟦ log_part cv.code γ l q ⟧ ∗ ⟦ log_part cv.code γ k r ⟧ ⊢ guard 𝓤 (l ≡ k) (⟦ log_part cv.code γ l q ⟧ ∗ ⟦ log_part cv.code γ k r ⟧)
+    same_log q r l k = let a = map cv.code l in let b = map cv.code k in let x : Fml = log_part cv.code γ l q in let y : Fml = log_part cv.code γ k r in
+        qed 𝓛 (‵ x ∷ ‵ y ∷ []) ∵ use2 𝓛 (given (a ≡ b) (‵ x ⊛ ‵ y)) (latest_agrees logs 𝓛 q r γ a b) $
+        learn ! (λ e. check ! (prefix_anti l k (prefix_uncoded cv l k ([], append-nil a ∙ e)) (prefix_uncoded cv k l ([], append-nil b ∙ sym e))) $ split ! $ done !)
+
+    pub known_twice : (k : List T) → ⟦ known_owns cv.code γ k ⟧ ⊢ ⟦ known_owns cv.code γ k ⟧ ∗ ⟦ known_owns cv.code γ k ⟧
+    unfolding known_owns
+    known_twice k = at_least_dup logs 𝓛 γ (map cv.code k)
+
+    uncode : (k l : List T) → IsPrefix (map cv.code k) (map cv.code l) ⊎ IsPrefix (map cv.code l) (map cv.code k) → IsPrefix k l ⊎ IsPrefix l k
+    uncode k l (inl p) = inl (prefix_uncoded cv k l p)
+    uncode k l (inr p) = inr (prefix_uncoded cv l k p)
+
+    pub compares : (k l : List T) → ⟦ known_owns cv.code γ k ⟧ ∗ ⟦ known_owns cv.code γ l ⟧ ⊢ fact 𝓤 (IsPrefix k l ⊎ IsPrefix l k)
+    unfolding known_owns
+    compares k l = let a = map cv.code k in let b = map cv.code l in
+        qed 𝓛 (‵ (at_least logs γ a) ∷ ‵ (at_least logs γ b) ∷ []) ∵ use2 𝓛 (some (λ (m : List Gv). given (Least logs.le a b m) (‵ (at_least logs γ m)))) (at_least_join logs 𝓛 γ a b) $
+        pick ! (λ m. learn ! (λ s. drop ! $ by ! (fact_i 𝓤 _ (emp 𝓤) (uncode k l (one_in_other a b m s.0 s.1)))))

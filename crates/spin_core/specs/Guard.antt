@@ -1,0 +1,22 @@
+-- The value of a guard, the guard with another value in its place, and the value that a hold will free.
+use Rattle.std.specs.Prelude.{◌≡◌, Option}
+use Rattle.spin_core.specs.Cell.{Use, writes}
+use Rattle.spin_core.specs.Writer.{with_value}
+use Rattle.spin_core.specs.declared.guard.Guard.{Guard}
+use Rattle.spin_core.specs.declared.guard.Held.{Held}
+use Rattle.spin_core.specs.declared.guard.Uses.{Ghosts}
+
+module _ {T V P R K S : Type 0} where
+  abbrev pub guard_value : Guard T V P R K S → T
+  guard_value it = it.writer.value
+
+  abbrev pub guard_with : Guard T V P R K S → T → Guard T V P R K S
+  guard_with it x = record { writer = with_value it.writer x; strategy = it.strategy }
+
+  -- its party is a holder of the lock, whose views use the value so
+  abbrev pub IsHolder : (V → Use) → Guard T V P R K S → Type 0
+  IsHolder use_of_view it = use_of_view it.writer.view ≡ writes
+
+  -- the value that comes free once the hold is spent
+  abbrev pub held_value : {uses : Ghosts P V} → Held T V P R K S uses → Option T
+  held_value it = it.permit.value

@@ -1,0 +1,78 @@
+-- A trace whose parties know which entries are theirs: each party's number is its place among all that ever came, and none that is there has made an entry since the trace was as long as its mark says.
+use Rattle.std.specs.Prelude.{◌≡◌, ℕ, suc, ◌+◌, ◌≤◌, Option, Some, None, List, [], ◌∷◌, ◌++◌, length, map, drop, ◌==◌, if◌then◌else◌}
+use Rattle.spin_model.specs.declared.place.Seat.{Seat}
+use Rattle.spin_model.specs.declared.schedule.Move.{Move}
+use Rattle.spin_model.specs.declared.schedule.Outcome.{Outcome}
+use Rattle.spin_model.specs.Machines.{Machine}
+use Rattle.spin_model.specs.Schedules.{Entry}
+use Rattle.spin_core.specs.Run.{IsPlayed, LeadsTo, AreOwn}
+use Rattle.spin_core.specs.declared.trace.Trace.{Trace}
+
+-- what a party is, its number and its mark
+abbrev pub Numbered : Type 0 → Type 0
+Numbered X = X × ℕ × ℕ
+
+-- what the party is, whatever its number
+abbrev pub what : {X : Type 0} → Option (Numbered X) → Option X
+what None = None
+what (Some u) = Some u.0
+
+-- those that have not left, by their places from k on
+abbrev pub present_from : {X : Type 0} → ℕ → List (Option (X × ℕ)) → List (Numbered X)
+present_from k [] = []
+present_from k (None ∷ us) = present_from (suc k) us
+present_from k (Some u ∷ us) = (u.0, k, u.1) ∷ present_from (suc k) us
+
+abbrev pub kind : {X : Type 0} → Option (X × ℕ) → Option X
+kind None = None
+kind (Some u) = Some u.0
+
+-- moves of this party
+abbrev pub by_party : {C V : Type 0} → ℕ → List (Move C V) → List (Entry C V)
+by_party p own = map (λ move. (p, move)) own
+
+-- of these entries, the party's
+abbrev pub entries_by : {C V : Type 0} → ℕ → List (Entry C V) → List (Entry C V)
+entries_by p [] = []
+entries_by p (e ∷ es) = if e.0 == p then e ∷ entries_by p es else entries_by p es
+
+-- each party that is there has made no entry since its mark, and no party from the last place on any
+abbrev pub Rested : {C V X : Type 0} → List (Entry C V) → ℕ → List (Option (X × ℕ)) → Type 0
+Rested schedule k [] = (q : ℕ) → k ≤ q → entries_by q schedule ≡ []
+Rested schedule k (None ∷ us) = Rested schedule (suc k) us
+Rested schedule k (Some u ∷ us) = ((u.1 ≤ length schedule) × (entries_by k (drop u.1 schedule) ≡ [])) × Rested schedule (suc k) us
+
+module _ {W V C L A X S : Type 0} (m : Machine W V C L A) (seat_of : X → Seat C L) (words_of : W → ℕ × S) where
+  -- the schedule leads to these words and to the views of all parties that ever came and have not left, and no entry of it is passed over
+  abbrev pub IsRun : List (Entry C V) → ℕ × S → List (Numbered X) → Type 0
+  IsRun schedule s vs =
+      (came : List (Option (X × ℕ))) × (w : W) × (value : Option V) × (vs ≡ present_from 0 came) × (s ≡ words_of w) × LeadsTo m seat_of words_of schedule w value (map kind came) × IsPlayed m (length (map kind came)) schedule × Rested schedule 0 came
+
+  -- since its last step the party has made no entry; a party that comes has made none at all
+  abbrev pub MadeNone : List (Entry C V) → ℕ → Option (Numbered X) → Type 0
+  MadeNone log p None = entries_by p log ≡ []
+  MadeNone log p (Some u) = (p ≡ u.1) × (entries_by p (drop u.2 log) ≡ [])
+
+  -- what a step tells: the party's number, its mark, that it made no entry between, and its moves with their outcomes
+  abbrev pub Tells : (List (Move C V) → List (Outcome A V) → ℕ → X → Type 0) → Option (Numbered X) → List (Entry C V) → List (Entry C V) → ℕ → Numbered X → Type 0
+  Tells says view log es n v =
+      (own : List (Move C V)) × (outs : List (Outcome A V)) × (es ≡ by_party v.1 own) × (v.2 ≡ length (log ++ es)) × MadeNone log v.1 view × AreOwn m own outs log es × says own outs n v.0
+
+  -- a lock's own rule, and that the trace has this name and is a run of the model that leads there, of numbered parties
+  abbrev pub Runs : (ℕ → S → List X → Type 0) → ℕ → ℕ → Trace (Entry C V) S → List (Numbered X) → Type 0
+  Runs holds name n t vs = (t.name ≡ name) × holds n t.word (map (λ v. v.0) vs) × IsRun t.entries (n, t.word) vs
+
+-- a party that comes knows nothing of itself; another knew the schedule as it was after its last step
+abbrev pub KnewAll : {X E : Type 0} → Option (Numbered X) → List E → Type 0
+KnewAll None old = Unit {0}
+KnewAll (Some u) old = u.2 ≡ length old
+
+-- the party has this number, or none yet
+abbrev pub IsNumber : {X : Type 0} → ℕ → Option (Numbered X) → Type 0
+IsNumber p None = Unit {0}
+IsNumber p (Some u) = p ≡ u.1
+
+-- A call of a party that knew these entries, and knows these: the calls of others, and then its own moves, with these outcomes; it has made none of those between
+abbrev pub Made : {W V C L A X : Type 0} → Machine W V C L A → Option (Numbered X) → List (Entry C V) → Option (Numbered X) → List (Entry C V) → List (Move C V) → List (Outcome A V) → Type 0
+Made {V = V} {C = C} m view old view' new own outs =
+    (p : ℕ) × (between : List (Entry C V)) × IsNumber p view × IsNumber p view' × (new ≡ (old ++ between) ++ by_party p own) × (entries_by p between ≡ []) × AreOwn m own outs (old ++ between) (by_party p own)

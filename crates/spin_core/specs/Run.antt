@@ -1,0 +1,84 @@
+-- What ties a lock on threads to a model: the lock's trace is a schedule of the model, which leads to where the lock's parties are.
+use Rattle.std.specs.Prelude.{◌≡◌, ℕ, ◌+◌, Bool, true, false, Option, Some, None, List, [], ◌∷◌, ◌++◌, length, map, replicate}
+use Rattle.std.specs.List.{list_all}
+use mathlib.Core.List.{IsPrefix}
+use Rattle.spin_core.specs.declared.trace.Watch.{Watch}
+use Rattle.spin_model.specs.declared.place.Seat.{Seat}
+use Rattle.spin_model.specs.declared.place.Seat.TheVariants.{Idle}
+use Rattle.spin_model.specs.declared.schedule.Move.{Move}
+use Rattle.spin_model.specs.declared.schedule.Move.TheVariants.{Begin, Step, Weak}
+use Rattle.spin_model.specs.declared.schedule.Outcome.{Outcome}
+use Rattle.spin_model.specs.declared.schedule.Outcome.TheVariants.{Skipped}
+use Rattle.spin_model.specs.Machines.{Machine}
+use Rattle.spin_model.specs.Schedules.{State, Entry, after, at_first, happens}
+
+-- the moves of a party's calls
+abbrev pub is_of_call : {C V : Type 0} → Move C V → Bool
+is_of_call (Begin c) = true
+is_of_call Step = true
+is_of_call Weak = true
+is_of_call _ = false
+
+-- it was not passed over
+abbrev pub is_played : {V A : Type 0} → Outcome A V → Bool
+is_played Skipped = false
+is_played _ = true
+
+-- a step on the first word of two, or of one and nothing, and one on the second
+abbrev pub on_first : {S : Type 0} → (ℕ → ℕ) → ℕ × S → ℕ × S
+on_first f s = (f s.0, s.1)
+
+abbrev pub on_second : (ℕ → ℕ) → ℕ × ℕ → ℕ × ℕ
+on_second f s = (s.0, f s.1)
+
+abbrev pub first : {S : Type 0} → ℕ × S → ℕ
+first s = s.0
+
+abbrev pub second : ℕ × ℕ → ℕ
+second s = s.1
+
+module _ {W V C L A : Type 0} (m : Machine W V C L A) where
+  -- what the entries of a schedule come to
+  abbrev pub outcomes : State W V C L → List (Entry C V) → List (Outcome A V)
+  outcomes s [] = []
+  outcomes s (e ∷ es) = (happens m s e.0 e.1).outcome ∷ outcomes (happens m s e.0 e.1).next es
+
+  -- in each world with so many parties or more no entry of the schedule is passed over
+  abbrev pub IsPlayed : ℕ → List (Entry C V) → Type 0
+  IsPlayed least schedule = (more : ℕ) → list_all is_played (outcomes (at_first m (least + more)) schedule) ≡ true
+
+  -- these entries are moves of one party; no entry is passed over; and after this log, in each world of the model with so many parties or more, they come to these outcomes
+  abbrev pub AreOwn : List (Move C V) → List (Outcome A V) → List (Entry C V) → List (Entry C V) → Type 0
+  AreOwn own outs log es = (p least : ℕ) × (es ≡ map (λ move. (p, move)) own) × IsPlayed least (log ++ es) × ((more : ℕ) → outcomes (after m (at_first m (least + more)) log) es ≡ outs)
+
+  -- what a watch knew has grown: at last by these moves of one party, with these outcomes
+  abbrev pub Saw : Watch (Entry C V) → Watch (Entry C V) → List (Move C V) → List (Outcome A V) → Type 0
+  Saw before now own outs = (now.name ≡ before.name) × ((log es : List (Entry C V)) × IsPrefix before.entries log × (now.entries ≡ log ++ es) × AreOwn own outs log es)
+
+  module _ {X S : Type 0} (seat_of : X → Seat C L) (words_of : W → ℕ × S) where
+    -- a party that has left sits idle
+    abbrev pub sits : Option X → Seat C L
+    sits None = Idle
+    sits (Some v) = seat_of v
+
+    -- the schedule leads to these words with each of these in its seat, and however many more idle
+    abbrev pub LeadsTo : List (Entry C V) → W → Option V → List (Option X) → Type 0
+    LeadsTo schedule w value came = (more : ℕ) → after m (at_first m (length came + more)) schedule ≡ record { words = w; value = value; seats = map sits came ++ replicate more Idle }
+
+    -- the moves of one party, alone in its world
+    abbrev pub alone : W → Option V → Seat C L → State W V C L
+    alone w value seat = record { words = w; value = value; seats = seat ∷ [] }
+
+    abbrev pub of_one : List (Move C V) → List (Entry C V)
+    of_one own = map (λ move. (0, move)) own
+
+    -- From these words a party of this view has moves of its own, with outcomes, of which P holds: they lead to the view u, and to words that are s
+    abbrev pub Goes : Option X → X → W → Option V → (ℕ × S) → (List (Move C V) → List (Outcome A V) → Type 0) → Type 0
+    Goes view u w value s P =
+        (own : List (Move C V)) × (outs : List (Outcome A V)) × P own outs × (list_all is_of_call own ≡ true) × (list_all is_played outs ≡ true) × (w' : W) × (now : Option V)
+        × (after m (alone w value (sits view)) (of_one own) ≡ record { words = w'; value = now; seats = seat_of u ∷ [] }) × (outcomes (alone w value (sits view)) (of_one own) ≡ outs) × (words_of w' ≡ s)
+
+    -- Whatever the words are, and whatever view the party comes to by a step of which `then` holds: it has such moves, and the words become what the step leaves
+    abbrev pub AreMoves : Option X → (ℕ × S → ℕ × S) → (ℕ × S → ℕ) → (ℕ → X → Type 0) → (List (Move C V) → List (Outcome A V) → ℕ → X → Type 0) → Type 0
+    AreMoves view to found then says =
+        (w : W) (value : Option V) (u : X) → then (found (words_of w)) u → Goes view u w value (to (words_of w)) (λ own outs. says own outs (found (words_of w)) u)

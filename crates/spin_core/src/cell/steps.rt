@@ -1,0 +1,264 @@
+//! The steps on a cell's words. Each appends to the trace that lies behind the value. Begin with [`Play`].
+ghost use Rattle.std.specs.Prelude.{◌≡◌, ◌+◌, ◌-◌, ◌%◌, ◌^◌, ◌==◌, ℕ, List, Option, bit_or};
+ghost use prog.Atomic.{either};
+ghost use Rattle.spin_core.specs.Cell.{Moved, Keeps};
+ghost use Rattle.spin_core.specs.Traced.{Named, MayKnow, Traces, TracesSecond, Watches};
+
+use super::{Permit, Rule};
+use crate::trace::{Trace, Watch};
+use atomic_table::exchange;
+use std::marker::{Brand, PhantomData};
+use std::sync::atomic::Ordering::SeqCst;
+use std::sync::atomic::raw;
+
+/// A kind of step, by what it appends to the trace and tells its caller.
+///
+/// # Examples
+/// ```
+/// impl Play<Bystander, ()> for Mark {
+///     ghost use Rattle.spin_core_tests.specs.Bystanders.{marks};
+///
+///     ghost told = { marks };
+/// }
+/// ```
+pub trait Play<V, E> {
+    // Of the operands (0 where there is none), the view before, the trace before, what the step appended, the number
+    // found and the view after.
+    ghost told: { ℕ → ℕ → Option V → List E → List E → ℕ → V → Type 0 };
+}
+
+/// Steps on the first word.
+///
+/// Each is one atomic operation. By it the party comes to a new view, and appends entries to the trace: which ones its
+/// `Play` says. A value that is shown before and after the step is the same (`Keeps`).
+///
+/// Each call takes what its caller knows of the trace and returns what is known after the step: all that was there
+/// before it, and what it appended. A caller that knows nothing passes [`Watch::nothing`].
+///
+/// # Contract
+/// Whatever the words, the trace and the other views are, there have to be a next view and entries to append of which
+/// the `Play` holds and which keep the rule (`Traces`). The watch has to be of the cell's trace, or to know nothing
+/// (`MayKnow`). After the step the `Play` holds (`Moved`), of the trace as the watch tells it (`Watches`).
+impl<'a, T, V, E, S, P: Rule<T, V, Second = Trace<E, S>>> Permit<'a, T, V, P> {
+    /// Reads the first word.
+    ///
+    /// # Examples
+    /// ```
+    /// let (found, party, _) = cell.enter().load::<TellNothing>(Watch::nothing());
+    /// equal(&rt, found, 1);
+    /// ```
+    pub fn load<M: Play<V, E>>(self, seen: Watch<E>) -> (u64, Permit<'a, T, V, P>, Watch<E>)
+        requires { MayKnow (P.holds self.key) (P.ways self.key) seen × Traces (P.holds self.key) (P.ways self.key) self.view self.value (λ n. n) (M.told 0 0 self.view) }
+        ensures moved { Moved (Watches (Named (P.holds self.entry.key) (P.ways self.entry.key) seen.name) seen result.2 (M.told 0 0 self.entry.view) result.0) result.1.view }
+        ensures kept { Keeps (P.ways self.entry.key) self.entry.view result.1.view self.entry.value result.1.value }
+        ensures key { result.1.key ≡ self.entry.key }
+    {
+        let Permit { cell, marker: _ } = self;
+        let found = unsafe { raw::load::<Brand>(&raw const (*cell).first, SeqCst) };
+        (
+            found,
+            Permit {
+                cell,
+                marker: PhantomData,
+            },
+            seen,
+        )
+    }
+
+    /// Writes `new` over the first word if it is `old`, and returns the word as it was.
+    ///
+    /// # Examples
+    /// ```
+    /// let (found, party, _) = party.exchange::<Mark>(1, 6, Watch::nothing());
+    /// equal(&rt, found, 1);
+    /// ```
+    pub fn exchange<M: Play<V, E>>(
+        self,
+        old: u64,
+        new: u64,
+        seen: Watch<E>,
+    ) -> (u64, Permit<'a, T, V, P>, Watch<E>)
+        requires { MayKnow (P.holds self.key) (P.ways self.key) seen × Traces (P.holds self.key) (P.ways self.key) self.view self.value (λ n. either (n == old) new n) (M.told old new self.view) }
+        ensures moved { Moved (Watches (Named (P.holds self.entry.key) (P.ways self.entry.key) seen.name) seen result.2 (M.told old new self.entry.view) result.0) result.1.view }
+        ensures kept { Keeps (P.ways self.entry.key) self.entry.view result.1.view self.entry.value result.1.value }
+        ensures key { result.1.key ≡ self.entry.key }
+    {
+        let Permit { cell, marker: _ } = self;
+        let found = unsafe { exchange::<Brand>(&raw const (*cell).first, old, new) };
+        (
+            found,
+            Permit {
+                cell,
+                marker: PhantomData,
+            },
+            seen,
+        )
+    }
+
+    /// Writes `new` over the first word.
+    ///
+    /// # Examples
+    /// ```
+    /// let (party, _) = cell.enter().store::<Mark>(3, Watch::nothing());
+    /// party.leave();
+    /// ```
+    pub fn store<M: Play<V, E>>(self, new: u64, seen: Watch<E>) -> (Permit<'a, T, V, P>, Watch<E>)
+        requires { MayKnow (P.holds self.key) (P.ways self.key) seen × Traces (P.holds self.key) (P.ways self.key) self.view self.value (λ _. new) (λ log es _. M.told 0 new self.view log es 0) }
+        ensures moved { Moved (Watches (Named (P.holds self.entry.key) (P.ways self.entry.key) seen.name) seen result.1 (λ log es _. M.told 0 new self.entry.view log es 0) 0) result.0.view }
+        ensures kept { Keeps (P.ways self.entry.key) self.entry.view result.0.view self.entry.value result.0.value }
+        ensures key { result.0.key ≡ self.entry.key }
+    {
+        let Permit { cell, marker: _ } = self;
+        unsafe { raw::store::<Brand>(&raw const (*cell).first, new, SeqCst) };
+        (
+            Permit {
+                cell,
+                marker: PhantomData,
+            },
+            seen,
+        )
+    }
+
+    /// Adds `by` to the first word, modulo 2^64, and returns the word as it was.
+    ///
+    /// # Examples
+    /// ```
+    /// let (found, party, _) = party.add::<Mark>(u64::MAX, Watch::nothing());
+    /// equal(&rt, found, 8);
+    /// ```
+    pub fn add<M: Play<V, E>>(self, by: u64, seen: Watch<E>) -> (u64, Permit<'a, T, V, P>, Watch<E>)
+        requires { MayKnow (P.holds self.key) (P.ways self.key) seen × Traces (P.holds self.key) (P.ways self.key) self.view self.value (λ n. (n + by) % 2 ^ 64) (M.told by 0 self.view) }
+        ensures moved { Moved (Watches (Named (P.holds self.entry.key) (P.ways self.entry.key) seen.name) seen result.2 (M.told by 0 self.entry.view) result.0) result.1.view }
+        ensures kept { Keeps (P.ways self.entry.key) self.entry.view result.1.view self.entry.value result.1.value }
+        ensures key { result.1.key ≡ self.entry.key }
+    {
+        let Permit { cell, marker: _ } = self;
+        let found = unsafe { raw::fetch_add::<Brand>(&raw const (*cell).first, by, SeqCst) };
+        (
+            found,
+            Permit {
+                cell,
+                marker: PhantomData,
+            },
+            seen,
+        )
+    }
+
+    /// Subtracts `by` from the first word, modulo 2^64, and returns the word as it was.
+    ///
+    /// # Examples
+    /// ```
+    /// let (found, party, _) = party.subtract::<Mark>(3, Watch::nothing());
+    /// equal(&rt, found, 7);
+    /// ```
+    pub fn subtract<M: Play<V, E>>(
+        self,
+        by: u64,
+        seen: Watch<E>,
+    ) -> (u64, Permit<'a, T, V, P>, Watch<E>)
+        requires { MayKnow (P.holds self.key) (P.ways self.key) seen × Traces (P.holds self.key) (P.ways self.key) self.view self.value (λ n. (n + (2 ^ 64 - by)) % 2 ^ 64) (M.told by 0 self.view) }
+        ensures moved { Moved (Watches (Named (P.holds self.entry.key) (P.ways self.entry.key) seen.name) seen result.2 (M.told by 0 self.entry.view) result.0) result.1.view }
+        ensures kept { Keeps (P.ways self.entry.key) self.entry.view result.1.view self.entry.value result.1.value }
+        ensures key { result.1.key ≡ self.entry.key }
+    {
+        let Permit { cell, marker: _ } = self;
+        let found = unsafe { raw::fetch_sub::<Brand>(&raw const (*cell).first, by, SeqCst) };
+        (
+            found,
+            Permit {
+                cell,
+                marker: PhantomData,
+            },
+            seen,
+        )
+    }
+
+    /// Sets the bits of `mask` in the first word, and returns the word as it was.
+    ///
+    /// # Examples
+    /// ```
+    /// let (found, party, _) = party.set_bits::<Mark>(3, Watch::nothing());
+    /// equal(&rt, found, 4);
+    /// ```
+    pub fn set_bits<M: Play<V, E>>(
+        self,
+        mask: u64,
+        seen: Watch<E>,
+    ) -> (u64, Permit<'a, T, V, P>, Watch<E>)
+        requires { MayKnow (P.holds self.key) (P.ways self.key) seen × Traces (P.holds self.key) (P.ways self.key) self.view self.value (λ n. bit_or n mask) (M.told mask 0 self.view) }
+        ensures moved { Moved (Watches (Named (P.holds self.entry.key) (P.ways self.entry.key) seen.name) seen result.2 (M.told mask 0 self.entry.view) result.0) result.1.view }
+        ensures kept { Keeps (P.ways self.entry.key) self.entry.view result.1.view self.entry.value result.1.value }
+        ensures key { result.1.key ≡ self.entry.key }
+    {
+        let Permit { cell, marker: _ } = self;
+        let found = unsafe { raw::fetch_or::<Brand>(&raw const (*cell).first, mask, SeqCst) };
+        (
+            found,
+            Permit {
+                cell,
+                marker: PhantomData,
+            },
+            seen,
+        )
+    }
+}
+
+/// Steps on the second word, which lies beside the trace.
+///
+/// # Contract
+/// As of a step on the first word (`TracesSecond`).
+impl<'a, T, V, E, P: Rule<T, V, Second = Trace<E, u64>>> Permit<'a, T, V, P> {
+    /// Reads the second word.
+    ///
+    /// # Examples
+    /// ```
+    /// let (found, party, _) = party.load_second::<TellNothing>(Watch::nothing());
+    /// equal(&rt, found, 8);
+    /// ```
+    pub fn load_second<M: Play<V, E>>(self, seen: Watch<E>) -> (u64, Permit<'a, T, V, P>, Watch<E>)
+        requires { MayKnow (P.holds self.key) (P.ways self.key) seen × TracesSecond (P.holds self.key) (P.ways self.key) self.view self.value (λ n. n) (M.told 0 0 self.view) }
+        ensures moved { Moved (Watches (Named (P.holds self.entry.key) (P.ways self.entry.key) seen.name) seen result.2 (M.told 0 0 self.entry.view) result.0) result.1.view }
+        ensures kept { Keeps (P.ways self.entry.key) self.entry.view result.1.view self.entry.value result.1.value }
+        ensures key { result.1.key ≡ self.entry.key }
+    {
+        let Permit { cell, marker: _ } = self;
+        let found = unsafe { raw::load::<Brand>(&raw const (*cell).second.word, SeqCst) };
+        (
+            found,
+            Permit {
+                cell,
+                marker: PhantomData,
+            },
+            seen,
+        )
+    }
+
+    /// Writes `new` over the second word.
+    ///
+    /// # Examples
+    /// ```
+    /// let (_, party, seen) = cell.enter().add::<Mark>(1, seen);
+    /// let (party, seen) = party.store_second::<Mark>(8, seen);
+    /// party.leave();
+    /// ```
+    pub fn store_second<M: Play<V, E>>(
+        self,
+        new: u64,
+        seen: Watch<E>,
+    ) -> (Permit<'a, T, V, P>, Watch<E>)
+        requires { MayKnow (P.holds self.key) (P.ways self.key) seen × TracesSecond (P.holds self.key) (P.ways self.key) self.view self.value (λ _. new) (λ log es _. M.told 0 new self.view log es 0) }
+        ensures moved { Moved (Watches (Named (P.holds self.entry.key) (P.ways self.entry.key) seen.name) seen result.1 (λ log es _. M.told 0 new self.entry.view log es 0) 0) result.0.view }
+        ensures kept { Keeps (P.ways self.entry.key) self.entry.view result.0.view self.entry.value result.0.value }
+        ensures key { result.0.key ≡ self.entry.key }
+    {
+        let Permit { cell, marker: _ } = self;
+        unsafe { raw::store::<Brand>(&raw const (*cell).second.word, new, SeqCst) };
+        (
+            Permit {
+                cell,
+                marker: PhantomData,
+            },
+            seen,
+        )
+    }
+}

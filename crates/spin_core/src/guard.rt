@@ -1,0 +1,267 @@
+//! The guard of a party that writes, and its hold without a guard, for every lock over a `Cell`. Begin at [`Release`]:
+//! a lock implements it, and names [`Guard`] and [`Held`] by an alias.
+ghost use Rattle.std.specs.Prelude.{◌≡◌, Option, Some};
+ghost use Rattle.spin_core.specs.Cell.{Use, writes, use_of};
+
+use crate::cell::{Permit, Rule, WritePermit};
+use std::marker::PhantomData;
+use std::ops::{Deref, DerefMut};
+
+mod texts;
+
+/// The use that each party of a lock has of the value, whatever the value's type is.
+///
+/// # Contract
+/// `use_at` is the use of a party with a given view.
+///
+/// # Examples
+/// ```
+/// impl Uses<Party> for FlagRule {
+///     ghost use_at = { use_of use_of_party };
+/// }
+/// ```
+pub trait Uses<V> {
+    // Of a party with this view, or with none yet.
+    ghost use_at: { Option V → Use };
+}
+
+/// A lock that a writing party can release, which is what its [`Guard`] asks.
+///
+/// # Contract
+/// The uses of `Uses` are those of the rule (`same`).
+///
+/// # Examples
+/// ```
+/// fn release(writer: WritePermit<'_, T, Party, FlagRule>) {
+///     let free = flag::unlock(true);
+///     let permit = writer.into_permit();
+///     let (permit, _) = permit.store::<Frees>(word(free), Watch::nothing());
+///     permit.leave();
+/// }
+///
+/// ghost same = { λ key view. refl };
+/// ```
+pub trait Release<T, V>: Rule<T, V> + Uses<V> {
+    /// Releases the lock of the writing party, which leaves it.
+    ///
+    /// # Contract
+    /// No clause. A permit cannot be dropped, so the body has to end it: the party rests, or keeps its use for good.
+    ///
+    /// # Examples
+    /// ```
+    /// fn release(writer: WritePermit<'_, T, Party, FlagRule>) {
+    ///     let free = flag::unlock(true);
+    ///     let permit = writer.into_permit();
+    ///     let (permit, _) = permit.store::<Frees>(word(free), Watch::nothing());
+    ///     permit.leave();
+    /// }
+    /// ```
+    fn release(writer: WritePermit<'_, T, V, Self>);
+
+    // The uses are those of the rule. They have names of their own, since a ghost field can't name the rule's members.
+    ghost same: { (key : Self.Key) (view : Option V) → Self.use_at view ≡ use_of (Self.ways key).1 view };
+}
+
+/// The guard of a lock's one writing party. Dropping it releases the lock.
+///
+/// It gives access to the value by `Deref` and `DerefMut`. `R` is the strategy of the lock, which the guard does not
+/// use.
+///
+/// # Contract
+/// `guard_value` is the value behind the guard. What is written through the guard is read through it.
+///
+/// # Examples
+/// ```
+/// fn swap_in<R>(guard: &mut SpinMutexGuard<'_, u64, R>, value: u64) -> u64
+///     ensures old_value { result ≡ guard_value guard.old }
+///     ensures new_value { guard_value guard.new ≡ value }
+/// {
+///     let old = **guard;
+///     **guard = value;
+///     old
+/// }
+/// ```
+#[must_use = "dropping the guard at once releases the lock: bind it, or write `drop(..)`"]
+pub struct Guard<'a, T, V, P: Release<T, V>, R> {
+    writer: WritePermit<'a, T, V, P>,
+    strategy: PhantomData<R>,
+}
+
+/// A hold on a lock: it keeps the lock without a guard, and gives no access to the value.
+///
+/// [`release`](Held::release) takes it and releases the lock. Dropping it does not release the lock.
+///
+/// # Contract
+/// Its party still has the use of a writer (`holding`). `held_value` is the value that the guard had.
+///
+/// # Examples
+/// ```
+/// pub fn take<'a, W: Wait>(rt: &W, lock: &'a SpinMutex<u64>) -> Held<'a, u64> {
+///     SpinMutexGuard::hold(lock.lock(rt))
+/// }
+/// ```
+#[must_use = "dropping a hold does not release the lock: pass it to `force_unlock`"]
+pub struct Held<'a, T, V, P: Release<T, V>, R> {
+    permit: Permit<'a, T, V, P>,
+    strategy: PhantomData<R>,
+    ghost holding: { P.use_at permit.view ≡ writes },
+}
+
+impl<'a, T, V, P: Release<T, V>, R> Guard<'a, T, V, P, R> {
+    ghost use Rattle.spin_core.specs.Guard.{guard_value, held_value};
+
+    /// Creates the guard of a party that acquired the lock.
+    ///
+    /// # Contract
+    /// The guard has this permit. The call returns.
+    ///
+    /// # Examples
+    /// ```
+    /// Ok(permit) => Ok(Guard::new(permit.into_writer())),
+    /// Err(found) => Err(fair::reject(found as usize)),
+    /// ```
+    pub fn new(writer: WritePermit<'a, T, V, P>) -> Self
+        ensures { result.writer ≡ writer.entry }
+    {
+        Guard {
+            writer,
+            strategy: PhantomData,
+        }
+    }
+
+    /// Consumes the guard and returns a mutable reference to the value.
+    ///
+    /// The lock stays held, and the reference lives as long as the borrow of the lock.
+    ///
+    /// # Contract
+    /// The reference has the value of the guard. The call returns.
+    ///
+    /// # Examples
+    /// A test of each mutex, here with `SpinMutexGuard` as `$Guard`:
+    ///
+    /// ```
+    /// let value = $Guard::leak(lock.lock($rt));
+    /// *value = 7;
+    /// let refused = lock.try_lock().is_none();
+    /// *value = 9;
+    /// (refused, lock.into_inner())
+    /// ```
+    pub fn leak(this: Self) -> &'a mut T
+        ensures { result.now ≡ guard_value this.entry }
+    {
+        this.into_writer().leak()
+    }
+
+    /// Consumes the guard and keeps the lock held.
+    ///
+    /// # Contract
+    /// `held_value` of the hold is the value of the guard. The call returns.
+    ///
+    /// # Examples
+    /// ```
+    /// pub fn take<'a, W: Wait>(rt: &W, lock: &'a SpinMutex<u64>) -> Held<'a, u64> {
+    ///     SpinMutexGuard::hold(lock.lock(rt))
+    /// }
+    /// ```
+    pub fn hold(this: Self) -> Held<'a, T, V, P, R>
+        ensures { held_value result ≡ Some (guard_value this.entry) }
+    {
+        Held {
+            permit: this.into_writer().into_permit(),
+            strategy: PhantomData,
+        }
+    }
+
+    fn into_writer(self) -> WritePermit<'a, T, V, P>
+        ensures { result ≡ self.entry.writer }
+    {
+        let Self {
+            writer,
+            strategy: _,
+        } = self;
+        writer
+    }
+}
+
+impl<'a, T, V, P: Release<T, V>, R> Held<'a, T, V, P, R> {
+    /// Releases the lock that the hold keeps.
+    ///
+    /// # Contract
+    /// No clause. The call returns.
+    ///
+    /// # Examples
+    /// ```
+    /// pub fn force_unlock(held: Held<'_, T, R>) {
+    ///     held.release();
+    /// }
+    /// ```
+    pub fn release(self) {
+        P::release(self.into_permit().into_writer());
+    }
+
+    fn into_permit(self) -> Permit<'a, T, V, P>
+        ensures { use_of (P.ways result.key).1 result.view ≡ writes }
+    {
+        let Self {
+            permit,
+            strategy: _,
+        } = self;
+        permit
+    }
+}
+
+impl<T, V, P: Release<T, V>, R> Deref for Guard<'_, T, V, P, R> {
+    ghost use Rattle.spin_core.specs.Guard.{guard_value};
+
+    type Target = T;
+
+    ghost deref_gives = { λ g x. x ≡ guard_value g };
+
+    fn deref(&self) -> &T
+        ensures { result.now ≡ guard_value self.now }
+    {
+        self.writer.get()
+    }
+}
+
+impl<T, V, P: Release<T, V>, R> DerefMut for Guard<'_, T, V, P, R> {
+    ghost use Rattle.std.specs.Prelude.{[]};
+    ghost use mir.Syntax.{named};
+    ghost use types.Logic.{sem};
+    ghost use denote.Follow.{follows};
+    ghost use Rattle.spin_core.specs.contracts.guard.Guard.{the_row};
+    ghost use Rattle.spin_core.specs.Guard.{guard_value, guard_with};
+
+    ghost deref_mut_gives = { λ g x. x ≡ guard_value g };
+
+    fn deref_mut(&mut self) -> &mut T
+        ensures* writes_back { sem 𝓛 (follows (the_row (record { mir = named 1; lft = [] }) T.row V.row P.row R.row P.Key.row P.Second.row P.Rule) T.row self.entry.ghost_name result.ghost_name (guard_with self.old)) }
+        ensures value { result.now ≡ guard_value self.old }
+    {
+        self.writer.get_mut()
+    }
+}
+
+impl<T, V, P: Release<T, V>, R> Drop for Guard<'_, T, V, P, R> {
+    fn drop(self) {
+        P::release(self.into_writer());
+    }
+}
+
+impl<T, V, P: Release<T, V>, R> Drop for Held<'_, T, V, P, R> {
+    fn drop(self) {
+        self.into_permit().leak();
+    }
+}
+
+// SAFETY: its new thread has the value to itself, as its old one had.
+unsafe impl<T: Send, V, P: Release<T, V> + Sync, R> Send for Guard<'_, T, V, P, R> {}
+
+// SAFETY: a shared guard lends a `&T` and no more.
+unsafe impl<T: Sync, V, P: Release<T, V>, R> Sync for Guard<'_, T, V, P, R> {}
+
+// SAFETY: its new thread hands the value on to whoever comes next: what a guard asks.
+unsafe impl<T: Send, V, P: Release<T, V> + Sync, R> Send for Held<'_, T, V, P, R> {}
+
+// SAFETY: a shared hold lends nothing. It asks what the lock asks.
+unsafe impl<T: Send, V, P: Release<T, V> + Sync, R> Sync for Held<'_, T, V, P, R> {}

@@ -1,0 +1,24 @@
+//! `Debug` and `Display` of a guard, which prints as its value. Begin at `Debug`.
+ghost use Rattle.spin_core.specs.Guard.{guard_value};
+
+use super::{Guard, Release};
+use std::fmt;
+use std::fmt::{Debug, Display, Formatter};
+
+impl<T: Debug, V, P: Release<T, V>, R> Debug for Guard<'_, T, V, P, R> {
+    ghost debug_output = { λ g. T.debug_output (guard_value g) };
+
+    fn fmt<W: fmt::Write>(&self, f: &mut Formatter<W>) -> fmt::Result {
+        Debug::fmt(&**self, f)
+    }
+}
+
+impl<T: Display, V, P: Release<T, V>, R> Display for Guard<'_, T, V, P, R> {
+    ghost output = { λ g. T.output (guard_value g) };
+
+    ghost styled_output = { λ g. T.styled_output (guard_value g) };
+
+    fn fmt<W: fmt::Write>(&self, f: &mut Formatter<W>) -> fmt::Result {
+        Display::fmt(&**self, f)
+    }
+}

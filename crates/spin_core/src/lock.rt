@@ -1,0 +1,145 @@
+//! Traits for code that takes any lock. Begin with [`Lock`]: each mutex of this library and its `RwLock` have an `impl`
+//! of it.
+ghost use Rattle.std.specs.Prelude.{◌≡◌, is_some, is_ok, MatchResult};
+ghost use Rattle.spin_core.specs.Calls.{AnswersOf, AnswersOfShared};
+
+use std::ops::DerefMut;
+use std::sync::Wait;
+
+/// A lock that gives one thread at a time access to a value of type `T`.
+///
+/// Code of another crate takes `L: Lock<T>` where it does not care which lock it is handed.
+///
+/// # Examples
+/// ```
+/// pub fn count<L: Lock<u64>, W: Wait>(rt: &W, lock: &L) -> u64 {
+///     lock.with(rt, |number| {
+///         *number = number.wrapping_add(1);
+///         *number
+///     })
+/// }
+/// ```
+pub trait Lock<T> {
+    /// Acquires the lock, calls the closure with the value, and releases the lock.
+    ///
+    /// It spins as the lock does. The call never returns if its own thread holds the lock.
+    ///
+    /// # Contract
+    /// The closure has to be always callable. It is called once, with some value of `T`, and its answer is returned
+    /// (`AnswersOf`). Whether and when the call returns is not promised.
+    ///
+    /// # Examples
+    /// ```
+    /// lock.with(rt, |number| {
+    ///     *number = number.wrapping_add(1);
+    ///     *number
+    /// })
+    /// ```
+    fn with<A, F: FnOnce(&mut T) -> A, W: Wait>(&self, rt: &W, by: F) -> A
+        requires { F.IsAlwaysCallable by }
+        ensures { AnswersOf F.FnOnce by result };
+
+    /// Tries to acquire the lock, and then does as [`with`](Lock::with). Hands the closure back if the lock is held.
+    ///
+    /// # Contract
+    /// The closure has to be always callable. `Ok` is an answer as that of `with`. `Err` is the closure, which was not
+    /// called.
+    ///
+    /// # Examples
+    /// ```
+    /// lock.try_with(|number| {
+    ///     *number = number.wrapping_add(1);
+    ///     *number
+    /// })
+    /// .ok()
+    /// ```
+    fn try_with<A, F: FnOnce(&mut T) -> A>(&self, by: F) -> Result<A, F>
+        requires { F.IsAlwaysCallable by }
+        ensures { MatchResult result (AnswersOf F.FnOnce by) (λ back. back ≡ by) };
+}
+
+/// A lock that also gives several threads shared access to its value at the same time.
+///
+/// # Examples
+/// ```
+/// pub fn read_up_to<L: SharedLock<u64>, W: Wait>(rt: &W, lock: &L, most: u64) -> u64
+///     ensures { result ≤ most }
+/// {
+///     lock.with_shared(
+///         rt,
+///         |number: &u64| -> u64
+///             ensures { result ≤ most }
+///         { if *number < most { *number } else { most } },
+///     )
+/// }
+/// ```
+pub trait SharedLock<T>: Lock<T> {
+    /// Acquires shared access, calls the closure with the value, and releases it.
+    ///
+    /// It spins as the lock does. The call never returns if its own thread is the writer.
+    ///
+    /// # Contract
+    /// The closure has to be always callable. It is called once, with some value of `T`, and its answer is returned
+    /// (`AnswersOfShared`). Whether and when the call returns is not promised.
+    ///
+    /// # Examples
+    /// ```
+    /// lock.with_shared(
+    ///     rt,
+    ///     |number: &u64| -> u64
+    ///         ensures { result ≤ most }
+    ///     { if *number < most { *number } else { most } },
+    /// )
+    /// ```
+    fn with_shared<A, F: FnOnce(&T) -> A, W: Wait>(&self, rt: &W, by: F) -> A
+        requires { F.IsAlwaysCallable by }
+        ensures { AnswersOfShared F.FnOnce by result };
+
+    /// Tries to acquire shared access, and then does as [`with_shared`](SharedLock::with_shared). Hands the closure
+    /// back if access is refused, as beside a writer.
+    ///
+    /// # Contract
+    /// The closure has to be always callable. `Ok` is an answer as that of `with_shared`. `Err` is the closure, which
+    /// was not called. Whether and when the call returns is not promised.
+    ///
+    /// # Examples
+    /// ```
+    /// fn try_with_shared<A, F: FnOnce(&T) -> A, W: Wait>(&self, rt: &W, by: F) -> Result<A, F> {
+    ///     match self.try_read(rt) {
+    ///         Some(guard) => Ok(by(&*guard)),
+    ///         None => Err(by),
+    ///     }
+    /// }
+    /// ```
+    fn try_with_shared<A, F: FnOnce(&T) -> A, W: Wait>(&self, rt: &W, by: F) -> Result<A, F>
+        requires { F.IsAlwaysCallable by }
+        ensures { MatchResult result (AnswersOfShared F.FnOnce by) (λ back. back ≡ by) };
+}
+
+/// Calls the closure with the value of a guard that a try returned, or hands the closure back. It is the `try_with` of
+/// a lock with guards.
+///
+/// # Contract
+/// The closure has to be always callable. Beside a guard the result is `Ok` of an answer as that of [`Lock::with`].
+/// Without one it is `Err` of the closure, which was not called.
+///
+/// # Examples
+/// ```
+/// fn try_with<A, F: FnOnce(&mut T) -> A>(&self, by: F) -> Result<A, F> {
+///     with_guard(self.try_lock(), by)
+/// }
+/// ```
+#[inline(always)]
+pub fn with_guard<T, G: DerefMut<Target = T> + Drop, A, F: FnOnce(&mut T) -> A>(
+    guard: Option<G>,
+    by: F,
+) -> Result<A, F>
+    requires { F.IsAlwaysCallable by }
+    ensures answers { MatchResult result (AnswersOf F.FnOnce by) (λ back. back ≡ by) }
+    ensures called { is_ok result ≡ is_some guard }
+{
+    match guard {
+        Some(mut guard) => Ok(by(&mut *guard)),
+        None => Err(by),
+    }
+}

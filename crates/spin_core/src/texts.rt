@@ -1,0 +1,54 @@
+//! What a lock prints, whichever it is. Begin at [`write_lock`].
+ghost use Rattle.std.specs.Fmt.{DisplaysOnOk};
+ghost use Rattle.std.specs.Option.{option_copied};
+ghost use Rattle.spin_core.specs.Texts.{lock_text, named_text};
+
+use std::fmt;
+use std::fmt::{Debug, Formatter};
+
+/// Writes a mutex with the value that one try found, or as locked.
+///
+/// The text calls each mutex `Mutex`, as the Rust crate does.
+///
+/// # Contract
+/// Without options, an `Ok` call has written `lock_text` of the value.
+///
+/// # Examples
+/// ```
+/// write_lock(self.try_lock().as_ref().map(|guard| &**guard), f)
+/// ```
+pub fn write_lock<T: Debug, W: fmt::Write>(value: Option<&T>, f: &mut Formatter<W>) -> fmt::Result
+    ensures { DisplaysOnOk W.write_str_gives f.old result (lock_text T.debug_output (option_copied value.entry)) f.new }
+{
+    write_named("Mutex { data: ", "Mutex { <locked> }", value, f)
+}
+
+/// Writes a lock with the value that one try found: `shown` and the value and ` }`, or else `locked`.
+///
+/// # Contract
+/// Without options, an `Ok` call has written `named_text` of these.
+///
+/// # Examples
+/// ```
+/// write_named(
+///     "FairMutex { data: ",
+///     "FairMutex { data: <locked> }",
+///     value,
+///     f,
+/// )
+/// ```
+pub fn write_named<T: Debug, W: fmt::Write>(
+    shown: &str,
+    locked: &str,
+    value: Option<&T>,
+    f: &mut Formatter<W>,
+) -> fmt::Result
+    ensures { DisplaysOnOk W.write_str_gives f.old result (named_text shown.now locked.now T.debug_output (option_copied value.entry)) f.new }
+{
+    let Some(value) = value else {
+        return f.write_str(locked);
+    };
+    f.write_str(shown)?;
+    Debug::fmt(value, f)?;
+    f.write_str(" }")
+}

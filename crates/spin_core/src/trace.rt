@@ -1,0 +1,153 @@
+//! A log that only grows, under a name that is a value, and what is known of it. Begin with [`Trace`].
+ghost use Rattle.std.specs.Prelude.{◌≡◌, ◌⊎◌, ℕ, List, []};
+ghost use Rattle.std.specs.Coded.{coded_list};
+ghost use mathlib.Core.List.{IsPrefix};
+ghost use denote.Sharing.{said};
+ghost use Rattle.spin_core.specs.Logs.{log_owns, log_shares, known_owns};
+
+use crate::cell::let_go;
+use std::marker::{Model, PhantomData};
+
+/// A list that only grows, and the whole right to append to it. Beside it lies a word of type `S`, or nothing.
+///
+/// The list and its name are ghost state: a `Trace<E>` has no byte, and a `Trace<E, u64>` has those of its word. A
+/// trace that is put into a [`Cell`](crate::cell::Cell) as its second word grows by the steps of the cell's permits.
+///
+/// # Examples
+/// ```
+/// let trace = Trace::new(2);
+/// let start = trace.watch();
+/// Cell::new(5, 1, trace, &start)
+/// ```
+pub struct Trace<E, S = ()> {
+    pub(crate) word: S,
+    marker: PhantomData<E>,
+    pub ghost name: { ℕ },
+    pub ghost entries: { List E } by { coded_list E.code },
+}
+
+impl<E, S> Model for Trace<E, S> {
+    ghost also_owns = { λ trace. log_owns E.row.coded.code trace.name trace.entries };
+
+    ghost also_shares = { λ trace _ κ. log_shares E.row.coded.code trace.name trace.entries κ };
+}
+
+/// What is known of a trace of this name: its entries begin with these, now and ever after. It has no byte.
+///
+/// # Examples
+/// ```
+/// let (_, party, seen) = cell.enter().add::<Mark>(1, seen);
+/// let (party, seen) = party.store_second::<Mark>(8, seen);
+/// ```
+pub struct Watch<E> {
+    marker: PhantomData<E>,
+    pub ghost name: { ℕ },
+    pub ghost entries: { List E } by { coded_list E.code },
+}
+
+impl<E> Model for Watch<E> {
+    ghost also_owns = { λ watch. known_owns E.row.coded.code watch.name watch.entries };
+
+    ghost also_shares = { λ watch _ κ. said (known_owns E.row.coded.code watch.name watch.entries) κ };
+}
+
+impl<E, S> Trace<E, S> {
+    /// Creates an empty trace, under a name of its own, beside `word`.
+    ///
+    /// # Examples
+    /// ```
+    /// let trace = Trace::new(2);
+    /// let start = trace.watch();
+    /// ```
+    pub fn new(word: S) -> Trace<E, S>
+        ensures { (result.entries ≡ []) × (result.word ≡ word) }
+    {
+        Trace {
+            word,
+            marker: PhantomData,
+        }
+    }
+
+    /// Returns a watch that knows the entries so far.
+    ///
+    /// # Examples
+    /// ```
+    /// let start = trace.watch();
+    /// let cell: Words = Cell::new(5, 1, trace, &start);
+    /// ```
+    pub fn watch(&self) -> Watch<E>
+        ensures { (result.name ≡ self.now.name) × (result.entries ≡ self.now.entries) }
+    {
+        Watch {
+            marker: PhantomData,
+        }
+    }
+}
+
+impl<E> Watch<E> {
+    /// Returns a watch that knows nothing: of a trace of its own, which is gone.
+    ///
+    /// # Examples
+    /// ```
+    /// let (party, _) = cell.enter().store::<Mark>(3, Watch::nothing());
+    /// ```
+    pub fn nothing() -> Watch<E>
+        ensures { result.entries ≡ [] }
+    {
+        let trace: Trace<E> = Trace::new(());
+        trace.watch()
+    }
+
+    /// Returns a watch that knows the same.
+    ///
+    /// # Examples
+    /// ```
+    /// let seen = mark_both(&cell, start.copy());
+    /// ```
+    pub fn copy(&self) -> Watch<E>
+        ensures { (result.name ≡ self.now.name) × (result.entries ≡ self.now.entries) }
+    {
+        Watch {
+            marker: PhantomData,
+        }
+    }
+
+    /// Compares what two watches know of one trace. It does nothing when it runs.
+    ///
+    /// # Contract
+    /// What one of them knows is a prefix of what the other knows.
+    ///
+    /// # Examples
+    /// ```
+    /// let seen = mark_both(&cell, start.copy());
+    /// seen.compare(&start);
+    /// ```
+    pub fn compare(&self, other: &Watch<E>)
+        requires { self.now.name ≡ other.now.name }
+        ensures { IsPrefix self.now.entries other.now.entries ⊎ IsPrefix other.now.entries self.now.entries }
+    {}
+}
+
+impl<E, S> Drop for Trace<E, S> {
+    fn drop(self) {
+        let_go(self);
+    }
+}
+
+impl<E> Drop for Watch<E> {
+    fn drop(self) {
+        let Self { marker: _ } = self;
+    }
+}
+
+// SAFETY: the right to append has no bytes, and what it owns names no thread.
+unsafe impl<E, S: Send> Send for Trace<E, S> {}
+
+// SAFETY: a shared trace tells its entries, and lends its word.
+unsafe impl<E, S: Sync> Sync for Trace<E, S> {}
+
+// SAFETY: as a trace.
+unsafe impl<E> Send for Watch<E> {}
+
+// SAFETY: as a trace.
+unsafe impl<E> Sync for Watch<E> {}

@@ -1,0 +1,136 @@
+-- The moves of the model that each step of a fair mutex is.
+use Rattle.std.proofs.Common.{◌≡◌, ℕ, ◌+◌, ◌-◌, ◌%◌, ◌^◌, ◌/◌, ◌*◌, ◌==◌, [], ◌∷◌, List, Option, Some, None, if◌then◌else◌, refl, sym, ap, ◌∙◌, arith, eq-eqb, ne_eqb, bit_or, is_some}
+use Rattle.std.proofs.lemmas.Nat.{or_shifted, or_block}
+use Rattle.std.specs.Int.Bits.{or_zero_r}
+use mathlib.Core.Logic.{dite}
+use native.Mathlib.Decide.{ℕ_discrete}
+use prog.Atomic.{either}
+use Rattle.spin_step_more.specs.Starvers.{most_starvers, is_set, starve}
+use Rattle.spin_core.specs.Run.{AreMoves, on_first, first}
+use Rattle.spin_model.specs.declared.answer.Answer.TheVariants.{Granted, Refused, Is, Done}
+use Rattle.spin_model.specs.declared.place.Hold.TheVariants.{Write}
+use Rattle.spin_model.specs.declared.place.Seat.TheVariants as seat
+use Rattle.spin_model.specs.declared.schedule.Move.TheVariants.{Begin, Step}
+use Rattle.spin_model.specs.declared.schedule.Outcome.TheVariants.{Begun, Answered, GoingOn}
+use Rattle.spin_step_more.specs.declared.fair_calls.FairCall.{FairCall}
+use Rattle.spin_step_more.specs.declared.fair_calls.FairCall.TheVariants.{Lock, TryLockStarver, IsLocked, Starve, StarverTryLockFair, StarverTryLock, StarverLock, StarverDrop, Release}
+use Rattle.spin_fair.specs.Fair.{seat_of, model, words_of, OneMove, Ending, refusal, looks_by, tries_by, tries_alone_by, ends_by, leads_by, tried, looked, registered_by, set_by, setting, awaited_by, served, MayTry, MaySet}
+use Rattle.spin_fair.specs.declared.fair.rule.View.{View}
+use Rattle.spin_fair.specs.declared.fair.rule.View.TheVariants.{Idle, Starving, Holding, Served, Trying, Looking, Loading, Registering, Setting, Awaiting, HoldingStarving}
+
+abbrev pub Moves : Option View → (ℕ → ℕ) → (ℕ → View → Type 0) → (List OneMove → List Ending → ℕ → View → Type 0) → Type 0
+Moves view f = AreMoves model seat_of words_of view (on_first f) first
+
+-- of a step that leads here, by the number found
+abbrev pub MovesTo : Option View → (ℕ → ℕ) → (ℕ → View) → Type 0
+MovesTo view f to = Moves view f (λ n v. v ≡ to n) (leads_by to)
+
+-- A newcomer
+
+pub load_moves : Moves None (λ n. n) (λ n v. v ≡ Idle) looks_by
+load_moves w value v is = rw is (Begin IsLocked ∷ Step ∷ [], Begun ∷ Answered (Is (is_set w)) None ∷ [], (refl, refl, refl), refl, refl, w, value, refl, refl, refl)
+
+pub attempt_moves : Moves None (λ n. either (n == 0) 1 n) (λ n v. v ≡ (if n == 0 then Holding else Idle)) tries_by
+attempt_moves w value v is =
+    rw is (Begin TryLockStarver ∷ Step ∷ [], Begun ∷ Answered (if w == 0 then Granted else refusal w) None ∷ [], (refl, refl, refl), refl, refl, either (w == 0) 1 w, value, grind arith, grind arith, refl)
+
+pub try_moves : (n : ℕ) (view : Option View) → MayTry n view → MovesTo view (λ n. either (n == 0) 1 n) (tried view)
+try_moves n None may w value v is =
+    rw is (Begin Lock ∷ Step ∷ [], Begun ∷ (if w == 0 then Answered Granted None else GoingOn) ∷ [], refl, refl, grind arith, either (w == 0) 1 w, value, grind arith, grind arith, refl)
+try_moves n (Some (Trying m)) may w value v is =
+    rw is (Step ∷ [], (if w == 0 then Answered Granted None else GoingOn) ∷ [], refl, refl, grind arith, either (w == 0) 1 w, value, grind arith, grind arith, refl)
+try_moves n (Some _) may w value v is = absurd may
+
+pub look_moves : (n : ℕ) → MovesTo (Some (Looking n)) (λ n. n) (looked (Some (Looking n)))
+look_moves n w value v is = rw is (Step ∷ [], GoingOn ∷ [], refl, refl, refl, w, value, grind arith, grind arith, refl)
+
+-- A party that registers: its first exchange, of 0, is the load and the exchange of the model where it wins, and the load where it loses
+
+either_of : (w old new : ℕ) → (w ≡ old → ⊥) → words_of w ≡ words_of (either (w == old) new w)
+either_of w old new ne = ap (λ b. words_of (either b new w)) (sym (ne_eqb w old ne))
+
+either_self : (old new : ℕ) → words_of new ≡ words_of (either (old == old) new old)
+either_self old new = ap (λ b. words_of (either b new old)) (sym (eq-eqb old old refl))
+
+pub starve_moves : MovesTo None (λ n. either (n == 0) 2 n) (registered_by None 0)
+starve_moves w value v is = dite (ℕ_discrete w 0)
+    (λ e. rw (is, e) (Begin Starve ∷ Step ∷ Step ∷ [], Begun ∷ GoingOn ∷ Answered Granted None ∷ [], refl, refl, refl, 2, value, refl, refl, refl))
+    (λ ne. rw is (Begin Starve ∷ Step ∷ [], Begun ∷ (if is_some (starve most_starvers w) then GoingOn else Answered Refused None) ∷ [], refl, refl, grind arith, w, value, grind (arith, ne_eqb w 0 ne), grind arith, either_of w 0 2 ne))
+
+pub turn_moves : MovesTo (Some Loading) (λ n. either (n == 0) 2 n) (registered_by (Some Loading) 0)
+turn_moves w value v is = dite (ℕ_discrete w 0)
+    (λ e. rw (is, e) (Step ∷ Step ∷ [], GoingOn ∷ GoingOn ∷ [], refl, refl, refl, 2, value, refl, refl, refl))
+    (λ ne. rw is (Step ∷ [], GoingOn ∷ [], refl, refl, refl, w, value, grind (arith, ne_eqb w 0 ne), grind arith, either_of w 0 2 ne))
+
+pub again_moves : (old new : ℕ) → starve most_starvers old ≡ Some new → MovesTo (Some (Registering Starve old)) (λ n. either (n == old) new n) (registered_by (Some (Registering Starve old)) old)
+again_moves old new may w value v is = dite (ℕ_discrete w old)
+    (λ e. rw (is, e) (Step ∷ [], Answered Granted None ∷ [], refl, refl, refl, new, value, grind (arith, may, eq-eqb old old refl), grind (arith, may, eq-eqb old old refl), either_self old new))
+    (λ ne. rw is (Step ∷ [], (if is_some (starve most_starvers w) then GoingOn else Answered Refused None) ∷ [], refl, refl, grind arith, w, value, grind (arith, ne_eqb w old ne), grind (arith, ne_eqb w old ne), either_of w old new ne))
+
+pub turn_again_moves : (old new : ℕ) → starve most_starvers old ≡ Some new → MovesTo (Some (Registering Lock old)) (λ n. either (n == old) new n) (registered_by (Some (Registering Lock old)) old)
+turn_again_moves old new may w value v is = dite (ℕ_discrete w old)
+    (λ e. rw (is, e) (Step ∷ [], GoingOn ∷ [], refl, refl, refl, new, value, grind (arith, may, eq-eqb old old refl), grind (arith, may, eq-eqb old old refl), either_self old new))
+    (λ ne. rw is (Step ∷ [], GoingOn ∷ [], refl, refl, refl, w, value, grind (arith, ne_eqb w old ne), grind (arith, ne_eqb w old ne), either_of w old new ne))
+
+-- A starver
+
+-- the only one makes the two steps of its call at once
+pub alone_moves : Moves (Some Starving) (λ n. either (n == 2) 1 n) (λ n v. v ≡ (if n == 2 then Served else Starving)) tries_alone_by
+alone_moves w value v is = dite (ℕ_discrete w 2)
+    (λ e. rw (is, e) (Begin StarverTryLockFair ∷ Step ∷ Step ∷ [], Begun ∷ GoingOn ∷ Answered Granted None ∷ [], (refl, refl, refl), refl, refl, 1, value, refl, refl, refl))
+    (λ ne. rw (is, ne_eqb w 2 ne) (Begin StarverTryLockFair ∷ Step ∷ [], Begun ∷ Answered Refused None ∷ [], (refl, refl, refl), refl, refl, w, value, grind (arith, ne_eqb w 2 ne), grind (arith, ne_eqb w 2 ne), refl))
+
+set_clear : (n : ℕ) → n % 2 ≡ 0 → bit_or n 1 ≡ n + 1
+set_clear n even = ap (λ m. bit_or m 1) (let e : n ≡ n / 2 * 2 = omega arith in e) ∙ (or_shifted (n / 2) 1 1 (omega arith) ∙ (let e : n / 2 * 2 + 1 ≡ n + 1 = omega arith in e))
+
+set_set : (n : ℕ) → (n % 2 ≡ 0 → ⊥) → bit_or n 1 ≡ n
+set_set n odd =
+    let split : n ≡ n / 2 * 2 + 1 = omega (arith, odd) in
+    ap (λ m. bit_or m 1) split ∙ (or_block 1 (n / 2) 0 1 1 (omega arith) (omega arith) ∙ (ap (λ m. m * 2 + 1) (or_zero_r (n / 2)) ∙ sym split))
+
+pub set_is : (n : ℕ) → bit_or n 1 ≡ (if n % 2 == 0 then n + 1 else n)
+set_is n = dite (ℕ_discrete (n % 2) 0)
+    (λ even. set_clear n even ∙ sym (ap (λ b. if b then n + 1 else n) (eq-eqb (n % 2) 0 even)))
+    (λ odd. set_set n odd ∙ sym (ap (λ b. if b then n + 1 else n) (ne_eqb (n % 2) 0 odd)))
+
+words_set : (w : ℕ) → words_of (if w % 2 == 0 then w + 1 else w) ≡ words_of (bit_or w 1)
+words_set w = ap words_of (sym (set_is w))
+
+pub try_set_moves : MovesTo (Some Starving) (λ n. bit_or n 1) (set_by StarverTryLock)
+try_set_moves w value v is = rw is (
+  Begin StarverTryLock ∷ Step ∷ [],
+  Begun ∷ (if w % 2 == 0 then GoingOn else Answered Refused None) ∷ [],
+  refl,
+  refl,
+  grind arith,
+  if w % 2 == 0 then w + 1 else w,
+  value,
+  grind arith,
+  grind arith,
+  words_set w,
+)
+
+pub set_moves : (view : Option View) → MaySet view → MovesTo view (λ n. bit_or n 1) (set_by (setting view))
+set_moves (Some Starving) may w value v is = rw is (Begin StarverLock ∷ Step ∷ [], Begun ∷ GoingOn ∷ [], refl, refl, refl, if w % 2 == 0 then w + 1 else w, value, grind arith, grind arith, words_set w)
+set_moves (Some (Setting Lock)) may w value v is = rw is (Step ∷ [], GoingOn ∷ [], refl, refl, refl, if w % 2 == 0 then w + 1 else w, value, grind arith, grind arith, words_set w)
+set_moves (Some (Setting StarverLock)) may w value v is = rw is (Step ∷ [], GoingOn ∷ [], refl, refl, refl, if w % 2 == 0 then w + 1 else w, value, grind arith, grind arith, words_set w)
+set_moves (Some (Setting _)) may w value v is = absurd cc
+set_moves (Some _) may w value v is = absurd may
+set_moves None may w value v is = absurd may
+
+pub await_moves : (c : FairCall) → MovesTo (Some (Awaiting c)) (λ n. n) (awaited_by (Some (Awaiting c)))
+await_moves c w value v is = rw is (Step ∷ [], GoingOn ∷ [], refl, refl, refl, w, value, grind arith, grind arith, refl)
+
+-- A subtraction leaves no number below 0: the word counts whoever makes it
+
+abbrev pub Takes : ℕ → ℕ → Type 0
+Takes by n = (n + (2 ^ 64 - by)) % 2 ^ 64 ≡ n - by
+
+pub unregister_moves : (c : FairCall) → Moves (Some (HoldingStarving c)) (λ n. (n + (2 ^ 64 - 2)) % 2 ^ 64) (λ n v. (v ≡ Served) × Takes 2 n) (leads_by served)
+unregister_moves c w value v is = rw is.0 (Step ∷ [], Answered Granted None ∷ [], refl, refl, refl, w - 2, value, refl, refl, ap words_of (sym is.1))
+
+pub give_up_moves : Moves (Some Starving) (λ n. (n + (2 ^ 64 - 2)) % 2 ^ 64) (λ n v. (v ≡ Idle) × Takes 2 n) (ends_by StarverDrop)
+give_up_moves w value v is = rw is.0 (Begin StarverDrop ∷ Step ∷ [], Begun ∷ Answered Done None ∷ [], (refl, refl, refl), refl, refl, w - 2, value, refl, refl, ap words_of (sym is.1))
+
+pub release_moves : (u : View) → seat_of u ≡ seat.Holding Write → Moves (Some u) (λ n. (n + (2 ^ 64 - 1)) % 2 ^ 64) (λ n v. (v ≡ Idle) × Takes 1 n) (ends_by Release)
+release_moves u holds w value v is = rw (is.0, holds) (Begin Release ∷ Step ∷ [], Begun ∷ Answered Done None ∷ [], (refl, refl, refl), refl, refl, w - 1, value, refl, refl, ap words_of (sym is.1))

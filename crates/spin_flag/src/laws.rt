@@ -1,0 +1,21 @@
+//! What holds of each `SpinMutex` between any two steps of threads.
+ghost use Rattle.std.specs.Prelude.{ℕ, List};
+ghost use Rattle.spin_core.specs.Own.{Numbered, IsRun};
+ghost use Rattle.spin_core.specs.declared.trace.Trace.{Trace};
+ghost use Rattle.spin_flag.specs.Flag.{Done, IsFlag, model, seat_of, words_of};
+ghost use Rattle.spin_flag.specs.declared.spin.rule.View.{View};
+
+/// Each run of a [`SpinMutex`](crate::spin::SpinMutex) on threads is a schedule of its model.
+///
+/// The lock's cell keeps, without a byte, the list of all moves that threads have made in it so far: who, and which
+/// move.
+///
+/// # Contract
+/// Whatever holds between any two steps of threads (`IsFlag`): no move of the list is passed over in the model. After
+/// the list the model has the lock's word, and has each party where the lock has it.
+///
+/// # Examples
+/// None: nobody calls a law.
+pub fn every_run_of_a_spin_mutex_is_a_schedule()
+    ensures { (name word : ℕ) (trace : Trace Done (Unit {0})) (parties : List (Numbered View)) → IsFlag name word trace parties → IsRun model seat_of words_of trace.entries (word, trace.word) parties }
+{}

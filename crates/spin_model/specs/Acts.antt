@@ -1,0 +1,280 @@
+-- An object as a table: for each point of a call the shape of its next step. The shapes make the machine, and say what each step owes.
+use Rattle.std.specs.Prelude.{ℕ, zero, suc, ◌+◌, ◌%◌, Bool, true, false, Option, Some, None, List, [], ◌∷◌, is_some, ◌==◌, if◌then◌else◌, get_or, unwrap_or}
+use Rattle.spin_step.specs.Plain.{Change, completes}
+use Rattle.spin_model.specs.declared.place.Hold.{Hold}
+use Rattle.spin_model.specs.declared.answer.Answer.{Answer}
+use Rattle.spin_model.specs.declared.answer.Answer.TheVariants.{Granted, Refused, Locked, Starved, Done, Is, Count, Value, NoValue, Failed, Leader, Follower}
+use Rattle.spin_model.specs.declared.step.Next.{Next}
+use Rattle.spin_model.specs.declared.step.Next.TheVariants.{Continue, Answers}
+use Rattle.spin_model.specs.declared.step.Stepped.{Stepped}
+use Rattle.spin_model.specs.StepKinds.{StepKind, plain, again, look}
+use Rattle.spin_model.specs.Calls.{LockKind, Asked, waits, waits_or_starves, initializes, fails_to_initialize, waits_for_value, polls, meets, Said, says_of}
+use Rattle.spin_model.specs.Begins.{fits}
+use Rattle.spin_model.specs.Machines.{Machine}
+use Rattle.spin_model.specs.Operations.{Operation, loads, exchanges, sets_lowest_bit, performed}
+use Rattle.spin_model.specs.Schedules.{placed}
+
+-- The numbers that words are, and the words with this number in the place of the i-th
+pub record Memory (W : Type 0) : Type 0 where
+  pub numbers : W → List ℕ
+  pub put : ℕ → ℕ → W → W
+
+abbrev put_alone : ℕ → ℕ → ℕ → ℕ
+put_alone zero k w = k
+put_alone _ k w = w
+
+abbrev pub one_number : Memory ℕ
+one_number = record { numbers = λ w. w ∷ []; put = put_alone }
+
+abbrev put_in_two : {W : Type 0} → (ℕ → W → W) → (ℕ → W → W) → ℕ → ℕ → W → W
+put_in_two f g zero k w = f k w
+put_in_two f g (suc zero) k w = g k w
+put_in_two f g _ k w = w
+
+-- what each of the two numbers is, and how it is put in its place
+abbrev pub two_numbers : {W : Type 0} → (W → ℕ) → (W → ℕ) → (ℕ → W → W) → (ℕ → W → W) → Memory W
+two_numbers a b f g = record { numbers = λ w. a w ∷ b w ∷ []; put = put_in_two f g }
+
+abbrev pub number_at : {W : Type 0} → Memory W → ℕ → W → ℕ
+number_at m i w = get_or (m.numbers w) i 0
+
+-- A step of a call on one word, by the number that it finds there. A step function gives the number after it, or refuses; beside it stands the plain step that a party makes with it
+pub data Act (W L A : Type 0) : Type 0 where
+  load : (ℕ → Next L A) → Act W L A
+  -- by whether the number passes a test
+  load_if : (ℕ → Bool) → (ℕ → Next L A) → (ℕ → Next L A) → Act W L A
+  -- by whether the step function would give a new number
+  load_for : (ℕ → Option ℕ) → (ℕ → Change) → (ℕ → Next L A) → Next L A → Act W L A
+  -- the number stays, and the plain step is made where it passes a test; else it is closed
+  enter : (ℕ → Bool) → (ℕ → Change) → Next L A → Next L A → Act W L A
+  -- the operation changes the number, or finds another one, which shows that the plain step is closed
+  exchange : Operation → (ℕ → Change) → Next L A → (ℕ → Next L A) → Act W L A
+  -- an exchange of this number for what the step function gives for it, which may also refuse without cause
+  weak_exchange : ℕ → (ℕ → Option ℕ) → (ℕ → Change) → Next L A → Next L A → Act W L A
+  -- an exchange whose refusal shows nothing by itself
+  attempt : ℕ → (ℕ → Option ℕ) → (ℕ → Change) → Next L A → Next L A → Act W L A
+  -- an exchange, where the first word is still the number that was found, and else a load for the next one
+  retry : ℕ → (ℕ → Option ℕ) → (ℕ → Change) → Next L A → (ℕ → Next L A) → Next L A → Act W L A
+  -- without a look, where the number passes a test
+  store : (ℕ → Bool) → Operation → (ℕ → Change) → Next L A → Act W L A
+  -- no one operation, but a whole section on all words, where they pass a test: new words, or a refusal, which shows that the plain step is closed
+  section : (W → Bool) → (W → Option W) → (ℕ → Change) → (W → Next L A) → (W → Next L A) → Act W L A
+
+-- What a step comes to
+
+-- this number for what the step function gives for it
+abbrev pub swap : ℕ → (ℕ → Option ℕ) → Operation
+swap k f = exchanges k (unwrap_or (f k) k)
+
+-- the number that an operation leaves, where it makes its change
+abbrev pub tried : Operation → ℕ → Option ℕ
+tried (exchanges from to) n = if n == from then Some to else None
+tried sets_lowest_bit n = if n % 2 == 0 then Some (n + 1) else None
+tried operation n = Some (performed operation n)
+
+-- what the step function gives, where the number is this one
+abbrev pub guessed : ℕ → (ℕ → Option ℕ) → ℕ → Option ℕ
+guessed k f n = if n == k then f n else None
+
+abbrev pub either : {X : Type 0} → Bool → X → X → X
+either true a b = a
+either false a b = b
+
+abbrev pub stays : {W V L A : Type 0} → W → Next L A → Stepped W V L A
+stays w next = record { words = w; placed = None; next = next }
+
+-- the first argument puts a new number in its place
+abbrev pub becomes : {X W V L A : Type 0} → (X → W) → W → Option X → Next L A → Next L A → Stepped W V L A
+becomes put w None won lost = stays w lost
+becomes put w (Some x) won lost = stays (put x) won
+
+abbrev pub passing : {X : Type 0} → Bool → X → Option X
+passing true x = Some x
+passing false x = None
+
+abbrev pub retried : {W V L A : Type 0} → (ℕ → W) → Bool → W → Option ℕ → Next L A → Next L A → Next L A → Stepped W V L A
+retried put true w o won found missed = becomes put w o won missed
+retried put false w o won found missed = stays w (either (is_some o) found missed)
+
+-- a retry is on the first word
+abbrev pub place_of : {W L A : Type 0} → ℕ → Act W L A → ℕ
+place_of i (retry k f step won found missed) = 0
+place_of i _ = i
+
+-- on the i-th word, which is n
+abbrev pub step_at : {W V L A : Type 0} → Memory W → ℕ → ℕ → Act W L A → W → Stepped W V L A
+step_at m i n (load next) w = stays w (next n)
+step_at m i n (load_if test a b) w = stays w (either (test n) (a n) (b n))
+step_at m i n (load_for f step found missed) w = stays w (either (is_some (f n)) (found n) missed)
+step_at m i n (enter test step won lost) w = becomes (λ k. w) w (passing (test n) n) won lost
+step_at m i n (exchange operation step won lost) w = becomes (λ k. m.put i k w) w (tried operation n) won (lost n)
+step_at m i n (weak_exchange k f step won lost) w = becomes (λ k. m.put i k w) w (tried (swap k f) n) won lost
+step_at m i n (attempt k f step won lost) w = becomes (λ k. m.put i k w) w (guessed k f n) won lost
+step_at m i n (retry k f step won found missed) w = retried (λ k. m.put i k w) (n == k) w (f n) won (found n) missed
+step_at m i n (store can operation step next) w = stays (m.put i (performed operation n) w) next
+step_at m i n (section can f step won lost) w = becomes (λ u. u) w (f w) (won w) (lost w)
+
+abbrev pub step_by : {W V L A : Type 0} → Memory W → ℕ → Act W L A → W → Stepped W V L A
+step_by m i act w = step_at m (place_of i act) (number_at m (place_of i act) w) act w
+
+-- the plain step is made where there is a new number
+abbrev pub made_if : {X : Type 0} → Option X → Change → Option Change
+made_if None c = None
+made_if (Some x) c = Some c
+
+abbrev pub change_at : {W L A : Type 0} → ℕ → Act W L A → ℕ → W → Option Change
+change_at n (enter test step won lost) p w = made_if (passing (test n) n) (step p)
+change_at n (exchange operation step won lost) p w = made_if (tried operation n) (step p)
+change_at n (weak_exchange k f step won lost) p w = made_if (tried (swap k f) n) (step p)
+change_at n (attempt k f step won lost) p w = made_if (guessed k f n) (step p)
+change_at n (retry k f step won found missed) p w = made_if (guessed k f n) (step p)
+change_at n (store can operation step next) p w = Some (step p)
+change_at n (section can f step won lost) p w = made_if (f w) (step p)
+change_at n _ p w = None
+
+abbrev pub change_by : {W L A : Type 0} → Memory W → ℕ → Act W L A → ℕ → W → Option Change
+change_by m i act p w = change_at (number_at m (place_of i act) w) act p w
+
+abbrev pub can_by : {W L A : Type 0} → Memory W → ℕ → Act W L A → W → Bool
+can_by m i (store can operation step next) w = can (number_at m i w)
+can_by m i (section can f step won lost) w = can w
+can_by m i _ w = true
+
+abbrev pub refusal_by : {W L A : Type 0} → Act W L A → Option (Next L A)
+refusal_by (weak_exchange k f step won lost) = Some lost
+refusal_by _ = None
+
+-- the plain step that it makes, if it makes one, and the operation that it is
+abbrev pub makes_by : {W L A : Type 0} → Act W L A → ℕ → Option Change
+makes_by (enter test step won lost) p = Some (step p)
+makes_by (exchange operation step won lost) p = Some (step p)
+makes_by (weak_exchange k f step won lost) p = Some (step p)
+makes_by (attempt k f step won lost) p = Some (step p)
+makes_by (retry k f step won found missed) p = Some (step p)
+makes_by (store can operation step next) p = Some (step p)
+makes_by (section can f step won lost) p = Some (step p)
+makes_by _ p = None
+
+abbrev pub operation_by : {W L A : Type 0} → Act W L A → Operation
+operation_by (exchange operation step won lost) = operation
+operation_by (weak_exchange k f step won lost) = swap k f
+operation_by (attempt k f step won lost) = swap k f
+operation_by (retry k f step won found missed) = swap k f
+operation_by (store can operation step next) = operation
+operation_by _ = loads
+
+abbrev pub is_section : {W L A : Type 0} → Act W L A → Bool
+is_section (section can f step won lost) = true
+is_section _ = false
+
+abbrev pub is_completion : Change → Bool
+is_completion (completes p) = true
+is_completion _ = false
+
+-- which calls wait for another party
+abbrev pub is_waiting : Asked → Bool
+is_waiting (waits ask) = true
+is_waiting (waits_or_starves n) = true
+is_waiting initializes = true
+is_waiting fails_to_initialize = true
+is_waiting waits_for_value = true
+is_waiting polls = true
+is_waiting meets = true
+is_waiting _ = false
+
+abbrev pub look_kind : Asked → StepKind
+look_kind what = either (is_waiting what) look plain
+
+abbrev pub step_kind_by : {W L A : Type 0} → Asked → Act W L A → StepKind
+step_kind_by what (load_if test a b) = look_kind what
+step_kind_by what (enter test step won lost) = look_kind what
+step_kind_by what (retry k f step won found missed) = again
+step_kind_by what _ = plain
+
+-- An object
+
+pub record Table (W V C L A : Type 0) : Type 0 where
+  pub words : W  -- at first
+  pub value : Option V  -- at first
+  pub owned : Bool
+  pub lock_kind : LockKind
+  pub cap : ℕ
+  pub group : ℕ
+  pub first : ℕ
+  pub memory : Memory W
+  pub start : C → Option Hold → L  -- where a call begins, of a party that holds what it is for
+  pub word : L → ℕ  -- the place of the word that a step is on
+  pub act : C → L → Option Hold → Act W L A
+  pub asks : C → Option Hold → Asked
+  pub says : A → Said
+
+abbrev pub begin_of : {W V C L A : Type 0} → Table W V C L A → C → Option Hold → Option L
+begin_of t c h = passing (fits t.lock_kind (t.asks c h) h) (t.start c h)
+
+-- The machine of a table: what comes of a weak refusal and of a step, and what its answers say and give, which may be other answers than the table's
+abbrev pub machine_by : {W V C L A B : Type 0} → Table W V C L A → (C → L → Option Hold → Option (Next L B)) → (W → Option V → C → L → Option Hold → Stepped W V L B) → (B → Said) → (C → Option V) → (B → Option V) → Machine W V C L B
+machine_by t refuse step says brings gives =
+    record {
+      words = t.words;
+      value = t.value;
+      owned = t.owned;
+      begin = begin_of t;
+      refuse = refuse;
+      can = λ w c l h. can_by t.memory (t.word l) (t.act c l h) w;
+      step = step;
+      lock_kind = t.lock_kind;
+      cap = t.cap;
+      group = t.group;
+      first = t.first;
+      numbers = t.memory.numbers;
+      asks = t.asks;
+      says = says;
+      change = λ p w c l h. change_by t.memory (t.word l) (t.act c l h) p w;
+      step_kind = λ c l h. step_kind_by (t.asks c h) (t.act c l h);
+      brings = brings;
+      gives = gives;
+    }
+
+abbrev pub machine_of : {W V C L A : Type 0} → Table W V C L A → Machine W V C L A
+machine_of t = machine_by t (λ c l h. refusal_by (t.act c l h)) (λ w v c l h. step_by t.memory (t.word l) (t.act c l h) w) t.says (λ c. None) (λ a. None)
+
+-- An object whose closures make its value. Its table leaves values out: a call that gives one answers the value that lies there after its last step
+
+-- only a store completes a closure, and then it places the value that its call brings
+abbrev pub completes_by : {W L A : Type 0} → Act W L A → Bool
+completes_by (store can f step next) = is_completion (step 0)
+completes_by _ = false
+
+abbrev pub brought : {V : Type 0} → Bool → Option V → Option V
+brought true value = value
+brought false value = None
+
+abbrev pub with_value : {V : Type 0} → Answer (Unit {0}) → Option V → Answer V
+with_value (Value u) (Some v) = Value v
+with_value (Value u) None = NoValue
+with_value Granted value = Granted
+with_value Refused value = Refused
+with_value Locked value = Locked
+with_value Starved value = Starved
+with_value Done value = Done
+with_value (Is b) value = Is b
+with_value (Count n) value = Count n
+with_value NoValue value = NoValue
+with_value Failed value = Failed
+with_value Leader value = Leader
+with_value Follower value = Follower
+
+abbrev pub filled : {V L : Type 0} → Option V → Next L (Answer (Unit {0})) → Next L (Answer V)
+filled value (Continue l) = Continue l
+filled value (Answers a after) = Answers (with_value a value) after
+
+abbrev pub step_with : {W V L : Type 0} → Option V → Option V → Bool → Stepped W V L (Answer (Unit {0})) → Stepped W V L (Answer V)
+step_with value brings completing st =
+    let put = brought completing brings in record { words = st.words; placed = put; next = filled (placed put value) st.next }
+
+abbrev pub gives_of : {V : Type 0} → Answer V → Option V
+gives_of (Value v) = Some v
+gives_of _ = None
+
+abbrev pub machine_with : {W V C L : Type 0} → Table W V C L (Answer (Unit {0})) → (C → Option V) → Machine W V C L (Answer V)
+machine_with t brings = machine_by t (λ c l h. None) (λ w v c l h. step_with v (brings c) (completes_by (t.act c l h)) (step_by t.memory (t.word l) (t.act c l h) w)) says_of brings gives_of

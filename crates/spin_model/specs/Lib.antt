@@ -1,0 +1,14 @@
+pub mod StepKinds
+pub mod Calls
+pub mod Begins
+pub mod Machines
+pub mod Operations
+pub mod Schedules
+pub mod Acts
+pub mod Tables
+pub mod FlagKind
+pub mod Flag
+pub mod TicketKind
+pub mod Ticket
+pub mod OnceKind
+pub mod Once

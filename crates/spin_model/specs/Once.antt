@@ -1,0 +1,82 @@
+-- The calls of a `Once`, step by step, and how they read on the plain lock.
+use Rattle.std.specs.Prelude.{ℕ, Bool, Option, Some, None, ◌==◌}
+use Rattle.spin_step.specs.Plain.{to_begin, gets, completes, fails}
+use Rattle.spin_step.specs.Flags.{begun, completed, failed}
+use Rattle.spin_model.specs.declared.place.Hold.{Hold}
+use Rattle.spin_model.specs.declared.step.Next.{Next}
+use Rattle.spin_model.specs.declared.step.Next.TheVariants.{Continue, Answers}
+use Rattle.spin_model.specs.declared.answer.Answer.{Answer}
+use Rattle.spin_model.specs.declared.answer.Answer.TheVariants.{Is, Value, NoValue, Failed}
+use Rattle.spin_model.specs.declared.once.OnceCall.{OnceCall}
+use Rattle.spin_model.specs.declared.once.OnceCall.TheVariants.{CallOnce, TryCallOnceOk, TryCallOnceErr, InitFromRef, Wait, Poll, Get, IsCompleted}
+use Rattle.spin_model.specs.declared.once.OncePoint.{OncePoint}
+use Rattle.spin_model.specs.declared.once.OncePoint.TheVariants.{Look, TryBegin, Await, Run}
+use Rattle.spin_model.specs.Calls.{Asked, initializes, fails_to_initialize, waits_for_value, polls, looks_for_value, looks_complete}
+use Rattle.spin_model.specs.OnceKind.{once}
+use Rattle.spin_model.specs.Machines.{Machine}
+use Rattle.spin_model.specs.Acts.{one_number, Act, load, load_if, exchange, store, swap, either, Table, machine_with}
+use Rattle.spin_model.specs.Tables.{usual_table}
+use Rattle.spin_model.specs.Operations.{stores}
+
+-- there is a value
+abbrev pub is_there : ℕ → Bool
+is_there w = w == 2
+
+-- the answer is the value that lies there
+abbrev pub tells : Option Hold → Next OncePoint (Answer (Unit {0}))
+tells h = Answers (Value tt) h
+
+abbrev pub OnceAct : Type 0
+OnceAct = Act ℕ OncePoint (Answer (Unit {0}))
+
+-- a call with a closure looks, begins where there is nothing, and waits while another one runs
+abbrev pub runs : OnceAct → OncePoint → Option Hold → OnceAct
+runs end Look h = load_if is_there (λ w. tells h) (λ w. Continue TryBegin)
+runs end TryBegin h = exchange (swap 0 begun) (λ p. gets p to_begin) (Continue Run) (λ w. either (is_there w) (tells h) (Continue Await))
+runs end Await h = load_if is_there (λ w. tells h) (λ w. either (w == 0) (Continue TryBegin) (Continue Await))
+runs end Run h = end
+
+-- the end of its closure, which gives a value that is placed in the same step, or fails
+abbrev pub ends : {V : Type 0} → Option V → Option Hold → OnceAct
+ends (Some v) h = store (λ w. w == 1) (stores (completed 1)) (λ p. completes p) (tells h)
+ends None h = store (λ w. w == 1) (stores (failed 1)) (λ p. fails p) (Answers Failed h)
+
+-- the value that the call's closure gives
+abbrev pub brings_of : {V : Type 0} → OnceCall V → Option V
+brings_of (CallOnce v) = Some v
+brings_of (TryCallOnceOk v) = Some v
+brings_of (InitFromRef v) = Some v
+brings_of _ = None
+
+abbrev pub act_of : {V : Type 0} → OnceCall V → OncePoint → Option Hold → OnceAct
+act_of (CallOnce v) l h = runs (ends (Some v) h) l h
+act_of (TryCallOnceOk v) l h = runs (ends (Some v) h) l h
+act_of {V = V} TryCallOnceErr l h = runs (ends {V = V} None h) l h
+act_of (InitFromRef v) l h = runs (ends (Some v) h) l h
+act_of Wait l h = load_if is_there (λ w. tells h) (λ w. Continue Look)
+act_of Poll l h = load_if is_there (λ w. tells h) (λ w. either (w == 0) (Answers NoValue h) (Continue Look))
+act_of Get l h = load_if is_there (λ w. tells h) (λ w. Answers NoValue h)
+act_of IsCompleted l h = load (λ w. Answers (Is (is_there w)) h)
+
+abbrev pub asks_of : {V : Type 0} → OnceCall V → Asked
+asks_of (CallOnce v) = initializes
+asks_of (TryCallOnceOk v) = initializes
+asks_of TryCallOnceErr = fails_to_initialize
+asks_of (InitFromRef v) = initializes
+asks_of Wait = waits_for_value
+asks_of Poll = polls
+asks_of Get = looks_for_value
+asks_of IsCompleted = looks_complete
+
+abbrev pub opening_word : {V : Type 0} → Option V → ℕ
+opening_word None = 0
+opening_word (Some v) = 2
+
+abbrev pub OnceMachine : Type 0 → Type 0
+OnceMachine V = Machine ℕ V (OnceCall V) OncePoint (Answer V)
+
+abbrev pub once_table : {V : Type 0} → Option V → Table ℕ V (OnceCall V) OncePoint (Answer (Unit {0}))
+once_table value = usual_table value once (opening_word value) one_number (λ c h. Look) act_of (λ c h. asks_of c)
+
+abbrev pub once_machine : {V : Type 0} → Option V → OnceMachine V
+once_machine value = machine_with (once_table value) brings_of

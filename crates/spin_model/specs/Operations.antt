@@ -1,0 +1,54 @@
+-- What a step of a call is: one operation on one word, as a processor makes it.
+use Rattle.std.specs.Prelude.{◌≡◌, ℕ, ◌+◌, ◌-◌, ◌%◌, ◌==◌, Bool, true, false, Option, Some, is_some, if◌then◌else◌, get_or, slice_set}
+use Rattle.spin_model.specs.declared.place.Hold.{Hold}
+use Rattle.spin_model.specs.declared.step.Next.{Next}
+use Rattle.spin_model.specs.StepKinds.{is_look}
+use Rattle.spin_step.specs.Plain.{Change}
+use Rattle.spin_model.specs.Calls.{is_got_weakly}
+use Rattle.spin_model.specs.Begins.{fits}
+use Rattle.spin_model.specs.Machines.{Machine}
+
+pub data Operation : Type 0 where
+  loads : Operation
+  exchanges : ℕ → ℕ → Operation  -- the first number, where it is found, for the second
+  adds : ℕ → Operation
+  subtracts : ℕ → Operation
+  sets_lowest_bit : Operation
+  stores : ℕ → Operation
+
+-- what lies there after it
+abbrev pub performed : Operation → ℕ → ℕ
+performed loads n = n
+performed (exchanges from to) n = if n == from then to else n
+performed (adds k) n = n + k
+performed (subtracts k) n = n - k
+performed sets_lowest_bit n = if n % 2 == 0 then n + 1 else n
+performed (stores k) n = k
+
+-- wherever the step may be taken, it makes this operation on the i-th word and leaves the others; and what comes of it depends on the number that lies there, and on no other
+pub record Performs {W V C L A : Type 0} (m : Machine W V C L A) (c : C) (l : L) (h : Option Hold) (i : ℕ) (operation : Operation) : Type 0 where
+  pub words : (w : W) (v : Option V) → m.can w c l h ≡ true → m.numbers (m.step w v c l h).words ≡ slice_set (m.numbers w) i (performed operation (get_or (m.numbers w) i 0))
+  pub next : (w u : W) (v : Option V) → m.can w c l h ≡ true → m.can u c l h ≡ true → get_or (m.numbers w) i 0 ≡ get_or (m.numbers u) i 0 → (m.step w v c l h).next ≡ (m.step u v c l h).next
+  pub placed : (w u : W) (v : Option V) → (m.step w v c l h).placed ≡ (m.step u v c l h).placed
+
+-- a step is one operation, unless this kind of lock steps in whole sections, under a lock of its own
+abbrev pub IsOneOperation : {W V C L A : Type 0} → Bool → Machine W V C L A → C → L → Option Hold → Type 0
+IsOneOperation true m c l h = Unit {0}
+IsOneOperation false m c l h = (i : ℕ) × (operation : Operation) × Performs m c l h i operation
+
+-- a refusal without cause is that of an exchange: the call goes on as it does where another number lies there
+abbrev pub RefusesAsLost : {W V C L A : Type 0} → Machine W V C L A → C → L → Option Hold → Next L A → Type 0
+RefusesAsLost {W} {V} m c l h next =
+    (i from to : ℕ) × Performs m c l h i (exchanges from to) × ((w : W) (v : Option V) → (get_or (m.numbers w) i 0 == from) ≡ false → (m.step w v c l h).next ≡ next)
+    × ((p : ℕ) (w : W) → (get_or (m.numbers w) i 0 == from) ≡ true → is_some (m.change p w c l h) ≡ true)
+
+-- what holds of the calls and steps of an object, whatever the schedule
+pub record Stepwise {W V C L A : Type 0} (m : Machine W V C L A) : Type 0 where
+  -- its calls are those of its kind of lock, and each begins just where its party holds what it is for
+  pub begins : (c : C) (h : Option Hold) → is_some (m.begin c h) ≡ fits m.lock_kind (m.asks c h) h
+  -- what a call gets by a weak exchange it gets by no other step
+  pub weak : (p : ℕ) (c : C) (l : L) (h : Option Hold) (w : W) (d : Change) → m.change p w c l h ≡ Some d → is_got_weakly (m.asks c h) d ≡ true → is_some (m.refuse c l h) ≡ true
+  pub operates : (c : C) (l : L) (h : Option Hold) → IsOneOperation m.lock_kind.steps_in_sections m c l h
+  pub refuses : (c : C) (l : L) (h : Option Hold) (next : Next L A) → m.refuse c l h ≡ Some next → RefusesAsLost m c l h next
+  -- a look changes no word
+  pub looks : (c : C) (l : L) (h : Option Hold) → is_look (m.step_kind c l h) ≡ true → (w : W) (v : Option V) → (m.step w v c l h).words ≡ w

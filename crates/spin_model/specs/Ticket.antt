@@ -1,0 +1,80 @@
+-- The ticket lock's calls, step by step, and how they read on the plain lock.
+use Rattle.std.specs.Prelude.{ℕ, Bool, not, ◌&&◌, Option, Some, None, ◌==◌, nat_lt}
+use Rattle.spin_step.specs.Plain.{ticket_limit, to_take_ticket, to_enter, to_take_and_enter, gets, serves}
+use Rattle.spin_step.specs.Tickets.{take, served}
+use Rattle.spin_model.specs.declared.place.Hold.{Hold}
+use Rattle.spin_model.specs.declared.place.Hold.TheVariants as hold
+use Rattle.spin_model.specs.declared.step.Next.{Next}
+use Rattle.spin_model.specs.declared.step.Next.TheVariants.{Continue, Answers}
+use Rattle.spin_model.specs.declared.answer.Answer.{Answer}
+use Rattle.spin_model.specs.declared.answer.Answer.TheVariants.{Granted, Refused, Done, Is}
+use Rattle.spin_model.specs.declared.ticket.TicketWords.{TicketWords}
+use Rattle.spin_model.specs.declared.ticket.TicketCall.{TicketCall}
+use Rattle.spin_model.specs.declared.ticket.TicketCall.TheVariants.{Lock, TryLock, IsLocked, Release}
+use Rattle.spin_model.specs.declared.ticket.TicketPoint.{TicketPoint}
+use Rattle.spin_model.specs.declared.ticket.TicketPoint.TheVariants.{LoadNext, Take, Await, TryLoadNext, TryLoadServing, TryTake, LookServing, LookNext, Serve}
+use Rattle.spin_model.specs.Calls.{Asked, waits, tries, looks, gives_back}
+use Rattle.spin_model.specs.TicketKind.{ticket}
+use Rattle.spin_model.specs.Machines.{Machine}
+use Rattle.spin_model.specs.Acts.{Memory, two_numbers, Act, load, load_if, load_for, enter, attempt, retry, store, Table, machine_of}
+use Rattle.spin_model.specs.Tables.{usual_table}
+use Rattle.spin_model.specs.Operations.{stores}
+
+-- where calls begin; a release with the ticket that it holds
+abbrev pub starts_at : TicketCall → Option Hold → TicketPoint
+starts_at Lock h = LoadNext
+starts_at TryLock h = TryLoadNext
+starts_at IsLocked h = LookServing
+starts_at Release (Some (hold.Ticket t)) = Serve t
+starts_at Release _ = Serve 0
+
+-- its two words: the next ticket, and the one that is served
+abbrev pub ticket_memory : Memory TicketWords
+ticket_memory = two_numbers (λ w. w.next) (λ w. w.serving) (λ k w. record w { next = k }) (λ k w. record w { serving = k })
+
+abbrev pub word_of : TicketPoint → ℕ
+word_of (Await t) = 1
+word_of (TryLoadServing n) = 1
+word_of LookServing = 1
+word_of (Serve t) = 1
+word_of _ = 0
+
+-- some tickets are left where this one is next
+abbrev pub is_left : ℕ → Bool
+is_left n = nat_lt n ticket_limit
+
+-- the number that is served is this one, and its ticket is left
+abbrev pub is_free : ℕ → ℕ → Bool
+is_free n serving = (serving == n) && is_left n
+
+abbrev pub granted : {V : Type 0} → ℕ → Next TicketPoint (Answer V)
+granted t = Answers Granted (Some (hold.Ticket t))
+
+-- `lock` goes for the number that it found next
+abbrev pub goes_for : {V : Type 0} → ℕ → Next TicketPoint (Answer V)
+goes_for n = Continue (Take n)
+
+abbrev pub act_of : {V : Type 0} → TicketPoint → Option Hold → Act TicketWords TicketPoint (Answer V)
+act_of LoadNext h = load_for take (λ p. gets p to_take_ticket) goes_for (Continue LoadNext)
+act_of (Take n) h = retry n take (λ p. gets p to_take_ticket) (Continue (Await n)) goes_for (Continue LoadNext)
+act_of (Await t) h = enter (λ k. k == t) (λ p. gets p to_enter) (granted t) (Continue (Await t))
+act_of TryLoadNext h = load (λ n. Continue (TryLoadServing n))
+act_of (TryLoadServing n) h = load_if (is_free n) (λ k. Continue (TryTake n)) (λ k. Answers Refused h)
+act_of (TryTake n) h = attempt n take (λ p. gets p to_take_and_enter) (granted n) (Answers Refused h)
+act_of LookServing h = load (λ k. Continue (LookNext k))
+act_of (LookNext k) h = load (λ n. Answers (Is (not (n == k))) h)
+act_of (Serve t) h = store (λ k. is_left t) (stores (served t)) (λ p. serves p) (Answers Done None)
+
+abbrev pub asks_of : TicketCall → Option Hold → Asked
+asks_of Lock h = waits to_enter
+asks_of TryLock h = tries to_take_and_enter
+asks_of IsLocked h = looks
+asks_of Release h = gives_back h
+
+abbrev pub ticket_table : {V : Type 0} → V → ℕ → Table TicketWords V TicketCall TicketPoint (Answer V)
+ticket_table v first =
+    let opening : TicketWords = record { next = first; serving = first } in
+    record (usual_table (Some v) ticket opening ticket_memory starts_at (λ c l h. act_of l h) asks_of) { first = first; word = word_of }
+
+abbrev pub ticket_machine : {V : Type 0} → V → ℕ → Machine TicketWords V TicketCall TicketPoint (Answer V)
+ticket_machine v first = machine_of (ticket_table v first)

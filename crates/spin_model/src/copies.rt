@@ -1,0 +1,171 @@
+//! `Clone` for each type that is `Copy` if its parameters are. A clone is the same value, and never fails.
+ghost use Rattle.std.specs.Prelude.{◌≡◌, ⊤};
+
+use crate::answer::Answer;
+use crate::flag::{FlagCall, FlagPoint};
+use crate::once::{OnceCall, OncePoint};
+use crate::place::{Hold, Place, Seat};
+use crate::schedule::{Event, Move, Outcome};
+use crate::step::{Next, Stepped};
+use crate::ticket::{TicketCall, TicketPoint, TicketWords};
+use std::alloc::AllocError;
+
+impl<V: Copy> Clone for Answer<V> {
+    ghost is_clone = { λ x y. y ≡ x };
+
+    ghost is_infallible = { λ _. ⊤ };
+
+    fn clone(&self) -> Result<Answer<V>, AllocError> {
+        Ok(*self)
+    }
+}
+
+impl<C: Copy, V: Copy> Clone for Move<C, V> {
+    ghost is_clone = { λ x y. y ≡ x };
+
+    ghost is_infallible = { λ _. ⊤ };
+
+    fn clone(&self) -> Result<Move<C, V>, AllocError> {
+        Ok(*self)
+    }
+}
+
+impl<A: Copy, V: Copy> Clone for Outcome<A, V> {
+    ghost is_clone = { λ x y. y ≡ x };
+
+    ghost is_infallible = { λ _. ⊤ };
+
+    fn clone(&self) -> Result<Outcome<A, V>, AllocError> {
+        Ok(*self)
+    }
+}
+
+impl<W: Copy, V: Copy, A: Copy> Clone for Event<W, V, A> {
+    ghost is_clone = { λ x y. y ≡ x };
+
+    ghost is_infallible = { λ _. ⊤ };
+
+    fn clone(&self) -> Result<Event<W, V, A>, AllocError> {
+        Ok(*self)
+    }
+}
+
+impl<C: Copy, L: Copy> Clone for Seat<C, L> {
+    ghost is_clone = { λ x y. y ≡ x };
+
+    ghost is_infallible = { λ _. ⊤ };
+
+    fn clone(&self) -> Result<Seat<C, L>, AllocError> {
+        Ok(*self)
+    }
+}
+
+impl<L: Copy, A: Copy> Clone for Next<L, A> {
+    ghost is_clone = { λ x y. y ≡ x };
+
+    ghost is_infallible = { λ _. ⊤ };
+
+    fn clone(&self) -> Result<Next<L, A>, AllocError> {
+        Ok(*self)
+    }
+}
+
+impl<W: Copy, V: Copy, L: Copy, A: Copy> Clone for Stepped<W, V, L, A> {
+    ghost is_clone = { λ x y. y ≡ x };
+
+    ghost is_infallible = { λ _. ⊤ };
+
+    fn clone(&self) -> Result<Stepped<W, V, L, A>, AllocError> {
+        Ok(*self)
+    }
+}
+
+impl Clone for Hold {
+    ghost is_clone = { λ x y. y ≡ x };
+
+    ghost is_infallible = { λ _. ⊤ };
+
+    fn clone(&self) -> Result<Hold, AllocError> {
+        Ok(*self)
+    }
+}
+
+impl Clone for Place {
+    ghost is_clone = { λ x y. y ≡ x };
+
+    ghost is_infallible = { λ _. ⊤ };
+
+    fn clone(&self) -> Result<Place, AllocError> {
+        Ok(*self)
+    }
+}
+
+impl Clone for FlagCall {
+    ghost is_clone = { λ x y. y ≡ x };
+
+    ghost is_infallible = { λ _. ⊤ };
+
+    fn clone(&self) -> Result<FlagCall, AllocError> {
+        Ok(*self)
+    }
+}
+
+impl Clone for FlagPoint {
+    ghost is_clone = { λ x y. y ≡ x };
+
+    ghost is_infallible = { λ _. ⊤ };
+
+    fn clone(&self) -> Result<FlagPoint, AllocError> {
+        Ok(*self)
+    }
+}
+
+impl Clone for TicketWords {
+    ghost is_clone = { λ x y. y ≡ x };
+
+    ghost is_infallible = { λ _. ⊤ };
+
+    fn clone(&self) -> Result<TicketWords, AllocError> {
+        Ok(*self)
+    }
+}
+
+impl Clone for TicketCall {
+    ghost is_clone = { λ x y. y ≡ x };
+
+    ghost is_infallible = { λ _. ⊤ };
+
+    fn clone(&self) -> Result<TicketCall, AllocError> {
+        Ok(*self)
+    }
+}
+
+impl Clone for TicketPoint {
+    ghost is_clone = { λ x y. y ≡ x };
+
+    ghost is_infallible = { λ _. ⊤ };
+
+    fn clone(&self) -> Result<TicketPoint, AllocError> {
+        Ok(*self)
+    }
+}
+
+impl<V: Copy> Clone for OnceCall<V> {
+    ghost is_clone = { λ x y. y ≡ x };
+
+    ghost is_infallible = { λ _. ⊤ };
+
+    fn clone(&self) -> Result<OnceCall<V>, AllocError> {
+        Ok(*self)
+    }
+}
+
+impl Clone for OncePoint {
+    ghost is_clone = { λ x y. y ≡ x };
+
+    ghost is_infallible = { λ _. ⊤ };
+
+    fn clone(&self) -> Result<OncePoint, AllocError> {
+        Ok(*self)
+    }
+}

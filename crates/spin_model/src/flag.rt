@@ -1,0 +1,36 @@
+//! The calls of the lock of one flag, and their points. Begin with [`FlagCall`].
+/// A call of a `Flag`. `Flag::new` of `spin_world_flag` promises that each call asks what stands here.
+///
+/// # Examples
+/// ```
+/// Move::Begin(FlagCall::Lock),
+/// Move::Step,
+/// Move::Read,
+/// Move::Write(1),
+/// Move::Begin(FlagCall::Release),
+/// Move::Step,
+/// ```
+#[derive(Copy)]
+pub enum FlagCall {
+    /// Acquires the lock, in as many steps as it needs.
+    Lock,
+    /// Tries to acquire the lock. It fails if a party holds it.
+    TryLock,
+    /// Like `TryLock`, but makes a weak exchange, which may also fail without cause.
+    TryLockWeak,
+    /// Answers whether a party holds the lock.
+    IsLocked,
+    /// Releases the lock.
+    Release,
+}
+
+/// The point of a call: which step comes next. Only `Lock` has a second one.
+///
+/// No example: a world keeps the points of calls, and a schedule names none.
+#[derive(Copy)]
+pub enum FlagPoint {
+    /// The first step of any call, and of each further attempt.
+    First,
+    /// The look of `Lock` at the flag, after its exchange has failed.
+    Second,
+}

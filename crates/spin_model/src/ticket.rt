@@ -1,0 +1,66 @@
+//! The calls of the lock of two numbers, their points, and its words. Begin with [`TicketCall`].
+/// The two words of a `Ticket`.
+///
+/// # Examples
+/// ```
+/// fn numbers(words: TicketWords) -> (u64, Option<u64>) {
+///     (words.next, Some(words.serving))
+/// }
+/// ```
+#[derive(Copy)]
+pub struct TicketWords {
+    /// The number of the next ticket.
+    pub next: u64,
+    /// The number that is served. The party with this ticket may hold the lock.
+    pub serving: u64,
+}
+
+/// A call of a `Ticket`. `Ticket::new` of `spin_world_ticket` promises that each call asks what stands here.
+///
+/// # Examples
+/// ```
+/// const TICKET_CALLS: [(&[u8], TicketCall); 4] = [
+///     (b"lock", TicketCall::Lock),
+///     (b"try_lock", TicketCall::TryLock),
+///     (b"is_locked", TicketCall::IsLocked),
+///     (b"release", TicketCall::Release),
+/// ];
+/// ```
+#[derive(Copy)]
+pub enum TicketCall {
+    /// Takes a ticket, in as many steps as it needs, and then waits until it is served. If no number is left, it looks
+    /// without end.
+    Lock,
+    /// Tries to acquire the lock, without waiting. It fails only if a ticket stood at some moment of the call, or if no
+    /// number is left.
+    TryLock,
+    /// Answers whether a ticket stands.
+    IsLocked,
+    /// Releases the lock: the next ticket is served.
+    Release,
+}
+
+/// The point of a call: which step comes next, with what the party has found or taken so far.
+///
+/// No example: a world keeps the points of calls, and a schedule names none.
+#[derive(Copy)]
+pub enum TicketPoint {
+    /// `Lock` loads the next number.
+    LoadNext,
+    /// `Lock` takes the ticket of this number by an exchange.
+    Take(u64),
+    /// `Lock` loads the number that is served, and has the ticket of this one.
+    Await(u64),
+    /// `TryLock` loads the next number.
+    TryLoadNext,
+    /// `TryLock` loads the number that is served. It found this one to be next.
+    TryLoadServing(u64),
+    /// `TryLock` takes the ticket of this number by an exchange. It found it to be next, and served.
+    TryTake(u64),
+    /// `IsLocked` loads the number that is served.
+    LookServing,
+    /// `IsLocked` loads the next number. It found this one to be served.
+    LookNext(u64),
+    /// `Release` stores the number after this one, its ticket's.
+    Serve(u64),
+}

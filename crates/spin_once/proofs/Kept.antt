@@ -1,0 +1,159 @@
+-- Each step keeps the rule of a value that is made once, and appends its moves.
+use Rattle.std.proofs.Common.{◌≡◌, ◌≢◌, Bool, true, ℕ, zero, suc, ◌+◌, replicate, ◌==◌, ◌<◌, List, [], ◌∷◌, map, Option, Some, None, refl, sym, ap, subst, arith, ◌∙◌, if◌then◌else◌, ne_eqb}
+use mathlib.Core.Logic.{inl}
+use prog.Atomic.{either}
+use Rattle.core.specs.declared.snapshot.Snapshot.{Snapshot}
+use Rattle.spin_step.specs.Plain.{Plain, gets, completes, fails, to_begin, once_word}
+use Rattle.spin_step.specs.Steps.{Decides, Gives}
+use Rattle.spin_core.specs.Cell.{off, use_of, alone, Fixed, Opens, Rests, Moved, readers_of, writers_of}
+use Rattle.spin_core.specs.Own.{Numbered, what, IsRun}
+use Rattle.spin_core.specs.Stable.{maybe_stable, StableAt}
+use Rattle.spin_core.specs.Traced.{Traces, Watches}
+use Rattle.spin_core.specs.declared.cell.stable.MaybeStable.{MaybeStable}
+use Rattle.spin_core.specs.declared.trace.Trace.{Trace}
+use Rattle.spin_core.specs.declared.trace.Watch.{Watch}
+use Rattle.spin_core.proofs.Ties as tie
+use Rattle.spin_model.specs.declared.once.OnceCall.{OnceCall}
+use Rattle.spin_model.specs.declared.once.OnceCall.TheVariants.{Wait, Poll}
+use Rattle.spin_model.specs.declared.once.OncePoint.TheVariants.{Look, TryBegin, Await, Run}
+use Rattle.spin_model.specs.declared.place.Seat.TheVariants as seat
+use Rattle.spin_model.specs.Schedules.{State}
+use Rattle.spin_once.specs.Model.{Point, model}
+use Rattle.spin_once.specs.Once.{use_of_view, use_of_party, runs, Word, is_done, IsMadeFrom, once_ways, seat_of, words_of, OneMove, Ending, Made, IsOnce, Told, finds, gets_by, completes_by, comes_by, leads_by, trying, running, call_of, begun, looked, waited, polled, may_begin, may_look, may_wait, may_poll, is_running}
+use Rattle.spin_once.specs.declared.once_core.rule.View.{View}
+use Rattle.spin_once.specs.declared.once_core.rule.View.TheVariants.{Idle, Reading, InCall}
+use Rattle.spin_once.specs.declared.once_core.rule.Stage.{Stage}
+use Rattle.spin_once.specs.declared.once_core.rule.Stage.TheVariants.{Seed, Done}
+use Rattle.spin_once.proofs.Steps as steps
+use Rattle.spin_once.proofs.Steps.{ComesTo, finds_leads, looked_leads, polled_leads}
+use Rattle.spin_once.proofs.Moves.{Moves, get_moves, completed_moves, come_moves, begin_moves, look_moves, wait_moves, poll_moves, end_moves, fail_moves}
+
+-- a party that goes on uses nothing
+unused_where_it_begins : (view : Option View) → may_begin view ≡ true → use_of use_of_view view ≡ off
+unused_where_it_begins (Some (InCall c TryBegin)) may = refl
+unused_where_it_begins _ may = absurd (cc (may))
+
+unused_where_it_looks : (view : Option View) → may_look view ≡ true → use_of use_of_view view ≡ off
+unused_where_it_looks (Some (InCall c Await)) may = refl
+unused_where_it_looks _ may = absurd (cc (may))
+
+unused_where_it_waits : (view : Option View) → may_wait view ≡ true → use_of use_of_view view ≡ off
+unused_where_it_waits None may = refl
+unused_where_it_waits (Some (InCall Wait Look)) may = refl
+unused_where_it_waits _ may = absurd (cc (may))
+
+unused_where_it_polls : (view : Option View) → may_poll view ≡ true → use_of use_of_view view ≡ off
+unused_where_it_polls None may = refl
+unused_where_it_polls (Some (InCall Poll Look)) may = refl
+unused_where_it_polls _ may = absurd (cc (may))
+
+-- where it runs it is in a call
+call_that_runs : (v : View) → is_running v ≡ true → v ≡ InCall (call_of (Some v)) Run
+call_that_runs (InCall c Run) may = refl
+call_that_runs _ may = absurd (cc (may))
+
+module _ {T S : Type 0} (makes : S → T → Type 0) (seed : Snapshot S) (given : Option (Unit {0})) (name : ℕ) where
+  abbrev Content : Type 0
+  Content = MaybeStable (Stage T S)
+
+  abbrev Keeps : Option (Numbered View) → Option Content → (ℕ → ℕ) → (List OneMove → List Ending → ℕ → View → Type 0) → Type 0
+  Keeps view shown f says = Traces (IsOnce given name) (once_ways makes seed) view shown f (Told says view)
+
+  keeps : (view : Option (Numbered View)) (shown : Option Content) (f : ℕ → ℕ) (leads : ℕ → View → Type 0) (says : List OneMove → List Ending → ℕ → View → Type 0)
+      → Moves given (what view) f leads says → steps.Allowed makes seed (what view) shown f leads → Keeps view shown f says
+  keeps view shown f leads says moves allows id n t vs meets at small =
+      let r = tie.traces (model given) seat_of words_of Word name Content (steps.way makes seed) use_of_view view shown f leads says moves allows id n t vs meets at small in (r.0, r.1, r.2, (given, r.3))
+
+  pub gets_value : Keeps None None (λ n. n) gets_by
+  gets_value = keeps None None (λ n. n) (ComesTo (finds Idle)) gets_by (get_moves given) (steps.looks makes seed None None (finds Idle) refl (finds_leads Idle refl))
+
+  pub looks_complete : Keeps None None (λ n. n) completes_by
+  looks_complete = keeps None None (λ n. n) (ComesTo (λ n. Idle)) completes_by (completed_moves given) (steps.looks makes seed None None (λ n. Idle) refl (λ n r w has. inl refl))
+
+  pub comes : (may_fail : Bool) → Keeps None None (λ n. n) (comes_by may_fail)
+  comes may_fail = keeps None None (λ n. n) (ComesTo (finds (trying may_fail))) (comes_by may_fail) (come_moves given may_fail) (steps.looks makes seed None None (finds (trying may_fail)) refl (finds_leads (trying may_fail) refl))
+
+  pub begins : (view : Option (Numbered View)) (shown : Option Content) → may_begin (what view) ≡ true → (new : ℕ) → new ≡ 1 → ((s : Plain) (p : ℕ) → once_word s ≡ 0 → Decides s (gets p to_begin) once_word (Some new))
+      → Keeps view shown (λ n. either (n == 0) new n) (leads_by (begun (call_of (what view))))
+  begins view shown may new one decides =
+      let c = call_of (what view) in
+      keeps view shown (λ n. either (n == 0) new n) (ComesTo (begun c)) (leads_by (begun c)) (rw one (begin_moves given (what view) may)) (steps.begins makes seed (what view) shown c (unused_where_it_begins (what view) may) new decides)
+
+  pub looks : (view : Option (Numbered View)) (shown : Option Content) → may_look (what view) ≡ true → Keeps view shown (λ n. n) (leads_by (looked (call_of (what view))))
+  looks view shown may =
+      let c = call_of (what view) in
+      keeps view shown (λ n. n) (ComesTo (looked c)) (leads_by (looked c)) (look_moves given (what view) may) (steps.looks makes seed (what view) shown (looked c) (unused_where_it_looks (what view) may) (looked_leads c))
+
+  pub waits : (view : Option (Numbered View)) (shown : Option Content) → may_wait (what view) ≡ true → Keeps view shown (λ n. n) (leads_by waited)
+  waits view shown may = keeps view shown (λ n. n) (ComesTo waited) (leads_by waited) (wait_moves given (what view) may) (steps.looks makes seed (what view) shown waited (unused_where_it_waits (what view) may) (finds_leads _ refl))
+
+  pub polls : (view : Option (Numbered View)) (shown : Option Content) → may_poll (what view) ≡ true → Keeps view shown (λ n. n) (leads_by polled)
+  polls view shown may = keeps view shown (λ n. n) (ComesTo polled) (leads_by polled) (poll_moves given (what view) may) (steps.looks makes seed (what view) shown polled (unused_where_it_polls (what view) may) polled_leads)
+
+  pub ends : (v : Numbered View) → is_running v.0 ≡ true → (new : ℕ) (value : T) → new ≡ 2 → ((s : Plain) (p : ℕ) → once_word s ≡ 1 → Gives s (completes p) once_word new) → makes seed.value value
+      → Keeps (Some v) (Some (maybe_stable (Done value))) (λ _. new) (leads_by (λ n. Reading))
+  ends v runs new value two gives made =
+      let c = call_of (Some v.0) in
+      keeps (Some v) (Some (maybe_stable (Done value))) (λ _. new) (λ _ w. w ≡ Reading) (leads_by (λ n. Reading)) (rw two (end_moves given v.0 runs))
+      (subst (λ x. steps.Allowed makes seed (Some x) (Some (maybe_stable (Done value))) (λ _. new) (λ _ w. w ≡ Reading)) (sym (call_that_runs v.0 runs)) (steps.ends makes seed c new value gives made))
+
+  pub gives_up : (v : Numbered View) → v.0 ≡ running true → (new : ℕ) (it : S) → new ≡ 0 → ((s : Plain) (p : ℕ) → once_word s ≡ 1 → Gives s (fails p) once_word new) → it ≡ seed.value
+      → Keeps (Some v) (Some (maybe_stable (Seed it))) (λ _. new) (leads_by (λ n. Idle))
+  gives_up v runs new it none gives same =
+      keeps (Some v) (Some (maybe_stable (Seed it))) (λ _. new) (λ _ w. w ≡ Idle) (leads_by (λ n. Idle)) (rw (none, runs) (fail_moves given)) (rw runs (steps.gives_up makes seed (call_of (Some (running true))) new it gives same))
+
+  -- ---- a new cell
+  pub starts : (t : Trace Made (Unit {0})) → t.name ≡ name → t.entries ≡ [] → given ≡ None → (it : S) → it ≡ seed.value → Opens (IsOnce given name) (once_ways makes seed) 0 t (maybe_stable (Seed it))
+  starts t named empty none it same =
+      ([], tt, tie.opens (model given) seat_of words_of Word name Content (steps.way makes seed) use_of_view 0 t named empty (rw none refl) (steps.meets makes seed 0 tt [] (refl, refl) refl), same)
+
+  abbrev idle_state : ℕ → State ℕ (Unit {0}) (OnceCall (Unit {0})) Point
+  idle_state k = record { words = 2; value = Some tt; seats = replicate k seat.Idle }
+
+  one_more : (more : ℕ) → 1 + more ≡ suc more
+  one_more more = omega arith
+
+  pub starts_made : (t : Trace Made (Unit {0})) → t.name ≡ name → t.entries ≡ [] → given ≡ Some tt → (value : T) → makes seed.value value → Opens (IsOnce given name) (once_ways makes seed) 2 t (maybe_stable (Done value))
+  starts_made t named empty some_given value made =
+      let reader : Numbered View = (Reading, 0, 0) in let met = steps.meets makes seed 2 tt (Reading ∷ []) (omega arith, refl) refl in
+      let runs : IsRun (model given) seat_of words_of [] (2, tt) (reader ∷ []) = rw some_given (Some (Reading, 0) ∷ [], 2, Some tt, refl, refl, (λ more. ap idle_state (one_more more)), (λ more. refl), (((omega arith), refl), λ q le. refl)) in
+      (reader ∷ [], tt, ((named, met.0, subst (λ l. IsRun (model given) seat_of words_of l (2, t.word) (reader ∷ [])) (sym empty) runs), met.1), made)
+
+  -- ---- the owner of a value that was made
+  fixed : (r w : ℕ) → 0 < r → (x : Stage T S) → Fixed (steps.way makes seed) r w (maybe_stable x) ≡ IsMadeFrom makes seed true x
+  fixed zero w few x = absurd (omega (arith, few))
+  fixed (suc r) w few x = refl
+
+  was_made : (x : Stage T S) → IsMadeFrom makes seed true x → is_done x ≡ true
+  was_made (Done value) made = refl
+  was_made _ made = absurd made
+
+  made_of_any : ((it : S) (value : T) → makes it value) → (x : Stage T S) → is_done x ≡ true → IsMadeFrom makes seed true x
+  made_of_any any (Done value) done = any seed.value value
+  made_of_any any _ done = absurd cc
+
+  -- where one reads the value it was made, and any that was made may take its place
+  pub stabilizes : ((it : S) (value : T) → makes it value) → StableAt (IsOnce given name) (once_ways makes seed) is_done 2
+  stabilizes any t x lies =
+      let vs = lies.0 in
+      let few : 0 < readers_of use_of_party vs = subst (λ r. 0 < r) (tie.as_many_read use_of_view vs) (steps.numbers 2 t.word (map (λ (v : Numbered View). v.0) vs) lies.1.0.1).0 in
+      let same = fixed (readers_of use_of_party vs) (writers_of use_of_party vs) few in
+      (was_made x (subst (λ A. A) (same x) lies.2), λ y done. (vs, lies.1, subst (λ A. A) (sym (same y)) (made_of_any any y done)))
+
+-- ---- which parties may leave
+module _ (given : Option (Unit {0})) (name : ℕ) where
+  pub idle_rests : (v : Numbered View) → v.0 ≡ Idle → Rests (IsOnce given name) use_of_party (Some v)
+  idle_rests v is = tie.rests (model given) seat_of words_of Word name (Unit {0}) alone use_of_view v (ap seat_of is) (rw is steps.idle_rests)
+
+  module _ (named : Type 0) (before : Option (Numbered View)) (known now : Watch Made) (found : ℕ) where
+    pub got_rests : (view : Option (Numbered View)) → found ≢ 2 → Moved (Watches named known now (Told gets_by before) found) view → Rests (IsOnce given name) use_of_party view
+    got_rests None other moved = absurd moved
+    got_rests (Some v) other moved = idle_rests v (moved.1.4.1.6.0 ∙ ap (λ b. if b then Reading else Idle) (ne_eqb found 2 other))
+
+    pub polled_rests : (view : Option (Numbered View)) → found ≡ 0 → Moved (Watches named known now (Told (leads_by polled) before) found) view → Rests (IsOnce given name) use_of_party view
+    polled_rests None none moved = absurd moved
+    polled_rests (Some v) none moved = idle_rests v (moved.1.4.1.6 ∙ ap polled none)
+
+    pub failed_rests : (view : Option (Numbered View)) → Moved (Watches named known now (λ log es n. Told (leads_by (λ _. Idle)) before log es 0) found) view → Rests (IsOnce given name) use_of_party view
+    failed_rests None moved = absurd moved
+    failed_rests (Some v) moved = idle_rests v moved.1.4.1.6

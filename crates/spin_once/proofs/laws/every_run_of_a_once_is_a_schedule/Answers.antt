@@ -1,0 +1,4 @@
+use Rattle.spin_once.proofs.laws.every_run_of_a_once_is_a_schedule.Goals as goal
+
+pub returns : goal.returns
+returns g = λ given name word trace parties is. is.2

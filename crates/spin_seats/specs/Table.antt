@@ -1,0 +1,65 @@
+-- The calls of a lock of seats, step by step, and how they read on the plain lock.
+use Rattle.std.specs.Prelude.{ℕ, ◌==◌, Option, Some, None, is_some, nat_lt}
+use Rattle.spin_step.specs.Plain.{reading, to_read, gets, releases}
+use Rattle.spin_seats.specs.Seats.{seats, entered}
+use Rattle.spin_model.specs.declared.place.Hold.{Hold}
+use Rattle.spin_model.specs.declared.place.Hold.TheVariants.{Read}
+use Rattle.spin_model.specs.declared.step.Next.{Next}
+use Rattle.spin_model.specs.declared.step.Next.TheVariants.{Continue, Answers}
+use Rattle.spin_model.specs.declared.step.Stepped.{Stepped}
+use Rattle.spin_model.specs.declared.answer.Answer.{Answer}
+use Rattle.spin_model.specs.declared.answer.Answer.TheVariants.{Granted, Refused, Done, Count}
+use Rattle.spin_seats.specs.declared.calls.SeatsCall.{SeatsCall}
+use Rattle.spin_seats.specs.declared.calls.SeatsCall.TheVariants as call
+use Rattle.spin_seats.specs.declared.calls.SeatsPoint.{SeatsPoint}
+use Rattle.spin_seats.specs.declared.calls.SeatsPoint.TheVariants.{First, Exchange}
+use Rattle.spin_model.specs.Calls.{Asked, waits, tries, counts_readers, gives_back}
+use Rattle.spin_seats.specs.Kind as kind
+use Rattle.spin_model.specs.Machines.{Machine}
+use Rattle.spin_model.specs.Acts.{one_number, Act, load, load_for, retry, store, either, stays, retried, Table, machine_of}
+use Rattle.spin_model.specs.Tables.{usual_table}
+use Rattle.spin_model.specs.Operations.{subtracts}
+
+abbrev pub Answered : Type 0
+Answered = Next SeatsPoint (Answer (Unit {0}))
+
+abbrev pub granted : Answered
+granted = Answers Granted (Some Read)
+
+-- a call that takes a seat goes for the word that it found
+abbrev pub goes_for : ℕ → Answered
+goes_for w = Continue (Exchange w)
+
+-- it looks first, and then makes its exchange for as long as each word that it finds has a free seat
+abbrev pub comes_by : ℕ → Answered → SeatsPoint → Act ℕ SeatsPoint (Answer (Unit {0}))
+comes_by n missed First = load_for (entered n) (λ p. gets p to_read) goes_for missed
+comes_by n missed (Exchange k) = retry k (entered n) (λ p. gets p to_read) granted goes_for missed
+
+-- what its step comes to, where the step function answers so
+abbrev pub comes_at : SeatsPoint → ℕ → Option ℕ → Answered → Stepped ℕ (Unit {0}) SeatsPoint (Answer (Unit {0}))
+comes_at First w to missed = stays w (either (is_some to) (goes_for w) missed)
+comes_at (Exchange k) w to missed = retried (λ n. n) (w == k) w to granted (goes_for w) missed
+
+abbrev pub act_of : ℕ → SeatsCall → SeatsPoint → Option Hold → Act ℕ SeatsPoint (Answer (Unit {0}))
+act_of n call.TryEnter l h = comes_by n (Answers Refused h) l
+act_of n call.Enter l h = comes_by n (Continue First) l
+act_of n call.Count l h = load (λ w. Answers (Count w) h)
+act_of n call.Leave l h = store (λ w. nat_lt 0 w) (subtracts 1) (λ p. releases p reading) (Answers Done None)
+
+abbrev pub asks_of : SeatsCall → Option Hold → Asked
+asks_of call.TryEnter h = tries to_read
+asks_of call.Enter h = waits to_read
+asks_of call.Count h = counts_readers
+asks_of call.Leave h = gives_back h
+
+abbrev pub SeatsTable : Type 0
+SeatsTable = Table ℕ (Unit {0}) SeatsCall SeatsPoint (Answer (Unit {0}))
+
+abbrev pub seats_table : ℕ → SeatsTable
+seats_table n = record (usual_table (Some tt) kind.seats 0 one_number (λ c h. First) (act_of n) asks_of) { cap = seats n }
+
+abbrev pub SeatsMachine : Type 0
+SeatsMachine = Machine ℕ (Unit {0}) SeatsCall SeatsPoint (Answer (Unit {0}))
+
+abbrev pub seats_machine : ℕ → SeatsMachine
+seats_machine n = machine_of (seats_table n)

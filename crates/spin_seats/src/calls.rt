@@ -1,0 +1,56 @@
+//! The calls of a lock of seats in the model, and their points. Begin with [`SeatsCall`].
+ghost use Rattle.std.specs.Prelude.{◌≡◌, ⊤};
+
+use std::alloc::AllocError;
+
+/// A call of the lock in the model.
+///
+/// # Examples
+/// ```
+/// 0 Move::Begin(SeatsCall::Leave) => Outcome::Begun, 2;
+/// 0 Move::Step => answered!(Answer::Done, 11), 1;
+/// 0 Move::Begin(SeatsCall::Count) => Outcome::Begun, 1;
+/// 0 Move::Step => answered!(Answer::Count(1), 13), 1;
+/// ```
+#[derive(Copy)]
+pub enum SeatsCall {
+    /// Tries to take a seat. It fails only if all were taken at some moment of the call.
+    TryEnter,
+    /// Takes a seat, in as many steps as it needs.
+    Enter,
+    /// Counts the seats that are taken.
+    Count,
+    /// Frees the seat of the party.
+    Leave,
+}
+
+/// The point of a call: which step comes next. Only a call that takes a seat has a second one.
+///
+/// No example: a world keeps the points of calls, and a schedule names none.
+#[derive(Copy)]
+pub enum SeatsPoint {
+    /// The first step of any call, and of each further attempt.
+    First,
+    /// The exchange of this word, which the call has found.
+    Exchange(usize),
+}
+
+impl Clone for SeatsCall {
+    ghost is_clone = { λ x y. y ≡ x };
+
+    ghost is_infallible = { λ _. ⊤ };
+
+    fn clone(&self) -> Result<SeatsCall, AllocError> {
+        Ok(*self)
+    }
+}
+
+impl Clone for SeatsPoint {
+    ghost is_clone = { λ x y. y ≡ x };
+
+    ghost is_infallible = { λ _. ⊤ };
+
+    fn clone(&self) -> Result<SeatsPoint, AllocError> {
+        Ok(*self)
+    }
+}

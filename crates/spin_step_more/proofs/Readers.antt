@@ -1,0 +1,96 @@
+-- What the word of the read-write lock tells, in which nobody stands beside a writer.
+use Rattle.std.proofs.Common.{◌≡◌, ℕ, ◌+◌, ◌*◌, ◌/◌, ◌%◌, ◌<◌, ◌≤◌, ◌==◌, true, List, length, refl, arith, cond}
+use Rattle.std.specs.Prelude.{min}
+use Rattle.spin_step.specs.Plain.{Plain, Kind, reading, upgradable, asking, writing, Holder, weight, count_against, count_kind, is_reader, reader_count, is_empty, is_holder, is_only, may_come, rw_word}
+use Rattle.spin_step.specs.Parties.{IsExclusive}
+use Rattle.spin_step_more.specs.Readers.{reader_limit, OneOfEach, readers_in, writers_in, tells, has_room}
+use Rattle.spin_step.proofs.Sums.{upgrader, against, sum_kinds, over_kinds, one_of, by_kinds, all_kinds, sum-less}
+
+abbrev pub word_of : List Holder → ℕ
+word_of hs = sum_kinds weight hs
+
+pub one_of_each : (s : Plain) → IsExclusive s → OneOfEach s
+one_of_each s alone = grind (arith, alone.writer, all_kinds s.holders)
+
+-- what a lock's word says of each kind of its holders
+record Counts (s : Plain) (w : ℕ) : Type 0 where
+  all : length s.holders ≡ over_kinds (λ k. count_kind k s.holders)
+  word : w ≡ over_kinds (λ k. weight k * count_kind k s.holders)
+  upgraders : count_kind upgradable s.holders + count_kind asking s.holders ≤ 1
+  writers : count_kind writing s.holders ≤ 1
+
+counts : (s : Plain) (word : ℕ) → OneOfEach s → rw_word s ≡ word → Counts s word
+counts s word one is =
+    record { all = all_kinds s.holders; word = omega (arith, by_kinds weight s.holders, is); upgraders = omega (arith, by_kinds upgrader s.holders, one.0); writers = one.1 }
+
+-- the low bits tell which holder keeps a newcomer out, and the word how many read
+pub read-word : (s : Plain) (word cap : ℕ) → OneOfEach s → s.cap ≡ min cap reader_limit → rw_word s ≡ word → may_come reading s ≡ has_room reading word cap
+read-word s word cap one room is =
+    let c = counts s word one is in let others = by_kinds (against reading) s.holders in grind arith
+
+pub upgradable_read-word : (s : Plain) (word cap : ℕ) → OneOfEach s → s.cap ≡ min cap reader_limit → rw_word s ≡ word → may_come upgradable s ≡ has_room upgradable word cap
+upgradable_read-word s word cap one room is =
+    let c = counts s word one is in let others = by_kinds (against upgradable) s.holders in grind arith
+
+-- the word is zero exactly when nobody holds
+pub empty-word : (hs : List Holder) (word : ℕ) → word_of hs ≡ word → is_empty hs ≡ (word == 0)
+empty-word hs word is = grind (arith, all_kinds hs, by_kinds weight hs)
+
+-- Holders that are alone
+
+pub only_holds : (p : ℕ) (k : Kind) (hs : List Holder) → is_only p k hs ≡ true → (is_holder p k hs ≡ true) × (length hs ≡ 1)
+only_holds p k hs only = grind arith
+
+-- a party of this kind is alone exactly where as many hold
+pub only-length : (p : ℕ) (k : Kind) (hs : List Holder) → is_holder p k hs ≡ true → is_only p k hs ≡ (length hs == 1)
+only-length p k hs found = grind arith
+
+-- a party that may upgrade is alone exactly at its own weight
+pub only_upgradable-word : (s : Plain) (p word : ℕ) → OneOfEach s → is_holder p upgradable s.holders ≡ true → rw_word s ≡ word → is_only p upgradable s.holders ≡ (word == weight upgradable)
+only_upgradable-word s p word one found is =
+    let c = counts s word one is in grind (arith, only-length p upgradable s.holders found, sum-less (one_of upgradable) p upgradable s.holders found)
+
+pub only_asking-word : (s : Plain) (p word : ℕ) → OneOfEach s → is_holder p asking s.holders ≡ true → rw_word s ≡ word → is_only p asking s.holders ≡ (word == weight asking)
+only_asking-word s p word one found is =
+    let c = counts s word one is in grind (arith, only-length p asking s.holders found, sum-less (one_of asking) p asking s.holders found)
+
+-- What a holder finds
+
+pub reader-word : (s : Plain) (p : ℕ) → is_holder p reading s.holders ≡ true → weight reading ≤ rw_word s
+reader-word s p found = omega (arith, sum-less weight p reading s.holders found)
+
+pub upgradable-word : (s : Plain) (p : ℕ) → IsExclusive s → length s.holders ≤ reader_limit → is_holder p upgradable s.holders ≡ true → (rw_word s % weight reading ≡ weight upgradable) × (rw_word s / weight reading < reader_limit)
+upgradable-word s p alone few found =
+    let c = counts s (rw_word s) (one_of_each s alone) refl in grind (arith, alone.writer, sum-less (one_of upgradable) p upgradable s.holders found)
+
+-- beside one that asks only readers stand
+pub beside_asking : (s : Plain) (p : ℕ) → IsExclusive s → is_holder p asking s.holders ≡ true → (count_kind asking s.holders ≡ 1) × (count_kind upgradable s.holders ≡ 0) × (count_kind writing s.holders ≡ 0)
+beside_asking s p alone found =
+    let c = counts s (rw_word s) (one_of_each s alone) refl in grind (arith, alone.writer, sum-less (one_of asking) p asking s.holders found)
+
+pub writer-word : (s : Plain) (p : ℕ) → IsExclusive s → is_holder p writing s.holders ≡ true → rw_word s ≡ 1
+writer-word s p alone found =
+    let c = counts s (rw_word s) (one_of_each s alone) refl in grind (arith, alone.writer, sum-less (one_of writing) p writing s.holders found)
+
+-- so the word tells each holder
+pub tells-holder : (s : Plain) (p : ℕ) (k : Kind) → IsExclusive s → length s.holders ≤ reader_limit → is_holder p k s.holders ≡ true → tells k (rw_word s) ≡ true
+tells-holder s p reading alone few found = grind (arith, reader-word s p found)
+tells-holder s p upgradable alone few found = grind (arith, upgradable-word s p alone few found)
+tells-holder s p asking alone few found = grind (arith, beside_asking s p alone found, by_kinds weight s.holders)
+tells-holder s p writing alone few found = grind (arith, writer-word s p alone found)
+
+-- Where all holders read
+
+pub nobody_against : (hs : List Holder) → count_kind reading hs ≡ length hs → count_against reading hs ≡ 0
+nobody_against hs all = omega (arith, all, all_kinds hs, by_kinds (against reading) hs)
+
+pub each_reads : (hs : List Holder) → count_kind reading hs ≡ length hs → reader_count hs ≡ length hs
+each_reads hs all = omega (arith, all, all_kinds hs, by_kinds (λ k. cond (is_reader k) 1 0) hs)
+
+-- What a count tells
+
+pub readers-word : (s : Plain) (word : ℕ) → OneOfEach s → rw_word s ≡ word → reader_count s.holders ≡ readers_in word
+readers-word s word one is = let c = counts s word one is in omega (arith, by_kinds (λ k. cond (is_reader k) 1 0) s.holders, c.word, c.upgraders, c.writers)
+
+pub writers-word : (s : Plain) (word : ℕ) → OneOfEach s → rw_word s ≡ word → count_kind writing s.holders ≡ writers_in word
+writers-word s word one is = let c = counts s word one is in omega (arith, c.word, c.upgraders, c.writers)

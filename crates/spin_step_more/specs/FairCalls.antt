@@ -1,0 +1,94 @@
+-- The fair lock's calls, step by step, and how they read on the plain lock.
+use Rattle.std.specs.Prelude.{ℕ, ◌+◌, Option, Some, None, ◌==◌, nat_lt, min}
+use Rattle.spin_step.specs.Plain.{writing, to_lock_unregistered, to_lock_starving, to_lock_starving_alone, to_starve, gets, releases, stops_starving, holder_weight, starver_weight}
+use Rattle.spin_step_more.specs.Starvers.{most_starvers, is_set, lock, starve, lock_fair}
+use Rattle.spin_model.specs.declared.place.Hold.{Hold}
+use Rattle.spin_model.specs.declared.place.Hold.TheVariants.{Write, Starver}
+use Rattle.spin_model.specs.declared.step.Next.{Next}
+use Rattle.spin_model.specs.declared.step.Next.TheVariants.{Continue, Answers}
+use Rattle.spin_model.specs.declared.answer.Answer.{Answer}
+use Rattle.spin_model.specs.declared.answer.Answer.TheVariants.{Granted, Refused, Locked, Starved, Done, Is}
+use Rattle.spin_step_more.specs.declared.fair_calls.FairCall.{FairCall}
+use Rattle.spin_step_more.specs.declared.fair_calls.FairCall.TheVariants.{Lock, TryLock, TryLockStarver, IsLocked, Starve, StarverTryLockFair, StarverTryLock, StarverLock, StarverDrop, Release}
+use Rattle.spin_step_more.specs.declared.fair_calls.FairPoint.{FairPoint}
+use Rattle.spin_step_more.specs.declared.fair_calls.FairPoint.TheVariants.{First, Attempt, Look, Load, Register, SetFlag, Await, Unregister}
+use Rattle.spin_model.specs.Calls.{Asked, waits, waits_or_starves, tries, tries_to_know, looks, gives_back}
+use Rattle.spin_step_more.specs.FairKind.{fair}
+use Rattle.spin_model.specs.Machines.{Machine}
+use Rattle.spin_model.specs.Acts.{one_number, Act, either, load, load_if, load_for, exchange, weak_exchange, retry, store, swap, Table, machine_of}
+use Rattle.spin_model.specs.Tables.{usual_table}
+use Rattle.spin_model.specs.Operations.{subtracts, sets_lowest_bit}
+
+-- where calls begin
+abbrev pub starts_at : FairCall → FairPoint
+starts_at Lock = Attempt 0
+starts_at Starve = Load
+starts_at StarverTryLock = SetFlag
+starts_at StarverLock = SetFlag
+starts_at _ = First
+
+-- how the calls go on
+
+abbrev pub granted : {V : Type 0} → Next FairPoint (Answer V)
+granted = Answers Granted (Some Write)
+
+-- why a word refuses a party that is no starver
+abbrev pub rejects : {V : Type 0} → Option Hold → ℕ → Next FairPoint (Answer V)
+rejects h w = Answers (either (w == holder_weight) Locked Starved) h
+
+-- `lock` looks on, or has looked often enough to register
+abbrev pub looks_on : {V : Type 0} → ℕ → ℕ → Next FairPoint (Answer V)
+looks_on patience n = either (nat_lt n patience) (Continue (Look (n + 1))) (Continue Load)
+
+-- at the cap `lock` looks again, and `starve` is refused
+abbrev pub finds_no_room : {V : Type 0} → ℕ → FairCall → Option Hold → Next FairPoint (Answer V)
+finds_no_room patience Lock h = Continue (Look patience)
+finds_no_room patience _ h = Answers Refused h
+
+abbrev pub registered : {V : Type 0} → FairCall → Next FairPoint (Answer V)
+registered Lock = Continue SetFlag
+registered _ = Answers Granted (Some Starver)
+
+-- a starver that finds the flag set waits, or is refused
+abbrev pub finds_flag_set : {V : Type 0} → FairCall → Option Hold → Next FairPoint (Answer V)
+finds_flag_set StarverTryLock h = Answers Refused h
+finds_flag_set _ h = Continue Await
+
+-- the calls of one step, and the first step of the fair try
+abbrev pub act_of_first : {V : Type 0} → FairCall → Option Hold → Act ℕ FairPoint (Answer V)
+act_of_first TryLock h = exchange (swap 0 lock) (λ p. gets p to_lock_unregistered) granted (λ w. Answers Refused h)
+act_of_first TryLockStarver h = exchange (swap 0 lock) (λ p. gets p to_lock_unregistered) granted (rejects h)
+act_of_first StarverTryLockFair h = exchange (swap starver_weight lock_fair) (λ p. gets p to_lock_starving_alone) (Continue Unregister) (λ w. Answers Refused h)
+act_of_first StarverDrop h = store (λ w. nat_lt 1 w) (subtracts starver_weight) (λ p. stops_starving p) (Answers Done None)
+act_of_first Release h = store is_set (subtracts holder_weight) (λ p. releases p writing) (Answers Done None)
+act_of_first _ h = load (λ w. Answers (Is (is_set w)) h)
+
+abbrev pub act_of : {V : Type 0} → ℕ → ℕ → FairCall → FairPoint → Option Hold → Act ℕ FairPoint (Answer V)
+act_of cap patience c First h = act_of_first c h
+act_of cap patience c (Attempt n) h = weak_exchange 0 lock (λ p. gets p to_lock_unregistered) granted (Continue (Look n))
+act_of cap patience c (Look n) h = load_if is_set (λ w. looks_on patience n) (λ w. Continue (Attempt n))
+act_of cap patience c Load h = load_for (starve cap) (λ p. gets p to_starve) (λ w. Continue (Register w)) (finds_no_room patience c h)
+act_of cap patience c (Register n) h = retry n (starve cap) (λ p. gets p to_starve) (registered c) (λ w. Continue (Register w)) (finds_no_room patience c h)
+act_of cap patience c SetFlag h = exchange sets_lowest_bit (λ p. gets p to_lock_starving) (Continue Unregister) (λ w. finds_flag_set c h)
+act_of cap patience c Await h = load_if is_set (λ w. Continue Await) (λ w. Continue SetFlag)
+act_of cap patience c Unregister h = store (λ w. nat_lt 1 w) (subtracts starver_weight) (λ p. stops_starving p) granted
+
+abbrev pub asks_of : ℕ → FairCall → Option Hold → Asked
+asks_of patience Lock h = waits_or_starves patience
+asks_of patience TryLock h = tries to_lock_unregistered
+asks_of patience TryLockStarver h = tries_to_know to_lock_unregistered
+asks_of patience IsLocked h = looks
+asks_of patience Starve h = tries to_starve
+asks_of patience StarverTryLockFair h = tries to_lock_starving_alone
+asks_of patience StarverTryLock h = tries to_lock_starving
+asks_of patience StarverLock h = waits to_lock_starving
+asks_of patience StarverDrop h = gives_back (Some Starver)
+asks_of patience Release h = gives_back (Some Write)
+
+-- the cap, and after so many looks at a set flag the next one makes `lock` register
+abbrev pub fair_table : {V : Type 0} → V → ℕ → ℕ → Table ℕ V FairCall FairPoint (Answer V)
+fair_table v cap patience =
+    record (usual_table (Some v) fair 0 one_number (λ c h. starts_at c) (act_of cap patience) (asks_of patience)) { cap = min cap most_starvers }
+
+abbrev pub fair_machine : {V : Type 0} → V → ℕ → ℕ → Machine ℕ V FairCall FairPoint (Answer V)
+fair_machine v cap patience = machine_of (fair_table v cap patience)

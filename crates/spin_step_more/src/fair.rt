@@ -1,0 +1,218 @@
+//! The holder and the starvers in one word: the sum of what each weighs. Begin with [`lock`] and [`starve`].
+//!
+//! A starver is a thread that has registered so as to come before all others, which are newcomers.
+ghost use Rattle.std.specs.Prelude.{◌≡◌, ◌≢◌, ◌≤◌, ◌+◌, ◌-◌, ◌/◌, ◌%◌, ◌==◌, ℕ, Option, Some, None, [], true, if◌then◌else◌, nat_lt, min};
+ghost use Rattle.spin_step.specs.Plain.{Plain, Kind, gets, releases, stops_starving, to_lock_unregistered, to_lock_starving, to_lock_starving_alone, to_starve, is_starver, starver_weight, fair_word};
+ghost use Rattle.spin_step.specs.Parties.{is_held};
+ghost use Rattle.spin_step.specs.Steps.{Decides, Gives};
+ghost use Rattle.spin_step_more.specs.Starvers.{most_starvers, Tells, reason_text, is_set, lock, reject, starve, unstarved, lock_fair, lock_starved, unlocked};
+ghost use Rattle.spin_step.specs.Parties.{OneHolds};
+ghost use Rattle.spin_step_more.specs.declared.fair.LockRejectReason.TheVariants.{Locked, Starved};
+
+use std::error::Error;
+use std::fmt;
+use std::fmt::{Display, Formatter};
+
+/// The weight of the holder in the word.
+///
+/// # Examples
+/// ```
+/// pub(super) const LOCKED: u64 = fair::HOLDER as u64;
+/// ```
+pub const HOLDER: usize = 1;
+
+/// The weight of each starver in the word.
+///
+/// # Examples
+/// ```
+/// let alone = fair::STARVER;
+/// let taken = fair::lock_fair(alone).unwrap();
+/// ```
+pub const STARVER: usize = 2;
+
+/// The most starvers that may be registered at the same time.
+///
+/// # Examples
+/// ```
+/// let Some(more) = fair::starve(word, fair::MAX_STARVERS) else {
+/// ```
+pub const MAX_STARVERS: usize = isize::MAX as usize / 2;
+
+/// Why a thread that is no starver fails to acquire the lock.
+///
+/// # Examples
+/// ```
+/// equal(&rt, fair::reject(1), Locked);
+/// equal(&rt, fair::reject(2), Starved);
+/// ```
+#[derive(Clone, Copy, Debug, PartialEq, Eq)]
+pub enum LockRejectReason {
+    /// The lock is held, and no thread starves.
+    Locked,
+    /// A thread starves, and comes first.
+    Starved,
+}
+
+impl Display for LockRejectReason {
+    ghost output = { λ reason. Some (reason_text reason) };
+
+    fn fmt<W: fmt::Write>(&self, f: &mut Formatter<W>) -> fmt::Result {
+        f.write_str(match self {
+            LockRejectReason::Locked => "locked",
+            LockRejectReason::Starved => "starved",
+        })
+    }
+}
+
+impl Error for LockRejectReason {}
+
+/// Returns the word after a thread that is no starver acquires the lock, or `None` if it is held or a thread starves.
+///
+/// # Contract
+/// The answer is exact, and decides as the plain lock does (`Decides`).
+///
+/// # Examples
+/// ```
+/// let free = 0;
+/// let taken = fair::lock(free).unwrap();
+/// ```
+pub fn lock(word: usize) -> Option<usize>
+    ensures exact { result ≡ lock word }
+    ensures plain { (s : Plain) (party : ℕ) → fair_word s ≡ word → Decides s (gets party to_lock_unregistered) fair_word result }
+{
+    if word == 0 { Some(HOLDER) } else { None }
+}
+
+/// Returns why [`lock`] refuses this word.
+///
+/// # Contract
+/// The word must not be 0. The answer is exact, and true of the plain lock (`Tells`).
+///
+/// # Examples
+/// ```
+/// equal(&rt, fair::reject(1), Locked);
+/// equal(&rt, fair::reject(2), Starved);
+/// equal(&rt, fair::reject(3), Starved);
+/// ```
+pub fn reject(word: usize) -> LockRejectReason
+    requires { word ≢ 0 }
+    ensures exact { result ≡ reject word }
+    ensures plain { (s : Plain) → OneHolds s → fair_word s ≡ word → Tells s result }
+{
+    if word == HOLDER {
+        LockRejectReason::Locked
+    } else {
+        LockRejectReason::Starved
+    }
+}
+
+/// Returns the word after a thread registers as a starver, or `None` if `cap` starvers or [`MAX_STARVERS`] are
+/// registered.
+///
+/// # Contract
+/// The answer is exact, and decides as the plain lock does (`Decides`).
+///
+/// # Examples
+/// ```
+/// let Some(more) = fair::starve(word, fair::MAX_STARVERS) else {
+/// ```
+pub fn starve(word: usize, cap: usize) -> Option<usize>
+    ensures exact { result ≡ starve cap word }
+    ensures plain { (s : Plain) (party : ℕ) → OneHolds s → s.cap ≡ min cap most_starvers → fair_word s ≡ word → Decides s (gets party to_starve) fair_word result }
+{
+    if word / STARVER < cap.min(MAX_STARVERS) {
+        Some(word + STARVER)
+    } else {
+        None
+    }
+}
+
+/// Returns the word after a starver ends its registration.
+///
+/// # Contract
+/// The word has to count a starver. The answer is exact, and gives the plain lock's next state (`Gives`).
+///
+/// # Examples
+/// ```
+/// equal(&rt, fair::unstarve(3), 1);
+/// ```
+#[tactic(auto, using(crate::proofs::FairSteps::gives))]
+pub fn unstarve(word: usize) -> usize
+    requires { starver_weight ≤ word }
+    ensures exact { result ≡ unstarved word }
+    ensures plain { (s : Plain) (party : ℕ) → fair_word s ≡ word → Gives s (stops_starving party) fair_word result }
+{
+    word - STARVER
+}
+
+/// Returns the word after a starver acquires the lock, or `None` if it is held or another thread starves.
+///
+/// # Contract
+/// The answer is exact, and decides as the plain lock does (`Decides`).
+///
+/// # Examples
+/// ```
+/// let alone = fair::STARVER;
+/// let taken = fair::lock_fair(alone).unwrap();
+/// ```
+pub fn lock_fair(word: usize) -> Option<usize>
+    ensures exact { result ≡ lock_fair word }
+    ensures plain { (s : Plain) (party : ℕ) → OneHolds s → is_starver party s.starvers ≡ true → fair_word s ≡ word → Decides s (gets party to_lock_starving_alone) fair_word result }
+{
+    if word == STARVER {
+        Some(STARVER + HOLDER)
+    } else {
+        None
+    }
+}
+
+/// Returns the word after a starver acquires the lock, or `None` if it is held.
+///
+/// # Contract
+/// The answer is exact, and decides as the plain lock does (`Decides`).
+///
+/// No example: `FairMutex` makes this step by setting the holder's bit.
+pub fn lock_starved(word: usize) -> Option<usize>
+    ensures exact { result ≡ lock_starved word }
+    ensures plain { (s : Plain) (party : ℕ) → OneHolds s → is_starver party s.starvers ≡ true → fair_word s ≡ word → Decides s (gets party to_lock_starving) fair_word result }
+{
+    if word % STARVER == 0 {
+        Some(word + HOLDER)
+    } else {
+        None
+    }
+}
+
+/// Returns the word after the holder releases the lock.
+///
+/// # Contract
+/// The word has to show a holder. The answer is exact, and gives the plain lock's next state (`Gives`).
+///
+/// # Examples
+/// ```
+/// equal(&rt, fair::unlock(3), 2);
+/// ```
+#[tactic(auto, using(crate::proofs::FairSteps::gives))]
+pub fn unlock(word: usize) -> usize
+    requires { is_set word ≡ true }
+    ensures exact { result ≡ unlocked word }
+    ensures plain { (s : Plain) (party : ℕ) (kind : Kind) → fair_word s ≡ word → Gives s (releases party kind) fair_word result }
+{
+    word - HOLDER
+}
+
+/// Returns `true` if a thread holds the lock.
+///
+/// # Contract
+/// The answer is exact, and that of the plain lock.
+///
+/// # Examples
+/// ```
+/// fair::is_locked(found as usize)
+/// ```
+pub fn is_locked(word: usize) -> bool
+    ensures exact { result ≡ is_set word }
+    ensures plain { (s : Plain) → OneHolds s → s.tickets ≡ [] → fair_word s ≡ word → is_held s ≡ result }
+{
+    word % STARVER == HOLDER
+}

@@ -1,0 +1,81 @@
+//! The calls of the lock of a flag with its starvers, and their points. Begin with [`FairCall`].
+ghost use Rattle.std.specs.Prelude.{◌≡◌, ⊤};
+
+use std::alloc::AllocError;
+
+/// A call of a `Fair`. `Fair::new` of `spin_world_fair` promises that each call asks what stands here.
+///
+/// # Examples
+/// ```
+/// 0 Move::Begin(FairCall::Starve) => Outcome::Begun, 0;
+/// 0 Move::Step => Outcome::GoingOn, 0;
+/// 0 Move::Step => answered!(Answer::Granted, 0), 2;
+/// ```
+#[derive(Copy)]
+pub enum FairCall {
+    /// Acquires the lock, in as many steps as it needs. After too many looks that find the flag set it registers as a
+    /// starver, if the cap allows.
+    Lock,
+    /// Tries to acquire the lock. It fails if a party holds it or a starver is registered.
+    TryLock,
+    /// Like `TryLock`, but its answer says which of the two refused it.
+    TryLockStarver,
+    /// Answers whether a party holds the lock.
+    IsLocked,
+    /// Tries to register as a starver. It fails only if the cap was reached at some moment of the call.
+    Starve,
+    /// Tries to acquire the lock as a starver, and ends the registration. It fails if a party holds the lock or another
+    /// starver is registered; the party stays a starver then.
+    StarverTryLockFair,
+    /// Like `StarverTryLockFair`, but fails only if a party holds the lock.
+    StarverTryLock,
+    /// Acquires the lock as a starver, in as many steps as it needs, and ends the registration.
+    StarverLock,
+    /// Ends the registration of a starver.
+    StarverDrop,
+    /// Releases the lock.
+    Release,
+}
+
+/// The point of a call: which step comes next, with what the party has found so far.
+///
+/// No example: a world keeps the points of calls, and a schedule names none.
+#[derive(Copy)]
+pub enum FairPoint {
+    /// The only step of a one-step call, or the exchange of `StarverTryLockFair`.
+    First,
+    /// `Lock` tries to set the flag, after so many looks that found it set.
+    Attempt(usize),
+    /// `Lock` looks at the flag, after so many looks that found it set. They are not counted past its patience.
+    Look(usize),
+    /// `Lock` or `Starve` loads the word, to register.
+    Load,
+    /// `Lock` or `Starve` registers by an exchange of this word, the one that it found.
+    Register(usize),
+    /// A starver sets the flag.
+    SetFlag,
+    /// A starver looks at the flag.
+    Await,
+    /// A starver that holds the lock leaves the starvers.
+    Unregister,
+}
+
+impl Clone for FairCall {
+    ghost is_clone = { λ x y. y ≡ x };
+
+    ghost is_infallible = { λ _. ⊤ };
+
+    fn clone(&self) -> Result<FairCall, AllocError> {
+        Ok(*self)
+    }
+}
+
+impl Clone for FairPoint {
+    ghost is_clone = { λ x y. y ≡ x };
+
+    ghost is_infallible = { λ _. ⊤ };
+
+    fn clone(&self) -> Result<FairPoint, AllocError> {
+        Ok(*self)
+    }
+}

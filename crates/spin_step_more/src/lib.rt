@@ -1,0 +1,15 @@
+//! The changes of the words of the larger locks: the flag with its starvers, readers and a writer, and the barrier.
+//! They are made as those of `spin_step`, over the same plain lock.
+//!
+//! Begin with [`fair`].
+#![tactic(auto)]
+
+pub mod barrier;
+pub mod fair;
+mod fair_calls;
+pub mod laws;
+pub mod rw;
+
+pub use fair_calls::{FairCall, FairPoint};
+
+pub mod rw_calls;

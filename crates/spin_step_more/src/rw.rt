@@ -1,0 +1,330 @@
+//! Readers, one of which may upgrade, or one writer in one word: the sum of what each holder weighs. Begin with
+//! [`read`] and [`write`].
+//!
+//! The upgradable reader keeps no reader out until it asks to upgrade. From then on the readers only leave.
+ghost use Rattle.std.specs.Prelude.{◌≡◌, ◌<◌, ◌≤◌, ◌/◌, ◌%◌, ℕ, true, min};
+ghost use Rattle.spin_step.specs.Plain.{Plain, reading, upgradable, asking, writing, weight, gets, releases, turns, to_read, to_read_upgradable, to_write, to_upgrade, to_upgrade_asked, is_holder, count_kind, reader_count, rw_word};
+ghost use Rattle.spin_step.specs.Steps.{Decides, Gives};
+ghost use Rattle.spin_step_more.specs.Readers.{reader_limit, OneOfEach, readers_in, writers_in, tells, has_room, read, read_upgradable, write, upgrade, upgrade_asked, released, turned};
+
+/// The weight of each reader in the word.
+///
+/// # Examples
+/// ```
+/// self.subtract::<ReleaseRead>(&mut pass.place, WORD, rw::READER as u64);
+/// ```
+pub const READER: usize = 8;
+
+/// The weight of the upgradable reader in the word.
+///
+/// # Examples
+/// ```
+/// let next = rw::upgrade(rw::UPGRADABLE).unwrap();
+/// ```
+pub const UPGRADABLE: usize = 2;
+
+/// What the upgradable reader adds to its weight when it asks to upgrade.
+///
+/// # Examples
+/// ```
+/// let next = rw::upgrade_asked(rw::UPGRADABLE + rw::ASKING).unwrap();
+/// ```
+pub const ASKING: usize = 4;
+
+/// The weight of the writer in the word.
+///
+/// # Examples
+/// ```
+/// self.subtract::<ReleaseWrite>(&mut pass.place, WORD, rw::WRITER as u64);
+/// ```
+pub const WRITER: usize = 1;
+
+/// The most readers that may hold the lock at the same time, with the upgradable one.
+///
+/// # Examples
+/// ```
+/// rw::read(word, rw::MAX_READERS)
+/// ```
+pub const MAX_READERS: usize = usize::MAX / READER / 2;
+
+// Whether the lock lets a reader in.
+fn may_read(word: usize, cap: usize) -> bool
+    ensures { result ≡ has_room reading word cap }
+{
+    let low = word % READER;
+    (low == 0 || low == UPGRADABLE) && readers(word) < cap.min(MAX_READERS)
+}
+
+// Whether the lock lets an upgradable reader in.
+fn may_read_upgradable(word: usize, cap: usize) -> bool
+    ensures { result ≡ has_room upgradable word cap }
+{
+    word % READER == 0 && readers(word) < cap.min(MAX_READERS)
+}
+
+/// Returns the word after a reader acquires the lock. It is `None` beside a writer or a reader that asks to upgrade,
+/// and at the cap: the smaller of `cap` and [`MAX_READERS`].
+///
+/// # Contract
+/// The answer is exact, and decides as the plain lock does (`Decides`).
+///
+/// # Examples
+/// ```
+/// rw::read(word, rw::MAX_READERS)
+/// ```
+#[tactic(auto, using(crate::proofs::ReaderSteps::grants))]
+pub fn read(word: usize, cap: usize) -> Option<usize>
+    ensures exact { result ≡ read cap word }
+    ensures plain { (s : Plain) (party : ℕ) → OneOfEach s → s.cap ≡ min cap reader_limit → rw_word s ≡ word → Decides s (gets party to_read) rw_word result }
+{
+    if may_read(word, cap) {
+        Some(word + READER)
+    } else {
+        None
+    }
+}
+
+/// Returns the word after an upgradable reader acquires the lock. It is `None` beside a writer or another upgradable
+/// reader, and at the cap: the smaller of `cap` and [`MAX_READERS`].
+///
+/// # Contract
+/// The answer is exact, and decides as the plain lock does (`Decides`).
+///
+/// # Examples
+/// ```
+/// rw::upgradable(word, rw::MAX_READERS)
+/// ```
+#[tactic(auto, using(crate::proofs::ReaderSteps::grants))]
+pub fn upgradable(word: usize, cap: usize) -> Option<usize>
+    ensures exact { result ≡ read_upgradable cap word }
+    ensures plain { (s : Plain) (party : ℕ) → OneOfEach s → s.cap ≡ min cap reader_limit → rw_word s ≡ word → Decides s (gets party to_read_upgradable) rw_word result }
+{
+    if may_read_upgradable(word, cap) {
+        Some(word + UPGRADABLE)
+    } else {
+        None
+    }
+}
+
+/// Returns the word after a writer acquires the lock, or `None` beside any holder.
+///
+/// # Contract
+/// The answer is exact, and decides as the plain lock does (`Decides`).
+///
+/// # Examples
+/// ```
+/// let next = rw::write(0)?;
+/// ```
+pub fn write(word: usize) -> Option<usize>
+    ensures exact { result ≡ write word }
+    ensures plain { (s : Plain) (party : ℕ) → rw_word s ≡ word → Decides s (gets party to_write) rw_word result }
+{
+    if word == 0 { Some(WRITER) } else { None }
+}
+
+/// Returns the word after the upgradable reader becomes the writer, or `None` beside another holder.
+///
+/// # Contract
+/// The answer is exact, and decides as the plain lock does (`Decides`).
+///
+/// # Examples
+/// ```
+/// let next = rw::upgrade(rw::UPGRADABLE).unwrap();
+/// ```
+#[tactic(auto, using(crate::proofs::ReaderSteps::grants))]
+pub fn upgrade(word: usize) -> Option<usize>
+    ensures exact { result ≡ upgrade word }
+    ensures plain { (s : Plain) (party : ℕ) → OneOfEach s → is_holder party upgradable s.holders ≡ true → rw_word s ≡ word → Decides s (gets party to_upgrade) rw_word result }
+{
+    if word == UPGRADABLE {
+        Some(WRITER)
+    } else {
+        None
+    }
+}
+
+/// Returns the word after the upgradable reader asks to upgrade.
+///
+/// # Contract
+/// The word has to show an upgradable reader that has not asked. The answer is exact, and gives the plain lock's next
+/// state (`Gives`).
+///
+/// # Examples
+/// ```
+/// equal(&rt, rw::ask(2), 6);
+/// equal(&rt, rw::ask(10), 14);
+/// ```
+#[tactic(auto, using(crate::proofs::ReaderSteps::gives))]
+pub fn ask(word: usize) -> usize
+    requires { tells upgradable word ≡ true }
+    ensures exact { result ≡ turned upgradable asking word }
+    ensures plain { (s : Plain) (party : ℕ) → rw_word s ≡ word → Gives s (turns party upgradable asking) rw_word result }
+{
+    word + ASKING
+}
+
+/// Returns the word after the reader that asks becomes the writer, or `None` beside another holder.
+///
+/// # Contract
+/// The answer is exact, and decides as the plain lock does (`Decides`).
+///
+/// # Examples
+/// ```
+/// let next = rw::upgrade_asked(rw::UPGRADABLE + rw::ASKING).unwrap();
+/// ```
+#[tactic(auto, using(crate::proofs::ReaderSteps::grants))]
+pub fn upgrade_asked(word: usize) -> Option<usize>
+    ensures exact { result ≡ upgrade_asked word }
+    ensures plain { (s : Plain) (party : ℕ) → OneOfEach s → is_holder party asking s.holders ≡ true → rw_word s ≡ word → Decides s (gets party to_upgrade_asked) rw_word result }
+{
+    if word == UPGRADABLE + ASKING {
+        Some(WRITER)
+    } else {
+        None
+    }
+}
+
+/// Returns the word after a reader releases the lock.
+///
+/// # Contract
+/// The word has to show a reader. The answer is exact, and gives the plain lock's next state (`Gives`).
+///
+/// # Examples
+/// ```
+/// equal(&rt, rw::release_read(18), 10);
+/// ```
+#[tactic(auto, using(crate::proofs::ReaderSteps::gives))]
+pub fn release_read(word: usize) -> usize
+    requires { tells reading word ≡ true }
+    ensures exact { result ≡ released reading word }
+    ensures plain { (s : Plain) (party : ℕ) → rw_word s ≡ word → Gives s (releases party reading) rw_word result }
+{
+    word - READER
+}
+
+/// Returns the word after the upgradable reader releases the lock.
+///
+/// # Contract
+/// The word has to show an upgradable reader that has not asked. The answer is exact, and gives the plain lock's next
+/// state (`Gives`).
+///
+/// # Examples
+/// ```
+/// equal(&rt, rw::release_upgradable(10), 8);
+/// ```
+#[tactic(auto, using(crate::proofs::ReaderSteps::gives))]
+pub fn release_upgradable(word: usize) -> usize
+    requires { tells upgradable word ≡ true }
+    ensures exact { result ≡ released upgradable word }
+    ensures plain { (s : Plain) (party : ℕ) → rw_word s ≡ word → Gives s (releases party upgradable) rw_word result }
+{
+    word - UPGRADABLE
+}
+
+/// Returns the word after the writer releases the lock.
+///
+/// # Contract
+/// The word has to show a writer. The answer is exact, and gives the plain lock's next state (`Gives`).
+///
+/// # Examples
+/// ```
+/// equal(&rt, rw::release_write(1), 0);
+/// ```
+#[tactic(auto, using(crate::proofs::ReaderSteps::gives))]
+pub fn release_write(word: usize) -> usize
+    requires { tells writing word ≡ true }
+    ensures exact { result ≡ released writing word }
+    ensures plain { (s : Plain) (party : ℕ) → rw_word s ≡ word → Gives s (releases party writing) rw_word result }
+{
+    word - WRITER
+}
+
+/// Returns the word after the writer becomes a reader.
+///
+/// # Contract
+/// The word has to show a writer. The answer is exact, and gives the plain lock's next state (`Gives`).
+///
+/// # Examples
+/// ```
+/// equal(&rt, rw::write_to_read(1), 8);
+/// ```
+#[tactic(auto, using(crate::proofs::ReaderSteps::gives))]
+pub fn write_to_read(word: usize) -> usize
+    requires { tells writing word ≡ true }
+    ensures exact { result ≡ turned writing reading word }
+    ensures plain { (s : Plain) (party : ℕ) → rw_word s ≡ word → Gives s (turns party writing reading) rw_word result }
+{
+    word + (READER - WRITER)
+}
+
+/// Returns the word after the writer becomes the upgradable reader.
+///
+/// # Contract
+/// The word has to show a writer. The answer is exact, and gives the plain lock's next state (`Gives`).
+///
+/// # Examples
+/// ```
+/// equal(&rt, rw::write_to_upgradable(1), 2);
+/// ```
+#[tactic(auto, using(crate::proofs::ReaderSteps::gives))]
+pub fn write_to_upgradable(word: usize) -> usize
+    requires { tells writing word ≡ true }
+    ensures exact { result ≡ turned writing upgradable word }
+    ensures plain { (s : Plain) (party : ℕ) → rw_word s ≡ word → Gives s (turns party writing upgradable) rw_word result }
+{
+    word + (UPGRADABLE - WRITER)
+}
+
+/// Returns the word after the upgradable reader becomes a reader.
+///
+/// # Contract
+/// The word has to show an upgradable reader that has not asked, and fewer other readers than [`MAX_READERS`]. The
+/// answer is exact, and gives the plain lock's next state (`Gives`).
+///
+/// # Examples
+/// ```
+/// equal(&rt, rw::upgradable_to_read(10), 16);
+/// ```
+#[tactic(auto, using(crate::proofs::ReaderSteps::gives))]
+pub fn upgradable_to_read(word: usize) -> usize
+    requires kind { tells upgradable word ≡ true }
+    requires within { word / weight reading < reader_limit }
+    ensures exact { result ≡ turned upgradable reading word }
+    ensures plain { (s : Plain) (party : ℕ) → rw_word s ≡ word → Gives s (turns party upgradable reading) rw_word result }
+{
+    word + (READER - UPGRADABLE)
+}
+
+/// Returns how many threads read, with the upgradable reader, whether or not it asks.
+///
+/// # Contract
+/// The answer is exact, and that of the plain lock.
+///
+/// # Examples
+/// ```
+/// rw::readers(cell.enter().look::<CountsReaders>(Watch::nothing()).0 as usize)
+/// ```
+#[tactic(auto, using(crate::proofs::ReaderSteps::counts))]
+pub fn readers(word: usize) -> usize
+    ensures exact { result ≡ readers_in word }
+    ensures plain { (s : Plain) → OneOfEach s → rw_word s ≡ word → result ≡ reader_count s.holders }
+{
+    word / READER + word % ASKING / UPGRADABLE
+}
+
+/// Returns how many threads write: 0 or 1.
+///
+/// # Contract
+/// The answer is exact, and that of the plain lock.
+///
+/// # Examples
+/// ```
+/// rw::writers(cell.enter().look::<CountsWriters>(Watch::nothing()).0 as usize)
+/// ```
+#[tactic(auto, using(crate::proofs::ReaderSteps::counts))]
+pub fn writers(word: usize) -> usize
+    ensures exact { result ≡ writers_in word }
+    ensures plain { (s : Plain) → OneOfEach s → rw_word s ≡ word → result ≡ count_kind writing s.holders }
+{
+    word % UPGRADABLE
+}

@@ -1,0 +1,87 @@
+//! The calls of the read-write lock, and their points. Begin with [`RwCall`].
+ghost use Rattle.std.specs.Prelude.{◌≡◌, ⊤};
+
+use std::alloc::AllocError;
+
+/// A call of an `Rw`. `Rw::new` of `spin_world_rw` promises that each call asks what stands here.
+///
+/// A try fails only if, at some moment of the call, what it asks is closed to the party. A weak try may also fail
+/// without cause.
+///
+/// # Examples
+/// ```
+/// (b"try_read", RwCall::TryRead),
+/// (b"read", RwCall::Read),
+/// (b"try_upgradeable_read", RwCall::TryUpgradeableRead),
+/// (b"upgradeable_read", RwCall::UpgradeableRead),
+/// (b"try_write", RwCall::TryWrite),
+/// ```
+#[derive(Copy)]
+pub enum RwCall {
+    /// Tries to acquire shared access. It fails beside the writer, beside a reader that asks to upgrade, or at the cap.
+    TryRead,
+    /// Acquires shared access, in as many steps as it needs.
+    Read,
+    /// Tries to acquire shared access with the right to upgrade. It also fails beside another party that has this
+    /// right.
+    TryUpgradeableRead,
+    /// Acquires shared access with the right to upgrade, in as many steps as it needs.
+    UpgradeableRead,
+    /// Tries to acquire exclusive access. It fails beside any holder.
+    TryWrite,
+    /// Like `TryWrite`, but makes a weak exchange, which may also fail without cause.
+    TryWriteWeak,
+    /// Acquires exclusive access, in as many steps as it needs.
+    Write,
+    /// Counts the readers, the upgradable one included.
+    ReaderCount,
+    /// Counts the writers.
+    WriterCount,
+    /// Tries to turn the upgradable reader into the writer. It fails beside a reader, and the party stays upgradable
+    /// then.
+    TryUpgrade,
+    /// Like `TryUpgrade`, but makes a weak exchange, which may also fail without cause.
+    TryUpgradeWeak,
+    /// Asks to turn the upgradable reader into the writer, and does so in as many steps as it needs.
+    Upgrade,
+    /// Turns the writer or the upgradable reader into a reader, in one step.
+    Downgrade,
+    /// Turns the writer into the upgradable reader, in one step.
+    DowngradeToUpgradeable,
+    /// Releases the lock, whatever the party holds.
+    Release,
+}
+
+/// The point of a call: which step comes next. Only a call that acquires shared access, or that waits to upgrade, has a
+/// second one.
+///
+/// No example: a world keeps the points of calls, and a schedule names none.
+#[derive(Copy)]
+pub enum RwPoint {
+    /// The first step of any call, and of each further attempt.
+    First,
+    /// The exchange of this word, which the call has found.
+    Exchange(usize),
+    /// The exchange of a reader that has asked to upgrade.
+    Asking,
+}
+
+impl Clone for RwCall {
+    ghost is_clone = { λ x y. y ≡ x };
+
+    ghost is_infallible = { λ _. ⊤ };
+
+    fn clone(&self) -> Result<RwCall, AllocError> {
+        Ok(*self)
+    }
+}
+
+impl Clone for RwPoint {
+    ghost is_clone = { λ x y. y ≡ x };
+
+    ghost is_infallible = { λ _. ⊤ };
+
+    fn clone(&self) -> Result<RwPoint, AllocError> {
+        Ok(*self)
+    }
+}

@@ -1,0 +1,27 @@
+-- What holds of a lock between any two steps of the threads that use it.
+use Rattle.std.specs.Prelude.{◌≡◌, ℕ, List, [], ◌∷◌, Some, map}
+use Rattle.std.specs.List.{All}
+use Rattle.spin_step.specs.Plain.{Plain}
+use Rattle.spin_step.specs.Parties.{IsExclusive}
+use Rattle.spin_core.specs.Own.{Numbered}
+use Rattle.spin_model.specs.declared.place.Seat.{Seat}
+use Rattle.spin_model.specs.Calls.{encoded}
+use Rattle.spin_model.specs.Machines.{Machine}
+use Rattle.spin_model.specs.Schedules.{Entry}
+use Rattle.spin_world_core.specs.Runs.{Seen, opening, StandsFor}
+use Rattle.spin_world_core.specs.Users.{seen_after}
+
+-- of a lock with this model, after the moves `log` of all threads, with these words, and with these parties
+pub record Between {W V C L A X S : Type 0} (m : Machine W V C L A) (seat_of : X → Seat C L) (words_of : W → ℕ × S) (log : List (Entry C V)) (words : ℕ × S) (parties : List (Numbered X)) : Type 0 where
+  -- so many parties ever took a step
+  pub came : ℕ
+  -- the lock of holders, tickets and starvers to which their moves lead
+  pub seen : Seen W V C L
+  pub led : seen ≡ seen_after m (opening m came) log
+  -- the words encode exactly its holders, tickets and starvers
+  pub encodes : m.numbers seen.state.words ≡ encoded m.lock_kind seen.plain
+  pub words_are : words ≡ words_of seen.state.words
+  -- no writer stands beside another holder, and no served ticket beside another
+  pub exclusive : IsExclusive seen.plain
+  -- each party has in it exactly what its view says
+  pub stand : All (λ v. StandsFor seen.plain v.1 (seen.span v.1) (Some (seat_of v.0))) parties

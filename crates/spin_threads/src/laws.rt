@@ -1,0 +1,75 @@
+//! One law for each lock. Each is the contract of a function that does nothing: a caller calls it for what it states.
+ghost use Rattle.std.specs.Prelude.{ℕ, List};
+ghost use Rattle.spin_core.specs.Own.{Numbered};
+ghost use Rattle.spin_core.specs.declared.trace.Trace.{Trace};
+ghost use Rattle.spin_fair.specs.Fair as fair_mutex;
+ghost use Rattle.spin_fair.specs.declared.fair.rule.View.{View as FairMutexView};
+ghost use Rattle.spin_flag.specs.Flag as spin_mutex;
+ghost use Rattle.spin_flag.specs.declared.spin.rule.View.{View as SpinMutexView};
+ghost use Rattle.spin_rwlock.specs.Rw as rwlock;
+ghost use Rattle.spin_rwlock.specs.declared.rwlock.rule.View.{View as RwLockView};
+ghost use Rattle.spin_seats.specs.Rule as seats;
+ghost use Rattle.spin_seats.specs.declared.seats.rule.View.{View as SeatsView};
+ghost use Rattle.spin_ticket.specs.Queue as ticket_mutex;
+ghost use Rattle.spin_ticket.specs.declared.ticket.rule.View.{View as TicketMutexView};
+ghost use Rattle.spin_threads.specs.Between.{Between};
+
+/// Between any two steps of the threads that use a `SpinMutex`, its word is 1 if a party holds it, and else 0. At most
+/// one party holds it. Each guard and each call has in it what its type says.
+///
+/// # Contract
+/// `Between`, of the moves that the lock's cell keeps, with the lock's word and parties.
+///
+/// # Examples
+/// None: nobody calls a law.
+pub fn between_any_two_steps_of_a_spin_mutex()
+    ensures { (name word : ℕ) (trace : Trace spin_mutex.Done (Unit {0})) (parties : List (Numbered SpinMutexView)) → spin_mutex.IsFlag name word trace parties → Between spin_mutex.model spin_mutex.seat_of spin_mutex.words_of trace.entries (word, trace.word) parties }
+{}
+
+/// Between any two steps of the threads that use a `TicketMutex`, its words are the numbers of a queue of tickets. At
+/// most one of them is served. Each guard and each call has in it what its type says.
+///
+/// # Contract
+/// `Between`, of the moves that the lock's cell keeps, with the lock's words and parties.
+///
+/// # Examples
+/// None: nobody calls a law.
+pub fn between_any_two_steps_of_a_ticket_mutex()
+    ensures { (name first next : ℕ) (trace : Trace ticket_mutex.Made ℕ) (parties : List (Numbered TicketMutexView)) → ticket_mutex.IsQueue name first next trace parties → Between (ticket_mutex.model first) ticket_mutex.seat_of ticket_mutex.words_of trace.entries (next, trace.word) parties }
+{}
+
+/// Between any two steps of the threads that use a `FairMutex`, its word encodes exactly its holders and its registered
+/// starvers. At most one party holds it. Each guard and each call has in it what its type says.
+///
+/// # Contract
+/// `Between`, of the moves that the lock's cell keeps, with the lock's word and parties.
+///
+/// # Examples
+/// None: nobody calls a law.
+pub fn between_any_two_steps_of_a_fair_mutex()
+    ensures { (name word : ℕ) (trace : Trace fair_mutex.Done (Unit {0})) (parties : List (Numbered FairMutexView)) → fair_mutex.IsFair name word trace parties → Between fair_mutex.model fair_mutex.seat_of fair_mutex.words_of trace.entries (word, trace.word) parties }
+{}
+
+/// Between any two steps of the threads that use a `Seats`, its word is the number of parties that sit. Each guard and
+/// each call has in it what its type says.
+///
+/// # Contract
+/// `Between`, of the moves that the lock's cell keeps, with the lock's word and parties.
+///
+/// # Examples
+/// None: nobody calls a law.
+pub fn between_any_two_steps_of_seats()
+    ensures { (n name word : ℕ) (trace : Trace seats.Done (Unit {0})) (parties : List (Numbered SeatsView)) → seats.IsSeats n name word trace parties → Between (seats.model n) seats.seat_of seats.words_of trace.entries (word, trace.word) parties }
+{}
+
+/// Between any two steps of the threads that use an `RwLock`, its word counts exactly its holders. A writer stands alone,
+/// and at most one reader may upgrade. Each guard and each call has in it what its type says.
+///
+/// # Contract
+/// `Between`, of the moves that the lock's cell keeps, with the lock's word and parties.
+///
+/// # Examples
+/// None: nobody calls a law.
+pub fn between_any_two_steps_of_a_rwlock()
+    ensures { (name word : ℕ) (trace : Trace rwlock.Done (Unit {0})) (parties : List (Numbered RwLockView)) → rwlock.IsRw name word trace parties → Between rwlock.model rwlock.seat_of rwlock.words_of trace.entries (word, trace.word) parties }
+{}

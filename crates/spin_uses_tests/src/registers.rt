@@ -1,0 +1,77 @@
+//! What no contract says of registers: that readers come beside one another, and which try is granted.
+use super::equal::equal;
+use spin::Yield;
+use spin::history::{BlankLog, History, Work, open};
+use spin::mutex::SpinMutex;
+use spin::register::{self, Register};
+use spin::rwlock::RwLock;
+use spin::tally::{self, Tally};
+use std::process::Abort;
+use std::sync::Wait;
+use std::sync::ledger::{Ledger, Share};
+
+/// Reads beside a reader, and tries beside a reader and a writer.
+#[derive(Drop)]
+struct ReadBeside<'r, W>(&'r W);
+
+// What `read_shared`, a try of either kind beside a reader, a shared try beside a writer and the last read found.
+type Found = (u64, Option<u64>, Option<u64>, Option<u64>, u64);
+
+impl<W: Abort + Wait> Work for ReadBeside<'_, W> {
+    type Answer = Found;
+
+    fn run<H: History + Send + Sync>(self, blank: BlankLog) -> Found {
+        let rt = self.0;
+        let log = blank.open::<u64, H>();
+        let mut seen = log.snapshot();
+        let lock: RwLock<Register<u64, H>, Yield> = RwLock::new(Register::new(1, log));
+        let reader = lock.read(rt);
+        let shared = register::read_shared(rt, &lock, &mut seen);
+        let tried = register::try_read_shared(rt, &lock, &mut seen);
+        let refused = register::try_read(&lock, &mut seen);
+        equal(rt, register::try_write(&lock, 2, &mut seen), false);
+        drop(reader);
+        equal(rt, register::try_write(&lock, 2, &mut seen), true);
+        let writer = lock.write(rt);
+        let kept_out = register::try_read_shared(rt, &lock, &mut seen);
+        drop(writer);
+        (
+            shared,
+            tried,
+            refused,
+            kept_out,
+            register::read(rt, &lock, &mut seen),
+        )
+    }
+}
+
+// A reader that came alone would wait for ever beside another.
+#[test]
+fn reads_of_a_register_are_shared(rt: HostRuntime) {
+    equal(&rt, open(ReadBeside(&rt)), (1, Some(1), None, None, 2));
+}
+
+/// Adds numbers that fit, and one that does not.
+#[derive(Drop)]
+struct Add<'r, W>(&'r W);
+
+impl<W: Wait> tally::Work for Add<'_, W> {
+    type Answer = (bool, bool, bool, u64);
+
+    fn run<L: Ledger + Send + Sync>(self, tally: Tally<L>, all: Share<L>) -> Self::Answer {
+        let rt = self.0;
+        let mut mine = all;
+        let rest = mine.split_off(1, 0);
+        let lock: SpinMutex<Tally<L>, Yield> = SpinMutex::new(tally);
+        let small = tally::add(rt, &lock, &mut mine, 3);
+        let large = tally::add(rt, &lock, &mut mine, u64::MAX - 3);
+        let over = tally::add(rt, &lock, &mut mine, 1);
+        mine.merge(rest);
+        (small, large, over, tally::total(rt, &lock, &mut mine))
+    }
+}
+
+#[test]
+fn a_tally_adds_what_fits(rt: HostRuntime) {
+    equal(&rt, tally::open(Add(&rt)), (true, true, false, u64::MAX));
+}

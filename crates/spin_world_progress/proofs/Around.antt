@@ -1,0 +1,141 @@
+-- A turn that leads back to where it began, again and again: it is fair where from each of its places the rest of it and one turn more are a round.
+use Rattle.spin_world_core.proofs.Names.{◌≡◌, ℕ, zero, suc, ◌+◌, ◌==◌, ◌&&◌, ◌||◌, Bool, true, false, Option, Some, List, [], ◌∷◌, ◌++◌, slice_get, refl, ap, sym, ◌∙◌, subst, arith, and_parts, Hold, Seat, Idle, Calling, Holding, Leaked, Gone, Move, Machine, State, happens, after, at_first, may_read}
+use Rattle.std.proofs.Common.{not}
+use Rattle.spin_world_progress.specs.Rounds.{Test, occurs, is_awaited, MovesOn, IsRound, AreRounds, stretch, IsFair}
+use Rattle.spin_world_progress.specs.Starving.{ends_or_weak, MayStarve}
+
+-- an entry and the rest of a turn, and then turn after turn
+abbrev pub around : {X : Type 0} → X → List X → X → List X → ℕ → X
+around e es x xs zero = x
+around e es x [] (suc i) = around e es e es i
+around e es x (y ∷ ys) (suc i) = around e es y ys i
+
+later : {X : Type 0} (f : ℕ → X) (a n : ℕ) → stretch f (suc a) n ≡ stretch (λ i. f (suc i)) a n
+later f a zero = refl
+later f a (suc n) = ap (λ xs. f (suc a) ∷ xs) (later f (suc a) n)
+
+-- so many entries as the list has, and n more
+abbrev beyond : {X : Type 0} → List X → ℕ → ℕ
+beyond [] n = n
+beyond (x ∷ xs) n = suc (beyond xs n)
+
+-- the rest comes first
+rest_first : {X : Type 0} (e : X) (es : List X) (x : X) (xs : List X) (n : ℕ) → stretch (around e es x xs) 0 (beyond (x ∷ xs) n) ≡ x ∷ xs ++ stretch (around e es e es) 0 n
+rest_first e es x [] n = ap (λ ys. x ∷ ys) (later (around e es x []) 0 n)
+rest_first e es x (y ∷ ys) n = ap (λ zs. x ∷ zs) (later (around e es x (y ∷ ys)) 0 (beyond (y ∷ ys) n) ∙ rest_first e es y ys n)
+
+module _ {W V C L A : Type 0} (m : Machine W V C L A) where
+  abbrev Turn : Type 0
+  Turn = List (ℕ × Move C V)
+
+  -- a round, as a test
+  abbrev moves_on : State W V C L → Turn → ℕ → Seat C L → Bool
+  moves_on s es p (Calling c l h) = occurs m (λ q move o x. (q == p) && is_awaited m (Some (Calling c l h)) move o) s es
+  moves_on s es p (Holding h) = not (may_read h) || occurs m (λ q move o x. (q == p) && is_awaited m (Some (Holding h)) move o) s es
+  moves_on s es p Idle = true
+  moves_on s es p (Leaked h) = not (may_read h)
+  moves_on s es p (Gone h) = not (may_read h)
+
+  abbrev all_move : State W V C L → Turn → ℕ → List (Seat C L) → Bool
+  all_move s es p [] = true
+  all_move s es p (x ∷ xs) = moves_on s es p x && all_move s es (suc p) xs
+
+  moves_is : (s : State W V C L) (es : Turn) (p : ℕ) (x : Seat C L) → moves_on s es p x ≡ true → MovesOn m s es p (Some x)
+  moves_is s es p (Calling c l h) is = is
+  moves_is s es p (Holding h) is = λ may. grind (arith, is, may)
+  moves_is s es p Idle is = tt
+  moves_is s es p (Leaked h) is = grind (arith, is)
+  moves_is s es p (Gone h) is = grind (arith, is)
+
+  all_is : (s : State W V C L) (es : Turn) (p i : ℕ) (xs : List (Seat C L)) → all_move s es p xs ≡ true → MovesOn m s es (p + i) (slice_get xs i)
+  all_is s es p i [] is = tt
+  all_is s es p zero (x ∷ xs) is = subst (λ q. MovesOn m s es q (Some x)) (omega arith) (moves_is s es p x (and_parts (moves_on s es p x) (all_move s es (suc p) xs) is).0)
+  all_is s es p (suc i) (x ∷ xs) is = subst (λ q. MovesOn m s es q (slice_get xs i)) (omega arith) (all_is s es (suc p) i xs (and_parts (moves_on s es p x) (all_move s es (suc p) xs) is).1)
+
+  -- from each place of the rest, what is left of it and a whole turn are a round
+  abbrev pub is_fair_turn : Turn → State W V C L → Turn → Bool
+  is_fair_turn whole s [] = true
+  is_fair_turn whole s (x ∷ xs) = all_move s (x ∷ xs ++ whole) 0 s.seats && is_fair_turn whole (happens m s x.0 x.1).next xs
+
+  module _ (test : Test V C L A) (start : State W V C L) (e : ℕ × Move C V) (es : Turn) where
+    abbrev turn : Turn
+    turn = e ∷ es ++ []
+
+    pub record Within (s : State W V C L) (rest : Turn) : Type 0 where
+      pub fair : is_fair_turn turn s rest ≡ true
+      pub back : after m s rest ≡ start
+      pub none : occurs m test s rest ≡ false
+
+    module _ (s : State W V C L) (x : ℕ × Move C V) (xs : Turn) (w : Within s (x ∷ xs)) where
+      abbrev next : State W V C L
+      next = (happens m s x.0 x.1).next
+
+      fairly : (all_move s (x ∷ xs ++ turn) 0 s.seats ≡ true) × (is_fair_turn turn next xs ≡ true)
+      fairly = and_parts (all_move s (x ∷ xs ++ turn) 0 s.seats) (is_fair_turn turn next xs) w.fair
+
+      next_is : Within next xs
+      next_is = record { fair = fairly.1; back = w.back; none = grind (arith, w.none) }
+
+      not_here : test x.0 x.1 (happens m s x.0 x.1).outcome (slice_get next.seats x.0) ≡ false
+      not_here = grind (arith, w.none)
+
+      a_round : IsRound m s (stretch (around e es x xs) 0 (beyond (x ∷ xs) (beyond (e ∷ es) 0)))
+      a_round p =
+          subst (λ ys. MovesOn m s ys p (slice_get s.seats p)) (sym (rest_first e es x xs (beyond (e ∷ es) 0) ∙ ap (λ ys. x ∷ xs ++ ys) (rest_first e es e es 0)))
+          (subst (λ q. MovesOn m s (x ∷ xs ++ turn) q (slice_get s.seats p)) (omega arith) (all_is s (x ∷ xs ++ turn) 0 p s.seats fairly.0))
+
+    module _ (first : Within start (e ∷ es)) where
+      abbrev MovesFrom : State W V C L → (ℕ → ℕ × Move C V) → ℕ → ℕ → Type 0
+      MovesFrom s schedule place p = let there = after m s (stretch schedule 0 place) in (n : ℕ) × MovesOn m there (stretch schedule place n) p (slice_get there.seats p)
+
+      -- a place later, from the state after the first entry
+      place_later : (s : State W V C L) (schedule : ℕ → ℕ × Move C V) (place p : ℕ) → MovesFrom (happens m s (schedule 0).0 (schedule 0).1).next (λ i. schedule (suc i)) place p → MovesFrom s schedule (suc place) p
+      place_later s schedule place p moves =
+          let next = (happens m s (schedule 0).0 (schedule 0).1).next in (
+            moves.0,
+            subst (λ es. let there = after m next es in MovesOn m there (stretch schedule (suc place) moves.0) p (slice_get there.seats p)) (sym (later schedule 0 place))
+                (subst (λ es. let there = after m next (stretch (λ i. schedule (suc i)) 0 place) in MovesOn m there es p (slice_get there.seats p)) (sym (later schedule place moves.0)) moves.1),
+          )
+
+      fair_from : (place : ℕ) (s : State W V C L) (x : ℕ × Move C V) (xs : Turn) → Within s (x ∷ xs) → (p : ℕ) → MovesFrom s (around e es x xs) place p
+      fair_from zero s x xs w p = (beyond (x ∷ xs) (beyond (e ∷ es) 0), a_round s x xs w p)
+      fair_from (suc place) s x (y ∷ ys) w p = place_later s (around e es x (y ∷ ys)) place p (fair_from place (happens m s x.0 x.1).next y ys (next_is s x (y ∷ ys) w) p)
+      fair_from (suc place) s x [] w p = place_later s (around e es x []) place p (subst (λ t. MovesFrom t (around e es e es) place p) (sym w.back) (fair_from place start e es first p))
+
+      never : (place : ℕ) (s : State W V C L) (x : ℕ × Move C V) (xs : Turn) → Within s (x ∷ xs) → occurs m test s (stretch (around e es x xs) 0 place) ≡ false
+      never zero s x xs w = refl
+      never (suc place) s x (y ∷ ys) w =
+          rw (later (around e es x (y ∷ ys)) 0 place, not_here s x (y ∷ ys) w) (never place (happens m s x.0 x.1).next y ys (next_is s x (y ∷ ys) w))
+      never (suc place) s x [] w = rw (later (around e es x []) 0 place, not_here s x [] w, w.back) (never place start e es first)
+
+      pub fair_around : IsFair m start (around e es e es)
+      fair_around place p = fair_from place start e es first p
+
+      pub never_around : (place : ℕ) → occurs m test start (stretch (around e es e es) 0 place) ≡ false
+      never_around place = never place start e es first
+
+  -- so a call may starve, from this state on
+  pub starves : (n : ℕ) (past : Turn) (s : State W V C L) → after m (at_first m n) past ≡ s → (e : ℕ × Move C V) (es : Turn) (p : ℕ) (c : C) (l : L) (h : Option Hold)
+      → slice_get s.seats p ≡ Some (Calling c l h) → Within (ends_or_weak p) s e es s (e ∷ es) → MayStarve m n (m.asks c h)
+  starves n past s is e es p c l h there turns =
+      let test = ends_or_weak {V = V} {C = C} {L = L} {A = A} p in (
+        past,
+        around e es e es,
+        p,
+        c,
+        l,
+        h,
+        subst (λ s. (slice_get s.seats p ≡ Some (Calling c l h)) × (m.asks c h ≡ m.asks c h) × IsFair m s (around e es e es) × ((place : ℕ) → occurs m test s (stretch (around e es e es) 0 place) ≡ false)) (sym is)
+            (there, refl, fair_around test s e es turns, never_around test s e es turns),
+      )
+
+  -- rounds, as a test
+  abbrev pub are_rounds : State W V C L → List Turn → Bool
+  are_rounds s [] = true
+  are_rounds s (es ∷ rounds) = all_move s es 0 s.seats && are_rounds (after m s es) rounds
+
+  pub rounds_are : (s : State W V C L) (rounds : List Turn) → are_rounds s rounds ≡ true → AreRounds m s rounds
+  rounds_are s [] is = tt
+  rounds_are s (es ∷ rounds) is =
+      let both = and_parts (all_move s es 0 s.seats) (are_rounds (after m s es) rounds) is in
+      (λ p. subst (λ q. MovesOn m s es q (slice_get s.seats p)) (omega arith) (all_is s es 0 p s.seats both.0), rounds_are (after m s es) rounds both.1)

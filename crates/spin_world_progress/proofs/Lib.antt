@@ -1,0 +1,15 @@
+pub mod Progress
+pub mod Endless
+pub mod Ticket
+pub mod Walk
+pub mod Leaving
+pub mod Flag
+pub mod Rw
+pub mod Passed
+pub mod Once
+pub mod Alone
+pub mod Around
+pub mod Starving
+pub mod Seats
+pub mod Fair
+pub mod RwFree

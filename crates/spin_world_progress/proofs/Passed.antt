@@ -1,0 +1,95 @@
+-- A `lock` may be passed over again and again, before it has its ticket.
+use Rattle.std.proofs.Common.{◌≡◌, ℕ, zero, suc, ◌+◌, ◌<◌, ◌==◌, ◌||◌, true, false, Some, None, List, [], ◌∷◌, length, nat_lt, slice_get, refl, ap, sym, ◌∙◌, subst, arith}
+use Rattle.std.proofs.lemmas.Bool.{ne_eqb, lt-ltb}
+use Rattle.spin_step.specs.Plain.{ticket_limit}
+use Rattle.spin_model.specs.declared.answer.Answer.{Answer}
+use Rattle.spin_model.specs.declared.place.Seat.TheVariants.{Idle, Calling}
+use Rattle.spin_model.specs.declared.schedule.Move.{Move}
+use Rattle.spin_model.specs.declared.schedule.Move.TheVariants.{Begin, Step}
+use Rattle.spin_model.specs.declared.ticket.TicketWords.{TicketWords}
+use Rattle.spin_model.specs.declared.ticket.TicketCall.{TicketCall}
+use Rattle.spin_model.specs.declared.ticket.TicketCall.TheVariants.{Lock, Release}
+use Rattle.spin_model.specs.declared.ticket.TicketPoint.{TicketPoint}
+use Rattle.spin_model.specs.declared.ticket.TicketPoint.TheVariants.{Take}
+use Rattle.spin_world_core.specs.Joined.{joined}
+use Rattle.spin_model.specs.Machines.{Machine}
+use Rattle.spin_model.specs.Schedules.{State, after, at_first}
+use Rattle.spin_model.specs.Ticket.{ticket_machine}
+use Rattle.spin_world_core.proofs.Lists.{eqb_self}
+use Rattle.spin_world_progress.specs.Rounds.{occurs, IsRound, AreRounds, grants}
+use Rattle.spin_world_progress.specs.Ticket.{MayBePassedOver}
+use Rattle.spin_world_progress.proofs.Progress.{occurs-append}
+
+module _ {V : Type 0} (v : V) (first : ℕ) where
+  abbrev m : Machine TicketWords V TicketCall TicketPoint (Answer V)
+  m = ticket_machine v first
+
+  -- party 0 goes for the number k, which is next and served, and party 1 is idle
+  abbrev behind : ℕ → State TicketWords V TicketCall TicketPoint
+  behind k = record { words = record { next = k; serving = k }; value = Some v; seats = Calling Lock (Take k) None ∷ Idle ∷ [] }
+
+  -- party 1 takes that ticket and enters, before party 0 makes its exchange
+  abbrev round : List (ℕ × Move TicketCall V)
+  round = (1, Begin Lock) ∷ (1, Step) ∷ (1, Step) ∷ (1, Step) ∷ (0, Step) ∷ (1, Begin Release) ∷ (1, Step) ∷ []
+
+  module _ (k : ℕ) (left : k + 1 < ticket_limit) where
+    low : nat_lt k ticket_limit ≡ true
+    low = lt-ltb k ticket_limit (omega (arith, left))
+
+    next_low : nat_lt (k + 1) ticket_limit ≡ true
+    next_low = lt-ltb (k + 1) ticket_limit left
+
+    other : (k + 1 == k) ≡ false
+    other = ne_eqb (k + 1) k (λ e. absurd (omega (arith, e)))
+
+    comes_to : after m (behind k) round ≡ behind (k + 1)
+    comes_to = grind (arith, eqb_self k, low, next_low, other)
+
+    is_round : IsRound m (behind k) round
+    is_round zero = simp (eqb_self, low, next_low, other)
+    is_round (suc zero) = tt
+    is_round (suc (suc p)) = tt
+
+    passes_over : occurs m (grants m 0) (behind k) round ≡ false
+    passes_over = simp (eqb_self, low, next_low, other)
+
+  record PassedOver (r k : ℕ) : Type 0 where
+    rounds : List (List (ℕ × Move TicketCall V))
+    many : length rounds ≡ r
+    are : AreRounds m (behind k) rounds
+    none : occurs m (grants m 0) (behind k) (joined rounds) ≡ false
+
+  passed_over : (r k : ℕ) → k + r < ticket_limit → PassedOver r k
+  passed_over zero k left = record { rounds = []; many = refl; are = tt; none = refl }
+  passed_over (suc r) k left =
+      let rest = passed_over r (k + 1) (omega (arith, left)) in
+      let here : k + 1 < ticket_limit = omega (arith, left) in
+      record {
+        rounds = round ∷ rest.rounds;
+        many = ap suc rest.many;
+        are = (is_round k here, subst (λ s. AreRounds m s rest.rounds) (sym (comes_to k here)) rest.are);
+        none = occurs-append m (grants m 0) (behind k) round (joined rest.rounds)
+            ∙ (ap (λ b. b || occurs m (grants m 0) (after m (behind k) round) (joined rest.rounds)) (passes_over k here)
+            ∙ subst (λ s. occurs m (grants m 0) s (joined rest.rounds) ≡ false) (sym (comes_to k here)) rest.none);
+      }
+
+  abbrev past : List (ℕ × Move TicketCall V)
+  past = (0, Begin Lock) ∷ (0, Step) ∷ []
+
+  starts : first < ticket_limit → after m (at_first m 2) past ≡ behind first
+  starts left = grind (arith, lt-ltb first ticket_limit left)
+
+  pub may_be_passed_over : MayBePassedOver m first
+  may_be_passed_over r left =
+      let is = passed_over r first left in
+      let here = starts (omega (arith, left)) in
+      let at : slice_get (after m (at_first m 2) past).seats 0 ≡ Some (Calling Lock (Take first) None) = ap (λ (s : State TicketWords V TicketCall TicketPoint). slice_get s.seats 0) here in (
+        past,
+        is.rounds,
+        (
+          is.many,
+          (Take first, at),
+          subst (λ s. AreRounds m s is.rounds) (sym here) is.are,
+          subst (λ s. occurs m (grants m 0) s (joined is.rounds) ≡ false) (sym here) is.none,
+        ),
+      )

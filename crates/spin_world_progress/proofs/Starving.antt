@@ -1,0 +1,117 @@
+-- Turns in which a call starves.
+use Rattle.std.proofs.Common.{◌≡◌, ℕ, ◌≤◌, nat_lt, min, true, Option, Some, None, [], ◌∷◌, refl, sym, subst, arith}
+use Rattle.std.proofs.lemmas.Bool.{lt-ltb}
+use Rattle.spin_step.specs.Plain.{to_write, to_read, to_read_upgradable, to_lock_starving}
+use Rattle.spin_step_more.specs.Readers.{reader_limit}
+use Rattle.spin_step_more.specs.Starvers.{most_starvers}
+use Rattle.spin_model.specs.declared.place.Hold.TheVariants as hold
+use Rattle.spin_model.specs.declared.place.Seat.TheVariants.{Calling, Holding}
+use Rattle.spin_model.specs.declared.schedule.Move.TheVariants.{Begin, Step}
+use Rattle.spin_model.specs.declared.flag.FlagCall.TheVariants as flag
+use Rattle.spin_model.specs.declared.flag.FlagPoint.TheVariants as flag_point
+use Rattle.spin_model.specs.Flag.{flag_machine}
+use Rattle.spin_model.specs.Calls.{waits, waits_or_starves, initializes, waits_for_value, polls, meets}
+use Rattle.spin_step_more.specs.declared.rw_calls.RwCall.TheVariants as rw_call
+use Rattle.spin_step_more.specs.declared.rw_calls.RwPoint.TheVariants as rw_point
+use Rattle.spin_step_more.specs.RwCalls.{rw_machine}
+use Rattle.spin_step_more.specs.declared.fair_calls.FairCall.TheVariants as fair
+use Rattle.spin_step_more.specs.declared.fair_calls.FairPoint.TheVariants as fair_point
+use Rattle.spin_step_more.specs.FairCalls.{fair_machine}
+use Rattle.spin_seats.specs.declared.calls.SeatsCall.TheVariants as seats_call
+use Rattle.spin_seats.specs.declared.calls.SeatsPoint.TheVariants as seats_point
+use Rattle.spin_seats.specs.Table.{seats_machine}
+use Rattle.spin_model.specs.declared.once.OnceCall.TheVariants as once
+use Rattle.spin_model.specs.declared.once.OncePoint.TheVariants as once_point
+use Rattle.spin_model.specs.Once.{once_machine}
+use Rattle.spin_world_barrier.specs.declared.barrier.BarrierCall.TheVariants as barrier
+use Rattle.spin_world_barrier.specs.declared.barrier.BarrierPoint.TheVariants as barrier_point
+use Rattle.spin_world_barrier.specs.Barrier.{barrier_machine}
+use Rattle.spin_world_progress.specs.Starving.{MayStarve}
+use Rattle.spin_world_progress.proofs.Around.{starves}
+
+-- party 0 makes its exchange while the other holds, and looks after it has gone
+pub flag_starves : {V : Type 0} (v : V) → MayStarve (flag_machine v) 2 (waits to_write)
+flag_starves v =
+    starves (flag_machine v) 2 ((0, Begin flag.Lock) ∷ []) _ refl (1, Begin flag.Lock) ((1, Step) ∷ (0, Step) ∷ (1, Begin flag.Release) ∷ (1, Step) ∷ (0, Step) ∷ []) 0 flag.Lock flag_point.First None refl
+    (record { fair = refl; back = refl; none = refl })
+
+-- party 0 looks while the other writes
+module _ {V : Type 0} (v : V) (cap : ℕ) where
+  pub read_starves : MayStarve (rw_machine v cap) 2 (waits to_read)
+  read_starves =
+      starves (rw_machine v cap) 2 ((0, Begin rw_call.Read) ∷ []) _ refl (1, Begin rw_call.Write) ((1, Step) ∷ (0, Step) ∷ (1, Begin rw_call.Release) ∷ (1, Step) ∷ []) 0 rw_call.Read rw_point.First None refl
+      (record { fair = refl; back = refl; none = refl })
+
+  pub upgradable_read_starves : MayStarve (rw_machine v cap) 2 (waits to_read_upgradable)
+  upgradable_read_starves =
+      starves (rw_machine v cap) 2 ((0, Begin rw_call.UpgradeableRead) ∷ []) _ refl (1, Begin rw_call.Write) ((1, Step) ∷ (0, Step) ∷ (1, Begin rw_call.Release) ∷ (1, Step) ∷ []) 0 rw_call.UpgradeableRead
+      rw_point.First None refl (record { fair = refl; back = refl; none = refl })
+
+  -- party 0 makes its exchange while the other reads
+  pub write_starves : 1 ≤ cap → MayStarve (rw_machine v cap) 2 (waits to_write)
+  write_starves some =
+      let room : nat_lt 0 (min cap reader_limit) ≡ true = lt-ltb 0 (min cap reader_limit) (omega (arith, some)) in
+      starves (rw_machine v cap) 2 ((0, Begin rw_call.Write) ∷ []) _ refl (1, Begin rw_call.Read) ((1, Step) ∷ (1, Step) ∷ (0, Step) ∷ (1, Begin rw_call.Release) ∷ (1, Step) ∷ []) 0 rw_call.Write rw_point.First None refl
+      (record { fair = grind (arith, room); back = grind (arith, room); none = grind (arith, room) })
+
+module _ {V : Type 0} (v : V) (cap patience : ℕ) where
+  -- party 1 is a starver, and idle
+  pub newcomer_starves : 1 ≤ cap → MayStarve (fair_machine v cap patience) 2 (waits_or_starves patience)
+  newcomer_starves some =
+      let room : nat_lt 0 (min cap most_starvers) ≡ true = lt-ltb 0 (min cap most_starvers) (omega (arith, some)) in
+      starves (fair_machine v cap patience) 2 ((1, Begin fair.Starve) ∷ (1, Step) ∷ (1, Step) ∷ (0, Begin fair.Lock) ∷ [])
+      (record { words = 2; value = Some v; seats = Calling fair.Lock (fair_point.Attempt 0) None ∷ Holding hold.Starver ∷ [] }) (grind (arith, room)) (0, Step) ((0, Step) ∷ []) 0 fair.Lock (fair_point.Attempt 0) None refl
+      (record { fair = refl; back = refl; none = refl })
+
+  -- two starvers: the other takes the lock whenever party 0 looks
+  pub starver_starves : 2 ≤ cap → MayStarve (fair_machine v cap patience) 2 (waits to_lock_starving)
+  starver_starves two =
+      let room : nat_lt 0 (min cap most_starvers) ≡ true = lt-ltb 0 (min cap most_starvers) (omega (arith, two)) in
+      let more : nat_lt 1 (min cap most_starvers) ≡ true = lt-ltb 1 (min cap most_starvers) (omega (arith, two)) in
+      starves (fair_machine v cap patience) 2 ((0, Begin fair.Starve) ∷ (0, Step) ∷ (0, Step) ∷ (1, Begin fair.Starve) ∷ (1, Step) ∷ (1, Step) ∷ (0, Begin fair.StarverLock) ∷ [])
+      (record { words = 4; value = Some v; seats = Calling fair.StarverLock fair_point.SetFlag (Some hold.Starver) ∷ Holding hold.Starver ∷ [] }) (grind (arith, room, more)) (1, Begin fair.StarverLock)
+      ((1, Step) ∷ (0, Step) ∷ (1, Step) ∷ (1, Begin fair.Release) ∷ (1, Step) ∷ (1, Begin fair.Starve) ∷ (1, Step) ∷ (1, Step) ∷ (0, Step) ∷ []) 0 fair.StarverLock fair_point.SetFlag (Some hold.Starver) refl
+      (record { fair = grind (arith, more); back = grind (arith, more); none = grind (arith, more) })
+
+-- party 0 looks while the other sits on the only seat
+one_seat : MayStarve (seats_machine 1) 2 (waits to_read)
+one_seat =
+    starves (seats_machine 1) 2 ((0, Begin seats_call.Enter) ∷ []) _ refl (1, Begin seats_call.TryEnter)
+    ((1, Step) ∷ (1, Step) ∷ (0, Step) ∷ (1, Begin seats_call.Leave) ∷ (1, Step) ∷ []) 0 seats_call.Enter seats_point.First None refl (record { fair = refl; back = refl; none = refl })
+
+pub seats_starve : (n : ℕ) → n ≡ 1 → MayStarve (seats_machine n) 2 (waits to_read)
+seats_starve n one = subst (λ i. MayStarve (seats_machine i) 2 (waits to_read)) (sym one) one_seat
+
+-- the others of its group never come
+pub barrier_starves : (n : ℕ) → 2 ≤ n → MayStarve (barrier_machine n) 1 meets
+barrier_starves n two =
+    let more : nat_lt 1 n ≡ true = lt-ltb 1 n two in
+    starves (barrier_machine n) 1 ((0, Begin barrier.Wait) ∷ (0, Step) ∷ []) (record { words = record { count = 1; generation = 0 }; value = None; seats = Calling barrier.Wait (barrier_point.Leave 0) None ∷ [] }) (grind (arith, more))
+    (0, Step) [] 0 barrier.Wait (barrier_point.Leave 0) None refl (record { fair = refl; back = refl; none = refl })
+
+module _ {V : Type 0} where
+  -- a closure runs whenever party 0 looks, and fails
+  at_once : (v : V) → MayStarve (once_machine {V = V} None) 2 initializes
+  at_once v =
+      starves (once_machine None) 2 ((0, Begin (once.CallOnce v)) ∷ (0, Step) ∷ []) _ refl (1, Begin once.TryCallOnceErr) ((1, Step) ∷ (1, Step) ∷ (0, Step) ∷ (1, Step) ∷ (0, Step) ∷ []) 0 (once.CallOnce v)
+      once_point.TryBegin None refl (record { fair = refl; back = refl; none = refl })
+
+  pub once_starves : (v : V) (value : Option V) → value ≡ None → MayStarve (once_machine value) 2 initializes
+  once_starves v value none = subst (λ o. MayStarve (once_machine o) 2 initializes) (sym none) (at_once v)
+
+  at_poll : MayStarve (once_machine {V = V} None) 2 polls
+  at_poll =
+      starves (once_machine None) 2 ((0, Begin once.Poll) ∷ []) _ refl (1, Begin once.TryCallOnceErr) ((1, Step) ∷ (1, Step) ∷ (0, Step) ∷ (1, Step) ∷ []) 0 once.Poll once_point.Look None refl
+      (record { fair = refl; back = refl; none = refl })
+
+  pub poll_starves : (value : Option V) → value ≡ None → MayStarve (once_machine value) 2 polls
+  poll_starves value none = subst (λ o. MayStarve (once_machine o) 2 polls) (sym none) at_poll
+
+  -- nobody makes a value
+  at_wait : MayStarve (once_machine {V = V} None) 1 waits_for_value
+  at_wait =
+      starves (once_machine None) 1 ((0, Begin once.Wait) ∷ []) _ refl (0, Step) [] 0 once.Wait once_point.Look None refl
+      (record { fair = refl; back = refl; none = refl })
+
+  pub wait_starves : (value : Option V) → value ≡ None → MayStarve (once_machine value) 1 waits_for_value
+  wait_starves value none = subst (λ o. MayStarve (once_machine o) 1 waits_for_value) (sym none) at_wait

@@ -1,0 +1,10 @@
+pub mod Rounds
+pub mod Ticket
+pub mod Flag
+pub mod Rw
+pub mod Once
+pub mod Alone
+pub mod Starving
+pub mod Seats
+pub mod Fair
+pub mod Wrong

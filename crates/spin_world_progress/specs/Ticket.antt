@@ -1,0 +1,60 @@
+-- Progress of a ticket lock: how many rounds a call of `lock` waits at most.
+use Rattle.std.specs.Prelude.{◌≡◌, ℕ, ◌+◌, ◌-◌, ◌*◌, ◌<◌, ◌≤◌, true, false, Option, Some, None, List, length, slice_get}
+use Rattle.spin_step.specs.Plain.{ticket_limit, to_enter}
+use Rattle.spin_step.specs.Parties.{entries}
+use Rattle.spin_model.specs.declared.answer.Answer.{Answer}
+use Rattle.spin_model.specs.declared.place.Hold.{Hold}
+use Rattle.spin_model.specs.declared.place.Seat.TheVariants.{Calling}
+use Rattle.spin_model.specs.declared.schedule.Move.{Move}
+use Rattle.spin_model.specs.Calls.{waits}
+use Rattle.spin_model.specs.Machines.{Machine}
+use Rattle.spin_model.specs.Schedules.{after, at_first}
+use Rattle.spin_world_core.specs.Joined.{joined}
+use Rattle.spin_world_progress.specs.Rounds.{occurs, AreRounds, grants, stretch, IsFair}
+use Rattle.spin_world_core.specs.Runs.{opening}
+use Rattle.spin_world_core.specs.Users.{seen_after}
+use Rattle.spin_model.specs.declared.ticket.TicketCall.{TicketCall}
+use Rattle.spin_model.specs.declared.ticket.TicketCall.TheVariants.{Lock}
+use Rattle.spin_model.specs.declared.ticket.TicketPoint.{TicketPoint}
+use Rattle.spin_model.specs.declared.ticket.TicketPoint.TheVariants.{Await}
+use Rattle.spin_model.specs.declared.ticket.TicketWords.{TicketWords}
+use Rattle.spin_world_ticket.specs.Turns.{waits_with}
+
+abbrev pub TicketMachine : Type 0 → Type 0
+TicketMachine V = Machine TicketWords V TicketCall TicketPoint (Answer V)
+
+-- A party that waits with the ticket t, where s is served, is granted the lock in three rounds for each of the t - s tickets before its own, and one more
+abbrev pub EntersInRounds : {V : Type 0} → TicketMachine V → ℕ → List (ℕ × Move TicketCall V) → List (List (ℕ × Move TicketCall V)) → Type 0
+EntersInRounds m n past rounds =
+    let s = after m (at_first m n) past in
+    (p t : ℕ) (c : TicketCall) (l : TicketPoint) (h : Option Hold) → slice_get s.seats p ≡ Some (Calling c l h) → entries p (seen_after m (opening m n) past).plain ≡ waits_with p t
+    → AreRounds m s rounds → 3 * (t - s.words.serving) + 1 ≤ length rounds → occurs m (grants m p) s (joined rounds) ≡ true
+
+-- A party in a `lock`, one of n, is granted it in 3 n - 1 rounds, and one more for each ticket that is taken in them, its own too, where a number is left at their end
+abbrev pub LocksInRounds : {V : Type 0} → TicketMachine V → ℕ → List (ℕ × Move TicketCall V) → List (List (ℕ × Move TicketCall V)) → Type 0
+LocksInRounds m n past rounds =
+    let s = after m (at_first m n) past in
+    let end = after m s (joined rounds) in
+    (p : ℕ) (c : TicketCall) (l : TicketPoint) (h : Option Hold) → slice_get s.seats p ≡ Some (Calling c l h) → m.asks c h ≡ waits to_enter
+    → AreRounds m s rounds → end.words.next < ticket_limit → 3 * n - 1 + (end.words.next - s.words.next) ≤ length rounds → occurs m (grants m p) s (joined rounds) ≡ true
+
+-- Starvation freedom behind the doorway: in an endless fair schedule a party that waits with its ticket is granted the lock
+abbrev pub IsNeverStarved : {V : Type 0} → TicketMachine V → ℕ → List (ℕ × Move TicketCall V) → (ℕ → ℕ × Move TicketCall V) → Type 0
+IsNeverStarved m n past schedule =
+    let s = after m (at_first m n) past in
+    (p t : ℕ) (c : TicketCall) (l : TicketPoint) (h : Option Hold) → slice_get s.seats p ≡ Some (Calling c l h) → entries p (seen_after m (opening m n) past).plain ≡ waits_with p t
+    → IsFair m s schedule → (place : ℕ) × (occurs m (grants m p) s (stretch schedule 0 place) ≡ true)
+
+-- Where others take tickets without end, no number of rounds is enough: of two parties, whatever number of rounds, one is in a `lock` through all of them
+abbrev pub MayBePassedOver : {V : Type 0} → TicketMachine V → ℕ → Type 0
+MayBePassedOver {V} m first =
+    (r : ℕ) → first + r < ticket_limit → (past : List (ℕ × Move TicketCall V)) × (rounds : List (List (ℕ × Move TicketCall V)))
+    × (let s = after m (at_first m 2) past in
+    (length rounds ≡ r) × ((l : TicketPoint) × (slice_get s.seats 0 ≡ Some (Calling Lock l None))) × AreRounds m s rounds × (occurs m (grants m 0) s (joined rounds) ≡ false))
+
+-- The number of rounds is exact: behind one ticket three may not be enough
+abbrev pub ThreeAreNotEnough : {V : Type 0} → TicketMachine V → ℕ → Type 0
+ThreeAreNotEnough {V} m first =
+    (past : List (ℕ × Move TicketCall V)) × (rounds : List (List (ℕ × Move TicketCall V)))
+    × (let s = after m (at_first m 2) past in
+    (length rounds ≡ 3) × (slice_get s.seats 0 ≡ Some (Calling Lock (Await (s.words.serving + 1)) None)) × AreRounds m s rounds × (occurs m (grants m 0) s (joined rounds) ≡ false))

@@ -1,0 +1,74 @@
+-- Wrong locks, and schedules in rounds that show what each lacks.
+use Rattle.std.specs.Prelude.{ℕ, ◌-◌, Bool, true, Option, Some, None, List, [], ◌∷◌}
+use Rattle.spin_step.specs.Plain.{asking, upgradable, weight, serves, turns}
+use Rattle.spin_model.specs.declared.answer.Answer.{Answer}
+use Rattle.spin_model.specs.declared.answer.Answer.TheVariants.{Done}
+use Rattle.spin_model.specs.declared.place.Hold.{Hold}
+use Rattle.spin_model.specs.declared.schedule.Move.{Move}
+use Rattle.spin_model.specs.declared.schedule.Move.TheVariants.{Begin, Step}
+use Rattle.spin_model.specs.declared.step.Next.TheVariants.{Continue, Answers}
+use Rattle.spin_model.specs.declared.flag.FlagCall.{FlagCall}
+use Rattle.spin_model.specs.declared.flag.FlagCall.TheVariants as flag
+use Rattle.spin_model.specs.declared.flag.FlagPoint.{FlagPoint}
+use Rattle.spin_model.specs.declared.flag.FlagPoint.TheVariants as flag_point
+use Rattle.spin_model.specs.Acts.{Act, load, store, machine_of}
+use Rattle.spin_model.specs.Machines.{Machine}
+use Rattle.spin_model.specs.Operations.{stores, subtracts}
+use Rattle.spin_model.specs.Flag as flags
+use Rattle.spin_model.specs.declared.ticket.TicketCall.{TicketCall}
+use Rattle.spin_model.specs.declared.ticket.TicketCall.TheVariants as ticket
+use Rattle.spin_model.specs.declared.ticket.TicketPoint.{TicketPoint}
+use Rattle.spin_model.specs.declared.ticket.TicketPoint.TheVariants as ticket_point
+use Rattle.spin_model.specs.declared.ticket.TicketWords.{TicketWords}
+use Rattle.spin_model.specs.Ticket as tickets
+use Rattle.spin_step_more.specs.declared.rw_calls.RwCall.{RwCall}
+use Rattle.spin_step_more.specs.declared.rw_calls.RwCall.TheVariants as rw
+use Rattle.spin_step_more.specs.declared.rw_calls.RwPoint.{RwPoint}
+use Rattle.spin_step_more.specs.declared.rw_calls.RwPoint.TheVariants as rw_point
+use Rattle.spin_step_more.specs.RwCalls as rws
+use Rattle.spin_world_progress.specs.Ticket.{TicketMachine}
+
+-- A flag whose waiting party never looks again once its exchange has failed
+
+abbrev never_looks_act : {V : Type 0} → FlagCall → FlagPoint → Option Hold → Act Bool FlagPoint (Answer V)
+never_looks_act flag.Lock flag_point.Second h = load (λ n. Continue flag_point.Second)
+never_looks_act c l h = flags.act_of c l h
+
+abbrev pub never_looks : {V : Type 0} → V → Machine Bool V FlagCall FlagPoint (Answer V)
+never_looks v = machine_of (record (flags.flag_table v) { act = never_looks_act })
+
+abbrev pub set_before_it : {V : Type 0} → List (ℕ × Move FlagCall V)
+set_before_it = (1, Begin flag.Lock) ∷ (1, Step) ∷ (0, Begin flag.Lock) ∷ []
+
+abbrev pub four_looks : {V : Type 0} → List (List (ℕ × Move FlagCall V))
+four_looks = ((0, Step) ∷ (1, Begin flag.Release) ∷ []) ∷ ((0, Step) ∷ (1, Step) ∷ []) ∷ ((0, Step) ∷ []) ∷ ((0, Step) ∷ []) ∷ []
+
+-- A ticket lock whose holder serves its own number again as it releases
+
+abbrev serves_twice_act : {V : Type 0} → TicketPoint → Option Hold → Act TicketWords TicketPoint (Answer V)
+serves_twice_act (ticket_point.Serve t) h = store (λ k. true) (stores t) (λ p. serves p) (Answers Done None)
+serves_twice_act l h = tickets.act_of l h
+
+abbrev pub serves_twice : {V : Type 0} → V → TicketMachine V
+serves_twice v = machine_of (record (tickets.ticket_table v 0) { act = λ c l h. serves_twice_act l h })
+
+abbrev pub one_before_it : {V : Type 0} → List (ℕ × Move TicketCall V)
+one_before_it = (1, Begin ticket.Lock) ∷ (1, Step) ∷ (1, Step) ∷ (0, Begin ticket.Lock) ∷ (0, Step) ∷ (0, Step) ∷ []
+
+abbrev pub four_turns : {V : Type 0} → List (List (ℕ × Move TicketCall V))
+four_turns = ((0, Step) ∷ (1, Step) ∷ []) ∷ ((0, Step) ∷ (1, Begin ticket.Release) ∷ []) ∷ ((0, Step) ∷ (1, Step) ∷ []) ∷ ((0, Step) ∷ []) ∷ []
+
+-- A read-write lock whose upgrade gives up its asking by its next step, and asks again
+
+abbrev gives_up_act : {V : Type 0} → ℕ → RwCall → RwPoint → Option Hold → Act ℕ RwPoint (Answer V)
+gives_up_act cap rw.Upgrade rw_point.Asking h = store (λ w. true) (subtracts (weight asking - weight upgradable)) (λ p. turns p asking upgradable) (Continue rw_point.First)
+gives_up_act cap c l h = rws.act_of cap c l h
+
+abbrev pub gives_up : {V : Type 0} → V → Machine ℕ V RwCall RwPoint (Answer V)
+gives_up v = machine_of (record (rws.rw_table v 1) { act = gives_up_act 1 })
+
+abbrev pub asked : {V : Type 0} → List (ℕ × Move RwCall V)
+asked = (0, Begin rw.UpgradeableRead) ∷ (0, Step) ∷ (0, Step) ∷ (0, Begin rw.Upgrade) ∷ (0, Step) ∷ []
+
+abbrev pub three_steps : {V : Type 0} → List (List (ℕ × Move RwCall V))
+three_steps = ((0, Step) ∷ []) ∷ ((0, Step) ∷ []) ∷ ((0, Step) ∷ []) ∷ []

@@ -1,0 +1,219 @@
+//! Laws of progress. Each is the contract of a function that does nothing: a caller calls it for what it states.
+//!
+//! A *round* is a stretch of the schedule (`IsRound`): each party that is in a call at its start takes a step of it, each
+//! party that holds the lock begins to release it, and no party has leaked it. A schedule is *fair* (`IsFair`) if each
+//! party does so some time later, from each of its places on. Neither asks more of the party that waits than that it is
+//! scheduled.
+ghost use Rattle.std.specs.Prelude.{◌≡◌, ◌≤◌, ℕ, List, None};
+ghost use Rattle.spin_step.specs.Plain.{to_write, to_read, to_read_upgradable, to_lock_starving};
+ghost use Rattle.spin_model.specs.Calls.{waits, waits_or_starves, initializes, waits_for_value, polls, meets};
+ghost use Rattle.spin_model.specs.declared.schedule.Move.{Move};
+ghost use Rattle.spin_model.specs.declared.flag.FlagCall.{FlagCall};
+ghost use Rattle.spin_world_flag.specs.declared.flag.Flag.{Flag};
+ghost use Rattle.spin_model.specs.declared.ticket.TicketCall.{TicketCall};
+ghost use Rattle.spin_world_ticket.specs.declared.ticket.Ticket.{Ticket};
+ghost use Rattle.spin_step_more.specs.declared.fair_calls.FairCall.{FairCall};
+ghost use Rattle.spin_world_fair.specs.declared.fair.Fair.{Fair};
+ghost use Rattle.spin_step_more.specs.declared.rw_calls.RwCall.{RwCall};
+ghost use Rattle.spin_world_rw.specs.declared.rw.Rw.{Rw};
+ghost use Rattle.spin_world_once.specs.declared.once.OnceObject.{OnceObject};
+ghost use Rattle.spin_model.specs.declared.once.OnceCall.{OnceCall};
+ghost use Rattle.spin_world_once.specs.Keeping.{Entries};
+ghost use Rattle.spin_world_barrier.specs.declared.barrier.BarrierObject.{BarrierObject};
+ghost use Rattle.spin_seats.specs.declared.calls.SeatsCall.{SeatsCall};
+ghost use Rattle.spin_world_seats.specs.declared.seats.Seats.{Seats};
+ghost use Rattle.spin_world_progress.specs.Alone.{AnsweredOrDisturbed};
+ghost use Rattle.spin_world_progress.specs.Starving.{MayStarve};
+ghost use Rattle.spin_world_progress.specs.Flag.{LocksInFour, IsDeadlockFree};
+ghost use Rattle.spin_world_progress.specs.Ticket.{EntersInRounds, LocksInRounds, IsNeverStarved, MayBePassedOver};
+ghost use Rattle.spin_world_progress.specs.Fair.{LocksInFive, StarversAreDeadlockFree};
+ghost use Rattle.spin_world_progress.specs.Rw.{UpgradesInThree, UpgradesAtLast, GrantsSomebody, RwIsDeadlockFree};
+ghost use Rattle.spin_world_progress.specs.Once.{AnswersInFour, AnswersAtLast, AnswersInOne, SomebodyRuns};
+ghost use Rattle.spin_world_progress.specs.Seats.{SeatsSomebodyInFour, SeatsAreDeadlockFree};
+
+use spin_world_barrier::BarrierObject;
+use spin_world_core::Object;
+use spin_world_fair::Fair;
+use spin_world_flag::Flag;
+use spin_world_once::OnceObject;
+use spin_world_rw::Rw;
+use spin_world_seats::Seats;
+use spin_world_ticket::Ticket;
+
+/// States of any object that a call makes progress where what it asks is open, so that the object is obstruction-
+/// free. In as many rounds as its kind of lock says, at most four, it is answered, or another party changes a word,
+/// or its exchange is refused without cause.
+pub fn an_open_call_is_answered_or_disturbed<O: Object>()
+    ensures { (object : O) (n : ℕ) (past : List (ℕ × Move O.Call O.Value)) (rounds : List (List (ℕ × Move O.Call O.Value))) → AnsweredOrDisturbed (O.machine object) n past rounds }
+{
+    O::laws();
+}
+
+/// States that while a party waits in a `lock` of a flag, some party is granted the lock in each four rounds, if the
+/// waiting party's own exchange is not refused without cause. It may be another party that is granted, each time.
+pub fn somebody_is_granted_in_four_rounds<V: Copy>()
+    ensures { (object : Flag V) (n : ℕ) (past : List (ℕ × Move FlagCall V)) (rounds : List (List (ℕ × Move FlagCall V))) → LocksInFour (⟦<Flag<V> as Object>⟧.machine object) n past rounds }
+{}
+
+/// States that a flag is free of deadlock: in each endless fair schedule, while a party waits in a `lock`, some party
+/// is granted the lock some time later. It is so unless the waiting party's own exchange is refused without cause.
+pub fn a_flag_is_free_of_deadlock<V: Copy>()
+    ensures { (object : Flag V) (n : ℕ) (past : List (ℕ × Move FlagCall V)) (schedule : ℕ → ℕ × Move FlagCall V) → IsDeadlockFree (⟦<Flag<V> as Object>⟧.machine object) n past schedule }
+{}
+
+/// States that a flag is not free of starvation: in some endless fair schedule of two parties a `lock` is never
+/// answered.
+pub fn a_lock_of_a_flag_may_starve<V: Copy>()
+    ensures { (object : Flag V) → MayStarve (⟦<Flag<V> as Object>⟧.machine object) 2 (waits to_write) }
+{}
+
+/// States that a party with a ticket is bypassed by nobody who takes a ticket later: it waits three rounds for each
+/// ticket before its own, and one more.
+pub fn a_ticket_is_granted_in_rounds<V: Copy>()
+    ensures { (object : Ticket V) (n : ℕ) (past : List (ℕ × Move TicketCall V)) (rounds : List (List (ℕ × Move TicketCall V))) → EntersInRounds (⟦<Ticket<V> as Object>⟧.machine object) n past rounds }
+{}
+
+/// States that a party with a ticket is never starved: in each endless fair schedule it is granted the lock.
+pub fn a_ticket_is_never_starved<V: Copy>()
+    ensures { (object : Ticket V) (n : ℕ) (past : List (ℕ × Move TicketCall V)) (schedule : ℕ → ℕ × Move TicketCall V) → IsNeverStarved (⟦<Ticket<V> as Object>⟧.machine object) n past schedule }
+{}
+
+/// States that a `lock` of one of `n` parties is granted in 3 n - 1 rounds, and one more for each ticket that is
+/// taken meanwhile, its own included. A number has to be left at their end.
+///
+/// Another party's ticket may cost it an exchange, as long as it has none.
+pub fn a_lock_is_granted_in_rounds<V: Copy>()
+    ensures { (object : Ticket V) (n : ℕ) (past : List (ℕ × Move TicketCall V)) (rounds : List (List (ℕ × Move TicketCall V))) → LocksInRounds (⟦<Ticket<V> as Object>⟧.machine object) n past rounds }
+{}
+
+/// States that a `lock` without a ticket may be passed over in any number of rounds, as long as numbers are left: its
+/// doorway is lock-free, and not wait-free.
+///
+/// So the rounds of [`a_lock_is_granted_in_rounds`] have to count the tickets that others take meanwhile.
+pub fn a_lock_may_be_passed_over<V: Copy>()
+    ensures { (object : Ticket V) → MayBePassedOver (⟦<Ticket<V> as Object>⟧.machine object) object.first }
+{}
+
+/// States that while a starver waits for a fair lock, some party is granted the lock in each five rounds. It may be
+/// another starver, each time; that it is no newcomer is a law of `spin_world_fair`.
+pub fn somebody_is_granted_beside_a_starver_in_five_rounds<V: Copy>()
+    ensures { (object : Fair V) (n : ℕ) (past : List (ℕ × Move FairCall V)) (rounds : List (List (ℕ × Move FairCall V))) → LocksInFive (⟦<Fair<V> as Object>⟧.machine object) n past rounds }
+{}
+
+/// States that starvers are free of deadlock: in each endless fair schedule, while one waits, some party is granted
+/// the lock some time later.
+pub fn starvers_are_free_of_deadlock<V: Copy>()
+    ensures { (object : Fair V) (n : ℕ) (past : List (ℕ × Move FairCall V)) (schedule : ℕ → ℕ × Move FairCall V) → StarversAreDeadlockFree (⟦<Fair<V> as Object>⟧.machine object) n past schedule }
+{}
+
+/// States that a starver that keeps its place, and does nothing, keeps newcomers out: in some endless fair schedule a
+/// `lock` is never answered.
+pub fn a_newcomer_may_starve_beside_an_idle_starver<V: Copy>()
+    ensures { (object : Fair V) → 1 ≤ object.cap → MayStarve (⟦<Fair<V> as Object>⟧.machine object) 2 (waits_or_starves object.patience) }
+{}
+
+/// States that starvers are not served in order: in some endless fair schedule one is passed over by another without
+/// end.
+pub fn a_starver_may_starve<V: Copy>()
+    ensures { (object : Fair V) → 2 ≤ object.cap → MayStarve (⟦<Fair<V> as Object>⟧.machine object) 2 (waits to_lock_starving) }
+{}
+
+/// States that an upgrade that has asked is granted in three rounds, however many readers stand beside it, or its
+/// exchange is refused without cause in them.
+pub fn an_upgrade_is_granted_in_three_rounds<V: Copy>()
+    ensures { (object : Rw V) (n : ℕ) (past : List (ℕ × Move RwCall V)) (rounds : List (List (ℕ × Move RwCall V))) → UpgradesInThree (⟦<Rw<V> as Object>⟧.machine object) n past rounds }
+{}
+
+/// States that an upgrade that has asked is never starved: in each endless fair schedule it is granted some time
+/// later, or its exchange is refused without cause.
+pub fn an_upgrade_is_never_starved<V: Copy>()
+    ensures { (object : Rw V) (n : ℕ) (past : List (ℕ × Move RwCall V)) (schedule : ℕ → ℕ × Move RwCall V) → UpgradesAtLast (⟦<Rw<V> as Object>⟧.machine object) n past schedule }
+{}
+
+/// States that a read-write lock is free of deadlock: while a party waits that holds nothing, some party is granted
+/// in two rounds, and so many more as those who hold may take (`rounds_left`), or some exchange is refused without
+/// cause. There has to be room for a reader.
+pub fn somebody_is_granted_in_the_rounds_of_the_holders<V: Copy>()
+    ensures { (object : Rw V) (n : ℕ) (past : List (ℕ × Move RwCall V)) (rounds : List (List (ℕ × Move RwCall V))) → 1 ≤ object.cap → GrantsSomebody (⟦<Rw<V> as Object>⟧.machine object) n past rounds }
+{}
+
+/// States that a read-write lock is free of deadlock: in each endless fair schedule, while a party waits that holds
+/// nothing, some party is granted some time later, or some exchange is refused without cause.
+pub fn a_read_write_lock_is_free_of_deadlock<V: Copy>()
+    ensures { (object : Rw V) (n : ℕ) (past : List (ℕ × Move RwCall V)) (schedule : ℕ → ℕ × Move RwCall V) → 1 ≤ object.cap → RwIsDeadlockFree (⟦<Rw<V> as Object>⟧.machine object) n past schedule }
+{}
+
+/// States that a reader may starve beside writers: in some endless fair schedule a `read` is never answered.
+pub fn a_reader_may_starve<V: Copy>()
+    ensures { (object : Rw V) → MayStarve (⟦<Rw<V> as Object>⟧.machine object) 2 (waits to_read) }
+{}
+
+/// States that an `upgradeable_read` may starve beside writers, as a `read` may.
+pub fn an_upgradable_reader_may_starve<V: Copy>()
+    ensures { (object : Rw V) → MayStarve (⟦<Rw<V> as Object>⟧.machine object) 2 (waits to_read_upgradable) }
+{}
+
+/// States that a writer may starve beside readers: in some endless fair schedule a `write` is never answered.
+pub fn a_writer_may_starve<V: Copy>()
+    ensures { (object : Rw V) → 1 ≤ object.cap → MayStarve (⟦<Rw<V> as Object>⟧.machine object) 2 (waits to_write) }
+{}
+
+/// States that a call with a closure is answered in four rounds, or some closure fails in them. A closure ends by one
+/// step of its party.
+pub fn a_call_with_a_closure_is_answered_in_four_rounds<V: Copy>()
+    ensures { (object : OnceObject V) (n : ℕ) (past : List (ℕ × Move (OnceCall V) V)) (rounds : List (List (ℕ × Move (OnceCall V) V))) → AnswersInFour (⟦<OnceObject<V> as Object>⟧.machine object) n past rounds }
+{}
+
+/// States that in each endless fair schedule a call with a closure is answered some time later, or some closure
+/// fails.
+pub fn a_call_with_a_closure_is_never_starved<V: Copy>()
+    ensures { (object : OnceObject V) (n : ℕ) (past : List (ℕ × Move (OnceCall V) V)) (schedule : ℕ → ℕ × Move (OnceCall V) V) → AnswersAtLast (⟦<OnceObject<V> as Object>⟧.machine object) n past schedule }
+{}
+
+/// States that where there is a value, each call is answered in one round.
+pub fn a_call_is_answered_in_one_round_where_there_is_a_value<V: Copy>()
+    ensures { (object : OnceObject V) (n : ℕ) (past : List (ℕ × Move (OnceCall V) V)) (rounds : List (List (ℕ × Move (OnceCall V) V))) → AnswersInOne (⟦<OnceObject<V> as Object>⟧.machine object) n past rounds }
+{}
+
+/// States that while the word says that a closure runs, some party runs it. By its next step it ends.
+pub fn a_running_closure_has_its_party<V: Copy>()
+    ensures { (object : OnceObject V) (n : ℕ) (past : Entries V) → SomebodyRuns (⟦<OnceObject<V> as Object>⟧.machine object) n past }
+{}
+
+/// States that a call with a closure may starve where the closures of others fail again and again.
+pub fn a_call_with_a_closure_may_starve<V: Copy>()
+    ensures { (object : OnceObject V) → V → object.value ≡ None → MayStarve (⟦<OnceObject<V> as Object>⟧.machine object) 2 initializes }
+{}
+
+/// States that a `poll` may starve where closures fail again and again.
+pub fn a_poll_may_starve<V: Copy>()
+    ensures { (object : OnceObject V) → object.value ≡ None → MayStarve (⟦<OnceObject<V> as Object>⟧.machine object) 2 polls }
+{}
+
+/// States that a `wait` may starve, since nobody may make a value.
+pub fn a_wait_may_starve<V: Copy>()
+    ensures { (object : OnceObject V) → object.value ≡ None → MayStarve (⟦<OnceObject<V> as Object>⟧.machine object) 1 waits_for_value }
+{}
+
+/// States that a party may wait at a barrier without end, since the others of its group may never come. That it
+/// leaves a full group is a law of `spin_world_barrier`.
+pub fn a_group_may_never_fill()
+    ensures { (object : BarrierObject) → 2 ≤ object.n → MayStarve (⟦<BarrierObject as Object>⟧.machine object) 1 meets }
+{}
+
+/// States that while a party waits in an `enter`, some party is granted a seat in each four rounds. There has to be a
+/// seat.
+pub fn somebody_is_granted_a_seat_in_four_rounds()
+    ensures { (object : Seats) (n : ℕ) (past : List (ℕ × Move SeatsCall (Unit {0}))) (rounds : List (List (ℕ × Move SeatsCall (Unit {0})))) → 1 ≤ object.seats → SeatsSomebodyInFour (⟦<Seats as Object>⟧.machine object) n past rounds }
+{}
+
+/// States that seats are free of deadlock: in each endless fair schedule, while a party waits in an `enter`, some
+/// party is granted a seat some time later.
+pub fn seats_are_free_of_deadlock()
+    ensures { (object : Seats) (n : ℕ) (past : List (ℕ × Move SeatsCall (Unit {0}))) (schedule : ℕ → ℕ × Move SeatsCall (Unit {0})) → 1 ≤ object.seats → SeatsAreDeadlockFree (⟦<Seats as Object>⟧.machine object) n past schedule }
+{}
+
+/// States that an `enter` may starve: where there is one seat, in some endless fair schedule it is never answered.
+pub fn an_enter_may_starve()
+    ensures { (object : Seats) → object.seats ≡ 1 → MayStarve (⟦<Seats as Object>⟧.machine object) 2 (waits to_read) }
+{}
