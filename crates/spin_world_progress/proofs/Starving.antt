@@ -1,11 +1,11 @@
 -- Turns in which a call starves.
-use Rattle.std.proofs.Common.{◌≡◌, ℕ, ◌≤◌, nat_lt, min, true, Option, Some, None, [], ◌∷◌, refl, sym, subst, arith}
+use Rattle.std.proofs.Common.{◌≡◌, ℕ, zero, suc, ◌≤◌, nat_lt, min, Bool, true, Option, Some, None, [], ◌∷◌, refl, arith}
 use Rattle.std.proofs.lemmas.Bool.{lt-ltb}
 use Rattle.spin_step.specs.Plain.{to_write, to_read, to_read_upgradable, to_lock_starving}
 use Rattle.spin_step_more.specs.Readers.{reader_limit}
 use Rattle.spin_step_more.specs.Starvers.{most_starvers}
 use Rattle.spin_model.specs.declared.place.Hold.TheVariants as hold
-use Rattle.spin_model.specs.declared.place.Seat.TheVariants.{Calling, Holding}
+use Rattle.spin_model.specs.declared.place.Seat.TheVariants.{Idle, Calling, Holding}
 use Rattle.spin_model.specs.declared.schedule.Move.TheVariants.{Begin, Step}
 use Rattle.spin_model.specs.declared.flag.FlagCall.TheVariants as flag
 use Rattle.spin_model.specs.declared.flag.FlagPoint.TheVariants as flag_point
@@ -19,6 +19,7 @@ use Rattle.spin_step_more.specs.declared.fair_calls.FairPoint.TheVariants as fai
 use Rattle.spin_step_more.specs.FairCalls.{fair_machine}
 use Rattle.spin_seats.specs.declared.calls.SeatsCall.TheVariants as seats_call
 use Rattle.spin_seats.specs.declared.calls.SeatsPoint.TheVariants as seats_point
+use Rattle.spin_seats.specs.Seats.{seats}
 use Rattle.spin_seats.specs.Table.{seats_machine}
 use Rattle.spin_model.specs.declared.once.OnceCall.TheVariants as once
 use Rattle.spin_model.specs.declared.once.OncePoint.TheVariants as once_point
@@ -73,14 +74,19 @@ module _ {V : Type 0} (v : V) (cap patience : ℕ) where
       ((1, Step) ∷ (0, Step) ∷ (1, Step) ∷ (1, Begin fair.Release) ∷ (1, Step) ∷ (1, Begin fair.Starve) ∷ (1, Step) ∷ (1, Step) ∷ (0, Step) ∷ []) 0 fair.StarverLock fair_point.SetFlag (Some hold.Starver) refl
       (record { fair = grind (arith, more); back = grind (arith, more); none = grind (arith, more) })
 
--- party 0 looks while the other sits on the only seat
-one_seat : MayStarve (seats_machine 1) 2 (waits to_read)
-one_seat =
-    starves (seats_machine 1) 2 ((0, Begin seats_call.Enter) ∷ []) _ refl (1, Begin seats_call.TryEnter)
-    ((1, Step) ∷ (1, Step) ∷ (0, Step) ∷ (1, Begin seats_call.Leave) ∷ (1, Step) ∷ []) 0 seats_call.Enter seats_point.First None refl (record { fair = refl; back = refl; none = refl })
+-- the other sits down before each exchange of party 0, and leaves after it; without seats nobody enters
+pub seats_starve : (n : ℕ) → MayStarve (seats_machine n) 2 (waits to_read)
+seats_starve zero = starves (seats_machine 0) 2 ((0, Begin seats_call.Enter) ∷ []) _ refl (0, Step) [] 0 seats_call.Enter seats_point.First None refl (record { fair = refl; back = refl; none = refl })
+seats_starve (suc n) = by_room (nat_lt 1 (seats (suc n))) refl
+  where
+    first : nat_lt 0 (seats (suc n)) ≡ true
+    first = lt-ltb 0 (seats (suc n)) (omega arith)
 
-pub seats_starve : (n : ℕ) → n ≡ 1 → MayStarve (seats_machine n) 2 (waits to_read)
-seats_starve n one = subst (λ i. MayStarve (seats_machine i) 2 (waits to_read)) (sym one) one_seat
+    by_room : (b : Bool) → nat_lt 1 (seats (suc n)) ≡ b → MayStarve (seats_machine (suc n)) 2 (waits to_read)
+    by_room b more =
+        starves (seats_machine (suc n)) 2 ((0, Begin seats_call.Enter) ∷ (0, Step) ∷ []) (record { words = 0; value = Some tt; seats = Calling seats_call.Enter (seats_point.Exchange 0) None ∷ Idle ∷ [] }) (grind (arith, first))
+        (1, Begin seats_call.TryEnter) ((1, Step) ∷ (1, Step) ∷ (0, Step) ∷ (1, Begin seats_call.Leave) ∷ (1, Step) ∷ (0, Step) ∷ []) 0 seats_call.Enter (seats_point.Exchange 0) None refl
+        (record { fair = grind (arith, first, more); back = grind (arith, first, more); none = grind (arith, first, more) })
 
 -- the others of its group never come
 pub barrier_starves : (n : ℕ) → 2 ≤ n → MayStarve (barrier_machine n) 1 meets
@@ -91,27 +97,21 @@ barrier_starves n two =
 
 module _ {V : Type 0} where
   -- a closure runs whenever party 0 looks, and fails
-  at_once : (v : V) → MayStarve (once_machine {V = V} None) 2 initializes
-  at_once v =
+  pub once_starves : (v : V) (value : Option V) → value ≡ None → MayStarve (once_machine value) 2 initializes
+  once_starves v None none =
       starves (once_machine None) 2 ((0, Begin (once.CallOnce v)) ∷ (0, Step) ∷ []) _ refl (1, Begin once.TryCallOnceErr) ((1, Step) ∷ (1, Step) ∷ (0, Step) ∷ (1, Step) ∷ (0, Step) ∷ []) 0 (once.CallOnce v)
       once_point.TryBegin None refl (record { fair = refl; back = refl; none = refl })
-
-  pub once_starves : (v : V) (value : Option V) → value ≡ None → MayStarve (once_machine value) 2 initializes
-  once_starves v value none = subst (λ o. MayStarve (once_machine o) 2 initializes) (sym none) (at_once v)
-
-  at_poll : MayStarve (once_machine {V = V} None) 2 polls
-  at_poll =
-      starves (once_machine None) 2 ((0, Begin once.Poll) ∷ []) _ refl (1, Begin once.TryCallOnceErr) ((1, Step) ∷ (1, Step) ∷ (0, Step) ∷ (1, Step) ∷ []) 0 once.Poll once_point.Look None refl
-      (record { fair = refl; back = refl; none = refl })
+  once_starves v (Some u) none = absurd (grind (arith, none))
 
   pub poll_starves : (value : Option V) → value ≡ None → MayStarve (once_machine value) 2 polls
-  poll_starves value none = subst (λ o. MayStarve (once_machine o) 2 polls) (sym none) at_poll
+  poll_starves None none =
+      starves (once_machine None) 2 ((0, Begin once.Poll) ∷ []) _ refl (1, Begin once.TryCallOnceErr) ((1, Step) ∷ (1, Step) ∷ (0, Step) ∷ (1, Step) ∷ []) 0 once.Poll once_point.Look None refl
+      (record { fair = refl; back = refl; none = refl })
+  poll_starves (Some u) none = absurd (grind (arith, none))
 
   -- nobody makes a value
-  at_wait : MayStarve (once_machine {V = V} None) 1 waits_for_value
-  at_wait =
+  pub wait_starves : (value : Option V) → value ≡ None → MayStarve (once_machine value) 1 waits_for_value
+  wait_starves None none =
       starves (once_machine None) 1 ((0, Begin once.Wait) ∷ []) _ refl (0, Step) [] 0 once.Wait once_point.Look None refl
       (record { fair = refl; back = refl; none = refl })
-
-  pub wait_starves : (value : Option V) → value ≡ None → MayStarve (once_machine value) 1 waits_for_value
-  wait_starves value none = subst (λ o. MayStarve (once_machine o) 1 waits_for_value) (sym none) at_wait
+  wait_starves (Some u) none = absurd (grind (arith, none))

@@ -213,7 +213,8 @@ pub fn seats_are_free_of_deadlock()
     ensures { (object : Seats) (n : ℕ) (past : List (ℕ × Move SeatsCall (Unit {0}))) (schedule : ℕ → ℕ × Move SeatsCall (Unit {0})) → 1 ≤ object.seats → SeatsAreDeadlockFree (⟦<Seats as Object>⟧.machine object) n past schedule }
 {}
 
-/// States that an `enter` may starve: where there is one seat, in some endless fair schedule it is never answered.
+/// States that an `enter` may starve, with any number of seats: in some endless fair schedule of two parties it is
+/// never answered.
 pub fn an_enter_may_starve()
-    ensures { (object : Seats) → object.seats ≡ 1 → MayStarve (⟦<Seats as Object>⟧.machine object) 2 (waits to_read) }
+    ensures { (object : Seats) → MayStarve (⟦<Seats as Object>⟧.machine object) 2 (waits to_read) }
 {}
