@@ -199,20 +199,19 @@ module _ {V : Type 0} (v : V) (cap patience : ℕ) where
           let seat : slice_get y.after.state.seats p ≡ Some (Calling c SetFlag h) = rw (clear none) (get-set_same seen.state.seats p (Calling c SetFlag h) _ there) in
           inr (walk.waits_at m k f x y.after c SetFlag h seat at, inl (omega (arith, rank_free_at y.after none _ seat, rank_free_at seen none _ there)))
 
+      come_on : (c : FairCall) (l : FairPoint) (h : Option Hold) → at_wait c l h → at_wait c SetFlag h × at_wait c Await h × at_wait c Unregister h
+      come_on c l h at = grind (arith, at)
+
+      held : (c : FairCall) (l : FairPoint) (h : Option Hold) → at_wait c l h → (l ≡ Unregister → ⊥) → slice_get seen.state.seats p ≡ Some (Calling c l h) → (i : Holder) (hs : List Holder) → s.holders ≡ i ∷ hs → Own c l h
+      held c l h at ne there i hs some =
+          goes_set c l h (come_on c l h at).1 there i hs some (grind (arith, at, ne, odd i hs some, set i hs some, get-set_same seen.state.seats p (Calling c Await h) _ there)) (no_holder c l h at ne there i hs some)
+
       own_by : (hs : List Holder) → s.holders ≡ hs → (c : FairCall) (l : FairPoint) (h : Option Hold) → slice_get seen.state.seats p ≡ Some (Calling c l h) → at_wait c l h → Own c l h
       own_by hs is c Unregister h there at = leaves_starvers c h there
-      own_by [] is Lock SetFlag None there at = sets_flag Lock None tt there is
-      own_by [] is Lock Await None there at = looks Lock None tt there is
-      own_by [] is StarverLock SetFlag (Some Starver) there at = sets_flag StarverLock (Some Starver) tt there is
-      own_by [] is StarverLock Await (Some Starver) there at = looks StarverLock (Some Starver) tt there is
-      own_by (i ∷ hs) is Lock SetFlag None there at =
-          goes_set Lock SetFlag None tt there i hs is (rw (odd i hs is) (get-set_same seen.state.seats p (Calling Lock Await None) _ there, refl)) (no_holder Lock SetFlag None tt (λ e. cc (e)) there i hs is)
-      own_by (i ∷ hs) is Lock Await None there at =
-          goes_set Lock Await None tt there i hs is (rw (set i hs is) (get-set_same seen.state.seats p (Calling Lock Await None) _ there, refl)) (no_holder Lock Await None tt (λ e. cc (e)) there i hs is)
-      own_by (i ∷ hs) is StarverLock SetFlag (Some Starver) there at =
-          goes_set StarverLock SetFlag (Some Starver) tt there i hs is (rw (odd i hs is) (get-set_same seen.state.seats p (Calling StarverLock Await (Some Starver)) _ there, refl)) (no_holder StarverLock SetFlag (Some Starver) tt (λ e. cc (e)) there i hs is)
-      own_by (i ∷ hs) is StarverLock Await (Some Starver) there at =
-          goes_set StarverLock Await (Some Starver) tt there i hs is (rw (set i hs is) (get-set_same seen.state.seats p (Calling StarverLock Await (Some Starver)) _ there, refl)) (no_holder StarverLock Await (Some Starver) tt (λ e. cc (e)) there i hs is)
+      own_by [] is c SetFlag h there at = sets_flag c h (come_on c SetFlag h at).2 there is
+      own_by [] is c Await h there at = looks c h (come_on c Await h at).0 there is
+      own_by (i ∷ hs) is c SetFlag h there at = held c SetFlag h at (λ e. cc (e)) there i hs is
+      own_by (i ∷ hs) is c Await h there at = held c Await h at (λ e. cc (e)) there i hs is
       own_by hs is c l h there at = absurd (grind (arith, at))
 
       module _ (w : walk.Waits m k f x seen) where

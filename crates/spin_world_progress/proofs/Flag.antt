@@ -6,7 +6,7 @@ use Rattle.spin_step.proofs.Exclusive.{empty_is}
 use Rattle.std.proofs.Common.{◌-◌, filter, not}
 use Rattle.spin_model.specs.declared.answer.Answer.TheVariants.{Done}
 use Rattle.spin_model.specs.declared.flag.FlagCall.{FlagCall}
-use Rattle.spin_model.specs.declared.flag.FlagCall.TheVariants.{Lock, TryLock, TryLockWeak, IsLocked, Release}
+use Rattle.spin_model.specs.declared.flag.FlagCall.TheVariants.{Lock, Release}
 use Rattle.spin_model.specs.declared.flag.FlagPoint.{FlagPoint}
 use Rattle.spin_model.specs.declared.flag.FlagPoint.TheVariants.{First, Second}
 use Rattle.spin_model.specs.Flag.{flag_table, flag_machine, asks_of}
@@ -84,15 +84,7 @@ module _ {V : Type 0} (v : V) where
     -- a step that makes a holder is a grant
     comes : (seen : World) (q : ℕ) (c : FlagCall) (l : FlagPoint) (h : Option Hold) (b : Bool) → seen.state.words ≡ b → holds_lock (entries q seen.plain) ≡ false
         → let x = scene_at m seen q Step (Some (Calling c l h)) in (goal q Step x.outcome (slice_get x.after.state.seats q) ≡ true) ⊎ (holds_lock (entries_after seen.plain x.change (entries q seen.plain)) ≡ false)
-    comes seen q Lock First h false is none = inl (rw is refl)
-    comes seen q Lock First h true is none = inr (rw is none)
-    comes seen q Lock Second h b is none = inr none
-    comes seen q TryLock l h false is none = inl (rw is refl)
-    comes seen q TryLock l h true is none = inr (rw is none)
-    comes seen q TryLockWeak l h false is none = inl (rw is refl)
-    comes seen q TryLockWeak l h true is none = inr (rw is none)
-    comes seen q IsLocked l h b is none = inr none
-    comes seen q Release l h b is none = inr (grind (arith, none, empty_is (entries q seen.plain).holders))
+    comes seen q c l h b is none = grind (arith, is, none, empty_is (entries q seen.plain).holders)
 
     releases : (q : ℕ) (c : FlagCall) (l : FlagPoint) (h : Option Hold) (w : Bool) (u : Option V) → StandsSo (flag_table v) (flag_notes v) holds_lock q c l h → (a : Answer V) × ((m.step w u c l h).next ≡ Answers a None)
     releases q Release l h w u so = (Done, refl)

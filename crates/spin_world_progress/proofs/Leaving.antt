@@ -1,5 +1,5 @@
 -- Two walks that locks share. Who holds as one of a kind leaves within two rounds, where such a holder does nothing but release: the holders leave side by side. And a party whose next step ends its call needs one round.
-use Rattle.spin_world_core.proofs.Names.{◌≡◌, ℕ, ◌≤◌, ◌⊎◌, ◌+◌, ◌++◌, Bool, true, false, Option, Some, None, List, [], ◌∷◌, length, slice_get, refl, ap, sym, ◌∙◌, subst, arith, inl, inr, ⊎_elim, cases_eq, false≢true, Change, apply_some, IsOpenStep, Entries, entries, entries-other, entries-own, Hold, Seat, Idle, Calling, Holding, Leaked, Next, Answers, Move, Step, Weak, Machine, goes_on, resting, may_read, after, at_first, Seen, scene, scene_at, opening, joined, seen_after, entries_of, StandsFor, Table, machine_of}
+use Rattle.spin_world_core.proofs.Names.{◌≡◌, ℕ, ◌≤◌, ◌⊎◌, ◌+◌, ◌++◌, Bool, true, false, Option, Some, None, List, [], ◌∷◌, length, slice_get, refl, ap, sym, ◌∙◌, subst, arith, inl, inr, ⊎_elim, cases_eq, false≢true, Change, apply_some, IsOpenStep, Entries, entries, entries-other, entries-own, Hold, Seat, Idle, Calling, Next, Answers, Move, Step, Weak, Machine, goes_on, resting, may_read, after, at_first, Seen, scene, scene_at, opening, joined, seen_after, entries_of, StandsFor, Table, machine_of}
 use Rattle.std.proofs.Common.{◌-◌}
 use Rattle.spin_step.specs.Parties.{no_entries, entries_after}
 use Rattle.spin_model.proofs.Lists.{get-set_same}
@@ -28,14 +28,6 @@ module _ {W V C L A : Type 0} (m : Machine W V C L A) (k : LocalInvariant V C L)
     pub weak : (seen : Seen W V C L) (c : C) (l : L) (h : Option Hold) (next : Next L A) → At seen c l h → m.refuse c l h ≡ Some next
         → let n = goes_on seen.state p c h next in goal p Weak n.outcome (slice_get n.next.seats p) ≡ true
 
-  busy_at : (seen : Seen W V C L) (o : Option (Seat C L)) → walk.AtSeat m k f ready seen o → is_busy o ≡ true
-  busy_at seen (Some (Calling c l h)) at = refl
-  busy_at seen (Some Idle) at = absurd at
-  busy_at seen (Some (Holding h)) at = absurd at
-  busy_at seen (Some (Leaked h)) at = absurd at
-  busy_at seen None at = absurd at
-  busy_at seen o at = absurd (grind (arith, at))
-
   ready_walks : Ready → walk.Walks m k f ready
   ready_walks r =
       record {
@@ -48,7 +40,7 @@ module _ {W V C L A : Type 0} (m : Machine W V C L A) (k : LocalInvariant V C L)
         refuses = λ seen c l h next good w there may. inl (r.weak seen c l h next (subst (walk.AtSeat m k f ready seen) there w) may);
         leaks = λ s o h. omega arith;
         beside = λ seen q c l h good w ne not_due there after. inr (refl, omega arith);
-        busy = λ seen good w some. busy_at seen _ w;
+        busy = λ seen good w some. walk.at_seat m k f ready (λ o. is_busy o ≡ true) seen (λ c l h at. refl) _ w;
       }
 
   pub in_one_round : Ready → (n : ℕ) (past : List (ℕ × Move C V)) (rounds : List (List (ℕ × Move C V))) → walk.Waits m k f ready (seen_after m (opening m n) past)
@@ -247,10 +239,9 @@ module _ {W V C L A : Type 0} (t : Table W V C L A) (n : Notes t) (f : Facts (ma
       alone = record { goal = goal; party = p; At = λ seen c l h. At c l h × ((q : ℕ) → holds q seen ≡ false); Fine = λ seen. Unit {0}; due = λ s o. p; rank = λ s o his. rank o }
 
       waits_so : (seen : World) (o : Option (Seat C L)) → walk.AtSeat m k f alone seen o → walk.AtSeat m k f (leaver p) seen o × ((q : ℕ) → holds q seen ≡ false) × (is_busy o ≡ true) × ((h : Option Hold) → o ≡ Some (resting h) → ⊥)
-      waits_so seen (Some (Calling c l h)) w = (w.0, w.1, refl, λ i e. calls_not i c l h (sym e))
-      waits_so seen (Some Idle) w = absurd w
-      waits_so seen (Some (Holding h)) w = absurd w
-      waits_so seen o w = absurd (grind (arith, w))
+      waits_so seen o w =
+          walk.at_seat m k f alone (λ u. walk.AtSeat m k f (leaver p) seen u × ((q : ℕ) → holds q seen ≡ false) × (is_busy u ≡ true) × ((h : Option Hold) → u ≡ Some (resting h) → ⊥)) seen
+          (λ c l h at. (at.0, at.1, refl, λ i e. calls_not i c l h (sym e))) o w
 
       none_left_after : (seen : World) → Invariant m k seen → walk.Waits m k f alone seen → (r : ℕ) (move : Move C V) → walk.Reaches m k f alone seen (scene m seen r move) ⊎ ((q : ℕ) → holds q (scene m seen r move).after ≡ false)
       none_left_after seen good w r move =
@@ -287,16 +278,10 @@ module _ {W V C L A : Type 0} (t : Table W V C L A) (n : Notes t) (f : Facts (ma
             busy = λ seen good w some. (waits_so seen _ w).2;
           }
 
-      waits_alone : (seen : World) (o : Option (Seat C L)) → walk.AtSeat m k f (leaver p) seen o → ((q : ℕ) → holds q seen ≡ false) → walk.AtSeat m k f alone seen o
-      waits_alone seen (Some (Calling c l h)) at none = (at, none)
-      waits_alone seen (Some Idle) at none = absurd at
-      waits_alone seen (Some (Holding h)) at none = absurd at
-      waits_alone seen o at none = absurd (grind (arith, at))
-
       then : (seen : World) → Invariant m k seen → Waits seen → ((q : ℕ) → holds q seen ≡ false) → (rounds : List (List (ℕ × Move C V))) → AreRounds m seen.state rounds → bound ≤ length rounds
           → occurs m goal seen.state (joined rounds) ≡ true
       then seen good w none rounds are long =
-          walk.from m k f alone alone_walks (λ seen good w. free.some (slice_get seen.state.seats p)) rounds seen good (waits_alone seen _ w none) tt are (omega (arith, long, free.few (slice_get seen.state.seats p)))
+          walk.from m k f alone alone_walks (λ seen good w. free.some (slice_get seen.state.seats p)) rounds seen good (walk.at_seat m k f (leaver p) (walk.AtSeat m k f alone seen) seen (λ c l h at. (at, none)) _ w) tt are (omega (arith, long, free.few (slice_get seen.state.seats p)))
 
       -- after two rounds nobody holds so, and the party that waits is free to go
       pub two_rounds : (number : ℕ) (past : List (ℕ × Move C V)) (rounds : List (List (ℕ × Move C V))) → Waits (seen_after m (opening m number) past) → AreRounds m (after m (at_first m number) past) rounds → 2 + bound ≤ length rounds

@@ -88,10 +88,10 @@ no_readers [] none = refl
 no_readers (h ∷ hs) none =
     grind (arith, none h.party, eqb_self h.party, sum_by-cons (λ (g : Holder). one_of reading g.kind) h hs, no_readers hs (λ q. rest_none q h hs (none q)))
 
-abbrev any_of : Kind → Entries → Bool
+abbrev pub any_of : Kind → Entries → Bool
 any_of kind e = list_any (λ h. same_kind kind h.kind) e.holders
 
-any_own : (kind : Kind) (q : ℕ) (hs : List Holder) → list_any (λ h. same_kind kind h.kind) (filter (λ h. h.party == q) hs) ≡ is_holder q kind hs
+pub any_own : (kind : Kind) (q : ℕ) (hs : List Holder) → list_any (λ h. same_kind kind h.kind) (filter (λ h. h.party == q) hs) ≡ is_holder q kind hs
 any_own kind q [] = refl
 any_own kind q (h ∷ hs) = grind (arith, any_own kind q hs)
 

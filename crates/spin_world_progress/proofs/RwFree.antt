@@ -1,7 +1,7 @@
 -- A read-write lock is free of deadlock: each round takes a move from those who hold. A reader is due first; where there is none, one party holds alone, and what it goes for is granted.
-use Rattle.spin_world_rw.proofs.Names.{◌≡◌, ℕ, ◌+◌, ◌≤◌, ◌==◌, Bool, true, false, Option, Some, None, List, [], ◌∷◌, length, slice_get, refl, ap, sym, ◌∙◌, arith, Plain, Kind, reading, upgradable, asking, writing, Holder, Change, gets, releases, turns, is_holder, count_kind, weight, rw_word, Entries, entries, apply_some, IsOpenStep, IsExclusive, is_empty}
+use Rattle.spin_world_rw.proofs.Names.{◌≡◌, ℕ, ◌+◌, ◌≤◌, ◌==◌, Bool, true, false, Option, Some, None, List, [], ◌∷◌, length, slice_get, refl, ap, sym, ◌∙◌, arith, Plain, Kind, reading, upgradable, Holder, Change, releases, turns, is_holder, count_kind, weight, rw_word, Entries, entries, apply_some, IsOpenStep, IsExclusive, is_empty}
 use Rattle.std.proofs.Common.{◌-◌, ◌⊎◌, ◌||◌, filter, not, subst, inl, inr, ⊎_elim, nat_lt, min, if◌then◌else◌}
-use Rattle.std.proofs.lemmas.Bool.{false≢true, lt-ltb, and_parts}
+use Rattle.std.proofs.lemmas.Bool.{lt-ltb, and_parts}
 use Rattle.std.proofs.lemmas.List.Sums.{sum_by-cons}
 use Rattle.std.specs.Prelude.{sum_by}
 use Rattle.std.specs.List.{list_any}
@@ -11,7 +11,6 @@ use Rattle.spin_step_more.specs.Readers.{read, read_upgradable, reader_limit}
 use Rattle.spin_model.specs.Acts.{is_waiting}
 use Rattle.spin_model.specs.declared.answer.Answer.{Answer}
 use Rattle.spin_model.specs.declared.place.Hold.{Hold}
-use Rattle.spin_model.specs.declared.place.Hold.TheVariants as hold
 use Rattle.spin_model.specs.declared.place.Seat.{Seat}
 use Rattle.spin_model.specs.declared.place.Seat.TheVariants.{Calling, Holding, Leaked}
 use Rattle.spin_model.specs.declared.step.Next.{Next}
@@ -31,7 +30,7 @@ use Rattle.spin_world_core.proofs.Reached.{calls, seat_is}
 use Rattle.spin_step_more.specs.declared.rw_calls.RwCall.{RwCall}
 use Rattle.spin_step_more.specs.declared.rw_calls.RwCall.TheVariants.{Read, UpgradeableRead, Write, Upgrade}
 use Rattle.spin_step_more.specs.declared.rw_calls.RwPoint.{RwPoint}
-use Rattle.spin_step_more.specs.declared.rw_calls.RwPoint.TheVariants.{First, Exchange, Asking}
+use Rattle.spin_step_more.specs.declared.rw_calls.RwPoint.TheVariants.{First, Exchange}
 use Rattle.spin_step_more.specs.RwCalls.{rw_table, rw_machine, asks_of}
 use Rattle.spin_world_rw.proofs.Owed.{rw_notes, rw_keeping, rw_facts}
 use Rattle.spin_world_progress.specs.Rounds.{Test, grants_any}
@@ -39,6 +38,7 @@ use Rattle.spin_world_progress.specs.Rw.{refuses_any, rounds_left, GrantsSomebod
 use Rattle.spin_world_progress.proofs.Endless.{at_last}
 use Rattle.spin_world_progress.proofs.Flag.{holds_lock}
 use Rattle.spin_world_progress.proofs.Progress.{is_busy}
+use Rattle.spin_world_progress.proofs.Rw.{any_of, any_own}
 use Rattle.spin_world_progress.proofs.Walk.{Wait}
 use Rattle.spin_world_progress.proofs.Walk as walk
 
@@ -81,9 +81,6 @@ rank_by (h ∷ hs) mine his = 2 + left (h ∷ hs) - in_call his
 kind_some : (k : Kind) → 2 ≤ rounds_left k
 kind_some k = grind arith
 
-left_some : (h : Holder) (hs : List Holder) → 2 ≤ left (h ∷ hs)
-left_some h hs = omega (arith, kind_some h.kind, sum_by-cons (λ (h : Holder). rounds_left h.kind) h hs)
-
 rank_most : (hs : List Holder) (mine his : Option RwSeat) → rank_by hs mine his ≤ 2 + left hs
 rank_most [] mine his = grind arith
 rank_most (h ∷ hs) mine his = grind arith
@@ -115,10 +112,6 @@ less_left s q step opens is = absurd (grind (arith, is))
 due_cases : (d : ℕ) (hs : List Holder) → (is_holder (due_of d hs) reading hs ≡ true) ⊎ ((count_kind reading hs ≡ 0) × (due_of d hs ≡ d))
 due_cases d [] = inr (refl, refl)
 due_cases d (h ∷ hs) = grind (arith, due_cases d hs, eqb_self h.party)
-
-any_own : (kind : Kind) (q : ℕ) (hs : List Holder) → list_any (λ h. same_kind kind h.kind) (filter (λ h. h.party == q) hs) ≡ is_holder q kind hs
-any_own kind q [] = refl
-any_own kind q (h ∷ hs) = grind (arith, any_own kind q hs)
 
 some_any : (kind : Kind) (xs : List Holder) → list_any (λ h. same_kind kind h.kind) xs ≡ true → not (is_empty xs) ≡ true
 some_any kind [] found = found
@@ -155,9 +148,6 @@ rank_less hs later i rest mine other his others some less = omega (arith, rank_m
 -- and then one holds alone
 one_alone : (s : Plain) → IsExclusive s → count_kind reading s.holders ≡ 0 → length s.holders ≤ 1
 one_alone s alone none = grind (arith, alone.writer, alone.one_upgradable, none, all_kinds s.holders, by_kinds upgrader s.holders)
-
-abbrev any_of : Kind → Entries → Bool
-any_of kind e = list_any (λ h. same_kind kind h.kind) e.holders
 
 module _ {V : Type 0} (v : V) (cap : ℕ) (some : 1 ≤ cap) where
   abbrev m : Machine ℕ V RwCall RwPoint (Answer V)
@@ -218,77 +208,32 @@ module _ {V : Type 0} (v : V) (cap : ℕ) (some : 1 ≤ cap) where
       sits_at : (test : Entries → Bool) (d : ℕ) → test (entries d s) ≡ true → Sits test d (slice_get seen.state.seats d)
       sits_at test d found = walk.sits_so (rw_table v cap) (rw_notes v cap) test d s (seen.span d) _ (good.parties d).stands (good.parties d).knows found
 
-      -- its own step
-      abbrev Stays : RwCall → RwPoint → Option Hold → Type 0
-      Stays c l h = Grants seen p c l h ⊎ ((i : RwPoint) × (slice_get (sc seen p c l h).after.state.seats p ≡ Some (Calling c i h)) × ((sc seen p c l h).after.plain ≡ s))
+      -- its own step: where it goes on, as the step function lets it in or does not
+      abbrev lets_by : RwCall → ℕ → Option ℕ
+      lets_by Read w = read cap w
+      lets_by UpgradeableRead w = read_upgradable cap w
+      lets_by c w = None
 
-      -- where the step function lets it in, or does not
-      own_read : (l : RwPoint) → slice_get seen.state.seats p ≡ Some (Calling Read l None) → (o : Option ℕ) → read cap seen.state.words ≡ o → Stays Read l None
-      own_read (Exchange k) there o is = exchange o is (seen.state.words == k) refl
-        where
-          exchange : (o : Option ℕ) → read cap seen.state.words ≡ o → (b : Bool) → (seen.state.words == k) ≡ b → Stays Read (Exchange k) None
-          exchange (Some w) is true same = inl (rw (same, is) refl)
-          exchange (Some w) is false same = inr (Exchange seen.state.words, rw (same, is) (get-set_same seen.state.seats p _ _ there), rw same refl)
-          exchange None is true same = inr (First, rw (same, is) (get-set_same seen.state.seats p _ _ there), rw (same, is) refl)
-          exchange None is false same = inr (First, rw (same, is) (get-set_same seen.state.seats p _ _ there), rw same refl)
-      own_read l there (Some w) is = inr (Exchange seen.state.words, grind (arith, is, get-set_same seen.state.seats p (Calling Read (Exchange seen.state.words) None) _ there), grind (arith, is))
-      own_read l there None is = inr (First, grind (arith, is, get-set_same seen.state.seats p (Calling Read First None) _ there), grind (arith, is))
+      abbrev onward : Option ℕ → RwPoint
+      onward (Some to) = Exchange seen.state.words
+      onward None = First
 
-      own_upgradable : (l : RwPoint) → slice_get seen.state.seats p ≡ Some (Calling UpgradeableRead l None) → (o : Option ℕ) → read_upgradable cap seen.state.words ≡ o → Stays UpgradeableRead l None
-      own_upgradable (Exchange k) there o is = exchange o is (seen.state.words == k) refl
-        where
-          exchange : (o : Option ℕ) → read_upgradable cap seen.state.words ≡ o → (b : Bool) → (seen.state.words == k) ≡ b → Stays UpgradeableRead (Exchange k) None
-          exchange (Some w) is true same = inl (rw (same, is) refl)
-          exchange (Some w) is false same = inr (Exchange seen.state.words, rw (same, is) (get-set_same seen.state.seats p _ _ there), rw same refl)
-          exchange None is true same = inr (First, rw (same, is) (get-set_same seen.state.seats p _ _ there), rw (same, is) refl)
-          exchange None is false same = inr (First, rw (same, is) (get-set_same seen.state.seats p _ _ there), rw same refl)
-      own_upgradable l there (Some w) is = inr (Exchange seen.state.words, grind (arith, is, get-set_same seen.state.seats p (Calling UpgradeableRead (Exchange seen.state.words) None) _ there), grind (arith, is))
-      own_upgradable l there None is = inr (First, grind (arith, is, get-set_same seen.state.seats p (Calling UpgradeableRead First None) _ there), grind (arith, is))
-
-      own_write : (l : RwPoint) → slice_get seen.state.seats p ≡ Some (Calling Write l None) → (b : Bool) → (seen.state.words == 0) ≡ b → Stays Write l None
-      own_write l there true is = inl (rw is refl)
-      own_write l there false is = inr (First, rw is (get-set_same seen.state.seats p _ _ there), rw is refl)
+      own_step : (c : RwCall) (l : RwPoint) (h : Option Hold) (o : Option ℕ) → lets_by c seen.state.words ≡ o → slice_get seen.state.seats p ≡ Some (Calling c l h) → at_come c l h
+          → Grants seen p c l h ⊎ ((slice_get (sc seen p c l h).after.state.seats p ≡ Some (Calling c (onward o) h)) × ((sc seen p c l h).after.plain ≡ s))
+      own_step c l h o is there at = grind (arith, at, is, get-set_same seen.state.seats p (Calling c (onward o) h) _ there)
 
       -- where nobody holds
-      abbrev Free : RwCall → RwPoint → Type 0
-      Free c l = Grants seen p c l None ⊎ ((slice_get (sc seen p c l None).after.state.seats p ≡ Some (Calling c (Exchange 0) None)) × ((sc seen p c l None).after.plain ≡ s) × (own_rank (Some (Calling c l None)) ≡ 2) × (own_rank (Some (Calling c (Exchange 0) None)) ≡ 1))
+      abbrev Free : RwCall → RwPoint → Option Hold → Type 0
+      Free c l h = Grants seen p c l h ⊎ ((slice_get (sc seen p c l h).after.state.seats p ≡ Some (Calling c (Exchange 0) h)) × ((sc seen p c l h).after.plain ≡ s) × (own_rank (Some (Calling c l h)) ≡ 2) × (own_rank (Some (Calling c (Exchange 0) h)) ≡ 1))
 
-      free_read : (l : RwPoint) → slice_get seen.state.seats p ≡ Some (Calling Read l None) → seen.state.words ≡ 0 → Free Read l
-      free_read (Exchange k) there zero = exchange (0 == k) refl
-        where
-          exchange : (b : Bool) → (0 == k) ≡ b → Free Read (Exchange k)
-          exchange true same = inl (rw (zero, same, reads) refl)
-          exchange false same = inr (rw (zero, same, reads) (get-set_same seen.state.seats p _ _ there), rw (zero, same) refl, grind (arith, same), refl)
-      free_read l there zero = inr (grind (arith, zero, reads, get-set_same seen.state.seats p (Calling Read (Exchange 0) None) _ there), grind (arith, zero), grind arith, refl)
+      free_step : (c : RwCall) (l : RwPoint) (h : Option Hold) → slice_get seen.state.seats p ≡ Some (Calling c l h) → at_come c l h → seen.state.words ≡ 0 → Free c l h
+      free_step c l h there at zero = grind (arith, at, zero, reads, reads_upgradable, get-set_same seen.state.seats p (Calling c (Exchange 0) h) _ there)
 
-      free_upgradable : (l : RwPoint) → slice_get seen.state.seats p ≡ Some (Calling UpgradeableRead l None) → seen.state.words ≡ 0 → Free UpgradeableRead l
-      free_upgradable (Exchange k) there zero = exchange (0 == k) refl
-        where
-          exchange : (b : Bool) → (0 == k) ≡ b → Free UpgradeableRead (Exchange k)
-          exchange true same = inl (rw (zero, same, reads_upgradable) refl)
-          exchange false same = inr (rw (zero, same, reads_upgradable) (get-set_same seen.state.seats p _ _ there), rw (zero, same) refl, grind (arith, same), refl)
-      free_upgradable l there zero = inr (grind (arith, zero, reads_upgradable, get-set_same seen.state.seats p (Calling UpgradeableRead (Exchange 0) None) _ there), grind (arith, zero), grind arith, refl)
-
-      no_words : s.holders ≡ [] → seen.state.words ≡ 0
-      no_words none = grind (arith, good.encodes, none)
-
-      free : (c : RwCall) (l : RwPoint) (h : Option Hold) → slice_get seen.state.seats p ≡ Some (Calling c l h) → at_come c l h → s.holders ≡ [] → walk.Own m k f x seen (sc seen p c l h)
-      free Read l None there at none = comes_free Read l at there none (free_read l there (no_words none))
-        where
-          comes_free : (c : RwCall) (l : RwPoint) → at_come c (Exchange 0) None → slice_get seen.state.seats p ≡ Some (Calling c l None) → s.holders ≡ [] → Free c l → walk.Own m k f x seen (sc seen p c l None)
-          comes_free c l at there none (inl reached) = inl reached
-          comes_free c l at there none (inr on) =
-              let y = sc seen p c l None in
-              inr (walk.waits_at m k f x y.after c (Exchange 0) None on.0 at, inl (omega (arith, rank_free y.after (ap (λ (z : Plain). z.holders) on.1 ∙ none) _ on.0, rank_free seen none _ there, on.2, on.3)))
-      free UpgradeableRead l None there at none = comes_free UpgradeableRead l at there none (free_upgradable l there (no_words none))
-        where
-          comes_free : (c : RwCall) (l : RwPoint) → at_come c (Exchange 0) None → slice_get seen.state.seats p ≡ Some (Calling c l None) → s.holders ≡ [] → Free c l → walk.Own m k f x seen (sc seen p c l None)
-          comes_free c l at there none (inl reached) = inl reached
-          comes_free c l at there none (inr on) =
-              let y = sc seen p c l None in
-              inr (walk.waits_at m k f x y.after c (Exchange 0) None on.0 at, inl (omega (arith, rank_free y.after (ap (λ (z : Plain). z.holders) on.1 ∙ none) _ on.0, rank_free seen none _ there, on.2, on.3)))
-      free Write l None there at none = inl (rw (no_words none) refl)
-      free c l h there at none = absurd (grind (arith, at))
+      free : (c : RwCall) (l : RwPoint) (h : Option Hold) → slice_get seen.state.seats p ≡ Some (Calling c l h) → at_come c l h → s.holders ≡ [] → Free c l h → walk.Own m k f x seen (sc seen p c l h)
+      free c l h there at none (inl reached) = inl reached
+      free c l h there at none (inr on) =
+          let y = sc seen p c l h in
+          inr (walk.waits_at m k f x y.after c (Exchange 0) h on.0 (come_on c l h (Exchange 0) at), inl (omega (arith, rank_free y.after (ap (λ (z : Plain). z.holders) on.1 ∙ none) _ on.0, rank_free seen none _ there, on.2, on.3)))
 
       word_is : (i : Holder) → s.holders ≡ i ∷ [] → seen.state.words ≡ weight i.kind
       word_is i one = let word : seen.state.words ≡ rw_word s = cc (good.encodes) in word ∙ (ap (λ hs. sum_by (λ (h : Holder). weight h.kind) hs) one ∙ omega (arith, sum_by-cons (λ (h : Holder). weight h.kind) i []))
@@ -300,20 +245,20 @@ module _ {V : Type 0} (v : V) (cap : ℕ) (some : 1 ≤ cap) where
           subst (Sits holds_lock d) (ap (slice_get seen.state.seats) (sym (ap (due_by p) is)) ∙ there)
           (sits_at holds_lock d (subst (λ xs. not (is_empty (filter (λ h. h.party == d) xs)) ≡ true) (sym is) (due_holds p i hs)))
 
-      held : (i : Holder) (hs : List Holder) → s.holders ≡ i ∷ hs → (c : RwCall) (l : RwPoint) (h : Option Hold) → slice_get seen.state.seats p ≡ Some (Calling c l h) → at_come c l h → Stays c l h → walk.Own m k f x seen (sc seen p c l h)
-      held i hs is c l h there at (inl reached) = inl reached
-      held i hs is c l h there at (inr on) =
+      held : (i : Holder) (hs : List Holder) → s.holders ≡ i ∷ hs → (c : RwCall) (l : RwPoint) (h : Option Hold) → slice_get seen.state.seats p ≡ Some (Calling c l h) → at_come c l h → walk.Own m k f x seen (sc seen p c l h)
+      held i hs is c l h there at =
+          let o = lets_by c seen.state.words in
+          ⊎_elim (λ (r : Grants seen p c l h). inl r)
+          (λ (on : (slice_get (sc seen p c l h).after.state.seats p ≡ Some (Calling c (onward o) h)) × ((sc seen p c l h).after.plain ≡ s)).
           inr (
-            walk.waits_at m k f x (sc seen p c l h).after c on.0 h on.1 (come_on c l h on.0 at),
-            inr (λ e. absurd (grind (arith, at, his_sits i hs is (Some (Calling c l h)) (ap (slice_get seen.state.seats) e ∙ there))), rw on.2 (refl, rank_set s.holders i hs _ _ _ is)),
-          )
+            walk.waits_at m k f x (sc seen p c l h).after c (onward o) h on.0 (come_on c l h (onward o) at),
+            inr (λ e. absurd (grind (arith, at, his_sits i hs is (Some (Calling c l h)) (ap (slice_get seen.state.seats) e ∙ there))), rw on.1 (refl, rank_set s.holders i hs _ _ _ is)),
+          ))
+          (own_step c l h o refl there at)
 
       own_by : (hs : List Holder) → s.holders ≡ hs → (c : RwCall) (l : RwPoint) (h : Option Hold) → slice_get seen.state.seats p ≡ Some (Calling c l h) → at_come c l h → walk.Own m k f x seen (sc seen p c l h)
-      own_by [] is c l h there at = free c l h there at is
-      own_by (i ∷ hs) is Read l None there at = held i hs is Read l None there at (own_read l there (read cap seen.state.words) refl)
-      own_by (i ∷ hs) is UpgradeableRead l None there at = held i hs is UpgradeableRead l None there at (own_upgradable l there (read_upgradable cap seen.state.words) refl)
-      own_by (i ∷ hs) is Write l None there at = held i hs is Write l None there at (own_write l there (seen.state.words == 0) refl)
-      own_by hs is c l h there at = absurd (grind (arith, at))
+      own_by [] is c l h there at = free c l h there at is (free_step c l h there at (grind (arith, good.encodes, is)))
+      own_by (i ∷ hs) is c l h there at = held i hs is c l h there at
 
       -- the step of the party that is due, by the kind that it holds
 
@@ -322,10 +267,7 @@ module _ {V : Type 0} (v : V) (cap : ℕ) (some : 1 ≤ cap) where
 
       alone_step : (kind : Kind) (q : ℕ) (c : RwCall) (l : RwPoint) (h : Option Hold) → seen.state.words ≡ weight kind → same_kind reading kind ≡ false → Sits (any_of kind) q (Some (Calling c l h))
           → Grants seen q c l h ⊎ (is_less (sc seen q c l h).change ≡ true)
-      alone_step reading q c l h word other so = absurd (grind (arith, other))
-      alone_step upgradable q c l h word other so = grind (arith, word, so)
-      alone_step asking q c l h word other so = grind (arith, word, so)
-      alone_step writing q c l h word other so = grind (arith, word, so)
+      alone_step kind q c l h word other so = grind (arith, word, other, so)
 
       leaves : (i : Holder) (hs : List Holder) → s.holders ≡ i ∷ hs → (c : RwCall) (l : RwPoint) (h : Option Hold) → walk.his m k f x seen ≡ Some (Calling c l h)
           → Grants seen (walk.due m k f x seen) c l h ⊎ (is_less (sc seen (walk.due m k f x seen) c l h).change ≡ true)

@@ -1,6 +1,6 @@
 -- Seats let somebody in within four rounds: those who sit leave within two, and a party that waits takes two to look and make its exchange.
 use Rattle.spin_world_core.proofs.Names.{◌≡◌, ℕ, ◌≤◌, ◌⊎◌, ◌==◌, Bool, true, false, Option, Some, None, List, nat_lt, slice_get, subst, sym, refl, arith, inl, inr, Plain, entries, Mark, Hold, Seat, Calling, Answers, Answer, Move, Step, after, at_first, Seen, Scene, scene_at, opening, seen_after, waits}
-use Rattle.std.proofs.Common.{◌-◌, if◌then◌else◌}
+use Rattle.std.proofs.Common.{◌-◌, ⊎_elim, if◌then◌else◌}
 use Rattle.spin_step.specs.Plain.{to_read}
 use Rattle.spin_step.specs.Parties.{entries_after}
 use Rattle.spin_step.proofs.Exclusive.{empty_is}
@@ -58,31 +58,21 @@ module _ (n : ℕ) (some : 1 ≤ n) where
   room : nat_lt 0 (seats n) ≡ true
   room = lt-ltb 0 (seats n) (omega (arith, some))
 
-  abbrev Goes : World → ℕ → SeatsPoint → Type 0
-  Goes seen p l = let x = sc seen p Enter l None in (goal p Step x.outcome (slice_get x.after.state.seats p) ≡ true) ⊎ ((i : SeatsPoint) × (slice_get x.after.state.seats p ≡ Some (Calling Enter i None)) × at_enter Enter i None)
+  abbrev Enters : World → ℕ → SeatsPoint → SeatsPoint → Type 0
+  Enters seen p l i = let x = sc seen p Enter l None in (goal p Step x.outcome (slice_get x.after.state.seats p) ≡ true) ⊎ (slice_get x.after.state.seats p ≡ Some (Calling Enter i None))
 
-  own : (seen : World) (p : ℕ) (l : SeatsPoint) → slice_get seen.state.seats p ≡ Some (Calling Enter l None) → (b : Bool) → nat_lt seen.state.words (seats n) ≡ b → Goes seen p l
-  own seen p First there true is = inr (Exchange seen.state.words, rw is (get-set_same seen.state.seats p (Calling Enter (Exchange seen.state.words) None) _ there), tt)
-  own seen p First there false is = inr (First, rw is (get-set_same seen.state.seats p (Calling Enter First None) _ there), tt)
-  own seen p (Exchange k) there b is = exchange b is (seen.state.words == k) refl
-    where
-      exchange : (b : Bool) → nat_lt seen.state.words (seats n) ≡ b → (same : Bool) → (seen.state.words == k) ≡ same → Goes seen p (Exchange k)
-      exchange true is true same = inl (rw (same, is) refl)
-      exchange true is false same = inr (Exchange seen.state.words, rw (same, is) (get-set_same seen.state.seats p (Calling Enter (Exchange seen.state.words) None) _ there), tt)
-      exchange false is true same = inr (First, rw (same, is) (get-set_same seen.state.seats p (Calling Enter First None) _ there), tt)
-      exchange false is false same = inr (First, rw (same, is) (get-set_same seen.state.seats p (Calling Enter First None) _ there), tt)
+  -- where it goes on, as there is room or not
+  abbrev onward : World → Bool → SeatsPoint
+  onward seen b = if b then Exchange seen.state.words else First
+
+  own : (seen : World) (p : ℕ) (l : SeatsPoint) → slice_get seen.state.seats p ≡ Some (Calling Enter l None) → (b : Bool) → nat_lt seen.state.words (seats n) ≡ b → Enters seen p l (onward seen b)
+  own seen p l there b is = grind (arith, is, get-set_same seen.state.seats p (Calling Enter (onward seen b) None) _ there)
 
   -- where nobody sits
   step : (seen : World) (p : ℕ) (l : SeatsPoint) → slice_get seen.state.seats p ≡ Some (Calling Enter l None) → seen.state.words ≡ 0
       → let x = sc seen p Enter l None in (goal p Step x.outcome (slice_get x.after.state.seats p) ≡ true)
-      ⊎ ((i : SeatsPoint) × (slice_get x.after.state.seats p ≡ Some (Calling Enter i None)) × at_enter Enter i None × (rank_by (Some (Calling Enter i None)) ≤ rank_by (Some (Calling Enter l None)) - 1))
-  step seen p First there is = inr (Exchange 0, rw (is, room) (get-set_same seen.state.seats p (Calling Enter (Exchange 0) None) _ there), tt, omega arith)
-  step seen p (Exchange k) there is = exchange (0 == k) refl
-    where
-      exchange : (same : Bool) → (0 == k) ≡ same → let x = sc seen p Enter (Exchange k) None in (goal p Step x.outcome (slice_get x.after.state.seats p) ≡ true)
-          ⊎ ((i : SeatsPoint) × (slice_get x.after.state.seats p ≡ Some (Calling Enter i None)) × at_enter Enter i None × (rank_by (Some (Calling Enter i None)) ≤ rank_by (Some (Calling Enter (Exchange k) None)) - 1))
-      exchange true same = inl (rw (is, same, room) refl)
-      exchange false same = inr (Exchange 0, rw (is, same, room) (get-set_same seen.state.seats p (Calling Enter (Exchange 0) None) _ there), tt, grind (arith, same))
+      ⊎ ((slice_get x.after.state.seats p ≡ Some (Calling Enter (Exchange 0) None)) × (rank_by (Some (Calling Enter (Exchange 0) None)) ≤ rank_by (Some (Calling Enter l None)) - 1))
+  step seen p l there is = grind (arith, is, room, get-set_same seen.state.seats p (Calling Enter (Exchange 0) None) _ there)
 
   -- a step that makes a holder is a grant
   comes : (seen : World) (q : ℕ) (c : SeatsCall) (l : SeatsPoint) (h : Option Hold) → holds_lock (entries q seen.plain) ≡ false
@@ -104,7 +94,7 @@ module _ (n : ℕ) (some : 1 ≤ n) where
       where
         own_at : (seen : World) (c : SeatsCall) (l : SeatsPoint) (h : Option Hold) → slice_get seen.state.seats p ≡ Some (Calling c l h) → at_enter c l h
             → let x = sc seen p c l h in (goal p Step x.outcome (slice_get x.after.state.seats p) ≡ true) ⊎ ((i : SeatsPoint) × (slice_get x.after.state.seats p ≡ Some (Calling c i h)) × at_enter c i h)
-        own_at seen Enter l None there at = own seen p l there (nat_lt seen.state.words (seats n)) refl
+        own_at seen Enter l None there at = let b = nat_lt seen.state.words (seats n) in ⊎_elim inl (λ on. inr (onward seen b, on, tt)) (own seen p l there b refl)
         own_at seen c l h there at = absurd (grind (arith, at))
 
         releases : (q : ℕ) (c : SeatsCall) (l : SeatsPoint) (h : Option Hold) (w : ℕ) (u : Option (Unit {0})) → StandsSo (seats_table n) (seats_notes n) holds_lock q c l h → (a : Answer (Unit {0})) × ((m.step w u c l h).next ≡ Answers a None)
@@ -117,7 +107,7 @@ module _ (n : ℕ) (some : 1 ≤ n) where
         step_at : (seen : World) (c : SeatsCall) (l : SeatsPoint) (h : Option Hold) → Invariant m k seen → slice_get seen.state.seats p ≡ Some (Calling c l h) → at_enter c l h → ((q : ℕ) → holds_lock (entries q seen.plain) ≡ false)
             → let x = sc seen p c l h in (goal p Step x.outcome (slice_get x.after.state.seats p) ≡ true)
             ⊎ ((i : SeatsPoint) × (slice_get x.after.state.seats p ≡ Some (Calling c i h)) × at_enter c i h × (rank_by (Some (Calling c i h)) ≤ rank_by (Some (Calling c l h)) - 1))
-        step_at seen Enter l None good there at none = step seen p l there (free_word seen good none)
+        step_at seen Enter l None good there at none = ⊎_elim inl (λ on. inr (Exchange 0, on.0, tt, on.1)) (step seen p l there (free_word seen good none))
         step_at seen c l h good there at none = absurd (grind (arith, at))
 
     enter_at : (c : SeatsCall) (l : SeatsPoint) (h : Option Hold) (s : Plain) (span : List Mark) → asks_of c h ≡ waits to_read → k.Knows c l h p s span → at_enter c l h

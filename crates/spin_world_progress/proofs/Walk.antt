@@ -73,6 +73,15 @@ module _ {W V C L A : Type 0} (m : Machine W V C L A) (k : LocalInvariant V C L)
   AtSeat seen (Some (Calling c l h)) = x.At seen c l h
   AtSeat seen _ = ⊥
 
+  -- what is so at each such seat
+  pub at_seat : (P : Option (Seat C L) → Type 0) (seen : World) → ((c : C) (l : L) (h : Option Hold) → x.At seen c l h → P (Some (Calling c l h))) → (o : Option (Seat C L)) → AtSeat seen o → P o
+  at_seat P seen calls (Some (Calling c l h)) at = calls c l h at
+  at_seat P seen calls (Some Idle) at = absurd at
+  at_seat P seen calls (Some (Holding h)) at = absurd at
+  at_seat P seen calls (Some (Leaked h)) at = absurd at
+  at_seat P seen calls (Some (Gone h)) at = absurd at
+  at_seat P seen calls None at = absurd at
+
   abbrev pub mine : World → Option (Seat C L)
   mine seen = slice_get seen.state.seats p
 
@@ -145,16 +154,8 @@ module _ {W V C L A : Type 0} (m : Machine W V C L A) (k : LocalInvariant V C L)
       h : Option Hold
       sits : mine seen ≡ Some (Calling c l h)
 
-    in_its : (o : Option (Seat C L)) → mine seen ≡ o → AtSeat seen o → InIts
-    in_its (Some (Calling c l h)) is at = record { c = c; l = l; h = h; sits = is }
-    in_its (Some Idle) is at = absurd at
-    in_its (Some (Holding h)) is at = absurd at
-    in_its (Some (Leaked h)) is at = absurd at
-    in_its (Some (Gone h)) is at = absurd at
-    in_its None is at = absurd at
-
     here : InIts
-    here = in_its (mine seen) refl w
+    here = at_seat (λ o. mine seen ≡ o → InIts) seen (λ c l h at is. record { c = c; l = l; h = h; sits = is }) (mine seen) w refl
 
     at_call : (c : C) (l : L) (h : Option Hold) → mine seen ≡ Some (Calling c l h) → x.At seen c l h
     at_call c l h there = subst (AtSeat seen) there w

@@ -1,5 +1,5 @@
 -- Progress of a read-write lock: how many rounds an upgrade waits at most.
-use Rattle.std.specs.Prelude.{◌≡◌, ℕ, ◌+◌, ◌≤◌, Bool, false, None, sum_by, ◌||◌, true, Option, Some, List, length, slice_get}
+use Rattle.std.specs.Prelude.{◌≡◌, ℕ, ◌+◌, ◌≤◌, false, None, sum_by, ◌||◌, true, Option, Some, List, length, slice_get}
 use Rattle.spin_step.specs.Plain.{Kind, reading, upgradable, asking, writing, is_holder}
 use Rattle.spin_model.specs.declared.answer.Answer.{Answer}
 use Rattle.spin_model.specs.declared.place.Hold.{Hold}

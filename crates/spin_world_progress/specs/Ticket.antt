@@ -16,7 +16,6 @@ use Rattle.spin_world_core.specs.Users.{seen_after}
 use Rattle.spin_model.specs.declared.ticket.TicketCall.{TicketCall}
 use Rattle.spin_model.specs.declared.ticket.TicketCall.TheVariants.{Lock}
 use Rattle.spin_model.specs.declared.ticket.TicketPoint.{TicketPoint}
-use Rattle.spin_model.specs.declared.ticket.TicketPoint.TheVariants.{Await}
 use Rattle.spin_model.specs.declared.ticket.TicketWords.{TicketWords}
 use Rattle.spin_world_ticket.specs.Turns.{waits_with}
 
@@ -51,10 +50,3 @@ MayBePassedOver {V} m first =
     (r : ℕ) → first + r < ticket_limit → (past : List (ℕ × Move TicketCall V)) × (rounds : List (List (ℕ × Move TicketCall V)))
     × (let s = after m (at_first m 2) past in
     (length rounds ≡ r) × ((l : TicketPoint) × (slice_get s.seats 0 ≡ Some (Calling Lock l None))) × AreRounds m s rounds × (occurs m (grants m 0) s (joined rounds) ≡ false))
-
--- The number of rounds is exact: behind one ticket three may not be enough
-abbrev pub ThreeAreNotEnough : {V : Type 0} → TicketMachine V → ℕ → Type 0
-ThreeAreNotEnough {V} m first =
-    (past : List (ℕ × Move TicketCall V)) × (rounds : List (List (ℕ × Move TicketCall V)))
-    × (let s = after m (at_first m 2) past in
-    (length rounds ≡ 3) × (slice_get s.seats 0 ≡ Some (Calling Lock (Await (s.words.serving + 1)) None)) × AreRounds m s rounds × (occurs m (grants m 0) s (joined rounds) ≡ false))

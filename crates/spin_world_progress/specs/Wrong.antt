@@ -1,5 +1,5 @@
 -- Wrong locks, and schedules in rounds that show what each lacks.
-use Rattle.std.specs.Prelude.{ℕ, ◌-◌, Bool, true, Option, Some, None, List, [], ◌∷◌}
+use Rattle.std.specs.Prelude.{ℕ, ◌-◌, Bool, true, Option, None, List, [], ◌∷◌}
 use Rattle.spin_step.specs.Plain.{asking, upgradable, weight, serves, turns}
 use Rattle.spin_model.specs.declared.answer.Answer.{Answer}
 use Rattle.spin_model.specs.declared.answer.Answer.TheVariants.{Done}
