@@ -1,10 +1,10 @@
-//! Schedules in rounds. Each meets the premises of a law of `spin_world_progress`, and reaches its bound. Begin with
-//! [`first_goal`].
+//! Schedules in rounds. Each meets the premises of a law of `spin_world_progress`, and reaches its bound, or comes as
+//! near to it as any schedule known. Begin with [`first_goal`].
 
 use crate::text::worlds::run;
 use spin_world::{
-    Answer, Fair, FairCall, Flag, FlagCall, Hold, Move, Object, OnceCall, OnceObject, Outcome,
-    Place, Rw, RwCall, Ticket, TicketCall, World,
+    Answer, BarrierCall, BarrierObject, Fair, FairCall, Flag, FlagCall, Hold, Move, Object,
+    OnceCall, OnceObject, Outcome, Place, Rw, RwCall, Ticket, TicketCall, World,
 };
 use spin_world_seats::{Seats, SeatsCall};
 use std::process::Abort;
@@ -45,6 +45,12 @@ impl Releases for SeatsCall {
 }
 
 impl<V: Copy> Releases for OnceCall<V> {
+    fn releases(self) -> bool {
+        false
+    }
+}
+
+impl Releases for BarrierCall {
     fn releases(self) -> bool {
         false
     }
@@ -92,8 +98,8 @@ where
     let mut number = 0;
     for round in rounds.iter() {
         number = usize::wrapping_add(number, 1);
-        let mut owing: [Option<Owed>; 2] = [None, None];
-        for party in 0..2 {
+        let mut owing: [Option<Owed>; 3] = [None, None, None];
+        for party in 0..3 {
             if party < parties {
                 owing[party] = due_in_round(rt, world.place(party));
             }
@@ -107,7 +113,7 @@ where
                 Outcome::Answered { answer, .. } => {
                     reached = reached
                         || ((party == counts || counts >= 10)
-                            && matches!(answer, Answer::Granted | Answer::Value(_)));
+                            && matches!(answer, Answer::Granted | Answer::Value(_) | Answer::Follower));
                     Some(Owed::Step)
                 }
                 Outcome::Begun => match action {
@@ -116,11 +122,11 @@ where
                 },
                 _ => None,
             };
-            if party < 2 && owing[party] == paid {
+            if party < 3 && owing[party] == paid {
                 owing[party] = None;
             }
         }
-        assert!(rt; owing[0].is_none() && owing[1].is_none(), "round {number}");
+        assert!(rt; owing == [None, None, None], "round {number}");
         if reached {
             return number;
         }
@@ -192,6 +198,25 @@ fn a_lock_alone_is_granted_in_the_third_round(rt: HostRuntime) {
     assert_eq!(&rt; first_goal(&rt, &mut world, 1, &past, &rounds, 0), 3);
 }
 
+/// Two tickets are taken in the rounds: the other's costs this one an exchange, and its own follows in the same round.
+#[test]
+fn a_lock_of_two_parties_is_granted_four_rounds_after_the_tickets(rt: HostRuntime) {
+    let mut world = World::new(rt.alloc(), Ticket::new(5, 0), 2).expect(&rt, "memory");
+    let past = [
+        (0, Move::Begin(TicketCall::Lock)),
+        (1, Move::Begin(TicketCall::Lock)),
+    ];
+    let rounds: [&[(usize, Move<TicketCall, u64>)]; 6] = [
+        &[(0, Move::Step), (1, Move::Step)],
+        &[(1, Move::Step), (0, Move::Step), (0, Move::Step)],
+        &[(0, Move::Step), (1, Move::Step)],
+        &[(0, Move::Step), (1, Move::Begin(TicketCall::Release))],
+        &[(0, Move::Step), (1, Move::Step)],
+        &[(0, Move::Step)],
+    ];
+    assert_eq!(&rt; first_goal(&rt, &mut world, 2, &past, &rounds, 0), 6);
+}
+
 #[test]
 fn a_starver_is_granted_in_the_fifth_round(rt: HostRuntime) {
     let mut world = World::new(rt.alloc(), Fair::new(5, 2, 1), 2).expect(&rt, "memory");
@@ -211,6 +236,141 @@ fn a_starver_is_granted_in_the_fifth_round(rt: HostRuntime) {
         &[(0, Move::Step)],
     ];
     assert_eq!(&rt; first_goal(&rt, &mut world, 2, &past, &rounds, 10), 5);
+}
+
+#[test]
+fn an_open_lock_that_registers_is_granted_in_the_fourth_round(rt: HostRuntime) {
+    let mut world = World::new(rt.alloc(), Fair::new(5, 1, 0), 2).expect(&rt, "memory");
+    let past = [
+        (1, Move::Begin(FairCall::TryLock)),
+        (1, Move::Step),
+        (0, Move::Begin(FairCall::Lock)),
+        (0, Move::Step),
+        (0, Move::Step),
+        (0, Move::Step),
+        (1, Move::Begin(FairCall::Release)),
+        (1, Move::Step),
+    ];
+    let rounds: [&[(usize, Move<FairCall, u64>)]; 4] = [
+        &[(0, Move::Step)],
+        &[(0, Move::Step)],
+        &[(0, Move::Step)],
+        &[(0, Move::Step)],
+    ];
+    assert_eq!(&rt; first_goal(&rt, &mut world, 2, &past, &rounds, 0), 4);
+}
+
+#[test]
+fn a_read_alone_is_granted_in_the_second_round(rt: HostRuntime) {
+    let mut world = World::new(rt.alloc(), Rw::new(5, 1), 1).expect(&rt, "memory");
+    let past = [(0, Move::Begin(RwCall::Read))];
+    let rounds: [&[(usize, Move<RwCall, u64>)]; 2] = [&[(0, Move::Step)], &[(0, Move::Step)]];
+    assert_eq!(&rt; first_goal(&rt, &mut world, 1, &past, &rounds, 10), 2);
+}
+
+#[test]
+fn a_read_beside_the_only_reader_is_granted_in_the_fourth_round(rt: HostRuntime) {
+    let mut world = World::new(rt.alloc(), Rw::new(5, 1), 2).expect(&rt, "memory");
+    let past = [
+        (1, Move::Begin(RwCall::TryRead)),
+        (1, Move::Step),
+        (1, Move::Step),
+        (0, Move::Begin(RwCall::Read)),
+    ];
+    let rounds: [&[(usize, Move<RwCall, u64>)]; 4] = [
+        &[(0, Move::Step), (1, Move::Begin(RwCall::Release))],
+        &[(0, Move::Step), (1, Move::Step)],
+        &[(0, Move::Step)],
+        &[(0, Move::Step)],
+    ];
+    assert_eq!(&rt; first_goal(&rt, &mut world, 2, &past, &rounds, 10), 4);
+}
+
+/// The readers leave side by side, and each costs the one that waits an exchange.
+#[test]
+fn a_read_beside_two_readers_is_granted_in_the_fourth_round(rt: HostRuntime) {
+    let mut world = World::new(rt.alloc(), Rw::new(5, 3), 3).expect(&rt, "memory");
+    let past = [
+        (1, Move::Begin(RwCall::Read)),
+        (1, Move::Step),
+        (1, Move::Step),
+        (2, Move::Begin(RwCall::Read)),
+        (2, Move::Step),
+        (2, Move::Step),
+        (0, Move::Begin(RwCall::Read)),
+    ];
+    let rounds: [&[(usize, Move<RwCall, u64>)]; 4] = [
+        &[
+            (0, Move::Step),
+            (1, Move::Begin(RwCall::Release)),
+            (1, Move::Step),
+            (2, Move::Begin(RwCall::Release)),
+        ],
+        &[(0, Move::Step), (2, Move::Step)],
+        &[(0, Move::Step)],
+        &[(0, Move::Step)],
+    ];
+    assert_eq!(&rt; first_goal(&rt, &mut world, 3, &past, &rounds, 10), 4);
+}
+
+/// The one that may upgrade tries to, until the reader has gone, and then downgrades.
+#[test]
+fn a_write_beside_one_that_may_upgrade_is_granted_in_the_sixth_round(rt: HostRuntime) {
+    let mut world = World::new(rt.alloc(), Rw::new(5, 3), 3).expect(&rt, "memory");
+    let past = [
+        (2, Move::Begin(RwCall::Read)),
+        (2, Move::Step),
+        (2, Move::Step),
+        (1, Move::Begin(RwCall::UpgradeableRead)),
+        (1, Move::Step),
+        (1, Move::Step),
+        (0, Move::Begin(RwCall::Write)),
+        (1, Move::Begin(RwCall::TryUpgrade)),
+    ];
+    let rounds: [&[(usize, Move<RwCall, u64>)]; 6] = [
+        &[
+            (0, Move::Step),
+            (1, Move::Step),
+            (1, Move::Begin(RwCall::TryUpgrade)),
+            (2, Move::Begin(RwCall::Release)),
+        ],
+        &[
+            (0, Move::Step),
+            (1, Move::Step),
+            (1, Move::Begin(RwCall::Downgrade)),
+            (2, Move::Step),
+        ],
+        &[(0, Move::Step), (1, Move::Step)],
+        &[(0, Move::Step), (1, Move::Begin(RwCall::Release))],
+        &[(0, Move::Step), (1, Move::Step)],
+        &[(0, Move::Step)],
+    ];
+    assert_eq!(&rt; first_goal(&rt, &mut world, 3, &past, &rounds, 10), 6);
+}
+
+/// The writer downgrades twice before it releases, and the reader that waits finds no room until then.
+#[test]
+fn a_read_beside_a_writer_is_granted_in_the_sixth_round(rt: HostRuntime) {
+    let mut world = World::new(rt.alloc(), Rw::new(5, 1), 2).expect(&rt, "memory");
+    let past = [
+        (1, Move::Begin(RwCall::Write)),
+        (1, Move::Step),
+        (0, Move::Begin(RwCall::Read)),
+        (1, Move::Begin(RwCall::DowngradeToUpgradeable)),
+    ];
+    let rounds: [&[(usize, Move<RwCall, u64>)]; 6] = [
+        &[
+            (0, Move::Step),
+            (1, Move::Step),
+            (1, Move::Begin(RwCall::Downgrade)),
+        ],
+        &[(0, Move::Step), (1, Move::Step)],
+        &[(0, Move::Step), (1, Move::Begin(RwCall::Release))],
+        &[(0, Move::Step), (1, Move::Step)],
+        &[(0, Move::Step)],
+        &[(0, Move::Step)],
+    ];
+    assert_eq!(&rt; first_goal(&rt, &mut world, 2, &past, &rounds, 10), 6);
 }
 
 #[test]
@@ -274,4 +434,17 @@ fn the_only_seat_is_granted_in_the_fourth_round(rt: HostRuntime) {
         &[(0, Move::Step)],
     ];
     assert_eq!(&rt; first_goal(&rt, &mut world, 2, &past, &rounds, 10), 4);
+}
+
+#[test]
+fn a_follower_leaves_in_the_first_round_of_a_full_group(rt: HostRuntime) {
+    let mut world = World::new(rt.alloc(), BarrierObject::new(2), 2).expect(&rt, "memory");
+    let past = [
+        (0, Move::Begin(BarrierCall::Wait)),
+        (0, Move::Step),
+        (1, Move::Begin(BarrierCall::Wait)),
+        (1, Move::Step),
+    ];
+    let rounds: [&[(usize, Move<BarrierCall, u64>)]; 1] = [&[(0, Move::Step)]];
+    assert_eq!(&rt; first_goal(&rt, &mut world, 2, &past, &rounds, 0), 1);
 }
