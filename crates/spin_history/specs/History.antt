@@ -1,36 +1,14 @@
--- What a log and its tokens own. The entries are kept as their codes, in an algebra that names no type parameter.
-use Rattle.std.specs.Prelude.{ℕ, List, [], map}
+-- What a closed log owns, and a log that no type names yet. What the others own is that of a trace.
+use Rattle.std.specs.Prelude.{ℕ, List, []}
 use base.Fraction.{full_share}
-use base.Stored.{Gv, Coded}
-use base.Growing.{Order, prefixes, latest, at_least}
-use base.Fml.{Share, Lft, Fml}
-use denote.Sharing.{one}
-
-abbrev pub itself : Coded Gv
-itself = record { code = λ g. g; inj = λ x y p. p }
-
-abbrev pub logs : Order (List Gv)
-logs = prefixes itself
-
--- a share of the right to append, which tells the entries
-abbrev pub log_part : {T : Type 0} → (T → Gv) → ℕ → List T → Share → Fml
-log_part c γ l q = latest logs q γ (map c l)
-
--- what a `&` to a log has: some share, for each reader
-abbrev pub log_shares : {T : Type 0} → (T → Gv) → ℕ → List T → Lft → Fml
-log_shares c γ l = one (log_part c γ l)
-
--- the whole right to append
-unfoldable pub log_owns : {T : Type 0} → (T → Gv) → ℕ → List T → Fml
-log_owns c γ l = latest logs full_share γ (map c l)
+use base.Stored.{Gv}
+use base.Growing.{latest}
+use base.Fml.{Fml}
+use Rattle.spin_core.specs.Logs.{logs, log_shares}
 
 -- a share for good: nobody has the whole right again
 unfoldable pub closed_owns : {T : Type 0} → (T → Gv) → ℕ → List T → Fml
 closed_owns c γ l = log_shares c γ l []
-
--- a lower bound
-unfoldable pub snapshot_owns : {T : Type 0} → (T → Gv) → ℕ → List T → Fml
-snapshot_owns c γ l = at_least logs γ (map c l)
 
 -- a log that no type names yet
 unfoldable pub blank_owns : ℕ → Fml

@@ -4,7 +4,8 @@ ghost use Rattle.std.specs.Prelude.{◌≡◌, ◌⊎◌, ℕ, List, [], ◌∷�
 ghost use Rattle.std.specs.Coded.{coded_list};
 ghost use mathlib.Core.List.{IsPrefix};
 ghost use denote.Sharing.{said};
-ghost use Rattle.spin_history.specs.History.{blank_owns, log_owns, log_shares, snapshot_owns, closed_owns};
+ghost use Rattle.spin_core.specs.Logs.{log_owns, log_shares, known_owns};
+ghost use Rattle.spin_history.specs.History.{blank_owns, closed_owns};
 
 use std::marker::{Brand, Model, PhantomData};
 
@@ -137,9 +138,9 @@ pub struct Snapshot<T, H: History> {
 }
 
 impl<T, H: History> Model for Snapshot<T, H> {
-    ghost also_owns = { λ snapshot. snapshot_owns T.row.coded.code H.name snapshot.entries };
+    ghost also_owns = { λ snapshot. known_owns T.row.coded.code H.name snapshot.entries };
 
-    ghost also_shares = { λ snapshot _ κ. said (snapshot_owns T.row.coded.code H.name snapshot.entries) κ };
+    ghost also_shares = { λ snapshot _ κ. said (known_owns T.row.coded.code H.name snapshot.entries) κ };
 }
 
 /// A log to which no thread appends any more. Every snapshot is a prefix of it.

@@ -1,4 +1,4 @@
-use Rattle.spin_history.proofs.Walk.{ℕ, [], ◌∷◌, refl, Val, SProp, id⊢, ftrue, ‵, raw, ◌⊛◌, some, later, ◌$◌, ◌∵◌, !, qed, by, keep, fjoin, pick, use0, await, no_more, and_then, returns, enter, alloc_all, pass_all, free_all, look_at, get, sets, agg, tables, owns, types_at, unit, nothing, Stays, walk_of, proved, token, Token, token_made, ends}
+use Rattle.spin_core.proofs.TraceWalk.{ℕ, [], ◌∷◌, refl, Val, SProp, id⊢, ftrue, ‵, raw, ◌⊛◌, some, later, ◌$◌, ◌∵◌, !, qed, by, keep, fjoin, pick, use0, await, no_more, and_then, returns, enter, alloc_all, pass_all, free_all, look_at, get, sets, agg, tables, owns, types_at, unit, nothing, Stays, walk_of, proved, token, Token, token_made, ends}
 use Rattle.spin_history.specs.History.{blank_owns}
 use Rattle.spin_history.proofs.Steps as steps
 use Rattle.spin_history.specs.contracts.history.BlankLog.new.{ended, clauses}

@@ -1,5 +1,5 @@
-use Rattle.spin_history.proofs.Walk.{[], ◌∷◌, refl, a_type, dcons, dnil, Val, inst_fn, SProp, emp, Fml, ftrue, fsep, flft, ‵, raw, ◌⊛◌, given, ◌$◌, ◌∵◌, !, qed, by, move, keep, drop, split, fsplit, fjoin, learn, use0, use1, no_more, and_then, returns, enter, alloc_all, pass_all, free_all, look_at, get, sets, agg, fact, fact_i, tables, yes, RattleType, owns, types_at, plain, unit, nothing, param, bounded, Tuple, Stays, stay_dropped, walk_of, Goes-dropped, proved, token, Token, token_told, token_made, ends}
-use Rattle.spin_history.specs.History.{log_owns}
+use Rattle.spin_core.proofs.TraceWalk.{[], ◌∷◌, refl, a_type, dcons, dnil, Val, inst_fn, SProp, emp, Fml, ftrue, fsep, flft, ‵, raw, ◌⊛◌, given, ◌$◌, ◌∵◌, !, qed, by, move, keep, drop, split, fsplit, fjoin, learn, use0, use1, no_more, and_then, returns, enter, alloc_all, pass_all, free_all, look_at, get, sets, agg, fact, fact_i, tables, yes, RattleType, owns, types_at, plain, unit, nothing, param, bounded, Tuple, Stays, stay_dropped, walk_of, Goes-dropped, proved, token, Token, token_told, token_made, ends}
+use Rattle.spin_core.specs.Logs.{log_owns}
 use Rattle.spin_history.proofs.Steps as steps
 use Rattle.spin_history.specs.contracts.history.BlankLog as BlankLog
 use Rattle.spin_history.specs.contracts.history.BlankLog.open.{ended, clauses}

@@ -1,4 +1,4 @@
-use Rattle.spin_history.proofs.Walk.{[], ◌∷◌, refl, a_type, dcons, dnil, named, Val, vptr, inst_fn, SProp, emp, Fml, ftrue, fsep, flft, fhide, ‵, raw, ◌⊛◌, ◌$◌, ◌∵◌, !, qed, by, move, keep, drop, split, fsplit, fjoin, use0, use1, no_more, and_then, returns, enter, alloc_all, pass_all, free_all, look_at, get, sets, agg, fact_i, tables, yes, RattleType, owns, types_at, plain, RefOf, shr_vals, shr_Tells, hidden_shr, unhide, nothing, param, bounded, Tuple, lent_out, Stays, stay_dropped, walk_of, Goes-dropped, proved, token, Token, token_made, ends}
+use Rattle.spin_core.proofs.TraceWalk.{[], ◌∷◌, refl, a_type, dcons, dnil, named, Val, vptr, inst_fn, SProp, emp, Fml, ftrue, fsep, flft, fhide, ‵, raw, ◌⊛◌, ◌$◌, ◌∵◌, !, qed, by, move, keep, drop, split, fsplit, fjoin, use0, use1, no_more, and_then, returns, enter, alloc_all, pass_all, free_all, look_at, get, sets, agg, fact_i, tables, yes, RattleType, owns, types_at, plain, RefOf, shr_vals, shr_Tells, hidden_shr, unhide, nothing, param, bounded, Tuple, lent_out, Stays, stay_dropped, walk_of, Goes-dropped, proved, token, Token, token_made, ends}
 use Rattle.core.specs.contracts.marker.PhantomData as marker
 use Rattle.spin_history.specs.History.{closed_owns}
 use Rattle.spin_history.specs.contracts.history.ClosedLog as ClosedLog

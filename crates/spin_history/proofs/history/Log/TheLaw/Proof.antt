@@ -8,7 +8,7 @@ use denote.Struct.Tuple.{Tuple}
 use denote.Struct.Laws.{field_copy}
 use denote.Struct.Lending.{of_Lends}
 use Rattle.core.specs.contracts.marker.PhantomData as marker
-use Rattle.spin_history.specs.History.{log_part}
+use Rattle.spin_core.specs.Logs.{log_part}
 use Rattle.spin_history.specs.declared.history.History.{Ghosts}
 use Rattle.spin_history.specs.contracts.history.Log as C
 use Rattle.spin_history.proofs.Steps.{log_lends}

@@ -1,4 +1,4 @@
-use Rattle.spin_history.proofs.Walk.{[], ◌∷◌, refl, a_type, dcons, dnil, Val, inst_fn, SProp, emp, Fml, ftrue, fsep, flft, ‵, raw, ◌⊛◌, later, ◌$◌, ◌∵◌, !, qed, by, move, keep, split, fsplit, fjoin, use0, use1, await, no_more, and_then, returns, enter, alloc_all, pass_all, free_all, look_at, get, sets, agg, fact_i, tables, no, RattleType, owns, types_at, plain, nothing, param, bounded, Tuple, Stays, stay_dropped, walk_of, Goes-dropped, proved, token, Token, token_told, token_made, ends}
+use Rattle.spin_core.proofs.TraceWalk.{[], ◌∷◌, refl, a_type, dcons, dnil, Val, inst_fn, SProp, emp, Fml, ftrue, fsep, flft, ‵, raw, ◌⊛◌, later, ◌$◌, ◌∵◌, !, qed, by, move, keep, split, fsplit, fjoin, use0, use1, await, no_more, and_then, returns, enter, alloc_all, pass_all, free_all, look_at, get, sets, agg, fact_i, tables, no, RattleType, owns, types_at, plain, nothing, param, bounded, Tuple, Stays, stay_dropped, walk_of, Goes-dropped, proved, token, Token, token_told, token_made, ends}
 use Rattle.spin_history.specs.History.{closed_owns}
 use Rattle.spin_history.proofs.Steps as steps
 use Rattle.spin_history.specs.contracts.history.Log as Log

@@ -1,6 +1,6 @@
-use Rattle.spin_history.proofs.Walk.{obor_close, shr_bor-open, ◌≡◌, List, [], ◌∷◌, refl, a_type, dcons, dnil, named, Val, vunit, vptr, inst_fn, SProp, emp, Fml, ftrue, fsep, flft, fhide, ‵, raw, ◌⊛◌, given, ◌$◌, ◌∵◌, !, qed, by, move, keep, drop, split, fsplit, fjoin, learn, use1, use2, feq_i, unit_lit, of_opd, returns, enter, alloc_all, pass_all, free_all, look_at, sets, fact_i, tables, yes, RattleType, owns, types_at, plain, RefOf, shr_vals, shr_Tells, hidden_shr, unhide, nothing, param, bounded, Tuple, lent_out, Stays, stay_dropped, walk_of, Goes-dropped, proved, Token, ends}
+use Rattle.spin_core.proofs.TraceWalk.{obor_close, shr_bor-open, ◌≡◌, List, [], ◌∷◌, refl, a_type, dcons, dnil, named, Val, vunit, vptr, inst_fn, SProp, emp, Fml, ftrue, fsep, flft, fhide, ‵, raw, ◌⊛◌, given, ◌$◌, ◌∵◌, !, qed, by, move, keep, drop, split, fsplit, fjoin, learn, use1, use2, feq_i, unit_lit, of_opd, returns, enter, alloc_all, pass_all, free_all, look_at, sets, fact_i, tables, yes, RattleType, owns, types_at, plain, RefOf, shr_vals, shr_Tells, hidden_shr, unhide, nothing, param, bounded, Tuple, lent_out, Stays, stay_dropped, walk_of, Goes-dropped, proved, Token, ends}
 use Rattle.core.specs.contracts.marker.PhantomData as marker
-use Rattle.spin_history.specs.History.{log_part, log_shares}
+use Rattle.spin_core.specs.Logs.{log_part, log_shares}
 use Rattle.spin_history.proofs.Steps as steps
 use Rattle.spin_history.specs.contracts.history.Log as Log
 use Rattle.spin_history.specs.contracts.history.Log.same.{ended, clauses}
