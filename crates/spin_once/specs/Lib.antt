@@ -1,5 +1,6 @@
 pub mod Model
 pub mod Once
+pub mod Foretold
 pub mod Claims
 pub mod Texts
 pub mod Lazy

@@ -27,7 +27,7 @@ abbrev pub point_at : Point → OncePoint
 point_at (at l) = l
 point_at failed = Run
 
-abbrev onward : Next OncePoint (Answer (Unit {0})) → Next Point (Answer (Unit {0}))
+abbrev pub onward : Next OncePoint (Answer (Unit {0})) → Next Point (Answer (Unit {0}))
 onward (Continue l) = Continue (at l)
 onward (Answers a h) = Answers a h
 

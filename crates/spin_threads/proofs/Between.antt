@@ -1,8 +1,8 @@
 -- Where the trace of a lock on threads is a run of its model, all that the model's laws say of that schedule holds of the lock.
-use Rattle.std.proofs.Common.{◌≡◌, ℕ, zero, suc, ◌+◌, Option, Some, None, List, [], ◌∷◌, ◌++◌, length, map, slice_get, refl, sym, ap, ◌∙◌, subst, arith}
+use Rattle.std.proofs.Common.{◌≡◌, ℕ, suc, ◌+◌, Option, Some, None, List, [], ◌∷◌, ◌++◌, length, map, slice_get, refl, sym, ap, ◌∙◌, subst, arith}
 use Rattle.std.specs.List.{All}
 use Rattle.std.proofs.lemmas.List.{append_assoc, append-nil, length-append}
-use Rattle.std.proofs.lemmas.List.Elements.{All-nil, All-cons, All-same}
+use Rattle.std.proofs.lemmas.List.Elements.{All-nil, All-cons, All-head, All-tail, All-same}
 use Rattle.spin_core.specs.Own.{Numbered, IsRun, present_from, kind}
 use Rattle.spin_core.specs.Run.{sits}
 use Rattle.spin_core.proofs.Runs.{get_seam}
@@ -49,3 +49,13 @@ module _ {W V C L A X S : Type 0} (m : Machine W V C L A) (seat_of : X → Seat 
         stand = All-same Stand parties (present_from 0 came) is (sit Stand 0 [] came refl (λ v at.
             reached.stands m k f n log v.1 (seat_of v.0) (ap (λ (s : State W V C L). slice_get s.seats v.1) (sym (reached.state_is m k f n log) ∙ state) ∙ ap (λ l. slice_get l v.1) (append-nil (seats came)) ∙ at)));
       }
+
+  -- it holds of the parties, whatever their marks count
+  pub of_counted : (log : List (Entry C V)) (words : ℕ × S) (marks : Numbered X → ℕ) (parties : List (Numbered X)) → Between m seat_of words_of log words (map (λ v. (v.0, v.1, marks v)) parties) → Between m seat_of words_of log words parties
+  of_counted log words marks parties is =
+      record { came = is.came; seen = is.seen; led = is.led; encodes = is.encodes; words_are = is.words_are; exclusive = is.exclusive; stand = each (λ v. StandsFor is.seen.plain v.1 (is.seen.span v.1) (Some (seat_of v.0))) (λ v so. so) parties is.stand }
+    where
+      each : (P : Numbered X → Type 0) → ((v : Numbered X) → P (v.0, v.1, marks v) → P v) → (vs : List (Numbered X)) → All P (map (λ v. (v.0, v.1, marks v)) vs) → All P vs
+      each P so [] all = All-nil P
+      each P so (v ∷ vs) all =
+          All-cons P v vs (so v (All-head P (v.0, v.1, marks v) (map (λ v. (v.0, v.1, marks v)) vs) all)) (each P so vs (All-tail P (v.0, v.1, marks v) (map (λ v. (v.0, v.1, marks v)) vs) all))

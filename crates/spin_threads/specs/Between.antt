@@ -1,7 +1,6 @@
 -- What holds of a lock between any two steps of the threads that use it.
-use Rattle.std.specs.Prelude.{◌≡◌, ℕ, List, [], ◌∷◌, Some, map}
+use Rattle.std.specs.Prelude.{◌≡◌, ℕ, List, Some}
 use Rattle.std.specs.List.{All}
-use Rattle.spin_step.specs.Plain.{Plain}
 use Rattle.spin_step.specs.Parties.{IsExclusive}
 use Rattle.spin_core.specs.Own.{Numbered}
 use Rattle.spin_model.specs.declared.place.Seat.{Seat}

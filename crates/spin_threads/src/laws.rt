@@ -1,11 +1,15 @@
 //! One law for each lock. Each is the contract of a function that does nothing: a caller calls it for what it states.
-ghost use Rattle.std.specs.Prelude.{ℕ, List};
+ghost use Rattle.std.specs.Prelude.{ℕ, List, Option};
 ghost use Rattle.spin_core.specs.Own.{Numbered};
 ghost use Rattle.spin_core.specs.declared.trace.Trace.{Trace};
 ghost use Rattle.spin_fair.specs.Fair as fair_mutex;
 ghost use Rattle.spin_fair.specs.declared.fair.rule.View.{View as FairMutexView};
 ghost use Rattle.spin_flag.specs.Flag as spin_mutex;
 ghost use Rattle.spin_flag.specs.declared.spin.rule.View.{View as SpinMutexView};
+ghost use Rattle.spin_model.specs.Once.{once_machine};
+ghost use Rattle.spin_once.specs.Foretold.{foretold, place_of};
+ghost use Rattle.spin_once.specs.Once as once;
+ghost use Rattle.spin_once.specs.declared.once_core.rule.View.{View as OnceView};
 ghost use Rattle.spin_rwlock.specs.Rw as rwlock;
 ghost use Rattle.spin_rwlock.specs.declared.rwlock.rule.View.{View as RwLockView};
 ghost use Rattle.spin_seats.specs.Rule as seats;
@@ -72,4 +76,18 @@ pub fn between_any_two_steps_of_seats()
 /// None: nobody calls a law.
 pub fn between_any_two_steps_of_a_rwlock()
     ensures { (name word : ℕ) (trace : Trace rwlock.Done (Unit {0})) (parties : List (Numbered RwLockView)) → rwlock.IsRw name word trace parties → Between rwlock.model rwlock.seat_of rwlock.words_of trace.entries (word, trace.word) parties }
+{}
+
+/// Between any two steps of the threads that use a `Once` or a `LazyLock`, its word is 0 where there is nothing, 1 while
+/// one closure runs, and 2 where there is a value. At most one closure runs, and none where there is a value. Each call
+/// has in it what its type says.
+///
+/// # Contract
+/// `Between`, of the schedule of the object that the moves are which the cell keeps (`foretold`), with the cell's word
+/// and parties. `given` is the value that the cell was made with, or none.
+///
+/// # Examples
+/// None: nobody calls a law.
+pub fn between_any_two_steps_of_a_once()
+    ensures { (given : Option (Unit {0})) (name word : ℕ) (trace : Trace once.Made (Unit {0})) (parties : List (Numbered OnceView)) → once.IsOnce given name word trace parties → Between (once_machine given) place_of once.words_of (foretold trace.entries) (word, trace.word) parties }
 {}

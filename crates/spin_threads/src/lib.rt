@@ -8,7 +8,7 @@
 mod laws;
 
 pub use laws::{
-    between_any_two_steps_of_a_fair_mutex, between_any_two_steps_of_a_rwlock,
-    between_any_two_steps_of_a_spin_mutex, between_any_two_steps_of_a_ticket_mutex,
-    between_any_two_steps_of_seats,
+    between_any_two_steps_of_a_fair_mutex, between_any_two_steps_of_a_once,
+    between_any_two_steps_of_a_rwlock, between_any_two_steps_of_a_spin_mutex,
+    between_any_two_steps_of_a_ticket_mutex, between_any_two_steps_of_seats,
 };

@@ -1,0 +1,225 @@
+-- A run of a `Once` on threads is a schedule of its object: it leads to the same words and value, and to the same seats, in which each call is named by whether its closure will fail.
+use Rattle.std.proofs.Common.{◌≡◌, ℕ, zero, suc, ◌+◌, ◌≤◌, ◌==◌, if◌then◌else◌, Bool, true, false, ◌&&◌, Option, Some, None, List, [], ◌∷◌, ◌++◌, length, map, take, drop, replicate, slice_get, slice_set, refl, sym, ap, ◌∙◌, subst, arith, eq-eqb, ne_eqb, eqb-true}
+use Rattle.std.specs.Option.{option_map}
+use Rattle.std.specs.List.{list_all}
+use Rattle.std.proofs.lemmas.Bool.{and_parts, eqb-false}
+use Rattle.spin_model.specs.declared.once.OnceCall.TheVariants.{TryCallOnceOk}
+use Rattle.spin_model.specs.declared.once.OncePoint.{OncePoint}
+use Rattle.spin_model.specs.declared.once.OncePoint.TheVariants.{Run}
+use Rattle.spin_model.specs.declared.place.Hold.{Hold}
+use Rattle.spin_model.specs.declared.place.Seat.{Seat}
+use Rattle.spin_model.specs.declared.place.Seat.TheVariants.{Idle, Calling}
+use Rattle.spin_model.specs.declared.schedule.Move.TheVariants.{Begin, Step, Weak}
+use Rattle.spin_model.specs.Schedules.{after, happens, moves, moves_at, at_first}
+use Rattle.spin_model.proofs.Lists.{get-set_same}
+use Rattle.spin_core.specs.Own.{Numbered, IsRun, Rested, present_from, kind, entries_by}
+use Rattle.spin_core.specs.Run.{is_of_call, is_played, outcomes, IsPlayed, LeadsTo, sits}
+use Rattle.spin_once.specs.Foretold.{fails_by, will_fail, named, told_of, foretold, place_of, counted}
+use Rattle.spin_once.specs.Model.{Point, at, failed}
+use Rattle.spin_once.specs.Once.{OneMove, Made, seat_of, words_of}
+use Rattle.spin_once.specs.declared.once_core.rule.View.{View}
+use Rattle.spin_once.specs.declared.once_core.rule.View.TheVariants as view
+use Rattle.spin_once.specs.declared.once_core.rule.View.TheVariants.{Reading, InCall}
+use Rattle.spin_once.proofs.Resting.{Call, World, rests, rests_after}
+use Rattle.spin_once.proofs.Named.{Object, seat_named, seats_named, object, Alike, renamed, t, m, named_get, named_set, named_alike, named_idle, put_same, moves_alike}
+
+module _ (given : Option (Unit {0})) where
+  -- a party that is in no call takes no step, and no closure of it fails, before it begins one
+  own_quiet : (s : World) (q : ℕ) (move : OneMove) (later : Bool) (o : Option (Seat Call Point)) → rests o ≡ true → is_played (moves_at (m given) s q move o).outcome ≡ true → ((is_of_call move ≡ true → ⊥) → later ≡ false)
+      → fails_by move later ≡ false
+  own_quiet s q (Begin c) later o is played still = refl
+  own_quiet s q Step later (Some (Calling c l h)) is played still = absurd (let d : false ≡ true = is in cc)
+  own_quiet s q Weak later (Some (Calling c l h)) is played still = absurd (let d : false ≡ true = is in cc)
+  own_quiet s q Step later None is played still = absurd (let d : false ≡ true = played in cc)
+  own_quiet s q Step later (Some _) is played still = absurd (let d : false ≡ true = played in cc)
+  own_quiet s q Weak later None is played still = absurd (let d : false ≡ true = played in cc)
+  own_quiet s q Weak later (Some _) is played still = absurd (let d : false ≡ true = played in cc)
+  own_quiet s q _ later o is played still = still (λ e. absurd (let d : false ≡ true = e in cc))
+
+  quiet_by : (s : World) (q p : ℕ) (move : OneMove) (later : Bool) → rests (slice_get s.seats p) ≡ true → is_played (happens (m given) s q move).outcome ≡ true → ((is_of_call move ≡ true → q ≡ p → ⊥) → later ≡ false)
+      → (b : Bool) → (q == p) ≡ b → (if b then fails_by move later else later) ≡ false
+  quiet_by s q p move later is played still true same =
+      let e : q ≡ p = eqb-true q p same in
+      own_quiet s q move later (slice_get s.seats q) (rw e is) played (λ no. still (λ own k. no own))
+  quiet_by s q p move later is played still false other = still (λ own e. eqb-false q p other e)
+
+  quiet : (es : List Made) (s : World) (p : ℕ) → list_all is_played (outcomes (m given) s es) ≡ true → rests (slice_get s.seats p) ≡ true → will_fail es p ≡ false
+  quiet [] s p played is = refl
+  quiet (e ∷ es) s p played is =
+      let s' : World = (happens (m given) s e.0 e.1).next in
+      let each = and_parts (is_played (happens (m given) s e.0 e.1).outcome) (list_all is_played (outcomes (m given) s' es)) played in
+      quiet_by s e.0 p e.1 (will_fail es p) is each.0 (λ ne. quiet es s' p each.1 (rests_after given s e.0 p is e.1 (slice_get s.seats e.0) ne)) (e.0 == p) refl
+
+  -- from this state the object is led by these entries to that state, and passes none over
+  abbrev Leads : Object → List Made → Object → Type 0
+  Leads o es end = (after (t given) o es ≡ end) × (list_all is_played (outcomes (t given) o es) ≡ true)
+
+  abbrev Ends : World → List Made → Type 0
+  Ends s es = Leads (object (will_fail es) s) (foretold es) (object (λ p. false) (after (m given) s es))
+
+  at_alike : (f : ℕ → Bool) (s : World) (p : ℕ) (move : OneMove) (o : Option (Seat Call Point)) → slice_get s.seats p ≡ o → (rests (slice_get (moves_at (m given) s p move o).next.seats p) ≡ true → f p ≡ false) → (move ≡ Weak → ⊥)
+      → Alike f (moves_at (m given) s p move o) (moves_at (t given) (object f s) p (renamed move (f p)) (option_map (λ x. seat_named x (f p)) o))
+  at_alike f s p move None there still ne = (refl, refl)
+  at_alike f s p move (Some y) there still ne = moves_alike given f s p move y there still ne
+
+  happens_alike : (f : ℕ → Bool) (s : World) (p : ℕ) (move : OneMove) → (rests (slice_get (happens (m given) s p move).next.seats p) ≡ true → f p ≡ false) → (move ≡ Weak → ⊥)
+      → Alike f (happens (m given) s p move) (happens (t given) (object f s) p (renamed move (f p)))
+  happens_alike f s p move still ne = rw (named_get f s.seats p) (at_alike f s p move (slice_get s.seats p) refl still ne)
+
+  -- the closure fails: in the object the call was named so from its beginning
+  failed_seats : (f g : ℕ → Bool) (xs : List (Seat Call Point)) (p : ℕ) (v : Unit {0}) (h : Option Hold) → slice_get xs p ≡ Some (Calling (TryCallOnceOk v) (at Run) h) → f p ≡ true → ((q : ℕ) → (p ≡ q → ⊥) → f q ≡ g q)
+      → seats_named f xs ≡ seats_named g (slice_set xs p (Calling (TryCallOnceOk v) failed h))
+  failed_seats f g xs p v h there fails others =
+      let y : Seat Call Point = Calling (TryCallOnceOk v) failed h in
+      sym (put_same (seats_named f xs) p (seat_named y (f p)) (named_get f xs p ∙ ap (option_map (λ x. seat_named x (f p))) there ∙ ap (λ b. Some (seat_named (Calling (TryCallOnceOk v) (at Run) h) b)) fails))
+      ∙ sym (named_set f xs p y)
+      ∙ named_alike f g (slice_set xs p y) (λ q x e. by_place q x e (p == q) refl)
+    where
+      by_place : (q : ℕ) (x : Seat Call Point) → slice_get (slice_set xs p (Calling (TryCallOnceOk v) failed h)) q ≡ Some x → (b : Bool) → (p == q) ≡ b → seat_named x (f q) ≡ seat_named x (g q)
+      by_place q x e true same =
+          let k : p ≡ q = eqb-true p q same in let d : Some x ≡ Some (Calling (TryCallOnceOk v) failed h) = sym e ∙ ap (slice_get (slice_set xs p (Calling (TryCallOnceOk v) failed h))) (sym k) ∙ get-set_same xs p (Calling (TryCallOnceOk v) failed h) (Calling (TryCallOnceOk v) (at Run) h) there in
+          let i : x ≡ Calling (TryCallOnceOk v) failed h = cc (d) in rw i refl
+      by_place q x e false other = ap (seat_named x) (others q (eqb-false p q other))
+
+  weak_alike : (s : World) (p : ℕ) (es : List Made) (o : Option (Seat Call Point)) → slice_get s.seats p ≡ o → is_played (moves_at (m given) s p Weak o).outcome ≡ true
+      → object (will_fail ((p, Weak) ∷ es)) s ≡ object (will_fail es) (moves_at (m given) s p Weak o).next
+  weak_alike s p es (Some (Calling (TryCallOnceOk v) (at Run) h)) there played =
+      ap (λ xs. let o : Object = record { words = s.words; value = s.value; seats = xs } in o) (failed_seats (will_fail ((p, Weak) ∷ es)) (will_fail es) s.seats p v h there (rw (eq-eqb p p refl) refl) (λ q ne. rw (ne_eqb p q ne) refl))
+  weak_alike s p es _ there played = absurd (let d : false ≡ true = played in cc)
+
+  -- what comes later says of another party what it said, and of a party that rests nothing
+  named_later : (s : World) (p : ℕ) (move : OneMove) (es : List Made) (o : Option (Seat Call Point)) → slice_get s.seats p ≡ o → is_played (moves_at (m given) s p move o).outcome ≡ true → (move ≡ Weak → ⊥)
+      → object (will_fail ((p, move) ∷ es)) s ≡ object (will_fail es) s
+  named_later s p move es o there played ne =
+      ap (λ xs. let o : Object = record { words = s.words; value = s.value; seats = xs } in o) (named_alike (will_fail ((p, move) ∷ es)) (will_fail es) s.seats (λ q x e. by_place q x e (p == q) refl))
+    where
+      own_place : (move : OneMove) (x : Seat Call Point) (later : Bool) → is_played (moves (m given) s p move x).outcome ≡ true → (move ≡ Weak → ⊥) → seat_named x (fails_by move later) ≡ seat_named x later
+      own_place (Begin c) (Calling d l h) later is ne = absurd (let d : false ≡ true = is in cc)
+      own_place (Begin c) _ later is ne = refl
+      own_place Weak x later is ne = absurd (ne refl)
+      own_place _ x later is ne = refl
+
+      by_place : (q : ℕ) (x : Seat Call Point) → slice_get s.seats q ≡ Some x → (b : Bool) → (p == q) ≡ b → seat_named x (if b then fails_by move (will_fail es q) else will_fail es q) ≡ seat_named x (will_fail es q)
+      by_place q x e false other = refl
+      by_place q x e true same =
+          let k : p ≡ q = eqb-true p q same in let i : o ≡ Some x = sym there ∙ ap (slice_get s.seats) k ∙ e in
+          own_place move x (will_fail es q) (subst (λ u. is_played (moves_at (m given) s p move u).outcome ≡ true) i played) ne
+
+  both_true : (a b : Bool) → a ≡ true → b ≡ true → (a && b) ≡ true
+  both_true a b is also = rw (is, also) refl
+
+  other_alike : (s : World) (p : ℕ) (move : OneMove) (es : List Made) → is_played (happens (m given) s p move).outcome ≡ true → list_all is_played (outcomes (m given) (happens (m given) s p move).next es) ≡ true → (move ≡ Weak → ⊥)
+      → Ends (happens (m given) s p move).next es
+      → Leads (object (will_fail ((p, move) ∷ es)) s) ((p, renamed move (will_fail es p)) ∷ foretold es) (object (λ q. false) (after (m given) s ((p, move) ∷ es)))
+  other_alike s p move es head tail ne ends =
+      let s' : World = (happens (m given) s p move).next in
+      let alike = happens_alike (will_fail es) s p move (λ still. quiet es s' p tail still) ne in
+      subst (λ o. Leads o ((p, renamed move (will_fail es p)) ∷ foretold es) (object (λ q. false) (after (m given) s' es))) (sym (named_later s p move es (slice_get s.seats p) refl head ne))
+      (ap (λ o. after (t given) o (foretold es)) alike.0 ∙ ends.0, both_true _ _ (alike.1 ∙ head) (ap (λ o. list_all is_played (outcomes (t given) o (foretold es))) alike.0 ∙ ends.1))
+
+  run_alike : (es : List Made) (s : World) → list_all is_played (outcomes (m given) s es) ≡ true → Ends s es
+  run_alike [] s played = (refl, refl)
+  run_alike (e ∷ es) s played =
+      let s' : World = (happens (m given) s e.0 e.1).next in
+      let each = and_parts (is_played (happens (m given) s e.0 e.1).outcome) (list_all is_played (outcomes (m given) s' es)) played in
+      one_more s e.0 e.1 es each.0 each.1 (run_alike es s' each.1)
+    where
+      one_more : (s : World) (p : ℕ) (move : OneMove) (es : List Made) → is_played (happens (m given) s p move).outcome ≡ true → list_all is_played (outcomes (m given) (happens (m given) s p move).next es) ≡ true
+          → Ends (happens (m given) s p move).next es → Ends s ((p, move) ∷ es)
+      one_more s p Weak es head tail ends = subst (λ o. Leads o (foretold es) (object (λ q. false) (after (m given) s ((p, Weak) ∷ es)))) (sym (weak_alike s p es (slice_get s.seats p) refl head)) ends
+      one_more s p move es head tail ends = other_alike s p move es head tail (λ e. absurd (cc e)) ends
+
+-- ---- from the beginning to where all parties stand between two steps
+named_kept : (c : Call) → named c false ≡ c
+named_kept (TryCallOnceOk v) = refl
+named_kept c = refl
+
+module _ (given : Option (Unit {0})) where
+  abbrev sitting : List (Option View) → List (Seat Call Point)
+  sitting came = map (sits (m given) seat_of words_of) came
+
+  abbrev placed_at : List (Option View) → List (Seat Call OncePoint)
+  placed_at came = map (sits (t given) place_of words_of) came
+
+  places : (came : List (Option View)) (more : ℕ) → seats_named (λ p. false) (sitting came ++ replicate more Idle) ≡ placed_at came ++ replicate more Idle
+  places [] more = named_idle (λ p. false) more
+  places (None ∷ came) more = ap (λ ys. Idle ∷ ys) (places came more)
+  places (Some view.Idle ∷ came) more = ap (λ ys. Idle ∷ ys) (places came more)
+  places (Some Reading ∷ came) more = ap (λ ys. Idle ∷ ys) (places came more)
+  places (Some (InCall c l) ∷ came) more = ap (λ d. Calling d l None ∷ seats_named (λ p. false) (sitting came ++ replicate more Idle)) (named_kept c) ∙ ap (λ ys. Calling c l None ∷ ys) (places came more)
+
+  first_named : (f : ℕ → Bool) (n : ℕ) → object f (at_first (m given) n) ≡ at_first (t given) n
+  first_named f n = ap (λ xs. let o : Object = record { words = (t given).words; value = (t given).value; seats = xs } in o) (named_idle f n)
+
+  leads : (log : List Made) (w : ℕ) (value : Option (Unit {0})) (came : List (Option View)) → LeadsTo (m given) seat_of words_of log w value came → IsPlayed (m given) (length came) log
+      → LeadsTo (t given) place_of words_of (foretold log) w value came × IsPlayed (t given) (length came) (foretold log)
+  leads log w value came led played = (
+    λ more. ap (λ o. after (t given) o (foretold log)) (sym (first_named (will_fail log) (length came + more))) ∙ (run_alike given log (at_first (m given) (length came + more)) (played more)).0 ∙ ap (object (λ p. false)) (led more)
+        ∙ ap (λ xs. let o : Object = record { words = w; value = value; seats = xs } in o) (places came more),
+    λ more. ap (λ o. list_all is_played (outcomes (t given) o (foretold log))) (sym (first_named (will_fail log) (length came + more))) ∙ (run_alike given log (at_first (m given) (length came + more)) (played more)).1,
+  )
+
+-- ---- the marks of the parties
+abbrev Came : Type 0
+Came = Option (View × ℕ)
+
+abbrev marked : List Made → Came → Came
+marked log None = None
+marked log (Some u) = Some (u.0, length (foretold (take u.1 log)))
+
+kinds_marked : (log : List Made) (came : List Came) → map kind (map (marked log) came) ≡ map kind came
+kinds_marked log [] = refl
+kinds_marked log (None ∷ came) = ap (λ us. None ∷ us) (kinds_marked log came)
+kinds_marked log (Some u ∷ came) = ap (λ us. Some u.0 ∷ us) (kinds_marked log came)
+
+present_marked : (log : List Made) (k : ℕ) (came : List Came) → map (counted log) (present_from k came) ≡ present_from k (map (marked log) came)
+present_marked log k [] = refl
+present_marked log k (None ∷ came) = present_marked log (suc k) came
+present_marked log k (Some u ∷ came) = ap (λ vs. (u.0, k, length (foretold (take u.1 log))) ∷ vs) (present_marked log (suc k) came)
+
+-- what the object's schedule has after a part of the list
+cut : (n : ℕ) (es : List Made) → drop (length (foretold (take n es))) (foretold es) ≡ foretold (drop n es)
+cut zero es = refl
+cut (suc n) [] = refl
+cut (suc n) (e ∷ es) = cut_by e.0 e.1 (will_fail (take n es) e.0) (will_fail es e.0) (foretold (take n es)) (foretold es) (foretold (drop n es)) (cut n es)
+  where
+    cut_by : (p : ℕ) (move : OneMove) (a b : Bool) (xs ys zs : List Made) → drop (length xs) ys ≡ zs → drop (length (told_of p move a xs)) (told_of p move b ys) ≡ zs
+    cut_by p Weak a b xs ys zs is = is
+    cut_by p _ a b xs ys zs is = is
+
+fewer : (n : ℕ) (es : List Made) → length (foretold (take n es)) ≤ length (foretold es)
+fewer zero es = omega arith
+fewer (suc n) [] = omega arith
+fewer (suc n) (e ∷ es) = fewer_by e.0 e.1 (will_fail (take n es) e.0) (will_fail es e.0) (foretold (take n es)) (foretold es) (fewer n es)
+  where
+    fewer_by : (p : ℕ) (move : OneMove) (a b : Bool) (xs ys : List Made) → length xs ≤ length ys → length (told_of p move a xs) ≤ length (told_of p move b ys)
+    fewer_by p Weak a b xs ys is = is
+    fewer_by p _ a b xs ys is = omega (arith, is)
+
+none_told : (q : ℕ) (es : List Made) → entries_by q es ≡ [] → entries_by q (foretold es) ≡ []
+none_told q [] is = refl
+none_told q (e ∷ es) is = none_by (e.0 == q) refl e.1 (will_fail es e.0) is (λ none. none_told q es none)
+  where
+    none_by : (b : Bool) → (e.0 == q) ≡ b → (move : OneMove) (fails : Bool) → (if b then e ∷ entries_by q es else entries_by q es) ≡ [] → (entries_by q es ≡ [] → entries_by q (foretold es) ≡ [])
+        → entries_by q (told_of e.0 move fails (foretold es)) ≡ []
+    none_by true same move fails none later = absurd (cc none)
+    none_by false other Weak fails none later = later none
+    none_by false other _ fails none later = rw other (later none)
+
+rested_marked : (log : List Made) (k : ℕ) (came : List Came) → Rested log k came → Rested (foretold log) k (map (marked log) came)
+rested_marked log k [] is = λ q ge. none_told q log (is q ge)
+rested_marked log k (None ∷ came) is = rested_marked log (suc k) came is
+rested_marked log k (Some u ∷ came) is = ((fewer u.1 log, ap (entries_by k) (cut u.1 log) ∙ none_told k (drop u.1 log) is.0.1), rested_marked log (suc k) came is.1)
+
+pub is_run : (given : Option (Unit {0})) (log : List Made) (s : ℕ × Unit {0}) (parties : List (Numbered View)) → IsRun (m given) seat_of words_of log s parties → IsRun (t given) place_of words_of (foretold log) s (map (counted log) parties)
+is_run given log s parties (came, w, value, is, words_is, led, played, rested) =
+    let both = leads given log w value (map kind came) led played in (
+      map (marked log) came,
+      w,
+      value,
+      ap (map (counted log)) is ∙ present_marked log 0 came,
+      words_is,
+      subst (λ us. LeadsTo (t given) place_of words_of (foretold log) w value us) (sym (kinds_marked log came)) both.0,
+      subst (λ us. IsPlayed (t given) (length us) (foretold log)) (sym (kinds_marked log came)) both.1,
+      rested_marked log 0 came rested,
+    )
