@@ -1,3 +1,7 @@
 pub mod Bystanders
 pub mod Making
 pub mod Sharing
+mod LatchKnown
+mod Latches
+mod LatchSteps
+mod LatchOwed

@@ -1,11 +1,12 @@
-//! Tests of the step functions and of the raw cell; and small locks on the cell, one for each way in which parties may
-//! read a value beside one another.
+//! Tests of the step functions and of the raw cell; small locks on the cell, one for each way in which parties may read
+//! a value beside one another; and a whole lock for many readers or one writer, with its model and its object.
 #![tactic(auto)]
 
 #[cfg(test)]
 mod cell;
 #[cfg(test)]
 mod equal;
+pub mod latch;
 mod once;
 mod pair;
 #[cfg(test)]

@@ -1,0 +1,230 @@
+-- The steps of a latch keep its rule: each is the plain step of its step function, and moves of the latch's model.
+use Rattle.std.proofs.Common.{◌≡◌, ◌≢◌, ℕ, ◌+◌, ◌-◌, ◌<◌, ◌≤◌, ◌%◌, ◌^◌, ◌==◌, Bool, true, false, if◌then◌else◌, List, [], ◌∷◌, Option, Some, None, refl, sym, ap, ◌∙◌, arith, ne_eqb}
+use prog.Atomic.{either}
+use Rattle.spin_step.specs.Plain.{Plain, Kind, reading, writing, Ask, apply, gets, releases, to_read, to_write}
+use Rattle.spin_step.specs.Parties.{IsExclusive, entries_after}
+use Rattle.spin_step.specs.Steps.{Decides}
+use Rattle.spin_step.specs.Orders.{IsInOrder}
+use Rattle.spin_step.proofs.Holders.{is_holder-from_entries}
+use Rattle.spin_step.proofs.Sums.{one_of, by_kinds, all_kinds, sum-less}
+use Rattle.spin_core.specs.Cell.{Ways, lends, writes, Meets, Allows, Rests, Moved}
+use Rattle.spin_core.specs.Own.{Numbered, what}
+use Rattle.spin_core.specs.Run.{AreMoves, on_first, first, outcomes, alone, of_one, sits as seat_at}
+use Rattle.spin_core.specs.Traced.{Traces, Watches}
+use Rattle.spin_core.specs.Views.{Knows, holds, entries_of, part_at, idle, no_word}
+use Rattle.spin_core.specs.declared.trace.Trace.{Trace}
+use Rattle.spin_core.specs.declared.trace.Watch.{Watch}
+use Rattle.spin_core.proofs.Leaving.{sum-up, NamesNobody, no_word-up}
+use Rattle.spin_core.proofs.Owners.{OfReaders, readers_or_writer}
+use Rattle.spin_core.proofs.Plays as plays
+use Rattle.spin_core.proofs.Plays.{Lock, ways, allows, by_exchange, by_step, by_grant, by_none, begins}
+use Rattle.spin_core.proofs.Ties as tie
+use Rattle.spin_core.proofs.Views.{part_before, release-own}
+use Rattle.spin_model.specs.declared.answer.Answer.TheVariants.{Done}
+use Rattle.spin_model.specs.declared.schedule.Move.TheVariants.{Begin, Step}
+use Rattle.spin_model.specs.declared.schedule.Outcome.TheVariants.{Begun, Answered}
+use Rattle.spin_core_tests.specs.declared.latch.calls.LatchCall.TheVariants as call
+use Rattle.spin_core_tests.specs.declared.latch.rule.View.{View}
+use Rattle.spin_core_tests.specs.declared.latch.rule.View.TheVariants.{Idle, Reading, Writing, Coming, WaitingToRead, WaitingToWrite}
+use Rattle.spin_core_tests.specs.Latch.{latch_limit, latch_weight, latch_word, let_in}
+use Rattle.spin_core_tests.specs.LatchTable.{latch_machine}
+use Rattle.spin_core_tests.specs.LatchRule as rule
+use Rattle.spin_core_tests.specs.LatchRule.{part, IsWord, IsLatch, OneMove, Ending, Leads, seat_of, words_of, use_of_view, use_of_party, gone, at_word, leads_by, either_at, reads_by, MayLook, MayWrite}
+
+-- The record of the lock
+
+kind : (v : View) → OfReaders part v
+kind Reading = (λ p. refl, λ p. refl)
+kind Writing = (λ p. refl, λ p. refl)
+kind _ = (λ p. refl, λ p. refl)
+
+latch_word-up : NamesNobody latch_word
+latch_word-up k s = sum-up k latch_weight s.holders
+
+abbrev latch : Lock View (Unit {0})
+latch = record {
+  part = part;
+  uses = use_of_view;
+  idle = Idle;
+  is_idle = (refl, refl);
+  way = lends;
+  goes = λ u v readers A a. a;
+  cap = latch_limit;
+  first = latch_word;
+  second = no_word;
+  fits = readers_or_writer part kind latch_limit (omega arith) (omega arith);
+  names_nobody = (latch_word-up, no_word-up);
+}
+
+-- no sum wraps below the limit
+bounded : (s : Plain) → s.cap ≡ latch_limit → IsInOrder s → latch_word s < 2 ^ 63
+bounded s room order = omega (arith, by_kinds latch_weight s.holders, all_kinds s.holders, order.holders_fit, room)
+
+-- The plain step of each
+
+abbrev swaps : ℕ → ℕ → ℕ → ℕ
+swaps old new w = either (w == old) new w
+
+abbrev Grants : Ask → ℕ → ℕ → Type 0
+Grants ask old new = (s : Plain) (p : ℕ) → IsExclusive s → s.cap ≡ latch_limit → latch_word s ≡ old → Decides s (gets p ask) latch_word (Some new)
+
+-- a party that looks has nothing before it and nothing after it
+looks_at : (view : Option View) (to : ℕ → View) → part_before part view ≡ idle → ((w : ℕ) → part (to w) ≡ idle) → Allows IsWord (ways latch) view (λ w. w) (λ w v. v ≡ to w)
+looks_at view to nothing none = allows latch view (λ w. w) (λ w v. v ≡ to w) (λ s p room order has.
+    (to (latch_word s), by_none latch view (to (latch_word s)) s p (ap (entries_of p) (nothing ∙ sym (none (latch_word s)))) (rw (none (latch_word s)) tt), refl))
+
+-- it gets what it asks for where it finds the number of which the step function was asked
+exchanges_at : (view : Option View) (ask : Ask) (won : View) (lost : ℕ → View) (old new : ℕ) → part_before part view ≡ idle → ((w : ℕ) → part (lost w) ≡ idle) → ((s : Plain) (p : ℕ) → entries_after s (Some (gets p ask)) (entries_of p idle) ≡ entries_of p (part won)) → ((s : Plain) → Knows s (part won))
+    → Grants ask old new → Allows IsWord (ways latch) view (swaps old new) (λ w v. v ≡ (if w == old then won else lost w))
+exchanges_at view ask won lost old new nothing none comes knows plain = allows latch view (swaps old new) (λ w v. v ≡ (if w == old then won else lost w)) (λ s p room order has.
+    let none_there = none (latch_word s) in
+    by_exchange latch view won (lost (latch_word s)) s p (latch_word s) tt old new
+    (λ e. by_grant latch view won s p ask new tt (plain s p order.exclusive room e) (ap (λ x. entries_after s (Some (gets p ask)) (entries_of p x)) nothing ∙ comes s p) (knows (apply s (gets p ask))) refl)
+    (by_none latch view (lost (latch_word s)) s p (ap (entries_of p) (nothing ∙ sym none_there)) (rw none_there tt)))
+
+abbrev Weighs : ℕ → ℕ → Type 0
+Weighs k w = (k ≤ w) × (w < 2 ^ 63)
+
+leaves_at : (v : View) (k : Kind) → part v ≡ holds k → Allows IsWord (ways latch) (Some v) (λ w. (w + (2 ^ 64 - latch_weight k)) % 2 ^ 64) (λ w v. Weighs (latch_weight k) w × (v ≡ Idle))
+leaves_at v k is = allows latch (Some v) (λ w. (w + (2 ^ 64 - latch_weight k)) % 2 ^ 64) (λ w v. Weighs (latch_weight k) w × (v ≡ Idle)) (λ s p room order has.
+    let stands = is_holder-from_entries p k s.holders (ap (λ e. e.holders) (has.0 ∙ ap (entries_of p) is)) in
+    let small = bounded s room order in let less = sum-less latch_weight p k s.holders stands in (
+      Idle,
+      by_step latch (Some v) Idle s (releases p k) ((latch_word s + (2 ^ 64 - latch_weight k)) % 2 ^ 64) tt stands (ap (λ x. entries_after s (Some (releases p k)) (entries_of p x)) is ∙ release-own s p k) tt
+          (omega (arith, less, small)) refl,
+      ((omega (arith, less), small), refl),
+    ))
+
+has_none : (waits : Bool) (w : ℕ) → part (at_word waits w) ≡ idle
+has_none waits w = grind arith
+
+may_look : (view : Option View) → MayLook view → part_before part view ≡ idle
+may_look None may = refl
+may_look (Some WaitingToRead) may = refl
+may_look (Some _) may = absurd may
+
+may_write : (view : Option View) → MayWrite view → part_before part view ≡ idle
+may_write None may = refl
+may_write (Some WaitingToWrite) may = refl
+may_write (Some _) may = absurd may
+
+-- The moves of each: a call of the model and its steps, or a step of a call that has begun
+
+abbrev Moves : Option View → (ℕ → ℕ) → (ℕ → View → Type 0) → (ℕ → View) → Type 0
+Moves view f says to = AreMoves latch_machine seat_of words_of view (on_first f) first says (leads_by to)
+
+-- what these moves come to, of a party of this view that is alone
+abbrev ends : Option View → ℕ → Option (Unit {0}) → List OneMove → List Ending
+ends view w value own = outcomes latch_machine (alone latch_machine seat_of words_of w value (seat_at latch_machine seat_of words_of view)) (of_one latch_machine seat_of words_of own)
+
+abbrev To : (ℕ → View) → ℕ → View → Type 0
+To to w v = v ≡ to w
+
+try_moves : Moves None (λ w. w) (To (at_word false)) (at_word false)
+try_moves w value v is = let own = Begin call.TryRead ∷ Step ∷ [] in (own, ends None w value own, is, refl, grind arith, w, value, grind (arith, is), refl, refl)
+
+look_moves : (view : Option View) → MayLook view → Moves view (λ w. w) (To (at_word true)) (at_word true)
+look_moves None may w value v is = let own = Begin call.Read ∷ Step ∷ [] in (own, ends None w value own, is, refl, grind arith, w, value, grind (arith, is), refl, refl)
+look_moves (Some WaitingToRead) may w value v is = let own = Step ∷ [] in (own, ends (Some WaitingToRead) w value own, is, refl, grind arith, w, value, grind (arith, is), refl, refl)
+look_moves (Some _) may w value v is = absurd may
+
+read_moves : (old new : ℕ) (waits : Bool) → Some new ≡ let_in old → Moves (Some (Coming waits old)) (swaps old new) (To (reads_by old (Some (Coming waits old)))) (reads_by old (Some (Coming waits old)))
+read_moves old new true free w value v is = let own = Step ∷ [] in (own, ends (Some (Coming true old)) w value own, is, refl, grind (arith, free), swaps old new w, value, grind (arith, free, is), refl, refl)
+read_moves old new false free w value v is = let own = Step ∷ [] in (own, ends (Some (Coming false old)) w value own, is, refl, grind (arith, free), swaps old new w, value, grind (arith, free, is), refl, refl)
+
+try_write_moves : Moves None (swaps 0 1) (To (either_at 0 Writing Idle)) (either_at 0 Writing Idle)
+try_write_moves w value v is = let own = Begin call.TryWrite ∷ Step ∷ [] in (own, ends None w value own, is, refl, grind arith, swaps 0 1 w, value, grind (arith, is), grind arith, refl)
+
+write_moves : (view : Option View) → MayWrite view → Moves view (swaps 0 1) (To (either_at 0 Writing WaitingToWrite)) (either_at 0 Writing WaitingToWrite)
+write_moves None may w value v is = let own = Begin call.Write ∷ Step ∷ [] in (own, ends None w value own, is, refl, grind arith, swaps 0 1 w, value, grind (arith, is), grind arith, refl)
+write_moves (Some WaitingToWrite) may w value v is = let own = Step ∷ [] in (own, ends (Some WaitingToWrite) w value own, is, refl, grind arith, swaps 0 1 w, value, grind (arith, is), grind arith, refl)
+write_moves (Some _) may w value v is = absurd may
+
+less_by : (w k : ℕ) → Weighs k w → (w + (2 ^ 64 - k)) % 2 ^ 64 ≡ w - k
+less_by w k some = omega (arith, some.0, some.1)
+
+reader_moves : Moves (Some Reading) (λ w. (w + (2 ^ 64 - 2)) % 2 ^ 64) (λ w v. Weighs 2 w × (v ≡ Idle)) (λ w. Idle)
+reader_moves w value v is = rw is.1 (Begin call.ReleaseRead ∷ Step ∷ [], Begun ∷ Answered Done None ∷ [], refl, refl, refl, w - 2, value, refl, refl, rw (less_by w 2 is.0) refl)
+
+writer_moves : Moves (Some Writing) (λ w. (w + (2 ^ 64 - 1)) % 2 ^ 64) (λ w v. Weighs 1 w × (v ≡ Idle)) (λ w. Idle)
+writer_moves w value v is = rw is.1 (Begin call.ReleaseWrite ∷ Step ∷ [], Begun ∷ Answered Done None ∷ [], refl, refl, refl, w - 1, value, refl, refl, rw (less_by w 1 is.0) refl)
+
+-- Each step keeps the rule, and appends its moves
+
+abbrev own_ways : Ways (Unit {0}) (Numbered View)
+own_ways = (lends, use_of_party)
+
+-- a call whose word lets readers in is at that word
+is_coming : (old new : ℕ) (waits : Bool) (view : Option View) → Some new ≡ let_in old → view ≡ Some (at_word waits old) → view ≡ Some (Coming waits old)
+is_coming old new waits view free is = grind (arith, free, is)
+
+is_writing : (v : View) → use_of_view v ≡ writes → v ≡ Writing
+is_writing Writing e = refl
+is_writing _ e = absurd cc
+
+module _ (name : ℕ) where
+  abbrev Keeps : Option (Numbered View) → (ℕ → ℕ) → (ℕ → View) → Type 0
+  Keeps view f to = Traces (IsLatch name) own_ways view None f (Leads to view)
+
+  keeps : (view : Option (Numbered View)) (f : ℕ → ℕ) (says : ℕ → View → Type 0) (to : ℕ → View) → Moves (what view) f says to → Allows IsWord (ways latch) (what view) f says → Keeps view f to
+  keeps view f says to moves step = tie.traces latch_machine seat_of words_of IsWord name (Unit {0}) lends use_of_view view None f says (leads_by to) moves step
+
+  pub opens : (t : Trace rule.Done (Unit {0})) → t.name ≡ name → t.entries ≡ [] → Meets (IsLatch name) own_ways 0 t []
+  opens t named empty = tie.opens latch_machine seat_of words_of IsWord name (Unit {0}) lends use_of_view 0 t named empty refl (begins latch 0 0 0 tt (omega arith) refl refl)
+
+  pub tries : Keeps None (λ w. w) (at_word false)
+  tries = keeps None (λ w. w) (To (at_word false)) (at_word false) try_moves (looks_at None (at_word false) refl (has_none false))
+
+  pub looks : (view : Option (Numbered View)) → MayLook (what view) → Keeps view (λ w. w) (at_word true)
+  looks view may = keeps view (λ w. w) (To (at_word true)) (at_word true) (look_moves (what view) may) (looks_at (what view) (at_word true) (may_look (what view) may) (has_none true))
+
+  pub comes : (old new : ℕ) (waits : Bool) → Grants to_read old new → Some new ≡ let_in old → (view : Option (Numbered View)) → what view ≡ Some (at_word waits old) → Keeps view (swaps old new) (reads_by old (what view))
+  comes old new waits plain free view is = let at = is_coming old new waits (what view) free is in let to = reads_by old (Some (Coming waits old)) in
+      rw at (keeps view (swaps old new) (To to) to (rw at (read_moves old new waits free)) (rw at (exchanges_at (Some (Coming waits old)) to_read Reading (at_word waits) old new refl (has_none waits) (λ s p. refl) (λ s. tt) plain)))
+
+  pub tries_to_write : Grants to_write 0 1 → Keeps None (swaps 0 1) (either_at 0 Writing Idle)
+  tries_to_write plain = keeps None (swaps 0 1) (To (either_at 0 Writing Idle)) (either_at 0 Writing Idle) try_write_moves (exchanges_at None to_write Writing (λ w. Idle) 0 1 refl (λ w. refl) (λ s p. refl) (λ s. tt) plain)
+
+  pub writes_on : Grants to_write 0 1 → (view : Option (Numbered View)) → MayWrite (what view) → Keeps view (swaps 0 1) (either_at 0 Writing WaitingToWrite)
+  writes_on plain view may = let to = either_at 0 Writing WaitingToWrite in
+      keeps view (swaps 0 1) (To to) to (write_moves (what view) may) (exchanges_at (what view) to_write Writing (λ w. WaitingToWrite) 0 1 (may_write (what view) may) (λ w. refl) (λ s p. refl) (λ s. tt) plain)
+
+  pub reader_leaves : (view : Option (Numbered View)) → what view ≡ Some Reading → Keeps view (λ w. (w + (2 ^ 64 - 2)) % 2 ^ 64) (λ w. Idle)
+  reader_leaves view is = keeps view (λ w. (w + (2 ^ 64 - 2)) % 2 ^ 64) (λ w v. Weighs 2 w × (v ≡ Idle)) (λ w. Idle) (rw is reader_moves) (rw is (leaves_at Reading reading refl))
+
+  pub writer_leaves : (v : Numbered View) → use_of_party v ≡ writes → Keeps (Some v) (λ w. (w + (2 ^ 64 - 1)) % 2 ^ 64) (λ w. Idle)
+  writer_leaves v held = let is = is_writing v.0 held in keeps (Some v) (λ w. (w + (2 ^ 64 - 1)) % 2 ^ 64) (λ w v. Weighs 1 w × (v ≡ Idle)) (λ w. Idle) (rw is writer_moves) (rw is (leaves_at Writing writing refl))
+
+  -- Who may go
+
+  pub idle_rests : (v : Numbered View) → v.0 ≡ Idle → Rests (IsLatch name) use_of_party (Some v)
+  idle_rests v is = tie.rests latch_machine seat_of words_of IsWord name (Unit {0}) lends use_of_view v (ap seat_of is) (plays.idle_rests latch v.0 is)
+
+  pub missed_rests : (found : ℕ) → found ≢ 0 → (v : Numbered View) → v.0 ≡ either_at 0 Writing Idle found → Rests (IsLatch name) use_of_party (Some v)
+  missed_rests found other v is = idle_rests v (is ∙ ap (λ b. if b then Writing else Idle) (ne_eqb found 0 other))
+
+  pub left_rests : (named : Type 0) (before view : Option (Numbered View)) (known now : Watch rule.Done) (found : ℕ) → Moved (Watches named known now (Leads (λ w. Idle) before) found) view → Rests (IsLatch name) use_of_party view
+  left_rests named before None known now found moved = absurd moved
+  left_rests named before (Some v) known now found moved = idle_rests v moved.1.4.6
+
+  -- a try whose word keeps readers out is over
+  pub gives_up : (word : ℕ) → None ≡ let_in word → (view : Option (Numbered View)) → what view ≡ Some (at_word false word) → Rests (IsLatch name) use_of_party view
+  gives_up word closed None is = absurd cc
+  gives_up word closed (Some v) is = idle_rests v (grind (arith, closed, is))
+
+-- and a call that waits looks again
+pub looks_again : (word : ℕ) (view : Option (Numbered View)) → None ≡ let_in word → what view ≡ Some (at_word true word) → MayLook (what view)
+looks_again word view closed is = let at : at_word true word ≡ WaitingToRead = grind (arith, closed) in rw (is ∙ ap Some at) tt
+
+-- where a step led
+pub led : (to : ℕ → View) (named : Type 0) (before view : Option (Numbered View)) (known now : Watch rule.Done) (found : ℕ) → Moved (Watches named known now (Leads to before) found) view → what view ≡ Some (to found)
+led to named before None known now found moved = absurd moved
+led to named before (Some v) known now found moved = ap Some moved.1.4.6
+
+-- What the rule says of a party that writes
+
+pub writer_word : (word : ℕ) (vs : List View) (p : ℕ) → IsWord word tt vs → part_at part vs p ≡ holds writing → word ≡ 1
+writer_word word vs p is at =
+    let s = is.0 in let found = is_holder-from_entries p writing s.holders (ap (λ e. e.holders) ((is.3 p).0 ∙ ap (entries_of p) at)) in
+    let one = sum-less (one_of writing) p writing s.holders found in let alone = is.2.exclusive.writer (omega (arith, one)) in
+    omega (arith, is.4, alone, one, all_kinds s.holders, by_kinds latch_weight s.holders)

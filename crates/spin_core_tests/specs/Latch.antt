@@ -1,0 +1,24 @@
+-- A latch: a plain lock of many readers or one writer. Its word is a sum over the holders, by their kinds.
+use Rattle.std.specs.Prelude.{ℕ, ◌+◌, ◌%◌, ◌/◌, ◌==◌, ◌&&◌, Option, Some, None, if◌then◌else◌, nat_lt, sum_by}
+use Rattle.spin_step.specs.Plain.{Plain, Kind, reading, upgradable, asking, writing}
+
+abbrev pub latch_limit : ℕ
+latch_limit = 4294967295
+
+-- no party of a latch may upgrade; had one, it would weigh as those who keep out the same newcomers
+abbrev pub latch_weight : Kind → ℕ
+latch_weight reading = 2
+latch_weight upgradable = 2
+latch_weight asking = 1
+latch_weight writing = 1
+
+abbrev pub latch_word : Plain → ℕ
+latch_word s = sum_by (λ h. latch_weight h.kind) s.holders
+
+-- the word after one more reader has come, where nobody writes and there is room
+abbrev pub let_in : ℕ → Option ℕ
+let_in w = if (w % 2 == 0) && nat_lt (w / 2) latch_limit then Some (w + 2) else None
+
+-- the word after a writer has come, where nobody holds
+abbrev pub taken : ℕ → Option ℕ
+taken w = if w == 0 then Some 1 else None

@@ -1,0 +1,105 @@
+-- The rule of a latch: its word is that of a plain lock whose holders are its parties, and its trace is a schedule of its model, which leads there.
+use Rattle.std.specs.Prelude.{◌≡◌, ℕ, ◌==◌, Bool, true, false, if◌then◌else◌, is_some, List, Option, Some, None}
+use Rattle.spin_step.specs.Plain.{reading, writing}
+use Rattle.spin_core.specs.Cell.{Use, lends, Ways}
+use Rattle.spin_core.specs.Own.{Numbered, Runs, Tells}
+use Rattle.spin_core.specs.Views.{Part, idle, holds, Encodes, used_by, no_word}
+use Rattle.spin_core.specs.declared.trace.Trace.{Trace}
+use Rattle.spin_model.specs.declared.answer.Answer.{Answer}
+use Rattle.spin_model.specs.declared.place.Hold.TheVariants as hold
+use Rattle.spin_model.specs.declared.place.Seat.{Seat}
+use Rattle.spin_model.specs.declared.place.Seat.TheVariants as seat
+use Rattle.spin_model.specs.declared.schedule.Move.{Move}
+use Rattle.spin_model.specs.declared.schedule.Outcome.{Outcome}
+use Rattle.spin_model.specs.Schedules.{Entry}
+use Rattle.spin_core_tests.specs.Latch.{latch_limit, latch_word, let_in}
+use Rattle.spin_core_tests.specs.LatchTable.{latch_machine}
+use Rattle.spin_core_tests.specs.declared.latch.calls.LatchCall.{LatchCall}
+use Rattle.spin_core_tests.specs.declared.latch.calls.LatchCall.TheVariants as call
+use Rattle.spin_core_tests.specs.declared.latch.calls.LatchPoint.{LatchPoint}
+use Rattle.spin_core_tests.specs.declared.latch.calls.LatchPoint.TheVariants.{First, Exchange}
+use Rattle.spin_core_tests.specs.declared.latch.rule.View.{View}
+use Rattle.spin_core_tests.specs.declared.latch.rule.View.TheVariants.{Idle, Reading, Writing, Coming, WaitingToRead, WaitingToWrite}
+
+abbrev pub part : View → Part
+part Reading = holds reading
+part Writing = holds writing
+part _ = idle
+
+abbrev pub use_of_view : View → Use
+use_of_view = used_by part
+
+abbrev pub use_of_party : Numbered View → Use
+use_of_party v = use_of_view v.0
+
+abbrev pub latch_ways : {X : Type 0} → Ways X (Numbered View)
+latch_ways = (lends, use_of_party)
+
+-- where a party is in the model
+abbrev pub seat_of : View → Seat LatchCall LatchPoint
+seat_of Idle = seat.Idle
+seat_of Reading = seat.Holding hold.Read
+seat_of Writing = seat.Holding hold.Write
+seat_of (Coming true word) = seat.Calling call.Read (Exchange word) None
+seat_of (Coming false word) = seat.Calling call.TryRead (Exchange word) None
+seat_of WaitingToRead = seat.Calling call.Read First None
+seat_of WaitingToWrite = seat.Calling call.Write First None
+
+abbrev pub words_of : ℕ → ℕ × Unit {0}
+words_of w = (w, tt)
+
+abbrev pub OneMove : Type 0
+OneMove = Move LatchCall (Unit {0})
+
+abbrev pub Ending : Type 0
+Ending = Outcome (Answer (Unit {0})) (Unit {0})
+
+abbrev pub Done : Type 0
+Done = Entry LatchCall (Unit {0})
+
+abbrev pub IsWord : ℕ → Unit {0} → List View → Type 0
+IsWord = Encodes part latch_limit latch_word no_word
+
+abbrev pub IsLatch : ℕ → ℕ → Trace Done (Unit {0}) → List (Numbered View) → Type 0
+IsLatch = Runs latch_machine seat_of words_of IsWord
+
+-- The steps: no more is told of each than the view after it, by the number found
+
+abbrev pub leads_by : (ℕ → View) → List OneMove → List Ending → ℕ → View → Type 0
+leads_by to own outs found v = v ≡ to found
+
+abbrev pub Leads : (ℕ → View) → Option (Numbered View) → List Done → List Done → ℕ → Numbered View → Type 0
+Leads to = Tells latch_machine seat_of words_of (leads_by to)
+
+-- an exchange that finds the number which it expected, and one that finds another
+abbrev pub either_at : ℕ → View → View → ℕ → View
+either_at old won lost found = if found == old then won else lost
+
+-- what a call that comes to read is where its word keeps it out: it waits, or is refused
+abbrev pub gone : Bool → View
+gone true = WaitingToRead
+gone false = Idle
+
+-- at the word that it found
+abbrev pub at_word : Bool → ℕ → View
+at_word waits word = if is_some (let_in word) then Coming waits word else gone waits
+
+abbrev pub IsAtWord : Option View → ℕ → Type 0
+IsAtWord view word = (waits : Bool) × (view ≡ Some (at_word waits word))
+
+-- it reads, or goes on at the word that it found
+abbrev pub reads_by : ℕ → Option View → ℕ → View
+reads_by old (Some (Coming waits word)) found = if found == old then Reading else at_word waits found
+reads_by old _ found = Idle
+
+-- it comes, or looks again
+abbrev pub MayLook : Option View → Type 0
+MayLook None = Unit {0}
+MayLook (Some WaitingToRead) = Unit {0}
+MayLook _ = ⊥
+
+-- it comes to write, or waits for that
+abbrev pub MayWrite : Option View → Type 0
+MayWrite None = Unit {0}
+MayWrite (Some WaitingToWrite) = Unit {0}
+MayWrite _ = ⊥

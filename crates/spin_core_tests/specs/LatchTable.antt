@@ -1,0 +1,93 @@
+-- The calls of a latch, step by step, how they read on the plain lock, and what kind of lock it is.
+use Rattle.std.specs.Prelude.{ℕ, Bool, true, false, ◌==◌, Option, Some, None, [], is_some, nat_lt}
+use Rattle.spin_step.specs.Plain.{reading, writing, Change, gets, releases, to_read, to_write}
+use Rattle.spin_model.specs.declared.place.Hold.{Hold}
+use Rattle.spin_model.specs.declared.place.Hold.TheVariants.{Read, Write}
+use Rattle.spin_model.specs.declared.step.Next.{Next}
+use Rattle.spin_model.specs.declared.step.Next.TheVariants.{Continue, Answers}
+use Rattle.spin_model.specs.declared.step.Stepped.{Stepped}
+use Rattle.spin_model.specs.declared.answer.Answer.{Answer}
+use Rattle.spin_model.specs.declared.answer.Answer.TheVariants.{Granted, Refused, Done}
+use Rattle.spin_model.specs.Calls.{Asked, LockKind, steps_past_a_look, usual, waits, tries, gives_back}
+use Rattle.spin_model.specs.Machines.{Machine}
+use Rattle.spin_model.specs.Acts.{one_number, Act, load_for, exchange, weak_exchange, retry, store, swap, either, stays, retried, Table, machine_of}
+use Rattle.spin_model.specs.Tables.{usual_table}
+use Rattle.spin_model.specs.Operations.{subtracts}
+use Rattle.spin_core_tests.specs.Latch.{latch_limit, latch_word, let_in, taken}
+use Rattle.spin_core_tests.specs.declared.latch.calls.LatchCall.{LatchCall}
+use Rattle.spin_core_tests.specs.declared.latch.calls.LatchCall.TheVariants as call
+use Rattle.spin_core_tests.specs.declared.latch.calls.LatchPoint.{LatchPoint}
+use Rattle.spin_core_tests.specs.declared.latch.calls.LatchPoint.TheVariants.{First, Exchange}
+
+-- The kind of lock
+
+abbrev pub latch_plain_steps : Change → Bool
+latch_plain_steps (gets p to_read) = true
+latch_plain_steps (gets p to_write) = true
+latch_plain_steps (releases p reading) = true
+latch_plain_steps (releases p writing) = true
+latch_plain_steps _ = false
+
+abbrev pub latch_calls : Asked → Bool
+latch_calls (tries to_read) = true
+latch_calls (waits to_read) = true
+latch_calls (tries to_write) = true
+latch_calls (waits to_write) = true
+latch_calls (gives_back (Some Read)) = true
+latch_calls (gives_back (Some Write)) = true
+latch_calls _ = false
+
+-- one that comes to read looks first, and one that comes to write does not
+abbrev pub latch_undisturbed_steps : Asked → ℕ
+latch_undisturbed_steps (waits to_write) = 1
+latch_undisturbed_steps what = steps_past_a_look what
+
+abbrev pub latch : LockKind
+latch = record (usual latch_word [] latch_plain_steps latch_calls) { undisturbed_steps = latch_undisturbed_steps; spins_on_exchange = true }
+
+-- The table
+
+abbrev pub granted : Hold → Next LatchPoint (Answer (Unit {0}))
+granted held = Answers Granted (Some held)
+
+-- a call that comes to read goes for the word that it found
+abbrev pub goes_for : ℕ → Next LatchPoint (Answer (Unit {0}))
+goes_for w = Continue (Exchange w)
+
+-- it looks first, and then makes its exchange for as long as each word that it finds lets it in
+abbrev pub comes_by : Next LatchPoint (Answer (Unit {0})) → LatchPoint → Act ℕ LatchPoint (Answer (Unit {0}))
+comes_by missed First = load_for let_in (λ p. gets p to_read) goes_for missed
+comes_by missed (Exchange k) = retry k let_in (λ p. gets p to_read) (granted Read) goes_for missed
+
+-- what its step comes to, where the step function answers so
+abbrev pub comes_at : LatchPoint → ℕ → Option ℕ → Next LatchPoint (Answer (Unit {0})) → Stepped ℕ (Unit {0}) LatchPoint (Answer (Unit {0}))
+comes_at First w to missed = stays w (either (is_some to) (goes_for w) missed)
+comes_at (Exchange k) w to missed = retried (λ n. n) (w == k) w to (granted Read) (goes_for w) missed
+
+abbrev pub act_of : LatchCall → LatchPoint → Option Hold → Act ℕ LatchPoint (Answer (Unit {0}))
+act_of call.TryRead l h = comes_by (Answers Refused h) l
+act_of call.Read l h = comes_by (Continue First) l
+act_of call.TryWrite l h = exchange (swap 0 taken) (λ p. gets p to_write) (granted Write) (λ w. Answers Refused h)
+act_of call.Write l h = weak_exchange 0 taken (λ p. gets p to_write) (granted Write) (Continue First)
+act_of call.ReleaseRead l h = store (λ w. nat_lt 1 w) (subtracts 2) (λ p. releases p reading) (Answers Done None)
+act_of call.ReleaseWrite l h = store (λ w. nat_lt 0 w) (subtracts 1) (λ p. releases p writing) (Answers Done None)
+
+abbrev pub asks_of : LatchCall → Option Hold → Asked
+asks_of call.TryRead h = tries to_read
+asks_of call.Read h = waits to_read
+asks_of call.TryWrite h = tries to_write
+asks_of call.Write h = waits to_write
+asks_of call.ReleaseRead h = gives_back (Some Read)
+asks_of call.ReleaseWrite h = gives_back (Some Write)
+
+abbrev pub LatchTable : Type 0
+LatchTable = Table ℕ (Unit {0}) LatchCall LatchPoint (Answer (Unit {0}))
+
+abbrev pub latch_table : LatchTable
+latch_table = record (usual_table (Some tt) latch 0 one_number (λ c h. First) act_of asks_of) { cap = latch_limit }
+
+abbrev pub LatchMachine : Type 0
+LatchMachine = Machine ℕ (Unit {0}) LatchCall LatchPoint (Answer (Unit {0}))
+
+abbrev pub latch_machine : LatchMachine
+latch_machine = machine_of latch_table

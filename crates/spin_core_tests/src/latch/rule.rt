@@ -1,0 +1,107 @@
+//! The rule of a latch: what each party is to it ([`View`]), what its word and its trace say of all of them, and each
+//! kind of step.
+ghost use Rattle.std.specs.Prelude.{true, false, refl};
+ghost use Rattle.spin_core.specs.Cell.{use_of};
+ghost use Rattle.spin_core.specs.Own.{what};
+ghost use Rattle.spin_core_tests.specs.LatchRule.{IsLatch, Leads, at_word, either_at, latch_ways, reads_by, use_of_party};
+ghost use Rattle.spin_core_tests.specs.declared.latch.rule.View.TheVariants.{Idle, Writing, WaitingToWrite};
+
+use super::calls::LatchCall;
+use spin_core::cell::{Permit, Play, Rule, WritePermit};
+use spin_core::guard::{Release, Uses};
+use spin_core::tie;
+use spin_core::trace::{Trace, Watch};
+
+/// What a party (one call, and the guard that it returns) is to the latch.
+#[derive(Clone, Copy)]
+pub enum View {
+    Idle,
+    Reading,
+    Writing,
+    /// It is in `read`, if the flag is true, or else in `try_read`. It goes on with its exchange of this word.
+    Coming(bool, usize),
+    /// It is in `read`, and goes on with a look.
+    WaitingToRead,
+    /// It is in `write`, and goes on with its exchange.
+    WaitingToWrite,
+}
+
+/// A party with its number.
+pub type Party = tie::Numbered<View>;
+
+/// An entry of the latch's trace.
+pub type Entry = tie::Entry<LatchCall>;
+
+/// The rule of a latch over a `T`, which parties may read beside one another. No value of this type is made.
+pub struct LatchRule<T> {
+    never: T,
+}
+
+impl<T> Rule<T, Party> for LatchRule<T> {
+    // What is known of the trace at first: its name.
+    type Key = Watch<Entry>;
+
+    type Second = Trace<Entry>;
+
+    ghost holds = { λ start. IsLatch start.name };
+
+    ghost ways = { λ _. latch_ways };
+}
+
+pub(super) type LatchPermit<'a, T> = Permit<'a, T, Party, LatchRule<T>>;
+
+// The load of `try_read`.
+pub(super) struct Tries;
+
+impl Play<Party, Entry> for Tries {
+    ghost told = { λ old new before. Leads (at_word false) before };
+}
+
+// The load of `read`.
+pub(super) struct Looks;
+
+impl Play<Party, Entry> for Looks {
+    ghost told = { λ old new before. Leads (at_word true) before };
+}
+
+// The exchange of a call that comes to read.
+pub(super) struct Comes;
+
+impl Play<Party, Entry> for Comes {
+    ghost told = { λ old new before. Leads (reads_by old (what before)) before };
+}
+
+// The exchange of `try_write`.
+pub(super) struct TriesToWrite;
+
+impl Play<Party, Entry> for TriesToWrite {
+    ghost told = { λ old new before. Leads (either_at old Writing Idle) before };
+}
+
+// The exchange of `write`.
+pub(super) struct Writes;
+
+impl Play<Party, Entry> for Writes {
+    ghost told = { λ old new before. Leads (either_at old Writing WaitingToWrite) before };
+}
+
+// The subtraction of a holder that leaves.
+pub(super) struct Leaves;
+
+impl Play<Party, Entry> for Leaves {
+    ghost told = { λ old new before. Leads (λ found. Idle) before };
+}
+
+impl<T> Uses<Party> for LatchRule<T> {
+    ghost use_at = { use_of use_of_party };
+}
+
+impl<T> Release<T, Party> for LatchRule<T> {
+    fn release(writer: WritePermit<'_, T, Party, LatchRule<T>>) {
+        let permit = writer.into_permit();
+        let (_, permit, _) = permit.subtract::<Leaves>(1, Watch::nothing());
+        permit.leave();
+    }
+
+    ghost same = { λ key view. refl };
+}

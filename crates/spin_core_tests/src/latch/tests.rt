@@ -1,0 +1,87 @@
+//! What no contract says of a latch: which call is granted, that threads get on, and one schedule of its object.
+use super::Latch;
+use super::calls::LatchCall;
+use super::object::LatchObject;
+use crate::equal::equal;
+use spin_world_core::{Move, World};
+use std::sync::Wait;
+use std::thread::join;
+
+#[test]
+fn many_read_or_one_writes(rt: HostRuntime) {
+    let latch = Latch::new(1);
+    let (first, second) = (latch.read(&rt), latch.try_read(&rt));
+    equal(&rt, (*first, second.is_some()), (1, true));
+    equal(&rt, latch.try_write().is_none(), true);
+    drop(first);
+    drop(second);
+    let mut writer = latch.try_write().expect(&rt, "nobody reads");
+    *writer = 2;
+    equal(
+        &rt,
+        (latch.try_read(&rt).is_none(), latch.try_write().is_none()),
+        (true, true),
+    );
+    drop(writer);
+    equal(&rt, latch.into_inner(), 2);
+}
+
+const TURNS: u64 = 2000;
+
+// Adds to both numbers, and reads them between. They are always the same to a reader.
+fn add_and_read<W: Wait>(rt: &W, latch: &Latch<(u64, u64)>) -> bool {
+    let mut same = true;
+    for _ in 0..TURNS {
+        let mut pair = latch.write(rt);
+        pair.0 = pair.0.wrapping_add(1);
+        pair.1 = pair.1.wrapping_add(1);
+        drop(pair);
+        let pair = latch.read(rt);
+        same = same && pair.0 == pair.1;
+    }
+    same
+}
+
+#[test]
+fn two_threads_write_and_read(rt: HostRuntime) {
+    let latch = Latch::new((0, 0));
+    let same = join(
+        &rt,
+        || add_and_read(&rt, &latch),
+        || add_and_read(&rt, &latch),
+    );
+    equal(&rt, same, (true, true));
+    equal(&rt, latch.into_inner(), (2 * TURNS, 2 * TURNS));
+}
+
+/// The moves of two readers and a writer, and the word after them.
+const SCHEDULE: &[(usize, Move<LatchCall, ()>, usize)] = &[
+    (0, Move::Begin(LatchCall::TryRead), 0),
+    (0, Move::Step, 0),
+    (0, Move::Step, 2),
+    (1, Move::Begin(LatchCall::Read), 2),
+    (1, Move::Step, 2),
+    (1, Move::Step, 4),
+    (2, Move::Begin(LatchCall::TryWrite), 4),
+    (2, Move::Step, 4),
+    (0, Move::Begin(LatchCall::ReleaseRead), 4),
+    (0, Move::Step, 2),
+    (2, Move::Begin(LatchCall::Write), 2),
+    (2, Move::Step, 2),
+    (1, Move::Begin(LatchCall::ReleaseRead), 2),
+    (1, Move::Step, 0),
+    (2, Move::Step, 1),
+    (0, Move::Begin(LatchCall::TryRead), 1),
+    (0, Move::Step, 1),
+    (2, Move::Begin(LatchCall::ReleaseWrite), 1),
+    (2, Move::Step, 0),
+];
+
+#[test]
+fn a_schedule_goes_by_the_table(rt: HostRuntime) {
+    let mut world = World::new(rt.alloc(), LatchObject::new(), 3).expect(&rt, "memory");
+    for (party, action, word) in SCHEDULE {
+        world.act(*party, *action);
+        equal(&rt, world.words(), *word);
+    }
+}
