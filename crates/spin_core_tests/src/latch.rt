@@ -49,6 +49,7 @@ impl<T> Latch<T> {
     }
 
     /// Tries to acquire shared access. Returns `None` beside a writer, or at the limit of readers.
+    #[must_use = "dropping the guard at once releases the latch: bind the answer"]
     pub fn try_read<W: Wait>(&self, rt: &W) -> Option<ReadGuard<'_, T>> {
         let (found, permit, _) = self.cell.enter().load::<Tries>(Watch::nothing());
         let word = found as usize;
@@ -67,6 +68,7 @@ impl<T> Latch<T> {
     }
 
     /// Tries to acquire exclusive access, by one exchange. Returns `None` if any thread holds the latch.
+    #[must_use = "dropping the guard at once releases the latch: bind the answer"]
     pub fn try_write<'a>(&'a self) -> Option<WriteGuard<'a, T>> {
         let next = steps::write(0)?;
         let permit = self

@@ -175,6 +175,7 @@ impl<T, R> FairMutex<T, R> {
     /// shows(&rt, &lock, STARVED);
     /// equal(&rt, lock.try_lock().is_none(), true);
     /// ```
+    #[must_use = "dropping the guard at once releases the lock: bind the answer, or write `drop(..)`"]
     pub fn try_lock<'a>(&'a self) -> Option<FairMutexGuard<'a, T, R>>
         ensures holder { IfSome result (IsHolder use_of_party) }
         ensures newcomer { IfSome result (λ guard. guard.writer.view.0 ≡ Holding) }
@@ -225,6 +226,7 @@ impl<T, R> FairMutex<T, R> {
     /// };
     /// *guard = guard.wrapping_add(1);
     /// ```
+    #[must_use = "a place that is dropped at once no longer starves: bind the answer"]
     pub fn starve<W: Wait>(&self, rt: &W) -> Option<Starvation<'_, T, R>> {
         match register(rt, self.cell.enter()) {
             Ok(permit) => Some(Starvation::new(permit)),

@@ -163,6 +163,7 @@ impl<T, R> Mutex<T, R> {
     /// let text = format!(in rt.alloc(); "{guard:<3?}|{guard:>3}|{lock:30?}").expect(&rt, "memory");
     /// equal(&rt, text.as_str(), "5  |  5|Mutex { <locked> }");
     /// ```
+    #[must_use = "dropping the guard at once releases the lock: bind the answer, or write `drop(..)`"]
     pub fn try_lock(&self) -> Option<MutexGuard<'_, T, R>>
         ensures { IfSome result (λ guard. holds guard) }
     {

@@ -105,6 +105,7 @@ impl<T, R> RwLock<T, R> {
     ///     None => Err(by),
     /// }
     /// ```
+    #[must_use = "dropping the guard at once releases the lock: bind the answer, or write `drop(..)`"]
     pub fn try_read<W: Wait>(&self, rt: &W) -> Option<RwLockReadGuard<'_, T, R>> {
         self.try_to_lend(rt)
     }
@@ -124,6 +125,7 @@ impl<T, R> RwLock<T, R> {
     /// let upgrades = lock.try_upgradeable_read(rt).is_some();
     /// let writes = lock.try_write().is_some();
     /// ```
+    #[must_use = "dropping the guard at once releases the lock: bind the answer, or write `drop(..)`"]
     pub fn try_upgradeable_read<W: Wait>(&self, rt: &W) -> Option<RwLockUpgradableGuard<'_, T, R>> {
         self.try_to_lend(rt)
     }
@@ -142,6 +144,7 @@ impl<T, R> RwLock<T, R> {
     /// equal(&rt, (*first, *second), (1, 1));
     /// equal(&rt, (lock.reader_count(), refused), (2, true));
     /// ```
+    #[must_use = "dropping the guard at once releases the lock: bind the answer, or write `drop(..)`"]
     pub fn try_write<'a>(&'a self) -> Option<RwLockWriteGuard<'a, T, R>> {
         Some(RwLockWriteGuard::new(rule::try_write(&self.cell)?))
     }
@@ -161,6 +164,7 @@ impl<T, R> RwLock<T, R> {
     ///     }
     /// }
     /// ```
+    #[must_use = "dropping the guard at once releases the lock: bind the answer, or write `drop(..)`"]
     pub fn try_write_weak<'a>(&'a self) -> Option<RwLockWriteGuard<'a, T, R>> {
         self.try_write()
     }

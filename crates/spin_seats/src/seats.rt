@@ -96,6 +96,7 @@ impl<const N: usize> Seats<N> {
     /// let third = seats.try_enter(&rt).expect(&rt, "one is free");
     /// equal(&rt, seats.try_enter(&rt).is_none(), true);
     /// ```
+    #[must_use = "dropping the guard at once gives the seat back: bind the answer, or write `drop(..)`"]
     pub fn try_enter<W: Wait>(&self, rt: &W) -> Option<SeatGuard<'_, N>> {
         let (found, permit, _) = self.cell.enter().load::<Tries<N>>(Watch::nothing());
         let word = found as usize;

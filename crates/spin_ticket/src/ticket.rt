@@ -184,6 +184,7 @@ impl<T, R> TicketMutex<T, R> {
     /// drop(guard);
     /// equal(&rt, lock.try_lock().is_none(), true);
     /// ```
+    #[must_use = "dropping the guard at once releases the lock: bind the answer, or write `drop(..)`"]
     pub fn try_lock<'a>(&'a self) -> Option<TicketMutexGuard<'a, T, R>>
         ensures { IfSome result (IsHolder use_of_party) }
     {

@@ -36,6 +36,7 @@ impl<A: Allocator> SeatedLock<Call, A> {
     /// assert!(rt; lock.try_lock(&mut first));
     /// assert!(rt; !lock.try_lock(&mut second));
     /// ```
+    #[must_use = "the answer tells whether the pass holds the lock"]
     pub fn try_lock(&self, pass: &mut Pass) -> bool
         requires { IsPassOf self.now pass.old }
         ensures own { IsPassOf self.now pass.new }

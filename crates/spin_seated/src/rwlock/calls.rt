@@ -36,6 +36,7 @@ impl<A: Allocator> SeatedLock<Call, A> {
     /// assert!(rt; lock.try_read(&rt, &mut a));
     /// assert!(rt; lock.try_read(&rt, &mut b));
     /// ```
+    #[must_use = "the answer tells whether the pass holds the lock"]
     pub fn try_read<W: Wait>(&self, rt: &W, pass: &mut RwPass) -> bool
         requires own { IsPassOf self.now pass.old }
         requires free { holds pass.old.known ≡ None }
@@ -84,6 +85,7 @@ impl<A: Allocator> SeatedLock<Call, A> {
     ///     SeatedHold::Write => lock.try_write(pass),
     /// };
     /// ```
+    #[must_use = "the answer tells whether the pass holds the lock"]
     pub fn try_write(&self, pass: &mut RwPass) -> bool
         requires own { IsPassOf self.now pass.old }
         requires free { holds pass.old.known ≡ None }
