@@ -151,7 +151,7 @@ impl<'t> Makes<Answer, AnswerFor<'t>> for ReadSettings {
     }
 }
 
-/// The settings of one text, for all threads. The text is read once, when a thread first asks.
+/// The settings of one text, for all threads: a `LazyLock` whose initialiser reads the text.
 ///
 /// # Examples
 /// ```
@@ -165,7 +165,7 @@ pub struct SharedSettings<'t, R = Spin> {
 }
 
 impl<'t, R: RelaxStrategy> SharedSettings<'t, R> {
-    /// Creates shared settings. It reads nothing of the text.
+    /// Creates shared settings.
     ///
     /// # Contract
     /// They are those of `text` (`text_of`).
