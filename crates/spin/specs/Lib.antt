@@ -2,6 +2,7 @@
 pub use Rattle.spin_mutex.specs.MutexGuard
 pub use Rattle.spin_core.specs.Guard
 pub use Rattle.spin_flag.specs.Flag
+pub use Rattle.spin_flag.specs.Passes
 pub use Rattle.spin_ticket.specs.Queue
 pub use Rattle.spin_fair.specs.Fair
 pub use Rattle.spin_rwlock.specs.Guards

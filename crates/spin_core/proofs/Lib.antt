@@ -34,5 +34,6 @@ pub mod Runs
 pub mod Owns
 pub mod Sends
 pub mod Ties
+pub mod Passes
 pub mod Retries
 pub mod TieLaws

@@ -1,10 +1,7 @@
 -- A party appends its moves under its own number, and has made no entry between its steps.
-use Rattle.std.proofs.Common.{◌≡◌, ℕ, zero, suc, ◌+◌, ◌<◌, ◌≤◌, ◌==◌, if◌then◌else◌, Bool, true, false, Option, Some, None, List, [], ◌∷◌, ◌++◌, length, map, drop, slice_set, refl, sym, ap, ◌∙◌, subst, arith, zero-add, eq-eqb, ne_eqb}
+use Rattle.std.proofs.Common.{◌≡◌, ℕ, suc, ◌+◌, ◌<◌, ◌≤◌, ◌==◌, if◌then◌else◌, Bool, true, false, Option, Some, None, List, [], ◌∷◌, ◌++◌, length, map, drop, slice_set, refl, sym, ap, ◌∙◌, subst, arith, zero-add, ne_eqb}
 use Rattle.std.specs.Prelude.{◌≢◌}
-use mathlib.Core.Option.{some, some-injective, some-ne-none}
-use lib.ListN.{get_elem?}
-use Rattle.std.specs.List.{list_all}
-use Rattle.std.proofs.lemmas.List.{length-append, length-map, map-append, drop-append-le, append-nil}
+use Rattle.std.proofs.lemmas.List.{length-append, length-map, map-append, drop-append-le}
 use Rattle.std.proofs.Math.Seq.{drop-length}
 use Rattle.spin_core.specs.Cell.{Stands, after as views_after}
 use Rattle.spin_model.specs.declared.place.Seat.{Seat}
@@ -12,7 +9,7 @@ use Rattle.spin_model.specs.declared.place.Seat.TheVariants.{Idle}
 use Rattle.spin_model.specs.declared.schedule.Move.{Move}
 use Rattle.spin_model.specs.declared.schedule.Outcome.{Outcome}
 use Rattle.spin_model.specs.Machines.{Machine}
-use Rattle.spin_model.specs.Schedules.{Entry, after, at_first}
+use Rattle.spin_model.specs.Schedules.{Entry, at_first}
 use Rattle.spin_core.specs.Run.{is_of_call, is_played, IsPlayed, outcomes}
 use Rattle.spin_core.specs.Run as run
 use Rattle.spin_core.specs.Own.{Numbered, by_party, present_from, kind, entries_by, Rested, IsRun, MadeNone, what}

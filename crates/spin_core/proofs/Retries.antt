@@ -1,5 +1,5 @@
 -- What each attempt that fails hands on, the last one has.
-use Rattle.std.proofs.Common.{◌≡◌, ℕ, zero, suc, subst}
+use Rattle.std.proofs.Common.{ℕ, zero, suc, subst}
 use Rattle.std.specs.Prelude.{Result, Err}
 use Rattle.spin_core.specs.Retries.{Fails}
 

@@ -1,22 +1,22 @@
 -- Moves of one party, alone in its world, are moves of it in any world, with the same outcomes; so where a schedule leads, its step leads on, appended to it.
-use Rattle.std.proofs.Common.{◌≡◌, ℕ, zero, suc, ◌+◌, Bool, true, false, ◌&&◌, Option, Some, None, List, [], ◌∷◌, ◌++◌, length, map, replicate, slice_get, slice_set, set, refl, sym, ap, ◌∙◌, subst, arith, zero-add}
+use Rattle.std.proofs.Common.{◌≡◌, ℕ, zero, suc, ◌+◌, true, ◌&&◌, Option, Some, None, List, [], ◌∷◌, ◌++◌, length, map, replicate, slice_get, slice_set, refl, sym, ap, ◌∙◌, subst, arith}
 use Rattle.std.proofs.Math.Seq.{set-append_seam}
 use Rattle.std.specs.List.{list_all}
 use Rattle.std.proofs.lemmas.Bool.{and_parts}
-use Rattle.std.proofs.lemmas.List.{length-append, length-map, map-append, append_assoc, append-nil}
+use Rattle.std.proofs.lemmas.List.{length-append, map-append, append_assoc}
 use Rattle.std.proofs.lemmas.List.Folds.{list_all-append}
 use mathlib.Core.Option.{some, some-injective, some-ne-none}
 use lib.ListN.{get_elem?}
 use Rattle.spin_model.specs.declared.place.Hold.{Hold}
 use Rattle.spin_model.specs.declared.place.Seat.{Seat}
-use Rattle.spin_model.specs.declared.place.Seat.TheVariants.{Idle, Calling, Holding, Leaked, Gone}
+use Rattle.spin_model.specs.declared.place.Seat.TheVariants.{Idle, Calling, Holding}
 use Rattle.spin_model.specs.declared.schedule.Move.{Move}
-use Rattle.spin_model.specs.declared.schedule.Move.TheVariants.{Begin, Step, Weak, Read, Write, Leak, OwnerGet, OwnerSet}
+use Rattle.spin_model.specs.declared.schedule.Move.TheVariants.{Begin, Step, Weak}
 use Rattle.spin_model.specs.declared.schedule.Outcome.{Outcome}
 use Rattle.spin_model.specs.declared.step.Next.{Next}
 use Rattle.spin_model.specs.declared.step.Next.TheVariants.{Continue, Answers}
 use Rattle.spin_model.specs.Machines.{Machine}
-use Rattle.spin_model.specs.Schedules.{State, Entry, after, at_first, happens, moves, moves_at, begun, goes_on, refuses, resting, placed}
+use Rattle.spin_model.specs.Schedules.{State, Entry, after, at_first, happens, moves, begun, goes_on, refuses, resting, placed}
 use Rattle.spin_model.proofs.Schedules.{after-append}
 use Rattle.spin_core.specs.Run.{is_of_call, outcomes, is_played, IsPlayed, AreOwn}
 use Rattle.spin_core.specs.Run as run

@@ -1,15 +1,13 @@
 -- A lock's rule beside its trace of numbered parties: each step of the rule that is moves of the model keeps both.
-use Rattle.std.proofs.Common.{◌≡◌, ℕ, zero, suc, ◌+◌, ◌++◌, ◌∷◌, map, length, Option, Some, None, List, [], refl, sym, ap, ◌∙◌, subst, drop}
+use Rattle.std.proofs.Common.{◌≡◌, ℕ, zero, suc, ◌+◌, ◌++◌, ◌∷◌, map, length, Option, Some, None, List, [], refl, sym, ap, ◌∙◌, subst}
 use Rattle.std.specs.Prelude.{sum_by}
 use mathlib.Core.Option.{some, some-injective, some-ne-none}
-use mathlib.Core.List.{IsPrefix}
 use lib.ListN.{get_elem?}
-use Rattle.std.proofs.Math.Seq.{drop-append_seam}
 use Rattle.std.proofs.lemmas.List.{map-append, map-set}
 use Rattle.std.proofs.lemmas.List.Sums.{sum_by-cons}
 use Rattle.spin_core.specs.declared.trace.Trace.{Trace}
 use Rattle.spin_core.specs.Cell.{Way, Ways, Use, use_of, Rests, reading, writing, Limits, Going, Meets, AllowsAt, AllowsSecondAt, Stands, readers_of, writers_of, after as views_after}
-use Rattle.spin_core.specs.Traced.{Traces, TracesSecond, Named, grown, grown_at}
+use Rattle.spin_core.specs.Traced.{Traces, TracesSecond, Named, grown_at}
 use Rattle.spin_model.specs.declared.place.Seat.{Seat}
 use Rattle.spin_model.specs.declared.place.Seat.TheVariants.{Idle}
 use Rattle.spin_model.specs.declared.schedule.Move.{Move}
@@ -17,7 +15,7 @@ use Rattle.spin_model.specs.declared.schedule.Outcome.{Outcome}
 use Rattle.spin_model.specs.Machines.{Machine}
 use Rattle.spin_model.specs.Schedules.{Entry}
 use Rattle.spin_core.specs.Run.{AreMoves, on_first, on_second, first, second}
-use Rattle.spin_core.specs.Own.{Numbered, by_party, what, IsRun, Tells, Runs, MadeNone, entries_by, KnewAll, IsNumber}
+use Rattle.spin_core.specs.Own.{Numbered, by_party, what, IsRun, Tells, Runs}
 use Rattle.spin_core.proofs.CellWays.{going_map}
 use Rattle.spin_core.proofs.Owns as owns
 
@@ -125,17 +123,3 @@ module _ {W V C L A X : Type 0} (m : Machine W V C L A) (seat_of : X → Seat C 
   traces_second view shown g then says moves allows id n t vs meets at small =
       let made = allows id n t.word (all vs) (meets.0.1, plain f vs way meets.1) (stands id view vs at) small in
       leads m seat_of words_of holds name Y way f view shown (on_second g) second then says moves id n t vs meets at made.0 made.1 made.2
-
--- What a party that keeps its number learns
-
-module _ {C V : Type 0} where
-  second_none : (xs ys : List (Entry C V)) → xs ++ ys ≡ [] → ys ≡ []
-  second_none [] ys e = e
-  second_none (x ∷ xs) ys e = cc (e)
-
-  module _ {W L A X S : Type 0} (m : Machine W V C L A) (seat_of : X → Seat C L) (words_of : W → ℕ × S) where
-    -- it has made no entry since it knew these
-    pub none_between : (view : Option (Numbered X)) (p : ℕ) (old log : List (Entry C V)) (known : IsPrefix old log) → KnewAll view old → MadeNone m seat_of words_of log p view → IsNumber p view × (entries_by p known.0 ≡ [])
-    none_between None p old log known knew none = (tt, second_none (entries_by p old) (entries_by p known.0) (sym (owns.by-append p old known.0) ∙ ap (entries_by p) known.1 ∙ none))
-    none_between (Some u) p old log known knew none =
-        (none.0, ap (entries_by p) (sym (drop-append_seam old known.0) ∙ ap (λ n. drop n (old ++ known.0)) (sym knew) ∙ ap (drop u.2) known.1) ∙ none.1)

@@ -13,6 +13,13 @@ module _ {T V P R K S : Type 0} where
   abbrev pub guard_with : Guard T V P R K S → T → Guard T V P R K S
   guard_with it x = record { writer = with_value it.writer x; strategy = it.strategy }
 
+  -- the view and the key of its party
+  abbrev pub guard_view : Guard T V P R K S → V
+  guard_view it = it.writer.view
+
+  abbrev pub guard_key : Guard T V P R K S → K
+  guard_key it = it.writer.key
+
   -- its party is a holder of the lock, whose views use the value so
   abbrev pub IsHolder : (V → Use) → Guard T V P R K S → Type 0
   IsHolder use_of_view it = use_of_view it.writer.view ≡ writes

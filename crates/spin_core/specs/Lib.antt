@@ -11,4 +11,5 @@ pub mod Guard
 pub mod Texts
 pub mod Run
 pub mod Own
+pub mod Passes
 pub mod Logs

@@ -1,5 +1,5 @@
 -- A trace whose parties know which entries are theirs: each party's number is its place among all that ever came, and none that is there has made an entry since the trace was as long as its mark says.
-use Rattle.std.specs.Prelude.{◌≡◌, ℕ, suc, ◌+◌, ◌≤◌, Option, Some, None, List, [], ◌∷◌, ◌++◌, length, map, drop, ◌==◌, if◌then◌else◌}
+use Rattle.std.specs.Prelude.{◌≡◌, ℕ, suc, ◌≤◌, Option, Some, None, List, [], ◌∷◌, ◌++◌, length, map, drop, ◌==◌, if◌then◌else◌}
 use Rattle.spin_model.specs.declared.place.Seat.{Seat}
 use Rattle.spin_model.specs.declared.schedule.Move.{Move}
 use Rattle.spin_model.specs.declared.schedule.Outcome.{Outcome}
@@ -61,18 +61,3 @@ module _ {W V C L A X S : Type 0} (m : Machine W V C L A) (seat_of : X → Seat 
   -- a lock's own rule, and that the trace has this name and is a run of the model that leads there, of numbered parties
   abbrev pub Runs : (ℕ → S → List X → Type 0) → ℕ → ℕ → Trace (Entry C V) S → List (Numbered X) → Type 0
   Runs holds name n t vs = (t.name ≡ name) × holds n t.word (map (λ v. v.0) vs) × IsRun t.entries (n, t.word) vs
-
--- a party that comes knows nothing of itself; another knew the schedule as it was after its last step
-abbrev pub KnewAll : {X E : Type 0} → Option (Numbered X) → List E → Type 0
-KnewAll None old = Unit {0}
-KnewAll (Some u) old = u.2 ≡ length old
-
--- the party has this number, or none yet
-abbrev pub IsNumber : {X : Type 0} → ℕ → Option (Numbered X) → Type 0
-IsNumber p None = Unit {0}
-IsNumber p (Some u) = p ≡ u.1
-
--- A call of a party that knew these entries, and knows these: the calls of others, and then its own moves, with these outcomes; it has made none of those between
-abbrev pub Made : {W V C L A X : Type 0} → Machine W V C L A → Option (Numbered X) → List (Entry C V) → Option (Numbered X) → List (Entry C V) → List (Move C V) → List (Outcome A V) → Type 0
-Made {V = V} {C = C} m view old view' new own outs =
-    (p : ℕ) × (between : List (Entry C V)) × IsNumber p view × IsNumber p view' × (new ≡ (old ++ between) ++ by_party p own) × (entries_by p between ≡ []) × AreOwn m own outs (old ++ between) (by_party p own)

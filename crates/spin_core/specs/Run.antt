@@ -1,8 +1,6 @@
 -- What ties a lock on threads to a model: the lock's trace is a schedule of the model, which leads to where the lock's parties are.
 use Rattle.std.specs.Prelude.{◌≡◌, ℕ, ◌+◌, Bool, true, false, Option, Some, None, List, [], ◌∷◌, ◌++◌, length, map, replicate}
 use Rattle.std.specs.List.{list_all}
-use mathlib.Core.List.{IsPrefix}
-use Rattle.spin_core.specs.declared.trace.Watch.{Watch}
 use Rattle.spin_model.specs.declared.place.Seat.{Seat}
 use Rattle.spin_model.specs.declared.place.Seat.TheVariants.{Idle}
 use Rattle.spin_model.specs.declared.schedule.Move.{Move}
@@ -50,10 +48,6 @@ module _ {W V C L A : Type 0} (m : Machine W V C L A) where
   -- these entries are moves of one party; no entry is passed over; and after this log, in each world of the model with so many parties or more, they come to these outcomes
   abbrev pub AreOwn : List (Move C V) → List (Outcome A V) → List (Entry C V) → List (Entry C V) → Type 0
   AreOwn own outs log es = (p least : ℕ) × (es ≡ map (λ move. (p, move)) own) × IsPlayed least (log ++ es) × ((more : ℕ) → outcomes (after m (at_first m (least + more)) log) es ≡ outs)
-
-  -- what a watch knew has grown: at last by these moves of one party, with these outcomes
-  abbrev pub Saw : Watch (Entry C V) → Watch (Entry C V) → List (Move C V) → List (Outcome A V) → Type 0
-  Saw before now own outs = (now.name ≡ before.name) × ((log es : List (Entry C V)) × IsPrefix before.entries log × (now.entries ≡ log ++ es) × AreOwn own outs log es)
 
   module _ {X S : Type 0} (seat_of : X → Seat C L) (words_of : W → ℕ × S) where
     -- a party that has left sits idle

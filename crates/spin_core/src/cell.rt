@@ -162,21 +162,6 @@ impl<T, V, P: Rule<T, V>> Cell<T, V, P> {
         value
     }
 
-    /// Returns a mutable reference to the value. It reads no word: the borrow shows that there is no permit.
-    ///
-    /// # Contract
-    /// It has to be so that any value may take the place of one that no party uses (`Frees`).
-    ///
-    /// # Examples
-    /// ```
-    /// *cell.get_mut() = 7;
-    /// ```
-    pub fn get_mut(&mut self) -> &mut T
-        requires { Frees (P.ways self.old).0 }
-    {
-        &mut self.value
-    }
-
     /// Returns a permit that has taken no step.
     ///
     /// # Examples
@@ -192,6 +177,28 @@ impl<T, V, P: Rule<T, V>> Cell<T, V, P> {
             cell: self,
             marker: PhantomData,
         }
+    }
+}
+
+impl<T, V, P: Rule<T, V>> Cell<T, V, P> {
+    ghost use types.Logic.{sem};
+    ghost use denote.Follow.{follows};
+    ghost use Rattle.spin_core.specs.contracts.cell.Cell.{the_row};
+
+    /// Returns a mutable reference to the value. It reads no word: the borrow shows that there is no permit.
+    ///
+    /// # Contract
+    /// It has to be so that any value may take the place of one that no party uses (`Frees`). The key stays the same.
+    ///
+    /// # Examples
+    /// ```
+    /// *cell.get_mut() = 7;
+    /// ```
+    pub fn get_mut(&mut self) -> &mut T
+        requires { Frees (P.ways self.old).0 }
+        ensures* keeps { sem 𝓛 (follows (the_row T.row V.row P.row P.Key.row P.Second.row (record { holds = P.holds; ways = P.ways })) T.row self.entry.ghost_name result.ghost_name (λ _. self.old)) }
+    {
+        &mut self.value
     }
 }
 

@@ -149,7 +149,7 @@ impl<'a, T, V, P: Release<T, V>, R> Guard<'a, T, V, P, R> {
     pub fn leak(this: Self) -> &'a mut T
         ensures { result.now ≡ guard_value this.entry }
     {
-        this.into_writer().leak()
+        Guard::into_writer(this).leak()
     }
 
     /// Consumes the guard and keeps the lock held.
@@ -167,18 +167,27 @@ impl<'a, T, V, P: Release<T, V>, R> Guard<'a, T, V, P, R> {
         ensures { held_value result ≡ Some (guard_value this.entry) }
     {
         Held {
-            permit: this.into_writer().into_permit(),
+            permit: Guard::into_writer(this).into_permit(),
             strategy: PhantomData,
         }
     }
 
-    fn into_writer(self) -> WritePermit<'a, T, V, P>
-        ensures { result ≡ self.entry.writer }
+    /// Returns the permit of the guard's party.
+    ///
+    /// # Contract
+    /// The permit is the guard's. The call returns.
+    ///
+    /// # Examples
+    /// ```
+    /// let permit = Guard::into_writer(guard).into_permit();
+    /// ```
+    pub fn into_writer(this: Self) -> WritePermit<'a, T, V, P>
+        ensures { result ≡ this.entry.writer }
     {
-        let Self {
+        let Guard {
             writer,
             strategy: _,
-        } = self;
+        } = this;
         writer
     }
 }
@@ -244,7 +253,7 @@ impl<T, V, P: Release<T, V>, R> DerefMut for Guard<'_, T, V, P, R> {
 
 impl<T, V, P: Release<T, V>, R> Drop for Guard<'_, T, V, P, R> {
     fn drop(self) {
-        P::release(self.into_writer());
+        P::release(Guard::into_writer(self));
     }
 }
 

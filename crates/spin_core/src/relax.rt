@@ -124,10 +124,10 @@ pub trait RelaxStrategy {
     ///
     /// # Examples
     /// ```
-    /// match try_with(self.cell.enter()) {
-    ///     Ok(guard) => guard,
-    ///     Err(waiting) => R::back_off(rt, waiting, |waiting| waiting.look_and_try()),
-    /// }
+    /// let Grant { writer, seen } = match try_with(permit, seen) {
+    ///     Ok(grant) => grant,
+    ///     Err(waiting) => R::back_off(rt, waiting, Waiting::look_and_try),
+    /// };
     /// ```
     #[cold]
     #[inline(never)]

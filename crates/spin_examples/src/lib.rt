@@ -6,6 +6,7 @@
 pub mod any_lock;
 pub mod from_rust;
 pub mod paired;
+pub mod passes;
 pub mod registers;
 pub mod totals;
 pub mod versions;

@@ -1,26 +1,27 @@
 //! A spinning mutex of one flag, which the thread that finds it clear sets. Begin at [`SpinMutex::lock`].
-ghost use Rattle.std.specs.Prelude.{◌≡◌, Option, Some, IfSome, IfOk};
+ghost use Rattle.std.specs.Prelude.{◌≡◌, Option, Some, IfSome, []};
 ghost use Rattle.std.specs.Fmt.{DisplaysOnOk};
 ghost use Rattle.spin_core.specs.Guard.{IsHolder};
 ghost use Rattle.spin_core.specs.Texts.{lock_text};
-ghost use Rattle.spin_core.specs.Own.{what};
-ghost use Rattle.spin_flag.specs.Flag.{use_of_party, MayTry};
-ghost use Rattle.spin_flag.specs.declared.spin.rule.View.TheVariants.{Looking};
+ghost use Rattle.spin_flag.specs.Flag.{use_of_party};
 
-use self::rule::{Attempt, Load, Looks, Tries, is_set, word};
-use spin_core::cell::{Cell, Permit};
+use self::rule::word;
+use self::waiting::{Grant, Waiting, try_with};
+use spin_core::cell::Cell;
 use spin_core::guard::{self, Guard};
 use spin_core::lock::{Lock, with_guard};
 use spin_core::relax::{RelaxStrategy, Spin, Strategy};
 use spin_core::texts::write_lock;
 use spin_core::trace::{Trace, Watch};
-use spin_step::flag;
 use std::fmt;
 use std::fmt::{Debug, Formatter};
 use std::sync::Wait;
 
+mod pass;
 mod rule;
+mod waiting;
 
+pub use self::pass::Pass;
 pub use self::rule::{Entry, FlagRule, Party, View};
 
 /// A mutual exclusion lock with one flag as its state, on which a waiting thread spins.
@@ -41,7 +42,11 @@ pub use self::rule::{Entry, FlagRule, Party, View};
 #[derive(Drop)]
 pub struct SpinMutex<T, R = Spin> {
     cell: Cell<T, Party, FlagRule>,
+    // What is known of the lock's history from the start: its name. It has no byte.
+    start: Watch<Entry>,
     strategy: Strategy<R>,
+    ghost named: { cell.name ≡ start.name },
+    ghost empty: { start.entries ≡ [] },
 }
 
 /// The guard of a [`SpinMutex`]. Dropping it releases the lock.
@@ -98,6 +103,7 @@ impl<T, R> SpinMutex<T, R> {
         let start = trace.watch();
         SpinMutex {
             cell: Cell::new(value, word(false), trace, &start),
+            start,
             strategy: Strategy::named(),
         }
     }
@@ -139,50 +145,12 @@ impl<T, R: RelaxStrategy> SpinMutex<T, R> {
     pub fn lock<W: Wait>(&self, rt: &W) -> SpinMutexGuard<'_, T, R>
         ensures { IsHolder use_of_party result }
     {
-        match try_with(self.cell.enter()) {
-            Ok(guard) => guard,
-            Err(waiting) => R::back_off(rt, waiting, |waiting| waiting.look_and_try()),
-        }
-    }
-}
-
-// A call of `lock` that goes on with a look.
-struct Waiting<'a, T> {
-    permit: Permit<'a, T, Party, FlagRule>,
-    ghost looks: { what permit.view ≡ Some Looking },
-}
-
-impl<'a, T> Waiting<'a, T> {
-    // A load comes first, so that waiting threads share the cache line and do not write it.
-    fn look_and_try<R>(self) -> Result<SpinMutexGuard<'a, T, R>, Waiting<'a, T>>
-        ensures { IfOk result (IsHolder use_of_party) }
-    {
-        let Self { permit } = self;
-        let (found, permit, _) = permit.load::<Looks>(Watch::nothing());
-        if is_set(found) {
-            Err(Waiting { permit })
-        } else {
-            try_with(permit)
-        }
-    }
-}
-
-// The exchange of `lock`, of a call that comes or has found the flag clear.
-fn try_with<'a, T, R>(
-    permit: Permit<'a, T, Party, FlagRule>,
-) -> Result<SpinMutexGuard<'a, T, R>, Waiting<'a, T>>
-    requires { MayTry (what permit.view) }
-    ensures { IfOk result (IsHolder use_of_party) }
-{
-    let free = false;
-    let Some(taken) = flag::lock(free) else {
-        unreachable!()
-    };
-    let (found, permit, _) = permit.exchange::<Tries>(word(free), word(taken), Watch::nothing());
-    if is_set(found) {
-        Err(Waiting { permit })
-    } else {
-        Ok(Guard::new(permit.into_writer()))
+        // As `Pass::lock`: through it, the path of a free lock would be two instructions longer.
+        let Grant { writer, seen: _ } = match try_with(self.cell.enter(), self.start.copy()) {
+            Ok(grant) => grant,
+            Err(waiting) => R::back_off(rt, waiting, Waiting::look_and_try),
+        };
+        Guard::new(writer)
     }
 }
 
@@ -198,23 +166,12 @@ impl<T, R> SpinMutex<T, R> {
     /// ```
     /// with_guard(self.try_lock(), by)
     /// ```
+    #[must_use = "dropping the guard at once releases the lock: bind the answer, or write `drop(..)`"]
     pub fn try_lock<'a>(&'a self) -> Option<SpinMutexGuard<'a, T, R>>
         ensures { IfSome result (IsHolder use_of_party) }
     {
-        let free = false;
-        let Some(taken) = flag::lock(free) else {
-            unreachable!()
-        };
-        let (found, permit, _) = self
-            .cell
-            .enter()
-            .exchange::<Attempt>(word(free), word(taken), Watch::nothing());
-        if is_set(found) {
-            permit.leave();
-            None
-        } else {
-            Some(Guard::new(permit.into_writer()))
-        }
+        let (guard, _) = self.pass().try_lock().ok()?;
+        Some(guard)
     }
 
     /// Like [`try_lock`](Self::try_lock), but may fail spuriously, so call it in a loop. (This implementation never
@@ -230,6 +187,7 @@ impl<T, R> SpinMutex<T, R> {
     /// let refused = lock.try_lock_weak().is_none();
     /// drop(guard);
     /// ```
+    #[must_use = "dropping the guard at once releases the lock: bind the answer, or write `drop(..)`"]
     pub fn try_lock_weak<'a>(&'a self) -> Option<SpinMutexGuard<'a, T, R>>
         ensures { IfSome result (IsHolder use_of_party) }
     {
@@ -252,9 +210,7 @@ impl<T, R> SpinMutex<T, R> {
     /// equal(&rt, lock.is_locked(), false);
     /// ```
     pub fn is_locked(&self) -> bool {
-        let (found, permit, _) = self.cell.enter().load::<Load>(Watch::nothing());
-        permit.leave();
-        is_set(found)
+        self.pass().is_locked().0
     }
 
     /// Releases the lock that the hold keeps.

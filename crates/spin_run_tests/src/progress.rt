@@ -113,7 +113,10 @@ where
                 Outcome::Answered { answer, .. } => {
                     reached = reached
                         || ((party == counts || counts >= 10)
-                            && matches!(answer, Answer::Granted | Answer::Value(_) | Answer::Follower));
+                            && matches!(
+                                answer,
+                                Answer::Granted | Answer::Value(_) | Answer::Follower
+                            ));
                     Some(Owed::Step)
                 }
                 Outcome::Begun => match action {

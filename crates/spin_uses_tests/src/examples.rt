@@ -6,6 +6,7 @@ use spin::{LazyLock, Once, RwLock, Yield};
 use spin_examples::from_rust::{
     add_from_two, add_one, add_starving, doubled, give_back, port_of, raise, set_elsewhere, take,
 };
+use spin_examples::passes::{count_beside_look, try_once};
 use spin_examples::registers::four_threads;
 use spin_examples::versions::{race, watch_one};
 use spin_examples::{any_lock, paired, totals};
@@ -50,6 +51,19 @@ fn shared_values_as_in_rust(rt: HostRuntime) {
     equal(&rt, port_of(&rt, &port, "no port").is_err(), true);
     equal(&rt, port_of(&rt, &port, "80").ok().copied(), Some(80));
     equal(&rt, port_of(&rt, &port, "none").ok().copied(), Some(80));
+}
+
+#[test]
+fn passes_know_one_history(rt: HostRuntime) {
+    let lock = SpinMutex::new(6);
+    let (counted, (_, looked)) = count_beside_look(&rt, &lock);
+    drop(counted);
+    drop(looked);
+    drop(try_once(&lock));
+    let held = take(&rt, &lock);
+    drop(try_once(&lock));
+    give_back(held);
+    equal(&rt, lock.into_inner(), 7);
 }
 
 #[test]

@@ -1,9 +1,9 @@
 //! What a party is to a `SpinMutex`, and what the word of the lock says of its parties. Begin at [`FlagRule`].
-ghost use Rattle.std.specs.Prelude.{◌≡◌, ◌≢◌, ℕ, IsTrue, ◌↔◌, refl};
+ghost use Rattle.std.specs.Prelude.{◌≡◌, ℕ, refl};
 ghost use Rattle.spin_step.specs.Steps.{bit};
 ghost use Rattle.spin_core.specs.Cell.{alone, use_of};
-ghost use Rattle.spin_flag.specs.Flag.{IsFlag, Told, use_of_party, looks_by, tries_by, leads_by, tried, looked};
-ghost use Rattle.spin_flag.specs.declared.spin.rule.View.TheVariants.{Idle};
+ghost use Rattle.spin_core.specs.Own.{what};
+ghost use Rattle.spin_flag.specs.Flag.{IsFlag, Told, use_of_party, set, looks_by, tries_by, frees_by, tried_by, looked_by};
 
 use spin_core::cell::{Play, Rule, WritePermit};
 use spin_core::guard::{self, Uses};
@@ -53,35 +53,35 @@ pub type Entry = tie::Entry<FlagCall>;
 pub(super) struct Load;
 
 impl Play<Party, Entry> for Load {
-    ghost told = { λ old new before. Told looks_by before };
+    ghost told = { λ old new before. Told (looks_by (what before)) before };
 }
 
 /// The compare-exchange of `try_lock`.
 pub(super) struct Attempt;
 
 impl Play<Party, Entry> for Attempt {
-    ghost told = { λ old new before. Told tries_by before };
+    ghost told = { λ old new before. Told (tries_by (what before)) before };
 }
 
 /// The compare-exchange of `lock`.
 pub(super) struct Tries;
 
 impl Play<Party, Entry> for Tries {
-    ghost told = { λ old new before. Told (leads_by tried) before };
+    ghost told = { λ old new before. Told (tried_by (what before)) before };
 }
 
 /// The load of `lock`.
 pub(super) struct Looks;
 
 impl Play<Party, Entry> for Looks {
-    ghost told = { λ old new before. Told (leads_by looked) before };
+    ghost told = { λ old new before. Told (looked_by (what before)) before };
 }
 
 /// The store that releases the lock.
 pub(super) struct Frees;
 
 impl Play<Party, Entry> for Frees {
-    ghost told = { λ old new before. Told (leads_by (λ n. Idle)) before };
+    ghost told = { λ old new before. Told (frees_by (what before)) before };
 }
 
 impl Uses<Party> for FlagRule {
@@ -108,7 +108,7 @@ pub(super) fn word(flag: bool) -> u64
 
 /// Returns the flag that the word encodes.
 pub(super) fn is_set(word: u64) -> bool
-    ensures { IsTrue result ↔ (word ≢ 0) }
+    ensures { result ≡ set word }
 {
     word != 0
 }

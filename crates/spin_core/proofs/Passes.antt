@@ -1,0 +1,146 @@
+-- What a party that keeps its number learns by a step, and by one step after another.
+use Rattle.std.proofs.Common.{◌≡◌, ℕ, zero, suc, ◌+◌, ◌==◌, if◌then◌else◌, Bool, true, false, Option, Some, None, List, [], ◌∷◌, ◌++◌, length, drop, replicate, refl, sym, ap, ◌∙◌, subst, arith, eq-eqb, zero-add}
+use mathlib.Core.List.{IsPrefix}
+use Rattle.std.proofs.Math.Seq.{drop-append_seam}
+use Rattle.std.proofs.lemmas.List.{append_assoc, map-append}
+use Rattle.spin_model.specs.declared.schedule.Move.{Move}
+use Rattle.spin_model.specs.declared.schedule.Move.TheVariants.{Step}
+use Rattle.spin_model.specs.declared.schedule.Outcome.{Outcome}
+use Rattle.spin_model.specs.declared.schedule.Outcome.TheVariants.{GoingOn, Answered}
+use Rattle.spin_model.specs.Machines.{Machine}
+use Rattle.spin_model.specs.Schedules.{State, Entry, after, at_first, happens}
+use Rattle.spin_core.specs.declared.trace.Watch.{Watch}
+use Rattle.std.specs.List.{list_all}
+use Rattle.spin_model.specs.declared.place.Seat.{Seat}
+use Rattle.spin_core.specs.Run.{IsPlayed, outcomes, is_played}
+use Rattle.spin_core.specs.Own.{Numbered, by_party, entries_by, MadeNone, Tells}
+use Rattle.spin_core.specs.Passes.{mark_of, MayBe, IsNumber, Course, Waits, Ends, Begins, outcomes_by, Did, Made}
+use Rattle.spin_core.specs.Traced.{Watches}
+use Rattle.spin_core.proofs.Owns.{by-append}
+
+module _ {C V : Type 0} where
+  nothing_known : (old : List (Entry C V)) → 0 ≡ length old → old ≡ []
+  nothing_known [] e = refl
+  nothing_known (x ∷ xs) e = absurd (omega (arith, e))
+
+  own_of : (p : ℕ) (own : List (Move C V)) → entries_by p (by_party p own) ≡ by_party p own
+  own_of p [] = refl
+  own_of p (move ∷ own) = ap (λ b. if b then (p, move) ∷ entries_by p (by_party p own) else entries_by p (by_party p own)) (eq-eqb p p refl) ∙ ap (λ l. (p, move) ∷ l) (own_of p own)
+
+module _ {W V C L A : Type 0} (m : Machine W V C L A) where
+  abbrev Schedule : Type 0
+  Schedule = List (Entry C V)
+
+  chosen : (o : Outcome A V) (ls rs ts : List (Outcome A V)) → ls ≡ rs ++ ts → (b : Bool) → (if b then o ∷ ls else ls) ≡ (if b then o ∷ rs else rs) ++ ts
+  chosen o ls rs ts e true = ap (λ l. o ∷ l) e
+  chosen o ls rs ts e false = e
+
+  by-both : (p : ℕ) (s : State W V C L) (xs ys : Schedule) → outcomes_by m p s (xs ++ ys) ≡ outcomes_by m p s xs ++ outcomes_by m p (after m s xs) ys
+  by-both p s [] ys = refl
+  by-both p s (x ∷ xs) ys = let h = happens m s x.0 x.1 in chosen h.outcome (outcomes_by m p h.next (xs ++ ys)) (outcomes_by m p h.next xs) (outcomes_by m p (after m h.next xs) ys) (by-both p h.next xs ys) (x.0 == p)
+
+  after-both : (s : State W V C L) (xs ys : Schedule) → after m s (xs ++ ys) ≡ after m (after m s xs) ys
+  after-both s [] ys = refl
+  after-both s (x ∷ xs) ys = after-both (happens m s x.0 x.1).next xs ys
+
+  -- of entries of others nothing comes to the party
+  unasked : (p : ℕ) (s : State W V C L) (x : Entry C V) (xs : Schedule) (b : Bool) → (if b then x ∷ entries_by p xs else entries_by p xs) ≡ [] → (entries_by p xs ≡ [] → (s' : State W V C L) → outcomes_by m p s' xs ≡ [])
+      → (if b then (happens m s x.0 x.1).outcome ∷ outcomes_by m p (happens m s x.0 x.1).next xs else outcomes_by m p (happens m s x.0 x.1).next xs) ≡ []
+  unasked p s x xs true e rest = cc (e)
+  unasked p s x xs false e rest = rest e (happens m s x.0 x.1).next
+
+  by-others : (p : ℕ) (xs : Schedule) → entries_by p xs ≡ [] → (s : State W V C L) → outcomes_by m p s xs ≡ []
+  by-others p [] none s = refl
+  by-others p (x ∷ xs) none s = unasked p s x xs (x.0 == p) none (by-others p xs)
+
+  by-own : (p : ℕ) (s : State W V C L) (own : List (Move C V)) → outcomes_by m p s (by_party p own) ≡ outcomes m s (by_party p own)
+  by-own p s [] = refl
+  by-own p s (move ∷ own) =
+      let h = happens m s p move in
+      ap (λ b. if b then h.outcome ∷ outcomes_by m p h.next (by_party p own) else outcomes_by m p h.next (by_party p own)) (eq-eqb p p refl) ∙ ap (λ l. h.outcome ∷ l) (by-own p h.next own)
+
+  -- it did the one, and then the other
+  pub did_both : (p : ℕ) (a b c : Schedule) (own own' : List (Move C V)) (outs outs' : List (Outcome A V)) → Did m p a b own outs → Did m p b c own' outs' → Did m p a c (own ++ own') (outs ++ outs')
+  did_both p a b c own own' outs outs' (more, least, is, mine, played, came) (more', least', is', mine', played', came') = (
+    more ++ more',
+    least + least',
+    is' ∙ ap (λ l. l ++ more') is ∙ append_assoc a more more',
+    by-append p more more' ∙ ap (λ l. l ++ entries_by p more') mine ∙ ap (λ l. by_party p own ++ l) mine' ∙ sym (map-append (λ move. (p, move)) own own'),
+    (λ k. subst (λ n. list_all is_played (outcomes m (at_first m n) c) ≡ true) (let e : least' + (least + k) ≡ least + least' + k = omega arith in e) (played' (least + k))),
+    λ k. let s : State W V C L = after m (at_first m (least + least' + k)) a in
+        let one : least + (least' + k) ≡ least + least' + k = omega arith in let two : least' + (least + k) ≡ least + least' + k = omega arith in
+        by-both p s more more'
+        ∙ ap (λ l. l ++ outcomes_by m p (after m s more) more') (ap (λ n. outcomes_by m p (after m (at_first m n) a) more) (sym one) ∙ came (least' + k))
+        ∙ ap (λ l. outs ++ l) (ap (λ z. outcomes_by m p z more') (sym (after-both (at_first m (least + least' + k)) a more) ∙ ap (after m (at_first m (least + least' + k))) (sym is)) ∙ ap (λ n. outcomes_by m p (after m (at_first m n) b) more') (sym two) ∙ came' (least + k)),
+  )
+
+  module _ {X : Type 0} where
+    same_number : (p q : ℕ) (view : Option (Numbered X)) → IsNumber p view → MayBe q view → q ≡ p
+    same_number p q None is may = absurd is
+    same_number p q (Some u) is may = may ∙ sym is
+
+    -- moves of the one course, and then of the other
+    pub made_both : (u v w : Option (Numbered X)) (a b c : Schedule) (P Q R : Course V C A) → ((own own' : List (Move C V)) (outs outs' : List (Outcome A V)) → P own outs → Q own' outs' → R (own ++ own') (outs ++ outs'))
+        → Made m u a v b P → Made m v b w c Q → Made m u a w c R
+    made_both u v w a b c P Q R joins (p, may, is, own, outs, did, so) (q, may', is', own', outs', did', so') =
+        let same : q ≡ p = same_number p q v is may' in
+        (p, may, subst (λ i. IsNumber i w) same is', own ++ own', outs ++ outs', did_both p a b c own own' outs outs' did (subst (λ i. Did m i b c own' outs') same did'), joins own own' outs outs' so so')
+
+  module _ {X S : Type 0} (seat_of : X → Seat C L) (words_of : W → ℕ × S) where
+    -- it has made no entry since it knew these
+    none_between : (view : Option (Numbered X)) (p : ℕ) (old log : Schedule) (known : IsPrefix old log) → mark_of view ≡ length old → MadeNone m seat_of words_of log p view → MayBe p view × (entries_by p known.0 ≡ [])
+    none_between None p old log known knew none = (tt, ap (entries_by p) (ap (λ l. l ++ known.0) (sym (nothing_known old knew)) ∙ known.1) ∙ none)
+    none_between (Some u) p old log known knew none =
+        (none.0, ap (entries_by p) (sym (drop-append_seam old known.0) ∙ ap (λ n. drop n (old ++ known.0)) (sym knew) ∙ ap (drop u.2) known.1) ∙ none.1)
+
+    -- what a step tells a party that knew all up to its last step: what it did, and that it knows all again
+    pub learns : (says : List (Move C V) → List (Outcome A V) → ℕ → X → Type 0) (named : Type 0) (view : Option (Numbered X)) (before now : Watch (Entry C V)) (n : ℕ) (v : Numbered X)
+        → mark_of view ≡ length before.entries → Watches named before now (Tells m seat_of words_of says view) n v
+        → Made m view before.entries (Some v) now.entries (λ own outs. says own outs n v.0) × (mark_of (Some v) ≡ length now.entries)
+    learns says named view before now n v knew (same, (log, es, known, is, (own, outs, es_is, mark, none, mine, said))) =
+        let p : ℕ = v.1 in let apart = none_between view p before.entries log known knew none in let between : Schedule = known.0 in
+        let here : before.entries ++ between ≡ log = known.1 in let least : ℕ = mine.1 in (
+          (
+            p,
+            apart.0,
+            refl,
+            own,
+            outs,
+            (
+              between ++ by_party p own,
+              least,
+              is ∙ ap (λ l. log ++ l) es_is ∙ ap (λ l. l ++ by_party p own) (sym here) ∙ append_assoc before.entries between (by_party p own),
+              by-append p between (by_party p own) ∙ ap (λ l. l ++ entries_by p (by_party p own)) apart.1 ∙ own_of p own,
+              subst (IsPlayed m least) (sym is) mine.3,
+              λ k. let s : State W V C L = after m (at_first m (least + k)) before.entries in
+                  by-both p s between (by_party p own) ∙ ap (λ l. l ++ outcomes_by m p (after m s between) (by_party p own)) (by-others p between apart.1 s) ∙ by-own p (after m s between) own
+                  ∙ ap (λ z. outcomes m z (by_party p own)) (sym (after-both (at_first m (least + k)) before.entries between) ∙ ap (after m (at_first m (least + k))) here) ∙ ap (outcomes m (after m (at_first m (least + k)) log)) (sym es_is) ∙ mine.4 k,
+            ),
+            said,
+          ),
+          mark ∙ ap length (sym is),
+        )
+
+-- How the courses of a call follow one another
+
+replicate-sum : {X : Type 0} (i j : ℕ) (x : X) → replicate (i + j) x ≡ replicate i x ++ replicate j x
+replicate-sum zero j x = ap (λ n. replicate n x) (zero-add j)
+replicate-sum (suc i) j x = ap (λ n. replicate n x) (let e : suc i + j ≡ suc (i + j) = omega arith in e) ∙ ap (λ l. x ∷ l) (replicate-sum i j x)
+
+module _ {X : Type 0} (x : X) (i j : ℕ) (xs ys : List X) where
+  on_and_on : xs ≡ replicate i x → ys ≡ replicate j x → xs ++ ys ≡ replicate (i + j) x
+  on_and_on is are = ap (λ l. l ++ ys) is ∙ ap (λ l. replicate i x ++ l) are ∙ sym (replicate-sum i j x)
+
+  on_and_out : (z : X) → xs ≡ replicate i x → ys ≡ replicate j x ++ z ∷ [] → xs ++ ys ≡ replicate (i + j) x ++ z ∷ []
+  on_and_out z is are = ap (λ l. l ++ ys) is ∙ ap (λ l. replicate i x ++ l) are ∙ sym (append_assoc (replicate i x) (replicate j x) (z ∷ [])) ∙ ap (λ l. l ++ z ∷ []) (sym (replicate-sum i j x))
+
+module _ {V C A : Type 0} where
+  pub waits_on : (own own' : List (Move C V)) (outs outs' : List (Outcome A V)) → Waits own outs → Waits own' outs' → Waits (own ++ own') (outs ++ outs')
+  waits_on own own' outs outs' (i, is, comes) (j, is', comes') = (i + j, on_and_on Step i j own own' is is', on_and_on GoingOn i j outs outs' comes comes')
+
+  pub waits_out : (a : A) (own own' : List (Move C V)) (outs outs' : List (Outcome A V)) → Waits own outs → Ends a own' outs' → Ends a (own ++ own') (outs ++ outs')
+  waits_out a own own' outs outs' (i, is, comes) (j, is', comes') = (i + j, on_and_out Step i j own own' Step is is', on_and_out GoingOn i j outs outs' (Answered a None) comes comes')
+
+  pub begun : (c : C) (P Q R : Course V C A) → ((own own' : List (Move C V)) (outs outs' : List (Outcome A V)) → P own outs → Q own' outs' → R (own ++ own') (outs ++ outs'))
+      → (own own' : List (Move C V)) (outs outs' : List (Outcome A V)) → Begins c P own outs → Q own' outs' → Begins c R (own ++ own') (outs ++ outs')
+  begun c P Q R joins own own' outs outs' (rest, comes, is, are, so) so' = (rest ++ own', comes ++ outs', ap (λ l. l ++ own') is, ap (λ l. l ++ outs') are, joins rest own' comes outs' so so')

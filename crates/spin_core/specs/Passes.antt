@@ -1,0 +1,62 @@
+-- What a party knows of its own calls where it keeps its number, and what is known of the trace, from call to call.
+use Rattle.std.specs.Prelude.{◌≡◌, ℕ, ◌+◌, Option, Some, None, List, [], ◌∷◌, ◌++◌, replicate, ◌==◌, if◌then◌else◌}
+use Rattle.spin_model.specs.declared.schedule.Move.{Move}
+use Rattle.spin_model.specs.declared.schedule.Move.TheVariants.{Begin, Step}
+use Rattle.spin_model.specs.declared.schedule.Outcome.{Outcome}
+use Rattle.spin_model.specs.declared.schedule.Outcome.TheVariants.{Begun, GoingOn, Answered}
+use Rattle.spin_model.specs.Machines.{Machine}
+use Rattle.spin_model.specs.Schedules.{State, Entry, after, at_first, happens}
+use Rattle.spin_core.specs.Run.{IsPlayed}
+use Rattle.spin_core.specs.Own.{Numbered, by_party, entries_by}
+
+-- how long the trace was after the party's last step
+abbrev pub mark_of : {X : Type 0} → Option (Numbered X) → ℕ
+mark_of None = 0
+mark_of (Some u) = u.2
+
+-- the party has this number, or none yet
+abbrev pub MayBe : {X : Type 0} → ℕ → Option (Numbered X) → Type 0
+MayBe p None = Unit {0}
+MayBe p (Some u) = p ≡ u.1
+
+-- the party has this number
+abbrev pub IsNumber : {X : Type 0} → ℕ → Option (Numbered X) → Type 0
+IsNumber p None = ⊥
+IsNumber p (Some u) = p ≡ u.1
+
+-- what moves a party makes, and what they come to
+abbrev pub Course : (V C A : Type 0) → Type 1
+Course V C A = List (Move C V) → List (Outcome A V) → Type 0
+
+module _ {V C A : Type 0} where
+  -- steps by which a call goes on
+  abbrev pub Waits : Course V C A
+  Waits own outs = (n : ℕ) × (own ≡ replicate n Step) × (outs ≡ replicate n GoingOn)
+
+  -- such steps, and one that answers the call
+  abbrev pub Ends : A → Course V C A
+  Ends a own outs = (n : ℕ) × (own ≡ replicate n Step ++ Step ∷ []) × (outs ≡ replicate n GoingOn ++ Answered a None ∷ [])
+
+  -- the beginning of this call, and then these moves
+  abbrev pub Begins : C → Course V C A → Course V C A
+  Begins c P own outs = (rest : List (Move C V)) × (comes : List (Outcome A V)) × (own ≡ Begin c ∷ rest) × (outs ≡ Begun ∷ comes) × P rest comes
+
+  -- a whole call and its answer
+  abbrev pub IsCall : C → A → Course V C A
+  IsCall c a = Begins c (Ends a)
+
+module _ {W V C L A : Type 0} (m : Machine W V C L A) where
+  -- what the entries of one party come to, among those of others
+  abbrev pub outcomes_by : ℕ → State W V C L → List (Entry C V) → List (Outcome A V)
+  outcomes_by p s [] = []
+  outcomes_by p s (e ∷ es) = let h = happens m s e.0 e.1 in if e.0 == p then h.outcome ∷ outcomes_by p h.next es else outcomes_by p h.next es
+
+  -- since the trace was `old` the party has made these moves and no others, and they came to these outcomes; no entry of all is passed over
+  abbrev pub Did : ℕ → List (Entry C V) → List (Entry C V) → List (Move C V) → List (Outcome A V) → Type 0
+  Did p old new own outs =
+      (more : List (Entry C V)) × (least : ℕ) × (new ≡ old ++ more) × (entries_by p more ≡ by_party p own) × IsPlayed m least new
+      × ((k : ℕ) → outcomes_by p (after m (at_first m (least + k)) old) more ≡ outs)
+
+  -- A party of this view that knew `old` is now of that view, and knows `new`. Since then it has made moves of this course, and no others
+  abbrev pub Made : {X : Type 0} → Option (Numbered X) → List (Entry C V) → Option (Numbered X) → List (Entry C V) → Course V C A → Type 0
+  Made view old view' new P = (p : ℕ) × MayBe p view × IsNumber p view' × (own : List (Move C V)) × (outs : List (Outcome A V)) × Did p old new own outs × P own outs

@@ -1,0 +1,63 @@
+//! What two threads with a pass each know of their calls of one lock.
+ghost use Rattle.std.specs.Prelude.{◌≡◌, ◌⊎◌};
+ghost use mathlib.Core.List.{IsPrefix};
+ghost use Rattle.spin.specs.Passes.{history, lock_of, Looked, HeldOnce};
+
+use spin::Spin;
+use spin::mutex::SpinMutex;
+use spin::mutex::spin::Pass;
+use std::sync::Wait;
+use std::thread::{Threads, join};
+
+/// Adds one. It acquires the lock and releases it, once.
+fn count<'a, W: Wait>(rt: &W, pass: Pass<'a, u64, Spin>) -> Pass<'a, u64, Spin>
+    ensures made { HeldOnce pass.entry result }
+    ensures lock { lock_of result ≡ lock_of pass.entry }
+{
+    let (mut guard, seen) = pass.lock(rt);
+    *guard = guard.saturating_add(1);
+    SpinMutex::unlock(guard, seen)
+}
+
+/// Looks once whether the lock is held.
+fn look(pass: Pass<'_, u64, Spin>) -> (bool, Pass<'_, u64, Spin>)
+    ensures made { Looked result.0 pass.entry result.1 }
+    ensures lock { lock_of result.1 ≡ lock_of pass.entry }
+{
+    let (set, pass) = pass.is_locked();
+    (set, pass)
+}
+
+/// Tries once to acquire the lock, and releases it at once if it did.
+pub fn try_once(lock: &SpinMutex<u64>) -> Pass<'_, u64, Spin> {
+    match lock.pass().try_lock() {
+        Ok((guard, seen)) => SpinMutex::unlock(guard, seen),
+        Err(pass) => pass,
+    }
+}
+
+/// One thread counts, and one looks whether the lock is held.
+///
+/// # Contract
+/// What one of them knows of the lock's history is a beginning of what the other knows.
+pub fn count_beside_look<'a, W: Threads + Wait + Sync>(
+    rt: &W,
+    lock: &'a SpinMutex<u64>,
+) -> (Pass<'a, u64, Spin>, (bool, Pass<'a, u64, Spin>))
+    ensures one_history { IsPrefix (history result.0) (history result.1.1) ⊎ IsPrefix (history result.1.1) (history result.0) }
+{
+    let both = join(
+        rt,
+        || -> Pass<'_, u64, Spin>
+            ensures { lock_of result ≡ lock.entry.now.start.name }
+        {
+            let pass = lock.pass();
+            count(rt, pass)
+        },
+        || -> (bool, Pass<'_, u64, Spin>)
+            ensures { lock_of result.1 ≡ lock.entry.now.start.name }
+        { look(lock.pass()) },
+    );
+    both.0.compare(&both.1.1);
+    both
+}

@@ -1,0 +1,31 @@
+-- What a pass knows: the lock's history so far, and which moves in it are its own.
+use Rattle.std.specs.Prelude.{ℕ, Bool, Option, List}
+use Rattle.spin_core.specs.Own.{Numbered}
+use Rattle.spin_model.specs.declared.answer.Answer.TheVariants.{Granted, Is}
+use Rattle.spin_model.specs.declared.answer.Answer.TheVariants as answer
+use Rattle.spin_model.specs.declared.flag.FlagCall.TheVariants.{Lock, IsLocked, Release}
+use Rattle.spin_flag.specs.Flag.{Done, Called}
+use Rattle.spin_flag.specs.declared.spin.pass.Pass.{Pass}
+use Rattle.spin_flag.specs.declared.spin.rule.View.{View}
+
+module _ {T R : Type 0} where
+  -- all moves in the lock up to the pass's last step
+  abbrev pub history : Pass T R → List Done
+  history it = it.seen.entries
+
+  -- the name of the lock's history
+  abbrev pub lock_of : Pass T R → ℕ
+  lock_of it = it.seen.name
+
+  -- the party of the pass: none before its first call
+  abbrev pub party : Pass T R → Option (Numbered View)
+  party it = it.permit.view
+
+  -- since then the pass has looked once, and was told this
+  abbrev pub Looked : Bool → Pass T R → Pass T R → Type 0
+  Looked set before now = Called IsLocked (Is set) (party before) (history before) (party now) (history now)
+
+  -- since then the pass has acquired the lock and released it, once
+  abbrev pub HeldOnce : Pass T R → Pass T R → Type 0
+  HeldOnce before now =
+      (view : Option (Numbered View)) × (seen : List Done) × Called Lock Granted (party before) (history before) view seen × Called Release answer.Done view seen (party now) (history now)

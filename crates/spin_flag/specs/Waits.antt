@@ -1,0 +1,14 @@
+-- What a waiting `lock` comes to by a look, and an exchange where it finds the flag clear.
+use Rattle.std.specs.Prelude.{◌≡◌, Some, Result, IfOk, IfErr}
+use Rattle.spin_core.specs.Passes.{Waits, Ends}
+use Rattle.spin_model.specs.declared.answer.Answer.TheVariants.{Granted}
+use Rattle.spin_flag.specs.Flag.{Moves}
+use Rattle.spin_flag.specs.declared.spin.waiting.Grant.{Grant}
+use Rattle.spin_flag.specs.declared.spin.waiting.Waiting.{Waiting}
+
+module _ {T : Type 0} where
+  -- it is granted, or waits on
+  abbrev pub GoesOn : Waiting T → Result (Grant T) (Waiting T) → Type 0
+  GoesOn was r =
+      IfOk r (λ grant. (grant.seen.name ≡ was.seen.name) × Moves (Ends Granted) was.permit.view was.seen.entries (Some grant.writer.view) grant.seen.entries)
+      × IfErr r (λ next. (next.seen.name ≡ was.seen.name) × Moves Waits was.permit.view was.seen.entries next.permit.view next.seen.entries)

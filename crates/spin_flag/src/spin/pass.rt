@@ -1,0 +1,249 @@
+//! The calls of a [`SpinMutex`] by a thread that keeps account of them. Begin at [`SpinMutex::pass`].
+ghost use Rattle.std.specs.Prelude.{◌≡◌, ◌⊎◌, Some, None, [], length, IfOk, IfErr};
+ghost use mathlib.Core.List.{IsPrefix};
+ghost use Rattle.spin_core.specs.Guard.{IsHolder, guard_view};
+ghost use Rattle.spin_core.specs.Passes.{mark_of};
+ghost use Rattle.spin_flag.specs.Flag.{use_of_party, stands, Called};
+ghost use Rattle.spin_flag.specs.Guards.{Holds};
+ghost use Rattle.spin_flag.specs.Waits.{GoesOn};
+ghost use Rattle.spin_flag.specs.declared.spin.rule.View.TheVariants.{Idle};
+ghost use Rattle.spin_model.specs.declared.answer.Answer.TheVariants.{Granted, Refused, Is, Done as Released};
+ghost use Rattle.spin_model.specs.declared.flag.FlagCall.TheVariants.{Lock, TryLock, IsLocked, Release};
+
+use super::rule::{Attempt, Entry, FlagRule, Frees, Load, Looks, Party, is_set, word};
+use super::waiting::{Grant, Waiting, try_with};
+use super::{SpinMutex, SpinMutexGuard};
+use spin_core::cell::Permit;
+use spin_core::guard::Guard;
+use spin_core::relax::RelaxStrategy;
+use spin_core::trace::Watch;
+use spin_step::flag;
+use std::marker::PhantomData;
+use std::sync::Wait;
+
+/// A thread's account of its calls of a [`SpinMutex`].
+///
+/// The lock's cell keeps the list of all moves that threads have made in it (its history). A pass knows which of these
+/// moves are its own, and the whole list up to its last one. Calls without a pass are in the history too, as calls of
+/// others. A pass is as large as a reference to the lock. It can be sent, and a lock has any number of them.
+///
+/// # Contract
+/// Each call takes the pass and returns it. It ensures `Called`: of the moves by which the history grew, those of this
+/// pass are exactly one call, with the answer that is returned. In the lock's model that call has this answer, at its
+/// place among the moves of all threads, and no move of the history is passed over.
+///
+/// # Examples
+/// ```
+/// fn count<'a, W: Wait>(rt: &W, pass: Pass<'a, u64, Spin>) -> Pass<'a, u64, Spin>
+///     ensures made { HeldOnce pass.entry result }
+///     ensures lock { lock_of result ≡ lock_of pass.entry }
+/// {
+///     let (mut guard, seen) = pass.lock(rt);
+///     *guard = guard.saturating_add(1);
+///     SpinMutex::unlock(guard, seen)
+/// }
+/// ```
+#[must_use = "a pass that is dropped ends: bind it, or write `drop(..)`"]
+pub struct Pass<'a, T, R> {
+    permit: Permit<'a, T, Party, FlagRule>,
+    seen: Watch<Entry>,
+    strategy: PhantomData<R>,
+    ghost named: { permit.key.name ≡ seen.name },
+    ghost rests: { stands permit.view ≡ Idle },
+    ghost knows: { mark_of permit.view ≡ length seen.entries },
+}
+
+impl<T, R> SpinMutex<T, R> {
+    /// Returns a pass that has made no call. It makes no operation on the lock.
+    ///
+    /// # Contract
+    /// The pass is of this lock, and knows nothing of its history yet (`new`).
+    ///
+    /// # Examples
+    /// ```
+    /// let pass = lock.pass();
+    /// ```
+    pub fn pass(&self) -> Pass<'_, T, R>
+        ensures new { (result.seen.name ≡ self.now.start.name) × (result.seen.entries ≡ []) × (result.permit.view ≡ None) }
+    {
+        Pass {
+            permit: self.cell.enter(),
+            seen: self.start.copy(),
+            strategy: PhantomData,
+        }
+    }
+
+    /// Releases the lock, and returns the pass by which it was acquired.
+    ///
+    /// A guard that is dropped releases the lock too, and ends its pass.
+    ///
+    /// # Contract
+    /// `seen` has to be what [`Pass::lock`] or [`Pass::try_lock`] returned beside the guard (`Holds`). The call is in
+    /// the history, as the pass's next one (`made`).
+    ///
+    /// # Examples
+    /// ```
+    /// let (mut guard, seen) = pass.lock(rt);
+    /// *guard = guard.saturating_add(1);
+    /// SpinMutex::unlock(guard, seen)
+    /// ```
+    pub fn unlock<'a>(guard: SpinMutexGuard<'a, T, R>, seen: Watch<Entry>) -> Pass<'a, T, R>
+        requires { Holds guard seen }
+        ensures made { Called Release Released (Some (guard_view guard.entry)) seen.entries result.permit.view result.seen.entries }
+        ensures same { result.seen.name ≡ seen.name }
+    {
+        let free = flag::unlock(true);
+        let permit = Guard::into_writer(guard).into_permit();
+        let (permit, seen) = permit.store::<Frees>(word(free), seen);
+        Pass {
+            permit,
+            seen,
+            strategy: PhantomData,
+        }
+    }
+}
+
+impl<'a, T, R: RelaxStrategy> Pass<'a, T, R> {
+    /// Acquires the lock as [`SpinMutex::lock`] does. Returns the guard, and what the pass knows then.
+    ///
+    /// # Contract
+    /// The call is one `Lock` with the answer `Granted`, however often it looked and tried (`made`). The guard belongs
+    /// to a holder of the lock. Whether and when the call returns is not promised.
+    ///
+    /// # Examples
+    /// ```
+    /// let (mut guard, seen) = pass.lock(rt);
+    /// *guard = guard.saturating_add(1);
+    /// SpinMutex::unlock(guard, seen)
+    /// ```
+    pub fn lock<W: Wait>(self, rt: &W) -> (SpinMutexGuard<'a, T, R>, Watch<Entry>)
+        ensures holder { IsHolder use_of_party result.0 }
+        ensures holds { Holds result.0 result.1 }
+        ensures same { result.1.name ≡ self.entry.seen.name }
+        ensures made { Called Lock Granted self.entry.permit.view self.entry.seen.entries (Some (guard_view result.0)) result.1.entries }
+    {
+        let Self {
+            permit,
+            seen,
+            strategy: _,
+        } = self;
+        let Grant { writer, seen } = match try_with(permit, seen) {
+            Ok(grant) => grant,
+            Err(waiting) => R::back_off(rt, waiting, Waiting::look_and_try),
+        };
+        (Guard::new(writer), seen)
+    }
+}
+
+impl<'a, T, R> Pass<'a, T, R> {
+    /// Tries to acquire the lock as [`SpinMutex::try_lock`] does. Returns the pass at once if the lock is held.
+    ///
+    /// # Contract
+    /// The call is one `TryLock`, with the answer `Granted` beside a guard (`granted`), and else `Refused` (`refused`).
+    ///
+    /// # Examples
+    /// ```
+    /// match lock.pass().try_lock() {
+    ///     Ok((guard, seen)) => SpinMutex::unlock(guard, seen),
+    ///     Err(pass) => pass,
+    /// }
+    /// ```
+    pub fn try_lock(self) -> Result<(SpinMutexGuard<'a, T, R>, Watch<Entry>), Pass<'a, T, R>>
+        ensures holder { IfOk result (λ held. IsHolder use_of_party held.0 × Holds held.0 held.1) }
+        ensures same { IfOk result (λ held. held.1.name ≡ self.entry.seen.name) }
+        ensures granted { IfOk result (λ held. Called TryLock Granted self.entry.permit.view self.entry.seen.entries (Some (guard_view held.0)) held.1.entries) }
+        ensures refused { IfErr result (λ pass. Called TryLock Refused self.entry.permit.view self.entry.seen.entries pass.permit.view pass.seen.entries × (pass.seen.name ≡ self.entry.seen.name)) }
+    {
+        let Self {
+            permit,
+            seen,
+            strategy,
+        } = self;
+        let free = false;
+        let Some(taken) = flag::lock(free) else {
+            unreachable!()
+        };
+        let (found, permit, seen) = permit.exchange::<Attempt>(word(free), word(taken), seen);
+        if is_set(found) {
+            Err(Pass {
+                permit,
+                seen,
+                strategy,
+            })
+        } else {
+            Ok((Guard::new(permit.into_writer()), seen))
+        }
+    }
+
+    /// Looks whether the lock is held, as [`SpinMutex::is_locked`] does.
+    ///
+    /// # Contract
+    /// The call is one `IsLocked`, with the answer that is returned (`made`).
+    ///
+    /// # Examples
+    /// ```
+    /// let (set, pass) = pass.is_locked();
+    /// ```
+    pub fn is_locked(self) -> (bool, Pass<'a, T, R>)
+        ensures made { Called IsLocked (Is result.0) self.entry.permit.view self.entry.seen.entries result.1.permit.view result.1.seen.entries }
+        ensures same { result.1.seen.name ≡ self.entry.seen.name }
+    {
+        let Self {
+            permit,
+            seen,
+            strategy,
+        } = self;
+        let (found, permit, seen) = permit.load::<Load>(seen);
+        (
+            is_set(found),
+            Pass {
+                permit,
+                seen,
+                strategy,
+            },
+        )
+    }
+
+    /// Compares what two passes of one lock know. It does nothing when it runs.
+    ///
+    /// # Contract
+    /// What one of them knows of the history is a beginning of what the other knows. So both know one history, and the
+    /// one that knows more has the calls of both in it, each once, in the order in which each pass made them.
+    ///
+    /// # Examples
+    /// ```
+    /// both.0.compare(&both.1.1);
+    /// ```
+    pub fn compare(&self, other: &Pass<'_, T, R>)
+        requires { self.now.seen.name ≡ other.now.seen.name }
+        ensures { IsPrefix self.now.seen.entries other.now.seen.entries ⊎ IsPrefix other.now.seen.entries self.now.seen.entries }
+    {
+        self.seen.compare(&other.seen);
+    }
+}
+
+impl<'a, T> Waiting<'a, T> {
+    // A load comes first, so that waiting threads share the cache line and do not write it.
+    pub(super) fn look_and_try(self) -> Result<Grant<'a, T>, Waiting<'a, T>>
+        ensures { GoesOn self.entry result }
+    {
+        let Self { permit, seen } = self;
+        let (found, permit, seen) = permit.load::<Looks>(seen);
+        if is_set(found) {
+            Err(Waiting { permit, seen })
+        } else {
+            try_with(permit, seen)
+        }
+    }
+}
+
+impl<T, R> Drop for Pass<'_, T, R> {
+    fn drop(self) {
+        let Self {
+            permit,
+            seen: _,
+            strategy: _,
+        } = self;
+        permit.leave();
+    }
+}
