@@ -17,10 +17,10 @@ mod transcript;
 mod words;
 
 pub use ends::{Failed, OfStd, Sink, Source, write_whole};
-pub use entries::entries as schedule_of;
+pub use entries::{entries as schedule_of, owner_move, plain_move};
 pub use header::{Header, header_of};
 pub use laws::a_text_has_one_reading;
 pub use numbers::{number, numbers_are_printed_texts};
 pub use objects::Spelled;
-pub use text::{RunError, world_text};
-pub use words::{Rest, first_line};
+pub use text::{RunError, read_all, world_text};
+pub use words::{Rest, first_line, is_over, is_word, number_then, only_number, word};

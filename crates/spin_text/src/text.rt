@@ -79,7 +79,7 @@ fn read_by<I: Source>(alloc: Global, input: &mut I, chunk: &mut [u8]) -> Result<
 }
 
 /// Reads all bytes of a source.
-fn read_all<I: Source>(alloc: Global, input: &mut I) -> Result<Vec<u8>, RunError>
+pub fn read_all<I: Source>(alloc: Global, input: &mut I) -> Result<Vec<u8>, RunError>
     ensures bytes { IfOk result (λ bytes. ReadsAll (I.remaining input.old) (I.remaining input.new) bytes.items) }
     ensures ok { OnOk result (I.failed input.new ≡ I.failed input.old) }
     ensures stops { IfErr result (StopsReading (I.failed input.old) (I.failed input.new)) }

@@ -56,7 +56,7 @@ pub enum BarrierPoint {
 /// ```
 /// Header::Barrier { .. } => try_schedule::<BarrierObject>(rt, alloc, trial, opening, lines),
 /// ```
-#[derive(Drop)]
+#[derive(Clone, Copy, PartialEq, Eq)]
 pub struct BarrierObject {
     n: usize,
 }

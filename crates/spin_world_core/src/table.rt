@@ -122,6 +122,26 @@ impl<O: Object, A: Allocator> Table<O, A> {
         })
     }
 
+    /// Creates a copy of the state.
+    pub fn copy(&self, alloc: A) -> Result<Table<O, A>, AllocError>
+        ensures { IfOk result (λ t. t ≡ self.now) }
+    {
+        Ok(Table {
+            words: self.words,
+            value: self.value,
+            seats: Vec::from_slice(alloc, &self.seats)?,
+            sharing: self.sharing,
+            leaked: self.leaked,
+        })
+    }
+
+    /// Returns the seat of each party.
+    pub fn seats(&self) -> &[Seat<O::Call, O::Local>]
+        ensures { result.now ≡ self.now.seats }
+    {
+        &self.seats
+    }
+
     /// Gives the party this seat.
     fn sit(&mut self, party: usize, seat: Seat<O::Call, O::Local>)
         requires { party < length self.old.seats }

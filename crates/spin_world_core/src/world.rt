@@ -9,7 +9,7 @@ use crate::object::Object;
 use crate::schedule::Transcript;
 use crate::table::Table;
 use crate::telling::{forget_begins, no_begins, with_begin};
-use spin_model::{Event, Move, Outcome, Place};
+use spin_model::{Event, Move, Outcome, Place, Seat};
 use std::alloc::{AllocError, Allocator, Global};
 use std::marker::Model;
 
@@ -125,6 +125,60 @@ impl<O: Object, A: Allocator + Copy> World<O, A> {
     {
         O::laws();
         self.table.place(party)
+    }
+
+    /// Returns the object.
+    ///
+    /// # Contract
+    /// It is the one that the world was created with.
+    ///
+    /// # Examples
+    /// ```
+    /// && self.object().same_object(other.object())
+    /// ```
+    pub fn object(&self) -> &O
+        ensures { result.now ≡ self.now.object }
+    {
+        &self.object
+    }
+
+    /// Returns the seat of each party.
+    ///
+    /// # Contract
+    /// They are the seats of the world's state.
+    ///
+    /// # Examples
+    /// ```
+    /// for seat in self.seats() {
+    ///     code = mix(code, O::seat_code(*seat));
+    /// }
+    /// ```
+    pub fn seats(&self) -> &[Seat<O::Call, O::Local>]
+        ensures { result.now ≡ self.now.state.seats }
+    {
+        self.table.seats()
+    }
+
+    /// Creates another world with the same object in the same state.
+    ///
+    /// # Contract
+    /// On `Ok` the two are equal. From then on each is played on its own.
+    ///
+    /// # Examples
+    /// ```
+    /// World::copy(self)
+    /// ```
+    pub fn copy(&self) -> Result<World<O, A>, AllocError>
+    where
+        O: Copy,
+        ensures { IfOk result (λ w. w ≡ self.now) }
+    {
+        Ok(World {
+            alloc: self.alloc,
+            object: self.object,
+            table: self.table.copy(self.alloc)?,
+            begins: no_begins(self.alloc, self.begins.len())?,
+        })
     }
 
     /// Makes one move of the party, and returns its outcome.

@@ -21,7 +21,7 @@ use spin_world_core::{Answer, Hold, Next, Object, Stepped};
 /// let mut world = world(&rt, rt.alloc(), Fair::new(7, usize::MAX, 0), 1);
 /// plays(&rt, &mut world, LEAKED, &[Place::Gone], 9);
 /// ```
-#[derive(Drop)]
+#[derive(Clone, Copy, PartialEq, Eq)]
 pub struct Fair<V> {
     value: V,
     cap: usize,

@@ -18,7 +18,7 @@ use spin_world_core::{Answer, Hold, Next, Object, Stepped};
 /// let mut world: World<Flag<u64>> = World::new(self.alloc, Flag::new(0), PARTIES)?;
 /// world.run(self.schedule.get(..entries).unwrap_or(&[]))
 /// ```
-#[derive(Drop)]
+#[derive(Clone, Copy, PartialEq, Eq)]
 pub struct Flag<V> {
     value: V,
 }

@@ -16,7 +16,7 @@ use spin_world_core::{Answer, Hold, Next, Object, Stepped};
 /// ```
 /// Header::Once { .. } => try_schedule::<OnceObject<u64>>(rt, alloc, trial, opening, lines),
 /// ```
-#[derive(Drop)]
+#[derive(Clone, Copy, PartialEq, Eq)]
 pub struct OnceObject<V> {
     value: Option<V>,
 }

@@ -16,7 +16,7 @@ use spin_world_core::{Answer, Hold, Next, Object, Stepped};
 /// ```
 /// Header::Rw { .. } => try_schedule::<Rw<u64>>(rt, alloc, trial, opening, lines),
 /// ```
-#[derive(Drop)]
+#[derive(Clone, Copy, PartialEq, Eq)]
 pub struct Rw<V> {
     value: V,
     cap: usize,

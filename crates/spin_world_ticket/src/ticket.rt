@@ -18,7 +18,7 @@ use spin_world_core::{Answer, Hold, Next, Object, Stepped};
 /// ```
 /// Header::Ticket { .. } => try_schedule::<Ticket<u64>>(rt, alloc, trial, opening, lines),
 /// ```
-#[derive(Drop)]
+#[derive(Clone, Copy, PartialEq, Eq)]
 pub struct Ticket<V> {
     value: V,
     first: u64,

@@ -1,0 +1,10 @@
+-- what the rest of the words asks for, all words ask for
+use Rattle.std.proofs.Common.{◌≡◌, length, map}
+use Rattle.spin_explore_run.specs.Options.{no_options, options_from}
+use Rattle.spin_explore_run.proofs.options.options_of.Given as goal
+
+abbrev pub invariant-loop-rest : goal.invariant-loop-rest
+invariant-loop-rest l = options_from l.options (map (λ word. word.now) l.rest) ≡ options_from no_options (map (λ word. word.now) l.fn.words)
+
+abbrev pub decreases-loop-rest : goal.decreases-loop-rest
+decreases-loop-rest l = length l.rest

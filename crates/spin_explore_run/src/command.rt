@@ -1,0 +1,110 @@
+//! The program over streams that the caller names. Begin with [`program`].
+ghost use Rattle.std.specs.Prelude.{◌≡◌, ◌≤◌, ◌<◌, ◌⊎◌, ℕ, Bool, true, false, IfOk, IfErr, map};
+ghost use Rattle.spin_explore_run.specs.declared.faults.Fault.{Fault};
+ghost use Rattle.spin_explore_run.specs.declared.options.Options.{Options};
+ghost use Rattle.spin_explore_run.specs.Faults.{status_of, line_of};
+ghost use Rattle.spin_explore_run.specs.Runs.{Told, Does, Stops, Asks, StopsProgram, status_for};
+ghost use Rattle.spin_explore_run.specs.Views.{texts_of};
+
+use crate::explored::explored;
+use crate::faults::{Fault, report_fault};
+use crate::options::{Options, options_of};
+use spin_text::{Sink, Source, read_all, write_whole};
+use std::alloc::Global;
+
+/// Reads a text from `input`, and writes what may come of it on `output`. Returns `true` if that tells that a run can
+/// get stuck.
+fn run<I: Source, O: Sink>(
+    alloc: Global,
+    options: Options,
+    input: &mut I,
+    output: &mut O,
+) -> Result<bool, Fault>
+    requires input { I.failed input.old ≡ false }
+    requires output { O.failed output.old ≡ false }
+    ensures done { IfOk result (Does options (record {
+      left = I.remaining input.old;
+      left_after = I.remaining input.new;
+      source_failed = I.failed input.new;
+      written = O.written output.old;
+      written_after = O.written output.new;
+      sink_failed = O.failed output.new;
+    })) }
+    ensures stops { IfErr result (Stops options (record {
+      left = I.remaining input.old;
+      left_after = I.remaining input.new;
+      source_failed = I.failed input.new;
+      written = O.written output.old;
+      written_after = O.written output.new;
+      sink_failed = O.failed output.new;
+    }) (output.new ≡ output.old)) }
+{
+    let bytes = read_all(alloc, input)?;
+    let (text, stuck) = explored(alloc, options, &bytes)?;
+    write_whole(output, &text)?;
+    Ok(stuck)
+}
+
+/// Runs the program on these words and streams, and returns the status of the process.
+///
+/// It reads a text from `input`: a schedule as [`world_text`](spin_text::world_text) reads it, whose moves `step` and
+/// `weak` it leaves out. The lines of one party, in their order, are its program. In place of the header the text may
+/// have lines `lock NAME HEADER`, each with a header that lacks the number of parties. Then each move names its lock:
+/// `PARTY NAME MOVE`.
+///
+/// It writes each outcome of all interleavings, each way to get stuck with a schedule that leads there, and how many
+/// states it has seen. The words `--schedule NUMBER` ask for a schedule of the outcome with this number instead. The
+/// words `--limit STATES` bound the search. A run that fails writes one line with the reason on `errors`.
+///
+/// # Contract
+/// The caller gives streams that have not failed. The status is one of these:
+///
+/// - 0: what was asked for is written, and no run can get stuck, or a schedule was asked for (`Does`).
+/// - 3: what was asked for is written, and some run can get stuck.
+/// - 1: memory was refused, a read or a write failed, or there are more states than the limit. Only a failed write
+///   leaves a beginning of the text on `output`.
+/// - 2: the words are those of no command, a line of the text is wrong, or there is no such outcome.
+///
+/// With 1 or 2 the fault has this status (`status_of`), the run stopped as that fault says (`StopsProgram`), and its
+/// line is on `errors` (`Told`).
+pub fn program<I: Source, O: Sink, E: Sink>(
+    alloc: Global,
+    words: &[&str],
+    input: &mut I,
+    output: &mut O,
+    errors: &mut E,
+) -> u8
+    requires input { I.failed input.old ≡ false }
+    requires output { O.failed output.old ≡ false }
+    requires errors { E.failed errors.old ≡ false }
+    ensures status { result ≤ 3 }
+    ensures done { (stuck : Bool) → result ≡ status_for stuck
+        → (o : Options) × Asks (texts_of words.now) o × Does o (record {
+          left = I.remaining input.old;
+          left_after = I.remaining input.new;
+          source_failed = I.failed input.new;
+          written = O.written output.old;
+          written_after = O.written output.new;
+          sink_failed = O.failed output.new;
+        }) stuck }
+    ensures silent { (stuck : Bool) → result ≡ status_for stuck → errors.new ≡ errors.old }
+    ensures fault { 0 < result → result < 3 → (fault : Fault) × (result ≡ status_of fault)
+        × StopsProgram (texts_of words.now) (record {
+          left = I.remaining input.old;
+          left_after = I.remaining input.new;
+          source_failed = I.failed input.new;
+          written = O.written output.old;
+          written_after = O.written output.new;
+          sink_failed = O.failed output.new;
+        }) (input.new ≡ input.old) (output.new ≡ output.old) fault
+        × Told (E.failed errors.new) (E.written errors.old) (E.written errors.new) (line_of fault) }
+{
+    let Some(options) = options_of(words) else {
+        return report_fault(Fault::Usage, errors);
+    };
+    match run(alloc, options, input, output) {
+        Ok(true) => 3,
+        Ok(false) => 0,
+        Err(fault) => report_fault(fault, errors),
+    }
+}

@@ -1,0 +1,94 @@
+//! The program over the arguments of the process. Begin with [`program_over_arguments`].
+ghost use Rattle.std.specs.Prelude.{◌≡◌, ◌≤◌, ◌<◌, ◌⊎◌, List, ℕ, Bool, false, IfErr};
+ghost use Rattle.spin_explore_run.specs.declared.faults.Fault.{Fault};
+ghost use Rattle.spin_explore_run.specs.declared.options.Options.{Options};
+ghost use Rattle.spin_explore_run.specs.Faults.{status_of, line_of};
+ghost use Rattle.spin_explore_run.specs.Runs.{Told, Does, StopsProgram, IsWordless, Asks, status_for};
+
+use crate::command::program;
+use crate::faults::{Fault, report_fault};
+use spin_text::{Sink, Source};
+use std::alloc::{AllocError, Allocator};
+use std::env::Env;
+use std::{env, io};
+
+/// Returns the arguments after the program's name. Arguments that are not text are those of no command.
+///
+/// It asks for the room first. `collect` would answer a failed allocation with a smaller request, and tell nothing.
+fn arguments<R: Env + Alloc>(rt: &R) -> Result<Vec<String<R::A>, R::A>, Fault>
+    ensures { IfErr result IsWordless }
+{
+    match env::args(rt) {
+        Ok(mut all) => {
+            let _program = all.next();
+            let mut words = Vec::with_capacity(rt.alloc(), all.len())?;
+            words.extend(all)?;
+            Ok(words)
+        }
+        Err(e) if e.kind() == io::ErrorKind::OutOfMemory => Err(Fault::Memory),
+        Err(_) => Err(Fault::Usage),
+    }
+}
+
+/// Returns the arguments as text.
+fn texts<'a, A: Allocator>(
+    alloc: A,
+    arguments: &'a [String<A>],
+) -> Result<Vec<&'a str, A>, AllocError> {
+    let mut texts = Vec::with_capacity(alloc, arguments.len())?;
+    for word in arguments {
+        texts.push(word.as_str())?;
+    }
+    Ok(texts)
+}
+
+/// Runs [`program`] on the arguments of the process.
+///
+/// Arguments that are not text are those of no command. If there is no memory for the arguments, the call only writes
+/// a line about it on `errors`.
+///
+/// # Contract
+/// The caller gives streams that have not failed. The status means what it means for `program`, for some words. Or the
+/// fault is wrong usage or no memory, from before the words are known (`IsWordless`). Then `input` and `output` are as
+/// before.
+pub fn program_over_arguments<I: Source, O: Sink, E: Sink, R: Env + AllocGlobal>(
+    rt: &R,
+    input: &mut I,
+    output: &mut O,
+    errors: &mut E,
+) -> u8
+    requires input { I.failed input.old ≡ false }
+    requires output { O.failed output.old ≡ false }
+    requires errors { E.failed errors.old ≡ false }
+    ensures status { result ≤ 3 }
+    ensures done { (stuck : Bool) → result ≡ status_for stuck
+        → (words : List (List ℕ)) × (o : Options) × Asks words o × Does o (record {
+          left = I.remaining input.old;
+          left_after = I.remaining input.new;
+          source_failed = I.failed input.new;
+          written = O.written output.old;
+          written_after = O.written output.new;
+          sink_failed = O.failed output.new;
+        }) stuck }
+    ensures silent { (stuck : Bool) → result ≡ status_for stuck → errors.new ≡ errors.old }
+    ensures fault { 0 < result → result < 3 → (fault : Fault) × (words : List (List ℕ)) × (result ≡ status_of fault)
+        × (StopsProgram words (record {
+          left = I.remaining input.old;
+          left_after = I.remaining input.new;
+          source_failed = I.failed input.new;
+          written = O.written output.old;
+          written_after = O.written output.new;
+          sink_failed = O.failed output.new;
+        }) (input.new ≡ input.old) (output.new ≡ output.old) fault
+        ⊎ (IsWordless fault × (input.new ≡ input.old) × (output.new ≡ output.old)))
+        × Told (E.failed errors.new) (E.written errors.old) (E.written errors.new) (line_of fault) }
+{
+    let arguments = match arguments(rt) {
+        Ok(arguments) => arguments,
+        Err(fault) => return report_fault(fault, errors),
+    };
+    match texts(rt.alloc(), &arguments) {
+        Ok(words) => program(rt.alloc(), words.as_slice(), input, output, errors),
+        Err(_) => report_fault(Fault::Memory, errors),
+    }
+}
