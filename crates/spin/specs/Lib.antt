@@ -4,7 +4,9 @@ pub use Rattle.spin_core.specs.Guard
 pub use Rattle.spin_flag.specs.Flag
 pub use Rattle.spin_flag.specs.Passes
 pub use Rattle.spin_ticket.specs.Queue
+pub use Rattle.spin_ticket.specs.TicketPasses
 pub use Rattle.spin_fair.specs.Fair
+pub use Rattle.spin_fair.specs.FairPasses
 pub use Rattle.spin_rwlock.specs.Guards
 pub use Rattle.spin_once.specs.Lazy
 pub use Rattle.spin_core.specs.Retries

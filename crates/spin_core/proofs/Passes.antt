@@ -13,9 +13,11 @@ use Rattle.spin_core.specs.declared.trace.Watch.{Watch}
 use Rattle.std.specs.List.{list_all}
 use Rattle.spin_model.specs.declared.place.Seat.{Seat}
 use Rattle.spin_core.specs.Run.{IsPlayed, outcomes, is_played}
-use Rattle.spin_core.specs.Own.{Numbered, by_party, entries_by, MadeNone, Tells}
-use Rattle.spin_core.specs.Passes.{mark_of, MayBe, IsNumber, Course, Waits, Ends, Begins, outcomes_by, Did, Made}
-use Rattle.spin_core.specs.Traced.{Watches}
+use Rattle.spin_core.specs.Own.{Numbered, what, by_party, entries_by, MadeNone, Tells}
+use Rattle.spin_core.specs.Passes.{mark_of, MayBe, IsNumber, Course, Nothing, Waits, Ends, Begins, IsCall, IsStep, step_by, outcomes_by, Did, Made, Since, Stepped, IsIn, HasCalled}
+use Rattle.spin_core.specs.Cell.{Ways, Moved}
+use Rattle.spin_core.specs.Traced.{Watches, Named}
+use Rattle.spin_core.specs.declared.trace.Trace.{Trace}
 use Rattle.spin_core.proofs.Owns.{by-append}
 
 module _ {C V : Type 0} where
@@ -121,6 +123,26 @@ module _ {W V C L A : Type 0} (m : Machine W V C L A) where
           mark ∙ ap length (sym is),
         )
 
+-- the rule says that the trace has this name
+pub may_know : {E S V R : Type 0} (holds : ℕ → Trace E S → List V → Type 0) (ways : Ways R V) (name : ℕ) → ((n : ℕ) (t : Trace E S) (vs : List V) → holds n t vs → t.name ≡ name) → (known : ℕ) → name ≡ known → Named holds ways known
+may_know holds ways name says known same n t vs meets = says n t vs meets.0 ∙ same
+
+-- What a step tells a party that knew all up to its last step: which course it took, where it led, and that the party knows all again
+pub record Learnt {W V C L A X : Type 0} (m : Machine W V C L A) (view view' : Option (Numbered X)) (before now : Watch (Entry C V)) (to : X) (course : Course V C A) : Type 0 where
+  pub made : Made m view before.entries view' now.entries course
+  pub knows : mark_of view' ≡ length now.entries
+  pub is : what view' ≡ Some to
+  pub named : now.name ≡ before.name
+
+module _ {W V C L A X S : Type 0} (m : Machine W V C L A) (seat_of : X → Seat C L) (words_of : W → ℕ × S) where
+  pub learnt : (says : List (Move C V) → List (Outcome A V) → ℕ → X → Type 0) (to : ℕ → X) (course : ℕ → Course V C A) → ((own : List (Move C V)) (outs : List (Outcome A V)) (n : ℕ) (v : X) → says own outs n v → (v ≡ to n) × course n own outs)
+      → (named : Type 0) → named → (view view' : Option (Numbered X)) (before now : Watch (Entry C V)) (found : ℕ) → mark_of view ≡ length before.entries
+      → Moved (Watches named before now (Tells m seat_of words_of says view) found) view' → Learnt m view view' before now (to found) (course found)
+  learnt says to course means named is_named view None before now found knew moved = absurd moved
+  learnt says to course means named is_named view (Some v) before now found knew moved =
+      let all = learns m seat_of words_of says named view before now found v knew moved in let (p, may, is, own, outs, did, said) = all.0 in let so = means own outs found v.0 said in
+      record { made = (p, may, is, own, outs, did, so.1); knows = all.1; is = ap Some so.0; named = moved.0 is_named }
+
 -- How the courses of a call follow one another
 
 replicate-sum : {X : Type 0} (i j : ℕ) (x : X) → replicate (i + j) x ≡ replicate i x ++ replicate j x
@@ -144,3 +166,69 @@ module _ {V C A : Type 0} where
   pub begun : (c : C) (P Q R : Course V C A) → ((own own' : List (Move C V)) (outs outs' : List (Outcome A V)) → P own outs → Q own' outs' → R (own ++ own') (outs ++ outs'))
       → (own own' : List (Move C V)) (outs outs' : List (Outcome A V)) → Begins c P own outs → Q own' outs' → Begins c R (own ++ own') (outs ++ outs')
   begun c P Q R joins own own' outs outs' (rest, comes, is, are, so) so' = (rest ++ own', comes ++ outs', ap (λ l. l ++ own') is, ap (λ l. l ++ outs') are, joins rest own' comes outs' so so')
+
+-- What a party has made, by one step and by one course after another
+module _ {W V C L A X : Type 0} (m : Machine W V C L A) where
+  module _ (view view' : Option (Numbered X)) (old new : List (Entry C V)) where
+    abbrev Makes : Course V C A → Type 0
+    Makes P = Made m view old view' new P
+
+    pub weaker : (P Q : Course V C A) → ((own : List (Move C V)) (outs : List (Outcome A V)) → P own outs → Q own outs) → Makes P → Makes Q
+    weaker P Q so (p, may, is, own, outs, did, said) = (p, may, is, own, outs, did, so own outs said)
+
+    -- a step that begins a call and answers it
+    pub whole : (c : C) (a : A) → Makes (IsStep false c (Answered a None)) → Makes (IsCall c a)
+    whole c a = weaker (IsStep false c (Answered a None)) (IsCall c a) (λ own outs s. (Step ∷ [], Answered a None ∷ [], s.0, s.1, (0, refl, refl)))
+
+    -- one that begins a call, which goes on
+    pub begins : (c : C) → Makes (IsStep false c GoingOn) → Makes (Begins c Waits)
+    begins c = weaker (IsStep false c GoingOn) (Begins c Waits) (λ own outs s. (Step ∷ [], GoingOn ∷ [], s.0, s.1, (1, refl, refl)))
+
+    -- one in a call, which goes on or is answered
+    pub goes : (c : C) → Makes (IsStep true c GoingOn) → Makes Waits
+    goes c = weaker (IsStep true c GoingOn) Waits (λ own outs s. (1, s.0, s.1))
+
+    pub ends : (c : C) (a : A) → Makes (IsStep true c (Answered a None)) → Makes (Ends a)
+    ends c a = weaker (IsStep true c (Answered a None)) (Ends a) (λ own outs s. (0, s.0, s.1))
+
+  module _ (u v w : Option (Numbered X)) (a b c : List (Entry C V)) where
+    pub after_nothing : (P : Course V C A) → Made m u a v b Nothing → Made m v b w c P → Made m u a w c P
+    after_nothing P = made_both m u v w a b c Nothing P P (λ own own' outs outs' none so. rw (none.0, none.1) so)
+
+    pub and_waits : Made m u a v b Waits → Made m v b w c Waits → Made m u a w c Waits
+    and_waits = made_both m u v w a b c Waits Waits Waits waits_on
+
+    pub and_ends : (answer : A) → Made m u a v b Waits → Made m v b w c (Ends answer) → Made m u a w c (Ends answer)
+    and_ends answer = made_both m u v w a b c Waits (Ends answer) (Ends answer) (waits_out answer)
+
+    pub call_waits : (call : C) → Made m u a v b (Begins call Waits) → Made m v b w c Waits → Made m u a w c (Begins call Waits)
+    call_waits call = made_both m u v w a b c (Begins call Waits) Waits (Begins call Waits) (begun call Waits Waits Waits waits_on)
+
+    pub call_ends : (call : C) (answer : A) → Made m u a v b (Begins call Waits) → Made m v b w c (Ends answer) → Made m u a w c (IsCall call answer)
+    call_ends call answer = made_both m u v w a b c (Begins call Waits) (Ends answer) (IsCall call answer) (begun call Waits (Ends answer) (Ends answer) (waits_out answer))
+
+-- Of a party that keeps a watch of the trace beside its permit: what it learns by a step
+module _ {W V C L A X S : Type 0} (m : Machine W V C L A) (seat_of : X → Seat C L) (words_of : W → ℕ × S) (known now : Option (Numbered X) × Watch (Entry C V)) where
+  pub stepped : (named : Type 0) → named → (found : ℕ) → mark_of known.0 ≡ length known.1.entries → (says : List (Move C V) → List (Outcome A V) → ℕ → X → Type 0) (goes_on : Bool) (c : C) (end : ℕ → Outcome A V) (to : ℕ → X)
+      → ((own : List (Move C V)) (outs : List (Outcome A V)) (n : ℕ) (v : X) → says own outs n v → step_by goes_on c end to own outs n v)
+      → Moved (Watches named known.1 now.1 (Tells m seat_of words_of says known.0) found) now.0 → Stepped m goes_on c (end found) (to found) known now
+  stepped named is_named found knew says goes_on c end to means moved =
+      let told = learnt m seat_of words_of says to (λ n. IsStep goes_on c (end n)) means named is_named known.0 now.0 known.1 now.1 found knew moved in
+      ((told.made, told.named), told.is)
+
+-- and by the steps of one call
+module _ {W V C L A X : Type 0} (m : Machine W V C L A) (c : C) (u v : Option (Numbered X) × Watch (Entry C V)) where
+  -- a step that begins the call and answers it, or does not
+  pub in_one : (a : A) → Since m (IsStep false c (Answered a None)) u v → HasCalled m c a u v
+  in_one a (made, same) = (whole m u.0 v.0 u.1.entries v.1.entries c a made, same)
+
+  pub comes_in : Since m (IsStep false c GoingOn) u v → IsIn m c u v
+  comes_in (made, same) = (begins m u.0 v.0 u.1.entries v.1.entries c made, same)
+
+  module _ (w : Option (Numbered X) × Watch (Entry C V)) (first : IsIn m c u v) where
+    -- a further step of the call
+    pub goes_on : Since m (IsStep true c GoingOn) v w → IsIn m c u w
+    goes_on (made, same) = (call_waits m u.0 v.0 w.0 u.1.entries v.1.entries w.1.entries c first.0 (goes m v.0 w.0 v.1.entries w.1.entries c made), same ∙ first.1)
+
+    pub is_answered : (a : A) → Since m (IsStep true c (Answered a None)) v w → HasCalled m c a u w
+    is_answered a (made, same) = (call_ends m u.0 v.0 w.0 u.1.entries v.1.entries w.1.entries c a first.0 (ends m v.0 w.0 v.1.entries w.1.entries c a made), same ∙ first.1)

@@ -1,5 +1,5 @@
 -- What a party knows of its own calls where it keeps its number, and what is known of the trace, from call to call.
-use Rattle.std.specs.Prelude.{◌≡◌, ℕ, ◌+◌, Option, Some, None, List, [], ◌∷◌, ◌++◌, replicate, ◌==◌, if◌then◌else◌}
+use Rattle.std.specs.Prelude.{◌≡◌, ℕ, ◌+◌, Bool, true, false, Option, Some, None, List, [], ◌∷◌, ◌++◌, replicate, ◌==◌, if◌then◌else◌}
 use Rattle.spin_model.specs.declared.schedule.Move.{Move}
 use Rattle.spin_model.specs.declared.schedule.Move.TheVariants.{Begin, Step}
 use Rattle.spin_model.specs.declared.schedule.Outcome.{Outcome}
@@ -7,7 +7,8 @@ use Rattle.spin_model.specs.declared.schedule.Outcome.TheVariants.{Begun, GoingO
 use Rattle.spin_model.specs.Machines.{Machine}
 use Rattle.spin_model.specs.Schedules.{State, Entry, after, at_first, happens}
 use Rattle.spin_core.specs.Run.{IsPlayed}
-use Rattle.spin_core.specs.Own.{Numbered, by_party, entries_by}
+use Rattle.spin_core.specs.Own.{Numbered, what, by_party, entries_by}
+use Rattle.spin_core.specs.declared.trace.Watch.{Watch}
 
 -- how long the trace was after the party's last step
 abbrev pub mark_of : {X : Type 0} → Option (Numbered X) → ℕ
@@ -29,6 +30,10 @@ abbrev pub Course : (V C A : Type 0) → Type 1
 Course V C A = List (Move C V) → List (Outcome A V) → Type 0
 
 module _ {V C A : Type 0} where
+  -- none
+  abbrev pub Nothing : Course V C A
+  Nothing own outs = (own ≡ []) × (outs ≡ [])
+
   -- steps by which a call goes on
   abbrev pub Waits : Course V C A
   Waits own outs = (n : ℕ) × (own ≡ replicate n Step) × (outs ≡ replicate n GoingOn)
@@ -45,6 +50,15 @@ module _ {V C A : Type 0} where
   abbrev pub IsCall : C → A → Course V C A
   IsCall c a = Begins c (Ends a)
 
+  -- one step that comes to this: the next one of a call that goes on (true), or behind the beginning of this call
+  abbrev pub IsStep : Bool → C → Outcome A V → Course V C A
+  IsStep true c end own outs = (own ≡ Step ∷ []) × (outs ≡ end ∷ [])
+  IsStep false c end own outs = (own ≡ Begin c ∷ Step ∷ []) × (outs ≡ Begun ∷ end ∷ [])
+
+  -- what a play says of its step: what it comes to and where it leads, by the number found
+  abbrev pub step_by : {X : Type 0} → Bool → C → (ℕ → Outcome A V) → (ℕ → X) → List (Move C V) → List (Outcome A V) → ℕ → X → Type 0
+  step_by goes_on c end to own outs n v = (v ≡ to n) × IsStep goes_on c (end n) own outs
+
 module _ {W V C L A : Type 0} (m : Machine W V C L A) where
   -- what the entries of one party come to, among those of others
   abbrev pub outcomes_by : ℕ → State W V C L → List (Entry C V) → List (Outcome A V)
@@ -60,3 +74,21 @@ module _ {W V C L A : Type 0} (m : Machine W V C L A) where
   -- A party of this view that knew `old` is now of that view, and knows `new`. Since then it has made moves of this course, and no others
   abbrev pub Made : {X : Type 0} → Option (Numbered X) → List (Entry C V) → Option (Numbered X) → List (Entry C V) → Course V C A → Type 0
   Made view old view' new P = (p : ℕ) × MayBe p view × IsNumber p view' × (own : List (Move C V)) × (outs : List (Outcome A V)) × Did p old new own outs × P own outs
+
+-- Of a party that keeps a watch of the trace beside its permit: what it was and knew, and what it is and knows now
+module _ {W V C L A X : Type 0} (m : Machine W V C L A) where
+  -- since then it has made moves of this course, and no others, in the same lock
+  abbrev pub Since : Course V C A → Option (Numbered X) × Watch (Entry C V) → Option (Numbered X) × Watch (Entry C V) → Type 0
+  Since course before now = Made m before.0 before.1.entries now.0 now.1.entries course × (now.1.name ≡ before.1.name)
+
+  -- it has made one step of this call, which came to this, and is this now
+  abbrev pub Stepped : Bool → C → Outcome A V → X → Option (Numbered X) × Watch (Entry C V) → Option (Numbered X) × Watch (Entry C V) → Type 0
+  Stepped goes_on call end view before now = Since (IsStep goes_on call end) before now × (what now.0 ≡ Some view)
+
+  -- it is in this call, which it began then
+  abbrev pub IsIn : C → Option (Numbered X) × Watch (Entry C V) → Option (Numbered X) × Watch (Entry C V) → Type 0
+  IsIn call = Since (Begins call Waits)
+
+  -- it has made exactly this call, with this answer
+  abbrev pub HasCalled : C → A → Option (Numbered X) × Watch (Entry C V) → Option (Numbered X) × Watch (Entry C V) → Type 0
+  HasCalled call answer = Since (IsCall call answer)

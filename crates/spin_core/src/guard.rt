@@ -117,8 +117,8 @@ impl<'a, T, V, P: Release<T, V>, R> Guard<'a, T, V, P, R> {
     ///
     /// # Examples
     /// ```
-    /// Ok(permit) => Ok(Guard::new(permit.into_writer())),
-    /// Err(found) => Err(fair::reject(found as usize)),
+    /// let Self { permit, seen } = self;
+    /// (Guard::new(permit.into_writer()), seen)
     /// ```
     pub fn new(writer: WritePermit<'a, T, V, P>) -> Self
         ensures { result.writer ≡ writer.entry }

@@ -90,8 +90,8 @@ pub trait RelaxStrategy {
     ///
     /// # Examples
     /// ```
-    /// Ok(guard) => guard,
-    /// Err(place) => R::retry_after(rt, place, |place| place.pause(), |place| place.enter()),
+    /// Ok(grant) => grant,
+    /// Err(place) => R::retry_after(rt, place, Place::pause, Place::enter),
     /// ```
     #[cold]
     #[inline(never)]
@@ -209,6 +209,7 @@ impl RelaxStrategy for Loop {
 /// ```
 /// TicketMutex {
 ///     cell: Cell::new(value, first, trace, &start),
+///     start: start.0,
 ///     strategy: Strategy::named(),
 /// }
 /// ```
@@ -224,6 +225,7 @@ impl<R> Strategy<R> {
     /// ```
     /// TicketMutex {
     ///     cell: Cell::new(value, first, trace, &start),
+    ///     start: start.0,
     ///     strategy: Strategy::named(),
     /// }
     /// ```

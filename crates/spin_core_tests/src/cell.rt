@@ -30,19 +30,19 @@ impl Rule<u64, Bystander> for AnyWords {
 /// A step that appends nothing.
 struct TellNothing;
 
-impl Play<Bystander, ()> for TellNothing {
+impl Play<Watch<()>, Bystander, ()> for TellNothing {
     ghost use Rattle.spin_core_tests.specs.Bystanders.{nothing_told};
 
-    ghost told = { nothing_told };
+    ghost told = { λ key. nothing_told };
 }
 
 /// A step that appends an entry.
 struct Mark;
 
-impl Play<Bystander, ()> for Mark {
+impl Play<Watch<()>, Bystander, ()> for Mark {
     ghost use Rattle.spin_core_tests.specs.Bystanders.{marks};
 
-    ghost told = { marks };
+    ghost told = { λ key. marks };
 }
 
 type Words = Cell<u64, Bystander, AnyWords>;

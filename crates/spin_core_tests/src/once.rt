@@ -37,38 +37,38 @@ impl Rule<Stage, View> for Stage {
 
 struct Load;
 
-impl Play<View, ()> for Load {
+impl Play<u64, View, ()> for Load {
     ghost use Rattle.spin_core.specs.Traced.{quiet};
     ghost use Rattle.spin_core_tests.specs.Once.{Loads};
 
-    ghost told = { λ old new before. quiet (Loads old new before) };
+    ghost told = { λ key old new before. quiet (Loads old new before) };
 }
 
 struct Begin;
 
-impl Play<View, ()> for Begin {
+impl Play<u64, View, ()> for Begin {
     ghost use Rattle.spin_core.specs.Traced.{quiet};
     ghost use Rattle.spin_core_tests.specs.Once.{Begins};
 
-    ghost told = { λ old new before. quiet (Begins old new before) };
+    ghost told = { λ key old new before. quiet (Begins old new before) };
 }
 
 struct PutBack;
 
-impl Play<View, ()> for PutBack {
+impl Play<u64, View, ()> for PutBack {
     ghost use Rattle.spin_core.specs.Traced.{quiet};
     ghost use Rattle.spin_core_tests.specs.Once.{PutsBack};
 
-    ghost told = { λ old new before. quiet (PutsBack old new before) };
+    ghost told = { λ key old new before. quiet (PutsBack old new before) };
 }
 
 struct Complete;
 
-impl Play<View, ()> for Complete {
+impl Play<u64, View, ()> for Complete {
     ghost use Rattle.spin_core.specs.Traced.{quiet};
     ghost use Rattle.spin_core_tests.specs.Once.{Completes};
 
-    ghost told = { λ old new before. quiet (Completes old new before) };
+    ghost told = { λ key old new before. quiet (Completes old new before) };
 }
 
 /// The number after `seed`, once somebody has asked for it.

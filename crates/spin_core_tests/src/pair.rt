@@ -30,18 +30,18 @@ impl Rule<u64, View> for u64 {
 
 struct Join;
 
-impl Play<View, ()> for Join {
+impl Play<(), View, ()> for Join {
     ghost use Rattle.spin_core_tests.specs.Pair.{Joins};
 
-    ghost told = { Joins };
+    ghost told = { λ key. Joins };
 }
 
 struct Leave;
 
-impl Play<View, ()> for Leave {
+impl Play<(), View, ()> for Leave {
     ghost use Rattle.spin_core_tests.specs.Pair.{Leaves};
 
-    ghost told = { Leaves };
+    ghost told = { λ key. Leaves };
 }
 
 type Pair = Cell<u64, View, u64>;

@@ -7,6 +7,8 @@ pub mod any_lock;
 pub mod from_rust;
 pub mod paired;
 pub mod passes;
+pub mod passes_fair;
+pub mod passes_ticket;
 pub mod registers;
 pub mod totals;
 pub mod versions;

@@ -1,7 +1,7 @@
 -- The steps of a fair mutex keep its rule: each is the plain step that its step function makes, and moves of the lock's model.
 use Rattle.std.proofs.Common.{◌≡◌, ℕ, ◌+◌, ◌-◌, ◌%◌, ◌^◌, ◌<◌, ◌≤◌, true, false, if◌then◌else◌, List, [], ◌∷◌, length, ◌==◌, Bool, Option, Some, None, refl, sym, ap, ◌∙◌, arith, subst, eq-eqb, ne_eqb, bit_or, length-append, set, inl, inr, unwrap_or, is_some, nat_lt}
 use Rattle.std.proofs.lemmas.List.Sums.{sum_by-le-sum_by}
-use Rattle.std.specs.Prelude.{◌≢◌, slice_get}
+use Rattle.std.specs.Prelude.{slice_get}
 use lib.Seq.{set-set}
 use mathlib.Core.Logic.{dite}
 use native.Mathlib.Decide.{ℕ_discrete}
@@ -29,13 +29,13 @@ use Rattle.spin_core.proofs.Plays as plays
 use Rattle.spin_core.proofs.Ties as tie
 use Rattle.spin_core.proofs.Views.{part_before, part-there, release-own, stop-own, stop_holding-own}
 use Rattle.spin_step_more.specs.declared.fair_calls.FairCall.{FairCall}
-use Rattle.spin_step_more.specs.declared.fair_calls.FairCall.TheVariants.{Lock, StarverTryLock, StarverLock, StarverDrop, Release}
+use Rattle.spin_step_more.specs.declared.fair_calls.FairCall.TheVariants.{Lock, TryLock, TryLockStarver, IsLocked, StarverTryLockFair, StarverTryLock, StarverLock, StarverDrop, Release}
 use Rattle.spin_fair.specs.declared.fair.rule.View.{View}
 use Rattle.spin_fair.specs.declared.fair.rule.View.TheVariants.{Idle, Starving, Holding, Served, Trying, Looking, Loading, Registering, Setting, Awaiting, HoldingStarving}
 use Rattle.spin_fair.specs.Fair as fairs
-use Rattle.spin_fair.specs.Fair.{part, use_of_view, use_of_party, seat_of, model, words_of, OneMove, Ending, Word, IsFair, Told, looks_by, tries_by, tries_alone_by, ends_by, leads_by, looks_of, tried, looked, registering, registered, finds_no_room, goes_for, registered_by, Registers, MayRegister, MayTry, setting, finds_flag_set, set_by, MaySet, waits, awaits, HoldsStarving, awaited_by, served, views_of, newcomer, starver, HoldsAt, StarvesAt}
+use Rattle.spin_fair.specs.Fair.{part, use_of_view, use_of_party, seat_of, model, words_of, Says, Ending, Word, IsFair, Told, steps_by, in_call, call_of, IsOut, stands, looks_by, tries_by, alone_by, alone_to, not_alone, ends_by, looks_of, tried, tried_by, looked, looked_by, registered, finds_no_room, goes_for, registered_by, registers_by, Registers, MayRegister, MayTry, finds_flag_set, set_by, sets_by, MaySet, waits, awaits, HoldsStarving, awaited_by, awaits_by, served_by, views_of, newcomer, starver, HoldsAt, StarvesAt}
 use Rattle.spin_fair.proofs.First.{first_after, first_without, marks_within, viewed}
-use Rattle.spin_fair.proofs.Moves.{Moves, Takes, load_moves, attempt_moves, try_moves, look_moves, starve_moves, turn_moves, again_moves, turn_again_moves, alone_moves, set_is, try_set_moves, set_moves, await_moves, unregister_moves, give_up_moves, release_moves}
+use Rattle.spin_fair.proofs.Moves.{Moves, Takes, load_moves, attempt_moves, attempt_to_know_moves, try_moves, look_moves, starve_moves, turn_moves, again_moves, turn_again_moves, alone_moves, try_alone_moves, lock_alone_moves, set_is, try_set_moves, lock_set_moves, starver_set_moves, await_moves, unregister_moves, give_up_moves, release_moves}
 
 -- there is one holder or none, a holder writes, nobody reads, and each that uses the value holds
 facts : (v : View) → OfHolders part v × Writes part (part v) × (reading (use_of_view v) ≡ 0) × (writer (use_of_view v) ≤ writer (used_by part v))
@@ -112,7 +112,7 @@ part_registered _ = refl
 
 registers_plain : (view : Option View) → part_before part view ≡ idle → (word more : ℕ) → ((s : Plain) (p : ℕ) → OneHolds s → s.cap ≡ most_starvers → fair_word s ≡ word → Decides s (gets p to_starve) fair_word (Some more))
     → Leads view (λ n. either (n == word) more n) (λ n v. v ≡ registered_by view word n)
-registers_plain view nothing word more plain = let c = registering view in
+registers_plain view nothing word more plain = let c = call_of view in
     gets_at view to_starve (registered c) (goes_for c) word more (λ s p. rw (nothing, part_registered c) refl) (λ s. knows_none s (registered c)) (λ n. nothing ∙ sym (part_of_next c n)) (λ s n. knows_none s (goes_for c n)) (λ s p room order one has small e. plain s p one room e)
 
 -- What a starver does
@@ -154,21 +154,25 @@ gives_up_plain = stops_plain Starving Idle (λ p. refl) (λ s p. stop-own s p)
 unregisters_plain : (c : FairCall) → Leads (Some (HoldingStarving c)) (λ n. (n + (2 ^ 64 - 2)) % 2 ^ 64) (λ n u. (u ≡ Served) × Takes 2 n)
 unregisters_plain c = stops_plain (HoldingStarving c) Served (λ p. refl) (λ s p. stop_holding-own s p)
 
+part_not_alone : (c : FairCall) → part (not_alone c) ≡ starves
+part_not_alone StarverTryLockFair = refl
+part_not_alone _ = refl
+
 -- the only starver sets the flag and stops starving, both at once
-alone_plain : (taken : ℕ) → ((s : Plain) (p : ℕ) → OneHolds s → is_starver p s.starvers ≡ true → fair_word s ≡ 2 → Decides s (gets p to_lock_starving_alone) fair_word (Some taken)) → taken ≡ 3
-    → Leads (Some Starving) (λ n. either (n == 2) 1 n) (λ n v. v ≡ (if n == 2 then Served else Starving))
-alone_plain taken plain three id n m vs meets at below =
+alone_plain : (c : FairCall) (taken : ℕ) → ((s : Plain) (p : ℕ) → OneHolds s → is_starver p s.starvers ≡ true → fair_word s ≡ 2 → Decides s (gets p to_lock_starving_alone) fair_word (Some taken)) → taken ≡ 3
+    → Leads (Some Starving) (λ n. either (n == 2) 1 n) (λ n v. v ≡ alone_to c n)
+alone_plain c taken plain three id n m vs meets at below =
     let meet : ℕ → List View → Type 0 = λ word vs. Meets Word (ways fair) word m vs in
-    let holding : View = HoldingStarving StarverTryLock in
-    let Takes_it : Bool → Type 0 = λ b. (w : View) × meet (either b taken n) (set vs id w) × (w ≡ (if b then holding else Starving)) in
-    let Serves : Bool → Type 0 = λ b. (w : View) × meet (either b 1 n) (set vs id w) × (w ≡ (if b then Served else Starving)) in
-    let found : Takes_it (n == 2) = gets_at (Some Starving) to_lock_starving_alone holding (λ n. Starving) 2 taken (λ s p. refl) (λ s. tt) (λ n. refl) (λ s n. tt)
+    let holding : View = HoldingStarving c in let missed : View = not_alone c in
+    let Takes_it : Bool → Type 0 = λ b. (w : View) × meet (either b taken n) (set vs id w) × (w ≡ (if b then holding else missed)) in
+    let Serves : Bool → Type 0 = λ b. (w : View) × meet (either b 1 n) (set vs id w) × (w ≡ (if b then Served else missed)) in
+    let found : Takes_it (n == 2) = gets_at (Some Starving) to_lock_starving_alone holding (λ n. missed) 2 taken (λ s p. refl) (λ s. tt) (λ n. sym (part_not_alone c)) (λ s n. knows_none s missed)
     (λ s p room order one has small e. plain s p one (is_starver-from_entries p s.starvers (ap (λ e. e.starvers) has.0)) e) id n m vs meets at below in
     dite (ℕ_discrete n 2)
     (λ e.
     let took = subst Takes_it (eq-eqb n 2 e) found in
     let now = subst (λ (z : ℕ × View). meet z.0 (set vs id z.1)) (λ i. (three i, took.2 i)) took.1 in
-    let left = unregisters_plain StarverTryLock id 3 m (set vs id holding) now (stands_after id Starving holding vs at) (omega arith) in
+    let left = unregisters_plain c id 3 m (set vs id holding) now (stands_after id Starving holding vs at) (omega arith) in
     subst Serves (sym (eq-eqb n 2 e)) (left.0, subst (λ us. meet 1 us) (set-set vs id holding left.0) left.1, left.2.0))
     (λ ne. subst Serves (sym (ne_eqb n 2 ne)) (subst Takes_it (ne_eqb n 2 ne) found))
 
@@ -231,8 +235,8 @@ nobody_starves word second vs rule free j u at some =
     omega (arith, least.0, free)
 
 -- a step makes no party a newcomer that holds, or finds the word 0
-abbrev Frees : (List OneMove → List Ending → ℕ → View → Type 0) → Type 0
-Frees says = (own : List OneMove) (outs : List Ending) (n : ℕ) (v : View) → says own outs n v → v ≡ Holding → n ≡ 0
+abbrev Frees : Says → Type 0
+Frees says = (own : List fairs.OneMove) (outs : List Ending) (n : ℕ) (v : View) → says own outs n v → v ≡ Holding → n ≡ 0
 
 never : (n : ℕ) (v w : View) → v ≡ w → newcomer w ≡ 0 → v ≡ Holding → n ≡ 0
 never n v w is other got = absurd (omega (arith, other, ap newcomer (sym is ∙ got)))
@@ -240,8 +244,12 @@ never n v w is other got = absurd (omega (arith, other, ap newcomer (sym is ∙ 
 by_try : (n : ℕ) (v lost : View) → newcomer lost ≡ 0 → v ≡ (if n == 0 then Holding else lost) → v ≡ Holding → n ≡ 0
 by_try n v lost other is got = dite (ℕ_discrete n 0) (λ e. e) (λ ne. never n v lost (is ∙ ap (λ b. if b then Holding else lost) (ne_eqb n 0 ne)) other got)
 
-by_view : (to : ℕ → View) → ((n : ℕ) → newcomer (to n) ≡ 0) → Frees (leads_by to)
-by_view to others own outs n v says got = never n v (to n) says (others n) got
+module _ (goes_on : Bool) (c : FairCall) (ends : ℕ → List Ending) where
+  frees_by_try : (lost : View) → newcomer lost ≡ 0 → Frees (steps_by goes_on c ends (λ n. if n == 0 then Holding else lost))
+  frees_by_try lost other own outs n v says got = by_try n v lost other says.0 got
+
+  frees_none : (to : ℕ → View) → ((n : ℕ) → newcomer (to n) ≡ 0) → Frees (steps_by goes_on c ends to)
+  frees_none to others own outs n v says got = never n v (to n) says.0 (others n) got
 
 none_looked : (view : Option View) (n : ℕ) → newcomer (looked view n) ≡ 0
 none_looked view n = at (is_set n) (nat_lt (looks_of view) fairs.patience)
@@ -252,7 +260,7 @@ none_looked view n = at (is_set n) (nat_lt (looks_of view) fairs.patience)
     at _ c = refl
 
 none_registered : (view : Option View) (word n : ℕ) → newcomer (registered_by view word n) ≡ 0
-none_registered view word n = at (registering view) (n == word) (is_some (starve most_starvers n))
+none_registered view word n = at (call_of view) (n == word) (is_some (starve most_starvers n))
   where
     at : (c : FairCall) (b d : Bool) → newcomer (if b then registered c else (if d then Registering c n else finds_no_room c)) ≡ 0
     at Lock true d = refl
@@ -278,33 +286,55 @@ none_awaited (Some (Awaiting c)) n = at (is_set n)
 none_awaited (Some _) n = refl
 none_awaited None n = refl
 
-none_alone : (n : ℕ) → newcomer (if n == 2 then Served else Starving) ≡ 0
-none_alone n = at (n == 2)
+none_alone : (c : FairCall) (n : ℕ) → newcomer (alone_to c n) ≡ 0
+none_alone c n = at c (n == 2)
   where
-    at : (b : Bool) → newcomer (if b then Served else Starving) ≡ 0
-    at true = refl
-    at _ = refl
+    at : (c : FairCall) (b : Bool) → newcomer (if b then Served else not_alone c) ≡ 0
+    at c true = refl
+    at StarverTryLockFair _ = refl
+    at _ _ = refl
 
 -- Each step keeps the rule, and appends its moves
 
-abbrev own_ways : Ways (Unit {0}) (Numbered View)
+abbrev pub own_ways : Ways (Unit {0}) (Numbered View)
 own_ways = (alone, use_of_party)
+
+out_has_none : (view : Option View) → IsOut view → part_before part view ≡ idle
+out_has_none None out = refl
+out_has_none (Some Idle) out = refl
+out_has_none (Some _) out = absurd out
+
+-- it comes, or made its last call to the end
+pub is_out : (view : Option (Numbered View)) → stands view ≡ Idle → IsOut (what view)
+is_out None is = tt
+is_out (Some v) is = subst (λ w. IsOut (Some w)) (sym is) tt
 
 -- who may try has nothing, and was counted
 may_try : (n : ℕ) (view : Option View) → MayTry n view → (part_before part view ≡ idle) × (n ≡ looks_of view)
 may_try n None may = (refl, may)
+may_try n (Some Idle) may = (refl, may)
 may_try n (Some (Trying m)) may = (refl, may)
 may_try n (Some _) may = absurd may
 
+pub out_may_try : (view : Option View) → IsOut view → MayTry 0 view
+out_may_try None out = refl
+out_may_try (Some Idle) out = refl
+out_may_try (Some _) out = absurd out
+
+pub out_may_register : (view : Option View) → IsOut view → MayRegister view
+out_may_register None out = tt
+out_may_register (Some Idle) out = tt
+out_may_register (Some _) out = absurd out
+
 -- what a party needs that registers
 abbrev Ready : Option View → ℕ → ℕ → Type 0
-Ready now word more = (part_before part now ≡ idle) × Moves now (λ n. either (n == word) more n) (λ n v. v ≡ registered_by now word n) (leads_by (registered_by now word))
+Ready now word more = (part_before part now ≡ idle) × Moves now (λ n. either (n == word) more n) (λ n v. v ≡ registered_by now word n) (registers_by now word)
 
 module _ (name : ℕ) where
-  abbrev Keeps : Option (Numbered View) → (ℕ → ℕ) → (List OneMove → List Ending → ℕ → View → Type 0) → Type 0
+  abbrev Keeps : Option (Numbered View) → (ℕ → ℕ) → Says → Type 0
   Keeps view f says = Traces (IsFair name) own_ways view None f (Told says view)
 
-  keeps : (view : Option (Numbered View)) (f : ℕ → ℕ) (leads : ℕ → View → Type 0) (says : List OneMove → List Ending → ℕ → View → Type 0) → Frees says → Moves (what view) f leads says → Leads (what view) f leads → Keeps view f says
+  keeps : (view : Option (Numbered View)) (f : ℕ → ℕ) (leads : ℕ → View → Type 0) (says : Says) → Frees says → Moves (what view) f leads says → Leads (what view) f leads → Keeps view f says
   keeps view f leads says frees moves allows id n t vs meets at small =
       let made = tie.traces model seat_of words_of Word name (Unit {0}) alone use_of_view view None f leads says moves allows id n t vs ((meets.0.0, meets.0.1.0, meets.0.2), meets.1) at small in
       let w : Numbered View = made.0 in let told : Told says view t.entries made.1 n w = made.3 in
@@ -317,20 +347,31 @@ module _ (name : ℕ) where
       let meets = tie.opens model seat_of words_of Word name (Unit {0}) alone use_of_view 0 t named empty refl (begins fair 0 0 0 tt (omega arith) refl refl) in
       ((meets.0.0, (meets.0.1, λ i j v w at. absurd (cc (at))), meets.0.2), meets.1)
 
-  pub looks : Keeps None (λ n. n) looks_by
-  looks = keeps None (λ n. n) (λ n v. v ≡ Idle) looks_by (λ own outs n v says got. never n v Idle says.0 refl got) load_moves (stays None (λ n. Idle) (λ n. refl) (λ s n. tt))
+  pub looks : (view : Option (Numbered View)) → IsOut (what view) → Keeps view (λ n. n) looks_by
+  looks view out = let now = what view in
+      keeps view (λ n. n) (λ n v. v ≡ Idle) looks_by (frees_none false IsLocked _ (λ n. Idle) (λ n. refl)) (load_moves now out) (stays now (λ n. Idle) (λ n. out_has_none now out) (λ s n. tt))
 
   -- the step function's own lemma says that the lock is free where it grants
-  pub attempts : (taken : ℕ) → taken ≡ 1 → ((s : Plain) (p : ℕ) → fair_word s ≡ 0 → Decides s (gets p to_lock_unregistered) fair_word (Some taken)) → Keeps None (λ n. either (n == 0) taken n) tries_by
-  attempts taken one plain = keeps None (λ n. either (n == 0) taken n) (λ n v. v ≡ (if n == 0 then Holding else Idle)) tries_by (λ own outs n v says got. by_try n v Idle refl says.0 got) (rw one attempt_moves) (attempts_plain None Idle refl refl taken plain)
+  abbrev Attempts : FairCall → Type 0
+  Attempts c = (view : Option (Numbered View)) → IsOut (what view) → (taken : ℕ) → taken ≡ 1 → ((s : Plain) (p : ℕ) → fair_word s ≡ 0 → Decides s (gets p to_lock_unregistered) fair_word (Some taken)) → Keeps view (λ n. either (n == 0) taken n) (tries_by c)
+
+  attempts_by : (c : FairCall) → ((view : Option View) → IsOut view → Moves view (λ n. either (n == 0) 1 n) (λ n v. v ≡ (if n == 0 then Holding else Idle)) (tries_by c)) → Attempts c
+  attempts_by c moves view out taken one plain = let now = what view in
+      keeps view (λ n. either (n == 0) taken n) (λ n v. v ≡ (if n == 0 then Holding else Idle)) (tries_by c) (frees_by_try false c _ Idle refl) (rw one (moves now out)) (attempts_plain now Idle (out_has_none now out) refl taken plain)
+
+  pub attempts : Attempts TryLock
+  attempts = attempts_by TryLock attempt_moves
+
+  pub attempts_to_know : Attempts TryLockStarver
+  attempts_to_know = attempts_by TryLockStarver attempt_to_know_moves
 
   pub tries : (n : ℕ) (view : Option (Numbered View)) → MayTry n (what view) → (taken : ℕ) → taken ≡ 1 → ((s : Plain) (p : ℕ) → fair_word s ≡ 0 → Decides s (gets p to_lock_unregistered) fair_word (Some taken))
-      → Keeps view (λ n. either (n == 0) taken n) (leads_by (tried (what view)))
-  tries n view may taken one plain = keeps view (λ n. either (n == 0) taken n) (λ n v. v ≡ tried (what view) n) (leads_by (tried (what view))) (λ own outs n v says got. by_try n v (Looking (looks_of (what view))) refl says got) (rw one (try_moves n (what view) may))
-      (attempts_plain (what view) (Looking (looks_of (what view))) (may_try n (what view) may).0 refl taken plain)
+      → Keeps view (λ n. either (n == 0) taken n) (tried_by (what view))
+  tries n view may taken one plain = let now = what view in let lost : View = Looking (looks_of now) in
+      keeps view (λ n. either (n == 0) taken n) (λ n v. v ≡ tried now n) (tried_by now) (frees_by_try (in_call now) Lock _ lost refl) (rw one (try_moves n now may)) (attempts_plain now lost (may_try n now may).0 refl taken plain)
 
-  pub looks_on : (n : ℕ) (view : Option (Numbered View)) → what view ≡ Some (Looking n) → Keeps view (λ n. n) (leads_by (looked (what view)))
-  looks_on n view is = keeps view (λ n. n) (λ n v. v ≡ looked (what view) n) (leads_by (looked (what view))) (by_view (looked (what view)) (none_looked (what view))) (rw is (look_moves n)) (rw is (stays (Some (Looking n)) (looked (Some (Looking n))) (λ k. at (is_set k) (nat_lt n fairs.patience)) (λ s k. knows_none s (looked (Some (Looking n)) k))))
+  pub looks_on : (n : ℕ) (view : Option (Numbered View)) → what view ≡ Some (Looking n) → Keeps view (λ n. n) (looked_by (what view))
+  looks_on n view is = keeps view (λ n. n) (λ n v. v ≡ looked (what view) n) (looked_by (what view)) (frees_none true Lock _ (looked (what view)) (none_looked (what view))) (rw is (look_moves n)) (rw is (stays (Some (Looking n)) (looked (Some (Looking n))) (λ k. at (is_set k) (nat_lt n fairs.patience)) (λ s k. knows_none s (looked (Some (Looking n)) k))))
     where
       at : (b c : Bool) → idle ≡ part (if b then (if c then Looking (n + 1) else Loading) else Trying n)
       at true true = refl
@@ -338,60 +379,74 @@ module _ (name : ℕ) where
       at _ c = refl
 
   pub registers : (first : Option View) (view : Option (Numbered View)) (word more : ℕ) → MayRegister first → Registers first word (what view) → Some more ≡ starve most_starvers word
-      → ((s : Plain) (p : ℕ) → OneHolds s → s.cap ≡ most_starvers → fair_word s ≡ word → Decides s (gets p to_starve) fair_word (Some more)) → Keeps view (λ n. either (n == word) more n) (leads_by (registered_by (what view) word))
-  registers first view word more may from room plain = let ready = ready_of first (what view) word more may from room in
-      keeps view (λ n. either (n == word) more n) (λ n v. v ≡ registered_by (what view) word n) (leads_by (registered_by (what view) word)) (by_view (registered_by (what view) word) (none_registered (what view) word)) ready.1 (registers_plain (what view) ready.0 word more plain)
+      → ((s : Plain) (p : ℕ) → OneHolds s → s.cap ≡ most_starvers → fair_word s ≡ word → Decides s (gets p to_starve) fair_word (Some more)) → Keeps view (λ n. either (n == word) more n) (registers_by (what view) word)
+  registers first view word more may from room plain = let now = what view in let ready = ready_of first now word more may from room in
+      keeps view (λ n. either (n == word) more n) (λ n v. v ≡ registered_by now word n) (registers_by now word) (frees_none (in_call now) (call_of now) _ (registered_by now word) (none_registered now word)) ready.1 (registers_plain now ready.0 word more plain)
     where
       ready_of : (first now : Option View) (word more : ℕ) → MayRegister first → Registers first word now → Some more ≡ starve most_starvers word → Ready now word more
-      ready_of None now word more may (inl at) room = rw (at.0, at.1) (refl, (let two : more ≡ 2 = cc (room, at.1) in rw two starve_moves))
+      ready_of None now word more may (inl at) room = rw (at.0, at.1) (refl, (let two : more ≡ 2 = cc (room, at.1) in rw two (starve_moves None tt)))
+      ready_of (Some Idle) now word more may (inl at) room = rw (at.0, at.1) (refl, (let two : more ≡ 2 = cc (room, at.1) in rw two (starve_moves (Some Idle) tt)))
       ready_of (Some Loading) now word more may (inl at) room = rw (at.0, at.1) (refl, (let two : more ≡ 2 = cc (room, at.1) in rw two turn_moves))
       ready_of None now word more may (inr at) room = rw (at, sym room) (refl, again_moves word more (sym room))
+      ready_of (Some Idle) now word more may (inr at) room = rw (at, sym room) (refl, again_moves word more (sym room))
       ready_of (Some Loading) now word more may (inr at) room = rw (at, sym room) (refl, turn_again_moves word more (sym room))
       ready_of (Some _) now word more may at room = absurd may
 
-  pub tries_alone : (view : Option (Numbered View)) → what view ≡ Some Starving → (taken : ℕ) → taken ≡ 3
-      → ((s : Plain) (p : ℕ) → OneHolds s → is_starver p s.starvers ≡ true → fair_word s ≡ 2 → Decides s (gets p to_lock_starving_alone) fair_word (Some taken)) → Keeps view (λ n. either (n == 2) 1 n) tries_alone_by
-  tries_alone view is taken three plain = keeps view (λ n. either (n == 2) 1 n) (λ n v. v ≡ (if n == 2 then Served else Starving)) tries_alone_by (λ own outs n v says got. never n v (if n == 2 then Served else Starving) says.0 (none_alone n) got) (rw is alone_moves) (rw is (alone_plain taken plain three))
+  -- the exchange of the only starver
+  abbrev Alone : FairCall → Type 0
+  Alone c = (view : Option (Numbered View)) → what view ≡ Some Starving → ((s : Plain) (p : ℕ) → OneHolds s → is_starver p s.starvers ≡ true → fair_word s ≡ 2 → Decides s (gets p to_lock_starving_alone) fair_word (Some 3)) → Keeps view (λ n. either (n == 2) 1 n) (alone_by c)
 
-  pub tries_to_set : (view : Option (Numbered View)) → what view ≡ Some Starving → Keeps view (λ n. bit_or n 1) (leads_by (set_by StarverTryLock))
-  tries_to_set view is = keeps view (λ n. bit_or n 1) (λ n v. v ≡ set_by StarverTryLock n) (leads_by (set_by StarverTryLock)) (by_view (set_by StarverTryLock) (none_set StarverTryLock)) (rw is try_set_moves) (rw is (sets_plain Starving (HoldingStarving StarverTryLock) Starving refl refl refl))
+  as_alone : (c : FairCall) → Moves (Some Starving) (λ n. either (n == 2) 1 n) (λ n v. v ≡ alone_to c n) (alone_by c) → Alone c
+  as_alone c moves view is plain = keeps view (λ n. either (n == 2) 1 n) (λ n v. v ≡ alone_to c n) (alone_by c) (frees_none false c _ (alone_to c) (none_alone c)) (rw is moves) (rw is (alone_plain c 3 plain refl))
 
-  pub sets : (view : Option (Numbered View)) → MaySet (what view) → Keeps view (λ n. bit_or n 1) (leads_by (set_by (setting (what view))))
-  sets view may = keeps view (λ n. bit_or n 1) (λ n v. v ≡ set_by (setting (what view)) n) (leads_by (set_by (setting (what view)))) (by_view (set_by (setting (what view))) (none_set (setting (what view)))) (set_moves (what view) may) (plain (what view) may)
+  pub attempts_alone : Alone StarverTryLockFair
+  attempts_alone = as_alone StarverTryLockFair alone_moves
+
+  pub tries_alone : Alone StarverTryLock
+  tries_alone = as_alone StarverTryLock try_alone_moves
+
+  pub locks_alone : Alone StarverLock
+  locks_alone = as_alone StarverLock lock_alone_moves
+
+  pub sets : (view : Option (Numbered View)) → MaySet (what view) → Keeps view (λ n. bit_or n 1) (sets_by (call_of (what view)))
+  sets view may = let now = what view in let c = call_of now in let ready = ready_of now may in
+      keeps view (λ n. bit_or n 1) (λ n v. v ≡ set_by c n) (sets_by c) (frees_none true c _ (set_by c) (none_set c)) ready.0 ready.1
     where
-      plain : (now : Option View) → MaySet now → Leads now (λ n. bit_or n 1) (λ n v. v ≡ set_by (setting now) n)
-      plain (Some Starving) may = sets_plain Starving (HoldingStarving StarverLock) (Awaiting StarverLock) refl refl refl
-      plain (Some (Setting Lock)) may = sets_plain (Setting Lock) (HoldingStarving Lock) (Awaiting Lock) refl refl refl
-      plain (Some (Setting StarverLock)) may = sets_plain (Setting StarverLock) (HoldingStarving StarverLock) (Awaiting StarverLock) refl refl refl
-      plain (Some (Setting _)) may = absurd cc
-      plain (Some _) may = absurd may
-      plain None may = absurd may
+      ready_of : (now : Option View) → MaySet now → Moves now (λ n. bit_or n 1) (λ n v. v ≡ set_by (call_of now) n) (sets_by (call_of now)) × Leads now (λ n. bit_or n 1) (λ n v. v ≡ set_by (call_of now) n)
+      ready_of (Some (Setting Lock)) may = (lock_set_moves, sets_plain (Setting Lock) (HoldingStarving Lock) (Awaiting Lock) refl refl refl)
+      ready_of (Some (Setting StarverLock)) may = (starver_set_moves, sets_plain (Setting StarverLock) (HoldingStarving StarverLock) (Awaiting StarverLock) refl refl refl)
+      ready_of (Some (Setting StarverTryLock)) may = (try_set_moves, sets_plain (Setting StarverTryLock) (HoldingStarving StarverTryLock) Starving refl refl refl)
+      ready_of (Some (Setting _)) may = absurd cc
+      ready_of (Some _) may = absurd may
+      ready_of None may = absurd may
 
-  pub waits_on : (view : Option (Numbered View)) → awaits (what view) ≡ true → Keeps view (λ n. n) (leads_by (awaited_by (what view)))
-  waits_on view is = let ready = ready_of (what view) is in keeps view (λ n. n) (λ n v. v ≡ awaited_by (what view) n) (leads_by (awaited_by (what view))) (by_view (awaited_by (what view)) (none_awaited (what view))) ready.0 ready.1
+  pub waits_on : (view : Option (Numbered View)) → awaits (what view) ≡ true → Keeps view (λ n. n) (awaits_by (what view))
+  waits_on view is = let now = what view in let ready = ready_of now is in
+      keeps view (λ n. n) (λ n v. v ≡ awaited_by now n) (awaits_by now) (frees_none true (call_of now) _ (awaited_by now) (none_awaited now)) ready.0 ready.1
     where
       at : (c : FairCall) (b : Bool) → starves ≡ part (if b then Awaiting c else Setting c)
       at c true = refl
       at c _ = refl
 
-      ready_of : (now : Option View) → awaits now ≡ true → Moves now (λ n. n) (λ n v. v ≡ awaited_by now n) (leads_by (awaited_by now)) × Leads now (λ n. n) (λ n v. v ≡ awaited_by now n)
+      ready_of : (now : Option View) → awaits now ≡ true → Moves now (λ n. n) (λ n v. v ≡ awaited_by now n) (awaits_by now) × Leads now (λ n. n) (λ n v. v ≡ awaited_by now n)
       ready_of (Some (Awaiting c)) is = (await_moves c, stays (Some (Awaiting c)) (awaited_by (Some (Awaiting c))) (λ k. at c (is_set k)) (λ s k. knows_none s (awaited_by (Some (Awaiting c)) k)))
       ready_of (Some _) is = absurd cc
       ready_of None is = absurd cc
 
-  pub unregisters : (view : Option (Numbered View)) → HoldsStarving (what view) → Keeps view (λ n. (n + (2 ^ 64 - 2)) % 2 ^ 64) (leads_by served)
-  unregisters view held = let ready = ready_of (what view) held in keeps view (λ n. (n + (2 ^ 64 - 2)) % 2 ^ 64) (λ n v. (v ≡ Served) × Takes 2 n) (leads_by served) (by_view served (λ n. refl)) ready.0 ready.1
+  pub unregisters : (view : Option (Numbered View)) → HoldsStarving (what view) → Keeps view (λ n. (n + (2 ^ 64 - 2)) % 2 ^ 64) (served_by (what view))
+  unregisters view held = let now = what view in let ready = ready_of now held in
+      keeps view (λ n. (n + (2 ^ 64 - 2)) % 2 ^ 64) (λ n v. (v ≡ Served) × Takes 2 n) (served_by now) (frees_none true (call_of now) _ (λ n. Served) (λ n. refl)) ready.0 ready.1
     where
-      ready_of : (now : Option View) → HoldsStarving now → Moves now (λ n. (n + (2 ^ 64 - 2)) % 2 ^ 64) (λ n v. (v ≡ Served) × Takes 2 n) (leads_by served) × Leads now (λ n. (n + (2 ^ 64 - 2)) % 2 ^ 64) (λ n v. (v ≡ Served) × Takes 2 n)
+      ready_of : (now : Option View) → HoldsStarving now → Moves now (λ n. (n + (2 ^ 64 - 2)) % 2 ^ 64) (λ n v. (v ≡ Served) × Takes 2 n) (served_by now) × Leads now (λ n. (n + (2 ^ 64 - 2)) % 2 ^ 64) (λ n v. (v ≡ Served) × Takes 2 n)
       ready_of (Some (HoldingStarving c)) held = (unregister_moves c, unregisters_plain c)
       ready_of (Some _) held = absurd held
       ready_of None held = absurd held
 
   pub gives_up : (view : Option (Numbered View)) → what view ≡ Some Starving → Keeps view (λ n. (n + (2 ^ 64 - 2)) % 2 ^ 64) (ends_by StarverDrop)
-  gives_up view is = keeps view (λ n. (n + (2 ^ 64 - 2)) % 2 ^ 64) (λ n v. (v ≡ Idle) × Takes 2 n) (ends_by StarverDrop) (λ own outs n v says got. never n v Idle says.0 refl got) (rw is give_up_moves) (rw is gives_up_plain)
+  gives_up view is = keeps view (λ n. (n + (2 ^ 64 - 2)) % 2 ^ 64) (λ n v. (v ≡ Idle) × Takes 2 n) (ends_by StarverDrop) (frees_none false StarverDrop _ (λ n. Idle) (λ n. refl)) (rw is give_up_moves) (rw is gives_up_plain)
 
   pub frees : (v : Numbered View) → use_of_view v.0 ≡ writes → Keeps (Some v) (λ n. (n + (2 ^ 64 - 1)) % 2 ^ 64) (ends_by Release)
-  frees v held = let ready = ready_of v.0 held in keeps (Some v) (λ n. (n + (2 ^ 64 - 1)) % 2 ^ 64) (λ n v. (v ≡ Idle) × Takes 1 n) (ends_by Release) (λ own outs n v says got. never n v Idle says.0 refl got) ready.0 ready.1
+  frees v held = let ready = ready_of v.0 held in keeps (Some v) (λ n. (n + (2 ^ 64 - 1)) % 2 ^ 64) (λ n v. (v ≡ Idle) × Takes 1 n) (ends_by Release) (frees_none false Release _ (λ n. Idle) (λ n. refl)) ready.0 ready.1
     where
       ready_of : (v : View) → use_of_view v ≡ writes → Moves (Some v) (λ n. (n + (2 ^ 64 - 1)) % 2 ^ 64) (λ n v. (v ≡ Idle) × Takes 1 n) (ends_by Release) × Leads (Some v) (λ n. (n + (2 ^ 64 - 1)) % 2 ^ 64) (λ n v. (v ≡ Idle) × Takes 1 n)
       ready_of Holding e = (release_moves Holding refl, frees_plain Holding refl)
@@ -406,40 +461,19 @@ module _ (name : ℕ) where
       let rest = tie.rests model seat_of words_of Word name (Unit {0}) alone use_of_view v (ap seat_of is) (plays.idle_rests fair v.0 is) in
       (rest.0, λ n t before behind kept. let without = rest.1 n t before behind (kept.0, kept.1.0, kept.2) in (without.0, (without.1, first_without before behind v kept.1.1), without.2))
 
-  pub missed_rests : (v : Numbered View) (found : ℕ) → found ≢ 0 → v.0 ≡ (if found == 0 then Holding else Idle) → Rests (IsFair name) use_of_party (Some v)
-  missed_rests v found other is = idle_rests v (is ∙ ap (λ b. if b then Holding else Idle) (ne_eqb found 0 other))
+  pub rests : (view : Option (Numbered View)) → stands view ≡ Idle → Rests (IsFair name) use_of_party view
+  rests None is = tt
+  rests (Some v) is = idle_rests v is
 
-  pub rests_as : (view : Option (Numbered View)) → what view ≡ Some Idle → Rests (IsFair name) use_of_party view
-  rests_as None is = absurd cc
-  rests_as (Some v) is = idle_rests v (let same : v.0 ≡ Idle = cc (is) in same)
-
-  pub ended_rests : (c : FairCall) (named : Type 0) (before : Option (Numbered View)) (known now : Watch fairs.Done) (found : ℕ) (view : Option (Numbered View)) → Moved (Watches named known now (Told (ends_by c) before) found) view → Rests (IsFair name) use_of_party view
-  ended_rests c named before known now found None moved = absurd moved
-  ended_rests c named before known now found (Some v) moved = idle_rests v moved.1.4.6.0
-
--- Where a step has led
-
-pub led : (to : ℕ → View) (named : Type 0) (before : Option (Numbered View)) (known now : Watch fairs.Done) (found : ℕ) (view : Option (Numbered View)) → Moved (Watches named known now (Told (leads_by to) before) found) view → what view ≡ Some (to found)
-led to named before known now found None moved = absurd moved
-led to named before known now found (Some v) moved = ap Some moved.1.4.6
+pub ended : (c : FairCall) (named : Type 0) (before : Option (Numbered View)) (known now : Watch fairs.Done) (found : ℕ) (view : Option (Numbered View)) → Moved (Watches named known now (Told (ends_by c) before) found) view → stands view ≡ Idle
+ended c named before known now found None moved = absurd moved
+ended c named before known now found (Some v) moved = moved.1.4.6.0
 
 -- a party that registers stays in its call
 
-same_call : (first view : Option View) (word more : ℕ) → Registers first word view → Some more ≡ starve most_starvers word → registering view ≡ registering first
-same_call first view word more (inl at) room = ap registering at.0
-same_call first view word more (inr at) room = let c = registering first in ap registering (at ∙ ap (λ o. Some (if is_some o then Registering c word else finds_no_room c)) (sym room))
-
-pub no_room : (first view : Option View) (word : ℕ) → Registers first word view → None ≡ starve most_starvers word → view ≡ Some (finds_no_room (registering first))
-no_room first view word (inl at) none = absurd (let e : None ≡ starve most_starvers 0 = none ∙ ap (starve most_starvers) at.1 in cc (e))
-no_room first view word (inr at) none = let c = registering first in at ∙ ap (λ o. Some (if is_some o then Registering c word else finds_no_room c)) (sym none)
-
--- its exchange has won, or has found another word
-pub has_registered : (first view now : Option View) (word more found : ℕ) → Registers first word view → Some more ≡ starve most_starvers word → now ≡ Some (registered_by view word found) → found ≡ word → now ≡ Some (registered (registering first))
-has_registered first view now word more found at room is same = is ∙ ap (λ b. Some (if b then registered (registering view) else goes_for (registering view) found)) (eq-eqb found word same) ∙ ap (λ c. Some (registered c)) (same_call first view word more at room)
-
-pub goes_on : (first view now : Option View) (word more found : ℕ) → Registers first word view → Some more ≡ starve most_starvers word → now ≡ Some (registered_by view word found) → found ≢ word → Registers first found now
-goes_on first view now word more found at room is other =
-    inr (is ∙ ap (λ b. Some (if b then registered (registering view) else goes_for (registering view) found)) (ne_eqb found word other) ∙ ap (λ c. Some (goes_for c found)) (same_call first view word more at room))
+pub same_call : (first view : Option View) (word more : ℕ) → Registers first word view → Some more ≡ starve most_starvers word → call_of view ≡ call_of first
+same_call first view word more (inl at) room = ap call_of at.0
+same_call first view word more (inr at) room = let c = call_of first in ap call_of (at ∙ ap (λ o. Some (if is_some o then Registering c word else finds_no_room c)) (sym room))
 
 pub never_reads : (v : View) → use_of_view v ≡ reads → ⊥
 never_reads Holding e = absurd cc

@@ -1,10 +1,11 @@
 -- The rule of a fair mutex: its word is that of a plain lock whose holders and starvers are its parties, and its trace is a schedule of the lock's model, which leads there.
-use Rattle.std.specs.Prelude.{◌≡◌, ◌⊎◌, ℕ, ◌+◌, Bool, true, false, List, [], ◌∷◌, map, Option, Some, None, if◌then◌else◌, ◌%◌, ◌==◌, nat_lt, is_some, ◌<◌, ◌≤◌, slice_get}
+use Rattle.std.specs.Prelude.{◌≡◌, ◌⊎◌, ℕ, ◌+◌, ◌++◌, Bool, true, false, List, [], ◌∷◌, map, Option, Some, None, if◌then◌else◌, ◌%◌, ◌==◌, nat_lt, is_some, ◌<◌, ◌≤◌, slice_get}
 use Rattle.spin_step.specs.Plain.{writing, fair_word}
 use Rattle.spin_step_more.specs.Starvers.{most_starvers, is_set, starve}
 use Rattle.spin_core.specs.Cell.{Use, off, writes}
 use Rattle.spin_core.specs.Views.{Part, idle, holds, starves, holds_starving, part_at, Encodes, no_word}
 use Rattle.spin_core.specs.Own.{Numbered, Runs, Tells}
+use Rattle.spin_core.specs.Passes.{Course, Waits, Ends, Begins, IsCall, Made}
 use Rattle.spin_core.specs.declared.trace.Trace.{Trace}
 use Rattle.spin_fair.specs.declared.fair.rule.View.{View}
 use Rattle.spin_fair.specs.declared.fair.rule.View.TheVariants.{Idle, Starving, Holding, Served, Trying, Looking, Loading, Registering, Setting, Awaiting, HoldingStarving}
@@ -20,6 +21,8 @@ use Rattle.spin_model.specs.declared.schedule.Outcome.{Outcome}
 use Rattle.spin_model.specs.declared.schedule.Outcome.TheVariants.{Begun, GoingOn, Answered}
 use Rattle.spin_model.specs.Machines.{Machine}
 use Rattle.spin_model.specs.Schedules.{Entry}
+use Rattle.spin_step_more.specs.declared.fair.LockRejectReason.{LockRejectReason}
+use Rattle.spin_step_more.specs.declared.fair.LockRejectReason.TheVariants.{Locked, Starved}
 use Rattle.spin_step_more.specs.declared.fair_calls.FairCall.{FairCall}
 use Rattle.spin_step_more.specs.declared.fair_calls.FairCall.TheVariants.{Lock, TryLockStarver, IsLocked, Starve, StarverTryLockFair, StarverTryLock, StarverLock}
 use Rattle.spin_step_more.specs.declared.fair_calls.FairPoint.{FairPoint}
@@ -111,32 +114,91 @@ IsFair name word trace parties = Runs model seat_of words_of (λ n second vs. Wo
 abbrev pub Told : (List OneMove → List Ending → ℕ → View → Type 0) → Option (Numbered View) → List Done → List Done → ℕ → Numbered View → Type 0
 Told = Tells model seat_of words_of
 
--- The steps: which moves, with which outcomes, by the number found, and the view after
+-- The steps: what each comes to and where it leads, by the number found
 
-abbrev pub looks_by : List OneMove → List Ending → ℕ → View → Type 0
-looks_by own outs n v = (v ≡ Idle) × (own ≡ Begin IsLocked ∷ Step ∷ []) × (outs ≡ Begun ∷ Answered (answer.Is (is_set n)) None ∷ [])
+abbrev pub Says : Type 1
+Says = List OneMove → List Ending → ℕ → View → Type 0
 
--- why a newcomer is refused that finds this word
-abbrev pub refusal : ℕ → Answer (Unit {0})
-refusal n = if n == 1 then answer.Locked else answer.Starved
+-- a step of as many moves as it has outcomes: in a call that goes on (true), or behind the beginning of this call
+abbrev pub AreSteps : Bool → FairCall → List Ending → List OneMove → List Ending → Type 0
+AreSteps true c ends own outs = (own ≡ map (λ _. Step) ends) × (outs ≡ ends)
+AreSteps false c ends own outs = (own ≡ Begin c ∷ map (λ _. Step) ends) × (outs ≡ Begun ∷ ends)
 
-abbrev pub tries_by : List OneMove → List Ending → ℕ → View → Type 0
-tries_by own outs n v =
-    (v ≡ (if n == 0 then Holding else Idle)) × (own ≡ Begin TryLockStarver ∷ Step ∷ []) × (outs ≡ Begun ∷ Answered (if n == 0 then answer.Granted else refusal n) None ∷ [])
+abbrev pub steps_by : Bool → FairCall → (ℕ → List Ending) → (ℕ → View) → Says
+steps_by goes_on c ends to own outs n v = (v ≡ to n) × AreSteps goes_on c (ends n) own outs
 
--- the only starver makes both steps of the call at once
-abbrev pub tries_alone_by : List OneMove → List Ending → ℕ → View → Type 0
-tries_alone_by own outs n v =
-    (v ≡ (if n == 2 then Served else Starving)) × (own ≡ Begin StarverTryLockFair ∷ Step ∷ (if n == 2 then Step ∷ [] else []))
-    × (outs ≡ Begun ∷ (if n == 2 then GoingOn ∷ Answered answer.Granted None ∷ [] else Answered answer.Refused None ∷ []))
+abbrev pub answered : Answer (Unit {0}) → Ending
+answered a = Answered a None
+
+-- it is in a call
+abbrev pub in_call : Option View → Bool
+in_call (Some (Trying n)) = true
+in_call (Some (Looking n)) = true
+in_call (Some Loading) = true
+in_call (Some (Registering c n)) = true
+in_call (Some (Setting c)) = true
+in_call (Some (Awaiting c)) = true
+in_call (Some (HoldingStarving c)) = true
+in_call _ = false
+
+-- in which call it is; one that is in none begins `starve`
+abbrev pub call_of : Option View → FairCall
+call_of (Some (Trying n)) = Lock
+call_of (Some (Looking n)) = Lock
+call_of (Some Loading) = Lock
+call_of (Some (Registering c n)) = c
+call_of (Some (Setting c)) = c
+call_of (Some (Awaiting c)) = c
+call_of (Some (HoldingStarving c)) = c
+call_of _ = Starve
+
+-- it is in no call, and holds nothing
+abbrev pub IsOut : Option View → Type 0
+IsOut None = Unit {0}
+IsOut (Some Idle) = Unit {0}
+IsOut _ = ⊥
+
+-- what the party is; one that has not come yet is idle
+abbrev pub stands : Option (Numbered View) → View
+stands None = Idle
+stands (Some v) = v.0
+
+abbrev pub looks_by : Says
+looks_by = steps_by false IsLocked (λ n. answered (answer.Is (is_set n)) ∷ []) (λ n. Idle)
+
+-- what a newcomer is told that finds this word, where it is not 0
+abbrev pub refusal : FairCall → ℕ → Answer (Unit {0})
+refusal TryLockStarver n = if n == 1 then answer.Locked else answer.Starved
+refusal _ n = answer.Refused
+
+-- the reason that says so
+abbrev pub answer_of : LockRejectReason → Answer (Unit {0})
+answer_of Locked = answer.Locked
+answer_of Starved = answer.Starved
+
+-- the exchange of a try of a newcomer
+abbrev pub tries_by : FairCall → Says
+tries_by c = steps_by false c (λ n. answered (if n == 0 then answer.Granted else refusal c n) ∷ []) (λ n. if n == 0 then Holding else Idle)
+
+-- a starver that is not the only one is refused by `try_lock_fair`, and goes on to set the flag in its other calls
+abbrev pub missed_alone : FairCall → List Ending
+missed_alone StarverTryLockFair = answered answer.Refused ∷ []
+missed_alone _ = []
+
+abbrev pub not_alone : FairCall → View
+not_alone StarverTryLockFair = Starving
+not_alone c = Setting c
+
+abbrev pub alone_to : FairCall → ℕ → View
+alone_to c n = if n == 2 then Served else not_alone c
+
+-- the exchange of a starver that begins a call: the only one makes both steps of the call at once
+abbrev pub alone_by : FairCall → Says
+alone_by c = steps_by false c (λ n. if n == 2 then GoingOn ∷ answered answer.Granted ∷ [] else missed_alone c) (alone_to c)
 
 -- a call of one step by which a party gives back what it holds
-abbrev pub ends_by : FairCall → List OneMove → List Ending → ℕ → View → Type 0
-ends_by c own outs n v = (v ≡ Idle) × (own ≡ Begin c ∷ Step ∷ []) × (outs ≡ Begun ∷ Answered answer.Done None ∷ [])
-
--- a step of a call of many: no more is told than where it leads
-abbrev pub leads_by : (ℕ → View) → List OneMove → List Ending → ℕ → View → Type 0
-leads_by to own outs n v = v ≡ to n
+abbrev pub ends_by : FairCall → Says
+ends_by c = steps_by false c (λ n. answered answer.Done ∷ []) (λ n. Idle)
 
 -- how many looks have found the lock held
 abbrev pub looks_of : Option View → ℕ
@@ -148,15 +210,15 @@ looks_of _ = 0
 abbrev pub tried : Option View → ℕ → View
 tried view n = if n == 0 then Holding else Looking (looks_of view)
 
+abbrev pub tried_by : Option View → Says
+tried_by view = steps_by (in_call view) Lock (λ n. (if n == 0 then answered answer.Granted else GoingOn) ∷ []) (tried view)
+
 -- where a look of `lock` leads: it is counted where it finds the flag set, until the party has looked often enough
 abbrev pub looked : Option View → ℕ → View
 looked view n = if is_set n then (if nat_lt (looks_of view) patience then Looking (looks_of view + 1) else Loading) else Trying (looks_of view)
 
--- in which call a party registers that comes, or is in one
-abbrev pub registering : Option View → FairCall
-registering (Some Loading) = Lock
-registering (Some (Registering c n)) = c
-registering _ = Starve
+abbrev pub looked_by : Option View → Says
+looked_by view = steps_by true Lock (λ n. GoingOn ∷ []) (looked view)
 
 abbrev pub registered : FairCall → View
 registered Lock = Setting Lock
@@ -173,28 +235,43 @@ goes_for c n = if is_some (starve most_starvers n) then Registering c n else fin
 
 -- where an exchange leads that is to register
 abbrev pub registered_by : Option View → ℕ → ℕ → View
-registered_by view old n = if n == old then registered (registering view) else goes_for (registering view) n
+registered_by view old n = if n == old then registered (call_of view) else goes_for (call_of view) n
+
+-- of a party that registers, or finds no room: `lock` goes on, and `starve` is answered
+abbrev pub registered_end : FairCall → Ending
+registered_end Lock = GoingOn
+registered_end _ = answered answer.Granted
+
+abbrev pub no_room_end : FairCall → Ending
+no_room_end Lock = GoingOn
+no_room_end _ = answered answer.Refused
+
+-- a first exchange is of 0: it is the load and the exchange where it wins, and the load where it loses
+abbrev pub loads : Option View → List Ending
+loads (Some (Registering c n)) = []
+loads _ = GoingOn ∷ []
+
+abbrev pub register_ends : Option View → ℕ → ℕ → List Ending
+register_ends view old n = if n == old then loads view ++ registered_end (call_of view) ∷ [] else (if is_some (starve most_starvers n) then GoingOn else no_room_end (call_of view)) ∷ []
+
+abbrev pub registers_by : Option View → ℕ → Says
+registers_by view old = steps_by (in_call view) (call_of view) (register_ends view old) (registered_by view old)
 
 -- a party comes to register, or goes on from a word that it found
 abbrev pub Registers : Option View → ℕ → Option View → Type 0
-Registers first word view = ((view ≡ first) × (word ≡ 0)) ⊎ (view ≡ Some (goes_for (registering first) word))
+Registers first word view = ((view ≡ first) × (word ≡ 0)) ⊎ (view ≡ Some (goes_for (call_of first) word))
 
 -- it comes, or has looked often enough
 abbrev pub MayRegister : Option View → Type 0
-MayRegister None = Unit {0}
 MayRegister (Some Loading) = Unit {0}
-MayRegister _ = ⊥
+MayRegister view = IsOut view
 
 -- it comes, or goes on with its exchange, after so many looks
 abbrev pub MayTry : ℕ → Option View → Type 0
 MayTry n None = n ≡ 0
+MayTry n (Some Idle) = n ≡ 0
 MayTry n (Some (Trying m)) = n ≡ m
 MayTry n _ = ⊥
-
--- in which call that waits a starver sets the flag: one that is in none begins its own
-abbrev pub setting : Option View → FairCall
-setting (Some (Setting c)) = c
-setting _ = StarverLock
 
 abbrev pub finds_flag_set : FairCall → View
 finds_flag_set StarverTryLock = Starving
@@ -204,16 +281,32 @@ finds_flag_set c = Awaiting c
 abbrev pub set_by : FairCall → ℕ → View
 set_by c n = if n % 2 == 0 then HoldingStarving c else finds_flag_set c
 
+abbrev pub flag_set_end : FairCall → Ending
+flag_set_end StarverTryLock = answered answer.Refused
+flag_set_end c = GoingOn
+
+abbrev pub sets_by : FairCall → Says
+sets_by c = steps_by true c (λ n. (if n % 2 == 0 then GoingOn else flag_set_end c) ∷ []) (set_by c)
+
 -- a starver waits in this call
 abbrev pub waits : FairCall → Bool
 waits Lock = true
 waits StarverLock = true
 waits _ = false
 
+-- a starver sets the flag in this call
+abbrev pub sets : FairCall → Bool
+sets StarverTryLock = true
+sets c = waits c
+
 abbrev pub MaySet : Option View → Type 0
-MaySet (Some Starving) = Unit {0}
-MaySet (Some (Setting c)) = waits c ≡ true
+MaySet (Some (Setting c)) = sets c ≡ true
 MaySet _ = ⊥
+
+-- the same in a call that waits
+abbrev pub MayAwait : Option View → Type 0
+MayAwait (Some (Setting c)) = waits c ≡ true
+MayAwait _ = ⊥
 
 abbrev pub awaits : Option View → Bool
 awaits (Some (Awaiting c)) = waits c
@@ -227,8 +320,11 @@ abbrev pub awaited_by : Option View → ℕ → View
 awaited_by (Some (Awaiting c)) n = if is_set n then Awaiting c else Setting c
 awaited_by _ n = Idle
 
-abbrev pub served : ℕ → View
-served n = Served
+abbrev pub awaits_by : Option View → Says
+awaits_by view = steps_by true (call_of view) (λ n. GoingOn ∷ []) (awaited_by view)
+
+abbrev pub served_by : Option View → Says
+served_by view = steps_by true (call_of view) (λ n. answered answer.Granted ∷ []) (λ n. Served)
 
 -- what the parties are
 abbrev pub views_of : List (Numbered View) → List View
@@ -241,3 +337,34 @@ HoldsAt vs p = part_at part vs p ≡ holds writing
 -- the party with this number is registered as a starver
 abbrev pub StarvesAt : List View → ℕ → Type 0
 StarvesAt vs p = (part_at part vs p ≡ starves) ⊎ (part_at part vs p ≡ holds_starving)
+
+-- What a party comes to that keeps its number
+
+-- moves of a call that goes on (true), or of this one from its beginning: it goes on, or is answered so
+abbrev pub Comes : Bool → FairCall → Option (Answer (Unit {0})) → Course (Unit {0}) FairCall (Answer (Unit {0}))
+Comes true c None = Waits
+Comes true c (Some a) = Ends a
+Comes false c None = Begins c Waits
+Comes false c (Some a) = IsCall c a
+
+-- since it knew `old` it has made moves of this course, and no others
+abbrev pub Moves : Course (Unit {0}) FairCall (Answer (Unit {0})) → Option (Numbered View) → List Done → Option (Numbered View) → List Done → Type 0
+Moves course view old view' new = Made model view old view' new course
+
+-- it has made exactly this call, with this answer
+abbrev pub Called : FairCall → Answer (Unit {0}) → Option (Numbered View) → List Done → Option (Numbered View) → List Done → Type 0
+Called c a = Moves (IsCall c a)
+
+-- what `lock` and `starve` come to where they register, and where they find no room
+abbrev pub registered_so : FairCall → Option (Answer (Unit {0}))
+registered_so Lock = None
+registered_so _ = Some answer.Granted
+
+abbrev pub no_room_so : FairCall → Option (Answer (Unit {0}))
+no_room_so Lock = None
+no_room_so _ = Some answer.Refused
+
+-- what a starver's call comes to that finds the flag set
+abbrev pub flag_set_so : FairCall → Option (Answer (Unit {0}))
+flag_set_so StarverTryLock = Some answer.Refused
+flag_set_so c = None

@@ -1,2 +1,5 @@
 pub mod Fair
+pub mod Guards
+pub mod Waits
+pub mod FairPasses
 pub mod Texts

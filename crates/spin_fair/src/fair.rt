@@ -1,10 +1,11 @@
 //! A spinning mutex in which starvers come before newcomers. Begin at [`FairMutex::lock`] and [`FairMutex::starve`].
-ghost use Rattle.std.specs.Prelude.{◌≡◌, Some, IfSome, IfOk};
+ghost use Rattle.std.specs.Prelude.{◌≡◌, Some, None, [], true, IfSome, IfOk};
 ghost use Rattle.spin_core.specs.Guard.{IsHolder};
 ghost use Rattle.spin_fair.specs.Fair.{use_of_party};
+ghost use Rattle.spin_fair.specs.Waits.{LocksOrWaits};
 ghost use Rattle.spin_fair.specs.declared.fair.rule.View.TheVariants.{Holding};
 
-use self::rule::{Attempt, Load};
+use self::account::{Account, Got, Waiting};
 use self::waiting::{register, try_with};
 use spin_core::cell::Cell;
 use spin_core::guard::{self, Guard};
@@ -14,13 +15,18 @@ use spin_core::trace::{Trace, Watch};
 use spin_step_more::fair;
 use std::sync::Wait;
 
+pub(crate) mod account;
+mod pass;
 mod rule;
 mod starvation;
+mod starving;
 mod texts;
 pub(crate) mod waiting;
 
+pub use self::pass::Pass;
 pub use self::rule::{Entry, FairRule, Party, View};
 pub use self::starvation::Starvation;
+pub use self::starving::StarvingPass;
 pub use spin_step_more::fair::LockRejectReason;
 
 /// The patience of [`FairMutex::lock`]: after more looks than this that found the lock held, it starves.
@@ -52,8 +58,12 @@ pub const STARVATION_SPINS: usize = 1024;
 /// ```
 #[derive(Drop)]
 pub struct FairMutex<T, R = Spin> {
-    pub(crate) cell: Cell<T, Party, FairRule>,
+    cell: Cell<T, Party, FairRule>,
+    // What is known of the lock's history from the start: its name. It has no byte.
+    start: Watch<Entry>,
     strategy: Strategy<R>,
+    ghost named: { cell.name ≡ start.name },
+    ghost empty: { start.entries ≡ [] },
 }
 
 /// The guard of a [`FairMutex`]. Dropping it releases the lock, and leaves the starvers registered.
@@ -106,6 +116,7 @@ impl<T, R> FairMutex<T, R> {
         let start = trace.watch();
         FairMutex {
             cell: Cell::new(value, 0, trace, &start),
+            start,
             strategy: Strategy::named(),
         }
     }
@@ -125,6 +136,16 @@ impl<T, R> FairMutex<T, R> {
     /// ```
     pub fn into_inner(self) -> T {
         self.cell.into_inner()
+    }
+
+    // Returns a party that has taken no step.
+    pub(crate) fn account(&self) -> Account<'_, T>
+        ensures { (result.permit.view ≡ None) × (result.seen.name ≡ self.now.start.name) × (result.seen.entries ≡ []) }
+    {
+        Account {
+            permit: self.cell.enter(),
+            seen: self.start.copy(),
+        }
     }
 }
 
@@ -146,17 +167,21 @@ impl<T, R: RelaxStrategy> FairMutex<T, R> {
     pub fn lock<W: Wait>(&self, rt: &W) -> FairMutexGuard<'_, T, R>
         ensures { IsHolder use_of_party result }
     {
-        match try_with(self.cell.enter(), 0) {
-            Ok(guard) => guard,
+        // As `Pass::lock`: through it, the path of a free lock would be longer.
+        let (guard, _) = match try_with(self.account(), 0) {
+            Ok(held) => held,
             Err(waiting) => {
                 R::retry_after(
                     rt,
                     waiting,
                     |_| MAX_HINTS,
-                    |waiting| waiting.look_and_try(rt),
+                    |waiting: Waiting<T>| -> Result<Got<T, R>, Waiting<T>>
+                        ensures { LocksOrWaits true waiting.entry.account result }
+                    { waiting.look_and_try(rt) },
                 )
             }
-        }
+        };
+        guard
     }
 }
 
@@ -180,7 +205,8 @@ impl<T, R> FairMutex<T, R> {
         ensures holder { IfSome result (IsHolder use_of_party) }
         ensures newcomer { IfSome result (λ guard. guard.writer.view.0 ≡ Holding) }
     {
-        self.try_lock_starver().ok()
+        let (guard, _) = self.pass().try_lock().ok()?;
+        Some(guard)
     }
 
     /// Like [`try_lock`](Self::try_lock), but returns the reason for a failure.
@@ -198,13 +224,9 @@ impl<T, R> FairMutex<T, R> {
         ensures holder { IfOk result (IsHolder use_of_party) }
         ensures newcomer { IfOk result (λ guard. guard.writer.view.0 ≡ Holding) }
     {
-        let free = 0;
-        let taken = fair::lock(free).unwrap();
-        let party = self.cell.enter();
-        let (got, _) = party.attempt::<Attempt>(free as u64, taken as u64, Watch::nothing());
-        match got {
-            Ok(permit) => Ok(Guard::new(permit.into_writer())),
-            Err(found) => Err(fair::reject(found as usize)),
+        match self.pass().try_lock_starver() {
+            Ok((guard, _)) => Ok(guard),
+            Err((reason, _)) => Err(reason),
         }
     }
 
@@ -228,10 +250,10 @@ impl<T, R> FairMutex<T, R> {
     /// ```
     #[must_use = "a place that is dropped at once no longer starves: bind the answer"]
     pub fn starve<W: Wait>(&self, rt: &W) -> Option<Starvation<'_, T, R>> {
-        match register(rt, self.cell.enter()) {
-            Ok(permit) => Some(Starvation::new(permit)),
-            Err(permit) => {
-                permit.leave();
+        match register(rt, self.account()) {
+            Ok(account) => Some(Starvation::new(account)),
+            Err(account) => {
+                drop(Pass::<T, R>::new(account));
                 None
             }
         }
@@ -250,8 +272,7 @@ impl<T, R> FairMutex<T, R> {
     /// let guard = lock.lock(&rt);
     /// ```
     pub fn is_locked(&self) -> bool {
-        let (found, _) = self.cell.enter().look::<Load>(Watch::nothing());
-        fair::is_locked(found as usize)
+        self.pass().is_locked().0
     }
 
     /// Releases the lock that the hold keeps.

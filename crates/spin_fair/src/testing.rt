@@ -3,7 +3,7 @@ ghost use Rattle.std.specs.Prelude.{IfOk};
 ghost use Rattle.spin_core.specs.Guard.{IsHolder};
 ghost use Rattle.spin_fair.specs.Fair.{use_of_party};
 
-pub use crate::fair::waiting::Waiting;
+pub use crate::fair::account::Waiting;
 use crate::fair::waiting::try_with;
 use crate::fair::{FairMutex, FairMutexGuard};
 use spin_core::relax::RelaxStrategy;
@@ -25,7 +25,10 @@ pub fn begin<'a, T, R>(
 ) -> Result<FairMutexGuard<'a, T, R>, Waiting<'a, T>>
     ensures { IfOk result (IsHolder use_of_party) }
 {
-    try_with(lock.cell.enter(), 0)
+    match try_with(lock.account(), 0) {
+        Ok((guard, _)) => Ok(guard),
+        Err(waiting) => Err(waiting),
+    }
 }
 
 /// Makes one of the attempts that a waiting `lock` repeats. An attempt that starves waits for its guard.
@@ -43,7 +46,10 @@ pub fn look_and_try<'a, T, R: RelaxStrategy, W: Wait>(
 ) -> Result<FairMutexGuard<'a, T, R>, Waiting<'a, T>>
     ensures { IfOk result (IsHolder use_of_party) }
 {
-    waiting.look_and_try(rt)
+    match waiting.look_and_try(rt) {
+        Ok((guard, _)) => Ok(guard),
+        Err(waiting) => Err(waiting),
+    }
 }
 
 /// Returns how many looks have found the lock held, until there are enough to starve.

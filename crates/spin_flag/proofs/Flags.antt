@@ -1,7 +1,6 @@
 -- The steps of a lock of one flag keep its rule: each is the plain step that its step function makes, and moves of the lock's model.
-use Rattle.std.proofs.Common.{◌≡◌, ℕ, [], ◌∷◌, ◌++◌, ◌==◌, Bool, true, false, List, Option, Some, None, if◌then◌else◌, refl, sym, ap, ◌∙◌, subst, arith, length}
+use Rattle.std.proofs.Common.{◌≡◌, ℕ, [], ◌∷◌, ◌==◌, Bool, true, false, List, Option, Some, None, if◌then◌else◌, refl, sym, ap, ◌∙◌, subst, arith, length}
 use prog.Atomic.{either}
-use Rattle.std.specs.Prelude.{◌⊎◌}
 use Rattle.spin_step.specs.Plain.{Plain, Kind, writing, gets, releases, to_write, flag_word}
 use Rattle.spin_step.specs.Flags.{lock}
 use Rattle.spin_step.specs.Steps.{bit, Decides, Gives}
@@ -9,9 +8,9 @@ use Rattle.spin_step.proofs.Exclusive.{writes_alone}
 use Rattle.spin_step.proofs.Holders.{is_holder-from_entries}
 use Rattle.spin_core.specs.Cell.{Ways, alone, reads, writes, AllowsAt, Meets, Moved, Rests}
 use Rattle.spin_core.specs.Own.{Numbered, what}
-use Rattle.spin_core.specs.Passes.{Course, IsCall, Waits, Ends, Begins, mark_of}
-use mathlib.Core.Logic.{inl, inr}
-use Rattle.spin_core.proofs.Passes.{learns, made_both, waits_on, waits_out, begun}
+use Rattle.spin_core.specs.Passes.{IsStep, step_by, mark_of}
+use Rattle.spin_core.proofs.Passes as passes
+use Rattle.spin_core.proofs.Passes.{Learnt}
 use Rattle.spin_core.specs.Plays.{becomes, becomes_by, exchanges}
 use Rattle.spin_core.specs.Run.{AreMoves, on_first, first}
 use Rattle.spin_core.specs.Traced.{Traces, Watches, Named}
@@ -25,13 +24,12 @@ use Rattle.spin_core.proofs.Plays as plays
 use Rattle.spin_core.proofs.Plays.{Lock as CellLock, Holds, ways, allows, by_step, by_none, by_grant, exchanged, begins, Reaches}
 use Rattle.spin_core.proofs.Views.{release-own, part_before}
 use Rattle.spin_model.specs.declared.answer.Answer.TheVariants.{Granted, Refused, Is, Done}
-use Rattle.spin_model.specs.declared.answer.Answer.{Answer}
 use Rattle.spin_model.specs.declared.flag.FlagCall.{FlagCall}
 use Rattle.spin_model.specs.declared.flag.FlagCall.TheVariants.{Lock, TryLock, IsLocked, Release}
 use Rattle.spin_model.specs.declared.schedule.Move.TheVariants.{Begin, Step}
 use Rattle.spin_model.specs.declared.schedule.Outcome.TheVariants.{Begun, Answered, GoingOn}
 use Rattle.spin_flag.specs.Flag as flags
-use Rattle.spin_flag.specs.Flag.{part, Word, IsFlag, Told, use_of_view, use_of_party, seat_of, model, words_of, stands, IsOut, MayTry, IsStep, OneMove, Ending, step_by, looks_by, tries_by, frees_by, tried_by, looked_by}
+use Rattle.spin_flag.specs.Flag.{part, Word, IsFlag, Told, use_of_view, use_of_party, seat_of, model, words_of, stands, IsOut, MayTry, has_begun, OneMove, Ending, looks_by, tries_by, frees_by, tried_by, looked_by}
 use Rattle.spin_flag.specs.declared.spin.rule.View.{View}
 use Rattle.spin_flag.specs.declared.spin.rule.View.TheVariants.{Idle, Holding, Trying, Looking}
 
@@ -61,14 +59,14 @@ flag = record {
 abbrev Goes : Option View → (ℕ → ℕ) → (ℕ → View → Type 0) → (List OneMove → List Ending → ℕ → View → Type 0) → Type 0
 Goes view f = AreMoves model seat_of words_of view (on_first f) first
 
-load_moves : (view : Option View) → IsOut view → Goes view (λ n. n) (becomes Idle 0 0 view) (looks_by view)
+load_moves : (view : Option View) → IsOut view → Goes view (λ n. n) (becomes Idle 0 0 view) looks_by
 load_moves None out false value v is = rw is (Begin IsLocked ∷ Step ∷ [], Begun ∷ Answered (Is false) None ∷ [], (refl, (refl, refl)), refl, refl, false, value, refl, refl, refl)
 load_moves None out true value v is = rw is (Begin IsLocked ∷ Step ∷ [], Begun ∷ Answered (Is true) None ∷ [], (refl, (refl, refl)), refl, refl, true, value, refl, refl, refl)
 load_moves (Some Idle) out false value v is = rw is (Begin IsLocked ∷ Step ∷ [], Begun ∷ Answered (Is false) None ∷ [], (refl, (refl, refl)), refl, refl, false, value, refl, refl, refl)
 load_moves (Some Idle) out true value v is = rw is (Begin IsLocked ∷ Step ∷ [], Begun ∷ Answered (Is true) None ∷ [], (refl, (refl, refl)), refl, refl, true, value, refl, refl, refl)
 load_moves (Some _) out w value v is = absurd out
 
-attempt_moves : (view : Option View) → IsOut view → Goes view (λ n. either (n == 0) 1 n) (exchanges (λ _. Holding) Idle 0 1 view) (tries_by view)
+attempt_moves : (view : Option View) → IsOut view → Goes view (λ n. either (n == 0) 1 n) (exchanges (λ _. Holding) Idle 0 1 view) tries_by
 attempt_moves None out false value v is = rw is (Begin TryLock ∷ Step ∷ [], Begun ∷ Answered Granted None ∷ [], (refl, (refl, refl)), refl, refl, true, value, refl, refl, refl)
 attempt_moves None out true value v is = rw is (Begin TryLock ∷ Step ∷ [], Begun ∷ Answered Refused None ∷ [], (refl, (refl, refl)), refl, refl, true, value, refl, refl, refl)
 attempt_moves (Some Idle) out false value v is = rw is (Begin TryLock ∷ Step ∷ [], Begun ∷ Answered Granted None ∷ [], (refl, (refl, refl)), refl, refl, true, value, refl, refl, refl)
@@ -84,11 +82,11 @@ try_moves (Some Trying) may false value v is = rw is (Step ∷ [], Answered Gran
 try_moves (Some Trying) may true value v is = rw is (Step ∷ [], GoingOn ∷ [], (refl, (refl, refl)), refl, refl, true, value, refl, refl, refl)
 try_moves (Some _) may w value v is = absurd may
 
-look_moves : Goes (Some Looking) (λ n. n) (becomes_by (λ n. if n == 0 then Trying else Looking) 0 0 (Some Looking)) (looked_by (Some Looking))
+look_moves : Goes (Some Looking) (λ n. n) (becomes_by (λ n. if n == 0 then Trying else Looking) 0 0 (Some Looking)) looked_by
 look_moves false value v is = rw is (Step ∷ [], GoingOn ∷ [], (refl, (refl, refl)), refl, refl, false, value, refl, refl, refl)
 look_moves true value v is = rw is (Step ∷ [], GoingOn ∷ [], (refl, (refl, refl)), refl, refl, true, value, refl, refl, refl)
 
-release_moves : Goes (Some Holding) (λ _. 0) (λ _. becomes Idle 0 0 (Some Holding) 0) (frees_by (Some Holding))
+release_moves : Goes (Some Holding) (λ _. 0) (λ _. becomes Idle 0 0 (Some Holding) 0) frees_by
 release_moves w value v is = rw is (Begin Release ∷ Step ∷ [], Begun ∷ Answered Done None ∷ [], (refl, (refl, refl)), refl, refl, false, value, refl, refl, refl)
 
 -- Each step keeps the rule, and appends its moves
@@ -140,10 +138,10 @@ module _ (name : ℕ) where
   pub starts : (t : Trace flags.Done (Unit {0})) → t.name ≡ name → t.entries ≡ [] → Meets (IsFlag name) own_ways 0 t []
   starts t named empty = tie.opens model seat_of words_of Word name (Unit {0}) alone use_of_view 0 t named empty refl (begins flag 0 0 0 tt (omega arith) refl refl)
 
-  pub looks : (view : Option (Numbered View)) → IsOut (what view) → Keeps view (λ n. n) (looks_by (what view))
+  pub looks : (view : Option (Numbered View)) → IsOut (what view) → Keeps view (λ n. n) looks_by
   looks view out =
       let th : ℕ → View → Type 0 = becomes Idle 0 0 (what view) in
-      keeps view (λ n. n) th (looks_by (what view)) (load_moves (what view) out)
+      keeps view (λ n. n) th looks_by (load_moves (what view) out)
       (allows flag (what view) (λ n. n) th (λ s p room order has. (Idle, look_at (what view) Idle s p (out_has_none (what view) out) refl, refl)))
 
   -- an exchange by a party that has nothing: the step function's own lemma says that the flag is free where it grants
@@ -153,9 +151,9 @@ module _ (name : ℕ) where
       exchanged flag view (λ _. Holding) lost 0 taken (λ s p. (ap (entries_of p) (nothing ∙ sym still), rw still tt)) (λ s p vs room order is has small e. by_grant flag view Holding s p to_write taken tt (plain s p e) (rw nothing refl) tt refl)
 
   pub attempts : (view : Option (Numbered View)) → IsOut (what view) → (taken : ℕ) → taken ≡ 1 → ((s : Plain) (p : ℕ) → flag_word s ≡ 0 → Decides s (gets p to_write) flag_word (Some taken))
-      → Keeps view (λ n. either (n == 0) taken n) (tries_by (what view))
+      → Keeps view (λ n. either (n == 0) taken n) tries_by
   attempts view out taken one plain =
-      keeps view (λ n. either (n == 0) taken n) (exchanges (λ _. Holding) Idle 0 taken (what view)) (tries_by (what view)) (rw one (attempt_moves (what view) out))
+      keeps view (λ n. either (n == 0) taken n) (exchanges (λ _. Holding) Idle 0 taken (what view)) tries_by (rw one (attempt_moves (what view) out))
       (exchanges_flag (what view) Idle (out_has_none (what view) out) refl taken plain)
 
   pub tries : (view : Option (Numbered View)) → MayTry (what view) → (taken : ℕ) → taken ≡ 1 → ((s : Plain) (p : ℕ) → flag_word s ≡ 0 → Decides s (gets p to_write) flag_word (Some taken))
@@ -164,16 +162,16 @@ module _ (name : ℕ) where
       keeps view (λ n. either (n == 0) taken n) (exchanges (λ _. Holding) Looking 0 taken (what view)) (tried_by (what view)) (rw one (try_moves (what view) may))
       (exchanges_flag (what view) Looking (may_try (what view) may) refl taken plain)
 
-  pub looks_on : (view : Option (Numbered View)) → what view ≡ Some Looking → Keeps view (λ n. n) (looked_by (what view))
+  pub looks_on : (view : Option (Numbered View)) → what view ≡ Some Looking → Keeps view (λ n. n) looked_by
   looks_on view is =
       let th : ℕ → View → Type 0 = becomes_by (λ n. if n == 0 then Trying else Looking) 0 0 (what view) in
-      keeps view (λ n. n) th (looked_by (what view)) (rw is look_moves)
+      keeps view (λ n. n) th looked_by (rw is look_moves)
       (rw is (allows flag (Some Looking) (λ n. n) (becomes_by (λ n. if n == 0 then Trying else Looking) 0 0 (Some Looking)) (λ s p room order has. look_on s p (flag_word s == 0))))
 
-  pub releases_flag : (freed : ℕ) → freed ≡ 0 → ((s : Plain) (p : ℕ) (k : Kind) → flag_word s ≡ 1 → Gives s (releases p k) flag_word freed) → (v : Numbered View) → v.0 ≡ Holding → Keeps (Some v) (λ _. freed) (frees_by (Some v.0))
+  pub releases_flag : (freed : ℕ) → freed ≡ 0 → ((s : Plain) (p : ℕ) (k : Kind) → flag_word s ≡ 1 → Gives s (releases p k) flag_word freed) → (v : Numbered View) → v.0 ≡ Holding → Keeps (Some v) (λ _. freed) frees_by
   releases_flag freed none plain v held =
       let th : ℕ → View → Type 0 = λ _. becomes Idle 0 freed (Some Holding) 0 in
-      keeps (Some v) (λ _. freed) th (frees_by (Some v.0)) (rw (none, held) release_moves)
+      keeps (Some v) (λ _. freed) th frees_by (rw (none, held) release_moves)
       (rw held (allows flag (Some Holding) (λ _. freed) th (λ s p room order has.
       let holds = is_holder-from_entries p writing s.holders (ap (λ e. e.holders) has.0) in
       (Idle, by_step flag (Some Holding) Idle s (releases p writing) freed tt holds (release-own s p writing) tt (plain s p writing (writes_alone s p order.exclusive holds) holds) refl, refl))))
@@ -185,85 +183,39 @@ module _ (name : ℕ) where
   rests None is = tt
   rests (Some v) is = tie.rests model seat_of words_of Word name (Unit {0}) alone use_of_view v (ap seat_of is) (plays.idle_rests flag v.0 is)
 
-pub stood : (c : FlagCall) (to : ℕ → View) (end : ℕ → Ending) (prior : Option View) (named : Type 0) (known now : Watch flags.Done) (before view : Option (Numbered View)) (found : ℕ)
-    → Moved (Watches named known now (Told (step_by c to end prior) before) found) view → stands view ≡ to found
-stood c to end prior named known now before None found moved = absurd moved
-stood c to end prior named known now before (Some v) found moved = moved.1.4.6.0
-
--- what a step tells a party that knew all up to its last step
-pub record Learnt (view view' : Option (Numbered View)) (before now : Watch flags.Done) (to : View) (course : Course (Unit {0}) FlagCall (Answer (Unit {0}))) : Type 0 where
-  pub made : flags.Moves course view before.entries view' now.entries
-  pub knows : mark_of view' ≡ length now.entries
-  pub is : what view' ≡ Some to
-  pub named : now.name ≡ before.name
+pub stood : (goes_on : Bool) (c : FlagCall) (end : ℕ → Ending) (to : ℕ → View) (named : Type 0) (known now : Watch flags.Done) (before view : Option (Numbered View)) (found : ℕ)
+    → Moved (Watches named known now (Told (step_by goes_on c end to) before) found) view → stands view ≡ to found
+stood goes_on c end to named known now before None found moved = absurd moved
+stood goes_on c end to named known now before (Some v) found moved = moved.1.4.6.0
 
 pub may_know : (name : ℕ) (before : Watch flags.Done) → name ≡ before.name → Named (IsFlag name) own_ways before.name
-may_know name before same n t vs meets = meets.0.0 ∙ same
+may_know name before = passes.may_know (IsFlag name) own_ways name (λ n t vs is. is.0) before.name
 
-pub learnt : (name : ℕ) (c : FlagCall) (to : ℕ → View) (end : ℕ → Ending) (view view' : Option (Numbered View)) (before now : Watch flags.Done) (found : ℕ) → mark_of view ≡ length before.entries → name ≡ before.name
-    → Moved (Watches (Named (IsFlag name) own_ways before.name) before now (Told (step_by c to end (what view)) view) found) view' → Learnt view view' before now (to found) (IsStep (what view) c (end found))
-learnt name c to end view None before now found knew same moved = absurd moved
-learnt name c to end view (Some v) before now found knew same moved =
-    let all = learns model seat_of words_of (step_by c to end (what view)) (Named (IsFlag name) own_ways before.name) view before now found v knew moved in
-    let (p, may, is, own, outs, did, so) = all.0 in
-    record { made = (p, may, is, own, outs, did, so.1); knows = all.1; is = ap Some so.0; named = moved.0 (may_know name before same) }
+-- what a step tells a party that knew all up to its last step
+pub learnt : (name : ℕ) (goes_on : Bool) (c : FlagCall) (end : ℕ → Ending) (to : ℕ → View) (view view' : Option (Numbered View)) (before now : Watch flags.Done) (found : ℕ) → mark_of view ≡ length before.entries → name ≡ before.name
+    → Moved (Watches (Named (IsFlag name) own_ways before.name) before now (Told (step_by goes_on c end to) view) found) view' → Learnt model view view' before now (to found) (IsStep goes_on c (end found))
+learnt name goes_on c end to view view' before now found knew same =
+    passes.learnt model seat_of words_of (step_by goes_on c end to) to (λ n. IsStep goes_on c (end n)) (λ own outs n v said. said) (Named (IsFlag name) own_ways before.name) (may_know name before same) view view' before now found knew
 
--- How the steps of a call follow one another
+-- an exchange, by whether it found the flag clear
+pub by_clear : (view view' : Option (Numbered View)) (old new : List flags.Done) (goes_on : Bool) (c : FlagCall) (won lost : Ending) (clear b : Bool) → clear ≡ b
+    → flags.Moves (IsStep goes_on c (if clear then won else lost)) view old view' new → flags.Moves (IsStep goes_on c (if b then won else lost)) view old view' new
+by_clear view view' old new goes_on c won lost clear b is made = subst (λ x. flags.Moves (IsStep goes_on c (if x then won else lost)) view old view' new) is made
 
-abbrev Answer' : Type 0
-Answer' = Answer (Unit {0})
+module _ (end : Ending) (view view' : Option (Numbered View)) (old new : List flags.Done) where
+  out_begins : (v : Option View) → IsOut v → has_begun v ≡ false
+  out_begins None out = refl
+  out_begins (Some Idle) out = refl
+  out_begins (Some Holding) out = absurd out
+  out_begins (Some Trying) out = absurd out
+  out_begins (Some Looking) out = absurd out
 
-abbrev Way : Type 1
-Way = Course (Unit {0}) FlagCall Answer'
+  -- the exchange of a party that comes, and of one that is in its `lock`
+  pub comes : IsOut (what view) → flags.Moves (IsStep (has_begun (what view)) Lock end) view old view' new → flags.Moves (IsStep false Lock end) view old view' new
+  comes out made = subst (λ b. flags.Moves (IsStep b Lock end) view old view' new) (out_begins (what view) out) made
 
-one_step : (c : FlagCall) (a : Answer') (v : Option View) → IsOut v → (own : List OneMove) (outs : List Ending) → IsStep v c (Answered a None) own outs → IsCall c a own outs
-one_step c a None out own outs (is, are) = (Step ∷ [], Answered a None ∷ [], is, are, (0, refl, refl))
-one_step c a (Some Idle) out own outs (is, are) = (Step ∷ [], Answered a None ∷ [], is, are, (0, refl, refl))
-one_step c a (Some _) out own outs so = absurd out
-
-first_step : (v : Option View) → IsOut v → (own : List OneMove) (outs : List Ending) → IsStep v Lock GoingOn own outs → Begins Lock Waits own outs
-first_step None out own outs (is, are) = (Step ∷ [], GoingOn ∷ [], is, are, (1, refl, refl))
-first_step (Some Idle) out own outs (is, are) = (Step ∷ [], GoingOn ∷ [], is, are, (1, refl, refl))
-first_step (Some _) out own outs so = absurd out
-
-goes_on : (v : View) → (v ≡ Looking) ⊎ (v ≡ Trying) → (own : List OneMove) (outs : List Ending) → IsStep (Some v) Lock GoingOn own outs → Waits own outs
-goes_on Looking may own outs (is, are) = (1, is, are)
-goes_on Trying may own outs (is, are) = (1, is, are)
-goes_on Idle (inl e) own outs so = absurd cc
-goes_on Idle (inr e) own outs so = absurd cc
-goes_on Holding (inl e) own outs so = absurd cc
-goes_on Holding (inr e) own outs so = absurd cc
-
-module _ (view view' : Option (Numbered View)) (old new : List flags.Done) where
-  weaker : (P Q : Way) → ((own : List OneMove) (outs : List Ending) → P own outs → Q own outs) → flags.Moves P view old view' new → flags.Moves Q view old view' new
-  weaker P Q so (p, may, is, own, outs, did, said) = (p, may, is, own, outs, did, so own outs said)
-
-  -- a step that begins a call and ends it
-  pub whole : (c : FlagCall) (a : Answer') → IsOut (what view) → flags.Moves (IsStep (what view) c (Answered a None)) view old view' new → flags.Called c a view old view' new
-  whole c a out made = weaker (IsStep (what view) c (Answered a None)) (IsCall c a) (one_step c a (what view) out) made
-
-  -- the exchange of a try, by whether it found the flag clear
-  pub try_ends : (clear b : Bool) → clear ≡ b → IsOut (what view) → flags.Moves (IsStep (what view) TryLock (Answered (if clear then Granted else Refused) None)) view old view' new → flags.Called TryLock (if b then Granted else Refused) view old view' new
-  try_ends clear b is out made = whole TryLock (if b then Granted else Refused) out (subst (λ x. flags.Moves (IsStep (what view) TryLock (Answered (if x then Granted else Refused) None)) view old view' new) is made)
-
-  -- the exchange of a `lock`
-  pub lock_ends : (clear b : Bool) → clear ≡ b → flags.Moves (IsStep (what view) Lock (if clear then Answered Granted None else GoingOn)) view old view' new → flags.Moves (IsStep (what view) Lock (if b then Answered Granted None else GoingOn)) view old view' new
-  lock_ends clear b is made = subst (λ x. flags.Moves (IsStep (what view) Lock (if x then Answered Granted None else GoingOn)) view old view' new) is made
-
-  -- in the middle of a `lock`
-  pub waits : (v : View) → what view ≡ Some v → (v ≡ Looking) ⊎ (v ≡ Trying) → flags.Moves (IsStep (what view) Lock GoingOn) view old view' new → flags.Moves Waits view old view' new
-  waits v is may made = weaker (IsStep (what view) Lock GoingOn) Waits (λ own outs so. goes_on v may own outs (subst (λ o. IsStep o Lock GoingOn own outs) is so)) made
-
-  pub ends : what view ≡ Some Trying → flags.Moves (IsStep (what view) Lock (Answered Granted None)) view old view' new → flags.Moves (Ends Granted) view old view' new
-  ends is made = weaker (IsStep (what view) Lock (Answered Granted None)) (Ends Granted) (λ own outs so. let at : IsStep (Some Trying) Lock (Answered Granted None) own outs = subst (λ o. IsStep o Lock (Answered Granted None) own outs) is so in (0, at.0, at.1)) made
-
-  -- a release, by a party that holds
-  pub freed : (v : Numbered View) → view ≡ Some v → v.0 ≡ Holding → flags.Moves (IsStep (what view) Release (Answered Done None)) view old view' new → flags.Called Release Done view old view' new
-  freed v is held made = weaker (IsStep (what view) Release (Answered Done None)) (IsCall Release Done) (λ own outs so.
-      let at : IsStep (Some Holding) Release (Answered Done None) own outs = subst (λ o. IsStep o Release (Answered Done None) own outs) (ap what is ∙ ap Some held) so in (Step ∷ [], Answered Done None ∷ [], at.0, at.1, (0, refl, refl))) made
-
-  pub begins_lock : IsOut (what view) → flags.Moves (IsStep (what view) Lock GoingOn) view old view' new → flags.Moves (Begins Lock Waits) view old view' new
-  begins_lock out made = weaker (IsStep (what view) Lock GoingOn) (Begins Lock Waits) (first_step (what view) out) made
+  pub begun : what view ≡ Some Trying → flags.Moves (IsStep (has_begun (what view)) Lock end) view old view' new → flags.Moves (IsStep true Lock end) view old view' new
+  begun is made = subst (λ b. flags.Moves (IsStep b Lock end) view old view' new) (ap has_begun is) made
 
 -- whether the flag is clear, by what the code asks
 pub is_clear : (n : ℕ) → false ≡ flags.set n → (n == 0) ≡ true
@@ -277,23 +229,6 @@ is_not_clear n is = at (n == 0) is where
   at : (b : Bool) → true ≡ (if b then false else true) → b ≡ false
   at false e = refl
   at true e = cc (e)
-
--- the steps of a call one after another
-pub and_then : (u v w : Option (Numbered View)) (a b c : List flags.Done) (P Q R : Way) → ((own own' : List OneMove) (outs outs' : List Ending) → P own outs → Q own' outs' → R (own ++ own') (outs ++ outs'))
-    → flags.Moves P u a v b → flags.Moves Q v b w c → flags.Moves R u a w c
-and_then = made_both model
-
-pub waits_more : (u v w : Option (Numbered View)) (a b c : List flags.Done) → flags.Moves Waits u a v b → flags.Moves Waits v b w c → flags.Moves Waits u a w c
-waits_more u v w a b c = and_then u v w a b c Waits Waits Waits waits_on
-
-pub waits_ends : (u v w : Option (Numbered View)) (a b c : List flags.Done) → flags.Moves Waits u a v b → flags.Moves (Ends Granted) v b w c → flags.Moves (Ends Granted) u a w c
-waits_ends u v w a b c = and_then u v w a b c Waits (Ends Granted) (Ends Granted) (waits_out Granted)
-
-pub lock_waits : (u v w : Option (Numbered View)) (a b c : List flags.Done) → flags.Moves (Begins Lock Waits) u a v b → flags.Moves Waits v b w c → flags.Moves (Begins Lock Waits) u a w c
-lock_waits u v w a b c = and_then u v w a b c (Begins Lock Waits) Waits (Begins Lock Waits) (begun Lock Waits Waits Waits waits_on)
-
-pub lock_granted : (u v w : Option (Numbered View)) (a b c : List flags.Done) → flags.Moves (Begins Lock Waits) u a v b → flags.Moves (Ends Granted) v b w c → flags.Called Lock Granted u a w c
-lock_granted u v w a b c = and_then u v w a b c (Begins Lock Waits) (Ends Granted) (IsCall Lock Granted) (begun Lock Waits (Ends Granted) (Ends Granted) (waits_out Granted))
 
 pub holding_of : (v : View) → use_of_view v ≡ writes → v ≡ Holding
 holding_of Holding e = refl

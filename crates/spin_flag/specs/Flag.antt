@@ -1,11 +1,11 @@
 -- The rule of a lock of one flag: its word is that of a plain lock whose holders are the parties that hold, and its trace is a schedule of the lock's model, which leads there.
-use Rattle.std.specs.Prelude.{◌≡◌, ℕ, List, [], ◌∷◌, Bool, true, false, Option, Some, None, ◌==◌, if◌then◌else◌}
+use Rattle.std.specs.Prelude.{ℕ, List, Bool, true, false, Option, Some, None, ◌==◌, if◌then◌else◌}
 use Rattle.spin_step.specs.Plain.{writing, flag_word}
 use Rattle.spin_step.specs.Steps.{bit}
 use Rattle.spin_core.specs.Cell.{Use}
 use Rattle.spin_core.specs.Views.{Part, idle, holds, Encodes, used_by, no_word}
 use Rattle.spin_core.specs.Own.{Numbered, Runs, Tells}
-use Rattle.spin_core.specs.Passes.{Course, IsCall, Made}
+use Rattle.spin_core.specs.Passes.{Course, IsCall, step_by, Made}
 use Rattle.spin_core.specs.declared.trace.Trace.{Trace}
 use Rattle.spin_flag.specs.declared.spin.rule.View.{View}
 use Rattle.spin_flag.specs.declared.spin.rule.View.TheVariants.{Idle, Holding, Trying, Looking}
@@ -20,9 +20,8 @@ use Rattle.spin_model.specs.declared.flag.FlagCall.TheVariants.{Lock, TryLock, I
 use Rattle.spin_model.specs.declared.flag.FlagPoint.{FlagPoint}
 use Rattle.spin_model.specs.declared.flag.FlagPoint.TheVariants.{First, Second}
 use Rattle.spin_model.specs.declared.schedule.Move.{Move}
-use Rattle.spin_model.specs.declared.schedule.Move.TheVariants.{Begin, Step}
 use Rattle.spin_model.specs.declared.schedule.Outcome.{Outcome}
-use Rattle.spin_model.specs.declared.schedule.Outcome.TheVariants.{Begun, Answered, GoingOn}
+use Rattle.spin_model.specs.declared.schedule.Outcome.TheVariants.{Answered, GoingOn}
 use Rattle.spin_model.specs.Flag.{flag_machine}
 use Rattle.spin_model.specs.Machines.{Machine}
 use Rattle.spin_model.specs.Schedules.{Entry}
@@ -72,39 +71,35 @@ IsFlag = Runs model seat_of words_of Word
 abbrev pub Told : (List OneMove → List Ending → ℕ → View → Type 0) → Option (Numbered View) → List Done → List Done → ℕ → Numbered View → Type 0
 Told = Tells model seat_of words_of
 
--- What a step tells: where it leads, by the number found, and its moves
-
--- in the middle of a `lock` it is the next one; else it stands behind the call's beginning
-abbrev pub behind : {X : Type 0} → Option View → X → X → List X
-behind (Some Trying) begin x = x ∷ []
-behind (Some Looking) begin x = x ∷ []
-behind _ begin x = begin ∷ x ∷ []
-
-abbrev pub IsStep : Option View → FlagCall → Ending → Course (Unit {0}) FlagCall (Answer (Unit {0}))
-IsStep view c end own outs = (own ≡ behind view (Begin c) Step) × (outs ≡ behind view Begun end)
-
-abbrev pub step_by : FlagCall → (ℕ → View) → (ℕ → Ending) → Option View → List OneMove → List Ending → ℕ → View → Type 0
-step_by c to end view own outs n v = (v ≡ to n) × IsStep view c (end n) own outs
+-- The steps: what each comes to and where it leads, by the number found
 
 -- whether a word is that of a set flag
 abbrev pub set : ℕ → Bool
 set n = if n == 0 then false else true
 
-abbrev pub looks_by : Option View → List OneMove → List Ending → ℕ → View → Type 0
-looks_by = step_by IsLocked (λ n. Idle) (λ n. Answered (Is (set n)) None)
+abbrev pub Says : Type 1
+Says = List OneMove → List Ending → ℕ → View → Type 0
 
-abbrev pub tries_by : Option View → List OneMove → List Ending → ℕ → View → Type 0
-tries_by = step_by TryLock (λ n. if n == 0 then Holding else Idle) (λ n. Answered (if n == 0 then Granted else Refused) None)
+abbrev pub looks_by : Says
+looks_by = step_by false IsLocked (λ n. Answered (Is (set n)) None) (λ n. Idle)
 
-abbrev pub frees_by : Option View → List OneMove → List Ending → ℕ → View → Type 0
-frees_by = step_by Release (λ n. Idle) (λ n. Answered answer.Done None)
+abbrev pub tries_by : Says
+tries_by = step_by false TryLock (λ n. if n == 0 then Answered Granted None else Answered Refused None) (λ n. if n == 0 then Holding else Idle)
+
+abbrev pub frees_by : Says
+frees_by = step_by false Release (λ n. Answered answer.Done None) (λ n. Idle)
+
+-- it has begun its `lock`
+abbrev pub has_begun : Option View → Bool
+has_begun (Some Trying) = true
+has_begun _ = false
 
 -- the exchange of `lock`, and its look
-abbrev pub tried_by : Option View → List OneMove → List Ending → ℕ → View → Type 0
-tried_by = step_by Lock (λ n. if n == 0 then Holding else Looking) (λ n. if n == 0 then Answered Granted None else GoingOn)
+abbrev pub tried_by : Option View → Says
+tried_by view = step_by (has_begun view) Lock (λ n. if n == 0 then Answered Granted None else GoingOn) (λ n. if n == 0 then Holding else Looking)
 
-abbrev pub looked_by : Option View → List OneMove → List Ending → ℕ → View → Type 0
-looked_by = step_by Lock (λ n. if n == 0 then Trying else Looking) (λ n. GoingOn)
+abbrev pub looked_by : Says
+looked_by = step_by true Lock (λ n. GoingOn) (λ n. if n == 0 then Trying else Looking)
 
 -- it is in no call, and holds nothing
 abbrev pub IsOut : Option View → Type 0

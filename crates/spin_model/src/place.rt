@@ -43,7 +43,7 @@ pub enum Place {
 
 /// Where a party stands, with all that the world keeps of it. Contracts name it; a program uses [`Place`].
 ///
-/// No example: a world keeps its seats to itself.
+/// No example: it is what contracts say of a [`Place`].
 #[derive(Copy)]
 pub enum Seat<C, L> {
     Idle,

@@ -1,21 +1,19 @@
 -- The steps of a lock of seats keep its rule: each is the plain step of its step function, and moves of the lock's model.
-use Rattle.std.proofs.Common.{◌≡◌, ℕ, ◌+◌, ◌-◌, ◌≤◌, ◌%◌, ◌^◌, ◌==◌, Bool, true, false, if◌then◌else◌, cond, List, [], ◌∷◌, length, filter, map, nat_lt, Option, Some, None, refl, sym, ap, ◌∙◌, subst, arith}
+use Rattle.std.proofs.Common.{◌≡◌, ℕ, ◌+◌, ◌-◌, ◌≤◌, ◌%◌, ◌^◌, ◌==◌, Bool, true, false, if◌then◌else◌, cond, List, [], ◌∷◌, length, filter, Option, Some, None, refl, sym, ap, ◌∙◌, subst, arith}
 use Rattle.std.specs.Prelude.{max, sum_by}
-use Rattle.std.specs.List.{list_all}
 use Rattle.std.proofs.lemmas.List.Sums.{sum_by-cons}
 use prog.Atomic.{either}
 use Rattle.spin_step.specs.Plain.{Plain, reading, count_kind, same_kind, gets, releases, to_read}
 use Rattle.spin_step.specs.Steps.{Decides}
 use Rattle.spin_step.specs.Orders.{IsInOrder}
 use Rattle.spin_step.proofs.Holders.{is_holder-from_entries, length-held}
-use Rattle.spin_core.specs.Cell.{Ways, Limits, lends, reading as reads_of, writing as writes_of, readers_of, writers_of, Meets, Allows, Rests, Moved}
+use Rattle.spin_core.specs.Cell.{Ways, Limits, lends, reading as reads_of, writing as writes_of, readers_of, writers_of, Meets, Allows, Rests}
 use Rattle.spin_core.specs.Own.{Numbered, what}
 use Rattle.spin_core.specs.Plays.{becomes, becomes_by}
-use Rattle.spin_core.specs.Run.{AreMoves, on_first, first, outcomes, alone, of_one, sits as seat_at}
-use Rattle.spin_core.specs.Traced.{Traces, Watches}
+use Rattle.spin_core.specs.Run.{AreMoves, on_first, first}
+use Rattle.spin_core.specs.Traced.{Traces}
 use Rattle.spin_core.specs.Views.{IsLockOf, idle, holds, entries_of, part_at, no_word}
 use Rattle.spin_core.specs.declared.trace.Trace.{Trace}
-use Rattle.spin_core.specs.declared.trace.Watch.{Watch}
 use Rattle.spin_core.proofs.CellCounts.{none}
 use Rattle.spin_core.proofs.Leaving.{flag_word-up, no_word-up}
 use Rattle.spin_core.proofs.Owners.{exactly}
@@ -24,16 +22,14 @@ use Rattle.spin_core.proofs.Plays as plays
 use Rattle.spin_core.proofs.Ties as tie
 use Rattle.spin_core.proofs.Views.{part-beyond, release-own, part_before}
 use Rattle.spin_model.specs.declared.answer.Answer.TheVariants.{Granted, Done, Count}
-use Rattle.spin_model.specs.declared.place.Seat.TheVariants as seat
 use Rattle.spin_model.specs.declared.schedule.Move.TheVariants.{Begin, Step}
 use Rattle.spin_model.specs.declared.schedule.Outcome.TheVariants.{Begun, Answered, GoingOn}
-use Rattle.spin_model.specs.Schedules.{after}
 use Rattle.spin_seats.specs.declared.calls.SeatsCall.TheVariants as call
 use Rattle.spin_seats.specs.declared.seats.rule.View.{View}
 use Rattle.spin_seats.specs.declared.seats.rule.View.TheVariants.{Idle, Seated, Coming, Waiting}
 use Rattle.spin_seats.specs.Seats.{AllRead, seats, seats_word, entered}
 use Rattle.spin_seats.specs.Rule as rule
-use Rattle.spin_seats.specs.Rule.{part, IsWord, IsSeats, OneMove, Ending, Told, model, seat_of, words_of, use_of_view, use_of_party, seat_ways, gone, at_word, counts_by, leads_by, sits_by, MayLook, sits, seated}
+use Rattle.spin_seats.specs.Rule.{part, IsWord, IsSeats, OneMove, Ending, Told, model, seat_of, words_of, use_of_view, use_of_party, seat_ways, gone, at_word, Says, counts_by, call_of, met, looks_by, waits_in, led_to, takes_by, sits_by, gets_up_by, IsOut, stands, MayLook, sits, seated}
 use Rattle.spin_seats.proofs.Taken.{leave-gives}
 
 abbrev ways : Ways (Unit {0}) View
@@ -95,32 +91,34 @@ lock n = record {
 
 -- The moves of each step
 
-abbrev Moves : ℕ → Option View → (ℕ → ℕ) → (ℕ → View → Type 0) → (List OneMove → List Ending → ℕ → View → Type 0) → Type 0
+abbrev Moves : ℕ → Option View → (ℕ → ℕ) → (ℕ → View → Type 0) → Says → Type 0
 Moves n view f = AreMoves (model n) seat_of words_of view (on_first f) first
 
--- what these moves come to, of a party of this view that is alone
-abbrev ends : ℕ → Option View → ℕ → Option (Unit {0}) → List OneMove → List Ending
-ends n view w value own = outcomes (model n) (alone (model n) seat_of words_of w value (seat_at (model n) seat_of words_of view)) (of_one (model n) seat_of words_of own)
-
-count_moves : (n : ℕ) → Moves n None (λ w. w) (λ w v. (v ≡ Idle) × (w ≤ seats n)) (counts_by n)
-count_moves n w value v is = rw is.0 (Begin call.Count ∷ Step ∷ [], Begun ∷ Answered (Count w) None ∷ [], (refl, is.1, refl, refl), refl, refl, w, value, refl, refl, refl)
+count_moves : (n : ℕ) (view : Option View) → IsOut view → Moves n view (λ w. w) (λ w v. (v ≡ Idle) × (w ≤ seats n)) (counts_by n)
+count_moves n None out w value v is = rw is.0 (Begin call.Count ∷ Step ∷ [], Begun ∷ Answered (Count w) None ∷ [], ((refl, (refl, refl)), is.1), refl, refl, w, value, refl, refl, refl)
+count_moves n (Some Idle) out w value v is = rw is.0 (Begin call.Count ∷ Step ∷ [], Begun ∷ Answered (Count w) None ∷ [], ((refl, (refl, refl)), is.1), refl, refl, w, value, refl, refl, refl)
+count_moves n (Some _) out w value v is = absurd out
 
 -- a look finds a seat free, or not
-try_moves : (n : ℕ) → Moves n None (λ w. w) (becomes_by (at_word n false) 0 0 None) (leads_by (at_word n false))
-try_moves n w value v is = let own = Begin call.TryEnter ∷ Step ∷ [] in (own, ends n None w value own, is, refl, grind arith, w, value, grind (arith, is), refl, refl)
+try_moves : (n : ℕ) (view : Option View) → IsOut view → Moves n view (λ w. w) (becomes_by (at_word n false) 0 0 view) (looks_by n false view)
+try_moves n None out w value v is = (Begin call.TryEnter ∷ Step ∷ [], Begun ∷ met n false w ∷ [], (is, (refl, refl)), refl, grind arith, w, value, grind (arith, is), grind arith, refl)
+try_moves n (Some Idle) out w value v is = (Begin call.TryEnter ∷ Step ∷ [], Begun ∷ met n false w ∷ [], (is, (refl, refl)), refl, grind arith, w, value, grind (arith, is), grind arith, refl)
+try_moves n (Some _) out w value v is = absurd out
 
-look_moves : (n : ℕ) (view : Option View) → MayLook view → Moves n view (λ w. w) (becomes_by (at_word n true) 0 0 view) (leads_by (at_word n true))
-look_moves n None may w value v is = let own = Begin call.Enter ∷ Step ∷ [] in (own, ends n None w value own, is, refl, grind arith, w, value, grind (arith, is), refl, refl)
-look_moves n (Some Waiting) may w value v is = let own = Step ∷ [] in (own, ends n (Some Waiting) w value own, is, refl, grind arith, w, value, grind (arith, is), refl, refl)
+look_moves : (n : ℕ) (view : Option View) → MayLook view → Moves n view (λ w. w) (becomes_by (at_word n true) 0 0 view) (looks_by n true view)
+look_moves n None may w value v is = (Begin call.Enter ∷ Step ∷ [], Begun ∷ GoingOn ∷ [], (is, (refl, refl)), refl, refl, w, value, grind (arith, is), grind arith, refl)
+look_moves n (Some Idle) may w value v is = (Begin call.Enter ∷ Step ∷ [], Begun ∷ GoingOn ∷ [], (is, (refl, refl)), refl, refl, w, value, grind (arith, is), grind arith, refl)
+look_moves n (Some Waiting) may w value v is = (Step ∷ [], GoingOn ∷ [], (is, (refl, refl)), refl, refl, w, value, grind (arith, is), grind arith, refl)
 look_moves n (Some _) may w value v is = absurd may
 
-sit_moves : (n old new : ℕ) (waits : Bool) → Some new ≡ entered n old
-    → Moves n (Some (Coming waits old)) (λ w. either (w == old) new w) (becomes_by (sits_by n old (Some (Coming waits old))) old new (Some (Coming waits old))) (leads_by (sits_by n old (Some (Coming waits old))))
-sit_moves n old new true free w value v is = let own = Step ∷ [] in (own, ends n (Some (Coming true old)) w value own, is, refl, grind (arith, free), either (w == old) new w, value, grind (arith, free, is), refl, refl)
-sit_moves n old new false free w value v is = let own = Step ∷ [] in (own, ends n (Some (Coming false old)) w value own, is, refl, grind (arith, free), either (w == old) new w, value, grind (arith, free, is), refl, refl)
+sit_moves : (n old new : ℕ) (waits : Bool) → Some new ≡ entered n old → Moves n (Some (Coming waits old)) (λ w. either (w == old) new w) (becomes_by (led_to n old waits) old new (Some (Coming waits old))) (takes_by n old waits)
+sit_moves n old new true free w value v is =
+    let ends = (if w == old then Answered Granted None else met n true w) ∷ [] in (Step ∷ [], ends, (is, (refl, refl)), refl, grind (arith, free), either (w == old) new w, value, grind (arith, free, is), grind (arith, free), refl)
+sit_moves n old new false free w value v is =
+    let ends = (if w == old then Answered Granted None else met n false w) ∷ [] in (Step ∷ [], ends, (is, (refl, refl)), refl, grind (arith, free), either (w == old) new w, value, grind (arith, free, is), grind (arith, free), refl)
 
-leave_moves : (n : ℕ) → Moves n (Some Seated) (λ w. (w + (2 ^ 64 - 1)) % 2 ^ 64) (λ w v. (v ≡ Idle) × (1 ≤ w) × (w ≤ seats n)) (leads_by (λ w. Idle))
-leave_moves n w value v is = rw is.0 (Begin call.Leave ∷ Step ∷ [], Begun ∷ Answered Done None ∷ [], refl, refl, refl, w - 1, value, refl, refl, let some = is.1 in let few = is.2 in ap (λ k. (k, tt)) (omega (arith, some, few)))
+leave_moves : (n : ℕ) → Moves n (Some Seated) (λ w. (w + (2 ^ 64 - 1)) % 2 ^ 64) (λ w v. (v ≡ Idle) × (1 ≤ w) × (w ≤ seats n)) gets_up_by
+leave_moves n w value v is = rw is.0 (Begin call.Leave ∷ Step ∷ [], Begun ∷ Answered Done None ∷ [], (refl, (refl, refl)), refl, refl, w - 1, value, refl, refl, let some = is.1 in let few = is.2 in ap (λ k. (k, tt)) (omega (arith, some, few)))
 
 -- The steps of the plain lock
 
@@ -142,8 +140,18 @@ starts n = let begun = begins (lock n) 0 0 0 tt (omega arith) refl refl in ((beg
 has_none : (n : ℕ) (waits : Bool) (w : ℕ) → part (at_word n waits w) ≡ idle
 has_none n waits w = grind arith
 
+pub is_out : (view : Option (Numbered View)) → stands view ≡ Idle → IsOut (what view)
+is_out None is = tt
+is_out (Some v) is = subst (λ w. IsOut (Some w)) (sym is) tt
+
+out_has_none : (view : Option View) → IsOut view → part_before part view ≡ idle
+out_has_none None out = refl
+out_has_none (Some Idle) out = refl
+out_has_none (Some _) out = absurd out
+
 may_look : (view : Option View) → MayLook view → part_before part view ≡ idle
 may_look None may = refl
+may_look (Some Idle) may = refl
 may_look (Some Waiting) may = refl
 may_look (Some _) may = absurd may
 
@@ -154,14 +162,14 @@ looks_at n waits view nothing = let says = becomes_by (at_word n waits) 0 0 view
     let none_there = has_none n waits (seats_word s) in
     (at_word n waits (seats_word s), by_none (lock n) view (at_word n waits (seats_word s)) s p (ap (entries_of p) (nothing ∙ sym none_there)) (rw none_there tt), refl)))
 
-counts_at : (n : ℕ) → Allows (IsWord n) ways None (λ w. w) (λ w v. (v ≡ Idle) × (w ≤ seats n))
-counts_at n = within n None (λ w. w) (becomes Idle 0 0 None) (λ w v. (v ≡ Idle) × (w ≤ seats n)) (λ w few most. few) (λ w v few is. (is, few))
-    (allows (lock n) None (λ w. w) (becomes Idle 0 0 None) (λ s p room order has. (Idle, by_none (lock n) None Idle s p refl tt, refl)))
+counts_at : (n : ℕ) (view : Option View) → IsOut view → Allows (IsWord n) ways view (λ w. w) (λ w v. (v ≡ Idle) × (w ≤ seats n))
+counts_at n view out = within n view (λ w. w) (becomes Idle 0 0 view) (λ w v. (v ≡ Idle) × (w ≤ seats n)) (λ w few most. few) (λ w v few is. (is, few))
+    (allows (lock n) view (λ w. w) (becomes Idle 0 0 view) (λ s p room order has. (Idle, by_none (lock n) view Idle s p (ap (entries_of p) (out_has_none view out)) tt, refl)))
 
 -- the step function's own lemma says that a seat is open where it grants one
 sits_at : (n old new : ℕ) (waits : Bool) → ((s : Plain) (p : ℕ) → AllRead s → s.cap ≡ seats n → seats_word s ≡ old → Decides s (gets p to_read) seats_word (Some new)) → new ≤ seats n
-    → Allows (IsWord n) ways (Some (Coming waits old)) (λ w. either (w == old) new w) (becomes_by (sits_by n old (Some (Coming waits old))) old new (Some (Coming waits old)))
-sits_at n old new waits plain room = let view = Some (Coming waits old) in let says = becomes_by (sits_by n old view) old new view in
+    → Allows (IsWord n) ways (Some (Coming waits old)) (λ w. either (w == old) new w) (becomes_by (led_to n old waits) old new (Some (Coming waits old)))
+sits_at n old new waits plain room = let view = Some (Coming waits old) in let says = becomes_by (led_to n old waits) old new view in
     within n view (λ w. either (w == old) new w) says says (λ w few most. either_fits (w == old) new w (seats n) room few) (λ w v few said. said)
     (allows_among (lock n) view (λ w. either (w == old) new w) says (λ s p vs cap order is has small.
     let none_there = has_none n waits (seats_word s) in
@@ -186,76 +194,49 @@ abbrev own_ways : Ways (Unit {0}) (Numbered View)
 own_ways = (lends, use_of_party)
 
 module _ (n name : ℕ) where
-  abbrev Keeps : Option (Numbered View) → (ℕ → ℕ) → (List OneMove → List Ending → ℕ → View → Type 0) → Type 0
+  abbrev Keeps : Option (Numbered View) → (ℕ → ℕ) → Says → Type 0
   Keeps view f says = Traces (IsSeats n name) own_ways view None f (Told n says view)
 
-  abbrev traces : (view : Option (Numbered View)) (f : ℕ → ℕ) (th : ℕ → View → Type 0) (says : List OneMove → List Ending → ℕ → View → Type 0) → Moves n (what view) f th says → Allows (IsWord n) ways (what view) f th → Keeps view f says
+  abbrev traces : (view : Option (Numbered View)) (f : ℕ → ℕ) (th : ℕ → View → Type 0) (says : Says) → Moves n (what view) f th says → Allows (IsWord n) ways (what view) f th → Keeps view f says
   traces view f th says moves step = tie.traces (model n) seat_of words_of (IsWord n) name (Unit {0}) lends use_of_view view None f th says moves step
 
   pub opens : (t : Trace rule.Done (Unit {0})) → t.name ≡ name → t.entries ≡ [] → Meets (IsSeats n name) own_ways 0 t []
   opens t named empty = tie.opens (model n) seat_of words_of (IsWord n) name (Unit {0}) lends use_of_view 0 t named empty refl (starts n)
 
-  pub counts : Keeps None (λ w. w) (counts_by n)
-  counts = traces None (λ w. w) (λ w v. (v ≡ Idle) × (w ≤ seats n)) (counts_by n) (count_moves n) (counts_at n)
+  pub counts : (view : Option (Numbered View)) → IsOut (what view) → Keeps view (λ w. w) (counts_by n)
+  counts view out = let th : ℕ → View → Type 0 = λ w v. (v ≡ Idle) × (w ≤ seats n) in
+      traces view (λ w. w) th (counts_by n) (count_moves n (what view) out) (counts_at n (what view) out)
 
-  pub tries : Keeps None (λ w. w) (leads_by (at_word n false))
-  tries = traces None (λ w. w) (becomes_by (at_word n false) 0 0 None) (leads_by (at_word n false)) (try_moves n) (looks_at n false None refl)
+  pub tries : (view : Option (Numbered View)) → IsOut (what view) → Keeps view (λ w. w) (looks_by n false (what view))
+  tries view out = let th = becomes_by (at_word n false) 0 0 (what view) in traces view (λ w. w) th (looks_by n false (what view)) (try_moves n (what view) out) (looks_at n false (what view) (out_has_none (what view) out))
 
-  pub looks : (view : Option (Numbered View)) → MayLook (what view) → Keeps view (λ w. w) (leads_by (at_word n true))
-  looks view may = traces view (λ w. w) (becomes_by (at_word n true) 0 0 (what view)) (leads_by (at_word n true)) (look_moves n (what view) may) (looks_at n true (what view) (may_look (what view) may))
-
-  sits_from : (old new : ℕ) (waits : Bool) → ((s : Plain) (p : ℕ) → AllRead s → s.cap ≡ seats n → seats_word s ≡ old → Decides s (gets p to_read) seats_word (Some new)) → Some new ≡ entered n old → new ≤ seats n
-      → (view : Option (Numbered View)) → what view ≡ Some (Coming waits old) → Keeps view (λ w. either (w == old) new w) (leads_by (sits_by n old (what view)))
-  sits_from old new waits plain free room view is =
-      traces view (λ w. either (w == old) new w) (becomes_by (sits_by n old (what view)) old new (what view)) (leads_by (sits_by n old (what view))) (rw is (sit_moves n old new waits free)) (rw is (sits_at n old new waits plain room))
+  pub looks : (view : Option (Numbered View)) → MayLook (what view) → Keeps view (λ w. w) (looks_by n true (what view))
+  looks view may = let th = becomes_by (at_word n true) 0 0 (what view) in traces view (λ w. w) th (looks_by n true (what view)) (look_moves n (what view) may) (looks_at n true (what view) (may_look (what view) may))
 
   -- where the step function grants, the call is at a word with a free seat
-  is_coming : (old new : ℕ) (waits : Bool) (view : Option View) → Some new ≡ entered n old → view ≡ Some (at_word n waits old) → view ≡ Some (Coming waits old)
+  pub is_coming : (old new : ℕ) (waits : Bool) (view : Option View) → Some new ≡ entered n old → view ≡ Some (at_word n waits old) → view ≡ Some (Coming waits old)
   is_coming old new waits view free is = grind (arith, free, is)
 
+  sits_from : (old new : ℕ) (waits : Bool) → ((s : Plain) (p : ℕ) → AllRead s → s.cap ≡ seats n → seats_word s ≡ old → Decides s (gets p to_read) seats_word (Some new)) → Some new ≡ entered n old → new ≤ seats n
+      → (view : Option (Numbered View)) → what view ≡ Some (Coming waits old) → Keeps view (λ w. either (w == old) new w) (sits_by n old (what view))
+  sits_from old new waits plain free room view is =
+      traces view (λ w. either (w == old) new w) (becomes_by (led_to n old waits) old new (Some (Coming waits old))) (sits_by n old (what view)) (rw is (sit_moves n old new waits free)) (rw is (sits_at n old new waits plain room))
+
   pub sits_down : (old new : ℕ) (waits : Bool) → ((s : Plain) (p : ℕ) → AllRead s → s.cap ≡ seats n → seats_word s ≡ old → Decides s (gets p to_read) seats_word (Some new)) → Some new ≡ entered n old → new ≤ seats n
-      → (view : Option (Numbered View)) → what view ≡ Some (at_word n waits old) → Keeps view (λ w. either (w == old) new w) (leads_by (sits_by n old (what view)))
+      → (view : Option (Numbered View)) → what view ≡ Some (at_word n waits old) → Keeps view (λ w. either (w == old) new w) (sits_by n old (what view))
   sits_down old new waits plain free room view is = sits_from old new waits plain free room view (is_coming old new waits (what view) free is)
 
-  pub gets_up : (view : Option (Numbered View)) → what view ≡ Some Seated → Keeps view (λ w. (w + (2 ^ 64 - 1)) % 2 ^ 64) (leads_by (λ w. Idle))
-  gets_up view is = traces view (λ w. (w + (2 ^ 64 - 1)) % 2 ^ 64) (λ w v. (v ≡ Idle) × (1 ≤ w) × (w ≤ seats n)) (leads_by (λ w. Idle)) (rw is (leave_moves n)) (rw is (gets_up_at n))
+  pub gets_up : (view : Option (Numbered View)) → what view ≡ Some Seated → Keeps view (λ w. (w + (2 ^ 64 - 1)) % 2 ^ 64) gets_up_by
+  gets_up view is = traces view (λ w. (w + (2 ^ 64 - 1)) % 2 ^ 64) (λ w v. (v ≡ Idle) × (1 ≤ w) × (w ≤ seats n)) gets_up_by (rw is (leave_moves n)) (rw is (gets_up_at n))
 
 -- Who may go
 
 also : (n : ℕ) (v : View) → Rests (Holds (lock n)) use_of_view (Some v) → Rests (IsWord n) use_of_view (Some v)
 also n v rest = (rest.0, λ w m before behind is. (rest.1 w m before behind is.0, is.1))
 
-module _ (n name : ℕ) where
-  idle_rests : (v : Numbered View) → v.0 ≡ Idle → Rests (IsSeats n name) use_of_party (Some v)
-  idle_rests v is = tie.rests (model n) seat_of words_of (IsWord n) name (Unit {0}) lends use_of_view v (ap seat_of is) (also n v.0 (plays.idle_rests (lock n) v.0 is))
-
-  pub at_rest : (view : Option (Numbered View)) → what view ≡ Some Idle → Rests (IsSeats n name) use_of_party view
-  at_rest None is = absurd cc
-  at_rest (Some v) is = idle_rests v (cc (is))
-
-  module _ (named : Type 0) (before : Option (Numbered View)) (known now : Watch rule.Done) (found : ℕ) where
-    pub counted : (view : Option (Numbered View)) → Moved (Watches named known now (Told n (counts_by n) before) found) view → Rests (IsSeats n name) use_of_party view × (found ≤ seats n)
-    counted None moved = absurd moved
-    counted (Some v) moved = (idle_rests v moved.1.4.6.0, moved.1.4.6.1)
-
-    pub left_rests : (view : Option (Numbered View)) → Moved (Watches named known now (Told n (leads_by (λ w. Idle)) before) found) view → Rests (IsSeats n name) use_of_party view
-    left_rests None moved = absurd moved
-    left_rests (Some v) moved = idle_rests v moved.1.4.6
-
--- a call whose word has no free seat: a try is over, and `enter` looks again
-none_free : (n word : ℕ) (waits : Bool) → None ≡ entered n word → at_word n waits word ≡ gone waits
-none_free n word waits full = grind (arith, full)
-
-pub gives_up : (n name word : ℕ) (waits : Bool) (view : Option (Numbered View)) → waits ≡ false → None ≡ entered n word → what view ≡ Some (at_word n waits word) → Rests (IsSeats n name) use_of_party view
-gives_up n name word waits view tried full is = at_rest n name view (is ∙ ap Some (none_free n word waits full ∙ ap gone tried))
-
-pub looks_again : (n word : ℕ) (waits : Bool) (view : Option (Numbered View)) → waits ≡ true → None ≡ entered n word → what view ≡ Some (at_word n waits word) → MayLook (what view)
-looks_again n word waits view waiting full is = rw (is ∙ ap Some (none_free n word waits full ∙ ap gone waiting)) tt
-
--- where a step led
-pub led : (n : ℕ) (to : ℕ → View) (named : Type 0) (before view : Option (Numbered View)) (known now : Watch rule.Done) (found : ℕ) → Moved (Watches named known now (Told n (leads_by to) before) found) view → what view ≡ Some (to found)
-led n to named before None known now found moved = absurd moved
-led n to named before (Some v) known now found moved = ap Some moved.1.4.6
+pub rests : (n name : ℕ) (view : Option (Numbered View)) → stands view ≡ Idle → Rests (IsSeats n name) use_of_party view
+rests n name None is = tt
+rests n name (Some v) is = tie.rests (model n) seat_of words_of (IsWord n) name (Unit {0}) lends use_of_view v (ap seat_of is) (also n v.0 (plays.idle_rests (lock n) v.0 is))
 
 -- What the rule says
 

@@ -1,19 +1,20 @@
 -- The rule of a lock of seats: its word is that of a plain lock whose holders are the parties that sit, no more than there are seats; and its trace is a schedule of the lock's model, which leads there.
-use Rattle.std.specs.Prelude.{◌≡◌, ℕ, ◌≤◌, ◌==◌, Bool, true, false, if◌then◌else◌, nat_lt, List, [], ◌∷◌, Option, Some, None, count_by}
+use Rattle.std.specs.Prelude.{◌≡◌, ℕ, ◌≤◌, ◌==◌, Bool, true, false, if◌then◌else◌, nat_lt, List, Option, Some, None, count_by}
 use Rattle.spin_step.specs.Plain.{reading}
 use Rattle.spin_core.specs.Cell.{Use, lends, Ways}
-use Rattle.spin_core.specs.Own.{Numbered, Runs, Tells, what}
+use Rattle.spin_core.specs.Own.{Numbered, Runs, Tells}
+use Rattle.spin_core.specs.Passes.{step_by}
 use Rattle.spin_core.specs.Views.{Part, idle, holds, Encodes, used_by, no_word}
 use Rattle.spin_core.specs.declared.trace.Trace.{Trace}
 use Rattle.spin_model.specs.declared.answer.Answer.{Answer}
-use Rattle.spin_model.specs.declared.answer.Answer.TheVariants.{Count}
+use Rattle.spin_model.specs.declared.answer.Answer.TheVariants.{Granted, Refused, Count}
+use Rattle.spin_model.specs.declared.answer.Answer.TheVariants as answer
 use Rattle.spin_model.specs.declared.place.Hold.TheVariants.{Read}
 use Rattle.spin_model.specs.declared.place.Seat.{Seat}
 use Rattle.spin_model.specs.declared.place.Seat.TheVariants as seat
 use Rattle.spin_model.specs.declared.schedule.Move.{Move}
-use Rattle.spin_model.specs.declared.schedule.Move.TheVariants.{Begin, Step}
 use Rattle.spin_model.specs.declared.schedule.Outcome.{Outcome}
-use Rattle.spin_model.specs.declared.schedule.Outcome.TheVariants.{Begun, Answered}
+use Rattle.spin_model.specs.declared.schedule.Outcome.TheVariants.{Answered, GoingOn}
 use Rattle.spin_model.specs.Schedules.{Entry}
 use Rattle.spin_seats.specs.Seats.{seats, seats_word}
 use Rattle.spin_seats.specs.Table.{SeatsMachine, seats_machine}
@@ -64,8 +65,11 @@ IsWord n word second views = Encodes part (seats n) seats_word no_word word seco
 abbrev pub IsSeats : ℕ → ℕ → ℕ → Trace Done (Unit {0}) → List (Numbered View) → Type 0
 IsSeats n = Runs (model n) seat_of words_of (IsWord n)
 
+abbrev pub Says : Type 1
+Says = List OneMove → List Ending → ℕ → View → Type 0
+
 -- what a step tells of its moves
-abbrev pub Told : ℕ → (List OneMove → List Ending → ℕ → View → Type 0) → Option (Numbered View) → List Done → List Done → ℕ → Numbered View → Type 0
+abbrev pub Told : ℕ → Says → Option (Numbered View) → List Done → List Done → ℕ → Numbered View → Type 0
 Told n = Tells (model n) seat_of words_of
 
 -- a party that sits reads: sitting beside one another is what readers may
@@ -85,25 +89,63 @@ at_word n waits word = if nat_lt word (seats n) then Coming waits word else gone
 abbrev pub IsAtWord : ℕ → Option View → ℕ → Type 0
 IsAtWord n view word = (waits : Bool) × (view ≡ Some (at_word n waits word))
 
--- The steps: which moves, by the number found, and the view after
+-- The steps: what each comes to and where it leads, by the number found
 
--- a party looks, takes no seat, and finds no more taken than there are seats
-abbrev pub counts_by : ℕ → List OneMove → List Ending → ℕ → View → Type 0
-counts_by n own outs found v = (v ≡ Idle) × (found ≤ seats n) × (own ≡ Begin call.Count ∷ Step ∷ []) × (outs ≡ Begun ∷ Answered (Count found) None ∷ [])
+-- it has begun its `enter`, and looks again
+abbrev pub has_begun : Option View → Bool
+has_begun (Some Waiting) = true
+has_begun _ = false
 
-abbrev pub leads_by : (ℕ → View) → List OneMove → List Ending → ℕ → View → Type 0
-leads_by to own outs found v = v ≡ to found
+-- a look at how many sit: it finds no more than there are seats
+abbrev pub counts_by : ℕ → Says
+counts_by n own outs found v = step_by false call.Count (λ w. Answered (Count w) None) (λ w. Idle) own outs found v × (found ≤ seats n)
 
--- it sits, or goes on at the word that it found
-abbrev pub sits_by : ℕ → ℕ → Option View → ℕ → View
-sits_by n old (Some (Coming waits word)) found = if found == old then Seated else at_word n waits found
-sits_by n old _ found = Idle
+-- the call that takes a seat, and waits for one or not
+abbrev pub call_of : Bool → SeatsCall
+call_of true = call.Enter
+call_of false = call.TryEnter
+
+-- what it comes to where it finds this word
+abbrev pub met : ℕ → Bool → ℕ → Ending
+met n true found = GoingOn
+met n false found = if nat_lt found (seats n) then GoingOn else Answered Refused None
+
+abbrev pub looks_by : ℕ → Bool → Option View → Says
+looks_by n waits view = step_by (has_begun view) (call_of waits) (met n waits) (at_word n waits)
+
+-- whether a call waits that goes for a seat
+abbrev pub waits_in : Option View → Bool
+waits_in (Some (Coming waits word)) = waits
+waits_in _ = true
+
+-- its exchange: it sits where it finds the word that it expects, and else goes on at the word that it found
+abbrev pub led_to : ℕ → ℕ → Bool → ℕ → View
+led_to n old waits found = if found == old then Seated else at_word n waits found
+
+abbrev pub takes_by : ℕ → ℕ → Bool → Says
+takes_by n old waits = step_by true (call_of waits) (λ w. if w == old then Answered Granted None else met n waits w) (led_to n old waits)
+
+abbrev pub sits_by : ℕ → ℕ → Option View → Says
+sits_by n old view = takes_by n old (waits_in view)
+
+abbrev pub gets_up_by : Says
+gets_up_by = step_by false call.Leave (λ w. Answered answer.Done None) (λ w. Idle)
+
+-- it is in no call, and has no seat
+abbrev pub IsOut : Option View → Type 0
+IsOut None = Unit {0}
+IsOut (Some Idle) = Unit {0}
+IsOut _ = ⊥
+
+-- what the party is; one that has not come yet is idle
+abbrev pub stands : Option (Numbered View) → View
+stands None = Idle
+stands (Some v) = v.0
 
 -- it comes, or looks again
 abbrev pub MayLook : Option View → Type 0
-MayLook None = Unit {0}
 MayLook (Some Waiting) = Unit {0}
-MayLook _ = ⊥
+MayLook view = IsOut view
 
 abbrev pub sits : View → Bool
 sits Seated = true

@@ -1,22 +1,22 @@
 //! A spinning lock of `N` seats: a counting semaphore. Begin with [`Seats::new`] and [`Seats::enter`].
-ghost use Rattle.std.specs.Prelude.{◌≡◌, ◌≤◌, Bool, Some, IfErr, true, false};
+ghost use Rattle.std.specs.Prelude.{◌≡◌, ◌≤◌, Some, []};
 ghost use Rattle.spin_core.specs.Own.{what};
-ghost use Rattle.spin_seats.specs.Rule.{IsAtWord, MayLook, at_word};
-ghost use Rattle.spin_seats.specs.Seats.{entered, seats};
+ghost use Rattle.spin_seats.specs.Seats.{seats};
 ghost use Rattle.spin_seats.specs.declared.seats.rule.View.TheVariants.{Seated};
 
-use self::rule::{Counts, GetsUp, Looks, Party, SeatsRule, SitsDown, Tries};
-use crate::steps;
-use spin_core::cell::{Cell, Permit};
-use spin_core::relax::{MAX_HINTS, RelaxStrategy, Spin};
+use self::rule::{Account, Party, SeatsRule};
+use spin_core::cell::Cell;
 use spin_core::trace::{Trace, Watch};
 use std::sync::Wait;
 
+mod account;
+mod pass;
 mod rule;
 
+pub use self::pass::Pass;
 pub use self::rule::{Entry, View};
 
-/// A lock of `N` seats, but of no more than [`MAX_SEATS`](steps::MAX_SEATS): at most so many threads have a guard at
+/// A lock of `N` seats, but of no more than [`MAX_SEATS`](crate::steps::MAX_SEATS): at most so many threads have a guard at
 /// the same time.
 ///
 /// Waiting threads may overtake one another.
@@ -32,6 +32,10 @@ pub use self::rule::{Entry, View};
 #[derive(Drop)]
 pub struct Seats<const N: usize> {
     cell: Cell<(), Party, SeatsRule<N>>,
+    // What is known of the lock's history from the start: its name. It has no byte.
+    start: Watch<Entry>,
+    ghost named: { cell.name ≡ start.name },
+    ghost empty: { start.entries ≡ [] },
 }
 
 /// A seat of a [`Seats`]. Dropping it frees the seat.
@@ -43,8 +47,8 @@ pub struct Seats<const N: usize> {
 /// ```
 #[must_use = "dropping the guard at once gives the seat back: bind it, or write `drop(..)`"]
 pub struct SeatGuard<'a, const N: usize> {
-    permit: Permit<'a, (), Party, SeatsRule<N>>,
-    ghost sits: { what permit.view ≡ Some Seated },
+    account: Account<'a, N>,
+    ghost sits: { what account.permit.view ≡ Some Seated },
 }
 
 impl<const N: usize> Seats<N> {
@@ -60,6 +64,7 @@ impl<const N: usize> Seats<N> {
         let start = trace.watch();
         Seats {
             cell: Cell::new((), 0, trace, &start),
+            start,
         }
     }
 
@@ -67,7 +72,7 @@ impl<const N: usize> Seats<N> {
     /// may be out of date.
     ///
     /// # Contract
-    /// The answer is at most `N`, and at most [`MAX_SEATS`](steps::MAX_SEATS).
+    /// The answer is at most `N`, and at most [`MAX_SEATS`](crate::steps::MAX_SEATS).
     ///
     /// # Examples
     /// ```
@@ -79,9 +84,7 @@ impl<const N: usize> Seats<N> {
     pub fn count(&self) -> usize
         ensures { result ≤ seats N }
     {
-        let (found, permit, _) = self.cell.enter().load::<Counts<N>>(Watch::nothing());
-        permit.leave();
-        found as usize
+        self.pass().count().0
     }
 
     /// Tries to take a seat. Returns `None` if all are taken.
@@ -98,9 +101,11 @@ impl<const N: usize> Seats<N> {
     /// ```
     #[must_use = "dropping the guard at once gives the seat back: bind the answer, or write `drop(..)`"]
     pub fn try_enter<W: Wait>(&self, rt: &W) -> Option<SeatGuard<'_, N>> {
-        let (found, permit, _) = self.cell.enter().load::<Tries<N>>(Watch::nothing());
-        let word = found as usize;
-        Trying { word, permit }.take(rt)
+        // As `Pass::try_enter`: a call of it that may wait would cost more.
+        match self.pass().try_come().take(rt) {
+            Ok(guard) => Some(guard),
+            Err(_pass) => None,
+        }
     }
 
     /// Takes a seat, spinning until one is free. The thread backs off: each pause between two tries is longer than the
@@ -116,123 +121,12 @@ impl<const N: usize> Seats<N> {
     /// equal(&rt, seats.count(), 2);
     /// ```
     pub fn enter<W: Wait>(&self, rt: &W) -> SeatGuard<'_, N> {
-        match look_and_sit(self.cell.enter()) {
+        // As `Pass::enter`: a call of it that may wait would cost more.
+        match self.pass().come() {
             Ok(guard) => guard,
             Err(entering) => entering.wait(rt),
         }
     }
-}
-
-// A call of `try_enter`, at the word that it found.
-struct Trying<'a, const N: usize> {
-    word: usize,
-    permit: Permit<'a, (), Party, SeatsRule<N>>,
-    ghost comes: { what permit.view ≡ Some (at_word N false word) },
-}
-
-impl<'a, const N: usize> Trying<'a, N> {
-    // Tries to take a seat at each word that it finds, while one is free.
-    fn take<W: Wait>(self, rt: &W) -> Option<SeatGuard<'a, N>> {
-        let mut trying = self;
-        for _ in rt.forever() {
-            match trying.attempt() {
-                Ok(answer) => return answer,
-                Err(further) => trying = further,
-            }
-        }
-        unreachable!()
-    }
-
-    // Tries to take a seat at its word. If none is free there, the answer is `None`.
-    fn attempt(self) -> Result<Option<SeatGuard<'a, N>>, Trying<'a, N>> {
-        let Self { word, permit } = self;
-        let Some(next) = steps::enter(word, N) else {
-            permit.leave();
-            return Ok(None);
-        };
-        match sit(permit, word, next) {
-            Ok(guard) => Ok(Some(guard)),
-            Err((word, permit)) => Err(Trying { word, permit }),
-        }
-    }
-}
-
-// A call of `enter`, at the word that it found.
-struct Entering<'a, const N: usize> {
-    word: usize,
-    permit: Permit<'a, (), Party, SeatsRule<N>>,
-    ghost comes: { what permit.view ≡ Some (at_word N true word) },
-}
-
-// The look of `enter`, and its exchange if a seat is free.
-fn look_and_sit<'a, const N: usize>(
-    permit: Permit<'a, (), Party, SeatsRule<N>>,
-) -> Result<SeatGuard<'a, N>, Entering<'a, N>>
-    requires { MayLook (what permit.view) }
-{
-    let (found, permit, _) = permit.load::<Looks<N>>(Watch::nothing());
-    let word = found as usize;
-    Entering { word, permit }.attempt()
-}
-
-impl<'a, const N: usize> Entering<'a, N> {
-    // As `back_off` of the strategies, whose closure the borrow checker does not cover here.
-    fn wait<W: Wait>(self, rt: &W) -> SeatGuard<'a, N> {
-        let mut hints = 1;
-        let mut entering = self;
-        for _ in rt.forever() {
-            Spin::pause(rt, hints);
-            match entering.again() {
-                Ok(guard) => return guard,
-                Err(further) => entering = further,
-            }
-            hints = hints.saturating_mul(2).min(MAX_HINTS);
-        }
-        unreachable!()
-    }
-
-    // Tries to take a seat at its word, if one is free there.
-    fn attempt(self) -> Result<SeatGuard<'a, N>, Entering<'a, N>> {
-        let Self { word, permit } = self;
-        let Some(next) = steps::enter(word, N) else {
-            return Err(Entering { word, permit });
-        };
-        match sit(permit, word, next) {
-            Ok(guard) => Ok(guard),
-            Err((word, permit)) => Err(Entering { word, permit }),
-        }
-    }
-
-    // The same, after a look if its word has no free seat.
-    fn again(self) -> Result<SeatGuard<'a, N>, Entering<'a, N>> {
-        let Self { word, permit } = self;
-        if steps::enter(word, N).is_some() {
-            Entering { word, permit }.attempt()
-        } else {
-            look_and_sit(permit)
-        }
-    }
-}
-
-// The exchange of the word that a call found for `next`, which the step function gives for it. Returns the word that
-// it found if that is another.
-fn sit<'a, const N: usize>(
-    permit: Permit<'a, (), Party, SeatsRule<N>>,
-    word: usize,
-    next: usize,
-) -> Result<SeatGuard<'a, N>, (usize, Permit<'a, (), Party, SeatsRule<N>>)>
-    requires { (Some next ≡ entered N word) × IsAtWord N (what permit.view) word }
-    ensures { IfErr result (λ further. (waits : Bool) → what permit.entry.view ≡ Some (at_word N waits word) → what further.1.view ≡ Some (at_word N waits further.0)) }
-{
-    let (found, permit, _) = permit.exchange::<SitsDown<N>>(
-        word as u64,
-        next as u64,
-        Watch::nothing(),
-    );
-    if found == word as u64 {
-        return Ok(SeatGuard { permit });
-    }
-    Err((found as usize, permit))
 }
 
 /// Creates a lock whose seats are all free.
@@ -244,8 +138,6 @@ impl<const N: usize> Default for Seats<N> {
 
 impl<const N: usize> Drop for SeatGuard<'_, N> {
     fn drop(self) {
-        let Self { permit } = self;
-        let (_, permit, _) = permit.subtract::<GetsUp<N>>(1, Watch::nothing());
-        permit.leave();
+        drop(self.leave());
     }
 }

@@ -56,10 +56,8 @@ pub fn serve(ticket: u64) -> u64
 ///
 /// # Examples
 /// ```
-/// if !ticket::is_turn(serving, next) {
-///     permit.leave();
-///     return None;
-/// }
+/// let (serving, next, pass) = self.look();
+/// (!ticket::is_turn(serving, next), pass)
 /// ```
 #[tactic(auto, using(crate::proofs::Tickets::enters_in_turn))]
 pub fn is_turn(serving: u64, ticket: u64) -> bool

@@ -208,7 +208,11 @@ pub fn unlock(word: usize) -> usize
 ///
 /// # Examples
 /// ```
-/// fair::is_locked(found as usize)
+/// if fair::is_locked(found as usize) {
+///     Err(Awaiting { account })
+/// } else {
+///     await_flag(account)
+/// }
 /// ```
 pub fn is_locked(word: usize) -> bool
     ensures exact { result ≡ is_set word }

@@ -1,9 +1,11 @@
 -- The rule of a lock of tickets: its words are those of a plain lock whose tickets are those of the parties that stand, and its trace is a schedule of the lock's model, which leads there.
-use Rattle.std.specs.Prelude.{◌≡◌, ◌==◌, ℕ, ◌<◌, ◌≤◌, true, false, not, List, [], ◌∷◌, Option, Some, None, if◌then◌else◌, map}
+use Rattle.std.specs.Prelude.{◌≡◌, ◌==◌, ℕ, ◌<◌, ◌≤◌, true, false, not, List, [], Option, Some, None, if◌then◌else◌, map}
 use Rattle.spin_step.specs.Plain.{ticket_limit, next_word, serving_word}
 use Rattle.spin_core.specs.Cell.{Use}
 use Rattle.spin_core.specs.Views.{Part, idle, queues, knows_served, Encodes, used_by}
 use Rattle.spin_core.specs.Own.{Numbered, Runs, Tells}
+use Rattle.spin_core.specs.Passes as passes
+use Rattle.spin_core.specs.Passes.{Course, IsCall, step_by}
 use Rattle.spin_core.specs.declared.trace.Trace.{Trace}
 use Rattle.spin_model.specs.declared.answer.Answer.{Answer}
 use Rattle.spin_model.specs.declared.answer.Answer.TheVariants.{Granted, Refused, Is, Done}
@@ -11,9 +13,8 @@ use Rattle.spin_model.specs.declared.place.Hold.TheVariants.{Ticket}
 use Rattle.spin_model.specs.declared.place.Seat.{Seat}
 use Rattle.spin_model.specs.declared.place.Seat.TheVariants as seat
 use Rattle.spin_model.specs.declared.schedule.Move.{Move}
-use Rattle.spin_model.specs.declared.schedule.Move.TheVariants.{Begin, Step}
 use Rattle.spin_model.specs.declared.schedule.Outcome.{Outcome}
-use Rattle.spin_model.specs.declared.schedule.Outcome.TheVariants.{Begun, GoingOn, Answered}
+use Rattle.spin_model.specs.declared.schedule.Outcome.TheVariants.{GoingOn, Answered}
 use Rattle.spin_model.specs.declared.ticket.TicketCall.{TicketCall}
 use Rattle.spin_model.specs.declared.ticket.TicketCall.TheVariants.{Lock, TryLock, IsLocked}
 use Rattle.spin_model.specs.declared.ticket.TicketPoint.{TicketPoint}
@@ -79,19 +80,14 @@ IsQueue name first = Runs (model first) seat_of words_of Word name
 abbrev pub views : List (Numbered View) → List View
 views vs = map (λ v. v.0) vs
 
--- what a step tells of its moves, in the model of some first ticket: a step does not see which the lock's is
-abbrev pub Told : (List OneMove → List Ending → ℕ → View → Type 0) → Option (Numbered View) → List Made → List Made → ℕ → Numbered View → Type 0
-Told says view log es n v = (first : ℕ) × Tells (model first) seat_of words_of says view log es n v
+abbrev pub Says : Type 1
+Says = List OneMove → List Ending → ℕ → View → Type 0
 
--- The steps: which moves, with which outcomes and to which view, by the number found
+-- what a step tells of its moves, in the model of this first ticket
+abbrev pub Told : ℕ → Says → Option (Numbered View) → List Made → List Made → ℕ → Numbered View → Type 0
+Told first = Tells (model first) seat_of words_of
 
--- a call begins, and takes its first step
-abbrev pub begins_by : TicketCall → (ℕ → Ending) → (ℕ → View) → List OneMove → List Ending → ℕ → View → Type 0
-begins_by call ends to own outs n v = (v ≡ to n) × (own ≡ Begin call ∷ Step ∷ []) × (outs ≡ Begun ∷ ends n ∷ [])
-
--- a call takes its next step
-abbrev pub goes_on_by : (ℕ → Ending) → (ℕ → View) → List OneMove → List Ending → ℕ → View → Type 0
-goes_on_by ends to own outs n v = (v ≡ to n) × (own ≡ Step ∷ []) × (outs ≡ ends n ∷ [])
+-- The steps: what each comes to and where it leads, by the number found
 
 abbrev pub goes_on : ℕ → Ending
 goes_on n = GoingOn
@@ -121,8 +117,8 @@ entered number n = if n == number then Entered number else Waiting number
 abbrev pub answers_turn : ℕ → ℕ → Ending
 answers_turn number n = if n == number then Answered Granted None else GoingOn
 
-abbrev pub awaits_by : Option View → List OneMove → List Ending → ℕ → View → Type 0
-awaits_by view = let number : ℕ = number_of view in goes_on_by (answers_turn number) (entered number)
+abbrev pub awaits_by : Option View → Says
+awaits_by view = let number : ℕ = number_of view in step_by true Lock (answers_turn number) (entered number)
 
 -- `try_lock` goes on where the number that it found next is served and left
 abbrev pub freed : ℕ → ℕ → View
@@ -131,15 +127,15 @@ freed next n = if is_free next n then Trying next else Idle
 abbrev pub answers_free : ℕ → ℕ → Ending
 answers_free next n = if is_free next n then GoingOn else Answered Refused None
 
-abbrev pub tries_by : Option View → List OneMove → List Ending → ℕ → View → Type 0
-tries_by view = let next : ℕ = number_of view in goes_on_by (answers_free next) (freed next)
+abbrev pub tries_by : Option View → Says
+tries_by view = let next : ℕ = number_of view in step_by true TryLock (answers_free next) (freed next)
 
 -- it has entered with the ticket that it expected to be next, or has none
 abbrev pub attempted : ℕ → ℕ → View
 attempted next n = if n == next then Entered next else Idle
 
 abbrev pub answers_attempt : ℕ → ℕ → Ending
-answers_attempt next n = Answered (if n == next then Granted else Refused) None
+answers_attempt next n = if n == next then Answered Granted None else Answered Refused None
 
 abbrev pub gone : ℕ → View
 gone n = Idle
@@ -148,18 +144,37 @@ gone n = Idle
 abbrev pub answers_look : ℕ → ℕ → Ending
 answers_look served n = Answered (Is (not (n == served))) None
 
-abbrev pub compares_with : ℕ → List OneMove → List Ending → ℕ → View → Type 0
-compares_with served own outs n v = (served ≤ n) × goes_on_by (answers_look served) gone own outs n v
+abbrev pub compares_with : ℕ → Says
+compares_with served own outs n v = (served ≤ n) × step_by true IsLocked (answers_look served) gone own outs n v
 
-abbrev pub compares_by : Option View → List OneMove → List Ending → ℕ → View → Type 0
+abbrev pub compares_by : Option View → Says
 compares_by view = compares_with (number_of view)
 
 -- the load of a party that releases is no move: it finds the number of the party's own ticket, which the model's `release` knows
-abbrev pub finds : ℕ → List OneMove → List Ending → ℕ → View → Type 0
+abbrev pub finds : ℕ → Says
 finds number own outs n v = ((n ≡ number) × (number < ticket_limit) × (v ≡ Entered number)) × (own ≡ []) × (outs ≡ [])
 
-abbrev pub finds_by : Option View → List OneMove → List Ending → ℕ → View → Type 0
+abbrev pub finds_by : Option View → Says
 finds_by view = finds (number_of view)
 
 abbrev pub answers_release : ℕ → Ending
 answers_release n = Answered Done None
+
+-- it is in no call, and holds nothing
+abbrev pub IsOut : Option View → Type 0
+IsOut None = Unit {0}
+IsOut (Some Idle) = Unit {0}
+IsOut _ = ⊥
+
+-- what the party is; one that has not come yet is idle
+abbrev pub stands : Option (Numbered View) → View
+stands None = Idle
+stands (Some v) = v.0
+
+-- Of a pass of a lock with this first ticket: since it knew `old` it has made moves of this course, and no others
+abbrev pub Moves : ℕ → Course (Unit {0}) TicketCall (Answer (Unit {0})) → Option (Numbered View) → List Made → Option (Numbered View) → List Made → Type 0
+Moves first course view old view' new = passes.Made (model first) view old view' new course
+
+-- it has made exactly this call, with this answer
+abbrev pub Called : ℕ → TicketCall → Answer (Unit {0}) → Option (Numbered View) → List Made → Option (Numbered View) → List Made → Type 0
+Called first c a = Moves first (IsCall c a)

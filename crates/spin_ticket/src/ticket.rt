@@ -1,27 +1,24 @@
 //! A spinning mutex that serves the threads in the order of their tickets. Begin at [`TicketMutex::lock`].
-ghost use Rattle.std.specs.Prelude.{◌≡◌, ◌≤◌, Option, Some, IfSome, IfOk};
+ghost use Rattle.std.specs.Prelude.{◌≡◌, ◌≤◌, Option, [], IfSome};
 ghost use Rattle.std.specs.Fmt.{DisplaysOnOk};
 ghost use Rattle.spin_core.specs.Guard.{IsHolder};
 ghost use Rattle.spin_core.specs.Texts.{lock_text};
-ghost use Rattle.spin_core.specs.Own.{what};
-ghost use Rattle.spin_ticket.specs.Queue.{use_of_party, going};
-ghost use Rattle.spin_ticket.specs.declared.ticket.rule.View.TheVariants.{Waiting, Entered};
+ghost use Rattle.spin_ticket.specs.Queue.{use_of_party};
 
-use self::rule::{
-    Await, LoadNext, LookNext, LookServing, Take, TryLoadNext, TryLoadServing, TryTake,
-};
-use spin_core::cell::{Cell, Permit};
+use spin_core::cell::Cell;
 use spin_core::guard::{self, Guard};
 use spin_core::lock::{Lock, with_guard};
-use spin_core::relax::{Loop, MAX_HINTS, RelaxStrategy, Spin, Strategy};
+use spin_core::relax::{RelaxStrategy, Spin, Strategy};
 use spin_core::texts::write_lock;
 use spin_core::trace::{Trace, Watch};
-use spin_step::ticket;
 use std::fmt::{self, Debug, Formatter};
 use std::sync::Wait;
 
+mod pass;
 mod rule;
+mod waiting;
 
+pub use self::pass::Pass;
 pub use self::rule::{Entry, Party, TicketRule, View};
 
 /// A mutual exclusion lock that serves its threads in the order of their tickets, and on which a waiting thread spins.
@@ -44,7 +41,11 @@ pub use self::rule::{Entry, Party, TicketRule, View};
 #[derive(Drop)]
 pub struct TicketMutex<T, R = Spin> {
     cell: Cell<T, Party, TicketRule>,
+    // What is known of the lock's history from the start: its name. It has no byte.
+    start: Watch<Entry>,
     strategy: Strategy<R>,
+    ghost named: { cell.0.name ≡ start.name },
+    ghost empty: { start.entries ≡ [] },
 }
 
 /// The guard of a [`TicketMutex`]. Dropping it releases the lock, and serves the next ticket.
@@ -82,21 +83,6 @@ pub type Held<'a, T, R = Spin> = guard::Held<'a, T, Party, TicketRule, R>;
 // How many hints a place waits for each ticket before it, where it is not the next in turn.
 const HINTS_EACH: u64 = 8;
 
-// A call of `lock` that goes for the ticket of this number, the next one when it last looked.
-struct Going<'a, T> {
-    number: u64,
-    permit: Permit<'a, T, Party, TicketRule>,
-    ghost goes: { what permit.view ≡ Some (going number) },
-}
-
-// A place in the queue, and how many tickets were before it when it last looked.
-struct Place<'a, T> {
-    number: u64,
-    ahead: u64,
-    permit: Permit<'a, T, Party, TicketRule>,
-    ghost waiting: { what permit.view ≡ Some (Waiting number) },
-}
-
 impl<T, R> TicketMutex<T, R> {
     /// Creates an unlocked mutex that holds `value`.
     ///
@@ -119,6 +105,7 @@ impl<T, R> TicketMutex<T, R> {
         let start = (trace.watch(), first);
         TicketMutex {
             cell: Cell::new(value, first, trace, &start),
+            start: start.0,
             strategy: Strategy::named(),
         }
     }
@@ -159,14 +146,7 @@ impl<T, R> TicketMutex<T, R> {
         R: RelaxStrategy,
         ensures { IsHolder use_of_party result }
     {
-        let place = match self.go().take() {
-            Ok(place) => place,
-            Err(going) => Loop::retry(rt, going, Going::take),
-        };
-        match place.enter() {
-            Ok(guard) => guard,
-            Err(place) => R::retry_after(rt, place, |place| place.pause(), |place| place.enter()),
-        }
+        self.pass().lock(rt).0
     }
 
     /// Tries to acquire the mutex. Returns `None` at once if a thread holds it or waits for it, or if the tickets are
@@ -188,19 +168,8 @@ impl<T, R> TicketMutex<T, R> {
     pub fn try_lock<'a>(&'a self) -> Option<TicketMutexGuard<'a, T, R>>
         ensures { IfSome result (IsHolder use_of_party) }
     {
-        let permit = self.cell.enter();
-        let (next, permit, _) = permit.load::<TryLoadNext>(Watch::nothing());
-        let (serving, permit, _) = permit.load_second::<TryLoadServing>(Watch::nothing());
-        if !ticket::is_turn(serving, next) {
-            permit.leave();
-            return None;
-        }
-        let Some(after) = ticket::take(next) else {
-            permit.leave();
-            return None;
-        };
-        let (tried, _) = permit.attempt::<TryTake>(next, after, Watch::nothing());
-        Some(Guard::new(tried.ok()?.into_writer()))
+        let (guard, _) = self.pass().try_lock().ok()?;
+        Some(guard)
     }
 
     /// Returns `true` if a thread held the lock, or waited for it, at some moment during this call.
@@ -217,8 +186,7 @@ impl<T, R> TicketMutex<T, R> {
     /// equal(&rt, lock.is_locked(), false);
     /// ```
     pub fn is_locked(&self) -> bool {
-        let (serving, next) = self.look();
-        !ticket::is_turn(serving, next)
+        self.pass().is_locked().0
     }
 
     /// Releases the lock that the hold keeps, and serves the next ticket.
@@ -257,75 +225,8 @@ impl<T, R> TicketMutex<T, R> {
     pub(crate) fn look(&self) -> (u64, u64)
         ensures { result.0 ≤ result.1 }
     {
-        // In this order, so that tickets stood between the two numbers.
-        let (serving, permit, _) = self
-            .cell
-            .enter()
-            .load_second::<LookServing>(Watch::nothing());
-        let (next, _) = permit.look::<LookNext>(Watch::nothing());
+        let (serving, next, _) = self.pass().look();
         (serving, next)
-    }
-
-    // Begins a call of `lock`.
-    fn go(&self) -> Going<'_, T> {
-        let (number, permit, _) = self.cell.enter().load::<LoadNext>(Watch::nothing());
-        Going { number, permit }
-    }
-}
-
-impl<'a, T> Going<'a, T> {
-    // Takes the ticket. `Err` goes for the number that was found in its place, which is the same once the tickets are
-    // used up.
-    fn take(self) -> Result<Place<'a, T>, Going<'a, T>> {
-        let Self { number, permit } = self;
-        let Some(after) = ticket::take(number) else {
-            return Err(Going { number, permit });
-        };
-        let (found, permit, _) = permit.exchange::<Take>(number, after, Watch::nothing());
-        if found == number {
-            Ok(Place {
-                number,
-                ahead: 0,
-                permit,
-            })
-        } else {
-            Err(Going {
-                number: found,
-                permit,
-            })
-        }
-    }
-}
-
-impl<'a, T> Place<'a, T> {
-    // The next thread in turn looks again after one hint. One with others before it looks seldom, so that it does not
-    // disturb them.
-    fn pause(&self) -> u32 {
-        if self.ahead <= 1 {
-            return 1;
-        }
-        self.ahead.saturating_mul(HINTS_EACH).min(MAX_HINTS as u64) as u32
-    }
-
-    // Enters if the number of the place is served.
-    fn enter<R>(self) -> Result<TicketMutexGuard<'a, T, R>, Place<'a, T>>
-        ensures { IfOk result (λ guard. guard.writer.view.0 ≡ Entered self.entry.number) }
-    {
-        let Self {
-            number,
-            ahead: _,
-            permit,
-        } = self;
-        let (serving, permit, _) = permit.load_second::<Await>(Watch::nothing());
-        if ticket::is_turn(serving, number) {
-            Ok(Guard::new(permit.into_writer()))
-        } else {
-            Err(Place {
-                number,
-                ahead: number.saturating_sub(serving),
-                permit,
-            })
-        }
     }
 }
 

@@ -7,9 +7,10 @@ use spin_examples::from_rust::{
     add_from_two, add_one, add_starving, doubled, give_back, port_of, raise, set_elsewhere, take,
 };
 use spin_examples::passes::{count_beside_look, try_once};
+use spin_examples::passes_ticket::{count_by_three, look, try_once as try_ticket_once};
 use spin_examples::registers::four_threads;
 use spin_examples::versions::{race, watch_one};
-use spin_examples::{any_lock, paired, totals};
+use spin_examples::{any_lock, paired, passes_fair, totals};
 use std::thread;
 
 #[test]
@@ -64,6 +65,38 @@ fn passes_know_one_history(rt: HostRuntime) {
     drop(try_once(&lock));
     give_back(held);
     equal(&rt, lock.into_inner(), 7);
+}
+
+#[test]
+fn three_passes_of_a_fair_mutex_know_one_history(rt: HostRuntime) {
+    let lock = FairMutex::new(6);
+    let (first, (second, third)) = passes_fair::count_by_three(&rt, &lock);
+    drop(first);
+    drop(second);
+    drop(third);
+    let (free, pass) = passes_fair::look_and_try(&rt, &lock);
+    drop(pass);
+    let guard = lock.lock(&rt);
+    let (held, pass) = passes_fair::look_and_try(&rt, &lock);
+    drop(pass);
+    drop(guard);
+    equal(&rt, (free, held), (false, true));
+    equal(&rt, lock.into_inner(), 9);
+}
+
+#[test]
+fn three_passes_of_a_ticket_mutex_know_one_history(rt: HostRuntime) {
+    let lock = TicketMutex::new(6);
+    let (first, (second, third)) = count_by_three(&rt, lock.pass(), lock.pass(), lock.pass());
+    drop(try_ticket_once(first));
+    let (free, second) = look(second);
+    let guard = lock.lock(&rt);
+    let (held, second) = look(second);
+    drop(try_ticket_once(third));
+    drop(guard);
+    drop(second);
+    equal(&rt, (free, held), (false, true));
+    equal(&rt, lock.into_inner(), 9);
 }
 
 #[test]

@@ -1,4 +1,6 @@
 //! What no contract says: which call is granted, what the count tells, and that threads get on.
+mod passes;
+
 use super::equal::equal;
 use spin_seats::seats::Seats;
 use std::sync::Wait;

@@ -17,10 +17,10 @@ impl<'a, T, V, E, S, P: Rule<T, V, Second = Trace<E, S>>> Permit<'a, T, V, P> {
     /// ```
     /// equal(&rt, cell.enter().look::<TellNothing>(Watch::nothing()).0, 6);
     /// ```
-    pub fn look<M: Play<V, E>>(self, seen: Watch<E>) -> (u64, Watch<E>)
-        requires step { MayKnow (P.holds self.key) (P.ways self.key) seen × Traces (P.holds self.key) (P.ways self.key) self.view self.value (λ n. n) (M.told 0 0 self.view) }
-        requires rests { (log es : List E) (found : ℕ) (after : V) → M.told 0 0 self.view log es found after → Rests (P.holds self.key) (P.ways self.key).1 (Some after) }
-        ensures found { (after : V) × Watches (Named (P.holds self.entry.key) (P.ways self.entry.key) seen.name) seen result.1 (M.told 0 0 self.entry.view) result.0 after }
+    pub fn look<M: Play<P::Key, V, E>>(self, seen: Watch<E>) -> (u64, Watch<E>)
+        requires step { MayKnow (P.holds self.key) (P.ways self.key) seen × Traces (P.holds self.key) (P.ways self.key) self.view self.value (λ n. n) (M.told self.key 0 0 self.view) }
+        requires rests { (log es : List E) (found : ℕ) (after : V) → M.told self.key 0 0 self.view log es found after → Rests (P.holds self.key) (P.ways self.key).1 (Some after) }
+        ensures found { (after : V) × Watches (Named (P.holds self.entry.key) (P.ways self.entry.key) seen.name) seen result.1 (M.told self.entry.key 0 0 self.entry.view) result.0 after }
     {
         let (found, permit, seen) = self.load::<M>(seen);
         permit.leave();
@@ -39,19 +39,19 @@ impl<'a, T, V, E, S, P: Rule<T, V, Second = Trace<E, S>>> Permit<'a, T, V, P> {
     /// let (party, _) = cell.enter().attempt::<Mark>(old, new, Watch::nothing());
     /// Ok(party?.look::<TellNothing>(Watch::nothing()).0)
     /// ```
-    pub fn attempt<M: Play<V, E>>(
+    pub fn attempt<M: Play<P::Key, V, E>>(
         self,
         old: u64,
         new: u64,
         seen: Watch<E>,
     ) -> (Result<Permit<'a, T, V, P>, u64>, Watch<E>)
-        requires step { MayKnow (P.holds self.key) (P.ways self.key) seen × Traces (P.holds self.key) (P.ways self.key) self.view self.value (λ n. either (n == old) new n) (M.told old new self.view) }
-        requires rests { (log es : List E) (found : ℕ) (after : V) → found ≢ old → M.told old new self.view log es found after → Rests (P.holds self.key) (P.ways self.key).1 (Some after) }
-        ensures moved { IfOk result.0 (λ permit. Moved (Watches (Named (P.holds self.entry.key) (P.ways self.entry.key) seen.name) seen result.1 (M.told old new self.entry.view) old) permit.view) }
+        requires step { MayKnow (P.holds self.key) (P.ways self.key) seen × Traces (P.holds self.key) (P.ways self.key) self.view self.value (λ n. either (n == old) new n) (M.told self.key old new self.view) }
+        requires rests { (log es : List E) (found : ℕ) (after : V) → found ≢ old → M.told self.key old new self.view log es found after → Rests (P.holds self.key) (P.ways self.key).1 (Some after) }
+        ensures moved { IfOk result.0 (λ permit. Moved (Watches (Named (P.holds self.entry.key) (P.ways self.entry.key) seen.name) seen result.1 (M.told self.entry.key old new self.entry.view) old) permit.view) }
         ensures kept { IfOk result.0 (λ permit. Keeps (P.ways self.entry.key) self.entry.view permit.view self.entry.value permit.value) }
         ensures key { IfOk result.0 (λ permit. permit.key ≡ self.entry.key) }
         ensures missed { IfErr result.0 (λ found. found ≢ old) }
-        ensures left { IfErr result.0 (λ found. (after : V) × Watches (Named (P.holds self.entry.key) (P.ways self.entry.key) seen.name) seen result.1 (M.told old new self.entry.view) found after) }
+        ensures left { IfErr result.0 (λ found. (after : V) × Watches (Named (P.holds self.entry.key) (P.ways self.entry.key) seen.name) seen result.1 (M.told self.entry.key old new self.entry.view) found after) }
     {
         let (found, permit, seen) = self.exchange::<M>(old, new, seen);
         if found == old {

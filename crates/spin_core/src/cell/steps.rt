@@ -15,16 +15,16 @@ use std::sync::atomic::raw;
 ///
 /// # Examples
 /// ```
-/// impl Play<Bystander, ()> for Mark {
+/// impl Play<Watch<()>, Bystander, ()> for Mark {
 ///     ghost use Rattle.spin_core_tests.specs.Bystanders.{marks};
 ///
-///     ghost told = { marks };
+///     ghost told = { λ key. marks };
 /// }
 /// ```
-pub trait Play<V, E> {
-    // Of the operands (0 where there is none), the view before, the trace before, what the step appended, the number
-    // found and the view after.
-    ghost told: { ℕ → ℕ → Option V → List E → List E → ℕ → V → Type 0 };
+pub trait Play<K, V, E> {
+    // Of the key of the rule, the operands (0 where there is none), the view before, the trace before, what the step
+    // appended, the number found and the view after.
+    ghost told: { K → ℕ → ℕ → Option V → List E → List E → ℕ → V → Type 0 };
 }
 
 /// Steps on the first word.
@@ -47,9 +47,9 @@ impl<'a, T, V, E, S, P: Rule<T, V, Second = Trace<E, S>>> Permit<'a, T, V, P> {
     /// let (found, party, _) = cell.enter().load::<TellNothing>(Watch::nothing());
     /// equal(&rt, found, 1);
     /// ```
-    pub fn load<M: Play<V, E>>(self, seen: Watch<E>) -> (u64, Permit<'a, T, V, P>, Watch<E>)
-        requires { MayKnow (P.holds self.key) (P.ways self.key) seen × Traces (P.holds self.key) (P.ways self.key) self.view self.value (λ n. n) (M.told 0 0 self.view) }
-        ensures moved { Moved (Watches (Named (P.holds self.entry.key) (P.ways self.entry.key) seen.name) seen result.2 (M.told 0 0 self.entry.view) result.0) result.1.view }
+    pub fn load<M: Play<P::Key, V, E>>(self, seen: Watch<E>) -> (u64, Permit<'a, T, V, P>, Watch<E>)
+        requires { MayKnow (P.holds self.key) (P.ways self.key) seen × Traces (P.holds self.key) (P.ways self.key) self.view self.value (λ n. n) (M.told self.key 0 0 self.view) }
+        ensures moved { Moved (Watches (Named (P.holds self.entry.key) (P.ways self.entry.key) seen.name) seen result.2 (M.told self.entry.key 0 0 self.entry.view) result.0) result.1.view }
         ensures kept { Keeps (P.ways self.entry.key) self.entry.view result.1.view self.entry.value result.1.value }
         ensures key { result.1.key ≡ self.entry.key }
     {
@@ -72,14 +72,14 @@ impl<'a, T, V, E, S, P: Rule<T, V, Second = Trace<E, S>>> Permit<'a, T, V, P> {
     /// let (found, party, _) = party.exchange::<Mark>(1, 6, Watch::nothing());
     /// equal(&rt, found, 1);
     /// ```
-    pub fn exchange<M: Play<V, E>>(
+    pub fn exchange<M: Play<P::Key, V, E>>(
         self,
         old: u64,
         new: u64,
         seen: Watch<E>,
     ) -> (u64, Permit<'a, T, V, P>, Watch<E>)
-        requires { MayKnow (P.holds self.key) (P.ways self.key) seen × Traces (P.holds self.key) (P.ways self.key) self.view self.value (λ n. either (n == old) new n) (M.told old new self.view) }
-        ensures moved { Moved (Watches (Named (P.holds self.entry.key) (P.ways self.entry.key) seen.name) seen result.2 (M.told old new self.entry.view) result.0) result.1.view }
+        requires { MayKnow (P.holds self.key) (P.ways self.key) seen × Traces (P.holds self.key) (P.ways self.key) self.view self.value (λ n. either (n == old) new n) (M.told self.key old new self.view) }
+        ensures moved { Moved (Watches (Named (P.holds self.entry.key) (P.ways self.entry.key) seen.name) seen result.2 (M.told self.entry.key old new self.entry.view) result.0) result.1.view }
         ensures kept { Keeps (P.ways self.entry.key) self.entry.view result.1.view self.entry.value result.1.value }
         ensures key { result.1.key ≡ self.entry.key }
     {
@@ -102,9 +102,13 @@ impl<'a, T, V, E, S, P: Rule<T, V, Second = Trace<E, S>>> Permit<'a, T, V, P> {
     /// let (party, _) = cell.enter().store::<Mark>(3, Watch::nothing());
     /// party.leave();
     /// ```
-    pub fn store<M: Play<V, E>>(self, new: u64, seen: Watch<E>) -> (Permit<'a, T, V, P>, Watch<E>)
-        requires { MayKnow (P.holds self.key) (P.ways self.key) seen × Traces (P.holds self.key) (P.ways self.key) self.view self.value (λ _. new) (λ log es _. M.told 0 new self.view log es 0) }
-        ensures moved { Moved (Watches (Named (P.holds self.entry.key) (P.ways self.entry.key) seen.name) seen result.1 (λ log es _. M.told 0 new self.entry.view log es 0) 0) result.0.view }
+    pub fn store<M: Play<P::Key, V, E>>(
+        self,
+        new: u64,
+        seen: Watch<E>,
+    ) -> (Permit<'a, T, V, P>, Watch<E>)
+        requires { MayKnow (P.holds self.key) (P.ways self.key) seen × Traces (P.holds self.key) (P.ways self.key) self.view self.value (λ _. new) (λ log es _. M.told self.key 0 new self.view log es 0) }
+        ensures moved { Moved (Watches (Named (P.holds self.entry.key) (P.ways self.entry.key) seen.name) seen result.1 (λ log es _. M.told self.entry.key 0 new self.entry.view log es 0) 0) result.0.view }
         ensures kept { Keeps (P.ways self.entry.key) self.entry.view result.0.view self.entry.value result.0.value }
         ensures key { result.0.key ≡ self.entry.key }
     {
@@ -126,9 +130,13 @@ impl<'a, T, V, E, S, P: Rule<T, V, Second = Trace<E, S>>> Permit<'a, T, V, P> {
     /// let (found, party, _) = party.add::<Mark>(u64::MAX, Watch::nothing());
     /// equal(&rt, found, 8);
     /// ```
-    pub fn add<M: Play<V, E>>(self, by: u64, seen: Watch<E>) -> (u64, Permit<'a, T, V, P>, Watch<E>)
-        requires { MayKnow (P.holds self.key) (P.ways self.key) seen × Traces (P.holds self.key) (P.ways self.key) self.view self.value (λ n. (n + by) % 2 ^ 64) (M.told by 0 self.view) }
-        ensures moved { Moved (Watches (Named (P.holds self.entry.key) (P.ways self.entry.key) seen.name) seen result.2 (M.told by 0 self.entry.view) result.0) result.1.view }
+    pub fn add<M: Play<P::Key, V, E>>(
+        self,
+        by: u64,
+        seen: Watch<E>,
+    ) -> (u64, Permit<'a, T, V, P>, Watch<E>)
+        requires { MayKnow (P.holds self.key) (P.ways self.key) seen × Traces (P.holds self.key) (P.ways self.key) self.view self.value (λ n. (n + by) % 2 ^ 64) (M.told self.key by 0 self.view) }
+        ensures moved { Moved (Watches (Named (P.holds self.entry.key) (P.ways self.entry.key) seen.name) seen result.2 (M.told self.entry.key by 0 self.entry.view) result.0) result.1.view }
         ensures kept { Keeps (P.ways self.entry.key) self.entry.view result.1.view self.entry.value result.1.value }
         ensures key { result.1.key ≡ self.entry.key }
     {
@@ -151,13 +159,13 @@ impl<'a, T, V, E, S, P: Rule<T, V, Second = Trace<E, S>>> Permit<'a, T, V, P> {
     /// let (found, party, _) = party.subtract::<Mark>(3, Watch::nothing());
     /// equal(&rt, found, 7);
     /// ```
-    pub fn subtract<M: Play<V, E>>(
+    pub fn subtract<M: Play<P::Key, V, E>>(
         self,
         by: u64,
         seen: Watch<E>,
     ) -> (u64, Permit<'a, T, V, P>, Watch<E>)
-        requires { MayKnow (P.holds self.key) (P.ways self.key) seen × Traces (P.holds self.key) (P.ways self.key) self.view self.value (λ n. (n + (2 ^ 64 - by)) % 2 ^ 64) (M.told by 0 self.view) }
-        ensures moved { Moved (Watches (Named (P.holds self.entry.key) (P.ways self.entry.key) seen.name) seen result.2 (M.told by 0 self.entry.view) result.0) result.1.view }
+        requires { MayKnow (P.holds self.key) (P.ways self.key) seen × Traces (P.holds self.key) (P.ways self.key) self.view self.value (λ n. (n + (2 ^ 64 - by)) % 2 ^ 64) (M.told self.key by 0 self.view) }
+        ensures moved { Moved (Watches (Named (P.holds self.entry.key) (P.ways self.entry.key) seen.name) seen result.2 (M.told self.entry.key by 0 self.entry.view) result.0) result.1.view }
         ensures kept { Keeps (P.ways self.entry.key) self.entry.view result.1.view self.entry.value result.1.value }
         ensures key { result.1.key ≡ self.entry.key }
     {
@@ -180,13 +188,13 @@ impl<'a, T, V, E, S, P: Rule<T, V, Second = Trace<E, S>>> Permit<'a, T, V, P> {
     /// let (found, party, _) = party.set_bits::<Mark>(3, Watch::nothing());
     /// equal(&rt, found, 4);
     /// ```
-    pub fn set_bits<M: Play<V, E>>(
+    pub fn set_bits<M: Play<P::Key, V, E>>(
         self,
         mask: u64,
         seen: Watch<E>,
     ) -> (u64, Permit<'a, T, V, P>, Watch<E>)
-        requires { MayKnow (P.holds self.key) (P.ways self.key) seen × Traces (P.holds self.key) (P.ways self.key) self.view self.value (λ n. bit_or n mask) (M.told mask 0 self.view) }
-        ensures moved { Moved (Watches (Named (P.holds self.entry.key) (P.ways self.entry.key) seen.name) seen result.2 (M.told mask 0 self.entry.view) result.0) result.1.view }
+        requires { MayKnow (P.holds self.key) (P.ways self.key) seen × Traces (P.holds self.key) (P.ways self.key) self.view self.value (λ n. bit_or n mask) (M.told self.key mask 0 self.view) }
+        ensures moved { Moved (Watches (Named (P.holds self.entry.key) (P.ways self.entry.key) seen.name) seen result.2 (M.told self.entry.key mask 0 self.entry.view) result.0) result.1.view }
         ensures kept { Keeps (P.ways self.entry.key) self.entry.view result.1.view self.entry.value result.1.value }
         ensures key { result.1.key ≡ self.entry.key }
     {
@@ -215,9 +223,12 @@ impl<'a, T, V, E, P: Rule<T, V, Second = Trace<E, u64>>> Permit<'a, T, V, P> {
     /// let (found, party, _) = party.load_second::<TellNothing>(Watch::nothing());
     /// equal(&rt, found, 8);
     /// ```
-    pub fn load_second<M: Play<V, E>>(self, seen: Watch<E>) -> (u64, Permit<'a, T, V, P>, Watch<E>)
-        requires { MayKnow (P.holds self.key) (P.ways self.key) seen × TracesSecond (P.holds self.key) (P.ways self.key) self.view self.value (λ n. n) (M.told 0 0 self.view) }
-        ensures moved { Moved (Watches (Named (P.holds self.entry.key) (P.ways self.entry.key) seen.name) seen result.2 (M.told 0 0 self.entry.view) result.0) result.1.view }
+    pub fn load_second<M: Play<P::Key, V, E>>(
+        self,
+        seen: Watch<E>,
+    ) -> (u64, Permit<'a, T, V, P>, Watch<E>)
+        requires { MayKnow (P.holds self.key) (P.ways self.key) seen × TracesSecond (P.holds self.key) (P.ways self.key) self.view self.value (λ n. n) (M.told self.key 0 0 self.view) }
+        ensures moved { Moved (Watches (Named (P.holds self.entry.key) (P.ways self.entry.key) seen.name) seen result.2 (M.told self.entry.key 0 0 self.entry.view) result.0) result.1.view }
         ensures kept { Keeps (P.ways self.entry.key) self.entry.view result.1.view self.entry.value result.1.value }
         ensures key { result.1.key ≡ self.entry.key }
     {
@@ -241,13 +252,13 @@ impl<'a, T, V, E, P: Rule<T, V, Second = Trace<E, u64>>> Permit<'a, T, V, P> {
     /// let (party, seen) = party.store_second::<Mark>(8, seen);
     /// party.leave();
     /// ```
-    pub fn store_second<M: Play<V, E>>(
+    pub fn store_second<M: Play<P::Key, V, E>>(
         self,
         new: u64,
         seen: Watch<E>,
     ) -> (Permit<'a, T, V, P>, Watch<E>)
-        requires { MayKnow (P.holds self.key) (P.ways self.key) seen × TracesSecond (P.holds self.key) (P.ways self.key) self.view self.value (λ _. new) (λ log es _. M.told 0 new self.view log es 0) }
-        ensures moved { Moved (Watches (Named (P.holds self.entry.key) (P.ways self.entry.key) seen.name) seen result.1 (λ log es _. M.told 0 new self.entry.view log es 0) 0) result.0.view }
+        requires { MayKnow (P.holds self.key) (P.ways self.key) seen × TracesSecond (P.holds self.key) (P.ways self.key) self.view self.value (λ _. new) (λ log es _. M.told self.key 0 new self.view log es 0) }
+        ensures moved { Moved (Watches (Named (P.holds self.entry.key) (P.ways self.entry.key) seen.name) seen result.1 (λ log es _. M.told self.entry.key 0 new self.entry.view log es 0) 0) result.0.view }
         ensures kept { Keeps (P.ways self.entry.key) self.entry.view result.0.view self.entry.value result.0.value }
         ensures key { result.0.key ≡ self.entry.key }
     {

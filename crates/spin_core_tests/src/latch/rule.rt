@@ -53,43 +53,43 @@ pub(super) type LatchPermit<'a, T> = Permit<'a, T, Party, LatchRule<T>>;
 // The load of `try_read`.
 pub(super) struct Tries;
 
-impl Play<Party, Entry> for Tries {
-    ghost told = { λ old new before. Leads (at_word false) before };
+impl Play<Watch<Entry>, Party, Entry> for Tries {
+    ghost told = { λ key old new before. Leads (at_word false) before };
 }
 
 // The load of `read`.
 pub(super) struct Looks;
 
-impl Play<Party, Entry> for Looks {
-    ghost told = { λ old new before. Leads (at_word true) before };
+impl Play<Watch<Entry>, Party, Entry> for Looks {
+    ghost told = { λ key old new before. Leads (at_word true) before };
 }
 
 // The exchange of a call that comes to read.
 pub(super) struct Comes;
 
-impl Play<Party, Entry> for Comes {
-    ghost told = { λ old new before. Leads (reads_by old (what before)) before };
+impl Play<Watch<Entry>, Party, Entry> for Comes {
+    ghost told = { λ key old new before. Leads (reads_by old (what before)) before };
 }
 
 // The exchange of `try_write`.
 pub(super) struct TriesToWrite;
 
-impl Play<Party, Entry> for TriesToWrite {
-    ghost told = { λ old new before. Leads (either_at old Writing Idle) before };
+impl Play<Watch<Entry>, Party, Entry> for TriesToWrite {
+    ghost told = { λ key old new before. Leads (either_at old Writing Idle) before };
 }
 
 // The exchange of `write`.
 pub(super) struct Writes;
 
-impl Play<Party, Entry> for Writes {
-    ghost told = { λ old new before. Leads (either_at old Writing WaitingToWrite) before };
+impl Play<Watch<Entry>, Party, Entry> for Writes {
+    ghost told = { λ key old new before. Leads (either_at old Writing WaitingToWrite) before };
 }
 
 // The subtraction of a holder that leaves.
 pub(super) struct Leaves;
 
-impl Play<Party, Entry> for Leaves {
-    ghost told = { λ old new before. Leads (λ found. Idle) before };
+impl Play<Watch<Entry>, Party, Entry> for Leaves {
+    ghost told = { λ key old new before. Leads (λ found. Idle) before };
 }
 
 impl<T> Uses<Party> for LatchRule<T> {

@@ -2,8 +2,8 @@
 ghost use Rattle.std.specs.Prelude.{refl};
 ghost use Rattle.spin_core.specs.Cell.{alone, use_of};
 ghost use Rattle.spin_core.specs.Own.{what};
-ghost use Rattle.spin_step_more.specs.declared.fair_calls.FairCall.TheVariants.{StarverTryLock, StarverDrop, Release};
-ghost use Rattle.spin_fair.specs.Fair.{IsFair, Told, use_of_party, looks_by, tries_by, tries_alone_by, ends_by, leads_by, tried, looked, registered_by, setting, set_by, awaited_by, served};
+ghost use Rattle.spin_step_more.specs.declared.fair_calls.FairCall.TheVariants.{TryLock, TryLockStarver, StarverTryLockFair, StarverTryLock, StarverLock, StarverDrop, Release};
+ghost use Rattle.spin_fair.specs.Fair.{IsFair, Told, use_of_party, call_of, looks_by, tries_by, tried_by, looked_by, registers_by, alone_by, sets_by, awaits_by, served_by, ends_by};
 
 use spin_core::cell::{Play, Rule, WritePermit};
 use spin_core::guard::{self, Uses};
@@ -72,85 +72,99 @@ pub(super) const STARVER: u64 = fair::STARVER as u64;
 /// The load of `is_locked`.
 pub(super) struct Load;
 
-impl Play<Party, Entry> for Load {
-    ghost told = { λ old new before. Told looks_by before };
+impl Play<Watch<Entry>, Party, Entry> for Load {
+    ghost told = { λ key old new before. Told looks_by before };
+}
+
+/// The compare-exchange of `try_lock`.
+pub(super) struct Attempt;
+
+impl Play<Watch<Entry>, Party, Entry> for Attempt {
+    ghost told = { λ key old new before. Told (tries_by TryLock) before };
 }
 
 /// The compare-exchange of `try_lock_starver`.
-pub(super) struct Attempt;
+pub(super) struct AttemptToKnow;
 
-impl Play<Party, Entry> for Attempt {
-    ghost told = { λ old new before. Told tries_by before };
+impl Play<Watch<Entry>, Party, Entry> for AttemptToKnow {
+    ghost told = { λ key old new before. Told (tries_by TryLockStarver) before };
 }
 
 /// The compare-exchange of `lock`, after so many looks that found the lock held.
 pub(super) struct Tries;
 
-impl Play<Party, Entry> for Tries {
-    ghost told = { λ old new before. Told (leads_by (tried (what before))) before };
+impl Play<Watch<Entry>, Party, Entry> for Tries {
+    ghost told = { λ key old new before. Told (tried_by (what before)) before };
 }
 
 /// The look of `lock`.
 pub(super) struct Looks;
 
-impl Play<Party, Entry> for Looks {
-    ghost told = { λ old new before. Told (leads_by (looked (what before))) before };
+impl Play<Watch<Entry>, Party, Entry> for Looks {
+    ghost told = { λ key old new before. Told (looked_by (what before)) before };
 }
 
 /// A compare-exchange: the party registers as a starver if it found the word that it expected.
 pub(super) struct Register;
 
-impl Play<Party, Entry> for Register {
-    ghost told = { λ old new before. Told (leads_by (registered_by (what before) old)) before };
+impl Play<Watch<Entry>, Party, Entry> for Register {
+    ghost told = { λ key old new before. Told (registers_by (what before) old) before };
 }
 
 /// The compare-exchange of `try_lock_fair`: a starver holds, and stops starving, if it was the only one.
 pub(super) struct AttemptAlone;
 
-impl Play<Party, Entry> for AttemptAlone {
-    ghost told = { λ old new before. Told tries_alone_by before };
+impl Play<Watch<Entry>, Party, Entry> for AttemptAlone {
+    ghost told = { λ key old new before. Told (alone_by StarverTryLockFair) before };
 }
 
-/// The bit operation of `try_lock`: a starver holds if it found the flag clear.
-pub(super) struct TrySetFlag;
+/// The same compare-exchange, first in `try_lock`.
+pub(super) struct TryAlone;
 
-impl Play<Party, Entry> for TrySetFlag {
-    ghost told = { λ old new before. Told (leads_by (set_by StarverTryLock)) before };
+impl Play<Watch<Entry>, Party, Entry> for TryAlone {
+    ghost told = { λ key old new before. Told (alone_by StarverTryLock) before };
 }
 
-/// The bit operation of a call that waits: a starver holds if it found the flag clear, and else looks.
+/// The same compare-exchange, first in the `lock` of a starver.
+pub(super) struct LockAlone;
+
+impl Play<Watch<Entry>, Party, Entry> for LockAlone {
+    ghost told = { λ key old new before. Told (alone_by StarverLock) before };
+}
+
+/// The bit operation: a starver holds if it found the flag clear.
 pub(super) struct SetFlag;
 
-impl Play<Party, Entry> for SetFlag {
-    ghost told = { λ old new before. Told (leads_by (set_by (setting (what before)))) before };
+impl Play<Watch<Entry>, Party, Entry> for SetFlag {
+    ghost told = { λ key old new before. Told (sets_by (call_of (what before))) before };
 }
 
 /// A load: a starver looks whether the flag is clear.
 pub(super) struct Await;
 
-impl Play<Party, Entry> for Await {
-    ghost told = { λ old new before. Told (leads_by (awaited_by (what before))) before };
+impl Play<Watch<Entry>, Party, Entry> for Await {
+    ghost told = { λ key old new before. Told (awaits_by (what before)) before };
 }
 
 /// A subtraction: a starver that holds stops starving.
 pub(super) struct Unregister;
 
-impl Play<Party, Entry> for Unregister {
-    ghost told = { λ old new before. Told (leads_by served) before };
+impl Play<Watch<Entry>, Party, Entry> for Unregister {
+    ghost told = { λ key old new before. Told (served_by (what before)) before };
 }
 
 /// A subtraction: a starver gives up.
 pub(super) struct GivesUp;
 
-impl Play<Party, Entry> for GivesUp {
-    ghost told = { λ old new before. Told (ends_by StarverDrop) before };
+impl Play<Watch<Entry>, Party, Entry> for GivesUp {
+    ghost told = { λ key old new before. Told (ends_by StarverDrop) before };
 }
 
 /// The subtraction that releases the lock.
 pub(super) struct Frees;
 
-impl Play<Party, Entry> for Frees {
-    ghost told = { λ old new before. Told (ends_by Release) before };
+impl Play<Watch<Entry>, Party, Entry> for Frees {
+    ghost told = { λ key old new before. Told (ends_by Release) before };
 }
 
 impl Uses<Party> for FairRule {

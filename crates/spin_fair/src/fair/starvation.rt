@@ -1,18 +1,16 @@
 //! A thread that starves for a `FairMutex`: it comes before newcomers until it has the lock or gives up. Begin at
 //! [`Starvation::lock`].
-ghost use Rattle.std.specs.Prelude.{◌≡◌, Some, true, IfOk};
+ghost use Rattle.std.specs.Prelude.{◌≡◌, Some, IfOk};
 ghost use Rattle.spin_core.specs.Guard.{IsHolder};
 ghost use Rattle.spin_core.specs.Own.{what};
-ghost use Rattle.spin_fair.specs.Fair.{use_of_party, MaySet, awaits, HoldsStarving};
+ghost use Rattle.spin_fair.specs.Fair.{use_of_party};
 ghost use Rattle.spin_fair.specs.declared.fair.rule.View.TheVariants.{Starving};
 
-use super::rule::{AttemptAlone, Await, GivesUp, LOCKED, STARVER, SetFlag, TrySetFlag, Unregister};
-use super::{FairMutexGuard, FairRule, Party};
-use spin_core::cell::Permit;
-use spin_core::guard::Guard;
-use spin_core::relax::{MAX_HINTS, RelaxStrategy, Spin, Strategy};
-use spin_core::trace::Watch;
-use spin_step_more::fair;
+use super::FairMutexGuard;
+use super::account::Account;
+use super::starving::{StarvingPass, wait_as_starver};
+use spin_core::relax::{RelaxStrategy, Spin};
+use std::marker::PhantomData;
 use std::sync::Wait;
 
 /// A registered starver of a `FairMutex`. Dropping it ends the registration.
@@ -30,9 +28,7 @@ use std::sync::Wait;
 /// ```
 #[must_use = "a place that is dropped at once no longer starves: call `lock` on it"]
 pub struct Starvation<'a, T, R = Spin> {
-    permit: Permit<'a, T, Party, FairRule>,
-    strategy: Strategy<R>,
-    ghost starving: { what permit.view ≡ Some Starving },
+    pass: StarvingPass<'a, T, R>,
 }
 
 impl<'a, T, R> Starvation<'a, T, R> {
@@ -52,18 +48,9 @@ impl<'a, T, R> Starvation<'a, T, R> {
     pub fn try_lock_fair(self) -> Result<FairMutexGuard<'a, T, R>, Starvation<'a, T, R>>
         ensures { IfOk result (IsHolder use_of_party) }
     {
-        let alone = fair::STARVER;
-        let taken = fair::lock_fair(alone).unwrap();
-        // Both steps at once, so that no thread sees a holder that is still registered.
-        let (found, permit, _) = self.into_permit().exchange::<AttemptAlone>(
-            alone as u64,
-            fair::unstarve(taken) as u64,
-            Watch::nothing(),
-        );
-        if found == alone as u64 {
-            Ok(Guard::new(permit.into_writer()))
-        } else {
-            Err(Self::new(permit))
+        match self.into_pass().try_lock_fair() {
+            Ok((guard, _)) => Ok(guard),
+            Err(pass) => Err(Starvation { pass }),
         }
     }
 
@@ -83,38 +70,26 @@ impl<'a, T, R> Starvation<'a, T, R> {
     pub fn try_lock(self) -> Result<FairMutexGuard<'a, T, R>, Starvation<'a, T, R>>
         ensures { IfOk result (IsHolder use_of_party) }
     {
-        // First as the only starver, which is one instruction: to set a bit and see the word compiles to a loop.
-        let still = match self.try_lock_fair() {
-            Ok(guard) => return Ok(guard),
-            Err(still) => still,
-        };
-        let (found, permit, _) = still
-            .into_permit()
-            .set_bits::<TrySetFlag>(LOCKED, Watch::nothing());
-        if fair::is_locked(found as usize) {
-            Err(Self::new(permit))
-        } else {
-            Ok(stop_starving(permit))
+        match self.into_pass().try_lock() {
+            Ok((guard, _)) => Ok(guard),
+            Err(pass) => Err(Starvation { pass }),
         }
     }
 
-    pub(super) fn new(permit: Permit<'a, T, Party, FairRule>) -> Self
-        requires { what permit.view ≡ Some Starving }
+    pub(super) fn new(account: Account<'a, T>) -> Self
+        requires { what account.permit.view ≡ Some Starving }
     {
         Starvation {
-            permit,
-            strategy: Strategy::named(),
+            pass: StarvingPass {
+                account,
+                strategy: PhantomData,
+            },
         }
     }
 
-    fn into_permit(self) -> Permit<'a, T, Party, FairRule>
-        ensures { what result.view ≡ Some Starving }
-    {
-        let Self {
-            permit,
-            strategy: _,
-        } = self;
-        permit
+    fn into_pass(self) -> StarvingPass<'a, T, R> {
+        let Self { pass } = self;
+        pass
     }
 }
 
@@ -139,86 +114,18 @@ impl<'a, T, R: RelaxStrategy> Starvation<'a, T, R> {
     pub fn lock<W: Wait>(self, rt: &W) -> FairMutexGuard<'a, T, R>
         ensures { IsHolder use_of_party result }
     {
-        match self.try_lock_fair() {
-            Ok(guard) => guard,
-            Err(still) => wait_as_starver(rt, still.into_permit()),
-        }
+        // As `StarvingPass::lock`: through it, the path of a lone starver would be two instructions longer.
+        let (guard, _) = match self.into_pass().begin_lock() {
+            Ok(held) => held,
+            Err(account) => wait_as_starver(rt, account),
+        };
+        guard
     }
-}
-
-// A starver in a call that waits, which goes on with a look.
-struct Awaiting<'a, T> {
-    permit: Permit<'a, T, Party, FairRule>,
-    ghost awaits: { awaits (what permit.view) ≡ true },
-}
-
-impl<'a, T> Awaiting<'a, T> {
-    // A load comes first, as for the lock's other waiting threads.
-    fn look_and_try<R>(self) -> Result<FairMutexGuard<'a, T, R>, Awaiting<'a, T>>
-        ensures { IfOk result (IsHolder use_of_party) }
-    {
-        let Self { permit } = self;
-        let (found, permit, _) = permit.load::<Await>(Watch::nothing());
-        if fair::is_locked(found as usize) {
-            Err(Awaiting { permit })
-        } else {
-            set_flag(permit)
-        }
-    }
-}
-
-// Sets the flag, in a call that waits where it finds the flag set. It tries no exchange as the only starver first: beside
-// others that fails though the flag is clear, and a starver that waits goes for each clear flag.
-fn set_flag<'a, T, R>(
-    permit: Permit<'a, T, Party, FairRule>,
-) -> Result<FairMutexGuard<'a, T, R>, Awaiting<'a, T>>
-    requires { MaySet (what permit.view) }
-    ensures { IfOk result (IsHolder use_of_party) }
-{
-    let (found, permit, _) = permit.set_bits::<SetFlag>(LOCKED, Watch::nothing());
-    if fair::is_locked(found as usize) {
-        Err(Awaiting { permit })
-    } else {
-        Ok(stop_starving(permit))
-    }
-}
-
-// Acquires the lock for a starver.
-pub(super) fn wait_as_starver<'a, T, R: RelaxStrategy, W: Wait>(
-    rt: &W,
-    permit: Permit<'a, T, Party, FairRule>,
-) -> FairMutexGuard<'a, T, R>
-    requires { MaySet (what permit.view) }
-    ensures { IsHolder use_of_party result }
-{
-    match set_flag(permit) {
-        Ok(guard) => guard,
-        Err(awaiting) => {
-            R::retry_after(
-                rt,
-                awaiting,
-                |_| MAX_HINTS,
-                |awaiting| awaiting.look_and_try(),
-            )
-        }
-    }
-}
-
-// The holder ends its registration.
-fn stop_starving<'a, T, R>(permit: Permit<'a, T, Party, FairRule>) -> FairMutexGuard<'a, T, R>
-    requires { HoldsStarving (what permit.view) }
-    ensures { IsHolder use_of_party result }
-{
-    let (_, permit, _) = permit.subtract::<Unregister>(STARVER, Watch::nothing());
-    Guard::new(permit.into_writer())
 }
 
 impl<T, R> Drop for Starvation<'_, T, R> {
     fn drop(self) {
-        let (_, permit, _) = self
-            .into_permit()
-            .subtract::<GivesUp>(STARVER, Watch::nothing());
-        permit.leave();
+        drop(self.into_pass());
     }
 }
 

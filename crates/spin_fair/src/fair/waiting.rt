@@ -1,32 +1,15 @@
-//! A call of `lock` that waits, and how a party registers as a starver. Begin with [`Waiting`].
-ghost use Rattle.std.specs.Prelude.{◌≡◌, ℕ, Some, IfOk, IfErr};
-ghost use Rattle.spin_core.specs.Guard.{IsHolder};
-ghost use Rattle.spin_core.specs.Own.{what};
-ghost use Rattle.spin_fair.specs.Fair.{use_of_party, MayTry, MayRegister, registering, registered, finds_no_room};
-ghost use Rattle.spin_fair.specs.declared.fair.rule.View.TheVariants.{Looking};
+//! A call of `lock` that waits, and how a party registers as a starver. Begin with [`try_with`].
+ghost use Rattle.std.specs.Prelude.{true, IfOk, IfErr};
+ghost use Rattle.spin_fair.specs.Fair.{MayTry, MayRegister, in_call};
+ghost use Rattle.spin_fair.specs.Waits.{view_of, LocksOrWaits, IsRegistered, FindsNoRoom};
 
+use super::STARVATION_SPINS;
+use super::account::{Account, Got, Waiting};
 use super::rule::{Looks, Register, Tries};
-use super::starvation::wait_as_starver;
-use super::{FairMutexGuard, FairRule, Party, STARVATION_SPINS};
-use spin_core::cell::Permit;
-use spin_core::guard::Guard;
+use super::starving::wait_as_starver;
 use spin_core::relax::RelaxStrategy;
-use spin_core::trace::Watch;
 use spin_step_more::fair;
 use std::sync::Wait;
-
-/// A call of `lock` that goes on with a look.
-///
-/// # Examples
-/// ```
-/// let waiting = begin(&lock).err().expect(&rt, "held");
-/// ```
-pub struct Waiting<'a, T> {
-    // The looks that found the lock held, until there are enough to starve.
-    pub(crate) spins: usize,
-    permit: Permit<'a, T, Party, FairRule>,
-    ghost looks: { what permit.view ≡ Some (Looking spins) },
-}
 
 impl<'a, T> Waiting<'a, T> {
     // A load comes first, so that waiting threads share the cache line and do not write it. All pauses are equally
@@ -34,25 +17,27 @@ impl<'a, T> Waiting<'a, T> {
     pub(crate) fn look_and_try<R: RelaxStrategy, W: Wait>(
         self,
         rt: &W,
-    ) -> Result<FairMutexGuard<'a, T, R>, Waiting<'a, T>>
-        ensures { IfOk result (IsHolder use_of_party) }
+    ) -> Result<Got<'a, T, R>, Waiting<'a, T>>
+        ensures { LocksOrWaits true self.entry.account result }
     {
-        let Self { spins, permit } = self;
-        let (found, permit, _) = permit.load::<Looks>(Watch::nothing());
+        let Self { spins, account } = self;
+        let Account { permit, seen } = account;
+        let (found, permit, seen) = permit.load::<Looks>(seen);
+        let account = Account { permit, seen };
         if !fair::is_locked(found as usize) {
-            return try_with(permit, spins);
+            return try_with(account, spins);
         }
         if spins <= STARVATION_SPINS {
             return Err(Waiting {
                 spins: spins + 1,
-                permit,
+                account,
             });
         }
-        match register(rt, permit) {
-            Ok(permit) => Ok(wait_as_starver(rt, permit)),
-            Err(permit) => Err(Waiting {
+        match register(rt, account) {
+            Ok(account) => Ok(wait_as_starver(rt, account)),
+            Err(account) => Err(Waiting {
                 spins: STARVATION_SPINS + 1,
-                permit,
+                account,
             }),
         }
     }
@@ -60,48 +45,53 @@ impl<'a, T> Waiting<'a, T> {
 
 // The exchange of `lock`, of a call that comes or has found the flag clear.
 pub(crate) fn try_with<'a, T, R>(
-    permit: Permit<'a, T, Party, FairRule>,
+    account: Account<'a, T>,
     spins: usize,
-) -> Result<FairMutexGuard<'a, T, R>, Waiting<'a, T>>
-    requires { MayTry spins (what permit.view) }
-    ensures { IfOk result (IsHolder use_of_party) }
+) -> Result<Got<'a, T, R>, Waiting<'a, T>>
+    requires { MayTry spins (view_of account) }
+    ensures { LocksOrWaits (in_call (view_of account.entry)) account.entry result }
 {
     let free = 0;
     let taken = fair::lock(free).unwrap();
-    let (found, permit, _) = permit.exchange::<Tries>(free as u64, taken as u64, Watch::nothing());
+    let Account { permit, seen } = account;
+    let (found, permit, seen) = permit.exchange::<Tries>(free as u64, taken as u64, seen);
+    let account = Account { permit, seen };
     if found == free as u64 {
-        Ok(Guard::new(permit.into_writer()))
+        Ok(account.into_guard())
     } else {
-        Err(Waiting { spins, permit })
+        Err(Waiting { spins, account })
     }
 }
 
 // Registers the party as a starver. `Err` found too many registered.
 pub(super) fn register<'a, T, W: Wait>(
     rt: &W,
-    permit: Permit<'a, T, Party, FairRule>,
-) -> Result<Permit<'a, T, Party, FairRule>, Permit<'a, T, Party, FairRule>>
-    requires { MayRegister (what permit.view) }
-    ensures registers { IfOk result (λ now. what now.view ≡ Some (registered (registering (what permit.entry.view)))) }
-    ensures no_room { IfErr result (λ now. what now.view ≡ Some (finds_no_room (registering (what permit.entry.view)))) }
+    account: Account<'a, T>,
+) -> Result<Account<'a, T>, Account<'a, T>>
+    requires { MayRegister (view_of account) }
+    ensures registers { IfOk result (IsRegistered account.entry) }
+    ensures no_room { IfErr result (FindsNoRoom account.entry) }
 {
     // To begin at 0 saves a load if the word is 0. If it is not, the failed exchange is the load.
     let mut word = 0;
-    let mut party = permit;
+    let Account {
+        mut permit,
+        mut seen,
+    } = account;
     for _ in rt.forever() {
         let Some(more) = fair::starve(word, fair::MAX_STARVERS) else {
-            return Err(party);
+            return Err(Account { permit, seen });
         };
-        let (found, next, _) = party.exchange::<Register>(
-            word as u64,
-            more as u64,
-            Watch::nothing(),
-        );
+        let (found, next, known) = permit.exchange::<Register>(word as u64, more as u64, seen);
         if found == word as u64 {
-            return Ok(next);
+            return Ok(Account {
+                permit: next,
+                seen: known,
+            });
         }
         word = found as usize;
-        party = next;
+        permit = next;
+        seen = known;
     }
     unreachable!()
 }

@@ -52,36 +52,36 @@ pub type Entry = tie::Entry<FlagCall>;
 /// The load of `is_locked`.
 pub(super) struct Load;
 
-impl Play<Party, Entry> for Load {
-    ghost told = { λ old new before. Told (looks_by (what before)) before };
+impl Play<Watch<Entry>, Party, Entry> for Load {
+    ghost told = { λ key old new before. Told looks_by before };
 }
 
 /// The compare-exchange of `try_lock`.
 pub(super) struct Attempt;
 
-impl Play<Party, Entry> for Attempt {
-    ghost told = { λ old new before. Told (tries_by (what before)) before };
+impl Play<Watch<Entry>, Party, Entry> for Attempt {
+    ghost told = { λ key old new before. Told tries_by before };
 }
 
 /// The compare-exchange of `lock`.
 pub(super) struct Tries;
 
-impl Play<Party, Entry> for Tries {
-    ghost told = { λ old new before. Told (tried_by (what before)) before };
+impl Play<Watch<Entry>, Party, Entry> for Tries {
+    ghost told = { λ key old new before. Told (tried_by (what before)) before };
 }
 
 /// The load of `lock`.
 pub(super) struct Looks;
 
-impl Play<Party, Entry> for Looks {
-    ghost told = { λ old new before. Told (looked_by (what before)) before };
+impl Play<Watch<Entry>, Party, Entry> for Looks {
+    ghost told = { λ key old new before. Told looked_by before };
 }
 
 /// The store that releases the lock.
 pub(super) struct Frees;
 
-impl Play<Party, Entry> for Frees {
-    ghost told = { λ old new before. Told (frees_by (what before)) before };
+impl Play<Watch<Entry>, Party, Entry> for Frees {
+    ghost told = { λ key old new before. Told frees_by before };
 }
 
 impl Uses<Party> for FlagRule {

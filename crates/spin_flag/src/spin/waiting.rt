@@ -2,8 +2,8 @@
 ghost use Rattle.std.specs.Prelude.{◌≡◌, Some, None, length, IfOk, IfErr};
 ghost use Rattle.spin_core.specs.Cell.{writes};
 ghost use Rattle.spin_core.specs.Own.{what};
-ghost use Rattle.spin_core.specs.Passes.{mark_of};
-ghost use Rattle.spin_flag.specs.Flag.{use_of_party, MayTry, IsStep, Moves};
+ghost use Rattle.spin_core.specs.Passes.{mark_of, IsStep};
+ghost use Rattle.spin_flag.specs.Flag.{use_of_party, has_begun, MayTry, Moves};
 ghost use Rattle.spin_flag.specs.declared.spin.rule.View.TheVariants.{Looking};
 ghost use Rattle.spin_model.specs.declared.answer.Answer.TheVariants.{Granted};
 ghost use Rattle.spin_model.specs.declared.flag.FlagCall.TheVariants.{Lock};
@@ -38,7 +38,7 @@ pub(super) fn try_with<'a, T>(
     seen: Watch<Entry>,
 ) -> Result<Grant<'a, T>, Waiting<'a, T>>
     requires { MayTry (what permit.view) × (permit.key.name ≡ seen.name) × (mark_of permit.view ≡ length seen.entries) }
-    ensures { IfOk result (λ grant. (grant.seen.name ≡ seen.name) × Moves (IsStep (what permit.entry.view) Lock (Answered Granted None)) permit.entry.view seen.entries (Some grant.writer.view) grant.seen.entries) × IfErr result (λ next. (next.seen.name ≡ seen.name) × Moves (IsStep (what permit.entry.view) Lock GoingOn) permit.entry.view seen.entries next.permit.view next.seen.entries) }
+    ensures { IfOk result (λ grant. (grant.seen.name ≡ seen.name) × Moves (IsStep (has_begun (what permit.entry.view)) Lock (Answered Granted None)) permit.entry.view seen.entries (Some grant.writer.view) grant.seen.entries) × IfErr result (λ next. (next.seen.name ≡ seen.name) × Moves (IsStep (has_begun (what permit.entry.view)) Lock GoingOn) permit.entry.view seen.entries next.permit.view next.seen.entries) }
 {
     let free = false;
     let Some(taken) = flag::lock(free) else {

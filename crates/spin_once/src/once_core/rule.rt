@@ -131,15 +131,15 @@ impl Closure for Unsure {
 /// The load of `get`.
 pub(super) struct Gets;
 
-impl Play<Party, Entry> for Gets {
-    ghost told = { λ old new before. Told gets_by before };
+impl<S> Play<Key<S>, Party, Entry> for Gets {
+    ghost told = { λ key old new before. Told gets_by before };
 }
 
 /// The load of `is_completed`.
 pub(super) struct Completes;
 
-impl Play<Party, Entry> for Completes {
-    ghost told = { λ old new before. Told completes_by before };
+impl<S> Play<Key<S>, Party, Entry> for Completes {
+    ghost told = { λ key old new before. Told completes_by before };
 }
 
 /// The first load of a call with a closure.
@@ -147,50 +147,50 @@ pub(super) struct Comes<C> {
     closure: PhantomData<C>,
 }
 
-impl<C: Closure> Play<Party, Entry> for Comes<C> {
-    ghost told = { λ old new before. Told (comes_by C.may_fail) before };
+impl<C: Closure, S> Play<Key<S>, Party, Entry> for Comes<C> {
+    ghost told = { λ key old new before. Told (comes_by C.may_fail) before };
 }
 
 /// The exchange by which a call begins to run its closure.
 pub(super) struct Begins;
 
-impl Play<Party, Entry> for Begins {
-    ghost told = { λ old new before. Told (leads_by (begun (call_of (what before)))) before };
+impl<S> Play<Key<S>, Party, Entry> for Begins {
+    ghost told = { λ key old new before. Told (leads_by (begun (call_of (what before)))) before };
 }
 
 /// A load of a call with a closure, while another one runs.
 pub(super) struct Looks;
 
-impl Play<Party, Entry> for Looks {
-    ghost told = { λ old new before. Told (leads_by (looked (call_of (what before)))) before };
+impl<S> Play<Key<S>, Party, Entry> for Looks {
+    ghost told = { λ key old new before. Told (leads_by (looked (call_of (what before)))) before };
 }
 
 /// A load of `wait`.
 pub(super) struct Waits;
 
-impl Play<Party, Entry> for Waits {
-    ghost told = { λ old new before. Told (leads_by waited) before };
+impl<S> Play<Key<S>, Party, Entry> for Waits {
+    ghost told = { λ key old new before. Told (leads_by waited) before };
 }
 
 /// A load of `poll`.
 pub(super) struct Polls;
 
-impl Play<Party, Entry> for Polls {
-    ghost told = { λ old new before. Told (leads_by polled) before };
+impl<S> Play<Key<S>, Party, Entry> for Polls {
+    ghost told = { λ key old new before. Told (leads_by polled) before };
 }
 
 /// The store after a closure that gave a value.
 pub(super) struct Complete;
 
-impl Play<Party, Entry> for Complete {
-    ghost told = { λ old new before. Told (leads_by (λ n. Reading)) before };
+impl<S> Play<Key<S>, Party, Entry> for Complete {
+    ghost told = { λ key old new before. Told (leads_by (λ n. Reading)) before };
 }
 
 /// The store after a closure that failed.
 pub(super) struct Fail;
 
-impl Play<Party, Entry> for Fail {
-    ghost told = { λ old new before. Told (leads_by (λ n. Idle)) before };
+impl<S> Play<Key<S>, Party, Entry> for Fail {
+    ghost told = { λ key old new before. Told (leads_by (λ n. Idle)) before };
 }
 
 /// Creates a cell with a seed, to which no party has come.

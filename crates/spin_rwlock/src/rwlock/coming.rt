@@ -43,8 +43,8 @@ struct Comes<K, M> {
     marker: PhantomData<(K, M)>,
 }
 
-impl<K: Kind, M: Mode> Play<Party, Entry> for Comes<K, M> {
-    ghost told = { λ old new before. Told (leads_by (came K.view (call_of K.view M.waits) old)) before };
+impl<K: Kind, M: Mode> Play<Watch<Entry>, Party, Entry> for Comes<K, M> {
+    ghost told = { λ key old new before. Told (leads_by (came K.view (call_of K.view M.waits) old)) before };
 }
 
 // The load of a call that waits to read.
@@ -52,15 +52,15 @@ struct Looks<K> {
     marker: PhantomData<K>,
 }
 
-impl<K: Kind> Play<Party, Entry> for Looks<K> {
-    ghost told = { λ old new before. Told (leads_by (view.Coming (call_of K.view true))) before };
+impl<K: Kind> Play<Watch<Entry>, Party, Entry> for Looks<K> {
+    ghost told = { λ key old new before. Told (leads_by (view.Coming (call_of K.view true))) before };
 }
 
 // The one exchange of `{:?}`.
 struct Peeks;
 
-impl Play<Party, Entry> for Peeks {
-    ghost told = { λ old new before. Told (leads_by (either_at old view.Reading view.Idle)) before };
+impl Play<Watch<Entry>, Party, Entry> for Peeks {
+    ghost told = { λ key old new before. Told (leads_by (either_at old view.Reading view.Idle)) before };
 }
 
 /// A party in a call that comes to read, as a reader of kind `K`, and the word that it found last.

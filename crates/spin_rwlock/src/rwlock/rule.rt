@@ -82,71 +82,71 @@ pub(super) type Writer<'a, T> = WritePermit<'a, T, Party, RwRule<T>>;
 // The load of `reader_count`.
 pub(super) struct CountsReaders;
 
-impl Play<Party, Entry> for CountsReaders {
-    ghost told = { λ old new before. Told (counts_by ReaderCount readers_in) before };
+impl Play<Watch<Entry>, Party, Entry> for CountsReaders {
+    ghost told = { λ key old new before. Told (counts_by ReaderCount readers_in) before };
 }
 
 // The load of `writer_count`.
 struct CountsWriters;
 
-impl Play<Party, Entry> for CountsWriters {
-    ghost told = { λ old new before. Told (counts_by WriterCount writers_in) before };
+impl Play<Watch<Entry>, Party, Entry> for CountsWriters {
+    ghost told = { λ key old new before. Told (counts_by WriterCount writers_in) before };
 }
 
 // The exchange of `try_write`.
 struct TriesToWrite;
 
-impl Play<Party, Entry> for TriesToWrite {
-    ghost told = { λ old new before. Told (ends_by TryWrite (given old) (either_at old Writing Idle)) before };
+impl Play<Watch<Entry>, Party, Entry> for TriesToWrite {
+    ghost told = { λ key old new before. Told (ends_by TryWrite (given old) (either_at old Writing Idle)) before };
 }
 
 // The exchange of `write`.
 struct Writes;
 
-impl Play<Party, Entry> for Writes {
-    ghost told = { λ old new before. Told (leads_by (either_at old Writing WaitingToWrite)) before };
+impl Play<Watch<Entry>, Party, Entry> for Writes {
+    ghost told = { λ key old new before. Told (leads_by (either_at old Writing WaitingToWrite)) before };
 }
 
 // The exchange of `try_upgrade`.
 struct TriesToUpgrade;
 
-impl Play<Party, Entry> for TriesToUpgrade {
-    ghost told = { λ old new before. Told (ends_by TryUpgrade (given old) (either_at old Writing Upgradable)) before };
+impl Play<Watch<Entry>, Party, Entry> for TriesToUpgrade {
+    ghost told = { λ key old new before. Told (ends_by TryUpgrade (given old) (either_at old Writing Upgradable)) before };
 }
 
 // The addition by which `upgrade` asks.
 struct Asks;
 
-impl Play<Party, Entry> for Asks {
-    ghost told = { λ old new before. Told (leads_by (λ n. Asking)) before };
+impl Play<Watch<Entry>, Party, Entry> for Asks {
+    ghost told = { λ key old new before. Told (leads_by (λ n. Asking)) before };
 }
 
 // The exchange of `upgrade`.
 struct Upgrades;
 
-impl Play<Party, Entry> for Upgrades {
-    ghost told = { λ old new before. Told (leads_by (either_at old WritingAsked Asking)) before };
+impl Play<Watch<Entry>, Party, Entry> for Upgrades {
+    ghost told = { λ key old new before. Told (leads_by (either_at old WritingAsked Asking)) before };
 }
 
 // The addition by which a holder becomes a reader.
 struct Downgrades;
 
-impl Play<Party, Entry> for Downgrades {
-    ghost told = { λ old new before. Told (ends_by Downgrade (λ n. answer.Done) (λ n. Reading)) before };
+impl Play<Watch<Entry>, Party, Entry> for Downgrades {
+    ghost told = { λ key old new before. Told (ends_by Downgrade (λ n. answer.Done) (λ n. Reading)) before };
 }
 
 // The addition by which the writer becomes the upgradable reader.
 struct DowngradesToUpgradable;
 
-impl Play<Party, Entry> for DowngradesToUpgradable {
-    ghost told = { λ old new before. Told (ends_by DowngradeToUpgradeable (λ n. answer.Done) (λ n. Upgradable)) before };
+impl Play<Watch<Entry>, Party, Entry> for DowngradesToUpgradable {
+    ghost told = { λ key old new before. Told (ends_by DowngradeToUpgradeable (λ n. answer.Done) (λ n. Upgradable)) before };
 }
 
 // The subtraction by which a holder leaves.
 struct Releases;
 
-impl Play<Party, Entry> for Releases {
-    ghost told = { λ old new before. Told (ends_by Release (λ n. answer.Done) (λ n. Idle)) before };
+impl Play<Watch<Entry>, Party, Entry> for Releases {
+    ghost told = { λ key old new before. Told (ends_by Release (λ n. answer.Done) (λ n. Idle)) before };
 }
 
 /// Returns the number of readers that the word counts, by one load.

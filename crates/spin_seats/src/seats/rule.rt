@@ -1,12 +1,12 @@
 //! The rule of a lock of seats: what each party is to it ([`View`]), what its word and its trace say of all of them,
-//! and each kind of step.
+//! each kind of step, and what a party has in hand between its steps ([`Account`]).
 ghost use Rattle.spin_core.specs.Own.{what};
-ghost use Rattle.spin_seats.specs.Rule.{IsSeats, Told, at_word, counts_by, leads_by, seat_ways, sits_by};
-ghost use Rattle.spin_seats.specs.declared.seats.rule.View.TheVariants.{Idle};
-ghost use Rattle.std.specs.Prelude.{true, false};
+ghost use Rattle.spin_core.specs.Passes.{mark_of};
+ghost use Rattle.spin_seats.specs.Rule.{IsSeats, Told, counts_by, gets_up_by, looks_by, seat_ways, sits_by};
+ghost use Rattle.std.specs.Prelude.{◌≡◌, length, true, false};
 
 use crate::calls::SeatsCall;
-use spin_core::cell::{Play, Rule};
+use spin_core::cell::{Permit, Play, Rule};
 use spin_core::tie;
 use spin_core::trace::{Trace, Watch};
 
@@ -45,34 +45,42 @@ impl<const N: usize> Rule<(), Party> for SeatsRule<N> {
 /// The load of `count`. It finds that at most `N` sit.
 pub(super) struct Counts<const N: usize>;
 
-impl<const N: usize> Play<Party, Entry> for Counts<N> {
-    ghost told = { λ old new before. Told N (counts_by N) before };
+impl<const N: usize> Play<Watch<Entry>, Party, Entry> for Counts<N> {
+    ghost told = { λ key old new before. Told N (counts_by N) before };
 }
 
 /// The load of `try_enter`.
 pub(super) struct Tries<const N: usize>;
 
-impl<const N: usize> Play<Party, Entry> for Tries<N> {
-    ghost told = { λ old new before. Told N (leads_by (at_word N false)) before };
+impl<const N: usize> Play<Watch<Entry>, Party, Entry> for Tries<N> {
+    ghost told = { λ key old new before. Told N (looks_by N false (what before)) before };
 }
 
 /// The load of `enter`.
 pub(super) struct Looks<const N: usize>;
 
-impl<const N: usize> Play<Party, Entry> for Looks<N> {
-    ghost told = { λ old new before. Told N (leads_by (at_word N true)) before };
+impl<const N: usize> Play<Watch<Entry>, Party, Entry> for Looks<N> {
+    ghost told = { λ key old new before. Told N (looks_by N true (what before)) before };
 }
 
 /// The exchange of a call that takes a seat. It sits if it finds the word that it expects.
 pub(super) struct SitsDown<const N: usize>;
 
-impl<const N: usize> Play<Party, Entry> for SitsDown<N> {
-    ghost told = { λ old new before. Told N (leads_by (sits_by N old (what before))) before };
+impl<const N: usize> Play<Watch<Entry>, Party, Entry> for SitsDown<N> {
+    ghost told = { λ key old new before. Told N (sits_by N old (what before)) before };
 }
 
 /// The subtraction of a party that sits and goes.
 pub(super) struct GetsUp<const N: usize>;
 
-impl<const N: usize> Play<Party, Entry> for GetsUp<N> {
-    ghost told = { λ old new before. Told N (leads_by (λ found. Idle)) before };
+impl<const N: usize> Play<Watch<Entry>, Party, Entry> for GetsUp<N> {
+    ghost told = { λ key old new before. Told N gets_up_by before };
+}
+
+/// A party's permit, and what it knows of the lock's history: all moves up to its own last one.
+pub struct Account<'a, const N: usize> {
+    pub(super) permit: Permit<'a, (), Party, SeatsRule<N>>,
+    pub(super) seen: Watch<Entry>,
+    ghost named: { permit.key.name ≡ seen.name },
+    ghost knows: { mark_of permit.view ≡ length seen.entries },
 }

@@ -1,9 +1,10 @@
 //! What a party is to a `TicketMutex`, and what the two words of the lock say of its parties. Begin at [`TicketRule`].
-ghost use Rattle.std.specs.Prelude.{refl};
+ghost use Rattle.std.specs.Prelude.{true, false, refl};
 ghost use Rattle.spin_core.specs.Cell.{alone, use_of};
 ghost use Rattle.spin_core.specs.Own.{what};
+ghost use Rattle.spin_core.specs.Passes.{step_by};
 ghost use Rattle.spin_model.specs.declared.ticket.TicketCall.TheVariants.{Lock, TryLock, IsLocked, Release};
-ghost use Rattle.spin_ticket.specs.Queue.{IsQueue, Told, use_of_party, begins_by, goes_on_by, goes_on, going, taken, awaits_by, tries_by, attempted, answers_attempt, gone, compares_by, finds_by, answers_release};
+ghost use Rattle.spin_ticket.specs.Queue.{IsQueue, Told, use_of_party, goes_on, going, taken, awaits_by, tries_by, attempted, answers_attempt, gone, compares_by, finds_by, answers_release};
 ghost use Rattle.spin_ticket.specs.declared.ticket.rule.View.TheVariants.{Idle, LoadedNext, LoadedServing};
 
 use spin_core::cell::{Play, Rule, WritePermit};
@@ -42,8 +43,7 @@ pub enum View {
 pub struct TicketRule;
 
 impl<T> Rule<T, Party> for TicketRule {
-    // What is known of the lock's trace at first, its name, and the number of the first ticket.
-    type Key = (Watch<Entry>, u64);
+    type Key = Key;
 
     // The trace, and beside it the number that is served.
     type Second = Trace<Entry, u64>;
@@ -52,6 +52,9 @@ impl<T> Rule<T, Party> for TicketRule {
 
     ghost ways = { λ _. (alone, use_of_party) };
 }
+
+/// What is known of the lock's trace at first, its name, and the number of the first ticket.
+pub(super) type Key = (Watch<Entry>, u64);
 
 /// A party with its number.
 pub type Party = tie::Numbered<View>;
@@ -62,73 +65,73 @@ pub type Entry = tie::Entry<TicketCall>;
 /// The load of the next number with which `lock` begins.
 pub(super) struct LoadNext;
 
-impl Play<Party, Entry> for LoadNext {
-    ghost told = { λ old new before. Told (begins_by Lock goes_on going) before };
+impl Play<Key, Party, Entry> for LoadNext {
+    ghost told = { λ key old new before. Told key.1 (step_by false Lock goes_on going) before };
 }
 
 /// The compare-exchange of `lock`: the party takes the ticket that it expected to be next, and waits with it. Else it
 /// goes for the number that it found.
 pub(super) struct Take;
 
-impl Play<Party, Entry> for Take {
-    ghost told = { λ old new before. Told (goes_on_by goes_on (taken old)) before };
+impl Play<Key, Party, Entry> for Take {
+    ghost told = { λ key old new before. Told key.1 (step_by true Lock goes_on (taken old)) before };
 }
 
 /// The load of the number that is served, of a party that waits. It has entered if that is its own.
 pub(super) struct Await;
 
-impl Play<Party, Entry> for Await {
-    ghost told = { λ old new before. Told (awaits_by (what before)) before };
+impl Play<Key, Party, Entry> for Await {
+    ghost told = { λ key old new before. Told key.1 (awaits_by (what before)) before };
 }
 
 /// The load of the next number with which `try_lock` begins.
 pub(super) struct TryLoadNext;
 
-impl Play<Party, Entry> for TryLoadNext {
-    ghost told = { λ old new before. Told (begins_by TryLock goes_on LoadedNext) before };
+impl Play<Key, Party, Entry> for TryLoadNext {
+    ghost told = { λ key old new before. Told key.1 (step_by false TryLock goes_on LoadedNext) before };
 }
 
 /// The load of the number that is served, of `try_lock`. It goes on if that is the one that it found next.
 pub(super) struct TryLoadServing;
 
-impl Play<Party, Entry> for TryLoadServing {
-    ghost told = { λ old new before. Told (tries_by (what before)) before };
+impl Play<Key, Party, Entry> for TryLoadServing {
+    ghost told = { λ key old new before. Told key.1 (tries_by (what before)) before };
 }
 
 /// The compare-exchange of `try_lock`: the party takes the ticket that it expected to be next, and has entered with it.
 pub(super) struct TryTake;
 
-impl Play<Party, Entry> for TryTake {
-    ghost told = { λ old new before. Told (goes_on_by (answers_attempt old) (attempted old)) before };
+impl Play<Key, Party, Entry> for TryTake {
+    ghost told = { λ key old new before. Told key.1 (step_by true TryLock (answers_attempt old) (attempted old)) before };
 }
 
 /// The load of the number that is served with which `is_locked` begins.
 pub(super) struct LookServing;
 
-impl Play<Party, Entry> for LookServing {
-    ghost told = { λ old new before. Told (begins_by IsLocked goes_on LoadedServing) before };
+impl Play<Key, Party, Entry> for LookServing {
+    ghost told = { λ key old new before. Told key.1 (step_by false IsLocked goes_on LoadedServing) before };
 }
 
 /// The load of the next number, of `is_locked`.
 pub(super) struct LookNext;
 
-impl Play<Party, Entry> for LookNext {
-    ghost told = { λ old new before. Told (compares_by (what before)) before };
+impl Play<Key, Party, Entry> for LookNext {
+    ghost told = { λ key old new before. Told key.1 (compares_by (what before)) before };
 }
 
 /// The load of a party that releases: it finds the number of its own ticket. It is no move of the model, whose parties
 /// know the numbers of their tickets.
 pub(super) struct FindOwn;
 
-impl Play<Party, Entry> for FindOwn {
-    ghost told = { λ old new before. Told (finds_by (what before)) before };
+impl Play<Key, Party, Entry> for FindOwn {
+    ghost told = { λ key old new before. Told key.1 (finds_by (what before)) before };
 }
 
 /// The store that releases the lock.
 pub(super) struct Serve;
 
-impl Play<Party, Entry> for Serve {
-    ghost told = { λ old new before. Told (begins_by Release answers_release gone) before };
+impl Play<Key, Party, Entry> for Serve {
+    ghost told = { λ key old new before. Told key.1 (step_by false Release answers_release gone) before };
 }
 
 impl Uses<Party> for TicketRule {

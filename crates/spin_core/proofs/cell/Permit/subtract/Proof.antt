@@ -26,7 +26,7 @@ subtract_spec 𝓤 𝓛 𝓜 𝓡 wired T V E S P K Mv L _ _ _ _ _ _ g d g' d' _
     (λ κs. ((λ x. hand_of x.cell ∷ []), (uint_vals w64, ((λ x. token ∷ []), tt)))) (λ κs. ((λ x vs so. told (named_lft 8 0 tt κs) R W Y Kr Sr g x.cell vs so.0), (uint_Tells w64, ((λ x vs so. token_told Er vs so.0), tt)))) (λ κs qs bounds a gh are.
     let ℓ = named_lft 8 0 tt κs in let h = a.0 in let p = h.cell in let b = block_of p in let o = count_of p in let q = qs.0 in let τ = κs.1.0 in
     let seen = a.1.1.0 in let r = qs.1.0 in let os = others 6 κs.1.1 qs.1.1 in
-    let by' = a.1.0 in let told' = g'.told by' 0 h.view in let f : ℕ → ℕ = λ n. (n + (2 ^ 64 - by')) % 2 ^ 64 in
+    let by' = a.1.0 in let told' = g'.told h.key by' 0 h.view in let f : ℕ → ℕ = λ n. (n + (2 ^ 64 - by')) % 2 ^ 64 in
     let Asked = MayKnow (g.holds h.key) (g.ways h.key) seen × Traces (g.holds h.key) (g.ways h.key) h.view h.value f told' in
     let y : (walk_of 𝓛 En hs c).Ghost = ((κs, qs, bounds, a, (hand_of p ∷ [], (vint w64 by' ∷ [], (token ∷ [], tt)))), gh) in let Post = (walk_of 𝓛 En hs c).post y in
     begins_with 𝓛 ℓ T W Y Kr Sr g 6 (_, (_, (_, (_, (_, (_, tt)))))) h Asked q τ r os (owns (types_at En.signature.params κs) a y.0.4) _ refl (λ asked le inb.

@@ -1,7 +1,9 @@
-use Rattle.spin_core.specs.Own.{what}
-use Rattle.spin_fair.specs.Fair.{Registers}
+use Rattle.std.specs.Prelude.{◌≡◌, length}
+use Rattle.spin_core.specs.Passes.{mark_of}
+use Rattle.spin_fair.proofs.Takes.{HasReached}
 use Rattle.spin_fair.proofs.fair.waiting.register.Given as goal
 
 -- the party comes, or goes on from the word that it found
 abbrev pub invariant-loop : goal.invariant-loop
-invariant-loop g l = (goal.iterator-loop g).can_next l.iterator' × (goal.iterator-loop g).is_finite l.iterator' × Registers (what l.fn.permit.view) l.word (what l.party.view)
+invariant-loop g l =
+    (goal.iterator-loop g).can_next l.iterator' × (goal.iterator-loop g).is_finite l.iterator' × (l.permit.key.name ≡ l.seen.name) × (mark_of l.permit.view ≡ length l.seen.entries) × HasReached l.fn.account l.word l.permit.view l.seen

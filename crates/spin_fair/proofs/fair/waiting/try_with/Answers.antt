@@ -1,10 +1,30 @@
-use Rattle.std.proofs.Common.{◌≡◌, ℕ, refl}
-use mathlib.Core.Logic.{inl}
+use Rattle.std.proofs.Common.{◌≡◌, ℕ, [], ◌∷◌, ◌==◌, if◌then◌else◌, None, Some, refl, ap, eq-eqb, ne_eqb}
+use mathlib.Core.Logic.{inr}
+use Rattle.spin_model.specs.declared.answer.Answer.TheVariants.{Granted}
+use Rattle.spin_model.specs.declared.schedule.Outcome.TheVariants.{GoingOn}
+use Rattle.spin_step_more.specs.declared.fair_calls.FairCall.TheVariants.{Lock}
+use Rattle.spin_fair.specs.Fair.{answered, in_call, tried, Comes}
+use Rattle.spin_fair.specs.Waits.{view_of}
 use Rattle.spin_fair.proofs.Steps.{tries}
+use Rattle.spin_fair.proofs.Takes.{may_know, took, as_held}
 use Rattle.spin_fair.proofs.fair.waiting.try_with.Goals as goal
 
 pub exchange-found-requires : goal.exchange-found-requires
 exchange-found-requires g c =
-    let exact = c.lock.ensures.exact in let got = c.unwrap-taken.ensures in let taken : ℕ = 1 in
+    let me = c.args.account in let exact = c.lock.ensures.exact in let got = c.unwrap-taken.ensures in let taken : ℕ = 1 in
     let same : c.unwrap-taken.result ≡ taken = cc in
-    (inl c.nothing.ensures, rw same (tries c.args.permit.key.name c.args.spins c.args.permit.view c.requires 1 refl (rw exact at c.lock.ensures.plain)))
+    (inr (may_know me.permit.key.name me.seen me.named), rw same (tries me.permit.key.name c.args.spins me.permit.view c.requires 1 refl (rw exact at c.lock.ensures.plain)))
+
+pub returns-then-found-free : goal.returns-then-found-free
+returns-then-found-free g c =
+    let me = c.args.account in let v = view_of me in let f = c.exchange-found in let n = f.result.0 in let held = c.into_guard in
+    let so = took me.permit.key.name (in_call v) Lock (λ n. (if n == 0 then answered Granted else GoingOn) ∷ []) (tried v) (Some Granted) me.permit.view f.result.1.view me.seen f.result.2 n me.knows me.named f.ensures.moved
+    (0, ap (λ b. (if b then answered Granted else GoingOn) ∷ []) (eq-eqb n 0 c.if-found-free.true)) in
+    ((held.ensures.holder, held.ensures.holds, as_held me f.result.1.view f.result.2 (Comes (in_call v) Lock (Some Granted)) held.result held.ensures.same so.0), tt)
+
+pub returns-else-found-free : goal.returns-else-found-free
+returns-else-found-free g c =
+    let me = c.args.account in let v = view_of me in let f = c.exchange-found in let n = f.result.0 in
+    let so = took me.permit.key.name (in_call v) Lock (λ n. (if n == 0 then answered Granted else GoingOn) ∷ []) (tried v) None me.permit.view f.result.1.view me.seen f.result.2 n me.knows me.named f.ensures.moved
+    (1, ap (λ b. (if b then answered Granted else GoingOn) ∷ []) (ne_eqb n 0 c.if-found-free.false)) in
+    (tt, so.0)

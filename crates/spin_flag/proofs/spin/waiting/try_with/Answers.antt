@@ -5,9 +5,10 @@ use Rattle.spin_core.specs.Own.{what}
 use Rattle.spin_model.specs.declared.answer.Answer.TheVariants.{Granted}
 use Rattle.spin_model.specs.declared.flag.FlagCall.TheVariants.{Lock}
 use Rattle.spin_model.specs.declared.schedule.Outcome.TheVariants.{Answered, GoingOn}
-use Rattle.spin_flag.specs.Flag.{Moves, IsStep}
+use Rattle.spin_core.specs.Passes.{IsStep}
+use Rattle.spin_flag.specs.Flag.{Moves, has_begun}
 use Rattle.spin_flag.specs.declared.spin.rule.View.TheVariants.{Looking, Holding}
-use Rattle.spin_flag.proofs.Flags.{may_know, tries, taken_is, learnt, lock_ends, is_clear, is_not_clear}
+use Rattle.spin_flag.proofs.Flags.{may_know, tries, taken_is, learnt, by_clear, is_clear, is_not_clear}
 use Rattle.spin_flag.proofs.spin.waiting.try_with.Goals as goal
 
 pub exchange-found-requires : goal.exchange-found-requires
@@ -18,17 +19,17 @@ exchange-found-requires g c =
 pub returns-then-is_set : goal.returns-then-is_set
 returns-then-is_set g c =
     let p = c.args.permit in let f = c.exchange-found in let n = f.result.0 in let seen = c.args.seen in
-    let told = learnt p.key.name Lock (λ n. if n == 0 then Holding else Looking) (λ n. if n == 0 then Answered Granted None else GoingOn) p.view f.result.1.view seen f.result.2 n c.requires.2 c.requires.1 f.ensures.moved in
-    (tt, (told.named, lock_ends p.view f.result.1.view seen.entries f.result.2.entries (n == 0) false (is_not_clear n c.if-is_set.ensures) told.made))
+    let told = learnt p.key.name (has_begun (what p.view)) Lock (λ n. if n == 0 then Answered Granted None else GoingOn) (λ n. if n == 0 then Holding else Looking) p.view f.result.1.view seen f.result.2 n c.requires.2 c.requires.1 f.ensures.moved in
+    (tt, (told.named, by_clear p.view f.result.1.view seen.entries f.result.2.entries (has_begun (what p.view)) Lock (Answered Granted None) GoingOn (n == 0) false (is_not_clear n c.if-is_set.ensures) told.made))
 
 pub returns-else-is_set : goal.returns-else-is_set
 returns-else-is_set g c =
     let p = c.args.permit in let f = c.exchange-found in let n = f.result.0 in let seen = c.args.seen in
-    let told = learnt p.key.name Lock (λ n. if n == 0 then Holding else Looking) (λ n. if n == 0 then Answered Granted None else GoingOn) p.view f.result.1.view seen f.result.2 n c.requires.2 c.requires.1 f.ensures.moved in (
+    let told = learnt p.key.name (has_begun (what p.view)) Lock (λ n. if n == 0 then Answered Granted None else GoingOn) (λ n. if n == 0 then Holding else Looking) p.view f.result.1.view seen f.result.2 n c.requires.2 c.requires.1 f.ensures.moved in (
       (
         told.named,
-        subst (λ o. Moves (IsStep (what p.view) Lock (Answered Granted None)) p.view seen.entries o f.result.2.entries) (sym c.into_writer.ensures.same.0)
-            (lock_ends p.view f.result.1.view seen.entries f.result.2.entries (n == 0) true (is_clear n c.if-is_set.ensures) told.made),
+        subst (λ o. Moves (IsStep (has_begun (what p.view)) Lock (Answered Granted None)) p.view seen.entries o f.result.2.entries) (sym c.into_writer.ensures.same.0)
+            (by_clear p.view f.result.1.view seen.entries f.result.2.entries (has_begun (what p.view)) Lock (Answered Granted None) GoingOn (n == 0) true (is_clear n c.if-is_set.ensures) told.made),
       ),
       tt,
     )

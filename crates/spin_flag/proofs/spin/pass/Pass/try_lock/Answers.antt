@@ -4,9 +4,10 @@ use Rattle.spin_step.specs.Steps.{bit}
 use Rattle.spin_model.specs.declared.answer.Answer.TheVariants.{Granted, Refused}
 use Rattle.spin_model.specs.declared.flag.FlagCall.TheVariants.{TryLock}
 use Rattle.spin_model.specs.declared.schedule.Outcome.TheVariants.{Answered}
-use Rattle.spin_flag.specs.Flag.{Called}
+use Rattle.spin_core.proofs.Passes.{whole}
+use Rattle.spin_flag.specs.Flag.{model, Called}
 use Rattle.spin_flag.specs.declared.spin.rule.View.TheVariants.{Idle, Holding}
-use Rattle.spin_flag.proofs.Flags.{may_know, attempts, taken_is, is_out, learnt, try_ends, is_clear, is_not_clear}
+use Rattle.spin_flag.proofs.Flags.{may_know, attempts, taken_is, is_out, learnt, by_clear, is_clear, is_not_clear}
 use Rattle.spin_flag.proofs.spin.pass.Pass.try_lock.Goals as goal
 
 pub exchange-found-requires : goal.exchange-found-requires
@@ -17,11 +18,11 @@ exchange-found-requires g c =
 pub returns-then-is_set-clause-refused : goal.returns-then-is_set-clause-refused
 returns-then-is_set-clause-refused g c =
     let me = c.args.self in let f = c.exchange-found in let view = me.permit.view in let n = f.result.0 in
-    let told = learnt me.permit.key.name TryLock (λ n. if n == 0 then Holding else Idle) (λ n. Answered (if n == 0 then Granted else Refused) None) view f.result.1.view me.seen f.result.2 n me.knows me.named f.ensures.moved in
-    (try_ends view f.result.1.view me.seen.entries f.result.2.entries (n == 0) false (is_not_clear n c.if-is_set.ensures) (is_out view me.rests) told.made, told.named)
+    let told = learnt me.permit.key.name false TryLock (λ n. if n == 0 then Answered Granted None else Answered Refused None) (λ n. if n == 0 then Holding else Idle) view f.result.1.view me.seen f.result.2 n me.knows me.named f.ensures.moved in
+    (whole model view f.result.1.view me.seen.entries f.result.2.entries TryLock Refused (by_clear view f.result.1.view me.seen.entries f.result.2.entries false TryLock (Answered Granted None) (Answered Refused None) (n == 0) false (is_not_clear n c.if-is_set.ensures) told.made), told.named)
 
 pub returns-else-is_set-clause-granted : goal.returns-else-is_set-clause-granted
 returns-else-is_set-clause-granted g c =
     let me = c.args.self in let f = c.exchange-found in let view = me.permit.view in let n = f.result.0 in
-    let told = learnt me.permit.key.name TryLock (λ n. if n == 0 then Holding else Idle) (λ n. Answered (if n == 0 then Granted else Refused) None) view f.result.1.view me.seen f.result.2 n me.knows me.named f.ensures.moved in
-    subst (λ o. Called TryLock Granted view me.seen.entries o f.result.2.entries) (sym (ap (λ w. Some w.view) c.new.ensures ∙ c.into_writer.ensures.same.0)) (try_ends view f.result.1.view me.seen.entries f.result.2.entries (n == 0) true (is_clear n c.if-is_set.ensures) (is_out view me.rests) told.made)
+    let told = learnt me.permit.key.name false TryLock (λ n. if n == 0 then Answered Granted None else Answered Refused None) (λ n. if n == 0 then Holding else Idle) view f.result.1.view me.seen f.result.2 n me.knows me.named f.ensures.moved in
+    subst (λ o. Called TryLock Granted view me.seen.entries o f.result.2.entries) (sym (ap (λ w. Some w.view) c.new.ensures ∙ c.into_writer.ensures.same.0)) (whole model view f.result.1.view me.seen.entries f.result.2.entries TryLock Granted (by_clear view f.result.1.view me.seen.entries f.result.2.entries false TryLock (Answered Granted None) (Answered Refused None) (n == 0) true (is_clear n c.if-is_set.ensures) told.made))

@@ -1,7 +1,6 @@
-use Rattle.std.proofs.Common.{None, ap}
+use Rattle.std.proofs.Common.{None, false, ap}
 use mathlib.Core.Logic.{inl}
 use Rattle.spin_step.specs.Steps.{bit}
-use Rattle.spin_core.specs.Own.{what}
 use Rattle.spin_model.specs.declared.answer.Answer.TheVariants.{Done}
 use Rattle.spin_model.specs.declared.flag.FlagCall.TheVariants.{Release}
 use Rattle.spin_model.specs.declared.schedule.Outcome.TheVariants.{Answered}
@@ -16,4 +15,4 @@ store-permit-requires g c = let it = c.into_permit-permit.ensures in
 pub leave-requires : goal.leave-requires
 leave-requires g c =
     let s = c.store-permit.result in let before = c.into_permit-permit.result.view in
-    rests s.0.key.name s.0.view (stood Release (λ n. Idle) (λ n. Answered Done None) (what before) _ c.nothing.result s.1 before s.0.view 0 c.store-permit.ensures.moved)
+    rests s.0.key.name s.0.view (stood false Release (λ n. Answered Done None) (λ n. Idle) _ c.nothing.result s.1 before s.0.view 0 c.store-permit.ensures.moved)

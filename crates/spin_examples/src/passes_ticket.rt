@@ -1,0 +1,85 @@
+//! What three threads with a pass each know of their calls of one `TicketMutex`.
+ghost use Rattle.std.specs.Prelude.{◌≡◌, ◌⊎◌};
+ghost use mathlib.Core.List.{IsPrefix};
+ghost use Rattle.spin.specs.TicketPasses.{history, lock_of, HeldOnce, Looked};
+
+use spin::Spin;
+use spin::mutex::TicketMutex;
+use spin::mutex::ticket::Pass;
+use std::sync::Wait;
+use std::thread::{Threads, join};
+
+/// Adds one. It acquires the lock and releases it, once.
+fn count<'a, W: Wait>(rt: &W, pass: Pass<'a, u64, Spin>) -> Pass<'a, u64, Spin>
+    ensures made { HeldOnce pass.entry result }
+    ensures lock { lock_of result ≡ lock_of pass.entry }
+{
+    let (mut guard, seen) = pass.lock(rt);
+    *guard = guard.saturating_add(1);
+    TicketMutex::unlock(guard, seen)
+}
+
+/// Looks once whether the lock is held.
+pub fn look(pass: Pass<'_, u64, Spin>) -> (bool, Pass<'_, u64, Spin>)
+    ensures made { Looked result.0 pass.entry result.1 }
+{
+    let (held, pass) = pass.is_locked();
+    (held, pass)
+}
+
+/// Tries once to acquire the lock, and releases it at once if it did.
+pub fn try_once(pass: Pass<'_, u64, Spin>) -> Pass<'_, u64, Spin> {
+    match pass.try_lock() {
+        Ok((guard, seen)) => TicketMutex::unlock(guard, seen),
+        Err(pass) => pass,
+    }
+}
+
+/// Three threads add one each.
+///
+/// # Contract
+/// Since it came here, each pass has acquired the lock and released it, once (`first`, `second`, `third`). Of each two of
+/// them, one knows a beginning of the lock's history that the other knows (`one_history`).
+pub fn count_by_three<'a, W: Threads + Wait + Sync>(
+    rt: &W,
+    one: Pass<'a, u64, Spin>,
+    two: Pass<'a, u64, Spin>,
+    three: Pass<'a, u64, Spin>,
+) -> (
+    Pass<'a, u64, Spin>,
+    (Pass<'a, u64, Spin>, Pass<'a, u64, Spin>),
+)
+    requires { (lock_of one ≡ lock_of two) × (lock_of two ≡ lock_of three) }
+    ensures first { HeldOnce one.entry result.0 }
+    ensures second { HeldOnce two.entry result.1.0 }
+    ensures third { HeldOnce three.entry result.1.1 }
+    ensures one_history { (IsPrefix (history result.0) (history result.1.0) ⊎ IsPrefix (history result.1.0) (history result.0)) × (IsPrefix (history result.1.0) (history result.1.1) ⊎ IsPrefix (history result.1.1) (history result.1.0)) }
+{
+    let all = join(
+        rt,
+        || -> Pass<'_, u64, Spin>
+            ensures made { HeldOnce one.entry result }
+            ensures lock { lock_of result ≡ lock_of one.entry }
+        { count(rt, one) },
+        || -> (Pass<'_, u64, Spin>, Pass<'_, u64, Spin>)
+            ensures second { HeldOnce two.entry result.0 }
+            ensures third { HeldOnce three.entry result.1 }
+            ensures lock { (lock_of result.0 ≡ lock_of two.entry) × (lock_of result.1 ≡ lock_of three.entry) }
+        {
+            join(
+                rt,
+                || -> Pass<'_, u64, Spin>
+                    ensures made { HeldOnce two.entry result }
+                    ensures lock { lock_of result ≡ lock_of two.entry }
+                { count(rt, two) },
+                || -> Pass<'_, u64, Spin>
+                    ensures made { HeldOnce three.entry result }
+                    ensures lock { lock_of result ≡ lock_of three.entry }
+                { count(rt, three) },
+            )
+        },
+    );
+    all.0.compare(&all.1.0);
+    all.1.0.compare(&all.1.1);
+    all
+}

@@ -1,0 +1,17 @@
+use Rattle.std.proofs.Common.{[], ◌∷◌, Some, false, refl}
+use mathlib.Core.Logic.{inr}
+use Rattle.spin_model.specs.declared.answer.Answer.TheVariants.{Done}
+use Rattle.spin_step_more.specs.declared.fair_calls.FairCall.TheVariants.{StarverDrop}
+use Rattle.spin_fair.specs.Fair.{answered}
+use Rattle.spin_fair.specs.declared.fair.rule.View.TheVariants.{Idle}
+use Rattle.spin_fair.proofs.Steps.{gives_up}
+use Rattle.spin_fair.proofs.Takes.{may_know, took}
+use Rattle.spin_fair.proofs.fair.starving.StarvingPass.give_up.Goals as goal
+
+pub subtract-permit-requires : goal.subtract-permit-requires
+subtract-permit-requires g c = let me = c.args.self.account in (inr (may_know me.permit.key.name me.seen me.named), gives_up me.permit.key.name me.permit.view c.args.self.starving)
+
+pub returns-clause-made : goal.returns-clause-made
+returns-clause-made g c =
+    let me = c.args.self.account in let s = c.subtract-permit in
+    (took me.permit.key.name false StarverDrop (λ n. answered Done ∷ []) (λ n. Idle) (Some Done) me.permit.view s.result.1.view me.seen s.result.2 s.result.0 me.knows me.named s.ensures.moved (0, refl)).0.1

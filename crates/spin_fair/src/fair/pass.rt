@@ -1,0 +1,292 @@
+//! The calls of a [`FairMutex`] by a thread that keeps account of them. Begin at [`FairMutex::pass`].
+ghost use Rattle.std.specs.Prelude.{◌≡◌, ◌⊎◌, Some, None, [], true, IfOk, IfErr};
+ghost use mathlib.Core.List.{IsPrefix};
+ghost use Rattle.spin_core.specs.Guard.{IsHolder, guard_view};
+ghost use Rattle.spin_fair.specs.Fair.{use_of_party, stands, answer_of, Called};
+ghost use Rattle.spin_fair.specs.Guards.{Holds};
+ghost use Rattle.spin_fair.specs.Waits.{LocksOrWaits};
+ghost use Rattle.spin_fair.specs.declared.fair.rule.View.TheVariants.{Idle, Holding};
+ghost use Rattle.spin_model.specs.declared.answer.Answer.TheVariants.{Granted, Refused, Is, Done};
+ghost use Rattle.spin_step_more.specs.declared.fair_calls.FairCall.TheVariants.{Lock, TryLock, TryLockStarver, IsLocked, Starve, Release};
+
+use super::account::{Account, Got, Waiting};
+use super::rule::{Attempt, AttemptToKnow, Entry, Frees, LOCKED, Load};
+use super::starving::StarvingPass;
+use super::waiting::{register, try_with};
+use super::{FairMutex, FairMutexGuard, LockRejectReason};
+use spin_core::guard::Guard;
+use spin_core::relax::{MAX_HINTS, RelaxStrategy};
+use spin_core::trace::Watch;
+use spin_step_more::fair;
+use std::marker::PhantomData;
+use std::sync::Wait;
+
+/// A thread's account of its calls of a [`FairMutex`].
+///
+/// The lock's cell keeps the list of all moves that threads have made in it (its history). A pass knows which of these
+/// moves are its own, and the whole list up to its last one. Calls without a pass are in the history too, as calls of
+/// others. A pass is as large as a reference to the lock. It can be sent, and a lock has any number of them.
+///
+/// # Contract
+/// Each call takes the pass and returns it. It ensures `Called`: of the moves by which the history grew, those of this
+/// pass are exactly one call, with the answer that is returned. In the lock's model that call has this answer, at its
+/// place among the moves of all threads, and no move of the history is passed over.
+///
+/// # Examples
+/// ```
+/// fn count<'a, W: Wait>(rt: &W, pass: Pass<'a, u64, Spin>) -> Pass<'a, u64, Spin>
+///     ensures made { HeldOnce pass.entry result }
+///     ensures lock { lock_of result ≡ lock_of pass.entry }
+/// {
+///     let (mut guard, seen) = pass.lock(rt);
+///     *guard = guard.saturating_add(1);
+///     FairMutex::unlock(guard, seen)
+/// }
+/// ```
+#[must_use = "a pass that is dropped ends: bind it, or write `drop(..)`"]
+pub struct Pass<'a, T, R> {
+    pub(super) account: Account<'a, T>,
+    pub(super) strategy: PhantomData<R>,
+    ghost rests: { stands account.permit.view ≡ Idle },
+}
+
+impl<T, R> FairMutex<T, R> {
+    /// Returns a pass that has made no call. It makes no operation on the lock.
+    ///
+    /// # Contract
+    /// The pass is of this lock, and knows nothing of its history yet (`new`).
+    ///
+    /// # Examples
+    /// ```
+    /// let pass = lock.pass();
+    /// let (held, pass) = look(pass);
+    /// ```
+    pub fn pass(&self) -> Pass<'_, T, R>
+        ensures new { (result.account.seen.name ≡ self.now.start.name) × (result.account.seen.entries ≡ []) × (result.account.permit.view ≡ None) }
+    {
+        Pass::new(self.account())
+    }
+
+    /// Releases the lock, and returns the pass by which it was acquired. Starvers stay registered.
+    ///
+    /// A guard that is dropped releases the lock too, and ends its pass.
+    ///
+    /// # Contract
+    /// `seen` has to be what the call returned beside the guard (`Holds`). The call is in the history, as the pass's
+    /// next one (`made`).
+    ///
+    /// # Examples
+    /// ```
+    /// let (mut guard, seen) = pass.lock(rt);
+    /// *guard = guard.saturating_add(1);
+    /// FairMutex::unlock(guard, seen)
+    /// ```
+    pub fn unlock<'a>(guard: FairMutexGuard<'a, T, R>, seen: Watch<Entry>) -> Pass<'a, T, R>
+        requires { Holds guard seen }
+        ensures made { Called Release Done (Some (guard_view guard.entry)) seen.entries result.account.permit.view result.account.seen.entries }
+        ensures same { result.account.seen.name ≡ seen.name }
+    {
+        let permit = Guard::into_writer(guard).into_permit();
+        let (_, permit, seen) = permit.subtract::<Frees>(LOCKED, seen);
+        Pass {
+            account: Account { permit, seen },
+            strategy: PhantomData,
+        }
+    }
+}
+
+impl<'a, T, R: RelaxStrategy> Pass<'a, T, R> {
+    /// Acquires the lock as [`FairMutex::lock`] does. Returns the guard, and what the pass knows then.
+    ///
+    /// # Contract
+    /// The call is one `Lock` with the answer `Granted`, however often it looked and tried, and also where it starved
+    /// (`made`). The guard belongs to a holder of the lock. Whether and when the call returns is not promised.
+    ///
+    /// # Examples
+    /// ```
+    /// let (mut guard, seen) = pass.lock(rt);
+    /// *guard = guard.saturating_add(1);
+    /// FairMutex::unlock(guard, seen)
+    /// ```
+    pub fn lock<W: Wait>(self, rt: &W) -> (FairMutexGuard<'a, T, R>, Watch<Entry>)
+        ensures holder { IsHolder use_of_party result.0 }
+        ensures holds { Holds result.0 result.1 }
+        ensures same { result.1.name ≡ self.entry.account.seen.name }
+        ensures made { Called Lock Granted self.entry.account.permit.view self.entry.account.seen.entries (Some (guard_view result.0)) result.1.entries }
+    {
+        let Self {
+            account,
+            strategy: _,
+        } = self;
+        match try_with(account, 0) {
+            Ok(held) => held,
+            Err(waiting) => {
+                R::retry_after(
+                    rt,
+                    waiting,
+                    |_| MAX_HINTS,
+                    |waiting: Waiting<T>| -> Result<Got<T, R>, Waiting<T>>
+                        ensures { LocksOrWaits true waiting.entry.account result }
+                    { waiting.look_and_try(rt) },
+                )
+            }
+        }
+    }
+
+    /// Registers the caller as a starver, as [`FairMutex::starve`] does. Returns the pass if too many starve.
+    ///
+    /// # Contract
+    /// The call is one `Starve`, with the answer `Granted` beside a pass that starves (`granted`), and else `Refused`
+    /// (`refused`). Whether and when the call returns is not promised.
+    ///
+    /// # Examples
+    /// ```
+    /// match lock.pass().starve(rt) {
+    ///     Ok(starving) => count_served(rt, starving),
+    ///     Err(pass) => pass,
+    /// }
+    /// ```
+    pub fn starve<W: Wait>(self, rt: &W) -> Result<StarvingPass<'a, T, R>, Pass<'a, T, R>>
+        ensures granted { IfOk result (λ pass. Called Starve Granted self.entry.account.permit.view self.entry.account.seen.entries pass.account.permit.view pass.account.seen.entries × (pass.account.seen.name ≡ self.entry.account.seen.name)) }
+        ensures refused { IfErr result (λ pass. Called Starve Refused self.entry.account.permit.view self.entry.account.seen.entries pass.account.permit.view pass.account.seen.entries × (pass.account.seen.name ≡ self.entry.account.seen.name)) }
+    {
+        let Self { account, strategy } = self;
+        match register(rt, account) {
+            Ok(account) => Ok(StarvingPass { account, strategy }),
+            Err(account) => Err(Pass { account, strategy }),
+        }
+    }
+}
+
+impl<'a, T, R> Pass<'a, T, R> {
+    pub(super) fn new(account: Account<'a, T>) -> Self
+        requires { stands account.permit.view ≡ Idle }
+        ensures { result.account ≡ account.entry }
+    {
+        Pass {
+            account,
+            strategy: PhantomData,
+        }
+    }
+
+    /// Tries to acquire the lock as [`FairMutex::try_lock`] does. Returns the pass at once if the lock is held, or if a
+    /// starver is registered.
+    ///
+    /// # Contract
+    /// The call is one `TryLock`, with the answer `Granted` beside a guard (`granted`), and else `Refused` (`refused`).
+    ///
+    /// # Examples
+    /// ```
+    /// let pass = match pass.try_lock() {
+    ///     Ok((guard, seen)) => FairMutex::unlock(guard, seen),
+    ///     Err(pass) => pass,
+    /// };
+    /// ```
+    pub fn try_lock(self) -> Result<(FairMutexGuard<'a, T, R>, Watch<Entry>), Pass<'a, T, R>>
+        ensures holder { IfOk result (λ held. IsHolder use_of_party held.0 × Holds held.0 held.1) }
+        ensures newcomer { IfOk result (λ held. (guard_view held.0).0 ≡ Holding) }
+        ensures same { IfOk result (λ held. held.1.name ≡ self.entry.account.seen.name) }
+        ensures granted { IfOk result (λ held. Called TryLock Granted self.entry.account.permit.view self.entry.account.seen.entries (Some (guard_view held.0)) held.1.entries) }
+        ensures refused { IfErr result (λ pass. Called TryLock Refused self.entry.account.permit.view self.entry.account.seen.entries pass.account.permit.view pass.account.seen.entries × (pass.account.seen.name ≡ self.entry.account.seen.name)) }
+    {
+        let Self { account, strategy } = self;
+        let free = 0;
+        let taken = fair::lock(free).unwrap();
+        let Account { permit, seen } = account;
+        let (found, permit, seen) = permit.exchange::<Attempt>(free as u64, taken as u64, seen);
+        let account = Account { permit, seen };
+        if found == free as u64 {
+            Ok(account.into_guard())
+        } else {
+            Err(Pass { account, strategy })
+        }
+    }
+
+    /// Like [`try_lock`](Self::try_lock), but returns the reason for a failure too.
+    ///
+    /// # Contract
+    /// The call is one `TryLockStarver`, with the answer `Granted` beside a guard (`granted`), and else with the reason
+    /// that is returned, `Locked` or `Starved` (`refused`).
+    ///
+    /// # Examples
+    /// ```
+    /// let pass = match pass.try_lock_starver() {
+    ///     Ok((guard, seen)) => FairMutex::unlock(guard, seen),
+    ///     Err((_, pass)) => pass,
+    /// };
+    /// ```
+    pub fn try_lock_starver(
+        self,
+    ) -> Result<(FairMutexGuard<'a, T, R>, Watch<Entry>), (LockRejectReason, Pass<'a, T, R>)>
+        ensures holder { IfOk result (λ held. IsHolder use_of_party held.0 × Holds held.0 held.1) }
+        ensures newcomer { IfOk result (λ held. (guard_view held.0).0 ≡ Holding) }
+        ensures same { IfOk result (λ held. held.1.name ≡ self.entry.account.seen.name) }
+        ensures granted { IfOk result (λ held. Called TryLockStarver Granted self.entry.account.permit.view self.entry.account.seen.entries (Some (guard_view held.0)) held.1.entries) }
+        ensures refused { IfErr result (λ told. Called TryLockStarver (answer_of told.0) self.entry.account.permit.view self.entry.account.seen.entries told.1.account.permit.view told.1.account.seen.entries × (told.1.account.seen.name ≡ self.entry.account.seen.name)) }
+    {
+        let Self { account, strategy } = self;
+        let free = 0;
+        let taken = fair::lock(free).unwrap();
+        let Account { permit, seen } = account;
+        let (found, permit, seen) = permit.exchange::<AttemptToKnow>(
+            free as u64,
+            taken as u64,
+            seen,
+        );
+        let account = Account { permit, seen };
+        if found == free as u64 {
+            Ok(account.into_guard())
+        } else {
+            Err((fair::reject(found as usize), Pass { account, strategy }))
+        }
+    }
+
+    /// Looks whether the lock is held, as [`FairMutex::is_locked`] does.
+    ///
+    /// # Contract
+    /// The call is one `IsLocked`, with the answer that is returned (`made`).
+    ///
+    /// # Examples
+    /// ```
+    /// let (held, pass) = pass.is_locked();
+    /// ```
+    pub fn is_locked(self) -> (bool, Pass<'a, T, R>)
+        ensures made { Called IsLocked (Is result.0) self.entry.account.permit.view self.entry.account.seen.entries result.1.account.permit.view result.1.account.seen.entries }
+        ensures same { result.1.account.seen.name ≡ self.entry.account.seen.name }
+    {
+        let Self { account, strategy } = self;
+        let Account { permit, seen } = account;
+        let (found, permit, seen) = permit.load::<Load>(seen);
+        let account = Account { permit, seen };
+        (fair::is_locked(found as usize), Pass { account, strategy })
+    }
+
+    /// Compares what two passes of one lock know. It does nothing when it runs.
+    ///
+    /// # Contract
+    /// What one of them knows of the history is a beginning of what the other knows. So both know one history, and the
+    /// one that knows more has the calls of both in it, each once, in the order in which each pass made them.
+    ///
+    /// # Examples
+    /// ```
+    /// all.0.compare(&all.1.0);
+    /// all.1.0.compare(&all.1.1);
+    /// ```
+    pub fn compare(&self, other: &Pass<'_, T, R>)
+        requires { self.now.account.seen.name ≡ other.now.account.seen.name }
+        ensures { IsPrefix self.now.account.seen.entries other.now.account.seen.entries ⊎ IsPrefix other.now.account.seen.entries self.now.account.seen.entries }
+    {
+        self.account.seen.compare(&other.account.seen);
+    }
+}
+
+impl<T, R> Drop for Pass<'_, T, R> {
+    fn drop(self) {
+        let Self {
+            account,
+            strategy: _,
+        } = self;
+        let Account { permit, seen: _ } = account;
+        permit.leave();
+    }
+}

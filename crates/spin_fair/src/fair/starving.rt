@@ -1,0 +1,285 @@
+//! The calls of a starver that keeps account of them. Begin with [`StarvingPass`].
+ghost use Rattle.std.specs.Prelude.{◌≡◌, ℕ, Some, None, true, false, IfOk, IfErr};
+ghost use Rattle.spin_step.specs.Plain.{Plain, gets, to_lock_starving_alone, is_starver, fair_word};
+ghost use Rattle.spin_step.specs.Parties.{OneHolds};
+ghost use Rattle.spin_step.specs.Steps.{Decides};
+ghost use Rattle.spin_core.specs.Guard.{IsHolder, guard_view};
+ghost use Rattle.spin_core.specs.Own.{what};
+ghost use Rattle.spin_core.specs.Passes.{IsCall};
+ghost use Rattle.spin_model.specs.declared.answer.Answer.TheVariants.{Granted, Refused, Done};
+ghost use Rattle.spin_step_more.specs.declared.fair_calls.FairCall.TheVariants.{StarverTryLock, StarverTryLockFair, StarverLock, StarverDrop};
+ghost use Rattle.spin_fair.specs.Fair.{use_of_party, MaySet, MayAwait, HoldsStarving, Called, Comes};
+ghost use Rattle.spin_fair.specs.Guards.{Holds};
+ghost use Rattle.spin_fair.specs.Waits.{view_of, Goes, Gets, IsServed, FindsFlagSet, Awaits};
+ghost use Rattle.spin_fair.specs.declared.fair.rule.View.TheVariants.{Starving};
+
+use super::FairMutexGuard;
+use super::account::{Account, Awaiting, Got};
+use super::pass::Pass;
+use super::rule::{
+    AttemptAlone, Await, Entry, GivesUp, LOCKED, LockAlone, STARVER, SetFlag, TryAlone, Unregister,
+};
+use spin_core::relax::{MAX_HINTS, RelaxStrategy};
+use spin_core::trace::Watch;
+use spin_step_more::fair;
+use std::marker::PhantomData;
+use std::sync::Wait;
+
+/// A pass of a [`FairMutex`](super::FairMutex) while it is registered as a starver. Dropping it ends the registration.
+///
+/// It is what a [`Starvation`](super::Starvation) is, and keeps account of its calls too.
+///
+/// # Contract
+/// Its party is registered (its view is `Starving`). Each call ensures `Called`, as those of a [`Pass`].
+///
+/// # Examples
+/// ```
+/// fn try_starving(starving: StarvingPass<'_, u64, Spin>) -> Pass<'_, u64, Spin> {
+///     let starving = match starving.try_lock_fair() {
+///         Ok((guard, seen)) => return FairMutex::unlock(guard, seen),
+///         Err(starving) => starving,
+///     };
+///     match starving.try_lock() {
+///         Ok((guard, seen)) => FairMutex::unlock(guard, seen),
+///         Err(starving) => starving.give_up(),
+///     }
+/// }
+/// ```
+#[must_use = "a place that is dropped at once no longer starves: call `lock` on it"]
+pub struct StarvingPass<'a, T, R> {
+    pub(super) account: Account<'a, T>,
+    pub(super) strategy: PhantomData<R>,
+    ghost starving: { what account.permit.view ≡ Some Starving },
+}
+
+impl<'a, T, R> StarvingPass<'a, T, R> {
+    /// Tries to acquire the lock as [`Starvation::try_lock_fair`](super::Starvation::try_lock_fair) does.
+    ///
+    /// # Contract
+    /// The call is one `StarverTryLockFair`, with the answer `Granted` beside a guard (`granted`), and else `Refused`
+    /// beside the pass, which starves still (`refused`).
+    ///
+    /// # Examples
+    /// ```
+    /// let starving = match starving.try_lock_fair() {
+    ///     Ok((guard, seen)) => return FairMutex::unlock(guard, seen),
+    ///     Err(starving) => starving,
+    /// };
+    /// ```
+    pub fn try_lock_fair(
+        self,
+    ) -> Result<(FairMutexGuard<'a, T, R>, Watch<Entry>), StarvingPass<'a, T, R>>
+        ensures holder { IfOk result (λ held. IsHolder use_of_party held.0 × Holds held.0 held.1) }
+        ensures same { IfOk result (λ held. held.1.name ≡ self.entry.account.seen.name) }
+        ensures granted { IfOk result (λ held. Called StarverTryLockFair Granted self.entry.account.permit.view self.entry.account.seen.entries (Some (guard_view held.0)) held.1.entries) }
+        ensures refused { IfErr result (λ pass. Called StarverTryLockFair Refused self.entry.account.permit.view self.entry.account.seen.entries pass.account.permit.view pass.account.seen.entries × (pass.account.seen.name ≡ self.entry.account.seen.name)) }
+    {
+        let Self { account, strategy } = self;
+        let Account { permit, seen } = account;
+        let (found, permit, seen) = permit.exchange::<AttemptAlone>(STARVER, taken_alone(), seen);
+        let account = Account { permit, seen };
+        if found == STARVER {
+            Ok(account.into_guard())
+        } else {
+            Err(StarvingPass { account, strategy })
+        }
+    }
+
+    /// Tries to acquire the lock as [`Starvation::try_lock`](super::Starvation::try_lock) does.
+    ///
+    /// # Contract
+    /// The call is one `StarverTryLock`, with the answer `Granted` beside a guard (`granted`), and else `Refused` beside
+    /// the pass, which starves still (`refused`). A first exchange that fails is no move: the call begins with it.
+    ///
+    /// # Examples
+    /// ```
+    /// match starving.try_lock() {
+    ///     Ok((guard, seen)) => FairMutex::unlock(guard, seen),
+    ///     Err(starving) => starving.give_up(),
+    /// }
+    /// ```
+    pub fn try_lock(
+        self,
+    ) -> Result<(FairMutexGuard<'a, T, R>, Watch<Entry>), StarvingPass<'a, T, R>>
+        ensures holder { IfOk result (λ held. IsHolder use_of_party held.0 × Holds held.0 held.1) }
+        ensures same { IfOk result (λ held. held.1.name ≡ self.entry.account.seen.name) }
+        ensures granted { IfOk result (λ held. Called StarverTryLock Granted self.entry.account.permit.view self.entry.account.seen.entries (Some (guard_view held.0)) held.1.entries) }
+        ensures refused { IfErr result (λ pass. Called StarverTryLock Refused self.entry.account.permit.view self.entry.account.seen.entries pass.account.permit.view pass.account.seen.entries × (pass.account.seen.name ≡ self.entry.account.seen.name)) }
+    {
+        let Self { account, strategy } = self;
+        let Account { permit, seen } = account;
+        // First as the only starver, which is one instruction: to set a bit and see the word compiles to a loop.
+        let (found, permit, seen) = permit.exchange::<TryAlone>(STARVER, taken_alone(), seen);
+        let account = Account { permit, seen };
+        if found == STARVER {
+            return Ok(account.into_guard());
+        }
+        match set_flag(account) {
+            Ok(held) => Ok(held),
+            Err(account) => Err(StarvingPass { account, strategy }),
+        }
+    }
+
+    /// Ends the registration, and returns the pass.
+    ///
+    /// # Contract
+    /// The call is one `StarverDrop` (`made`).
+    ///
+    /// # Examples
+    /// ```
+    /// match starving.try_lock() {
+    ///     Ok((guard, seen)) => FairMutex::unlock(guard, seen),
+    ///     Err(starving) => starving.give_up(),
+    /// }
+    /// ```
+    pub fn give_up(self) -> Pass<'a, T, R>
+        ensures made { Called StarverDrop Done self.entry.account.permit.view self.entry.account.seen.entries result.account.permit.view result.account.seen.entries }
+        ensures same { result.account.seen.name ≡ self.entry.account.seen.name }
+    {
+        let Self { account, strategy } = self;
+        let Account { permit, seen } = account;
+        let (_, permit, seen) = permit.subtract::<GivesUp>(STARVER, seen);
+        Pass {
+            account: Account { permit, seen },
+            strategy,
+        }
+    }
+
+    // Begins a `lock`: as the only starver it acquires the lock at once.
+    pub(super) fn begin_lock(self) -> Result<Got<'a, T, R>, Account<'a, T>>
+        ensures got { IfOk result (Gets (IsCall StarverLock Granted) self.entry.account) }
+        ensures begun { IfErr result (λ next. MayAwait (view_of next) × Goes (Comes false StarverLock None) self.entry.account next) }
+    {
+        let Self {
+            account,
+            strategy: _,
+        } = self;
+        let Account { permit, seen } = account;
+        let (found, permit, seen) = permit.exchange::<LockAlone>(STARVER, taken_alone(), seen);
+        let account = Account { permit, seen };
+        if found == STARVER {
+            Ok(account.into_guard())
+        } else {
+            Err(account)
+        }
+    }
+}
+
+impl<'a, T, R: RelaxStrategy> StarvingPass<'a, T, R> {
+    /// Acquires the lock as [`Starvation::lock`](super::Starvation::lock) does.
+    ///
+    /// # Contract
+    /// The call is one `StarverLock` with the answer `Granted` (`made`), which ends the registration. Whether and when
+    /// the call returns is not promised.
+    ///
+    /// # Examples
+    /// ```
+    /// let (mut guard, seen) = starving.lock(rt);
+    /// *guard = guard.saturating_add(1);
+    /// FairMutex::unlock(guard, seen)
+    /// ```
+    pub fn lock<W: Wait>(self, rt: &W) -> (FairMutexGuard<'a, T, R>, Watch<Entry>)
+        ensures holder { IsHolder use_of_party result.0 }
+        ensures holds { Holds result.0 result.1 }
+        ensures same { result.1.name ≡ self.entry.account.seen.name }
+        ensures made { Called StarverLock Granted self.entry.account.permit.view self.entry.account.seen.entries (Some (guard_view result.0)) result.1.entries }
+    {
+        match self.begin_lock() {
+            Ok(held) => held,
+            Err(account) => wait_as_starver(rt, account),
+        }
+    }
+}
+
+impl<'a, T> Awaiting<'a, T> {
+    // A load comes first, as for the lock's other waiting threads.
+    fn look_and_try<R>(self) -> Result<Got<'a, T, R>, Awaiting<'a, T>>
+        ensures { Awaits self.entry.account result }
+    {
+        let Self { account } = self;
+        let Account { permit, seen } = account;
+        let (found, permit, seen) = permit.load::<Await>(seen);
+        let account = Account { permit, seen };
+        if fair::is_locked(found as usize) {
+            Err(Awaiting { account })
+        } else {
+            await_flag(account)
+        }
+    }
+}
+
+// Sets the flag. It tries no exchange as the only starver first: beside others that fails though the flag is clear, and
+// a starver that waits goes for each clear flag.
+fn set_flag<'a, T, R>(account: Account<'a, T>) -> Result<Got<'a, T, R>, Account<'a, T>>
+    requires { MaySet (view_of account) }
+    ensures served { IfOk result (IsServed account.entry) }
+    ensures set { IfErr result (FindsFlagSet account.entry) }
+{
+    let Account { permit, seen } = account;
+    let (found, permit, seen) = permit.set_bits::<SetFlag>(LOCKED, seen);
+    let account = Account { permit, seen };
+    if fair::is_locked(found as usize) {
+        Err(account)
+    } else {
+        Ok(stop_starving(account))
+    }
+}
+
+// The same in a call that waits.
+fn await_flag<'a, T, R>(account: Account<'a, T>) -> Result<Got<'a, T, R>, Awaiting<'a, T>>
+    requires { MayAwait (view_of account) }
+    ensures { Awaits account.entry result }
+{
+    match set_flag(account) {
+        Ok(held) => Ok(held),
+        Err(account) => Err(Awaiting { account }),
+    }
+}
+
+// Acquires the lock for a starver.
+pub(super) fn wait_as_starver<'a, T, R: RelaxStrategy, W: Wait>(
+    rt: &W,
+    account: Account<'a, T>,
+) -> Got<'a, T, R>
+    requires { MayAwait (view_of account) }
+    ensures { IsServed account.entry result }
+{
+    match await_flag(account) {
+        Ok(held) => held,
+        Err(awaiting) => R::retry_after(
+            rt,
+            awaiting,
+            |_| MAX_HINTS,
+            |awaiting: Awaiting<T>| -> Result<Got<T, R>, Awaiting<T>>
+                ensures { Awaits awaiting.entry.account result }
+            { awaiting.look_and_try() },
+        ),
+    }
+}
+
+// The holder ends its registration.
+fn stop_starving<'a, T, R>(account: Account<'a, T>) -> Got<'a, T, R>
+    requires { HoldsStarving (view_of account) }
+    ensures { IsServed account.entry result }
+{
+    let Account { permit, seen } = account;
+    let (_, permit, seen) = permit.subtract::<Unregister>(STARVER, seen);
+    Account { permit, seen }.into_guard()
+}
+
+// Returns the word by which the only starver acquires the lock and stops starving. Both at once, so that no thread sees
+// a holder that is still registered.
+fn taken_alone() -> u64
+    ensures exact { result ≡ 1 }
+    ensures plain { (s : Plain) (party : ℕ) → OneHolds s → is_starver party s.starvers ≡ true → fair_word s ≡ 2 → Decides s (gets party to_lock_starving_alone) fair_word (Some 3) }
+{
+    let alone = fair::STARVER;
+    let taken = fair::lock_fair(alone).unwrap();
+    fair::unstarve(taken) as u64
+}
+
+impl<T, R> Drop for StarvingPass<'_, T, R> {
+    fn drop(self) {
+        drop(self.give_up());
+    }
+}

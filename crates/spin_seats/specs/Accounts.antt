@@ -1,0 +1,38 @@
+-- What a party knows of its own moves, from one step or call of it to a later one.
+use Rattle.std.specs.Prelude.{Bool, ℕ, true, false, Option, nat_lt}
+use Rattle.spin_core.specs.Own.{Numbered}
+use Rattle.spin_core.specs.Passes as passes
+use Rattle.spin_core.specs.declared.trace.Watch.{Watch}
+use Rattle.spin_model.specs.declared.answer.Answer.{Answer}
+use Rattle.spin_model.specs.declared.answer.Answer.TheVariants.{Refused}
+use Rattle.spin_seats.specs.Rule.{Done, Ending, model}
+use Rattle.spin_seats.specs.Seats.{seats}
+use Rattle.spin_seats.specs.declared.calls.SeatsCall.{SeatsCall}
+use Rattle.spin_seats.specs.declared.calls.SeatsCall.TheVariants.{TryEnter}
+use Rattle.spin_seats.specs.declared.seats.rule.Account.{Account}
+use Rattle.spin_seats.specs.declared.seats.rule.View.{View}
+
+module _ (n : ℕ) where
+  -- what it is, and what it knows
+  abbrev pub known : Account n → Option (Numbered View) × Watch Done
+  known account = (account.permit.view, account.seen)
+
+  -- since then it has made one step of this call, which came to this, and is this now
+  abbrev pub Stepped : Bool → SeatsCall → Ending → View → Account n → Account n → Type 0
+  Stepped goes_on call end view before now = passes.Stepped (model n) goes_on call end view (known before) (known now)
+
+  -- it is in this call, which it began then
+  abbrev pub IsIn : SeatsCall → Account n → Account n → Type 0
+  IsIn call before now = passes.IsIn (model n) call (known before) (known now)
+
+  -- it has made exactly this call, with this answer
+  abbrev pub Called : SeatsCall → Answer (Unit {0}) → Account n → Account n → Type 0
+  Called call answer before now = passes.HasCalled (model n) call answer (known before) (known now)
+
+  -- it came to this word in its `try_enter`, which is refused where no seat is free there
+  abbrev pub GoesFor : Bool → Account n → Account n → Type 0
+  GoesFor true = IsIn TryEnter
+  GoesFor false = Called TryEnter Refused
+
+  abbrev pub IsTrying : ℕ → Account n → Account n → Type 0
+  IsTrying word = GoesFor (nat_lt word (seats n))

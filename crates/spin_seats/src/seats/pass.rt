@@ -1,0 +1,278 @@
+//! The calls of a [`Seats`] by a thread that keeps account of them. Begin with [`Seats::pass`].
+ghost use Rattle.std.specs.Prelude.{◌≡◌, ◌≤◌, ◌⊎◌, Some, None, [], IfOk, IfErr, true, false};
+ghost use mathlib.Core.List.{IsPrefix};
+ghost use Rattle.spin_core.specs.Own.{what};
+ghost use Rattle.spin_model.specs.declared.answer.Answer.TheVariants.{Granted, Refused, Count as Counted, Done as Left};
+ghost use Rattle.spin_seats.specs.Accounts.{Called, IsIn, IsTrying};
+ghost use Rattle.spin_seats.specs.Rule.{at_word, stands};
+ghost use Rattle.spin_seats.specs.Seats.{seats};
+ghost use Rattle.spin_seats.specs.declared.calls.SeatsCall.TheVariants.{TryEnter, Enter, Count, Leave};
+ghost use Rattle.spin_seats.specs.declared.seats.rule.Account.{Account as TheAccount};
+ghost use Rattle.spin_seats.specs.declared.seats.rule.View.TheVariants.{Idle};
+
+use super::rule::Account;
+use super::{SeatGuard, Seats};
+use crate::steps;
+use spin_core::relax::{MAX_HINTS, RelaxStrategy, Spin};
+use std::sync::Wait;
+
+/// A thread's account of its calls of a [`Seats`].
+///
+/// The lock's cell keeps the list of all moves that threads have made in it (its history). A pass knows which of these
+/// moves are its own, and the whole list up to its last one. It is as large as a reference to the lock, can be sent,
+/// and a lock has any number of them.
+///
+/// # Contract
+/// Each call takes the pass, and ensures `Called`: of the moves by which the history grew, those of this pass are
+/// exactly one call, with the answer that is returned. In the lock's model that call has this answer, at its place
+/// among the moves of all threads, and no move of the history is passed over.
+///
+/// # Examples
+/// ```
+/// let seat = pass.enter(rt);
+/// seat.leave()
+/// ```
+#[must_use = "a pass that is dropped ends: bind it, or write `drop(..)`"]
+pub struct Pass<'a, const N: usize> {
+    pub(super) account: Account<'a, N>,
+    ghost rests: { stands account.permit.view ≡ Idle },
+}
+
+impl<const N: usize> Seats<N> {
+    /// Returns a pass that has made no call. It makes no operation on the lock.
+    ///
+    /// # Contract
+    /// The pass is of this lock, and knows nothing of its history yet (`new`).
+    ///
+    /// # Examples
+    /// ```
+    /// let pass = seats.pass();
+    /// visit(rt, pass)
+    /// ```
+    pub fn pass(&self) -> Pass<'_, N>
+        ensures new { (result.account.permit.view ≡ None) × (result.account.seen.entries ≡ []) × (result.account.seen.name ≡ self.now.start.name) }
+    {
+        Pass {
+            account: Account {
+                permit: self.cell.enter(),
+                seen: self.start.copy(),
+            },
+        }
+    }
+}
+
+impl<'a, const N: usize> Pass<'a, N> {
+    /// Takes a seat as [`Seats::enter`] does.
+    ///
+    /// # Contract
+    /// The call is one `Enter` with the answer `Granted`, however often it looked and tried. Whether and when it
+    /// returns is not promised.
+    ///
+    /// # Examples
+    /// ```
+    /// let seat = pass.enter(rt);
+    /// seat.leave()
+    /// ```
+    pub fn enter<W: Wait>(self, rt: &W) -> SeatGuard<'a, N>
+        ensures { Called N Enter Granted self.entry.account result.account }
+    {
+        match self.come() {
+            Ok(guard) => guard,
+            Err(entering) => entering.wait(rt),
+        }
+    }
+
+    /// Tries to take a seat as [`Seats::try_enter`] does. Returns the pass if all are taken.
+    ///
+    /// # Contract
+    /// The call is one `TryEnter`, with the answer `Granted` beside a guard (`granted`), and else `Refused`
+    /// (`refused`). Whether and when it returns is not promised.
+    ///
+    /// # Examples
+    /// ```
+    /// match pass.try_enter(rt) {
+    ///     Ok(seat) => Ok(seat.leave()),
+    ///     Err(pass) => Err(pass),
+    /// }
+    /// ```
+    pub fn try_enter<W: Wait>(self, rt: &W) -> Result<SeatGuard<'a, N>, Pass<'a, N>>
+        ensures granted { IfOk result (λ guard. Called N TryEnter Granted self.entry.account guard.account) }
+        ensures refused { IfErr result (λ pass. Called N TryEnter Refused self.entry.account pass.account) }
+    {
+        self.try_come().take(rt)
+    }
+
+    /// Returns how many seats were taken at some moment during this call, as [`Seats::count`] does.
+    ///
+    /// # Contract
+    /// The call is one `Count`, with the answer that is returned (`made`).
+    ///
+    /// # Examples
+    /// ```
+    /// pass.count()
+    /// ```
+    pub fn count(self) -> (usize, Pass<'a, N>)
+        ensures made { Called N Count (Counted result.0) self.entry.account result.1.account }
+        ensures few { result.0 ≤ seats N }
+    {
+        let Self { account } = self;
+        let (taken, account) = account.count();
+        (taken, Pass { account })
+    }
+
+    // The first look of `enter`, and its exchange if a seat is free.
+    pub(super) fn come(self) -> Result<SeatGuard<'a, N>, Entering<'a, N>>
+        ensures { IfOk result (λ guard. Called N Enter Granted self.entry.account guard.account) × IfErr result (λ entering. IsIn N Enter self.entry.account entering.account) }
+    {
+        let Self { account } = self;
+        let (word, account) = account.look();
+        Entering { word, account }.attempt()
+    }
+
+    // The look of `try_enter`.
+    pub(super) fn try_come(self) -> Trying<'a, N>
+        ensures { IsTrying N result.word self.entry.account result.account }
+    {
+        let Self { account } = self;
+        let (word, account) = account.try_look();
+        Trying { word, account }
+    }
+
+    /// Compares what two passes of one lock know. It does nothing when it runs.
+    ///
+    /// # Contract
+    /// What one of them knows of the history is a beginning of what the other knows.
+    ///
+    /// # Examples
+    /// ```
+    /// all.0.0.compare(&all.0.1);
+    /// ```
+    pub fn compare(&self, other: &Pass<'_, N>)
+        requires { self.now.account.seen.name ≡ other.now.account.seen.name }
+        ensures { IsPrefix self.now.account.seen.entries other.now.account.seen.entries ⊎ IsPrefix other.now.account.seen.entries self.now.account.seen.entries }
+    {
+        self.account.seen.compare(&other.account.seen);
+    }
+}
+
+impl<'a, const N: usize> SeatGuard<'a, N> {
+    /// Frees the seat, and returns the pass by which it was taken. A guard that is dropped ends its pass.
+    ///
+    /// # Contract
+    /// The call is one `Leave`.
+    ///
+    /// # Examples
+    /// ```
+    /// let seat = pass.enter(rt);
+    /// seat.leave()
+    /// ```
+    pub fn leave(self) -> Pass<'a, N>
+        ensures { Called N Leave Left self.entry.account result.account }
+    {
+        let Self { account } = self;
+        Pass {
+            account: account.get_up(),
+        }
+    }
+}
+
+// A call of `try_enter`, at the word that it found.
+pub(super) struct Trying<'a, const N: usize> {
+    word: usize,
+    account: Account<'a, N>,
+    ghost comes: { what account.permit.view ≡ Some (at_word N false word) },
+}
+
+impl<'a, const N: usize> Trying<'a, N> {
+    // Tries to take a seat at each word that it finds, while one is free.
+    pub(super) fn take<W: Wait>(self, rt: &W) -> Result<SeatGuard<'a, N>, Pass<'a, N>>
+        ensures { (before : TheAccount N) → IsTrying N self.entry.word before self.entry.account → IfOk result (λ guard. Called N TryEnter Granted before guard.account) × IfErr result (λ pass. Called N TryEnter Refused before pass.account) }
+    {
+        let mut trying = self;
+        for _ in rt.forever() {
+            match trying.attempt() {
+                Ok(answer) => return answer,
+                Err(further) => trying = further,
+            }
+        }
+        unreachable!()
+    }
+
+    // Tries to take a seat at its word. If none is free there, the call is refused.
+    fn attempt(self) -> Result<Result<SeatGuard<'a, N>, Pass<'a, N>>, Trying<'a, N>>
+        ensures { (before : TheAccount N) → IsTrying N self.entry.word before self.entry.account → IfOk result (λ answer. IfOk answer (λ guard. Called N TryEnter Granted before guard.account) × IfErr answer (λ pass. Called N TryEnter Refused before pass.account)) × IfErr result (λ further. IsTrying N further.word before further.account) }
+    {
+        let Self { word, account } = self;
+        let Some(next) = steps::enter(word, N) else {
+            return Ok(Err(Pass { account }));
+        };
+        match account.sit(word, next) {
+            Ok(account) => Ok(Ok(SeatGuard { account })),
+            Err((word, account)) => Err(Trying { word, account }),
+        }
+    }
+}
+
+// A call of `enter`, at the word that it found.
+pub(super) struct Entering<'a, const N: usize> {
+    word: usize,
+    account: Account<'a, N>,
+    ghost comes: { what account.permit.view ≡ Some (at_word N true word) },
+}
+
+impl<'a, const N: usize> Entering<'a, N> {
+    // As `back_off` of the strategies, whose closure the borrow checker does not cover here.
+    pub(super) fn wait<W: Wait>(self, rt: &W) -> SeatGuard<'a, N>
+        ensures { (before : TheAccount N) → IsIn N Enter before self.entry.account → Called N Enter Granted before result.account }
+    {
+        let mut hints = 1;
+        let mut entering = self;
+        for _ in rt.forever() {
+            Spin::pause(rt, hints);
+            match entering.again() {
+                Ok(guard) => return guard,
+                Err(further) => entering = further,
+            }
+            hints = hints.saturating_mul(2).min(MAX_HINTS);
+        }
+        unreachable!()
+    }
+
+    // Tries to take a seat at its word, if one is free there.
+    fn attempt(self) -> Result<SeatGuard<'a, N>, Entering<'a, N>>
+        ensures { (before : TheAccount N) → IsIn N Enter before self.entry.account → IfOk result (λ guard. Called N Enter Granted before guard.account) × IfErr result (λ further. IsIn N Enter before further.account) }
+    {
+        let Self { word, account } = self;
+        let Some(next) = steps::enter(word, N) else {
+            return Err(Entering { word, account });
+        };
+        match account.sit(word, next) {
+            Ok(account) => Ok(SeatGuard { account }),
+            Err((word, account)) => Err(Entering { word, account }),
+        }
+    }
+
+    // The same, after a look if its word has no free seat.
+    fn again(self) -> Result<SeatGuard<'a, N>, Entering<'a, N>>
+        ensures { (before : TheAccount N) → IsIn N Enter before self.entry.account → IfOk result (λ guard. Called N Enter Granted before guard.account) × IfErr result (λ further. IsIn N Enter before further.account) }
+    {
+        let Self { word, account } = self;
+        if steps::enter(word, N).is_some() {
+            Entering { word, account }.attempt()
+        } else {
+            let (found, account) = account.look();
+            Entering {
+                word: found,
+                account,
+            }
+            .attempt()
+        }
+    }
+}
+
+impl<const N: usize> Drop for Pass<'_, N> {
+    fn drop(self) {
+        let Self { account } = self;
+        account.end();
+    }
+}

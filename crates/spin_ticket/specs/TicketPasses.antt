@@ -1,0 +1,38 @@
+-- What a pass knows: the lock's history so far, and which moves in it are its own.
+use Rattle.std.specs.Prelude.{◌≡◌, ℕ, Bool, Option, List}
+use Rattle.spin_core.specs.Own.{Numbered}
+use Rattle.spin_model.specs.declared.answer.Answer.TheVariants.{Granted, Is, Done}
+use Rattle.spin_model.specs.declared.ticket.TicketCall.TheVariants.{Lock, IsLocked, Release}
+use Rattle.spin_ticket.specs.Queue.{Made, Called}
+use Rattle.spin_ticket.specs.declared.ticket.pass.Pass.{Pass}
+use Rattle.spin_ticket.specs.declared.ticket.rule.View.{View}
+
+module _ {T R : Type 0} where
+  -- all moves in the lock up to the pass's last step
+  abbrev pub history : Pass T R → List Made
+  history it = it.seen.entries
+
+  -- the name of the lock's history
+  abbrev pub lock_of : Pass T R → ℕ
+  lock_of it = it.seen.name
+
+  -- the number of the lock's first ticket
+  abbrev pub first_of : Pass T R → ℕ
+  first_of it = it.permit.key.1
+
+  -- the party of the pass: none before its first call
+  abbrev pub party : Pass T R → Option (Numbered View)
+  party it = it.permit.view
+
+  abbrev pub IsOfOneLock : Pass T R → Pass T R → Type 0
+  IsOfOneLock one other = (lock_of other ≡ lock_of one) × (first_of other ≡ first_of one)
+
+  -- since then the pass has looked once, and was told this
+  abbrev pub Looked : Bool → Pass T R → Pass T R → Type 0
+  Looked set before now = Called (first_of before) IsLocked (Is set) (party before) (history before) (party now) (history now)
+
+  -- since then the pass has acquired the lock and released it, once
+  abbrev pub HeldOnce : Pass T R → Pass T R → Type 0
+  HeldOnce before now =
+      (view : Option (Numbered View)) × (seen : List Made) × (first : ℕ) × (first ≡ first_of before) × Called (first_of before) Lock Granted (party before) (history before) view seen
+      × Called first Release Done view seen (party now) (history now)

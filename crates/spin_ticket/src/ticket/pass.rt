@@ -1,0 +1,358 @@
+//! The calls of a [`TicketMutex`] by a thread that keeps account of them. Begin at [`TicketMutex::pass`].
+ghost use Rattle.std.specs.Prelude.{◌≡◌, ◌⊎◌, ◌≤◌, not, Some, None, [], ◌==◌, length, IfOk, IfErr};
+ghost use mathlib.Core.List.{IsPrefix};
+ghost use Rattle.spin_core.specs.Guard.{IsHolder, guard_view, guard_key};
+ghost use Rattle.spin_core.specs.Own.{what};
+ghost use Rattle.spin_core.specs.Passes.{mark_of, Begins, Waits};
+ghost use Rattle.spin_ticket.specs.Queue.{use_of_party, stands, IsOut, Moves, Called};
+ghost use Rattle.spin_ticket.specs.Guards.{Holds};
+ghost use Rattle.spin_ticket.specs.Waits.{GoesFor, Enters};
+ghost use Rattle.spin_ticket.specs.declared.ticket.rule.View.TheVariants.{Idle};
+ghost use Rattle.spin_model.specs.declared.answer.Answer.TheVariants.{Granted, Refused, Is, Done as Released};
+ghost use Rattle.spin_model.specs.declared.ticket.TicketCall.TheVariants.{Lock, TryLock, IsLocked, Release};
+
+use super::rule::{
+    Await, Entry, FindOwn, LoadNext, LookNext, LookServing, Party, Serve, Take, TicketRule,
+    TryLoadNext, TryLoadServing, TryTake,
+};
+use super::waiting::{Going, Grant, Place};
+use super::{HINTS_EACH, TicketMutex, TicketMutexGuard};
+use spin_core::cell::Permit;
+use spin_core::guard::Guard;
+use spin_core::relax::{Loop, MAX_HINTS, RelaxStrategy};
+use spin_core::trace::Watch;
+use spin_step::ticket;
+use std::marker::PhantomData;
+use std::sync::Wait;
+
+/// A thread's account of its calls of a [`TicketMutex`].
+///
+/// The lock's cell keeps the list of all moves that threads have made in it (its history). A pass knows which of these
+/// moves are its own, and the whole list up to its last one. Calls without a pass are in the history too, as calls of
+/// others. A pass is as large as a reference to the lock. It can be sent, and a lock has any number of them.
+///
+/// # Contract
+/// Each call takes the pass and returns it. It ensures `Called`: of the moves by which the history grew, those of this
+/// pass are exactly one call, with the answer that is returned. In the lock's model that call has this answer, at its
+/// place among the moves of all threads, and no move of the history is passed over.
+///
+/// # Examples
+/// ```
+/// fn count<'a, W: Wait>(rt: &W, pass: Pass<'a, u64, Spin>) -> Pass<'a, u64, Spin>
+///     ensures made { HeldOnce pass.entry result }
+///     ensures lock { lock_of result ≡ lock_of pass.entry }
+/// {
+///     let (mut guard, seen) = pass.lock(rt);
+///     *guard = guard.saturating_add(1);
+///     TicketMutex::unlock(guard, seen)
+/// }
+/// ```
+#[must_use = "a pass that is dropped ends: bind it, or write `drop(..)`"]
+pub struct Pass<'a, T, R> {
+    permit: Permit<'a, T, Party, TicketRule>,
+    seen: Watch<Entry>,
+    strategy: PhantomData<R>,
+    ghost named: { permit.key.0.name ≡ seen.name },
+    ghost rests: { stands permit.view ≡ Idle },
+    ghost knows: { mark_of permit.view ≡ length seen.entries },
+}
+
+impl<T, R> TicketMutex<T, R> {
+    /// Returns a pass that has made no call. It makes no operation on the lock.
+    ///
+    /// # Contract
+    /// The pass is of this lock (`lock`), and knows nothing of its history yet (`new`).
+    ///
+    /// # Examples
+    /// ```
+    /// let pass = lock.pass();
+    /// ```
+    pub fn pass(&self) -> Pass<'_, T, R>
+        ensures new { (result.seen.entries ≡ []) × (result.permit.view ≡ None) }
+        ensures lock { (result.seen.name ≡ self.now.start.name) × (result.permit.key.1 ≡ self.now.cell.1) }
+    {
+        Pass {
+            permit: self.cell.enter(),
+            seen: self.start.copy(),
+            strategy: PhantomData,
+        }
+    }
+
+    /// Releases the lock, and returns the pass by which it was acquired.
+    ///
+    /// A guard that is dropped releases the lock too, and ends its pass.
+    ///
+    /// # Contract
+    /// `seen` has to be what [`Pass::lock`] or [`Pass::try_lock`] returned beside the guard (`Holds`). The call is in
+    /// the history, as the pass's next one (`made`).
+    ///
+    /// # Examples
+    /// ```
+    /// let (mut guard, seen) = pass.lock(rt);
+    /// *guard = guard.saturating_add(1);
+    /// TicketMutex::unlock(guard, seen)
+    /// ```
+    pub fn unlock<'a>(guard: TicketMutexGuard<'a, T, R>, seen: Watch<Entry>) -> Pass<'a, T, R>
+        requires { Holds guard seen }
+        ensures made { Called (guard_key guard.entry).1 Release Released (Some (guard_view guard.entry)) seen.entries result.permit.view result.seen.entries }
+        ensures same { (result.seen.name ≡ seen.name) × (result.permit.key.1 ≡ (guard_key guard.entry).1) }
+    {
+        let permit = Guard::into_writer(guard).into_permit();
+        let (number, permit, seen) = permit.load_second::<FindOwn>(seen);
+        let (permit, seen) = permit.store_second::<Serve>(ticket::serve(number), seen);
+        Pass {
+            permit,
+            seen,
+            strategy: PhantomData,
+        }
+    }
+}
+
+impl<'a, T, R: RelaxStrategy> Pass<'a, T, R> {
+    /// Acquires the lock as [`TicketMutex::lock`] does. Returns the guard, and what the pass knows then.
+    ///
+    /// # Contract
+    /// The call is one `Lock` with the answer `Granted`, however often it looked and tried (`made`). The guard belongs
+    /// to a holder of the lock. Whether and when the call returns is not promised.
+    ///
+    /// # Examples
+    /// ```
+    /// let (mut guard, seen) = pass.lock(rt);
+    /// *guard = guard.saturating_add(1);
+    /// TicketMutex::unlock(guard, seen)
+    /// ```
+    pub fn lock<W: Wait>(self, rt: &W) -> (TicketMutexGuard<'a, T, R>, Watch<Entry>)
+        ensures holder { IsHolder use_of_party result.0 }
+        ensures holds { Holds result.0 result.1 }
+        ensures same { (result.1.name ≡ self.entry.seen.name) × ((guard_key result.0).1 ≡ self.entry.permit.key.1) }
+        ensures made { Called self.entry.permit.key.1 Lock Granted self.entry.permit.view self.entry.seen.entries (Some (guard_view result.0)) result.1.entries }
+    {
+        let Self {
+            permit,
+            seen,
+            strategy: _,
+        } = self;
+        let place = match go(permit, seen).take() {
+            Ok(place) => place,
+            Err(going) => Loop::retry(rt, going, Going::take),
+        };
+        let Grant { writer, seen } = match place.enter() {
+            Ok(grant) => grant,
+            Err(place) => R::retry_after(rt, place, Place::pause, Place::enter),
+        };
+        (Guard::new(writer), seen)
+    }
+}
+
+impl<'a, T, R> Pass<'a, T, R> {
+    /// Tries to acquire the lock as [`TicketMutex::try_lock`] does. Returns the pass at once if the lock is held.
+    ///
+    /// # Contract
+    /// The call is one `TryLock`, with the answer `Granted` beside a guard (`granted`), and else `Refused` (`refused`).
+    ///
+    /// # Examples
+    /// ```
+    /// match pass.try_lock() {
+    ///     Ok((guard, seen)) => TicketMutex::unlock(guard, seen),
+    ///     Err(pass) => pass,
+    /// }
+    /// ```
+    pub fn try_lock(self) -> Result<(TicketMutexGuard<'a, T, R>, Watch<Entry>), Pass<'a, T, R>>
+        ensures holder { IfOk result (λ held. IsHolder use_of_party held.0 × Holds held.0 held.1) }
+        ensures same { IfOk result (λ held. (held.1.name ≡ self.entry.seen.name) × ((guard_key held.0).1 ≡ self.entry.permit.key.1)) }
+        ensures granted { IfOk result (λ held. Called self.entry.permit.key.1 TryLock Granted self.entry.permit.view self.entry.seen.entries (Some (guard_view held.0)) held.1.entries) }
+        ensures refused { IfErr result (λ pass. Called self.entry.permit.key.1 TryLock Refused self.entry.permit.view self.entry.seen.entries pass.permit.view pass.seen.entries × ((pass.seen.name ≡ self.entry.seen.name) × (pass.permit.key.1 ≡ self.entry.permit.key.1))) }
+    {
+        let Self {
+            permit,
+            seen,
+            strategy,
+        } = self;
+        let (next, permit, seen) = permit.load::<TryLoadNext>(seen);
+        let (serving, permit, seen) = permit.load_second::<TryLoadServing>(seen);
+        if !ticket::is_turn(serving, next) {
+            return Err(Pass {
+                permit,
+                seen,
+                strategy,
+            });
+        }
+        let Some(after) = ticket::take(next) else {
+            return Err(Pass {
+                permit,
+                seen,
+                strategy,
+            });
+        };
+        let (found, permit, seen) = permit.exchange::<TryTake>(next, after, seen);
+        if found == next {
+            Ok((Guard::new(permit.into_writer()), seen))
+        } else {
+            Err(Pass {
+                permit,
+                seen,
+                strategy,
+            })
+        }
+    }
+
+    /// Looks whether the lock is held, as [`TicketMutex::is_locked`] does.
+    ///
+    /// # Contract
+    /// The call is one `IsLocked`, with the answer that is returned (`made`).
+    ///
+    /// # Examples
+    /// ```
+    /// let (held, pass) = pass.is_locked();
+    /// ```
+    pub fn is_locked(self) -> (bool, Pass<'a, T, R>)
+        ensures made { Called self.entry.permit.key.1 IsLocked (Is result.0) self.entry.permit.view self.entry.seen.entries result.1.permit.view result.1.seen.entries }
+        ensures same { (result.1.seen.name ≡ self.entry.seen.name) × (result.1.permit.key.1 ≡ self.entry.permit.key.1) }
+    {
+        let (serving, next, pass) = self.look();
+        (!ticket::is_turn(serving, next), pass)
+    }
+
+    // Makes the steps of `is_locked`. Returns the number that is served, and then the next one.
+    pub(super) fn look(self) -> (u64, u64, Pass<'a, T, R>)
+        ensures order { result.0 ≤ result.1 }
+        ensures made { Called self.entry.permit.key.1 IsLocked (Is (not (result.1 == result.0))) self.entry.permit.view self.entry.seen.entries result.2.permit.view result.2.seen.entries }
+        ensures same { (result.2.seen.name ≡ self.entry.seen.name) × (result.2.permit.key.1 ≡ self.entry.permit.key.1) }
+    {
+        let Self {
+            permit,
+            seen,
+            strategy,
+        } = self;
+        // In this order, so that tickets stood between the two numbers.
+        let (serving, permit, seen) = permit.load_second::<LookServing>(seen);
+        let (next, permit, seen) = permit.load::<LookNext>(seen);
+        (
+            serving,
+            next,
+            Pass {
+                permit,
+                seen,
+                strategy,
+            },
+        )
+    }
+
+    /// Compares what two passes of one lock know. It does nothing when it runs.
+    ///
+    /// # Contract
+    /// What one of them knows of the history is a beginning of what the other knows. So both know one history, and the
+    /// one that knows more has the calls of both in it, each once, in the order in which each pass made them.
+    ///
+    /// # Examples
+    /// ```
+    /// all.0.compare(&all.1.0);
+    /// ```
+    pub fn compare(&self, other: &Pass<'_, T, R>)
+        requires { self.now.seen.name ≡ other.now.seen.name }
+        ensures { IsPrefix self.now.seen.entries other.now.seen.entries ⊎ IsPrefix other.now.seen.entries self.now.seen.entries }
+    {
+        self.seen.compare(&other.seen);
+    }
+}
+
+// Begins a call of `lock`.
+pub(super) fn go<'a, T>(
+    permit: Permit<'a, T, Party, TicketRule>,
+    seen: Watch<Entry>,
+) -> Going<'a, T>
+    requires { IsOut (what permit.view) × (permit.key.0.name ≡ seen.name) × (mark_of permit.view ≡ length seen.entries) }
+    ensures same { (result.seen.name ≡ seen.name) × (result.permit.key.1 ≡ permit.entry.key.1) }
+    ensures made { Moves permit.entry.key.1 (Begins Lock Waits) permit.entry.view seen.entries result.permit.view result.seen.entries }
+{
+    let (number, permit, seen) = permit.load::<LoadNext>(seen);
+    Going {
+        number,
+        permit,
+        seen,
+    }
+}
+
+impl<'a, T> Going<'a, T> {
+    // Takes the ticket. `Err` goes for the number that was found in its place, which is the same once the tickets are
+    // used up.
+    pub(super) fn take(self) -> Result<Place<'a, T>, Going<'a, T>>
+        ensures { GoesFor self.entry result }
+    {
+        let Self {
+            number,
+            permit,
+            seen,
+        } = self;
+        let Some(after) = ticket::take(number) else {
+            return Err(Going {
+                number,
+                permit,
+                seen,
+            });
+        };
+        let (found, permit, seen) = permit.exchange::<Take>(number, after, seen);
+        if found == number {
+            Ok(Place {
+                number,
+                ahead: 0,
+                permit,
+                seen,
+            })
+        } else {
+            Err(Going {
+                number: found,
+                permit,
+                seen,
+            })
+        }
+    }
+}
+
+impl<'a, T> Place<'a, T> {
+    // The next thread in turn looks again after one hint. One with others before it looks seldom, so that it does not
+    // disturb them.
+    pub(super) fn pause(&self) -> u32 {
+        if self.ahead <= 1 {
+            return 1;
+        }
+        self.ahead.saturating_mul(HINTS_EACH).min(MAX_HINTS as u64) as u32
+    }
+
+    // Enters if the number of the place is served.
+    pub(super) fn enter(self) -> Result<Grant<'a, T>, Place<'a, T>>
+        ensures { Enters self.entry result }
+    {
+        let Self {
+            number,
+            ahead: _,
+            permit,
+            seen,
+        } = self;
+        let (serving, permit, seen) = permit.load_second::<Await>(seen);
+        if ticket::is_turn(serving, number) {
+            Ok(Grant {
+                writer: permit.into_writer(),
+                seen,
+            })
+        } else {
+            Err(Place {
+                number,
+                ahead: number.saturating_sub(serving),
+                permit,
+                seen,
+            })
+        }
+    }
+}
+
+impl<T, R> Drop for Pass<'_, T, R> {
+    fn drop(self) {
+        let Self {
+            permit,
+            seen: _,
+            strategy: _,
+        } = self;
+        permit.leave();
+    }
+}

@@ -1,0 +1,92 @@
+//! Three threads with a pass each, which know one history of the seats once they have joined.
+ghost use Rattle.std.specs.Prelude.{◌≡◌, ◌≤◌, ◌⊎◌, IfErr};
+ghost use mathlib.Core.List.{IsPrefix};
+ghost use Rattle.spin_seats.specs.Passes.{history, lock_of, Counted, SatOnce, WasRefused};
+
+use super::super::equal::equal;
+use spin_seats::seats::{Pass, Seats};
+use std::sync::Wait;
+use std::thread::{Threads, join};
+
+// Takes a seat and leaves it, once.
+fn visit<'a, W: Wait>(rt: &W, pass: Pass<'a, 2>) -> Pass<'a, 2>
+    ensures sat { SatOnce pass.entry result }
+    ensures lock { lock_of result ≡ lock_of pass.entry }
+{
+    let seat = pass.enter(rt);
+    seat.leave()
+}
+
+// Tries once to take a seat, which it leaves at once.
+fn try_once<'a, W: Wait>(rt: &W, pass: Pass<'a, 2>) -> Result<Pass<'a, 2>, Pass<'a, 2>>
+    ensures { IfErr result (WasRefused pass.entry) }
+{
+    match pass.try_enter(rt) {
+        Ok(seat) => Ok(seat.leave()),
+        Err(pass) => Err(pass),
+    }
+}
+
+// Counts once.
+fn look(pass: Pass<'_, 2>) -> (usize, Pass<'_, 2>)
+    ensures counted { Counted result.0 pass.entry result.1 }
+    ensures few { result.0 ≤ 2 }
+    ensures lock { lock_of result.1 ≡ lock_of pass.entry }
+{
+    pass.count()
+}
+
+// Two threads visit, and a third counts. Of any two of them, one knows a beginning of the history that the other knows.
+fn visit_beside_count<'a, W: Threads + Wait + Sync>(
+    rt: &W,
+    seats: &'a Seats<2>,
+) -> ((Pass<'a, 2>, Pass<'a, 2>), (usize, Pass<'a, 2>))
+    ensures visits { IsPrefix (history result.0.0) (history result.0.1) ⊎ IsPrefix (history result.0.1) (history result.0.0) }
+    ensures first { IsPrefix (history result.0.0) (history result.1.1) ⊎ IsPrefix (history result.1.1) (history result.0.0) }
+    ensures second { IsPrefix (history result.0.1) (history result.1.1) ⊎ IsPrefix (history result.1.1) (history result.0.1) }
+{
+    let all = join(
+        rt,
+        || -> (Pass<'_, 2>, Pass<'_, 2>)
+            ensures { (lock_of result.0 ≡ seats.entry.now.start.name) × (lock_of result.1 ≡ seats.entry.now.start.name) }
+        {
+            join(
+                rt,
+                || -> Pass<'_, 2>
+                    ensures { lock_of result ≡ seats.entry.now.start.name }
+                {
+                    let pass = seats.pass();
+                    visit(rt, pass)
+                },
+                || -> Pass<'_, 2>
+                    ensures { lock_of result ≡ seats.entry.now.start.name }
+                {
+                    let pass = seats.pass();
+                    visit(rt, pass)
+                },
+            )
+        },
+        || -> (usize, Pass<'_, 2>)
+            ensures { lock_of result.1 ≡ seats.entry.now.start.name }
+        { look(seats.pass()) },
+    );
+    all.0.0.compare(&all.0.1);
+    all.0.0.compare(&all.1.1);
+    all.0.1.compare(&all.1.1);
+    all
+}
+
+#[test]
+fn passes_know_one_history(rt: HostRuntime) {
+    let seats: Seats<2> = Seats::new();
+    let ((first, second), (count, third)) = visit_beside_count(&rt, &seats);
+    equal(&rt, count <= 2, true);
+    let (first, second) = (first.enter(&rt), second.enter(&rt));
+    let (count, third) = look(third);
+    equal(&rt, count, 2);
+    let third = try_once(&rt, third).err().expect(&rt, "all are taken");
+    drop(first.leave());
+    drop(try_once(&rt, third).ok().expect(&rt, "one is free"));
+    drop(second);
+    equal(&rt, seats.count(), 0);
+}
