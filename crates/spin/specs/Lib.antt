@@ -8,7 +8,10 @@ pub use Rattle.spin_ticket.specs.TicketPasses
 pub use Rattle.spin_fair.specs.Fair
 pub use Rattle.spin_fair.specs.FairPasses
 pub use Rattle.spin_rwlock.specs.Guards
+pub use Rattle.spin_rwlock.specs.RwPasses
 pub use Rattle.spin_once.specs.Lazy
+pub use Rattle.spin_once.specs.OncePasses
+pub use Rattle.spin_once.specs.LazyPasses
 pub use Rattle.spin_core.specs.Retries
 pub use Rattle.spin_history.specs.Entries
 pub use Rattle.spin_core.specs.Calls

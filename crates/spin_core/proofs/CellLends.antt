@@ -1,7 +1,7 @@
 -- What a `&` to a permit holds: its reader or its writer lends what it has of the value. Assumes `Logic`.
 --     Lends-tracked     the law of a party that tracks the value
 --     permit_laws, Lends-permit     the laws of a permit.        writer_laws, Lends-writer     the laws of a writer
-use Rattle.std.proofs.Common.{◌≡◌, ℕ, ◌+◌, List, [], ◌∷◌, ◌++◌, refl, Option, Some, None}
+use Rattle.std.proofs.Common.{◌≡◌, ℕ, ◌+◌, true, List, [], ◌∷◌, ◌++◌, refl, sym, Option, Some, None}
 use seplogic.Ra.Ura.{Ura}
 use base.Share
 use base.Fraction.{full_share}
@@ -25,9 +25,9 @@ use denote.Shares.{Shares, settles}
 use denote.Steps.{nothing}
 use denote.Struct.Lending.{Lends, Lends-false, Lends-nothing}
 use Rattle.core.proofs.cell.Borrows.{by_one, unnest_before}
-use Rattle.spin_core.specs.Cell.{Use, off, reads, writes, Way, fixes, Seen, Ways, use_of}
-use Rattle.spin_core.specs.CellMemory.{offset, Known, Id, round_code, tag, Part, piece, shown, named, tracked, right, stand, inner, kept, permit_owns, permit_shares, reader_shares, writer_at, writer_owns, writer_shares}
-use Rattle.spin_core.proofs.CellParts.{piece_in}
+use Rattle.spin_core.specs.Cell.{Use, off, reads, writes, Way, fixes, Fixes, Seen, Ways, use_of}
+use Rattle.spin_core.specs.CellMemory.{offset, Known, Id, round_code, tag, Part, piece, reader, shown, named, tracked, right, stand, inner, kept, permit_owns, permit_shares, reader_shares, writer_at, writer_owns, writer_shares}
+use Rattle.spin_core.proofs.CellParts.{piece_in, piece_cut}
 use Rattle.spin_core.proofs.Signs.{signs}
 
 -- ---- what is shared may be had twice, and for less time
@@ -179,14 +179,42 @@ module _ {M : Type 1} {𝓤 : Ura M} (𝓛 : Logic 𝓤) where
     known_seen (fixes fact) x e known = known
     known_seen _ x e known = tt
 
+    shown_by : RowLaws R → (b o : ℕ) (t : Id) (x : R.Denot) → ⟦ before β t.life ⟧ ∗ ⟦ reader R b o t ways.0 x ⟧ ⊢ H.⇛ (guard 𝓤 (Seen ways.0 x) ⟦ shown R b o x β ⟧)
+    shown_by L b o t x = qed 𝓛 (‵ (before β t.life) ∷ ‵ (reader R b o t ways.0 x) ∷ []) ∵ updating ! $ move ! (1 ∷ []) $ fpick ! (λ n. fsplit ! $ fpick ! (λ e. fpick ! (λ known. fsplit ! $
+        let a : Lft = n ∷ [] in let μ : Lft = a ++ β in let V' : Lft → Fml = shown R b o x in let K = L x b (o + offset R) in
+        -- [the token; the tag; what is shown; the end]
+        bor_new ! tt β $ bor_fracture ! tt (λ r. flft a r) e $ move ! (3 ∷ []) $
+        use1 𝓛 (‵ (V' (μ ++ t.life))) (shortens 𝓛 V' K (a ++ t.life) (μ ++ t.life) (⊑_meet (μ ++ t.life) a t.life (Incl-trans (meet_⊑_left μ t.life) (meet_⊑_left a β)) (meet_⊑_right μ t.life))) $ move ! (4 ∷ []) $
+        use1 𝓛 (‵ (before μ t.life)) (before_shorten 𝓛 β μ t.life (meet_⊑_right a β)) $ use2 𝓛 (‵ (V' μ)) (moves_before 𝓛 V' K μ t.life) $ move ! (1 ∷ 0 ∷ []) $
+        use2 𝓛 (‵ (V' β)) (moves 𝓛 V' K β a) $ now ! $ check ! (known_seen ways.0 x e known) $ keep ! (0 ∷ []) $ done !)))
+
     pub shown_on : RowLaws R → (b o : ℕ) (view : Option V) (v : Option R.Denot) → use_of ways.1 view ≡ reads → ⟦ permit_owns Y R c S holds ways β (block_ptr b o) view v ⟧ ⊢ H.⇛ (ex 𝓤 (IsShown b o v))
     shown_on L b o view None is = qed 𝓛 (‵ (permit_owns Y R c S holds ways β (block_ptr b o) view None) ∷ []) ∵ fpick ! (λ k. fpick ! (λ t. fsplit3 ! $ move ! (2 ∷ []) $
         rewrite ! 0 (λ (u : Use). ‵ (right R b o t ways.0 u None)) is refl $ keep ! (0 ∷ []) $ by ! (never_e 𝓤 _)))
     shown_on L b o view (Some x) is = qed 𝓛 (‵ (permit_owns Y R c S holds ways β (block_ptr b o) view (Some x)) ∷ []) ∵ updating ! $ fpick ! (λ k. fpick ! (λ t. fsplit3 ! $ fsplit ! $ move ! (3 ∷ []) $
-        rewrite ! 0 (λ (u : Use). ‵ (right R b o t ways.0 u (Some x))) is refl $ fpick ! (λ n. fsplit ! $ fpick ! (λ e. fpick ! (λ known. fsplit ! $
-        let a : Lft = n ∷ [] in let μ : Lft = a ++ β in let V' : Lft → Fml = shown R b o x in let K = L x b (o + offset R) in
-        -- [the token; the tag; what is shown; the end; the invariant; the view]
-        bor_new ! tt β $ bor_fracture ! tt (λ r. flft a r) e $ move ! (3 ∷ []) $
-        use1 𝓛 (‵ (V' (μ ++ t.life))) (shortens 𝓛 V' K (a ++ t.life) (μ ++ t.life) (⊑_meet (μ ++ t.life) a t.life (Incl-trans (meet_⊑_left μ t.life) (meet_⊑_left a β)) (meet_⊑_right μ t.life))) $ move ! (4 ∷ []) $
-        use1 𝓛 (‵ (before μ t.life)) (before_shorten 𝓛 β μ t.life (meet_⊑_right a β)) $ use2 𝓛 (‵ (V' μ)) (moves_before 𝓛 V' K μ t.life) $ move ! (1 ∷ 0 ∷ []) $
-        use2 𝓛 (‵ (V' β)) (moves 𝓛 V' K β a) $ now ! $ show ! (IsShown b o (Some x)) x $ check ! (refl, known_seen ways.0 x e known) $ keep ! (0 ∷ []) $ done !)))))
+        rewrite ! 0 (λ (u : Use). ‵ (right R b o t ways.0 u (Some x))) is refl $ move ! (1 ∷ 0 ∷ []) $ use2 𝓛 (later (given (Seen ways.0 x) (‵ (shown R b o x β)))) (shown_by L b o t x) $ await ! tt $ learn ! (λ known.
+        now ! $ show ! (IsShown b o (Some x)) x $ check ! (refl, known) $ keep ! (0 ∷ []) $ done !)))
+
+    -- ---- and it keeps its permit, where all read for good
+    reader_cut : RowLaws R → (b o : ℕ) (t : Id) (way : Way R.Denot) → Fixes way → (x : R.Denot) → ⟦ reader R b o t way x ⟧ ⊢ ⟦ reader R b o t way x ⟧ ∗ ⟦ reader R b o t way x ⟧
+    reader_cut L b o t (fixes fact) fixed x =
+        let way : Way R.Denot = fixes fact in let V' : Lft → Fml = shown R b o x in let Rd : ℕ → Fml = λ n. fsep (piece R way t.round (n, x)) (V' (n ∷ t.life)) in
+        qed 𝓛 (‵ (reader R b o t way x) ∷ []) ∵ fpick ! (λ n. fsplit ! $
+        use1 𝓛 (given (fact true x) (‵ (piece R way t.round (n, x)) ⊛ ‵ (piece R way t.round (n, x)))) (piece_cut 𝓛 R t.round fact (n, x)) $ learn ! (λ known. split ! $ move ! (2 ∷ []) $
+        use1 𝓛 (‵ (V' (n ∷ t.life)) ⊛ ‵ (V' (n ∷ t.life))) (contraction 𝓛 V' (L x b (o + offset R)) (n ∷ t.life)) $ split ! $ move ! (2 ∷ 0 ∷ []) $ fjoin ! $ fpack ! ℕ Rd n $ move ! (2 ∷ 1 ∷ []) $ fjoin ! $ fpack ! ℕ Rd n $ done !))
+    reader_cut L b o t _ fixed x = absurd fixed
+
+    abbrev pub IsShownTo : ℕ → ℕ → Option V → Option R.Denot → R.Denot → SProp 𝓤
+    IsShownTo b o view v x = guard 𝓤 ((v ≡ Some x) × Seen ways.0 x) (⟦ shown R b o x β ⟧ ∗ ⟦ permit_owns Y R c S holds ways β (block_ptr b o) view v ⟧)
+
+    pub shown_to : RowLaws R → (b o : ℕ) (view : Option V) (v : Option R.Denot) → use_of ways.1 view ≡ reads → Fixes ways.0 → ⟦ permit_owns Y R c S holds ways β (block_ptr b o) view v ⟧ ⊢ H.⇛ (ex 𝓤 (IsShownTo b o view v))
+    shown_to L b o view None is fixed = qed 𝓛 (‵ (permit_owns Y R c S holds ways β (block_ptr b o) view None) ∷ []) ∵ fpick ! (λ k. fpick ! (λ t. fsplit3 ! $ move ! (2 ∷ []) $
+        rewrite ! 0 (λ (u : Use). ‵ (right R b o t ways.0 u None)) is refl $ keep ! (0 ∷ []) $ by ! (never_e 𝓤 _)))
+    shown_to L b o view (Some x) is fixed = let Rd : Id → Fml = λ t. reader R b o t ways.0 x in let At : Id → Fml = owned_at b o view (use_of ways.1 view) (Some x) in
+        qed 𝓛 (‵ (permit_owns Y R c S holds ways β (block_ptr b o) view (Some x)) ∷ []) ∵ updating ! $ fpick ! (λ k. fpick ! (λ t. fsplit3 ! $ fsplit ! $ move ! (3 ∷ []) $
+        rewrite ! 0 (λ (u : Use). ‵ (right R b o t ways.0 u (Some x))) is refl $ use1 𝓛 (‵ (Rd t) ⊛ ‵ (Rd t)) (reader_cut L b o t ways.0 fixed x) $ split ! $ move ! (2 ∷ []) $
+        use1 𝓛 (‵ (before β t.life) ⊛ ‵ (before β t.life)) (before_dup 𝓛 β t.life) $ split ! $ move ! (0 ∷ 2 ∷ []) $
+        use2 𝓛 (later (given (Seen ways.0 x) (‵ (shown R b o x β)))) (shown_by L b o t x) $ await ! tt $ learn ! (λ known.
+        -- [what is shown; the end; the reader; the invariant; the view]
+        move ! (2 ∷ []) $ rewrite ! 0 (λ (u : Use). ‵ (right R b o t ways.0 u (Some x))) (sym is) refl $ move ! (4 ∷ 0 ∷ []) $ fjoin ! $ move ! (2 ∷ 3 ∷ []) $ fjoin ! $ fjoin ! $
+        fpack ! Id At t $ fpack ! Knows (λ _. fex Id At) k $ move ! (1 ∷ []) $ now ! $ show ! (IsShownTo b o view (Some x)) x $ check ! (refl, known) $ done !)))

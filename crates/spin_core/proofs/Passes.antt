@@ -145,7 +145,7 @@ module _ {W V C L A X S : Type 0} (m : Machine W V C L A) (seat_of : X → Seat 
 
 -- How the courses of a call follow one another
 
-replicate-sum : {X : Type 0} (i j : ℕ) (x : X) → replicate (i + j) x ≡ replicate i x ++ replicate j x
+pub replicate-sum : {X : Type 0} (i j : ℕ) (x : X) → replicate (i + j) x ≡ replicate i x ++ replicate j x
 replicate-sum zero j x = ap (λ n. replicate n x) (zero-add j)
 replicate-sum (suc i) j x = ap (λ n. replicate n x) (let e : suc i + j ≡ suc (i + j) = omega arith in e) ∙ ap (λ l. x ∷ l) (replicate-sum i j x)
 

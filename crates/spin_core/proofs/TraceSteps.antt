@@ -1,12 +1,12 @@
 -- The ghost steps of a log. Assumes `Logic`.
-use Rattle.std.proofs.Common.{◌≡◌, ◌⊎◌, ℕ, List, [], ◌∷◌, ◌++◌, map, sym, ◌∙◌}
+use Rattle.std.proofs.Common.{◌≡◌, ◌⊎◌, ℕ, List, [], ◌∷◌, ◌++◌, map, refl, sym, ◌∙◌}
 use mathlib.Core.Logic.{inl, inr}
 use mathlib.Core.List.{IsPrefix, append-nil}
 use seplogic.Ra.Ura.{Ura}
 use base.Fraction.{full_share}
 use base.Stored.{Coded, Gv}
 use base.Logic.{SProp, ent, sep, ex, guard, emp, upd, via}
-use base.Fml.{Lft, Share, Fml, fbor}
+use base.Fml.{Lft, Share, Fml, ftrue, fbor}
 use base.Growing.{Least, latest, at_least, prefix_anti}
 use base.Shift.{Keyless}
 use ghost.Rules.{Halves}
@@ -14,8 +14,9 @@ use contract.Monad.{fact, fact_i}
 use types.Logic.{Logic, sem, lfts}
 use types.Owned.{basic}
 use types.Growing.{latest_new, latest_grows, latest_shows, latest_bounds, latest_cut, latest_glue, latest_agrees, at_least_dup, at_least_join}
-use types.Kit.{‵, raw, ◌⊛◌, some, given, ◌$◌, ◌∵◌, !, qed, by, keep, drop, split, learn, check, pick, updating, now, done, use1, use2}
+use types.Kit.{‵, raw, ◌⊛◌, some, given, ◌$◌, ◌∵◌, !, qed, by, keep, move, drop, split, learn, check, pick, updating, now, done, use1, use2}
 use types.Tokens.{bor_fracture}
+use denote.Steps.{nothing}
 use denote.Opens.{Cuts-Halves}
 use denote.Struct.Lending.{Lends}
 use Rattle.spin_core.proofs.TracePrefixes.{one_in_other, prefix_coded, prefix_uncoded}
@@ -32,7 +33,8 @@ module _ {T : Type 0} (c : T → Gv) where
 
   pub known_keyless : (γ : ℕ) (l : List T) → Keyless (known_owns c γ l)
   unfolding known_owns at_least
-  known_keyless γ l = tt
+  known_keyless γ [] = tt
+  known_keyless γ (x ∷ l) = tt
 
 module _ {M : Type 1} {𝓤 : Ura M} (𝓛 : Logic 𝓤) where
   open 𝓛 use {H, A}
@@ -68,11 +70,13 @@ module _ {M : Type 1} {𝓤 : Ura M} (𝓛 : Logic 𝓤) where
 
     pub shows : (q : Share) (l : List T) → ⟦ log_part cv.code γ l q ⟧ ⊢ ⟦ log_part cv.code γ l q ⟧ ∗ ⟦ known_owns cv.code γ l ⟧
     unfolding known_owns
-    shows q l = latest_shows logs 𝓛 q γ (map cv.code l) (map cv.code l) (logs.same (map cv.code l))
+    shows q [] = qed 𝓛 (‵ (log_part cv.code γ [] q) ∷ []) ∵ nothing ! $ move ! (1 ∷ 0 ∷ []) $ done !
+    shows q (x ∷ l) = let l' = map cv.code (x ∷ l) in latest_shows logs 𝓛 q γ l' l' (logs.same l')
 
     pub observes : (q : Share) (l k : List T) → ⟦ log_part cv.code γ l q ⟧ ∗ ⟦ known_owns cv.code γ k ⟧ ⊢ guard 𝓤 (IsPrefix k l) (⟦ log_part cv.code γ l q ⟧ ∗ ⟦ known_owns cv.code γ l ⟧)
     unfolding known_owns
-    observes q l k = let top : Fml = log_part cv.code γ l q in let had : Fml = at_least logs γ (map cv.code k) in let has : Fml = at_least logs γ (map cv.code l) in
+    observes q l [] = qed 𝓛 (‵ (log_part cv.code γ l q) ∷ ‵ ftrue ∷ []) ∵ keep ! (0 ∷ []) $ use1 𝓛 (‵ (log_part cv.code γ l q) ⊛ ‵ (known_owns cv.code γ l)) (shows q l) $ check ! (l, refl) $ split ! $ done !
+    observes q l (x ∷ more) = let k : List T = x ∷ more in let top : Fml = log_part cv.code γ l q in let had : Fml = at_least logs γ (map cv.code k) in let has : Fml = known_owns cv.code γ l in
         qed 𝓛 (‵ top ∷ ‵ had ∷ []) ∵ use2 𝓛 (given (IsPrefix (map cv.code k) (map cv.code l)) (‵ top ⊛ ‵ had)) (latest_bounds logs 𝓛 q γ (map cv.code l) (map cv.code k)) $
         learn ! (λ p. check ! (prefix_uncoded cv k l p) $ split ! $ keep ! (0 ∷ []) $ use1 𝓛 (‵ top ⊛ ‵ has) (shows q l) $ split ! $ done !)
 
@@ -93,7 +97,8 @@ module _ {M : Type 1} {𝓤 : Ura M} (𝓛 : Logic 𝓤) where
 
     pub known_twice : (k : List T) → ⟦ known_owns cv.code γ k ⟧ ⊢ ⟦ known_owns cv.code γ k ⟧ ∗ ⟦ known_owns cv.code γ k ⟧
     unfolding known_owns
-    known_twice k = at_least_dup logs 𝓛 γ (map cv.code k)
+    known_twice [] = qed 𝓛 (‵ ftrue ∷ []) ∵ nothing ! $ done !
+    known_twice (x ∷ k) = at_least_dup logs 𝓛 γ (map cv.code (x ∷ k))
 
     uncode : (k l : List T) → IsPrefix (map cv.code k) (map cv.code l) ⊎ IsPrefix (map cv.code l) (map cv.code k) → IsPrefix k l ⊎ IsPrefix l k
     uncode k l (inl p) = inl (prefix_uncoded cv k l p)
@@ -101,6 +106,8 @@ module _ {M : Type 1} {𝓤 : Ura M} (𝓛 : Logic 𝓤) where
 
     pub compares : (k l : List T) → ⟦ known_owns cv.code γ k ⟧ ∗ ⟦ known_owns cv.code γ l ⟧ ⊢ fact 𝓤 (IsPrefix k l ⊎ IsPrefix l k)
     unfolding known_owns
-    compares k l = let a = map cv.code k in let b = map cv.code l in
+    compares [] l = qed 𝓛 (‵ ftrue ∷ ‵ (known_owns cv.code γ l) ∷ []) ∵ drop ! $ drop ! $ by ! (fact_i 𝓤 _ (emp 𝓤) (inl (l, refl)))
+    compares (x ∷ k) [] = qed 𝓛 (‵ (known_owns cv.code γ (x ∷ k)) ∷ ‵ ftrue ∷ []) ∵ drop ! $ drop ! $ by ! (fact_i 𝓤 _ (emp 𝓤) (inr (x ∷ k, refl)))
+    compares (x ∷ k') (y ∷ l') = let k : List T = x ∷ k' in let l : List T = y ∷ l' in let a = map cv.code k in let b = map cv.code l in
         qed 𝓛 (‵ (at_least logs γ a) ∷ ‵ (at_least logs γ b) ∷ []) ∵ use2 𝓛 (some (λ (m : List Gv). given (Least logs.le a b m) (‵ (at_least logs γ m)))) (at_least_join logs 𝓛 γ a b) $
         pick ! (λ m. learn ! (λ s. drop ! $ by ! (fact_i 𝓤 _ (emp 𝓤) (uncode k l (one_in_other a b m s.0 s.1)))))

@@ -66,6 +66,11 @@ module _ {X : Type 0} where
   abbrev pub Seen : Way X → X → Type 0
   Seen way x = Fixed way 1 0 x
 
+  -- a party that reads the value reads it for good
+  abbrev pub Fixes : Way X → Type 0
+  Fixes (fixes fact) = Unit {0}
+  Fixes _ = ⊥
+
   -- which parties may have come to a new cell, and gone
   abbrev pub IsNew : {V : Type 0} → Way X → List V → Type 0
   IsNew (fixes fact) vs = Unit {0}

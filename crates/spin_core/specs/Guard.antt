@@ -27,3 +27,10 @@ module _ {T V P R K S : Type 0} where
   -- the value that comes free once the hold is spent
   abbrev pub held_value : {uses : Ghosts P V} → Held T V P R K S uses → Option T
   held_value it = it.permit.value
+
+  -- the view and the key of its party
+  abbrev pub held_view : {uses : Ghosts P V} → Held T V P R K S uses → Option V
+  held_view it = it.permit.view
+
+  abbrev pub held_key : {uses : Ghosts P V} → Held T V P R K S uses → K
+  held_key it = it.permit.key

@@ -1,9 +1,9 @@
 -- What a log and its tokens own. The entries are kept as their codes, in an algebra that names no type parameter.
-use Rattle.std.specs.Prelude.{ℕ, List, map}
+use Rattle.std.specs.Prelude.{ℕ, List, [], ◌∷◌, map}
 use base.Fraction.{full_share}
 use base.Stored.{Gv, Coded}
 use base.Growing.{Order, prefixes, latest, at_least}
-use base.Fml.{Share, Lft, Fml}
+use base.Fml.{Share, Lft, Fml, ftrue}
 use denote.Sharing.{one}
 
 abbrev pub itself : Coded Gv
@@ -24,6 +24,7 @@ log_shares c γ l = one (log_part c γ l)
 unfoldable pub log_owns : {T : Type 0} → (T → Gv) → ℕ → List T → Fml
 log_owns c γ l = latest logs full_share γ (map c l)
 
--- a lower bound
+-- a lower bound. That the log begins with nothing is known of any log, under any name
 unfoldable pub known_owns : {T : Type 0} → (T → Gv) → ℕ → List T → Fml
-known_owns c γ l = at_least logs γ (map c l)
+known_owns c γ [] = ftrue
+known_owns c γ (x ∷ l) = at_least logs γ (map c (x ∷ l))

@@ -4,11 +4,12 @@
 //! A lock says what each of its parties is to it (a *view*). Its rule says what holds of the words and of all views
 //! between any two steps. For each kind of step it owes one fact about plain data: that the step keeps this rule.
 //! Steps are methods of a permit. Each appends to the cell's trace ([`crate::trace`]), and tells it to its caller.
-ghost use Rattle.std.specs.Prelude.{◌≡◌, ◌≢◌, ℕ, List, [], Option};
+ghost use Rattle.std.specs.Prelude.{◌≡◌, ◌≢◌, ◌⊎◌, ℕ, List, [], Option};
 ghost use Rattle.std.specs.Coded.{coded_option};
-ghost use Rattle.spin_core.specs.Cell.{Ways, off, reads, writes, use_of, Opens, Frees, Seen, Rests};
+ghost use Rattle.spin_core.specs.Cell.{Ways, off, reads, writes, use_of, Opens, Fixes, Frees, Seen, Rests};
 ghost use Rattle.spin_core.specs.CellMemory.{Known, cell_owns, cell_shares, permit_owns, permit_shares, writer_owns, writer_shares};
 
+use crate::trace::{Trace, Watch};
 use std::marker::{Model, Move, Owns, PhantomData};
 use std::mem::ManuallyDrop;
 
@@ -180,6 +181,24 @@ impl<T, V, P: Rule<T, V>> Cell<T, V, P> {
     }
 }
 
+impl<T, V, E, S, P: Rule<T, V, Second = Trace<E, S>>> Cell<T, V, P> {
+    /// Returns a watch of the trace that lies behind the value. It knows nothing of it yet.
+    ///
+    /// # Contract
+    /// The caller picks its name (`name`): the one that the rule gives the trace, by the cell's key.
+    ///
+    /// # Examples
+    /// ```
+    /// Pass::new(self.cell.enter(), self.cell.watch())
+    /// ```
+    pub fn watch(&self) -> Watch<E>
+        ghost name: { ℕ }
+        ensures { (result.name ≡ name) × (result.entries ≡ []) }
+    {
+        Watch::start()
+    }
+}
+
 impl<T, V, P: Rule<T, V>> Cell<T, V, P> {
     ghost use types.Logic.{sem};
     ghost use denote.Follow.{follows};
@@ -236,6 +255,31 @@ impl<'a, T, V, P: Rule<T, V>> Permit<'a, T, V, P> {
         unsafe { &(*cell).value }
     }
 
+    /// Like [`see`](Permit::see), and returns the permit too. Only where each party that reads the value reads it for
+    /// good.
+    ///
+    /// # Examples
+    /// ```
+    /// let (slot, party) = party.show();
+    /// ```
+    pub fn show(self) -> (&'a T, Permit<'a, T, V, P>)
+        requires reads { use_of (P.ways self.key).1 self.view ≡ reads }
+        requires fixed { Fixes (P.ways self.key).0 }
+        ensures value { Some result.0.now ≡ self.entry.value }
+        ensures seen { Seen (P.ways self.entry.key).0 result.0.now }
+        ensures same { (result.1.view ≡ self.entry.view) × (result.1.value ≡ self.entry.value) }
+        ensures key { result.1.key ≡ self.entry.key }
+    {
+        let Permit { cell, marker: _ } = self;
+        (
+            unsafe { &(*cell).value },
+            Permit {
+                cell,
+                marker: PhantomData,
+            },
+        )
+    }
+
     /// Turns the permit of a party that has the value alone into the right to write it.
     ///
     /// # Examples
@@ -263,6 +307,19 @@ impl<'a, T, V, P: Rule<T, V>> Permit<'a, T, V, P> {
     /// ```
     pub fn leave(self)
         requires { Rests (P.holds self.key) (P.ways self.key).1 self.view }
+    {
+        let Permit { cell: _, marker: _ } = self;
+    }
+
+    /// Ends the permit of a party that is at rest ([`leave`](Permit::leave)), or uses the value and keeps its use for
+    /// good ([`leak`](Permit::leak)).
+    ///
+    /// # Examples
+    /// ```
+    /// party.finish();
+    /// ```
+    pub fn finish(self)
+        requires { Rests (P.holds self.key) (P.ways self.key).1 self.view ⊎ (use_of (P.ways self.key).1 self.view ≢ off) }
     {
         let Permit { cell: _, marker: _ } = self;
     }

@@ -108,7 +108,7 @@ pub struct Held<'a, T, V, P: Release<T, V>, R> {
 }
 
 impl<'a, T, V, P: Release<T, V>, R> Guard<'a, T, V, P, R> {
-    ghost use Rattle.spin_core.specs.Guard.{guard_value, held_value};
+    ghost use Rattle.spin_core.specs.Guard.{guard_value, guard_view, guard_key, held_value, held_view, held_key};
 
     /// Creates the guard of a party that acquired the lock.
     ///
@@ -155,7 +155,7 @@ impl<'a, T, V, P: Release<T, V>, R> Guard<'a, T, V, P, R> {
     /// Consumes the guard and keeps the lock held.
     ///
     /// # Contract
-    /// `held_value` of the hold is the value of the guard. The call returns.
+    /// `held_value` of the hold is the value of the guard. The hold has the guard's party (`party`). The call returns.
     ///
     /// # Examples
     /// ```
@@ -164,7 +164,8 @@ impl<'a, T, V, P: Release<T, V>, R> Guard<'a, T, V, P, R> {
     /// }
     /// ```
     pub fn hold(this: Self) -> Held<'a, T, V, P, R>
-        ensures { held_value result ≡ Some (guard_value this.entry) }
+        ensures value { held_value result ≡ Some (guard_value this.entry) }
+        ensures party { (held_view result ≡ Some (guard_view this.entry)) × (held_key result ≡ guard_key this.entry) }
     {
         Held {
             permit: Guard::into_writer(this).into_permit(),
@@ -193,6 +194,27 @@ impl<'a, T, V, P: Release<T, V>, R> Guard<'a, T, V, P, R> {
 }
 
 impl<'a, T, V, P: Release<T, V>, R> Held<'a, T, V, P, R> {
+    ghost use Rattle.spin_core.specs.Guard.{guard_value, guard_view, guard_key, held_value, held_view, held_key};
+
+    /// Turns the hold into a guard again.
+    ///
+    /// So a hold of a pass is released by that pass.
+    ///
+    /// # Contract
+    /// The guard has the hold's value and its party (`value`, `party`). The call returns.
+    ///
+    /// # Examples
+    /// ```
+    /// let held = SpinMutexGuard::hold(guard);
+    /// let mut guard = held.into_guard();
+    /// ```
+    pub fn into_guard(self) -> Guard<'a, T, V, P, R>
+        ensures value { Some (guard_value result) ≡ held_value self.entry }
+        ensures party { (Some (guard_view result) ≡ held_view self.entry) × (guard_key result ≡ held_key self.entry) }
+    {
+        Guard::new(self.into_permit().into_writer())
+    }
+
     /// Releases the lock that the hold keeps.
     ///
     /// # Contract
@@ -209,7 +231,8 @@ impl<'a, T, V, P: Release<T, V>, R> Held<'a, T, V, P, R> {
     }
 
     fn into_permit(self) -> Permit<'a, T, V, P>
-        ensures { use_of (P.ways result.key).1 result.view ≡ writes }
+        ensures writes { use_of (P.ways result.key).1 result.view ≡ writes }
+        ensures same { result ≡ self.entry.permit }
     {
         let Self {
             permit,

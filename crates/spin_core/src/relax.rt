@@ -207,9 +207,9 @@ impl RelaxStrategy for Loop {
 ///
 /// # Examples
 /// ```
+/// let start = (trace.watch(), first);
 /// TicketMutex {
 ///     cell: Cell::new(value, first, trace, &start),
-///     start: start.0,
 ///     strategy: Strategy::named(),
 /// }
 /// ```
@@ -223,9 +223,9 @@ impl<R> Strategy<R> {
     ///
     /// # Examples
     /// ```
+    /// let start = (trace.watch(), first);
     /// TicketMutex {
     ///     cell: Cell::new(value, first, trace, &start),
-    ///     start: start.0,
     ///     strategy: Strategy::named(),
     /// }
     /// ```

@@ -98,6 +98,16 @@ impl<E> Watch<E> {
         trace.watch()
     }
 
+    // Knows nothing of a trace, under any name.
+    pub(crate) fn start() -> Watch<E>
+        ghost name: { ℕ }
+        ensures { (result.name ≡ name) × (result.entries ≡ []) }
+    {
+        Watch {
+            marker: PhantomData,
+        }
+    }
+
     /// Returns a watch that knows the same.
     ///
     /// # Examples

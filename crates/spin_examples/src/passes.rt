@@ -1,11 +1,11 @@
 //! What two threads with a pass each know of their calls of one lock.
 ghost use Rattle.std.specs.Prelude.{◌≡◌, ◌⊎◌};
 ghost use mathlib.Core.List.{IsPrefix};
-ghost use Rattle.spin.specs.Passes.{history, lock_of, Looked, HeldOnce};
+ghost use Rattle.spin.specs.Passes.{history, lock_of, name_of, Looked, HeldOnce};
 
 use spin::Spin;
-use spin::mutex::SpinMutex;
 use spin::mutex::spin::Pass;
+use spin::mutex::{SpinMutex, SpinMutexGuard};
 use std::sync::Wait;
 use std::thread::{Threads, join};
 
@@ -16,6 +16,17 @@ fn count<'a, W: Wait>(rt: &W, pass: Pass<'a, u64, Spin>) -> Pass<'a, u64, Spin>
 {
     let (mut guard, seen) = pass.lock(rt);
     *guard = guard.saturating_add(1);
+    SpinMutex::unlock(guard, seen)
+}
+
+/// Doubles the value, by a hold in place of the guard. The release is the pass's next call.
+pub fn double_by_a_hold<'a, W: Wait>(rt: &W, pass: Pass<'a, u64, Spin>) -> Pass<'a, u64, Spin>
+    ensures lock { lock_of result ≡ lock_of pass.entry }
+{
+    let (guard, seen) = pass.lock(rt);
+    let held = SpinMutexGuard::hold(guard);
+    let mut guard = held.into_guard();
+    *guard = guard.saturating_mul(2);
     SpinMutex::unlock(guard, seen)
 }
 
@@ -49,13 +60,13 @@ pub fn count_beside_look<'a, W: Threads + Wait + Sync>(
     let both = join(
         rt,
         || -> Pass<'_, u64, Spin>
-            ensures { lock_of result ≡ lock.entry.now.start.name }
+            ensures { lock_of result ≡ name_of lock.entry.now }
         {
             let pass = lock.pass();
             count(rt, pass)
         },
         || -> (bool, Pass<'_, u64, Spin>)
-            ensures { lock_of result.1 ≡ lock.entry.now.start.name }
+            ensures { lock_of result.1 ≡ name_of lock.entry.now }
         { look(lock.pass()) },
     );
     both.0.compare(&both.1.1);

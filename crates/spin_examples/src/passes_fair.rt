@@ -1,7 +1,7 @@
 //! What three threads with a pass each know of their calls of one `FairMutex`.
 ghost use Rattle.std.specs.Prelude.{◌≡◌, ◌⊎◌};
 ghost use mathlib.Core.List.{IsPrefix};
-ghost use Rattle.spin.specs.FairPasses.{history, lock_of, starving_lock_of, Looked, HeldOnce, ServedOnce};
+ghost use Rattle.spin.specs.FairPasses.{history, lock_of, name_of, starving_lock_of, Looked, HeldOnce, ServedOnce};
 
 use spin::Spin;
 use spin::mutex::FairMutex;
@@ -40,7 +40,7 @@ fn count_served<'a, W: Wait>(rt: &W, starving: StarvingPass<'a, u64, Spin>) -> P
 
 /// Adds one as a starver. Does nothing where too many starve.
 fn count_starving<'a, W: Wait>(rt: &W, lock: &'a FairMutex<u64>) -> Pass<'a, u64, Spin>
-    ensures { lock_of result ≡ lock.now.start.name }
+    ensures { lock_of result ≡ name_of lock.now }
 {
     match lock.pass().starve(rt) {
         Ok(starving) => count_served(rt, starving),
@@ -96,18 +96,18 @@ pub fn count_by_three<'a, W: Threads + Wait + Sync>(
     let all = join(
         rt,
         || -> Pass<'_, u64, Spin>
-            ensures lock { lock_of result ≡ lock.entry.now.start.name }
+            ensures lock { lock_of result ≡ name_of lock.entry.now }
         { count(rt, lock.pass()) },
         || -> (Pass<'_, u64, Spin>, Pass<'_, u64, Spin>)
-            ensures lock { (lock_of result.0 ≡ lock.entry.now.start.name) × (lock_of result.1 ≡ lock.entry.now.start.name) }
+            ensures lock { (lock_of result.0 ≡ name_of lock.entry.now) × (lock_of result.1 ≡ name_of lock.entry.now) }
         {
             join(
                 rt,
                 || -> Pass<'_, u64, Spin>
-                    ensures lock { lock_of result ≡ lock.entry.now.start.name }
+                    ensures lock { lock_of result ≡ name_of lock.entry.now }
                 { count(rt, lock.pass()) },
                 || -> Pass<'_, u64, Spin>
-                    ensures lock { lock_of result ≡ lock.entry.now.start.name }
+                    ensures lock { lock_of result ≡ name_of lock.entry.now }
                 { count_starving(rt, lock) },
             )
         },

@@ -5,6 +5,7 @@ use Rattle.spin_model.specs.declared.answer.Answer.TheVariants.{Granted, Is}
 use Rattle.spin_model.specs.declared.answer.Answer.TheVariants as answer
 use Rattle.spin_step_more.specs.declared.fair_calls.FairCall.TheVariants.{Lock, IsLocked, StarverLock, Release}
 use Rattle.spin_fair.specs.Fair.{Done, Called}
+use Rattle.spin_fair.specs.declared.fair.FairMutex.{FairMutex}
 use Rattle.spin_fair.specs.declared.fair.pass.Pass.{Pass}
 use Rattle.spin_fair.specs.declared.fair.rule.View.{View}
 use Rattle.spin_fair.specs.declared.fair.starving.StarvingPass.{StarvingPass}
@@ -14,7 +15,10 @@ module _ {T R : Type 0} where
   abbrev pub history : Pass T R → List Done
   history it = it.account.seen.entries
 
-  -- the name of the lock's history
+  -- the name of the history of a lock, and of the lock of a pass
+  abbrev pub name_of : FairMutex T R → ℕ
+  name_of lock = lock.cell.name
+
   abbrev pub lock_of : Pass T R → ℕ
   lock_of it = it.account.seen.name
 

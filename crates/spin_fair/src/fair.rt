@@ -11,7 +11,7 @@ use spin_core::cell::Cell;
 use spin_core::guard::{self, Guard};
 use spin_core::lock::{Lock, with_guard};
 use spin_core::relax::{MAX_HINTS, RelaxStrategy, Spin, Strategy};
-use spin_core::trace::{Trace, Watch};
+use spin_core::trace::Trace;
 use spin_step_more::fair;
 use std::sync::Wait;
 
@@ -59,11 +59,7 @@ pub const STARVATION_SPINS: usize = 1024;
 #[derive(Drop)]
 pub struct FairMutex<T, R = Spin> {
     cell: Cell<T, Party, FairRule>,
-    // What is known of the lock's history from the start: its name. It has no byte.
-    start: Watch<Entry>,
     strategy: Strategy<R>,
-    ghost named: { cell.name ≡ start.name },
-    ghost empty: { start.entries ≡ [] },
 }
 
 /// The guard of a [`FairMutex`]. Dropping it releases the lock, and leaves the starvers registered.
@@ -116,7 +112,6 @@ impl<T, R> FairMutex<T, R> {
         let start = trace.watch();
         FairMutex {
             cell: Cell::new(value, 0, trace, &start),
-            start,
             strategy: Strategy::named(),
         }
     }
@@ -140,11 +135,11 @@ impl<T, R> FairMutex<T, R> {
 
     // Returns a party that has taken no step.
     pub(crate) fn account(&self) -> Account<'_, T>
-        ensures { (result.permit.view ≡ None) × (result.seen.name ≡ self.now.start.name) × (result.seen.entries ≡ []) }
+        ensures { (result.permit.view ≡ None) × (result.seen.name ≡ self.now.cell.name) × (result.seen.entries ≡ []) }
     {
         Account {
             permit: self.cell.enter(),
-            seen: self.start.copy(),
+            seen: self.cell.watch(),
         }
     }
 }

@@ -5,6 +5,7 @@ use Rattle.spin_model.specs.declared.answer.Answer.TheVariants.{Granted, Is}
 use Rattle.spin_model.specs.declared.answer.Answer.TheVariants as answer
 use Rattle.spin_model.specs.declared.flag.FlagCall.TheVariants.{Lock, IsLocked, Release}
 use Rattle.spin_flag.specs.Flag.{Done, Called}
+use Rattle.spin_flag.specs.declared.spin.SpinMutex.{SpinMutex}
 use Rattle.spin_flag.specs.declared.spin.pass.Pass.{Pass}
 use Rattle.spin_flag.specs.declared.spin.rule.View.{View}
 
@@ -13,7 +14,10 @@ module _ {T R : Type 0} where
   abbrev pub history : Pass T R → List Done
   history it = it.seen.entries
 
-  -- the name of the lock's history
+  -- the name of the history of a lock, and of the lock of a pass
+  abbrev pub name_of : SpinMutex T R → ℕ
+  name_of lock = lock.cell.name
+
   abbrev pub lock_of : Pass T R → ℕ
   lock_of it = it.seen.name
 

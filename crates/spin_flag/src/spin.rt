@@ -1,5 +1,5 @@
 //! A spinning mutex of one flag, which the thread that finds it clear sets. Begin at [`SpinMutex::lock`].
-ghost use Rattle.std.specs.Prelude.{◌≡◌, Option, Some, IfSome, []};
+ghost use Rattle.std.specs.Prelude.{◌≡◌, Option, Some, IfSome};
 ghost use Rattle.std.specs.Fmt.{DisplaysOnOk};
 ghost use Rattle.spin_core.specs.Guard.{IsHolder};
 ghost use Rattle.spin_core.specs.Texts.{lock_text};
@@ -12,7 +12,7 @@ use spin_core::guard::{self, Guard};
 use spin_core::lock::{Lock, with_guard};
 use spin_core::relax::{RelaxStrategy, Spin, Strategy};
 use spin_core::texts::write_lock;
-use spin_core::trace::{Trace, Watch};
+use spin_core::trace::Trace;
 use std::fmt;
 use std::fmt::{Debug, Formatter};
 use std::sync::Wait;
@@ -42,11 +42,7 @@ pub use self::rule::{Entry, FlagRule, Party, View};
 #[derive(Drop)]
 pub struct SpinMutex<T, R = Spin> {
     cell: Cell<T, Party, FlagRule>,
-    // What is known of the lock's history from the start: its name. It has no byte.
-    start: Watch<Entry>,
     strategy: Strategy<R>,
-    ghost named: { cell.name ≡ start.name },
-    ghost empty: { start.entries ≡ [] },
 }
 
 /// The guard of a [`SpinMutex`]. Dropping it releases the lock.
@@ -103,7 +99,6 @@ impl<T, R> SpinMutex<T, R> {
         let start = trace.watch();
         SpinMutex {
             cell: Cell::new(value, word(false), trace, &start),
-            start,
             strategy: Strategy::named(),
         }
     }
@@ -146,7 +141,7 @@ impl<T, R: RelaxStrategy> SpinMutex<T, R> {
         ensures { IsHolder use_of_party result }
     {
         // As `Pass::lock`: through it, the path of a free lock would be two instructions longer.
-        let Grant { writer, seen: _ } = match try_with(self.cell.enter(), self.start.copy()) {
+        let Grant { writer, seen: _ } = match try_with(self.cell.enter(), self.cell.watch()) {
             Ok(grant) => grant,
             Err(waiting) => R::back_off(rt, waiting, Waiting::look_and_try),
         };

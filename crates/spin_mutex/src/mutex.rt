@@ -1,6 +1,7 @@
 //! `Mutex`, over the contract of an inner lock alone, and beside it three mutexes by their own names. Begin at
 //! [`Mutex::lock`].
-ghost use Rattle.std.specs.Prelude.{◌≡◌, Some, IfSome};
+ghost use Rattle.std.specs.Prelude.{◌≡◌, Some, None, [], IfSome};
+ghost use Rattle.spin_ticket.specs.TicketPasses.{history, party, lock_of, first_of, name_of, first_ticket};
 ghost use Rattle.spin_mutex.specs.MutexGuard.{value_of, holds, held_value};
 
 use spin_core::lock::{Lock, with_guard};
@@ -89,6 +90,26 @@ pub struct MutexGuard<'a, T, R = Spin> {
 #[must_use = "dropping a hold does not release the lock: pass it to `force_unlock`"]
 pub struct Held<'a, T, R = Spin> {
     inner: ticket::Held<'a, T, R>,
+}
+
+impl<'a, T, R> Held<'a, T, R> {
+    /// Turns the hold into a guard again.
+    ///
+    /// # Contract
+    /// The guard has the hold's value. The call returns.
+    ///
+    /// # Examples
+    /// ```
+    /// drop(held.into_guard());
+    /// ```
+    pub fn into_guard(self) -> MutexGuard<'a, T, R>
+        ensures { Some (value_of result) ≡ held_value self.entry }
+    {
+        MutexGuard {
+            inner: self.inner.into_guard(),
+            life: PhantomData,
+        }
+    }
 }
 
 impl<T, R> Mutex<T, R> {
@@ -188,6 +209,24 @@ impl<T, R> Mutex<T, R> {
     /// ```
     pub fn is_locked(&self) -> bool {
         self.inner.is_locked()
+    }
+
+    /// Returns a pass that has made no call. It makes no operation on the lock.
+    ///
+    /// Its calls are those of the queue of tickets that this mutex is: a guard of a pass is a [`TicketMutexGuard`].
+    ///
+    /// # Contract
+    /// The pass is of this mutex (`lock`), and knows nothing of its history yet (`new`).
+    ///
+    /// # Examples
+    /// ```
+    /// let (first, (second, third)) = count_by_three(&rt, lock.pass(), lock.pass(), lock.pass());
+    /// ```
+    pub fn pass(&self) -> ticket::Pass<'_, T, R>
+        ensures new { (history result ≡ []) × (party result ≡ None) }
+        ensures lock { (lock_of result ≡ name_of self.now.inner) × (first_of result ≡ first_ticket self.now.inner) }
+    {
+        self.inner.pass()
     }
 
     /// Releases the lock that the hold keeps.

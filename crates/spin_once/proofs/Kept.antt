@@ -1,17 +1,15 @@
 -- Each step keeps the rule of a value that is made once, and appends its moves.
-use Rattle.std.proofs.Common.{◌≡◌, ◌≢◌, Bool, true, ℕ, zero, suc, ◌+◌, replicate, ◌==◌, ◌<◌, List, [], ◌∷◌, map, Option, Some, None, refl, sym, ap, subst, arith, ◌∙◌, if◌then◌else◌, ne_eqb}
-use mathlib.Core.Logic.{inl}
+use Rattle.std.proofs.Common.{◌≡◌, Bool, true, ℕ, zero, suc, ◌+◌, replicate, ◌==◌, ◌<◌, [], ◌∷◌, map, Option, Some, None, refl, sym, ap, subst, arith}
 use prog.Atomic.{either}
 use Rattle.core.specs.declared.snapshot.Snapshot.{Snapshot}
 use Rattle.spin_step.specs.Plain.{Plain, gets, completes, fails, to_begin, once_word}
 use Rattle.spin_step.specs.Steps.{Decides, Gives}
-use Rattle.spin_core.specs.Cell.{off, use_of, alone, Fixed, Opens, Rests, Moved, readers_of, writers_of}
+use Rattle.spin_core.specs.Cell.{off, use_of, alone, Fixed, Opens, Rests, readers_of, writers_of}
 use Rattle.spin_core.specs.Own.{Numbered, what, IsRun}
 use Rattle.spin_core.specs.Stable.{maybe_stable, StableAt}
-use Rattle.spin_core.specs.Traced.{Traces, Watches}
+use Rattle.spin_core.specs.Traced.{Traces}
 use Rattle.spin_core.specs.declared.cell.stable.MaybeStable.{MaybeStable}
 use Rattle.spin_core.specs.declared.trace.Trace.{Trace}
-use Rattle.spin_core.specs.declared.trace.Watch.{Watch}
 use Rattle.spin_core.proofs.Ties as tie
 use Rattle.spin_model.specs.declared.once.OnceCall.{OnceCall}
 use Rattle.spin_model.specs.declared.once.OnceCall.TheVariants.{Wait, Poll}
@@ -19,7 +17,7 @@ use Rattle.spin_model.specs.declared.once.OncePoint.TheVariants.{Look, TryBegin,
 use Rattle.spin_model.specs.declared.place.Seat.TheVariants as seat
 use Rattle.spin_model.specs.Schedules.{State}
 use Rattle.spin_once.specs.Model.{Point, model}
-use Rattle.spin_once.specs.Once.{use_of_view, use_of_party, runs, Word, is_done, IsMadeFrom, once_ways, seat_of, words_of, OneMove, Ending, Made, IsOnce, Told, finds, gets_by, completes_by, comes_by, leads_by, trying, running, call_of, begun, looked, waited, polled, may_begin, may_look, may_wait, may_poll, is_running}
+use Rattle.spin_once.specs.Once.{use_of_view, use_of_party, runs, Word, is_done, IsMadeFrom, once_ways, seat_of, words_of, Says, Made, IsOnce, Told, finds, is_out, at_rest, gets_by, completes_by, comes_by, begins_by, looks_by, waits_by, polls_by, ends_by, fails_by, trying, running, call_of, begun, looked, waited, polled, may_begin, may_look, may_wait, may_poll, is_running}
 use Rattle.spin_once.specs.declared.once_core.rule.View.{View}
 use Rattle.spin_once.specs.declared.once_core.rule.View.TheVariants.{Idle, Reading, InCall}
 use Rattle.spin_once.specs.declared.once_core.rule.Stage.{Stage}
@@ -37,16 +35,6 @@ unused_where_it_looks : (view : Option View) → may_look view ≡ true → use_
 unused_where_it_looks (Some (InCall c Await)) may = refl
 unused_where_it_looks _ may = absurd (cc (may))
 
-unused_where_it_waits : (view : Option View) → may_wait view ≡ true → use_of use_of_view view ≡ off
-unused_where_it_waits None may = refl
-unused_where_it_waits (Some (InCall Wait Look)) may = refl
-unused_where_it_waits _ may = absurd (cc (may))
-
-unused_where_it_polls : (view : Option View) → may_poll view ≡ true → use_of use_of_view view ≡ off
-unused_where_it_polls None may = refl
-unused_where_it_polls (Some (InCall Poll Look)) may = refl
-unused_where_it_polls _ may = absurd (cc (may))
-
 -- where it runs it is in a call
 call_that_runs : (v : View) → is_running v ≡ true → v ≡ InCall (call_of (Some v)) Run
 call_that_runs (InCall c Run) may = refl
@@ -56,51 +44,72 @@ module _ {T S : Type 0} (makes : S → T → Type 0) (seed : Snapshot S) (given 
   abbrev Content : Type 0
   Content = MaybeStable (Stage T S)
 
-  abbrev Keeps : Option (Numbered View) → Option Content → (ℕ → ℕ) → (List OneMove → List Ending → ℕ → View → Type 0) → Type 0
-  Keeps view shown f says = Traces (IsOnce given name) (once_ways makes seed) view shown f (Told says view)
+  abbrev Keeps : Option (Numbered View) → Option Content → (ℕ → ℕ) → Says → Type 0
+  Keeps view shown f says = Traces (IsOnce given name) (once_ways makes seed) view shown f (Told given says view)
 
-  keeps : (view : Option (Numbered View)) (shown : Option Content) (f : ℕ → ℕ) (leads : ℕ → View → Type 0) (says : List OneMove → List Ending → ℕ → View → Type 0)
+  keeps : (view : Option (Numbered View)) (shown : Option Content) (f : ℕ → ℕ) (leads : ℕ → View → Type 0) (says : Says)
       → Moves given (what view) f leads says → steps.Allowed makes seed (what view) shown f leads → Keeps view shown f says
-  keeps view shown f leads says moves allows id n t vs meets at small =
-      let r = tie.traces (model given) seat_of words_of Word name Content (steps.way makes seed) use_of_view view shown f leads says moves allows id n t vs meets at small in (r.0, r.1, r.2, (given, r.3))
+  keeps view shown f leads says moves allows = tie.traces (model given) seat_of words_of Word name Content (steps.way makes seed) use_of_view view shown f leads says moves allows
 
-  pub gets_value : Keeps None None (λ n. n) gets_by
-  gets_value = keeps None None (λ n. n) (ComesTo (finds Idle)) gets_by (get_moves given) (steps.looks makes seed None None (finds Idle) refl (finds_leads Idle refl))
+  module _ (view : Option (Numbered View)) (shown : Option Content) where
+    abbrev was : Option View
+    was = what view
 
-  pub looks_complete : Keeps None None (λ n. n) completes_by
-  looks_complete = keeps None None (λ n. n) (ComesTo (λ n. Idle)) completes_by (completed_moves given) (steps.looks makes seed None None (λ n. Idle) refl (λ n r w has. inl refl))
+    abbrev c : OnceCall (Unit {0})
+    c = call_of was
 
-  pub comes : (may_fail : Bool) → Keeps None None (λ n. n) (comes_by may_fail)
-  comes may_fail = keeps None None (λ n. n) (ComesTo (finds (trying may_fail))) (comes_by may_fail) (come_moves given may_fail) (steps.looks makes seed None None (finds (trying may_fail)) refl (finds_leads (trying may_fail) refl))
+    -- a look, with its moves
+    looks_by_moves : (to : ℕ → View) (says : Says) → Moves given was (λ n. n) (ComesTo was to) says → steps.Allowed makes seed was shown (λ n. n) (ComesTo was to) → Keeps view shown (λ n. n) says
+    looks_by_moves to says = keeps view shown (λ n. n) (ComesTo was to) says
 
-  pub begins : (view : Option (Numbered View)) (shown : Option Content) → may_begin (what view) ≡ true → (new : ℕ) → new ≡ 1 → ((s : Plain) (p : ℕ) → once_word s ≡ 0 → Decides s (gets p to_begin) once_word (Some new))
-      → Keeps view shown (λ n. either (n == 0) new n) (leads_by (begun (call_of (what view))))
-  begins view shown may new one decides =
-      let c = call_of (what view) in
-      keeps view shown (λ n. either (n == 0) new n) (ComesTo (begun c)) (leads_by (begun c)) (rw one (begin_moves given (what view) may)) (steps.begins makes seed (what view) shown c (unused_where_it_begins (what view) may) new decides)
+    pub gets_value : is_out was ≡ true → Keeps view shown (λ n. n) gets_by
+    gets_value out = looks_by_moves (finds Idle) gets_by (get_moves given was out) (steps.looks_out makes seed was out shown (finds Idle) (finds_leads Idle refl) refl)
 
-  pub looks : (view : Option (Numbered View)) (shown : Option Content) → may_look (what view) ≡ true → Keeps view shown (λ n. n) (leads_by (looked (call_of (what view))))
-  looks view shown may =
-      let c = call_of (what view) in
-      keeps view shown (λ n. n) (ComesTo (looked c)) (leads_by (looked c)) (look_moves given (what view) may) (steps.looks makes seed (what view) shown (looked c) (unused_where_it_looks (what view) may) (looked_leads c))
+    pub looks_complete : is_out was ≡ true → Keeps view shown (λ n. n) (completes_by was)
+    looks_complete out = looks_by_moves (λ n. at_rest was) (completes_by was) (completed_moves given was out) (steps.completes_out makes seed was out shown)
 
-  pub waits : (view : Option (Numbered View)) (shown : Option Content) → may_wait (what view) ≡ true → Keeps view shown (λ n. n) (leads_by waited)
-  waits view shown may = keeps view shown (λ n. n) (ComesTo waited) (leads_by waited) (wait_moves given (what view) may) (steps.looks makes seed (what view) shown waited (unused_where_it_waits (what view) may) (finds_leads _ refl))
+    pub comes : is_out was ≡ true → (may_fail : Bool) → Keeps view shown (λ n. n) (comes_by may_fail)
+    comes out may_fail =
+        let to = finds (trying may_fail) in looks_by_moves to (comes_by may_fail) (come_moves given was out may_fail) (steps.looks_out makes seed was out shown to (finds_leads (trying may_fail) refl) refl)
 
-  pub polls : (view : Option (Numbered View)) (shown : Option Content) → may_poll (what view) ≡ true → Keeps view shown (λ n. n) (leads_by polled)
-  polls view shown may = keeps view shown (λ n. n) (ComesTo polled) (leads_by polled) (poll_moves given (what view) may) (steps.looks makes seed (what view) shown polled (unused_where_it_polls (what view) may) polled_leads)
+    pub begins : may_begin was ≡ true → (new : ℕ) → new ≡ 1 → ((s : Plain) (p : ℕ) → once_word s ≡ 0 → Decides s (gets p to_begin) once_word (Some new)) → Keeps view shown (λ n. either (n == 0) new n) (begins_by c)
+    begins may new one decides =
+        keeps view shown (λ n. either (n == 0) new n) (ComesTo was (begun c)) (begins_by c) (rw one (begin_moves given was may)) (steps.begins makes seed was shown c (unused_where_it_begins was may) new decides)
+
+    pub looks : may_look was ≡ true → Keeps view shown (λ n. n) (looks_by c)
+    looks may = looks_by_moves (looked c) (looks_by c) (look_moves given was may) (steps.looks makes seed was shown (looked c) (unused_where_it_looks was may) (looked_leads c))
+
+    pub waits : may_wait was ≡ true → Keeps view shown (λ n. n) (waits_by was)
+    waits may = looks_by_moves waited (waits_by was) (wait_moves given was may) (at was may)
+      where
+        at : (v : Option View) → may_wait v ≡ true → steps.Allowed makes seed v shown (λ n. n) (ComesTo v waited)
+        at (Some (InCall Wait Look)) may = steps.looks makes seed (Some (InCall Wait Look)) shown waited refl (finds_leads _ refl)
+        at None may = steps.looks_out makes seed None refl shown waited (finds_leads _ refl) refl
+        at (Some Idle) may = steps.looks_out makes seed (Some Idle) refl shown waited (finds_leads _ refl) refl
+        at (Some Reading) may = steps.looks_out makes seed (Some Reading) refl shown waited (finds_leads _ refl) refl
+        at (Some _) may = absurd (cc (may))
+
+    pub polls : may_poll was ≡ true → Keeps view shown (λ n. n) (polls_by was)
+    polls may = looks_by_moves polled (polls_by was) (poll_moves given was may) (at was may)
+      where
+        at : (v : Option View) → may_poll v ≡ true → steps.Allowed makes seed v shown (λ n. n) (ComesTo v polled)
+        at (Some (InCall Poll Look)) may = steps.looks makes seed (Some (InCall Poll Look)) shown polled refl polled_leads
+        at None may = steps.looks_out makes seed None refl shown polled polled_leads refl
+        at (Some Idle) may = steps.looks_out makes seed (Some Idle) refl shown polled polled_leads refl
+        at (Some Reading) may = steps.looks_out makes seed (Some Reading) refl shown polled polled_leads refl
+        at (Some _) may = absurd (cc (may))
 
   pub ends : (v : Numbered View) → is_running v.0 ≡ true → (new : ℕ) (value : T) → new ≡ 2 → ((s : Plain) (p : ℕ) → once_word s ≡ 1 → Gives s (completes p) once_word new) → makes seed.value value
-      → Keeps (Some v) (Some (maybe_stable (Done value))) (λ _. new) (leads_by (λ n. Reading))
+      → Keeps (Some v) (Some (maybe_stable (Done value))) (λ _. new) (ends_by (call_of (Some v.0)))
   ends v runs new value two gives made =
       let c = call_of (Some v.0) in
-      keeps (Some v) (Some (maybe_stable (Done value))) (λ _. new) (λ _ w. w ≡ Reading) (leads_by (λ n. Reading)) (rw two (end_moves given v.0 runs))
+      keeps (Some v) (Some (maybe_stable (Done value))) (λ _. new) (λ _ w. w ≡ Reading) (ends_by c) (rw two (end_moves given v.0 runs))
       (subst (λ x. steps.Allowed makes seed (Some x) (Some (maybe_stable (Done value))) (λ _. new) (λ _ w. w ≡ Reading)) (sym (call_that_runs v.0 runs)) (steps.ends makes seed c new value gives made))
 
   pub gives_up : (v : Numbered View) → v.0 ≡ running true → (new : ℕ) (it : S) → new ≡ 0 → ((s : Plain) (p : ℕ) → once_word s ≡ 1 → Gives s (fails p) once_word new) → it ≡ seed.value
-      → Keeps (Some v) (Some (maybe_stable (Seed it))) (λ _. new) (leads_by (λ n. Idle))
+      → Keeps (Some v) (Some (maybe_stable (Seed it))) (λ _. new) fails_by
   gives_up v runs new it none gives same =
-      keeps (Some v) (Some (maybe_stable (Seed it))) (λ _. new) (λ _ w. w ≡ Idle) (leads_by (λ n. Idle)) (rw (none, runs) (fail_moves given)) (rw runs (steps.gives_up makes seed (call_of (Some (running true))) new it gives same))
+      keeps (Some v) (Some (maybe_stable (Seed it))) (λ _. new) (λ _ w. w ≡ Idle) fails_by (rw (none, runs) (fail_moves given)) (rw runs (steps.gives_up makes seed (call_of (Some (running true))) new it gives same))
 
   -- ---- a new cell
   pub starts : (t : Trace Made (Unit {0})) → t.name ≡ name → t.entries ≡ [] → given ≡ None → (it : S) → it ≡ seed.value → Opens (IsOnce given name) (once_ways makes seed) 0 t (maybe_stable (Seed it))
@@ -144,16 +153,3 @@ module _ {T S : Type 0} (makes : S → T → Type 0) (seed : Snapshot S) (given 
 module _ (given : Option (Unit {0})) (name : ℕ) where
   pub idle_rests : (v : Numbered View) → v.0 ≡ Idle → Rests (IsOnce given name) use_of_party (Some v)
   idle_rests v is = tie.rests (model given) seat_of words_of Word name (Unit {0}) alone use_of_view v (ap seat_of is) (rw is steps.idle_rests)
-
-  module _ (named : Type 0) (before : Option (Numbered View)) (known now : Watch Made) (found : ℕ) where
-    pub got_rests : (view : Option (Numbered View)) → found ≢ 2 → Moved (Watches named known now (Told gets_by before) found) view → Rests (IsOnce given name) use_of_party view
-    got_rests None other moved = absurd moved
-    got_rests (Some v) other moved = idle_rests v (moved.1.4.1.6.0 ∙ ap (λ b. if b then Reading else Idle) (ne_eqb found 2 other))
-
-    pub polled_rests : (view : Option (Numbered View)) → found ≡ 0 → Moved (Watches named known now (Told (leads_by polled) before) found) view → Rests (IsOnce given name) use_of_party view
-    polled_rests None none moved = absurd moved
-    polled_rests (Some v) none moved = idle_rests v (moved.1.4.1.6 ∙ ap polled none)
-
-    pub failed_rests : (view : Option (Numbered View)) → Moved (Watches named known now (λ log es n. Told (leads_by (λ _. Idle)) before log es 0) found) view → Rests (IsOnce given name) use_of_party view
-    failed_rests None moved = absurd moved
-    failed_rests (Some v) moved = idle_rests v moved.1.4.1.6

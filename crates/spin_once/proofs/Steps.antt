@@ -1,5 +1,5 @@
 -- The steps of a value that is made once keep its rule: each is the plain step that its step function makes, and moves of the model.
-use Rattle.std.proofs.Common.{◌≡◌, ℕ, zero, suc, ◌+◌, ◌==◌, ◌<◌, List, [], ◌∷◌, ◌++◌, Option, Some, None, refl, sym, ap, subst, arith, ◌∙◌, eq-eqb}
+use Rattle.std.proofs.Common.{◌≡◌, true, ℕ, zero, suc, ◌+◌, ◌==◌, ◌<◌, List, [], ◌∷◌, ◌++◌, Option, Some, None, refl, sym, ap, subst, arith, ◌∙◌, eq-eqb}
 use mathlib.Core.Logic.{◌⊎◌, inl, inr}
 use mathlib.Core.Option.{some}
 use lib.ListN.{get_elem?}
@@ -14,7 +14,7 @@ use Rattle.spin_core.specs.declared.cell.stable.MaybeStable.{MaybeStable}
 use Rattle.spin_core.proofs.CellCounts.{moves, without}
 use Rattle.spin_model.specs.declared.once.OnceCall.{OnceCall}
 use Rattle.spin_model.specs.declared.once.OncePoint.TheVariants.{Run}
-use Rattle.spin_once.specs.Once.{use_of_view, readers, runs, IsPhaseOf, in_phase, Word, once_ways, finds, begun, looked, polled}
+use Rattle.spin_once.specs.Once.{use_of_view, readers, runs, IsPhaseOf, in_phase, Word, once_ways, finds, is_out, at_rest, begun, looked, polled}
 use Rattle.spin_once.specs.declared.once_core.rule.View.{View}
 use Rattle.spin_once.specs.declared.once_core.rule.View.TheVariants.{Idle, Reading, InCall}
 use Rattle.spin_once.specs.declared.once_core.rule.Stage.{Stage}
@@ -83,9 +83,27 @@ polled_leads (suc zero) r w has = inl refl
 polled_leads (suc (suc zero)) r w has = inr (refl, refl)
 polled_leads (suc (suc (suc n))) r w has = absurd has
 
--- the party comes to this view by the number found, which is one of three
-abbrev pub ComesTo : (ℕ → View) → ℕ → View → Type 0
-ComesTo to n v = (v ≡ to n) × (n < 3)
+-- a party that reads finds the value, and others one of three numbers
+abbrev pub Finds : Option View → ℕ → Type 0
+Finds (Some Reading) n = n ≡ 2
+Finds _ n = n < 3
+
+-- the party comes to this view by the number found
+abbrev pub ComesTo : Option View → (ℕ → View) → ℕ → View → Type 0
+ComesTo view to n v = (v ≡ to n) × Finds view n
+
+few_where_off : (view : Option View) → use_of use_of_view view ≡ off → (n : ℕ) → n < 3 → Finds view n
+few_where_off None none n few = few
+few_where_off (Some Idle) none n few = few
+few_where_off (Some Reading) none n few = absurd (let d : reads ≡ off = none in cc)
+few_where_off (Some (InCall c l)) none n few = few
+
+-- where one reads there is the value
+read_at : (n r w : ℕ) → Numbers n r w → 0 < r → n ≡ 2
+read_at zero r w has few = absurd (omega (arith, has, few))
+read_at (suc zero) r w has few = absurd (omega (arith, has, few))
+read_at (suc (suc zero)) r w has few = refl
+read_at (suc (suc (suc n))) r w has few = absurd has
 
 module _ {T S : Type 0} (makes : S → T → Type 0) (seed : Snapshot S) where
   abbrev Content : Type 0
@@ -122,22 +140,44 @@ module _ {T S : Type 0} (makes : S → T → Type 0) (seed : Snapshot S) where
   by_use writes shown n m us r w has see run (inr other) e = absurd (let d : writes ≡ reads = other.0 in cc)
 
   stays : (view : Option View) (shown : Option Content) (to : ℕ → View) → use_of use_of_view view ≡ off → (id n : ℕ) (m : Unit {0}) (vs : List View) → Meets Word plain_ways n m vs → Stands id view vs → (use_of_view (to n) ≡ off) ⊎ ((use_of_view (to n) ≡ reads) × (n ≡ 2))
-      → (w : View) × Going way (use_of use_of_view view) (use_of_view w) shown (readers vs) (Meets Word plain_ways n m (after id view vs w)) × ComesTo to n w
+      → (w : View) × Going way (use_of use_of_view view) (use_of_view w) shown (readers vs) (Meets Word plain_ways n m (after id view vs w)) × ComesTo view to n w
   stays view shown to none id n m vs has at how =
       let known = numbers n m vs has.0 in let us = after id view vs (to n) in
       let see = sym (ap (λ u. readers us + reading u) none) ∙ see_after id view vs (to n) at in
       let run = sym (ap (λ u. runs us + writing u) none) ∙ run_after id view vs (to n) at in (
         to n,
         subst (λ u. Going way u (use_of_view (to n)) shown (readers vs) (Meets Word plain_ways n m us)) (sym none) (by_use (use_of_view (to n)) shown n m us (readers vs) (runs vs) known see run how has.0.3),
-        (refl, few_words n (readers vs) (runs vs) known),
+        (refl, few_where_off view none n (few_words n (readers vs) (runs vs) known)),
       )
 
-  pub looks : (view : Option View) (shown : Option Content) (to : ℕ → View) → use_of use_of_view view ≡ off → Leads to → Allowed view shown (λ n. n) (ComesTo to)
+  pub looks : (view : Option View) (shown : Option Content) (to : ℕ → View) → use_of use_of_view view ≡ off → Leads to → Allowed view shown (λ n. n) (ComesTo view to)
   looks view shown to none leads id n m vs has at small = stays view shown to none id n m vs has at (leads n (readers vs) (runs vs) (numbers n m vs has.0))
+
+  -- a party that reads looks again
+  reads_on : (shown : Option Content) (to : ℕ → View) → to 2 ≡ Reading → Allowed (Some Reading) shown (λ n. n) (ComesTo (Some Reading) to)
+  reads_on shown to is id n m vs has at small =
+      let known = numbers n m vs has.0 in let us = after id (Some Reading) vs Reading in
+      let gone = see_after id (Some Reading) vs Idle at in let few : 0 < readers vs = omega (arith, gone) in let two : n ≡ 2 = read_at n (readers vs) (runs vs) known few in
+      let see = see_after id (Some Reading) vs Reading at in let run = run_after id (Some Reading) vs Reading at in
+      let same : readers us ≡ readers vs = omega (arith, see) in let alike : runs us ≡ runs vs = omega (arith, run) in
+      (Reading, (λ e. e, tt, meets n m us (subst (λ (z : ℕ × ℕ). Numbers n z.0 z.1) (λ i. (sym same i, sym alike i)) known) has.0.3), (sym (ap to two ∙ is), two))
+
+  -- one that is in no call looks
+  pub looks_out : (view : Option View) → is_out view ≡ true → (shown : Option Content) (to : ℕ → View) → Leads to → to 2 ≡ Reading → Allowed view shown (λ n. n) (ComesTo view to)
+  looks_out None out shown to leads is = looks None shown to refl leads
+  looks_out (Some Idle) out shown to leads is = looks (Some Idle) shown to refl leads
+  looks_out (Some Reading) out shown to leads is = reads_on shown to is
+  looks_out (Some (InCall c l)) out shown to leads is = absurd (cc (out))
+
+  pub completes_out : (view : Option View) → is_out view ≡ true → (shown : Option Content) → Allowed view shown (λ n. n) (ComesTo view (λ n. at_rest view))
+  completes_out None out shown = looks None shown (λ n. Idle) refl (λ n r w has. inl refl)
+  completes_out (Some Idle) out shown = looks (Some Idle) shown (λ n. Idle) refl (λ n r w has. inl refl)
+  completes_out (Some Reading) out shown = reads_on shown (λ n. Reading) refl
+  completes_out (Some (InCall c l)) out shown = absurd (cc (out))
 
   -- ---- the exchange by which a call begins to run its closure
   pub begins : (view : Option View) (shown : Option Content) (c : OnceCall (Unit {0})) → use_of use_of_view view ≡ off → (new : ℕ) → ((s : Plain) (p : ℕ) → once_word s ≡ 0 → Decides s (gets p to_begin) once_word (Some new))
-      → Allowed view shown (λ n. either (n == 0) new n) (ComesTo (begun c))
+      → Allowed view shown (λ n. either (n == 0) new n) (ComesTo view (begun c))
   begins view shown c none new decides id zero m vs has at small =
       let known = numbers 0 m vs has.0 in let us = after id view vs (InCall c Run) in
       let see = sym (ap (λ u. readers us + reading u) none) ∙ see_after id view vs (InCall c Run) at in
@@ -146,7 +186,7 @@ module _ {T S : Type 0} (makes : S → T → Type 0) (seed : Snapshot S) where
         InCall c Run,
         subst (λ u. Going way u writes shown (readers vs) (Meets Word plain_ways new m us)) (sym none)
             (λ e. absurd (let d : off ≡ reads = e in cc), tt, subst (λ k. Meets Word plain_ways k m us) (sym next) (meets 1 m us (omega (arith, see, known), omega (arith, run, known)) has.0.3)),
-        (refl, omega arith),
+        (refl, few_where_off view none 0 (omega arith)),
       )
   begins view shown c none new decides id (suc zero) m vs has at small = stays view shown (begun c) none id 1 m vs has at (inl refl)
   begins view shown c none new decides id (suc (suc zero)) m vs has at small = stays view shown (begun c) none id 2 m vs has at (inr (refl, refl))

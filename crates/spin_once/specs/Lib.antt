@@ -1,7 +1,9 @@
 pub mod Model
 pub mod Once
 pub mod Foretold
-pub mod Claims
+pub mod Accounts
 pub mod Texts
 pub mod Lazy
 pub mod Made
+pub mod OncePasses
+pub mod LazyPasses

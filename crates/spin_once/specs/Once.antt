@@ -1,5 +1,5 @@
 -- The rule of a value that is made once, from a seed: its word is that of a plain lock in whose phase its parties are, and its trace is a schedule of the model, which leads there.
-use Rattle.std.specs.Prelude.{◌≡◌, ◌<◌, ℕ, Bool, true, false, Option, Some, None, List, [], ◌∷◌, if◌then◌else◌, ◌==◌}
+use Rattle.std.specs.Prelude.{◌≡◌, ◌<◌, ℕ, Bool, true, false, Option, Some, None, List, [], ◌∷◌, ◌++◌, replicate, if◌then◌else◌, ◌==◌}
 use mathlib.Core.Option.{some}
 use lib.ListN.{get_elem?}
 use Rattle.core.specs.declared.snapshot.Snapshot.{Snapshot}
@@ -7,11 +7,13 @@ use Rattle.spin_step.specs.Plain as plain
 use Rattle.spin_step.specs.Plain.{Plain, Phase, nothing, complete, fresh, once_word}
 use Rattle.spin_core.specs.Cell.{Use, off, reads, writes, fixes, Ways, readers_of, writers_of}
 use Rattle.spin_core.specs.Own.{Numbered, Runs, Tells}
+use Rattle.spin_core.specs.Passes as passes
+use Rattle.spin_core.specs.Passes.{Course, Begins, step_by}
 use Rattle.spin_core.specs.Views.{no_word}
 use Rattle.spin_core.specs.declared.cell.stable.MaybeStable.{MaybeStable}
 use Rattle.spin_core.specs.declared.trace.Trace.{Trace}
 use Rattle.spin_model.specs.declared.answer.Answer.{Answer}
-use Rattle.spin_model.specs.declared.answer.Answer.TheVariants.{Value, NoValue, Is}
+use Rattle.spin_model.specs.declared.answer.Answer.TheVariants.{Value, NoValue, Is, Failed}
 use Rattle.spin_model.specs.declared.once.OnceCall.{OnceCall}
 use Rattle.spin_model.specs.declared.once.OnceCall.TheVariants.{CallOnce, TryCallOnceOk, Wait, Poll, Get, IsCompleted}
 use Rattle.spin_model.specs.declared.once.OncePoint.{OncePoint}
@@ -19,9 +21,9 @@ use Rattle.spin_model.specs.declared.once.OncePoint.TheVariants.{Look, TryBegin,
 use Rattle.spin_model.specs.declared.place.Seat.{Seat}
 use Rattle.spin_model.specs.declared.place.Seat.TheVariants as seat
 use Rattle.spin_model.specs.declared.schedule.Move.{Move}
-use Rattle.spin_model.specs.declared.schedule.Move.TheVariants.{Begin, Step}
+use Rattle.spin_model.specs.declared.schedule.Move.TheVariants.{Step, Weak}
 use Rattle.spin_model.specs.declared.schedule.Outcome.{Outcome}
-use Rattle.spin_model.specs.declared.schedule.Outcome.TheVariants.{Begun, GoingOn, Answered}
+use Rattle.spin_model.specs.declared.schedule.Outcome.TheVariants.{GoingOn, Answered}
 use Rattle.spin_model.specs.Schedules.{Entry}
 use Rattle.spin_once.specs.Model.{Point, at, model}
 use Rattle.spin_once.specs.declared.once_core.rule.View.{View}
@@ -101,10 +103,13 @@ abbrev pub IsOnce : Option (Unit {0}) → ℕ → ℕ → Trace Made (Unit {0}) 
 IsOnce given = Runs (model given) seat_of words_of Word
 
 -- what a step tells of its moves
-abbrev pub Told : (List OneMove → List Ending → ℕ → View → Type 0) → Option (Numbered View) → List Made → List Made → ℕ → Numbered View → Type 0
-Told says view log es n v = (given : Option (Unit {0})) × Tells (model given) seat_of words_of says view log es n v
+abbrev pub Told : Option (Unit {0}) → (List OneMove → List Ending → ℕ → View → Type 0) → Option (Numbered View) → List Made → List Made → ℕ → Numbered View → Type 0
+Told given = Tells (model given) seat_of words_of
 
--- The steps: which moves, with which outcomes, by the number found, and the view after
+-- The steps: what each comes to and where it leads, by the number found
+
+abbrev pub Says : Type 1
+Says = List OneMove → List Ending → ℕ → View → Type 0
 
 -- there is a value, and the party reads it; or else it is this
 abbrev pub finds : View → ℕ → View
@@ -114,11 +119,26 @@ finds other n = if n == 2 then Reading else other
 abbrev pub tells : Ending → ℕ → Ending
 tells other n = if n == 2 then Answered (Value tt) None else other
 
-abbrev pub gets_by : List OneMove → List Ending → ℕ → View → Type 0
-gets_by own outs n v = (v ≡ finds Idle n) × (own ≡ Begin Get ∷ Step ∷ []) × (outs ≡ Begun ∷ tells (Answered NoValue None) n ∷ [])
+-- it is in no call: it comes, or made its last call to the end
+abbrev pub is_out : Option View → Bool
+is_out (Some (InCall c l)) = false
+is_out _ = true
 
-abbrev pub completes_by : List OneMove → List Ending → ℕ → View → Type 0
-completes_by own outs n v = (v ≡ Idle) × (own ≡ Begin IsCompleted ∷ Step ∷ []) × (outs ≡ Begun ∷ Answered (Is (n == 2)) None ∷ [])
+-- it has begun its call
+abbrev pub has_begun : Option View → Bool
+has_begun (Some (InCall c l)) = true
+has_begun _ = false
+
+-- a party that reads the value reads it for good
+abbrev pub at_rest : Option View → View
+at_rest (Some Reading) = Reading
+at_rest _ = Idle
+
+abbrev pub gets_by : Says
+gets_by = step_by false Get (tells (Answered NoValue None)) (finds Idle)
+
+abbrev pub completes_by : Option View → Says
+completes_by view = step_by false IsCompleted (λ n. Answered (Is (n == 2)) None) (λ n. at_rest view)
 
 -- a call with a closure; where that may fail the model names the call as one that does not, until it has failed
 abbrev pub closure_call : Bool → OnceCall (Unit {0})
@@ -130,12 +150,8 @@ trying may_fail = InCall (closure_call may_fail) TryBegin
 abbrev pub running : Bool → View
 running may_fail = InCall (closure_call may_fail) Run
 
-abbrev pub comes_by : Bool → List OneMove → List Ending → ℕ → View → Type 0
-comes_by may_fail own outs n v = (v ≡ finds (trying may_fail) n) × (own ≡ Begin (closure_call may_fail) ∷ Step ∷ []) × (outs ≡ Begun ∷ tells GoingOn n ∷ [])
-
--- a step of a call that has begun, or the end of its closure: no more is told than where it leads
-abbrev pub leads_by : (ℕ → View) → List OneMove → List Ending → ℕ → View → Type 0
-leads_by to own outs n v = v ≡ to n
+abbrev pub comes_by : Bool → Says
+comes_by may_fail = step_by false (closure_call may_fail) (tells GoingOn) (finds (trying may_fail))
 
 -- the call that the party is in
 abbrev pub call_of : Option View → OnceCall (Unit {0})
@@ -155,6 +171,47 @@ waited = finds (InCall Wait Look)
 abbrev pub polled : ℕ → View
 polled n = if n == 0 then Idle else finds (InCall Poll Look) n
 
+-- the steps of a call with a closure, of `wait` and of `poll`
+abbrev pub begins_by : OnceCall (Unit {0}) → Says
+begins_by c = step_by true c (tells GoingOn) (begun c)
+
+abbrev pub looks_by : OnceCall (Unit {0}) → Says
+looks_by c = step_by true c (tells GoingOn) (looked c)
+
+abbrev pub waits_by : Option View → Says
+waits_by view = step_by (has_begun view) Wait (tells GoingOn) waited
+
+abbrev pub polls_by : Option View → Says
+polls_by view = step_by (has_begun view) Poll (λ n. if n == 0 then Answered NoValue None else tells GoingOn n) polled
+
+-- its closure has given a value
+abbrev pub ends_by : OnceCall (Unit {0}) → Says
+ends_by c = step_by true c (λ n. Answered (Value tt) None) (λ n. Reading)
+
+-- its closure has failed
+abbrev pub IsFailure : List OneMove → List Ending → Type 0
+IsFailure own outs = (own ≡ Weak ∷ Step ∷ []) × (outs ≡ GoingOn ∷ Answered Failed None ∷ [])
+
+abbrev pub fails_by : Says
+fails_by own outs n v = (v ≡ Idle) × IsFailure own outs
+
+-- The calls of a party
+
+abbrev pub Moving : Type 1
+Moving = Course (Unit {0}) (OnceCall (Unit {0})) (Answer (Unit {0}))
+
+-- since it knew `old` it has made moves of this course, and no others
+abbrev pub Moves : Option (Unit {0}) → Moving → Option (Numbered View) → List Made → Option (Numbered View) → List Made → Type 0
+Moves given course view old view' new = passes.Made (model given) view old view' new course
+
+-- steps by which a call goes on, and the end of a closure that fails
+abbrev pub Fails : Moving
+Fails own outs = (n : ℕ) × (own ≡ replicate n Step ++ Weak ∷ Step ∷ []) × (outs ≡ replicate n GoingOn ++ GoingOn ∷ Answered Failed None ∷ [])
+
+-- A whole call whose closure fails. The model names it as one whose closure does not, until it has failed
+abbrev pub IsFailedCall : Moving
+IsFailedCall = Begins (TryCallOnceOk tt) Fails
+
 -- at which views these steps are taken
 
 abbrev pub has_closure : OnceCall (Unit {0}) → Bool
@@ -171,14 +228,12 @@ may_look (Some (InCall c Await)) = has_closure c
 may_look _ = false
 
 abbrev pub may_wait : Option View → Bool
-may_wait None = true
 may_wait (Some (InCall Wait Look)) = true
-may_wait _ = false
+may_wait view = is_out view
 
 abbrev pub may_poll : Option View → Bool
-may_poll None = true
 may_poll (Some (InCall Poll Look)) = true
-may_poll _ = false
+may_poll view = is_out view
 
 abbrev pub is_running : View → Bool
 is_running (InCall c Run) = has_closure c

@@ -1,16 +1,24 @@
 //! A value that its own initialiser makes when a thread first asks for it. Begin with [`LazyLock::new`] and
 //! [`LazyLock::force`]; [`LazyLock::promising`] tells callers more of the value than its type does.
-ghost use Rattle.std.specs.Prelude.{◌≡◌};
-ghost use Rattle.spin_once.specs.Claims.{seed_of};
+ghost use Rattle.std.specs.Prelude.{◌≡◌, true};
+ghost use Rattle.spin_core.specs.Own.{what};
+ghost use Rattle.spin_core.specs.Passes.{Ends, IsCall};
+ghost use Rattle.spin_model.specs.declared.answer.Answer.TheVariants.{Value};
+ghost use Rattle.spin_model.specs.declared.once.OnceCall.TheVariants.{CallOnce};
+ghost use Rattle.spin_once.specs.Accounts.{here, seed_of, Since};
 ghost use Rattle.spin_once.specs.Lazy.{initialiser, promise};
+ghost use Rattle.spin_once.specs.Once.{is_out};
 
 use crate::exclusive::Exclusive;
-use crate::once_core::{Claim, OnceCore, Seed, Sure, Wanting};
+use crate::once_core::{Account, Claim, OnceCore, Seed, Sure, Wanting};
 use spin_core::relax::{RelaxStrategy, Spin};
 use std::marker::PhantomData;
 use std::sync::Wait;
 
+mod pass;
 mod texts;
+
+pub use self::pass::Pass;
 
 /// A promise on a value: what callers may rely on, whoever made it.
 ///
@@ -167,8 +175,24 @@ impl<T, F: Makes<T, M>, R: RelaxStrategy, M: Promise<T>> LazyLock<T, F, R, M> {
         requires { F.can (initialiser this.now) (promise this.now) }
         ensures { M.keeps (promise this.now) result.now }
     {
-        match this.core.come::<Sure>() {
-            Ok(value) => value,
+        let (value, account) = Self::find_or_make(rt, this.core.account());
+        account.close();
+        value
+    }
+
+    // Finds the value, or makes it. Spins while another thread makes it.
+    fn find_or_make<'a, W: Wait>(
+        rt: &W,
+        account: Account<'a, T, Initialiser<F, M>>,
+    ) -> (&'a T, Account<'a, T, Initialiser<F, M>>)
+        requires out { is_out (what account.party.view) ≡ true }
+        requires can { F.can (seed_of account).f.inner (seed_of account).promise }
+        ensures keeps { M.keeps (seed_of account.entry).promise result.0.now }
+        ensures since { Since (here account.entry) (IsCall (CallOnce tt) (Value tt)) (here result.1) }
+        ensures out { is_out (what result.1.party.view) ≡ true }
+    {
+        match account.come::<Sure>() {
+            Ok(found) => found.read(),
             Err(wanting) => Self::make(rt, wanting),
         }
     }
@@ -176,15 +200,20 @@ impl<T, F: Makes<T, M>, R: RelaxStrategy, M: Promise<T>> LazyLock<T, F, R, M> {
     // Kept out of line: inlined, it would lengthen the path of each caller that finds a value.
     #[cold]
     #[inline(never)]
-    fn make<'a, W: Wait>(rt: &W, wanting: Wanting<'a, T, Initialiser<F, M>>) -> &'a T
-        requires { F.can (seed_of wanting).f.inner (seed_of wanting).promise }
-        ensures { M.keeps (seed_of wanting.entry).promise result.now }
+    fn make<'a, W: Wait>(
+        rt: &W,
+        wanting: Wanting<'a, T, Initialiser<F, M>>,
+    ) -> (&'a T, Account<'a, T, Initialiser<F, M>>)
+        requires { F.can (seed_of wanting.account).f.inner (seed_of wanting.account).promise }
+        ensures keeps { M.keeps (seed_of wanting.entry.account).promise result.0.now }
+        ensures since { Since (here wanting.entry.account) (Ends (Value tt)) (here result.1) }
+        ensures out { is_out (what result.1.party.view) ≡ true }
     {
         match wanting.claim::<R, W>(rt) {
-            Claim::Value(value) => value,
+            Claim::Found(found) => found.read(),
             Claim::Init(permit) => {
                 let (permit, Initialiser { f, promise }) = permit.take();
-                permit.complete(f.into_inner().make(promise))
+                permit.complete(f.into_inner().make(promise)).read()
             }
         }
     }

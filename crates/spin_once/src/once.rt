@@ -1,13 +1,17 @@
 //! A value that one closure makes. Begin with [`Once::new`] and [`Once::call_once`].
-ghost use Rattle.std.specs.Prelude.{◌≡◌, IfErr, Err, true};
-ghost use Rattle.spin_once.specs.Claims.{Wants};
+ghost use Rattle.std.specs.Prelude.{IfErr, Err};
 
-use crate::once_core::{Claim, OnceCore, Seed, Sure, Unsure, Wanting};
+use self::make::{find_or_make, find_or_try};
+use crate::once_core::{OnceCore, Seed};
 use spin_core::relax::{RelaxStrategy, Spin};
 use std::marker::PhantomData;
 use std::sync::Wait;
 
+mod make;
+mod pass;
 mod texts;
+
+pub use self::pass::Pass;
 
 /// A `Once` starts from nothing, so the closure of a caller may give any value.
 impl<T> Seed<T> for () {
@@ -91,7 +95,7 @@ impl<T, R> Once<T, R> {
     /// equal(&rt, unit.is_completed(), true);
     /// ```
     pub fn is_completed(&self) -> bool {
-        self.core.is_completed()
+        self.pass().is_completed().0
     }
 
     /// Returns a mutable reference to the value, or `None` if there is none.
@@ -141,22 +145,9 @@ impl<T, R: RelaxStrategy> Once<T, R> {
     pub fn call_once<F: FnOnce() -> T, W: Wait>(&self, rt: &W, f: F) -> &T
         requires { F.pre f }
     {
-        match self.core.come::<Sure>() {
-            Ok(value) => value,
-            Err(wanting) => Self::make(rt, wanting, f),
-        }
-    }
-
-    // Kept out of line: inlined, it would lengthen the path of each caller that finds a value.
-    #[cold]
-    #[inline(never)]
-    fn make<'a, F: FnOnce() -> T, W: Wait>(rt: &W, wanting: Wanting<'a, T, ()>, f: F) -> &'a T
-        requires { F.pre f }
-    {
-        match wanting.claim::<R, W>(rt) {
-            Claim::Value(value) => value,
-            Claim::Init(permit) => permit.complete(f()),
-        }
+        let (value, account) = find_or_make::<T, R, F, W>(self.core.account(), rt, f);
+        account.close();
+        value
     }
 
     /// Like [`call_once`](Once::call_once), with a closure that may fail.
@@ -179,34 +170,9 @@ impl<T, R: RelaxStrategy> Once<T, R> {
         requires { F.pre f }
         ensures err { IfErr result (λ e. F.post f (Err e)) }
     {
-        match self.core.come::<Unsure>() {
-            Ok(value) => Ok(value),
-            Err(wanting) => Self::try_make(rt, wanting, f),
-        }
-    }
-
-    #[cold]
-    #[inline(never)]
-    fn try_make<'a, F: FnOnce() -> Result<T, E>, E, W: Wait>(
-        rt: &W,
-        wanting: Wanting<'a, T, ()>,
-        f: F,
-    ) -> Result<&'a T, E>
-        requires may { Wants true wanting }
-        requires calls { F.pre f }
-        ensures err { IfErr result (λ e. F.post f (Err e)) }
-    {
-        let permit = match wanting.claim::<R, W>(rt) {
-            Claim::Value(value) => return Ok(value),
-            Claim::Init(permit) => permit,
-        };
-        match f() {
-            Ok(value) => Ok(permit.complete(value)),
-            Err(error) => {
-                permit.fail();
-                Err(error)
-            }
-        }
+        let (answer, account) = find_or_try::<T, R, F, E, W>(self.core.account(), rt, f);
+        account.close();
+        answer
     }
 
     /// Like [`call_once`](Once::call_once), with a copy of `value` in place of what a closure gives.
@@ -238,7 +204,7 @@ impl<T, R: RelaxStrategy> Once<T, R> {
     /// equal(&rt, *once.wait(&rt), 5);
     /// ```
     pub fn wait<W: Wait>(&self, rt: &W) -> &T {
-        self.core.wait::<R, W>(rt)
+        self.core.account().wait::<R, W>(rt).value()
     }
 
     /// Returns the value, or `None` if there is none and no closure runs. While one runs, it spins until that one has
@@ -256,7 +222,13 @@ impl<T, R: RelaxStrategy> Once<T, R> {
     /// equal(&rt, once.poll(&rt).copied(), Some(3));
     /// ```
     pub fn poll<W: Wait>(&self, rt: &W) -> Option<&T> {
-        self.core.poll::<R, W>(rt)
+        match self.core.account().poll::<R, W>(rt) {
+            Ok(found) => Some(found.value()),
+            Err(account) => {
+                account.close();
+                None
+            }
+        }
     }
 }
 

@@ -1,3 +1,4 @@
 pub mod Steps
+pub mod Passes
 pub mod Standing
 pub mod Known

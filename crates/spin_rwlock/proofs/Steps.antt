@@ -1,6 +1,8 @@
 -- The steps of a read-write lock keep its rule: each is the plain step that its step function makes, and moves of the lock's model.
-use Rattle.std.proofs.Common.{◌≡◌, ◌≢◌, ℕ, ◌+◌, ◌-◌, ◌%◌, ◌^◌, ◌<◌, ◌≤◌, Bool, true, false, List, [], ◌∷◌, length, ◌==◌, Option, Some, None, is_some, if◌then◌else◌, refl, sym, ap, ◌∙◌, arith, eq-eqb, ne_eqb}
+use Rattle.std.proofs.Common.{◌≡◌, ◌≢◌, ℕ, ◌+◌, ◌-◌, ◌%◌, ◌^◌, ◌<◌, ◌≤◌, Bool, true, false, List, [], ◌∷◌, length, ◌==◌, Option, Some, None, if◌then◌else◌, refl, sym, ap, ◌∙◌, subst, arith, eq-eqb, ne_eqb}
 use Rattle.std.proofs.lemmas.List.Sums.{count_by-le-length}
+use Rattle.std.specs.List.{list_all}
+use mathlib.Core.Logic.{inl, inr}
 use prog.Atomic.{either}
 use Rattle.spin_step.specs.Plain.{Plain, Kind, reading, upgradable, asking, writing, Holder, is_holder, may_turn, with_kind, weight, is_reader, reader_count, Ask, apply, gets, releases, turns, to_read, to_read_upgradable, to_write, to_upgrade, to_upgrade_asked, rw_word}
 use Rattle.spin_step.specs.Parties.{entries_after}
@@ -8,17 +10,19 @@ use Rattle.spin_step.specs.Steps.{Decides}
 use Rattle.spin_step_more.specs.Readers.{reader_limit, OneOfEach, readers_in, writers_in}
 use Rattle.spin_step_more.specs.declared.rw_calls.RwCall.{RwCall}
 use Rattle.spin_step_more.specs.declared.rw_calls.RwCall.TheVariants as call
-use Rattle.spin_model.specs.declared.answer.Answer.TheVariants.{Granted, Refused, Count, Done}
+use Rattle.spin_model.specs.declared.answer.Answer.TheVariants.{Granted, Count, Done}
+use Rattle.spin_model.specs.declared.place.Seat.{Seat}
 use Rattle.spin_model.specs.declared.place.Seat.TheVariants as seat
+use Rattle.spin_model.specs.Schedules.{after}
+use Rattle.spin_step_more.specs.declared.rw_calls.RwPoint.{RwPoint}
 use Rattle.spin_model.specs.declared.schedule.Move.TheVariants.{Begin, Step}
 use Rattle.spin_model.specs.declared.schedule.Outcome.TheVariants.{Begun, Answered, GoingOn}
-use Rattle.spin_core.specs.Cell.{Ways, lends, writes, Meets, Allows, Rests, Moved}
+use Rattle.spin_core.specs.Cell.{Ways, lends, writes, Meets, Allows, Rests}
 use Rattle.spin_core.specs.Own.{Numbered, what}
-use Rattle.spin_core.specs.Run.{AreMoves, on_first, first, Goes}
-use Rattle.spin_core.specs.Traced.{Traces, Watches}
-use Rattle.spin_core.specs.Views.{Knows, holds, entries_of, HasPart, no_word}
+use Rattle.spin_core.specs.Run.{AreMoves, on_first, first, Goes, is_of_call, is_played, outcomes, of_one}
+use Rattle.spin_core.specs.Traced.{Traces}
+use Rattle.spin_core.specs.Views.{Knows, idle, holds, entries_of, HasPart, no_word}
 use Rattle.spin_core.specs.declared.trace.Trace.{Trace}
-use Rattle.spin_core.specs.declared.trace.Watch.{Watch}
 use Rattle.spin_step.specs.Orders.{IsInOrder}
 use Rattle.spin_step.proofs.Sums.{by_kinds, all_kinds, sum-less, sum-turned, length-with_kind}
 use Rattle.spin_step.proofs.Holders.{is_holder-from_entries}
@@ -32,7 +36,7 @@ use Rattle.spin_core.proofs.Views.{part_before, release-own, turn-own}
 use Rattle.spin_rwlock.specs.declared.rwlock.rule.View.{View}
 use Rattle.spin_rwlock.specs.declared.rwlock.rule.View.TheVariants.{Idle, Reading, Upgradable, Asking, Writing, WritingAsked, Coming, WaitingToWrite}
 use Rattle.spin_rwlock.specs.Rw as rws
-use Rattle.spin_rwlock.specs.Rw.{part, Word, IsRw, IsRwWord, Told, OneMove, Ending, use_of_view, use_of_party, seat_of, model, words_of, grants, call_of, asks, came, Comes, MayCome, MayWrite, leads_by, ends_by, counts_by, either_at, given}
+use Rattle.spin_rwlock.specs.Rw.{part, Word, IsRw, IsRwWord, Told, Says, OneMove, Ending, use_of_view, use_of_party, seat_of, model, words_of, in_call, IsOut, grants, missed, call_of, asks, came, Comes, MayCome, MayWrite, ends_by, counts_by, writes_by, asks_by, upgrades_by, looks_by, comes_by, peeks_by, either_at, given, granted_or_on}
 
 pub kind : (v : View) → OfReaders part v
 kind Reading = (λ p. refl, λ p. refl)
@@ -90,8 +94,20 @@ less_by n k some = omega (arith, some.0, some.1)
 
 -- The plain step of each
 
-looks : Allows Word (ways rw-lock) None (λ n. n) (To IsRwWord (λ n. Idle))
-looks = allows rw-lock None (λ n. n) (To IsRwWord (λ n. Idle)) (λ s p room order has. (Idle, by_none rw-lock None Idle s p refl tt, ((s, room, order, refl), refl)))
+seat_idle : (s : Seat RwCall RwPoint) → rws.is_idle s ≡ true → s ≡ seat.Idle
+seat_idle seat.Idle is = refl
+seat_idle _ is = absurd cc
+
+-- a party that is out holds nothing
+out_holds_none : (view : Option View) → IsOut view → part_before part view ≡ idle
+out_holds_none None out = refl
+out_holds_none (Some Idle) out = refl
+out_holds_none (Some (Coming c n)) out = refl
+out_holds_none (Some WaitingToWrite) out = absurd cc
+out_holds_none (Some _) out = absurd cc
+
+looks : (view : Option View) → IsOut view → Allows Word (ways rw-lock) view (λ n. n) (To IsRwWord (λ n. Idle))
+looks view out = allows rw-lock view (λ n. n) (To IsRwWord (λ n. Idle)) (λ s p room order has. (Idle, by_none rw-lock view Idle s p (ap (entries_of p) (out_holds_none view out)) tt, ((s, room, order, refl), refl)))
 
 -- an exchange is a step where it finds the number of which the step function was asked, and else the party comes to what is nothing more to the lock
 exchanges : (view : Option View) (ask : Ask) (won : View) (lost : ℕ → View) (old new : ℕ) → ((s : Plain) (p : ℕ) → entries_after s (Some (gets p ask)) (entries_of p (part_before part view)) ≡ entries_of p (part won)) → ((s : Plain) → Knows s (part won))
@@ -137,20 +153,31 @@ opens_free _ cm waits none = absurd cm
 abbrev Admits : View → ℕ → ℕ → Type 0
 Admits won old new = (s : Plain) (p : ℕ) → OneOfEach s → s.cap ≡ reader_limit → rw_word s ≡ old → Decides s (gets p (asks won)) rw_word (Some new)
 
+-- an exchange of a party that holds nothing, and still holds nothing where it loses
+tries_at : (view : Option View) → part_before part view ≡ idle → (ask : Ask) (won : View) (lost : ℕ → View) → ((n : ℕ) → part (lost n) ≡ idle) → (old new : ℕ)
+    → ((s : Plain) (p : ℕ) → entries_after s (Some (gets p ask)) (entries_of p idle) ≡ entries_of p (part won)) → ((s : Plain) → Knows s (part won)) → ((s : Plain) (p : ℕ) → s.cap ≡ reader_limit → IsInOrder s → rw_word s ≡ old → Decides s (gets p ask) rw_word (Some new))
+    → Allows Word (ways rw-lock) view (λ n. either (n == old) new n) (λ n v. v ≡ (if n == old then won else lost n))
+tries_at view none ask won lost still old new gains knows plain =
+    exchanges view ask won lost old new (λ s p. rw none (gains s p)) knows (λ p n. ap (entries_of p) (none ∙ sym (still n))) (λ s n. rw (still n) tt) (λ s p room order has e. plain s p room order e)
+
+may_come : (c : RwCall) (n : ℕ) (view : Option View) → MayCome c n view → part_before part view ≡ idle
+may_come c n view (inl (out, free)) = out_holds_none view out
+may_come c n view (inr is) = rw is refl
+
+may_write : (view : Option View) → MayWrite view → part_before part view ≡ idle
+may_write view (inl out) = out_holds_none view out
+may_write view (inr is) = rw is refl
+
 comes : (won : View) (c : RwCall) → Comes won → (view : Option View) (old new : ℕ) → MayCome c old view → Admits won old new → Allows Word (ways rw-lock) view (λ n. either (n == old) new n) (λ n v. v ≡ came won c old n)
-comes Reading c cm None old new may plain = exchanges None to_read Reading (Coming c) old new (λ s p. refl) (λ s. tt) (λ p n. refl) (λ s n. tt) (λ s p room order has e. plain s p (one_of_each s order.exclusive) room e)
-comes Upgradable c cm None old new may plain = exchanges None to_read_upgradable Upgradable (Coming c) old new (λ s p. refl) (λ s. tt) (λ p n. refl) (λ s n. tt) (λ s p room order has e. plain s p (one_of_each s order.exclusive) room e)
-comes Reading c cm (Some u) old new may plain = rw may (exchanges (Some (Coming c old)) to_read Reading (Coming c) old new (λ s p. refl) (λ s. tt) (λ p n. refl) (λ s n. tt) (λ s p room order has e. plain s p (one_of_each s order.exclusive) room e))
-comes Upgradable c cm (Some u) old new may plain = rw may (exchanges (Some (Coming c old)) to_read_upgradable Upgradable (Coming c) old new (λ s p. refl) (λ s. tt) (λ p n. refl) (λ s n. tt) (λ s p room order has e. plain s p (one_of_each s order.exclusive) room e))
+comes Reading c cm view old new may plain = tries_at view (may_come c old view may) to_read Reading (Coming c) (λ n. refl) old new (λ s p. refl) (λ s. tt) (λ s p room order e. plain s p (one_of_each s order.exclusive) room e)
+comes Upgradable c cm view old new may plain = tries_at view (may_come c old view may) to_read_upgradable Upgradable (Coming c) (λ n. refl) old new (λ s p. refl) (λ s. tt) (λ s p room order e. plain s p (one_of_each s order.exclusive) room e)
 comes _ c cm view old new may plain = absurd cm
 
 looks_again : (c : RwCall) (old : ℕ) → Allows Word (ways rw-lock) (Some (Coming c old)) (λ n. n) (λ n v. v ≡ Coming c n)
 looks_again c old = allows rw-lock (Some (Coming c old)) (λ n. n) (λ n v. v ≡ Coming c n) (λ s p room order has. (Coming c (rw_word s), by_none rw-lock (Some (Coming c old)) (Coming c (rw_word s)) s p refl tt, refl))
 
-writes_at : (view : Option View) → MayWrite view → (lost : View) → part lost ≡ part Idle → (old new : ℕ) → ((s : Plain) (p : ℕ) → rw_word s ≡ old → Decides s (gets p to_write) rw_word (Some new)) → Allows Word (ways rw-lock) view (λ n. either (n == old) new n) (λ n v. v ≡ either_at old Writing lost n)
-writes_at None may lost is old new plain = exchanges None to_write Writing (λ n. lost) old new (λ s p. refl) (λ s. tt) (λ p n. rw is refl) (λ s n. rw is tt) (λ s p room order has e. plain s p e)
-writes_at (Some WaitingToWrite) may lost is old new plain = exchanges (Some WaitingToWrite) to_write Writing (λ n. lost) old new (λ s p. refl) (λ s. tt) (λ p n. rw is refl) (λ s n. rw is tt) (λ s p room order has e. plain s p e)
-writes_at (Some _) may lost is old new plain = absurd may
+writes_at : (view : Option View) → part_before part view ≡ idle → (lost : View) → part lost ≡ idle → (old new : ℕ) → ((s : Plain) (p : ℕ) → rw_word s ≡ old → Decides s (gets p to_write) rw_word (Some new)) → Allows Word (ways rw-lock) view (λ n. either (n == old) new n) (λ n v. v ≡ either_at old Writing lost n)
+writes_at view none lost still old new plain = tries_at view none to_write Writing (λ n. lost) (λ n. still) old new (λ s p. refl) (λ s. tt) (λ s p room order e. plain s p e)
 
 upgrades_at : (old new : ℕ) → ((s : Plain) (p : ℕ) → OneOfEach s → is_holder p upgradable s.holders ≡ true → rw_word s ≡ old → Decides s (gets p to_upgrade) rw_word (Some new)) → Allows Word (ways rw-lock) (Some Upgradable) (λ n. either (n == old) new n) (λ n v. v ≡ either_at old Writing Upgradable n)
 upgrades_at old new plain = exchanges (Some Upgradable) to_upgrade Writing (λ n. Upgradable) old new (λ s p. rw (eq-eqb p p refl) refl) (λ s. tt) (λ p n. refl) (λ s n. tt)
@@ -168,51 +195,68 @@ writes_as _ e p = absurd cc
 
 -- The moves of each: a call of the model and its one step, or a step of a call that has begun
 
-abbrev Moves : Option View → (ℕ → ℕ) → (ℕ → View → Type 0) → (List OneMove → List Ending → ℕ → View → Type 0) → Type 0
+abbrev Moves : Option View → (ℕ → ℕ) → (ℕ → View → Type 0) → Says → Type 0
 Moves view f = AreMoves model seat_of words_of view (on_first f) first
 
+-- a party that is out sits as one that has not come yet
+module _ (f : ℕ → ℕ) (so : ℕ → View → Type 0) (says : Says) where
+  abbrev FromSeat : Seat RwCall RwPoint → Type 0
+  FromSeat sits =
+      (w : ℕ) (value : Option (Unit {0})) (u : View) → so w u
+      → (own : List OneMove) × (outs : List Ending) × says own outs w u × (list_all is_of_call own ≡ true) × (list_all is_played outs ≡ true) × (w' : ℕ) × (now : Option (Unit {0}))
+      × (after model (record { words = w; value = value; seats = sits ∷ [] }) (of_one model seat_of words_of own) ≡ record { words = w'; value = now; seats = seat_of u ∷ [] }) × (outcomes model (record { words = w; value = value; seats = sits ∷ [] }) (of_one model seat_of words_of own) ≡ outs) × (words_of w' ≡ on_first f (words_of w))
+
+  as_new : (view : Option View) → IsOut view → Moves None f so says → Moves view f so says
+  as_new None out moves = moves
+  as_new (Some v) out moves = subst FromSeat (sym (seat_idle (seat_of v) out)) moves
+
+pub not_in_call : (view : Option View) → IsOut view → in_call view ≡ false
+not_in_call None out = refl
+not_in_call (Some v) out = ap rws.is_calling (seat_idle (seat_of v) out)
+
 readers_moves : Moves None (λ n. n) (To IsRwWord (λ n. Idle)) (counts_by call.ReaderCount readers_in)
-readers_moves w value v (word, is) = rw is (Begin call.ReaderCount ∷ Step ∷ [], Begun ∷ Answered (Count (readers_in w)) None ∷ [], (word, (refl, refl, refl)), refl, refl, w, value, refl, refl, refl)
+readers_moves w value v (word, is) = rw is (Begin call.ReaderCount ∷ Step ∷ [], Begun ∷ Answered (Count (readers_in w)) None ∷ [], (word, (refl, (refl, refl))), refl, refl, w, value, refl, refl, refl)
 
 writers_moves : Moves None (λ n. n) (To IsRwWord (λ n. Idle)) (counts_by call.WriterCount writers_in)
-writers_moves w value v (word, is) = rw is (Begin call.WriterCount ∷ Step ∷ [], Begun ∷ Answered (Count (writers_in w)) None ∷ [], (word, (refl, refl, refl)), refl, refl, w, value, refl, refl, refl)
+writers_moves w value v (word, is) = rw is (Begin call.WriterCount ∷ Step ∷ [], Begun ∷ Answered (Count (writers_in w)) None ∷ [], (word, (refl, (refl, refl))), refl, refl, w, value, refl, refl, refl)
 
 abbrev swaps : ℕ → ℕ → ℕ → ℕ
 swaps old new n = either (n == old) new n
 
-abbrev ended : Bool → Ending
-ended true = Answered Granted None
-ended false = GoingOn
-
 try_write_moves : Moves None (swaps 0 1) (λ n v. v ≡ either_at 0 Writing Idle n) (ends_by call.TryWrite (given 0) (either_at 0 Writing Idle))
-try_write_moves w value v is = (Begin call.TryWrite ∷ Step ∷ [], Begun ∷ Answered (given 0 w) None ∷ [], (is, refl, refl), refl, refl, swaps 0 1 w, value, grind (arith, is), grind arith, refl)
+try_write_moves w value v is = (Begin call.TryWrite ∷ Step ∷ [], Begun ∷ Answered (given 0 w) None ∷ [], (is, (refl, refl)), refl, refl, swaps 0 1 w, value, grind (arith, is), grind arith, refl)
 
-write_moves : (view : Option View) → MayWrite view → Moves view (swaps 0 1) (λ n v. v ≡ either_at 0 Writing WaitingToWrite n) (leads_by (either_at 0 Writing WaitingToWrite))
-write_moves None may w value v is = (Begin call.Write ∷ Step ∷ [], Begun ∷ ended (w == 0) ∷ [], is, refl, grind arith, swaps 0 1 w, value, grind (arith, is), grind arith, refl)
-write_moves (Some WaitingToWrite) may w value v is = (Step ∷ [], ended (w == 0) ∷ [], is, refl, grind arith, swaps 0 1 w, value, grind (arith, is), grind arith, refl)
-write_moves (Some _) may w value v is = absurd may
+write_moves : Moves None (swaps 0 1) (λ n v. v ≡ either_at 0 Writing WaitingToWrite n) (writes_by false 0)
+write_moves w value v is = (Begin call.Write ∷ Step ∷ [], Begun ∷ granted_or_on 0 w ∷ [], (is, (refl, refl)), refl, grind arith, swaps 0 1 w, value, grind (arith, is), grind arith, refl)
+
+write_again : Moves (Some WaitingToWrite) (swaps 0 1) (λ n v. v ≡ either_at 0 Writing WaitingToWrite n) (writes_by true 0)
+write_again w value v is = (Step ∷ [], granted_or_on 0 w ∷ [], (is, (refl, refl)), refl, grind arith, swaps 0 1 w, value, grind (arith, is), grind arith, refl)
+
+write_moves_of : (view : Option View) → MayWrite view → Moves view (swaps 0 1) (λ n v. v ≡ either_at 0 Writing WaitingToWrite n) (writes_by (in_call view) 0)
+write_moves_of view (inl out) = rw (not_in_call view out) (as_new (swaps 0 1) (λ n v. v ≡ either_at 0 Writing WaitingToWrite n) (writes_by false 0) view out write_moves)
+write_moves_of view (inr is) = rw is write_again
 
 try_upgrade_moves : Moves (Some Upgradable) (swaps 2 1) (λ n v. v ≡ either_at 2 Writing Upgradable n) (ends_by call.TryUpgrade (given 2) (either_at 2 Writing Upgradable))
-try_upgrade_moves w value v is = (Begin call.TryUpgrade ∷ Step ∷ [], Begun ∷ Answered (given 2 w) None ∷ [], (is, refl, refl), refl, refl, swaps 2 1 w, value, grind (arith, is), grind arith, refl)
+try_upgrade_moves w value v is = (Begin call.TryUpgrade ∷ Step ∷ [], Begun ∷ Answered (given 2 w) None ∷ [], (is, (refl, refl)), refl, refl, swaps 2 1 w, value, grind (arith, is), grind arith, refl)
 
-ask_moves : Moves (Some Upgradable) (λ n. (n + 4) % 2 ^ 64) (To (Weighs 0) (λ n. Asking)) (leads_by (λ n. Asking))
-ask_moves w value v (small, is) = rw is (Begin call.Upgrade ∷ Step ∷ [], Begun ∷ GoingOn ∷ [], refl, refl, refl, w + 4, value, refl, refl, rw (fits_in w 4 small.1 (omega arith)) refl)
+ask_moves : Moves (Some Upgradable) (λ n. (n + 4) % 2 ^ 64) (To (Weighs 0) (λ n. Asking)) asks_by
+ask_moves w value v (small, is) = rw is (Begin call.Upgrade ∷ Step ∷ [], Begun ∷ GoingOn ∷ [], (refl, (refl, refl)), refl, refl, w + 4, value, refl, refl, rw (fits_in w 4 small.1 (omega arith)) refl)
 
-upgrade_moves : Moves (Some Asking) (swaps 6 1) (λ n v. v ≡ either_at 6 WritingAsked Asking n) (leads_by (either_at 6 WritingAsked Asking))
-upgrade_moves w value v is = (Step ∷ [], ended (w == 6) ∷ [], is, refl, grind arith, swaps 6 1 w, value, grind (arith, is), grind arith, refl)
+upgrade_moves : Moves (Some Asking) (swaps 6 1) (λ n v. v ≡ either_at 6 WritingAsked Asking n) (upgrades_by 6)
+upgrade_moves w value v is = (Step ∷ [], granted_or_on 6 w ∷ [], (is, (refl, refl)), refl, grind arith, swaps 6 1 w, value, grind (arith, is), grind arith, refl)
 
 downgrade_moves : Moves (Some Upgradable) (λ n. (n + 6) % 2 ^ 64) (To (Weighs 0) (λ n. Reading)) (ends_by call.Downgrade (λ n. Done) (λ n. Reading))
-downgrade_moves w value v (small, is) = rw is (Begin call.Downgrade ∷ Step ∷ [], Begun ∷ Answered Done None ∷ [], (refl, refl, refl), refl, refl, w + 6, value, refl, refl, rw (fits_in w 6 small.1 (omega arith)) refl)
+downgrade_moves w value v (small, is) = rw is (Begin call.Downgrade ∷ Step ∷ [], Begun ∷ Answered Done None ∷ [], (refl, (refl, refl)), refl, refl, w + 6, value, refl, refl, rw (fits_in w 6 small.1 (omega arith)) refl)
 
 -- a party that writes, whether it asked or not
 writer_reads_moves : (u : View) → use_of_view u ≡ writes → Moves (Some u) (λ n. (n + 7) % 2 ^ 64) (To (Weighs 0) (λ n. Reading)) (ends_by call.Downgrade (λ n. Done) (λ n. Reading))
-writer_reads_moves Writing e w value v (small, is) = rw is (Begin call.Downgrade ∷ Step ∷ [], Begun ∷ Answered Done None ∷ [], (refl, refl, refl), refl, refl, w + 7, value, refl, refl, rw (fits_in w 7 small.1 (omega arith)) refl)
-writer_reads_moves WritingAsked e w value v (small, is) = rw is (Begin call.Downgrade ∷ Step ∷ [], Begun ∷ Answered Done None ∷ [], (refl, refl, refl), refl, refl, w + 7, value, refl, refl, rw (fits_in w 7 small.1 (omega arith)) refl)
+writer_reads_moves Writing e w value v (small, is) = rw is (Begin call.Downgrade ∷ Step ∷ [], Begun ∷ Answered Done None ∷ [], (refl, (refl, refl)), refl, refl, w + 7, value, refl, refl, rw (fits_in w 7 small.1 (omega arith)) refl)
+writer_reads_moves WritingAsked e w value v (small, is) = rw is (Begin call.Downgrade ∷ Step ∷ [], Begun ∷ Answered Done None ∷ [], (refl, (refl, refl)), refl, refl, w + 7, value, refl, refl, rw (fits_in w 7 small.1 (omega arith)) refl)
 writer_reads_moves _ e w value v so = absurd cc
 
 writer_upgradable_moves : (u : View) → use_of_view u ≡ writes → Moves (Some u) (λ n. (n + 1) % 2 ^ 64) (To (Weighs 0) (λ n. Upgradable)) (ends_by call.DowngradeToUpgradeable (λ n. Done) (λ n. Upgradable))
-writer_upgradable_moves Writing e w value v (small, is) = rw is (Begin call.DowngradeToUpgradeable ∷ Step ∷ [], Begun ∷ Answered Done None ∷ [], (refl, refl, refl), refl, refl, w + 1, value, refl, refl, rw (fits_in w 1 small.1 (omega arith)) refl)
-writer_upgradable_moves WritingAsked e w value v (small, is) = rw is (Begin call.DowngradeToUpgradeable ∷ Step ∷ [], Begun ∷ Answered Done None ∷ [], (refl, refl, refl), refl, refl, w + 1, value, refl, refl, rw (fits_in w 1 small.1 (omega arith)) refl)
+writer_upgradable_moves Writing e w value v (small, is) = rw is (Begin call.DowngradeToUpgradeable ∷ Step ∷ [], Begun ∷ Answered Done None ∷ [], (refl, (refl, refl)), refl, refl, w + 1, value, refl, refl, rw (fits_in w 1 small.1 (omega arith)) refl)
+writer_upgradable_moves WritingAsked e w value v (small, is) = rw is (Begin call.DowngradeToUpgradeable ∷ Step ∷ [], Begun ∷ Answered Done None ∷ [], (refl, (refl, refl)), refl, refl, w + 1, value, refl, refl, rw (fits_in w 1 small.1 (omega arith)) refl)
 writer_upgradable_moves _ e w value v so = absurd cc
 
 -- a holder leaves, of this weight
@@ -224,10 +268,10 @@ Holds WritingAsked k = k ≡ 1
 Holds _ k = ⊥
 
 release_moves : (u : View) (k : ℕ) → Holds u k → Moves (Some u) (λ n. (n + (2 ^ 64 - k)) % 2 ^ 64) (To (Weighs k) (λ n. Idle)) (ends_by call.Release (λ n. Done) (λ n. Idle))
-release_moves Reading k e w value v (some, is) = rw (is, e) (Begin call.Release ∷ Step ∷ [], Begun ∷ Answered Done None ∷ [], (refl, refl, refl), refl, refl, w - 8, value, refl, refl, rw (less_by w 8 (rw e at some)) refl)
-release_moves Upgradable k e w value v (some, is) = rw (is, e) (Begin call.Release ∷ Step ∷ [], Begun ∷ Answered Done None ∷ [], (refl, refl, refl), refl, refl, w - 2, value, refl, refl, rw (less_by w 2 (rw e at some)) refl)
-release_moves Writing k e w value v (some, is) = rw (is, e) (Begin call.Release ∷ Step ∷ [], Begun ∷ Answered Done None ∷ [], (refl, refl, refl), refl, refl, w - 1, value, refl, refl, rw (less_by w 1 (rw e at some)) refl)
-release_moves WritingAsked k e w value v (some, is) = rw (is, e) (Begin call.Release ∷ Step ∷ [], Begun ∷ Answered Done None ∷ [], (refl, refl, refl), refl, refl, w - 1, value, refl, refl, rw (less_by w 1 (rw e at some)) refl)
+release_moves Reading k e w value v (some, is) = rw (is, e) (Begin call.Release ∷ Step ∷ [], Begun ∷ Answered Done None ∷ [], (refl, (refl, refl)), refl, refl, w - 8, value, refl, refl, rw (less_by w 8 (rw e at some)) refl)
+release_moves Upgradable k e w value v (some, is) = rw (is, e) (Begin call.Release ∷ Step ∷ [], Begun ∷ Answered Done None ∷ [], (refl, (refl, refl)), refl, refl, w - 2, value, refl, refl, rw (less_by w 2 (rw e at some)) refl)
+release_moves Writing k e w value v (some, is) = rw (is, e) (Begin call.Release ∷ Step ∷ [], Begun ∷ Answered Done None ∷ [], (refl, (refl, refl)), refl, refl, w - 1, value, refl, refl, rw (less_by w 1 (rw e at some)) refl)
+release_moves WritingAsked k e w value v (some, is) = rw (is, e) (Begin call.Release ∷ Step ∷ [], Begun ∷ Answered Done None ∷ [], (refl, (refl, refl)), refl, refl, w - 1, value, refl, refl, rw (less_by w 1 (rw e at some)) refl)
 release_moves _ k e w value v so = absurd e
 
 one_of_writers : (u : View) → use_of_view u ≡ writes → Holds u 1
@@ -237,82 +281,100 @@ one_of_writers _ e = absurd cc
 
 -- The moves of a reader that comes
 
--- what an exchange that finds another word is to its call
-abbrev missed : RwCall → ℕ → Ending
-missed call.TryRead n = if is_some (grants call.TryRead n) then GoingOn else Answered Refused None
-missed call.TryUpgradeableRead n = if is_some (grants call.TryUpgradeableRead n) then GoingOn else Answered Refused None
-missed _ n = GoingOn
+abbrev Leads : Option View → ℕ → ℕ → (ℕ → View) → Says → Type 0
+Leads view old new to says = (w : ℕ) (value : Option (Unit {0})) (v : View) → v ≡ to w → (b : Bool) → (w == old) ≡ b → Goes model seat_of words_of view v w value (swaps old new w, tt) (λ own outs. says own outs w v)
 
-abbrev Leads : Option View → ℕ → ℕ → (ℕ → View) → Type 0
-Leads view old new to = (w : ℕ) (value : Option (Unit {0})) (v : View) → v ≡ to w → (b : Bool) → (w == old) ≡ b → Goes model seat_of words_of view v w value (swaps old new w, tt) (λ own outs. leads_by to own outs w v)
-
-by_found : (view : Option View) (old new : ℕ) (to : ℕ → View) → Leads view old new to → Moves view (swaps old new) (λ n v. v ≡ to n) (leads_by to)
-by_found view old new to goes w value v is = goes w value v is (w == old) refl
+by_found : (view : Option View) (old new : ℕ) (to : ℕ → View) (says : Says) → Leads view old new to says → Moves view (swaps old new) (λ n v. v ≡ to n) says
+by_found view old new to says goes w value v is = goes w value v is (w == old) refl
 
 -- the exchange of 0, by which it comes: two steps of the model where it wins, and one where it loses
-try_read_first : (new : ℕ) → grants call.TryRead 0 ≡ Some new → Leads None 0 new (came Reading call.TryRead 0)
-try_read_first new grant w value v is true e = (Begin call.TryRead ∷ Step ∷ Step ∷ [], Begun ∷ GoingOn ∷ Answered Granted None ∷ [], is, refl, refl, new, value, grind (arith, is, e, grant), grind (arith, is, e, grant), grind (arith, e))
-try_read_first new grant w value v is false e = (Begin call.TryRead ∷ Step ∷ [], Begun ∷ missed call.TryRead w ∷ [], is, refl, grind arith, w, value, grind (arith, is, e, grant), grind (arith, e), grind (arith, e))
+try_read_first : (new : ℕ) → grants call.TryRead 0 ≡ Some new → Leads None 0 new (came Reading call.TryRead 0) (comes_by false Reading call.TryRead 0)
+try_read_first new grant w value v is true e = (Begin call.TryRead ∷ Step ∷ Step ∷ [], Begun ∷ GoingOn ∷ Answered Granted None ∷ [], (is, rw e (refl, refl)), refl, refl, new, value, grind (arith, is, e, grant), grind (arith, is, e, grant), grind (arith, e))
+try_read_first new grant w value v is false e = (Begin call.TryRead ∷ Step ∷ [], Begun ∷ missed call.TryRead w ∷ [], (is, rw e (refl, refl)), refl, grind arith, w, value, grind (arith, is, e, grant), grind (arith, e), grind (arith, e))
 
-read_first : (new : ℕ) → grants call.Read 0 ≡ Some new → Leads None 0 new (came Reading call.Read 0)
-read_first new grant w value v is true e = (Begin call.Read ∷ Step ∷ Step ∷ [], Begun ∷ GoingOn ∷ Answered Granted None ∷ [], is, refl, refl, new, value, grind (arith, is, e, grant), grind (arith, is, e, grant), grind (arith, e))
-read_first new grant w value v is false e = (Begin call.Read ∷ Step ∷ [], Begun ∷ missed call.Read w ∷ [], is, refl, grind arith, w, value, grind (arith, is, e, grant), grind (arith, e), grind (arith, e))
+read_first : (new : ℕ) → grants call.Read 0 ≡ Some new → Leads None 0 new (came Reading call.Read 0) (comes_by false Reading call.Read 0)
+read_first new grant w value v is true e = (Begin call.Read ∷ Step ∷ Step ∷ [], Begun ∷ GoingOn ∷ Answered Granted None ∷ [], (is, rw e (refl, refl)), refl, refl, new, value, grind (arith, is, e, grant), grind (arith, is, e, grant), grind (arith, e))
+read_first new grant w value v is false e = (Begin call.Read ∷ Step ∷ [], Begun ∷ missed call.Read w ∷ [], (is, rw e (refl, refl)), refl, grind arith, w, value, grind (arith, is, e, grant), grind (arith, e), grind (arith, e))
 
-try_upgradable_first : (new : ℕ) → grants call.TryUpgradeableRead 0 ≡ Some new → Leads None 0 new (came Upgradable call.TryUpgradeableRead 0)
-try_upgradable_first new grant w value v is true e = (Begin call.TryUpgradeableRead ∷ Step ∷ Step ∷ [], Begun ∷ GoingOn ∷ Answered Granted None ∷ [], is, refl, refl, new, value, grind (arith, is, e, grant), grind (arith, is, e, grant), grind (arith, e))
-try_upgradable_first new grant w value v is false e = (Begin call.TryUpgradeableRead ∷ Step ∷ [], Begun ∷ missed call.TryUpgradeableRead w ∷ [], is, refl, grind arith, w, value, grind (arith, is, e, grant), grind (arith, e), grind (arith, e))
+try_upgradable_first : (new : ℕ) → grants call.TryUpgradeableRead 0 ≡ Some new → Leads None 0 new (came Upgradable call.TryUpgradeableRead 0) (comes_by false Upgradable call.TryUpgradeableRead 0)
+try_upgradable_first new grant w value v is true e = (Begin call.TryUpgradeableRead ∷ Step ∷ Step ∷ [], Begun ∷ GoingOn ∷ Answered Granted None ∷ [], (is, rw e (refl, refl)), refl, refl, new, value, grind (arith, is, e, grant), grind (arith, is, e, grant), grind (arith, e))
+try_upgradable_first new grant w value v is false e = (Begin call.TryUpgradeableRead ∷ Step ∷ [], Begun ∷ missed call.TryUpgradeableRead w ∷ [], (is, rw e (refl, refl)), refl, grind arith, w, value, grind (arith, is, e, grant), grind (arith, e), grind (arith, e))
 
-upgradable_first : (new : ℕ) → grants call.UpgradeableRead 0 ≡ Some new → Leads None 0 new (came Upgradable call.UpgradeableRead 0)
-upgradable_first new grant w value v is true e = (Begin call.UpgradeableRead ∷ Step ∷ Step ∷ [], Begun ∷ GoingOn ∷ Answered Granted None ∷ [], is, refl, refl, new, value, grind (arith, is, e, grant), grind (arith, is, e, grant), grind (arith, e))
-upgradable_first new grant w value v is false e = (Begin call.UpgradeableRead ∷ Step ∷ [], Begun ∷ missed call.UpgradeableRead w ∷ [], is, refl, grind arith, w, value, grind (arith, is, e, grant), grind (arith, e), grind (arith, e))
+upgradable_first : (new : ℕ) → grants call.UpgradeableRead 0 ≡ Some new → Leads None 0 new (came Upgradable call.UpgradeableRead 0) (comes_by false Upgradable call.UpgradeableRead 0)
+upgradable_first new grant w value v is true e = (Begin call.UpgradeableRead ∷ Step ∷ Step ∷ [], Begun ∷ GoingOn ∷ Answered Granted None ∷ [], (is, rw e (refl, refl)), refl, refl, new, value, grind (arith, is, e, grant), grind (arith, is, e, grant), grind (arith, e))
+upgradable_first new grant w value v is false e = (Begin call.UpgradeableRead ∷ Step ∷ [], Begun ∷ missed call.UpgradeableRead w ∷ [], (is, rw e (refl, refl)), refl, grind arith, w, value, grind (arith, is, e, grant), grind (arith, e), grind (arith, e))
 
 -- a further exchange, of the word that it found
-try_read_again : (old new : ℕ) → grants call.TryRead old ≡ Some new → Leads (Some (Coming call.TryRead old)) old new (came Reading call.TryRead old)
-try_read_again old new grant w value v is true e = (Step ∷ [], Answered Granted None ∷ [], is, refl, refl, new, value, grind (arith, is, e, grant), grind (arith, is, e, grant), grind (arith, e))
-try_read_again old new grant w value v is false e = (Step ∷ [], missed call.TryRead w ∷ [], is, refl, grind arith, w, value, grind (arith, is, e, grant), grind (arith, e, grant), grind (arith, e))
+try_read_again : (old new : ℕ) → grants call.TryRead old ≡ Some new → Leads (Some (Coming call.TryRead old)) old new (came Reading call.TryRead old) (comes_by true Reading call.TryRead old)
+try_read_again old new grant w value v is true e = (Step ∷ [], Answered Granted None ∷ [], (is, rw e (refl, refl)), refl, refl, new, value, grind (arith, is, e, grant), grind (arith, is, e, grant), grind (arith, e))
+try_read_again old new grant w value v is false e = (Step ∷ [], missed call.TryRead w ∷ [], (is, rw e (refl, refl)), refl, grind arith, w, value, grind (arith, is, e, grant), grind (arith, e, grant), grind (arith, e))
 
-read_again : (old new : ℕ) → grants call.Read old ≡ Some new → Leads (Some (Coming call.Read old)) old new (came Reading call.Read old)
-read_again old new grant w value v is true e = (Step ∷ [], Answered Granted None ∷ [], is, refl, refl, new, value, grind (arith, is, e, grant), grind (arith, is, e, grant), grind (arith, e))
-read_again old new grant w value v is false e = (Step ∷ [], missed call.Read w ∷ [], is, refl, grind arith, w, value, grind (arith, is, e, grant), grind (arith, e, grant), grind (arith, e))
+read_again : (old new : ℕ) → grants call.Read old ≡ Some new → Leads (Some (Coming call.Read old)) old new (came Reading call.Read old) (comes_by true Reading call.Read old)
+read_again old new grant w value v is true e = (Step ∷ [], Answered Granted None ∷ [], (is, rw e (refl, refl)), refl, refl, new, value, grind (arith, is, e, grant), grind (arith, is, e, grant), grind (arith, e))
+read_again old new grant w value v is false e = (Step ∷ [], missed call.Read w ∷ [], (is, rw e (refl, refl)), refl, grind arith, w, value, grind (arith, is, e, grant), grind (arith, e, grant), grind (arith, e))
 
-try_upgradable_again : (old new : ℕ) → grants call.TryUpgradeableRead old ≡ Some new → Leads (Some (Coming call.TryUpgradeableRead old)) old new (came Upgradable call.TryUpgradeableRead old)
-try_upgradable_again old new grant w value v is true e = (Step ∷ [], Answered Granted None ∷ [], is, refl, refl, new, value, grind (arith, is, e, grant), grind (arith, is, e, grant), grind (arith, e))
-try_upgradable_again old new grant w value v is false e = (Step ∷ [], missed call.TryUpgradeableRead w ∷ [], is, refl, grind arith, w, value, grind (arith, is, e, grant), grind (arith, e, grant), grind (arith, e))
+try_upgradable_again : (old new : ℕ) → grants call.TryUpgradeableRead old ≡ Some new → Leads (Some (Coming call.TryUpgradeableRead old)) old new (came Upgradable call.TryUpgradeableRead old) (comes_by true Upgradable call.TryUpgradeableRead old)
+try_upgradable_again old new grant w value v is true e = (Step ∷ [], Answered Granted None ∷ [], (is, rw e (refl, refl)), refl, refl, new, value, grind (arith, is, e, grant), grind (arith, is, e, grant), grind (arith, e))
+try_upgradable_again old new grant w value v is false e = (Step ∷ [], missed call.TryUpgradeableRead w ∷ [], (is, rw e (refl, refl)), refl, grind arith, w, value, grind (arith, is, e, grant), grind (arith, e, grant), grind (arith, e))
 
-upgradable_again : (old new : ℕ) → grants call.UpgradeableRead old ≡ Some new → Leads (Some (Coming call.UpgradeableRead old)) old new (came Upgradable call.UpgradeableRead old)
-upgradable_again old new grant w value v is true e = (Step ∷ [], Answered Granted None ∷ [], is, refl, refl, new, value, grind (arith, is, e, grant), grind (arith, is, e, grant), grind (arith, e))
-upgradable_again old new grant w value v is false e = (Step ∷ [], missed call.UpgradeableRead w ∷ [], is, refl, grind arith, w, value, grind (arith, is, e, grant), grind (arith, e, grant), grind (arith, e))
+upgradable_again : (old new : ℕ) → grants call.UpgradeableRead old ≡ Some new → Leads (Some (Coming call.UpgradeableRead old)) old new (came Upgradable call.UpgradeableRead old) (comes_by true Upgradable call.UpgradeableRead old)
+upgradable_again old new grant w value v is true e = (Step ∷ [], Answered Granted None ∷ [], (is, rw e (refl, refl)), refl, refl, new, value, grind (arith, is, e, grant), grind (arith, is, e, grant), grind (arith, e))
+upgradable_again old new grant w value v is false e = (Step ∷ [], missed call.UpgradeableRead w ∷ [], (is, rw e (refl, refl)), refl, grind arith, w, value, grind (arith, is, e, grant), grind (arith, e, grant), grind (arith, e))
+
+-- where the call begins it may be any party that is out
+first_moves : (won : View) (waits : Bool) → Comes won → (new : ℕ) → grants (call_of won waits) 0 ≡ Some new → Moves None (swaps 0 new) (λ n v. v ≡ came won (call_of won waits) 0 n) (comes_by false won (call_of won waits) 0)
+first_moves Reading false cm new grant = by_found None 0 new (came Reading call.TryRead 0) (comes_by false Reading call.TryRead 0) (try_read_first new grant)
+first_moves Reading true cm new grant = by_found None 0 new (came Reading call.Read 0) (comes_by false Reading call.Read 0) (read_first new grant)
+first_moves Upgradable false cm new grant = by_found None 0 new (came Upgradable call.TryUpgradeableRead 0) (comes_by false Upgradable call.TryUpgradeableRead 0) (try_upgradable_first new grant)
+first_moves Upgradable true cm new grant = by_found None 0 new (came Upgradable call.UpgradeableRead 0) (comes_by false Upgradable call.UpgradeableRead 0) (upgradable_first new grant)
+first_moves _ waits cm new grant = absurd cm
+
+again_moves : (won : View) (waits : Bool) → Comes won → (old new : ℕ) → grants (call_of won waits) old ≡ Some new
+    → Moves (Some (Coming (call_of won waits) old)) (swaps old new) (λ n v. v ≡ came won (call_of won waits) old n) (comes_by true won (call_of won waits) old)
+again_moves Reading false cm old new grant = by_found (Some (Coming call.TryRead old)) old new (came Reading call.TryRead old) (comes_by true Reading call.TryRead old) (try_read_again old new grant)
+again_moves Reading true cm old new grant = by_found (Some (Coming call.Read old)) old new (came Reading call.Read old) (comes_by true Reading call.Read old) (read_again old new grant)
+again_moves Upgradable false cm old new grant = by_found (Some (Coming call.TryUpgradeableRead old)) old new (came Upgradable call.TryUpgradeableRead old) (comes_by true Upgradable call.TryUpgradeableRead old) (try_upgradable_again old new grant)
+again_moves Upgradable true cm old new grant = by_found (Some (Coming call.UpgradeableRead old)) old new (came Upgradable call.UpgradeableRead old) (comes_by true Upgradable call.UpgradeableRead old) (upgradable_again old new grant)
+again_moves _ waits cm old new grant = absurd cm
+
+-- a party in the call that goes on
+pub in_its_call : (won : View) (waits : Bool) → Comes won → (old new : ℕ) → grants (call_of won waits) old ≡ Some new → in_call (Some (Coming (call_of won waits) old)) ≡ true
+in_its_call Reading false cm old new grant = rw grant refl
+in_its_call Reading true cm old new grant = rw grant refl
+in_its_call Upgradable false cm old new grant = rw grant refl
+in_its_call Upgradable true cm old new grant = rw grant refl
+in_its_call _ waits cm old new grant = absurd cm
 
 come_moves : (won : View) (waits : Bool) → Comes won → (view : Option View) (old new : ℕ) → MayCome (call_of won waits) old view → grants (call_of won waits) old ≡ Some new
-    → Moves view (swaps old new) (λ n v. v ≡ came won (call_of won waits) old n) (leads_by (came won (call_of won waits) old))
-come_moves Reading false cm None old new may grant = rw may (by_found None 0 new (came Reading call.TryRead 0) (try_read_first new (rw may at grant)))
-come_moves Reading true cm None old new may grant = rw may (by_found None 0 new (came Reading call.Read 0) (read_first new (rw may at grant)))
-come_moves Upgradable false cm None old new may grant = rw may (by_found None 0 new (came Upgradable call.TryUpgradeableRead 0) (try_upgradable_first new (rw may at grant)))
-come_moves Upgradable true cm None old new may grant = rw may (by_found None 0 new (came Upgradable call.UpgradeableRead 0) (upgradable_first new (rw may at grant)))
-come_moves Reading false cm (Some u) old new may grant = rw may (by_found (Some (Coming call.TryRead old)) old new (came Reading call.TryRead old) (try_read_again old new grant))
-come_moves Reading true cm (Some u) old new may grant = rw may (by_found (Some (Coming call.Read old)) old new (came Reading call.Read old) (read_again old new grant))
-come_moves Upgradable false cm (Some u) old new may grant = rw may (by_found (Some (Coming call.TryUpgradeableRead old)) old new (came Upgradable call.TryUpgradeableRead old) (try_upgradable_again old new grant))
-come_moves Upgradable true cm (Some u) old new may grant = rw may (by_found (Some (Coming call.UpgradeableRead old)) old new (came Upgradable call.UpgradeableRead old) (upgradable_again old new grant))
-come_moves _ waits cm view old new may grant = absurd cm
+    → Moves view (swaps old new) (λ n v. v ≡ came won (call_of won waits) old n) (comes_by (in_call view) won (call_of won waits) old)
+come_moves won waits cm view old new (inl (out, free)) grant =
+    let c = call_of won waits in
+    rw (not_in_call view out, free) (as_new (swaps 0 new) (λ n v. v ≡ came won c 0 n) (comes_by false won c 0) view out (first_moves won waits cm new (rw free at grant)))
+come_moves won waits cm view old new (inr is) grant = rw (is, in_its_call won waits cm old new grant) (again_moves won waits cm old new grant)
 
 -- the load of a call that waits, after a word that keeps it out
-look_moves : (won : View) → Comes won → (old : ℕ) → grants (call_of won true) old ≡ None → Moves (Some (Coming (call_of won true) old)) (λ n. n) (λ n v. v ≡ Coming (call_of won true) n) (leads_by (Coming (call_of won true)))
-look_moves Reading cm old none w value v is = rw is (Step ∷ [], GoingOn ∷ [], refl, refl, refl, w, value, grind (arith, none), grind (arith, none), refl)
-look_moves Upgradable cm old none w value v is = rw is (Step ∷ [], GoingOn ∷ [], refl, refl, refl, w, value, grind (arith, none), grind (arith, none), refl)
+look_moves : (won : View) → Comes won → (old : ℕ) → grants (call_of won true) old ≡ None → Moves (Some (Coming (call_of won true) old)) (λ n. n) (λ n v. v ≡ Coming (call_of won true) n) (looks_by (call_of won true))
+look_moves Reading cm old none w value v is = rw is (Step ∷ [], GoingOn ∷ [], (refl, (refl, refl)), refl, refl, w, value, grind (arith, none), grind (arith, none), refl)
+look_moves Upgradable cm old none w value v is = rw is (Step ∷ [], GoingOn ∷ [], (refl, (refl, refl)), refl, refl, w, value, grind (arith, none), grind (arith, none), refl)
 look_moves _ cm old none w value v is = absurd cm
 
 -- the exchange of `{:?}`: a try where it wins, and else a look, which its party makes of no more use than a count
-peek_first : (old new : ℕ) → grants call.TryRead old ≡ Some new → Leads None old new (either_at old Reading Idle)
-peek_first old new grant w value v is true e = (Begin call.TryRead ∷ Step ∷ Step ∷ [], Begun ∷ GoingOn ∷ Answered Granted None ∷ [], is, refl, refl, new, value, grind (arith, is, e, grant), grind (arith, is, e, grant), grind (arith, e))
-peek_first old new grant w value v is false e = (Begin call.ReaderCount ∷ Step ∷ [], Begun ∷ Answered (Count (readers_in w)) None ∷ [], is, refl, refl, w, value, grind (arith, is, e), refl, grind (arith, e))
+peek_first : (old new : ℕ) → grants call.TryRead old ≡ Some new → Leads None old new (either_at old Reading Idle) (peeks_by old)
+peek_first old new grant w value v is true e = (Begin call.TryRead ∷ Step ∷ Step ∷ [], Begun ∷ GoingOn ∷ Answered Granted None ∷ [], (is, rw e (refl, refl)), refl, refl, new, value, grind (arith, is, e, grant), grind (arith, is, e, grant), grind (arith, e))
+peek_first old new grant w value v is false e = (Begin call.ReaderCount ∷ Step ∷ [], Begun ∷ Answered (Count (readers_in w)) None ∷ [], (is, rw e (refl, refl)), refl, refl, w, value, grind (arith, is, e), refl, grind (arith, e))
+
+sits_idle : (won : View) → Comes won → (n : ℕ) → grants (call_of won false) n ≡ None → seat_of (Coming (call_of won false) n) ≡ seat.Idle
+sits_idle Reading cm n none = rw none refl
+sits_idle Upgradable cm n none = rw none refl
+sits_idle _ cm n none = absurd cm
 
 -- Each step keeps the rule, and appends its moves
 
-abbrev own_ways : Ways (Unit {0}) (Numbered View)
+abbrev pub own_ways : Ways (Unit {0}) (Numbered View)
 own_ways = (lends, use_of_party)
 
 module _ (name : ℕ) where
-  abbrev Keeps : Option (Numbered View) → (ℕ → ℕ) → (List OneMove → List Ending → ℕ → View → Type 0) → Type 0
+  abbrev Keeps : Option (Numbered View) → (ℕ → ℕ) → Says → Type 0
   Keeps view f says = Traces (IsRw name) own_ways view None f (Told says view)
 
   keeps : (view : Option (Numbered View)) (f : ℕ → ℕ) (so : ℕ → View → Type 0) (says : List OneMove → List Ending → ℕ → View → Type 0) → Moves (what view) f so says → Allows Word (ways rw-lock) (what view) f so → Keeps view f says
@@ -321,30 +383,36 @@ module _ (name : ℕ) where
   pub starts : (t : Trace rws.Done (Unit {0})) → t.name ≡ name → t.entries ≡ [] → Meets (IsRw name) own_ways 0 t []
   starts t named empty = tie.opens model seat_of words_of Word name (Unit {0}) lends use_of_view 0 t named empty refl (begins rw-lock 0 0 0 tt (omega arith) refl refl)
 
-  pub counts_readers : Keeps None (λ n. n) (counts_by call.ReaderCount readers_in)
-  counts_readers = keeps None (λ n. n) (To IsRwWord (λ n. Idle)) (counts_by call.ReaderCount readers_in) readers_moves looks
+  pub counts : (call : RwCall) (count : ℕ → ℕ) → Moves None (λ n. n) (To IsRwWord (λ n. Idle)) (counts_by call count) → (view : Option (Numbered View)) → IsOut (what view) → Keeps view (λ n. n) (counts_by call count)
+  counts call count moves view out = keeps view (λ n. n) (To IsRwWord (λ n. Idle)) (counts_by call count) (as_new (λ n. n) (To IsRwWord (λ n. Idle)) (counts_by call count) (what view) out moves) (looks (what view) out)
 
-  pub counts_writers : Keeps None (λ n. n) (counts_by call.WriterCount writers_in)
-  counts_writers = keeps None (λ n. n) (To IsRwWord (λ n. Idle)) (counts_by call.WriterCount writers_in) writers_moves looks
+  pub counts_readers : (view : Option (Numbered View)) → IsOut (what view) → Keeps view (λ n. n) (counts_by call.ReaderCount readers_in)
+  counts_readers = counts call.ReaderCount readers_in readers_moves
+
+  pub counts_writers : (view : Option (Numbered View)) → IsOut (what view) → Keeps view (λ n. n) (counts_by call.WriterCount writers_in)
+  counts_writers = counts call.WriterCount writers_in writers_moves
 
   pub comes_in : (won : View) (waits : Bool) → Comes won → (view : Option (Numbered View)) (old new : ℕ) → MayCome (call_of won waits) old (what view) → grants (call_of won waits) old ≡ Some new → Admits won old new
-      → Keeps view (swaps old new) (leads_by (came won (call_of won waits) old))
+      → Keeps view (swaps old new) (comes_by (in_call (what view)) won (call_of won waits) old)
   comes_in won waits cm view old new may grant plain =
-      keeps view (swaps old new) (λ n v. v ≡ came won (call_of won waits) old n) (leads_by (came won (call_of won waits) old)) (come_moves won waits cm (what view) old new may grant) (comes won (call_of won waits) cm (what view) old new may plain)
+      let c = call_of won waits in
+      keeps view (swaps old new) (λ n v. v ≡ came won c old n) (comes_by (in_call (what view)) won c old) (come_moves won waits cm (what view) old new may grant) (comes won c cm (what view) old new may plain)
 
-  pub looks_on : (won : View) → Comes won → (view : Option (Numbered View)) (old : ℕ) → what view ≡ Some (Coming (call_of won true) old) → grants (call_of won true) old ≡ None → Keeps view (λ n. n) (leads_by (Coming (call_of won true)))
-  looks_on won cm view old is none = keeps view (λ n. n) (λ n v. v ≡ Coming (call_of won true) n) (leads_by (Coming (call_of won true))) (rw is (look_moves won cm old none)) (rw is (looks_again (call_of won true) old))
+  pub looks_on : (won : View) → Comes won → (view : Option (Numbered View)) (old : ℕ) → what view ≡ Some (Coming (call_of won true) old) → grants (call_of won true) old ≡ None → Keeps view (λ n. n) (looks_by (call_of won true))
+  looks_on won cm view old is none = keeps view (λ n. n) (λ n v. v ≡ Coming (call_of won true) n) (looks_by (call_of won true)) (rw is (look_moves won cm old none)) (rw is (looks_again (call_of won true) old))
 
-  pub peeks : (old new : ℕ) → grants call.TryRead old ≡ Some new → Admits Reading old new → Keeps None (swaps old new) (leads_by (either_at old Reading Idle))
+  pub peeks : (old new : ℕ) → grants call.TryRead old ≡ Some new → Admits Reading old new → Keeps None (swaps old new) (peeks_by old)
   peeks old new grant plain =
-      keeps None (swaps old new) (λ n v. v ≡ either_at old Reading Idle n) (leads_by (either_at old Reading Idle)) (by_found None old new (either_at old Reading Idle) (peek_first old new grant))
-      (exchanges None to_read Reading (λ n. Idle) old new (λ s p. refl) (λ s. tt) (λ p n. refl) (λ s n. tt) (λ s p room order has e. plain s p (one_of_each s order.exclusive) room e))
+      keeps None (swaps old new) (λ n v. v ≡ either_at old Reading Idle n) (peeks_by old) (by_found None old new (either_at old Reading Idle) (peeks_by old) (peek_first old new grant))
+      (tries_at None refl to_read Reading (λ n. Idle) (λ n. refl) old new (λ s p. refl) (λ s. tt) (λ s p room order e. plain s p (one_of_each s order.exclusive) room e))
 
-  pub tries_to_write : ((s : Plain) (p : ℕ) → rw_word s ≡ 0 → Decides s (gets p to_write) rw_word (Some 1)) → Keeps None (swaps 0 1) (ends_by call.TryWrite (given 0) (either_at 0 Writing Idle))
-  tries_to_write plain = keeps None (swaps 0 1) (λ n v. v ≡ either_at 0 Writing Idle n) (ends_by call.TryWrite (given 0) (either_at 0 Writing Idle)) try_write_moves (writes_at None tt Idle refl 0 1 plain)
+  pub tries_to_write : (view : Option (Numbered View)) → IsOut (what view) → ((s : Plain) (p : ℕ) → rw_word s ≡ 0 → Decides s (gets p to_write) rw_word (Some 1)) → Keeps view (swaps 0 1) (ends_by call.TryWrite (given 0) (either_at 0 Writing Idle))
+  tries_to_write view out plain =
+      let so : ℕ → View → Type 0 = λ n v. v ≡ either_at 0 Writing Idle n in let says : Says = ends_by call.TryWrite (given 0) (either_at 0 Writing Idle) in
+      keeps view (swaps 0 1) so says (as_new (swaps 0 1) so says (what view) out try_write_moves) (writes_at (what view) (out_holds_none (what view) out) Idle refl 0 1 plain)
 
-  pub writes_on : (view : Option (Numbered View)) → MayWrite (what view) → ((s : Plain) (p : ℕ) → rw_word s ≡ 0 → Decides s (gets p to_write) rw_word (Some 1)) → Keeps view (swaps 0 1) (leads_by (either_at 0 Writing WaitingToWrite))
-  writes_on view may plain = keeps view (swaps 0 1) (λ n v. v ≡ either_at 0 Writing WaitingToWrite n) (leads_by (either_at 0 Writing WaitingToWrite)) (write_moves (what view) may) (writes_at (what view) may WaitingToWrite refl 0 1 plain)
+  pub writes_on : (view : Option (Numbered View)) → MayWrite (what view) → ((s : Plain) (p : ℕ) → rw_word s ≡ 0 → Decides s (gets p to_write) rw_word (Some 1)) → Keeps view (swaps 0 1) (writes_by (in_call (what view)) 0)
+  writes_on view may plain = keeps view (swaps 0 1) (λ n v. v ≡ either_at 0 Writing WaitingToWrite n) (writes_by (in_call (what view)) 0) (write_moves_of (what view) may) (writes_at (what view) (may_write (what view) may) WaitingToWrite refl 0 1 plain)
 
   module _ (view : Option (Numbered View)) where
     pub tries_to_upgrade : what view ≡ Some Upgradable → ((s : Plain) (p : ℕ) → OneOfEach s → is_holder p upgradable s.holders ≡ true → rw_word s ≡ 2 → Decides s (gets p to_upgrade) rw_word (Some 1))
@@ -352,11 +420,11 @@ module _ (name : ℕ) where
     tries_to_upgrade is plain = keeps view (swaps 2 1) (λ n v. v ≡ either_at 2 Writing Upgradable n) (ends_by call.TryUpgrade (given 2) (either_at 2 Writing Upgradable)) (rw is try_upgrade_moves) (rw is (upgrades_at 2 1 plain))
 
     pub upgrades : what view ≡ Some Asking → ((s : Plain) (p : ℕ) → OneOfEach s → is_holder p asking s.holders ≡ true → rw_word s ≡ 6 → Decides s (gets p to_upgrade_asked) rw_word (Some 1))
-        → Keeps view (swaps 6 1) (leads_by (either_at 6 WritingAsked Asking))
-    upgrades is plain = keeps view (swaps 6 1) (λ n v. v ≡ either_at 6 WritingAsked Asking n) (leads_by (either_at 6 WritingAsked Asking)) (rw is upgrade_moves) (rw is (upgrades_asked_at 6 1 plain))
+        → Keeps view (swaps 6 1) (upgrades_by 6)
+    upgrades is plain = keeps view (swaps 6 1) (λ n v. v ≡ either_at 6 WritingAsked Asking n) (upgrades_by 6) (rw is upgrade_moves) (rw is (upgrades_asked_at 6 1 plain))
 
-    pub asks_on : what view ≡ Some Upgradable → Keeps view (λ n. (n + 4) % 2 ^ 64) (leads_by (λ n. Asking))
-    asks_on is = keeps view (λ n. (n + 4) % 2 ^ 64) (To (Weighs 0) (λ n. Asking)) (leads_by (λ n. Asking)) (rw is ask_moves) (rw is (turns_by Upgradable Asking upgradable asking 4 (λ p. refl) (λ p. refl) (λ s. tt) refl refl))
+    pub asks_on : what view ≡ Some Upgradable → Keeps view (λ n. (n + 4) % 2 ^ 64) asks_by
+    asks_on is = keeps view (λ n. (n + 4) % 2 ^ 64) (To (Weighs 0) (λ n. Asking)) asks_by (rw is ask_moves) (rw is (turns_by Upgradable Asking upgradable asking 4 (λ p. refl) (λ p. refl) (λ s. tt) refl refl))
 
     pub upgradable_reads : what view ≡ Some Upgradable → Keeps view (λ n. (n + 6) % 2 ^ 64) (ends_by call.Downgrade (λ n. Done) (λ n. Reading))
     upgradable_reads is = keeps view (λ n. (n + 6) % 2 ^ 64) (To (Weighs 0) (λ n. Reading)) (ends_by call.Downgrade (λ n. Done) (λ n. Reading)) (rw is downgrade_moves) (rw is (turns_by Upgradable Reading upgradable reading 6 (λ p. refl) (λ p. refl) (λ s. tt) refl refl))
@@ -382,28 +450,21 @@ module _ (name : ℕ) where
 
   -- Who may go
 
-  sits_idle : (won : View) → Comes won → (n : ℕ) → grants (call_of won false) n ≡ None → seat_of (Coming (call_of won false) n) ≡ seat.Idle
-  sits_idle Reading cm n none = rw none refl
-  sits_idle Upgradable cm n none = rw none refl
-  sits_idle _ cm n none = absurd cm
-
   rests_at : (v : View) → seat_of v ≡ seat.Idle → part v ≡ part Idle → (m k : ℕ) → Rests (IsRw name) use_of_party (Some (v, m, k))
   rests_at v sits is m k = tie.rests model seat_of words_of Word name (Unit {0}) lends use_of_view (v, m, k) sits (plays.rests rw-lock v (rw is refl) (λ p. rw is refl))
 
   pub idle_rests : (v : Numbered View) → v.0 ≡ Idle → Rests (IsRw name) use_of_party (Some v)
   idle_rests v is = rw is (rests_at Idle refl refl v.1 v.2)
 
-  -- a try that is kept out
-  pub refused_rests : (won : View) → Comes won → (n : ℕ) → grants (call_of won false) n ≡ None → (view : Option (Numbered View)) → what view ≡ Some (Coming (call_of won false) n) → Rests (IsRw name) use_of_party view
-  refused_rests won cm n none None is = absurd cc
-  refused_rests won cm n none (Some v) is = let same : v.0 ≡ Coming (call_of won false) n = cc in rw same (rests_at (Coming (call_of won false) n) (sits_idle won cm n none) refl v.1 v.2)
+  -- a party that is out
+  pub out_rests : (view : Option (Numbered View)) → IsOut (what view) → Rests (IsRw name) use_of_party view
+  out_rests None out = tt
+  out_rests (Some v) out = rests_at v.0 (seat_idle (seat_of v.0) out) (out_holds_none (Some v.0) out) v.1 v.2
 
   -- an exchange that found another word
   pub missed_rests : (won : View) (old found : ℕ) → found ≢ old → (v : Numbered View) → v.0 ≡ either_at old won Idle found → Rests (IsRw name) use_of_party (Some v)
   missed_rests won old found other v is = idle_rests v (is ∙ ap (λ b. if b then won else Idle) (ne_eqb found old other))
 
-  -- a holder that has left
-  module _ (named : Type 0) (before : Option (Numbered View)) (known now : Watch rws.Done) (found : ℕ) where
-    pub left_rests : (view : Option (Numbered View)) → Moved (Watches named known now (Told (ends_by call.Release (λ n. Done) (λ n. Idle)) before) found) view → Rests (IsRw name) use_of_party view
-    left_rests None moved = absurd moved
-    left_rests (Some v) moved = idle_rests v moved.1.4.6.0
+-- a try that is kept out has been refused, and is out
+pub refused_out : (won : View) → Comes won → (n : ℕ) → grants (call_of won false) n ≡ None → (view : Option View) → view ≡ Some (Coming (call_of won false) n) → IsOut view
+refused_out won cm n none view is = rw is (ap rws.is_idle (sits_idle won cm n none))

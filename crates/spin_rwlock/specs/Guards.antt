@@ -1,11 +1,16 @@
--- The value of a guard, and the write guard with another value in its place.
-use Rattle.std.specs.Prelude.{Option}
+-- The value of a guard, the write guard with another value in its place, and what is known of the history beside it.
+use Rattle.std.specs.Prelude.{◌≡◌, Option, Some, length}
+use Rattle.spin_core.specs.Own.{Numbered}
+use Rattle.spin_core.specs.Passes.{mark_of}
+use Rattle.spin_core.specs.declared.trace.Watch.{Watch}
 use Rattle.spin_core.specs.Writer.{with_value}
 use Rattle.spin_rwlock.specs.declared.rwlock.reader.SharedGuard.{SharedGuard}
 use Rattle.spin_rwlock.specs.declared.rwlock.rule.Kind.{Ghosts}
 use Rattle.spin_rwlock.specs.declared.rwlock.reader.ReadHeld.{ReadHeld}
 use Rattle.spin_rwlock.specs.declared.rwlock.writer.RwLockWriteGuard.{RwLockWriteGuard}
 use Rattle.spin_rwlock.specs.declared.rwlock.writer.WriteHeld.{WriteHeld}
+use Rattle.spin_rwlock.specs.declared.rwlock.rule.View.{View}
+use Rattle.spin_rwlock.specs.Rw.{Done}
 
 module _ {T R : Type 0} where
   -- of a guard there always is one
@@ -25,3 +30,24 @@ module _ {T R : Type 0} where
   -- the value that comes free once the hold is spent
   abbrev pub write_held_value : WriteHeld T R → Option T
   write_held_value it = it.permit.value
+
+  -- the party of a guard
+  abbrev pub shared_party : {K : Type 0} {kind : Ghosts K} → SharedGuard T K R kind → Option (Numbered View)
+  shared_party it = it.permit.view
+
+  abbrev pub write_party : RwLockWriteGuard T R → Option (Numbered View)
+  write_party it = Some it.writer.view
+
+  -- and of a hold
+  abbrev pub read_held_party : ReadHeld T R → Option (Numbered View)
+  read_held_party it = it.permit.view
+
+  abbrev pub write_held_party : WriteHeld T R → Option (Numbered View)
+  write_held_party it = it.permit.view
+
+  -- beside a guard its pass knows all of the lock's history up to the guard's last step
+  abbrev pub ReadsWith : {K : Type 0} {kind : Ghosts K} → SharedGuard T K R kind → Watch Done → Type 0
+  ReadsWith it seen = (it.permit.key.name ≡ seen.name) × (mark_of it.permit.view ≡ length seen.entries)
+
+  abbrev pub WritesWith : RwLockWriteGuard T R → Watch Done → Type 0
+  WritesWith it seen = (it.writer.key.name ≡ seen.name) × (it.writer.view.2 ≡ length seen.entries)

@@ -1,4 +1,7 @@
 pub mod Rw
 pub mod Guards
+pub mod Steps
+pub mod Waits
+pub mod RwPasses
 pub mod Standing
 pub mod Texts

@@ -1,10 +1,10 @@
 -- The rule of a read-write lock: its word is that of a plain lock whose holders are its parties, and its trace is a schedule of the lock's model, which leads there.
-use Rattle.std.specs.Prelude.{◌≡◌, ◌≢◌, ℕ, List, [], ◌∷◌, Bool, true, false, Option, Some, None, is_some, ◌==◌, if◌then◌else◌, map}
+use Rattle.std.specs.Prelude.{◌≡◌, ◌≢◌, ◌⊎◌, ℕ, List, [], ◌∷◌, Bool, true, false, Option, Some, None, is_some, ◌==◌, if◌then◌else◌, map}
 use Rattle.spin_step.specs.Plain.{Plain, reading, upgradable, asking, writing, Ask, to_read, to_read_upgradable, rw_word}
 use Rattle.spin_step.specs.Orders.{IsInOrder}
-use Rattle.spin_step_more.specs.Readers.{reader_limit, read, read_upgradable}
+use Rattle.spin_step_more.specs.Readers.{reader_limit, readers_in, read, read_upgradable}
 use Rattle.spin_step_more.specs.declared.rw_calls.RwCall.{RwCall}
-use Rattle.spin_step_more.specs.declared.rw_calls.RwCall.TheVariants.{TryRead, Read, TryUpgradeableRead, UpgradeableRead, Write, Upgrade}
+use Rattle.spin_step_more.specs.declared.rw_calls.RwCall.TheVariants.{TryRead, Read, TryUpgradeableRead, UpgradeableRead, Write, ReaderCount, Upgrade}
 use Rattle.spin_step_more.specs.declared.rw_calls.RwPoint.{RwPoint}
 use Rattle.spin_step_more.specs.declared.rw_calls.RwPoint.TheVariants as point
 use Rattle.spin_step_more.specs.RwCalls.{rw_machine}
@@ -16,13 +16,14 @@ use Rattle.spin_model.specs.declared.answer.Answer.TheVariants.{Granted, Refused
 use Rattle.spin_model.specs.declared.schedule.Move.{Move}
 use Rattle.spin_model.specs.declared.schedule.Move.TheVariants.{Begin, Step}
 use Rattle.spin_model.specs.declared.schedule.Outcome.{Outcome}
-use Rattle.spin_model.specs.declared.schedule.Outcome.TheVariants.{Begun, Answered}
+use Rattle.spin_model.specs.declared.schedule.Outcome.TheVariants.{Begun, GoingOn, Answered}
 use Rattle.spin_model.specs.Acts.{either}
 use Rattle.spin_model.specs.Machines.{Machine}
 use Rattle.spin_model.specs.Schedules.{Entry}
 use Rattle.spin_core.specs.Cell.{Use, lends, Ways}
 use Rattle.spin_core.specs.Views.{Part, idle, holds, Encodes, used_by, no_word}
 use Rattle.spin_core.specs.Own.{Numbered, Runs, Tells, what}
+use Rattle.spin_core.specs.Passes.{Course, Waits, Ends, Begins, IsCall, IsStep, step_by, Made}
 use Rattle.spin_core.specs.declared.cell.Permit.{Permit}
 use Rattle.spin_core.specs.declared.trace.Trace.{Trace}
 use Rattle.spin_rwlock.specs.declared.rwlock.rule.View.{View}
@@ -102,21 +103,79 @@ views vs = map (λ v. v.0) vs
 abbrev pub IsRwWord : ℕ → Type 0
 IsRwWord word = (s : Plain) × (s.cap ≡ reader_limit) × IsInOrder s × (word ≡ rw_word s)
 
+-- Where a party stands in its calls
+
+-- a party that sits so is in a call
+abbrev pub is_calling : Seat RwCall RwPoint → Bool
+is_calling (seat.Calling call point held) = true
+is_calling _ = false
+
+abbrev pub in_call : Option View → Bool
+in_call None = false
+in_call (Some v) = is_calling (seat_of v)
+
+-- it is in no call, and holds nothing
+abbrev pub is_idle : Seat RwCall RwPoint → Bool
+is_idle seat.Idle = true
+is_idle _ = false
+
+abbrev pub is_out : Option View → Bool
+is_out None = true
+is_out (Some v) = is_idle (seat_of v)
+
+abbrev pub IsOut : Option View → Type 0
+IsOut view = is_out view ≡ true
+
+-- The courses of a call: its moves, and what they come to
+
+abbrev pub OneCourse : Type 1
+OneCourse = Course (Unit {0}) RwCall (Answer (Unit {0}))
+
+-- a call that comes to read goes on after an exchange that found this word
+abbrev pub still : RwCall → ℕ → Bool
+still TryRead n = is_some (grants TryRead n)
+still TryUpgradeableRead n = is_some (grants TryUpgradeableRead n)
+still _ n = true
+
+-- what that exchange is to the call
+abbrev pub missed : RwCall → ℕ → Ending
+missed TryRead n = if is_some (grants TryRead n) then GoingOn else Answered Refused None
+missed TryUpgradeableRead n = if is_some (grants TryUpgradeableRead n) then GoingOn else Answered Refused None
+missed _ n = GoingOn
+
+-- The exchange that lets it in. By one that begins the call (false) the model's party first looks, and finds a free lock
+abbrev pub IsGrant : Bool → RwCall → OneCourse
+IsGrant true call own outs = IsStep true call (Answered Granted None) own outs
+IsGrant false call own outs = (own ≡ Begin call ∷ Step ∷ Step ∷ []) × (outs ≡ Begun ∷ GoingOn ∷ Answered Granted None ∷ [])
+
+-- by whether it found the word that it expected
+abbrev pub IsArrival : Bool → RwCall → Bool → ℕ → OneCourse
+IsArrival goes_on call true n = IsGrant goes_on call
+IsArrival goes_on call false n = IsStep goes_on call (missed call n)
+
+-- a call that goes on, or has been refused
+abbrev pub Left : Bool → OneCourse
+Left true = Waits
+Left false = Ends Refused
+
+-- a call that comes to read, and found this word last
+abbrev pub Seeks : RwCall → ℕ → OneCourse
+Seeks call n = Begins call (Left (still call n))
+
 -- The steps: which moves, with which outcomes, by the number found, and the view after
 
-abbrev pub Told : (List OneMove → List Ending → ℕ → View → Type 0) → Option (Numbered View) → List Done → List Done → ℕ → Numbered View → Type 0
+abbrev pub Says : Type 1
+Says = List OneMove → List Ending → ℕ → View → Type 0
+
+abbrev pub Told : Says → Option (Numbered View) → List Done → List Done → ℕ → Numbered View → Type 0
 Told = Tells model seat_of words_of
 
--- a step within a call, or of one that goes on: no more is told than where it leads
-abbrev pub leads_by : (ℕ → View) → List OneMove → List Ending → ℕ → View → Type 0
-leads_by to own outs n v = v ≡ to n
-
 -- a whole call in one step, with its answer
-abbrev pub ends_by : RwCall → (ℕ → Answer (Unit {0})) → (ℕ → View) → List OneMove → List Ending → ℕ → View → Type 0
-ends_by call answer to own outs n v = (v ≡ to n) × (own ≡ Begin call ∷ Step ∷ []) × (outs ≡ Begun ∷ Answered (answer n) None ∷ [])
+abbrev pub ends_by : RwCall → (ℕ → Answer (Unit {0})) → (ℕ → View) → Says
+ends_by call answer to = step_by false call (λ n. Answered (answer n) None) to
 
 -- a call that counts so by the word of the lock
-abbrev pub counts_by : RwCall → (ℕ → ℕ) → List OneMove → List Ending → ℕ → View → Type 0
+abbrev pub counts_by : RwCall → (ℕ → ℕ) → Says
 counts_by call count own outs n v = IsRwWord n × ends_by call (λ m. Count (count m)) (λ m. Idle) own outs n v
 
 -- an exchange that finds the number which it expected, and one that finds another
@@ -125,6 +184,39 @@ either_at old won lost n = if n == old then won else lost
 
 abbrev pub given : ℕ → ℕ → Answer (Unit {0})
 given old = either_at old Granted Refused
+
+abbrev pub granted_or_on : ℕ → ℕ → Ending
+granted_or_on old = either_at old (Answered Granted None) GoingOn
+
+-- the exchange of `write`, by whether its call has begun
+abbrev pub writes_by : Bool → ℕ → Says
+writes_by goes_on old = step_by goes_on Write (granted_or_on old) (either_at old Writing WaitingToWrite)
+
+-- the addition by which `upgrade` asks, and its exchange
+abbrev pub asks_by : Says
+asks_by = step_by false Upgrade (λ n. GoingOn) (λ n. Asking)
+
+abbrev pub upgrades_by : ℕ → Says
+upgrades_by old = step_by true Upgrade (granted_or_on old) (either_at old WritingAsked Asking)
+
+-- the load of a call that waits to read
+abbrev pub looks_by : RwCall → Says
+looks_by call = step_by true call (λ n. GoingOn) (Coming call)
+
+-- where the exchange of a reader that comes leads, and what it is
+abbrev pub came : View → RwCall → ℕ → ℕ → View
+came won call old n = if n == old then won else Coming call n
+
+abbrev pub comes_by : Bool → View → RwCall → ℕ → Says
+comes_by goes_on won call old own outs n v = (v ≡ came won call old n) × IsArrival goes_on call (n == old) n own outs
+
+-- the exchange of `{:?}`: a try where it wins, and else one more look
+abbrev pub IsPeek : Bool → ℕ → OneCourse
+IsPeek true n = IsGrant false TryRead
+IsPeek false n = IsStep false ReaderCount (Answered (Count (readers_in n)) None)
+
+abbrev pub peeks_by : ℕ → Says
+peeks_by old own outs n v = (v ≡ either_at old Reading Idle n) × IsPeek (n == old) n own outs
 
 -- Who comes to read
 
@@ -140,10 +232,6 @@ abbrev pub asks : View → Ask
 asks Upgradable = to_read_upgradable
 asks _ = to_read
 
--- where its exchange leads
-abbrev pub came : View → RwCall → ℕ → ℕ → View
-came won call old n = if n == old then won else Coming call n
-
 -- a reader of this view comes
 abbrev pub Comes : View → Type 0
 Comes Reading = Unit {0}
@@ -152,15 +240,22 @@ Comes _ = ⊥
 
 -- it comes, and its exchange is that of a free lock's word; or it is in the call, and found this word
 abbrev pub MayCome : RwCall → ℕ → Option View → Type 0
-MayCome call n None = n ≡ 0
-MayCome call n (Some v) = v ≡ Coming call n
+MayCome call n view = (IsOut view × (n ≡ 0)) ⊎ (view ≡ Some (Coming call n))
 
 -- it comes to write, or waits for that
 abbrev pub MayWrite : Option View → Type 0
-MayWrite None = Unit {0}
-MayWrite (Some WaitingToWrite) = Unit {0}
-MayWrite _ = ⊥
+MayWrite view = IsOut view ⊎ (view ≡ Some WaitingToWrite)
 
 -- a party with this view, which is shown a value
 abbrev pub IsLent : {T P K S : Type 0} → Permit T (Numbered View) P K S → View → Type 0
 IsLent it v = (what it.view ≡ Some v) × (it.value ≢ None)
+
+-- What a pass knows
+
+-- since it knew `old` it has made moves of this course, and no others
+abbrev pub Moves : OneCourse → Option (Numbered View) → List Done → Option (Numbered View) → List Done → Type 0
+Moves course view old view' new = Made model view old view' new course
+
+-- it has made exactly this call, with this answer
+abbrev pub Called : RwCall → Answer (Unit {0}) → Option (Numbered View) → List Done → Option (Numbered View) → List Done → Type 0
+Called call answer = Moves (IsCall call answer)

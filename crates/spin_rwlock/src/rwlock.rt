@@ -2,22 +2,22 @@
 ghost use Rattle.std.specs.Prelude.{◌≤◌};
 ghost use Rattle.spin_step_more.specs.Readers.{reader_limit};
 
-use self::coming::Coming;
-use self::rule::Kind;
 use spin_core::cell::{Cell, Rule};
 use spin_core::lock::{Lock, SharedLock, with_guard};
-use spin_core::relax::{Loop, RelaxStrategy, Spin};
+use spin_core::relax::{RelaxStrategy, Spin};
 use spin_core::trace::Trace;
 use std::marker::PhantomData;
 use std::sync::Wait;
 
 mod coming;
+mod pass;
 mod reader;
 mod rule;
 mod texts;
 mod upgradable;
 mod writer;
 
+pub use self::pass::Pass;
 pub use self::reader::{ReadHeld, RwLockReadGuard, SharedGuard};
 pub use self::rule::{Entry, Party, RwRule, View};
 pub use self::upgradable::RwLockUpgradableGuard;
@@ -107,7 +107,8 @@ impl<T, R> RwLock<T, R> {
     /// ```
     #[must_use = "dropping the guard at once releases the lock: bind the answer, or write `drop(..)`"]
     pub fn try_read<W: Wait>(&self, rt: &W) -> Option<RwLockReadGuard<'_, T, R>> {
-        self.try_to_lend(rt)
+        let (guard, _) = self.pass().try_read(rt).ok()?;
+        Some(guard)
     }
 
     /// Tries to acquire upgradable shared access. Returns `None` if a writer or an upgradable reader holds the lock.
@@ -127,7 +128,8 @@ impl<T, R> RwLock<T, R> {
     /// ```
     #[must_use = "dropping the guard at once releases the lock: bind the answer, or write `drop(..)`"]
     pub fn try_upgradeable_read<W: Wait>(&self, rt: &W) -> Option<RwLockUpgradableGuard<'_, T, R>> {
-        self.try_to_lend(rt)
+        let (guard, _) = self.pass().try_upgradeable_read(rt).ok()?;
+        Some(guard)
     }
 
     /// Tries to acquire exclusive access. Returns `None` at once if any thread holds the lock.
@@ -146,7 +148,8 @@ impl<T, R> RwLock<T, R> {
     /// ```
     #[must_use = "dropping the guard at once releases the lock: bind the answer, or write `drop(..)`"]
     pub fn try_write<'a>(&'a self) -> Option<RwLockWriteGuard<'a, T, R>> {
-        Some(RwLockWriteGuard::new(rule::try_write(&self.cell)?))
+        let (guard, _) = self.pass().try_write().ok()?;
+        Some(guard)
     }
 
     /// Like [`try_write`](Self::try_write), but may fail spuriously, so call it in a loop. (This implementation never
@@ -186,7 +189,7 @@ impl<T, R> RwLock<T, R> {
     pub fn reader_count(&self) -> usize
         ensures { result ≤ reader_limit }
     {
-        rule::reader_count(&self.cell)
+        self.pass().reader_count().0
     }
 
     /// Returns the number of writers at some moment during this call: 0 or 1.
@@ -204,7 +207,7 @@ impl<T, R> RwLock<T, R> {
     pub fn writer_count(&self) -> usize
         ensures { result ≤ 1 }
     {
-        rule::writer_count(&self.cell)
+        self.pass().writer_count().0
     }
 
     /// Releases the shared access that the hold keeps.
@@ -225,7 +228,7 @@ impl<T, R> RwLock<T, R> {
     /// shows(&rt, &lock, READ, [1, 0]);
     /// ```
     pub fn force_read_decrement(held: ReadHeld<'_, T, R>) {
-        held.release();
+        drop(held.into_guard());
     }
 
     /// Releases the exclusive access that the hold keeps.
@@ -244,19 +247,7 @@ impl<T, R> RwLock<T, R> {
     /// equal(&rt, lock.into_inner(), 58);
     /// ```
     pub fn force_write_unlock(held: WriteHeld<'_, T, R>) {
-        held.release();
-    }
-
-    // Tries to admit a reader of this kind, as long as other threads change the word that was found.
-    fn try_to_lend<K: Kind, W: Wait>(&self, rt: &W) -> Option<SharedGuard<'_, T, K, R>> {
-        let coming = match Coming::begin(&self.cell) {
-            Ok(guard) => return Some(guard),
-            Err(coming) => coming,
-        };
-        match coming.settle() {
-            Ok(answer) => answer,
-            Err(coming) => Loop::retry(rt, coming, Coming::try_again),
-        }
+        drop(held.into_guard());
     }
 }
 
@@ -294,7 +285,7 @@ impl<T, R: RelaxStrategy> RwLock<T, R> {
     /// sound = sound && (sum == 0 || sum == 10);
     /// ```
     pub fn read<W: Wait>(&self, rt: &W) -> RwLockReadGuard<'_, T, R> {
-        self.lend(rt)
+        self.pass().read(rt).0
     }
 
     /// Acquires upgradable shared access, spinning while a writer or an upgradable reader holds the lock.
@@ -316,7 +307,7 @@ impl<T, R: RelaxStrategy> RwLock<T, R> {
     /// *guard.downgrade()
     /// ```
     pub fn upgradeable_read<W: Wait>(&self, rt: &W) -> RwLockUpgradableGuard<'_, T, R> {
-        self.lend(rt)
+        self.pass().upgradeable_read(rt).0
     }
 
     /// Acquires exclusive access, spinning until no thread holds the lock.
@@ -335,19 +326,7 @@ impl<T, R: RelaxStrategy> RwLock<T, R> {
     /// }
     /// ```
     pub fn write<W: Wait>(&self, rt: &W) -> RwLockWriteGuard<'_, T, R> {
-        let writer = match rule::write(self.cell.enter()) {
-            Ok(writer) => writer,
-            Err(waiting) => R::back_off(rt, waiting, |waiting| waiting.write()),
-        };
-        RwLockWriteGuard::new(writer)
-    }
-
-    // Admits a reader of this kind, and waits until it may.
-    fn lend<K: Kind, W: Wait>(&self, rt: &W) -> SharedGuard<'_, T, K, R> {
-        match Coming::begin(&self.cell) {
-            Ok(guard) => guard,
-            Err(coming) => coming.wait(rt),
-        }
+        self.pass().write(rt).0
     }
 }
 

@@ -4,6 +4,7 @@ use Rattle.spin_model.specs.declared.answer.Answer.TheVariants as answer
 use Rattle.spin_seats.specs.Accounts.{Called}
 use Rattle.spin_seats.specs.Rule.{Done}
 use Rattle.spin_seats.specs.declared.calls.SeatsCall.TheVariants as call
+use Rattle.spin_seats.specs.declared.seats.Seats.{Seats}
 use Rattle.spin_seats.specs.declared.seats.pass.Pass.{Pass}
 use Rattle.spin_seats.specs.declared.seats.rule.Account.{Account}
 
@@ -12,7 +13,10 @@ module _ {n : ℕ} where
   abbrev pub history : Pass n → List Done
   history pass = pass.account.seen.entries
 
-  -- the name of the lock's history
+  -- the name of the history of a lock, and of the lock of a pass
+  abbrev pub name_of : Seats n → ℕ
+  name_of lock = lock.cell.name
+
   abbrev pub lock_of : Pass n → ℕ
   lock_of pass = pass.account.seen.name
 

@@ -1,12 +1,12 @@
 //! A spinning lock of `N` seats: a counting semaphore. Begin with [`Seats::new`] and [`Seats::enter`].
-ghost use Rattle.std.specs.Prelude.{◌≡◌, ◌≤◌, Some, []};
+ghost use Rattle.std.specs.Prelude.{◌≡◌, ◌≤◌, Some};
 ghost use Rattle.spin_core.specs.Own.{what};
 ghost use Rattle.spin_seats.specs.Seats.{seats};
 ghost use Rattle.spin_seats.specs.declared.seats.rule.View.TheVariants.{Seated};
 
 use self::rule::{Account, Party, SeatsRule};
 use spin_core::cell::Cell;
-use spin_core::trace::{Trace, Watch};
+use spin_core::trace::Trace;
 use std::sync::Wait;
 
 mod account;
@@ -32,10 +32,6 @@ pub use self::rule::{Entry, View};
 #[derive(Drop)]
 pub struct Seats<const N: usize> {
     cell: Cell<(), Party, SeatsRule<N>>,
-    // What is known of the lock's history from the start: its name. It has no byte.
-    start: Watch<Entry>,
-    ghost named: { cell.name ≡ start.name },
-    ghost empty: { start.entries ≡ [] },
 }
 
 /// A seat of a [`Seats`]. Dropping it frees the seat.
@@ -64,7 +60,6 @@ impl<const N: usize> Seats<N> {
         let start = trace.watch();
         Seats {
             cell: Cell::new((), 0, trace, &start),
-            start,
         }
     }
 

@@ -113,7 +113,7 @@ pub fn upgradable(word: usize, cap: usize) -> Option<usize>
 ///
 /// # Examples
 /// ```
-/// let next = rw::write(0)?;
+/// let next = rw::write(0).unwrap();
 /// ```
 pub fn write(word: usize) -> Option<usize>
     ensures exact { result ≡ write word }
@@ -302,7 +302,7 @@ pub fn upgradable_to_read(word: usize) -> usize
 ///
 /// # Examples
 /// ```
-/// rw::readers(cell.enter().look::<CountsReaders>(Watch::nothing()).0 as usize)
+/// (rw::readers(found as usize), Pass::new(permit, seen))
 /// ```
 #[tactic(auto, using(crate::proofs::ReaderSteps::counts))]
 pub fn readers(word: usize) -> usize
@@ -319,7 +319,7 @@ pub fn readers(word: usize) -> usize
 ///
 /// # Examples
 /// ```
-/// rw::writers(cell.enter().look::<CountsWriters>(Watch::nothing()).0 as usize)
+/// (rw::writers(found as usize), Pass::new(permit, seen))
 /// ```
 #[tactic(auto, using(crate::proofs::ReaderSteps::counts))]
 pub fn writers(word: usize) -> usize

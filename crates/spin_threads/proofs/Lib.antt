@@ -1,2 +1,4 @@
 pub mod Between
+pub mod Calls
+pub mod Counts
 pub mod Moments

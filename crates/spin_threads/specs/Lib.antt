@@ -1,2 +1,4 @@
 pub mod Between
+pub mod Counts
 pub mod Moments
+pub mod Turns

@@ -1,59 +1,246 @@
 //! The answer of a call was right at some moment while the call ran. Each law is the contract of a function that does
 //! nothing: a caller calls it for what it states.
-ghost use Rattle.std.specs.Prelude.{◌≡◌, ℕ, Bool, true, Option, List, length};
-ghost use Rattle.spin_core.specs.Own.{Numbered};
+//!
+//! Each says of every pass: where it has made one call with this answer (the clause of the call says so, by `Called`),
+//! the lock was so at a moment at which the pass was in that call (`Found`, `AtAMoment`). `is_held` says that a party
+//! holds the lock, or stands in its queue. [`crate::uses`] has callers.
+ghost use Rattle.std.specs.Prelude.{◌≡◌, ◌⊎◌, ◌<◌, ◌≤◌, ℕ, Bool, true, false, length};
+ghost use Rattle.spin_fair.specs.Fair as fair_mutex;
+ghost use Rattle.spin_fair.specs.declared.fair.rule.View.{View as FairMutexView};
 ghost use Rattle.spin_flag.specs.Flag as spin_mutex;
 ghost use Rattle.spin_flag.specs.declared.spin.rule.View.{View as SpinMutexView};
-ghost use Rattle.spin_model.specs.Calls.{readers};
-ghost use Rattle.spin_model.specs.declared.answer.Answer.TheVariants.{Refused, Is};
-ghost use Rattle.spin_model.specs.declared.flag.FlagCall.TheVariants.{TryLock, IsLocked};
+ghost use Rattle.spin_model.specs.Calls.{is_starved, readers, writers};
+ghost use Rattle.spin_model.specs.Ticket.{is_left};
+ghost use Rattle.spin_model.specs.declared.answer.Answer.TheVariants.{Refused, Locked, Starved, Is, Count};
+ghost use Rattle.spin_model.specs.declared.flag.FlagCall.TheVariants as flag;
+ghost use Rattle.spin_model.specs.declared.ticket.TicketCall.TheVariants as ticket;
+ghost use Rattle.spin_rwlock.specs.Rw as rwlock;
+ghost use Rattle.spin_rwlock.specs.declared.rwlock.rule.View.{View as RwLockView};
 ghost use Rattle.spin_seats.specs.Passes.{history, Counted, WasRefused};
-ghost use Rattle.spin_seats.specs.Rule.{model};
-ghost use Rattle.spin_seats.specs.Seats.{seats};
-ghost use Rattle.spin_seats.specs.declared.seats.pass.Pass.{Pass};
+ghost use Rattle.spin_seats.specs.Rule as seats;
+ghost use Rattle.spin_seats.specs.Seats.{seats as as_many_as_seats};
+ghost use Rattle.spin_seats.specs.declared.calls.SeatsCall.TheVariants as call;
+ghost use Rattle.spin_seats.specs.declared.seats.pass.Pass.{Pass as SeatsPass};
 ghost use Rattle.spin_step.specs.Parties.{is_held};
-ghost use Rattle.spin_threads.specs.Moments.{AtAMoment};
+ghost use Rattle.spin_step.specs.Plain.{asking, count_kind, upgraders};
+ghost use Rattle.spin_step_more.specs.Readers.{reader_limit};
+ghost use Rattle.spin_step_more.specs.Starvers.{most_starvers};
+ghost use Rattle.spin_step_more.specs.declared.fair_calls.FairCall.TheVariants as fair;
+ghost use Rattle.spin_step_more.specs.declared.rw_calls.RwCall.TheVariants as rw;
+ghost use Rattle.spin_ticket.specs.Queue as ticket_mutex;
+ghost use Rattle.spin_ticket.specs.declared.ticket.rule.View.{View as TicketMutexView};
+ghost use Rattle.spin_threads.specs.Moments.{AtAMoment, Was, Found};
 
 /// If a pass tried once to acquire a `SpinMutex` and failed, a party held the lock at a moment while it tried.
 ///
 /// # Contract
-/// `AtAMoment`, between what the pass knew of the lock's history before the call and what it knows after it.
+/// `Found`, of the lock's holders, tickets and starvers.
 ///
 /// # Examples
-/// None: nobody calls a law.
+/// As [`a_look_at_a_spin_mutex_was_so_at_a_moment`].
 pub fn a_refused_try_found_the_spin_mutex_held()
-    ensures { (before now : Option (Numbered SpinMutexView)) (old new : List spin_mutex.Done) → spin_mutex.Called TryLock Refused before old now new → AtAMoment spin_mutex.model old new (λ s. is_held s ≡ true) }
+    ensures { Found spin_mutex.model SpinMutexView flag.TryLock Refused (Was is_held true) }
 {}
 
 /// If a pass looked once whether a `SpinMutex` is held, it was so at a moment while it looked.
 ///
 /// # Contract
-/// `AtAMoment`, between what the pass knew of the lock's history before the call and what it knows after it.
+/// `Found`, of the lock's holders, tickets and starvers.
 ///
 /// # Examples
-/// None: nobody calls a law.
+/// ```
+/// a_look_at_a_spin_mutex_was_so_at_a_moment();
+/// let (held, pass) = pass.is_locked();
+/// ```
 pub fn a_look_at_a_spin_mutex_was_so_at_a_moment()
-    ensures { (held : Bool) (before now : Option (Numbered SpinMutexView)) (old new : List spin_mutex.Done) → spin_mutex.Called IsLocked (Is held) before old now new → AtAMoment spin_mutex.model old new (λ s. is_held s ≡ held) }
+    ensures { (held : Bool) → Found spin_mutex.model SpinMutexView flag.IsLocked (Is held) (Was is_held held) }
+{}
+
+/// If a pass tried once to acquire a `TicketMutex` and failed, a party held the lock or waited for it at a moment while
+/// it tried, or all tickets had been taken.
+///
+/// # Contract
+/// `Found`, of the lock's holders, tickets and starvers.
+///
+/// # Examples
+/// ```
+/// a_refused_try_found_the_ticket_mutex_held_or_used_up();
+/// pass.try_lock()
+/// ```
+pub fn a_refused_try_found_the_ticket_mutex_held_or_used_up()
+    ensures { (first : ℕ) → Found (ticket_mutex.model first) TicketMutexView ticket.TryLock Refused (λ s.
+        (is_held s ≡ true) ⊎ (is_left s.next ≡ false)) }
+{}
+
+/// If a pass looked once whether a `TicketMutex` is held, it was so at a moment while it looked.
+///
+/// # Contract
+/// `Found`, of the lock's holders, tickets and starvers.
+///
+/// # Examples
+/// As [`a_look_at_a_spin_mutex_was_so_at_a_moment`].
+pub fn a_look_at_a_ticket_mutex_was_so_at_a_moment()
+    ensures { (first : ℕ) (held : Bool) →
+        Found (ticket_mutex.model first) TicketMutexView ticket.IsLocked (Is held) (Was is_held held) }
+{}
+
+/// If a pass tried once to acquire a `FairMutex` and failed, a party held the lock or was registered as a starver at a
+/// moment while it tried.
+///
+/// # Contract
+/// `Found`, of the lock's holders, tickets and starvers.
+///
+/// # Examples
+/// As [`a_look_at_a_spin_mutex_was_so_at_a_moment`].
+pub fn a_refused_try_found_the_fair_mutex_held_or_starved()
+    ensures { Found fair_mutex.model FairMutexView fair.TryLock Refused (λ s.
+        (is_held s ≡ true) ⊎ (is_starved s ≡ true)) }
+{}
+
+/// If a pass tried once to acquire a `FairMutex` and was told a reason for its failure, it was so at a moment while it
+/// tried: a party held the lock and none was registered as a starver, or one was.
+///
+/// # Contract
+/// `Found`, of the lock's holders, tickets and starvers.
+///
+/// # Examples
+/// As [`a_look_at_a_spin_mutex_was_so_at_a_moment`].
+pub fn the_reason_for_a_refusal_was_so_at_a_moment()
+    ensures locked { Found fair_mutex.model FairMutexView fair.TryLockStarver Locked (λ s.
+        (is_held s ≡ true) × (is_starved s ≡ false)) }
+    ensures starved { Found fair_mutex.model FairMutexView fair.TryLockStarver Starved (Was is_starved true) }
+{}
+
+/// If a pass looked once whether a `FairMutex` is held, it was so at a moment while it looked.
+///
+/// # Contract
+/// `Found`, of the lock's holders, tickets and starvers.
+///
+/// # Examples
+/// ```
+/// a_look_at_a_fair_mutex_was_so_at_a_moment();
+/// let (held, pass) = pass.is_locked();
+/// ```
+pub fn a_look_at_a_fair_mutex_was_so_at_a_moment()
+    ensures { (held : Bool) → Found fair_mutex.model FairMutexView fair.IsLocked (Is held) (Was is_held held) }
+{}
+
+/// If a pass tried once to register as a starver of a `FairMutex` and failed, as many were registered as may be at a
+/// moment while it tried.
+///
+/// # Contract
+/// `Found`, of the lock's holders, tickets and starvers.
+///
+/// # Examples
+/// As [`a_look_at_a_spin_mutex_was_so_at_a_moment`].
+pub fn a_refused_starve_found_as_many_as_may_starve()
+    ensures { Found fair_mutex.model FairMutexView fair.Starve Refused (λ s. most_starvers ≤ length s.starvers) }
+{}
+
+/// If a pass that starves tried once to acquire a `FairMutex` and failed, a party held the lock at a moment while it
+/// tried. `try_lock_fair` also fails where a further party was registered as a starver.
+///
+/// # Contract
+/// `Found`, of the lock's holders, tickets and starvers.
+///
+/// # Examples
+/// As [`a_look_at_a_spin_mutex_was_so_at_a_moment`].
+pub fn a_refused_starver_was_kept_out_at_a_moment()
+    ensures try_lock { Found fair_mutex.model FairMutexView fair.StarverTryLock Refused (Was is_held true) }
+    ensures try_lock_fair { Found fair_mutex.model FairMutexView fair.StarverTryLockFair Refused (λ s.
+        (is_held s ≡ true) ⊎ (1 < length s.starvers)) }
+{}
+
+/// If a pass tried once to acquire shared access to an `RwLock` and failed, a writer held the lock at a moment while it
+/// tried, or a reader that had asked to upgrade, or as many parties as may.
+///
+/// # Contract
+/// `Found`, of the lock's holders, tickets and starvers.
+///
+/// # Examples
+/// As [`a_look_at_a_spin_mutex_was_so_at_a_moment`].
+pub fn a_refused_try_read_was_kept_out_at_a_moment()
+    ensures { Found rwlock.model RwLockView rw.TryRead Refused (λ s.
+        (0 < writers s) ⊎ (0 < count_kind asking s.holders) ⊎ (length s.holders ≡ reader_limit)) }
+{}
+
+/// If a pass tried once to acquire upgradable access to an `RwLock` and failed, a writer held the lock at a moment
+/// while it tried, or an upgradable reader, or as many parties as may.
+///
+/// # Contract
+/// `Found`, of the lock's holders, tickets and starvers.
+///
+/// # Examples
+/// As [`a_look_at_a_spin_mutex_was_so_at_a_moment`].
+pub fn a_refused_try_upgradeable_read_was_kept_out_at_a_moment()
+    ensures { Found rwlock.model RwLockView rw.TryUpgradeableRead Refused (λ s.
+        (0 < writers s) ⊎ (0 < upgraders s.holders) ⊎ (length s.holders ≡ reader_limit)) }
+{}
+
+/// If a pass tried once to acquire exclusive access to an `RwLock` and failed, a party held the lock at a moment while
+/// it tried.
+///
+/// # Contract
+/// `Found`, of the lock's holders, tickets and starvers.
+///
+/// # Examples
+/// As [`a_look_at_a_spin_mutex_was_so_at_a_moment`].
+pub fn a_refused_try_write_was_kept_out_at_a_moment()
+    ensures { Found rwlock.model RwLockView rw.TryWrite Refused (Was is_held true) }
+{}
+
+/// If a pass that reads an `RwLock` tried once to upgrade and failed, a further party held the lock at a moment while
+/// it tried.
+///
+/// # Contract
+/// `Found`, of the lock's holders, tickets and starvers.
+///
+/// # Examples
+/// As [`a_look_at_a_spin_mutex_was_so_at_a_moment`].
+pub fn a_refused_try_upgrade_was_kept_out_at_a_moment()
+    ensures { Found rwlock.model RwLockView rw.TryUpgrade Refused (λ s. 1 < length s.holders) }
+{}
+
+/// If a pass counted the readers or the writers of an `RwLock` once, there were so many at a moment while it counted.
+///
+/// # Contract
+/// `Found`, of the lock's holders, tickets and starvers.
+///
+/// # Examples
+/// ```
+/// a_count_of_a_rwlock_was_so_at_a_moment();
+/// let (readers, pass) = pass.reader_count();
+/// ```
+pub fn a_count_of_a_rwlock_was_so_at_a_moment()
+    ensures readers { (count : ℕ) →
+        Found rwlock.model RwLockView rw.ReaderCount (Count count) (Was readers count) }
+    ensures writers { (count : ℕ) →
+        Found rwlock.model RwLockView rw.WriterCount (Count count) (Was writers count) }
 {}
 
 /// If a pass counted the taken seats of a `Seats` once, so many parties sat at a moment while it did.
 ///
 /// # Contract
-/// `AtAMoment`, between what the pass knew of the lock's history before the call and what it knows after it.
+/// `AtAMoment`, of the lock's holders, tickets and starvers.
 ///
 /// # Examples
-/// None: nobody calls a law.
+/// As [`a_look_at_a_spin_mutex_was_so_at_a_moment`].
 pub fn a_count_of_seats_was_so_at_a_moment()
-    ensures { (n count : ℕ) (before now : Pass n) → Counted count before now → AtAMoment (model n) (history before) (history now) (λ s. readers s ≡ count) }
+    ensures { (n count : ℕ) (before now : SeatsPass n) → Counted count before now →
+        AtAMoment (seats.model n) call.Count now.account.permit.view (history before) (history now)
+        (Was readers count) }
 {}
 
-/// If a pass tried once to take a seat and was refused, as many parties sat at a moment while it tried as there are seats.
+/// If a pass tried once to take a seat and was refused, as many parties sat at a moment while it tried as there are
+/// seats.
 ///
 /// # Contract
-/// `AtAMoment`, between what the pass knew of the lock's history before the call and what it knows after it.
+/// `AtAMoment`, of the lock's holders, tickets and starvers.
 ///
 /// # Examples
-/// None: nobody calls a law.
+/// As [`a_look_at_a_spin_mutex_was_so_at_a_moment`].
 pub fn a_refused_try_found_all_seats_taken()
-    ensures { (n : ℕ) (before now : Pass n) → WasRefused before now → AtAMoment (model n) (history before) (history now) (λ s. length s.holders ≡ seats n) }
+    ensures { (n : ℕ) (before now : SeatsPass n) → WasRefused before now →
+        AtAMoment (seats.model n) call.TryEnter now.account.permit.view (history before) (history now) (λ s.
+        length s.holders ≡ as_many_as_seats n) }
 {}

@@ -2,19 +2,35 @@
 //!
 //! Each lock's cell keeps the list of all moves that threads have made in it, and that list is a schedule of the lock's
 //! model. So what is promised of every schedule holds between any two steps of running threads. Begin with
-//! [`between_any_two_steps_of_a_spin_mutex`]; the definition is `Between` of specs/Between.antt. The answers of a pass's
-//! calls were right at a moment of the call: [`a_refused_try_found_the_spin_mutex_held`].
+//! [`between_any_two_steps_of_a_spin_mutex`]; its definition is `Between` of specs/Between.antt.
+//!
+//! What a call told a pass was so at a moment of that call: [`a_refused_try_found_the_spin_mutex_held`]. A call takes
+//! no more steps than in the model: [`a_call_of_a_ticket_mutex_keeps_its_limit`].
 #![tactic(auto)]
 
 mod answers;
 mod laws;
+mod limits;
+pub mod uses;
 
 pub use answers::{
-    a_count_of_seats_was_so_at_a_moment, a_look_at_a_spin_mutex_was_so_at_a_moment,
-    a_refused_try_found_all_seats_taken, a_refused_try_found_the_spin_mutex_held,
+    a_count_of_a_rwlock_was_so_at_a_moment, a_count_of_seats_was_so_at_a_moment,
+    a_look_at_a_fair_mutex_was_so_at_a_moment, a_look_at_a_spin_mutex_was_so_at_a_moment,
+    a_look_at_a_ticket_mutex_was_so_at_a_moment, a_refused_starve_found_as_many_as_may_starve,
+    a_refused_starver_was_kept_out_at_a_moment, a_refused_try_found_all_seats_taken,
+    a_refused_try_found_the_fair_mutex_held_or_starved, a_refused_try_found_the_spin_mutex_held,
+    a_refused_try_found_the_ticket_mutex_held_or_used_up,
+    a_refused_try_read_was_kept_out_at_a_moment, a_refused_try_upgrade_was_kept_out_at_a_moment,
+    a_refused_try_upgradeable_read_was_kept_out_at_a_moment,
+    a_refused_try_write_was_kept_out_at_a_moment, the_reason_for_a_refusal_was_so_at_a_moment,
 };
 pub use laws::{
     between_any_two_steps_of_a_fair_mutex, between_any_two_steps_of_a_once,
     between_any_two_steps_of_a_rwlock, between_any_two_steps_of_a_spin_mutex,
     between_any_two_steps_of_a_ticket_mutex, between_any_two_steps_of_seats,
+};
+pub use limits::{
+    a_call_of_a_fair_mutex_keeps_its_limit, a_call_of_a_rwlock_keeps_its_limit,
+    a_call_of_a_spin_mutex_keeps_its_limit, a_call_of_a_ticket_mutex_keeps_its_limit,
+    a_call_of_seats_keeps_its_limit, a_lock_of_a_ticket_mutex_enters_in_turn,
 };

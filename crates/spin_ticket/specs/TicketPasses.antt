@@ -4,6 +4,7 @@ use Rattle.spin_core.specs.Own.{Numbered}
 use Rattle.spin_model.specs.declared.answer.Answer.TheVariants.{Granted, Is, Done}
 use Rattle.spin_model.specs.declared.ticket.TicketCall.TheVariants.{Lock, IsLocked, Release}
 use Rattle.spin_ticket.specs.Queue.{Made, Called}
+use Rattle.spin_ticket.specs.declared.ticket.TicketMutex.{TicketMutex}
 use Rattle.spin_ticket.specs.declared.ticket.pass.Pass.{Pass}
 use Rattle.spin_ticket.specs.declared.ticket.rule.View.{View}
 
@@ -12,11 +13,17 @@ module _ {T R : Type 0} where
   abbrev pub history : Pass T R → List Made
   history it = it.seen.entries
 
-  -- the name of the lock's history
+  -- the name of the history of a lock, and of the lock of a pass
+  abbrev pub name_of : TicketMutex T R → ℕ
+  name_of lock = lock.cell.0.name
+
   abbrev pub lock_of : Pass T R → ℕ
   lock_of it = it.seen.name
 
-  -- the number of the lock's first ticket
+  -- the number of the first ticket
+  abbrev pub first_ticket : TicketMutex T R → ℕ
+  first_ticket lock = lock.cell.1
+
   abbrev pub first_of : Pass T R → ℕ
   first_of it = it.permit.key.1
 

@@ -1,5 +1,5 @@
 //! A spinning mutex that serves the threads in the order of their tickets. Begin at [`TicketMutex::lock`].
-ghost use Rattle.std.specs.Prelude.{◌≡◌, ◌≤◌, Option, [], IfSome};
+ghost use Rattle.std.specs.Prelude.{◌≤◌, Option, IfSome};
 ghost use Rattle.std.specs.Fmt.{DisplaysOnOk};
 ghost use Rattle.spin_core.specs.Guard.{IsHolder};
 ghost use Rattle.spin_core.specs.Texts.{lock_text};
@@ -10,7 +10,7 @@ use spin_core::guard::{self, Guard};
 use spin_core::lock::{Lock, with_guard};
 use spin_core::relax::{RelaxStrategy, Spin, Strategy};
 use spin_core::texts::write_lock;
-use spin_core::trace::{Trace, Watch};
+use spin_core::trace::Trace;
 use std::fmt::{self, Debug, Formatter};
 use std::sync::Wait;
 
@@ -41,11 +41,7 @@ pub use self::rule::{Entry, Party, TicketRule, View};
 #[derive(Drop)]
 pub struct TicketMutex<T, R = Spin> {
     cell: Cell<T, Party, TicketRule>,
-    // What is known of the lock's history from the start: its name. It has no byte.
-    start: Watch<Entry>,
     strategy: Strategy<R>,
-    ghost named: { cell.0.name ≡ start.name },
-    ghost empty: { start.entries ≡ [] },
 }
 
 /// The guard of a [`TicketMutex`]. Dropping it releases the lock, and serves the next ticket.
@@ -105,7 +101,6 @@ impl<T, R> TicketMutex<T, R> {
         let start = (trace.watch(), first);
         TicketMutex {
             cell: Cell::new(value, first, trace, &start),
-            start: start.0,
             strategy: Strategy::named(),
         }
     }

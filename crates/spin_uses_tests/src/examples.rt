@@ -6,11 +6,12 @@ use spin::{LazyLock, Once, RwLock, Yield};
 use spin_examples::from_rust::{
     add_from_two, add_one, add_starving, doubled, give_back, port_of, raise, set_elsewhere, take,
 };
-use spin_examples::passes::{count_beside_look, try_once};
+use spin_examples::passes::{count_beside_look, double_by_a_hold, try_once};
+use spin_examples::passes_once::make_beside_look;
 use spin_examples::passes_ticket::{count_by_three, look, try_once as try_ticket_once};
 use spin_examples::registers::four_threads;
 use spin_examples::versions::{race, watch_one};
-use spin_examples::{any_lock, paired, passes_fair, totals};
+use spin_examples::{any_lock, paired, passes_fair, passes_rw, totals};
 use std::thread;
 
 #[test]
@@ -64,7 +65,8 @@ fn passes_know_one_history(rt: HostRuntime) {
     let held = take(&rt, &lock);
     drop(try_once(&lock));
     give_back(held);
-    equal(&rt, lock.into_inner(), 7);
+    drop(double_by_a_hold(&rt, lock.pass()));
+    equal(&rt, lock.into_inner(), 14);
 }
 
 #[test]
@@ -97,6 +99,76 @@ fn three_passes_of_a_ticket_mutex_know_one_history(rt: HostRuntime) {
     drop(second);
     equal(&rt, (free, held), (false, true));
     equal(&rt, lock.into_inner(), 9);
+}
+
+#[test]
+fn three_passes_of_an_rwlock_know_one_history(rt: HostRuntime) {
+    let lock: RwLock<u64> = RwLock::new(6);
+    let (written, ((value, read), (readers, counted))) = passes_rw::write_beside_readers(
+        &rt, &lock,
+    );
+    equal(&rt, [6, 7].contains(&value), true);
+    equal(&rt, [0, 1].contains(&readers), true);
+    drop(written);
+    drop(read);
+    let (writers, pass) = passes_rw::count_writers(passes_rw::double(&rt, counted));
+    equal(&rt, writers, 0);
+    drop(passes_rw::try_each(&rt, pass));
+    let reader = lock.read(&rt);
+    drop(passes_rw::try_each(&rt, lock.pass()));
+    drop(reader);
+    let writer = lock.write(&rt);
+    let (writers, pass) = passes_rw::count_writers(passes_rw::try_each(&rt, lock.pass()));
+    equal(&rt, writers, 1);
+    drop(pass);
+    drop(writer);
+    equal(&rt, lock.into_inner(), 14);
+}
+
+#[test]
+fn three_passes_of_a_mutex_know_one_history(rt: HostRuntime) {
+    let lock: Mutex<u64> = Mutex::new(6);
+    let (first, (second, third)) = count_by_three(&rt, lock.pass(), lock.pass(), lock.pass());
+    drop(first);
+    drop(second);
+    drop(third);
+    equal(&rt, lock.into_inner(), 9);
+}
+
+#[test]
+fn three_passes_of_a_once_know_one_history(rt: HostRuntime) {
+    let once = Once::new();
+    let (tried, pass) = once.pass().try_call_once(&rt, || Err("no port"));
+    equal(&rt, (tried.is_err(), once.get().is_none()), (true, true));
+    drop(pass);
+    let (first, (second, (_, third))) = make_beside_look(&rt, &once);
+    equal(&rt, first.0, second.0);
+    let (there, third) = third.is_completed();
+    equal(&rt, there, true);
+    let (found, third) = third.get();
+    equal(&rt, found.copied(), Some(first.0));
+    let (waited, third) = third.wait(&rt);
+    equal(&rt, *waited, first.0);
+    let (polled, third) = third.poll(&rt);
+    equal(&rt, polled.copied(), Some(first.0));
+    drop((first, second, third));
+    equal(
+        &rt,
+        [Some(3), Some(5)].contains(&once.try_into_inner()),
+        true,
+    );
+}
+
+#[test]
+fn passes_of_a_lazy_lock_know_one_history(rt: HostRuntime) {
+    let lazy: LazyLock<u64, _> = LazyLock::new(|| 7);
+    let other = LazyLock::pass(&lazy);
+    let (value, pass) = LazyLock::pass(&lazy).force(&rt);
+    pass.compare(&other);
+    equal(&rt, *value, 7);
+    let (again, pass) = pass.force(&rt);
+    equal(&rt, *again, 7);
+    drop((pass, other));
 }
 
 #[test]

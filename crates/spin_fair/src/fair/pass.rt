@@ -62,7 +62,7 @@ impl<T, R> FairMutex<T, R> {
     /// let (held, pass) = look(pass);
     /// ```
     pub fn pass(&self) -> Pass<'_, T, R>
-        ensures new { (result.account.seen.name ≡ self.now.start.name) × (result.account.seen.entries ≡ []) × (result.account.permit.view ≡ None) }
+        ensures new { (result.account.seen.name ≡ self.now.cell.name) × (result.account.seen.entries ≡ []) × (result.account.permit.view ≡ None) }
     {
         Pass::new(self.account())
     }

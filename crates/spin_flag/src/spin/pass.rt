@@ -64,11 +64,11 @@ impl<T, R> SpinMutex<T, R> {
     /// let pass = lock.pass();
     /// ```
     pub fn pass(&self) -> Pass<'_, T, R>
-        ensures new { (result.seen.name ≡ self.now.start.name) × (result.seen.entries ≡ []) × (result.permit.view ≡ None) }
+        ensures new { (result.seen.name ≡ self.now.cell.name) × (result.seen.entries ≡ []) × (result.permit.view ≡ None) }
     {
         Pass {
             permit: self.cell.enter(),
-            seen: self.start.copy(),
+            seen: self.cell.watch(),
             strategy: PhantomData,
         }
     }

@@ -1,9 +1,16 @@
-//! The right to make the value. It ends by [`InitPermit::complete`] or [`InitPermit::fail`].
-ghost use Rattle.std.specs.Prelude.{◌≡◌, Some, true};
+//! The right to make the value, beside its party's account. It ends by [`InitPermit::complete`] or
+//! [`InitPermit::fail`].
+ghost use Rattle.std.specs.Prelude.{◌≡◌, Some, true, length};
+ghost use Rattle.spin_core.specs.Own.{what};
+ghost use Rattle.spin_core.specs.Passes.{Ends};
 ghost use Rattle.spin_core.specs.Stable.{maybe_stable};
-ghost use Rattle.spin_once.specs.Once.{is_running, running};
+ghost use Rattle.spin_model.specs.declared.answer.Answer.TheVariants.{Value};
+ghost use Rattle.spin_once.specs.Once.{is_running, running as will_run, IsFailure};
+ghost use Rattle.spin_once.specs.declared.once_core.rule.Stage.TheVariants.{Done};
+ghost use Rattle.spin_once.specs.declared.once_core.rule.View.TheVariants.{Idle};
 
-use super::rule::{Caller, Complete, Fail, RUNNING, Seed, Stage, Writer, read_value};
+use super::account::{Account, Found};
+use super::rule::{Caller, Complete, Entry, Fail, RUNNING, Seed, Stage, Writer};
 use spin_core::trace::Watch;
 use spin_step::once;
 use std::mem::{self, ManuallyDrop};
@@ -11,60 +18,69 @@ use std::mem::{self, ManuallyDrop};
 /// The right of the party that began: it has the cell's content alone.
 pub(crate) struct InitPermit<'a, T, S: Seed<T>> {
     writer: Writer<'a, T, S>,
+    seen: Watch<Entry>,
     ghost runs: { is_running writer.view.0 ≡ true },
+    ghost named: { writer.key.start.name ≡ seen.name },
+    ghost knows: { writer.view.2 ≡ length seen.entries },
 }
 
 impl<'a, T, S: Seed<T>> InitPermit<'a, T, S> {
-    ghost use Rattle.spin_once.specs.Claims.{HasSeed, HasTaken};
+    ghost use Rattle.spin_once.specs.Accounts.{here, running, HasSeed, Same, Since};
 
-    pub(super) fn new(writer: Writer<'a, T, S>) -> Self
-        requires { is_running writer.view.0 ≡ true }
-        ensures { result.writer ≡ writer.entry }
+    pub(super) fn new(writer: Writer<'a, T, S>, seen: Watch<Entry>) -> Self
+        requires runs { is_running writer.view.0 ≡ true }
+        requires knows { (writer.key.start.name ≡ seen.name) × (writer.view.2 ≡ length seen.entries) }
+        ensures { (result.writer ≡ writer.entry) × (result.seen ≡ seen) }
     {
-        InitPermit { writer }
+        InitPermit { writer, seen }
     }
 
     /// Takes the seed out.
     pub(crate) fn take(self) -> (Self, S)
-        requires { HasSeed self.writer.key.seed.value self }
-        ensures { HasTaken self.entry.writer.key.seed.value result }
+        requires { HasSeed self }
+        ensures taken { result.1 ≡ self.entry.writer.key.seed.value }
+        ensures same { Same (running self.entry) (running result.0) }
     {
-        let Self { mut writer } = self;
+        let Self { mut writer, seen } = self;
         match mem::replace(&mut writer.get_mut().value, Stage::Taken) {
-            Stage::Seed(seed) => (InitPermit { writer }, seed),
+            Stage::Seed(seed) => (InitPermit { writer, seen }, seed),
             _ => unreachable!(),
         }
     }
 
     /// Puts the value, which all parties may read from then on. A seed that was not taken out is not dropped.
-    pub(crate) fn complete(self, value: T) -> &'a T
+    pub(crate) fn complete(self, value: T) -> Found<'a, T, S>
         requires { S.makes self.writer.key.seed.value value }
-        ensures { result.now ≡ value }
+        ensures value { result.account.party.value ≡ Some (maybe_stable (Done value)) }
+        ensures since { Since (running self.entry) (Ends (Value tt)) (here result.account) }
     {
-        let party = self.put(Stage::Done(value));
-        let (party, _) = party.store::<Complete>(once::complete(RUNNING) as u64, Watch::nothing());
-        read_value(party)
+        let (party, seen) = self.put(Stage::Done(value));
+        let (party, seen) = party.store::<Complete>(once::complete(RUNNING) as u64, seen);
+        Found::new(Account::new(party, seen))
     }
 
     /// Leaves the seed where it is, so that the next party may begin. The closure of the call is one that may fail.
-    pub(crate) fn fail(self)
-        requires seed { HasSeed self.writer.key.seed.value self }
-        requires may { self.writer.view.0 ≡ running true }
+    pub(crate) fn fail(self) -> Account<'a, T, S>
+        requires seed { HasSeed self }
+        requires may { self.writer.view.0 ≡ will_run true }
+        ensures since { Since (running self.entry) IsFailure (here result) }
+        ensures idle { what result.party.view ≡ Some Idle }
     {
-        let Self { writer } = self;
+        let Self { writer, seen } = self;
         let party = writer.into_permit();
-        let (party, _) = party.store::<Fail>(once::fail(RUNNING) as u64, Watch::nothing());
-        party.leave();
+        let (party, seen) = party.store::<Fail>(once::fail(RUNNING) as u64, seen);
+        Account::new(party, seen)
     }
 
-    fn put(self, stage: Stage<T, S>) -> Caller<'a, T, S>
-        ensures runs { (result.view ≡ Some self.entry.writer.view) × (result.value ≡ Some (maybe_stable stage)) }
+    fn put(self, stage: Stage<T, S>) -> (Caller<'a, T, S>, Watch<Entry>)
+        ensures runs { (result.0.view ≡ Some self.entry.writer.view) × (result.0.value ≡ Some (maybe_stable stage)) }
         ensures running { is_running self.entry.writer.view.0 ≡ true }
-        ensures key { result.key ≡ self.entry.writer.key }
+        ensures same { (result.0.key ≡ self.entry.writer.key) × (result.1 ≡ self.entry.seen) }
+        ensures knows { (self.entry.writer.key.start.name ≡ self.entry.seen.name) × (self.entry.writer.view.2 ≡ length self.entry.seen.entries) }
     {
-        let Self { mut writer } = self;
+        let Self { mut writer, seen } = self;
         spend(mem::replace(&mut writer.get_mut().value, stage));
-        writer.into_permit()
+        (writer.into_permit(), seen)
     }
 }
 

@@ -3,8 +3,8 @@
 ghost use Rattle.std.specs.Prelude.{◌≡◌, Bool, Option, Some, None, true, false, IsSomeAnd};
 ghost use Rattle.spin_core.specs.Own.{what};
 ghost use Rattle.spin_core.specs.Stable.{maybe_stable};
-ghost use Rattle.spin_once.specs.Once.{Told, gets_by, completes_by, comes_by, leads_by, call_of, begun, looked, waited, polled};
-ghost use Rattle.spin_once.specs.declared.once_core.rule.View.TheVariants.{Idle, Reading};
+ghost use Rattle.spin_once.specs.Once.{Told, gets_by, completes_by, comes_by, begins_by, looks_by, waits_by, polls_by, ends_by, fails_by, call_of};
+ghost use Rattle.spin_once.specs.declared.once_core.rule.View.TheVariants.{Reading};
 ghost use Rattle.spin_once.specs.declared.once_core.rule.Stage.TheVariants.{Done};
 
 use super::known::known;
@@ -72,7 +72,7 @@ impl<T, S> Stage<T, S> {
     ghost use Rattle.spin_once.specs.Made.{made_row, made_of};
 
     /// Returns the value that was made. Another that is written over it counts as made too.
-    pub(in crate::once_core) fn made(stable: &mut Stable<Self>) -> &mut T
+    pub(super) fn made(stable: &mut Stable<Self>) -> &mut T
         ensures* writes_back { sem 𝓛 (follows (made_row T.row S.row) T.row stable.entry.ghost_name result.ghost_name made_of) }
     {
         match &mut stable.value {
@@ -132,14 +132,14 @@ impl Closure for Unsure {
 pub(super) struct Gets;
 
 impl<S> Play<Key<S>, Party, Entry> for Gets {
-    ghost told = { λ key old new before. Told gets_by before };
+    ghost told = { λ key old new before. Told key.given.value gets_by before };
 }
 
 /// The load of `is_completed`.
 pub(super) struct Completes;
 
 impl<S> Play<Key<S>, Party, Entry> for Completes {
-    ghost told = { λ key old new before. Told completes_by before };
+    ghost told = { λ key old new before. Told key.given.value (completes_by (what before)) before };
 }
 
 /// The first load of a call with a closure.
@@ -148,49 +148,49 @@ pub(super) struct Comes<C> {
 }
 
 impl<C: Closure, S> Play<Key<S>, Party, Entry> for Comes<C> {
-    ghost told = { λ key old new before. Told (comes_by C.may_fail) before };
+    ghost told = { λ key old new before. Told key.given.value (comes_by C.may_fail) before };
 }
 
 /// The exchange by which a call begins to run its closure.
 pub(super) struct Begins;
 
 impl<S> Play<Key<S>, Party, Entry> for Begins {
-    ghost told = { λ key old new before. Told (leads_by (begun (call_of (what before)))) before };
+    ghost told = { λ key old new before. Told key.given.value (begins_by (call_of (what before))) before };
 }
 
 /// A load of a call with a closure, while another one runs.
 pub(super) struct Looks;
 
 impl<S> Play<Key<S>, Party, Entry> for Looks {
-    ghost told = { λ key old new before. Told (leads_by (looked (call_of (what before)))) before };
+    ghost told = { λ key old new before. Told key.given.value (looks_by (call_of (what before))) before };
 }
 
 /// A load of `wait`.
 pub(super) struct Waits;
 
 impl<S> Play<Key<S>, Party, Entry> for Waits {
-    ghost told = { λ key old new before. Told (leads_by waited) before };
+    ghost told = { λ key old new before. Told key.given.value (waits_by (what before)) before };
 }
 
 /// A load of `poll`.
 pub(super) struct Polls;
 
 impl<S> Play<Key<S>, Party, Entry> for Polls {
-    ghost told = { λ key old new before. Told (leads_by polled) before };
+    ghost told = { λ key old new before. Told key.given.value (polls_by (what before)) before };
 }
 
 /// The store after a closure that gave a value.
 pub(super) struct Complete;
 
 impl<S> Play<Key<S>, Party, Entry> for Complete {
-    ghost told = { λ key old new before. Told (leads_by (λ n. Reading)) before };
+    ghost told = { λ key old new before. Told key.given.value (ends_by (call_of (what before))) before };
 }
 
 /// The store after a closure that failed.
 pub(super) struct Fail;
 
 impl<S> Play<Key<S>, Party, Entry> for Fail {
-    ghost told = { λ key old new before. Told (leads_by (λ n. Idle)) before };
+    ghost told = { λ key old new before. Told key.given.value fails_by before };
 }
 
 /// Creates a cell with a seed, to which no party has come.
@@ -226,22 +226,17 @@ pub(super) fn completed<T, S: Seed<T>>(value: T, seed: &S) -> SeedCell<T, S>
     Cell::new(slot, COMPLETE as u64, trace, &key)
 }
 
-/// Returns the value to a party that reads it, for as long as the cell is borrowed.
-pub(super) fn read_value<'a, T, S: Seed<T>>(party: Caller<'a, T, S>) -> &'a T
+/// Returns the value to a party that reads it, for as long as the cell is borrowed. The party goes on reading it.
+pub(super) fn show_value<'a, T, S: Seed<T>>(party: Caller<'a, T, S>) -> (&'a T, Caller<'a, T, S>)
     requires { what party.view ≡ Some Reading }
-    ensures value { party.entry.value ≡ Some (maybe_stable (Done result.now)) }
-    ensures made { S.makes party.entry.key.seed.value result.now }
+    ensures value { party.entry.value ≡ Some (maybe_stable (Done result.0.now)) }
+    ensures made { S.makes party.entry.key.seed.value result.0.now }
+    ensures same { (result.1.key ≡ party.entry.key) × (result.1.view ≡ party.entry.view) }
 {
-    known(lying(party))
-}
-
-// What lies in the cell of a party that reads the value: that value.
-fn lying<'a, T, S: Seed<T>>(party: Caller<'a, T, S>) -> Option<&'a T>
-    requires { what party.view ≡ Some Reading }
-    ensures { IsSomeAnd result (λ there. (party.entry.value ≡ Some (maybe_stable (Done there.now))) × S.makes party.entry.key.seed.value there.now) }
-{
-    match &party.see().value {
+    let (slot, party) = party.show();
+    let value = match &slot.value {
         Stage::Done(value) => Some(value),
         _ => None,
-    }
+    };
+    (known(value), party)
 }

@@ -1,16 +1,21 @@
 //! A reader on its way in. Begin at [`Coming`].
-ghost use Rattle.std.specs.Prelude.{◌≡◌, ℕ, Bool, true, false, Some, None};
+ghost use Rattle.std.specs.Prelude.{◌≡◌, ℕ, Bool, true, false, Some, None, IfOk, IfErr};
 ghost use Rattle.spin_step.specs.Plain.{Plain, gets, rw_word};
 ghost use Rattle.spin_step.specs.Steps.{Decides};
 ghost use Rattle.spin_step_more.specs.Readers.{OneOfEach, reader_limit};
+ghost use Rattle.spin_model.specs.declared.answer.Answer.TheVariants.{Granted, Refused};
 ghost use Rattle.spin_core.specs.Own.{what};
-ghost use Rattle.spin_rwlock.specs.Rw.{Told, leads_by, either_at, came, call_of, grants, asks, MayCome};
+ghost use Rattle.spin_rwlock.specs.Guards.{shared_party, ReadsWith};
+ghost use Rattle.spin_rwlock.specs.Rw.{Told, comes_by, looks_by, peeks_by, in_call, call_of, grants, missed, asks, MayCome, IsGrant, Seeks, Moves, Called};
+ghost use Rattle.spin_core.specs.Passes.{IsStep};
+ghost use Rattle.spin_rwlock.specs.Steps.{Knows, IsPass};
 ghost use Rattle.spin_rwlock.specs.declared.rwlock.rule.View.TheVariants as view;
 
+use super::pass::Pass;
 use super::reader::{RwLockReadGuard, SharedGuard};
-use super::rule::{CountsReaders, Entry, Kind, Party, RwCell, RwPermit};
-use spin_core::cell::Play;
-use spin_core::relax::{RelaxStrategy, Spin};
+use super::rule::{CountsReaders, Entry, Kind, Party, RwPermit, RwRule};
+use spin_core::cell::{Cell, Play};
+use spin_core::relax::{Loop, RelaxStrategy, Spin};
 use spin_core::trace::Watch;
 use spin_step_more::rw;
 use std::marker::PhantomData;
@@ -44,7 +49,7 @@ struct Comes<K, M> {
 }
 
 impl<K: Kind, M: Mode> Play<Watch<Entry>, Party, Entry> for Comes<K, M> {
-    ghost told = { λ key old new before. Told (leads_by (came K.view (call_of K.view M.waits) old)) before };
+    ghost told = { λ key old new before. Told (comes_by (in_call (what before)) K.view (call_of K.view M.waits) old) before };
 }
 
 // The load of a call that waits to read.
@@ -53,132 +58,158 @@ struct Looks<K> {
 }
 
 impl<K: Kind> Play<Watch<Entry>, Party, Entry> for Looks<K> {
-    ghost told = { λ key old new before. Told (leads_by (view.Coming (call_of K.view true))) before };
+    ghost told = { λ key old new before. Told (looks_by (call_of K.view true)) before };
 }
 
 // The one exchange of `{:?}`.
 struct Peeks;
 
 impl Play<Watch<Entry>, Party, Entry> for Peeks {
-    ghost told = { λ key old new before. Told (leads_by (either_at old view.Reading view.Idle)) before };
+    ghost told = { λ key old new before. Told (peeks_by old) before };
 }
+
+/// What a call that comes to read has beside the guard, or in its place: a watch of the lock's history.
+pub(super) type Lent<'a, T, K, R> = (SharedGuard<'a, T, K, R>, Watch<Entry>);
 
 /// A party in a call that comes to read, as a reader of kind `K`, and the word that it found last.
 pub(super) struct Coming<'a, T, K: Kind, M: Mode, R> {
     permit: RwPermit<'a, T>,
+    seen: Watch<Entry>,
     word: usize,
-    // Whether it knows that this word lets no such reader in.
-    kept_out: bool,
     marker: PhantomData<(K, M, R)>,
     ghost comes: { what permit.view ≡ Some (view.Coming (call_of K.view M.waits) word) },
-    ghost closed: { kept_out ≡ true → grants (call_of K.view M.waits) word ≡ None },
+    ghost knows: { Knows permit seen },
 }
 
 impl<'a, T, K: Kind, M: Mode, R> Coming<'a, T, K, M, R> {
+    ghost use Rattle.spin_rwlock.specs.Waits.{SeeksOn, IsLetIn};
+
     /// Begins the call. It takes the lock for free, and then tries at the word that it found in its place. To begin so
     /// saves a load if the lock is free. If it is not, the failed exchange is the load.
-    pub(super) fn begin(cell: &'a RwCell<T>) -> Result<SharedGuard<'a, T, K, R>, Self> {
+    pub(super) fn begin(
+        permit: RwPermit<'a, T>,
+        seen: Watch<Entry>,
+    ) -> Result<Lent<'a, T, K, R>, Self>
+        requires { IsPass permit seen }
+        ensures lent { IfOk result (λ lent. ReadsWith lent.0 lent.1 × (lent.1.name ≡ seen.name)) }
+        ensures granted { IfOk result (λ lent. Called (call_of K.view M.waits) Granted permit.entry.view seen.entries (shared_party lent.0) lent.1.entries) }
+        ensures missed { IfErr result (λ coming. (coming.seen.name ≡ seen.name) × Moves (Seeks (call_of K.view M.waits) coming.word) permit.entry.view seen.entries coming.permit.view coming.seen.entries) }
+    {
         let Some(next) = K::next(0) else {
             unreachable!()
         };
-        match Self::come(cell.enter(), 0, next) {
+        match Self::come(permit, seen, 0, next) {
             Err(coming) => coming.try_at(),
             done => done,
         }
     }
 
     // Tries once, at the word that it found.
-    fn try_at(self) -> Result<SharedGuard<'a, T, K, R>, Self> {
-        if self.kept_out {
-            return Err(self);
-        }
+    fn try_at(self) -> Result<Lent<'a, T, K, R>, Self>
+        ensures lent { IfOk result (IsLetIn (call_of K.view M.waits) self.entry) }
+        ensures missed { IfErr result (SeeksOn (call_of K.view M.waits) self.entry) }
+    {
         let Self {
             permit,
+            seen,
             word,
-            kept_out: _,
             marker: _,
         } = self;
         match K::next(word) {
-            Some(next) => Self::come(permit, word, next),
+            Some(next) => Self::come(permit, seen, word, next),
             None => Err(Coming {
                 permit,
+                seen,
                 word,
-                kept_out: true,
                 marker: PhantomData,
             }),
         }
     }
 
+    // Whether the word that it found lets no such reader in.
+    fn is_kept_out(&self) -> bool
+        ensures { result ≡ true → grants (call_of K.view M.waits) self.now.word ≡ None }
+    {
+        K::next(self.word).is_none()
+    }
+
     // Makes one exchange of this word for the next.
     fn come(
         permit: RwPermit<'a, T>,
+        seen: Watch<Entry>,
         word: usize,
         next: usize,
-    ) -> Result<SharedGuard<'a, T, K, R>, Self>
+    ) -> Result<Lent<'a, T, K, R>, Self>
         requires may { MayCome (call_of K.view M.waits) word (what permit.view) }
+        requires knows { Knows permit seen }
         requires exact { grants (call_of K.view M.waits) word ≡ Some next }
         requires plain { (s : Plain) (party : ℕ) → OneOfEach s → s.cap ≡ reader_limit → rw_word s ≡ word → Decides s (gets party (asks K.view)) rw_word (Some next) }
+        ensures lent { IfOk result (λ lent. ReadsWith lent.0 lent.1 × (lent.1.name ≡ seen.name)) }
+        ensures granted { IfOk result (λ lent. Moves (IsGrant (in_call (what permit.entry.view)) (call_of K.view M.waits)) permit.entry.view seen.entries (shared_party lent.0) lent.1.entries) }
+        ensures missed { IfErr result (λ coming. (coming.seen.name ≡ seen.name) × Moves (IsStep (in_call (what permit.entry.view)) (call_of K.view M.waits) (missed (call_of K.view M.waits) coming.word)) permit.entry.view seen.entries coming.permit.view coming.seen.entries) }
     {
-        let (found, permit, _) = permit.exchange::<Comes<K, M>>(
-            word as u64,
-            next as u64,
-            Watch::nothing(),
-        );
+        let (found, permit, seen) = permit.exchange::<Comes<K, M>>(word as u64, next as u64, seen);
         if found == word as u64 {
-            Ok(SharedGuard::new(permit))
+            Ok((SharedGuard::new(permit), seen))
         } else {
-            Err(Self::seen(permit, found as usize))
-        }
-    }
-
-    fn seen(permit: RwPermit<'a, T>, word: usize) -> Self
-        requires { what permit.view ≡ Some (view.Coming (call_of K.view M.waits) word) }
-    {
-        Coming {
-            permit,
-            word,
-            kept_out: false,
-            marker: PhantomData,
+            Err(Coming {
+                permit,
+                seen,
+                word: found as usize,
+                marker: PhantomData,
+            })
         }
     }
 }
 
 impl<'a, T, K: Kind, R> Coming<'a, T, K, Tries, R> {
-    /// Tries again, at the word that it found.
-    pub(super) fn try_again(self) -> Result<Option<SharedGuard<'a, T, K, R>>, Self> {
+    ghost use Rattle.spin_rwlock.specs.Waits.{SeeksOn, IsRefused, TriesOn};
+
+    // Tries again, at the word that it found.
+    fn try_again(self) -> Result<Result<Lent<'a, T, K, R>, Pass<'a, T, R>>, Self>
+        ensures { TriesOn (call_of K.view false) self.entry result }
+    {
         match self.try_at() {
-            Ok(guard) => Ok(Some(guard)),
-            Err(coming) => coming.settle(),
+            Ok(lent) => Ok(Ok(lent)),
+            Err(coming) => match coming.settle() {
+                Ok(pass) => Ok(Err(pass)),
+                Err(coming) => Err(coming),
+            },
         }
     }
 
-    /// Ends the call if it knows that it is kept out.
-    pub(super) fn settle(self) -> Result<Option<SharedGuard<'a, T, K, R>>, Self> {
-        if self.kept_out {
-            let Self {
-                permit,
-                word: _,
-                kept_out: _,
-                marker: _,
-            } = self;
-            permit.leave();
-            Ok(None)
-        } else {
-            Err(self)
+    // Ends the call if it is kept out.
+    fn settle(self) -> Result<Pass<'a, T, R>, Self>
+        ensures refused { IfOk result (IsRefused (call_of K.view false) self.entry) }
+        ensures missed { IfErr result (SeeksOn (call_of K.view false) self.entry) }
+    {
+        if !self.is_kept_out() {
+            return Err(self);
         }
+        let Self {
+            permit,
+            seen,
+            word: _,
+            marker: _,
+        } = self;
+        Ok(Pass::new(permit, seen))
     }
 }
 
 impl<'a, T, K: Kind, R: RelaxStrategy> Coming<'a, T, K, Waits, R> {
+    ghost use Rattle.spin_rwlock.specs.Waits.{SeeksOn, IsLetIn};
+
     /// Waits until it is let in.
     // Kept out of line: inlined, it would lengthen the path of every caller that does not wait. Its pause depends on
     // what it found, which `retry` does not offer.
     #[cold]
     #[inline(never)]
-    pub(super) fn wait<W: Wait>(self, rt: &W) -> SharedGuard<'a, T, K, R> {
+    pub(super) fn wait<W: Wait>(self, rt: &W) -> Lent<'a, T, K, R>
+        ensures { IsLetIn (call_of K.view true) self.entry result }
+    {
         let mut coming = self;
         for _ in rt.forever() {
-            let looked = if coming.kept_out {
+            let looked = if coming.is_kept_out() {
                 R::relax(rt);
                 coming.look()
             } else {
@@ -186,14 +217,17 @@ impl<'a, T, K: Kind, R: RelaxStrategy> Coming<'a, T, K, Waits, R> {
                 coming
             };
             match looked.try_twice() {
-                Ok(guard) => return guard,
+                Ok(lent) => return lent,
                 Err(next) => coming = next,
             }
         }
         unreachable!()
     }
 
-    fn try_twice(self) -> Result<SharedGuard<'a, T, K, R>, Self> {
+    fn try_twice(self) -> Result<Lent<'a, T, K, R>, Self>
+        ensures lent { IfOk result (IsLetIn (call_of K.view true) self.entry) }
+        ensures missed { IfErr result (SeeksOn (call_of K.view true) self.entry) }
+    {
         match self.try_at() {
             Err(coming) => coming.try_at(),
             done => done,
@@ -202,21 +236,48 @@ impl<'a, T, K: Kind, R: RelaxStrategy> Coming<'a, T, K, Waits, R> {
 
     // Looks at the word, after one that lets no such reader in.
     fn look(self) -> Self
-        requires { self.kept_out ≡ true }
+        requires { grants (call_of K.view true) self.word ≡ None }
+        ensures { SeeksOn (call_of K.view true) self.entry result }
     {
         let Self {
             permit,
+            seen,
             word: _,
-            kept_out: _,
             marker: _,
         } = self;
-        let (found, permit, _) = permit.load::<Looks<K>>(Watch::nothing());
-        Self::seen(permit, found as usize)
+        let (found, permit, seen) = permit.load::<Looks<K>>(seen);
+        Coming {
+            permit,
+            seen,
+            word: found as usize,
+            marker: PhantomData,
+        }
+    }
+}
+
+/// Tries to admit a reader of this kind, as long as other threads change the word that was found.
+pub(super) fn try_to_lend<'a, T, K: Kind, R, W: Wait>(
+    rt: &W,
+    permit: RwPermit<'a, T>,
+    seen: Watch<Entry>,
+) -> Result<Lent<'a, T, K, R>, Pass<'a, T, R>>
+    requires { IsPass permit seen }
+    ensures lent { IfOk result (λ lent. ReadsWith lent.0 lent.1 × (lent.1.name ≡ seen.name)) }
+    ensures granted { IfOk result (λ lent. Called (call_of K.view false) Granted permit.entry.view seen.entries (shared_party lent.0) lent.1.entries) }
+    ensures refused { IfErr result (λ pass. (pass.seen.name ≡ seen.name) × Called (call_of K.view false) Refused permit.entry.view seen.entries pass.permit.view pass.seen.entries) }
+{
+    let coming = match Coming::begin(permit, seen) {
+        Ok(lent) => return Ok(lent),
+        Err(coming) => coming,
+    };
+    match coming.settle() {
+        Ok(pass) => Err(pass),
+        Err(coming) => Loop::retry(rt, coming, Coming::try_again),
     }
 }
 
 /// Tries to read for `{:?}`, by one load and at most one exchange.
-pub(super) fn peek<T, R>(cell: &RwCell<T>) -> Option<RwLockReadGuard<'_, T, R>> {
+pub(super) fn peek<T, R>(cell: &Cell<T, Party, RwRule<T>>) -> Option<RwLockReadGuard<'_, T, R>> {
     let word = cell.enter().look::<CountsReaders>(Watch::nothing()).0 as usize;
     let next = rw::read(word, rw::MAX_READERS)?;
     let permit = cell

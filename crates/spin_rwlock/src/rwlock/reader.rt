@@ -7,6 +7,7 @@ ghost use Rattle.spin_rwlock.specs.declared.rwlock.rule.View.TheVariants.{Readin
 use super::rule::{Kind, Party, Reader, RwPermit, RwRule};
 use spin_core::cell::Permit;
 use spin_core::relax::Spin;
+use spin_core::trace::Watch;
 use std::marker::PhantomData;
 use std::ops::Deref;
 
@@ -75,7 +76,8 @@ impl<'a, T, K: Kind, R> SharedGuard<'a, T, K, R> {
 
     pub(super) fn new(permit: RwPermit<'a, T>) -> Self
         requires { IsLent permit K.view }
-        ensures { shared_value result ≡ permit.entry.value }
+        ensures value { shared_value result ≡ permit.entry.value }
+        ensures same { result.permit ≡ permit.entry }
     {
         SharedGuard {
             permit,
@@ -115,12 +117,13 @@ impl<'a, T, K: Kind, R> SharedGuard<'a, T, K, R> {
 }
 
 impl<'a, T, R> SharedGuard<'a, T, Reader, R> {
-    ghost use Rattle.spin_rwlock.specs.Guards.{shared_value, read_held_value};
+    ghost use Rattle.spin_rwlock.specs.Guards.{shared_value, read_held_value, shared_party, read_held_party};
 
     /// Consumes the guard and keeps the shared access.
     ///
     /// # Contract
-    /// `read_held_value` of the hold is the value of the guard. The call returns.
+    /// `read_held_value` of the hold is the value of the guard. The hold has the guard's party (`party`). The call
+    /// returns.
     ///
     /// # Examples
     /// ```
@@ -129,7 +132,8 @@ impl<'a, T, R> SharedGuard<'a, T, Reader, R> {
     /// shows(&rt, &read, READ, [1, 0]);
     /// ```
     pub fn hold(this: Self) -> ReadHeld<'a, T, R>
-        ensures { read_held_value result ≡ shared_value this.entry }
+        ensures value { read_held_value result ≡ shared_value this.entry }
+        ensures party { (read_held_party result ≡ shared_party this.entry) × (result.permit.key ≡ this.entry.permit.key) }
     {
         ReadHeld {
             permit: this.into_permit(),
@@ -139,13 +143,29 @@ impl<'a, T, R> SharedGuard<'a, T, Reader, R> {
 }
 
 impl<'a, T, R> ReadHeld<'a, T, R> {
-    /// Releases the shared access.
-    pub(super) fn release(self) {
-        Reader::release(self.into_permit());
+    ghost use Rattle.spin_rwlock.specs.Guards.{shared_value, read_held_value, shared_party, read_held_party};
+
+    /// Turns the hold into a guard again.
+    ///
+    /// So a hold of a pass is released by that pass.
+    ///
+    /// # Contract
+    /// The guard has the hold's value and its party (`value`, `party`). The call returns.
+    ///
+    /// # Examples
+    /// ```
+    /// drop(held.into_guard());
+    /// ```
+    pub fn into_guard(self) -> RwLockReadGuard<'a, T, R>
+        ensures value { shared_value result ≡ read_held_value self.entry }
+        ensures party { (shared_party result ≡ read_held_party self.entry) × (result.permit.key ≡ self.entry.permit.key) }
+    {
+        SharedGuard::new(self.into_permit())
     }
 
     fn into_permit(self) -> RwPermit<'a, T>
-        ensures { what result.view ≡ Some Reading }
+        ensures reads { what result.view ≡ Some Reading }
+        ensures same { result ≡ self.entry.permit }
     {
         let Self {
             permit,
@@ -171,7 +191,7 @@ impl<T, K: Kind, R> Deref for SharedGuard<'_, T, K, R> {
 
 impl<T, K: Kind, R> Drop for SharedGuard<'_, T, K, R> {
     fn drop(self) {
-        K::release(self.into_permit());
+        K::release(self.into_permit(), Watch::nothing()).0.leave();
     }
 }
 

@@ -1,14 +1,17 @@
 //! What a party is to an `RwLock`, what the word of the lock says of its parties, and each kind of step. Begin at
 //! [`RwRule`].
-ghost use Rattle.std.specs.Prelude.{◌≡◌, ◌≤◌, ℕ, Bool, refl, Some, IfSome, IfOk, IfErr};
+ghost use Rattle.std.specs.Prelude.{◌≡◌, ℕ, Bool, false, refl, Some, None, IfOk, IfErr};
 ghost use Rattle.spin_step.specs.Plain.{Plain, gets, rw_word};
 ghost use Rattle.spin_step.specs.Steps.{Decides};
 ghost use Rattle.spin_step_more.specs.Readers.{OneOfEach, reader_limit, readers_in, writers_in};
-ghost use Rattle.spin_step_more.specs.declared.rw_calls.RwCall.TheVariants.{TryWrite, TryUpgrade, Downgrade, DowngradeToUpgradeable, Release, ReaderCount, WriterCount};
+ghost use Rattle.spin_step_more.specs.declared.rw_calls.RwCall.TheVariants.{TryWrite, Write, TryUpgrade, Upgrade, Downgrade, DowngradeToUpgradeable, Release, ReaderCount, WriterCount};
 ghost use Rattle.spin_model.specs.declared.answer.Answer.TheVariants as answer;
+ghost use Rattle.spin_model.specs.declared.schedule.Outcome.TheVariants.{Answered, GoingOn};
 ghost use Rattle.spin_core.specs.Cell.{reads};
 ghost use Rattle.spin_core.specs.Own.{what};
-ghost use Rattle.spin_rwlock.specs.Rw.{IsRw, IsRwWord, Told, leads_by, ends_by, counts_by, either_at, given, rw_ways, use_of_view, IsLent, Comes, MayWrite, grants, call_of, asks};
+ghost use Rattle.spin_core.specs.Passes.{Waits, Ends, IsCall, IsStep};
+ghost use Rattle.spin_rwlock.specs.Rw.{IsRw, IsRwWord, Told, ends_by, counts_by, writes_by, asks_by, upgrades_by, either_at, given, rw_ways, use_of_view, IsLent, Comes, MayWrite, in_call, grants, call_of, asks, Moves};
+ghost use Rattle.spin_rwlock.specs.Steps.{Knows, KnowsWriter, MayKnow, MayKnowWriter, Makes, MakesWriter, WriterMakes};
 ghost use Rattle.spin_rwlock.specs.declared.rwlock.rule.View.{View};
 ghost use Rattle.spin_rwlock.specs.declared.rwlock.rule.View.TheVariants.{Idle, Reading, Upgradable, Asking, Writing, WritingAsked, WaitingToWrite};
 
@@ -73,8 +76,6 @@ pub type Party = tie::Numbered<View>;
 /// An entry of the lock's trace.
 pub type Entry = tie::Entry<RwCall>;
 
-pub(super) type RwCell<T> = Cell<T, Party, RwRule<T>>;
-
 pub(super) type RwPermit<'a, T> = Permit<'a, T, Party, RwRule<T>>;
 
 pub(super) type Writer<'a, T> = WritePermit<'a, T, Party, RwRule<T>>;
@@ -87,14 +88,14 @@ impl Play<Watch<Entry>, Party, Entry> for CountsReaders {
 }
 
 // The load of `writer_count`.
-struct CountsWriters;
+pub(super) struct CountsWriters;
 
 impl Play<Watch<Entry>, Party, Entry> for CountsWriters {
     ghost told = { λ key old new before. Told (counts_by WriterCount writers_in) before };
 }
 
 // The exchange of `try_write`.
-struct TriesToWrite;
+pub(super) struct TriesToWrite;
 
 impl Play<Watch<Entry>, Party, Entry> for TriesToWrite {
     ghost told = { λ key old new before. Told (ends_by TryWrite (given old) (either_at old Writing Idle)) before };
@@ -104,7 +105,7 @@ impl Play<Watch<Entry>, Party, Entry> for TriesToWrite {
 struct Writes;
 
 impl Play<Watch<Entry>, Party, Entry> for Writes {
-    ghost told = { λ key old new before. Told (leads_by (either_at old Writing WaitingToWrite)) before };
+    ghost told = { λ key old new before. Told (writes_by (in_call (what before)) old) before };
 }
 
 // The exchange of `try_upgrade`.
@@ -118,14 +119,14 @@ impl Play<Watch<Entry>, Party, Entry> for TriesToUpgrade {
 struct Asks;
 
 impl Play<Watch<Entry>, Party, Entry> for Asks {
-    ghost told = { λ key old new before. Told (leads_by (λ n. Asking)) before };
+    ghost told = { λ key old new before. Told asks_by before };
 }
 
 // The exchange of `upgrade`.
 struct Upgrades;
 
 impl Play<Watch<Entry>, Party, Entry> for Upgrades {
-    ghost told = { λ key old new before. Told (leads_by (either_at old WritingAsked Asking)) before };
+    ghost told = { λ key old new before. Told (upgrades_by old) before };
 }
 
 // The addition by which a holder becomes a reader.
@@ -149,20 +150,6 @@ impl Play<Watch<Entry>, Party, Entry> for Releases {
     ghost told = { λ key old new before. Told (ends_by Release (λ n. answer.Done) (λ n. Idle)) before };
 }
 
-/// Returns the number of readers that the word counts, by one load.
-pub(super) fn reader_count<T>(cell: &RwCell<T>) -> usize
-    ensures { result ≤ reader_limit }
-{
-    rw::readers(cell.enter().look::<CountsReaders>(Watch::nothing()).0 as usize)
-}
-
-/// Returns the number of writers that the word counts, by one load.
-pub(super) fn writer_count<T>(cell: &RwCell<T>) -> usize
-    ensures { result ≤ 1 }
-{
-    rw::writers(cell.enter().look::<CountsWriters>(Watch::nothing()).0 as usize)
-}
-
 /// A kind of reader: [`Reader`] or [`Upgrader`].
 ///
 /// # Contract
@@ -170,13 +157,13 @@ pub(super) fn writer_count<T>(cell: &RwCell<T>) -> usize
 ///
 /// # Examples
 /// ```
-/// fn release<T>(party: RwPermit<'_, T>)
-///     requires { what party.view ≡ Some Upgradable }
+/// fn release<'a, T>(party: RwPermit<'a, T>, seen: Watch<Entry>) -> (RwPermit<'a, T>, Watch<Entry>)
+///     requires { (what party.view ≡ Some Upgradable) × MayKnow party seen }
+///     ensures idle { what result.0.view ≡ Some Idle }
+///     ensures made { Makes (IsCall Release answer.Done) party.entry seen result.0 result.1 }
 /// {
-///     party
-///         .subtract::<Releases>(UPGRADABLE, Watch::nothing())
-///         .1
-///         .leave();
+///     let (_, party, seen) = party.subtract::<Releases>(UPGRADABLE, seen);
+///     (party, seen)
 /// }
 /// ```
 pub trait Kind {
@@ -191,12 +178,14 @@ pub trait Kind {
         ensures exact { (waits : Bool) → result ≡ grants (call_of Self.view waits) word }
         ensures plain { (s : Plain) (party : ℕ) → OneOfEach s → s.cap ≡ reader_limit → rw_word s ≡ word → Decides s (gets party (asks Self.view)) rw_word result };
 
-    /// Releases the shared access of such a reader.
+    /// Releases the shared access of such a reader, whose party is out then.
     ///
     /// # Contract
-    /// The caller hands over a party with the view of the kind.
-    fn release<T>(party: RwPermit<'_, T>)
-        requires { what party.view ≡ Some Self.view };
+    /// The caller hands over a party with the view of the kind. The release is one call (`made`).
+    fn release<'a, T>(party: RwPermit<'a, T>, seen: Watch<Entry>) -> (RwPermit<'a, T>, Watch<Entry>)
+        requires { (what party.view ≡ Some Self.view) × MayKnow party seen }
+        ensures idle { what result.0.view ≡ Some Idle }
+        ensures made { Makes (IsCall Release answer.Done) party.entry seen result.0 result.1 };
 
     ghost lends: { use_of_view Self.view ≡ reads };
 
@@ -216,13 +205,13 @@ impl Kind for Reader {
         rw::read(word, rw::MAX_READERS)
     }
 
-    fn release<T>(party: RwPermit<'_, T>)
-        requires { what party.view ≡ Some Reading }
+    fn release<'a, T>(party: RwPermit<'a, T>, seen: Watch<Entry>) -> (RwPermit<'a, T>, Watch<Entry>)
+        requires { (what party.view ≡ Some Reading) × MayKnow party seen }
+        ensures idle { what result.0.view ≡ Some Idle }
+        ensures made { Makes (IsCall Release answer.Done) party.entry seen result.0 result.1 }
     {
-        party
-            .subtract::<Releases>(READER, Watch::nothing())
-            .1
-            .leave();
+        let (_, party, seen) = party.subtract::<Releases>(READER, seen);
+        (party, seen)
     }
 
     ghost lends = { refl };
@@ -237,13 +226,13 @@ impl Kind for Upgrader {
         rw::upgradable(word, rw::MAX_READERS)
     }
 
-    fn release<T>(party: RwPermit<'_, T>)
-        requires { what party.view ≡ Some Upgradable }
+    fn release<'a, T>(party: RwPermit<'a, T>, seen: Watch<Entry>) -> (RwPermit<'a, T>, Watch<Entry>)
+        requires { (what party.view ≡ Some Upgradable) × MayKnow party seen }
+        ensures idle { what result.0.view ≡ Some Idle }
+        ensures made { Makes (IsCall Release answer.Done) party.entry seen result.0 result.1 }
     {
-        party
-            .subtract::<Releases>(UPGRADABLE, Watch::nothing())
-            .1
-            .leave();
+        let (_, party, seen) = party.subtract::<Releases>(UPGRADABLE, seen);
+        (party, seen)
     }
 
     ghost lends = { refl };
@@ -251,127 +240,151 @@ impl Kind for Upgrader {
     ghost comes = { tt };
 }
 
-/// Tries once to admit a writer. Fails if the lock has a holder.
-pub(super) fn try_write<T>(cell: &RwCell<T>) -> Option<Writer<'_, T>>
-    ensures { IfSome result (λ writer. writer.view.0 ≡ Writing) }
-{
-    let next = rw::write(0)?;
-    let permit = cell
-        .enter()
-        .attempt::<TriesToWrite>(0, next as u64, Watch::nothing())
-        .0
-        .ok()?;
-    Some(permit.into_writer())
-}
-
 /// A party in `write` that goes on with its exchange.
 pub(super) struct Waiting<'a, T> {
-    permit: RwPermit<'a, T>,
+    pub(super) permit: RwPermit<'a, T>,
+    pub(super) seen: Watch<Entry>,
     ghost waits: { what permit.view ≡ Some WaitingToWrite },
+    ghost knows: { Knows permit seen },
 }
 
 impl<'a, T> Waiting<'a, T> {
+    ghost use Rattle.spin_rwlock.specs.Waits.{WritesOn};
+
     /// Tries again.
-    pub(super) fn write(self) -> Result<Writer<'a, T>, Self>
-        ensures { IfOk result (λ writer. writer.view.0 ≡ Writing) }
+    pub(super) fn write(self) -> Result<(Writer<'a, T>, Watch<Entry>), Self>
+        ensures { WritesOn self.entry result }
     {
-        let Self { permit } = self;
-        write(permit)
+        let Self { permit, seen } = self;
+        write(permit, seen)
     }
 }
 
 /// Tries once to admit a writer that comes or waits. If the lock has a holder, it waits.
-pub(super) fn write<T>(permit: RwPermit<'_, T>) -> Result<Writer<'_, T>, Waiting<'_, T>>
-    requires { MayWrite (what permit.view) }
-    ensures { IfOk result (λ writer. writer.view.0 ≡ Writing) }
+pub(super) fn write<'a, T>(
+    permit: RwPermit<'a, T>,
+    seen: Watch<Entry>,
+) -> Result<(Writer<'a, T>, Watch<Entry>), Waiting<'a, T>>
+    requires { MayWrite (what permit.view) × Knows permit seen }
+    ensures writes { IfOk result (λ held. (held.0.view.0 ≡ Writing) × KnowsWriter held.0 held.1 × (held.1.name ≡ seen.name)) }
+    ensures waits { IfErr result (λ next. next.seen.name ≡ seen.name) }
+    ensures granted { IfOk result (λ held. Moves (IsStep (in_call (what permit.entry.view)) Write (Answered answer.Granted None)) permit.entry.view seen.entries (Some held.0.view) held.1.entries) }
+    ensures missed { IfErr result (λ next. Moves (IsStep (in_call (what permit.entry.view)) Write GoingOn) permit.entry.view seen.entries next.permit.view next.seen.entries) }
 {
     let next = rw::write(0).unwrap();
-    let (found, permit, _) = permit.exchange::<Writes>(0, next as u64, Watch::nothing());
+    let (found, permit, seen) = permit.exchange::<Writes>(0, next as u64, seen);
     if found == 0 {
-        Ok(permit.into_writer())
+        Ok((permit.into_writer(), seen))
     } else {
-        Err(Waiting { permit })
+        Err(Waiting { permit, seen })
     }
 }
 
 /// Tries once to make the upgradable reader the writer. Fails if the lock has another holder.
-pub(super) fn upgrade<T>(party: RwPermit<'_, T>) -> Result<Writer<'_, T>, RwPermit<'_, T>>
-    requires { IsLent party Upgradable }
-    ensures granted { IfOk result (λ writer. (writer.view.0 ≡ Writing) × (party.entry.value ≡ Some writer.value)) }
-    ensures refused { IfErr result (λ still. (what still.view ≡ Some Upgradable) × (still.value ≡ party.entry.value)) }
+pub(super) fn upgrade<'a, T>(
+    party: RwPermit<'a, T>,
+    seen: Watch<Entry>,
+) -> Result<(Writer<'a, T>, Watch<Entry>), (RwPermit<'a, T>, Watch<Entry>)>
+    requires { IsLent party Upgradable × MayKnow party seen }
+    ensures writes { IfOk result (λ held. (held.0.view.0 ≡ Writing) × (party.entry.value ≡ Some held.0.value)) }
+    ensures reads { IfErr result (λ still. (what still.0.view ≡ Some Upgradable) × (still.0.value ≡ party.entry.value)) }
+    ensures granted { IfOk result (λ held. MakesWriter (IsCall TryUpgrade answer.Granted) party.entry seen held.0 held.1) }
+    ensures refused { IfErr result (λ still. Makes (IsCall TryUpgrade answer.Refused) party.entry seen still.0 still.1) }
 {
     let next = rw::upgrade(rw::UPGRADABLE).unwrap();
-    let (found, permit, _) = party.exchange::<TriesToUpgrade>(
-        UPGRADABLE,
-        next as u64,
-        Watch::nothing(),
-    );
+    let (found, permit, seen) = party.exchange::<TriesToUpgrade>(UPGRADABLE, next as u64, seen);
     if found == UPGRADABLE {
-        Ok(permit.into_writer())
+        Ok((permit.into_writer(), seen))
     } else {
-        Err(permit)
+        Err((permit, seen))
     }
 }
 
 /// Asks for the upgradable reader to become the writer, as `rw::ask` says: from now on no reader is admitted.
-pub(super) fn ask<T>(party: RwPermit<'_, T>) -> RwPermit<'_, T>
-    requires { IsLent party Upgradable }
-    ensures { IsLent result Asking × (result.value ≡ party.entry.value) }
+pub(super) fn ask<'a, T>(
+    party: RwPermit<'a, T>,
+    seen: Watch<Entry>,
+) -> (RwPermit<'a, T>, Watch<Entry>)
+    requires { IsLent party Upgradable × MayKnow party seen }
+    ensures lent { IsLent result.0 Asking × (result.0.value ≡ party.entry.value) }
+    ensures made { Makes (IsStep false Upgrade GoingOn) party.entry seen result.0 result.1 }
 {
-    party.add::<Asks>(ASKING, Watch::nothing()).1
+    let (_, party, seen) = party.add::<Asks>(ASKING, seen);
+    (party, seen)
 }
 
 /// Tries once to make the reader that has asked the writer. If the lock has another holder, it still asks.
-pub(super) fn upgrade_asked<T>(party: RwPermit<'_, T>) -> Result<Writer<'_, T>, RwPermit<'_, T>>
-    requires { IsLent party Asking }
-    ensures granted { IfOk result (λ writer. (writer.view.0 ≡ WritingAsked) × (party.entry.value ≡ Some writer.value)) }
-    ensures refused { IfErr result (λ still. IsLent still Asking × (still.value ≡ party.entry.value)) }
+pub(super) fn upgrade_asked<'a, T>(
+    party: RwPermit<'a, T>,
+    seen: Watch<Entry>,
+) -> Result<(Writer<'a, T>, Watch<Entry>), (RwPermit<'a, T>, Watch<Entry>)>
+    requires { IsLent party Asking × MayKnow party seen }
+    ensures writes { IfOk result (λ held. (held.0.view.0 ≡ WritingAsked) × (party.entry.value ≡ Some held.0.value)) }
+    ensures asks { IfErr result (λ still. IsLent still.0 Asking × (still.0.value ≡ party.entry.value)) }
+    ensures granted { IfOk result (λ held. MakesWriter (Ends answer.Granted) party.entry seen held.0 held.1) }
+    ensures missed { IfErr result (λ still. Makes Waits party.entry seen still.0 still.1) }
 {
     let expected = UPGRADABLE + ASKING;
     let next = rw::upgrade_asked(rw::UPGRADABLE + rw::ASKING).unwrap();
-    let (found, permit, _) = party.exchange::<Upgrades>(expected, next as u64, Watch::nothing());
+    let (found, permit, seen) = party.exchange::<Upgrades>(expected, next as u64, seen);
     if found == expected {
-        Ok(permit.into_writer())
+        Ok((permit.into_writer(), seen))
     } else {
-        Err(permit)
+        Err((permit, seen))
     }
 }
 
 /// Makes the writer a reader, as `rw::write_to_read` says.
-pub(super) fn write_to_read<T>(writer: Writer<'_, T>) -> RwPermit<'_, T>
-    ensures { (what result.view ≡ Some Reading) × (result.value ≡ Some writer.entry.value) }
+pub(super) fn write_to_read<'a, T>(
+    writer: Writer<'a, T>,
+    seen: Watch<Entry>,
+) -> (RwPermit<'a, T>, Watch<Entry>)
+    requires { MayKnowWriter writer seen }
+    ensures reads { (what result.0.view ≡ Some Reading) × (result.0.value ≡ Some writer.entry.value) }
+    ensures made { WriterMakes (IsCall Downgrade answer.Done) writer.entry seen result.0 result.1 }
 {
     let permit = writer.into_permit();
-    permit
-        .add::<Downgrades>(READER - WRITER, Watch::nothing())
-        .1
+    let (_, party, seen) = permit.add::<Downgrades>(READER - WRITER, seen);
+    (party, seen)
 }
 
 /// Makes the writer the upgradable reader, as `rw::write_to_upgradable` says.
-pub(super) fn write_to_upgradable<T>(writer: Writer<'_, T>) -> RwPermit<'_, T>
-    ensures { (what result.view ≡ Some Upgradable) × (result.value ≡ Some writer.entry.value) }
+pub(super) fn write_to_upgradable<'a, T>(
+    writer: Writer<'a, T>,
+    seen: Watch<Entry>,
+) -> (RwPermit<'a, T>, Watch<Entry>)
+    requires { MayKnowWriter writer seen }
+    ensures reads { (what result.0.view ≡ Some Upgradable) × (result.0.value ≡ Some writer.entry.value) }
+    ensures made { WriterMakes (IsCall DowngradeToUpgradeable answer.Done) writer.entry seen result.0 result.1 }
 {
     let permit = writer.into_permit();
-    permit
-        .add::<DowngradesToUpgradable>(UPGRADABLE - WRITER, Watch::nothing())
-        .1
+    let (_, party, seen) = permit.add::<DowngradesToUpgradable>(UPGRADABLE - WRITER, seen);
+    (party, seen)
 }
 
 /// Makes the upgradable reader a plain reader, as `rw::upgradable_to_read` says.
-pub(super) fn upgradable_to_read<T>(party: RwPermit<'_, T>) -> RwPermit<'_, T>
-    requires { IsLent party Upgradable }
-    ensures { (what result.view ≡ Some Reading) × (result.value ≡ party.entry.value) }
+pub(super) fn upgradable_to_read<'a, T>(
+    party: RwPermit<'a, T>,
+    seen: Watch<Entry>,
+) -> (RwPermit<'a, T>, Watch<Entry>)
+    requires { IsLent party Upgradable × MayKnow party seen }
+    ensures reads { (what result.0.view ≡ Some Reading) × (result.0.value ≡ party.entry.value) }
+    ensures made { Makes (IsCall Downgrade answer.Done) party.entry seen result.0 result.1 }
 {
-    party
-        .add::<Downgrades>(READER - UPGRADABLE, Watch::nothing())
-        .1
+    let (_, party, seen) = party.add::<Downgrades>(READER - UPGRADABLE, seen);
+    (party, seen)
 }
 
-/// Releases the exclusive access of the writer.
-pub(super) fn release_write<T>(writer: Writer<'_, T>) {
+/// Releases the exclusive access of the writer, whose party is out then.
+pub(super) fn release_write<'a, T>(
+    writer: Writer<'a, T>,
+    seen: Watch<Entry>,
+) -> (RwPermit<'a, T>, Watch<Entry>)
+    requires { MayKnowWriter writer seen }
+    ensures idle { what result.0.view ≡ Some Idle }
+    ensures made { WriterMakes (IsCall Release answer.Done) writer.entry seen result.0 result.1 }
+{
     let permit = writer.into_permit();
-    permit
-        .subtract::<Releases>(WRITER, Watch::nothing())
-        .1
-        .leave();
+    let (_, party, seen) = permit.subtract::<Releases>(WRITER, seen);
+    (party, seen)
 }

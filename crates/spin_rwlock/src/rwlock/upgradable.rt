@@ -1,13 +1,19 @@
 //! The guard of the upgradable reader: what it can do beside reading. Begin at `upgrade`.
 ghost use Rattle.std.specs.Prelude.{◌≡◌, Some, IfOk, IfErr};
-ghost use Rattle.spin_rwlock.specs.Guards.{write_value};
-ghost use Rattle.spin_rwlock.specs.Rw.{IsLent};
+ghost use Rattle.spin_model.specs.declared.answer.Answer.TheVariants.{Granted, Refused, Done};
+ghost use Rattle.spin_step_more.specs.declared.rw_calls.RwCall.TheVariants.{TryUpgrade, Upgrade, Downgrade};
+ghost use Rattle.spin_rwlock.specs.Guards.{write_value, shared_party, write_party, ReadsWith, WritesWith};
+ghost use Rattle.spin_rwlock.specs.Rw.{IsLent, Called};
+ghost use Rattle.spin_rwlock.specs.Steps.{Knows};
 ghost use Rattle.spin_rwlock.specs.declared.rwlock.rule.View.TheVariants.{Asking, WritingAsked};
 
 use super::reader::{RwLockReadGuard, SharedGuard};
-use super::rule::{RwPermit, Upgrader, ask, upgradable_to_read, upgrade, upgrade_asked};
+use super::rule::{
+    Entry, RwPermit, Upgrader, Writer, ask, upgradable_to_read, upgrade, upgrade_asked,
+};
 use super::writer::RwLockWriteGuard;
 use spin_core::relax::{RelaxStrategy, Spin};
+use spin_core::trace::Watch;
 use std::sync::Wait;
 
 /// The guard of the upgradable reader of an [`RwLock`](super::RwLock). Dropping it releases the shared access.
@@ -51,9 +57,41 @@ impl<'a, T, R> SharedGuard<'a, T, Upgrader, R> {
         ensures granted { IfOk result (λ guard. Some (write_value guard) ≡ shared_value self.entry) }
         ensures refused { IfErr result (λ guard. shared_value guard ≡ shared_value self.entry) }
     {
-        match upgrade(self.into_permit()) {
-            Ok(writer) => Ok(RwLockWriteGuard::new(writer)),
-            Err(permit) => Err(Self::new(permit)),
+        match upgrade(self.into_permit(), Watch::nothing()) {
+            Ok((writer, _)) => Ok(RwLockWriteGuard::new(writer)),
+            Err((permit, _)) => Err(Self::new(permit)),
+        }
+    }
+
+    /// Tries to become the writer, as [`try_upgrade`](Self::try_upgrade) does, in the call of a pass.
+    ///
+    /// # Contract
+    /// `seen` has to be what the pass knew beside the guard (`ReadsWith`). The call is one `TryUpgrade`, with the answer
+    /// `Granted` beside a writer's guard, and else `Refused`. The guard has the value that this one had.
+    ///
+    /// # Examples
+    /// ```
+    /// Ok((guard, seen)) => match guard.try_upgrade_seen(seen) {
+    ///     Ok((guard, seen)) => {
+    ///         let (guard, seen) = guard.downgrade_seen(seen);
+    ///         RwLock::unlock_shared(guard, seen)
+    ///     }
+    ///     Err((guard, seen)) => RwLock::unlock_shared(guard, seen),
+    /// },
+    /// ```
+    pub fn try_upgrade_seen(
+        self,
+        seen: Watch<Entry>,
+    ) -> Result<(RwLockWriteGuard<'a, T, R>, Watch<Entry>), (Self, Watch<Entry>)>
+        requires { ReadsWith self seen }
+        ensures granted_value { IfOk result (λ held. Some (write_value held.0) ≡ shared_value self.entry) }
+        ensures refused_value { IfErr result (λ held. shared_value held.0 ≡ shared_value self.entry) }
+        ensures granted { IfOk result (λ held. WritesWith held.0 held.1 × (held.1.name ≡ seen.name) × Called TryUpgrade Granted (shared_party self.entry) seen.entries (write_party held.0) held.1.entries) }
+        ensures refused { IfErr result (λ held. ReadsWith held.0 held.1 × (held.1.name ≡ seen.name) × Called TryUpgrade Refused (shared_party self.entry) seen.entries (shared_party held.0) held.1.entries) }
+    {
+        match upgrade(self.into_permit(), seen) {
+            Ok((writer, seen)) => Ok((RwLockWriteGuard::new(writer), seen)),
+            Err((permit, seen)) => Err((Self::new(permit), seen)),
         }
     }
 
@@ -93,7 +131,28 @@ impl<'a, T, R> SharedGuard<'a, T, Upgrader, R> {
     pub fn downgrade(self) -> RwLockReadGuard<'a, T, R>
         ensures { shared_value result ≡ shared_value self.entry }
     {
-        SharedGuard::new(upgradable_to_read(self.into_permit()))
+        let (permit, _) = upgradable_to_read(self.into_permit(), Watch::nothing());
+        SharedGuard::new(permit)
+    }
+
+    /// Becomes a plain reader, as [`downgrade`](Self::downgrade) does, in the call of a pass.
+    ///
+    /// # Contract
+    /// `seen` has to be what the pass knew beside the guard (`ReadsWith`). The call is one `Downgrade` (`made`). The
+    /// guard has the value that this one had.
+    ///
+    /// # Examples
+    /// ```
+    /// let (guard, seen) = guard.downgrade_seen(seen);
+    /// ```
+    pub fn downgrade_seen(self, seen: Watch<Entry>) -> (RwLockReadGuard<'a, T, R>, Watch<Entry>)
+        requires { ReadsWith self seen }
+        ensures value { shared_value result.0 ≡ shared_value self.entry }
+        ensures reads { ReadsWith result.0 result.1 × (result.1.name ≡ seen.name) }
+        ensures made { Called Downgrade Done (shared_party self.entry) seen.entries (shared_party result.0) result.1.entries }
+    {
+        let (permit, seen) = upgradable_to_read(self.into_permit(), seen);
+        (SharedGuard::new(permit), seen)
     }
 }
 
@@ -119,9 +178,68 @@ impl<'a, T, R: RelaxStrategy> SharedGuard<'a, T, Upgrader, R> {
         ensures asked { result.writer.view.0 ≡ WritingAsked }
         ensures value { Some (write_value result) ≡ shared_value self.entry }
     {
-        match upgrade_asked(ask(self.into_permit())) {
-            Ok(writer) => RwLockWriteGuard::new(writer),
-            Err(asking) => wait_to_upgrade(rt, asking),
+        let (party, _) = ask(self.into_permit(), Watch::nothing());
+        match upgrade_asked(party, Watch::nothing()) {
+            Ok((writer, _)) => RwLockWriteGuard::new(writer),
+            Err((party, _)) => wait_to_upgrade(rt, party),
+        }
+    }
+
+    /// Becomes the writer, as [`upgrade`](Self::upgrade) does, in the call of a pass.
+    ///
+    /// # Contract
+    /// `seen` has to be what the pass knew beside the guard (`ReadsWith`). The call is one `Upgrade` with the answer
+    /// `Granted`, which asked by its first step (`made`). The guard has the value that this one had.
+    ///
+    /// # Examples
+    /// ```
+    /// let (mut guard, seen) = guard.upgrade_seen(rt, seen);
+    /// ```
+    pub fn upgrade_seen<W: Wait>(
+        self,
+        rt: &W,
+        seen: Watch<Entry>,
+    ) -> (RwLockWriteGuard<'a, T, R>, Watch<Entry>)
+        requires { ReadsWith self seen }
+        ensures asked { result.0.writer.view.0 ≡ WritingAsked }
+        ensures value { Some (write_value result.0) ≡ shared_value self.entry }
+        ensures writes { WritesWith result.0 result.1 × (result.1.name ≡ seen.name) }
+        ensures made { Called Upgrade Granted (shared_party self.entry) seen.entries (write_party result.0) result.1.entries }
+    {
+        let (permit, seen) = ask(self.into_permit(), seen);
+        let (writer, seen) = (AsksOn { permit, seen }).wait::<R, W>(rt);
+        (RwLockWriteGuard::new(writer), seen)
+    }
+}
+
+/// A party in `upgrade` that has asked, and goes on with its exchange.
+pub(super) struct AsksOn<'a, T> {
+    permit: RwPermit<'a, T>,
+    seen: Watch<Entry>,
+    ghost asks: { IsLent permit Asking },
+    ghost knows: { Knows permit seen },
+}
+
+impl<'a, T> AsksOn<'a, T> {
+    ghost use Rattle.spin_rwlock.specs.Waits.{IsUpgraded, UpgradesOn};
+
+    // Tries until it is the writer.
+    fn wait<R: RelaxStrategy, W: Wait>(self, rt: &W) -> (Writer<'a, T>, Watch<Entry>)
+        ensures { IsUpgraded self.entry result }
+    {
+        match self.upgrade() {
+            Ok(held) => held,
+            Err(asking) => R::retry(rt, asking, AsksOn::upgrade),
+        }
+    }
+
+    fn upgrade(self) -> Result<(Writer<'a, T>, Watch<Entry>), Self>
+        ensures { UpgradesOn self.entry result }
+    {
+        let Self { permit, seen } = self;
+        match upgrade_asked(permit, seen) {
+            Ok(held) => Ok(held),
+            Err((permit, seen)) => Err(AsksOn { permit, seen }),
         }
     }
 }
@@ -140,9 +258,9 @@ fn wait_to_upgrade<'a, T, R: RelaxStrategy, W: Wait>(
     let mut asking = asking;
     for _ in rt.forever() {
         R::relax(rt);
-        match upgrade_asked(asking) {
-            Ok(writer) => return RwLockWriteGuard::new(writer),
-            Err(still) => asking = still,
+        match upgrade_asked(asking, Watch::nothing()) {
+            Ok((writer, _)) => return RwLockWriteGuard::new(writer),
+            Err((still, _)) => asking = still,
         }
     }
     unreachable!()

@@ -1,15 +1,18 @@
 //! The writer's guard, and its hold without a guard. Begin at [`RwLockWriteGuard`].
 ghost use Rattle.std.specs.Prelude.{◌≡◌, Some};
 ghost use Rattle.spin_core.specs.Cell.{use_of, writes};
-ghost use Rattle.spin_rwlock.specs.Rw.{use_of_party};
+ghost use Rattle.spin_model.specs.declared.answer.Answer.TheVariants.{Done};
+ghost use Rattle.spin_step_more.specs.declared.rw_calls.RwCall.TheVariants.{Downgrade, DowngradeToUpgradeable};
+ghost use Rattle.spin_rwlock.specs.Rw.{use_of_party, Called};
 
 use super::reader::{RwLockReadGuard, SharedGuard};
 use super::rule::{
-    Party, RwPermit, RwRule, Writer, release_write, write_to_read, write_to_upgradable,
+    Entry, Party, RwPermit, RwRule, Writer, release_write, write_to_read, write_to_upgradable,
 };
 use super::upgradable::RwLockUpgradableGuard;
 use spin_core::cell::{Permit, WritePermit};
 use spin_core::relax::Spin;
+use spin_core::trace::Watch;
 use std::marker::PhantomData;
 use std::ops::{Deref, DerefMut};
 
@@ -59,7 +62,7 @@ pub struct WriteHeld<'a, T, R = Spin> {
 }
 
 impl<'a, T, R> RwLockWriteGuard<'a, T, R> {
-    ghost use Rattle.spin_rwlock.specs.Guards.{shared_value, write_value, write_held_value};
+    ghost use Rattle.spin_rwlock.specs.Guards.{shared_value, write_value, write_held_value, shared_party, write_party, write_held_party, ReadsWith, WritesWith};
 
     pub(super) fn new(writer: Writer<'a, T>) -> Self
         ensures { result.writer ≡ writer.entry }
@@ -86,7 +89,28 @@ impl<'a, T, R> RwLockWriteGuard<'a, T, R> {
     pub fn downgrade(self) -> RwLockReadGuard<'a, T, R>
         ensures { shared_value result ≡ Some (write_value self.entry) }
     {
-        SharedGuard::new(write_to_read(self.into_writer()))
+        let (permit, _) = write_to_read(self.into_writer(), Watch::nothing());
+        SharedGuard::new(permit)
+    }
+
+    /// Becomes a reader, as [`downgrade`](Self::downgrade) does, in the call of a pass.
+    ///
+    /// # Contract
+    /// `seen` has to be what the pass knew beside the guard (`WritesWith`). The call is one `Downgrade` (`made`). The
+    /// reader's guard has the value that this one had.
+    ///
+    /// # Examples
+    /// ```
+    /// let (guard, seen) = guard.downgrade_seen(seen);
+    /// ```
+    pub fn downgrade_seen(self, seen: Watch<Entry>) -> (RwLockReadGuard<'a, T, R>, Watch<Entry>)
+        requires { WritesWith self seen }
+        ensures value { shared_value result.0 ≡ Some (write_value self.entry) }
+        ensures reads { ReadsWith result.0 result.1 × (result.1.name ≡ seen.name) }
+        ensures made { Called Downgrade Done (write_party self.entry) seen.entries (shared_party result.0) result.1.entries }
+    {
+        let (permit, seen) = write_to_read(self.into_writer(), seen);
+        (SharedGuard::new(permit), seen)
     }
 
     /// Becomes the upgradable reader. It never fails.
@@ -105,7 +129,32 @@ impl<'a, T, R> RwLockWriteGuard<'a, T, R> {
     pub fn downgrade_to_upgradeable(self) -> RwLockUpgradableGuard<'a, T, R>
         ensures { shared_value result ≡ Some (write_value self.entry) }
     {
-        SharedGuard::new(write_to_upgradable(self.into_writer()))
+        let (permit, _) = write_to_upgradable(self.into_writer(), Watch::nothing());
+        SharedGuard::new(permit)
+    }
+
+    /// Becomes the upgradable reader, as [`downgrade_to_upgradeable`](Self::downgrade_to_upgradeable) does, in the call
+    /// of a pass.
+    ///
+    /// # Contract
+    /// `seen` has to be what the pass knew beside the guard (`WritesWith`). The call is one `DowngradeToUpgradeable`
+    /// (`made`). The upgradable reader's guard has the value that this one had.
+    ///
+    /// # Examples
+    /// ```
+    /// let (guard, seen) = guard.downgrade_to_upgradeable_seen(seen);
+    /// ```
+    pub fn downgrade_to_upgradeable_seen(
+        self,
+        seen: Watch<Entry>,
+    ) -> (RwLockUpgradableGuard<'a, T, R>, Watch<Entry>)
+        requires { WritesWith self seen }
+        ensures value { shared_value result.0 ≡ Some (write_value self.entry) }
+        ensures reads { ReadsWith result.0 result.1 × (result.1.name ≡ seen.name) }
+        ensures made { Called DowngradeToUpgradeable Done (write_party self.entry) seen.entries (shared_party result.0) result.1.entries }
+    {
+        let (permit, seen) = write_to_upgradable(self.into_writer(), seen);
+        (SharedGuard::new(permit), seen)
     }
 
     /// Consumes the guard and returns a mutable reference to the value.
@@ -130,7 +179,8 @@ impl<'a, T, R> RwLockWriteGuard<'a, T, R> {
     /// Consumes the guard and keeps the lock held.
     ///
     /// # Contract
-    /// `write_held_value` of the hold is the value of the guard. The call returns.
+    /// `write_held_value` of the hold is the value of the guard. The hold has the guard's party (`party`). The call
+    /// returns.
     ///
     /// # Examples
     /// ```
@@ -139,7 +189,8 @@ impl<'a, T, R> RwLockWriteGuard<'a, T, R> {
     /// shows(&rt, &written, WRITTEN, [0, 1]);
     /// ```
     pub fn hold(this: Self) -> WriteHeld<'a, T, R>
-        ensures { write_held_value result ≡ Some (write_value this.entry) }
+        ensures value { write_held_value result ≡ Some (write_value this.entry) }
+        ensures party { (write_held_party result ≡ write_party this.entry) × (result.permit.key ≡ this.entry.writer.key) }
     {
         WriteHeld {
             permit: this.into_writer().into_permit(),
@@ -147,7 +198,7 @@ impl<'a, T, R> RwLockWriteGuard<'a, T, R> {
         }
     }
 
-    fn into_writer(self) -> Writer<'a, T>
+    pub(super) fn into_writer(self) -> Writer<'a, T>
         ensures { result ≡ self.entry.writer }
     {
         let Self {
@@ -159,13 +210,29 @@ impl<'a, T, R> RwLockWriteGuard<'a, T, R> {
 }
 
 impl<'a, T, R> WriteHeld<'a, T, R> {
-    /// Releases the exclusive access.
-    pub(super) fn release(self) {
-        release_write(self.into_permit().into_writer());
+    ghost use Rattle.spin_rwlock.specs.Guards.{write_value, write_held_value, write_party, write_held_party};
+
+    /// Turns the hold into a guard again.
+    ///
+    /// So a hold of a pass is released by that pass.
+    ///
+    /// # Contract
+    /// The guard has the hold's value and its party (`value`, `party`). The call returns.
+    ///
+    /// # Examples
+    /// ```
+    /// drop(held.into_guard());
+    /// ```
+    pub fn into_guard(self) -> RwLockWriteGuard<'a, T, R>
+        ensures value { Some (write_value result) ≡ write_held_value self.entry }
+        ensures party { (write_party result ≡ write_held_party self.entry) × (result.writer.key ≡ self.entry.permit.key) }
+    {
+        RwLockWriteGuard::new(self.into_permit().into_writer())
     }
 
     fn into_permit(self) -> RwPermit<'a, T>
-        ensures { use_of use_of_party result.view ≡ writes }
+        ensures writes { use_of use_of_party result.view ≡ writes }
+        ensures same { result ≡ self.entry.permit }
     {
         let Self {
             permit,
@@ -209,7 +276,9 @@ impl<T, R> DerefMut for RwLockWriteGuard<'_, T, R> {
 
 impl<T, R> Drop for RwLockWriteGuard<'_, T, R> {
     fn drop(self) {
-        release_write(self.into_writer());
+        release_write(self.into_writer(), Watch::nothing())
+            .0
+            .leave();
     }
 }
 

@@ -50,12 +50,12 @@ impl<const N: usize> Seats<N> {
     /// visit(rt, pass)
     /// ```
     pub fn pass(&self) -> Pass<'_, N>
-        ensures new { (result.account.permit.view ≡ None) × (result.account.seen.entries ≡ []) × (result.account.seen.name ≡ self.now.start.name) }
+        ensures new { (result.account.permit.view ≡ None) × (result.account.seen.entries ≡ []) × (result.account.seen.name ≡ self.now.cell.name) }
     {
         Pass {
             account: Account {
                 permit: self.cell.enter(),
-                seen: self.start.copy(),
+                seen: self.cell.watch(),
             },
         }
     }

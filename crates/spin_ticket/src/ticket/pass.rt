@@ -69,11 +69,11 @@ impl<T, R> TicketMutex<T, R> {
     /// ```
     pub fn pass(&self) -> Pass<'_, T, R>
         ensures new { (result.seen.entries ≡ []) × (result.permit.view ≡ None) }
-        ensures lock { (result.seen.name ≡ self.now.start.name) × (result.permit.key.1 ≡ self.now.cell.1) }
+        ensures lock { (result.seen.name ≡ self.now.cell.0.name) × (result.permit.key.1 ≡ self.now.cell.1) }
     {
         Pass {
             permit: self.cell.enter(),
-            seen: self.start.copy(),
+            seen: self.cell.watch(),
             strategy: PhantomData,
         }
     }

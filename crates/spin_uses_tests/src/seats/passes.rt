@@ -1,7 +1,7 @@
 //! Three threads with a pass each, which know one history of the seats once they have joined.
 ghost use Rattle.std.specs.Prelude.{◌≡◌, ◌≤◌, ◌⊎◌, IfErr};
 ghost use mathlib.Core.List.{IsPrefix};
-ghost use Rattle.spin_seats.specs.Passes.{history, lock_of, Counted, SatOnce, WasRefused};
+ghost use Rattle.spin_seats.specs.Passes.{history, lock_of, name_of, Counted, SatOnce, WasRefused};
 
 use super::super::equal::equal;
 use spin_seats::seats::{Pass, Seats};
@@ -48,18 +48,18 @@ fn visit_beside_count<'a, W: Threads + Wait + Sync>(
     let all = join(
         rt,
         || -> (Pass<'_, 2>, Pass<'_, 2>)
-            ensures { (lock_of result.0 ≡ seats.entry.now.start.name) × (lock_of result.1 ≡ seats.entry.now.start.name) }
+            ensures { (lock_of result.0 ≡ name_of seats.entry.now) × (lock_of result.1 ≡ name_of seats.entry.now) }
         {
             join(
                 rt,
                 || -> Pass<'_, 2>
-                    ensures { lock_of result ≡ seats.entry.now.start.name }
+                    ensures { lock_of result ≡ name_of seats.entry.now }
                 {
                     let pass = seats.pass();
                     visit(rt, pass)
                 },
                 || -> Pass<'_, 2>
-                    ensures { lock_of result ≡ seats.entry.now.start.name }
+                    ensures { lock_of result ≡ name_of seats.entry.now }
                 {
                     let pass = seats.pass();
                     visit(rt, pass)
@@ -67,7 +67,7 @@ fn visit_beside_count<'a, W: Threads + Wait + Sync>(
             )
         },
         || -> (usize, Pass<'_, 2>)
-            ensures { lock_of result.1 ≡ seats.entry.now.start.name }
+            ensures { lock_of result.1 ≡ name_of seats.entry.now }
         { look(seats.pass()) },
     );
     all.0.0.compare(&all.0.1);

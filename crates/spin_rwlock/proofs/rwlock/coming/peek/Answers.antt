@@ -1,11 +1,11 @@
 use mathlib.Core.Logic.{inl}
-use Rattle.std.proofs.Common.{sym}
+use Rattle.std.proofs.Common.{None, refl, sym}
 use Rattle.spin_rwlock.specs.declared.rwlock.rule.View.TheVariants.{Reading}
 use Rattle.spin_rwlock.proofs.Steps.{counts_readers, idle_rests, peeks, missed_rests}
 use Rattle.spin_rwlock.proofs.rwlock.coming.peek.Goals as goal
 
 pub look-word-requires-clause-step : goal.look-word-requires-clause-step
-look-word-requires-clause-step g c = (inl c.nothing.ensures, rw c.enter.ensures.fresh.0 (counts_readers c.enter.result.key.name))
+look-word-requires-clause-step g c = (inl c.nothing.ensures, rw c.enter.ensures.fresh.0 (counts_readers c.enter.result.key.name None refl))
 
 pub look-word-requires-clause-rests : goal.look-word-requires-clause-rests
 look-word-requires-clause-rests g c log es found after told = idle_rests c.enter.result.key.name after told.6.1.0
@@ -14,4 +14,4 @@ pub attempt-requires-clause-step : goal.attempt-requires-clause-step
 attempt-requires-clause-step g c = (inl c.nothing-2.ensures, rw c.enter-2.ensures.fresh.0 (peeks c.enter-2.result.key.name c.look-word.result.0 c.in_ok-next.next (sym c.in_ok-next.ensures.exact) c.in_ok-next.ensures.plain))
 
 pub attempt-requires-clause-rests : goal.attempt-requires-clause-rests
-attempt-requires-clause-rests g c log es found after other told = missed_rests c.enter-2.result.key.name Reading _ found other after told.6
+attempt-requires-clause-rests g c log es found after other told = missed_rests c.enter-2.result.key.name Reading _ found other after told.6.0

@@ -1,9 +1,20 @@
-use mathlib.Core.Logic.{inl}
-use Rattle.spin_rwlock.proofs.Steps.{writer_leaves, left_rests}
+use Rattle.std.proofs.Common.{ap, ◌∙◌, subst}
+use Rattle.spin_core.specs.Passes.{mark_of}
+use Rattle.spin_model.specs.declared.answer.Answer.TheVariants.{Done}
+use Rattle.spin_step_more.specs.declared.rw_calls.RwCall.TheVariants.{Release}
+use Rattle.spin_rwlock.specs.Rw.{Called}
+use Rattle.spin_rwlock.specs.declared.rwlock.rule.View.TheVariants.{Idle}
+use Rattle.spin_rwlock.proofs.Steps.{writer_leaves}
+use Rattle.spin_rwlock.proofs.Passes.{may, may_as, answered}
 use Rattle.spin_rwlock.proofs.rwlock.rule.release_write.Goals as goal
 
-pub subtract-requires : goal.subtract-requires
-subtract-requires g c = let it = c.into_permit-permit.ensures in (inl c.nothing.ensures, rw it.same.0 (writer_leaves c.into_permit-permit.result.key.name c.args.writer.view it.use_of_view))
+pub subtract-party-requires : goal.subtract-party-requires
+subtract-party-requires g c =
+    let it = c.into_permit-permit in let w = c.args.writer in
+    (may it.result.key.name c.args.seen (may_as it.result.key.name w.key.name c.args.seen (ap (λ k. k.name) it.ensures.key) c.requires), rw it.ensures.same.0 (writer_leaves it.result.key.name w.view it.ensures.use_of_view))
 
-pub leave-requires : goal.leave-requires
-leave-requires g c = let s = c.subtract.result in left_rests s.1.key.name _ c.into_permit-permit.result.view c.nothing.result s.2 s.0 s.1.view c.subtract.ensures.moved
+pub returns-clause-made : goal.returns-clause-made
+returns-clause-made g c knew =
+    let it = c.into_permit-permit in let f = c.subtract-party in let seen = c.args.seen in
+    let t = answered Release (λ n. Done) (λ n. Idle) it.result.view seen f.result.2 f.result.0 it.result.key.name f.result.1.key.name (ap (λ k. k.name) f.ensures.key) f.result.1.view (ap (λ k. k.name) it.ensures.key ∙ knew.0, ap mark_of it.ensures.same.0 ∙ knew.1) f.ensures.moved in
+    (t.0, t.1, subst (λ o. Called Release Done o seen.entries f.result.1.view f.result.2.entries) it.ensures.same.0 t.2)

@@ -1,10 +1,28 @@
-use Rattle.std.proofs.Common.{◌≡◌, ℕ}
-use mathlib.Core.Logic.{inl}
+use Rattle.std.proofs.Common.{◌≡◌, ℕ, ap, subst}
+use Rattle.spin_model.specs.declared.answer.Answer.TheVariants.{Granted, Refused}
+use Rattle.spin_step_more.specs.declared.rw_calls.RwCall.TheVariants.{TryUpgrade}
+use Rattle.spin_rwlock.specs.Rw.{Called, given, either_at}
+use Rattle.spin_rwlock.specs.declared.rwlock.rule.View.TheVariants.{Writing, Upgradable}
 use Rattle.spin_rwlock.proofs.Steps.{tries_to_upgrade}
+use Rattle.spin_rwlock.proofs.Passes.{may, answered, won_by, lost_by, to_writer}
 use Rattle.spin_rwlock.proofs.rwlock.rule.upgrade.Goals as goal
 
 pub exchange-found-requires : goal.exchange-found-requires
 exchange-found-requires g c =
     let exact = c.upgrade.ensures.exact in let got = c.unwrap-next.ensures in let next : ℕ = 1 in
     let same : c.unwrap-next.result ≡ next = cc in
-    (inl c.nothing.ensures, rw same (tries_to_upgrade c.args.party.key.name c.args.party.view c.requires.0 (rw exact at c.upgrade.ensures.plain)))
+    let it = c.args.party in
+    (may it.key.name c.args.seen c.requires.1, rw same (tries_to_upgrade it.key.name it.view c.requires.0.0 (rw exact at c.upgrade.ensures.plain)))
+
+pub returns-then-found-eq-UPGRADABLE-clause-granted : goal.returns-then-found-eq-UPGRADABLE-clause-granted
+returns-then-found-eq-UPGRADABLE-clause-granted g c knew =
+    let it = c.args.party in let f = c.exchange-found in let seen = c.args.seen in let n = f.result.0 in let w = c.into_writer in
+    let t = answered TryUpgrade (given 2) (either_at 2 Writing Upgradable) it.view seen f.result.2 n it.key.name f.result.1.key.name (ap (λ k. k.name) f.ensures.key) f.result.1.view knew f.ensures.moved in
+    to_writer (λ o. Called TryUpgrade Granted it.view seen.entries o f.result.2.entries) f.result.2 w.result.key.name f.result.1.key.name w.result.view f.result.1.view (ap (λ k. k.name) w.ensures.key) w.ensures.same.0
+    (t.0, t.1, subst (λ a. Called TryUpgrade a it.view seen.entries f.result.1.view f.result.2.entries) (won_by 2 n Granted Refused c.if-found-eq-UPGRADABLE.true) t.2)
+
+pub returns-else-found-eq-UPGRADABLE-clause-refused : goal.returns-else-found-eq-UPGRADABLE-clause-refused
+returns-else-found-eq-UPGRADABLE-clause-refused g c knew =
+    let it = c.args.party in let f = c.exchange-found in let seen = c.args.seen in let n = f.result.0 in
+    let t = answered TryUpgrade (given 2) (either_at 2 Writing Upgradable) it.view seen f.result.2 n it.key.name f.result.1.key.name (ap (λ k. k.name) f.ensures.key) f.result.1.view knew f.ensures.moved in
+    (t.0, t.1, subst (λ a. Called TryUpgrade a it.view seen.entries f.result.1.view f.result.2.entries) (lost_by 2 n Granted Refused c.if-found-eq-UPGRADABLE.false) t.2)

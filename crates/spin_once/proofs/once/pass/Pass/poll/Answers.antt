@@ -1,0 +1,9 @@
+use Rattle.spin_core.specs.Passes.{IsCall}
+use Rattle.spin_model.specs.declared.answer.Answer.TheVariants.{Value}
+use Rattle.spin_model.specs.declared.once.OnceCall.TheVariants.{Poll}
+use Rattle.spin_once.specs.Accounts.{here}
+use Rattle.spin_once.proofs.Accounts.{same_since}
+use Rattle.spin_once.proofs.once.pass.Pass.poll.Goals as goal
+
+pub returns-in-Ok : goal.returns-in-Ok
+returns-in-Ok g c = record { made = same_since (here c.args.self.account) (here c.in-Ok.found.account) (here c.read-account.result.1) (IsCall Poll (Value tt)) c.in-Ok.ensures.found c.read-account.ensures.same }

@@ -1,0 +1,80 @@
+-- What a party's account of its calls says from one of its steps to another: which moves the party has made between.
+use Rattle.std.specs.Prelude.{◌≡◌, Bool, true, Option, Some, None, Result, Ok, Err}
+use Rattle.spin_core.specs.Own.{Numbered, what}
+use Rattle.spin_core.specs.Passes.{Ends, Waits, IsStep}
+use Rattle.spin_core.specs.Stable.{maybe_stable}
+use Rattle.spin_core.specs.declared.trace.Watch.{Watch}
+use Rattle.spin_model.specs.declared.answer.Answer.TheVariants.{Value, NoValue}
+use Rattle.spin_model.specs.declared.once.OnceCall.TheVariants.{Wait as ForValue, Poll}
+use Rattle.spin_model.specs.declared.schedule.Outcome.TheVariants.{Answered, GoingOn}
+use Rattle.spin_model.specs.declared.once.OnceCall.{OnceCall}
+use Rattle.spin_model.specs.declared.once.OncePoint.TheVariants.{Run}
+use Rattle.spin_once.specs.Once.{Made, Moving, Moves, has_begun, trying}
+use Rattle.spin_once.specs.declared.once_core.account.Account.{Account}
+use Rattle.spin_once.specs.declared.once_core.account.Awaiting.{Awaiting}
+use Rattle.spin_once.specs.declared.once_core.account.Claim.{Claim}
+use Rattle.spin_once.specs.declared.once_core.account.Claim.TheVariants as claim
+use Rattle.spin_once.specs.declared.once_core.account.Found.{Found}
+use Rattle.spin_once.specs.declared.once_core.account.Polling.{Polling}
+use Rattle.spin_once.specs.declared.once_core.account.Waiting.{Waiting}
+use Rattle.spin_once.specs.declared.once_core.account.Wanting.{Wanting}
+use Rattle.spin_once.specs.declared.once_core.init_permit.InitPermit.{InitPermit}
+use Rattle.spin_once.specs.declared.once_core.rule.Key.{Key}
+use Rattle.spin_once.specs.declared.once_core.rule.Stage.TheVariants.{Seed}
+use Rattle.spin_once.specs.declared.once_core.rule.View.{View}
+use Rattle.spin_once.specs.declared.once_core.rule.View.TheVariants.{Idle, InCall}
+
+-- where a party stands: the key of its cell, its view, and what it knows of the trace
+abbrev pub Place : Type 0 → Type 0
+Place S = Key S × Option (Numbered View) × Watch Made
+
+-- from the one place to the other the party has made moves of this course, and no others, in one cell
+abbrev pub Since : {S : Type 0} → Place S → Moving → Place S → Type 0
+Since p course q = (q.0 ≡ p.0) × (q.2.name ≡ p.2.name) × Moves p.0.given.value course p.1 p.2.entries q.1 q.2.entries
+
+abbrev pub Same : {S : Type 0} → Place S → Place S → Type 0
+Same p q = (q.0 ≡ p.0) × (q.1 ≡ p.1) × (q.2 ≡ p.2)
+
+module _ {T S : Type 0} where
+  abbrev pub here : Account T S → Place S
+  here it = (it.party.key, it.party.view, it.seen)
+
+  abbrev pub running : InitPermit T S → Place S
+  running it = (it.writer.key, Some it.writer.view, it.seen)
+
+  -- it is a call with a closure that may fail, or with one that does not
+  abbrev pub Wants : Bool → Wanting T S → Type 0
+  Wants may_fail wanting = what wanting.account.party.view ≡ Some (trying may_fail)
+
+  -- what its value is made from
+  abbrev pub seed_of : Account T S → S
+  seed_of it = it.party.key.seed.value
+
+  -- the seed lies there
+  abbrev pub HasSeed : InitPermit T S → Type 0
+  HasSeed permit = permit.writer.value ≡ maybe_stable (Seed permit.writer.key.seed.value)
+
+  -- where there is no value: the right of this call to make one
+  abbrev pub IsClaimOf : OnceCall (Unit {0}) → Claim T S → Type 0
+  IsClaimOf call (claim.Found found) = Unit {0}
+  IsClaimOf call (claim.Init permit) = HasSeed permit × (permit.writer.view.0 ≡ InCall call Run)
+
+  -- a call with a closure is answered, or goes on to its closure
+  abbrev pub Claims : Place S → Claim T S → Type 0
+  Claims p (claim.Found found) = Since p (Ends (Value tt)) (here found.account)
+  Claims p (claim.Init permit) = Since p Waits (running permit)
+
+  -- what a call with a closure comes to by its exchange, and by a look before it
+  abbrev pub Attempts : Place S → Result (Claim T S) (Awaiting T S) → Type 0
+  Attempts p (Ok claim) = Claims p claim
+  Attempts p (Err awaiting) = Since p Waits (here awaiting.account)
+
+  -- what a look of `wait` comes to, and one of `poll`; the first one begins the call
+  abbrev pub WaitsOn : Waiting T S → Result (Found T S) (Waiting T S) → Type 0
+  WaitsOn was (Ok found) = Since (here was.account) (IsStep (has_begun (what was.account.party.view)) ForValue (Answered (Value tt) None)) (here found.account)
+  WaitsOn was (Err next) = Since (here was.account) (IsStep (has_begun (what was.account.party.view)) ForValue GoingOn) (here next.account) × (has_begun (what next.account.party.view) ≡ true)
+
+  abbrev pub PollsOn : Account T S → Result (Result (Found T S) (Account T S)) (Polling T S) → Type 0
+  PollsOn was (Ok (Ok found)) = Since (here was) (IsStep (has_begun (what was.party.view)) Poll (Answered (Value tt) None)) (here found.account)
+  PollsOn was (Ok (Err none)) = Since (here was) (IsStep (has_begun (what was.party.view)) Poll (Answered NoValue None)) (here none) × (what none.party.view ≡ Some Idle)
+  PollsOn was (Err next) = Since (here was) (IsStep (has_begun (what was.party.view)) Poll GoingOn) (here next.account) × (has_begun (what next.account.party.view) ≡ true)

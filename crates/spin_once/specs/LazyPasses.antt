@@ -1,0 +1,32 @@
+-- What a pass of a `LazyLock` knows: its history so far, and which moves in it are its own.
+use Rattle.std.specs.Prelude.{ℕ, List}
+use Rattle.spin_core.specs.Passes.{IsCall}
+use Rattle.spin_model.specs.declared.answer.Answer.TheVariants.{Value}
+use Rattle.spin_model.specs.declared.once.OnceCall.TheVariants.{CallOnce}
+use Rattle.spin_once.specs.Accounts.{here, seed_of, Since}
+use Rattle.spin_once.specs.Once.{Made}
+use Rattle.spin_once.specs.declared.lazylock.LazyLock.{LazyLock}
+use Rattle.spin_once.specs.declared.lazylock.pass.Pass.{Pass}
+
+module _ {T F R M : Type 0} where
+  -- all moves in the `LazyLock` up to the pass's last step
+  abbrev pub history : Pass T F R M → List Made
+  history it = it.account.seen.entries
+
+  -- the name of the history of a `LazyLock`, and of the `LazyLock` of a pass
+  abbrev pub name_of : LazyLock T F R M → ℕ
+  name_of lazy = lazy.core.cell.start.name
+
+  abbrev pub lock_of : Pass T F R M → ℕ
+  lock_of it = it.account.seen.name
+
+  -- the initialiser of the `LazyLock` of a pass, and what is promised of its value
+  abbrev pub initialiser_of : Pass T F R M → F
+  initialiser_of it = (seed_of it.account).f.inner
+
+  abbrev pub promise_of : Pass T F R M → M
+  promise_of it = (seed_of it.account).promise
+
+  -- since then the pass has called `force` once, and got the value
+  abbrev pub Forced : Pass T F R M → Pass T F R M → Type 0
+  Forced before now = Since (here before.account) (IsCall (CallOnce tt) (Value tt)) (here now.account)

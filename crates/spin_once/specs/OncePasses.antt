@@ -1,0 +1,60 @@
+-- What a pass knows: the history of its `Once` so far, and which moves in it are its own.
+use Rattle.std.specs.Prelude.{ℕ, Bool, Option, Some, None, List, Result, Ok, Err}
+use Rattle.spin_core.specs.Own.{Numbered}
+use Rattle.spin_core.specs.Passes.{Ends, IsCall}
+use Rattle.spin_model.specs.declared.answer.Answer.{Answer}
+use Rattle.spin_model.specs.declared.answer.Answer.TheVariants.{Value, NoValue, Is}
+use Rattle.spin_model.specs.declared.once.OnceCall.{OnceCall}
+use Rattle.spin_model.specs.declared.once.OnceCall.TheVariants.{CallOnce, TryCallOnceOk, IsCompleted}
+use Rattle.spin_once.specs.Accounts.{Place, here, Since}
+use Rattle.spin_once.specs.Once.{Made, Fails, IsFailedCall}
+use Rattle.spin_once.specs.declared.once.Once.{Once}
+use Rattle.spin_once.specs.declared.once.pass.Pass.{Pass}
+use Rattle.spin_once.specs.declared.once_core.rule.View.{View}
+
+-- the answer to a caller that got the value or none
+abbrev pub found_or_none : {X : Type 0} → Option X → Answer (Unit {0})
+found_or_none None = NoValue
+found_or_none (Some value) = Value tt
+
+-- a call with a closure that may fail goes on, and gives the value or fails
+abbrev pub TriedOn : {X E : Type 0} → Result X E → Place (Unit {0}) → Place (Unit {0}) → Type 0
+TriedOn (Ok value) p q = Since p (Ends (Value tt)) q
+TriedOn (Err e) p q = Since p Fails q
+
+-- it gets the value, or its closure fails, as one whole call
+abbrev pub TriedIn : {X E : Type 0} → Result X E → Place (Unit {0}) → Place (Unit {0}) → Type 0
+TriedIn (Ok value) p q = Since p (IsCall (TryCallOnceOk tt) (Value tt)) q
+TriedIn (Err e) p q = Since p IsFailedCall q
+
+module _ {T R : Type 0} where
+  -- all moves in the `Once` up to the pass's last step
+  abbrev pub history : Pass T R → List Made
+  history it = it.account.seen.entries
+
+  -- the name of the history of a `Once`, and of the `Once` of a pass
+  abbrev pub name_of : Once T R → ℕ
+  name_of once = once.core.cell.start.name
+
+  abbrev pub lock_of : Pass T R → ℕ
+  lock_of it = it.account.seen.name
+
+  -- the party of the pass: none before its first call
+  abbrev pub party : Pass T R → Option (Numbered View)
+  party it = it.account.party.view
+
+  -- since then the pass has made exactly this call, with this answer
+  abbrev pub Called : OnceCall (Unit {0}) → Answer (Unit {0}) → Pass T R → Pass T R → Type 0
+  Called c a before now = Since (here before.account) (IsCall c a) (here now.account)
+
+  -- since then it has made one call with a closure that may fail, which got the value, or whose closure failed
+  abbrev pub Tried : {X E : Type 0} → Result X E → Pass T R → Pass T R → Type 0
+  Tried answer before now = TriedIn answer (here before.account) (here now.account)
+
+  -- since then it has called `call_once` once, and got the value
+  abbrev pub CalledOnce : Pass T R → Pass T R → Type 0
+  CalledOnce before now = Called (CallOnce tt) (Value tt) before now
+
+  -- since then it has looked once, and was told this
+  abbrev pub Looked : Bool → Pass T R → Pass T R → Type 0
+  Looked there before now = Called IsCompleted (Is there) before now

@@ -1,0 +1,225 @@
+//! The calls of a [`Once`] by a thread that keeps account of them. Begin at [`Once::pass`].
+ghost use Rattle.std.specs.Prelude.{◌≡◌, ◌⊎◌, Some, None, Err, [], true, IfOk, IfErr};
+ghost use mathlib.Core.List.{IsPrefix};
+ghost use Rattle.spin_core.specs.Own.{what};
+ghost use Rattle.spin_core.specs.Passes.{Ends};
+ghost use Rattle.spin_model.specs.declared.answer.Answer.TheVariants.{Value, Is};
+ghost use Rattle.spin_model.specs.declared.once.OnceCall.TheVariants.{CallOnce, Wait as WaitCall, Poll, Get, IsCompleted};
+ghost use Rattle.spin_once.specs.Once.{is_out};
+
+use super::Once;
+use super::make::{find_or_make, find_or_try};
+use crate::once_core::Account;
+use spin_core::relax::RelaxStrategy;
+use std::marker::PhantomData;
+use std::sync::Wait;
+
+/// A thread's account of its calls of a [`Once`].
+///
+/// The cell of the `Once` keeps the list of all moves that threads have made in it (its history). A pass knows which of
+/// these moves are its own, and the whole list up to its last one. Calls without a pass are in the history too, as
+/// calls of others. A pass is as large as a reference. It can be sent, and a `Once` has any number of them.
+///
+/// # Contract
+/// Each call takes the pass and returns it. It ensures `Called`: of the moves by which the history grew, those of this
+/// pass are exactly one call, with the answer that is returned. In the model of a `Once` on threads that call has this
+/// answer, at its place among the moves of all threads, and no move of the history is passed over.
+///
+/// # Examples
+/// ```
+/// fn look(pass: Pass<'_, u64, Spin>) -> (bool, Pass<'_, u64, Spin>)
+///     ensures made { Looked result.0 pass.entry result.1 }
+///     ensures lock { lock_of result.1 ≡ lock_of pass.entry }
+/// {
+///     let (there, pass) = pass.is_completed();
+///     (there, pass)
+/// }
+/// ```
+#[must_use = "a pass that is dropped ends: bind it, or write `drop(..)`"]
+pub struct Pass<'a, T, R> {
+    account: Account<'a, T, ()>,
+    strategy: PhantomData<R>,
+    ghost out: { is_out (what account.party.view) ≡ true },
+}
+
+impl<T, R> Once<T, R> {
+    /// Returns a pass that has made no call. It makes no operation on the `Once`.
+    ///
+    /// # Contract
+    /// The pass is of this `Once`, and knows nothing of its history yet (`new`).
+    ///
+    /// # Examples
+    /// ```
+    /// let pass = once.pass();
+    /// ```
+    pub fn pass(&self) -> Pass<'_, T, R>
+        ensures new { (result.account.seen.name ≡ self.now.core.cell.start.name) × (result.account.seen.entries ≡ []) × (result.account.party.view ≡ None) }
+    {
+        Pass {
+            account: self.core.account(),
+            strategy: PhantomData,
+        }
+    }
+}
+
+impl<'a, T, R> Pass<'a, T, R> {
+    ghost use Rattle.spin_once.specs.OncePasses.{Called, found_or_none};
+
+    /// Returns the value, or `None` if there is none yet, as [`Once::get`] does.
+    ///
+    /// # Contract
+    /// The call is one `Get`, with the answer `Value` beside a reference, and else `NoValue` (`made`).
+    ///
+    /// # Examples
+    /// ```
+    /// let (found, third) = third.get();
+    /// equal(&rt, found.copied(), Some(first.0));
+    /// ```
+    pub fn get(self) -> (Option<&'a T>, Pass<'a, T, R>)
+        ensures made { Called Get (found_or_none result.0) self.entry result.1 }
+    {
+        let Self { account, strategy } = self;
+        match account.get() {
+            Ok(found) => {
+                let (value, account) = found.read();
+                (Some(value), Pass { account, strategy })
+            }
+            Err(account) => (None, Pass { account, strategy }),
+        }
+    }
+
+    /// Returns whether there is a value, as [`Once::is_completed`] does.
+    ///
+    /// # Contract
+    /// The call is one `IsCompleted`, with the answer that is returned (`made`).
+    ///
+    /// # Examples
+    /// ```
+    /// let (there, pass) = pass.is_completed();
+    /// ```
+    pub fn is_completed(self) -> (bool, Pass<'a, T, R>)
+        ensures made { Called IsCompleted (Is result.0) self.entry result.1 }
+    {
+        let Self { account, strategy } = self;
+        let (there, account) = account.is_completed();
+        (there, Pass { account, strategy })
+    }
+
+    /// Compares what two passes of one `Once` know. It does nothing when it runs.
+    ///
+    /// # Contract
+    /// What one of them knows of the history is a beginning of what the other knows. So both know one history, and the
+    /// one that knows more has the calls of both in it, each once, in the order in which each pass made them.
+    ///
+    /// # Examples
+    /// ```
+    /// first.1.compare(&second.1);
+    /// ```
+    pub fn compare(&self, other: &Pass<'_, T, R>)
+        requires { self.now.account.seen.name ≡ other.now.account.seen.name }
+        ensures { IsPrefix self.now.account.seen.entries other.now.account.seen.entries ⊎ IsPrefix other.now.account.seen.entries self.now.account.seen.entries }
+    {
+        self.account.compare(&other.account);
+    }
+}
+
+impl<'a, T, R: RelaxStrategy> Pass<'a, T, R> {
+    ghost use Rattle.spin_once.specs.OncePasses.{Called, Tried, found_or_none};
+
+    /// Returns the value, and makes it first by calling `f` if there is none, as [`Once::call_once`] does.
+    ///
+    /// # Contract
+    /// The precondition of `f` has to hold. The call is one `CallOnce` with the answer `Value`, however often it looked
+    /// and tried, and whether `f` ran or not (`made`). Whether and when the call returns is not promised.
+    ///
+    /// # Examples
+    /// ```
+    /// let (made, pass) = pass.call_once(rt, || value);
+    /// ```
+    pub fn call_once<F: FnOnce() -> T, W: Wait>(self, rt: &W, f: F) -> (&'a T, Pass<'a, T, R>)
+        requires { F.pre f }
+        ensures made { Called (CallOnce tt) (Value tt) self.entry result.1 }
+    {
+        let Self { account, strategy } = self;
+        let (value, account) = find_or_make::<T, R, F, W>(account, rt, f);
+        (value, Pass { account, strategy })
+    }
+
+    /// Like [`call_once`](Pass::call_once), with a closure that may fail, as [`Once::try_call_once`] does.
+    ///
+    /// # Contract
+    /// The precondition of `f` has to hold. An `Err` is one that this caller's own `f` may return (`err`). With a value
+    /// the call is one `TryCallOnceOk` with the answer `Value`. With an error it is a call whose closure ran and
+    /// failed, with the answer `Failed` (`made`). Whether and when the call returns is not promised.
+    ///
+    /// # Examples
+    /// ```
+    /// let (tried, pass) = once.pass().try_call_once(&rt, || Err("no port"));
+    /// ```
+    pub fn try_call_once<F: FnOnce() -> Result<T, E>, E, W: Wait>(
+        self,
+        rt: &W,
+        f: F,
+    ) -> (Result<&'a T, E>, Pass<'a, T, R>)
+        requires { F.pre f }
+        ensures err { IfErr result.0 (λ e. F.post f (Err e)) }
+        ensures made { Tried result.0 self.entry result.1 }
+    {
+        let Self { account, strategy } = self;
+        let (answer, account) = find_or_try::<T, R, F, E, W>(account, rt, f);
+        (answer, Pass { account, strategy })
+    }
+
+    /// Returns the value, spinning until there is one, as [`Once::wait`] does.
+    ///
+    /// # Contract
+    /// The call is one `Wait` with the answer `Value`, however often it looked (`made`). Whether and when it returns is
+    /// not promised.
+    ///
+    /// # Examples
+    /// ```
+    /// let (waited, third) = third.wait(&rt);
+    /// equal(&rt, *waited, first.0);
+    /// ```
+    pub fn wait<W: Wait>(self, rt: &W) -> (&'a T, Pass<'a, T, R>)
+        ensures made { Called WaitCall (Value tt) self.entry result.1 }
+    {
+        let Self { account, strategy } = self;
+        let (value, account) = account.wait::<R, W>(rt).read();
+        (value, Pass { account, strategy })
+    }
+
+    /// Returns the value, or `None` if there is none and no closure runs, as [`Once::poll`] does.
+    ///
+    /// # Contract
+    /// The call is one `Poll`, however often it looked, with the answer `Value` beside a reference, and else `NoValue`
+    /// (`made`). Whether and when it returns is not promised.
+    ///
+    /// # Examples
+    /// ```
+    /// let (polled, third) = third.poll(&rt);
+    /// equal(&rt, polled.copied(), Some(first.0));
+    /// ```
+    pub fn poll<W: Wait>(self, rt: &W) -> (Option<&'a T>, Pass<'a, T, R>)
+        ensures made { Called Poll (found_or_none result.0) self.entry result.1 }
+    {
+        let Self { account, strategy } = self;
+        match account.poll::<R, W>(rt) {
+            Ok(found) => {
+                let (value, account) = found.read();
+                (Some(value), Pass { account, strategy })
+            }
+            Err(account) => (None, Pass { account, strategy }),
+        }
+    }
+}
+
+impl<T, R> Drop for Pass<'_, T, R> {
+    fn drop(self) {
+        let Self {
+            account,
+            strategy: _,
+        } = self;
+        account.close();
+    }
+}

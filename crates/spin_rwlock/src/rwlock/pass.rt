@@ -1,0 +1,395 @@
+//! The calls of an [`RwLock`] by a thread that keeps account of them. Begin at [`RwLock::pass`].
+ghost use Rattle.std.specs.Prelude.{◌≡◌, ◌⊎◌, ◌≤◌, true, false, Some, None, [], IfOk, IfErr};
+ghost use mathlib.Core.List.{IsPrefix};
+ghost use Rattle.spin_core.specs.Own.{what};
+ghost use Rattle.spin_model.specs.declared.answer.Answer.TheVariants.{Granted, Refused, Count, Done};
+ghost use Rattle.spin_step_more.specs.Readers.{reader_limit};
+ghost use Rattle.spin_step_more.specs.declared.rw_calls.RwCall.TheVariants.{TryRead, Read, TryUpgradeableRead, UpgradeableRead, TryWrite, Write, ReaderCount, WriterCount, Release};
+ghost use Rattle.spin_rwlock.specs.Guards.{shared_party, write_party, ReadsWith, WritesWith};
+ghost use Rattle.spin_rwlock.specs.Rw.{call_of, Called};
+ghost use Rattle.spin_rwlock.specs.Steps.{IsPass};
+
+use super::coming::{Coming, Lent, Waits, try_to_lend};
+use super::reader::{RwLockReadGuard, SharedGuard};
+use super::rule::{
+    self, CountsReaders, CountsWriters, Entry, Kind, Reader, RwPermit, TriesToWrite, Upgrader,
+    Waiting,
+};
+use super::upgradable::RwLockUpgradableGuard;
+use super::writer::RwLockWriteGuard;
+use super::{Party, RwLock, RwRule};
+use spin_core::cell::Permit;
+use spin_core::relax::RelaxStrategy;
+use spin_core::trace::Watch;
+use spin_step_more::rw;
+use std::marker::PhantomData;
+use std::sync::Wait;
+
+/// A thread's account of its calls of an [`RwLock`].
+///
+/// The lock's cell keeps the list of all moves that threads have made in it (its history). A pass knows which of these
+/// moves are its own, and the whole list up to its last one. Calls without a pass are in the history too, as calls of
+/// others. A pass is as large as a reference to the lock. It can be sent, and a lock has any number of them.
+///
+/// # Contract
+/// Each call takes the pass, or a guard and what the pass knew beside it, and returns it. It ensures `Called`: of the
+/// moves by which the history grew, those of this pass are exactly one call, with the answer that is returned. In the
+/// lock's model that call has this answer, at its place among the moves of all threads, and no move of the history is
+/// passed over.
+///
+/// # Examples
+/// ```
+/// let (guard, seen) = pass.read(rt);
+/// let value = *guard;
+/// let pass = RwLock::unlock_shared(guard, seen);
+/// ```
+#[must_use = "a pass that is dropped ends: bind it, or write `drop(..)`"]
+pub struct Pass<'a, T, R> {
+    permit: Permit<'a, T, Party, RwRule<T>>,
+    seen: Watch<Entry>,
+    strategy: PhantomData<R>,
+    ghost knows: { IsPass permit seen },
+}
+
+impl<T, R> RwLock<T, R> {
+    /// Returns a pass that has made no call. It makes no operation on the lock.
+    ///
+    /// # Contract
+    /// The pass is of this lock, and knows nothing of its history yet (`new`).
+    ///
+    /// # Examples
+    /// ```
+    /// let pass = lock.pass();
+    /// ```
+    pub fn pass(&self) -> Pass<'_, T, R>
+        ensures new { (result.seen.name ≡ self.now.cell.name) × (result.seen.entries ≡ []) × (result.permit.view ≡ None) }
+    {
+        Pass::new(self.cell.enter(), self.cell.watch())
+    }
+
+    /// Releases the shared access of a reader of either kind, and returns the pass by which it was acquired.
+    ///
+    /// A guard that is dropped releases the lock too, and ends its pass.
+    ///
+    /// # Contract
+    /// `seen` has to be what the pass knew beside the guard (`ReadsWith`). The call is in the history, as the pass's
+    /// next one (`made`).
+    ///
+    /// # Examples
+    /// ```
+    /// let (guard, seen) = pass.read(rt);
+    /// let value = *guard;
+    /// let pass = RwLock::unlock_shared(guard, seen);
+    /// ```
+    pub fn unlock_shared<'a, K: Kind>(
+        guard: SharedGuard<'a, T, K, R>,
+        seen: Watch<Entry>,
+    ) -> Pass<'a, T, R>
+        requires { ReadsWith guard seen }
+        ensures made { Called Release Done (shared_party guard.entry) seen.entries result.permit.view result.seen.entries }
+        ensures same { result.seen.name ≡ seen.name }
+    {
+        let (permit, seen) = K::release(guard.into_permit(), seen);
+        Pass::new(permit, seen)
+    }
+
+    /// Releases the exclusive access of the writer, and returns the pass by which it was acquired.
+    ///
+    /// A guard that is dropped releases the lock too, and ends its pass.
+    ///
+    /// # Contract
+    /// `seen` has to be what the pass knew beside the guard (`WritesWith`). The call is in the history, as the pass's
+    /// next one (`made`).
+    ///
+    /// # Examples
+    /// ```
+    /// let (mut guard, seen) = pass.write(rt);
+    /// *guard = guard.saturating_add(1);
+    /// RwLock::unlock(guard, seen)
+    /// ```
+    pub fn unlock<'a>(guard: RwLockWriteGuard<'a, T, R>, seen: Watch<Entry>) -> Pass<'a, T, R>
+        requires { WritesWith guard seen }
+        ensures made { Called Release Done (write_party guard.entry) seen.entries result.permit.view result.seen.entries }
+        ensures same { result.seen.name ≡ seen.name }
+    {
+        let (permit, seen) = rule::release_write(guard.into_writer(), seen);
+        Pass::new(permit, seen)
+    }
+}
+
+impl<'a, T, R: RelaxStrategy> Pass<'a, T, R> {
+    /// Acquires shared access as [`RwLock::read`] does. Returns the guard, and what the pass knows then.
+    ///
+    /// # Contract
+    /// The call is one `Read` with the answer `Granted`, however often it looked and tried (`made`). Whether and when
+    /// the call returns is not promised.
+    ///
+    /// # Examples
+    /// ```
+    /// let (guard, seen) = pass.read(rt);
+    /// let value = *guard;
+    /// let pass = RwLock::unlock_shared(guard, seen);
+    /// ```
+    pub fn read<W: Wait>(self, rt: &W) -> (RwLockReadGuard<'a, T, R>, Watch<Entry>)
+        ensures reads { ReadsWith result.0 result.1 × (result.1.name ≡ self.entry.seen.name) }
+        ensures made { Called Read Granted self.entry.permit.view self.entry.seen.entries (shared_party result.0) result.1.entries }
+    {
+        self.lend::<Reader, _>(rt)
+    }
+
+    /// Acquires upgradable shared access as [`RwLock::upgradeable_read`] does. Returns the guard, and what the pass
+    /// knows then.
+    ///
+    /// # Contract
+    /// The call is one `UpgradeableRead` with the answer `Granted`, however often it looked and tried (`made`). Whether
+    /// and when the call returns is not promised.
+    ///
+    /// # Examples
+    /// ```
+    /// let (guard, seen) = pass.upgradeable_read(rt);
+    /// let (mut guard, seen) = guard.upgrade_seen(rt, seen);
+    /// ```
+    pub fn upgradeable_read<W: Wait>(
+        self,
+        rt: &W,
+    ) -> (RwLockUpgradableGuard<'a, T, R>, Watch<Entry>)
+        ensures reads { ReadsWith result.0 result.1 × (result.1.name ≡ self.entry.seen.name) }
+        ensures made { Called UpgradeableRead Granted self.entry.permit.view self.entry.seen.entries (shared_party result.0) result.1.entries }
+    {
+        self.lend::<Upgrader, _>(rt)
+    }
+
+    /// Acquires exclusive access as [`RwLock::write`] does. Returns the guard, and what the pass knows then.
+    ///
+    /// # Contract
+    /// The call is one `Write` with the answer `Granted`, however often it tried (`made`). Whether and when the call
+    /// returns is not promised.
+    ///
+    /// # Examples
+    /// ```
+    /// let (mut guard, seen) = pass.write(rt);
+    /// *guard = guard.saturating_add(1);
+    /// RwLock::unlock(guard, seen)
+    /// ```
+    pub fn write<W: Wait>(self, rt: &W) -> (RwLockWriteGuard<'a, T, R>, Watch<Entry>)
+        ensures writes { WritesWith result.0 result.1 × (result.1.name ≡ self.entry.seen.name) }
+        ensures made { Called Write Granted self.entry.permit.view self.entry.seen.entries (write_party result.0) result.1.entries }
+    {
+        let Self {
+            permit,
+            seen,
+            strategy: _,
+        } = self;
+        let (writer, seen) = match rule::write(permit, seen) {
+            Ok(held) => held,
+            Err(waiting) => R::back_off(rt, waiting, Waiting::write),
+        };
+        (RwLockWriteGuard::new(writer), seen)
+    }
+
+    // Admits a reader of this kind, and waits until it may.
+    fn lend<K: Kind, W: Wait>(self, rt: &W) -> Lent<'a, T, K, R>
+        ensures reads { ReadsWith result.0 result.1 × (result.1.name ≡ self.entry.seen.name) }
+        ensures made { Called (call_of K.view true) Granted self.entry.permit.view self.entry.seen.entries (shared_party result.0) result.1.entries }
+    {
+        let Self {
+            permit,
+            seen,
+            strategy: _,
+        } = self;
+        let begun: Result<_, Coming<T, K, Waits, R>> = Coming::begin(permit, seen);
+        match begun {
+            Ok(lent) => lent,
+            Err(coming) => coming.wait(rt),
+        }
+    }
+}
+
+impl<'a, T, R> Pass<'a, T, R> {
+    /// Tries to acquire shared access as [`RwLock::try_read`] does. Fails with the pass.
+    ///
+    /// # Contract
+    /// The call is one `TryRead`, with the answer `Granted` beside a guard (`granted`), and else `Refused` (`refused`).
+    /// Whether and when the call returns is not promised.
+    ///
+    /// # Examples
+    /// ```
+    /// let pass = match pass.try_read(rt) {
+    ///     Ok((guard, seen)) => RwLock::unlock_shared(guard, seen),
+    ///     Err(pass) => pass,
+    /// };
+    /// ```
+    pub fn try_read<W: Wait>(
+        self,
+        rt: &W,
+    ) -> Result<(RwLockReadGuard<'a, T, R>, Watch<Entry>), Pass<'a, T, R>>
+        ensures reads { IfOk result (λ lent. ReadsWith lent.0 lent.1 × (lent.1.name ≡ self.entry.seen.name)) }
+        ensures granted { IfOk result (λ lent. Called TryRead Granted self.entry.permit.view self.entry.seen.entries (shared_party lent.0) lent.1.entries) }
+        ensures refused { IfErr result (λ pass. (pass.seen.name ≡ self.entry.seen.name) × Called TryRead Refused self.entry.permit.view self.entry.seen.entries pass.permit.view pass.seen.entries) }
+    {
+        let Self {
+            permit,
+            seen,
+            strategy: _,
+        } = self;
+        try_to_lend::<_, Reader, _, _>(rt, permit, seen)
+    }
+
+    /// Tries to acquire upgradable shared access as [`RwLock::try_upgradeable_read`] does. Fails with the pass.
+    ///
+    /// # Contract
+    /// The call is one `TryUpgradeableRead`, with the answer `Granted` beside a guard (`granted`), and else `Refused`
+    /// (`refused`). Whether and when the call returns is not promised.
+    ///
+    /// # Examples
+    /// ```
+    /// match pass.try_upgradeable_read(rt) {
+    ///     Ok((guard, seen)) => match guard.try_upgrade_seen(seen) {
+    ///         Ok((guard, seen)) => {
+    ///             let (guard, seen) = guard.downgrade_seen(seen);
+    ///             RwLock::unlock_shared(guard, seen)
+    ///         }
+    ///         Err((guard, seen)) => RwLock::unlock_shared(guard, seen),
+    ///     },
+    ///     Err(pass) => pass,
+    /// }
+    /// ```
+    pub fn try_upgradeable_read<W: Wait>(
+        self,
+        rt: &W,
+    ) -> Result<(RwLockUpgradableGuard<'a, T, R>, Watch<Entry>), Pass<'a, T, R>>
+        ensures reads { IfOk result (λ lent. ReadsWith lent.0 lent.1 × (lent.1.name ≡ self.entry.seen.name)) }
+        ensures granted { IfOk result (λ lent. Called TryUpgradeableRead Granted self.entry.permit.view self.entry.seen.entries (shared_party lent.0) lent.1.entries) }
+        ensures refused { IfErr result (λ pass. (pass.seen.name ≡ self.entry.seen.name) × Called TryUpgradeableRead Refused self.entry.permit.view self.entry.seen.entries pass.permit.view pass.seen.entries) }
+    {
+        let Self {
+            permit,
+            seen,
+            strategy: _,
+        } = self;
+        try_to_lend::<_, Upgrader, _, _>(rt, permit, seen)
+    }
+
+    /// Tries to acquire exclusive access as [`RwLock::try_write`] does. Returns the pass at once if any thread holds
+    /// the lock.
+    ///
+    /// # Contract
+    /// The call is one `TryWrite`, with the answer `Granted` beside a guard (`granted`), and else `Refused`
+    /// (`refused`). The call returns.
+    ///
+    /// # Examples
+    /// ```
+    /// let pass = match pass.try_write() {
+    ///     Ok((guard, seen)) => {
+    ///         let (guard, seen) = guard.downgrade_to_upgradeable_seen(seen);
+    ///         let (guard, seen) = guard.downgrade_seen(seen);
+    ///         RwLock::unlock_shared(guard, seen)
+    ///     }
+    ///     Err(pass) => pass,
+    /// };
+    /// ```
+    pub fn try_write(self) -> Result<(RwLockWriteGuard<'a, T, R>, Watch<Entry>), Pass<'a, T, R>>
+        ensures writes { IfOk result (λ held. WritesWith held.0 held.1 × (held.1.name ≡ self.entry.seen.name)) }
+        ensures granted { IfOk result (λ held. Called TryWrite Granted self.entry.permit.view self.entry.seen.entries (write_party held.0) held.1.entries) }
+        ensures refused { IfErr result (λ pass. (pass.seen.name ≡ self.entry.seen.name) × Called TryWrite Refused self.entry.permit.view self.entry.seen.entries pass.permit.view pass.seen.entries) }
+    {
+        let Self {
+            permit,
+            seen,
+            strategy: _,
+        } = self;
+        let next = rw::write(0).unwrap();
+        let (found, permit, seen) = permit.exchange::<TriesToWrite>(0, next as u64, seen);
+        if found == 0 {
+            Ok((RwLockWriteGuard::new(permit.into_writer()), seen))
+        } else {
+            Err(Pass::new(permit, seen))
+        }
+    }
+
+    /// Counts the readers, as [`RwLock::reader_count`] does.
+    ///
+    /// # Contract
+    /// The call is one `ReaderCount`, with the answer that is returned (`made`). The answer is at most
+    /// `rw::MAX_READERS` (`reader_limit`).
+    ///
+    /// # Examples
+    /// ```
+    /// let (readers, pass) = pass.reader_count();
+    /// ```
+    pub fn reader_count(self) -> (usize, Pass<'a, T, R>)
+        ensures limit { result.0 ≤ reader_limit }
+        ensures made { Called ReaderCount (Count result.0) self.entry.permit.view self.entry.seen.entries result.1.permit.view result.1.seen.entries }
+        ensures same { result.1.seen.name ≡ self.entry.seen.name }
+    {
+        let Self {
+            permit,
+            seen,
+            strategy: _,
+        } = self;
+        let (found, permit, seen) = permit.load::<CountsReaders>(seen);
+        (rw::readers(found as usize), Pass::new(permit, seen))
+    }
+
+    /// Counts the writers, as [`RwLock::writer_count`] does.
+    ///
+    /// # Contract
+    /// The call is one `WriterCount`, with the answer that is returned, 0 or 1 (`made`).
+    ///
+    /// # Examples
+    /// ```
+    /// let (writers, pass) = pass.writer_count();
+    /// ```
+    pub fn writer_count(self) -> (usize, Pass<'a, T, R>)
+        ensures limit { result.0 ≤ 1 }
+        ensures made { Called WriterCount (Count result.0) self.entry.permit.view self.entry.seen.entries result.1.permit.view result.1.seen.entries }
+        ensures same { result.1.seen.name ≡ self.entry.seen.name }
+    {
+        let Self {
+            permit,
+            seen,
+            strategy: _,
+        } = self;
+        let (found, permit, seen) = permit.load::<CountsWriters>(seen);
+        (rw::writers(found as usize), Pass::new(permit, seen))
+    }
+
+    /// Compares what two passes of one lock know. It does nothing when it runs.
+    ///
+    /// # Contract
+    /// What one of them knows of the history is a beginning of what the other knows. So both know one history, and the
+    /// one that knows more has the calls of both in it, each once, in the order in which each pass made them.
+    ///
+    /// # Examples
+    /// ```
+    /// all.0.compare(&all.1.0.1);
+    /// ```
+    pub fn compare(&self, other: &Pass<'_, T, R>)
+        requires { self.now.seen.name ≡ other.now.seen.name }
+        ensures { IsPrefix self.now.seen.entries other.now.seen.entries ⊎ IsPrefix other.now.seen.entries self.now.seen.entries }
+    {
+        self.seen.compare(&other.seen);
+    }
+
+    pub(super) fn new(permit: RwPermit<'a, T>, seen: Watch<Entry>) -> Self
+        requires { IsPass permit seen }
+        ensures { (result.permit ≡ permit.entry) × (result.seen ≡ seen) }
+    {
+        Pass {
+            permit,
+            seen,
+            strategy: PhantomData,
+        }
+    }
+}
+
+impl<T, R> Drop for Pass<'_, T, R> {
+    fn drop(self) {
+        let Self {
+            permit,
+            seen: _,
+            strategy: _,
+        } = self;
+        permit.leave();
+    }
+}

@@ -1,0 +1,35 @@
+use Rattle.std.proofs.Common.{◌≡◌, ◌⊎◌, ◌<◌, ℕ, true, false, Option, length, refl, arith}
+use mathlib.Core.Logic.{inl, inr}
+use Rattle.spin_step.specs.Plain.{Plain, is_open_to, is_starver, to_lock_starving, to_lock_starving_alone}
+use Rattle.spin_step.specs.Parties.{is_held}
+use Rattle.spin_step_more.specs.declared.fair_calls.FairCall.TheVariants.{StarverTryLock, StarverTryLockFair}
+use Rattle.spin_model.specs.declared.place.Hold.{Hold}
+use Rattle.spin_step_more.specs.declared.fair_calls.FairCall.{FairCall}
+use Rattle.spin_step_more.specs.declared.fair_calls.FairPoint.{FairPoint}
+use Rattle.spin_world_core.specs.Runs.{Seen}
+use Rattle.spin_world_core.proofs.Facts.{InCall}
+use Rattle.spin_world_fair.proofs.Knowledge.{is_starving, is_starving_still}
+use Rattle.spin_fair.specs.Fair.{model, patience}
+use Rattle.spin_step_more.specs.Starvers.{most_starvers}
+use Rattle.spin_world_fair.proofs.Owed.{fair_keeping, fair_facts}
+use Rattle.spin_threads.proofs.Moments.{found}
+use Rattle.spin_threads.proofs.answers.a_refused_starver_was_kept_out_at_a_moment.Goals as goal
+
+-- who tries so is registered as a starver
+starving : (c : FairCall) (p : ℕ) (l : FairPoint) (h : Option Hold) (seen : Seen ℕ (Unit {0}) FairCall FairPoint) → (c ≡ StarverTryLock) ⊎ (c ≡ StarverTryLockFair)
+    → InCall model (fair_keeping tt most_starvers patience) p c l h seen.plain seen.state.value seen.state.words (seen.span p) → is_starver p seen.plain.starvers ≡ true
+starving c p l h seen is call = grind (arith, is, call.knows, is_starving p seen.plain, is_starving_still p seen.plain)
+
+held : (s : Plain) (p : ℕ) → is_starver p s.starvers ≡ true → is_open_to s p to_lock_starving ≡ false → is_held s ≡ true
+held s p found closed = grind (arith, found, closed)
+
+not_alone : (s : Plain) (p : ℕ) → is_starver p s.starvers ≡ true → is_open_to s p to_lock_starving_alone ≡ false → (is_held s ≡ true) ⊎ (1 < length s.starvers)
+not_alone s p found closed = grind (arith, found, closed)
+
+pub returns-clause-try_lock : goal.returns-clause-try_lock
+returns-clause-try_lock g =
+    found model (fair_keeping tt most_starvers patience) (fair_facts tt most_starvers patience) (λ p s. is_open_to s p to_lock_starving ≡ false) (λ h p span some. some) (λ p l h seen call closed. held seen.plain p (starving StarverTryLock p l h seen (inl refl) call) closed)
+
+pub returns-clause-try_lock_fair : goal.returns-clause-try_lock_fair
+returns-clause-try_lock_fair g =
+    found model (fair_keeping tt most_starvers patience) (fair_facts tt most_starvers patience) (λ p s. is_open_to s p to_lock_starving_alone ≡ false) (λ h p span some. some) (λ p l h seen call closed. not_alone seen.plain p (starving StarverTryLockFair p l h seen (inr refl) call) closed)

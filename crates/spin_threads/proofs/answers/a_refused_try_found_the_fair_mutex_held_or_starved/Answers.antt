@@ -1,0 +1,16 @@
+use Rattle.std.proofs.Common.{◌≡◌, ◌⊎◌, ℕ, true, false, arith}
+use Rattle.spin_step.specs.Plain.{Plain, is_open_to, to_lock_unregistered}
+use Rattle.spin_step.specs.Parties.{is_held}
+use Rattle.spin_model.specs.Calls.{is_starved}
+use Rattle.spin_fair.specs.Fair.{model, patience}
+use Rattle.spin_step_more.specs.Starvers.{most_starvers}
+use Rattle.spin_world_fair.proofs.Owed.{fair_keeping, fair_facts}
+use Rattle.spin_threads.proofs.Moments.{found}
+use Rattle.spin_threads.proofs.answers.a_refused_try_found_the_fair_mutex_held_or_starved.Goals as goal
+
+kept_out : (s : Plain) (p : ℕ) → is_open_to s p to_lock_unregistered ≡ false → (is_held s ≡ true) ⊎ (is_starved s ≡ true)
+kept_out s p closed = grind (arith, closed)
+
+pub returns : goal.returns
+returns g =
+    found model (fair_keeping tt most_starvers patience) (fair_facts tt most_starvers patience) (λ p s. is_open_to s p to_lock_unregistered ≡ false) (λ h p span some. some) (λ p l h seen call closed. kept_out seen.plain p closed)

@@ -1,0 +1,15 @@
+use Rattle.std.proofs.Common.{◌≡◌, ◌⊎◌, ℕ, true, false, arith}
+use Rattle.spin_step.specs.Plain.{Plain, is_open_to, to_take_and_enter}
+use Rattle.spin_step.specs.Parties.{is_held}
+use Rattle.spin_model.specs.Ticket.{is_left}
+use Rattle.spin_ticket.specs.Queue.{model}
+use Rattle.spin_world_ticket.proofs.Owed.{ticket_keeping, ticket_facts}
+use Rattle.spin_threads.proofs.Moments.{found}
+use Rattle.spin_threads.proofs.answers.a_refused_try_found_the_ticket_mutex_held_or_used_up.Goals as goal
+
+kept_out : (s : Plain) (p : ℕ) → is_open_to s p to_take_and_enter ≡ false → (is_held s ≡ true) ⊎ (is_left s.next ≡ false)
+kept_out s p closed = grind (arith, closed)
+
+pub returns : goal.returns
+returns g first =
+    found (model first) (ticket_keeping tt first) (ticket_facts tt first) (λ p s. is_open_to s p to_take_and_enter ≡ false) (λ h p span some. some) (λ p l h seen call closed. kept_out seen.plain p closed)

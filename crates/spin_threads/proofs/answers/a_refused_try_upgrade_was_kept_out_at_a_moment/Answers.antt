@@ -1,0 +1,29 @@
+use Rattle.std.proofs.Common.{◌≡◌, ◌<◌, ℕ, false, Option, Some, length, arith}
+use Rattle.spin_step.specs.Plain.{Plain, upgradable, is_open_to, to_upgrade}
+use Rattle.spin_step.specs.Parties.{entries}
+use Rattle.spin_model.specs.declared.place.Hold.{Hold}
+use Rattle.spin_model.specs.declared.place.Hold.TheVariants as hold
+use Rattle.spin_step_more.specs.declared.rw_calls.RwCall.TheVariants.{TryUpgrade}
+use Rattle.spin_step_more.specs.declared.rw_calls.RwCall.{RwCall}
+use Rattle.spin_step_more.specs.declared.rw_calls.RwPoint.{RwPoint}
+use Rattle.spin_world_core.specs.Runs.{Seen}
+use Rattle.spin_world_core.proofs.Facts.{InCall}
+use Rattle.spin_step_more.specs.Readers.{reader_limit}
+use Rattle.spin_rwlock.specs.Rw.{model}
+use Rattle.spin_world_core.proofs.Stands.{holds, entries_at}
+use Rattle.spin_world_rw.proofs.Owed.{holder_by, rw_keeping, rw_facts}
+use Rattle.spin_threads.proofs.Moments.{found}
+use Rattle.spin_threads.proofs.answers.a_refused_try_upgrade_was_kept_out_at_a_moment.Goals as goal
+
+not_alone : (s : Plain) (p : ℕ) → entries p s ≡ entries_at p (holds upgradable) → is_open_to s p to_upgrade ≡ false → 1 < length s.holders
+not_alone s p mine closed = grind (arith, holder_by p upgradable s mine, closed)
+
+-- who tries to upgrade is an upgradable reader
+stands : (p : ℕ) (l : RwPoint) (h : Option Hold) (seen : Seen ℕ (Unit {0}) RwCall RwPoint)
+    → InCall model (rw_keeping tt reader_limit) p TryUpgrade l h seen.plain seen.state.value seen.state.words (seen.span p) → entries p seen.plain ≡ entries_at p (holds upgradable)
+stands p l (Some hold.Upgradable) seen call = call.knows.0.stand
+stands p l _ seen call = absurd call.knows
+
+pub returns : goal.returns
+returns g =
+    found model (rw_keeping tt reader_limit) (rw_facts tt reader_limit) (λ p s. is_open_to s p to_upgrade ≡ false) (λ h p span some. some) (λ p l h seen call closed. not_alone seen.plain p (stands p l h seen call) closed)

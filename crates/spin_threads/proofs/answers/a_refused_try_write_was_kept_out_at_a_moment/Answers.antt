@@ -1,0 +1,10 @@
+use Rattle.std.proofs.Common.{◌≡◌, false, arith}
+use Rattle.spin_step.specs.Plain.{is_open_to, to_write}
+use Rattle.spin_step_more.specs.Readers.{reader_limit}
+use Rattle.spin_rwlock.specs.Rw.{model}
+use Rattle.spin_world_rw.proofs.Owed.{rw_keeping, rw_facts}
+use Rattle.spin_threads.proofs.Moments.{found}
+use Rattle.spin_threads.proofs.answers.a_refused_try_write_was_kept_out_at_a_moment.Goals as goal
+
+pub returns : goal.returns
+returns g = found model (rw_keeping tt reader_limit) (rw_facts tt reader_limit) (λ p s. is_open_to s p to_write ≡ false) (λ h p span some. some) (λ p l h seen call closed. grind (arith, closed))

@@ -1,0 +1,20 @@
+use Rattle.std.proofs.Common.{◌≡◌, ◌&&◌, true, false, not, arith}
+use Rattle.spin_step.specs.Plain.{Plain}
+use Rattle.spin_step.specs.Parties.{is_held}
+use Rattle.spin_model.specs.Calls.{is_starved}
+use Rattle.spin_fair.specs.Fair.{model, patience}
+use Rattle.spin_step_more.specs.Starvers.{most_starvers}
+use Rattle.spin_world_fair.proofs.Owed.{fair_keeping, fair_facts}
+use Rattle.spin_threads.proofs.Moments.{found}
+use Rattle.spin_threads.proofs.answers.the_reason_for_a_refusal_was_so_at_a_moment.Goals as goal
+
+told_locked : (s : Plain) → (is_held s && not (is_starved s)) ≡ true → (is_held s ≡ true) × (is_starved s ≡ false)
+told_locked s is = grind (arith, is)
+
+pub returns-clause-locked : goal.returns-clause-locked
+returns-clause-locked g =
+    found model (fair_keeping tt most_starvers patience) (fair_facts tt most_starvers patience) (λ p s. (is_held s && not (is_starved s)) ≡ true) (λ h p span some. some) (λ p l h seen call is. told_locked seen.plain is)
+
+pub returns-clause-starved : goal.returns-clause-starved
+returns-clause-starved g =
+    found model (fair_keeping tt most_starvers patience) (fair_facts tt most_starvers patience) (λ p s. is_starved s ≡ true) (λ h p span some. some) (λ p l h seen call is. is)

@@ -1,0 +1,7 @@
+use Rattle.spin_flag.specs.Flag.{model}
+use Rattle.spin_world_flag.proofs.Owed.{flag_keeping, flag_facts}
+use Rattle.spin_threads.proofs.Counts.{keeps_limits}
+use Rattle.spin_threads.proofs.limits.a_call_of_a_spin_mutex_keeps_its_limit.Goals as goal
+
+pub returns : goal.returns
+returns g = keeps_limits model (flag_keeping tt) (flag_facts tt)

@@ -1,0 +1,7 @@
+use Rattle.spin_ticket.specs.Queue.{model}
+use Rattle.spin_world_ticket.proofs.Owed.{ticket_keeping, ticket_facts}
+use Rattle.spin_threads.proofs.Counts.{keeps_limits}
+use Rattle.spin_threads.proofs.limits.a_call_of_a_ticket_mutex_keeps_its_limit.Goals as goal
+
+pub returns : goal.returns
+returns g first = keeps_limits (model first) (ticket_keeping tt first) (ticket_facts tt first)

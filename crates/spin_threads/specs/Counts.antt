@@ -1,0 +1,42 @@
+-- How many steps a call of a pass takes, beside those of others.
+use Rattle.std.specs.Prelude.{◌≡◌, ℕ, ◌≤◌, suc, Option, List, ◌++◌, length}
+use mathlib.Core.List.{IsPrefix}
+use Rattle.spin_core.specs.Own.{Numbered, entries_by}
+use Rattle.spin_core.specs.Passes.{IsNumber, IsCall, Made}
+use Rattle.spin_core.specs.Run.{IsPlayed}
+use Rattle.spin_model.specs.Calls.{Mark, limit}
+use Rattle.spin_model.specs.declared.place.Hold.{Hold}
+use Rattle.spin_model.specs.Machines.{Machine}
+use Rattle.spin_model.specs.Schedules.{Entry}
+use Rattle.spin_world_core.specs.Runs.{opening, own_count, failures, changes, EndsWithin}
+use Rattle.spin_world_core.specs.Users.{seen_after}
+
+-- the steps of all parties behind the beginning of this party's last call, in a world of so many
+abbrev pub steps_since : {W V C L A : Type 0} → Machine W V C L A → ℕ → ℕ → List (Entry C V) → List Mark
+steps_since m parties party history = (seen_after m (opening m parties) history).span party
+
+-- A party has made this call and no other move since it knew `old`, and knows `new` now. It is of this view. The call kept within its limit
+pub record IsWithinLimit {W V C L A X : Type 0} (m : Machine W V C L A) (call : C) (view : Option (Numbered X)) (old new : List (Entry C V)) : Type 0 where
+  pub party : ℕ
+  pub is_number : IsNumber party view
+  -- the history is that of a world of so many parties, in which no move of it is passed over
+  pub parties : ℕ
+  pub played : IsPlayed m parties new
+  -- it was so long as the call was answered
+  pub answered : List (Entry C V)
+  pub behind : IsPrefix old answered
+  pub before : IsPrefix answered new
+  -- the party's moves are the beginning of the call, and its steps till then
+  pub more : List (Entry C V)
+  pub grown : new ≡ old ++ more
+  pub moves : length (entries_by party more) ≡ suc (own_count party (steps_since m parties party answered))
+  -- they are as few as the model says of a party that held this before
+  pub held : Option Hold
+  pub in_time : EndsWithin (limit m.lock_kind (m.asks call held)) m.lock_kind party (steps_since m parties party answered)
+  -- and the exchanges that the call makes again failed at most as often as others changed the word
+  pub retries : failures party (steps_since m parties party answered) ≤ changes m.lock_kind party (steps_since m parties party answered)
+
+-- So it is of each call of each pass with views of this type
+abbrev pub KeepsLimits : {W V C L A : Type 0} → Machine W V C L A → Type 0 → Type 0
+KeepsLimits {V = V} {C = C} {A = A} m View =
+    (call : C) (answer : A) (before now : Option (Numbered View)) (old new : List (Entry C V)) → Made m before old now new (IsCall call answer) → IsWithinLimit m call now old new

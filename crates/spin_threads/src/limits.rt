@@ -1,0 +1,94 @@
+//! How many steps a call takes. Each law is the contract of a function that does nothing: a caller calls it for what it
+//! states.
+//!
+//! Each says of every call of every pass that it took no more steps than in the model (`limit` of `spin_model`), where
+//! changes of the lock's first word by others while the call ran count too. Exchanges that the call makes again failed at
+//! most as often as others changed that word (`KeepsLimits`, `IsWithinLimit`).
+ghost use Rattle.std.specs.Prelude.{ℕ, Option, List};
+ghost use Rattle.spin_core.specs.Own.{Numbered};
+ghost use Rattle.spin_fair.specs.Fair as fair_mutex;
+ghost use Rattle.spin_fair.specs.declared.fair.rule.View.{View as FairMutexView};
+ghost use Rattle.spin_flag.specs.Flag as spin_mutex;
+ghost use Rattle.spin_flag.specs.declared.spin.rule.View.{View as SpinMutexView};
+ghost use Rattle.spin_model.specs.declared.answer.Answer.TheVariants.{Granted};
+ghost use Rattle.spin_model.specs.declared.ticket.TicketCall.TheVariants.{Lock};
+ghost use Rattle.spin_rwlock.specs.Rw as rwlock;
+ghost use Rattle.spin_rwlock.specs.declared.rwlock.rule.View.{View as RwLockView};
+ghost use Rattle.spin_seats.specs.Rule as seats;
+ghost use Rattle.spin_seats.specs.declared.seats.rule.View.{View as SeatsView};
+ghost use Rattle.spin_ticket.specs.Queue as ticket_mutex;
+ghost use Rattle.spin_ticket.specs.declared.ticket.rule.View.{View as TicketMutexView};
+ghost use Rattle.spin_threads.specs.Counts.{KeepsLimits};
+ghost use Rattle.spin_threads.specs.Turns.{EntersInTurn};
+
+/// A try, a look and a release of a pass of a `SpinMutex` take one step each.
+///
+/// # Contract
+/// `KeepsLimits`, which says it of the steps that all threads made while the call ran.
+///
+/// # Examples
+/// As [`crate::a_look_at_a_spin_mutex_was_so_at_a_moment`].
+pub fn a_call_of_a_spin_mutex_keeps_its_limit()
+    ensures { KeepsLimits spin_mutex.model SpinMutexView }
+{}
+
+/// A look of a pass of a `TicketMutex` takes two steps at most, a try three, and a release one. The exchange by which
+/// `lock` takes its ticket fails at most as often as others take one meanwhile.
+///
+/// # Contract
+/// `KeepsLimits`, which says it of the steps that all threads made while the call ran.
+///
+/// # Examples
+/// As [`crate::a_look_at_a_spin_mutex_was_so_at_a_moment`].
+pub fn a_call_of_a_ticket_mutex_keeps_its_limit()
+    ensures { (first : ℕ) → KeepsLimits (ticket_mutex.model first) TicketMutexView }
+{}
+
+/// A try of a pass of a `FairMutex` takes one step, and one of a starver two at most. `starve` takes two at most, and
+/// one more for each change of the word by others meanwhile. A look and a release take one.
+///
+/// # Contract
+/// `KeepsLimits`, which says it of the steps that all threads made while the call ran.
+///
+/// # Examples
+/// As [`crate::a_look_at_a_spin_mutex_was_so_at_a_moment`].
+pub fn a_call_of_a_fair_mutex_keeps_its_limit()
+    ensures { KeepsLimits fair_mutex.model FairMutexView }
+{}
+
+/// A try to read of a pass of an `RwLock` takes two steps at most, and one more for each change of the word by others
+/// meanwhile. Each other try, a count, a downgrade and a release take one.
+///
+/// # Contract
+/// `KeepsLimits`, which says it of the steps that all threads made while the call ran.
+///
+/// # Examples
+/// As [`crate::a_look_at_a_spin_mutex_was_so_at_a_moment`].
+pub fn a_call_of_a_rwlock_keeps_its_limit()
+    ensures { KeepsLimits rwlock.model RwLockView }
+{}
+
+/// A try of a pass of a `Seats` takes two steps at most, and one more for each change of the word by others meanwhile.
+/// A count and a leave take one.
+///
+/// # Contract
+/// `KeepsLimits`, which says it of the steps that all threads made while the call ran.
+///
+/// # Examples
+/// As [`crate::a_look_at_a_spin_mutex_was_so_at_a_moment`].
+pub fn a_call_of_seats_keeps_its_limit()
+    ensures { (n : ℕ) → KeepsLimits (seats.model n) SeatsView }
+{}
+
+/// If a pass acquired a `TicketMutex` by `lock`, then from each moment on till it had, exactly as many tickets went as
+/// stood between the number that was served then and its own.
+///
+/// # Contract
+/// `EntersInTurn`, of the history that the pass knows after the call.
+///
+/// # Examples
+/// As [`crate::a_look_at_a_spin_mutex_was_so_at_a_moment`].
+pub fn a_lock_of_a_ticket_mutex_enters_in_turn()
+    ensures { (first : ℕ) (before now : Option (Numbered TicketMutexView)) (old new : List ticket_mutex.Made) →
+        ticket_mutex.Called first Lock Granted before old now new → EntersInTurn first now old new }
+{}

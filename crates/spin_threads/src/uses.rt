@@ -1,0 +1,72 @@
+//! How a caller cites the laws: it calls one for what it states, and then makes the call of its pass.
+ghost use Rattle.std.specs.Prelude.{◌≡◌, ◌⊎◌, true, false, IfErr};
+ghost use Rattle.spin_fair.specs.Fair as fair_mutex;
+ghost use Rattle.spin_fair.specs.FairPasses as fair_passes;
+ghost use Rattle.spin_flag.specs.Flag as spin_mutex;
+ghost use Rattle.spin_flag.specs.Passes as spin_passes;
+ghost use Rattle.spin_model.specs.Calls.{readers};
+ghost use Rattle.spin_model.specs.Ticket.{is_left};
+ghost use Rattle.spin_model.specs.declared.flag.FlagCall.TheVariants as flag;
+ghost use Rattle.spin_model.specs.declared.ticket.TicketCall.TheVariants as ticket;
+ghost use Rattle.spin_rwlock.specs.Rw as rwlock;
+ghost use Rattle.spin_rwlock.specs.RwPasses as rw_passes;
+ghost use Rattle.spin_step.specs.Parties.{is_held};
+ghost use Rattle.spin_step_more.specs.declared.fair_calls.FairCall.TheVariants as fair;
+ghost use Rattle.spin_step_more.specs.declared.rw_calls.RwCall.TheVariants as rw;
+ghost use Rattle.spin_ticket.specs.Queue as ticket_mutex;
+ghost use Rattle.spin_ticket.specs.TicketPasses as ticket_passes;
+ghost use Rattle.spin_threads.specs.Moments.{AtAMoment, Was};
+
+use crate::answers::{
+    a_count_of_a_rwlock_was_so_at_a_moment, a_look_at_a_fair_mutex_was_so_at_a_moment,
+    a_look_at_a_spin_mutex_was_so_at_a_moment,
+    a_refused_try_found_the_ticket_mutex_held_or_used_up,
+};
+use spin_core::trace::Watch;
+use spin_fair::fair::Pass as FairPass;
+use spin_flag::spin::Pass as SpinPass;
+use spin_rwlock::rwlock::Pass as RwPass;
+use spin_ticket::ticket::{Entry, Pass as TicketPass, TicketMutexGuard};
+
+/// Looks once whether a `SpinMutex` is held.
+pub fn look_at_a_spin_mutex<T, R>(pass: SpinPass<'_, T, R>) -> (bool, SpinPass<'_, T, R>)
+    ensures { AtAMoment spin_mutex.model flag.IsLocked (spin_passes.party result.1)
+        (spin_passes.history pass.entry) (spin_passes.history result.1) (Was is_held result.0) }
+{
+    a_look_at_a_spin_mutex_was_so_at_a_moment();
+    let (held, pass) = pass.is_locked();
+    (held, pass)
+}
+
+/// Tries once to acquire a `TicketMutex`.
+pub fn try_a_ticket_mutex<'a, T, R>(
+    pass: TicketPass<'a, T, R>,
+) -> Result<(TicketMutexGuard<'a, T, R>, Watch<Entry>), TicketPass<'a, T, R>>
+    ensures { IfErr result (λ now.
+        AtAMoment (ticket_mutex.model (ticket_passes.first_of pass.entry)) ticket.TryLock (ticket_passes.party now)
+        (ticket_passes.history pass.entry) (ticket_passes.history now)
+        (λ s. (is_held s ≡ true) ⊎ (is_left s.next ≡ false))) }
+{
+    a_refused_try_found_the_ticket_mutex_held_or_used_up();
+    pass.try_lock()
+}
+
+/// Looks once whether a `FairMutex` is held.
+pub fn look_at_a_fair_mutex<T, R>(pass: FairPass<'_, T, R>) -> (bool, FairPass<'_, T, R>)
+    ensures { AtAMoment fair_mutex.model fair.IsLocked (fair_passes.party result.1)
+        (fair_passes.history pass.entry) (fair_passes.history result.1) (Was is_held result.0) }
+{
+    a_look_at_a_fair_mutex_was_so_at_a_moment();
+    let (held, pass) = pass.is_locked();
+    (held, pass)
+}
+
+/// Counts the readers of an `RwLock` once.
+pub fn count_the_readers<T, R>(pass: RwPass<'_, T, R>) -> (usize, RwPass<'_, T, R>)
+    ensures { AtAMoment rwlock.model rw.ReaderCount (rw_passes.party result.1)
+        (rw_passes.history pass.entry) (rw_passes.history result.1) (Was readers result.0) }
+{
+    a_count_of_a_rwlock_was_so_at_a_moment();
+    let (readers, pass) = pass.reader_count();
+    (readers, pass)
+}
