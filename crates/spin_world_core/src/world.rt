@@ -150,7 +150,7 @@ impl<O: Object, A: Allocator + Copy> World<O, A> {
     /// # Examples
     /// ```
     /// for seat in self.seats() {
-    ///     code = mix(code, O::seat_code(*seat));
+    ///     code = mix(code, seat_code::<O>(*seat));
     /// }
     /// ```
     pub fn seats(&self) -> &[Seat<O::Call, O::Local>]

@@ -3,6 +3,7 @@
 //! Begin with [`Seats::new`] and [`SeatsCall`]. The wrong locks in [`refused`] show what the laws keep out.
 #![tactic(auto)]
 
+mod explored;
 mod laws;
 pub mod refused;
 mod seats;

@@ -15,7 +15,7 @@ use spin_world_core::{Answer, Hold, Next, Object, Stepped};
 /// let mut world = world(&rt, rt.alloc(), Seats::new(2), 3);
 /// plays(&rt, &mut world, TWO_SIT, &[Place::Idle, sits, sits], ());
 /// ```
-#[derive(Drop)]
+#[derive(Clone, Copy, PartialEq, Eq)]
 pub struct Seats {
     seats: usize,
 }

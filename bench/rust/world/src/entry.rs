@@ -23,6 +23,14 @@ pub struct Entry<O: Object> {
     pub action: Move<O>,
 }
 
+impl<O: Object> Clone for Move<O> {
+    fn clone(&self) -> Self {
+        *self
+    }
+}
+
+impl<O: Object> Copy for Move<O> {}
+
 impl<O: Object> Move<O> {
     fn read(words: &mut Words) -> Option<Self> {
         match words.word()? {

@@ -3,7 +3,7 @@
 use std::fmt::{self, Display, Formatter};
 
 /// What a call is answered.
-#[derive(Clone, Copy)]
+#[derive(Clone, Copy, PartialEq, Eq, Hash)]
 pub enum Answer {
     Granted,
     Refused,
@@ -23,7 +23,7 @@ pub enum Answer {
 }
 
 /// What comes of a move.
-#[derive(Clone, Copy)]
+#[derive(Clone, Copy, PartialEq, Eq, Hash)]
 pub enum Outcome {
     Skipped,
     Begun,

@@ -4,12 +4,13 @@ use crate::event::{Answer, Numbers};
 use crate::objects::{Barrier, Fair, Flag, Once, Rw, Ticket};
 use crate::program::Fault;
 use crate::words::Words;
+use std::hash::Hash;
 
 /// The most parties that a header may name.
 const MAX_PARTIES: u64 = 1000;
 
 /// What a party holds.
-#[derive(Clone, Copy)]
+#[derive(Clone, Copy, PartialEq, Eq, Hash)]
 pub enum Hold {
     Read,
     Upgradable,
@@ -40,9 +41,9 @@ pub enum Next<C> {
 }
 
 /// The words of a lock, and the steps of its calls.
-pub trait Object: Sized {
+pub trait Object: Clone + Eq + Hash {
     /// The next step of a call, with what its party found so far. A call is spelled as its first step.
-    type Call: Copy;
+    type Call: Copy + Eq + Hash;
 
     /// Whether an owner may look at the value and replace it.
     const OWNED: bool = true;

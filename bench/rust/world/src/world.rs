@@ -8,7 +8,7 @@ use crate::event::{Answer, End, Event, Outcome};
 use crate::object::{Hold, Next, Object, Opening};
 
 /// Where a party stands.
-#[derive(Clone, Copy)]
+#[derive(Clone, Copy, PartialEq, Eq, Hash)]
 enum Seat<C> {
     Idle,
     Holding(Hold),
@@ -32,6 +32,7 @@ impl<C> Seat<C> {
 }
 
 /// An object, its value, and its parties.
+#[derive(Clone, PartialEq, Eq, Hash)]
 pub struct World<O: Object> {
     object: O,
     value: Option<u64>,
@@ -75,6 +76,15 @@ impl<O: Object> World<O> {
             outcome,
             numbers: self.object.numbers(),
         }
+    }
+
+    /// Makes a move that is no line of a schedule.
+    pub fn make(&mut self, party: usize, action: Move<O>) -> Outcome {
+        self.act(party as u64, action).unwrap_or(Outcome::Skipped)
+    }
+
+    pub fn is_in_call(&self, party: usize) -> bool {
+        matches!(self.seats.get(party), Some(Seat::InCall { .. }))
     }
 
     /// What is left.

@@ -5,6 +5,7 @@ use crate::object::{Hold, Next, Object};
 use crate::words::Words;
 
 /// Its words are the count and the generation.
+#[derive(Clone, PartialEq, Eq, Hash)]
 pub struct Barrier {
     /// How many arrivals make a group. 0 counts as 1.
     size: u64,
@@ -15,7 +16,7 @@ pub struct Barrier {
 }
 
 /// The steps of its calls.
-#[derive(Clone, Copy)]
+#[derive(Clone, Copy, PartialEq, Eq, Hash)]
 pub enum Call {
     /// Arrives.
     Wait,

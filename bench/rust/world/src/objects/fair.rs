@@ -12,6 +12,7 @@ const MAX_CAP: u64 = (1 << 62) - 1;
 const MAX_SPINS: u64 = 1024;
 
 /// Its word is the sum of what the holder and the starvers weigh.
+#[derive(Clone, PartialEq, Eq, Hash)]
 pub struct Fair {
     word: u64,
     /// How many may starve at the same time.
@@ -21,7 +22,7 @@ pub struct Fair {
 }
 
 /// The steps of its calls.
-#[derive(Clone, Copy)]
+#[derive(Clone, Copy, PartialEq, Eq, Hash)]
 pub enum Call {
     /// Tries to acquire the lock, after so many looks that found it held.
     Lock {

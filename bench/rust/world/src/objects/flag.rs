@@ -7,12 +7,13 @@ use crate::object::{Hold, Next, Object};
 use crate::words::Words;
 
 /// Its flag is set while a party holds the lock.
+#[derive(Clone, PartialEq, Eq, Hash)]
 pub struct Flag {
     is_set: bool,
 }
 
 /// The steps of its calls.
-#[derive(Clone, Copy)]
+#[derive(Clone, Copy, PartialEq, Eq, Hash)]
 pub enum Call {
     Lock,
     /// Waits until the flag is clear, to try again.

@@ -5,7 +5,7 @@ use crate::object::{Hold, Next, Object};
 use crate::words::Words;
 
 /// How far the cell has come. Its value lies in the world.
-#[derive(Clone, Copy, PartialEq)]
+#[derive(Clone, Copy, PartialEq, Eq, Hash)]
 pub enum Once {
     Empty,
     Running,
@@ -13,14 +13,14 @@ pub enum Once {
 }
 
 /// What a closure comes to.
-#[derive(Clone, Copy)]
+#[derive(Clone, Copy, PartialEq, Eq, Hash)]
 pub enum Closure {
     Gives(u64),
     Fails,
 }
 
 /// The steps of its calls.
-#[derive(Clone, Copy)]
+#[derive(Clone, Copy, PartialEq, Eq, Hash)]
 pub enum Call {
     /// Looks for a value before it runs its closure.
     Fill(Closure),

@@ -13,6 +13,7 @@ const WRITER: u64 = 1;
 const MAX_CAP: u64 = (1 << 60) - 1;
 
 /// Its word is the sum of what the holders weigh.
+#[derive(Clone, PartialEq, Eq, Hash)]
 pub struct Rw {
     word: u64,
     /// How many may read at the same time.
@@ -20,14 +21,14 @@ pub struct Rw {
 }
 
 /// What a call does that is not granted what it asks for.
-#[derive(Clone, Copy)]
+#[derive(Clone, Copy, PartialEq, Eq, Hash)]
 pub enum Otherwise {
     Fails,
     Waits,
 }
 
 /// The steps of its calls.
-#[derive(Clone, Copy)]
+#[derive(Clone, Copy, PartialEq, Eq, Hash)]
 pub enum Call {
     /// Becomes such a reader, by an exchange of the word that it found.
     Read {

@@ -5,13 +5,14 @@ use crate::object::{Hold, Next, Object};
 use crate::words::Words;
 
 /// The number of the next ticket, and the one that is served. The largest number is no ticket's.
+#[derive(Clone, PartialEq, Eq, Hash)]
 pub struct Ticket {
     next: u64,
     serving: u64,
 }
 
 /// The steps of its calls.
-#[derive(Clone, Copy)]
+#[derive(Clone, Copy, PartialEq, Eq, Hash)]
 pub enum Call {
     /// Loads the next number.
     Lock,

@@ -1,0 +1,247 @@
+//! The program over streams in memory: texts with all that is written of them, and what it says where it fails.
+ghost use Rattle.std.specs.Prelude.{◌≡◌, Some, None, false};
+
+use spin_explore_run::{Failed, Sink, Source, program};
+use std::alloc::Global;
+use std::process::Abort;
+
+/// A text to be read. Where `fails`, a read fails behind it.
+#[derive(Drop)]
+struct Tape<'a> {
+    rest: &'a [u8],
+    fails: bool,
+    failed: bool,
+}
+
+impl<'a> Tape<'a> {
+    fn new(text: &'a str, fails: bool) -> Tape<'a>
+        ensures { result.failed ≡ false }
+    {
+        Tape {
+            rest: text.as_bytes(),
+            fails,
+            failed: false,
+        }
+    }
+}
+
+impl Source for Tape<'_> {
+    ghost remaining = { λ _. None };
+
+    ghost failed = { λ s. s.failed };
+
+    fn read(&mut self, to: &mut [u8]) -> Result<usize, Failed> {
+        let n = self.rest.len().min(to.len());
+        if n == 0 && self.fails {
+            self.failed = true;
+            return Err(Failed);
+        }
+        let (front, rest) = self.rest.split_at(n);
+        to[..n].copy_from_slice(front);
+        self.rest = rest;
+        Ok(n)
+    }
+
+    fn has_failed(&self) -> bool {
+        self.failed
+    }
+}
+
+/// A sink in memory, which fails once it holds `room` bytes.
+#[derive(Drop)]
+struct Paper {
+    bytes: Vec<u8>,
+    room: usize,
+    failed: bool,
+}
+
+impl Paper {
+    fn new(alloc: Global, room: usize) -> Paper
+        ensures { result.failed ≡ false }
+    {
+        Paper {
+            bytes: Vec::new(alloc),
+            room,
+            failed: false,
+        }
+    }
+
+    /// Compares what was written with the beginning of the text for which there is room.
+    fn shows(&self, rt: &impl Abort, text: &str, of: &str) {
+        let found = str::from_utf8(&self.bytes).expect(rt, of);
+        let (fits, _) = text.as_bytes().split_at(text.len().min(self.room));
+        assert_eq!(rt; found.as_bytes(), fits, "{of}: {found}");
+    }
+}
+
+impl Sink for Paper {
+    ghost written = { λ s. Some s.bytes.items };
+
+    ghost failed = { λ s. s.failed };
+
+    fn write(&mut self, from: &[u8]) -> Result<usize, Failed> {
+        let n = from.len().min(self.room.saturating_sub(self.bytes.len()));
+        if n == 0 && !from.is_empty() || self.bytes.extend_from_slice(&from[..n]).is_err() {
+            self.failed = true;
+            return Err(Failed);
+        }
+        Ok(n)
+    }
+
+    fn has_failed(&self) -> bool {
+        self.failed
+    }
+}
+
+/// Runs the program. A caller learns nothing of what it ensures: the tests look for themselves.
+fn run(
+    alloc: Global,
+    words: &[&str],
+    input: &mut Tape<'_>,
+    output: &mut Paper,
+    errors: &mut Paper,
+) -> u8
+    requires input { input.old.failed ≡ false }
+    requires output { output.old.failed ≡ false }
+    requires errors { errors.old.failed ≡ false }
+{
+    program(alloc, words, input, output, errors)
+}
+
+/// Words, a text, the status, what is written, and the line on standard error.
+type Row = (
+    &'static [&'static str],
+    &'static str,
+    u8,
+    &'static str,
+    &'static str,
+);
+
+const LOOK: &str = "flag 5 1\n0 begin lock\n0 read\n";
+
+const USAGE: &str = "usage: spin-explore [--schedule NUMBER] [--limit STATES]\n";
+
+const ROWS: &[Row] = &[
+    (
+        &[],
+        "flag 5 1",
+        0,
+        "outcome 1\nend: 0 value 5\n\nstates 1, outcomes 1, stuck 0\n",
+        "",
+    ),
+    (
+        &[],
+        LOOK,
+        0,
+        "outcome 1\n0 begin lock: granted\n0 read: value 5\nend: 1 value 5\n\nstates 5, outcomes 1, stuck 0\n",
+        "",
+    ),
+    (
+        &["--schedule", "1"],
+        LOOK,
+        0,
+        "flag 5 1\n0 begin lock\n0 step\n0 read\n",
+        "",
+    ),
+    (
+        &[],
+        "lock a flag 5\nlock b once\n0 b begin get\n0 a read\n",
+        0,
+        "outcome 1\n0 b begin get: none\n0 a read: passed over\nend a: 0 value 5\nend b: 0 value none\n\n\
+         states 4, outcomes 1, stuck 0\n",
+        "",
+    ),
+    (
+        &["--schedule", "1"],
+        "lock a flag 5\nlock b once\n0 b begin get\n",
+        0,
+        "lock a flag 5\nlock b once\n0 b begin get\n0 b step\n",
+        "",
+    ),
+    (
+        &[],
+        "barrier 2 1\n0 begin wait\n",
+        3,
+        "deadlock 1\n0 begin wait: pending\nend: 1 0 value none\nschedule\n0 begin wait\n0 step\n\n\
+         states 3, outcomes 0, stuck 3\n",
+        "",
+    ),
+    (
+        &[],
+        "fair 5 8 0 2\n0 begin starve\n1 begin lock\n1 begin release\n",
+        3,
+        "outcome 1\n0 begin starve: granted\n1 begin lock: granted\n1 begin release: done\nend: 2 value 5\n\n\
+         stuck 1\n0 begin starve: granted\n1 begin lock: pending\n1 begin release: pending\nend: 2 value 5\n\
+         schedule\n0 begin starve\n0 step\n0 step\n\nstates 27, outcomes 1, stuck 3\n",
+        "",
+    ),
+    (
+        &["--limit", "5"],
+        "flag 5 1",
+        0,
+        "outcome 1\nend: 0 value 5\n\nstates 1, outcomes 1, stuck 0\n",
+        "",
+    ),
+    (
+        &["--limit", "1"],
+        LOOK,
+        1,
+        "",
+        "too many states: stopped after 2\n",
+    ),
+    (&["--schedule", "2"], LOOK, 2, "", "no such outcome\n"),
+    (&["--schedule", "0"], LOOK, 2, "", "no such outcome\n"),
+    (
+        &["--schedule", "1"],
+        "barrier 2 1\n0 begin wait\n",
+        2,
+        "",
+        "no such outcome\n",
+    ),
+    (&[], "", 2, "", "bad line 1\n"),
+    (&[], "flag 5 1\n0 jump\n", 2, "", "bad line 2\n"),
+    (&[], "lock a flag 5\nlock a once\n", 2, "", "bad line 2\n"),
+    (&["--schedule"], LOOK, 2, "", USAGE),
+    (&["--limit", "x"], LOOK, 2, "", USAGE),
+    (&["world"], LOOK, 2, "", USAGE),
+];
+
+#[test]
+fn texts_and_what_comes_of_them(rt: HostRuntime) {
+    for (words, text, status, told, line) in ROWS {
+        let mut input = Tape::new(text, false);
+        let mut output = Paper::new(rt.alloc(), usize::MAX);
+        let mut errors = Paper::new(rt.alloc(), usize::MAX);
+        let ended = run(rt.alloc(), words, &mut input, &mut output, &mut errors);
+        assert_eq!(rt; ended, *status, "{text}");
+        output.shows(&rt, told, text);
+        errors.shows(&rt, line, text);
+    }
+}
+
+#[test]
+fn streams_that_fail(rt: HostRuntime) {
+    let told = "outcome 1\nend: 0 value 5\n\nstates 1, outcomes 1, stuck 0\n";
+    for room in 0..told.len().saturating_add(1) {
+        let mut input = Tape::new("flag 5 1\n", false);
+        let mut output = Paper::new(rt.alloc(), room);
+        // Where the line does not fit either, the status is the same.
+        let mut errors = Paper::new(rt.alloc(), room);
+        let ended = run(rt.alloc(), &[], &mut input, &mut output, &mut errors);
+        let fits = room == told.len();
+        assert_eq!(rt; ended, if fits { 0 } else { 1 }, "{room}");
+        output.shows(&rt, told, "a failed write");
+        errors.shows(
+            &rt,
+            if fits { "" } else { "write failed\n" },
+            "a failed write",
+        );
+    }
+    let mut input = Tape::new(LOOK, true);
+    let mut output = Paper::new(rt.alloc(), usize::MAX);
+    let mut errors = Paper::new(rt.alloc(), usize::MAX);
+    let ended = run(rt.alloc(), &[], &mut input, &mut output, &mut errors);
+    assert_eq!(rt; ended, 1);
+    output.shows(&rt, "", "a failed read");
+    errors.shows(&rt, "read failed\n", "a failed read");
+}
