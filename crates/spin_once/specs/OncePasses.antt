@@ -1,13 +1,13 @@
 -- What a pass knows: the history of its `Once` so far, and which moves in it are its own.
 use Rattle.std.specs.Prelude.{ℕ, Bool, Option, Some, None, List, Result, Ok, Err}
 use Rattle.spin_core.specs.Own.{Numbered}
-use Rattle.spin_core.specs.Passes.{Ends, IsCall}
+use Rattle.spin_core.specs.Passes.{IsCall}
 use Rattle.spin_model.specs.declared.answer.Answer.{Answer}
 use Rattle.spin_model.specs.declared.answer.Answer.TheVariants.{Value, NoValue, Is}
 use Rattle.spin_model.specs.declared.once.OnceCall.{OnceCall}
 use Rattle.spin_model.specs.declared.once.OnceCall.TheVariants.{CallOnce, TryCallOnceOk, IsCompleted}
-use Rattle.spin_once.specs.Accounts.{Place, here, Since}
-use Rattle.spin_once.specs.Once.{Made, Fails, IsFailedCall}
+use Rattle.spin_once.specs.Accounts.{here, Since}
+use Rattle.spin_once.specs.Once.{Made, IsFailedCall}
 use Rattle.spin_once.specs.declared.once.Once.{Once}
 use Rattle.spin_once.specs.declared.once.pass.Pass.{Pass}
 use Rattle.spin_once.specs.declared.once_core.rule.View.{View}
@@ -16,16 +16,6 @@ use Rattle.spin_once.specs.declared.once_core.rule.View.{View}
 abbrev pub found_or_none : {X : Type 0} → Option X → Answer (Unit {0})
 found_or_none None = NoValue
 found_or_none (Some value) = Value tt
-
--- a call with a closure that may fail goes on, and gives the value or fails
-abbrev pub TriedOn : {X E : Type 0} → Result X E → Place (Unit {0}) → Place (Unit {0}) → Type 0
-TriedOn (Ok value) p q = Since p (Ends (Value tt)) q
-TriedOn (Err e) p q = Since p Fails q
-
--- it gets the value, or its closure fails, as one whole call
-abbrev pub TriedIn : {X E : Type 0} → Result X E → Place (Unit {0}) → Place (Unit {0}) → Type 0
-TriedIn (Ok value) p q = Since p (IsCall (TryCallOnceOk tt) (Value tt)) q
-TriedIn (Err e) p q = Since p IsFailedCall q
 
 module _ {T R : Type 0} where
   -- all moves in the `Once` up to the pass's last step
@@ -49,7 +39,8 @@ module _ {T R : Type 0} where
 
   -- since then it has made one call with a closure that may fail, which got the value, or whose closure failed
   abbrev pub Tried : {X E : Type 0} → Result X E → Pass T R → Pass T R → Type 0
-  Tried answer before now = TriedIn answer (here before.account) (here now.account)
+  Tried (Ok value) before now = Called (TryCallOnceOk tt) (Value tt) before now
+  Tried (Err e) before now = Since (here before.account) IsFailedCall (here now.account)
 
   -- since then it has called `call_once` once, and got the value
   abbrev pub CalledOnce : Pass T R → Pass T R → Type 0

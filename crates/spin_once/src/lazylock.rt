@@ -10,7 +10,7 @@ ghost use Rattle.spin_once.specs.Lazy.{initialiser, promise};
 ghost use Rattle.spin_once.specs.Once.{is_out};
 
 use crate::exclusive::Exclusive;
-use crate::once_core::{Account, Claim, OnceCore, Seed, Sure, Wanting};
+use crate::once_core::{Account, Claim, Found, OnceCore, Seed, Sure, Wanting};
 use spin_core::relax::{RelaxStrategy, Spin};
 use std::marker::PhantomData;
 use std::sync::Wait;
@@ -175,24 +175,23 @@ impl<T, F: Makes<T, M>, R: RelaxStrategy, M: Promise<T>> LazyLock<T, F, R, M> {
         requires { F.can (initialiser this.now) (promise this.now) }
         ensures { M.keeps (promise this.now) result.now }
     {
-        let (value, account) = Self::find_or_make(rt, this.core.account());
-        account.close();
-        value
+        match this.core.account().come::<Sure>() {
+            Ok(found) => found.value(),
+            Err(wanting) => Self::make(rt, wanting).value(),
+        }
     }
 
     // Finds the value, or makes it. Spins while another thread makes it.
     fn find_or_make<'a, W: Wait>(
         rt: &W,
         account: Account<'a, T, Initialiser<F, M>>,
-    ) -> (&'a T, Account<'a, T, Initialiser<F, M>>)
+    ) -> Found<'a, T, Initialiser<F, M>>
         requires out { is_out (what account.party.view) ≡ true }
         requires can { F.can (seed_of account).f.inner (seed_of account).promise }
-        ensures keeps { M.keeps (seed_of account.entry).promise result.0.now }
-        ensures since { Since (here account.entry) (IsCall (CallOnce tt) (Value tt)) (here result.1) }
-        ensures out { is_out (what result.1.party.view) ≡ true }
+        ensures { Since (here account.entry) (IsCall (CallOnce tt) (Value tt)) (here result.account) }
     {
         match account.come::<Sure>() {
-            Ok(found) => found.read(),
+            Ok(found) => found,
             Err(wanting) => Self::make(rt, wanting),
         }
     }
@@ -203,17 +202,15 @@ impl<T, F: Makes<T, M>, R: RelaxStrategy, M: Promise<T>> LazyLock<T, F, R, M> {
     fn make<'a, W: Wait>(
         rt: &W,
         wanting: Wanting<'a, T, Initialiser<F, M>>,
-    ) -> (&'a T, Account<'a, T, Initialiser<F, M>>)
+    ) -> Found<'a, T, Initialiser<F, M>>
         requires { F.can (seed_of wanting.account).f.inner (seed_of wanting.account).promise }
-        ensures keeps { M.keeps (seed_of wanting.entry.account).promise result.0.now }
-        ensures since { Since (here wanting.entry.account) (Ends (Value tt)) (here result.1) }
-        ensures out { is_out (what result.1.party.view) ≡ true }
+        ensures { Since (here wanting.entry.account) (Ends (Value tt)) (here result.account) }
     {
         match wanting.claim::<R, W>(rt) {
-            Claim::Found(found) => found.read(),
+            Claim::Found(found) => found,
             Claim::Init(permit) => {
                 let (permit, Initialiser { f, promise }) = permit.take();
-                permit.complete(f.into_inner().make(promise)).read()
+                permit.complete(f.into_inner().make(promise))
             }
         }
     }

@@ -1,8 +1,8 @@
 //! A value that one closure makes. Begin with [`Once::new`] and [`Once::call_once`].
 ghost use Rattle.std.specs.Prelude.{IfErr, Err};
 
-use self::make::{find_or_make, find_or_try};
-use crate::once_core::{OnceCore, Seed};
+use self::make::{find_or_try, make};
+use crate::once_core::{OnceCore, Seed, Sure};
 use spin_core::relax::{RelaxStrategy, Spin};
 use std::marker::PhantomData;
 use std::sync::Wait;
@@ -145,9 +145,10 @@ impl<T, R: RelaxStrategy> Once<T, R> {
     pub fn call_once<F: FnOnce() -> T, W: Wait>(&self, rt: &W, f: F) -> &T
         requires { F.pre f }
     {
-        let (value, account) = find_or_make::<T, R, F, W>(self.core.account(), rt, f);
-        account.close();
-        value
+        match self.core.account().come::<Sure>() {
+            Ok(found) => found.value(),
+            Err(wanting) => make::<T, R, F, W>(rt, wanting, f).value(),
+        }
     }
 
     /// Like [`call_once`](Once::call_once), with a closure that may fail.
@@ -170,9 +171,13 @@ impl<T, R: RelaxStrategy> Once<T, R> {
         requires { F.pre f }
         ensures err { IfErr result (λ e. F.post f (Err e)) }
     {
-        let (answer, account) = find_or_try::<T, R, F, E, W>(self.core.account(), rt, f);
-        account.close();
-        answer
+        match find_or_try::<T, R, F, E, W>(self.core.account(), rt, f) {
+            Ok(found) => Ok(found.value()),
+            Err((error, account)) => {
+                account.close();
+                Err(error)
+            }
+        }
     }
 
     /// Like [`call_once`](Once::call_once), with a copy of `value` in place of what a closure gives.

@@ -8,7 +8,7 @@ mod init_permit;
 mod known;
 mod rule;
 
-pub(crate) use self::account::{Account, Claim, Wanting};
+pub(crate) use self::account::{Account, Claim, Found, Wanting};
 pub(crate) use self::rule::{Seed, Sure, Unsure};
 
 /// A cell that holds a seed, and later the value made from it.

@@ -139,19 +139,25 @@ fn three_passes_of_a_mutex_know_one_history(rt: HostRuntime) {
 fn three_passes_of_a_once_know_one_history(rt: HostRuntime) {
     let once = Once::new();
     let (tried, pass) = once.pass().try_call_once(&rt, || Err("no port"));
-    equal(&rt, (tried.is_err(), once.get().is_none()), (true, true));
+    let reason = match tried {
+        Ok(_) => "a port",
+        Err(reason) => reason,
+    };
+    equal(&rt, (reason, once.get().is_none()), ("no port", true));
     drop(pass);
-    let (first, (second, (_, third))) = make_beside_look(&rt, &once);
-    equal(&rt, first.0, second.0);
+    let ((made, first), ((found, second), (_, third))) = make_beside_look(&rt, &once);
+    equal(&rt, made, found);
     let (there, third) = third.is_completed();
     equal(&rt, there, true);
     let (found, third) = third.get();
-    equal(&rt, found.copied(), Some(first.0));
+    equal(&rt, found.copied(), Some(made));
     let (waited, third) = third.wait(&rt);
-    equal(&rt, *waited, first.0);
+    let waited = *waited;
     let (polled, third) = third.poll(&rt);
-    equal(&rt, polled.copied(), Some(first.0));
-    drop((first, second, third));
+    equal(&rt, (waited, polled.copied()), (made, Some(made)));
+    drop(first);
+    drop(second);
+    drop(third);
     equal(
         &rt,
         [Some(3), Some(5)].contains(&once.try_into_inner()),

@@ -1,8 +1,6 @@
 -- A turn that leads back to where it began, again and again: it is fair where from each of its places the rest of it and one turn more are a round.
-use Rattle.spin_world_core.proofs.Names.{◌≡◌, ℕ, zero, suc, ◌+◌, ◌==◌, ◌&&◌, ◌||◌, Bool, true, false, Option, Some, List, [], ◌∷◌, ◌++◌, slice_get, refl, ap, sym, ◌∙◌, subst, arith, and_parts, Hold, Seat, Idle, Calling, Holding, Leaked, Gone, Move, Machine, State, happens, after, at_first, may_read}
-use Rattle.std.proofs.Common.{not}
-use Rattle.spin_world_progress.specs.Rounds.{Test, occurs, is_awaited, MovesOn, IsRound, AreRounds, stretch, IsFair}
-use Rattle.spin_world_progress.specs.Starving.{ends_or_weak, MayStarve}
+use Rattle.spin_model.specs.Calls.{Asked}
+use Rattle.spin_world_progress.proofs.Names.{◌≡◌, ℕ, zero, suc, ◌+◌, ◌==◌, ◌&&◌, ◌||◌, Bool, true, false, Option, Some, List, [], ◌∷◌, ◌++◌, slice_get, refl, ap, sym, ◌∙◌, subst, arith, and_parts, Hold, Seat, Idle, Calling, Holding, Leaked, Gone, Move, Machine, State, happens, after, at_first, may_read, not, Test, occurs, is_awaited, MovesOn, IsRound, AreRounds, stretch, IsFair, ends_or_weak, MayStarve}
 
 -- an entry and the rest of a turn, and then turn after turn
 abbrev pub around : {X : Type 0} → X → List X → X → List X → ℕ → X
@@ -114,20 +112,29 @@ module _ {W V C L A : Type 0} (m : Machine W V C L A) where
       pub never_around : (place : ℕ) → occurs m test start (stretch (around e es e es) 0 place) ≡ false
       never_around place = never place start e es first
 
-  -- so a call may starve, from this state on
+  -- so no event of such a schedule passes the test, from this state on
+  abbrev pub Forever : (ℕ → Test V C L A) → ℕ → Asked → Type 0
+  Forever test n what =
+      (past : Turn) × (schedule : ℕ → ℕ × Move C V) × (p : ℕ) × (c : C) × (l : L) × (h : Option Hold)
+      × (let s = after m (at_first m n) past in (slice_get s.seats p ≡ Some (Calling c l h)) × (m.asks c h ≡ what) × IsFair m s schedule × ((place : ℕ) → occurs m (test p) s (stretch schedule 0 place) ≡ false))
+
+  pub forever : (test : ℕ → Test V C L A) (n : ℕ) (past : Turn) (s : State W V C L) → after m (at_first m n) past ≡ s → (e : ℕ × Move C V) (es : Turn) (p : ℕ) (c : C) (l : L) (h : Option Hold)
+      → slice_get s.seats p ≡ Some (Calling c l h) → Within (test p) s e es s (e ∷ es) → Forever test n (m.asks c h)
+  forever test n past s is e es p c l h there turns = (
+    past,
+    around e es e es,
+    p,
+    c,
+    l,
+    h,
+    subst (λ s. (slice_get s.seats p ≡ Some (Calling c l h)) × (m.asks c h ≡ m.asks c h) × IsFair m s (around e es e es) × ((place : ℕ) → occurs m (test p) s (stretch (around e es e es) 0 place) ≡ false)) (sym is)
+        (there, refl, fair_around (test p) s e es turns, never_around (test p) s e es turns),
+  )
+
+  -- so a call may starve
   pub starves : (n : ℕ) (past : Turn) (s : State W V C L) → after m (at_first m n) past ≡ s → (e : ℕ × Move C V) (es : Turn) (p : ℕ) (c : C) (l : L) (h : Option Hold)
       → slice_get s.seats p ≡ Some (Calling c l h) → Within (ends_or_weak p) s e es s (e ∷ es) → MayStarve m n (m.asks c h)
-  starves n past s is e es p c l h there turns =
-      let test = ends_or_weak {V = V} {C = C} {L = L} {A = A} p in (
-        past,
-        around e es e es,
-        p,
-        c,
-        l,
-        h,
-        subst (λ s. (slice_get s.seats p ≡ Some (Calling c l h)) × (m.asks c h ≡ m.asks c h) × IsFair m s (around e es e es) × ((place : ℕ) → occurs m test s (stretch (around e es e es) 0 place) ≡ false)) (sym is)
-            (there, refl, fair_around test s e es turns, never_around test s e es turns),
-      )
+  starves = forever (λ p. ends_or_weak p)
 
   -- rounds, as a test
   abbrev pub are_rounds : State W V C L → List Turn → Bool

@@ -1,11 +1,5 @@
 -- In an endless fair schedule rounds come, as many as one likes.
-use Rattle.spin_world_core.proofs.Names.{◌≡◌, ℕ, zero, suc, ◌+◌, ◌<◌, ◌≤◌, true, Option, Some, None, List, [], ◌∷◌, ◌++◌, length, slice_get, refl, ap, sym, ◌∙◌, subst, arith, ⊎_elim, cases_lt, slice_get_past, Machine, State, after, joined}
-use Rattle.std.proofs.Common.{max, ◌-◌}
-use Rattle.spin_model.specs.declared.place.Seat.{Seat}
-use Rattle.spin_model.specs.declared.place.Seat.TheVariants.{Idle, Calling, Holding, Leaked, Gone}
-use Rattle.spin_model.specs.declared.schedule.Move.{Move}
-use Rattle.std.proofs.lemmas.Bool.{cases_eq}
-use Rattle.spin_world_progress.specs.Rounds.{Test, occurs, MovesOn, IsRound, AreRounds, stretch, IsFair}
+use Rattle.spin_world_progress.proofs.Names.{◌≡◌, ℕ, zero, suc, ◌+◌, ◌<◌, ◌≤◌, true, Option, Some, None, List, [], ◌∷◌, ◌++◌, length, slice_get, refl, ap, sym, ◌∙◌, subst, arith, ⊎_elim, cases_lt, slice_get_past, Machine, State, after, joined, max, ◌-◌, Seat, Idle, Calling, Holding, Leaked, Gone, Move, cases_eq, Test, occurs, MovesOn, IsRound, AreRounds, stretch, IsFair}
 use Rattle.spin_model.proofs.Schedules.{after-append}
 use Rattle.spin_world_progress.proofs.Progress.{or_left, occurs-append, awaited_of}
 

@@ -1,85 +1,60 @@
 -- While a starver waits, a fair lock lets somebody in within five rounds: its holder leaves within two, and the starver takes three to find the flag clear, to set it, and to leave the starvers. Whoever sets the flag before it is granted the lock by its next step.
-use Rattle.spin_world_fair.proofs.Names.{◌≡◌, ℕ, ◌==◌, true, false, Option, Some, None, List, [], ◌∷◌, length, refl, ap, sym, ◌∙◌, arith, not, ◌≤◌, ◌⊎◌, inl, inr, ⊎_elim, eqb-true, Plain, Kind, writing, Holder, Change, is_empty, is_holder, is_starver, without_holder, holder, apply_some, IsOpenStep, Entries, BelongsTo, fair, is_set, fair_is_locked-tells, Hold, Write, Starver}
-use Rattle.std.proofs.Common.{◌-◌, ◌%◌, filter, slice_get, subst}
-use Rattle.spin_model.specs.Acts.{is_waiting}
-use Rattle.spin_model.specs.declared.answer.Answer.{Answer}
-use Rattle.spin_model.specs.declared.place.Seat.{Seat}
-use Rattle.spin_model.specs.declared.place.Seat.TheVariants.{Calling, Holding}
-use Rattle.spin_model.specs.declared.step.Next.{Next}
-use Rattle.spin_model.specs.declared.schedule.Move.{Move}
-use Rattle.spin_model.specs.declared.schedule.Move.TheVariants.{Step}
-use Rattle.spin_model.specs.Machines.{Machine}
-use Rattle.spin_model.specs.Schedules.{after, at_first, resting}
-use Rattle.spin_model.proofs.Lists.{get-set_same}
-use Rattle.spin_world_core.specs.Runs.{Seen, Scene, scene_at, opening}
-use Rattle.spin_world_core.specs.Users.{seen_after}
-use Rattle.spin_world_core.proofs.Lists.{eqb_self}
-use Rattle.spin_world_core.proofs.Facts.{LocalInvariant, Facts}
-use Rattle.spin_world_core.proofs.Preserved.{Invariant, in_call}
-use Rattle.spin_world_core.proofs.Reached.{calls_so, seat_is, StandsSo}
-use Rattle.spin_step_more.specs.declared.fair_calls.FairCall.{FairCall}
-use Rattle.spin_step_more.specs.declared.fair_calls.FairCall.TheVariants.{Lock, StarverLock, Release}
-use Rattle.spin_step_more.specs.declared.fair_calls.FairPoint.{FairPoint}
-use Rattle.spin_step_more.specs.declared.fair_calls.FairPoint.TheVariants.{First, SetFlag, Await, Unregister}
-use Rattle.spin_step_more.specs.FairCalls.{fair_table, fair_machine, asks_of}
+use Rattle.spin_world_progress.proofs.Names.{◌-◌, resting, ◌≡◌, ℕ, ◌==◌, true, false, Option, Some, None, List, [], ◌∷◌, length, refl, ap, sym, ◌∙◌, arith, not, ◌≤◌, ◌⊎◌, inl, inr, ⊎_elim, eqb-true, Plain, Kind, writing, Holder, Change, is_empty, is_holder, is_starver, without_holder, holder, apply_some, IsOpenStep, BelongsTo, is_set, Hold, filter, slice_get, subst, is_waiting, Answer, Seat, Calling, Holding, Move, Step, Machine, after, at_first, get-set_same, Seen, Scene, scene_at, opening, seen_after, eqb_self, LocalInvariant, Facts, Invariant, in_call, row_tells, calls_so, StandsSo, fair_table, fair_machine}
+use Rattle.spin_world_fair.proofs.Names.{fair, fair_is_locked-tells, Write, Starver, FairCall, Lock, StarverLock, Release, FairPoint, First, SetFlag, Await, Unregister, asks_of}
 use Rattle.spin_world_fair.proofs.Owed.{fair_notes, fair_keeping, fair_facts}
 use Rattle.spin_world_progress.specs.Fair.{grants_lock, LocksInFive, StarversAreDeadlockFree}
 use Rattle.spin_world_progress.proofs.Endless.{at_last}
 use Rattle.spin_world_progress.proofs.Flag.{holds_lock}
-use Rattle.spin_world_progress.proofs.Progress.{is_busy}
 use Rattle.spin_world_progress.proofs.Walk.{Wait}
 use Rattle.spin_world_progress.proofs.Walk as walk
 
 abbrev FairSeat : Type 0
 FairSeat = Seat FairCall FairPoint
 
-abbrev at_wait : FairCall → FairPoint → Option Hold → Type 0
-at_wait Lock SetFlag None = Unit {0}
-at_wait Lock Await None = Unit {0}
-at_wait Lock Unregister None = Unit {0}
-at_wait StarverLock SetFlag (Some Starver) = Unit {0}
-at_wait StarverLock Await (Some Starver) = Unit {0}
-at_wait StarverLock Unregister (Some Starver) = Unit {0}
-at_wait _ l h = ⊥
+-- the calls in which it waits, and their points
+abbrev its_call : FairCall → Option Hold → Type 0
+its_call Lock None = Unit {0}
+its_call StarverLock (Some Starver) = Unit {0}
+its_call _ h = ⊥
+
+abbrev its_point : FairPoint → Type 0
+its_point SetFlag = Unit {0}
+its_point Await = Unit {0}
+its_point Unregister = Unit {0}
+its_point _ = ⊥
 
 abbrev due_by : ℕ → List Holder → ℕ
 due_by p [] = p
 due_by p (h ∷ hs) = h.party
 
-own_some : (p : ℕ) (qs : List ℕ) → filter (λ q. q == p) qs ≡ p ∷ [] → is_empty qs ≡ false
-own_some p [] e = absurd (cc (e))
-own_some p (q ∷ qs) e = refl
+own_some : (p : ℕ) (qs : List ℕ) → not (is_empty (filter (λ q. q == p) qs)) ≡ true → is_empty qs ≡ false
+own_some p [] found = grind (arith, found)
+own_some p (q ∷ qs) found = refl
 
 starves_own : (p : ℕ) (qs : List ℕ) → is_starver p qs ≡ true → not (is_empty (filter (λ q. q == p) qs)) ≡ true
 starves_own p [] found = found
 starves_own p (q ∷ qs) found = grind (arith, found, starves_own p qs)
 
 -- how many moves are left, where nobody holds, and where a holder sits so
-abbrev rank_by : List Holder → Option FairSeat → Option FairSeat → ℕ
-rank_by [] (Some (Calling c SetFlag h)) his = 2
-rank_by [] mine his = 3
-rank_by (i ∷ hs) mine (Some (Calling c Unregister h)) = 1
-rank_by (i ∷ hs) mine (Some (Calling c l h)) = 4
-rank_by (i ∷ hs) mine his = 5
+abbrev rank_by : List Holder → FairPoint → Option FairSeat → ℕ
+rank_by [] SetFlag his = 2
+rank_by [] l his = 3
+rank_by (i ∷ hs) l (Some (Calling c Unregister h)) = 1
+rank_by (i ∷ hs) l (Some (Calling c e h)) = 4
+rank_by (i ∷ hs) l his = 5
 
-rank_set : (hs : List Holder) (i : Holder) (rest : List Holder) (mine other his : Option FairSeat) → hs ≡ i ∷ rest → rank_by hs mine his ≤ rank_by hs other his
-rank_set hs i rest mine other his some = grind (arith, some)
+rank_begun : (hs : List Holder) (i : Holder) (rest : List Holder) (l e : FairPoint) (d : FairCall) (j : Option Hold) → hs ≡ i ∷ rest → rank_by hs l (Some (Calling d e j)) ≤ rank_by hs l (Some (resting j)) - 1
+rank_begun hs i rest l e d j some = grind (arith, some)
 
-rank_three : (hs : List Holder) (mine his : Option FairSeat) → hs ≡ [] → rank_by hs mine his ≤ 3
-rank_three hs mine his none = grind (arith, none)
+rank_fits : (hs : List Holder) (l : FairPoint) (his : Option FairSeat) → (1 ≤ rank_by hs l his) × (rank_by hs l his ≤ 5)
+rank_fits hs l his = grind arith
 
-rank_held : (hs : List Holder) (i : Holder) (rest : List Holder) (mine : Option FairSeat) (c : FairCall) (l : FairPoint) (h : Option Hold) (his : Option FairSeat) → hs ≡ i ∷ rest → (l ≡ Unregister → ⊥) → his ≡ Some (Calling c l h)
-    → rank_by hs mine his ≡ 4
-rank_held hs i rest mine c l h his some ne at = grind (arith, some, ne, at)
+rank_two : (l : FairPoint) (his : Option FairSeat) → 2 ≤ rank_by [] l his
+rank_two l his = grind arith
 
-rank_two : (mine his : Option FairSeat) → 2 ≤ rank_by [] mine his
-rank_two mine his = grind arith
-
-rank_some : (hs : List Holder) (mine his : Option FairSeat) → 1 ≤ rank_by hs mine his
-rank_some hs mine his = grind arith
-
-rank_few : (hs : List Holder) (mine his : Option FairSeat) → rank_by hs mine his ≤ 5
-rank_few hs mine his = grind arith
+point_cases : (l : FairPoint) → (l ≡ Unregister) ⊎ (l ≡ Unregister → ⊥)
+point_cases Unregister = inl refl
+point_cases l = inr (λ e. absurd (grind (arith, e)))
 
 -- where one holds, another party's step leaves it, and its own leaves none
 one_releases : (q : ℕ) (k : Kind) (h : Holder) (hs : List Holder) → length (h ∷ hs) ≤ 1 → (q ≡ h.party → ⊥) → is_holder q k (h ∷ hs) ≡ true → ⊥
@@ -111,192 +86,139 @@ module _ {V : Type 0} (v : V) (cap patience : ℕ) where
   abbrev Sits : ℕ → Option FairSeat → Type 0
   Sits = walk.SitsSo (fair_table v cap patience) (fair_notes v cap patience) holds_lock
 
-  strong : (c : FairCall) (l : FairPoint) (h : Option Hold) (next : Next FairPoint (Answer V)) → at_wait c l h → m.refuse c l h ≡ Some next → ⊥
-  strong c l h next at may = grind (arith, at, may)
-
-  module _ (p : ℕ) where
+  module _ (p : ℕ) (c : FairCall) (h : Option Hold) (waits : its_call c h) where
     abbrev x : Wait ℕ V FairCall FairPoint (Answer V)
-    x = record { goal = grants_lock m; party = p; At = λ seen. at_wait; Fine = λ seen. Unit {0}; due = λ s mine. due_by p s.holders; rank = λ s. rank_by s.holders }
+    x = record { goal = grants_lock m; party = p; call = c; hold = h; At = its_point; Known = λ seen. Unit {0}; Fine = λ seen. Unit {0}; due = λ s l. due_by p s.holders; rank = λ s. rank_by s.holders }
 
     abbrev sc : World → ℕ → FairCall → FairPoint → Option Hold → Scene ℕ V FairCall FairPoint (Answer V)
-    sc seen q c l h = scene_at m seen q Step (Some (Calling c l h))
+    sc seen q d i j = scene_at m seen q Step (Some (Calling d i j))
 
-    -- the rank where nobody holds, by where it sits; and where a party holds alone
-    rank_free_at : (y : World) → y.plain.holders ≡ [] → (o : Option FairSeat) → slice_get y.state.seats p ≡ o → walk.rank m k f x y ≡ rank_by [] o (walk.his m k f x y)
-    rank_free_at y none o at = cc (none, at)
+    -- the rank where nobody holds, and where a party holds alone
+    rank_free : (y : World) (e : FairPoint) → y.plain.holders ≡ [] → walk.rank m k f x y e ≡ rank_by [] e (walk.his m k f x y e)
+    rank_free y e none = ap (λ hs. rank_by hs e (walk.his m k f x y e)) none
 
-    rank_now : (y : World) (q : ℕ) → y.plain.holders ≡ holder q writing ∷ [] → (o : Option FairSeat) → slice_get y.state.seats q ≡ o → walk.rank m k f x y ≡ rank_by (holder q writing ∷ []) (walk.mine m k f x y) o
-    rank_now y q one o at = cc (one, at, ap (due_by p) one)
+    rank_now : (y : World) (e : FairPoint) (q : ℕ) → y.plain.holders ≡ holder q writing ∷ [] → (o : Option FairSeat) → slice_get y.state.seats q ≡ o → walk.rank m k f x y e ≡ rank_by (holder q writing ∷ []) e o
+    rank_now y e q one o at = cc (one, at, ap (due_by p) one)
 
-    module _ (seen : World) (good : Invariant m k seen) where
+    module _ (seen : World) (good : Invariant m k seen) (l : FairPoint) where
       abbrev s : Plain
       s = seen.plain
+
+      abbrev d : ℕ
+      d = walk.due m k f x seen l
 
       -- the flag is set just where somebody holds
       flag : is_set seen.state.words ≡ not (is_empty s.holders)
       flag = grind (arith, fair_is_locked-tells s seen.state.words good.shape.one good.shape.queue (cc (good.encodes)), good.shape.queue)
 
-      clear : s.holders ≡ [] → is_set seen.state.words ≡ false
-      clear none = flag ∙ ap (λ (hs : List Holder). not (is_empty hs)) none
-
-      set : (i : Holder) (hs : List Holder) → s.holders ≡ i ∷ hs → is_set seen.state.words ≡ true
-      set i hs some = flag ∙ ap (λ (hs : List Holder). not (is_empty hs)) some
-
       one : (i : Holder) (hs : List Holder) → s.holders ≡ i ∷ hs → length (i ∷ hs) ≤ 1
       one i hs some = subst (λ hs. length hs ≤ 1) some good.shape.one
 
-      holder_sits : (i : Holder) (hs : List Holder) → s.holders ≡ i ∷ hs → Sits i.party (slice_get seen.state.seats i.party)
-      holder_sits i hs some =
-          walk.sits_so (fair_table v cap patience) (fair_notes v cap patience) holds_lock i.party s (seen.span i.party) _ (good.parties i.party).stands (good.parties i.party).knows (grind (arith, some, eqb_self i.party))
+      -- where another party is due, it holds
+      some_holder : (d ≡ p → ⊥) → (i : Holder) × (hs : List Holder) × (s.holders ≡ i ∷ hs)
+      some_holder ne = by s.holders refl
+        where
+          by : (hs : List Holder) → s.holders ≡ hs → (i : Holder) × (rest : List Holder) × (s.holders ≡ i ∷ rest)
+          by [] is = absurd (ne (ap (due_by p) is))
+          by (i ∷ hs) is = (i, hs, is)
 
-      due_is : (hs : List Holder) → s.holders ≡ hs → walk.due m k f x seen ≡ due_by p hs
-      due_is hs is = ap (due_by p) is
+      his_sits : (i : Holder) (hs : List Holder) → s.holders ≡ i ∷ hs → Sits d (walk.his m k f x seen l)
+      his_sits i hs some = walk.sits_so (fair_table v cap patience) (fair_notes v cap patience) holds_lock seen good d (grind (arith, some, ap (due_by p) some, eqb_self i.party))
 
-      his_sits : (i : Holder) (hs : List Holder) → s.holders ≡ i ∷ hs → (o : Option FairSeat) → walk.his m k f x seen ≡ o → Sits i.party o
-      his_sits i hs some o there = subst (Sits i.party) (ap (slice_get seen.state.seats) (sym (due_is (i ∷ hs) some)) ∙ there) (holder_sits i hs some)
+      -- its own step
+      module _ (there : slice_get seen.state.seats p ≡ Some (Calling c l h)) where
+        abbrev y : Scene ℕ V FairCall FairPoint (Answer V)
+        y = sc seen p c l h
 
-      -- The step of the party that waits
+        abbrev Sets : Type 0
+        Sets = (slice_get y.after.state.seats p ≡ Some (Calling c Unregister h)) × (y.after.plain.holders ≡ holder p writing ∷ []) × (l ≡ SetFlag)
 
-      abbrev Own : FairCall → FairPoint → Option Hold → Type 0
-      Own c l h = walk.Own m k f x seen (sc seen p c l h)
+        abbrev Looks : Type 0
+        Looks = (slice_get y.after.state.seats p ≡ Some (Calling c SetFlag h)) × (y.after.plain.holders ≡ []) × (l ≡ Await)
 
-      -- it has set the flag
-      leaves_starvers : (c : FairCall) (h : Option Hold) → slice_get seen.state.seats p ≡ Some (Calling c Unregister h) → Own c Unregister h
-      leaves_starvers c h there = inl (rw (get-set_same seen.state.seats p (Holding Write) _ there) refl)
+        granted : l ≡ Unregister → walk.Reaches m k f x y
+        granted is = grind (arith, is, get-set_same seen.state.seats p (Holding Write) _ there)
 
-      goes_set : (c : FairCall) (l : FairPoint) (h : Option Hold) → at_wait c Await h → slice_get seen.state.seats p ≡ Some (Calling c l h) → (i : Holder) (hs : List Holder) → s.holders ≡ i ∷ hs
-          → (slice_get (sc seen p c l h).after.state.seats p ≡ Some (Calling c Await h)) × ((sc seen p c l h).after.plain ≡ s) → (walk.due m k f x seen ≡ p → ⊥) → Own c l h
-      goes_set c l h at there i hs some on ne =
-          inr (walk.waits_at m k f x (sc seen p c l h).after c Await h on.0 at, inr (ne, rw on.1 (refl, rank_set s.holders i hs _ _ _ some)))
+        goes_clear : its_point l → (l ≡ Unregister → ⊥) → s.holders ≡ [] → is_set seen.state.words ≡ false → Sets ⊎ Looks
+        goes_clear at ne none clear = grind (arith, at, ne, none, clear, get-set_same seen.state.seats p (Calling c Unregister h) _ there, get-set_same seen.state.seats p (Calling c SetFlag h) _ there)
 
-      even : s.holders ≡ [] → (seen.state.words % 2 == 0) ≡ true
-      even none = grind (arith, clear none)
+        goes_set : its_point l → (l ≡ Unregister → ⊥) → is_set seen.state.words ≡ true → (slice_get y.after.state.seats p ≡ Some (Calling c Await h)) × (y.after.plain ≡ s)
+        goes_set at ne set = grind (arith, waits, at, ne, set, get-set_same seen.state.seats p (Calling c Await h) _ there)
 
-      odd : (i : Holder) (hs : List Holder) → s.holders ≡ i ∷ hs → (seen.state.words % 2 == 0) ≡ false
-      odd i hs some = grind (arith, set i hs some)
-
-      -- the holder is another party, where this one looks or goes for the flag
-      no_holder : (c : FairCall) (l : FairPoint) (h : Option Hold) → at_wait c l h → (l ≡ Unregister → ⊥) → slice_get seen.state.seats p ≡ Some (Calling c l h) → (i : Holder) (hs : List Holder) → s.holders ≡ i ∷ hs → walk.due m k f x seen ≡ p → ⊥
-      no_holder c l h at ne there i hs some e = absurd (grind (arith, at, ne, his_sits i hs some (Some (Calling c l h)) (ap (slice_get seen.state.seats) e ∙ there)))
-
-      sets_flag : (c : FairCall) (h : Option Hold) → at_wait c Unregister h → slice_get seen.state.seats p ≡ Some (Calling c SetFlag h) → s.holders ≡ [] → Own c SetFlag h
-      sets_flag c h at there none =
-          let y = sc seen p c SetFlag h in
-          let seat : slice_get y.after.state.seats p ≡ Some (Calling c Unregister h) = rw (even none) (get-set_same seen.state.seats p (Calling c Unregister h) _ there) in
-          let plain : y.after.plain.holders ≡ holder p writing ∷ [] = rw (even none, none) refl in
-          inr (
-            walk.waits_at m k f x y.after c Unregister h seat at,
-            inl (omega (
-              arith,
-              rank_now y.after p plain (Some (Calling c Unregister h)) seat,
-              rank_free_at seen none _ there,
-            )),
-          )
-
-      looks : (c : FairCall) (h : Option Hold) → at_wait c SetFlag h → slice_get seen.state.seats p ≡ Some (Calling c Await h) → s.holders ≡ [] → Own c Await h
-      looks c h at there none =
-          let y = sc seen p c Await h in
-          let seat : slice_get y.after.state.seats p ≡ Some (Calling c SetFlag h) = rw (clear none) (get-set_same seen.state.seats p (Calling c SetFlag h) _ there) in
-          inr (walk.waits_at m k f x y.after c SetFlag h seat at, inl (omega (arith, rank_free_at y.after none _ seat, rank_free_at seen none _ there)))
-
-      come_on : (c : FairCall) (l : FairPoint) (h : Option Hold) → at_wait c l h → at_wait c SetFlag h × at_wait c Await h × at_wait c Unregister h
-      come_on c l h at = grind (arith, at)
-
-      held : (c : FairCall) (l : FairPoint) (h : Option Hold) → at_wait c l h → (l ≡ Unregister → ⊥) → slice_get seen.state.seats p ≡ Some (Calling c l h) → (i : Holder) (hs : List Holder) → s.holders ≡ i ∷ hs → Own c l h
-      held c l h at ne there i hs some =
-          goes_set c l h (come_on c l h at).1 there i hs some (grind (arith, at, ne, odd i hs some, set i hs some, get-set_same seen.state.seats p (Calling c Await h) _ there)) (no_holder c l h at ne there i hs some)
-
-      own_by : (hs : List Holder) → s.holders ≡ hs → (c : FairCall) (l : FairPoint) (h : Option Hold) → slice_get seen.state.seats p ≡ Some (Calling c l h) → at_wait c l h → Own c l h
-      own_by hs is c Unregister h there at = leaves_starvers c h there
-      own_by [] is c SetFlag h there at = sets_flag c h (come_on c SetFlag h at).2 there is
-      own_by [] is c Await h there at = looks c h (come_on c Await h at).0 there is
-      own_by (i ∷ hs) is c SetFlag h there at = held c SetFlag h at (λ e. cc (e)) there i hs is
-      own_by (i ∷ hs) is c Await h there at = held c Await h at (λ e. cc (e)) there i hs is
-      own_by hs is c l h there at = absurd (grind (arith, at))
-
-      module _ (w : walk.Waits m k f x seen) where
-        his_own : (o : Option FairSeat) → s.holders ≡ [] → walk.his m k f x seen ≡ o → walk.AtSeat m k f x seen o
-        his_own o none there = subst (walk.AtSeat m k f x seen) (sym (ap (λ hs. slice_get seen.state.seats (due_by p hs)) none) ∙ there) w
-
-        begins : (hs : List Holder) → s.holders ≡ hs → (c : FairCall) (l : FairPoint) (h : Option Hold) → walk.his m k f x seen ≡ Some (resting h) → rank_by hs (walk.mine m k f x seen) (Some (Calling c l h)) ≤ rank_by hs (walk.mine m k f x seen) (Some (resting h)) - 1
-        begins [] is c l h there = absurd (grind (arith, his_own (Some (resting h)) is there))
-        begins (i ∷ hs) is c l h there = grind arith
-
-        -- the holder's step
-        steps : (hs : List Holder) → s.holders ≡ hs → (walk.due m k f x seen ≡ p → ⊥) → (c : FairCall) (l : FairPoint) (h : Option Hold) → walk.his m k f x seen ≡ Some (Calling c l h)
-            → let y = sc seen (walk.due m k f x seen) c l h in IsOpenStep s (walk.due m k f x seen) y.change → walk.Lowers m k f x seen y
-        steps [] is ne c l h there opens = absurd (ne (due_is [] is))
-        steps (i ∷ hs) is ne c l h there opens = holder_step c l h (his_sits i hs is _ there) there opens
-          where
-            holder_step : (c : FairCall) (l : FairPoint) (h : Option Hold) → Sits i.party (Some (Calling c l h)) → walk.his m k f x seen ≡ Some (Calling c l h) → IsOpenStep s (walk.due m k f x seen) (sc seen (walk.due m k f x seen) c l h).change → walk.Lowers m k f x seen (sc seen (walk.due m k f x seen) c l h)
-            holder_step Release First (Some Write) so there opens =
-                let y = sc seen (walk.due m k f x seen) Release First (Some Write) in
-                let found : is_holder (walk.due m k f x seen) writing (i ∷ hs) ≡ true = subst (λ xs. is_holder (walk.due m k f x seen) writing xs ≡ true) is opens.1 in
-                let none : y.after.plain.holders ≡ [] = ap (without_holder (walk.due m k f x seen) writing) is ∙ one_gone writing (walk.due m k f x seen) i hs (one i hs is) found in
-                inr (omega (arith, rank_three y.after.plain.holders (walk.mine m k f x y.after) (walk.his m k f x y.after) none, rank_held s.holders i hs (walk.mine m k f x seen) Release First (Some Write) (walk.his m k f x seen) is (λ e. cc (e)) there))
-            holder_step c Unregister h so there opens = inl (rw (get-set_same seen.state.seats (walk.due m k f x seen) (Holding Write) _ there) refl)
-            holder_step c l h so there opens = absurd (grind (arith, so))
-
-        refuses : (hs : List Holder) → s.holders ≡ hs → (c : FairCall) (l : FairPoint) (h : Option Hold) (next : Next FairPoint (Answer V)) → walk.his m k f x seen ≡ Some (Calling c l h) → m.refuse c l h ≡ Some next → ⊥
-        refuses [] is c l h next there may = strong c l h next (his_own _ is there) may
-        refuses (i ∷ hs) is c l h next there may = absurd (grind (arith, may, his_sits i hs is _ there))
-
-        busy : (hs : List Holder) → s.holders ≡ hs → is_busy (walk.his m k f x seen) ≡ true
-        busy [] is = grind (arith, his_own (walk.his m k f x seen) is refl)
-        busy (i ∷ hs) is = walk.busy_so (fair_table v cap patience) (fair_notes v cap patience) holds_lock i.party _ refl (λ h so. grind (arith, so)) (his_sits i hs is _ refl)
-
-        -- a step of a third party
-        beside_clear : (q : ℕ) (c : FairCall) (l : FairPoint) (h : Option Hold) → s.holders ≡ [] → is_empty s.starvers ≡ false → slice_get seen.state.seats q ≡ Some (Calling c l h) → let y = sc seen q c l h in IsOpenStep s q y.change
-            → (y.after.plain.holders ≡ []) ⊎ ((y.after.plain.holders ≡ holder q writing ∷ []) × (slice_get y.after.state.seats q ≡ Some (Calling c Unregister h)))
-        beside_clear q c l h none some there opens = grind (arith, none, some, opens, even none, clear none, get-set_same seen.state.seats q (Calling c Unregister h) _ there)
-
-        some_starve : (o : Option FairSeat) → walk.mine m k f x seen ≡ o → walk.AtSeat m k f x seen o → is_empty s.starvers ≡ false
-        some_starve (Some (Calling Lock SetFlag None)) is at = own_some p s.starvers (ap (λ (e : Entries). e.starvers) (in_call m k seen p Lock SetFlag None good is).knows.0.stand)
-        some_starve (Some (Calling Lock Await None)) is at = own_some p s.starvers (ap (λ (e : Entries). e.starvers) (in_call m k seen p Lock Await None good is).knows.0.stand)
-        some_starve (Some (Calling Lock Unregister None)) is at = own_some p s.starvers (ap (λ (e : Entries). e.starvers) (in_call m k seen p Lock Unregister None good is).knows.0.stand)
-        some_starve (Some (Calling StarverLock SetFlag (Some Starver))) is at = own_some p s.starvers (ap (λ (e : Entries). e.starvers) (in_call m k seen p StarverLock SetFlag (Some Starver) good is).knows.0.stand)
-        some_starve (Some (Calling StarverLock Await (Some Starver))) is at = own_some p s.starvers (ap (λ (e : Entries). e.starvers) (in_call m k seen p StarverLock Await (Some Starver) good is).knows.0.stand)
-        some_starve (Some (Calling StarverLock Unregister (Some Starver))) is at = own_some p s.starvers (ap (λ (e : Entries). e.starvers) (in_call m k seen p StarverLock Unregister (Some Starver) good is).knows.0.stand)
-        some_starve o is at = absurd (grind (arith, at))
-
-        beside : (hs : List Holder) → s.holders ≡ hs → (q : ℕ) (c : FairCall) (l : FairPoint) (h : Option Hold) → (q ≡ walk.due m k f x seen → ⊥) → slice_get seen.state.seats q ≡ Some (Calling c l h)
-            → let y = sc seen q c l h in slice_get y.after.state.seats p ≡ slice_get seen.state.seats p → IsOpenStep s q y.change → BelongsTo fair y.change
-            → walk.Lowers m k f x seen y ⊎ walk.Alike m k f x seen y.after.plain (walk.mine m k f x seen)
-        beside [] is q c l h ne there same opens belongs =
-            let y = sc seen q c l h in
+        own : (hs : List Holder) → s.holders ≡ hs → its_point l → (l ≡ Unregister → ⊥) → walk.Own m k f x seen l y
+        own [] is at ne =
             ⊎_elim
-            (λ (still : y.after.plain.holders ≡ []). inr (ap (due_by p) (still ∙ sym is), omega (arith, ap (λ xs. rank_by xs (walk.mine m k f x seen) (walk.his m k f x seen)) (still ∙ sym is))))
-            (λ (took : (y.after.plain.holders ≡ holder q writing ∷ []) × (slice_get y.after.state.seats q ≡ Some (Calling c Unregister h))).
-            inl (inr (omega (arith, rank_now y.after q took.0 _ took.1, rank_free_at seen is _ refl, rank_two (walk.mine m k f x seen) (walk.his m k f x seen)))))
-            (beside_clear q c l h is (some_starve _ refl w) there opens)
-        beside (i ∷ hs) is q c l h ne there same opens belongs =
-            let kept = leaves_holder s q (sc seen q c l h).change i hs is (one i hs is) (λ e. ne (e ∙ sym (due_is (i ∷ hs) is))) opens belongs in
-            inr (ap (due_by p) kept, omega (arith, ap (λ xs. rank_by xs (walk.mine m k f x seen) (walk.his m k f x seen)) kept))
+            (λ (on : Sets). inr (Unregister, on.0, tt, inl (omega (arith, rank_now y.after Unregister p on.1 _ on.0, rank_free seen l is, rank_two l (walk.his m k f x seen l)))))
+            (λ (on : Looks). inr (SetFlag, on.0, tt, inl (omega (arith, rank_free y.after SetFlag on.1, rank_free seen l is, ap (λ i. rank_by [] i (walk.his m k f x seen l)) on.2))))
+            (goes_clear at ne is (flag ∙ ap (λ (hs : List Holder). not (is_empty hs)) is))
+        own (i ∷ hs) is at ne =
+            let on = goes_set at ne (flag ∙ ap (λ (hs : List Holder). not (is_empty hs)) is) in
+            inr (Await, on.0, tt, inr (λ e. absurd (grind (arith, waits, at, ne, subst (Sits p) there (subst (λ q. Sits q (slice_get seen.state.seats q)) e (his_sits i hs is)))), rw on.1 (refl, grind (arith, is))))
+
+        own_by : its_point l → walk.Own m k f x seen l y
+        own_by at = ⊎_elim (λ (is : l ≡ Unregister). inl (granted is)) (λ (ne : l ≡ Unregister → ⊥). own s.holders refl at ne) (point_cases l)
+
+      -- the holder's step
+      steps : (i : Holder) (hs : List Holder) → s.holders ≡ i ∷ hs → (e : FairCall) (u : FairPoint) (j : Option Hold) → Sits d (Some (Calling e u j)) → walk.his m k f x seen l ≡ Some (Calling e u j) → let y = sc seen d e u j in IsOpenStep s d y.change
+          → walk.Reaches m k f x y ⊎ walk.Lower m k f x seen l y l
+      steps i hs is Release First (Some Write) so there opens =
+          let y = sc seen d Release First (Some Write) in
+          let found : is_holder d writing (i ∷ hs) ≡ true = subst (λ xs. is_holder d writing xs ≡ true) is opens.1 in
+          let none : y.after.plain.holders ≡ [] = ap (without_holder d writing) is ∙ one_gone writing d i hs (one i hs is) found in
+          inr (rw there (grind (arith, is, none)))
+      steps i hs is e Unregister j so there opens = inl (rw (get-set_same seen.state.seats d (Holding Write) _ there) refl)
+      steps i hs is e u j so there opens = absurd (grind (arith, so))
+
+      -- a step of a third party, which may set a clear flag
+      takes_clear : (q : ℕ) (e : FairCall) (u : FairPoint) (j : Option Hold) → s.holders ≡ [] → is_set seen.state.words ≡ false → is_empty s.starvers ≡ false → slice_get seen.state.seats q ≡ Some (Calling e u j) → let y = sc seen q e u j in IsOpenStep s q y.change
+          → (y.after.plain.holders ≡ []) ⊎ ((y.after.plain.holders ≡ holder q writing ∷ []) × (slice_get y.after.state.seats q ≡ Some (Calling e Unregister j)))
+      takes_clear q e u j none clear some there opens = grind (arith, none, clear, some, opens, get-set_same seen.state.seats q (Calling e Unregister j) _ there)
+
+      some_starve : slice_get seen.state.seats p ≡ Some (Calling c l h) → its_point l → is_empty s.starvers ≡ false
+      some_starve there at =
+          own_some p s.starvers (row_tells (fair_table v cap patience) (fair_notes v cap patience) c l h p s (seen.span p) (λ e. not (is_empty e.starvers)) _ (in_call m k seen p c l h good there).knows (grind (arith, waits, at)))
+
+      beside : (hs : List Holder) → s.holders ≡ hs → slice_get seen.state.seats p ≡ Some (Calling c l h) → its_point l → (q : ℕ) (e : FairCall) (u : FairPoint) (j : Option Hold) → (q ≡ d → ⊥) → slice_get seen.state.seats q ≡ Some (Calling e u j)
+          → let y = sc seen q e u j in IsOpenStep s q y.change → BelongsTo fair y.change → walk.Lower m k f x seen l y l ⊎ walk.Alike m k f x seen l y.after.plain l
+      beside [] is mine at q e u j ne there opens belongs =
+          let y = sc seen q e u j in
+          ⊎_elim
+          (λ (still : y.after.plain.holders ≡ []). inr (ap (due_by p) (still ∙ sym is), omega (arith, ap (λ xs. rank_by xs l (walk.his m k f x seen l)) (still ∙ sym is))))
+          (λ (took : (y.after.plain.holders ≡ holder q writing ∷ []) × (slice_get y.after.state.seats q ≡ Some (Calling e Unregister j))).
+          inl (omega (arith, rank_now y.after l q took.0 _ took.1, rank_free seen l is, rank_two l (walk.his m k f x seen l))))
+          (takes_clear q e u j is (flag ∙ ap (λ (hs : List Holder). not (is_empty hs)) is) (some_starve mine at) there opens)
+      beside (i ∷ hs) is mine at q e u j ne there opens belongs =
+          let kept = leaves_holder s q (sc seen q e u j).change i hs is (one i hs is) (λ e. ne (e ∙ sym (ap (due_by p) is))) opens belongs in
+          inr (ap (due_by p) kept, omega (arith, ap (λ xs. rank_by xs l (walk.his m k f x seen l)) kept))
 
     walks : walk.Walks m k f x
     walks =
         record {
           fine = λ seen q move good fine. tt;
-          keeps = λ seen q move good w. inr (λ c l h at. at);
-          own = λ seen c l h good there at after. own_by seen good seen.plain.holders refl c l h there at;
-          weak = λ seen c l h next at may. absurd (strong c l h next at may);
-          begins = λ seen c l h good w there may. rw there (begins seen good w seen.plain.holders refl c l h there);
-          steps = λ seen c l h good w ne there after. steps seen good w seen.plain.holders refl ne c l h there after.opens;
-          refuses = λ seen c l h next good w there may. absurd (refuses seen good w seen.plain.holders refl c l h next there may);
-          leaks = λ s o h. grind arith;
-          beside = λ seen q c l h good w ne not_due there after. beside seen good w seen.plain.holders refl q c l h not_due there (after.others p ne) after.opens after.belongs;
-          busy = λ seen good w some. busy seen good w seen.plain.holders refl;
+          keeps = λ seen q move l w. inr tt;
+          own = λ seen l w after. own_by seen w.3 l w.0 w.1;
+          weak = λ seen l next at may. absurd (grind (arith, at, may));
+          others = λ seen l w ne.
+              let y = some_holder seen w.3 l ne in
+              let sits = his_sits seen w.3 l y.0 y.1 y.2 in
+              record {
+                begins = λ d i j there may. rw there (rank_begun seen.plain.holders y.0 y.1 l i d j y.2);
+                steps = λ d i j there after. steps seen w.3 l y.0 y.1 y.2 d i j (subst (Sits _) there sits) there after.opens;
+                refuses = λ d i j next there may. absurd (grind (arith, may, subst (Sits _) there sits));
+                busy = λ some. walk.busy_so (fair_table v cap patience) (fair_notes v cap patience) holds_lock _ _ refl (λ h so. grind (arith, so)) sits;
+              };
+          leaks = λ s l h. grind arith;
+          beside = λ seen l q d i j w ne not_due there after. inr (beside seen w.3 l seen.plain.holders refl w.0 w.1 q d i j not_due there after.opens after.belongs);
         }
 
-  wait_at : (p : ℕ) (c : FairCall) (l : FairPoint) (h : Option Hold) → is_waiting (asks_of patience c h) ≡ true → StandsSo (fair_table v cap patience) (fair_notes v cap patience) (λ e. not (is_empty e.starvers)) p c l h → at_wait c l h
-  wait_at p c l h asks stands = grind (arith, asks, stands)
+  its_call_is : (p : ℕ) (c : FairCall) (l : FairPoint) (h : Option Hold) → is_waiting (asks_of patience c h) ≡ true → StandsSo (fair_table v cap patience) (fair_notes v cap patience) (λ e. not (is_empty e.starvers)) p c l h → its_call c h × its_point l
+  its_call_is p c l h asks stands = grind (arith, asks, stands)
 
   pub locks_in_five : (n : ℕ) (past : List (ℕ × Move FairCall V)) (rounds : List (List (ℕ × Move FairCall V))) → LocksInFive m n past rounds
   locks_in_five n past rounds p c l h there asks with_it are few =
       let seen = seen_after m (opening m n) past in
-      let at = wait_at p c l h asks (calls_so (fair_table v cap patience) (fair_notes v cap patience) f n past (λ e. not (is_empty e.starvers)) p c l h there (starves_own p seen.plain.starvers with_it)) in
-      walk.ends m k f (x p) (walks p) (λ seen good w. rank_some seen.plain.holders _ _) n past rounds (walk.waits_at m k f (x p) seen c l h (seat_is m k f n past p _ there) at) tt are
-      (omega (arith, few, rank_few seen.plain.holders (walk.mine m k f (x p) seen) (walk.his m k f (x p) seen)))
+      let at = its_call_is p c l h asks (calls_so (fair_table v cap patience) (fair_notes v cap patience) f n past (λ e. not (is_empty e.starvers)) p c l h there (starves_own p seen.plain.starvers with_it)) in
+      walk.ends m k f (x p c h at.0) (walks p c h at.0) (λ seen l w. (rank_fits seen.plain.holders l _).0) n past rounds l there at.1 tt tt are (λ w. omega (arith, few, (rank_fits seen.plain.holders l (walk.his m k f (x p c h at.0) seen l)).1))
 
   pub deadlock_free : (n : ℕ) (past : List (ℕ × Move FairCall V)) (schedule : ℕ → ℕ × Move FairCall V) → StarversAreDeadlockFree m n past schedule
   deadlock_free n past schedule p c l h there asks with_it fair =

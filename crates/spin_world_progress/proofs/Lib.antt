@@ -1,3 +1,4 @@
+pub mod Names
 pub mod Progress
 pub mod Endless
 pub mod Ticket

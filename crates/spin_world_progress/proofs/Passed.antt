@@ -1,23 +1,6 @@
 -- A `lock` may be passed over again and again, before it has its ticket.
-use Rattle.std.proofs.Common.{◌≡◌, ℕ, zero, suc, ◌+◌, ◌<◌, ◌==◌, ◌||◌, true, false, Some, None, List, [], ◌∷◌, length, nat_lt, slice_get, refl, ap, sym, ◌∙◌, subst, arith}
-use Rattle.std.proofs.lemmas.Bool.{ne_eqb, lt-ltb}
-use Rattle.spin_step.specs.Plain.{ticket_limit}
-use Rattle.spin_model.specs.declared.answer.Answer.{Answer}
-use Rattle.spin_model.specs.declared.place.Seat.TheVariants.{Idle, Calling}
-use Rattle.spin_model.specs.declared.schedule.Move.{Move}
-use Rattle.spin_model.specs.declared.schedule.Move.TheVariants.{Begin, Step}
-use Rattle.spin_model.specs.declared.ticket.TicketWords.{TicketWords}
-use Rattle.spin_model.specs.declared.ticket.TicketCall.{TicketCall}
+use Rattle.spin_world_progress.proofs.Names.{◌≡◌, ℕ, zero, suc, ◌+◌, ◌<◌, ◌==◌, ◌||◌, true, false, Some, None, List, [], ◌∷◌, length, nat_lt, slice_get, refl, ap, sym, ◌∙◌, subst, arith, ne_eqb, lt-ltb, ticket_limit, Answer, Idle, Calling, Move, Begin, Step, TicketWords, TicketCall, TicketPoint, Take, joined, Machine, State, after, at_first, ticket_machine, eqb_self, occurs, IsRound, AreRounds, grants, MayBePassedOver}
 use Rattle.spin_model.specs.declared.ticket.TicketCall.TheVariants.{Lock, Release}
-use Rattle.spin_model.specs.declared.ticket.TicketPoint.{TicketPoint}
-use Rattle.spin_model.specs.declared.ticket.TicketPoint.TheVariants.{Take}
-use Rattle.spin_world_core.specs.Joined.{joined}
-use Rattle.spin_model.specs.Machines.{Machine}
-use Rattle.spin_model.specs.Schedules.{State, after, at_first}
-use Rattle.spin_model.specs.Ticket.{ticket_machine}
-use Rattle.spin_world_core.proofs.Lists.{eqb_self}
-use Rattle.spin_world_progress.specs.Rounds.{occurs, IsRound, AreRounds, grants}
-use Rattle.spin_world_progress.specs.Ticket.{MayBePassedOver}
 use Rattle.spin_world_progress.proofs.Progress.{occurs-append}
 
 module _ {V : Type 0} (v : V) (first : ℕ) where

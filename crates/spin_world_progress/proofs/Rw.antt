@@ -1,45 +1,13 @@
 -- A party that has asked to upgrade is granted it in three rounds: the readers beside it leave at once, each in two.
-use Rattle.spin_world_rw.proofs.Names.{◌≡◌, ℕ, ◌≤◌, ◌==◌, Bool, true, false, Option, Some, None, List, [], ◌∷◌, slice_get, refl, ap, sym, ◌∙◌, arith, Plain, Kind, reading, upgradable, asking, writing, Holder, Change, gets, releases, turns, is_holder, with_kind, count_kind, weight, rw_word, Entries, entries, apply_some, IsOpenStep, IsExclusive, one_of_each, only_asking-word}
-use Rattle.std.proofs.Common.{◌-◌, ◌⊎◌, ◌||◌, filter, subst, inl, inr, ⊎_elim}
-use Rattle.std.proofs.lemmas.List.Sums.{sum_by-cons}
-use Rattle.std.specs.List.{list_any}
-use Rattle.spin_step.specs.Plain.{same_kind, without_holder, comes, effect, apply, is_open, is_open_to, given, Ask, to_read, to_read_upgradable, to_write, to_upgrade, to_upgrade_asked, to_lock_unregistered, to_lock_starving, to_lock_starving_alone}
-use Rattle.spin_step.specs.Parties.{entries_after}
-use Rattle.spin_step.proofs.Entries.{entries-own}
-use Rattle.spin_step.proofs.Exclusive.{Lets, lets}
-use Rattle.spin_step.proofs.Sums.{against, one_of, by_kinds, all_kinds, sum-less}
+use Rattle.spin_step.specs.Plain.{to_read_upgradable, to_write, to_lock_unregistered, to_lock_starving, to_lock_starving_alone, to_upgrade, to_upgrade_asked}
+use Rattle.spin_world_progress.proofs.Names.{◌≡◌, ℕ, ◌≤◌, ◌==◌, Bool, true, false, Option, Some, None, List, [], ◌∷◌, slice_get, refl, ap, sym, ◌∙◌, arith, Plain, Kind, reading, upgradable, asking, writing, Holder, Change, gets, releases, turns, is_holder, with_kind, count_kind, weight, rw_word, entries, apply_some, IsOpenStep, IsExclusive, ◌-◌, ◌⊎◌, ◌||◌, filter, inl, inr, ⊎_elim, sum_by-cons, list_any, same_kind, without_holder, comes, effect, apply, is_open, is_open_to, given, Ask, to_read, entries_after, entries-own, Lets, lets, against, one_of, by_kinds, all_kinds, sum-less, Answer, Done, Hold, Seat, Calling, Next, Continue, Answers, Move, Step, Weak, Machine, after, at_first, goes_on, Seen, Scene, scene_at, opening, seen_after, get-set_same, eqb_self, Invariant, in_call, StandsSo, calls_so, RwCall, Upgrade, RwPoint, Asking, rw_table, rw_machine, rw_notes, rw_keeping, rw_facts, holder_by, Test, grants, refuses_weakly, UpgradesInThree, UpgradesAtLast}
+use Rattle.spin_world_rw.proofs.Names.{Entries, one_of_each, only_asking-word, Release}
 use Rattle.spin_step_more.proofs.Readers.{beside_asking}
 use Rattle.spin_step_more.proofs.Upgrading.{alone_when_gone}
-use Rattle.spin_model.specs.declared.answer.Answer.{Answer}
-use Rattle.spin_model.specs.declared.answer.Answer.TheVariants.{Done}
-use Rattle.spin_model.specs.declared.place.Hold.{Hold}
-use Rattle.spin_model.specs.declared.place.Hold.TheVariants as hold
-use Rattle.spin_model.specs.declared.place.Seat.{Seat}
-use Rattle.spin_model.specs.declared.place.Seat.TheVariants.{Calling}
-use Rattle.spin_model.specs.declared.step.Next.{Next}
-use Rattle.spin_model.specs.declared.step.Next.TheVariants.{Continue, Answers}
-use Rattle.spin_model.specs.declared.schedule.Move.{Move}
-use Rattle.spin_model.specs.declared.schedule.Move.TheVariants.{Step, Weak}
-use Rattle.spin_model.specs.Machines.{Machine}
-use Rattle.spin_model.specs.Schedules.{after, at_first, goes_on}
-use Rattle.spin_world_core.specs.Runs.{Seen, Scene, scene_at, opening}
-use Rattle.spin_world_core.specs.Users.{seen_after}
-use Rattle.spin_model.proofs.Lists.{get-set_same}
-use Rattle.spin_world_core.proofs.Lists.{eqb_self}
-use Rattle.spin_world_core.proofs.Facts.{LocalInvariant, Facts}
-use Rattle.spin_world_core.proofs.Preserved.{Invariant, in_call}
-use Rattle.spin_world_core.proofs.Reached.{seat_is, StandsSo, calls_so}
-use Rattle.spin_step_more.specs.declared.rw_calls.RwCall.{RwCall}
-use Rattle.spin_step_more.specs.declared.rw_calls.RwCall.TheVariants.{Upgrade, Release}
-use Rattle.spin_step_more.specs.declared.rw_calls.RwPoint.{RwPoint}
-use Rattle.spin_step_more.specs.declared.rw_calls.RwPoint.TheVariants.{Asking}
-use Rattle.spin_step_more.specs.RwCalls.{rw_table, rw_machine}
-use Rattle.spin_world_rw.proofs.Owed.{rw_notes, rw_keeping, rw_facts, holder_by}
-use Rattle.spin_world_progress.specs.Rounds.{Test, grants, refuses_weakly}
-use Rattle.spin_world_progress.specs.Rw.{UpgradesInThree, UpgradesAtLast}
+use Rattle.std.proofs.Common.{true≢false}
 use Rattle.spin_world_progress.proofs.Endless.{at_last}
+use Rattle.spin_model.specs.declared.place.Hold.TheVariants as hold
 use Rattle.spin_world_progress.proofs.Leaving as leaving
-use Rattle.spin_world_progress.proofs.Walk as walk
 
 -- While a party asks, a party that doesn't read stays so
 
@@ -64,7 +32,7 @@ none_gets s p q r to_lock_starving alone asks none may = absurd (nobody_comes s 
 none_gets s p q r to_lock_starving_alone alone asks none may = absurd (nobody_comes s p r writing alone asks (lets s r to_lock_starving_alone may))
 none_gets s p q r to_upgrade alone asks none may = with_other q r upgradable writing s.holders refl none
 none_gets s p q r to_upgrade_asked alone asks none may = with_other q r asking writing s.holders refl none
-none_gets s p q r _ alone asks none may = none
+none_gets s p q r ask alone asks none may = none
 
 not_reading : (s : Plain) (p q : ℕ) (c : Change) → IsExclusive s → is_holder p asking s.holders ≡ true → is_holder q reading s.holders ≡ false → is_open s c ≡ true → is_holder q reading (apply s c).holders ≡ false
 not_reading s p q (gets r ask) alone asks none may = none_gets s p q r ask alone asks none may
@@ -79,14 +47,10 @@ not_reading_some : (s : Plain) (p q r : ℕ) (step : Option Change) → IsExclus
 not_reading_some s p q r None alone asks none may = none
 not_reading_some s p q r (Some c) alone asks none may = not_reading s p q c alone asks none may.1
 
--- Nobody reads where nobody is a reader
-rest_none : (q : ℕ) (h : Holder) (hs : List Holder) → is_holder q reading (h ∷ hs) ≡ false → is_holder q reading hs ≡ false
-rest_none q h hs none = grind (arith, none)
-
 no_readers : (hs : List Holder) → ((q : ℕ) → is_holder q reading hs ≡ false) → count_kind reading hs ≡ 0
 no_readers [] none = refl
 no_readers (h ∷ hs) none =
-    grind (arith, none h.party, eqb_self h.party, sum_by-cons (λ (g : Holder). one_of reading g.kind) h hs, no_readers hs (λ q. rest_none q h hs (none q)))
+    grind (arith, none h.party, eqb_self h.party, sum_by-cons (λ (g : Holder). one_of reading g.kind) h hs, no_readers hs (λ q. grind (arith, none q)))
 
 abbrev pub any_of : Kind → Entries → Bool
 any_of kind e = list_any (λ h. same_kind kind h.kind) e.holders
@@ -95,22 +59,13 @@ pub any_own : (kind : Kind) (q : ℕ) (hs : List Holder) → list_any (λ h. sam
 any_own kind q [] = refl
 any_own kind q (h ∷ hs) = grind (arith, any_own kind q hs)
 
-abbrev at_upgrade : RwCall → RwPoint → Option Hold → Type 0
-at_upgrade Upgrade Asking (Some hold.Upgradable) = Unit {0}
-at_upgrade _ l h = ⊥
-
-abbrev one_step : Option (Seat RwCall RwPoint) → ℕ
-one_step o = 1
+abbrev at_upgrade : RwPoint → Type 0
+at_upgrade Asking = Unit {0}
+at_upgrade _ = ⊥
 
 module _ {V : Type 0} (v : V) (cap : ℕ) where
   abbrev m : Machine ℕ V RwCall RwPoint (Answer V)
   m = rw_machine v cap
-
-  abbrev k : LocalInvariant V RwCall RwPoint
-  k = rw_keeping v cap
-
-  abbrev f : Facts m k
-  f = rw_facts v cap
 
   abbrev World : Type 0
   World = Seen ℕ V RwCall RwPoint
@@ -119,93 +74,76 @@ module _ {V : Type 0} (v : V) (cap : ℕ) where
     abbrev goal : Test V RwCall RwPoint (Answer V)
     goal q move o x = grants m p q move o x || refuses_weakly p q move o x
 
-    weak : (seen : World) (c : RwCall) (h : Option Hold) (next : Next RwPoint (Answer V)) → let n = goes_on seen.state p c h next in goal p Weak n.outcome (slice_get n.next.seats p) ≡ true
-    weak seen c h (Continue l) = rw (eqb_self p) refl
-    weak seen c h (Answers a rest) = grind (arith, eqb_self p)
+    weak : (seen : World) (next : Next RwPoint (Answer V)) → let n = goes_on seen.state p Upgrade (Some hold.Upgradable) next in goal p Weak n.outcome (slice_get n.next.seats p) ≡ true
+    weak seen (Continue l) = rw (eqb_self p) refl
+    weak seen (Answers a rest) = grind (arith, eqb_self p)
 
-    abbrev sc : World → ℕ → RwCall → RwPoint → Option Hold → Scene ℕ V RwCall RwPoint (Answer V)
-    sc seen q c l h = scene_at m seen q Step (Some (Calling c l h))
+    abbrev its : Option (Seat RwCall RwPoint)
+    its = Some (Calling Upgrade Asking (Some hold.Upgradable))
 
-    abbrev At : World → Type 0
-    At seen = slice_get seen.state.seats p ≡ Some (Calling Upgrade Asking (Some hold.Upgradable))
+    module _ (seen : World) (good : Invariant m (rw_keeping v cap) seen) (there : slice_get seen.state.seats p ≡ its) where
+      abbrev x : Scene ℕ V RwCall RwPoint (Answer V)
+      x = scene_at m seen p Step its
 
-    abbrev Reached : World → Type 0
-    Reached seen = let x = sc seen p Upgrade Asking (Some hold.Upgradable) in goal p Step x.outcome (slice_get x.after.state.seats p) ≡ true
+      own : (b : Bool) → (seen.state.words == weight asking) ≡ b → (goal p Step x.outcome (slice_get x.after.state.seats p) ≡ true) ⊎ ((slice_get x.after.state.seats p ≡ its) × (b ≡ false))
+      own true is = inl (rw (is, eqb_self p) refl)
+      own false is = inr (rw is (get-set_same seen.state.seats p (Calling Upgrade Asking (Some hold.Upgradable)) _ there), refl)
 
-    own : (seen : World) → At seen → (b : Bool) → (seen.state.words == weight asking) ≡ b
-        → Reached seen ⊎ (slice_get (sc seen p Upgrade Asking (Some hold.Upgradable)).after.state.seats p ≡ Some (Calling Upgrade Asking (Some hold.Upgradable)))
-    own seen there true is = inl (rw (is, eqb_self p) refl)
-    own seen there false is = inr (rw is (get-set_same seen.state.seats p (Calling Upgrade Asking (Some hold.Upgradable)) _ there))
+      asks : is_holder p asking seen.plain.holders ≡ true
+      asks = holder_by p asking seen.plain (in_call m (rw_keeping v cap) seen p Upgrade Asking (Some hold.Upgradable) good there).knows.0.stand
 
-    asks : (seen : World) → Invariant m k seen → At seen → is_holder p asking seen.plain.holders ≡ true
-    asks seen good there = holder_by p asking seen.plain (in_call m k seen p Upgrade Asking (Some hold.Upgradable) good there).knows.0.stand
+      -- nobody comes to read
+      no_reader : (q : ℕ) (step : Option Change) → any_of reading (entries q seen.plain) ≡ false → IsOpenStep seen.plain q step → any_of reading (entries_after seen.plain step (entries q seen.plain)) ≡ false
+      no_reader q step none opens =
+          let after = apply_some seen.plain step in
+          ap (any_of reading) (sym (entries-own seen.plain q step opens))
+          ∙ (any_own reading q after.holders ∙ not_reading_some seen.plain p q q step good.exclusive asks (sym (any_own reading q seen.plain.holders) ∙ none) opens)
 
-    -- nobody comes to read
-    no_reader : (seen : World) (q : ℕ) (step : Option Change) → Invariant m k seen → At seen → any_of reading (entries q seen.plain) ≡ false → IsOpenStep seen.plain q step
-        → any_of reading (entries_after seen.plain step (entries q seen.plain)) ≡ false
-    no_reader seen q step good there none opens =
-        let after = apply_some seen.plain step in
-        ap (any_of reading) (sym (entries-own seen.plain q step opens))
-        ∙ (any_own reading q after.holders ∙ not_reading_some seen.plain p q q step good.exclusive (asks seen good there) (sym (any_own reading q seen.plain.holders) ∙ none) opens)
+      -- without readers the word is that of the one that asks
+      open_now : ((q : ℕ) → any_of reading (entries q seen.plain) ≡ false) → (seen.state.words == weight asking) ≡ true
+      open_now none =
+          let word : rw_word seen.plain ≡ seen.state.words = cc (good.encodes) in
+          let nobody : (q : ℕ) → is_holder q reading seen.plain.holders ≡ false = λ q. sym (any_own reading q seen.plain.holders) ∙ none q in
+          sym (only_asking-word seen.plain p seen.state.words (one_of_each seen.plain good.exclusive) asks word) ∙ (alone_when_gone seen.plain p good.exclusive asks).1 (no_readers seen.plain.holders nobody)
 
-    -- without readers the word is that of the one that asks
-    open_now : (seen : World) → Invariant m k seen → At seen → ((q : ℕ) → any_of reading (entries q seen.plain) ≡ false) → (seen.state.words == weight asking) ≡ true
-    open_now seen good there none =
-        let found = asks seen good there in
-        let word : rw_word seen.plain ≡ seen.state.words = cc (good.encodes) in
-        let nobody : (q : ℕ) → is_holder q reading seen.plain.holders ≡ false = λ q. sym (any_own reading q seen.plain.holders) ∙ none q in
-        sym (only_asking-word seen.plain p seen.state.words (one_of_each seen.plain good.exclusive) found word) ∙ (alone_when_gone seen.plain p good.exclusive found).1 (no_readers seen.plain.holders nobody)
-
-    leaves : leaving.Leaves (rw_table v cap) (rw_notes v cap) f goal p at_upgrade (any_of reading)
+    leaves : leaving.Leaves (rw_table v cap) (rw_notes v cap) (rw_facts v cap) goal p Upgrade (Some hold.Upgradable) at_upgrade (any_of reading) (λ l. 1) 1
     leaves =
         record {
           none = refl;
           reads = λ q h is. grind (arith, is);
           own = own_at;
-          weak = λ seen c l h next at may. weak seen c h next;
+          weak = λ seen l next at may. weak seen next;
           comes = comes_at;
           releases = releases_at;
-          strong = λ q c l h next so may. grind (arith, so, may);
+          strong = λ q d i j next so may. grind (arith, so, may);
+          few = λ l. omega arith;
+          some = λ l. omega arith;
         }
       where
-        own_at : (seen : World) (c : RwCall) (l : RwPoint) (h : Option Hold) → Invariant m k seen → slice_get seen.state.seats p ≡ Some (Calling c l h) → at_upgrade c l h
-            → let x = sc seen p c l h in (goal p Step x.outcome (slice_get x.after.state.seats p) ≡ true) ⊎ ((i : RwPoint) × (slice_get x.after.state.seats p ≡ Some (Calling c i h)) × at_upgrade c i h)
-        own_at seen Upgrade Asking (Some hold.Upgradable) good there at =
-            ⊎_elim (λ (r : Reached seen). inl r)
-            (λ (still : slice_get (sc seen p Upgrade Asking (Some hold.Upgradable)).after.state.seats p ≡ Some (Calling Upgrade Asking (Some hold.Upgradable))). inr (Asking, still, tt))
-            (own seen there (seen.state.words == weight asking) refl)
-        own_at seen c l h good there at = absurd (grind (arith, at))
+        own_at : (seen : World) (l : RwPoint) → Invariant m (rw_keeping v cap) seen → slice_get seen.state.seats p ≡ Some (Calling Upgrade l (Some hold.Upgradable)) → at_upgrade l → let x = scene_at m seen p Step (Some (Calling Upgrade l (Some hold.Upgradable))) in
+            (goal p Step x.outcome (slice_get x.after.state.seats p) ≡ true) ⊎ ((i : RwPoint) × (slice_get x.after.state.seats p ≡ Some (Calling Upgrade i (Some hold.Upgradable))) × at_upgrade i × (((q : ℕ) → any_of reading (entries q seen.plain) ≡ false) → 1 ≤ 1 - 1))
+        own_at seen Asking good there at =
+            ⊎_elim inl (λ on. inr (Asking, on.0, tt, λ none. absurd (true≢false (sym (open_now seen good there none) ∙ on.1)))) (own seen good there (seen.state.words == weight asking) refl)
+        own_at seen l good there at = absurd (grind (arith, at))
 
-        seat_of : (seen : World) (o : Option (Seat RwCall RwPoint)) → walk.AtSeat m k f (leaving.leaver (rw_table v cap) (rw_notes v cap) f goal p at_upgrade (any_of reading) p) seen o → o ≡ Some (Calling Upgrade Asking (Some hold.Upgradable))
-        seat_of seen (Some (Calling Upgrade Asking (Some hold.Upgradable))) at = refl
-        seat_of seen o at = absurd (grind (arith, at))
-
-        comes_at : (seen : World) (q : ℕ) (c : RwCall) (l : RwPoint) (h : Option Hold) → Invariant m k seen → leaving.Waits (rw_table v cap) (rw_notes v cap) f goal p at_upgrade (any_of reading) seen
-            → slice_get seen.state.seats q ≡ Some (Calling c l h) → any_of reading (entries q seen.plain) ≡ false → let x = sc seen q c l h in IsOpenStep seen.plain q x.change
-            → (goal q Step x.outcome (slice_get x.after.state.seats q) ≡ true) ⊎ (any_of reading (entries_after seen.plain x.change (entries q seen.plain)) ≡ false)
-        comes_at seen q c l h good w there none opens = inr (no_reader seen q (sc seen q c l h).change good (seat_of seen _ w) none opens)
+        comes_at : (seen : World) (l : RwPoint) (q : ℕ) (d : RwCall) (i : RwPoint) (j : Option Hold) → leaving.Waits (rw_table v cap) (rw_notes v cap) (rw_facts v cap) goal p Upgrade (Some hold.Upgradable) at_upgrade (any_of reading) (λ l. 1) 1 seen l
+            → slice_get seen.state.seats q ≡ Some (Calling d i j) → any_of reading (entries q seen.plain) ≡ false → let y = scene_at m seen q Step (Some (Calling d i j)) in IsOpenStep seen.plain q y.change
+            → (goal q Step y.outcome (slice_get y.after.state.seats q) ≡ true) ⊎ (any_of reading (entries_after seen.plain y.change (entries q seen.plain)) ≡ false)
+        comes_at seen Asking q d i j w there none opens = inr (no_reader seen w.3 w.0 q (scene_at m seen q Step (Some (Calling d i j))).change none opens)
+        comes_at seen l q d i j w there none opens = absurd (grind (arith, w.1))
 
         releases_at : (q : ℕ) (c : RwCall) (l : RwPoint) (h : Option Hold) (w : ℕ) (u : Option V) → StandsSo (rw_table v cap) (rw_notes v cap) (any_of reading) q c l h → (a : Answer V) × ((m.step w u c l h).next ≡ Answers a None)
         releases_at q Release l (Some hold.Read) w u so = (Done, refl)
         releases_at q c l h w u so = absurd (grind (arith, so))
 
-    free : leaving.Free (rw_table v cap) (rw_notes v cap) f goal p at_upgrade (any_of reading) leaves one_step 1
-    free = record { few = λ o. omega arith; some = λ o. omega arith; step = step_at }
-      where
-        step_at : (seen : World) (c : RwCall) (l : RwPoint) (h : Option Hold) → Invariant m k seen → slice_get seen.state.seats p ≡ Some (Calling c l h) → at_upgrade c l h → ((q : ℕ) → any_of reading (entries q seen.plain) ≡ false)
-            → let x = sc seen p c l h in (goal p Step x.outcome (slice_get x.after.state.seats p) ≡ true) ⊎ ((i : RwPoint) × (slice_get x.after.state.seats p ≡ Some (Calling c i h)) × at_upgrade c i h × (1 ≤ 1 - 1))
-        step_at seen Upgrade Asking (Some hold.Upgradable) good there at none = inl (rw (open_now seen good there none, eqb_self p) refl)
-        step_at seen c l h good there at none = absurd (grind (arith, at))
-
-  asking_at : (p : ℕ) (c : RwCall) (l : RwPoint) (h : Option Hold) → StandsSo (rw_table v cap) (rw_notes v cap) (any_of asking) p c l h → at_upgrade c l h
+  asking_at : (p : ℕ) (c : RwCall) (l : RwPoint) (h : Option Hold) → StandsSo (rw_table v cap) (rw_notes v cap) (any_of asking) p c l h → Some (Calling c l h) ≡ Some (Calling Upgrade Asking (Some hold.Upgradable))
   asking_at p c l h stands = grind (arith, stands)
 
   pub upgrades_in_three : (n : ℕ) (past : List (ℕ × Move RwCall V)) (rounds : List (List (ℕ × Move RwCall V))) → UpgradesInThree m n past rounds
   upgrades_in_three n past rounds p c l h there found are long =
       let seen = seen_after m (opening m n) past in
-      let at = asking_at p c l h (calls_so (rw_table v cap) (rw_notes v cap) f n past (any_of asking) p c l h there (any_own asking p seen.plain.holders ∙ found)) in
-      leaving.two_rounds (rw_table v cap) (rw_notes v cap) f (goal p) p at_upgrade (any_of reading) (leaves p) one_step 1 (free p) n past rounds
-      (subst (walk.AtSeat m k f (leaving.leaver (rw_table v cap) (rw_notes v cap) f (goal p) p at_upgrade (any_of reading) p) seen) (sym (seat_is m k f n past p _ there)) at) are long
+      let at = asking_at p c l h (calls_so (rw_table v cap) (rw_notes v cap) (rw_facts v cap) n past (any_of asking) p c l h there (any_own asking p seen.plain.holders ∙ found)) in
+      leaving.two_rounds (rw_table v cap) (rw_notes v cap) (rw_facts v cap) (goal p) p Upgrade (Some hold.Upgradable) at_upgrade (any_of reading) (λ l. 1) 1 (leaves p) n past rounds Asking (there ∙ at) tt are long
 
   pub upgrades_at_last : (n : ℕ) (past : List (ℕ × Move RwCall V)) (schedule : ℕ → ℕ × Move RwCall V) → UpgradesAtLast m n past schedule
   upgrades_at_last n past schedule p c l h there found fair =

@@ -1,43 +1,10 @@
 -- A read-write lock is free of deadlock: each round takes a move from those who hold. A reader is due first; where there is none, one party holds alone, and what it goes for is granted.
-use Rattle.spin_world_rw.proofs.Names.{◌≡◌, ℕ, ◌+◌, ◌≤◌, ◌==◌, Bool, true, false, Option, Some, None, List, [], ◌∷◌, length, slice_get, refl, ap, sym, ◌∙◌, arith, Plain, Kind, reading, upgradable, Holder, Change, releases, turns, is_holder, count_kind, weight, rw_word, Entries, entries, apply_some, IsOpenStep, IsExclusive, is_empty}
-use Rattle.std.proofs.Common.{◌-◌, ◌⊎◌, ◌||◌, filter, not, subst, inl, inr, ⊎_elim, nat_lt, min, if◌then◌else◌}
-use Rattle.std.proofs.lemmas.Bool.{lt-ltb, and_parts}
-use Rattle.std.proofs.lemmas.List.Sums.{sum_by-cons}
-use Rattle.std.specs.Prelude.{sum_by}
-use Rattle.std.specs.List.{list_any}
-use Rattle.spin_step.specs.Plain.{same_kind, may_turn}
-use Rattle.spin_step.proofs.Sums.{sum_kinds, upgrader, all_kinds, by_kinds, sum-less, sum-turned}
-use Rattle.spin_step_more.specs.Readers.{read, read_upgradable, reader_limit}
-use Rattle.spin_model.specs.Acts.{is_waiting}
-use Rattle.spin_model.specs.declared.answer.Answer.{Answer}
-use Rattle.spin_model.specs.declared.place.Hold.{Hold}
-use Rattle.spin_model.specs.declared.place.Seat.{Seat}
-use Rattle.spin_model.specs.declared.place.Seat.TheVariants.{Calling, Holding, Leaked}
-use Rattle.spin_model.specs.declared.step.Next.{Next}
-use Rattle.spin_model.specs.declared.step.Next.TheVariants.{Continue, Answers}
-use Rattle.spin_model.specs.declared.schedule.Move.{Move}
-use Rattle.spin_model.specs.declared.schedule.Move.TheVariants.{Step, Weak}
-use Rattle.spin_model.specs.Calls.{Mark}
-use Rattle.spin_model.specs.Machines.{Machine}
-use Rattle.spin_model.specs.Schedules.{after, at_first, goes_on, resting}
-use Rattle.spin_model.proofs.Lists.{get-set_same}
-use Rattle.spin_world_core.specs.Runs.{Seen, Scene, scene_at, opening}
-use Rattle.spin_world_core.specs.Users.{seen_after}
-use Rattle.spin_world_core.proofs.Lists.{eqb_self}
-use Rattle.spin_world_core.proofs.Facts.{LocalInvariant, Facts}
-use Rattle.spin_world_core.proofs.Preserved.{Invariant}
-use Rattle.spin_world_core.proofs.Reached.{calls, seat_is}
-use Rattle.spin_step_more.specs.declared.rw_calls.RwCall.{RwCall}
-use Rattle.spin_step_more.specs.declared.rw_calls.RwCall.TheVariants.{Read, UpgradeableRead, Write, Upgrade}
-use Rattle.spin_step_more.specs.declared.rw_calls.RwPoint.{RwPoint}
-use Rattle.spin_step_more.specs.declared.rw_calls.RwPoint.TheVariants.{First, Exchange}
-use Rattle.spin_step_more.specs.RwCalls.{rw_table, rw_machine, asks_of}
-use Rattle.spin_world_rw.proofs.Owed.{rw_notes, rw_keeping, rw_facts}
-use Rattle.spin_world_progress.specs.Rounds.{Test, grants_any}
-use Rattle.spin_world_progress.specs.Rw.{refuses_any, rounds_left, GrantsSomebody, RwIsDeadlockFree}
+use Rattle.spin_world_progress.proofs.Names.{resting, ◌≡◌, ℕ, ◌+◌, ◌≤◌, ◌==◌, Bool, true, false, Option, Some, None, List, [], ◌∷◌, length, slice_get, refl, ap, sym, ◌∙◌, arith, Plain, Kind, reading, Holder, Change, releases, turns, is_holder, count_kind, weight, rw_word, apply_some, IsOpenStep, IsExclusive, ◌-◌, ◌⊎◌, ◌||◌, subst, inl, inr, ⊎_elim, nat_lt, min, if◌then◌else◌, lt-ltb, and_parts, sum_by-cons, same_kind, may_turn, sum_kinds, upgrader, all_kinds, by_kinds, sum-less, sum-turned, read, read_upgradable, reader_limit, is_waiting, Answer, Hold, Seat, Calling, Next, Continue, Answers, Move, Step, Weak, Mark, Machine, after, at_first, goes_on, get-set_same, Seen, Scene, scene_at, opening, seen_after, eqb_self, LocalInvariant, Facts, Invariant, calls, RwCall, Read, UpgradeableRead, RwPoint, rw_table, rw_machine, rw_notes, rw_keeping, rw_facts, Test, grants_any, refuses_any, rounds_left, GrantsSomebody, RwIsDeadlockFree}
+use Rattle.spin_world_rw.proofs.Names.{Write, Exchange}
+use Rattle.spin_step_more.specs.RwCalls.{asks_of}
+use Rattle.spin_step_more.specs.declared.rw_calls.RwPoint.TheVariants.{First}
+use Rattle.std.proofs.Common.{sum_by}
 use Rattle.spin_world_progress.proofs.Endless.{at_last}
-use Rattle.spin_world_progress.proofs.Flag.{holds_lock}
-use Rattle.spin_world_progress.proofs.Progress.{is_busy}
 use Rattle.spin_world_progress.proofs.Rw.{any_of, any_own}
 use Rattle.spin_world_progress.proofs.Walk.{Wait}
 use Rattle.spin_world_progress.proofs.Walk as walk
@@ -45,23 +12,30 @@ use Rattle.spin_world_progress.proofs.Walk as walk
 abbrev RwSeat : Type 0
 RwSeat = Seat RwCall RwPoint
 
-abbrev at_come : RwCall → RwPoint → Option Hold → Type 0
-at_come Read l None = Unit {0}
-at_come UpgradeableRead l None = Unit {0}
-at_come Write l None = Unit {0}
-at_come _ l h = ⊥
+abbrev at_come : RwCall → Type 0
+at_come Read = Unit {0}
+at_come UpgradeableRead = Unit {0}
+at_come Write = Unit {0}
+at_come _ = ⊥
 
--- who is due among those who hold: the first that reads, or else the first
-abbrev due_of : ℕ → List Holder → ℕ
-due_of d [] = d
-due_of d (h ∷ hs) = if same_kind reading h.kind then h.party else due_of d hs
+-- the first that reads, or else the first
+abbrev pick : Holder → List Holder → Holder
+pick d [] = d
+pick d (h ∷ hs) = if same_kind reading h.kind then h else pick d hs
 
+-- who is due
 abbrev due_by : ℕ → List Holder → ℕ
 due_by p [] = p
-due_by p (h ∷ hs) = due_of h.party (h ∷ hs)
+due_by p (h ∷ hs) = (pick h (h ∷ hs)).party
 
 abbrev left : List Holder → ℕ
 left hs = sum_kinds rounds_left hs
+
+-- what its step function answers
+abbrev lets : ℕ → RwCall → ℕ → Option ℕ
+lets cap Read w = read cap w
+lets cap UpgradeableRead w = read_upgradable cap w
+lets cap c w = None
 
 -- one less where the one that is due is in a call
 abbrev in_call : Option RwSeat → ℕ
@@ -69,31 +43,14 @@ in_call (Some (Calling c l h)) = 1
 in_call _ = 0
 
 -- how many steps it makes where nobody holds
-abbrev own_rank : Option RwSeat → ℕ
-own_rank (Some (Calling Write l h)) = 1
-own_rank (Some (Calling c (Exchange k) h)) = if k == 0 then 1 else 2
-own_rank o = 2
+abbrev own_rank : RwCall → RwPoint → ℕ
+own_rank Write l = 1
+own_rank c (Exchange k) = if k == 0 then 1 else 2
+own_rank c l = 2
 
-abbrev rank_by : List Holder → Option RwSeat → Option RwSeat → ℕ
-rank_by [] mine his = own_rank mine
-rank_by (h ∷ hs) mine his = 2 + left (h ∷ hs) - in_call his
-
-kind_some : (k : Kind) → 2 ≤ rounds_left k
-kind_some k = grind arith
-
-rank_most : (hs : List Holder) (mine his : Option RwSeat) → rank_by hs mine his ≤ 2 + left hs
-rank_most [] mine his = grind arith
-rank_most (h ∷ hs) mine his = grind arith
-
-rank_least : (hs : List Holder) (i : Holder) (rest : List Holder) (mine his : Option RwSeat) → hs ≡ i ∷ rest → 1 + left hs ≤ rank_by hs mine his
-rank_least hs i rest mine his some = grind (arith, some)
-
-rank_some : (hs : List Holder) (mine his : Option RwSeat) → 1 ≤ rank_by hs mine his
-rank_some [] mine his = grind arith
-rank_some (h ∷ hs) mine his = omega (arith, rank_least (h ∷ hs) h hs mine his refl)
-
-turn_less : (j k : Kind) → may_turn j k ≡ true → rounds_left k + 2 ≤ rounds_left j
-turn_less j k may = grind (arith, may)
+abbrev rank_by : List Holder → RwCall → RwPoint → Option RwSeat → ℕ
+rank_by [] c l his = own_rank c l
+rank_by (h ∷ hs) c l his = 2 + left (h ∷ hs) - in_call his
 
 -- whoever leaves or turns takes two moves or more
 abbrev is_less : Option Change → Bool
@@ -102,48 +59,31 @@ is_less (Some (turns q j k)) = true
 is_less _ = false
 
 less_left : (s : Plain) (q : ℕ) (step : Option Change) → IsOpenStep s q step → is_less step ≡ true → left (apply_some s step).holders + 2 ≤ left s.holders
-less_left s q (Some (releases r k)) opens is = omega (arith, sum-less rounds_left r k s.holders opens.1, kind_some k)
+less_left s q (Some (releases r k)) opens is = grind (arith, sum-less rounds_left r k s.holders opens.1)
 less_left s q (Some (turns r j k)) opens is =
     let may = and_parts (is_holder r j s.holders) (may_turn j k) opens.1 in
-    omega (arith, sum-turned rounds_left r j k s.holders may.0, turn_less j k may.1)
+    grind (arith, sum-turned rounds_left r j k s.holders may.0, may.1)
 less_left s q step opens is = absurd (grind (arith, is))
 
--- the one that is due reads, or nobody does
-due_cases : (d : ℕ) (hs : List Holder) → (is_holder (due_of d hs) reading hs ≡ true) ⊎ ((count_kind reading hs ≡ 0) × (due_of d hs ≡ d))
-due_cases d [] = inr (refl, refl)
-due_cases d (h ∷ hs) = grind (arith, due_cases d hs, eqb_self h.party)
+picked : (d : Holder) (hs : List Holder) → ((is_holder (pick d hs).party (pick d hs).kind hs ≡ true) × (same_kind reading (pick d hs).kind ≡ true)) ⊎ ((count_kind reading hs ≡ 0) × (pick d hs ≡ d))
+picked d [] = inr (refl, refl)
+picked d (h ∷ hs) = grind (arith, picked d hs, eqb_self h.party)
 
-some_any : (kind : Kind) (xs : List Holder) → list_any (λ h. same_kind kind h.kind) xs ≡ true → not (is_empty xs) ≡ true
-some_any kind [] found = found
-some_any kind (x ∷ xs) found = refl
+holds_picked : (h : Holder) (hs : List Holder) → let j = pick h (h ∷ hs) in is_holder j.party j.kind (h ∷ hs) ≡ true
+holds_picked h hs = grind (arith, picked h (h ∷ hs), eqb_self h.party)
 
-due_holds : (p : ℕ) (h : Holder) (hs : List Holder) → not (is_empty (filter (λ i. i.party == due_by p (h ∷ hs)) (h ∷ hs))) ≡ true
-due_holds p h hs =
-    ⊎_elim
-    (λ (reads : is_holder (due_of h.party (h ∷ hs)) reading (h ∷ hs) ≡ true). some_any reading _ (any_own reading (due_of h.party (h ∷ hs)) (h ∷ hs) ∙ reads))
-    (λ (none : (count_kind reading (h ∷ hs) ≡ 0) × (due_of h.party (h ∷ hs) ≡ h.party)). subst (λ d. not (is_empty (filter (λ i. i.party == d) (h ∷ hs))) ≡ true) (sym none.1) (rw (eqb_self h.party) refl))
-    (due_cases h.party (h ∷ hs))
-
--- of one that holds alone
-alone_any : (h : Holder) → list_any (λ i. same_kind h.kind i.kind) (filter (λ i. i.party == h.party) (h ∷ [])) ≡ true
-alone_any h = grind (arith, eqb_self h.party)
-
-alone_is : (h : Holder) (hs : List Holder) → length (h ∷ hs) ≤ 1 → hs ≡ []
+alone_is : (h : Holder) (hs : List Holder) → length (h ∷ hs) ≤ 1 → h ∷ hs ≡ h ∷ []
 alone_is h [] one = refl
 alone_is h (i ∷ hs) one = absurd (omega (arith, one))
 
-not_reading : (h : Holder) → count_kind reading (h ∷ []) ≡ 0 → same_kind reading h.kind ≡ false
-not_reading h none = grind (arith, none)
+rank_begun : (hs : List Holder) (i : Holder) (rest : List Holder) (c d : RwCall) (l e : RwPoint) (j : Option Hold) → hs ≡ i ∷ rest → rank_by hs c l (Some (Calling d e j)) ≤ rank_by hs c l (Some (resting j)) - 1
+rank_begun hs i rest c d l e j some = grind (arith, some)
 
-leak_same : (hs : List Holder) (mine : Option RwSeat) (h : Hold) → rank_by hs mine (Some (Leaked h)) ≤ rank_by hs mine (Some (Holding h))
-leak_same [] mine h = omega arith
-leak_same (i ∷ hs) mine h = omega arith
+rank_fits : (hs : List Holder) (c : RwCall) (l : RwPoint) (his : Option RwSeat) → (1 ≤ rank_by hs c l his) × (rank_by hs c l his ≤ 2 + left hs)
+rank_fits hs c l his = grind arith
 
-rank_set : (hs : List Holder) (i : Holder) (rest : List Holder) (mine other his : Option RwSeat) → hs ≡ i ∷ rest → rank_by hs mine his ≤ rank_by hs other his
-rank_set hs i rest mine other his some = grind (arith, some)
-
-rank_less : (hs later : List Holder) (i : Holder) (rest : List Holder) (mine other his others : Option RwSeat) → hs ≡ i ∷ rest → left later + 2 ≤ left hs → rank_by later mine his ≤ rank_by hs other others - 1
-rank_less hs later i rest mine other his others some less = omega (arith, rank_most later mine his, rank_least hs i rest other others some, less)
+rank_less : (hs later : List Holder) (i : Holder) (rest : List Holder) (c : RwCall) (l : RwPoint) (his others : Option RwSeat) → hs ≡ i ∷ rest → left later + 2 ≤ left hs → rank_by later c l his ≤ rank_by hs c l others - 1
+rank_less hs later i rest c l his others some less = grind (arith, some, less, (rank_fits later c l his).1)
 
 -- and then one holds alone
 one_alone : (s : Plain) → IsExclusive s → count_kind reading s.holders ≡ 0 → length s.holders ≤ 1
@@ -182,178 +122,127 @@ module _ {V : Type 0} (v : V) (cap : ℕ) (some : 1 ≤ cap) where
   room : nat_lt 0 (min cap reader_limit) ≡ true
   room = lt-ltb 0 (min cap reader_limit) (omega (arith, some))
 
-  reads : read cap 0 ≡ Some (weight reading)
-  reads = rw room refl
-
-  reads_upgradable : read_upgradable cap 0 ≡ Some (weight upgradable)
-  reads_upgradable = rw room refl
-
-  module _ (p : ℕ) where
+  module _ (p : ℕ) (c : RwCall) (comes : at_come c) where
     abbrev x : Wait ℕ V RwCall RwPoint (Answer V)
-    x = record { goal = goal; party = p; At = λ seen. at_come; Fine = λ seen. Unit {0}; due = λ s mine. due_by p s.holders; rank = λ s. rank_by s.holders }
-
-    rank_free : (y : World) → y.plain.holders ≡ [] → (o : Option RwSeat) → slice_get y.state.seats p ≡ o → walk.rank m k f x y ≡ own_rank o
-    rank_free y none o at = cc (none, at)
-
-    come_on : (c : RwCall) (l : RwPoint) (h : Option Hold) (i : RwPoint) → at_come c l h → at_come c i h
-    come_on c l h i at = grind (arith, at)
+    x = record { goal = goal; party = p; call = c; hold = None; At = λ l. Unit {0}; Known = λ seen. Unit {0}; Fine = λ seen. Unit {0}; due = λ s l. due_by p s.holders; rank = λ s. rank_by s.holders c }
 
     module _ (seen : World) (good : Invariant m k seen) where
       abbrev s : Plain
       s = seen.plain
 
-      abbrev Sits : (Entries → Bool) → ℕ → Option RwSeat → Type 0
-      Sits test d o = walk.SitsSo (rw_table v cap) (rw_notes v cap) test d o
-
-      sits_at : (test : Entries → Bool) (d : ℕ) → test (entries d s) ≡ true → Sits test d (slice_get seen.state.seats d)
-      sits_at test d found = walk.sits_so (rw_table v cap) (rw_notes v cap) test d s (seen.span d) _ (good.parties d).stands (good.parties d).knows found
-
-      -- its own step: where it goes on, as the step function lets it in or does not
-      abbrev lets_by : RwCall → ℕ → Option ℕ
-      lets_by Read w = read cap w
-      lets_by UpgradeableRead w = read_upgradable cap w
-      lets_by c w = None
-
-      abbrev onward : Option ℕ → RwPoint
-      onward (Some to) = Exchange seen.state.words
-      onward None = First
-
-      own_step : (c : RwCall) (l : RwPoint) (h : Option Hold) (o : Option ℕ) → lets_by c seen.state.words ≡ o → slice_get seen.state.seats p ≡ Some (Calling c l h) → at_come c l h
-          → Grants seen p c l h ⊎ ((slice_get (sc seen p c l h).after.state.seats p ≡ Some (Calling c (onward o) h)) × ((sc seen p c l h).after.plain ≡ s))
-      own_step c l h o is there at = grind (arith, at, is, get-set_same seen.state.seats p (Calling c (onward o) h) _ there)
-
-      -- where nobody holds
-      abbrev Free : RwCall → RwPoint → Option Hold → Type 0
-      Free c l h = Grants seen p c l h ⊎ ((slice_get (sc seen p c l h).after.state.seats p ≡ Some (Calling c (Exchange 0) h)) × ((sc seen p c l h).after.plain ≡ s) × (own_rank (Some (Calling c l h)) ≡ 2) × (own_rank (Some (Calling c (Exchange 0) h)) ≡ 1))
-
-      free_step : (c : RwCall) (l : RwPoint) (h : Option Hold) → slice_get seen.state.seats p ≡ Some (Calling c l h) → at_come c l h → seen.state.words ≡ 0 → Free c l h
-      free_step c l h there at zero = grind (arith, at, zero, reads, reads_upgradable, get-set_same seen.state.seats p (Calling c (Exchange 0) h) _ there)
-
-      free : (c : RwCall) (l : RwPoint) (h : Option Hold) → slice_get seen.state.seats p ≡ Some (Calling c l h) → at_come c l h → s.holders ≡ [] → Free c l h → walk.Own m k f x seen (sc seen p c l h)
-      free c l h there at none (inl reached) = inl reached
-      free c l h there at none (inr on) =
-          let y = sc seen p c l h in
-          inr (walk.waits_at m k f x y.after c (Exchange 0) h on.0 (come_on c l h (Exchange 0) at), inl (omega (arith, rank_free y.after (ap (λ (z : Plain). z.holders) on.1 ∙ none) _ on.0, rank_free seen none _ there, on.2, on.3)))
+      abbrev Sits : Kind → ℕ → Option RwSeat → Type 0
+      Sits kind d o = walk.SitsSo (rw_table v cap) (rw_notes v cap) (any_of kind) d o
 
       word_is : (i : Holder) → s.holders ≡ i ∷ [] → seen.state.words ≡ weight i.kind
       word_is i one = let word : seen.state.words ≡ rw_word s = cc (good.encodes) in word ∙ (ap (λ hs. sum_by (λ (h : Holder). weight h.kind) hs) one ∙ omega (arith, sum_by-cons (λ (h : Holder). weight h.kind) i []))
 
-      -- the party that is due holds
-      his_sits : (i : Holder) (hs : List Holder) → s.holders ≡ i ∷ hs → (o : Option RwSeat) → walk.his m k f x seen ≡ o → Sits holds_lock (due_by p (i ∷ hs)) o
-      his_sits i hs is o there =
-          let d = due_by p (i ∷ hs) in
-          subst (Sits holds_lock d) (ap (slice_get seen.state.seats) (sym (ap (due_by p) is)) ∙ there)
-          (sits_at holds_lock d (subst (λ xs. not (is_empty (filter (λ h. h.party == d) xs)) ≡ true) (sym is) (due_holds p i hs)))
+      module _ (l : RwPoint) where
+        abbrev d : ℕ
+        d = walk.due m k f x seen l
 
-      held : (i : Holder) (hs : List Holder) → s.holders ≡ i ∷ hs → (c : RwCall) (l : RwPoint) (h : Option Hold) → slice_get seen.state.seats p ≡ Some (Calling c l h) → at_come c l h → walk.Own m k f x seen (sc seen p c l h)
-      held i hs is c l h there at =
-          let o = lets_by c seen.state.words in
-          ⊎_elim (λ (r : Grants seen p c l h). inl r)
-          (λ (on : (slice_get (sc seen p c l h).after.state.seats p ≡ Some (Calling c (onward o) h)) × ((sc seen p c l h).after.plain ≡ s)).
-          inr (
-            walk.waits_at m k f x (sc seen p c l h).after c (onward o) h on.0 (come_on c l h (onward o) at),
-            inr (λ e. absurd (grind (arith, at, his_sits i hs is (Some (Calling c l h)) (ap (slice_get seen.state.seats) e ∙ there))), rw on.1 (refl, rank_set s.holders i hs _ _ _ is)),
-          ))
-          (own_step c l h o refl there at)
+        -- where another party is due, somebody holds, and that party does
+        some_holder : (d ≡ p → ⊥) → (i : Holder) × (hs : List Holder) × (s.holders ≡ i ∷ hs)
+        some_holder ne = by s.holders refl
+          where
+            by : (hs : List Holder) → s.holders ≡ hs → (i : Holder) × (rest : List Holder) × (s.holders ≡ i ∷ rest)
+            by [] is = absurd (ne (ap (due_by p) is))
+            by (i ∷ hs) is = (i, hs, is)
 
-      own_by : (hs : List Holder) → s.holders ≡ hs → (c : RwCall) (l : RwPoint) (h : Option Hold) → slice_get seen.state.seats p ≡ Some (Calling c l h) → at_come c l h → walk.Own m k f x seen (sc seen p c l h)
-      own_by [] is c l h there at = free c l h there at is (free_step c l h there at (grind (arith, good.encodes, is)))
-      own_by (i ∷ hs) is c l h there at = held i hs is c l h there at
+        abbrev kind_of : Holder → List Holder → Kind
+        kind_of i hs = (pick i (i ∷ hs)).kind
 
-      -- the step of the party that is due, by the kind that it holds
+        his_sits : (i : Holder) (hs : List Holder) → s.holders ≡ i ∷ hs → Sits (kind_of i hs) d (walk.his m k f x seen l)
+        his_sits i hs is =
+            walk.sits_so (rw_table v cap) (rw_notes v cap) (any_of (kind_of i hs)) seen good d (any_own (kind_of i hs) d s.holders ∙ subst (λ xs. is_holder (due_by p xs) (kind_of i hs) xs ≡ true) (sym is) (holds_picked i hs))
 
-      reader_step : (q : ℕ) (c : RwCall) (l : RwPoint) (h : Option Hold) → Sits (any_of reading) q (Some (Calling c l h)) → is_less (sc seen q c l h).change ≡ true
-      reader_step q c l h so = grind (arith, so)
+        -- it reads, or holds alone
+        his_word : (i : Holder) (hs : List Holder) → s.holders ≡ i ∷ hs → (same_kind reading (kind_of i hs) ≡ true) ⊎ (seen.state.words ≡ weight (kind_of i hs))
+        his_word i hs is =
+            ⊎_elim (λ (y : (is_holder (pick i (i ∷ hs)).party (kind_of i hs) (i ∷ hs) ≡ true) × (same_kind reading (kind_of i hs) ≡ true)). inl y.1)
+            (λ (none : (count_kind reading (i ∷ hs) ≡ 0) × (pick i (i ∷ hs) ≡ i)).
+            inr (word_is i (is ∙ alone_is i hs (subst (λ xs. length xs ≤ 1) is (one_alone s good.exclusive (ap (count_kind reading) is ∙ none.0)))) ∙ ap (λ (j : Holder). weight j.kind) (sym none.1)))
+            (picked i (i ∷ hs))
 
-      alone_step : (kind : Kind) (q : ℕ) (c : RwCall) (l : RwPoint) (h : Option Hold) → seen.state.words ≡ weight kind → same_kind reading kind ≡ false → Sits (any_of kind) q (Some (Calling c l h))
-          → Grants seen q c l h ⊎ (is_less (sc seen q c l h).change ≡ true)
-      alone_step kind q c l h word other so = grind (arith, word, other, so)
+        -- its own step: where it goes on, as the step function lets it in or does not
+        abbrev onward : Option ℕ → RwPoint
+        onward (Some to) = Exchange seen.state.words
+        onward None = First
 
-      leaves : (i : Holder) (hs : List Holder) → s.holders ≡ i ∷ hs → (c : RwCall) (l : RwPoint) (h : Option Hold) → walk.his m k f x seen ≡ Some (Calling c l h)
-          → Grants seen (walk.due m k f x seen) c l h ⊎ (is_less (sc seen (walk.due m k f x seen) c l h).change ≡ true)
-      leaves i hs is c l h there =
-          let d = walk.due m k f x seen in
-          let due_is : d ≡ due_of i.party (i ∷ hs) = ap (due_by p) is in
-          ⊎_elim
-          (λ (reads : is_holder (due_of i.party (i ∷ hs)) reading (i ∷ hs) ≡ true).
-          let found : any_of reading (entries d s) ≡ true = any_own reading d s.holders ∙ (ap (λ xs. is_holder d reading xs) is ∙ (ap (λ e. is_holder e reading (i ∷ hs)) due_is ∙ reads)) in
-          inr (reader_step d c l h (subst (Sits (any_of reading) d) there (sits_at (any_of reading) d found))))
-          (λ (none : (count_kind reading (i ∷ hs) ≡ 0) × (due_of i.party (i ∷ hs) ≡ i.party)).
-          let few : length (i ∷ hs) ≤ 1 = subst (λ xs. length xs ≤ 1) is (one_alone s good.exclusive (ap (count_kind reading) is ∙ none.0)) in
-          let one : s.holders ≡ i ∷ [] = is ∙ ap (λ xs. i ∷ xs) (alone_is i hs few) in
-          let word : seen.state.words ≡ weight i.kind = word_is i one in
-          let found : any_of i.kind (entries d s) ≡ true =
-          ap (λ e. any_of i.kind (entries e s)) (due_is ∙ none.1) ∙ (ap (λ xs. list_any (λ h. same_kind i.kind h.kind) (filter (λ h. h.party == i.party) xs)) one ∙ alone_any i) in
-          alone_step i.kind d c l h word (not_reading i (ap (count_kind reading) (sym one ∙ is) ∙ none.0)) (subst (Sits (any_of i.kind) d) there (sits_at (any_of i.kind) d found)))
-          (due_cases i.party (i ∷ hs))
+        abbrev GoesTo : RwPoint → Type 0
+        GoesTo e = (slice_get (sc seen p c l None).after.state.seats p ≡ Some (Calling c e None)) × ((sc seen p c l None).after.plain ≡ s)
 
-      module _ (w : walk.Waits m k f x seen) where
-        his_own : (o : Option RwSeat) → s.holders ≡ [] → walk.his m k f x seen ≡ o → walk.AtSeat m k f x seen o
-        his_own o none there = subst (walk.AtSeat m k f x seen) (sym (ap (λ hs. slice_get seen.state.seats (due_by p hs)) none) ∙ there) w
+        goes : (o : Option ℕ) → lets cap c seen.state.words ≡ o → slice_get seen.state.seats p ≡ Some (Calling c l None) → Grants seen p c l None ⊎ GoesTo (onward o)
+        goes o is there = grind (arith, comes, is, get-set_same seen.state.seats p (Calling c (onward o) None) _ there)
 
-        begins : (hs : List Holder) → s.holders ≡ hs → (c : RwCall) (l : RwPoint) (h : Option Hold) → walk.his m k f x seen ≡ Some (resting h) → rank_by hs (walk.mine m k f x seen) (Some (Calling c l h)) ≤ rank_by hs (walk.mine m k f x seen) (Some (resting h)) - 1
-        begins [] is c l h there = absurd (grind (arith, his_own (Some (resting h)) is there))
-        begins (i ∷ hs) is c l h there = grind arith
+        -- where nobody holds
+        goes_free : slice_get seen.state.seats p ≡ Some (Calling c l None) → seen.state.words ≡ 0 → Grants seen p c l None ⊎ (GoesTo (Exchange 0) × (own_rank c (Exchange 0) ≤ own_rank c l - 1))
+        goes_free there zero = grind (arith, comes, zero, room, get-set_same seen.state.seats p (Calling c (Exchange 0) None) _ there)
 
-        steps : (hs : List Holder) → s.holders ≡ hs → (walk.due m k f x seen ≡ p → ⊥) → (c : RwCall) (l : RwPoint) (h : Option Hold) → walk.his m k f x seen ≡ Some (Calling c l h)
-            → let y = sc seen (walk.due m k f x seen) c l h in IsOpenStep s (walk.due m k f x seen) y.change → walk.Lowers m k f x seen y
-        steps [] is ne c l h there opens = absurd (ne (ap (due_by p) is))
-        steps (i ∷ hs) is ne c l h there opens =
-            let d = walk.due m k f x seen in
-            ⊎_elim (λ (r : Grants seen d c l h). inl r)
-            (λ (less : is_less (sc seen d c l h).change ≡ true). inr (rank_less s.holders (sc seen d c l h).after.plain.holders i hs _ _ _ _ is (less_left s d (sc seen d c l h).change opens less)))
-            (leaves i hs is c l h there)
+        rank_free : (y : World) (e : RwPoint) → y.plain.holders ≡ [] → walk.rank m k f x y e ≡ own_rank c e
+        rank_free y e none = ap (λ hs. rank_by hs c e (slice_get y.state.seats (due_by p hs))) none
 
-        busy : (hs : List Holder) → s.holders ≡ hs → is_busy (walk.his m k f x seen) ≡ true
-        busy [] is = grind (arith, his_own (walk.his m k f x seen) is refl)
-        busy (i ∷ hs) is = walk.busy_so (rw_table v cap) (rw_notes v cap) holds_lock (due_by p (i ∷ hs)) _ refl (λ h so. grind (arith, so)) (his_sits i hs is _ refl)
+        own : (hs : List Holder) → s.holders ≡ hs → slice_get seen.state.seats p ≡ Some (Calling c l None) → walk.Own m k f x seen l (sc seen p c l None)
+        own [] is there =
+            ⊎_elim inl (λ (on : GoesTo (Exchange 0) × (own_rank c (Exchange 0) ≤ own_rank c l - 1)).
+            inr (Exchange 0, on.0.0, tt, inl (omega (arith, rank_free (sc seen p c l None).after (Exchange 0) (ap (λ (z : Plain). z.holders) on.0.1 ∙ is), rank_free seen l is, on.1))))
+            (goes_free there (grind (arith, good.encodes, is)))
+        own (i ∷ hs) is there =
+            let o = lets cap c seen.state.words in
+            ⊎_elim inl (λ (on : GoesTo (onward o)).
+            inr (onward o, on.0, tt, inr (λ e. absurd (grind (arith, comes, subst (Sits (kind_of i hs) p) there (subst (λ q. Sits (kind_of i hs) q (slice_get seen.state.seats q)) e (his_sits i hs is)))), rw on.1 (refl, grind (arith, is)))))
+            (goes o refl there)
+
+        -- the step of the party that is due
+        leaves : (kind : Kind) (c : RwCall) (e : RwPoint) (h : Option Hold) → (same_kind reading kind ≡ true) ⊎ (seen.state.words ≡ weight kind) → Sits kind d (Some (Calling c e h)) → Grants seen d c e h ⊎ (is_less (sc seen d c e h).change ≡ true)
+        leaves kind c e h (inl reads) so = grind (arith, reads, so)
+        leaves kind c e h (inr word) so = grind (arith, word, so)
 
         -- a step of a third party
-        beside : (hs : List Holder) → s.holders ≡ hs → (q : ℕ) (c : RwCall) (l : RwPoint) (h : Option Hold) → let y = sc seen q c l h in IsOpenStep s q y.change
-            → walk.Lowers m k f x seen y ⊎ walk.Alike m k f x seen y.after.plain (walk.mine m k f x seen)
-        beside hs is q c l h opens =
-            let y = sc seen q c l h in
-            ⊎_elim (λ (r : Grants seen q c l h). inl (inl r))
+        beside : (hs : List Holder) → s.holders ≡ hs → (q : ℕ) (e : RwCall) (i : RwPoint) (h : Option Hold) → let y = sc seen q e i h in IsOpenStep s q y.change → walk.Reaches m k f x y ⊎ (walk.Lower m k f x seen l y l ⊎ walk.Alike m k f x seen l y.after.plain l)
+        beside hs is q e i h opens =
+            let y = sc seen q e i h in
+            ⊎_elim inl
             (λ (other : (y.change ≡ None) ⊎ (is_less y.change ≡ true)).
-            ⊎_elim
-            (λ (none : y.change ≡ None). inr (subst (λ z. walk.Alike m k f x seen (apply_some s z) (walk.mine m k f x seen)) (sym none) (refl, omega arith)))
-            (λ (less : is_less y.change ≡ true). goes_less hs is (less_left s q y.change opens less))
-            other)
-            (no_grant seen q c l h)
+            inr (⊎_elim (λ (none : y.change ≡ None). inr (subst (λ z. walk.Alike m k f x seen l (apply_some s z) l) (sym none) (refl, omega arith))) (λ (less : is_less y.change ≡ true). inl (goes_less hs is (less_left s q y.change opens less))) other))
+            (no_grant seen q e i h)
           where
-            goes_less : (hs : List Holder) → s.holders ≡ hs → left (sc seen q c l h).after.plain.holders + 2 ≤ left s.holders
-                → walk.Lowers m k f x seen (sc seen q c l h) ⊎ walk.Alike m k f x seen (sc seen q c l h).after.plain (walk.mine m k f x seen)
+            goes_less : (hs : List Holder) → s.holders ≡ hs → left (sc seen q e i h).after.plain.holders + 2 ≤ left s.holders → walk.Lower m k f x seen l (sc seen q e i h) l
             goes_less [] is less = absurd (omega (arith, less, ap left is))
-            goes_less (i ∷ hs) is less = inl (inr (rank_less s.holders (sc seen q c l h).after.plain.holders i hs _ _ _ _ is less))
+            goes_less (j ∷ hs) is less = rank_less s.holders (sc seen q e i h).after.plain.holders j hs c l _ _ is less
 
     walks : walk.Walks m k f x
     walks =
         record {
           fine = λ seen q move good fine. tt;
-          keeps = λ seen q move good w. inr (λ c l h at. at);
-          own = λ seen c l h good there at after. own_by seen good seen.plain.holders refl c l h there at;
-          weak = λ seen c l h next at may. weak seen p c h next;
-          begins = λ seen c l h good w there may. rw there (begins seen good w seen.plain.holders refl c l h there);
-          steps = λ seen c l h good w ne there after. steps seen good w seen.plain.holders refl ne c l h there after.opens;
-          refuses = λ seen c l h next good w there may. inl (weak seen (walk.due m k f x seen) c h next);
-          leaks = λ s o h. leak_same s.holders o h;
-          beside = λ seen q c l h good w ne not_due there after. beside seen good w seen.plain.holders refl q c l h after.opens;
-          busy = λ seen good w some. busy seen good w seen.plain.holders refl;
+          keeps = λ seen q move l w. inr tt;
+          own = λ seen l w after. own seen w.3 l seen.plain.holders refl w.0;
+          weak = λ seen l next at may. weak seen p c None next;
+          others = λ seen l w ne.
+              let q = walk.due m k f x seen l in
+              let h = some_holder seen w.3 l ne in
+              let kind = kind_of seen w.3 l h.0 h.1 in
+              let sits = his_sits seen w.3 l h.0 h.1 h.2 in
+              record {
+                begins = λ d i j there may. rw there (rank_begun seen.plain.holders h.0 h.1 c d l i j h.2);
+                steps = λ d i j there after.
+                    ⊎_elim inl (λ (less : is_less (sc seen q d i j).change ≡ true). inr (rank_less seen.plain.holders (sc seen q d i j).after.plain.holders h.0 h.1 c l _ _ h.2 (less_left seen.plain q (sc seen q d i j).change after.opens less)))
+                    (leaves seen w.3 l kind d i j (his_word seen w.3 l h.0 h.1 h.2) (subst (Sits seen w.3 kind q) there sits));
+                refuses = λ d i j next there may. inl (weak seen q d j next);
+                busy = λ some. walk.busy_so (rw_table v cap) (rw_notes v cap) (any_of kind) q _ refl (λ h so. grind (arith, so)) sits;
+              };
+          leaks = λ s l h. grind arith;
+          beside = λ seen l q d i j w ne not_due there after. beside seen w.3 l seen.plain.holders refl q d i j after.opens;
         }
 
-  come_at : (c : RwCall) (l : RwPoint) → is_waiting (asks_of c None) ≡ true → (c ≡ Upgrade → ⊥) → at_come c l None
-  come_at c l asks no_upgrade = grind (arith, asks, no_upgrade)
-
   -- an upgrade holds
-  no_upgrade : (c : RwCall) (l : RwPoint) (p : ℕ) (s : Plain) (span : List Mark) → k.Knows c l None p s span → c ≡ Upgrade → ⊥
-  no_upgrade c l p s span knows is = absurd (grind (arith, knows, is))
+  come_at : (c : RwCall) (l : RwPoint) (p : ℕ) (s : Plain) (span : List Mark) → is_waiting (asks_of c None) ≡ true → k.Knows c l None p s span → at_come c
+  come_at c l p s span asks knows = grind (arith, asks, knows)
 
   pub grants_somebody : (n : ℕ) (past : List (ℕ × Move RwCall V)) (rounds : List (List (ℕ × Move RwCall V))) → GrantsSomebody m n past rounds
   grants_somebody n past rounds p c l there asks are few =
       let seen = seen_after m (opening m n) past in
-      let at = come_at c l asks (no_upgrade c l p seen.plain (seen.span p) (calls m k f n past p c l None there).knows) in
-      walk.ends m k f (x p) (walks p) (λ seen good w. rank_some seen.plain.holders _ _) n past rounds (walk.waits_at m k f (x p) seen c l None (seat_is m k f n past p _ there) at) tt are
-      (omega (arith, few, rank_most seen.plain.holders (walk.mine m k f (x p) seen) (walk.his m k f (x p) seen)))
+      let at = come_at c l p seen.plain (seen.span p) asks (calls m k f n past p c l None there).knows in
+      walk.ends m k f (x p c at) (walks p c at) (λ seen l w. (rank_fits seen.plain.holders c l _).0) n past rounds l there tt tt tt are (λ w. omega (arith, few, (rank_fits seen.plain.holders c l (walk.his m k f (x p c at) seen l)).1))
 
   pub deadlock_free : (n : ℕ) (past : List (ℕ × Move RwCall V)) (schedule : ℕ → ℕ × Move RwCall V) → RwIsDeadlockFree m n past schedule
   deadlock_free n past schedule p c l there asks fair =

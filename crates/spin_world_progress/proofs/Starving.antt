@@ -1,34 +1,21 @@
 -- Turns in which a call starves.
-use Rattle.std.proofs.Common.{◌≡◌, ℕ, zero, suc, ◌≤◌, nat_lt, min, Bool, true, Option, Some, None, [], ◌∷◌, refl, arith}
-use Rattle.std.proofs.lemmas.Bool.{lt-ltb}
-use Rattle.spin_step.specs.Plain.{to_write, to_read, to_read_upgradable, to_lock_starving}
-use Rattle.spin_step_more.specs.Readers.{reader_limit}
-use Rattle.spin_step_more.specs.Starvers.{most_starvers}
+use Rattle.spin_world_progress.proofs.Names.{◌≡◌, ℕ, zero, suc, ◌≤◌, nat_lt, min, Bool, true, Option, Some, None, [], ◌∷◌, refl, arith, lt-ltb, to_write, to_read, to_read_upgradable, to_lock_starving, reader_limit, most_starvers, Idle, Calling, Holding, Begin, Step, flag_machine, waits, waits_or_starves, initializes, waits_for_value, polls, meets, rw_machine, fair_machine, seats, seats_machine, once_machine, MayStarve}
+use Rattle.spin_world_barrier.specs.Barrier.{barrier_machine}
+use Rattle.spin_world_progress.specs.Starving.{MayDeadlock, grants_or_weak}
+use Rattle.spin_world_progress.proofs.Around.{starves, forever}
 use Rattle.spin_model.specs.declared.place.Hold.TheVariants as hold
-use Rattle.spin_model.specs.declared.place.Seat.TheVariants.{Idle, Calling, Holding}
-use Rattle.spin_model.specs.declared.schedule.Move.TheVariants.{Begin, Step}
 use Rattle.spin_model.specs.declared.flag.FlagCall.TheVariants as flag
 use Rattle.spin_model.specs.declared.flag.FlagPoint.TheVariants as flag_point
-use Rattle.spin_model.specs.Flag.{flag_machine}
-use Rattle.spin_model.specs.Calls.{waits, waits_or_starves, initializes, waits_for_value, polls, meets}
 use Rattle.spin_step_more.specs.declared.rw_calls.RwCall.TheVariants as rw_call
 use Rattle.spin_step_more.specs.declared.rw_calls.RwPoint.TheVariants as rw_point
-use Rattle.spin_step_more.specs.RwCalls.{rw_machine}
 use Rattle.spin_step_more.specs.declared.fair_calls.FairCall.TheVariants as fair
 use Rattle.spin_step_more.specs.declared.fair_calls.FairPoint.TheVariants as fair_point
-use Rattle.spin_step_more.specs.FairCalls.{fair_machine}
 use Rattle.spin_seats.specs.declared.calls.SeatsCall.TheVariants as seats_call
 use Rattle.spin_seats.specs.declared.calls.SeatsPoint.TheVariants as seats_point
-use Rattle.spin_seats.specs.Seats.{seats}
-use Rattle.spin_seats.specs.Table.{seats_machine}
 use Rattle.spin_model.specs.declared.once.OnceCall.TheVariants as once
 use Rattle.spin_model.specs.declared.once.OncePoint.TheVariants as once_point
-use Rattle.spin_model.specs.Once.{once_machine}
 use Rattle.spin_world_barrier.specs.declared.barrier.BarrierCall.TheVariants as barrier
 use Rattle.spin_world_barrier.specs.declared.barrier.BarrierPoint.TheVariants as barrier_point
-use Rattle.spin_world_barrier.specs.Barrier.{barrier_machine}
-use Rattle.spin_world_progress.specs.Starving.{MayStarve}
-use Rattle.spin_world_progress.proofs.Around.{starves}
 
 -- party 0 makes its exchange while the other holds, and looks after it has gone
 pub flag_starves : {V : Type 0} (v : V) → MayStarve (flag_machine v) 2 (waits to_write)
@@ -61,6 +48,14 @@ module _ {V : Type 0} (v : V) (cap patience : ℕ) where
   newcomer_starves some =
       let room : nat_lt 0 (min cap most_starvers) ≡ true = lt-ltb 0 (min cap most_starvers) (omega (arith, some)) in
       starves (fair_machine v cap patience) 2 ((1, Begin fair.Starve) ∷ (1, Step) ∷ (1, Step) ∷ (0, Begin fair.Lock) ∷ [])
+      (record { words = 2; value = Some v; seats = Calling fair.Lock (fair_point.Attempt 0) None ∷ Holding hold.Starver ∷ [] }) (grind (arith, room)) (0, Step) ((0, Step) ∷ []) 0 fair.Lock (fair_point.Attempt 0) None refl
+      (record { fair = refl; back = refl; none = refl })
+
+  -- and nobody is granted
+  pub newcomers_deadlock : 1 ≤ cap → MayDeadlock (fair_machine v cap patience) 2 (waits_or_starves patience)
+  newcomers_deadlock some =
+      let room : nat_lt 0 (min cap most_starvers) ≡ true = lt-ltb 0 (min cap most_starvers) (omega (arith, some)) in
+      forever (fair_machine v cap patience) (λ p. grants_or_weak (fair_machine v cap patience)) 2 ((1, Begin fair.Starve) ∷ (1, Step) ∷ (1, Step) ∷ (0, Begin fair.Lock) ∷ [])
       (record { words = 2; value = Some v; seats = Calling fair.Lock (fair_point.Attempt 0) None ∷ Holding hold.Starver ∷ [] }) (grind (arith, room)) (0, Step) ((0, Step) ∷ []) 0 fair.Lock (fair_point.Attempt 0) None refl
       (record { fair = refl; back = refl; none = refl })
 

@@ -1,48 +1,14 @@
 -- How many rounds a `lock` waits at most: until it has its ticket, and then with it.
-use Rattle.spin_world_ticket.proofs.Names.{◌≡◌, ℕ, ◌+◌, ◌-◌, ◌<◌, ◌≤◌, ◌==◌, Bool, true, false, not, Option, Some, None, List, [], ◌∷◌, ◌++◌, refl, ap, sym, ◌∙◌, arith, filter, slice_get, Plain, queued, Queued, Change, is_empty, serving_word, is_first, apply_some, IsOpenStep, Entries, entries, Numbered, enters_in_turn, serving-entered, stands, serving-moves, Seen, scene, opening, ticket_table, ticket_machine, LocalInvariant, Facts, entries_at, after, at_first, seen_after, zero, ticket_limit, gets, to_take_ticket, serving-taken, asks_of, bit}
-use Rattle.spin_model.specs.declared.answer.Answer.{Answer}
-use Rattle.spin_model.specs.declared.place.Hold.{Hold}
-use Rattle.spin_model.specs.declared.place.Seat.TheVariants.{Calling, Holding, Idle, Leaked, Gone}
-use Rattle.spin_model.specs.declared.schedule.Move.{Move}
-use Rattle.spin_model.specs.declared.schedule.Move.TheVariants.{Step}
-use Rattle.spin_model.specs.declared.ticket.TicketWords.{TicketWords}
-use Rattle.spin_model.specs.declared.ticket.TicketCall.{TicketCall}
-use Rattle.spin_model.specs.declared.ticket.TicketCall.TheVariants.{Lock, Release}
-use Rattle.spin_model.specs.declared.ticket.TicketPoint.{TicketPoint}
-use Rattle.spin_model.specs.declared.ticket.TicketPoint.TheVariants.{Await, Serve, LoadNext, Take}
-use Rattle.std.proofs.Common.{suc, ◌*◌, ◌&&◌, subst, inl, inr, ⊎_elim, length, nat_lt}
-use Rattle.std.proofs.lemmas.Bool.{and_parts, cases_eq, eqb-true, ne_eqb, false≢true, cases_lt, eq-eqb, lt-ltb}
-use Rattle.spin_step.specs.Plain.{with_first_entered, apply, to_enter}
-use Rattle.spin_step.specs.Tickets.{numbered_from}
-use Rattle.spin_step.proofs.Tickets.{serving-gone}
-use Rattle.spin_model.specs.declared.place.Seat.{Seat}
-use Rattle.spin_model.specs.declared.step.Next.{Next}
-use Rattle.spin_model.specs.Calls.{BelongsTo, Mark, waits}
-use Rattle.spin_world_core.specs.Joined.{joined}
-use Rattle.spin_model.specs.Machines.{Machine}
-use Rattle.spin_world_progress.specs.Rounds.{occurs, AreRounds, grants}
-use Rattle.spin_world_core.specs.Runs.{Scene, StandsFor, entries_of, scene_at}
-use Rattle.spin_model.specs.Schedules.{resting, State, happens}
-use Rattle.spin_world_core.proofs.Lists.{eqb_self}
-use Rattle.spin_model.proofs.Lists.{get-set_same}
-use Rattle.spin_world_core.proofs.Facts.{KnowsAt}
-use Rattle.spin_world_core.proofs.Preserved.{Invariant, in_call}
-use Rattle.spin_world_core.proofs.Every.{good_after, state-seen_after}
-use Rattle.spin_world_core.proofs.Reached.{good, state_is, seat_is, numbers_are, StandsSo, calls_so, calls}
-use Rattle.spin_model.specs.TicketKind.{ticket}
-use Rattle.spin_world_progress.specs.Ticket.{EntersInRounds, IsNeverStarved, LocksInRounds}
+use Rattle.spin_world_progress.proofs.Names.{if◌then◌else◌, ◌≡◌, ℕ, ◌+◌, ◌-◌, ◌<◌, ◌≤◌, ◌==◌, Bool, true, false, not, Option, Some, None, List, [], ◌∷◌, refl, ap, sym, ◌∙◌, arith, filter, slice_get, Plain, Change, is_empty, serving_word, is_first, apply_some, IsOpenStep, entries, Seen, scene, opening, ticket_table, ticket_machine, LocalInvariant, Facts, after, at_first, seen_after, zero, ticket_limit, Answer, Hold, Calling, Holding, Move, Step, TicketWords, TicketCall, TicketPoint, Serve, LoadNext, Take, suc, ◌*◌, ◌&&◌, subst, inl, inr, ⊎_elim, length, nat_lt, and_parts, cases_eq, eqb-true, ne_eqb, eq-eqb, lt-ltb, to_enter, Seat, Next, BelongsTo, Mark, waits, joined, Machine, occurs, AreRounds, grants, Scene, StandsFor, scene_at, State, happens, eqb_self, get-set_same, Invariant, in_call, good_after, state-seen_after, good, state_is, numbers_are, StandsSo, calls_so, calls, EntersInRounds, IsNeverStarved, LocksInRounds, slice_get_within, slice_get_past, no_entries, length-happens}
+use Rattle.spin_world_ticket.proofs.Names.{queued, Queued, Entries, Numbered, enters_in_turn, serving-entered, stands, serving-moves, asks_of, bit, Lock, Release, Await}
 use Rattle.spin_world_ticket.proofs.Owed.{ticket_notes, ticket_keeping, ticket_facts}
-use Rattle.std.proofs.lemmas.Option.{slice_get_within, slice_get_past}
-use Rattle.spin_step.specs.Parties.{no_entries}
-use Rattle.std.proofs.lemmas.List.{length-replicate}
-use Rattle.spin_world_core.proofs.Schedules.{length-happens}
-use Rattle.spin_world_core.proofs.Stands.{Stand, stand_of, held_at}
-use Rattle.spin_world_core.proofs.Rows.{Row}
-use Rattle.spin_world_core.proofs.Shapes.{KnowsRow}
-use Rattle.spin_model.specs.declared.place.Hold.TheVariants as hold
+use Rattle.spin_model.specs.TicketKind.{ticket}
+use Rattle.spin_step.proofs.Tickets.{serving-gone}
+use Rattle.spin_step.specs.Tickets.{numbered_from}
+use Rattle.spin_world_core.proofs.Names.{length-replicate}
 use Rattle.spin_world_progress.proofs.Endless.{at_last}
-use Rattle.spin_world_progress.proofs.Progress.{is_busy, calls_not}
 use Rattle.spin_world_progress.proofs.Walk.{Wait}
+use Rattle.spin_model.specs.declared.place.Hold.TheVariants as hold
 use Rattle.spin_world_progress.proofs.Walk as walk
 
 -- The queue
@@ -55,14 +21,15 @@ abbrev first_party : List Queued → ℕ
 first_party [] = 0
 first_party (t ∷ ts) = t.party
 
-at_least : (p n k : ℕ) (ts : List Queued) → numbered_from k ts → own p ts ≡ queued p n false ∷ [] → k ≤ n
-at_least p n k [] numbers e = absurd (cc (e))
-at_least p n k (t ∷ ts) numbers e = grind (arith, at_least p n (suc k) ts)
+-- a ticket's number is one of those in the queue
+in_queue : (p n k : ℕ) (ts : List Queued) → numbered_from k ts → own p ts ≡ queued p n false ∷ [] → (k ≤ n) × (n < k + length ts)
+in_queue p n k [] numbers e = absurd (cc (e))
+in_queue p n k (t ∷ ts) numbers e = grind (arith, in_queue p n (suc k) ts)
 
 -- a ticket that isn't the first has a later number
 later : (p n k : ℕ) (ts : List Queued) → numbered_from k ts → own p ts ≡ queued p n false ∷ [] → (first_party ts ≡ p → ⊥) → k < n
 later p n k [] numbers e ne = absurd (cc (e))
-later p n k (t ∷ ts) numbers e ne = grind (arith, at_least p n (suc k) ts, ne)
+later p n k (t ∷ ts) numbers e ne = grind (arith, in_queue p n (suc k) ts, ne)
 
 -- the first ticket's party has it
 first_own : (ts : List Queued) → is_empty ts ≡ false → is_empty (own (first_party ts) ts) ≡ false
@@ -74,24 +41,12 @@ first_turn : (p n : ℕ) (ts : List Queued) → own p ts ≡ queued p n false �
 first_turn p n [] mine is = absurd (cc (mine))
 first_turn p n (t ∷ ts) mine is = grind (arith, eqb_self, mine, is)
 
-first_more : (ts : List Queued) (t : Queued) → is_empty ts ≡ false → first_party (ts ++ t ∷ []) ≡ first_party ts
-first_more [] t some = absurd (cc (some))
-first_more (u ∷ us) t some = refl
-
-first_entered : (ts : List Queued) → first_party (with_first_entered ts) ≡ first_party ts
-first_entered [] = refl
-first_entered (t ∷ ts) = refl
-
-first_of : (p : ℕ) (b : Bool) (ts : List Queued) → is_first p b ts ≡ true → p ≡ first_party ts
-first_of p b [] is = absurd (cc (is))
-first_of p b (t ∷ ts) is = grind (arith, is, eqb-true)
-
 -- another party's step leaves the first ticket's party and number
 leaves_first : (s : Plain) (q : ℕ) (step : Option Change) → is_empty s.tickets ≡ false → Numbered s → (q ≡ first_party s.tickets → ⊥) → IsOpenStep s q step → BelongsTo ticket step
     → (first_party (apply_some s step).tickets ≡ first_party s.tickets) × (serving_word (apply_some s step) ≡ serving_word s)
 leaves_first s q None some numbered ne may belongs = (refl, refl)
 leaves_first s q (Some c) some numbered ne may belongs =
-    grind (arith, some, ne, may, belongs, serving-moves s c numbered, first_more s.tickets, λ (b : Bool). first_of q b s.tickets)
+    grind (arith, some, ne, may, belongs, serving-moves s c numbered)
 
 -- How far it is to the first ticket's going
 
@@ -100,9 +55,6 @@ abbrev left_to : Option (Seat TicketCall TicketPoint) → ℕ
 left_to (Some (Calling Lock l h)) = 3
 left_to (Some (Holding h)) = 2
 left_to _ = 1
-
-left_most : (o : Option (Seat TicketCall TicketPoint)) → left_to o ≤ 3
-left_most o = grind arith
 
 -- how many moves a party with the ticket t waits for, its own step included
 abbrev rank_at : ℕ → ℕ → ℕ → ℕ
@@ -119,43 +71,18 @@ total_cons : (n : ℕ) (t : Queued) (ts : List Queued) → total n (t ∷ ts) �
 total_cons zero t ts = grind arith
 total_cons (suc n) t ts = grind (arith, total_cons n t ts)
 
-rest_none : (q : ℕ) (t : Queued) (ts : List Queued) → is_empty (own q (t ∷ ts)) ≡ true → is_empty (own q ts) ≡ true
-rest_none q t ts none = grind (arith, none)
-
-own_some : (t : Queued) (ts : List Queued) → is_empty (own t.party (t ∷ ts)) ≡ false
-own_some t ts = rw (eqb_self t.party) refl
-
 all_in : (n : ℕ) (ts : List Queued) → ((q : ℕ) → n ≤ q → is_empty (own q ts) ≡ true) → length ts ≤ total n ts
 all_in n [] none = omega arith
 all_in n (t ∷ ts) none =
-    ⊎_elim
-    (λ (lt : t.party < n). omega (arith, all_in n ts (λ q le. rest_none q t ts (none q le)), total_cons n t ts, ap bit (lt-ltb t.party n lt)))
-    (λ (le : n ≤ t.party). absurd (false≢true (sym (own_some t ts) ∙ none t.party le)))
-    (cases_lt t.party n)
+    let rest : (q : ℕ) → n ≤ q → is_empty (own q ts) ≡ true = λ q le. grind (arith, none q le) in
+    grind (arith, all_in n ts rest, total_cons n t ts, none t.party, eqb_self t.party)
 
 few : (n : ℕ) (ts : List Queued) → ((q : ℕ) → length (own q ts) ≤ 1) → total n ts ≤ n
 few zero ts each = omega arith
 few (suc n) ts each = omega (arith, few n ts each, each n)
 
-less : (a b : ℕ) → a < suc b → (a ≡ b → ⊥) → a < b
-less a b lt ne = omega arith
-
-few_without : (n p : ℕ) (ts : List Queued) → p < n → length (own p ts) ≡ 0 → ((q : ℕ) → length (own q ts) ≤ 1) → total n ts < n
-few_without zero p ts lt none each = absurd (omega (arith, lt))
-few_without (suc n) p ts lt none each =
-    ⊎_elim
-    (λ (e : p ≡ n). omega (arith, few n ts each, ap (λ i. length (own i ts)) e, none))
-    (λ (ne : p ≡ n → ⊥). omega (arith, each n, few_without n p ts (less p n lt ne) none each))
-    (cases_eq p n)
-
-stand_one : (q : ℕ) (stand : Stand) → length (entries_at q stand).tickets ≤ 1
-stand_one q (Stand.queues n b) = omega arith
-stand_one q _ = omega arith
-
--- a ticket is below the next number
-below : (p n k : ℕ) (ts : List Queued) → numbered_from k ts → own p ts ≡ queued p n false ∷ [] → n < k + length ts
-below p n k [] numbers e = absurd (cc (e))
-below p n k (t ∷ ts) numbers e = grind (arith, below p n (suc k) ts)
+abbrev two : Entries → Bool
+two e = nat_lt 1 (length e.tickets)
 
 -- other parties' steps raise the next number alone
 next_grows : (s : Plain) (step : Option Change) → s.next ≤ (apply_some s step).next
@@ -164,39 +91,22 @@ next_grows s (Some c) = grind arith
 
 -- How many moves a party without a ticket waits for, where N is the next number at the end, by whether the number that it goes for is next
 abbrev doorway : ℕ → ℕ → ℕ → Bool → ℕ
-doorway n N next true = 3 * n - 2 + (N - next)
-doorway n N next false = 3 * n - 1 + (N - next)
-
-doorway_most : (n N next : ℕ) (b : Bool) → doorway n N next b ≤ 3 * n - 1 + (N - next)
-doorway_most n N next true = omega arith
-doorway_most n N next false = omega arith
-
-doorway_least : (n N next : ℕ) (b : Bool) → 3 * n - 2 + (N - next) ≤ doorway n N next b
-doorway_least n N next true = omega arith
-doorway_least n N next false = omega arith
+doorway n N next b = 3 * n - (if b then 2 else 1) + (N - next)
 
 -- another ticket that is taken makes it one more, and is one less to come
 doorway_kept : (n N j next later : ℕ) → 1 ≤ n → next ≤ later → later ≤ N → doorway n N later (j == later) ≤ doorway n N next (j == next)
-doorway_kept n N j next later some grows fine =
-    ⊎_elim
-    (λ (e : next ≡ later). omega (arith, ap (λ i. doorway n N i (j == i)) e))
-    (λ (ne : next ≡ later → ⊥). omega (arith, doorway_most n N later (j == later), doorway_least n N next (j == next), some, ne, grows, fine))
-    (cases_eq next later)
+doorway_kept n N j next later some grows fine = grind (arith, some, grows, fine, cases_eq next later)
 
 -- who is due, and the rank, by where it stands
 
-abbrev due_by : Option (Seat TicketCall TicketPoint) → ℕ → List Queued → ℕ
-due_by (Some (Calling c (Await t) h)) p ts = first_party ts
+abbrev due_by : TicketPoint → ℕ → List Queued → ℕ
+due_by (Await t) p ts = first_party ts
 due_by _ p ts = p
 
-abbrev rank_by : ℕ → ℕ → Option (Seat TicketCall TicketPoint) → ℕ → ℕ → ℕ → ℕ
-rank_by n N (Some (Calling c (Await t) h)) next serving left = rank_at t serving left
-rank_by n N (Some (Calling c (Take j) h)) next serving left = doorway n N next (j == next)
+abbrev rank_by : ℕ → ℕ → TicketPoint → ℕ → ℕ → ℕ → ℕ
+rank_by n N (Await t) next serving left = rank_at t serving left
+rank_by n N (Take j) next serving left = doorway n N next (j == next)
 rank_by n N _ next serving left = doorway n N next false
-
--- less is left of the way of the party that is due
-rank_less : (n N : ℕ) (o : Option (Seat TicketCall TicketPoint)) (next serving a b : ℕ) → a ≤ b → rank_by n N o next serving a ≤ rank_by n N o next serving b
-rank_less n N o next serving a b le = grind (arith, le)
 
 abbrev has_ticket : Entries → Bool
 has_ticket e = not (is_empty e.tickets)
@@ -205,6 +115,13 @@ has_ticket e = not (is_empty e.tickets)
 abbrev waits_by : ℕ → List Queued → Bool
 waits_by t [] = false
 waits_by t (x ∷ xs) = (x.number == t) && not x.entered
+
+-- with its ticket it waits for others; at the doorway a number is left at the end
+abbrev at_lock : ℕ → TicketPoint → Type 0
+at_lock N (Await t) = Unit {0}
+at_lock N LoadNext = N < ticket_limit
+at_lock N (Take j) = N < ticket_limit
+at_lock N _ = ⊥
 
 module _ {V : Type 0} (v : V) (first : ℕ) where
   abbrev m : Machine TicketWords V TicketCall TicketPoint (Answer V)
@@ -222,345 +139,205 @@ module _ {V : Type 0} (v : V) (first : ℕ) where
   abbrev TicketSeat : Type 0
   TicketSeat = Seat TicketCall TicketPoint
 
+  abbrev SitsSo : (Entries → Bool) → ℕ → Option TicketSeat → Type 0
+  SitsSo = walk.SitsSo (ticket_table v first) (ticket_notes v first)
+
   strong : (c : TicketCall) (l : TicketPoint) (h : Option Hold) (next : Next TicketPoint (Answer V)) → m.refuse c l h ≡ Some next → ⊥
   strong c l h next is = grind (arith, is)
 
-  -- each party has one ticket at most, and a party that doesn't exist none
+  next_of : (seen : World) → Invariant m k seen → seen.state.words.next ≡ seen.plain.next
+  next_of seen good = cc (good.encodes)
 
-  row_one : (c : TicketCall) (l : TicketPoint) (h : Option Hold) (q : ℕ) (s : Plain) (span : List Mark) (o : Option Row)
-      → KnowsRow (ticket_table v first) (ticket_notes v first) c l h q s span o → length (entries q s).tickets ≤ 1
-  row_one c l h q s span None knows = absurd knows
-  row_one c l h q s span (Some row) knows = omega (arith, ap (λ (e : Entries). length e.tickets) knows.0.stand, stand_one q row.stand)
-
-  hold_one : (q : ℕ) (s : Plain) (h : Hold) → entries q s ≡ entries_of q h → length (entries q s).tickets ≤ 1
-  hold_one q s h stands = omega (arith, ap (λ (e : Entries). length e.tickets) (stands ∙ held_at q (Some h)), stand_one q (stand_of (Some h)))
-
-  one_ticket : (q : ℕ) (s : Plain) (span : List Mark) (o : Option (Seat TicketCall TicketPoint)) → StandsFor s q span o → KnowsAt k s q span o → length (entries q s).tickets ≤ 1
-  one_ticket q s span (Some (Calling c l h)) stands knows = row_one c l h q s span _ knows
-  one_ticket q s span (Some (Holding h)) stands knows = hold_one q s h stands
-  one_ticket q s span (Some (Leaked h)) stands knows = hold_one q s h stands
-  one_ticket q s span (Some (Gone h)) stands knows = hold_one q s h stands
-  one_ticket q s span (Some Idle) stands knows = omega (arith, ap (λ (e : Entries). length e.tickets) stands)
-  one_ticket q s span None stands knows = omega (arith, ap (λ (e : Entries). length e.tickets) stands)
+  none_two : (q : ℕ) (o : Option TicketSeat) → SitsSo two q o → ⊥
+  none_two q o so = grind (arith, so)
 
   module _ (seen : World) (good : Invariant m k seen) where
     each_one : (q : ℕ) → length (own q seen.plain.tickets) ≤ 1
-    each_one q = one_ticket q seen.plain (seen.span q) _ (good.parties q).stands (good.parties q).knows
+    each_one q = by (two (entries q seen.plain)) refl
+      where
+        by : (b : Bool) → two (entries q seen.plain) ≡ b → length (own q seen.plain.tickets) ≤ 1
+        by true is = absurd (none_two q _ (walk.sits_so (ticket_table v first) (ticket_notes v first) two seen good q is))
+        by false is = grind (arith, is)
 
     nobody : (q : ℕ) → length seen.state.seats ≤ q → is_empty (own q seen.plain.tickets) ≡ true
     nobody q past =
         let none : entries q seen.plain ≡ no_entries = subst (StandsFor seen.plain q (seen.span q)) (slice_get_past seen.state.seats q past) (good.parties q).stands in
         ap (λ (e : Entries). is_empty e.tickets) none
 
-    few_tickets : (p : ℕ) → p < length seen.state.seats → length (own p seen.plain.tickets) ≡ 0 → length seen.plain.tickets < length seen.state.seats
-    few_tickets p lt none =
-        omega (arith, all_in (length seen.state.seats) seen.plain.tickets nobody, few_without (length seen.state.seats) p seen.plain.tickets lt none each_one)
-
     most_tickets : length seen.plain.tickets ≤ length seen.state.seats
     most_tickets = omega (arith, all_in (length seen.state.seats) seen.plain.tickets nobody, few (length seen.state.seats) seen.plain.tickets each_one)
 
   module _ (p n N : ℕ) where
-    -- with its ticket it waits for others; at the doorway it is one of n, and a number is left at the end
-    abbrev at_lock : World → TicketCall → TicketPoint → Option Hold → Type 0
-    at_lock seen Lock (Await t) None = Unit {0}
-    at_lock seen Lock LoadNext None = (length seen.state.seats ≡ n) × (N < ticket_limit)
-    at_lock seen Lock (Take j) None = (length seen.state.seats ≡ n) × (N < ticket_limit)
-    at_lock seen _ l h = ⊥
-
     abbrev x : Wait TicketWords V TicketCall TicketPoint (Answer V)
     x = record {
       goal = grants m p;
       party = p;
-      At = at_lock;
+      call = Lock;
+      hold = None;
+      At = at_lock N;
+      Known = λ seen. length seen.state.seats ≡ n;
       Fine = λ seen. seen.plain.next ≤ N;
-      due = λ s mine. due_by mine p s.tickets;
-      rank = λ s mine his. rank_by n N mine s.next (serving_word s) (left_to his);
+      due = λ s l. due_by l p s.tickets;
+      rank = λ s l his. rank_by n N l s.next (serving_word s) (left_to his);
     }
 
-    abbrev Own : World → TicketPoint → Type 0
-    Own seen l = let sc = scene_at m seen p Step (Some (Calling Lock l None)) in walk.After m k f x seen p sc → walk.Own m k f x seen sc
+    abbrev its : World → TicketPoint → Scene TicketWords V TicketCall TicketPoint (Answer V)
+    its seen l = scene_at m seen p Step (Some (Calling Lock l None))
 
-    rank_is : (t : ℕ) (y : World) → slice_get y.state.seats p ≡ Some (Calling Lock (Await t) None) → walk.rank m k f x y ≡ rank_at t (serving_word y.plain) (left_to (walk.his m k f x y))
-    rank_is t y at = ap (λ o. rank_by n N o y.plain.next (serving_word y.plain) (left_to (walk.his m k f x y))) at
+    some_party : (seen : World) (l : TicketPoint) → walk.Waits m k f x seen l → 1 ≤ n
+    some_party seen l w = omega (arith, w.2, slice_get_within seen.state.seats p _ w.0)
 
-    module _ (seen : World) (good : Invariant m k seen) where
+    -- With its ticket
+
+    module _ (seen : World) (t : ℕ) (w : walk.Waits m k f x seen (Await t)) where
       abbrev s : Plain
       s = seen.plain
 
-      abbrev At : TicketPoint → Type 0
-      At l = slice_get seen.state.seats p ≡ Some (Calling Lock l None)
+      abbrev d : ℕ
+      d = first_party s.tickets
+
+      abbrev numbered : Numbered s
+      numbered = w.3.shape.numbered
 
       serving_is : seen.state.words.serving ≡ serving_word s
-      serving_is = cc (good.encodes)
+      serving_is = let good = w.3 in cc (good.encodes)
 
-      next_is : seen.state.words.next ≡ s.next
-      next_is = cc (good.encodes)
+      mine : own p s.tickets ≡ queued p t false ∷ []
+      mine = ap (λ (e : Entries). e.tickets) (in_call m k seen p Lock (Await t) None w.3 w.0).knows.0.stand
 
-      -- With its ticket
+      some : is_empty s.tickets ≡ false
+      some = stands p t false s.tickets mine
 
-      module _ (t : ℕ) (there : At (Await t)) where
-        mine : own p s.tickets ≡ queued p t false ∷ []
-        mine = ap (λ (e : Entries). e.tickets) (in_call m k seen p Lock (Await t) None good there).knows.0.stand
+      -- the first ticket's party, where it is another's
+      behind : (d ≡ p → ⊥) → serving_word s < t
+      behind ne = later p t (serving_word s) s.tickets numbered.1 mine ne
 
-        some : is_empty s.tickets ≡ false
-        some = stands p t false s.tickets mine
+      his_sits : SitsSo has_ticket d (slice_get seen.state.seats d)
+      his_sits = walk.sits_so (ticket_table v first) (ticket_notes v first) has_ticket seen w.3 d (ap not (first_own s.tickets some))
 
-        -- the first ticket's party, where it is another's
-        behind : (first_party s.tickets ≡ p → ⊥) → serving_word s < t
-        behind ne = later p t (serving_word s) s.tickets good.shape.numbered.1 mine ne
+      turn_of : (q j : ℕ) → own q s.tickets ≡ queued q j false ∷ [] → (seen.state.words.serving == j) ≡ is_first q false s.tickets
+      turn_of q j his = ap (λ i. i == j) serving_is ∙ sym (enters_in_turn s q (serving_word s) j numbered refl his)
 
-        sits : walk.SitsSo (ticket_table v first) (ticket_notes v first) has_ticket (first_party s.tickets) (slice_get seen.state.seats (first_party s.tickets))
-        sits = walk.sits_so (ticket_table v first) (ticket_notes v first) has_ticket (first_party s.tickets) s (seen.span (first_party s.tickets)) _ (good.parties (first_party s.tickets)).stands
-            (good.parties (first_party s.tickets)).knows (ap not (first_own s.tickets some))
+      own_await : walk.Own m k f x seen (Await t) (its seen (Await t))
+      own_await =
+          ⊎_elim (λ (is : d ≡ p). inl (rw (turn_of p t mine ∙ first_turn p t s.tickets mine (sym is), eqb_self p) refl))
+          (λ (ne : d ≡ p → ⊥).
+          let late : (seen.state.words.serving == t) ≡ false = ne_eqb seen.state.words.serving t (λ e. absurd (omega (arith, e, serving_is, behind ne))) in
+          inr (Await t, rw late (get-set_same seen.state.seats p (Calling Lock (Await t) None) _ w.0), tt, inr (ne, rw late (refl, omega arith))))
+          (cases_eq d p)
 
-        due_is : walk.due m k f x seen ≡ first_party s.tickets
-        due_is = ap (λ o. due_by o p s.tickets) there
+      steps : (d ≡ p → ⊥) → (c : TicketCall) (l : TicketPoint) (h : Option Hold) → slice_get seen.state.seats d ≡ Some (Calling c l h) → SitsSo has_ticket d (Some (Calling c l h))
+          → walk.Lower m k f x seen (Await t) (scene_at m seen d Step (Some (Calling c l h))) (Await t)
+      steps ne Lock (Await j) None at so =
+          let sc = scene_at m seen d Step (Some (Calling Lock (Await j) None)) in
+          let his : own d s.tickets ≡ queued d j false ∷ [] = ap (λ (e : Entries). e.tickets) (in_call m k seen d Lock (Await j) None w.3 at).knows.0.stand in
+          let entered : (first_party sc.after.plain.tickets ≡ d) × (serving_word sc.after.plain ≡ serving_word s) × (slice_get sc.after.state.seats d ≡ Some (Holding (hold.Ticket j))) =
+          rw (turn_of d j his ∙ first_turn d j s.tickets his refl) (grind arith, serving-entered s, get-set_same seen.state.seats d (Holding (hold.Ticket j)) _ at) in
+          omega (arith, behind ne, ap left_to at, entered.1, ap left_to (ap (slice_get sc.after.state.seats) entered.0 ∙ entered.2))
+      steps ne Release (Serve j) (Some (hold.Ticket u)) at so =
+          let sc = scene_at m seen d Step (Some (Calling Release (Serve j) (Some (hold.Ticket u)))) in
+          grind (arith, behind ne, ap left_to at, serving-gone s.next s.tickets numbered.0 some)
+      steps ne c l h at so = absurd (grind (arith, so))
 
-        his_sits : (o : Option TicketSeat) → walk.his m k f x seen ≡ o → walk.SitsSo (ticket_table v first) (ticket_notes v first) has_ticket (first_party s.tickets) o
-        his_sits o at = subst (walk.SitsSo (ticket_table v first) (ticket_notes v first) has_ticket (first_party s.tickets)) (ap (slice_get seen.state.seats) (sym due_is) ∙ at) sits
+      -- how long it waits at most
+      waits_few : walk.rank m k f x seen (Await t) ≤ 3 * n - 2
+      waits_few =
+          let here = in_queue p t (serving_word s) s.tickets numbered.1 mine in
+          grind (arith, here.0, here.1, w.2, most_tickets seen w.3)
 
-        turn : (seen.state.words.serving == t) ≡ is_first p false s.tickets
-        turn = ap (λ i. i == t) serving_is ∙ sym (enters_in_turn s p (serving_word s) t good.shape.numbered refl mine)
+    -- At the doorway
 
-        own_await : Own seen (Await t)
-        own_await after =
+    module _ (seen : World) (good : Invariant m k seen) (many : length seen.state.seats ≡ n) (one : 1 ≤ n) (room : N < ticket_limit) where
+      next_is : seen.state.words.next ≡ seen.plain.next
+      next_is = next_of seen good
+
+      left_is : seen.plain.next ≤ N → nat_lt seen.state.words.next ticket_limit ≡ true
+      left_is low = lt-ltb seen.state.words.next ticket_limit (omega (arith, next_is, low, room))
+
+      -- it goes for the next number
+      goes_for_next : (l : TicketPoint) (sc : Scene TicketWords V TicketCall TicketPoint (Answer V)) → walk.rank m k f x seen l ≡ doorway n N seen.plain.next false
+          → slice_get sc.after.state.seats p ≡ Some (Calling Lock (Take seen.state.words.next) None) → sc.after.plain ≡ seen.plain → walk.Own m k f x seen l sc
+      goes_for_next l sc stale at same =
+          inr (
+            Take seen.state.words.next,
+            at,
+            room,
+            inl (omega (
+              arith,
+              one,
+              stale,
+              ap (λ (y : Plain). doorway n N y.next (seen.state.words.next == y.next)) same,
+              ap (doorway n N seen.plain.next) (eq-eqb seen.state.words.next seen.plain.next next_is),
+            )),
+          )
+
+      own_load : slice_get seen.state.seats p ≡ Some (Calling Lock LoadNext None) → walk.After m k f x seen p (its seen LoadNext) → walk.Own m k f x seen LoadNext (its seen LoadNext)
+      own_load there after = goes_for_next LoadNext (its seen LoadNext) refl (rw (left_is after.fine) (get-set_same seen.state.seats p _ _ there)) refl
+
+      module _ (j : ℕ) (there : slice_get seen.state.seats p ≡ Some (Calling Lock (Take j) None)) (after : walk.After m k f x seen p (its seen (Take j))) where
+        abbrev sc : Scene TicketWords V TicketCall TicketPoint (Answer V)
+        sc = its seen (Take j)
+
+        left : nat_lt seen.state.words.next ticket_limit ≡ true
+        left = left_is (omega (arith, next_grows seen.plain sc.change, after.fine))
+
+        own_take : walk.Own m k f x seen (Take j) sc
+        own_take =
             ⊎_elim
-            (λ (is : first_party s.tickets ≡ p). inl (rw (turn ∙ first_turn p t s.tickets mine (sym is), eqb_self p) refl))
-            (λ (ne : first_party s.tickets ≡ p → ⊥).
-            let late : (seen.state.words.serving == t) ≡ false = ne_eqb seen.state.words.serving t (λ e. absurd (omega (arith, e, serving_is, behind ne))) in
-            let at : slice_get (scene_at m seen p Step (Some (Calling Lock (Await t) None))).after.state.seats p ≡ Some (Calling Lock (Await t) None) =
-            rw late (get-set_same seen.state.seats p (Calling Lock (Await t) None) _ there) in
-            inr (
-              walk.waits_at m k f x (scene_at m seen p Step (Some (Calling Lock (Await t) None))).after Lock (Await t) None at tt,
-              inr (
-                λ e. ne (sym due_is ∙ e),
-                subst (λ o. walk.Alike m k f x seen (scene_at m seen p Step (Some (Calling Lock (Await t) None))).after.plain o) (sym at)
-                    (rw late (sym due_is, omega (arith, rank_is t seen there))),
-              ),
-            ))
-            (cases_eq (first_party s.tickets) p)
+            -- the number is next, and it takes that ticket
+            (λ (e : seen.state.words.next ≡ j).
+            let is = eq-eqb seen.state.words.next j e in
+            let at : slice_get sc.after.state.seats p ≡ Some (Calling Lock (Await j) None) = rw (is, left) (get-set_same seen.state.seats p _ _ there) in
+            let grown : sc.after.plain.next ≡ seen.plain.next + 1 = rw (is, left) refl in
+            inr (Await j, at, tt, inl (omega (arith, waits_few sc.after j (at, tt, after.known, after.good), ap (doorway n N seen.plain.next) (eq-eqb j seen.plain.next (sym e ∙ next_is)), grown, after.fine, one))))
+            -- another number is next, and it goes for that
+            (λ (ne : seen.state.words.next ≡ j → ⊥).
+            let other = ne_eqb seen.state.words.next j ne in
+            goes_for_next (Take j) sc (ap (doorway n N seen.plain.next) (ne_eqb j seen.plain.next (λ e. absurd (ne (next_is ∙ sym e))))) (rw (other, left) (get-set_same seen.state.seats p _ _ there)) (rw other refl))
+            (cases_eq seen.state.words.next j)
 
-        -- the first ticket's party begins to release, enters, or serves the next
-        lowers : walk.rank m k f x seen ≡ rank_at t (serving_word s) (left_to (walk.his m k f x seen))
-        lowers = rank_is t seen there
+    own_by : (seen : World) (l : TicketPoint) → walk.Waits m k f x seen l → walk.After m k f x seen p (its seen l) → walk.Own m k f x seen l (its seen l)
+    own_by seen (Await t) w after = own_await seen t w
+    own_by seen LoadNext w after = own_load seen w.3 w.2 (some_party seen LoadNext w) w.1 w.0 after
+    own_by seen (Take j) w after = own_take seen w.3 w.2 (some_party seen (Take j) w) w.1 j w.0 after
+    own_by seen l w after = absurd (grind (arith, w.1))
 
-        begun_by : (c : TicketCall) (l : TicketPoint) (h : Option Hold) → m.begin c h ≡ Some l → walk.SitsSo (ticket_table v first) (ticket_notes v first) has_ticket (first_party s.tickets) (Some (resting h))
-            → left_to (Some (Calling c l h)) + 1 ≤ left_to (Some (resting h))
-        begun_by c l h may so = grind (arith, may, so)
+    -- another party is due where this one has its ticket
+    others : (seen : World) (l : TicketPoint) → walk.Waits m k f x seen l → (walk.due m k f x seen l ≡ p → ⊥) → walk.Due m k f x seen l
+    others seen (Await t) w ne =
+        record {
+          begins = λ c i h there may. grind (arith, behind seen t w ne, there, may, subst (SitsSo has_ticket _) there (his_sits seen t w));
+          steps = λ c i h there after. inr (steps seen t w ne c i h there (subst (SitsSo has_ticket _) there (his_sits seen t w)));
+          refuses = λ c i h next there may. absurd (strong c i h next may);
+          busy = λ some. walk.busy_so (ticket_table v first) (ticket_notes v first) has_ticket _ _ refl (λ h is. grind (arith, is)) (his_sits seen t w);
+        }
+    others seen l w ne = absurd (grind (arith, ne))
 
-        steps : (ne : walk.due m k f x seen ≡ p → ⊥) (c : TicketCall) (l : TicketPoint) (h : Option Hold) → walk.his m k f x seen ≡ Some (Calling c l h)
-            → walk.SitsSo (ticket_table v first) (ticket_notes v first) has_ticket (first_party s.tickets) (Some (Calling c l h))
-            → let sc = scene_at m seen (walk.due m k f x seen) Step (Some (Calling c l h)) in walk.After m k f x seen (walk.due m k f x seen) sc → walk.rank m k f x sc.after ≤ walk.rank m k f x seen - 1
-        steps ne Lock (Await j) None at so after =
-            let d = walk.due m k f x seen in
-            let sc = scene_at m seen d Step (Some (Calling Lock (Await j) None)) in
-            let his : own d s.tickets ≡ queued d j false ∷ [] = ap (λ (e : Entries). e.tickets) (in_call m k seen d Lock (Await j) None good at).knows.0.stand in
-            let is_turn : (seen.state.words.serving == j) ≡ true = ap (λ i. i == j) serving_is ∙ (sym (enters_in_turn s d (serving_word s) j good.shape.numbered refl his) ∙ first_turn d j s.tickets his due_is) in
-            let entered : (first_party sc.after.plain.tickets ≡ first_party s.tickets) × (serving_word sc.after.plain ≡ serving_word s) × (slice_get sc.after.state.seats d ≡ Some (Holding (hold.Ticket j))) =
-            rw is_turn (first_entered s.tickets, serving-entered s, get-set_same seen.state.seats d (Holding (hold.Ticket j)) _ at) in
-            let mine_after = after.others p ne ∙ there in
-            let due_after : walk.due m k f x sc.after ≡ d = ap (λ o. due_by o p sc.after.plain.tickets) mine_after ∙ (entered.0 ∙ sym due_is) in
-            omega (
-              arith,
-              behind (λ e. ne (due_is ∙ e)),
-              lowers,
-              ap left_to at,
-              rank_is t sc.after mine_after,
-              entered.1,
-              ap left_to (ap (slice_get sc.after.state.seats) due_after ∙ entered.2),
-            )
-        steps ne Release (Serve j) (Some (hold.Ticket u)) at so after =
-            let sc = scene_at m seen (walk.due m k f x seen) Step (Some (Calling Release (Serve j) (Some (hold.Ticket u)))) in
-            omega (
-              arith,
-              behind (λ e. ne (due_is ∙ e)),
-              lowers,
-              ap left_to at,
-              rank_is t sc.after (after.others p ne ∙ there),
-              serving-gone s.next s.tickets good.shape.numbered.0 some,
-              left_most (walk.his m k f x sc.after),
-            )
-        steps ne c l h at so after = absurd (grind (arith, so))
+    -- a step of a third party
+    beside : (seen : World) (l : TicketPoint) → walk.Waits m k f x seen l → (q : ℕ) → (q ≡ walk.due m k f x seen l → ⊥) → (step : Option Change) → IsOpenStep seen.plain q step → BelongsTo ticket step → (apply_some seen.plain step).next ≤ N
+        → walk.Alike m k f x seen l (apply_some seen.plain step) l
+    beside seen (Await t) w q ne step opens belongs fine = let left = leaves_first seen.plain q step (some seen t w) (numbered seen t w) ne opens belongs in (left.0, omega (arith, left.1))
+    beside seen LoadNext w q ne step opens belongs fine = (refl, omega (arith, next_grows seen.plain step))
+    beside seen (Take j) w q ne step opens belongs fine = (refl, doorway_kept n N j seen.plain.next (apply_some seen.plain step).next (some_party seen (Take j) w) (next_grows seen.plain step) fine)
+    beside seen l w q ne step opens belongs fine = absurd (grind (arith, w.1))
 
-        busy : is_busy (walk.his m k f x seen) ≡ true
-        busy = walk.busy_so (ticket_table v first) (ticket_notes v first) has_ticket (first_party s.tickets) _ refl (λ h is. grind (arith, is)) (his_sits _ refl)
-
-      -- At the doorway
-
-      module _ (many : length seen.state.seats ≡ n) (room : N < ticket_limit) where
-        some_party : (l : TicketPoint) → At l → 1 ≤ n
-        some_party l there = omega (arith, many, slice_get_within seen.state.seats p _ there)
-
-        many_after : length (scene m seen p Step).after.state.seats ≡ n
-        many_after = length-happens m seen.state p Step ∙ many
-
-        -- it goes for the next number
-        goes_for_next : (l : TicketPoint) → At l → rank_by n N (Some (Calling Lock l None)) s.next (serving_word s) (left_to (walk.his m k f x seen)) ≡ doorway n N s.next false → (sc : Scene TicketWords V TicketCall TicketPoint (Answer V))
-            → length sc.after.state.seats ≡ n → slice_get sc.after.state.seats p ≡ Some (Calling Lock (Take seen.state.words.next) None) → sc.after.plain ≡ s → walk.Own m k f x seen sc
-        goes_for_next l there stale sc still at same =
-            let after : walk.rank m k f x sc.after ≡ doorway n N sc.after.plain.next (seen.state.words.next == sc.after.plain.next) =
-            ap (λ o. rank_by n N o sc.after.plain.next (serving_word sc.after.plain) (left_to (walk.his m k f x sc.after))) at in
-            let next_same : sc.after.plain.next ≡ s.next = ap (λ (y : Plain). y.next) same in
-            inr (
-              walk.waits_at m k f x sc.after Lock (Take seen.state.words.next) None at (still, room),
-              inl (omega (
-                arith,
-                some_party l there,
-                ap (λ o. rank_by n N o s.next (serving_word s) (left_to (walk.his m k f x seen))) there,
-                stale,
-                after,
-                next_same,
-                ap (doorway n N sc.after.plain.next) (eq-eqb seen.state.words.next sc.after.plain.next (next_is ∙ sym next_same)),
-              )),
-            )
-
-        left_is : s.next ≤ N → nat_lt seen.state.words.next ticket_limit ≡ true
-        left_is low = lt-ltb seen.state.words.next ticket_limit (omega (arith, next_is, low, room))
-
-        still_many : (sc : Scene TicketWords V TicketCall TicketPoint (Answer V)) → walk.After m k f x seen p sc → length sc.after.state.seats ≡ n
-        still_many sc after = (after.still Lock LoadNext None (many, room)).0
-
-        own_load : At LoadNext → Own seen LoadNext
-        own_load there after = goes_for_next LoadNext there refl (scene_at m seen p Step (Some (Calling Lock LoadNext None))) (still_many _ after) (rw (left_is after.fine) (get-set_same seen.state.seats p _ _ there)) refl
-
-        module _ (j : ℕ) (there : At (Take j)) where
-          abbrev sc : Scene TicketWords V TicketCall TicketPoint (Answer V)
-          sc = scene_at m seen p Step (Some (Calling Lock (Take j) None))
-
-          left_now : walk.After m k f x seen p sc → nat_lt seen.state.words.next ticket_limit ≡ true
-          left_now after = left_is (omega (arith, next_grows s sc.change, after.fine))
-
-          -- the number is next, and it takes that ticket
-          taken : (seen.state.words.next == j) ≡ true → walk.After m k f x seen p sc → walk.Own m k f x seen sc
-          taken is after =
-              let left = left_now after in
-              let at : slice_get sc.after.state.seats p ≡ Some (Calling Lock (Await j) None) = rw (is, left) (get-set_same seen.state.seats p _ _ there) in
-              let plain_is : sc.after.plain ≡ apply s (gets p to_take_ticket) = rw (is, left) refl in
-              let number = eqb-true seen.state.words.next j is in
-              let none_yet : length (own p s.tickets) ≡ 0 = ap (λ (e : Entries). length e.tickets) (in_call m k seen p Lock (Take j) None good there).knows.0.stand in
-              inr (
-                walk.waits_at m k f x sc.after Lock (Await j) None at tt,
-                inl (omega (
-                  arith,
-                  rank_is j sc.after at,
-                  ap (λ o. rank_by n N o s.next (serving_word s) (left_to (walk.his m k f x seen))) there,
-                  ap (doorway n N s.next) (eq-eqb j s.next (sym number ∙ next_is)),
-                  ap serving_word plain_is ∙ serving-taken s p false good.shape.numbered,
-                  ap (λ (y : Plain). y.next) plain_is,
-                  number,
-                  next_is,
-                  many,
-                  few_tickets seen good p (slice_get_within seen.state.seats p _ there) none_yet,
-                  after.fine,
-                  good.shape.numbered.0,
-                  left_most (walk.his m k f x sc.after),
-                )),
-              )
-
-          -- another number is next, and it goes for that
-          missed : (seen.state.words.next == j) ≡ false → walk.After m k f x seen p sc → walk.Own m k f x seen sc
-          missed other after =
-              let left = left_now after in
-              goes_for_next (Take j) there (ap (doorway n N s.next) (ne_eqb j s.next (λ e. false≢true (sym other ∙ eq-eqb seen.state.words.next j (next_is ∙ sym e))))) sc (still_many sc after)
-              (rw (other, left) (get-set_same seen.state.seats p _ _ there)) (rw other refl)
-
-          own_take : Own seen (Take j)
-          own_take after =
-              ⊎_elim (λ (e : seen.state.words.next ≡ j). taken (eq-eqb seen.state.words.next j e) after)
-              (λ (ne : seen.state.words.next ≡ j → ⊥). missed (ne_eqb seen.state.words.next j ne) after) (cases_eq seen.state.words.next j)
-
-      -- where it waits, by its seat
-      abbrev Here : Option TicketSeat → Type 0
-      Here o = walk.AtSeat m k f x seen o
-
-      -- the party that is due begins to release
-      begins : (o : Option TicketSeat) → walk.mine m k f x seen ≡ o → Here o → (c : TicketCall) (l : TicketPoint) (h : Option Hold) → walk.his m k f x seen ≡ Some (resting h) → m.begin c h ≡ Some l
-          → x.rank s (walk.mine m k f x seen) (Some (Calling c l h)) ≤ walk.rank m k f x seen - 1
-      begins (Some (Calling Lock (Await t) None)) is at c l h there may =
-          let ne : first_party s.tickets ≡ p → ⊥ = λ e. calls_not h Lock (Await t) None (sym there ∙ (ap (slice_get seen.state.seats) (due_is t is ∙ e) ∙ is)) in
-          omega (
-            arith,
-            behind t is ne,
-            ap (λ o. rank_by n N o s.next (serving_word s) (left_to (Some (Calling c l h)))) is,
-            lowers t is,
-            ap left_to there,
-            begun_by t is c l h may (his_sits t is _ there),
-          )
-      begins (Some (Calling Lock LoadNext None)) is at c l h there may = absurd (calls_not h Lock LoadNext None (sym there ∙ (ap (λ o. slice_get seen.state.seats (due_by o p s.tickets)) is ∙ is)))
-      begins (Some (Calling Lock (Take j) None)) is at c l h there may = absurd (calls_not h Lock (Take j) None (sym there ∙ (ap (λ o. slice_get seen.state.seats (due_by o p s.tickets)) is ∙ is)))
-      begins o is at c l h there may = absurd (grind (arith, at))
-
-      steps_on : (o : Option TicketSeat) → walk.mine m k f x seen ≡ o → Here o → (walk.due m k f x seen ≡ p → ⊥) → (c : TicketCall) (l : TicketPoint) (h : Option Hold) → walk.his m k f x seen ≡ Some (Calling c l h)
-          → let sc = scene_at m seen (walk.due m k f x seen) Step (Some (Calling c l h)) in walk.After m k f x seen (walk.due m k f x seen) sc → walk.rank m k f x sc.after ≤ walk.rank m k f x seen - 1
-      steps_on (Some (Calling Lock (Await t) None)) is at ne c l h there after = steps t is ne c l h there (his_sits t is _ there) after
-      steps_on (Some (Calling Lock LoadNext None)) is at ne c l h there after = absurd (ne (ap (λ o. due_by o p s.tickets) is))
-      steps_on (Some (Calling Lock (Take j) None)) is at ne c l h there after = absurd (ne (ap (λ o. due_by o p s.tickets) is))
-      steps_on o is at ne c l h there after = absurd (grind (arith, at))
-
-      -- a step of a third party
-      beside : (o : Option TicketSeat) → walk.mine m k f x seen ≡ o → Here o → (q : ℕ) → (q ≡ walk.due m k f x seen → ⊥) → (step : Option Change) → IsOpenStep s q step → BelongsTo ticket step → (apply_some s step).next ≤ N
-          → walk.Alike m k f x seen (apply_some s step) (walk.mine m k f x seen)
-      beside (Some (Calling Lock (Await t) None)) is at q ne step opens belongs fine =
-          let left = leaves_first s q step (some t is) good.shape.numbered (λ e. ne (e ∙ sym (due_is t is))) opens belongs in
-          rw is (left.0, omega (arith, left.1))
-      beside (Some (Calling Lock LoadNext None)) is at q ne step opens belongs fine = rw is (refl, omega (arith, next_grows s step))
-      beside (Some (Calling Lock (Take j) None)) is at q ne step opens belongs fine =
-          rw is (refl, doorway_kept n N j s.next (apply_some s step).next (some_party at.0 at.1 (Take j) is) (next_grows s step) fine)
-      beside o is at q ne step opens belongs fine = absurd (grind (arith, at))
-
-      busy_by : (o : Option TicketSeat) → walk.mine m k f x seen ≡ o → Here o → is_busy (walk.his m k f x seen) ≡ true
-      busy_by (Some (Calling Lock (Await t) None)) is at = busy t is
-      busy_by (Some (Calling Lock LoadNext None)) is at = ap is_busy (ap (λ o. slice_get seen.state.seats (due_by o p s.tickets)) is ∙ is)
-      busy_by (Some (Calling Lock (Take j) None)) is at = ap is_busy (ap (λ o. slice_get seen.state.seats (due_by o p s.tickets)) is ∙ is)
-      busy_by o is at = absurd (grind (arith, at))
-
-      -- how long it waits at most, and at least one round
-      lasts : (o : Option TicketSeat) → walk.mine m k f x seen ≡ o → Here o → (1 ≤ walk.rank m k f x seen) × (length seen.state.seats ≡ n → walk.rank m k f x seen ≤ 3 * n - 1 + (N - s.next))
-      lasts (Some (Calling Lock (Await t) None)) is at =
-          let own_is = mine t is in (
-            omega (arith, lowers t is),
-            λ many. omega (
-              arith,
-              lowers t is,
-              many,
-              most_tickets seen good,
-              below p t (serving_word s) s.tickets good.shape.numbered.1 own_is,
-              at_least p t (serving_word s) s.tickets good.shape.numbered.1 own_is,
-              good.shape.numbered.0,
-              left_most (walk.his m k f x seen),
-            ),
-          )
-      lasts (Some (Calling Lock LoadNext None)) is at = let one = some_party at.0 at.1 LoadNext is in rw is (omega (arith, one), λ many. omega (arith, one))
-      lasts (Some (Calling Lock (Take j) None)) is at =
-          let one = some_party at.0 at.1 (Take j) is in rw is (omega (arith, one, doorway_least n N s.next (j == s.next)), λ many. omega (arith, one, doorway_most n N s.next (j == s.next)))
-      lasts o is at = absurd (grind (arith, at))
-
-      own_by : (c : TicketCall) (l : TicketPoint) (h : Option Hold) → slice_get seen.state.seats p ≡ Some (Calling c l h) → at_lock seen c l h
-          → let sc = scene_at m seen p Step (Some (Calling c l h)) in walk.After m k f x seen p sc → walk.Own m k f x seen sc
-      own_by Lock (Await t) None there at after = own_await t there after
-      own_by Lock LoadNext None there at after = own_load at.0 at.1 there after
-      own_by Lock (Take j) None there at after = own_take at.0 at.1 j there after
-      own_by c l h there at after = absurd (grind (arith, at))
-
-    keeps : (seen : World) (q : ℕ) (move : Move TicketCall V) (c : TicketCall) (l : TicketPoint) (h : Option Hold) → at_lock seen c l h → at_lock (scene m seen q move).after c l h
-    keeps seen q move Lock (Await t) None at = tt
-    keeps seen q move Lock LoadNext None at = (length-happens m seen.state q move ∙ at.0, at.1)
-    keeps seen q move Lock (Take j) None at = (length-happens m seen.state q move ∙ at.0, at.1)
-    keeps seen q move c l h at = absurd (grind (arith, at))
+    -- how long it waits at most, and at least one round
+    lasts : (seen : World) (l : TicketPoint) → walk.Waits m k f x seen l → (1 ≤ walk.rank m k f x seen l) × (walk.rank m k f x seen l ≤ 3 * n - 1 + (N - seen.plain.next))
+    lasts seen (Await t) w = (omega arith, omega (arith, waits_few seen t w))
+    lasts seen (Take j) w = let one = some_party seen (Take j) w in (grind (arith, one), grind (arith, one))
+    lasts seen LoadNext w = let one = some_party seen LoadNext w in (omega (arith, one), omega arith)
+    lasts seen l w = absurd (grind (arith, w.1))
 
     walks : walk.Walks m k f x
     walks =
         record {
           fine = λ seen q move good fine. omega (arith, next_grows seen.plain (scene m seen q move).change, fine);
-          keeps = λ seen q move good w. inr (keeps seen q move);
-          own = λ seen c l h good there at after. own_by seen good c l h there at after;
-          weak = λ seen c l h next at may. absurd (strong c l h next may);
-          begins = λ seen c l h good w there may. begins seen good (walk.mine m k f x seen) refl w c l h there may;
-          steps = λ seen c l h good w ne there after. inr (steps_on seen good (walk.mine m k f x seen) refl w ne c l h there after);
-          refuses = λ seen c l h next good w there may. absurd (strong c l h next may);
-          leaks = λ s o h. rank_less n N o s.next (serving_word s) 1 2 (omega arith);
-          beside = λ seen q c l h good w ne not_due there after. inr (beside seen good (walk.mine m k f x seen) refl w q not_due _ after.opens after.belongs after.fine);
-          busy = λ seen good w some. busy_by seen good (walk.mine m k f x seen) refl w;
+          keeps = λ seen q move l w. inr (length-happens m seen.state q move ∙ w.2);
+          own = own_by;
+          weak = λ seen l next at may. absurd (strong Lock l None next may);
+          others = others;
+          leaks = λ s l h. grind arith;
+          beside = λ seen l q d i j w ne not_due there after. inr (inr (beside seen l w q not_due _ after.opens after.belongs after.fine));
         }
 
   await_at : (t p : ℕ) (c : TicketCall) (l : TicketPoint) (h : Option Hold) → StandsSo (ticket_table v first) (ticket_notes v first) (λ e. waits_by t e.tickets) p c l h
@@ -569,9 +346,8 @@ module _ {V : Type 0} (v : V) (first : ℕ) where
   await_at t p c l h is = absurd (grind (arith, is))
 
   -- a call of `lock` holds nothing
-  lock_at : (n N p : ℕ) (seen : World) (c : TicketCall) (l : TicketPoint) (h : Option Hold) → asks_of c h ≡ waits to_enter → k.Knows c l h p seen.plain (seen.span p) → length seen.state.seats ≡ n → N < ticket_limit
-      → at_lock p n N seen c l h
-  lock_at n N p seen c l h asks knows many room = grind (arith, asks, knows, many, room)
+  lock_at : (N p : ℕ) (c : TicketCall) (l : TicketPoint) (h : Option Hold) (s : Plain) (span : List Mark) → asks_of c h ≡ waits to_enter → k.Knows c l h p s span → N < ticket_limit → (Some (Calling c l h) ≡ Some (Calling Lock l None)) × at_lock N l
+  lock_at N p c l h s span asks knows room = grind (arith, asks, knows, room)
 
   parties : (past : List (ℕ × Move TicketCall V)) (s : State TicketWords V TicketCall TicketPoint) → length (after m s past).seats ≡ length s.seats
   parties [] s = refl
@@ -595,21 +371,19 @@ module _ {V : Type 0} (v : V) (first : ℕ) where
     last_is rounds =
         let there = seen_after m seen (joined rounds) in
         ap (λ (x : State TicketWords V TicketCall TicketPoint). x.words.next) (sym (state-seen_after m seen (joined rounds) ∙ ap (λ x. after m x (joined rounds)) (state_is m k f n past)))
-        ∙ next_is 0 0 0 there (good_after m k f seen (joined rounds) (good m k f n past))
+        ∙ next_of there (good_after m k f seen (joined rounds) (good m k f n past))
 
-    granted_in : (p N : ℕ) (rounds : List (List (ℕ × Move TicketCall V))) → N ≡ last rounds → walk.Waits m k f (x p n N) seen → AreRounds m now rounds → walk.rank m k f (x p n N) seen ≤ length rounds
+    many : length seen.state.seats ≡ n
+    many = ap (λ (x : State TicketWords V TicketCall TicketPoint). length x.seats) (state_is m k f n past) ∙ (parties past (at_first m n) ∙ length-replicate n _)
+
+    granted_in : (p : ℕ) (l : TicketPoint) (rounds : List (List (ℕ × Move TicketCall V))) → let N = last rounds in slice_get now.seats p ≡ Some (Calling Lock l None) → at_lock N l → AreRounds m now rounds → (walk.Waits m k f (x p n N) seen l → walk.rank m k f (x p n N) seen l ≤ length rounds)
         → occurs m (grants m p) now (joined rounds) ≡ true
-    granted_in p N rounds is w are enough =
-        walk.ends m k f (x p n N) (walks p n N) (λ seen good w. (lasts p n N seen good (walk.mine m k f (x p n N) seen) refl w).0) n past rounds w (omega (arith, is)) are enough
+    granted_in p l rounds there at are enough = walk.ends m k f (x p n (last rounds)) (walks p n (last rounds)) (λ seen l w. (lasts p n (last rounds) seen l w).0) n past rounds l there at many (omega arith) are enough
 
     pub enters_in_rounds : (rounds : List (List (ℕ × Move TicketCall V))) → EntersInRounds m n past rounds
     enters_in_rounds rounds p t c l h there with_it are few =
-        let N = last rounds in
-        let at = await_at t p c l h (calls_so (ticket_table v first) (ticket_notes v first) f n past (λ e. waits_by t e.tickets) p c l h there
-        (ap (λ (e : Entries). waits_by t e.tickets) with_it ∙ rw (eqb_self t) refl)) in
-        let seat = seat_is m k f n past p _ there ∙ at in
-        granted_in p N rounds refl (walk.waits_at m k f (x p n N) seen Lock (Await t) None seat tt) are
-        (omega (arith, few, numbers.1, rank_is p n N t seen seat, left_most (walk.his m k f (x p n N) seen)))
+        let at = await_at t p c l h (calls_so (ticket_table v first) (ticket_notes v first) f n past (λ e. waits_by t e.tickets) p c l h there (ap (λ (e : Entries). waits_by t e.tickets) with_it ∙ rw (eqb_self t) refl)) in
+        granted_in p (Await t) rounds (there ∙ at) tt are (λ w. grind (arith, few, numbers.1))
 
     pub never_starved : (schedule : ℕ → ℕ × Move TicketCall V) → IsNeverStarved m n past schedule
     never_starved schedule p t c l h there with_it fair =
@@ -617,8 +391,5 @@ module _ {V : Type 0} (v : V) (first : ℕ) where
 
     pub locks_in_rounds : (rounds : List (List (ℕ × Move TicketCall V))) → LocksInRounds m n past rounds
     locks_in_rounds rounds p c l h there asks are room few =
-        let N = last rounds in
-        let seat = seat_is m k f n past p _ there in
-        let many : length seen.state.seats ≡ n = ap (λ (x : State TicketWords V TicketCall TicketPoint). length x.seats) (state_is m k f n past) ∙ (parties past (at_first m n) ∙ length-replicate n _) in
-        let w = walk.waits_at m k f (x p n N) seen c l h seat (lock_at n N p seen c l h asks (calls m k f n past p c l h there).knows many (omega (arith, room, last_is rounds))) in
-        granted_in p N rounds refl w are (omega (arith, few, numbers.0, last_is rounds, (lasts p n N seen (good m k f n past) (walk.mine m k f (x p n N) seen) refl w).1 many))
+        let at = lock_at (last rounds) p c l h seen.plain (seen.span p) asks (calls m k f n past p c l h there).knows (omega (arith, room, last_is rounds)) in
+        granted_in p l rounds (there ∙ at.0) at.1 are (λ w. omega (arith, few, numbers.0, last_is rounds, (lasts p n (last rounds) seen l w).1))

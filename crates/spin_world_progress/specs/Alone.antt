@@ -1,16 +1,16 @@
 -- Progress of any object, from what every object owes: a call is answered, or others make progress.
 use Rattle.std.specs.Prelude.{◌≡◌, ℕ, ◌≤◌, ◌==◌, ◌&&◌, ◌||◌, Bool, true, false, not, Option, Some, List, [], ◌∷◌, ◌⊎◌, length, slice_get}
+use Rattle.spin_model.specs.Machines.{Machine}
+use Rattle.spin_model.specs.Schedules.{State, happens, after, at_first}
 use Rattle.spin_model.specs.declared.place.Hold.{Hold}
 use Rattle.spin_model.specs.declared.place.Seat.TheVariants.{Calling}
 use Rattle.spin_model.specs.declared.schedule.Move.{Move}
-use Rattle.spin_model.specs.declared.schedule.Outcome.TheVariants as outcome
-use Rattle.spin_model.specs.Machines.{Machine}
-use Rattle.spin_model.specs.Schedules.{State, happens, after, at_first}
 use Rattle.spin_world_core.specs.Joined.{joined}
 use Rattle.spin_world_core.specs.Runs.{opening}
-use Rattle.spin_world_core.specs.Undisturbed.{is_open_now, steps_alone}
 use Rattle.spin_world_core.specs.Users.{seen_after}
+use Rattle.spin_world_core.specs.Undisturbed.{is_open_now, steps_alone}
 use Rattle.spin_world_progress.specs.Rounds.{Test, occurs, AreRounds, refuses_weakly}
+use Rattle.spin_model.specs.declared.schedule.Outcome.TheVariants as outcome
 
 abbrev pub same_numbers : List ℕ → List ℕ → Bool
 same_numbers [] [] = true

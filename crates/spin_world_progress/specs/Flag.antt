@@ -1,17 +1,17 @@
 -- Progress of a flag: how many rounds pass at most until somebody is granted the lock.
 use Rattle.std.specs.Prelude.{◌≡◌, ℕ, ◌≤◌, ◌||◌, Bool, true, Option, Some, List, length, slice_get}
 use Rattle.spin_step.specs.Plain.{to_write}
-use Rattle.spin_model.specs.declared.answer.Answer.{Answer}
-use Rattle.spin_model.specs.declared.place.Hold.{Hold}
-use Rattle.spin_model.specs.declared.place.Seat.TheVariants.{Calling}
-use Rattle.spin_model.specs.declared.schedule.Move.{Move}
 use Rattle.spin_model.specs.Calls.{waits}
 use Rattle.spin_model.specs.Machines.{Machine}
 use Rattle.spin_model.specs.Schedules.{after, at_first}
-use Rattle.spin_world_core.specs.Joined.{joined}
-use Rattle.spin_world_progress.specs.Rounds.{occurs, AreRounds, grants_any, refuses_weakly, stretch, IsFair}
+use Rattle.spin_model.specs.declared.answer.Answer.{Answer}
 use Rattle.spin_model.specs.declared.flag.FlagCall.{FlagCall}
 use Rattle.spin_model.specs.declared.flag.FlagPoint.{FlagPoint}
+use Rattle.spin_model.specs.declared.place.Hold.{Hold}
+use Rattle.spin_model.specs.declared.place.Seat.TheVariants.{Calling}
+use Rattle.spin_model.specs.declared.schedule.Move.{Move}
+use Rattle.spin_world_core.specs.Joined.{joined}
+use Rattle.spin_world_progress.specs.Rounds.{occurs, AreRounds, grants_any, refuses_weakly, stretch, IsFair}
 
 -- While a party waits in a `lock`, in each four rounds some party is granted the lock, or that party's own exchange is refused without cause
 abbrev pub LocksInFour : {V : Type 0} → Machine Bool V FlagCall FlagPoint (Answer V) → ℕ → List (ℕ × Move FlagCall V) → List (List (ℕ × Move FlagCall V)) → Type 0

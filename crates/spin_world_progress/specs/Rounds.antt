@@ -1,15 +1,15 @@
 -- Rounds: stretches of a schedule, in each of which every party moves on that others may wait for.
 use Rattle.std.specs.Prelude.{◌≡◌, ℕ, zero, suc, ◌==◌, ◌&&◌, ◌||◌, Bool, true, false, Option, Some, List, [], ◌∷◌, slice_get}
-use Rattle.spin_model.specs.declared.place.Hold.{Hold}
-use Rattle.spin_model.specs.declared.place.Seat.{Seat}
-use Rattle.spin_model.specs.declared.place.Seat.TheVariants.{Calling, Holding, Leaked, Gone}
-use Rattle.spin_model.specs.declared.schedule.Move.{Move}
-use Rattle.spin_model.specs.declared.schedule.Move.TheVariants.{Begin, Weak}
-use Rattle.spin_model.specs.declared.schedule.Outcome.{Outcome}
-use Rattle.spin_model.specs.declared.schedule.Outcome.TheVariants as outcome
 use Rattle.spin_model.specs.Calls.{Asked, gives_back, Said, granted}
 use Rattle.spin_model.specs.Machines.{Machine}
 use Rattle.spin_model.specs.Schedules.{State, happens, after, may_read}
+use Rattle.spin_model.specs.declared.place.Hold.{Hold}
+use Rattle.spin_model.specs.declared.place.Seat.TheVariants.{Calling, Holding, Leaked, Gone}
+use Rattle.spin_model.specs.declared.schedule.Move.{Move}
+use Rattle.spin_model.specs.declared.schedule.Move.TheVariants.{Begin, Weak}
+use Rattle.spin_model.specs.declared.place.Seat.{Seat}
+use Rattle.spin_model.specs.declared.schedule.Outcome.{Outcome}
+use Rattle.spin_model.specs.declared.schedule.Outcome.TheVariants as outcome
 
 -- what an event may be asked: by its party, its move, its outcome, and where it leaves the party
 abbrev pub Test : Type 0 → Type 0 → Type 0 → Type 0 → Type 0

@@ -1,20 +1,20 @@
 -- Progress of a read-write lock: how many rounds an upgrade waits at most.
 use Rattle.std.specs.Prelude.{◌≡◌, ℕ, ◌+◌, ◌≤◌, false, None, sum_by, ◌||◌, true, Option, Some, List, length, slice_get}
 use Rattle.spin_step.specs.Plain.{Kind, reading, upgradable, asking, writing, is_holder}
+use Rattle.spin_step_more.specs.declared.rw_calls.RwCall.{RwCall}
+use Rattle.spin_step_more.specs.declared.rw_calls.RwPoint.{RwPoint}
+use Rattle.spin_model.specs.Acts.{is_waiting}
+use Rattle.spin_model.specs.Machines.{Machine}
+use Rattle.spin_model.specs.Schedules.{after, at_first}
 use Rattle.spin_model.specs.declared.answer.Answer.{Answer}
 use Rattle.spin_model.specs.declared.place.Hold.{Hold}
 use Rattle.spin_model.specs.declared.place.Seat.TheVariants.{Calling}
 use Rattle.spin_model.specs.declared.schedule.Move.{Move}
 use Rattle.spin_model.specs.declared.schedule.Move.TheVariants.{Weak}
-use Rattle.spin_model.specs.Acts.{is_waiting}
-use Rattle.spin_step_more.specs.declared.rw_calls.RwCall.{RwCall}
-use Rattle.spin_step_more.specs.declared.rw_calls.RwPoint.{RwPoint}
-use Rattle.spin_model.specs.Machines.{Machine}
-use Rattle.spin_model.specs.Schedules.{after, at_first}
 use Rattle.spin_world_core.specs.Joined.{joined}
-use Rattle.spin_world_progress.specs.Rounds.{Test, occurs, AreRounds, grants, grants_any, refuses_weakly, is_step, stretch, IsFair}
 use Rattle.spin_world_core.specs.Runs.{opening}
 use Rattle.spin_world_core.specs.Users.{seen_after}
+use Rattle.spin_world_progress.specs.Rounds.{Test, occurs, AreRounds, grants, grants_any, refuses_weakly, is_step, stretch, IsFair}
 
 -- A party in its upgrade that has asked is granted it in three rounds, or its exchange is refused without cause
 abbrev pub UpgradesInThree : {V : Type 0} → Machine ℕ V RwCall RwPoint (Answer V) → ℕ → List (ℕ × Move RwCall V) → List (List (ℕ × Move RwCall V)) → Type 0

@@ -1,14 +1,14 @@
 -- Starvation: a call that is never answered, though the schedule is fair.
 use Rattle.std.specs.Prelude.{◌≡◌, ℕ, ◌==◌, false, Option, Some, List, slice_get}
+use Rattle.spin_model.specs.Calls.{Asked}
+use Rattle.spin_model.specs.Machines.{Machine}
+use Rattle.spin_model.specs.Schedules.{after, at_first}
 use Rattle.spin_model.specs.declared.place.Hold.{Hold}
 use Rattle.spin_model.specs.declared.place.Seat.TheVariants.{Calling}
 use Rattle.spin_model.specs.declared.schedule.Move.{Move}
 use Rattle.spin_model.specs.declared.schedule.Move.TheVariants.{Weak}
+use Rattle.spin_world_progress.specs.Rounds.{grants_any, Test, occurs, is_step, stretch, IsFair}
 use Rattle.spin_model.specs.declared.schedule.Outcome.TheVariants as outcome
-use Rattle.spin_model.specs.Calls.{Asked}
-use Rattle.spin_model.specs.Machines.{Machine}
-use Rattle.spin_model.specs.Schedules.{after, at_first}
-use Rattle.spin_world_progress.specs.Rounds.{Test, occurs, is_step, stretch, IsFair}
 
 -- the party's call is answered, or some exchange is refused without cause
 abbrev pub ends_or_weak : {V C L A : Type 0} → ℕ → Test V C L A
@@ -22,3 +22,15 @@ MayStarve {V = V} {C = C} {L = L} m n what =
     (past : List (ℕ × Move C V)) × (schedule : ℕ → ℕ × Move C V) × (p : ℕ) × (c : C) × (l : L) × (h : Option Hold)
     × (let s = after m (at_first m n) past in
     (slice_get s.seats p ≡ Some (Calling c l h)) × (m.asks c h ≡ what) × IsFair m s schedule × ((place : ℕ) → occurs m (ends_or_weak p) s (stretch schedule 0 place) ≡ false))
+
+-- some party is granted what it asks, or some exchange is refused without cause
+abbrev pub grants_or_weak : {W V C L A : Type 0} → Machine W V C L A → Test V C L A
+grants_or_weak m q Weak o x = is_step o
+grants_or_weak m q move o x = grants_any m q move o x
+
+-- Calls that ask this are not free of deadlock: of n parties, after some schedule, one is in such a call, and some endless fair schedule from there on grants nobody, and refuses no exchange without cause
+abbrev pub MayDeadlock : {W V C L A : Type 0} → Machine W V C L A → ℕ → Asked → Type 0
+MayDeadlock {V = V} {C = C} {L = L} m n what =
+    (past : List (ℕ × Move C V)) × (schedule : ℕ → ℕ × Move C V) × (p : ℕ) × (c : C) × (l : L) × (h : Option Hold)
+    × (let s = after m (at_first m n) past in
+    (slice_get s.seats p ≡ Some (Calling c l h)) × (m.asks c h ≡ what) × IsFair m s schedule × ((place : ℕ) → occurs m (grants_or_weak m) s (stretch schedule 0 place) ≡ false))

@@ -1,22 +1,22 @@
 -- Progress of a ticket lock: how many rounds a call of `lock` waits at most.
 use Rattle.std.specs.Prelude.{◌≡◌, ℕ, ◌+◌, ◌-◌, ◌*◌, ◌<◌, ◌≤◌, true, false, Option, Some, None, List, length, slice_get}
 use Rattle.spin_step.specs.Plain.{ticket_limit, to_enter}
-use Rattle.spin_step.specs.Parties.{entries}
+use Rattle.spin_model.specs.Calls.{waits}
+use Rattle.spin_model.specs.Machines.{Machine}
+use Rattle.spin_model.specs.Schedules.{after, at_first}
 use Rattle.spin_model.specs.declared.answer.Answer.{Answer}
 use Rattle.spin_model.specs.declared.place.Hold.{Hold}
 use Rattle.spin_model.specs.declared.place.Seat.TheVariants.{Calling}
 use Rattle.spin_model.specs.declared.schedule.Move.{Move}
-use Rattle.spin_model.specs.Calls.{waits}
-use Rattle.spin_model.specs.Machines.{Machine}
-use Rattle.spin_model.specs.Schedules.{after, at_first}
-use Rattle.spin_world_core.specs.Joined.{joined}
-use Rattle.spin_world_progress.specs.Rounds.{occurs, AreRounds, grants, stretch, IsFair}
-use Rattle.spin_world_core.specs.Runs.{opening}
-use Rattle.spin_world_core.specs.Users.{seen_after}
 use Rattle.spin_model.specs.declared.ticket.TicketCall.{TicketCall}
-use Rattle.spin_model.specs.declared.ticket.TicketCall.TheVariants.{Lock}
 use Rattle.spin_model.specs.declared.ticket.TicketPoint.{TicketPoint}
 use Rattle.spin_model.specs.declared.ticket.TicketWords.{TicketWords}
+use Rattle.spin_world_core.specs.Joined.{joined}
+use Rattle.spin_world_core.specs.Runs.{opening}
+use Rattle.spin_world_core.specs.Users.{seen_after}
+use Rattle.spin_step.specs.Parties.{entries}
+use Rattle.spin_world_progress.specs.Rounds.{occurs, AreRounds, grants, stretch, IsFair}
+use Rattle.spin_model.specs.declared.ticket.TicketCall.TheVariants.{Lock}
 use Rattle.spin_world_ticket.specs.Turns.{waits_with}
 
 abbrev pub TicketMachine : Type 0 → Type 0

@@ -1,32 +1,32 @@
 -- Wrong locks, and schedules in rounds that show what each lacks.
 use Rattle.std.specs.Prelude.{ℕ, ◌-◌, Bool, true, Option, None, List, [], ◌∷◌}
 use Rattle.spin_step.specs.Plain.{asking, upgradable, weight, serves, turns}
+use Rattle.spin_step_more.specs.declared.rw_calls.RwCall.{RwCall}
+use Rattle.spin_step_more.specs.declared.rw_calls.RwPoint.{RwPoint}
+use Rattle.spin_model.specs.Acts.{Act, load, store, machine_of}
+use Rattle.spin_model.specs.Machines.{Machine}
 use Rattle.spin_model.specs.declared.answer.Answer.{Answer}
-use Rattle.spin_model.specs.declared.answer.Answer.TheVariants.{Done}
+use Rattle.spin_model.specs.declared.flag.FlagCall.{FlagCall}
+use Rattle.spin_model.specs.declared.flag.FlagPoint.{FlagPoint}
 use Rattle.spin_model.specs.declared.place.Hold.{Hold}
 use Rattle.spin_model.specs.declared.schedule.Move.{Move}
 use Rattle.spin_model.specs.declared.schedule.Move.TheVariants.{Begin, Step}
-use Rattle.spin_model.specs.declared.step.Next.TheVariants.{Continue, Answers}
-use Rattle.spin_model.specs.declared.flag.FlagCall.{FlagCall}
-use Rattle.spin_model.specs.declared.flag.FlagCall.TheVariants as flag
-use Rattle.spin_model.specs.declared.flag.FlagPoint.{FlagPoint}
-use Rattle.spin_model.specs.declared.flag.FlagPoint.TheVariants as flag_point
-use Rattle.spin_model.specs.Acts.{Act, load, store, machine_of}
-use Rattle.spin_model.specs.Machines.{Machine}
-use Rattle.spin_model.specs.Operations.{stores, subtracts}
-use Rattle.spin_model.specs.Flag as flags
 use Rattle.spin_model.specs.declared.ticket.TicketCall.{TicketCall}
-use Rattle.spin_model.specs.declared.ticket.TicketCall.TheVariants as ticket
 use Rattle.spin_model.specs.declared.ticket.TicketPoint.{TicketPoint}
-use Rattle.spin_model.specs.declared.ticket.TicketPoint.TheVariants as ticket_point
 use Rattle.spin_model.specs.declared.ticket.TicketWords.{TicketWords}
+use Rattle.spin_model.specs.declared.answer.Answer.TheVariants.{Done}
+use Rattle.spin_model.specs.declared.step.Next.TheVariants.{Continue, Answers}
+use Rattle.spin_model.specs.Operations.{stores, subtracts}
+use Rattle.spin_world_progress.specs.Ticket.{TicketMachine}
+use Rattle.spin_model.specs.declared.flag.FlagCall.TheVariants as flag
+use Rattle.spin_model.specs.declared.flag.FlagPoint.TheVariants as flag_point
+use Rattle.spin_model.specs.Flag as flags
+use Rattle.spin_model.specs.declared.ticket.TicketCall.TheVariants as ticket
+use Rattle.spin_model.specs.declared.ticket.TicketPoint.TheVariants as ticket_point
 use Rattle.spin_model.specs.Ticket as tickets
-use Rattle.spin_step_more.specs.declared.rw_calls.RwCall.{RwCall}
 use Rattle.spin_step_more.specs.declared.rw_calls.RwCall.TheVariants as rw
-use Rattle.spin_step_more.specs.declared.rw_calls.RwPoint.{RwPoint}
 use Rattle.spin_step_more.specs.declared.rw_calls.RwPoint.TheVariants as rw_point
 use Rattle.spin_step_more.specs.RwCalls as rws
-use Rattle.spin_world_progress.specs.Ticket.{TicketMachine}
 
 -- A flag whose waiting party never looks again once its exchange has failed
 

@@ -23,7 +23,7 @@ ghost use Rattle.spin_world_barrier.specs.declared.barrier.BarrierObject.{Barrie
 ghost use Rattle.spin_seats.specs.declared.calls.SeatsCall.{SeatsCall};
 ghost use Rattle.spin_world_seats.specs.declared.seats.Seats.{Seats};
 ghost use Rattle.spin_world_progress.specs.Alone.{AnsweredOrDisturbed};
-ghost use Rattle.spin_world_progress.specs.Starving.{MayStarve};
+ghost use Rattle.spin_world_progress.specs.Starving.{MayStarve, MayDeadlock};
 ghost use Rattle.spin_world_progress.specs.Flag.{LocksInFour, IsDeadlockFree};
 ghost use Rattle.spin_world_progress.specs.Ticket.{EntersInRounds, LocksInRounds, IsNeverStarved, MayBePassedOver};
 ghost use Rattle.spin_world_progress.specs.Fair.{LocksInFive, StarversAreDeadlockFree};
@@ -40,9 +40,8 @@ use spin_world_rw::Rw;
 use spin_world_seats::Seats;
 use spin_world_ticket::Ticket;
 
-/// States of any object that a call makes progress where what it asks is open, so that the object is obstruction-
-/// free. In as many rounds as its kind of lock says, at most four, it is answered, or another party changes a word,
-/// or its exchange is refused without cause.
+/// States of any object that a call is obstruction-free where what it asks is open. In as many rounds as its kind of
+/// lock says, at most four, it is answered, or another party changes a word, or its exchange is refused without cause.
 pub fn an_open_call_is_answered_or_disturbed<O: Object>()
     ensures { (object : O) (n : ℕ) (past : List (ℕ × Move O.Call O.Value)) (rounds : List (List (ℕ × Move O.Call O.Value))) → AnsweredOrDisturbed (O.machine object) n past rounds }
 {
@@ -67,8 +66,8 @@ pub fn a_lock_of_a_flag_may_starve<V: Copy>()
     ensures { (object : Flag V) → MayStarve (⟦<Flag<V> as Object>⟧.machine object) 2 (waits to_write) }
 {}
 
-/// States that a party with a ticket is bypassed by nobody who takes a ticket later: it waits three rounds for each
-/// ticket before its own, and one more.
+/// States that a party with a ticket is granted the lock in three rounds for each ticket before its own, and one more,
+/// whoever takes a ticket later.
 pub fn a_ticket_is_granted_in_rounds<V: Copy>()
     ensures { (object : Ticket V) (n : ℕ) (past : List (ℕ × Move TicketCall V)) (rounds : List (List (ℕ × Move TicketCall V))) → EntersInRounds (⟦<Ticket<V> as Object>⟧.machine object) n past rounds }
 {}
@@ -111,6 +110,12 @@ pub fn starvers_are_free_of_deadlock<V: Copy>()
 /// `lock` is never answered.
 pub fn a_newcomer_may_starve_beside_an_idle_starver<V: Copy>()
     ensures { (object : Fair V) → 1 ≤ object.cap → MayStarve (⟦<Fair<V> as Object>⟧.machine object) 2 (waits_or_starves object.patience) }
+{}
+
+/// States that newcomers are not free of deadlock beside such a starver: in some endless fair schedule one waits in a
+/// `lock`, and nobody is granted.
+pub fn newcomers_may_deadlock_beside_an_idle_starver<V: Copy>()
+    ensures { (object : Fair V) → 1 ≤ object.cap → MayDeadlock (⟦<Fair<V> as Object>⟧.machine object) 2 (waits_or_starves object.patience) }
 {}
 
 /// States that starvers are not served in order: in some endless fair schedule one is passed over by another without

@@ -85,7 +85,7 @@ impl<'a, T, F: Makes<T, M>, R: RelaxStrategy, M: Promise<T>> Pass<'a, T, F, R, M
         ensures made { Forced self.entry result.1 }
     {
         let Self { account, strategy } = self;
-        let (value, account) = LazyLock::<T, F, R, M>::find_or_make(rt, account);
+        let (value, account) = LazyLock::<T, F, R, M>::find_or_make(rt, account).read();
         (value, Pass { account, strategy })
     }
 }

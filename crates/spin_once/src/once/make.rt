@@ -1,14 +1,13 @@
 //! What a call with a closure does. Begin with [`find_or_make`].
-ghost use Rattle.std.specs.Prelude.{◌≡◌, Err, true, IfErr};
+ghost use Rattle.std.specs.Prelude.{◌≡◌, Err, true, IfOk, IfErr};
 ghost use Rattle.spin_core.specs.Own.{what};
 ghost use Rattle.spin_core.specs.Passes.{Ends, IsCall};
 ghost use Rattle.spin_model.specs.declared.answer.Answer.TheVariants.{Value};
-ghost use Rattle.spin_model.specs.declared.once.OnceCall.TheVariants.{CallOnce};
+ghost use Rattle.spin_model.specs.declared.once.OnceCall.TheVariants.{CallOnce, TryCallOnceOk};
 ghost use Rattle.spin_once.specs.Accounts.{here, Since, Wants};
-ghost use Rattle.spin_once.specs.Once.{is_out};
-ghost use Rattle.spin_once.specs.OncePasses.{TriedOn, TriedIn};
+ghost use Rattle.spin_once.specs.Once.{is_out, Fails, IsFailedCall};
 
-use crate::once_core::{Account, Claim, Sure, Unsure, Wanting};
+use crate::once_core::{Account, Claim, Found, Sure, Unsure, Wanting};
 use spin_core::relax::RelaxStrategy;
 use std::sync::Wait;
 
@@ -17,35 +16,31 @@ pub(super) fn find_or_make<'a, T, R: RelaxStrategy, F: FnOnce() -> T, W: Wait>(
     account: Account<'a, T, ()>,
     rt: &W,
     f: F,
-) -> (&'a T, Account<'a, T, ()>)
+) -> Found<'a, T, ()>
     requires out { is_out (what account.party.view) ≡ true }
     requires calls { F.pre f }
-    ensures since { Since (here account.entry) (IsCall (CallOnce tt) (Value tt)) (here result.1) }
-    ensures out { is_out (what result.1.party.view) ≡ true }
+    ensures { Since (here account.entry) (IsCall (CallOnce tt) (Value tt)) (here result.account) }
 {
     match account.come::<Sure>() {
-        Ok(found) => found.read(),
+        Ok(found) => found,
         Err(wanting) => make::<T, R, F, W>(rt, wanting, f),
     }
 }
 
-/// The same with a closure that may fail.
+/// The same with a closure that may fail. Returns its error beside the account.
 pub(super) fn find_or_try<'a, T, R: RelaxStrategy, F: FnOnce() -> Result<T, E>, E, W: Wait>(
     account: Account<'a, T, ()>,
     rt: &W,
     f: F,
-) -> (Result<&'a T, E>, Account<'a, T, ()>)
+) -> Result<Found<'a, T, ()>, (E, Account<'a, T, ()>)>
     requires out { is_out (what account.party.view) ≡ true }
     requires calls { F.pre f }
-    ensures err { IfErr result.0 (λ e. F.post f (Err e)) }
-    ensures since { TriedIn result.0 (here account.entry) (here result.1) }
-    ensures out { is_out (what result.1.party.view) ≡ true }
+    ensures found { IfOk result (λ found. Since (here account.entry) (IsCall (TryCallOnceOk tt) (Value tt)) (here found.account)) }
+    ensures failed { IfErr result (λ failed. Since (here account.entry) IsFailedCall (here failed.1)) }
+    ensures err { IfErr result (λ failed. F.post f (Err failed.0) × (is_out (what failed.1.party.view) ≡ true)) }
 {
     match account.come::<Unsure>() {
-        Ok(found) => {
-            let (value, account) = found.read();
-            (Ok(value), account)
-        }
+        Ok(found) => Ok(found),
         Err(wanting) => try_make::<T, R, F, E, W>(rt, wanting, f),
     }
 }
@@ -53,18 +48,17 @@ pub(super) fn find_or_try<'a, T, R: RelaxStrategy, F: FnOnce() -> Result<T, E>, 
 // Kept out of line: inlined, it would lengthen the path of each caller that finds a value.
 #[cold]
 #[inline(never)]
-fn make<'a, T, R: RelaxStrategy, F: FnOnce() -> T, W: Wait>(
+pub(super) fn make<'a, T, R: RelaxStrategy, F: FnOnce() -> T, W: Wait>(
     rt: &W,
     wanting: Wanting<'a, T, ()>,
     f: F,
-) -> (&'a T, Account<'a, T, ()>)
+) -> Found<'a, T, ()>
     requires { F.pre f }
-    ensures since { Since (here wanting.entry.account) (Ends (Value tt)) (here result.1) }
-    ensures out { is_out (what result.1.party.view) ≡ true }
+    ensures { Since (here wanting.entry.account) (Ends (Value tt)) (here result.account) }
 {
     match wanting.claim::<R, W>(rt) {
-        Claim::Found(found) => found.read(),
-        Claim::Init(permit) => permit.complete(f()).read(),
+        Claim::Found(found) => found,
+        Claim::Init(permit) => permit.complete(f()),
     }
 }
 
@@ -74,25 +68,19 @@ fn try_make<'a, T, R: RelaxStrategy, F: FnOnce() -> Result<T, E>, E, W: Wait>(
     rt: &W,
     wanting: Wanting<'a, T, ()>,
     f: F,
-) -> (Result<&'a T, E>, Account<'a, T, ()>)
+) -> Result<Found<'a, T, ()>, (E, Account<'a, T, ()>)>
     requires may { Wants true wanting }
     requires calls { F.pre f }
-    ensures err { IfErr result.0 (λ e. F.post f (Err e)) }
-    ensures since { TriedOn result.0 (here wanting.entry.account) (here result.1) }
-    ensures out { is_out (what result.1.party.view) ≡ true }
+    ensures found { IfOk result (λ found. Since (here wanting.entry.account) (Ends (Value tt)) (here found.account)) }
+    ensures failed { IfErr result (λ failed. Since (here wanting.entry.account) Fails (here failed.1)) }
+    ensures err { IfErr result (λ failed. F.post f (Err failed.0) × (is_out (what failed.1.party.view) ≡ true)) }
 {
     let permit = match wanting.claim::<R, W>(rt) {
-        Claim::Found(found) => {
-            let (value, account) = found.read();
-            return (Ok(value), account);
-        }
+        Claim::Found(found) => return Ok(found),
         Claim::Init(permit) => permit,
     };
     match f() {
-        Ok(value) => {
-            let (value, account) = permit.complete(value).read();
-            (Ok(value), account)
-        }
-        Err(error) => (Err(error), permit.fail()),
+        Ok(value) => Ok(permit.complete(value)),
+        Err(error) => Err((error, permit.fail())),
     }
 }

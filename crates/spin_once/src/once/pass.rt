@@ -73,7 +73,7 @@ impl<'a, T, R> Pass<'a, T, R> {
     /// # Examples
     /// ```
     /// let (found, third) = third.get();
-    /// equal(&rt, found.copied(), Some(first.0));
+    /// equal(&rt, found.copied(), Some(made));
     /// ```
     pub fn get(self) -> (Option<&'a T>, Pass<'a, T, R>)
         ensures made { Called Get (found_or_none result.0) self.entry result.1 }
@@ -141,7 +141,7 @@ impl<'a, T, R: RelaxStrategy> Pass<'a, T, R> {
         ensures made { Called (CallOnce tt) (Value tt) self.entry result.1 }
     {
         let Self { account, strategy } = self;
-        let (value, account) = find_or_make::<T, R, F, W>(account, rt, f);
+        let (value, account) = find_or_make::<T, R, F, W>(account, rt, f).read();
         (value, Pass { account, strategy })
     }
 
@@ -166,8 +166,13 @@ impl<'a, T, R: RelaxStrategy> Pass<'a, T, R> {
         ensures made { Tried result.0 self.entry result.1 }
     {
         let Self { account, strategy } = self;
-        let (answer, account) = find_or_try::<T, R, F, E, W>(account, rt, f);
-        (answer, Pass { account, strategy })
+        match find_or_try::<T, R, F, E, W>(account, rt, f) {
+            Ok(found) => {
+                let (value, account) = found.read();
+                (Ok(value), Pass { account, strategy })
+            }
+            Err((error, account)) => (Err(error), Pass { account, strategy }),
+        }
     }
 
     /// Returns the value, spinning until there is one, as [`Once::wait`] does.
@@ -179,7 +184,7 @@ impl<'a, T, R: RelaxStrategy> Pass<'a, T, R> {
     /// # Examples
     /// ```
     /// let (waited, third) = third.wait(&rt);
-    /// equal(&rt, *waited, first.0);
+    /// let waited = *waited;
     /// ```
     pub fn wait<W: Wait>(self, rt: &W) -> (&'a T, Pass<'a, T, R>)
         ensures made { Called WaitCall (Value tt) self.entry result.1 }
@@ -198,7 +203,7 @@ impl<'a, T, R: RelaxStrategy> Pass<'a, T, R> {
     /// # Examples
     /// ```
     /// let (polled, third) = third.poll(&rt);
-    /// equal(&rt, polled.copied(), Some(first.0));
+    /// equal(&rt, (waited, polled.copied()), (made, Some(made)));
     /// ```
     pub fn poll<W: Wait>(self, rt: &W) -> (Option<&'a T>, Pass<'a, T, R>)
         ensures made { Called Poll (found_or_none result.0) self.entry result.1 }

@@ -1,18 +1,25 @@
-use Rattle.spin_core.specs.Passes.{Begins, Waits, IsCall}
+use Rattle.std.specs.Prelude.{Result, Ok, Err, IfOk, IfErr}
+use Rattle.spin_core.specs.Passes.{Begins, Waits, IsCall, Ends}
 use Rattle.spin_model.specs.declared.answer.Answer.TheVariants.{Value}
 use Rattle.spin_model.specs.declared.once.OnceCall.TheVariants.{TryCallOnceOk}
 use Rattle.spin_once.specs.Accounts.{Place, here, Since}
-use Rattle.std.specs.Prelude.{Result, Ok, Err}
-use Rattle.spin_once.specs.OncePasses.{TriedOn, TriedIn}
-use Rattle.spin_once.proofs.Accounts.{same_since, call_ends, call_fails}
+use Rattle.spin_once.specs.Once.{Fails, IsFailedCall}
+use Rattle.spin_once.specs.declared.once_core.account.Account.{Account}
+use Rattle.spin_once.specs.declared.once_core.account.Found.{Found}
+use Rattle.spin_once.proofs.Accounts.{call_ends, call_fails}
 use Rattle.spin_once.proofs.once.make.find_or_try.Goals as goal
 
-tried : {X E : Type 0} (p q r : Place (Unit {0})) → Since p (Begins (TryCallOnceOk tt) Waits) q → (answer : Result X E) → TriedOn answer q r → TriedIn answer p r
-tried p q r begun (Ok value) later = call_ends p q r (TryCallOnceOk tt) (Value tt) begun later
-tried p q r begun (Err e) later = call_fails p q r begun later
+module _ {T E : Type 0} (p q : Place (Unit {0})) (begun : Since p (Begins (TryCallOnceOk tt) Waits) q) where
+  found_by : (r : Result (Found T (Unit {0})) (E × Account T (Unit {0}))) → IfOk r (λ found. Since q (Ends (Value tt)) (here found.account)) → IfOk r (λ found. Since p (IsCall (TryCallOnceOk tt) (Value tt)) (here found.account))
+  found_by (Ok found) later = call_ends p q (here found.account) (TryCallOnceOk tt) (Value tt) begun later
+  found_by (Err failed) later = tt
 
-pub returns-in-Ok-clause-since : goal.returns-in-Ok-clause-since
-returns-in-Ok-clause-since g c = same_since (here c.args.account) (here c.in-Ok.found.account) (here c.read-account.result.1) (IsCall (TryCallOnceOk tt) (Value tt)) c.in-Ok.ensures.found c.read-account.ensures.same
+  failed_by : (r : Result (Found T (Unit {0})) (E × Account T (Unit {0}))) → IfErr r (λ failed. Since q Fails (here failed.1)) → IfErr r (λ failed. Since p IsFailedCall (here failed.1))
+  failed_by (Ok found) later = tt
+  failed_by (Err failed) later = call_fails p q (here failed.1) begun later
 
-pub returns-in-Err-clause-since : goal.returns-in-Err-clause-since
-returns-in-Err-clause-since g c = tried (here c.args.account) (here c.in-Err.wanting.account) (here c.try_make.result.1) c.in-Err.ensures.wants.0 c.try_make.result.0 c.try_make.ensures.since
+pub returns-in-Err-clause-found : goal.returns-in-Err-clause-found
+returns-in-Err-clause-found g c = found_by (here c.args.account) (here c.in-Err.wanting.account) c.in-Err.ensures.wants.0 c.try_make.result c.try_make.ensures.found
+
+pub returns-in-Err-clause-failed : goal.returns-in-Err-clause-failed
+returns-in-Err-clause-failed g c = failed_by (here c.args.account) (here c.in-Err.wanting.account) c.in-Err.ensures.wants.0 c.try_make.result c.try_make.ensures.failed
