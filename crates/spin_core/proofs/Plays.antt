@@ -1,19 +1,21 @@
 -- The kinds of play that locks share: a step on a word is allowed where it is the party's open step in the plain lock, or none.
-use Rattle.std.proofs.Common.{◌≡◌, ℕ, ◌<◌, ◌≤◌, ◌==◌, Bool, true, if◌then◌else◌, List, [], Option, Some, None, refl, sym, ap, ◌∙◌, subst, eq-eqb, ne_eqb}
+use Rattle.std.proofs.Common.{◌≡◌, ℕ, ◌+◌, ◌-◌, ◌<◌, ◌≤◌, ◌%◌, ◌^◌, ◌==◌, Bool, true, if◌then◌else◌, List, [], Option, Some, None, refl, sym, ap, ◌∙◌, subst, arith, eq-eqb, ne_eqb}
 use mathlib.Core.Logic.{dite}
 use native.Mathlib.Decide.{ℕ_discrete}
 use prog.Atomic.{either}
 use Rattle.std.specs.Prelude.{◌≢◌}
-use Rattle.spin_step.specs.Plain.{Plain, Change, Ask, gets, apply, is_open, fresh, ticket_limit}
+use Rattle.spin_step.specs.Plain.{Plain, Change, Kind, Ask, gets, releases, apply, is_open, fresh, ticket_limit}
 use Rattle.spin_step.specs.Steps.{Decides}
 use Rattle.spin_step.specs.Parties.{party_of, apply_some, IsOpenStep, entries_after, no_entries}
 use Rattle.spin_core.specs.Cell.{Use, Way, Ways, Limits, Going, Meets, Allows, AllowsSecond, Moved, Rests, Stands, after, readers_of, writers_of, use_of, off, words}
-use Rattle.spin_core.specs.Views.{Part, idle as nothing, entries_of, Knows, HasPart, IsLockOf, Encodes}
+use Rattle.spin_core.specs.Views.{Part, idle as nothing, holds, entries_of, Knows, HasPart, IsLockOf, Encodes}
 use Rattle.spin_step.specs.Orders.{IsInOrder}
 use Rattle.spin_core.specs.Plays.{becomes, exchanges}
 use Rattle.spin_core.proofs.Leaving.{NamesNobody, leaves}
+use Rattle.spin_step.proofs.Holders.{is_holder-from_entries}
+use Rattle.spin_step.proofs.Sums.{sum_kinds, sum-less}
 use Rattle.spin_step.proofs.InOrder.{in_order-kept, in_order-fresh, cap-kept}
-use Rattle.spin_core.proofs.Views.{number, part_before, own_part, lock_after}
+use Rattle.spin_core.proofs.Views.{number, part_before, own_part, lock_after, release-own}
 use Rattle.spin_core.proofs.CellViews.{came_to}
 
 -- a lock over the cell: what each view is to the plain lock and how it uses the value, the view of a party that has nothing,
@@ -39,6 +41,14 @@ pub record Makes {S : Type 0} (first : Plain → ℕ) (second : Plain → S) (ol
   pub knows : Knows (apply_some s step) new
   pub first_is : n ≡ first (apply_some s step)
   pub second_is : m ≡ second (apply_some s step)
+
+-- a word that has this weight in it, and room above
+abbrev pub Weighs : ℕ → ℕ → Type 0
+Weighs k n = (k ≤ n) × (n < 2 ^ 63)
+
+-- so a subtraction of the weight does not wrap
+pub less_by : (n k : ℕ) → Weighs k n → (n + (2 ^ 64 - k)) % 2 ^ 64 ≡ n - k
+less_by n k some = omega (arith, some.0, some.1)
 
 module _ {V S : Type 0} (lock : Lock V S) where
   open lock use {part, uses, idle, way, cap, first, second}
@@ -137,6 +147,50 @@ module _ {V S : Type 0} (lock : Lock V S) where
   pub refused_rests : (won : V) (view : Option V) (found expected : ℕ) → found ≢ expected → Moved (λ v. v ≡ (if found == expected then won else idle)) view → Rests Holds uses view
   refused_rests won None found expected other moved = absurd moved
   refused_rests won (Some v) found expected other moved = missed_rests won v found expected other moved
+
+-- Of a lock of one word: a look, an exchange for what a party asks, and a subtraction by a holder
+module _ {V : Type 0} (lock : Lock V (Unit {0})) where
+  open lock use {part, idle, cap, first}
+
+  -- a look, after which the party is to the lock what it was
+  pub stays_at : (view : Option V) (to : ℕ → V) → ((n : ℕ) → part_before part view ≡ part (to n)) → ((s : Plain) (n : ℕ) → Knows s (part (to n))) → Allows (Holds lock) (ways lock) view (λ n. n) (λ n v. v ≡ to n)
+  stays_at view to same knows = allows lock view (λ n. n) (λ n v. v ≡ to n) (λ s p room order has. (to (first s), by_none lock view (to (first s)) s p (ap (entries_of p) (same (first s))) (knows s (first s)), refl))
+
+  -- of a party that has nothing
+  pub looks_at : (view : Option V) (to : ℕ → V) → part_before part view ≡ nothing → ((n : ℕ) → part (to n) ≡ nothing) → Allows (Holds lock) (ways lock) view (λ n. n) (λ n v. v ≡ to n)
+  looks_at view to had none = stays_at view to (λ n. had ∙ sym (none n)) (λ s n. rw (none n) tt)
+
+  -- an exchange gives what the party asks for where it finds the number of which the step function was asked, and else the party is what it was
+  pub gets_at : (view : Option V) (ask : Ask) (won : V) (lost : ℕ → V) (old new : ℕ) → ((s : Plain) (p : ℕ) → entries_after s (Some (gets p ask)) (entries_of p (part_before part view)) ≡ entries_of p (part won)) → ((s : Plain) → Knows s (part won))
+      → ((n : ℕ) → part_before part view ≡ part (lost n)) → ((s : Plain) (n : ℕ) → Knows s (part (lost n))) → EachOf lock view (λ s p. first s ≡ old → Decides s (gets p ask) first (Some new))
+      → Allows (Holds lock) (ways lock) view (λ n. either (n == old) new n) (λ n v. v ≡ (if n == old then won else lost n))
+  gets_at view ask won lost old new comes knows same still grants = allows_among lock view (λ n. either (n == old) new n) (λ n v. v ≡ (if n == old then won else lost n)) (λ s p vs room order is has small.
+      by_exchange lock view won (lost (first s)) s p (first s) tt old new (λ e. by_grant lock view won s p ask new tt (grants s p vs room order is has small e) (comes s p) (knows (apply s (gets p ask))) refl)
+      (by_none lock view (lost (first s)) s p (ap (entries_of p) (same (first s))) (still s (first s))))
+
+  -- the step function's own lemma, where it makes the number new of old
+  abbrev pub Grants : Ask → ℕ → ℕ → Type 0
+  Grants ask old new = (s : Plain) (p : ℕ) → IsInOrder s → s.cap ≡ cap → first s ≡ old → Decides s (gets p ask) first (Some new)
+
+  -- the same of a party that has nothing
+  pub exchanges_at : (view : Option V) (ask : Ask) (won : V) (lost : ℕ → V) (old new : ℕ) → part_before part view ≡ nothing → ((n : ℕ) → part (lost n) ≡ nothing)
+      → ((s : Plain) (p : ℕ) → entries_after s (Some (gets p ask)) (entries_of p nothing) ≡ entries_of p (part won)) → ((s : Plain) → Knows s (part won))
+      → Grants ask old new → Allows (Holds lock) (ways lock) view (λ n. either (n == old) new n) (λ n v. v ≡ (if n == old then won else lost n))
+  exchanges_at view ask won lost old new had none comes knows grants =
+      gets_at view ask won lost old new (λ s p. ap (λ x. entries_after s (Some (gets p ask)) (entries_of p x)) had ∙ comes s p) knows (λ n. had ∙ sym (none n)) (λ s n. rw (none n) tt)
+      (λ s p vs room order is has small e. grants s p order room e)
+
+  module _ (weight : Kind → ℕ) (sums : (s : Plain) → first s ≡ sum_kinds weight s.holders) (bounded : (s : Plain) → s.cap ≡ cap → IsInOrder s → first s < 2 ^ 63) where
+    -- a holder takes its weight from a word that is the sum over the holders
+    pub leaves_at : (v : V) (k : Kind) → ((p : ℕ) → entries_of p (part v) ≡ entries_of p (holds k)) → Allows (Holds lock) (ways lock) (Some v) (λ n. (n + (2 ^ 64 - weight k)) % 2 ^ 64) (λ n w. Weighs (weight k) n × (w ≡ idle))
+    leaves_at v k was = allows lock (Some v) (λ n. (n + (2 ^ 64 - weight k)) % 2 ^ 64) (λ n w. Weighs (weight k) n × (w ≡ idle)) (λ s p room order has.
+        let stands = is_holder-from_entries p k s.holders (ap (λ e. e.holders) (has.0 ∙ was p)) in
+        let small = bounded s room order in let less = sum-less weight p k s.holders stands in let gone = release-own s p k ∙ sym (ap (entries_of p) lock.is_idle.0) in (
+          idle,
+          by_step lock (Some v) idle s (releases p k) ((first s + (2 ^ 64 - weight k)) % 2 ^ 64) tt stands (ap (entries_after s (Some (releases p k))) (was p) ∙ gone) (rw lock.is_idle.0 tt)
+              (omega (arith, less, small, sums s, sums (apply s (releases p k)))) refl,
+          ((omega (arith, less, small, sums s), small), refl),
+        ))
 
 -- of a lock of two words, the same of a step on the second
 module _ {V : Type 0} (lock : Lock V ℕ) where

@@ -1,12 +1,17 @@
--- What stands for the second word of a lock that keeps its trace, a trace with a number beside it or with nothing: any thread may have it.
-use Rattle.std.proofs.Common.{[], ◌∷◌}
+-- What a lock owes where it makes its cell: any thread may have its trace, with a number beside it or without, and who may share its rule may share its value.
+use Rattle.std.proofs.Common.{◌≡◌, ℕ, ◌+◌, ◌-◌, ◌%◌, [], ◌∷◌, ap, ◌∙◌, arith, subst}
+use Rattle.std.proofs.Math.Nat.{mod_self, zero-mod}
+use base.Fml.{Lft}
+use base.Shift.{Keyless}
+use prog.Memory.{align, up}
+use denote.Memory.{lone, shared_of}
 use denote.Builtin.{unit, u64, usize}
 use denote.Param.Send.{IsSend, sendable}
 use denote.RattleType.{RattleType}
 use denote.Struct.Owning.{shape, to}
 use denote.Struct.Struct.{Struct}
 use denote.Struct.Tuple.{Tuple}
-use Rattle.spin_core.specs.CellMemory.{Sends}
+use Rattle.spin_core.specs.CellMemory.{Common, Sends}
 use Rattle.spin_core.specs.contracts.trace.Trace.{the_row, the_type}
 use Rattle.spin_core.proofs.TraceSteps.{log_keyless}
 use Rattle.spin_model.specs.contracts.schedule.Move as move
@@ -27,3 +32,14 @@ sends_word E = sends E u64 (search sendable depth 20)
 
 pub sends_word_less : (E : RattleType) → Sends (the_row E unit)
 sends_word_less E = sends E unit (search sendable depth 20)
+
+-- a first field stands at its struct's beginning
+pub at_first : (k : ℕ) → up k 0 ≡ 0
+at_first k =
+    let all : k - 0 ≡ k = omega arith in
+    let none = ap (λ j. (k - j) % k) (zero-mod k) ∙ (ap (λ j. j % k) all ∙ mod_self k) in
+    omega (arith, none)
+
+-- so who may share a struct may share its first field; a rule that lends is a struct over the value
+pub first_field : (T : RattleType) → ((x : T.Denot) (b o : ℕ) (κ : Lft) → Keyless (shared_of T x b (o + up (align (lone T.mir)) 0) κ)) → Common T
+first_field T may x b o κ = let same : o + up (align (lone T.mir)) 0 ≡ o = omega (arith, at_first (align (lone T.mir))) in subst (λ e. Keyless (shared_of T x b e κ)) same (may x b o κ)

@@ -17,7 +17,7 @@ use Rattle.spin_model.proofs.schedule.Move.TheLaws as moves
 abbrev numbers : Laws usize
 numbers = of_field usize-field usize-laws refl (copy_shared usize-field usize-copy)
 
-abbrev units : Laws unit
+abbrev pub units : Laws unit
 units = of_field unit-field unit-laws refl (copy_shared unit-field unit-copy)
 
 -- a party with its number
@@ -31,8 +31,14 @@ numbered_laws V laws = tuple_laws (V ∷ usize ∷ usize ∷ []) (laws, (numbers
 abbrev pub entry_laws : (C : RattleType) → Laws C → Laws (entry C)
 entry_laws C laws = tuple_laws (usize ∷ _ ∷ []) (numbers, (moves.the_row_laws C unit laws units, tt))
 
-abbrev pub watch_laws : (C : RattleType) → Laws C → Laws (watch.the_row (entry C))
+abbrev pub watched : RattleType → RattleType
+watched C = watch.the_row (entry C)
+
+abbrev pub watch_laws : (C : RattleType) → Laws C → Laws (watched C)
 watch_laws C laws = watches.the_row_laws (entry C) (entry_laws C laws)
 
-abbrev pub trace_laws : (C S : RattleType) → Laws C → Laws S → Laws (trace.the_row (entry C) S)
+abbrev pub traced : RattleType → RattleType → RattleType
+traced C S = trace.the_row (entry C) S
+
+abbrev pub trace_laws : (C S : RattleType) → Laws C → Laws S → Laws (traced C S)
 trace_laws C S laws second = traces.the_row_laws (entry C) S (entry_laws C laws) second

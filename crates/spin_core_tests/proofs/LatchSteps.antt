@@ -1,8 +1,7 @@
 -- The steps of a latch keep its rule: each is the plain step of its step function, and moves of the latch's model.
-use Rattle.std.proofs.Common.{◌≡◌, ◌≢◌, ℕ, ◌+◌, ◌-◌, ◌<◌, ◌≤◌, ◌%◌, ◌^◌, ◌==◌, Bool, true, false, if◌then◌else◌, List, [], ◌∷◌, Option, Some, None, refl, sym, ap, ◌∙◌, arith, ne_eqb}
+use Rattle.std.proofs.Common.{◌≡◌, ◌≢◌, ℕ, ◌+◌, ◌-◌, ◌<◌, ◌%◌, ◌^◌, ◌==◌, Bool, true, false, if◌then◌else◌, List, [], ◌∷◌, Option, Some, None, refl, sym, ap, ◌∙◌, subst, arith, ne_eqb}
 use prog.Atomic.{either}
-use Rattle.spin_step.specs.Plain.{Plain, Kind, reading, writing, Ask, apply, gets, releases, to_read, to_write}
-use Rattle.spin_step.specs.Parties.{IsExclusive, entries_after}
+use Rattle.spin_step.specs.Plain.{Plain, reading, writing, gets, to_read, to_write}
 use Rattle.spin_step.specs.Steps.{Decides}
 use Rattle.spin_step.specs.Orders.{IsInOrder}
 use Rattle.spin_step.proofs.Holders.{is_holder-from_entries}
@@ -11,15 +10,15 @@ use Rattle.spin_core.specs.Cell.{Ways, lends, writes, Meets, Allows, Rests, Move
 use Rattle.spin_core.specs.Own.{Numbered, what}
 use Rattle.spin_core.specs.Run.{AreMoves, on_first, first, outcomes, alone, of_one, sits as seat_at}
 use Rattle.spin_core.specs.Traced.{Traces, Watches}
-use Rattle.spin_core.specs.Views.{Knows, holds, entries_of, part_at, idle, no_word}
+use Rattle.spin_core.specs.Views.{holds, entries_of, part_at, idle, no_word}
 use Rattle.spin_core.specs.declared.trace.Trace.{Trace}
 use Rattle.spin_core.specs.declared.trace.Watch.{Watch}
 use Rattle.spin_core.proofs.Leaving.{sum-up, NamesNobody, no_word-up}
 use Rattle.spin_core.proofs.Owners.{OfReaders, readers_or_writer}
 use Rattle.spin_core.proofs.Plays as plays
-use Rattle.spin_core.proofs.Plays.{Lock, ways, allows, by_exchange, by_step, by_grant, by_none, begins}
+use Rattle.spin_core.proofs.Plays.{Lock, Grants, Weighs, less_by, ways, looks_at, exchanges_at, leaves_at, begins}
 use Rattle.spin_core.proofs.Ties as tie
-use Rattle.spin_core.proofs.Views.{part_before, release-own}
+use Rattle.spin_core.proofs.Views.{part_before}
 use Rattle.spin_model.specs.declared.answer.Answer.TheVariants.{Done}
 use Rattle.spin_model.specs.declared.schedule.Move.TheVariants.{Begin, Step}
 use Rattle.spin_model.specs.declared.schedule.Outcome.TheVariants.{Begun, Answered}
@@ -29,6 +28,7 @@ use Rattle.spin_core_tests.specs.declared.latch.rule.View.TheVariants.{Idle, Rea
 use Rattle.spin_core_tests.specs.Latch.{latch_limit, latch_weight, latch_word, let_in}
 use Rattle.spin_core_tests.specs.LatchTable.{latch_machine}
 use Rattle.spin_core_tests.specs.LatchRule as rule
+use Rattle.spin_core_tests.proofs.Latches.{read-decides, write-decides}
 use Rattle.spin_core_tests.specs.LatchRule.{part, IsWord, IsLatch, OneMove, Ending, Leads, seat_of, words_of, use_of_view, use_of_party, gone, at_word, leads_by, either_at, reads_by, MayLook, MayWrite}
 
 -- The record of the lock
@@ -64,36 +64,6 @@ bounded s room order = omega (arith, by_kinds latch_weight s.holders, all_kinds 
 
 abbrev swaps : ℕ → ℕ → ℕ → ℕ
 swaps old new w = either (w == old) new w
-
-abbrev Grants : Ask → ℕ → ℕ → Type 0
-Grants ask old new = (s : Plain) (p : ℕ) → IsExclusive s → s.cap ≡ latch_limit → latch_word s ≡ old → Decides s (gets p ask) latch_word (Some new)
-
--- a party that looks has nothing before it and nothing after it
-looks_at : (view : Option View) (to : ℕ → View) → part_before part view ≡ idle → ((w : ℕ) → part (to w) ≡ idle) → Allows IsWord (ways latch) view (λ w. w) (λ w v. v ≡ to w)
-looks_at view to nothing none = allows latch view (λ w. w) (λ w v. v ≡ to w) (λ s p room order has.
-    (to (latch_word s), by_none latch view (to (latch_word s)) s p (ap (entries_of p) (nothing ∙ sym (none (latch_word s)))) (rw (none (latch_word s)) tt), refl))
-
--- it gets what it asks for where it finds the number of which the step function was asked
-exchanges_at : (view : Option View) (ask : Ask) (won : View) (lost : ℕ → View) (old new : ℕ) → part_before part view ≡ idle → ((w : ℕ) → part (lost w) ≡ idle) → ((s : Plain) (p : ℕ) → entries_after s (Some (gets p ask)) (entries_of p idle) ≡ entries_of p (part won)) → ((s : Plain) → Knows s (part won))
-    → Grants ask old new → Allows IsWord (ways latch) view (swaps old new) (λ w v. v ≡ (if w == old then won else lost w))
-exchanges_at view ask won lost old new nothing none comes knows plain = allows latch view (swaps old new) (λ w v. v ≡ (if w == old then won else lost w)) (λ s p room order has.
-    let none_there = none (latch_word s) in
-    by_exchange latch view won (lost (latch_word s)) s p (latch_word s) tt old new
-    (λ e. by_grant latch view won s p ask new tt (plain s p order.exclusive room e) (ap (λ x. entries_after s (Some (gets p ask)) (entries_of p x)) nothing ∙ comes s p) (knows (apply s (gets p ask))) refl)
-    (by_none latch view (lost (latch_word s)) s p (ap (entries_of p) (nothing ∙ sym none_there)) (rw none_there tt)))
-
-abbrev Weighs : ℕ → ℕ → Type 0
-Weighs k w = (k ≤ w) × (w < 2 ^ 63)
-
-leaves_at : (v : View) (k : Kind) → part v ≡ holds k → Allows IsWord (ways latch) (Some v) (λ w. (w + (2 ^ 64 - latch_weight k)) % 2 ^ 64) (λ w v. Weighs (latch_weight k) w × (v ≡ Idle))
-leaves_at v k is = allows latch (Some v) (λ w. (w + (2 ^ 64 - latch_weight k)) % 2 ^ 64) (λ w v. Weighs (latch_weight k) w × (v ≡ Idle)) (λ s p room order has.
-    let stands = is_holder-from_entries p k s.holders (ap (λ e. e.holders) (has.0 ∙ ap (entries_of p) is)) in
-    let small = bounded s room order in let less = sum-less latch_weight p k s.holders stands in (
-      Idle,
-      by_step latch (Some v) Idle s (releases p k) ((latch_word s + (2 ^ 64 - latch_weight k)) % 2 ^ 64) tt stands (ap (λ x. entries_after s (Some (releases p k)) (entries_of p x)) is ∙ release-own s p k) tt
-          (omega (arith, less, small)) refl,
-      ((omega (arith, less), small), refl),
-    ))
 
 has_none : (waits : Bool) (w : ℕ) → part (at_word waits w) ≡ idle
 has_none waits w = grind arith
@@ -140,9 +110,6 @@ write_moves None may w value v is = let own = Begin call.Write ∷ Step ∷ [] i
 write_moves (Some WaitingToWrite) may w value v is = let own = Step ∷ [] in (own, ends (Some WaitingToWrite) w value own, is, refl, grind arith, swaps 0 1 w, value, grind (arith, is), grind arith, refl)
 write_moves (Some _) may w value v is = absurd may
 
-less_by : (w k : ℕ) → Weighs k w → (w + (2 ^ 64 - k)) % 2 ^ 64 ≡ w - k
-less_by w k some = omega (arith, some.0, some.1)
-
 reader_moves : Moves (Some Reading) (λ w. (w + (2 ^ 64 - 2)) % 2 ^ 64) (λ w v. Weighs 2 w × (v ≡ Idle)) (λ w. Idle)
 reader_moves w value v is = rw is.1 (Begin call.ReleaseRead ∷ Step ∷ [], Begun ∷ Answered Done None ∷ [], refl, refl, refl, w - 2, value, refl, refl, rw (less_by w 2 is.0) refl)
 
@@ -173,27 +140,31 @@ module _ (name : ℕ) where
   opens t named empty = tie.opens latch_machine seat_of words_of IsWord name (Unit {0}) lends use_of_view 0 t named empty refl (begins latch 0 0 0 tt (omega arith) refl refl)
 
   pub tries : Keeps None (λ w. w) (at_word false)
-  tries = keeps None (λ w. w) (To (at_word false)) (at_word false) try_moves (looks_at None (at_word false) refl (has_none false))
+  tries = keeps None (λ w. w) (To (at_word false)) (at_word false) try_moves (looks_at latch None (at_word false) refl (has_none false))
 
   pub looks : (view : Option (Numbered View)) → MayLook (what view) → Keeps view (λ w. w) (at_word true)
-  looks view may = keeps view (λ w. w) (To (at_word true)) (at_word true) (look_moves (what view) may) (looks_at (what view) (at_word true) (may_look (what view) may) (has_none true))
+  looks view may = keeps view (λ w. w) (To (at_word true)) (at_word true) (look_moves (what view) may) (looks_at latch (what view) (at_word true) (may_look (what view) may) (has_none true))
 
-  pub comes : (old new : ℕ) (waits : Bool) → Grants to_read old new → Some new ≡ let_in old → (view : Option (Numbered View)) → what view ≡ Some (at_word waits old) → Keeps view (swaps old new) (reads_by old (what view))
-  comes old new waits plain free view is = let at = is_coming old new waits (what view) free is in let to = reads_by old (Some (Coming waits old)) in
-      rw at (keeps view (swaps old new) (To to) to (rw at (read_moves old new waits free)) (rw at (exchanges_at (Some (Coming waits old)) to_read Reading (at_word waits) old new refl (has_none waits) (λ s p. refl) (λ s. tt) plain)))
+  pub comes : (old new : ℕ) (waits : Bool) → Some new ≡ let_in old → (view : Option (Numbered View)) → what view ≡ Some (at_word waits old) → Keeps view (swaps old new) (reads_by old (what view))
+  comes old new waits free view is = let at = is_coming old new waits (what view) free is in let to = reads_by old (Some (Coming waits old)) in
+      let plain : Grants latch to_read old new = λ s p order room word. subst (λ after. Decides s (gets p to_read) latch_word after) (sym free) (read-decides s p old order.exclusive room word) in
+      rw at (keeps view (swaps old new) (To to) to (rw at (read_moves old new waits free)) (rw at (exchanges_at latch (Some (Coming waits old)) to_read Reading (at_word waits) old new refl (has_none waits) (λ s p. refl) (λ s. tt) plain)))
 
-  pub tries_to_write : Grants to_write 0 1 → Keeps None (swaps 0 1) (either_at 0 Writing Idle)
-  tries_to_write plain = keeps None (swaps 0 1) (To (either_at 0 Writing Idle)) (either_at 0 Writing Idle) try_write_moves (exchanges_at None to_write Writing (λ w. Idle) 0 1 refl (λ w. refl) (λ s p. refl) (λ s. tt) plain)
+  taken_by_word : Grants latch to_write 0 1
+  taken_by_word s p order room word = write-decides s p 0 word
 
-  pub writes_on : Grants to_write 0 1 → (view : Option (Numbered View)) → MayWrite (what view) → Keeps view (swaps 0 1) (either_at 0 Writing WaitingToWrite)
-  writes_on plain view may = let to = either_at 0 Writing WaitingToWrite in
-      keeps view (swaps 0 1) (To to) to (write_moves (what view) may) (exchanges_at (what view) to_write Writing (λ w. WaitingToWrite) 0 1 (may_write (what view) may) (λ w. refl) (λ s p. refl) (λ s. tt) plain)
+  pub tries_to_write : Keeps None (swaps 0 1) (either_at 0 Writing Idle)
+  tries_to_write = keeps None (swaps 0 1) (To (either_at 0 Writing Idle)) (either_at 0 Writing Idle) try_write_moves (exchanges_at latch None to_write Writing (λ w. Idle) 0 1 refl (λ w. refl) (λ s p. refl) (λ s. tt) taken_by_word)
+
+  pub writes_on : (view : Option (Numbered View)) → MayWrite (what view) → Keeps view (swaps 0 1) (either_at 0 Writing WaitingToWrite)
+  writes_on view may = let to = either_at 0 Writing WaitingToWrite in
+      keeps view (swaps 0 1) (To to) to (write_moves (what view) may) (exchanges_at latch (what view) to_write Writing (λ w. WaitingToWrite) 0 1 (may_write (what view) may) (λ w. refl) (λ s p. refl) (λ s. tt) taken_by_word)
 
   pub reader_leaves : (view : Option (Numbered View)) → what view ≡ Some Reading → Keeps view (λ w. (w + (2 ^ 64 - 2)) % 2 ^ 64) (λ w. Idle)
-  reader_leaves view is = keeps view (λ w. (w + (2 ^ 64 - 2)) % 2 ^ 64) (λ w v. Weighs 2 w × (v ≡ Idle)) (λ w. Idle) (rw is reader_moves) (rw is (leaves_at Reading reading refl))
+  reader_leaves view is = keeps view (λ w. (w + (2 ^ 64 - 2)) % 2 ^ 64) (λ w v. Weighs 2 w × (v ≡ Idle)) (λ w. Idle) (rw is reader_moves) (rw is (leaves_at latch latch_weight (λ s. refl) bounded Reading reading (λ p. refl)))
 
   pub writer_leaves : (v : Numbered View) → use_of_party v ≡ writes → Keeps (Some v) (λ w. (w + (2 ^ 64 - 1)) % 2 ^ 64) (λ w. Idle)
-  writer_leaves v held = let is = is_writing v.0 held in keeps (Some v) (λ w. (w + (2 ^ 64 - 1)) % 2 ^ 64) (λ w v. Weighs 1 w × (v ≡ Idle)) (λ w. Idle) (rw is writer_moves) (rw is (leaves_at Writing writing refl))
+  writer_leaves v held = let is = is_writing v.0 held in keeps (Some v) (λ w. (w + (2 ^ 64 - 1)) % 2 ^ 64) (λ w v. Weighs 1 w × (v ≡ Idle)) (λ w. Idle) (rw is writer_moves) (rw is (leaves_at latch latch_weight (λ s. refl) bounded Writing writing (λ p. refl)))
 
   -- Who may go
 

@@ -24,7 +24,7 @@ use Rattle.spin_core.proofs.CellViews.{stands_after}
 use Rattle.spin_core.proofs.Knowing.{Writes, one_holds}
 use Rattle.spin_core.proofs.Leaving.{fair_word-up, no_word-up}
 use Rattle.spin_core.proofs.Owners.{OfHolders, one_holder}
-use Rattle.spin_core.proofs.Plays.{Lock as CellLock, ways, EachOf, Reaches, allows_among, by_step, by_grant, by_none, by_exchange, begins}
+use Rattle.spin_core.proofs.Plays.{Lock as CellLock, ways, EachOf, Reaches, allows_among, by_step, stays_at, begins}
 use Rattle.spin_core.proofs.Plays as plays
 use Rattle.spin_core.proofs.Ties as tie
 use Rattle.spin_core.proofs.Views.{part_before, part-there, release-own, stop-own, stop_holding-own}
@@ -73,17 +73,11 @@ Leads view f says = Allows Word (ways fair) view f says
 allows : (view : Option View) (f : ℕ → ℕ) (says : ℕ → View → Type 0) → Each view (λ s p. (w : View) × Reaches fair view w s p (f (fair_word s)) tt × says (fair_word s) w) → Leads view f says
 allows view f says makes = allows_among fair view f says (of_each view (λ s p. (w : View) × Reaches fair view w s p (f (fair_word s)) tt × says (fair_word s) w) makes)
 
--- a step that leaves the word, and the party what it was to the plain lock
-stays : (view : Option View) (to : ℕ → View) → ((n : ℕ) → part_before part view ≡ part (to n)) → ((s : Plain) (n : ℕ) → Knows s (part (to n))) → Leads view (λ n. n) (λ n v. v ≡ to n)
-stays view to same knows = allows view (λ n. n) (λ n v. v ≡ to n) (λ s p room order one has small. (to (fair_word s), by_none fair view (to (fair_word s)) s p (ap (entries_of p) (same (fair_word s))) (knows s (fair_word s)), refl))
-
 -- what a party gets by an exchange where it finds the word of which the step function was asked
 gets_at : (view : Option View) (ask : Ask) (won : View) (lost : ℕ → View) (old new : ℕ) → ((s : Plain) (p : ℕ) → entries_after s (Some (gets p ask)) (entries_of p (part_before part view)) ≡ entries_of p (part won)) → ((s : Plain) → Knows s (part won))
     → ((n : ℕ) → part_before part view ≡ part (lost n)) → ((s : Plain) (n : ℕ) → Knows s (part (lost n))) → Each view (λ s p. fair_word s ≡ old → Decides s (gets p ask) fair_word (Some new))
     → Leads view (λ n. either (n == old) new n) (λ n v. v ≡ (if n == old then won else lost n))
-gets_at view ask won lost old new comes knows same still plain = allows view (λ n. either (n == old) new n) (λ n v. v ≡ (if n == old then won else lost n)) (λ s p room order one has small.
-    by_exchange fair view won (lost (fair_word s)) s p (fair_word s) tt old new (λ e. by_grant fair view won s p ask new tt (plain s p room order one has small e) (comes s p) (knows (apply s (gets p ask))) refl)
-    (by_none fair view (lost (fair_word s)) s p (ap (entries_of p) (same (fair_word s))) (still s (fair_word s))))
+gets_at view ask won lost old new comes knows same still plain = plays.gets_at fair view ask won lost old new comes knows same still (of_each view (λ s p. fair_word s ≡ old → Decides s (gets p ask) fair_word (Some new)) plain)
 
 -- what a party knows that has nothing, or starves
 knows_none : (s : Plain) (v : View) → Knows s (part v)
@@ -349,7 +343,7 @@ module _ (name : ℕ) where
 
   pub looks : (view : Option (Numbered View)) → IsOut (what view) → Keeps view (λ n. n) looks_by
   looks view out = let now = what view in
-      keeps view (λ n. n) (λ n v. v ≡ Idle) looks_by (frees_none false IsLocked _ (λ n. Idle) (λ n. refl)) (load_moves now out) (stays now (λ n. Idle) (λ n. out_has_none now out) (λ s n. tt))
+      keeps view (λ n. n) (λ n v. v ≡ Idle) looks_by (frees_none false IsLocked _ (λ n. Idle) (λ n. refl)) (load_moves now out) (stays_at fair now (λ n. Idle) (λ n. out_has_none now out) (λ s n. tt))
 
   -- the step function's own lemma says that the lock is free where it grants
   abbrev Attempts : FairCall → Type 0
@@ -371,7 +365,7 @@ module _ (name : ℕ) where
       keeps view (λ n. either (n == 0) taken n) (λ n v. v ≡ tried now n) (tried_by now) (frees_by_try (in_call now) Lock _ lost refl) (rw one (try_moves n now may)) (attempts_plain now lost (may_try n now may).0 refl taken plain)
 
   pub looks_on : (n : ℕ) (view : Option (Numbered View)) → what view ≡ Some (Looking n) → Keeps view (λ n. n) (looked_by (what view))
-  looks_on n view is = keeps view (λ n. n) (λ n v. v ≡ looked (what view) n) (looked_by (what view)) (frees_none true Lock _ (looked (what view)) (none_looked (what view))) (rw is (look_moves n)) (rw is (stays (Some (Looking n)) (looked (Some (Looking n))) (λ k. at (is_set k) (nat_lt n fairs.patience)) (λ s k. knows_none s (looked (Some (Looking n)) k))))
+  looks_on n view is = keeps view (λ n. n) (λ n v. v ≡ looked (what view) n) (looked_by (what view)) (frees_none true Lock _ (looked (what view)) (none_looked (what view))) (rw is (look_moves n)) (rw is (stays_at fair (Some (Looking n)) (looked (Some (Looking n))) (λ k. at (is_set k) (nat_lt n fairs.patience)) (λ s k. knows_none s (looked (Some (Looking n)) k))))
     where
       at : (b c : Bool) → idle ≡ part (if b then (if c then Looking (n + 1) else Loading) else Trying n)
       at true true = refl
@@ -429,7 +423,7 @@ module _ (name : ℕ) where
       at c _ = refl
 
       ready_of : (now : Option View) → awaits now ≡ true → Moves now (λ n. n) (λ n v. v ≡ awaited_by now n) (awaits_by now) × Leads now (λ n. n) (λ n v. v ≡ awaited_by now n)
-      ready_of (Some (Awaiting c)) is = (await_moves c, stays (Some (Awaiting c)) (awaited_by (Some (Awaiting c))) (λ k. at c (is_set k)) (λ s k. knows_none s (awaited_by (Some (Awaiting c)) k)))
+      ready_of (Some (Awaiting c)) is = (await_moves c, stays_at fair (Some (Awaiting c)) (awaited_by (Some (Awaiting c))) (λ k. at c (is_set k)) (λ s k. knows_none s (awaited_by (Some (Awaiting c)) k)))
       ready_of (Some _) is = absurd cc
       ready_of None is = absurd cc
 

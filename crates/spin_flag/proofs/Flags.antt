@@ -21,7 +21,7 @@ use Rattle.spin_core.proofs.Leaving.{flag_word-up, no_word-up}
 use Rattle.spin_core.proofs.Ties as tie
 use Rattle.spin_core.proofs.Owners.{OfHolders, one_holder}
 use Rattle.spin_core.proofs.Plays as plays
-use Rattle.spin_core.proofs.Plays.{Lock as CellLock, Holds, ways, allows, by_step, by_none, by_grant, exchanged, begins, Reaches}
+use Rattle.spin_core.proofs.Plays.{Lock as CellLock, Holds, ways, allows, by_step, looks_at, exchanges_at, begins}
 use Rattle.spin_core.proofs.Views.{release-own, part_before}
 use Rattle.spin_model.specs.declared.answer.Answer.TheVariants.{Granted, Refused, Is, Done}
 use Rattle.spin_model.specs.declared.flag.FlagCall.{FlagCall}
@@ -91,14 +91,6 @@ release_moves w value v is = rw is (Begin Release ∷ Step ∷ [], Begun ∷ Ans
 
 -- Each step keeps the rule, and appends its moves
 
--- a party that has nothing looks, and has nothing still
-look_at : (view : Option View) (w : View) (s : Plain) (p : ℕ) → part_before part view ≡ idle → part w ≡ idle → Reaches flag view w s p (flag_word s) tt
-look_at view w s p none still = by_none flag view w s p (ap (entries_of p) (none ∙ sym still)) (rw still tt)
-
-look_on : (s : Plain) (p : ℕ) (b : Bool) → (w : View) × Reaches flag (Some Looking) w s p (flag_word s) tt × (w ≡ (if b then Trying else Looking))
-look_on s p true = (Trying, look_at (Some Looking) Trying s p refl refl, refl)
-look_on s p false = (Looking, look_at (Some Looking) Looking s p refl refl, refl)
-
 out_has_none : (view : Option View) → IsOut view → part_before part view ≡ idle
 out_has_none None out = refl
 out_has_none (Some Idle) out = refl
@@ -109,6 +101,10 @@ may_try None may = refl
 may_try (Some Idle) may = refl
 may_try (Some Trying) may = refl
 may_try (Some _) may = absurd may
+
+none_looked : (free : Bool) → part (if free then Trying else Looking) ≡ idle
+none_looked true = refl
+none_looked false = refl
 
 -- it comes, or made its last call to the end
 pub is_out : (view : Option (Numbered View)) → stands view ≡ Idle → IsOut (what view)
@@ -142,13 +138,13 @@ module _ (name : ℕ) where
   looks view out =
       let th : ℕ → View → Type 0 = becomes Idle 0 0 (what view) in
       keeps view (λ n. n) th looks_by (load_moves (what view) out)
-      (allows flag (what view) (λ n. n) th (λ s p room order has. (Idle, look_at (what view) Idle s p (out_has_none (what view) out) refl, refl)))
+      (looks_at flag (what view) (λ n. Idle) (out_has_none (what view) out) (λ n. refl))
 
   -- an exchange by a party that has nothing: the step function's own lemma says that the flag is free where it grants
   exchanges_flag : (view : Option View) (lost : View) → part_before part view ≡ idle → part lost ≡ idle → (taken : ℕ) → ((s : Plain) (p : ℕ) → flag_word s ≡ 0 → Decides s (gets p to_write) flag_word (Some taken))
       → AllowsAt (Holds flag) (ways flag) view None (λ n. either (n == 0) taken n) (exchanges (λ _. Holding) lost 0 taken view)
   exchanges_flag view lost nothing still taken plain =
-      exchanged flag view (λ _. Holding) lost 0 taken (λ s p. (ap (entries_of p) (nothing ∙ sym still), rw still tt)) (λ s p vs room order is has small e. by_grant flag view Holding s p to_write taken tt (plain s p e) (rw nothing refl) tt refl)
+      exchanges_at flag view to_write Holding (λ n. lost) 0 taken nothing (λ n. still) (λ s p. refl) (λ s. tt) (λ s p order room e. plain s p e)
 
   pub attempts : (view : Option (Numbered View)) → IsOut (what view) → (taken : ℕ) → taken ≡ 1 → ((s : Plain) (p : ℕ) → flag_word s ≡ 0 → Decides s (gets p to_write) flag_word (Some taken))
       → Keeps view (λ n. either (n == 0) taken n) tries_by
@@ -166,7 +162,7 @@ module _ (name : ℕ) where
   looks_on view is =
       let th : ℕ → View → Type 0 = becomes_by (λ n. if n == 0 then Trying else Looking) 0 0 (what view) in
       keeps view (λ n. n) th looked_by (rw is look_moves)
-      (rw is (allows flag (Some Looking) (λ n. n) (becomes_by (λ n. if n == 0 then Trying else Looking) 0 0 (Some Looking)) (λ s p room order has. look_on s p (flag_word s == 0))))
+      (rw is (looks_at flag (Some Looking) (λ n. if n == 0 then Trying else Looking) refl (λ n. none_looked (n == 0))))
 
   pub releases_flag : (freed : ℕ) → freed ≡ 0 → ((s : Plain) (p : ℕ) (k : Kind) → flag_word s ≡ 1 → Gives s (releases p k) flag_word freed) → (v : Numbered View) → v.0 ≡ Holding → Keeps (Some v) (λ _. freed) frees_by
   releases_flag freed none plain v held =

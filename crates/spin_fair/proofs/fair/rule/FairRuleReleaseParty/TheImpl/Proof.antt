@@ -2,17 +2,13 @@
 use Rattle.std.proofs.Common.{[], ◌∷◌, refl}
 use mir.Syntax.{a_type, method}
 use contract.Running.{within}
-use denote.Builtin.{unit, usize}
-use denote.RattleType.{RattleType}
-use denote.Struct.Tuple.{Tuple}
-use Rattle.spin_core.specs.contracts.trace.Watch as watch
-use Rattle.spin_core.specs.contracts.trace.Trace as trace
-use Rattle.spin_core.proofs.Sends.{entry}
+use denote.Builtin.{unit}
 use Rattle.spin_step_more.specs.contracts.fair_calls.FairCall as call
 use denote.Param.{layouts}
 use denote.Triple.Spec.{triple_of}
 use denote.Triple.Table.{widened}
 use Rattle.spin_core.proofs.Released.{released}
+use Rattle.spin_core.proofs.TieLaws.{numbered, watched, traced}
 use Rattle.spin_fair.specs.contracts.fair.rule.View as V
 use Rattle.spin_fair.specs.contracts.fair.rule.FairRule as F
 use Rattle.spin_fair.specs.contracts.fair.rule.FairRuleRuleParty.TheImpl as rule
@@ -25,14 +21,11 @@ use Rattle.spin_fair.proofs.fair.rule.FairRuleReleaseParty.release.Met.{met}
 use Rattle.spin_fair.proofs.fair.rule.FairRuleReleaseParty.release.Symbol.{name, as_method}
 use Rattle.spin_fair.proofs.fair.rule.FairRuleReleaseParty.TheImpl.Statement.{statement}
 
-abbrev Done : RattleType
-Done = entry call.the_row
-
 pub bound : statement
 bound γ wired T LT M 𝓤 𝓛 𝓜 𝓡 = let at = layouts (a_type ∷ []) (T, tt) in let called = method (block.dict T) 0 (layouts [] tt) in record {
   same = same-law T;
   Self-Key-lives = (rule_met.bound γ T LT M 𝓤 𝓛 𝓜 𝓡).Self-Key-lives;
   Self-Second-lives = (rule_met.bound γ T LT M 𝓤 𝓛 𝓜 𝓡).Self-Second-lives;
-  release = released F.the_row (Tuple (V.the_row ∷ usize ∷ usize ∷ [])) (watch.the_row Done) (trace.the_row Done unit) T (rule.ghosts T) 𝓛 𝓜 𝓡 (γ called) (block.ghosts T) uses.ghosts (block.dict T) (rule.dict T) uses.dict
+  release = released F.the_row (numbered V.the_row) (watched call.the_row) (traced call.the_row unit) T (rule.ghosts T) 𝓛 𝓜 𝓡 (γ called) (block.ghosts T) uses.ghosts (block.dict T) (rule.dict T) uses.dict
       (widened 𝓤 𝓛.H (triple_of 𝓛 (own.signature T) (own.spec T 𝓛 𝓜.mem 𝓡.returns)) 𝓜 𝓡 γ (γ (name at)) (γ called) (as_method γ wired called refl) (met 𝓤 𝓛 𝓜 (within 𝓤 𝓛.H 𝓜 𝓡 γ) wired T LT));
 }
