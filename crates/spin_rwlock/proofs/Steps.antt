@@ -29,7 +29,7 @@ use Rattle.spin_step.proofs.Holders.{is_holder-from_entries}
 use Rattle.spin_core.proofs.Leaving.{rw_word-up, no_word-up}
 use Rattle.spin_core.proofs.Owners.{OfReaders, readers_or_writer}
 use Rattle.spin_core.proofs.Plays as plays
-use Rattle.spin_core.proofs.Plays.{Lock, Reaches, ways, allows, allows_among, by_exchange, by_step, by_grant, by_none, begins}
+use Rattle.spin_core.proofs.Plays.{Lock, ways, allows, allows_among, by_step, by_none, Weighs, less_by, looks_at, gets_at, exchanges_at, leaves_at, begins}
 use Rattle.spin_core.proofs.Ties as tie
 use Rattle.spin_step_more.proofs.Readers.{one_of_each, word_of}
 use Rattle.spin_core.proofs.Views.{part_before, release-own, turn-own}
@@ -78,19 +78,13 @@ readers_fit word count (s, room, order, e) plain = omega (arith, plain s (one_of
 abbrev To : (ℕ → Type 0) → (ℕ → View) → ℕ → View → Type 0
 To P to n v = P n × (v ≡ to n)
 
--- the word of a lock, and one in which a holder of so much weight stands
+-- the word of a lock
 abbrev Any : ℕ → Type 0
 Any n = Unit {0}
-
-abbrev Weighs : ℕ → ℕ → Type 0
-Weighs least n = (least ≤ n) × (n < 2 ^ 63)
 
 -- no sum of the word and a weight wraps
 fits_in : (n k : ℕ) → n < 2 ^ 63 → k < 2 ^ 63 → (n + k) % 2 ^ 64 ≡ n + k
 fits_in n k small less = omega (arith, small, less)
-
-less_by : (n k : ℕ) → Weighs k n → (n + (2 ^ 64 - k)) % 2 ^ 64 ≡ n - k
-less_by n k some = omega (arith, some.0, some.1)
 
 -- The plain step of each
 
@@ -109,17 +103,6 @@ out_holds_none (Some _) out = absurd cc
 looks : (view : Option View) → IsOut view → Allows Word (ways rw-lock) view (λ n. n) (To IsRwWord (λ n. Idle))
 looks view out = allows rw-lock view (λ n. n) (To IsRwWord (λ n. Idle)) (λ s p room order has. (Idle, by_none rw-lock view Idle s p (ap (entries_of p) (out_holds_none view out)) tt, ((s, room, order, refl), refl)))
 
--- an exchange is a step where it finds the number of which the step function was asked, and else the party comes to what is nothing more to the lock
-exchanges : (view : Option View) (ask : Ask) (won : View) (lost : ℕ → View) (old new : ℕ) → ((s : Plain) (p : ℕ) → entries_after s (Some (gets p ask)) (entries_of p (part_before part view)) ≡ entries_of p (part won)) → ((s : Plain) → Knows s (part won))
-    → ((p n : ℕ) → entries_of p (part_before part view) ≡ entries_of p (part (lost n))) → ((s : Plain) (n : ℕ) → Knows s (part (lost n)))
-    → ((s : Plain) (p : ℕ) → s.cap ≡ reader_limit → IsInOrder s → HasPart s p (part_before part view) → rw_word s ≡ old → Decides s (gets p ask) rw_word (Some new))
-    → Allows Word (ways rw-lock) view (λ n. either (n == old) new n) (λ n v. v ≡ (if n == old then won else lost n))
-exchanges view ask won lost old new comes knows same knows_still plain =
-    allows rw-lock view (λ n. either (n == old) new n) (λ n v. v ≡ (if n == old then won else lost n)) (λ s p room order has.
-    by_exchange rw-lock view won (lost (rw_word s)) s p (rw_word s) tt old new
-    (λ e. by_grant rw-lock view won s p ask new tt (plain s p room order has e) (comes s p) (knows (apply s (gets p ask))) refl)
-    (by_none rw-lock view (lost (rw_word s)) s p (same p (rw_word s)) (knows_still s (rw_word s))))
-
 turns_by : (v w : View) (k l : Kind) (by : ℕ) → ((p : ℕ) → entries_of p (part v) ≡ entries_of p (holds k)) → ((p : ℕ) → entries_of p (part w) ≡ entries_of p (holds l)) → ((s : Plain) → Knows s (part w)) → may_turn k l ≡ true → weight k + by ≡ weight l
     → Allows Word (ways rw-lock) (Some v) (λ n. (n + by) % 2 ^ 64) (To (Weighs 0) (λ n. w))
 turns_by v w k l by was now knows down less = allows rw-lock (Some v) (λ n. (n + by) % 2 ^ 64) (To (Weighs 0) (λ n. w)) (λ s p room order has.
@@ -132,14 +115,7 @@ turns_by v w k l by was now knows down less = allows rw-lock (Some v) (λ n. (n 
     ))
 
 goes : (v : View) (k : Kind) → ((p : ℕ) → entries_of p (part v) ≡ entries_of p (holds k)) → Allows Word (ways rw-lock) (Some v) (λ n. (n + (2 ^ 64 - weight k)) % 2 ^ 64) (To (Weighs (weight k)) (λ n. Idle))
-goes v k was = allows rw-lock (Some v) (λ n. (n + (2 ^ 64 - weight k)) % 2 ^ 64) (To (Weighs (weight k)) (λ n. Idle)) (λ s p room order has.
-    let stands = is_holder-from_entries p k s.holders (ap (λ e. e.holders) (has.0 ∙ was p)) in
-    let small = bounded s.holders (fits_cap s room order) in let less = sum-less weight p k s.holders stands in (
-      Idle,
-      by_step rw-lock (Some v) Idle s (releases p k) ((rw_word s + (2 ^ 64 - weight k)) % 2 ^ 64) tt stands (ap (entries_after s (Some (releases p k))) (was p) ∙ release-own s p k) tt
-          (omega (arith, less, small)) refl,
-      ((omega (arith, less), small), refl),
-    ))
+goes v k was = leaves_at rw-lock weight (λ s. refl) (λ s room order. bounded s.holders (fits_cap s room order)) v k was
 
 -- a free lock lets each in
 pub opens_free : (won : View) → Comes won → (waits : Bool) → grants (call_of won waits) 0 ≡ None → ⊥
@@ -153,13 +129,6 @@ opens_free _ cm waits none = absurd cm
 abbrev Admits : View → ℕ → ℕ → Type 0
 Admits won old new = (s : Plain) (p : ℕ) → OneOfEach s → s.cap ≡ reader_limit → rw_word s ≡ old → Decides s (gets p (asks won)) rw_word (Some new)
 
--- an exchange of a party that holds nothing, and still holds nothing where it loses
-tries_at : (view : Option View) → part_before part view ≡ idle → (ask : Ask) (won : View) (lost : ℕ → View) → ((n : ℕ) → part (lost n) ≡ idle) → (old new : ℕ)
-    → ((s : Plain) (p : ℕ) → entries_after s (Some (gets p ask)) (entries_of p idle) ≡ entries_of p (part won)) → ((s : Plain) → Knows s (part won)) → ((s : Plain) (p : ℕ) → s.cap ≡ reader_limit → IsInOrder s → rw_word s ≡ old → Decides s (gets p ask) rw_word (Some new))
-    → Allows Word (ways rw-lock) view (λ n. either (n == old) new n) (λ n v. v ≡ (if n == old then won else lost n))
-tries_at view none ask won lost still old new gains knows plain =
-    exchanges view ask won lost old new (λ s p. rw none (gains s p)) knows (λ p n. ap (entries_of p) (none ∙ sym (still n))) (λ s n. rw (still n) tt) (λ s p room order has e. plain s p room order e)
-
 may_come : (c : RwCall) (n : ℕ) (view : Option View) → MayCome c n view → part_before part view ≡ idle
 may_come c n view (inl (out, free)) = out_holds_none view out
 may_come c n view (inr is) = rw is refl
@@ -169,23 +138,23 @@ may_write view (inl out) = out_holds_none view out
 may_write view (inr is) = rw is refl
 
 comes : (won : View) (c : RwCall) → Comes won → (view : Option View) (old new : ℕ) → MayCome c old view → Admits won old new → Allows Word (ways rw-lock) view (λ n. either (n == old) new n) (λ n v. v ≡ came won c old n)
-comes Reading c cm view old new may plain = tries_at view (may_come c old view may) to_read Reading (Coming c) (λ n. refl) old new (λ s p. refl) (λ s. tt) (λ s p room order e. plain s p (one_of_each s order.exclusive) room e)
-comes Upgradable c cm view old new may plain = tries_at view (may_come c old view may) to_read_upgradable Upgradable (Coming c) (λ n. refl) old new (λ s p. refl) (λ s. tt) (λ s p room order e. plain s p (one_of_each s order.exclusive) room e)
+comes Reading c cm view old new may plain = exchanges_at rw-lock view to_read Reading (Coming c) old new (may_come c old view may) (λ n. refl) (λ s p. refl) (λ s. tt) (λ s p order room e. plain s p (one_of_each s order.exclusive) room e)
+comes Upgradable c cm view old new may plain = exchanges_at rw-lock view to_read_upgradable Upgradable (Coming c) old new (may_come c old view may) (λ n. refl) (λ s p. refl) (λ s. tt) (λ s p order room e. plain s p (one_of_each s order.exclusive) room e)
 comes _ c cm view old new may plain = absurd cm
 
 looks_again : (c : RwCall) (old : ℕ) → Allows Word (ways rw-lock) (Some (Coming c old)) (λ n. n) (λ n v. v ≡ Coming c n)
-looks_again c old = allows rw-lock (Some (Coming c old)) (λ n. n) (λ n v. v ≡ Coming c n) (λ s p room order has. (Coming c (rw_word s), by_none rw-lock (Some (Coming c old)) (Coming c (rw_word s)) s p refl tt, refl))
+looks_again c old = looks_at rw-lock (Some (Coming c old)) (Coming c) refl (λ n. refl)
 
 writes_at : (view : Option View) → part_before part view ≡ idle → (lost : View) → part lost ≡ idle → (old new : ℕ) → ((s : Plain) (p : ℕ) → rw_word s ≡ old → Decides s (gets p to_write) rw_word (Some new)) → Allows Word (ways rw-lock) view (λ n. either (n == old) new n) (λ n v. v ≡ either_at old Writing lost n)
-writes_at view none lost still old new plain = tries_at view none to_write Writing (λ n. lost) (λ n. still) old new (λ s p. refl) (λ s. tt) (λ s p room order e. plain s p e)
+writes_at view none lost still old new plain = exchanges_at rw-lock view to_write Writing (λ n. lost) old new none (λ n. still) (λ s p. refl) (λ s. tt) (λ s p order room e. plain s p e)
 
 upgrades_at : (old new : ℕ) → ((s : Plain) (p : ℕ) → OneOfEach s → is_holder p upgradable s.holders ≡ true → rw_word s ≡ old → Decides s (gets p to_upgrade) rw_word (Some new)) → Allows Word (ways rw-lock) (Some Upgradable) (λ n. either (n == old) new n) (λ n v. v ≡ either_at old Writing Upgradable n)
-upgrades_at old new plain = exchanges (Some Upgradable) to_upgrade Writing (λ n. Upgradable) old new (λ s p. rw (eq-eqb p p refl) refl) (λ s. tt) (λ p n. refl) (λ s n. tt)
-    (λ s p room order has e. plain s p (one_of_each s order.exclusive) (is_holder-from_entries p upgradable s.holders (ap (λ e. e.holders) has.0)) e)
+upgrades_at old new plain = gets_at rw-lock (Some Upgradable) to_upgrade Writing (λ n. Upgradable) old new (λ s p. rw (eq-eqb p p refl) refl) (λ s. tt) (λ n. refl) (λ s n. tt)
+    (λ s p vs room order is has small e. plain s p (one_of_each s order.exclusive) (is_holder-from_entries p upgradable s.holders (ap (λ e. e.holders) has.0)) e)
 
 upgrades_asked_at : (old new : ℕ) → ((s : Plain) (p : ℕ) → OneOfEach s → is_holder p asking s.holders ≡ true → rw_word s ≡ old → Decides s (gets p to_upgrade_asked) rw_word (Some new)) → Allows Word (ways rw-lock) (Some Asking) (λ n. either (n == old) new n) (λ n v. v ≡ either_at old WritingAsked Asking n)
-upgrades_asked_at old new plain = exchanges (Some Asking) to_upgrade_asked WritingAsked (λ n. Asking) old new (λ s p. rw (eq-eqb p p refl) refl) (λ s. tt) (λ p n. refl) (λ s n. tt)
-    (λ s p room order has e. plain s p (one_of_each s order.exclusive) (is_holder-from_entries p asking s.holders (ap (λ e. e.holders) has.0)) e)
+upgrades_asked_at old new plain = gets_at rw-lock (Some Asking) to_upgrade_asked WritingAsked (λ n. Asking) old new (λ s p. rw (eq-eqb p p refl) refl) (λ s. tt) (λ n. refl) (λ s n. tt)
+    (λ s p vs room order is has small e. plain s p (one_of_each s order.exclusive) (is_holder-from_entries p asking s.holders (ap (λ e. e.holders) has.0)) e)
 
 -- a party that writes, whether it asked or not
 writes_as : (v : View) → use_of_view v ≡ writes → (p : ℕ) → entries_of p (part v) ≡ entries_of p (holds writing)
@@ -404,7 +373,7 @@ module _ (name : ℕ) where
   pub peeks : (old new : ℕ) → grants call.TryRead old ≡ Some new → Admits Reading old new → Keeps None (swaps old new) (peeks_by old)
   peeks old new grant plain =
       keeps None (swaps old new) (λ n v. v ≡ either_at old Reading Idle n) (peeks_by old) (by_found None old new (either_at old Reading Idle) (peeks_by old) (peek_first old new grant))
-      (tries_at None refl to_read Reading (λ n. Idle) (λ n. refl) old new (λ s p. refl) (λ s. tt) (λ s p room order e. plain s p (one_of_each s order.exclusive) room e))
+      (exchanges_at rw-lock None to_read Reading (λ n. Idle) old new refl (λ n. refl) (λ s p. refl) (λ s. tt) (λ s p order room e. plain s p (one_of_each s order.exclusive) room e))
 
   pub tries_to_write : (view : Option (Numbered View)) → IsOut (what view) → ((s : Plain) (p : ℕ) → rw_word s ≡ 0 → Decides s (gets p to_write) rw_word (Some 1)) → Keeps view (swaps 0 1) (ends_by call.TryWrite (given 0) (either_at 0 Writing Idle))
   tries_to_write view out plain =

@@ -17,7 +17,7 @@ use Rattle.spin_core.specs.declared.trace.Trace.{Trace}
 use Rattle.spin_core.proofs.CellCounts.{none}
 use Rattle.spin_core.proofs.Leaving.{flag_word-up, no_word-up}
 use Rattle.spin_core.proofs.Owners.{exactly}
-use Rattle.spin_core.proofs.Plays.{Lock, Holds, allows, allows_among, by_step, by_none, by_grant, by_exchange, begins}
+use Rattle.spin_core.proofs.Plays.{Lock, Holds, allows, by_step, gets_at, begins}
 use Rattle.spin_core.proofs.Plays as plays
 use Rattle.spin_core.proofs.Ties as tie
 use Rattle.spin_core.proofs.Views.{part-beyond, release-own, part_before}
@@ -158,24 +158,19 @@ may_look (Some _) may = absurd may
 looks_at : (n : ℕ) (waits : Bool) (view : Option View) → part_before part view ≡ idle → Allows (IsWord n) ways view (λ w. w) (becomes_by (at_word n waits) 0 0 view)
 looks_at n waits view nothing = let says = becomes_by (at_word n waits) 0 0 view in
     within n view (λ w. w) says says (λ w few most. few) (λ w v few is. is)
-    (allows (lock n) view (λ w. w) says (λ s p room order has.
-    let none_there = has_none n waits (seats_word s) in
-    (at_word n waits (seats_word s), by_none (lock n) view (at_word n waits (seats_word s)) s p (ap (entries_of p) (nothing ∙ sym none_there)) (rw none_there tt), refl)))
+    (plays.looks_at (lock n) view (at_word n waits) nothing (has_none n waits))
 
 counts_at : (n : ℕ) (view : Option View) → IsOut view → Allows (IsWord n) ways view (λ w. w) (λ w v. (v ≡ Idle) × (w ≤ seats n))
 counts_at n view out = within n view (λ w. w) (becomes Idle 0 0 view) (λ w v. (v ≡ Idle) × (w ≤ seats n)) (λ w few most. few) (λ w v few is. (is, few))
-    (allows (lock n) view (λ w. w) (becomes Idle 0 0 view) (λ s p room order has. (Idle, by_none (lock n) view Idle s p (ap (entries_of p) (out_has_none view out)) tt, refl)))
+    (plays.looks_at (lock n) view (λ w. Idle) (out_has_none view out) (λ w. refl))
 
 -- the step function's own lemma says that a seat is open where it grants one
 sits_at : (n old new : ℕ) (waits : Bool) → ((s : Plain) (p : ℕ) → AllRead s → s.cap ≡ seats n → seats_word s ≡ old → Decides s (gets p to_read) seats_word (Some new)) → new ≤ seats n
     → Allows (IsWord n) ways (Some (Coming waits old)) (λ w. either (w == old) new w) (becomes_by (led_to n old waits) old new (Some (Coming waits old)))
 sits_at n old new waits plain room = let view = Some (Coming waits old) in let says = becomes_by (led_to n old waits) old new view in
     within n view (λ w. either (w == old) new w) says says (λ w few most. either_fits (w == old) new w (seats n) room few) (λ w v few said. said)
-    (allows_among (lock n) view (λ w. either (w == old) new w) says (λ s p vs cap order is has small.
-    let none_there = has_none n waits (seats_word s) in
-    by_exchange (lock n) view Seated (at_word n waits (seats_word s)) s p (seats_word s) tt old new
-    (λ e. by_grant (lock n) view Seated s p to_read new tt (plain s p (all_read vs s is) cap e) refl tt refl)
-    (by_none (lock n) view (at_word n waits (seats_word s)) s p (ap (entries_of p) (sym none_there)) (rw none_there tt))))
+    (gets_at (lock n) view to_read Seated (at_word n waits) old new (λ s p. refl) (λ s. tt) (λ w. sym (has_none n waits w)) (λ s w. rw (has_none n waits w) tt)
+    (λ s p vs cap order is has small e. plain s p (all_read vs s is) cap e))
 
 gets_up_at : (n : ℕ) → Allows (IsWord n) ways (Some Seated) (λ w. (w + (2 ^ 64 - 1)) % 2 ^ 64) (λ w v. (v ≡ Idle) × (1 ≤ w) × (w ≤ seats n))
 gets_up_at n = let says : ℕ → View → Type 0 = λ w v. (v ≡ Idle) × (1 ≤ w) in

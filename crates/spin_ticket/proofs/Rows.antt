@@ -7,10 +7,7 @@ use denote.Param.Shared.{copy_shared}
 use denote.Struct.Field.{u64-field}
 use denote.Struct.Laws.{u64-laws, u64-copy}
 use denote.Struct.Tuple.{Tuple, tuple_laws}
-use Rattle.spin_core.specs.contracts.trace.Watch as watch
-use Rattle.spin_core.specs.contracts.trace.Trace as trace
-use Rattle.spin_core.proofs.Sends.{entry}
-use Rattle.spin_core.proofs.TieLaws.{numbered, numbered_laws, watch_laws, trace_laws}
+use Rattle.spin_core.proofs.TieLaws.{numbered, numbered_laws, watched, watch_laws, traced, trace_laws}
 use Rattle.spin_model.specs.contracts.ticket.TicketCall as call
 use Rattle.spin_model.proofs.ticket.TicketCall.TheLaws as calls
 use Rattle.spin_ticket.specs.contracts.ticket.rule.View as view
@@ -24,16 +21,16 @@ abbrev pub Party : RattleType
 Party = numbered view.the_row
 
 abbrev pub Key : RattleType
-Key = Tuple (watch.the_row (entry call.the_row) ∷ u64 ∷ [])
+Key = Tuple (watched call.the_row ∷ u64 ∷ [])
 
 abbrev pub Second : RattleType
-Second = trace.the_row (entry call.the_row) u64
+Second = traced call.the_row u64
 
 abbrev pub party_laws : Laws Party
 party_laws = numbered_laws view.the_row views.the_row_laws
 
 abbrev pub key_laws : Laws Key
-key_laws = tuple_laws (watch.the_row (entry call.the_row) ∷ u64 ∷ []) (watch_laws call.the_row calls.the_row_laws, (words, tt))
+key_laws = tuple_laws (watched call.the_row ∷ u64 ∷ []) (watch_laws call.the_row calls.the_row_laws, (words, tt))
 
 abbrev pub second_laws : Laws Second
 second_laws = trace_laws call.the_row u64 calls.the_row_laws words

@@ -14,12 +14,8 @@ use contract.BorrowLft.{⊑_static}
 use contract.Lifetimes.{Lfts, Shares}
 use denote.Ref.{NamedLft, MutBor, MutRef, mut_vals, mut_Tells}
 use denote.Param.{layouts, arg}
-use denote.Param.Shared.{copy_shared}
-use denote.Builtin.{usize}
-use denote.Struct.Field.{unit-field, usize-field}
-use denote.Struct.Laws.{unit-laws, unit-copy, usize-laws, usize-copy}
-use denote.Struct.Tuple.{Tuple, tuple_laws}
-use denote.Param.Laws.{of_field, Laws, arg_laws}
+use denote.Builtin.{unit}
+use denote.Param.Laws.{Laws, arg_laws}
 use denote.Memory.{mem as in_memory}
 use denote.Follow.{follows, follows_then}
 use denote.Triple.Spec.{triple_of}
@@ -38,19 +34,13 @@ use Rattle.spin_rwlock.specs.contracts.rwlock.rule.View as V
 use Rattle.spin_rwlock.specs.contracts.rwlock.rule.RwRule as F
 use Rattle.spin_rwlock.proofs.rwlock.rule.View.TheLaws as VL
 use Rattle.spin_rwlock.proofs.rwlock.rule.RwRule.TheLaws as FL
-use Rattle.spin_model.specs.contracts.schedule.Move as move
-use Rattle.spin_model.proofs.schedule.Move.TheLaws as move_laws
 use Rattle.spin_step_more.specs.contracts.rw_calls.RwCall as call
 use Rattle.spin_step_more.proofs.rw_calls.RwCall.TheLaws as call_laws
-use Rattle.spin_core.specs.contracts.trace.Watch as watch
-use Rattle.spin_core.proofs.trace.Watch.TheLaws as watch_laws
-use Rattle.spin_core.specs.contracts.trace.Trace as trace
-use Rattle.spin_core.proofs.trace.Trace.TheLaws as trace_laws
-use Rattle.spin_core.proofs.Sends.{entry}
+use Rattle.spin_core.proofs.Sends.{at_first}
+use Rattle.spin_core.proofs.TieLaws.{numbered, numbered_laws, watched, watch_laws, traced, trace_laws, units}
 use Rattle.spin_rwlock.specs.contracts.rwlock.rule.RwRuleRuleParty.TheImpl.{ghosts, dict}
 use Rattle.spin_rwlock.proofs.rwlock.rule.RwRuleRuleParty.TheImpl.Met.{bound}
 use Rattle.spin_rwlock.specs.Guards.{write_with}
-use Rattle.spin_rwlock.proofs.Known.{first}
 use Rattle.spin_rwlock.specs.contracts.rwlock.writer.RwLockWriteGuardDerefMut.deref_mut.{ended, clauses}
 use Rattle.spin_rwlock.specs.contracts.rwlock.writer.RwLockWriteGuardDerefMut.deref_mut.Key.{name as #self}
 use Rattle.spin_rwlock.proofs.rwlock.writer.RwLockWriteGuardDerefMut.deref_mut.Statement.{statement}
@@ -58,7 +48,7 @@ use Rattle.spin_rwlock.proofs.rwlock.writer.RwLockWriteGuardDerefMut.deref_mut.C
 
 -- the writer stands at the guard's beginning
 starts : {τ : Ty} → ◌≡◌ {A = Option (Ty × ℕ)} (found (τ, up (align τ) 0)) (found (τ, 0))
-starts {τ} = ap at (first (align τ))
+starts {τ} = ap at (at_first (align τ))
   where
     at : ℕ → Option (Ty × ℕ)
     at d = found (τ, d)
@@ -67,31 +57,16 @@ starts {τ} = ap at (first (align τ))
 twice : (κ ν : Lft) → Incl κ ν → Incl κ ((ν ++ []) ++ (ν ++ []))
 twice κ ν h = let once = ⊑_meet κ ν [] h (⊑_static κ) in ⊑_meet κ (ν ++ []) (ν ++ []) once once
 
--- a party, an entry of the trace, and what stands for the key and the second word
+-- a party, and what stands for the key and the second word
 
 abbrev Party : RattleType
-Party = Tuple (V.the_row ∷ usize ∷ usize ∷ [])
-
-abbrev Done : RattleType
-Done = entry call.the_row
+Party = numbered V.the_row
 
 abbrev Key : RattleType
-Key = watch.the_row Done
+Key = watched call.the_row
 
 abbrev Second : RattleType
-Second = trace.the_row Done unit-field.row
-
-number_laws : Laws usize
-number_laws = of_field usize-field usize-laws refl (copy_shared usize-field usize-copy)
-
-nothing_laws : Laws unit-field.row
-nothing_laws = of_field unit-field unit-laws refl (copy_shared unit-field unit-copy)
-
-party_laws : Laws Party
-party_laws = tuple_laws (V.the_row ∷ usize ∷ usize ∷ []) (VL.the_row_laws, (number_laws, (number_laws, tt)))
-
-entry_laws : Laws Done
-entry_laws = tuple_laws (usize ∷ move.the_row call.the_row unit-field.row ∷ []) (number_laws, (move_laws.the_row_laws call.the_row unit-field.row call_laws.the_row_laws nothing_laws, tt))
+Second = traced call.the_row unit
 
 module _ (ℓ : NamedLft) (T S : RattleType) (LT : Laws T) (LS : Laws S) where
   abbrev R : RattleType
@@ -125,8 +100,8 @@ deref_mut_spec {M} 𝓤 𝓛 𝓜 𝓡 wired T S LT LS =
     let X : RattleType = arg (layout T) yes R in let W : RattleType = arg (raw_type (layout Party)) no Party in let Y : RattleType = arg (ty_struct [] (tcons (layout T) tnil)) no (F.the_row R) in let K : RattleType = arg (raw_type (layout Key)) no Key in let U : RattleType = arg (raw_type (layout Second)) no Second in let I : RattleType = arg (layout T) no R in
     let met_rule = bound 𝓡.env I (arg_laws (layout T) no R (param_laws 0 T LT) refl) M 𝓤 𝓛 𝓜 𝓡 in
     let called = met 𝓤 𝓛 𝓜 𝓡 (code.calls-spin_core::cell::WritePermit::get_mut 𝓡.env wired) X W Y K U (arg_laws (layout T) yes R (param_laws 0 T LT) refl)
-    (arg_laws (raw_type (layout Party)) no Party party_laws refl) (arg_laws (ty_struct [] (tcons (layout T) tnil)) no (F.the_row R) (FL.the_row_laws R (param_laws 0 T LT)) refl)
-    (arg_laws (raw_type (layout Key)) no Key (watch_laws.the_row_laws Done entry_laws) refl) (arg_laws (raw_type (layout Second)) no Second (trace_laws.the_row_laws Done unit-field.row entry_laws nothing_laws) refl) (ghosts I) (dict I) (record { Self-Key-lives = met_rule.Self-Key-lives; Self-Second-lives = met_rule.Self-Second-lives }) in
+    (arg_laws (raw_type (layout Party)) no Party (numbered_laws V.the_row VL.the_row_laws) refl) (arg_laws (ty_struct [] (tcons (layout T) tnil)) no (F.the_row R) (FL.the_row_laws R (param_laws 0 T LT)) refl)
+    (arg_laws (raw_type (layout Key)) no Key (watch_laws call.the_row call_laws.the_row_laws) refl) (arg_laws (raw_type (layout Second)) no Second (trace_laws call.the_row unit call_laws.the_row_laws units) refl) (ghosts I) (dict I) (record { Self-Key-lives = met_rule.Self-Key-lives; Self-Second-lives = met_rule.Self-Second-lives }) in
     proved 𝓛 En hs c 𝓜 𝓡 (Goes-spent_ref 𝓛 4 (0 ∷ []) tt row, tt) (#self inst) fn closed
     (λ κs. (mut_vals, tt)) (λ κs. (mut_Tells (named 0) κs.0 (the_row (named_lft 4 1 tt κs) R Q), tt)) (λ κs qs bounds a gh are.
     let ℓ = named_lft 4 1 tt κs in let G : RattleType = the_row ℓ R Q in let P : RattleType = Pen ℓ T S LT LS in let m = a.0 in let b : ℕ = m.ref_ptr.0 in let o : ℕ = m.ref_ptr.1 in let γ : GName = m.ghost_name in let h : G.Denot = m.now in
