@@ -1,12 +1,13 @@
-//! Tests of worlds, of texts, and of the program over streams in memory: what no contract says of them; and a small
-//! object of one's own.
+//! Tests of worlds, of texts, of the explorer, and of both programs over streams in memory: what no contract says of
+//! them.
 #![tactic(auto)]
 
 #[cfg(test)]
 mod alike;
-pub mod dispenser;
 #[cfg(test)]
 mod ends;
+#[cfg(test)]
+mod explorer;
 #[cfg(test)]
 mod program;
 #[cfg(test)]

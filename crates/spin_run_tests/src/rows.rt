@@ -1,8 +1,7 @@
-//! Worked schedules that no text tells: those of the seats and of the dispenser, runs one after the other, places, and
+//! Worked schedules that no text tells: those of the seats, runs one after the other, places, and
 //! objects that no header makes.
 
 use crate::alike::{Alike, are_alike};
-use crate::dispenser::{Dispenser, DispenserAnswer, DispenserCall};
 use crate::text::worlds::run;
 use spin_world::{
     Answer, Event, Fair, FairCall, Flag, FlagCall, Hold, Move, Object, OnceCall, OnceObject,
@@ -136,28 +135,6 @@ fn a_seated_party_may_only_leave(rt: HostRuntime) {
     let places: [Place; 2] = [Place::Leaked(Hold::Read), Place::Idle];
     let mut world = world(&rt, rt.alloc(), Seats::new(1), 2);
     plays(&rt, &mut world, ONE_SITS, &places, ());
-}
-
-const TWO_DRAW: Rows<'static, DispenserCall, (), u64, DispenserAnswer> = rows! {
-    0 Move::Begin(DispenserCall::Draw) => Outcome::Begun, 0;
-    1 Move::Begin(DispenserCall::Draw) => Outcome::Begun, 0;
-    0 Move::Step => Outcome::GoingOn, 0;
-    1 Move::Step => Outcome::GoingOn, 0;
-    0 Move::Step => answered!(DispenserAnswer::Drawn(0), 0), 1;
-    1 Move::Step => Outcome::GoingOn, 1;
-    1 Move::Step => answered!(DispenserAnswer::Drawn(1), 1), 2;
-    1 Move::Begin(DispenserCall::Draw) => Outcome::Skipped, 2;
-    2 Move::Begin(DispenserCall::Draw) => Outcome::Begun, 2;
-    2 Move::Step => answered!(DispenserAnswer::SoldOut, 8), 2;
-    2 Move::Begin(DispenserCall::Count) => Outcome::Begun, 2;
-    2 Move::Step => answered!(DispenserAnswer::Count(2), 10), 2;
-};
-
-#[test]
-fn two_draw_and_a_third_finds_it_sold_out(rt: HostRuntime) {
-    let drew = Place::Holding(Hold::Read);
-    let mut world = world(&rt, rt.alloc(), Dispenser::new(2), 3);
-    plays(&rt, &mut world, TWO_DRAW, &[drew, drew, Place::Idle], ());
 }
 
 const BEGUN: Rows<'static, FlagCall, u64, bool> = rows! {

@@ -1,12 +1,10 @@
 //! `BarrierObject`: the barrier of groups, as an object of the world.
 //!
-//! Begin with [`BarrierObject::new`] and [`BarrierCall`]; [`every_last_of_a_group_leads`] is the first of its laws. The
-//! wrong barriers in [`refused`] show what the laws keep out.
+//! Begin with [`BarrierObject::new`] and [`BarrierCall`]; [`every_last_of_a_group_leads`] is the first of its laws.
 #![tactic(auto)]
 
 mod barrier;
 mod laws;
-pub mod refused;
 
 pub use barrier::{BarrierCall, BarrierObject, BarrierPoint, BarrierWords};
 pub use laws::{a_follower_leaves_a_full_group, every_last_of_a_group_leads};

@@ -1,12 +1,10 @@
 //! `Fair`: the lock of a flag with its starvers, as an object of the world.
 //!
-//! Begin with [`Fair::new`] and [`FairCall`]; [`starvers_come_first`] is the law of its order. The wrong locks in
-//! [`refused`] show what the laws keep out.
+//! Begin with [`Fair::new`] and [`FairCall`]; [`starvers_come_first`] is the law of its order.
 #![tactic(auto)]
 
 mod fair;
 mod laws;
-pub mod refused;
 
 pub use fair::Fair;
 pub use laws::{

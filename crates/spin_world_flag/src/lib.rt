@@ -1,11 +1,10 @@
 //! `Flag`: the lock of one flag, as an object of the world.
 //!
-//! Begin with [`Flag::new`] and [`FlagCall`]. The wrong flags in [`refused`] show what the laws keep out.
+//! Begin with [`Flag::new`] and [`FlagCall`].
 #![tactic(auto)]
 
 mod flag;
 mod laws;
-pub mod refused;
 
 pub use flag::Flag;
 pub use laws::a_flag_is_clear_when_nobody_holds;

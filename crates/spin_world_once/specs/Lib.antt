@@ -1,3 +1,2 @@
-pub mod Wrong
 pub mod Keeping
 pub mod Named

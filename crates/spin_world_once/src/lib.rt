@@ -1,12 +1,10 @@
 //! `OnceObject`: the cell that one closure fills, as an object of the world.
 //!
-//! Begin with [`OnceObject::new`] and [`OnceCall`]; [`a_value_stays`] is the first of its laws. The wrong cells in
-//! [`refused`] show what the laws keep out.
+//! Begin with [`OnceObject::new`] and [`OnceCall`]; [`a_value_stays`] is the first of its laws.
 #![tactic(auto)]
 
 mod laws;
 mod once;
-pub mod refused;
 
 pub use laws::{
     a_closure_begins_after_a_look, a_later_closure_may_run, a_later_get_agrees,

@@ -7,4 +7,3 @@ pub mod Alone
 pub mod Starving
 pub mod Seats
 pub mod Fair
-pub mod Wrong

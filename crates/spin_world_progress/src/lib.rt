@@ -1,10 +1,9 @@
 //! Progress of the locks of the world: how many rounds of a schedule a call waits at most, and which calls may starve.
 //!
-//! Begin with [`a_ticket_is_granted_in_rounds`]. The wrong locks in [`refused`] show what the laws keep out.
+//! Begin with [`a_ticket_is_granted_in_rounds`].
 #![tactic(auto)]
 
 mod laws;
-pub mod refused;
 
 pub use laws::{
     a_call_is_answered_in_one_round_where_there_is_a_value,

@@ -1,4 +1,3 @@
 pub mod Names
 pub mod Owed
 pub mod Standing
-pub mod Otherwise

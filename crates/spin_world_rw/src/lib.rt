@@ -1,11 +1,9 @@
 //! `Rw`: the lock of readers, an upgradable one, and a writer, as an object of the world.
 //!
-//! Begin with [`Rw::new`] and [`RwCall`]; [`readers_stand_beside_no_writer`] says which parties hold it together. The
-//! wrong locks in [`refused`] show what the laws keep out.
+//! Begin with [`Rw::new`] and [`RwCall`]; [`readers_stand_beside_no_writer`] says which parties hold it together.
 #![tactic(auto)]
 
 mod laws;
-pub mod refused;
 mod rw;
 
 pub use laws::{

@@ -1,2 +1,1 @@
-pub mod Wrong
 pub mod Named

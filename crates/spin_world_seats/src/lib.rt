@@ -1,11 +1,10 @@
 //! `Seats`: the lock of seats, as an object of the world.
 //!
-//! Begin with [`Seats::new`] and [`SeatsCall`]. The wrong locks in [`refused`] show what the laws keep out.
+//! Begin with [`Seats::new`] and [`SeatsCall`].
 #![tactic(auto)]
 
 mod explored;
 mod laws;
-pub mod refused;
 mod seats;
 
 pub use laws::no_more_sit_than_there_are_seats;

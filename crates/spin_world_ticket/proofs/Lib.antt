@@ -1,6 +1,5 @@
 pub mod Names
 pub mod Knowledge
-pub mod Operating
 pub mod Owed
 pub mod Queues
 pub mod Tries

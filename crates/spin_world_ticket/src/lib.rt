@@ -1,11 +1,9 @@
 //! `Ticket`: the lock of two numbers, whose parties enter in ticket order, as an object of the world.
 //!
-//! Begin with [`Ticket::new`] and [`TicketCall`]; [`tickets_enter_by_releases`] is the law of its order. The wrong
-//! locks in [`refused`] show what the laws keep out.
+//! Begin with [`Ticket::new`] and [`TicketCall`]; [`tickets_enter_by_releases`] is the law of its order.
 #![tactic(auto)]
 
 mod laws;
-pub mod refused;
 mod ticket;
 
 pub use laws::{

@@ -1,2 +1,0 @@
-pub mod Dispensing
-pub mod Drawn

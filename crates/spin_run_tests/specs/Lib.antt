@@ -1,2 +1,0 @@
-pub mod Dispenser
-pub mod WrongDispensers

@@ -1,5 +1,0 @@
-use Rattle.spin_world_core.proofs.Otherwise.{otherwise}
-use Rattle.spin_world_flag.proofs.refused.a_strong_try_has_a_cause.Goals as goal
-
-pub returns : goal.returns
-returns g c = λ value all. otherwise all.1.0

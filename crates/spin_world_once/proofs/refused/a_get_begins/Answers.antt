@@ -1,7 +1,0 @@
-use Rattle.std.proofs.lemmas.Bool.{false≢true}
-use Rattle.std.specs.Prelude.{None}
-use Rattle.spin_model.specs.declared.once.OnceCall.TheVariants.{Get}
-use Rattle.spin_world_once.proofs.refused.a_get_begins.Goals as goal
-
-pub returns : goal.returns
-returns g c = λ steps. false≢true (steps.begins Get None)

@@ -1,7 +1,0 @@
-use Rattle.std.proofs.Common.{refl, None, ⊎_elim}
-use Rattle.spin_model.specs.declared.once.OnceCall.TheVariants.{CallOnce}
-use Rattle.spin_model.specs.declared.once.OncePoint.TheVariants.{Await}
-use Rattle.spin_world_once.proofs.refused.a_waiting_call_takes_over.Goals as goal
-
-pub returns : goal.returns
-returns g c = λ v again. ⊎_elim (λ now. absurd (cc (now.begun))) (λ later. absurd (cc (later.begun))) (again.begins 1 (CallOnce v) Await None refl refl refl)

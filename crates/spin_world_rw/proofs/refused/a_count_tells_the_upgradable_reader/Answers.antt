@@ -1,8 +1,0 @@
-use Rattle.std.proofs.Common.{◌≡◌, arith, ⊎_elim}
-use Rattle.spin_world_rw.proofs.refused.a_count_tells_the_upgradable_reader.Goals as goal
-
-pub returns-clause-upgradable : goal.returns-clause-upgradable
-returns-clause-upgradable g c = λ value all. ⊎_elim (λ (e : 1 ≡ 0). absurd (omega (arith, e))) (λ none. none) all.1.1.1.1.0
-
-pub returns-clause-asking : goal.returns-clause-asking
-returns-clause-asking g c = λ value all. ⊎_elim (λ (e : 1 ≡ 0). absurd (omega (arith, e))) (λ none. none) all.1.1.1.1.1.1.0

@@ -1,5 +1,0 @@
-use Rattle.std.proofs.Common.{None}
-use Rattle.spin_world_seats.proofs.refused.an_enter_waits.Goals as goal
-
-pub returns : goal.returns
-returns g is = cc (is.enter None)

@@ -1,0 +1,72 @@
+-- What the table of the dispenser owes, and how it draws.
+use Rattle.std.proofs.Common.{◌≡◌, ℕ, Option, None, List, [], ◌∷◌, length, nat_lt, refl, arith, length-append}
+use Rattle.spin_step.specs.Plain.{Plain, reading, holder, to_read, gets, apply, flag_word, may_come, count_kind}
+use Rattle.spin_step.proofs.Sums.{one_of, sum-more}
+use Rattle.spin_step_more.proofs.Readers.{nobody_against, each_reads}
+use Rattle.spin_model.specs.declared.place.Hold.{Hold}
+use Rattle.spin_world_tests.specs.declared.dispenser.DispenserCall.{DispenserCall}
+use Rattle.spin_world_tests.specs.declared.dispenser.DispenserCall.TheVariants as call
+use Rattle.spin_world_tests.specs.declared.dispenser.DispenserPoint.{DispenserPoint}
+use Rattle.spin_world_tests.specs.declared.dispenser.DispenserPoint.TheVariants.{Exchange}
+use Rattle.spin_model.specs.Calls.{Mark}
+use Rattle.spin_model.specs.Acts.{begin_of}
+use Rattle.spin_world_tests.specs.Dispenser.{dispenser, next_after, dispenser_table, dispenser_machine}
+use Rattle.spin_world_core.proofs.Facts.{LocalInvariant, Facts}
+use Rattle.spin_world_core.proofs.Rows.{Point, starts, looked}
+use Rattle.spin_world_core.proofs.Shapes.{Notes, keeping_of, Means, OwesAt, Pays}
+use Rattle.spin_world_core.proofs.Operating.{one_place, operates_by}
+use Rattle.spin_world_core.proofs.Usual.{no_queue}
+use Rattle.spin_world_core.proofs.Paid.{facts_of}
+
+-- a call that looked has made one step; each other point is as its call's beginning
+abbrev pub point_of : ℕ → DispenserCall → DispenserPoint → Option Hold → Point
+point_of cap call.Draw (Exchange k) None = looked 1
+point_of cap c l h = starts (begin_of (dispenser_table cap) c h)
+
+-- the shape of the lock: nobody queues, and a party that has drawn reads
+pub record Drawing (cap : ℕ) (s : Plain) : Type 0 where
+  pub no_queue : s.tickets ≡ []
+  pub room : s.cap ≡ cap
+  pub all_read : count_kind reading s.holders ≡ length s.holders
+
+abbrev pub dispenser_notes : (cap : ℕ) → Notes (dispenser_table cap)
+dispenser_notes cap = record { Shape = λ s. Drawing cap s; point = point_of cap; Knows = λ c l h p s span. Unit {0} }
+
+module _ (cap : ℕ) where
+  one_more : (s : Plain) (p : ℕ) → Drawing cap s → Drawing cap (apply s (gets p to_read))
+  one_more s p shape = grind (arith, shape, sum-more (one_of reading) s.holders p reading, length-append s.holders (holder p reading ∷ []))
+
+  -- a number is left exactly where the word is below the cap
+  open_is : (s : Plain) (w : ℕ) → Drawing cap s → flag_word s ≡ w → may_come reading s ≡ nat_lt w cap
+  open_is s w shape is = grind (arith, nobody_against s.holders shape.all_read, shape.room)
+
+  draw_means : (p : ℕ) (s : Plain) (w : ℕ) → Drawing cap s → flag_word s ≡ w
+      → Means (dispenser_table cap) (dispenser_notes cap) p s (gets p to_read) (λ k. k) (next_after cap w)
+  draw_means p s w shape is = grind (arith, open_is s w shape is, length-append s.holders (holder p reading ∷ []), one_more s p shape)
+
+  owes : (p : ℕ) (c : DispenserCall) (l : DispenserPoint) (h : Option Hold) (s : Plain) (w : ℕ) (span : List Mark)
+      → OwesAt (dispenser_table cap) (dispenser_notes cap) p c l h s w span
+  owes p c l h s w span = grind (arith, draw_means p s w, each_reads s.holders)
+
+  dispenser_pays : Pays (dispenser_table cap) (dispenser_notes cap)
+  dispenser_pays =
+      record {
+        fits = λ p c l h. grind arith;
+        operates = operates_by (dispenser_table cap) one_place;
+        first = refl;
+        shape_first = record { no_queue = refl; room = refl; all_read = refl };
+        numbers_tell = λ v w e. cc (e);
+        one_list = λ s shape. no_queue s shape.no_queue;
+        sound = λ p c l h. grind arith;
+        aims = λ p c l h. grind arith;
+        begins = λ p c h s. grind arith;
+        others = λ p q c l h s step r span ne shape may belongs knows. tt;
+        owes = owes;
+        soon = λ p c l h s w span. grind arith;
+      }
+
+abbrev pub dispenser_keeping : (cap : ℕ) → LocalInvariant (Unit {0}) DispenserCall DispenserPoint
+dispenser_keeping cap = keeping_of (dispenser_table cap) (dispenser_notes cap)
+
+pub dispenser_facts : (cap : ℕ) → Facts (dispenser_machine cap) (dispenser_keeping cap)
+dispenser_facts cap = facts_of (dispenser_table cap) (dispenser_notes cap) (dispenser_pays cap) refl

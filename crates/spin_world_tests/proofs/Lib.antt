@@ -1,0 +1,4 @@
+pub mod Dispensing
+pub mod Drawn
+pub mod RwOtherwise
+pub mod TicketOperating

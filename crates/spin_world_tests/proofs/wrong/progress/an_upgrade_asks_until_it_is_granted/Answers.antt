@@ -1,0 +1,12 @@
+use Rattle.std.proofs.Common.{Some, refl, arith}
+use Rattle.std.proofs.lemmas.Bool.{false≢true}
+use Rattle.spin_model.specs.declared.place.Hold.TheVariants.{Upgradable}
+use Rattle.spin_step_more.specs.declared.rw_calls.RwCall.TheVariants.{Upgrade}
+use Rattle.spin_step_more.specs.declared.rw_calls.RwPoint.TheVariants.{Asking}
+use Rattle.spin_model.specs.Schedules.{after, at_first}
+use Rattle.spin_world_progress.proofs.Around.{rounds_are}
+use Rattle.spin_world_tests.specs.WrongProgress.{gives_up, asked, three_steps}
+use Rattle.spin_world_tests.proofs.wrong.progress.an_upgrade_asks_until_it_is_granted.Goals as goal
+
+pub returns : goal.returns
+returns g c = λ value law. false≢true (law 0 Upgrade Asking (Some Upgradable) refl refl (rounds_are (gives_up value) (after (gives_up value) (at_first (gives_up value) 1) asked) three_steps refl) (omega arith))

@@ -1,0 +1,12 @@
+use Rattle.std.proofs.Common.{None, refl}
+use Rattle.std.proofs.lemmas.Bool.{false≢true}
+use Rattle.spin_step.specs.Plain.{gets, to_write}
+use Rattle.spin_step_more.specs.declared.rw_calls.RwCall.TheVariants.{TryWriteWeak, Write}
+use Rattle.spin_step_more.specs.declared.rw_calls.RwPoint.TheVariants.{First}
+use Rattle.spin_world_tests.proofs.wrong.rw.a_weak_exchange_is_weak.Goals as goal
+
+pub returns-clause-tries : goal.returns-clause-tries
+returns-clause-tries g c = λ value steps. false≢true (steps.weak 0 TryWriteWeak First None 0 (gets 0 to_write) refl refl)
+
+pub returns-clause-waits : goal.returns-clause-waits
+returns-clause-waits g c = λ value steps. false≢true (steps.weak 0 Write First None 0 (gets 0 to_write) refl refl)

@@ -1,0 +1,121 @@
+-- A dispenser of numbers: its kind of lock, its calls step by step, what it is by name, and how it draws.
+-- A party that has drawn is a holder that reads, and stays one. So the word is how many have drawn, and the plain lock's cap is how many numbers there are.
+use Rattle.std.specs.Prelude.{◌≡◌, ℕ, ◌+◌, Bool, true, false, Option, Some, None, List, [], ◌∷◌, ◌++◌, nat_lt, if◌then◌else◌}
+use Rattle.std.specs.List.{range_with_len}
+use Rattle.spin_step.specs.Plain.{to_read, Change, gets, fresh, flag_word}
+use Rattle.spin_model.specs.declared.place.Hold.{Hold}
+use Rattle.spin_model.specs.declared.place.Hold.TheVariants.{Read}
+use Rattle.spin_model.specs.declared.step.Next.{Next}
+use Rattle.spin_model.specs.declared.step.Next.TheVariants.{Continue, Answers}
+use Rattle.spin_model.specs.declared.schedule.Event.{Event}
+use Rattle.spin_model.specs.declared.schedule.Move.{Move}
+use Rattle.spin_model.specs.declared.schedule.Outcome.{Outcome}
+use Rattle.spin_model.specs.declared.schedule.Outcome.TheVariants.{Answered}
+use Rattle.spin_world_tests.specs.declared.dispenser.DispenserCall.{DispenserCall}
+use Rattle.spin_world_tests.specs.declared.dispenser.DispenserCall.TheVariants as call
+use Rattle.spin_world_tests.specs.declared.dispenser.DispenserPoint.{DispenserPoint}
+use Rattle.spin_world_tests.specs.declared.dispenser.DispenserPoint.TheVariants.{First, Exchange}
+use Rattle.spin_world_tests.specs.declared.dispenser.DispenserAnswer.{DispenserAnswer}
+use Rattle.spin_world_tests.specs.declared.dispenser.DispenserAnswer.TheVariants.{Drawn, SoldOut, Count}
+use Rattle.spin_model.specs.Calls.{Asked, tries, counts_readers, LockKind, usual, Said, granted, refused, counted}
+use Rattle.spin_model.specs.Machines.{Machine, opening_plain}
+use Rattle.spin_model.specs.Acts.{one_number, Act, load, load_for, retry, Table, machine_of}
+use Rattle.spin_model.specs.Schedules.{at_first, after, events_of}
+
+-- The kind of lock: nobody gives a number back
+
+abbrev pub dispenser_plain_steps : Change → Bool
+dispenser_plain_steps (gets p to_read) = true
+dispenser_plain_steps _ = false
+
+abbrev pub dispenser_calls : Asked → Bool
+dispenser_calls (tries to_read) = true
+dispenser_calls counts_readers = true
+dispenser_calls _ = false
+
+abbrev pub dispenser : LockKind
+dispenser = usual flag_word [] dispenser_plain_steps dispenser_calls
+
+-- The table
+
+abbrev pub Continues : Type 0
+Continues = Next DispenserPoint DispenserAnswer
+
+-- the next number after this one has been drawn, where there is one
+abbrev pub next_after : ℕ → ℕ → Option ℕ
+next_after cap k = if nat_lt k cap then Some (k + 1) else None
+
+abbrev pub drawn : ℕ → Continues
+drawn k = Answers (Drawn k) (Some Read)
+
+abbrev pub goes_for : ℕ → Continues
+goes_for k = Continue (Exchange k)
+
+abbrev pub sold_out : Option Hold → Continues
+sold_out h = Answers SoldOut h
+
+abbrev pub act_of : ℕ → DispenserCall → DispenserPoint → Option Hold → Act ℕ DispenserPoint DispenserAnswer
+act_of cap call.Draw First h = load_for (next_after cap) (λ p. gets p to_read) goes_for (sold_out h)
+act_of cap call.Draw (Exchange k) h = retry k (next_after cap) (λ p. gets p to_read) (drawn k) goes_for (sold_out h)
+act_of cap call.Count l h = load (λ k. Answers (Count k) h)
+
+abbrev pub asks_of : DispenserCall → Option Hold → Asked
+asks_of call.Draw h = tries to_read
+asks_of call.Count h = counts_readers
+
+abbrev pub says_of : DispenserAnswer → Said
+says_of (Drawn k) = granted
+says_of SoldOut = refused
+says_of (Count k) = counted k
+
+abbrev pub DispenserTable : Type 0
+DispenserTable = Table ℕ (Unit {0}) DispenserCall DispenserPoint DispenserAnswer
+
+abbrev pub dispenser_table : ℕ → DispenserTable
+dispenser_table cap =
+    record {
+      words = 0;
+      value = Some tt;
+      owned = false;
+      lock_kind = dispenser;
+      cap = cap;
+      group = 0;
+      first = 0;
+      memory = one_number;
+      start = λ c h. First;
+      word = λ l. 0;
+      act = act_of cap;
+      asks = asks_of;
+      says = says_of;
+    }
+
+abbrev pub DispenserMachine : Type 0
+DispenserMachine = Machine ℕ (Unit {0}) DispenserCall DispenserPoint DispenserAnswer
+
+abbrev pub dispenser_machine : ℕ → DispenserMachine
+dispenser_machine cap = machine_of (dispenser_table cap)
+
+-- What it is by name
+
+pub record IsDispenser (cap : ℕ) (m : DispenserMachine) : Type 0 where
+  pub lock_kind : m.lock_kind ≡ dispenser
+  pub number : (w : ℕ) → m.numbers w ≡ w ∷ []
+  -- it has so many numbers, and nobody has drawn one
+  pub plain : opening_plain m ≡ fresh cap 0 0
+  pub draw : (h : Option Hold) → m.asks call.Draw h ≡ tries to_read
+  pub count : (h : Option Hold) → m.asks call.Count h ≡ counts_readers
+  pub says : (a : DispenserAnswer) → m.says a ≡ says_of a
+
+-- The numbers that it draws
+
+abbrev pub number_in : Outcome DispenserAnswer (Unit {0}) → List ℕ
+number_in (Answered (Drawn k) b) = k ∷ []
+number_in _ = []
+
+abbrev pub numbers_in : List (Event ℕ (Unit {0}) DispenserAnswer) → List ℕ
+numbers_in [] = []
+numbers_in (e ∷ es) = number_in e.outcome ++ numbers_in es
+
+-- each number below the word is drawn once, and in order
+abbrev pub DrawsInOrder : DispenserMachine → ℕ → List (ℕ × Move DispenserCall (Unit {0})) → Type 0
+DrawsInOrder m n past = numbers_in (events_of m (at_first m n) past) ≡ range_with_len 0 (after m (at_first m n) past).words

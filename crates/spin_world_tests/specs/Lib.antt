@@ -1,0 +1,10 @@
+pub mod Dispenser
+pub mod WrongBarrier
+pub mod WrongDispenser
+pub mod WrongFair
+pub mod WrongFlag
+pub mod WrongOnce
+pub mod WrongProgress
+pub mod WrongRw
+pub mod WrongSeats
+pub mod WrongTicket

@@ -1,0 +1,142 @@
+//! A dispenser of numbers: a small object of one's own, of which no crate below knows. Each party draws one number, and
+//! no number is drawn twice.
+//!
+//! Begin with [`Dispenser::new`].
+ghost use Rattle.std.specs.Prelude.{◌≡◌, true};
+ghost use Rattle.spin_world_core.specs.Runs.{Always};
+ghost use Rattle.spin_model.specs.Acts.{one_number, step_by, can_by};
+ghost use Rattle.spin_world_tests.specs.declared.dispenser.Dispenser.{Dispenser};
+ghost use Rattle.spin_world_tests.specs.Dispenser.{next_after, act_of, dispenser_machine, IsDispenser, DrawsInOrder};
+
+use spin_world_core::{Hold, Next, Object, Stepped};
+
+/// A call of a [`Dispenser`].
+#[derive(Clone, Copy)]
+pub enum DispenserCall {
+    /// Draws the next number. It is sold out only if every number had been drawn at some moment of the call.
+    Draw,
+    /// Counts the numbers that have been drawn.
+    Count,
+}
+
+/// The point of a call: which step comes next.
+#[derive(Clone, Copy)]
+pub enum DispenserPoint {
+    /// The first step of any call, and of each further attempt.
+    First,
+    /// The exchange of this number, which the call has found, for the next one.
+    Exchange(u64),
+}
+
+/// The answer of a call.
+#[derive(Clone, Copy, PartialEq)]
+pub enum DispenserAnswer {
+    /// The party has drawn this number.
+    Drawn(u64),
+    SoldOut,
+    Count(u64),
+}
+
+/// The numbers from 0 up to a cap, of which parties draw the next one. The word is that number.
+#[derive(Drop)]
+pub struct Dispenser {
+    cap: u64,
+}
+
+impl Dispenser {
+    /// Creates a dispenser of the numbers below `cap`.
+    ///
+    /// # Contract
+    /// Its machine is that of a dispenser of so many numbers (`IsDispenser`).
+    pub fn new(cap: u64) -> Dispenser
+        ensures fields { result ≡ record { cap = cap } }
+        ensures named { IsDispenser cap (⟦<Dispenser as Object>⟧.machine result) }
+    {
+        Dispenser { cap }
+    }
+}
+
+/// States that the numbers which any schedule draws are those below the word, each once and in order.
+pub fn numbers_are_drawn_in_order()
+    ensures { (object : Dispenser) → let m = ⟦<Dispenser as Object>⟧.machine object in Always m (DrawsInOrder m) }
+{}
+
+/// Returns the next number after `number` has been drawn, or `None` if no number is left below `cap`.
+fn next_after(cap: u64, number: u64) -> Option<u64>
+    ensures { result ≡ next_after cap number }
+{
+    if number < cap { Some(number + 1) } else { None }
+}
+
+impl Object for Dispenser {
+    type Words = u64;
+
+    type Value = ();
+
+    type Call = DispenserCall;
+
+    type Local = DispenserPoint;
+
+    type Answer = DispenserAnswer;
+
+    ghost machine = { λ d. dispenser_machine d.cap };
+
+    fn opening_words(&self) -> u64 {
+        0
+    }
+
+    fn opening_value(&self) -> Option<()> {
+        Some(())
+    }
+
+    fn is_owned(&self) -> bool {
+        false
+    }
+
+    fn begin(&self, call: DispenserCall, holds: Option<Hold>) -> Option<DispenserPoint> {
+        let _ = call;
+        match holds {
+            None => Some(DispenserPoint::First),
+            Some(_) => None,
+        }
+    }
+
+    fn refuse(
+        &self,
+        call: DispenserCall,
+        local: DispenserPoint,
+        holds: Option<Hold>,
+    ) -> Option<Next<DispenserPoint, DispenserAnswer>> {
+        let _ = (call, local, holds);
+        None
+    }
+
+    fn step(
+        &self,
+        words: u64,
+        value: Option<()>,
+        call: DispenserCall,
+        local: DispenserPoint,
+        holds: Option<Hold>,
+    ) -> Stepped<u64, (), DispenserPoint, DispenserAnswer>
+        requires { can_by one_number 0 (act_of self.now.cap call local holds) words ≡ true }
+        ensures { result ≡ step_by one_number 0 (act_of self.now.cap call local holds) words }
+    {
+        let _ = value;
+        if let DispenserCall::Count = call {
+            return Stepped::stay(words, Next::Answers(DispenserAnswer::Count(words), holds));
+        }
+        match (local, next_after(self.cap, words)) {
+            (DispenserPoint::Exchange(found), Some(next)) if found == words => {
+                Stepped::stay(
+                    next,
+                    Next::Answers(DispenserAnswer::Drawn(found), Some(Hold::Read)),
+                )
+            }
+            (_, Some(_)) => Stepped::stay(words, Next::Continue(DispenserPoint::Exchange(words))),
+            (_, None) => Stepped::stay(words, Next::Answers(DispenserAnswer::SoldOut, holds)),
+        }
+    }
+
+    fn laws() {}
+}

@@ -1,0 +1,7 @@
+//! Wrong tables of each object, each with a law that it breaks; and a small object of one's own, a dispenser of numbers.
+#![tactic(auto)]
+
+pub mod dispenser;
+#[cfg(test)]
+mod draws;
+pub mod wrong;

@@ -1,5 +1,0 @@
-use Rattle.spin_world_core.proofs.Otherwise.{otherwise}
-use Rattle.spin_world_ticket.proofs.refused.a_look_loads_the_served_number_first.Goals as goal
-
-pub returns : goal.returns
-returns g c = λ value all. otherwise (otherwise (otherwise (otherwise (otherwise all.1.1.1.1.1.1.1.1.1.1.1.0))))

@@ -1,6 +1,0 @@
-use Rattle.std.proofs.Common.{⊎_elim}
-use Rattle.std.proofs.lemmas.Bool.{true≢false}
-use Rattle.spin_world_ticket.proofs.refused.a_refused_try_found_a_ticket.Goals as goal
-
-pub returns : goal.returns
-returns g c = λ value all. ⊎_elim (λ closed. true≢false closed) (λ more. ⊎_elim (λ closed. true≢false closed) (λ none. none) more) all.1.1.0
