@@ -1,5 +1,5 @@
 //! The calls of the lock of one flag, and their points. Begin with [`FlagCall`].
-/// A call of a `Flag`. `Flag::new` of `spin_world_flag` promises that each call asks what stands here.
+/// A call of a `Flag`. `Flag::new` of `spin_world` promises that each call asks what stands here.
 ///
 /// # Examples
 /// ```

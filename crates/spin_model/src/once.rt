@@ -1,5 +1,5 @@
 //! The calls of the once-only cell, and their points. Begin with [`OnceCall`].
-/// A call of a `OnceObject`. `OnceObject::new` of `spin_world_once` promises that each call asks what stands here.
+/// A call of a `OnceObject`. `OnceObject::new` of `spin_world` promises that each call asks what stands here.
 ///
 /// If there is a value, a call with a closure answers that one. If there is none, the call runs its closure, but waits
 /// while another closure runs.

@@ -15,7 +15,7 @@ pub struct TicketWords {
     pub serving: u64,
 }
 
-/// A call of a `Ticket`. `Ticket::new` of `spin_world_ticket` promises that each call asks what stands here.
+/// A call of a `Ticket`. `Ticket::new` of `spin_world` promises that each call asks what stands here.
 ///
 /// # Examples
 /// ```

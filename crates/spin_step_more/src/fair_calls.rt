@@ -3,7 +3,7 @@ ghost use Rattle.std.specs.Prelude.{◌≡◌, ⊤};
 
 use std::alloc::AllocError;
 
-/// A call of a `Fair`. `Fair::new` of `spin_world_fair` promises that each call asks what stands here.
+/// A call of a `Fair`. `Fair::new` of `spin_world` promises that each call asks what stands here.
 ///
 /// # Examples
 /// ```

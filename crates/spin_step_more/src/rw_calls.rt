@@ -3,7 +3,7 @@ ghost use Rattle.std.specs.Prelude.{◌≡◌, ⊤};
 
 use std::alloc::AllocError;
 
-/// A call of an `Rw`. `Rw::new` of `spin_world_rw` promises that each call asks what stands here.
+/// A call of an `Rw`. `Rw::new` of `spin_world` promises that each call asks what stands here.
 ///
 /// A try fails only if, at some moment of the call, what it asks is closed to the party. A weak try may also fail
 /// without cause.

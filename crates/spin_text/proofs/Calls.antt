@@ -10,8 +10,8 @@ use Rattle.spin_step_more.specs.declared.rw_calls.RwCall.{RwCall}
 use Rattle.spin_step_more.specs.declared.rw_calls.RwCall.TheVariants as rw
 use Rattle.spin_model.specs.declared.ticket.TicketCall.{TicketCall}
 use Rattle.spin_model.specs.declared.ticket.TicketCall.TheVariants as ticket
-use Rattle.spin_world_barrier.specs.declared.barrier.BarrierCall.{BarrierCall}
-use Rattle.spin_world_barrier.specs.declared.barrier.BarrierCall.TheVariants as barrier
+use Rattle.spin_world.specs.declared.barrier.BarrierCall.{BarrierCall}
+use Rattle.spin_world.specs.declared.barrier.BarrierCall.TheVariants as barrier
 use Rattle.spin_model.specs.declared.once.OnceCall.{OnceCall}
 use Rattle.spin_model.specs.declared.once.OnceCall.TheVariants as once
 use Rattle.spin_text.specs.declared.objects.TheConstants.{PLAIN_ONCE_CALLS}

@@ -12,7 +12,7 @@ use Rattle.spin_model.specs.declared.flag.FlagCall.{FlagCall}
 use Rattle.spin_step_more.specs.declared.fair_calls.FairCall.{FairCall}
 use Rattle.spin_step_more.specs.declared.rw_calls.RwCall.{RwCall}
 use Rattle.spin_model.specs.declared.ticket.TicketCall.{TicketCall}
-use Rattle.spin_world_barrier.specs.declared.barrier.BarrierCall.{BarrierCall}
+use Rattle.spin_world.specs.declared.barrier.BarrierCall.{BarrierCall}
 use Rattle.spin_model.specs.declared.once.OnceCall.{OnceCall}
 use Rattle.spin_model.specs.declared.once.OnceCall.TheVariants as once
 use Rattle.spin_text.specs.declared.header.Header.{Header}

@@ -10,7 +10,7 @@ use Rattle.spin_model.specs.Schedules.{after, at_first}
 use Rattle.spin_ticket.specs.Queue.{Made, model}
 use Rattle.spin_world_core.specs.Runs.{opening}
 use Rattle.spin_world_core.specs.Users.{seen_after}
-use Rattle.spin_world_ticket.specs.Turns.{tickets_gone}
+use Rattle.spin_world.specs.Turns.{tickets_gone}
 
 -- A party has entered with a ticket since it knew `old`, and knows `new` now. It is of this view. From each moment on till it entered,
 -- exactly as many tickets went as stood between the number that was served then and its own

@@ -1,7 +1,7 @@
 -- While a starver waits, a fair lock lets somebody in within five rounds: its holder leaves within two, and the starver takes three to find the flag clear, to set it, and to leave the starvers. Whoever sets the flag before it is granted the lock by its next step.
 use Rattle.spin_world_progress.proofs.Names.{◌-◌, resting, ◌≡◌, ℕ, ◌==◌, true, false, Option, Some, None, List, [], ◌∷◌, length, refl, ap, sym, ◌∙◌, arith, not, ◌≤◌, ◌⊎◌, inl, inr, ⊎_elim, eqb-true, Plain, Kind, writing, Holder, Change, is_empty, is_holder, is_starver, without_holder, holder, apply_some, IsOpenStep, BelongsTo, is_set, Hold, filter, slice_get, subst, is_waiting, Answer, Seat, Calling, Holding, Move, Step, Machine, after, at_first, get-set_same, Seen, Scene, scene_at, opening, seen_after, eqb_self, LocalInvariant, Facts, Invariant, in_call, row_tells, calls_so, StandsSo, fair_table, fair_machine}
-use Rattle.spin_world_fair.proofs.Names.{fair, fair_is_locked-tells, Write, Starver, FairCall, Lock, StarverLock, Release, FairPoint, First, SetFlag, Await, Unregister, asks_of}
-use Rattle.spin_world_fair.proofs.Owed.{fair_notes, fair_keeping, fair_facts}
+use Rattle.spin_world.proofs.FairNames.{fair, fair_is_locked-tells, Write, Starver, FairCall, Lock, StarverLock, Release, FairPoint, First, SetFlag, Await, Unregister, asks_of}
+use Rattle.spin_world.proofs.FairOwed.{fair_notes, fair_keeping, fair_facts}
 use Rattle.spin_world_progress.specs.Fair.{grants_lock, LocksInFive, StarversAreDeadlockFree}
 use Rattle.spin_world_progress.proofs.Endless.{at_last}
 use Rattle.spin_world_progress.proofs.Flag.{holds_lock}

@@ -5,7 +5,7 @@ use Rattle.spin_model.specs.declared.flag.FlagCall.{FlagCall}
 use Rattle.spin_model.specs.declared.flag.FlagCall.TheVariants.{Lock, Release}
 use Rattle.spin_model.specs.declared.flag.FlagPoint.{FlagPoint}
 use Rattle.spin_model.specs.declared.flag.FlagPoint.TheVariants.{First, Second}
-use Rattle.spin_world_flag.proofs.Owed.{flag_notes, flag_keeping, flag_facts}
+use Rattle.spin_world.proofs.FlagOwed.{flag_notes, flag_keeping, flag_facts}
 use Rattle.spin_world_progress.specs.Flag.{LocksInFour, IsDeadlockFree}
 use Rattle.spin_world_progress.proofs.Endless.{at_last}
 use Rattle.spin_world_progress.proofs.Leaving as leaving

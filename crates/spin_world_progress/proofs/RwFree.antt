@@ -1,6 +1,6 @@
 -- A read-write lock is free of deadlock: each round takes a move from those who hold. A reader is due first; where there is none, one party holds alone, and what it goes for is granted.
 use Rattle.spin_world_progress.proofs.Names.{resting, ◌≡◌, ℕ, ◌+◌, ◌≤◌, ◌==◌, Bool, true, false, Option, Some, None, List, [], ◌∷◌, length, slice_get, refl, ap, sym, ◌∙◌, arith, Plain, Kind, reading, Holder, Change, releases, turns, is_holder, count_kind, weight, rw_word, apply_some, IsOpenStep, IsExclusive, ◌-◌, ◌⊎◌, ◌||◌, subst, inl, inr, ⊎_elim, nat_lt, min, if◌then◌else◌, lt-ltb, and_parts, sum_by-cons, same_kind, may_turn, sum_kinds, upgrader, all_kinds, by_kinds, sum-less, sum-turned, read, read_upgradable, reader_limit, is_waiting, Answer, Hold, Seat, Calling, Next, Continue, Answers, Move, Step, Weak, Mark, Machine, after, at_first, goes_on, get-set_same, Seen, Scene, scene_at, opening, seen_after, eqb_self, LocalInvariant, Facts, Invariant, calls, RwCall, Read, UpgradeableRead, RwPoint, rw_table, rw_machine, rw_notes, rw_keeping, rw_facts, Test, grants_any, refuses_any, rounds_left, GrantsSomebody, RwIsDeadlockFree}
-use Rattle.spin_world_rw.proofs.Names.{Write, Exchange}
+use Rattle.spin_world.proofs.RwNames.{Write, Exchange}
 use Rattle.spin_step_more.specs.RwCalls.{asks_of}
 use Rattle.spin_step_more.specs.declared.rw_calls.RwPoint.TheVariants.{First}
 use Rattle.std.proofs.Common.{sum_by}

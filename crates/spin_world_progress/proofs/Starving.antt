@@ -1,6 +1,6 @@
 -- Turns in which a call starves.
 use Rattle.spin_world_progress.proofs.Names.{◌≡◌, ℕ, zero, suc, ◌≤◌, nat_lt, min, Bool, true, Option, Some, None, [], ◌∷◌, refl, arith, lt-ltb, to_write, to_read, to_read_upgradable, to_lock_starving, reader_limit, most_starvers, Idle, Calling, Holding, Begin, Step, flag_machine, waits, waits_or_starves, initializes, waits_for_value, polls, meets, rw_machine, fair_machine, seats, seats_machine, once_machine, MayStarve}
-use Rattle.spin_world_barrier.specs.Barrier.{barrier_machine}
+use Rattle.spin_world.specs.BarrierTable.{barrier_machine}
 use Rattle.spin_world_progress.specs.Starving.{MayDeadlock, grants_or_weak}
 use Rattle.spin_world_progress.proofs.Around.{starves, forever}
 use Rattle.spin_model.specs.declared.place.Hold.TheVariants as hold
@@ -14,8 +14,8 @@ use Rattle.spin_seats.specs.declared.calls.SeatsCall.TheVariants as seats_call
 use Rattle.spin_seats.specs.declared.calls.SeatsPoint.TheVariants as seats_point
 use Rattle.spin_model.specs.declared.once.OnceCall.TheVariants as once
 use Rattle.spin_model.specs.declared.once.OncePoint.TheVariants as once_point
-use Rattle.spin_world_barrier.specs.declared.barrier.BarrierCall.TheVariants as barrier
-use Rattle.spin_world_barrier.specs.declared.barrier.BarrierPoint.TheVariants as barrier_point
+use Rattle.spin_world.specs.declared.barrier.BarrierCall.TheVariants as barrier
+use Rattle.spin_world.specs.declared.barrier.BarrierPoint.TheVariants as barrier_point
 
 -- party 0 makes its exchange while the other holds, and looks after it has gone
 pub flag_starves : {V : Type 0} (v : V) → MayStarve (flag_machine v) 2 (waits to_write)

@@ -1,6 +1,6 @@
 -- Progress in rounds. A party waits in a call. While it does, one party is due, whose next step, or the beginning of whose release, lowers a rank that no other event raises; so each round lowers it. What a step of each party has to show; all other moves are alike in every object.
 use Rattle.spin_world_progress.proofs.Names.{◌≡◌, ℕ, ◌<◌, ◌≤◌, ◌⊎◌, Bool, true, false, Option, Some, None, List, [], ◌∷◌, length, slice_get, refl, ap, sym, ◌∙◌, subst, arith, inl, inr, ⊎_elim, cases_eq, cases_lt, false≢true, Plain, IsOpenStep, entries, Hold, Seat, Idle, Calling, Holding, Leaked, Gone, Next, Move, Step, Weak, BelongsTo, Machine, goes_on, resting, may_read, is_owners, Seen, Scene, scene, scene_at, opening, joined, seen_after, after, at_first, entries_of, Table, machine_of, ◌-◌, get-set_same, StandsFor, entries_held, Mark, of_event, LocalInvariant, KnowsAt, Facts, Invariant, kept, good_after, state-seen_after, seen_after-append, Notes, keeping_of, StandsSo, row_passes, state_is, seat_is, Test, occurs, IsRound, AreRounds}
-use Rattle.spin_world_fair.proofs.Names.{Entries, entries_at}
+use Rattle.spin_world.proofs.FairNames.{Entries, entries_at}
 use Rattle.spin_world_progress.proofs.Progress.{or_left, or_right, or_rest, has_left, is_busy, is_idle, calls_not, holds_not, unawaited, awaited_of, same_beside, no_owner, left_never, moves_on, occurs-append}
 use Rattle.spin_world_core.proofs.Reached as reached
 

@@ -9,7 +9,7 @@ use Rattle.spin_world_core.specs.Joined.{joined}
 use Rattle.spin_model.specs.declared.once.OnceCall.{OnceCall}
 use Rattle.spin_model.specs.declared.once.OncePoint.{OncePoint}
 use Rattle.spin_model.specs.Once.{OnceMachine}
-use Rattle.spin_world_once.specs.Keeping.{Entries, once_after, RunsClosure, has_closure}
+use Rattle.spin_world.specs.Keeping.{Entries, once_after, RunsClosure, has_closure}
 use Rattle.spin_world_progress.specs.Rounds.{Test, occurs, AreRounds, stretch, IsFair}
 use Rattle.spin_model.specs.declared.schedule.Outcome.TheVariants as outcome
 

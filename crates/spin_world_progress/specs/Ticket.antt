@@ -17,7 +17,7 @@ use Rattle.spin_world_core.specs.Users.{seen_after}
 use Rattle.spin_step.specs.Parties.{entries}
 use Rattle.spin_world_progress.specs.Rounds.{occurs, AreRounds, grants, stretch, IsFair}
 use Rattle.spin_model.specs.declared.ticket.TicketCall.TheVariants.{Lock}
-use Rattle.spin_world_ticket.specs.Turns.{waits_with}
+use Rattle.spin_world.specs.Turns.{waits_with}
 
 abbrev pub TicketMachine : Type 0 → Type 0
 TicketMachine V = Machine TicketWords V TicketCall TicketPoint (Answer V)

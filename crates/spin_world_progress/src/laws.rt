@@ -9,17 +9,17 @@ ghost use Rattle.spin_step.specs.Plain.{to_write, to_read, to_read_upgradable, t
 ghost use Rattle.spin_model.specs.Calls.{waits, waits_or_starves, initializes, waits_for_value, polls, meets};
 ghost use Rattle.spin_model.specs.declared.schedule.Move.{Move};
 ghost use Rattle.spin_model.specs.declared.flag.FlagCall.{FlagCall};
-ghost use Rattle.spin_world_flag.specs.declared.flag.Flag.{Flag};
+ghost use Rattle.spin_world.specs.declared.flag.Flag.{Flag};
 ghost use Rattle.spin_model.specs.declared.ticket.TicketCall.{TicketCall};
-ghost use Rattle.spin_world_ticket.specs.declared.ticket.Ticket.{Ticket};
+ghost use Rattle.spin_world.specs.declared.ticket.Ticket.{Ticket};
 ghost use Rattle.spin_step_more.specs.declared.fair_calls.FairCall.{FairCall};
-ghost use Rattle.spin_world_fair.specs.declared.fair.Fair.{Fair};
+ghost use Rattle.spin_world.specs.declared.fair.Fair.{Fair};
 ghost use Rattle.spin_step_more.specs.declared.rw_calls.RwCall.{RwCall};
-ghost use Rattle.spin_world_rw.specs.declared.rw.Rw.{Rw};
-ghost use Rattle.spin_world_once.specs.declared.once.OnceObject.{OnceObject};
+ghost use Rattle.spin_world.specs.declared.rw.Rw.{Rw};
+ghost use Rattle.spin_world.specs.declared.once.OnceObject.{OnceObject};
 ghost use Rattle.spin_model.specs.declared.once.OnceCall.{OnceCall};
-ghost use Rattle.spin_world_once.specs.Keeping.{Entries};
-ghost use Rattle.spin_world_barrier.specs.declared.barrier.BarrierObject.{BarrierObject};
+ghost use Rattle.spin_world.specs.Keeping.{Entries};
+ghost use Rattle.spin_world.specs.declared.barrier.BarrierObject.{BarrierObject};
 ghost use Rattle.spin_seats.specs.declared.calls.SeatsCall.{SeatsCall};
 ghost use Rattle.spin_world_seats.specs.declared.seats.Seats.{Seats};
 ghost use Rattle.spin_world_progress.specs.Alone.{AnsweredOrDisturbed};
@@ -31,14 +31,9 @@ ghost use Rattle.spin_world_progress.specs.Rw.{UpgradesInThree, UpgradesAtLast, 
 ghost use Rattle.spin_world_progress.specs.Once.{AnswersInFour, AnswersAtLast, AnswersInOne, SomebodyRuns};
 ghost use Rattle.spin_world_progress.specs.Seats.{SeatsSomebodyInFour, SeatsAreDeadlockFree};
 
-use spin_world_barrier::BarrierObject;
+use spin_world::{BarrierObject, Fair, Flag, OnceObject, Rw, Ticket};
 use spin_world_core::Object;
-use spin_world_fair::Fair;
-use spin_world_flag::Flag;
-use spin_world_once::OnceObject;
-use spin_world_rw::Rw;
 use spin_world_seats::Seats;
-use spin_world_ticket::Ticket;
 
 /// States of any object that a call is obstruction-free where what it asks is open. In as many rounds as its kind of
 /// lock says, at most four, it is answered, or another party changes a word, or its exchange is refused without cause.
@@ -95,7 +90,7 @@ pub fn a_lock_may_be_passed_over<V: Copy>()
 {}
 
 /// States that while a starver waits for a fair lock, some party is granted the lock in each five rounds. It may be
-/// another starver, each time; that it is no newcomer is a law of `spin_world_fair`.
+/// another starver, each time; that it is no newcomer is a law of `spin_world`.
 pub fn somebody_is_granted_beside_a_starver_in_five_rounds<V: Copy>()
     ensures { (object : Fair V) (n : ℕ) (past : List (ℕ × Move FairCall V)) (rounds : List (List (ℕ × Move FairCall V))) → LocksInFive (⟦<Fair<V> as Object>⟧.machine object) n past rounds }
 {}
@@ -204,7 +199,7 @@ pub fn a_wait_may_starve<V: Copy>()
 {}
 
 /// States that a party may wait at a barrier without end, since the others of its group may never come. That it
-/// leaves a full group is a law of `spin_world_barrier`.
+/// leaves a full group is a law of `spin_world`.
 pub fn a_group_may_never_fill()
     ensures { (object : BarrierObject) → 2 ≤ object.n → MayStarve (⟦<BarrierObject as Object>⟧.machine object) 1 meets }
 {}

@@ -1,5 +1,5 @@
 -- What shows that a lock is wrong: own steps that begin no list which the call's answers name.
-use Rattle.spin_world_rw.proofs.Names.{arith, Some, [], ◌∷◌, reading, upgradable, writing, to_upgrade_asked, releases, waits, turns_to, Said, own_steps, AnyOf}
+use Rattle.spin_world.proofs.RwNames.{arith, Some, [], ◌∷◌, reading, upgradable, writing, to_upgrade_asked, releases, waits, turns_to, Said, own_steps, AnyOf}
 use Rattle.spin_model.specs.declared.place.Hold.TheVariants as hold
 use Rattle.spin_world_core.specs.Spans.{IsBeginning}
 

@@ -1,5 +1,5 @@
 -- What no one operation can be.
-use Rattle.spin_world_ticket.proofs.Names.{◌≡◌, ℕ, zero, get_or, ◌∷◌, refl, TicketWords, []}
+use Rattle.spin_world.proofs.TicketNames.{◌≡◌, ℕ, zero, get_or, ◌∷◌, refl, TicketWords, []}
 
 -- what depends on both numbers depends on no single one
 pub both_matter : {X : Type 0} (of : TicketWords → X) (i : ℕ) → ((u w : TicketWords) → get_or (u.next ∷ u.serving ∷ []) i 0 ≡ get_or (w.next ∷ w.serving ∷ []) i 0 → of u ≡ of w)

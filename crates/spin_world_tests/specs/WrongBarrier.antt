@@ -4,15 +4,15 @@ use Rattle.spin_model.specs.declared.step.Next.TheVariants.{Continue, Answers}
 use Rattle.spin_model.specs.declared.step.Next.{Next}
 use Rattle.spin_model.specs.declared.answer.Answer.{Answer}
 use Rattle.spin_model.specs.declared.answer.Answer.TheVariants.{Leader, Follower}
-use Rattle.spin_world_barrier.specs.declared.barrier.BarrierWords.{BarrierWords}
-use Rattle.spin_world_barrier.specs.declared.barrier.BarrierCall.TheVariants.{Wait}
-use Rattle.spin_world_barrier.specs.declared.barrier.BarrierPoint.{BarrierPoint}
-use Rattle.spin_world_barrier.specs.declared.barrier.BarrierPoint.TheVariants.{Arrive, Leave}
+use Rattle.spin_world.specs.declared.barrier.BarrierWords.{BarrierWords}
+use Rattle.spin_world.specs.declared.barrier.BarrierCall.TheVariants.{Wait}
+use Rattle.spin_world.specs.declared.barrier.BarrierPoint.{BarrierPoint}
+use Rattle.spin_world.specs.declared.barrier.BarrierPoint.TheVariants.{Arrive, Leave}
 use Rattle.spin_model.specs.declared.schedule.Move.TheVariants.{Begin, Step, Weak}
 use Rattle.spin_model.specs.Calls.{waits_for_value}
 use Rattle.spin_model.specs.Acts.{either, stays}
-use Rattle.spin_world_barrier.specs.Barrier.{BarrierMachine, arrive, leads, is_past, barrier_machine}
-use Rattle.spin_world_barrier.specs.Groups.{Entries}
+use Rattle.spin_world.specs.BarrierTable.{BarrierMachine, arrive, leads, is_past, barrier_machine}
+use Rattle.spin_world.specs.Groups.{Entries}
 
 -- how an arrival goes on, and a look of a follower, by the words that they find
 abbrev Goes : Type 0

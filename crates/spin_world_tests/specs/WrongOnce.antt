@@ -13,7 +13,7 @@ use Rattle.spin_model.specs.declared.once.OncePoint.TheVariants.{Look, TryBegin,
 use Rattle.spin_model.specs.declared.schedule.Move.TheVariants.{Begin, Step, Weak}
 use Rattle.spin_model.specs.Acts.{either, stays}
 use Rattle.spin_model.specs.Once.{OnceMachine, once_machine}
-use Rattle.spin_world_once.specs.Keeping.{Entries}
+use Rattle.spin_world.specs.Keeping.{Entries}
 
 abbrev OnceStep : Type 0 → Type 0
 OnceStep V = Stepped ℕ V OncePoint (Answer V)

@@ -2,8 +2,8 @@
 //! with [`the_first_of_a_group_follows`].
 ghost use Rattle.spin_model.specs.Operations.{Stepwise};
 ghost use Rattle.spin_world_core.specs.Runs.{KeepsAll, MomentsAll, CountsAll};
-ghost use Rattle.spin_world_barrier.specs.Groups.{InGroups, FollowersLeave};
-ghost use Rattle.spin_world_barrier.specs.Named.{IsBarrierOf};
+ghost use Rattle.spin_world.specs.Groups.{InGroups, FollowersLeave};
+ghost use Rattle.spin_world.specs.Barrier.{IsBarrierOf};
 ghost use Rattle.spin_world_tests.specs.WrongBarrier.{first_leads, leaves_early, nobody_leads, leads_late, told_late, leaves_in_quiet, never_begins, asks_for_a_value, leaves_by_chance, opens_with_one, gathers_three, one_call, one_arrival, two_steps, five_steps, an_arrival_and_chance, one_group, one_group_and_one, leaves_in_the_next, two_groups};
 
 /// A barrier whose first arrival of each group leads: it fills no group.

@@ -4,8 +4,8 @@ ghost use Rattle.std.specs.Prelude.{◌≡◌, []};
 ghost use Rattle.spin_model.specs.Operations.{Stepwise};
 ghost use Rattle.spin_world_core.specs.Runs.{KeepsAll, MomentsAll, CountsAll};
 ghost use Rattle.spin_step_more.specs.FairCalls.{fair_machine};
-ghost use Rattle.spin_world_fair.specs.Fairness.{IsGrantedNext, GoesForAClearFlag};
-ghost use Rattle.spin_world_fair.specs.Named.{IsFairLock};
+ghost use Rattle.spin_world.specs.Fairness.{IsGrantedNext, GoesForAClearFlag};
+ghost use Rattle.spin_world.specs.Fair.{IsFairLock};
 ghost use Rattle.spin_world_tests.specs.WrongFair.{spins_by_setting, two_steps_of_a_starver, waits_for_starvers, lock_beside_a_dropped_starver, refuses_late, starver_beside_a_holder, tries_greedily, try_beside_a_starver, stays_a_starver, try_of_a_starver, starves_without_cap, two_starve, never_registers, lock_beside_a_holder, returns_to_its_exchange, lock_as_it_is_let_go, registers_at_once, hasty_lock, drop_frees, drop_beside_a_holder, tells_the_other_reason, try_beside_a_holder, waits_for_ever, four_looks_of_a_starver, waits_for_quiet, let_go_beside_a_starver, never_looks, loads_uncounted, counts_each_second_look, keeps_the_flag, lock_beside_a_starver, leaves_by_exchange, lock_of_a_starver, sets_by_chance, starver_in_vain, starves_again, tries_alone, opens_with_a_starver, counts_anew, lock_past_a_clear_flag};
 
 /// A `try_lock` that sets the flag wherever it is clear: beside a starver its step is not open.

@@ -5,8 +5,8 @@ ghost use Rattle.spin_model.specs.Operations.{Stepwise};
 ghost use Rattle.spin_world_core.specs.Runs.{KeepsAll, MomentsAll, CountsAll};
 ghost use Rattle.spin_world_core.specs.Values.{ValuesAll};
 ghost use Rattle.spin_model.specs.Once.{once_machine};
-ghost use Rattle.spin_world_once.specs.Keeping.{AnswersAtOnce, LooksFirst, LooksWhereComplete, MayRunAgain};
-ghost use Rattle.spin_world_once.specs.Named.{IsOnceOf};
+ghost use Rattle.spin_world.specs.Keeping.{AnswersAtOnce, LooksFirst, LooksWhereComplete, MayRunAgain};
+ghost use Rattle.spin_world.specs.Once.{IsOnceOf};
 ghost use Rattle.spin_world_tests.specs.WrongOnce.{peeks, runs_on, six_steps, waits_idly, one_wait, always_fails, never_gets, never_looks, one_call, loses_by_chance, a_look_and_chance, opens_at_nothing, replaces, two_closures, sticks, sticks_silently, one_failure, gets_early, get_beside_a_closure, polls_early, poll_beside_a_closure, tells_another, places_another, one_closure, hesitates, a_failure_beside_a_call};
 
 /// A second closure whose value replaces the first: it is no value that a closure which completes has placed.

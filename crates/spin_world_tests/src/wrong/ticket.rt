@@ -3,8 +3,8 @@
 ghost use Rattle.std.specs.Prelude.{◌≡◌, []};
 ghost use Rattle.spin_model.specs.Operations.{Stepwise};
 ghost use Rattle.spin_world_core.specs.Runs.{KeepsAll, MomentsAll, CountsAll};
-ghost use Rattle.spin_world_ticket.specs.Named.{IsTicketLock};
-ghost use Rattle.spin_world_ticket.specs.Turns.{TriesByTwoLoads};
+ghost use Rattle.spin_world.specs.Ticket.{IsTicketLock};
+ghost use Rattle.spin_world.specs.Turns.{TriesByTwoLoads};
 ghost use Rattle.spin_world_tests.specs.WrongTicket.{tries_by_one_load, one_load, swaps_its_loads, let_go_between, looks_in_vain, three_loads, looks_backwards, look_beside_a_queue, queues_behind_nobody, lock_beside_a_holder, never_enters, lock_alone, enters_by_look, two_queue, never_tries, try_alone, looks_at_both, locks_again, tries_by_looking, takes_by_chance, try_in_vain, lock_in_vain, opens_with_a_ticket, leaves_the_last_ticket};
 
 /// A ticket lock in whose queue a ticket stands at first.

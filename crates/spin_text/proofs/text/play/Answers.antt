@@ -3,7 +3,7 @@ use Rattle.spin_model.specs.Flag.{flag_machine}
 use Rattle.spin_step_more.specs.FairCalls.{fair_machine}
 use Rattle.spin_step_more.specs.RwCalls.{rw_machine}
 use Rattle.spin_model.specs.Ticket.{ticket_machine}
-use Rattle.spin_world_barrier.specs.Barrier.{barrier_machine}
+use Rattle.spin_world.specs.BarrierTable.{barrier_machine}
 use Rattle.spin_model.specs.Once.{once_machine}
 use Rattle.spin_text.specs.declared.header.Header.TheVariants.{Flag, Ticket, Rw, Fair, Barrier, Once}
 use Rattle.spin_text.specs.Transcripts.{transcript_text}

@@ -2,7 +2,7 @@ use Rattle.std.proofs.Common.{◌≡◌}
 use Rattle.spin_step.specs.Parties.{is_held}
 use Rattle.spin_fair.specs.Fair.{model, patience}
 use Rattle.spin_step_more.specs.Starvers.{most_starvers}
-use Rattle.spin_world_fair.proofs.Owed.{fair_keeping, fair_facts}
+use Rattle.spin_world.proofs.FairOwed.{fair_keeping, fair_facts}
 use Rattle.spin_threads.proofs.Moments.{found}
 use Rattle.spin_threads.proofs.answers.a_look_at_a_fair_mutex_was_so_at_a_moment.Goals as goal
 

@@ -1,7 +1,7 @@
 use Rattle.std.proofs.Common.{◌≡◌}
 use Rattle.spin_step.specs.Parties.{is_held}
 use Rattle.spin_flag.specs.Flag.{model}
-use Rattle.spin_world_flag.proofs.Owed.{flag_keeping, flag_facts}
+use Rattle.spin_world.proofs.FlagOwed.{flag_keeping, flag_facts}
 use Rattle.spin_threads.proofs.Moments.{found}
 use Rattle.spin_threads.proofs.answers.a_look_at_a_spin_mutex_was_so_at_a_moment.Goals as goal
 

@@ -1,7 +1,7 @@
 use Rattle.std.proofs.Common.{◌≡◌}
 use Rattle.spin_step.specs.Parties.{is_held}
 use Rattle.spin_ticket.specs.Queue.{model}
-use Rattle.spin_world_ticket.proofs.Owed.{ticket_keeping, ticket_facts}
+use Rattle.spin_world.proofs.TicketOwed.{ticket_keeping, ticket_facts}
 use Rattle.spin_threads.proofs.Moments.{found}
 use Rattle.spin_threads.proofs.answers.a_look_at_a_ticket_mutex_was_so_at_a_moment.Goals as goal
 

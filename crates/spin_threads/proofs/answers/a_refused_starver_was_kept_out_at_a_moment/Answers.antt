@@ -8,10 +8,10 @@ use Rattle.spin_step_more.specs.declared.fair_calls.FairCall.{FairCall}
 use Rattle.spin_step_more.specs.declared.fair_calls.FairPoint.{FairPoint}
 use Rattle.spin_world_core.specs.Runs.{Seen}
 use Rattle.spin_world_core.proofs.Facts.{InCall}
-use Rattle.spin_world_fair.proofs.Knowledge.{is_starving, is_starving_still}
+use Rattle.spin_world.proofs.FairKnowledge.{is_starving, is_starving_still}
 use Rattle.spin_fair.specs.Fair.{model, patience}
 use Rattle.spin_step_more.specs.Starvers.{most_starvers}
-use Rattle.spin_world_fair.proofs.Owed.{fair_keeping, fair_facts}
+use Rattle.spin_world.proofs.FairOwed.{fair_keeping, fair_facts}
 use Rattle.spin_threads.proofs.Moments.{found}
 use Rattle.spin_threads.proofs.answers.a_refused_starver_was_kept_out_at_a_moment.Goals as goal
 

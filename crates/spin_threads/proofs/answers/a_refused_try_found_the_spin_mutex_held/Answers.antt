@@ -1,7 +1,7 @@
 use Rattle.std.proofs.Common.{◌≡◌, false, arith}
 use Rattle.spin_step.specs.Plain.{is_open_to, to_write}
 use Rattle.spin_flag.specs.Flag.{model}
-use Rattle.spin_world_flag.proofs.Owed.{flag_keeping, flag_facts}
+use Rattle.spin_world.proofs.FlagOwed.{flag_keeping, flag_facts}
 use Rattle.spin_threads.proofs.Moments.{found}
 use Rattle.spin_threads.proofs.answers.a_refused_try_found_the_spin_mutex_held.Goals as goal
 

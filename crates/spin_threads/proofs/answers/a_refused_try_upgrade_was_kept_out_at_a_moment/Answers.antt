@@ -11,7 +11,7 @@ use Rattle.spin_world_core.proofs.Facts.{InCall}
 use Rattle.spin_step_more.specs.Readers.{reader_limit}
 use Rattle.spin_rwlock.specs.Rw.{model}
 use Rattle.spin_world_core.proofs.Stands.{holds, entries_at}
-use Rattle.spin_world_rw.proofs.Owed.{holder_by, rw_keeping, rw_facts}
+use Rattle.spin_world.proofs.RwOwed.{holder_by, rw_keeping, rw_facts}
 use Rattle.spin_threads.proofs.Moments.{found}
 use Rattle.spin_threads.proofs.answers.a_refused_try_upgrade_was_kept_out_at_a_moment.Goals as goal
 

@@ -4,7 +4,7 @@ use Rattle.spin_step.proofs.Sums.{upgrader, against, by_kinds}
 use Rattle.spin_model.specs.Calls.{writers}
 use Rattle.spin_step_more.specs.Readers.{reader_limit}
 use Rattle.spin_rwlock.specs.Rw.{model}
-use Rattle.spin_world_rw.proofs.Owed.{Within, rw_keeping, rw_facts}
+use Rattle.spin_world.proofs.RwOwed.{Within, rw_keeping, rw_facts}
 use Rattle.spin_threads.proofs.Moments.{found}
 use Rattle.spin_threads.proofs.answers.a_refused_try_upgradeable_read_was_kept_out_at_a_moment.Goals as goal
 

@@ -3,7 +3,7 @@ use Rattle.spin_model.specs.Once.{once_machine}
 use Rattle.spin_once.specs.Foretold.{foretold, counted, place_of}
 use Rattle.spin_once.specs.Once.{words_of}
 use Rattle.spin_once.proofs.Foretold.{is_run}
-use Rattle.spin_world_once.proofs.Owed.{once_keeping, once_facts}
+use Rattle.spin_world.proofs.OnceOwed.{once_keeping, once_facts}
 use Rattle.spin_threads.proofs.Between.{between, of_counted}
 use Rattle.spin_threads.proofs.laws.between_any_two_steps_of_a_once.Goals as goal
 

@@ -1,5 +1,5 @@
 use Rattle.spin_flag.specs.Flag.{model}
-use Rattle.spin_world_flag.proofs.Owed.{flag_keeping, flag_facts}
+use Rattle.spin_world.proofs.FlagOwed.{flag_keeping, flag_facts}
 use Rattle.spin_threads.proofs.Counts.{keeps_limits}
 use Rattle.spin_threads.proofs.limits.a_call_of_a_spin_mutex_keeps_its_limit.Goals as goal
 

@@ -18,8 +18,8 @@ use Rattle.spin_model.proofs.Lists.{get-set_same}
 use Rattle.spin_ticket.specs.Queue.{Made, model}
 use Rattle.spin_world_core.specs.Runs.{Seen, opening}
 use Rattle.spin_world_core.proofs.Reached.{state_is}
-use Rattle.spin_world_ticket.proofs.Owed.{ticket_keeping, ticket_facts}
-use Rattle.spin_world_ticket.proofs.Queues.{in_turn}
+use Rattle.spin_world.proofs.TicketOwed.{ticket_keeping, ticket_facts}
+use Rattle.spin_world.proofs.Queues.{in_turn}
 use Rattle.spin_threads.specs.Turns.{EntersInTurn}
 use Rattle.spin_threads.proofs.Calls.{event, one_more, longer, Call, call_of}
 use Rattle.spin_threads.proofs.limits.a_lock_of_a_ticket_mutex_enters_in_turn.Goals as goal

@@ -1,6 +1,6 @@
 use Rattle.std.proofs.Common.{None, refl}
-use Rattle.spin_world_barrier.specs.declared.barrier.BarrierCall.TheVariants.{Wait}
-use Rattle.spin_world_barrier.specs.declared.barrier.BarrierPoint.TheVariants.{Leave}
+use Rattle.spin_world.specs.declared.barrier.BarrierCall.TheVariants.{Wait}
+use Rattle.spin_world.specs.declared.barrier.BarrierPoint.TheVariants.{Leave}
 use Rattle.spin_world_tests.proofs.wrong.barrier.a_follower_leaves_after_later_groups.Goals as goal
 
 pub returns : goal.returns

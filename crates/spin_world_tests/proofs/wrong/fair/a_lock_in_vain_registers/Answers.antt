@@ -1,5 +1,5 @@
 use Rattle.std.proofs.Common.{refl, arith}
-use Rattle.spin_world_fair.proofs.Registering.{two_in_vain}
+use Rattle.spin_world.proofs.Registering.{two_in_vain}
 use Rattle.spin_world_tests.proofs.wrong.fair.a_lock_in_vain_registers.Goals as goal
 
 pub returns : goal.returns

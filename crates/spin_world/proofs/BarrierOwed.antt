@@ -1,0 +1,104 @@
+-- What the barrier's table owes.
+use Rattle.spin_world.proofs.BarrierNames.{◌≡◌, ℕ, ◌+◌, ◌/◌, ◌%◌, ◌^◌, ◌≤◌, ◌==◌, false, ◌&&◌, is_some, Option, Some, None, List, [], ◌∷◌, refl, sym, subst, arith, inr, max, Plain, Change, arrives, apply, count_word, generation_word, IsBarrier, is_leading, generation_at, barrier_arrive-words, barrier_count-below, barrier_may_leave-tells, barrier_may_leave-full, Hold, BarrierWords, BarrierCall, BarrierPoint, Arrive, Leave, arrived, mark_of, passes, is_arrival, barrier_table, barrier_machine}
+use Rattle.std.proofs.Math.Bool.{and-false}
+use Rattle.std.proofs.Math.Nat.{mod-le, div-le_self}
+use Rattle.spin_step.specs.Parties.{apply_some}
+use Rattle.spin_model.specs.StepKinds.{StepKind, plain, look}
+use Rattle.spin_model.specs.Calls.{BelongsTo, Mark, follows, AnyOf, Arrives}
+use Rattle.spin_world.specs.BarrierKind.{barrier}
+use Rattle.spin_step.specs.Steps.{bit}
+use Rattle.spin_world_core.proofs.Facts.{LocalInvariant, Facts}
+use Rattle.spin_world_core.proofs.Stands.{absent}
+use Rattle.spin_world_core.proofs.Rows.{Point, nowhere, looked, onward}
+use Rattle.spin_world_core.proofs.Shapes.{Notes, keeping_of, OwesAt, OwesSoon, Pays}
+use Rattle.spin_world_core.proofs.Usual.{two, no_holders, two_places}
+use Rattle.spin_world_core.proofs.Operating.{operates_by}
+use Rattle.spin_world_core.proofs.Paid.{facts_of}
+
+abbrev pub point_of : BarrierPoint → Option Hold → Point
+point_of Arrive None = looked 0
+point_of (Leave g) None = onward (record { stand = absent; made = λ p. arrives p ∷ []; rest = λ p. []; said = follows; spent = 0 })
+point_of l (Some h) = nowhere
+
+-- a party that has arrived knows by the number of its arrival, which leads no group, what generation it found with it
+pub record Waits (g p : ℕ) (s : Plain) (span : List Mark) : Type 0 where
+  pub come : arrived p span ≤ s.arrivals
+  pub found : generation_at s (arrived p span) ≡ g
+  pub follows : is_leading s (arrived p span) ≡ false
+  pub made : AnyOf (λ m. Arrives p (arrived p span) m × (is_leading m.before (arrived p span) ≡ false)) span
+
+abbrev pub KnowsAt : BarrierPoint → ℕ → Plain → List Mark → Type 0
+KnowsAt Arrive p s span = Unit {0}
+KnowsAt (Leave g) p s span = Waits g p s span
+
+-- nobody holds it or queues, and its groups are of this size
+pub record IsOf (n : ℕ) (s : Plain) : Type 0 where
+  pub no_holders : s.holders ≡ []
+  pub group : s.group ≡ n
+
+abbrev pub barrier_notes : (n : ℕ) → Notes (barrier_table n)
+barrier_notes n = record { Shape = λ s. IsOf n s; point = λ c l h. point_of l h; Knows = λ c l h p s span. KnowsAt l p s span }
+
+-- the arrivals grow by the step, where it is one
+pub one_more : (s : Plain) (step : Option Change) → BelongsTo barrier step → (apply_some s step).arrivals ≡ s.arrivals + bit (passes is_arrival step)
+one_more s step belongs = grind arith
+
+-- a step that is no arrival of the party's own leaves what it knows
+waits-on : (g p q : ℕ) (s : Plain) (step : Option Change) (r : StepKind) (span : List Mark) → ((q == p) && is_some step) ≡ false → BelongsTo barrier step → Waits g p s span → Waits g p (apply_some s step) (mark_of q step r s ∷ span)
+waits-on g p q s step r span none belongs waits =
+    let same : arrived p (mark_of q step r s ∷ span) ≡ arrived p span = grind arith in
+    record {
+      come = grind (arith, waits);
+      found = grind (arith, waits);
+      follows = grind (arith, waits);
+      made = inr (subst (λ k. AnyOf (λ m. Arrives p k m × (is_leading m.before k ≡ false)) span) (sym same) waits.made);
+    }
+
+module _ (n : ℕ) where
+  pub is_barrier : (s : Plain) (w : BarrierWords) → w.count ∷ w.generation ∷ [] ≡ count_word s ∷ generation_word s ∷ [] → IsOf n s → IsBarrier s n w.count w.generation
+  is_barrier s w encodes of = record { group = of.group; counts = cc (encodes); generations = cc (encodes) }
+
+  -- the party's own arrival, which leads no group
+  waits_from : (p : ℕ) (s : Plain) (r : StepKind) (span : List Mark) (g : ℕ) → generation_word s ≡ g → is_leading s (s.arrivals + 1) ≡ false → generation_at s (s.arrivals + 1) ≡ g → Waits g p (apply s (arrives p)) (mark_of p (Some (arrives p)) r s ∷ span)
+  waits_from p s r span g is behind same = grind arith
+
+  owes : (p : ℕ) (c : BarrierCall) (l : BarrierPoint) (h : Option Hold) (s : Plain) (w : BarrierWords) (span : List Mark) → OwesAt (barrier_table n) (barrier_notes n) p c l h s w span
+  owes p c Arrive h s w span =
+      let below = barrier_count-below s n w.count w.generation in
+      let after = barrier_arrive-words s n w.count w.generation in
+      grind (arith, is_barrier s w, below, after, waits_from p s plain span)
+  owes p c (Leave g) None s w span = λ at.
+      let full = barrier_may_leave-full s (arrived p span) n w.count w.generation g (is_barrier s w at.encodes at.shape) in
+      let waits = waits-on g p p s None look span (and-false (p == p)) tt at.knows in
+      grind (arith, full, at.knows, waits)
+  owes p c (Leave g) (Some h) s w span = tt
+
+  soon : (p : ℕ) (c : BarrierCall) (l : BarrierPoint) (h : Option Hold) (s : Plain) (w : BarrierWords) (span : List Mark)
+      → OwesSoon (barrier_table n) (barrier_notes n) p c l h s w span
+  soon p c l h s w span =
+      let tells = λ (g : ℕ). barrier_may_leave-tells s (arrived p span) n w.count w.generation g in
+      grind (arith, is_barrier s w, tells)
+
+  pub barrier_pays : Pays (barrier_table n) (barrier_notes n)
+  barrier_pays =
+      record {
+        fits = λ p c l h. grind arith;
+        operates = operates_by (barrier_table n) (two_places _ _ _ _ (λ k w. refl) (λ k w. refl));
+        first = two 0 0 (0 % max n 1) ((0 / max n 1) % 2 ^ 64) (omega (arith, mod-le 0 (max n 1))) (omega (arith, div-le_self 0 (max n 1)));
+        shape_first = record { no_holders = refl; group = refl };
+        numbers_tell = λ u w e. grind arith;
+        one_list = λ s of. no_holders s of.no_holders;
+        sound = λ p c l h. grind arith;
+        aims = λ p c l h. grind arith;
+        begins = λ p c h s. grind arith;
+        others = λ p q c l h s step r span ne of may belongs knows.
+            let on = λ (g : ℕ). waits-on g p q s step r span (grind arith) belongs in grind (arith, on);
+        owes = owes;
+        soon = soon;
+      }
+
+abbrev pub barrier_keeping : (n : ℕ) → LocalInvariant ℕ BarrierCall BarrierPoint
+barrier_keeping n = keeping_of (barrier_table n) (barrier_notes n)
+
+pub barrier_facts : (n : ℕ) → Facts (barrier_machine n) (barrier_keeping n)
+barrier_facts n = facts_of (barrier_table n) (barrier_notes n) (barrier_pays n) refl

@@ -1,0 +1,59 @@
+-- What users of a `Once` rely on where closures begin, also after one that failed.
+use Rattle.spin_world.proofs.OnceNames.{◌≡◌, ℕ, true, Option, Some, [], ◌∷◌, ◌++◌, slice_get, refl, arith, ap, ◌∙◌, ◌⊎◌, Hold, Calling, Step, to_begin, gets, Seen, step_at, happens, at_first, OnceCall, OncePoint, Look, TryBegin, Await, Run, asks_of, OnceMachine, once_machine, Entries, once_after, RunsClosure, seen_at, has_just_looked, has_closure, MayRunAgain, LooksFirst, after-append, Invariant, in_call}
+use Rattle.spin_model.specs.declared.place.Seat.{Seat}
+use Rattle.spin_model.proofs.Lists.{get-set_same}
+use Rattle.spin_world.proofs.OnceOwed.{once_keeping}
+use Rattle.spin_world.proofs.Keeping.{OnceState, good, not_at_run, run_here}
+
+module _ {V : Type 0} (value : Option V) where
+  abbrev m : OnceMachine V
+  m = once_machine value
+
+  -- where the word is 0, a look leads to the exchange and leaves the word, and the exchange leads to the closure
+
+  abbrev next_point : OncePoint → OncePoint
+  next_point Look = TryBegin
+  next_point Await = TryBegin
+  next_point TryBegin = Run
+  next_point Run = Run
+
+  goes_next : (s : OnceState V) (p : ℕ) (c : OnceCall V) (l : OncePoint) (h : Option Hold) → s.words ≡ 0 → slice_get s.seats p ≡ Some (Calling c l h)
+      → has_closure (asks_of c) ≡ true → (l ≡ Run → ⊥) → let next = (happens m s p Step).next in
+      (slice_get next.seats p ≡ Some (Calling c (next_point l) h)) × (next_point l ≡ TryBegin → next.words ≡ 0)
+  goes_next s p c l h zero at closure not =
+      grind (arith, zero, at, not, get-set_same s.seats p (Calling c (next_point l) h) (Calling c l h) at)
+
+  module _ (n : ℕ) (past : Entries V) (p : ℕ) (c : OnceCall V) (h : Option Hold) (zero : (once_after m n past).words ≡ 0) (closure : has_closure (asks_of c) ≡ true) where
+    by_exchange : slice_get (once_after m n past).seats p ≡ Some (Calling c TryBegin h) → RunsClosure m n (past ++ (p, Step) ∷ []) p
+    by_exchange at =
+        let goes = goes_next (once_after m n past) p c TryBegin h zero at closure (λ e. cc (e)) in
+        run_here value n (past ++ (p, Step) ∷ []) p c Run h
+        (ap (λ (s : OnceState V). slice_get s.seats p) (after-append m (at_first m n) past ((p, Step) ∷ [])) ∙ goes.0) refl
+
+    by_look : (l : OncePoint) → slice_get (once_after m n past).seats p ≡ Some (Calling c l h) → next_point l ≡ TryBegin → (l ≡ Run → ⊥) → RunsClosure m n (past ++ (p, Step) ∷ (p, Step) ∷ []) p
+    by_look l at leads not =
+        let now = once_after m n past in
+        let one = goes_next now p c l h zero at closure not in
+        let there = one.0 ∙ ap (λ l. Some (Calling c l h)) leads in
+        let two = goes_next (happens m now p Step).next p c TryBegin h (one.1 leads) there closure (λ e. cc (e)) in
+        run_here value n (past ++ (p, Step) ∷ (p, Step) ∷ []) p c Run h
+        (ap (λ (s : OnceState V). slice_get s.seats p) (after-append m (at_first m n) past ((p, Step) ∷ (p, Step) ∷ [])) ∙ two.0) refl
+
+    runs_soon : (l : OncePoint) → slice_get (once_after m n past).seats p ≡ Some (Calling c l h) → RunsClosure m n (past ++ (p, Step) ∷ []) p ⊎ RunsClosure m n (past ++ (p, Step) ∷ (p, Step) ∷ []) p
+    runs_soon l at = grind (arith, by_exchange, by_look l at, not_at_run value n past p c l h at 0 refl)
+
+  pub a_later_closure_may_run : (n : ℕ) (past : Entries V) → MayRunAgain m n past
+  a_later_closure_may_run n past =
+      record {
+        clears = λ p is. grind (arith, after-append m (at_first m n) past ((p, Step) ∷ []));
+        begins = λ p c l h zero at closure. runs_soon n past p c h zero closure l at;
+      }
+
+  -- a closure begins by the exchange alone, which follows a look
+  looks_at : (seen : Seen ℕ V (OnceCall V) OncePoint) (p : ℕ) (o : Option (Seat (OnceCall V) OncePoint)) → Invariant m (once_keeping value) seen → slice_get seen.state.seats p ≡ o → step_at m seen.state p Step o ≡ Some (gets p to_begin)
+      → has_just_looked p (seen.span p) ≡ true
+  looks_at seen p (Some (Calling c l h)) good there e = grind (arith, (in_call m (once_keeping value) seen p c l h good there).knows)
+  looks_at seen p _ good there e = absurd (cc (e))
+
+  pub looks_first : (n : ℕ) (past : Entries V) → LooksFirst m n past
+  looks_first n past = λ p e. looks_at (seen_at m n past) p (slice_get (seen_at m n past).state.seats p) (good value n past) refl e

@@ -1,0 +1,191 @@
+-- What the fair lock's table owes.
+use Rattle.spin_world.proofs.FairNames.{◌≡◌, ℕ, ◌<◌, ◌+◌, ◌-◌, ◌%◌, ◌==◌, true, false, ◌&&◌, nat_lt, Option, Some, None, List, [], ◌∷◌, refl, ap, arith, and_parts, eqb-true, Plain, writing, to_lock_unregistered, to_lock_starving, to_lock_starving_alone, to_starve, Change, gets, releases, stops_starving, is_empty, is_starver, fair_word, apply_some, Entries, entries, is_held, empty_is, is_holder-from_entries, length-without_starver, is_set, lock, starve, lock_fair, fair_lock-grants, fair_starve-grants, fair_lock_fair-grants, fair_lock_starved-grants, fair_unstarve-gives, fair_unlock-gives, fair_is_locked-tells, Hold, Write, Starver, FairCall, Lock, TryLock, TryLockStarver, IsLocked, Starve, StarverTryLockFair, StarverTryLock, StarverLock, StarverDrop, Release, FairPoint, First, Attempt, Look, Load, Register, SetFlag, Await, Unregister, StepKind, plain, again, weak, Mark, granted, fair, mark_of, own_count, changes, RegistersInTime, tried, fair_table, fair_machine, holds, starves, holds_and_starves, entries_at, Row, Point, nowhere, looked, onward, Notes, keeping_of, Means, OwesAt, OwesSoon, Pays, no_queue}
+use Rattle.spin_model.specs.Operations.{sets_lowest_bit}
+use Rattle.spin_world_core.proofs.Operating.{one_place, operates_by}
+use Rattle.spin_world_core.proofs.Facts.{LocalInvariant, Facts}
+use Rattle.spin_world_core.proofs.Paid.{facts_of}
+use Rattle.spin_world.proofs.Registering.{sooner, MayBeBlind, blind-other, blind_after_step, blind_after_free, blind_after_late, allowed, none_left, few_to_load, few_to_register, Looking, Loading, Registering, none_yet, starving-other, looking-other, loading-other, registering-other, goes_on, missed, looked_free, looked_held, looked_late, loaded, retried, full, registered, looked_starving}
+use Rattle.spin_world.proofs.FairKnowledge.{IsFair, comes, goes_away, is_starving, is_starving_still, set_by_holder, flag_clear, word_locked, word_starved, not_there}
+
+-- a starver goes for the lock with these steps made
+abbrev pub starving_row : (ℕ → List Change) → Row
+starving_row made = record { stand = starves; made = made; rest = λ p. gets p to_lock_starving ∷ stops_starving p ∷ []; said = granted; spent = 0 }
+
+-- it has the lock, and is registered still
+abbrev pub leaving_row : ℕ → (ℕ → List Change) → Row
+leaving_row spent made = record { stand = holds_and_starves writing; made = made; rest = λ p. stops_starving p ∷ []; said = granted; spent = spent }
+
+abbrev pub point_of : FairCall → FairPoint → Option Hold → Point
+point_of Lock (Attempt n) None = looked 0
+point_of Lock (Look n) None = looked 0
+point_of Lock Load None = looked 0
+point_of Lock (Register n) None = looked 0
+point_of Lock SetFlag None = onward (starving_row (λ p. gets p to_starve ∷ []))
+point_of Lock Await None = onward (starving_row (λ p. gets p to_starve ∷ []))
+point_of Lock Unregister None = onward (leaving_row 0 (λ p. gets p to_starve ∷ gets p to_lock_starving ∷ []))
+point_of TryLock First None = looked 0
+point_of TryLockStarver First None = looked 0
+point_of IsLocked First None = looked 0
+point_of Starve Load None = looked 0
+point_of Starve (Register n) None = looked 1
+point_of StarverTryLockFair First (Some Starver) = looked 0
+point_of StarverTryLockFair Unregister (Some Starver) = onward (leaving_row 1 (λ p. gets p to_lock_starving_alone ∷ []))
+point_of StarverTryLock SetFlag (Some Starver) = looked 0
+point_of StarverTryLock Unregister (Some Starver) = onward (leaving_row 1 (λ p. gets p to_lock_starving ∷ []))
+point_of StarverLock SetFlag (Some Starver) = looked 0
+point_of StarverLock Await (Some Starver) = looked 0
+point_of StarverLock Unregister (Some Starver) = onward (leaving_row 0 (λ p. gets p to_lock_starving ∷ []))
+point_of StarverDrop First (Some Starver) = looked 0
+point_of Release First (Some Write) = looked 0
+point_of _ _ _ = nowhere
+
+-- what else a party knows: how its `lock` stands to its patience, and that the next step may be blind where it is
+abbrev pub KnowsAt : ℕ → FairCall → FairPoint → ℕ → Plain → List Mark → Type 0
+KnowsAt patience Lock (Attempt n) p s span = Looking patience n p span × MayBeBlind patience p span
+KnowsAt patience Lock (Look n) p s span = Looking patience n p span
+KnowsAt patience Lock Load p s span = Loading patience p span × MayBeBlind patience p span
+KnowsAt patience Lock (Register n) p s span = Registering patience n p s span
+KnowsAt patience Lock SetFlag p s span = RegistersInTime none_left p patience span × MayBeBlind patience p span
+KnowsAt patience Lock First p s span = Unit {0}
+KnowsAt patience Lock _ p s span = RegistersInTime none_left p patience span
+KnowsAt patience _ _ p s span = Unit {0}
+
+abbrev pub fair_notes : {V : Type 0} (v : V) (cap patience : ℕ) → Notes (fair_table v cap patience)
+fair_notes v cap patience = record { Shape = λ s. IsFair cap s; point = point_of; Knows = λ c l h p s span. KnowsAt patience c l p s span }
+
+module _ {V : Type 0} (v : V) (cap patience : ℕ) where
+  abbrev IsMeant : ℕ → Plain → Change → Option ℕ → Type 0
+  IsMeant p s c o = Means (fair_table v cap patience) (fair_notes v cap patience) p s c (λ k. k) o
+
+  -- what the step functions mean there
+  module _ (p : ℕ) (s : Plain) (w : ℕ) (word : fair_word s ≡ w) (shape : IsFair cap s) where
+    held : is_held s ≡ is_set w
+    held = fair_is_locked-tells s w shape.one shape.queue word
+
+    lock_means : IsMeant p s (gets p to_lock_unregistered) (lock w)
+    lock_means = grind (arith, fair_lock-grants s p w word, comes cap p s shape)
+
+    starve_means : IsMeant p s (gets p to_starve) (starve cap w)
+    starve_means = grind (arith, fair_starve-grants s p w cap shape.one shape.room word, shape)
+
+    lock_fair_means : entries p s ≡ entries_at p starves → IsMeant p s (gets p to_lock_starving_alone) (lock_fair w)
+    lock_fair_means mine = grind (arith, fair_lock_fair-grants s p w shape.one (is_starving p s mine) word, comes cap p s shape)
+
+    lock_starved_means : entries p s ≡ entries_at p starves → IsMeant p s (gets p to_lock_starving) (tried sets_lowest_bit w)
+    lock_starved_means mine = grind (arith, fair_lock_starved-grants s p w shape.one (is_starving p s mine) word, comes cap p s shape)
+
+    -- a starver leaves the starvers, with the lock or without
+    unstarve_means : is_starver p s.starvers ≡ true → (nat_lt 1 w ≡ true) × IsMeant p s (stops_starving p) (Some (w - 2))
+    unstarve_means found =
+        grind (arith, word, shape, length-without_starver p s.starvers found, fair_unstarve-gives s p w word found)
+
+    unlock_means : entries p s ≡ entries_at p (holds writing) → (is_set w ≡ true) × IsMeant p s (releases p writing) (Some (w - 1))
+    unlock_means mine =
+        let found = is_holder-from_entries p writing s.holders (ap (λ (e : Entries). e.holders) mine) in
+        grind (arith, set_by_holder cap p w s shape word found, fair_unlock-gives s p writing w word found, goes_away cap p s shape found)
+
+    -- what it finds where the lock is open to it
+    free_word : (is_empty s.holders && is_empty s.starvers) ≡ true → w ≡ 0
+    free_word free = grind (arith, word, empty_is s.holders, empty_is s.starvers)
+
+    clear_word : (is_starver p s.starvers && is_empty s.holders) ≡ true → w % 2 ≡ 0
+    clear_word free = flag_clear w s word (and_parts (is_starver p s.starvers) (is_empty s.holders) free).1
+
+  -- in the time that is left
+  abbrev InTime : ℕ → List Mark → Type 0
+  InTime p span = RegistersInTime (λ recent. own_count p recent < 2 + changes fair p recent) p patience span
+
+  nothing_left : (p : ℕ) (span : List Mark) → RegistersInTime none_left p patience span → InTime p span
+  nothing_left p span old = sooner none_left (λ recent. own_count p recent < 2 + changes fair p recent) p patience span (λ recent few. absurd few) old
+
+  loads_in_time : (p : ℕ) (span : List Mark) → Loading patience p span → InTime p span
+  loads_in_time p span old = sooner (few_to_load p) (λ recent. own_count p recent < 2 + changes fair p recent) p patience span (λ recent few. omega (arith, few)) old.in_time
+
+  registers_in_time : (w p : ℕ) (s : Plain) (span : List Mark) → Registering patience w p s span → InTime p span
+  registers_in_time w p s span old = sooner (few_to_register p s w) (λ recent. own_count p recent < 2 + changes fair p recent) p patience span (λ recent few. omega (arith, few)) old.in_time
+
+  owes : (p : ℕ) (c : FairCall) (l : FairPoint) (h : Option Hold) (s : Plain) (w : ℕ) (span : List Mark)
+      → OwesAt (fair_table v cap patience) (fair_notes v cap patience) p c l h s w span
+  owes p Lock (Attempt n) None s w span = λ at.
+      let won = goes_on patience p s span (Some (gets p to_lock_unregistered)) plain refl (λ is. cc (is)) refl at.knows.0.in_time in
+      let lost = missed patience p s span n plain refl at.knows.1 at.knows.0 in
+      let refused = missed patience p s span n weak refl at.knows.1 at.knows.0 in
+      grind (arith, lock_means p s w, won, lost, nothing_left p _ lost.in_time, refused, nothing_left p _ refused.in_time)
+  owes p Lock (Look n) None s w span = λ at.
+      let held_on = looked_held patience p s span n in
+      let late = looked_late patience p s span n in
+      let free = looked_free patience p s span n in (
+        (λ set. grind (arith, held p s w, set, at.knows, held_on, late, nothing_left p, loads_in_time p, blind_after_late patience p s span)),
+        (λ clear. grind (arith, held p s w, clear, at.knows, free, nothing_left p, blind_after_free patience p s span)),
+      )
+  owes p Lock Load None s w span = λ at.
+      let next = loaded patience p s span w (cc (at.encodes)) at.knows.1 at.knows.0 in
+      let looks = full patience p s span (few_to_load p) plain refl (allowed patience p s span None plain at.knows.1) in
+      grind (arith, starve_means p s w, at.knows, next, registers_in_time w p s _ next, looks, nothing_left p)
+  owes p Lock (Register n) None s w span = λ at.
+      let won = registered patience p s span n at.knows in
+      let next = λ (other : (w == n) ≡ false). retried patience p s span n w (cc (at.encodes)) other at.knows in
+      let looks = full patience p s span (few_to_register p s n) again refl refl in (
+        starve_means p s w (cc (at.encodes)) at.shape,
+        (λ is. grind (arith, won, nothing_left p, blind_after_step patience p (gets p to_starve) again s span)),
+        (λ found. grind (arith, found, next, registers_in_time w p s)),
+        (λ closed. grind (arith, closed, at.knows, looks, nothing_left p)),
+      )
+  owes p Lock SetFlag None s w span = λ at.
+      let won = goes_on patience p s span (Some (gets p to_lock_starving)) plain refl (λ is. cc (is)) refl at.knows.0 in
+      let lost = goes_on patience p s span None plain refl (λ is. cc (is)) (allowed patience p s span None plain at.knows.1) at.knows.0 in
+      grind (arith, lock_starved_means p s w, won, nothing_left p _ won, lost, nothing_left p _ lost)
+  owes p Lock Await None s w span = λ at.
+      let next = looked_starving patience p s span at.known.made at.knows in
+      grind (arith, held p s w, next, nothing_left p _ next, blind_after_free patience p s span)
+  owes p Lock Unregister None s w span = λ at.
+      let next = goes_on patience p s span (Some (stops_starving p)) plain refl (λ is. cc (is)) refl at.knows in
+      grind (arith, unstarve_means p s w, is_starving_still p s, next)
+  owes p TryLock l h s w span = grind (arith, lock_means p s w)
+  owes p TryLockStarver l h s w span = grind (arith, lock_means p s w, eqb-true w 1, word_locked w s, word_starved w s)
+  owes p IsLocked l h s w span = grind (arith, held p s w)
+  owes p Starve l h s w span = grind (arith, starve_means p s w)
+  owes p StarverTryLockFair l h s w span = grind (arith, lock_fair_means p s w, unstarve_means p s w, is_starving_still p s)
+  owes p StarverTryLock l h s w span = grind (arith, lock_starved_means p s w, unstarve_means p s w, is_starving_still p s)
+  owes p StarverLock l h s w span = grind (arith, held p s w, lock_starved_means p s w, unstarve_means p s w, is_starving_still p s)
+  owes p StarverDrop l h s w span = grind (arith, unstarve_means p s w, is_starving p s)
+  owes p Release l h s w span = grind (arith, unlock_means p s w)
+  owes p _ _ _ s w span = tt
+
+  -- run alone: a free lock is taken by the exchange, at once or after a look;
+  -- and a party that has gone to register does so, gets the lock, and leaves the starvers
+  soon : (p : ℕ) (c : FairCall) (l : FairPoint) (h : Option Hold) (s : Plain) (w : ℕ) (span : List Mark)
+      → OwesSoon (fair_table v cap patience) (fair_notes v cap patience) p c l h s w span
+  soon p Lock l h s w span = grind (arith, free_word p s w, clear_word p s w, not_there p s)
+  soon p StarverLock l h s w span = grind (arith, clear_word p s w)
+  soon p _ _ _ s w span = tt
+
+  others : (p q : ℕ) (c : FairCall) (l : FairPoint) (s : Plain) (step : Option Change) (r : StepKind) (span : List Mark) → (q ≡ p → ⊥) → KnowsAt patience c l p s span → KnowsAt patience c l p (apply_some s step) (mark_of q step r s ∷ span)
+  others p q Lock (Register n) s step r span ne knows = registering-other patience p q s step r span ne n knows
+  others p q c l s step r span ne knows =
+      let starving = starving-other patience p q s step r span ne in
+      let blind = blind-other patience p q s step r span ne in
+      grind (arith, knows, looking-other patience p q s step r span ne, loading-other patience p q s step r span ne, starving, blind)
+
+  pub fair_pays : Pays (fair_table v cap patience) (fair_notes v cap patience)
+  fair_pays =
+      record {
+        fits = λ p c l h. grind arith;
+        operates = operates_by (fair_table v cap patience) one_place;
+        first = refl;
+        shape_first = record { one = omega arith; queue = refl; room = refl };
+        numbers_tell = λ u w e. cc (e);
+        one_list = λ s shape. no_queue s shape.queue;
+        sound = λ p c l h. grind arith;
+        aims = λ p c l h. grind arith;
+        begins = λ p c h s. grind (arith, none_yet {p = p} {n = patience});
+        others = λ p q c l h s step r span ne shape may belongs knows. others p q c l s step r span ne knows;
+        owes = owes;
+        soon = soon;
+      }
+
+abbrev pub fair_keeping : {V : Type 0} (v : V) (cap patience : ℕ) → LocalInvariant V FairCall FairPoint
+fair_keeping v cap patience = keeping_of (fair_table v cap patience) (fair_notes v cap patience)
+
+pub fair_facts : {V : Type 0} (v : V) (cap patience : ℕ) → Facts (fair_machine v cap patience) (fair_keeping v cap patience)
+fair_facts v cap patience = facts_of (fair_table v cap patience) (fair_notes v cap patience) (fair_pays v cap patience) refl

@@ -1,0 +1,21 @@
+-- What users of a fair lock rely on, from what is kept at each event.
+use Rattle.spin_world.proofs.FairNames.{◌≡◌, ℕ, true, false, Option, List, [], ◌∷◌, arith, Plain, Kind, writing, Holder, Change, is_holder, is_starver, is_only_starver, without_holder, fair_word, apply_some, IsOpenStep, empty_is, is_empty-none, BelongsTo, fair, IsFree}
+
+pub free_when_zero : (w : ℕ) (s : Plain) → w ∷ [] ≡ fair_word s ∷ [] → w ≡ 0 → IsFree s
+free_when_zero w s encodes zero =
+    (empty_is s.holders (is_empty-none s.holders (grind (arith, encodes))), empty_is s.starvers (is_empty-none s.starvers (grind (arith, encodes))))
+
+pub zero_when_free : (w : ℕ) (s : Plain) → w ∷ [] ≡ fair_word s ∷ [] → IsFree s → w ≡ 0
+zero_when_free w s encodes free = grind (arith, encodes, free)
+
+is_one_of : (p : ℕ) (qs : List ℕ) → is_only_starver p qs ≡ true → is_starver p qs ≡ true
+is_one_of p qs only = grind arith
+
+-- whoever holds after another has let go held before
+held_before : (p q : ℕ) (k : Kind) (hs : List Holder) → is_holder p writing (without_holder q k hs) ≡ true → is_holder p writing hs ≡ true
+held_before p q k [] held = held
+held_before p q k (h ∷ hs) held = grind (arith, held_before p q k hs)
+
+pub comes_after_starvers : (s : Plain) (p : ℕ) (step : Option Change) → IsOpenStep s p step → BelongsTo fair step → is_holder p writing s.holders ≡ false → is_starver p s.starvers ≡ false → is_holder p writing (apply_some s step).holders ≡ true → s.starvers ≡ []
+comes_after_starvers s p step may belongs idle newcomer holds =
+    grind (arith, empty_is s.starvers, is_one_of, λ (q : ℕ) (k : Kind). held_before p q k s.holders)

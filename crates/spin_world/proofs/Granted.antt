@@ -1,0 +1,61 @@
+-- A party that has set the flag as a starver stands where its next step is granted, and a party that waits for it stands where it sets a clear one.
+use Rattle.spin_world.proofs.FairNames.{◌≡◌, ℕ, ◌+◌, ◌%◌, ◌==◌, ◌⊎◌, Bool, true, not, ◌&&◌, Option, Some, List, refl, ap, sym, ◌∙◌, arith, inl, inr, ⊎_elim, eq-eqb, and_from, is_empty, fair_word, Entries, Hold, Continue, Answer, opening, is_waiting, entries_at, row_of, FairCall, FairPoint, SetFlag, Await, Unregister, asks_of, fair_table, fair_machine, IsGrantedNext, SetsAClearFlag, GoesForAClearFlag}
+use Rattle.spin_model.specs.declared.place.Seat.TheVariants.{Calling}
+use Rattle.spin_model.specs.declared.schedule.Move.{Move}
+use Rattle.spin_model.specs.declared.schedule.Move.TheVariants.{Step}
+use Rattle.spin_model.specs.Machines.{Machine}
+use Rattle.spin_model.specs.Schedules.{moves_at, after, at_first}
+use Rattle.spin_world_core.specs.Users.{seen_after}
+use Rattle.spin_world_core.proofs.Reached.{numbers_are, passes_some, StandsSo, calls_so}
+use Rattle.spin_world.proofs.FairKnowledge.{flag_clear}
+use Rattle.spin_world.proofs.FairOwed.{fair_notes, fair_keeping, fair_facts}
+
+abbrev holds_starving : Entries → Bool
+holds_starving e = not (is_empty e.holders) && not (is_empty e.starvers)
+
+abbrev starves_alone : Entries → Bool
+starves_alone e = is_empty e.holders && not (is_empty e.starvers)
+
+module _ {V : Type 0} (v : V) (cap patience : ℕ) where
+  abbrev m : Machine ℕ V FairCall FairPoint (Answer V)
+  m = fair_machine v cap patience
+
+  -- elsewhere a party holds nothing, or is no starver
+  leaves_at : (p : ℕ) (c : FairCall) (l : FairPoint) (h : Option Hold)
+      → StandsSo (fair_table v cap patience) (fair_notes v cap patience) holds_starving p c l h → l ≡ Unregister
+  leaves_at p c l h both = grind (arith, both)
+
+  pub granted_next : (n : ℕ) (past : List (ℕ × Move FairCall V)) → IsGrantedNext m n past
+  granted_next n past p c l h there is =
+      let both = calls_so (fair_table v cap patience) (fair_notes v cap patience) (fair_facts v cap patience) n past holds_starving p c l h
+      there (ap holds_starving is) in
+      ap (λ o. (moves_at m (after m (at_first m n) past) p Step o).outcome) (there ∙ ap (λ l. Some (Calling c l h)) (leaves_at p c l h both))
+
+  -- a starver that waits stands where it sets the flag, or looks at it
+
+  sets : (c : FairCall) (h : Option Hold) → SetsAClearFlag m c SetFlag h
+  sets c h w value clear = rw (eq-eqb (w % 2) 0 clear) refl
+
+  abbrev GoesFor : ℕ → FairCall → FairPoint → Option Hold → Type 0
+  GoesFor w c l h =
+      ((value : Option V) → (m.step w value c l h).words ≡ w + 1) ⊎ ((to : FairPoint) × ((value : Option V) → (m.step w value c l h).next ≡ Continue to) × SetsAClearFlag m c to h)
+
+  abbrev WaitsAt : ℕ → FairCall → FairPoint → Option Hold → Type 0
+  WaitsAt p c l h =
+      let row = row_of (fair_table v cap patience) (fair_notes v cap patience) c l h in
+      (passes_some (λ row. starves_alone (entries_at p row.stand)) row && is_waiting (asks_of patience c h)) ≡ true
+
+  goes_for : (p w : ℕ) → w % 2 ≡ 0 → (c : FairCall) (l : FairPoint) (h : Option Hold) → WaitsAt p c l h → GoesFor w c l h
+  goes_for p w clear c SetFlag = λ h both. inl (λ value. sets c h w value clear)
+  goes_for p w clear c Await = λ h both. inr (SetFlag, (λ value. rw (ap (λ n. n == 1) clear) refl), sets c h)
+  goes_for p w clear c l = λ h both. grind (arith, both)
+
+  pub goes_for_flag : (n : ℕ) (past : List (ℕ × Move FairCall V)) → GoesForAClearFlag m n past
+  goes_for_flag n past p c l h there waits is free =
+      let now = after m (at_first m n) past in
+      let alone = calls_so (fair_table v cap patience) (fair_notes v cap patience) (fair_facts v cap patience) n past starves_alone p c l h
+      there (ap starves_alone is) in
+      let plain = (seen_after m (opening m n) past).plain in
+      let word : now.words ≡ fair_word plain = cc (numbers_are m (fair_keeping v cap patience) (fair_facts v cap patience) n past) in
+      let clear = flag_clear now.words plain (sym word) (ap is_empty free) in
+      ⊎_elim (λ set. inl (set now.value)) (λ goes. inr (goes.0, goes.1 now.value, goes.2)) (goes_for p now.words clear c l h (and_from _ _ alone waits))

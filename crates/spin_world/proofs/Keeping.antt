@@ -1,0 +1,129 @@
+-- What users of a `Once` rely on: one closure at a time, and one value.
+use Rattle.spin_world.proofs.OnceNames.{◌≡◌, ℕ, ◌==◌, true, false, is_some, Option, Some, None, [], ◌∷◌, ◌++◌, slice_get, refl, arith, ap, sym, ◌∙◌, subst, and_parts, running, Change, once_word, IsOpenStep, Answer, Value, Hold, Calling, Step, State, happens, after, at_first, Seen, scene, opening, last_written, placed_at, MayTouch, OnceCall, Get, OncePoint, Run, runs, asks_of, OnceMachine, once_machine, Entries, once_after, seen_at, keeps_value, is_shared, ValueStays, RunsClosure, OneRuns, wants_value, AnswersAtOnce, GetAgrees, after-append, InCall, Invariant}
+use Rattle.spin_model.specs.declared.schedule.Move.{Move}
+use Rattle.spin_model.specs.declared.schedule.Outcome.{Outcome}
+use Rattle.spin_model.specs.declared.schedule.Outcome.TheVariants as outcome
+use Rattle.spin_world_core.specs.Users.{outcome_after}
+use Rattle.spin_world_core.specs.Values.{GivesAt}
+use Rattle.spin_world_core.proofs.Every.{kept, state-seen_after}
+use Rattle.spin_world_core.proofs.Reached as reached
+use Rattle.spin_world_core.proofs.Reached.{numbers_are, calls}
+use Rattle.spin_world_core.proofs.Paid.{uncompleted}
+use Rattle.spin_world_core.proofs.Values as values
+use Rattle.spin_world.proofs.OnceOwed.{once_keeping, once_facts}
+
+abbrev pub OnceState : Type 0 → Type 0
+OnceState V = State ℕ V (OnceCall V) OncePoint
+
+abbrev OnceSeen : Type 0 → Type 0
+OnceSeen V = Seen ℕ V (OnceCall V) OncePoint
+
+module _ {V : Type 0} (value : Option V) where
+  abbrev m : OnceMachine V
+  m = once_machine value
+
+  abbrev Good : OnceSeen V → Type 0
+  Good seen = Invariant m (once_keeping value) seen
+
+  pub good : (n : ℕ) (past : Entries V) → Good (seen_at m n past)
+  good n past = reached.good m (once_keeping value) (once_facts value) n past
+
+  -- an event leaves the value last written, where there is one
+  written_stays : (seen : OnceSeen V) (p : ℕ) (v : V) (o : Outcome (Answer V) V) (move : Move (OnceCall V) V) (put : Option V) (step : Option Change)
+      → Good seen → MayTouch seen p o move → IsOpenStep seen.plain p step → keeps_value move ≡ true → seen.state.value ≡ Some v
+      → last_written o move seen.written put step ≡ Some v
+  written_stays seen p v o move put step good touches may keeps is = grind (arith, good.shape, good.written, uncompleted seen.written put step)
+
+  stays_one : (seen : OnceSeen V) (p : ℕ) (move : Move (OnceCall V) V) (v : V) → Good seen → keeps_value move ≡ true → seen.state.value ≡ Some v → (scene m seen p move).after.state.value ≡ Some v
+  stays_one seen p move v good keeps is =
+      let s = scene m seen p move in
+      let here = kept m (once_keeping value) (once_facts value) seen p move good in
+      let put = placed_at m seen.state move (slice_get seen.state.seats p) in
+      here.keeps.value_is ∙ written_stays seen p v s.outcome move put s.change good here.keeps.touches here.keeps.opens keeps is
+
+  stays_on : (seen : OnceSeen V) (es : Entries V) (v : V) → Good seen → is_shared es ≡ true → seen.state.value ≡ Some v → (after m seen.state es).value ≡ Some v
+  stays_on seen [] v good shared is = is
+  stays_on seen (e ∷ es) v good shared is =
+      let parts = and_parts (keeps_value e.1) (is_shared es) shared in
+      stays_on (scene m seen e.0 e.1).after es v (kept m (once_keeping value) (once_facts value) seen e.0 e.1 good).good parts.1 (stays_one seen e.0 e.1 v good parts.0 is)
+
+  pub a_value_stays : (n : ℕ) (past further : Entries V) → ValueStays m n past further
+  a_value_stays n past further =
+      let seen = seen_at m n past in
+      let state = state-seen_after m (opening m n) past in
+      record {
+        complete = (good n past).shape.1 ∙ ap (λ (s : OnceState V). is_some s.value) state;
+        stays = λ v is shared.
+            ap (λ (s : OnceState V). s.value) (after-append m (at_first m n) past further)
+            ∙ subst (λ (s : OnceState V). (after m s further).value ≡ Some v) state (stays_on seen further v (good n past) shared (ap (λ (s : OnceState V). s.value) state ∙ is));
+      }
+
+  word_at : (n : ℕ) (past : Entries V) → (once_after m n past).words ≡ once_word (seen_at m n past).plain
+  word_at n past = cc (numbers_are m (once_keeping value) (once_facts value) n past)
+
+  -- a party that stands at the end of a closure runs it, and nobody else does
+
+  module _ (n : ℕ) (past : Entries V) (p : ℕ) (c : OnceCall V) (l : OncePoint) (h : Option Hold) (there : slice_get (once_after m n past).seats p ≡ Some (Calling c l h)) where
+    in_call_at : InCall m (once_keeping value) p c l h (seen_at m n past).plain (seen_at m n past).state.value (seen_at m n past).state.words ((seen_at m n past).span p)
+    in_call_at = calls m (once_keeping value) (once_facts value) n past p c l h there
+
+    -- where the word is another than 1 no closure runs
+    pub not_at_run : (w : ℕ) → (w == 1) ≡ false → (once_after m n past).words ≡ w → l ≡ Run → ⊥
+    not_at_run w other is e = grind (arith, in_call_at.knows, word_at n past)
+
+    pub run_here : l ≡ Run → RunsClosure m n past p
+    run_here e =
+        record {
+          call = c;
+          point = l;
+          held = h;
+          calls = there;
+          begun = grind (arith, in_call_at.knows);
+        }
+
+  phase_of : (n : ℕ) (past : Entries V) (p : ℕ) → RunsClosure m n past p → (seen_at m n past).plain.phase ≡ running p
+  phase_of n past p runs = grind (arith, runs.begun, (in_call_at n past p runs.call runs.point runs.held runs.calls).knows)
+
+  pub one_closure_runs_at_a_time : (n : ℕ) (past : Entries V) → OneRuns m n past
+  one_closure_runs_at_a_time n past =
+      record {
+        alone = λ p q by_p by_q. cc (phase_of n past p by_p, phase_of n past q by_q);
+        before = λ p runs. let phase = phase_of n past p runs in grind (arith, (a_value_stays n past []).complete);
+        ends = λ p runs. grind (arith, runs.calls, runs.begun, (in_call_at n past p runs.call runs.point runs.held runs.calls).knows);
+      }
+
+  -- where there is a value
+
+  -- then the word is 2
+  made_at : (n : ℕ) (past : Entries V) (v : V) → (once_after m n past).value ≡ Some v → (once_after m n past).words ≡ 2
+  made_at n past v is = grind (arith, word_at n past, (a_value_stays n past []).complete)
+
+  value_told : (n : ℕ) (past : Entries V) (p : ℕ) (v : V) (c : OnceCall V) (l : OncePoint) (h : Option Hold) → (once_after m n past).value ≡ Some v → slice_get (once_after m n past).seats p ≡ Some (Calling c l h)
+      → wants_value (asks_of c) ≡ true → outcome_after m n past p Step ≡ outcome.Answered (Value v) None
+  value_told n past p v c l h is there wants =
+      grind (arith, there, is, made_at n past v is, not_at_run n past p c l h there 2 refl)
+
+  pub a_value_is_answered_at_once : (n : ℕ) (past : Entries V) → AnswersAtOnce m n past
+  a_value_is_answered_at_once n past =
+      record {
+        value = λ p v c l h is there wants. value_told n past p v c l h is there wants;
+        none = λ p c l h zero there is. grind (arith, zero, there, is);
+      }
+
+  answered_value : (seen : OnceSeen V) (p : ℕ) (v : V) → Good seen → (happens m seen.state p Step).outcome ≡ outcome.Answered (Value v) None → (scene m seen p Step).after.state.value ≡ Some v
+  answered_value seen p v good is =
+      let s = scene m seen p Step in
+      subst (λ o. GivesAt m Step o s.after.state.value) is (values.keeps_value m (once_keeping value) (once_facts value) seen p Step good).gives
+
+  pub a_later_get_agrees : (n : ℕ) (past further : Entries V) → GetAgrees m n past further
+  a_later_get_agrees n past further = λ p q v l h is shared at.
+      let seen = seen_at m n past in
+      let state = state-seen_after m (opening m n) past in
+      let all = past ++ (p, Step) ∷ further in
+      let good = good n past in
+      let told = answered_value seen p v good (subst (λ (s : OnceState V). (happens m s p Step).outcome ≡ outcome.Answered (Value v) None) (sym state) is) in
+      let now : (once_after m n all).value ≡ Some v =
+      ap (λ (s : OnceState V). s.value) (after-append m (at_first m n) past ((p, Step) ∷ further))
+      ∙ subst (λ (s : OnceState V). (after m (happens m s p Step).next further).value ≡ Some v) state
+      (stays_on (scene m seen p Step).after further v (kept m (once_keeping value) (once_facts value) seen p Step good).good shared told) in
+      value_told n all q v Get l h now at refl

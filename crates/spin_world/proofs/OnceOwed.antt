@@ -1,0 +1,68 @@
+-- What the table of a `Once` owes.
+use Rattle.spin_world.proofs.OnceNames.{◌≡◌, ℕ, true, Option, Some, None, List, [], ◌∷◌, refl, arith, Plain, running, to_begin, Change, gets, completes, fails, runs-others, Hold, OnceCall, CallOnce, TryCallOnceOk, TryCallOnceErr, InitFromRef, Wait, Poll, Get, IsCompleted, OncePoint, Look, TryBegin, Run, Mark, Said, gives_value, failed, brings_of, once_table, once_machine, has_just_looked, LocalInvariant, Facts, Point, nowhere, looked, onward, Notes, no_holders}
+use Rattle.spin_world_core.proofs.Stands.{absent}
+use Rattle.spin_world_core.proofs.Operating.{one_place, operates_by}
+use Rattle.spin_world_core.proofs.Filled.{PaysWith, keeping_with, facts_with}
+
+-- a call with a closure looks, until it runs its closure: then it has begun to, and is left with its end
+abbrev pub run_point : (ℕ → Change) → Said → OncePoint → Option Hold → Point
+run_point end said l (Some h) = nowhere
+run_point end said Run None = onward (record { stand = absent; made = λ p. gets p to_begin ∷ []; rest = λ p. end p ∷ []; said = said; spent = 0 })
+run_point end said l None = looked 0
+
+abbrev pub point_of : {V : Type 0} → OnceCall V → OncePoint → Option Hold → Point
+point_of (CallOnce v) l h = run_point completes gives_value l h
+point_of (TryCallOnceOk v) l h = run_point completes gives_value l h
+point_of TryCallOnceErr l h = run_point fails failed l h
+point_of (InitFromRef v) l h = run_point completes gives_value l h
+point_of Wait Look None = looked 0
+point_of Poll Look None = looked 0
+point_of Get Look None = looked 0
+point_of IsCompleted Look None = looked 0
+point_of _ _ _ = nowhere
+
+-- a party that tries to run its closure has just looked, and one that runs it knows that it does
+abbrev pub RunsAt : OncePoint → ℕ → Plain → List Mark → Type 0
+RunsAt TryBegin p s span = has_just_looked p span ≡ true
+RunsAt Run p s span = s.phase ≡ running p
+RunsAt l p s span = Unit {0}
+
+-- nobody ever holds it or queues
+abbrev pub IsFree : Plain → Type 0
+IsFree s = (s.holders ≡ []) × (s.tickets ≡ [])
+
+abbrev pub once_notes : {V : Type 0} (value : Option V) → Notes (once_table value)
+once_notes value = record { Shape = λ s. IsFree s; point = point_of; Knows = λ c l h p s span. RunsAt l p s span }
+
+module _ {V : Type 0} (value : Option V) where
+  pub once_pays : PaysWith (once_table value) (once_notes value) brings_of
+  once_pays =
+      record {
+        pays = record {
+          fits = λ p c l h. grind arith;
+          operates = operates_by (once_table value) one_place;
+          first = grind arith;
+          shape_first = (refl, refl);
+          numbers_tell = λ u w e. cc (e);
+          one_list = λ s free. no_holders s free.0;
+          sound = λ p c l h. grind arith;
+          aims = λ p c l h. grind arith;
+          begins = λ p c h s. grind arith;
+          others = λ p q c l h s step r span ne free may belongs knows. grind (arith, runs-others s p q step ne may);
+          owes = λ p c l h s w span. grind arith;
+          soon = λ p c l h s w span. grind arith;
+        };
+        strong = λ c h. grind arith;
+        says = λ a. refl;
+        phase_first = grind arith;
+        none_writes = λ s p free. grind arith;
+        none_holds = λ s free. grind arith;
+        completes_right = λ p c l h. grind arith;
+        tells = λ p c l h s w e. grind arith;
+      }
+
+abbrev pub once_keeping : {V : Type 0} (value : Option V) → LocalInvariant V (OnceCall V) OncePoint
+once_keeping value = keeping_with (once_table value) (once_notes value) brings_of (once_pays value)
+
+pub once_facts : {V : Type 0} (value : Option V) → Facts (once_machine value) (once_keeping value)
+once_facts value = facts_with (once_table value) (once_notes value) brings_of (once_pays value)

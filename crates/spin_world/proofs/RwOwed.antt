@@ -1,0 +1,159 @@
+-- What the table of the read-write lock owes.
+use Rattle.spin_world.proofs.RwNames.{◌≡◌, ℕ, ◌+◌, ◌/◌, ◌≤◌, true, false, Option, Some, None, List, [], ◌∷◌, ◌++◌, length, nat_lt, refl, ap, sym, ◌∙◌, arith, eq-eqb, length-append, Plain, Kind, reading, upgradable, asking, writing, weight, Holder, holder, to_read, to_read_upgradable, to_write, to_upgrade, to_upgrade_asked, Change, gets, releases, turns, may_come, is_empty, is_holder, may_turn, with_kind, rw_word, Entries, entries, IsExclusive, reader_limit, tells, read, read_upgradable, write, upgrade, upgrade_asked, released, turned_to, is_holder-from_entries, is_holder-own, length-without_holder, empty_is, room_to_come, one_of_each, read-word, upgradable_read-word, upgradable-word, tells-holder, readers-word, writers-word, only_upgradable-word, only_asking-word, empty-word, Hold, RwCall, TryRead, Read, TryUpgradeableRead, UpgradeableRead, TryWrite, TryWriteWeak, Write, ReaderCount, WriterCount, TryUpgrade, TryUpgradeWeak, Upgrade, Downgrade, DowngradeToUpgradeable, Release, RwPoint, Exchange, Asking, Mark, begin_of, holds, entries_at, Notes, keeping_of, Means, OwesAt, OwesSoon, Pays, no_queue}
+use Rattle.std.specs.Prelude.{min, max}
+use Rattle.spin_step.proofs.Sums.{length-with_kind}
+use Rattle.spin_step_more.proofs.ReaderSteps.{rw_read-grants, rw_upgradable-grants, rw_write-grants, rw_upgrade-grants, rw_upgrade_asked-grants, rw_release-gives, rw_turn-gives}
+use Rattle.spin_model.specs.declared.place.Hold.TheVariants as hold
+use Rattle.spin_model.specs.Calls as calls
+use Rattle.spin_step_more.specs.RwKind as kind
+use Rattle.spin_step_more.specs.RwCalls.{asks_of, rw_table, rw_machine}
+use Rattle.spin_world_core.proofs.Facts.{LocalInvariant, Facts}
+use Rattle.spin_world_core.proofs.Rows.{starts_sound, Row, Point, starts, looked, onward}
+use Rattle.spin_world_core.proofs.Operating.{one_place, operates_by}
+use Rattle.spin_world_core.proofs.Paid.{facts_of}
+
+-- a reader that asked to upgrade gets to write
+abbrev pub asking_row : Row
+asking_row = record { stand = holds asking; made = λ p. turns p upgradable asking ∷ []; rest = λ p. gets p to_upgrade_asked ∷ []; said = calls.granted; spent = 0 }
+
+-- a call that looked has made one step; each other point is as its call's beginning
+abbrev pub point_of : {V : Type 0} → V → ℕ → RwCall → RwPoint → Option Hold → Point
+point_of v cap Upgrade Asking (Some hold.Upgradable) = onward asking_row
+point_of v cap TryRead (Exchange n) None = looked 1
+point_of v cap Read (Exchange n) None = looked 1
+point_of v cap TryUpgradeableRead (Exchange n) None = looked 1
+point_of v cap UpgradeableRead (Exchange n) None = looked 1
+point_of v cap c l h = starts (begin_of (rw_table v cap) c h)
+
+-- the shape of the lock: nobody queues, and no more hold than a word can tell
+pub record Within (cap : ℕ) (s : Plain) : Type 0 where
+  pub no_queue : s.tickets ≡ []
+  pub room : s.cap ≡ min cap reader_limit
+  pub few : length s.holders ≤ max s.cap 1
+
+abbrev pub rw_notes : {V : Type 0} (v : V) (cap : ℕ) → Notes (rw_table v cap)
+rw_notes v cap = record { Shape = λ s. Within cap s; point = point_of v cap; Knows = λ c l h p s span. Unit {0} }
+
+-- a party that stands so is a holder
+pub holder_by : (p : ℕ) (k : Kind) (s : Plain) → entries p s ≡ entries_at p (holds k) → is_holder p k s.holders ≡ true
+holder_by p k s mine = is_holder-from_entries p k s.holders (ap (λ (e : Entries). e.holders) mine)
+
+-- a party that asks to upgrade and has nothing else does not write
+writes_nothing : (p : ℕ) (s : Plain) → entries p s ≡ entries_at p (holds asking) → is_holder p writing s.holders ≡ false
+writes_nothing p s mine = grind (arith, is_holder-own p writing s.holders)
+
+module _ {V : Type 0} (v : V) (cap : ℕ) where
+  abbrev IsMeant : ℕ → Plain → Change → Option ℕ → Type 0
+  IsMeant p s c o = Means (rw_table v cap) (rw_notes v cap) p s c (λ k. k) o
+
+  -- The shape after a step
+
+  one_more : (s : Plain) (p : ℕ) (k : Kind) → Within cap s → may_come k s ≡ true → Within cap (record s { holders = s.holders ++ holder p k ∷ [] })
+  one_more s p k shape may = grind (arith, shape, room_to_come k s may, length-append s.holders (holder p k ∷ []))
+
+  alone : (s : Plain) (h : Holder) → Within cap s → is_empty s.holders ≡ true → Within cap (record s { holders = s.holders ++ h ∷ [] })
+  alone s h shape may = grind (arith, shape, empty_is s.holders may, length-append s.holders (h ∷ []))
+
+  turned : (s : Plain) (p : ℕ) (k l : Kind) → Within cap s → Within cap (record s { holders = with_kind p k l s.holders })
+  turned s p k l shape = grind (arith, shape, length-with_kind p k l s.holders)
+
+  -- What the step functions mean
+
+  module _ (p : ℕ) (s : Plain) (w : ℕ) (word : rw_word s ≡ w) (exclusive : IsExclusive s) (shape : Within cap s) where
+    read_means : IsMeant p s (gets p to_read) (read cap w)
+    read_means = grind (arith, rw_read-grants s p w cap (one_of_each s exclusive) shape.room word, one_more s p reading shape)
+
+    upgradable_means : IsMeant p s (gets p to_read_upgradable) (read_upgradable cap w)
+    upgradable_means =
+        grind (arith, rw_upgradable-grants s p w cap (one_of_each s exclusive) shape.room word, one_more s p upgradable shape)
+
+    write_means : IsMeant p s (gets p to_write) (write w)
+    write_means = grind (arith, rw_write-grants s p w word, alone s (holder p writing) shape)
+
+    upgrade_means : entries p s ≡ entries_at p (holds upgradable) → IsMeant p s (gets p to_upgrade) (upgrade w)
+    upgrade_means mine =
+        let found = holder_by p upgradable s mine in
+        grind (arith, rw_upgrade-grants s p w (one_of_each s exclusive) found word, turned s p upgradable writing shape)
+
+    upgrade_asked_means : entries p s ≡ entries_at p (holds asking) → IsMeant p s (gets p to_upgrade_asked) (upgrade_asked w)
+    upgrade_asked_means mine =
+        let found = holder_by p asking s mine in
+        grind (arith, rw_upgrade_asked-grants s p w (one_of_each s exclusive) found word, turned s p asking writing shape)
+
+    -- What holders find, and what a turn and a release mean
+
+    finds : (k : Kind) → is_holder p k s.holders ≡ true → tells k w ≡ true
+    finds k found = ap (tells k) (sym word) ∙ tells-holder s p k exclusive (omega (arith, shape.few, shape.room)) found
+
+    turn_means : (j k : Kind) → entries p s ≡ entries_at p (holds j) → may_turn j k ≡ true → weight j ≤ weight k
+        → (tells j w ≡ true) × IsMeant p s (turns p j k) (Some (turned_to j k w))
+    turn_means j k mine down more =
+        let found = holder_by p j s mine in grind (arith, finds j found, rw_turn-gives s p j k w more word, turned s p j k shape)
+
+    release_means : (k : Kind) → entries p s ≡ entries_at p (holds k) → (tells k w ≡ true) × IsMeant p s (releases p k) (Some (released k w))
+    release_means k mine =
+        let found = holder_by p k s mine in
+        grind (arith, finds k found, rw_release-gives s p k w word found, shape, length-without_holder p k s.holders found)
+
+    finds_room : is_holder p upgradable s.holders ≡ true → nat_lt (w / weight reading) reader_limit ≡ true
+    finds_room found = grind (arith, word, upgradable-word s p exclusive (omega (arith, shape.few, shape.room)) found)
+
+    -- and whoever may come
+
+    reads : may_come reading s ≡ true → read cap w ≡ Some (w + weight reading)
+    reads may = rw (sym (read-word s w cap (one_of_each s exclusive) shape.room word) ∙ may) refl
+
+    reads_upgradable : may_come upgradable s ≡ true → read_upgradable cap w ≡ Some (w + weight upgradable)
+    reads_upgradable may = rw (sym (upgradable_read-word s w cap (one_of_each s exclusive) shape.room word) ∙ may) refl
+
+  owes : (p : ℕ) (c : RwCall) (l : RwPoint) (h : Option Hold) (s : Plain) (w : ℕ) (span : List Mark) → OwesAt (rw_table v cap) (rw_notes v cap) p c l h s w span
+  owes p TryRead l h s w span = grind (arith, read_means p s w)
+  owes p Read l h s w span = grind (arith, read_means p s w)
+  owes p TryUpgradeableRead l h s w span = grind (arith, upgradable_means p s w)
+  owes p UpgradeableRead l h s w span = grind (arith, upgradable_means p s w)
+  owes p TryWrite l h s w span = grind (arith, write_means p s w)
+  owes p TryWriteWeak l h s w span = grind (arith, write_means p s w)
+  owes p Write l h s w span = grind (arith, write_means p s w)
+  owes p ReaderCount l h s w span = grind (arith, readers-word s w, one_of_each s)
+  owes p WriterCount l h s w span = grind (arith, writers-word s w, one_of_each s)
+  owes p TryUpgrade l h s w span = grind (arith, upgrade_means p s w)
+  owes p TryUpgradeWeak l h s w span = grind (arith, upgrade_means p s w)
+  owes p Upgrade l h s w span = grind (arith, upgrade_asked_means p s w, turn_means p s w)
+  owes p Downgrade l h s w span = grind (arith, turn_means p s w, finds_room p s w, holder_by p upgradable s)
+  owes p DowngradeToUpgradeable l h s w span = grind (arith, turn_means p s w)
+  owes p Release l h s w span = grind (arith, release_means p s w)
+
+  -- Run alone: the word that lets a party in is exchanged, at once or after a look
+
+  soon : (p : ℕ) (c : RwCall) (l : RwPoint) (h : Option Hold) (s : Plain) (w : ℕ) (span : List Mark)
+      → OwesSoon (rw_table v cap) (rw_notes v cap) p c l h s w span
+  soon p Read l h s w span = grind (arith, reads p s w, eq-eqb w w)
+  soon p UpgradeableRead l h s w span = grind (arith, reads_upgradable p s w, eq-eqb w w)
+  soon p Write l h s w span = grind (arith, empty-word s.holders w)
+  soon p Upgrade l h s w span =
+      let only_one = only_upgradable-word s p w in
+      grind (arith, writes_nothing p s, only_asking-word s p w, only_one, one_of_each s, holder_by p asking s, holder_by p upgradable s)
+  soon p _ _ _ s w span = tt
+
+  pub rw_pays : Pays (rw_table v cap) (rw_notes v cap)
+  rw_pays =
+      record {
+        fits = λ p c l h. grind arith;
+        operates = operates_by (rw_table v cap) one_place;
+        first = refl;
+        shape_first = record { no_queue = refl; room = refl; few = omega arith };
+        numbers_tell = λ v w e. cc (e);
+        one_list = λ s shape. no_queue s shape.no_queue;
+        sound = λ p c l h. grind (arith, starts_sound kind.rw (asks_of c h) p (begin_of (rw_table v cap) c h));
+        aims = λ p c l h. grind arith;
+        begins = λ p c h s. grind arith;
+        others = λ p q c l h s step r span ne shape may belongs knows. tt;
+        owes = owes;
+        soon = soon;
+      }
+
+abbrev pub rw_keeping : {V : Type 0} (v : V) (cap : ℕ) → LocalInvariant V RwCall RwPoint
+rw_keeping v cap = keeping_of (rw_table v cap) (rw_notes v cap)
+
+pub rw_facts : {V : Type 0} (v : V) (cap : ℕ) → Facts (rw_machine v cap) (rw_keeping v cap)
+rw_facts v cap = facts_of (rw_table v cap) (rw_notes v cap) (rw_pays v cap) refl

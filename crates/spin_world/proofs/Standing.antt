@@ -1,0 +1,163 @@
+-- What users of a read-write lock rely on.
+use Rattle.spin_world.proofs.RwNames.{◌≡◌, ℕ, ◌+◌, ◌==◌, ◌↔◌, Bool, true, false, Option, Some, None, List, [], ◌∷◌, ◌++◌, slice_get, ap, sym, ◌∙◌, arith, Plain, Kind, reading, upgradable, asking, writing, Change, is_holder, is_only, count_kind, rw_word, weight, apply_some, IsOpenStep, entries, IsExclusive, bit, empty_is, is_holder-own, reader_goes, one_of_each, only_asking-word, empty-word, word_of, Answer, Hold, RwCall, RwPoint, Mark, Stand, holds, holds_and_starves, entries_at, row_of}
+use Rattle.spin_step_more.proofs.Upgrading.{readers_only_go, alone_when_gone}
+use Rattle.spin_model.specs.declared.answer.Answer.TheVariants.{Granted, Done}
+use Rattle.spin_model.specs.declared.place.Seat.TheVariants.{Calling, Holding}
+use Rattle.spin_model.specs.declared.schedule.Move.{Move}
+use Rattle.spin_model.specs.declared.schedule.Move.TheVariants.{Step}
+use Rattle.spin_model.specs.declared.schedule.Outcome.TheVariants.{Answered}
+use Rattle.spin_model.specs.Schedules.{State, moves_at, after, at_first}
+use Rattle.spin_world_core.specs.Runs.{Seen, scene, opening, entries_of, is_reader}
+use Rattle.spin_world_core.specs.Users.{seen_after, passes, ReadsAgreeAcross}
+use Rattle.spin_step_more.specs.RwCalls.{rw_table, rw_machine}
+use Rattle.spin_world.specs.Standing.{StandTogether, KeepsWritersOut, less, Downgrades, readers_gone, StaysAsking, Opens, converts}
+use Rattle.spin_world.proofs.RwOwed.{holder_by, rw_notes, rw_keeping, rw_facts}
+use Rattle.spin_model.specs.Machines.{Machine}
+use Rattle.spin_world_core.proofs.Reached.{good, numbers_are, stands, calls, passes_some, passes_all, row_passes, row_tells}
+use Rattle.spin_model.proofs.Lists.{get-set_same}
+use Rattle.spin_world_core.proofs.Preserved.{Invariant}
+use Rattle.spin_world_core.proofs.Every.{kept}
+use Rattle.spin_model.proofs.Schedules.{after-append}
+use Rattle.spin_world_core.proofs.Guards.{reads_agree_across, seen_after-append}
+
+-- Who stands beside a reader that asks to upgrade
+
+goes_some : (s : Plain) (p q : ℕ) (step : Option Change) → IsExclusive s → is_holder p asking s.holders ≡ true → IsOpenStep s q step → is_holder p asking (apply_some s step).holders ≡ true
+    → count_kind reading (apply_some s step).holders + bit (passes reader_goes step) ≡ count_kind reading s.holders
+goes_some s p q step alone found may stays = grind (arith, readers_only_go s p, alone)
+
+-- whoever holds keeps other parties from writing
+keeps_writers_out : (p : ℕ) (k : Kind) (s : Plain) → is_holder p k s.holders ≡ true → KeepsWritersOut p s
+keeps_writers_out p k s found = λ q ne. grind (arith, found, ne)
+
+-- a party that asks stands as one that does
+abbrev may_ask : Stand → Bool
+may_ask (holds asking) = true
+may_ask (holds_and_starves k) = true
+may_ask _ = false
+
+asks_by : (p : ℕ) (s : Plain) (stand : Stand) → is_holder p asking s.holders ≡ true → entries p s ≡ entries_at p stand → may_ask stand ≡ true
+asks_by p s stand asks is = grind (arith, is_holder-own p asking s.holders)
+
+module _ {V : Type 0} (v : V) (cap : ℕ) where
+  -- a party that asks is in its upgrade, and goes for the word of a reader that is alone and asks
+  abbrev Upgrades : State ℕ V RwCall RwPoint → ℕ → RwCall → RwPoint → Option Hold → Type 0
+  Upgrades s p c l h = ((moves_at (rw_machine v cap) s p Step (Some (Calling c l h))).outcome ≡ Answered Granted None) ↔ ((s.words == weight asking) ≡ true)
+
+  abbrev AsksAt : RwCall → RwPoint → Option Hold → Type 0
+  AsksAt c l h = passes_some (λ row. may_ask row.stand) (row_of (rw_table v cap) (rw_notes v cap) c l h) ≡ true
+
+  upgraded : (s : State ℕ V RwCall RwPoint) (p : ℕ) (c : RwCall) (l : RwPoint) (h : Option Hold) → AsksAt c l h → Upgrades s p c l h
+  upgraded s p c l h asks = grind (arith, asks)
+
+  -- Over a whole schedule
+
+  abbrev m : Machine ℕ V RwCall RwPoint (Answer V)
+  m = rw_machine v cap
+
+  words_are : (n : ℕ) (past : List (ℕ × Move RwCall V)) → (after m (at_first m n) past).words ≡ rw_word (seen_after m (opening m n) past).plain
+  words_are n past = cc (numbers_are m (rw_keeping v cap) (rw_facts v cap) n past)
+
+  pub stand_together : (n : ℕ) (past : List (ℕ × Move RwCall V))
+      → StandTogether cap (after m (at_first m n) past).words (seen_after m (opening m n) past).plain
+  stand_together n past =
+      let here = good m (rw_keeping v cap) (rw_facts v cap) n past in
+      record { word = words_are n past; writer = here.exclusive.writer; one_upgradable = here.exclusive.one_upgradable; within = omega (arith, here.shape.few, here.shape.room) }
+
+  pub zero_when_free : (n : ℕ) (past : List (ℕ × Move RwCall V))
+      → ((after m (at_first m n) past).words ≡ 0) ↔ ((seen_after m (opening m n) past).plain.holders ≡ [])
+  zero_when_free n past = (λ zero. empty_is _ (empty-word _ 0 (sym (words_are n past) ∙ zero)), λ none. words_are n past ∙ ap word_of none)
+
+  -- An upgrade opens by releases
+
+  stays_now : (p : ℕ) (seen : Seen ℕ V RwCall RwPoint) (es : List (ℕ × Move RwCall V)) → StaysAsking p m seen es → is_holder p asking seen.plain.holders ≡ true
+  stays_now p seen [] stays = stays
+  stays_now p seen (e ∷ es) stays = stays.0
+
+  gone_through : (p : ℕ) (seen : Seen ℕ V RwCall RwPoint) (es : List (ℕ × Move RwCall V)) → Invariant m (rw_keeping v cap) seen → StaysAsking p m seen es
+      → (count_kind reading (seen_after m seen es).plain.holders + readers_gone m seen es ≡ count_kind reading seen.plain.holders)
+      × (is_holder p asking (seen_after m seen es).plain.holders ≡ true)
+  gone_through p seen [] here stays = (omega arith, stays)
+  gone_through p seen (e ∷ es) here stays =
+      let sc = scene m seen e.0 e.1 in
+      let is = kept m (rw_keeping v cap) (rw_facts v cap) seen e.0 e.1 here in
+      let rest = gone_through p sc.after es is.good stays.1 in
+      let one = goes_some seen.plain p e.0 sc.change here.exclusive stays.0 is.keeps.opens (stays_now p sc.after es stays.1) in
+      (omega (arith, rest.0, one), rest.1)
+
+  pub opens_by_releases : (n : ℕ) (past further : List (ℕ × Move RwCall V)) → Opens m n past further
+  opens_by_releases n past further p stays =
+      let all = past ++ further in
+      let before = seen_after m (opening m n) past in
+      let later = seen_after m (opening m n) all in
+      let gone = gone_through p before further (good m (rw_keeping v cap) (rw_facts v cap) n past) stays in
+      let joined = seen_after-append m (opening m n) past further in
+      let readers : count_kind reading later.plain.holders + readers_gone m before further ≡ count_kind reading before.plain.holders =
+      ap (λ (s : Seen ℕ V RwCall RwPoint). count_kind reading s.plain.holders + readers_gone m before further) joined ∙ gone.0 in
+      let found : is_holder p asking later.plain.holders ≡ true = ap (λ (s : Seen ℕ V RwCall RwPoint). is_holder p asking s.plain.holders) joined ∙ gone.1 in
+      let here = good m (rw_keeping v cap) (rw_facts v cap) n all in
+      let alone = alone_when_gone later.plain p here.exclusive found in
+      let left : (is_only p asking later.plain.holders ≡ true) ↔ (readers_gone m before further ≡ count_kind reading before.plain.holders) =
+      (λ only. let none = alone.0 only in omega (arith, readers, none), λ all_gone. alone.1 (omega (arith, readers, all_gone))) in
+      let now = after m (at_first m n) all in
+      let told : is_only p asking later.plain.holders ≡ (now.words == weight asking) = only_asking-word later.plain p now.words (one_of_each later.plain here.exclusive) found (sym (words_are n all)) in
+      record {
+        readers = readers;
+        opens = left;
+        granted = λ c l h there.
+            let knows = (calls m (rw_keeping v cap) (rw_facts v cap) n all p c l h there).knows in
+            let asks = row_passes (rw_table v cap) (rw_notes v cap) c l h p _ _ (λ row. may_ask row.stand)
+            (λ row is made. asks_by p later.plain row.stand found is) _ knows in
+            let step = upgraded now p c l h asks in
+            let at = ap (λ o. (moves_at m now p Step o).outcome) there in
+            (λ e. left.0 (told ∙ step.0 (sym at ∙ e)), λ e. at ∙ step.1 (sym told ∙ left.1 e));
+      }
+
+  -- A downgrade is one step
+
+  downgraded : (s : State ℕ V RwCall RwPoint) (p : ℕ) (c : RwCall) (l : RwPoint) (h : Option Hold) (held : Hold) → less c ≡ Some held → slice_get s.seats p ≡ Some (Calling c l h)
+      → ((moves_at m s p Step (Some (Calling c l h))).outcome ≡ Answered Done None)
+      × (slice_get (moves_at m s p Step (Some (Calling c l h))).next.seats p ≡ Some (Holding held))
+  downgraded s p c l h held is there = grind (arith, λ (now : Hold). get-set_same s.seats p (Holding now) (Calling c l h) there)
+
+  -- a party that is in such a call holds
+  holds_there : (p : ℕ) (c : RwCall) (l : RwPoint) (h : Option Hold) (held : Hold) (s : Plain) (span : List Mark) → less c ≡ Some held → (rw_keeping v cap).Knows c l h p s span → KeepsWritersOut p s
+  holds_there p c l h held s span is knows =
+      grind (arith, knows, holder_by p writing s, holder_by p upgradable s, keeps_writers_out p writing s, keeps_writers_out p upgradable s)
+
+  -- and so it does after it
+  holds_after : (p : ℕ) (held : Hold) (c : RwCall) (s : Plain) → less c ≡ Some held → entries p s ≡ entries_of p held → KeepsWritersOut p s
+  holds_after p held c s is mine =
+      grind (arith, holder_by p reading s, holder_by p upgradable s, keeps_writers_out p reading s, keeps_writers_out p upgradable s)
+
+  pub downgrades : (n : ℕ) (past : List (ℕ × Move RwCall V)) → Downgrades m n past
+  downgrades n past p c l h held is there =
+      let all = past ++ (p, Step) ∷ [] in
+      let before = seen_after m (opening m n) past in
+      let later = seen_after m (opening m n) all in
+      let now = after m (at_first m n) past in
+      let step = downgraded now p c l h held is there in
+      let at = ap (λ o. (moves_at m now p Step o).outcome) there in
+      let seat : slice_get (after m (at_first m n) all).seats p ≡ Some (Holding held) =
+      ap (λ (s : State ℕ V RwCall RwPoint). slice_get s.seats p) (after-append m (at_first m n) past ((p, Step) ∷ [])) ∙ (ap (λ o. slice_get (moves_at m now p Step o).next.seats p) there ∙ step.1) in
+      record {
+        before = holds_there p c l h held before.plain (before.span p) is (calls m (rw_keeping v cap) (rw_facts v cap) n past p c l h there).knows;
+        done = at ∙ step.0;
+        holds = seat;
+        later = holds_after p held c later.plain is (stands m (rw_keeping v cap) (rw_facts v cap) n all p (Holding held) seat);
+      }
+
+  -- Looks across conversions
+
+  abbrev reads_at : ℕ → RwCall → RwPoint → Hold → Bool
+  reads_at p c l h = passes_all (λ row. is_reader (entries_at p row.stand)) (row_of (rw_table v cap) (rw_notes v cap) c l (Some h))
+
+  pub looks_agree : (n : ℕ) (past : List (ℕ × Move RwCall V)) → ReadsAgreeAcross converts m n past
+  looks_agree n past =
+      reads_agree_across m (rw_keeping v cap) (rw_facts v cap) converts
+      (record {
+        reads = λ p c l h s span is may knows. row_tells (rw_table v cap) (rw_notes v cap) c l (Some h) p s span is_reader _ knows (grind (arith, is));
+        steps = λ c l h w value is may. grind (arith, is, may);
+        refuses = λ c l h next is may weak. grind (arith, is, may, weak);
+      })
+      n past

@@ -1,0 +1,109 @@
+-- What the ticket lock's table owes.
+use Rattle.spin_world.proofs.TicketNames.{serving-advances, ◌≡◌, ℕ, ◌+◌, ◌-◌, ◌≤◌, ◌==◌, true, false, filter, Option, Some, None, List, [], ◌∷◌, refl, ap, sym, ◌∙◌, arith, Plain, Queued, queued, is_first, effect, to_take_ticket, to_enter, to_take_and_enter, Change, gets, serves, next_word, serving_word, Entries, entries, take, enters_in_turn, numbered-given, numbered-serves, serving-taken, serving-entered, entered_is_served, stands, Hold, TicketWords, TicketCall, Lock, TryLock, IsLocked, Release, TicketPoint, LoadNext, Take, Await, TryLoadNext, TryLoadServing, TryTake, LookServing, LookNext, Serve, own_count, plain, passing, is_left, ticket_table, ticket_machine, LocalInvariant, Facts, queues, entries_at, any_map, Point, nowhere, looked, onward, Notes, keeping_of, Means, OwesAt, OwesSoon, Pays, two, no_holders, two_places}
+use Rattle.spin_step.specs.Parties.{first_alone_entered}
+use Rattle.spin_step.proofs.TicketSteps.{ticket_take-grants_alone, ticket_serve-gives}
+use Rattle.spin_model.specs.declared.place.Hold.TheVariants as hold
+use Rattle.spin_model.specs.Calls.{Mark, AnyOf, granted}
+use Rattle.spin_world_core.proofs.Lists.{eqb_self}
+use Rattle.spin_world_core.proofs.Operating.{operates_by}
+use Rattle.spin_world_core.proofs.Spans.{own_count-mine, own_count-other}
+use Rattle.spin_world_core.proofs.Paid.{facts_of}
+use Rattle.spin_world.proofs.TicketKnowledge.{Queue, Stays, Rises, try_refused, look_right}
+
+abbrev pub point_of : TicketCall → TicketPoint → Option Hold → Point
+point_of Lock LoadNext None = looked 0
+point_of Lock (Take n) None = looked 1
+point_of Lock (Await t) None = onward (record { stand = queues t false; made = λ p. gets p to_take_ticket ∷ []; rest = λ p. gets p to_enter ∷ []; said = granted; spent = 0 })
+point_of TryLock TryLoadNext None = looked 0
+point_of TryLock (TryLoadServing n) None = looked 1
+point_of TryLock (TryTake n) None = looked 2
+point_of IsLocked LookServing None = looked 0
+point_of IsLocked (LookNext k) None = looked 1
+point_of Release (Serve t) (Some (hold.Ticket u)) = looked 0
+point_of _ _ _ = nowhere
+
+-- what else a party knows: since it found the number, a ticket has stood or that is served still; and it goes with the ticket that it holds
+abbrev KnowsAt : TicketPoint → Option Hold → ℕ → Plain → List Mark → Type 0
+KnowsAt (TryLoadServing n) h p s span = Stays n s span × AnyOf (λ m. (m.party ≡ p) × (next_word m.before ≡ n)) span × (own_count p span ≡ 1)
+KnowsAt (TryTake n) h p s span = Rises n s span × (own_count p span ≡ 2)
+KnowsAt (LookNext k) h p s span = Rises k s span
+KnowsAt (Serve t) (Some (hold.Ticket u)) p s span = t ≡ u
+KnowsAt _ h p s span = Unit {0}
+
+abbrev pub ticket_notes : {V : Type 0} (v : V) (first : ℕ) → Notes (ticket_table v first)
+ticket_notes v first = record { Shape = λ s. Queue s; point = point_of; Knows = λ c l h p s span. KnowsAt l h p s span }
+
+-- a party that waits with a ticket hasn't entered yet
+not_entered : (p t : ℕ) (ts : List Queued) → filter (λ t. t.party == p) ts ≡ queued p t false ∷ [] → is_first p true ts ≡ false
+not_entered p t [] mine = refl
+not_entered p t (k ∷ ts) mine = grind arith
+
+module _ {V : Type 0} (v : V) (first : ℕ) where
+  abbrev IsMeant : ℕ → Plain → Change → (ℕ → TicketWords) → Option ℕ → Type 0
+  IsMeant p s c put o = Means (ticket_table v first) (ticket_notes v first) p s c put o
+
+  -- what the step functions mean there
+  module _ (p : ℕ) (s : Plain) (w : TicketWords) (queue : Queue s) (next_is : s.next ≡ w.next) (serving_is : serving_word s ≡ w.serving) where
+    take_means : IsMeant p s (gets p to_take_ticket) (λ n. record w { next = n }) (take w.next)
+    take_means =
+        let numbered = numbered-given s p (effect to_take_ticket) queue.numbered in
+        grind (arith, queue, serving-taken s p false queue.numbered, numbered)
+
+    -- where the number is served
+    take_alone_means : w.next ≤ serving_word s → IsMeant p s (gets p to_take_and_enter) (λ n. record w { next = n }) (take w.next)
+    take_alone_means le =
+        let numbered = numbered-given s p (effect to_take_and_enter) queue.numbered in
+        let grants = ticket_take-grants_alone s p w.next queue.numbered.0 next_is (omega (arith, le)) in
+        grind (arith, queue, serving-taken s p true queue.numbered, numbered, grants)
+
+    enter_means : (t : ℕ) → entries p s ≡ entries_at p (queues t false) → IsMeant p s (gets p to_enter) (λ k. w) (passing (w.serving == t) w.serving)
+    enter_means t mine =
+        let numbered = numbered-given s p (effect to_enter) queue.numbered in
+        let turn = enters_in_turn s p w.serving t queue.numbered serving_is in
+        grind (arith, turn, serving-entered s, numbered, queue, stands p t false s.tickets)
+
+    serve_means : (t u : ℕ) → t ≡ u → first_alone_entered s.tickets ≡ true → entries p s ≡ entries_at p (queues u true)
+        → (is_left t ≡ true) × IsMeant p s (serves p) (λ k. record w { serving = k }) (Some (t + 1))
+    serve_means t u same one mine =
+        let tickets = ap (λ (e : Entries). e.tickets) mine in
+        let here = entered_is_served s p u queue.numbered one tickets in
+        let gives = ticket_serve-gives s p t queue.numbered.0 (here.1 ∙ sym same) here.0 in
+        grind (arith, here, gives, queue, numbered-serves s p queue.numbered, stands p u true s.tickets tickets)
+
+  owes : (p : ℕ) (c : TicketCall) (l : TicketPoint) (h : Option Hold) (s : Plain) (w : TicketWords) (span : List Mark) → OwesAt (ticket_table v first) (ticket_notes v first) p c l h s w span
+  owes p TryLock (TryLoadServing n) None s w span =
+      let found = any_map (λ m. (m.party ≡ p) × (next_word m.before ≡ n)) (λ m. (m.party ≡ p) × (next_word m.before ≡ serving_word s)) span in
+      grind (arith, found, try_refused p n s span, own_count-mine p None plain s span)
+  owes p TryLock (TryTake n) None s w span = grind (arith, take_alone_means p s w, try_refused p n s span)
+  owes p IsLocked (LookNext k) None s w span = grind (arith, look_right (w.next == k) p k s span)
+  owes p c l h s w span = grind (arith, take_means p s w, enter_means p s w, serve_means p s w, own_count-mine p None plain s span)
+
+  -- run alone: the next ticket is taken, at once or after a look, and enters where it is served
+
+  soon : (p : ℕ) (c : TicketCall) (l : TicketPoint) (h : Option Hold) (s : Plain) (w : TicketWords) (span : List Mark)
+      → OwesSoon (ticket_table v first) (ticket_notes v first) p c l h s w span
+  soon p c l h s w span = grind (arith, enters_in_turn s p w.serving, λ (t : ℕ). not_entered p t s.tickets)
+
+  pub ticket_pays : Pays (ticket_table v first) (ticket_notes v first)
+  ticket_pays =
+      record {
+        fits = λ p c l h. grind arith;
+        operates = operates_by (ticket_table v first) (two_places _ _ _ _ (λ k w. refl) (λ k w. refl));
+        first = two first first first (first - 0) refl (omega arith);
+        shape_first = record { no_holders = refl; numbered = (omega arith, tt); in_range = λ some. absurd (cc (some)) };
+        numbers_tell = λ u w e. grind arith;
+        one_list = λ s queue. no_holders s queue.no_holders;
+        sound = λ p c l h. grind arith;
+        aims = λ p c l h. grind arith;
+        begins = λ p c h s. grind (arith, eqb_self);
+        others = λ p q c l h s step r span ne queue may belongs knows.
+            grind (arith, λ (c : Change). serving-advances s c queue.numbered, own_count-other p q step r s span ne);
+        owes = owes;
+        soon = soon;
+      }
+
+abbrev pub ticket_keeping : {V : Type 0} (v : V) (first : ℕ) → LocalInvariant V TicketCall TicketPoint
+ticket_keeping v first = keeping_of (ticket_table v first) (ticket_notes v first)
+
+pub ticket_facts : {V : Type 0} (v : V) (first : ℕ) → Facts (ticket_machine v first) (ticket_keeping v first)
+ticket_facts v first = facts_of (ticket_table v first) (ticket_notes v first) (ticket_pays v first) refl

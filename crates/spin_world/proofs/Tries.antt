@@ -1,0 +1,33 @@
+-- A try finds its number by two loads.
+use Rattle.spin_world.proofs.TicketNames.{◌≡◌, ℕ, ◌<◌, ◌≤◌, Option, Some, List, [], ◌∷◌, arith, Plain, ticket_limit, to_take_and_enter, serving_word, Hold, Calling, Move, Step, GoingOn, TicketCall, TicketPoint, TicketWords, State, moves_at, after, at_first, opening, own_count, seen_after, asks_of, ticket_machine, FoundNext, TriesByTwoLoads}
+use Rattle.spin_model.specs.Calls.{Mark, tries}
+use Rattle.spin_world_core.proofs.Reached.{numbers_are, calls}
+use Rattle.spin_world.proofs.TicketOwed.{ticket_keeping, ticket_facts}
+
+-- a call that has found a number has made a step
+counted : (p k : ℕ) (span : List Mark) → FoundNext p k span → 1 ≤ own_count p span
+counted p k [] found = absurd found
+counted p k (m ∷ ms) found = grind (arith, counted p k ms)
+
+-- by its only step it has found one
+only_one : (p a b : ℕ) (span : List Mark) → own_count p span ≡ 1 → FoundNext p a span → FoundNext p b span → a ≡ b
+only_one p a b [] one x y = absurd x
+only_one p a b (m ∷ ms) one x y = grind (arith, counted p a ms, counted p b ms, only_one p a b ms)
+
+module _ {V : Type 0} (v : V) (first : ℕ) where
+  -- what its next step comes to
+  abbrev Continues : State TicketWords V TicketCall TicketPoint → ℕ → TicketCall → TicketPoint → Option Hold → Type 0
+  Continues s p c l h = (moves_at (ticket_machine v first) s p Step (Some (Calling c l h))).outcome ≡ GoingOn
+
+  comes : (s : State TicketWords V TicketCall TicketPoint) (p : ℕ) (c : TicketCall) (l : TicketPoint) (h : Option Hold) (plain : Plain) (span : List Mark) → (ticket_keeping v first).Knows c l h p plain span
+      → s.words.serving ≡ serving_word plain → asks_of c h ≡ tries to_take_and_enter
+      → (own_count p span ≡ 0 → Continues s p c l h) × (own_count p span ≡ 1 → FoundNext p (serving_word plain) span → serving_word plain < ticket_limit → Continues s p c l h)
+  comes s p c l h plain span knows is asks = grind (arith, λ (n : ℕ). only_one p (serving_word plain) n span)
+
+  pub by_two_loads : (n : ℕ) (past : List (ℕ × Move TicketCall V)) → TriesByTwoLoads (ticket_machine v first) n past
+  by_two_loads n past p c l h there asks =
+      let m = ticket_machine v first in
+      let seen = seen_after m (opening m n) past in
+      let knows = (calls m (ticket_keeping v first) (ticket_facts v first) n past p c l h there).knows in
+      let numbers = numbers_are m (ticket_keeping v first) (ticket_facts v first) n past in
+      let goes = comes (after m (at_first m n) past) p c l h seen.plain (seen.span p) knows (cc (numbers)) asks in grind (arith, there, goes)

@@ -1,0 +1,5 @@
+-- No step of a `Once` looks at the value where the word does not say that there is one.
+use Rattle.spin_world.proofs.OnceNames.{Option, arith, once_machine, LooksWhereComplete}
+
+pub looks_where_complete : {V : Type 0} (value : Option V) → LooksWhereComplete (once_machine value)
+looks_where_complete value = λ w u v c l h other. grind (arith, other)

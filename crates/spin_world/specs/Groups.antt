@@ -1,0 +1,50 @@
+-- What users of a barrier rely on: exactly the last arrival of each group leads, and a follower goes on once its group is full.
+use Rattle.std.specs.Prelude.{◌≡◌, ℕ, ◌+◌, ◌/◌, ◌%◌, ◌^◌, ◌↔◌, Bool, true, false, Option, Some, None, List, [], ◌∷◌, max, slice_get}
+use Rattle.spin_step.specs.Plain.{Change, arrives}
+use Rattle.spin_step.specs.Barriers.{may_leave}
+use Rattle.spin_model.specs.declared.answer.Answer.TheVariants.{Leader, Follower}
+use Rattle.spin_model.specs.declared.place.Hold.{Hold}
+use Rattle.spin_model.specs.declared.place.Seat.TheVariants.{Calling}
+use Rattle.spin_model.specs.declared.schedule.Move.{Move}
+use Rattle.spin_model.specs.declared.schedule.Move.TheVariants.{Step}
+use Rattle.spin_model.specs.declared.schedule.Outcome.TheVariants.{Answered}
+use Rattle.spin_world.specs.declared.barrier.BarrierWords.{BarrierWords}
+use Rattle.spin_world.specs.declared.barrier.BarrierCall.{BarrierCall}
+use Rattle.spin_world.specs.declared.barrier.BarrierPoint.{BarrierPoint}
+use Rattle.spin_model.specs.Schedules.{after, at_first}
+use Rattle.spin_world_core.specs.Runs.{Seen, scene, opening, own}
+use Rattle.spin_world_core.specs.Undisturbed.{arrived}
+use Rattle.spin_world_core.specs.Users.{seen_after, outcome_after, passes, steps_made}
+use Rattle.spin_world.specs.BarrierTable.{BarrierMachine}
+
+abbrev pub is_arrival : Change → Bool
+is_arrival (arrives p) = true
+is_arrival _ = false
+
+abbrev pub Entries : Type 0
+Entries = List (ℕ × Move BarrierCall ℕ)
+
+-- the barrier after a schedule, beside its plain lock
+abbrev pub seen_at : BarrierMachine → ℕ → Entries → Seen BarrierWords ℕ BarrierCall BarrierPoint
+seen_at m parties past = seen_after m (opening m parties) past
+
+-- how many have arrived in a schedule
+abbrev pub arrivals : BarrierMachine → ℕ → Entries → ℕ
+arrivals m parties past = steps_made is_arrival m (opening m parties) past
+
+-- whether the party's next step is an arrival
+abbrev pub arrives_next : BarrierMachine → ℕ → Entries → ℕ → Bool
+arrives_next m parties past p = passes is_arrival (scene m (seen_at m parties past) p Step).change
+
+-- After a schedule, where groups have n: the words count its arrivals in groups, and a step is answered that its party leads just where it is the last arrival of a group
+pub record InGroups (m : BarrierMachine) (n parties : ℕ) (past : Entries) : Type 0 where
+  pub count : (after m (at_first m parties) past).words.count ≡ arrivals m parties past % max n 1
+  pub generation : (after m (at_first m parties) past).words.generation ≡ (arrivals m parties past / max n 1) % 2 ^ 64
+  pub leads : (p : ℕ) → (outcome_after m parties past p Step ≡ Answered Leader None) ↔ ((arrives_next m parties past p ≡ true) × ((arrivals m parties past + 1) % max n 1 ≡ 0))
+
+-- A party that has arrived and waits is answered by its next step exactly where its group has been filled since, whatever others do meanwhile
+abbrev pub FollowersLeave : BarrierMachine → ℕ → Entries → Type 0
+FollowersLeave m parties past =
+    let seen = seen_at m parties past in
+    (p : ℕ) (c : BarrierCall) (l : BarrierPoint) (h : Option Hold) → slice_get (after m (at_first m parties) past).seats p ≡ Some (Calling c l h) → own p (seen.span p) ≡ arrives p ∷ []
+    → (outcome_after m parties past p Step ≡ Answered Follower None) ↔ (may_leave seen.plain (arrived p (seen.span p)) ≡ true)

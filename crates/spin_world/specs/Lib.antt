@@ -1,0 +1,13 @@
+pub mod Flag
+pub mod Ticket
+pub mod Turns
+pub mod Fair
+pub mod Fairness
+pub mod Standing
+pub mod Rw
+pub mod Keeping
+pub mod Once
+pub mod BarrierKind
+pub mod BarrierTable
+pub mod Groups
+pub mod Barrier

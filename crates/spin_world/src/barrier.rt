@@ -1,0 +1,181 @@
+//! The barrier, as a table of the steps of its call. Begin with [`BarrierObject::new`] and [`BarrierCall`].
+ghost use Rattle.std.specs.Prelude.{◌≡◌, true};
+ghost use Rattle.spin_model.specs.Acts.{step_by, can_by};
+ghost use Rattle.spin_world.specs.BarrierTable.{barrier_memory, word_of, act_of, barrier_machine};
+ghost use Rattle.spin_world.specs.Barrier.{IsBarrierOf};
+
+mod laws;
+
+pub use laws::{a_follower_leaves_a_full_group, every_last_of_a_group_leads};
+use spin_step_more::barrier;
+use spin_step_more::barrier::State;
+use spin_world_core::{Answer, Hold, Next, Object, Stepped};
+
+/// The two words of a [`BarrierObject`].
+///
+/// # Examples
+/// ```
+/// fn numbers(words: BarrierWords) -> (u64, Option<u64>) {
+///     (words.count as u64, Some(words.generation as u64))
+/// }
+/// ```
+#[derive(Clone, Copy, Debug, PartialEq, Eq)]
+pub struct BarrierWords {
+    /// How many parties of the group that gathers have arrived.
+    pub count: usize,
+    /// How many groups were filled. It wraps.
+    pub generation: usize,
+}
+
+/// A call of a [`BarrierObject`]. The contract of [`BarrierObject::new`] says what it asks.
+///
+/// # Examples
+/// ```
+/// const BARRIER_CALLS: [(&[u8], BarrierCall); 1] = [(b"wait", BarrierCall::Wait)];
+/// ```
+#[derive(Clone, Copy, Debug, PartialEq, Eq)]
+pub enum BarrierCall {
+    /// Arrives, and waits until the group of this arrival is full. The last arrival of a group leads, and does not
+    /// wait.
+    Wait,
+}
+
+/// The point of a call: which step comes next.
+///
+/// No example: a world keeps the points of calls, and a schedule names none.
+#[derive(Clone, Copy, Debug, PartialEq, Eq)]
+pub enum BarrierPoint {
+    /// The call arrives.
+    Arrive,
+    /// The call looks whether its group is full. It found this generation as it arrived.
+    Leave { generation: usize },
+}
+
+/// The barrier of groups: parties arrive, and leave when their group is full.
+///
+/// It has no value and no owner. A schedule's writes are of type `u64` here, and none of them is open.
+///
+/// # Examples
+/// ```
+/// Header::Barrier { .. } => try_schedule::<BarrierObject>(rt, alloc, trial, opening, lines),
+/// ```
+#[derive(Clone, Copy, PartialEq, Eq)]
+pub struct BarrierObject {
+    n: usize,
+}
+
+impl BarrierObject {
+    /// Creates a barrier for groups of `n` parties, at which no party has arrived. 0 counts as 1.
+    ///
+    /// # Contract
+    /// The object has this `n`. Its machine is that of a barrier with groups of `n` (`IsBarrierOf`): no group has been
+    /// filled, and [`BarrierCall`] says what its call asks.
+    ///
+    /// # Examples
+    /// ```
+    /// fn of_header(header: Header) -> Option<BarrierObject> {
+    ///     match header {
+    ///         Header::Barrier { n, .. } => Some(BarrierObject::new(n)),
+    ///         _ => None,
+    ///     }
+    /// }
+    /// ```
+    pub fn new(n: usize) -> BarrierObject
+        ensures fields { result ≡ record { n = n } }
+        ensures named { IsBarrierOf n (⟦<BarrierObject as Object>⟧.machine result) }
+    {
+        BarrierObject { n }
+    }
+}
+
+impl Object for BarrierObject {
+    type Words = BarrierWords;
+
+    type Value = u64;
+
+    type Call = BarrierCall;
+
+    type Local = BarrierPoint;
+
+    type Answer = Answer<u64>;
+
+    ghost machine = { λ b. barrier_machine b.n };
+
+    fn opening_words(&self) -> BarrierWords {
+        BarrierWords {
+            count: 0,
+            generation: 0,
+        }
+    }
+
+    fn opening_value(&self) -> Option<u64> {
+        None
+    }
+
+    fn is_owned(&self) -> bool {
+        false
+    }
+
+    fn begin(&self, call: BarrierCall, holds: Option<Hold>) -> Option<BarrierPoint> {
+        let _ = call;
+        match holds {
+            None => Some(BarrierPoint::Arrive),
+            Some(_) => None,
+        }
+    }
+
+    fn step(
+        &self,
+        words: BarrierWords,
+        value: Option<u64>,
+        call: BarrierCall,
+        local: BarrierPoint,
+        holds: Option<Hold>,
+    ) -> Stepped<BarrierWords, u64, BarrierPoint, Answer<u64>>
+        requires { can_by barrier_memory (word_of local) (act_of self.now.n local holds) words ≡ true }
+        ensures { result ≡ step_by barrier_memory (word_of local) (act_of self.now.n local holds) words }
+    {
+        let _ = (value, call);
+        let BarrierWords { count, generation } = words;
+        match local {
+            BarrierPoint::Arrive => {
+                let state = State {
+                    n: self.n,
+                    count,
+                    generation,
+                };
+                let (after, leads) = barrier::arrive(state);
+                let words = BarrierWords {
+                    count: after.count,
+                    generation: after.generation,
+                };
+                let next = if leads {
+                    Next::Answers(Answer::Leader, holds)
+                } else {
+                    Next::Continue(BarrierPoint::Leave { generation })
+                };
+                Stepped::stay(words, next)
+            }
+            BarrierPoint::Leave { generation: found } => {
+                let next = if generation != found {
+                    Next::Answers(Answer::Follower, holds)
+                } else {
+                    Next::Continue(local)
+                };
+                Stepped::stay(words, next)
+            }
+        }
+    }
+
+    fn refuse(
+        &self,
+        call: BarrierCall,
+        local: BarrierPoint,
+        holds: Option<Hold>,
+    ) -> Option<Next<BarrierPoint, Answer<u64>>> {
+        let _ = (call, local, holds);
+        None
+    }
+
+    fn laws() {}
+}

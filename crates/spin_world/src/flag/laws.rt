@@ -1,0 +1,22 @@
+//! Laws of the flag. Each is the contract of a function that does nothing: a caller calls it for what it states.
+ghost use Rattle.std.specs.Prelude.{◌≡◌, ◌↔◌, ℕ, List, [], false};
+ghost use Rattle.spin_model.specs.declared.schedule.Move.{Move};
+ghost use Rattle.spin_model.specs.Schedules.{after, at_first};
+ghost use Rattle.spin_world_core.specs.Runs.{opening};
+ghost use Rattle.spin_world_core.specs.Users.{seen_after};
+ghost use Rattle.spin_model.specs.declared.flag.FlagCall.{FlagCall};
+ghost use Rattle.spin_world.specs.declared.flag.Flag.{Flag};
+ghost use Rattle.spin_world.specs.Flag.{IsFlag};
+
+use crate::flag::Flag;
+use spin_world_core::Object;
+
+/// States that the flag is clear exactly if no party holds the lock.
+pub fn a_flag_is_clear_when_nobody_holds<V: Copy>()
+    ensures { (object : Flag V) (n : ℕ) (past : List (ℕ × Move FlagCall V)) → let m = ⟦<Flag<V> as Object>⟧.machine object in ((after m (at_first m n) past).words ≡ false) ↔ ((seen_after m (opening m n) past).plain.holders ≡ []) }
+{}
+
+/// States that each flag is what its name says (`IsFlag`), also one that a caller is handed in a world and did not make.
+pub fn a_flag_is_what_its_name_says<V: Copy>()
+    ensures { (object : Flag V) → IsFlag object.value (⟦<Flag<V> as Object>⟧.machine object) }
+{}

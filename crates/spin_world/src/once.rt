@@ -1,0 +1,227 @@
+//! The once-only cell, as a table of the steps of its calls. Begin with [`OnceObject::new`] and [`OnceCall`].
+ghost use Rattle.std.specs.Prelude.{◌≡◌, Some, None, true};
+ghost use Rattle.spin_model.specs.Acts.{one_number, either, step_by, can_by, completes_by, filled, step_with};
+ghost use Rattle.spin_model.specs.Once.{is_there, tells, runs, ends, brings_of, act_of, once_machine};
+ghost use Rattle.spin_world.specs.Once.{IsOnceOf};
+
+mod laws;
+
+pub use laws::{
+    a_closure_begins_after_a_look, a_later_closure_may_run, a_later_get_agrees,
+    a_value_is_answered_at_once, a_value_is_looked_at_where_it_is_complete, a_value_stays,
+    one_closure_runs_at_a_time,
+};
+use spin_model::{OnceCall, OncePoint};
+use spin_step::once;
+use spin_world_core::{Answer, Hold, Next, Object, Stepped};
+
+/// The cell that is filled once, by the first closure that gives a value.
+///
+/// Its word is 0 while there is nothing, 1 while a closure runs, and 2 once there is a value.
+///
+/// # Examples
+/// ```
+/// Header::Once { .. } => try_schedule::<OnceObject<u64>>(rt, alloc, trial, opening, lines),
+/// ```
+#[derive(Clone, Copy, PartialEq, Eq)]
+pub struct OnceObject<V> {
+    value: Option<V>,
+}
+
+impl<V: Copy> OnceObject<V> {
+    /// Creates a cell without a value.
+    ///
+    /// # Contract
+    /// The object has no value. Its machine is that of a `Once` that was made with none (`IsOnceOf`): its word is 0,
+    /// and each call asks what [`OnceCall`] says.
+    ///
+    /// # Examples
+    /// ```
+    /// fn of_header(header: Header) -> Option<OnceObject<u64>> {
+    ///     match header {
+    ///         Header::Once { .. } => Some(OnceObject::new()),
+    ///         _ => None,
+    ///     }
+    /// }
+    /// ```
+    pub fn new() -> OnceObject<V>
+        ensures fields { result ≡ record { value = None } }
+        ensures named { IsOnceOf None (⟦<OnceObject<V> as Object>⟧.machine result) }
+    {
+        OnceObject { value: None }
+    }
+
+    /// Creates a cell that has this value from the start.
+    ///
+    /// # Contract
+    /// The object has this value. Its machine is that of a `Once` that was made with it (`IsOnceOf`): its word is 2,
+    /// and each call asks what [`OnceCall`] says.
+    ///
+    /// # Examples
+    /// ```
+    /// let mut world = world(&rt, rt.alloc(), OnceObject::initialized(9), 1);
+    /// plays(&rt, &mut world, REPLACED, &[Place::Idle], 4);
+    /// ```
+    pub fn initialized(value: V) -> OnceObject<V>
+        ensures fields { result ≡ record { value = Some value } }
+        ensures named { IsOnceOf (Some value) (⟦<OnceObject<V> as Object>⟧.machine result) }
+    {
+        OnceObject { value: Some(value) }
+    }
+}
+
+/// Returns the answer that is the value.
+fn tell<V: Copy>(value: Option<V>, holds: Option<Hold>) -> Next<OncePoint, Answer<V>>
+    ensures { result ≡ filled value (tells holds) }
+{
+    match value {
+        Some(value) => Next::Answers(Answer::Value(value), holds),
+        None => Next::Answers(Answer::NoValue, holds),
+    }
+}
+
+/// Looks at the word, and at the value if there is one. If there is none, the call goes on by `other`.
+fn look<V: Copy>(
+    words: u8,
+    value: Option<V>,
+    holds: Option<Hold>,
+    other: Next<OncePoint, Answer<V>>,
+) -> Next<OncePoint, Answer<V>>
+    ensures { result ≡ either (is_there words) (filled value (tells holds)) other }
+{
+    if words == 2 {
+        tell(value, holds)
+    } else {
+        other
+    }
+}
+
+/// Makes a step of a call with a closure, which gives the value `made`, or fails if that is `None`.
+fn run<V: Copy>(
+    words: u8,
+    value: Option<V>,
+    made: Option<V>,
+    local: OncePoint,
+    holds: Option<Hold>,
+) -> Stepped<u8, V, OncePoint, Answer<V>>
+    requires { can_by one_number 0 (runs (ends made holds) local holds) words ≡ true }
+    ensures { result ≡ step_with value made (completes_by (runs (ends made holds) local holds)) (step_by one_number 0 (runs (ends made holds) local holds) words) }
+{
+    match local {
+        OncePoint::Look => {
+            let other = Next::Continue(OncePoint::TryBegin);
+            Stepped::stay(words, look(words, value, holds, other))
+        }
+        OncePoint::TryBegin => match once::begin(words) {
+            Some(running) => Stepped::stay(running, Next::Continue(OncePoint::Run)),
+            None => {
+                let other = Next::Continue(OncePoint::Await);
+                Stepped::stay(words, look(words, value, holds, other))
+            }
+        },
+        OncePoint::Await => {
+            let other = Next::Continue(if words == 0 {
+                OncePoint::TryBegin
+            } else {
+                OncePoint::Await
+            });
+            Stepped::stay(words, look(words, value, holds, other))
+        }
+        OncePoint::Run => match made {
+            Some(made) => Stepped {
+                words: once::complete(words),
+                placed: Some(made),
+                next: Next::Answers(Answer::Value(made), holds),
+            },
+            None => Stepped::stay(once::fail(words), Next::Answers(Answer::Failed, holds)),
+        },
+    }
+}
+
+impl<V: Copy> Object for OnceObject<V> {
+    type Words = u8;
+
+    type Value = V;
+
+    type Call = OnceCall<V>;
+
+    type Local = OncePoint;
+
+    type Answer = Answer<V>;
+
+    ghost machine = { λ o. once_machine o.value };
+
+    fn opening_words(&self) -> u8 {
+        match self.value {
+            None => 0,
+            Some(_) => 2,
+        }
+    }
+
+    fn opening_value(&self) -> Option<V> {
+        self.value
+    }
+
+    fn is_owned(&self) -> bool {
+        true
+    }
+
+    fn begin(&self, call: OnceCall<V>, holds: Option<Hold>) -> Option<OncePoint> {
+        let _ = call;
+        match holds {
+            None => Some(OncePoint::Look),
+            Some(_) => None,
+        }
+    }
+
+    fn refuse(
+        &self,
+        call: OnceCall<V>,
+        local: OncePoint,
+        holds: Option<Hold>,
+    ) -> Option<Next<OncePoint, Answer<V>>> {
+        let _ = (call, local, holds);
+        None
+    }
+
+    fn step(
+        &self,
+        words: u8,
+        value: Option<V>,
+        call: OnceCall<V>,
+        local: OncePoint,
+        holds: Option<Hold>,
+    ) -> Stepped<u8, V, OncePoint, Answer<V>>
+        requires { can_by one_number 0 (act_of call local holds) words ≡ true }
+        ensures { result ≡ step_with value (brings_of call) (completes_by (act_of call local holds)) (step_by one_number 0 (act_of call local holds) words) }
+    {
+        match call {
+            OnceCall::CallOnce(made)
+            | OnceCall::TryCallOnceOk(made)
+            | OnceCall::InitFromRef(made) => { run(words, value, Some(made), local, holds) }
+            OnceCall::TryCallOnceErr => run(words, value, None, local, holds),
+            OnceCall::Wait => Stepped::stay(
+                words,
+                look(words, value, holds, Next::Continue(OncePoint::Look)),
+            ),
+            OnceCall::Poll => {
+                let other = if words == 0 {
+                    Next::Answers(Answer::NoValue, holds)
+                } else {
+                    Next::Continue(OncePoint::Look)
+                };
+                Stepped::stay(words, look(words, value, holds, other))
+            }
+            OnceCall::Get => {
+                let other = Next::Answers(Answer::NoValue, holds);
+                Stepped::stay(words, look(words, value, holds, other))
+            }
+            OnceCall::IsCompleted => Stepped::stay(
+                words,
+                Next::Answers(Answer::Is(words == 2), holds),
+            ),
+        }
+    }
+
+    fn laws() {}
+}

@@ -1,4 +1,0 @@
-pub mod Kind
-pub mod Barrier
-pub mod Groups
-pub mod Named

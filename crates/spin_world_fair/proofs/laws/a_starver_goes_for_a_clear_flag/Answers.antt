@@ -1,5 +1,0 @@
-use Rattle.spin_world_fair.proofs.Granted.{goes_for_flag}
-use Rattle.spin_world_fair.proofs.laws.a_starver_goes_for_a_clear_flag.Goals as goal
-
-pub returns : goal.returns
-returns g c = λ fair n past. goes_for_flag fair.value fair.cap fair.patience n past

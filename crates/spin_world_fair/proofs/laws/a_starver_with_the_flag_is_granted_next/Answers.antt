@@ -1,5 +1,0 @@
-use Rattle.spin_world_fair.proofs.Granted.{granted_next}
-use Rattle.spin_world_fair.proofs.laws.a_starver_with_the_flag_is_granted_next.Goals as goal
-
-pub returns : goal.returns
-returns g c = λ fair n past. granted_next fair.value fair.cap fair.patience n past

@@ -1,5 +1,0 @@
-use Rattle.spin_world_once.proofs.Keeping.{a_value_stays}
-use Rattle.spin_world_once.proofs.laws.a_value_stays.Goals as goal
-
-pub returns : goal.returns
-returns g c = λ object n past. a_value_stays object.value n past

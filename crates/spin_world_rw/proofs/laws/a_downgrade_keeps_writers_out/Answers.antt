@@ -1,5 +1,0 @@
-use Rattle.spin_world_rw.proofs.Standing.{downgrades}
-use Rattle.spin_world_rw.proofs.laws.a_downgrade_keeps_writers_out.Goals as goal
-
-pub returns : goal.returns
-returns g c = λ rw n past. downgrades rw.value rw.cap n past

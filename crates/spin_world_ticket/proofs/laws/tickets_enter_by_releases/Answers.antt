@@ -1,5 +1,0 @@
-use Rattle.spin_world_ticket.proofs.Queues.{in_turn}
-use Rattle.spin_world_ticket.proofs.laws.tickets_enter_by_releases.Goals as goal
-
-pub returns : goal.returns
-returns g c = λ t n past further. in_turn t.value t.first n past further
