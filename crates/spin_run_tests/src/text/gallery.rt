@@ -1,4 +1,4 @@
-//! The schedules of docs/GALLERY.md, as `.ci/gallery` prints them.
+//! The schedules of docs/GALLERY.md, as `.ci/docs` prints them.
 
 use super::transcripts::Worked;
 
