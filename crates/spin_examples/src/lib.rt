@@ -8,6 +8,7 @@ pub mod from_rust;
 pub mod paired;
 pub mod passes;
 pub mod passes_fair;
+pub mod passes_lazy;
 pub mod passes_once;
 pub mod passes_rw;
 pub mod passes_ticket;

@@ -98,6 +98,15 @@ pub fn write_beside_readers<'a, W: Threads + Wait + Sync>(
     all
 }
 
+/// Adds one, and then reads the sum, by closures that see the value under the lock.
+pub fn add_and_read<'a, W: Wait>(rt: &W, pass: Pass<'a, u64, Spin>) -> (u64, Pass<'a, u64, Spin>)
+    ensures lock { lock_of result.1 ≡ lock_of pass.entry }
+{
+    let (_, pass) = pass.with(rt, |value| *value = value.saturating_add(1));
+    let (value, pass) = pass.with_shared(rt, |value| *value);
+    (value, pass)
+}
+
 /// Tries each way once to acquire the lock, and releases it at once where it did.
 pub fn try_each<'a, W: Wait>(rt: &W, pass: Pass<'a, u64, Spin>) -> Pass<'a, u64, Spin> {
     let pass = match pass.try_read(rt) {

@@ -346,7 +346,7 @@ impl<T, R> From<T> for RwLock<T, R> {
 
 impl<T, R: RelaxStrategy> Lock<T> for RwLock<T, R> {
     fn with<A, F: FnOnce(&mut T) -> A, W: Wait>(&self, rt: &W, by: F) -> A {
-        by(&mut *self.write(rt))
+        self.pass().with(rt, by).0
     }
 
     fn try_with<A, F: FnOnce(&mut T) -> A>(&self, by: F) -> Result<A, F> {
@@ -356,7 +356,7 @@ impl<T, R: RelaxStrategy> Lock<T> for RwLock<T, R> {
 
 impl<T, R: RelaxStrategy> SharedLock<T> for RwLock<T, R> {
     fn with_shared<A, F: FnOnce(&T) -> A, W: Wait>(&self, rt: &W, by: F) -> A {
-        by(&*self.read(rt))
+        self.pass().with_shared(rt, by).0
     }
 
     fn try_with_shared<A, F: FnOnce(&T) -> A, W: Wait>(&self, rt: &W, by: F) -> Result<A, F> {

@@ -7,6 +7,7 @@ use spin_examples::from_rust::{
     add_from_two, add_one, add_starving, doubled, give_back, port_of, raise, set_elsewhere, take,
 };
 use spin_examples::passes::{count_beside_look, double_by_a_hold, try_once};
+use spin_examples::passes_lazy::{Seven, force_by_three};
 use spin_examples::passes_once::make_beside_look;
 use spin_examples::passes_ticket::{count_by_three, look, try_once as try_ticket_once};
 use spin_examples::registers::four_threads;
@@ -120,9 +121,10 @@ fn three_passes_of_an_rwlock_know_one_history(rt: HostRuntime) {
     let writer = lock.write(&rt);
     let (writers, pass) = passes_rw::count_writers(passes_rw::try_each(&rt, lock.pass()));
     equal(&rt, writers, 1);
-    drop(pass);
     drop(writer);
-    equal(&rt, lock.into_inner(), 14);
+    let (sum, pass) = passes_rw::add_and_read(&rt, pass);
+    drop(pass);
+    equal(&rt, (sum, lock.into_inner()), (15, 15));
 }
 
 #[test]
@@ -175,6 +177,14 @@ fn passes_of_a_lazy_lock_know_one_history(rt: HostRuntime) {
     let (again, pass) = pass.force(&rt);
     equal(&rt, *again, 7);
     drop((pass, other));
+}
+
+#[test]
+fn three_passes_of_a_lazy_lock_know_one_history(rt: HostRuntime) {
+    let lazy: LazyLock<u64, Seven> = LazyLock::promising((), Seven);
+    let ((first, one), ((second, two), (third, three))) = force_by_three(&rt, &lazy);
+    equal(&rt, (first, second, third), (7, 7, 7));
+    drop((one, (two, three)));
 }
 
 #[test]

@@ -1,6 +1,7 @@
 //! The calls of an [`RwLock`] by a thread that keeps account of them. Begin at [`RwLock::pass`].
 ghost use Rattle.std.specs.Prelude.{◌≡◌, ◌⊎◌, ◌≤◌, true, false, Some, None, [], IfOk, IfErr};
 ghost use mathlib.Core.List.{IsPrefix};
+ghost use Rattle.spin_core.specs.Calls.{AnswersOf, AnswersOfShared};
 ghost use Rattle.spin_core.specs.Own.{what};
 ghost use Rattle.spin_model.specs.declared.answer.Answer.TheVariants.{Granted, Refused, Count, Done};
 ghost use Rattle.spin_step_more.specs.Readers.{reader_limit};
@@ -202,6 +203,54 @@ impl<'a, T, R: RelaxStrategy> Pass<'a, T, R> {
             Ok(lent) => lent,
             Err(coming) => coming.wait(rt),
         }
+    }
+}
+
+impl<'a, T, R: RelaxStrategy> Pass<'a, T, R> {
+    ghost use Rattle.spin_rwlock.specs.RwPasses.{ReadOnce, WroteOnce};
+
+    /// Acquires exclusive access, calls the closure with the value, and releases it, as the lock's own
+    /// [`with`](spin_core::lock::Lock::with) does.
+    ///
+    /// # Contract
+    /// The closure has to be always callable. Its answer is returned (`answers`). The pass made one `Write`, and then
+    /// one `Release` (`made`). Whether and when the call returns is not promised.
+    ///
+    /// # Examples
+    /// ```
+    /// let (_, pass) = pass.with(rt, |value| *value = value.saturating_add(1));
+    /// ```
+    pub fn with<A, F: FnOnce(&mut T) -> A, W: Wait>(self, rt: &W, by: F) -> (A, Pass<'a, T, R>)
+        requires { F.IsAlwaysCallable by }
+        ensures answers { AnswersOf F.FnOnce by result.0 }
+        ensures made { WroteOnce self.entry result.1 }
+        ensures same { result.1.seen.name ≡ self.entry.seen.name }
+    {
+        let (mut guard, seen) = self.write(rt);
+        let answer = by(&mut *guard);
+        (answer, RwLock::unlock(guard, seen))
+    }
+
+    /// Acquires shared access, calls the closure with the value, and releases it, as the lock's own
+    /// [`with_shared`](spin_core::lock::SharedLock::with_shared) does.
+    ///
+    /// # Contract
+    /// The closure has to be always callable. Its answer is returned (`answers`). The pass made one `Read`, and then
+    /// one `Release` (`made`): it never held the lock as a writer. Whether and when the call returns is not promised.
+    ///
+    /// # Examples
+    /// ```
+    /// let (value, pass) = pass.with_shared(rt, |value| *value);
+    /// ```
+    pub fn with_shared<A, F: FnOnce(&T) -> A, W: Wait>(self, rt: &W, by: F) -> (A, Pass<'a, T, R>)
+        requires { F.IsAlwaysCallable by }
+        ensures answers { AnswersOfShared F.FnOnce by result.0 }
+        ensures made { ReadOnce self.entry result.1 }
+        ensures same { result.1.seen.name ≡ self.entry.seen.name }
+    {
+        let (guard, seen) = self.read(rt);
+        let answer = by(&*guard);
+        (answer, RwLock::unlock_shared(guard, seen))
     }
 }
 

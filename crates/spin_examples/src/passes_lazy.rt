@@ -1,0 +1,78 @@
+//! What three threads with a pass each know of their calls of one `LazyLock`.
+ghost use Rattle.std.specs.Prelude.{◌≡◌, ◌⊎◌};
+ghost use mathlib.Core.List.{IsPrefix};
+ghost use Rattle.spin.specs.LazyPasses.{history, lock_of, name_of, Forced};
+
+use spin::Spin;
+use spin::lazylock::{LazyLock, Makes, Pass};
+use std::sync::Wait;
+use std::thread::{Threads, join};
+
+/// An initialiser that makes a 7.
+#[derive(Drop)]
+pub struct Seven;
+
+impl Makes<u64, ()> for Seven {
+    fn make(self, _promise: ()) -> u64 {
+        7
+    }
+}
+
+/// Asks for the value once.
+fn force<'a, W: Wait>(
+    rt: &W,
+    pass: Pass<'a, u64, Seven, Spin, ()>,
+) -> (u64, Pass<'a, u64, Seven, Spin, ()>)
+    ensures made { Forced pass.entry result.1 }
+    ensures lock { lock_of result.1 ≡ lock_of pass.entry }
+{
+    let (value, pass) = pass.force(rt);
+    (*value, pass)
+}
+
+/// Three threads ask for the value. One of them makes it.
+///
+/// # Contract
+/// Of any two of them one knows a beginning of the history that the other knows.
+pub fn force_by_three<'a, W: Threads + Wait + Sync>(
+    rt: &W,
+    lazy: &'a LazyLock<u64, Seven>,
+) -> (
+    (u64, Pass<'a, u64, Seven, Spin, ()>),
+    (
+        (u64, Pass<'a, u64, Seven, Spin, ()>),
+        (u64, Pass<'a, u64, Seven, Spin, ()>),
+    ),
+)
+    ensures first_second { IsPrefix (history result.0.1) (history result.1.0.1) ⊎ IsPrefix (history result.1.0.1) (history result.0.1) }
+    ensures first_third { IsPrefix (history result.0.1) (history result.1.1.1) ⊎ IsPrefix (history result.1.1.1) (history result.0.1) }
+    ensures second_third { IsPrefix (history result.1.0.1) (history result.1.1.1) ⊎ IsPrefix (history result.1.1.1) (history result.1.0.1) }
+{
+    let all = join(
+        rt,
+        || -> (u64, Pass<'_, u64, Seven, Spin, ()>)
+            ensures { lock_of result.1 ≡ name_of lazy.entry.now }
+        { force(rt, LazyLock::pass(lazy)) },
+        || -> (
+            (u64, Pass<'_, u64, Seven, Spin, ()>),
+            (u64, Pass<'_, u64, Seven, Spin, ()>),
+        )
+            ensures { (lock_of result.0.1 ≡ name_of lazy.entry.now) × (lock_of result.1.1 ≡ name_of lazy.entry.now) }
+        {
+            join(
+                rt,
+                || -> (u64, Pass<'_, u64, Seven, Spin, ()>)
+                    ensures { lock_of result.1 ≡ name_of lazy.entry.now }
+                { force(rt, LazyLock::pass(lazy)) },
+                || -> (u64, Pass<'_, u64, Seven, Spin, ()>)
+                    ensures { lock_of result.1 ≡ name_of lazy.entry.now }
+                { force(rt, LazyLock::pass(lazy)) },
+            )
+        },
+    );
+    let (first, (second, third)) = &all;
+    first.1.compare(&second.1);
+    first.1.compare(&third.1);
+    second.1.compare(&third.1);
+    all
+}
