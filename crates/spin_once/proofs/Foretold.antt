@@ -2,7 +2,9 @@
 use Rattle.std.proofs.Common.{◌≡◌, ℕ, zero, suc, ◌+◌, ◌≤◌, ◌==◌, if◌then◌else◌, Bool, true, false, ◌&&◌, Option, Some, None, List, [], ◌∷◌, ◌++◌, length, map, take, drop, replicate, slice_get, slice_set, refl, sym, ap, ◌∙◌, subst, arith, eq-eqb, ne_eqb, eqb-true}
 use Rattle.std.specs.Option.{option_map}
 use Rattle.std.specs.List.{list_all}
+use Rattle.std.proofs.Math.Seq.{take-append_seam}
 use Rattle.std.proofs.lemmas.Bool.{and_parts, eqb-false}
+use Rattle.std.proofs.lemmas.List.{append-nil}
 use Rattle.spin_model.specs.declared.once.OnceCall.TheVariants.{TryCallOnceOk}
 use Rattle.spin_model.specs.declared.once.OncePoint.{OncePoint}
 use Rattle.spin_model.specs.declared.once.OncePoint.TheVariants.{Run}
@@ -22,6 +24,39 @@ use Rattle.spin_once.specs.declared.once_core.rule.View.TheVariants as view
 use Rattle.spin_once.specs.declared.once_core.rule.View.TheVariants.{Reading, InCall}
 use Rattle.spin_once.proofs.Resting.{Call, World, rests, rests_after}
 use Rattle.spin_once.proofs.Named.{Object, seat_named, seats_named, object, Alike, renamed, t, m, named_get, named_set, named_alike, named_idle, put_same, moves_alike}
+
+-- the part of the object's schedule that these moves are, where others follow them
+abbrev before : List Made → List Made → List Made
+before [] later = []
+before (e ∷ es) later = told_of e.0 e.1 (will_fail (es ++ later) e.0) (before es later)
+
+joined : (es later : List Made) → foretold (es ++ later) ≡ before es later ++ foretold later
+joined [] later = refl
+joined (e ∷ es) later = ap (told_of e.0 e.1 (will_fail (es ++ later) e.0)) (joined es later) ∙ told_joined e.0 e.1 (will_fail (es ++ later) e.0) (before es later) (foretold later)
+  where
+    told_joined : (p : ℕ) (move : OneMove) (fails : Bool) (xs ys : List Made) → told_of p move fails (xs ++ ys) ≡ told_of p move fails xs ++ ys
+    told_joined p (Begin c) fails xs ys = refl
+    told_joined p Weak fails xs ys = refl
+    told_joined p _ fails xs ys = refl
+
+as_long : (es later : List Made) → length (before es later) ≡ length (foretold es)
+as_long [] later = refl
+as_long (e ∷ es) later = long_by e.0 e.1 (will_fail (es ++ later) e.0) (will_fail es e.0) (before es later) (foretold es) (as_long es later)
+  where
+    long_by : (p : ℕ) (move : OneMove) (a b : Bool) (xs ys : List Made) → length xs ≡ length ys → length (told_of p move a xs) ≡ length (told_of p move b ys)
+    long_by p (Begin c) a b xs ys is = ap suc is
+    long_by p Weak a b xs ys is = is
+    long_by p _ a b xs ys is = ap suc is
+
+till : (es later : List Made) → take (length (foretold es)) (foretold (es ++ later)) ≡ before es later
+till es later = ap (λ k. take k (foretold (es ++ later))) (sym (as_long es later)) ∙ ap (take (length (before es later))) (joined es later) ∙ take-append_seam (before es later) (foretold later)
+
+before_nil : (es : List Made) → before es [] ≡ foretold es
+before_nil es = sym (append-nil (before es [])) ∙ sym (joined es []) ∙ ap foretold (append-nil es)
+
+-- so the schedule is that part, and what comes of the later moves
+pub split : (es later : List Made) → foretold (es ++ later) ≡ take (length (foretold es)) (foretold (es ++ later)) ++ foretold later
+split es later = joined es later ∙ ap (λ l. l ++ foretold later) (sym (till es later))
 
 module _ (given : Option (Unit {0})) where
   -- a party that is in no call takes no step, and no closure of it fails, before it begins one
@@ -43,7 +78,7 @@ module _ (given : Option (Unit {0})) where
       own_quiet s q move later (slice_get s.seats q) (rw e is) played (λ no. still (λ own k. no own))
   quiet_by s q p move later is played still false other = still (λ own e. eqb-false q p other e)
 
-  quiet : (es : List Made) (s : World) (p : ℕ) → list_all is_played (outcomes (m given) s es) ≡ true → rests (slice_get s.seats p) ≡ true → will_fail es p ≡ false
+  pub quiet : (es : List Made) (s : World) (p : ℕ) → list_all is_played (outcomes (m given) s es) ≡ true → rests (slice_get s.seats p) ≡ true → will_fail es p ≡ false
   quiet [] s p played is = refl
   quiet (e ∷ es) s p played is =
       let s' : World = (happens (m given) s e.0 e.1).next in
@@ -54,15 +89,15 @@ module _ (given : Option (Unit {0})) where
   abbrev Leads : Object → List Made → Object → Type 0
   Leads o es end = (after (t given) o es ≡ end) × (list_all is_played (outcomes (t given) o es) ≡ true)
 
-  abbrev Ends : World → List Made → Type 0
-  Ends s es = Leads (object (will_fail es) s) (foretold es) (object (λ p. false) (after (m given) s es))
+  abbrev Ends : World → List Made → List Made → Type 0
+  Ends s es later = Leads (object (will_fail (es ++ later)) s) (before es later) (object (will_fail later) (after (m given) s es))
 
   at_alike : (f : ℕ → Bool) (s : World) (p : ℕ) (move : OneMove) (o : Option (Seat Call Point)) → slice_get s.seats p ≡ o → (rests (slice_get (moves_at (m given) s p move o).next.seats p) ≡ true → f p ≡ false) → (move ≡ Weak → ⊥)
       → Alike f (moves_at (m given) s p move o) (moves_at (t given) (object f s) p (renamed move (f p)) (option_map (λ x. seat_named x (f p)) o))
   at_alike f s p move None there still ne = (refl, refl)
   at_alike f s p move (Some y) there still ne = moves_alike given f s p move y there still ne
 
-  happens_alike : (f : ℕ → Bool) (s : World) (p : ℕ) (move : OneMove) → (rests (slice_get (happens (m given) s p move).next.seats p) ≡ true → f p ≡ false) → (move ≡ Weak → ⊥)
+  pub happens_alike : (f : ℕ → Bool) (s : World) (p : ℕ) (move : OneMove) → (rests (slice_get (happens (m given) s p move).next.seats p) ≡ true → f p ≡ false) → (move ≡ Weak → ⊥)
       → Alike f (happens (m given) s p move) (happens (t given) (object f s) p (renamed move (f p)))
   happens_alike f s p move still ne = rw (named_get f s.seats p) (at_alike f s p move (slice_get s.seats p) refl still ne)
 
@@ -81,14 +116,14 @@ module _ (given : Option (Unit {0})) where
           let i : x ≡ Calling (TryCallOnceOk v) failed h = cc (d) in rw i refl
       by_place q x e false other = ap (seat_named x) (others q (eqb-false p q other))
 
-  weak_alike : (s : World) (p : ℕ) (es : List Made) (o : Option (Seat Call Point)) → slice_get s.seats p ≡ o → is_played (moves_at (m given) s p Weak o).outcome ≡ true
+  pub weak_alike : (s : World) (p : ℕ) (es : List Made) (o : Option (Seat Call Point)) → slice_get s.seats p ≡ o → is_played (moves_at (m given) s p Weak o).outcome ≡ true
       → object (will_fail ((p, Weak) ∷ es)) s ≡ object (will_fail es) (moves_at (m given) s p Weak o).next
   weak_alike s p es (Some (Calling (TryCallOnceOk v) (at Run) h)) there played =
       ap (λ xs. let o : Object = record { words = s.words; value = s.value; seats = xs } in o) (failed_seats (will_fail ((p, Weak) ∷ es)) (will_fail es) s.seats p v h there (rw (eq-eqb p p refl) refl) (λ q ne. rw (ne_eqb p q ne) refl))
   weak_alike s p es _ there played = absurd (let d : false ≡ true = played in cc)
 
   -- what comes later says of another party what it said, and of a party that rests nothing
-  named_later : (s : World) (p : ℕ) (move : OneMove) (es : List Made) (o : Option (Seat Call Point)) → slice_get s.seats p ≡ o → is_played (moves_at (m given) s p move o).outcome ≡ true → (move ≡ Weak → ⊥)
+  pub named_later : (s : World) (p : ℕ) (move : OneMove) (es : List Made) (o : Option (Seat Call Point)) → slice_get s.seats p ≡ o → is_played (moves_at (m given) s p move o).outcome ≡ true → (move ≡ Weak → ⊥)
       → object (will_fail ((p, move) ∷ es)) s ≡ object (will_fail es) s
   named_later s p move es o there played ne =
       ap (λ xs. let o : Object = record { words = s.words; value = s.value; seats = xs } in o) (named_alike (will_fail ((p, move) ∷ es)) (will_fail es) s.seats (λ q x e. by_place q x e (p == q) refl))
@@ -108,29 +143,40 @@ module _ (given : Option (Unit {0})) where
   both_true : (a b : Bool) → a ≡ true → b ≡ true → (a && b) ≡ true
   both_true a b is also = rw (is, also) refl
 
-  other_alike : (s : World) (p : ℕ) (move : OneMove) (es : List Made) → is_played (happens (m given) s p move).outcome ≡ true → list_all is_played (outcomes (m given) (happens (m given) s p move).next es) ≡ true → (move ≡ Weak → ⊥)
-      → Ends (happens (m given) s p move).next es
-      → Leads (object (will_fail ((p, move) ∷ es)) s) ((p, renamed move (will_fail es p)) ∷ foretold es) (object (λ q. false) (after (m given) s ((p, move) ∷ es)))
-  other_alike s p move es head tail ne ends =
+  other_alike : (s : World) (p : ℕ) (move : OneMove) (es schedule : List Made) (end : Object) → is_played (happens (m given) s p move).outcome ≡ true → list_all is_played (outcomes (m given) (happens (m given) s p move).next es) ≡ true → (move ≡ Weak → ⊥)
+      → Leads (object (will_fail es) (happens (m given) s p move).next) schedule end
+      → Leads (object (will_fail ((p, move) ∷ es)) s) ((p, renamed move (will_fail es p)) ∷ schedule) end
+  other_alike s p move es schedule end head tail ne ends =
       let s' : World = (happens (m given) s p move).next in
       let alike = happens_alike (will_fail es) s p move (λ still. quiet es s' p tail still) ne in
-      subst (λ o. Leads o ((p, renamed move (will_fail es p)) ∷ foretold es) (object (λ q. false) (after (m given) s' es))) (sym (named_later s p move es (slice_get s.seats p) refl head ne))
-      (ap (λ o. after (t given) o (foretold es)) alike.0 ∙ ends.0, both_true _ _ (alike.1 ∙ head) (ap (λ o. list_all is_played (outcomes (t given) o (foretold es))) alike.0 ∙ ends.1))
+      subst (λ o. Leads o ((p, renamed move (will_fail es p)) ∷ schedule) end) (sym (named_later s p move es (slice_get s.seats p) refl head ne))
+      (ap (λ o. after (t given) o schedule) alike.0 ∙ ends.0, both_true _ _ (alike.1 ∙ head) (ap (λ o. list_all is_played (outcomes (t given) o schedule)) alike.0 ∙ ends.1))
 
-  run_alike : (es : List Made) (s : World) → list_all is_played (outcomes (m given) s es) ≡ true → Ends s es
-  run_alike [] s played = (refl, refl)
-  run_alike (e ∷ es) s played =
+  run_alike : (es later : List Made) (s : World) → list_all is_played (outcomes (m given) s (es ++ later)) ≡ true → Ends s es later
+  run_alike [] later s played = (refl, refl)
+  run_alike (e ∷ es) later s played =
       let s' : World = (happens (m given) s e.0 e.1).next in
-      let each = and_parts (is_played (happens (m given) s e.0 e.1).outcome) (list_all is_played (outcomes (m given) s' es)) played in
-      one_more s e.0 e.1 es each.0 each.1 (run_alike es s' each.1)
+      let each = and_parts (is_played (happens (m given) s e.0 e.1).outcome) (list_all is_played (outcomes (m given) s' (es ++ later))) played in
+      one_more s e.0 e.1 es later each.0 each.1 (run_alike es later s' each.1)
     where
-      one_more : (s : World) (p : ℕ) (move : OneMove) (es : List Made) → is_played (happens (m given) s p move).outcome ≡ true → list_all is_played (outcomes (m given) (happens (m given) s p move).next es) ≡ true
-          → Ends (happens (m given) s p move).next es → Ends s ((p, move) ∷ es)
-      one_more s p Weak es head tail ends = subst (λ o. Leads o (foretold es) (object (λ q. false) (after (m given) s ((p, Weak) ∷ es)))) (sym (weak_alike s p es (slice_get s.seats p) refl head)) ends
-      one_more s p move es head tail ends = other_alike s p move es head tail (λ e. absurd (cc e)) ends
+      one_more : (s : World) (p : ℕ) (move : OneMove) (es later : List Made) → is_played (happens (m given) s p move).outcome ≡ true → list_all is_played (outcomes (m given) (happens (m given) s p move).next (es ++ later)) ≡ true
+          → Ends (happens (m given) s p move).next es later → Ends s ((p, move) ∷ es) later
+      one_more s p Weak es later head tail ends = subst (λ o. Leads o (before es later) (object (will_fail later) (after (m given) s ((p, Weak) ∷ es)))) (sym (weak_alike s p (es ++ later) (slice_get s.seats p) refl head)) ends
+      one_more s p move es later head tail ends = other_alike s p move (es ++ later) (before es later) (object (will_fail later) (after (m given) s ((p, move) ∷ es))) head tail (λ e. absurd (cc e)) ends
+
+  -- where others follow these moves: their part of the schedule leads the object to where they lead
+  pub leads_on : (es later : List Made) (s : World) → list_all is_played (outcomes (m given) s (es ++ later)) ≡ true
+      → after (t given) (object (will_fail (es ++ later)) s) (take (length (foretold es)) (foretold (es ++ later))) ≡ object (will_fail later) (after (m given) s es)
+  leads_on es later s played = ap (after (t given) (object (will_fail (es ++ later)) s)) (till es later) ∙ (run_alike es later s played).0
+
+  -- and the whole of them
+  pub all_alike : (es : List Made) (s : World) → list_all is_played (outcomes (m given) s es) ≡ true → Leads (object (will_fail es) s) (foretold es) (object (λ p. false) (after (m given) s es))
+  all_alike es s played =
+      subst (λ xs. Leads (object (will_fail xs) s) (foretold es) (object (λ p. false) (after (m given) s es))) (append-nil es)
+      (subst (λ ys. Leads (object (will_fail (es ++ [])) s) ys (object (λ p. false) (after (m given) s es))) (before_nil es) (run_alike es [] s (subst (λ xs. list_all is_played (outcomes (m given) s xs) ≡ true) (sym (append-nil es)) played)))
 
 -- ---- from the beginning to where all parties stand between two steps
-named_kept : (c : Call) → named c false ≡ c
+pub named_kept : (c : Call) → named c false ≡ c
 named_kept (TryCallOnceOk v) = refl
 named_kept c = refl
 
@@ -148,15 +194,15 @@ module _ (given : Option (Unit {0})) where
   places (Some Reading ∷ came) more = ap (λ ys. Idle ∷ ys) (places came more)
   places (Some (InCall c l) ∷ came) more = ap (λ d. Calling d l None ∷ seats_named (λ p. false) (sitting came ++ replicate more Idle)) (named_kept c) ∙ ap (λ ys. Calling c l None ∷ ys) (places came more)
 
-  first_named : (f : ℕ → Bool) (n : ℕ) → object f (at_first (m given) n) ≡ at_first (t given) n
+  pub first_named : (f : ℕ → Bool) (n : ℕ) → object f (at_first (m given) n) ≡ at_first (t given) n
   first_named f n = ap (λ xs. let o : Object = record { words = (t given).words; value = (t given).value; seats = xs } in o) (named_idle f n)
 
   leads : (log : List Made) (w : ℕ) (value : Option (Unit {0})) (came : List (Option View)) → LeadsTo (m given) seat_of words_of log w value came → IsPlayed (m given) (length came) log
       → LeadsTo (t given) place_of words_of (foretold log) w value came × IsPlayed (t given) (length came) (foretold log)
   leads log w value came led played = (
-    λ more. ap (λ o. after (t given) o (foretold log)) (sym (first_named (will_fail log) (length came + more))) ∙ (run_alike given log (at_first (m given) (length came + more)) (played more)).0 ∙ ap (object (λ p. false)) (led more)
+    λ more. ap (λ o. after (t given) o (foretold log)) (sym (first_named (will_fail log) (length came + more))) ∙ (all_alike given log (at_first (m given) (length came + more)) (played more)).0 ∙ ap (object (λ p. false)) (led more)
         ∙ ap (λ xs. let o : Object = record { words = w; value = value; seats = xs } in o) (places came more),
-    λ more. ap (λ o. list_all is_played (outcomes (t given) o (foretold log))) (sym (first_named (will_fail log) (length came + more))) ∙ (run_alike given log (at_first (m given) (length came + more)) (played more)).1,
+    λ more. ap (λ o. list_all is_played (outcomes (t given) o (foretold log))) (sym (first_named (will_fail log) (length came + more))) ∙ (all_alike given log (at_first (m given) (length came + more)) (played more)).1,
   )
 
 -- ---- the marks of the parties

@@ -29,6 +29,10 @@ module _ {T R : Type 0} where
   abbrev pub lock_of : Pass T R → ℕ
   lock_of it = it.account.seen.name
 
+  -- the value that the `Once` of a pass was made with, if any
+  abbrev pub given_of : Pass T R → Option (Unit {0})
+  given_of it = it.account.party.key.given.value
+
   -- the party of the pass: none before its first call
   abbrev pub party : Pass T R → Option (Numbered View)
   party it = it.account.party.view

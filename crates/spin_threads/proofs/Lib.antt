@@ -2,3 +2,4 @@ pub mod Between
 pub mod Calls
 pub mod Counts
 pub mod Moments
+pub mod Onces

@@ -1,4 +1,5 @@
 pub mod Between
 pub mod Counts
 pub mod Moments
+pub mod Onces
 pub mod Turns

@@ -1,5 +1,5 @@
 -- A moment in the history of a lock on threads.
-use Rattle.std.specs.Prelude.{◌≡◌, ℕ, Option, Some, List, slice_get}
+use Rattle.std.specs.Prelude.{◌≡◌, ℕ, Option, Some, List, [], ◌∷◌, ◌++◌, slice_get}
 use mathlib.Core.List.{IsPrefix}
 use Rattle.spin_step.specs.Plain.{Plain}
 use Rattle.spin_core.specs.Own.{Numbered}
@@ -8,6 +8,7 @@ use Rattle.spin_core.specs.Run.{IsPlayed}
 use Rattle.spin_model.specs.declared.place.Hold.{Hold}
 use Rattle.spin_model.specs.declared.place.Seat.{Seat}
 use Rattle.spin_model.specs.declared.place.Seat.TheVariants.{Calling}
+use Rattle.spin_model.specs.declared.schedule.Move.TheVariants.{Step}
 use Rattle.spin_model.specs.Machines.{Machine}
 use Rattle.spin_model.specs.Schedules.{Entry}
 use Rattle.spin_world_core.specs.Runs.{opening}
@@ -42,3 +43,18 @@ Was look answer s = look s ≡ answer
 abbrev pub Found : {W V C L A : Type 0} → Machine W V C L A → Type 0 → C → A → (Plain → Type 0) → Type 0
 Found {V = V} {C = C} m View call answer P =
     (before now : Option (Numbered View)) (old new : List (Entry C V)) → Made m before old now new (IsCall call answer) → AtAMoment m call now old new P
+
+-- A party was answered its call, and then the lock was so. Before the call the party knew the history `old`; after it, it is of this view, and knows `new`
+pub record AsAnswered {W V C L A X : Type 0} (m : Machine W V C L A) (call : C) (view : Option (Numbered X)) (old new : List (Entry C V)) (P : Plain → Type 0) : Type 0 where
+  pub party : ℕ
+  pub is_number : IsNumber party view
+  -- the history is that of a world of so many parties, in which no move of it is passed over
+  pub parties : ℕ
+  pub played : IsPlayed m parties new
+  -- it was so long before the step that answered, and the party was in this call
+  pub last : List (Entry C V)
+  pub behind : IsPrefix old last
+  pub before : IsPrefix (last ++ (party, Step) ∷ []) new
+  pub in_call : IsInCall call (slice_get (seen_after m (opening m parties) last).state.seats party)
+  -- and behind that step the lock was so
+  pub so : P (seen_after m (opening m parties) (last ++ (party, Step) ∷ [])).plain

@@ -11,8 +11,9 @@ ghost use Rattle.spin_flag.specs.Flag as spin_mutex;
 ghost use Rattle.spin_flag.specs.declared.spin.rule.View.{View as SpinMutexView};
 ghost use Rattle.spin_model.specs.Calls.{is_starved, readers, writers};
 ghost use Rattle.spin_model.specs.Ticket.{is_left};
-ghost use Rattle.spin_model.specs.declared.answer.Answer.TheVariants.{Refused, Locked, Starved, Is, Count};
+ghost use Rattle.spin_model.specs.declared.answer.Answer.TheVariants.{Refused, Locked, Starved, Is, Count, NoValue};
 ghost use Rattle.spin_model.specs.declared.flag.FlagCall.TheVariants as flag;
+ghost use Rattle.spin_model.specs.declared.once.OnceCall.TheVariants as once;
 ghost use Rattle.spin_model.specs.declared.ticket.TicketCall.TheVariants as ticket;
 ghost use Rattle.spin_rwlock.specs.Rw as rwlock;
 ghost use Rattle.spin_rwlock.specs.declared.rwlock.rule.View.{View as RwLockView};
@@ -22,7 +23,7 @@ ghost use Rattle.spin_seats.specs.Seats.{seats as as_many_as_seats};
 ghost use Rattle.spin_seats.specs.declared.calls.SeatsCall.TheVariants as call;
 ghost use Rattle.spin_seats.specs.declared.seats.pass.Pass.{Pass as SeatsPass};
 ghost use Rattle.spin_step.specs.Parties.{is_held};
-ghost use Rattle.spin_step.specs.Plain.{asking, count_kind, upgraders};
+ghost use Rattle.spin_step.specs.Plain.{asking, count_kind, is_nothing, upgraders};
 ghost use Rattle.spin_step_more.specs.Readers.{reader_limit};
 ghost use Rattle.spin_step_more.specs.Starvers.{most_starvers};
 ghost use Rattle.spin_step_more.specs.declared.fair_calls.FairCall.TheVariants as fair;
@@ -30,6 +31,7 @@ ghost use Rattle.spin_step_more.specs.declared.rw_calls.RwCall.TheVariants as rw
 ghost use Rattle.spin_ticket.specs.Queue as ticket_mutex;
 ghost use Rattle.spin_ticket.specs.declared.ticket.rule.View.{View as TicketMutexView};
 ghost use Rattle.spin_threads.specs.Moments.{AtAMoment, Was, Found};
+ghost use Rattle.spin_threads.specs.Onces.{FoundOnce, GaveOnce, has_value};
 
 /// If a pass tried once to acquire a `SpinMutex` and failed, a party held the lock at a moment while it tried.
 ///
@@ -243,4 +245,43 @@ pub fn a_refused_try_found_all_seats_taken()
     ensures { (n : ℕ) (before now : SeatsPass n) → WasRefused before now →
         AtAMoment (seats.model n) call.TryEnter now.account.permit.view (history before) (history now) (λ s.
         length s.holders ≡ as_many_as_seats n) }
+{}
+
+/// If a pass looked once whether a `Once` has a value, it was so at a moment while it looked.
+///
+/// # Contract
+/// `FoundOnce`, of the phase of the `Once`.
+///
+/// # Examples
+/// ```
+/// a_look_at_a_once_was_so_at_a_moment();
+/// let (there, pass) = pass.is_completed();
+/// ```
+pub fn a_look_at_a_once_was_so_at_a_moment()
+    ensures { (there : Bool) → FoundOnce once.IsCompleted (Is there) (Was has_value there) }
+{}
+
+/// If a pass asked a `Once` for its value by `get` or `poll` and was told that there is none, it was so at a moment of
+/// the call. For `poll` no closure ran then either.
+///
+/// # Contract
+/// `FoundOnce`, of the phase of the `Once`.
+///
+/// # Examples
+/// As [`a_look_at_a_once_was_so_at_a_moment`].
+pub fn a_call_without_a_value_found_none_at_a_moment()
+    ensures get { FoundOnce once.Get NoValue (Was has_value false) }
+    ensures poll { FoundOnce once.Poll NoValue (λ s. is_nothing s.phase ≡ true) }
+{}
+
+/// If a pass was given a value by a `Once` or a `LazyLock`, whatever it called, there was a value as the call was
+/// answered.
+///
+/// # Contract
+/// `GaveOnce`, which says so of each call with the answer `Value`.
+///
+/// # Examples
+/// As [`a_look_at_a_once_was_so_at_a_moment`].
+pub fn there_was_a_value_as_a_once_gave_it()
+    ensures { GaveOnce }
 {}

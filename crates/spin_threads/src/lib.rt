@@ -14,8 +14,9 @@ mod limits;
 pub mod uses;
 
 pub use answers::{
-    a_count_of_a_rwlock_was_so_at_a_moment, a_count_of_seats_was_so_at_a_moment,
-    a_look_at_a_fair_mutex_was_so_at_a_moment, a_look_at_a_spin_mutex_was_so_at_a_moment,
+    a_call_without_a_value_found_none_at_a_moment, a_count_of_a_rwlock_was_so_at_a_moment,
+    a_count_of_seats_was_so_at_a_moment, a_look_at_a_fair_mutex_was_so_at_a_moment,
+    a_look_at_a_once_was_so_at_a_moment, a_look_at_a_spin_mutex_was_so_at_a_moment,
     a_look_at_a_ticket_mutex_was_so_at_a_moment, a_refused_starve_found_as_many_as_may_starve,
     a_refused_starver_was_kept_out_at_a_moment, a_refused_try_found_all_seats_taken,
     a_refused_try_found_the_fair_mutex_held_or_starved, a_refused_try_found_the_spin_mutex_held,
@@ -23,6 +24,7 @@ pub use answers::{
     a_refused_try_read_was_kept_out_at_a_moment, a_refused_try_upgrade_was_kept_out_at_a_moment,
     a_refused_try_upgradeable_read_was_kept_out_at_a_moment,
     a_refused_try_write_was_kept_out_at_a_moment, the_reason_for_a_refusal_was_so_at_a_moment,
+    there_was_a_value_as_a_once_gave_it,
 };
 pub use laws::{
     between_any_two_steps_of_a_fair_mutex, between_any_two_steps_of_a_once,

@@ -8,6 +8,10 @@ ghost use Rattle.spin_model.specs.Calls.{readers};
 ghost use Rattle.spin_model.specs.Ticket.{is_left};
 ghost use Rattle.spin_model.specs.declared.flag.FlagCall.TheVariants as flag;
 ghost use Rattle.spin_model.specs.declared.ticket.TicketCall.TheVariants as ticket;
+ghost use Rattle.spin_model.specs.Once.{once_machine};
+ghost use Rattle.spin_model.specs.declared.once.OnceCall.TheVariants as once;
+ghost use Rattle.spin_once.specs.Foretold.{foretold};
+ghost use Rattle.spin_once.specs.OncePasses as once_passes;
 ghost use Rattle.spin_rwlock.specs.Rw as rwlock;
 ghost use Rattle.spin_rwlock.specs.RwPasses as rw_passes;
 ghost use Rattle.spin_step.specs.Parties.{is_held};
@@ -16,15 +20,17 @@ ghost use Rattle.spin_step_more.specs.declared.rw_calls.RwCall.TheVariants as rw
 ghost use Rattle.spin_ticket.specs.Queue as ticket_mutex;
 ghost use Rattle.spin_ticket.specs.TicketPasses as ticket_passes;
 ghost use Rattle.spin_threads.specs.Moments.{AtAMoment, Was};
+ghost use Rattle.spin_threads.specs.Onces.{foretold_till, has_value};
 
 use crate::answers::{
     a_count_of_a_rwlock_was_so_at_a_moment, a_look_at_a_fair_mutex_was_so_at_a_moment,
-    a_look_at_a_spin_mutex_was_so_at_a_moment,
+    a_look_at_a_once_was_so_at_a_moment, a_look_at_a_spin_mutex_was_so_at_a_moment,
     a_refused_try_found_the_ticket_mutex_held_or_used_up,
 };
 use spin_core::trace::Watch;
 use spin_fair::fair::Pass as FairPass;
 use spin_flag::spin::Pass as SpinPass;
+use spin_once::once::Pass as OncePass;
 use spin_rwlock::rwlock::Pass as RwPass;
 use spin_ticket::ticket::{Entry, Pass as TicketPass, TicketMutexGuard};
 
@@ -69,4 +75,15 @@ pub fn count_the_readers<T, R>(pass: RwPass<'_, T, R>) -> (usize, RwPass<'_, T, 
     a_count_of_a_rwlock_was_so_at_a_moment();
     let (readers, pass) = pass.reader_count();
     (readers, pass)
+}
+
+/// Looks once whether a `Once` has a value.
+pub fn look_at_a_once<T, R>(pass: OncePass<'_, T, R>) -> (bool, OncePass<'_, T, R>)
+    ensures { AtAMoment (once_machine (once_passes.given_of pass.entry)) once.IsCompleted (once_passes.party result.1)
+        (foretold_till (once_passes.history pass.entry) (once_passes.history result.1))
+        (foretold (once_passes.history result.1)) (Was has_value result.0) }
+{
+    a_look_at_a_once_was_so_at_a_moment();
+    let (there, pass) = pass.is_completed();
+    (there, pass)
 }

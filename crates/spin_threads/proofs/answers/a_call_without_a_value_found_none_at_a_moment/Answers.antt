@@ -1,0 +1,13 @@
+use Rattle.std.proofs.Common.{◌≡◌, true, false}
+use Rattle.spin_step.specs.Plain.{is_nothing}
+use Rattle.spin_model.specs.declared.answer.Answer.TheVariants.{NoValue}
+use Rattle.spin_model.specs.declared.once.OnceCall.TheVariants.{Get, Poll}
+use Rattle.spin_threads.specs.Onces.{has_value}
+use Rattle.spin_threads.proofs.Onces.{found_once}
+use Rattle.spin_threads.proofs.answers.a_call_without_a_value_found_none_at_a_moment.Goals as goal
+
+pub returns-clause-get : goal.returns-clause-get
+returns-clause-get g = found_once Get NoValue (λ s. has_value s ≡ false) (λ given h p span some. some)
+
+pub returns-clause-poll : goal.returns-clause-poll
+returns-clause-poll g = found_once Poll NoValue (λ s. is_nothing s.phase ≡ true) (λ given h p span some. some)

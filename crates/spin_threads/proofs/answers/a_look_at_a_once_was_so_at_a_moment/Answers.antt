@@ -1,0 +1,9 @@
+use Rattle.std.proofs.Common.{◌≡◌}
+use Rattle.spin_model.specs.declared.answer.Answer.TheVariants.{Is}
+use Rattle.spin_model.specs.declared.once.OnceCall.TheVariants.{IsCompleted}
+use Rattle.spin_threads.specs.Onces.{has_value}
+use Rattle.spin_threads.proofs.Onces.{found_once}
+use Rattle.spin_threads.proofs.answers.a_look_at_a_once_was_so_at_a_moment.Goals as goal
+
+pub returns : goal.returns
+returns g there = found_once IsCompleted (Is there) (λ s. has_value s ≡ there) (λ given h p span some. some)
