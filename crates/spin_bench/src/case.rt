@@ -9,7 +9,7 @@ mod rounds;
 mod seated;
 mod world;
 
-pub use locks::{Adds, OneWriter, Readers, Starvers, Upgrades};
+pub use locks::{Adds, OneWriter, PassAdds, PassReaders, Readers, Starvers, Upgrades};
 pub use onces::{Alone, FirstCalls, Forces, Gets, LateCalls, complete};
 pub use rounds::Rounds;
 pub use seated::Seated;

@@ -1,7 +1,7 @@
 //! What the program does and writes.
 use crate::case::{
-    Adds, Alone, Calls, Case, EVENTS, FirstCalls, Floor, Forces, Gets, LateCalls, OneWriter, Plays,
-    Readers, Rounds, Seated, Starvers, Upgrades, complete,
+    Adds, Alone, Calls, Case, EVENTS, FirstCalls, Floor, Forces, Gets, LateCalls, OneWriter,
+    PassAdds, PassReaders, Plays, Readers, Rounds, Seated, Starvers, Upgrades, complete,
 };
 use crate::team::Team;
 use spin_barrier::barrier::Barrier;
@@ -36,14 +36,16 @@ const ALONE: [&str; 8] = [
 ];
 
 /// The cases that threads do beside one another, but for `barrier_rounds`.
-const BESIDE: [&str; 11] = [
+const BESIDE: [&str; 13] = [
     "floor",
     "spin_mutex",
+    "spin_mutex_pass",
     "mutex",
     "mutex_yield",
     "ticket_mutex",
     "fair_mutex",
     "rw_read",
+    "rw_read_pass",
     "rw_write",
     "rw_one_writer",
     "once_get",
@@ -153,11 +155,13 @@ fn on_name<R: Threads + Wait + Clock + Print + AllocGlobal + Sync>(
     match name {
         "floor" => on_case(rt, task, threads, Calls(Floor::new())),
         "spin_mutex" => on_case(rt, task, threads, Adds(<SpinMutex<u64>>::new(0))),
+        "spin_mutex_pass" => on_case(rt, task, threads, PassAdds(SpinMutex::new(0))),
         "mutex" => on_case(rt, task, threads, Adds(<Mutex<u64>>::new(0))),
         "mutex_yield" => on_case(rt, task, threads, Adds(<Mutex<u64, Yield>>::new(0))),
         "ticket_mutex" => on_case(rt, task, threads, Adds(<TicketMutex<u64>>::new(0))),
         "fair_mutex" => on_case(rt, task, threads, Adds(<FairMutex<u64>>::new(0))),
         "rw_read" => on_case(rt, task, threads, Calls(Readers(RwLock::new(1)))),
+        "rw_read_pass" => on_case(rt, task, threads, PassReaders(RwLock::new(1))),
         "rw_write" => on_case(rt, task, threads, Adds(<RwLock<u64>>::new(0))),
         "rw_one_writer" => on_case(rt, task, threads, Calls(OneWriter(RwLock::new(1)))),
         "once_get" => on_case(rt, task, threads, Calls(Gets(complete(rt)))),

@@ -1,7 +1,7 @@
 //! The calls of the locks.
 use super::{Call, Case};
 use spin_core::lock::Lock;
-use spin_mutex::mutex::FairMutex;
+use spin_mutex::mutex::{FairMutex, SpinMutex};
 use spin_rwlock::rwlock::RwLock;
 use std::sync;
 use std::sync::Wait;
@@ -25,6 +25,28 @@ impl<L: Lock<u64> + Drop> Case for Adds<L> {
     }
 }
 
+/// As [`Adds`] of a `SpinMutex`, where each worker has a pass.
+#[derive(Drop)]
+pub struct PassAdds(pub SpinMutex<u64>);
+
+impl Case for PassAdds {
+    #[inline(never)]
+    fn repeat<W: Wait>(&self, rt: &W, _worker: usize, calls: u64) -> u64 {
+        let mut pass = self.0.pass();
+        for _ in 0..calls {
+            let (mut sum, seen) = pass.lock(rt);
+            *sum = sum.wrapping_add(1);
+            pass = SpinMutex::unlock(sum, seen);
+        }
+        0
+    }
+
+    /// The number, or 0 where a call has left the lock held.
+    fn added(self) -> u64 {
+        self.0.try_with(|sum| *sum).unwrap_or(0)
+    }
+}
+
 /// A lock of a 1 that every worker only reads.
 #[derive(Drop)]
 pub struct Readers(pub RwLock<u64>);
@@ -33,6 +55,27 @@ impl Call for Readers {
     #[inline(always)]
     fn call<W: Wait>(&self, rt: &W, _worker: usize) -> u64 {
         *self.0.read(rt)
+    }
+
+    fn added(self) -> u64 {
+        self.0.into_inner().wrapping_sub(1)
+    }
+}
+
+/// As [`Readers`], where each worker has a pass.
+#[derive(Drop)]
+pub struct PassReaders(pub RwLock<u64>);
+
+impl Case for PassReaders {
+    #[inline(never)]
+    fn repeat<W: Wait>(&self, rt: &W, _worker: usize, calls: u64) -> u64 {
+        let (mut pass, mut seen) = (self.0.pass(), 0u64);
+        for _ in 0..calls {
+            let (guard, known) = pass.read(rt);
+            seen = seen.wrapping_add(*guard);
+            pass = RwLock::unlock_shared(guard, known);
+        }
+        seen
     }
 
     fn added(self) -> u64 {
