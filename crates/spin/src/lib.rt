@@ -24,9 +24,13 @@ pub mod step;
 ///
 /// # Examples
 /// ```
-/// let one: Barrier = Barrier::new(1);
-/// let waited: barrier::BarrierWaitResult = one.wait(&rt);
-/// equal(&rt, waited.is_leader(), true);
+/// use spin::Barrier;
+/// use std::thread;
+///
+/// let both: Barrier = Barrier::new(2);
+/// let wait = || both.wait(&rt).is_leader();
+/// let (first, second) = thread::join(&rt, &wait, &wait);
+/// assert!(rt; first != second);
 /// ```
 pub type Barrier = barrier::Barrier<Spin>;
 
@@ -37,10 +41,16 @@ pub type Barrier = barrier::Barrier<Spin>;
 ///
 /// # Examples
 /// ```
-/// let total = Mutex::new(0);
-/// let lent = &total;
-/// thread::join(rt, || add_one(rt, lent), || add_one(rt, lent));
-/// total.into_inner()
+/// use spin::Mutex;
+/// use std::thread;
+///
+/// let total = Mutex::new(0u64);
+/// let add = || {
+///     let mut guard = total.lock(&rt);
+///     *guard = guard.saturating_add(1);
+/// };
+/// thread::join(&rt, &add, &add);
+/// assert_eq!(rt; total.into_inner(), 2);
 /// ```
 pub type Mutex<T> = mutex::Mutex<T, Spin>;
 
@@ -51,11 +61,12 @@ pub type Mutex<T> = mutex::Mutex<T, Spin>;
 ///
 /// # Examples
 /// ```
-/// let lock: RwLock<u64> = RwLock::new(1);
-/// let (first, second) = thread::join(&rt, || lock.read(&rt), || lock.read(&rt));
-/// let refused = lock.try_write().is_none();
-/// equal(&rt, (*first, *second), (1, 1));
-/// equal(&rt, (lock.reader_count(), refused), (2, true));
+/// use spin::RwLock;
+///
+/// let limit: RwLock<u64> = RwLock::new(3);
+/// let (first, second) = (limit.read(&rt), limit.read(&rt));
+/// assert_eq!(rt; (*first, *second), (3, 3));
+/// assert!(rt; limit.try_write().is_none());
 /// ```
 pub type RwLock<T> = rwlock::RwLock<T, Spin>;
 
@@ -66,12 +77,14 @@ pub type RwLock<T> = rwlock::RwLock<T, Spin>;
 ///
 /// # Examples
 /// ```
-/// let guard = limit.upgradeable_read(rt);
-/// if least <= *guard {
-///     return *guard;
-/// }
-/// let mut guard = guard.upgrade(rt);
-/// *guard = least;
+/// use spin::RwLock;
+///
+/// let limit: RwLock<u64> = RwLock::new(3);
+/// let guard = limit.upgradeable_read(&rt);
+/// let mut writer = guard.upgrade(&rt);
+/// *writer = 4;
+/// drop(writer);
+/// assert_eq!(rt; limit.into_inner(), 4);
 /// ```
 pub type RwLockUpgradableGuard<'a, T> = rwlock::RwLockUpgradableGuard<'a, T, Spin>;
 
@@ -82,9 +95,13 @@ pub type RwLockUpgradableGuard<'a, T> = rwlock::RwLockUpgradableGuard<'a, T, Spi
 ///
 /// # Examples
 /// ```
-/// let mut guard = guard.upgrade(rt);
-/// *guard = least;
-/// *guard.downgrade()
+/// use spin::RwLock;
+///
+/// let limit: RwLock<u64> = RwLock::new(3);
+/// let mut writer = limit.write(&rt);
+/// *writer = 4;
+/// let reader = writer.downgrade();
+/// assert_eq!(rt; (*reader, *limit.read(&rt)), (4, 4));
 /// ```
 pub type RwLockWriteGuard<'a, T> = rwlock::RwLockWriteGuard<'a, T, Spin>;
 
@@ -95,10 +112,13 @@ pub type RwLockWriteGuard<'a, T> = rwlock::RwLockWriteGuard<'a, T, Spin>;
 ///
 /// # Examples
 /// ```
-/// let once: Once<u64> = Once::new();
-/// equal(&rt, *once.call_once(&rt, || 6), 6);
-/// let unit: Once = Once::initialized(());
-/// equal(&rt, unit.is_completed(), true);
+/// use spin::Once;
+///
+/// let port: Once<u16> = Once::new();
+/// assert_eq!(rt; port.get().copied(), None);
+/// assert_eq!(rt; *port.call_once(&rt, || 80), 80);
+/// assert_eq!(rt; *port.call_once(&rt, || 81), 80);
+/// assert_eq!(rt; port.get().copied(), Some(80));
 /// ```
 pub type Once<T = ()> = once::Once<T, Spin>;
 
@@ -109,8 +129,12 @@ pub type Once<T = ()> = once::Once<T, Spin>;
 ///
 /// # Examples
 /// ```
-/// let lazy: LazyLock<u64, _> = LazyLock::new(|| 7);
-/// equal(&rt, *LazyLock::force(&lazy, &rt), 7);
+/// use spin::LazyLock;
+/// use std::thread;
+///
+/// let square: LazyLock<u64, _> = LazyLock::new(|| 7 * 7);
+/// let force = || *LazyLock::force(&square, &rt);
+/// assert_eq!(rt; thread::join(&rt, &force, &force), (49, 49));
 /// ```
 pub type LazyLock<T, F = fn() -> T> = lazylock::LazyLock<T, F, Spin>;
 
@@ -118,11 +142,5 @@ pub type LazyLock<T, F = fn() -> T> = lazylock::LazyLock<T, F, Spin>;
 ///
 /// # Contract
 /// That of `lazylock::LazyLock`.
-///
-/// # Examples
-/// ```
-/// let lazy: Lazy<u64, _> = Lazy::new(|| 8);
-/// equal(&rt, *Lazy::force(&lazy, &rt), 8);
-/// ```
 #[deprecated(note = "use `spin::LazyLock`")]
 pub type Lazy<T, F = fn() -> T> = lazylock::LazyLock<T, F, Spin>;

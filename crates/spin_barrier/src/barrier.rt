@@ -17,9 +17,17 @@ use std::sync::Wait;
 ///
 /// # Examples
 /// ```
-/// let one: Barrier = Barrier::new(1);
-/// let waited: barrier::BarrierWaitResult = one.wait(&rt);
-/// equal(&rt, waited.is_leader(), true);
+/// use spin::Yield;
+/// use spin::barrier::Barrier;
+/// use std::thread;
+///
+/// let both: Barrier<Yield> = Barrier::new(2);
+/// let two_rounds = || {
+///     both.wait(&rt);
+///     both.wait(&rt).is_leader()
+/// };
+/// let (first, second) = thread::join(&rt, &two_rounds, &two_rounds);
+/// assert!(rt; first != second);
 /// ```
 #[derive(Drop)]
 pub struct Barrier<R = Spin> {
@@ -27,12 +35,6 @@ pub struct Barrier<R = Spin> {
 }
 
 /// The answer of [`Barrier::wait`]: whether the thread leads its group.
-///
-/// # Examples
-/// ```
-/// let waited: barrier::BarrierWaitResult = one.wait(&rt);
-/// equal(&rt, waited.is_leader(), true);
-/// ```
 #[derive(Clone, Copy)]
 pub struct BarrierWaitResult {
     leads: bool,
@@ -43,14 +45,6 @@ impl BarrierWaitResult {
     ///
     /// # Contract
     /// Each call on the same answer returns the same.
-    ///
-    /// # Examples
-    /// ```
-    /// let barrier: Barrier = Barrier::new(n);
-    /// for _ in 0..3 {
-    ///     equal(&rt, barrier.wait(&rt).is_leader(), true);
-    /// }
-    /// ```
     pub fn is_leader(&self) -> bool
         ensures { result ≡ self.now.leads }
     {
@@ -64,8 +58,10 @@ impl<R> Barrier<R> {
     ///
     /// # Examples
     /// ```
-    /// let one: barrier::Barrier<Yield> = barrier::Barrier::new(1);
-    /// equal(&rt, one.wait(&rt).is_leader(), true);
+    /// use spin::Barrier;
+    ///
+    /// let one: Barrier = Barrier::new(0);
+    /// assert!(rt; one.wait(&rt).is_leader());
     /// ```
     pub fn new(n: usize) -> Self {
         Barrier {
@@ -83,15 +79,6 @@ impl<R: RelaxStrategy> Barrier<R> {
     /// # Contract
     /// Whether and when the call returns is not promised. That a thread stays for its group and that one leads is known
     /// of the step functions ([`State::arrive`] and `may_leave`); of this call a test shows it.
-    ///
-    /// # Examples
-    /// ```
-    /// self.results.lock(self.rt).add(self.gain, &mut share);
-    /// if self.barrier.wait(self.rt).is_leader() {
-    ///     self.results.lock(self.rt).fold();
-    /// }
-    /// self.barrier.wait(self.rt);
-    /// ```
     pub fn wait<W: Wait>(&self, rt: &W) -> BarrierWaitResult {
         let mut state = self.state.lock(rt);
         let leads = state.arrive();

@@ -3,36 +3,15 @@ use std::sync::Wait;
 
 /// What each of a team of workers passes before its first step. The caller brings it: so a test sees which workers came,
 /// and that they are there at once.
-///
-/// # Examples
-/// ```
-/// impl Gate for Turnstile {
-///     fn before<R: Wait>(&self, rt: &R, worker: usize) {
-///         let _ = rt;
-///         self.passed
-///             .fetch_add(1 << (16 * worker.min(3)), Ordering::SeqCst);
-///     }
-/// }
-/// ```
 pub trait Gate {
     /// Lets the worker pass. The call may wait.
     ///
     /// # Contract
     /// No clause. Whether and when the call returns is not promised.
-    ///
-    /// # Examples
-    /// ```
-    /// self.gate.before(self.rt, worker);
-    /// ```
     fn before<R: Wait>(&self, rt: &R, worker: usize);
 }
 
 /// A gate that lets every worker pass at once.
-///
-/// # Examples
-/// ```
-/// let total = count_with(rt, &alloc, &Open, asked.workers, asked.times)?;
-/// ```
 #[derive(Clone, Copy)]
 pub struct Open;
 

@@ -22,14 +22,6 @@ pub use steps::Play;
 /// A rule: what holds of a cell's words and of its parties between any two steps.
 ///
 /// `V` is what a party is to the lock, a plain `Copy` enum of the lock's own, and `T` the value's type.
-///
-/// # Examples
-/// ```
-/// impl Rule<u64, Bystander> for AnyWords {
-///     type Key = Watch<()>;
-///
-///     type Second = Trace<(), u64>;
-/// ```
 pub trait Rule<T, V> {
     // What is settled when a cell is made, as the closure of a lazy value.
     type Key;
@@ -45,13 +37,6 @@ pub trait Rule<T, V> {
 /// value.
 ///
 /// In a clause a cell is its key.
-///
-/// # Examples
-/// ```
-/// let trace = Trace::new(2);
-/// let start = trace.watch();
-/// Cell::new(5, 1, trace, &start)
-/// ```
 pub struct Cell<T, V, P: Rule<T, V>> {
     marker: PhantomData<(V, P)>,
     first: u64,
@@ -76,12 +61,6 @@ impl<T, V, P: Rule<T, V>> Move for Cell<T, V, P> {
 ///
 /// A permit cannot be dropped. [`leave`](Permit::leave) ends it if its party is at rest, and [`leak`](Permit::leak)
 /// keeps its use of the value.
-///
-/// # Examples
-/// ```
-/// let (party, _) = cell.enter().store::<Mark>(3, Watch::nothing());
-/// party.leave();
-/// ```
 pub struct Permit<'a, T, V, P: Rule<T, V>> {
     cell: *const Cell<T, V, P>,
     marker: PhantomData<&'a T>,
@@ -98,12 +77,6 @@ impl<'a, T, V, P: Rule<T, V>> Model for Permit<'a, T, V, P> {
 
 /// The right to write the value, which its party has alone. [`into_permit`](WritePermit::into_permit) turns it back,
 /// and [`leak`](WritePermit::leak) keeps it for good.
-///
-/// # Examples
-/// ```
-/// *writer.get_mut() = Stage::Done(next);
-/// let permit = writer.into_permit();
-/// ```
 pub struct WritePermit<'a, T, V, P: Rule<T, V>> {
     cell: *const Cell<T, V, P>,
     marker: PhantomData<&'a T>,
@@ -125,13 +98,6 @@ impl<T, V, P: Rule<T, V>> Cell<T, V, P> {
     /// # Contract
     /// The rule has to hold of the words (`Opens`). If parties read the value at the same time, whoever may share the
     /// rule's own type has to be allowed to share the value (`Known`).
-    ///
-    /// # Examples
-    /// ```
-    /// let trace = Trace::new(2);
-    /// let start = trace.watch();
-    /// Cell::new(5, 1, trace, &start)
-    /// ```
     pub fn new(value: T, first: u64, second: P::Second, key: &P::Key) -> Cell<T, V, P>
         requires known { Known (P.ways key.now) P.row P.Second.row T.row }
         requires rule { Opens (P.holds key.now) (P.ways key.now) first second value }
@@ -147,11 +113,6 @@ impl<T, V, P: Rule<T, V>> Cell<T, V, P> {
     }
 
     /// Consumes the cell, and returns its value. It reads no word.
-    ///
-    /// # Examples
-    /// ```
-    /// equal(&rt, cell.into_inner(), 7);
-    /// ```
     pub fn into_inner(self) -> T {
         let Self {
             marker: _,
@@ -164,12 +125,6 @@ impl<T, V, P: Rule<T, V>> Cell<T, V, P> {
     }
 
     /// Returns a permit that has taken no step.
-    ///
-    /// # Examples
-    /// ```
-    /// let (found, party, _) = cell.enter().load_second::<TellNothing>(Watch::nothing());
-    /// equal(&rt, found, 2);
-    /// ```
     pub fn enter(&self) -> Permit<'_, T, V, P>
         ensures key { result.key ≡ self.now }
         ensures fresh { (result.view ≡ None) × (result.value ≡ None) }
@@ -186,11 +141,6 @@ impl<T, V, E, S, P: Rule<T, V, Second = Trace<E, S>>> Cell<T, V, P> {
     ///
     /// # Contract
     /// The caller picks its name (`name`): the one that the rule gives the trace, by the cell's key.
-    ///
-    /// # Examples
-    /// ```
-    /// Pass::new(self.cell.enter(), self.cell.watch())
-    /// ```
     pub fn watch(&self) -> Watch<E>
         ghost name: { ℕ }
         ensures { (result.name ≡ name) × (result.entries ≡ []) }
@@ -208,11 +158,6 @@ impl<T, V, P: Rule<T, V>> Cell<T, V, P> {
     ///
     /// # Contract
     /// It has to be so that any value may take the place of one that no party uses (`Frees`). The key stays the same.
-    ///
-    /// # Examples
-    /// ```
-    /// *cell.get_mut() = 7;
-    /// ```
     pub fn get_mut(&mut self) -> &mut T
         requires { Frees (P.ways self.old).0 }
         ensures* keeps { sem 𝓛 (follows (the_row T.row V.row P.row P.Key.row P.Second.row (record { holds = P.holds; ways = P.ways })) T.row self.entry.ghost_name result.ghost_name (λ _. self.old)) }
@@ -223,12 +168,6 @@ impl<T, V, P: Rule<T, V>> Cell<T, V, P> {
 
 impl<'a, T, V, P: Rule<T, V>> Permit<'a, T, V, P> {
     /// Returns a reference to the value, for a party that reads it.
-    ///
-    /// # Examples
-    /// ```
-    /// equal(&rt, *first.get(), 7);
-    /// equal(&rt, *second.get(), 7);
-    /// ```
     pub fn get(&self) -> &T
         requires { use_of (P.ways self.now.key).1 self.now.view ≡ reads }
         ensures { Some result.now ≡ self.now.value }
@@ -238,14 +177,6 @@ impl<'a, T, V, P: Rule<T, V>> Permit<'a, T, V, P> {
 
     /// Returns a reference to the value for the rest of the cell's borrow, for a party that reads it. The party reads
     /// it for good.
-    ///
-    /// # Examples
-    /// ```
-    /// match permit.see() {
-    ///     Stage::Done(value) => value,
-    ///     Stage::Seed(_) => unreachable!(),
-    /// }
-    /// ```
     pub fn see(self) -> &'a T
         requires { use_of (P.ways self.key).1 self.view ≡ reads }
         ensures value { Some result.now ≡ self.entry.value }
@@ -257,11 +188,6 @@ impl<'a, T, V, P: Rule<T, V>> Permit<'a, T, V, P> {
 
     /// Like [`see`](Permit::see), and returns the permit too. Only where each party that reads the value reads it for
     /// good.
-    ///
-    /// # Examples
-    /// ```
-    /// let (slot, party) = party.show();
-    /// ```
     pub fn show(self) -> (&'a T, Permit<'a, T, V, P>)
         requires reads { use_of (P.ways self.key).1 self.view ≡ reads }
         requires fixed { Fixes (P.ways self.key).0 }
@@ -281,11 +207,6 @@ impl<'a, T, V, P: Rule<T, V>> Permit<'a, T, V, P> {
     }
 
     /// Turns the permit of a party that has the value alone into the right to write it.
-    ///
-    /// # Examples
-    /// ```
-    /// let mut writer = permit.into_writer();
-    /// ```
     pub fn into_writer(self) -> WritePermit<'a, T, V, P>
         requires { use_of (P.ways self.key).1 self.view ≡ writes }
         ensures same { (Some result.view ≡ self.entry.view) × (Some result.value ≡ self.entry.value) }
@@ -299,12 +220,6 @@ impl<'a, T, V, P: Rule<T, V>> Permit<'a, T, V, P> {
     }
 
     /// Ends the permit. The party has to be at rest: it does not use the value, and the rule holds as well without it.
-    ///
-    /// # Examples
-    /// ```
-    /// let (party, _) = cell.enter().store::<Mark>(3, Watch::nothing());
-    /// party.leave();
-    /// ```
     pub fn leave(self)
         requires { Rests (P.holds self.key) (P.ways self.key).1 self.view }
     {
@@ -313,11 +228,6 @@ impl<'a, T, V, P: Rule<T, V>> Permit<'a, T, V, P> {
 
     /// Ends the permit of a party that is at rest ([`leave`](Permit::leave)), or uses the value and keeps its use for
     /// good ([`leak`](Permit::leak)).
-    ///
-    /// # Examples
-    /// ```
-    /// party.finish();
-    /// ```
     pub fn finish(self)
         requires { Rests (P.holds self.key) (P.ways self.key).1 self.view ⊎ (use_of (P.ways self.key).1 self.view ≢ off) }
     {
@@ -326,11 +236,6 @@ impl<'a, T, V, P: Rule<T, V>> Permit<'a, T, V, P> {
 
     /// Ends the permit, and keeps its use of the value for good: a lock that the party holds stays held. A party that
     /// only waits cannot do so, since a queue would stop at it.
-    ///
-    /// # Examples
-    /// ```
-    /// self.into_permit().leak();
-    /// ```
     pub fn leak(self)
         requires { use_of (P.ways self.key).1 self.view ≢ off }
     {
@@ -340,14 +245,6 @@ impl<'a, T, V, P: Rule<T, V>> Permit<'a, T, V, P> {
 
 impl<'a, T, V, P: Rule<T, V>> WritePermit<'a, T, V, P> {
     /// Returns a reference to the value.
-    ///
-    /// # Examples
-    /// ```
-    /// let next = match writer.get() {
-    ///     Stage::Seed(seed) => seed.checked_add(1),
-    ///     Stage::Done(_) => unreachable!(),
-    /// };
-    /// ```
     pub fn get(&self) -> &T
         ensures { result.now ≡ self.now.value }
     {
@@ -355,11 +252,6 @@ impl<'a, T, V, P: Rule<T, V>> WritePermit<'a, T, V, P> {
     }
 
     /// Returns a mutable reference to the value for the rest of the cell's borrow. The party stays for good what it is.
-    ///
-    /// # Examples
-    /// ```
-    /// this.into_writer().leak()
-    /// ```
     pub fn leak(self) -> &'a mut T
         ensures { result.now ≡ self.entry.value }
     {
@@ -368,12 +260,6 @@ impl<'a, T, V, P: Rule<T, V>> WritePermit<'a, T, V, P> {
     }
 
     /// Turns the right to write back into a permit.
-    ///
-    /// # Examples
-    /// ```
-    /// *writer.get_mut() = Stage::Done(next);
-    /// let permit = writer.into_permit();
-    /// ```
     pub fn into_permit(self) -> Permit<'a, T, V, P>
         ensures use_of_view { (P.ways self.entry.key).1 self.entry.view ≡ writes }
         ensures same { (result.view ≡ Some self.entry.view) × (result.value ≡ Some self.entry.value) }
@@ -395,11 +281,6 @@ impl<T, V, P: Rule<T, V>> WritePermit<'_, T, V, P> {
     ghost use Rattle.spin_core.specs.Writer.{with_value};
 
     /// Returns a mutable reference to the value. What is written through it is the permit's value when the borrow ends.
-    ///
-    /// # Examples
-    /// ```
-    /// *writer.get_mut() = Stage::Done(next);
-    /// ```
     pub fn get_mut(&mut self) -> &mut T
         ensures* writes_back { sem 𝓛 (follows (the_row (record { mir = named 1; lft = [] }) T.row V.row P.row P.Key.row P.Second.row (record { holds = P.holds; ways = P.ways })) T.row self.entry.ghost_name result.ghost_name (with_value self.old)) }
         ensures value { result.now ≡ self.old.value }

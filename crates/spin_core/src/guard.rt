@@ -13,13 +13,6 @@ mod texts;
 ///
 /// # Contract
 /// `use_at` is the use of a party with a given view.
-///
-/// # Examples
-/// ```
-/// impl Uses<Party> for FlagRule {
-///     ghost use_at = { use_of use_of_party };
-/// }
-/// ```
 pub trait Uses<V> {
     // Of a party with this view, or with none yet.
     ghost use_at: { Option V → Use };
@@ -29,33 +22,11 @@ pub trait Uses<V> {
 ///
 /// # Contract
 /// The uses of `Uses` are those of the rule (`same`).
-///
-/// # Examples
-/// ```
-/// fn release(writer: WritePermit<'_, T, Party, FlagRule>) {
-///     let free = flag::unlock(true);
-///     let permit = writer.into_permit();
-///     let (permit, _) = permit.store::<Frees>(word(free), Watch::nothing());
-///     permit.leave();
-/// }
-///
-/// ghost same = { λ key view. refl };
-/// ```
 pub trait Release<T, V>: Rule<T, V> + Uses<V> {
     /// Releases the lock of the writing party, which leaves it.
     ///
     /// # Contract
     /// No clause. A permit cannot be dropped, so the body has to end it: the party rests, or keeps its use for good.
-    ///
-    /// # Examples
-    /// ```
-    /// fn release(writer: WritePermit<'_, T, Party, FlagRule>) {
-    ///     let free = flag::unlock(true);
-    ///     let permit = writer.into_permit();
-    ///     let (permit, _) = permit.store::<Frees>(word(free), Watch::nothing());
-    ///     permit.leave();
-    /// }
-    /// ```
     fn release(writer: WritePermit<'_, T, V, Self>);
 
     // The uses are those of the rule. They have names of their own, since a ghost field can't name the rule's members.
@@ -69,18 +40,6 @@ pub trait Release<T, V>: Rule<T, V> + Uses<V> {
 ///
 /// # Contract
 /// `guard_value` is the value behind the guard. What is written through the guard is read through it.
-///
-/// # Examples
-/// ```
-/// fn swap_in<R>(guard: &mut SpinMutexGuard<'_, u64, R>, value: u64) -> u64
-///     ensures old_value { result ≡ guard_value guard.old }
-///     ensures new_value { guard_value guard.new ≡ value }
-/// {
-///     let old = **guard;
-///     **guard = value;
-///     old
-/// }
-/// ```
 #[must_use = "dropping the guard at once releases the lock: bind it, or write `drop(..)`"]
 pub struct Guard<'a, T, V, P: Release<T, V>, R> {
     writer: WritePermit<'a, T, V, P>,
@@ -93,13 +52,6 @@ pub struct Guard<'a, T, V, P: Release<T, V>, R> {
 ///
 /// # Contract
 /// Its party still has the use of a writer (`holding`). `held_value` is the value that the guard had.
-///
-/// # Examples
-/// ```
-/// pub fn take<'a, W: Wait>(rt: &W, lock: &'a SpinMutex<u64>) -> Held<'a, u64> {
-///     SpinMutexGuard::hold(lock.lock(rt))
-/// }
-/// ```
 #[must_use = "dropping a hold does not release the lock: pass it to `force_unlock`"]
 pub struct Held<'a, T, V, P: Release<T, V>, R> {
     permit: Permit<'a, T, V, P>,
@@ -114,12 +66,6 @@ impl<'a, T, V, P: Release<T, V>, R> Guard<'a, T, V, P, R> {
     ///
     /// # Contract
     /// The guard has this permit. The call returns.
-    ///
-    /// # Examples
-    /// ```
-    /// let Self { permit, seen } = self;
-    /// (Guard::new(permit.into_writer()), seen)
-    /// ```
     pub fn new(writer: WritePermit<'a, T, V, P>) -> Self
         ensures { result.writer ≡ writer.entry }
     {
@@ -135,17 +81,6 @@ impl<'a, T, V, P: Release<T, V>, R> Guard<'a, T, V, P, R> {
     ///
     /// # Contract
     /// The reference has the value of the guard. The call returns.
-    ///
-    /// # Examples
-    /// A test of each mutex, here with `SpinMutexGuard` as `$Guard`:
-    ///
-    /// ```
-    /// let value = $Guard::leak(lock.lock($rt));
-    /// *value = 7;
-    /// let refused = lock.try_lock().is_none();
-    /// *value = 9;
-    /// (refused, lock.into_inner())
-    /// ```
     pub fn leak(this: Self) -> &'a mut T
         ensures { result.now ≡ guard_value this.entry }
     {
@@ -156,13 +91,6 @@ impl<'a, T, V, P: Release<T, V>, R> Guard<'a, T, V, P, R> {
     ///
     /// # Contract
     /// `held_value` of the hold is the value of the guard. The hold has the guard's party (`party`). The call returns.
-    ///
-    /// # Examples
-    /// ```
-    /// pub fn take<'a, W: Wait>(rt: &W, lock: &'a SpinMutex<u64>) -> Held<'a, u64> {
-    ///     SpinMutexGuard::hold(lock.lock(rt))
-    /// }
-    /// ```
     pub fn hold(this: Self) -> Held<'a, T, V, P, R>
         ensures value { held_value result ≡ Some (guard_value this.entry) }
         ensures party { (held_view result ≡ Some (guard_view this.entry)) × (held_key result ≡ guard_key this.entry) }
@@ -177,11 +105,6 @@ impl<'a, T, V, P: Release<T, V>, R> Guard<'a, T, V, P, R> {
     ///
     /// # Contract
     /// The permit is the guard's. The call returns.
-    ///
-    /// # Examples
-    /// ```
-    /// let permit = Guard::into_writer(guard).into_permit();
-    /// ```
     pub fn into_writer(this: Self) -> WritePermit<'a, T, V, P>
         ensures { result ≡ this.entry.writer }
     {
@@ -202,12 +125,6 @@ impl<'a, T, V, P: Release<T, V>, R> Held<'a, T, V, P, R> {
     ///
     /// # Contract
     /// The guard has the hold's value and its party (`value`, `party`). The call returns.
-    ///
-    /// # Examples
-    /// ```
-    /// let held = SpinMutexGuard::hold(guard);
-    /// let mut guard = held.into_guard();
-    /// ```
     pub fn into_guard(self) -> Guard<'a, T, V, P, R>
         ensures value { Some (guard_value result) ≡ held_value self.entry }
         ensures party { (Some (guard_view result) ≡ held_view self.entry) × (guard_key result ≡ held_key self.entry) }
@@ -219,13 +136,6 @@ impl<'a, T, V, P: Release<T, V>, R> Held<'a, T, V, P, R> {
     ///
     /// # Contract
     /// No clause. The call returns.
-    ///
-    /// # Examples
-    /// ```
-    /// pub fn force_unlock(held: Held<'_, T, R>) {
-    ///     held.release();
-    /// }
-    /// ```
     pub fn release(self) {
         P::release(self.into_permit().into_writer());
     }

@@ -12,12 +12,21 @@ use std::sync::Wait;
 ///
 /// # Examples
 /// ```
-/// pub fn count<L: Lock<u64>, W: Wait>(rt: &W, lock: &L) -> u64 {
+/// use spin::lock::Lock;
+/// use spin::mutex::{SpinMutex, TicketMutex};
+/// use std::sync::Wait;
+///
+/// fn count<L: Lock<u64>, W: Wait>(rt: &W, lock: &L) -> u64 {
 ///     lock.with(rt, |number| {
 ///         *number = number.wrapping_add(1);
 ///         *number
 ///     })
 /// }
+///
+/// let lock: SpinMutex<u64> = SpinMutex::new(1);
+/// assert_eq!(rt; count(&rt, &lock), 2);
+/// let queue: TicketMutex<u64> = TicketMutex::new(5);
+/// assert_eq!(rt; count(&rt, &queue), 6);
 /// ```
 pub trait Lock<T> {
     /// Acquires the lock, calls the closure with the value, and releases the lock.
@@ -27,14 +36,6 @@ pub trait Lock<T> {
     /// # Contract
     /// The closure has to be always callable. It is called once, with some value of `T`, and its answer is returned
     /// (`AnswersOf`). Whether and when the call returns is not promised.
-    ///
-    /// # Examples
-    /// ```
-    /// lock.with(rt, |number| {
-    ///     *number = number.wrapping_add(1);
-    ///     *number
-    /// })
-    /// ```
     fn with<A, F: FnOnce(&mut T) -> A, W: Wait>(&self, rt: &W, by: F) -> A
         requires { F.IsAlwaysCallable by }
         ensures { AnswersOf F.FnOnce by result };
@@ -47,11 +48,14 @@ pub trait Lock<T> {
     ///
     /// # Examples
     /// ```
-    /// lock.try_with(|number| {
-    ///     *number = number.wrapping_add(1);
-    ///     *number
-    /// })
-    /// .ok()
+    /// use spin::lock::Lock;
+    /// use spin::mutex::SpinMutex;
+    ///
+    /// let lock: SpinMutex<u64> = SpinMutex::new(4);
+    /// assert_eq!(rt; lock.try_with(|value| *value).ok(), Some(4));
+    /// let guard = lock.lock(&rt);
+    /// assert!(rt; lock.try_with(|value| *value).is_err());
+    /// drop(guard);
     /// ```
     fn try_with<A, F: FnOnce(&mut T) -> A>(&self, by: F) -> Result<A, F>
         requires { F.IsAlwaysCallable by }
@@ -62,16 +66,13 @@ pub trait Lock<T> {
 ///
 /// # Examples
 /// ```
-/// pub fn read_up_to<L: SharedLock<u64>, W: Wait>(rt: &W, lock: &L, most: u64) -> u64
-///     ensures { result ≤ most }
-/// {
-///     lock.with_shared(
-///         rt,
-///         |number: &u64| -> u64
-///             ensures { result ≤ most }
-///         { if *number < most { *number } else { most } },
-///     )
-/// }
+/// use spin::RwLock;
+/// use spin::lock::SharedLock;
+///
+/// let limit: RwLock<u64> = RwLock::new(3);
+/// let reader = limit.read(&rt);
+/// assert_eq!(rt; limit.with_shared(&rt, |value| *value), 3);
+/// assert_eq!(rt; *reader, 3);
 /// ```
 pub trait SharedLock<T>: Lock<T> {
     /// Acquires shared access, calls the closure with the value, and releases it.
@@ -81,16 +82,6 @@ pub trait SharedLock<T>: Lock<T> {
     /// # Contract
     /// The closure has to be always callable. It is called once, with some value of `T`, and its answer is returned
     /// (`AnswersOfShared`). Whether and when the call returns is not promised.
-    ///
-    /// # Examples
-    /// ```
-    /// lock.with_shared(
-    ///     rt,
-    ///     |number: &u64| -> u64
-    ///         ensures { result ≤ most }
-    ///     { if *number < most { *number } else { most } },
-    /// )
-    /// ```
     fn with_shared<A, F: FnOnce(&T) -> A, W: Wait>(&self, rt: &W, by: F) -> A
         requires { F.IsAlwaysCallable by }
         ensures { AnswersOfShared F.FnOnce by result };
@@ -104,12 +95,14 @@ pub trait SharedLock<T>: Lock<T> {
     ///
     /// # Examples
     /// ```
-    /// fn try_with_shared<A, F: FnOnce(&T) -> A, W: Wait>(&self, rt: &W, by: F) -> Result<A, F> {
-    ///     match self.try_read(rt) {
-    ///         Some(guard) => Ok(by(&*guard)),
-    ///         None => Err(by),
-    ///     }
-    /// }
+    /// use spin::RwLock;
+    /// use spin::lock::SharedLock;
+    ///
+    /// let limit: RwLock<u64> = RwLock::new(3);
+    /// let writer = limit.write(&rt);
+    /// assert!(rt; limit.try_with_shared(&rt, |value| *value).is_err());
+    /// drop(writer);
+    /// assert_eq!(rt; limit.try_with_shared(&rt, |value| *value).ok(), Some(3));
     /// ```
     fn try_with_shared<A, F: FnOnce(&T) -> A, W: Wait>(&self, rt: &W, by: F) -> Result<A, F>
         requires { F.IsAlwaysCallable by }
@@ -122,13 +115,6 @@ pub trait SharedLock<T>: Lock<T> {
 /// # Contract
 /// The closure has to be always callable. Beside a guard the result is `Ok` of an answer as that of [`Lock::with`].
 /// Without one it is `Err` of the closure, which was not called.
-///
-/// # Examples
-/// ```
-/// fn try_with<A, F: FnOnce(&mut T) -> A>(&self, by: F) -> Result<A, F> {
-///     with_guard(self.try_lock(), by)
-/// }
-/// ```
 #[inline(always)]
 pub fn with_guard<T, G: DerefMut<Target = T> + Drop, A, F: FnOnce(&mut T) -> A>(
     guard: Option<G>,

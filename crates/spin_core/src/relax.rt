@@ -9,11 +9,6 @@ use std::sync::Wait;
 use std::thread::yield_now;
 
 /// The longest pause between two attempts of a call that backs off, in hints.
-///
-/// # Examples
-/// ```
-/// hints = hints.saturating_mul(2).min(MAX_HINTS);
-/// ```
 pub const MAX_HINTS: u32 = 64;
 
 /// How a waiting call passes the time. A lock names its strategy as its type parameter `R`.
@@ -23,32 +18,29 @@ pub const MAX_HINTS: u32 = 64;
 ///
 /// # Examples
 /// ```
-/// impl RelaxStrategy for Loop {
-///     fn relax<W: Wait>(rt: &W) {
-///         let _ = rt;
+/// use spin::RelaxStrategy;
+/// use spin::mutex::SpinMutex;
+/// use std::hint;
+/// use std::sync::Wait;
+///
+/// pub struct Twice;
+///
+/// impl RelaxStrategy for Twice {
+///     fn relax<W: Wait>(_rt: &W) {
+///         hint::spin_loop();
+///         hint::spin_loop();
 ///     }
 /// }
+///
+/// let lock: SpinMutex<u64, Twice> = SpinMutex::new(4);
+/// assert_eq!(rt; *lock.lock(&rt), 4);
 /// ```
 pub trait RelaxStrategy {
     /// Passes a little time.
-    ///
-    /// # Examples
-    /// ```
-    /// Yield::relax(rt);
-    /// ```
     fn relax<W: Wait>(rt: &W);
 
     /// Passes the time between two attempts of a waiting call: `hints` times as much as `relax` if the strategy is
     /// [`Spin`], and else one `relax`.
-    ///
-    /// # Examples
-    /// ```
-    /// fn pause<W: Wait>(rt: &W, hints: u32) {
-    ///     for _ in 0..hints {
-    ///         Self::relax(rt);
-    ///     }
-    /// }
-    /// ```
     fn pause<W: Wait>(rt: &W, hints: u32) {
         let _ = hints;
         Self::relax(rt);
@@ -66,13 +58,13 @@ pub trait RelaxStrategy {
     ///
     /// # Examples
     /// ```
-    /// R::retry(rt, (), |()| {
-    ///     if barrier::may_leave(*self.state.lock(rt), generation) {
-    ///         Ok(())
-    ///     } else {
-    ///         Err(())
-    ///     }
-    /// })
+    /// use spin::{RelaxStrategy, Spin};
+    ///
+    /// let count = Spin::retry(&rt, 5u64, |left| match left {
+    ///     0 => Ok("done"),
+    ///     _ => Err(left.saturating_sub(1)),
+    /// });
+    /// assert_eq!(rt; count, "done");
     /// ```
     final fn retry<S, A, F: Fn(S) -> Result<A, S>, W: Wait>(rt: &W, state: S, attempt: F) -> A
         requires { F.IsAlwaysCallable attempt }
@@ -87,12 +79,6 @@ pub trait RelaxStrategy {
     ///
     /// # Contract
     /// As that of `retry`; `pause` has to be always callable too.
-    ///
-    /// # Examples
-    /// ```
-    /// Ok(grant) => grant,
-    /// Err(place) => R::retry_after(rt, place, Place::pause, Place::enter),
-    /// ```
     #[cold]
     #[inline(never)]
     final fn retry_after<S, A, P: Fn(&S) -> u32, F: Fn(S) -> Result<A, S>, W: Wait>(
@@ -121,14 +107,6 @@ pub trait RelaxStrategy {
     ///
     /// # Contract
     /// That of `retry`.
-    ///
-    /// # Examples
-    /// ```
-    /// let Grant { writer, seen } = match try_with(permit, seen) {
-    ///     Ok(grant) => grant,
-    ///     Err(waiting) => R::back_off(rt, waiting, Waiting::look_and_try),
-    /// };
-    /// ```
     #[cold]
     #[inline(never)]
     final fn back_off<S, A, F: Fn(S) -> Result<A, S>, W: Wait>(rt: &W, state: S, attempt: F) -> A
@@ -151,12 +129,6 @@ pub trait RelaxStrategy {
 
 /// The strategy that gives the processor's hint for spinning. It is the default of every lock that has a
 /// strategy.
-///
-/// # Examples
-/// ```
-/// let mut guard: MutexGuard<u64, Spin> = lock.lock(&rt);
-/// *guard = 2;
-/// ```
 pub struct Spin;
 
 impl RelaxStrategy for Spin {
@@ -176,8 +148,13 @@ impl RelaxStrategy for Spin {
 ///
 /// # Examples
 /// ```
-/// let lock: mutex::Mutex<u64, Yield> = mutex::Mutex::new(3);
-/// equal(&rt, lock.is_locked(), false);
+/// use spin::Yield;
+/// use spin::mutex::SpinMutex;
+/// use std::thread;
+///
+/// let last: SpinMutex<u64, Yield> = SpinMutex::new(0);
+/// thread::join(&rt, || *last.lock(&rt) = 1, || *last.lock(&rt) = 2);
+/// assert!(rt; [1, 2].contains(&last.into_inner()));
 /// ```
 pub struct Yield;
 
@@ -189,12 +166,6 @@ impl RelaxStrategy for Yield {
 }
 
 /// The strategy that does nothing, and so keeps the processor busy.
-///
-/// # Examples
-/// ```
-/// let once: Once<u64, Loop> = Once::new();
-/// equal(&rt, once.poll(&rt).copied(), None);
-/// ```
 pub struct Loop;
 
 impl RelaxStrategy for Loop {
@@ -204,15 +175,6 @@ impl RelaxStrategy for Loop {
 }
 
 /// The strategy of a lock by its name alone: no `R` lies in it, so a lock may go to another thread whatever `R` is.
-///
-/// # Examples
-/// ```
-/// let start = (trace.watch(), first);
-/// TicketMutex {
-///     cell: Cell::new(value, first, trace, &start),
-///     strategy: Strategy::named(),
-/// }
-/// ```
 #[derive(Drop)]
 pub struct Strategy<R> {
     name: PhantomData<R>,
@@ -220,15 +182,6 @@ pub struct Strategy<R> {
 
 impl<R> Strategy<R> {
     /// Creates the name of the strategy `R`.
-    ///
-    /// # Examples
-    /// ```
-    /// let start = (trace.watch(), first);
-    /// TicketMutex {
-    ///     cell: Cell::new(value, first, trace, &start),
-    ///     strategy: Strategy::named(),
-    /// }
-    /// ```
     pub fn named() -> Self {
         Strategy { name: PhantomData }
     }

@@ -12,11 +12,6 @@ use std::fmt::{Debug, Formatter};
 ///
 /// # Contract
 /// Without options, an `Ok` call has written `lock_text` of the value.
-///
-/// # Examples
-/// ```
-/// write_lock(self.try_lock().as_ref().map(|guard| &**guard), f)
-/// ```
 pub fn write_lock<T: Debug, W: fmt::Write>(value: Option<&T>, f: &mut Formatter<W>) -> fmt::Result
     ensures { DisplaysOnOk W.write_str_gives f.old result (lock_text T.debug_output (option_copied value.entry)) f.new }
 {
@@ -27,16 +22,6 @@ pub fn write_lock<T: Debug, W: fmt::Write>(value: Option<&T>, f: &mut Formatter<
 ///
 /// # Contract
 /// Without options, an `Ok` call has written `named_text` of these.
-///
-/// # Examples
-/// ```
-/// write_named(
-///     "FairMutex { data: ",
-///     "FairMutex { data: <locked> }",
-///     value,
-///     f,
-/// )
-/// ```
 pub fn write_named<T: Debug, W: fmt::Write>(
     shown: &str,
     locked: &str,

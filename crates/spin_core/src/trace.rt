@@ -12,13 +12,6 @@ use std::marker::{Model, PhantomData};
 ///
 /// The list and its name are ghost state: a `Trace<E>` has no byte, and a `Trace<E, u64>` has those of its word. A
 /// trace that is put into a [`Cell`](crate::cell::Cell) as its second word grows by the steps of the cell's permits.
-///
-/// # Examples
-/// ```
-/// let trace = Trace::new(2);
-/// let start = trace.watch();
-/// Cell::new(5, 1, trace, &start)
-/// ```
 pub struct Trace<E, S = ()> {
     pub(crate) word: S,
     marker: PhantomData<E>,
@@ -33,12 +26,6 @@ impl<E, S> Model for Trace<E, S> {
 }
 
 /// What is known of a trace of this name: its entries begin with these, now and ever after. It has no byte.
-///
-/// # Examples
-/// ```
-/// let (_, party, seen) = cell.enter().add::<Mark>(1, seen);
-/// let (party, seen) = party.store_second::<Mark>(8, seen);
-/// ```
 pub struct Watch<E> {
     marker: PhantomData<E>,
     pub ghost name: { ℕ },
@@ -53,12 +40,6 @@ impl<E> Model for Watch<E> {
 
 impl<E, S> Trace<E, S> {
     /// Creates an empty trace, under a name of its own, beside `word`.
-    ///
-    /// # Examples
-    /// ```
-    /// let trace = Trace::new(2);
-    /// let start = trace.watch();
-    /// ```
     pub fn new(word: S) -> Trace<E, S>
         ensures { (result.entries ≡ []) × (result.word ≡ word) }
     {
@@ -69,12 +50,6 @@ impl<E, S> Trace<E, S> {
     }
 
     /// Returns a watch that knows the entries so far.
-    ///
-    /// # Examples
-    /// ```
-    /// let start = trace.watch();
-    /// let cell: Words = Cell::new(5, 1, trace, &start);
-    /// ```
     pub fn watch(&self) -> Watch<E>
         ensures { (result.name ≡ self.now.name) × (result.entries ≡ self.now.entries) }
     {
@@ -86,11 +61,6 @@ impl<E, S> Trace<E, S> {
 
 impl<E> Watch<E> {
     /// Returns a watch that knows nothing: of a trace of its own, which is gone.
-    ///
-    /// # Examples
-    /// ```
-    /// let (party, _) = cell.enter().store::<Mark>(3, Watch::nothing());
-    /// ```
     pub fn nothing() -> Watch<E>
         ensures { result.entries ≡ [] }
     {
@@ -109,11 +79,6 @@ impl<E> Watch<E> {
     }
 
     /// Returns a watch that knows the same.
-    ///
-    /// # Examples
-    /// ```
-    /// let seen = mark_both(&cell, start.copy());
-    /// ```
     pub fn copy(&self) -> Watch<E>
         ensures { (result.name ≡ self.now.name) × (result.entries ≡ self.now.entries) }
     {
@@ -126,12 +91,6 @@ impl<E> Watch<E> {
     ///
     /// # Contract
     /// What one of them knows is a prefix of what the other knows.
-    ///
-    /// # Examples
-    /// ```
-    /// let seen = mark_both(&cell, start.copy());
-    /// seen.compare(&start);
-    /// ```
     pub fn compare(&self, other: &Watch<E>)
         requires { self.now.name ≡ other.now.name }
         ensures { IsPrefix self.now.entries other.now.entries ⊎ IsPrefix other.now.entries self.now.entries }

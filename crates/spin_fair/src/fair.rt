@@ -30,12 +30,6 @@ pub use self::starving::StarvingPass;
 pub use spin_step_more::fair::LockRejectReason;
 
 /// The patience of [`FairMutex::lock`]: after more looks than this that found the lock held, it starves.
-///
-/// # Examples
-/// ```
-/// let seen = thread::join(&rt, || looks_until_it_enters(&rt, &lock), let_go);
-/// equal(&rt, seen, (STARVATION_SPINS + 2, true));
-/// ```
 pub const STARVATION_SPINS: usize = 1024;
 
 /// A spinning mutual exclusion lock in which a thread that has waited for long comes before newcomers.
@@ -50,11 +44,12 @@ pub const STARVATION_SPINS: usize = 1024;
 ///
 /// # Examples
 /// ```
-/// let mut guard = match total.starve(rt) {
-///     Some(place) => place.lock(rt),
-///     None => total.lock(rt),
-/// };
-/// *guard = guard.wrapping_add(1);
+/// use spin::mutex::FairMutex;
+/// use std::thread;
+///
+/// let last: FairMutex<u64> = FairMutex::new(0);
+/// thread::join(&rt, || *last.lock(&rt) = 1, || *last.lock(&rt) = 2);
+/// assert!(rt; [1, 2].contains(&last.into_inner()));
 /// ```
 #[derive(Drop)]
 pub struct FairMutex<T, R = Spin> {
@@ -66,13 +61,6 @@ pub struct FairMutex<T, R = Spin> {
 ///
 /// # Contract
 /// `guard_value` is the value behind the guard. What is written through the guard is read through it.
-///
-/// # Examples
-/// ```
-/// if let Ok(mut sum) = starver.try_lock() {
-///     *sum = sum.wrapping_add(1);
-/// }
-/// ```
 pub type FairMutexGuard<'a, T, R = Spin> = Guard<'a, T, Party, FairRule, R>;
 
 /// A hold on a [`FairMutex`]: it keeps the lock without a guard, and gives no access to the value.
@@ -81,18 +69,6 @@ pub type FairMutexGuard<'a, T, R = Spin> = Guard<'a, T, Party, FairRule, R>;
 ///
 /// # Contract
 /// `held_value` is the value that the guard had.
-///
-/// # Examples
-/// A test of each mutex, here with `FairMutex` as `$Lock` and `FairMutexGuard` as `$Guard`:
-///
-/// ```
-/// let mut guard = lock.lock($rt);
-/// *guard = 3;
-/// let held = $Guard::hold(guard);
-/// let refused = lock.try_lock().is_none();
-/// $Lock::force_unlock(held);
-/// (refused, *lock.try_lock().expect($rt, "open"))
-/// ```
 pub type Held<'a, T, R = Spin> = guard::Held<'a, T, Party, FairRule, R>;
 
 impl<T, R> FairMutex<T, R> {
@@ -100,13 +76,6 @@ impl<T, R> FairMutex<T, R> {
     ///
     /// # Contract
     /// No clause. The call returns.
-    ///
-    /// # Examples
-    /// ```
-    /// let lock: FairMutex<u64> = FairMutex::new(5);
-    /// debug_is(&rt, &lock, "FairMutex { data: 5 }");
-    /// equal(&rt, lock.is_locked(), false);
-    /// ```
     pub fn new(value: T) -> Self {
         let trace = Trace::new(());
         let start = trace.watch();
@@ -122,13 +91,6 @@ impl<T, R> FairMutex<T, R> {
     ///
     /// # Contract
     /// No clause. The call returns.
-    ///
-    /// # Examples
-    /// ```
-    /// let fair = FairMutex::new(7);
-    /// add_starving(&rt, &fair);
-    /// equal(&rt, fair.into_inner(), 8);
-    /// ```
     pub fn into_inner(self) -> T {
         self.cell.into_inner()
     }
@@ -153,12 +115,6 @@ impl<T, R: RelaxStrategy> FairMutex<T, R> {
     ///
     /// # Contract
     /// The guard belongs to a holder of the lock (`IsHolder`). Whether and when the call returns is not promised.
-    ///
-    /// # Examples
-    /// ```
-    /// let mut own = shared.lock(host);
-    /// *own = 2;
-    /// ```
     pub fn lock<W: Wait>(&self, rt: &W) -> FairMutexGuard<'_, T, R>
         ensures { IsHolder use_of_party result }
     {
@@ -188,13 +144,6 @@ impl<T, R> FairMutex<T, R> {
     /// # Contract
     /// A guard belongs to a holder of the lock (`IsHolder`), which came as a newcomer (its view is `Holding`): it found
     /// no starver registered. `None` promises nothing. The call returns.
-    ///
-    /// # Examples
-    /// ```
-    /// drop(guard);
-    /// shows(&rt, &lock, STARVED);
-    /// equal(&rt, lock.try_lock().is_none(), true);
-    /// ```
     #[must_use = "dropping the guard at once releases the lock: bind the answer, or write `drop(..)`"]
     pub fn try_lock<'a>(&'a self) -> Option<FairMutexGuard<'a, T, R>>
         ensures holder { IfSome result (IsHolder use_of_party) }
@@ -211,9 +160,15 @@ impl<T, R> FairMutex<T, R> {
     ///
     /// # Examples
     /// ```
-    /// pub fn refusal<R>(lock: &FairMutex<u64, R>) -> Option<LockRejectReason> {
-    ///     lock.try_lock_starver().err()
-    /// }
+    /// use spin::mutex::FairMutex;
+    /// use spin::mutex::fair::LockRejectReason;
+    ///
+    /// let lock: FairMutex<u64> = FairMutex::new(4);
+    /// let guard = lock.lock(&rt);
+    /// let reason = lock.try_lock_starver().err();
+    /// assert_eq!(rt; reason, Some(LockRejectReason::Locked));
+    /// drop(guard);
+    /// assert!(rt; lock.try_lock_starver().is_ok());
     /// ```
     pub fn try_lock_starver<'a>(&'a self) -> Result<FairMutexGuard<'a, T, R>, LockRejectReason>
         ensures holder { IfOk result (IsHolder use_of_party) }
@@ -237,11 +192,13 @@ impl<T, R> FairMutex<T, R> {
     ///
     /// # Examples
     /// ```
-    /// let mut guard = match total.starve(rt) {
-    ///     Some(place) => place.lock(rt),
-    ///     None => total.lock(rt),
-    /// };
-    /// *guard = guard.wrapping_add(1);
+    /// use spin::mutex::FairMutex;
+    ///
+    /// let lock: FairMutex<u64> = FairMutex::new(4);
+    /// let starver = lock.starve(&rt).expect(&rt, "few threads starve");
+    /// assert!(rt; lock.try_lock().is_none());
+    /// let guard = starver.lock(&rt);
+    /// assert_eq!(rt; *guard, 4);
     /// ```
     #[must_use = "a place that is dropped at once no longer starves: bind the answer"]
     pub fn starve<W: Wait>(&self, rt: &W) -> Option<Starvation<'_, T, R>> {
@@ -260,12 +217,6 @@ impl<T, R> FairMutex<T, R> {
     ///
     /// # Contract
     /// No clause. The call returns.
-    ///
-    /// # Examples
-    /// ```
-    /// equal(&rt, lock.is_locked(), false);
-    /// let guard = lock.lock(&rt);
-    /// ```
     pub fn is_locked(&self) -> bool {
         self.pass().is_locked().0
     }
@@ -276,18 +227,6 @@ impl<T, R> FairMutex<T, R> {
     ///
     /// # Contract
     /// No clause. The call returns.
-    ///
-    /// # Examples
-    /// A test of each mutex, here with `FairMutex` as `$Lock` and `FairMutexGuard` as `$Guard`:
-    ///
-    /// ```
-    /// let mut guard = lock.lock($rt);
-    /// *guard = 3;
-    /// let held = $Guard::hold(guard);
-    /// let refused = lock.try_lock().is_none();
-    /// $Lock::force_unlock(held);
-    /// (refused, *lock.try_lock().expect($rt, "open"))
-    /// ```
     pub fn force_unlock(held: Held<'_, T, R>) {
         held.release();
     }
@@ -298,12 +237,6 @@ impl<T, R> FairMutex<T, R> {
     ///
     /// # Contract
     /// No clause. The call returns.
-    ///
-    /// # Examples
-    /// ```
-    /// *lock.get_mut() = 43;
-    /// equal(&rt, lock.is_locked(), false);
-    /// ```
     pub fn get_mut(&mut self) -> &mut T {
         self.cell.get_mut()
     }

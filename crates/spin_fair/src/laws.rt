@@ -17,9 +17,6 @@ ghost use Rattle.spin_fair.specs.Fair.{Done, IsFair, model, seat_of, words_of, s
 /// # Contract
 /// Whatever holds between any two steps of threads (`IsFair`): no move of the list is passed over in the model. After
 /// the list the model has the lock's word, and has each party where the lock has it.
-///
-/// # Examples
-/// None: nobody calls a law.
 pub fn every_run_of_a_fair_mutex_is_a_schedule()
     ensures { (name word : ℕ) (trace : Trace Done (Unit {0})) (parties : List (Numbered View)) → IsFair name word trace parties → IsRun model seat_of words_of trace.entries (word, trace.word) parties }
 {}
@@ -31,9 +28,6 @@ pub fn every_run_of_a_fair_mutex_is_a_schedule()
 /// # Contract
 /// Where the rule holds (`IsFair`), the trace was no longer after the last move of a newcomer that holds, by which it
 /// acquired the lock, than after the last move of a registered starver.
-///
-/// # Examples
-/// None: nobody calls a law.
 pub fn no_newcomer_holds_that_came_behind_a_starver()
     ensures { (name word : ℕ) (trace : Trace Done (Unit {0})) (parties : List (Numbered View)) → IsFair name word trace parties → (i j : ℕ) (v w : Numbered View) → slice_get parties i ≡ Some v → slice_get parties j ≡ Some w → v.0 ≡ Holding → 0 < starver w.0 → v.2 ≤ w.2 }
 {}
@@ -46,9 +40,6 @@ pub fn no_newcomer_holds_that_came_behind_a_starver()
 /// # Contract
 /// On each word that the rule allows, the operation makes the word that the step function gives (`unlocked`,
 /// `unstarved`, `lock_starved`). Where `lock_starved` gives none, the word stays as it is.
-///
-/// # Examples
-/// None: nobody calls a law.
 pub fn an_addition_is_its_step_function()
     ensures unlock { (name word : ℕ) (trace : Trace Done (Unit {0})) (parties : List (Numbered View)) (p : ℕ) → IsFair name word trace parties → HoldsAt (views_of parties) p → (is_set word ≡ true) × ((word + (2 ^ 64 - holder_weight)) % 2 ^ 64 ≡ unlocked word) }
     ensures unstarve { (name word : ℕ) (trace : Trace Done (Unit {0})) (parties : List (Numbered View)) (p : ℕ) → IsFair name word trace parties → StarvesAt (views_of parties) p → (starver_weight ≤ word) × ((word + (2 ^ 64 - starver_weight)) % 2 ^ 64 ≡ unstarved word) }

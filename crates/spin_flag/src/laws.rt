@@ -13,9 +13,6 @@ ghost use Rattle.spin_flag.specs.declared.spin.rule.View.{View};
 /// # Contract
 /// Whatever holds between any two steps of threads (`IsFlag`): no move of the list is passed over in the model. After
 /// the list the model has the lock's word, and has each party where the lock has it.
-///
-/// # Examples
-/// None: nobody calls a law.
 pub fn every_run_of_a_spin_mutex_is_a_schedule()
     ensures { (name word : ℕ) (trace : Trace Done (Unit {0})) (parties : List (Numbered View)) → IsFlag name word trace parties → IsRun model seat_of words_of trace.entries (word, trace.word) parties }
 {}

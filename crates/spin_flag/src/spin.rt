@@ -35,9 +35,12 @@ pub use self::rule::{Entry, FlagRule, Party, View};
 ///
 /// # Examples
 /// ```
-/// let lock: SpinMutex<u64> = SpinMutex::new(4);
-/// let guard: SpinMutexGuard<u64> = lock.lock(&rt);
-/// equal(&rt, *guard, 4);
+/// use spin::mutex::SpinMutex;
+/// use std::thread;
+///
+/// let last: SpinMutex<u64> = SpinMutex::new(0);
+/// thread::join(&rt, || *last.lock(&rt) = 1, || *last.lock(&rt) = 2);
+/// assert!(rt; [1, 2].contains(&last.into_inner()));
 /// ```
 #[derive(Drop)]
 pub struct SpinMutex<T, R = Spin> {
@@ -52,14 +55,18 @@ pub struct SpinMutex<T, R = Spin> {
 ///
 /// # Examples
 /// ```
-/// fn swap_in<R>(guard: &mut SpinMutexGuard<'_, u64, R>, value: u64) -> u64
-///     ensures old_value { result ≡ guard_value guard.old }
-///     ensures new_value { guard_value guard.new ≡ value }
-/// {
-///     let old = **guard;
-///     **guard = value;
-///     old
+/// use spin::mutex::{SpinMutex, SpinMutexGuard};
+///
+/// fn push_up(guard: &mut SpinMutexGuard<'_, u64>, least: u64) {
+///     if **guard < least {
+///         **guard = least;
+///     }
 /// }
+///
+/// let lock: SpinMutex<u64> = SpinMutex::new(4);
+/// push_up(&mut lock.lock(&rt), 6);
+/// push_up(&mut lock.lock(&rt), 5);
+/// assert_eq!(rt; lock.into_inner(), 6);
 /// ```
 pub type SpinMutexGuard<'a, T, R = Spin> = Guard<'a, T, Party, FlagRule, R>;
 
@@ -72,13 +79,13 @@ pub type SpinMutexGuard<'a, T, R = Spin> = Guard<'a, T, Party, FlagRule, R>;
 ///
 /// # Examples
 /// ```
-/// pub fn take<'a, W: Wait>(rt: &W, lock: &'a SpinMutex<u64>) -> Held<'a, u64> {
-///     SpinMutexGuard::hold(lock.lock(rt))
-/// }
+/// use spin::mutex::{SpinMutex, SpinMutexGuard};
 ///
-/// pub fn give_back(held: Held<'_, u64>) {
-///     SpinMutex::force_unlock(held);
-/// }
+/// let lock: SpinMutex<u64> = SpinMutex::new(4);
+/// let held = SpinMutexGuard::hold(lock.lock(&rt));
+/// assert!(rt; lock.is_locked());
+/// SpinMutex::force_unlock(held);
+/// assert!(rt; !lock.is_locked());
 /// ```
 pub type Held<'a, T, R = Spin> = guard::Held<'a, T, Party, FlagRule, R>;
 
@@ -87,13 +94,6 @@ impl<T, R> SpinMutex<T, R> {
     ///
     /// # Contract
     /// No clause. The call returns.
-    ///
-    /// # Examples
-    /// ```
-    /// let lock: SpinMutex<u64> = SpinMutex::new(4);
-    /// let guard: SpinMutexGuard<u64> = lock.lock(&rt);
-    /// equal(&rt, *guard, 4);
-    /// ```
     pub fn new(value: T) -> Self {
         let trace = Trace::new(());
         let start = trace.watch();
@@ -109,13 +109,6 @@ impl<T, R> SpinMutex<T, R> {
     ///
     /// # Contract
     /// No clause. The call returns.
-    ///
-    /// # Examples
-    /// ```
-    /// let new = *guard;
-    /// drop(guard);
-    /// (old, new, lock.into_inner())
-    /// ```
     pub fn into_inner(self) -> T {
         self.cell.into_inner()
     }
@@ -130,13 +123,6 @@ impl<T, R: RelaxStrategy> SpinMutex<T, R> {
     ///
     /// # Contract
     /// The guard belongs to a holder of the lock (`IsHolder`). Whether and when the call returns is not promised.
-    ///
-    /// # Examples
-    /// ```
-    /// let lock: SpinMutex<u64> = SpinMutex::new(4);
-    /// let guard: SpinMutexGuard<u64> = lock.lock(&rt);
-    /// equal(&rt, *guard, 4);
-    /// ```
     pub fn lock<W: Wait>(&self, rt: &W) -> SpinMutexGuard<'_, T, R>
         ensures { IsHolder use_of_party result }
     {
@@ -159,7 +145,12 @@ impl<T, R> SpinMutex<T, R> {
     ///
     /// # Examples
     /// ```
-    /// with_guard(self.try_lock(), by)
+    /// use spin::mutex::SpinMutex;
+    ///
+    /// let lock: SpinMutex<u64> = SpinMutex::new(4);
+    /// let guard = lock.try_lock().expect(&rt, "no thread holds it");
+    /// assert!(rt; lock.try_lock().is_none());
+    /// assert_eq!(rt; *guard, 4);
     /// ```
     #[must_use = "dropping the guard at once releases the lock: bind the answer, or write `drop(..)`"]
     pub fn try_lock<'a>(&'a self) -> Option<SpinMutexGuard<'a, T, R>>
@@ -174,14 +165,6 @@ impl<T, R> SpinMutex<T, R> {
     ///
     /// # Contract
     /// That of `try_lock`.
-    ///
-    /// # Examples
-    /// ```
-    /// let lock: SpinMutex<u64> = SpinMutex::new(1);
-    /// let guard = lock.lock(&rt);
-    /// let refused = lock.try_lock_weak().is_none();
-    /// drop(guard);
-    /// ```
     #[must_use = "dropping the guard at once releases the lock: bind the answer, or write `drop(..)`"]
     pub fn try_lock_weak<'a>(&'a self) -> Option<SpinMutexGuard<'a, T, R>>
         ensures { IfSome result (IsHolder use_of_party) }
@@ -195,15 +178,6 @@ impl<T, R> SpinMutex<T, R> {
     ///
     /// # Contract
     /// No clause. The call returns.
-    ///
-    /// # Examples
-    /// ```
-    /// let lock = SpinMutex::new(7);
-    /// let held = take(&rt, &lock);
-    /// equal(&rt, lock.is_locked(), true);
-    /// give_back(held);
-    /// equal(&rt, lock.is_locked(), false);
-    /// ```
     pub fn is_locked(&self) -> bool {
         self.pass().is_locked().0
     }
@@ -214,13 +188,6 @@ impl<T, R> SpinMutex<T, R> {
     ///
     /// # Contract
     /// No clause. The call returns.
-    ///
-    /// # Examples
-    /// ```
-    /// pub fn give_back(held: Held<'_, u64>) {
-    ///     SpinMutex::force_unlock(held);
-    /// }
-    /// ```
     pub fn force_unlock(held: Held<'_, T, R>) {
         held.release();
     }
@@ -231,12 +198,6 @@ impl<T, R> SpinMutex<T, R> {
     ///
     /// # Contract
     /// No clause. The call returns.
-    ///
-    /// # Examples
-    /// ```
-    /// *lock.get_mut() = 43;
-    /// equal(&rt, lock.is_locked(), false);
-    /// ```
     pub fn get_mut(&mut self) -> &mut T {
         self.cell.get_mut()
     }

@@ -8,7 +8,41 @@ use crate::register::Register;
 ///
 /// # Examples
 /// ```
-/// pub type Version<H> = RwLock<Growing<u64, Ascending, H>>;
+/// use spin::growing::{Growing, Order};
+/// use spin::history::{BlankLog, History, Work, open};
+///
+/// struct Descending;
+///
+/// impl Order<u64> for Descending {
+///     ghost use Rattle.std.specs.Prelude.{◌≤◌};
+///     ghost use Rattle.std.proofs.Common.{le_refl, le_trans};
+///     ghost use Rattle.std.proofs.Math.Bridge.{le_prop};
+///
+///     ghost le = { λ x y. y ≤ x };
+///
+///     ghost fact = { λ x y. le_prop };
+///
+///     ghost reflexive = { λ x. le_refl x };
+///
+///     ghost transitive = { λ x y z h k. le_trans k h };
+/// }
+///
+/// #[derive(Drop)]
+/// struct CountDown;
+///
+/// impl Work for CountDown {
+///     type Answer = u64;
+///
+///     fn run<H: History + Send + Sync>(self, blank: BlankLog) -> u64 {
+///         let log = blank.open::<u64, H>();
+///         let mut seen = log.snapshot();
+///         let mut left: Growing<u64, Descending, H> = Growing::new(9, log);
+///         left.write(8, &mut seen);
+///         left.read(&mut seen)
+///     }
+/// }
+///
+/// assert_eq!(rt; open(CountDown), 8);
 /// ```
 pub trait Order<T> {
     ghost le: { T → T → Type 0 };
@@ -21,8 +55,6 @@ pub trait Order<T> {
 }
 
 /// The order in which any value may come after any other. It is that of a plain [`Register`].
-///
-/// No example: a `Register` without an order of its own has it.
 pub struct Unordered;
 
 impl<T> Order<T> for Unordered {
@@ -39,11 +71,6 @@ impl<T> Order<T> for Unordered {
 }
 
 /// The order of numbers: they never fall.
-///
-/// # Examples
-/// ```
-/// pub type Version<H> = RwLock<Growing<u64, Ascending, H>>;
-/// ```
 pub struct Ascending;
 
 impl Order<u64> for Ascending {
@@ -65,6 +92,39 @@ impl Order<u64> for Ascending {
 ///
 /// # Examples
 /// ```
-/// let lock: Version<H> = RwLock::new(Growing::new(0, log));
+/// use spin::growing::{Ascending, Growing};
+/// use spin::history::{BlankLog, History, Work, open};
+/// use spin::{RwLock, register};
+/// use std::sync::Wait;
+///
+/// #[derive(Drop)]
+/// struct Raise<'a, W>(&'a W);
+///
+/// impl<W: Wait> Work for Raise<'_, W> {
+///     ghost use Rattle.std.specs.Prelude.{◌≤◌};
+///
+///     type Answer = (u64, u64);
+///
+///     ghost gives = { λ _ answer. answer.0 ≤ answer.1 };
+///
+///     fn run<H: History + Send + Sync>(self, blank: BlankLog) -> (u64, u64) {
+///         let rt = self.0;
+///         let log = blank.open::<u64, H>();
+///         let mut seen = log.snapshot();
+///         let version: RwLock<Growing<u64, Ascending, H>> = RwLock::new(Growing::new(1, log));
+///         let first = register::read_shared(rt, &version, &mut seen);
+///         register::update(
+///             rt,
+///             &version,
+///             |old: &u64| -> u64
+///                 ensures { old.now ≤ result }
+///             { old.saturating_add(1) },
+///             &mut seen,
+///         );
+///         (first, register::read_shared(rt, &version, &mut seen))
+///     }
+/// }
+///
+/// assert_eq!(rt; open(Raise(&rt)), (1, 2));
 /// ```
 pub type Growing<T, P, H> = Register<T, H, P>;

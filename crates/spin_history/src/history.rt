@@ -12,11 +12,6 @@ use std::marker::{Brand, Model, PhantomData};
 /// The name of a log in the types of its tokens. Tokens of one type belong to one log.
 ///
 /// A caller takes a type parameter `H: History`, and passes `Brand` for it where the log is opened.
-///
-/// # Examples
-/// ```
-/// four_threads_by::<Brand, W>(rt, values, BlankLog::new())
-/// ```
 pub trait History {
     ghost name: { ℕ };
 }
@@ -26,12 +21,6 @@ impl History for Brand {
 }
 
 /// A new log that has no type yet. [`open`](BlankLog::open) gives it one.
-///
-/// # Examples
-/// ```
-/// let log = blank.open::<u64, H>();
-/// let start = log.snapshot();
-/// ```
 pub struct BlankLog {
     marker: PhantomData<()>,
     pub ghost name: { ℕ },
@@ -46,12 +35,6 @@ impl Model for BlankLog {
 /// # Contract
 /// `asks` is what the work asks of its own fields, and `gives` what an answer of it may be. Both say nothing unless the
 /// work names them.
-///
-/// # Examples
-/// ```
-/// impl<W: Wait> Work for WatchLeaked<'_, W> {
-///     type Answer = (u64, u64);
-/// ```
 pub trait Work {
     type Answer;
 
@@ -63,13 +46,6 @@ pub trait Work {
     ///
     /// # Contract
     /// What it asks has to hold, and `H` has to name the log. The answer is one that it may give.
-    ///
-    /// # Examples
-    /// ```
-    /// fn run<H: History + Send + Sync>(self, blank: BlankLog) -> (u64, u64) {
-    ///     let log = blank.open::<u64, H>();
-    ///     let mut seen = log.snapshot();
-    /// ```
     fn run<H: History + Send + Sync>(self, blank: BlankLog) -> Self::Answer
         requires asked { asks self }
         requires name { blank.name ≡ H.name }
@@ -91,7 +67,25 @@ fn open_by<K: Work, H: History + Send + Sync>(work: K, blank: BlankLog) -> K::An
 ///
 /// # Examples
 /// ```
-/// open(WatchLeaked(rt))
+/// use spin::history::{BlankLog, History, Work, open};
+/// use spin::register::Register;
+///
+/// #[derive(Drop)]
+/// struct WriteTwo;
+///
+/// impl Work for WriteTwo {
+///     type Answer = u64;
+///
+///     fn run<H: History + Send + Sync>(self, blank: BlankLog) -> u64 {
+///         let log = blank.open::<u64, H>();
+///         let mut seen = log.snapshot();
+///         let mut register: Register<u64, H> = Register::new(1, log);
+///         register.write(2, &mut seen);
+///         register.read(&mut seen)
+///     }
+/// }
+///
+/// assert_eq!(rt; open(WriteTwo), 2);
 /// ```
 pub fn open<K: Work>(work: K) -> K::Answer
     requires asked { K.asks work }
@@ -104,15 +98,6 @@ pub fn open<K: Work>(work: K) -> K::Answer
 ///
 /// A log lies beside the value that it tells of, under the same lock. The struct that holds them says in an invariant
 /// of its own how they belong together, as [`Register`](crate::register::Register) does.
-///
-/// # Examples
-/// ```
-/// pub struct Register<T, H: History, P: Order<T> = Unordered> {
-///     value: T,
-///     log: Log<T, H>,
-///     order: PhantomData<P>,
-///     ghost latest: { last log.entries ≡ Some value },
-/// ```
 pub struct Log<T, H: History> {
     marker: PhantomData<(T, H)>,
     pub ghost entries: { List T } by { coded_list T.code },
@@ -127,11 +112,6 @@ impl<T, H: History> Model for Log<T, H> {
 /// A lower bound of a log: its entries are a prefix of the log's, now and ever after.
 ///
 /// Any number of threads may have a snapshot each, whether or not they hold the lock.
-///
-/// # Examples
-/// ```
-/// let (start, other) = (log.snapshot(), log.snapshot());
-/// ```
 pub struct Snapshot<T, H: History> {
     marker: PhantomData<(T, H)>,
     pub ghost entries: { List T } by { coded_list T.code },
@@ -144,11 +124,6 @@ impl<T, H: History> Model for Snapshot<T, H> {
 }
 
 /// A log to which no thread appends any more. Every snapshot is a prefix of it.
-///
-/// # Examples
-/// ```
-/// let (last, closed) = lock.into_inner().close();
-/// ```
 pub struct ClosedLog<T, H: History> {
     marker: PhantomData<(T, H)>,
     pub ghost entries: { List T } by { coded_list T.code },
@@ -162,11 +137,6 @@ impl<T, H: History> Model for ClosedLog<T, H> {
 
 impl BlankLog {
     /// Creates a log that has no type yet.
-    ///
-    /// # Examples
-    /// ```
-    /// race_by::<Brand, W>(rt, times, BlankLog::new())
-    /// ```
     pub fn new() -> BlankLog {
         BlankLog {
             marker: PhantomData,
@@ -177,11 +147,6 @@ impl BlankLog {
     ///
     /// # Contract
     /// `H` has to name this log, which the caller picks by passing `Brand` for `H`. The log is empty.
-    ///
-    /// # Examples
-    /// ```
-    /// let log = blank.open::<u64, H>();
-    /// ```
     pub fn open<T, H: History>(self) -> Log<T, H>
         requires { self.name ≡ H.name }
         ensures { result.entries ≡ [] }
@@ -198,12 +163,6 @@ impl<T, H: History> Log<T, H> {
     ///
     /// # Contract
     /// The log has the entries that it had, and then this one.
-    ///
-    /// # Examples
-    /// ```
-    /// let mut log = log;
-    /// log.append(&value);
-    /// ```
     pub fn append(&mut self, value: &T)
         ensures { self.new.entries ≡ self.old.entries ++ value.now ∷ [] }
     {}
@@ -212,12 +171,6 @@ impl<T, H: History> Log<T, H> {
     ///
     /// # Contract
     /// It has all entries of the log.
-    ///
-    /// # Examples
-    /// ```
-    /// let log = blank.open::<u64, H>();
-    /// let start = log.snapshot();
-    /// ```
     pub fn snapshot(&self) -> Snapshot<T, H>
         ensures { result.entries ≡ self.now.entries }
     {
@@ -230,12 +183,6 @@ impl<T, H: History> Log<T, H> {
     ///
     /// # Contract
     /// What the snapshot had is a prefix of the log. Afterwards it has all of the log.
-    ///
-    /// # Examples
-    /// ```
-    /// self.log.observe(seen);
-    /// &self.value
-    /// ```
     pub fn observe(&self, snapshot: &mut Snapshot<T, H>)
         ensures { IsPrefix snapshot.old.entries self.now.entries × (snapshot.new.entries ≡ self.now.entries) }
     {}
@@ -244,11 +191,6 @@ impl<T, H: History> Log<T, H> {
     ///
     /// # Contract
     /// They show the same entries. So two readers that hold a lock at the same time read the same value.
-    ///
-    /// # Examples
-    /// ```
-    /// self.log.same(&other.log);
-    /// ```
     pub fn same(&self, other: &Log<T, H>)
         ensures { self.now.entries ≡ other.now.entries }
     {}
@@ -257,11 +199,6 @@ impl<T, H: History> Log<T, H> {
     ///
     /// # Contract
     /// The closed log has all entries.
-    ///
-    /// # Examples
-    /// ```
-    /// (value, log.close())
-    /// ```
     pub fn close(self) -> ClosedLog<T, H>
         ensures { result.entries ≡ self.entries }
     {
@@ -277,8 +214,6 @@ impl<T, H: History> ClosedLog<T, H> {
     ///
     /// # Contract
     /// It has the same entries.
-    ///
-    /// No example: no caller here copies one.
     pub fn copy(&self) -> ClosedLog<T, H>
         ensures { result.entries ≡ self.now.entries }
     {
@@ -291,12 +226,6 @@ impl<T, H: History> ClosedLog<T, H> {
     ///
     /// # Contract
     /// As that of [`Log::observe`].
-    ///
-    /// # Examples
-    /// ```
-    /// seen.merge(&other);
-    /// closed.observe(&mut seen);
-    /// ```
     pub fn observe(&self, snapshot: &mut Snapshot<T, H>)
         ensures { IsPrefix snapshot.old.entries self.now.entries × (snapshot.new.entries ≡ self.now.entries) }
     {}
@@ -307,11 +236,6 @@ impl<T, H: History> Snapshot<T, H> {
     ///
     /// # Contract
     /// It has the same entries.
-    ///
-    /// # Examples
-    /// ```
-    /// let (one, other) = (start.copy(), start.copy());
-    /// ```
     pub fn copy(&self) -> Snapshot<T, H>
         ensures { result.entries ≡ self.now.entries }
     {
@@ -324,12 +248,6 @@ impl<T, H: History> Snapshot<T, H> {
     ///
     /// # Contract
     /// One is a prefix of the other.
-    ///
-    /// # Examples
-    /// ```
-    /// found.0.1.compare(&found.1.1);
-    /// (wrote, found)
-    /// ```
     pub fn compare(&self, other: &Snapshot<T, H>)
         ensures { IsPrefix self.now.entries other.now.entries ⊎ IsPrefix other.now.entries self.now.entries }
     {}
@@ -338,12 +256,6 @@ impl<T, H: History> Snapshot<T, H> {
     ///
     /// # Contract
     /// Both are prefixes of what this one has afterwards.
-    ///
-    /// # Examples
-    /// ```
-    /// seen.merge(&wrote.0);
-    /// seen.merge(&wrote.1);
-    /// ```
     pub fn merge(&mut self, other: &Snapshot<T, H>)
         ensures { IsPrefix self.old.entries self.new.entries × IsPrefix other.now.entries self.new.entries }
     {}

@@ -1,6 +1,33 @@
 //! A value whose callers know the history of what was written there. Begin with [`Register::new`]; the functions
 //! [`read`], [`write`], [`update`] and [`change`] work on a register under a lock, and those whose names begin with
 //! `try` do not wait for it.
+//!
+//! # Examples
+//! ```
+//! use spin::RwLock;
+//! use spin::history::{BlankLog, History, Work, open};
+//! use spin::register::{self, Register};
+//! use std::sync::Wait;
+//!
+//! #[derive(Drop)]
+//! struct Publish<'a, W>(&'a W);
+//!
+//! impl<W: Wait> Work for Publish<'_, W> {
+//!     type Answer = (u64, u64);
+//!
+//!     fn run<H: History + Send + Sync>(self, blank: BlankLog) -> (u64, u64) {
+//!         let rt = self.0;
+//!         let log = blank.open::<u64, H>();
+//!         let mut seen = log.snapshot();
+//!         let lock: RwLock<Register<u64, H>> = RwLock::new(Register::new(1, log));
+//!         let first = register::read_shared(rt, &lock, &mut seen);
+//!         register::write(rt, &lock, 2, &mut seen);
+//!         (first, register::read_shared(rt, &lock, &mut seen))
+//!     }
+//! }
+//!
+//! assert_eq!(rt; open(Publish(&rt)), (1, 2));
+//! ```
 ghost use Rattle.std.specs.Prelude.{◌≡◌, [], ◌∷◌, ◌++◌, Some, MatchBool, IfSome, IfNone};
 ghost use Rattle.std.specs.Fn.{FnOnceReturnsAt, FnOnceReturnsAtMut};
 ghost use mathlib.Core.List.{IsPrefix};
@@ -16,13 +43,6 @@ use std::sync::Wait;
 ///
 /// Put it under any lock. Each call takes a [`Snapshot`] of the caller's, and brings it up to date. The values change
 /// only as the order `P` allows, which by default allows each change.
-///
-/// # Examples
-/// ```
-/// let log = blank.open::<u64, H>();
-/// let start = log.snapshot();
-/// let lock: RwLock<Register<u64, H>> = RwLock::new(Register::new(0, log));
-/// ```
 #[derive(Drop)]
 pub struct Register<T, H: History, P: Order<T> = Unordered> {
     value: T,
@@ -37,11 +57,6 @@ impl<T, H: History, P: Order<T>> Register<T, H, P> {
     ///
     /// # Contract
     /// The value is the next entry of the log, and has to be in order there. Nothing is asked of an empty log.
-    ///
-    /// # Examples
-    /// ```
-    /// let lock: RwLock<Register<u64, H>> = RwLock::new(Register::new(0, log));
-    /// ```
     #[tactic(auto, using(crate::proofs::Entries::last_is))]
     pub fn new(value: T, log: Log<T, H>) -> Self
         requires { InOrder P.le (log.entries ++ value ∷ []) }
@@ -61,8 +76,6 @@ impl<T, H: History, P: Order<T>> Register<T, H, P> {
     ///
     /// # Contract
     /// It has the whole log, whose last entry is the value.
-    ///
-    /// No example: the callers here take theirs from the log.
     pub fn snapshot(&self) -> Snapshot<T, H>
         ensures exact { result.entries ≡ self.now.log.entries }
         ensures last { last result.entries ≡ Some self.now.value }
@@ -75,11 +88,6 @@ impl<T, H: History, P: Order<T>> Register<T, H, P> {
     /// # Contract
     /// It is the last write of a history that goes on from what the caller knew, and is in order (`order`). So it is at
     /// or after the last value that the caller saw (`grown`), whichever thread wrote.
-    ///
-    /// # Examples
-    /// ```
-    /// by(self.get(seen))
-    /// ```
     pub fn get(&self, seen: &mut Snapshot<T, H>) -> &T
         ensures order { InOrder P.le seen.new.entries }
         ensures grown { IsAtOrAfter P.le seen.old.entries result.now }
@@ -96,13 +104,6 @@ impl<T, H: History, P: Order<T>> Register<T, H, P> {
     ///
     /// # Contract
     /// The closure has to be always callable, and is called once. The value is that of [`get`](Self::get).
-    ///
-    /// # Examples
-    /// ```
-    /// let mut seen = known;
-    /// let answer = register.inspect(by, &mut seen);
-    /// (answer, seen)
-    /// ```
     pub fn inspect<A, F: FnOnce(&T) -> A>(&self, by: F, seen: &mut Snapshot<T, H>) -> A
         requires { F.IsAlwaysCallable by }
         ensures called { FnOnceReturnsAt F.FnOnce by self.now.value result }
@@ -124,9 +125,32 @@ impl<T, H: History, P: Order<T>> Register<T, H, P> {
     ///
     /// # Examples
     /// ```
-    /// let mut seen = known;
-    /// let answer = register.change(by, &mut seen);
-    /// (answer, seen)
+    /// use spin::history::{BlankLog, History, Work, open};
+    /// use spin::register::Register;
+    ///
+    /// #[derive(Drop)]
+    /// struct AddInPlace;
+    ///
+    /// impl Work for AddInPlace {
+    ///     type Answer = (u64, u64);
+    ///
+    ///     fn run<H: History + Send + Sync>(self, blank: BlankLog) -> (u64, u64) {
+    ///         let log = blank.open::<u64, H>();
+    ///         let mut seen = log.snapshot();
+    ///         let mut register: Register<u64, H> = Register::new(5, log);
+    ///         let before = register.change(
+    ///             |value| {
+    ///                 let before = *value;
+    ///                 *value = value.saturating_add(1);
+    ///                 before
+    ///             },
+    ///             &mut seen,
+    ///         );
+    ///         (before, register.read(&mut seen))
+    ///     }
+    /// }
+    ///
+    /// assert_eq!(rt; open(AddInPlace), (5, 6));
     /// ```
     #[tactic(auto, using(crate::proofs::Entries::last_is))]
     pub fn change<A, F: FnOnce(&mut T) -> A>(&mut self, by: F, seen: &mut Snapshot<T, H>) -> A
@@ -157,14 +181,6 @@ impl<T, H: History, P: Order<T>> Register<T, H, P> {
     ///
     /// # Contract
     /// They show the same value, and the same history.
-    ///
-    /// # Examples
-    /// ```
-    /// let first = lock.read(rt);
-    /// let second = lock.read(rt);
-    /// first.same(&second);
-    /// (first.read(seen), second.read(seen))
-    /// ```
     pub fn same(&self, other: &Register<T, H, P>)
         ensures value { self.now.value ≡ other.now.value }
         ensures entries { self.now.log.entries ≡ other.now.log.entries }
@@ -180,7 +196,27 @@ impl<T, H: History, P: Order<T>> Register<T, H, P> {
     ///
     /// # Examples
     /// ```
-    /// let (last, closed) = lock.into_inner().close();
+    /// use spin::history::{BlankLog, History, Work, open};
+    /// use spin::register::Register;
+    ///
+    /// #[derive(Drop)]
+    /// struct WriteAndClose;
+    ///
+    /// impl Work for WriteAndClose {
+    ///     type Answer = u64;
+    ///
+    ///     fn run<H: History + Send + Sync>(self, blank: BlankLog) -> u64 {
+    ///         let log = blank.open::<u64, H>();
+    ///         let mut seen = log.snapshot();
+    ///         let mut register: Register<u64, H> = Register::new(1, log);
+    ///         register.write(2, &mut seen);
+    ///         let (last, closed) = register.close();
+    ///         closed.observe(&mut seen);
+    ///         last
+    ///     }
+    /// }
+    ///
+    /// assert_eq!(rt; open(WriteAndClose), 2);
     /// ```
     pub fn close(self) -> (T, ClosedLog<T, H>)
         ensures ordered { InOrder P.le result.1.entries }
@@ -203,12 +239,6 @@ impl<T: Drop, H: History, P: Order<T>> Register<T, H, P> {
     /// # Contract
     /// The value has to be one that may come after any other. It is the last entry of a history that goes on from what
     /// the caller knew (`Writes`). Nothing comes between what the register had and this write.
-    ///
-    /// # Examples
-    /// ```
-    /// let mut writer = guard.upgrade(rt);
-    /// writer.write(new, seen);
-    /// ```
     pub fn write(&mut self, new: T, seen: &mut Snapshot<T, H>)
         requires { (x : T) → P.le x new }
         ensures order { InOrder P.le seen.new.entries }
@@ -235,8 +265,6 @@ impl<T: Drop, H: History, P: Order<T>> Register<T, H, P> {
     /// The closure has to be always callable. Whatever the value, it has to answer one that may come after it. It is
     /// called with the last write, and its answer is the next one (`Updates`), at or after the last value that the
     /// caller saw.
-    ///
-    /// No example: it is called as [`write`](Self::write) is, with a closure.
     pub fn update<F: FnOnce(&T) -> T>(&mut self, by: F, seen: &mut Snapshot<T, H>)
         requires callable { F.IsAlwaysCallable by }
         requires grows { (x y : T) → FnOnceReturnsAt F.FnOnce by x y → P.le x y }
@@ -266,12 +294,6 @@ impl<T: Copy, H: History, P: Order<T>> Register<T, H, P> {
     ///
     /// # Contract
     /// As that of [`get`](Register::get).
-    ///
-    /// # Examples
-    /// ```
-    /// let guard = lock.upgradeable_read(rt);
-    /// let before = guard.read(seen);
-    /// ```
     pub fn read(&self, seen: &mut Snapshot<T, H>) -> T
         ensures order { InOrder P.le seen.new.entries }
         ensures grown { IsAtOrAfter P.le seen.old.entries result }
@@ -289,18 +311,6 @@ impl<T: Copy, H: History, P: Order<T>> Register<T, H, P> {
 /// # Contract
 /// The closure has to be always callable. It is called with the last write of a history that goes on from what the
 /// caller knew, and is in order (`ReadsIn`). Whether and when the call returns is not promised.
-///
-/// # Examples
-/// ```
-/// inspect(
-///     rt,
-///     lock,
-///     |value: &T| -> T
-///         ensures { result ≡ value.now }
-///     { *value },
-///     seen,
-/// )
-/// ```
 pub fn inspect<
     T,
     P: Order<T>,
@@ -334,8 +344,6 @@ pub fn inspect<
 /// # Contract
 /// The answer is the last write of a history that goes on from what the caller knew, and is in order. So it is at or
 /// after the last value that the caller saw, whichever thread wrote. Whether and when the call returns is not promised.
-///
-/// No example: it is called as [`read_shared`] is.
 pub fn read<T: Copy, P: Order<T>, H: History, L: Lock<Register<T, H, P>>, W: Wait>(
     rt: &W,
     lock: &L,
@@ -360,18 +368,6 @@ pub fn read<T: Copy, P: Order<T>, H: History, L: Lock<Register<T, H, P>>, W: Wai
 ///
 /// # Contract
 /// As that of [`inspect`].
-///
-/// # Examples
-/// ```
-/// inspect_shared(
-///     rt,
-///     lock,
-///     |value: &T| -> T
-///         ensures { result ≡ value.now }
-///     { *value },
-///     seen,
-/// )
-/// ```
 pub fn inspect_shared<
     T,
     P: Order<T>,
@@ -404,13 +400,6 @@ pub fn inspect_shared<
 ///
 /// # Contract
 /// As that of [`read`].
-///
-/// # Examples
-/// ```
-/// let mut seen = first;
-/// let found = register::read_shared(rt, lock, &mut seen);
-/// (found, seen)
-/// ```
 pub fn read_shared<T: Copy, P: Order<T>, H: History, L: SharedLock<Register<T, H, P>>, W: Wait>(
     rt: &W,
     lock: &L,
@@ -436,11 +425,6 @@ pub fn read_shared<T: Copy, P: Order<T>, H: History, L: SharedLock<Register<T, H
 /// # Contract
 /// A value is as that of [`read`]. With `None` the caller knows what it knew. `None` comes only where `try_with` of the
 /// lock hands its closure back, which is what a test shows.
-///
-/// # Examples
-/// ```
-/// let refused = register::try_read(&lock, &mut seen);
-/// ```
 pub fn try_read<T: Copy, P: Order<T>, H: History, L: Lock<Register<T, H, P>>>(
     lock: &L,
     seen: &mut Snapshot<T, H>,
@@ -467,8 +451,6 @@ pub fn try_read<T: Copy, P: Order<T>, H: History, L: Lock<Register<T, H, P>>>(
 ///
 /// # Contract
 /// As that of [`try_read`]. Whether and when the call returns is not promised.
-///
-/// No example: it is called as [`try_read`] is, with `rt`.
 pub fn try_read_shared<T: Copy, P: Order<T>, H: History, L: SharedLock<Register<T, H, P>>, W: Wait>(
     rt: &W,
     lock: &L,
@@ -500,21 +482,6 @@ pub fn try_read_shared<T: Copy, P: Order<T>, H: History, L: SharedLock<Register<
 /// called with the last write of a history that goes on from what the caller knew. What it leaves there is the next
 /// one: nothing comes between. It is at or after the last value that the caller saw, and afterwards the caller knows it
 /// as the last write (`UpdatesIn`). Whether and when the call returns is not promised.
-///
-/// # Examples
-/// ```
-/// change(
-///     rt,
-///     lock,
-///     move |value: &mut T|
-///         requires { F.IsAlwaysCallable by }
-///         ensures { FnOnceReturnsAt F.FnOnce by value.old value.new }
-///     {
-///         *value = by(value);
-///     },
-///     seen,
-/// );
-/// ```
 pub fn change<
     T,
     P: Order<T>,
@@ -550,13 +517,6 @@ pub fn change<
 /// # Contract
 /// The value has to be one that may come after any other. It is the last entry of a history that goes on from what the
 /// caller knew. Whether and when the call returns is not promised.
-///
-/// # Examples
-/// ```
-/// let mut seen = first;
-/// register::write(rt, lock, one, &mut seen);
-/// seen
-/// ```
 pub fn write<T: Drop, P: Order<T>, H: History, L: Lock<Register<T, H, P>>, W: Wait>(
     rt: &W,
     lock: &L,
@@ -587,18 +547,6 @@ pub fn write<T: Drop, P: Order<T>, H: History, L: Lock<Register<T, H, P>>, W: Wa
 /// The closure has to be always callable. Whatever the value, it has to answer one that may come after it. It is called
 /// with the last write, and its answer is the next one, as that of [`change`] (`UpdatesIn`). Whether and when the call
 /// returns is not promised.
-///
-/// # Examples
-/// ```
-/// register::update(
-///     rt,
-///     version,
-///     |old: &u64| -> u64
-///         ensures { old.now ≤ result }
-///     { old.saturating_add(1) },
-///     &mut seen,
-/// );
-/// ```
 pub fn update<
     T: Drop,
     P: Order<T>,
@@ -633,7 +581,29 @@ pub fn update<
 ///
 /// # Examples
 /// ```
-/// equal(rt, register::try_write(&lock, 2, &mut seen), true);
+/// use spin::RwLock;
+/// use spin::history::{BlankLog, History, Work, open};
+/// use spin::register::{self, Register};
+/// use std::sync::Wait;
+///
+/// #[derive(Drop)]
+/// struct TryBesideReader<'a, W>(&'a W);
+///
+/// impl<W: Wait> Work for TryBesideReader<'_, W> {
+///     type Answer = (bool, bool);
+///
+///     fn run<H: History + Send + Sync>(self, blank: BlankLog) -> (bool, bool) {
+///         let log = blank.open::<u64, H>();
+///         let mut seen = log.snapshot();
+///         let lock: RwLock<Register<u64, H>> = RwLock::new(Register::new(1, log));
+///         let reader = lock.read(self.0);
+///         let beside = register::try_write(&lock, 2, &mut seen);
+///         drop(reader);
+///         (beside, register::try_write(&lock, 2, &mut seen))
+///     }
+/// }
+///
+/// assert_eq!(rt; open(TryBesideReader(&rt)), (false, true));
 /// ```
 pub fn try_write<T: Drop, P: Order<T>, H: History, L: Lock<Register<T, H, P>>>(
     lock: &L,

@@ -1,5 +1,31 @@
 //! A number that threads add to, whose total is exactly what was added. Begin with [`Tally::new`]; the functions
 //! [`add`] and [`total`] work on a tally under a lock.
+//!
+//! # Examples
+//! ```
+//! use spin::mutex::SpinMutex;
+//! use spin::tally::{self, Tally, Work};
+//! use std::sync::Wait;
+//! use std::sync::ledger::{Ledger, Share};
+//!
+//! #[derive(Drop)]
+//! struct AddTwice<'a, W>(&'a W);
+//!
+//! impl<W: Wait> Work for AddTwice<'_, W> {
+//!     type Answer = u64;
+//!
+//!     fn run<L: Ledger + Send + Sync>(self, tally: Tally<L>, all: Share<L>) -> u64 {
+//!         let rt = self.0;
+//!         let lock: SpinMutex<Tally<L>> = SpinMutex::new(tally);
+//!         let mut mine = all;
+//!         tally::add(rt, &lock, &mut mine, 3);
+//!         tally::add(rt, &lock, &mut mine, 4);
+//!         tally::total(rt, &lock, &mut mine)
+//!     }
+//! }
+//!
+//! assert_eq!(rt; tally::open(AddTwice(&rt)), 7);
+//! ```
 ghost use Rattle.std.specs.Prelude.{◌≡◌, ℕ, ◌+◌, ◌-◌, ◌^◌, ◌<◌, ◌≤◌, MatchBool, ⊤};
 
 use spin_core::lock::Lock;
@@ -12,13 +38,6 @@ use std::sync::ledger::{Blank, Book, Ledger, Share};
 ///
 /// Put it under a mutex: a `Book` is not `Sync`, so threads cannot share an `RwLock` around a tally. Each thread that adds
 /// has a `Share` of the ledger, in which its additions are counted.
-///
-/// # Examples
-/// ```
-/// let (book, mut mine) = blank.open::<L>();
-/// let theirs = mine.split_off(1, 0);
-/// let lock: SpinMutex<Tally<L>> = SpinMutex::new(Tally::new(book));
-/// ```
 #[derive(Drop)]
 pub struct Tally<L: Ledger> {
     count: u64,
@@ -31,11 +50,6 @@ impl<L: Ledger> Tally<L> {
     ///
     /// # Contract
     /// Nothing may have been added to the book either. The count is 0.
-    ///
-    /// # Examples
-    /// ```
-    /// let lock: SpinMutex<Tally<L>> = SpinMutex::new(Tally::new(book));
-    /// ```
     pub fn new(book: Book<L>) -> Self
         requires { book.total ≡ 0 }
         ensures { result.count ≡ 0 }
@@ -55,9 +69,23 @@ impl<L: Ledger> Tally<L> {
     ///
     /// # Examples
     /// ```
-    /// let mut share = held;
-    /// let added = tally.add(&mut share, more);
-    /// (added, share)
+    /// use spin::tally::{self, Tally, Work};
+    /// use std::sync::ledger::{Ledger, Share};
+    ///
+    /// #[derive(Drop)]
+    /// struct AddTooMuch;
+    ///
+    /// impl Work for AddTooMuch {
+    ///     type Answer = (bool, bool);
+    ///
+    ///     fn run<L: Ledger + Send + Sync>(self, tally: Tally<L>, all: Share<L>) -> (bool, bool) {
+    ///         let (mut tally, mut mine) = (tally, all);
+    ///         let first = tally.add(&mut mine, u64::MAX);
+    ///         (first, tally.add(&mut mine, 1))
+    ///     }
+    /// }
+    ///
+    /// assert_eq!(rt; tally::open(AddTooMuch), (true, false));
     /// ```
     pub fn add(&mut self, mine: &mut Share<L>, more: u64) -> bool
         requires { 0 < mine.old.parts }
@@ -84,13 +112,6 @@ impl<L: Ledger> Tally<L> {
     ///
     /// # Contract
     /// The share has to have all parts of the ledger. The answer is its amount, and the tally's count.
-    ///
-    /// # Examples
-    /// ```
-    /// let mut share = held;
-    /// let total = tally.total(&mut share);
-    /// (total, share)
-    /// ```
     pub fn total(&mut self, every: &mut Share<L>) -> u64
         requires { every.old.parts ≡ L.parts }
         ensures total { result ≡ every.old.amount }
@@ -109,12 +130,6 @@ impl<L: Ledger> Tally<L> {
 /// # Contract
 /// `asks` is what the work asks of its own fields, and `gives` what an answer of it may be. Both say nothing unless the
 /// work names them.
-///
-/// # Examples
-/// ```
-/// impl<W: Wait> tally::Work for AddAndAudit<'_, W> {
-///     type Answer = (u64, u64);
-/// ```
 pub trait Work {
     type Answer;
 
@@ -127,12 +142,6 @@ pub trait Work {
     /// # Contract
     /// What it asks has to hold. The share has every part of the ledger, which are `u64::MAX`, and counts nothing yet. The
     /// answer is one that the work may give.
-    ///
-    /// # Examples
-    /// ```
-    /// fn run<L: Ledger + Send + Sync>(self, tally: Tally<L>, all: Share<L>) -> (u64, u64) {
-    ///     let AddAndAudit { rt, more } = self;
-    /// ```
     fn run<L: Ledger + Send + Sync>(self, tally: Tally<L>, all: Share<L>) -> Self::Answer
         requires asked { asks self }
         requires empty { tally.count ≡ 0 }
@@ -157,11 +166,6 @@ fn open_by<K: Work, L: Ledger + Send + Sync>(work: K, blank: Blank) -> K::Answer
 ///
 /// # Contract
 /// What the work asks has to hold. Its answer is one that it may give.
-///
-/// # Examples
-/// ```
-/// tally::open(AddAndAudit { rt, more })
-/// ```
 pub fn open<K: Work>(work: K) -> K::Answer
     requires asked { K.asks work }
     ensures { K.gives work result }
@@ -176,15 +180,6 @@ pub fn open<K: Work>(work: K) -> K::Answer
 /// there is a number to which `more` cannot be added (`full`). That the tally held such a number is what a test shows.
 /// With all parts of the ledger the answer is `true` exactly if the sum fits (`whole`). Whether and when the call returns
 /// is not promised.
-///
-/// # Examples
-/// ```
-/// let added = if tally::add(rt, lock, &mut share, more) {
-///     more
-/// } else {
-///     0
-/// };
-/// ```
 pub fn add<L: Ledger, K: Lock<Tally<L>>, W: Wait>(
     rt: &W,
     lock: &K,
@@ -222,12 +217,6 @@ pub fn add<L: Ledger, K: Lock<Tally<L>>, W: Wait>(
 /// # Contract
 /// The share has to have all parts of the ledger. The answer is its amount. Whether and when the call returns is not
 /// promised.
-///
-/// # Examples
-/// ```
-/// all.merge(share);
-/// let total = tally::total(rt, lent, &mut all);
-/// ```
 pub fn total<L: Ledger, K: Lock<Tally<L>>, W: Wait>(rt: &W, lock: &K, every: &mut Share<L>) -> u64
     requires { every.old.parts ≡ L.parts }
     ensures total { result ≡ every.old.amount }

@@ -1,13 +1,5 @@
 //! The answers of calls. Begin with [`Answer`], which every object of this project uses.
 /// The answer of a call, of any object. `V` is the type of the object's value.
-///
-/// # Examples
-/// ```
-/// (FlagCall::IsLocked, _) => Stepped::stay(
-///     words,
-///     Next::Answers(Answer::Is(words), holds),
-/// ),
-/// ```
 #[derive(Copy)]
 pub enum Answer<V> {
     /// The party holds what it asked for.

@@ -1,15 +1,5 @@
 //! The calls of the lock of one flag, and their points. Begin with [`FlagCall`].
 /// A call of a `Flag`. `Flag::new` of `spin_world` promises that each call asks what stands here.
-///
-/// # Examples
-/// ```
-/// Move::Begin(FlagCall::Lock),
-/// Move::Step,
-/// Move::Read,
-/// Move::Write(1),
-/// Move::Begin(FlagCall::Release),
-/// Move::Step,
-/// ```
 #[derive(Copy)]
 pub enum FlagCall {
     /// Acquires the lock, in as many steps as it needs.
@@ -25,8 +15,6 @@ pub enum FlagCall {
 }
 
 /// The point of a call: which step comes next. Only `Lock` has a second one.
-///
-/// No example: a world keeps the points of calls, and a schedule names none.
 #[derive(Copy)]
 pub enum FlagPoint {
     /// The first step of any call, and of each further attempt.

@@ -3,13 +3,6 @@
 ///
 /// If there is a value, a call with a closure answers that one. If there is none, the call runs its closure, but waits
 /// while another closure runs.
-///
-/// # Examples
-/// ```
-/// 0 Move::OwnerSet(4) => Outcome::Written, 2;
-/// 0 Move::Begin(OnceCall::Get) => Outcome::Begun, 2;
-/// 0 Move::Step => answered!(Answer::Value(4), 1), 2;
-/// ```
 #[derive(Copy)]
 pub enum OnceCall<V> {
     /// Runs a closure that gives this value.
@@ -31,8 +24,6 @@ pub enum OnceCall<V> {
 }
 
 /// The point of a call: which step comes next.
-///
-/// No example: a world keeps the points of calls, and a schedule names none.
 #[derive(Copy)]
 pub enum OncePoint {
     /// The first look of any call, and each further look of `Wait` and `Poll`.

@@ -1,10 +1,5 @@
 //! Where a party stands, and what it holds. Begin with [`Place`].
 /// What a party holds.
-///
-/// # Examples
-/// ```
-/// let sits = Place::Holding(Hold::Read);
-/// ```
 #[derive(Copy)]
 pub enum Hold {
     /// Shared access. It may read the value.
@@ -20,12 +15,6 @@ pub enum Hold {
 }
 
 /// Where a party stands, as `World::place` returns it.
-///
-/// # Examples
-/// ```
-/// let places: [Place; 2] = [Place::Idle, Place::Holding(Hold::Write)];
-/// plays(&rt, &mut world, ENDED, &places, 5);
-/// ```
 #[derive(Copy)]
 pub enum Place {
     /// The party holds nothing, and is in no call.
@@ -42,8 +31,6 @@ pub enum Place {
 }
 
 /// Where a party stands, with all that the world keeps of it. Contracts name it; a program uses [`Place`].
-///
-/// No example: it is what contracts say of a [`Place`].
 #[derive(Copy)]
 pub enum Seat<C, L> {
     Idle,

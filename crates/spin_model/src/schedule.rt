@@ -1,17 +1,5 @@
 //! The moves of a schedule, and what each comes to. Begin with [`Move`] and [`Outcome`].
 /// One move of a party. A schedule is a list of parties with their moves.
-///
-/// # Examples
-/// ```
-/// const TURN: [Move<FlagCall, u64>; 6] = [
-///     Move::Begin(FlagCall::Lock),
-///     Move::Step,
-///     Move::Read,
-///     Move::Write(1),
-///     Move::Begin(FlagCall::Release),
-///     Move::Step,
-/// ];
-/// ```
 #[derive(Copy)]
 pub enum Move<C, V> {
     /// Begins a call, as an idle party or as a holder. The object says which calls a party may begin.
@@ -34,15 +22,6 @@ pub enum Move<C, V> {
 }
 
 /// The outcome of one move.
-///
-/// # Examples
-/// ```
-/// for event in &transcript.events {
-///     if let Outcome::Skipped = event.outcome {
-///         added = added.wrapping_sub(1);
-///     }
-/// }
-/// ```
 #[derive(Copy)]
 pub enum Outcome<A, V> {
     /// The move was not open to the party, or there is no such party. Nothing changed.
@@ -68,15 +47,6 @@ pub enum Outcome<A, V> {
 }
 
 /// One entry of a transcript.
-///
-/// # Examples
-/// ```
-/// Told {
-///     party: event.party,
-///     outcome: event.outcome,
-///     numbers: numbers::<O>(event.words),
-/// }
-/// ```
 #[derive(Copy)]
 pub struct Event<W, V, A> {
     /// The party that moved.

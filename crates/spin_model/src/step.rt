@@ -5,12 +5,6 @@ ghost use Rattle.spin_model.specs.Acts.{stays, becomes};
 use crate::place::Hold;
 
 /// How a call continues after a step.
-///
-/// # Examples
-/// ```
-/// (FlagCall::Lock, FlagPoint::First) => Some(Next::Continue(FlagPoint::Second)),
-/// (FlagCall::TryLockWeak, _) => Some(Next::Answers(Answer::Refused, holds)),
-/// ```
 #[derive(Copy)]
 pub enum Next<L, A> {
     /// The call continues at this point.
@@ -20,18 +14,6 @@ pub enum Next<L, A> {
 }
 
 /// The outcome of one step of a call.
-///
-/// # Examples
-/// ```
-/// TicketPoint::Serve(ticket) => Stepped {
-///     words: TicketWords {
-///         serving: ticket::serve(ticket),
-///         ..words
-///     },
-///     placed: None,
-///     next: Next::Answers(Answer::Done, None),
-/// },
-/// ```
 #[derive(Copy)]
 pub struct Stepped<W, V, L, A> {
     /// The words after the step.
@@ -47,14 +29,6 @@ impl<W, V, L, A> Stepped<W, V, L, A> {
     ///
     /// # Contract
     /// The step is `stays` of the words and of how the call continues.
-    ///
-    /// # Examples
-    /// ```
-    /// match flag::lock(words) {
-    ///     Some(taken) => Stepped::stay(taken, Next::Answers(Answer::Granted, Some(Hold::Write))),
-    ///     None => Stepped::stay(words, refusal),
-    /// }
-    /// ```
     pub fn stay(words: W, next: Next<L, A>) -> Self
         ensures { result ≡ stays words next }
     {
@@ -75,7 +49,14 @@ impl<W: Copy, V, L: Copy, A: Copy> Stepped<W, V, L, A> {
     ///
     /// # Examples
     /// ```
-    /// FairCall::TryLock => Stepped::exchange(word, fair::lock(word), grant(), refused),
+    /// use spin::step::flag;
+    /// use spin_world::{Answer, Hold, Next, Stepped};
+    ///
+    /// let granted: Next<(), Answer<u64>> = Next::Answers(Answer::Granted, Some(Hold::Write));
+    /// let refused = Next::Answers(Answer::Refused, None);
+    /// let step: Stepped<bool, u64, _, _> = Stepped::exchange(false, flag::lock(false), granted, refused);
+    /// assert!(rt; step.words);
+    /// assert!(rt; matches!(step.next, Next::Answers(Answer::Granted, _)));
     /// ```
     pub fn exchange(words: W, to: Option<W>, won: Next<L, A>, lost: Next<L, A>) -> Self
         ensures { result ≡ becomes (λ w. w) words to won lost }

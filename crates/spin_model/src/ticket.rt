@@ -1,12 +1,5 @@
 //! The calls of the lock of two numbers, their points, and its words. Begin with [`TicketCall`].
 /// The two words of a `Ticket`.
-///
-/// # Examples
-/// ```
-/// fn numbers(words: TicketWords) -> (u64, Option<u64>) {
-///     (words.next, Some(words.serving))
-/// }
-/// ```
 #[derive(Copy)]
 pub struct TicketWords {
     /// The number of the next ticket.
@@ -16,16 +9,6 @@ pub struct TicketWords {
 }
 
 /// A call of a `Ticket`. `Ticket::new` of `spin_world` promises that each call asks what stands here.
-///
-/// # Examples
-/// ```
-/// const TICKET_CALLS: [(&[u8], TicketCall); 4] = [
-///     (b"lock", TicketCall::Lock),
-///     (b"try_lock", TicketCall::TryLock),
-///     (b"is_locked", TicketCall::IsLocked),
-///     (b"release", TicketCall::Release),
-/// ];
-/// ```
 #[derive(Copy)]
 pub enum TicketCall {
     /// Takes a ticket, in as many steps as it needs, and then waits until it is served. If no number is left, it looks
@@ -41,8 +24,6 @@ pub enum TicketCall {
 }
 
 /// The point of a call: which step comes next, with what the party has found or taken so far.
-///
-/// No example: a world keeps the points of calls, and a schedule names none.
 #[derive(Copy)]
 pub enum TicketPoint {
     /// `Lock` loads the next number.

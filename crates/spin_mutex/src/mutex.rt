@@ -33,10 +33,12 @@ pub use spin_ticket::ticket::{TicketMutex, TicketMutexGuard};
 ///
 /// # Examples
 /// ```
-/// let total = Mutex::new(0);
-/// let lent = &total;
-/// thread::join(rt, || add_one(rt, lent), || add_one(rt, lent));
-/// total.into_inner()
+/// use spin::Yield;
+/// use spin::mutex::Mutex;
+///
+/// let total: Mutex<u64, Yield> = Mutex::new(1);
+/// *total.lock(&rt) = 5;
+/// assert_eq!(rt; total.into_inner(), 5);
 /// ```
 #[derive(Drop)]
 pub struct Mutex<T, R = Spin> {
@@ -49,17 +51,6 @@ pub struct Mutex<T, R = Spin> {
 ///
 /// # Contract
 /// `value_of` is the value behind the guard. What is written through the guard is read through it.
-///
-/// # Examples
-/// ```
-/// pub fn count_up_to(guard: &mut MutexGuard<'_, u64, Yield>, most: u64)
-///     ensures { value_of guard.old ≤ most → value_of guard.new ≤ most }
-/// {
-///     if **guard < most {
-///         **guard += 1;
-///     }
-/// }
-/// ```
 #[derive(Drop)]
 #[must_use = "dropping the guard at once releases the lock: bind it, or write `drop(..)`"]
 pub struct MutexGuard<'a, T, R = Spin> {
@@ -74,18 +65,6 @@ pub struct MutexGuard<'a, T, R = Spin> {
 ///
 /// # Contract
 /// `held_value` is the value that the guard had.
-///
-/// # Examples
-/// A test of each mutex, here with `Mutex` as `$Lock` and `MutexGuard` as `$Guard`:
-///
-/// ```
-/// let mut guard = lock.lock($rt);
-/// *guard = 3;
-/// let held = $Guard::hold(guard);
-/// let refused = lock.try_lock().is_none();
-/// $Lock::force_unlock(held);
-/// (refused, *lock.try_lock().expect($rt, "open"))
-/// ```
 #[derive(Drop)]
 #[must_use = "dropping a hold does not release the lock: pass it to `force_unlock`"]
 pub struct Held<'a, T, R = Spin> {
@@ -100,7 +79,14 @@ impl<'a, T, R> Held<'a, T, R> {
     ///
     /// # Examples
     /// ```
-    /// drop(held.into_guard());
+    /// use spin::{Mutex, MutexGuard};
+    ///
+    /// let total: Mutex<u64> = Mutex::new(1);
+    /// let held = MutexGuard::hold(total.lock(&rt));
+    /// let guard = held.into_guard();
+    /// assert_eq!(rt; *guard, 1);
+    /// drop(guard);
+    /// assert!(rt; !total.is_locked());
     /// ```
     pub fn into_guard(self) -> MutexGuard<'a, T, R>
         ensures { Some (value_of result) ≡ held_value self.entry }
@@ -117,15 +103,6 @@ impl<T, R> Mutex<T, R> {
     ///
     /// # Contract
     /// No clause. The call returns.
-    ///
-    /// # Examples
-    /// ```
-    /// let lock: Mutex<u64> = Mutex::new(1);
-    /// let mut guard: MutexGuard<u64, Spin> = lock.lock(&rt);
-    /// *guard = 2;
-    /// drop(guard);
-    /// equal(&rt, lock.into_inner(), 2);
-    /// ```
     pub fn new(value: T) -> Self {
         Self::over(TicketMutex::new(value))
     }
@@ -141,14 +118,6 @@ impl<T, R> Mutex<T, R> {
     ///
     /// # Contract
     /// No clause. The call returns.
-    ///
-    /// # Examples
-    /// ```
-    /// let counter = Mutex::new(0);
-    /// let (lent, host) = (&counter, &rt);
-    /// std::thread::join(host, || count(host, lent), || count(host, lent));
-    /// assert_eq!(rt; counter.into_inner(), 2);
-    /// ```
     pub fn into_inner(self) -> T {
         let Self { inner } = self;
         inner.into_inner()
@@ -163,8 +132,11 @@ impl<T, R> Mutex<T, R> {
     ///
     /// # Examples
     /// ```
-    /// *mutex.get_mut() = 42;
-    /// equal(&rt, mutex.is_locked(), false);
+    /// use spin::Mutex;
+    ///
+    /// let mut total: Mutex<u64> = Mutex::default();
+    /// *total.get_mut() = 7;
+    /// assert_eq!(rt; total.into_inner(), 7);
     /// ```
     pub fn get_mut(&mut self) -> &mut T {
         self.inner.get_mut()
@@ -180,9 +152,13 @@ impl<T, R> Mutex<T, R> {
     ///
     /// # Examples
     /// ```
-    /// let guard = lock.try_lock().expect(&rt, "open");
-    /// let text = format!(in rt.alloc(); "{guard:<3?}|{guard:>3}|{lock:30?}").expect(&rt, "memory");
-    /// equal(&rt, text.as_str(), "5  |  5|Mutex { <locked> }");
+    /// use spin::Mutex;
+    ///
+    /// let total: Mutex<u64> = Mutex::new(1);
+    /// let guard = total.lock(&rt);
+    /// assert!(rt; total.try_lock().is_none());
+    /// drop(guard);
+    /// assert!(rt; total.try_lock().is_some());
     /// ```
     #[must_use = "dropping the guard at once releases the lock: bind the answer, or write `drop(..)`"]
     pub fn try_lock(&self) -> Option<MutexGuard<'_, T, R>>
@@ -204,8 +180,13 @@ impl<T, R> Mutex<T, R> {
     ///
     /// # Examples
     /// ```
-    /// let lock: mutex::Mutex<u64, Yield> = mutex::Mutex::new(3);
-    /// equal(&rt, lock.is_locked(), false);
+    /// use spin::Mutex;
+    ///
+    /// let total: Mutex<u64> = Mutex::from(1);
+    /// let guard = total.lock(&rt);
+    /// assert!(rt; total.is_locked());
+    /// drop(guard);
+    /// assert!(rt; !total.is_locked());
     /// ```
     pub fn is_locked(&self) -> bool {
         self.inner.is_locked()
@@ -217,11 +198,6 @@ impl<T, R> Mutex<T, R> {
     ///
     /// # Contract
     /// The pass is of this mutex (`lock`), and knows nothing of its history yet (`new`).
-    ///
-    /// # Examples
-    /// ```
-    /// let (first, (second, third)) = count_by_three(&rt, lock.pass(), lock.pass(), lock.pass());
-    /// ```
     pub fn pass(&self) -> ticket::Pass<'_, T, R>
         ensures new { (history result ≡ []) × (party result ≡ None) }
         ensures lock { (lock_of result ≡ name_of self.now.inner) × (first_of result ≡ first_ticket self.now.inner) }
@@ -235,18 +211,6 @@ impl<T, R> Mutex<T, R> {
     ///
     /// # Contract
     /// No clause. The call returns.
-    ///
-    /// # Examples
-    /// A test of each mutex, here with `Mutex` as `$Lock` and `MutexGuard` as `$Guard`:
-    ///
-    /// ```
-    /// let mut guard = lock.lock($rt);
-    /// *guard = 3;
-    /// let held = $Guard::hold(guard);
-    /// let refused = lock.try_lock().is_none();
-    /// $Lock::force_unlock(held);
-    /// (refused, *lock.try_lock().expect($rt, "open"))
-    /// ```
     pub fn force_unlock(held: Held<'_, T, R>) {
         let Held { inner } = held;
         TicketMutex::force_unlock(inner);
@@ -264,8 +228,13 @@ impl<T, R: RelaxStrategy> Mutex<T, R> {
     ///
     /// # Examples
     /// ```
-    /// let mut guard = counter.lock(rt);
-    /// *guard = guard.saturating_add(1);
+    /// use spin::Mutex;
+    ///
+    /// let total: Mutex<u64> = Mutex::new(1);
+    /// let mut guard = total.lock(&rt);
+    /// *guard = guard.wrapping_add(1);
+    /// drop(guard);
+    /// assert_eq!(rt; total.into_inner(), 2);
     /// ```
     pub fn lock<W: Wait>(&self, rt: &W) -> MutexGuard<'_, T, R>
         ensures { holds result }
@@ -286,14 +255,13 @@ impl<'a, T, R> MutexGuard<'a, T, R> {
     /// The reference has the value of the guard. The call returns.
     ///
     /// # Examples
-    /// A test of each mutex, here with `MutexGuard` as `$Guard`:
-    ///
     /// ```
-    /// let value = $Guard::leak(lock.lock($rt));
-    /// *value = 7;
-    /// let refused = lock.try_lock().is_none();
-    /// *value = 9;
-    /// (refused, lock.into_inner())
+    /// use spin::{Mutex, MutexGuard};
+    ///
+    /// let total: Mutex<u64> = Mutex::new(1);
+    /// *MutexGuard::leak(total.lock(&rt)) = 9;
+    /// assert!(rt; total.try_lock().is_none());
+    /// assert_eq!(rt; total.into_inner(), 9);
     /// ```
     pub fn leak(this: Self) -> &'a mut T
         ensures { result.now ≡ value_of this.entry }
@@ -308,15 +276,14 @@ impl<'a, T, R> MutexGuard<'a, T, R> {
     /// `held_value` of the hold is the value of the guard. The call returns.
     ///
     /// # Examples
-    /// A test of each mutex, here with `Mutex` as `$Lock` and `MutexGuard` as `$Guard`:
-    ///
     /// ```
-    /// let mut guard = lock.lock($rt);
-    /// *guard = 3;
-    /// let held = $Guard::hold(guard);
-    /// let refused = lock.try_lock().is_none();
-    /// $Lock::force_unlock(held);
-    /// (refused, *lock.try_lock().expect($rt, "open"))
+    /// use spin::{Mutex, MutexGuard};
+    ///
+    /// let total: Mutex<u64> = Mutex::new(1);
+    /// let held = MutexGuard::hold(total.lock(&rt));
+    /// assert!(rt; total.is_locked());
+    /// Mutex::force_unlock(held);
+    /// assert!(rt; !total.is_locked());
     /// ```
     pub fn hold(this: Self) -> Held<'a, T, R>
         ensures { held_value result ≡ Some (value_of this.entry) }

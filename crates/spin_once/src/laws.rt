@@ -18,9 +18,6 @@ ghost use Rattle.spin_once.specs.declared.once_core.rule.View.{View};
 /// Whatever holds between any two steps of threads (`IsOnce`): no move of the schedule is passed over in the object.
 /// After it the object has the cell's word, and has each party where the cell has it. `given` is the value that the cell
 /// was made with, or none. The marks of the parties count the moves of the schedule (`counted`).
-///
-/// # Examples
-/// None: nobody calls a law.
 pub fn every_run_of_a_once_is_a_schedule()
     ensures { (given : Option (Unit {0})) (name word : ℕ) (trace : Trace Made (Unit {0})) (parties : List (Numbered View)) → IsOnce given name word trace parties → IsRun (once_machine given) place_of words_of (foretold trace.entries) (word, trace.word) (map (counted trace.entries) parties) }
 {}

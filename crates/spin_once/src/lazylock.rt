@@ -21,13 +21,6 @@ mod texts;
 pub use self::pass::Pass;
 
 /// A promise on a value: what callers may rely on, whoever made it.
-///
-/// # Examples
-/// ```
-/// impl Promise<u64> for Is {
-///     ghost keeps = { λ promised value. value ≡ promised.0 };
-/// }
-/// ```
 pub trait Promise<T> {
     // The value keeps the promise.
     ghost keeps: { Self → T → Type 0 };
@@ -45,11 +38,19 @@ impl<T> Promise<T> for () {
 ///
 /// # Examples
 /// ```
-/// impl<'t> Makes<Answer, AnswerFor<'t>> for ReadSettings {
-///     fn make(self, promise: AnswerFor<'t>) -> Answer {
-///         promise.0.parse()
+/// use spin::lazylock::{LazyLock, Makes};
+///
+/// #[derive(Drop)]
+/// struct Square(u64);
+///
+/// impl Makes<u64, ()> for Square {
+///     fn make(self, _promise: ()) -> u64 {
+///         self.0.saturating_mul(self.0)
 ///     }
 /// }
+///
+/// let square: LazyLock<u64, Square> = LazyLock::promising((), Square(7));
+/// assert_eq!(rt; *LazyLock::force(&square, &rt), 49);
 /// ```
 pub trait Makes<T, M: Promise<T>> {
     // What has to hold when it makes the value.
@@ -59,13 +60,6 @@ pub trait Makes<T, M: Promise<T>> {
     ///
     /// # Contract
     /// `can` has to hold of the initialiser and the promise. The value keeps the promise.
-    ///
-    /// # Examples
-    /// ```
-    /// fn make(self, promise: AnswerFor<'t>) -> Answer {
-    ///     promise.0.parse()
-    /// }
-    /// ```
     fn make(self, promise: M) -> T
         requires { can self promise }
         ensures { M.keeps promise result };
@@ -101,8 +95,12 @@ impl<T, F, M: Promise<T>> Seed<T> for Initialiser<F, M> {
 ///
 /// # Examples
 /// ```
-/// let lazy: LazyLock<u64, _> = LazyLock::new(|| 7);
-/// equal(&rt, *LazyLock::force(&lazy, &rt), 7);
+/// use spin::Yield;
+/// use spin::lazylock::LazyLock;
+///
+/// let square: LazyLock<u64, _, Yield> = LazyLock::new(|| 7 * 7);
+/// assert_eq!(rt; *LazyLock::force(&square, &rt), 49);
+/// assert_eq!(rt; *LazyLock::force(&square, &rt), 49);
 /// ```
 #[derive(Drop)]
 pub struct LazyLock<T, F = fn() -> T, R = Spin, M: Promise<T> = ()> {
@@ -115,12 +113,6 @@ impl<T, F: FnOnce() -> T, R> LazyLock<T, F, R> {
     ///
     /// # Contract
     /// Its `initialiser` is `f`.
-    ///
-    /// # Examples
-    /// ```
-    /// let lazy: LazyLock<FortyTwo, _> = LazyLock::new(|| FortyTwo { number: 41 + 1 });
-    /// LazyLock::force(&lazy, rt).number
-    /// ```
     pub fn new(f: F) -> Self
         ensures { initialiser result ≡ f }
     {
@@ -136,8 +128,20 @@ impl<T, F, R, M: Promise<T>> LazyLock<T, F, R, M> {
     ///
     /// # Examples
     /// ```
-    /// let lazy: LazyLock<u64, _, Spin, Is> = LazyLock::promising(Is(92), || 92);
-    /// *LazyLock::force(&lazy, rt)
+    /// use spin::Spin;
+    /// use spin::lazylock::{LazyLock, Promise};
+    ///
+    /// #[derive(Drop)]
+    /// struct Is(u64);
+    ///
+    /// impl Promise<u64> for Is {
+    ///     ghost use Rattle.std.specs.Prelude.{◌≡◌};
+    ///
+    ///     ghost keeps = { λ promised value. value ≡ promised.0 };
+    /// }
+    ///
+    /// let square: LazyLock<u64, _, Spin, Is> = LazyLock::promising(Is(49), || 7 * 7);
+    /// assert_eq!(rt; *LazyLock::force(&square, &rt), 49);
     /// ```
     pub fn promising(promised: M, f: F) -> Self
         ensures made { initialiser result ≡ f }
@@ -163,14 +167,6 @@ impl<T, F: Makes<T, M>, R: RelaxStrategy, M: Promise<T>> LazyLock<T, F, R, M> {
     /// The initialiser has to be able to make the value (`can`). For a closure that means: its precondition holds, and
     /// each of its answers keeps the promise. The value keeps the promise. Whether and when the call returns is not
     /// promised.
-    ///
-    /// # Examples
-    /// ```
-    /// equal(&rt, runs.get(), 0);
-    /// equal(&rt, *LazyLock::force(&lazy, &rt), 92);
-    /// equal(&rt, *LazyLock::force(&lazy, &rt), 92);
-    /// equal(&rt, runs.get(), 1);
-    /// ```
     pub fn force<'a, W: Wait>(this: &'a Self, rt: &W) -> &'a T
         requires { F.can (initialiser this.now) (promise this.now) }
         ensures { M.keeps (promise this.now) result.now }

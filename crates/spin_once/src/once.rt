@@ -28,8 +28,13 @@ impl<T> Seed<T> for () {
 ///
 /// # Examples
 /// ```
-/// let once: Once<u64> = Once::new();
-/// equal(&rt, *once.call_once(&rt, || 6), 6);
+/// use spin::Yield;
+/// use spin::once::Once;
+/// use std::thread;
+///
+/// let port: Once<u16, Yield> = Once::new();
+/// let ask = || *port.call_once(&rt, || 80);
+/// assert_eq!(rt; thread::join(&rt, &ask, &ask), (80, 80));
 /// ```
 #[derive(Drop)]
 pub struct Once<T = (), R = Spin> {
@@ -39,14 +44,6 @@ pub struct Once<T = (), R = Spin> {
 
 impl<T, R> Once<T, R> {
     /// Creates a `Once` without a value.
-    ///
-    /// # Examples
-    /// ```
-    /// let once: Once<u64, Loop> = Once::new();
-    /// equal(&rt, once.poll(&rt).copied(), None);
-    /// equal(&rt, once.get().copied(), None);
-    /// equal(&rt, once.is_completed(), false);
-    /// ```
     pub fn new() -> Self {
         Once {
             core: OnceCore::new(()),
@@ -55,14 +52,6 @@ impl<T, R> Once<T, R> {
     }
 
     /// Creates a `Once` that holds `value`.
-    ///
-    /// # Examples
-    /// ```
-    /// let once: Once<u64> = Once::initialized(5);
-    /// equal(&rt, once.is_completed(), true);
-    /// equal(&rt, once.get().copied(), Some(5));
-    /// equal(&rt, *once.call_once(&rt, || 6), 5);
-    /// ```
     pub fn initialized(value: T) -> Self {
         Once {
             core: OnceCore::initialized(value, &()),
@@ -73,27 +62,12 @@ impl<T, R> Once<T, R> {
     /// Returns the value, or `None` if there is none yet.
     ///
     /// It makes one load and never waits. The reference is good for as long as the `Once` is borrowed.
-    ///
-    /// # Examples
-    /// ```
-    /// equal(&rt, once.get().copied(), None);
-    /// equal(&rt, once.is_completed(), false);
-    /// equal(&rt, *once.call_once(&rt, || 3), 3);
-    /// equal(&rt, once.poll(&rt).copied(), Some(3));
-    /// equal(&rt, once.get().copied(), Some(3));
-    /// ```
     pub fn get(&self) -> Option<&T> {
         self.core.get()
     }
 
     /// Returns `true` if [`get`](Once::get) finds a value. It stays `true` while the `Once` is shared, since a value
     /// stays.
-    ///
-    /// # Examples
-    /// ```
-    /// let unit: Once = Once::initialized(());
-    /// equal(&rt, unit.is_completed(), true);
-    /// ```
     pub fn is_completed(&self) -> bool {
         self.pass().is_completed().0
     }
@@ -102,14 +76,6 @@ impl<T, R> Once<T, R> {
     ///
     /// The borrow shows that no other thread has the `Once`. What is written through the reference is the value from
     /// then on.
-    ///
-    /// # Examples
-    /// ```
-    /// let mut once = Once::<Counted>::initialized(Counted { ends: &ends });
-    /// if let Some(value) = once.get_mut() {
-    ///     *value = Counted { ends: &ends };
-    /// }
-    /// ```
     pub fn get_mut(&mut self) -> Option<&mut T> {
         self.core.get_mut()
     }
@@ -118,8 +84,11 @@ impl<T, R> Once<T, R> {
     ///
     /// # Examples
     /// ```
-    /// equal(&rt, *once.call_once(&rt, || 6), 5);
-    /// equal(&rt, once.try_into_inner(), Some(5));
+    /// use spin::Once;
+    ///
+    /// let mut port: Once<u16> = Once::initialized(80);
+    /// *port.get_mut().expect(&rt, "it has a value") = 81;
+    /// assert_eq!(rt; port.try_into_inner(), Some(81));
     /// ```
     pub fn try_into_inner(self) -> Option<T> {
         let Self { core, strategy: _ } = self;
@@ -136,12 +105,6 @@ impl<T, R: RelaxStrategy> Once<T, R> {
     /// # Contract
     /// The precondition of `f` has to hold. The caller knows of the value what its type `T` says. Whether and when the
     /// call returns is not promised.
-    ///
-    /// # Examples
-    /// ```
-    /// let once: Once<u64> = Once::new();
-    /// equal(&rt, *once.call_once(&rt, || 6), 6);
-    /// ```
     pub fn call_once<F: FnOnce() -> T, W: Wait>(&self, rt: &W, f: F) -> &T
         requires { F.pre f }
     {
@@ -161,7 +124,13 @@ impl<T, R: RelaxStrategy> Once<T, R> {
     ///
     /// # Examples
     /// ```
-    /// port.try_call_once(rt, || text.parse())
+    /// use spin::Once;
+    ///
+    /// let port: Once<u16> = Once::new();
+    /// assert!(rt; port.try_call_once(&rt, || "no port".parse()).is_err());
+    /// assert!(rt; !port.is_completed());
+    /// let found = port.try_call_once(&rt, || "80".parse());
+    /// assert_eq!(rt; found.ok().copied(), Some(80));
     /// ```
     pub fn try_call_once<F: FnOnce() -> Result<T, E>, E, W: Wait>(
         &self,
@@ -187,9 +156,11 @@ impl<T, R: RelaxStrategy> Once<T, R> {
     ///
     /// # Examples
     /// ```
-    /// let once: Once<u64> = Once::new();
-    /// equal(&rt, *once.init_from_ref(&rt, &1), 1);
-    /// equal(&rt, *once.init_from_ref(&rt, &2), 1);
+    /// use spin::Once;
+    ///
+    /// let port: Once<u16> = Once::new();
+    /// assert_eq!(rt; *port.init_from_ref(&rt, &80), 80);
+    /// assert_eq!(rt; *port.init_from_ref(&rt, &81), 80);
     /// ```
     pub fn init_from_ref<W: Wait>(&self, rt: &W, value: &T) -> &T
     where
@@ -205,8 +176,12 @@ impl<T, R: RelaxStrategy> Once<T, R> {
     ///
     /// # Examples
     /// ```
-    /// let once: Once<u64> = Once::from(5);
-    /// equal(&rt, *once.wait(&rt), 5);
+    /// use spin::Once;
+    /// use std::thread;
+    ///
+    /// let port: Once<u16> = Once::new();
+    /// let (made, found) = thread::join(&rt, || *port.call_once(&rt, || 80), || *port.wait(&rt));
+    /// assert_eq!(rt; (made, found), (80, 80));
     /// ```
     pub fn wait<W: Wait>(&self, rt: &W) -> &T {
         self.core.account().wait::<R, W>(rt).value()
@@ -220,11 +195,12 @@ impl<T, R: RelaxStrategy> Once<T, R> {
     ///
     /// # Examples
     /// ```
-    /// equal(&rt, once.poll(&rt).copied(), None);
-    /// equal(&rt, once.get().copied(), None);
-    /// equal(&rt, once.is_completed(), false);
-    /// equal(&rt, *once.call_once(&rt, || 3), 3);
-    /// equal(&rt, once.poll(&rt).copied(), Some(3));
+    /// use spin::Once;
+    ///
+    /// let port: Once<u16> = Once::new();
+    /// assert_eq!(rt; port.poll(&rt).copied(), None);
+    /// port.call_once(&rt, || 80);
+    /// assert_eq!(rt; port.poll(&rt).copied(), Some(80));
     /// ```
     pub fn poll<W: Wait>(&self, rt: &W) -> Option<&T> {
         match self.core.account().poll::<R, W>(rt) {

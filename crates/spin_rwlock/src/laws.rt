@@ -17,9 +17,6 @@ ghost use Rattle.spin_rwlock.specs.Standing.{readers, upgradables, askers, write
 /// # Contract
 /// Whatever holds between any two steps of threads (`IsRw`): no move of the list is passed over in the model. After
 /// the list the model has the lock's word, and has each party where the lock has it.
-///
-/// # Examples
-/// None: nobody calls a law.
 pub fn every_run_of_a_rwlock_is_a_schedule()
     ensures { (name word : ℕ) (trace : Trace Done (Unit {0})) (parties : List (Numbered View)) → IsRw name word trace parties → IsRun model seat_of words_of trace.entries (word, trace.word) parties }
 {}
@@ -28,9 +25,6 @@ pub fn every_run_of_a_rwlock_is_a_schedule()
 ///
 /// # Contract
 /// Where the rule holds (`IsRw`), the word is the number of holders of each kind, times the weight of that kind.
-///
-/// # Examples
-/// None: nobody calls a law.
 pub fn the_word_of_a_rwlock_counts_its_parties()
     ensures { (name word : ℕ) (trace : Trace Done (Unit {0})) (parties : List (Numbered View)) → IsRw name word trace parties → word ≡ ((weight reading * readers (views parties) + weight upgradable * upgradables (views parties)) + weight asking * askers (views parties)) + weight writing * writers (views parties) }
 {}
@@ -40,9 +34,6 @@ pub fn the_word_of_a_rwlock_counts_its_parties()
 /// # Contract
 /// Where the rule holds (`IsRw`), at most one holder is upgradable, whether it has asked or not. Where a party writes,
 /// it is the only holder (`ReadersOrWriter`).
-///
-/// # Examples
-/// None: nobody calls a law.
 pub fn the_parties_of_a_rwlock_read_or_one_writes()
     ensures { (name word : ℕ) (trace : Trace Done (Unit {0})) (parties : List (Numbered View)) → IsRw name word trace parties → ReadersOrWriter (views parties) }
 {}
@@ -51,9 +42,6 @@ pub fn the_parties_of_a_rwlock_read_or_one_writes()
 ///
 /// # Contract
 /// Where the rule holds (`IsRw`), a word of 0 means no holder, and no holder means a word of 0.
-///
-/// # Examples
-/// None: nobody calls a law.
 pub fn the_word_of_a_rwlock_is_zero_when_nobody_holds()
     ensures { (name word : ℕ) (trace : Trace Done (Unit {0})) (parties : List (Numbered View)) → IsRw name word trace parties → (word ≡ 0 → holders (views parties) ≡ 0) × (holders (views parties) ≡ 0 → word ≡ 0) }
 {}
@@ -64,9 +52,6 @@ pub fn the_word_of_a_rwlock_is_zero_when_nobody_holds()
 ///
 /// # Contract
 /// On each word that the rule allows, the operation makes the word that the step function gives (`released`, `turned`).
-///
-/// # Examples
-/// None: nobody calls a law.
 pub fn an_addition_is_its_step_function()
     ensures release { (name word : ℕ) (trace : Trace Done (Unit {0})) (parties : List (Numbered View)) (p : ℕ) (k : Kind) → IsRw name word trace parties → HoldsAt (views parties) p k → (tells k word ≡ true) × ((word + (2 ^ 64 - weight k)) % 2 ^ 64 ≡ released k word) }
     ensures downgrade { (name word : ℕ) (trace : Trace Done (Unit {0})) (parties : List (Numbered View)) (p : ℕ) (j k : Kind) → IsRw name word trace parties → HoldsAt (views parties) p j → may_turn j k ≡ true → (tells j word ≡ true) × ((word + (weight k - weight j)) % 2 ^ 64 ≡ turned j k word) }

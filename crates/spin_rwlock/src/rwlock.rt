@@ -37,13 +37,13 @@ pub use self::writer::{RwLockWriteGuard, WriteHeld};
 ///
 /// # Examples
 /// ```
-/// let guard = limit.upgradeable_read(rt);
-/// if least <= *guard {
-///     return *guard;
-/// }
-/// let mut guard = guard.upgrade(rt);
-/// *guard = least;
-/// *guard.downgrade()
+/// use spin::Yield;
+/// use spin::rwlock::RwLock;
+/// use std::thread;
+///
+/// let limit: RwLock<u64, Yield> = RwLock::new(3);
+/// let read = || *limit.read(&rt);
+/// assert_eq!(rt; thread::join(&rt, &read, &read), (3, 3));
 /// ```
 #[derive(Drop)]
 pub struct RwLock<T, R = Spin, V = Party, P: Rule<T, V> = RwRule<T>> {
@@ -56,13 +56,6 @@ impl<T, R> RwLock<T, R> {
     ///
     /// # Contract
     /// No clause. The call returns.
-    ///
-    /// # Examples
-    /// ```
-    /// let limit = RwLock::new(3);
-    /// equal(&rt, (raise(&rt, &limit, 2), raise(&rt, &limit, 4)), (3, 4));
-    /// equal(&rt, limit.into_inner(), 4);
-    /// ```
     pub fn new(value: T) -> Self {
         let trace = Trace::new(());
         let start = trace.watch();
@@ -78,14 +71,6 @@ impl<T, R> RwLock<T, R> {
     ///
     /// # Contract
     /// No clause. The call returns.
-    ///
-    /// # Examples
-    /// ```
-    /// let mut lock: RwLock<u64> = RwLock::new(1);
-    /// *lock.get_mut() = 5;
-    /// shows(&rt, &lock, FREE, [0, 0]);
-    /// equal(&rt, lock.into_inner(), 5);
-    /// ```
     pub fn get_mut(&mut self) -> &mut T {
         self.cell.get_mut()
     }
@@ -97,14 +82,6 @@ impl<T, R> RwLock<T, R> {
     ///
     /// # Contract
     /// A guard is that of a reader. `None` promises nothing. Whether and when the call returns is not promised.
-    ///
-    /// # Examples
-    /// ```
-    /// match self.try_read(rt) {
-    ///     Some(guard) => Ok(by(&*guard)),
-    ///     None => Err(by),
-    /// }
-    /// ```
     #[must_use = "dropping the guard at once releases the lock: bind the answer, or write `drop(..)`"]
     pub fn try_read<W: Wait>(&self, rt: &W) -> Option<RwLockReadGuard<'_, T, R>> {
         let (guard, _) = self.pass().try_read(rt).ok()?;
@@ -119,13 +96,6 @@ impl<T, R> RwLock<T, R> {
     /// # Contract
     /// A guard is that of the upgradable reader. `None` promises nothing. Whether and when the call returns is not
     /// promised.
-    ///
-    /// # Examples
-    /// ```
-    /// let reads = lock.try_read(rt).is_some();
-    /// let upgrades = lock.try_upgradeable_read(rt).is_some();
-    /// let writes = lock.try_write().is_some();
-    /// ```
     #[must_use = "dropping the guard at once releases the lock: bind the answer, or write `drop(..)`"]
     pub fn try_upgradeable_read<W: Wait>(&self, rt: &W) -> Option<RwLockUpgradableGuard<'_, T, R>> {
         let (guard, _) = self.pass().try_upgradeable_read(rt).ok()?;
@@ -141,10 +111,13 @@ impl<T, R> RwLock<T, R> {
     ///
     /// # Examples
     /// ```
-    /// let (first, second) = thread::join(&rt, || lock.read(&rt), || lock.read(&rt));
-    /// let refused = lock.try_write().is_none();
-    /// equal(&rt, (*first, *second), (1, 1));
-    /// equal(&rt, (lock.reader_count(), refused), (2, true));
+    /// use spin::RwLock;
+    ///
+    /// let limit: RwLock<u64> = RwLock::new(3);
+    /// let reader = limit.read(&rt);
+    /// assert!(rt; limit.try_write().is_none());
+    /// drop(reader);
+    /// assert!(rt; limit.try_write().is_some());
     /// ```
     #[must_use = "dropping the guard at once releases the lock: bind the answer, or write `drop(..)`"]
     pub fn try_write<'a>(&'a self) -> Option<RwLockWriteGuard<'a, T, R>> {
@@ -157,16 +130,6 @@ impl<T, R> RwLock<T, R> {
     ///
     /// # Contract
     /// That of `try_write`.
-    ///
-    /// # Examples
-    /// ```
-    /// for _ in 0..WEAK_ATTEMPTS {
-    ///     let granted = lock.try_write_weak();
-    ///     if granted.is_some() {
-    ///         return granted;
-    ///     }
-    /// }
-    /// ```
     #[must_use = "dropping the guard at once releases the lock: bind the answer, or write `drop(..)`"]
     pub fn try_write_weak<'a>(&'a self) -> Option<RwLockWriteGuard<'a, T, R>> {
         self.try_write()
@@ -181,10 +144,14 @@ impl<T, R> RwLock<T, R> {
     ///
     /// # Examples
     /// ```
-    /// let (first, second) = thread::join(&rt, || lock.read(&rt), || lock.read(&rt));
-    /// let refused = lock.try_write().is_none();
-    /// equal(&rt, (*first, *second), (1, 1));
-    /// equal(&rt, (lock.reader_count(), refused), (2, true));
+    /// use spin::RwLock;
+    ///
+    /// let limit: RwLock<u64> = RwLock::new(3);
+    /// let (first, second) = (limit.read(&rt), limit.upgradeable_read(&rt));
+    /// assert_eq!(rt; limit.reader_count(), 2);
+    /// drop(first);
+    /// drop(second);
+    /// assert_eq!(rt; limit.reader_count(), 0);
     /// ```
     pub fn reader_count(&self) -> usize
         ensures { result ≤ reader_limit }
@@ -201,8 +168,13 @@ impl<T, R> RwLock<T, R> {
     ///
     /// # Examples
     /// ```
-    /// equal(&rt, (kept_out, *writer), (true, 1));
-    /// equal(&rt, (lock.reader_count(), lock.writer_count()), (0, 1));
+    /// use spin::RwLock;
+    ///
+    /// let limit: RwLock<u64> = RwLock::new(3);
+    /// assert_eq!(rt; limit.writer_count(), 0);
+    /// let writer = limit.write(&rt);
+    /// assert_eq!(rt; limit.writer_count(), 1);
+    /// drop(writer);
     /// ```
     pub fn writer_count(&self) -> usize
         ensures { result ≤ 1 }
@@ -216,17 +188,6 @@ impl<T, R> RwLock<T, R> {
     ///
     /// # Contract
     /// No clause. The call returns.
-    ///
-    /// # Examples
-    /// ```
-    /// let first = RwLockReadGuard::hold(lock.read(&rt));
-    /// let second = RwLockReadGuard::hold(lock.read(&rt));
-    /// let third = RwLockReadGuard::hold(lock.read(&rt));
-    /// shows(&rt, &lock, READ, [3, 0]);
-    /// RwLock::force_read_decrement(first);
-    /// RwLock::force_read_decrement(second);
-    /// shows(&rt, &lock, READ, [1, 0]);
-    /// ```
     pub fn force_read_decrement(held: ReadHeld<'_, T, R>) {
         drop(held.into_guard());
     }
@@ -237,15 +198,6 @@ impl<T, R> RwLock<T, R> {
     ///
     /// # Contract
     /// No clause. The call returns.
-    ///
-    /// # Examples
-    /// ```
-    /// let held = RwLockWriteGuard::hold(writer);
-    /// shows(&rt, &lock, WRITTEN, [0, 1]);
-    /// RwLock::force_write_unlock(held);
-    /// shows(&rt, &lock, FREE, [0, 0]);
-    /// equal(&rt, lock.into_inner(), 58);
-    /// ```
     pub fn force_write_unlock(held: WriteHeld<'_, T, R>) {
         drop(held.into_guard());
     }
@@ -258,13 +210,6 @@ impl<T, R, V, P: Rule<T, V>> RwLock<T, R, V, P> {
     ///
     /// # Contract
     /// No clause. The call returns.
-    ///
-    /// # Examples
-    /// ```
-    /// let limit = RwLock::new(3);
-    /// equal(&rt, (raise(&rt, &limit, 2), raise(&rt, &limit, 4)), (3, 4));
-    /// equal(&rt, limit.into_inner(), 4);
-    /// ```
     pub fn into_inner(self) -> T {
         self.cell.into_inner()
     }
@@ -278,12 +223,6 @@ impl<T, R: RelaxStrategy> RwLock<T, R> {
     ///
     /// # Contract
     /// The guard is that of a reader. Whether and when the call returns is not promised.
-    ///
-    /// # Examples
-    /// ```
-    /// let sum = *lock.read(rt);
-    /// sound = sound && (sum == 0 || sum == 10);
-    /// ```
     pub fn read<W: Wait>(&self, rt: &W) -> RwLockReadGuard<'_, T, R> {
         self.pass().read(rt).0
     }
@@ -298,13 +237,13 @@ impl<T, R: RelaxStrategy> RwLock<T, R> {
     ///
     /// # Examples
     /// ```
-    /// let guard = limit.upgradeable_read(rt);
-    /// if least <= *guard {
-    ///     return *guard;
-    /// }
-    /// let mut guard = guard.upgrade(rt);
-    /// *guard = least;
-    /// *guard.downgrade()
+    /// use spin::RwLock;
+    ///
+    /// let limit: RwLock<u64> = RwLock::new(3);
+    /// let guard = limit.upgradeable_read(&rt);
+    /// assert!(rt; limit.try_read(&rt).is_some());
+    /// assert!(rt; limit.try_upgradeable_read(&rt).is_none());
+    /// assert_eq!(rt; *guard, 3);
     /// ```
     pub fn upgradeable_read<W: Wait>(&self, rt: &W) -> RwLockUpgradableGuard<'_, T, R> {
         self.pass().upgradeable_read(rt).0
@@ -320,10 +259,14 @@ impl<T, R: RelaxStrategy> RwLock<T, R> {
     ///
     /// # Examples
     /// ```
-    /// let mut sum = lock.write(rt);
-    /// for _ in 0..10 {
-    ///     *sum = sum.wrapping_add(1);
-    /// }
+    /// use spin::RwLock;
+    ///
+    /// let limit: RwLock<u64> = RwLock::new(3);
+    /// let mut writer = limit.write(&rt);
+    /// *writer = 4;
+    /// assert!(rt; limit.try_read(&rt).is_none());
+    /// drop(writer);
+    /// assert_eq!(rt; *limit.read(&rt), 4);
     /// ```
     pub fn write<W: Wait>(&self, rt: &W) -> RwLockWriteGuard<'_, T, R> {
         self.pass().write(rt).0

@@ -42,13 +42,6 @@ pub fn a_read_gives_the_last_write()
 
 /// States that a pass of either lock reads the opening value and those that were written, in their order. It never
 /// reads an older one than it read before.
-///
-/// # Examples
-/// ```
-/// lock.meet(first, second);
-/// lock.meet(writer, first);
-/// a_pass_reads_in_the_order_of_the_writes();
-/// ```
 pub fn a_pass_reads_in_the_order_of_the_writes()
     ensures mutex { (k : Opening) (log : History) (p : ℕ) → IsLegal mutex k log → InOrderOf (k.value ∷ values_written log) (values_read (calls_by p log)) }
     ensures rwlock { (k : Opening) (log : rw_lawful.History) (p : ℕ) → IsLegal rw k log → InOrderOf (k.value ∷ rw_lawful.values_written log) (rw_lawful.values_read (calls_by p log)) }

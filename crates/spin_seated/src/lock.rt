@@ -32,21 +32,6 @@ pub enum Answer {
 }
 
 /// The calls of a lock, which say what lock it is.
-///
-/// # Examples
-/// ```
-/// impl Calls for Call {
-///     type Hold = bool;
-///
-///     ghost machine = { mutex };
-///
-///     fn nothing() -> bool {
-///         false
-///     }
-///
-///     fn laws() {}
-/// }
-/// ```
 pub trait Calls {
     /// What a pass may hold.
     type Hold: Copy;
@@ -61,13 +46,6 @@ pub trait Calls {
     ///
     /// # Contract
     /// It is what each pass holds in the machine's first state.
-    ///
-    /// # Examples
-    /// ```
-    /// fn nothing() -> Option<SeatedHold> {
-    ///     None
-    /// }
-    /// ```
     fn nothing() -> Self::Hold
         ensures { (k : Opening) (p : ℕ) → machine.holds p (machine.start k) ≡ result };
 
@@ -75,11 +53,6 @@ pub trait Calls {
     ///
     /// # Contract
     /// The machine is that of a lock (`IsLock`).
-    ///
-    /// # Examples
-    /// ```
-    /// fn laws() {}
-    /// ```
     fn laws()
         ensures { IsLock machine };
 }
@@ -98,11 +71,6 @@ impl<C: Calls> TableRule<u64, View<Opening, C, Answer>, Opening> for Law<C> {
 }
 
 /// A lock of one number, whose calls `C` stand in one history. The first word is the lock's, the second the value.
-///
-/// # Examples
-/// ```
-/// let opened = SeatedLock::<C, &Bump>::new(arena, 5, 2);
-/// ```
 #[derive(Drop)]
 pub struct SeatedLock<C: Calls, A: Allocator = Global> {
     table: Table<u64, View<Opening, C, Answer>, Opening, Law<C>, A>,

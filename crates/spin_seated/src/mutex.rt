@@ -37,9 +37,18 @@ impl Calls for Call {
 ///
 /// # Examples
 /// ```
-/// let (lock, mut first, mut second) = open_for_two(rt.alloc(), 5).expect(&rt, "memory");
+/// use spin_seated::mutex::SeatedMutex;
+///
+/// let made = SeatedMutex::new(rt.alloc(), 5, 2);
+/// let (lock, mut passes) = made.expect(&rt, "there is memory");
+/// let mut first = passes.pop().expect(&rt, "there are two");
+/// let mut second = passes.pop().expect(&rt, "there are two");
 /// assert!(rt; lock.try_lock(&mut first));
 /// assert!(rt; !lock.try_lock(&mut second));
+/// lock.write(&mut first, 6);
+/// lock.unlock(&mut first);
+/// assert!(rt; lock.try_lock(&mut second));
+/// assert_eq!(rt; lock.read(&mut second), 6);
 /// ```
 pub type SeatedMutex<A = Global> = SeatedLock<Call, A>;
 

@@ -48,10 +48,18 @@ impl Calls for Call {
 ///
 /// # Examples
 /// ```
-/// let (lock, mut a, mut b, mut c) = open_for_three(rt.alloc(), 5).expect(&rt, "memory");
-/// assert!(rt; lock.try_read(&rt, &mut a));
-/// assert!(rt; lock.try_read(&rt, &mut b));
-/// assert!(rt; !lock.try_write(&mut c));
+/// use spin_seated::rwlock::SeatedRwLock;
+///
+/// let made = SeatedRwLock::new(rt.alloc(), 5, 2);
+/// let (lock, mut passes) = made.expect(&rt, "there is memory");
+/// let mut first = passes.pop().expect(&rt, "there are two");
+/// let mut second = passes.pop().expect(&rt, "there are two");
+/// assert!(rt; lock.try_write(&mut first));
+/// lock.write(&mut first, 6);
+/// lock.downgrade(&mut first);
+/// assert!(rt; lock.try_read(&rt, &mut second));
+/// assert_eq!(rt; lock.read(&mut second), 6);
+/// assert!(rt; !lock.try_write(&mut second));
 /// ```
 pub type SeatedRwLock<A = Global> = SeatedLock<Call, A>;
 

@@ -15,11 +15,6 @@ use std::thread::{Threads, join};
 ///
 /// # Contract
 /// The lock was opened with `value` and two passes. The passes are its first and its second, and have made no call.
-///
-/// # Examples
-/// ```
-/// let (lock, a, b) = open_for_two(alloc, 0)?;
-/// ```
 pub fn open_for_two(alloc: Global, value: u64) -> Result<(SeatedMutex, Pass, Pass), AllocError>
     ensures opening { IfOk result (λ r. opening_of r.0 ≡ record { value = value; passes = 2 }) }
     ensures passes { IfOk result (λ r. (r.1 ≡ pass_of r.0 0) × (r.2 ≡ pass_of r.0 1)) }
@@ -65,11 +60,6 @@ pub fn add(lock: &SeatedMutex, pass: &mut Pass) -> bool
 /// # Contract
 /// The pass has to be one of this lock, outside its critical section, and to have added nothing. Afterwards it has
 /// added as often as the answer says (`HasAdded`).
-///
-/// # Examples
-/// ```
-/// { add_some(shared, a, turns) },
-/// ```
 pub fn add_some(lock: &SeatedMutex, mut pass: Pass, turns: u64) -> (Pass, u64)
     requires { HasAdded lock.now pass 0 }
     ensures number { result.0.known.pass ≡ pass.known.pass }
@@ -92,11 +82,6 @@ pub fn add_some(lock: &SeatedMutex, mut pass: Pass, turns: u64) -> (Pass, u64)
 /// # Contract
 /// The lock has to have two passes, and these have to be both, each outside its critical section. The answer is what
 /// the lock was opened with, and the additions of both.
-///
-/// # Examples
-/// ```
-/// Ok((read_sum(shared, &mut a, &mut b), first, second))
-/// ```
 pub fn read_sum(lock: &SeatedMutex, a: &mut Pass, b: &mut Pass) -> u64
     requires own { IsPassOf lock.now a.old × IsPassOf lock.now b.old }
     requires two { (opening_of lock.now).passes ≡ 2 }
@@ -120,11 +105,6 @@ pub fn read_sum(lock: &SeatedMutex, a: &mut Pass, b: &mut Pass) -> u64
 ///
 /// # Contract
 /// What is read is the sum of both numbers. That a thread adds at all is not promised.
-///
-/// # Examples
-/// ```
-/// let (read, first, second) = add_in_two(&rt, rt.alloc(), 1000).expect(&rt, "memory");
-/// ```
 pub fn add_in_two<R: Threads + Sync>(
     rt: &R,
     alloc: Global,

@@ -22,11 +22,6 @@ use std::thread::{Threads, join};
 /// # Contract
 /// The lock was opened with `value` and three passes. The passes are its first, second and third, and have made no
 /// call.
-///
-/// # Examples
-/// ```
-/// let (lock, writer, first, second) = open_for_three(alloc, opening)?;
-/// ```
 pub fn open_for_three(
     alloc: Global,
     value: u64,
@@ -161,12 +156,6 @@ fn look_in_two<R: Threads + Wait + Sync>(
 /// # Contract
 /// The lock has to have three passes, and these have to be all. Neither reader may have written. Each reader read the
 /// opening value and those that the writer wrote, in their order (`InOrderOf`).
-///
-/// # Examples
-/// ```
-/// compare(shared, &mut writer, &mut first, &mut second);
-/// Ok((seen_first, seen_second))
-/// ```
 pub fn compare(lock: &SeatedRwLock, writer: &mut RwPass, first: &mut RwPass, second: &mut RwPass)
     requires writer { IsPassOf lock.now writer.old × (writer.old.known.pass ≡ 0) }
     requires first { IsPassOf lock.now first.old × (first.old.known.pass ≡ 1) }
@@ -187,11 +176,6 @@ pub fn compare(lock: &SeatedRwLock, writer: &mut RwPass, first: &mut RwPass, sec
 /// # Contract
 /// Each reader read `times` values: the opening value and those published, in their order, so never an older one than
 /// before. Whether and when the call returns is not promised.
-///
-/// # Examples
-/// ```
-/// let (first, second) = publish_to_two(&rt, rt.alloc(), 5, &[6, 7, 8], 200).expect(&rt, "memory");
-/// ```
 pub fn publish_to_two<R: Threads + Wait + Sync>(
     rt: &R,
     alloc: Global,

@@ -4,14 +4,6 @@ ghost use Rattle.std.specs.Prelude.{◌≡◌, ⊤};
 use std::alloc::AllocError;
 
 /// A call of the lock in the model.
-///
-/// # Examples
-/// ```
-/// 0 Move::Begin(SeatsCall::Leave) => Outcome::Begun, 2;
-/// 0 Move::Step => answered!(Answer::Done, 11), 1;
-/// 0 Move::Begin(SeatsCall::Count) => Outcome::Begun, 1;
-/// 0 Move::Step => answered!(Answer::Count(1), 13), 1;
-/// ```
 #[derive(Copy)]
 pub enum SeatsCall {
     /// Tries to take a seat. It fails only if all were taken at some moment of the call.
@@ -25,8 +17,6 @@ pub enum SeatsCall {
 }
 
 /// The point of a call: which step comes next. Only a call that takes a seat has a second one.
-///
-/// No example: a world keeps the points of calls, and a schedule names none.
 #[derive(Copy)]
 pub enum SeatsPoint {
     /// The first step of any call, and of each further attempt.

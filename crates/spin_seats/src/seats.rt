@@ -23,11 +23,15 @@ pub use self::rule::{Entry, View};
 ///
 /// # Examples
 /// ```
+/// use spin_seats::seats::Seats;
+///
 /// let seats: Seats<2> = Seats::new();
-/// equal(&rt, seats.count(), 0);
-/// let first = seats.try_enter(&rt).expect(&rt, "two are free");
-/// let second = seats.enter(&rt);
-/// equal(&rt, seats.count(), 2);
+/// let first = seats.enter(&rt);
+/// let second = seats.try_enter(&rt).expect(&rt, "one is free");
+/// assert!(rt; seats.try_enter(&rt).is_none());
+/// drop(first);
+/// assert_eq!(rt; seats.count(), 1);
+/// drop(second);
 /// ```
 #[derive(Drop)]
 pub struct Seats<const N: usize> {
@@ -35,12 +39,6 @@ pub struct Seats<const N: usize> {
 }
 
 /// A seat of a [`Seats`]. Dropping it frees the seat.
-///
-/// # Examples
-/// ```
-/// drop(first);
-/// equal(&rt, seats.count(), 1);
-/// ```
 #[must_use = "dropping the guard at once gives the seat back: bind it, or write `drop(..)`"]
 pub struct SeatGuard<'a, const N: usize> {
     account: Account<'a, N>,
@@ -49,12 +47,6 @@ pub struct SeatGuard<'a, const N: usize> {
 
 impl<const N: usize> Seats<N> {
     /// Creates a lock whose seats are all free.
-    ///
-    /// # Examples
-    /// ```
-    /// let seats: Seats<2> = Seats::new();
-    /// equal(&rt, seats.count(), 0);
-    /// ```
     pub fn new() -> Self {
         let trace = Trace::new(());
         let start = trace.watch();
@@ -68,14 +60,6 @@ impl<const N: usize> Seats<N> {
     ///
     /// # Contract
     /// The answer is at most `N`, and at most [`MAX_SEATS`](crate::steps::MAX_SEATS).
-    ///
-    /// # Examples
-    /// ```
-    /// equal(&rt, seats.count(), 2);
-    /// equal(&rt, seats.try_enter(&rt).is_none(), true);
-    /// drop(first);
-    /// equal(&rt, seats.count(), 1);
-    /// ```
     pub fn count(&self) -> usize
         ensures { result ≤ seats N }
     {
@@ -88,12 +72,6 @@ impl<const N: usize> Seats<N> {
     ///
     /// # Contract
     /// Whether and when the call returns is not promised.
-    ///
-    /// # Examples
-    /// ```
-    /// let third = seats.try_enter(&rt).expect(&rt, "one is free");
-    /// equal(&rt, seats.try_enter(&rt).is_none(), true);
-    /// ```
     #[must_use = "dropping the guard at once gives the seat back: bind the answer, or write `drop(..)`"]
     pub fn try_enter<W: Wait>(&self, rt: &W) -> Option<SeatGuard<'_, N>> {
         // As `Pass::try_enter`: a call of it that may wait would cost more.
@@ -108,13 +86,6 @@ impl<const N: usize> Seats<N> {
     ///
     /// # Contract
     /// Whether and when the call returns is not promised.
-    ///
-    /// # Examples
-    /// ```
-    /// let first = seats.try_enter(&rt).expect(&rt, "two are free");
-    /// let second = seats.enter(&rt);
-    /// equal(&rt, seats.count(), 2);
-    /// ```
     pub fn enter<W: Wait>(&self, rt: &W) -> SeatGuard<'_, N> {
         // As `Pass::enter`: a call of it that may wait would cost more.
         match self.pass().come() {

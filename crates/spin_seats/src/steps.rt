@@ -1,19 +1,19 @@
 //! Step functions of seats in one word: how many are taken. Begin with [`enter`].
+//!
+//! # Examples
+//! ```
+//! use spin_seats::steps;
+//!
+//! assert_eq!(rt; steps::enter(1, 2), Some(2));
+//! assert_eq!(rt; steps::enter(2, 2), None);
+//! assert_eq!(rt; steps::leave(2), 1);
+//! ```
 ghost use Rattle.std.specs.Prelude.{◌≡◌, ◌≤◌, ℕ};
 ghost use Rattle.spin_step.specs.Plain.{Plain, gets, releases, to_read, reading};
 ghost use Rattle.spin_step.specs.Steps.{Decides, Gives};
 ghost use Rattle.spin_seats.specs.Seats.{AllRead, entered, left, seats, seats_word};
 
 /// The most seats that a lock has, however many it is asked to have.
-///
-/// # Examples
-/// ```
-/// if word < room.min(MAX_SEATS) {
-///     Some(word + 1)
-/// } else {
-///     None
-/// }
-/// ```
 pub const MAX_SEATS: usize = usize::MAX / 8;
 
 /// Returns the word after a thread takes one of `room` seats, or `None` if all are taken. No lock has more than
@@ -21,11 +21,6 @@ pub const MAX_SEATS: usize = usize::MAX / 8;
 ///
 /// # Contract
 /// The answer is exact, and decides as a plain lock of readers does whose cap is the number of seats (`Decides`).
-///
-/// # Examples
-/// ```
-/// let Some(next) = steps::enter(word, N) else {
-/// ```
 pub fn enter(word: usize, room: usize) -> Option<usize>
     ensures exact { result ≡ entered room word }
     ensures plain { (s : Plain) (party : ℕ) → AllRead s → s.cap ≡ seats room → seats_word s ≡ word → Decides s (gets party to_read) seats_word result }
@@ -41,8 +36,6 @@ pub fn enter(word: usize, room: usize) -> Option<usize>
 ///
 /// # Contract
 /// A seat has to be taken. The answer is exact, and gives the plain lock's next state (`Gives`).
-///
-/// No example: a guard makes this step by a subtraction.
 pub fn leave(word: usize) -> usize
     requires { 1 ≤ word }
     ensures exact { result ≡ left word }

@@ -1,4 +1,13 @@
 //! One flag: it is set while a thread holds the lock. Begin with [`lock`].
+//!
+//! # Examples
+//! ```
+//! use spin::step::flag;
+//!
+//! assert_eq!(rt; flag::lock(false), Some(true));
+//! assert_eq!(rt; flag::lock(true), None);
+//! assert!(rt; !flag::unlock(true));
+//! ```
 ghost use Rattle.std.specs.Prelude.{◌≡◌, ℕ, Option, true, false, IsTrue, if◌then◌else◌};
 ghost use Rattle.std.specs.Option.{option_map};
 ghost use Rattle.spin_step.specs.Plain.{Plain, Kind, gets, releases, to_write, flag_word};
@@ -9,12 +18,6 @@ ghost use Rattle.spin_step.specs.Steps.{bit, Decides, Gives};
 ///
 /// # Contract
 /// The answer is exact, and decides as the plain lock does (`Decides`).
-///
-/// # Examples
-/// ```
-/// equal(&rt, flag::lock(false), Some(true));
-/// equal(&rt, flag::lock(true), None);
-/// ```
 pub fn lock(flag: bool) -> Option<bool>
     ensures exact { result ≡ lock flag }
     ensures plain { (s : Plain) (party : ℕ) → flag_word s ≡ bit flag → Decides s (gets party to_write) flag_word (option_map bit result) }
@@ -26,11 +29,6 @@ pub fn lock(flag: bool) -> Option<bool>
 ///
 /// # Contract
 /// The flag has to be set. The answer is exact, and gives the plain lock's next state (`Gives`).
-///
-/// # Examples
-/// ```
-/// equal(&rt, flag::unlock(true), false);
-/// ```
 #[tactic(auto, using(crate::proofs::Flags::gives))]
 pub fn unlock(flag: bool) -> bool
     requires { IsTrue flag }

@@ -1,5 +1,15 @@
 //! How far a once-only cell has come, in one byte: 0 without a value, 1 while a closure runs, 2 with a value. Begin
 //! with [`begin`].
+//!
+//! # Examples
+//! ```
+//! use spin::step::once;
+//!
+//! assert_eq!(rt; once::begin(0), Some(1));
+//! assert_eq!(rt; once::begin(1), None);
+//! assert_eq!(rt; once::complete(1), 2);
+//! assert_eq!(rt; once::fail(1), 0);
+//! ```
 ghost use Rattle.std.specs.Prelude.{◌≡◌, ℕ, ◌==◌, Option, Some, None, if◌then◌else◌};
 ghost use Rattle.spin_step.specs.Plain.{Plain, gets, completes, fails, to_begin, once_word};
 ghost use Rattle.spin_step.specs.Flags.{begun, completed, failed};
@@ -9,13 +19,6 @@ ghost use Rattle.spin_step.specs.Steps.{Decides, Gives};
 ///
 /// # Contract
 /// The answer is exact, and decides as the plain lock does (`Decides`).
-///
-/// # Examples
-/// ```
-/// equal(&rt, once::begin(0), Some(1));
-/// equal(&rt, once::begin(1), None);
-/// equal(&rt, once::begin(2), None);
-/// ```
 pub fn begin(state: u8) -> Option<u8>
     ensures exact { result ≡ begun state }
     ensures plain { (s : Plain) (party : ℕ) → once_word s ≡ state → Decides s (gets party to_begin) once_word result }
@@ -27,11 +30,6 @@ pub fn begin(state: u8) -> Option<u8>
 ///
 /// # Contract
 /// A closure has to run: the state is 1. The answer is exact, and gives the plain lock's next state (`Gives`).
-///
-/// # Examples
-/// ```
-/// equal(&rt, once::complete(1), 2);
-/// ```
 pub fn complete(state: u8) -> u8
     requires { state ≡ 1 }
     ensures exact { result ≡ completed state }
@@ -44,11 +42,6 @@ pub fn complete(state: u8) -> u8
 ///
 /// # Contract
 /// A closure has to run: the state is 1. The answer is exact, and gives the plain lock's next state (`Gives`).
-///
-/// # Examples
-/// ```
-/// equal(&rt, once::fail(1), 0);
-/// ```
 pub fn fail(state: u8) -> u8
     requires { state ≡ 1 }
     ensures exact { result ≡ failed state }

@@ -1,4 +1,14 @@
 //! Tickets: each thread takes the next number, and enters when its number is served. Begin with [`take`].
+//!
+//! # Examples
+//! ```
+//! use spin::step::ticket;
+//!
+//! assert_eq!(rt; ticket::take(7), Some(8));
+//! assert_eq!(rt; ticket::take(u64::MAX), None);
+//! assert!(rt; ticket::is_turn(7, 7));
+//! assert_eq!(rt; ticket::serve(7), 8);
+//! ```
 ghost use Rattle.std.specs.Prelude.{◌≡◌, ◌<◌, ◌≤◌, ◌+◌, ◌==◌, ℕ, Some, None, length, nat_lt, if◌then◌else◌};
 ghost use Rattle.spin_step.specs.Plain.{Plain, ticket_limit, gets, serves, to_take_ticket, to_take_and_enter, next_word, serving_word};
 ghost use Rattle.spin_step.specs.Steps.{Decides, Gives};
@@ -11,12 +21,6 @@ ghost use Rattle.spin_step.specs.Tickets.{IsTurn, take, served};
 /// # Contract
 /// The answer is exact, and decides as the plain lock does (`Decides`). If `next` is served, it also decides as a plain
 /// step that takes the ticket and enters at once.
-///
-/// # Examples
-/// ```
-/// equal(&rt, ticket::take(u64::MAX - 1), Some(u64::MAX));
-/// equal(&rt, ticket::take(u64::MAX), None);
-/// ```
 pub fn take(next: u64) -> Option<u64>
     ensures exact { result ≡ take next }
     ensures plain { (s : Plain) (party : ℕ) → next_word s ≡ next → Decides s (gets party to_take_ticket) next_word result }
@@ -34,13 +38,6 @@ pub fn take(next: u64) -> Option<u64>
 /// # Contract
 /// The ticket has to be below the limit of tickets. The answer is exact, and gives the plain lock's next state
 /// (`Gives`).
-///
-/// # Examples
-/// ```
-/// let next = ticket::serve(number);
-/// let (permit, _) = permit.store_second::<Serve>(next, Watch::nothing());
-/// permit.leave();
-/// ```
 pub fn serve(ticket: u64) -> u64
     requires { ticket < ticket_limit }
     ensures exact { result ≡ served ticket }
@@ -53,12 +50,6 @@ pub fn serve(ticket: u64) -> u64
 ///
 /// # Contract
 /// The answer is exact: the plain lock lets the thread enter if it is `true`, and only then (`IsTurn`).
-///
-/// # Examples
-/// ```
-/// let (serving, next, pass) = self.look();
-/// (!ticket::is_turn(serving, next), pass)
-/// ```
 #[tactic(auto, using(crate::proofs::Tickets::enters_in_turn))]
 pub fn is_turn(serving: u64, ticket: u64) -> bool
     ensures exact { result ≡ (serving == ticket) }

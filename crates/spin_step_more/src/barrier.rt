@@ -8,10 +8,14 @@ ghost use Rattle.spin_step.specs.Barriers.{IsBarrier, arrived, is_leading, fille
 ///
 /// # Examples
 /// ```
-/// let mut state = State::new(0);
-/// equal(&rt, state.arrive(), true);
-/// equal(&rt, state.arrive(), true);
-/// equal(&rt, (state.n, state.count, state.generation), (0, 0, 2));
+/// use spin::step::barrier::{State, may_leave};
+///
+/// let mut state = State::new(2);
+/// let generation = state.generation;
+/// assert!(rt; !state.arrive());
+/// assert!(rt; !may_leave(state, generation));
+/// assert!(rt; state.arrive());
+/// assert!(rt; may_leave(state, generation));
 /// ```
 #[derive(Clone, Copy, Debug, PartialEq, Eq)]
 pub struct State {
@@ -29,12 +33,6 @@ impl State {
     ///
     /// # Contract
     /// It is the state of a fresh plain barrier with groups of `n` (`IsBarrier`).
-    ///
-    /// # Examples
-    /// ```
-    /// let (first, leads) = barrier::arrive(State::new(2));
-    /// equal(&rt, leads, false);
-    /// ```
     pub fn new(n: usize) -> State
         ensures n { result.n ≡ n }
         ensures plain { (cap first : ℕ) → IsBarrier (fresh cap n first) n result.count result.generation }
@@ -51,13 +49,6 @@ impl State {
     /// # Contract
     /// The state and the answer are exact. From the state of a plain barrier it leads to that of the same barrier with
     /// one arrival more (`IsBarrier`). The answer is the plain one (`is_leading`).
-    ///
-    /// # Examples
-    /// ```
-    /// let mut state = State::new(0);
-    /// equal(&rt, state.arrive(), true);
-    /// equal(&rt, state.arrive(), true);
-    /// ```
     pub fn arrive(&mut self) -> bool
         ensures n { self.new.n ≡ self.old.n }
         ensures exact { ((self.new.count, self.new.generation), result) ≡ arrived self.old.n self.old.count self.old.generation }
@@ -74,15 +65,6 @@ impl State {
 ///
 /// # Contract
 /// As that of [`State::arrive`].
-///
-/// # Examples
-/// ```
-/// let (first, leads) = barrier::arrive(State::new(2));
-/// equal(&rt, leads, false);
-/// equal(&rt, barrier::may_leave(first, 0), false);
-/// let (second, leads) = barrier::arrive(first);
-/// equal(&rt, leads, true);
-/// ```
 pub fn arrive(state: State) -> (State, bool)
     ensures n { result.0.n ≡ state.n }
     ensures exact { ((result.0.count, result.0.generation), result.1) ≡ arrived state.n state.count state.generation }
@@ -117,13 +99,6 @@ pub fn arrive(state: State) -> (State, bool)
 ///
 /// # Contract
 /// The answer is exact, and that of the plain barrier. If it is `true`, the group of that arrival is full.
-///
-/// # Examples
-/// ```
-/// let (second, leads) = barrier::arrive(first);
-/// equal(&rt, leads, true);
-/// equal(&rt, barrier::may_leave(second, 0), true);
-/// ```
 #[tactic(auto, using(crate::proofs::Barriers::leaving))]
 pub fn may_leave(state: State, generation: usize) -> bool
     ensures exact { result ≡ not (state.generation == generation) }

@@ -1,6 +1,20 @@
 //! The holder and the starvers in one word: the sum of what each weighs. Begin with [`lock`] and [`starve`].
 //!
 //! A starver is a thread that has registered so as to come before all others, which are newcomers.
+//!
+//! # Examples
+//! ```
+//! use spin::step::fair::{self, HOLDER, LockRejectReason, STARVER};
+//!
+//! assert_eq!(rt; fair::lock(0), Some(HOLDER));
+//! assert_eq!(rt; fair::lock(STARVER), None);
+//! assert_eq!(rt; fair::reject(STARVER), LockRejectReason::Starved);
+//! assert_eq!(rt; fair::starve(HOLDER, 4), Some(HOLDER + STARVER));
+//! assert_eq!(rt; fair::lock_fair(STARVER), Some(HOLDER + STARVER));
+//! assert_eq!(rt; fair::lock_fair(2 * STARVER), None);
+//! assert_eq!(rt; fair::unlock(HOLDER + STARVER), STARVER);
+//! assert_eq!(rt; fair::unstarve(STARVER), 0);
+//! ```
 ghost use Rattle.std.specs.Prelude.{◌≡◌, ◌≢◌, ◌≤◌, ◌+◌, ◌-◌, ◌/◌, ◌%◌, ◌==◌, ℕ, Option, Some, None, [], true, if◌then◌else◌, nat_lt, min};
 ghost use Rattle.spin_step.specs.Plain.{Plain, Kind, gets, releases, stops_starving, to_lock_unregistered, to_lock_starving, to_lock_starving_alone, to_starve, is_starver, starver_weight, fair_word};
 ghost use Rattle.spin_step.specs.Parties.{is_held};
@@ -14,37 +28,15 @@ use std::fmt;
 use std::fmt::{Display, Formatter};
 
 /// The weight of the holder in the word.
-///
-/// # Examples
-/// ```
-/// pub(super) const LOCKED: u64 = fair::HOLDER as u64;
-/// ```
 pub const HOLDER: usize = 1;
 
 /// The weight of each starver in the word.
-///
-/// # Examples
-/// ```
-/// let alone = fair::STARVER;
-/// let taken = fair::lock_fair(alone).unwrap();
-/// ```
 pub const STARVER: usize = 2;
 
 /// The most starvers that may be registered at the same time.
-///
-/// # Examples
-/// ```
-/// let Some(more) = fair::starve(word, fair::MAX_STARVERS) else {
-/// ```
 pub const MAX_STARVERS: usize = isize::MAX as usize / 2;
 
 /// Why a thread that is no starver fails to acquire the lock.
-///
-/// # Examples
-/// ```
-/// equal(&rt, fair::reject(1), Locked);
-/// equal(&rt, fair::reject(2), Starved);
-/// ```
 #[derive(Clone, Copy, Debug, PartialEq, Eq)]
 pub enum LockRejectReason {
     /// The lock is held, and no thread starves.
@@ -70,12 +62,6 @@ impl Error for LockRejectReason {}
 ///
 /// # Contract
 /// The answer is exact, and decides as the plain lock does (`Decides`).
-///
-/// # Examples
-/// ```
-/// let free = 0;
-/// let taken = fair::lock(free).unwrap();
-/// ```
 pub fn lock(word: usize) -> Option<usize>
     ensures exact { result ≡ lock word }
     ensures plain { (s : Plain) (party : ℕ) → fair_word s ≡ word → Decides s (gets party to_lock_unregistered) fair_word result }
@@ -87,13 +73,6 @@ pub fn lock(word: usize) -> Option<usize>
 ///
 /// # Contract
 /// The word must not be 0. The answer is exact, and true of the plain lock (`Tells`).
-///
-/// # Examples
-/// ```
-/// equal(&rt, fair::reject(1), Locked);
-/// equal(&rt, fair::reject(2), Starved);
-/// equal(&rt, fair::reject(3), Starved);
-/// ```
 pub fn reject(word: usize) -> LockRejectReason
     requires { word ≢ 0 }
     ensures exact { result ≡ reject word }
@@ -111,11 +90,6 @@ pub fn reject(word: usize) -> LockRejectReason
 ///
 /// # Contract
 /// The answer is exact, and decides as the plain lock does (`Decides`).
-///
-/// # Examples
-/// ```
-/// let Some(more) = fair::starve(word, fair::MAX_STARVERS) else {
-/// ```
 pub fn starve(word: usize, cap: usize) -> Option<usize>
     ensures exact { result ≡ starve cap word }
     ensures plain { (s : Plain) (party : ℕ) → OneHolds s → s.cap ≡ min cap most_starvers → fair_word s ≡ word → Decides s (gets party to_starve) fair_word result }
@@ -131,11 +105,6 @@ pub fn starve(word: usize, cap: usize) -> Option<usize>
 ///
 /// # Contract
 /// The word has to count a starver. The answer is exact, and gives the plain lock's next state (`Gives`).
-///
-/// # Examples
-/// ```
-/// equal(&rt, fair::unstarve(3), 1);
-/// ```
 #[tactic(auto, using(crate::proofs::FairSteps::gives))]
 pub fn unstarve(word: usize) -> usize
     requires { starver_weight ≤ word }
@@ -149,12 +118,6 @@ pub fn unstarve(word: usize) -> usize
 ///
 /// # Contract
 /// The answer is exact, and decides as the plain lock does (`Decides`).
-///
-/// # Examples
-/// ```
-/// let alone = fair::STARVER;
-/// let taken = fair::lock_fair(alone).unwrap();
-/// ```
 pub fn lock_fair(word: usize) -> Option<usize>
     ensures exact { result ≡ lock_fair word }
     ensures plain { (s : Plain) (party : ℕ) → OneHolds s → is_starver party s.starvers ≡ true → fair_word s ≡ word → Decides s (gets party to_lock_starving_alone) fair_word result }
@@ -170,8 +133,6 @@ pub fn lock_fair(word: usize) -> Option<usize>
 ///
 /// # Contract
 /// The answer is exact, and decides as the plain lock does (`Decides`).
-///
-/// No example: `FairMutex` makes this step by setting the holder's bit.
 pub fn lock_starved(word: usize) -> Option<usize>
     ensures exact { result ≡ lock_starved word }
     ensures plain { (s : Plain) (party : ℕ) → OneHolds s → is_starver party s.starvers ≡ true → fair_word s ≡ word → Decides s (gets party to_lock_starving) fair_word result }
@@ -187,11 +148,6 @@ pub fn lock_starved(word: usize) -> Option<usize>
 ///
 /// # Contract
 /// The word has to show a holder. The answer is exact, and gives the plain lock's next state (`Gives`).
-///
-/// # Examples
-/// ```
-/// equal(&rt, fair::unlock(3), 2);
-/// ```
 #[tactic(auto, using(crate::proofs::FairSteps::gives))]
 pub fn unlock(word: usize) -> usize
     requires { is_set word ≡ true }
@@ -205,15 +161,6 @@ pub fn unlock(word: usize) -> usize
 ///
 /// # Contract
 /// The answer is exact, and that of the plain lock.
-///
-/// # Examples
-/// ```
-/// if fair::is_locked(found as usize) {
-///     Err(Awaiting { account })
-/// } else {
-///     await_flag(account)
-/// }
-/// ```
 pub fn is_locked(word: usize) -> bool
     ensures exact { result ≡ is_set word }
     ensures plain { (s : Plain) → OneHolds s → s.tickets ≡ [] → fair_word s ≡ word → is_held s ≡ result }

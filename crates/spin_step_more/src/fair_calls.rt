@@ -4,13 +4,6 @@ ghost use Rattle.std.specs.Prelude.{◌≡◌, ⊤};
 use std::alloc::AllocError;
 
 /// A call of a `Fair`. `Fair::new` of `spin_world` promises that each call asks what stands here.
-///
-/// # Examples
-/// ```
-/// 0 Move::Begin(FairCall::Starve) => Outcome::Begun, 0;
-/// 0 Move::Step => Outcome::GoingOn, 0;
-/// 0 Move::Step => answered!(Answer::Granted, 0), 2;
-/// ```
 #[derive(Copy)]
 pub enum FairCall {
     /// Acquires the lock, in as many steps as it needs. After too many looks that find the flag set it registers as a
@@ -38,8 +31,6 @@ pub enum FairCall {
 }
 
 /// The point of a call: which step comes next, with what the party has found so far.
-///
-/// No example: a world keeps the points of calls, and a schedule names none.
 #[derive(Copy)]
 pub enum FairPoint {
     /// The only step of a one-step call, or the exchange of `StarverTryLockFair`.

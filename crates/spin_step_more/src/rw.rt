@@ -2,49 +2,38 @@
 //! [`read`] and [`write`].
 //!
 //! The upgradable reader keeps no reader out until it asks to upgrade. From then on the readers only leave.
+//!
+//! # Examples
+//! ```
+//! use spin::step::rw::{self, READER, UPGRADABLE, WRITER};
+//!
+//! assert_eq!(rt; rw::read(READER, 64), Some(2 * READER));
+//! assert_eq!(rt; rw::read(WRITER, 64), None);
+//! assert_eq!(rt; rw::write(0), Some(WRITER));
+//! assert_eq!(rt; rw::write(READER), None);
+//! assert_eq!(rt; rw::upgradable(READER, 64), Some(READER + UPGRADABLE));
+//! assert_eq!(rt; rw::upgrade(UPGRADABLE), Some(WRITER));
+//! assert_eq!(rt; rw::write_to_upgradable(WRITER), UPGRADABLE);
+//! assert_eq!(rt; rw::readers(READER + UPGRADABLE), 2);
+//! ```
 ghost use Rattle.std.specs.Prelude.{◌≡◌, ◌<◌, ◌≤◌, ◌/◌, ◌%◌, ℕ, true, min};
 ghost use Rattle.spin_step.specs.Plain.{Plain, reading, upgradable, asking, writing, weight, gets, releases, turns, to_read, to_read_upgradable, to_write, to_upgrade, to_upgrade_asked, is_holder, count_kind, reader_count, rw_word};
 ghost use Rattle.spin_step.specs.Steps.{Decides, Gives};
 ghost use Rattle.spin_step_more.specs.Readers.{reader_limit, OneOfEach, readers_in, writers_in, tells, has_room, read, read_upgradable, write, upgrade, upgrade_asked, released, turned};
 
 /// The weight of each reader in the word.
-///
-/// # Examples
-/// ```
-/// self.subtract::<ReleaseRead>(&mut pass.place, WORD, rw::READER as u64);
-/// ```
 pub const READER: usize = 8;
 
 /// The weight of the upgradable reader in the word.
-///
-/// # Examples
-/// ```
-/// let next = rw::upgrade(rw::UPGRADABLE).unwrap();
-/// ```
 pub const UPGRADABLE: usize = 2;
 
 /// What the upgradable reader adds to its weight when it asks to upgrade.
-///
-/// # Examples
-/// ```
-/// let next = rw::upgrade_asked(rw::UPGRADABLE + rw::ASKING).unwrap();
-/// ```
 pub const ASKING: usize = 4;
 
 /// The weight of the writer in the word.
-///
-/// # Examples
-/// ```
-/// self.subtract::<ReleaseWrite>(&mut pass.place, WORD, rw::WRITER as u64);
-/// ```
 pub const WRITER: usize = 1;
 
 /// The most readers that may hold the lock at the same time, with the upgradable one.
-///
-/// # Examples
-/// ```
-/// rw::read(word, rw::MAX_READERS)
-/// ```
 pub const MAX_READERS: usize = usize::MAX / READER / 2;
 
 // Whether the lock lets a reader in.
@@ -67,11 +56,6 @@ fn may_read_upgradable(word: usize, cap: usize) -> bool
 ///
 /// # Contract
 /// The answer is exact, and decides as the plain lock does (`Decides`).
-///
-/// # Examples
-/// ```
-/// rw::read(word, rw::MAX_READERS)
-/// ```
 #[tactic(auto, using(crate::proofs::ReaderSteps::grants))]
 pub fn read(word: usize, cap: usize) -> Option<usize>
     ensures exact { result ≡ read cap word }
@@ -89,11 +73,6 @@ pub fn read(word: usize, cap: usize) -> Option<usize>
 ///
 /// # Contract
 /// The answer is exact, and decides as the plain lock does (`Decides`).
-///
-/// # Examples
-/// ```
-/// rw::upgradable(word, rw::MAX_READERS)
-/// ```
 #[tactic(auto, using(crate::proofs::ReaderSteps::grants))]
 pub fn upgradable(word: usize, cap: usize) -> Option<usize>
     ensures exact { result ≡ read_upgradable cap word }
@@ -110,11 +89,6 @@ pub fn upgradable(word: usize, cap: usize) -> Option<usize>
 ///
 /// # Contract
 /// The answer is exact, and decides as the plain lock does (`Decides`).
-///
-/// # Examples
-/// ```
-/// let next = rw::write(0).unwrap();
-/// ```
 pub fn write(word: usize) -> Option<usize>
     ensures exact { result ≡ write word }
     ensures plain { (s : Plain) (party : ℕ) → rw_word s ≡ word → Decides s (gets party to_write) rw_word result }
@@ -126,11 +100,6 @@ pub fn write(word: usize) -> Option<usize>
 ///
 /// # Contract
 /// The answer is exact, and decides as the plain lock does (`Decides`).
-///
-/// # Examples
-/// ```
-/// let next = rw::upgrade(rw::UPGRADABLE).unwrap();
-/// ```
 #[tactic(auto, using(crate::proofs::ReaderSteps::grants))]
 pub fn upgrade(word: usize) -> Option<usize>
     ensures exact { result ≡ upgrade word }
@@ -151,8 +120,12 @@ pub fn upgrade(word: usize) -> Option<usize>
 ///
 /// # Examples
 /// ```
-/// equal(&rt, rw::ask(2), 6);
-/// equal(&rt, rw::ask(10), 14);
+/// use spin::step::rw::{self, READER, UPGRADABLE, WRITER};
+///
+/// let asking = rw::ask(READER + UPGRADABLE);
+/// assert_eq!(rt; rw::read(asking, 64), None);
+/// assert_eq!(rt; rw::upgrade_asked(asking), None);
+/// assert_eq!(rt; rw::upgrade_asked(rw::release_read(asking)), Some(WRITER));
 /// ```
 #[tactic(auto, using(crate::proofs::ReaderSteps::gives))]
 pub fn ask(word: usize) -> usize
@@ -167,11 +140,6 @@ pub fn ask(word: usize) -> usize
 ///
 /// # Contract
 /// The answer is exact, and decides as the plain lock does (`Decides`).
-///
-/// # Examples
-/// ```
-/// let next = rw::upgrade_asked(rw::UPGRADABLE + rw::ASKING).unwrap();
-/// ```
 #[tactic(auto, using(crate::proofs::ReaderSteps::grants))]
 pub fn upgrade_asked(word: usize) -> Option<usize>
     ensures exact { result ≡ upgrade_asked word }
@@ -188,11 +156,6 @@ pub fn upgrade_asked(word: usize) -> Option<usize>
 ///
 /// # Contract
 /// The word has to show a reader. The answer is exact, and gives the plain lock's next state (`Gives`).
-///
-/// # Examples
-/// ```
-/// equal(&rt, rw::release_read(18), 10);
-/// ```
 #[tactic(auto, using(crate::proofs::ReaderSteps::gives))]
 pub fn release_read(word: usize) -> usize
     requires { tells reading word ≡ true }
@@ -207,11 +170,6 @@ pub fn release_read(word: usize) -> usize
 /// # Contract
 /// The word has to show an upgradable reader that has not asked. The answer is exact, and gives the plain lock's next
 /// state (`Gives`).
-///
-/// # Examples
-/// ```
-/// equal(&rt, rw::release_upgradable(10), 8);
-/// ```
 #[tactic(auto, using(crate::proofs::ReaderSteps::gives))]
 pub fn release_upgradable(word: usize) -> usize
     requires { tells upgradable word ≡ true }
@@ -225,11 +183,6 @@ pub fn release_upgradable(word: usize) -> usize
 ///
 /// # Contract
 /// The word has to show a writer. The answer is exact, and gives the plain lock's next state (`Gives`).
-///
-/// # Examples
-/// ```
-/// equal(&rt, rw::release_write(1), 0);
-/// ```
 #[tactic(auto, using(crate::proofs::ReaderSteps::gives))]
 pub fn release_write(word: usize) -> usize
     requires { tells writing word ≡ true }
@@ -243,11 +196,6 @@ pub fn release_write(word: usize) -> usize
 ///
 /// # Contract
 /// The word has to show a writer. The answer is exact, and gives the plain lock's next state (`Gives`).
-///
-/// # Examples
-/// ```
-/// equal(&rt, rw::write_to_read(1), 8);
-/// ```
 #[tactic(auto, using(crate::proofs::ReaderSteps::gives))]
 pub fn write_to_read(word: usize) -> usize
     requires { tells writing word ≡ true }
@@ -261,11 +209,6 @@ pub fn write_to_read(word: usize) -> usize
 ///
 /// # Contract
 /// The word has to show a writer. The answer is exact, and gives the plain lock's next state (`Gives`).
-///
-/// # Examples
-/// ```
-/// equal(&rt, rw::write_to_upgradable(1), 2);
-/// ```
 #[tactic(auto, using(crate::proofs::ReaderSteps::gives))]
 pub fn write_to_upgradable(word: usize) -> usize
     requires { tells writing word ≡ true }
@@ -280,11 +223,6 @@ pub fn write_to_upgradable(word: usize) -> usize
 /// # Contract
 /// The word has to show an upgradable reader that has not asked, and fewer other readers than [`MAX_READERS`]. The
 /// answer is exact, and gives the plain lock's next state (`Gives`).
-///
-/// # Examples
-/// ```
-/// equal(&rt, rw::upgradable_to_read(10), 16);
-/// ```
 #[tactic(auto, using(crate::proofs::ReaderSteps::gives))]
 pub fn upgradable_to_read(word: usize) -> usize
     requires kind { tells upgradable word ≡ true }
@@ -299,11 +237,6 @@ pub fn upgradable_to_read(word: usize) -> usize
 ///
 /// # Contract
 /// The answer is exact, and that of the plain lock.
-///
-/// # Examples
-/// ```
-/// (rw::readers(found as usize), Pass::new(permit, seen))
-/// ```
 #[tactic(auto, using(crate::proofs::ReaderSteps::counts))]
 pub fn readers(word: usize) -> usize
     ensures exact { result ≡ readers_in word }
@@ -316,11 +249,6 @@ pub fn readers(word: usize) -> usize
 ///
 /// # Contract
 /// The answer is exact, and that of the plain lock.
-///
-/// # Examples
-/// ```
-/// (rw::writers(found as usize), Pass::new(permit, seen))
-/// ```
 #[tactic(auto, using(crate::proofs::ReaderSteps::counts))]
 pub fn writers(word: usize) -> usize
     ensures exact { result ≡ writers_in word }

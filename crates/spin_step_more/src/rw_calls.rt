@@ -7,15 +7,6 @@ use std::alloc::AllocError;
 ///
 /// A try fails only if, at some moment of the call, what it asks is closed to the party. A weak try may also fail
 /// without cause.
-///
-/// # Examples
-/// ```
-/// (b"try_read", RwCall::TryRead),
-/// (b"read", RwCall::Read),
-/// (b"try_upgradeable_read", RwCall::TryUpgradeableRead),
-/// (b"upgradeable_read", RwCall::UpgradeableRead),
-/// (b"try_write", RwCall::TryWrite),
-/// ```
 #[derive(Copy)]
 pub enum RwCall {
     /// Tries to acquire shared access. It fails beside the writer, beside a reader that asks to upgrade, or at the cap.
@@ -54,8 +45,6 @@ pub enum RwCall {
 
 /// The point of a call: which step comes next. Only a call that acquires shared access, or that waits to upgrade, has a
 /// second one.
-///
-/// No example: a world keeps the points of calls, and a schedule names none.
 #[derive(Copy)]
 pub enum RwPoint {
     /// The first step of any call, and of each further attempt.

@@ -8,12 +8,6 @@ ghost use Rattle.spin_text.specs.Ends.{AppendsBeginning};
 use std::io::{Read, Write};
 
 /// The error of a failed read or write.
-///
-/// # Examples
-/// ```
-/// self.failed = true;
-/// return Err(Failed);
-/// ```
 #[derive(Clone, Copy, Debug, PartialEq, Eq)]
 pub struct Failed;
 
@@ -21,13 +15,6 @@ pub struct Failed;
 ///
 /// # Contract
 /// A failure is for good: from then on [`has_failed`](Source::has_failed) returns `true`.
-///
-/// # Examples
-/// ```
-/// let mut input = OfStd::new(b"flag 5 1\n".as_slice());
-/// let answer = play(rt.alloc(), &mut input, &mut output);
-/// let failed = (output.has_failed(), input.has_failed());
-/// ```
 pub trait Source {
     /// The bytes that further reads will give, if they are known.
     ghost remaining: { Self → Option (List ℕ) };
@@ -40,12 +27,6 @@ pub trait Source {
     /// # Contract
     /// On `Ok` the bytes read are the next of the known ones. A failed read gives no byte, and the source has failed
     /// from then on.
-    ///
-    /// # Examples
-    /// ```
-    /// let found = source.read(&mut to[..room]);
-    /// let found = (found, to, source.has_failed());
-    /// ```
     fn read(&mut self, to: &mut [u8]) -> Result<usize, Failed>
         ensures bound { ReadsAtMost result to.new }
         ensures bytes { ReadConsumes (remaining self.old) (remaining self.new) result to.new }
@@ -56,12 +37,6 @@ pub trait Source {
     ///
     /// # Contract
     /// It is `failed` of the source.
-    ///
-    /// # Examples
-    /// ```
-    /// let found = source.read(&mut to[..room]);
-    /// let found = (found, to, source.has_failed());
-    /// ```
     fn has_failed(&self) -> bool
         ensures { result ≡ failed self.now };
 }
@@ -70,13 +45,6 @@ pub trait Source {
 ///
 /// # Contract
 /// A failure is for good: from then on [`has_failed`](Sink::has_failed) returns `true`.
-///
-/// # Examples
-/// ```
-/// let mut input = OfStd::new(b"flag 5 1\n".as_slice());
-/// let answer = play(rt.alloc(), &mut input, &mut output);
-/// let failed = (output.has_failed(), input.has_failed());
-/// ```
 pub trait Sink {
     /// The bytes that were written, if they are known.
     ghost written: { Self → Option (List ℕ) };
@@ -90,11 +58,6 @@ pub trait Sink {
     /// # Contract
     /// On `Ok` the known bytes grow by those written. A failed write writes no byte, and the sink has failed from
     /// then on.
-    ///
-    /// # Examples
-    /// ```
-    /// let n = sink.write(rest)?;
-    /// ```
     fn write(&mut self, from: &[u8]) -> Result<usize, Failed>
         ensures bound { WritesAtMost result from.now }
         ensures some { IfOk result (λ n. 0 < length from.now → 0 < n) }
@@ -106,12 +69,6 @@ pub trait Sink {
     ///
     /// # Contract
     /// It is `failed` of the sink.
-    ///
-    /// # Examples
-    /// ```
-    /// let answer = play(rt.alloc(), &mut input, &mut output);
-    /// let failed = (output.has_failed(), input.has_failed());
-    /// ```
     fn has_failed(&self) -> bool
         ensures { result ≡ failed self.now };
 }
@@ -120,13 +77,6 @@ pub trait Sink {
 ///
 /// Each error of the reader or writer is a failure. So is a write that takes none of the bytes there. It tries
 /// nothing again.
-///
-/// # Examples
-/// ```
-/// let mut input = OfStd::new(rt.stdin());
-/// let mut output = OfStd::new(rt.stdout());
-/// let mut errors = OfStd::new(rt.stderr());
-/// ```
 #[derive(Drop)]
 pub struct OfStd<X> {
     inner: X,
@@ -141,11 +91,6 @@ impl<X> OfStd<X> {
     ///
     /// # Contract
     /// The stream is over `x` (`of_std_inner`), and has not failed (`of_std_failed`).
-    ///
-    /// # Examples
-    /// ```
-    /// let mut input = OfStd::new(rt.stdin());
-    /// ```
     pub fn new(x: X) -> OfStd<X>
         ensures inner { of_std_inner result ≡ x }
         ensures failed { of_std_failed result ≡ false }
@@ -209,8 +154,11 @@ impl<X: Write> Sink for OfStd<X> {
 ///
 /// # Examples
 /// ```
-/// let text = format!(in &alloc; "{total}\n")?;
-/// write_whole(output, text.as_bytes())?;
+/// use spin_text::{OfStd, write_whole};
+///
+/// let mut bytes = Vec::new(rt.alloc());
+/// assert!(rt; write_whole(&mut OfStd::new(&mut bytes), b"flag 5 1").is_ok());
+/// assert_eq!(rt; bytes.as_slice(), b"flag 5 1".as_slice());
 /// ```
 pub fn write_whole<S: Sink>(sink: &mut S, text: &[u8]) -> Result<(), Failed>
     ensures bytes { OnOk result (Appends (S.written sink.old) (S.written sink.new) text.now) }

@@ -7,11 +7,6 @@ use crate::words::{Rest, is_word, number_then, only_number, word};
 use spin_step_more::{fair, rw};
 
 /// The first line of a text: the object with its opening values, and the number of parties.
-///
-/// # Examples
-/// ```
-/// Header::Flag { value, .. } => Some(Flag::new(value)),
-/// ```
 #[derive(Clone, Copy, Debug, PartialEq, Eq)]
 pub enum Header {
     /// The line `flag VALUE PARTIES`.
@@ -162,12 +157,6 @@ fn once(line: Rest) -> Option<Header>
 ///
 /// # Contract
 /// It is what the words of the line read as, with each number within its limits (`read_header`).
-///
-/// # Examples
-/// ```
-/// let (line, lines) = first_line(text.as_bytes());
-/// let header = header_of(line).expect(rt, shows);
-/// ```
 #[tactic(auto, unfolding(crate::specs::Reading::read_header))]
 pub fn header_of(line: &[u8]) -> Option<Header>
     ensures { result ≡ read_header (words_of line.now) }

@@ -13,8 +13,11 @@ use crate::words::only_number;
 ///
 /// # Examples
 /// ```
-/// let workers = number(words[1])?;
-/// let times = number(words[2])?;
+/// use spin_text::number;
+///
+/// assert_eq!(rt; number("18446744073709551615"), Some(u64::MAX));
+/// assert_eq!(rt; number("18446744073709551616"), None);
+/// assert_eq!(rt; number("07"), None);
 /// ```
 pub fn number(word: &str) -> Option<u64>
     ensures fits { IfSome result (λ n. n < 2 ^ 64) }

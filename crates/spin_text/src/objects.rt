@@ -11,11 +11,6 @@ use spin_world::{
 };
 
 /// An object whose schedules can be written as text.
-///
-/// # Examples
-/// ```
-/// let schedule = schedule_of::<O>(alloc, lines).expect(rt, opening.shows);
-/// ```
 pub trait Spelled: Object<Value = u64, Answer = Answer<u64>> {
     /// How the calls are spelled.
     ghost calls: { Calls Self.Call };
@@ -27,11 +22,6 @@ pub trait Spelled: Object<Value = u64, Answer = Answer<u64>> {
     ///
     /// # Contract
     /// It is what `read` says of the words left.
-    ///
-    /// # Examples
-    /// ```
-    /// Some(Move::Begin(O::call(rest)?))
-    /// ```
     fn call(line: Rest) -> Option<Self::Call>
         ensures { result ≡ read (words_left line.entry) };
 
@@ -39,11 +29,6 @@ pub trait Spelled: Object<Value = u64, Answer = Answer<u64>> {
     ///
     /// # Contract
     /// They are the `numbers` of the object's machine.
-    ///
-    /// # Examples
-    /// ```
-    /// let numbers = O::numbers(world.words());
-    /// ```
     fn numbers(words: Self::Words) -> (u64, Option<u64>)
         ensures { (object : Self) → (Self.machine object).numbers words ≡ numbers_of result };
 

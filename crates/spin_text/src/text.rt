@@ -17,12 +17,6 @@ use spin_world::{BarrierObject, Fair, Flag, OnceObject, Rw, Ticket};
 use std::alloc::{AllocError, AllocFailed, Global};
 
 /// The reason why [`world_text`] fails.
-///
-/// # Examples
-/// ```
-/// let answer = Err(RunError::BadLine(*line));
-/// comes_to(&rt, rt.alloc(), text.as_bytes(), answer, b"");
-/// ```
 #[derive(Clone, Copy, Debug, PartialEq, Eq, Drop)]
 pub enum RunError {
     /// A read failed.
@@ -201,18 +195,15 @@ fn play<K: Sink>(alloc: Global, bytes: &[u8], output: &mut K) -> Result<(), RunE
 ///
 /// # Examples
 /// ```
-/// return match world_text(rt.alloc(), input, output) {
-///     Ok(()) => Ok(()),
-///     Err(error) => Err(Fault::from(error)),
-/// };
-/// ```
+/// use spin_text::{OfStd, world_text};
 ///
-/// A text, and the text that the call writes for it:
-/// ```
-/// (
-///     "flag 5 1\n0 owner set 6\n0 owner get\n",
-///     "1 0 written: 0\n2 0 value 6: 0\nend: 0 value 6\n",
-/// ),
+/// let text = "flag 5 1\n0 begin try_lock\n0 step\n";
+/// let mut output = Vec::new(rt.alloc());
+/// let (mut from, mut to) = (OfStd::new(text.as_bytes()), OfStd::new(&mut output));
+/// assert!(rt; world_text(rt.alloc(), &mut from, &mut to).is_ok());
+/// drop(to);
+/// let told = "1 0 begun: 0\n2 0 answer granted from 1: 1\nend: 1 value 5\n";
+/// assert_eq!(rt; str::from_utf8(&output), Ok(told));
 /// ```
 pub fn world_text<I: Source, O: Sink>(
     alloc: Global,

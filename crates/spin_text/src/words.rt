@@ -11,12 +11,6 @@ ghost use Rattle.spin_text.specs.Reading.{words_left, lines_left, is_end, read_n
 use memchr::memchr;
 
 /// The rest of a line, or of all lines. `None` means that nothing is left, not even an empty word or line.
-///
-/// # Examples
-/// ```
-/// while let Some(bytes) = rest {
-///     let (line, further) = first_line(bytes);
-/// ```
 pub type Rest<'a> = Option<&'a [u8]>;
 
 /// The number of bytes from which on [`memchr`] is quicker than a loop, since it compares as many at once.
@@ -55,12 +49,6 @@ fn cut(separator: u8, bytes: &[u8]) -> (&[u8], Rest<'_>)
 /// # Contract
 /// The words of the line, and the lines left, are those of the bytes line by line (`words_by_line`). A rest that
 /// is left is shorter than the bytes.
-///
-/// # Examples
-/// ```
-/// let (line, lines) = first_line(text.as_bytes());
-/// let header = header_of(line).expect(rt, shows);
-/// ```
 pub fn first_line(bytes: &[u8]) -> (&[u8], Rest<'_>)
     ensures lines { words_by_line bytes.now ≡ words_of result.0.now ∷ lines_left result.1 }
     ensures shorter { IfSome result.1 (λ rest. length rest.now < length bytes.now) }

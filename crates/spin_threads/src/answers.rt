@@ -37,9 +37,6 @@ ghost use Rattle.spin_threads.specs.Onces.{FoundOnce, GaveOnce, has_value};
 ///
 /// # Contract
 /// `Found`, of the lock's holders, tickets and starvers.
-///
-/// # Examples
-/// As [`a_look_at_a_spin_mutex_was_so_at_a_moment`].
 pub fn a_refused_try_found_the_spin_mutex_held()
     ensures { Found spin_mutex.model SpinMutexView flag.TryLock Refused (Was is_held true) }
 {}
@@ -48,12 +45,6 @@ pub fn a_refused_try_found_the_spin_mutex_held()
 ///
 /// # Contract
 /// `Found`, of the lock's holders, tickets and starvers.
-///
-/// # Examples
-/// ```
-/// a_look_at_a_spin_mutex_was_so_at_a_moment();
-/// let (held, pass) = pass.is_locked();
-/// ```
 pub fn a_look_at_a_spin_mutex_was_so_at_a_moment()
     ensures { (held : Bool) → Found spin_mutex.model SpinMutexView flag.IsLocked (Is held) (Was is_held held) }
 {}
@@ -63,12 +54,6 @@ pub fn a_look_at_a_spin_mutex_was_so_at_a_moment()
 ///
 /// # Contract
 /// `Found`, of the lock's holders, tickets and starvers.
-///
-/// # Examples
-/// ```
-/// a_refused_try_found_the_ticket_mutex_held_or_used_up();
-/// pass.try_lock()
-/// ```
 pub fn a_refused_try_found_the_ticket_mutex_held_or_used_up()
     ensures { (first : ℕ) → Found (ticket_mutex.model first) TicketMutexView ticket.TryLock Refused (λ s.
         (is_held s ≡ true) ⊎ (is_left s.next ≡ false)) }
@@ -78,9 +63,6 @@ pub fn a_refused_try_found_the_ticket_mutex_held_or_used_up()
 ///
 /// # Contract
 /// `Found`, of the lock's holders, tickets and starvers.
-///
-/// # Examples
-/// As [`a_look_at_a_spin_mutex_was_so_at_a_moment`].
 pub fn a_look_at_a_ticket_mutex_was_so_at_a_moment()
     ensures { (first : ℕ) (held : Bool) →
         Found (ticket_mutex.model first) TicketMutexView ticket.IsLocked (Is held) (Was is_held held) }
@@ -91,9 +73,6 @@ pub fn a_look_at_a_ticket_mutex_was_so_at_a_moment()
 ///
 /// # Contract
 /// `Found`, of the lock's holders, tickets and starvers.
-///
-/// # Examples
-/// As [`a_look_at_a_spin_mutex_was_so_at_a_moment`].
 pub fn a_refused_try_found_the_fair_mutex_held_or_starved()
     ensures { Found fair_mutex.model FairMutexView fair.TryLock Refused (λ s.
         (is_held s ≡ true) ⊎ (is_starved s ≡ true)) }
@@ -104,9 +83,6 @@ pub fn a_refused_try_found_the_fair_mutex_held_or_starved()
 ///
 /// # Contract
 /// `Found`, of the lock's holders, tickets and starvers.
-///
-/// # Examples
-/// As [`a_look_at_a_spin_mutex_was_so_at_a_moment`].
 pub fn the_reason_for_a_refusal_was_so_at_a_moment()
     ensures locked { Found fair_mutex.model FairMutexView fair.TryLockStarver Locked (λ s.
         (is_held s ≡ true) × (is_starved s ≡ false)) }
@@ -117,12 +93,6 @@ pub fn the_reason_for_a_refusal_was_so_at_a_moment()
 ///
 /// # Contract
 /// `Found`, of the lock's holders, tickets and starvers.
-///
-/// # Examples
-/// ```
-/// a_look_at_a_fair_mutex_was_so_at_a_moment();
-/// let (held, pass) = pass.is_locked();
-/// ```
 pub fn a_look_at_a_fair_mutex_was_so_at_a_moment()
     ensures { (held : Bool) → Found fair_mutex.model FairMutexView fair.IsLocked (Is held) (Was is_held held) }
 {}
@@ -132,9 +102,6 @@ pub fn a_look_at_a_fair_mutex_was_so_at_a_moment()
 ///
 /// # Contract
 /// `Found`, of the lock's holders, tickets and starvers.
-///
-/// # Examples
-/// As [`a_look_at_a_spin_mutex_was_so_at_a_moment`].
 pub fn a_refused_starve_found_as_many_as_may_starve()
     ensures { Found fair_mutex.model FairMutexView fair.Starve Refused (λ s. most_starvers ≤ length s.starvers) }
 {}
@@ -144,9 +111,6 @@ pub fn a_refused_starve_found_as_many_as_may_starve()
 ///
 /// # Contract
 /// `Found`, of the lock's holders, tickets and starvers.
-///
-/// # Examples
-/// As [`a_look_at_a_spin_mutex_was_so_at_a_moment`].
 pub fn a_refused_starver_was_kept_out_at_a_moment()
     ensures try_lock { Found fair_mutex.model FairMutexView fair.StarverTryLock Refused (Was is_held true) }
     ensures try_lock_fair { Found fair_mutex.model FairMutexView fair.StarverTryLockFair Refused (λ s.
@@ -158,9 +122,6 @@ pub fn a_refused_starver_was_kept_out_at_a_moment()
 ///
 /// # Contract
 /// `Found`, of the lock's holders, tickets and starvers.
-///
-/// # Examples
-/// As [`a_look_at_a_spin_mutex_was_so_at_a_moment`].
 pub fn a_refused_try_read_was_kept_out_at_a_moment()
     ensures { Found rwlock.model RwLockView rw.TryRead Refused (λ s.
         (0 < writers s) ⊎ (0 < count_kind asking s.holders) ⊎ (length s.holders ≡ reader_limit)) }
@@ -171,9 +132,6 @@ pub fn a_refused_try_read_was_kept_out_at_a_moment()
 ///
 /// # Contract
 /// `Found`, of the lock's holders, tickets and starvers.
-///
-/// # Examples
-/// As [`a_look_at_a_spin_mutex_was_so_at_a_moment`].
 pub fn a_refused_try_upgradeable_read_was_kept_out_at_a_moment()
     ensures { Found rwlock.model RwLockView rw.TryUpgradeableRead Refused (λ s.
         (0 < writers s) ⊎ (0 < upgraders s.holders) ⊎ (length s.holders ≡ reader_limit)) }
@@ -184,9 +142,6 @@ pub fn a_refused_try_upgradeable_read_was_kept_out_at_a_moment()
 ///
 /// # Contract
 /// `Found`, of the lock's holders, tickets and starvers.
-///
-/// # Examples
-/// As [`a_look_at_a_spin_mutex_was_so_at_a_moment`].
 pub fn a_refused_try_write_was_kept_out_at_a_moment()
     ensures { Found rwlock.model RwLockView rw.TryWrite Refused (Was is_held true) }
 {}
@@ -196,9 +151,6 @@ pub fn a_refused_try_write_was_kept_out_at_a_moment()
 ///
 /// # Contract
 /// `Found`, of the lock's holders, tickets and starvers.
-///
-/// # Examples
-/// As [`a_look_at_a_spin_mutex_was_so_at_a_moment`].
 pub fn a_refused_try_upgrade_was_kept_out_at_a_moment()
     ensures { Found rwlock.model RwLockView rw.TryUpgrade Refused (λ s. 1 < length s.holders) }
 {}
@@ -207,12 +159,6 @@ pub fn a_refused_try_upgrade_was_kept_out_at_a_moment()
 ///
 /// # Contract
 /// `Found`, of the lock's holders, tickets and starvers.
-///
-/// # Examples
-/// ```
-/// a_count_of_a_rwlock_was_so_at_a_moment();
-/// let (readers, pass) = pass.reader_count();
-/// ```
 pub fn a_count_of_a_rwlock_was_so_at_a_moment()
     ensures readers { (count : ℕ) →
         Found rwlock.model RwLockView rw.ReaderCount (Count count) (Was readers count) }
@@ -224,9 +170,6 @@ pub fn a_count_of_a_rwlock_was_so_at_a_moment()
 ///
 /// # Contract
 /// `AtAMoment`, of the lock's holders, tickets and starvers.
-///
-/// # Examples
-/// As [`a_look_at_a_spin_mutex_was_so_at_a_moment`].
 pub fn a_count_of_seats_was_so_at_a_moment()
     ensures { (n count : ℕ) (before now : SeatsPass n) → Counted count before now →
         AtAMoment (seats.model n) call.Count now.account.permit.view (history before) (history now)
@@ -238,9 +181,6 @@ pub fn a_count_of_seats_was_so_at_a_moment()
 ///
 /// # Contract
 /// `AtAMoment`, of the lock's holders, tickets and starvers.
-///
-/// # Examples
-/// As [`a_look_at_a_spin_mutex_was_so_at_a_moment`].
 pub fn a_refused_try_found_all_seats_taken()
     ensures { (n : ℕ) (before now : SeatsPass n) → WasRefused before now →
         AtAMoment (seats.model n) call.TryEnter now.account.permit.view (history before) (history now) (λ s.
@@ -251,12 +191,6 @@ pub fn a_refused_try_found_all_seats_taken()
 ///
 /// # Contract
 /// `FoundOnce`, of the phase of the `Once`.
-///
-/// # Examples
-/// ```
-/// a_look_at_a_once_was_so_at_a_moment();
-/// let (there, pass) = pass.is_completed();
-/// ```
 pub fn a_look_at_a_once_was_so_at_a_moment()
     ensures { (there : Bool) → FoundOnce once.IsCompleted (Is there) (Was has_value there) }
 {}
@@ -266,9 +200,6 @@ pub fn a_look_at_a_once_was_so_at_a_moment()
 ///
 /// # Contract
 /// `FoundOnce`, of the phase of the `Once`.
-///
-/// # Examples
-/// As [`a_look_at_a_once_was_so_at_a_moment`].
 pub fn a_call_without_a_value_found_none_at_a_moment()
     ensures get { FoundOnce once.Get NoValue (Was has_value false) }
     ensures poll { FoundOnce once.Poll NoValue (λ s. is_nothing s.phase ≡ true) }
@@ -279,9 +210,6 @@ pub fn a_call_without_a_value_found_none_at_a_moment()
 ///
 /// # Contract
 /// `GaveOnce`, which says so of each call with the answer `Value`.
-///
-/// # Examples
-/// As [`a_look_at_a_once_was_so_at_a_moment`].
 pub fn there_was_a_value_as_a_once_gave_it()
     ensures { GaveOnce }
 {}

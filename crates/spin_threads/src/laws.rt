@@ -23,9 +23,6 @@ ghost use Rattle.spin_threads.specs.Between.{Between};
 ///
 /// # Contract
 /// `Between`, of the moves that the lock's cell keeps, with the lock's word and parties.
-///
-/// # Examples
-/// None: nobody calls a law.
 pub fn between_any_two_steps_of_a_spin_mutex()
     ensures { (name word : ℕ) (trace : Trace spin_mutex.Done (Unit {0})) (parties : List (Numbered SpinMutexView)) → spin_mutex.IsFlag name word trace parties → Between spin_mutex.model spin_mutex.seat_of spin_mutex.words_of trace.entries (word, trace.word) parties }
 {}
@@ -35,9 +32,6 @@ pub fn between_any_two_steps_of_a_spin_mutex()
 ///
 /// # Contract
 /// `Between`, of the moves that the lock's cell keeps, with the lock's words and parties.
-///
-/// # Examples
-/// None: nobody calls a law.
 pub fn between_any_two_steps_of_a_ticket_mutex()
     ensures { (name first next : ℕ) (trace : Trace ticket_mutex.Made ℕ) (parties : List (Numbered TicketMutexView)) → ticket_mutex.IsQueue name first next trace parties → Between (ticket_mutex.model first) ticket_mutex.seat_of ticket_mutex.words_of trace.entries (next, trace.word) parties }
 {}
@@ -47,9 +41,6 @@ pub fn between_any_two_steps_of_a_ticket_mutex()
 ///
 /// # Contract
 /// `Between`, of the moves that the lock's cell keeps, with the lock's word and parties.
-///
-/// # Examples
-/// None: nobody calls a law.
 pub fn between_any_two_steps_of_a_fair_mutex()
     ensures { (name word : ℕ) (trace : Trace fair_mutex.Done (Unit {0})) (parties : List (Numbered FairMutexView)) → fair_mutex.IsFair name word trace parties → Between fair_mutex.model fair_mutex.seat_of fair_mutex.words_of trace.entries (word, trace.word) parties }
 {}
@@ -59,9 +50,6 @@ pub fn between_any_two_steps_of_a_fair_mutex()
 ///
 /// # Contract
 /// `Between`, of the moves that the lock's cell keeps, with the lock's word and parties.
-///
-/// # Examples
-/// None: nobody calls a law.
 pub fn between_any_two_steps_of_seats()
     ensures { (n name word : ℕ) (trace : Trace seats.Done (Unit {0})) (parties : List (Numbered SeatsView)) → seats.IsSeats n name word trace parties → Between (seats.model n) seats.seat_of seats.words_of trace.entries (word, trace.word) parties }
 {}
@@ -71,9 +59,6 @@ pub fn between_any_two_steps_of_seats()
 ///
 /// # Contract
 /// `Between`, of the moves that the lock's cell keeps, with the lock's word and parties.
-///
-/// # Examples
-/// None: nobody calls a law.
 pub fn between_any_two_steps_of_a_rwlock()
     ensures { (name word : ℕ) (trace : Trace rwlock.Done (Unit {0})) (parties : List (Numbered RwLockView)) → rwlock.IsRw name word trace parties → Between rwlock.model rwlock.seat_of rwlock.words_of trace.entries (word, trace.word) parties }
 {}
@@ -85,9 +70,6 @@ pub fn between_any_two_steps_of_a_rwlock()
 /// # Contract
 /// `Between`, of the schedule of the object that the moves are which the cell keeps (`foretold`), with the cell's word
 /// and parties. `given` is the value that the cell was made with, or none.
-///
-/// # Examples
-/// None: nobody calls a law.
 pub fn between_any_two_steps_of_a_once()
     ensures { (given : Option (Unit {0})) (name word : ℕ) (trace : Trace once.Made (Unit {0})) (parties : List (Numbered OnceView)) → once.IsOnce given name word trace parties → Between (once_machine given) place_of once.words_of (foretold trace.entries) (word, trace.word) parties }
 {}

@@ -25,9 +25,6 @@ ghost use Rattle.spin_threads.specs.Turns.{EntersInTurn};
 ///
 /// # Contract
 /// `KeepsLimits`, which says it of the steps that all threads made while the call ran.
-///
-/// # Examples
-/// As [`crate::a_look_at_a_spin_mutex_was_so_at_a_moment`].
 pub fn a_call_of_a_spin_mutex_keeps_its_limit()
     ensures { KeepsLimits spin_mutex.model SpinMutexView }
 {}
@@ -37,9 +34,6 @@ pub fn a_call_of_a_spin_mutex_keeps_its_limit()
 ///
 /// # Contract
 /// `KeepsLimits`, which says it of the steps that all threads made while the call ran.
-///
-/// # Examples
-/// As [`crate::a_look_at_a_spin_mutex_was_so_at_a_moment`].
 pub fn a_call_of_a_ticket_mutex_keeps_its_limit()
     ensures { (first : ℕ) → KeepsLimits (ticket_mutex.model first) TicketMutexView }
 {}
@@ -49,9 +43,6 @@ pub fn a_call_of_a_ticket_mutex_keeps_its_limit()
 ///
 /// # Contract
 /// `KeepsLimits`, which says it of the steps that all threads made while the call ran.
-///
-/// # Examples
-/// As [`crate::a_look_at_a_spin_mutex_was_so_at_a_moment`].
 pub fn a_call_of_a_fair_mutex_keeps_its_limit()
     ensures { KeepsLimits fair_mutex.model FairMutexView }
 {}
@@ -61,9 +52,6 @@ pub fn a_call_of_a_fair_mutex_keeps_its_limit()
 ///
 /// # Contract
 /// `KeepsLimits`, which says it of the steps that all threads made while the call ran.
-///
-/// # Examples
-/// As [`crate::a_look_at_a_spin_mutex_was_so_at_a_moment`].
 pub fn a_call_of_a_rwlock_keeps_its_limit()
     ensures { KeepsLimits rwlock.model RwLockView }
 {}
@@ -73,9 +61,6 @@ pub fn a_call_of_a_rwlock_keeps_its_limit()
 ///
 /// # Contract
 /// `KeepsLimits`, which says it of the steps that all threads made while the call ran.
-///
-/// # Examples
-/// As [`crate::a_look_at_a_spin_mutex_was_so_at_a_moment`].
 pub fn a_call_of_seats_keeps_its_limit()
     ensures { (n : ℕ) → KeepsLimits (seats.model n) SeatsView }
 {}
@@ -85,9 +70,6 @@ pub fn a_call_of_seats_keeps_its_limit()
 ///
 /// # Contract
 /// `EntersInTurn`, of the history that the pass knows after the call.
-///
-/// # Examples
-/// As [`crate::a_look_at_a_spin_mutex_was_so_at_a_moment`].
 pub fn a_lock_of_a_ticket_mutex_enters_in_turn()
     ensures { (first : ℕ) (before now : Option (Numbered TicketMutexView)) (old new : List ticket_mutex.Made) →
         ticket_mutex.Called first Lock Granted before old now new → EntersInTurn first now old new }

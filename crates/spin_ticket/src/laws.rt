@@ -13,9 +13,6 @@ ghost use Rattle.spin_ticket.specs.TicketQueue.{IsInTurn, IsPlainQueue};
 /// # Contract
 /// Where the rule holds (`IsQueue`), there is a plain lock with that next number and that served number. In it each
 /// party has just the ticket that its view names (`IsPlainQueue`).
-///
-/// # Examples
-/// None: nobody calls a law.
 pub fn the_words_of_a_ticket_mutex_are_its_queue()
     ensures { (name first next : ℕ) (trace : Trace Made ℕ) (parties : List (Numbered View)) → IsQueue name first next trace parties → (s : Plain) × IsPlainQueue s next trace.word (views parties) }
 {}
@@ -25,9 +22,6 @@ pub fn the_words_of_a_ticket_mutex_are_its_queue()
 /// # Contract
 /// Where the rule holds (`IsQueue`), one party has each number from the served one up to the next one. Only the party
 /// with the served number has entered (`IsInTurn`).
-///
-/// # Examples
-/// None: nobody calls a law.
 pub fn the_parties_of_a_ticket_mutex_enter_in_turn()
     ensures { (name first next : ℕ) (trace : Trace Made ℕ) (parties : List (Numbered View)) → IsQueue name first next trace parties → IsInTurn next trace.word (views parties) }
 {}
@@ -41,9 +35,6 @@ pub fn the_parties_of_a_ticket_mutex_enter_in_turn()
 /// Whatever holds between any two steps of threads (`IsQueue`): no move of the list is passed over in the model, which
 /// opens with the lock's first ticket. After the list the model has the lock's two words, and has each party where the
 /// lock has it.
-///
-/// # Examples
-/// None: nobody calls a law.
 pub fn every_run_of_a_ticket_mutex_is_a_schedule()
     ensures { (name first next : ℕ) (trace : Trace Made ℕ) (parties : List (Numbered View)) → IsQueue name first next trace parties → IsRun (model first) seat_of words_of trace.entries (next, trace.word) parties }
 {}

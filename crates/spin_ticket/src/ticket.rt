@@ -34,9 +34,12 @@ pub use self::rule::{Entry, Party, TicketRule, View};
 ///
 /// # Examples
 /// ```
-/// let lock: TicketMutex<u64> = TicketMutex::new(5);
-/// let guard: TicketMutexGuard<u64> = lock.lock(&rt);
-/// equal(&rt, *guard, 5);
+/// use spin::mutex::TicketMutex;
+/// use std::thread;
+///
+/// let last: TicketMutex<u64> = TicketMutex::new(0);
+/// thread::join(&rt, || *last.lock(&rt) = 1, || *last.lock(&rt) = 2);
+/// assert!(rt; [1, 2].contains(&last.into_inner()));
 /// ```
 #[derive(Drop)]
 pub struct TicketMutex<T, R = Spin> {
@@ -48,18 +51,6 @@ pub struct TicketMutex<T, R = Spin> {
 ///
 /// # Contract
 /// `guard_value` is the value behind the guard. What is written through the guard is read through it.
-///
-/// # Examples
-/// ```
-/// fn swap_in_turn<R>(guard: &mut TicketMutexGuard<'_, u64, R>, value: u64) -> u64
-///     ensures old_value { result ≡ guard_value guard.old }
-///     ensures new_value { guard_value guard.new ≡ value }
-/// {
-///     let old = **guard;
-///     **guard = value;
-///     old
-/// }
-/// ```
 pub type TicketMutexGuard<'a, T, R = Spin> = Guard<'a, T, Party, TicketRule, R>;
 
 /// A hold on a [`TicketMutex`]: it keeps the lock without a guard, and gives no access to the value.
@@ -68,12 +59,6 @@ pub type TicketMutexGuard<'a, T, R = Spin> = Guard<'a, T, Party, TicketRule, R>;
 ///
 /// # Contract
 /// `held_value` is the value that the guard had.
-///
-/// # Examples
-/// ```
-/// TicketMutex::force_unlock(TicketMutexGuard::hold(guard));
-/// equal(&rt, lock.is_locked(), false);
-/// ```
 pub type Held<'a, T, R = Spin> = guard::Held<'a, T, Party, TicketRule, R>;
 
 // How many hints a place waits for each ticket before it, where it is not the next in turn.
@@ -84,13 +69,6 @@ impl<T, R> TicketMutex<T, R> {
     ///
     /// # Contract
     /// No clause. The call returns.
-    ///
-    /// # Examples
-    /// ```
-    /// let lock: TicketMutex<u64> = TicketMutex::new(5);
-    /// let guard: TicketMutexGuard<u64> = lock.lock(&rt);
-    /// equal(&rt, *guard, 5);
-    /// ```
     pub fn new(value: T) -> Self {
         Self::starting_at(value, 0)
     }
@@ -111,12 +89,6 @@ impl<T, R> TicketMutex<T, R> {
     ///
     /// # Contract
     /// No clause. The call returns.
-    ///
-    /// # Examples
-    /// ```
-    /// equal(&rt, lock.is_locked(), false);
-    /// equal(&rt, lock.into_inner(), 42);
-    /// ```
     pub fn into_inner(self) -> T {
         self.cell.into_inner()
     }
@@ -129,13 +101,6 @@ impl<T, R> TicketMutex<T, R> {
     ///
     /// # Contract
     /// The guard belongs to a holder of the lock (`IsHolder`). Whether and when the call returns is not promised.
-    ///
-    /// # Examples
-    /// ```
-    /// let mut before = self.lock.lock(rt);
-    /// let ticket = *before;
-    /// *before = ticket.wrapping_add(1);
-    /// ```
     pub fn lock<W: Wait>(&self, rt: &W) -> TicketMutexGuard<'_, T, R>
     where
         R: RelaxStrategy,
@@ -151,14 +116,6 @@ impl<T, R> TicketMutex<T, R> {
     ///
     /// # Contract
     /// A guard belongs to a holder of the lock (`IsHolder`). `None` promises nothing. The call returns.
-    ///
-    /// # Examples
-    /// ```
-    /// let guard = lock.try_lock().expect(&rt, "one ticket is left");
-    /// equal(&rt, *guard, 42);
-    /// drop(guard);
-    /// equal(&rt, lock.try_lock().is_none(), true);
-    /// ```
     #[must_use = "dropping the guard at once releases the lock: bind the answer, or write `drop(..)`"]
     pub fn try_lock<'a>(&'a self) -> Option<TicketMutexGuard<'a, T, R>>
         ensures { IfSome result (IsHolder use_of_party) }
@@ -176,9 +133,13 @@ impl<T, R> TicketMutex<T, R> {
     ///
     /// # Examples
     /// ```
-    /// equal(&rt, lock.is_locked(), true);
-    /// TicketMutex::force_unlock(TicketMutexGuard::hold(guard));
-    /// equal(&rt, lock.is_locked(), false);
+    /// use spin::mutex::TicketMutex;
+    ///
+    /// let lock: TicketMutex<u64> = TicketMutex::new(4);
+    /// let guard = lock.lock(&rt);
+    /// assert!(rt; lock.is_locked());
+    /// drop(guard);
+    /// assert!(rt; !lock.is_locked());
     /// ```
     pub fn is_locked(&self) -> bool {
         self.pass().is_locked().0
@@ -190,12 +151,6 @@ impl<T, R> TicketMutex<T, R> {
     ///
     /// # Contract
     /// No clause. The call returns.
-    ///
-    /// # Examples
-    /// ```
-    /// TicketMutex::force_unlock(TicketMutexGuard::hold(guard));
-    /// equal(&rt, lock.is_locked(), false);
-    /// ```
     pub fn force_unlock(held: Held<'_, T, R>) {
         held.release();
     }
@@ -206,12 +161,6 @@ impl<T, R> TicketMutex<T, R> {
     ///
     /// # Contract
     /// No clause. The call returns.
-    ///
-    /// # Examples
-    /// ```
-    /// *lock.get_mut() = 43;
-    /// equal(&rt, lock.is_locked(), false);
-    /// ```
     pub fn get_mut(&mut self) -> &mut T {
         self.cell.get_mut()
     }

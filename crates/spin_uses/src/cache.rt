@@ -35,12 +35,6 @@ pub trait Answers {
 /// A reader finds an answer that is there, beside other readers. If there is none, the one reader that may upgrade
 /// makes it. Meanwhile other readers come and go, for the answers that are there. It becomes the writer only to add
 /// what it made.
-///
-/// # Examples
-/// ```
-/// let key = String::from_str(alloc, name)?;
-/// cache.answer(rt, key, |key| key.to_ascii_uppercase(alloc))
-/// ```
 #[derive(Drop)]
 pub struct Cache<C: Answers, A: Allocator = Global, R = Spin> {
     table: RwLock<Table<C, A>, R>,
@@ -48,11 +42,6 @@ pub struct Cache<C: Answers, A: Allocator = Global, R = Spin> {
 
 impl<C: Answers, A: Allocator + Clone, R: RelaxStrategy> Cache<C, A, R> {
     /// Creates a cache without answers.
-    ///
-    /// # Examples
-    /// ```
-    /// let cache: SquareCache = Cache::new(rt.alloc());
-    /// ```
     pub fn new(alloc: A) -> Self {
         Cache {
             table: RwLock::new(Table::new(alloc)),
@@ -64,11 +53,6 @@ impl<C: Answers, A: Allocator + Clone, R: RelaxStrategy> Cache<C, A, R> {
     ///
     /// # Contract
     /// Whether and when the call returns is not promised.
-    ///
-    /// # Examples
-    /// ```
-    /// let reader = cache.read(&rt);
-    /// ```
     pub fn read<W: Wait>(&self, rt: &W) -> RwLockReadGuard<'_, Table<C, A>, R> {
         self.table.read(rt)
     }
@@ -81,14 +65,6 @@ impl<C: Answers, A: Allocator + Clone, R: RelaxStrategy> Cache<C, A, R> {
     /// # Contract
     /// `make` has to be callable with `key`, and each answer that it may give has to be one for this key (`may`). What
     /// the call returns is an answer for this key, whoever made it. Whether and when the call returns is not promised.
-    ///
-    /// # Examples
-    /// ```
-    /// cache.answer(rt, key, |key| {
-    ///     made.set(made.get().wrapping_add(1));
-    ///     Ok(key.wrapping_mul(*key))
-    /// })
-    /// ```
     pub fn answer<W: Wait, E: From<AllocError>, F: FnOnce(&C::Key) -> Result<C::Value, E>>(
         &self,
         rt: &W,

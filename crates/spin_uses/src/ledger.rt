@@ -9,11 +9,6 @@ use std::marker::{Brand, PhantomData};
 use std::sync::Wait;
 
 /// An amount that goes from one account to another. Accounts are numbered from 0.
-///
-/// # Examples
-/// ```
-/// Transfer { from, to, amount }
-/// ```
 #[derive(Clone, Copy, Debug, PartialEq, Eq)]
 pub struct Transfer {
     pub from: usize,
@@ -43,12 +38,6 @@ impl Opening for Brand {
 }
 
 /// The accounts, and every transfer that was made, in order.
-///
-/// # Examples
-/// ```
-/// let mut accounts: Accounts<O, &'a Bump> = Accounts::open(arena, balances);
-/// let first = accounts.transfer(transfer(0, 2, 30));
-/// ```
 #[derive(Drop)]
 pub struct Accounts<O: Opening, A: Allocator = Global> {
     balances: Vec<u64, A>,
@@ -60,11 +49,6 @@ pub struct Accounts<O: Opening, A: Allocator = Global> {
 }
 
 /// Accounts that threads share. Whoever locks them finds all that `Accounts` says of itself.
-///
-/// # Examples
-/// ```
-/// let ledger: Ledger<O> = Ledger::new(Accounts::open(alloc, balances));
-/// ```
 pub type Ledger<O, A = Global> = Mutex<Accounts<O, A>>;
 
 impl<O: Opening, A: Allocator> Accounts<O, A> {
@@ -72,11 +56,6 @@ impl<O: Opening, A: Allocator> Accounts<O, A> {
     ///
     /// # Contract
     /// The balances have to be those of `O`, and their sum has to fit a `u64`.
-    ///
-    /// # Examples
-    /// ```
-    /// let mut accounts: Accounts<O> = Accounts::open(alloc, balances);
-    /// ```
     pub fn open(alloc: A, balances: Vec<u64, A>) -> Self
         requires opening { balances.items ≡ O.balances }
         requires fits { sum O.balances < 2 ^ 64 }
@@ -95,13 +74,6 @@ impl<O: Opening, A: Allocator> Accounts<O, A> {
     /// # Contract
     /// `Ok` exactly if the transfer can be made and there is memory: then the balances are those after it, and the
     /// journal has it at its end. `Err` says why (`RefusedFor`), and balances and journal are as they were.
-    ///
-    /// # Examples
-    /// ```
-    /// if ledger.lock(rt).transfer(asked).is_ok() {
-    ///     made = made.saturating_add(1);
-    /// }
-    /// ```
     pub fn transfer(&mut self, transfer: Transfer) -> Result<(), Refused>
         ensures why { MatchResult result (λ _. can_make transfer self.old.balances.items ≡ true) (λ e. RefusedFor e transfer self.old.balances.items) }
         ensures balances { OnOk result (self.new.balances.items ≡ after transfer self.old.balances.items) }
@@ -126,12 +98,6 @@ impl<O: Opening, A: Allocator> Accounts<O, A> {
     ///
     /// # Contract
     /// The answer is exact.
-    ///
-    /// # Examples
-    /// ```
-    /// equal(rt, accounts.balance(2), Some(third));
-    /// equal(rt, accounts.balance(3), None);
-    /// ```
     pub fn balance(&self, account: usize) -> Option<u64>
         ensures { result ≡ slice_get self.now.balances.items account }
     {
@@ -142,11 +108,6 @@ impl<O: Opening, A: Allocator> Accounts<O, A> {
     ///
     /// # Contract
     /// It is the sum of the opening balances, at every look.
-    ///
-    /// # Examples
-    /// ```
-    /// equal(rt, accounts.total(), 120);
-    /// ```
     pub fn total(&self) -> u64
         ensures { result ≡ sum O.balances }
     {
@@ -157,11 +118,6 @@ impl<O: Opening, A: Allocator> Accounts<O, A> {
     ///
     /// # Contract
     /// Their replay from the opening balances gives the balances.
-    ///
-    /// # Examples
-    /// ```
-    /// equal(rt, accounts.journal(), made.as_slice());
-    /// ```
     pub fn journal(&self) -> &[Transfer]
         ensures journal { result.now ≡ self.now.journal.items }
         ensures replays { replayed O.balances result.now ≡ Some self.now.balances.items }
@@ -200,12 +156,6 @@ fn make(balances: &mut [u64], transfer: &Transfer)
 /// # Contract
 /// The sum of the opening balances has to fit a `u64`. `Ok` has the balances of the replay (`replayed`). `Err`, but for
 /// want of memory, says that the journal has none.
-///
-/// # Examples
-/// ```
-/// let refused = replay(rt.alloc(), &[29, 20, 0], &journal);
-/// equal(&rt, refused.err(), Some(Refused::TooLittle));
-/// ```
 pub fn replay<A: Allocator>(
     alloc: A,
     opening: &[u64],
@@ -235,11 +185,6 @@ pub fn a_balance_is_what_came_less_what_went()
 ///
 /// # Contract
 /// It is the sum of the opening balances. Whether and when the call returns is not promised.
-///
-/// # Examples
-/// ```
-/// equal(rt, total(rt, &ledger), 120);
-/// ```
 pub fn total<O: Opening, A: Allocator, W: Wait>(rt: &W, ledger: &Ledger<O, A>) -> u64
     ensures { result ≡ sum O.balances }
 {

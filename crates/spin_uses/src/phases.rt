@@ -34,15 +34,6 @@ impl From<AllocError> for PhasesError {
 }
 
 /// What all rounds came to.
-///
-/// # Examples
-/// ```
-/// let folded = Folded {
-///     total: 2400,
-///     rounds: 100,
-///     smallest: 24,
-/// };
-/// ```
 #[derive(Clone, Copy, Debug, PartialEq, Eq)]
 pub struct Folded {
     /// The sum of all that was added.
@@ -319,8 +310,6 @@ fn run_by<'a, P: Plan + Send + Sync, G: Gate + Sync, R: Threads + Wait + Sync, A
 /// # Contract
 /// There may be at most [`MAX_WORKERS`], and all that they add has to fit a `u64`. The total is exact. That workers run
 /// at the same time is not promised. Whether and when the call returns is not promised.
-///
-/// No example: only tests call it.
 pub fn run_phases<G: Gate + Sync, R: Threads + Wait + Sync, A: Allocator>(
     rt: &R,
     alloc: A,

@@ -11,13 +11,6 @@ use std::str::FromStr;
 use std::sync::Wait;
 
 /// What one line of a text sets.
-///
-/// # Examples
-/// ```
-/// if let Some(value) = line.strip_prefix("port = ") {
-///     return Some(Setting::Port(value.parse().ok()?));
-/// }
-/// ```
 #[derive(Clone, Copy, Debug, PartialEq, Eq)]
 pub enum Setting {
     /// `port = 8080`
@@ -33,13 +26,6 @@ impl Setting {
     ///
     /// # Contract
     /// `Some` is what the line sets (`Sets`). `None` says that it sets nothing (`SetsNothing`).
-    ///
-    /// # Examples
-    /// ```
-    /// let Some(setting) = Setting::of_line(line) else {
-    ///     return Err(BadLine { number: at + 1 });
-    /// };
-    /// ```
     pub fn of_line(line: &str) -> Option<Setting>
         ensures some { IfSome result (Sets line.now) }
         ensures none { IfNone result (SetsNothing line.now) }
@@ -58,15 +44,6 @@ impl Setting {
 }
 
 /// The settings of a text. What no line sets has its default.
-///
-/// # Examples
-/// ```
-/// let settings = Settings {
-///     port: 80,
-///     workers: 1,
-///     verbose: true,
-/// };
-/// ```
 #[derive(Clone, Copy, Debug, PartialEq, Eq)]
 pub struct Settings {
     pub port: u16,
@@ -75,13 +52,6 @@ pub struct Settings {
 }
 
 /// The number of the first line that sets nothing. Lines are numbered from 1.
-///
-/// # Examples
-/// ```
-/// let Some(setting) = Setting::of_line(line) else {
-///     return Err(BadLine { number: at + 1 });
-/// };
-/// ```
 #[derive(Clone, Copy, Debug, PartialEq, Eq)]
 pub struct BadLine {
     pub number: usize,
@@ -152,13 +122,6 @@ impl<'t> Makes<Answer, AnswerFor<'t>> for ReadSettings {
 }
 
 /// The settings of one text, for all threads: a `LazyLock` whose initialiser reads the text.
-///
-/// # Examples
-/// ```
-/// let shared: SharedSettings<Yield> = SharedSettings::new(text);
-/// let settings = shared.get(rt)?;
-/// Ok(*settings)
-/// ```
 #[derive(Drop)]
 pub struct SharedSettings<'t, R = Spin> {
     answer: LazyLock<Answer, ReadSettings, R, AnswerFor<'t>>,
@@ -169,11 +132,6 @@ impl<'t, R: RelaxStrategy> SharedSettings<'t, R> {
     ///
     /// # Contract
     /// They are those of `text` (`text_of`).
-    ///
-    /// # Examples
-    /// ```
-    /// let shared: SharedSettings<Yield> = SharedSettings::new(text);
-    /// ```
     pub fn new(text: &'t str) -> Self
         ensures { text_of result ≡ text.now }
     {
@@ -188,12 +146,6 @@ impl<'t, R: RelaxStrategy> SharedSettings<'t, R> {
     /// # Contract
     /// `Ok` has the settings of the text (`AreSettingsOf`), `Err` its first bad line (`IsFirstBad`). Whether and when
     /// the call returns is not promised.
-    ///
-    /// # Examples
-    /// ```
-    /// let settings = shared.get(rt)?;
-    /// Ok(*settings)
-    /// ```
     pub fn get<W: Wait>(&self, rt: &W) -> Result<&Settings, BadLine>
         ensures settings { IfOk result (λ settings. AreSettingsOf (lines (text_of self.now)) settings.now) }
         ensures bad { IfErr result (λ bad. IsFirstBad (lines (text_of self.now)) bad.number) }

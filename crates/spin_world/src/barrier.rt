@@ -12,13 +12,6 @@ use spin_step_more::barrier::State;
 use spin_world_core::{Answer, Hold, Next, Object, Stepped};
 
 /// The two words of a [`BarrierObject`].
-///
-/// # Examples
-/// ```
-/// fn numbers(words: BarrierWords) -> (u64, Option<u64>) {
-///     (words.count as u64, Some(words.generation as u64))
-/// }
-/// ```
 #[derive(Clone, Copy, Debug, PartialEq, Eq)]
 pub struct BarrierWords {
     /// How many parties of the group that gathers have arrived.
@@ -28,11 +21,6 @@ pub struct BarrierWords {
 }
 
 /// A call of a [`BarrierObject`]. The contract of [`BarrierObject::new`] says what it asks.
-///
-/// # Examples
-/// ```
-/// const BARRIER_CALLS: [(&[u8], BarrierCall); 1] = [(b"wait", BarrierCall::Wait)];
-/// ```
 #[derive(Clone, Copy, Debug, PartialEq, Eq)]
 pub enum BarrierCall {
     /// Arrives, and waits until the group of this arrival is full. The last arrival of a group leads, and does not
@@ -41,8 +29,6 @@ pub enum BarrierCall {
 }
 
 /// The point of a call: which step comes next.
-///
-/// No example: a world keeps the points of calls, and a schedule names none.
 #[derive(Clone, Copy, Debug, PartialEq, Eq)]
 pub enum BarrierPoint {
     /// The call arrives.
@@ -57,7 +43,16 @@ pub enum BarrierPoint {
 ///
 /// # Examples
 /// ```
-/// Header::Barrier { .. } => try_schedule::<BarrierObject>(rt, alloc, trial, opening, lines),
+/// use spin_world::{BarrierCall, BarrierObject, Hold, Move, Place, World};
+///
+/// let made = World::new(rt.alloc(), BarrierObject::new(2), 2);
+/// let mut world = made.expect(&rt, "there is memory");
+/// for party in [0, 1] {
+///     world.act(party, Move::Begin(BarrierCall::Wait));
+///     world.act(party, Move::Step);
+/// }
+/// assert!(rt; matches!(world.place(0), Some(Place::InCall)));
+/// assert!(rt; matches!(world.place(1), Some(Place::Idle)));
 /// ```
 #[derive(Clone, Copy, PartialEq, Eq)]
 pub struct BarrierObject {
@@ -70,16 +65,6 @@ impl BarrierObject {
     /// # Contract
     /// The object has this `n`. Its machine is that of a barrier with groups of `n` (`IsBarrierOf`): no group has been
     /// filled, and [`BarrierCall`] says what its call asks.
-    ///
-    /// # Examples
-    /// ```
-    /// fn of_header(header: Header) -> Option<BarrierObject> {
-    ///     match header {
-    ///         Header::Barrier { n, .. } => Some(BarrierObject::new(n)),
-    ///         _ => None,
-    ///     }
-    /// }
-    /// ```
     pub fn new(n: usize) -> BarrierObject
         ensures fields { result ≡ record { n = n } }
         ensures named { IsBarrierOf n (⟦<BarrierObject as Object>⟧.machine result) }

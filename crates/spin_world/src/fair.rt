@@ -24,8 +24,26 @@ use spin_world_core::{Answer, Hold, Next, Object, Stepped};
 ///
 /// # Examples
 /// ```
-/// let mut world = world(&rt, rt.alloc(), Fair::new(7, usize::MAX, 0), 1);
-/// plays(&rt, &mut world, LEAKED, &[Place::Gone], 9);
+/// use spin_world::{Answer, Fair, FairCall, Move, Outcome, World};
+///
+/// let made = World::new(rt.alloc(), Fair::new(5, 4, 1024), 2);
+/// let mut world = made.expect(&rt, "there is memory");
+/// let schedule = [
+///     (0, Move::Begin(FairCall::Starve)),
+///     (0, Move::Step),
+///     (0, Move::Step),
+///     (1, Move::Begin(FairCall::TryLockStarver)),
+///     (1, Move::Step),
+/// ];
+/// let transcript = world.run(&schedule).expect(&rt, "there is memory");
+/// let last = transcript.events.last().expect(&rt, "it has five");
+/// assert!(rt; matches!(
+///     last.outcome,
+///     Outcome::Answered {
+///         answer: Answer::Starved,
+///         began: Some(3)
+///     }
+/// ));
 /// ```
 #[derive(Clone, Copy, PartialEq, Eq)]
 pub struct Fair<V> {
@@ -44,12 +62,6 @@ impl<V: Copy> Fair<V> {
     /// `cap` must not be 0, and `spins` must be below `usize::MAX`. The object has this value, this cap, and a patience
     /// of `spins` + 1. Its machine is that of such a fair lock (`IsFairLock`): no party holds it or starves at first,
     /// and each call asks what [`FairCall`] says.
-    ///
-    /// # Examples
-    /// ```
-    /// let mut world = world(&rt, rt.alloc(), Fair::new(0, 1, 1024), 2);
-    /// plays(&rt, &mut world, TAKEN, &places, 0);
-    /// ```
     pub fn new(value: V, cap: usize, spins: usize) -> Fair<V>
         requires somebody { cap ≢ 0 }
         requires counted { spins < 18446744073709551615 }

@@ -15,12 +15,6 @@ use spin_step::flag;
 use spin_world_core::{Answer, Hold, Next, Object, Stepped};
 
 /// The lock of one flag, which is set while a party holds it.
-///
-/// # Examples
-/// ```
-/// let mut world: World<Flag<u64>> = World::new(self.alloc, Flag::new(0), PARTIES)?;
-/// world.run(self.schedule.get(..entries).unwrap_or(&[]))
-/// ```
 #[derive(Clone, Copy, PartialEq, Eq)]
 pub struct Flag<V> {
     value: V,
@@ -32,12 +26,6 @@ impl<V: Copy> Flag<V> {
     /// # Contract
     /// The object has this value. Its machine is that of a flag (`IsFlag`): it opens clear with the value, and each
     /// call asks what [`FlagCall`] says.
-    ///
-    /// # Examples
-    /// ```
-    /// let mut world = world(&rt, rt.alloc(), Flag::new(5), 2);
-    /// plays(&rt, &mut world, rows! {}, &[Place::Idle, Place::Idle], 5);
-    /// ```
     pub fn new(value: V) -> Flag<V>
         ensures fields { result ≡ record { value = value } }
         ensures named { IsFlag value (⟦<Flag<V> as Object>⟧.machine result) }

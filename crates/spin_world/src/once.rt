@@ -21,7 +21,16 @@ use spin_world_core::{Answer, Hold, Next, Object, Stepped};
 ///
 /// # Examples
 /// ```
-/// Header::Once { .. } => try_schedule::<OnceObject<u64>>(rt, alloc, trial, opening, lines),
+/// use spin_world::{Move, OnceCall, OnceObject, World};
+///
+/// let made = World::new(rt.alloc(), OnceObject::new(), 2);
+/// let mut world = made.expect(&rt, "there is memory");
+/// world.act(0, Move::Begin(OnceCall::CallOnce(7)));
+/// world.act(0, Move::Step);
+/// world.act(0, Move::Step);
+/// assert_eq!(rt; world.value(), None);
+/// world.act(0, Move::Step);
+/// assert_eq!(rt; world.value(), Some(7));
 /// ```
 #[derive(Clone, Copy, PartialEq, Eq)]
 pub struct OnceObject<V> {
@@ -34,16 +43,6 @@ impl<V: Copy> OnceObject<V> {
     /// # Contract
     /// The object has no value. Its machine is that of a `Once` that was made with none (`IsOnceOf`): its word is 0,
     /// and each call asks what [`OnceCall`] says.
-    ///
-    /// # Examples
-    /// ```
-    /// fn of_header(header: Header) -> Option<OnceObject<u64>> {
-    ///     match header {
-    ///         Header::Once { .. } => Some(OnceObject::new()),
-    ///         _ => None,
-    ///     }
-    /// }
-    /// ```
     pub fn new() -> OnceObject<V>
         ensures fields { result ≡ record { value = None } }
         ensures named { IsOnceOf None (⟦<OnceObject<V> as Object>⟧.machine result) }
@@ -56,12 +55,6 @@ impl<V: Copy> OnceObject<V> {
     /// # Contract
     /// The object has this value. Its machine is that of a `Once` that was made with it (`IsOnceOf`): its word is 2,
     /// and each call asks what [`OnceCall`] says.
-    ///
-    /// # Examples
-    /// ```
-    /// let mut world = world(&rt, rt.alloc(), OnceObject::initialized(9), 1);
-    /// plays(&rt, &mut world, REPLACED, &[Place::Idle], 4);
-    /// ```
     pub fn initialized(value: V) -> OnceObject<V>
         ensures fields { result ≡ record { value = Some value } }
         ensures named { IsOnceOf (Some value) (⟦<OnceObject<V> as Object>⟧.machine result) }

@@ -20,7 +20,17 @@ use spin_world_core::{Answer, Hold, Next, Object, Stepped};
 ///
 /// # Examples
 /// ```
-/// Header::Rw { .. } => try_schedule::<Rw<u64>>(rt, alloc, trial, opening, lines),
+/// use spin_world::{Hold, Move, Place, Rw, RwCall, World};
+///
+/// let made = World::new(rt.alloc(), Rw::new(5, 64), 2);
+/// let mut world = made.expect(&rt, "there is memory");
+/// for party in [0, 1] {
+///     world.act(party, Move::Begin(RwCall::Read));
+///     world.act(party, Move::Step);
+///     world.act(party, Move::Step);
+/// }
+/// assert!(rt; matches!(world.place(0), Some(Place::Holding(Hold::Read))));
+/// assert_eq!(rt; world.words(), 16);
 /// ```
 #[derive(Clone, Copy, PartialEq, Eq)]
 pub struct Rw<V> {
@@ -37,16 +47,6 @@ impl<V: Copy> Rw<V> {
     /// # Contract
     /// `cap` must be at least 1. The object has this value and this cap. Its machine is that of such a read-write lock
     /// (`IsRw`): it opens free, and each call asks what [`RwCall`] says.
-    ///
-    /// # Examples
-    /// ```
-    /// fn of_header(header: Header) -> Option<Rw<u64>> {
-    ///     match header {
-    ///         Header::Rw { value, cap, .. } if cap >= 1 => Some(Rw::new(value, cap)),
-    ///         _ => None,
-    ///     }
-    /// }
-    /// ```
     pub fn new(value: V, cap: usize) -> Rw<V>
         requires some { 1 ≤ cap }
         ensures fields { result ≡ record { value = value; cap = cap } }

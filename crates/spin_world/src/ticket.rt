@@ -21,7 +21,16 @@ use spin_world_core::{Answer, Hold, Next, Object, Stepped};
 ///
 /// # Examples
 /// ```
-/// Header::Ticket { .. } => try_schedule::<Ticket<u64>>(rt, alloc, trial, opening, lines),
+/// use spin_world::{Move, Ticket, TicketCall, World};
+///
+/// let made = World::new(rt.alloc(), Ticket::new(5, 0), 2);
+/// let mut world = made.expect(&rt, "there is memory");
+/// for party in [1, 0] {
+///     world.act(party, Move::Begin(TicketCall::Lock));
+///     world.act(party, Move::Step);
+///     world.act(party, Move::Step);
+/// }
+/// assert_eq!(rt; (world.words().next, world.words().serving), (2, 0));
 /// ```
 #[derive(Clone, Copy, PartialEq, Eq)]
 pub struct Ticket<V> {
@@ -36,16 +45,6 @@ impl<V: Copy> Ticket<V> {
     /// # Contract
     /// The object has this value and this first number. Its machine is that of a ticket lock (`IsTicketLock`): it opens
     /// with an empty queue, and each call asks what [`TicketCall`] says.
-    ///
-    /// # Examples
-    /// ```
-    /// fn of_header(header: Header) -> Option<Ticket<u64>> {
-    ///     match header {
-    ///         Header::Ticket { value, first, .. } => Some(Ticket::new(value, first)),
-    ///         _ => None,
-    ///     }
-    /// }
-    /// ```
     pub fn new(value: V, first: u64) -> Ticket<V>
         ensures fields { result ≡ record { value = value; first = first } }
         ensures named { IsTicketLock value first (⟦<Ticket<V> as Object>⟧.machine result) }

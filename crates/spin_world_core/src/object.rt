@@ -12,11 +12,6 @@ use spin_model::{Hold, Next, Stepped};
 /// [`World::run`](crate::World::run) passes `keeps`, `moments`, `counts` and `values` to its caller. They hold of
 /// every schedule from the opening state on. [`looks_under_one_guard_agree`](crate::looks_under_one_guard_agree)
 /// passes `agree`.
-///
-/// # Examples
-/// ```
-/// let mut world: World<Flag<u64>> = World::new(self.alloc, Flag::new(0), PARTIES)?;
-/// ```
 pub trait Object: Drop {
     /// The words that all parties share.
     type Words: Copy;
@@ -39,13 +34,6 @@ pub trait Object: Drop {
     ///
     /// # Contract
     /// They are the `words` of the machine.
-    ///
-    /// # Examples
-    /// ```
-    /// fn opening_words(&self) -> bool {
-    ///     false
-    /// }
-    /// ```
     fn opening_words(&self) -> Self::Words
         ensures { result ≡ (machine self.now).words };
 
@@ -53,13 +41,6 @@ pub trait Object: Drop {
     ///
     /// # Contract
     /// It is the `value` of the machine.
-    ///
-    /// # Examples
-    /// ```
-    /// fn opening_value(&self) -> Option<V> {
-    ///     Some(self.value)
-    /// }
-    /// ```
     fn opening_value(&self) -> Option<Self::Value>
         ensures { result ≡ (machine self.now).value };
 
@@ -67,13 +48,6 @@ pub trait Object: Drop {
     ///
     /// # Contract
     /// It is `owned` of the machine.
-    ///
-    /// # Examples
-    /// ```
-    /// fn is_owned(&self) -> bool {
-    ///     true
-    /// }
-    /// ```
     fn is_owned(&self) -> bool
         ensures { result ≡ (machine self.now).owned };
 
@@ -81,12 +55,6 @@ pub trait Object: Drop {
     ///
     /// # Contract
     /// It is `begin` of the machine.
-    ///
-    /// # Examples
-    /// ```
-    /// (FlagCall::Release, Some(Hold::Write)) => Some(FlagPoint::First),
-    /// (FlagCall::Release, _) => None,
-    /// ```
     fn begin(&self, call: Self::Call, holds: Option<Hold>) -> Option<Self::Local>
         ensures { result ≡ (machine self.now).begin call holds };
 
@@ -95,12 +63,6 @@ pub trait Object: Drop {
     ///
     /// # Contract
     /// It is `refuse` of the machine.
-    ///
-    /// # Examples
-    /// ```
-    /// (FlagCall::TryLockWeak, _) => Some(Next::Answers(Answer::Refused, holds)),
-    /// _ => None,
-    /// ```
     fn refuse(
         &self,
         call: Self::Call,
@@ -114,14 +76,6 @@ pub trait Object: Drop {
     ///
     /// # Contract
     /// The step has to be possible there (`can` of the machine). Then it is `step` of the machine.
-    ///
-    /// # Examples
-    /// ```
-    /// (FlagCall::Lock, FlagPoint::First) => exchange(
-    ///     words,
-    ///     Next::Continue(FlagPoint::Second),
-    /// ),
-    /// ```
     fn step(
         &self,
         words: Self::Words,

@@ -4,12 +4,6 @@ use spin_model::Event;
 use std::alloc::{Allocator, Global};
 
 /// The events of a schedule, one for each of its entries.
-///
-/// # Examples
-/// ```
-/// let transcript = run(world, rows.moves).expect(rt, "memory");
-/// assert!(rt; are_alike(transcript.events.as_slice(), rows.events));
-/// ```
 #[derive(Drop)]
 pub struct Transcript<O: Object, A: Allocator = Global> {
     /// The events, in the order of the schedule.

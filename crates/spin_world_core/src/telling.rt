@@ -10,11 +10,6 @@ use std::alloc::{AllocError, Allocator};
 ///
 /// # Contract
 /// On `Ok` the table has `None` for each of the parties.
-///
-/// # Examples
-/// ```
-/// let mut begins = no_begins(alloc, parties)?;
-/// ```
 pub fn no_begins<A: Allocator>(
     alloc: A,
     parties: usize,
@@ -38,11 +33,6 @@ pub fn forget_begins(begins: &mut [Option<usize>])
 /// # Contract
 /// An answer has the place that the table gives for the party, and any other outcome is unchanged (`with_begin`).
 /// After `Begun` the table has this place for a party within it, and else it is unchanged (`begins_after`).
-///
-/// # Examples
-/// ```
-/// let outcome = with_begin(begins, party, place, world.act(party, action));
-/// ```
 pub fn with_begin<A, V>(
     begins: &mut [Option<usize>],
     party: usize,

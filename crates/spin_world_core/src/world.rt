@@ -24,8 +24,15 @@ pub use two_runs::run_in_two;
 ///
 /// # Examples
 /// ```
-/// let mut world: World<Flag<u64>> = World::new(self.alloc, Flag::new(0), PARTIES)?;
-/// world.run(self.schedule.get(..entries).unwrap_or(&[]))
+/// use spin_world::{Flag, FlagCall, Move, World};
+///
+/// let made = World::new(rt.alloc(), Flag::new(5), 2);
+/// let mut world = made.expect(&rt, "there is memory");
+/// world.act(0, Move::Begin(FlagCall::Lock));
+/// world.act(0, Move::Step);
+/// world.act(0, Move::Write(6));
+/// assert!(rt; world.words());
+/// assert_eq!(rt; world.value(), Some(6));
 /// ```
 #[derive(Drop)]
 pub struct World<O: Object, A: Allocator = Global> {
@@ -54,11 +61,6 @@ impl<O: Object, A: Allocator + Copy> World<O, A> {
     ///
     /// # Contract
     /// On `Ok` the world has this object, with its opening words and its opening value (`at_first`).
-    ///
-    /// # Examples
-    /// ```
-    /// World::new(alloc, object, parties).expect(rt, "memory")
-    /// ```
     pub fn new(alloc: A, object: O, parties: usize) -> Result<World<O, A>, AllocError>
         ensures { IfOk result (λ w. w ≡ record { object = object; state = at_first (O.machine object) parties }) }
     {
@@ -75,11 +77,6 @@ impl<O: Object, A: Allocator + Copy> World<O, A> {
     ///
     /// # Contract
     /// They are the words of the world's state.
-    ///
-    /// # Examples
-    /// ```
-    /// assert!(rt; world.words() == event.words);
-    /// ```
     pub fn words(&self) -> O::Words
         ensures { result ≡ self.now.state.words }
     {
@@ -90,11 +87,6 @@ impl<O: Object, A: Allocator + Copy> World<O, A> {
     ///
     /// # Contract
     /// It is the value of the world's state.
-    ///
-    /// # Examples
-    /// ```
-    /// assert!(rt; world.value() == Some(value));
-    /// ```
     pub fn value(&self) -> Option<O::Value>
         ensures { result ≡ self.now.state.value }
     {
@@ -109,13 +101,14 @@ impl<O: Object, A: Allocator + Copy> World<O, A> {
     ///
     /// # Examples
     /// ```
-    /// for (party, place) in places.iter().enumerate() {
-    ///     assert!(rt;
-    ///         world.place(party).is_some_and(|at| at.is_like(place)),
-    ///         "{party}"
-    ///     );
-    /// }
-    /// assert!(rt; world.place(places.len()).is_none());
+    /// use spin_world::{Flag, FlagCall, Hold, Move, Place, World};
+    ///
+    /// let made = World::new(rt.alloc(), Flag::new(5), 2);
+    /// let mut world = made.expect(&rt, "there is memory");
+    /// world.act(1, Move::Begin(FlagCall::Lock));
+    /// assert!(rt; matches!(world.place(1), Some(Place::InCall)));
+    /// world.act(1, Move::Step);
+    /// assert!(rt; matches!(world.place(1), Some(Place::Holding(Hold::Write))));
     /// ```
     pub fn place(&self, party: usize) -> Option<Place>
         ensures place { result ≡ option_map place_of (slice_get self.now.state.seats party) }
@@ -131,11 +124,6 @@ impl<O: Object, A: Allocator + Copy> World<O, A> {
     ///
     /// # Contract
     /// It is the one that the world was created with.
-    ///
-    /// # Examples
-    /// ```
-    /// && self.object().same_object(other.object())
-    /// ```
     pub fn object(&self) -> &O
         ensures { result.now ≡ self.now.object }
     {
@@ -146,13 +134,6 @@ impl<O: Object, A: Allocator + Copy> World<O, A> {
     ///
     /// # Contract
     /// They are the seats of the world's state.
-    ///
-    /// # Examples
-    /// ```
-    /// for seat in self.seats() {
-    ///     code = mix(code, seat_code::<O>(*seat));
-    /// }
-    /// ```
     pub fn seats(&self) -> &[Seat<O::Call, O::Local>]
         ensures { result.now ≡ self.now.state.seats }
     {
@@ -166,7 +147,14 @@ impl<O: Object, A: Allocator + Copy> World<O, A> {
     ///
     /// # Examples
     /// ```
-    /// World::copy(self)
+    /// use spin_world::{Flag, FlagCall, Move, World};
+    ///
+    /// let made = World::new(rt.alloc(), Flag::new(5), 2);
+    /// let world = made.expect(&rt, "there is memory");
+    /// let mut other = world.copy().expect(&rt, "there is memory");
+    /// other.act(0, Move::Begin(FlagCall::Lock));
+    /// other.act(0, Move::Step);
+    /// assert_eq!(rt; (world.words(), other.words()), (false, true));
     /// ```
     pub fn copy(&self) -> Result<World<O, A>, AllocError>
     where
@@ -189,12 +177,6 @@ impl<O: Object, A: Allocator + Copy> World<O, A> {
     /// # Contract
     /// The outcome and the new state are what `happens` says. What `run` promises of a schedule holds of the moves
     /// that led to the new state, since some schedule leads there (`IsReached`).
-    ///
-    /// # Examples
-    /// ```
-    /// let outcome = with_begin(begins, party, place, world.act(party, action));
-    /// let numbers = O::numbers(world.words());
-    /// ```
     pub fn act(
         &mut self,
         party: usize,
@@ -222,8 +204,25 @@ impl<O: Object, A: Allocator + Copy> World<O, A> {
     ///
     /// # Examples
     /// ```
-    /// let mut world: World<Flag<u64>> = World::new(self.alloc, Flag::new(0), PARTIES)?;
-    /// world.run(self.schedule.get(..entries).unwrap_or(&[]))
+    /// use spin_world::{Answer, Flag, FlagCall, Move, Outcome, World};
+    ///
+    /// let made = World::new(rt.alloc(), Flag::new(5), 2);
+    /// let mut world = made.expect(&rt, "there is memory");
+    /// let schedule = [
+    ///     (0, Move::Begin(FlagCall::Lock)),
+    ///     (1, Move::Begin(FlagCall::TryLock)),
+    ///     (0, Move::Step),
+    ///     (1, Move::Step),
+    /// ];
+    /// let transcript = world.run(&schedule).expect(&rt, "there is memory");
+    /// let last = transcript.events.last().expect(&rt, "it has four");
+    /// assert!(rt; matches!(
+    ///     last.outcome,
+    ///     Outcome::Answered {
+    ///         answer: Answer::Refused,
+    ///         began: Some(1)
+    ///     }
+    /// ));
     /// ```
     pub fn run(
         &mut self,

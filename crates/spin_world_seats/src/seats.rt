@@ -12,8 +12,18 @@ use spin_world_core::{Answer, Hold, Next, Object, Stepped};
 ///
 /// # Examples
 /// ```
-/// let mut world = world(&rt, rt.alloc(), Seats::new(2), 3);
-/// plays(&rt, &mut world, TWO_SIT, &[Place::Idle, sits, sits], ());
+/// use spin_world::{Move, Place, World};
+/// use spin_world_seats::{Seats, SeatsCall};
+///
+/// let made = World::new(rt.alloc(), Seats::new(1), 2);
+/// let mut world = made.expect(&rt, "there is memory");
+/// for party in [0, 1] {
+///     world.act(party, Move::Begin(SeatsCall::Enter));
+///     world.act(party, Move::Step);
+///     world.act(party, Move::Step);
+/// }
+/// assert_eq!(rt; world.words(), 1);
+/// assert!(rt; matches!(world.place(1), Some(Place::InCall)));
 /// ```
 #[derive(Clone, Copy, PartialEq, Eq)]
 pub struct Seats {
@@ -26,12 +36,6 @@ impl Seats {
     /// # Contract
     /// The object has this number. Its machine is that of a lock of so many seats, up to the limit (`IsSeats`): it
     /// opens free, and each call asks what [`SeatsCall`] says.
-    ///
-    /// # Examples
-    /// ```
-    /// let mut world = world(&rt, rt.alloc(), Seats::new(1), 2);
-    /// plays(&rt, &mut world, ONE_SITS, &places, ());
-    /// ```
     pub fn new(seats: usize) -> Seats
         ensures fields { result ≡ record { seats = seats } }
         ensures named { IsSeats seats (⟦<Seats as Object>⟧.machine result) }

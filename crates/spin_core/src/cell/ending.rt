@@ -12,11 +12,6 @@ impl<'a, T, V, E, S, P: Rule<T, V, Second = Trace<E, S>>> Permit<'a, T, V, P> {
     ///
     /// # Contract
     /// After the step the party has to be at rest (`rests`), whatever the `Play` tells. The `Play` holds of the answer.
-    ///
-    /// # Examples
-    /// ```
-    /// equal(&rt, cell.enter().look::<TellNothing>(Watch::nothing()).0, 6);
-    /// ```
     pub fn look<M: Play<P::Key, V, E>>(self, seen: Watch<E>) -> (u64, Watch<E>)
         requires step { MayKnow (P.holds self.key) (P.ways self.key) seen × Traces (P.holds self.key) (P.ways self.key) self.view self.value (λ n. n) (M.told self.key 0 0 self.view) }
         requires rests { (log es : List E) (found : ℕ) (after : V) → M.told self.key 0 0 self.view log es found after → Rests (P.holds self.key) (P.ways self.key).1 (Some after) }
@@ -33,12 +28,6 @@ impl<'a, T, V, E, S, P: Rule<T, V, Second = Trace<E, S>>> Permit<'a, T, V, P> {
     /// # Contract
     /// After a step that finds another word the party has to be at rest (`rests`). `Ok` is the permit after a step that
     /// found `old`, and `Err` a word other than `old`. The `Play` holds of either (`moved`, `left`).
-    ///
-    /// # Examples
-    /// ```
-    /// let (party, _) = cell.enter().attempt::<Mark>(old, new, Watch::nothing());
-    /// Ok(party?.look::<TellNothing>(Watch::nothing()).0)
-    /// ```
     pub fn attempt<M: Play<P::Key, V, E>>(
         self,
         old: u64,

@@ -4,15 +4,6 @@ ghost use Rattle.std.specs.Prelude.{◌≡◌, Bool, true};
 use super::{Cell, Rule};
 
 /// What a value may become, and then has to stay.
-///
-/// # Examples
-/// ```
-/// impl<T, S> Stabilizes for Stage<T, S> {
-///     ghost use Rattle.spin_once.specs.Once.{is_done};
-///
-///     ghost stable = { is_done };
-/// }
-/// ```
 pub trait Stabilizes {
     // Whether it has become that.
     ghost stable: { Self → Bool };
@@ -37,12 +28,6 @@ impl<T: Stabilizes, V, P: Rule<MaybeStable<T>, V>> Cell<MaybeStable<T>, V, P> {
     ///
     /// # Contract
     /// Where the rule holds of that word the value has to be stable (`StableAt`). It stays so.
-    ///
-    /// # Examples
-    /// ```
-    /// let stable = self.cell.get_stable(COMPLETE as u64)?;
-    /// Some(Stage::made(stable))
-    /// ```
     pub fn get_stable(&mut self, first: u64) -> Option<&mut Stable<T>>
         requires { StableAt (P.holds self.old) (P.ways self.old) T.stable first }
     {

@@ -12,15 +12,6 @@ use std::sync::atomic::Ordering::SeqCst;
 use std::sync::atomic::raw;
 
 /// A kind of step, by what it appends to the trace and tells its caller.
-///
-/// # Examples
-/// ```
-/// impl Play<Watch<()>, Bystander, ()> for Mark {
-///     ghost use Rattle.spin_core_tests.specs.Bystanders.{marks};
-///
-///     ghost told = { λ key. marks };
-/// }
-/// ```
 pub trait Play<K, V, E> {
     // Of the key of the rule, the operands (0 where there is none), the view before, the trace before, what the step
     // appended, the number found and the view after.
@@ -41,12 +32,6 @@ pub trait Play<K, V, E> {
 /// (`MayKnow`). After the step the `Play` holds (`Moved`), of the trace as the watch tells it (`Watches`).
 impl<'a, T, V, E, S, P: Rule<T, V, Second = Trace<E, S>>> Permit<'a, T, V, P> {
     /// Reads the first word.
-    ///
-    /// # Examples
-    /// ```
-    /// let (found, party, _) = cell.enter().load::<TellNothing>(Watch::nothing());
-    /// equal(&rt, found, 1);
-    /// ```
     pub fn load<M: Play<P::Key, V, E>>(self, seen: Watch<E>) -> (u64, Permit<'a, T, V, P>, Watch<E>)
         requires { MayKnow (P.holds self.key) (P.ways self.key) seen × Traces (P.holds self.key) (P.ways self.key) self.view self.value (λ n. n) (M.told self.key 0 0 self.view) }
         ensures moved { Moved (Watches (Named (P.holds self.entry.key) (P.ways self.entry.key) seen.name) seen result.2 (M.told self.entry.key 0 0 self.entry.view) result.0) result.1.view }
@@ -66,12 +51,6 @@ impl<'a, T, V, E, S, P: Rule<T, V, Second = Trace<E, S>>> Permit<'a, T, V, P> {
     }
 
     /// Writes `new` over the first word if it is `old`, and returns the word as it was.
-    ///
-    /// # Examples
-    /// ```
-    /// let (found, party, _) = party.exchange::<Mark>(1, 6, Watch::nothing());
-    /// equal(&rt, found, 1);
-    /// ```
     pub fn exchange<M: Play<P::Key, V, E>>(
         self,
         old: u64,
@@ -96,12 +75,6 @@ impl<'a, T, V, E, S, P: Rule<T, V, Second = Trace<E, S>>> Permit<'a, T, V, P> {
     }
 
     /// Writes `new` over the first word.
-    ///
-    /// # Examples
-    /// ```
-    /// let (party, _) = cell.enter().store::<Mark>(3, Watch::nothing());
-    /// party.leave();
-    /// ```
     pub fn store<M: Play<P::Key, V, E>>(
         self,
         new: u64,
@@ -124,12 +97,6 @@ impl<'a, T, V, E, S, P: Rule<T, V, Second = Trace<E, S>>> Permit<'a, T, V, P> {
     }
 
     /// Adds `by` to the first word, modulo 2^64, and returns the word as it was.
-    ///
-    /// # Examples
-    /// ```
-    /// let (found, party, _) = party.add::<Mark>(u64::MAX, Watch::nothing());
-    /// equal(&rt, found, 8);
-    /// ```
     pub fn add<M: Play<P::Key, V, E>>(
         self,
         by: u64,
@@ -153,12 +120,6 @@ impl<'a, T, V, E, S, P: Rule<T, V, Second = Trace<E, S>>> Permit<'a, T, V, P> {
     }
 
     /// Subtracts `by` from the first word, modulo 2^64, and returns the word as it was.
-    ///
-    /// # Examples
-    /// ```
-    /// let (found, party, _) = party.subtract::<Mark>(3, Watch::nothing());
-    /// equal(&rt, found, 7);
-    /// ```
     pub fn subtract<M: Play<P::Key, V, E>>(
         self,
         by: u64,
@@ -182,12 +143,6 @@ impl<'a, T, V, E, S, P: Rule<T, V, Second = Trace<E, S>>> Permit<'a, T, V, P> {
     }
 
     /// Sets the bits of `mask` in the first word, and returns the word as it was.
-    ///
-    /// # Examples
-    /// ```
-    /// let (found, party, _) = party.set_bits::<Mark>(3, Watch::nothing());
-    /// equal(&rt, found, 4);
-    /// ```
     pub fn set_bits<M: Play<P::Key, V, E>>(
         self,
         mask: u64,
@@ -217,12 +172,6 @@ impl<'a, T, V, E, S, P: Rule<T, V, Second = Trace<E, S>>> Permit<'a, T, V, P> {
 /// As of a step on the first word (`TracesSecond`).
 impl<'a, T, V, E, P: Rule<T, V, Second = Trace<E, u64>>> Permit<'a, T, V, P> {
     /// Reads the second word.
-    ///
-    /// # Examples
-    /// ```
-    /// let (found, party, _) = party.load_second::<TellNothing>(Watch::nothing());
-    /// equal(&rt, found, 8);
-    /// ```
     pub fn load_second<M: Play<P::Key, V, E>>(
         self,
         seen: Watch<E>,
@@ -245,13 +194,6 @@ impl<'a, T, V, E, P: Rule<T, V, Second = Trace<E, u64>>> Permit<'a, T, V, P> {
     }
 
     /// Writes `new` over the second word.
-    ///
-    /// # Examples
-    /// ```
-    /// let (_, party, seen) = cell.enter().add::<Mark>(1, seen);
-    /// let (party, seen) = party.store_second::<Mark>(8, seen);
-    /// party.leave();
-    /// ```
     pub fn store_second<M: Play<P::Key, V, E>>(
         self,
         new: u64,

@@ -23,11 +23,6 @@ pub struct Account<'a, T> {
 }
 
 /// A call of `lock` that goes on with a look.
-///
-/// # Examples
-/// ```
-/// let waiting = begin(&lock).err().expect(&rt, "held");
-/// ```
 pub struct Waiting<'a, T> {
     // The looks that found the lock held, until there are enough to starve.
     pub(crate) spins: usize,

@@ -31,18 +31,6 @@ use std::sync::Wait;
 /// Each call takes the pass and returns it. It ensures `Called`: of the moves by which the history grew, those of this
 /// pass are exactly one call, with the answer that is returned. In the lock's model that call has this answer, at its
 /// place among the moves of all threads, and no move of the history is passed over.
-///
-/// # Examples
-/// ```
-/// fn count<'a, W: Wait>(rt: &W, pass: Pass<'a, u64, Spin>) -> Pass<'a, u64, Spin>
-///     ensures made { HeldOnce pass.entry result }
-///     ensures lock { lock_of result ≡ lock_of pass.entry }
-/// {
-///     let (mut guard, seen) = pass.lock(rt);
-///     *guard = guard.saturating_add(1);
-///     FairMutex::unlock(guard, seen)
-/// }
-/// ```
 #[must_use = "a pass that is dropped ends: bind it, or write `drop(..)`"]
 pub struct Pass<'a, T, R> {
     pub(super) account: Account<'a, T>,
@@ -55,12 +43,6 @@ impl<T, R> FairMutex<T, R> {
     ///
     /// # Contract
     /// The pass is of this lock, and knows nothing of its history yet (`new`).
-    ///
-    /// # Examples
-    /// ```
-    /// let pass = lock.pass();
-    /// let (held, pass) = look(pass);
-    /// ```
     pub fn pass(&self) -> Pass<'_, T, R>
         ensures new { (result.account.seen.name ≡ self.now.cell.name) × (result.account.seen.entries ≡ []) × (result.account.permit.view ≡ None) }
     {
@@ -74,13 +56,6 @@ impl<T, R> FairMutex<T, R> {
     /// # Contract
     /// `seen` has to be what the call returned beside the guard (`Holds`). The call is in the history, as the pass's
     /// next one (`made`).
-    ///
-    /// # Examples
-    /// ```
-    /// let (mut guard, seen) = pass.lock(rt);
-    /// *guard = guard.saturating_add(1);
-    /// FairMutex::unlock(guard, seen)
-    /// ```
     pub fn unlock<'a>(guard: FairMutexGuard<'a, T, R>, seen: Watch<Entry>) -> Pass<'a, T, R>
         requires { Holds guard seen }
         ensures made { Called Release Done (Some (guard_view guard.entry)) seen.entries result.account.permit.view result.account.seen.entries }
@@ -101,13 +76,6 @@ impl<'a, T, R: RelaxStrategy> Pass<'a, T, R> {
     /// # Contract
     /// The call is one `Lock` with the answer `Granted`, however often it looked and tried, and also where it starved
     /// (`made`). The guard belongs to a holder of the lock. Whether and when the call returns is not promised.
-    ///
-    /// # Examples
-    /// ```
-    /// let (mut guard, seen) = pass.lock(rt);
-    /// *guard = guard.saturating_add(1);
-    /// FairMutex::unlock(guard, seen)
-    /// ```
     pub fn lock<W: Wait>(self, rt: &W) -> (FairMutexGuard<'a, T, R>, Watch<Entry>)
         ensures holder { IsHolder use_of_party result.0 }
         ensures holds { Holds result.0 result.1 }
@@ -138,14 +106,6 @@ impl<'a, T, R: RelaxStrategy> Pass<'a, T, R> {
     /// # Contract
     /// The call is one `Starve`, with the answer `Granted` beside a pass that starves (`granted`), and else `Refused`
     /// (`refused`). Whether and when the call returns is not promised.
-    ///
-    /// # Examples
-    /// ```
-    /// match lock.pass().starve(rt) {
-    ///     Ok(starving) => count_served(rt, starving),
-    ///     Err(pass) => pass,
-    /// }
-    /// ```
     pub fn starve<W: Wait>(self, rt: &W) -> Result<StarvingPass<'a, T, R>, Pass<'a, T, R>>
         ensures granted { IfOk result (λ pass. Called Starve Granted self.entry.account.permit.view self.entry.account.seen.entries pass.account.permit.view pass.account.seen.entries × (pass.account.seen.name ≡ self.entry.account.seen.name)) }
         ensures refused { IfErr result (λ pass. Called Starve Refused self.entry.account.permit.view self.entry.account.seen.entries pass.account.permit.view pass.account.seen.entries × (pass.account.seen.name ≡ self.entry.account.seen.name)) }
@@ -174,14 +134,6 @@ impl<'a, T, R> Pass<'a, T, R> {
     ///
     /// # Contract
     /// The call is one `TryLock`, with the answer `Granted` beside a guard (`granted`), and else `Refused` (`refused`).
-    ///
-    /// # Examples
-    /// ```
-    /// let pass = match pass.try_lock() {
-    ///     Ok((guard, seen)) => FairMutex::unlock(guard, seen),
-    ///     Err(pass) => pass,
-    /// };
-    /// ```
     pub fn try_lock(self) -> Result<(FairMutexGuard<'a, T, R>, Watch<Entry>), Pass<'a, T, R>>
         ensures holder { IfOk result (λ held. IsHolder use_of_party held.0 × Holds held.0 held.1) }
         ensures newcomer { IfOk result (λ held. (guard_view held.0).0 ≡ Holding) }
@@ -210,10 +162,15 @@ impl<'a, T, R> Pass<'a, T, R> {
     ///
     /// # Examples
     /// ```
-    /// let pass = match pass.try_lock_starver() {
-    ///     Ok((guard, seen)) => FairMutex::unlock(guard, seen),
-    ///     Err((_, pass)) => pass,
-    /// };
+    /// use spin::mutex::FairMutex;
+    /// use spin::mutex::fair::LockRejectReason;
+    ///
+    /// let lock: FairMutex<u64> = FairMutex::new(4);
+    /// let starver = lock.starve(&rt).expect(&rt, "few threads starve");
+    /// let (reason, pass) = lock.pass().try_lock_starver().err().expect(&rt, "one starves");
+    /// assert_eq!(rt; reason, LockRejectReason::Starved);
+    /// drop(starver);
+    /// assert!(rt; pass.try_lock_starver().is_ok());
     /// ```
     pub fn try_lock_starver(
         self,
@@ -245,11 +202,6 @@ impl<'a, T, R> Pass<'a, T, R> {
     ///
     /// # Contract
     /// The call is one `IsLocked`, with the answer that is returned (`made`).
-    ///
-    /// # Examples
-    /// ```
-    /// let (held, pass) = pass.is_locked();
-    /// ```
     pub fn is_locked(self) -> (bool, Pass<'a, T, R>)
         ensures made { Called IsLocked (Is result.0) self.entry.account.permit.view self.entry.account.seen.entries result.1.account.permit.view result.1.account.seen.entries }
         ensures same { result.1.account.seen.name ≡ self.entry.account.seen.name }
@@ -266,12 +218,6 @@ impl<'a, T, R> Pass<'a, T, R> {
     /// # Contract
     /// What one of them knows of the history is a beginning of what the other knows. So both know one history, and the
     /// one that knows more has the calls of both in it, each once, in the order in which each pass made them.
-    ///
-    /// # Examples
-    /// ```
-    /// all.0.compare(&all.1.0);
-    /// all.1.0.compare(&all.1.1);
-    /// ```
     pub fn compare(&self, other: &Pass<'_, T, R>)
         requires { self.now.account.seen.name ≡ other.now.account.seen.name }
         ensures { IsPrefix self.now.account.seen.entries other.now.account.seen.entries ⊎ IsPrefix other.now.account.seen.entries self.now.account.seen.entries }

@@ -20,12 +20,6 @@ use std::sync::Wait;
 ///
 /// # Contract
 /// Its party is registered (its view is `Starving`).
-///
-/// # Examples
-/// ```
-/// let starvation = starve(&rt, &lock);
-/// let guard = starvation.try_lock_fair().ok().expect(&rt, "open");
-/// ```
 #[must_use = "a place that is dropped at once no longer starves: call `lock` on it"]
 pub struct Starvation<'a, T, R = Spin> {
     pass: StarvingPass<'a, T, R>,
@@ -42,8 +36,14 @@ impl<'a, T, R> Starvation<'a, T, R> {
     ///
     /// # Examples
     /// ```
-    /// let starvation = starve(&rt, &lock);
-    /// let guard = starvation.try_lock_fair().ok().expect(&rt, "open");
+    /// use spin::mutex::FairMutex;
+    ///
+    /// let lock: FairMutex<u64> = FairMutex::new(4);
+    /// let first = lock.starve(&rt).expect(&rt, "few threads starve");
+    /// let second = lock.starve(&rt).expect(&rt, "few threads starve");
+    /// let first = first.try_lock_fair().err().expect(&rt, "two starve");
+    /// drop(second);
+    /// assert!(rt; first.try_lock_fair().is_ok());
     /// ```
     pub fn try_lock_fair(self) -> Result<FairMutexGuard<'a, T, R>, Starvation<'a, T, R>>
         ensures { IfOk result (IsHolder use_of_party) }
@@ -63,9 +63,14 @@ impl<'a, T, R> Starvation<'a, T, R> {
     ///
     /// # Examples
     /// ```
-    /// if let Ok(mut sum) = starver.try_lock() {
-    ///     *sum = sum.wrapping_add(1);
-    /// }
+    /// use spin::mutex::FairMutex;
+    ///
+    /// let lock: FairMutex<u64> = FairMutex::new(4);
+    /// let starver = lock.starve(&rt).expect(&rt, "few threads starve");
+    /// let mut guard = starver.try_lock().ok().expect(&rt, "no thread holds it");
+    /// *guard = 5;
+    /// drop(guard);
+    /// assert_eq!(rt; lock.into_inner(), 5);
     /// ```
     pub fn try_lock(self) -> Result<FairMutexGuard<'a, T, R>, Starvation<'a, T, R>>
         ensures { IfOk result (IsHolder use_of_party) }
@@ -102,15 +107,6 @@ impl<'a, T, R: RelaxStrategy> Starvation<'a, T, R> {
     ///
     /// # Contract
     /// The guard belongs to a holder of the lock (`IsHolder`). Whether and when the call returns is not promised.
-    ///
-    /// # Examples
-    /// ```
-    /// let mut guard = match total.starve(rt) {
-    ///     Some(place) => place.lock(rt),
-    ///     None => total.lock(rt),
-    /// };
-    /// *guard = guard.wrapping_add(1);
-    /// ```
     pub fn lock<W: Wait>(self, rt: &W) -> FairMutexGuard<'a, T, R>
         ensures { IsHolder use_of_party result }
     {

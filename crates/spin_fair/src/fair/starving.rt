@@ -34,16 +34,15 @@ use std::sync::Wait;
 ///
 /// # Examples
 /// ```
-/// fn try_starving(starving: StarvingPass<'_, u64, Spin>) -> Pass<'_, u64, Spin> {
-///     let starving = match starving.try_lock_fair() {
-///         Ok((guard, seen)) => return FairMutex::unlock(guard, seen),
-///         Err(starving) => starving,
-///     };
-///     match starving.try_lock() {
-///         Ok((guard, seen)) => FairMutex::unlock(guard, seen),
-///         Err(starving) => starving.give_up(),
-///     }
-/// }
+/// use spin::mutex::FairMutex;
+///
+/// let lock: FairMutex<u64> = FairMutex::new(4);
+/// let starving = lock.pass().starve(&rt).ok().expect(&rt, "few threads starve");
+/// let (guard, seen) = starving.lock(&rt);
+/// assert_eq!(rt; *guard, 4);
+/// let (is_locked, pass) = FairMutex::unlock(guard, seen).is_locked();
+/// assert!(rt; !is_locked);
+/// drop(pass);
 /// ```
 #[must_use = "a place that is dropped at once no longer starves: call `lock` on it"]
 pub struct StarvingPass<'a, T, R> {
@@ -58,14 +57,6 @@ impl<'a, T, R> StarvingPass<'a, T, R> {
     /// # Contract
     /// The call is one `StarverTryLockFair`, with the answer `Granted` beside a guard (`granted`), and else `Refused`
     /// beside the pass, which starves still (`refused`).
-    ///
-    /// # Examples
-    /// ```
-    /// let starving = match starving.try_lock_fair() {
-    ///     Ok((guard, seen)) => return FairMutex::unlock(guard, seen),
-    ///     Err(starving) => starving,
-    /// };
-    /// ```
     pub fn try_lock_fair(
         self,
     ) -> Result<(FairMutexGuard<'a, T, R>, Watch<Entry>), StarvingPass<'a, T, R>>
@@ -90,14 +81,6 @@ impl<'a, T, R> StarvingPass<'a, T, R> {
     /// # Contract
     /// The call is one `StarverTryLock`, with the answer `Granted` beside a guard (`granted`), and else `Refused` beside
     /// the pass, which starves still (`refused`). A first exchange that fails is no move: the call begins with it.
-    ///
-    /// # Examples
-    /// ```
-    /// match starving.try_lock() {
-    ///     Ok((guard, seen)) => FairMutex::unlock(guard, seen),
-    ///     Err(starving) => starving.give_up(),
-    /// }
-    /// ```
     pub fn try_lock(
         self,
     ) -> Result<(FairMutexGuard<'a, T, R>, Watch<Entry>), StarvingPass<'a, T, R>>
@@ -127,10 +110,13 @@ impl<'a, T, R> StarvingPass<'a, T, R> {
     ///
     /// # Examples
     /// ```
-    /// match starving.try_lock() {
-    ///     Ok((guard, seen)) => FairMutex::unlock(guard, seen),
-    ///     Err(starving) => starving.give_up(),
-    /// }
+    /// use spin::mutex::FairMutex;
+    ///
+    /// let lock: FairMutex<u64> = FairMutex::new(4);
+    /// let starving = lock.pass().starve(&rt).ok().expect(&rt, "few threads starve");
+    /// assert!(rt; lock.try_lock().is_none());
+    /// let pass = starving.give_up();
+    /// assert!(rt; pass.try_lock().is_ok());
     /// ```
     pub fn give_up(self) -> Pass<'a, T, R>
         ensures made { Called StarverDrop Done self.entry.account.permit.view self.entry.account.seen.entries result.account.permit.view result.account.seen.entries }
@@ -171,13 +157,6 @@ impl<'a, T, R: RelaxStrategy> StarvingPass<'a, T, R> {
     /// # Contract
     /// The call is one `StarverLock` with the answer `Granted` (`made`), which ends the registration. Whether and when
     /// the call returns is not promised.
-    ///
-    /// # Examples
-    /// ```
-    /// let (mut guard, seen) = starving.lock(rt);
-    /// *guard = guard.saturating_add(1);
-    /// FairMutex::unlock(guard, seen)
-    /// ```
     pub fn lock<W: Wait>(self, rt: &W) -> (FairMutexGuard<'a, T, R>, Watch<Entry>)
         ensures holder { IsHolder use_of_party result.0 }
         ensures holds { Holds result.0 result.1 }

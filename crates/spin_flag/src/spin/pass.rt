@@ -34,14 +34,15 @@ use std::sync::Wait;
 ///
 /// # Examples
 /// ```
-/// fn count<'a, W: Wait>(rt: &W, pass: Pass<'a, u64, Spin>) -> Pass<'a, u64, Spin>
-///     ensures made { HeldOnce pass.entry result }
-///     ensures lock { lock_of result ≡ lock_of pass.entry }
-/// {
-///     let (mut guard, seen) = pass.lock(rt);
-///     *guard = guard.saturating_add(1);
-///     SpinMutex::unlock(guard, seen)
-/// }
+/// use spin::mutex::SpinMutex;
+///
+/// let lock: SpinMutex<u64> = SpinMutex::new(4);
+/// let (mut guard, seen) = lock.pass().lock(&rt);
+/// *guard = 5;
+/// let pass = SpinMutex::unlock(guard, seen);
+/// let (is_locked, pass) = pass.is_locked();
+/// assert!(rt; !is_locked);
+/// drop(pass);
 /// ```
 #[must_use = "a pass that is dropped ends: bind it, or write `drop(..)`"]
 pub struct Pass<'a, T, R> {
@@ -58,11 +59,6 @@ impl<T, R> SpinMutex<T, R> {
     ///
     /// # Contract
     /// The pass is of this lock, and knows nothing of its history yet (`new`).
-    ///
-    /// # Examples
-    /// ```
-    /// let pass = lock.pass();
-    /// ```
     pub fn pass(&self) -> Pass<'_, T, R>
         ensures new { (result.seen.name ≡ self.now.cell.name) × (result.seen.entries ≡ []) × (result.permit.view ≡ None) }
     {
@@ -80,13 +76,6 @@ impl<T, R> SpinMutex<T, R> {
     /// # Contract
     /// `seen` has to be what [`Pass::lock`] or [`Pass::try_lock`] returned beside the guard (`Holds`). The call is in
     /// the history, as the pass's next one (`made`).
-    ///
-    /// # Examples
-    /// ```
-    /// let (mut guard, seen) = pass.lock(rt);
-    /// *guard = guard.saturating_add(1);
-    /// SpinMutex::unlock(guard, seen)
-    /// ```
     pub fn unlock<'a>(guard: SpinMutexGuard<'a, T, R>, seen: Watch<Entry>) -> Pass<'a, T, R>
         requires { Holds guard seen }
         ensures made { Called Release Released (Some (guard_view guard.entry)) seen.entries result.permit.view result.seen.entries }
@@ -109,13 +98,6 @@ impl<'a, T, R: RelaxStrategy> Pass<'a, T, R> {
     /// # Contract
     /// The call is one `Lock` with the answer `Granted`, however often it looked and tried (`made`). The guard belongs
     /// to a holder of the lock. Whether and when the call returns is not promised.
-    ///
-    /// # Examples
-    /// ```
-    /// let (mut guard, seen) = pass.lock(rt);
-    /// *guard = guard.saturating_add(1);
-    /// SpinMutex::unlock(guard, seen)
-    /// ```
     pub fn lock<W: Wait>(self, rt: &W) -> (SpinMutexGuard<'a, T, R>, Watch<Entry>)
         ensures holder { IsHolder use_of_party result.0 }
         ensures holds { Holds result.0 result.1 }
@@ -143,10 +125,13 @@ impl<'a, T, R> Pass<'a, T, R> {
     ///
     /// # Examples
     /// ```
-    /// match lock.pass().try_lock() {
-    ///     Ok((guard, seen)) => SpinMutex::unlock(guard, seen),
-    ///     Err(pass) => pass,
-    /// }
+    /// use spin::mutex::SpinMutex;
+    ///
+    /// let lock: SpinMutex<u64> = SpinMutex::new(4);
+    /// let guard = lock.lock(&rt);
+    /// let pass = lock.pass().try_lock().err().expect(&rt, "it is held");
+    /// drop(guard);
+    /// assert!(rt; pass.try_lock().is_ok());
     /// ```
     pub fn try_lock(self) -> Result<(SpinMutexGuard<'a, T, R>, Watch<Entry>), Pass<'a, T, R>>
         ensures holder { IfOk result (λ held. IsHolder use_of_party held.0 × Holds held.0 held.1) }
@@ -179,11 +164,6 @@ impl<'a, T, R> Pass<'a, T, R> {
     ///
     /// # Contract
     /// The call is one `IsLocked`, with the answer that is returned (`made`).
-    ///
-    /// # Examples
-    /// ```
-    /// let (set, pass) = pass.is_locked();
-    /// ```
     pub fn is_locked(self) -> (bool, Pass<'a, T, R>)
         ensures made { Called IsLocked (Is result.0) self.entry.permit.view self.entry.seen.entries result.1.permit.view result.1.seen.entries }
         ensures same { result.1.seen.name ≡ self.entry.seen.name }
@@ -209,11 +189,6 @@ impl<'a, T, R> Pass<'a, T, R> {
     /// # Contract
     /// What one of them knows of the history is a beginning of what the other knows. So both know one history, and the
     /// one that knows more has the calls of both in it, each once, in the order in which each pass made them.
-    ///
-    /// # Examples
-    /// ```
-    /// both.0.compare(&both.1.1);
-    /// ```
     pub fn compare(&self, other: &Pass<'_, T, R>)
         requires { self.now.seen.name ≡ other.now.seen.name }
         ensures { IsPrefix self.now.seen.entries other.now.seen.entries ⊎ IsPrefix other.now.seen.entries self.now.seen.entries }

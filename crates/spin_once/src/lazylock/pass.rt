@@ -15,7 +15,13 @@ use std::sync::Wait;
 ///
 /// # Examples
 /// ```
-/// let (value, pass) = LazyLock::pass(&lazy).force(&rt);
+/// use spin::LazyLock;
+///
+/// let square: LazyLock<u64, _> = LazyLock::new(|| 7 * 7);
+/// let (first, pass) = LazyLock::pass(&square).force(&rt);
+/// let (second, pass) = pass.force(&rt);
+/// assert_eq!(rt; (*first, *second), (49, 49));
+/// drop(pass);
 /// ```
 #[must_use = "a pass that is dropped ends: bind it, or write `drop(..)`"]
 pub struct Pass<'a, T, F, R, M: Promise<T>> {
@@ -31,11 +37,6 @@ impl<T, F, R, M: Promise<T>> LazyLock<T, F, R, M> {
     ///
     /// # Contract
     /// The pass is of this `LazyLock` (`of`), and knows nothing of its history yet (`new`).
-    ///
-    /// # Examples
-    /// ```
-    /// let other = LazyLock::pass(&lazy);
-    /// ```
     pub fn pass(this: &Self) -> Pass<'_, T, F, R, M>
         ensures new { (result.account.seen.name ≡ this.now.core.cell.start.name) × (result.account.seen.entries ≡ []) × (result.account.party.view ≡ None) }
         ensures of { (initialiser_of result ≡ initialiser this.now) × (promise_of result ≡ promise this.now) }
@@ -52,11 +53,6 @@ impl<'a, T, F, R, M: Promise<T>> Pass<'a, T, F, R, M> {
     ///
     /// # Contract
     /// What one of them knows of the history is a beginning of what the other knows.
-    ///
-    /// # Examples
-    /// ```
-    /// pass.compare(&other);
-    /// ```
     pub fn compare(&self, other: &Pass<'_, T, F, R, M>)
         requires { self.now.account.seen.name ≡ other.now.account.seen.name }
         ensures { IsPrefix self.now.account.seen.entries other.now.account.seen.entries ⊎ IsPrefix other.now.account.seen.entries self.now.account.seen.entries }
@@ -74,11 +70,6 @@ impl<'a, T, F: Makes<T, M>, R: RelaxStrategy, M: Promise<T>> Pass<'a, T, F, R, M
     /// The initialiser has to be able to make the value (`can`), and the value keeps the promise (`keeps`). The call is
     /// one `CallOnce` with the answer `Value`, however often it looked and tried, and whether the initialiser ran or
     /// not (`made`). Whether and when the call returns is not promised.
-    ///
-    /// # Examples
-    /// ```
-    /// let (value, pass) = LazyLock::pass(&lazy).force(&rt);
-    /// ```
     pub fn force<W: Wait>(self, rt: &W) -> (&'a T, Self)
         requires { F.can (initialiser_of self) (promise_of self) }
         ensures keeps { M.keeps (promise_of self.entry) result.0.now }

@@ -27,13 +27,15 @@ use std::sync::Wait;
 ///
 /// # Examples
 /// ```
-/// fn look(pass: Pass<'_, u64, Spin>) -> (bool, Pass<'_, u64, Spin>)
-///     ensures made { Looked result.0 pass.entry result.1 }
-///     ensures lock { lock_of result.1 ≡ lock_of pass.entry }
-/// {
-///     let (there, pass) = pass.is_completed();
-///     (there, pass)
-/// }
+/// use spin::Once;
+///
+/// let port: Once<u16> = Once::new();
+/// let (found, pass) = port.pass().get();
+/// assert_eq!(rt; found.copied(), None);
+/// let (made, pass) = pass.call_once(&rt, || 80);
+/// let (found, pass) = pass.get();
+/// assert_eq!(rt; (*made, found.copied()), (80, Some(80)));
+/// drop(pass);
 /// ```
 #[must_use = "a pass that is dropped ends: bind it, or write `drop(..)`"]
 pub struct Pass<'a, T, R> {
@@ -47,11 +49,6 @@ impl<T, R> Once<T, R> {
     ///
     /// # Contract
     /// The pass is of this `Once`, and knows nothing of its history yet (`new`).
-    ///
-    /// # Examples
-    /// ```
-    /// let pass = once.pass();
-    /// ```
     pub fn pass(&self) -> Pass<'_, T, R>
         ensures new { (result.account.seen.name ≡ self.now.core.cell.start.name) × (result.account.seen.entries ≡ []) × (result.account.party.view ≡ None) }
     {
@@ -69,12 +66,6 @@ impl<'a, T, R> Pass<'a, T, R> {
     ///
     /// # Contract
     /// The call is one `Get`, with the answer `Value` beside a reference, and else `NoValue` (`made`).
-    ///
-    /// # Examples
-    /// ```
-    /// let (found, third) = third.get();
-    /// equal(&rt, found.copied(), Some(made));
-    /// ```
     pub fn get(self) -> (Option<&'a T>, Pass<'a, T, R>)
         ensures made { Called Get (found_or_none result.0) self.entry result.1 }
     {
@@ -92,11 +83,6 @@ impl<'a, T, R> Pass<'a, T, R> {
     ///
     /// # Contract
     /// The call is one `IsCompleted`, with the answer that is returned (`made`).
-    ///
-    /// # Examples
-    /// ```
-    /// let (there, pass) = pass.is_completed();
-    /// ```
     pub fn is_completed(self) -> (bool, Pass<'a, T, R>)
         ensures made { Called IsCompleted (Is result.0) self.entry result.1 }
     {
@@ -110,11 +96,6 @@ impl<'a, T, R> Pass<'a, T, R> {
     /// # Contract
     /// What one of them knows of the history is a beginning of what the other knows. So both know one history, and the
     /// one that knows more has the calls of both in it, each once, in the order in which each pass made them.
-    ///
-    /// # Examples
-    /// ```
-    /// first.1.compare(&second.1);
-    /// ```
     pub fn compare(&self, other: &Pass<'_, T, R>)
         requires { self.now.account.seen.name ≡ other.now.account.seen.name }
         ensures { IsPrefix self.now.account.seen.entries other.now.account.seen.entries ⊎ IsPrefix other.now.account.seen.entries self.now.account.seen.entries }
@@ -131,11 +112,6 @@ impl<'a, T, R: RelaxStrategy> Pass<'a, T, R> {
     /// # Contract
     /// The precondition of `f` has to hold. The call is one `CallOnce` with the answer `Value`, however often it looked
     /// and tried, and whether `f` ran or not (`made`). Whether and when the call returns is not promised.
-    ///
-    /// # Examples
-    /// ```
-    /// let (made, pass) = pass.call_once(rt, || value);
-    /// ```
     pub fn call_once<F: FnOnce() -> T, W: Wait>(self, rt: &W, f: F) -> (&'a T, Pass<'a, T, R>)
         requires { F.pre f }
         ensures made { Called (CallOnce tt) (Value tt) self.entry result.1 }
@@ -151,11 +127,6 @@ impl<'a, T, R: RelaxStrategy> Pass<'a, T, R> {
     /// The precondition of `f` has to hold. An `Err` is one that this caller's own `f` may return (`err`). With a value
     /// the call is one `TryCallOnceOk` with the answer `Value`. With an error it is a call whose closure ran and
     /// failed, with the answer `Failed` (`made`). Whether and when the call returns is not promised.
-    ///
-    /// # Examples
-    /// ```
-    /// let (tried, pass) = once.pass().try_call_once(&rt, || Err("no port"));
-    /// ```
     pub fn try_call_once<F: FnOnce() -> Result<T, E>, E, W: Wait>(
         self,
         rt: &W,
@@ -180,12 +151,6 @@ impl<'a, T, R: RelaxStrategy> Pass<'a, T, R> {
     /// # Contract
     /// The call is one `Wait` with the answer `Value`, however often it looked (`made`). Whether and when it returns is
     /// not promised.
-    ///
-    /// # Examples
-    /// ```
-    /// let (waited, third) = third.wait(&rt);
-    /// let waited = *waited;
-    /// ```
     pub fn wait<W: Wait>(self, rt: &W) -> (&'a T, Pass<'a, T, R>)
         ensures made { Called WaitCall (Value tt) self.entry result.1 }
     {
@@ -199,12 +164,6 @@ impl<'a, T, R: RelaxStrategy> Pass<'a, T, R> {
     /// # Contract
     /// The call is one `Poll`, however often it looked, with the answer `Value` beside a reference, and else `NoValue`
     /// (`made`). Whether and when it returns is not promised.
-    ///
-    /// # Examples
-    /// ```
-    /// let (polled, third) = third.poll(&rt);
-    /// equal(&rt, (waited, polled.copied()), (made, Some(made)));
-    /// ```
     pub fn poll<W: Wait>(self, rt: &W) -> (Option<&'a T>, Pass<'a, T, R>)
         ensures made { Called Poll (found_or_none result.0) self.entry result.1 }
     {

@@ -126,12 +126,20 @@ fn run<I: Source, O: Sink, R: AllocGlobal + Threads + Wait + Sync, A: Allocator>
 ///
 /// # Examples
 /// ```
-/// program(rt, alloc, words, input, output, errors)
-/// ```
+/// use spin_run::run::{OfStd, program};
 ///
-/// Words, and what the program writes for them:
-/// ```
-/// (&["count", "2", "100"], "200\n"),
+/// let (mut output, mut errors) = (Vec::new(rt.alloc()), Vec::new(rt.alloc()));
+/// let mut input = OfStd::new("".as_bytes());
+/// let status = program(
+///     &rt,
+///     rt.alloc(),
+///     &["count", "2", "100"],
+///     &mut input,
+///     &mut OfStd::new(&mut output),
+///     &mut OfStd::new(&mut errors),
+/// );
+/// assert_eq!(rt; status, 0);
+/// assert_eq!(rt; str::from_utf8(&output), Ok("200\n"));
 /// ```
 pub fn program<I: Source, O: Sink, E: Sink, R: AllocGlobal + Threads + Wait + Sync, A: Allocator>(
     rt: &R,

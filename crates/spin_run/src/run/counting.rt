@@ -12,34 +12,12 @@ use std::thread;
 use std::thread::{JoinHandle, Scope, Threads};
 
 /// The most workers of one count.
-///
-/// # Examples
-/// ```
-/// if workers > MAX_WORKERS as u64 || times > MAX_TIMES {
-///     return None;
-/// }
-/// ```
 pub const MAX_WORKERS: usize = 64;
 
 /// The most additions of one worker.
-///
-/// # Examples
-/// ```
-/// if workers > MAX_WORKERS as u64 || times > MAX_TIMES {
-///     return None;
-/// }
-/// ```
 pub const MAX_TIMES: u64 = 1_000_000;
 
 /// The reason why a count has no total.
-///
-/// # Examples
-/// ```
-/// let Ok(started) = scope.spawn(job) else {
-///     self.join_all(running, mine);
-///     return Err(CountError::Refused);
-/// };
-/// ```
 #[derive(Clone, Copy, Debug, PartialEq, Eq)]
 pub enum CountError {
     /// A thread was refused, or memory for the threads.
@@ -234,13 +212,6 @@ fn count_by<'a, P: Plan + Send + Sync, G: Gate + Sync, R: Threads + Wait + Sync,
 /// # Contract
 /// There are at most `MAX_WORKERS` workers, with at most `MAX_TIMES` additions each. On `Ok` the total is exactly
 /// `workers * times`. Whether and when the call returns is not promised, nor that workers run at the same time.
-///
-/// # Examples
-/// ```
-/// let counted = count_with(&rt, rt.alloc(), &gate, 2, 100);
-/// let found = (counted, gate.seen.load(Ordering::SeqCst));
-/// assert_eq!(rt; found, (Ok(200), 3));
-/// ```
 pub fn count_with<G: Gate + Sync, R: Threads + Wait + Sync, A: Allocator>(
     rt: &R,
     alloc: A,

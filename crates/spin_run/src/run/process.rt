@@ -52,14 +52,6 @@ fn texts<'a, A: Allocator>(
 /// The caller gives streams that have not failed. The status is 0, 1 or 2, and means what it means for `program`, for
 /// some words. Or the fault is wrong usage or no memory, from before the words are known. Then `input` and `output`
 /// are as before (`IsWordless`).
-///
-/// # Examples
-/// ```
-/// let mut input = OfStd::new(rt.stdin());
-/// let mut output = OfStd::new(rt.stdout());
-/// let mut errors = OfStd::new(rt.stderr());
-/// ExitCode::from(program_over_arguments(&rt, &mut input, &mut output, &mut errors))
-/// ```
 pub fn program_over_arguments<
     I: Source,
     O: Sink,

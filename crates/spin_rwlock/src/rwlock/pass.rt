@@ -40,9 +40,14 @@ use std::sync::Wait;
 ///
 /// # Examples
 /// ```
-/// let (guard, seen) = pass.read(rt);
-/// let value = *guard;
-/// let pass = RwLock::unlock_shared(guard, seen);
+/// use spin::RwLock;
+///
+/// let limit: RwLock<u64> = RwLock::new(3);
+/// let (reader, seen) = limit.pass().read(&rt);
+/// assert_eq!(rt; *reader, 3);
+/// let (count, pass) = RwLock::unlock_shared(reader, seen).reader_count();
+/// assert_eq!(rt; count, 0);
+/// drop(pass);
 /// ```
 #[must_use = "a pass that is dropped ends: bind it, or write `drop(..)`"]
 pub struct Pass<'a, T, R> {
@@ -57,11 +62,6 @@ impl<T, R> RwLock<T, R> {
     ///
     /// # Contract
     /// The pass is of this lock, and knows nothing of its history yet (`new`).
-    ///
-    /// # Examples
-    /// ```
-    /// let pass = lock.pass();
-    /// ```
     pub fn pass(&self) -> Pass<'_, T, R>
         ensures new { (result.seen.name ≡ self.now.cell.name) × (result.seen.entries ≡ []) × (result.permit.view ≡ None) }
     {
@@ -75,13 +75,6 @@ impl<T, R> RwLock<T, R> {
     /// # Contract
     /// `seen` has to be what the pass knew beside the guard (`ReadsWith`). The call is in the history, as the pass's
     /// next one (`made`).
-    ///
-    /// # Examples
-    /// ```
-    /// let (guard, seen) = pass.read(rt);
-    /// let value = *guard;
-    /// let pass = RwLock::unlock_shared(guard, seen);
-    /// ```
     pub fn unlock_shared<'a, K: Kind>(
         guard: SharedGuard<'a, T, K, R>,
         seen: Watch<Entry>,
@@ -101,13 +94,6 @@ impl<T, R> RwLock<T, R> {
     /// # Contract
     /// `seen` has to be what the pass knew beside the guard (`WritesWith`). The call is in the history, as the pass's
     /// next one (`made`).
-    ///
-    /// # Examples
-    /// ```
-    /// let (mut guard, seen) = pass.write(rt);
-    /// *guard = guard.saturating_add(1);
-    /// RwLock::unlock(guard, seen)
-    /// ```
     pub fn unlock<'a>(guard: RwLockWriteGuard<'a, T, R>, seen: Watch<Entry>) -> Pass<'a, T, R>
         requires { WritesWith guard seen }
         ensures made { Called Release Done (write_party guard.entry) seen.entries result.permit.view result.seen.entries }
@@ -124,13 +110,6 @@ impl<'a, T, R: RelaxStrategy> Pass<'a, T, R> {
     /// # Contract
     /// The call is one `Read` with the answer `Granted`, however often it looked and tried (`made`). Whether and when
     /// the call returns is not promised.
-    ///
-    /// # Examples
-    /// ```
-    /// let (guard, seen) = pass.read(rt);
-    /// let value = *guard;
-    /// let pass = RwLock::unlock_shared(guard, seen);
-    /// ```
     pub fn read<W: Wait>(self, rt: &W) -> (RwLockReadGuard<'a, T, R>, Watch<Entry>)
         ensures reads { ReadsWith result.0 result.1 × (result.1.name ≡ self.entry.seen.name) }
         ensures made { Called Read Granted self.entry.permit.view self.entry.seen.entries (shared_party result.0) result.1.entries }
@@ -144,12 +123,6 @@ impl<'a, T, R: RelaxStrategy> Pass<'a, T, R> {
     /// # Contract
     /// The call is one `UpgradeableRead` with the answer `Granted`, however often it looked and tried (`made`). Whether
     /// and when the call returns is not promised.
-    ///
-    /// # Examples
-    /// ```
-    /// let (guard, seen) = pass.upgradeable_read(rt);
-    /// let (mut guard, seen) = guard.upgrade_seen(rt, seen);
-    /// ```
     pub fn upgradeable_read<W: Wait>(
         self,
         rt: &W,
@@ -168,9 +141,16 @@ impl<'a, T, R: RelaxStrategy> Pass<'a, T, R> {
     ///
     /// # Examples
     /// ```
-    /// let (mut guard, seen) = pass.write(rt);
-    /// *guard = guard.saturating_add(1);
-    /// RwLock::unlock(guard, seen)
+    /// use spin::RwLock;
+    ///
+    /// let limit: RwLock<u64> = RwLock::new(3);
+    /// let (mut writer, seen) = limit.pass().write(&rt);
+    /// *writer = 4;
+    /// let (reader, seen) = writer.downgrade_seen(seen);
+    /// assert_eq!(rt; *reader, 4);
+    /// let (count, pass) = RwLock::unlock_shared(reader, seen).writer_count();
+    /// assert_eq!(rt; count, 0);
+    /// drop(pass);
     /// ```
     pub fn write<W: Wait>(self, rt: &W) -> (RwLockWriteGuard<'a, T, R>, Watch<Entry>)
         ensures writes { WritesWith result.0 result.1 × (result.1.name ≡ self.entry.seen.name) }
@@ -218,7 +198,13 @@ impl<'a, T, R: RelaxStrategy> Pass<'a, T, R> {
     ///
     /// # Examples
     /// ```
-    /// let (_, pass) = pass.with(rt, |value| *value = value.saturating_add(1));
+    /// use spin::RwLock;
+    ///
+    /// let limit: RwLock<u64> = RwLock::new(3);
+    /// let (_, pass) = limit.pass().with(&rt, |value| *value = 4);
+    /// let (value, pass) = pass.with_shared(&rt, |value| *value);
+    /// assert_eq!(rt; value, 4);
+    /// drop(pass);
     /// ```
     pub fn with<A, F: FnOnce(&mut T) -> A, W: Wait>(self, rt: &W, by: F) -> (A, Pass<'a, T, R>)
         requires { F.IsAlwaysCallable by }
@@ -237,11 +223,6 @@ impl<'a, T, R: RelaxStrategy> Pass<'a, T, R> {
     /// # Contract
     /// The closure has to be always callable. Its answer is returned (`answers`). The pass made one `Read`, and then
     /// one `Release` (`made`): it never held the lock as a writer. Whether and when the call returns is not promised.
-    ///
-    /// # Examples
-    /// ```
-    /// let (value, pass) = pass.with_shared(rt, |value| *value);
-    /// ```
     pub fn with_shared<A, F: FnOnce(&T) -> A, W: Wait>(self, rt: &W, by: F) -> (A, Pass<'a, T, R>)
         requires { F.IsAlwaysCallable by }
         ensures answers { AnswersOfShared F.FnOnce by result.0 }
@@ -260,14 +241,6 @@ impl<'a, T, R> Pass<'a, T, R> {
     /// # Contract
     /// The call is one `TryRead`, with the answer `Granted` beside a guard (`granted`), and else `Refused` (`refused`).
     /// Whether and when the call returns is not promised.
-    ///
-    /// # Examples
-    /// ```
-    /// let pass = match pass.try_read(rt) {
-    ///     Ok((guard, seen)) => RwLock::unlock_shared(guard, seen),
-    ///     Err(pass) => pass,
-    /// };
-    /// ```
     pub fn try_read<W: Wait>(
         self,
         rt: &W,
@@ -289,20 +262,6 @@ impl<'a, T, R> Pass<'a, T, R> {
     /// # Contract
     /// The call is one `TryUpgradeableRead`, with the answer `Granted` beside a guard (`granted`), and else `Refused`
     /// (`refused`). Whether and when the call returns is not promised.
-    ///
-    /// # Examples
-    /// ```
-    /// match pass.try_upgradeable_read(rt) {
-    ///     Ok((guard, seen)) => match guard.try_upgrade_seen(seen) {
-    ///         Ok((guard, seen)) => {
-    ///             let (guard, seen) = guard.downgrade_seen(seen);
-    ///             RwLock::unlock_shared(guard, seen)
-    ///         }
-    ///         Err((guard, seen)) => RwLock::unlock_shared(guard, seen),
-    ///     },
-    ///     Err(pass) => pass,
-    /// }
-    /// ```
     pub fn try_upgradeable_read<W: Wait>(
         self,
         rt: &W,
@@ -328,14 +287,13 @@ impl<'a, T, R> Pass<'a, T, R> {
     ///
     /// # Examples
     /// ```
-    /// let pass = match pass.try_write() {
-    ///     Ok((guard, seen)) => {
-    ///         let (guard, seen) = guard.downgrade_to_upgradeable_seen(seen);
-    ///         let (guard, seen) = guard.downgrade_seen(seen);
-    ///         RwLock::unlock_shared(guard, seen)
-    ///     }
-    ///     Err(pass) => pass,
-    /// };
+    /// use spin::RwLock;
+    ///
+    /// let limit: RwLock<u64> = RwLock::new(3);
+    /// let reader = limit.read(&rt);
+    /// let pass = limit.pass().try_write().err().expect(&rt, "it has a reader");
+    /// drop(reader);
+    /// assert!(rt; pass.try_write().is_ok());
     /// ```
     pub fn try_write(self) -> Result<(RwLockWriteGuard<'a, T, R>, Watch<Entry>), Pass<'a, T, R>>
         ensures writes { IfOk result (λ held. WritesWith held.0 held.1 × (held.1.name ≡ self.entry.seen.name)) }
@@ -361,11 +319,6 @@ impl<'a, T, R> Pass<'a, T, R> {
     /// # Contract
     /// The call is one `ReaderCount`, with the answer that is returned (`made`). The answer is at most
     /// `rw::MAX_READERS` (`reader_limit`).
-    ///
-    /// # Examples
-    /// ```
-    /// let (readers, pass) = pass.reader_count();
-    /// ```
     pub fn reader_count(self) -> (usize, Pass<'a, T, R>)
         ensures limit { result.0 ≤ reader_limit }
         ensures made { Called ReaderCount (Count result.0) self.entry.permit.view self.entry.seen.entries result.1.permit.view result.1.seen.entries }
@@ -384,11 +337,6 @@ impl<'a, T, R> Pass<'a, T, R> {
     ///
     /// # Contract
     /// The call is one `WriterCount`, with the answer that is returned, 0 or 1 (`made`).
-    ///
-    /// # Examples
-    /// ```
-    /// let (writers, pass) = pass.writer_count();
-    /// ```
     pub fn writer_count(self) -> (usize, Pass<'a, T, R>)
         ensures limit { result.0 ≤ 1 }
         ensures made { Called WriterCount (Count result.0) self.entry.permit.view self.entry.seen.entries result.1.permit.view result.1.seen.entries }
@@ -408,11 +356,6 @@ impl<'a, T, R> Pass<'a, T, R> {
     /// # Contract
     /// What one of them knows of the history is a beginning of what the other knows. So both know one history, and the
     /// one that knows more has the calls of both in it, each once, in the order in which each pass made them.
-    ///
-    /// # Examples
-    /// ```
-    /// all.0.compare(&all.1.0.1);
-    /// ```
     pub fn compare(&self, other: &Pass<'_, T, R>)
         requires { self.now.seen.name ≡ other.now.seen.name }
         ensures { IsPrefix self.now.seen.entries other.now.seen.entries ⊎ IsPrefix other.now.seen.entries self.now.seen.entries }

@@ -18,16 +18,6 @@ use std::ops::Deref;
 ///
 /// # Contract
 /// `shared_value` is `Some` of the value behind the guard, which stays the same while the guard lives.
-///
-/// # Examples
-/// ```
-/// fn sees_the_same_once_it_leaks<R>(guard: RwLockReadGuard<'_, u64, R>) -> (u64, u64)
-///     ensures { result.0 ≡ result.1 }
-/// {
-///     let seen = (*guard, *guard);
-///     (seen.1, *RwLockReadGuard::leak(guard))
-/// }
-/// ```
 #[must_use = "dropping the guard at once releases the lock: bind it, or write `drop(..)`"]
 pub struct SharedGuard<'a, T, K: Kind, R = Spin> {
     permit: Permit<'a, T, Party, RwRule<T>>,
@@ -39,13 +29,6 @@ pub struct SharedGuard<'a, T, K: Kind, R = Spin> {
 ///
 /// # Contract
 /// That of [`SharedGuard`].
-///
-/// # Examples
-/// ```
-/// let (first, second) = thread::join(&rt, || lock.read(&rt), || lock.read(&rt));
-/// let refused = lock.try_write().is_none();
-/// equal(&rt, (*first, *second), (1, 1));
-/// ```
 pub type RwLockReadGuard<'a, T, R = Spin> = SharedGuard<'a, T, Reader, R>;
 
 /// A reader's hold on an `RwLock`: it keeps the shared access without a guard, and shows no value.
@@ -55,15 +38,6 @@ pub type RwLockReadGuard<'a, T, R = Spin> = SharedGuard<'a, T, Reader, R>;
 ///
 /// # Contract
 /// Its party still reads (`reading`). `read_held_value` is the value that the guard showed.
-///
-/// # Examples
-/// ```
-/// let third = RwLockReadGuard::hold(lock.read(&rt));
-/// shows(&rt, &lock, READ, [3, 0]);
-/// RwLock::force_read_decrement(first);
-/// RwLock::force_read_decrement(second);
-/// shows(&rt, &lock, READ, [1, 0]);
-/// ```
 #[must_use = "dropping a hold does not release the lock: pass it to `force_read_decrement`"]
 pub struct ReadHeld<'a, T, R = Spin> {
     permit: Permit<'a, T, Party, RwRule<T>>,
@@ -95,11 +69,12 @@ impl<'a, T, K: Kind, R> SharedGuard<'a, T, K, R> {
     ///
     /// # Examples
     /// ```
-    /// let mut lock: RwLock<u64> = RwLock::new(1);
-    /// let value = *RwLockReadGuard::leak(lock.read(&rt));
-    /// shows(&rt, &lock, READ, [1, 0]);
-    /// *lock.get_mut() = 5;
-    /// equal(&rt, (value, lock.into_inner()), (1, 5));
+    /// use spin::{RwLock, RwLockReadGuard};
+    ///
+    /// let limit: RwLock<u64> = RwLock::new(3);
+    /// let value: &u64 = RwLockReadGuard::leak(limit.read(&rt));
+    /// assert_eq!(rt; *value, 3);
+    /// assert!(rt; limit.try_write().is_none());
     /// ```
     pub fn leak(this: Self) -> &'a T
         ensures { Some result.now ≡ shared_value this.entry }
@@ -127,9 +102,13 @@ impl<'a, T, R> SharedGuard<'a, T, Reader, R> {
     ///
     /// # Examples
     /// ```
-    /// let read: RwLock<u64> = RwLock::new(1);
-    /// drop(RwLockReadGuard::hold(read.read(&rt)));
-    /// shows(&rt, &read, READ, [1, 0]);
+    /// use spin::{RwLock, RwLockReadGuard};
+    ///
+    /// let limit: RwLock<u64> = RwLock::new(3);
+    /// let held = RwLockReadGuard::hold(limit.read(&rt));
+    /// assert!(rt; limit.try_write().is_none());
+    /// RwLock::force_read_decrement(held);
+    /// assert!(rt; limit.try_write().is_some());
     /// ```
     pub fn hold(this: Self) -> ReadHeld<'a, T, R>
         ensures value { read_held_value result ≡ shared_value this.entry }
@@ -151,11 +130,6 @@ impl<'a, T, R> ReadHeld<'a, T, R> {
     ///
     /// # Contract
     /// The guard has the hold's value and its party (`value`, `party`). The call returns.
-    ///
-    /// # Examples
-    /// ```
-    /// drop(held.into_guard());
-    /// ```
     pub fn into_guard(self) -> RwLockReadGuard<'a, T, R>
         ensures value { shared_value result ≡ read_held_value self.entry }
         ensures party { (shared_party result ≡ read_held_party self.entry) × (result.permit.key ≡ self.entry.permit.key) }

@@ -154,18 +154,6 @@ impl Play<Watch<Entry>, Party, Entry> for Releases {
 ///
 /// # Contract
 /// A reader of the kind has the view `view`, which reads the value (`lends`).
-///
-/// # Examples
-/// ```
-/// fn release<'a, T>(party: RwPermit<'a, T>, seen: Watch<Entry>) -> (RwPermit<'a, T>, Watch<Entry>)
-///     requires { (what party.view ≡ Some Upgradable) × MayKnow party seen }
-///     ensures idle { what result.0.view ≡ Some Idle }
-///     ensures made { Makes (IsCall Release answer.Done) party.entry seen result.0 result.1 }
-/// {
-///     let (_, party, seen) = party.subtract::<Releases>(UPGRADABLE, seen);
-///     (party, seen)
-/// }
-/// ```
 pub trait Kind {
     // The view of its party.
     ghost view: { View };

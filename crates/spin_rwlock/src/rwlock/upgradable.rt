@@ -22,16 +22,6 @@ use std::sync::Wait;
 ///
 /// # Contract
 /// That of [`SharedGuard`]. The value stays the same when the reader becomes the writer.
-///
-/// # Examples
-/// ```
-/// let guard = limit.upgradeable_read(rt);
-/// if least <= *guard {
-///     return *guard;
-/// }
-/// let mut guard = guard.upgrade(rt);
-/// *guard = least;
-/// ```
 pub type RwLockUpgradableGuard<'a, T, R = Spin> = SharedGuard<'a, T, Upgrader, R>;
 
 impl<'a, T, R> SharedGuard<'a, T, Upgrader, R> {
@@ -47,11 +37,14 @@ impl<'a, T, R> SharedGuard<'a, T, Upgrader, R> {
     ///
     /// # Examples
     /// ```
-    /// let seen = *guard;
-    /// match guard.try_upgrade() {
-    ///     Ok(guard) => (seen, *guard),
-    ///     Err(guard) => (seen, *guard),
-    /// }
+    /// use spin::RwLock;
+    ///
+    /// let limit: RwLock<u64> = RwLock::new(3);
+    /// let reader = limit.read(&rt);
+    /// let guard = limit.upgradeable_read(&rt);
+    /// let guard = guard.try_upgrade().err().expect(&rt, "another thread reads");
+    /// drop(reader);
+    /// assert!(rt; guard.try_upgrade().is_ok());
     /// ```
     pub fn try_upgrade(self) -> Result<RwLockWriteGuard<'a, T, R>, Self>
         ensures granted { IfOk result (λ guard. Some (write_value guard) ≡ shared_value self.entry) }
@@ -68,17 +61,6 @@ impl<'a, T, R> SharedGuard<'a, T, Upgrader, R> {
     /// # Contract
     /// `seen` has to be what the pass knew beside the guard (`ReadsWith`). The call is one `TryUpgrade`, with the answer
     /// `Granted` beside a writer's guard, and else `Refused`. The guard has the value that this one had.
-    ///
-    /// # Examples
-    /// ```
-    /// Ok((guard, seen)) => match guard.try_upgrade_seen(seen) {
-    ///     Ok((guard, seen)) => {
-    ///         let (guard, seen) = guard.downgrade_seen(seen);
-    ///         RwLock::unlock_shared(guard, seen)
-    ///     }
-    ///     Err((guard, seen)) => RwLock::unlock_shared(guard, seen),
-    /// },
-    /// ```
     pub fn try_upgrade_seen(
         self,
         seen: Watch<Entry>,
@@ -100,14 +82,6 @@ impl<'a, T, R> SharedGuard<'a, T, Upgrader, R> {
     ///
     /// # Contract
     /// That of `try_upgrade`.
-    ///
-    /// # Examples
-    /// ```
-    /// match upgradable.try_upgrade_weak() {
-    ///     Ok(writer) => return Some(*writer),
-    ///     Err(still) => upgradable = still,
-    /// }
-    /// ```
     pub fn try_upgrade_weak(self) -> Result<RwLockWriteGuard<'a, T, R>, Self>
         ensures granted { IfOk result (λ guard. Some (write_value guard) ≡ shared_value self.entry) }
         ensures refused { IfErr result (λ guard. shared_value guard ≡ shared_value self.entry) }
@@ -124,9 +98,14 @@ impl<'a, T, R> SharedGuard<'a, T, Upgrader, R> {
     ///
     /// # Examples
     /// ```
-    /// let seen = *guard;
-    /// let guard = guard.downgrade();
-    /// (seen, *guard)
+    /// use spin::RwLock;
+    ///
+    /// let limit: RwLock<u64> = RwLock::new(3);
+    /// let guard = limit.upgradeable_read(&rt);
+    /// assert!(rt; limit.try_upgradeable_read(&rt).is_none());
+    /// let reader = guard.downgrade();
+    /// assert!(rt; limit.try_upgradeable_read(&rt).is_some());
+    /// assert_eq!(rt; *reader, 3);
     /// ```
     pub fn downgrade(self) -> RwLockReadGuard<'a, T, R>
         ensures { shared_value result ≡ shared_value self.entry }
@@ -140,11 +119,6 @@ impl<'a, T, R> SharedGuard<'a, T, Upgrader, R> {
     /// # Contract
     /// `seen` has to be what the pass knew beside the guard (`ReadsWith`). The call is one `Downgrade` (`made`). The
     /// guard has the value that this one had.
-    ///
-    /// # Examples
-    /// ```
-    /// let (guard, seen) = guard.downgrade_seen(seen);
-    /// ```
     pub fn downgrade_seen(self, seen: Watch<Entry>) -> (RwLockReadGuard<'a, T, R>, Watch<Entry>)
         requires { ReadsWith self seen }
         ensures value { shared_value result.0 ≡ shared_value self.entry }
@@ -170,9 +144,14 @@ impl<'a, T, R: RelaxStrategy> SharedGuard<'a, T, Upgrader, R> {
     ///
     /// # Examples
     /// ```
-    /// let seen = *guard;
-    /// let guard = guard.upgrade(rt);
-    /// (seen, *guard)
+    /// use spin::RwLock;
+    ///
+    /// let limit: RwLock<u64> = RwLock::new(3);
+    /// let guard = limit.upgradeable_read(&rt);
+    /// if *guard < 4 {
+    ///     *guard.upgrade(&rt) = 4;
+    /// }
+    /// assert_eq!(rt; *limit.read(&rt), 4);
     /// ```
     pub fn upgrade<W: Wait>(self, rt: &W) -> RwLockWriteGuard<'a, T, R>
         ensures asked { result.writer.view.0 ≡ WritingAsked }
@@ -193,7 +172,14 @@ impl<'a, T, R: RelaxStrategy> SharedGuard<'a, T, Upgrader, R> {
     ///
     /// # Examples
     /// ```
-    /// let (mut guard, seen) = guard.upgrade_seen(rt, seen);
+    /// use spin::RwLock;
+    ///
+    /// let limit: RwLock<u64> = RwLock::new(3);
+    /// let (guard, seen) = limit.pass().upgradeable_read(&rt);
+    /// let (mut writer, seen) = guard.upgrade_seen(&rt, seen);
+    /// *writer = 4;
+    /// drop(RwLock::unlock(writer, seen));
+    /// assert_eq!(rt; limit.into_inner(), 4);
     /// ```
     pub fn upgrade_seen<W: Wait>(
         self,

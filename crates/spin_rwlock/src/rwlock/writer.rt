@@ -22,17 +22,6 @@ use std::ops::{Deref, DerefMut};
 ///
 /// # Contract
 /// `write_value` is the value behind the guard. What is written through the guard is read through it.
-///
-/// # Examples
-/// ```
-/// fn reads_back_after_downgrade<R>(guard: RwLockWriteGuard<'_, u64, R>, value: u64) -> u64
-///     ensures { result ≡ value }
-/// {
-///     let mut guard = guard;
-///     *guard = value;
-///     *guard.downgrade()
-/// }
-/// ```
 #[must_use = "dropping the guard at once releases the lock: bind it, or write `drop(..)`"]
 pub struct RwLockWriteGuard<'a, T, R = Spin> {
     writer: WritePermit<'a, T, Party, RwRule<T>>,
@@ -46,14 +35,6 @@ pub struct RwLockWriteGuard<'a, T, R = Spin> {
 ///
 /// # Contract
 /// Its party still writes (`writing`). `write_held_value` is the value that the guard had.
-///
-/// # Examples
-/// ```
-/// let held = RwLockWriteGuard::hold(writer);
-/// shows(&rt, &lock, WRITTEN, [0, 1]);
-/// RwLock::force_write_unlock(held);
-/// shows(&rt, &lock, FREE, [0, 0]);
-/// ```
 #[must_use = "dropping a hold does not release the lock: pass it to `force_write_unlock`"]
 pub struct WriteHeld<'a, T, R = Spin> {
     permit: Permit<'a, T, Party, RwRule<T>>,
@@ -82,9 +63,14 @@ impl<'a, T, R> RwLockWriteGuard<'a, T, R> {
     ///
     /// # Examples
     /// ```
-    /// let mut guard = guard;
-    /// *guard = value;
-    /// *guard.downgrade()
+    /// use spin::RwLock;
+    ///
+    /// let limit: RwLock<u64> = RwLock::new(3);
+    /// let mut writer = limit.write(&rt);
+    /// *writer = 4;
+    /// let reader = writer.downgrade();
+    /// assert!(rt; limit.try_read(&rt).is_some());
+    /// assert_eq!(rt; *reader, 4);
     /// ```
     pub fn downgrade(self) -> RwLockReadGuard<'a, T, R>
         ensures { shared_value result ≡ Some (write_value self.entry) }
@@ -98,11 +84,6 @@ impl<'a, T, R> RwLockWriteGuard<'a, T, R> {
     /// # Contract
     /// `seen` has to be what the pass knew beside the guard (`WritesWith`). The call is one `Downgrade` (`made`). The
     /// reader's guard has the value that this one had.
-    ///
-    /// # Examples
-    /// ```
-    /// let (guard, seen) = guard.downgrade_seen(seen);
-    /// ```
     pub fn downgrade_seen(self, seen: Watch<Entry>) -> (RwLockReadGuard<'a, T, R>, Watch<Entry>)
         requires { WritesWith self seen }
         ensures value { shared_value result.0 ≡ Some (write_value self.entry) }
@@ -122,9 +103,12 @@ impl<'a, T, R> RwLockWriteGuard<'a, T, R> {
     ///
     /// # Examples
     /// ```
-    /// let mut guard = guard;
-    /// *guard = value;
-    /// *guard.downgrade_to_upgradeable()
+    /// use spin::RwLock;
+    ///
+    /// let limit: RwLock<u64> = RwLock::new(3);
+    /// let guard = limit.write(&rt).downgrade_to_upgradeable();
+    /// assert_eq!(rt; *limit.read(&rt), 3);
+    /// assert!(rt; guard.try_upgrade().is_ok());
     /// ```
     pub fn downgrade_to_upgradeable(self) -> RwLockUpgradableGuard<'a, T, R>
         ensures { shared_value result ≡ Some (write_value self.entry) }
@@ -139,11 +123,6 @@ impl<'a, T, R> RwLockWriteGuard<'a, T, R> {
     /// # Contract
     /// `seen` has to be what the pass knew beside the guard (`WritesWith`). The call is one `DowngradeToUpgradeable`
     /// (`made`). The upgradable reader's guard has the value that this one had.
-    ///
-    /// # Examples
-    /// ```
-    /// let (guard, seen) = guard.downgrade_to_upgradeable_seen(seen);
-    /// ```
     pub fn downgrade_to_upgradeable_seen(
         self,
         seen: Watch<Entry>,
@@ -163,13 +142,6 @@ impl<'a, T, R> RwLockWriteGuard<'a, T, R> {
     ///
     /// # Contract
     /// The reference has the value of the guard. The call returns.
-    ///
-    /// # Examples
-    /// ```
-    /// let written: RwLock<u64> = RwLock::new(1);
-    /// *RwLockWriteGuard::leak(written.write(&rt)) = 7;
-    /// shows(&rt, &written, WRITTEN, [0, 1]);
-    /// ```
     pub fn leak(this: Self) -> &'a mut T
         ensures { result.now ≡ write_value this.entry }
     {
@@ -184,9 +156,13 @@ impl<'a, T, R> RwLockWriteGuard<'a, T, R> {
     ///
     /// # Examples
     /// ```
-    /// let written: RwLock<u64> = RwLock::new(1);
-    /// drop(RwLockWriteGuard::hold(written.write(&rt)));
-    /// shows(&rt, &written, WRITTEN, [0, 1]);
+    /// use spin::{RwLock, RwLockWriteGuard};
+    ///
+    /// let limit: RwLock<u64> = RwLock::new(3);
+    /// let held = RwLockWriteGuard::hold(limit.write(&rt));
+    /// assert!(rt; limit.try_read(&rt).is_none());
+    /// RwLock::force_write_unlock(held);
+    /// assert_eq!(rt; *limit.read(&rt), 3);
     /// ```
     pub fn hold(this: Self) -> WriteHeld<'a, T, R>
         ensures value { write_held_value result ≡ Some (write_value this.entry) }
@@ -218,11 +194,6 @@ impl<'a, T, R> WriteHeld<'a, T, R> {
     ///
     /// # Contract
     /// The guard has the hold's value and its party (`value`, `party`). The call returns.
-    ///
-    /// # Examples
-    /// ```
-    /// drop(held.into_guard());
-    /// ```
     pub fn into_guard(self) -> RwLockWriteGuard<'a, T, R>
         ensures value { Some (write_value result) ≡ write_held_value self.entry }
         ensures party { (write_party result ≡ write_held_party self.entry) × (result.writer.key ≡ self.entry.permit.key) }

@@ -13,18 +13,6 @@ impl<C: Calls, A: Allocator> SeatedLock<C, A> {
     /// # Contract
     /// There has to be at least one pass. The lock was opened with `value` and so many passes, and these are all its
     /// passes, none of which has made a call.
-    ///
-    /// # Examples
-    /// ```
-    /// let (lock, mut passes) = SeatedMutex::new(alloc, value, 2)?;
-    /// let Some(second) = passes.pop() else {
-    ///     unreachable!()
-    /// };
-    /// let Some(first) = passes.pop() else {
-    ///     unreachable!()
-    /// };
-    /// Ok((lock, first, second))
-    /// ```
     pub fn new(
         alloc: A,
         value: u64,

@@ -26,11 +26,6 @@ impl<C> Model for Place<C> {
 ///
 /// It cannot be copied, and may go to another thread. A pass that is dropped while it holds the lock leaves the lock
 /// held.
-///
-/// # Examples
-/// ```
-/// is_send::<Pass>();
-/// ```
 #[derive(Drop)]
 #[must_use = "only a pass makes calls: bind it"]
 pub struct Pass<C: Calls> {
@@ -51,8 +46,6 @@ impl<C: Calls> Pass<C> {
     ///
     /// # Contract
     /// It is what the pass holds at the end of the history that it knows.
-    ///
-    /// No example: only tests call it.
     pub fn holds(&self) -> C::Hold
         ensures { result ≡ holds C.machine self.now.known }
     {

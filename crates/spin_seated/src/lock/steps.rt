@@ -135,12 +135,6 @@ impl<C: Calls, A: Allocator> SeatedLock<C, A> {
     /// # Contract
     /// Both have to be passes of this lock. Both know the same history then (`Met`). It goes on from what each knew,
     /// and has of each one's own calls just those that it knew. What they hold stays as it is.
-    ///
-    /// # Examples
-    /// ```
-    /// lock.meet(a, b);
-    /// let granted = lock.try_lock(a);
-    /// ```
     pub fn meet(&self, a: &mut Pass<C>, b: &mut Pass<C>)
         requires first { IsPassOf self.now a.old }
         requires second { IsPassOf self.now b.old }

@@ -30,12 +30,6 @@ impl<A: Allocator> SeatedLock<Call, A> {
     /// # Contract
     /// The pass has to be one of this lock. The call and its answer end the history that the pass knows then (`Made`).
     /// The pass holds the lock then if it held it before or the answer is `true`.
-    ///
-    /// # Examples
-    /// ```
-    /// assert!(rt; lock.try_lock(&mut first));
-    /// assert!(rt; !lock.try_lock(&mut second));
-    /// ```
     #[must_use = "the answer tells whether the pass holds the lock"]
     pub fn try_lock(&self, pass: &mut Pass) -> bool
         requires { IsPassOf self.now pass.old }
@@ -58,8 +52,6 @@ impl<A: Allocator> SeatedLock<Call, A> {
     ///
     /// # Contract
     /// The pass has to be one of this lock. The call and its answer end the history that the pass knows then (`Made`).
-    ///
-    /// No example: only tests call it.
     pub fn is_locked(&self, pass: &mut Pass) -> bool
         requires { IsPassOf self.now pass.old }
         ensures own { IsPassOf self.now pass.new }
@@ -74,15 +66,6 @@ impl<A: Allocator> SeatedLock<Call, A> {
     /// # Contract
     /// The pass has to be one of this lock, and to hold it. The call and its answer end the history that the pass knows
     /// then (`Made`).
-    ///
-    /// # Examples
-    /// ```
-    /// let value = lock.read(pass);
-    /// if value == u64::MAX {
-    ///     lock.unlock(pass);
-    ///     return false;
-    /// }
-    /// ```
     pub fn read(&self, pass: &mut Pass) -> u64
         requires own { IsPassOf self.now pass.old }
         requires holder { IsTrue (holds pass.old.known) }
@@ -98,13 +81,6 @@ impl<A: Allocator> SeatedLock<Call, A> {
     /// # Contract
     /// The pass has to be one of this lock, and to hold it. The call and its answer end the history that the pass knows
     /// then (`Made`).
-    ///
-    /// # Examples
-    /// ```
-    /// let value = lock.read(&mut pass);
-    /// lock.write(&mut pass, value.wrapping_add(1));
-    /// lock.unlock(&mut pass);
-    /// ```
     pub fn write(&self, pass: &mut Pass, value: u64)
         requires own { IsPassOf self.now pass.old }
         requires holder { IsTrue (holds pass.old.known) }
@@ -120,13 +96,6 @@ impl<A: Allocator> SeatedLock<Call, A> {
     /// # Contract
     /// The pass has to be one of this lock, and to hold it. The call and its answer end the history that the pass knows
     /// then (`Made`). The pass does not hold the lock then.
-    ///
-    /// # Examples
-    /// ```
-    /// lock.write(pass, value + 1);
-    /// lock.unlock(pass);
-    /// true
-    /// ```
     pub fn unlock(&self, pass: &mut Pass)
         requires own { IsPassOf self.now pass.old }
         requires holder { IsTrue (holds pass.old.known) }

@@ -30,12 +30,6 @@ impl<A: Allocator> SeatedLock<Call, A> {
     /// The pass has to be one of this lock, and to hold nothing. The call and its answer end the history that the pass
     /// knows then (`Made`). If the answer is `true` it holds as a reader then. Whether and when the call returns is not
     /// promised.
-    ///
-    /// # Examples
-    /// ```
-    /// assert!(rt; lock.try_read(&rt, &mut a));
-    /// assert!(rt; lock.try_read(&rt, &mut b));
-    /// ```
     #[must_use = "the answer tells whether the pass holds the lock"]
     pub fn try_read<W: Wait>(&self, rt: &W, pass: &mut RwPass) -> bool
         requires own { IsPassOf self.now pass.old }
@@ -77,14 +71,6 @@ impl<A: Allocator> SeatedLock<Call, A> {
     /// # Contract
     /// The pass has to be one of this lock, and to hold nothing. The call and its answer end the history that the pass
     /// knows then (`Made`). If the answer is `true` it holds as the writer then.
-    ///
-    /// # Examples
-    /// ```
-    /// let granted = match hold {
-    ///     SeatedHold::Read => lock.try_read(rt, pass),
-    ///     SeatedHold::Write => lock.try_write(pass),
-    /// };
-    /// ```
     #[must_use = "the answer tells whether the pass holds the lock"]
     pub fn try_write(&self, pass: &mut RwPass) -> bool
         requires own { IsPassOf self.now pass.old }
@@ -108,8 +94,6 @@ impl<A: Allocator> SeatedLock<Call, A> {
     ///
     /// # Contract
     /// The pass has to be one of this lock. The call and its answer end the history that the pass knows then (`Made`).
-    ///
-    /// No example: only tests call it.
     pub fn reader_count(&self, pass: &mut RwPass) -> u64
         requires { IsPassOf self.now pass.old }
         ensures own { IsPassOf self.now pass.new }
@@ -123,8 +107,6 @@ impl<A: Allocator> SeatedLock<Call, A> {
     ///
     /// # Contract
     /// The pass has to be one of this lock. The call and its answer end the history that the pass knows then (`Made`).
-    ///
-    /// No example: only tests call it.
     pub fn writer_count(&self, pass: &mut RwPass) -> u64
         requires { IsPassOf self.now pass.old }
         ensures own { IsPassOf self.now pass.new }
@@ -139,14 +121,6 @@ impl<A: Allocator> SeatedLock<Call, A> {
     /// # Contract
     /// The pass has to be one of this lock, and to hold it as a reader or as the writer. The call and its answer end
     /// the history that the pass knows then (`Made`).
-    ///
-    /// # Examples
-    /// ```
-    /// acquire(rt, lock, pass, SeatedHold::Read);
-    /// let value = lock.read(pass);
-    /// lock.unlock_read(pass);
-    /// value
-    /// ```
     pub fn read(&self, pass: &mut RwPass) -> u64
         requires own { IsPassOf self.now pass.old }
         requires holder { may_with Read (holds pass.old.known) ≡ true }
@@ -162,13 +136,6 @@ impl<A: Allocator> SeatedLock<Call, A> {
     /// # Contract
     /// The pass has to be one of this lock, and to hold it as the writer. The call and its answer end the history that
     /// the pass knows then (`Made`).
-    ///
-    /// # Examples
-    /// ```
-    /// let value = lock.read(&mut pass).wrapping_add(1);
-    /// lock.write(&mut pass, value);
-    /// lock.downgrade(&mut pass);
-    /// ```
     pub fn write(&self, pass: &mut RwPass, value: u64)
         requires own { IsPassOf self.now pass.old }
         requires holder { holds pass.old.known ≡ Some hold.Write }
@@ -184,13 +151,6 @@ impl<A: Allocator> SeatedLock<Call, A> {
     /// # Contract
     /// The pass has to be one of this lock, and to hold it as a reader. The call and its answer end the history that
     /// the pass knows then (`Made`). It holds nothing then.
-    ///
-    /// # Examples
-    /// ```
-    /// let value = lock.read(pass);
-    /// lock.unlock_read(pass);
-    /// value
-    /// ```
     pub fn unlock_read(&self, pass: &mut RwPass)
         requires own { IsPassOf self.now pass.old }
         requires holder { holds pass.old.known ≡ Some hold.Read }
@@ -207,12 +167,6 @@ impl<A: Allocator> SeatedLock<Call, A> {
     /// # Contract
     /// The pass has to be one of this lock, and to hold it as the writer. The call and its answer end the history that
     /// the pass knows then (`Made`). It holds nothing then.
-    ///
-    /// # Examples
-    /// ```
-    /// lock.write(pass, value);
-    /// lock.unlock_write(pass);
-    /// ```
     pub fn unlock_write(&self, pass: &mut RwPass)
         requires own { IsPassOf self.now pass.old }
         requires holder { holds pass.old.known ≡ Some hold.Write }
@@ -229,12 +183,6 @@ impl<A: Allocator> SeatedLock<Call, A> {
     /// # Contract
     /// The pass has to be one of this lock, and to hold it as the writer. The call and its answer end the history that
     /// the pass knows then (`Made`). It holds as a reader then.
-    ///
-    /// # Examples
-    /// ```
-    /// lock.write(&mut c, 9);
-    /// lock.downgrade(&mut c);
-    /// ```
     pub fn downgrade(&self, pass: &mut RwPass)
         requires own { IsPassOf self.now pass.old }
         requires holder { holds pass.old.known ≡ Some hold.Write }

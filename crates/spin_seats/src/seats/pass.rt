@@ -29,8 +29,15 @@ use std::sync::Wait;
 ///
 /// # Examples
 /// ```
-/// let seat = pass.enter(rt);
-/// seat.leave()
+/// use spin_seats::seats::Seats;
+///
+/// let seats: Seats<1> = Seats::new();
+/// let guard = seats.pass().enter(&rt);
+/// let other = seats.pass().try_enter(&rt).err().expect(&rt, "it is taken");
+/// let (count, pass) = guard.leave().count();
+/// assert_eq!(rt; count, 0);
+/// assert!(rt; other.try_enter(&rt).is_ok());
+/// drop(pass);
 /// ```
 #[must_use = "a pass that is dropped ends: bind it, or write `drop(..)`"]
 pub struct Pass<'a, const N: usize> {
@@ -43,12 +50,6 @@ impl<const N: usize> Seats<N> {
     ///
     /// # Contract
     /// The pass is of this lock, and knows nothing of its history yet (`new`).
-    ///
-    /// # Examples
-    /// ```
-    /// let pass = seats.pass();
-    /// visit(rt, pass)
-    /// ```
     pub fn pass(&self) -> Pass<'_, N>
         ensures new { (result.account.permit.view ≡ None) × (result.account.seen.entries ≡ []) × (result.account.seen.name ≡ self.now.cell.name) }
     {
@@ -67,12 +68,6 @@ impl<'a, const N: usize> Pass<'a, N> {
     /// # Contract
     /// The call is one `Enter` with the answer `Granted`, however often it looked and tried. Whether and when it
     /// returns is not promised.
-    ///
-    /// # Examples
-    /// ```
-    /// let seat = pass.enter(rt);
-    /// seat.leave()
-    /// ```
     pub fn enter<W: Wait>(self, rt: &W) -> SeatGuard<'a, N>
         ensures { Called N Enter Granted self.entry.account result.account }
     {
@@ -87,14 +82,6 @@ impl<'a, const N: usize> Pass<'a, N> {
     /// # Contract
     /// The call is one `TryEnter`, with the answer `Granted` beside a guard (`granted`), and else `Refused`
     /// (`refused`). Whether and when it returns is not promised.
-    ///
-    /// # Examples
-    /// ```
-    /// match pass.try_enter(rt) {
-    ///     Ok(seat) => Ok(seat.leave()),
-    ///     Err(pass) => Err(pass),
-    /// }
-    /// ```
     pub fn try_enter<W: Wait>(self, rt: &W) -> Result<SeatGuard<'a, N>, Pass<'a, N>>
         ensures granted { IfOk result (λ guard. Called N TryEnter Granted self.entry.account guard.account) }
         ensures refused { IfErr result (λ pass. Called N TryEnter Refused self.entry.account pass.account) }
@@ -106,11 +93,6 @@ impl<'a, const N: usize> Pass<'a, N> {
     ///
     /// # Contract
     /// The call is one `Count`, with the answer that is returned (`made`).
-    ///
-    /// # Examples
-    /// ```
-    /// pass.count()
-    /// ```
     pub fn count(self) -> (usize, Pass<'a, N>)
         ensures made { Called N Count (Counted result.0) self.entry.account result.1.account }
         ensures few { result.0 ≤ seats N }
@@ -142,11 +124,6 @@ impl<'a, const N: usize> Pass<'a, N> {
     ///
     /// # Contract
     /// What one of them knows of the history is a beginning of what the other knows.
-    ///
-    /// # Examples
-    /// ```
-    /// all.0.0.compare(&all.0.1);
-    /// ```
     pub fn compare(&self, other: &Pass<'_, N>)
         requires { self.now.account.seen.name ≡ other.now.account.seen.name }
         ensures { IsPrefix self.now.account.seen.entries other.now.account.seen.entries ⊎ IsPrefix other.now.account.seen.entries self.now.account.seen.entries }
@@ -160,12 +137,6 @@ impl<'a, const N: usize> SeatGuard<'a, N> {
     ///
     /// # Contract
     /// The call is one `Leave`.
-    ///
-    /// # Examples
-    /// ```
-    /// let seat = pass.enter(rt);
-    /// seat.leave()
-    /// ```
     pub fn leave(self) -> Pass<'a, N>
         ensures { Called N Leave Left self.entry.account result.account }
     {

@@ -38,14 +38,13 @@ use std::sync::Wait;
 ///
 /// # Examples
 /// ```
-/// fn count<'a, W: Wait>(rt: &W, pass: Pass<'a, u64, Spin>) -> Pass<'a, u64, Spin>
-///     ensures made { HeldOnce pass.entry result }
-///     ensures lock { lock_of result ≡ lock_of pass.entry }
-/// {
-///     let (mut guard, seen) = pass.lock(rt);
-///     *guard = guard.saturating_add(1);
-///     TicketMutex::unlock(guard, seen)
-/// }
+/// use spin::mutex::TicketMutex;
+///
+/// let lock: TicketMutex<u64> = TicketMutex::new(4);
+/// let (guard, seen) = lock.pass().lock(&rt);
+/// let pass = lock.pass().try_lock().err().expect(&rt, "it is held");
+/// drop(TicketMutex::unlock(guard, seen));
+/// assert!(rt; pass.try_lock().is_ok());
 /// ```
 #[must_use = "a pass that is dropped ends: bind it, or write `drop(..)`"]
 pub struct Pass<'a, T, R> {
@@ -62,11 +61,6 @@ impl<T, R> TicketMutex<T, R> {
     ///
     /// # Contract
     /// The pass is of this lock (`lock`), and knows nothing of its history yet (`new`).
-    ///
-    /// # Examples
-    /// ```
-    /// let pass = lock.pass();
-    /// ```
     pub fn pass(&self) -> Pass<'_, T, R>
         ensures new { (result.seen.entries ≡ []) × (result.permit.view ≡ None) }
         ensures lock { (result.seen.name ≡ self.now.cell.0.name) × (result.permit.key.1 ≡ self.now.cell.1) }
@@ -85,13 +79,6 @@ impl<T, R> TicketMutex<T, R> {
     /// # Contract
     /// `seen` has to be what [`Pass::lock`] or [`Pass::try_lock`] returned beside the guard (`Holds`). The call is in
     /// the history, as the pass's next one (`made`).
-    ///
-    /// # Examples
-    /// ```
-    /// let (mut guard, seen) = pass.lock(rt);
-    /// *guard = guard.saturating_add(1);
-    /// TicketMutex::unlock(guard, seen)
-    /// ```
     pub fn unlock<'a>(guard: TicketMutexGuard<'a, T, R>, seen: Watch<Entry>) -> Pass<'a, T, R>
         requires { Holds guard seen }
         ensures made { Called (guard_key guard.entry).1 Release Released (Some (guard_view guard.entry)) seen.entries result.permit.view result.seen.entries }
@@ -114,13 +101,6 @@ impl<'a, T, R: RelaxStrategy> Pass<'a, T, R> {
     /// # Contract
     /// The call is one `Lock` with the answer `Granted`, however often it looked and tried (`made`). The guard belongs
     /// to a holder of the lock. Whether and when the call returns is not promised.
-    ///
-    /// # Examples
-    /// ```
-    /// let (mut guard, seen) = pass.lock(rt);
-    /// *guard = guard.saturating_add(1);
-    /// TicketMutex::unlock(guard, seen)
-    /// ```
     pub fn lock<W: Wait>(self, rt: &W) -> (TicketMutexGuard<'a, T, R>, Watch<Entry>)
         ensures holder { IsHolder use_of_party result.0 }
         ensures holds { Holds result.0 result.1 }
@@ -149,14 +129,6 @@ impl<'a, T, R> Pass<'a, T, R> {
     ///
     /// # Contract
     /// The call is one `TryLock`, with the answer `Granted` beside a guard (`granted`), and else `Refused` (`refused`).
-    ///
-    /// # Examples
-    /// ```
-    /// match pass.try_lock() {
-    ///     Ok((guard, seen)) => TicketMutex::unlock(guard, seen),
-    ///     Err(pass) => pass,
-    /// }
-    /// ```
     pub fn try_lock(self) -> Result<(TicketMutexGuard<'a, T, R>, Watch<Entry>), Pass<'a, T, R>>
         ensures holder { IfOk result (λ held. IsHolder use_of_party held.0 × Holds held.0 held.1) }
         ensures same { IfOk result (λ held. (held.1.name ≡ self.entry.seen.name) × ((guard_key held.0).1 ≡ self.entry.permit.key.1)) }
@@ -200,11 +172,6 @@ impl<'a, T, R> Pass<'a, T, R> {
     ///
     /// # Contract
     /// The call is one `IsLocked`, with the answer that is returned (`made`).
-    ///
-    /// # Examples
-    /// ```
-    /// let (held, pass) = pass.is_locked();
-    /// ```
     pub fn is_locked(self) -> (bool, Pass<'a, T, R>)
         ensures made { Called self.entry.permit.key.1 IsLocked (Is result.0) self.entry.permit.view self.entry.seen.entries result.1.permit.view result.1.seen.entries }
         ensures same { (result.1.seen.name ≡ self.entry.seen.name) × (result.1.permit.key.1 ≡ self.entry.permit.key.1) }
@@ -243,11 +210,6 @@ impl<'a, T, R> Pass<'a, T, R> {
     /// # Contract
     /// What one of them knows of the history is a beginning of what the other knows. So both know one history, and the
     /// one that knows more has the calls of both in it, each once, in the order in which each pass made them.
-    ///
-    /// # Examples
-    /// ```
-    /// all.0.compare(&all.1.0);
-    /// ```
     pub fn compare(&self, other: &Pass<'_, T, R>)
         requires { self.now.seen.name ≡ other.now.seen.name }
         ensures { IsPrefix self.now.seen.entries other.now.seen.entries ⊎ IsPrefix other.now.seen.entries self.now.seen.entries }

@@ -37,11 +37,6 @@ impl<C: Answers, A: Allocator, H: History> LoggedTable<C, A, H> {
     /// # Contract
     /// Afterwards `seen` has the whole log (`exact`), and the answer is the one in it (`known`), one for this key
     /// (`may`). If `seen` had one before, it is that one (`same`). All that `seen` had stays (`later`).
-    ///
-    /// # Examples
-    /// ```
-    /// let found = reader.answer(&3, &mut seen).copied();
-    /// ```
     pub fn answer(
         &self,
         key: &C::Key,
@@ -88,13 +83,6 @@ impl<C: Answers, A: Allocator, H: History> LoggedTable<C, A, H> {
 ///
 /// Each caller has a [`Snapshot`] of the log: the answers that it saw, and those before. A call brings it up to date.
 /// The log is ghost state: it takes no memory and no steps.
-///
-/// # Examples
-/// ```
-/// let log = blank.open::<(u64, u64), H>();
-/// let mut seen = log.snapshot();
-/// let cache: NumberCache<H> = LoggedCache::new(alloc, log);
-/// ```
 #[derive(Drop)]
 pub struct LoggedCache<C: Answers, H: History, A: Allocator = Global, R = Spin> {
     table: RwLock<LoggedTable<C, A, H>, R>,
@@ -105,11 +93,6 @@ impl<C: Answers, H: History, A: Allocator + Clone, R: RelaxStrategy> LoggedCache
     ///
     /// # Contract
     /// The log has to be empty.
-    ///
-    /// # Examples
-    /// ```
-    /// let cache: NumberCache<H> = LoggedCache::new(alloc, log);
-    /// ```
     pub fn new(alloc: A, log: Log<(C::Key, C::Value), H>) -> Self
         requires { log.entries ≡ [] }
     {
@@ -122,11 +105,6 @@ impl<C: Answers, H: History, A: Allocator + Clone, R: RelaxStrategy> LoggedCache
     ///
     /// # Contract
     /// Whether and when the call returns is not promised.
-    ///
-    /// # Examples
-    /// ```
-    /// let reader = cache.read(rt);
-    /// ```
     pub fn read<W: Wait>(&self, rt: &W) -> RwLockReadGuard<'_, LoggedTable<C, A, H>, R> {
         self.table.read(rt)
     }
@@ -139,12 +117,6 @@ impl<C: Answers, H: History, A: Allocator + Clone, R: RelaxStrategy> LoggedCache
     /// key (`may`), and a clone of the one that `seen` has afterwards (`known`). If `seen` had one before, it is a clone
     /// of that one (`same`). All that `seen` had stays, also on `Err` (`later`). Whether and when the call returns is not
     /// promised.
-    ///
-    /// # Examples
-    /// ```
-    /// let first: Result<u64, AllocError> = cache.answer(rt, key, |_| Ok(numbers.0), seen);
-    /// let second: Result<u64, AllocError> = cache.answer(rt, key, |_| Ok(numbers.1), seen);
-    /// ```
     pub fn answer<W: Wait, E: From<AllocError>, F: FnOnce(&C::Key) -> Result<C::Value, E>>(
         &self,
         rt: &W,

@@ -31,12 +31,6 @@ impl<C: Answers, A: Allocator> Table<C, A> {
     ///
     /// # Contract
     /// The answer is exact, and one for this key (`may`).
-    ///
-    /// # Examples
-    /// ```
-    /// equal(&rt, reader.answer(&3).copied(), Some(9));
-    /// equal(&rt, reader.answer(&4).copied(), None);
-    /// ```
     pub fn answer(&self, key: &C::Key) -> Option<&C::Value>
         ensures exact { option_copied result ≡ get C.Key.eq self.now.map key.now }
         ensures may { IfSome result (λ value. IsTrue (C.may key.now value.now)) }

@@ -23,8 +23,15 @@ use std::alloc::{AllocError, Allocator};
 ///
 /// # Examples
 /// ```
-/// let mut world = opened::<O, Global>(rt, alloc, opening);
-/// let (first, second) = run_in_two(&mut world, schedule, at).expect(rt, opening.shows);
+/// use spin_world::{Flag, FlagCall, Move, World, run_in_two};
+///
+/// let made = World::new(rt.alloc(), Flag::new(5), 1);
+/// let mut world = made.expect(&rt, "there is memory");
+/// let schedule = [(0, Move::Begin(FlagCall::Lock)), (0, Move::Step), (0, Move::Write(6))];
+/// let parts = run_in_two(&mut world, &schedule, 1);
+/// let (first, second) = parts.expect(&rt, "there is memory");
+/// assert_eq!(rt; (first.events.len(), second.events.len()), (1, 2));
+/// assert_eq!(rt; world.value(), Some(6));
 /// ```
 pub fn run_in_two<O: Object, A: Allocator + Copy>(
     world: &mut World<O, A>,
