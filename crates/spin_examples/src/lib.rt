@@ -5,6 +5,8 @@
 
 pub mod any_lock;
 pub mod from_rust;
+pub mod guide;
+pub mod order;
 pub mod paired;
 pub mod passes;
 pub mod passes_fair;

@@ -1,8 +1,7 @@
 //! Tests of what the pages print.
-use super::account::{count, count_up_to};
 use super::equal::equal;
-use spin::mutex::{FairMutex, Mutex, SpinMutex, TicketMutex};
-use spin::{LazyLock, Once, RwLock, Yield};
+use spin::mutex::{FairMutex, SpinMutex, TicketMutex};
+use spin::{LazyLock, Mutex, Once, RwLock};
 use spin_examples::from_rust::{
     add_from_two, add_one, add_starving, doubled, give_back, port_of, raise, set_elsewhere, take,
 };
@@ -16,17 +15,6 @@ use spin_examples::{any_lock, paired, passes_fair, passes_rw, totals};
 use std::thread;
 
 #[test]
-fn two_threads_count(rt: HostRuntime) {
-    let counter: Mutex<u64, Yield> = Mutex::new(u64::MAX);
-    let (lent, host) = (&counter, &rt);
-    thread::join(host, || count(host, lent), || count(host, lent));
-    let mut guard = counter.lock(&rt);
-    count_up_to(&mut guard, 2);
-    count_up_to(&mut guard, 2);
-    equal(&rt, *guard, 2);
-}
-
-#[test]
 fn mutexes_as_in_rust(rt: HostRuntime) {
     equal(&rt, add_from_two(&rt), 2);
     let lock = SpinMutex::new(7);
@@ -37,7 +25,7 @@ fn mutexes_as_in_rust(rt: HostRuntime) {
     let fair = FairMutex::new(7);
     add_starving(&rt, &fair);
     equal(&rt, fair.into_inner(), 8);
-    let total = spin::Mutex::new(7);
+    let total = Mutex::new(7);
     set_elsewhere(&rt, &total, 1);
     add_one(&rt, &total);
     equal(&rt, total.into_inner(), 2);

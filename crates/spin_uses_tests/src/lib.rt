@@ -2,9 +2,9 @@
 #![tactic(auto)]
 
 #[cfg(test)]
-mod account;
-#[cfg(test)]
 mod barrier;
+#[cfg(test)]
+mod bounded;
 #[cfg(test)]
 mod cache;
 #[cfg(test)]
@@ -13,6 +13,8 @@ mod counter;
 mod equal;
 #[cfg(test)]
 mod examples;
+#[cfg(test)]
+mod guide;
 #[cfg(test)]
 mod ledger;
 #[cfg(test)]

@@ -1,0 +1,5 @@
+//! The programs of the guide that have no test: each is a whole `lib.rt`.
+pub mod calls;
+pub mod setting;
+pub mod table;
+pub mod version;

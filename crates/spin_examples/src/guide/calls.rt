@@ -1,0 +1,38 @@
+//! What two threads know of each other's calls of one lock.
+#![tactic(auto)]
+
+ghost use Rattle.std.specs.Prelude.{◌≡◌, ◌⊎◌};
+ghost use Rattle.spin.specs.Passes.{history, lock_of, name_of, HeldOnce};
+ghost use mathlib.Core.List.{IsPrefix};
+
+use spin::Spin;
+use spin::mutex::SpinMutex;
+use std::sync::Wait;
+use std::thread::{Threads, join};
+
+type Pass<'a> = spin::mutex::spin::Pass<'a, u64, Spin>;
+
+/// Adds one. The calls that this adds to the pass are a `lock` and its release.
+pub fn add<'a, W: Wait>(rt: &W, pass: Pass<'a>) -> Pass<'a>
+    ensures made { HeldOnce pass.entry result }
+    ensures lock { lock_of result ≡ lock_of pass.entry }
+{
+    let (mut guard, seen) = pass.lock(rt);
+    *guard = guard.saturating_add(1);
+    SpinMutex::unlock(guard, seen)
+}
+
+/// Adds from two threads. The history that one of them knows begins with all that the other one knows.
+pub fn add_both<'a, R: Threads + Wait + Sync>(
+    rt: &R,
+    lock: &'a SpinMutex<u64>,
+) -> (Pass<'a>, Pass<'a>)
+    ensures { IsPrefix (history result.0) (history result.1) ⊎ IsPrefix (history result.1) (history result.0) }
+{
+    let by_one = || -> Pass<'_>
+        ensures { lock_of result ≡ name_of lock.entry.now }
+    { add(rt, lock.pass()) };
+    let (one, other) = join(rt, &by_one, &by_one);
+    one.compare(&other);
+    (one, other)
+}

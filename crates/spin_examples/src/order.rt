@@ -1,0 +1,26 @@
+//! An order of one's own, for the values of a `Growing`.
+use spin::growing::Order;
+
+/// A version of a program, and its size.
+#[derive(Clone, Copy)]
+pub struct Build {
+    pub version: u64,
+    pub size: u64,
+}
+
+/// The order of builds: the version never falls.
+pub struct ByVersion;
+
+impl Order<Build> for ByVersion {
+    ghost use Rattle.std.specs.Prelude.{◌≤◌};
+    ghost use Rattle.std.proofs.Common.{le_refl, le_trans};
+    ghost use Rattle.std.proofs.Math.Bridge.{le_prop};
+
+    ghost le = { λ x y. x.version ≤ y.version };
+
+    ghost fact = { λ x y. le_prop };
+
+    ghost reflexive = { λ x. le_refl x.version };
+
+    ghost transitive = { λ x y z h k. le_trans h k };
+}
