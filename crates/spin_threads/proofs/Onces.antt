@@ -279,7 +279,7 @@ module _ (given : Option (Unit {0})) where
       let lies : s.after.state.value ≡ Some tt = subst (λ o. GivesAt (t given) Step o s.after.state.value) comes keeps.gives in
       keeps.phase ∙ ap is_some lies
 
-  gave_in : (c : OnceCall (Unit {0})) (before now : Option (Numbered View)) (old new : List Made) → Called given c (Value tt) before old now new → AsAnswered (t given) c now (foretold_till old new) (foretold new) (λ s. has_value s ≡ true)
+  gave_in : (c : OnceCall (Unit {0})) (before now : Option (Numbered View)) (old new : List Made) → Called given c (Value tt) before old now new → AsAnswered (t given) c (Value tt) now (foretold_till old new) (foretold new) (λ s. has_value s ≡ true)
   gave_in c before now old new made =
       let call = call_of (t given) (once_keeping given) (once_facts given) c (Value tt) before now (foretold_till old new) (foretold new) (called c (Value tt) before now old new made) in
       let it = call.answered in let p = call.party in let start = opening (t given) call.parties in
@@ -292,6 +292,7 @@ module _ (given : Option (Unit {0})) where
         behind = it.known;
         before = it.before;
         in_call = (it.point, call.held, subst (λ (z : Seen ℕ (Unit {0}) (OnceCall (Unit {0})) OncePoint). slice_get z.state.seats p ≡ Some (Calling c it.point call.held)) it.leads it.there);
+        answers = subst (λ (z : Seen ℕ (Unit {0}) (OnceCall (Unit {0})) OncePoint). (happens (t given) z.state p Step).outcome ≡ Answered (Value tt) None) it.leads it.comes;
         so = subst (λ (z : Seen ℕ (Unit {0}) (OnceCall (Unit {0})) OncePoint). is_complete z.plain.phase ≡ true)
             (ap (λ z. (event (t given) (once_keeping given) (once_facts given) z (p, Step)).after) it.leads ∙ sym (one_more (t given) (once_keeping given) (once_facts given) start it.past (p, Step)))
             (given_there it.seen p it.fine it.comes);

@@ -1,5 +1,5 @@
 -- A moment in the history of a lock on threads.
-use Rattle.std.specs.Prelude.{◌≡◌, ℕ, Option, Some, List, [], ◌∷◌, ◌++◌, slice_get}
+use Rattle.std.specs.Prelude.{◌≡◌, ℕ, Option, Some, None, List, [], ◌∷◌, ◌++◌, slice_get}
 use mathlib.Core.List.{IsPrefix}
 use Rattle.spin_step.specs.Plain.{Plain}
 use Rattle.spin_core.specs.Own.{Numbered}
@@ -9,8 +9,9 @@ use Rattle.spin_model.specs.declared.place.Hold.{Hold}
 use Rattle.spin_model.specs.declared.place.Seat.{Seat}
 use Rattle.spin_model.specs.declared.place.Seat.TheVariants.{Calling}
 use Rattle.spin_model.specs.declared.schedule.Move.TheVariants.{Step}
+use Rattle.spin_model.specs.declared.schedule.Outcome.TheVariants.{Answered}
 use Rattle.spin_model.specs.Machines.{Machine}
-use Rattle.spin_model.specs.Schedules.{Entry}
+use Rattle.spin_model.specs.Schedules.{Entry, happens}
 use Rattle.spin_world_core.specs.Runs.{opening}
 use Rattle.spin_world_core.specs.Users.{seen_after}
 
@@ -44,8 +45,8 @@ abbrev pub Found : {W V C L A : Type 0} → Machine W V C L A → Type 0 → C �
 Found {V = V} {C = C} m View call answer P =
     (before now : Option (Numbered View)) (old new : List (Entry C V)) → Made m before old now new (IsCall call answer) → AtAMoment m call now old new P
 
--- A party was answered its call, and then the lock was so. Before the call the party knew the history `old`; after it, it is of this view, and knows `new`
-pub record AsAnswered {W V C L A X : Type 0} (m : Machine W V C L A) (call : C) (view : Option (Numbered X)) (old new : List (Entry C V)) (P : Plain → Type 0) : Type 0 where
+-- A party was given this answer to its call, and then the lock was so. Before the call the party knew the history `old`; after it, it is of this view, and knows `new`
+pub record AsAnswered {W V C L A X : Type 0} (m : Machine W V C L A) (call : C) (answer : A) (view : Option (Numbered X)) (old new : List (Entry C V)) (P : Plain → Type 0) : Type 0 where
   pub party : ℕ
   pub is_number : IsNumber party view
   -- the history is that of a world of so many parties, in which no move of it is passed over
@@ -56,5 +57,6 @@ pub record AsAnswered {W V C L A X : Type 0} (m : Machine W V C L A) (call : C) 
   pub behind : IsPrefix old last
   pub before : IsPrefix (last ++ (party, Step) ∷ []) new
   pub in_call : IsInCall call (slice_get (seen_after m (opening m parties) last).state.seats party)
+  pub answers : (happens m (seen_after m (opening m parties) last).state party Step).outcome ≡ Answered answer None
   -- and behind that step the lock was so
   pub so : P (seen_after m (opening m parties) (last ++ (party, Step) ∷ [])).plain

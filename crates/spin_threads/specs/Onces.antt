@@ -34,4 +34,4 @@ has_value s = is_complete s.phase
 abbrev pub GaveOnce : Type 0
 GaveOnce =
     (call : OnceCall (Unit {0})) (given : Option (Unit {0})) (before now : Option (Numbered View)) (old new : List Made) → Called given call (Value tt) before old now new
-    → AsAnswered (once_machine given) call now (foretold_till old new) (foretold new) (λ s. has_value s ≡ true)
+    → AsAnswered (once_machine given) call (Value tt) now (foretold_till old new) (foretold new) (λ s. has_value s ≡ true)
