@@ -7,20 +7,18 @@ use spin::Mutex;
 use std::collections::VecDeque;
 use std::sync::Wait;
 
-const MAX_JOBS: usize = 2;
-
-/// The jobs that wait, the oldest first.
+/// The jobs that wait, at most two, the oldest first.
 #[derive(Drop)]
 pub struct Jobs {
     waiting: VecDeque<u64>,
-    ghost bounded: { length waiting.items ≤ MAX_JOBS },
+    ghost bounded: { length waiting.items ≤ 2 },
 }
 
 /// Adds a job. Returns `false` if the queue is full, or memory is refused.
 pub fn add<W: Wait>(rt: &W, jobs: &Mutex<Jobs>, job: u64) -> bool {
     let mut guard = jobs.lock(rt);
     let waiting = &mut guard.waiting;
-    waiting.len() < MAX_JOBS && waiting.push_back(job).is_ok()
+    waiting.len() < 2 && waiting.push_back(job).is_ok()
 }
 
 /// Takes out the oldest job, if there is one.
