@@ -1,5 +1,5 @@
-//! Schedules in rounds. Each meets the premises of a law of `spin_world_progress`, and reaches its bound, or comes as
-//! near to it as any schedule known. Begin with [`first_goal`].
+//! Schedules in rounds. Each meets the premises of a law of `spin_world_progress`, and reaches its bound. Begin with
+//! [`first_goal`].
 
 use crate::text::worlds::run;
 use spin_world::{
@@ -201,7 +201,8 @@ fn a_lock_alone_is_granted_in_the_third_round(rt: HostRuntime) {
     assert_eq!(&rt; first_goal(&rt, &mut world, 1, &past, &rounds, 0), 3);
 }
 
-/// Two tickets are taken in the rounds: the other's costs this one an exchange, and its own follows in the same round.
+/// Two tickets are taken in the rounds, so the bound is 4 and 2. The other's costs this one an exchange, and its own
+/// follows in the same round.
 #[test]
 fn a_lock_of_two_parties_is_granted_four_rounds_after_the_tickets(rt: HostRuntime) {
     let mut world = World::new(rt.alloc(), Ticket::new(5, 0), 2).expect(&rt, "memory");
@@ -316,6 +317,27 @@ fn a_read_beside_two_readers_is_granted_in_the_fourth_round(rt: HostRuntime) {
     assert_eq!(&rt; first_goal(&rt, &mut world, 3, &past, &rounds, 10), 4);
 }
 
+/// Before it leaves, the one that may upgrade downgrades.
+#[test]
+fn a_read_beside_one_that_may_upgrade_is_granted_in_the_fifth_round(rt: HostRuntime) {
+    let mut world = World::new(rt.alloc(), Rw::new(5, 1), 2).expect(&rt, "memory");
+    let past = [
+        (1, Move::Begin(RwCall::UpgradeableRead)),
+        (1, Move::Step),
+        (1, Move::Step),
+        (0, Move::Begin(RwCall::Read)),
+        (1, Move::Begin(RwCall::Downgrade)),
+    ];
+    let rounds: [&[(usize, Move<RwCall, u64>)]; 5] = [
+        &[(0, Move::Step), (1, Move::Step)],
+        &[(0, Move::Step), (1, Move::Begin(RwCall::Release))],
+        &[(0, Move::Step), (1, Move::Step)],
+        &[(0, Move::Step)],
+        &[(0, Move::Step)],
+    ];
+    assert_eq!(&rt; first_goal(&rt, &mut world, 2, &past, &rounds, 10), 5);
+}
+
 /// The one that may upgrade tries to, until the reader has gone, and then downgrades.
 #[test]
 fn a_write_beside_one_that_may_upgrade_is_granted_in_the_sixth_round(rt: HostRuntime) {
@@ -349,6 +371,47 @@ fn a_write_beside_one_that_may_upgrade_is_granted_in_the_sixth_round(rt: HostRun
         &[(0, Move::Step)],
     ];
     assert_eq!(&rt; first_goal(&rt, &mut world, 3, &past, &rounds, 10), 6);
+}
+
+#[test]
+fn one_that_asks_to_upgrade_is_granted_in_the_first_round(rt: HostRuntime) {
+    let mut world = World::new(rt.alloc(), Rw::new(5, 2), 2).expect(&rt, "memory");
+    let past = [
+        (1, Move::Begin(RwCall::UpgradeableRead)),
+        (1, Move::Step),
+        (1, Move::Step),
+        (0, Move::Begin(RwCall::Write)),
+        (1, Move::Begin(RwCall::Upgrade)),
+        (1, Move::Step),
+    ];
+    let rounds: [&[(usize, Move<RwCall, u64>)]; 1] = [&[(0, Move::Step), (1, Move::Step)]];
+    assert_eq!(&rt; first_goal(&rt, &mut world, 2, &past, &rounds, 10), 1);
+}
+
+#[test]
+fn one_that_asks_to_upgrade_beside_a_reader_is_granted_in_the_third_round(rt: HostRuntime) {
+    let mut world = World::new(rt.alloc(), Rw::new(5, 3), 3).expect(&rt, "memory");
+    let past = [
+        (2, Move::Begin(RwCall::Read)),
+        (2, Move::Step),
+        (2, Move::Step),
+        (1, Move::Begin(RwCall::UpgradeableRead)),
+        (1, Move::Step),
+        (1, Move::Step),
+        (0, Move::Begin(RwCall::Write)),
+        (1, Move::Begin(RwCall::Upgrade)),
+        (1, Move::Step),
+    ];
+    let rounds: [&[(usize, Move<RwCall, u64>)]; 3] = [
+        &[
+            (0, Move::Step),
+            (1, Move::Step),
+            (2, Move::Begin(RwCall::Release)),
+        ],
+        &[(0, Move::Step), (1, Move::Step), (2, Move::Step)],
+        &[(0, Move::Step), (1, Move::Step)],
+    ];
+    assert_eq!(&rt; first_goal(&rt, &mut world, 3, &past, &rounds, 10), 3);
 }
 
 /// The writer downgrades twice before it releases, and the reader that waits finds no room until then.

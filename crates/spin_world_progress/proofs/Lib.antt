@@ -3,6 +3,7 @@ pub mod Progress
 pub mod Endless
 pub mod Ticket
 pub mod Walk
+pub mod Loads
 pub mod Leaving
 pub mod Flag
 pub mod Rw

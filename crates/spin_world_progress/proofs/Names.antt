@@ -24,6 +24,6 @@ pub use Rattle.spin_step.specs.Parties.{no_entries}
 pub use Rattle.spin_world_core.proofs.Facts.{KnowsAt}
 pub use Rattle.std.specs.List.{list_any}
 pub use Rattle.spin_world_progress.specs.Rounds.{AreRounds, IsFair, IsRound, MovesOn, Test, grants, grants_any, is_awaited, is_step, occurs, refuses_weakly, stretch}
-pub use Rattle.spin_world_progress.specs.Rw.{GrantsSomebody, RwIsDeadlockFree, UpgradesAtLast, UpgradesInThree, refuses_any, rounds_left}
+pub use Rattle.spin_world_progress.specs.Rw.{GrantsSomebody, RwIsDeadlockFree, UpgradesAtLast, UpgradesInThree, refuses_any, leading, rounds_by, rounds_beside}
 pub use Rattle.spin_world_progress.specs.Starving.{MayStarve, ends_or_weak}
 pub use Rattle.spin_world_progress.specs.Ticket.{EntersInRounds, IsNeverStarved, LocksInRounds, MayBePassedOver}

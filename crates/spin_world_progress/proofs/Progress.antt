@@ -1,7 +1,8 @@
 -- What events leave: of a party that waits in a call, of one that has leaked, and of others.
-use Rattle.spin_world_progress.proofs.Names.{◌≡◌, ℕ, ◌==◌, ◌&&◌, ◌||◌, Bool, true, false, Option, Some, None, List, [], ◌∷◌, ◌++◌, slice_get, refl, ap, sym, ◌∙◌, arith, eqb-true, false≢true, may_read, and_parts, list_all, slice_get-map, Machine, State, goes_on, happens, owner_writes, resting, after, is_owners, yields_to_owner, seen_by_owner, Seen, Scene, scene, Hold, Seat, Idle, Calling, Holding, Leaked, Gone, Next, Continue, Answers, Move, Outcome, Test, occurs, is_awaited, MovesOn, get-set_other, seat_with, of_event}
+use Rattle.spin_world_progress.proofs.Names.{not, is_empty, goes_on, ◌⊎◌, inl, inr, ⊎_elim, subst, cases_eq, is_step, eqb_self, ◌≡◌, ℕ, ◌==◌, ◌&&◌, ◌||◌, Bool, true, false, Option, Some, None, List, [], ◌∷◌, ◌++◌, slice_get, refl, ap, sym, ◌∙◌, arith, eqb-true, false≢true, may_read, and_parts, list_all, slice_get-map, Machine, State, happens, owner_writes, resting, after, is_owners, yields_to_owner, seen_by_owner, Seen, Scene, scene, Hold, Seat, Idle, Calling, Holding, Leaked, Gone, Next, Continue, Answers, Move, Outcome, Test, occurs, is_awaited, MovesOn, get-set_other, seat_with, of_event}
 use Rattle.spin_world_core.proofs.Names.{true≢false, option_map}
 use Rattle.spin_world_core.proofs.Owners.{all-get}
+use Rattle.spin_step.specs.Parties.{Entries}
 use Rattle.spin_model.specs.declared.schedule.Outcome.TheVariants as outcome
 
 pub or_left : (a b : Bool) → a ≡ true → (a || b) ≡ true
@@ -26,6 +27,10 @@ is_busy (Some (Holding h)) = may_read h
 is_busy (Some (Leaked h)) = may_read h
 is_busy (Some (Gone h)) = may_read h
 is_busy _ = false
+
+-- a party holds something of the lock
+abbrev pub holds_lock : Entries → Bool
+holds_lock e = not (is_empty e.holders)
 
 -- what the owner's look makes of it
 seen_left : {C L : Type 0} (o : Option (Seat C L)) → has_left o ≡ true → has_left (option_map seen_by_owner o) ≡ true
@@ -143,3 +148,43 @@ module _ {W V C L A : Type 0} (m : Machine W V C L A) where
   moves_on s es d (Some (Gone h)) busy moves = absurd (true≢false (sym busy ∙ moves))
   moves_on s es d (Some Idle) busy moves = absurd (false≢true busy)
   moves_on s es d None busy moves = absurd (false≢true busy)
+
+  is_stepped : (s : State W V C L) (q : ℕ) (c : C) (h : Option Hold) (next : Next L A) → is_step (goes_on s q c h next).outcome ≡ true
+  is_stepped s q c h (Continue l) = refl
+  is_stepped s q c h (Answers a rest) = refl
+
+  -- a party in a call takes a step, or stays where it is
+  abbrev StepsOrStays : Seen W V C L → ℕ → Scene W V C L A → Type 0
+  StepsOrStays seen q sc = (is_step sc.outcome ≡ true) ⊎ ((slice_get sc.after.state.seats q ≡ slice_get seen.state.seats q) × (is_idle sc.outcome ≡ true))
+
+  steps_or_stays : (seen : Seen W V C L) (q : ℕ) (c : C) (l : L) (h : Option Hold) → slice_get seen.state.seats q ≡ Some (Calling c l h) → (move : Move C V) → StepsOrStays seen q (scene m seen q move)
+  steps_or_stays seen q c l h at =
+      of_event m seen q (StepsOrStays seen q)
+      (record {
+        passes = λ move o r there closed. inr (refl, refl);
+        begins = λ d i j there may. absurd (calls_not j c l h (sym there ∙ at));
+        steps = λ d i j there. inl (is_stepped _ q d j _);
+        refuses = λ d i j next there may. inl (is_stepped seen.state q d j next);
+        reads = λ b j there may. absurd (holds_not b j c l h (sym there ∙ at));
+        writes = λ v b j there may. absurd (holds_not b j c l h (sym there ∙ at));
+        leaks = λ j there. absurd (holds_not true j c l h (sym there ∙ at));
+        gets = λ y there may. absurd (no_owner seen q c l h at may);
+        sets = λ v y there may. absurd (no_owner seen q c l h at may);
+      })
+
+  -- so it takes one before it begins anything
+  pub step_first : (seen : Seen W V C L) (es : List (ℕ × Move C V)) (d : ℕ) (c : C) (l : L) (h : Option Hold) (held : Hold) → slice_get seen.state.seats d ≡ Some (Calling c l h)
+      → occurs m (awaited_of d (Some (Holding held))) seen.state es ≡ true → occurs m (awaited_of d (Some (Calling c l h))) seen.state es ≡ true
+  step_first seen [] d c l h held there found = found
+  step_first seen (e ∷ es) d c l h held there found =
+      let sc = scene m seen e.0 e.1 in
+      let later : slice_get sc.after.state.seats d ≡ Some (Calling c l h) → (e.0 ≡ d → is_idle sc.outcome ≡ true) → occurs m (awaited_of d (Some (Calling c l h))) seen.state (e ∷ es) ≡ true =
+      λ at idle. or_right _ _ (step_first sc.after es d c l h held at (or_rest _ _ found (unawaited d e.0 (Some (Holding held)) e.1 sc.outcome idle))) in
+      ⊎_elim
+      (λ (is : e.0 ≡ d).
+      ⊎_elim (λ (step : is_step sc.outcome ≡ true). let here : ((e.0 == d) && is_step sc.outcome) ≡ true = grind (arith, is, step, eqb_self d) in or_left _ _ here)
+      (λ (y : (slice_get sc.after.state.seats e.0 ≡ slice_get seen.state.seats e.0) × (is_idle sc.outcome ≡ true)).
+      later (subst (λ i. slice_get sc.after.state.seats i ≡ slice_get seen.state.seats i) is y.0 ∙ there) (λ e. y.1))
+      (steps_or_stays seen e.0 c l h (ap (slice_get seen.state.seats) is ∙ there) e.1))
+      (λ (ne : e.0 ≡ d → ⊥). later (same_beside seen e.0 d d c l h there e.1 ne ∙ there) (λ e. absurd (ne e)))
+      (cases_eq e.0 d)

@@ -1,13 +1,15 @@
--- A read-write lock is free of deadlock: each round takes a move from those who hold. A reader is due first; where there is none, one party holds alone, and what it goes for is granted.
-use Rattle.spin_world_progress.proofs.Names.{resting, ◌≡◌, ℕ, ◌+◌, ◌≤◌, ◌==◌, Bool, true, false, Option, Some, None, List, [], ◌∷◌, length, slice_get, refl, ap, sym, ◌∙◌, arith, Plain, Kind, reading, Holder, Change, releases, turns, is_holder, count_kind, weight, rw_word, apply_some, IsOpenStep, IsExclusive, ◌-◌, ◌⊎◌, ◌||◌, subst, inl, inr, ⊎_elim, nat_lt, min, if◌then◌else◌, lt-ltb, and_parts, sum_by-cons, same_kind, may_turn, sum_kinds, upgrader, all_kinds, by_kinds, sum-less, sum-turned, read, read_upgradable, reader_limit, is_waiting, Answer, Hold, Seat, Calling, Next, Continue, Answers, Move, Step, Weak, Mark, Machine, after, at_first, goes_on, get-set_same, Seen, Scene, scene_at, opening, seen_after, eqb_self, LocalInvariant, Facts, Invariant, calls, RwCall, Read, UpgradeableRead, RwPoint, rw_table, rw_machine, rw_notes, rw_keeping, rw_facts, Test, grants_any, refuses_any, rounds_left, GrantsSomebody, RwIsDeadlockFree}
-use Rattle.spin_world.proofs.RwNames.{Write, Exchange}
+-- A read-write lock is free of deadlock. The readers leave side by side, in two rounds; whoever does more than read stands alone then, and each round takes a move from it.
+use Rattle.spin_world_progress.proofs.Names.{good, cases_eq, scene, eqb-true, empty_is, ◌<◌, one_of, eq-eqb, row_tells, in_call, StandsFor, ne_eqb, entries-other, Holding, Upgrade, Asking, max, suc, not, resting, ◌≡◌, ℕ, ◌+◌, ◌≤◌, ◌==◌, Bool, true, false, Option, Some, None, List, [], ◌∷◌, length, slice_get, refl, ap, sym, ◌∙◌, arith, Plain, Kind, reading, upgradable, asking, writing, Holder, Change, releases, turns, count_kind, weight, rw_word, apply_some, IsOpenStep, IsExclusive, ◌-◌, ◌⊎◌, ◌||◌, ◌&&◌, subst, inl, inr, ⊎_elim, nat_lt, min, if◌then◌else◌, lt-ltb, sum_by-cons, same_kind, may_turn, upgrader, all_kinds, by_kinds, read, read_upgradable, reader_limit, is_waiting, Answer, Hold, Seat, Idle, Calling, Next, Continue, Answers, Move, Step, Weak, Mark, Machine, after, at_first, goes_on, get-set_same, Seen, Scene, scene_at, opening, seen_after, eqb_self, LocalInvariant, Facts, Invariant, calls, RwCall, Read, UpgradeableRead, RwPoint, rw_table, rw_machine, rw_notes, rw_keeping, rw_facts, Test, grants_any, refuses_any, leading, rounds_by, rounds_beside, GrantsSomebody, RwIsDeadlockFree, without_holder, with_kind, filter, list_any, list_all, entries, is_empty}
+use Rattle.spin_world.proofs.RwNames.{Write, Exchange, Release, Entries}
+use Rattle.spin_model.specs.declared.place.Hold.TheVariants as hold
 use Rattle.spin_step_more.specs.RwCalls.{asks_of}
 use Rattle.spin_step_more.specs.declared.rw_calls.RwPoint.TheVariants.{First}
-use Rattle.std.proofs.Common.{sum_by}
+use Rattle.std.proofs.Common.{sum_by, true≢false}
 use Rattle.spin_world_progress.proofs.Endless.{at_last}
-use Rattle.spin_world_progress.proofs.Rw.{any_of, any_own}
-use Rattle.spin_world_progress.proofs.Walk.{Wait}
-use Rattle.spin_world_progress.proofs.Walk as walk
+use Rattle.spin_world_progress.specs.Rounds.{is_release}
+use Rattle.spin_world_progress.proofs.Progress.{is_busy, holds_lock}
+use Rattle.spin_world_progress.proofs.Loads.{Wait}
+use Rattle.spin_world_progress.proofs.Loads as walk
 
 abbrev RwSeat : Type 0
 RwSeat = Seat RwCall RwPoint
@@ -18,18 +20,283 @@ at_come UpgradeableRead = Unit {0}
 at_come Write = Unit {0}
 at_come _ = ⊥
 
--- the first that reads, or else the first
-abbrev pick : Holder → List Holder → Holder
-pick d [] = d
-pick d (h ∷ hs) = if same_kind reading h.kind then h else pick d hs
+-- Who holds: one party, which may do more than read, and others, which read
 
--- who is due
-abbrev due_by : ℕ → List Holder → ℕ
-due_by p [] = p
-due_by p (h ∷ hs) = (pick h (h ∷ hs)).party
+abbrev its : ℕ → List Holder → List Holder
+its u hs = filter (λ h. h.party == u) hs
 
-abbrev left : List Holder → ℕ
-left hs = sum_kinds rounds_left hs
+abbrev kind_in : List Holder → Option Kind
+kind_in [] = None
+kind_in (h ∷ hs) = Some h.kind
+
+abbrev kind_of : ℕ → List Holder → Option Kind
+kind_of u hs = kind_in (its u hs)
+
+abbrev beside : ℕ → List Holder → Bool
+beside u hs = list_any (λ h. not (h.party == u)) hs
+
+abbrev reads : List Holder → Bool
+reads hs = list_any (λ h. same_kind reading h.kind) hs
+
+abbrev only_read : List Holder → Bool
+only_read hs = list_all (λ h. same_kind reading h.kind) hs
+
+beside_gone : (u q : ℕ) (k : Kind) (hs : List Holder) → beside u hs ≡ false → beside u (without_holder q k hs) ≡ false
+beside_gone u q k [] none = none
+beside_gone u q k (h ∷ hs) none = grind (arith, none, beside_gone u q k hs)
+
+beside_own : (u : ℕ) (k : Kind) (hs : List Holder) → beside u (without_holder u k hs) ≡ beside u hs
+beside_own u k [] = refl
+beside_own u k (h ∷ hs) = grind (arith, beside_own u k hs)
+
+beside_turned : (u q : ℕ) (j k : Kind) (hs : List Holder) → beside u (with_kind q j k hs) ≡ beside u hs
+beside_turned u q j k [] = refl
+beside_turned u q j k (h ∷ hs) = grind (arith, beside_turned u q j k hs)
+
+kind_turned : (u : ℕ) (j k : Kind) (hs : List Holder) → kind_of u hs ≡ Some j → kind_of u (with_kind u j k hs) ≡ Some k
+kind_turned u j k [] is = absurd (cc (is))
+kind_turned u j k (h ∷ hs) is = grind (arith, is, kind_turned u j k hs)
+
+-- all are its own where nobody stands beside it
+all_its : (u : ℕ) (hs : List Holder) → beside u hs ≡ false → its u hs ≡ hs
+all_its u [] none = refl
+all_its u (h ∷ hs) none = grind (arith, none, all_its u hs)
+
+-- whoever holds, and only reads, does read
+reads_some : (hs : List Holder) → is_empty hs ≡ false → only_read hs ≡ true → reads hs ≡ true
+reads_some [] some all = absurd (cc (some))
+reads_some (h ∷ hs) some all = grind (arith, all)
+
+-- who stands beside it
+witness : (u : ℕ) (hs : List Holder) → beside u hs ≡ true → (q : ℕ) × (q ≡ u → ⊥) × (is_empty (its q hs) ≡ false)
+witness u [] some = absurd (cc (some))
+witness u (h ∷ hs) some = by (h.party == u) refl (witness u hs)
+  where
+    by : (b : Bool) → (h.party == u) ≡ b → (beside u hs ≡ true → (q : ℕ) × (q ≡ u → ⊥) × (is_empty (its q hs) ≡ false)) → (q : ℕ) × (q ≡ u → ⊥) × (is_empty (its q (h ∷ hs)) ≡ false)
+    by true is rest = let w = rest (grind (arith, is, some)) in (w.0, w.1, grind (arith, w.2))
+    by false is rest = (h.party, λ e. absurd (grind (arith, is, e, eqb_self u)), rw (eqb_self h.party) refl)
+
+two_its : (u q : ℕ) (hs : List Holder) → (q ≡ u → ⊥) → length (its q hs) + length (its u hs) ≤ length hs
+two_its u q [] ne = omega arith
+two_its u q (h ∷ hs) ne = grind (arith, ne, two_its u q hs ne)
+
+read_on : (q r : ℕ) (k : Kind) (hs : List Holder) → only_read (its q hs) ≡ true → only_read (its q (without_holder r k hs)) ≡ true
+read_on q r k [] all = all
+read_on q r k (h ∷ hs) all = grind (arith, all, read_on q r k hs)
+
+kind_counts : (u : ℕ) (k : Kind) (hs : List Holder) → kind_of u hs ≡ Some k → 1 ≤ count_kind k hs
+kind_counts u k [] is = absurd (cc (is))
+kind_counts u k (h ∷ hs) is = grind (arith, is, kind_counts u k hs, sum_by-cons (λ (g : Holder). one_of k g.kind) h hs)
+
+writes_alone : (k : Kind) (hs : List Holder) → same_kind writing k ≡ true → 1 ≤ count_kind k hs → (0 < count_kind writing hs → length hs ≡ 1) → 2 ≤ length hs → ⊥
+writes_alone writing hs writes some alone many = omega (arith, alone (omega (arith, some)), many)
+writes_alone k hs writes some alone many = absurd (grind (arith, writes))
+
+some_holds : (q : ℕ) (hs : List Holder) → reads (its q hs) ≡ true → 1 ≤ length (its q hs)
+some_holds q hs reader = by (its q hs) reader
+  where
+    by : (xs : List Holder) → reads xs ≡ true → 1 ≤ length xs
+    by [] is = absurd (cc (is))
+    by (x ∷ xs) is = omega arith
+
+no_kind : (hs : List Holder) (k : Kind) → is_empty hs ≡ true → kind_in hs ≡ Some k → ⊥
+no_kind [] k none is = absurd (cc (is))
+no_kind (h ∷ hs) k none is = absurd (true≢false (sym none))
+
+kind_holds : (u : ℕ) (k : Kind) (hs : List Holder) → kind_of u hs ≡ Some k → 1 ≤ length (its u hs)
+kind_holds u k hs is = by (its u hs) is
+  where
+    by : (xs : List Holder) → kind_in xs ≡ Some k → 1 ≤ length xs
+    by [] is = absurd (cc (is))
+    by (x ∷ xs) is = omega arith
+
+none_word : (hs : List Holder) → kind_in hs ≡ None → sum_by (λ (h : Holder). weight h.kind) hs ≡ 0
+none_word [] none = refl
+none_word (h ∷ hs) none = absurd (cc (none))
+
+one_word : (k : Kind) (hs : List Holder) → length hs ≤ 1 → kind_in hs ≡ Some k → sum_by (λ (h : Holder). weight h.kind) hs ≡ weight k
+one_word k [] few is = absurd (cc (is))
+one_word k (h ∷ []) few is = grind (arith, is, sum_by-cons (λ (g : Holder). weight g.kind) h [])
+one_word k (h ∷ i ∷ hs) few is = absurd (omega (arith, few))
+
+-- At the start: who does more than read, or p, which holds nothing
+
+abbrev lead : ℕ → List Holder → ℕ
+lead p [] = p
+lead p (h ∷ hs) = if same_kind reading h.kind then lead p hs else h.party
+
+abbrev more : List Holder → ℕ
+more [] = 0
+more (h ∷ hs) = (if same_kind reading h.kind then 0 else 1) + more hs
+
+more_is : (hs : List Holder) → more hs + count_kind reading hs ≡ length hs
+more_is [] = omega arith
+more_is (h ∷ hs) = grind (arith, more_is hs, sum_by-cons (λ (g : Holder). one_of reading g.kind) h hs)
+
+one_leads : (s : Plain) → IsExclusive s → more s.holders ≤ 1
+one_leads s alone = grind (arith, alone.writer, alone.one_upgradable, more_is s.holders, all_kinds s.holders, by_kinds upgrader s.holders)
+
+all_read : (q : ℕ) (hs : List Holder) → more hs ≤ 0 → only_read (its q hs) ≡ true
+all_read q [] none = refl
+all_read q (h ∷ hs) none = grind (arith, none, all_read q hs)
+
+others_read : (p q : ℕ) (hs : List Holder) → more hs ≤ 1 → (q ≡ lead p hs → ⊥) → only_read (its q hs) ≡ true
+others_read p q [] one ne = refl
+others_read p q (h ∷ hs) one ne = grind (arith, one, ne, all_read q hs, others_read p q hs)
+
+lead_none : (p : ℕ) (hs : List Holder) → same_kind reading (leading hs) ≡ true → lead p hs ≡ p
+lead_none p [] none = refl
+lead_none p (h ∷ hs) none = grind (arith, none, lead_none p hs)
+
+its_fewer : (u : ℕ) (h : Holder) (hs : List Holder) → length (its u (h ∷ hs)) ≤ 1 → length (its u hs) ≤ 1
+its_fewer u h hs one = grind (arith, one)
+
+kind_later : (u : ℕ) (a : Kind) (h : Holder) (hs : List Holder) → length (its u (h ∷ hs)) ≤ 1 → kind_of u hs ≡ Some a → kind_of u (h ∷ hs) ≡ Some a
+kind_later u a h hs one is = grind (arith, one, is, kind_holds u a hs is)
+
+lead_kind : (p : ℕ) (hs : List Holder) → same_kind reading (leading hs) ≡ false → length (its (lead p hs) hs) ≤ 1 → kind_of (lead p hs) hs ≡ Some (leading hs)
+lead_kind p [] leads one = absurd (true≢false leads)
+lead_kind p (h ∷ hs) leads one = by (same_kind reading h.kind) refl (lead_kind p hs) leads one
+  where
+    by : (z : Bool) → same_kind reading h.kind ≡ z → (same_kind reading (leading hs) ≡ false → length (its (lead p hs) hs) ≤ 1 → kind_of (lead p hs) hs ≡ Some (leading hs))
+        → same_kind reading (if z then leading hs else h.kind) ≡ false → length (its (if z then lead p hs else h.party) (h ∷ hs)) ≤ 1 → kind_of (if z then lead p hs else h.party) (h ∷ hs) ≡ Some (if z then leading hs else h.kind)
+    by true is rest leads one = kind_later (lead p hs) (leading hs) h hs one (rest leads (its_fewer (lead p hs) h hs one))
+    by false is rest leads one = rw (eqb_self h.party) refl
+
+reads_in : (q : ℕ) (hs : List Holder) → reads (its q hs) ≡ true → reads hs ≡ true
+reads_in q [] is = is
+reads_in q (h ∷ hs) is = grind (arith, is, reads_in q hs)
+
+-- The loads
+
+abbrev same_kinds : Option Kind → Option Kind → Bool
+same_kinds None None = true
+same_kinds (Some j) (Some k) = same_kind j k
+same_kinds _ _ = false
+
+same_self : (k : Option Kind) → same_kinds k k ≡ true
+same_self k = grind arith
+
+same_is : (j k : Option Kind) → same_kinds j k ≡ true → j ≡ k
+same_is j k is = grind (arith, is)
+
+abbrev leaves : Option RwSeat → Bool
+leaves (Some (Calling Release l h)) = true
+leaves _ = false
+
+-- of readers beside that party, which leave side by side; what follows is what that one has left to do then
+abbrev base : Option Kind → ℕ
+base None = 2
+base (Some reading) = 3
+base (Some upgradable) = 4
+base (Some asking) = 1
+base (Some writing) = 4
+
+-- of that one alone, by whether the call is a `write`, whether there is room for two, and whether it leaves
+abbrev alone : Bool → Bool → Kind → Bool → ℕ
+alone w room reading out = if w then (if out then 2 else 3) else if room then 0 else (if out then 3 else 4)
+alone w room upgradable out = if out then 3 else if w || room then 4 else 5
+alone w room asking out = 1
+alone w room writing out = if out then 3 else 6
+
+abbrev its_load : Bool → Bool → Option Kind → Bool → ℕ
+its_load w room None out = 0
+its_load w room (Some k) out = alone w room k out
+
+abbrev is_asking : Option Kind → Bool
+is_asking (Some asking) = true
+is_asking _ = false
+
+-- by whether somebody stands beside it; whether it is that one, or reads; and whether it leaves
+abbrev theirs_of : Bool → Bool → Option Kind → Bool → Bool → Bool → Bool → ℕ
+theirs_of w room k b own reader out =
+    if own then (if b then (if is_asking k then 1 else 0) else its_load w room k out) else if reader then base k + (if out then 1 else 2) else 0
+
+abbrev theirs_by : Bool → Bool → ℕ → List Holder → ℕ → Option RwSeat → ℕ
+theirs_by w room u hs q his = theirs_of w room (kind_of u hs) (beside u hs) (q == u) (reads (its q hs)) (leaves his)
+
+abbrev is_write : RwCall → Bool
+is_write Write = true
+is_write c = false
+
+-- how many steps it makes where nobody holds, and where one reader leaves it room
+abbrev own_rank : RwCall → RwPoint → ℕ
+own_rank Write l = 1
+own_rank c (Exchange k) = if k == 0 then 1 else 2
+own_rank c l = 2
+
+abbrev reading_rank : RwPoint → ℕ
+reading_rank (Exchange k) = if k == weight reading then 2 else 3
+reading_rank l = 3
+
+abbrev mine_alone : RwCall → Bool → RwPoint → Option Kind → ℕ
+mine_alone c room l None = own_rank c l
+mine_alone c room l (Some reading) = if is_write c then 0 else if room then reading_rank l else 0
+mine_alone c room l (Some k) = 0
+
+abbrev mine_of : RwCall → Bool → RwPoint → Option Kind → Bool → ℕ
+mine_of c room l k b = if b then 0 else mine_alone c room l k
+
+abbrev mine_by : RwCall → Bool → ℕ → List Holder → RwPoint → ℕ
+mine_by c room u hs l = mine_of c room l (kind_of u hs) (beside u hs)
+
+-- where one begins a call, or to leave
+theirs_begun : (w room : Bool) (k : Option Kind) (b own reader out : Bool) → theirs_of w room k b own reader out ≤ theirs_of w room k b own reader false
+theirs_begun w room k b own reader out = grind arith
+
+theirs_leaving : (w room : Bool) (k : Option Kind) (b own reader : Bool) → (own ≡ true → is_asking k ≡ false) → theirs_of w room k b own reader true ≤ theirs_of w room k b own reader false - 1
+theirs_leaving w room k b own reader asks = grind (arith, asks)
+
+reader_some : (w room : Bool) (k : Option Kind) (b out : Bool) → 1 ≤ theirs_of w room k b false true out
+reader_some w room k b out = grind arith
+
+own_some : (c : RwCall) (l : RwPoint) → 1 ≤ own_rank c l
+own_some c l = grind arith
+
+alone_some : (c : RwCall) (room : Bool) (l : RwPoint) (a : Kind) (reader out : Bool) → mine_of c room l (Some a) false ≤ 0 → theirs_of (is_write c) room (Some a) false true reader out ≤ 0 → ⊥
+alone_some c room l a reader out mine theirs = grind (arith, mine, theirs)
+
+base_some : (k : Option Kind) → 1 ≤ base k
+base_some k = grind arith
+
+-- while a reader stands beside it
+reader_long : (w room : Bool) (k : Option Kind) (b out : Bool) (n : ℕ) → theirs_of w room k b false true out ≤ suc n → base k ≤ n
+reader_long w room k b out n few = grind (arith, few)
+
+-- at the start
+theirs_start : (w room : Bool) (a : Kind) (k : Option Kind) (b own reader out some : Bool) → (same_kind reading a ≡ true → k ≡ None) → (same_kind reading a ≡ false → k ≡ Some a) → (reader ≡ true → some ≡ true) → theirs_of w room k b own reader out ≤ rounds_by a some
+theirs_start w room reading k b own reader out some none leads reads = let is = none refl in grind (arith, is, reads)
+theirs_start w room a k b own reader out some none leads reads = let is = leads refl in grind (arith, is, reads)
+
+mine_start : (c : RwCall) (room : Bool) (l : RwPoint) (a : Kind) (k : Option Kind) (b some : Bool) → (same_kind reading a ≡ true → k ≡ None) → (same_kind reading a ≡ false → k ≡ Some a) → mine_of c room l k b ≤ rounds_by a some
+mine_start c room l reading k b some none leads = let is = none refl in grind (arith, is)
+mine_start c room l a k b some none leads = let is = leads refl in grind (arith, is)
+
+-- where a reader leaves
+theirs_gone : (w room : Bool) (k : Option Kind) (b later own reader out : Bool) (n : ℕ) → base k ≤ n → ((j : Kind) → k ≡ Some j → (room ≡ true) × (same_kind writing j ≡ false)) → (b ≡ false → later ≡ false)
+    → theirs_of w room k later own reader out ≤ max (theirs_of w room k b own reader out) n
+theirs_gone w room None b later own reader out n few two less = grind (arith, few, less)
+theirs_gone w room (Some j) b later own reader out n few two less = let is = two j refl in grind (arith, few, is.0, is.1, less)
+
+mine_gone : (c : RwCall) (room : Bool) (l : RwPoint) (k : Option Kind) (b later : Bool) (n : ℕ) → base k ≤ n → (b ≡ false → later ≡ false) → mine_of c room l k later ≤ max (mine_of c room l k b) n
+mine_gone c room l k b later n few less = grind (arith, few, less)
+
+-- where the other one leaves
+theirs_left : (w room : Bool) (k : Option Kind) (b reader out : Bool) (n : ℕ) → is_asking k ≡ false → theirs_of w room None b false reader out ≤ max (theirs_of w room k b false reader out) n
+theirs_left w room k b reader out n asks = grind (arith, asks)
+
+mine_left : (c : RwCall) (room : Bool) (l : RwPoint) (k : Kind) (b reader : Bool) (n : ℕ) → theirs_of (is_write c) room (Some k) b true reader true ≤ suc n → at_come c → is_asking (Some k) ≡ false → mine_of c room l None b ≤ max (mine_of c room l (Some k) b) n
+mine_left c room l k b reader n few comes asks = grind (arith, few, comes, asks)
+
+-- where it goes on with less
+its_turned : (w room : Bool) (j k : Kind) (b reader : Bool) (n : ℕ) → may_turn j k ≡ true → theirs_of w room (Some j) b true reader false ≤ suc n → (b ≡ true → 1 ≤ n) → theirs_of w room (Some k) b true reader false ≤ n
+its_turned w room j k b reader n may few beside = grind (arith, may, few, beside)
+
+theirs_turned : (w room : Bool) (j k : Kind) (b reader out : Bool) (n : ℕ) → may_turn j k ≡ true → theirs_of w room (Some k) b false reader out ≤ max (theirs_of w room (Some j) b false reader out) n
+theirs_turned w room j k b reader out n may = grind (arith, may)
+
+mine_turned : (c : RwCall) (room : Bool) (l : RwPoint) (j k : Kind) (b reader : Bool) (n : ℕ) → may_turn j k ≡ true → theirs_of (is_write c) room (Some j) b true reader false ≤ suc n → mine_of c room l (Some k) b ≤ max (mine_of c room l (Some j) b) n
+mine_turned c room l j k b reader n may few = grind (arith, may, few)
 
 -- what its step function answers
 abbrev lets : ℕ → RwCall → ℕ → Option ℕ
@@ -37,57 +304,20 @@ lets cap Read w = read cap w
 lets cap UpgradeableRead w = read_upgradable cap w
 lets cap c w = None
 
--- one less where the one that is due is in a call
-abbrev in_call : Option RwSeat → ℕ
-in_call (Some (Calling c l h)) = 1
-in_call _ = 0
+-- which kind a step takes away
+abbrev from : Option Change → Option Kind
+from (Some (releases q k)) = Some k
+from (Some (turns q j k)) = Some j
+from _ = None
 
--- how many steps it makes where nobody holds
-abbrev own_rank : RwCall → RwPoint → ℕ
-own_rank Write l = 1
-own_rank c (Exchange k) = if k == 0 then 1 else 2
-own_rank c l = 2
+-- a holder leaves, or goes on with less
+abbrev is_out : Option Change → Bool
+is_out (Some (releases q k)) = true
+is_out _ = false
 
-abbrev rank_by : List Holder → RwCall → RwPoint → Option RwSeat → ℕ
-rank_by [] c l his = own_rank c l
-rank_by (h ∷ hs) c l his = 2 + left (h ∷ hs) - in_call his
-
--- whoever leaves or turns takes two moves or more
-abbrev is_less : Option Change → Bool
-is_less (Some (releases q k)) = true
-is_less (Some (turns q j k)) = true
-is_less _ = false
-
-less_left : (s : Plain) (q : ℕ) (step : Option Change) → IsOpenStep s q step → is_less step ≡ true → left (apply_some s step).holders + 2 ≤ left s.holders
-less_left s q (Some (releases r k)) opens is = grind (arith, sum-less rounds_left r k s.holders opens.1)
-less_left s q (Some (turns r j k)) opens is =
-    let may = and_parts (is_holder r j s.holders) (may_turn j k) opens.1 in
-    grind (arith, sum-turned rounds_left r j k s.holders may.0, may.1)
-less_left s q step opens is = absurd (grind (arith, is))
-
-picked : (d : Holder) (hs : List Holder) → ((is_holder (pick d hs).party (pick d hs).kind hs ≡ true) × (same_kind reading (pick d hs).kind ≡ true)) ⊎ ((count_kind reading hs ≡ 0) × (pick d hs ≡ d))
-picked d [] = inr (refl, refl)
-picked d (h ∷ hs) = grind (arith, picked d hs, eqb_self h.party)
-
-holds_picked : (h : Holder) (hs : List Holder) → let j = pick h (h ∷ hs) in is_holder j.party j.kind (h ∷ hs) ≡ true
-holds_picked h hs = grind (arith, picked h (h ∷ hs), eqb_self h.party)
-
-alone_is : (h : Holder) (hs : List Holder) → length (h ∷ hs) ≤ 1 → h ∷ hs ≡ h ∷ []
-alone_is h [] one = refl
-alone_is h (i ∷ hs) one = absurd (omega (arith, one))
-
-rank_begun : (hs : List Holder) (i : Holder) (rest : List Holder) (c d : RwCall) (l e : RwPoint) (j : Option Hold) → hs ≡ i ∷ rest → rank_by hs c l (Some (Calling d e j)) ≤ rank_by hs c l (Some (resting j)) - 1
-rank_begun hs i rest c d l e j some = grind (arith, some)
-
-rank_fits : (hs : List Holder) (c : RwCall) (l : RwPoint) (his : Option RwSeat) → (1 ≤ rank_by hs c l his) × (rank_by hs c l his ≤ 2 + left hs)
-rank_fits hs c l his = grind arith
-
-rank_less : (hs later : List Holder) (i : Holder) (rest : List Holder) (c : RwCall) (l : RwPoint) (his others : Option RwSeat) → hs ≡ i ∷ rest → left later + 2 ≤ left hs → rank_by later c l his ≤ rank_by hs c l others - 1
-rank_less hs later i rest c l his others some less = grind (arith, some, less, (rank_fits later c l his).1)
-
--- and then one holds alone
-one_alone : (s : Plain) → IsExclusive s → count_kind reading s.holders ≡ 0 → length s.holders ≤ 1
-one_alone s alone none = grind (arith, alone.writer, alone.one_upgradable, none, all_kinds s.holders, by_kinds upgrader s.holders)
+abbrev is_turn : Option Change → Bool
+is_turn (Some (turns q j k)) = may_turn j k
+is_turn _ = false
 
 module _ {V : Type 0} (v : V) (cap : ℕ) (some : 1 ≤ cap) where
   abbrev m : Machine ℕ V RwCall RwPoint (Answer V)
@@ -102,6 +332,9 @@ module _ {V : Type 0} (v : V) (cap : ℕ) (some : 1 ≤ cap) where
   abbrev World : Type 0
   World = Seen ℕ V RwCall RwPoint
 
+  abbrev room : Bool
+  room = nat_lt 1 cap
+
   abbrev goal : Test V RwCall RwPoint (Answer V)
   goal q move o x = grants_any m q move o x || refuses_any q move o x
 
@@ -111,127 +344,349 @@ module _ {V : Type 0} (v : V) (cap : ℕ) (some : 1 ≤ cap) where
   abbrev Grants : World → ℕ → RwCall → RwPoint → Option Hold → Type 0
   Grants seen q c l h = let y = sc seen q c l h in goal q Step y.outcome (slice_get y.after.state.seats q) ≡ true
 
-  -- a step that is no grant changes nobody's hold, or makes it less
-  no_grant : (seen : World) (q : ℕ) (c : RwCall) (l : RwPoint) (h : Option Hold) → Grants seen q c l h ⊎ (((sc seen q c l h).change ≡ None) ⊎ (is_less (sc seen q c l h).change ≡ true))
-  no_grant seen q c l h = grind arith
-
   weak : (seen : World) (q : ℕ) (c : RwCall) (h : Option Hold) (next : Next RwPoint (Answer V)) → let n = goes_on seen.state q c h next in goal q Weak n.outcome (slice_get n.next.seats q) ≡ true
   weak seen q c h (Continue l) = refl
   weak seen q c h (Answers a rest) = grind arith
 
-  room : nat_lt 0 (min cap reader_limit) ≡ true
-  room = lt-ltb 0 (min cap reader_limit) (omega (arith, some))
+  abbrev Sits : (Entries → Bool) → ℕ → Option RwSeat → Type 0
+  Sits = walk.SitsSo (rw_table v cap) (rw_notes v cap)
 
-  module _ (p : ℕ) (c : RwCall) (comes : at_come c) where
+  -- a party that holds nothing, or reads, as said
+  abbrev reads_so : Bool → Entries → Bool
+  reads_so reader e = only_read e.holders && (if reader then reads e.holders else not (reads e.holders))
+
+  -- a reader's step is a release, and a newcomer's that is no grant leaves the holders
+  others_step : (seen : World) (q : ℕ) (c : RwCall) (l : RwPoint) (h : Option Hold) (reader : Bool) → slice_get seen.state.seats q ≡ Some (Calling c l h) → Sits (reads_so reader) q (Some (Calling c l h)) → let y = sc seen q c l h in
+      Grants seen q c l h ⊎ (((y.change ≡ None) × (reader ≡ false)) ⊎ ((y.change ≡ Some (releases q reading)) × (reader ≡ true) × (leaves (Some (Calling c l h)) ≡ true) × (slice_get y.after.state.seats q ≡ Some Idle)))
+  others_step seen q c l h reader there so = grind (arith, so, get-set_same seen.state.seats q Idle _ there)
+
+  -- the step of the other one, which holds so
+  its_step : (seen : World) (u : ℕ) (c : RwCall) (l : RwPoint) (h : Option Hold) (kind : Option Kind) → slice_get seen.state.seats u ≡ Some (Calling c l h) → Sits (λ e. same_kinds kind (kind_in e.holders)) u (Some (Calling c l h)) → let y = sc seen u c l h in
+      Grants seen u c l h ⊎ ((y.change ≡ None) ⊎ ((same_kinds kind (from y.change) ≡ true) × ((is_out y.change ≡ true) × (is_asking kind ≡ false) × (leaves (Some (Calling c l h)) ≡ true) × (slice_get y.after.state.seats u ≡ Some Idle) ⊎ (is_turn y.change ≡ true) × (leaves (Some (Calling c l h)) ≡ false) × (leaves (slice_get y.after.state.seats u) ≡ false))))
+  its_step seen u c l h kind there so =
+      grind (
+        arith,
+        so,
+        get-set_same seen.state.seats u Idle _ there,
+        get-set_same seen.state.seats u (Holding hold.Read) _ there,
+        get-set_same seen.state.seats u (Holding hold.Upgradable) _ there,
+        get-set_same seen.state.seats u (Calling Upgrade Asking (Some hold.Upgradable)) _ there,
+      )
+
+  -- alone it makes a plain step, or is granted
+  its_step_alone : (seen : World) (u : ℕ) (c : RwCall) (l : RwPoint) (h : Option Hold) (kind : Kind) → seen.state.words ≡ weight kind → Sits (λ e. same_kinds (Some kind) (kind_in e.holders)) u (Some (Calling c l h)) → (sc seen u c l h).change ≡ None → Grants seen u c l h
+  its_step_alone seen u c l h kind word so none = grind (arith, word, so, none)
+
+  none_two : (q : ℕ) (o : Option RwSeat) → Sits (λ e. nat_lt 1 (length e.holders)) q o → ⊥
+  none_two q o so = grind (arith, so)
+
+  module _ (p u : ℕ) (c : RwCall) (comes : at_come c) where
+    abbrev Known : World → Type 0
+    Known seen = (q : ℕ) → (q ≡ u → ⊥) → only_read (its q seen.plain.holders) ≡ true
+
     abbrev x : Wait ℕ V RwCall RwPoint (Answer V)
-    x = record { goal = goal; party = p; call = c; hold = None; At = λ l. Unit {0}; Known = λ seen. Unit {0}; Fine = λ seen. Unit {0}; due = λ s l. due_by p s.holders; rank = λ s. rank_by s.holders c }
+    x = record { goal = goal; party = p; call = c; hold = None; At = λ l. Unit {0}; Known = Known; Fine = λ seen. Unit {0}; mine = λ s. mine_by c room u s.holders; theirs = λ s l. theirs_by (is_write c) room u s.holders }
 
     module _ (seen : World) (good : Invariant m k seen) where
       abbrev s : Plain
       s = seen.plain
 
-      abbrev Sits : Kind → ℕ → Option RwSeat → Type 0
-      Sits kind d o = walk.SitsSo (rw_table v cap) (rw_notes v cap) (any_of kind) d o
+      abbrev kind : Option Kind
+      kind = kind_of u s.holders
 
-      word_is : (i : Holder) → s.holders ≡ i ∷ [] → seen.state.words ≡ weight i.kind
-      word_is i one = let word : seen.state.words ≡ rw_word s = cc (good.encodes) in word ∙ (ap (λ hs. sum_by (λ (h : Holder). weight h.kind) hs) one ∙ omega (arith, sum_by-cons (λ (h : Holder). weight h.kind) i []))
+      abbrev b : Bool
+      b = beside u s.holders
 
-      module _ (l : RwPoint) where
-        abbrev d : ℕ
-        d = walk.due m k f x seen l
+      sits : (test : Entries → Bool) (q : ℕ) → test (entries q s) ≡ true → walk.SitsSo (rw_table v cap) (rw_notes v cap) test q (slice_get seen.state.seats q)
+      sits test q is = walk.sits_so (rw_table v cap) (rw_notes v cap) test seen good q is
 
-        -- where another party is due, somebody holds, and that party does
-        some_holder : (d ≡ p → ⊥) → (i : Holder) × (hs : List Holder) × (s.holders ≡ i ∷ hs)
-        some_holder ne = by s.holders refl
-          where
-            by : (hs : List Holder) → s.holders ≡ hs → (i : Holder) × (rest : List Holder) × (s.holders ≡ i ∷ rest)
-            by [] is = absurd (ne (ap (due_by p) is))
-            by (i ∷ hs) is = (i, hs, is)
+      -- alone it has the word to itself
+      one : length (its u s.holders) ≤ 1
+      one = by (nat_lt 1 (length (its u s.holders))) refl
+        where
+          by : (z : Bool) → nat_lt 1 (length (its u s.holders)) ≡ z → length (its u s.holders) ≤ 1
+          by true is = absurd (none_two u _ (sits (λ e. nat_lt 1 (length e.holders)) u is))
+          by false is = grind (arith, is)
 
-        abbrev kind_of : Holder → List Holder → Kind
-        kind_of i hs = (pick i (i ∷ hs)).kind
+      word_is : b ≡ false → seen.state.words ≡ sum_by (λ (h : Holder). weight h.kind) (its u s.holders)
+      word_is none = let word : seen.state.words ≡ rw_word s = cc (good.encodes) in word ∙ ap (λ hs. sum_by (λ (h : Holder). weight h.kind) hs) (sym (all_its u s.holders none))
 
-        his_sits : (i : Holder) (hs : List Holder) → s.holders ≡ i ∷ hs → Sits (kind_of i hs) d (walk.his m k f x seen l)
-        his_sits i hs is =
-            walk.sits_so (rw_table v cap) (rw_notes v cap) (any_of (kind_of i hs)) seen good d (any_own (kind_of i hs) d s.holders ∙ subst (λ xs. is_holder (due_by p xs) (kind_of i hs) xs ≡ true) (sym is) (holds_picked i hs))
+      -- the one that waits holds nothing, so somebody else reads beside it
+      nothing_mine : (l : RwPoint) → slice_get seen.state.seats p ≡ Some (Calling c l None) → is_empty (its p s.holders) ≡ true
+      nothing_mine l mine_at = row_tells (rw_table v cap) (rw_notes v cap) c l None p s (seen.span p) (λ e. is_empty e.holders) _ (in_call m k seen p c l None good mine_at).knows (grind (arith, comes))
 
-        -- it reads, or holds alone
-        his_word : (i : Holder) (hs : List Holder) → s.holders ≡ i ∷ hs → (same_kind reading (kind_of i hs) ≡ true) ⊎ (seen.state.words ≡ weight (kind_of i hs))
-        his_word i hs is =
-            ⊎_elim (λ (y : (is_holder (pick i (i ∷ hs)).party (kind_of i hs) (i ∷ hs) ≡ true) × (same_kind reading (kind_of i hs) ≡ true)). inl y.1)
-            (λ (none : (count_kind reading (i ∷ hs) ≡ 0) × (pick i (i ∷ hs) ≡ i)).
-            inr (word_is i (is ∙ alone_is i hs (subst (λ xs. length xs ≤ 1) is (one_alone s good.exclusive (ap (count_kind reading) is ∙ none.0)))) ∙ ap (λ (j : Holder). weight j.kind) (sym none.1)))
-            (picked i (i ∷ hs))
+      reader_beside : {l : RwPoint} → Known seen → slice_get seen.state.seats p ≡ Some (Calling c l None) → b ≡ true → (q : ℕ) × (q ≡ u → ⊥) × (q ≡ p → ⊥) × (reads (its q s.holders) ≡ true)
+      reader_beside {l} known mine_at some =
+          let z = witness u s.holders some in
+          (z.0, z.1, λ e. true≢false (sym (ap (λ i. is_empty (its i s.holders)) e ∙ nothing_mine l mine_at) ∙ z.2), reads_some (its z.0 s.holders) z.2 (known z.0 z.1))
 
-        -- its own step: where it goes on, as the step function lets it in or does not
+      -- a step of a reader, or of a newcomer
+
+      module _ (l : RwPoint) (n : ℕ) (within : walk.Within m k f x seen l (suc n)) (known : Known seen) (q : ℕ) (d : RwCall) (i : RwPoint) (j : Option Hold) (ne : q ≡ p → ⊥) (at : slice_get seen.state.seats q ≡ Some (Calling d i j)) (made : walk.After m k f x seen q (sc seen q d i j)) (mine_at : slice_get seen.state.seats p ≡ Some (Calling c l None)) where
+        abbrev y : Scene ℕ V RwCall RwPoint (Answer V)
+        y = sc seen q d i j
+
+        -- its load before the step
+        before : theirs_by (is_write c) room u s.holders q (Some (Calling d i j)) ≤ suc n
+        before = subst (λ o. theirs_by (is_write c) room u s.holders q o ≤ suc n) at (within.theirs q ne)
+
+        -- a step that leaves the plain lock leaves all others' loads
+        unchanged : y.change ≡ None → theirs_by (is_write c) room u s.holders q (slice_get y.after.state.seats q) ≤ n → walk.Falls m k f x seen l q y n
+        unchanged none his =
+            let same : y.after.plain ≡ s = ap (apply_some s) none in
+            record {
+              his = subst (λ (z : Plain). theirs_by (is_write c) room u z.holders q (slice_get y.after.state.seats q) ≤ n) (sym same) his;
+              mine = subst (λ (z : Plain). mine_by c room u z.holders l ≤ max (mine_by c room u s.holders l) n) (sym same) (omega arith);
+              others = λ o other not_his. subst (λ (z : Plain). theirs_by (is_write c) room u z.holders o (slice_get seen.state.seats o) ≤ max (theirs_by (is_write c) room u s.holders o (slice_get seen.state.seats o)) n) (sym same) (omega arith);
+            }
+
+        its_same : (o : ℕ) → (q ≡ o → ⊥) → its o y.after.plain.holders ≡ its o s.holders
+        its_same o not_his = ap (λ (e : Entries). e.holders) (entries-other s q o y.change not_his made.opens)
+
+        module _ (other : q ≡ u → ⊥) where
+          reader_gone : y.change ≡ Some (releases q reading) → reads (its q s.holders) ≡ true → leaves (Some (Calling d i j)) ≡ true → slice_get y.after.state.seats q ≡ Some Idle → walk.Falls m k f x seen l q y n
+          reader_gone gone reader out idle =
+              let after : y.after.plain.holders ≡ without_holder q reading s.holders = ap (λ c. (apply_some s c).holders) gone in
+              let none : its q y.after.plain.holders ≡ [] = ap (λ (e : Entries). e.holders) (subst (StandsFor y.after.plain q (y.after.span q)) idle (made.good.parties q).stands) in
+              let few : base kind ≤ n = grind (arith, before, ne_eqb q u (λ e. absurd (other e)), reader, out) in
+              let less : b ≡ false → beside u y.after.plain.holders ≡ false = λ none. ap (beside u) after ∙ beside_gone u q reading s.holders none in
+              let same : kind_of u y.after.plain.holders ≡ kind = ap kind_in (its_same u other) in
+              record {
+                his = rw (ne_eqb q u (λ e. absurd (other e)), ap reads none) (omega arith);
+                mine = rw same (mine_gone c room l kind b (beside u y.after.plain.holders) n few less);
+                others = λ o not_its not_his. rw (same, its_same o not_his) (theirs_gone (is_write c) room kind b (beside u y.after.plain.holders) (o == u) (reads (its o s.holders)) (leaves (slice_get seen.state.seats o)) n few two less);
+              }
+            where
+              two : (a : Kind) → kind ≡ Some a → (room ≡ true) × (same_kind writing a ≡ false)
+              two a is =
+                  let many : 2 ≤ length s.holders = omega (arith, two_its u q s.holders other, some_holds q s.holders reader, kind_holds u a s.holders is) in
+                  (lt-ltb 1 cap (omega (arith, many, good.shape.few, good.shape.room)), by (same_kind writing a) refl many)
+                where
+                  by : (b : Bool) → same_kind writing a ≡ b → 2 ≤ length s.holders → same_kind writing a ≡ false
+                  by false not_so many = not_so
+                  by true writes many = absurd (writes_alone a s.holders writes (kind_counts u a s.holders is) good.exclusive.writer many)
+
+          reader_steps : walk.Reaches m k f x y ⊎ walk.Falls m k f x seen l q y n
+          reader_steps =
+              let reader = reads (its q s.holders) in
+              ⊎_elim inl
+              (λ (z : ((y.change ≡ None) × (reader ≡ false)) ⊎ ((y.change ≡ Some (releases q reading)) × (reader ≡ true) × (leaves (Some (Calling d i j)) ≡ true) × (slice_get y.after.state.seats q ≡ Some Idle))).
+              inr (⊎_elim (λ (stays : (y.change ≡ None) × (reader ≡ false)). unchanged stays.0 (rw (ne_eqb q u (λ e. absurd (other e)), stays.1) (omega arith)))
+              (λ (gone : (y.change ≡ Some (releases q reading)) × (reader ≡ true) × (leaves (Some (Calling d i j)) ≡ true) × (slice_get y.after.state.seats q ≡ Some Idle)). reader_gone gone.0 gone.1 gone.2 gone.3) z))
+              (others_step seen q d i j reader at (subst (Sits (reads_so reader) q) at (sits (reads_so reader) q (grind (arith, known q other)))))
+
+        module _ (is : q ≡ u) where
+          -- whoever stands beside it has a load
+          beside_long : b ≡ true → base kind ≤ n
+          beside_long some =
+              let z = reader_beside known mine_at some in
+              reader_long (is_write c) room kind b (leaves (slice_get seen.state.seats z.0)) n
+              (subst (λ r. theirs_of (is_write c) room kind b false r (leaves (slice_get seen.state.seats z.0)) ≤ suc n) z.3 (subst (λ o. theirs_of (is_write c) room kind b o (reads (its z.0 s.holders)) (leaves (slice_get seen.state.seats z.0)) ≤ suc n) (ne_eqb z.0 u (λ e. absurd (z.1 e))) (within.theirs z.0 z.2)))
+
+          own_before : theirs_of (is_write c) room kind b true (reads (its q s.holders)) (leaves (Some (Calling d i j))) ≤ suc n
+          own_before = subst (λ z. theirs_of (is_write c) room kind b z (reads (its q s.holders)) (leaves (Some (Calling d i j))) ≤ suc n) (eq-eqb q u is) before
+
+          so : Sits (λ e. same_kinds kind (kind_in e.holders)) q (Some (Calling d i j))
+          so = subst (Sits (λ e. same_kinds kind (kind_in e.holders)) q) at (sits (λ e. same_kinds kind (kind_in e.holders)) q (subst (λ z. same_kinds kind (kind_of z s.holders) ≡ true) (sym is) (same_self kind)))
+
+          its_idles : y.change ≡ None → (ko : Option Kind) → kind ≡ ko → (z : Bool) → b ≡ z → walk.Reaches m k f x y ⊎ walk.Falls m k f x seen l q y n
+          its_idles none None kind_is z b_is = inr (unchanged none (rw (eq-eqb q u is, kind_is) (grind arith)))
+          its_idles none (Some k0) kind_is false b_is = inl (its_step_alone seen q d i j k0 (word_is b_is ∙ one_word k0 (its u s.holders) one kind_is) (subst (λ o. Sits (λ e. same_kinds o (kind_in e.holders)) q (Some (Calling d i j))) kind_is so) none)
+          its_idles none (Some k0) kind_is true b_is = inr (unchanged none (rw (eq-eqb q u is, b_is) (grind (arith, kind_is, beside_long b_is))))
+
+          out_falls : (ch : Option Change) → y.change ≡ ch → same_kinds kind (from ch) ≡ true → is_out ch ≡ true → is_asking kind ≡ false → leaves (Some (Calling d i j)) ≡ true → slice_get y.after.state.seats q ≡ Some Idle → walk.Falls m k f x seen l q y n
+          out_falls (Some (releases r k0)) ch kind_is out asks leaving idle =
+              let after : y.after.plain.holders ≡ without_holder r k0 s.holders = ap (λ c. (apply_some s c).holders) ch in
+              let his : r ≡ u = (subst (IsOpenStep s q) ch made.opens).0 ∙ is in
+              let none : its u y.after.plain.holders ≡ [] = ap (λ i. its i y.after.plain.holders) (sym is) ∙ ap (λ (e : Entries). e.holders) (subst (StandsFor y.after.plain q (y.after.span q)) idle (made.good.parties q).stands) in
+              let still : beside u y.after.plain.holders ≡ b = ap (beside u) after ∙ (ap (λ i. beside u (without_holder i k0 s.holders)) his ∙ beside_own u k0 s.holders) in
+              let was : kind ≡ Some k0 = same_is kind (Some k0) kind_is in
+              record {
+                his = rw (eq-eqb q u is, ap kind_in none) (grind arith);
+                mine = rw (ap kind_in none, still, was) (mine_left c room l k0 b (reads (its q s.holders)) n (subst (λ o. theirs_of (is_write c) room o b true (reads (its q s.holders)) true ≤ suc n) was (subst (λ z. theirs_of (is_write c) room kind b true (reads (its q s.holders)) z ≤ suc n) leaving own_before)) comes (ap is_asking (sym was) ∙ asks));
+                others = λ o not_its not_his. rw (ap kind_in none, still, its_same o not_his, ne_eqb o u (λ e. absurd (not_his (is ∙ sym e)))) (theirs_left (is_write c) room kind b (reads (its o s.holders)) (leaves (slice_get seen.state.seats o)) n asks);
+              }
+          out_falls ch is_ch kind_is out asks leaving idle = absurd (grind (arith, out))
+
+          turn_falls : (ch : Option Change) → y.change ≡ ch → same_kinds kind (from ch) ≡ true → is_turn ch ≡ true → leaves (Some (Calling d i j)) ≡ false → leaves (slice_get y.after.state.seats q) ≡ false → walk.Falls m k f x seen l q y n
+          turn_falls (Some (turns r j0 k0)) ch kind_is may before_out after_out =
+              let after : y.after.plain.holders ≡ with_kind r j0 k0 s.holders = ap (λ c. (apply_some s c).holders) ch in
+              let his : r ≡ u = (subst (IsOpenStep s q) ch made.opens).0 ∙ is in
+              let was : kind ≡ Some j0 = same_is kind (Some j0) kind_is in
+              let now : kind_of u y.after.plain.holders ≡ Some k0 = ap (kind_of u) after ∙ (ap (λ i. kind_of u (with_kind i j0 k0 s.holders)) his ∙ kind_turned u j0 k0 s.holders was) in
+              let still : beside u y.after.plain.holders ≡ b = ap (beside u) after ∙ beside_turned u r j0 k0 s.holders in
+              let own_was : theirs_of (is_write c) room (Some j0) b true (reads (its q s.holders)) false ≤ suc n = subst (λ o. theirs_of (is_write c) room o b true (reads (its q s.holders)) false ≤ suc n) was (subst (λ z. theirs_of (is_write c) room kind b true (reads (its q s.holders)) z ≤ suc n) before_out own_before) in
+              record {
+                his = rw (eq-eqb q u is, now, still, after_out) (its_turned (is_write c) room j0 k0 b (reads (its q y.after.plain.holders)) n may own_was (λ some. omega (arith, beside_long some, base_some kind)));
+                mine = rw (now, still, was) (mine_turned c room l j0 k0 b (reads (its q s.holders)) n may own_was);
+                others = λ o not_its not_his. rw (now, still, its_same o not_his, ne_eqb o u (λ e. absurd (not_his (is ∙ sym e))), was) (theirs_turned (is_write c) room j0 k0 b (reads (its o s.holders)) (leaves (slice_get seen.state.seats o)) n may);
+              }
+          turn_falls ch is_ch kind_is may before_out after_out = absurd (grind (arith, may))
+
+          abbrev Leaves : Type 0
+          Leaves = (is_out y.change ≡ true) × (is_asking kind ≡ false) × (leaves (Some (Calling d i j)) ≡ true) × (slice_get y.after.state.seats q ≡ Some Idle)
+
+          abbrev Turns : Type 0
+          Turns = (is_turn y.change ≡ true) × (leaves (Some (Calling d i j)) ≡ false) × (leaves (slice_get y.after.state.seats q) ≡ false)
+
+          abbrev Moves : Type 0
+          Moves = Leaves ⊎ Turns
+
+          its_steps : walk.Reaches m k f x y ⊎ walk.Falls m k f x seen l q y n
+          its_steps =
+              ⊎_elim inl
+              (λ (z : (y.change ≡ None) ⊎ ((same_kinds kind (from y.change) ≡ true) × Moves)).
+              ⊎_elim (λ (none : y.change ≡ None). its_idles none kind refl b refl)
+              (λ (g : (same_kinds kind (from y.change) ≡ true) × Moves).
+              inr (⊎_elim (λ (out : Leaves). out_falls y.change refl g.0 out.0 out.1 out.2 out.3) (λ (turn : Turns). turn_falls y.change refl g.0 turn.0 turn.1 turn.2) g.1)) z)
+              (its_step seen q d i j kind at so)
+
+      -- its own step
+
+      module _ (l : RwPoint) (n : ℕ) (within : walk.Within m k f x seen l (suc n)) (there : slice_get seen.state.seats p ≡ Some (Calling c l None)) where
+        abbrev mine_sc : Scene ℕ V RwCall RwPoint (Answer V)
+        mine_sc = sc seen p c l None
+
         abbrev onward : Option ℕ → RwPoint
         onward (Some to) = Exchange seen.state.words
         onward None = First
 
         abbrev GoesTo : RwPoint → Type 0
-        GoesTo e = (slice_get (sc seen p c l None).after.state.seats p ≡ Some (Calling c e None)) × ((sc seen p c l None).after.plain ≡ s)
+        GoesTo e = (slice_get mine_sc.after.state.seats p ≡ Some (Calling c e None)) × (mine_sc.after.plain ≡ s)
 
-        goes : (o : Option ℕ) → lets cap c seen.state.words ≡ o → slice_get seen.state.seats p ≡ Some (Calling c l None) → Grants seen p c l None ⊎ GoesTo (onward o)
-        goes o is there = grind (arith, comes, is, get-set_same seen.state.seats p (Calling c (onward o) None) _ there)
+        goes : (o : Option ℕ) → lets cap c seen.state.words ≡ o → Grants seen p c l None ⊎ GoesTo (onward o)
+        goes o is = grind (arith, comes, is, get-set_same seen.state.seats p (Calling c (onward o) None) _ there)
 
-        -- where nobody holds
-        goes_free : slice_get seen.state.seats p ≡ Some (Calling c l None) → seen.state.words ≡ 0 → Grants seen p c l None ⊎ (GoesTo (Exchange 0) × (own_rank c (Exchange 0) ≤ own_rank c l - 1))
-        goes_free there zero = grind (arith, comes, zero, room, get-set_same seen.state.seats p (Calling c (Exchange 0) None) _ there)
+        -- where nobody holds, and where one reader leaves it room
+        goes_free : seen.state.words ≡ 0 → Grants seen p c l None ⊎ (GoesTo (Exchange 0) × (own_rank c (Exchange 0) ≤ own_rank c l - 1))
+        goes_free zero = grind (arith, comes, zero, lt-ltb 0 (min cap reader_limit) (omega (arith, some)), get-set_same seen.state.seats p (Calling c (Exchange 0) None) _ there)
 
-        rank_free : (y : World) (e : RwPoint) → y.plain.holders ≡ [] → walk.rank m k f x y e ≡ own_rank c e
-        rank_free y e none = ap (λ hs. rank_by hs c e (slice_get y.state.seats (due_by p hs))) none
+        goes_beside : seen.state.words ≡ weight reading → is_write c ≡ false → room ≡ true → Grants seen p c l None ⊎ (GoesTo (Exchange (weight reading)) × (reading_rank (Exchange (weight reading)) ≤ reading_rank l - 1))
+        goes_beside alone not_write more = let big : nat_lt 1 (min cap reader_limit) ≡ true = grind (arith, more) in grind (arith, comes, alone, not_write, big, get-set_same seen.state.seats p (Calling c (Exchange (weight reading)) None) _ there)
 
-        own : (hs : List Holder) → s.holders ≡ hs → slice_get seen.state.seats p ≡ Some (Calling c l None) → walk.Own m k f x seen l (sc seen p c l None)
-        own [] is there =
-            ⊎_elim inl (λ (on : GoesTo (Exchange 0) × (own_rank c (Exchange 0) ≤ own_rank c l - 1)).
-            inr (Exchange 0, on.0.0, tt, inl (omega (arith, rank_free (sc seen p c l None).after (Exchange 0) (ap (λ (z : Plain). z.holders) on.0.1 ∙ is), rank_free seen l is, on.1))))
-            (goes_free there (grind (arith, good.encodes, is)))
-        own (i ∷ hs) is there =
-            let o = lets cap c seen.state.words in
-            ⊎_elim inl (λ (on : GoesTo (onward o)).
-            inr (onward o, on.0, tt, inr (λ e. absurd (grind (arith, comes, subst (Sits (kind_of i hs) p) there (subst (λ q. Sits (kind_of i hs) q (slice_get seen.state.seats q)) e (his_sits i hs is)))), rw on.1 (refl, grind (arith, is)))))
-            (goes o refl there)
+        on : (e : RwPoint) → GoesTo e → mine_by c room u s.holders e ≤ n → walk.Own m k f x seen l n mine_sc
+        on e goes low = inr (e, goes.0, tt, rw goes.1 low, rw goes.1 (λ o not_its other. omega arith))
 
-        -- the step of the party that is due
-        leaves : (kind : Kind) (c : RwCall) (e : RwPoint) (h : Option Hold) → (same_kind reading kind ≡ true) ⊎ (seen.state.words ≡ weight kind) → Sits kind d (Some (Calling c e h)) → Grants seen d c e h ⊎ (is_less (sc seen d c e h).change ≡ true)
-        leaves kind c e h (inl reads) so = grind (arith, reads, so)
-        leaves kind c e h (inr word) so = grind (arith, word, so)
-
-        -- a step of a third party
-        beside : (hs : List Holder) → s.holders ≡ hs → (q : ℕ) (e : RwCall) (i : RwPoint) (h : Option Hold) → let y = sc seen q e i h in IsOpenStep s q y.change → walk.Reaches m k f x y ⊎ (walk.Lower m k f x seen l y l ⊎ walk.Alike m k f x seen l y.after.plain l)
-        beside hs is q e i h opens =
-            let y = sc seen q e i h in
-            ⊎_elim inl
-            (λ (other : (y.change ≡ None) ⊎ (is_less y.change ≡ true)).
-            inr (⊎_elim (λ (none : y.change ≡ None). inr (subst (λ z. walk.Alike m k f x seen l (apply_some s z) l) (sym none) (refl, omega arith))) (λ (less : is_less y.change ≡ true). inl (goes_less hs is (less_left s q y.change opens less))) other))
-            (no_grant seen q e i h)
+        own : (ko : Option Kind) → kind ≡ ko → (z : Bool) → b ≡ z → walk.Own m k f x seen l n mine_sc
+        own ko kind_is true b_is = let o = lets cap c seen.state.words in ⊎_elim inl (λ (g : GoesTo (onward o)). on (onward o) g (rw b_is (omega arith))) (goes o refl)
+        own None kind_is false b_is =
+            ⊎_elim inl (λ (g : GoesTo (Exchange 0) × (own_rank c (Exchange 0) ≤ own_rank c l - 1)). on (Exchange 0) g.0 (rw (b_is, kind_is) (omega (arith, g.1, before_none))))
+            (goes_free (word_is b_is ∙ none_word (its u s.holders) kind_is))
           where
-            goes_less : (hs : List Holder) → s.holders ≡ hs → left (sc seen q e i h).after.plain.holders + 2 ≤ left s.holders → walk.Lower m k f x seen l (sc seen q e i h) l
-            goes_less [] is less = absurd (omega (arith, less, ap left is))
-            goes_less (j ∷ hs) is less = rank_less s.holders (sc seen q e i h).after.plain.holders j hs c l _ _ is less
+            before_none : own_rank c l ≤ suc n
+            before_none = subst (λ z. mine_of c room l None z ≤ suc n) b_is (subst (λ o. mine_of c room l o b ≤ suc n) kind_is within.mine)
+        own (Some reading) kind_is false b_is = by (is_write c) refl room refl
+          where
+            before_one : mine_of c room l (Some reading) false ≤ suc n
+            before_one = subst (λ z. mine_of c room l (Some reading) z ≤ suc n) b_is (subst (λ o. mine_of c room l o b ≤ suc n) kind_is within.mine)
+
+            stays : mine_of c room First (Some reading) false ≡ 0 → ((e : RwPoint) → mine_of c room e (Some reading) false ≡ mine_of c room First (Some reading) false) → walk.Own m k f x seen l n mine_sc
+            stays zero same = let o = lets cap c seen.state.words in ⊎_elim inl (λ (g : GoesTo (onward o)). on (onward o) g (rw (b_is, kind_is) (omega (arith, same (onward o), zero)))) (goes o refl)
+
+            by : (w : Bool) → is_write c ≡ w → (two : Bool) → room ≡ two → walk.Own m k f x seen l n mine_sc
+            by true writes two two_is = stays (rw writes refl) (λ e. rw writes refl)
+            by false writes false two_is = stays (rw (writes, two_is) refl) (λ e. rw (writes, two_is) refl)
+            by false writes true two_is =
+                ⊎_elim inl
+                (λ (g : GoesTo (Exchange (weight reading)) × (reading_rank (Exchange (weight reading)) ≤ reading_rank l - 1)).
+                on (Exchange (weight reading)) g.0 (rw (b_is, kind_is, writes, two_is) (omega (arith, g.1, subst (λ z. (if z then reading_rank l else 0) ≤ suc n) two_is (subst (λ z. (if z then 0 else if room then reading_rank l else 0) ≤ suc n) writes before_one)))))
+                (goes_beside (word_is b_is ∙ one_word reading (its u s.holders) one kind_is) writes two_is)
+        own (Some a) kind_is false b_is = let o = lets cap c seen.state.words in ⊎_elim inl (λ (g : GoesTo (onward o)). on (onward o) g (rw (b_is, kind_is) (grind arith))) (goes o refl)
+
+    -- Other moves
+
+    its_none : (hs : List Holder) (q : ℕ) (his : Option RwSeat) → its q hs ≡ [] → theirs_by (is_write c) room u hs q his ≡ 0
+    its_none hs q his none = by (q == u) refl
+      where
+        by : (z : Bool) → (q == u) ≡ z → theirs_by (is_write c) room u hs q his ≡ 0
+        by true is = rw (is, ap kind_in (ap (λ i. its i hs) (sym (eqb-true q u is)) ∙ none)) (grind arith)
+        by false other = rw (other, ap reads none) refl
+
+    busy_by : (seen : World) → Invariant m k seen → (l : RwPoint) (q : ℕ) → 1 ≤ walk.theirs m k f x seen l q → is_busy (slice_get seen.state.seats q) ≡ true
+    busy_by seen good l q long = by (is_empty (its q seen.plain.holders)) refl
+      where
+        by : (z : Bool) → is_empty (its q seen.plain.holders) ≡ z → is_busy (slice_get seen.state.seats q) ≡ true
+        by true none = absurd (omega (arith, long, its_none seen.plain.holders q (slice_get seen.state.seats q) (empty_is (its q seen.plain.holders) none)))
+        by false some = walk.busy_so (rw_table v cap) (rw_notes v cap) holds_lock q _ refl (λ h so. grind (arith, so)) (walk.sits_so (rw_table v cap) (rw_notes v cap) holds_lock seen good q (ap not some))
+
+    -- one that rests asks for nothing
+    asks_not : (seen : World) → Invariant m k seen → (q : ℕ) (j : Option Hold) → slice_get seen.state.seats q ≡ Some (resting j) → (q == u) ≡ true → is_asking (kind_of u seen.plain.holders) ≡ false
+    asks_not seen good q j at is = by (is_asking (kind_of u seen.plain.holders)) refl
+      where
+        by : (z : Bool) → is_asking (kind_of u seen.plain.holders) ≡ z → z ≡ false
+        by false not_so = refl
+        by true asks = absurd (grind (arith, subst (Sits (λ e. is_asking (kind_in e.holders)) q) at (walk.sits_so (rw_table v cap) (rw_notes v cap) (λ e. is_asking (kind_in e.holders)) seen good q (ap (λ i. is_asking (kind_of i seen.plain.holders)) (eqb-true q u is) ∙ asks))))
+
+    rests_in : (j : Option Hold) → leaves (Some (resting j)) ≡ false
+    rests_in None = refl
+    rests_in (Some h) = refl
+
+    release_leaves : (d : RwCall) (i : RwPoint) (j : Option Hold) → is_release (asks_of d j) ≡ true → leaves (Some (Calling d i j)) ≡ true
+    release_leaves d i j is = grind (arith, is)
+
+    begins_by : (seen : World) → Invariant m k seen → (l : RwPoint) (q : ℕ) (d : RwCall) (i : RwPoint) (j : Option Hold) → slice_get seen.state.seats q ≡ Some (resting j)
+        → (x.theirs seen.plain l q (Some (Calling d i j)) ≤ walk.theirs m k f x seen l q) × (is_release (m.asks d j) ≡ true → x.theirs seen.plain l q (Some (Calling d i j)) ≤ walk.theirs m k f x seen l q - 1)
+    begins_by seen good l q d i j at =
+        let hs = seen.plain.holders in
+        rw (ap leaves at ∙ rests_in j) (
+          theirs_begun (is_write c) room (kind_of u hs) (beside u hs) (q == u) (reads (its q hs)) (leaves (Some (Calling d i j))),
+          λ is. rw (release_leaves d i j is) (theirs_leaving (is_write c) room (kind_of u hs) (beside u hs) (q == u) (reads (its q hs)) (asks_not seen good q j at)),
+        )
+
+    known_after : (seen : World) (q : ℕ) (move : Move RwCall V) (l : RwPoint) → walk.Waits m k f x seen l → walk.Reaches m k f x (scene m seen q move) ⊎ Known (scene m seen q move).after
+    known_after seen q move l w =
+        walk.plain_kept m k f x (λ s. (o : ℕ) → (o ≡ u → ⊥) → only_read (its o s.holders) ≡ true) seen l w q w.2
+        (λ d i j at opens. ⊎_elim (λ (is : q ≡ u). inr (λ o other. ap only_read (same d i j opens o (λ e. other (sym e ∙ is))) ∙ w.2 o other))
+        (λ (ne : q ≡ u → ⊥).
+        let reader = reads (its q seen.plain.holders) in
+        let y = sc seen q d i j in
+        ⊎_elim inl
+        (λ z. inr (⊎_elim (λ (none : (y.change ≡ None) × (reader ≡ false)) o other. ap (λ c. only_read (its o (apply_some seen.plain c).holders)) none.0 ∙ w.2 o other)
+        (λ (gone : (y.change ≡ Some (releases q reading)) × (reader ≡ true) × (leaves (Some (Calling d i j)) ≡ true) × (slice_get y.after.state.seats q ≡ Some Idle)) o other.
+        ap (λ c. only_read (its o (apply_some seen.plain c).holders)) gone.0 ∙ read_on o q reading seen.plain.holders (w.2 o other)) z))
+        (others_step seen q d i j reader at (subst (Sits (reads_so reader) q) at (sits seen w.3 (reads_so reader) q (grind (arith, w.2 q ne))))))
+        (cases_eq q u))
+        move
+      where
+        same : (d : RwCall) (i : RwPoint) (j : Option Hold) → IsOpenStep seen.plain q (sc seen q d i j).change → (o : ℕ) → (q ≡ o → ⊥) → its o (sc seen q d i j).after.plain.holders ≡ its o seen.plain.holders
+        same d i j opens o ne = ap (λ (e : Entries). e.holders) (entries-other seen.plain q o (sc seen q d i j).change ne opens)
+
+    -- somebody has a load
+    some_load : (seen : World) (l : RwPoint) → walk.Waits m k f x seen l → walk.Within m k f x seen l 0 → ⊥
+    some_load seen l w none = by (beside u hs) refl (kind_of u hs) refl
+      where
+        hs : List Holder
+        hs = seen.plain.holders
+
+        by : (z : Bool) → beside u hs ≡ z → (o : Option Kind) → kind_of u hs ≡ o → ⊥
+        by true is o kind_is =
+            let z = reader_beside seen w.3 w.2 w.0 is in
+            omega (
+              arith,
+              reader_some (is_write c) room (kind_of u hs) (beside u hs) (leaves (slice_get seen.state.seats z.0)),
+              subst (λ r. theirs_of (is_write c) room (kind_of u hs) (beside u hs) false r (leaves (slice_get seen.state.seats z.0)) ≤ 0) z.3 (subst (λ o. theirs_of (is_write c) room (kind_of u hs) (beside u hs) o (reads (its z.0 hs)) (leaves (slice_get seen.state.seats z.0)) ≤ 0) (ne_eqb z.0 u (λ e. absurd (z.1 e))) (none.theirs z.0 z.2)),
+            )
+        by false is None kind_is = omega (arith, own_some c l, subst (λ z. mine_of c room l None z ≤ 0) is (subst (λ o. mine_of c room l o (beside u hs) ≤ 0) kind_is none.mine))
+        by false is (Some a) kind_is =
+            alone_some c room l a (reads (its u hs)) (leaves (slice_get seen.state.seats u)) (subst (λ z. mine_of c room l (Some a) z ≤ 0) is (subst (λ o. mine_of c room l o (beside u hs) ≤ 0) kind_is none.mine))
+            (subst (λ z. theirs_of (is_write c) room (Some a) z true (reads (its u hs)) (leaves (slice_get seen.state.seats u)) ≤ 0) is
+            (subst (λ o. theirs_of (is_write c) room o (beside u hs) true (reads (its u hs)) (leaves (slice_get seen.state.seats u)) ≤ 0) kind_is
+            (subst (λ z. theirs_of (is_write c) room (kind_of u hs) (beside u hs) z (reads (its u hs)) (leaves (slice_get seen.state.seats u)) ≤ 0) (eqb_self u) (none.theirs u (λ e. no_kind (its u hs) a (ap (λ i. is_empty (its i hs)) e ∙ nothing_mine seen w.3 l w.0) kind_is)))))
 
     walks : walk.Walks m k f x
     walks =
         record {
           fine = λ seen q move good fine. tt;
-          keeps = λ seen q move l w. inr tt;
-          own = λ seen l w after. own seen w.3 l seen.plain.holders refl w.0;
+          keeps = known_after;
+          own = λ seen l n w within made. own seen w.3 l n within w.0 (kind_of u seen.plain.holders) refl (beside u seen.plain.holders) refl;
+          steps = λ seen l n w within q d i j ne at made.
+              ⊎_elim (λ (is : q ≡ u). its_steps seen w.3 l n within w.2 q d i j ne at made w.0 is) (λ (other : q ≡ u → ⊥). reader_steps seen w.3 l n within w.2 q d i j ne at made w.0 other) (cases_eq q u);
           weak = λ seen l next at may. weak seen p c None next;
-          others = λ seen l w ne.
-              let q = walk.due m k f x seen l in
-              let h = some_holder seen w.3 l ne in
-              let kind = kind_of seen w.3 l h.0 h.1 in
-              let sits = his_sits seen w.3 l h.0 h.1 h.2 in
-              record {
-                begins = λ d i j there may. rw there (rank_begun seen.plain.holders h.0 h.1 c d l i j h.2);
-                steps = λ d i j there after.
-                    ⊎_elim inl (λ (less : is_less (sc seen q d i j).change ≡ true). inr (rank_less seen.plain.holders (sc seen q d i j).after.plain.holders h.0 h.1 c l _ _ h.2 (less_left seen.plain q (sc seen q d i j).change after.opens less)))
-                    (leaves seen w.3 l kind d i j (his_word seen w.3 l h.0 h.1 h.2) (subst (Sits seen w.3 kind q) there sits));
-                refuses = λ d i j next there may. inl (weak seen q d j next);
-                busy = λ some. walk.busy_so (rw_table v cap) (rw_notes v cap) (any_of kind) q _ refl (λ h so. grind (arith, so)) sits;
-              };
-          leaks = λ s l h. grind arith;
-          beside = λ seen l q d i j w ne not_due there after. beside seen w.3 l seen.plain.holders refl q d i j after.opens;
+          refuses = λ seen l w q d i j next ne at may. inl (weak seen q d j next);
+          begins = λ seen l w q d i j ne at may. begins_by seen w.3 l q d i j at;
+          leaks = λ s l q h. omega arith;
+          busy = λ seen l q w ne long. busy_by seen w.3 l q long;
+          some = some_load;
         }
 
   -- an upgrade holds
@@ -241,9 +696,19 @@ module _ {V : Type 0} (v : V) (cap : ℕ) (some : 1 ≤ cap) where
   pub grants_somebody : (n : ℕ) (past : List (ℕ × Move RwCall V)) (rounds : List (List (ℕ × Move RwCall V))) → GrantsSomebody m n past rounds
   grants_somebody n past rounds p c l there asks are few =
       let seen = seen_after m (opening m n) past in
+      let hs = seen.plain.holders in
+      let u = lead p hs in
       let at = come_at c l p seen.plain (seen.span p) asks (calls m k f n past p c l None there).knows in
-      walk.ends m k f (x p c at) (walks p c at) (λ seen l w. (rank_fits seen.plain.holders c l _).0) n past rounds l there tt tt tt are (λ w. omega (arith, few, (rank_fits seen.plain.holders c l (walk.his m k f (x p c at) seen l)).1))
+      let known : Known p u c at seen = λ q ne. others_read p q hs (one_leads seen.plain (good m k f n past).exclusive) ne in
+      walk.ends m k f (x p u c at) (walks p u c at) n past rounds l there tt known tt are
+      (λ w.
+      let none : same_kind reading (leading hs) ≡ true → kind_of u hs ≡ None = λ is. ap kind_in (ap (λ i. its i hs) (lead_none p hs is) ∙ empty_is (its p hs) (nothing_mine p u c at seen w.3 l w.0)) in
+      let leads : same_kind reading (leading hs) ≡ false → kind_of u hs ≡ Some (leading hs) = λ is. lead_kind p hs is (one p u c at seen w.3) in
+      record {
+        mine = omega (arith, few, mine_start c room l (leading hs) (kind_of u hs) (beside u hs) (reads hs) none leads);
+        theirs = λ q ne. omega (arith, few, theirs_start (is_write c) room (leading hs) (kind_of u hs) (beside u hs) (q == u) (reads (its q hs)) (leaves (slice_get seen.state.seats q)) (reads hs) none leads (reads_in q hs));
+      })
 
   pub deadlock_free : (n : ℕ) (past : List (ℕ × Move RwCall V)) (schedule : ℕ → ℕ × Move RwCall V) → RwIsDeadlockFree m n past schedule
   deadlock_free n past schedule p c l there asks fair =
-      at_last m goal (after m (at_first m n) past) (2 + left (seen_after m (opening m n) past).plain.holders) (λ rounds are long. grants_somebody n past rounds p c l there asks are (omega (arith, long))) schedule fair
+      at_last m goal (after m (at_first m n) past) (rounds_beside (seen_after m (opening m n) past).plain.holders) (λ rounds are long. grants_somebody n past rounds p c l there asks are (omega (arith, long))) schedule fair

@@ -1,15 +1,16 @@
 -- How many rounds a `lock` waits at most: until it has its ticket, and then with it.
-use Rattle.spin_world_progress.proofs.Names.{if◌then◌else◌, ◌≡◌, ℕ, ◌+◌, ◌-◌, ◌<◌, ◌≤◌, ◌==◌, Bool, true, false, not, Option, Some, None, List, [], ◌∷◌, refl, ap, sym, ◌∙◌, arith, filter, slice_get, Plain, Change, is_empty, serving_word, is_first, apply_some, IsOpenStep, entries, Seen, scene, opening, ticket_table, ticket_machine, LocalInvariant, Facts, after, at_first, seen_after, zero, ticket_limit, Answer, Hold, Calling, Holding, Move, Step, TicketWords, TicketCall, TicketPoint, Serve, LoadNext, Take, suc, ◌*◌, ◌&&◌, subst, inl, inr, ⊎_elim, length, nat_lt, and_parts, cases_eq, eqb-true, ne_eqb, eq-eqb, lt-ltb, to_enter, Seat, Next, BelongsTo, Mark, waits, joined, Machine, occurs, AreRounds, grants, Scene, StandsFor, scene_at, State, happens, eqb_self, get-set_same, Invariant, in_call, good_after, state-seen_after, good, state_is, numbers_are, StandsSo, calls_so, calls, EntersInRounds, IsNeverStarved, LocksInRounds, slice_get_within, slice_get_past, no_entries, length-happens}
-use Rattle.spin_world.proofs.TicketNames.{queued, Queued, Entries, Numbered, enters_in_turn, serving-entered, stands, serving-moves, asks_of, bit, Lock, Release, Await}
+use Rattle.spin_world_progress.proofs.Names.{empty_is, max, ◌++◌, ◌⊎◌, cases_lt, resting, if◌then◌else◌, ◌≡◌, ℕ, ◌+◌, ◌-◌, ◌<◌, ◌≤◌, ◌==◌, Bool, true, false, not, Option, Some, None, List, [], ◌∷◌, refl, ap, sym, ◌∙◌, arith, filter, slice_get, Plain, Change, is_empty, serving_word, is_first, apply_some, IsOpenStep, entries, Seen, scene, opening, ticket_table, ticket_machine, LocalInvariant, Facts, after, at_first, seen_after, zero, ticket_limit, Answer, Hold, Calling, Holding, Move, Step, TicketWords, TicketCall, TicketPoint, Serve, LoadNext, Take, suc, ◌*◌, ◌&&◌, subst, inl, inr, ⊎_elim, length, nat_lt, and_parts, cases_eq, eqb-true, ne_eqb, eq-eqb, lt-ltb, to_enter, Seat, Next, BelongsTo, Mark, waits, joined, Machine, occurs, AreRounds, grants, Scene, StandsFor, scene_at, State, happens, eqb_self, get-set_same, Invariant, in_call, good_after, state-seen_after, good, state_is, numbers_are, StandsSo, calls_so, calls, EntersInRounds, IsNeverStarved, LocksInRounds, slice_get_within, slice_get_past, no_entries, length-happens}
+use Rattle.spin_world.proofs.TicketNames.{queued, Queued, Entries, Numbered, enters_in_turn, serving-taken, serving-entered, serving-taken, stands, serving-moves, asks_of, bit, Lock, Release, Await}
 use Rattle.spin_world.proofs.TicketOwed.{ticket_notes, ticket_keeping, ticket_facts}
 use Rattle.spin_model.specs.TicketKind.{ticket}
 use Rattle.spin_step.proofs.Tickets.{serving-gone}
 use Rattle.spin_step.specs.Tickets.{numbered_from}
-use Rattle.spin_world_core.proofs.Names.{length-replicate}
+use Rattle.spin_world_core.proofs.Names.{length-replicate, true≢false}
 use Rattle.spin_world_progress.proofs.Endless.{at_last}
-use Rattle.spin_world_progress.proofs.Walk.{Wait}
+use Rattle.spin_world_progress.proofs.Loads.{Wait}
+use Rattle.spin_world_progress.proofs.Progress.{is_busy}
 use Rattle.spin_model.specs.declared.place.Hold.TheVariants as hold
-use Rattle.spin_world_progress.proofs.Walk as walk
+use Rattle.spin_world_progress.proofs.Loads as walk
 
 -- The queue
 
@@ -30,6 +31,11 @@ in_queue p n k (t ∷ ts) numbers e = grind (arith, in_queue p n (suc k) ts)
 later : (p n k : ℕ) (ts : List Queued) → numbered_from k ts → own p ts ≡ queued p n false ∷ [] → (first_party ts ≡ p → ⊥) → k < n
 later p n k [] numbers e ne = absurd (cc (e))
 later p n k (t ∷ ts) numbers e ne = grind (arith, in_queue p n (suc k) ts, ne)
+
+-- without a ticket none stands unless one is taken
+stays_empty : (s : Plain) (q : ℕ) (step : Option Change) → is_empty s.tickets ≡ true → IsOpenStep s q step → (apply_some s step).next ≤ s.next → (apply_some s step).tickets ≡ []
+stays_empty s q None none opens same = empty_is s.tickets none
+stays_empty s q (Some c) none opens same = grind (arith, none, opens, same, empty_is s.tickets none)
 
 -- the first ticket's party has it
 first_own : (ts : List Queued) → is_empty ts ≡ false → is_empty (own (first_party ts) ts) ≡ false
@@ -56,9 +62,29 @@ left_to (Some (Calling Lock l h)) = 3
 left_to (Some (Holding h)) = 2
 left_to _ = 1
 
--- how many moves a party with the ticket t waits for, its own step included
-abbrev rank_at : ℕ → ℕ → ℕ → ℕ
-rank_at t serving left = 1 + (3 * (t - serving) + left - 3)
+-- how long the party q, which sits so, keeps the ticket t waiting, where s is served: it is the first, and is not the last
+abbrev ahead : ℕ → ℕ → List Queued → ℕ → Option (Seat TicketCall TicketPoint) → ℕ
+ahead t s [] q his = 0
+ahead t s (x ∷ xs) q his = if x.party == q then 3 * (t - s) + left_to his - 2 else 0
+
+ahead_most : (t s : ℕ) (ts : List Queued) (q : ℕ) (his : Option (Seat TicketCall TicketPoint)) → ahead t s ts q his ≤ 3 * (t - s) + left_to his - 2
+ahead_most t s ts q his = grind arith
+
+left_few : (his : Option (Seat TicketCall TicketPoint)) → left_to his ≤ 3
+left_few his = grind arith
+
+-- of the first ticket's party, and of another one
+ahead_own : (t s : ℕ) (ts : List Queued) (his : Option (Seat TicketCall TicketPoint)) → is_empty ts ≡ false → ahead t s ts (first_party ts) his ≡ 3 * (t - s) + left_to his - 2
+ahead_own t s [] his some = absurd (true≢false some)
+ahead_own t s (x ∷ xs) his some = rw (eqb_self x.party) refl
+
+ahead_other : (t s : ℕ) (ts : List Queued) (q : ℕ) (his : Option (Seat TicketCall TicketPoint)) → (q ≡ first_party ts → ⊥) → ahead t s ts q his ≡ 0
+ahead_other t s [] q his ne = refl
+ahead_other t s (x ∷ xs) q his ne = grind (arith, ne)
+
+-- it is the same where the same ticket stands first
+ahead_same : (t s : ℕ) (ts us : List Queued) (q : ℕ) (his : Option (Seat TicketCall TicketPoint)) → is_empty ts ≡ false → first_party us ≡ first_party ts → ahead t s us q his ≤ ahead t s ts q his
+ahead_same t s ts us q his some same = grind (arith, some, same)
 
 -- Each party has one ticket at most, so there are no more tickets than parties
 
@@ -81,6 +107,11 @@ few : (n : ℕ) (ts : List Queued) → ((q : ℕ) → length (own q ts) ≤ 1) �
 few zero ts each = omega arith
 few (suc n) ts each = omega (arith, few n ts each, each n)
 
+-- without one of them there is one less
+fewer : (p n : ℕ) (ts : List Queued) → ((q : ℕ) → length (own q ts) ≤ 1) → is_empty (own p ts) ≡ true → p < n → total n ts + 1 ≤ n
+fewer p zero ts each none lt = absurd (omega (arith, lt))
+fewer p (suc n) ts each none lt = grind (arith, few n ts each, fewer p n ts each none, each n, none, cases_eq p n)
+
 abbrev two : Entries → Bool
 two e = nat_lt 1 (length e.tickets)
 
@@ -89,24 +120,36 @@ next_grows : (s : Plain) (step : Option Change) → s.next ≤ (apply_some s ste
 next_grows s None = omega arith
 next_grows s (Some c) = grind arith
 
--- How many moves a party without a ticket waits for, where N is the next number at the end, by whether the number that it goes for is next
-abbrev doorway : ℕ → ℕ → ℕ → Bool → ℕ
-doorway n N next b = 3 * n - (if b then 2 else 1) + (N - next)
+-- How long a party at the doorway waits for others' tickets at most, if so many are taken still, its own too: by whether it goes for the next number. Where its own alone comes, the queue moves on beside it
+abbrev doorway : ℕ → ℕ → Bool → ℕ
+doorway n taken next = (if nat_lt taken 2 then 2 else max 2 (3 * n - 2)) + taken - (if next then 1 else 0)
 
--- another ticket that is taken makes it one more, and is one less to come
-doorway_kept : (n N j next later : ℕ) → 1 ≤ n → next ≤ later → later ≤ N → doorway n N later (j == later) ≤ doorway n N next (j == next)
-doorway_kept n N j next later some grows fine = grind (arith, some, grows, fine, cases_eq next later)
+doorway_next : (n taken r : ℕ) → doorway n taken false ≤ suc r → doorway n taken true ≤ r
+doorway_next n taken r le = grind (arith, le)
 
--- who is due, and the rank, by where it stands
+doorway_less : (n taken later : ℕ) (next soon : Bool) → later < taken → doorway n later soon ≤ doorway n taken next
+doorway_less n taken later next soon less = grind (arith, less)
 
-abbrev due_by : TicketPoint → ℕ → List Queued → ℕ
-due_by (Await t) p ts = first_party ts
-due_by _ p ts = p
+doorway_fits : (n taken : ℕ) (next : Bool) → (1 ≤ doorway n taken next) × (doorway n taken next ≤ max 2 (3 * n - 2) + taken)
+doorway_fits n taken next = grind arith
 
-abbrev rank_by : ℕ → ℕ → TicketPoint → ℕ → ℕ → ℕ → ℕ
-rank_by n N (Await t) next serving left = rank_at t serving left
-rank_by n N (Take j) next serving left = doorway n N next (j == next)
-rank_by n N _ next serving left = doorway n N next false
+-- where a ticket is to be taken, there are two rounds at least
+doorway_two : (n taken : ℕ) → 1 ≤ taken → 2 ≤ doorway n taken true
+doorway_two n taken some = grind (arith, some)
+
+doorway_long : (n taken r : ℕ) (next : Bool) → 2 ≤ taken → doorway n taken next ≤ suc r → 3 * n - 2 ≤ r
+doorway_long n taken r next many le = grind (arith, many, le)
+
+first_of_more : (ts : List Queued) (u : Queued) → is_empty ts ≡ false → first_party (ts ++ u ∷ []) ≡ first_party ts
+first_of_more [] u some = absurd (true≢false some)
+first_of_more (x ∷ xs) u some = refl
+
+bit_few : (b : Bool) → (if b then 1 else 0) ≤ 1
+bit_few b = grind arith
+
+at_most_one : (a b p r : ℕ) → (a ≡ b) ⊎ (1 ≤ r) → (if a == p then 1 else 0) ≤ max (if b == p then 1 else 0) r
+at_most_one a b p r (inl same) = grind (arith, same)
+at_most_one a b p r (inr some) = grind (arith, some)
 
 abbrev has_ticket : Entries → Bool
 has_ticket e = not (is_empty e.tickets)
@@ -122,6 +165,25 @@ at_lock N (Await t) = Unit {0}
 at_lock N LoadNext = N < ticket_limit
 at_lock N (Take j) = N < ticket_limit
 at_lock N _ = ⊥
+
+abbrev at_door : TicketPoint → Type 0
+at_door LoadNext = Unit {0}
+at_door (Take j) = Unit {0}
+at_door _ = ⊥
+
+-- the number that it goes for is next
+abbrev is_fresh : TicketPoint → ℕ → Bool
+is_fresh (Take j) next = j == next
+is_fresh l next = false
+
+-- the load of p, which waits at this point, and that of the party q
+abbrev mine_by : ℕ → ℕ → ℕ → Plain → TicketPoint → ℕ
+mine_by p n N s (Await t) = if first_party s.tickets == p then 1 else 0
+mine_by p n N s l = doorway n (N - s.next) (is_fresh l s.next)
+
+abbrev theirs_by : ℕ → Plain → TicketPoint → ℕ → Option (Seat TicketCall TicketPoint) → ℕ
+theirs_by N s (Await t) q his = ahead t (serving_word s) s.tickets q his
+theirs_by N s l q his = if N - s.next == 1 then ahead s.next (serving_word s) s.tickets q his else 0
 
 module _ {V : Type 0} (v : V) (first : ℕ) where
   abbrev m : Machine TicketWords V TicketCall TicketPoint (Answer V)
@@ -169,27 +231,12 @@ module _ {V : Type 0} (v : V) (first : ℕ) where
 
   module _ (p n N : ℕ) where
     abbrev x : Wait TicketWords V TicketCall TicketPoint (Answer V)
-    x = record {
-      goal = grants m p;
-      party = p;
-      call = Lock;
-      hold = None;
-      At = at_lock N;
-      Known = λ seen. length seen.state.seats ≡ n;
-      Fine = λ seen. seen.plain.next ≤ N;
-      due = λ s l. due_by l p s.tickets;
-      rank = λ s l his. rank_by n N l s.next (serving_word s) (left_to his);
-    }
+    x = record { goal = grants m p; party = p; call = Lock; hold = None; At = at_lock N; Known = λ seen. length seen.state.seats ≡ n; Fine = λ seen. seen.plain.next ≤ N; mine = mine_by p n N; theirs = theirs_by N }
 
     abbrev its : World → TicketPoint → Scene TicketWords V TicketCall TicketPoint (Answer V)
     its seen l = scene_at m seen p Step (Some (Calling Lock l None))
 
-    some_party : (seen : World) (l : TicketPoint) → walk.Waits m k f x seen l → 1 ≤ n
-    some_party seen l w = omega (arith, w.2, slice_get_within seen.state.seats p _ w.0)
-
-    -- With its ticket
-
-    module _ (seen : World) (t : ℕ) (w : walk.Waits m k f x seen (Await t)) where
+    module _ (seen : World) (l : TicketPoint) (w : walk.Waits m k f x seen l) where
       abbrev s : Plain
       s = seen.plain
 
@@ -202,131 +249,324 @@ module _ {V : Type 0} (v : V) (first : ℕ) where
       serving_is : seen.state.words.serving ≡ serving_word s
       serving_is = let good = w.3 in cc (good.encodes)
 
-      mine : own p s.tickets ≡ queued p t false ∷ []
-      mine = ap (λ (e : Entries). e.tickets) (in_call m k seen p Lock (Await t) None w.3 w.0).knows.0.stand
+      next_is : seen.state.words.next ≡ s.next
+      next_is = next_of seen w.3
 
-      some : is_empty s.tickets ≡ false
-      some = stands p t false s.tickets mine
+      among : p < n
+      among = omega (arith, w.2, slice_get_within seen.state.seats p _ w.0)
 
-      -- the first ticket's party, where it is another's
-      behind : (d ≡ p → ⊥) → serving_word s < t
-      behind ne = later p t (serving_word s) s.tickets numbered.1 mine ne
-
-      his_sits : SitsSo has_ticket d (slice_get seen.state.seats d)
-      his_sits = walk.sits_so (ticket_table v first) (ticket_notes v first) has_ticket seen w.3 d (ap not (first_own s.tickets some))
+      his_sits : is_empty s.tickets ≡ false → SitsSo has_ticket d (slice_get seen.state.seats d)
+      his_sits some = walk.sits_so (ticket_table v first) (ticket_notes v first) has_ticket seen w.3 d (ap not (first_own s.tickets some))
 
       turn_of : (q j : ℕ) → own q s.tickets ≡ queued q j false ∷ [] → (seen.state.words.serving == j) ≡ is_first q false s.tickets
       turn_of q j his = ap (λ i. i == j) serving_is ∙ sym (enters_in_turn s q (serving_word s) j numbered refl his)
 
-      own_await : walk.Own m k f x seen (Await t) (its seen (Await t))
-      own_await =
-          ⊎_elim (λ (is : d ≡ p). inl (rw (turn_of p t mine ∙ first_turn p t s.tickets mine (sym is), eqb_self p) refl))
-          (λ (ne : d ≡ p → ⊥).
-          let late : (seen.state.words.serving == t) ≡ false = ne_eqb seen.state.words.serving t (λ e. absurd (omega (arith, e, serving_is, behind ne))) in
-          inr (Await t, rw late (get-set_same seen.state.seats p (Calling Lock (Await t) None) _ w.0), tt, inr (ne, rw late (refl, omega arith))))
-          (cases_eq d p)
+      -- A step of another party, where p has the ticket t, or goes for it
 
-      steps : (d ≡ p → ⊥) → (c : TicketCall) (l : TicketPoint) (h : Option Hold) → slice_get seen.state.seats d ≡ Some (Calling c l h) → SitsSo has_ticket d (Some (Calling c l h))
-          → walk.Lower m k f x seen (Await t) (scene_at m seen d Step (Some (Calling c l h))) (Await t)
-      steps ne Lock (Await j) None at so =
-          let sc = scene_at m seen d Step (Some (Calling Lock (Await j) None)) in
-          let his : own d s.tickets ≡ queued d j false ∷ [] = ap (λ (e : Entries). e.tickets) (in_call m k seen d Lock (Await j) None w.3 at).knows.0.stand in
-          let entered : (first_party sc.after.plain.tickets ≡ d) × (serving_word sc.after.plain ≡ serving_word s) × (slice_get sc.after.state.seats d ≡ Some (Holding (hold.Ticket j))) =
-          rw (turn_of d j his ∙ first_turn d j s.tickets his refl) (grind arith, serving-entered s, get-set_same seen.state.seats d (Holding (hold.Ticket j)) _ at) in
-          omega (arith, behind ne, ap left_to at, entered.1, ap left_to (ap (slice_get sc.after.state.seats) entered.0 ∙ entered.2))
-      steps ne Release (Serve j) (Some (hold.Ticket u)) at so =
-          let sc = scene_at m seen d Step (Some (Calling Release (Serve j) (Some (hold.Ticket u)))) in
-          grind (arith, behind ne, ap left_to at, serving-gone s.next s.tickets numbered.0 some)
-      steps ne c l h at so = absurd (grind (arith, so))
+      -- the party that stepped keeps that ticket waiting for r rounds at most, and no other for longer than before, or than that
+      record Turned (t r q : ℕ) (sc : Scene TicketWords V TicketCall TicketPoint (Answer V)) : Type 0 where
+        mine : ahead t (serving_word sc.after.plain) sc.after.plain.tickets q (slice_get sc.after.state.seats q) ≤ r
+        others : (o : ℕ) → (q ≡ o → ⊥) → ahead t (serving_word sc.after.plain) sc.after.plain.tickets o (slice_get seen.state.seats o) ≤ max (ahead t (serving_word s) s.tickets o (slice_get seen.state.seats o)) r
+        first_same : (first_party sc.after.plain.tickets ≡ d) ⊎ (1 ≤ r)
 
-      -- how long it waits at most
-      waits_few : walk.rank m k f x seen (Await t) ≤ 3 * n - 2
-      waits_few =
-          let here = in_queue p t (serving_word s) s.tickets numbered.1 mine in
-          grind (arith, here.0, here.1, w.2, most_tickets seen w.3)
+      module _ (t r : ℕ) (some : is_empty s.tickets ≡ false) (behind : (d ≡ p → ⊥) → serving_word s < t) where
+        abbrev Turns : ℕ → TicketCall → TicketPoint → Option Hold → Type 0
+        Turns q c i h = let sc = scene_at m seen q Step (Some (Calling c i h)) in slice_get seen.state.seats q ≡ Some (Calling c i h) → walk.After m k f x seen q sc → ahead t (serving_word s) s.tickets q (Some (Calling c i h)) ≤ suc r → Turned t r q sc
+
+        first_turns : (d ≡ p → ⊥) → (c : TicketCall) (i : TicketPoint) (h : Option Hold) → SitsSo has_ticket d (Some (Calling c i h)) → Turns d c i h
+        first_turns ne Lock (Await j) None so at after few =
+            let sc = scene_at m seen d Step (Some (Calling Lock (Await j) None)) in
+            let his : own d s.tickets ≡ queued d j false ∷ [] = ap (λ (e : Entries). e.tickets) (in_call m k seen d Lock (Await j) None w.3 at).knows.0.stand in
+            let entered : (first_party sc.after.plain.tickets ≡ d) × (serving_word sc.after.plain ≡ serving_word s) × (slice_get sc.after.state.seats d ≡ Some (Holding (hold.Ticket j))) =
+            rw (turn_of d j his ∙ first_turn d j s.tickets his refl) (grind arith, serving-entered s, get-set_same seen.state.seats d (Holding (hold.Ticket j)) _ at) in
+            record {
+              mine = omega (arith, few, ahead_own t (serving_word s) s.tickets (Some (Calling Lock (Await j) None)) some, ahead_most t (serving_word sc.after.plain) sc.after.plain.tickets d (slice_get sc.after.state.seats d), ap left_to entered.2, entered.1);
+              others = λ o other. omega (arith, ahead_other t (serving_word sc.after.plain) sc.after.plain.tickets o (slice_get seen.state.seats o) (λ e. other (sym (e ∙ entered.0))));
+              first_same = inl entered.0;
+            }
+        first_turns ne Release (Serve j) (Some (hold.Ticket u)) so at after few =
+            let sc = scene_at m seen d Step (Some (Calling Release (Serve j) (Some (hold.Ticket u)))) in
+            let gone : serving_word sc.after.plain ≡ serving_word s + 1 = serving-gone s.next s.tickets numbered.0 some in
+            let now = ahead_own t (serving_word s) s.tickets (Some (Calling Release (Serve j) (Some (hold.Ticket u)))) some in
+            let soon = λ (o : ℕ) (his : Option TicketSeat). ahead_most t (serving_word sc.after.plain) sc.after.plain.tickets o his in
+            record {
+              mine = omega (arith, few, now, gone, behind ne, soon d (slice_get sc.after.state.seats d), left_few (slice_get sc.after.state.seats d));
+              others = λ o other. omega (arith, few, now, gone, behind ne, soon o (slice_get seen.state.seats o), left_few (slice_get seen.state.seats o));
+              first_same = inr (omega (arith, few, now, behind ne));
+            }
+        first_turns ne c i h so at after few = absurd (grind (arith, so))
+
+        turns : (q : ℕ) (c : TicketCall) (i : TicketPoint) (h : Option Hold) → (q ≡ p → ⊥) → Turns q c i h
+        turns q c i h ne =
+            ⊎_elim
+            (λ (is : d ≡ q). subst (λ z. Turns z c i h) is (λ at. first_turns (λ e. ne (sym is ∙ e)) c i h (subst (SitsSo has_ticket d) at (his_sits some)) at))
+            (λ (not_first : d ≡ q → ⊥) at after few.
+            let sc = scene_at m seen q Step (Some (Calling c i h)) in
+            let left = leaves_first s q sc.change some numbered (λ e. not_first (sym e)) after.opens after.belongs in
+            let same = λ (o : ℕ) (his : Option TicketSeat). ahead_same t (serving_word s) s.tickets sc.after.plain.tickets o his some left.0 in
+            record {
+              mine = omega (arith, left.1, ahead_other t (serving_word sc.after.plain) sc.after.plain.tickets q (slice_get sc.after.state.seats q) (λ e. not_first (sym (e ∙ left.0))));
+              others = λ o other. omega (arith, same o (slice_get seen.state.seats o), ap (λ z. ahead t z sc.after.plain.tickets o (slice_get seen.state.seats o)) left.1);
+              first_same = inl left.0;
+            })
+            (cases_eq d q)
+
+      -- With its ticket
+
+      module _ (t : ℕ) (at : l ≡ Await t) where
+        mine : own p s.tickets ≡ queued p t false ∷ []
+        mine = ap (λ (e : Entries). e.tickets) (in_call m k seen p Lock (Await t) None w.3 (w.0 ∙ ap (λ i. Some (Calling Lock i None)) at)).knows.0.stand
+
+        some : is_empty s.tickets ≡ false
+        some = stands p t false s.tickets mine
+
+        -- the first ticket's party, where it is another's
+        behind : (d ≡ p → ⊥) → serving_word s < t
+        behind ne = later p t (serving_word s) s.tickets numbered.1 mine ne
+
+        -- it is at most as many tickets behind as there are others
+        near : t - serving_word s + 1 ≤ n
+        near = let here = in_queue p t (serving_word s) s.tickets numbered.1 mine in omega (arith, here.0, here.1, w.2, most_tickets seen w.3, numbered.0)
+
+    own_ticket : (seen : World) (t r : ℕ) → (w : walk.Waits m k f x seen (Await t)) → walk.Own m k f x seen (Await t) r (its seen (Await t))
+    own_ticket seen t r w =
+        ⊎_elim (λ (is : d ≡ p). inl (rw (turn_of seen (Await t) w p t mine_there ∙ first_turn p t seen.plain.tickets mine_there (sym is), eqb_self p) refl))
+        (λ (ne : d ≡ p → ⊥).
+        let late : (seen.state.words.serving == t) ≡ false = ne_eqb seen.state.words.serving t (λ e. absurd (omega (arith, e, serving_is seen (Await t) w, behind seen (Await t) w t refl ne))) in
+        inr (Await t, rw late (get-set_same seen.state.seats p (Calling Lock (Await t) None) _ w.0), tt, rw (late, ne_eqb d p (λ e. absurd (ne e))) (omega arith), rw late (λ o other not_its. omega arith)))
+        (cases_eq d p)
+      where
+        d : ℕ
+        d = first_party seen.plain.tickets
+
+        mine_there : own p seen.plain.tickets ≡ queued p t false ∷ []
+        mine_there = mine seen (Await t) w t refl
 
     -- At the doorway
 
-    module _ (seen : World) (good : Invariant m k seen) (many : length seen.state.seats ≡ n) (one : 1 ≤ n) (room : N < ticket_limit) where
-      next_is : seen.state.words.next ≡ seen.plain.next
-      next_is = next_of seen good
+    no_ticket : (seen : World) (l : TicketPoint) → walk.Waits m k f x seen l → at_door l → is_empty (own p seen.plain.tickets) ≡ true
+    no_ticket seen LoadNext w door = ap (λ (e : Entries). is_empty e.tickets) (in_call m k seen p Lock LoadNext None w.3 w.0).knows.0.stand
+    no_ticket seen (Take j) w door = ap (λ (e : Entries). is_empty e.tickets) (in_call m k seen p Lock (Take j) None w.3 w.0).knows.0.stand
+    no_ticket seen l w door = absurd (grind (arith, door))
 
-      left_is : seen.plain.next ≤ N → nat_lt seen.state.words.next ticket_limit ≡ true
-      left_is low = lt-ltb seen.state.words.next ticket_limit (omega (arith, next_is, low, room))
+    -- the queue is shorter by its own place
+    queue_few : (seen : World) (l : TicketPoint) → walk.Waits m k f x seen l → at_door l → seen.plain.next - serving_word seen.plain + 1 ≤ n
+    queue_few seen l w door =
+        let ts = seen.plain.tickets in
+        omega (arith, numbered seen l w, all_in n ts (λ q past. nobody seen w.3 q (omega (arith, past, w.2))), fewer p n ts (each_one seen w.3) (no_ticket seen l w door) (among seen l w))
+
+    module _ (seen : World) (l : TicketPoint) (w : walk.Waits m k f x seen l) (r : ℕ) (within : walk.Within m k f x seen l (suc r)) where
+      abbrev sc : Scene TicketWords V TicketCall TicketPoint (Answer V)
+      sc = its seen l
+
+      left_is : N < ticket_limit → seen.plain.next ≤ N → nat_lt seen.state.words.next ticket_limit ≡ true
+      left_is room low = lt-ltb seen.state.words.next ticket_limit (omega (arith, next_is seen l w, low, room))
 
       -- it goes for the next number
-      goes_for_next : (l : TicketPoint) (sc : Scene TicketWords V TicketCall TicketPoint (Answer V)) → walk.rank m k f x seen l ≡ doorway n N seen.plain.next false
-          → slice_get sc.after.state.seats p ≡ Some (Calling Lock (Take seen.state.words.next) None) → sc.after.plain ≡ seen.plain → walk.Own m k f x seen l sc
-      goes_for_next l sc stale at same =
+      goes_for_next : N < ticket_limit → mine_by p n N seen.plain l ≡ doorway n (N - seen.plain.next) false → ((o : ℕ) (his : Option TicketSeat) → theirs_by N seen.plain (Take seen.state.words.next) o his ≡ theirs_by N seen.plain l o his)
+          → slice_get sc.after.state.seats p ≡ Some (Calling Lock (Take seen.state.words.next) None) → sc.after.plain ≡ seen.plain → walk.Own m k f x seen l r sc
+      goes_for_next room stale same at plain =
+          let fresh : mine_by p n N seen.plain (Take seen.state.words.next) ≡ doorway n (N - seen.plain.next) true = ap (doorway n (N - seen.plain.next)) (eq-eqb seen.state.words.next seen.plain.next (next_is seen l w)) in
           inr (
             Take seen.state.words.next,
             at,
             room,
-            inl (omega (
-              arith,
-              one,
-              stale,
-              ap (λ (y : Plain). doorway n N y.next (seen.state.words.next == y.next)) same,
-              ap (doorway n N seen.plain.next) (eq-eqb seen.state.words.next seen.plain.next next_is),
-            )),
+            rw (plain, fresh) (doorway_next n (N - seen.plain.next) r (omega (arith, stale, within.mine))),
+            rw plain (λ o other not_its. omega (arith, same o (slice_get seen.state.seats o))),
           )
 
-      own_load : slice_get seen.state.seats p ≡ Some (Calling Lock LoadNext None) → walk.After m k f x seen p (its seen LoadNext) → walk.Own m k f x seen LoadNext (its seen LoadNext)
-      own_load there after = goes_for_next LoadNext (its seen LoadNext) refl (rw (left_is after.fine) (get-set_same seen.state.seats p _ _ there)) refl
+    -- it takes its ticket, whose number was next
+    own_taken : (seen : World) (j r : ℕ) → (w : walk.Waits m k f x seen (Take j)) → walk.Within m k f x seen (Take j) (suc r) → walk.After m k f x seen p (its seen (Take j)) → seen.state.words.next ≡ j → nat_lt seen.state.words.next ticket_limit ≡ true → walk.Own m k f x seen (Take j) r (its seen (Take j))
+    own_taken seen j r w within made e left =
+        inr (Await j, at, tt, omega (arith, bit_few (first_party sc.after.plain.tickets == p), some_wait), λ o other not_its. others_now o other)
+      where
+        s : Plain
+        s = seen.plain
 
-      module _ (j : ℕ) (there : slice_get seen.state.seats p ≡ Some (Calling Lock (Take j) None)) (after : walk.After m k f x seen p (its seen (Take j))) where
-        abbrev sc : Scene TicketWords V TicketCall TicketPoint (Answer V)
+        sc : Scene TicketWords V TicketCall TicketPoint (Answer V)
         sc = its seen (Take j)
 
-        left : nat_lt seen.state.words.next ticket_limit ≡ true
-        left = left_is (omega (arith, next_grows seen.plain sc.change, after.fine))
+        is : (seen.state.words.next == j) ≡ true
+        is = eq-eqb seen.state.words.next j e
 
-        own_take : walk.Own m k f x seen (Take j) sc
-        own_take =
+        at : slice_get sc.after.state.seats p ≡ Some (Calling Lock (Await j) None)
+        at = rw (is, left) (get-set_same seen.state.seats p _ _ w.0)
+
+        taken : (sc.after.plain.next ≡ s.next + 1) × (sc.after.plain.tickets ≡ s.tickets ++ queued p s.next false ∷ [])
+        taken = rw (is, left) (refl, refl)
+
+        fresh : doorway n (N - s.next) true ≤ suc r
+        fresh = omega (arith, within.mine, ap (doorway n (N - s.next)) (eq-eqb j s.next (sym e ∙ next_is seen (Take j) w)))
+
+        one_left : s.next + 1 ≤ N
+        one_left = omega (arith, made.fine, taken.0)
+
+        some_wait : 1 ≤ r
+        some_wait = omega (arith, fresh, doorway_two n (N - s.next) (omega (arith, one_left)))
+
+        few_ahead : j - serving_word sc.after.plain + 1 ≤ n
+        few_ahead = near sc.after (Await j) (at, tt, made.known, made.good) j refl
+
+        serves_same : serving_word sc.after.plain ≡ serving_word s
+        serves_same = rw (taken.0, taken.1) (serving-taken s p false (numbered seen (Take j) w))
+
+        others_now : (o : ℕ) → (o ≡ p → ⊥) → ahead j (serving_word sc.after.plain) sc.after.plain.tickets o (slice_get seen.state.seats o) ≤ max (theirs_by N s (Take j) o (slice_get seen.state.seats o)) r
+        others_now o other =
             ⊎_elim
-            -- the number is next, and it takes that ticket
-            (λ (e : seen.state.words.next ≡ j).
-            let is = eq-eqb seen.state.words.next j e in
-            let at : slice_get sc.after.state.seats p ≡ Some (Calling Lock (Await j) None) = rw (is, left) (get-set_same seen.state.seats p _ _ there) in
-            let grown : sc.after.plain.next ≡ seen.plain.next + 1 = rw (is, left) refl in
-            inr (Await j, at, tt, inl (omega (arith, waits_few sc.after j (at, tt, after.known, after.good), ap (doorway n N seen.plain.next) (eq-eqb j seen.plain.next (sym e ∙ next_is)), grown, after.fine, one))))
-            -- another number is next, and it goes for that
-            (λ (ne : seen.state.words.next ≡ j → ⊥).
-            let other = ne_eqb seen.state.words.next j ne in
-            goes_for_next (Take j) sc (ap (doorway n N seen.plain.next) (ne_eqb j seen.plain.next (λ e. absurd (ne (next_is ∙ sym e))))) (rw (other, left) (get-set_same seen.state.seats p _ _ there)) (rw other refl))
-            (cases_eq seen.state.words.next j)
+            (λ (last : N - s.next < 2).
+            let alone : (N - s.next == 1) ≡ true = eq-eqb (N - s.next) 1 (omega (arith, last, one_left)) in
+            rw (alone, serves_same, taken.1, sym e, next_is seen (Take j) w) (by s.tickets refl))
+            (λ (more : 2 ≤ N - s.next). omega (arith, ahead_most j (serving_word sc.after.plain) sc.after.plain.tickets o (slice_get seen.state.seats o), left_few (slice_get seen.state.seats o), few_ahead, doorway_long n (N - s.next) r true more fresh))
+            (cases_lt (N - s.next) 2)
+          where
+            by : (ts : List Queued) → s.tickets ≡ ts → ahead s.next (serving_word s) (ts ++ queued p s.next false ∷ []) o (slice_get seen.state.seats o) ≤ max (ahead s.next (serving_word s) ts o (slice_get seen.state.seats o)) r
+            by [] is = omega (arith, ahead_other s.next (serving_word s) (queued p s.next false ∷ []) o (slice_get seen.state.seats o) other)
+            by (u ∷ us) is = omega (arith, ahead_same s.next (serving_word s) (u ∷ us) (u ∷ us ++ queued p s.next false ∷ []) o (slice_get seen.state.seats o) refl refl)
 
-    own_by : (seen : World) (l : TicketPoint) → walk.Waits m k f x seen l → walk.After m k f x seen p (its seen l) → walk.Own m k f x seen l (its seen l)
-    own_by seen (Await t) w after = own_await seen t w
-    own_by seen LoadNext w after = own_load seen w.3 w.2 (some_party seen LoadNext w) w.1 w.0 after
-    own_by seen (Take j) w after = own_take seen w.3 w.2 (some_party seen (Take j) w) w.1 j w.0 after
-    own_by seen l w after = absurd (grind (arith, w.1))
+    own_take : (seen : World) (j r : ℕ) → (w : walk.Waits m k f x seen (Take j)) → walk.Within m k f x seen (Take j) (suc r) → walk.After m k f x seen p (its seen (Take j)) → walk.Own m k f x seen (Take j) r (its seen (Take j))
+    own_take seen j r w within made =
+        ⊎_elim (λ (e : seen.state.words.next ≡ j). own_taken seen j r w within made e left)
+        (λ (ne : seen.state.words.next ≡ j → ⊥).
+        let other = ne_eqb seen.state.words.next j ne in
+        goes_for_next seen (Take j) w r within w.1 (ap (doorway n (N - seen.plain.next)) (ne_eqb j seen.plain.next (λ e. absurd (ne (next_is seen (Take j) w ∙ sym e))))) (λ o his. refl)
+        (rw (other, left) (get-set_same seen.state.seats p _ _ w.0)) (rw other refl))
+        (cases_eq seen.state.words.next j)
+      where
+        left : nat_lt seen.state.words.next ticket_limit ≡ true
+        left = left_is seen (Take j) w r within w.1 (omega (arith, next_grows seen.plain (its seen (Take j)).change, made.fine))
 
-    -- another party is due where this one has its ticket
-    others : (seen : World) (l : TicketPoint) → walk.Waits m k f x seen l → (walk.due m k f x seen l ≡ p → ⊥) → walk.Due m k f x seen l
-    others seen (Await t) w ne =
-        record {
-          begins = λ c i h there may. grind (arith, behind seen t w ne, there, may, subst (SitsSo has_ticket _) there (his_sits seen t w));
-          steps = λ c i h there after. inr (steps seen t w ne c i h there (subst (SitsSo has_ticket _) there (his_sits seen t w)));
-          refuses = λ c i h next there may. absurd (strong c i h next may);
-          busy = λ some. walk.busy_so (ticket_table v first) (ticket_notes v first) has_ticket _ _ refl (λ h is. grind (arith, is)) (his_sits seen t w);
-        }
-    others seen l w ne = absurd (grind (arith, ne))
+    own_by : (seen : World) (l : TicketPoint) (r : ℕ) → (w : walk.Waits m k f x seen l) → walk.Within m k f x seen l (suc r) → walk.After m k f x seen p (its seen l) → walk.Own m k f x seen l r (its seen l)
+    own_by seen (Await t) r w within made = own_ticket seen t r w
+    own_by seen LoadNext r w within made = goes_for_next seen LoadNext w r within w.1 refl (λ o his. refl) (rw (left_is seen LoadNext w r within w.1 made.fine) (get-set_same seen.state.seats p _ _ w.0)) refl
+    own_by seen (Take j) r w within made = own_take seen j r w within made
+    own_by seen l r w within made = absurd (grind (arith, w.1))
 
-    -- a step of a third party
-    beside : (seen : World) (l : TicketPoint) → walk.Waits m k f x seen l → (q : ℕ) → (q ≡ walk.due m k f x seen l → ⊥) → (step : Option Change) → IsOpenStep seen.plain q step → BelongsTo ticket step → (apply_some seen.plain step).next ≤ N
-        → walk.Alike m k f x seen l (apply_some seen.plain step) l
-    beside seen (Await t) w q ne step opens belongs fine = let left = leaves_first seen.plain q step (some seen t w) (numbered seen t w) ne opens belongs in (left.0, omega (arith, left.1))
-    beside seen LoadNext w q ne step opens belongs fine = (refl, omega (arith, next_grows seen.plain step))
-    beside seen (Take j) w q ne step opens belongs fine = (refl, doorway_kept n N j seen.plain.next (apply_some seen.plain step).next (some_party seen (Take j) w) (next_grows seen.plain step) fine)
-    beside seen l w q ne step opens belongs fine = absurd (grind (arith, w.1))
+    -- A step of another party, by whether tickets were taken by it
 
-    -- how long it waits at most, and at least one round
-    lasts : (seen : World) (l : TicketPoint) → walk.Waits m k f x seen l → (1 ≤ walk.rank m k f x seen l) × (walk.rank m k f x seen l ≤ 3 * n - 1 + (N - seen.plain.next))
-    lasts seen (Await t) w = (omega arith, omega (arith, waits_few seen t w))
-    lasts seen (Take j) w = let one = some_party seen (Take j) w in (grind (arith, one), grind (arith, one))
-    lasts seen LoadNext w = let one = some_party seen LoadNext w in (omega (arith, one), omega arith)
-    lasts seen l w = absurd (grind (arith, w.1))
+    module _ (seen : World) (l : TicketPoint) (w : walk.Waits m k f x seen l) (r : ℕ) (within : walk.Within m k f x seen l (suc r)) (q : ℕ) (c : TicketCall) (i : TicketPoint) (h : Option Hold) (ne : q ≡ p → ⊥) (at : slice_get seen.state.seats q ≡ Some (Calling c i h)) where
+      abbrev y : Scene TicketWords V TicketCall TicketPoint (Answer V)
+      y = scene_at m seen q Step (Some (Calling c i h))
+
+      steps_with : (t : ℕ) → l ≡ Await t → walk.After m k f x seen q y → walk.Falls m k f x seen (Await t) q y r
+      steps_with t is made =
+          let turned = turns seen l w t r (some seen l w t is) (behind seen l w t is) q c i h ne at made (subst (λ o. ahead t (serving_word seen.plain) seen.plain.tickets q o ≤ suc r) at (subst (λ i. theirs_by N seen.plain i q (slice_get seen.state.seats q) ≤ suc r) is (within.theirs q ne))) in
+          record { his = turned.mine; mine = at_most_one (first_party y.after.plain.tickets) (first_party seen.plain.tickets) p r turned.first_same; others = λ o other not_his. turned.others o not_his }
+
+      module _ (door : at_door l) (made : walk.After m k f x seen q y) (fits : doorway n (N - seen.plain.next) (is_fresh l seen.plain.next) ≤ suc r) where
+        abbrev next : ℕ
+        next = y.after.plain.next
+
+        abbrev soon : ℕ → Option TicketSeat → ℕ
+        soon o his = ahead next (serving_word y.after.plain) y.after.plain.tickets o his
+
+        -- some were
+        others_more : seen.plain.next < next → (o : ℕ) (his : Option TicketSeat) → (if N - next == 1 then soon o his else 0) ≤ r
+        others_more more o his = by (N - next == 1) refl
+          where
+            by : (b : Bool) → (N - next == 1) ≡ b → (if b then soon o his else 0) ≤ r
+            by true last =
+                let one = eqb-true (N - next) 1 last in
+                omega (arith, queue_few y.after l (made.others p ne ∙ w.0, w.1, made.known, made.good) door, ahead_most next (serving_word y.after.plain) y.after.plain.tickets o his, left_few his, doorway_long n (N - seen.plain.next) r (is_fresh l seen.plain.next) (omega (arith, more, one)) fits)
+            by false not_last = omega arith
+
+        -- none was
+        door_turned : N - seen.plain.next ≡ 1 → next ≡ seen.plain.next → theirs_by N seen.plain l q (slice_get seen.state.seats q) ≡ ahead seen.plain.next (serving_word seen.plain) seen.plain.tickets q (slice_get seen.state.seats q) → Turned seen l w seen.plain.next r q y
+        door_turned last same is = by (is_empty seen.plain.tickets) refl
+          where
+            by : (b : Bool) → is_empty seen.plain.tickets ≡ b → Turned seen l w seen.plain.next r q y
+            by true none =
+                let still : y.after.plain.tickets ≡ [] = stays_empty seen.plain q y.change none made.opens (omega (arith, same)) in
+                let zero = λ (o : ℕ) (his : Option TicketSeat). ap (λ ts. ahead seen.plain.next (serving_word y.after.plain) ts o his) still in
+                record { mine = omega (arith, zero q (slice_get y.after.state.seats q)); others = λ o other. omega (arith, zero o (slice_get seen.state.seats o)); first_same = inl (ap first_party (still ∙ sym (empty_is seen.plain.tickets none))) }
+            by false some = turns seen l w seen.plain.next r some (λ ne. grind (arith, some, (numbered seen l w).0)) q c i h ne at made (subst (λ o. ahead seen.plain.next (serving_word seen.plain) seen.plain.tickets q o ≤ suc r) at (omega (arith, is, within.theirs q ne)))
+
+        abbrev Door : Type 0
+        Door = ((if N - next == 1 then soon q (slice_get y.after.state.seats q) else 0) ≤ r) × (doorway n (N - next) (is_fresh l next) ≤ max (doorway n (N - seen.plain.next) (is_fresh l seen.plain.next)) r)
+            × ((o : ℕ) → (q ≡ o → ⊥) → (if N - next == 1 then soon o (slice_get seen.state.seats o) else 0) ≤ max (if N - seen.plain.next == 1 then ahead seen.plain.next (serving_word seen.plain) seen.plain.tickets o (slice_get seen.state.seats o) else 0) r)
+
+        door_falls : ((N - seen.plain.next == 1) ≡ true → theirs_by N seen.plain l q (slice_get seen.state.seats q) ≡ ahead seen.plain.next (serving_word seen.plain) seen.plain.tickets q (slice_get seen.state.seats q)) → Door
+        door_falls is =
+            ⊎_elim
+            (λ (more : seen.plain.next < next).
+            (others_more more q (slice_get y.after.state.seats q), omega (arith, doorway_less n (N - seen.plain.next) (N - next) (is_fresh l seen.plain.next) (is_fresh l next) (omega (arith, more, made.fine))), λ o other. omega (arith, others_more more o (slice_get seen.state.seats o))))
+            (λ (no_more : next ≤ seen.plain.next). same (omega (arith, no_more, next_grows seen.plain y.change)) (N - seen.plain.next == 1) refl)
+            (cases_lt seen.plain.next next)
+          where
+            same : next ≡ seen.plain.next → (b : Bool) → (N - seen.plain.next == 1) ≡ b → Door
+            same e true last =
+                let turned = door_turned (eqb-true (N - seen.plain.next) 1 last) e (is last) in
+                let soon_is = λ (o : ℕ) (his : Option TicketSeat). ap (λ z. ahead z (serving_word y.after.plain) y.after.plain.tickets o his) e in
+                rw (ap (λ z. N - z == 1) e ∙ last, last)
+                (omega (arith, turned.mine, soon_is q (slice_get y.after.state.seats q)), omega (arith, ap (λ z. doorway n (N - z) (is_fresh l z)) e), λ o other. omega (arith, turned.others o other, soon_is o (slice_get seen.state.seats o)))
+            same e false last = rw (ap (λ z. N - z == 1) e ∙ last, last) (omega arith, omega (arith, ap (λ z. doorway n (N - z) (is_fresh l z)) e), λ o other. omega arith)
+
+    steps_by : (seen : World) (l : TicketPoint) (r : ℕ) → (w : walk.Waits m k f x seen l) → walk.Within m k f x seen l (suc r) → (q : ℕ) (c : TicketCall) (i : TicketPoint) (h : Option Hold) → (q ≡ p → ⊥) → slice_get seen.state.seats q ≡ Some (Calling c i h)
+        → walk.After m k f x seen q (scene_at m seen q Step (Some (Calling c i h))) → walk.Falls m k f x seen l q (scene_at m seen q Step (Some (Calling c i h))) r
+    steps_by seen (Await t) r w within q c i h ne at made = steps_with seen (Await t) w r within q c i h ne at t refl made
+    steps_by seen LoadNext r w within q c i h ne at made =
+        let door = door_falls seen LoadNext w r within q c i h ne at tt made within.mine (λ last. rw last refl) in record { his = door.0; mine = door.1; others = λ o other. door.2 o }
+    steps_by seen (Take j) r w within q c i h ne at made =
+        let door = door_falls seen (Take j) w r within q c i h ne at tt made within.mine (λ last. rw last refl) in record { his = door.0; mine = door.1; others = λ o other. door.2 o }
+    steps_by seen l r w within q c i h ne at made = absurd (grind (arith, w.1))
+
+    -- Other moves
+
+    first_begins : (seen : World) (l : TicketPoint) → walk.Waits m k f x seen l → (t q : ℕ) (c : TicketCall) (i : TicketPoint) (h : Option Hold) → slice_get seen.state.seats q ≡ Some (resting h) → m.begin c h ≡ Some i
+        → ahead t (serving_word seen.plain) seen.plain.tickets q (Some (Calling c i h)) ≤ ahead t (serving_word seen.plain) seen.plain.tickets q (slice_get seen.state.seats q) - 1
+    first_begins seen l w t q c i h at may = by (is_empty seen.plain.tickets) refl
+      where
+        d : ℕ
+        d = first_party seen.plain.tickets
+
+        less : is_empty seen.plain.tickets ≡ false → slice_get seen.state.seats d ≡ Some (resting h) → left_to (Some (Calling c i h)) + 1 ≤ left_to (slice_get seen.state.seats d)
+        less some there = grind (arith, there, may, subst (SitsSo has_ticket d) there (his_sits seen l w some))
+
+        by : (b : Bool) → is_empty seen.plain.tickets ≡ b
+            → ahead t (serving_word seen.plain) seen.plain.tickets q (Some (Calling c i h)) ≤ ahead t (serving_word seen.plain) seen.plain.tickets q (slice_get seen.state.seats q) - 1
+        by true none = omega (arith, ap (λ ts. ahead t (serving_word seen.plain) ts q (Some (Calling c i h))) (empty_is seen.plain.tickets none))
+        by false some =
+            ⊎_elim
+            (λ (is : d ≡ q).
+            subst (λ z. slice_get seen.state.seats z ≡ Some (resting h) → ahead t (serving_word seen.plain) seen.plain.tickets z (Some (Calling c i h)) ≤ ahead t (serving_word seen.plain) seen.plain.tickets z (slice_get seen.state.seats z) - 1) is
+            (λ there. omega (arith, less some there, ahead_own t (serving_word seen.plain) seen.plain.tickets (Some (Calling c i h)) some, ahead_own t (serving_word seen.plain) seen.plain.tickets (slice_get seen.state.seats d) some)) at)
+            (λ (ne : d ≡ q → ⊥). omega (arith, ahead_other t (serving_word seen.plain) seen.plain.tickets q (Some (Calling c i h)) (λ e. ne (sym e))))
+            (cases_eq d q)
+
+    busy_by : (seen : World) (l : TicketPoint) → walk.Waits m k f x seen l → (t q : ℕ) → 1 ≤ ahead t (serving_word seen.plain) seen.plain.tickets q (slice_get seen.state.seats q) → is_busy (slice_get seen.state.seats q) ≡ true
+    busy_by seen l w t q long = by (is_empty seen.plain.tickets) refl
+      where
+        by : (b : Bool) → is_empty seen.plain.tickets ≡ b → is_busy (slice_get seen.state.seats q) ≡ true
+        by true none = absurd (omega (arith, long, ap (λ ts. ahead t (serving_word seen.plain) ts q (slice_get seen.state.seats q)) (empty_is seen.plain.tickets none)))
+        by false some =
+            ⊎_elim (λ (is : first_party seen.plain.tickets ≡ q). subst (λ z. is_busy (slice_get seen.state.seats z) ≡ true) is (walk.busy_so (ticket_table v first) (ticket_notes v first) has_ticket _ _ refl (λ h is. grind (arith, is)) (his_sits seen l w some)))
+            (λ (ne : first_party seen.plain.tickets ≡ q → ⊥). absurd (omega (arith, long, ahead_other t (serving_word seen.plain) seen.plain.tickets q (slice_get seen.state.seats q) (λ e. ne (sym e))))) (cases_eq (first_party seen.plain.tickets) q)
+
+    busy_at : (seen : World) (l : TicketPoint) → walk.Waits m k f x seen l → (q : ℕ) → 1 ≤ theirs_by N seen.plain l q (slice_get seen.state.seats q) → is_busy (slice_get seen.state.seats q) ≡ true
+    busy_at seen (Await t) w q long = busy_by seen (Await t) w t q long
+    busy_at seen l w q long = busy_by seen l w seen.plain.next q (grind (arith, w.1, long))
+
+    some_load : (seen : World) (l : TicketPoint) → walk.Waits m k f x seen l → walk.Within m k f x seen l 0 → ⊥
+    some_load seen (Await t) w none =
+        ⊎_elim (λ (is : first_party seen.plain.tickets ≡ p). absurd (omega (arith, subst (λ b. (if b then 1 else 0) ≤ 0) (eq-eqb (first_party seen.plain.tickets) p is) none.mine)))
+        (λ (ne : first_party seen.plain.tickets ≡ p → ⊥). absurd (omega (arith, none.theirs (first_party seen.plain.tickets) ne, behind seen (Await t) w t refl ne, ahead_own t (serving_word seen.plain) seen.plain.tickets (slice_get seen.state.seats (first_party seen.plain.tickets)) (some seen (Await t) w t refl)))) (cases_eq (first_party seen.plain.tickets) p)
+    some_load seen LoadNext w none = omega (arith, none.mine, (doorway_fits n (N - seen.plain.next) false).0)
+    some_load seen (Take j) w none = omega (arith, none.mine, (doorway_fits n (N - seen.plain.next) (j == seen.plain.next)).0)
+    some_load seen l w none = absurd (grind (arith, w.1))
+
+    door_few : (seen : World) (l : TicketPoint) → walk.Waits m k f x seen l → at_door l → (q : ℕ) → (if N - seen.plain.next == 1 then ahead seen.plain.next (serving_word seen.plain) seen.plain.tickets q (slice_get seen.state.seats q) else 0) ≤ max 2 (3 * n - 2) + (N - seen.plain.next)
+    door_few seen l w door q = grind (arith, queue_few seen l w door, ahead_most seen.plain.next (serving_word seen.plain) seen.plain.tickets q (slice_get seen.state.seats q), left_few (slice_get seen.state.seats q))
+
+    -- how long it waits at most
+    loads_few : (seen : World) (l : TicketPoint) → walk.Waits m k f x seen l → walk.Within m k f x seen l (max 2 (3 * n - 2) + (N - seen.plain.next))
+    loads_few seen (Await t) w = record { mine = omega (arith, bit_few (first_party seen.plain.tickets == p)); theirs = λ q ne. omega (arith, near seen (Await t) w t refl, ahead_most t (serving_word seen.plain) seen.plain.tickets q (slice_get seen.state.seats q), left_few (slice_get seen.state.seats q)) }
+    loads_few seen LoadNext w = record { mine = (doorway_fits n (N - seen.plain.next) false).1; theirs = λ q ne. door_few seen LoadNext w tt q }
+    loads_few seen (Take j) w = record { mine = (doorway_fits n (N - seen.plain.next) (j == seen.plain.next)).1; theirs = λ q ne. door_few seen (Take j) w tt q }
+    loads_few seen l w = absurd (grind (arith, w.1))
+
+    begins_by : (seen : World) (l : TicketPoint) → walk.Waits m k f x seen l → (q : ℕ) (c : TicketCall) (i : TicketPoint) (h : Option Hold) → slice_get seen.state.seats q ≡ Some (resting h) → m.begin c h ≡ Some i
+        → theirs_by N seen.plain l q (Some (Calling c i h)) ≤ theirs_by N seen.plain l q (slice_get seen.state.seats q) - 1
+    begins_by seen (Await t) w q c i h at may = first_begins seen (Await t) w t q c i h at may
+    begins_by seen l w q c i h at may = grind (arith, w.1, first_begins seen l w seen.plain.next q c i h at may)
 
     walks : walk.Walks m k f x
     walks =
@@ -334,10 +574,13 @@ module _ {V : Type 0} (v : V) (first : ℕ) where
           fine = λ seen q move good fine. omega (arith, next_grows seen.plain (scene m seen q move).change, fine);
           keeps = λ seen q move l w. inr (length-happens m seen.state q move ∙ w.2);
           own = own_by;
+          steps = λ seen l r w within q c i h ne at made. inr (steps_by seen l r w within q c i h ne at made);
           weak = λ seen l next at may. absurd (strong Lock l None next may);
-          others = others;
-          leaks = λ s l h. grind arith;
-          beside = λ seen l q d i j w ne not_due there after. inr (inr (beside seen l w q not_due _ after.opens after.belongs after.fine));
+          refuses = λ seen l w q c i h next ne at may. absurd (strong c i h next may);
+          begins = λ seen l w q c i h ne at may. let low = begins_by seen l w q c i h at may in (omega (arith, low), λ is. low);
+          leaks = λ s l q h. grind arith;
+          busy = λ seen l q w ne long. busy_at seen l w q long;
+          some = some_load;
         }
 
   await_at : (t p : ℕ) (c : TicketCall) (l : TicketPoint) (h : Option Hold) → StandsSo (ticket_table v first) (ticket_notes v first) (λ e. waits_by t e.tickets) p c l h
@@ -376,20 +619,23 @@ module _ {V : Type 0} (v : V) (first : ℕ) where
     many : length seen.state.seats ≡ n
     many = ap (λ (x : State TicketWords V TicketCall TicketPoint). length x.seats) (state_is m k f n past) ∙ (parties past (at_first m n) ∙ length-replicate n _)
 
-    granted_in : (p : ℕ) (l : TicketPoint) (rounds : List (List (ℕ × Move TicketCall V))) → let N = last rounds in slice_get now.seats p ≡ Some (Calling Lock l None) → at_lock N l → AreRounds m now rounds → (walk.Waits m k f (x p n N) seen l → walk.rank m k f (x p n N) seen l ≤ length rounds)
+    granted_in : (p : ℕ) (l : TicketPoint) (rounds : List (List (ℕ × Move TicketCall V))) → let N = last rounds in slice_get now.seats p ≡ Some (Calling Lock l None) → at_lock N l → AreRounds m now rounds → (walk.Waits m k f (x p n N) seen l → walk.Within m k f (x p n N) seen l (length rounds))
         → occurs m (grants m p) now (joined rounds) ≡ true
-    granted_in p l rounds there at are enough = walk.ends m k f (x p n (last rounds)) (walks p n (last rounds)) (λ seen l w. (lasts p n (last rounds) seen l w).0) n past rounds l there at many (omega arith) are enough
+    granted_in p l rounds there at are enough = walk.ends m k f (x p n (last rounds)) (walks p n (last rounds)) n past rounds l there at many (omega arith) are enough
 
     pub enters_in_rounds : (rounds : List (List (ℕ × Move TicketCall V))) → EntersInRounds m n past rounds
-    enters_in_rounds rounds p t c l h there with_it are few =
+    enters_in_rounds rounds p t c l h there with_it are long =
         let at = await_at t p c l h (calls_so (ticket_table v first) (ticket_notes v first) f n past (λ e. waits_by t e.tickets) p c l h there (ap (λ (e : Entries). waits_by t e.tickets) with_it ∙ rw (eqb_self t) refl)) in
-        granted_in p (Await t) rounds (there ∙ at) tt are (λ w. grind (arith, few, numbers.1))
+        let long_here : 3 * (t - serving_word seen.plain) + 1 ≤ length rounds = omega (arith, long, ap (λ z. t - z) numbers.1) in
+        granted_in p (Await t) rounds (there ∙ at) tt are
+        (λ w. record { mine = omega (arith, bit_few (first_party seen.plain.tickets == p), long_here); theirs = λ q ne. omega (arith, long_here, ahead_most t (serving_word seen.plain) seen.plain.tickets q (slice_get seen.state.seats q), left_few (slice_get seen.state.seats q)) })
 
     pub never_starved : (schedule : ℕ → ℕ × Move TicketCall V) → IsNeverStarved m n past schedule
     never_starved schedule p t c l h there with_it fair =
         at_last m (grants m p) now (3 * (t - now.words.serving) + 1) (λ rounds are long. enters_in_rounds rounds p t c l h there with_it are (omega (arith, long))) schedule fair
 
     pub locks_in_rounds : (rounds : List (List (ℕ × Move TicketCall V))) → LocksInRounds m n past rounds
-    locks_in_rounds rounds p c l h there asks are room few =
+    locks_in_rounds rounds p c l h there asks are room long =
         let at = lock_at (last rounds) p c l h seen.plain (seen.span p) asks (calls m k f n past p c l h there).knows (omega (arith, room, last_is rounds)) in
-        granted_in p l rounds (there ∙ at.0) at.1 are (λ w. omega (arith, few, numbers.0, last_is rounds, (lasts p n (last rounds) seen l w).1))
+        granted_in p l rounds (there ∙ at.0) at.1 are
+        (λ w. let low = loads_few p n (last rounds) seen l w in record { mine = omega (arith, low.mine, long, numbers.0, last_is rounds); theirs = λ q ne. omega (arith, low.theirs q ne, long, numbers.0, last_is rounds) })

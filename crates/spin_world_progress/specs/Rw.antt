@@ -1,6 +1,7 @@
 -- Progress of a read-write lock: how many rounds an upgrade waits at most.
-use Rattle.std.specs.Prelude.{◌≡◌, ℕ, ◌+◌, ◌≤◌, false, None, sum_by, ◌||◌, true, Option, Some, List, length, slice_get}
-use Rattle.spin_step.specs.Plain.{Kind, reading, upgradable, asking, writing, is_holder}
+use Rattle.std.specs.List.{list_any}
+use Rattle.std.specs.Prelude.{◌≡◌, ℕ, ◌≤◌, Bool, false, None, ◌||◌, true, if◌then◌else◌, Option, Some, List, [], ◌∷◌, length, slice_get}
+use Rattle.spin_step.specs.Plain.{Kind, Holder, reading, upgradable, asking, writing, same_kind, is_holder}
 use Rattle.spin_step_more.specs.declared.rw_calls.RwCall.{RwCall}
 use Rattle.spin_step_more.specs.declared.rw_calls.RwPoint.{RwPoint}
 use Rattle.spin_model.specs.Acts.{is_waiting}
@@ -35,19 +36,27 @@ abbrev pub refuses_any : {V C L A : Type 0} → Test V C L A
 refuses_any q Weak o x = is_step o
 refuses_any q _ o x = false
 
--- how many rounds a holder of this kind may take until it has gone, over what it may become
-abbrev pub rounds_left : Kind → ℕ
-rounds_left reading = 2
-rounds_left upgradable = 4
-rounds_left asking = 2
-rounds_left writing = 6
+-- the kind of the holder that does more than read, if one does
+abbrev pub leading : List Holder → Kind
+leading [] = reading
+leading (h ∷ hs) = if same_kind reading h.kind then leading hs else h.kind
 
--- While a party waits that holds nothing, some party is granted in so many rounds as those who hold may take and two more, or some exchange is refused without cause
+-- how many rounds pass at most beside it, by whether somebody reads beside it
+abbrev pub rounds_by : Kind → Bool → ℕ
+rounds_by reading reads = if reads then 4 else 2
+rounds_by upgradable reads = if reads then 6 else 5
+rounds_by asking reads = if reads then 3 else 1
+rounds_by writing reads = 6
+
+abbrev pub rounds_beside : List Holder → ℕ
+rounds_beside hs = rounds_by (leading hs) (list_any (λ h. same_kind reading h.kind) hs)
+
+-- While a party waits that holds nothing, some party is granted in so many rounds, by who holds, or some exchange is refused without cause
 abbrev pub GrantsSomebody : {V : Type 0} → Machine ℕ V RwCall RwPoint (Answer V) → ℕ → List (ℕ × Move RwCall V) → List (List (ℕ × Move RwCall V)) → Type 0
 GrantsSomebody m n past rounds =
     let s = after m (at_first m n) past in
     (p : ℕ) (c : RwCall) (l : RwPoint) → slice_get s.seats p ≡ Some (Calling c l None) → is_waiting (m.asks c None) ≡ true
-    → AreRounds m s rounds → 2 + sum_by (λ h. rounds_left h.kind) (seen_after m (opening m n) past).plain.holders ≤ length rounds
+    → AreRounds m s rounds → rounds_beside (seen_after m (opening m n) past).plain.holders ≤ length rounds
     → occurs m (λ q move o x. grants_any m q move o x || refuses_any q move o x) s (joined rounds) ≡ true
 
 -- Deadlock freedom: in an endless fair schedule some party is granted, or some exchange is refused without cause

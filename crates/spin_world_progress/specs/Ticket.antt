@@ -1,5 +1,5 @@
 -- Progress of a ticket lock: how many rounds a call of `lock` waits at most.
-use Rattle.std.specs.Prelude.{◌≡◌, ℕ, ◌+◌, ◌-◌, ◌*◌, ◌<◌, ◌≤◌, true, false, Option, Some, None, List, length, slice_get}
+use Rattle.std.specs.Prelude.{◌≡◌, ℕ, ◌+◌, ◌-◌, ◌*◌, ◌<◌, ◌≤◌, true, false, Option, Some, None, List, length, slice_get, max}
 use Rattle.spin_step.specs.Plain.{ticket_limit, to_enter}
 use Rattle.spin_model.specs.Calls.{waits}
 use Rattle.spin_model.specs.Machines.{Machine}
@@ -29,13 +29,13 @@ EntersInRounds m n past rounds =
     (p t : ℕ) (c : TicketCall) (l : TicketPoint) (h : Option Hold) → slice_get s.seats p ≡ Some (Calling c l h) → entries p (seen_after m (opening m n) past).plain ≡ waits_with p t
     → AreRounds m s rounds → 3 * (t - s.words.serving) + 1 ≤ length rounds → occurs m (grants m p) s (joined rounds) ≡ true
 
--- A party in a `lock`, one of n, is granted it in 3 n - 1 rounds, and one more for each ticket that is taken in them, its own too, where a number is left at their end
+-- A party in a `lock`, one of n, is granted it in 3 n - 2 rounds, or 2 where it is alone, and one more for each ticket that is taken in them, its own too, where a number is left at their end
 abbrev pub LocksInRounds : {V : Type 0} → TicketMachine V → ℕ → List (ℕ × Move TicketCall V) → List (List (ℕ × Move TicketCall V)) → Type 0
 LocksInRounds m n past rounds =
     let s = after m (at_first m n) past in
     let end = after m s (joined rounds) in
     (p : ℕ) (c : TicketCall) (l : TicketPoint) (h : Option Hold) → slice_get s.seats p ≡ Some (Calling c l h) → m.asks c h ≡ waits to_enter
-    → AreRounds m s rounds → end.words.next < ticket_limit → 3 * n - 1 + (end.words.next - s.words.next) ≤ length rounds → occurs m (grants m p) s (joined rounds) ≡ true
+    → AreRounds m s rounds → end.words.next < ticket_limit → max 2 (3 * n - 2) + (end.words.next - s.words.next) ≤ length rounds → occurs m (grants m p) s (joined rounds) ≡ true
 
 -- Starvation freedom behind the doorway: in an endless fair schedule a party that waits with its ticket is granted the lock
 abbrev pub IsNeverStarved : {V : Type 0} → TicketMachine V → ℕ → List (ℕ × Move TicketCall V) → (ℕ → ℕ × Move TicketCall V) → Type 0

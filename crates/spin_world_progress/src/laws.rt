@@ -72,11 +72,10 @@ pub fn a_ticket_is_never_starved<V: Copy>()
     ensures { (object : Ticket V) (n : ℕ) (past : List (ℕ × Move TicketCall V)) (schedule : ℕ → ℕ × Move TicketCall V) → IsNeverStarved (⟦<Ticket<V> as Object>⟧.machine object) n past schedule }
 {}
 
-/// States that a `lock` of one of `n` parties is granted in 3 n - 1 rounds, and one more for each ticket that is
-/// taken meanwhile, its own included. A number has to be left at their end.
+/// States that a `lock` of one of `n` parties is granted in 3 n - 2 rounds, or 2 where it is alone, and one more for
+/// each ticket that is taken meanwhile, its own included. A number has to be left at their end.
 ///
-/// Another party's ticket may cost it an exchange, as long as it has none. One party alone takes so many rounds; of two
-/// or more, no schedule is known that takes more than 3 n - 2 and the tickets.
+/// Another party's ticket may cost it an exchange, as long as it has none.
 pub fn a_lock_is_granted_in_rounds<V: Copy>()
     ensures { (object : Ticket V) (n : ℕ) (past : List (ℕ × Move TicketCall V)) (rounds : List (List (ℕ × Move TicketCall V))) → LocksInRounds (⟦<Ticket<V> as Object>⟧.machine object) n past rounds }
 {}
@@ -131,11 +130,10 @@ pub fn an_upgrade_is_never_starved<V: Copy>()
     ensures { (object : Rw V) (n : ℕ) (past : List (ℕ × Move RwCall V)) (schedule : ℕ → ℕ × Move RwCall V) → UpgradesAtLast (⟦<Rw<V> as Object>⟧.machine object) n past schedule }
 {}
 
-/// States that a read-write lock is free of deadlock: while a party waits that holds nothing, some party is granted
-/// in two rounds, and so many more as those who hold may take (`rounds_left`), or some exchange is refused without
-/// cause. There has to be room for a reader.
+/// States that while a party waits that holds nothing, some party is granted in so many rounds, at most six, by who
+/// holds (`rounds_beside`), or some exchange is refused without cause. There has to be room for a reader.
 ///
-/// Readers leave side by side, and are counted here one after the other. No schedule is known of more than 6 rounds.
+/// How many readers there are does not matter, since they leave side by side.
 pub fn somebody_is_granted_in_the_rounds_of_the_holders<V: Copy>()
     ensures { (object : Rw V) (n : ℕ) (past : List (ℕ × Move RwCall V)) (rounds : List (List (ℕ × Move RwCall V))) → 1 ≤ object.cap → GrantsSomebody (⟦<Rw<V> as Object>⟧.machine object) n past rounds }
 {}
