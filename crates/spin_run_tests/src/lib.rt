@@ -1,5 +1,4 @@
-//! Tests of worlds, of texts, of the explorer, and of both programs over streams in memory: what no contract says of
-//! them.
+//! Tests of worlds, of texts, of the explorer, and of both programs over streams in memory: what no contract says.
 #![tactic(auto)]
 
 #[cfg(test)]

@@ -17,7 +17,7 @@ mod transcript;
 mod words;
 
 pub use ends::{Failed, OfStd, Sink, Source, write_whole};
-pub use entries::{entries as schedule_of, owner_move, plain_move};
+pub use entries::{entry, owner_move, plain_move};
 pub use header::{Header, header_of};
 pub use laws::a_text_has_one_reading;
 pub use numbers::{number, numbers_are_printed_texts};

@@ -10,7 +10,7 @@ use Rattle.spin_world_tests.specs.declared.dispenser.DispenserPoint.{DispenserPo
 use Rattle.spin_world_tests.specs.declared.dispenser.DispenserPoint.TheVariants.{Exchange}
 use Rattle.spin_model.specs.Calls.{Mark}
 use Rattle.spin_model.specs.Acts.{begin_of}
-use Rattle.spin_world_tests.specs.Dispenser.{dispenser, next_after, dispenser_table, dispenser_machine}
+use Rattle.spin_world_tests.specs.Dispenser.{next_after, dispenser_table, dispenser_machine}
 use Rattle.spin_world_core.proofs.Facts.{LocalInvariant, Facts}
 use Rattle.spin_world_core.proofs.Rows.{Point, starts, looked}
 use Rattle.spin_world_core.proofs.Shapes.{Notes, keeping_of, Means, OwesAt, Pays}

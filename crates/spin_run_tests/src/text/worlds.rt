@@ -6,7 +6,7 @@ use super::refused::in_each_room;
 use super::stops::at_each_place;
 use super::transcripts::WORKED;
 use crate::alike::{Alike, are_alike};
-use spin_text::{Header, Rest, first_line, header_of, schedule_of};
+use spin_text::{Header, Rest, entry, first_line, header_of};
 use spin_world::{
     Answer, BarrierObject, Event, Fair, Flag, Move, Object, OnceObject, Outcome, Place, Rw, Ticket,
     Transcript, World,
@@ -158,6 +158,22 @@ pub enum Trial {
     Refused,
 }
 
+/// Reads the schedule that these lines spell.
+fn schedule_of<O: OfHeader>(
+    rt: &impl Abort,
+    alloc: Global,
+    shows: &str,
+    lines: Rest,
+) -> Vec<(usize, Move<O::Call, u64>)> {
+    let lines = str::from_utf8(lines.unwrap_or(&[])).expect(rt, shows);
+    let mut schedule = Vec::new(alloc);
+    for line in lines.lines() {
+        let entry = entry::<O>(line.as_bytes()).expect(rt, shows);
+        schedule.push(entry).expect(rt, shows);
+    }
+    schedule
+}
+
 fn try_schedule<O: OfHeader>(
     rt: &impl Abort,
     alloc: Global,
@@ -165,7 +181,7 @@ fn try_schedule<O: OfHeader>(
     opening: Opening,
     lines: Rest,
 ) {
-    let schedule = schedule_of::<O>(alloc, lines).expect(rt, opening.shows);
+    let schedule = schedule_of::<O>(rt, alloc, opening.shows, lines);
     match trial {
         Trial::Stops => at_each_place::<O>(rt, alloc, opening, &schedule),
         Trial::Refused => in_each_room::<O>(rt, alloc, opening, &schedule),
