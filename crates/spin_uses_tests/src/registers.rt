@@ -31,6 +31,7 @@ impl<W: Abort + Wait> Work for ReadBeside<'_, W> {
         let refused = register::try_read(&lock, &mut seen);
         equal(rt, register::try_write(&lock, 2, &mut seen), false);
         drop(reader);
+        equal(rt, register::try_read(&lock, &mut seen), Some(1));
         equal(rt, register::try_write(&lock, 2, &mut seen), true);
         let writer = lock.write(rt);
         let kept_out = register::try_read_shared(rt, &lock, &mut seen);
