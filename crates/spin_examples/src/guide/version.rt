@@ -1,4 +1,4 @@
-//! A version that one thread raises. No reader sees it fall.
+//! A version that threads raise. No reader sees it fall.
 #![tactic(auto)]
 
 ghost use Rattle.std.specs.Prelude.{◌≤◌};
@@ -7,50 +7,47 @@ use spin::growing::{Ascending, Growing};
 use spin::history::{BlankLog, History, Snapshot, Work, open};
 use spin::{RwLock, register};
 use std::sync::Wait;
-use std::thread::{Threads, join};
 
 type Version<H> = RwLock<Growing<u64, Ascending, H>>;
 
 type Seen<H> = Snapshot<u64, H>;
 
-fn raise<H: History, W: Wait>(rt: &W, version: &Version<H>, mut seen: Seen<H>) {
+/// Raises the version by one, up to the largest number.
+pub fn raise<H: History, W: Wait>(rt: &W, version: &Version<H>, seen: &mut Seen<H>) {
     let next = |old: &u64| -> u64
         ensures { old.now ≤ result }
     { old.saturating_add(1) };
-    register::update(rt, version, next, &mut seen);
+    register::update(rt, version, next, seen);
 }
 
-fn watch<H: History, W: Wait>(rt: &W, version: &Version<H>, mut seen: Seen<H>) -> (u64, u64)
+/// Reads twice. The second number is not below the first, whoever raised the version meanwhile.
+pub fn watch<H: History, W: Wait>(rt: &W, version: &Version<H>, seen: &mut Seen<H>) -> (u64, u64)
     ensures { result.0 ≤ result.1 }
 {
-    let first = register::read_shared(rt, version, &mut seen);
-    (first, register::read_shared(rt, version, &mut seen))
+    let first = register::read_shared(rt, version, seen);
+    (first, register::read_shared(rt, version, seen))
 }
 
-/// Work that reads a version twice while a thread raises it.
 #[derive(Drop)]
-struct Race<'r, R>(&'r R);
+struct RaiseAndWatch<'r, W>(&'r W);
 
-impl<R: Threads + Wait + Sync> Work for Race<'_, R> {
+impl<W: Wait> Work for RaiseAndWatch<'_, W> {
     type Answer = (u64, u64);
 
     ghost gives = { λ _ answer. answer.0 ≤ answer.1 };
 
     fn run<H: History + Send + Sync>(self, blank: BlankLog) -> (u64, u64) {
         let log = blank.open::<u64, H>();
-        let (mine, theirs) = (log.snapshot(), log.snapshot());
+        let mut seen = log.snapshot();
         let version: Version<H> = RwLock::new(Growing::new(0, log));
-        let (lent, rt) = (&version, self.0);
-        let watching = move || -> (u64, u64)
-            ensures { result.0 ≤ result.1 }
-        { watch(rt, lent, mine) };
-        join(rt, move || raise(rt, lent, theirs), watching).1
+        raise(self.0, &version, &mut seen);
+        watch(self.0, &version, &mut seen)
     }
 }
 
-/// Reads a new version twice. The second number is not below the first.
-pub fn watch_one<R: Threads + Wait + Sync>(rt: &R) -> (u64, u64)
+/// Raises a new version, and reads it twice.
+pub fn watch_one<W: Wait>(rt: &W) -> (u64, u64)
     ensures { result.0 ≤ result.1 }
 {
-    open(Race(rt))
+    open(RaiseAndWatch(rt))
 }
