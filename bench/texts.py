@@ -34,9 +34,13 @@ ESCAPED = {"n": "\n", "r": "\r", "t": "\t", "0": "\0"}
 
 
 def literals(path: Path) -> list[str]:
-    """The strings of a source. An escape at the end of a line stands for nothing."""
+    """The strings of a source."""
+
+    def meant(found: re.Match[str]) -> str:
+        """What an escape stands for: nothing, if it is the end of a line."""
+        return "" if found[1][0] == "\n" else ESCAPED.get(found[1], found[1])
+
     text = re.sub(r"^ *//.*$", "", path.read_text(), flags=re.M)
-    meant = lambda found: "" if found[1][0] == "\n" else ESCAPED.get(found[1], found[1])
     return [ESCAPE.sub(meant, literal) for literal in LITERAL.findall(text)]
 
 
