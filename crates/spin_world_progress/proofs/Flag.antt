@@ -1,6 +1,5 @@
 -- A flag lets somebody in within four rounds: its holder leaves within two, and a party that waits takes two to make its exchange.
 use Rattle.spin_world_progress.proofs.Names.{◌≡◌, ℕ, ◌≤◌, ◌⊎◌, ◌||◌, Bool, true, false, Option, Some, None, List, [], ◌∷◌, slice_get, refl, arith, inl, inr, ◌==◌, Holder, is_empty, entries, Hold, Calling, Next, Continue, Answers, Answer, Move, Step, Weak, Machine, goes_on, after, at_first, Seen, scene_at, entries_after, empty_is, ◌-◌, filter, not, Done, flag_table, flag_machine, get-set_same, eqb_self, Invariant, StandsSo, Test, grants_any, refuses_weakly}
-use Rattle.spin_step.specs.Parties.{Entries}
 use Rattle.spin_model.specs.declared.flag.FlagCall.{FlagCall}
 use Rattle.spin_model.specs.declared.flag.FlagCall.TheVariants.{Lock, Release}
 use Rattle.spin_model.specs.declared.flag.FlagPoint.{FlagPoint}
@@ -8,15 +7,13 @@ use Rattle.spin_model.specs.declared.flag.FlagPoint.TheVariants.{First, Second}
 use Rattle.spin_world.proofs.FlagOwed.{flag_notes, flag_keeping, flag_facts}
 use Rattle.spin_world_progress.specs.Flag.{LocksInFour, IsDeadlockFree}
 use Rattle.spin_world_progress.proofs.Endless.{at_last}
+use Rattle.spin_world_progress.proofs.Progress.{holds_lock}
 use Rattle.spin_world_progress.proofs.Leaving as leaving
 
 -- how many steps it makes where the flag is clear
 abbrev rank_by : FlagPoint → ℕ
 rank_by Second = 2
 rank_by l = 1
-
-abbrev pub holds_lock : Entries → Bool
-holds_lock e = not (is_empty e.holders)
 
 pub nobody_holds : (hs : List Holder) → ((q : ℕ) → not (is_empty (filter (λ h. h.party == q) hs)) ≡ false) → hs ≡ []
 nobody_holds [] none = refl
@@ -60,6 +57,7 @@ module _ {V : Type 0} (v : V) where
     leaves =
         record {
           none = refl;
+          not_its = λ l at so. grind (arith, so);
           reads = λ q h is. grind (arith, is);
           own = λ seen l good there at. own seen l good there seen.state.words refl;
           weak = λ seen l next at may. weak seen l next;

@@ -2,7 +2,6 @@ pub mod Names
 pub mod Progress
 pub mod Endless
 pub mod Ticket
-pub mod Walk
 pub mod Loads
 pub mod Leaving
 pub mod Flag

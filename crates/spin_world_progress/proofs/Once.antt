@@ -1,5 +1,5 @@
 -- A call with a closure is answered in four rounds, if no closure fails.
-use Rattle.spin_world_progress.proofs.Names.{Seat, Outcome, ◌-◌, ◌≡◌, ℕ, ◌≤◌, ◌⊎◌, ◌==◌, true, false, Option, Some, None, List, [], ◌∷◌, slice_get, if◌then◌else◌, refl, ap, sym, ◌∙◌, subst, arith, inl, inr, ⊎_elim, cases_eq, ne_eqb, Plain, Phase, nothing, running, complete, Change, is_running, once_word, apply_some, IsOpenStep, Answer, Hold, Calling, Next, Move, Step, BelongsTo, Seen, Scene, scene, scene_at, opening, State, seen_after, OnceMachine, once_machine, eqb_self, get-set_same, LocalInvariant, Facts, of_event, Invariant, in_call, kept, good_first, state_is, numbers_are}
+use Rattle.spin_world_progress.proofs.Names.{Bool, suc, eqb-true, eq-eqb, Seat, Outcome, ◌≡◌, ℕ, ◌≤◌, ◌⊎◌, ◌==◌, true, false, Option, Some, None, List, [], ◌∷◌, slice_get, if◌then◌else◌, refl, ap, sym, ◌∙◌, subst, arith, inl, inr, ⊎_elim, cases_eq, ne_eqb, Plain, Phase, nothing, running, complete, Change, is_running, once_word, apply_some, IsOpenStep, Answer, Hold, Calling, Next, Move, Step, BelongsTo, Seen, Scene, scene, scene_at, opening, State, seen_after, OnceMachine, once_machine, eqb_self, get-set_same, LocalInvariant, Facts, of_event, Invariant, in_call, kept, good_first, state_is, numbers_are}
 use Rattle.spin_world.proofs.OnceNames.{OnceCall, CallOnce, TryCallOnceOk, TryCallOnceErr, InitFromRef, OncePoint, Look, TryBegin, Await, Run, asks_of, Entries, once_after, has_closure}
 use Rattle.spin_world.proofs.OnceOwed.{once_keeping, once_facts}
 use Rattle.spin_model.specs.OnceKind.{once}
@@ -7,16 +7,18 @@ use Rattle.spin_world.proofs.Keeping.{run_here}
 use Rattle.spin_world_progress.specs.Once.{answers, answers_or_fails, AnswersInFour, AnswersAtLast, AnswersInOne, SomebodyRuns}
 use Rattle.spin_world_progress.proofs.Endless.{at_last}
 use Rattle.spin_world_progress.proofs.Progress.{is_busy, calls_not, holds_not, same_beside, no_owner}
-use Rattle.spin_world_progress.proofs.Walk.{Wait}
-use Rattle.spin_world_progress.proofs.Leaving as leaving
-use Rattle.spin_world_progress.proofs.Walk as walk
+use Rattle.spin_world_progress.proofs.Loads.{Wait}
+use Rattle.spin_world_progress.proofs.Loads as walk
 
--- how many moves a call with a closure waits for, its own last one included, by the phase and where it stands
-abbrev rank_by : Phase → ℕ → OncePoint → ℕ
-rank_by complete p l = 1
-rank_by (running q) p l = if q == p then 1 else 2
-rank_by nothing p TryBegin = 3
-rank_by nothing p l = 4
+-- how many moves a call with a closure makes, its last one included, by the phase and where it stands; where another party's closure runs, that one is waited for
+abbrev mine_by : Phase → ℕ → OncePoint → ℕ
+mine_by complete p l = 1
+mine_by (running q) p l = if q == p then 1 else 0
+mine_by nothing p TryBegin = 3
+mine_by nothing p l = 4
+
+abbrev theirs_by : Phase → ℕ → ℕ
+theirs_by phase q = if is_running q phase then 2 else 0
 
 -- where its own step leads, as long as there is no value, and what it makes the phase
 abbrev onward : Phase → ℕ → OncePoint → OncePoint × Phase
@@ -25,15 +27,15 @@ onward nothing p l = (TryBegin, nothing)
 onward phase p Look = (TryBegin, phase)
 onward phase p l = (Await, phase)
 
-abbrev due_by : Phase → ℕ → ℕ
-due_by (running q) p = q
-due_by _ p = p
+loads_fit : (s : Phase) (p q : ℕ) (l : OncePoint) → (mine_by s p l ≤ 4) × (theirs_by s q ≤ 4)
+loads_fit s p q l = grind arith
 
-rank_fits : (s : Phase) (p : ℕ) (l : OncePoint) → (1 ≤ rank_by s p l) × (rank_by s p l ≤ 4)
-rank_fits s p l = grind arith
+theirs_run : (s : Phase) (q : ℕ) → 1 ≤ theirs_by s q → s ≡ running q
+theirs_run s q some = grind (arith, some, eqb-true)
 
-rank_other : (q p : ℕ) (l : OncePoint) → (q ≡ p → ⊥) → rank_by (running q) p l ≡ 2
-rank_other q p l ne = rw (ne_eqb q p ne) refl
+-- a closure of another party begins, and one that ran ends
+begins_running : (q r p n : ℕ) (l : OncePoint) → (r ≡ p → ⊥) → mine_by nothing p l ≤ suc n → (theirs_by (running r) r ≤ n) × (mine_by (running r) p l ≤ n) × ((r ≡ q → ⊥) → theirs_by (running r) q ≤ n)
+begins_running q r p n l ne few = grind (arith, ne, few)
 
 -- another party's step begins a closure, or leaves the phase, but that of the party that runs it
 phase_beside : (s : Plain) (r : ℕ) (step : Option Change) → IsOpenStep s r step → BelongsTo once step → is_running r s.phase ≡ false
@@ -152,7 +154,7 @@ module _ {V : Type 0} (value : Option V) where
 
   module _ (p : ℕ) (c : OnceCall V) (h : Option Hold) (closure : has_closure (asks_of c) ≡ true) where
     abbrev x : Wait ℕ V (OnceCall V) OncePoint (Answer V)
-    x = record { goal = answers_or_fails m p; party = p; call = c; hold = h; At = λ l. Unit {0}; Known = RunnerIn; Fine = λ seen. Unit {0}; due = λ s l. due_by s.phase p; rank = λ s l his. rank_by s.phase p l }
+    x = record { goal = answers_or_fails m p; party = p; call = c; hold = h; At = λ l. Unit {0}; Known = RunnerIn; Fine = λ seen. Unit {0}; mine = λ s. mine_by s.phase p; theirs = λ s l q his. theirs_by s.phase q }
 
     module _ (seen : World) (l : OncePoint) (w : walk.Waits m k f x seen l) where
       abbrev s : Plain
@@ -168,21 +170,19 @@ module _ {V : Type 0} (value : Option V) where
       goes : (phase : Phase) → s.phase ≡ phase → (phase ≡ complete → ⊥) → (l ≡ Run → ⊥) → (slice_get sc.after.state.seats p ≡ Some (Calling c (onward phase p l).0 h)) × (sc.after.plain.phase ≡ (onward phase p l).1)
       goes phase is unmade ne = grind (arith, word_is seen w.3, is, unmade, ne, closure, get-set_same seen.state.seats p (Calling c (onward phase p l).0 h) _ w.0)
 
-      rank_at : (y : World) (i : OncePoint) (phase : Phase) → y.plain.phase ≡ phase → walk.rank m k f x y i ≡ rank_by phase p i
-      rank_at y i phase is = ap (λ z. rank_by z p i) is
-
-      own_at : (phase : Phase) → s.phase ≡ phase → (l ≡ Run → ⊥) → walk.Own m k f x seen l sc
-      own_at complete is ne = inl (answered p p Step sc.outcome _ (told_by seen p c l h w.3 w.0 is))
-      own_at nothing is ne =
+      own_at : (n : ℕ) → walk.Within m k f x seen l (suc n) → (phase : Phase) → s.phase ≡ phase → (l ≡ Run → ⊥) → walk.Own m k f x seen l n sc
+      own_at n within complete is ne = inl (answered p p Step sc.outcome _ (told_by seen p c l h w.3 w.0 is))
+      own_at n within nothing is ne =
           let next = goes nothing is (λ e. cc (e)) ne in
-          inr ((onward nothing p l).0, next.0, tt, inl (grind (arith, rank_at sc.after (onward nothing p l).0 (onward nothing p l).1 next.1, rank_at seen l nothing is, eqb_self p)))
-      own_at (running q) is ne =
+          inr ((onward nothing p l).0, next.0, tt, rw next.1 (grind (arith, within.mine, is, eqb_self p)), rw next.1 (λ o other not_its. grind (arith, other, is)))
+      own_at n within (running q) is ne =
           let next = goes (running q) is (λ e. cc (e)) ne in
-          let due_is = ap (λ y. due_by y p) is in
-          inr ((onward (running q) p l).0, next.0, tt, inr (λ e. let same = sym due_is ∙ e in let at = w.2 q is in absurd (ne (cc (at.2, w.0, same))), (grind (arith, next.1, is), grind (arith, next.1, is))))
+          let other : q ≡ p → ⊥ = λ e. let at = w.2 q is in ne (cc (at.2, w.0, e)) in
+          let still : (onward (running q) p l).1 ≡ running q = grind arith in
+          inr ((onward (running q) p l).0, next.0, tt, rw (next.1 ∙ still, ne_eqb q p (λ e. absurd (other e))) (omega arith), rw (next.1 ∙ still, is) (λ o other not_its. omega arith))
 
-      own : walk.Own m k f x seen l sc
-      own = ⊎_elim (λ (is : l ≡ Run). inl (ended is)) (own_at s.phase refl) (point_cases l)
+      own : (n : ℕ) → walk.Within m k f x seen l (suc n) → walk.Own m k f x seen l n sc
+      own n within = ⊎_elim (λ (is : l ≡ Run). inl (ended is)) (own_at n within s.phase refl) (point_cases l)
 
       -- the last step of another party's closure
       run_ends : (q : ℕ) (d : OnceCall V) (i : OncePoint) (j : Option Hold) → slice_get seen.state.seats q ≡ Some (Calling d i j) → i ≡ Run
@@ -194,57 +194,60 @@ module _ {V : Type 0} (value : Option V) where
       run_ends q d Run j at e = absurd (in_call m k seen q d Run j w.3 at).knows
       run_ends q d i j at e = absurd (grind (arith, e))
 
-      -- who is due, where it is another
-      runner_due : (walk.due m k f x seen l ≡ p → ⊥) → Runs seen (walk.due m k f x seen l) × (walk.rank m k f x seen l ≡ 2)
-      runner_due ne = by s.phase refl
+      -- another party's step: its closure ends, or one begins, or the phase stays
+      steps : (n : ℕ) → walk.Within m k f x seen l (suc n) → (q : ℕ) (d : OnceCall V) (i : OncePoint) (j : Option Hold) → (q ≡ p → ⊥) → slice_get seen.state.seats q ≡ Some (Calling d i j)
+          → let y = scene_at m seen q Step (Some (Calling d i j)) in walk.After m k f x seen q y → walk.Reaches m k f x y ⊎ walk.Falls m k f x seen l q y n
+      steps n within q d i j ne at made = by (is_running q s.phase) refl
         where
-          by : (phase : Phase) → s.phase ≡ phase → Runs seen (walk.due m k f x seen l) × (walk.rank m k f x seen l ≡ 2)
-          by (running q) is = let due_is = ap (λ y. due_by y p) is in (subst (Runs seen) (sym due_is) (w.2 q is), rank_at seen l (running q) is ∙ rank_other q p l (λ e. ne (due_is ∙ e)))
-          by complete is = absurd (ne (ap (λ y. due_by y p) is))
-          by nothing is = absurd (ne (ap (λ y. due_by y p) is))
+          y : Event
+          y = scene_at m seen q Step (Some (Calling d i j))
 
-      steps : (walk.due m k f x seen l ≡ p → ⊥) → (d : OnceCall V) (i : OncePoint) (j : Option Hold) → walk.his m k f x seen l ≡ Some (Calling d i j)
-          → let y = scene_at m seen (walk.due m k f x seen l) Step (Some (Calling d i j)) in walk.Reaches m k f x y ⊎ walk.Lower m k f x seen l y l
-      steps ne d i j there =
-          let at = runner_due ne in
-          let y = scene_at m seen (walk.due m k f x seen l) Step (Some (Calling d i j)) in
-          ⊎_elim inl (λ (done : y.after.plain.phase ≡ complete). inr (omega (arith, rank_at y.after l complete done, at.1))) (run_ends (walk.due m k f x seen l) d i j there (same_point d i j at.0.0 at.0.1 (sym there ∙ at.0.2)))
+          by : (b : Bool) → is_running q s.phase ≡ b → walk.Reaches m k f x y ⊎ walk.Falls m k f x seen l q y n
+          by true runs =
+              let two : 2 ≤ suc n = subst (λ b. (if b then 2 else 0) ≤ suc n) runs (within.theirs q ne) in
+              let its = w.2 q (theirs_run s.phase q (rw runs (omega arith))) in
+              ⊎_elim inl (λ (done : y.after.plain.phase ≡ complete). inr (record { his = rw done (omega arith); mine = rw done (omega (arith, two)); others = rw done (λ o other not_his. omega arith) }))
+              (run_ends q d i j at (same_point d i j its.0 its.1 (sym at ∙ its.2)))
+          by false rests =
+              ⊎_elim (λ (same : y.after.plain.phase ≡ s.phase). inr (record { his = rw (same, rests) (omega arith); mine = rw same (omega arith); others = rw same (λ o other not_his. omega arith) }))
+              (λ (began : (s.phase ≡ nothing) × (y.after.plain.phase ≡ running q)).
+              let few : mine_by nothing p l ≤ suc n = subst (λ z. mine_by z p l ≤ suc n) began.0 within.mine in
+              let low = λ (o : ℕ). begins_running o q p n l ne few in
+              inr (record { his = rw began.1 (low q).0; mine = rw began.1 (omega (arith, (low q).1)); others = rw began.1 (λ o other not_his. omega (arith, (low o).2 not_his)) }))
+              (phase_beside s q y.change made.opens made.belongs rests)
 
-      -- a step of a third party
-      beside : (r : ℕ) → (r ≡ p → ⊥) → (r ≡ walk.due m k f x seen l → ⊥) → (step : Option Change) → IsOpenStep s r step → BelongsTo once step → (rank_by (apply_some s step).phase p l ≤ rank_by s.phase p l - 1) ⊎ walk.Alike m k f x seen l (apply_some s step) l
-      beside r ne not_due step opens belongs =
-          ⊎_elim (λ (same : (apply_some s step).phase ≡ s.phase). inr (rw same (refl, omega arith)))
-          (λ (began : (s.phase ≡ nothing) × ((apply_some s step).phase ≡ running r)). inl (grind (arith, began.0, began.1, ne_eqb r p ne)))
-          (phase_beside s r step opens belongs (runs_not s.phase refl))
+      busy : (q : ℕ) → 1 ≤ theirs_by s.phase q → is_busy (slice_get seen.state.seats q) ≡ true
+      busy q some = ap is_busy (w.2 q (theirs_run s.phase q some)).2
+
+      some : walk.Within m k f x seen l 0 → ⊥
+      some none = by s.phase refl
         where
-          runs_not : (phase : Phase) → s.phase ≡ phase → is_running r s.phase ≡ false
-          runs_not (running q) is = ap (is_running r) is ∙ ne_eqb q r (λ e. absurd (not_due (sym e ∙ sym (ap (λ y. due_by y p) is))))
-          runs_not complete is = ap (is_running r) is
-          runs_not nothing is = ap (is_running r) is
+          by : (phase : Phase) → s.phase ≡ phase → ⊥
+          by (running q) is =
+              ⊎_elim (λ (same : q ≡ p). absurd (omega (arith, subst (λ b. (if b then 1 else 0) ≤ 0) (eq-eqb q p same) (subst (λ z. mine_by z p l ≤ 0) is none.mine))))
+              (λ (ne : q ≡ p → ⊥). absurd (omega (arith, subst (λ b. (if b then 2 else 0) ≤ 0) (eqb_self q) (subst (λ z. theirs_by z q ≤ 0) is (none.theirs q ne))))) (cases_eq q p)
+          by phase is = absurd (grind (arith, none.mine, is))
 
     walks : walk.Walks m k f x
     walks =
         record {
           fine = λ seen q move good fine. tt;
           keeps = λ seen q move l w. inr (runner_kept seen w.3 w.2 q move);
-          own = λ seen l w after. own seen l w;
+          own = λ seen l n w within made. own seen l w n within;
+          steps = λ seen l n w within q d i j ne at made. steps seen l w n within q d i j ne at made;
           weak = λ seen l next at may. absurd (strong c l h next may);
-          others = λ seen l w ne.
-              let at = runner_due seen l w ne in
-              record {
-                begins = λ d i j there may. absurd (calls_not j at.0.0 Run at.0.1 (sym there ∙ at.0.2));
-                steps = λ d i j there after. steps seen l w ne d i j there;
-                refuses = λ d i j next there may. absurd (strong d i j next may);
-                busy = λ some. ap is_busy at.0.2;
-              };
-          leaks = λ s l h. omega arith;
-          beside = λ seen l q d i j w ne not_due there after. inr (beside seen l w q ne not_due _ after.opens after.belongs);
+          refuses = λ seen l w q d i j next ne at may. absurd (strong d i j next may);
+          begins = λ seen l w q d i j ne at may. (omega arith, λ is. absurd (grind (arith, is)));
+          leaks = λ s l q h. omega arith;
+          busy = λ seen l q w ne. busy seen l w q;
+          some = some;
         }
 
   pub answers_in_four : (n : ℕ) (past : Entries V) (rounds : List (Entries V)) → AnswersInFour m n past rounds
   answers_in_four n past rounds p c l h there closure are few =
       let seen = seen_after m (opening m n) past in
-      walk.ends m k f (x p c h closure) (walks p c h closure) (λ seen l w. (rank_fits seen.plain.phase p l).0) n past rounds l there tt (runner_there n past) tt are (λ w. omega (arith, few, (rank_fits seen.plain.phase p l).1))
+      walk.ends m k f (x p c h closure) (walks p c h closure) n past rounds l there tt (runner_there n past) tt are
+      (λ w. record { mine = omega (arith, few, (loads_fit seen.plain.phase p p l).0); theirs = λ q ne. omega (arith, few, (loads_fit seen.plain.phase p q l).1) })
 
   pub answers_at_last : (n : ℕ) (past : Entries V) (schedule : ℕ → ℕ × Move (OnceCall V) V) → AnswersAtLast m n past schedule
   answers_at_last n past schedule p c l h there closure fair =
@@ -259,13 +262,22 @@ module _ {V : Type 0} (value : Option V) where
   abbrev is_told : World → Type 0
   is_told seen = seen.plain.phase ≡ complete
 
-  ready : (p : ℕ) (c : OnceCall V) (h : Option Hold) → leaving.Alone m k f (answers p) p c h (λ l. Unit {0}) is_told (λ l. 1)
-  ready p c h =
+  abbrev ready : ℕ → OnceCall V → Option Hold → Wait ℕ V (OnceCall V) OncePoint (Answer V)
+  ready p c h = record { goal = answers p; party = p; call = c; hold = h; At = λ l. Unit {0}; Known = is_told; Fine = λ seen. Unit {0}; mine = λ s l. 1; theirs = λ s l q his. 0 }
+
+  ready_walks : (p : ℕ) (c : OnceCall V) (h : Option Hold) → walk.Walks m k f (ready p c h)
+  ready_walks p c h =
       record {
+        fine = λ seen q move good fine. tt;
         keeps = λ seen q move l w. let here = (kept m k f seen q move w.3).keeps in inr (complete_stays seen.plain q (scene m seen q move).change w.2 here.opens here.belongs);
-        own = λ seen l w. inl (told_by seen p c l h w.3 w.0 w.2);
+        own = λ seen l n w within made. inl (told_by seen p c l h w.3 w.0 w.2);
+        steps = λ seen l n w within q d i j ne at made. inr (record { his = omega arith; mine = omega arith; others = λ o other not_his. omega arith });
         weak = λ seen l next at may. absurd (strong c l h next may);
-        some = λ l. omega arith;
+        refuses = λ seen l w q d i j next ne at may. absurd (strong d i j next may);
+        begins = λ seen l w q d i j ne at may. (omega arith, λ is. omega arith);
+        leaks = λ s l q h. omega arith;
+        busy = λ seen l q w ne some. absurd (omega (arith, some));
+        some = λ seen l w none. omega (arith, none.mine);
       }
 
   word_there : (n : ℕ) (past : Entries V) → (once_after m n past).words ≡ once_word (seen_after m (opening m n) past).plain
@@ -274,7 +286,7 @@ module _ {V : Type 0} (value : Option V) where
   pub answers_in_one : (n : ℕ) (past : Entries V) (rounds : List (Entries V)) → AnswersInOne m n past rounds
   answers_in_one n past rounds p c l h there is are some =
       let seen = seen_after m (opening m n) past in
-      leaving.ends_alone m k f (answers p) p c h (λ l. Unit {0}) is_told (λ l. 1) (ready p c h) n past rounds l there tt (told_where seen.plain (sym (word_there n past) ∙ is)) are some
+      walk.ends m k f (ready p c h) (ready_walks p c h) n past rounds l there tt (told_where seen.plain (sym (word_there n past) ∙ is)) tt are (λ w. record { mine = omega (arith, some); theirs = λ q ne. omega arith })
 
   pub somebody_runs : (n : ℕ) (past : Entries V) → SomebodyRuns m n past
   somebody_runs n past is =

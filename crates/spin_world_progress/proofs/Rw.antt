@@ -110,6 +110,7 @@ module _ {V : Type 0} (v : V) (cap : ℕ) where
     leaves =
         record {
           none = refl;
+          not_its = λ l at so. grind (arith, at, so);
           reads = λ q h is. grind (arith, is);
           own = own_at;
           weak = λ seen l next at may. weak seen next;

@@ -7,7 +7,8 @@ use Rattle.spin_seats.specs.declared.calls.SeatsPoint.TheVariants.{First, Exchan
 use Rattle.spin_world_seats.proofs.Owed.{seats_notes, seats_keeping, seats_facts}
 use Rattle.spin_world_progress.specs.Seats.{SeatsSomebodyInFour, SeatsAreDeadlockFree}
 use Rattle.spin_world_progress.proofs.Endless.{at_last}
-use Rattle.spin_world_progress.proofs.Flag.{holds_lock, nobody_holds}
+use Rattle.spin_world_progress.proofs.Flag.{nobody_holds}
+use Rattle.spin_world_progress.proofs.Progress.{holds_lock}
 use Rattle.spin_world_progress.proofs.Leaving as leaving
 
 -- how many steps it makes where nobody sits: it looks, and makes its exchange
@@ -67,6 +68,7 @@ module _ (n : ℕ) (some : 1 ≤ n) where
     leaves =
         record {
           none = refl;
+          not_its = λ l at so. grind (arith, so);
           reads = λ q h is. grind (arith, is);
           own = λ seen l good there at. own seen l good there;
           weak = λ seen l next at may. absurd (grind (arith, may));
