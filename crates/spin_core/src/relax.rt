@@ -60,11 +60,11 @@ pub trait RelaxStrategy {
     /// ```
     /// use spin::{RelaxStrategy, Spin};
     ///
-    /// let count = Spin::retry(&rt, 5u64, |left| match left {
+    /// let answer = Spin::retry(&rt, 5u64, |left| match left {
     ///     0 => Ok("done"),
     ///     _ => Err(left.saturating_sub(1)),
     /// });
-    /// assert_eq!(rt; count, "done");
+    /// assert_eq!(rt; answer, "done");
     /// ```
     final fn retry<S, A, F: Fn(S) -> Result<A, S>, W: Wait>(rt: &W, state: S, attempt: F) -> A
         requires { F.IsAlwaysCallable attempt }

@@ -67,23 +67,6 @@ fn run<I: Source, O: Sink>(
 ///
 /// With 1 or 2 the fault has this status (`status_of`), the run stopped as that fault says (`StopsProgram`), and its
 /// line is on `errors` (`Told`).
-///
-/// # Examples
-/// ```
-/// use spin_explore_run::{OfStd, program};
-///
-/// let text = "flag 5 2\n0 begin lock\n1 begin lock\n";
-/// let (mut output, mut errors) = (Vec::new(rt.alloc()), Vec::new(rt.alloc()));
-/// let status = program(
-///     rt.alloc(),
-///     &[],
-///     &mut OfStd::new(text.as_bytes()),
-///     &mut OfStd::new(&mut output),
-///     &mut OfStd::new(&mut errors),
-/// );
-/// assert_eq!(rt; status, 3);
-/// assert!(rt; !output.is_empty());
-/// ```
 pub fn program<I: Source, O: Sink, E: Sink>(
     alloc: Global,
     words: &[&str],

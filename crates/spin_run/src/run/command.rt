@@ -123,24 +123,6 @@ fn run<I: Source, O: Sink, R: AllocGlobal + Threads + Wait + Sync, A: Allocator>
 ///
 /// With 1 or 2 the fault has this status (`status_of`), the run stopped as that fault says (`Stops`), and its line is
 /// on `errors`. If that write failed, a beginning of the line is there (`Tells`).
-///
-/// # Examples
-/// ```
-/// use spin_run::run::{OfStd, program};
-///
-/// let (mut output, mut errors) = (Vec::new(rt.alloc()), Vec::new(rt.alloc()));
-/// let mut input = OfStd::new("".as_bytes());
-/// let status = program(
-///     &rt,
-///     rt.alloc(),
-///     &["count", "2", "100"],
-///     &mut input,
-///     &mut OfStd::new(&mut output),
-///     &mut OfStd::new(&mut errors),
-/// );
-/// assert_eq!(rt; status, 0);
-/// assert_eq!(rt; str::from_utf8(&output), Ok("200\n"));
-/// ```
 pub fn program<I: Source, O: Sink, E: Sink, R: AllocGlobal + Threads + Wait + Sync, A: Allocator>(
     rt: &R,
     alloc: A,
