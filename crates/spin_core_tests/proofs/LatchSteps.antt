@@ -62,6 +62,13 @@ bounded s room order = omega (arith, by_kinds latch_weight s.holders, all_kinds 
 
 -- The plain step of each
 
+-- what a holder of each kind weighs (`latch_weight`)
+abbrev reader_weight : ℕ
+reader_weight = 2
+
+abbrev writer_weight : ℕ
+writer_weight = 1
+
 abbrev swaps : ℕ → ℕ → ℕ → ℕ
 swaps old new w = either (w == old) new w
 
@@ -102,19 +109,19 @@ read_moves : (old new : ℕ) (waits : Bool) → Some new ≡ let_in old → Move
 read_moves old new true free w value v is = let own = Step ∷ [] in (own, ends (Some (Coming true old)) w value own, is, refl, grind (arith, free), swaps old new w, value, grind (arith, free, is), refl, refl)
 read_moves old new false free w value v is = let own = Step ∷ [] in (own, ends (Some (Coming false old)) w value own, is, refl, grind (arith, free), swaps old new w, value, grind (arith, free, is), refl, refl)
 
-try_write_moves : Moves None (swaps 0 1) (To (either_at 0 Writing Idle)) (either_at 0 Writing Idle)
-try_write_moves w value v is = let own = Begin call.TryWrite ∷ Step ∷ [] in (own, ends None w value own, is, refl, grind arith, swaps 0 1 w, value, grind (arith, is), grind arith, refl)
+try_write_moves : Moves None (swaps 0 writer_weight) (To (either_at 0 Writing Idle)) (either_at 0 Writing Idle)
+try_write_moves w value v is = let own = Begin call.TryWrite ∷ Step ∷ [] in (own, ends None w value own, is, refl, grind arith, swaps 0 writer_weight w, value, grind (arith, is), grind arith, refl)
 
-write_moves : (view : Option View) → MayWrite view → Moves view (swaps 0 1) (To (either_at 0 Writing WaitingToWrite)) (either_at 0 Writing WaitingToWrite)
-write_moves None may w value v is = let own = Begin call.Write ∷ Step ∷ [] in (own, ends None w value own, is, refl, grind arith, swaps 0 1 w, value, grind (arith, is), grind arith, refl)
-write_moves (Some WaitingToWrite) may w value v is = let own = Step ∷ [] in (own, ends (Some WaitingToWrite) w value own, is, refl, grind arith, swaps 0 1 w, value, grind (arith, is), grind arith, refl)
+write_moves : (view : Option View) → MayWrite view → Moves view (swaps 0 writer_weight) (To (either_at 0 Writing WaitingToWrite)) (either_at 0 Writing WaitingToWrite)
+write_moves None may w value v is = let own = Begin call.Write ∷ Step ∷ [] in (own, ends None w value own, is, refl, grind arith, swaps 0 writer_weight w, value, grind (arith, is), grind arith, refl)
+write_moves (Some WaitingToWrite) may w value v is = let own = Step ∷ [] in (own, ends (Some WaitingToWrite) w value own, is, refl, grind arith, swaps 0 writer_weight w, value, grind (arith, is), grind arith, refl)
 write_moves (Some _) may w value v is = absurd may
 
-reader_moves : Moves (Some Reading) (λ w. (w + (2 ^ 64 - 2)) % 2 ^ 64) (λ w v. Weighs 2 w × (v ≡ Idle)) (λ w. Idle)
-reader_moves w value v is = rw is.1 (Begin call.ReleaseRead ∷ Step ∷ [], Begun ∷ Answered Done None ∷ [], refl, refl, refl, w - 2, value, refl, refl, rw (less_by w 2 is.0) refl)
+reader_moves : Moves (Some Reading) (λ w. (w + (2 ^ 64 - reader_weight)) % 2 ^ 64) (λ w v. Weighs reader_weight w × (v ≡ Idle)) (λ w. Idle)
+reader_moves w value v is = rw is.1 (Begin call.ReleaseRead ∷ Step ∷ [], Begun ∷ Answered Done None ∷ [], refl, refl, refl, w - reader_weight, value, refl, refl, rw (less_by w reader_weight is.0) refl)
 
-writer_moves : Moves (Some Writing) (λ w. (w + (2 ^ 64 - 1)) % 2 ^ 64) (λ w v. Weighs 1 w × (v ≡ Idle)) (λ w. Idle)
-writer_moves w value v is = rw is.1 (Begin call.ReleaseWrite ∷ Step ∷ [], Begun ∷ Answered Done None ∷ [], refl, refl, refl, w - 1, value, refl, refl, rw (less_by w 1 is.0) refl)
+writer_moves : Moves (Some Writing) (λ w. (w + (2 ^ 64 - writer_weight)) % 2 ^ 64) (λ w v. Weighs writer_weight w × (v ≡ Idle)) (λ w. Idle)
+writer_moves w value v is = rw is.1 (Begin call.ReleaseWrite ∷ Step ∷ [], Begun ∷ Answered Done None ∷ [], refl, refl, refl, w - writer_weight, value, refl, refl, rw (less_by w writer_weight is.0) refl)
 
 -- Each step keeps the rule, and appends its moves
 
@@ -150,21 +157,21 @@ module _ (name : ℕ) where
       let plain : Grants latch to_read old new = λ s p order room word. subst (λ after. Decides s (gets p to_read) latch_word after) (sym free) (read-decides s p old order.exclusive room word) in
       rw at (keeps view (swaps old new) (To to) to (rw at (read_moves old new waits free)) (rw at (exchanges_at latch (Some (Coming waits old)) to_read Reading (at_word waits) old new refl (has_none waits) (λ s p. refl) (λ s. tt) plain)))
 
-  taken_by_word : Grants latch to_write 0 1
+  taken_by_word : Grants latch to_write 0 writer_weight
   taken_by_word s p order room word = write-decides s p 0 word
 
-  pub tries_to_write : Keeps None (swaps 0 1) (either_at 0 Writing Idle)
-  tries_to_write = keeps None (swaps 0 1) (To (either_at 0 Writing Idle)) (either_at 0 Writing Idle) try_write_moves (exchanges_at latch None to_write Writing (λ w. Idle) 0 1 refl (λ w. refl) (λ s p. refl) (λ s. tt) taken_by_word)
+  pub tries_to_write : Keeps None (swaps 0 writer_weight) (either_at 0 Writing Idle)
+  tries_to_write = keeps None (swaps 0 writer_weight) (To (either_at 0 Writing Idle)) (either_at 0 Writing Idle) try_write_moves (exchanges_at latch None to_write Writing (λ w. Idle) 0 writer_weight refl (λ w. refl) (λ s p. refl) (λ s. tt) taken_by_word)
 
-  pub writes_on : (view : Option (Numbered View)) → MayWrite (what view) → Keeps view (swaps 0 1) (either_at 0 Writing WaitingToWrite)
+  pub writes_on : (view : Option (Numbered View)) → MayWrite (what view) → Keeps view (swaps 0 writer_weight) (either_at 0 Writing WaitingToWrite)
   writes_on view may = let to = either_at 0 Writing WaitingToWrite in
-      keeps view (swaps 0 1) (To to) to (write_moves (what view) may) (exchanges_at latch (what view) to_write Writing (λ w. WaitingToWrite) 0 1 (may_write (what view) may) (λ w. refl) (λ s p. refl) (λ s. tt) taken_by_word)
+      keeps view (swaps 0 writer_weight) (To to) to (write_moves (what view) may) (exchanges_at latch (what view) to_write Writing (λ w. WaitingToWrite) 0 writer_weight (may_write (what view) may) (λ w. refl) (λ s p. refl) (λ s. tt) taken_by_word)
 
-  pub reader_leaves : (view : Option (Numbered View)) → what view ≡ Some Reading → Keeps view (λ w. (w + (2 ^ 64 - 2)) % 2 ^ 64) (λ w. Idle)
-  reader_leaves view is = keeps view (λ w. (w + (2 ^ 64 - 2)) % 2 ^ 64) (λ w v. Weighs 2 w × (v ≡ Idle)) (λ w. Idle) (rw is reader_moves) (rw is (leaves_at latch latch_weight (λ s. refl) bounded Reading reading (λ p. refl)))
+  pub reader_leaves : (view : Option (Numbered View)) → what view ≡ Some Reading → Keeps view (λ w. (w + (2 ^ 64 - reader_weight)) % 2 ^ 64) (λ w. Idle)
+  reader_leaves view is = keeps view (λ w. (w + (2 ^ 64 - reader_weight)) % 2 ^ 64) (λ w v. Weighs reader_weight w × (v ≡ Idle)) (λ w. Idle) (rw is reader_moves) (rw is (leaves_at latch latch_weight (λ s. refl) bounded Reading reading (λ p. refl)))
 
-  pub writer_leaves : (v : Numbered View) → use_of_party v ≡ writes → Keeps (Some v) (λ w. (w + (2 ^ 64 - 1)) % 2 ^ 64) (λ w. Idle)
-  writer_leaves v held = let is = is_writing v.0 held in keeps (Some v) (λ w. (w + (2 ^ 64 - 1)) % 2 ^ 64) (λ w v. Weighs 1 w × (v ≡ Idle)) (λ w. Idle) (rw is writer_moves) (rw is (leaves_at latch latch_weight (λ s. refl) bounded Writing writing (λ p. refl)))
+  pub writer_leaves : (v : Numbered View) → use_of_party v ≡ writes → Keeps (Some v) (λ w. (w + (2 ^ 64 - writer_weight)) % 2 ^ 64) (λ w. Idle)
+  writer_leaves v held = let is = is_writing v.0 held in keeps (Some v) (λ w. (w + (2 ^ 64 - writer_weight)) % 2 ^ 64) (λ w v. Weighs writer_weight w × (v ≡ Idle)) (λ w. Idle) (rw is writer_moves) (rw is (leaves_at latch latch_weight (λ s. refl) bounded Writing writing (λ p. refl)))
 
   -- Who may go
 
@@ -194,7 +201,7 @@ led to named before (Some v) known now found moved = ap Some moved.1.4.6
 
 -- What the rule says of a party that writes
 
-pub writer_word : (word : ℕ) (vs : List View) (p : ℕ) → IsWord word tt vs → part_at part vs p ≡ holds writing → word ≡ 1
+pub writer_word : (word : ℕ) (vs : List View) (p : ℕ) → IsWord word tt vs → part_at part vs p ≡ holds writing → word ≡ writer_weight
 writer_word word vs p is at =
     let s = is.0 in let found = is_holder-from_entries p writing s.holders (ap (λ e. e.holders) ((is.3 p).0 ∙ ap (entries_of p) at)) in
     let one = sum-less (one_of writing) p writing s.holders found in let alone = is.2.exclusive.writer (omega (arith, one)) in
